@@ -1,0 +1,1 @@
+-- Definitions that several crates cite: none yet.

@@ -1,0 +1,6 @@
+//! What every crate of the transcoder shares: want of memory, numbers, names.
+#![tactic(auto)]
+
+mod memory;
+
+pub use memory::NoMemory;
