@@ -1,0 +1,5 @@
+pub mod Causes
+pub mod Device
+pub mod Stored
+pub mod Planned
+pub mod MemPlan
