@@ -35,6 +35,7 @@ pub fn progression_at(comps: u16, body: &[u8], at: usize) -> Progression
     }
 }
 
+#[tactic(auto, using(crate::proofs::ValueLemmas::values_more))]
 fn comp_sizes(alloc: Global, body: &[u8], count: u16) -> Result<CompSizes, AllocError>
     requires { 36 + 3 * count ≤ length body.now }
     ensures { IfOk result (λ list. list ≡ values_from comp_size_at 3 count 36 body.now) }
@@ -108,6 +109,7 @@ pub fn read_cod(alloc: Global, body: &[u8]) -> Result<Cod, AllocError>
     })
 }
 
+#[tactic(auto, using(crate::proofs::ValueLemmas::values_more, crate::proofs::ValueLemmas::room_left))]
 fn entries(alloc: Global, body: &[u8], size: usize, count: usize, from: usize) -> Result<Numbers, AllocError>
     requires room { from + count * size ≤ length body.now }
     requires some { 1 ≤ size }
@@ -134,6 +136,7 @@ pub fn read_quant(alloc: Global, body: &[u8], at: usize) -> Result<Quant, AllocE
     Ok(Quant { sqcd, entries })
 }
 
+#[tactic(auto, using(crate::proofs::ValueLemmas::values_more, crate::proofs::ValueLemmas::room_left))]
 pub fn read_poc(alloc: Global, comps: u16, body: &[u8]) -> Result<Progressions, AllocError>
     ensures { IfOk result (λ list. list ≡ poc_at comps body.now) }
 {

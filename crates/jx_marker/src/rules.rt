@@ -84,6 +84,7 @@ fn comp_size_fits(comp: CompSize) -> bool
     comp.ssiz % 128 + 1 <= 38 && comp.dx > 0 && comp.dy > 0
 }
 
+#[tactic(auto, using(crate::proofs::ValueLemmas::all_left))]
 fn comp_sizes_fit(body: &[u8], count: u16) -> bool
     requires { 36 + 3 * count ≤ length body.now }
     ensures { result ≡ list_all comp_size_fits (values_from comp_size_at 3 count 36 body.now) }
@@ -301,6 +302,7 @@ fn progression_fits(entry: Progression) -> bool
     entry.rs < entry.re && (entry.ce == 0 || entry.cs < entry.ce) && entry.lye > 0 && entry.order <= 4
 }
 
+#[tactic(auto, using(crate::proofs::ValueLemmas::all_left, crate::proofs::ValueLemmas::room_left))]
 fn progressions_fit(comps: u16, body: &[u8], count: usize) -> bool
     requires { count * progression_size comps ≤ length body.now }
     ensures { result ≡ list_all progression_fits (values_from (progression_at comps) (progression_size comps) count 0 body.now) }
