@@ -1,1 +1,3 @@
 pub mod ValueLemmas
+pub mod RuleLemmas
+pub mod PutLemmas

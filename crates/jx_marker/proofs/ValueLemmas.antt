@@ -4,9 +4,9 @@ use Rattle.std.proofs.Math.Nat.{add-mul}
 use Rattle.std.specs.List.{list_all}
 use Rattle.jx_marker.specs.Values.{values_from}
 
-pub length-values_from : {A : Type 0} (value_at : ℕ → List ℕ → A) (size n at : ℕ) (bytes : List ℕ) → length (values_from value_at size n at bytes) ≡ n
-length-values_from value_at size zero at bytes = refl
-length-values_from value_at size (suc n) at bytes = let e = length-values_from value_at size n (at + size) bytes in omega (arith, e)
+pub length_values : {A : Type 0} (value_at : ℕ → List ℕ → A) (size n at : ℕ) (bytes : List ℕ) → length (values_from value_at size n at bytes) ≡ n
+length_values value_at size zero at bytes = refl
+length_values value_at size (suc n) at bytes = let e = length_values value_at size n (at + size) bytes in omega (arith, e)
 
 -- the first of those that are left
 pub values_left : {A : Type 0} (value_at : ℕ → List ℕ → A) (size count i at : ℕ) (bytes : List ℕ) → i < count

@@ -24,10 +24,13 @@ comp_size_bytes comp = comp.ssiz ∷ comp.dx ∷ comp.dy ∷ []
 abbrev pub comp_size_at : ℕ → List ℕ → CompSize
 comp_size_at at bytes = record { ssiz = slice_index bytes at; dx = slice_index bytes (at + 1); dy = slice_index bytes (at + 2) }
 
+-- the canvas, then the tiles
+abbrev pub canvas_bytes : Siz → List ℕ
+canvas_bytes siz = big_bytes 4 siz.x1 ++ (big_bytes 4 siz.y1 ++ (big_bytes 4 siz.x0 ++ (big_bytes 4 siz.y0
+  ++ (big_bytes 4 siz.tw ++ (big_bytes 4 siz.th ++ (big_bytes 4 siz.tx ++ big_bytes 4 siz.ty))))))
+
 abbrev pub siz_bytes : Siz → List ℕ
-siz_bytes siz = big_bytes 2 siz.rsiz ++ (big_bytes 4 siz.x1 ++ (big_bytes 4 siz.y1 ++ (big_bytes 4 siz.x0 ++ (big_bytes 4 siz.y0
-  ++ (big_bytes 4 siz.tw ++ (big_bytes 4 siz.th ++ (big_bytes 4 siz.tx ++ (big_bytes 4 siz.ty
-  ++ (big_bytes 2 (length siz.comps) ++ flat_map comp_size_bytes siz.comps)))))))))
+siz_bytes siz = big_bytes 2 siz.rsiz ++ (canvas_bytes siz ++ (big_bytes 2 (length siz.comps) ++ flat_map comp_size_bytes siz.comps))
 
 abbrev pub siz_at : List ℕ → Siz
 siz_at body = record {

@@ -2,7 +2,7 @@ ghost use Rattle.std.specs.Prelude.{◌≡◌, ◌+◌, ◌*◌, ◌<◌, ◌≤
 ghost use Rattle.std.specs.List.{All, flat_map};
 ghost use Rattle.byteorder.specs.Endian.{big_bytes};
 ghost use Rattle.jx_marker.specs.Markers.{index_size, entry_size};
-ghost use Rattle.jx_marker.specs.Values.{siz_bytes, comp_size_bytes, shape_bytes, precinct_bit, scod, cod_bytes, index_bytes, quant_bytes, progression_bytes, poc_bytes, sot_bytes};
+ghost use Rattle.jx_marker.specs.Values.{siz_bytes, canvas_bytes, comp_size_bytes, shape_bytes, precinct_bit, scod, cod_bytes, index_bytes, quant_bytes, progression_bytes, poc_bytes, sot_bytes};
 ghost use Rattle.jx_marker.specs.Segments.{spelling, with_length};
 ghost use Rattle.jx_marker.specs.Ranges.{InRange, SizInRange, ShapeInRange, CodInRange, CocInRange, QuantInRange, QccInRange, RgnInRange, ProgressionInRange, PocInRange, BytesInRange, SotInRange};
 
@@ -35,14 +35,11 @@ fn put_comp_sizes(out: &mut Vec<u8>, comps: &[CompSize]) -> Result<(), AllocErro
     Ok(())
 }
 
-fn put_siz(out: &mut Vec<u8>, siz: &Siz) -> Result<(), AllocError>
-    requires { SizInRange siz.now }
-    ensures ok { OnOk result (out.new.items ≡ out.old.items ++ with_length 81 (siz_bytes siz.now)) }
+// The nine sizes of SIZ before the components.
+fn put_canvas(out: &mut Vec<u8>, siz: &Siz) -> Result<(), AllocError>
+    ensures ok { OnOk result (out.new.items ≡ out.old.items ++ canvas_bytes siz.now) }
     ensures front { take (length out.old.items) out.new.items ≡ out.old.items }
 {
-    let comps = siz.comps.as_slice();
-    put_front(out, SIZ, 36 + 3 * comps.len())?;
-    put_u16(out, siz.rsiz)?;
     put_u32(out, siz.x1)?;
     put_u32(out, siz.y1)?;
     put_u32(out, siz.x0)?;
@@ -50,9 +47,29 @@ fn put_siz(out: &mut Vec<u8>, siz: &Siz) -> Result<(), AllocError>
     put_u32(out, siz.tw)?;
     put_u32(out, siz.th)?;
     put_u32(out, siz.tx)?;
-    put_u32(out, siz.ty)?;
+    put_u32(out, siz.ty)
+}
+
+fn put_siz_body(out: &mut Vec<u8>, siz: &Siz) -> Result<(), AllocError>
+    requires { length siz.now.comps < 2 ^ 16 }
+    ensures ok { OnOk result (out.new.items ≡ out.old.items ++ siz_bytes siz.now) }
+    ensures front { take (length out.old.items) out.new.items ≡ out.old.items }
+{
+    let comps = siz.comps.as_slice();
+    put_u16(out, siz.rsiz)?;
+    put_canvas(out, siz)?;
     put_u16(out, comps.len() as u16)?;
     put_comp_sizes(out, comps)
+}
+
+#[tactic(auto, using(crate::proofs::PutLemmas::fronted, crate::proofs::PutLemmas::length_siz, crate::proofs::PutLemmas::most_comps))]
+fn put_siz(out: &mut Vec<u8>, siz: &Siz) -> Result<(), AllocError>
+    requires { SizInRange siz.now }
+    ensures ok { OnOk result (out.new.items ≡ out.old.items ++ with_length 81 (siz_bytes siz.now)) }
+    ensures front { take (length out.old.items) out.new.items ≡ out.old.items }
+{
+    put_front(out, SIZ, 36 + 3 * siz.comps.as_slice().len())?;
+    put_siz_body(out, siz)
 }
 
 fn put_shape(out: &mut Vec<u8>, shape: &Shape) -> Result<(), AllocError>
@@ -77,16 +94,25 @@ fn scod(cod: &Cod) -> u8
     precinct_bit(&cod.shape) + if cod.sop { 2 } else { 0 } + if cod.eph { 4 } else { 0 }
 }
 
+fn put_cod_body(out: &mut Vec<u8>, cod: &Cod) -> Result<(), AllocError>
+    requires { CodInRange cod.now }
+    ensures ok { OnOk result (out.new.items ≡ out.old.items ++ cod_bytes cod.now) }
+    ensures front { take (length out.old.items) out.new.items ≡ out.old.items }
+{
+    out.extend_from_slice(&[scod(cod), cod.order])?;
+    put_u16(out, cod.layers)?;
+    out.push(cod.transform)?;
+    put_shape(out, &cod.shape)
+}
+
+#[tactic(auto, using(crate::proofs::PutLemmas::fronted))]
 fn put_cod(out: &mut Vec<u8>, cod: &Cod) -> Result<(), AllocError>
     requires { CodInRange cod.now }
     ensures ok { OnOk result (out.new.items ≡ out.old.items ++ with_length 82 (cod_bytes cod.now)) }
     ensures front { take (length out.old.items) out.new.items ≡ out.old.items }
 {
     put_front(out, COD, 10 + cod.shape.precincts.as_slice().len())?;
-    out.extend_from_slice(&[scod(cod), cod.order])?;
-    put_u16(out, cod.layers)?;
-    out.push(cod.transform)?;
-    put_shape(out, &cod.shape)
+    put_cod_body(out, cod)
 }
 
 fn put_coc(out: &mut Vec<u8>, comps: u16, comp: u16, shape: &Shape) -> Result<(), AllocError>
@@ -123,6 +149,7 @@ fn put_quant(out: &mut Vec<u8>, quant: &Quant) -> Result<(), AllocError>
     put_entries(out, entry_size(quant.sqcd), quant.entries.as_slice())
 }
 
+#[tactic(auto, using(crate::proofs::PutLemmas::fronted, crate::proofs::PutLemmas::length_quant))]
 fn put_qcd(out: &mut Vec<u8>, quant: &Quant) -> Result<(), AllocError>
     requires { QuantInRange quant.now 0 }
     ensures ok { OnOk result (out.new.items ≡ out.old.items ++ with_length 92 (quant_bytes quant.now)) }
@@ -132,15 +159,23 @@ fn put_qcd(out: &mut Vec<u8>, quant: &Quant) -> Result<(), AllocError>
     put_quant(out, quant)
 }
 
+fn put_qcc_body(out: &mut Vec<u8>, comps: u16, comp: u16, quant: &Quant) -> Result<(), AllocError>
+    requires { QccInRange comps comp quant.now }
+    ensures ok { OnOk result (out.new.items ≡ out.old.items ++ (index_bytes comps comp ++ quant_bytes quant.now)) }
+    ensures front { take (length out.old.items) out.new.items ≡ out.old.items }
+{
+    put_narrow(out, index_size(comps), comp)?;
+    put_quant(out, quant)
+}
+
+#[tactic(auto, using(crate::proofs::PutLemmas::fronted, crate::proofs::PutLemmas::length_qcc))]
 fn put_qcc(out: &mut Vec<u8>, comps: u16, comp: u16, quant: &Quant) -> Result<(), AllocError>
     requires { QccInRange comps comp quant.now }
     ensures ok { OnOk result (out.new.items ≡ out.old.items ++ spelling comps (Segment.Qcc comp quant.now)) }
     ensures front { take (length out.old.items) out.new.items ≡ out.old.items }
 {
-    let size = index_size(comps);
-    put_front(out, QCC, size + 1 + quant.entries.as_slice().len() * entry_size(quant.sqcd))?;
-    put_narrow(out, size, comp)?;
-    put_quant(out, quant)
+    put_front(out, QCC, index_size(comps) + 1 + quant.entries.as_slice().len() * entry_size(quant.sqcd))?;
+    put_qcc_body(out, comps, comp, quant)
 }
 
 fn put_rgn(out: &mut Vec<u8>, comps: u16, comp: u16, shift: u8) -> Result<(), AllocError>
@@ -170,16 +205,25 @@ fn put_progression(out: &mut Vec<u8>, comps: u16, entry: Progression) -> Result<
     Ok(())
 }
 
+fn put_progressions(out: &mut Vec<u8>, comps: u16, entries: &[Progression]) -> Result<(), AllocError>
+    requires { All (ProgressionInRange comps) entries.now }
+    ensures ok { OnOk result (out.new.items ≡ out.old.items ++ poc_bytes comps entries.now) }
+    ensures front { take (length out.old.items) out.new.items ≡ out.old.items }
+{
+    for entry in entries {
+        put_progression(out, comps, *entry)?;
+    }
+    Ok(())
+}
+
+#[tactic(auto, using(crate::proofs::PutLemmas::fronted, crate::proofs::PutLemmas::length_poc))]
 fn put_poc(out: &mut Vec<u8>, comps: u16, entries: &[Progression]) -> Result<(), AllocError>
     requires { PocInRange comps entries.now }
     ensures ok { OnOk result (out.new.items ≡ out.old.items ++ with_length 95 (poc_bytes comps entries.now)) }
     ensures front { take (length out.old.items) out.new.items ≡ out.old.items }
 {
     put_front(out, POC, entries.len() * progression_size(comps))?;
-    for entry in entries {
-        put_progression(out, comps, *entry)?;
-    }
-    Ok(())
+    put_progressions(out, comps, entries)
 }
 
 fn put_bytes(out: &mut Vec<u8>, code: u8, bytes: &[u8]) -> Result<(), AllocError>

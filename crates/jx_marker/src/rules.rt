@@ -67,7 +67,8 @@ fn breaks_length(comps: u16, bytes: &[u8]) -> bool
 #[tactic(auto, unfolding(crate::specs::Rules::breaks_3))]
 fn breaks_component_count(body: &[u8]) -> bool
     requires { 36 ≤ length body.now }
-    ensures { result ≡ breaks_3 81 body.now }
+    ensures value { result ≡ breaks_3 81 body.now }
+    ensures whole { result ≡ false → 36 + 3 * big_from 34 2 body.now ≤ length body.now }
 {
     2 + body.len() != 38 + 3 * usize::from(u16_at(body, 34))
 }
@@ -76,6 +77,14 @@ fn axis_fits(end: u32, begin: u32, tile: u32, first: u32) -> bool
     ensures { result ≡ axis_fits end begin tile first }
 {
     tile > 0 && first <= begin && begin < end && u64::from(begin) < u64::from(first) + u64::from(tile)
+}
+
+// The axis whose end stands at this place; its other three numbers follow eight bytes apart.
+fn axis_fits_at(body: &[u8], at: usize) -> bool
+    requires { at + 28 ≤ length body.now }
+    ensures { result ≡ axis_fits (big_from at 4 body.now) (big_from (at + 8) 4 body.now) (big_from (at + 16) 4 body.now) (big_from (at + 24) 4 body.now) }
+{
+    axis_fits(u32_at(body, at), u32_at(body, at + 8), u32_at(body, at + 16), u32_at(body, at + 24))
 }
 
 fn comp_size_fits(comp: CompSize) -> bool
@@ -100,17 +109,22 @@ fn comp_sizes_fit(body: &[u8], count: u16) -> bool
 }
 
 // Rule 4: the number of components, a depth, a subsampling factor, or the canvas and its tiles.
-#[tactic(auto, unfolding(crate::specs::Rules::breaks_4))]
+#[tactic(auto, using(crate::proofs::ValueLemmas::length_values), unfolding(crate::specs::Rules::breaks_4))]
 fn breaks_canvas(body: &[u8]) -> bool
     requires { 36 + 3 * big_from 34 2 body.now ≤ length body.now }
     ensures { result ≡ breaks_4 81 body.now }
 {
     let count = u16_at(body, 34);
-    !(count > 0
-        && count <= 16384
-        && axis_fits(u32_at(body, 2), u32_at(body, 10), u32_at(body, 18), u32_at(body, 26))
-        && axis_fits(u32_at(body, 6), u32_at(body, 14), u32_at(body, 22), u32_at(body, 30))
-        && comp_sizes_fit(body, count))
+    if count == 0 || count > 16384 {
+        return true;
+    }
+    if !axis_fits_at(body, 2) {
+        return true;
+    }
+    if !axis_fits_at(body, 6) {
+        return true;
+    }
+    !comp_sizes_fit(body, count)
 }
 
 // Rule 5: Rsiz asks for Part 2 or Part 15.
