@@ -1,3 +1,4 @@
 pub mod ValueLemmas
 pub mod RuleLemmas
 pub mod PutLemmas
+pub mod ClearLemmas

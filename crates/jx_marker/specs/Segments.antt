@@ -55,10 +55,10 @@ abbrev pub value_of : ℕ → ℕ → List ℕ → Segment
 value_of comps code body =
   if code == 81 then segment.Siz (siz_at body)
   else if code == 82 then segment.Cod (cod_at body)
-  else if code == 83 then segment.Coc (index_at comps 0 body) (shape_at (index_size comps + 1) body)
+  else if code == 83 then segment.Coc (index_at comps 0 body) (shape_at (1 + index_size comps) body)
   else if code == 92 then segment.Qcd (quant_at 0 body)
   else if code == 93 then segment.Qcc (index_at comps 0 body) (quant_at (index_size comps) body)
-  else if code == 94 then segment.Rgn (index_at comps 0 body) (slice_index body (index_size comps + 1))
+  else if code == 94 then segment.Rgn (index_at comps 0 body) (slice_index body (1 + index_size comps))
   else if code == 95 then segment.Poc (poc_at comps body)
   else if code == 99 then segment.Crg body
   else if code == 100 then segment.Com body

@@ -25,7 +25,7 @@ abbrev pub comp_size_at : ℕ → List ℕ → CompSize
 comp_size_at at bytes = record { ssiz = slice_index bytes at; dx = slice_index bytes (at + 1); dy = slice_index bytes (at + 2) }
 
 -- the canvas, then the tiles
-abbrev pub canvas_bytes : Siz → List ℕ
+unfoldable pub canvas_bytes : Siz → List ℕ
 canvas_bytes siz = big_bytes 4 siz.x1 ++ (big_bytes 4 siz.y1 ++ (big_bytes 4 siz.x0 ++ (big_bytes 4 siz.y0
   ++ (big_bytes 4 siz.tw ++ (big_bytes 4 siz.th ++ (big_bytes 4 siz.tx ++ big_bytes 4 siz.ty))))))
 

@@ -35,19 +35,24 @@ fn put_comp_sizes(out: &mut Vec<u8>, comps: &[CompSize]) -> Result<(), AllocErro
     Ok(())
 }
 
-// The nine sizes of SIZ before the components.
+fn put_pair(out: &mut Vec<u8>, first: u32, second: u32) -> Result<(), AllocError>
+    ensures ok { OnOk result (out.new.items ≡ out.old.items ++ (big_bytes 4 first ++ big_bytes 4 second)) }
+    ensures front { take (length out.old.items) out.new.items ≡ out.old.items }
+{
+    put_u32(out, first)?;
+    put_u32(out, second)
+}
+
+#[tactic(auto, unfolding(crate::specs::Values::canvas_bytes))]
 fn put_canvas(out: &mut Vec<u8>, siz: &Siz) -> Result<(), AllocError>
     ensures ok { OnOk result (out.new.items ≡ out.old.items ++ canvas_bytes siz.now) }
     ensures front { take (length out.old.items) out.new.items ≡ out.old.items }
 {
-    put_u32(out, siz.x1)?;
-    put_u32(out, siz.y1)?;
-    put_u32(out, siz.x0)?;
-    put_u32(out, siz.y0)?;
-    put_u32(out, siz.tw)?;
-    put_u32(out, siz.th)?;
-    put_u32(out, siz.tx)?;
-    put_u32(out, siz.ty)
+    put_pair(out, siz.x1, siz.y1)?;
+    put_pair(out, siz.x0, siz.y0)?;
+    put_pair(out, siz.tw, siz.th)?;
+    put_pair(out, siz.tx, siz.ty)?;
+    Ok(())
 }
 
 fn put_siz_body(out: &mut Vec<u8>, siz: &Siz) -> Result<(), AllocError>
@@ -59,7 +64,8 @@ fn put_siz_body(out: &mut Vec<u8>, siz: &Siz) -> Result<(), AllocError>
     put_u16(out, siz.rsiz)?;
     put_canvas(out, siz)?;
     put_u16(out, comps.len() as u16)?;
-    put_comp_sizes(out, comps)
+    put_comp_sizes(out, comps)?;
+    Ok(())
 }
 
 #[tactic(auto, using(crate::proofs::PutLemmas::fronted, crate::proofs::PutLemmas::length_siz, crate::proofs::PutLemmas::most_comps))]
@@ -69,7 +75,8 @@ fn put_siz(out: &mut Vec<u8>, siz: &Siz) -> Result<(), AllocError>
     ensures front { take (length out.old.items) out.new.items ≡ out.old.items }
 {
     put_front(out, SIZ, 36 + 3 * siz.comps.as_slice().len())?;
-    put_siz_body(out, siz)
+    put_siz_body(out, siz)?;
+    Ok(())
 }
 
 fn put_shape(out: &mut Vec<u8>, shape: &Shape) -> Result<(), AllocError>
@@ -105,14 +112,15 @@ fn put_cod_body(out: &mut Vec<u8>, cod: &Cod) -> Result<(), AllocError>
     put_shape(out, &cod.shape)
 }
 
-#[tactic(auto, using(crate::proofs::PutLemmas::fronted))]
+#[tactic(auto, using(crate::proofs::PutLemmas::fronted, crate::proofs::PutLemmas::length_cod))]
 fn put_cod(out: &mut Vec<u8>, cod: &Cod) -> Result<(), AllocError>
     requires { CodInRange cod.now }
     ensures ok { OnOk result (out.new.items ≡ out.old.items ++ with_length 82 (cod_bytes cod.now)) }
     ensures front { take (length out.old.items) out.new.items ≡ out.old.items }
 {
     put_front(out, COD, 10 + cod.shape.precincts.as_slice().len())?;
-    put_cod_body(out, cod)
+    put_cod_body(out, cod)?;
+    Ok(())
 }
 
 fn put_coc(out: &mut Vec<u8>, comps: u16, comp: u16, shape: &Shape) -> Result<(), AllocError>

@@ -26,7 +26,7 @@ fn value_of(alloc: Global, comps: u16, code: u8, body: &[u8]) -> Result<Segment,
         COD => Ok(Segment::Cod(read_cod(alloc, body)?)),
         COC => Ok(Segment::Coc {
             comp: narrow_at(body, index_size(comps), 0),
-            shape: read_shape(alloc, body, index_size(comps) + 1)?,
+            shape: read_shape(alloc, body, 1 + index_size(comps))?,
         }),
         QCD => Ok(Segment::Qcd(read_quant(alloc, body, 0)?)),
         QCC => Ok(Segment::Qcc {
@@ -35,7 +35,7 @@ fn value_of(alloc: Global, comps: u16, code: u8, body: &[u8]) -> Result<Segment,
         }),
         RGN => Ok(Segment::Rgn {
             comp: narrow_at(body, index_size(comps), 0),
-            shift: body[index_size(comps) + 1],
+            shift: body[1 + index_size(comps)],
         }),
         POC => Ok(Segment::Poc(read_poc(alloc, comps, body)?)),
         CRG => Ok(Segment::Crg(bytes_of(alloc, body)?)),
