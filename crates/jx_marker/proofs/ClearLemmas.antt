@@ -3,7 +3,7 @@ use Rattle.std.proofs.Common.{◌≡◌, ◌≢◌, ◌<◌, ◌≤◌, ◌+◌,
 use Rattle.std.specs.List.{list_all, list_any}
 use Rattle.std.proofs.lemmas.Bool.Decides.{nat_tests}
 use Rattle.byteorder.specs.Endian.{big_from}
-use Rattle.jx_marker.specs.Markers.{index_size, entry_size, progression_size}
+use Rattle.jx_marker.specs.Markers.{has_length, index_size, entry_size, progression_size}
 use Rattle.jx_marker.specs.Values.{siz_at, poc_at, index_at}
 use Rattle.jx_marker.specs.Rules.{breaks_3, breaks_4, breaks_5, breaks_6, breaks_7, breaks_8, breaks_9, breaks_10, breaks_11, breaks_12, breaks_13, first_true, rules_inside, siz_fits, shape_fits, cod_fits, quant_fits, has_zero_exponent, progression_fits}
 use Rattle.jx_marker.proofs.RuleLemmas.{cleared, siz_rules, cod_rules, coc_rules, qcd_rules, qcc_rules, rgn_rules, poc_rules, plain_rules, IsPlain, neither}
@@ -11,6 +11,13 @@ use Rattle.jx_marker.proofs.RuleLemmas.{cleared, siz_rules, cod_rules, coc_rules
 pub first_holds : (x y : Bool) → (x && y) ≡ true → (x ≡ true) × (y ≡ true)
 first_holds true y h = (refl, h)
 first_holds false y h = absurd (cc)
+
+last_holds : (x : Bool) → (x || false) ≡ true → x ≡ true
+last_holds true h = refl
+last_holds false h = absurd (cc)
+
+pub not_equal : (a b : ℕ) → a ≢ b → (a == b) ≡ false
+not_equal a b h = grind (arith, nat_tests)
 
 pub not_false : (x : Bool) → not x ≡ false → x ≡ true
 not_false true h = refl
@@ -175,3 +182,10 @@ clear_poc comps body h =
   let fields = first_holds _ _ (not_false _ eleventh.0) in
   record { whole = eq_true _ _ fields.0; fits = fields.1 }
 
+-- the only marker with a length that is left
+pub sot_left : (code : ℕ) → has_length code ≡ true → (code == 81) ≡ false → (code == 82) ≡ false → (code == 83) ≡ false → (code == 85) ≡ false → (code == 87) ≡ false
+  → (code == 88) ≡ false → (code == 92) ≡ false → (code == 93) ≡ false → (code == 94) ≡ false → (code == 95) ≡ false → (code == 96) ≡ false → (code == 97) ≡ false
+  → (code == 99) ≡ false → (code == 100) ≡ false → code ≡ 144
+sot_left code h n81 n82 n83 n85 n87 n88 n92 n93 n94 n95 n96 n97 n99 n100 =
+  let left = rw (n81, n82, n83, n85, n87, n88, n92, n93, n94, n95, n96, n97, n99, n100) at h in
+  eq_true code 144 (last_holds (code == 144) left)

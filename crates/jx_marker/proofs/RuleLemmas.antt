@@ -52,7 +52,7 @@ pub plain_rules : (comps code : ℕ) (body : List ℕ) → IsPlain code → firs
 unfolding breaks_3 breaks_4 breaks_5 breaks_6 breaks_7 breaks_8 breaks_9 breaks_10 breaks_11 breaks_12
 plain_rules comps code body plain = rw (plain.siz, plain.cod, plain.coc, plain.qcd, plain.qcc, plain.rgn, plain.poc) refl
 
-neither : (x y : Bool) → (x || y) ≡ false → (x ≡ false) × (y ≡ false)
+pub neither : (x y : Bool) → (x || y) ≡ false → (x ≡ false) × (y ≡ false)
 neither true y h = absurd (cc)
 neither false y h = (refl, h)
 
@@ -105,7 +105,7 @@ pub record HasRoom (comps : ℕ) (bytes : List ℕ) : Type 0 where
   pub least : least_length comps (code_at bytes) ≤ length_at bytes
   pub sot : code_at bytes ≡ 144 → length_at bytes ≡ 10
 
-both : (x y : Bool) → x ≡ true → (x && y) ≡ false → y ≡ false
+pub both : (x y : Bool) → x ≡ true → (x && y) ≡ false → y ≡ false
 both true y h e = e
 both false y h e = absurd (cc)
 
@@ -145,3 +145,12 @@ canvas_broken body some most across down =
   let least : ltb 0 (big_from 34 2 body) ≡ true = grind (arith, nat_tests) in
   let greatest : leb (big_from 34 2 body) 16384 ≡ true = grind (arith, nat_tests) in
   rw (count, least, greatest, across, down) refl
+
+pub not_packed : (comps : ℕ) (bytes : List ℕ) → breaks_1 comps bytes ≡ false → breaks_14 bytes ≡ false → (code_at bytes ≢ 96) × (code_at bytes ≢ 97)
+unfolding breaks_14
+not_packed comps bytes long packed =
+  let two = two_bytes comps bytes long in
+  let long_enough : leb 2 (length bytes) ≡ true = grind (arith, nat_tests) in
+  let codes = both (leb 2 (length bytes)) _ long_enough packed in
+  let each = neither (code_at bytes == 96) _ codes in
+  (λ is. grind (arith, nat_tests, each, is), λ is. grind (arith, nat_tests, each, is))

@@ -1,4 +1,4 @@
-ghost use Rattle.std.specs.Prelude.{Err, ◌≡◌, ◌+◌, ◌-◌, ◌/◌, ◌*◌, ◌≤◌, ◌<◌, ◌++◌, length, drop, Some, None, IfOk, true, false, slice_index, ℕ};
+ghost use Rattle.std.specs.Prelude.{Err, ◌≡◌, ◌≢◌, ◌+◌, ◌-◌, ◌/◌, ◌*◌, ◌≤◌, ◌<◌, ◌++◌, length, drop, Some, None, IfOk, true, false, slice_index, ℕ};
 ghost use Rattle.jx_marker.specs.Markers.{has_length, index_size};
 ghost use Rattle.jx_marker.specs.Segments.{segment_at, size_at, value_of, alone, code_at, body_at};
 ghost use Rattle.jx_marker.specs.Rules.{first_broken, first_true, rules_inside, least_length};
@@ -19,6 +19,8 @@ fn value_of(alloc: Global, comps: u16, code: u8, body: &[u8]) -> Result<Segment,
     requires rules { first_true (rules_inside comps code body.now) ≡ None }
     requires sot { code ≡ 144 → length body.now ≡ 8 }
     requires marker { has_length code ≡ true }
+    requires not_ppm { code ≢ 96 }
+    requires not_ppt { code ≢ 97 }
     ensures { IfOk result (λ segment. segment ≡ value_of comps code body.now) }
 {
     match code {
