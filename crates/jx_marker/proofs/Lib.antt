@@ -2,3 +2,5 @@ pub mod ValueLemmas
 pub mod RuleLemmas
 pub mod PutLemmas
 pub mod ClearLemmas
+pub mod FrontLemmas
+pub mod SpelledLemmas

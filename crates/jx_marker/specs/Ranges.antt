@@ -62,6 +62,7 @@ pub record CodInRange (cod : Cod) : Type 0 where
 
 pub record CocInRange (comps comp : ℕ) (shape : Shape) : Type 0 where
   pub index : comp < comps
+  pub word : comp < 2 ^ 16
   pub fits : ShapeInRange shape
 
 pub record QuantInRange (quant : Quant) (front : ℕ) : Type 0 where
@@ -74,10 +75,12 @@ pub record QuantInRange (quant : Quant) (front : ℕ) : Type 0 where
 
 pub record QccInRange (comps comp : ℕ) (quant : Quant) : Type 0 where
   pub index : comp < comps
+  pub word : comp < 2 ^ 16
   pub fits : QuantInRange quant (index_size comps)
 
 pub record RgnInRange (comps comp shift : ℕ) : Type 0 where
   pub index : comp < comps
+  pub word : comp < 2 ^ 16
   pub fits : shift < 256
 
 pub record ProgressionInRange (comps : ℕ) (entry : Progression) : Type 0 where
