@@ -154,3 +154,19 @@ not_packed comps bytes long packed =
   let codes = both (leb 2 (length bytes)) _ long_enough packed in
   let each = neither (code_at bytes == 96) _ codes in
   (λ is. grind (arith, nat_tests, each, is), λ is. grind (arith, nat_tests, each, is))
+
+pub packed_not_alone : (code : ℕ) → has_length code ≡ false → ((code == 96) ≡ false) × ((code == 97) ≡ false)
+packed_not_alone code none =
+  let siz = neither (code == 81) _ none in
+  let cod = neither (code == 82) _ siz.1 in
+  let coc = neither (code == 83) _ cod.1 in
+  let tlm = neither (code == 85) _ coc.1 in
+  let plm = neither (code == 87) _ tlm.1 in
+  let plt = neither (code == 88) _ plm.1 in
+  let qcd = neither (code == 92) _ plt.1 in
+  let qcc = neither (code == 93) _ qcd.1 in
+  let rgn = neither (code == 94) _ qcc.1 in
+  let poc = neither (code == 95) _ rgn.1 in
+  let ppm = neither (code == 96) _ poc.1 in
+  let ppt = neither (code == 97) _ ppm.1 in
+  (ppm.0, ppt.0)

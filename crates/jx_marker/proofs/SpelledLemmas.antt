@@ -22,7 +22,7 @@ use Rattle.jx_marker.specs.Segments.{spelling, with_length, value_of, code_at, b
 use Rattle.jx_marker.specs.Rules.{breaks_1, breaks_2, breaks_3, breaks_4, breaks_5, breaks_6, breaks_7, breaks_8, breaks_9, breaks_10, breaks_11, breaks_12, breaks_13, breaks_14, first_true, rules_inside, siz_fits, shape_fits, cod_fits, quant_fits, has_zero_exponent, progression_fits, least_length}
 use Rattle.jx_marker.specs.Ranges.{InRange, AreBytes, FitsLength, SizInRange, CompSizeInRange, ShapeInRange, CodInRange, CocInRange, QuantInRange, QccInRange, RgnInRange, ProgressionInRange, PocInRange, BytesInRange, SotInRange}
 use Rattle.jx_marker.specs.Laws.{StandsAt}
-use Rattle.jx_marker.proofs.RuleLemmas.{siz_rules, cod_rules, coc_rules, qcd_rules, qcc_rules, rgn_rules, poc_rules, plain_rules, alone_rules, clear_broken}
+use Rattle.jx_marker.proofs.RuleLemmas.{siz_rules, cod_rules, coc_rules, qcd_rules, qcc_rules, rgn_rules, poc_rules, plain_rules, alone_rules, clear_broken, packed_not_alone}
 use Rattle.jx_marker.proofs.PutLemmas.{length_siz, length_cod, length_quant, length_qcc, length_poc, length_entries, length_progression, most_comps}
 use Rattle.jx_marker.proofs.FrontLemmas.{whole_read, IsWhole, values_read, slice_past, big_from_past, eq_holds, le_holds, lt_holds, le_fails, and_holds, all_false}
 
@@ -438,6 +438,203 @@ rgn_is_read comps comp shift rest range =
     inside = rgn_rules comps body ∙ rw (tenth, twelfth) refl;
   }) (ap₂ (λ (c n : ℕ). segment.Rgn c n) index shift_is)
 
+-- POC
+
+same_progression : (a b : Progression) → a.rs ≡ b.rs → a.cs ≡ b.cs → a.lye ≡ b.lye → a.re ≡ b.re → a.ce ≡ b.ce → a.order ≡ b.order → a ≡ b
+same_progression a b e0 e1 e2 e3 e4 e5 = rw (← e0, ← e1, ← e2, ← e3, ← e4, ← e5) refl
+
+abbrev progression_at_size : ℕ → ℕ → List ℕ → Progression
+progression_at_size size at body = record {
+  rs = slice_index body at;
+  cs = big_from (at + 1) size body;
+  lye = big_from (at + 1 + size) 2 body;
+  re = slice_index body (at + 3 + size);
+  ce = big_from (at + 4 + size) size body;
+  order = slice_index body (at + 4 + 2 * size);
+}
+
+abbrev progression_bytes_size : ℕ → Progression → List ℕ
+progression_bytes_size size entry = entry.rs ∷ (big_bytes size entry.cs ++ (big_bytes 2 entry.lye ++ entry.re ∷ (big_bytes size entry.ce ++ entry.order ∷ [])))
+
+progression_zero_1 : (comps : ℕ) → index_size comps ≡ 1 → (entry : Progression) (rest : List ℕ) → ProgressionInRange comps entry
+  → progression_at comps 0 (progression_bytes comps entry ++ rest) ≡ entry
+progression_zero_1 comps is entry rest range =
+  let cs_fits : entry.cs < 256 ^ 1 = rw is at range.cs in
+  let ce_fits : entry.ce < 256 ^ 1 = rw is at range.ce in
+  let cs = big_number-reads_back 1 entry.cs [] cs_fits in
+  let lye = big_number-reads_back 2 entry.lye [] range.lye in
+  let ce = big_number-reads_back 1 entry.ce [] ce_fits in
+  rw is (same_progression (progression_at_size 1 0 (progression_bytes_size 1 entry ++ rest)) entry refl cs lye refl ce refl)
+
+progression_zero_2 : (comps : ℕ) → index_size comps ≡ 2 → (entry : Progression) (rest : List ℕ) → ProgressionInRange comps entry
+  → progression_at comps 0 (progression_bytes comps entry ++ rest) ≡ entry
+progression_zero_2 comps is entry rest range =
+  let cs_fits : entry.cs < 256 ^ 2 = rw is at range.cs in
+  let ce_fits : entry.ce < 256 ^ 2 = rw is at range.ce in
+  let cs = big_number-reads_back 2 entry.cs [] cs_fits in
+  let lye = big_number-reads_back 2 entry.lye [] range.lye in
+  let ce = big_number-reads_back 2 entry.ce [] ce_fits in
+  rw is (same_progression (progression_at_size 2 0 (progression_bytes_size 2 entry ++ rest)) entry refl cs lye refl ce refl)
+
+progression_zero : (comps : ℕ) (entry : Progression) (rest : List ℕ) → ProgressionInRange comps entry → progression_at comps 0 (progression_bytes comps entry ++ rest) ≡ entry
+progression_zero comps entry rest range = elim (one_or_two comps) [ inl e ↦ progression_zero_1 comps e entry rest range | inr e ↦ progression_zero_2 comps e entry rest range ]
+
+progression_shift : (comps : ℕ) (front xs : List ℕ) → progression_at comps (length front) (front ++ xs) ≡ progression_at comps 0 xs
+progression_shift comps front xs =
+  let n : ℕ = length front in
+  let k : ℕ = index_size comps in
+  let b : List ℕ = front ++ xs in
+  let p0 : n ≡ n + 0 = omega arith in
+  let p2 : n + 1 + k ≡ n + (1 + k) = omega arith in
+  let p3 : n + 3 + k ≡ n + (3 + k) = omega arith in
+  let p4 : n + 4 + k ≡ n + (4 + k) = omega arith in
+  let p5 : n + 4 + 2 * k ≡ n + (4 + 2 * k) = omega arith in
+  same_progression (progression_at comps n b) (progression_at comps 0 xs)
+    (ap (λ (m : ℕ). slice_index b m) p0 ∙ slice_past front xs 0)
+    (big_from_past front xs k 1)
+    (ap (λ (m : ℕ). big_from m 2 b) p2 ∙ big_from_past front xs 2 (1 + k))
+    (ap (λ (m : ℕ). slice_index b m) p3 ∙ slice_past front xs (3 + k))
+    (ap (λ (m : ℕ). big_from m k b) p4 ∙ big_from_past front xs k (4 + k))
+    (ap (λ (m : ℕ). slice_index b m) p5 ∙ slice_past front xs (4 + 2 * k))
+
+progression_read : (comps : ℕ) (front rest : List ℕ) (entry : Progression) → ProgressionInRange comps entry
+  → progression_at comps (length front) (front ++ (progression_bytes comps entry ++ rest)) ≡ entry
+progression_read comps front rest entry range = progression_shift comps front (progression_bytes comps entry ++ rest) ∙ progression_zero comps entry rest range
+
+some_progression : (comps : ℕ) → 1 ≤ progression_size comps
+some_progression comps = omega arith
+
+poc_value : (comps : ℕ) (entries : List Progression) → PocInRange comps entries → poc_at comps (poc_bytes comps entries) ≡ entries
+poc_value comps entries range =
+  let size : ℕ = progression_size comps in
+  let body : List ℕ = poc_bytes comps entries in
+  let count : length body / size ≡ length entries = ap (λ (n : ℕ). n / size) (length_poc comps entries) ∙ mul-div_cancel (length entries) (some_progression comps) in
+  ap (λ (n : ℕ). values_from (progression_at comps) size n 0 body) count
+    ∙ values_read (progression_at comps) (progression_bytes comps) size (ProgressionInRange comps) (length_progression comps) (progression_read comps) entries [] 0 refl (recursion_from_All _ _ range.each)
+
+poc_is_read : (comps : ℕ) (entries : List Progression) (rest : List ℕ) → PocInRange comps entries
+  → StandsAt comps (spelling comps (segment.Poc entries) ++ rest) (segment.Poc entries) (length (spelling comps (segment.Poc entries)))
+unfolding breaks_11
+poc_is_read comps entries rest range =
+  let size : ℕ = progression_size comps in
+  let body : List ℕ = poc_bytes comps entries in
+  let value = poc_value comps entries range in
+  let long = length_poc comps entries in
+  let whole : length body % size ≡ 0 = ap (λ (n : ℕ). n % size) long ∙ mul-mod_left (length entries) size in
+  let fits : list_all progression_fits (poc_at comps body) ≡ true = ap (λ (es : List Progression). list_all progression_fits es) value ∙ range.fits in
+  let eleventh : breaks_11 comps 95 body ≡ false = ap not (and_holds (length body % size == 0) (list_all progression_fits (poc_at comps body)) (eq_holds (length body % size) 0 whole) fits) in
+  let some = mul_some (length entries) size range.some in
+  let count = range.count in
+  whole_read comps 95 body rest (segment.Poc entries) (record {
+    follows = refl;
+    not_ppm = refl;
+    not_ppt = refl;
+    fits = omega arith;
+    least = omega arith;
+    sot = refl;
+    inside = poc_rules comps body ∙ rw eleventh refl;
+  }) (ap segment.Poc value)
+
+-- bytes that are kept as they are, and SOT
+
+crg_is_read : (comps : ℕ) (bytes rest : List ℕ) → BytesInRange 0 bytes → StandsAt comps (with_length 99 bytes ++ rest) (segment.Crg bytes) (length (with_length 99 bytes))
+unfolding breaks_13
+crg_is_read comps bytes rest range = whole_read comps 99 bytes rest (segment.Crg bytes) (record {
+  follows = refl; not_ppm = refl; not_ppt = refl; fits = range.count; least = omega arith; sot = refl;
+  inside = plain_rules comps 99 bytes (record { siz = refl; cod = refl; coc = refl; qcd = refl; qcc = refl; rgn = refl; poc = refl }) ∙ refl;
+}) refl
+
+com_is_read : (comps : ℕ) (bytes rest : List ℕ) → BytesInRange 0 bytes → StandsAt comps (with_length 100 bytes ++ rest) (segment.Com bytes) (length (with_length 100 bytes))
+unfolding breaks_13
+com_is_read comps bytes rest range = whole_read comps 100 bytes rest (segment.Com bytes) (record {
+  follows = refl; not_ppm = refl; not_ppt = refl; fits = range.count; least = omega arith; sot = refl;
+  inside = plain_rules comps 100 bytes (record { siz = refl; cod = refl; coc = refl; qcd = refl; qcc = refl; rgn = refl; poc = refl }) ∙ refl;
+}) refl
+
+long_enough : (n least : ℕ) → least ≤ n → ltb (2 + n) (2 + least) ≡ false
+long_enough n least h = grind (arith, nat_tests)
+
+plt_is_read : (comps : ℕ) (bytes rest : List ℕ) → BytesInRange 1 bytes → StandsAt comps (with_length 88 bytes ++ rest) (segment.Plt bytes) (length (with_length 88 bytes))
+unfolding breaks_13
+plt_is_read comps bytes rest range = whole_read comps 88 bytes rest (segment.Plt bytes) (record {
+  follows = refl; not_ppm = refl; not_ppt = refl; fits = range.count; least = omega arith; sot = refl;
+  inside = plain_rules comps 88 bytes (record { siz = refl; cod = refl; coc = refl; qcd = refl; qcc = refl; rgn = refl; poc = refl })
+    ∙ (let e = long_enough (length bytes) 1 range.some in rw e refl);
+}) refl
+
+plm_is_read : (comps : ℕ) (bytes rest : List ℕ) → BytesInRange 1 bytes → StandsAt comps (with_length 87 bytes ++ rest) (segment.Plm bytes) (length (with_length 87 bytes))
+unfolding breaks_13
+plm_is_read comps bytes rest range = whole_read comps 87 bytes rest (segment.Plm bytes) (record {
+  follows = refl; not_ppm = refl; not_ppt = refl; fits = range.count; least = omega arith; sot = refl;
+  inside = plain_rules comps 87 bytes (record { siz = refl; cod = refl; coc = refl; qcd = refl; qcc = refl; rgn = refl; poc = refl })
+    ∙ (let e = long_enough (length bytes) 1 range.some in rw e refl);
+}) refl
+
+tlm_is_read : (comps : ℕ) (bytes rest : List ℕ) → BytesInRange 2 bytes → StandsAt comps (with_length 85 bytes ++ rest) (segment.Tlm bytes) (length (with_length 85 bytes))
+unfolding breaks_13
+tlm_is_read comps bytes rest range = whole_read comps 85 bytes rest (segment.Tlm bytes) (record {
+  follows = refl; not_ppm = refl; not_ppt = refl; fits = range.count; least = omega arith; sot = refl;
+  inside = plain_rules comps 85 bytes (record { siz = refl; cod = refl; coc = refl; qcd = refl; qcc = refl; rgn = refl; poc = refl })
+    ∙ (let e = long_enough (length bytes) 2 range.some in rw e refl);
+}) refl
+
+sot_value : (sot : Sot) → SotInRange sot → sot_at (sot_bytes sot) ≡ sot
+sot_value sot range =
+  let tile = big_number-reads_back 2 sot.tile [] range.tile in
+  let psot = big_number-reads_back 4 sot.psot [] range.psot in
+  ap₂ (λ (t p : ℕ). record sot { tile = t; psot = p }) tile psot
+
+sot_is_read : (comps : ℕ) (sot : Sot) (rest : List ℕ) → SotInRange sot → StandsAt comps (with_length 144 (sot_bytes sot) ++ rest) (segment.Sot sot) (length (with_length 144 (sot_bytes sot)))
+unfolding breaks_13
+sot_is_read comps sot rest range = whole_read comps 144 (sot_bytes sot) rest (segment.Sot sot) (record {
+  follows = refl; not_ppm = refl; not_ppt = refl; fits = omega arith; least = omega arith; sot = refl;
+  inside = plain_rules comps 144 (sot_bytes sot) (record { siz = refl; cod = refl; coc = refl; qcd = refl; qcc = refl; rgn = refl; poc = refl }) ∙ refl;
+}) (ap segment.Sot (sot_value sot range))
+
+-- markers that stand alone
+
+alone_is_read : (comps code : ℕ) (rest : List ℕ) (s : Segment) → has_length code ≡ false → stands_alone code ≡ true → segment_at comps (255 ∷ code ∷ rest) ≡ s
+  → StandsAt comps (255 ∷ code ∷ rest) s 2
+unfolding breaks_1 breaks_2 breaks_14
+alone_is_read comps code rest s none alone value =
+  let long : ltb (length (255 ∷ code ∷ rest)) 2 ≡ false = grind (arith, nat_tests) in
+  let two : leb 2 (length (255 ∷ code ∷ rest)) ≡ true = grind (arith, nat_tests) in
+  let codes = packed_not_alone code none in
+  record {
+    rules = clear_broken comps (255 ∷ code ∷ rest) (record {
+      marker = rw (none, alone, two) refl;
+      packed = rw (two, codes.0, codes.1) refl;
+      long = rw (long, none) refl;
+      inside = alone_rules comps code (body_at (255 ∷ code ∷ rest)) none;
+    });
+    value = value;
+    takes = rw none refl;
+  }
+
+skipped_is_read : (comps code : ℕ) (rest : List ℕ) → 48 ≤ code → code ≤ 63 → StandsAt comps (255 ∷ code ∷ rest) (segment.Skipped code) 2
+skipped_is_read comps code rest low high =
+  let none : has_length code ≡ false = grind (arith, nat_tests) in
+  let alone : stands_alone code ≡ true = grind (arith, nat_tests) in
+  let soc : (code == 79) ≡ false = grind (arith, nat_tests) in
+  let sod : (code == 147) ≡ false = grind (arith, nat_tests) in
+  let eoc : (code == 217) ≡ false = grind (arith, nat_tests) in
+  alone_is_read comps code rest (segment.Skipped code) none alone (rw (none, soc, sod, eoc) refl)
+
 pub segment_is_read : (comps : ℕ) (s : Segment) (rest : List ℕ) → InRange comps s → StandsAt comps (spelling comps s ++ rest) s (length (spelling comps s))
+segment_is_read comps segment.Soc rest range = alone_is_read comps 79 rest segment.Soc refl refl refl
 segment_is_read comps (segment.Siz siz) rest range = siz_is_read comps siz rest range
-segment_is_read comps _ rest range = ?
+segment_is_read comps (segment.Cod cod) rest range = cod_is_read comps cod rest range
+segment_is_read comps (segment.Coc comp shape) rest range = coc_is_read comps comp shape rest range
+segment_is_read comps (segment.Qcd quant) rest range = qcd_is_read comps quant rest range
+segment_is_read comps (segment.Qcc comp quant) rest range = qcc_is_read comps comp quant rest range
+segment_is_read comps (segment.Rgn comp shift) rest range = rgn_is_read comps comp shift rest range
+segment_is_read comps (segment.Poc entries) rest range = poc_is_read comps entries rest range
+segment_is_read comps (segment.Crg bytes) rest range = crg_is_read comps bytes rest range
+segment_is_read comps (segment.Com bytes) rest range = com_is_read comps bytes rest range
+segment_is_read comps (segment.Plt bytes) rest range = plt_is_read comps bytes rest range
+segment_is_read comps (segment.Plm bytes) rest range = plm_is_read comps bytes rest range
+segment_is_read comps (segment.Tlm bytes) rest range = tlm_is_read comps bytes rest range
+segment_is_read comps (segment.Sot sot) rest range = sot_is_read comps sot rest range
+segment_is_read comps segment.Sod rest range = alone_is_read comps 147 rest segment.Sod refl refl refl
+segment_is_read comps segment.Eoc rest range = alone_is_read comps 217 rest segment.Eoc refl refl refl
+segment_is_read comps (segment.Skipped code) rest range = skipped_is_read comps code rest range.0 range.1
