@@ -4,3 +4,5 @@ pub mod PutLemmas
 pub mod ClearLemmas
 pub mod FrontLemmas
 pub mod SpelledLemmas
+pub mod CutLemmas
+pub mod ReadLemmas
