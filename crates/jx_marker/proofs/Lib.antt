@@ -6,3 +6,4 @@ pub mod FrontLemmas
 pub mod SpelledLemmas
 pub mod CutLemmas
 pub mod ReadLemmas
+pub mod OneLemmas

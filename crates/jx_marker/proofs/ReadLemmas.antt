@@ -1,6 +1,8 @@
 -- Bytes that violate no rule are the spelling of what they are read as: kind by kind.
 use Rattle.std.proofs.Common.{◌≡◌, ◌≢◌, ◌<◌, ◌≤◌, ◌+◌, ◌-◌, ◌*◌, ◌^◌, ◌%◌, ◌/◌, ℕ, zero, suc, List, ◌∷◌, ◌++◌, [], length, take, drop, arith, append_assoc, refl, ap, ap₂, sym, ◌∙◌, Bool, true, false, ◌&&◌, ◌||◌, ◌==◌, not, None, Option, slice_index, ltb, leb, eqb, cond, length-append, length-drop, length-take, min, inl, inr, ◌⊎◌}
-use Rattle.std.proofs.lemmas.Bool.Decides.{nat_tests}
+use Rattle.std.proofs.lemmas.Bool.Decides.{nat_tests, eqb_tells}
+use Rattle.std.proofs.lemmas.List.{take-append-drop, drop-drop}
+use Rattle.std.proofs.lemmas.List.Elements.{All-take}
 use Rattle.std.proofs.Math.Nat.{mod-add-div'}
 use Rattle.std.specs.List.{All, AllByRecursion, flat_map, list_all, list_any}
 use Rattle.byteorder.specs.Endian.{big_from, big_bytes}
@@ -16,12 +18,14 @@ use Rattle.jx_marker.specs.declared.Segment.{Segment}
 use Rattle.jx_marker.specs.declared.Segment.TheVariants as segment
 use Rattle.jx_marker.specs.Markers.{has_length, stands_alone, index_size, entry_size, progression_size}
 use Rattle.jx_marker.specs.Values.{values_from, comp_size_at, comp_size_bytes, siz_at, siz_bytes, canvas_bytes, shape_at, shape_bytes, precinct_bit, scod, cod_at, cod_bytes, index_at, index_bytes, entry_at, quant_at, quant_bytes, progression_at, progression_bytes, poc_at, poc_bytes, sot_at, sot_bytes}
-use Rattle.jx_marker.specs.Segments.{spelling, with_length, value_of, code_at, body_at, length_at, segment_at, size_at}
-use Rattle.jx_marker.specs.Rules.{first_true, rules_inside, first_broken, siz_fits, progression_fits, has_zero_exponent, least_length}
+use Rattle.jx_marker.specs.Segments.{spelling, with_length, value_of, code_at, body_at, length_at, segment_at, size_at, alone}
+use Rattle.jx_marker.specs.Rules.{first_true, rules_inside, first_broken, siz_fits, progression_fits, has_zero_exponent, least_length, breaks_2, breaks_13}
 use Rattle.jx_marker.specs.Ranges.{InRange, AreBytes, FitsLength, SizInRange, CompSizeInRange, ShapeInRange, CodInRange, CocInRange, QuantInRange, QccInRange, RgnInRange, ProgressionInRange, PocInRange, BytesInRange, SotInRange}
+use Rattle.jx_marker.specs.Laws.{BeginsWith}
 use Rattle.jx_marker.proofs.ValueLemmas.{length_values}
 use Rattle.jx_marker.proofs.CutLemmas.{byte_small, drop_end, cut_2_to, cut_byte, cut_to, bytes_drop, drop_one, cut_1, cut_2, cut_4, cut_narrow, small_2, small_4, small_narrow, values_spelled, all_values}
-use Rattle.jx_marker.proofs.ClearLemmas.{IsClearSiz, clear_siz, IsClearShape, IsClearCod, clear_cod, IsClearCoc, clear_coc, IsClearQuant, clear_qcd, IsClearQcc, clear_qcc, IsClearRgn, clear_rgn, IsClearPoc, clear_poc, sot_left}
+use Rattle.jx_marker.proofs.RuleLemmas.{cleared, neither, both, plain_rules, IsClear, clear, two_bytes, has_room, length_body, not_packed}
+use Rattle.jx_marker.proofs.ClearLemmas.{first_holds, not_false, not_equal, IsClearSiz, clear_siz, IsClearShape, IsClearCod, clear_cod, IsClearCoc, clear_coc, IsClearQuant, clear_qcd, IsClearQcc, clear_qcc, IsClearRgn, clear_rgn, IsClearPoc, clear_poc, sot_left}
 
 -- SIZ
 
@@ -318,5 +322,197 @@ sot_spelled body are size =
 sot_range : (body : List ℕ) → AreBytes body → SotInRange (sot_at body)
 sot_range body are = record { tile = small_2 body 0 are; psot = small_4 body 2 are; part = byte_small body are 6; parts = byte_small body are 7 }
 
-pub last_one : (comps : ℕ) (body : List ℕ) → AreBytes body → IsClearCoc comps body → CocInRange comps (index_at comps 0 body) (shape_at (1 + index_size comps) body)
-last_one = coc_range
+-- all kinds
+
+-- a whole segment that violates no rule
+pub record IsSound (comps code : ℕ) (body : List ℕ) : Type 0 where
+  pub rules : first_true (rules_inside comps code body) ≡ None
+  pub are_bytes : AreBytes body
+  pub fits : FitsLength body
+  pub least : least_length comps code ≤ 2 + length body
+  pub sot : code ≡ 144 → length body ≡ 8
+  pub follows : has_length code ≡ true
+  pub not_ppm : (code == 96) ≡ false
+  pub not_ppt : (code == 97) ≡ false
+
+pub record IsSpelled (comps code : ℕ) (body : List ℕ) : Type 0 where
+  pub spelled : spelling comps (value_of comps code body) ≡ with_length code body
+  pub range : InRange comps (value_of comps code body)
+
+read_siz : (comps : ℕ) (body : List ℕ) → IsSound comps 81 body → IsSpelled comps 81 body
+read_siz comps body h =
+  let fine = clear_siz comps body h.rules in
+  record { spelled = ap (with_length 81) (siz_spelled body h.are_bytes fine.count); range = siz_range body h.are_bytes fine }
+
+read_cod : (comps : ℕ) (body : List ℕ) → IsSound comps 82 body → IsSpelled comps 82 body
+read_cod comps body h =
+  let fine = clear_cod comps body h.rules in
+  record { spelled = ap (with_length 82) (cod_spelled body h.are_bytes fine); range = cod_range body h.are_bytes fine }
+
+read_coc : (comps : ℕ) (body : List ℕ) → IsSound comps 83 body → IsSpelled comps 83 body
+read_coc comps body h =
+  let fine = clear_coc comps body h.rules in
+  record { spelled = ap (with_length 83) (coc_spelled comps body h.are_bytes fine); range = coc_range comps body h.are_bytes fine }
+
+read_qcd : (comps : ℕ) (body : List ℕ) → IsSound comps 92 body → IsSpelled comps 92 body
+read_qcd comps body h =
+  let fine = clear_qcd comps body h.rules in
+  let least = h.least in
+  record { spelled = ap (with_length 92) (quant_spelled 0 body h.are_bytes (omega arith) fine); range = quant_range 0 body h.are_bytes (omega arith) h.fits fine }
+
+read_qcc : (comps : ℕ) (body : List ℕ) → IsSound comps 93 body → IsSpelled comps 93 body
+read_qcc comps body h =
+  let fine = clear_qcc comps body h.rules in
+  let least = h.least in
+  let room : index_size comps + 1 ≤ length body = omega arith in
+  record { spelled = ap (with_length 93) (qcc_spelled comps body h.are_bytes room fine); range = qcc_range comps body h.are_bytes room h.fits fine }
+
+read_rgn : (comps : ℕ) (body : List ℕ) → IsSound comps 94 body → IsSpelled comps 94 body
+read_rgn comps body h =
+  let fine = clear_rgn comps body h.rules in
+  record {
+    spelled = ap (with_length 94) (rgn_spelled comps body h.are_bytes fine);
+    range = record { index = fine.index; word = index_word comps body h.are_bytes; fits = byte_small body h.are_bytes (1 + index_size comps) };
+  }
+
+read_poc : (comps : ℕ) (body : List ℕ) → IsSound comps 95 body → IsSpelled comps 95 body
+read_poc comps body h =
+  let fine = clear_poc comps body h.rules in
+  let least = h.least in
+  record { spelled = ap (with_length 95) (poc_spelled comps body h.are_bytes fine); range = poc_range comps body h.are_bytes h.fits (omega arith) fine }
+
+read_crg : (comps : ℕ) (body : List ℕ) → IsSound comps 99 body → IsSpelled comps 99 body
+read_crg comps body h = record { spelled = refl; range = record { some = omega arith; count = h.fits; each = h.are_bytes } }
+
+read_com : (comps : ℕ) (body : List ℕ) → IsSound comps 100 body → IsSpelled comps 100 body
+read_com comps body h = record { spelled = refl; range = record { some = omega arith; count = h.fits; each = h.are_bytes } }
+
+not_short : (n least : ℕ) → ltb (2 + n) (2 + least) ≡ false → least ≤ n
+not_short n least h = grind (arith, nat_tests)
+
+read_plt : (comps : ℕ) (body : List ℕ) → IsSound comps 88 body → IsSpelled comps 88 body
+unfolding breaks_13
+read_plt comps body h =
+  let all = rw (plain_rules comps 88 body (record { siz = refl; cod = refl; coc = refl; qcd = refl; qcc = refl; rgn = refl; poc = refl })) at h.rules in
+  let long = neither (ltb (2 + length body) 3) false (cleared 13 (breaks_13 88 body) [] all).0 in
+  record { spelled = refl; range = record { some = not_short (length body) 1 long.0; count = h.fits; each = h.are_bytes } }
+
+read_plm : (comps : ℕ) (body : List ℕ) → IsSound comps 87 body → IsSpelled comps 87 body
+unfolding breaks_13
+read_plm comps body h =
+  let all = rw (plain_rules comps 87 body (record { siz = refl; cod = refl; coc = refl; qcd = refl; qcc = refl; rgn = refl; poc = refl })) at h.rules in
+  let long = neither (ltb (2 + length body) 3) false (cleared 13 (breaks_13 87 body) [] all).0 in
+  record { spelled = refl; range = record { some = not_short (length body) 1 long.0; count = h.fits; each = h.are_bytes } }
+
+read_tlm : (comps : ℕ) (body : List ℕ) → IsSound comps 85 body → IsSpelled comps 85 body
+unfolding breaks_13
+read_tlm comps body h =
+  let all = rw (plain_rules comps 85 body (record { siz = refl; cod = refl; coc = refl; qcd = refl; qcc = refl; rgn = refl; poc = refl })) at h.rules in
+  record { spelled = refl; range = record { some = not_short (length body) 2 (cleared 13 (breaks_13 85 body) [] all).0; count = h.fits; each = h.are_bytes } }
+
+read_sot : (comps : ℕ) (body : List ℕ) → IsSound comps 144 body → IsSpelled comps 144 body
+read_sot comps body h = record { spelled = ap (with_length 144) (sot_spelled body h.are_bytes (h.sot refl)); range = sot_range body h.are_bytes }
+
+is_or_not : (a b : ℕ) → (a ≡ b) ⊎ ((a == b) ≡ false)
+is_or_not a b = elim (eqb_tells a b) [ inl (is, same) ↦ inl same | inr (is, other) ↦ inr is ]
+
+pub value_spelled : (comps code : ℕ) (body : List ℕ) → IsSound comps code body → IsSpelled comps code body
+value_spelled comps code body h =
+  elim (is_or_not code 81) [ inl e ↦ rw e (read_siz comps body (rw e at h)) | inr n81 ↦
+  elim (is_or_not code 82) [ inl e ↦ rw e (read_cod comps body (rw e at h)) | inr n82 ↦
+  elim (is_or_not code 83) [ inl e ↦ rw e (read_coc comps body (rw e at h)) | inr n83 ↦
+  elim (is_or_not code 92) [ inl e ↦ rw e (read_qcd comps body (rw e at h)) | inr n92 ↦
+  elim (is_or_not code 93) [ inl e ↦ rw e (read_qcc comps body (rw e at h)) | inr n93 ↦
+  elim (is_or_not code 94) [ inl e ↦ rw e (read_rgn comps body (rw e at h)) | inr n94 ↦
+  elim (is_or_not code 95) [ inl e ↦ rw e (read_poc comps body (rw e at h)) | inr n95 ↦
+  elim (is_or_not code 99) [ inl e ↦ rw e (read_crg comps body (rw e at h)) | inr n99 ↦
+  elim (is_or_not code 100) [ inl e ↦ rw e (read_com comps body (rw e at h)) | inr n100 ↦
+  elim (is_or_not code 88) [ inl e ↦ rw e (read_plt comps body (rw e at h)) | inr n88 ↦
+  elim (is_or_not code 87) [ inl e ↦ rw e (read_plm comps body (rw e at h)) | inr n87 ↦
+  elim (is_or_not code 85) [ inl e ↦ rw e (read_tlm comps body (rw e at h)) | inr n85 ↦
+  (let e = sot_left code h.follows n81 n82 n83 n85 n87 n88 n92 n93 n94 n95 h.not_ppm h.not_ppt n99 n100 in rw e (read_sot comps body (rw e at h)))
+  ] ] ] ] ] ] ] ] ] ] ] ]
+
+-- the whole place
+
+-- a marker and its length in front of what follows
+front_spelled : (bytes : List ℕ) → AreBytes bytes → 4 ≤ length bytes → slice_index bytes 0 ≡ 255 → length_at bytes ≡ 2 + length (body_at bytes)
+  → bytes ≡ with_length (code_at bytes) (body_at bytes) ++ drop (2 + length_at bytes) bytes
+front_spelled bytes are room first size =
+  let tail : drop 4 bytes ≡ body_at bytes ++ drop (2 + length_at bytes) bytes
+    = sym (take-append-drop (length_at bytes - 2) (drop 4 bytes))
+      ∙ ap (λ (t : List ℕ). body_at bytes ++ t) (drop-drop (length_at bytes - 2) 4 bytes ∙ ap (λ (n : ℕ). drop n bytes) (let e : 4 + (length_at bytes - 2) ≡ 2 + length_at bytes = omega arith in e)) in
+  cut_to bytes 0 1 refl (omega arith)
+  ∙ ap₂ (λ (f : ℕ) (t : List ℕ). f ∷ t) first (cut_to bytes 1 2 refl (omega arith)
+  ∙ ap (λ (t : List ℕ). code_at bytes ∷ t) (cut_2 bytes 2 are room
+  ∙ ap₂ (λ (n : ℕ) (t : List ℕ). big_bytes 2 n ++ t) size tail))
+
+marker_is : (bytes : List ℕ) → 2 ≤ length bytes → breaks_2 bytes ≡ false → (slice_index bytes 0 ≡ 255) × ((has_length (code_at bytes) || stands_alone (code_at bytes)) ≡ true)
+unfolding breaks_2
+marker_is bytes room h =
+  let long : leb 2 (length bytes) ≡ true = grind (arith, nat_tests) in
+  let fields = first_holds (slice_index bytes 0 == 255) (has_length (code_at bytes) || stands_alone (code_at bytes)) (not_false _ (both (leb 2 (length bytes)) _ long h)) in
+  let is = fields.0 in
+  (grind (arith, nat_tests, is), fields.1)
+
+length_spelled : (comps : ℕ) (bytes : List ℕ) → AreBytes bytes → IsClear comps bytes → has_length (code_at bytes) ≡ true
+  → BeginsWith comps bytes (segment_at comps bytes) (drop (size_at bytes) bytes)
+length_spelled comps bytes are fine follows =
+  let two = two_bytes comps bytes fine.long in
+  let room = has_room comps bytes fine.long follows in
+  let size = length_body comps bytes room in
+  let mark = marker_is bytes two fine.marker in
+  let packed = not_packed comps bytes fine.long fine.packed in
+  let word = small_2 bytes 2 are in
+  let inner = All-take (λ (byte : ℕ). byte < 256) (length_at bytes - 2) (drop 4 bytes) (bytes_drop bytes 4 are) in
+  let least = room.least in
+  let sound : IsSound comps (code_at bytes) (body_at bytes) = record {
+    rules = fine.inside;
+    are_bytes = inner;
+    fits = omega arith;
+    least = omega arith;
+    sot = λ is. (let ten = room.sot is in omega arith);
+    follows = follows;
+    not_ppm = not_equal (code_at bytes) 96 packed.0;
+    not_ppt = not_equal (code_at bytes) 97 packed.1;
+  } in
+  let done = value_spelled comps (code_at bytes) (body_at bytes) sound in
+  rw follows (record {
+    spelled = front_spelled bytes are room.front mark.0 (sym size) ∙ ap (λ (t : List ℕ). t ++ drop (2 + length_at bytes) bytes) (sym done.spelled);
+    range = done.range;
+  })
+
+alone_spelled : (comps code : ℕ) → stands_alone code ≡ true → (spelling comps (alone code) ≡ 255 ∷ code ∷ []) × InRange comps (alone code)
+alone_spelled comps code h =
+  elim (is_or_not code 79) [ inl e ↦ rw e (refl, tt) | inr n79 ↦
+  elim (is_or_not code 147) [ inl e ↦ rw e (refl, tt) | inr n147 ↦
+  elim (is_or_not code 217) [ inl e ↦ rw e (refl, tt) | inr n217 ↦
+  (let left = rw (n79, n147, n217) at h in
+   let low = first_holds (leb 48 code) (leb code 63) left in
+   let l0 = low.0 in let l1 = low.1 in
+   rw (n79, n147, n217) (refl, (grind (arith, nat_tests, l0), grind (arith, nat_tests, l1))))
+  ] ] ]
+
+marker_spelled : (comps : ℕ) (bytes : List ℕ) → IsClear comps bytes → has_length (code_at bytes) ≡ false
+  → BeginsWith comps bytes (segment_at comps bytes) (drop (size_at bytes) bytes)
+marker_spelled comps bytes fine none =
+  let two = two_bytes comps bytes fine.long in
+  let mark = marker_is bytes two fine.marker in
+  let known : stands_alone (code_at bytes) ≡ true = rw none at mark.1 in
+  let done = alone_spelled comps (code_at bytes) known in
+  let front : bytes ≡ (255 ∷ code_at bytes ∷ []) ++ drop 2 bytes
+    = cut_to bytes 0 1 refl (omega arith) ∙ ap₂ (λ (f : ℕ) (t : List ℕ). f ∷ t) mark.0 (cut_to bytes 1 2 refl (omega arith)) in
+  rw none (record {
+    spelled = front ∙ ap (λ (t : List ℕ). t ++ drop 2 bytes) (sym done.0);
+    range = done.1;
+  })
+
+true_or_false : (x : Bool) → (x ≡ true) ⊎ (x ≡ false)
+true_or_false true = inl refl
+true_or_false false = inr refl
+
+pub segment_is_spelled : (comps : ℕ) (bytes : List ℕ) → AreBytes bytes → first_broken comps bytes ≡ None
+  → BeginsWith comps bytes (segment_at comps bytes) (drop (size_at bytes) bytes)
+segment_is_spelled comps bytes are h =
+  let fine = clear comps bytes h in
+  elim (true_or_false (has_length (code_at bytes))) [ inl follows ↦ length_spelled comps bytes are fine follows | inr none ↦ marker_spelled comps bytes fine none ]
