@@ -1,8 +1,8 @@
 -- Bytes that violate no rule are the spelling of what they are read as: kind by kind.
-use Rattle.std.proofs.Common.{◌≡◌, ◌≢◌, ◌<◌, ◌≤◌, ◌+◌, ◌-◌, ◌*◌, ◌^◌, ◌%◌, ◌/◌, ℕ, zero, suc, List, ◌∷◌, ◌++◌, [], length, take, drop, arith, append_assoc, refl, ap, ap₂, sym, ◌∙◌, Bool, true, false, ◌&&◌, ◌||◌, ◌==◌, not, None, Option, slice_index, ltb, leb, eqb, cond, length-append, length-drop, length-take, min, inl, inr, ◌⊎◌}
+use Rattle.std.proofs.Common.{◌≡◌, ◌≢◌, ◌<◌, ◌≤◌, ◌+◌, ◌-◌, ◌*◌, ◌^◌, ◌%◌, ◌/◌, ℕ, zero, suc, List, ◌∷◌, ◌++◌, [], length, take, drop, arith, append_assoc, refl, ap, ap₂, sym, ◌∙◌, Bool, true, false, ◌&&◌, ◌||◌, ◌==◌, not, None, Option, slice_index, ltb, leb, eqb, cond, length-append, length-drop, length-take, min, subst, inl, inr, ◌⊎◌}
 use Rattle.std.proofs.lemmas.Bool.Decides.{nat_tests, eqb_tells}
 use Rattle.std.proofs.lemmas.List.{take-append-drop, drop-drop}
-use Rattle.std.proofs.lemmas.List.Elements.{All-take}
+use Rattle.std.proofs.lemmas.List.Elements.{All-take, All-from_get_or}
 use Rattle.std.proofs.Math.Nat.{mod-add-div'}
 use Rattle.std.specs.List.{All, AllByRecursion, flat_map, list_all, list_any}
 use Rattle.byteorder.specs.Endian.{big_from, big_bytes}
@@ -21,7 +21,7 @@ use Rattle.jx_marker.specs.Values.{values_from, comp_size_at, comp_size_bytes, s
 use Rattle.jx_marker.specs.Segments.{spelling, with_length, value_of, code_at, body_at, length_at, segment_at, size_at, alone}
 use Rattle.jx_marker.specs.Rules.{first_true, rules_inside, first_broken, siz_fits, progression_fits, has_zero_exponent, least_length, breaks_2, breaks_13}
 use Rattle.jx_marker.specs.Ranges.{InRange, AreBytes, FitsLength, SizInRange, CompSizeInRange, ShapeInRange, CodInRange, CocInRange, QuantInRange, QccInRange, RgnInRange, ProgressionInRange, PocInRange, BytesInRange, SotInRange}
-use Rattle.jx_marker.specs.Laws.{BeginsWith}
+use Rattle.jx_marker.specs.Laws.{BeginsWith, StandsAt}
 use Rattle.jx_marker.proofs.ValueLemmas.{length_values}
 use Rattle.jx_marker.proofs.CutLemmas.{byte_small, drop_end, cut_2_to, cut_byte, cut_to, bytes_drop, drop_one, cut_1, cut_2, cut_4, cut_narrow, small_2, small_4, small_narrow, values_spelled, all_values}
 use Rattle.jx_marker.proofs.RuleLemmas.{cleared, neither, both, plain_rules, IsClear, clear, two_bytes, has_room, length_body, not_packed}
@@ -516,3 +516,13 @@ pub segment_is_spelled : (comps : ℕ) (bytes : List ℕ) → AreBytes bytes →
 segment_is_spelled comps bytes are h =
   let fine = clear comps bytes h in
   elim (true_or_false (has_length (code_at bytes))) [ inl follows ↦ length_spelled comps bytes are fine follows | inr none ↦ marker_spelled comps bytes fine none ]
+
+pub bytes_are : (bytes : List ℕ) → ((i : ℕ) → slice_index bytes i < 256) → AreBytes bytes
+bytes_are bytes each = All-from_get_or (λ (byte : ℕ). byte < 256) bytes 0 (λ i inside. each i)
+
+pub begins : (comps : ℕ) (bytes : List ℕ) (s : Segment) (size : ℕ) → AreBytes bytes → StandsAt comps bytes s size → BeginsWith comps bytes s (drop size bytes)
+begins comps bytes s size are h =
+  let done = segment_is_spelled comps bytes are h.rules in
+  let P : Segment → Type 0 = λ x. BeginsWith comps bytes x (drop size bytes) in
+  let Q : ℕ → Type 0 = λ n. BeginsWith comps bytes (segment_at comps bytes) (drop n bytes) in
+  subst P h.value (subst Q h.takes done)

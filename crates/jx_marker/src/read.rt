@@ -64,6 +64,7 @@ fn read_front(alloc: Global, bytes: &[u8], comps: u16) -> Result<(Segment, usize
     ensures found { IfOk result (λ read. StandsAt comps bytes.now read.0 read.1) }
     ensures within { IfOk result (λ read. read.1 ≤ length bytes.now) }
     ensures broken { (m : ℕ) → result ≡ Err (Rule.Broken m) → first_broken comps bytes.now ≡ Some m }
+    ensures violated { (m : ℕ) → first_broken comps bytes.now ≡ Some m → result ≡ Err (Rule.Broken m) }
 {
     if let Some(rule) = first_broken(comps, bytes) {
         return Err(Rule::Broken(rule));
@@ -89,7 +90,9 @@ pub fn read_segment(alloc: Global, bytes: &[u8], at: usize, comps: u16) -> Resul
     ensures after { IfOk result (λ read. (read.1 ≡ at + size_at (drop at bytes.now)) × (read.1 ≤ length bytes.now)) }
     ensures spelled { IfOk result (λ read. BeginsWith comps (drop at bytes.now) read.0 (drop read.1 bytes.now)) }
     ensures broken { (m : ℕ) → result ≡ Err (Rule.Broken m) → first_broken comps (drop at bytes.now) ≡ Some m }
+    ensures violated { (m : ℕ) → first_broken comps (drop at bytes.now) ≡ Some m → result ≡ Err (Rule.Broken m) }
 {
-    let (segment, size) = read_front(alloc, &bytes[at..], comps)?;
+    let (_, rest) = bytes.split_at(at);
+    let (segment, size) = read_front(alloc, rest, comps)?;
     Ok((segment, at + size))
 }
