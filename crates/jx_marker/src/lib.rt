@@ -9,6 +9,8 @@ mod numbers;
 mod put;
 mod read;
 mod rules;
+#[cfg(test)]
+mod tests;
 
 pub use put::put_segment;
 pub use read::read_segment;
