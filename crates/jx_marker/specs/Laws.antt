@@ -1,5 +1,5 @@
 -- What ties the spelling of a segment and the reading of it.
-use Rattle.std.specs.Prelude.{◌≡◌, ℕ, List, ◌++◌, Option, None}
+use Rattle.std.specs.Prelude.{◌≡◌, ℕ, List, ◌++◌, None}
 use Rattle.jx_marker.specs.declared.Segment.{Segment}
 use Rattle.jx_marker.specs.Segments.{spelling, segment_at, size_at}
 use Rattle.jx_marker.specs.Rules.{first_broken}

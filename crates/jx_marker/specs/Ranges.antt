@@ -1,5 +1,5 @@
 -- The ranges in which a segment has a spelling.
-use Rattle.std.specs.Prelude.{◌≡◌, ◌<◌, ◌≤◌, ℕ, ◌+◌, ◌*◌, ◌^◌, ◌%◌, ◌==◌, Bool, true, false, List, ◌++◌, length, drop, Option, None, if◌then◌else◌}
+use Rattle.std.specs.Prelude.{◌≡◌, ◌<◌, ◌≤◌, ℕ, ◌+◌, ◌*◌, ◌^◌, ◌%◌, ◌==◌, true, false, List, length, drop, if◌then◌else◌}
 use Rattle.std.specs.List.{All, list_all, list_any}
 use Rattle.jx_marker.specs.declared.CompSize.{CompSize}
 use Rattle.jx_marker.specs.declared.Siz.{Siz}

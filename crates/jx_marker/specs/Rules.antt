@@ -23,23 +23,23 @@ breaks_14 bytes = nat_le 2 (length bytes) && ((code_at bytes == 96) || (code_at 
 -- QCD, QCC and RGN, and one entry in POC
 abbrev pub least_length : ℕ → ℕ → ℕ
 least_length comps code =
-  if code == 81 then 38
-  else if code == 82 then 8
-  else if code == 83 then 4 + index_size comps
-  else if code == 92 then 3
-  else if code == 93 then 3 + index_size comps
-  else if code == 94 then 3 + index_size comps
-  else if code == 95 then 2 + progression_size comps
-  else 2
+    if code == 81 then 38
+    else if code == 82 then 8
+    else if code == 83 then 4 + index_size comps
+    else if code == 92 then 3
+    else if code == 93 then 3 + index_size comps
+    else if code == 94 then 3 + index_size comps
+    else if code == 95 then 2 + progression_size comps
+    else 2
 
 -- rule 1: no room for a marker or a length, or a length that is too short, past the end, or not the one of SOT
 unfoldable pub breaks_1 : ℕ → List ℕ → Bool
 breaks_1 comps bytes = nat_lt (length bytes) 2
-  || (has_length (code_at bytes)
+    || (has_length (code_at bytes)
     && (nat_lt (length bytes) 4
-      || (nat_lt (length bytes) (2 + length_at bytes)
-        || (nat_lt (length_at bytes) (least_length comps (code_at bytes))
-          || ((code_at bytes == 144) && not (length_at bytes == 10))))))
+    || (nat_lt (length bytes) (2 + length_at bytes)
+    || (nat_lt (length_at bytes) (least_length comps (code_at bytes))
+    || ((code_at bytes == 144) && not (length_at bytes == 10))))))
 
 -- rule 3: the length of SIZ isn't that of its components
 unfoldable pub breaks_3 : ℕ → List ℕ → Bool
@@ -55,7 +55,7 @@ comp_size_fits comp = nat_le (comp.ssiz % 128 + 1) 38 && (nat_lt 0 comp.dx && na
 
 abbrev pub siz_fits : Siz → Bool
 siz_fits siz = nat_lt 0 (length siz.comps) && (nat_le (length siz.comps) 16384
-  && (axis_fits siz.x1 siz.x0 siz.tw siz.tx && (axis_fits siz.y1 siz.y0 siz.th siz.ty && list_all comp_size_fits siz.comps)))
+    && (axis_fits siz.x1 siz.x0 siz.tw siz.tx && (axis_fits siz.y1 siz.y0 siz.th siz.ty && list_all comp_size_fits siz.comps)))
 
 -- rule 4: the number of components, a depth, a subsampling factor, or the canvas and its tiles
 unfoldable pub breaks_4 : ℕ → List ℕ → Bool
@@ -72,8 +72,8 @@ shape_place comps code = if code == 82 then 5 else 1 + index_size comps
 -- from the number of levels on: the length, by the flags' bit 0, and the ranges
 abbrev pub shape_fits : ℕ → ℕ → List ℕ → Bool
 shape_fits flags at body = (length body == at + 5 + (if flags % 2 == 1 then 1 + slice_index body at else 0))
-  && (nat_le (slice_index body at) 32 && (nat_le (slice_index body (at + 1)) 8 && (nat_le (slice_index body (at + 2)) 8
-  && (nat_le (slice_index body (at + 1) + slice_index body (at + 2)) 8 && nat_le (slice_index body (at + 4)) 1))))
+    && (nat_le (slice_index body at) 32 && (nat_le (slice_index body (at + 1)) 8 && (nat_le (slice_index body (at + 2)) 8
+    && (nat_le (slice_index body (at + 1) + slice_index body (at + 2)) 8 && nat_le (slice_index body (at + 4)) 1))))
 
 -- Scod's bits 3 to 7, the order, the layers and the component transform
 abbrev pub cod_fits : List ℕ → Bool
@@ -82,8 +82,8 @@ cod_fits body = nat_lt (slice_index body 0) 8 && (nat_le (slice_index body 1) 4 
 -- rule 6: the length of COD or COC isn't that of its fields, or a field is out of its range
 unfoldable pub breaks_6 : ℕ → ℕ → List ℕ → Bool
 breaks_6 comps code body =
-  ((code == 82) && not (cod_fits body && shape_fits (slice_index body 0) 5 body))
-  || ((code == 83) && not (nat_lt (slice_index body (index_size comps)) 2 && shape_fits (slice_index body (index_size comps)) (1 + index_size comps) body))
+    ((code == 82) && not (cod_fits body && shape_fits (slice_index body 0) 5 body))
+    || ((code == 83) && not (nat_lt (slice_index body (index_size comps)) 2 && shape_fits (slice_index body (index_size comps)) (1 + index_size comps) body))
 
 abbrev pub is_coding : ℕ → Bool
 is_coding code = (code == 82) || (code == 83)
@@ -103,7 +103,7 @@ breaks_8 comps code body = is_coding code && list_any has_zero_exponent (drop (s
 -- the quantization style, and whole entries after Sqcd, which stands at this place
 abbrev pub quant_fits : ℕ → List ℕ → Bool
 quant_fits at body = nat_le (slice_index body at % 32) 2
-  && (nat_le (entry_size (slice_index body at)) (length body - (at + 1)) && ((length body - (at + 1)) % entry_size (slice_index body at) == 0))
+    && (nat_le (entry_size (slice_index body at)) (length body - (at + 1)) && ((length body - (at + 1)) % entry_size (slice_index body at) == 0))
 
 -- rule 9: a quantization style over 2, no whole entry, or half an entry
 unfoldable pub breaks_9 : ℕ → ℕ → List ℕ → Bool
@@ -136,9 +136,9 @@ first_true tests = option_map (λ (test : ℕ × Bool). test.0) (find (λ (test 
 -- the rules of a whole segment, in the order in which they are tested
 abbrev pub rules_inside : ℕ → ℕ → List ℕ → List (ℕ × Bool)
 rules_inside comps code body =
-  (3, breaks_3 code body) ∷ (4, breaks_4 code body) ∷ (5, breaks_5 code body) ∷ (6, breaks_6 comps code body)
-  ∷ (7, breaks_7 comps code body) ∷ (8, breaks_8 comps code body) ∷ (9, breaks_9 comps code body) ∷ (10, breaks_10 comps code body)
-  ∷ (11, breaks_11 comps code body) ∷ (13, breaks_13 code body) ∷ (12, breaks_12 comps code body) ∷ []
+    (3, breaks_3 code body) ∷ (4, breaks_4 code body) ∷ (5, breaks_5 code body) ∷ (6, breaks_6 comps code body)
+    ∷ (7, breaks_7 comps code body) ∷ (8, breaks_8 comps code body) ∷ (9, breaks_9 comps code body) ∷ (10, breaks_10 comps code body)
+    ∷ (11, breaks_11 comps code body) ∷ (13, breaks_13 code body) ∷ (12, breaks_12 comps code body) ∷ []
 
 -- the rules 1 to 14, in the order in which they are tested at a place
 abbrev pub rules_at : ℕ → List ℕ → List (ℕ × Bool)

@@ -1,5 +1,5 @@
 -- A segment's bytes, and the segment that stands at the front of some bytes (T.800, A.1).
-use Rattle.std.specs.Prelude.{ℕ, ◌+◌, ◌-◌, ◌==◌, Bool, List, [], ◌∷◌, ◌++◌, length, take, drop, if◌then◌else◌, slice_index}
+use Rattle.std.specs.Prelude.{ℕ, ◌+◌, ◌-◌, ◌==◌, List, [], ◌∷◌, ◌++◌, length, take, drop, if◌then◌else◌, slice_index}
 use Rattle.byteorder.specs.Endian.{big_from, big_bytes}
 use Rattle.jx_marker.specs.declared.Segment.{Segment}
 use Rattle.jx_marker.specs.declared.Segment.TheVariants as segment
@@ -53,27 +53,27 @@ size_at bytes = if has_length (code_at bytes) then 2 + length_at bytes else 2
 -- the segment of this marker whose length is followed by these bytes
 abbrev pub value_of : ℕ → ℕ → List ℕ → Segment
 value_of comps code body =
-  if code == 81 then segment.Siz (siz_at body)
-  else if code == 82 then segment.Cod (cod_at body)
-  else if code == 83 then segment.Coc (index_at comps 0 body) (shape_at (1 + index_size comps) body)
-  else if code == 92 then segment.Qcd (quant_at 0 body)
-  else if code == 93 then segment.Qcc (index_at comps 0 body) (quant_at (index_size comps) body)
-  else if code == 94 then segment.Rgn (index_at comps 0 body) (slice_index body (1 + index_size comps))
-  else if code == 95 then segment.Poc (poc_at comps body)
-  else if code == 99 then segment.Crg body
-  else if code == 100 then segment.Com body
-  else if code == 88 then segment.Plt body
-  else if code == 87 then segment.Plm body
-  else if code == 85 then segment.Tlm body
-  else segment.Sot (sot_at body)
+    if code == 81 then segment.Siz (siz_at body)
+    else if code == 82 then segment.Cod (cod_at body)
+    else if code == 83 then segment.Coc (index_at comps 0 body) (shape_at (1 + index_size comps) body)
+    else if code == 92 then segment.Qcd (quant_at 0 body)
+    else if code == 93 then segment.Qcc (index_at comps 0 body) (quant_at (index_size comps) body)
+    else if code == 94 then segment.Rgn (index_at comps 0 body) (slice_index body (1 + index_size comps))
+    else if code == 95 then segment.Poc (poc_at comps body)
+    else if code == 99 then segment.Crg body
+    else if code == 100 then segment.Com body
+    else if code == 88 then segment.Plt body
+    else if code == 87 then segment.Plm body
+    else if code == 85 then segment.Tlm body
+    else segment.Sot (sot_at body)
 
 -- the segment of a marker without a length
 abbrev pub alone : ℕ → Segment
 alone code =
-  if code == 79 then segment.Soc
-  else if code == 147 then segment.Sod
-  else if code == 217 then segment.Eoc
-  else segment.Skipped code
+    if code == 79 then segment.Soc
+    else if code == 147 then segment.Sod
+    else if code == 217 then segment.Eoc
+    else segment.Skipped code
 
 -- the segment that stands at the front of these bytes, where no rule is violated there
 abbrev pub segment_at : ℕ → List ℕ → Segment

@@ -1,5 +1,5 @@
 -- What the bytes after a segment's length are for a value, and what value they stand for (T.800, A.4 to A.9).
-use Rattle.std.specs.Prelude.{ℕ, ◌+◌, ◌-◌, ◌*◌, ◌/◌, ◌%◌, ◌==◌, Bool, true, false, zero, suc, List, [], ◌∷◌, ◌++◌, length, drop, min, if◌then◌else◌, slice_index}
+use Rattle.std.specs.Prelude.{ℕ, ◌+◌, ◌-◌, ◌*◌, ◌/◌, ◌%◌, ◌==◌, zero, suc, List, [], ◌∷◌, ◌++◌, length, drop, min, if◌then◌else◌, slice_index}
 use Rattle.std.specs.List.{flat_map}
 use Rattle.byteorder.specs.Endian.{big_from, big_bytes}
 use Rattle.jx_marker.specs.declared.CompSize.{CompSize}
@@ -27,7 +27,7 @@ comp_size_at at bytes = record { ssiz = slice_index bytes at; dx = slice_index b
 -- the canvas, then the tiles
 unfoldable pub canvas_bytes : Siz → List ℕ
 canvas_bytes siz = big_bytes 4 siz.x1 ++ (big_bytes 4 siz.y1 ++ (big_bytes 4 siz.x0 ++ (big_bytes 4 siz.y0
-  ++ (big_bytes 4 siz.tw ++ (big_bytes 4 siz.th ++ (big_bytes 4 siz.tx ++ big_bytes 4 siz.ty))))))
+    ++ (big_bytes 4 siz.tw ++ (big_bytes 4 siz.th ++ (big_bytes 4 siz.tx ++ big_bytes 4 siz.ty))))))
 
 abbrev pub siz_bytes : Siz → List ℕ
 siz_bytes siz = big_bytes 2 siz.rsiz ++ (canvas_bytes siz ++ (big_bytes 2 (length siz.comps) ++ flat_map comp_size_bytes siz.comps))

@@ -110,7 +110,13 @@ pub fn read_cod(alloc: Global, body: &[u8]) -> Result<Cod, AllocError>
 }
 
 #[tactic(auto, using(crate::proofs::ValueLemmas::values_more, crate::proofs::ValueLemmas::room_left))]
-fn entries(alloc: Global, body: &[u8], size: usize, count: usize, from: usize) -> Result<Numbers, AllocError>
+fn entries(
+    alloc: Global,
+    body: &[u8],
+    size: usize,
+    count: usize,
+    from: usize,
+) -> Result<Numbers, AllocError>
     requires room { from + count * size ≤ length body.now }
     requires some { 1 ≤ size }
     requires most { size ≤ 2 }

@@ -10,20 +10,17 @@ ghost use Rattle.jx_marker.specs.Laws.{StandsAt, BeginsWith};
 pub fn spelling_is_read()
     ensures { (comps : ℕ) (segment : Segment) (rest : List ℕ) → InRange comps segment
         → StandsAt comps (spelling comps segment ++ rest) segment (length (spelling comps segment)) }
-{
-}
+{}
 
 /// Bytes that violate no rule begin with the spelling of the segment that they are read as, which is in
 /// its ranges.
 pub fn reading_is_spelled()
     ensures { (comps : ℕ) (bytes : List ℕ) → AreBytes bytes → first_broken comps bytes ≡ None
         → BeginsWith comps bytes (segment_at comps bytes) (drop (size_at bytes) bytes) }
-{
-}
+{}
 
 /// One place spells at most one segment.
 pub fn one_segment()
     ensures { (comps : ℕ) (first second : Segment) (after rest : List ℕ) → InRange comps first → InRange comps second
         → spelling comps first ++ after ≡ spelling comps second ++ rest → (first ≡ second) × (after ≡ rest) }
-{
-}
+{}

@@ -12,10 +12,9 @@ mod rules;
 #[cfg(test)]
 mod tests;
 
+pub use lists::{Bytes, CompSizes, Numbers, Progressions};
 pub use put::put_segment;
 pub use read::read_segment;
-
-pub use lists::{Bytes, CompSizes, Numbers, Progressions};
 
 /// One component of the SIZ segment (T.800, A.5.1): its depth and its subsampling.
 #[derive(Clone, Copy, Debug, PartialEq, Eq)]

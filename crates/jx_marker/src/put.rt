@@ -7,8 +7,8 @@ ghost use Rattle.jx_marker.specs.Segments.{spelling, with_length};
 ghost use Rattle.jx_marker.specs.Ranges.{InRange, SizInRange, ShapeInRange, CodInRange, CocInRange, QuantInRange, QccInRange, RgnInRange, ProgressionInRange, PocInRange, BytesInRange, SotInRange};
 
 use crate::markers::{
-    COC, COD, COM, CRG, EOC, PLM, PLT, POC, QCC, QCD, RGN, SIZ, SOC, SOD, SOT, TLM, entry_size, index_size,
-    progression_size,
+    COC, COD, COM, CRG, EOC, PLM, PLT, POC, QCC, QCD, RGN, SIZ, SOC, SOD, SOT, TLM, entry_size,
+    index_size, progression_size,
 };
 use crate::numbers::{put_narrow, put_u16, put_u32};
 use crate::{Cod, CompSize, Progression, Quant, Segment, Shape, Siz, Sot};
@@ -84,7 +84,13 @@ fn put_shape(out: &mut Vec<u8>, shape: &Shape) -> Result<(), AllocError>
     ensures ok { OnOk result (out.new.items ≡ out.old.items ++ shape_bytes shape.now) }
     ensures front { take (length out.old.items) out.new.items ≡ out.old.items }
 {
-    out.extend_from_slice(&[shape.levels, shape.xcb - 2, shape.ycb - 2, shape.style, shape.wavelet])?;
+    out.extend_from_slice(&[
+        shape.levels,
+        shape.xcb - 2,
+        shape.ycb - 2,
+        shape.style,
+        shape.wavelet,
+    ])?;
     out.extend_from_slice(shape.precincts.as_slice())?;
     Ok(())
 }
@@ -92,7 +98,11 @@ fn put_shape(out: &mut Vec<u8>, shape: &Shape) -> Result<(), AllocError>
 fn precinct_bit(shape: &Shape) -> u8
     ensures { result ≡ precinct_bit shape.now }
 {
-    if shape.precincts.as_slice().is_empty() { 0 } else { 1 }
+    if shape.precincts.as_slice().is_empty() {
+        0
+    } else {
+        1
+    }
 }
 
 fn scod(cod: &Cod) -> u8
@@ -163,7 +173,11 @@ fn put_qcd(out: &mut Vec<u8>, quant: &Quant) -> Result<(), AllocError>
     ensures ok { OnOk result (out.new.items ≡ out.old.items ++ with_length 92 (quant_bytes quant.now)) }
     ensures front { take (length out.old.items) out.new.items ≡ out.old.items }
 {
-    put_front(out, QCD, 1 + quant.entries.as_slice().len() * entry_size(quant.sqcd))?;
+    put_front(
+        out,
+        QCD,
+        1 + quant.entries.as_slice().len() * entry_size(quant.sqcd),
+    )?;
     put_quant(out, quant)
 }
 
@@ -182,7 +196,11 @@ fn put_qcc(out: &mut Vec<u8>, comps: u16, comp: u16, quant: &Quant) -> Result<()
     ensures ok { OnOk result (out.new.items ≡ out.old.items ++ spelling comps (Segment.Qcc comp quant.now)) }
     ensures front { take (length out.old.items) out.new.items ≡ out.old.items }
 {
-    put_front(out, QCC, index_size(comps) + 1 + quant.entries.as_slice().len() * entry_size(quant.sqcd))?;
+    put_front(
+        out,
+        QCC,
+        index_size(comps) + 1 + quant.entries.as_slice().len() * entry_size(quant.sqcd),
+    )?;
     put_qcc_body(out, comps, comp, quant)
 }
 
@@ -213,7 +231,11 @@ fn put_progression(out: &mut Vec<u8>, comps: u16, entry: Progression) -> Result<
     Ok(())
 }
 
-fn put_progressions(out: &mut Vec<u8>, comps: u16, entries: &[Progression]) -> Result<(), AllocError>
+fn put_progressions(
+    out: &mut Vec<u8>,
+    comps: u16,
+    entries: &[Progression],
+) -> Result<(), AllocError>
     requires { All (ProgressionInRange comps) entries.now }
     ensures ok { OnOk result (out.new.items ≡ out.old.items ++ poc_bytes comps entries.now) }
     ensures front { take (length out.old.items) out.new.items ≡ out.old.items }

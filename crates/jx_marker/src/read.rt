@@ -7,7 +7,8 @@ ghost use Rattle.jx_marker.specs.Laws.{StandsAt, BeginsWith};
 
 use crate::fields::{bytes_of, read_cod, read_poc, read_quant, read_shape, read_siz, read_sot};
 use crate::markers::{
-    COC, COD, COM, CRG, EOC, PLM, PLT, POC, QCC, QCD, RGN, SIZ, SOC, SOD, TLM, has_length, index_size,
+    COC, COD, COM, CRG, EOC, PLM, PLT, POC, QCC, QCD, RGN, SIZ, SOC, SOD, TLM, has_length,
+    index_size,
 };
 use crate::numbers::{narrow_at, u16_at};
 use crate::rules::{body_of, first_broken};
@@ -84,7 +85,12 @@ fn read_front(alloc: Global, bytes: &[u8], comps: u16) -> Result<(Segment, usize
 /// SIZ, which tells that number, is read alike with any.
 ///
 /// `Broken(m)` comes exactly where m, from 1 to 14, is the first rule that the place violates.
-pub fn read_segment(alloc: Global, bytes: &[u8], at: usize, comps: u16) -> Result<(Segment, usize), Rule>
+pub fn read_segment(
+    alloc: Global,
+    bytes: &[u8],
+    at: usize,
+    comps: u16,
+) -> Result<(Segment, usize), Rule>
     requires { at ≤ length bytes.now }
     ensures found { IfOk result (λ read. StandsAt comps (drop at bytes.now) read.0 (read.1 - at)) }
     ensures after { IfOk result (λ read. (read.1 ≡ at + size_at (drop at bytes.now)) × (read.1 ≤ length bytes.now)) }

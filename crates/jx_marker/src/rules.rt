@@ -8,8 +8,8 @@ ghost use Rattle.jx_marker.specs.Rules.{breaks_1, breaks_2, breaks_3, breaks_4, 
 
 use crate::fields::{comp_size_at, progression_at};
 use crate::markers::{
-    COC, COD, PLM, PLT, POC, PPM, PPT, QCC, QCD, RGN, SIZ, SOT, TLM, entry_size, has_length, index_size,
-    progression_size, stands_alone,
+    COC, COD, PLM, PLT, POC, PPM, PPT, QCC, QCD, RGN, SIZ, SOT, TLM, entry_size, has_length,
+    index_size, progression_size, stands_alone,
 };
 use crate::numbers::{narrow_at, u16_at, u32_at};
 use crate::{CompSize, Progression};
@@ -76,7 +76,10 @@ fn breaks_component_count(body: &[u8]) -> bool
 fn axis_fits(end: u32, begin: u32, tile: u32, first: u32) -> bool
     ensures { result ≡ axis_fits end begin tile first }
 {
-    tile > 0 && first <= begin && begin < end && u64::from(begin) < u64::from(first) + u64::from(tile)
+    tile > 0
+        && first <= begin
+        && begin < end
+        && u64::from(begin) < u64::from(first) + u64::from(tile)
 }
 
 // The axis whose end stands at this place; its other three numbers follow eight bytes apart.
@@ -84,7 +87,12 @@ fn axis_fits_at(body: &[u8], at: usize) -> bool
     requires { at + 28 ≤ length body.now }
     ensures { result ≡ axis_fits (big_from at 4 body.now) (big_from (at + 8) 4 body.now) (big_from (at + 16) 4 body.now) (big_from (at + 24) 4 body.now) }
 {
-    axis_fits(u32_at(body, at), u32_at(body, at + 8), u32_at(body, at + 16), u32_at(body, at + 24))
+    axis_fits(
+        u32_at(body, at),
+        u32_at(body, at + 8),
+        u32_at(body, at + 16),
+        u32_at(body, at + 24),
+    )
 }
 
 fn comp_size_fits(comp: CompSize) -> bool
@@ -159,7 +167,11 @@ fn shape_fits(flags: u8, at: usize, body: &[u8]) -> bool
     ensures { result ≡ shape_fits flags at body.now }
 {
     let levels = body[at];
-    let precincts = if flags % 2 == 1 { 1 + usize::from(levels) } else { 0 };
+    let precincts = if flags % 2 == 1 {
+        1 + usize::from(levels)
+    } else {
+        0
+    };
     body.len() == at + 5 + precincts
         && levels <= 32
         && body[at + 1] <= 8
@@ -213,7 +225,9 @@ fn breaks_precincts(at: usize, body: &[u8]) -> bool
     requires { at < 8 }
     ensures { result ≡ list_any has_zero_exponent (drop (at + 6) body.now) }
 {
-    body.iter().skip(at + 6).any(|sizes| has_zero_exponent(*sizes))
+    body.iter()
+        .skip(at + 6)
+        .any(|sizes| has_zero_exponent(*sizes))
 }
 
 // Rule 12: a component's index isn't below the number of components.
@@ -313,7 +327,10 @@ fn rgn_rule(comps: u16, body: &[u8]) -> Option<u8>
 fn progression_fits(entry: Progression) -> bool
     ensures { result ≡ progression_fits entry }
 {
-    entry.rs < entry.re && (entry.ce == 0 || entry.cs < entry.ce) && entry.lye > 0 && entry.order <= 4
+    entry.rs < entry.re
+        && (entry.ce == 0 || entry.cs < entry.ce)
+        && entry.lye > 0
+        && entry.order <= 4
 }
 
 #[tactic(auto, using(crate::proofs::ValueLemmas::all_left, crate::proofs::ValueLemmas::room_left))]

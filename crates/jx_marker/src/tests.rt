@@ -9,6 +9,7 @@ use std::test::Fail;
 
 // What no rule is: a segment that was put otherwise than it was read, and want of memory.
 const DIFFERS: u8 = 254;
+
 const NO_MEMORY: u8 = 255;
 
 fn digit(byte: u8) -> Option<u8> {
@@ -119,7 +120,10 @@ fn siz_of(alloc: Global, count: u16) -> Result<Vec<u8>, AllocError> {
     let mut bytes = bytes_of(alloc, "FF51")?;
     let length = u16::try_from(38 + 3 * u32::from(count)).unwrap_or(0);
     bytes.extend_from_slice(&length.to_be_bytes())?;
-    let canvas = bytes_of(alloc, "0000 00000001 00000001 00000000 00000000 00000001 00000001 00000000 00000000")?;
+    let canvas = bytes_of(
+        alloc,
+        "0000 00000001 00000001 00000000 00000000 00000001 00000001 00000000 00000000",
+    )?;
     bytes.extend_from_slice(canvas.as_slice())?;
     bytes.extend_from_slice(&count.to_be_bytes())?;
     for _ in 0..count {
@@ -133,7 +137,11 @@ fn many_components(rt: HostRuntime) -> Result<(), Fail> {
     let alloc = rt.alloc();
     for (count, want) in [(256, 0), (257, 0), (16384, 0), (16385, 4), (21832, 4)] {
         let bytes = siz_of(alloc, count)?;
-        assert_eq!(rt; outcome(alloc, bytes.as_slice(), 0, bytes.len(), 0), want, "{count} components");
+        assert_eq!(rt;
+            outcome(alloc, bytes.as_slice(), 0, bytes.len(), 0),
+            want,
+            "{count} components"
+        );
     }
     Ok(())
 }
@@ -154,39 +162,79 @@ fn coding_fields(rt: HostRuntime) -> Result<(), Fail> {
     assert!(rt; !cod.sop && cod.eph);
     assert_eq!(rt; (cod.order, cod.layers, cod.transform), (4, 2, 1));
     let shape = cod.shape;
-    assert_eq!(rt; (shape.levels, shape.xcb, shape.ycb, shape.style, shape.wavelet), (1, 5, 7, 0x28, 1));
+    assert_eq!(rt;
+        (
+            shape.levels,
+            shape.xcb,
+            shape.ycb,
+            shape.style,
+            shape.wavelet
+        ),
+        (1, 5, 7, 0x28, 1)
+    );
     assert_eq!(rt; shape.precincts.as_slice(), [0x00, 0x98].as_slice());
     let Segment::Coc { comp, shape } = read(alloc, "FF53_000A_0102_00_02_04_03_01_00", 300)? else {
         return Err("COC")?;
     };
-    assert_eq!(rt; (comp, shape.levels, shape.xcb, shape.ycb, shape.style, shape.wavelet), (258, 2, 6, 5, 1, 0));
+    assert_eq!(rt;
+        (
+            comp,
+            shape.levels,
+            shape.xcb,
+            shape.ycb,
+            shape.style,
+            shape.wavelet
+        ),
+        (258, 2, 6, 5, 1, 0)
+    );
     Ok(())
 }
 
 #[test]
 fn other_fields(rt: HostRuntime) -> Result<(), Fail> {
     let alloc = rt.alloc();
-    let text = "FF51_002C_1234_00000101_00000202_00000003_00000004_00000105_00000206_00000001_00000002_0002_070101_8B0203";
+    let text =
+        "FF51_002C_1234_00000101_00000202_00000003_00000004_00000105_00000206_00000001_00000002_0002_070101_8B0203";
     let Segment::Siz(siz) = read(alloc, text, 0)? else {
         return Err("SIZ")?;
     };
-    assert_eq!(rt; (siz.rsiz, siz.x1, siz.y1, siz.x0, siz.y0), (0x1234, 0x101, 0x202, 3, 4));
+    assert_eq!(rt;
+        (siz.rsiz, siz.x1, siz.y1, siz.x0, siz.y0),
+        (0x1234, 0x101, 0x202, 3, 4)
+    );
     assert_eq!(rt; (siz.tw, siz.th, siz.tx, siz.ty), (0x105, 0x206, 1, 2));
-    let last = CompSize { ssiz: 0x8B, dx: 2, dy: 3 };
+    let last = CompSize {
+        ssiz: 0x8B,
+        dx: 2,
+        dy: 3,
+    };
     assert_eq!(rt; siz.comps.as_slice().last().copied(), Some(last));
     let Segment::Qcc { comp, quant } = read(alloc, "FF5D_000A_02_41_4801_4902_4A03", 3)? else {
         return Err("QCC")?;
     };
     assert_eq!(rt; (comp, quant.sqcd), (2, 0x41));
-    assert_eq!(rt; quant.entries.as_slice(), [0x4801, 0x4902, 0x4A03].as_slice());
+    assert_eq!(rt;
+        quant.entries.as_slice(),
+        [0x4801, 0x4902, 0x4A03].as_slice()
+    );
     let Segment::Poc(entries) = read(alloc, "FF5F_000B_01_0002_0304_05_0106_03", 300)? else {
         return Err("POC")?;
     };
-    let entry = Progression { rs: 1, cs: 2, lye: 0x304, re: 5, ce: 0x106, order: 3 };
+    let entry = Progression {
+        rs: 1,
+        cs: 2,
+        lye: 0x304,
+        re: 5,
+        ce: 0x106,
+        order: 3,
+    };
     assert_eq!(rt; entries.as_slice().first().copied(), Some(entry));
     let Segment::Sot(sot) = read(alloc, "FF90_000A_0102_00030405_06_07", 3)? else {
         return Err("SOT")?;
     };
-    assert_eq!(rt; (sot.tile, sot.psot, sot.part, sot.parts), (0x102, 0x30405, 6, 7));
+    assert_eq!(rt;
+        (sot.tile, sot.psot, sot.part, sot.parts),
+        (0x102, 0x30405, 6, 7)
+    );
     Ok(())
 }

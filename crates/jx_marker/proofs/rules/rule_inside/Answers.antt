@@ -1,4 +1,4 @@
-use Rattle.std.proofs.Common.{◌≡◌, arith, false, ◌==◌}
+use Rattle.std.proofs.Common.{arith}
 use Rattle.std.proofs.lemmas.Bool.Decides.{nat_tests}
 use Rattle.jx_marker.proofs.RuleLemmas.{siz_rules, cod_rules, coc_rules, qcd_rules, qcc_rules, rgn_rules, poc_rules, plain_rules}
 use Rattle.jx_marker.proofs.rules.rule_inside.Goals as goal
@@ -26,12 +26,12 @@ returns-in-95 c = rw (c.in-95.is, poc_rules) c.poc_rule.ensures
 
 pub returns-in_default : goal.returns-in_default
 returns-in_default c =
-  rw (plain_rules c.args.comps c.args.code c.args.body.now (record {
-    siz = grind (arith, nat_tests, c.in_default);
-    cod = grind (arith, nat_tests, c.in_default);
-    coc = grind (arith, nat_tests, c.in_default);
-    qcd = grind (arith, nat_tests, c.in_default);
-    qcc = grind (arith, nat_tests, c.in_default);
-    rgn = grind (arith, nat_tests, c.in_default);
-    poc = grind (arith, nat_tests, c.in_default);
-  })) c.lengths_rule.ensures
+    rw (plain_rules c.args.comps c.args.code c.args.body.now (record {
+      siz = grind (arith, nat_tests, c.in_default);
+      cod = grind (arith, nat_tests, c.in_default);
+      coc = grind (arith, nat_tests, c.in_default);
+      qcd = grind (arith, nat_tests, c.in_default);
+      qcc = grind (arith, nat_tests, c.in_default);
+      rgn = grind (arith, nat_tests, c.in_default);
+      poc = grind (arith, nat_tests, c.in_default);
+    })) c.lengths_rule.ensures
