@@ -1,0 +1,7 @@
+//! Tiles, resolutions, bands, precincts and code-blocks as sets of places (T.800, B.3 to B.7).
+#![tactic(auto)]
+
+mod shape;
+mod spans;
+
+pub use shape::{Canvas, CompShape};
