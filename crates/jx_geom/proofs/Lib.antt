@@ -1,1 +1,2 @@
+pub mod RasterLemmas
 pub mod SpanLemmas

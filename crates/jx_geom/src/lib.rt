@@ -1,7 +1,10 @@
 //! Tiles, resolutions, bands, precincts and code-blocks as sets of places (T.800, B.3 to B.7).
 #![tactic(auto)]
 
+mod exponents;
+mod rects;
 mod shape;
 mod spans;
 
+pub use rects::tiles;
 pub use shape::{Canvas, CompShape};

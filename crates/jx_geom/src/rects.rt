@@ -1,0 +1,142 @@
+//! The rects of a tile, from its own rect on.
+
+ghost use Rattle.std.specs.Prelude.{◌≡◌, ◌≤◌, ◌<◌, ◌^◌};
+ghost use Rattle.jx_base.specs.Places.{InRect, column_at, row_at, size_of};
+ghost use Rattle.jx_geom.specs.Counts.{tile_count, precinct_count, block_count};
+ghost use Rattle.jx_geom.specs.Ranges.{CanvasInRange, ShapeInRange, HasBand};
+ghost use Rattle.jx_geom.specs.Rects.{
+    tiles_across, tiles_down, tile_rect, component_rect, resolution_rect, band_rect, off_across, off_down, band_level,
+    precinct_cells, block_cells, precinct_part, precinct_blocks, block_rect,
+};
+
+use crate::exponents::{of_block, of_part, of_precinct};
+use crate::shape::{Canvas, CompShape};
+use crate::spans::{cells_of, count_tiles, every, one_band, one_tile, part_of};
+use jx_base::{Band, Rect, Span};
+
+/// How many tiles a canvas has: those across times those down (T.800, equations B-5 and B-6).
+pub fn tiles(canvas: &Canvas) -> u64
+    requires { CanvasInRange canvas.now }
+    ensures { result ≡ tile_count canvas.now }
+{
+    across(canvas) * down(canvas)
+}
+
+fn across(canvas: &Canvas) -> u64
+    requires { CanvasInRange canvas.now }
+    ensures value { result ≡ tiles_across canvas.now }
+    ensures bound { result < 2 ^ 32 }
+{
+    count_tiles(canvas.x1, canvas.tx, canvas.tw)
+}
+
+fn down(canvas: &Canvas) -> u64
+    requires { CanvasInRange canvas.now }
+    ensures value { result ≡ tiles_down canvas.now }
+    ensures bound { result < 2 ^ 32 }
+{
+    count_tiles(canvas.y1, canvas.ty, canvas.th)
+}
+
+/// A tile's places on the reference grid.
+#[tactic(auto, using(crate::proofs::RasterLemmas::row_below), unfolding(crate::specs::Rects::tile_rect))]
+pub(crate) fn tile_of(canvas: &Canvas, tile: u16) -> Rect
+    requires canvas { CanvasInRange canvas.now }
+    requires tile { tile < tile_count canvas.now }
+    ensures { result ≡ tile_rect canvas.now tile }
+{
+    let wide = across(canvas);
+    let column = u64::from(tile) % wide;
+    let row = u64::from(tile) / wide;
+    Rect {
+        x: one_tile(canvas.x0, canvas.x1, canvas.tx, canvas.tw, column),
+        y: one_tile(canvas.y0, canvas.y1, canvas.ty, canvas.th, row),
+    }
+}
+
+/// A tile-component's places.
+#[tactic(auto, unfolding(crate::specs::Rects::component_rect))]
+pub(crate) fn component_of(tile: Rect, shape: &CompShape) -> Rect
+    requires { ShapeInRange shape.now }
+    ensures { result ≡ component_rect tile shape.now }
+{
+    Rect { x: every(tile.x, u64::from(shape.dx)), y: every(tile.y, u64::from(shape.dy)) }
+}
+
+/// A resolution's places.
+#[tactic(auto, using(std::proofs::lemmas::Nat::pow_pos), unfolding(crate::specs::Rects::resolution_rect))]
+pub(crate) fn resolution_of(tile: Rect, shape: &CompShape, res: u8) -> Rect
+    requires shape { ShapeInRange shape.now }
+    requires res { res ≤ shape.now.levels }
+    ensures { result ≡ resolution_rect tile shape.now res }
+{
+    let comp = component_of(tile, shape);
+    let step = 1u64 << u32::from(shape.levels - res);
+    Rect { x: every(comp.x, step), y: every(comp.y, step) }
+}
+
+/// Whether a band is the high one across, and down; its level.
+fn offsets(band: Band) -> (u32, u32)
+    ensures across { result.0 ≡ off_across band }
+    ensures down { result.1 ≡ off_down band }
+{
+    match band {
+        Band::LL => (0, 0),
+        Band::HL => (1, 0),
+        Band::LH => (0, 1),
+        Band::HH => (1, 1),
+    }
+}
+
+fn level_of(shape: &CompShape, res: u8, band: Band) -> u32
+    requires shape { ShapeInRange shape.now }
+    requires res { res ≤ shape.now.levels }
+    requires band { HasBand res band }
+    ensures value { result ≡ band_level shape.now res band }
+    ensures bound { result ≤ 32 }
+    ensures some { (off_across band ≤ result) × (off_down band ≤ result) }
+{
+    match band {
+        Band::LL => u32::from(shape.levels),
+        Band::HL | Band::LH | Band::HH => u32::from(shape.levels - res) + 1,
+    }
+}
+
+/// A band's places.
+#[tactic(auto, unfolding(crate::specs::Rects::band_rect))]
+pub(crate) fn band_of(tile: Rect, shape: &CompShape, res: u8, band: Band) -> Rect
+    requires shape { ShapeInRange shape.now }
+    requires res { res ≤ shape.now.levels }
+    requires band { HasBand res band }
+    ensures { result ≡ band_rect tile shape.now res band }
+{
+    let comp = component_of(tile, shape);
+    let level = level_of(shape, res, band);
+    let (right, low) = offsets(band);
+    Rect { x: one_band(comp.x, level, right), y: one_band(comp.y, level, low) }
+}
+
+/// The precincts of a resolution, as cells.
+#[tactic(auto, unfolding(crate::specs::Rects::precinct_cells))]
+pub(crate) fn precincts_of(tile: Rect, shape: &CompShape, res: u8) -> Rect
+    requires shape { ShapeInRange shape.now }
+    requires res { res ≤ shape.now.levels }
+    ensures { result ≡ precinct_cells tile shape.now res }
+{
+    let places = resolution_of(tile, shape, res);
+    let size = of_precinct(shape, res);
+    Rect { x: cells_of(places.x, size.across), y: cells_of(places.y, size.down) }
+}
+
+/// The blocks of a band, as cells.
+#[tactic(auto, unfolding(crate::specs::Rects::block_cells))]
+pub(crate) fn blocks_of(tile: Rect, shape: &CompShape, res: u8, band: Band) -> Rect
+    requires shape { ShapeInRange shape.now }
+    requires res { res ≤ shape.now.levels }
+    requires band { HasBand res band }
+    ensures { result ≡ block_cells tile shape.now res band }
+{
+    let places = band_of(tile, shape, res, band);
+    let size = of_block(shape, res);
+    Rect { x: cells_of(places.x, size.across), y: cells_of(places.y, size.down) }
+}
