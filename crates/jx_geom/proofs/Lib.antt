@@ -1,2 +1,4 @@
+pub mod CountLemmas
 pub mod RasterLemmas
+pub mod RectLemmas
 pub mod SpanLemmas

@@ -2,7 +2,7 @@
 use Rattle.std.proofs.Common.{◌≡◌, ℕ, ◌+◌, ◌-◌, ◌*◌, ◌/◌, ◌%◌, ◌≤◌, ◌<◌, inl, inr, zero, refl, arith, subst, sym, ap}
 use Rattle.std.proofs.Math.Nat.{mul-le-mul_right}
 use Rattle.std.proofs.lemmas.Bool.{cases_lt}
-use Rattle.std.proofs.lemmas.Nat.{div_below, div-mul-add, div-add-mod'}
+use Rattle.std.proofs.lemmas.Nat.{div_below, div-mul-add, mod-mul-add, div-add-mod'}
 use Rattle.jx_base.specs.declared.names.Rect.{Rect}
 use Rattle.jx_base.specs.declared.names.Span.{Span}
 use Rattle.jx_base.specs.Places.{InSpan, InRect, length_of, size_of, column_at, row_at}
@@ -19,13 +19,6 @@ row_below n wide high h =
 
 pub column_below : (n wide high : ℕ) → n < wide * high → n % wide < wide
 column_below n wide high h = let some : 0 < wide = factor_some n wide high h in omega arith
-
--- quotient and remainder of a number in rows
-rest_of : (a w b : ℕ) → b < w → (a * w + b) % w ≡ b
-rest_of a w b h =
-    let whole : (a * w + b) / w * w + (a * w + b) % w ≡ a * w + b = div-add-mod' (a * w + b) w in
-    let whole' : a * w + (a * w + b) % w ≡ a * w + b = rw (div-mul-add a w b h) at whole in
-    omega arith
 
 -- the place of a number below the size
 pub raster_in : (r : Rect) (n : ℕ) → n < size_of r → InRect r (column_at r n) (row_at r n)
@@ -52,7 +45,7 @@ number_below r x y i =
 pub number_column : (r : Rect) (x y : ℕ) → InRect r x y → column_at r (number_at r x y) ≡ x
 number_column r x y i =
     let column : x - r.x.low < length_of r.x = omega (arith, i.across.from, i.across.below) in
-    let rest : number_at r x y % length_of r.x ≡ x - r.x.low = rest_of (y - r.y.low) (length_of r.x) (x - r.x.low) column in
+    let rest : number_at r x y % length_of r.x ≡ x - r.x.low = mod-mul-add (y - r.y.low) (length_of r.x) (x - r.x.low) column in
     omega (arith, i.across.from)
 
 pub number_row : (r : Rect) (x y : ℕ) → InRect r x y → row_at r (number_at r x y) ≡ y

@@ -1,6 +1,6 @@
 -- One direction: which numbers the spans of the standard's formulas hold.
 use Rattle.std.proofs.Common.{◌≡◌, ℕ, ◌+◌, ◌-◌, ◌*◌, ◌/◌, ◌%◌, ◌^◌, ◌≤◌, ◌<◌, ◌⊎◌, ◌↔◌, inl, inr, zero, min, max, refl, arith, subst, sym, true, false, nat_lt, if◌then◌else◌}
-use Rattle.std.proofs.Math.Nat.{mul-le-mul_right, mul_assoc, mul_comm, one-le-mul, div-lt_iff_lt-mul, le-div_iff_mul-le, div-eq_of_lt-le, div-mul-le_self, lt-div-mul-add}
+use Rattle.std.proofs.Math.Nat.{mul-le-mul_left, pow-le-pow_right, mul-le-mul_right, mul_assoc, mul_comm, one-le-mul, div-lt_iff_lt-mul, le-div_iff_mul-le, div-eq_of_lt-le, div-mul-le_self, lt-div-mul-add}
 use Rattle.std.proofs.lemmas.Nat.{pow_pos, pow-add, le-div}
 use Rattle.std.proofs.lemmas.Bool.Decides.{nat_tests}
 use Rattle.std.proofs.lemmas.Bool.{cases_lt}
@@ -130,3 +130,32 @@ cells_to_place s size u h i = elim (cases_lt s.low s.high) [
         let from : s.low / size ≤ u = rw (cells_low s size) at i.from in
         let below : u < s.low / size = rw (cells_high_none s size none) at i.below in
         absurd (omega arith) ]
+
+-- a cell of a span begins below its end
+pub cells_times : (s : Span) (size u : ℕ) → 0 < size → InSpan (cells s size) u → u * size < s.high
+cells_times s size u h i =
+    let place = cells_to_place s size u h i in
+    let below : max s.low (u * size) < s.high = place.0.below in
+    omega arith
+
+-- also where the cell is halved
+pub halved_times : (n e m bound : ℕ) → n * 2 ^ e < bound → n * 2 ^ (e - m) < bound
+halved_times n e m bound h =
+    let some : 0 < 2 = omega arith in
+    let shorter : e - m ≤ e = omega arith in
+    let step : n * 2 ^ (e - m) ≤ n * 2 ^ e = mul-le-mul_left n (pow-le-pow_right some shorter) in
+    omega arith
+
+-- what the first place of a cell stands for lies before the end
+pub scaled_times : (s : Span) (step x : ℕ) → 0 < step → x < (scaled s step).high → x * step < s.high
+unfolding scaled
+scaled_times s step x h lt = below_ceil s.high step x h lt
+
+pub twice_scaled_times : (s : Span) (first second size u : ℕ) → 0 < first → 0 < second → 0 < size
+    → InSpan (cells (scaled (scaled s first) second) size) u → u * size * second * first < s.high
+twice_scaled_times s first second size u hf hs hc i =
+    scaled_times s first (u * size * second) hf
+        (scaled_times (scaled s first) second (u * size) hs (cells_times (scaled (scaled s first) second) size u hc i))
+
+pub grows_by : (a b : ℕ) → 0 < b → a ≤ a * b
+grows_by a b h = let step : a * 1 ≤ a * b = mul-le-mul_left a h in omega arith

@@ -1,5 +1,5 @@
 -- How many blocks and precincts there are.
-use Rattle.std.specs.Prelude.{ℕ, zero, suc, ◌+◌, ◌*◌, List, [], ◌∷◌, sum_by, take, if◌then◌else◌}
+use Rattle.std.specs.Prelude.{ℕ, zero, suc, ◌+◌, ◌*◌, List, [], ◌∷◌, sum_by, ◌==◌, if◌then◌else◌}
 use Rattle.jx_base.specs.declared.names.Rect.{Rect}
 use Rattle.jx_base.specs.declared.names.Band.{Band}
 use Rattle.jx_base.specs.declared.names.Band.TheVariants.{LL, HL, LH, HH}
@@ -34,8 +34,8 @@ blocks_before_band tile s r HH = block_count tile s r HL + block_count tile s r 
 
 -- and of a resolution
 unfoldable pub resolution_blocks : Rect → CompShape → ℕ → ℕ
-resolution_blocks tile s zero = block_count tile s 0 LL
-resolution_blocks tile s (suc r) = blocks_before_band tile s (suc r) HH + block_count tile s (suc r) HH
+resolution_blocks tile s r =
+    (if r == 0 then block_count tile s r LL else blocks_before_band tile s r HH + block_count tile s r HH)
 
 -- of a tile-component
 unfoldable pub component_blocks : Rect → CompShape → ℕ

@@ -1,10 +1,12 @@
 //! Tiles, resolutions, bands, precincts and code-blocks as sets of places (T.800, B.3 to B.7).
 #![tactic(auto)]
 
+mod counts;
 mod exponents;
 mod rects;
 mod shape;
 mod spans;
 
+pub use counts::{count_blocks, count_precincts};
 pub use rects::tiles;
 pub use shape::{Canvas, CompShape};

@@ -1,7 +1,7 @@
 //! The rects of a tile, from its own rect on.
 
 ghost use Rattle.std.specs.Prelude.{◌≡◌, ◌≤◌, ◌<◌, ◌^◌};
-ghost use Rattle.jx_base.specs.Places.{InRect, column_at, row_at, size_of};
+ghost use Rattle.jx_base.specs.Places.{InSpan, column_at, row_at, size_of};
 ghost use Rattle.jx_geom.specs.Counts.{tile_count, precinct_count, block_count};
 ghost use Rattle.jx_geom.specs.Ranges.{CanvasInRange, ShapeInRange, HasBand};
 ghost use Rattle.jx_geom.specs.Rects.{
@@ -137,6 +137,74 @@ pub(crate) fn blocks_of(tile: Rect, shape: &CompShape, res: u8, band: Band) -> R
     ensures { result ≡ block_cells tile shape.now res band }
 {
     let places = band_of(tile, shape, res, band);
+    let size = of_block(shape, res);
+    Rect { x: cells_of(places.x, size.across), y: cells_of(places.y, size.down) }
+}
+
+/// The column of the cell of a number among the cells of a rect, row by row.
+#[tactic(auto, using(crate::proofs::RasterLemmas::raster_in))]
+fn column_of(cells: Rect, index: u32) -> u32
+    requires { index < size_of cells }
+    ensures value { result ≡ column_at cells index }
+    ensures inside { InSpan cells.x result }
+{
+    cells.x.low + index % (cells.x.high - cells.x.low)
+}
+
+/// The row of that cell.
+#[tactic(auto, using(crate::proofs::RasterLemmas::raster_in))]
+fn row_of(cells: Rect, index: u32) -> u32
+    requires { index < size_of cells }
+    ensures value { result ≡ row_at cells index }
+    ensures inside { InSpan cells.y result }
+{
+    cells.y.low + index / (cells.x.high - cells.x.low)
+}
+
+/// The places of a block.
+#[tactic(auto, using(crate::proofs::SpanLemmas::cells_times, std::proofs::lemmas::Nat::pow_pos), unfolding(crate::specs::Rects::block_cells, crate::specs::Rects::block_rect))]
+pub(crate) fn block_of(tile: Rect, shape: &CompShape, res: u8, band: Band, index: u32) -> Rect
+    requires shape { ShapeInRange shape.now }
+    requires res { res ≤ shape.now.levels }
+    requires band { HasBand res band }
+    requires index { index < block_count tile shape.now res band }
+    ensures { result ≡ block_rect tile shape.now res band index }
+{
+    let places = band_of(tile, shape, res, band);
+    let cells = blocks_of(tile, shape, res, band);
+    let size = of_block(shape, res);
+    let column = column_of(cells, index);
+    let row = row_of(cells, index);
+    Rect { x: part_of(places.x, size.across, column), y: part_of(places.y, size.down, row) }
+}
+
+/// The part of a band that lies in a precinct.
+#[tactic(auto, using(crate::proofs::RectLemmas::precinct_column_low, crate::proofs::RectLemmas::precinct_row_low, crate::proofs::SpanLemmas::halved_times), unfolding(crate::specs::Rects::precinct_part))]
+fn precinct_part_of(tile: Rect, shape: &CompShape, res: u8, band: Band, precinct: u32) -> Rect
+    requires shape { ShapeInRange shape.now }
+    requires res { res ≤ shape.now.levels }
+    requires band { HasBand res band }
+    requires precinct { precinct < precinct_count tile shape.now res }
+    ensures { result ≡ precinct_part tile shape.now res band precinct }
+{
+    let places = band_of(tile, shape, res, band);
+    let cells = precincts_of(tile, shape, res);
+    let size = of_part(shape, res);
+    let column = column_of(cells, precinct);
+    let row = row_of(cells, precinct);
+    Rect { x: part_of(places.x, size.across, column), y: part_of(places.y, size.down, row) }
+}
+
+/// The blocks of a precinct in a band, as cells.
+#[tactic(auto, unfolding(crate::specs::Rects::precinct_blocks))]
+pub(crate) fn precinct_blocks_of(tile: Rect, shape: &CompShape, res: u8, band: Band, precinct: u32) -> Rect
+    requires shape { ShapeInRange shape.now }
+    requires res { res ≤ shape.now.levels }
+    requires band { HasBand res band }
+    requires precinct { precinct < precinct_count tile shape.now res }
+    ensures { result ≡ precinct_blocks tile shape.now res band precinct }
+{
+    let places = precinct_part_of(tile, shape, res, band, precinct);
     let size = of_block(shape, res);
     Rect { x: cells_of(places.x, size.across), y: cells_of(places.y, size.down) }
 }
