@@ -1,5 +1,6 @@
 -- Both directions: where precincts stand.
 use Rattle.std.proofs.Common.{◌≡◌, ℕ, ◌+◌, ◌-◌, ◌*◌, ◌/◌, ◌%◌, ◌^◌, ◌≤◌, ◌<◌, zero, refl, arith, subst, sym}
+use Rattle.std.proofs.Math.Nat.{mul_assoc, one-le-mul}
 use Rattle.std.proofs.lemmas.Nat.{pow_pos}
 use Rattle.jx_base.specs.declared.names.Rect.{Rect}
 use Rattle.jx_base.specs.declared.names.Span.{Span}
@@ -13,36 +14,35 @@ use Rattle.jx_geom.proofs.SpanLemmas.{twice_scaled_times, grows_by}
 
 -- what the first place of a counted precinct stands for lies before the tile's end
 pub precinct_column_fits : (tile : Rect) (s : CompShape) (r k : ℕ) → ShapeInRange s → k < precinct_count tile s r
-    → column_at (precinct_cells tile s r) k * 2 ^ exponent_across s r * 2 ^ (s.levels - r) * s.dx < tile.x.high
+    → column_at (precinct_cells tile s r) k * 2 ^ exponent_across s r * (2 ^ (s.levels - r) * s.dx) < tile.x.high
 unfolding component_rect resolution_rect precinct_cells
 precinct_column_fits tile s r k h lt =
     let place = raster_in (precinct_cells tile s r) k lt in
-    twice_scaled_times tile.x s.dx (2 ^ (s.levels - r)) (2 ^ exponent_across s r) (column_at (precinct_cells tile s r) k)
-        h.step_across (pow_pos (s.levels - r)) (pow_pos (exponent_across s r)) place.across
+    rw (← mul_assoc (column_at (precinct_cells tile s r) k * 2 ^ exponent_across s r) (2 ^ (s.levels - r)) s.dx)
+    (twice_scaled_times tile.x s.dx (2 ^ (s.levels - r)) (2 ^ exponent_across s r) (column_at (precinct_cells tile s r) k)
+        h.step_across (pow_pos (s.levels - r)) (pow_pos (exponent_across s r)) place.across)
 
 pub precinct_row_fits : (tile : Rect) (s : CompShape) (r k : ℕ) → ShapeInRange s → k < precinct_count tile s r
-    → row_at (precinct_cells tile s r) k * 2 ^ exponent_down s r * 2 ^ (s.levels - r) * s.dy < tile.y.high
+    → row_at (precinct_cells tile s r) k * 2 ^ exponent_down s r * (2 ^ (s.levels - r) * s.dy) < tile.y.high
 unfolding component_rect resolution_rect precinct_cells
 precinct_row_fits tile s r k h lt =
     let place = raster_in (precinct_cells tile s r) k lt in
-    twice_scaled_times tile.y s.dy (2 ^ (s.levels - r)) (2 ^ exponent_down s r) (row_at (precinct_cells tile s r) k)
-        h.step_down (pow_pos (s.levels - r)) (pow_pos (exponent_down s r)) place.down
+    rw (← mul_assoc (row_at (precinct_cells tile s r) k * 2 ^ exponent_down s r) (2 ^ (s.levels - r)) s.dy)
+    (twice_scaled_times tile.y s.dy (2 ^ (s.levels - r)) (2 ^ exponent_down s r) (row_at (precinct_cells tile s r) k)
+        h.step_down (pow_pos (s.levels - r)) (pow_pos (exponent_down s r)) place.down)
 
 -- so does that place itself
-shrinks : (a b c d : ℕ) → 0 < b → 0 < c → a * b * c < d → a < d
-shrinks a b c d hb hc h =
-    let one : a ≤ a * b = grows_by a b hb in
-    let two : a * b ≤ a * b * c = grows_by (a * b) c hc in
-    omega arith
+shrinks : (a b d : ℕ) → 0 < b → a * b < d → a < d
+shrinks a b d hb h = let step : a ≤ a * b = grows_by a b hb in omega arith
 
 pub precinct_column_low : (tile : Rect) (s : CompShape) (r k : ℕ) → ShapeInRange s → k < precinct_count tile s r
     → column_at (precinct_cells tile s r) k * 2 ^ exponent_across s r < tile.x.high
 precinct_column_low tile s r k h lt =
-    shrinks (column_at (precinct_cells tile s r) k * 2 ^ exponent_across s r) (2 ^ (s.levels - r)) s.dx tile.x.high
-        (pow_pos (s.levels - r)) h.step_across (precinct_column_fits tile s r k h lt)
+    shrinks (column_at (precinct_cells tile s r) k * 2 ^ exponent_across s r) (2 ^ (s.levels - r) * s.dx) tile.x.high
+        (one-le-mul (pow_pos (s.levels - r)) h.step_across) (precinct_column_fits tile s r k h lt)
 
 pub precinct_row_low : (tile : Rect) (s : CompShape) (r k : ℕ) → ShapeInRange s → k < precinct_count tile s r
     → row_at (precinct_cells tile s r) k * 2 ^ exponent_down s r < tile.y.high
 precinct_row_low tile s r k h lt =
-    shrinks (row_at (precinct_cells tile s r) k * 2 ^ exponent_down s r) (2 ^ (s.levels - r)) s.dy tile.y.high
-        (pow_pos (s.levels - r)) h.step_down (precinct_row_fits tile s r k h lt)
+    shrinks (row_at (precinct_cells tile s r) k * 2 ^ exponent_down s r) (2 ^ (s.levels - r) * s.dy) tile.y.high
+        (one-le-mul (pow_pos (s.levels - r)) h.step_down) (precinct_row_fits tile s r k h lt)

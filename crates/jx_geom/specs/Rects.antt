@@ -7,7 +7,7 @@ use Rattle.jx_base.specs.Places.{rect_of, column_at, row_at, size_of}
 use Rattle.jx_geom.specs.declared.shape.Canvas.{Canvas}
 use Rattle.jx_geom.specs.declared.shape.CompShape.{CompShape}
 use Rattle.jx_geom.specs.Ranges.{exponent_across, exponent_down}
-use Rattle.jx_geom.specs.Spans.{tiles_along, tile_span, scaled, band_span, cells, cut}
+use Rattle.jx_geom.specs.Spans.{tiles_along, tile_span, scaled, band_span, cells, cut, reference_of}
 
 abbrev pub tiles_across : Canvas → ℕ
 tiles_across c = tiles_along c.x1 c.tx c.tw
@@ -94,3 +94,12 @@ unfoldable pub block_rect : Rect → CompShape → ℕ → Band → ℕ → Rect
 block_rect tile s r b i =
     rect_of (cut (band_rect tile s r b).x (2 ^ block_across s r) (column_at (block_cells tile s r b) i))
             (cut (band_rect tile s r b).y (2 ^ block_down s r) (row_at (block_cells tile s r b) i))
+
+-- B.12.1.3: where a precinct column and a precinct row stand on the reference grid
+unfoldable pub precinct_column_point : Rect → CompShape → ℕ → ℕ → ℕ
+precinct_column_point tile s r n =
+    reference_of tile.x.low (resolution_rect tile s r).x.low (2 ^ exponent_across s r) (2 ^ (s.levels - r) * s.dx) n
+
+unfoldable pub precinct_row_point : Rect → CompShape → ℕ → ℕ → ℕ
+precinct_row_point tile s r n =
+    reference_of tile.y.low (resolution_rect tile s r).y.low (2 ^ exponent_down s r) (2 ^ (s.levels - r) * s.dy) n

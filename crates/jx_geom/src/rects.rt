@@ -1,17 +1,17 @@
 //! The rects of a tile, from its own rect on.
 
-ghost use Rattle.std.specs.Prelude.{◌≡◌, ◌≤◌, ◌<◌, ◌^◌};
+ghost use Rattle.std.specs.Prelude.{◌≡◌, ◌≤◌, ◌<◌, ◌^◌, ◌*◌, ◌-◌};
 ghost use Rattle.jx_base.specs.Places.{InSpan, column_at, row_at, size_of};
 ghost use Rattle.jx_geom.specs.Counts.{tile_count, precinct_count, block_count};
 ghost use Rattle.jx_geom.specs.Ranges.{CanvasInRange, ShapeInRange, HasBand};
 ghost use Rattle.jx_geom.specs.Rects.{
     tiles_across, tiles_down, tile_rect, component_rect, resolution_rect, band_rect, off_across, off_down, band_level,
-    precinct_cells, block_cells, precinct_part, precinct_blocks, block_rect,
+    precinct_cells, block_cells, precinct_part, precinct_blocks, block_rect, precinct_column_point, precinct_row_point,
 };
 
 use crate::exponents::{of_block, of_part, of_precinct};
 use crate::shape::{Canvas, CompShape};
-use crate::spans::{cells_of, count_tiles, every, one_band, one_tile, part_of};
+use crate::spans::{cells_of, count_tiles, every, one_band, one_tile, part_of, point_of};
 use jx_base::{Band, Rect, Span};
 
 /// How many tiles a canvas has: those across times those down (T.800, equations B-5 and B-6).
@@ -207,4 +207,35 @@ pub(crate) fn precinct_blocks_of(tile: Rect, shape: &CompShape, res: u8, band: B
     let places = precinct_part_of(tile, shape, res, band, precinct);
     let size = of_block(shape, res);
     Rect { x: cells_of(places.x, size.across), y: cells_of(places.y, size.down) }
+}
+
+/// How many columns and rows of the reference grid lie from one place of a resolution to the next.
+fn steps_of(shape: &CompShape, res: u8) -> (u64, u64)
+    requires shape { ShapeInRange shape.now }
+    requires res { res ≤ shape.now.levels }
+    ensures across { result.0 ≡ 2 ^ (shape.now.levels - res) * shape.now.dx }
+    ensures down { result.1 ≡ 2 ^ (shape.now.levels - res) * shape.now.dy }
+{
+    let step = 1u64 << u32::from(shape.levels - res);
+    (step * u64::from(shape.dx), step * u64::from(shape.dy))
+}
+
+/// Where a precinct stands on the reference grid.
+#[tactic(auto, using(crate::proofs::RectLemmas::precinct_column_fits, crate::proofs::RectLemmas::precinct_row_fits, crate::proofs::RectLemmas::precinct_column_low, crate::proofs::RectLemmas::precinct_row_low), unfolding(crate::specs::Rects::precinct_column_point, crate::specs::Rects::precinct_row_point))]
+pub(crate) fn reference_of_precinct(tile: Rect, shape: &CompShape, res: u8, precinct: u32) -> (u64, u64)
+    requires shape { ShapeInRange shape.now }
+    requires res { res ≤ shape.now.levels }
+    requires precinct { precinct < precinct_count tile shape.now res }
+    ensures across { result.0 ≡ precinct_column_point tile shape.now res (column_at (precinct_cells tile shape.now res) precinct) }
+    ensures down { result.1 ≡ precinct_row_point tile shape.now res (row_at (precinct_cells tile shape.now res) precinct) }
+{
+    let places = resolution_of(tile, shape, res);
+    let cells = precincts_of(tile, shape, res);
+    let size = of_precinct(shape, res);
+    let (right, below) = steps_of(shape, res);
+    let column = column_of(cells, precinct);
+    let row = row_of(cells, precinct);
+    let x = point_of(tile.x.low, places.x.low, size.across, right, column);
+    let y = point_of(tile.y.low, places.y.low, size.down, below, row);
+    (x, y)
 }

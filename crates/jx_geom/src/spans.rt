@@ -2,7 +2,7 @@
 
 ghost use Rattle.std.specs.Prelude.{◌≡◌, ◌+◌, ◌-◌, ◌*◌, ◌<◌, ◌≤◌, ◌^◌, if◌then◌else◌};
 ghost use Rattle.jx_base.specs.Numbers.{ceil_of};
-ghost use Rattle.jx_geom.specs.Spans.{tiles_along, tile_span, scaled, band_span, cells, cut};
+ghost use Rattle.jx_geom.specs.Spans.{tiles_along, tile_span, scaled, band_span, cells, cut, reference_of};
 
 use jx_base::{Span, ceil_div, ceil_shift};
 
@@ -90,4 +90,18 @@ pub(crate) fn part_of(span: Span, exponent: u32, place: u32) -> Span
     let low = u64::from(place) << exponent;
     let high = (u64::from(place) + 1) << exponent;
     Span { low: low.max(u64::from(span.low)) as u32, high: high.min(u64::from(span.high)) as u32 }
+}
+
+/// Where the precinct column or row of a number stands on the reference grid.
+#[tactic(auto, unfolding(crate::specs::Spans::reference_of))]
+pub(crate) fn point_of(start: u32, low: u32, exponent: u32, step: u64, place: u32) -> u64
+    requires exponent { exponent < 16 }
+    requires cell { place * 2 ^ exponent < 2 ^ 32 }
+    requires fits { place * 2 ^ exponent * step < 2 ^ 32 }
+    ensures { result ≡ reference_of start low (2 ^ exponent) step place }
+{
+    if place == low >> exponent && low % (1 << exponent) != 0 {
+        return u64::from(start);
+    }
+    (u64::from(place) << exponent) * step
 }
