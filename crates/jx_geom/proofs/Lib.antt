@@ -1,4 +1,5 @@
 pub mod CountLemmas
+pub mod LawLemmas
 pub mod RasterLemmas
 pub mod RectLemmas
 pub mod SetLemmas

@@ -6,7 +6,9 @@ mod exponents;
 mod rects;
 mod shape;
 mod spans;
+mod tile_geom;
 
 pub use counts::{count_blocks, count_precincts};
 pub use rects::tiles;
 pub use shape::{Canvas, CompShape};
+pub use tile_geom::TileGeom;
