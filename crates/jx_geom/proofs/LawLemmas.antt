@@ -104,3 +104,129 @@ place_in_one_precinct tile s r x y h i =
       holds = (number_below (precinct_cells tile s r) (x / 2 ^ exponent_across s r) (y / 2 ^ exponent_down s r) cell, record { place = i; cell = mine });
       only = λ m p. one_cell (precinct_cells tile s r) (exponent_across s r) (exponent_down s r) m
         (number_at (precinct_cells tile s r) (x / 2 ^ exponent_across s r) (y / 2 ^ exponent_down s r)) x y p.1.cell mine }
+
+pub block_cell_places : (tile : Rect) (s : CompShape) (r : ℕ) (b : Band) → ShapeInRange s → (u v : ℕ)
+    → InRect (block_cells tile s r b) u v ↔ HasPlace (λ x y. InBand tile s r b x y × InCell (block_across s r) (block_down s r) u v x y)
+block_cell_places tile s r b h u v = (block_cell_to tile s r b u v h, λ p. block_cell_from tile s r b u v p.0 p.1 h p.2.0 p.2.1)
+
+pub precinct_cell_places : (tile : Rect) (s : CompShape) (r : ℕ) → ShapeInRange s → (u v : ℕ)
+    → InRect (precinct_cells tile s r) u v ↔ HasPlace (λ x y. InResolution tile s r x y × InCell (exponent_across s r) (exponent_down s r) u v x y)
+precinct_cell_places tile s r h u v = (precinct_cell_to tile s r u v h, λ p. precinct_cell_from tile s r u v p.0 p.1 h p.2.0 p.2.1)
+
+pub precinct_block_places : (tile : Rect) (s : CompShape) (r : ℕ) (b : Band) (k : ℕ) → ShapeInRange s → (u v : ℕ)
+    → InRect (precinct_blocks tile s r b k) u v ↔ HasPlace (λ x y. InPart tile s r b k x y × InCell (block_across s r) (block_down s r) u v x y)
+precinct_block_places tile s r b k h u v = (precinct_blocks_to tile s r b k u v h, λ p. precinct_blocks_from tile s r b k u v p.0 p.1 h p.2.0 p.2.1)
+
+-- where a place of a band above resolution 0 lies in its resolution
+half_place : (d x o : ℕ) → x * 2 ^ (d + 1) + o * 2 ^ (d + 1 - 1) ≡ (2 * x + o) * 2 ^ d
+half_place d x o =
+    let twice : 2 ^ (d + 1) ≡ 2 ^ d * 2 ^ 1 = pow-add 2 d 1 in
+    let less : d + 1 - 1 ≡ d = omega arith in
+    rw (twice, less) (omega arith)
+
+half_cell : (e x o : ℕ) → 0 < e → o ≤ 1 → (2 * x + o) / 2 ^ e ≡ x / 2 ^ (e - 1)
+half_cell e x o some off =
+    let halves : (2 * x + o) / 2 ^ 1 / 2 ^ (e - 1) ≡ (2 * x + o) / 2 ^ (1 + (e - 1)) = shr-shr (2 * x + o) 1 (e - 1) in
+    let whole : 1 + (e - 1) ≡ e = omega arith in
+    let halves' : (2 * x + o) / 2 ^ 1 / 2 ^ (e - 1) ≡ (2 * x + o) / 2 ^ e = rw whole at halves in
+    let half : (2 * x + o) / 2 ^ 1 ≡ x = omega arith in
+    sym halves' ∙ ap (λ n. n / 2 ^ (e - 1)) half
+
+-- the precinct cell of a place of a band is one of its resolution's
+high_cell : (tile : Rect) (s : CompShape) (r right low x y : ℕ) → ShapeInRange s → 0 < r → r ≤ s.levels → right ≤ 1 → low ≤ 1
+    → InComponent tile s (x * 2 ^ (s.levels - r + 1) + right * 2 ^ (s.levels - r + 1 - 1)) (y * 2 ^ (s.levels - r + 1) + low * 2 ^ (s.levels - r + 1 - 1))
+    → InRect (precinct_cells tile s r) (x / 2 ^ part_across s r) (y / 2 ^ part_down s r)
+high_cell tile s r right low x y h some le hr hl i =
+    let one : min r 1 ≡ 1 = omega arith in
+    let place : InResolution tile s r (2 * x + right) (2 * y + low) = rw (half_place (s.levels - r) x right, half_place (s.levels - r) y low) at i in
+    precinct_cell_from tile s r (x / 2 ^ part_across s r) (y / 2 ^ part_down s r) (2 * x + right) (2 * y + low) h place
+      (record { column = rw one (half_cell (exponent_across s r) x right (h.precinct_across r some le) hr);
+                row = rw one (half_cell (exponent_down s r) y low (h.precinct_down r some le) hl) })
+
+low_place : (l x : ℕ) → x * 2 ^ l + 0 * 2 ^ (l - 1) ≡ x * 2 ^ (l - 0)
+low_place l x = let whole : l - 0 ≡ l = omega arith in rw whole (omega arith)
+
+low_cell : (tile : Rect) (s : CompShape) (x y : ℕ) → ShapeInRange s
+    → InBand tile s 0 LL x y → InRect (precinct_cells tile s 0) (x / 2 ^ part_across s 0) (y / 2 ^ part_down s 0)
+low_cell tile s x y h i =
+    let place : InResolution tile s 0 x y = rw (low_place s.levels x, low_place s.levels y) at i in
+    let across : exponent_across s 0 ≡ part_across s 0 = omega arith in
+    let down : exponent_down s 0 ≡ part_down s 0 = omega arith in
+    precinct_cell_from tile s 0 (x / 2 ^ part_across s 0) (y / 2 ^ part_down s 0) x y h place
+      (record { column = ap (λ n. x / 2 ^ n) across; row = ap (λ n. y / 2 ^ n) down })
+
+pub part_cell : (tile : Rect) (s : CompShape) (r : ℕ) (b : Band) (x y : ℕ) → ShapeInRange s → r ≤ s.levels → HasBand r b
+    → InBand tile s r b x y → InRect (precinct_cells tile s r) (x / 2 ^ part_across s r) (y / 2 ^ part_down s r)
+part_cell tile s r LL x y h le there i =
+    let P : ℕ → Type 0 = λ n. InBand tile s n LL x y → InRect (precinct_cells tile s n) (x / 2 ^ part_across s n) (y / 2 ^ part_down s n) in
+    subst P (sym there) (low_cell tile s x y h) i
+part_cell tile s r HL x y h le there i = high_cell tile s r 1 0 x y h there le (omega arith) (omega arith) i
+part_cell tile s r LH x y h le there i = high_cell tile s r 0 1 x y h there le (omega arith) (omega arith) i
+part_cell tile s r HH x y h le there i = high_cell tile s r 1 1 x y h there le (omega arith) (omega arith) i
+
+-- a block's cell names the cell of a precinct that holds it
+coarser : (x w p : ℕ) → w ≤ p → x / 2 ^ p ≡ x / 2 ^ w / 2 ^ (p - w)
+coarser x w p le =
+    let whole : w + (p - w) ≡ p = omega arith in
+    let steps : x / 2 ^ w / 2 ^ (p - w) ≡ x / 2 ^ (w + (p - w)) = shr-shr x w (p - w) in
+    sym (rw whole at steps)
+
+in_part_cell : (s : CompShape) (r u v m n x y : ℕ) → InCell (block_across s r) (block_down s r) u v x y
+    → InCell (part_across s r) (part_down s r) m n x y
+    → (m ≡ u / 2 ^ (part_across s r - block_across s r)) × (n ≡ v / 2 ^ (part_down s r - block_down s r))
+in_part_cell s r u v m n x y fine coarse =
+    let across : block_across s r ≤ part_across s r = omega arith in
+    let down : block_down s r ≤ part_down s r = omega arith in
+    (sym coarse.column ∙ coarser x (block_across s r) (part_across s r) across ∙ ap (λ q. q / 2 ^ (part_across s r - block_across s r)) fine.column,
+     sym coarse.row ∙ coarser y (block_down s r) (part_down s r) down ∙ ap (λ q. q / 2 ^ (part_down s r - block_down s r)) fine.row)
+
+-- the precincts whose part has a place of one block's cell are one
+one_part : (tile : Rect) (s : CompShape) (r k m u v x y z w : ℕ) → InCell (block_across s r) (block_down s r) u v x y
+    → InCell (block_across s r) (block_down s r) u v z w
+    → InCell (part_across s r) (part_down s r) (column_at (precinct_cells tile s r) k) (row_at (precinct_cells tile s r) k) x y
+    → InCell (part_across s r) (part_down s r) (column_at (precinct_cells tile s r) m) (row_at (precinct_cells tile s r) m) z w
+    → m ≡ k
+one_part tile s r k m u v x y z w fine fine' coarse coarse' =
+    let mine = in_part_cell s r u v (column_at (precinct_cells tile s r) k) (row_at (precinct_cells tile s r) k) x y fine coarse in
+    let other = in_part_cell s r u v (column_at (precinct_cells tile s r) m) (row_at (precinct_cells tile s r) m) z w fine' coarse' in
+    raster_one (precinct_cells tile s r) m k (other.0 ∙ sym mine.0) (other.1 ∙ sym mine.1)
+
+-- each place of a band lies in one precinct
+pub place_in_one_part : (tile : Rect) (s : CompShape) (r : ℕ) (b : Band) (x y : ℕ) → ShapeInRange s → r ≤ s.levels → HasBand r b
+    → InBand tile s r b x y → ExactlyOne (λ k. (k < precinct_count tile s r) × InPart tile s r b k x y)
+place_in_one_part tile s r b x y h le there i =
+    let cell = part_cell tile s r b x y h le there i in
+    let mine = cell_of_number (precinct_cells tile s r) (part_across s r) (part_down s r) x y cell in
+    record {
+      number = number_at (precinct_cells tile s r) (x / 2 ^ part_across s r) (y / 2 ^ part_down s r);
+      holds = (number_below (precinct_cells tile s r) (x / 2 ^ part_across s r) (y / 2 ^ part_down s r) cell, record { place = i; cell = mine });
+      only = λ m p. one_cell (precinct_cells tile s r) (part_across s r) (part_down s r) m
+        (number_at (precinct_cells tile s r) (x / 2 ^ part_across s r) (y / 2 ^ part_down s r)) x y p.1.cell mine }
+
+-- each block of a band lies in one precinct
+pub block_in_one_precinct : (tile : Rect) (s : CompShape) (r : ℕ) (b : Band) (i : ℕ) → ShapeInRange s → r ≤ s.levels → HasBand r b
+    → i < block_count tile s r b
+    → ExactlyOne (λ k. (k < precinct_count tile s r) × InRect (precinct_blocks tile s r b k) (column_at (block_cells tile s r b) i) (row_at (block_cells tile s r b) i))
+block_in_one_precinct tile s r b i h le there lt =
+    let some = block_some tile s r b i h lt in
+    let home = place_in_one_part tile s r b some.0 some.1 h le there some.2.place in
+    record {
+      number = home.number;
+      holds = (home.holds.0, precinct_blocks_from tile s r b home.number (column_at (block_cells tile s r b) i) (row_at (block_cells tile s r b) i)
+        some.0 some.1 h home.holds.1 some.2.cell);
+      only = λ m p.
+        let other = precinct_blocks_to tile s r b m (column_at (block_cells tile s r b) i) (row_at (block_cells tile s r b) i) h p.1 in
+        one_part tile s r home.number m (column_at (block_cells tile s r b) i) (row_at (block_cells tile s r b) i)
+          some.0 some.1 other.0 other.1 some.2.cell other.2.1 home.holds.1.cell other.2.0.cell }
+
+-- whose places are all in it
+pub block_within_precinct : (tile : Rect) (s : CompShape) (r : ℕ) (b : Band) (i k x y : ℕ) → ShapeInRange s
+    → InRect (precinct_blocks tile s r b k) (column_at (block_cells tile s r b) i) (row_at (block_cells tile s r b) i)
+    → InBlock tile s r b i x y → InPart tile s r b k x y
+block_within_precinct tile s r b i k x y h there p =
+    let some = precinct_blocks_to tile s r b k (column_at (block_cells tile s r b) i) (row_at (block_cells tile s r b) i) h there in
+    let mine = in_part_cell s r (column_at (block_cells tile s r b) i) (row_at (block_cells tile s r b) i)
+      (column_at (precinct_cells tile s r) k) (row_at (precinct_cells tile s r) k) some.0 some.1 some.2.1 some.2.0.cell in
+    let here = in_part_cell s r (column_at (block_cells tile s r b) i) (row_at (block_cells tile s r b) i)
+      (x / 2 ^ part_across s r) (y / 2 ^ part_down s r) x y p.cell (record { column = refl; row = refl }) in
+    record { place = p.place; cell = record { column = here.0 ∙ sym mine.0; row = here.1 ∙ sym mine.1 } }

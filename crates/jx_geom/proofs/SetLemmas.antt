@@ -91,3 +91,9 @@ pub precinct_part_from : (tile : Rect) (s : CompShape) (r : ℕ) (b : Band) (k x
 unfolding precinct_part
 precinct_part_from tile s r b k x y h p =
     part_from (band_rect tile s r b) (part_across s r) (part_down s r) (column_at (precinct_cells tile s r) k) (row_at (precinct_cells tile s r) k) x y (band_rect_from tile s r b x y h p.place) p.cell
+
+pub band_rect_places : (tile : Rect) (s : CompShape) (r : ℕ) (b : Band) → ShapeInRange s → (x y : ℕ) → InRect (band_rect tile s r b) x y ↔ InBand tile s r b x y
+band_rect_places tile s r b h x y = (band_rect_to tile s r b x y h, band_rect_from tile s r b x y h)
+
+pub block_rect_places : (tile : Rect) (s : CompShape) (r : ℕ) (b : Band) (i : ℕ) → ShapeInRange s → (x y : ℕ) → InRect (block_rect tile s r b i) x y ↔ InBlock tile s r b i x y
+block_rect_places tile s r b i h x y = (block_rect_to tile s r b i x y h, block_rect_from tile s r b i x y h)

@@ -70,4 +70,68 @@ impl TileGeom {
     {
         self.shape(comp).levels
     }
+
+    /// The places of a band (T.800, B.5).
+    #[tactic(auto, using(crate::proofs::SetLemmas::band_rect_places))]
+    pub fn band(&self, comp: u16, res: u8, band: Band) -> Rect
+        requires res { HasResolution self.now comp res }
+        requires band { HasBand res band }
+        ensures value { result ≡ band_in self.now comp res band }
+        ensures places { (x y : ℕ) → InRect result x y ↔ InBand (rect_of_tile self.now) (shape_of self.now comp) res band x y }
+    {
+        band_of(self.places, self.shape(comp), res, band)
+    }
+
+    /// How many columns and rows of precincts a resolution has (T.800, B.6); none where it is empty.
+    pub fn precincts(&self, comp: u16, res: u8) -> (u32, u32)
+        requires { HasResolution self.now comp res }
+        ensures columns { result.0 ≡ length_of (precincts_in self.now comp res).x }
+        ensures rows { result.1 ≡ length_of (precincts_in self.now comp res).y }
+    {
+        let cells = precincts_of(self.places, self.shape(comp), res);
+        (cells.x.high.saturating_sub(cells.x.low), cells.y.high.saturating_sub(cells.y.low))
+    }
+
+    /// The code-blocks of a band, as columns and rows of cells (T.800, B.7): each of its cells that
+    /// isn't empty. A block's index is the raster place of its cell in this rect.
+    #[tactic(auto, using(crate::proofs::LawLemmas::block_cell_places))]
+    pub fn cells(&self, comp: u16, res: u8, band: Band) -> Rect
+        requires res { HasResolution self.now comp res }
+        requires band { HasBand res band }
+        ensures value { result ≡ blocks_in self.now comp res band }
+    {
+        blocks_of(self.places, self.shape(comp), res, band)
+    }
+
+    /// The code-blocks of a precinct in a band, as columns and rows of cells of that band; there may be
+    /// none. Precincts are numbered row by row from 0 on.
+    #[tactic(auto, using(crate::proofs::LawLemmas::precinct_block_places))]
+    pub fn blocks(&self, comp: u16, res: u8, band: Band, precinct: u32) -> Rect
+        requires res { HasResolution self.now comp res }
+        requires band { HasBand res band }
+        requires precinct { precinct < size_of (precincts_in self.now comp res) }
+        ensures value { result ≡ precinct_blocks (rect_of_tile self.now) (shape_of self.now comp) res band precinct }
+    {
+        precinct_blocks_of(self.places, self.shape(comp), res, band, precinct)
+    }
+
+    /// The places of a code-block in its band.
+    #[tactic(auto, using(crate::proofs::SetLemmas::block_rect_places))]
+    pub fn block(&self, name: &BlockName) -> Rect
+        requires { HasBlock self.now name.now }
+        ensures value { result ≡ block_rect (rect_of_tile self.now) (shape_of self.now name.now.comp) name.now.res name.now.band name.now.index }
+        ensures places { (x y : ℕ) → InRect result x y ↔ InBlock (rect_of_tile self.now) (shape_of self.now name.now.comp) name.now.res name.now.band name.now.index x y }
+    {
+        block_of(self.places, self.shape(name.comp), name.res, name.band, name.index)
+    }
+
+    /// Where a precinct stands on the reference grid, x and y (T.800, B.12.1.3).
+    pub fn reference_point(&self, comp: u16, res: u8, precinct: u32) -> (u64, u64)
+        requires res { HasResolution self.now comp res }
+        requires precinct { precinct < size_of (precincts_in self.now comp res) }
+        ensures across { result.0 ≡ reference_across self.now comp res precinct }
+        ensures down { result.1 ≡ reference_down self.now comp res precinct }
+    {
+        reference_of_precinct(self.places, self.shape(comp), res, precinct)
+    }
 }
