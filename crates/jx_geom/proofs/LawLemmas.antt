@@ -105,17 +105,15 @@ place_in_one_precinct tile s r x y h i =
       only = λ m p. one_cell (precinct_cells tile s r) (exponent_across s r) (exponent_down s r) m
         (number_at (precinct_cells tile s r) (x / 2 ^ exponent_across s r) (y / 2 ^ exponent_down s r)) x y p.1.cell mine }
 
-pub block_cell_places : (tile : Rect) (s : CompShape) (r : ℕ) (b : Band) → ShapeInRange s → (u v : ℕ)
-    → InRect (block_cells tile s r b) u v ↔ HasPlace (λ x y. InBand tile s r b x y × InCell (block_across s r) (block_down s r) u v x y)
-block_cell_places tile s r b h u v = (block_cell_to tile s r b u v h, λ p. block_cell_from tile s r b u v p.0 p.1 h p.2.0 p.2.1)
+pub block_cell_places : (tile : Rect) (s : CompShape) (r : ℕ) (b : Band) (rect : Rect) → ShapeInRange s → rect ≡ block_cells tile s r b → (u v : ℕ)
+    → InRect rect u v ↔ HasPlace (λ x y. InBand tile s r b x y × InCell (block_across s r) (block_down s r) u v x y)
+block_cell_places tile s r b rect h e u v =
+    (λ i. block_cell_to tile s r b u v h (rw e at i), λ p. rw e (block_cell_from tile s r b u v p.0 p.1 h p.2.0 p.2.1))
 
-pub precinct_cell_places : (tile : Rect) (s : CompShape) (r : ℕ) → ShapeInRange s → (u v : ℕ)
-    → InRect (precinct_cells tile s r) u v ↔ HasPlace (λ x y. InResolution tile s r x y × InCell (exponent_across s r) (exponent_down s r) u v x y)
-precinct_cell_places tile s r h u v = (precinct_cell_to tile s r u v h, λ p. precinct_cell_from tile s r u v p.0 p.1 h p.2.0 p.2.1)
-
-pub precinct_block_places : (tile : Rect) (s : CompShape) (r : ℕ) (b : Band) (k : ℕ) → ShapeInRange s → (u v : ℕ)
-    → InRect (precinct_blocks tile s r b k) u v ↔ HasPlace (λ x y. InPart tile s r b k x y × InCell (block_across s r) (block_down s r) u v x y)
-precinct_block_places tile s r b k h u v = (precinct_blocks_to tile s r b k u v h, λ p. precinct_blocks_from tile s r b k u v p.0 p.1 h p.2.0 p.2.1)
+pub precinct_block_places : (tile : Rect) (s : CompShape) (r : ℕ) (b : Band) (k : ℕ) (rect : Rect) → ShapeInRange s → rect ≡ precinct_blocks tile s r b k
+    → (u v : ℕ) → InRect rect u v ↔ HasPlace (λ x y. InPart tile s r b k x y × InCell (block_across s r) (block_down s r) u v x y)
+precinct_block_places tile s r b k rect h e u v =
+    (λ i. precinct_blocks_to tile s r b k u v h (rw e at i), λ p. rw e (precinct_blocks_from tile s r b k u v p.0 p.1 h p.2.0 p.2.1))
 
 -- where a place of a band above resolution 0 lies in its resolution
 half_place : (d x o : ℕ) → x * 2 ^ (d + 1) + o * 2 ^ (d + 1 - 1) ≡ (2 * x + o) * 2 ^ d

@@ -72,7 +72,6 @@ impl TileGeom {
     }
 
     /// The places of a band (T.800, B.5).
-    #[tactic(auto, using(crate::proofs::SetLemmas::band_rect_places))]
     pub fn band(&self, comp: u16, res: u8, band: Band) -> Rect
         requires res { HasResolution self.now comp res }
         requires band { HasBand res band }
@@ -94,7 +93,6 @@ impl TileGeom {
 
     /// The code-blocks of a band, as columns and rows of cells (T.800, B.7): each of its cells that
     /// isn't empty. A block's index is the raster place of its cell in this rect.
-    #[tactic(auto, using(crate::proofs::LawLemmas::block_cell_places))]
     pub fn cells(&self, comp: u16, res: u8, band: Band) -> Rect
         requires res { HasResolution self.now comp res }
         requires band { HasBand res band }
@@ -105,7 +103,6 @@ impl TileGeom {
 
     /// The code-blocks of a precinct in a band, as columns and rows of cells of that band; there may be
     /// none. Precincts are numbered row by row from 0 on.
-    #[tactic(auto, using(crate::proofs::LawLemmas::precinct_block_places))]
     pub fn blocks(&self, comp: u16, res: u8, band: Band, precinct: u32) -> Rect
         requires res { HasResolution self.now comp res }
         requires band { HasBand res band }
@@ -116,7 +113,6 @@ impl TileGeom {
     }
 
     /// The places of a code-block in its band.
-    #[tactic(auto, using(crate::proofs::SetLemmas::block_rect_places))]
     pub fn block(&self, name: &BlockName) -> Rect
         requires { HasBlock self.now name.now }
         ensures value { result ≡ block_rect (rect_of_tile self.now) (shape_of self.now name.now.comp) name.now.res name.now.band name.now.index }
