@@ -3,4 +3,5 @@ pub mod LawLemmas
 pub mod RasterLemmas
 pub mod RectLemmas
 pub mod SetLemmas
+pub mod SizeLemmas
 pub mod SpanLemmas

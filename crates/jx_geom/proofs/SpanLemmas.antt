@@ -1,14 +1,14 @@
 -- One direction: which numbers the spans of the standard's formulas hold.
-use Rattle.std.proofs.Common.{◌≡◌, ℕ, ◌+◌, ◌-◌, ◌*◌, ◌/◌, ◌%◌, ◌^◌, ◌≤◌, ◌<◌, ◌⊎◌, ◌↔◌, inl, inr, zero, min, max, refl, arith, subst, sym, true, false, nat_lt, if◌then◌else◌}
+use Rattle.std.proofs.Common.{◌≡◌, ℕ, ◌+◌, ◌-◌, ◌*◌, ◌/◌, ◌%◌, ◌^◌, ◌≤◌, ◌<◌, ◌⊎◌, ◌↔◌, inl, inr, zero, min, max, refl, arith, subst, sym, ap, ◌∙◌, true, false, nat_lt, if◌then◌else◌}
 use Rattle.std.proofs.Math.Nat.{mul-le-mul_left, pow-le-pow_right, mul-le-mul_right, mul_assoc, mul_comm, one-le-mul, div-lt_iff_lt-mul, le-div_iff_mul-le, div-eq_of_lt-le, div-mul-le_self, lt-div-mul-add}
-use Rattle.std.proofs.lemmas.Nat.{pow_pos, pow-add, le-div}
+use Rattle.std.proofs.lemmas.Nat.{pow_pos, pow-add, le-div, div-add-mod'}
 use Rattle.std.proofs.lemmas.Bool.Decides.{nat_tests}
 use Rattle.std.proofs.lemmas.Bool.{cases_lt}
 use Rattle.jx_base.specs.declared.names.Span.{Span}
 use Rattle.jx_base.specs.Numbers.{ceil_of}
 use Rattle.jx_base.specs.Places.{InSpan, span_of}
 use Rattle.jx_base.proofs.Ceilings.{ceil_least, ceil_from, below_ceil, ceil_above, ceil_reaches}
-use Rattle.jx_geom.specs.Spans.{tiles_along, tile_span, scaled, band_span, cells, cut}
+use Rattle.jx_geom.specs.Spans.{tiles_along, tile_span, scaled, band_span, cells, cut, reference_of}
 
 -- a tile that is counted has a place, and lies in the picture
 pub record TileSpanFits (start end : ℕ) (s : Span) : Type 0 where
@@ -159,3 +159,60 @@ twice_scaled_times s first second size u hf hs hc i =
 
 pub grows_by : (a b : ℕ) → 0 < b → a ≤ a * b
 grows_by a b h = let step : a * 1 ≤ a * b = mul-le-mul_left a h in omega arith
+
+-- a part in one cell is no longer than the cell
+pub cut_length : (s : Span) (size n : ℕ) → (cut s size n).high - (cut s size n).low ≤ size
+unfolding cut
+cut_length s size n = let next : (n + 1) * size ≡ n * size + size = omega arith in omega arith
+
+-- where a reference point is the tile's start, and where it isn't
+reference_early : (start low size step n : ℕ) → n ≡ low / size → 0 < low % size → reference_of start low size step n ≡ start
+unfolding reference_of
+reference_early start low size step n e some = grind (arith, nat_tests)
+
+reference_late : (start low size step n : ℕ) → (n ≡ low / size → low % size ≡ 0) → reference_of start low size step n ≡ n * (size * step)
+unfolding reference_of
+reference_late start low size step n h = grind (arith, nat_tests)
+
+first_cell : (low size u : ℕ) → 0 < size → low / size ≤ u → u * size < low → (u ≡ low / size) × (0 < low % size)
+first_cell low size u h le lt =
+    let back : u * size ≤ low = omega arith in
+    let upper : u ≤ low / size = le-div u low size h back in
+    let same : u ≡ low / size = omega arith in
+    let product : u * size ≡ low / size * size = ap (λ n. n * size) same in
+    let whole : low / size * size + low % size ≡ low = div-add-mod' low size in
+    (same, omega arith)
+
+later_cell : (low size u : ℕ) → low ≤ u * size → u ≡ low / size → low % size ≡ 0
+later_cell low size u le same =
+    let product : u * size ≡ low / size * size = ap (λ n. n * size) same in
+    let whole : low / size * size + low % size ≡ low = div-add-mod' low size in
+    omega arith
+
+scaled_low_to : (s : Span) (step x : ℕ) → 0 < step → (scaled s step).low ≤ x → s.low ≤ x * step
+unfolding scaled
+scaled_low_to s step x h le = ceil_from s.low step x h le
+
+scaled_low_below : (s : Span) (step x : ℕ) → 0 < step → x < (scaled s step).low → x * step < s.low
+unfolding scaled
+scaled_low_below s step x h lt = below_ceil s.low step x h lt
+
+-- a precinct stands at the later of the tile's start and of what the first place of its cell stands for
+pub reference_latest : (s : Span) (first second size u : ℕ) → 0 < first → 0 < second → 0 < size
+    → InSpan (cells (scaled (scaled s first) second) size) u
+    → reference_of s.low (scaled (scaled s first) second).low size (second * first) u ≡ max s.low (u * (size * (second * first)))
+reference_latest s first second size u hf hs hc i = elim (cases_lt (u * size) (scaled (scaled s first) second).low) [
+    inl lt ↦
+        let from : (scaled (scaled s first) second).low / size ≤ u = rw (cells_low (scaled (scaled s first) second) size) at i.from in
+        let mine = first_cell (scaled (scaled s first) second).low size u hc from lt in
+        let e : reference_of s.low (scaled (scaled s first) second).low size (second * first) u ≡ s.low =
+            reference_early s.low (scaled (scaled s first) second).low size (second * first) u mine.0 mine.1 in
+        let below : u * size * second * first < s.low = scaled_low_below s first (u * size * second) hf (scaled_low_below (scaled s first) second (u * size) hs lt) in
+        let most : s.low ≡ max s.low (u * (size * (second * first))) = omega arith in
+        e ∙ most
+  | inr ge ↦
+        let e : reference_of s.low (scaled (scaled s first) second).low size (second * first) u ≡ u * (size * (second * first)) =
+            reference_late s.low (scaled (scaled s first) second).low size (second * first) u (later_cell (scaled (scaled s first) second).low size u ge) in
+        let above : s.low ≤ u * size * second * first = scaled_low_to s first (u * size * second) hf (scaled_low_to (scaled s first) second (u * size) hs ge) in
+        let most : u * (size * (second * first)) ≡ max s.low (u * (size * (second * first))) = omega arith in
+        e ∙ most ]

@@ -3,5 +3,6 @@ pub mod Ranges
 pub mod Spans
 pub mod Rects
 pub mod Sets
+pub mod Sizes
 pub mod Counts
 pub mod Geometry
