@@ -30,7 +30,7 @@ raster_in r n h = record {
 abbrev pub number_at : Rect → ℕ → ℕ → ℕ
 number_at r x y = (y - r.y.low) * length_of r.x + (x - r.x.low)
 
-in_rows : (a b w h : ℕ) → a < h → b < w → a * w + b < w * h
+pub in_rows : (a b w h : ℕ) → a < h → b < w → a * w + b < w * h
 in_rows a b w h ha hb =
     let next : a + 1 ≤ h = omega arith in
     let step : (a + 1) * w ≤ h * w = mul-le-mul_right w next in
@@ -55,7 +55,7 @@ number_row r x y i =
     omega (arith, i.down.from)
 
 -- two numbers of one place are one
-same_number : (m n w : ℕ) → m % w ≡ n % w → m / w ≡ n / w → m ≡ n
+pub same_number : (m n w : ℕ) → m % w ≡ n % w → m / w ≡ n / w → m ≡ n
 same_number m n w rest quotient =
     let first : m / w * w + m % w ≡ m = div-add-mod' m w in
     let second : n / w * w + n % w ≡ n = div-add-mod' n w in

@@ -6,3 +6,4 @@ pub mod Sets
 pub mod Sizes
 pub mod Counts
 pub mod Geometry
+pub mod Numbering

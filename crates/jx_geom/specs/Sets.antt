@@ -1,11 +1,22 @@
 -- Tiles, tile-components, resolutions, bands, precincts and code-blocks as sets of places.
-use Rattle.std.specs.Prelude.{ℕ, ◌+◌, ◌-◌, ◌*◌, ◌/◌, ◌^◌, ◌≡◌}
+use Rattle.std.specs.Prelude.{ℕ, ◌+◌, ◌-◌, ◌*◌, ◌/◌, ◌%◌, ◌^◌, ◌≡◌}
 use Rattle.jx_base.specs.declared.names.Rect.{Rect}
 use Rattle.jx_base.specs.declared.names.Band.{Band}
-use Rattle.jx_base.specs.Places.{InRect, column_at, row_at}
+use Rattle.jx_base.specs.Places.{InRect, column_at, row_at, rect_of, span_of}
+use Rattle.jx_geom.specs.declared.shape.Canvas.{Canvas}
 use Rattle.jx_geom.specs.declared.shape.CompShape.{CompShape}
 use Rattle.jx_geom.specs.Ranges.{exponent_across, exponent_down}
-use Rattle.jx_geom.specs.Rects.{off_across, off_down, band_level, part_across, part_down, block_across, block_down, precinct_cells, block_cells}
+use Rattle.jx_geom.specs.Rects.{tiles_across, off_across, off_down, band_level, part_across, part_down, block_across, block_down, precinct_cells, block_cells}
+
+-- B.2: the picture on the reference grid
+abbrev pub InPicture : Canvas → ℕ → ℕ → Type 0
+InPicture c x y = InRect (rect_of (span_of c.x0 c.x1) (span_of c.y0 c.y1)) x y
+
+-- B.3: the tile of number t: the picture's places in one cell of the grid of tiles, anchored at its offset
+pub record InTile (c : Canvas) (t x y : ℕ) : Type 0 where
+  pub place : InPicture c x y
+  pub column : (x - c.tx) / c.tw ≡ t % tiles_across c
+  pub row : (y - c.ty) / c.th ≡ t / tiles_across c
 
 -- B.2: a sample of a component stands at every dx-th column and dy-th row of the reference grid
 abbrev pub InComponent : Rect → CompShape → ℕ → ℕ → Type 0
