@@ -228,3 +228,45 @@ block_within_precinct tile s r b i k x y h there p =
     let here = in_part_cell s r (column_at (block_cells tile s r b) i) (row_at (block_cells tile s r b) i)
       (x / 2 ^ part_across s r) (y / 2 ^ part_down s r) x y p.cell (record { column = refl; row = refl }) in
     record { place = p.place; cell = record { column = here.0 ∙ sym mine.0; row = here.1 ∙ sym mine.1 } }
+
+-- a place of a band is in a precinct where the place of the resolution that it stands beside is
+high_part_to : (tile : Rect) (s : CompShape) (r right low k x y : ℕ) → ShapeInRange s → 0 < r → r ≤ s.levels → right ≤ 1 → low ≤ 1
+    → InComponent tile s (x * 2 ^ (s.levels - r + 1) + right * 2 ^ (s.levels - r + 1 - 1)) (y * 2 ^ (s.levels - r + 1) + low * 2 ^ (s.levels - r + 1 - 1))
+    → InCell (part_across s r) (part_down s r) (column_at (precinct_cells tile s r) k) (row_at (precinct_cells tile s r) k) x y
+    → InPrecinct tile s r k (2 * x + right) (2 * y + low)
+high_part_to tile s r right low k x y h some le hr hl i c =
+    let one : min r 1 ≡ 1 = omega arith in
+    let column : x / 2 ^ (exponent_across s r - 1) ≡ column_at (precinct_cells tile s r) k = rw one at c.column in
+    let row : y / 2 ^ (exponent_down s r - 1) ≡ row_at (precinct_cells tile s r) k = rw one at c.row in
+    record {
+      place = rw (half_place (s.levels - r) x right, half_place (s.levels - r) y low) at i;
+      cell = record { column = half_cell (exponent_across s r) x right (h.precinct_across r some le) hr ∙ column;
+                      row = half_cell (exponent_down s r) y low (h.precinct_down r some le) hl ∙ row } }
+
+high_part_from : (tile : Rect) (s : CompShape) (r right low k x y : ℕ) → ShapeInRange s → 0 < r → r ≤ s.levels → right ≤ 1 → low ≤ 1
+    → InPrecinct tile s r k (2 * x + right) (2 * y + low)
+    → InComponent tile s (x * 2 ^ (s.levels - r + 1) + right * 2 ^ (s.levels - r + 1 - 1)) (y * 2 ^ (s.levels - r + 1) + low * 2 ^ (s.levels - r + 1 - 1))
+      × InCell (part_across s r) (part_down s r) (column_at (precinct_cells tile s r) k) (row_at (precinct_cells tile s r) k) x y
+high_part_from tile s r right low k x y h some le hr hl p =
+    let one : 1 ≡ min r 1 = omega arith in
+    let column : x / 2 ^ (exponent_across s r - 1) ≡ column_at (precinct_cells tile s r) k =
+        sym (half_cell (exponent_across s r) x right (h.precinct_across r some le) hr) ∙ p.cell.column in
+    let row : y / 2 ^ (exponent_down s r - 1) ≡ row_at (precinct_cells tile s r) k =
+        sym (half_cell (exponent_down s r) y low (h.precinct_down r some le) hl) ∙ p.cell.row in
+    let P : ℕ → Type 0 = λ n. x / 2 ^ (exponent_across s r - n) ≡ column_at (precinct_cells tile s r) k in
+    let Q : ℕ → Type 0 = λ n. y / 2 ^ (exponent_down s r - n) ≡ row_at (precinct_cells tile s r) k in
+    (rw (half_place (s.levels - r) x right, half_place (s.levels - r) y low) p.place,
+     record { column = subst P one column; row = subst Q one row })
+
+pub part_stands_beside : (tile : Rect) (s : CompShape) (r : ℕ) (b : Band) (k x y : ℕ) → ShapeInRange s → 0 < r → r ≤ s.levels → HasBand r b
+    → InPart tile s r b k x y ↔ InPrecinct tile s r k (2 * x + off_across b) (2 * y + off_down b)
+part_stands_beside tile s r LL k x y h some le there = absurd (omega arith)
+part_stands_beside tile s r HL k x y h some le there =
+    (λ p. high_part_to tile s r 1 0 k x y h some le (omega arith) (omega arith) p.place p.cell,
+     λ p. let q = high_part_from tile s r 1 0 k x y h some le (omega arith) (omega arith) p in record { place = q.0; cell = q.1 })
+part_stands_beside tile s r LH k x y h some le there =
+    (λ p. high_part_to tile s r 0 1 k x y h some le (omega arith) (omega arith) p.place p.cell,
+     λ p. let q = high_part_from tile s r 0 1 k x y h some le (omega arith) (omega arith) p in record { place = q.0; cell = q.1 })
+part_stands_beside tile s r HH k x y h some le there =
+    (λ p. high_part_to tile s r 1 1 k x y h some le (omega arith) (omega arith) p.place p.cell,
+     λ p. let q = high_part_from tile s r 1 1 k x y h some le (omega arith) (omega arith) p in record { place = q.0; cell = q.1 })

@@ -65,3 +65,18 @@ precinct_row_latest tile s r k h lt =
     let place = raster_in (precinct_cells tile s r) k lt in
     reference_latest tile.y s.dy (2 ^ (s.levels - r)) (2 ^ exponent_down s r) (row_at (precinct_cells tile s r) k)
         h.step_down (pow_pos (s.levels - r)) (pow_pos (exponent_down s r)) place.down
+
+-- and that lies in the tile
+pub precinct_column_inside : (tile : Rect) (s : CompShape) (r k : ℕ) → ShapeInRange s → k < precinct_count tile s r → tile.x.low < tile.x.high
+    → InSpan tile.x (precinct_column_point tile s r (column_at (precinct_cells tile s r) k))
+precinct_column_inside tile s r k h lt some =
+    let e = precinct_column_latest tile s r k h lt in
+    let below = precinct_column_fits tile s r k h lt in
+    record { from = rw e (omega arith); below = rw e (omega arith) }
+
+pub precinct_row_inside : (tile : Rect) (s : CompShape) (r k : ℕ) → ShapeInRange s → k < precinct_count tile s r → tile.y.low < tile.y.high
+    → InSpan tile.y (precinct_row_point tile s r (row_at (precinct_cells tile s r) k))
+precinct_row_inside tile s r k h lt some =
+    let e = precinct_row_latest tile s r k h lt in
+    let below = precinct_row_fits tile s r k h lt in
+    record { from = rw e (omega arith); below = rw e (omega arith) }
