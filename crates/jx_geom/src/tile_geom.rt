@@ -1,6 +1,6 @@
 //! The geometry of one tile.
 
-ghost use Rattle.std.specs.Prelude.{◌≡◌, ◌≤◌, ◌<◌, ◌-◌, ℕ, ◌↔◌, IfOk, length};
+ghost use Rattle.std.specs.Prelude.{◌≡◌, ◌≤◌, ◌<◌, ◌-◌, ◌*◌, ◌^◌, ℕ, ◌↔◌, IfOk, length};
 ghost use Rattle.jx_base.specs.Places.{InRect, size_of, length_of};
 ghost use Rattle.jx_geom.specs.Counts.{tile_count};
 ghost use Rattle.jx_geom.specs.Geometry.{
@@ -9,7 +9,8 @@ ghost use Rattle.jx_geom.specs.Geometry.{
 };
 ghost use Rattle.jx_geom.specs.Ranges.{CanvasInRange, ShapeInRange, HasBand};
 ghost use Rattle.jx_geom.specs.Rects.{tile_rect, precinct_blocks, block_rect, block_across, block_down};
-ghost use Rattle.jx_geom.specs.Sets.{HasPlace, InBand, InBlock, InCell, InPart};
+ghost use Rattle.jx_geom.specs.Sets.{HasPlace, InBand, InBlock, InCell, InPart, InTile};
+ghost use Rattle.jx_geom.specs.Sizes.{BlockFits};
 
 use crate::rects::{band_of, block_of, blocks_of, precinct_blocks_of, precincts_of, reference_of_precinct, tile_of};
 use crate::shape::{Canvas, CompShape};
@@ -49,9 +50,18 @@ impl TileGeom {
 
     /// How many components the tile has.
     pub fn components(&self) -> usize
-        ensures { result ≡ length self.now.shapes }
+        ensures count { result ≡ length self.now.shapes }
+        ensures range { GeometryInRange self.now }
     {
         self.shapes.len()
+    }
+
+    /// The tile's places on the reference grid (T.800, B.3).
+    pub fn tile(&self) -> Rect
+        ensures value { result ≡ rect_of_tile self.now }
+        ensures places { (x y : ℕ) → InRect result x y ↔ InTile self.now.canvas self.now.tile x y }
+    {
+        self.places
     }
 
     fn shape(&self, comp: u16) -> &CompShape
@@ -86,6 +96,7 @@ impl TileGeom {
         requires { HasResolution self.now comp res }
         ensures columns { result.0 ≡ length_of (precincts_in self.now comp res).x }
         ensures rows { result.1 ≡ length_of (precincts_in self.now comp res).y }
+        ensures bound { result.0 * result.1 ≤ 2 ^ 22 }
     {
         let cells = precincts_of(self.places, self.shape(comp), res);
         (cells.x.high.saturating_sub(cells.x.low), cells.y.high.saturating_sub(cells.y.low))
@@ -97,6 +108,10 @@ impl TileGeom {
         requires res { HasResolution self.now comp res }
         requires band { HasBand res band }
         ensures value { result ≡ blocks_in self.now comp res band }
+        ensures places { (u v : ℕ) → InRect result u v
+            ↔ HasPlace (λ x y. InBand (rect_of_tile self.now) (shape_of self.now comp) res band x y
+                × InCell (block_across (shape_of self.now comp) res) (block_down (shape_of self.now comp) res) u v x y) }
+        ensures bound { size_of result ≤ 2 ^ 20 }
     {
         blocks_of(self.places, self.shape(comp), res, band)
     }
@@ -108,6 +123,9 @@ impl TileGeom {
         requires band { HasBand res band }
         requires precinct { precinct < size_of (precincts_in self.now comp res) }
         ensures value { result ≡ precinct_blocks (rect_of_tile self.now) (shape_of self.now comp) res band precinct }
+        ensures places { (u v : ℕ) → InRect result u v
+            ↔ HasPlace (λ x y. InPart (rect_of_tile self.now) (shape_of self.now comp) res band precinct x y
+                × InCell (block_across (shape_of self.now comp) res) (block_down (shape_of self.now comp) res) u v x y) }
     {
         precinct_blocks_of(self.places, self.shape(comp), res, band, precinct)
     }
@@ -117,6 +135,7 @@ impl TileGeom {
         requires { HasBlock self.now name.now }
         ensures value { result ≡ block_rect (rect_of_tile self.now) (shape_of self.now name.now.comp) name.now.res name.now.band name.now.index }
         ensures places { (x y : ℕ) → InRect result x y ↔ InBlock (rect_of_tile self.now) (shape_of self.now name.now.comp) name.now.res name.now.band name.now.index x y }
+        ensures fits { BlockFits result }
     {
         block_of(self.places, self.shape(name.comp), name.res, name.band, name.index)
     }
@@ -127,6 +146,7 @@ impl TileGeom {
         requires precinct { precinct < size_of (precincts_in self.now comp res) }
         ensures across { result.0 ≡ reference_across self.now comp res precinct }
         ensures down { result.1 ≡ reference_down self.now comp res precinct }
+        ensures inside { InRect (rect_of_tile self.now) result.0 result.1 }
     {
         reference_of_precinct(self.places, self.shape(comp), res, precinct)
     }

@@ -1,0 +1,19 @@
+use Rattle.std.proofs.Common.{◌≡◌, ℕ, ◌↔◌, ◌≤◌, ◌<◌, ◌*◌, arith, subst, sym}
+use Rattle.std.proofs.lemmas.Grind.{common_steps}
+use Rattle.jx_geom.specs.Geometry.{Geometry, GeometryInRange, rect_of_tile, shape_of, blocks_in, precincts_in}
+use Rattle.jx_geom.specs.Ranges.{ShapeInRange}
+use Rattle.jx_geom.specs.Rects.{block_cells, precinct_blocks, tile_rect, precinct_cells}
+use Rattle.jx_geom.proofs.CountLemmas.{precincts_limited}
+use Rattle.std.proofs.Common.{◌∙◌, ap, ◌^◌}
+use Rattle.jx_base.specs.declared.names.Rect.{Rect}
+use Rattle.jx_base.specs.Places.{InRect, InSpan, size_of}
+use Rattle.jx_geom.proofs.tile_geom.TileGeom.precincts.Goals as goal
+
+pub returns-clause-bound : goal.returns-clause-bound
+returns-clause-bound c =
+    let P : Geometry → Type 0 = λ g. GeometryInRange g in
+    let range : GeometryInRange c.args.self.now = subst P c.self.view_is c.self.invariant.0 in
+    let e : c.precincts_of-cells.result ≡ precinct_cells (rect_of_tile c.args.self.now) (shape_of c.args.self.now c.args.comp) c.args.res = grind (arith, common_steps) in
+    let Q : Rect → Type 0 = λ r. size_of r ≤ 2 ^ 22 in
+    let bound : size_of c.precincts_of-cells.result ≤ 2 ^ 22 = subst Q (sym e) (precincts_limited c.args.self.now c.args.comp c.args.res range c.requires) in
+    rw (c.saturating_sub.ensures, c.saturating_sub-2.ensures) bound
