@@ -3,6 +3,7 @@
 
 mod counts;
 mod exponents;
+pub mod laws;
 mod rects;
 mod shape;
 mod spans;
