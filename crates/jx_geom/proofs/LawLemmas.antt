@@ -138,8 +138,8 @@ high_cell tile s r right low x y h some le hr hl i =
     let one : min r 1 ≡ 1 = omega arith in
     let place : InResolution tile s r (2 * x + right) (2 * y + low) = rw (half_place (s.levels - r) x right, half_place (s.levels - r) y low) at i in
     precinct_cell_from tile s r (x / 2 ^ part_across s r) (y / 2 ^ part_down s r) (2 * x + right) (2 * y + low) h place
-      (record { column = rw one (half_cell (exponent_across s r) x right (h.precinct_across r some le) hr);
-                row = rw one (half_cell (exponent_down s r) y low (h.precinct_down r some le) hl) })
+      (record { column = rw one (half_cell (exponent_across s r) x right (h.precincts r some le).0 hr);
+                row = rw one (half_cell (exponent_down s r) y low (h.precincts r some le).1 hl) })
 
 low_place : (l x : ℕ) → x * 2 ^ l + 0 * 2 ^ (l - 1) ≡ x * 2 ^ (l - 0)
 low_place l x = let whole : l - 0 ≡ l = omega arith in rw whole (omega arith)
@@ -240,8 +240,8 @@ high_part_to tile s r right low k x y h some le hr hl i c =
     let row : y / 2 ^ (exponent_down s r - 1) ≡ row_at (precinct_cells tile s r) k = rw one at c.row in
     record {
       place = rw (half_place (s.levels - r) x right, half_place (s.levels - r) y low) at i;
-      cell = record { column = half_cell (exponent_across s r) x right (h.precinct_across r some le) hr ∙ column;
-                      row = half_cell (exponent_down s r) y low (h.precinct_down r some le) hl ∙ row } }
+      cell = record { column = half_cell (exponent_across s r) x right (h.precincts r some le).0 hr ∙ column;
+                      row = half_cell (exponent_down s r) y low (h.precincts r some le).1 hl ∙ row } }
 
 high_part_from : (tile : Rect) (s : CompShape) (r right low k x y : ℕ) → ShapeInRange s → 0 < r → r ≤ s.levels → right ≤ 1 → low ≤ 1
     → InPrecinct tile s r k (2 * x + right) (2 * y + low)
@@ -250,9 +250,9 @@ high_part_from : (tile : Rect) (s : CompShape) (r right low k x y : ℕ) → Sha
 high_part_from tile s r right low k x y h some le hr hl p =
     let one : 1 ≡ min r 1 = omega arith in
     let column : x / 2 ^ (exponent_across s r - 1) ≡ column_at (precinct_cells tile s r) k =
-        sym (half_cell (exponent_across s r) x right (h.precinct_across r some le) hr) ∙ p.cell.column in
+        sym (half_cell (exponent_across s r) x right (h.precincts r some le).0 hr) ∙ p.cell.column in
     let row : y / 2 ^ (exponent_down s r - 1) ≡ row_at (precinct_cells tile s r) k =
-        sym (half_cell (exponent_down s r) y low (h.precinct_down r some le) hl) ∙ p.cell.row in
+        sym (half_cell (exponent_down s r) y low (h.precincts r some le).1 hl) ∙ p.cell.row in
     let P : ℕ → Type 0 = λ n. x / 2 ^ (exponent_across s r - n) ≡ column_at (precinct_cells tile s r) k in
     let Q : ℕ → Type 0 = λ n. y / 2 ^ (exponent_down s r - n) ≡ row_at (precinct_cells tile s r) k in
     (rw (half_place (s.levels - r) x right, half_place (s.levels - r) y low) p.place,

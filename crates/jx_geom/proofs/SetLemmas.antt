@@ -17,26 +17,26 @@ use Rattle.jx_geom.proofs.SpanLemmas.{scaled_to, scaled_from, band_to, band_from
 pub resolution_to : (tile : Rect) (s : CompShape) (r x y : ℕ) → ShapeInRange s → InRect (resolution_rect tile s r) x y → InResolution tile s r x y
 unfolding component_rect resolution_rect
 resolution_to tile s r x y h i = record {
-    across = scaled_to tile.x s.dx (x * 2 ^ (s.levels - r)) h.step_across (scaled_to (scaled tile.x s.dx) (2 ^ (s.levels - r)) x (pow_pos (s.levels - r)) i.across);
-    down = scaled_to tile.y s.dy (y * 2 ^ (s.levels - r)) h.step_down (scaled_to (scaled tile.y s.dy) (2 ^ (s.levels - r)) y (pow_pos (s.levels - r)) i.down) }
+    across = scaled_to tile.x s.dx (x * 2 ^ (s.levels - r)) h.numbers.step_across (scaled_to (scaled tile.x s.dx) (2 ^ (s.levels - r)) x (pow_pos (s.levels - r)) i.across);
+    down = scaled_to tile.y s.dy (y * 2 ^ (s.levels - r)) h.numbers.step_down (scaled_to (scaled tile.y s.dy) (2 ^ (s.levels - r)) y (pow_pos (s.levels - r)) i.down) }
 
 pub resolution_from : (tile : Rect) (s : CompShape) (r x y : ℕ) → ShapeInRange s → InResolution tile s r x y → InRect (resolution_rect tile s r) x y
 unfolding component_rect resolution_rect
 resolution_from tile s r x y h i = record {
-    across = scaled_from (scaled tile.x s.dx) (2 ^ (s.levels - r)) x (pow_pos (s.levels - r)) (scaled_from tile.x s.dx (x * 2 ^ (s.levels - r)) h.step_across i.across);
-    down = scaled_from (scaled tile.y s.dy) (2 ^ (s.levels - r)) y (pow_pos (s.levels - r)) (scaled_from tile.y s.dy (y * 2 ^ (s.levels - r)) h.step_down i.down) }
+    across = scaled_from (scaled tile.x s.dx) (2 ^ (s.levels - r)) x (pow_pos (s.levels - r)) (scaled_from tile.x s.dx (x * 2 ^ (s.levels - r)) h.numbers.step_across i.across);
+    down = scaled_from (scaled tile.y s.dy) (2 ^ (s.levels - r)) y (pow_pos (s.levels - r)) (scaled_from tile.y s.dy (y * 2 ^ (s.levels - r)) h.numbers.step_down i.down) }
 
 pub band_rect_to : (tile : Rect) (s : CompShape) (r : ℕ) (b : Band) (x y : ℕ) → ShapeInRange s → InRect (band_rect tile s r b) x y → InBand tile s r b x y
 unfolding component_rect band_rect
 band_rect_to tile s r b x y h i = record {
-    across = scaled_to tile.x s.dx (x * 2 ^ band_level s r b + off_across b * 2 ^ (band_level s r b - 1)) h.step_across (band_to (scaled tile.x s.dx) (band_level s r b) (off_across b) x i.across);
-    down = scaled_to tile.y s.dy (y * 2 ^ band_level s r b + off_down b * 2 ^ (band_level s r b - 1)) h.step_down (band_to (scaled tile.y s.dy) (band_level s r b) (off_down b) y i.down) }
+    across = scaled_to tile.x s.dx (x * 2 ^ band_level s r b + off_across b * 2 ^ (band_level s r b - 1)) h.numbers.step_across (band_to (scaled tile.x s.dx) (band_level s r b) (off_across b) x i.across);
+    down = scaled_to tile.y s.dy (y * 2 ^ band_level s r b + off_down b * 2 ^ (band_level s r b - 1)) h.numbers.step_down (band_to (scaled tile.y s.dy) (band_level s r b) (off_down b) y i.down) }
 
 pub band_rect_from : (tile : Rect) (s : CompShape) (r : ℕ) (b : Band) (x y : ℕ) → ShapeInRange s → InBand tile s r b x y → InRect (band_rect tile s r b) x y
 unfolding component_rect band_rect
 band_rect_from tile s r b x y h i = record {
-    across = band_from (scaled tile.x s.dx) (band_level s r b) (off_across b) x (scaled_from tile.x s.dx (x * 2 ^ band_level s r b + off_across b * 2 ^ (band_level s r b - 1)) h.step_across i.across);
-    down = band_from (scaled tile.y s.dy) (band_level s r b) (off_down b) y (scaled_from tile.y s.dy (y * 2 ^ band_level s r b + off_down b * 2 ^ (band_level s r b - 1)) h.step_down i.down) }
+    across = band_from (scaled tile.x s.dx) (band_level s r b) (off_across b) x (scaled_from tile.x s.dx (x * 2 ^ band_level s r b + off_across b * 2 ^ (band_level s r b - 1)) h.numbers.step_across i.across);
+    down = band_from (scaled tile.y s.dy) (band_level s r b) (off_down b) y (scaled_from tile.y s.dy (y * 2 ^ band_level s r b + off_down b * 2 ^ (band_level s r b - 1)) h.numbers.step_down i.down) }
 
 -- a rect of cells, over a rect of places
 abbrev pub cells_over : Rect → ℕ → ℕ → Rect

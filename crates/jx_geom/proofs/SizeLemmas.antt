@@ -43,6 +43,6 @@ block_fits tile s r b i h lt =
     record {
       some_across = omega (arith, place.across.from, place.across.below);
       some_down = omega (arith, place.down.from, place.down.below);
-      wide = power_fits s.xcb 10 (length_of (block_rect tile s r b i).x) h.block_wide across';
-      high = power_fits s.ycb 10 (length_of (block_rect tile s r b i).y) h.block_high down';
-      area = area_fits s.xcb s.ycb (length_of (block_rect tile s r b i).x) (length_of (block_rect tile s r b i).y) h.block_size across' down' }
+      wide = power_fits s.xcb 10 (length_of (block_rect tile s r b i).x) h.numbers.block_wide across';
+      high = power_fits s.ycb 10 (length_of (block_rect tile s r b i).y) h.numbers.block_high down';
+      area = area_fits s.xcb s.ycb (length_of (block_rect tile s r b i).x) (length_of (block_rect tile s r b i).y) h.numbers.block_size across' down' }

@@ -23,8 +23,8 @@ exponent_across s r = slice_index s.precincts r % 16
 abbrev pub exponent_down : CompShape → ℕ → ℕ
 exponent_down s r = slice_index s.precincts r / 16
 
--- rules 4, 6 and 8 for a component
-pub record ShapeInRange (s : CompShape) : Type 0 where
+-- rules 4 and 6 for a component
+pub record NumbersInRange (s : CompShape) : Type 0 where
   pub step_across : 0 < s.dx
   pub step_down : 0 < s.dy
   pub levels : s.levels ≤ 32
@@ -33,8 +33,15 @@ pub record ShapeInRange (s : CompShape) : Type 0 where
   pub block_wide : s.xcb ≤ 10
   pub block_high : s.ycb ≤ 10
   pub block_size : s.xcb + s.ycb ≤ 12
-  pub precinct_across : (r : ℕ) → 0 < r → r ≤ s.levels → 0 < exponent_across s r
-  pub precinct_down : (r : ℕ) → 0 < r → r ≤ s.levels → 0 < exponent_down s r
+
+-- rule 8: no exponent above resolution 0 is 0
+abbrev pub PrecinctsInRange : CompShape → Type 0
+PrecinctsInRange s = (r : ℕ) → 0 < r → r ≤ s.levels → (0 < exponent_across s r) × (0 < exponent_down s r)
+
+-- rules 4, 6 and 8 for a component
+pub record ShapeInRange (s : CompShape) : Type 0 where
+  pub numbers : NumbersInRange s
+  pub precincts : PrecinctsInRange s
 
 -- B.5: the bands that a resolution has
 abbrev pub HasBand : ℕ → Band → Type 0

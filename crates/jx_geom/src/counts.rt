@@ -53,7 +53,8 @@ pub fn count_blocks(canvas: &Canvas, tile: u16, comp: &CompShape) -> u128
     requires canvas { CanvasInRange canvas.now }
     requires tile { tile < tile_count canvas.now }
     requires comp { ShapeInRange comp.now }
-    ensures { result ≡ component_blocks (tile_rect canvas.now tile) comp.now }
+    ensures value { result ≡ component_blocks (tile_rect canvas.now tile) comp.now }
+    ensures bound { result < 2 ^ 72 }
 {
     let places = tile_of(canvas, tile);
     let mut total = 0;
@@ -69,7 +70,8 @@ pub fn count_precincts(canvas: &Canvas, tile: u16, comp: &CompShape) -> u128
     requires canvas { CanvasInRange canvas.now }
     requires tile { tile < tile_count canvas.now }
     requires comp { ShapeInRange comp.now }
-    ensures { result ≡ component_precincts (tile_rect canvas.now tile) comp.now }
+    ensures value { result ≡ component_precincts (tile_rect canvas.now tile) comp.now }
+    ensures bound { result < 2 ^ 72 }
 {
     let places = tile_of(canvas, tile);
     let mut total = 0;
