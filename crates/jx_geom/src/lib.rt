@@ -15,3 +15,6 @@ pub use ranges::is_within_limits;
 pub use rects::tiles;
 pub use shape::{Canvas, CompShape};
 pub use tile_geom::TileGeom;
+
+#[cfg(test)]
+mod tests;

@@ -48,6 +48,13 @@ impl TileGeom {
         Ok(TileGeom { canvas: *canvas, tile, places: tile_of(canvas, tile), shapes })
     }
 
+    /// The tile's number.
+    pub fn number(&self) -> u16
+        ensures { result ≡ self.now.tile }
+    {
+        self.tile
+    }
+
     /// How many components the tile has.
     pub fn components(&self) -> usize
         ensures count { result ≡ length self.now.shapes }
