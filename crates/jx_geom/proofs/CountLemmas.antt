@@ -20,11 +20,12 @@ sum_below_next f n = rw add-one
 pub sum_below_grows : (f : ℕ → ℕ) (m n : ℕ) → m ≤ n → sum_below f m ≤ sum_below f n
 sum_below_grows f m zero le = let e : m ≡ 0 = omega arith in rw e (omega arith)
 sum_below_grows f m (suc n) le = elim (cases_eq m (suc n)) [
-    inl same ↦ rw same (omega arith)
+  | inl same ↦ rw same (omega arith)
   | inr other ↦
-        let less : m ≤ n = omega arith in
-        let before : sum_below f m ≤ sum_below f n = sum_below_grows f m n less in
-        omega arith ]
+      let less : m ≤ n = omega arith in
+      let before : sum_below f m ≤ sum_below f n = sum_below_grows f m n less in
+      omega arith
+]
 
 -- and one more term is within it
 pub sum_below_more : (f : ℕ → ℕ) (m n : ℕ) → m < n → sum_below f m + f m ≤ sum_below f n

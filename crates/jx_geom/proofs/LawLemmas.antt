@@ -75,8 +75,9 @@ precinct_some tile s r k h lt =
 cell_of_number : (cells : Rect) (wide high x y : ℕ) → InRect cells (x / 2 ^ wide) (y / 2 ^ high)
     → InCell wide high (column_at cells (number_at cells (x / 2 ^ wide) (y / 2 ^ high))) (row_at cells (number_at cells (x / 2 ^ wide) (y / 2 ^ high))) x y
 cell_of_number cells wide high x y i = record {
-    column = sym (number_column cells (x / 2 ^ wide) (y / 2 ^ high) i);
-    row = sym (number_row cells (x / 2 ^ wide) (y / 2 ^ high) i) }
+  column = sym (number_column cells (x / 2 ^ wide) (y / 2 ^ high) i);
+  row = sym (number_row cells (x / 2 ^ wide) (y / 2 ^ high) i);
+}
 
 -- two numbers whose cells hold one place are one
 one_cell : (cells : Rect) (wide high m n x y : ℕ) → InCell wide high (column_at cells m) (row_at cells m) x y
@@ -92,7 +93,8 @@ place_in_one_block tile s r b x y h i =
       number = number_at (block_cells tile s r b) (x / 2 ^ block_across s r) (y / 2 ^ block_down s r);
       holds = (number_below (block_cells tile s r b) (x / 2 ^ block_across s r) (y / 2 ^ block_down s r) cell, record { place = i; cell = mine });
       only = λ m p. one_cell (block_cells tile s r b) (block_across s r) (block_down s r) m
-        (number_at (block_cells tile s r b) (x / 2 ^ block_across s r) (y / 2 ^ block_down s r)) x y p.1.cell mine }
+          (number_at (block_cells tile s r b) (x / 2 ^ block_across s r) (y / 2 ^ block_down s r)) x y p.1.cell mine;
+    }
 
 pub place_in_one_precinct : (tile : Rect) (s : CompShape) (r x y : ℕ) → ShapeInRange s → InResolution tile s r x y
     → ExactlyOne (λ k. (k < precinct_count tile s r) × InPrecinct tile s r k x y)
@@ -103,7 +105,8 @@ place_in_one_precinct tile s r x y h i =
       number = number_at (precinct_cells tile s r) (x / 2 ^ exponent_across s r) (y / 2 ^ exponent_down s r);
       holds = (number_below (precinct_cells tile s r) (x / 2 ^ exponent_across s r) (y / 2 ^ exponent_down s r) cell, record { place = i; cell = mine });
       only = λ m p. one_cell (precinct_cells tile s r) (exponent_across s r) (exponent_down s r) m
-        (number_at (precinct_cells tile s r) (x / 2 ^ exponent_across s r) (y / 2 ^ exponent_down s r)) x y p.1.cell mine }
+          (number_at (precinct_cells tile s r) (x / 2 ^ exponent_across s r) (y / 2 ^ exponent_down s r)) x y p.1.cell mine;
+    }
 
 pub block_cell_places : (tile : Rect) (s : CompShape) (r : ℕ) (b : Band) (rect : Rect) → ShapeInRange s → rect ≡ block_cells tile s r b → (u v : ℕ)
     → InRect rect u v ↔ HasPlace (λ x y. InBand tile s r b x y × InCell (block_across s r) (block_down s r) u v x y)
@@ -138,8 +141,10 @@ high_cell tile s r right low x y h some le hr hl i =
     let one : min r 1 ≡ 1 = omega arith in
     let place : InResolution tile s r (2 * x + right) (2 * y + low) = rw (half_place (s.levels - r) x right, half_place (s.levels - r) y low) at i in
     precinct_cell_from tile s r (x / 2 ^ part_across s r) (y / 2 ^ part_down s r) (2 * x + right) (2 * y + low) h place
-      (record { column = rw one (half_cell (exponent_across s r) x right (h.precincts r some le).0 hr);
-                row = rw one (half_cell (exponent_down s r) y low (h.precincts r some le).1 hl) })
+    (record {
+      column = rw one (half_cell (exponent_across s r) x right (h.precincts r some le).0 hr);
+      row = rw one (half_cell (exponent_down s r) y low (h.precincts r some le).1 hl);
+    })
 
 low_place : (l x : ℕ) → x * 2 ^ l + 0 * 2 ^ (l - 1) ≡ x * 2 ^ (l - 0)
 low_place l x = let whole : l - 0 ≡ l = omega arith in rw whole (omega arith)
@@ -151,7 +156,7 @@ low_cell tile s x y h i =
     let across : exponent_across s 0 ≡ part_across s 0 = omega arith in
     let down : exponent_down s 0 ≡ part_down s 0 = omega arith in
     precinct_cell_from tile s 0 (x / 2 ^ part_across s 0) (y / 2 ^ part_down s 0) x y h place
-      (record { column = ap (λ n. x / 2 ^ n) across; row = ap (λ n. y / 2 ^ n) down })
+    (record { column = ap (λ n. x / 2 ^ n) across; row = ap (λ n. y / 2 ^ n) down })
 
 pub part_cell : (tile : Rect) (s : CompShape) (r : ℕ) (b : Band) (x y : ℕ) → ShapeInRange s → r ≤ s.levels → HasBand r b
     → InBand tile s r b x y → InRect (precinct_cells tile s r) (x / 2 ^ part_across s r) (y / 2 ^ part_down s r)
@@ -174,9 +179,10 @@ in_part_cell : (s : CompShape) (r u v m n x y : ℕ) → InCell (block_across s 
     → (m ≡ u / 2 ^ (part_across s r - block_across s r)) × (n ≡ v / 2 ^ (part_down s r - block_down s r))
 in_part_cell s r u v m n x y fine coarse =
     let across : block_across s r ≤ part_across s r = omega arith in
-    let down : block_down s r ≤ part_down s r = omega arith in
-    (sym coarse.column ∙ coarser x (block_across s r) (part_across s r) across ∙ ap (λ q. q / 2 ^ (part_across s r - block_across s r)) fine.column,
-     sym coarse.row ∙ coarser y (block_down s r) (part_down s r) down ∙ ap (λ q. q / 2 ^ (part_down s r - block_down s r)) fine.row)
+    let down : block_down s r ≤ part_down s r = omega arith in (
+      sym coarse.column ∙ coarser x (block_across s r) (part_across s r) across ∙ ap (λ q. q / 2 ^ (part_across s r - block_across s r)) fine.column,
+      sym coarse.row ∙ coarser y (block_down s r) (part_down s r) down ∙ ap (λ q. q / 2 ^ (part_down s r - block_down s r)) fine.row,
+    )
 
 -- the precincts whose part has a place of one block's cell are one
 one_part : (tile : Rect) (s : CompShape) (r k m u v x y z w : ℕ) → InCell (block_across s r) (block_down s r) u v x y
@@ -199,7 +205,8 @@ place_in_one_part tile s r b x y h le there i =
       number = number_at (precinct_cells tile s r) (x / 2 ^ part_across s r) (y / 2 ^ part_down s r);
       holds = (number_below (precinct_cells tile s r) (x / 2 ^ part_across s r) (y / 2 ^ part_down s r) cell, record { place = i; cell = mine });
       only = λ m p. one_cell (precinct_cells tile s r) (part_across s r) (part_down s r) m
-        (number_at (precinct_cells tile s r) (x / 2 ^ part_across s r) (y / 2 ^ part_down s r)) x y p.1.cell mine }
+          (number_at (precinct_cells tile s r) (x / 2 ^ part_across s r) (y / 2 ^ part_down s r)) x y p.1.cell mine;
+    }
 
 -- each block of a band lies in one precinct
 pub block_in_one_precinct : (tile : Rect) (s : CompShape) (r : ℕ) (b : Band) (i : ℕ) → ShapeInRange s → r ≤ s.levels → HasBand r b
@@ -210,12 +217,16 @@ block_in_one_precinct tile s r b i h le there lt =
     let home = place_in_one_part tile s r b some.0 some.1 h le there some.2.place in
     record {
       number = home.number;
-      holds = (home.holds.0, precinct_blocks_from tile s r b home.number (column_at (block_cells tile s r b) i) (row_at (block_cells tile s r b) i)
-        some.0 some.1 h home.holds.1 some.2.cell);
+      holds = (
+        home.holds.0,
+        precinct_blocks_from tile s r b home.number (column_at (block_cells tile s r b) i) (row_at (block_cells tile s r b) i)
+            some.0 some.1 h home.holds.1 some.2.cell,
+      );
       only = λ m p.
-        let other = precinct_blocks_to tile s r b m (column_at (block_cells tile s r b) i) (row_at (block_cells tile s r b) i) h p.1 in
-        one_part tile s r home.number m (column_at (block_cells tile s r b) i) (row_at (block_cells tile s r b) i)
-          some.0 some.1 other.0 other.1 some.2.cell other.2.1 home.holds.1.cell other.2.0.cell }
+          let other = precinct_blocks_to tile s r b m (column_at (block_cells tile s r b) i) (row_at (block_cells tile s r b) i) h p.1 in
+          one_part tile s r home.number m (column_at (block_cells tile s r b) i) (row_at (block_cells tile s r b) i)
+          some.0 some.1 other.0 other.1 some.2.cell other.2.1 home.holds.1.cell other.2.0.cell;
+    }
 
 -- whose places are all in it
 pub block_within_precinct : (tile : Rect) (s : CompShape) (r : ℕ) (b : Band) (i k x y : ℕ) → ShapeInRange s
@@ -224,9 +235,9 @@ pub block_within_precinct : (tile : Rect) (s : CompShape) (r : ℕ) (b : Band) (
 block_within_precinct tile s r b i k x y h there p =
     let some = precinct_blocks_to tile s r b k (column_at (block_cells tile s r b) i) (row_at (block_cells tile s r b) i) h there in
     let mine = in_part_cell s r (column_at (block_cells tile s r b) i) (row_at (block_cells tile s r b) i)
-      (column_at (precinct_cells tile s r) k) (row_at (precinct_cells tile s r) k) some.0 some.1 some.2.1 some.2.0.cell in
+    (column_at (precinct_cells tile s r) k) (row_at (precinct_cells tile s r) k) some.0 some.1 some.2.1 some.2.0.cell in
     let here = in_part_cell s r (column_at (block_cells tile s r b) i) (row_at (block_cells tile s r b) i)
-      (x / 2 ^ part_across s r) (y / 2 ^ part_down s r) x y p.cell (record { column = refl; row = refl }) in
+    (x / 2 ^ part_across s r) (y / 2 ^ part_down s r) x y p.cell (record { column = refl; row = refl }) in
     record { place = p.place; cell = record { column = here.0 ∙ sym mine.0; row = here.1 ∙ sym mine.1 } }
 
 -- a place of a band is in a precinct where the place of the resolution that it stands beside is
@@ -240,33 +251,40 @@ high_part_to tile s r right low k x y h some le hr hl i c =
     let row : y / 2 ^ (exponent_down s r - 1) ≡ row_at (precinct_cells tile s r) k = rw one at c.row in
     record {
       place = rw (half_place (s.levels - r) x right, half_place (s.levels - r) y low) at i;
-      cell = record { column = half_cell (exponent_across s r) x right (h.precincts r some le).0 hr ∙ column;
-                      row = half_cell (exponent_down s r) y low (h.precincts r some le).1 hl ∙ row } }
+      cell = record {
+        column = half_cell (exponent_across s r) x right (h.precincts r some le).0 hr ∙ column;
+        row = half_cell (exponent_down s r) y low (h.precincts r some le).1 hl ∙ row;
+      };
+    }
 
 high_part_from : (tile : Rect) (s : CompShape) (r right low k x y : ℕ) → ShapeInRange s → 0 < r → r ≤ s.levels → right ≤ 1 → low ≤ 1
     → InPrecinct tile s r k (2 * x + right) (2 * y + low)
     → InComponent tile s (x * 2 ^ (s.levels - r + 1) + right * 2 ^ (s.levels - r + 1 - 1)) (y * 2 ^ (s.levels - r + 1) + low * 2 ^ (s.levels - r + 1 - 1))
-      × InCell (part_across s r) (part_down s r) (column_at (precinct_cells tile s r) k) (row_at (precinct_cells tile s r) k) x y
+    × InCell (part_across s r) (part_down s r) (column_at (precinct_cells tile s r) k) (row_at (precinct_cells tile s r) k) x y
 high_part_from tile s r right low k x y h some le hr hl p =
     let one : 1 ≡ min r 1 = omega arith in
     let column : x / 2 ^ (exponent_across s r - 1) ≡ column_at (precinct_cells tile s r) k =
-        sym (half_cell (exponent_across s r) x right (h.precincts r some le).0 hr) ∙ p.cell.column in
+    sym (half_cell (exponent_across s r) x right (h.precincts r some le).0 hr) ∙ p.cell.column in
     let row : y / 2 ^ (exponent_down s r - 1) ≡ row_at (precinct_cells tile s r) k =
-        sym (half_cell (exponent_down s r) y low (h.precincts r some le).1 hl) ∙ p.cell.row in
+    sym (half_cell (exponent_down s r) y low (h.precincts r some le).1 hl) ∙ p.cell.row in
     let P : ℕ → Type 0 = λ n. x / 2 ^ (exponent_across s r - n) ≡ column_at (precinct_cells tile s r) k in
-    let Q : ℕ → Type 0 = λ n. y / 2 ^ (exponent_down s r - n) ≡ row_at (precinct_cells tile s r) k in
-    (rw (half_place (s.levels - r) x right, half_place (s.levels - r) y low) p.place,
-     record { column = subst P one column; row = subst Q one row })
+    let Q : ℕ → Type 0 = λ n. y / 2 ^ (exponent_down s r - n) ≡ row_at (precinct_cells tile s r) k in (
+      rw (half_place (s.levels - r) x right, half_place (s.levels - r) y low) p.place,
+      record { column = subst P one column; row = subst Q one row },
+    )
 
 pub part_stands_beside : (tile : Rect) (s : CompShape) (r : ℕ) (b : Band) (k x y : ℕ) → ShapeInRange s → 0 < r → r ≤ s.levels → HasBand r b
     → InPart tile s r b k x y ↔ InPrecinct tile s r k (2 * x + off_across b) (2 * y + off_down b)
 part_stands_beside tile s r LL k x y h some le there = absurd (omega arith)
-part_stands_beside tile s r HL k x y h some le there =
-    (λ p. high_part_to tile s r 1 0 k x y h some le (omega arith) (omega arith) p.place p.cell,
-     λ p. let q = high_part_from tile s r 1 0 k x y h some le (omega arith) (omega arith) p in record { place = q.0; cell = q.1 })
-part_stands_beside tile s r LH k x y h some le there =
-    (λ p. high_part_to tile s r 0 1 k x y h some le (omega arith) (omega arith) p.place p.cell,
-     λ p. let q = high_part_from tile s r 0 1 k x y h some le (omega arith) (omega arith) p in record { place = q.0; cell = q.1 })
-part_stands_beside tile s r HH k x y h some le there =
-    (λ p. high_part_to tile s r 1 1 k x y h some le (omega arith) (omega arith) p.place p.cell,
-     λ p. let q = high_part_from tile s r 1 1 k x y h some le (omega arith) (omega arith) p in record { place = q.0; cell = q.1 })
+part_stands_beside tile s r HL k x y h some le there = (
+  λ p. high_part_to tile s r 1 0 k x y h some le (omega arith) (omega arith) p.place p.cell,
+  λ p. let q = high_part_from tile s r 1 0 k x y h some le (omega arith) (omega arith) p in record { place = q.0; cell = q.1 },
+)
+part_stands_beside tile s r LH k x y h some le there = (
+  λ p. high_part_to tile s r 0 1 k x y h some le (omega arith) (omega arith) p.place p.cell,
+  λ p. let q = high_part_from tile s r 0 1 k x y h some le (omega arith) (omega arith) p in record { place = q.0; cell = q.1 },
+)
+part_stands_beside tile s r HH k x y h some le there = (
+  λ p. high_part_to tile s r 1 1 k x y h some le (omega arith) (omega arith) p.place p.cell,
+  λ p. let q = high_part_from tile s r 1 1 k x y h some le (omega arith) (omega arith) p in record { place = q.0; cell = q.1 },
+)

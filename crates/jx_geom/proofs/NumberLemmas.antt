@@ -58,34 +58,37 @@ later_band : (g : Geometry) (a b : BlockName) → HasBlock g b
     → HasBlock g (record a { comp = b.comp; res = b.res }) → number_in_tile g (record a { comp = b.comp; res = b.res }) < number_in_tile g b
 unfolding number_in_tile
 later_band g a b hb before ha = elim before [
-    inl earlier ↦ omega (arith, band_first (rect_of_tile g) (shape_of g b.comp) b.res a.band b.band a.index b.index ha.band hb.band earlier ha.index)
+  | inl earlier ↦ omega (arith, band_first (rect_of_tile g) (shape_of g b.comp) b.res a.band b.band a.index b.index ha.band hb.band earlier ha.index)
   | inr same ↦
-        let e : blocks_before_band (rect_of_tile g) (shape_of g b.comp) b.res a.band ≡ blocks_before_band (rect_of_tile g) (shape_of g b.comp) b.res b.band
-          = ap (λ n. blocks_before_band (rect_of_tile g) (shape_of g b.comp) b.res n) same.0 in
-        omega (arith, e, same.1) ]
+      let e : blocks_before_band (rect_of_tile g) (shape_of g b.comp) b.res a.band ≡ blocks_before_band (rect_of_tile g) (shape_of g b.comp) b.res b.band
+      = ap (λ n. blocks_before_band (rect_of_tile g) (shape_of g b.comp) b.res n) same.0 in
+      omega (arith, e, same.1)
+]
 
 later_resolution : (g : Geometry) (a b : BlockName) → HasBlock g b
     → (a.res < b.res) ⊎ ((a.res ≡ b.res) × ((band_place a.band < band_place b.band) ⊎ ((a.band ≡ b.band) × (a.index < b.index))))
     → HasBlock g (record a { comp = b.comp }) → number_in_tile g (record a { comp = b.comp }) < number_in_tile g b
 unfolding number_in_tile
 later_resolution g a b hb before ha = elim before [
-    inl earlier ↦ omega (arith, resolution_first (rect_of_tile g) (shape_of g b.comp) a.res b.res a.band b.band a.index b.index earlier ha.band ha.index)
+  | inl earlier ↦ omega (arith, resolution_first (rect_of_tile g) (shape_of g b.comp) a.res b.res a.band b.band a.index b.index earlier ha.band ha.index)
   | inr same ↦
-        let P : ℕ → Type 0 = λ r. HasBlock g (record a { comp = b.comp; res = r })
-          → number_in_tile g (record a { comp = b.comp; res = r }) < number_in_tile g b in
-        subst P (sym same.0) (later_band g a b hb same.1) (record { tile = ha.tile; resolution = ha.resolution; band = ha.band; index = ha.index }) ]
+      let P : ℕ → Type 0 = λ r. HasBlock g (record a { comp = b.comp; res = r })
+      → number_in_tile g (record a { comp = b.comp; res = r }) < number_in_tile g b in
+      subst P (sym same.0) (later_band g a b hb same.1) (record { tile = ha.tile; resolution = ha.resolution; band = ha.band; index = ha.index })
+]
 
 pub number_in_tile_grows : (g : Geometry) (a b : BlockName) → HasBlock g a → HasBlock g b → ComesBefore a b → number_in_tile g a < number_in_tile g b
 unfolding number_in_tile
 number_in_tile_grows g a b ha hb before = elim before [
-    inl earlier ↦
-        let inner = in_component (rect_of_tile g) (shape_of g a.comp) a.res a.band a.index ha.resolution.level ha.band ha.index in
-        let outer = components_grow (component_blocks (rect_of_tile g)) g.shapes a.comp b.comp earlier (omega (arith, hb.resolution.component)) in
-        omega (arith, inner, outer)
+  | inl earlier ↦
+      let inner = in_component (rect_of_tile g) (shape_of g a.comp) a.res a.band a.index ha.resolution.level ha.band ha.index in
+      let outer = components_grow (component_blocks (rect_of_tile g)) g.shapes a.comp b.comp earlier (omega (arith, hb.resolution.component)) in
+      omega (arith, inner, outer)
   | inr same ↦
-        let P : ℕ → Type 0 = λ c. HasBlock g (record a { comp = c }) → number_in_tile g (record a { comp = c }) < number_in_tile g b in
-        let h : HasBlock g (record a { comp = a.comp }) = record { tile = ha.tile; resolution = ha.resolution; band = ha.band; index = ha.index } in
-        subst P (sym same.0) (later_resolution g a b hb same.1) h ]
+      let P : ℕ → Type 0 = λ c. HasBlock g (record a { comp = c }) → number_in_tile g (record a { comp = c }) < number_in_tile g b in
+      let h : HasBlock g (record a { comp = a.comp }) = record { tile = ha.tile; resolution = ha.resolution; band = ha.band; index = ha.index } in
+      subst P (sym same.0) (later_resolution g a b hb same.1) h
+]
 
 -- over the codestream
 pub block_number_below : (c : Canvas) (shapes : ℕ → List CompShape) (n : BlockName) → IsBlock c shapes n → block_number c shapes n < blocks_of_all c shapes
@@ -99,14 +102,15 @@ pub block_number_grows : (c : Canvas) (shapes : ℕ → List CompShape) (a b : B
     → (a.tile < b.tile) ⊎ ((a.tile ≡ b.tile) × ComesBefore a b) → block_number c shapes a < block_number c shapes b
 unfolding block_number
 block_number_grows c shapes a b ha hb before = elim before [
-    inl earlier ↦
-        let inner = number_in_tile_below (geometry_of c shapes a.tile) a ha.1 in
-        let outer = sum_below_more (λ t. tile_blocks (tile_rect c t) (shapes t)) a.tile b.tile earlier in
-        omega (arith, inner, outer)
+  | inl earlier ↦
+      let inner = number_in_tile_below (geometry_of c shapes a.tile) a ha.1 in
+      let outer = sum_below_more (λ t. tile_blocks (tile_rect c t) (shapes t)) a.tile b.tile earlier in
+      omega (arith, inner, outer)
   | inr same ↦
-        let P : ℕ → Type 0 = λ t. HasBlock (geometry_of c shapes t) b in
-        let there : HasBlock (geometry_of c shapes a.tile) b = subst P (sym same.0) hb.1 in
-        let inner = number_in_tile_grows (geometry_of c shapes a.tile) a b ha.1 there same.1 in
-        let e : blocks_below c shapes a.tile + number_in_tile (geometry_of c shapes a.tile) b ≡ blocks_below c shapes b.tile + number_in_tile (geometry_of c shapes b.tile) b
-          = ap (λ t. blocks_below c shapes t + number_in_tile (geometry_of c shapes t) b) same.0 in
-        omega (arith, inner, e) ]
+      let P : ℕ → Type 0 = λ t. HasBlock (geometry_of c shapes t) b in
+      let there : HasBlock (geometry_of c shapes a.tile) b = subst P (sym same.0) hb.1 in
+      let inner = number_in_tile_grows (geometry_of c shapes a.tile) a b ha.1 there same.1 in
+      let e : blocks_below c shapes a.tile + number_in_tile (geometry_of c shapes a.tile) b ≡ blocks_below c shapes b.tile + number_in_tile (geometry_of c shapes b.tile) b
+      = ap (λ t. blocks_below c shapes t + number_in_tile (geometry_of c shapes t) b) same.0 in
+      omega (arith, inner, e)
+]

@@ -9,8 +9,9 @@ use Rattle.jx_base.specs.Places.{InSpan, InRect, length_of, size_of, column_at, 
 
 pub factor_some : (n a b : ℕ) → n < a * b → 0 < a
 factor_some n a b h = elim (cases_lt 0 a) [
-    inl some ↦ some
-  | inr none ↦ let step : a * b ≤ 0 * b = mul-le-mul_right b none in absurd (omega arith) ]
+  | inl some ↦ some
+  | inr none ↦ let step : a * b ≤ 0 * b = mul-le-mul_right b none in absurd (omega arith)
+]
 
 pub row_below : (n wide high : ℕ) → n < wide * high → n / wide < high
 row_below n wide high h =
@@ -23,8 +24,9 @@ column_below n wide high h = let some : 0 < wide = factor_some n wide high h in 
 -- the place of a number below the size
 pub raster_in : (r : Rect) (n : ℕ) → n < size_of r → InRect r (column_at r n) (row_at r n)
 raster_in r n h = record {
-    across = record { from = omega arith; below = omega (arith, column_below n (length_of r.x) (length_of r.y) h) };
-    down = record { from = omega arith; below = omega (arith, row_below n (length_of r.x) (length_of r.y) h) } }
+  across = record { from = omega arith; below = omega (arith, column_below n (length_of r.x) (length_of r.y) h) };
+  down = record { from = omega arith; below = omega (arith, row_below n (length_of r.x) (length_of r.y) h) };
+}
 
 -- the number of a place
 abbrev pub number_at : Rect → ℕ → ℕ → ℕ

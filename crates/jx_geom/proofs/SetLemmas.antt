@@ -17,26 +17,30 @@ use Rattle.jx_geom.proofs.SpanLemmas.{scaled_to, scaled_from, band_to, band_from
 pub resolution_to : (tile : Rect) (s : CompShape) (r x y : ℕ) → ShapeInRange s → InRect (resolution_rect tile s r) x y → InResolution tile s r x y
 unfolding component_rect resolution_rect
 resolution_to tile s r x y h i = record {
-    across = scaled_to tile.x s.dx (x * 2 ^ (s.levels - r)) h.numbers.step_across (scaled_to (scaled tile.x s.dx) (2 ^ (s.levels - r)) x (pow_pos (s.levels - r)) i.across);
-    down = scaled_to tile.y s.dy (y * 2 ^ (s.levels - r)) h.numbers.step_down (scaled_to (scaled tile.y s.dy) (2 ^ (s.levels - r)) y (pow_pos (s.levels - r)) i.down) }
+  across = scaled_to tile.x s.dx (x * 2 ^ (s.levels - r)) h.numbers.step_across (scaled_to (scaled tile.x s.dx) (2 ^ (s.levels - r)) x (pow_pos (s.levels - r)) i.across);
+  down = scaled_to tile.y s.dy (y * 2 ^ (s.levels - r)) h.numbers.step_down (scaled_to (scaled tile.y s.dy) (2 ^ (s.levels - r)) y (pow_pos (s.levels - r)) i.down);
+}
 
 pub resolution_from : (tile : Rect) (s : CompShape) (r x y : ℕ) → ShapeInRange s → InResolution tile s r x y → InRect (resolution_rect tile s r) x y
 unfolding component_rect resolution_rect
 resolution_from tile s r x y h i = record {
-    across = scaled_from (scaled tile.x s.dx) (2 ^ (s.levels - r)) x (pow_pos (s.levels - r)) (scaled_from tile.x s.dx (x * 2 ^ (s.levels - r)) h.numbers.step_across i.across);
-    down = scaled_from (scaled tile.y s.dy) (2 ^ (s.levels - r)) y (pow_pos (s.levels - r)) (scaled_from tile.y s.dy (y * 2 ^ (s.levels - r)) h.numbers.step_down i.down) }
+  across = scaled_from (scaled tile.x s.dx) (2 ^ (s.levels - r)) x (pow_pos (s.levels - r)) (scaled_from tile.x s.dx (x * 2 ^ (s.levels - r)) h.numbers.step_across i.across);
+  down = scaled_from (scaled tile.y s.dy) (2 ^ (s.levels - r)) y (pow_pos (s.levels - r)) (scaled_from tile.y s.dy (y * 2 ^ (s.levels - r)) h.numbers.step_down i.down);
+}
 
 pub band_rect_to : (tile : Rect) (s : CompShape) (r : ℕ) (b : Band) (x y : ℕ) → ShapeInRange s → InRect (band_rect tile s r b) x y → InBand tile s r b x y
 unfolding component_rect band_rect
 band_rect_to tile s r b x y h i = record {
-    across = scaled_to tile.x s.dx (x * 2 ^ band_level s r b + off_across b * 2 ^ (band_level s r b - 1)) h.numbers.step_across (band_to (scaled tile.x s.dx) (band_level s r b) (off_across b) x i.across);
-    down = scaled_to tile.y s.dy (y * 2 ^ band_level s r b + off_down b * 2 ^ (band_level s r b - 1)) h.numbers.step_down (band_to (scaled tile.y s.dy) (band_level s r b) (off_down b) y i.down) }
+  across = scaled_to tile.x s.dx (x * 2 ^ band_level s r b + off_across b * 2 ^ (band_level s r b - 1)) h.numbers.step_across (band_to (scaled tile.x s.dx) (band_level s r b) (off_across b) x i.across);
+  down = scaled_to tile.y s.dy (y * 2 ^ band_level s r b + off_down b * 2 ^ (band_level s r b - 1)) h.numbers.step_down (band_to (scaled tile.y s.dy) (band_level s r b) (off_down b) y i.down);
+}
 
 pub band_rect_from : (tile : Rect) (s : CompShape) (r : ℕ) (b : Band) (x y : ℕ) → ShapeInRange s → InBand tile s r b x y → InRect (band_rect tile s r b) x y
 unfolding component_rect band_rect
 band_rect_from tile s r b x y h i = record {
-    across = band_from (scaled tile.x s.dx) (band_level s r b) (off_across b) x (scaled_from tile.x s.dx (x * 2 ^ band_level s r b + off_across b * 2 ^ (band_level s r b - 1)) h.numbers.step_across i.across);
-    down = band_from (scaled tile.y s.dy) (band_level s r b) (off_down b) y (scaled_from tile.y s.dy (y * 2 ^ band_level s r b + off_down b * 2 ^ (band_level s r b - 1)) h.numbers.step_down i.down) }
+  across = band_from (scaled tile.x s.dx) (band_level s r b) (off_across b) x (scaled_from tile.x s.dx (x * 2 ^ band_level s r b + off_across b * 2 ^ (band_level s r b - 1)) h.numbers.step_across i.across);
+  down = band_from (scaled tile.y s.dy) (band_level s r b) (off_down b) y (scaled_from tile.y s.dy (y * 2 ^ band_level s r b + off_down b * 2 ^ (band_level s r b - 1)) h.numbers.step_down i.down);
+}
 
 -- a rect of cells, over a rect of places
 abbrev pub cells_over : Rect → ℕ → ℕ → Rect
@@ -44,16 +48,19 @@ cells_over places wide high = record { x = cells places.x (2 ^ wide); y = cells 
 
 pub cell_of_place : (places : Rect) (wide high x y : ℕ) → InRect places x y → InRect (cells_over places wide high) (x / 2 ^ wide) (y / 2 ^ high)
 cell_of_place places wide high x y i = record {
-    across = cells_from places.x (2 ^ wide) x (pow_pos wide) i.across;
-    down = cells_from places.y (2 ^ high) y (pow_pos high) i.down }
+  across = cells_from places.x (2 ^ wide) x (pow_pos wide) i.across;
+  down = cells_from places.y (2 ^ high) y (pow_pos high) i.down;
+}
 
 pub place_of_cell : (places : Rect) (wide high u v : ℕ) → InRect (cells_over places wide high) u v
     → HasPlace (λ x y. InRect places x y × InCell wide high u v x y)
 place_of_cell places wide high u v i =
     let across = cells_to_place places.x (2 ^ wide) u (pow_pos wide) i.across in
-    let down = cells_to_place places.y (2 ^ high) v (pow_pos high) i.down in
-    (cell_place places.x (2 ^ wide) u, cell_place places.y (2 ^ high) v,
-      (record { across = across.0; down = down.0 }, record { column = across.1; row = down.1 }))
+    let down = cells_to_place places.y (2 ^ high) v (pow_pos high) i.down in (
+      cell_place places.x (2 ^ wide) u,
+      cell_place places.y (2 ^ high) v,
+      (record { across = across.0; down = down.0 }, record { column = across.1; row = down.1 }),
+    )
 
 -- the part of a rect of places in one cell
 abbrev pub part_over : Rect → ℕ → ℕ → ℕ → ℕ → Rect
@@ -67,8 +74,9 @@ part_to places wide high u v x y i =
 
 pub part_from : (places : Rect) (wide high u v x y : ℕ) → InRect places x y → InCell wide high u v x y → InRect (part_over places wide high u v) x y
 part_from places wide high u v x y i c = record {
-    across = cut_from places.x (2 ^ wide) u x (pow_pos wide) i.across c.column;
-    down = cut_from places.y (2 ^ high) v y (pow_pos high) i.down c.row }
+  across = cut_from places.x (2 ^ wide) u x (pow_pos wide) i.across c.column;
+  down = cut_from places.y (2 ^ high) v y (pow_pos high) i.down c.row;
+}
 
 pub block_rect_to : (tile : Rect) (s : CompShape) (r : ℕ) (b : Band) (i x y : ℕ) → ShapeInRange s → InRect (block_rect tile s r b i) x y → InBlock tile s r b i x y
 unfolding block_rect

@@ -33,9 +33,9 @@ block_fits tile s r b i h lt =
     let some = block_some tile s r b i h lt in
     let place = block_rect_from tile s r b i some.0 some.1 h some.2 in
     let across : length_of (block_rect tile s r b i).x ≤ 2 ^ block_across s r =
-        cut_length (band_rect tile s r b).x (2 ^ block_across s r) (column_at (block_cells tile s r b) i) in
+    cut_length (band_rect tile s r b).x (2 ^ block_across s r) (column_at (block_cells tile s r b) i) in
     let down : length_of (block_rect tile s r b i).y ≤ 2 ^ block_down s r =
-        cut_length (band_rect tile s r b).y (2 ^ block_down s r) (row_at (block_cells tile s r b) i) in
+    cut_length (band_rect tile s r b).y (2 ^ block_down s r) (row_at (block_cells tile s r b) i) in
     let wide : block_across s r ≤ s.xcb = omega arith in
     let high : block_down s r ≤ s.ycb = omega arith in
     let across' : length_of (block_rect tile s r b i).x ≤ 2 ^ s.xcb = power_fits (block_across s r) s.xcb (length_of (block_rect tile s r b i).x) wide across in
@@ -45,4 +45,5 @@ block_fits tile s r b i h lt =
       some_down = omega (arith, place.down.from, place.down.below);
       wide = power_fits s.xcb 10 (length_of (block_rect tile s r b i).x) h.numbers.block_wide across';
       high = power_fits s.ycb 10 (length_of (block_rect tile s r b i).y) h.numbers.block_high down';
-      area = area_fits s.xcb s.ycb (length_of (block_rect tile s r b i).x) (length_of (block_rect tile s r b i).y) h.numbers.block_size across' down' }
+      area = area_fits s.xcb s.ycb (length_of (block_rect tile s r b i).x) (length_of (block_rect tile s r b i).y) h.numbers.block_size across' down';
+    }

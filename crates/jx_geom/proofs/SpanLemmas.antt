@@ -48,8 +48,10 @@ band_from s level off x i =
     let below : x * 2 ^ level + off * 2 ^ (level - 1) < s.high = i.below in
     let low : s.low - off * 2 ^ (level - 1) ≤ x * 2 ^ level = omega arith in
     let high : x * 2 ^ level < s.high - off * 2 ^ (level - 1) = omega arith in
-    record { from = ceil_least (s.low - off * 2 ^ (level - 1)) (2 ^ level) x (pow_pos level) low;
-             below = ceil_above (s.high - off * 2 ^ (level - 1)) (2 ^ level) x (pow_pos level) high }
+    record {
+      from = ceil_least (s.low - off * 2 ^ (level - 1)) (2 ^ level) x (pow_pos level) low;
+      below = ceil_above (s.high - off * 2 ^ (level - 1)) (2 ^ level) x (pow_pos level) high;
+    }
 
 pub div_grows : (m n k : ℕ) → 0 < k → m ≤ n → m / k ≤ n / k
 div_grows m n k h le =
@@ -125,11 +127,12 @@ cells_to_some s size u h some from below =
 
 pub cells_to_place : (s : Span) (size u : ℕ) → 0 < size → InSpan (cells s size) u → InSpan s (cell_place s size u) × (cell_place s size u / size ≡ u)
 cells_to_place s size u h i = elim (cases_lt s.low s.high) [
-    inl some ↦ cells_to_some s size u h some (rw (cells_low s size) at i.from) (rw (cells_high s size some) at i.below)
+  | inl some ↦ cells_to_some s size u h some (rw (cells_low s size) at i.from) (rw (cells_high s size some) at i.below)
   | inr none ↦
-        let from : s.low / size ≤ u = rw (cells_low s size) at i.from in
-        let below : u < s.low / size = rw (cells_high_none s size none) at i.below in
-        absurd (omega arith) ]
+      let from : s.low / size ≤ u = rw (cells_low s size) at i.from in
+      let below : u < s.low / size = rw (cells_high_none s size none) at i.below in
+      absurd (omega arith)
+]
 
 -- a cell of a span begins below its end
 pub cells_times : (s : Span) (size u : ℕ) → 0 < size → InSpan (cells s size) u → u * size < s.high
@@ -155,7 +158,7 @@ pub twice_scaled_times : (s : Span) (first second size u : ℕ) → 0 < first �
     → InSpan (cells (scaled (scaled s first) second) size) u → u * size * second * first < s.high
 twice_scaled_times s first second size u hf hs hc i =
     scaled_times s first (u * size * second) hf
-        (scaled_times (scaled s first) second (u * size) hs (cells_times (scaled (scaled s first) second) size u hc i))
+    (scaled_times (scaled s first) second (u * size) hs (cells_times (scaled (scaled s first) second) size u hc i))
 
 pub grows_by : (a b : ℕ) → 0 < b → a ≤ a * b
 grows_by a b h = let step : a * 1 ≤ a * b = mul-le-mul_left a h in omega arith
@@ -202,17 +205,18 @@ pub reference_latest : (s : Span) (first second size u : ℕ) → 0 < first → 
     → InSpan (cells (scaled (scaled s first) second) size) u
     → reference_of s.low (scaled (scaled s first) second).low size (second * first) u ≡ max s.low (u * (size * (second * first)))
 reference_latest s first second size u hf hs hc i = elim (cases_lt (u * size) (scaled (scaled s first) second).low) [
-    inl lt ↦
-        let from : (scaled (scaled s first) second).low / size ≤ u = rw (cells_low (scaled (scaled s first) second) size) at i.from in
-        let mine = first_cell (scaled (scaled s first) second).low size u hc from lt in
-        let e : reference_of s.low (scaled (scaled s first) second).low size (second * first) u ≡ s.low =
-            reference_early s.low (scaled (scaled s first) second).low size (second * first) u mine.0 mine.1 in
-        let below : u * size * second * first < s.low = scaled_low_below s first (u * size * second) hf (scaled_low_below (scaled s first) second (u * size) hs lt) in
-        let most : s.low ≡ max s.low (u * (size * (second * first))) = omega arith in
-        e ∙ most
+  | inl lt ↦
+      let from : (scaled (scaled s first) second).low / size ≤ u = rw (cells_low (scaled (scaled s first) second) size) at i.from in
+      let mine = first_cell (scaled (scaled s first) second).low size u hc from lt in
+      let e : reference_of s.low (scaled (scaled s first) second).low size (second * first) u ≡ s.low =
+      reference_early s.low (scaled (scaled s first) second).low size (second * first) u mine.0 mine.1 in
+      let below : u * size * second * first < s.low = scaled_low_below s first (u * size * second) hf (scaled_low_below (scaled s first) second (u * size) hs lt) in
+      let most : s.low ≡ max s.low (u * (size * (second * first))) = omega arith in
+      e ∙ most
   | inr ge ↦
-        let e : reference_of s.low (scaled (scaled s first) second).low size (second * first) u ≡ u * (size * (second * first)) =
-            reference_late s.low (scaled (scaled s first) second).low size (second * first) u (later_cell (scaled (scaled s first) second).low size u ge) in
-        let above : s.low ≤ u * size * second * first = scaled_low_to s first (u * size * second) hf (scaled_low_to (scaled s first) second (u * size) hs ge) in
-        let most : u * (size * (second * first)) ≡ max s.low (u * (size * (second * first))) = omega arith in
-        e ∙ most ]
+      let e : reference_of s.low (scaled (scaled s first) second).low size (second * first) u ≡ u * (size * (second * first)) =
+      reference_late s.low (scaled (scaled s first) second).low size (second * first) u (later_cell (scaled (scaled s first) second).low size u ge) in
+      let above : s.low ≤ u * size * second * first = scaled_low_to s first (u * size * second) hf (scaled_low_to (scaled s first) second (u * size) hs ge) in
+      let most : u * (size * (second * first)) ≡ max s.low (u * (size * (second * first))) = omega arith in
+      e ∙ most
+]

@@ -46,8 +46,9 @@ tile_to c t x y h i =
 pub tile_from : (c : Canvas) (t x y : ℕ) → CanvasInRange c → InTile c t x y → InRect (tile_rect c t) x y
 unfolding tile_rect
 tile_from c t x y h i = record {
-    across = tile_span_from c.x0 c.x1 c.tx c.tw (t % tiles_across c) x h.wide h.offset_across i.place.across i.column;
-    down = tile_span_from c.y0 c.y1 c.ty c.th (t / tiles_across c) y h.high h.offset_down i.place.down i.row }
+  across = tile_span_from c.x0 c.x1 c.tx c.tw (t % tiles_across c) x h.wide h.offset_across i.place.across i.column;
+  down = tile_span_from c.y0 c.y1 c.ty c.th (t / tiles_across c) y h.high h.offset_down i.place.down i.row;
+}
 
 pub tile_rect_places : (c : Canvas) (t : ℕ) (rect : Rect) → CanvasInRange c → rect ≡ tile_rect c t → (x y : ℕ) → InRect rect x y ↔ InTile c t x y
 tile_rect_places c t rect h e x y = (λ i. tile_to c t x y h (rw e at i), λ i. rw e (tile_from c t x y h i))
@@ -58,19 +59,22 @@ tile_corner : (c : Canvas) (t : ℕ) → TileSpanFits c.x0 c.x1 (tile_span c.x0 
     → InRect (tile_rect c t) (tile_span c.x0 c.x1 c.tx c.tw (t % tiles_across c)).low (tile_span c.y0 c.y1 c.ty c.th (t / tiles_across c)).low
 unfolding tile_rect
 tile_corner c t column row = record {
-    across = record { from = omega arith; below = column.some };
-    down = record { from = omega arith; below = row.some } }
+  across = record { from = omega arith; below = column.some };
+  down = record { from = omega arith; below = row.some };
+}
 
 -- no tile that is counted is empty
 pub tile_some : (c : Canvas) (t : ℕ) → CanvasInRange c → t < tile_count c → HasPlace (InTile c t)
 tile_some c t h lt =
     let column = tile_span_fits c.x0 c.x1 c.tx c.tw (t % tiles_across c) h.wide h.offset_across h.some_across h.first_across
-      (column_below t (tiles_across c) (tiles_down c) lt) in
+    (column_below t (tiles_across c) (tiles_down c) lt) in
     let row = tile_span_fits c.y0 c.y1 c.ty c.th (t / tiles_across c) h.high h.offset_down h.some_down h.first_down
-      (row_below t (tiles_across c) (tiles_down c) lt) in
-    ((tile_span c.x0 c.x1 c.tx c.tw (t % tiles_across c)).low, (tile_span c.y0 c.y1 c.ty c.th (t / tiles_across c)).low,
+    (row_below t (tiles_across c) (tiles_down c) lt) in (
+      (tile_span c.x0 c.x1 c.tx c.tw (t % tiles_across c)).low,
+      (tile_span c.y0 c.y1 c.ty c.th (t / tiles_across c)).low,
       tile_to c t (tile_span c.x0 c.x1 c.tx c.tw (t % tiles_across c)).low (tile_span c.y0 c.y1 c.ty c.th (t / tiles_across c)).low h
-        (tile_corner c t column row))
+          (tile_corner c t column row),
+    )
 
 -- each place of the picture lies in one tile
 along : (start end offset size x : ℕ) → 0 < size → offset ≤ start → InSpan (span_of start end) x → (x - offset) / size < tiles_along end offset size
@@ -88,7 +92,10 @@ place_in_one_tile c x y h i =
     let rest = mod-mul-add ((y - c.ty) / c.th) (tiles_across c) ((x - c.tx) / c.tw) column in
     record {
       number = (y - c.ty) / c.th * tiles_across c + (x - c.tx) / c.tw;
-      holds = (in_rows ((y - c.ty) / c.th) ((x - c.tx) / c.tw) (tiles_across c) (tiles_down c) row column,
-        record { place = i; column = sym rest; row = sym quotient });
+      holds = (
+        in_rows ((y - c.ty) / c.th) ((x - c.tx) / c.tw) (tiles_across c) (tiles_down c) row column,
+        record { place = i; column = sym rest; row = sym quotient },
+      );
       only = λ m p. same_number m ((y - c.ty) / c.th * tiles_across c + (x - c.tx) / c.tw) (tiles_across c)
-        (sym p.1.column ∙ sym rest) (sym p.1.row ∙ sym quotient) }
+          (sym p.1.column ∙ sym rest) (sym p.1.row ∙ sym quotient);
+    }

@@ -22,7 +22,7 @@ band_place HH = 3
 abbrev pub ComesBefore : BlockName → BlockName → Type 0
 ComesBefore a b =
     (a.comp < b.comp) ⊎ ((a.comp ≡ b.comp) × ((a.res < b.res) ⊎ ((a.res ≡ b.res)
-      × ((band_place a.band < band_place b.band) ⊎ ((a.band ≡ b.band) × (a.index < b.index))))))
+    × ((band_place a.band < band_place b.band) ⊎ ((a.band ≡ b.band) × (a.index < b.index))))))
 
 -- the blocks of a component before one of its blocks
 abbrev pub number_in_component : Rect → CompShape → ℕ → Band → ℕ → ℕ
@@ -32,7 +32,7 @@ number_in_component tile s r b i = sum_below (resolution_blocks tile s) r + (blo
 unfoldable pub number_in_tile : Geometry → BlockName → ℕ
 number_in_tile g n =
     tile_blocks (rect_of_tile g) (take n.comp g.shapes)
-      + number_in_component (rect_of_tile g) (shape_of g n.comp) n.res n.band n.index
+    + number_in_component (rect_of_tile g) (shape_of g n.comp) n.res n.band n.index
 
 -- a tile's geometry, where each tile has components of its own shapes
 abbrev pub geometry_of : Canvas → (ℕ → List CompShape) → ℕ → Geometry

@@ -52,7 +52,7 @@ band_level s r HH = s.levels - r + 1
 unfoldable pub band_rect : Rect → CompShape → ℕ → Band → Rect
 band_rect tile s r b =
     rect_of (band_span (component_rect tile s).x (band_level s r b) (off_across b))
-            (band_span (component_rect tile s).y (band_level s r b) (off_down b))
+    (band_span (component_rect tile s).y (band_level s r b) (off_down b))
 
 -- B.6: the precincts of a resolution, as cells of 2 ^ PPx by 2 ^ PPy places
 unfoldable pub precinct_cells : Rect → CompShape → ℕ → Rect
@@ -82,7 +82,7 @@ block_cells tile s r b =
 unfoldable pub precinct_part : Rect → CompShape → ℕ → Band → ℕ → Rect
 precinct_part tile s r b k =
     rect_of (cut (band_rect tile s r b).x (2 ^ part_across s r) (column_at (precinct_cells tile s r) k))
-            (cut (band_rect tile s r b).y (2 ^ part_down s r) (row_at (precinct_cells tile s r) k))
+    (cut (band_rect tile s r b).y (2 ^ part_down s r) (row_at (precinct_cells tile s r) k))
 
 -- B.7: its code-blocks, as cells
 unfoldable pub precinct_blocks : Rect → CompShape → ℕ → Band → ℕ → Rect
@@ -93,7 +93,7 @@ precinct_blocks tile s r b k =
 unfoldable pub block_rect : Rect → CompShape → ℕ → Band → ℕ → Rect
 block_rect tile s r b i =
     rect_of (cut (band_rect tile s r b).x (2 ^ block_across s r) (column_at (block_cells tile s r b) i))
-            (cut (band_rect tile s r b).y (2 ^ block_down s r) (row_at (block_cells tile s r b) i))
+    (cut (band_rect tile s r b).y (2 ^ block_down s r) (row_at (block_cells tile s r b) i))
 
 -- B.12.1.3: where a precinct column and a precinct row stand on the reference grid
 unfoldable pub precinct_column_point : Rect → CompShape → ℕ → ℕ → ℕ

@@ -30,7 +30,7 @@ InResolution tile s r x y = InComponent tile s (x * 2 ^ (s.levels - r)) (y * 2 ^
 abbrev pub InBand : Rect → CompShape → ℕ → Band → ℕ → ℕ → Type 0
 InBand tile s r b x y =
     InComponent tile s (x * 2 ^ band_level s r b + off_across b * 2 ^ (band_level s r b - 1))
-                       (y * 2 ^ band_level s r b + off_down b * 2 ^ (band_level s r b - 1))
+    (y * 2 ^ band_level s r b + off_down b * 2 ^ (band_level s r b - 1))
 
 -- the place is in the cell of column u and row v, of cells of 2 ^ wide by 2 ^ high places anchored at 0
 pub record InCell (wide high u v x y : ℕ) : Type 0 where

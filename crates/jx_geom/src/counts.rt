@@ -3,7 +3,12 @@
 ghost use Rattle.std.specs.Prelude.{◌≡◌, ◌≤◌, ◌<◌, ◌+◌, ◌*◌, ◌^◌};
 ghost use Rattle.jx_base.specs.Places.{size_of};
 ghost use Rattle.jx_geom.specs.Counts.{
-    tile_count, precinct_count, block_count, resolution_blocks, component_blocks, component_precincts,
+  tile_count,
+  precinct_count,
+  block_count,
+  resolution_blocks,
+  component_blocks,
+  component_precincts,
 };
 ghost use Rattle.jx_geom.specs.Ranges.{CanvasInRange, ShapeInRange, HasBand};
 ghost use Rattle.jx_geom.specs.Rects.{tile_rect};

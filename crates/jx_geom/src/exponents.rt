@@ -23,7 +23,10 @@ pub(crate) fn of_precinct(shape: &CompShape, res: u8) -> Exponents
     ensures high { result.down < 16 }
 {
     let byte = shape.precincts[usize::from(res)];
-    Exponents { across: u32::from(byte % 16), down: u32::from(byte / 16) }
+    Exponents {
+        across: u32::from(byte % 16),
+        down: u32::from(byte / 16),
+    }
 }
 
 /// Those of a precinct in a band: half the size above resolution 0.
@@ -37,7 +40,10 @@ pub(crate) fn of_part(shape: &CompShape, res: u8) -> Exponents
 {
     let whole = of_precinct(shape, res);
     let halvings = u32::from(res.min(1));
-    Exponents { across: whole.across.saturating_sub(halvings), down: whole.down.saturating_sub(halvings) }
+    Exponents {
+        across: whole.across.saturating_sub(halvings),
+        down: whole.down.saturating_sub(halvings),
+    }
 }
 
 /// Those of a code-block: at most those of a precinct in a band.
@@ -50,5 +56,8 @@ pub(crate) fn of_block(shape: &CompShape, res: u8) -> Exponents
     ensures high { result.down < 16 }
 {
     let part = of_part(shape, res);
-    Exponents { across: part.across.min(u32::from(shape.xcb)), down: part.down.min(u32::from(shape.ycb)) }
+    Exponents {
+        across: part.across.min(u32::from(shape.xcb)),
+        down: part.down.min(u32::from(shape.ycb)),
+    }
 }

@@ -5,8 +5,22 @@ ghost use Rattle.jx_base.specs.Places.{InSpan, column_at, row_at, size_of};
 ghost use Rattle.jx_geom.specs.Counts.{tile_count, precinct_count, block_count};
 ghost use Rattle.jx_geom.specs.Ranges.{CanvasInRange, ShapeInRange, HasBand};
 ghost use Rattle.jx_geom.specs.Rects.{
-    tiles_across, tiles_down, tile_rect, component_rect, resolution_rect, band_rect, off_across, off_down, band_level,
-    precinct_cells, block_cells, precinct_part, precinct_blocks, block_rect, precinct_column_point, precinct_row_point,
+  tiles_across,
+  tiles_down,
+  tile_rect,
+  component_rect,
+  resolution_rect,
+  band_rect,
+  off_across,
+  off_down,
+  band_level,
+  precinct_cells,
+  block_cells,
+  precinct_part,
+  precinct_blocks,
+  block_rect,
+  precinct_column_point,
+  precinct_row_point,
 };
 
 use crate::exponents::{of_block, of_part, of_precinct};
@@ -60,7 +74,10 @@ pub(crate) fn component_of(tile: Rect, shape: &CompShape) -> Rect
     requires { ShapeInRange shape.now }
     ensures { result ≡ component_rect tile shape.now }
 {
-    Rect { x: every(tile.x, u64::from(shape.dx)), y: every(tile.y, u64::from(shape.dy)) }
+    Rect {
+        x: every(tile.x, u64::from(shape.dx)),
+        y: every(tile.y, u64::from(shape.dy)),
+    }
 }
 
 /// A resolution's places.
@@ -72,7 +89,10 @@ pub(crate) fn resolution_of(tile: Rect, shape: &CompShape, res: u8) -> Rect
 {
     let comp = component_of(tile, shape);
     let step = 1u64 << u32::from(shape.levels - res);
-    Rect { x: every(comp.x, step), y: every(comp.y, step) }
+    Rect {
+        x: every(comp.x, step),
+        y: every(comp.y, step),
+    }
 }
 
 /// Whether a band is the high one across, and down; its level.
@@ -113,7 +133,10 @@ pub(crate) fn band_of(tile: Rect, shape: &CompShape, res: u8, band: Band) -> Rec
     let comp = component_of(tile, shape);
     let level = level_of(shape, res, band);
     let (right, low) = offsets(band);
-    Rect { x: one_band(comp.x, level, right), y: one_band(comp.y, level, low) }
+    Rect {
+        x: one_band(comp.x, level, right),
+        y: one_band(comp.y, level, low),
+    }
 }
 
 /// The precincts of a resolution, as cells.
@@ -125,7 +148,10 @@ pub(crate) fn precincts_of(tile: Rect, shape: &CompShape, res: u8) -> Rect
 {
     let places = resolution_of(tile, shape, res);
     let size = of_precinct(shape, res);
-    Rect { x: cells_of(places.x, size.across), y: cells_of(places.y, size.down) }
+    Rect {
+        x: cells_of(places.x, size.across),
+        y: cells_of(places.y, size.down),
+    }
 }
 
 /// The blocks of a band, as cells.
@@ -138,7 +164,10 @@ pub(crate) fn blocks_of(tile: Rect, shape: &CompShape, res: u8, band: Band) -> R
 {
     let places = band_of(tile, shape, res, band);
     let size = of_block(shape, res);
-    Rect { x: cells_of(places.x, size.across), y: cells_of(places.y, size.down) }
+    Rect {
+        x: cells_of(places.x, size.across),
+        y: cells_of(places.y, size.down),
+    }
 }
 
 /// The column of the cell of a number among the cells of a rect, row by row.
@@ -175,7 +204,10 @@ pub(crate) fn block_of(tile: Rect, shape: &CompShape, res: u8, band: Band, index
     let size = of_block(shape, res);
     let column = column_of(cells, index);
     let row = row_of(cells, index);
-    Rect { x: part_of(places.x, size.across, column), y: part_of(places.y, size.down, row) }
+    Rect {
+        x: part_of(places.x, size.across, column),
+        y: part_of(places.y, size.down, row),
+    }
 }
 
 /// The part of a band that lies in a precinct.
@@ -192,12 +224,21 @@ fn precinct_part_of(tile: Rect, shape: &CompShape, res: u8, band: Band, precinct
     let size = of_part(shape, res);
     let column = column_of(cells, precinct);
     let row = row_of(cells, precinct);
-    Rect { x: part_of(places.x, size.across, column), y: part_of(places.y, size.down, row) }
+    Rect {
+        x: part_of(places.x, size.across, column),
+        y: part_of(places.y, size.down, row),
+    }
 }
 
 /// The blocks of a precinct in a band, as cells.
 #[tactic(auto, unfolding(crate::specs::Rects::precinct_blocks))]
-pub(crate) fn precinct_blocks_of(tile: Rect, shape: &CompShape, res: u8, band: Band, precinct: u32) -> Rect
+pub(crate) fn precinct_blocks_of(
+    tile: Rect,
+    shape: &CompShape,
+    res: u8,
+    band: Band,
+    precinct: u32,
+) -> Rect
     requires shape { ShapeInRange shape.now }
     requires res { res ≤ shape.now.levels }
     requires band { HasBand res band }
@@ -206,7 +247,10 @@ pub(crate) fn precinct_blocks_of(tile: Rect, shape: &CompShape, res: u8, band: B
 {
     let places = precinct_part_of(tile, shape, res, band, precinct);
     let size = of_block(shape, res);
-    Rect { x: cells_of(places.x, size.across), y: cells_of(places.y, size.down) }
+    Rect {
+        x: cells_of(places.x, size.across),
+        y: cells_of(places.y, size.down),
+    }
 }
 
 /// How many columns and rows of the reference grid lie from one place of a resolution to the next.
@@ -222,7 +266,12 @@ fn steps_of(shape: &CompShape, res: u8) -> (u64, u64)
 
 /// Where a precinct stands on the reference grid.
 #[tactic(auto, using(crate::proofs::RectLemmas::precinct_column_fits, crate::proofs::RectLemmas::precinct_row_fits, crate::proofs::RectLemmas::precinct_column_low, crate::proofs::RectLemmas::precinct_row_low), unfolding(crate::specs::Rects::precinct_column_point, crate::specs::Rects::precinct_row_point))]
-pub(crate) fn reference_of_precinct(tile: Rect, shape: &CompShape, res: u8, precinct: u32) -> (u64, u64)
+pub(crate) fn reference_of_precinct(
+    tile: Rect,
+    shape: &CompShape,
+    res: u8,
+    precinct: u32,
+) -> (u64, u64)
     requires shape { ShapeInRange shape.now }
     requires res { res ≤ shape.now.levels }
     requires precinct { precinct < precinct_count tile shape.now res }

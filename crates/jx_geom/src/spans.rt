@@ -28,7 +28,10 @@ pub(crate) fn one_tile(start: u32, end: u32, offset: u32, size: u32, place: u64)
 {
     let low = u64::from(offset) + place * u64::from(size);
     let high = (low + u64::from(size)).min(u64::from(end));
-    Span { low: low.max(u64::from(start)) as u32, high: high as u32 }
+    Span {
+        low: low.max(u64::from(start)) as u32,
+        high: high as u32,
+    }
 }
 
 /// The places that stand for every `step`-th one of a span.
@@ -39,7 +42,10 @@ pub(crate) fn every(span: Span, step: u64) -> Span
 {
     let low = ceil_div(u64::from(span.low), step);
     let high = ceil_div(u64::from(span.high), step);
-    Span { low: low as u32, high: high as u32 }
+    Span {
+        low: low as u32,
+        high: high as u32,
+    }
 }
 
 /// An end of a band of a level, from that of its tile-component.
@@ -62,7 +68,10 @@ pub(crate) fn one_band(span: Span, level: u32, off: u32) -> Span
     requires some { off ≤ level }
     ensures { result ≡ band_span span level off }
 {
-    Span { low: band_end(span.low, level, off), high: band_end(span.high, level, off) }
+    Span {
+        low: band_end(span.low, level, off),
+        high: band_end(span.high, level, off),
+    }
 }
 
 /// The cells of 2^`exponent` numbers that have a number of the span.
@@ -74,7 +83,10 @@ pub(crate) fn cells_of(span: Span, exponent: u32) -> Span
     let low = span.low >> exponent;
     if span.low < span.high {
         let high = ceil_shift(u64::from(span.high), exponent);
-        Span { low, high: high as u32 }
+        Span {
+            low,
+            high: high as u32,
+        }
     } else {
         Span { low, high: low }
     }
@@ -89,7 +101,10 @@ pub(crate) fn part_of(span: Span, exponent: u32, place: u32) -> Span
 {
     let low = u64::from(place) << exponent;
     let high = (u64::from(place) + 1) << exponent;
-    Span { low: low.max(u64::from(span.low)) as u32, high: high.min(u64::from(span.high)) as u32 }
+    Span {
+        low: low.max(u64::from(span.low)) as u32,
+        high: high.min(u64::from(span.high)) as u32,
+    }
 }
 
 /// Where the precinct column or row of a number stands on the reference grid.

@@ -4,15 +4,28 @@ ghost use Rattle.std.specs.Prelude.{◌≡◌, ◌≤◌, ◌<◌, ◌-◌, ◌*
 ghost use Rattle.jx_base.specs.Places.{InRect, size_of, length_of};
 ghost use Rattle.jx_geom.specs.Counts.{tile_count};
 ghost use Rattle.jx_geom.specs.Geometry.{
-    Geometry, GeometryInRange, HasBlock, HasResolution, ShapesInRange, WithinLimits, band_in, blocks_in, precincts_in,
-    rect_of_tile, reference_across, reference_down, shape_of,
+  Geometry,
+  GeometryInRange,
+  HasBlock,
+  HasResolution,
+  ShapesInRange,
+  WithinLimits,
+  band_in,
+  blocks_in,
+  precincts_in,
+  rect_of_tile,
+  reference_across,
+  reference_down,
+  shape_of,
 };
 ghost use Rattle.jx_geom.specs.Ranges.{CanvasInRange, ShapeInRange, HasBand};
 ghost use Rattle.jx_geom.specs.Rects.{tile_rect, precinct_blocks, block_rect, block_across, block_down};
 ghost use Rattle.jx_geom.specs.Sets.{HasPlace, InBand, InBlock, InCell, InPart, InTile};
 ghost use Rattle.jx_geom.specs.Sizes.{BlockFits};
 
-use crate::rects::{band_of, block_of, blocks_of, precinct_blocks_of, precincts_of, reference_of_precinct, tile_of};
+use crate::rects::{
+    band_of, block_of, blocks_of, precinct_blocks_of, precincts_of, reference_of_precinct, tile_of,
+};
 use crate::shape::{Canvas, CompShape};
 use jx_base::{Band, BlockName, NoMemory, Rect};
 use std::alloc::Global;
@@ -37,7 +50,12 @@ impl Model for TileGeom {
 
 impl TileGeom {
     /// The geometry of a tile with components of these shapes.
-    pub fn new(alloc: Global, canvas: &Canvas, tile: u16, comps: &[CompShape]) -> Result<TileGeom, NoMemory>
+    pub fn new(
+        alloc: Global,
+        canvas: &Canvas,
+        tile: u16,
+        comps: &[CompShape],
+    ) -> Result<TileGeom, NoMemory>
         requires canvas { CanvasInRange canvas.now }
         requires tile { tile < tile_count canvas.now }
         requires comps { ShapesInRange comps.now }
@@ -45,7 +63,12 @@ impl TileGeom {
         ensures { IfOk result (λ g. g ≡ record { canvas = canvas.now; tile = tile; shapes = comps.now }) }
     {
         let shapes = Vec::from_slice(alloc, comps)?;
-        Ok(TileGeom { canvas: *canvas, tile, places: tile_of(canvas, tile), shapes })
+        Ok(TileGeom {
+            canvas: *canvas,
+            tile,
+            places: tile_of(canvas, tile),
+            shapes,
+        })
     }
 
     /// The tile's number.
@@ -106,7 +129,10 @@ impl TileGeom {
         ensures bound { result.0 * result.1 ≤ 2 ^ 22 }
     {
         let cells = precincts_of(self.places, self.shape(comp), res);
-        (cells.x.high.saturating_sub(cells.x.low), cells.y.high.saturating_sub(cells.y.low))
+        (
+            cells.x.high.saturating_sub(cells.x.low),
+            cells.y.high.saturating_sub(cells.y.low),
+        )
     }
 
     /// The code-blocks of a band, as columns and rows of cells (T.800, B.7): each of its cells that
@@ -117,7 +143,7 @@ impl TileGeom {
         ensures value { result ≡ blocks_in self.now comp res band }
         ensures places { (u v : ℕ) → InRect result u v
             ↔ HasPlace (λ x y. InBand (rect_of_tile self.now) (shape_of self.now comp) res band x y
-                × InCell (block_across (shape_of self.now comp) res) (block_down (shape_of self.now comp) res) u v x y) }
+            × InCell (block_across (shape_of self.now comp) res) (block_down (shape_of self.now comp) res) u v x y) }
         ensures bound { size_of result ≤ 2 ^ 20 }
     {
         blocks_of(self.places, self.shape(comp), res, band)
@@ -132,7 +158,7 @@ impl TileGeom {
         ensures value { result ≡ precinct_blocks (rect_of_tile self.now) (shape_of self.now comp) res band precinct }
         ensures places { (u v : ℕ) → InRect result u v
             ↔ HasPlace (λ x y. InPart (rect_of_tile self.now) (shape_of self.now comp) res band precinct x y
-                × InCell (block_across (shape_of self.now comp) res) (block_down (shape_of self.now comp) res) u v x y) }
+            × InCell (block_across (shape_of self.now comp) res) (block_down (shape_of self.now comp) res) u v x y) }
     {
         precinct_blocks_of(self.places, self.shape(comp), res, band, precinct)
     }
@@ -144,7 +170,13 @@ impl TileGeom {
         ensures places { (x y : ℕ) → InRect result x y ↔ InBlock (rect_of_tile self.now) (shape_of self.now name.now.comp) name.now.res name.now.band name.now.index x y }
         ensures fits { BlockFits result }
     {
-        block_of(self.places, self.shape(name.comp), name.res, name.band, name.index)
+        block_of(
+            self.places,
+            self.shape(name.comp),
+            name.res,
+            name.band,
+            name.index,
+        )
     }
 
     /// Where a precinct stands on the reference grid, x and y (T.800, B.12.1.3).

@@ -8,5 +8,5 @@ invariant-loop-comp l = record {
   blocks : l.blocks ≡ tile_blocks (tile_rect l.canvas l.tile) (take l.comp-index l.comps);
   precincts : l.precincts ≡ tile_precincts (tile_rect l.canvas l.tile) (take l.comp-index l.comps);
   few_blocks : l.blocks ≤ 2 ^ 20;
-  few_precincts : l.precincts ≤ 2 ^ 22
+  few_precincts : l.precincts ≤ 2 ^ 22;
 }

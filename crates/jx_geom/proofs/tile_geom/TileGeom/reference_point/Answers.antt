@@ -25,4 +25,5 @@ returns-clause-inside c =
     let high : (rect_of_tile c.args.self.now).y.low < (rect_of_tile c.args.self.now).y.high = omega (arith, first.down.from, first.down.below) in
     record {
       across = rw across (precinct_column_inside (rect_of_tile c.args.self.now) (shape_of c.args.self.now c.args.comp) c.args.res c.args.precinct h c.requires.precinct wide);
-      down = rw down (precinct_row_inside (rect_of_tile c.args.self.now) (shape_of c.args.self.now c.args.comp) c.args.res c.args.precinct h c.requires.precinct high) }
+      down = rw down (precinct_row_inside (rect_of_tile c.args.self.now) (shape_of c.args.self.now c.args.comp) c.args.res c.args.precinct h c.requires.precinct high);
+    }
