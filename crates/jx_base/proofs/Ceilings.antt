@@ -1,6 +1,6 @@
 -- What a quotient rounded up keeps: it is the least, it grows with its dividend, and it nests.
-use Rattle.std.proofs.Common.{◌≡◌, ℕ, ◌+◌, ◌*◌, ◌/◌, ◌%◌, ◌≤◌, ◌<◌, zero, min, refl, arith, subst, sym}
-use Rattle.std.proofs.Math.Nat.{mul-le-mul_right, mul_assoc, mul_comm, one-le-mul}
+use Rattle.std.proofs.Common.{◌≡◌, ℕ, ◌+◌, ◌*◌, ◌≤◌, ◌<◌, arith}
+use Rattle.std.proofs.Math.Nat.{mul-le-mul_right, one-le-mul}
 use Rattle.std.proofs.lemmas.Grind.{div_ceil_times}
 use Rattle.jx_base.specs.Numbers.{ceil_of, IsCeiling}
 

@@ -21,3 +21,34 @@ pub fn ceil_shift(a: u64, s: u32) -> u64
 {
     ceil_div(a, 1u64 << s)
 }
+
+#[cfg(test)]
+mod tests {
+    use super::*;
+
+    #[test]
+    fn rounds_up(rt: HostRuntime) {
+        for (a, b, want) in [
+            (0, 3, 0),
+            (1, 3, 1),
+            (6, 3, 2),
+            (7, 3, 3),
+            (u64::MAX, 2, 1 << 63),
+        ] {
+            if b > 0 {
+                assert_eq!(rt; ceil_div(a, b), want, "{a} {b}");
+            }
+        }
+        for (a, s, want) in [
+            (0, 5, 0),
+            (1, 5, 1),
+            (64, 5, 2),
+            (65, 5, 3),
+            (u64::MAX, 63, 2),
+        ] {
+            if s < 64 {
+                assert_eq!(rt; ceil_shift(a, s), want, "{a} {s}");
+            }
+        }
+    }
+}

@@ -1,5 +1,5 @@
 -- Sums up to a number, and what the limits on a tile bound.
-use Rattle.std.proofs.Common.{◌≡◌, ℕ, zero, suc, ◌+◌, ◌≤◌, ◌<◌, ◌^◌, ◌⊎◌, inl, inr, refl, add-one, arith, List, length, get_or}
+use Rattle.std.proofs.Common.{◌≡◌, ℕ, zero, suc, ◌+◌, ◌≤◌, ◌<◌, ◌^◌, inl, inr, add-one, arith}
 use Rattle.std.proofs.lemmas.Bool.{cases_eq}
 use Rattle.std.proofs.lemmas.List.Sums.{get_or-le-sum_by}
 use Rattle.jx_base.specs.declared.names.Rect.{Rect}
@@ -7,9 +7,9 @@ use Rattle.jx_base.specs.declared.names.Band.{Band}
 use Rattle.jx_base.specs.declared.names.Band.TheVariants.{LL, HL, LH, HH}
 use Rattle.jx_geom.specs.declared.shape.CompShape.{CompShape}
 use Rattle.jx_geom.specs.Ranges.{HasBand}
-use Rattle.jx_geom.specs.Counts.{sum_below, precinct_count, block_count, resolution_blocks, blocks_before_band, component_blocks, component_precincts, tile_blocks, tile_precincts}
+use Rattle.jx_geom.specs.Counts.{sum_below, precinct_count, block_count, resolution_blocks, blocks_before_band, component_blocks, component_precincts}
 use Rattle.jx_geom.specs.Numbering.{band_place}
-use Rattle.jx_geom.specs.Geometry.{Geometry, GeometryInRange, HasResolution, WithinLimits, no_shape, shape_of, rect_of_tile, precincts_in, blocks_in}
+use Rattle.jx_geom.specs.Geometry.{Geometry, GeometryInRange, HasResolution, no_shape, shape_of, rect_of_tile, precincts_in, blocks_in}
 use Rattle.jx_base.specs.Places.{size_of}
 use Rattle.std.proofs.lemmas.Bool.Decides.{nat_tests}
 
@@ -33,11 +33,11 @@ sum_below_more f m n lt =
     let next : sum_below f (m + 1) ≤ sum_below f n = sum_below_grows f (m + 1) n (omega arith) in
     omega (arith, sum_below_next f m)
 
-resolution_low : (tile : Rect) (s : CompShape) (r : ℕ) → r ≡ 0 → resolution_blocks tile s r ≡ block_count tile s r LL
+pub resolution_low : (tile : Rect) (s : CompShape) (r : ℕ) → r ≡ 0 → resolution_blocks tile s r ≡ block_count tile s r LL
 unfolding resolution_blocks
 resolution_low tile s r e = grind (arith, nat_tests)
 
-resolution_high : (tile : Rect) (s : CompShape) (r : ℕ) → 0 < r → resolution_blocks tile s r ≡ blocks_before_band tile s r HH + block_count tile s r HH
+pub resolution_high : (tile : Rect) (s : CompShape) (r : ℕ) → 0 < r → resolution_blocks tile s r ≡ blocks_before_band tile s r HH + block_count tile s r HH
 unfolding resolution_blocks
 resolution_high tile s r some = grind (arith, nat_tests)
 

@@ -1,14 +1,13 @@
 -- Each place lies in one block, each block in one precinct, and no cell that is counted is empty.
-use Rattle.std.proofs.Common.{◌≡◌, ℕ, suc, ◌+◌, ◌-◌, ◌*◌, ◌/◌, ◌%◌, ◌^◌, ◌≤◌, ◌<◌, ◌↔◌, ◌⊎◌, ◌∙◌, inl, inr, zero, refl, arith, subst, sym, ap, min}
-use Rattle.std.proofs.lemmas.Nat.{pow_pos, pow-add, shr-shr, div-mul-add}
+use Rattle.std.proofs.Common.{◌≡◌, ℕ, ◌+◌, ◌-◌, ◌*◌, ◌/◌, ◌^◌, ◌≤◌, ◌<◌, ◌↔◌, ◌∙◌, refl, arith, subst, sym, ap, min}
+use Rattle.std.proofs.lemmas.Nat.{pow-add, shr-shr}
 use Rattle.jx_base.specs.declared.names.Rect.{Rect}
-use Rattle.jx_base.specs.declared.names.Span.{Span}
 use Rattle.jx_base.specs.declared.names.Band.{Band}
 use Rattle.jx_base.specs.declared.names.Band.TheVariants.{LL, HL, LH, HH}
-use Rattle.jx_base.specs.Places.{InSpan, InRect, ExactlyOne, column_at, row_at, size_of}
+use Rattle.jx_base.specs.Places.{InRect, ExactlyOne, column_at, row_at}
 use Rattle.jx_geom.specs.declared.shape.CompShape.{CompShape}
 use Rattle.jx_geom.specs.Ranges.{ShapeInRange, HasBand, exponent_across, exponent_down}
-use Rattle.jx_geom.specs.Rects.{component_rect, resolution_rect, band_rect, precinct_cells, block_cells, precinct_part, precinct_blocks, block_rect, off_across, off_down, band_level, part_across, part_down, block_across, block_down}
+use Rattle.jx_geom.specs.Rects.{resolution_rect, band_rect, precinct_cells, block_cells, precinct_part, precinct_blocks, off_across, off_down, part_across, part_down, block_across, block_down}
 use Rattle.jx_geom.specs.Sets.{InComponent, InResolution, InBand, InCell, InPrecinct, InPart, InBlock, HasPlace}
 use Rattle.jx_geom.specs.Counts.{precinct_count, block_count}
 use Rattle.jx_geom.proofs.RasterLemmas.{raster_in, number_at, number_below, number_column, number_row, raster_one}

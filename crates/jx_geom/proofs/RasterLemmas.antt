@@ -1,11 +1,10 @@
 -- The raster order: a number below a rect's size names a place of it, and each place has one number.
-use Rattle.std.proofs.Common.{◌≡◌, ℕ, ◌+◌, ◌-◌, ◌*◌, ◌/◌, ◌%◌, ◌≤◌, ◌<◌, inl, inr, zero, refl, arith, subst, sym, ap}
+use Rattle.std.proofs.Common.{◌≡◌, ℕ, ◌+◌, ◌-◌, ◌*◌, ◌/◌, ◌%◌, ◌≤◌, ◌<◌, inl, inr, arith, ap}
 use Rattle.std.proofs.Math.Nat.{mul-le-mul_right}
 use Rattle.std.proofs.lemmas.Bool.{cases_lt}
 use Rattle.std.proofs.lemmas.Nat.{div_below, div-mul-add, mod-mul-add, div-add-mod'}
 use Rattle.jx_base.specs.declared.names.Rect.{Rect}
-use Rattle.jx_base.specs.declared.names.Span.{Span}
-use Rattle.jx_base.specs.Places.{InSpan, InRect, length_of, size_of, column_at, row_at}
+use Rattle.jx_base.specs.Places.{InRect, length_of, size_of, column_at, row_at}
 
 pub factor_some : (n a b : ℕ) → n < a * b → 0 < a
 factor_some n a b h = elim (cases_lt 0 a) [

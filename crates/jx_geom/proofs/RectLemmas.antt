@@ -1,10 +1,9 @@
 -- Both directions: where precincts stand.
-use Rattle.std.proofs.Common.{◌≡◌, ℕ, ◌+◌, ◌-◌, ◌*◌, ◌/◌, ◌%◌, ◌^◌, ◌≤◌, ◌<◌, zero, max, refl, arith, subst, sym}
+use Rattle.std.proofs.Common.{◌≡◌, ℕ, ◌-◌, ◌*◌, ◌^◌, ◌≤◌, ◌<◌, max, arith}
 use Rattle.std.proofs.Math.Nat.{mul_assoc, one-le-mul}
 use Rattle.std.proofs.lemmas.Nat.{pow_pos}
 use Rattle.jx_base.specs.declared.names.Rect.{Rect}
-use Rattle.jx_base.specs.declared.names.Span.{Span}
-use Rattle.jx_base.specs.Places.{InSpan, InRect, column_at, row_at, size_of}
+use Rattle.jx_base.specs.Places.{InSpan, column_at, row_at}
 use Rattle.jx_geom.specs.declared.shape.CompShape.{CompShape}
 use Rattle.jx_geom.specs.Ranges.{ShapeInRange, exponent_across, exponent_down}
 use Rattle.jx_geom.specs.Rects.{component_rect, resolution_rect, precinct_cells, precinct_column_point, precinct_row_point}

@@ -1,17 +1,14 @@
 -- The rects hold the places of the sets, and the cells that are counted are those that have a place.
-use Rattle.std.proofs.Common.{◌≡◌, ℕ, ◌+◌, ◌-◌, ◌*◌, ◌/◌, ◌%◌, ◌^◌, ◌≤◌, ◌<◌, ◌↔◌, ◌⊎◌, inl, inr, zero, refl, arith, subst, sym, ap, min}
-use Rattle.std.proofs.lemmas.Nat.{pow_pos, pow-add, shr-shr}
+use Rattle.std.proofs.Common.{◌≡◌, ℕ, ◌+◌, ◌-◌, ◌*◌, ◌/◌, ◌^◌, ◌↔◌}
+use Rattle.std.proofs.lemmas.Nat.{pow_pos}
 use Rattle.jx_base.specs.declared.names.Rect.{Rect}
-use Rattle.jx_base.specs.declared.names.Span.{Span}
 use Rattle.jx_base.specs.declared.names.Band.{Band}
-use Rattle.jx_base.specs.Places.{InSpan, InRect, ExactlyOne, column_at, row_at, size_of}
+use Rattle.jx_base.specs.Places.{InRect, column_at, row_at}
 use Rattle.jx_geom.specs.declared.shape.CompShape.{CompShape}
-use Rattle.jx_geom.specs.Ranges.{ShapeInRange, HasBand, exponent_across, exponent_down}
-use Rattle.jx_geom.specs.Spans.{scaled, band_span, cells, cut}
-use Rattle.jx_geom.specs.Rects.{component_rect, resolution_rect, band_rect, precinct_cells, block_cells, precinct_part, precinct_blocks, block_rect, off_across, off_down, band_level, part_across, part_down, block_across, block_down}
-use Rattle.jx_geom.specs.Sets.{InComponent, InResolution, InBand, InCell, InPrecinct, InPart, InBlock, HasPlace}
-use Rattle.jx_geom.specs.Counts.{precinct_count, block_count}
-use Rattle.jx_geom.proofs.RasterLemmas.{raster_in, number_at, number_below, number_column, number_row, raster_one}
+use Rattle.jx_geom.specs.Ranges.{ShapeInRange}
+use Rattle.jx_geom.specs.Spans.{scaled, cells, cut}
+use Rattle.jx_geom.specs.Rects.{component_rect, resolution_rect, band_rect, precinct_cells, block_cells, precinct_part, block_rect, off_across, off_down, band_level, part_across, part_down, block_across, block_down}
+use Rattle.jx_geom.specs.Sets.{InResolution, InBand, InCell, InPart, InBlock, HasPlace}
 use Rattle.jx_geom.proofs.SpanLemmas.{scaled_to, scaled_from, band_to, band_from, cut_to, cut_from, cells_from, cells_to_place, cell_place}
 
 pub resolution_to : (tile : Rect) (s : CompShape) (r x y : ℕ) → ShapeInRange s → InRect (resolution_rect tile s r) x y → InResolution tile s r x y

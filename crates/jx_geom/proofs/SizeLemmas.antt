@@ -1,10 +1,10 @@
 -- A block isn't empty, and is no larger than its cell.
-use Rattle.std.proofs.Common.{◌≡◌, ℕ, ◌+◌, ◌-◌, ◌*◌, ◌^◌, ◌≤◌, ◌<◌, refl, arith, min}
+use Rattle.std.proofs.Common.{◌≡◌, ℕ, ◌+◌, ◌*◌, ◌^◌, ◌≤◌, ◌<◌, arith}
 use Rattle.std.proofs.Math.Nat.{pow-le-pow_right}
-use Rattle.std.proofs.lemmas.Nat.{pow_pos, pow-add, mul-le}
+use Rattle.std.proofs.lemmas.Nat.{pow-add, mul-le}
 use Rattle.jx_base.specs.declared.names.Rect.{Rect}
 use Rattle.jx_base.specs.declared.names.Band.{Band}
-use Rattle.jx_base.specs.Places.{InRect, length_of, size_of, column_at, row_at}
+use Rattle.jx_base.specs.Places.{length_of, column_at, row_at}
 use Rattle.jx_geom.specs.declared.shape.CompShape.{CompShape}
 use Rattle.jx_geom.specs.Ranges.{ShapeInRange}
 use Rattle.jx_geom.specs.Rects.{band_rect, block_cells, block_rect, block_across, block_down}

@@ -1,13 +1,13 @@
 -- One direction: which numbers the spans of the standard's formulas hold.
-use Rattle.std.proofs.Common.{◌≡◌, ℕ, ◌+◌, ◌-◌, ◌*◌, ◌/◌, ◌%◌, ◌^◌, ◌≤◌, ◌<◌, ◌⊎◌, ◌↔◌, inl, inr, zero, min, max, refl, arith, subst, sym, ap, ◌∙◌, true, false, nat_lt, if◌then◌else◌}
-use Rattle.std.proofs.Math.Nat.{mul-le-mul_left, pow-le-pow_right, mul-le-mul_right, mul_assoc, mul_comm, one-le-mul, div-lt_iff_lt-mul, le-div_iff_mul-le, div-eq_of_lt-le, div-mul-le_self, lt-div-mul-add}
-use Rattle.std.proofs.lemmas.Nat.{pow_pos, pow-add, le-div, div-add-mod'}
+use Rattle.std.proofs.Common.{◌≡◌, ℕ, ◌+◌, ◌-◌, ◌*◌, ◌/◌, ◌%◌, ◌^◌, ◌≤◌, ◌<◌, inl, inr, min, max, refl, arith, ap, ◌∙◌}
+use Rattle.std.proofs.Math.Nat.{mul-le-mul_left, pow-le-pow_right, mul-le-mul_right, div-eq_of_lt-le, div-mul-le_self, lt-div-mul-add}
+use Rattle.std.proofs.lemmas.Nat.{pow_pos, le-div, div-add-mod'}
 use Rattle.std.proofs.lemmas.Bool.Decides.{nat_tests}
 use Rattle.std.proofs.lemmas.Bool.{cases_lt}
 use Rattle.jx_base.specs.declared.names.Span.{Span}
 use Rattle.jx_base.specs.Numbers.{ceil_of}
-use Rattle.jx_base.specs.Places.{InSpan, span_of}
-use Rattle.jx_base.proofs.Ceilings.{ceil_least, ceil_from, below_ceil, ceil_above, ceil_reaches}
+use Rattle.jx_base.specs.Places.{InSpan}
+use Rattle.jx_base.proofs.Ceilings.{ceil_least, ceil_from, below_ceil, ceil_above}
 use Rattle.jx_geom.specs.Spans.{tiles_along, tile_span, scaled, band_span, cells, cut, reference_of}
 
 -- a tile that is counted has a place, and lies in the picture

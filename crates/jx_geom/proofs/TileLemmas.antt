@@ -1,11 +1,9 @@
 -- A tile's rect holds the places of its cell in the grid of tiles, and each place of the picture lies in one.
-use Rattle.std.proofs.Common.{◌≡◌, ℕ, ◌+◌, ◌-◌, ◌*◌, ◌/◌, ◌%◌, ◌≤◌, ◌<◌, ◌↔◌, ◌∙◌, min, max, zero, refl, arith, subst, sym, ap}
+use Rattle.std.proofs.Common.{◌≡◌, ℕ, ◌+◌, ◌-◌, ◌*◌, ◌/◌, ◌%◌, ◌≤◌, ◌<◌, ◌↔◌, ◌∙◌, min, max, refl, arith, sym}
 use Rattle.std.proofs.Math.Nat.{div-eq_of_lt-le}
 use Rattle.std.proofs.lemmas.Nat.{div-mul-add, mod-mul-add}
 use Rattle.jx_base.specs.declared.names.Rect.{Rect}
-use Rattle.jx_base.specs.declared.names.Span.{Span}
-use Rattle.jx_base.specs.Numbers.{ceil_of}
-use Rattle.jx_base.specs.Places.{InSpan, InRect, ExactlyOne, rect_of, span_of}
+use Rattle.jx_base.specs.Places.{InSpan, InRect, ExactlyOne, span_of}
 use Rattle.jx_base.proofs.Ceilings.{ceil_above}
 use Rattle.jx_geom.specs.declared.shape.Canvas.{Canvas}
 use Rattle.jx_geom.specs.Ranges.{CanvasInRange}

@@ -1,12 +1,12 @@
 -- How many blocks and precincts there are.
-use Rattle.std.specs.Prelude.{ℕ, zero, suc, ◌+◌, ◌*◌, List, [], ◌∷◌, sum_by, ◌==◌, if◌then◌else◌}
+use Rattle.std.specs.Prelude.{ℕ, zero, suc, ◌+◌, ◌*◌, List, sum_by, ◌==◌, if◌then◌else◌}
 use Rattle.jx_base.specs.declared.names.Rect.{Rect}
 use Rattle.jx_base.specs.declared.names.Band.{Band}
 use Rattle.jx_base.specs.declared.names.Band.TheVariants.{LL, HL, LH, HH}
 use Rattle.jx_base.specs.Places.{size_of}
 use Rattle.jx_geom.specs.declared.shape.Canvas.{Canvas}
 use Rattle.jx_geom.specs.declared.shape.CompShape.{CompShape}
-use Rattle.jx_geom.specs.Rects.{tiles_across, tiles_down, tile_rect, precinct_cells, block_cells}
+use Rattle.jx_geom.specs.Rects.{tiles_across, tiles_down, precinct_cells, block_cells}
 
 -- f 0 + f 1 + .. up to and not including f n
 abbrev pub sum_below : (ℕ → ℕ) → ℕ → ℕ

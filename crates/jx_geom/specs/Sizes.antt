@@ -1,5 +1,5 @@
 -- How large a code-block may be (ITU-T T.800, Table A.18).
-use Rattle.std.specs.Prelude.{ℕ, ◌≤◌, ◌<◌}
+use Rattle.std.specs.Prelude.{◌≤◌, ◌<◌}
 use Rattle.jx_base.specs.declared.names.Rect.{Rect}
 use Rattle.jx_base.specs.Places.{length_of, size_of}
 

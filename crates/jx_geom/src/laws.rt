@@ -81,12 +81,13 @@ pub fn blocks_lie_in_precincts()
         → InBlock tile s r b i x y → InPart tile s r b k x y }
 {}
 
-/// The number of a block is below the count of all, and is larger for a later name. So the blocks have the
-/// numbers from 0 on, in the order of their names.
+/// The number of a block is below the count of all, is larger for a later name, and each number below the
+/// count is that of a block. So the blocks have the numbers from 0 on, in the order of their names.
 pub fn blocks_are_numbered()
     ensures below { (c : Canvas) (shapes : ℕ → List CompShape) (n : BlockName) → IsBlock c shapes n → block_number c shapes n < blocks_of_all c shapes }
     ensures later { (c : Canvas) (shapes : ℕ → List CompShape) (a b : BlockName) → IsBlock c shapes a → IsBlock c shapes b
         → (a.tile < b.tile) ⊎ ((a.tile ≡ b.tile) × ComesBefore a b) → block_number c shapes a < block_number c shapes b }
+    ensures taken { (c : Canvas) (shapes : ℕ → List CompShape) (k : ℕ) → k < blocks_of_all c shapes → (n : BlockName) × (IsBlock c shapes n × (block_number c shapes n ≡ k)) }
 {}
 
 /// A precinct stands at the later of the tile's first column and the one that the first place of its cell

@@ -146,11 +146,11 @@ pub(crate) fn precincts_of(tile: Rect, shape: &CompShape, res: u8) -> Rect
     requires res { res ≤ shape.now.levels }
     ensures { result ≡ precinct_cells tile shape.now res }
 {
-    let places = resolution_of(tile, shape, res);
+    let whole = resolution_of(tile, shape, res);
     let size = of_precinct(shape, res);
     Rect {
-        x: cells_of(places.x, size.across),
-        y: cells_of(places.y, size.down),
+        x: cells_of(whole.x, size.across),
+        y: cells_of(whole.y, size.down),
     }
 }
 

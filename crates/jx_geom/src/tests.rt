@@ -528,7 +528,8 @@ fn plain_counts_on_small_canvases(rt: HostRuntime) -> Result<(), Fail> {
             };
             for comp in shapes {
                 for tile in 0..2 {
-                    if canvas.is_in_range() && u64::from(tile) < tiles(&canvas) {
+                    assert!(rt; canvas.is_in_range());
+                    if u64::from(tile) < tiles(&canvas) {
                         compare(&rt, rt.alloc(), &Plain { canvas, tile, comp })?;
                     }
                 }

@@ -1,4 +1,4 @@
-use Rattle.std.proofs.Common.{◌≡◌, ℕ, ◌+◌, ◌*◌, ◌≤◌, ◌^◌}
+use Rattle.std.proofs.Common.{◌≡◌, ◌*◌, ◌≤◌, ◌^◌}
 use Rattle.jx_geom.specs.Counts.{sum_below, resolution_blocks}
 use Rattle.jx_geom.proofs.counts.count_blocks.Given as goal
 

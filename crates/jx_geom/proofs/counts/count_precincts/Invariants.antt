@@ -1,4 +1,4 @@
-use Rattle.std.proofs.Common.{◌≡◌, ℕ, ◌+◌, ◌*◌, ◌≤◌, ◌^◌}
+use Rattle.std.proofs.Common.{◌≡◌, ◌*◌, ◌≤◌, ◌^◌}
 use Rattle.jx_geom.specs.Counts.{sum_below, precinct_count}
 use Rattle.jx_geom.proofs.counts.count_precincts.Given as goal
 

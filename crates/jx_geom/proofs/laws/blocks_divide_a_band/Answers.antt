@@ -1,4 +1,3 @@
-use Rattle.std.proofs.Common.{ℕ}
 use Rattle.jx_geom.proofs.LawLemmas.{place_in_one_block, block_some}
 use Rattle.jx_geom.proofs.laws.blocks_divide_a_band.Goals as goal
 

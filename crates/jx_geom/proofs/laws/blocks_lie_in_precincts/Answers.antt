@@ -1,4 +1,3 @@
-use Rattle.std.proofs.Common.{ℕ}
 use Rattle.jx_geom.proofs.LawLemmas.{block_in_one_precinct, block_within_precinct}
 use Rattle.jx_geom.proofs.laws.blocks_lie_in_precincts.Goals as goal
 

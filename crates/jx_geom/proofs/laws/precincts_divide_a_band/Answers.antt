@@ -1,4 +1,3 @@
-use Rattle.std.proofs.Common.{ℕ}
 use Rattle.jx_geom.proofs.LawLemmas.{place_in_one_part, part_stands_beside}
 use Rattle.jx_geom.proofs.laws.precincts_divide_a_band.Goals as goal
 

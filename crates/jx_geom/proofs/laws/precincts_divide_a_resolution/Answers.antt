@@ -1,4 +1,3 @@
-use Rattle.std.proofs.Common.{ℕ}
 use Rattle.jx_geom.proofs.LawLemmas.{place_in_one_precinct, precinct_some, precinct_cell_to, precinct_cell_from}
 use Rattle.jx_geom.proofs.laws.precincts_divide_a_resolution.Goals as goal
 

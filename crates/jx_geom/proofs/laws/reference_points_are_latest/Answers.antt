@@ -1,4 +1,3 @@
-use Rattle.std.proofs.Common.{ℕ}
 use Rattle.jx_geom.proofs.RectLemmas.{precinct_column_latest, precinct_row_latest}
 use Rattle.jx_geom.proofs.laws.reference_points_are_latest.Goals as goal
 

@@ -1,4 +1,3 @@
-use Rattle.std.proofs.Common.{ℕ}
 use Rattle.jx_geom.proofs.SetLemmas.{resolution_to, resolution_from}
 use Rattle.jx_geom.proofs.laws.resolutions_are_sets.Goals as goal
 

@@ -1,4 +1,3 @@
-use Rattle.std.proofs.Common.{ℕ}
 use Rattle.jx_geom.proofs.TileLemmas.{place_in_one_tile, tile_some}
 use Rattle.jx_geom.proofs.laws.tiles_divide_the_picture.Goals as goal
 

@@ -1,4 +1,4 @@
-use Rattle.std.proofs.Common.{◌≡◌, ◌≤◌, ◌^◌, ℕ, take}
+use Rattle.std.proofs.Common.{◌≡◌, ◌≤◌, ◌^◌, take}
 use Rattle.jx_geom.specs.Counts.{tile_blocks, tile_precincts}
 use Rattle.jx_geom.specs.Rects.{tile_rect}
 use Rattle.jx_geom.proofs.ranges.is_within_limits.Given as goal

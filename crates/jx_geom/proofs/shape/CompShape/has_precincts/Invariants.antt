@@ -1,4 +1,4 @@
-use Rattle.std.proofs.Common.{◌≡◌, ◌≤◌, ◌<◌, ℕ}
+use Rattle.std.proofs.Common.{◌<◌, ℕ}
 use Rattle.jx_geom.specs.Ranges.{exponent_across, exponent_down}
 use Rattle.jx_geom.proofs.shape.CompShape.has_precincts.Given as goal
 

@@ -1,6 +1,6 @@
-use Rattle.std.proofs.Common.{◌≡◌, ℕ, ◌↔◌, arith}
+use Rattle.std.proofs.Common.{◌≡◌, arith}
 use Rattle.std.proofs.lemmas.Grind.{common_steps}
-use Rattle.jx_geom.specs.Geometry.{band_in, rect_of_tile, shape_of}
+use Rattle.jx_geom.specs.Geometry.{rect_of_tile, shape_of}
 use Rattle.jx_geom.specs.Ranges.{ShapeInRange}
 use Rattle.jx_geom.specs.Rects.{band_rect}
 use Rattle.jx_geom.proofs.SetLemmas.{band_rect_places}

@@ -1,4 +1,4 @@
-use Rattle.std.proofs.Common.{◌≡◌, ℕ, ◌↔◌, arith}
+use Rattle.std.proofs.Common.{◌≡◌, arith}
 use Rattle.std.proofs.lemmas.Grind.{common_steps}
 use Rattle.jx_geom.specs.Geometry.{rect_of_tile, shape_of}
 use Rattle.jx_geom.specs.Ranges.{ShapeInRange}

@@ -1,8 +1,8 @@
-use Rattle.std.proofs.Common.{◌≡◌, ℕ, ◌↔◌, ◌≤◌, ◌<◌, ◌*◌, arith, subst, sym}
+use Rattle.std.proofs.Common.{◌≡◌, arith}
 use Rattle.std.proofs.lemmas.Grind.{common_steps}
-use Rattle.jx_geom.specs.Geometry.{Geometry, GeometryInRange, rect_of_tile, shape_of, blocks_in, precincts_in}
+use Rattle.jx_geom.specs.Geometry.{rect_of_tile, shape_of}
 use Rattle.jx_geom.specs.Ranges.{ShapeInRange}
-use Rattle.jx_geom.specs.Rects.{block_cells, precinct_blocks, tile_rect, precinct_cells}
+use Rattle.jx_geom.specs.Rects.{precinct_blocks}
 use Rattle.jx_geom.proofs.LawLemmas.{precinct_block_places}
 use Rattle.jx_geom.proofs.tile_geom.TileGeom.blocks.Goals as goal
 

@@ -1,13 +1,13 @@
-use Rattle.std.proofs.Common.{◌≡◌, ℕ, ◌↔◌, ◌≤◌, ◌<◌, ◌*◌, arith, subst, sym}
+use Rattle.std.proofs.Common.{◌≡◌, ◌≤◌, arith, subst, sym}
 use Rattle.std.proofs.lemmas.Grind.{common_steps}
-use Rattle.jx_geom.specs.Geometry.{Geometry, GeometryInRange, rect_of_tile, shape_of, blocks_in, precincts_in}
+use Rattle.jx_geom.specs.Geometry.{Geometry, GeometryInRange, rect_of_tile, shape_of}
 use Rattle.jx_geom.specs.Ranges.{ShapeInRange}
-use Rattle.jx_geom.specs.Rects.{block_cells, precinct_blocks, tile_rect, precinct_cells}
+use Rattle.jx_geom.specs.Rects.{block_cells}
 use Rattle.jx_geom.proofs.LawLemmas.{block_cell_places}
 use Rattle.jx_geom.proofs.CountLemmas.{blocks_limited}
-use Rattle.std.proofs.Common.{◌∙◌, ap, ◌^◌}
+use Rattle.std.proofs.Common.{◌^◌}
 use Rattle.jx_base.specs.declared.names.Rect.{Rect}
-use Rattle.jx_base.specs.Places.{InRect, InSpan, size_of}
+use Rattle.jx_base.specs.Places.{size_of}
 use Rattle.jx_geom.proofs.tile_geom.TileGeom.cells.Goals as goal
 
 pub returns-clause-places : goal.returns-clause-places

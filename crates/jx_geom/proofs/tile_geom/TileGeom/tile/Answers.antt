@@ -1,12 +1,7 @@
-use Rattle.std.proofs.Common.{◌≡◌, ℕ, ◌↔◌, ◌≤◌, ◌<◌, ◌*◌, arith, subst, sym}
-use Rattle.std.proofs.lemmas.Grind.{common_steps}
-use Rattle.jx_geom.specs.Geometry.{Geometry, GeometryInRange, rect_of_tile, shape_of, blocks_in, precincts_in}
-use Rattle.jx_geom.specs.Ranges.{ShapeInRange}
-use Rattle.jx_geom.specs.Rects.{block_cells, precinct_blocks, tile_rect, precinct_cells}
+use Rattle.std.proofs.Common.{◌≡◌, subst}
+use Rattle.jx_geom.specs.Geometry.{Geometry, GeometryInRange, rect_of_tile}
 use Rattle.jx_geom.proofs.TileLemmas.{tile_rect_places}
-use Rattle.std.proofs.Common.{◌∙◌, ap, ◌^◌}
-use Rattle.jx_base.specs.declared.names.Rect.{Rect}
-use Rattle.jx_base.specs.Places.{InRect, InSpan, size_of}
+use Rattle.std.proofs.Common.{◌∙◌, ap}
 use Rattle.jx_geom.proofs.tile_geom.TileGeom.tile.Goals as goal
 
 pub returns-clause-places : goal.returns-clause-places
