@@ -13,7 +13,7 @@ abbrev pub sum_below : (ℕ → ℕ) → ℕ → ℕ
 sum_below f zero = 0
 sum_below f (suc n) = sum_below f n + f n
 
--- B.3, equation B-6
+-- B.3, equation B-5: all tiles
 abbrev pub tile_count : Canvas → ℕ
 tile_count c = tiles_across c * tiles_down c
 

@@ -28,7 +28,7 @@ use crate::shape::{Canvas, CompShape};
 use crate::spans::{cells_of, count_tiles, every, one_band, one_tile, part_of, point_of};
 use jx_base::{Band, Rect, Span};
 
-/// How many tiles a canvas has: those across times those down (T.800, equations B-5 and B-6).
+/// How many tiles a canvas has: those across times those down (T.800, equation B-5).
 pub fn tiles(canvas: &Canvas) -> u64
     requires { CanvasInRange canvas.now }
     ensures { result ≡ tile_count canvas.now }
