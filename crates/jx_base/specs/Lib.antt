@@ -1,1 +1,3 @@
--- Definitions that several crates cite: none yet.
+-- Definitions that several crates cite.
+pub mod Numbers
+pub mod Places
