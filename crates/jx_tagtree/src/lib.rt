@@ -1,0 +1,15 @@
+//! The bits of packet headers and the tag trees in them, both ways (ITU-T T.800, B.10.1 and B.10.2).
+#![tactic(auto)]
+
+mod reader;
+
+pub use reader::BitReader;
+
+/// Why a packet header has no next bit (T.800 B.10.1).
+#[derive(Clone, Copy, Debug, PartialEq, Eq)]
+pub enum BitFault {
+    /// The bit, or the byte that must follow a last byte FF, lies past the bytes.
+    Ended,
+    /// The bit that is stuffed after a byte FF is 1.
+    Stuffed,
+}
