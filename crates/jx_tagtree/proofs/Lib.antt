@@ -1,1 +1,3 @@
 pub mod HeaderLemmas
+pub mod WriterLemmas
+pub mod LawLemmas

@@ -1,5 +1,5 @@
 -- The bits of packet headers (ITU-T T.800, B.10.1).
-use Rattle.std.specs.Prelude.{ℕ, zero, suc, ◌+◌, ◌-◌, ◌/◌, ◌%◌, ◌^◌, ◌==◌, nat_lt, nat_le, Bool, true, false, ◌&&◌, List, [], ◌∷◌, ◌++◌, length, take, drop, if◌then◌else◌, Option, Some, None, Result, Ok, Err}
+use Rattle.std.specs.Prelude.{◌≡◌, ◌≢◌, ◌<◌, ◌≤◌, ◌*◌, replicate, slice_index, ℕ, zero, suc, ◌+◌, ◌-◌, ◌/◌, ◌%◌, ◌^◌, ◌==◌, nat_lt, nat_le, Bool, true, false, ◌&&◌, List, [], ◌∷◌, ◌++◌, length, take, drop, if◌then◌else◌, Option, Some, None, Result, Ok, Err}
 use Rattle.jx_tagtree.specs.declared.BitFault.{BitFault}
 use Rattle.jx_tagtree.specs.declared.BitFault.TheVariants.{Ended, Stuffed}
 
@@ -98,3 +98,53 @@ end_unless (Some fault) end = Err fault
 -- how many bytes a reader has used, or its fault
 abbrev pub end_of : Reading → Result ℕ BitFault
 end_of r = end_unless r.refused (end_after r.bytes r.taken)
+
+-- the number of n bits whose first are those of a list, and the others 0
+abbrev pub number_of : ℕ → List Bool → ℕ
+number_of zero bits = 0
+number_of (suc n) [] = 0
+number_of (suc n) (true ∷ bits) = 2 ^ n + number_of n bits
+number_of (suc n) (false ∷ bits) = number_of n bits
+
+-- The bytes of some bits that stand after a byte: each byte takes as many bits as it has room for, the
+-- last is filled with 0, and a last byte FF is followed by 00. More fuel than bits is enough.
+abbrev pub bytes_from : ℕ → ℕ → List Bool → List ℕ
+bytes_from zero before bits = []
+bytes_from (suc fuel) before [] = if before == 255 then 0 ∷ [] else []
+bytes_from (suc fuel) before (bit ∷ bits) =
+  number_of (room before) (bit ∷ bits) ∷ bytes_from fuel (number_of (room before) (bit ∷ bits)) (drop (room before) (bit ∷ bits))
+
+-- the one header of some bits
+abbrev pub bytes_of : List Bool → List ℕ
+bytes_of bits = bytes_from (suc (length bits)) 0 bits
+
+-- What the bytes of a header are: its bits, then fewer than eight zeros, no stuffed bit 1, no FF at the end, and nothing
+-- but bytes.
+pub record IsHeader (bits : List Bool) (bytes : List ℕ) : Type 0 where
+  pub filling : ℕ
+  pub few : filling < 8
+  pub are_bits : (bits_of bytes).bits ≡ bits ++ replicate filling false
+  pub not_stuffed : (bits_of bytes).fault ≡ Ended
+  pub last : last_after 0 bytes ≢ 255
+  pub are_bytes : (i : ℕ) → slice_index bytes i < 256
+
+-- a byte after FF is below 80 in hexadecimal
+abbrev pub StuffedAfterFf : List ℕ → Type 0
+StuffedAfterFf bytes = (i : ℕ) → slice_index bytes i ≡ 255 → slice_index bytes (i + 1) < 128
+
+-- What a reader finds where a header of some bits stands, whatever follows it: these bits first, and behind them the
+-- header's end.
+pub record ReadsBack (bits : List Bool) (rest : List ℕ) : Type 0 where
+  pub more : List Bool
+  pub first : to_come (start_of (bytes_of bits ++ rest)) ≡ bits ++ more
+  pub end : end_after (bytes_of bits ++ rest) (length bits) ≡ Ok (length (bytes_of bits))
+
+-- Where a header of the first n bits ends: the bytes up to there have these bits, then fewer than eight others, no stuffed
+-- bit 1 and no FF at the end.
+pub record EndsAt (bytes : List ℕ) (n used : ℕ) : Type 0 where
+  pub within : used ≤ length bytes
+  pub filling : List Bool
+  pub few : length filling < 8
+  pub are_bits : (bits_of (take used bytes)).bits ≡ take n (bits_of bytes).bits ++ filling
+  pub not_stuffed : (bits_of (take used bytes)).fault ≡ Ended
+  pub last : last_after 0 (take used bytes) ≢ 255

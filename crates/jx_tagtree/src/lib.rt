@@ -1,9 +1,12 @@
 //! The bits of packet headers and the tag trees in them, both ways (ITU-T T.800, B.10.1 and B.10.2).
 #![tactic(auto)]
 
+pub mod laws;
 mod reader;
+mod writer;
 
 pub use reader::BitReader;
+pub use writer::BitWriter;
 
 /// Why a packet header has no next bit (T.800 B.10.1).
 #[derive(Clone, Copy, Debug, PartialEq, Eq)]
