@@ -118,15 +118,19 @@ bytes_from (suc fuel) before (bit ∷ bits) =
 abbrev pub bytes_of : List Bool → List ℕ
 bytes_of bits = bytes_from (suc (length bits)) 0 bits
 
--- What the bytes of a header are: its bits, then fewer than eight zeros, no stuffed bit 1, no FF at the end, and nothing
--- but bytes.
-pub record IsHeader (bits : List Bool) (bytes : List ℕ) : Type 0 where
+-- What the bytes of some bits are, after a byte: these bits, then fewer than eight zeros, no stuffed bit 1, no FF at the
+-- end, and nothing but bytes.
+pub record IsWritten (before : ℕ) (bits : List Bool) (bytes : List ℕ) : Type 0 where
   pub filling : ℕ
   pub few : filling < 8
-  pub are_bits : (bits_of bytes).bits ≡ bits ++ replicate filling false
-  pub not_stuffed : (bits_of bytes).fault ≡ Ended
-  pub last : last_after 0 bytes ≢ 255
+  pub are_bits : (bits_after before bytes).bits ≡ bits ++ replicate filling false
+  pub clean : (bits_after before bytes).fault ≡ Ended
+  pub last : last_after before bytes ≢ 255
   pub are_bytes : (i : ℕ) → slice_index bytes i < 256
+
+-- so is a header
+abbrev pub IsHeader : List Bool → List ℕ → Type 0
+IsHeader bits bytes = IsWritten 0 bits bytes
 
 -- a byte after FF is below 80 in hexadecimal
 abbrev pub StuffedAfterFf : List ℕ → Type 0
@@ -139,12 +143,12 @@ pub record ReadsBack (bits : List Bool) (rest : List ℕ) : Type 0 where
   pub first : to_come (start_of (bytes_of bits ++ rest)) ≡ bits ++ more
   pub end : end_after (bytes_of bits ++ rest) (length bits) ≡ Ok (length (bytes_of bits))
 
--- Where a header of the first n bits ends: the bytes up to there have these bits, then fewer than eight others, no stuffed
--- bit 1 and no FF at the end.
+-- Where a header of the first n bits ends: the bytes up to there have these bits and then only filling, fewer than eight
+-- bits in the last byte and seven where another must follow it; no stuffed bit is 1, and the last byte isn't FF.
 pub record EndsAt (bytes : List ℕ) (n used : ℕ) : Type 0 where
   pub within : used ≤ length bytes
   pub filling : List Bool
-  pub few : length filling < 8
+  pub few : length filling < 15
   pub are_bits : (bits_of (take used bytes)).bits ≡ take n (bits_of bytes).bits ++ filling
-  pub not_stuffed : (bits_of (take used bytes)).fault ≡ Ended
+  pub clean : (bits_of (take used bytes)).fault ≡ Ended
   pub last : last_after 0 (take used bytes) ≢ 255

@@ -18,8 +18,8 @@ pub fn header_read_back()
 {
 }
 
-/// What `finish` answers: the bytes of a header have the bits that were taken and fewer than eight
-/// filling bits, no stuffed bit 1, and no FF at the end.
+/// What `finish` answers: the bytes of a header have the bits that were taken and behind them only
+/// filling, no stuffed bit is 1, and the last byte isn't FF.
 pub fn header_ends()
     ensures { (bytes : List ℕ) (n used : ℕ) → n ≤ length (bits_of bytes).bits → end_after bytes n ≡ Ok used → EndsAt bytes n used }
 {
