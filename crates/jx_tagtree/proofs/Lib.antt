@@ -1,3 +1,4 @@
 pub mod HeaderLemmas
 pub mod WriterLemmas
 pub mod LawLemmas
+pub mod ShapeLemmas

@@ -3,6 +3,7 @@
 
 pub mod laws;
 mod reader;
+mod shape;
 mod writer;
 
 pub use reader::BitReader;
