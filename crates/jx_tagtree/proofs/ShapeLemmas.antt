@@ -7,7 +7,6 @@ use Rattle.std.proofs.Math.Pow.{pow_mono}
 use Rattle.std.proofs.lemmas.Bool.Decides.{nat_tests}
 use Rattle.jx_tagtree.specs.declared.shape.Level.{Level}
 use Rattle.jx_tagtree.specs.Shape.{IsShape, base, is_root, over, parent_at, root_from, root, parent_from, parent, way_from, way, IsLevel, InLevel}
--- use Rattle.jx_tagtree.specs.TagTree.{IsWay, last, next}
 
 pos_left : (a b : ℕ) → 1 ≤ a * b → 1 ≤ a
 pos_left zero b h = let e : 0 * b ≡ 0 = omega arith in omega arith
@@ -131,7 +130,7 @@ pub way_end : (n : ℕ) (l : Level) (node : ℕ) → is_root l ≡ true → way_
 way_end zero l node top = refl
 way_end (suc n) l node top = ap (λ (b : Bool). cond b (node ∷ []) (node ∷ way_from n (over l) (parent_at l node))) top
 
-way_next : (n : ℕ) (l : Level) (node : ℕ) → is_root l ≡ false → way_from (suc n) l node ≡ node ∷ way_from n (over l) (parent_at l node)
+pub way_next : (n : ℕ) (l : Level) (node : ℕ) → is_root l ≡ false → way_from (suc n) l node ≡ node ∷ way_from n (over l) (parent_at l node)
 way_next n l node top = ap (λ (b : Bool). cond b (node ∷ []) (node ∷ way_from n (over l) (parent_at l node))) top
 
 -- what stays true of the levels of a way, with the nodes so far

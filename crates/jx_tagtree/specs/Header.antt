@@ -77,7 +77,7 @@ refuse r fault = record r { refused = Some fault }
 
 -- it has given every bit, and was asked for one more
 abbrev pub exhausted : Reading → Reading
-exhausted r = record r { taken = length (bits_of r.bytes).bits; refused = Some (fault_of r) }
+exhausted r = refuse (advance r (length (to_come r))) (fault_of r)
 
 -- the byte after a last FF, whose top bit is stuffed: n bytes stand before it
 abbrev pub past_last_ff : ℕ → List ℕ → Result ℕ BitFault

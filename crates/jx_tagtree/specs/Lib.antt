@@ -1,3 +1,5 @@
 pub mod Header
 pub mod Place
 pub mod Shape
+pub mod TagTree
+pub mod Scan

@@ -3,6 +3,8 @@
 
 pub mod laws;
 mod reader;
+pub(crate) mod node;
+mod reading;
 mod shape;
 mod writer;
 

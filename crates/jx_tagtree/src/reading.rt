@@ -1,0 +1,52 @@
+ghost use Rattle.std.specs.Prelude.{◌≡◌, ◌+◌, ◌-◌, ◌<◌, ◌≤◌, ◌++◌, max, Some, None, IfOk, IfErr, drop, length};
+ghost use Rattle.jx_tagtree.specs.Header.{to_come, fault_of, exhausted};
+ghost use Rattle.jx_tagtree.specs.Scan.{scan, scan_one, Zeros, Found, Took};
+
+use crate::node::Node;
+use crate::{BitFault, BitReader};
+
+/// Reads the bits of a node that isn't settled, from what is known of it and of its parent.
+fn read_zeros(start: u32, threshold: u32, bits: &mut BitReader<'_>) -> Result<Node, BitFault>
+    ensures above { IfOk result (λ node. start ≤ node.known) }
+    ensures ok { IfOk result (λ node. scan (threshold - start) (to_come bits.old) ≡ Some (record { zeros = node.known - start; one = node.settled; rest = to_come bits.new })) }
+    ensures took { IfOk result (λ _. Took bits.old bits.new) }
+    ensures err { IfErr result (λ e. (scan (threshold - start) (to_come bits.old) ≡ None) × (e ≡ fault_of bits.old)) }
+    ensures given { IfErr result (λ _. bits.new ≡ exhausted bits.old) }
+{
+    let mut known = start;
+    while known < threshold {
+        if bits.bit()? {
+            return Ok(Node {
+                known,
+                settled: true,
+            });
+        }
+        known += 1;
+    }
+    Ok(Node {
+        known,
+        settled: false,
+    })
+}
+
+/// Reads the bits of a node at a threshold, from what is known of its parent.
+pub(crate) fn read_node(
+    node: Node,
+    above: u32,
+    threshold: u32,
+    bits: &mut BitReader<'_>,
+) -> Result<Node, BitFault>
+    ensures ok { IfOk result (λ after. scan_one threshold node above (to_come bits.old) ≡ Some (record { node = after; rest = to_come bits.new })) }
+    ensures took { IfOk result (λ _. Took bits.old bits.new) }
+    ensures err { IfErr result (λ e. (scan_one threshold node above (to_come bits.old) ≡ None) × (e ≡ fault_of bits.old)) }
+    ensures given { IfErr result (λ _. bits.new ≡ exhausted bits.old) }
+{
+    let start = node.known.max(above);
+    if node.settled {
+        return Ok(Node {
+            known: start,
+            settled: true,
+        });
+    }
+    read_zeros(start, threshold, bits)
+}
