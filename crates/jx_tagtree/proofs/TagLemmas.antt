@@ -1,8 +1,9 @@
 -- What a query reads, against the values of the nodes.
-use Rattle.std.proofs.Common.{◌≡◌, ◌≢◌, ℕ, zero, suc, ◌+◌, ◌-◌, ◌*◌, ◌<◌, ◌≤◌, min, max, nat_lt, Bool, true, false, List, [], ◌∷◌, ◌++◌, length, get_or, set, replicate, refl, sym, ap, ◌∙◌, subst, cond, arith, append_assoc, Some, None, ◌⊎◌, inl, inr}
+use Rattle.std.proofs.Common.{◌&&◌, ◌≡◌, ◌≢◌, ℕ, zero, suc, ◌+◌, ◌-◌, ◌*◌, ◌<◌, ◌≤◌, min, max, nat_lt, Bool, true, false, List, [], ◌∷◌, ◌++◌, length, get_or, set, replicate, refl, sym, ap, ◌∙◌, subst, cond, arith, append_assoc, Some, None, ◌⊎◌, inl, inr}
 use Rattle.std.specs.Prelude.{Option, option_map, option_and_then}
 use Rattle.std.proofs.lemmas.List.{get_or-set_same, get_or-set_other, length-set, append_cancel_right}
 use Rattle.std.proofs.lemmas.Bool.Decides.{nat_tests}
+use Rattle.std.proofs.lemmas.Bool.{cases_eq, cases_lt}
 use Rattle.jx_tagtree.specs.declared.node.Node.{Node}
 use Rattle.jx_tagtree.specs.TagTree.{unknown, node_at, node_bits, node_after, Walk, step, walk, Fits, Agree}
 use Rattle.jx_tagtree.specs.Scan.{Zeros, scan, more_zeros, Found, found, scan_one, Scanned, scanned, scan_node, scan_way}
@@ -52,3 +53,356 @@ scan_zeros_is zero rest = refl
 scan_zeros_is (suc n) rest =
   let more : 1 + n ≡ suc n = omega arith in
   ap (option_map (more_zeros 1)) (scan_zeros_is n rest) ∙ ap (λ (i : ℕ). let z : Zeros = record { zeros = i; one = false; rest = rest } in Some z) more
+
+abbrev node_of : ℕ → Bool → Node
+node_of k s = record { known = k; settled = s }
+
+abbrev zeros_of : ℕ → Bool → List Bool → Zeros
+zeros_of n b rest = record { zeros = n; one = b; rest = rest }
+
+abbrev found_of : Node → List Bool → Found
+found_of node rest = record { node = node; rest = rest }
+
+-- the numbers of zeros that stand before a value's 1, or up to the threshold
+zeros_are : (t start m zeros : ℕ) (one : Bool) → start + zeros ≤ m → (one ≡ true → start + zeros ≡ m) → (one ≡ true → zeros < t - start) → (one ≡ false → zeros ≡ t - start) →
+  (one ≡ nat_lt m t) × (zeros ≡ min m t - start) × (start + zeros ≡ max start (min m t))
+zeros_are t start m zeros true le exact short full =
+  let e : start + zeros ≡ m = exact refl in
+  let lt : zeros < t - start = short refl in
+  ((let yes : nat_lt m t ≡ true = grind (arith, nat_tests) in sym yes), omega arith, omega arith)
+zeros_are t start m zeros false le exact short full =
+  let e : zeros ≡ t - start = full refl in
+  let ge : t ≤ m = omega arith in
+  ((let no : nat_lt m t ≡ false = grind (arith, nat_tests) in sym no), omega arith, omega arith)
+
+-- what a node's value says of what was read at it
+one_read_at : (t k : ℕ) (s : Bool) (above : ℕ) (bits : List Bool) (f : Found) (m : ℕ) → scan_one t (node_of k s) above bits ≡ Some f → Fits f.node m → (s ≡ true → above ≤ k) →
+  Fits (node_of k s) m × (f.node ≡ node_after (node_of k s) (max k above) m t) × (bits ≡ node_bits (node_of k s) (max k above) m t ++ f.rest)
+one_read_at t k true above bits f m h fits ge =
+  let le : above ≤ k = ge refl in
+  let is : f ≡ found_of (node_of (max k above) true) bits = cc in
+  let fits' : Fits (node_of (max k above) true) m = subst (λ (g : Found). Fits g.node m) is fits in
+  let e : max k above ≡ m = fits'.settled refl in
+  let same : max k above ≡ max (max k above) (min m t) = omega arith in
+  ( record { known = omega arith; settled = λ x. omega arith }
+  , ap (λ (g : Found). g.node) is ∙ ap (λ (n : ℕ). node_of n true) same
+  , sym (ap (λ (g : Found). g.rest) is) )
+one_read_at t k false above bits f m h fits ge = by (scan (t - max k above) bits) (λ z e. scan_ok (t - max k above) bits z e) h
+  where
+    by : (o : Option Zeros) →
+      ((z : Zeros) → o ≡ Some z → (bits ≡ replicate z.zeros false ++ cond z.one (true ∷ []) [] ++ z.rest) × (z.one ≡ true → z.zeros < t - max k above) × (z.one ≡ false → z.zeros ≡ t - max k above)) →
+      option_map (found (max k above)) o ≡ Some f →
+      Fits (node_of k false) m × (f.node ≡ node_after (node_of k false) (max k above) m t) × (bits ≡ node_bits (node_of k false) (max k above) m t ++ f.rest)
+    by None r e = absurd cc
+    by (Some z) r e =
+      let is : f ≡ found (max k above) z = cc in
+      let fits' : Fits (node_of (max k above + z.zeros) z.one) m = subst (λ (g : Found). Fits g.node m) is fits in
+      let q = r z refl in
+      let le : max k above + z.zeros ≤ m = fits'.known in
+      let a = zeros_are t (max k above) m z.zeros z.one le fits'.settled q.1 q.2 in
+      ( record { known = omega arith; settled = λ x. absurd cc }
+      , ap (λ (g : Found). g.node) is ∙ ap (λ (n : ℕ). node_of n z.one) a.2 ∙ ap (λ (b : Bool). node_of (max (max k above) (min m t)) b) a.0
+      , q.0 ∙ ap (λ (n : ℕ). replicate n false ++ cond z.one (true ∷ []) [] ++ z.rest) a.1
+          ∙ ap (λ (b : Bool). replicate (min m t - max k above) false ++ cond b (true ∷ []) [] ++ z.rest) a.0
+          ∙ ap (λ (l : List Bool). replicate (min m t - max k above) false ++ cond (nat_lt m t) (true ∷ []) [] ++ l) (sym (ap (λ (g : Found). g.rest) is)) )
+
+one_read : (t : ℕ) (node : Node) (above : ℕ) (bits : List Bool) (f : Found) (m : ℕ) → scan_one t node above bits ≡ Some f → Fits f.node m → (node.settled ≡ true → above ≤ node.known) →
+  Fits node m × (f.node ≡ node_after node (max node.known above) m t) × (bits ≡ node_bits node (max node.known above) m t ++ f.rest)
+one_read t node above bits f m h fits ge = one_read_at t node.known node.settled above bits f m h fits ge
+
+-- the bits of a value are read as that value's
+one_only_at : (t k : ℕ) (s : Bool) (above : ℕ) (rest : List Bool) (m : ℕ) → Fits (node_of k s) m → above ≤ m →
+  (scan_one t (node_of k s) above (node_bits (node_of k s) (max k above) m t ++ rest) ≡ Some (found_of (node_after (node_of k s) (max k above) m t) rest))
+  × Fits (node_after (node_of k s) (max k above) m t) m
+one_only_at t k true above rest m fits le =
+  let e : k ≡ m = fits.settled refl in
+  let same : max k above ≡ max (max k above) (min m t) = omega arith in
+  ( ap (λ (n : ℕ). Some (found_of (node_of n true) rest)) same
+  , record { known = omega arith; settled = λ x. omega arith } )
+one_only_at t k false above rest m fits le = by (nat_lt m t) refl
+  where
+    by : (b : Bool) → nat_lt m t ≡ b →
+      (option_map (found (max k above)) (scan (t - max k above) (replicate (min m t - max k above) false ++ cond b (true ∷ []) [] ++ rest)) ≡ Some (found_of (node_of (max (max k above) (min m t)) b) rest))
+      × Fits (node_of (max (max k above) (min m t)) b) m
+    by true e =
+      let lt : m < t = grind (arith, nat_tests) in
+      let known : k ≤ m = fits.known in
+      let short : min m t - max k above < t - max k above = omega arith in
+      let sum : max k above + (min m t - max k above) ≡ max (max k above) (min m t) = omega arith in
+      ( ap (option_map (found (max k above))) (scan_one_is (t - max k above) (min m t - max k above) rest short)
+          ∙ ap (λ (n : ℕ). Some (found_of (node_of n true) rest)) sum
+      , record { known = omega arith; settled = λ x. omega arith } )
+    by false e =
+      let ge : t ≤ m = grind (arith, nat_tests) in
+      let known : k ≤ m = fits.known in
+      let all : min m t - max k above ≡ t - max k above = omega arith in
+      let sum : max k above + (t - max k above) ≡ max (max k above) (min m t) = omega arith in
+      ( ap (λ (n : ℕ). option_map (found (max k above)) (scan (t - max k above) (replicate n false ++ [] ++ rest))) all
+          ∙ ap (option_map (found (max k above))) (scan_zeros_is (t - max k above) rest)
+          ∙ ap (λ (n : ℕ). Some (found_of (node_of n false) rest)) sum
+      , record { known = omega arith; settled = λ x. absurd cc } )
+
+one_only : (t : ℕ) (node : Node) (above : ℕ) (rest : List Bool) (m : ℕ) → Fits node m → above ≤ m →
+  (scan_one t node above (node_bits node (max node.known above) m t ++ rest) ≡ Some (found_of (node_after node (max node.known above) m t) rest))
+  × Fits (node_after node (max node.known above) m t) m
+one_only t node above rest m fits le = one_only_at t node.known node.settled above rest m fits le
+
+-- what is known after a node's bits, whatever its value
+one_sound_at : (t k : ℕ) (s : Bool) (above : ℕ) (bits : List Bool) (f : Found) → scan_one t (node_of k s) above bits ≡ Some f →
+  ((f.node.settled ≡ true) ⊎ (t ≤ f.node.known)) × (above ≤ f.node.known) × (f.node.settled ≡ true → (s ≡ true) ⊎ (above < t)) × (s ≡ true → above ≤ k → f.node ≡ node_of k s)
+one_sound_at t k true above bits f h =
+  let is : f ≡ found_of (node_of (max k above) true) bits = cc in
+  subst (λ (g : Found). ((g.node.settled ≡ true) ⊎ (t ≤ g.node.known)) × (above ≤ g.node.known) × (g.node.settled ≡ true → (true ≡ true) ⊎ (above < t)) × (true ≡ true → above ≤ k → g.node ≡ node_of k true)) (sym is)
+    (inl refl, omega arith, (λ x. inl refl), (λ x le. let e : max k above ≡ k = omega arith in ap (λ (n : ℕ). node_of n true) e))
+one_sound_at t k false above bits f h = by (scan (t - max k above) bits) (λ z e. scan_ok (t - max k above) bits z e) h
+  where
+    by : (o : Option Zeros) →
+      ((z : Zeros) → o ≡ Some z → (bits ≡ replicate z.zeros false ++ cond z.one (true ∷ []) [] ++ z.rest) × (z.one ≡ true → z.zeros < t - max k above) × (z.one ≡ false → z.zeros ≡ t - max k above)) →
+      option_map (found (max k above)) o ≡ Some f →
+      ((f.node.settled ≡ true) ⊎ (t ≤ f.node.known)) × (above ≤ f.node.known) × (f.node.settled ≡ true → (false ≡ true) ⊎ (above < t)) × (false ≡ true → above ≤ k → f.node ≡ node_of k false)
+    by None r e = absurd cc
+    by (Some z) r e =
+      let is : f ≡ found (max k above) z = cc in
+      let q = r z refl in
+      let short : z.one ≡ true → z.zeros < t - max k above = q.1 in
+      subst (λ (g : Found). ((g.node.settled ≡ true) ⊎ (t ≤ g.node.known)) × (above ≤ g.node.known) × (g.node.settled ≡ true → (false ≡ true) ⊎ (above < t)) × (false ≡ true → above ≤ k → g.node ≡ node_of k false)) (sym is)
+        (ended z.one refl q.2, omega arith, (λ x. let lt : z.zeros < t - max k above = short x in inr (omega arith)), (λ x le. absurd cc))
+      where
+        ended : (b : Bool) → z.one ≡ b → (z.one ≡ false → z.zeros ≡ t - max k above) → (z.one ≡ true) ⊎ (t ≤ max k above + z.zeros)
+        ended true e full = inl e
+        ended false e full = let all : z.zeros ≡ t - max k above = full e in inr (omega arith)
+
+one_sound : (t : ℕ) (node : Node) (above : ℕ) (bits : List Bool) (f : Found) → scan_one t node above bits ≡ Some f →
+  ((f.node.settled ≡ true) ⊎ (t ≤ f.node.known)) × (above ≤ f.node.known) × (f.node.settled ≡ true → (node.settled ≡ true) ⊎ (above < t)) × (node.settled ≡ true → above ≤ node.known → f.node ≡ node)
+one_sound t node above bits f h = one_sound_at t node.known node.settled above bits f h
+
+-- ---- a whole way
+-- what can be known of the nodes, where `up` gives the parent and `top` is the root
+abbrev pub Sound : (ℕ → ℕ) → ℕ → List Node → Type 0
+Sound up top nodes = (q : ℕ) → q < top → (node_at nodes q).settled ≡ true →
+  ((node_at nodes (up q)).settled ≡ true) × ((node_at nodes (up q)).known ≤ (node_at nodes q).known)
+
+abbrev pub Rising : (ℕ → ℕ) → ℕ → (ℕ → ℕ) → Type 0
+Rising up top values = (q : ℕ) → q < top → values (up q) ≤ values q
+
+-- a node that is written, and the others
+at_same : (nodes : List Node) (n : ℕ) (x : Node) → n < length nodes → node_at (set nodes n x) n ≡ x
+at_same nodes n x lt = get_or-set_same nodes n x unknown lt
+
+at_other : (nodes : List Node) (n q : ℕ) (x : Node) → q ≢ n → node_at (set nodes n x) q ≡ node_at nodes q
+at_other nodes n q x ne = get_or-set_other nodes n q x unknown ne
+
+-- a fact of each node is kept where it holds of the one that is written
+kept : (P : ℕ → Node → Type 0) (nodes : List Node) (n : ℕ) (x : Node) → n < length nodes → P n x → ((q : ℕ) → P q (node_at nodes q)) → (q : ℕ) → P q (node_at (set nodes n x) q)
+kept P nodes n x lt here all q = elim (cases_eq q n) [ inl e ↦ subst (λ (j : ℕ). P j (node_at (set nodes n x) j)) (sym e) (subst (λ (y : Node). P n y) (sym (at_same nodes n x lt)) here)
+  | inr ne ↦ subst (λ (y : Node). P q y) (sym (at_other nodes n q x ne)) (all q) ]
+
+-- the same, of the other nodes
+kept_before : (P : ℕ → Node → Type 0) (nodes : List Node) (n : ℕ) (x : Node) → P n (node_at nodes n) → ((q : ℕ) → P q (node_at (set nodes n x) q)) → (q : ℕ) → P q (node_at nodes q)
+kept_before P nodes n x here all q = elim (cases_eq q n) [ inl e ↦ subst (λ (j : ℕ). P j (node_at nodes j)) (sym e) here
+  | inr ne ↦ subst (λ (y : Node). P q y) (at_other nodes n q x ne) (all q) ]
+
+-- a node that is written keeps what can be known
+sound_step : (up : ℕ → ℕ) (top : ℕ) (nodes : List Node) (n : ℕ) (x : Node) → n < length nodes → Sound up top nodes →
+  ((node_at nodes n).settled ≡ true → x ≡ node_at nodes n) →
+  (n < top → x.settled ≡ true → ((node_at nodes (up n)).settled ≡ true) × ((node_at nodes (up n)).known ≤ x.known)) →
+  Sound up top (set nodes n x)
+sound_step up top nodes n x lt sound settled fresh q q_lt q_settled =
+  elim (cases_eq q n) [
+    inl e ↦ at_it e
+  | inr ne ↦
+    (let same_q : node_at (set nodes n x) q ≡ node_at nodes q = at_other nodes n q x ne in
+     let old : (node_at nodes q).settled ≡ true = sym (ap (λ (y : Node). y.settled) same_q) ∙ q_settled in
+     let s = sound q q_lt old in
+     elim (cases_eq (up q) n) [
+       inl e ↦
+        (let here : (node_at nodes n).settled ≡ true = subst (λ (j : ℕ). (node_at nodes j).settled ≡ true) e s.0 in
+         let same_up : node_at (set nodes n x) (up q) ≡ node_at nodes (up q) =
+               ap (node_at (set nodes n x)) e ∙ at_same nodes n x lt ∙ settled here ∙ ap (node_at nodes) (sym e) in
+         both same_q same_up s)
+     | inr ne' ↦ both same_q (at_other nodes n (up q) x ne') s ]) ]
+  where
+    both : node_at (set nodes n x) q ≡ node_at nodes q → node_at (set nodes n x) (up q) ≡ node_at nodes (up q) →
+      ((node_at nodes (up q)).settled ≡ true) × ((node_at nodes (up q)).known ≤ (node_at nodes q).known) →
+      ((node_at (set nodes n x) (up q)).settled ≡ true) × ((node_at (set nodes n x) (up q)).known ≤ (node_at (set nodes n x) q).known)
+    both same_q same_up s =
+      ( ap (λ (y : Node). y.settled) same_up ∙ s.0
+      , subst (λ (y : Node). y.known ≤ (node_at (set nodes n x) q).known) (sym same_up) (subst (λ (y : Node). (node_at nodes (up q)).known ≤ y.known) (sym same_q) s.1) )
+    at_it : q ≡ n → ((node_at (set nodes n x) (up q)).settled ≡ true) × ((node_at (set nodes n x) (up q)).known ≤ (node_at (set nodes n x) q).known)
+    at_it e =
+      let same_q : node_at (set nodes n x) q ≡ x = ap (node_at (set nodes n x)) e ∙ at_same nodes n x lt in
+      let x_settled : x.settled ≡ true = sym (ap (λ (y : Node). y.settled) same_q) ∙ q_settled in
+      let n_lt : n < top = subst (λ (j : ℕ). j < top) e q_lt in
+      let f = fresh n_lt x_settled in
+      elim (cases_eq (up q) n) [
+        inl e' ↦
+          (let same_up : node_at (set nodes n x) (up q) ≡ x = ap (node_at (set nodes n x)) e' ∙ at_same nodes n x lt in
+           let same_known : (node_at (set nodes n x) (up q)).known ≡ (node_at (set nodes n x) q).known = ap (λ (y : Node). y.known) (same_up ∙ sym same_q) in
+           (ap (λ (y : Node). y.settled) same_up ∙ x_settled, omega arith))
+      | inr ne' ↦
+          (let same_up : node_at (set nodes n x) (up q) ≡ node_at nodes (up n) = at_other nodes n (up q) x ne' ∙ ap (λ (j : ℕ). node_at nodes (up j)) e in
+           (ap (λ (y : Node). y.settled) same_up ∙ f.0
+           , subst (λ (y : Node). y.known ≤ (node_at (set nodes n x) q).known) (sym same_up) (subst (λ (y : Node). (node_at nodes (up n)).known ≤ y.known) (sym same_q) f.1))) ]
+
+-- what holds after the bits of a way
+pub record After (up : ℕ → ℕ) (top t : ℕ) (nodes : List Node) (n : ℕ) (r : Scanned) : Type 0 where
+  pub long : length r.nodes ≡ length nodes
+  pub sound : Sound up top r.nodes
+  pub known_is : r.known ≡ (node_at r.nodes n).known
+  pub ended : ((node_at r.nodes n).settled ≡ true) ⊎ (t ≤ r.known)
+
+-- after the bits of a node
+after_step : (up : ℕ → ℕ) (top t : ℕ) (nodes : List Node) (n : ℕ) (above : Scanned) (r : Scanned) →
+  top < length nodes → n ≤ top → length above.nodes ≡ length nodes → Sound up top above.nodes →
+  (n < top → (above.known ≡ (node_at above.nodes (up n)).known) × (((node_at above.nodes (up n)).settled ≡ true) ⊎ (t ≤ above.known))) →
+  (top ≤ n → above.known ≡ 0) →
+  scan_node t n above ≡ Some r → After up top t nodes n r
+after_step up top t nodes n above r long le same sound parent_is root_is h =
+  by (scan_one t (node_at above.nodes n) above.known above.rest) (λ f e. one_sound t (node_at above.nodes n) above.known above.rest f e) h
+  where
+    lt : n < length above.nodes
+    lt = omega arith
+    by : (o : Option Found) →
+      ((f : Found) → o ≡ Some f → ((f.node.settled ≡ true) ⊎ (t ≤ f.node.known)) × (above.known ≤ f.node.known) × (f.node.settled ≡ true → ((node_at above.nodes n).settled ≡ true) ⊎ (above.known < t))
+        × ((node_at above.nodes n).settled ≡ true → above.known ≤ (node_at above.nodes n).known → f.node ≡ node_at above.nodes n)) →
+      option_map (scanned n above.nodes) o ≡ Some r → After up top t nodes n r
+    by None facts e = absurd cc
+    by (Some f) facts e =
+      let q = facts f refl in
+      let is : r ≡ scanned n above.nodes f = cc in
+      let here : node_at (set above.nodes n f.node) n ≡ f.node = at_same above.nodes n f.node lt in
+      subst (λ (s : Scanned). After up top t nodes n s) (sym is) (record {
+        long = length-set above.nodes n f.node ∙ same;
+        sound = sound_step up top above.nodes n f.node lt sound (λ settled. q.3 settled (before settled (cases_lt n top))) (λ n_lt settled. above_it n_lt (parent_is n_lt) q.1 (q.2 settled));
+        known_is = sym (ap (λ (y : Node). y.known) here);
+        ended = subst (λ (y : Node). (y.settled ≡ true) ⊎ (t ≤ f.node.known)) (sym here) q.0;
+      })
+      where
+        before : (node_at above.nodes n).settled ≡ true → (n < top) ⊎ (top ≤ n) → above.known ≤ (node_at above.nodes n).known
+        before settled (inl n_lt) = let s = sound n n_lt settled in let e : above.known ≡ (node_at above.nodes (up n)).known = (parent_is n_lt).0 in let l : (node_at above.nodes (up n)).known ≤ (node_at above.nodes n).known = s.1 in omega arith
+        before settled (inr ge) = let e : above.known ≡ 0 = root_is ge in omega arith
+        above_it : n < top → (above.known ≡ (node_at above.nodes (up n)).known) × (((node_at above.nodes (up n)).settled ≡ true) ⊎ (t ≤ above.known)) → above.known ≤ f.node.known →
+          ((node_at above.nodes n).settled ≡ true) ⊎ (above.known < t) → ((node_at above.nodes (up n)).settled ≡ true) × ((node_at above.nodes (up n)).known ≤ f.node.known)
+        above_it n_lt p le_known (inl settled) = let s = sound n n_lt settled in let e : above.known ≡ (node_at above.nodes (up n)).known = p.0 in (s.0, omega arith)
+        above_it n_lt p le_known (inr below) = let e : above.known ≡ (node_at above.nodes (up n)).known = p.0 in
+          (elim p.1 [ inl settled ↦ settled | inr ge ↦ absurd (omega arith) ], omega arith)
+
+way_le : (up : ℕ → ℕ) (top n : ℕ) (ways : List ℕ) → IsWay up top n ways → n ≤ top
+way_le up top n ways at_top = omega arith
+way_le up top n ways (under lt w) = omega arith
+
+-- the state before the last node of a way
+split_way : (t n : ℕ) (o : Option Scanned) (r : Scanned) → option_and_then (scan_node t n) o ≡ Some r → (a : Scanned) × (o ≡ Some a) × (scan_node t n a ≡ Some r)
+split_way t n None r h = absurd cc
+split_way t n (Some a) r h = (a, refl, h)
+
+abbrev scanned_of : List Node → ℕ → List Bool → Scanned
+scanned_of nodes known rest = record { nodes = nodes; known = known; rest = rest }
+
+pub scan_sound : (up : ℕ → ℕ) (top t : ℕ) (nodes : List Node) (bits : List Bool) (n : ℕ) (ways : List ℕ) → IsWay up top n ways → top < length nodes → Sound up top nodes →
+  (r : Scanned) → scan_way t nodes ways bits ≡ Some r → After up top t nodes n r
+scan_sound up top t nodes bits n ways at_top long sound r h =
+  after_step up top t nodes top (scanned_of nodes 0 bits) r long (omega arith) refl sound (λ lt. absurd (omega arith)) (λ ge. refl) h
+scan_sound up top t nodes bits _ _ (under {n} {over} lt w) long sound r h =
+  let s = split_way t n (scan_way t nodes over bits) r h in
+  let a : After up top t nodes (up n) s.0 = scan_sound up top t nodes bits (up n) over w long sound s.0 s.1 in
+  after_step up top t nodes n s.0 r long (omega arith) a.long a.sound (λ n_lt. (a.known_is, a.ended)) (λ ge. absurd (omega arith)) s.2
+
+-- what was read is the query's bits for all values that agree with what is known afterwards
+pub record WasRead (values : ℕ → ℕ) (t : ℕ) (nodes : List Node) (ways : List ℕ) (bits : List Bool) (r : Scanned) : Type 0 where
+  pub before : Agree values nodes
+  pub nodes_are : r.nodes ≡ (walk values t nodes ways).nodes
+  pub known_is : r.known ≡ (walk values t nodes ways).known
+  pub bits_are : bits ≡ (walk values t nodes ways).bits ++ r.rest
+
+-- at one node
+read_step : (values : ℕ → ℕ) (t : ℕ) (nodes : List Node) (n : ℕ) (over : List ℕ) (bits : List Bool) (a r : Scanned) → n < length a.nodes →
+  ((node_at a.nodes n).settled ≡ true → a.known ≤ (node_at a.nodes n).known) →
+  (Agree values a.nodes → WasRead values t nodes over bits a) → scan_node t n a ≡ Some r → Agree values r.nodes → WasRead values t nodes (n ∷ over) bits r
+read_step values t nodes n over bits a r lt ge again h agree = by (scan_one t (node_at a.nodes n) a.known a.rest) refl h
+  where
+    by : (o : Option Found) → scan_one t (node_at a.nodes n) a.known a.rest ≡ o → option_map (scanned n a.nodes) o ≡ Some r → WasRead values t nodes (n ∷ over) bits r
+    by None eq e = absurd cc
+    by (Some f) eq e =
+      let is : r ≡ scanned n a.nodes f = cc in
+      let agree' : Agree values (set a.nodes n f.node) = subst (λ (s : Scanned). Agree values s.nodes) is agree in
+      let fits : Fits f.node (values n) = subst (λ (y : Node). Fits y (values n)) (at_same a.nodes n f.node lt) (agree' n) in
+      let one = one_read t (node_at a.nodes n) a.known a.rest f (values n) eq fits ge in
+      let w : WasRead values t nodes over bits a = again (kept_before (λ q y. Fits y (values q)) a.nodes n f.node one.0 agree') in
+      let above : Walk = walk values t nodes over in
+      let node_is : node_at a.nodes n ≡ node_at above.nodes n = ap (λ (l : List Node). node_at l n) w.nodes_are in
+      let start_is : max (node_at a.nodes n).known a.known ≡ max (node_at above.nodes n).known above.known =
+            ap (λ (y : Node). max y.known a.known) node_is ∙ ap (λ (k : ℕ). max (node_at above.nodes n).known k) w.known_is in
+      let after_is : f.node ≡ node_after (node_at above.nodes n) (max (node_at above.nodes n).known above.known) (values n) t =
+            one.1 ∙ ap (λ (y : Node). node_after y (max (node_at a.nodes n).known a.known) (values n) t) node_is
+              ∙ ap (λ (k : ℕ). node_after (node_at above.nodes n) k (values n) t) start_is in
+      let bits_is : a.rest ≡ node_bits (node_at above.nodes n) (max (node_at above.nodes n).known above.known) (values n) t ++ f.rest =
+            one.2 ∙ ap (λ (y : Node). node_bits y (max (node_at a.nodes n).known a.known) (values n) t ++ f.rest) node_is
+              ∙ ap (λ (k : ℕ). node_bits (node_at above.nodes n) k (values n) t ++ f.rest) start_is in
+      subst (λ (s : Scanned). WasRead values t nodes (n ∷ over) bits s) (sym is) (record {
+        before = w.before;
+        nodes_are = ap (λ (l : List Node). set l n f.node) w.nodes_are ∙ ap (λ (y : Node). set above.nodes n y) after_is;
+        known_is = ap (λ (y : Node). y.known) after_is;
+        bits_are = w.bits_are ∙ ap (λ (l : List Bool). above.bits ++ l) bits_is
+          ∙ sym (append_assoc above.bits (node_bits (node_at above.nodes n) (max (node_at above.nodes n).known above.known) (values n) t) f.rest);
+      })
+
+pub scan_read : (up : ℕ → ℕ) (top t : ℕ) (nodes : List Node) (bits : List Bool) (n : ℕ) (ways : List ℕ) → IsWay up top n ways → top < length nodes → Sound up top nodes →
+  (r : Scanned) → scan_way t nodes ways bits ≡ Some r → (values : ℕ → ℕ) → Agree values r.nodes → WasRead values t nodes ways bits r
+scan_read up top t nodes bits n ways at_top long sound r h values agree =
+  read_step values t nodes top [] bits (scanned_of nodes 0 bits) r long (λ s. omega arith)
+    (λ ag. record { before = ag; nodes_are = refl; known_is = refl; bits_are = refl }) h agree
+scan_read up top t nodes bits _ _ (under {n} {over} lt w) long sound r h values agree =
+  let s = split_way t n (scan_way t nodes over bits) r h in
+  let a : After up top t nodes (up n) s.0 = scan_sound up top t nodes bits (up n) over w long sound s.0 s.1 in
+  let known_is : s.0.known ≡ (node_at s.0.nodes (up n)).known = a.known_is in
+  let same : length s.0.nodes ≡ length nodes = a.long in
+  read_step values t nodes n over bits s.0 r (omega arith)
+    (λ settled. let q = a.sound n lt settled in let le : (node_at s.0.nodes (up n)).known ≤ (node_at s.0.nodes n).known = q.1 in omega arith)
+    (λ ag. scan_read up top t nodes bits (up n) over w long sound s.0 s.1 values ag) s.2 agree
+
+-- the bits of values that agree with what is known are read as those of these values
+pub record IsRead (values : ℕ → ℕ) (t : ℕ) (nodes : List Node) (n : ℕ) (ways : List ℕ) (bits rest : List Bool) : Type 0 where
+  pub reads : scan_way t nodes ways bits ≡ Some (scanned_of (walk values t nodes ways).nodes (walk values t nodes ways).known rest)
+  pub agree : Agree values (walk values t nodes ways).nodes
+  pub below : (walk values t nodes ways).known ≤ values n
+  pub long : length (walk values t nodes ways).nodes ≡ length nodes
+
+only_step : (values : ℕ → ℕ) (t : ℕ) (nodes : List Node) (n : ℕ) (over : List ℕ) (bits rest : List Bool) →
+  n < length nodes → (walk values t nodes over).known ≤ values n → Agree values (walk values t nodes over).nodes → length (walk values t nodes over).nodes ≡ length nodes →
+  scan_way t nodes over bits ≡ Some (scanned_of (walk values t nodes over).nodes (walk values t nodes over).known
+    (node_bits (node_at (walk values t nodes over).nodes n) (max (node_at (walk values t nodes over).nodes n).known (walk values t nodes over).known) (values n) t ++ rest)) →
+  IsRead values t nodes n (n ∷ over) bits rest
+only_step values t nodes n over bits rest lt le agree long h =
+  let above : Walk = walk values t nodes over in
+  let node : Node = node_at above.nodes n in
+  let one = one_only t node above.known rest (values n) (agree n) le in
+  let lt' : n < length above.nodes = omega arith in
+  record {
+    reads = ap (option_and_then (scan_node t n)) h ∙ ap (option_map (scanned n above.nodes)) one.0;
+    agree = kept (λ q y. Fits y (values q)) above.nodes n (node_after node (max node.known above.known) (values n) t) lt' one.1 agree;
+    below = one.1.known;
+    long = length-set above.nodes n (node_after node (max node.known above.known) (values n) t) ∙ long;
+  }
+
+pub scan_only : (up : ℕ → ℕ) (top t : ℕ) (nodes : List Node) (n : ℕ) (ways : List ℕ) → IsWay up top n ways → top < length nodes →
+  (values : ℕ → ℕ) → Rising up top values → Agree values nodes → (bits rest : List Bool) → bits ≡ (walk values t nodes ways).bits ++ rest → IsRead values t nodes n ways bits rest
+scan_only up top t nodes n ways at_top long values rising agree bits rest h =
+  only_step values t nodes top [] bits rest long (omega arith) agree refl (ap (λ (l : List Bool). Some (scanned_of nodes 0 l)) h)
+scan_only up top t nodes _ _ (under {n} {over} lt w) long values rising agree bits rest h =
+  let above : Walk = walk values t nodes over in
+  let b = node_bits (node_at above.nodes n) (max (node_at above.nodes n).known above.known) (values n) t in
+  let i : IsRead values t nodes (up n) over bits (b ++ rest) = scan_only up top t nodes (up n) over w long values rising agree bits (b ++ rest) (h ∙ append_assoc above.bits b rest) in
+  let le : above.known ≤ values (up n) = i.below in
+  let rise : values (up n) ≤ values n = rising n lt in
+  only_step values t nodes n over bits rest (omega arith) (omega arith) i.agree i.long i.reads
+
+-- whether a value is below the threshold, as what is known of it says
+pub answer_is : (t : ℕ) (node : Node) (m : ℕ) → Fits node m → (node.settled ≡ true) ⊎ (t ≤ node.known) → (node.settled && nat_lt node.known t) ≡ nat_lt m t
+answer_is t node m fits ended = by node.settled refl
+  where
+    by : (b : Bool) → node.settled ≡ b → (b && nat_lt node.known t) ≡ nat_lt m t
+    by true e = ap (λ (k : ℕ). nat_lt k t) (fits.settled e)
+    by false e = let le : node.known ≤ m = fits.known in
+      let ge : t ≤ node.known = elim ended [ inl s ↦ absurd cc | inr ge ↦ ge ] in
+      let no : nat_lt m t ≡ false = grind (arith, nat_tests) in sym no
