@@ -1,13 +1,16 @@
 -- What a query reads, against the values of the nodes.
-use Rattle.std.proofs.Common.{◌&&◌, ◌≡◌, ◌≢◌, ℕ, zero, suc, ◌+◌, ◌-◌, ◌*◌, ◌<◌, ◌≤◌, min, max, nat_lt, Bool, true, false, List, [], ◌∷◌, ◌++◌, length, get_or, set, replicate, refl, sym, ap, ◌∙◌, subst, cond, arith, append_assoc, Some, None, ◌⊎◌, inl, inr}
+use Rattle.std.proofs.Common.{◌&&◌, ◌≡◌, ◌≢◌, ℕ, zero, suc, ◌+◌, ◌-◌, ◌*◌, ◌<◌, ◌≤◌, min, max, nat_lt, Bool, true, false, List, [], ◌∷◌, ◌++◌, length, get_or, set, drop, replicate, refl, sym, ap, ◌∙◌, subst, cond, arith, append_assoc, Some, None, ◌⊎◌, inl, inr}
 use Rattle.std.specs.Prelude.{Option, option_map, option_and_then}
-use Rattle.std.proofs.lemmas.List.{get_or-set_same, get_or-set_other, length-set, append_cancel_right}
+use Rattle.std.proofs.lemmas.List.{get_or-set_same, get_or-set_other, length-set, append_cancel_right, get_or_default}
 use Rattle.std.proofs.lemmas.Bool.Decides.{nat_tests}
 use Rattle.std.proofs.lemmas.Bool.{cases_eq, cases_lt}
 use Rattle.jx_tagtree.specs.declared.node.Node.{Node}
-use Rattle.jx_tagtree.specs.TagTree.{unknown, node_at, node_bits, node_after, Walk, step, walk, Fits, Agree}
-use Rattle.jx_tagtree.specs.Scan.{Zeros, scan, more_zeros, Found, found, scan_one, Scanned, scanned, scan_node, scan_way}
-use Rattle.jx_tagtree.proofs.WayLemmas.{IsWay, at_top, under}
+use Rattle.jx_tagtree.specs.TagTree.{unknown, node_at, node_bits, node_after, Walk, step, walk, Fits, Agree, Tree, query, ValuesOf, HasRead}
+use Rattle.jx_tagtree.specs.Scan.{Zeros, scan, more_zeros, Found, found, scan_one, Scanned, scanned, scan_node, scan_way, Took, PartRead}
+use Rattle.jx_tagtree.specs.Kept.{KeepsTree}
+use Rattle.jx_tagtree.specs.Header.{Reading, to_come, advance}
+use Rattle.jx_tagtree.specs.Shape.{root, parent, way}
+use Rattle.jx_tagtree.proofs.WayLemmas.{IsWay, at_top, under, way_is}
 
 -- ---- the bits of one node
 ones : Bool → List Bool
@@ -406,3 +409,127 @@ answer_is t node m fits ended = by node.settled refl
     by false e = let le : node.known ≤ m = fits.known in
       let ge : t ≤ node.known = elim ended [ inl s ↦ absurd cc | inr ge ↦ ge ] in
       let no : nat_lt m t ≡ false = grind (arith, nat_tests) in sym no
+
+-- ---- a query in a tree
+-- the upper part of a way keeps what can be known
+pub part_sound : (up : ℕ → ℕ) (top t : ℕ) (nodes : List Node) (bits : List Bool) (n : ℕ) (ways : List ℕ) → IsWay up top n ways → top < length nodes → Sound up top nodes →
+  (k : ℕ) (r : Scanned) → scan_way t nodes (drop k ways) bits ≡ Some r → (length r.nodes ≡ length nodes) × Sound up top r.nodes
+part_sound up top t nodes bits n ways w long sound zero r h = let a = scan_sound up top t nodes bits n ways w long sound r h in (a.long, a.sound)
+part_sound up top t nodes bits _ _ at_top long sound (suc zero) r h = let is : scanned_of nodes 0 bits ≡ r = cc in subst (λ (s : Scanned). (length s.nodes ≡ length nodes) × Sound up top s.nodes) is (refl, sound)
+part_sound up top t nodes bits _ _ at_top long sound (suc (suc k)) r h = let is : scanned_of nodes 0 bits ≡ r = cc in subst (λ (s : Scanned). (length s.nodes ≡ length nodes) × Sound up top s.nodes) is (refl, sound)
+part_sound up top t nodes bits _ _ (under {n} {over} lt w) long sound (suc k) r h = part_sound up top t nodes bits (up n) over w long sound k r h
+
+-- every node of a way is one of the tree's
+pub way_below : (up : ℕ → ℕ) (top n : ℕ) (ways : List ℕ) → IsWay up top n ways → (k : ℕ) → k < length ways → get_or ways k 0 ≤ top
+way_below up top _ _ at_top zero lt = omega arith
+way_below up top _ _ at_top (suc k) lt = absurd (omega arith)
+way_below up top _ _ (under {n} {over} lt w) zero k_lt = omega arith
+way_below up top _ _ (under {n} {over} lt w) (suc k) k_lt = way_below up top (up n) over w k (omega arith)
+
+abbrev tree_of : ℕ → ℕ → List Node → Tree
+tree_of wide high nodes = record { wide = wide; high = high; nodes = nodes }
+
+module _ (wide high leaf t : ℕ) (inside : leaf < wide * high) (nodes : List Node) (keeps : KeepsTree wide high nodes) where
+  here : IsWay (parent wide high) (root wide high) leaf (way wide high leaf)
+  here = way_is wide high leaf keeps.shape inside
+
+  long_enough : root wide high < length nodes
+  long_enough = let e : length nodes ≡ root wide high + 1 = keeps.long in omega arith
+
+  pub in_range : (k : ℕ) → k < length (way wide high leaf) → get_or (way wide high leaf) k 0 < length nodes
+  in_range k lt = let le : get_or (way wide high leaf) k 0 ≤ root wide high = way_below (parent wide high) (root wide high) leaf (way wide high leaf) here k lt in
+    let e : length nodes ≡ root wide high + 1 = keeps.long in omega arith
+
+  pub leaf_in_range : leaf < length nodes
+  leaf_in_range = let le : leaf ≤ root wide high = way_le (parent wide high) (root wide high) leaf (way wide high leaf) here in
+    let e : length nodes ≡ root wide high + 1 = keeps.long in omega arith
+
+  pub part_keeps : (bits : List Bool) (new : List Node) → PartRead t nodes (way wide high leaf) bits new → KeepsTree wide high new
+  part_keeps bits new p =
+    let s = part_sound (parent wide high) (root wide high) t nodes bits leaf (way wide high leaf) here long_enough keeps.sound p.place (scanned_of new p.known p.rest) p.read in
+    record { shape = keeps.shape; long = s.0 ∙ keeps.long; sound = s.1 }
+
+  pub read_keeps : (bits rest : List Bool) (new : List Node) (known : ℕ) → scan_way t nodes (way wide high leaf) bits ≡ Some (scanned_of new known rest) → KeepsTree wide high new
+  read_keeps bits rest new known h =
+    let a = scan_sound (parent wide high) (root wide high) t nodes bits leaf (way wide high leaf) here long_enough keeps.sound (scanned_of new known rest) h in
+    record { shape = keeps.shape; long = a.long ∙ keeps.long; sound = a.sound }
+
+  pub reach_read : (from to : Reading) (new : List Node) (known : ℕ) → scan_way t nodes (way wide high leaf) (to_come from) ≡ Some (scanned_of new known (to_come to)) → Took from to →
+    (values : ℕ → ℕ) → ValuesOf (tree_of wide high new) values →
+    HasRead values leaf t ((node_at new leaf).settled && nat_lt known t) (tree_of wide high nodes) from (tree_of wide high new) to
+  reach_read from to new known h took values v =
+    let a = scan_sound (parent wide high) (root wide high) t nodes (to_come from) leaf (way wide high leaf) here long_enough keeps.sound (scanned_of new known (to_come to)) h in
+    let w = scan_read (parent wide high) (root wide high) t nodes (to_come from) leaf (way wide high leaf) here long_enough keeps.sound (scanned_of new known (to_come to)) h values v.agree in
+    let bits = (walk values t nodes (way wide high leaf)).bits in
+    let given : took.0 ≡ bits = append_cancel_right took.0 bits (to_come to) (sym took.1 ∙ w.bits_are) in
+    record {
+      before = record { are = v.are; agree = w.before };
+      bits = w.bits_are;
+      place = took.2 ∙ ap (λ (l : List Bool). advance from (length l)) given;
+      answer = ap (λ (k : ℕ). (node_at new leaf).settled && nat_lt k t) a.known_is
+        ∙ answer_is t (node_at new leaf) (values leaf) (v.agree leaf) (subst (λ (k : ℕ). ((node_at new leaf).settled ≡ true) ⊎ (t ≤ k)) a.known_is a.ended);
+      after = ap (λ (l : List Node). tree_of wide high l) w.nodes_are;
+      still = v;
+    }
+
+  -- values that agree before and whose bits stand there agree afterwards
+  pub reach_only : (from to : Reading) (new : List Node) (known : ℕ) → scan_way t nodes (way wide high leaf) (to_come from) ≡ Some (scanned_of new known (to_come to)) →
+    (values : ℕ → ℕ) → ValuesOf (tree_of wide high nodes) values → (rest : List Bool) → to_come from ≡ (query values (tree_of wide high nodes) leaf t).bits ++ rest →
+    ValuesOf (tree_of wide high new) values
+  reach_only from to new known h values v rest stands =
+    let i = scan_only (parent wide high) (root wide high) t nodes leaf (way wide high leaf) here long_enough values v.are v.agree (to_come from) rest stands in
+    let same : scanned_of (walk values t nodes (way wide high leaf)).nodes (walk values t nodes (way wide high leaf)).known rest ≡ scanned_of new known (to_come to) =
+          some_same (sym i.reads ∙ h) in
+    record { are = v.are; agree = subst (λ (l : List Node). Agree values l) (ap (λ (s : Scanned). s.nodes) same) i.agree }
+    where
+      some_same : {x y : Scanned} → Some x ≡ Some y → x ≡ y
+      some_same e = cc
+
+  -- where the bits aren't there, no values have them
+  pub reach_none : (from : Reading) → scan_way t nodes (way wide high leaf) (to_come from) ≡ None →
+    (values : ℕ → ℕ) → ValuesOf (tree_of wide high nodes) values → (rest : List Bool) → to_come from ≡ (query values (tree_of wide high nodes) leaf t).bits ++ rest → ⊥
+  reach_none from h values v rest stands =
+    let i = scan_only (parent wide high) (root wide high) t nodes leaf (way wide high leaf) here long_enough values v.are v.agree (to_come from) rest stands in
+    let e : Some (scanned_of (walk values t nodes (way wide high leaf)).nodes (walk values t nodes (way wide high leaf)).known rest) ≡ None = sym i.reads ∙ h in
+    cc
+
+-- the same for a call, whose tree is seen by its view
+module _ (wide high leaf t : ℕ) (nodes : List Node) (keeps : KeepsTree wide high nodes) (tree : Tree) (view : tree_of wide high nodes ≡ tree) (inside : leaf < tree.wide * tree.high)
+  (ways : List ℕ) (ways_are : ways ≡ way wide high leaf) where
+  in_tree : leaf < wide * high
+  in_tree = subst (λ (s : Tree). leaf < s.wide * s.high) (sym view) inside
+
+  pub call_range : (k : ℕ) → k < length ways → get_or ways k 0 < length nodes
+  call_range = subst (λ (w : List ℕ). (k : ℕ) → k < length w → get_or w k 0 < length nodes) (sym ways_are) (in_range wide high leaf t in_tree nodes keeps)
+
+  pub call_part : (bits : List Bool) (new : List Node) → PartRead t nodes ways bits new → KeepsTree wide high new
+  call_part bits new p = part_keeps wide high leaf t in_tree nodes keeps bits new (subst (λ (w : List ℕ). PartRead t nodes w bits new) ways_are p)
+
+  pub call_keeps : (bits rest : List Bool) (new : List Node) (known : ℕ) → scan_way t nodes ways bits ≡ Some (scanned_of new known rest) → KeepsTree wide high new
+  call_keeps bits rest new known h = read_keeps wide high leaf t in_tree nodes keeps bits rest new known (subst (λ (w : List ℕ). scan_way t nodes w bits ≡ Some (scanned_of new known rest)) ways_are h)
+
+  pub call_leaf : (bits rest : List Bool) (new : List Node) (known : ℕ) → scan_way t nodes ways bits ≡ Some (scanned_of new known rest) → leaf < length new
+  call_leaf bits rest new known h = leaf_in_range wide high leaf t in_tree new (call_keeps bits rest new known h)
+
+  pub call_read : (from to : Reading) (new : List Node) (known : ℕ) (node : Node) (below : Bool) → scan_way t nodes ways (to_come from) ≡ Some (scanned_of new known (to_come to)) → Took from to →
+    node ≡ get_or new leaf node → below ≡ (node.settled && nat_lt known t) →
+    (values : ℕ → ℕ) → ValuesOf (tree_of wide high new) values → HasRead values leaf t below tree from (tree_of wide high new) to
+  call_read from to new known node below h took read answer values v =
+    let lt : leaf < length new = call_leaf (to_come from) (to_come to) new known h in
+    let node_is : node_at new leaf ≡ node = get_or_default new leaf unknown node lt ∙ sym read in
+    let r = reach_read wide high leaf t in_tree nodes keeps from to new known (subst (λ (w : List ℕ). scan_way t nodes w (to_come from) ≡ Some (scanned_of new known (to_come to))) ways_are h) took values v in
+    let r' : HasRead values leaf t below (tree_of wide high nodes) from (tree_of wide high new) to =
+          subst (λ (b : Bool). HasRead values leaf t b (tree_of wide high nodes) from (tree_of wide high new) to) (ap (λ (y : Node). y.settled && nat_lt known t) node_is ∙ sym answer) r in
+    subst (λ (s : Tree). HasRead values leaf t below s from (tree_of wide high new) to) view r'
+
+  pub call_only : (from to : Reading) (new : List Node) (known : ℕ) → scan_way t nodes ways (to_come from) ≡ Some (scanned_of new known (to_come to)) →
+    (values : ℕ → ℕ) → ValuesOf tree values → (rest : List Bool) → to_come from ≡ (query values tree leaf t).bits ++ rest → ValuesOf (tree_of wide high new) values
+  call_only from to new known h values v rest stands =
+    reach_only wide high leaf t in_tree nodes keeps from to new known (subst (λ (w : List ℕ). scan_way t nodes w (to_come from) ≡ Some (scanned_of new known (to_come to))) ways_are h)
+      values (subst (λ (s : Tree). ValuesOf s values) (sym view) v) rest (subst (λ (s : Tree). to_come from ≡ (query values s leaf t).bits ++ rest) (sym view) stands)
+
+  pub call_none : (from : Reading) → scan_way t nodes ways (to_come from) ≡ None →
+    (values : ℕ → ℕ) → ValuesOf tree values → (rest : List Bool) → to_come from ≡ (query values tree leaf t).bits ++ rest → ⊥
+  call_none from h values v rest stands =
+    reach_none wide high leaf t in_tree nodes keeps from (subst (λ (w : List ℕ). scan_way t nodes w (to_come from) ≡ None) ways_are h)
+      values (subst (λ (s : Tree). ValuesOf s values) (sym view) v) rest (subst (λ (s : Tree). to_come from ≡ (query values s leaf t).bits ++ rest) (sym view) stands)

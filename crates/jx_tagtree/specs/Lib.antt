@@ -2,4 +2,5 @@ pub mod Header
 pub mod Place
 pub mod Shape
 pub mod TagTree
+pub mod Kept
 pub mod Scan

@@ -1,6 +1,6 @@
 -- What the reader of a tag tree does with bits whose values it doesn't know: the contracts of its inner functions say it,
 -- and laws tie it to the values.
-use Rattle.std.specs.Prelude.{◌≡◌, ℕ, zero, suc, ◌+◌, ◌-◌, max, Bool, true, false, List, [], ◌∷◌, ◌++◌, length, slice_set, Option, Some, None, option_map, option_and_then, if◌then◌else◌}
+use Rattle.std.specs.Prelude.{◌≡◌, ℕ, zero, suc, ◌+◌, ◌-◌, max, Bool, true, false, List, [], ◌∷◌, ◌++◌, length, drop, slice_set, Option, Some, None, option_map, option_and_then, if◌then◌else◌}
 use Rattle.jx_tagtree.specs.declared.node.Node.{Node}
 use Rattle.jx_tagtree.specs.Header.{Reading, to_come, advance}
 use Rattle.jx_tagtree.specs.TagTree.{node_at}
@@ -52,3 +52,10 @@ scan_way threshold nodes (n ∷ over) bits = option_and_then (scan_node threshol
 -- a reader has given some bits
 abbrev pub Took : Reading → Reading → Type 0
 Took from to = (given : List Bool) × (to_come from ≡ given ++ to_come to) × (to ≡ advance from (length given))
+
+-- the nodes of a way's upper part were read, and no others
+pub record PartRead (threshold : ℕ) (old : List Node) (way : List ℕ) (bits : List Bool) (new : List Node) : Type 0 where
+  pub place : ℕ
+  pub known : ℕ
+  pub rest : List Bool
+  pub read : scan_way threshold old (drop place way) bits ≡ Some (record { nodes = new; known = known; rest = rest })

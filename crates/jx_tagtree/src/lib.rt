@@ -6,9 +6,11 @@ mod reader;
 pub(crate) mod node;
 mod reading;
 mod shape;
+mod tag_reader;
 mod writer;
 
 pub use reader::BitReader;
+pub use tag_reader::TagReader;
 pub use writer::BitWriter;
 
 /// Why a packet header has no next bit (T.800 B.10.1).

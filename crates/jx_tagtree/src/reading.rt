@@ -1,8 +1,9 @@
-ghost use Rattle.std.specs.Prelude.{◌≡◌, ◌+◌, ◌-◌, ◌<◌, ◌≤◌, ◌++◌, max, Some, None, IfOk, IfErr, drop, length};
+ghost use Rattle.std.specs.Prelude.{◌≡◌, ◌+◌, ◌-◌, ◌<◌, ◌≤◌, ◌++◌, max, Some, None, IfOk, IfErr, length, slice_index, ℕ};
 ghost use Rattle.jx_tagtree.specs.Header.{to_come, fault_of, exhausted};
-ghost use Rattle.jx_tagtree.specs.Scan.{scan, scan_one, Zeros, Found, Took};
+ghost use Rattle.jx_tagtree.specs.Scan.{scan, scan_one, scan_way, Zeros, Found, Scanned, Took, PartRead};
 
 use crate::node::Node;
+use crate::shape::Way;
 use crate::{BitFault, BitReader};
 
 /// Reads the bits of a node that isn't settled, from what is known of it and of its parent.
@@ -49,4 +50,34 @@ pub(crate) fn read_node(
         });
     }
     read_zeros(start, threshold, bits)
+}
+
+/// Reads the bits of a way, from the root down to the leaf, and gives what is known of the leaf.
+pub(crate) fn read_way(
+    nodes: &mut Vec<Node>,
+    way: &Way,
+    threshold: u32,
+    bits: &mut BitReader<'_>,
+) -> Result<u32, BitFault>
+    requires { (k : ℕ) → k < length way.now → slice_index way.now k < length nodes.old.items }
+    ensures ok { IfOk result (λ known. scan_way threshold nodes.old.items way.now (to_come bits.old) ≡ Some (record { nodes = nodes.new.items; known = known; rest = to_come bits.new })) }
+    ensures took { IfOk result (λ _. Took bits.old bits.new) }
+    ensures err { IfErr result (λ e. (scan_way threshold nodes.old.items way.now (to_come bits.old) ≡ None) × (e ≡ fault_of bits.old)) }
+    ensures given { IfErr result (λ _. bits.new ≡ exhausted bits.old) }
+    ensures part { IfErr result (λ _. PartRead threshold nodes.old.items way.now (to_come bits.old) nodes.new.items) }
+{
+    let mut above = 0;
+    let mut place = way.len();
+    while place > 0 {
+        place -= 1;
+        let at = way.at(place) as usize;
+        match read_node(nodes[at], above, threshold, bits) {
+            Ok(node) => {
+                above = node.known;
+                nodes[at] = node;
+            }
+            Err(fault) => return Err(fault),
+        }
+    }
+    Ok(above)
 }
