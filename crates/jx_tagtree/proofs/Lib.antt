@@ -5,3 +5,4 @@ pub mod ShapeLemmas
 pub mod ScanLemmas
 pub mod WayLemmas
 pub mod TagLemmas
+pub mod LeafLemmas

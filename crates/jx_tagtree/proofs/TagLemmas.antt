@@ -290,7 +290,7 @@ after_step up top t nodes n above r long le same sound parent_is root_is h =
         above_it n_lt p le_known (inr below) = let e : above.known ≡ (node_at above.nodes (up n)).known = p.0 in
           (elim p.1 [ inl settled ↦ settled | inr ge ↦ absurd (omega arith) ], omega arith)
 
-way_le : (up : ℕ → ℕ) (top n : ℕ) (ways : List ℕ) → IsWay up top n ways → n ≤ top
+pub way_le : (up : ℕ → ℕ) (top n : ℕ) (ways : List ℕ) → IsWay up top n ways → n ≤ top
 way_le up top n ways at_top = omega arith
 way_le up top n ways (under lt w) = omega arith
 

@@ -8,6 +8,7 @@ mod reading;
 mod shape;
 mod tag_reader;
 mod writer;
+mod writing;
 
 pub use reader::BitReader;
 pub use tag_reader::TagReader;
