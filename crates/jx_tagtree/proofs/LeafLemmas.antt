@@ -1,6 +1,6 @@
 -- The values of nodes, and what a query writes.
 use Rattle.std.proofs.Common.{◌≡◌, ◌≢◌, ℕ, zero, suc, ◌+◌, ◌-◌, ◌*◌, ◌^◌, ◌<◌, ◌≤◌, ◌==◌, ◌||◌, min, max, nat_lt, Bool, true, false, List, [], ◌∷◌, ◌++◌, length, get_or, set, take, drop, replicate, refl, sym, ap, ◌∙◌, subst, cond, arith, append_assoc, add-one, ◌⊎◌, inl, inr}
-use Rattle.std.proofs.lemmas.List.{drop_more, get_or_default, length-set, get_or-take, length-take-le, drop_all}
+use Rattle.std.proofs.lemmas.List.{drop_more, get_or_default, length-set, get_or-take, length-take-le, drop_all, get_or_past, length-replicate, get_or-replicate}
 use Rattle.std.proofs.lemmas.Grind.{same_number_lists}
 use Rattle.std.proofs.lemmas.Bool.Decides.{nat_tests}
 use Rattle.std.proofs.lemmas.Bool.{cases_eq, cases_lt}
@@ -8,7 +8,7 @@ use Rattle.jx_tagtree.specs.declared.node.Node.{Node}
 use Rattle.jx_tagtree.specs.declared.shape.Level.{Level}
 use Rattle.jx_tagtree.specs.Shape.{IsShape, base, is_root, over, parent_at, root, parent, way_from, way, IsLevel, InLevel}
 use Rattle.jx_tagtree.specs.TagTree.{unknown, node_at, node_bits, node_after, Walk, step, walk, Fits, Agree, Tree, query, AreValues, ValuesOf, fresh, tree_after}
-use Rattle.jx_tagtree.specs.Leaves.{passes, least_from, least_leaf, AreLeaves}
+use Rattle.jx_tagtree.specs.Leaves.{passes, least_from, least_leaf, AreLeaves, Written, told, told_after}
 use Rattle.jx_tagtree.specs.KeptLeaves.{leaves_in, AreNodeValues, KeepsLeaves}
 use Rattle.jx_tagtree.proofs.ShapeLemmas.{IsLevel-base, InLevel-base, IsLevel-over, InLevel-parent, way_begin}
 use Rattle.jx_tagtree.proofs.WayLemmas.{IsWay, at_top, under, way_is}
@@ -181,11 +181,15 @@ least_of_leaf wide high leaves l s all fit lt =
 -- what is true of the values after some of the leaves
 pub record Lowered (wide high : ℕ) (leaves : List ℕ) (count : ℕ) (values : List ℕ) : Type 0 where
   pub long : length values ≡ root wide high + 1
+  pub fit : (n : ℕ) → get_or values n 0 ≤ 2 ^ 32 - 1
   pub each : (n : ℕ) → n ≤ root wide high → min (get_or values n 0) (least_from (way wide high) n count (drop count leaves)) ≡ least_leaf wide high leaves n
 
 pub lowered_begin : (wide high : ℕ) (leaves values : List ℕ) → length values ≡ root wide high + 1 → ((n : ℕ) → n ≤ root wide high → get_or values n 0 ≡ 2 ^ 32 - 1) → Lowered wide high leaves 0 values
 lowered_begin wide high leaves values long top = record {
   long = long;
+  fit = λ n. elim (cases_lt n (length values)) [
+    inl lt ↦ (let e : get_or values n 0 ≡ 2 ^ 32 - 1 = top n (omega arith) in omega arith)
+  | inr ge ↦ (let e : get_or values n 0 ≡ 0 = get_or_past values n 0 ge in omega arith) ];
   each = λ n le. (let e : get_or values n 0 ≡ 2 ^ 32 - 1 = top n le in let h : least_from (way wide high) n 0 leaves ≤ 2 ^ 32 - 1 = least_from-le (way wide high) n 0 leaves in omega arith);
 }
 
@@ -196,10 +200,16 @@ lowered_next wide high leaves count values new lt l same each =
   let long : length values ≡ root wide high + 1 = l.long in
   record {
     long = same ∙ long;
+    fit = λ n. elim (cases_lt n (length values)) [
+      inl n_lt ↦ fits n (passes n (way wide high count)) (each n n_lt) (l.fit n)
+    | inr ge ↦ (let e : get_or new n 0 ≡ 0 = get_or_past new n 0 (omega arith) in omega arith) ];
     each = λ n le. by n (passes n (way wide high count)) (each n (omega arith))
       (sym (ap (λ (r : List ℕ). min (get_or values n 0) (least_from (way wide high) n count r)) (drop_more leaves count 0 lt)) ∙ l.each n le);
   }
   where
+    fits : (n : ℕ) (b : Bool) → get_or new n 0 ≡ cond b (min (get_or values n 0) (get_or leaves count 0)) (get_or values n 0) → get_or values n 0 ≤ 2 ^ 32 - 1 → get_or new n 0 ≤ 2 ^ 32 - 1
+    fits n true e le = let e' : get_or new n 0 ≡ min (get_or values n 0) (get_or leaves count 0) = e in omega arith
+    fits n false e le = let e' : get_or new n 0 ≡ get_or values n 0 = e in omega arith
     by : (n : ℕ) (b : Bool) → get_or new n 0 ≡ cond b (min (get_or values n 0) (get_or leaves count 0)) (get_or values n 0) →
       min (get_or values n 0) (cond b (min (get_or leaves count 0) (least_from (way wide high) n (count + 1) (drop (count + 1) leaves))) (least_from (way wide high) n (count + 1) (drop (count + 1) leaves))) ≡ least_leaf wide high leaves n →
       min (get_or new n 0) (least_from (way wide high) n (count + 1) (drop (count + 1) leaves)) ≡ least_leaf wide high leaves n
@@ -208,13 +218,13 @@ lowered_next wide high leaves count values new lt l same each =
       (let regroup : min (get_or new n 0) r ≡ min (get_or values n 0) (min (get_or leaves count 0) r) = omega arith in regroup) ∙ h
     by n false e h = ap (λ (q : ℕ). min q (least_from (way wide high) n (count + 1) (drop (count + 1) leaves))) e ∙ h
 
-pub lowered_end : (wide high : ℕ) (leaves : List ℕ) (count : ℕ) (values : List ℕ) → length leaves ≤ count → ((i : ℕ) → get_or values i 0 < 2 ^ 32) → Lowered wide high leaves count values → AreNodeValues wide high leaves values
-lowered_end wide high leaves count values all fit l = record {
+pub lowered_end : (wide high : ℕ) (leaves : List ℕ) (count : ℕ) (values : List ℕ) → length leaves ≤ count → Lowered wide high leaves count values → AreNodeValues wide high leaves values
+lowered_end wide high leaves count values all l = record {
   long = l.long;
   each = λ n le. (let none : drop count leaves ≡ [] = drop_all count leaves all in
     let h : min (get_or values n 0) (least_from (way wide high) n count (drop count leaves)) ≡ least_leaf wide high leaves n = l.each n le in
     let h' : min (get_or values n 0) (2 ^ 32 - 1) ≡ least_leaf wide high leaves n = subst (λ (r : List ℕ). min (get_or values n 0) (least_from (way wide high) n count r) ≡ least_leaf wide high leaves n) none h in
-    let f : get_or values n 0 < 2 ^ 32 = fit n in omega arith);
+    let f : get_or values n 0 ≤ 2 ^ 32 - 1 = l.fit n in omega arith);
 }
 
 -- the tree has at least its leaves
@@ -235,3 +245,58 @@ leaves_first wide high leaves values s all fit v =
   same_number_lists (take (wide * high) values) leaves (size ∙ sym all)
     (λ k lt. (let k_lt : k < wide * high = omega arith in
       get_or-take (wide * high) values k 0 k_lt ∙ v.each k (omega arith) ∙ least_of_leaf wide high leaves k s all fit k_lt))
+
+-- ---- calls
+pub all_highest : (wide high : ℕ) (leaves : List ℕ) (count : ℕ) (values : List ℕ) → count ≡ root wide high + 1 → values ≡ replicate count (2 ^ 32 - 1) → Lowered wide high leaves 0 values
+all_highest wide high leaves count values size e = lowered_begin wide high leaves values (ap length e ∙ length-replicate count (2 ^ 32 - 1) ∙ size)
+  (λ n le. ap (λ (l : List ℕ). get_or l n 0) e ∙ get_or-replicate count n (2 ^ 32 - 1) 0 (omega arith))
+
+pub way_range : (wide high leaf : ℕ) (ways values : List ℕ) → IsShape wide high → leaf < wide * high → ways ≡ way wide high leaf → length values ≡ root wide high + 1 →
+  (k : ℕ) → k < length ways → get_or ways k 0 < length values
+way_range wide high leaf ways values s lt e long k k_lt =
+  let le : get_or ways k 0 ≤ root wide high = way_below (parent wide high) (root wide high) leaf ways (subst (λ (w : List ℕ). IsWay (parent wide high) (root wide high) leaf w) (sym e) (way_is wide high leaf s lt)) k k_lt in
+  omega arith
+
+pub made_keeps : (wide high : ℕ) (leaves values : List ℕ) (nodes : List Node) → IsShape wide high → length leaves ≡ wide * high → ((i : ℕ) → get_or leaves i 0 < 2 ^ 32) → AreNodeValues wide high leaves values →
+  length nodes ≡ root wide high + 1 → KeepsLeaves wide high values nodes
+made_keeps wide high leaves values nodes s all fit v long = record {
+  shape = s;
+  long = long;
+  are_values = subst (λ (l : List ℕ). AreNodeValues wide high l values) (sym (leaves_first wide high leaves values s all fit v)) v;
+}
+
+abbrev pub written_of : ℕ → ℕ → List ℕ → List Node → Written
+written_of wide high leaves nodes = record { leaves = leaves; tree = record { wide = wide; high = high; nodes = nodes } }
+
+module _ (wide high leaf t : ℕ) (values : List ℕ) (nodes : List Node) (keeps : KeepsLeaves wide high values nodes) (tree : Written) (view : written_of wide high (leaves_in wide high values) nodes ≡ tree)
+  (inside : leaf < tree.tree.wide * tree.tree.high) (ways : List ℕ) (ways_are : ways ≡ way wide high leaf) where
+  inside_it : leaf < wide * high
+  inside_it = subst (λ (w : Written). leaf < w.tree.wide * w.tree.high) (sym view) inside
+
+  pub told_nodes : (k : ℕ) → k < length ways → get_or ways k 0 < length nodes
+  told_nodes = way_range' wide high leaf ways nodes keeps.shape inside_it ways_are keeps.long
+    where
+      way_range' : (wide high leaf : ℕ) (ways : List ℕ) (values : List Node) → IsShape wide high → leaf < wide * high → ways ≡ way wide high leaf → length values ≡ root wide high + 1 →
+        (k : ℕ) → k < length ways → get_or ways k 0 < length values
+      way_range' wide high leaf ways values s lt e long k k_lt =
+        let le : get_or ways k 0 ≤ root wide high = way_below (parent wide high) (root wide high) leaf ways (subst (λ (w : List ℕ). IsWay (parent wide high) (root wide high) leaf w) (sym e) (way_is wide high leaf s lt)) k k_lt in
+        omega arith
+
+  pub told_values : (slice : List ℕ) → slice ≡ values → (k : ℕ) → k < length ways → get_or ways k 0 < length slice
+  told_values slice e = subst (λ (l : List ℕ). (k : ℕ) → k < length ways → get_or ways k 0 < length l) (sym e) (way_range wide high leaf ways values keeps.shape inside_it ways_are keeps.are_values.long)
+
+  pub told_is : (slice : List ℕ) → slice ≡ values → walk (λ n. get_or slice n 0) t nodes ways ≡ told tree leaf t
+  told_is slice e =
+    walk-same (λ n. get_or slice n 0) (least_leaf wide high (leaves_in wide high values)) t nodes ways
+      (λ k lt. ap (λ (l : List ℕ). get_or l (get_or ways k 0) 0) e ∙ keeps.are_values.each (get_or ways k 0)
+        (let lt' : get_or ways k 0 < length values = told_values values refl k lt in let long : length values ≡ root wide high + 1 = keeps.are_values.long in omega arith))
+      ∙ ap (walk (least_leaf wide high (leaves_in wide high values)) t nodes) ways_are
+      ∙ ap (λ (w : Written). told w leaf t) view
+
+  pub told_keeps : (new : List Node) → length new ≡ length nodes → KeepsLeaves wide high values new
+  told_keeps new e = record { shape = keeps.shape; long = e ∙ keeps.long; are_values = keeps.are_values }
+
+  pub told_after_is : (slice : List ℕ) → slice ≡ values → (new : List Node) → new ≡ (walk (λ n. get_or slice n 0) t nodes ways).nodes → written_of wide high (leaves_in wide high values) new ≡ told_after tree leaf t
+  told_after_is slice e new h =
+    ap (written_of wide high (leaves_in wide high values)) (h ∙ ap (λ (w : Walk). w.nodes) (told_is slice e))
+      ∙ ap (λ (w : Written). written_of w.tree.wide w.tree.high w.leaves (told tree leaf t).nodes) view

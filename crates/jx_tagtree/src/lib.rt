@@ -7,11 +7,13 @@ pub(crate) mod node;
 mod reading;
 mod shape;
 mod tag_reader;
+mod tag_writer;
 mod writer;
 mod writing;
 
 pub use reader::BitReader;
 pub use tag_reader::TagReader;
+pub use tag_writer::TagWriter;
 pub use writer::BitWriter;
 
 /// Why a packet header has no next bit (T.800 B.10.1).

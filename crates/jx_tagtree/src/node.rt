@@ -1,7 +1,7 @@
-ghost use Rattle.std.specs.Prelude.{◌≡◌, ◌+◌, ◌-◌, ◌≤◌, ◌++◌, max, Some, None, IfOk, IfErr};
-ghost use Rattle.jx_tagtree.specs.Header.{to_come, fault_of, exhausted};
+ghost use Rattle.std.specs.Prelude.{◌≡◌, IfOk, replicate, false};
 
-use crate::{BitFault, BitReader};
+use jx_base::NoMemory;
+use std::alloc::Global;
 
 /// What is known of a node of a tag tree: its value is at least `known`, and exactly that where it is settled.
 #[derive(Clone, Copy, Debug, PartialEq, Eq)]
@@ -10,4 +10,15 @@ pub struct Node {
     pub known: u32,
     /// Whether it is exactly that.
     pub settled: bool,
+}
+
+/// Nodes of which nothing is known.
+pub(crate) fn unknown_nodes(alloc: Global, count: usize) -> Result<Vec<Node>, NoMemory>
+    ensures { IfOk result (λ nodes. nodes.items ≡ replicate count (record { known = 0; settled = false })) }
+{
+    let unknown = Node {
+        known: 0,
+        settled: false,
+    };
+    Ok(vec![in alloc; unknown; count]?)
 }

@@ -3,7 +3,7 @@ ghost use Rattle.jx_tagtree.specs.Header.{to_come, fault_of, exhausted};
 ghost use Rattle.jx_tagtree.specs.Shape.{IsShape};
 ghost use Rattle.jx_tagtree.specs.TagTree.{Tree, fresh, query, ValuesOf, IsTree, HasRead};
 
-use crate::node::Node;
+use crate::node::{Node, unknown_nodes};
 use crate::reading::read_way;
 use crate::shape::{count_nodes, way_of};
 use crate::{BitFault, BitReader};
@@ -38,11 +38,7 @@ impl TagReader {
         requires { IsShape wide high }
         ensures fresh { IfOk result (λ tree. tree ≡ fresh wide high) }
     {
-        let unknown = Node {
-            known: 0,
-            settled: false,
-        };
-        let nodes = vec![in alloc; unknown; count_nodes(wide, high)]?;
+        let nodes = unknown_nodes(alloc, count_nodes(wide, high))?;
         Ok(TagReader { wide, high, nodes })
     }
 

@@ -64,6 +64,7 @@ pub(crate) fn write_way(
 ) -> Result<(), NoMemory>
     requires nodes { (k : ℕ) → k < length way.now → slice_index way.now k < length nodes.old.items }
     requires values { (k : ℕ) → k < length way.now → slice_index way.now k < length values.now }
+    ensures long { length nodes.new.items ≡ length nodes.old.items }
     ensures nodes { OnOk result (nodes.new.items ≡ (walk (λ n. slice_index values.now n) threshold nodes.old.items way.now).nodes) }
     ensures bits { OnOk result (bits.new ≡ bits.old ++ (walk (λ n. slice_index values.now n) threshold nodes.old.items way.now).bits) }
 {
