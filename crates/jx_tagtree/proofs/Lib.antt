@@ -6,3 +6,4 @@ pub mod ScanLemmas
 pub mod WayLemmas
 pub mod TagLemmas
 pub mod LeafLemmas
+pub mod QuestionLemmas

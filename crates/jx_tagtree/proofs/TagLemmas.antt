@@ -299,7 +299,7 @@ split_way : (t n : ℕ) (o : Option Scanned) (r : Scanned) → option_and_then (
 split_way t n None r h = absurd cc
 split_way t n (Some a) r h = (a, refl, h)
 
-abbrev scanned_of : List Node → ℕ → List Bool → Scanned
+abbrev pub scanned_of : List Node → ℕ → List Bool → Scanned
 scanned_of nodes known rest = record { nodes = nodes; known = known; rest = rest }
 
 pub scan_sound : (up : ℕ → ℕ) (top t : ℕ) (nodes : List Node) (bits : List Bool) (n : ℕ) (ways : List ℕ) → IsWay up top n ways → top < length nodes → Sound up top nodes →

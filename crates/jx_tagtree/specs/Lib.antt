@@ -5,4 +5,5 @@ pub mod TagTree
 pub mod Kept
 pub mod Leaves
 pub mod KeptLeaves
+pub mod Questions
 pub mod Scan
