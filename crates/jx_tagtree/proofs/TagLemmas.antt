@@ -6,9 +6,9 @@ use Rattle.std.proofs.lemmas.Bool.Decides.{nat_tests}
 use Rattle.std.proofs.lemmas.Bool.{cases_eq, cases_lt}
 use Rattle.jx_tagtree.specs.declared.node.Node.{Node}
 use Rattle.jx_tagtree.specs.TagTree.{unknown, node_at, node_bits, node_after, Walk, step, walk, Fits, Agree, Tree, query, ValuesOf, HasRead}
-use Rattle.jx_tagtree.specs.Scan.{Zeros, scan, more_zeros, Found, found, scan_one, Scanned, scanned, scan_node, scan_way, Took, PartRead}
+use Rattle.jx_tagtree.specs.Scan.{Zeros, scan, more_zeros, Found, found, scan_one, Scanned, scanned, scan_node, scan_way, PartRead}
 use Rattle.jx_tagtree.specs.Kept.{KeepsTree}
-use Rattle.jx_tagtree.specs.Header.{Reading, to_come, advance}
+use Rattle.jx_tagtree.specs.Header.{Took, Reading, to_come, advance}
 use Rattle.jx_tagtree.specs.Shape.{root, parent, way}
 use Rattle.jx_tagtree.proofs.WayLemmas.{IsWay, at_top, under, way_is}
 

@@ -79,6 +79,10 @@ refuse r fault = record r { refused = Some fault }
 abbrev pub exhausted : Reading → Reading
 exhausted r = refuse (advance r (length (to_come r))) (fault_of r)
 
+-- a reader has given some bits
+abbrev pub Took : Reading → Reading → Type 0
+Took from to = (given : List Bool) × (to_come from ≡ given ++ to_come to) × (to ≡ advance from (length given))
+
 -- the byte after a last FF, whose top bit is stuffed: n bytes stand before it
 abbrev pub past_last_ff : ℕ → List ℕ → Result ℕ BitFault
 past_last_ff n [] = Err Ended

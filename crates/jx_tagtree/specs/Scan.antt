@@ -2,7 +2,6 @@
 -- and laws tie it to the values.
 use Rattle.std.specs.Prelude.{◌≡◌, ℕ, zero, suc, ◌+◌, ◌-◌, max, Bool, true, false, List, [], ◌∷◌, ◌++◌, length, drop, slice_set, Option, Some, None, option_map, option_and_then, if◌then◌else◌}
 use Rattle.jx_tagtree.specs.declared.node.Node.{Node}
-use Rattle.jx_tagtree.specs.Header.{Reading, to_come, advance}
 use Rattle.jx_tagtree.specs.TagTree.{node_at}
 
 -- at most n zeros, whether a 1 ended them before, and the bits behind
@@ -48,10 +47,6 @@ scan_node threshold n above = option_map (scanned n above.nodes) (scan_one thres
 abbrev pub scan_way : ℕ → List Node → List ℕ → List Bool → Option Scanned
 scan_way threshold nodes [] bits = Some (record { nodes = nodes; known = 0; rest = bits })
 scan_way threshold nodes (n ∷ over) bits = option_and_then (scan_node threshold n) (scan_way threshold nodes over bits)
-
--- a reader has given some bits
-abbrev pub Took : Reading → Reading → Type 0
-Took from to = (given : List Bool) × (to_come from ≡ given ++ to_come to) × (to ≡ advance from (length given))
 
 -- the nodes of a way's upper part were read, and no others
 pub record PartRead (threshold : ℕ) (old : List Node) (way : List ℕ) (bits : List Bool) (new : List Node) : Type 0 where

@@ -1,6 +1,6 @@
 ghost use Rattle.std.specs.Prelude.{◌≡◌, ◌+◌, ◌-◌, ◌<◌, ◌≤◌, ◌++◌, max, Some, None, IfOk, IfErr, length, slice_index, ℕ};
-ghost use Rattle.jx_tagtree.specs.Header.{to_come, fault_of, exhausted};
-ghost use Rattle.jx_tagtree.specs.Scan.{scan, scan_one, scan_way, Zeros, Found, Scanned, Took, PartRead};
+ghost use Rattle.jx_tagtree.specs.Header.{Took, to_come, fault_of, exhausted};
+ghost use Rattle.jx_tagtree.specs.Scan.{scan, scan_one, scan_way, Zeros, Found, Scanned, PartRead};
 
 use crate::node::Node;
 use crate::shape::Way;

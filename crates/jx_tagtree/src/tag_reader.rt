@@ -1,5 +1,5 @@
 ghost use Rattle.std.specs.Prelude.{◌≡◌, ◌*◌, ◌<◌, ◌≤◌, ◌++◌, ℕ, Bool, List, length, ◌&&◌, nat_lt, Ok, OnOk, IfOk, IfErr};
-ghost use Rattle.jx_tagtree.specs.Header.{to_come, fault_of, exhausted};
+ghost use Rattle.jx_tagtree.specs.Header.{Took, to_come, fault_of, exhausted};
 ghost use Rattle.jx_tagtree.specs.Shape.{IsShape};
 ghost use Rattle.jx_tagtree.specs.TagTree.{Tree, fresh, query, ValuesOf, IsTree, HasRead};
 
@@ -51,6 +51,8 @@ impl TagReader {
         bits: &mut BitReader<'_>,
     ) -> Result<bool, BitFault>
         requires { leaf < self.old.wide * self.old.high }
+        ensures size { (self.new.wide ≡ self.old.wide) × (self.new.high ≡ self.old.high) }
+        ensures took { OnOk result (Took bits.old bits.new) }
         // What was read are the query's bits, for all values that agree with what is known afterwards.
         ensures read { IfOk result (λ below. (values : ℕ → ℕ) → ValuesOf self.new values → HasRead values leaf threshold below self.old bits.old self.new bits.new) }
         // The query's bits for values that agree with what is known are read so, and in no other way.

@@ -1,7 +1,7 @@
 use Rattle.std.proofs.Common.{◌≡◌, ◌-◌, ◌≤◌}
 use Rattle.std.specs.Prelude.{option_map}
-use Rattle.jx_tagtree.specs.Header.{to_come}
-use Rattle.jx_tagtree.specs.Scan.{scan, more_zeros, Took}
+use Rattle.jx_tagtree.specs.Header.{Took, to_come}
+use Rattle.jx_tagtree.specs.Scan.{scan, more_zeros}
 use Rattle.jx_tagtree.proofs.reading.read_zeros.Given as goal
 
 -- the zeros so far and those to come are all
