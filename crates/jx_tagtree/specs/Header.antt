@@ -32,8 +32,8 @@ none_after_stuffed = record { bits = []; fault = Stuffed }
 abbrev pub bits_after : ℕ → List ℕ → Bits
 bits_after before [] = record { bits = []; fault = Ended }
 bits_after before (byte ∷ bytes) =
-  if is_stuffed before byte then none_after_stuffed
-  else before_all (low_bits (room before) byte) (bits_after byte bytes)
+    if is_stuffed before byte then none_after_stuffed
+    else before_all (low_bits (room before) byte) (bits_after byte bytes)
 
 -- the bits of a header's bytes without the stuffed ones
 abbrev pub bits_of : List ℕ → Bits
@@ -91,8 +91,8 @@ past_last_ff n (byte ∷ bytes) = if nat_le 128 byte then Err Stuffed else Ok (n
 -- Where a header of the first n bits ends: after the byte with the last of them, and where that is FF, after the next.
 abbrev pub end_after : List ℕ → ℕ → Result ℕ BitFault
 end_after bytes n =
-  let used = bytes_for 0 bytes n in
-  if last_after 0 (take used bytes) == 255 then past_last_ff used (drop used bytes) else Ok used
+    let used = bytes_for 0 bytes n in
+    if last_after 0 (take used bytes) == 255 then past_last_ff used (drop used bytes) else Ok used
 
 -- a fault that was answered is answered again
 abbrev pub end_unless : Option BitFault → Result ℕ BitFault → Result ℕ BitFault
@@ -116,7 +116,7 @@ abbrev pub bytes_from : ℕ → ℕ → List Bool → List ℕ
 bytes_from zero before bits = []
 bytes_from (suc fuel) before [] = if before == 255 then 0 ∷ [] else []
 bytes_from (suc fuel) before (bit ∷ bits) =
-  number_of (room before) (bit ∷ bits) ∷ bytes_from fuel (number_of (room before) (bit ∷ bits)) (drop (room before) (bit ∷ bits))
+    number_of (room before) (bit ∷ bits) ∷ bytes_from fuel (number_of (room before) (bit ∷ bits)) (drop (room before) (bit ∷ bits))
 
 -- the one header of some bits
 abbrev pub bytes_of : List Bool → List ℕ

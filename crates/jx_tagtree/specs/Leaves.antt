@@ -14,7 +14,7 @@ passes n (m ∷ over) = (m == n) || passes n over
 abbrev pub least_from : (ℕ → List ℕ) → ℕ → ℕ → List ℕ → ℕ
 least_from ways n first [] = 2 ^ 32 - 1
 least_from ways n first (leaf ∷ leaves) =
-  if passes n (ways first) then min leaf (least_from ways n (first + 1) leaves) else least_from ways n (first + 1) leaves
+    if passes n (ways first) then min leaf (least_from ways n (first + 1) leaves) else least_from ways n (first + 1) leaves
 
 -- the value of a node: the least leaf under it
 abbrev pub least_leaf : ℕ → ℕ → List ℕ → ℕ → ℕ

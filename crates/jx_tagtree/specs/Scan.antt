@@ -29,8 +29,8 @@ found start z = record { node = record { known = start + z.zeros; settled = z.on
 
 abbrev pub scan_one : ℕ → Node → ℕ → List Bool → Option Found
 scan_one threshold node above bits =
-  if node.settled then Some (record { node = record { known = max node.known above; settled = true }; rest = bits })
-  else option_map (found (max node.known above)) (scan (threshold - max node.known above) bits)
+    if node.settled then Some (record { node = record { known = max node.known above; settled = true }; rest = bits })
+    else option_map (found (max node.known above)) (scan (threshold - max node.known above) bits)
 
 -- the nodes after the bits of a way, what is known of its last node, and the bits behind
 pub record Scanned : Type 0 where

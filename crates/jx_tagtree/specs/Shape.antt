@@ -23,7 +23,7 @@ over level = record { first = level.first + level.wide * level.high; wide = (lev
 -- the parent of a node of a level: a quarter of the place
 abbrev pub parent_at : Level → ℕ → ℕ
 parent_at level n =
-  (over level).first + (n - level.first) / level.wide / 2 * (over level).wide + (n - level.first) % level.wide / 2
+    (over level).first + (n - level.first) / level.wide / 2 * (over level).wide + (n - level.first) % level.wide / 2
 
 -- the number of the root, n levels above at most
 abbrev pub root_from : ℕ → Level → ℕ

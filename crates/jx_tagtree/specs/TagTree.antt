@@ -27,7 +27,7 @@ node_at nodes n = slice_index_or nodes n unknown
 -- start, then a 1 where the value is below the threshold. A settled node has none.
 abbrev pub node_bits : Node → ℕ → ℕ → ℕ → List Bool
 node_bits node start m threshold =
-  if node.settled then [] else replicate (min m threshold - start) false ++ (if nat_lt m threshold then true ∷ [] else [])
+    if node.settled then [] else replicate (min m threshold - start) false ++ (if nat_lt m threshold then true ∷ [] else [])
 
 -- what is known of it afterwards
 abbrev pub node_after : Node → ℕ → ℕ → ℕ → Node
@@ -42,14 +42,14 @@ pub record Walk : Type 0 where
 -- a node after its parent: it starts at the larger of what is known of both
 abbrev pub step : (ℕ → ℕ) → ℕ → ℕ → Walk → Walk
 step values threshold n above =
-  let node = node_at above.nodes n in
-  let start = max node.known above.known in
-  let after = node_after node start (values n) threshold in
-  record {
-    nodes = slice_set above.nodes n after;
-    known = after.known;
-    bits = above.bits ++ node_bits node start (values n) threshold;
-  }
+    let node = node_at above.nodes n in
+    let start = max node.known above.known in
+    let after = node_after node start (values n) threshold in
+    record {
+      nodes = slice_set above.nodes n after;
+      known = after.known;
+      bits = above.bits ++ node_bits node start (values n) threshold;
+    }
 
 -- A query walks from the root down: its way has the leaf first, and behind each node its parent.
 abbrev pub walk : (ℕ → ℕ) → ℕ → List Node → List ℕ → Walk
@@ -85,7 +85,7 @@ pub record ValuesOf (tree : Tree) (values : ℕ → ℕ) : Type 0 where
 -- What can be known of a tree: where a node is settled, so is its parent, and the parent's value isn't larger.
 abbrev pub IsSound : ℕ → ℕ → List Node → Type 0
 IsSound wide high nodes = (n : ℕ) → n < root wide high → (node_at nodes n).settled ≡ true →
-  ((node_at nodes (parent wide high n)).settled ≡ true) × ((node_at nodes (parent wide high n)).known ≤ (node_at nodes n).known)
+    ((node_at nodes (parent wide high n)).settled ≡ true) × ((node_at nodes (parent wide high n)).known ≤ (node_at nodes n).known)
 
 -- a tree that has each of its nodes, of which what is known can be known
 pub record IsTree (tree : Tree) : Type 0 where

@@ -2,8 +2,8 @@
 #![tactic(auto)]
 
 pub mod laws;
-mod reader;
 pub(crate) mod node;
+mod reader;
 mod reading;
 mod shape;
 mod tag_reader;
@@ -24,3 +24,6 @@ pub enum BitFault {
     /// The bit that is stuffed after a byte FF is 1.
     Stuffed,
 }
+
+#[cfg(test)]
+mod tests;

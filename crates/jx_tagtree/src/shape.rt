@@ -104,7 +104,11 @@ pub(crate) fn way_of(wide: u32, high: u32, leaf: u32) -> Way
     ensures { result ≡ way wide high leaf }
 {
     let mut nodes = Way::new();
-    let mut level = Level { first: 0, wide, high };
+    let mut level = Level {
+        first: 0,
+        wide,
+        high,
+    };
     let mut node = leaf;
     while !is_top(level) {
         nodes.push(node);
@@ -121,7 +125,11 @@ pub(crate) fn count_nodes(wide: u32, high: u32) -> usize
     requires { IsShape wide high }
     ensures { result ≡ root wide high + 1 }
 {
-    let mut level = Level { first: 0, wide, high };
+    let mut level = Level {
+        first: 0,
+        wide,
+        high,
+    };
     for _ in 0..20u32 {
         if is_top(level) {
             return level.first as usize + 1;

@@ -63,19 +63,18 @@ impl TagWriter {
 }
 
 /// The values of the nodes over some leaves.
-fn node_values(
-    alloc: Global,
-    wide: u32,
-    high: u32,
-    leaves: &[u32],
-) -> Result<Vec<u32>, NoMemory>
+fn node_values(alloc: Global, wide: u32, high: u32, leaves: &[u32]) -> Result<Vec<u32>, NoMemory>
     requires shape { IsShape wide high }
     requires leaves { length leaves.now ≡ wide * high }
     ensures { IfOk result (λ values. AreNodeValues wide high leaves.now values.items) }
 {
     let mut values = highest(alloc, count_nodes(wide, high))?;
     for leaf in 0..wide * high {
-        lower(&mut values, &way_of(wide, high, leaf), leaves[leaf as usize]);
+        lower(
+            &mut values,
+            &way_of(wide, high, leaf),
+            leaves[leaf as usize],
+        );
     }
     Ok(values)
 }

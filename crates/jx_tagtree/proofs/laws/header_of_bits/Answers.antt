@@ -8,4 +8,4 @@ returns-clause-bits c = λ bits. made (suc (length bits)) 0 bits (omega arith)
 
 pub returns-clause-stuffed : goal.returns-clause-stuffed
 returns-clause-stuffed c = λ bits i h. subst (λ (k : ℕ). get_or (bytes_of bits) k 0 < 128) (sym (add-one i))
-  (clean_pair 0 (bytes_of bits) (made (suc (length bits)) 0 bits (omega arith)).clean i h)
+    (clean_pair 0 (bytes_of bits) (made (suc (length bits)) 0 bits (omega arith)).clean i h)

@@ -8,4 +8,4 @@ loop-init c = rise_begin c.args.wide c.args.high c.requires
 
 pub loop-preserved : goal.loop-preserved
 loop-preserved c = rw c.next-level.ensures
-  (rise_next (root c.args.wide c.args.high) c.loop.counter c.loop.level c.loop.invariant (sym c.is_top.ensures ∙ c.if-is_top.false))
+    (rise_next (root c.args.wide c.args.high) c.loop.counter c.loop.level c.loop.invariant (sym c.is_top.ensures ∙ c.if-is_top.false))

@@ -12,4 +12,4 @@ node_over-node-requires-clause-fits c = parent_fits (20 - length c.loop-level.no
 
 pub loop-level-preserved : goal.loop-level-preserved
 loop-level-preserved c = rw (c.push.ensures, c.next-above.ensures, c.node_over-node.ensures)
-  (climb_next (way c.args.wide c.args.high c.args.leaf) c.loop-level.nodes c.loop-level.level c.loop-level.node c.loop-level.invariant (sym c.is_top.ensures ∙ c.loop-level-test.true)).1
+    (climb_next (way c.args.wide c.args.high c.args.leaf) c.loop-level.nodes c.loop-level.level c.loop-level.node c.loop-level.invariant (sym c.is_top.ensures ∙ c.loop-level-test.true)).1

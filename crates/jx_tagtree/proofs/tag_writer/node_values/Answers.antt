@@ -10,5 +10,5 @@ lower-requires c = way_range c.args.wide c.args.high c.loop-leaf.leaf c.way_of.r
 
 pub returns : goal.returns
 returns c =
-  let all : length c.args.leaves.now ≡ c.args.wide * c.args.high = c.requires.leaves in
-  lowered_end c.args.wide c.args.high c.args.leaves.now c.loop-leaf.leaf c.loop-leaf.values.items (omega arith) c.loop-leaf.invariant
+    let all : length c.args.leaves.now ≡ c.args.wide * c.args.high = c.requires.leaves in
+    lowered_end c.args.wide c.args.high c.args.leaves.now c.loop-leaf.leaf c.loop-leaf.values.items (omega arith) c.loop-leaf.invariant

@@ -8,5 +8,5 @@ returns-then-filled-eq0 c = closed-whole c.args.bytes.now.items c.args.last c.ar
 
 pub returns : goal.returns
 returns c = rw c.in_ok-push.ensures.items
-  (closed-filled c.args.bytes.now.items c.args.last c.args.current c.args.filled c.filled_up-byte.result c.requires (omega arith)
+    (closed-filled c.args.bytes.now.items c.args.last c.args.current c.args.filled c.filled_up-byte.result c.requires (omega arith)
     (c.filled_up-byte.ensures ∙ ap (λ (r : ℕ). c.args.current * 2 ^ (r - c.args.filled)) c.room_after.ensures))

@@ -8,7 +8,7 @@ invariant-loop-place l = record {
   within : l.place ≤ length l.way;
   long : length l.values.items ≡ length l.fn.values.items;
   each : (n : ℕ) → n < length l.fn.values.items → get_or l.values.items n 0
-    ≡ cond (passes n (drop l.place l.way)) (min (get_or l.fn.values.items n 0) l.leaf) (get_or l.fn.values.items n 0);
+      ≡ cond (passes n (drop l.place l.way)) (min (get_or l.fn.values.items n 0) l.leaf) (get_or l.fn.values.items n 0);
 }
 
 abbrev pub decreases-loop-place : goal.decreases-loop-place
