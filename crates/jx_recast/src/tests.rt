@@ -193,6 +193,7 @@ fn other_forms(rt: HostRuntime) -> Result<(), Fail> {
         (81, 0xD8),
     ] {
         let mut changed = SMALL;
+        assert!(rt; at < changed.len());
         changed[at] = byte;
         refused(&rt, &changed, Status::Form, "form\n")?;
     }
