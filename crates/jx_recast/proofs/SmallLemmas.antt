@@ -1,5 +1,5 @@
 -- The smallest codestreams.
-use Rattle.std.proofs.Common.{◌≡◌, ◌∙◌, ◌<◌, ℕ, true, nat_lt, arith, List, [], ◌∷◌, ◌++◌, length, drop, refl, sym, ap, subst, Option, Some, None, slice_index}
+use Rattle.std.proofs.Common.{◌≡◌, ◌∙◌, ◌<◌, ℕ, true, nat_lt, arith, List, [], ◌∷◌, ◌++◌, length, drop, refl, sym, ap, subst, lit<, Option, Some, None, slice_index}
 use Rattle.std.proofs.Math.Seq.{drop-append_seam}
 use Rattle.std.proofs.lemmas.Bool.Decides.{nat_tests}
 use Rattle.jx_marker.specs.declared.Segment.{Segment}
@@ -203,3 +203,37 @@ small_read bytes h packet spells headers stands single empty = record {
 pub output_read : (bytes out : List ℕ) (h : Headers) → h ≡ headers_at bytes → out ≡ spelled (with_sop h) marked_packet → out ≡ output bytes
 unfolding output
 output_read bytes out h headers written = written ∙ ap (λ (g : Headers). spelled (with_sop g) marked_packet) headers
+
+pub output_same : (bytes : List ℕ) → output bytes ≡ spelled (with_sop (headers_at bytes)) marked_packet
+unfolding output
+output_same bytes = refl
+
+-- the changed headers have a spelling
+pub sop_in_range : (h : Headers) → AreInRange h → AreInRange (with_sop h)
+sop_in_range h ranges = record {
+  siz = record {
+    rsiz = lit< tt;
+    x1 = ranges.siz.x1;
+    y1 = ranges.siz.y1;
+    x0 = ranges.siz.x0;
+    y0 = ranges.siz.y0;
+    tw = ranges.siz.tw;
+    th = ranges.siz.th;
+    tx = ranges.siz.tx;
+    ty = ranges.siz.ty;
+    fits = ranges.siz.fits;
+    each = ranges.siz.each;
+  };
+  cod = record {
+    order = ranges.cod.order;
+    some = ranges.cod.some;
+    layers = ranges.cod.layers;
+    transform = ranges.cod.transform;
+    shape = ranges.cod.shape;
+  };
+  quant = ranges.quant;
+  sot = record { tile = ranges.sot.tile; psot = lit< tt; part = ranges.sot.part; parts = lit< tt };
+}
+
+pub output_in_range : (bytes : List ℕ) → IsSmall bytes → AreInRange (with_sop (headers_at bytes))
+output_in_range bytes small = sop_in_range (headers_at bytes) small.spells.ranges

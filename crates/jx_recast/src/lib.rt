@@ -3,7 +3,7 @@
 #![tactic(auto)]
 
 mod device;
-//pub mod laws;
+pub mod laws;
 mod lines;
 mod program;
 mod small;
