@@ -3,3 +3,4 @@ pub mod Device
 pub mod Stored
 pub mod Planned
 pub mod MemPlan
+pub mod SinkPlan

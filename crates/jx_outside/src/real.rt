@@ -1,4 +1,4 @@
-ghost use Rattle.std.specs.Prelude.{None, ⊤, is_some, ◌≡◌, ◌≤◌};
+ghost use Rattle.std.specs.Prelude.{None, ⊤, false, is_some, ◌≡◌, ◌≤◌};
 ghost use Rattle.jx_outside.specs.Causes.{Rose};
 
 use crate::{Files, Refused, Sink};
@@ -19,8 +19,10 @@ pub struct StdFiles<R: Disk + Drop> {
 impl<R: Disk + Drop> StdFiles<R> {
     /// Nothing opened or created yet, and no faults.
     pub fn new(rt: R) -> StdFiles<R>
-        ensures reads { result.read_faults ≡ 0 }
-        ensures writes { result.write_faults ≡ 0 }
+        ensures reading { (⟦<StdFiles<R> as Files>⟧.meaning result).reading ≡ false }
+        ensures making { (⟦<StdFiles<R> as Files>⟧.meaning result).making ≡ false }
+        ensures reads { ⟦<StdFiles<R> as Files>⟧.read_faults result ≡ 0 }
+        ensures writes { ⟦<StdFiles<R> as Files>⟧.write_faults result ≡ 0 }
     {
         StdFiles {
             rt,
@@ -124,7 +126,7 @@ pub struct StdSink<R: Print + Drop> {
 impl<R: Print + Drop> StdSink<R> {
     /// No faults yet.
     pub fn new(rt: R) -> StdSink<R>
-        ensures { result.faults ≡ 0 }
+        ensures { ⟦<StdSink<R> as Sink>⟧.faults result ≡ 0 }
     {
         StdSink { rt, faults: 0 }
     }

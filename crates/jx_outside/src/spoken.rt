@@ -13,10 +13,14 @@ pub struct MemSink {
 }
 
 impl MemSink {
+    ghost use Rattle.jx_outside.specs.SinkPlan.{next_say, planned_says};
+
     /// Nothing said, and no call that is to fail.
     pub fn new(alloc: Global) -> MemSink
         ensures said { ⟦<MemSink as Sink>⟧.said result ≡ Some [] }
         ensures faults { ⟦<MemSink as Sink>⟧.faults result ≡ 0 }
+        ensures plan { planned_says result ≡ [] }
+        ensures first { next_say result ≡ 1 }
     {
         MemSink {
             text: String::new(alloc),
@@ -26,9 +30,12 @@ impl MemSink {
         }
     }
 
-    /// Makes the nth `say` fail, from 1.
+    /// Makes the nth `say` fail, counted from 1 over all calls.
     pub fn fail(&mut self, nth: u32) -> Result<(), Refused>
+        ensures ok { OnOk result (planned_says self.new ≡ planned_says self.old ++ nth ∷ []) }
+        ensures err { OnErr result (planned_says self.new ≡ planned_says self.old) }
         ensures cause { OnErr result (result ≡ Err Refused.NoMemory) }
+        ensures counts { next_say self.new ≡ next_say self.old }
         ensures said { ⟦<MemSink as Sink>⟧.said self.new ≡ ⟦<MemSink as Sink>⟧.said self.old }
         ensures faults { ⟦<MemSink as Sink>⟧.faults self.new ≡ ⟦<MemSink as Sink>⟧.faults self.old }
     {
