@@ -129,39 +129,39 @@ pub struct Sot {
 /// A marker segment (T.800, A.2).
 #[derive(Drop)]
 pub enum Segment {
-    /// Start of codestream.
+    /// Start of codestream (A.4.1).
     Soc,
-    /// Image and tile sizes.
+    /// Image and tile sizes (A.5.1).
     Siz(Siz),
-    /// Coding style default.
+    /// Coding style default (A.6.1).
     Cod(Cod),
-    /// Coding style of one component.
+    /// Coding style of one component (A.6.2).
     Coc { comp: u16, shape: Shape },
-    /// Quantization default.
+    /// Quantization default (A.6.4).
     Qcd(Quant),
-    /// Quantization of one component.
+    /// Quantization of one component (A.6.5).
     Qcc { comp: u16, quant: Quant },
-    /// Region of interest of one component: the shift of its maximum.
+    /// Region of interest of one component: the shift, 0 to 255 (A.6.3).
     Rgn { comp: u16, shift: u8 },
-    /// Changes of the progression order.
+    /// Changes of the progression order (A.6.6).
     Poc(Progressions),
-    /// Component registration: the bytes after the length.
+    /// Component registration: the bytes after the length (A.9.1).
     Crg(Bytes),
-    /// A comment: the bytes after the length.
+    /// A comment: the bytes after the length (A.9.2).
     Com(Bytes),
-    /// Packet lengths of a tile-part: the bytes after the length.
+    /// Packet lengths of a tile-part: the bytes after the length (A.7.3).
     Plt(Bytes),
-    /// Packet lengths in the main header: the bytes after the length.
+    /// Packet lengths in the main header: the bytes after the length (A.7.2).
     Plm(Bytes),
-    /// Tile-part lengths: the bytes after the length.
+    /// Tile-part lengths: the bytes after the length (A.7.1).
     Tlm(Bytes),
-    /// Start of tile-part.
+    /// Start of tile-part (A.4.2).
     Sot(Sot),
-    /// Start of data.
+    /// Start of data (A.4.3).
     Sod,
-    /// End of codestream.
+    /// End of codestream (A.4.4).
     Eoc,
-    /// A marker without a length, FF30 to FF3F: its second byte.
+    /// A marker without a length, FF30 to FF3F: its second byte (Table A.1).
     Skipped(u8),
 }
 

@@ -1,6 +1,7 @@
-ghost use Rattle.std.specs.Prelude.{Err, ◌≡◌, ◌≢◌, ◌+◌, ◌-◌, ◌/◌, ◌*◌, ◌≤◌, ◌<◌, ◌++◌, length, drop, Some, None, IfOk, true, false, slice_index, ℕ};
+ghost use Rattle.std.specs.Prelude.{Err, Ok, List, ◌⊎◌, ◌≡◌, ◌≢◌, ◌+◌, ◌-◌, ◌/◌, ◌*◌, ◌≤◌, ◌<◌, ◌++◌, length, drop, Some, None, IfOk, true, false, slice_index, ℕ};
+ghost use Rattle.jx_marker.specs.declared.Segment.{Segment};
 ghost use Rattle.jx_marker.specs.Markers.{has_length, index_size};
-ghost use Rattle.jx_marker.specs.Segments.{segment_at, size_at, value_of, alone, code_at, body_at};
+ghost use Rattle.jx_marker.specs.Segments.{spelling, segment_at, size_at, value_of, alone, code_at, body_at};
 ghost use Rattle.jx_marker.specs.Rules.{first_broken, first_true, rules_inside, least_length};
 ghost use Rattle.jx_marker.specs.Ranges.{InRange};
 ghost use Rattle.jx_marker.specs.Laws.{StandsAt, BeginsWith};
@@ -94,11 +95,15 @@ pub fn read_segment(
     requires { at ≤ length bytes.now }
     ensures found { IfOk result (λ read. StandsAt comps (drop at bytes.now) read.0 (read.1 - at)) }
     ensures after { IfOk result (λ read. (read.1 ≡ at + size_at (drop at bytes.now)) × (read.1 ≤ length bytes.now)) }
+    ensures one { (segment : Segment) (rest : List ℕ) → InRange comps segment → drop at bytes.now ≡ spelling comps segment ++ rest
+        → (result ≡ Ok (segment, at + length (spelling comps segment))) ⊎ (result ≡ Err Rule.NoMemory) }
     ensures spelled { IfOk result (λ read. BeginsWith comps (drop at bytes.now) read.0 (drop read.1 bytes.now)) }
     ensures broken { (m : ℕ) → result ≡ Err (Rule.Broken m) → first_broken comps (drop at bytes.now) ≡ Some m }
     ensures violated { (m : ℕ) → first_broken comps (drop at bytes.now) ≡ Some m → result ≡ Err (Rule.Broken m) }
 {
     let (_, rest) = bytes.split_at(at);
-    let (segment, size) = read_front(alloc, rest, comps)?;
-    Ok((segment, at + size))
+    match read_front(alloc, rest, comps) {
+        Ok((segment, size)) => Ok((segment, at + size)),
+        Err(rule) => Err(rule),
+    }
 }
