@@ -1,5 +1,5 @@
 -- The values of a tag tree's nodes from its leaves (ITU-T T.800, B.10.2): each is the least of the leaves under its node.
-use Rattle.std.specs.Prelude.{◌≡◌, ℕ, zero, suc, ◌+◌, ◌-◌, ◌*◌, ◌^◌, ◌<◌, ◌≤◌, ◌==◌, min, Bool, false, ◌||◌, List, [], ◌∷◌, ◌++◌, length, take, slice_index, nat_lt, if◌then◌else◌}
+use Rattle.std.specs.Prelude.{◌≡◌, ℕ, zero, suc, ◌+◌, ◌-◌, ◌*◌, ◌^◌, ◌<◌, ◌≤◌, ◌==◌, min, Bool, true, false, ◌||◌, List, [], ◌∷◌, ◌++◌, length, take, slice_index, nat_lt, if◌then◌else◌}
 use Rattle.jx_tagtree.specs.declared.node.Node.{Node}
 use Rattle.jx_tagtree.specs.Shape.{IsShape, root, parent, way}
 use Rattle.jx_tagtree.specs.TagTree.{Tree, Walk, walk, query, fresh}
@@ -19,6 +19,14 @@ least_from ways n first (leaf ∷ leaves) =
 -- the value of a node: the least leaf under it
 abbrev pub least_leaf : ℕ → ℕ → List ℕ → ℕ → ℕ
 least_leaf wide high leaves n = least_from (way wide high) n 0 leaves
+
+-- A value is the least of the leaves under a node: none of them is smaller, and one of them is it.
+pub record IsLeast (wide high : ℕ) (leaves : List ℕ) (n value : ℕ) : Type 0 where
+  pub none_below : (l : ℕ) → l < wide * high → passes n (way wide high l) ≡ true → value ≤ slice_index leaves l
+  pub leaf : ℕ
+  pub inside : leaf < wide * high
+  pub under : passes n (way wide high leaf) ≡ true
+  pub same : value ≡ slice_index leaves leaf
 
 -- the leaves that a tag tree may have
 pub record AreLeaves (wide high : ℕ) (leaves : List ℕ) : Type 0 where

@@ -2,9 +2,9 @@
 //! other contracts cite, so its body is empty.
 ghost use Rattle.std.specs.Prelude.{◌≡◌, ◌*◌, ◌<◌, ◌≤◌, ◌++◌, Bool, List, ℕ, length, slice_index, Ok};
 ghost use Rattle.jx_tagtree.specs.Header.{IsHeader, StuffedAfterFf, ReadsBack, EndsAt, bits_of, bytes_of, end_after};
-ghost use Rattle.jx_tagtree.specs.Shape.{IsShape};
+ghost use Rattle.jx_tagtree.specs.Shape.{IsShape, root};
 ghost use Rattle.jx_tagtree.specs.TagTree.{Tree, fresh, tree_after, AreValues, ValuesOf, IsTree};
-ghost use Rattle.jx_tagtree.specs.Leaves.{least_leaf, AreLeaves};
+ghost use Rattle.jx_tagtree.specs.Leaves.{least_leaf, AreLeaves, IsLeast};
 ghost use Rattle.jx_tagtree.specs.Questions.{Question, all_bits, AreAtLeaves, OneReading, AreReadBack};
 
 /// The bits of a written header are those that were asked for and fewer than eight zeros; a byte after
@@ -26,9 +26,11 @@ pub fn header_ends()
     ensures { (bytes : List ℕ) (n used : ℕ) → n ≤ length (bits_of bytes).bits → end_after bytes n ≡ Ok used → EndsAt bytes n used }
 {}
 
-/// The values of a tag tree's leaves are the leaves, and each node's value is at least its parent's.
+/// A node's value is the least leaf under it, so a leaf's is the leaf, and each is at least its parent's.
 pub fn values_of_leaves()
     ensures values { (wide high : ℕ) (leaves : List ℕ) → AreLeaves wide high leaves → AreValues wide high (least_leaf wide high leaves) }
+    ensures least { (wide high : ℕ) (leaves : List ℕ) (n : ℕ) → AreLeaves wide high leaves → n ≤ root wide high →
+        IsLeast wide high leaves n (least_leaf wide high leaves n) }
     ensures leaf { (wide high : ℕ) (leaves : List ℕ) (l : ℕ) → AreLeaves wide high leaves → l < wide * high →
         least_leaf wide high leaves l ≡ slice_index leaves l }
 {}
