@@ -8,7 +8,7 @@ use Rattle.std.proofs.lemmas.Nat.{div_below, mod_below, mul-le, mul-add-lt, div-
 use Rattle.jx_tagtree.specs.declared.node.Node.{Node}
 use Rattle.jx_tagtree.specs.declared.shape.Level.{Level}
 use Rattle.jx_tagtree.specs.Shape.{IsShape, base, is_root, over, parent_at, root, parent, root_from, way_from, way, IsLevel, InLevel}
-use Rattle.jx_tagtree.specs.TagTree.{unknown, node_at, node_bits, node_after, Walk, step, walk, Fits, Agree, Tree, query, AreValues, ValuesOf, fresh, tree_after}
+use Rattle.jx_tagtree.specs.TagTree.{unknown, node_at, node_bits, node_after, Walk, step, walk, IsValueOf, Agree, Tree, query, AreValues, ValuesOf, fresh, tree_after}
 use Rattle.jx_tagtree.specs.Leaves.{passes, least_from, least_leaf, AreLeaves, IsLeast, Written, told, told_after}
 use Rattle.jx_tagtree.specs.KeptLeaves.{leaves_in, AreNodeValues, KeepsLeaves}
 use Rattle.jx_tagtree.proofs.ShapeLemmas.{IsLevel-base, InLevel-base, IsLevel-over, InLevel-parent, way_begin, way_next}

@@ -5,7 +5,7 @@ use Rattle.std.proofs.lemmas.List.{append_cancel_right, length-replicate, get_or
 use Rattle.std.proofs.lemmas.Bool.{cases_lt}
 use Rattle.jx_tagtree.specs.declared.node.Node.{Node}
 use Rattle.jx_tagtree.specs.Shape.{IsShape, root, parent, way}
-use Rattle.jx_tagtree.specs.TagTree.{unknown, node_at, Walk, walk, Fits, Agree, Tree, query, tree_after, fresh, AreValues, ValuesOf, IsTree, IsSound}
+use Rattle.jx_tagtree.specs.TagTree.{unknown, node_at, Walk, walk, IsValueOf, Agree, Tree, query, tree_after, fresh, AreValues, ValuesOf, IsTree, IsSound}
 use Rattle.jx_tagtree.specs.Scan.{Scanned, scan_way}
 use Rattle.jx_tagtree.specs.Leaves.{least_leaf, AreLeaves}
 use Rattle.jx_tagtree.specs.Questions.{Question, all_bits, after_all, answers, AreAtLeaves, OneReading, AreReadBack}
@@ -30,7 +30,7 @@ fresh_tree wide high = record {
 pub fresh_values : (wide high : ℕ) (values : ℕ → ℕ) → AreValues wide high values → ValuesOf (fresh wide high) values
 fresh_values wide high values v = record {
   are = v;
-  agree = λ n. subst (λ (y : Node). Fits y (values n)) (sym (unknown_at (root wide high + 1) n)) (record { known = omega arith; settled = λ e. absurd cc });
+  agree = λ n. subst (λ (y : Node). IsValueOf y (values n)) (sym (unknown_at (root wide high + 1) n)) (record { known = omega arith; settled = λ e. absurd cc });
 }
 
 -- ---- values of what is known

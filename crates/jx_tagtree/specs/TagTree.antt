@@ -69,13 +69,13 @@ abbrev pub AreValues : ℕ → ℕ → (ℕ → ℕ) → Type 0
 AreValues wide high values = (n : ℕ) → n < root wide high → values (parent wide high n) ≤ values n
 
 -- a value that agrees with what is known of its node
-pub record Fits (node : Node) (m : ℕ) : Type 0 where
+pub record IsValueOf (node : Node) (m : ℕ) : Type 0 where
   pub known : node.known ≤ m
   pub settled : node.settled ≡ true → node.known ≡ m
 
 -- values that agree with what is known
 abbrev pub Agree : (ℕ → ℕ) → List Node → Type 0
-Agree values nodes = (n : ℕ) → Fits (node_at nodes n) (values n)
+Agree values nodes = (n : ℕ) → IsValueOf (node_at nodes n) (values n)
 
 -- The values of a tree that agree with what is known of it.
 pub record ValuesOf (tree : Tree) (values : ℕ → ℕ) : Type 0 where
