@@ -5,7 +5,7 @@ use Rattle.std.proofs.lemmas.List.{get_or-set_same, get_or-set_other, length-set
 use Rattle.std.proofs.lemmas.Bool.Decides.{nat_tests}
 use Rattle.std.proofs.lemmas.Bool.{cases_eq, cases_lt}
 use Rattle.jx_tagtree.specs.declared.node.Node.{Node}
-use Rattle.jx_tagtree.specs.TagTree.{unknown, node_at, node_bits, node_after, Walk, step, walk, IsValueOf, Agree, Tree, query, ValuesOf, HasRead}
+use Rattle.jx_tagtree.specs.TagTree.{unknown, node_at, node_bits, node_after, Walk, walk, IsValueOf, Agree, Tree, query, ValuesOf, HasRead}
 use Rattle.jx_tagtree.specs.Scan.{Zeros, scan, more_zeros, Found, found, scan_one, Scanned, scanned, scan_node, scan_way, PartRead}
 use Rattle.jx_tagtree.specs.Kept.{KeepsTree}
 use Rattle.jx_tagtree.specs.Header.{Took, Reading, to_come, advance}

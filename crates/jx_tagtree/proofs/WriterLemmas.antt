@@ -1,13 +1,13 @@
 -- Bits that are put into bytes.
-use Rattle.std.proofs.Common.{◌≡◌, ℕ, zero, suc, ◌+◌, ◌-◌, ◌*◌, ◌/◌, ◌%◌, ◌^◌, ◌<◌, ◌≤◌, ◌==◌, nat_le, Bool, true, false, ◌&&◌, List, [], ◌∷◌, ◌++◌, length, take, drop, get_or, refl, sym, ap, ◌∙◌, subst, cond, arith, append_assoc, length-append, add-one, add-zero, length-drop}
-use Rattle.std.proofs.lemmas.List.{append-nil, drop_at, get_or_append_left, get_or_past, get_or_push, drop_all}
-use Rattle.std.proofs.lemmas.Nat.{mod-pow-add, shr-shr, pow_pos, shr_high, mod_low, pow-add}
+use Rattle.std.proofs.Common.{◌≡◌, ℕ, zero, suc, ◌+◌, ◌-◌, ◌*◌, ◌/◌, ◌%◌, ◌^◌, ◌<◌, ◌≤◌, ◌==◌, nat_le, Bool, true, false, ◌&&◌, List, [], ◌∷◌, ◌++◌, length, drop, get_or, refl, sym, ap, ◌∙◌, subst, cond, arith, append_assoc, length-append, add-one}
+use Rattle.std.proofs.lemmas.List.{append-nil, drop_at, drop_all}
+use Rattle.std.proofs.lemmas.Nat.{mod-pow-add, shr-shr, pow-add}
 use Rattle.std.proofs.Math.Nat.{two-pow-succ, mod-eq_of_lt}
 use Rattle.std.proofs.lemmas.Bool.Decides.{nat_tests}
-use Rattle.jx_tagtree.specs.declared.BitFault.TheVariants.{Ended, Stuffed}
-use Rattle.jx_tagtree.specs.Header.{Bits, room, is_stuffed, low_bits, before_all, bits_after, bits_of, last_after, number_of, bytes_from, bytes_of}
+use Rattle.jx_tagtree.specs.declared.BitFault.TheVariants.{Ended}
+use Rattle.jx_tagtree.specs.Header.{Bits, room, is_stuffed, low_bits, bits_after, bits_of, last_after, number_of, bytes_from, bytes_of}
 use Rattle.jx_tagtree.specs.Place.{Fills, given, closed}
-use Rattle.jx_tagtree.proofs.HeaderLemmas.{length-low_bits, clean_first, bits_after-push, last_after-append, room-le}
+use Rattle.jx_tagtree.proofs.HeaderLemmas.{length-low_bits, clean_first, bits_after-push, last_after-append}
 
 -- the number of a bit
 abbrev pub as_number : Bool → ℕ

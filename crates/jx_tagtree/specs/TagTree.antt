@@ -1,9 +1,8 @@
 -- Tag trees (ITU-T T.800, B.10.2): what a query at a leaf reads or writes, from the values of the nodes and from what is
 -- known of them.
-use Rattle.std.specs.Prelude.{◌≡◌, ℕ, ◌+◌, ◌-◌, ◌*◌, ◌<◌, ◌≤◌, min, max, nat_lt, Bool, true, false, ◌||◌, List, [], ◌∷◌, ◌++◌, length, replicate, slice_set, slice_index, slice_index_or, if◌then◌else◌}
-use Rattle.jx_tagtree.specs.declared.BitFault.{BitFault}
+use Rattle.std.specs.Prelude.{◌≡◌, ℕ, ◌+◌, ◌-◌, ◌<◌, ◌≤◌, min, max, nat_lt, Bool, true, false, ◌||◌, List, [], ◌∷◌, ◌++◌, length, replicate, slice_set, slice_index_or, if◌then◌else◌}
 use Rattle.jx_tagtree.specs.declared.node.Node.{Node}
-use Rattle.jx_tagtree.specs.Header.{Reading, to_come, fault_of, advance, exhausted}
+use Rattle.jx_tagtree.specs.Header.{Reading, to_come, advance}
 use Rattle.jx_tagtree.specs.Shape.{root, parent, way}
 
 -- of a node nothing is known but that its value isn't negative
