@@ -1,7 +1,6 @@
 -- The bits of bytes that are cut at some place.
 use Rattle.std.proofs.Common.{◌≡◌, ℕ, zero, suc, ◌+◌, ◌-◌, ◌<◌, ◌≤◌, ◌==◌, Bool, true, false, List, [], ◌∷◌, ◌++◌, length, take, drop, get_or, refl, sym, ap, ◌∙◌, subst, cond, arith, append_assoc, length-append, add-one, add-zero, length-drop, ◌/◌, ◌%◌, ◌^◌, Ok, Err, nat_le}
-use Rattle.std.proofs.lemmas.List.{append-nil, take_at, drop_at, take-append-drop, drop-append-le, length-take-le, drop-drop, drop_more}
-use Rattle.std.proofs.lemmas.Grind.{common_steps}
+use Rattle.std.proofs.lemmas.List.{append-nil, drop_at, take-append-drop, drop-append-le, length-take-le, drop-drop, drop_more}
 use Rattle.std.proofs.lemmas.Bool.Decides.{nat_tests}
 use Rattle.jx_tagtree.specs.declared.BitFault.{BitFault}
 use Rattle.jx_tagtree.specs.declared.BitFault.TheVariants.{Ended, Stuffed}

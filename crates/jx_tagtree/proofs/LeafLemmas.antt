@@ -1,6 +1,6 @@
 -- The values of nodes, and what a query writes.
-use Rattle.std.proofs.Common.{◌/◌, ◌%◌, ◌≡◌, ◌≢◌, ℕ, zero, suc, ◌+◌, ◌-◌, ◌*◌, ◌^◌, ◌<◌, ◌≤◌, ◌==◌, ◌||◌, min, max, nat_lt, Bool, true, false, List, [], ◌∷◌, ◌++◌, length, get_or, set, take, drop, replicate, refl, sym, ap, ◌∙◌, subst, cond, arith, append_assoc, add-one, ◌⊎◌, inl, inr}
-use Rattle.std.proofs.lemmas.List.{drop_more, get_or_default, length-set, get_or-take, length-take-le, drop_all, get_or_past, length-replicate, get_or-replicate}
+use Rattle.std.proofs.Common.{◌/◌, ◌%◌, ◌≡◌, ◌≢◌, ℕ, zero, suc, ◌+◌, ◌-◌, ◌*◌, ◌^◌, ◌<◌, ◌≤◌, ◌==◌, ◌||◌, min, max, Bool, true, false, List, [], ◌∷◌, ◌++◌, length, get_or, set, take, drop, replicate, refl, sym, ap, ◌∙◌, subst, cond, arith, ◌⊎◌, inl, inr}
+use Rattle.std.proofs.lemmas.List.{drop_more, get_or_default, get_or-take, length-take-le, drop_all, get_or_past, length-replicate, get_or-replicate}
 use Rattle.std.proofs.lemmas.Grind.{same_number_lists}
 use Rattle.std.proofs.lemmas.Bool.Decides.{nat_tests}
 use Rattle.std.proofs.lemmas.Bool.{cases_eq, cases_lt}
@@ -8,7 +8,7 @@ use Rattle.std.proofs.lemmas.Nat.{div_below, mod_below, mul-le, mul-add-lt, div-
 use Rattle.jx_tagtree.specs.declared.node.Node.{Node}
 use Rattle.jx_tagtree.specs.declared.shape.Level.{Level}
 use Rattle.jx_tagtree.specs.Shape.{IsShape, base, is_root, over, parent_at, root, parent, root_from, way_from, way, IsLevel, InLevel}
-use Rattle.jx_tagtree.specs.TagTree.{unknown, node_at, node_bits, node_after, Walk, step, walk, Fits, Agree, Tree, query, AreValues, ValuesOf, fresh, tree_after}
+use Rattle.jx_tagtree.specs.TagTree.{unknown, node_at, node_bits, node_after, Walk, step, walk, AreValues}
 use Rattle.jx_tagtree.specs.Leaves.{passes, least_from, least_leaf, AreLeaves, IsLeast, Written, told, told_after}
 use Rattle.jx_tagtree.specs.KeptLeaves.{leaves_in, AreNodeValues, KeepsLeaves}
 use Rattle.jx_tagtree.proofs.ShapeLemmas.{IsLevel-base, InLevel-base, IsLevel-over, InLevel-parent, way_begin, way_next}
@@ -310,31 +310,32 @@ module _ (wide high leaf t : ℕ) (values : List ℕ) (nodes : List Node) (keeps
 -- a child of a node of the level above
 child : (l : Level) (p : ℕ) → 1 ≤ l.wide → InLevel (over l) p → (q : ℕ) × InLevel l q × (parent_at l q ≡ p)
 child l p some_wide i =
-  let above : ℕ = (over l).first in
-  let half : ℕ = (l.wide + 1) / 2 in
-  let row : ℕ = (p - above) / half in
-  let column : ℕ = (p - above) % half in
-  let first : above ≤ p = i.first in
-  let last : p < above + half * ((l.high + 1) / 2) = i.last in
-  let half_pos : 0 < half = omega arith in
-  let turned : half * ((l.high + 1) / 2) ≡ (l.high + 1) / 2 * half = omega arith in
-  let place : p - above < (l.high + 1) / 2 * half = omega arith in
-  let row_lt : row < (l.high + 1) / 2 = div_below (p - above) half ((l.high + 1) / 2) half_pos place in
-  let column_lt : column < half = mod_below (p - above) half half_pos in
-  let row2 : 2 * row < l.high = omega arith in
-  let column2 : 2 * column < l.wide = omega arith in
-  let inside : 2 * row * l.wide + 2 * column < l.wide * l.high = mul-add-lt (2 * row) l.wide (2 * column) l.high row2 column2 in
-  let q : ℕ = l.first + (2 * row * l.wide + 2 * column) in
-  let cell : q - l.first ≡ 2 * row * l.wide + 2 * column = omega arith in
-  let row_is : (q - l.first) / l.wide / 2 ≡ row =
-        ap (λ (c : ℕ). c / l.wide / 2) cell ∙ ap (λ (r : ℕ). r / 2) (div-mul-add (2 * row) l.wide (2 * column) column2) ∙ half_of row in
-  let column_is : (q - l.first) % l.wide / 2 ≡ column =
-        ap (λ (c : ℕ). c % l.wide / 2) cell ∙ ap (λ (r : ℕ). r / 2) (mod-mul-add (2 * row) l.wide (2 * column) column2) ∙ half_of column in
-  let whole : row * half + column ≡ p - above = div-add-mod' (p - above) half in
-  let back : above + row * half + column ≡ p = omega arith in
-  ( q
-  , record { first = omega arith; last = omega arith }
-  , ap (λ (r : ℕ). above + r * half + (q - l.first) % l.wide / 2) row_is ∙ ap (λ (k : ℕ). above + row * half + k) column_is ∙ back )
+    let above : ℕ = (over l).first in
+    let half : ℕ = (l.wide + 1) / 2 in
+    let row : ℕ = (p - above) / half in
+    let column : ℕ = (p - above) % half in
+    let first : above ≤ p = i.first in
+    let last : p < above + half * ((l.high + 1) / 2) = i.last in
+    let half_pos : 0 < half = omega arith in
+    let turned : half * ((l.high + 1) / 2) ≡ (l.high + 1) / 2 * half = omega arith in
+    let place : p - above < (l.high + 1) / 2 * half = omega arith in
+    let row_lt : row < (l.high + 1) / 2 = div_below (p - above) half ((l.high + 1) / 2) half_pos place in
+    let column_lt : column < half = mod_below (p - above) half half_pos in
+    let row2 : 2 * row < l.high = omega arith in
+    let column2 : 2 * column < l.wide = omega arith in
+    let inside : 2 * row * l.wide + 2 * column < l.wide * l.high = mul-add-lt (2 * row) l.wide (2 * column) l.high row2 column2 in
+    let q : ℕ = l.first + (2 * row * l.wide + 2 * column) in
+    let cell : q - l.first ≡ 2 * row * l.wide + 2 * column = omega arith in
+    let row_is : (q - l.first) / l.wide / 2 ≡ row =
+    ap (λ (c : ℕ). c / l.wide / 2) cell ∙ ap (λ (r : ℕ). r / 2) (div-mul-add (2 * row) l.wide (2 * column) column2) ∙ half_of row in
+    let column_is : (q - l.first) % l.wide / 2 ≡ column =
+    ap (λ (c : ℕ). c % l.wide / 2) cell ∙ ap (λ (r : ℕ). r / 2) (mod-mul-add (2 * row) l.wide (2 * column) column2) ∙ half_of column in
+    let whole : row * half + column ≡ p - above = div-add-mod' (p - above) half in
+    let back : above + row * half + column ≡ p = omega arith in (
+      q,
+      record { first = omega arith; last = omega arith },
+      ap (λ (r : ℕ). above + r * half + (q - l.first) % l.wide / 2) row_is ∙ ap (λ (k : ℕ). above + row * half + k) column_is ∙ back,
+    )
   where
     half_of : (n : ℕ) → 2 * n / 2 ≡ n
     half_of n = omega arith
@@ -354,45 +355,47 @@ true_or false c h = h
 -- a node from a level on is on the way of a node of that level
 has_under : (m : ℕ) (l : Level) (n : ℕ) → IsLevel m l → l.first ≤ n → n ≤ root_from m l → (q : ℕ) × InLevel l q × (passes n (way_from m l q) ≡ true)
 has_under zero l n s le top =
-  let e : n ≡ l.first = omega arith in
-  let some : 1 * 1 ≤ l.wide * l.high = mul-le 1 1 l.wide l.high s.some_wide s.some_high in
-  (n, record { first = le; last = omega arith }, passes-own zero l n)
+    let e : n ≡ l.first = omega arith in
+    let some : 1 * 1 ≤ l.wide * l.high = mul-le 1 1 l.wide l.high s.some_wide s.some_high in
+    (n, record { first = le; last = omega arith }, passes-own zero l n)
 has_under (suc m) l n s le top =
-  elim (cases_lt n (over l).first) [
-    inl lt ↦ (n, record { first = le; last = lt }, passes-own (suc m) l n)
-    | inr ge ↦ by (is_root l) refl ge (λ t. has_under m (over l) n (IsLevel-over m l s) ge t) ]
+    elim (cases_lt n (over l).first) [
+      | inl lt ↦ (n, record { first = le; last = lt }, passes-own (suc m) l n)
+      | inr ge ↦ by (is_root l) refl ge (λ t. has_under m (over l) n (IsLevel-over m l s) ge t)
+    ]
   where
     some : 1 ≤ l.wide * l.high
     some = mul-le 1 1 l.wide l.high s.some_wide s.some_high
+
     by : (b : Bool) → is_root l ≡ b → (over l).first ≤ n → (n ≤ root_from m (over l) → (q : ℕ) × InLevel (over l) q × (passes n (way_from m (over l) q) ≡ true)) →
-      (q : ℕ) × InLevel l q × (passes n (way_from (suc m) l q) ≡ true)
+        (q : ℕ) × InLevel l q × (passes n (way_from (suc m) l q) ≡ true)
     by true e ge again =
-      let t : n ≤ l.first = subst (λ (b : Bool). n ≤ cond b l.first (root_from m (over l))) e top in
-      let size : 1 ≤ l.wide * l.high = some in
-      absurd (omega arith)
+        let t : n ≤ l.first = subst (λ (b : Bool). n ≤ cond b l.first (root_from m (over l))) e top in
+        let size : 1 ≤ l.wide * l.high = some in
+        absurd (omega arith)
     by false e ge again =
-      let t : n ≤ root_from m (over l) = subst (λ (b : Bool). n ≤ cond b l.first (root_from m (over l))) e top in
-      let r = again t in
-      let c = child l r.0 s.some_wide r.1 in
-      let rest : passes n (way_from m (over l) (parent_at l c.0)) ≡ true = subst (λ (p : ℕ). passes n (way_from m (over l) p) ≡ true) (sym c.2) r.2 in
-      (c.0, c.1, ap (passes n) (way_next m l c.0 e) ∙ true_or (c.0 == n) (passes n (way_from m (over l) (parent_at l c.0))) rest)
+        let t : n ≤ root_from m (over l) = subst (λ (b : Bool). n ≤ cond b l.first (root_from m (over l))) e top in
+        let r = again t in
+        let c = child l r.0 s.some_wide r.1 in
+        let rest : passes n (way_from m (over l) (parent_at l c.0)) ≡ true = subst (λ (p : ℕ). passes n (way_from m (over l) p) ≡ true) (sym c.2) r.2 in
+        (c.0, c.1, ap (passes n) (way_next m l c.0 e) ∙ true_or (c.0 == n) (passes n (way_from m (over l) (parent_at l c.0))) rest)
 
 -- a leaf is under each node
 leaf_under : (wide high n : ℕ) → IsShape wide high → n ≤ root wide high → (l : ℕ) × (l < wide * high) × (passes n (way wide high l) ≡ true)
 unfolding root
 leaf_under wide high n s le =
-  let r = has_under 20 (base wide high) n (IsLevel-base wide high s) (omega arith) le in
-  let last : r.0 < 0 + wide * high = r.1.last in
-  (r.0, omega arith, ap (passes n) (sym (way_begin wide high r.0)) ∙ r.2)
+    let r = has_under 20 (base wide high) n (IsLevel-base wide high s) (omega arith) le in
+    let last : r.0 < 0 + wide * high = r.1.last in
+    (r.0, omega arith, ap (passes n) (sym (way_begin wide high r.0)) ∙ r.2)
 
 -- ---- the least leaf is the least
 least_none_below : (ways : ℕ → List ℕ) (n first k : ℕ) (leaves : List ℕ) → k < length leaves → passes n (ways (first + k)) ≡ true → least_from ways n first leaves ≤ get_or leaves k 0
 least_none_below ways n first k [] lt h = absurd (omega arith)
 least_none_below ways n first zero (leaf ∷ leaves) lt h =
-  let here : passes n (ways first) ≡ true = subst (λ (q : ℕ). passes n (ways q) ≡ true) (let e : first + 0 ≡ first = omega arith in e) h in
-  subst (λ (b : Bool). cond b (min leaf (least_from ways n (first + 1) leaves)) (least_from ways n (first + 1) leaves) ≤ leaf) (sym here) (omega arith)
+    let here : passes n (ways first) ≡ true = subst (λ (q : ℕ). passes n (ways q) ≡ true) (let e : first + 0 ≡ first = omega arith in e) h in
+    subst (λ (b : Bool). cond b (min leaf (least_from ways n (first + 1) leaves)) (least_from ways n (first + 1) leaves) ≤ leaf) (sym here) (omega arith)
 least_none_below ways n first (suc k) (leaf ∷ leaves) lt h =
-  by (passes n (ways first)) (least_none_below ways n (first + 1) k leaves (omega arith)
+    by (passes n (ways first)) (least_none_below ways n (first + 1) k leaves (omega arith)
     (subst (λ (q : ℕ). passes n (ways q) ≡ true) (let e : first + suc k ≡ first + 1 + k = omega arith in e) h))
   where
     by : (b : Bool) → least_from ways n (first + 1) leaves ≤ get_or leaves k 0 → cond b (min leaf (least_from ways n (first + 1) leaves)) (least_from ways n (first + 1) leaves) ≤ get_or leaves k 0
@@ -401,44 +404,51 @@ least_none_below ways n first (suc k) (leaf ∷ leaves) lt h =
 
 -- it is one of them, or none is below the largest number of 32 bits
 least_one : (ways : ℕ → List ℕ) (n first : ℕ) (leaves : List ℕ) →
-  ((k : ℕ) × (k < length leaves) × (passes n (ways (first + k)) ≡ true) × (least_from ways n first leaves ≡ get_or leaves k 0)) ⊎ (least_from ways n first leaves ≡ 2 ^ 32 - 1)
+    ((k : ℕ) × (k < length leaves) × (passes n (ways (first + k)) ≡ true) × (least_from ways n first leaves ≡ get_or leaves k 0)) ⊎ (least_from ways n first leaves ≡ 2 ^ 32 - 1)
 least_one ways n first [] = inr refl
 least_one ways n first (leaf ∷ leaves) = by (passes n (ways first)) refl (least_one ways n (first + 1) leaves)
   where
     by : (b : Bool) → passes n (ways first) ≡ b →
-      ((k : ℕ) × (k < length leaves) × (passes n (ways (first + 1 + k)) ≡ true) × (least_from ways n (first + 1) leaves ≡ get_or leaves k 0)) ⊎ (least_from ways n (first + 1) leaves ≡ 2 ^ 32 - 1) →
-      ((k : ℕ) × (k < length (leaf ∷ leaves)) × (passes n (ways (first + k)) ≡ true)
+        ((k : ℕ) × (k < length leaves) × (passes n (ways (first + 1 + k)) ≡ true) × (least_from ways n (first + 1) leaves ≡ get_or leaves k 0)) ⊎ (least_from ways n (first + 1) leaves ≡ 2 ^ 32 - 1) →
+        ((k : ℕ) × (k < length (leaf ∷ leaves)) × (passes n (ways (first + k)) ≡ true)
         × (cond b (min leaf (least_from ways n (first + 1) leaves)) (least_from ways n (first + 1) leaves) ≡ get_or (leaf ∷ leaves) k 0))
-      ⊎ (cond b (min leaf (least_from ways n (first + 1) leaves)) (least_from ways n (first + 1) leaves) ≡ 2 ^ 32 - 1)
+        ⊎ (cond b (min leaf (least_from ways n (first + 1) leaves)) (least_from ways n (first + 1) leaves) ≡ 2 ^ 32 - 1)
     by false e (inr h) = inr h
     by false e (inl f) = inl (suc f.0, (let lt : f.0 < length leaves = f.1 in omega arith), subst (λ (q : ℕ). passes n (ways q) ≡ true) (let e : first + 1 + f.0 ≡ first + suc f.0 = omega arith in e) f.2, f.3)
     by true e (inr h) = elim (cases_lt leaf (2 ^ 32)) [
-      inl lt ↦ inl (0, omega arith, subst (λ (q : ℕ). passes n (ways q) ≡ true) (let e : first ≡ first + 0 = omega arith in e) e, omega arith)
-      | inr ge ↦ inr (omega arith) ]
+      | inl lt ↦ inl (0, omega arith, subst (λ (q : ℕ). passes n (ways q) ≡ true) (let e : first ≡ first + 0 = omega arith in e) e, omega arith)
+      | inr ge ↦ inr (omega arith)
+    ]
     by true e (inl f) = elim (cases_lt leaf (least_from ways n (first + 1) leaves)) [
-      inl lt ↦ inl (0, omega arith, subst (λ (q : ℕ). passes n (ways q) ≡ true) (let e : first ≡ first + 0 = omega arith in e) e, omega arith)
-      | inr ge ↦ inl (suc f.0, (let lt : f.0 < length leaves = f.1 in omega arith), subst (λ (q : ℕ). passes n (ways q) ≡ true) (let e : first + 1 + f.0 ≡ first + suc f.0 = omega arith in e) f.2,
-          (let h : least_from ways n (first + 1) leaves ≡ get_or leaves f.0 0 = f.3 in omega arith)) ]
+      | inl lt ↦ inl (0, omega arith, subst (λ (q : ℕ). passes n (ways q) ≡ true) (let e : first ≡ first + 0 = omega arith in e) e, omega arith)
+      | inr ge ↦ inl (
+        suc f.0,
+        (let lt : f.0 < length leaves = f.1 in omega arith),
+        subst (λ (q : ℕ). passes n (ways q) ≡ true) (let e : first + 1 + f.0 ≡ first + suc f.0 = omega arith in e) f.2,
+        (let h : least_from ways n (first + 1) leaves ≡ get_or leaves f.0 0 = f.3 in omega arith),
+      )
+    ]
 
 pub is_least : (wide high : ℕ) (leaves : List ℕ) (n : ℕ) → AreLeaves wide high leaves → n ≤ root wide high → IsLeast wide high leaves n (least_leaf wide high leaves n)
 is_least wide high leaves n a le =
-  let all : length leaves ≡ wide * high = a.all in
-  let u = leaf_under wide high n a.shape le in
-  let none : (l : ℕ) → l < wide * high → passes n (way wide high l) ≡ true → least_leaf wide high leaves n ≤ get_or leaves l 0 =
-        λ l lt h. least_none_below (way wide high) n 0 l leaves (omega arith) (subst (λ (q : ℕ). passes n (way wide high q) ≡ true) (let e : l ≡ 0 + l = omega arith in e) h) in
-  elim (least_one (way wide high) n 0 leaves) [
-    inl f ↦ record {
-      none_below = none;
-      leaf = f.0;
-      inside = (let lt : f.0 < length leaves = f.1 in omega arith);
-      under = subst (λ (q : ℕ). passes n (way wide high q) ≡ true) (let e : 0 + f.0 ≡ f.0 = omega arith in e) f.2;
-      same = f.3;
-    }
-    | inr h ↦ record {
-      none_below = none;
-      leaf = u.0;
-      inside = u.1;
-      under = u.2;
-      same = (let le' : least_leaf wide high leaves n ≤ get_or leaves u.0 0 = none u.0 u.1 u.2 in let fit : get_or leaves u.0 0 < 2 ^ 32 = a.fit u.0 in
-        let top : least_leaf wide high leaves n ≡ 2 ^ 32 - 1 = h in omega arith);
-    } ]
+    let all : length leaves ≡ wide * high = a.all in
+    let u = leaf_under wide high n a.shape le in
+    let none : (l : ℕ) → l < wide * high → passes n (way wide high l) ≡ true → least_leaf wide high leaves n ≤ get_or leaves l 0 =
+    λ l lt h. least_none_below (way wide high) n 0 l leaves (omega arith) (subst (λ (q : ℕ). passes n (way wide high q) ≡ true) (let e : l ≡ 0 + l = omega arith in e) h) in
+    elim (least_one (way wide high) n 0 leaves) [
+      | inl f ↦ record {
+        none_below = none;
+        leaf = f.0;
+        inside = (let lt : f.0 < length leaves = f.1 in omega arith);
+        under = subst (λ (q : ℕ). passes n (way wide high q) ≡ true) (let e : 0 + f.0 ≡ f.0 = omega arith in e) f.2;
+        same = f.3;
+      }
+      | inr h ↦ record {
+        none_below = none;
+        leaf = u.0;
+        inside = u.1;
+        under = u.2;
+        same = (let le' : least_leaf wide high leaves n ≤ get_or leaves u.0 0 = none u.0 u.1 u.2 in let fit : get_or leaves u.0 0 < 2 ^ 32 = a.fit u.0 in
+            let top : least_leaf wide high leaves n ≡ 2 ^ 32 - 1 = h in omega arith);
+      }
+    ]

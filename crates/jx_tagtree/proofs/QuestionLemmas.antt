@@ -1,11 +1,10 @@
 -- Laws of queries.
-use Rattle.std.proofs.Common.{◌≡◌, ◌&&◌, ℕ, zero, suc, ◌+◌, ◌-◌, ◌*◌, ◌<◌, ◌≤◌, max, nat_lt, Bool, true, false, List, [], ◌∷◌, ◌++◌, length, get_or, set, map, replicate, refl, sym, ap, ◌∙◌, subst, cond, arith, append_assoc, Some, None, ◌⊎◌, inl, inr}
-use Rattle.std.specs.Prelude.{Option}
+use Rattle.std.proofs.Common.{◌≡◌, ◌&&◌, ℕ, zero, suc, ◌+◌, ◌*◌, ◌<◌, ◌≤◌, max, nat_lt, Bool, true, false, List, [], ◌∷◌, ◌++◌, length, get_or, map, replicate, refl, sym, ap, ◌∙◌, subst, cond, arith, append_assoc, Some, ◌⊎◌, inl, inr}
 use Rattle.std.proofs.lemmas.List.{append_cancel_right, length-replicate, get_or-replicate, get_or_past}
 use Rattle.std.proofs.lemmas.Bool.{cases_lt}
 use Rattle.jx_tagtree.specs.declared.node.Node.{Node}
 use Rattle.jx_tagtree.specs.Shape.{IsShape, root, parent, way}
-use Rattle.jx_tagtree.specs.TagTree.{unknown, node_at, Walk, walk, Fits, Agree, Tree, query, tree_after, fresh, AreValues, ValuesOf, IsTree, IsSound}
+use Rattle.jx_tagtree.specs.TagTree.{unknown, node_at, IsValueOf, Tree, query, tree_after, fresh, AreValues, ValuesOf, IsTree}
 use Rattle.jx_tagtree.specs.Scan.{Scanned, scan_way}
 use Rattle.jx_tagtree.specs.Leaves.{least_leaf, AreLeaves}
 use Rattle.jx_tagtree.specs.Questions.{Question, all_bits, after_all, answers, AreAtLeaves, OneReading, AreReadBack}
@@ -30,7 +29,7 @@ fresh_tree wide high = record {
 pub fresh_values : (wide high : ℕ) (values : ℕ → ℕ) → AreValues wide high values → ValuesOf (fresh wide high) values
 fresh_values wide high values v = record {
   are = v;
-  agree = λ n. subst (λ (y : Node). Fits y (values n)) (sym (unknown_at (root wide high + 1) n)) (record { known = omega arith; settled = λ e. absurd cc });
+  agree = λ n. subst (λ (y : Node). IsValueOf y (values n)) (sym (unknown_at (root wide high + 1) n)) (record { known = omega arith; settled = λ e. absurd cc });
 }
 
 -- ---- values of what is known

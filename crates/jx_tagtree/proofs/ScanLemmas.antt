@@ -1,9 +1,9 @@
 -- Bits that are given one by one.
-use Rattle.std.proofs.Common.{◌≡◌, ℕ, zero, suc, ◌+◌, ◌-◌, ◌<◌, ◌≤◌, Bool, true, false, List, [], ◌∷◌, ◌++◌, length, refl, sym, ap, ◌∙◌, arith, append_assoc, length-append, Some, None}
+use Rattle.std.proofs.Common.{◌≡◌, ℕ, zero, suc, ◌+◌, ◌-◌, ◌<◌, ◌≤◌, Bool, false, List, [], ◌∷◌, ◌++◌, length, refl, sym, ap, ◌∙◌, arith, append_assoc, length-append, Some, None}
 use Rattle.std.specs.Prelude.{Option, option_map}
 use Rattle.jx_tagtree.specs.Header.{Took, Reading, to_come, advance}
 use Rattle.std.specs.Prelude.{option_and_then}
-use Rattle.std.proofs.Common.{drop, get_or, set, subst}
+use Rattle.std.proofs.Common.{drop, get_or, set}
 use Rattle.std.proofs.lemmas.List.{drop_more, get_or_default}
 use Rattle.jx_tagtree.specs.declared.node.Node.{Node}
 use Rattle.jx_tagtree.specs.TagTree.{node_at, unknown}

@@ -1,12 +1,11 @@
 -- Levels and ways of tag trees.
-use Rattle.std.proofs.Common.{◌≡◌, ◌≢◌, ℕ, zero, suc, ◌+◌, ◌-◌, ◌*◌, ◌/◌, ◌%◌, ◌^◌, ◌<◌, ◌≤◌, ◌==◌, nat_le, nat_lt, Bool, true, false, ◌&&◌, List, [], ◌∷◌, ◌++◌, length, refl, sym, ap, ◌∙◌, subst, cond, arith, append_assoc, add-one}
+use Rattle.std.proofs.Common.{◌≡◌, ℕ, zero, suc, ◌+◌, ◌-◌, ◌*◌, ◌/◌, ◌%◌, ◌^◌, ◌<◌, ◌≤◌, Bool, true, false, List, [], ◌∷◌, ◌++◌, length, refl, sym, ap, ◌∙◌, subst, cond, arith, append_assoc}
 use Rattle.std.proofs.lemmas.List.{length_push}
-use Rattle.std.proofs.lemmas.Nat.{div_below, mod_below, mul-le, mul-add-lt, pow_pos}
+use Rattle.std.proofs.lemmas.Nat.{div_below, mod_below, mul-le, mul-add-lt}
 use Rattle.std.proofs.Math.Nat.{two-pow-succ}
-use Rattle.std.proofs.Math.Pow.{pow_mono}
 use Rattle.std.proofs.lemmas.Bool.Decides.{nat_tests}
 use Rattle.jx_tagtree.specs.declared.shape.Level.{Level}
-use Rattle.jx_tagtree.specs.Shape.{IsShape, base, is_root, over, parent_at, root_from, root, parent_from, parent, way_from, way, IsLevel, InLevel}
+use Rattle.jx_tagtree.specs.Shape.{IsShape, base, is_root, over, parent_at, root_from, root, way_from, way, IsLevel, InLevel}
 
 pos_left : (a b : ℕ) → 1 ≤ a * b → 1 ≤ a
 pos_left zero b h = let e : 0 * b ≡ 0 = omega arith in omega arith

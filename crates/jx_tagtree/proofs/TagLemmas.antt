@@ -5,7 +5,7 @@ use Rattle.std.proofs.lemmas.List.{get_or-set_same, get_or-set_other, length-set
 use Rattle.std.proofs.lemmas.Bool.Decides.{nat_tests}
 use Rattle.std.proofs.lemmas.Bool.{cases_eq, cases_lt}
 use Rattle.jx_tagtree.specs.declared.node.Node.{Node}
-use Rattle.jx_tagtree.specs.TagTree.{unknown, node_at, node_bits, node_after, Walk, step, walk, Fits, Agree, Tree, query, ValuesOf, HasRead}
+use Rattle.jx_tagtree.specs.TagTree.{unknown, node_at, node_bits, node_after, Walk, walk, IsValueOf, Agree, Tree, query, ValuesOf, HasRead}
 use Rattle.jx_tagtree.specs.Scan.{Zeros, scan, more_zeros, Found, found, scan_one, Scanned, scanned, scan_node, scan_way, PartRead}
 use Rattle.jx_tagtree.specs.Kept.{KeepsTree}
 use Rattle.jx_tagtree.specs.Header.{Took, Reading, to_come, advance}
@@ -80,12 +80,12 @@ zeros_are t start m zeros false le exact short full =
     ((let no : nat_lt m t ≡ false = grind (arith, nat_tests) in sym no), omega arith, omega arith)
 
 -- what a node's value says of what was read at it
-one_read_at : (t k : ℕ) (s : Bool) (above : ℕ) (bits : List Bool) (f : Found) (m : ℕ) → scan_one t (node_of k s) above bits ≡ Some f → Fits f.node m → (s ≡ true → above ≤ k) →
-    Fits (node_of k s) m × (f.node ≡ node_after (node_of k s) (max k above) m t) × (bits ≡ node_bits (node_of k s) (max k above) m t ++ f.rest)
+one_read_at : (t k : ℕ) (s : Bool) (above : ℕ) (bits : List Bool) (f : Found) (m : ℕ) → scan_one t (node_of k s) above bits ≡ Some f → IsValueOf f.node m → (s ≡ true → above ≤ k) →
+    IsValueOf (node_of k s) m × (f.node ≡ node_after (node_of k s) (max k above) m t) × (bits ≡ node_bits (node_of k s) (max k above) m t ++ f.rest)
 one_read_at t k true above bits f m h fits ge =
     let le : above ≤ k = ge refl in
     let is : f ≡ found_of (node_of (max k above) true) bits = cc in
-    let fits' : Fits (node_of (max k above) true) m = subst (λ (g : Found). Fits g.node m) is fits in
+    let fits' : IsValueOf (node_of (max k above) true) m = subst (λ (g : Found). IsValueOf g.node m) is fits in
     let e : max k above ≡ m = fits'.settled refl in
     let same : max k above ≡ max (max k above) (min m t) = omega arith in (
       record { known = omega arith; settled = λ x. omega arith },
@@ -97,11 +97,11 @@ one_read_at t k false above bits f m h fits ge = by (scan (t - max k above) bits
     by : (o : Option Zeros) →
         ((z : Zeros) → o ≡ Some z → (bits ≡ replicate z.zeros false ++ cond z.one (true ∷ []) [] ++ z.rest) × (z.one ≡ true → z.zeros < t - max k above) × (z.one ≡ false → z.zeros ≡ t - max k above)) →
         option_map (found (max k above)) o ≡ Some f →
-        Fits (node_of k false) m × (f.node ≡ node_after (node_of k false) (max k above) m t) × (bits ≡ node_bits (node_of k false) (max k above) m t ++ f.rest)
+        IsValueOf (node_of k false) m × (f.node ≡ node_after (node_of k false) (max k above) m t) × (bits ≡ node_bits (node_of k false) (max k above) m t ++ f.rest)
     by None r e = absurd cc
     by (Some z) r e =
         let is : f ≡ found (max k above) z = cc in
-        let fits' : Fits (node_of (max k above + z.zeros) z.one) m = subst (λ (g : Found). Fits g.node m) is fits in
+        let fits' : IsValueOf (node_of (max k above + z.zeros) z.one) m = subst (λ (g : Found). IsValueOf g.node m) is fits in
         let q = r z refl in
         let le : max k above + z.zeros ≤ m = fits'.known in
         let a = zeros_are t (max k above) m z.zeros z.one le fits'.settled q.1 q.2 in (
@@ -112,14 +112,14 @@ one_read_at t k false above bits f m h fits ge = by (scan (t - max k above) bits
               ∙ ap (λ (l : List Bool). replicate (min m t - max k above) false ++ cond (nat_lt m t) (true ∷ []) [] ++ l) (sym (ap (λ (g : Found). g.rest) is)),
         )
 
-one_read : (t : ℕ) (node : Node) (above : ℕ) (bits : List Bool) (f : Found) (m : ℕ) → scan_one t node above bits ≡ Some f → Fits f.node m → (node.settled ≡ true → above ≤ node.known) →
-    Fits node m × (f.node ≡ node_after node (max node.known above) m t) × (bits ≡ node_bits node (max node.known above) m t ++ f.rest)
+one_read : (t : ℕ) (node : Node) (above : ℕ) (bits : List Bool) (f : Found) (m : ℕ) → scan_one t node above bits ≡ Some f → IsValueOf f.node m → (node.settled ≡ true → above ≤ node.known) →
+    IsValueOf node m × (f.node ≡ node_after node (max node.known above) m t) × (bits ≡ node_bits node (max node.known above) m t ++ f.rest)
 one_read t node above bits f m h fits ge = one_read_at t node.known node.settled above bits f m h fits ge
 
 -- the bits of a value are read as that value's
-one_only_at : (t k : ℕ) (s : Bool) (above : ℕ) (rest : List Bool) (m : ℕ) → Fits (node_of k s) m → above ≤ m →
+one_only_at : (t k : ℕ) (s : Bool) (above : ℕ) (rest : List Bool) (m : ℕ) → IsValueOf (node_of k s) m → above ≤ m →
     (scan_one t (node_of k s) above (node_bits (node_of k s) (max k above) m t ++ rest) ≡ Some (found_of (node_after (node_of k s) (max k above) m t) rest))
-    × Fits (node_after (node_of k s) (max k above) m t) m
+    × IsValueOf (node_after (node_of k s) (max k above) m t) m
 one_only_at t k true above rest m fits le =
     let e : k ≡ m = fits.settled refl in
     let same : max k above ≡ max (max k above) (min m t) = omega arith in (
@@ -130,7 +130,7 @@ one_only_at t k false above rest m fits le = by (nat_lt m t) refl
   where
     by : (b : Bool) → nat_lt m t ≡ b →
         (option_map (found (max k above)) (scan (t - max k above) (replicate (min m t - max k above) false ++ cond b (true ∷ []) [] ++ rest)) ≡ Some (found_of (node_of (max (max k above) (min m t)) b) rest))
-        × Fits (node_of (max (max k above) (min m t)) b) m
+        × IsValueOf (node_of (max (max k above) (min m t)) b) m
     by true e =
         let lt : m < t = grind (arith, nat_tests) in
         let known : k ≤ m = fits.known in
@@ -151,9 +151,9 @@ one_only_at t k false above rest m fits le = by (nat_lt m t) refl
           record { known = omega arith; settled = λ x. absurd cc },
         )
 
-one_only : (t : ℕ) (node : Node) (above : ℕ) (rest : List Bool) (m : ℕ) → Fits node m → above ≤ m →
+one_only : (t : ℕ) (node : Node) (above : ℕ) (rest : List Bool) (m : ℕ) → IsValueOf node m → above ≤ m →
     (scan_one t node above (node_bits node (max node.known above) m t ++ rest) ≡ Some (found_of (node_after node (max node.known above) m t) rest))
-    × Fits (node_after node (max node.known above) m t) m
+    × IsValueOf (node_after node (max node.known above) m t) m
 one_only t node above rest m fits le = one_only_at t node.known node.settled above rest m fits le
 
 -- what is known after a node's bits, whatever its value
@@ -347,9 +347,9 @@ read_step values t nodes n over bits a r lt ge again h agree = by (scan_one t (n
     by (Some f) eq e =
         let is : r ≡ scanned n a.nodes f = cc in
         let agree' : Agree values (set a.nodes n f.node) = subst (λ (s : Scanned). Agree values s.nodes) is agree in
-        let fits : Fits f.node (values n) = subst (λ (y : Node). Fits y (values n)) (at_same a.nodes n f.node lt) (agree' n) in
+        let fits : IsValueOf f.node (values n) = subst (λ (y : Node). IsValueOf y (values n)) (at_same a.nodes n f.node lt) (agree' n) in
         let one = one_read t (node_at a.nodes n) a.known a.rest f (values n) eq fits ge in
-        let w : WasRead values t nodes over bits a = again (kept_before (λ q y. Fits y (values q)) a.nodes n f.node one.0 agree') in
+        let w : WasRead values t nodes over bits a = again (kept_before (λ q y. IsValueOf y (values q)) a.nodes n f.node one.0 agree') in
         let above : Walk = walk values t nodes over in
         let node_is : node_at a.nodes n ≡ node_at above.nodes n = ap (λ (l : List Node). node_at l n) w.nodes_are in
         let start_is : max (node_at a.nodes n).known a.known ≡ max (node_at above.nodes n).known above.known =
@@ -401,7 +401,7 @@ only_step values t nodes n over bits rest lt le agree long h =
     let lt' : n < length above.nodes = omega arith in
     record {
       reads = ap (option_and_then (scan_node t n)) h ∙ ap (option_map (scanned n above.nodes)) one.0;
-      agree = kept (λ q y. Fits y (values q)) above.nodes n (node_after node (max node.known above.known) (values n) t) lt' one.1 agree;
+      agree = kept (λ q y. IsValueOf y (values q)) above.nodes n (node_after node (max node.known above.known) (values n) t) lt' one.1 agree;
       below = one.1.known;
       long = length-set above.nodes n (node_after node (max node.known above.known) (values n) t) ∙ long;
     }
@@ -419,7 +419,7 @@ scan_only up top t nodes _ _ (under {n} {over} lt w) long values rising agree bi
     only_step values t nodes n over bits rest (omega arith) (omega arith) i.agree i.long i.reads
 
 -- whether a value is below the threshold, as what is known of it says
-pub answer_is : (t : ℕ) (node : Node) (m : ℕ) → Fits node m → (node.settled ≡ true) ⊎ (t ≤ node.known) → (node.settled && nat_lt node.known t) ≡ nat_lt m t
+pub answer_is : (t : ℕ) (node : Node) (m : ℕ) → IsValueOf node m → (node.settled ≡ true) ⊎ (t ≤ node.known) → (node.settled && nat_lt node.known t) ≡ nat_lt m t
 answer_is t node m fits ended = by node.settled refl
   where
     by : (b : Bool) → node.settled ≡ b → (b && nat_lt node.known t) ≡ nat_lt m t
@@ -444,7 +444,7 @@ way_below up top _ _ at_top (suc k) lt = absurd (omega arith)
 way_below up top _ _ (under {n} {over} lt w) zero k_lt = omega arith
 way_below up top _ _ (under {n} {over} lt w) (suc k) k_lt = way_below up top (up n) over w k (omega arith)
 
-abbrev tree_of : ℕ → ℕ → List Node → Tree
+abbrev pub tree_of : ℕ → ℕ → List Node → Tree
 tree_of wide high nodes = record { wide = wide; high = high; nodes = nodes }
 
 module _ (wide high leaf t : ℕ) (inside : leaf < wide * high) (nodes : List Node) (keeps : KeepsTree wide high nodes) where

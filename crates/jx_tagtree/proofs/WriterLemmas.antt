@@ -1,13 +1,13 @@
 -- Bits that are put into bytes.
-use Rattle.std.proofs.Common.{◌≡◌, ℕ, zero, suc, ◌+◌, ◌-◌, ◌*◌, ◌/◌, ◌%◌, ◌^◌, ◌<◌, ◌≤◌, ◌==◌, nat_le, Bool, true, false, ◌&&◌, List, [], ◌∷◌, ◌++◌, length, take, drop, get_or, refl, sym, ap, ◌∙◌, subst, cond, arith, append_assoc, length-append, add-one, add-zero, length-drop}
-use Rattle.std.proofs.lemmas.List.{append-nil, drop_at, get_or_append_left, get_or_past, get_or_push, drop_all}
-use Rattle.std.proofs.lemmas.Nat.{mod-pow-add, shr-shr, pow_pos, shr_high, mod_low, pow-add}
+use Rattle.std.proofs.Common.{◌≡◌, ℕ, zero, suc, ◌+◌, ◌-◌, ◌*◌, ◌/◌, ◌%◌, ◌^◌, ◌<◌, ◌≤◌, ◌==◌, nat_le, Bool, true, false, ◌&&◌, List, [], ◌∷◌, ◌++◌, length, drop, get_or, refl, sym, ap, ◌∙◌, subst, cond, arith, append_assoc, length-append, add-one}
+use Rattle.std.proofs.lemmas.List.{append-nil, drop_at, drop_all}
+use Rattle.std.proofs.lemmas.Nat.{mod-pow-add, shr-shr, pow-add}
 use Rattle.std.proofs.Math.Nat.{two-pow-succ, mod-eq_of_lt}
 use Rattle.std.proofs.lemmas.Bool.Decides.{nat_tests}
-use Rattle.jx_tagtree.specs.declared.BitFault.TheVariants.{Ended, Stuffed}
-use Rattle.jx_tagtree.specs.Header.{Bits, room, is_stuffed, low_bits, before_all, bits_after, bits_of, last_after, number_of, bytes_from, bytes_of}
-use Rattle.jx_tagtree.specs.Place.{Written, given, closed}
-use Rattle.jx_tagtree.proofs.HeaderLemmas.{length-low_bits, clean_first, bits_after-push, last_after-append, room-le}
+use Rattle.jx_tagtree.specs.declared.BitFault.TheVariants.{Ended}
+use Rattle.jx_tagtree.specs.Header.{Bits, room, is_stuffed, low_bits, bits_after, bits_of, last_after, number_of, bytes_from, bytes_of}
+use Rattle.jx_tagtree.specs.Place.{Fills, given, closed}
+use Rattle.jx_tagtree.proofs.HeaderLemmas.{length-low_bits, clean_first, bits_after-push, last_after-append}
 
 -- the number of a bit
 abbrev pub as_number : Bool → ℕ
@@ -140,9 +140,9 @@ given-short bytes current filled next b e =
     ∙ sym (append_assoc (bits_of bytes).bits (low_bits filled current) (b ∷ []))
 
 -- a bit that fills it
-pub Written-byte : (bytes : List ℕ) (last current filled next : ℕ) (b : Bool) → Written bytes last current filled → room last ≤ filled + 1 → next ≡ 2 * current + as_number b → next < 256 →
-    (Written (bytes ++ next ∷ []) next 0 0) × (given (bytes ++ next ∷ []) 0 0 ≡ given bytes current filled ++ b ∷ [])
-Written-byte bytes last current filled next b w full e small =
+pub Fills-byte : (bytes : List ℕ) (last current filled next : ℕ) (b : Bool) → Fills bytes last current filled → room last ≤ filled + 1 → next ≡ 2 * current + as_number b → next < 256 →
+    (Fills (bytes ++ next ∷ []) next 0 0) × (given (bytes ++ next ∷ []) 0 0 ≡ given bytes current filled ++ b ∷ [])
+Fills-byte bytes last current filled next b w full e small =
     let bit : as_number b < 2 = as_number-lt b in
     let short : filled < room last = w.short in
     let fits : current < 2 ^ filled = w.fits in
@@ -173,7 +173,7 @@ Written-byte bytes last current filled next b w full e small =
     bytes_more (x ∷ xs) next all small (suc i) = bytes_more xs next (λ j. all (suc j)) small i
 
 -- where no bits are left over
-pub closed-whole : (bytes : List ℕ) (last current filled : ℕ) → Written bytes last current filled → filled ≡ 0 → closed bytes last ≡ bytes_of (given bytes current filled)
+pub closed-whole : (bytes : List ℕ) (last current filled : ℕ) → Fills bytes last current filled → filled ≡ 0 → closed bytes last ≡ bytes_of (given bytes current filled)
 closed-whole bytes last current filled w none =
     let nil : given bytes current filled ≡ (bits_of bytes).bits ++ [] = ap (λ (n : ℕ). (bits_of bytes).bits ++ low_bits n current) none in
     let r = bytes_from-whole (suc (length ((bits_of bytes).bits ++ []))) 0 bytes [] w.clean w.are_bytes (omega arith) in
@@ -184,7 +184,7 @@ closed-whole bytes last current filled w none =
     ended (suc k) before some = refl
 
 -- where some are
-pub closed-filled : (bytes : List ℕ) (last current filled byte : ℕ) → Written bytes last current filled → 0 < filled → byte ≡ current * 2 ^ (room last - filled) →
+pub closed-filled : (bytes : List ℕ) (last current filled byte : ℕ) → Fills bytes last current filled → 0 < filled → byte ≡ current * 2 ^ (room last - filled) →
     closed (bytes ++ byte ∷ []) byte ≡ bytes_of (given bytes current filled)
 closed-filled bytes last current filled byte w some e =
     let tail = low_bits filled current in

@@ -1,8 +1,7 @@
 -- The values of a tag tree's nodes from its leaves (ITU-T T.800, B.10.2): each is the least of the leaves under its node.
-use Rattle.std.specs.Prelude.{◌≡◌, ℕ, zero, suc, ◌+◌, ◌-◌, ◌*◌, ◌^◌, ◌<◌, ◌≤◌, ◌==◌, min, Bool, true, false, ◌||◌, List, [], ◌∷◌, ◌++◌, length, take, slice_index, nat_lt, if◌then◌else◌}
-use Rattle.jx_tagtree.specs.declared.node.Node.{Node}
-use Rattle.jx_tagtree.specs.Shape.{IsShape, root, parent, way}
-use Rattle.jx_tagtree.specs.TagTree.{Tree, Walk, walk, query, fresh}
+use Rattle.std.specs.Prelude.{◌≡◌, ℕ, ◌+◌, ◌-◌, ◌*◌, ◌^◌, ◌<◌, ◌≤◌, ◌==◌, min, Bool, true, false, ◌||◌, List, [], ◌∷◌, length, slice_index, if◌then◌else◌}
+use Rattle.jx_tagtree.specs.Shape.{IsShape, way}
+use Rattle.jx_tagtree.specs.TagTree.{Tree, Walk, query, fresh}
 
 -- whether a way passes a node
 abbrev pub passes : ℕ → List ℕ → Bool

@@ -18,7 +18,7 @@ pub record Stands (bytes : List ℕ) (used last left : ℕ) : Type 0 where
   pub are_left : drop (count bytes used - left) (bits_of (take used bytes)).bits ≡ low_bits left last
 
 -- Of a writer's fields: the bytes written, the last of them, and a number of fewer bits than the next byte has room for.
-pub record Written (bytes : List ℕ) (last current filled : ℕ) : Type 0 where
+pub record Fills (bytes : List ℕ) (last current filled : ℕ) : Type 0 where
   pub is_last : last ≡ last_after 0 bytes
   pub clean : (bits_of bytes).fault ≡ Ended
   pub are_bytes : (i : ℕ) → slice_index bytes i < 256

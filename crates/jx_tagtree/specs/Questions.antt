@@ -1,8 +1,7 @@
 -- Lists of queries of one tag tree, one after another.
-use Rattle.std.specs.Prelude.{◌≡◌, ℕ, ◌+◌, ◌*◌, ◌<◌, ◌≤◌, nat_lt, Bool, List, [], ◌∷◌, ◌++◌, map, slice_index}
-use Rattle.jx_tagtree.specs.Shape.{IsShape}
-use Rattle.jx_tagtree.specs.TagTree.{Tree, query, tree_after, fresh, AreValues, ValuesOf, IsTree}
-use Rattle.jx_tagtree.specs.Leaves.{least_leaf, AreLeaves}
+use Rattle.std.specs.Prelude.{◌≡◌, ℕ, ◌<◌, nat_lt, Bool, List, [], ◌∷◌, ◌++◌, map, slice_index}
+use Rattle.jx_tagtree.specs.TagTree.{Tree, query, tree_after, fresh}
+use Rattle.jx_tagtree.specs.Leaves.{least_leaf}
 
 -- a query at a leaf with a threshold
 pub record Question : Type 0 where

@@ -1,6 +1,6 @@
 -- What the reader of a tag tree does with bits whose values it doesn't know: the contracts of its inner functions say it,
 -- and laws tie it to the values.
-use Rattle.std.specs.Prelude.{◌≡◌, ℕ, zero, suc, ◌+◌, ◌-◌, max, Bool, true, false, List, [], ◌∷◌, ◌++◌, length, drop, slice_set, Option, Some, None, option_map, option_and_then, if◌then◌else◌}
+use Rattle.std.specs.Prelude.{◌≡◌, ℕ, zero, suc, ◌+◌, ◌-◌, max, Bool, true, false, List, [], ◌∷◌, drop, slice_set, Option, Some, None, option_map, option_and_then, if◌then◌else◌}
 use Rattle.jx_tagtree.specs.declared.node.Node.{Node}
 use Rattle.jx_tagtree.specs.TagTree.{node_at}
 

@@ -1,6 +1,6 @@
 -- The nodes of a tag tree (ITU-T T.800, B.10.2). They are numbered from the leaves' level up to the root, in raster order
 -- within a level. Each level is half as wide and high as the one below, rounded up.
-use Rattle.std.specs.Prelude.{◌≡◌, ℕ, zero, suc, ◌+◌, ◌-◌, ◌*◌, ◌/◌, ◌%◌, ◌^◌, ◌<◌, ◌≤◌, nat_lt, nat_le, Bool, ◌&&◌, List, [], ◌∷◌, if◌then◌else◌}
+use Rattle.std.specs.Prelude.{ℕ, zero, suc, ◌+◌, ◌-◌, ◌*◌, ◌/◌, ◌%◌, ◌^◌, ◌<◌, ◌≤◌, nat_lt, nat_le, Bool, ◌&&◌, List, [], ◌∷◌, if◌then◌else◌}
 use Rattle.jx_tagtree.specs.declared.shape.Level.{Level}
 
 -- the sizes that a tag tree may have, in leaves

@@ -1,9 +1,8 @@
 -- Tag trees (ITU-T T.800, B.10.2): what a query at a leaf reads or writes, from the values of the nodes and from what is
 -- known of them.
-use Rattle.std.specs.Prelude.{◌≡◌, ℕ, ◌+◌, ◌-◌, ◌*◌, ◌<◌, ◌≤◌, min, max, nat_lt, Bool, true, false, ◌||◌, List, [], ◌∷◌, ◌++◌, length, replicate, slice_set, slice_index, slice_index_or, if◌then◌else◌}
-use Rattle.jx_tagtree.specs.declared.BitFault.{BitFault}
+use Rattle.std.specs.Prelude.{◌≡◌, ℕ, ◌+◌, ◌-◌, ◌<◌, ◌≤◌, min, max, nat_lt, Bool, true, false, ◌||◌, List, [], ◌∷◌, ◌++◌, length, replicate, slice_set, slice_index_or, if◌then◌else◌}
 use Rattle.jx_tagtree.specs.declared.node.Node.{Node}
-use Rattle.jx_tagtree.specs.Header.{Reading, to_come, fault_of, advance, exhausted}
+use Rattle.jx_tagtree.specs.Header.{Reading, to_come, advance}
 use Rattle.jx_tagtree.specs.Shape.{root, parent, way}
 
 -- of a node nothing is known but that its value isn't negative
@@ -69,13 +68,13 @@ abbrev pub AreValues : ℕ → ℕ → (ℕ → ℕ) → Type 0
 AreValues wide high values = (n : ℕ) → n < root wide high → values (parent wide high n) ≤ values n
 
 -- a value that agrees with what is known of its node
-pub record Fits (node : Node) (m : ℕ) : Type 0 where
+pub record IsValueOf (node : Node) (m : ℕ) : Type 0 where
   pub known : node.known ≤ m
   pub settled : node.settled ≡ true → node.known ≡ m
 
 -- values that agree with what is known
 abbrev pub Agree : (ℕ → ℕ) → List Node → Type 0
-Agree values nodes = (n : ℕ) → Fits (node_at nodes n) (values n)
+Agree values nodes = (n : ℕ) → IsValueOf (node_at nodes n) (values n)
 
 -- The values of a tree that agree with what is known of it.
 pub record ValuesOf (tree : Tree) (values : ℕ → ℕ) : Type 0 where

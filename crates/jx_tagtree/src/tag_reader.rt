@@ -58,6 +58,9 @@ impl TagReader {
         // The query's bits for values that agree with what is known are read so, and in no other way.
         ensures only { (values : ℕ → ℕ) → ValuesOf self.old values → (rest : List Bool) → to_come bits.old ≡ (query values self.old leaf threshold).bits ++ rest →
             (below : Bool) × (result ≡ Ok below) × HasRead values leaf threshold below self.old bits.old self.new bits.new }
+        // Where there are none such, and only there, the bits run out.
+        ensures none { IfErr result (λ _. (values : ℕ → ℕ) → ValuesOf self.old values → (rest : List Bool) → to_come bits.old ≡ (query values self.old leaf threshold).bits ++ rest → ⊥) }
+        ensures some { OnOk result ((values : ℕ → ℕ) × ValuesOf self.new values) }
         ensures tree { OnOk result (IsTree self.new) }
         ensures fault { IfErr result (λ e. (e ≡ fault_of bits.old) × (bits.new ≡ exhausted bits.old)) }
     {

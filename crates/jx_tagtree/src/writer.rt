@@ -1,6 +1,6 @@
 ghost use Rattle.std.specs.Prelude.{◌/◌, ◌%◌, ◌*◌, ◌^◌, ◌==◌, ◌≡◌, ◌∷◌, ◌++◌, [], ◌<◌, ◌≤◌, ◌+◌, ◌-◌, Bool, IfOk, IfErr, OnOk, OnErr, if◌then◌else◌};
 ghost use Rattle.jx_tagtree.specs.Header.{bytes_of, room};
-ghost use Rattle.jx_tagtree.specs.Place.{Written, given, closed};
+ghost use Rattle.jx_tagtree.specs.Place.{Fills, given, closed};
 
 use jx_base::NoMemory;
 use std::alloc::Global;
@@ -21,13 +21,13 @@ pub struct BitWriter {
 
 impl Model for BitWriter {
     ghost use Rattle.std.specs.Prelude.{List, Bool};
-    ghost use Rattle.jx_tagtree.specs.Place.{Written, given};
+    ghost use Rattle.jx_tagtree.specs.Place.{Fills, given};
 
     ghost Value = { List Bool };
 
     ghost view = { λ w. given w.bytes.items w.current w.filled };
 
-    ghost invariant = { λ w. Written w.bytes.items w.last w.current w.filled };
+    ghost invariant = { λ w. Fills w.bytes.items w.last w.current w.filled };
 }
 
 impl BitWriter {
@@ -76,7 +76,7 @@ impl BitWriter {
 
 /// Writes the bits that don't fill a byte, with zeros behind them, and gives the last byte.
 fn fill_last(bytes: &mut Vec<u8>, last: u8, current: u8, filled: u8) -> Result<u8, NoMemory>
-    requires { Written bytes.old.items last current filled }
+    requires { Fills bytes.old.items last current filled }
     ensures { IfOk result (λ end. closed bytes.new.items end ≡ bytes_of (given bytes.old.items current filled)) }
 {
     if filled == 0 {

@@ -1,4 +1,4 @@
-use Rattle.std.proofs.Common.{suc, length, ◌+◌, ◌≡◌, ◌<◌, ℕ, subst, sym, get_or, add-one, arith}
+use Rattle.std.proofs.Common.{suc, length, ◌<◌, ℕ, subst, sym, get_or, add-one, arith}
 use Rattle.jx_tagtree.specs.Header.{bytes_of}
 use Rattle.jx_tagtree.proofs.LawLemmas.{made, clean_pair}
 use Rattle.jx_tagtree.proofs.laws.header_of_bits.Goals as goal

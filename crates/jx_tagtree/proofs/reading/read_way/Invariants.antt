@@ -1,6 +1,6 @@
 use Rattle.std.proofs.Common.{◌≡◌, ◌≤◌, length, drop, Some}
 use Rattle.jx_tagtree.specs.Header.{Took, to_come}
-use Rattle.jx_tagtree.specs.Scan.{scan_way, Scanned}
+use Rattle.jx_tagtree.specs.Scan.{scan_way}
 use Rattle.jx_tagtree.proofs.reading.read_way.Given as goal
 
 -- the nodes that stand over this place are read

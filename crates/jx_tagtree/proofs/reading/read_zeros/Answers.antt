@@ -1,4 +1,4 @@
-use Rattle.std.proofs.Common.{◌≡◌, ◌∷◌, ◌∙◌, ◌-◌, ◌+◌, ◌<◌, ◌≤◌, ap, List, Bool, true, false, arith, subst}
+use Rattle.std.proofs.Common.{◌≡◌, ◌∷◌, ◌∙◌, ◌-◌, ◌≤◌, ap, List, Bool, false, arith}
 use Rattle.std.specs.Prelude.{option_map}
 use Rattle.jx_tagtree.specs.Header.{to_come}
 use Rattle.jx_tagtree.specs.Scan.{scan, more_zeros}

@@ -1,7 +1,6 @@
-use Rattle.std.proofs.Common.{◌≡◌, ◌-◌, ◌∙◌, ℕ, List, [], sym, subst, length, true, false}
-use Rattle.jx_tagtree.specs.declared.shape.Level.{Level}
-use Rattle.jx_tagtree.specs.Shape.{is_root, way, base}
-use Rattle.jx_tagtree.proofs.ShapeLemmas.{Climbs, climb_begin, climb_next, parent_fits}
+use Rattle.std.proofs.Common.{◌-◌, ◌∙◌, sym, length}
+use Rattle.jx_tagtree.specs.Shape.{way}
+use Rattle.jx_tagtree.proofs.ShapeLemmas.{climb_begin, climb_next, parent_fits}
 use Rattle.jx_tagtree.proofs.shape.way_of.Goals as goal
 
 pub loop-level-init : goal.loop-level-init

@@ -1,5 +1,5 @@
-use Rattle.std.proofs.Common.{◌≡◌, ◌*◌, ◌+◌, ◌<◌, ◌≤◌, arith, length}
-use Rattle.jx_tagtree.proofs.LeafLemmas.{all_highest, lowered_next, lowered_end, way_range}
+use Rattle.std.proofs.Common.{◌≡◌, ◌*◌, arith, length}
+use Rattle.jx_tagtree.proofs.LeafLemmas.{all_highest, lowered_end, way_range}
 use Rattle.jx_tagtree.proofs.tag_writer.node_values.Goals as goal
 
 pub loop-leaf-init : goal.loop-leaf-init

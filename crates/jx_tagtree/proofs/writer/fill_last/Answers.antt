@@ -1,5 +1,4 @@
-use Rattle.std.proofs.Common.{arith, ◌<◌, ◌≡◌, ◌*◌, ◌^◌, ◌-◌, ap, ℕ, ◌∙◌}
-use Rattle.jx_tagtree.specs.Header.{room}
+use Rattle.std.proofs.Common.{arith, ◌*◌, ◌^◌, ◌-◌, ap, ℕ, ◌∙◌}
 use Rattle.jx_tagtree.proofs.WriterLemmas.{closed-whole, closed-filled}
 use Rattle.jx_tagtree.proofs.writer.fill_last.Goals as goal
 

@@ -1,4 +1,4 @@
-use Rattle.std.proofs.Common.{arith, ◌-◌, ◌+◌, ◌≤◌}
+use Rattle.std.proofs.Common.{arith, ◌-◌}
 use Rattle.std.proofs.lemmas.Nat.{shl_whole}
 use Rattle.jx_tagtree.proofs.writer.filled_up.Goals as goal
 

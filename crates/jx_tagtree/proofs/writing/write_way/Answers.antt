@@ -1,5 +1,4 @@
 use Rattle.std.proofs.Common.{◌≡◌, ◌∙◌, ◌-◌, ◌<◌, ◌≤◌, ◌++◌, ap, sym, refl, arith, ℕ, length, get_or, drop, max, List, Bool, length-set, append_assoc}
-use Rattle.std.proofs.lemmas.List.{get_or_default}
 use Rattle.jx_tagtree.specs.TagTree.{Walk, walk, node_bits}
 use Rattle.jx_tagtree.proofs.LeafLemmas.{told_more}
 use Rattle.jx_tagtree.proofs.writing.write_way.Goals as goal

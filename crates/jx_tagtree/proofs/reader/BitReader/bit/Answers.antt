@@ -1,5 +1,5 @@
-use Rattle.std.proofs.Common.{◌≡◌, ◌∷◌, ◌<◌, ◌-◌, ◌+◌, ℕ, ap, sym, arith, refl, ◌∙◌}
-use Rattle.jx_tagtree.specs.Header.{Reading, to_come, advance, fault_of}
+use Rattle.std.proofs.Common.{◌<◌, ℕ, ap, arith}
+use Rattle.jx_tagtree.specs.Header.{Reading}
 use Rattle.jx_tagtree.proofs.HeaderLemmas.{Stands-bit, begin_byte, give_bit, give_byte, give_none}
 use Rattle.jx_tagtree.proofs.reader.BitReader.bit.Goals as goal
 

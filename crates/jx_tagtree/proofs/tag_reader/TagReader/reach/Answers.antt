@@ -1,6 +1,7 @@
-use Rattle.std.proofs.Common.{◌≡◌, ◌<◌, ◌+◌, ◌++◌, length, refl, arith, ap, ◌∙◌, ℕ, List, Bool}
+use Rattle.std.proofs.Common.{◌<◌, length, refl, arith}
 use Rattle.jx_tagtree.specs.Header.{to_come}
-use Rattle.jx_tagtree.proofs.TagLemmas.{call_range, call_part, call_keeps, call_leaf, call_read, call_only, call_none}
+use Rattle.jx_tagtree.proofs.TagLemmas.{call_range, call_part, call_keeps, call_leaf, call_read, call_only, call_none, tree_of}
+use Rattle.jx_tagtree.proofs.QuestionLemmas.{known_values}
 use Rattle.jx_tagtree.proofs.tag_reader.TagReader.reach.Goals as goal
 
 pub read_way-requires : goal.read_way-requires
@@ -48,3 +49,13 @@ returns-clause-tree c =
     let k = call_keeps c.self.inside.wide c.self.inside.high c.args.leaf c.args.threshold c.self.inside.nodes.items c.self.invariant c.args.self.now c.self.view_is c.requires
     c.way_of-way.result c.way_of-way.ensures (to_come c.args.bits.now) (to_come c.read_way.new.bits) c.read_way.new.nodes.items c.in-Ok.known c.in-Ok.ensures.ok in
     record { nodes = k.long; sound = k.sound }
+
+pub returns-in-Err-clause-none : goal.returns-in-Err-clause-none
+returns-in-Err-clause-none c = call_none c.self.inside.wide c.self.inside.high c.args.leaf c.args.threshold c.self.inside.nodes.items c.self.invariant c.args.self.now c.self.view_is c.requires
+    c.way_of-way.result c.way_of-way.ensures c.args.bits.now c.in-Err.ensures.err.0
+
+pub returns-clause-some : goal.returns-clause-some
+returns-clause-some c =
+    let k = call_keeps c.self.inside.wide c.self.inside.high c.args.leaf c.args.threshold c.self.inside.nodes.items c.self.invariant c.args.self.now c.self.view_is c.requires
+    c.way_of-way.result c.way_of-way.ensures (to_come c.args.bits.now) (to_come c.read_way.new.bits) c.read_way.new.nodes.items c.in-Ok.known c.in-Ok.ensures.ok in
+    known_values (tree_of c.self.inside.wide c.self.inside.high c.read_way.new.nodes.items) (record { nodes = k.long; sound = k.sound })

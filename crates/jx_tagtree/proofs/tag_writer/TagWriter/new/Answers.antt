@@ -1,8 +1,6 @@
-use Rattle.std.proofs.Common.{◌≡◌, ◌+◌, ◌∙◌, ap, arith, length, replicate, List, ℕ}
+use Rattle.std.proofs.Common.{◌∙◌, ap, arith, length, replicate, List, ℕ}
 use Rattle.std.proofs.lemmas.List.{length-replicate}
-use Rattle.jx_tagtree.specs.declared.node.Node.{Node}
 use Rattle.jx_tagtree.specs.TagTree.{unknown}
-use Rattle.jx_tagtree.specs.Leaves.{Written}
 use Rattle.jx_tagtree.proofs.LeafLemmas.{made_keeps, leaves_first, written_of}
 use Rattle.jx_tagtree.proofs.tag_writer.TagWriter.new.Goals as goal
 

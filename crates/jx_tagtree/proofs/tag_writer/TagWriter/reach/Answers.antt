@@ -1,4 +1,4 @@
-use Rattle.std.proofs.Common.{◌∙◌, ◌++◌, ap, Bool, List}
+use Rattle.std.proofs.Common.{◌∙◌, ◌++◌, ap}
 use Rattle.jx_tagtree.specs.TagTree.{Walk}
 use Rattle.jx_tagtree.proofs.LeafLemmas.{told_nodes, told_values, told_is, told_keeps, told_after_is}
 use Rattle.jx_tagtree.proofs.tag_writer.TagWriter.reach.Goals as goal
