@@ -1,1 +1,4 @@
--- Definitions that several crates cite: none yet.
+pub mod MqReading
+pub mod MqTable
+pub mod MqWriting
+pub mod RawBits
