@@ -1,3 +1,4 @@
+pub mod Markers
 pub mod MqReading
 pub mod MqTable
 pub mod MqWriting

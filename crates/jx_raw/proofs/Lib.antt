@@ -1,0 +1,4 @@
+pub mod Back
+pub mod Bytes
+pub mod Reading
+pub mod Writing
