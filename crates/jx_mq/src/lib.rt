@@ -1,13 +1,7 @@
-// A library with one function.
+//! The arithmetic coder of bit-plane decisions (ITU-T T.800, Annex C): contexts, decoder, encoder.
 #![tactic(auto)]
 
-ghost use Rattle.std.specs.Prelude.{◌≡◌};
-ghost use Rattle.jx_mq.specs.Echo.{echo_of};
+mod contexts;
+mod table;
 
-// The `ensures` clause is the contract: what `echo` returns is `echo_of` of its argument, a definition
-// in `specs/Echo.antt`, which a caller's clause can cite too.
-pub fn echo(x: usize) -> usize
-    ensures { result ≡ echo_of x }
-{
-    x
-}
+pub use contexts::Contexts;
