@@ -36,7 +36,7 @@ mq_shifted_in segment r =
   record fed { a = 2 * fed.a; c = 2 * fed.c % 4294967296; ct = fed.ct - 1 }
 
 -- RENORMD: shifts until A has bit 15, at most n times
-abbrev pub mq_refilled : List ℕ → ℕ → MqReader → MqReader
+unfoldable pub mq_refilled : List ℕ → ℕ → MqReader → MqReader
 mq_refilled segment zero r = r
 mq_refilled segment (suc n) r = if nat_le 32768 r.a then r else mq_refilled segment n (mq_shifted_in segment r)
 

@@ -50,7 +50,7 @@ mq_shifted w =
   if w.ct - 1 == 0 then mq_byte_out moved else moved
 
 -- RENORME: shifts until A has bit 15, at most n times
-abbrev pub mq_renormalized : ℕ → MqWriter → MqWriter
+unfoldable pub mq_renormalized : ℕ → MqWriter → MqWriter
 mq_renormalized zero w = w
 mq_renormalized (suc n) w = if nat_le 32768 w.a then w else mq_renormalized n (mq_shifted w)
 

@@ -2,6 +2,7 @@
 #![tactic(auto)]
 
 mod contexts;
+mod decoder;
 mod table;
 
 pub use contexts::Contexts;
