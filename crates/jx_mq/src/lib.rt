@@ -3,6 +3,9 @@
 
 mod contexts;
 mod decoder;
+mod encoder;
 mod table;
+#[cfg(test)]
+mod tests;
 
 pub use contexts::Contexts;
