@@ -1,11 +1,11 @@
 -- The encoder's registers stay within their bounds.
-use Rattle.std.proofs.Common.{◌≡◌, ◌≢◌, ◌<◌, ◌≤◌, ◌+◌, ◌-◌, ◌*◌, ◌/◌, ◌%◌, ◌^◌, ℕ, zero, suc, Bool, true, false, List, [], ◌∷◌, length, refl, ap, sym, ◌∙◌, arith, leb, eqb, ltb, inl, inr, if◌then◌else◌, ◌==◌}
+use Rattle.std.proofs.Common.{◌≡◌, ◌≢◌, ◌<◌, ◌≤◌, ◌+◌, ◌-◌, ◌*◌, ◌/◌, ◌^◌, ℕ, suc, Bool, true, false, List, [], ◌∷◌, refl, arith, eqb, ltb, inl, inr, if◌then◌else◌}
 use Rattle.std.proofs.lemmas.Bool.{cases_lt, cases_eq}
 use Rattle.std.proofs.lemmas.Bool.Decides.{nat_tests}
-use Rattle.std.proofs.lemmas.Nat.{pow_pos, mul-le}
+use Rattle.std.proofs.lemmas.Nat.{mul-le}
 use Rattle.std.proofs.Math.Nat.{two-pow-succ}
-use Rattle.jx_base.specs.MqWriting.{MqWriter, mq_newest, mq_raised, mq_plain, mq_stuffed, mq_carried, mq_by_newest, mq_byte_out, mq_shifted, mq_renormalized, mq_lower, mq_upper, mq_part, mq_written, mq_last_number, mq_given_out, mq_flushed}
-use Rattle.jx_mq.specs.Coding.{AreGiven, IsFull, IsBounded, IsCoding, IsCoder}
+use Rattle.jx_base.specs.MqWriting.{MqWriter, mq_plain, mq_stuffed, mq_byte_out, mq_shifted, mq_lower, mq_upper, mq_part}
+use Rattle.jx_mq.specs.Coding.{AreGiven, IsFull, IsBounded, IsCoding}
 
 pub no_byte : (byte : ℕ) → byte ≢ 255 → eqb byte 255 ≡ false
 no_byte byte ne = grind (arith, nat_tests)

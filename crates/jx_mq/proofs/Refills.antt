@@ -1,11 +1,10 @@
 -- The shifts that bring A back to bit 15.
-use Rattle.std.proofs.Common.{◌≡◌, ◌<◌, ◌≤◌, ◌+◌, ◌-◌, ◌*◌, ◌^◌, ℕ, zero, suc, Bool, true, false, List, [], ◌∷◌, refl, ap, sym, ◌∙◌, arith, leb, inl, inr, if◌then◌else◌, ◌==◌}
+use Rattle.std.proofs.Common.{◌≡◌, ◌<◌, ◌≤◌, ◌*◌, ◌^◌, ℕ, zero, suc, Bool, true, false, List, refl, ap, sym, ◌∙◌, arith, leb, inl, inr, if◌then◌else◌, ◌==◌}
 use Rattle.std.proofs.lemmas.Bool.{cases_lt}
 use Rattle.std.proofs.lemmas.Bool.Decides.{nat_tests}
-use Rattle.std.proofs.lemmas.Nat.{pow_pos}
 use Rattle.std.proofs.Math.Nat.{two-pow-succ}
 use Rattle.jx_base.specs.MqReading.{MqReader, mq_byte_in, mq_shifted_in, mq_refilled}
-use Rattle.jx_mq.specs.Decoding.{IsWithin, IsReading, IsRefilling}
+use Rattle.jx_mq.specs.Decoding.{IsWithin, IsRefilling}
 
 pub isnt_reached : (a : ℕ) → a < 32768 → leb 32768 a ≡ false
 isnt_reached a less = grind (arith, nat_tests)

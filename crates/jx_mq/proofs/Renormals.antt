@@ -1,7 +1,6 @@
 -- The shifts that bring the encoder's A back to bit 15, and its last number.
-use Rattle.std.proofs.Common.{◌≡◌, ◌<◌, ◌≤◌, ◌+◌, ◌-◌, ◌*◌, ◌/◌, ◌%◌, ◌^◌, ℕ, zero, suc, Bool, true, false, List, [], ◌∷◌, refl, ap, sym, ◌∙◌, arith, leb, ltb, inl, inr, if◌then◌else◌, ◌==◌, bit_or}
+use Rattle.std.proofs.Common.{◌≡◌, ◌<◌, ◌≤◌, ◌+◌, ◌-◌, ◌*◌, ◌/◌, ◌%◌, ◌^◌, ℕ, zero, suc, Bool, true, false, refl, ap, sym, ◌∙◌, arith, ltb, inl, inr, if◌then◌else◌, ◌==◌, bit_or}
 use Rattle.std.proofs.lemmas.Bool.{cases_lt}
-use Rattle.std.proofs.lemmas.Bool.Decides.{nat_tests}
 use Rattle.std.proofs.lemmas.Nat.{or_block, or_comm, or_of_16, le_or_r}
 use Rattle.jx_base.specs.MqWriting.{MqWriter, mq_newest, mq_plain, mq_stuffed, mq_carried, mq_by_newest, mq_byte_out, mq_shifted, mq_renormalized}
 use Rattle.jx_mq.specs.Coding.{IsCoding, IsRenormalizing}

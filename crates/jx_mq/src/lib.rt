@@ -9,3 +9,5 @@ mod table;
 mod tests;
 
 pub use contexts::Contexts;
+pub use decoder::MqDecoder;
+pub use encoder::MqEncoder;

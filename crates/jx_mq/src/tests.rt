@@ -95,7 +95,7 @@ fn writes_and_reads(alloc: Global, count: u32, seed: u64) -> Result<bool, Fail> 
         if is_reset(x) {
             contexts = Contexts::new();
         }
-        let label = (x >> 50) as u8 % 19;
+        let label = ((x >> 50) % 19) as u8;
         encoder.bit(&mut contexts, label, bit_of(x, label))?;
     }
     let bytes = encoder.flush()?;
@@ -108,7 +108,7 @@ fn writes_and_reads(alloc: Global, count: u32, seed: u64) -> Result<bool, Fail> 
         if is_reset(x) {
             contexts = Contexts::new();
         }
-        let label = (x >> 50) as u8 % 19;
+        let label = ((x >> 50) % 19) as u8;
         same = same && decoder.bit(&mut contexts, label) == bit_of(x, label);
     }
     Ok(same)

@@ -1,6 +1,5 @@
-use Rattle.std.proofs.Common.{◌≡◌, ◌<◌, ◌≤◌, ap, arith, sym, ◌∙◌}
+use Rattle.std.proofs.Common.{ap, arith}
 use Rattle.jx_base.specs.MqReading.{MqReader}
-use Rattle.jx_mq.specs.Decoding.{IsWithin}
 use Rattle.jx_mq.proofs.Refills.{refilling_begins, refilling_goes_on, refilling_ends}
 use Rattle.jx_mq.proofs.decoder.Registers.refill.Goals as goal
 

@@ -1,4 +1,4 @@
-use Rattle.std.proofs.Common.{ℕ, ◌-◌}
+use Rattle.std.proofs.Common.{◌-◌}
 use Rattle.jx_mq.specs.Decoding.{IsRefilling}
 use Rattle.jx_mq.proofs.decoder.Registers.refill.Given as goal
 

@@ -1,4 +1,4 @@
-use Rattle.std.proofs.Common.{◌≡◌, ◌<◌, ◌≤◌, ap, arith, sym, ◌∙◌}
+use Rattle.std.proofs.Common.{arith}
 use Rattle.jx_mq.proofs.Bounds.{part_coding}
 use Rattle.jx_mq.proofs.encoder.MqEncoder.bit.Goals as goal
 

@@ -1,4 +1,4 @@
-use Rattle.std.proofs.Common.{◌≡◌, ◌<◌, ◌≤◌, ap, arith, sym, ◌∙◌}
+use Rattle.std.proofs.Common.{ap, arith}
 use Rattle.jx_base.specs.MqWriting.{MqWriter}
 use Rattle.jx_mq.proofs.Renormals.{renormalizing_begins, renormalizing_goes_on, renormalizing_ends}
 use Rattle.jx_mq.proofs.encoder.Registers.renormalize.Goals as goal

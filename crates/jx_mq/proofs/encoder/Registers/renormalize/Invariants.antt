@@ -1,4 +1,4 @@
-use Rattle.std.proofs.Common.{ℕ, ◌-◌}
+use Rattle.std.proofs.Common.{◌-◌}
 use Rattle.jx_mq.specs.Coding.{IsRenormalizing}
 use Rattle.jx_mq.proofs.encoder.Registers.renormalize.Given as goal
 
