@@ -23,10 +23,10 @@ not_below c most less = grind (arith, nat_tests)
 at_zero : (n ct : ℕ) → ct ≡ 0 → n * 2 ^ ct ≡ n
 at_zero n ct e = rw e (omega arith)
 
-is_zero : (n : ℕ) → n ≡ 0 → eqb n 0 ≡ true
+pub is_zero : (n : ℕ) → n ≡ 0 → eqb n 0 ≡ true
 is_zero n e = grind (arith, nat_tests)
 
-isnt_zero : (n : ℕ) → n ≢ 0 → eqb n 0 ≡ false
+pub isnt_zero : (n : ℕ) → n ≢ 0 → eqb n 0 ≡ false
 isnt_zero n ne = grind (arith, nat_tests)
 
 given_newest : (byte : ℕ) (older : List ℕ) → AreGiven (byte ∷ older) → byte < 256
