@@ -206,6 +206,13 @@ enough_at w first second n some most whole out again =
     room_left (value second.bytes) second.c second.a (27 - second.ct) (value w.bytes * 128 * 2 ^ first.ct + (n + 1) / 32768 * 8 * 2 ^ (w.ct + first.ct - 8))
     (byte_ct second.ct far.0 far.1) (omega arith) all
 
+narrowed : (w : MqWriter) → IsCoder w → (byte : ℕ → ℕ) (last : ℕ) → FitsIn (coder 1 (mq_last_number w) w.ct w.bytes) byte last → FitsIn w byte last
+unfolding FitsIn
+narrowed w h byte last fits =
+    let least : w.c ≤ mq_last_number w = last_least w.c w.a h.low h.high in
+    let most : mq_last_number w + 1 ≤ w.c + w.a = last_most w.c w.a h.low h.high in
+    (fits.0, (fits.1.0, fits_wider w (coder 1 (mq_last_number w) w.ct w.bytes) byte last fits.0 refl refl (omega arith) (omega arith) fits.1.1))
+
 pub flush_fits : (w : MqWriter) → IsCoder w → (byte : ℕ → ℕ) (last : ℕ) → front byte last ≡ mq_flushed w → FitsIn w byte last
 flush_fits w h byte last is =
     let n : ℕ = mq_last_number w in
@@ -220,5 +227,4 @@ flush_fits w h byte last is =
     let near = given_ct (widened start) (flushed_first w) out in
     let first = fits_widened (flushed_first w) byte last (let most = near.1 in omega arith) second in
     let shifted = fits_given_out (widened start) (flushed_first w) byte last out first in
-    let whole = fits_widened start byte last b.ct shifted in
-    ?
+    narrowed w h byte last (fits_widened start byte last b.ct shifted)
