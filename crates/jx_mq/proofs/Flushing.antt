@@ -164,7 +164,7 @@ first_out : (w : MqWriter) → IsCoder w → HasGivenOut (widened (coder 1 (mq_l
 unfolding flushed_first
 first_out w h = gives_out (1 * 2 ^ w.ct) (mq_last_number w * 2 ^ w.ct) 0 w.bytes refl h.coding.bounded.given
 
-second_out : (w : MqWriter) → IsCoder w → HasGivenOut (widened (flushed_first w)) (flushed_second w)
+pub second_out : (w : MqWriter) → IsCoder w → HasGivenOut (widened (flushed_first w)) (flushed_second w)
 unfolding flushed_second
 second_out w h =
     gives_out ((flushed_first w).a * 2 ^ (flushed_first w).ct) ((flushed_first w).c * 2 ^ (flushed_first w).ct) 0 (flushed_first w).bytes refl (first_given w h)
