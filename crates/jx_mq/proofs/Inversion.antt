@@ -16,7 +16,7 @@ use Rattle.jx_mq.proofs.Refills.{twice_is}
 use Rattle.jx_mq.proofs.Renormals.{renormalized_more, renormalized_done, shifted_a}
 use Rattle.jx_mq.proofs.Ends.{HasGivenOut}
 use Rattle.jx_mq.proofs.Fitting.{FitsIn, fits_renormalized, fits_lower, fits_upper}
-use Rattle.jx_mq.proofs.Flushing.{flush_fits, flushed_given, flushed_is, flushed_second, flushed_first, second_out}
+use Rattle.jx_mq.proofs.Flushing.{widened, flush_fits, flushed_given, flushed_is, flushed_second, flushed_first, second_out}
 use Rattle.jx_mq.proofs.Fronts.{IsSegment, byte_fits, Taken, Inside}
 use Rattle.jx_mq.proofs.Following.{Follows, Decides, decides}
 use Rattle.jx_mq.proofs.Feeding.{Fed, feed, FollowsOn, renormalization_follows}
@@ -138,3 +138,87 @@ follows_all (Decided label bit ∷ given) s w x r last v segment h is f =
     read_more s w r x label bit given (mq_asked given) (mq_written_from (mq_wrote w x label bit) (mq_after_bit w x label bit) given).contexts f.a decision.decision
     (follows_all given s (mq_wrote w x label bit) (mq_after_bit w x label bit) (mq_read s r (mq_row_of x label).qe) last next.v segment coder is next.follows)
 follows_all (Renewed ∷ given) s w x r last v segment h is f = follows_all given s w mq_fresh r last v segment h is f
+
+-- the decoder's registers before its first byte in, and the scale in which they stand
+first_reader : List ℕ → MqReader
+first_reader s = record { a = 32768; c = mq_byte s 0 * 65536; ct = 0; place = 0; looked = 1 }
+
+first_writer : MqWriter
+first_writer = coder 32768 0 19 (0 ∷ [])
+
+first_follows : (s : List ℕ) (last : ℕ) → IsSegment (mq_byte s) last → Follows first_writer (first_reader s) (mq_byte s) last (mq_byte s 0)
+unfolding first_writer first_reader Taken
+first_follows s last segment = record {
+  a = refl;
+  code = omega arith;
+  ct = omega arith;
+  taken = inl (record { within = segment.some; v_is = omega arith; t_is = refl });
+}
+
+moved_code : (c v ct : ℕ) → 7 ≤ ct → ct ≤ 8 → c + 0 * 65536 ≡ v * 2 ^ (16 - ct) → c * 128 + 0 * 65536 ≡ v * 2 ^ (16 - (ct - 7))
+moved_code c v ct least most code =
+    let e : 16 - (ct - 7) ≡ 7 + (16 - ct) = omega arith in
+    let f : v * 2 ^ (7 + (16 - ct)) ≡ (v * 2 ^ (16 - ct)) * 128 = rw pow-add (grind arith) in
+    rw (e, f, ← code) (omega arith)
+
+moved_follows : (s : List ℕ) (r : MqReader) (last v : ℕ) → 7 ≤ r.ct → r.c < 33554432 → Follows first_writer r (mq_byte s) last v →
+    Follows mq_writer (record r { c = r.c * 128 % 4294967296; ct = r.ct - 7 }) (mq_byte s) last v
+unfolding first_writer
+moved_follows s r last v least room f =
+    let less : r.c * 128 < 4294967296 = omega arith in
+    let ct = f.ct in
+    let places : 23 + (r.ct - 7) ≡ 16 + r.ct = omega arith in
+    rw (mod-eq_of_lt less) (record {
+      a = f.a;
+      code = moved_code r.c v r.ct least f.ct f.code;
+      ct = omega arith;
+      taken = rw places f.taken;
+    })
+
+start_follows : (s : List ℕ) (last : ℕ) → IsSegment (mq_byte s) last → FollowsOn mq_writer (mq_reader s) (mq_byte s) last
+unfolding first_reader
+start_follows s last segment =
+    let fits = byte_fits (mq_byte s) last 0 segment in
+    let fed = feed s first_writer (first_reader s) last (mq_byte s 0) segment refl (omega arith) (first_follows s last segment) in
+    let less : (mq_byte_in s (first_reader s)).c < mq_byte s 0 * 65536 + 131072 = fed.less in
+    record { v = fed.v; follows = moved_follows s (mq_byte_in s (first_reader s)) last fed.v fed.some (omega arith) fed.follows }
+
+long_at : (w after : MqWriter) → HasGivenOut w after → (last : ℕ) × ((0 < last) × (suc last ≡ length after.bytes))
+unfolding HasGivenOut
+long_at w after g =
+    let older : List ℕ = g.1.1.1.0 in
+    (suc (length g.1.1.1.0), (omega arith, rw g.1.1.1.1.bytes refl))
+
+-- a flush gives out at least one byte
+flushed_long : (w : MqWriter) → IsCoder w → (last : ℕ) × ((0 < last) × (suc last ≡ length (mq_flushed w)))
+flushed_long w h =
+    let long = long_at (widened (flushed_first w)) (flushed_second w) (second_out w h) in
+    (long.0, (long.1.0, long.1.1 ∙ ap (λ (bytes : List ℕ). length bytes) (sym (flushed_is w))))
+
+read_back_at : (x : MqContexts) (given : List MqGiven) (w : MqWriter) (bytes : List ℕ) (last : ℕ) → mq_flushed (mq_written_from mq_writer x given).writer ≡ bytes → AreGiven bytes → 0 < last → suc last ≡ length bytes →
+    IsReadBack (mq_decisions (in_order (mq_trimmed bytes)) x (mq_asked given)) (mq_bits given) (mq_contexts_after x given)
+read_back_at x given w bytes last e h some long =
+    let segment = segment_of bytes last h some long in
+    let is : front (mq_byte (in_order (mq_trimmed bytes))) last ≡ mq_flushed (mq_written_from mq_writer x given).writer = segment_front bytes last h long ∙ sym e in
+    let start = start_follows (in_order (mq_trimmed bytes)) last segment in
+    follows_all given (in_order (mq_trimmed bytes)) mq_writer x (mq_reader (in_order (mq_trimmed bytes))) last start.v segment start_coder is start.follows
+
+-- what was written of a list, from any contexts, is read back from the same
+pub read_back : (x : MqContexts) (given : List MqGiven) → IsReadBack (mq_decisions (mq_write x given) x (mq_asked given)) (mq_bits given) (mq_contexts_after x given)
+read_back x given =
+    let w : MqWriter = (mq_written_from mq_writer x given).writer in
+    let h : IsCoder (mq_written_from mq_writer x given).writer = end_coder mq_writer x given start_coder in
+    let long = flushed_long (mq_written_from mq_writer x given).writer h in
+    read_back_at x given mq_writer (mq_flushed (mq_written_from mq_writer x given).writer) long.0 refl (flushed_given (mq_written_from mq_writer x given).writer h) long.1.0 long.1.1
+
+pub write_no_marker : (x : MqContexts) (given : List MqGiven) → HasNoMarker 0 (mq_write x given)
+write_no_marker x given =
+    let h : IsCoder (mq_written_from mq_writer x given).writer = end_coder mq_writer x given start_coder in
+    trimmed_markers (mq_flushed (mq_written_from mq_writer x given).writer) (flushed_given (mq_written_from mq_writer x given).writer h)
+
+-- and so are many segments, each from the contexts that the one before it left
+pub read_back_each : (x : MqContexts) (lists : List (List MqGiven)) → mq_bits_each x (mq_write_each x lists) (map mq_asked lists) ≡ map mq_bits lists
+read_back_each x [] = refl
+read_back_each x (given ∷ lists) =
+    let here = read_back x given in
+    rw (here.bits_are, here.contexts_are, read_back_each (mq_contexts_after x given) lists) refl
