@@ -4,6 +4,7 @@
 mod contexts;
 mod decoder;
 mod encoder;
+pub mod laws;
 mod table;
 #[cfg(test)]
 mod tests;

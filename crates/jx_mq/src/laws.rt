@@ -1,0 +1,35 @@
+//! Laws of the arithmetic coder, over its definitions alone.
+
+ghost use Rattle.std.specs.Prelude.{◌≡◌, ◌<◌, ◌≤◌, ℕ, List, [], ◌∷◌, ◌++◌, map, take};
+ghost use Rattle.jx_base.specs.Markers.{HasNoMarker};
+ghost use Rattle.jx_base.specs.MqTable.{MqContexts};
+ghost use Rattle.jx_base.specs.MqReading.{MqAsked, mq_byte, mq_decisions, mq_decisions_from, mq_looked};
+ghost use Rattle.jx_base.specs.MqWriting.{MqGiven, mq_write, mq_contexts_after, mq_asked, mq_bits, mq_write_each, mq_bits_each};
+
+/// What the encoder writes of a list of decisions and resets, from any contexts, is read back by
+/// the decoder from the same contexts: the same bits, and the same contexts after. So are many
+/// segments, each from the contexts that the one before it left, or from new ones where its list
+/// begins with a reset. No written segment has FF before a byte above 8F, and none ends with FF.
+pub fn decisions_are_read_back()
+    ensures bits { (x : MqContexts) → (given : List MqGiven) →
+        (mq_decisions (mq_write x given) x (mq_asked given)).bits ≡ mq_bits given }
+    ensures contexts { (x : MqContexts) → (given : List MqGiven) →
+        (mq_decisions (mq_write x given) x (mq_asked given)).contexts ≡ mq_contexts_after x given }
+    ensures segments { (x : MqContexts) → (lists : List (List MqGiven)) →
+        mq_bits_each x (mq_write_each x lists) (map mq_asked lists) ≡ map mq_bits lists }
+    ensures markers { (x : MqContexts) → (given : List MqGiven) → HasNoMarker 0 (mq_write x given) }
+{}
+
+/// The decisions of a list, the contexts and the registers after it depend only on the bytes that
+/// were looked at for it, and a last FF that is left out is given back by the endless tail.
+pub fn decisions_depend_on_bytes_looked_at()
+    ensures same { (s : List ℕ) → (t : List ℕ) → (x : MqContexts) → (asked : List MqAsked) →
+        ((i : ℕ) → i < (mq_decisions s x asked).reader.looked → mq_byte t i ≡ mq_byte s i) →
+        mq_decisions t x asked ≡ mq_decisions s x asked }
+    ensures cut { (s : List ℕ) → (x : MqContexts) → (asked : List MqAsked) → (k : ℕ) →
+        mq_looked s x asked ≤ k → mq_decisions (take k s) x asked ≡ mq_decisions s x asked }
+    ensures dropped { (s : List ℕ) → (x : MqContexts) → (asked : List MqAsked) →
+        mq_decisions (s ++ 255 ∷ []) x asked ≡ mq_decisions s x asked }
+    ensures more { (s : List ℕ) → (x : MqContexts) → (first : List MqAsked) → (more : List MqAsked) →
+        mq_looked s x first ≤ mq_looked s x (first ++ more) }
+{}
