@@ -1,5 +1,5 @@
 -- What the encoder wrote of a list is read back by the decoder, from any contexts.
-use Rattle.std.proofs.Common.{◌≡◌, ◌≢◌, ◌<◌, ◌≤◌, ◌+◌, ◌-◌, ◌*◌, ◌/◌, ◌%◌, ◌^◌, ℕ, zero, suc, Bool, true, false, not, List, [], ◌∷◌, map, length, slice_index_or, refl, ap, sym, ◌∙◌, add-one, arith, leb, eqb, ltb, ◌⊎◌, inl, inr, if◌then◌else◌, ◌==◌}
+use Rattle.std.proofs.Common.{◌≡◌, ◌≢◌, ◌<◌, ◌≤◌, ◌+◌, ◌-◌, ◌*◌, ◌/◌, ◌%◌, ◌^◌, ℕ, zero, suc, Bool, true, false, not, List, [], ◌∷◌, ◌++◌, map, length, slice_index_or, refl, ap, sym, ◌∙◌, add-one, arith, leb, eqb, ltb, ◌⊎◌, inl, inr, if◌then◌else◌, ◌==◌}
 use Rattle.std.proofs.lemmas.Bool.{cases_lt, cases_eq}
 use Rattle.std.proofs.lemmas.Bool.Decides.{nat_tests}
 use Rattle.std.proofs.lemmas.Nat.{pow_pos, pow-add}
@@ -222,3 +222,9 @@ read_back_each x [] = refl
 read_back_each x (given ∷ lists) =
     let here = read_back x given in
     rw (here.bits_are, here.contexts_are, read_back_each (mq_contexts_after x given) lists) refl
+
+pub written_in_parts : (first more : List MqGiven) (w : MqWriter) (x : MqContexts) →
+    mq_written_from w x (first ++ more) ≡ mq_written_from (mq_written_from w x first).writer (mq_written_from w x first).contexts more
+written_in_parts [] more w x = refl
+written_in_parts (Decided label bit ∷ first) more w x = written_in_parts first more (mq_wrote w x label bit) (mq_after_bit w x label bit)
+written_in_parts (Renewed ∷ first) more w x = written_in_parts first more w mq_fresh

@@ -3,8 +3,8 @@
 ghost use Rattle.std.specs.Prelude.{◌≡◌, ◌<◌, ◌≤◌, ℕ, List, [], ◌∷◌, ◌++◌, map, take};
 ghost use Rattle.jx_base.specs.Markers.{HasNoMarker};
 ghost use Rattle.jx_base.specs.MqTable.{MqContexts};
-ghost use Rattle.jx_base.specs.MqReading.{MqAsked, mq_byte, mq_decisions, mq_decisions_from, mq_looked};
-ghost use Rattle.jx_base.specs.MqWriting.{MqGiven, mq_write, mq_contexts_after, mq_asked, mq_bits, mq_write_each, mq_bits_each};
+ghost use Rattle.jx_base.specs.MqReading.{MqReader, MqAsked, MqDecisions, mq_byte, mq_decisions, mq_decisions_from, mq_looked};
+ghost use Rattle.jx_base.specs.MqWriting.{MqWriter, MqGiven, mq_written_from, mq_write, mq_contexts_after, mq_asked, mq_bits, mq_write_each, mq_bits_each};
 
 /// What the encoder writes of a list of decisions and resets, from any contexts, is read back by
 /// the decoder from the same contexts: the same bits, and the same contexts after. So are many
@@ -32,4 +32,15 @@ pub fn decisions_depend_on_bytes_looked_at()
         mq_decisions (s ++ 255 ∷ []) x asked ≡ mq_decisions s x asked }
     ensures more { (s : List ℕ) → (x : MqContexts) → (first : List MqAsked) → (more : List MqAsked) →
         mq_looked s x first ≤ mq_looked s x (first ++ more) }
+{}
+
+/// A list that is given in two parts gives what the parts give one after the other.
+pub fn lists_go_on()
+    ensures read { (s : List ℕ) → (r : MqReader) → (x : MqContexts) → (first : List MqAsked) → (more : List MqAsked) →
+        let d = mq_decisions_from s r x first in
+        let e = mq_decisions_from s d.reader d.contexts more in
+        mq_decisions_from s r x (first ++ more) ≡ record { bits = d.bits ++ e.bits; contexts = e.contexts; reader = e.reader } }
+    ensures written { (w : MqWriter) → (x : MqContexts) → (first : List MqGiven) → (more : List MqGiven) →
+        let d = mq_written_from w x first in
+        mq_written_from w x (first ++ more) ≡ mq_written_from d.writer d.contexts more }
 {}
