@@ -16,7 +16,7 @@ pub struct Row {
 
 /// Qe, the next row after the more probable symbol and after the less probable one, and whether
 /// the latter turns the symbol over.
-const ROWS: [(u16, u8, u8, bool); 47] = [
+static ROWS: [(u16, u8, u8, bool); 47] = [
     (0x5601, 1, 1, true),
     (0x3401, 2, 6, false),
     (0x1801, 3, 9, false),
