@@ -17,23 +17,23 @@ mq_byte segment place = slice_index_or segment place 255
 -- BYTEIN: an FF before a byte above 8F is a marker, which is never passed
 abbrev pub mq_byte_in : List ℕ → MqReader → MqReader
 mq_byte_in segment r =
-  let next = mq_byte segment (r.place + 1) in
-  if mq_byte segment r.place == 255 then
+    let next = mq_byte segment (r.place + 1) in
+    if mq_byte segment r.place == 255 then
     (if nat_lt 143 next then record r { c = (r.c + 65280) % 4294967296; ct = 8; looked = r.place + 2 }
     else record r { c = (r.c + next * 512) % 4294967296; ct = 7; place = r.place + 1; looked = r.place + 2 })
-  else record r { c = (r.c + next * 256) % 4294967296; ct = 8; place = r.place + 1; looked = r.place + 2 }
+    else record r { c = (r.c + next * 256) % 4294967296; ct = 8; place = r.place + 1; looked = r.place + 2 }
 
 -- INITDEC
 abbrev pub mq_reader : List ℕ → MqReader
 mq_reader segment =
-  let r = mq_byte_in segment (record { a = 32768; c = mq_byte segment 0 * 65536; ct = 0; place = 0; looked = 1 }) in
-  record r { c = r.c * 128 % 4294967296; ct = r.ct - 7 }
+    let r = mq_byte_in segment (record { a = 32768; c = mq_byte segment 0 * 65536; ct = 0; place = 0; looked = 1 }) in
+    record r { c = r.c * 128 % 4294967296; ct = r.ct - 7 }
 
 -- one shift of RENORMD
 abbrev pub mq_shifted_in : List ℕ → MqReader → MqReader
 mq_shifted_in segment r =
-  let fed = (if r.ct == 0 then mq_byte_in segment r else r) in
-  record fed { a = 2 * fed.a; c = 2 * fed.c % 4294967296; ct = fed.ct - 1 }
+    let fed = (if r.ct == 0 then mq_byte_in segment r else r) in
+    record fed { a = 2 * fed.a; c = 2 * fed.c % 4294967296; ct = fed.ct - 1 }
 
 -- RENORMD: shifts until A has bit 15, at most n times
 unfoldable pub mq_refilled : List ℕ → ℕ → MqReader → MqReader
@@ -79,7 +79,7 @@ mq_more bit d = record d { bits = bit ∷ d.bits }
 abbrev pub mq_decisions_from : List ℕ → MqReader → MqContexts → List MqAsked → MqDecisions
 mq_decisions_from segment r x [] = record { bits = []; contexts = x; reader = r }
 mq_decisions_from segment r x (Under label ∷ asked) =
-  mq_more (mq_bit r x label) (mq_decisions_from segment (mq_read segment r (mq_row_of x label).qe) (mq_after r x label) asked)
+    mq_more (mq_bit r x label) (mq_decisions_from segment (mq_read segment r (mq_row_of x label).qe) (mq_after r x label) asked)
 mq_decisions_from segment r x (Anew ∷ asked) = mq_decisions_from segment r mq_fresh asked
 
 -- the decisions that the decoder makes of a segment, from some contexts

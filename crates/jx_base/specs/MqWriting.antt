@@ -39,15 +39,15 @@ mq_by_newest w = if mq_newest w.bytes == 255 then mq_stuffed w else mq_plain w
 -- BYTEOUT
 abbrev pub mq_byte_out : MqWriter → MqWriter
 mq_byte_out w =
-  if mq_newest w.bytes == 255 then mq_stuffed w
-  else if nat_lt w.c 134217728 then mq_plain w
-  else mq_by_newest (mq_carried w)
+    if mq_newest w.bytes == 255 then mq_stuffed w
+    else if nat_lt w.c 134217728 then mq_plain w
+    else mq_by_newest (mq_carried w)
 
 -- one shift of RENORME
 abbrev pub mq_shifted : MqWriter → MqWriter
 mq_shifted w =
-  let moved = record w { a = 2 * w.a; c = 2 * w.c; ct = w.ct - 1 } in
-  if w.ct - 1 == 0 then mq_byte_out moved else moved
+    let moved = record w { a = 2 * w.a; c = 2 * w.c; ct = w.ct - 1 } in
+    if w.ct - 1 == 0 then mq_byte_out moved else moved
 
 -- RENORME: shifts until A has bit 15, at most n times
 unfoldable pub mq_renormalized : ℕ → MqWriter → MqWriter
@@ -64,8 +64,8 @@ mq_upper w qe = record w { a = w.a - qe; c = w.c + qe }
 -- CODEMPS and CODELPS: the parts are exchanged where the lower one is the wider
 abbrev pub mq_part : MqWriter → ℕ → Bool → MqWriter
 mq_part w qe is_mps =
-  if is_mps then (if nat_lt (w.a - qe) qe then mq_lower w qe else mq_upper w qe)
-  else (if nat_lt (w.a - qe) qe then mq_upper w qe else mq_lower w qe)
+    if is_mps then (if nat_lt (w.a - qe) qe then mq_lower w qe else mq_upper w qe)
+    else (if nat_lt (w.a - qe) qe then mq_upper w qe else mq_lower w qe)
 
 -- the registers after a decision
 abbrev pub mq_written : MqWriter → ℕ → Bool → MqWriter
@@ -74,8 +74,8 @@ mq_written w qe is_mps = mq_renormalized 15 (mq_part w qe is_mps)
 -- SETBITS: the last number below C + A whose low fifteen bits are ones
 abbrev pub mq_last_number : MqWriter → ℕ
 mq_last_number w =
-  let filled = w.c / 65536 * 65536 + 65535 in
-  if nat_le (w.c + w.a) filled then filled - 32768 else filled
+    let filled = w.c / 65536 * 65536 + 65535 in
+    if nat_le (w.c + w.a) filled then filled - 32768 else filled
 
 -- FLUSH: C is shifted by CT and given out, twice
 abbrev pub mq_given_out : MqWriter → MqWriter
@@ -145,4 +145,14 @@ abbrev pub mq_bits_each : MqContexts → List (List ℕ) → List (List MqAsked)
 mq_bits_each x [] asked = []
 mq_bits_each x (segment ∷ segments) [] = []
 mq_bits_each x (segment ∷ segments) (asked ∷ more) =
-  let read = mq_decisions segment x asked in read.bits ∷ mq_bits_each read.contexts segments more
+    let read = mq_decisions segment x asked in read.bits ∷ mq_bits_each read.contexts segments more
+
+-- the contexts after many segments, written and read
+abbrev pub mq_contexts_left : MqContexts → List (List MqGiven) → MqContexts
+mq_contexts_left x [] = x
+mq_contexts_left x (given ∷ more) = mq_contexts_left (mq_contexts_after x given) more
+
+abbrev pub mq_contexts_each : MqContexts → List (List ℕ) → List (List MqAsked) → MqContexts
+mq_contexts_each x [] asked = x
+mq_contexts_each x (segment ∷ segments) [] = x
+mq_contexts_each x (segment ∷ segments) (asked ∷ more) = mq_contexts_each (mq_decisions segment x asked).contexts segments more

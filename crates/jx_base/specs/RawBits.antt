@@ -45,9 +45,9 @@ abbrev pub raw_write_after : ℕ → ℕ → List Bool → List ℕ
 raw_write_after zero before bits = []
 raw_write_after (suc most) before [] = if before == 255 then 0 ∷ [] else []
 raw_write_after (suc most) before (bit ∷ bits) =
-  let width = raw_width before in
-  let byte = byte_of width (take width (bit ∷ bits)) in
-  byte ∷ raw_write_after most byte (drop width (bit ∷ bits))
+    let width = raw_width before in
+    let byte = byte_of width (take width (bit ∷ bits)) in
+    byte ∷ raw_write_after most byte (drop width (bit ∷ bits))
 
 -- the segment of some bits
 abbrev pub raw_write : List Bool → List ℕ

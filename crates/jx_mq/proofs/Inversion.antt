@@ -7,7 +7,7 @@ use Rattle.std.proofs.Math.Nat.{mod-eq_of_lt}
 use Rattle.jx_base.specs.Markers.{HasNoMarker}
 use Rattle.jx_base.specs.MqTable.{MqContexts, mq_fresh, mq_row_at, mq_row_of, mq_mps, mq_adapted}
 use Rattle.jx_base.specs.MqReading.{MqReader, MqAsked, Under, Anew, MqDecisions, mq_byte, mq_byte_in, mq_reader, mq_refilled, mq_reads_mps, mq_chosen, mq_read, mq_bit, mq_after, mq_decisions_from, mq_decisions}
-use Rattle.jx_base.specs.MqWriting.{MqWriter, MqGiven, Decided, Renewed, mq_writer, mq_shifted, mq_renormalized, mq_lower, mq_upper, mq_part, mq_written, mq_flushed, mq_trimmed, mq_segment, mq_is_mps, mq_wrote, mq_after_bit, mq_written_from, mq_write, mq_contexts_after, mq_asked, mq_bits, mq_write_each, mq_bits_each}
+use Rattle.jx_base.specs.MqWriting.{MqWriter, MqGiven, Decided, Renewed, mq_writer, mq_shifted, mq_renormalized, mq_lower, mq_upper, mq_part, mq_written, mq_flushed, mq_trimmed, mq_segment, mq_is_mps, mq_wrote, mq_after_bit, mq_written_from, mq_write, mq_contexts_after, mq_asked, mq_bits, mq_write_each, mq_bits_each, mq_contexts_left, mq_contexts_each}
 use Rattle.jx_mq.specs.Coding.{AreGiven, IsBounded, IsCoding, IsCoder}
 use Rattle.jx_mq.specs.Fraction.{span, value, size, low, scale, front}
 use Rattle.jx_mq.proofs.Rows.{IsRow, row_in_range}
@@ -228,3 +228,9 @@ pub written_in_parts : (first more : List MqGiven) (w : MqWriter) (x : MqContext
 written_in_parts [] more w x = refl
 written_in_parts (Decided label bit ∷ first) more w x = written_in_parts first more (mq_wrote w x label bit) (mq_after_bit w x label bit)
 written_in_parts (Renewed ∷ first) more w x = written_in_parts first more w mq_fresh
+
+pub contexts_back_each : (x : MqContexts) (lists : List (List MqGiven)) → mq_contexts_each x (mq_write_each x lists) (map mq_asked lists) ≡ mq_contexts_left x lists
+contexts_back_each x [] = refl
+contexts_back_each x (given ∷ lists) =
+    let here = read_back x given in
+    rw here.contexts_are (contexts_back_each (mq_contexts_after x given) lists)

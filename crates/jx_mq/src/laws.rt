@@ -4,7 +4,7 @@ ghost use Rattle.std.specs.Prelude.{◌≡◌, ◌<◌, ◌≤◌, ℕ, List, []
 ghost use Rattle.jx_base.specs.Markers.{HasNoMarker};
 ghost use Rattle.jx_base.specs.MqTable.{MqContexts};
 ghost use Rattle.jx_base.specs.MqReading.{MqReader, MqAsked, MqDecisions, mq_byte, mq_decisions, mq_decisions_from, mq_looked};
-ghost use Rattle.jx_base.specs.MqWriting.{MqWriter, MqGiven, mq_written_from, mq_write, mq_contexts_after, mq_asked, mq_bits, mq_write_each, mq_bits_each};
+ghost use Rattle.jx_base.specs.MqWriting.{MqWriter, MqGiven, mq_written_from, mq_write, mq_contexts_after, mq_asked, mq_bits, mq_write_each, mq_bits_each, mq_contexts_left, mq_contexts_each};
 
 /// What the encoder writes of a list of decisions and resets, from any contexts, is read back by
 /// the decoder from the same contexts: the same bits, and the same contexts after. So are many
@@ -17,6 +17,8 @@ pub fn decisions_are_read_back()
         (mq_decisions (mq_write x given) x (mq_asked given)).contexts ≡ mq_contexts_after x given }
     ensures segments { (x : MqContexts) → (lists : List (List MqGiven)) →
         mq_bits_each x (mq_write_each x lists) (map mq_asked lists) ≡ map mq_bits lists }
+    ensures contexts_of_segments { (x : MqContexts) → (lists : List (List MqGiven)) →
+        mq_contexts_each x (mq_write_each x lists) (map mq_asked lists) ≡ mq_contexts_left x lists }
     ensures markers { (x : MqContexts) → (given : List MqGiven) → HasNoMarker 0 (mq_write x given) }
 {}
 

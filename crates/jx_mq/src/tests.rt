@@ -1,3 +1,5 @@
+ghost use Rattle.std.specs.Prelude.{◌<◌};
+
 use super::*;
 use std::alloc::Global;
 use std::test::Fail;
@@ -20,13 +22,20 @@ const CODED: [u8; 28] = [
     0xF4, 0x31, 0x7F, 0xFF, 0x88, 0xFF, 0x37, 0x47, 0x1A, 0xDB, 0x6A, 0xDF,
 ];
 
+/// Decision i of a word.
+fn decision(word: u32, i: u32) -> bool
+    requires { i < 32 }
+{
+    word >> (31 - i) & 1 == 1
+}
+
 #[test]
 fn published_vector(rt: HostRuntime) -> Result<(), Fail> {
     let mut encoder = MqEncoder::new(rt.alloc());
     let mut contexts = Contexts::new();
     for word in DECISIONS {
-        for i in (0..32).rev() {
-            encoder.bit(&mut contexts, 1, word >> i & 1 == 1)?;
+        for i in 0..32 {
+            encoder.bit(&mut contexts, 1, decision(word, i))?;
         }
     }
     assert_eq!(rt; encoder.flush()?.as_slice(), CODED.as_slice());
@@ -34,12 +43,9 @@ fn published_vector(rt: HostRuntime) -> Result<(), Fail> {
     let mut decoder = MqDecoder::new(&CODED);
     let mut contexts = Contexts::new();
     for word in DECISIONS {
-        for i in (0..32).rev() {
-            assert_eq!(rt;
-                decoder.bit(&mut contexts, 1),
-                word >> i & 1 == 1,
-                "bit {i} of {word}"
-            );
+        for i in 0..32 {
+            let read = decoder.bit(&mut contexts, 1);
+            assert_eq!(rt; read, decision(word, i), "decision {i} of {word}");
         }
     }
     assert_eq!(rt; decoder.looked(), 28);

@@ -1,8 +1,8 @@
 -- Raw bits one by one, and the bytes that they depend on.
-use Rattle.std.proofs.Common.{◌≡◌, ◌≢◌, ◌<◌, ◌≤◌, ◌+◌, ◌-◌, ◌*◌, ℕ, zero, suc, Bool, true, false, List, [], ◌∷◌, ◌++◌, length, take, drop, replicate, refl, ap, sym, ◌∙◌, add-one, arith, eqb, inl, inr, if◌then◌else◌, ◌==◌, append_assoc, length-append, length-drop, length-take}
-use Rattle.std.proofs.lemmas.Bool.{cases_lt, cases_eq}
+use Rattle.std.proofs.Common.{◌≡◌, ◌<◌, ◌≤◌, ◌+◌, ◌-◌, ℕ, zero, suc, Bool, true, false, List, [], ◌∷◌, ◌++◌, length, take, drop, replicate, refl, ap, sym, ◌∙◌, add-one, arith, eqb, inl, inr, append_assoc, length-append, length-drop}
+use Rattle.std.proofs.lemmas.Bool.{cases_lt}
 use Rattle.std.proofs.lemmas.Bool.Decides.{nat_tests}
-use Rattle.std.proofs.lemmas.List.{append-nil, take-append-le, take_all, drop_all, length-replicate}
+use Rattle.std.proofs.lemmas.List.{take-append-le}
 use Rattle.std.proofs.Math.Seq.{take-append-add}
 use Rattle.jx_base.specs.RawBits.{raw_width, raw_bits_after, raw_bits, bits_of, raw_read, raw_looked_after, raw_looked}
 use Rattle.jx_raw.specs.RawReading.{first_or_one}

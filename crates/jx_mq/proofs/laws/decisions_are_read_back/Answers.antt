@@ -1,4 +1,4 @@
-use Rattle.jx_mq.proofs.Inversion.{read_back, read_back_each, write_no_marker}
+use Rattle.jx_mq.proofs.Inversion.{read_back, read_back_each, contexts_back_each, write_no_marker}
 use Rattle.jx_mq.proofs.laws.decisions_are_read_back.Goals as goal
 
 pub returns-clause-bits : goal.returns-clause-bits
@@ -12,3 +12,6 @@ returns-clause-segments c = read_back_each
 
 pub returns-clause-markers : goal.returns-clause-markers
 returns-clause-markers c = write_no_marker
+
+pub returns-clause-contexts_of_segments : goal.returns-clause-contexts_of_segments
+returns-clause-contexts_of_segments c = contexts_back_each
