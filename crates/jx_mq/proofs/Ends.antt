@@ -1,13 +1,11 @@
 -- What a shift and a byte given out do to the ends of the interval.
-use Rattle.std.proofs.Common.{◌≡◌, ◌≢◌, ◌<◌, ◌≤◌, ◌+◌, ◌-◌, ◌*◌, ◌/◌, ◌%◌, ◌^◌, ℕ, zero, suc, Bool, true, false, List, [], ◌∷◌, length, refl, ap, sym, ◌∙◌, arith, leb, eqb, ltb, inl, inr, if◌then◌else◌, ◌==◌}
+use Rattle.std.proofs.Common.{◌≡◌, ◌≢◌, ◌<◌, ◌≤◌, ◌+◌, ◌-◌, ◌*◌, ◌/◌, ◌%◌, ◌^◌, ℕ, suc, List, [], ◌∷◌, refl, ◌∙◌, arith, inl, inr}
 use Rattle.std.proofs.lemmas.Bool.{cases_lt, cases_eq}
-use Rattle.std.proofs.lemmas.Bool.Decides.{nat_tests}
-use Rattle.std.proofs.lemmas.Nat.{pow_pos, pow-add}
 use Rattle.std.proofs.Math.Nat.{two-pow-succ}
-use Rattle.jx_base.specs.MqWriting.{MqWriter, mq_newest, mq_raised, mq_plain, mq_stuffed, mq_carried, mq_by_newest, mq_byte_out, mq_shifted}
-use Rattle.jx_mq.specs.Coding.{AreGiven, IsFull, IsBounded, IsCoding}
-use Rattle.jx_mq.specs.Fraction.{span, value, size, low, scale}
-use Rattle.jx_mq.proofs.Bounds.{coder, no_byte, is_byte, below, not_below, is_zero, isnt_zero, doubled_bounded, byte_out_coding}
+use Rattle.jx_base.specs.MqWriting.{MqWriter, mq_newest, mq_plain, mq_stuffed, mq_byte_out}
+use Rattle.jx_mq.specs.Coding.{AreGiven}
+use Rattle.jx_mq.specs.Fraction.{span, value, low, scale}
+use Rattle.jx_mq.proofs.Bounds.{coder, no_byte, is_byte, below, not_below}
 
 -- a byte was given out, and the one before it may have taken a carry
 pub record GivesOut (w after : MqWriter) (newest byte before : ℕ) (older : List ℕ) : Type 0 where

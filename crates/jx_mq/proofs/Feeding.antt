@@ -1,19 +1,18 @@
 -- A byte taken by the decoder, and a shift of both registers.
-use Rattle.std.proofs.Common.{◌≡◌, ◌≢◌, ◌<◌, ◌≤◌, ◌+◌, ◌-◌, ◌*◌, ◌/◌, ◌%◌, ◌^◌, ℕ, zero, suc, Bool, true, false, not, List, [], ◌∷◌, length, refl, ap, sym, ◌∙◌, add-one, arith, leb, eqb, ltb, ◌⊎◌, inl, inr, if◌then◌else◌, ◌==◌}
+use Rattle.std.proofs.Common.{◌≡◌, ◌≢◌, ◌<◌, ◌≤◌, ◌+◌, ◌-◌, ◌*◌, ◌%◌, ◌^◌, ℕ, zero, suc, List, refl, ◌∙◌, add-one, arith, ◌⊎◌, inl, inr}
 use Rattle.std.proofs.lemmas.Bool.{cases_lt, cases_eq}
-use Rattle.std.proofs.lemmas.Bool.Decides.{nat_tests}
-use Rattle.std.proofs.lemmas.Nat.{pow_pos, pow-add, mul-le}
+use Rattle.std.proofs.lemmas.Nat.{pow-add}
 use Rattle.std.proofs.Math.Nat.{two-pow-succ, mod-eq_of_lt}
-use Rattle.jx_base.specs.MqReading.{MqReader, mq_byte, mq_byte_in, mq_reader, mq_shifted_in, mq_refilled}
-use Rattle.jx_base.specs.MqWriting.{MqWriter, mq_newest, mq_byte_out, mq_shifted, mq_renormalized}
-use Rattle.jx_mq.specs.Coding.{AreGiven, IsBounded, IsCoding, IsCoder}
-use Rattle.jx_mq.specs.Fraction.{span, value, size, low, scale, front}
-use Rattle.jx_mq.proofs.Bounds.{coder, no_byte, is_byte, below, not_below, is_zero, isnt_zero, doubled_bounded, shifted_coding}
+use Rattle.jx_base.specs.MqReading.{MqReader, mq_byte, mq_byte_in, mq_shifted_in, mq_refilled}
+use Rattle.jx_base.specs.MqWriting.{MqWriter, mq_byte_out, mq_shifted, mq_renormalized}
+use Rattle.jx_mq.specs.Coding.{IsCoding}
+use Rattle.jx_mq.specs.Fraction.{span, value, low, scale, front}
+use Rattle.jx_mq.proofs.Bounds.{coder, no_byte, is_byte, below, not_below, is_zero, isnt_zero, shifted_coding}
 use Rattle.jx_mq.proofs.Renormals.{renormalized_more, renormalized_done}
 use Rattle.jx_mq.proofs.Refills.{refilled_more, refilled_done}
-use Rattle.jx_mq.proofs.Ends.{GivesOut, HasGivenOut, gives_out, doubled_ends}
+use Rattle.jx_mq.proofs.Ends.{HasGivenOut, gives_out, doubled_ends}
 use Rattle.jx_mq.proofs.Fitting.{FitsIn, fits_shifted, fits_renormalized}
-use Rattle.jx_mq.proofs.Fronts.{IsSegment, byte_fits, stuffed_fits, Inside, Past, Taken, Between, between}
+use Rattle.jx_mq.proofs.Fronts.{IsSegment, byte_fits, stuffed_fits, Inside, Past, Taken}
 use Rattle.jx_mq.proofs.Following.{Follows, follows_below}
 
 in_marker : (s : List ℕ) (r : MqReader) → r.c < 2147483648 → mq_byte s r.place ≡ 255 → 143 < mq_byte s (suc r.place) →

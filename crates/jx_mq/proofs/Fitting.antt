@@ -1,13 +1,11 @@
 -- The finished bytes lie in the interval of each state that led to them, at every length that a decoder may look at.
-use Rattle.std.proofs.Common.{◌≡◌, ◌≢◌, ◌<◌, ◌≤◌, ◌+◌, ◌-◌, ◌*◌, ◌/◌, ◌%◌, ◌^◌, ℕ, zero, suc, Bool, true, false, List, [], ◌∷◌, length, refl, ap, sym, ◌∙◌, arith, leb, eqb, ltb, inl, inr, if◌then◌else◌, ◌==◌}
+use Rattle.std.proofs.Common.{◌≡◌, ◌<◌, ◌≤◌, ◌+◌, ◌-◌, ◌*◌, ◌^◌, ℕ, zero, suc, List, ◌∷◌, refl, ◌∙◌, arith, inl, inr}
 use Rattle.std.proofs.lemmas.Bool.{cases_lt, cases_eq}
-use Rattle.std.proofs.lemmas.Bool.Decides.{nat_tests}
 use Rattle.std.proofs.lemmas.Nat.{pow_pos, pow-add, mul-le}
-use Rattle.std.proofs.Math.Nat.{two-pow-succ}
-use Rattle.jx_base.specs.MqWriting.{MqWriter, mq_newest, mq_byte_out, mq_shifted, mq_renormalized, mq_lower, mq_upper, mq_part}
-use Rattle.jx_mq.specs.Coding.{AreGiven, IsFull, IsBounded, IsCoding, IsCoder}
-use Rattle.jx_mq.specs.Fraction.{span, value, size, low, scale, front}
-use Rattle.jx_mq.proofs.Bounds.{coder, is_zero, isnt_zero, doubled_bounded, shifted_coding, part_coding}
+use Rattle.jx_base.specs.MqWriting.{MqWriter, mq_byte_out, mq_shifted, mq_renormalized, mq_lower, mq_upper}
+use Rattle.jx_mq.specs.Coding.{IsCoding}
+use Rattle.jx_mq.specs.Fraction.{value, size, low, scale, front}
+use Rattle.jx_mq.proofs.Bounds.{coder, is_zero, isnt_zero, shifted_coding}
 use Rattle.jx_mq.proofs.Renormals.{renormalized_more, renormalized_done}
 use Rattle.jx_mq.proofs.Ends.{GivesOut, HasGivenOut, gives_out, doubled_ends}
 

@@ -1,15 +1,15 @@
 -- The flush chooses a number in the last interval, and gives it out whole.
-use Rattle.std.proofs.Common.{◌≡◌, ◌≢◌, ◌<◌, ◌≤◌, ◌+◌, ◌-◌, ◌*◌, ◌/◌, ◌%◌, ◌^◌, ℕ, zero, suc, Bool, true, false, List, [], ◌∷◌, length, refl, ap, sym, subst, ◌∙◌, add_assoc, arith, leb, eqb, ltb, ◌⊎◌, inl, inr, if◌then◌else◌, ◌==◌}
-use Rattle.std.proofs.lemmas.Bool.{cases_lt, cases_eq}
+use Rattle.std.proofs.Common.{◌≡◌, ◌<◌, ◌≤◌, ◌+◌, ◌-◌, ◌*◌, ◌/◌, ◌%◌, ◌^◌, ℕ, Bool, true, false, List, ◌∷◌, refl, ap, sym, subst, ◌∙◌, add_assoc, arith, leb, ltb, ◌⊎◌, inl, inr, if◌then◌else◌, ◌==◌}
+use Rattle.std.proofs.lemmas.Bool.{cases_eq}
 use Rattle.std.proofs.lemmas.Bool.Decides.{nat_tests}
 use Rattle.std.proofs.lemmas.Nat.{pow_pos, pow-add, mul-le}
 use Rattle.jx_base.specs.MqWriting.{MqWriter, mq_newest, mq_raised, mq_plain, mq_stuffed, mq_carried, mq_byte_out, mq_last_number, mq_given_out, mq_flushed}
-use Rattle.jx_mq.specs.Coding.{AreGiven, IsFull, IsBounded, IsCoding, IsCoder}
-use Rattle.jx_mq.specs.Fraction.{span, value, size, low, scale, front}
+use Rattle.jx_mq.specs.Coding.{AreGiven, IsBounded, IsCoding, IsCoder}
+use Rattle.jx_mq.specs.Fraction.{value, size, low, front}
 use Rattle.jx_mq.proofs.Bounds.{coder, byte_out_coding}
 use Rattle.jx_mq.proofs.Renormals.{byte_out_a}
-use Rattle.jx_mq.proofs.Ends.{GivesOut, HasGivenOut, gives_out}
-use Rattle.jx_mq.proofs.Fitting.{IsGrown, Fits, FitsIn, fits_wider, fits_scaled, fits_given_out, fits_given_last}
+use Rattle.jx_mq.proofs.Ends.{HasGivenOut, gives_out}
+use Rattle.jx_mq.proofs.Fitting.{Fits, FitsIn, fits_wider, fits_scaled, fits_given_out, fits_given_last}
 
 free_at : (ff less more : Bool) (a b c ct dt : ℕ) (bytes : List ℕ) →
     (if ff then mq_stuffed (coder a c ct bytes) else if less then mq_plain (coder a c ct bytes)

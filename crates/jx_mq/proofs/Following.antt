@@ -1,19 +1,14 @@
 -- The decoder follows the encoder: its C is the fraction that it took, less the lower end.
-use Rattle.std.proofs.Common.{◌≡◌, ◌≢◌, ◌<◌, ◌≤◌, ◌+◌, ◌-◌, ◌*◌, ◌/◌, ◌%◌, ◌^◌, ℕ, zero, suc, Bool, true, false, not, List, [], ◌∷◌, length, refl, ap, sym, ◌∙◌, add-one, arith, leb, eqb, ltb, ◌⊎◌, inl, inr, if◌then◌else◌, ◌==◌}
-use Rattle.std.proofs.lemmas.Bool.{cases_lt, cases_eq}
-use Rattle.std.proofs.lemmas.Bool.Decides.{nat_tests}
+use Rattle.std.proofs.Common.{◌≡◌, ◌<◌, ◌≤◌, ◌+◌, ◌-◌, ◌*◌, ◌/◌, ◌^◌, ℕ, Bool, true, false, not, refl, ap, ◌∙◌, arith, ltb, inl, inr}
+use Rattle.std.proofs.lemmas.Bool.{cases_lt}
 use Rattle.std.proofs.lemmas.Nat.{pow_pos, pow-add, mul-le}
-use Rattle.std.proofs.Math.Nat.{two-pow-succ, mod-eq_of_lt}
-use Rattle.jx_base.specs.MqReading.{MqReader, mq_byte, mq_byte_in, mq_reader, mq_shifted_in, mq_refilled, mq_is_low, mq_reads_mps, mq_chosen}
-use Rattle.jx_base.specs.MqWriting.{MqWriter, mq_newest, mq_byte_out, mq_shifted, mq_renormalized, mq_lower, mq_upper, mq_part}
-use Rattle.jx_mq.specs.Coding.{AreGiven, IsBounded, IsCoding, IsCoder}
-use Rattle.jx_mq.specs.Fraction.{span, value, size, low, scale, front}
-use Rattle.jx_mq.proofs.Bounds.{coder, no_byte, is_byte, below, not_below, is_zero, isnt_zero, doubled_bounded, shifted_coding, part_coding}
-use Rattle.jx_mq.proofs.Renormals.{renormalized_more, renormalized_done}
-use Rattle.jx_mq.proofs.Refills.{refilled_more, refilled_done}
-use Rattle.jx_mq.proofs.Ends.{GivesOut, HasGivenOut, gives_out, doubled_ends}
-use Rattle.jx_mq.proofs.Fitting.{mul_less, cancel_less, cancel_most, FitsIn, fits_shifted, fits_renormalized}
-use Rattle.jx_mq.proofs.Fronts.{IsSegment, byte_fits, stuffed_fits, Inside, Past, Taken, Between, between}
+use Rattle.jx_base.specs.MqReading.{MqReader, mq_is_low, mq_reads_mps, mq_chosen}
+use Rattle.jx_base.specs.MqWriting.{MqWriter, mq_lower, mq_upper, mq_part}
+use Rattle.jx_mq.specs.Coding.{IsCoding}
+use Rattle.jx_mq.specs.Fraction.{low, scale}
+use Rattle.jx_mq.proofs.Bounds.{below, not_below}
+use Rattle.jx_mq.proofs.Fitting.{mul_less, cancel_less, FitsIn}
+use Rattle.jx_mq.proofs.Fronts.{Taken, between}
 
 pub record Follows (w : MqWriter) (r : MqReader) (byte : ℕ → ℕ) (last v : ℕ) : Type 0 where
   pub a : r.a ≡ w.a

@@ -1,12 +1,11 @@
 -- The first bytes of a segment as a fraction: what a decoder has taken.
-use Rattle.std.proofs.Common.{◌≡◌, ◌≢◌, ◌<◌, ◌≤◌, ◌+◌, ◌-◌, ◌*◌, ◌/◌, ◌%◌, ◌^◌, ℕ, zero, suc, Bool, true, false, List, [], ◌∷◌, length, refl, ap, sym, ◌∙◌, add-one, arith, leb, eqb, ltb, ◌⊎◌, inl, inr, if◌then◌else◌, ◌==◌}
-use Rattle.std.proofs.lemmas.Bool.{cases_lt, cases_eq}
-use Rattle.std.proofs.lemmas.Bool.Decides.{nat_tests}
+use Rattle.std.proofs.Common.{◌≡◌, ◌<◌, ◌≤◌, ◌+◌, ◌-◌, ◌*◌, ◌^◌, ℕ, zero, suc, refl, arith, ◌⊎◌, inl, inr}
+use Rattle.std.proofs.lemmas.Bool.{cases_lt}
 use Rattle.std.proofs.lemmas.Nat.{pow_pos, pow-add, mul-le}
 use Rattle.jx_base.specs.MqWriting.{MqWriter, mq_newest}
-use Rattle.jx_mq.specs.Coding.{AreGiven, IsBounded, IsCoding}
+use Rattle.jx_mq.specs.Coding.{AreGiven, IsCoding}
 use Rattle.jx_mq.specs.Fraction.{span, value, size, low, scale, front}
-use Rattle.jx_mq.proofs.Fitting.{mul_less, cancel_less, cancel_most, IsGrown, grown_size, Fits, FitsIn}
+use Rattle.jx_mq.proofs.Fitting.{mul_less, cancel_less, grown_size, FitsIn}
 
 -- what an encoder gave out, followed by FF for ever
 pub record IsSegment (byte : ℕ → ℕ) (last : ℕ) : Type 0 where

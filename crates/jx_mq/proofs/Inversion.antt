@@ -1,25 +1,24 @@
 -- What the encoder wrote of a list is read back by the decoder, from any contexts.
-use Rattle.std.proofs.Common.{◌≡◌, ◌≢◌, ◌<◌, ◌≤◌, ◌+◌, ◌-◌, ◌*◌, ◌/◌, ◌%◌, ◌^◌, ℕ, zero, suc, Bool, true, false, not, List, [], ◌∷◌, ◌++◌, map, length, slice_index_or, refl, ap, sym, ◌∙◌, add-one, arith, leb, eqb, ltb, ◌⊎◌, inl, inr, if◌then◌else◌, ◌==◌}
-use Rattle.std.proofs.lemmas.Bool.{cases_lt, cases_eq}
-use Rattle.std.proofs.lemmas.Bool.Decides.{nat_tests}
-use Rattle.std.proofs.lemmas.Nat.{pow_pos, pow-add}
+use Rattle.std.proofs.Common.{◌≡◌, ◌<◌, ◌≤◌, ◌+◌, ◌-◌, ◌*◌, ◌%◌, ◌^◌, ℕ, zero, suc, Bool, true, false, not, List, [], ◌∷◌, ◌++◌, map, length, slice_index_or, refl, ap, sym, ◌∙◌, arith, ltb, inl, inr, if◌then◌else◌}
+use Rattle.std.proofs.lemmas.Bool.{cases_lt}
+use Rattle.std.proofs.lemmas.Nat.{pow-add}
 use Rattle.std.proofs.Math.Nat.{mod-eq_of_lt}
 use Rattle.jx_base.specs.Markers.{HasNoMarker}
-use Rattle.jx_base.specs.MqTable.{MqContexts, mq_fresh, mq_row_at, mq_row_of, mq_mps, mq_adapted}
-use Rattle.jx_base.specs.MqReading.{MqReader, MqAsked, Under, Anew, MqDecisions, mq_byte, mq_byte_in, mq_reader, mq_refilled, mq_reads_mps, mq_chosen, mq_read, mq_bit, mq_after, mq_decisions_from, mq_decisions}
-use Rattle.jx_base.specs.MqWriting.{MqWriter, MqGiven, Decided, Renewed, mq_writer, mq_shifted, mq_renormalized, mq_lower, mq_upper, mq_part, mq_written, mq_flushed, mq_trimmed, mq_segment, mq_is_mps, mq_wrote, mq_after_bit, mq_written_from, mq_write, mq_contexts_after, mq_asked, mq_bits, mq_write_each, mq_bits_each, mq_contexts_left, mq_contexts_each}
-use Rattle.jx_mq.specs.Coding.{AreGiven, IsBounded, IsCoding, IsCoder}
-use Rattle.jx_mq.specs.Fraction.{span, value, size, low, scale, front}
-use Rattle.jx_mq.proofs.Rows.{IsRow, row_in_range}
+use Rattle.jx_base.specs.MqTable.{MqContexts, mq_fresh, mq_row_of, mq_mps}
+use Rattle.jx_base.specs.MqReading.{MqReader, MqAsked, Under, MqDecisions, mq_byte, mq_byte_in, mq_reader, mq_reads_mps, mq_chosen, mq_read, mq_bit, mq_after, mq_decisions_from, mq_decisions}
+use Rattle.jx_base.specs.MqWriting.{MqWriter, MqGiven, Decided, Renewed, mq_writer, mq_shifted, mq_renormalized, mq_lower, mq_upper, mq_part, mq_flushed, mq_trimmed, mq_is_mps, mq_wrote, mq_after_bit, mq_written_from, mq_write, mq_contexts_after, mq_asked, mq_bits, mq_write_each, mq_bits_each, mq_contexts_left, mq_contexts_each}
+use Rattle.jx_mq.specs.Coding.{AreGiven, IsCoding, IsCoder}
+use Rattle.jx_mq.specs.Fraction.{front}
+use Rattle.jx_mq.proofs.Rows.{row_in_range}
 use Rattle.jx_mq.proofs.Bounds.{coder, shifted_coding, part_coding, part_below}
 use Rattle.jx_mq.proofs.Refills.{twice_is}
 use Rattle.jx_mq.proofs.Renormals.{renormalized_more, renormalized_done, shifted_a}
 use Rattle.jx_mq.proofs.Ends.{HasGivenOut}
 use Rattle.jx_mq.proofs.Fitting.{FitsIn, fits_renormalized, fits_lower, fits_upper}
 use Rattle.jx_mq.proofs.Flushing.{widened, flush_fits, flushed_given, flushed_is, flushed_second, flushed_first, second_out}
-use Rattle.jx_mq.proofs.Fronts.{IsSegment, byte_fits, Taken, Inside}
-use Rattle.jx_mq.proofs.Following.{Follows, Decides, decides}
-use Rattle.jx_mq.proofs.Feeding.{Fed, feed, FollowsOn, renormalization_follows}
+use Rattle.jx_mq.proofs.Fronts.{IsSegment, byte_fits, Taken}
+use Rattle.jx_mq.proofs.Following.{Follows, decides}
+use Rattle.jx_mq.proofs.Feeding.{feed, FollowsOn, renormalization_follows}
 use Rattle.jx_mq.proofs.Segments.{in_order, segment_of, segment_front, trimmed_markers}
 
 renormalized_coder : (n : ℕ) (w : MqWriter) → IsCoding w → w.a < 65536 → 32768 ≤ w.a * 2 ^ n → IsCoder (mq_renormalized n w)

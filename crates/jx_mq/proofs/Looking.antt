@@ -1,9 +1,8 @@
 -- Decisions depend on the bytes looked at alone.
-use Rattle.std.proofs.Common.{◌≡◌, ◌≢◌, ◌<◌, ◌≤◌, ◌+◌, ◌-◌, ◌*◌, ◌/◌, ◌%◌, ◌^◌, ℕ, zero, suc, min, Bool, true, false, not, List, [], ◌∷◌, ◌++◌, length, take, refl, ap, sym, ◌∙◌, add-one, arith, leb, eqb, ltb, inl, inr, if◌then◌else◌, ◌==◌}
+use Rattle.std.proofs.Common.{◌≡◌, ◌<◌, ◌≤◌, ◌+◌, ◌-◌, ◌*◌, ◌%◌, ℕ, zero, suc, Bool, true, false, List, [], ◌∷◌, ◌++◌, length, take, refl, ap, ◌∙◌, arith, ltb, inl, inr, if◌then◌else◌, ◌==◌}
 use Rattle.std.proofs.lemmas.Bool.{cases_lt, cases_eq}
-use Rattle.std.proofs.lemmas.Bool.Decides.{nat_tests}
-use Rattle.std.proofs.lemmas.List.{get_or-take, get_or_past, take_all}
-use Rattle.jx_base.specs.MqTable.{MqContexts, mq_fresh, mq_row_of, mq_mps, mq_adapted}
+use Rattle.std.proofs.lemmas.List.{get_or-take, take_all}
+use Rattle.jx_base.specs.MqTable.{MqContexts, mq_fresh, mq_row_of}
 use Rattle.jx_base.specs.MqReading.{MqReader, MqAsked, Under, Anew, MqDecisions, mq_byte, mq_byte_in, mq_reader, mq_shifted_in, mq_refilled, mq_is_low, mq_chosen, mq_read, mq_bit, mq_after, mq_decisions_from, mq_decisions, mq_looked}
 use Rattle.jx_mq.proofs.Bounds.{is_zero, isnt_zero}
 use Rattle.jx_mq.proofs.Refills.{refilled_more, refilled_done}

@@ -1,12 +1,11 @@
 -- The written segment and the bytes given out are one list.
-use Rattle.std.proofs.Common.{◌≡◌, ◌≢◌, ◌<◌, ◌≤◌, ◌+◌, ◌-◌, ◌*◌, ◌^◌, ℕ, zero, suc, Bool, true, false, List, [], ◌∷◌, ◌++◌, length, get_or, drop, reverse, refl, ap, sym, ◌∙◌, add-one, arith, eqb, inl, inr, if◌then◌else◌, ◌==◌, append_assoc, length-append, length-drop}
+use Rattle.std.proofs.Common.{◌≡◌, ◌≢◌, ◌<◌, ◌≤◌, ◌-◌, ℕ, zero, suc, List, [], ◌∷◌, ◌++◌, length, drop, reverse, refl, sym, ◌∙◌, arith, inl, inr, append_assoc, length-append, length-drop}
 use Rattle.std.proofs.lemmas.Bool.{cases_lt, cases_eq}
-use Rattle.std.proofs.lemmas.Bool.Decides.{nat_tests}
 use Rattle.std.proofs.lemmas.List.{append-nil, reverse-append, length-reverse, drop-append-le, get_or_push, get_or_append_left, get_or_past}
 use Rattle.jx_base.specs.Markers.{HasNoMarker}
 use Rattle.jx_base.specs.MqReading.{mq_byte}
-use Rattle.jx_base.specs.MqWriting.{MqWriter, mq_newest, mq_trimmed, mq_flushed, mq_segment}
-use Rattle.jx_mq.specs.Coding.{AreGiven, IsCoder}
+use Rattle.jx_base.specs.MqWriting.{mq_newest, mq_trimmed}
+use Rattle.jx_mq.specs.Coding.{AreGiven}
 use Rattle.jx_mq.specs.Fraction.{front}
 use Rattle.jx_mq.proofs.Bounds.{no_byte, is_byte}
 use Rattle.jx_mq.proofs.Fronts.{IsSegment}
