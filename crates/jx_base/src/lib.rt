@@ -2,5 +2,9 @@
 #![tactic(auto)]
 
 mod memory;
+mod names;
+mod numbers;
 
 pub use memory::NoMemory;
+pub use names::{Band, BlockName, Rect, Span};
+pub use numbers::{ceil_div, ceil_shift};

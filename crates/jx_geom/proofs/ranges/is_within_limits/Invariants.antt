@@ -1,0 +1,12 @@
+use Rattle.std.proofs.Common.{◌≡◌, ◌≤◌, ◌^◌, take}
+use Rattle.jx_geom.specs.Counts.{tile_blocks, tile_precincts}
+use Rattle.jx_geom.specs.Rects.{tile_rect}
+use Rattle.jx_geom.proofs.ranges.is_within_limits.Given as goal
+
+abbrev pub invariant-loop-comp : goal.invariant-loop-comp
+invariant-loop-comp l = record {
+  blocks : l.blocks ≡ tile_blocks (tile_rect l.canvas l.tile) (take l.comp-index l.comps);
+  precincts : l.precincts ≡ tile_precincts (tile_rect l.canvas l.tile) (take l.comp-index l.comps);
+  few_blocks : l.blocks ≤ 2 ^ 20;
+  few_precincts : l.precincts ≤ 2 ^ 22;
+}

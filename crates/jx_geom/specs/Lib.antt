@@ -1,0 +1,9 @@
+-- Tiles, tile-components, resolutions, bands, precincts and code-blocks (ITU-T T.800, Annex B).
+pub mod Ranges
+pub mod Spans
+pub mod Rects
+pub mod Sets
+pub mod Sizes
+pub mod Counts
+pub mod Geometry
+pub mod Numbering

@@ -1,0 +1,102 @@
+//! Laws over the definitions: each place in one tile, one precinct and one block; nothing that is counted
+//! is empty; blocks are numbered by the count of those before them. They run no code.
+
+ghost use Rattle.std.specs.Prelude.{◌≡◌, ◌≤◌, ◌<◌, ◌+◌, ◌-◌, ◌*◌, ◌^◌, ◌⊎◌, ◌↔◌, ℕ, List, max};
+ghost use Rattle.jx_base.specs.declared.names.Band.{Band};
+ghost use Rattle.jx_base.specs.declared.names.BlockName.{BlockName};
+ghost use Rattle.jx_base.specs.declared.names.Rect.{Rect};
+ghost use Rattle.jx_base.specs.Places.{ExactlyOne, InRect, column_at, row_at};
+ghost use Rattle.jx_geom.specs.declared.shape.Canvas.{Canvas};
+ghost use Rattle.jx_geom.specs.declared.shape.CompShape.{CompShape};
+ghost use Rattle.jx_geom.specs.Counts.{block_count, precinct_count, tile_count};
+ghost use Rattle.jx_geom.specs.Numbering.{ComesBefore, IsBlock, block_number, blocks_of_all};
+ghost use Rattle.jx_geom.specs.Ranges.{CanvasInRange, HasBand, ShapeInRange, exponent_across, exponent_down};
+ghost use Rattle.jx_geom.specs.Rects.{
+  block_cells,
+  off_across,
+  off_down,
+  precinct_blocks,
+  precinct_cells,
+  precinct_column_point,
+  precinct_row_point,
+  resolution_rect,
+  tile_rect,
+};
+ghost use Rattle.jx_geom.specs.Sets.{
+  HasPlace,
+  InBand,
+  InBlock,
+  InCell,
+  InPart,
+  InPicture,
+  InPrecinct,
+  InResolution,
+  InTile,
+};
+
+/// Each place of the picture lies in exactly one tile, and each tile has a place.
+pub fn tiles_divide_the_picture()
+    ensures one { (c : Canvas) (x y : ℕ) → CanvasInRange c → InPicture c x y → ExactlyOne (λ t. (t < tile_count c) × InTile c t x y) }
+    ensures some { (c : Canvas) (t : ℕ) → CanvasInRange c → t < tile_count c → HasPlace (InTile c t) }
+{}
+
+/// The rect of a resolution holds its places.
+pub fn resolutions_are_sets()
+    ensures { (tile : Rect) (s : CompShape) (r x y : ℕ) → ShapeInRange s → InRect (resolution_rect tile s r) x y ↔ InResolution tile s r x y }
+{}
+
+/// Each place of a resolution lies in exactly one precinct, each precinct has a place, and the cells that
+/// are counted are those that have one.
+pub fn precincts_divide_a_resolution()
+    ensures one { (tile : Rect) (s : CompShape) (r x y : ℕ) → ShapeInRange s → InResolution tile s r x y
+        → ExactlyOne (λ k. (k < precinct_count tile s r) × InPrecinct tile s r k x y) }
+    ensures some { (tile : Rect) (s : CompShape) (r k : ℕ) → ShapeInRange s → k < precinct_count tile s r → HasPlace (InPrecinct tile s r k) }
+    ensures cells { (tile : Rect) (s : CompShape) (r u v : ℕ) → ShapeInRange s → InRect (precinct_cells tile s r) u v
+        ↔ HasPlace (λ x y. InResolution tile s r x y × InCell (exponent_across s r) (exponent_down s r) u v x y) }
+{}
+
+/// Each place of a band lies in exactly one precinct: above resolution 0 in that of the place of the
+/// resolution that it comes from.
+pub fn precincts_divide_a_band()
+    ensures one { (tile : Rect) (s : CompShape) (r : ℕ) (b : Band) (x y : ℕ) → ShapeInRange s → r ≤ s.levels → HasBand r b → InBand tile s r b x y
+        → ExactlyOne (λ k. (k < precinct_count tile s r) × InPart tile s r b k x y) }
+    ensures beside { (tile : Rect) (s : CompShape) (r : ℕ) (b : Band) (k x y : ℕ) → ShapeInRange s → 0 < r → r ≤ s.levels → HasBand r b
+        → InPart tile s r b k x y ↔ InPrecinct tile s r k (2 * x + off_across b) (2 * y + off_down b) }
+{}
+
+/// Each place of a band lies in exactly one block, and each block has a place.
+pub fn blocks_divide_a_band()
+    ensures one { (tile : Rect) (s : CompShape) (r : ℕ) (b : Band) (x y : ℕ) → ShapeInRange s → InBand tile s r b x y
+        → ExactlyOne (λ i. (i < block_count tile s r b) × InBlock tile s r b i x y) }
+    ensures some { (tile : Rect) (s : CompShape) (r : ℕ) (b : Band) (i : ℕ) → ShapeInRange s → i < block_count tile s r b → HasPlace (InBlock tile s r b i) }
+{}
+
+/// The cell of each block of a band is one of exactly one precinct's, which has all of its places.
+pub fn blocks_lie_in_precincts()
+    ensures one { (tile : Rect) (s : CompShape) (r : ℕ) (b : Band) (i : ℕ) → ShapeInRange s → r ≤ s.levels → HasBand r b → i < block_count tile s r b
+        → ExactlyOne (λ k. (k < precinct_count tile s r)
+        × InRect (precinct_blocks tile s r b k) (column_at (block_cells tile s r b) i) (row_at (block_cells tile s r b) i)) }
+    ensures within { (tile : Rect) (s : CompShape) (r : ℕ) (b : Band) (i k x y : ℕ) → ShapeInRange s
+        → InRect (precinct_blocks tile s r b k) (column_at (block_cells tile s r b) i) (row_at (block_cells tile s r b) i)
+        → InBlock tile s r b i x y → InPart tile s r b k x y }
+{}
+
+/// The number of a block is below the count of all, is larger for a later name, and each number below the
+/// count is that of a block. So the blocks have the numbers from 0 on, in the order of their names.
+pub fn blocks_are_numbered()
+    ensures below { (c : Canvas) (shapes : ℕ → List CompShape) (n : BlockName) → IsBlock c shapes n → block_number c shapes n < blocks_of_all c shapes }
+    ensures later { (c : Canvas) (shapes : ℕ → List CompShape) (a b : BlockName) → IsBlock c shapes a → IsBlock c shapes b
+        → (a.tile < b.tile) ⊎ ((a.tile ≡ b.tile) × ComesBefore a b) → block_number c shapes a < block_number c shapes b }
+    ensures taken { (c : Canvas) (shapes : ℕ → List CompShape) (k : ℕ) → k < blocks_of_all c shapes → (n : BlockName) × (IsBlock c shapes n × (block_number c shapes n ≡ k)) }
+{}
+
+/// A precinct stands at the later of the tile's first column and the one that the first place of its cell
+/// comes from; rows alike.
+pub fn reference_points_are_latest()
+    ensures across { (tile : Rect) (s : CompShape) (r k : ℕ) → ShapeInRange s → k < precinct_count tile s r
+        → precinct_column_point tile s r (column_at (precinct_cells tile s r) k)
+        ≡ max tile.x.low (column_at (precinct_cells tile s r) k * (2 ^ exponent_across s r * (2 ^ (s.levels - r) * s.dx))) }
+    ensures down { (tile : Rect) (s : CompShape) (r k : ℕ) → ShapeInRange s → k < precinct_count tile s r
+        → precinct_row_point tile s r (row_at (precinct_cells tile s r) k)
+        ≡ max tile.y.low (row_at (precinct_cells tile s r) k * (2 ^ exponent_down s r * (2 ^ (s.levels - r) * s.dy))) }
+{}

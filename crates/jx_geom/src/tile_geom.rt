@@ -1,0 +1,192 @@
+//! The geometry of one tile.
+
+ghost use Rattle.std.specs.Prelude.{◌≡◌, ◌≤◌, ◌<◌, ◌-◌, ◌*◌, ◌^◌, ℕ, ◌↔◌, IfOk, length};
+ghost use Rattle.jx_base.specs.Places.{InRect, size_of, length_of};
+ghost use Rattle.jx_geom.specs.Counts.{tile_count};
+ghost use Rattle.jx_geom.specs.Geometry.{
+  Geometry,
+  GeometryInRange,
+  HasBlock,
+  HasResolution,
+  ShapesInRange,
+  WithinLimits,
+  band_in,
+  blocks_in,
+  precincts_in,
+  rect_of_tile,
+  reference_across,
+  reference_down,
+  shape_of,
+};
+ghost use Rattle.jx_geom.specs.Ranges.{CanvasInRange, ShapeInRange, HasBand};
+ghost use Rattle.jx_geom.specs.Rects.{tile_rect, precinct_blocks, block_rect, block_across, block_down};
+ghost use Rattle.jx_geom.specs.Sets.{HasPlace, InBand, InBlock, InCell, InPart, InTile};
+ghost use Rattle.jx_geom.specs.Sizes.{BlockFits};
+
+use crate::rects::{
+    band_of, block_of, blocks_of, precinct_blocks_of, precincts_of, reference_of_precinct, tile_of,
+};
+use crate::shape::{Canvas, CompShape};
+use jx_base::{Band, BlockName, NoMemory, Rect};
+use std::alloc::Global;
+use std::marker::Model;
+
+/// The geometry of one tile: its rect, and the shapes of its components.
+#[derive(Debug, Drop)]
+pub struct TileGeom {
+    canvas: Canvas,
+    tile: u16,
+    places: Rect,
+    shapes: Vec<CompShape>,
+}
+
+impl Model for TileGeom {
+    ghost Value = { Geometry };
+
+    ghost view = { λ t. record { canvas = t.canvas; tile = t.tile; shapes = t.shapes.items } };
+
+    ghost invariant = { λ t. GeometryInRange (record { canvas = t.canvas; tile = t.tile; shapes = t.shapes.items }) × (t.places ≡ tile_rect t.canvas t.tile) };
+}
+
+impl TileGeom {
+    /// The geometry of a tile with components of these shapes.
+    pub fn new(
+        alloc: Global,
+        canvas: &Canvas,
+        tile: u16,
+        comps: &[CompShape],
+    ) -> Result<TileGeom, NoMemory>
+        requires canvas { CanvasInRange canvas.now }
+        requires tile { tile < tile_count canvas.now }
+        requires comps { ShapesInRange comps.now }
+        requires limits { WithinLimits canvas.now tile comps.now }
+        ensures { IfOk result (λ g. g ≡ record { canvas = canvas.now; tile = tile; shapes = comps.now }) }
+    {
+        let shapes = Vec::from_slice(alloc, comps)?;
+        Ok(TileGeom {
+            canvas: *canvas,
+            tile,
+            places: tile_of(canvas, tile),
+            shapes,
+        })
+    }
+
+    /// The tile's number.
+    pub fn number(&self) -> u16
+        ensures { result ≡ self.now.tile }
+    {
+        self.tile
+    }
+
+    /// How many components the tile has.
+    pub fn components(&self) -> usize
+        ensures count { result ≡ length self.now.shapes }
+        ensures range { GeometryInRange self.now }
+    {
+        self.shapes.len()
+    }
+
+    /// The tile's places on the reference grid (T.800, B.3).
+    pub fn tile(&self) -> Rect
+        ensures value { result ≡ rect_of_tile self.now }
+        ensures places { (x y : ℕ) → InRect result x y ↔ InTile self.now.canvas self.now.tile x y }
+    {
+        self.places
+    }
+
+    fn shape(&self, comp: u16) -> &CompShape
+        requires { comp < length self.now.shapes }
+        ensures value { result.now ≡ shape_of self.now comp }
+        ensures range { ShapeInRange result.now }
+    {
+        &self.shapes[usize::from(comp)]
+    }
+
+    /// The decomposition levels of a component, 0 to 32; its resolutions are 0 up to that number.
+    pub fn levels(&self, comp: u16) -> u8
+        requires { comp < length self.now.shapes }
+        ensures value { result ≡ (shape_of self.now comp).levels }
+        ensures bound { result ≤ 32 }
+    {
+        self.shape(comp).levels
+    }
+
+    /// The places of a band (T.800, B.5).
+    pub fn band(&self, comp: u16, res: u8, band: Band) -> Rect
+        requires res { HasResolution self.now comp res }
+        requires band { HasBand res band }
+        ensures value { result ≡ band_in self.now comp res band }
+        ensures places { (x y : ℕ) → InRect result x y ↔ InBand (rect_of_tile self.now) (shape_of self.now comp) res band x y }
+    {
+        band_of(self.places, self.shape(comp), res, band)
+    }
+
+    /// How many columns and rows of precincts a resolution has (T.800, B.6); none where it is empty.
+    pub fn precincts(&self, comp: u16, res: u8) -> (u32, u32)
+        requires { HasResolution self.now comp res }
+        ensures columns { result.0 ≡ length_of (precincts_in self.now comp res).x }
+        ensures rows { result.1 ≡ length_of (precincts_in self.now comp res).y }
+        ensures bound { result.0 * result.1 ≤ 2 ^ 22 }
+    {
+        let cells = precincts_of(self.places, self.shape(comp), res);
+        (
+            cells.x.high.saturating_sub(cells.x.low),
+            cells.y.high.saturating_sub(cells.y.low),
+        )
+    }
+
+    /// The code-blocks of a band, as columns and rows of cells (T.800, B.7): each of its cells that
+    /// isn't empty. A block's index is the raster place of its cell in this rect.
+    pub fn cells(&self, comp: u16, res: u8, band: Band) -> Rect
+        requires res { HasResolution self.now comp res }
+        requires band { HasBand res band }
+        ensures value { result ≡ blocks_in self.now comp res band }
+        ensures places { (u v : ℕ) → InRect result u v
+            ↔ HasPlace (λ x y. InBand (rect_of_tile self.now) (shape_of self.now comp) res band x y
+            × InCell (block_across (shape_of self.now comp) res) (block_down (shape_of self.now comp) res) u v x y) }
+        ensures bound { size_of result ≤ 2 ^ 20 }
+    {
+        blocks_of(self.places, self.shape(comp), res, band)
+    }
+
+    /// The code-blocks of a precinct in a band, as columns and rows of cells of that band; there may be
+    /// none. Precincts are numbered row by row from 0 on.
+    pub fn blocks(&self, comp: u16, res: u8, band: Band, precinct: u32) -> Rect
+        requires res { HasResolution self.now comp res }
+        requires band { HasBand res band }
+        requires precinct { precinct < size_of (precincts_in self.now comp res) }
+        ensures value { result ≡ precinct_blocks (rect_of_tile self.now) (shape_of self.now comp) res band precinct }
+        ensures places { (u v : ℕ) → InRect result u v
+            ↔ HasPlace (λ x y. InPart (rect_of_tile self.now) (shape_of self.now comp) res band precinct x y
+            × InCell (block_across (shape_of self.now comp) res) (block_down (shape_of self.now comp) res) u v x y) }
+    {
+        precinct_blocks_of(self.places, self.shape(comp), res, band, precinct)
+    }
+
+    /// The places of a code-block in its band.
+    pub fn block(&self, name: &BlockName) -> Rect
+        requires { HasBlock self.now name.now }
+        ensures value { result ≡ block_rect (rect_of_tile self.now) (shape_of self.now name.now.comp) name.now.res name.now.band name.now.index }
+        ensures places { (x y : ℕ) → InRect result x y ↔ InBlock (rect_of_tile self.now) (shape_of self.now name.now.comp) name.now.res name.now.band name.now.index x y }
+        ensures fits { BlockFits result }
+    {
+        block_of(
+            self.places,
+            self.shape(name.comp),
+            name.res,
+            name.band,
+            name.index,
+        )
+    }
+
+    /// Where a precinct stands on the reference grid, x and y (T.800, B.12.1.3).
+    pub fn reference_point(&self, comp: u16, res: u8, precinct: u32) -> (u64, u64)
+        requires res { HasResolution self.now comp res }
+        requires precinct { precinct < size_of (precincts_in self.now comp res) }
+        ensures across { result.0 ≡ reference_across self.now comp res precinct }
+        ensures down { result.1 ≡ reference_down self.now comp res precinct }
+        ensures inside { InRect (rect_of_tile self.now) result.0 result.1 }
+    {
+        reference_of_precinct(self.places, self.shape(comp), res, precinct)
+    }
+}

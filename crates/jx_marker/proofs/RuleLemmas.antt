@@ -1,0 +1,171 @@
+-- Which rules speak of which segment, and what follows where none is violated.
+use Rattle.std.proofs.Common.{◌≡◌, ◌≢◌, ◌<◌, ◌≤◌, ◌+◌, ℕ, List, ◌∷◌, [], length, arith, refl, Bool, true, false, ◌&&◌, ◌||◌, ◌==◌, not, None, ltb, leb, length-take, length-drop}
+use Rattle.std.proofs.lemmas.Bool.Decides.{nat_tests}
+use Rattle.byteorder.specs.Endian.{big_from}
+use Rattle.jx_marker.specs.Markers.{has_length}
+use Rattle.std.specs.List.{list_all}
+use Rattle.jx_marker.specs.Values.{values_from, comp_size_at}
+use Rattle.jx_marker.proofs.ValueLemmas.{length_values}
+use Rattle.jx_marker.specs.Segments.{code_at, length_at, body_at}
+use Rattle.jx_marker.specs.Rules.{breaks_1, breaks_2, breaks_3, breaks_4, breaks_5, breaks_6, breaks_7, breaks_8, breaks_9, breaks_10, breaks_11, breaks_12, breaks_13, breaks_14, first_true, rules_inside, first_broken, least_length, axis_fits, comp_size_fits}
+
+pub siz_rules : (comps : ℕ) (body : List ℕ) → first_true (rules_inside comps 81 body) ≡ first_true ((3, breaks_3 81 body) ∷ (4, breaks_4 81 body) ∷ (5, breaks_5 81 body) ∷ [])
+unfolding breaks_6 breaks_7 breaks_8 breaks_9 breaks_10 breaks_11 breaks_12 breaks_13
+siz_rules comps body = refl
+
+pub cod_rules : (comps : ℕ) (body : List ℕ) → first_true (rules_inside comps 82 body) ≡ first_true ((6, breaks_6 comps 82 body) ∷ (7, breaks_7 comps 82 body) ∷ (8, breaks_8 comps 82 body) ∷ [])
+unfolding breaks_3 breaks_4 breaks_5 breaks_9 breaks_10 breaks_11 breaks_12 breaks_13
+cod_rules comps body = refl
+
+pub coc_rules : (comps : ℕ) (body : List ℕ) → first_true (rules_inside comps 83 body) ≡ first_true ((6, breaks_6 comps 83 body) ∷ (7, breaks_7 comps 83 body) ∷ (8, breaks_8 comps 83 body) ∷ (12, breaks_12 comps 83 body) ∷ [])
+unfolding breaks_3 breaks_4 breaks_5 breaks_9 breaks_10 breaks_11 breaks_13
+coc_rules comps body = refl
+
+pub qcd_rules : (comps : ℕ) (body : List ℕ) → first_true (rules_inside comps 92 body) ≡ first_true ((9, breaks_9 comps 92 body) ∷ [])
+unfolding breaks_3 breaks_4 breaks_5 breaks_6 breaks_7 breaks_8 breaks_10 breaks_11 breaks_12 breaks_13
+qcd_rules comps body = refl
+
+pub qcc_rules : (comps : ℕ) (body : List ℕ) → first_true (rules_inside comps 93 body) ≡ first_true ((9, breaks_9 comps 93 body) ∷ (12, breaks_12 comps 93 body) ∷ [])
+unfolding breaks_3 breaks_4 breaks_5 breaks_6 breaks_7 breaks_8 breaks_10 breaks_11 breaks_13
+qcc_rules comps body = refl
+
+pub rgn_rules : (comps : ℕ) (body : List ℕ) → first_true (rules_inside comps 94 body) ≡ first_true ((10, breaks_10 comps 94 body) ∷ (12, breaks_12 comps 94 body) ∷ [])
+unfolding breaks_3 breaks_4 breaks_5 breaks_6 breaks_7 breaks_8 breaks_9 breaks_11 breaks_13
+rgn_rules comps body = refl
+
+pub poc_rules : (comps : ℕ) (body : List ℕ) → first_true (rules_inside comps 95 body) ≡ first_true ((11, breaks_11 comps 95 body) ∷ [])
+unfolding breaks_3 breaks_4 breaks_5 breaks_6 breaks_7 breaks_8 breaks_9 breaks_10 breaks_12 breaks_13
+poc_rules comps body = refl
+
+-- a segment of none of these kinds
+pub record IsPlain (code : ℕ) : Type 0 where
+  pub siz : (code == 81) ≡ false
+  pub cod : (code == 82) ≡ false
+  pub coc : (code == 83) ≡ false
+  pub qcd : (code == 92) ≡ false
+  pub qcc : (code == 93) ≡ false
+  pub rgn : (code == 94) ≡ false
+  pub poc : (code == 95) ≡ false
+
+pub plain_rules : (comps code : ℕ) (body : List ℕ) → IsPlain code → first_true (rules_inside comps code body) ≡ first_true ((13, breaks_13 code body) ∷ [])
+unfolding breaks_3 breaks_4 breaks_5 breaks_6 breaks_7 breaks_8 breaks_9 breaks_10 breaks_11 breaks_12
+plain_rules comps code body plain = rw (plain.siz, plain.cod, plain.coc, plain.qcd, plain.qcc, plain.rgn, plain.poc) refl
+
+pub neither : (x y : Bool) → (x || y) ≡ false → (x ≡ false) × (y ≡ false)
+neither true y h = absurd (cc)
+neither false y h = (refl, h)
+
+pub alone_rules : (comps code : ℕ) (body : List ℕ) → has_length code ≡ false → first_true (rules_inside comps code body) ≡ None
+unfolding breaks_13
+alone_rules comps code body none =
+    let siz = neither (code == 81) _ none in
+    let cod = neither (code == 82) _ siz.1 in
+    let coc = neither (code == 83) _ cod.1 in
+    let tlm = neither (code == 85) _ coc.1 in
+    let plm = neither (code == 87) _ tlm.1 in
+    let plt = neither (code == 88) _ plm.1 in
+    let qcd = neither (code == 92) _ plt.1 in
+    let qcc = neither (code == 93) _ qcd.1 in
+    let rgn = neither (code == 94) _ qcc.1 in
+    let poc = neither (code == 95) _ rgn.1 in
+    rw (plain_rules comps code body (record { siz = siz.0; cod = cod.0; coc = coc.0; qcd = qcd.0; qcc = qcc.0; rgn = rgn.0; poc = poc.0 }), plm.0, plt.0, tlm.0) refl
+
+-- a test that comes first in a list of which none is true
+pub cleared : (n : ℕ) (test : Bool) (rest : List (ℕ × Bool)) → first_true ((n, test) ∷ rest) ≡ None → (test ≡ false) × (first_true rest ≡ None)
+cleared n true rest h = absurd (cc)
+cleared n false rest h = (refl, h)
+
+-- no rule is violated at a place
+pub record IsClear (comps : ℕ) (bytes : List ℕ) : Type 0 where
+  pub marker : breaks_2 bytes ≡ false
+  pub packed : breaks_14 bytes ≡ false
+  pub long : breaks_1 comps bytes ≡ false
+  pub inside : first_true (rules_inside comps (code_at bytes) (body_at bytes)) ≡ None
+
+pub clear : (comps : ℕ) (bytes : List ℕ) → first_broken comps bytes ≡ None → IsClear comps bytes
+clear comps bytes h =
+    let inside : List (ℕ × Bool) = rules_inside comps (code_at bytes) (body_at bytes) in
+    let second = cleared 2 (breaks_2 bytes) ((14, breaks_14 bytes) ∷ (1, breaks_1 comps bytes) ∷ inside) h in
+    let fourteenth = cleared 14 (breaks_14 bytes) ((1, breaks_1 comps bytes) ∷ inside) second.1 in
+    let first = cleared 1 (breaks_1 comps bytes) inside fourteenth.1 in
+    record { marker = second.0; packed = fourteenth.0; long = first.0; inside = first.1 }
+
+pub clear_broken : (comps : ℕ) (bytes : List ℕ) → IsClear comps bytes → first_broken comps bytes ≡ None
+clear_broken comps bytes h = rw (h.marker, h.packed, h.long) h.inside
+
+pub two_bytes : (comps : ℕ) (bytes : List ℕ) → breaks_1 comps bytes ≡ false → 2 ≤ length bytes
+unfolding breaks_1
+two_bytes comps bytes h = let none = neither (ltb (length bytes) 2) _ h in grind (arith, nat_tests)
+
+-- the room that rule 1 sees to where a length follows
+pub record HasRoom (comps : ℕ) (bytes : List ℕ) : Type 0 where
+  pub front : 4 ≤ length bytes
+  pub whole : 2 + length_at bytes ≤ length bytes
+  pub least : least_length comps (code_at bytes) ≤ length_at bytes
+  pub sot : code_at bytes ≡ 144 → length_at bytes ≡ 10
+
+pub both : (x y : Bool) → x ≡ true → (x && y) ≡ false → y ≡ false
+both true y h e = e
+both false y h e = absurd (cc)
+
+pub has_room : (comps : ℕ) (bytes : List ℕ) → breaks_1 comps bytes ≡ false → has_length (code_at bytes) ≡ true → HasRoom comps bytes
+unfolding breaks_1
+has_room comps bytes h follows =
+    let short = neither (ltb (length bytes) 2) _ h in
+    let inner = both (has_length (code_at bytes)) _ follows short.1 in
+    let front = neither (ltb (length bytes) 4) _ inner in
+    let whole = neither (ltb (length bytes) (2 + length_at bytes)) _ front.1 in
+    let least = neither (ltb (length_at bytes) (least_length comps (code_at bytes))) _ whole.1 in
+    let f0 = front.0 in let w0 = whole.0 in let l0 = least.0 in let l1 = least.1 in
+    record {
+      front = grind (arith, nat_tests, f0);
+      whole = grind (arith, nat_tests, w0);
+      least = grind (arith, nat_tests, l0);
+      sot = λ is. grind (arith, nat_tests, l1, is);
+    }
+
+pub least_two : (comps code : ℕ) → 2 ≤ least_length comps code
+least_two comps code = grind (arith, nat_tests)
+
+pub length_body : (comps : ℕ) (bytes : List ℕ) → HasRoom comps bytes → 2 + length (body_at bytes) ≡ length_at bytes
+length_body comps bytes room =
+    let two : 2 ≤ length_at bytes = omega (arith, room.least, least_two comps (code_at bytes)) in
+    let whole = room.whole in
+    simp (length-take, length-drop) (omega arith)
+
+-- rule 4 where all but the components was seen to be right
+pub canvas_broken : (body : List ℕ) → 0 < big_from 34 2 body → big_from 34 2 body ≤ 16384
+    → axis_fits (big_from 2 4 body) (big_from 10 4 body) (big_from 18 4 body) (big_from 26 4 body) ≡ true
+    → axis_fits (big_from 6 4 body) (big_from 14 4 body) (big_from 22 4 body) (big_from 30 4 body) ≡ true
+    → breaks_4 81 body ≡ not (list_all comp_size_fits (values_from comp_size_at 3 (big_from 34 2 body) 36 body))
+unfolding breaks_4
+canvas_broken body some most across down =
+    let count = length_values comp_size_at 3 (big_from 34 2 body) 36 body in
+    let least : ltb 0 (big_from 34 2 body) ≡ true = grind (arith, nat_tests) in
+    let greatest : leb (big_from 34 2 body) 16384 ≡ true = grind (arith, nat_tests) in
+    rw (count, least, greatest, across, down) refl
+
+pub not_packed : (comps : ℕ) (bytes : List ℕ) → breaks_1 comps bytes ≡ false → breaks_14 bytes ≡ false → (code_at bytes ≢ 96) × (code_at bytes ≢ 97)
+unfolding breaks_14
+not_packed comps bytes long packed =
+    let two = two_bytes comps bytes long in
+    let long_enough : leb 2 (length bytes) ≡ true = grind (arith, nat_tests) in
+    let codes = both (leb 2 (length bytes)) _ long_enough packed in
+    let each = neither (code_at bytes == 96) _ codes in
+    (λ is. grind (arith, nat_tests, each, is), λ is. grind (arith, nat_tests, each, is))
+
+pub packed_not_alone : (code : ℕ) → has_length code ≡ false → ((code == 96) ≡ false) × ((code == 97) ≡ false)
+packed_not_alone code none =
+    let siz = neither (code == 81) _ none in
+    let cod = neither (code == 82) _ siz.1 in
+    let coc = neither (code == 83) _ cod.1 in
+    let tlm = neither (code == 85) _ coc.1 in
+    let plm = neither (code == 87) _ tlm.1 in
+    let plt = neither (code == 88) _ plm.1 in
+    let qcd = neither (code == 92) _ plt.1 in
+    let qcc = neither (code == 93) _ qcd.1 in
+    let rgn = neither (code == 94) _ qcc.1 in
+    let poc = neither (code == 95) _ rgn.1 in
+    let ppm = neither (code == 96) _ poc.1 in
+    let ppt = neither (code == 97) _ ppm.1 in
+    (ppm.0, ppt.0)

@@ -1,0 +1,10 @@
+use Rattle.std.proofs.Common.{◌≡◌, ◌+◌, length, arith, ap}
+use Rattle.jx_marker.specs.Values.{cod_bytes}
+use Rattle.jx_marker.proofs.PutLemmas.{fronted_as, length_cod}
+use Rattle.jx_marker.proofs.put.put_cod.Goals as goal
+
+pub returns-clause-ok : goal.returns-clause-ok
+returns-clause-ok c =
+    let same : 10 + length c.as_slice.result.now ≡ length (cod_bytes c.args.cod.now) = omega (arith, length_cod c.args.cod.now, ap length c.as_slice.ensures) in
+    fronted_as 82 (10 + length c.as_slice.result.now) c.args.out.now.items c.put_front.new.out.items c.put_cod_body.new.out.items (cod_bytes c.args.cod.now)
+    c.in_ok-put_front.ensures.ok c.in_ok-put_cod_body.ensures.ok same

@@ -1,0 +1,6 @@
+pub mod Markers
+pub mod Values
+pub mod Segments
+pub mod Rules
+pub mod Ranges
+pub mod Laws

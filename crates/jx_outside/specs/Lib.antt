@@ -1,0 +1,6 @@
+pub mod Causes
+pub mod Device
+pub mod Stored
+pub mod Planned
+pub mod MemPlan
+pub mod SinkPlan

@@ -1,0 +1,26 @@
+//! The outside of the transcoder: the files that it reads and makes, and the text that it says.
+//!
+//! [`Files`] and [`Sink`] state what each call does, when it may be refused, and what a refusal
+//! leaves. [`StdFiles`] and [`StdSink`] stand on the system, [`MemFiles`] and [`MemSink`] keep all
+//! in memory and fail as planned, and [`SureFiles`] and [`SureSink`] never fail.
+#![tactic(auto)]
+
+mod files;
+mod memory;
+mod plan;
+mod real;
+mod refused;
+mod sink;
+mod spoken;
+mod store;
+
+pub use files::Files;
+pub use memory::{MemFiles, SureFiles};
+pub use plan::Call;
+pub use real::{StdFiles, StdSink};
+pub use refused::Refused;
+pub use sink::Sink;
+pub use spoken::{MemSink, SureSink};
+
+#[cfg(test)]
+mod tests;

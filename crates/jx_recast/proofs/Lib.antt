@@ -1,0 +1,3 @@
+pub mod ProgressLemmas
+pub mod OutcomeLemmas
+pub mod SmallLemmas

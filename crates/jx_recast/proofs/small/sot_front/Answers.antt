@@ -1,0 +1,14 @@
+use Rattle.std.proofs.Common.{ℕ, List, ◌≡◌, sym}
+use Rattle.jx_marker.specs.declared.Segment.{Segment}
+use Rattle.jx_marker.specs.declared.Segment.TheVariants as segment
+use Rattle.jx_marker.specs.Laws.{BeginsWith}
+use Rattle.jx_recast.specs.Fronts.{LacksThis}
+use Rattle.jx_recast.proofs.small.sot_front.Goals as goal
+
+-- no segment stands at the front
+pub returns-in_default : goal.returns-in_default
+returns-in_default c = let none : (s : Segment) → LacksThis s c.args.bytes.now = rw c.in_default.is at c.in_ok-segment.ensures.lacks in λ value rest. none (segment.Sot value) rest
+
+-- what stands there is the SOT
+pub returns : goal.returns
+returns c = rw c.in-Sot.is at (rw c.in-Some.is at c.in_ok-segment.ensures.found)

@@ -1,0 +1,5 @@
+pub mod Words
+pub mod Small
+pub mod Fronts
+pub mod Outcome
+pub mod Progress

@@ -1,0 +1,142 @@
+-- How a run ends: the verdict on the words and the input, the line said, and what stands afterwards.
+use Rattle.std.specs.Prelude.{◌≡◌, ◌⊎◌, ℕ, ◌+◌, ◌^◌, ◌<◌, ◌≤◌, Bool, true, false, List, [], ◌++◌, length, Option, Some, None, IfSome, codes}
+use Rattle.std.specs.Option.{option_map}
+use Rattle.std.specs.Fmt.{decimal}
+use Rattle.jx_outside.specs.Causes.{Rose}
+use Rattle.jx_outside.specs.Device.{Meaning, joined, after_create, after_write, after_finish}
+use Rattle.jx_recast.specs.declared.status.Status.{Status}
+use Rattle.jx_recast.specs.declared.status.Status.TheVariants as status
+use Rattle.jx_recast.specs.Words.{Text, Request, is_good, request_of}
+use Rattle.jx_recast.specs.Small.{IsSmall, output}
+use Rattle.jx_recast.specs.Progress.{HasWritten}
+
+-- the most bytes that an input may have
+abbrev pub most_bytes : ℕ
+most_bytes = 2 ^ 28
+
+-- the number with which the program ends
+abbrev pub number_of : Status → ℕ
+number_of status.Done = 0
+number_of status.Words = 2
+number_of (status.Limit number found) = 4
+number_of status.ReadFault = 7
+number_of status.WriteFault = 8
+number_of status.NoMemory = 9
+number_of status.Form = 10
+
+-- the status speaks of the words and the input, and not of a fault or of memory
+abbrev pub IsVerdict : Status → Type 0
+IsVerdict status.Done = Unit {0}
+IsVerdict status.Words = Unit {0}
+IsVerdict (status.Limit number found) = Unit {0}
+IsVerdict status.Form = Unit {0}
+IsVerdict status.ReadFault = ⊥
+IsVerdict status.WriteFault = ⊥
+IsVerdict status.NoMemory = ⊥
+
+-- the status that an input has where the words are good and nothing fails: limit 1, then the form
+abbrev pub Verdict : List ℕ → Status → Type 0
+Verdict input status.Done = (length input ≤ most_bytes) × IsSmall input
+Verdict input (status.Limit number found) = (most_bytes < length input) × (number ≡ 1) × (found ≡ most_bytes + 1)
+Verdict input status.Form = (length input ≤ most_bytes) × (IsSmall input → ⊥)
+Verdict input status.Words = ⊥
+Verdict input status.ReadFault = ⊥
+Verdict input status.WriteFault = ⊥
+Verdict input status.NoMemory = ⊥
+
+-- the line that a status has, with its numbers: those of the code-blocks and of the bytes written after Done
+abbrev pub line_of : Status → ℕ → ℕ → List ℕ
+line_of status.Done blocks bytes = codes "done: " ++ (decimal blocks ++ (codes " blocks, " ++ (decimal bytes ++ codes " bytes\n")))
+line_of status.Words blocks bytes = codes "words\n"
+line_of (status.Limit number found) blocks bytes = codes "limit " ++ (decimal number ++ (codes ": " ++ (decimal found ++ codes "\n")))
+line_of status.Form blocks bytes = codes "form\n"
+line_of status.ReadFault blocks bytes = codes "read fault\n"
+line_of status.WriteFault blocks bytes = []
+line_of status.NoMemory blocks bytes = codes "no memory\n"
+
+-- the text so far with this line at its end, where it is told
+abbrev pub said_after : List ℕ → Option (List ℕ) → Option (List ℕ)
+said_after line said = option_map (λ text. text ++ line) said
+
+-- what was said: the line; nothing after a write fault; and for want of memory either
+abbrev pub Says : Status → List ℕ → Option (List ℕ) → Option (List ℕ) → Type 0
+Says status.WriteFault line old new = new ≡ old
+Says status.NoMemory line old new = (new ≡ old) ⊎ (new ≡ said_after line old)
+Says status.Done line old new = new ≡ said_after line old
+Says status.Words line old new = new ≡ said_after line old
+Says (status.Limit number found) line old new = new ≡ said_after line old
+Says status.Form line old new = new ≡ said_after line old
+Says status.ReadFault line old new = new ≡ said_after line old
+
+-- nothing was made
+pub record IsUntouched (old new : Meaning) : Type 0 where
+  pub holds : (name : List ℕ) → new.holds name ≡ old.holds name
+  pub making : new.making ≡ old.making
+  pub written : new.written ≡ old.written
+
+-- the whole file was made, and is found under its name
+abbrev pub IsMade : Text → List ℕ → Meaning → Meaning → Type 0
+IsMade name bytes old new = (m : Meaning) × IsUntouched old m × (new ≡ after_finish (after_write bytes (after_create name m)))
+
+-- a front of the file was made, and it wasn't finished
+abbrev pub IsPartlyMade : Text → List ℕ → Meaning → Meaning → Type 0
+IsPartlyMade name bytes old new = (m : Meaning) × (rest : List ℕ) × IsUntouched old m × HasWritten (after_create name m) new bytes rest
+
+-- nothing of the file, a front or all of it was made
+abbrev pub IsBegun : Text → List ℕ → Meaning → Meaning → Type 0
+IsBegun name bytes old new = IsUntouched old new ⊎ (IsPartlyMade name bytes old new ⊎ IsMade name bytes old new)
+
+-- nothing was made, and the input wasn't accepted
+abbrev pub IsRefused : ℕ → Meaning → Meaning → Type 0
+IsRefused blocks old new = (blocks ≡ 0) × IsUntouched old new
+
+-- nothing was made, or the input was accepted and its output begun
+abbrev pub IsCutShort : Text → List ℕ → ℕ → Meaning → Meaning → Type 0
+IsCutShort name input blocks old new = IsRefused blocks old new ⊎ ((blocks ≡ 1) × Verdict input status.Done × IsBegun name (output input) old new)
+
+-- what stands after a status, and the blocks that are told
+abbrev pub Leaves : Text → List ℕ → Status → ℕ → Meaning → Meaning → Type 0
+Leaves name input status.Done blocks old new = (blocks ≡ 1) × IsMade name (output input) old new
+Leaves name input status.Words blocks old new = IsRefused blocks old new
+Leaves name input (status.Limit number found) blocks old new = IsRefused blocks old new
+Leaves name input status.Form blocks old new = IsRefused blocks old new
+Leaves name input status.ReadFault blocks old new = IsRefused blocks old new
+Leaves name input status.WriteFault blocks old new = IsCutShort name input blocks old new
+Leaves name input status.NoMemory blocks old new = IsCutShort name input blocks old new
+
+-- how a run over good words ends on an input, which is what the file named IN holds at the beginning, where that is told
+pub record EndsOn (request : Request) (input : List ℕ) (s : Status) (blocks : ℕ) (old new : Meaning) : Type 0 where
+  pub told : IfSome (joined (old.holds request.from)) (λ bytes. input ≡ bytes)
+  pub verdict : IsVerdict s → Verdict input s
+  pub leaves : Leaves request.to input s blocks old new
+
+-- how a run over good words ends
+pub record Ends (request : Request) (s : Status) (blocks : ℕ) (old new : Meaning) (before now : Option (List ℕ)) : Type 0 where
+  pub input : List ℕ
+  pub files : EndsOn request input s blocks old new
+  pub said : Says s (line_of s blocks (length (output input))) before now
+
+-- how a run over other words ends
+pub record EndsAtWords (s : Status) (blocks : ℕ) (old new : Meaning) (before now : Option (List ℕ)) : Type 0 where
+  pub words : (s ≡ status.Words) ⊎ ((s ≡ status.WriteFault) ⊎ (s ≡ status.NoMemory))
+  pub files : new ≡ old
+  pub none : blocks ≡ 0
+  pub said : Says s (line_of s 0 0) before now
+
+-- how a run ends
+pub record Outcome (words : List Text) (s : Status) (blocks : ℕ) (old new : Meaning) (before now : Option (List ℕ)) : Type 0 where
+  pub good : is_good words ≡ true → Ends (request_of words) s blocks old new before now
+  pub bad : is_good words ≡ false → EndsAtWords s blocks old new before now
+
+-- how the files are left by a run over good words, before anything is said; `bytes` is the output's length after Done
+pub record EndsFiles (request : Request) (s : Status) (blocks bytes : ℕ) (old new : Meaning) : Type 0 where
+  pub input : List ℕ
+  pub files : EndsOn request input s blocks old new
+  pub length_told : s ≡ status.Done → bytes ≡ length (output input)
+
+-- the status after a line was said: the same, or a fault of the sink, or want of memory
+abbrev pub EndsAs : Status → List ℕ → Status → Option (List ℕ) → Option (List ℕ) → ℕ → ℕ → Type 0
+EndsAs s line late before now fault_before fault_now =
+    ((late ≡ s) × Says s line before now)
+    ⊎ (((late ≡ status.WriteFault) × (now ≡ before) × Rose fault_before fault_now)
+    ⊎ ((late ≡ status.NoMemory) × (now ≡ before)))

@@ -1,0 +1,57 @@
+/// How a run ended.
+#[derive(Clone, Copy, Debug, PartialEq, Eq)]
+pub enum Status {
+    /// The output was written, and the line was said.
+    Done,
+    /// The words are no command.
+    Words,
+    /// A limit was passed: its number, and what was counted.
+    Limit { number: u8, found: u128 },
+    /// The input is none of the codestreams that this version rewrites.
+    Form,
+    /// The input couldn't be opened or read.
+    ReadFault,
+    /// The output couldn't be created, written or finished, or the line couldn't be said.
+    WriteFault,
+    /// Memory was refused.
+    NoMemory,
+}
+
+impl Status {
+    ghost use Rattle.std.specs.Prelude.{◌≡◌};
+    ghost use Rattle.jx_recast.specs.Outcome.{number_of};
+
+    /// The number with which the program ends.
+    pub fn number(self) -> u8
+        ensures { result ≡ number_of self }
+    {
+        match self {
+            Status::Done => 0,
+            Status::Words => 2,
+            Status::Limit { .. } => 4,
+            Status::ReadFault => 7,
+            Status::WriteFault => 8,
+            Status::NoMemory => 9,
+            Status::Form => 10,
+        }
+    }
+}
+
+/// Which worker recoded a block, and the first block that wasn't in sequence when it was claimed.
+#[derive(Clone, Copy, Debug, PartialEq, Eq)]
+pub struct TapeEntry {
+    pub number: u32,
+    pub worker: u32,
+    pub seen: u32,
+}
+
+/// What a run tells its caller.
+#[derive(Debug, Drop)]
+pub struct Report {
+    /// How the run ended.
+    pub status: Status,
+    /// The code-blocks of the input once it was accepted, else 0.
+    pub blocks: u32,
+    /// The blocks that workers recoded, in their order. No block is recoded yet.
+    pub tape: Vec<TapeEntry>,
+}

@@ -1,0 +1,9 @@
+pub mod Header
+pub mod Place
+pub mod Shape
+pub mod TagTree
+pub mod Kept
+pub mod Leaves
+pub mod KeptLeaves
+pub mod Questions
+pub mod Scan

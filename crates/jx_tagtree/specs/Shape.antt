@@ -1,0 +1,66 @@
+-- The nodes of a tag tree (ITU-T T.800, B.10.2). They are numbered from the leaves' level up to the root, in raster order
+-- within a level. Each level is half as wide and high as the one below, rounded up.
+use Rattle.std.specs.Prelude.{◌≡◌, ℕ, zero, suc, ◌+◌, ◌-◌, ◌*◌, ◌/◌, ◌%◌, ◌^◌, ◌<◌, ◌≤◌, nat_lt, nat_le, Bool, ◌&&◌, List, [], ◌∷◌, if◌then◌else◌}
+use Rattle.jx_tagtree.specs.declared.shape.Level.{Level}
+
+-- the sizes that a tag tree may have, in leaves
+pub record IsShape (wide high : ℕ) : Type 0 where
+  pub some : 1 ≤ wide * high
+  pub few : wide * high ≤ 2 ^ 20
+
+-- the level of the leaves
+abbrev pub base : ℕ → ℕ → Level
+base wide high = record { first = 0; wide = wide; high = high }
+
+-- the level of the root has one node
+abbrev pub is_root : Level → Bool
+is_root level = nat_le level.wide 1 && nat_le level.high 1
+
+-- the next level
+abbrev pub over : Level → Level
+over level = record { first = level.first + level.wide * level.high; wide = (level.wide + 1) / 2; high = (level.high + 1) / 2 }
+
+-- the parent of a node of a level: a quarter of the place
+abbrev pub parent_at : Level → ℕ → ℕ
+parent_at level n =
+    (over level).first + (n - level.first) / level.wide / 2 * (over level).wide + (n - level.first) % level.wide / 2
+
+-- the number of the root, n levels above at most
+abbrev pub root_from : ℕ → Level → ℕ
+root_from zero level = level.first
+root_from (suc n) level = if is_root level then level.first else root_from n (over level)
+
+unfoldable pub root : ℕ → ℕ → ℕ
+root wide high = root_from 20 (base wide high)
+
+-- the parent of a node in a level or at most n above
+abbrev pub parent_from : ℕ → Level → ℕ → ℕ
+parent_from zero level node = node
+parent_from (suc n) level node = if nat_lt node (over level).first then parent_at level node else parent_from n (over level) node
+
+unfoldable pub parent : ℕ → ℕ → ℕ → ℕ
+parent wide high node = parent_from 20 (base wide high) node
+
+-- the way from a node of a level up to the root
+abbrev pub way_from : ℕ → Level → ℕ → List ℕ
+way_from zero level node = node ∷ []
+way_from (suc n) level node = if is_root level then node ∷ [] else node ∷ way_from n (over level) (parent_at level node)
+
+-- the way from a leaf to the root: the leaf first, and behind each node its parent
+unfoldable pub way : ℕ → ℕ → ℕ → List ℕ
+way wide high leaf = way_from 20 (base wide high) leaf
+
+-- a level with at most n above it
+pub record IsLevel (n : ℕ) (level : Level) : Type 0 where
+  pub some_wide : 1 ≤ level.wide
+  pub some_high : 1 ≤ level.high
+  pub wide : level.wide ≤ 2 ^ n
+  pub high : level.high ≤ 2 ^ n
+  pub few : level.wide * level.high ≤ 2 ^ 20
+  pub within : n ≤ 20
+  pub first : level.first ≤ (20 - n) * 2 ^ 20
+
+-- a node of a level
+pub record InLevel (level : Level) (node : ℕ) : Type 0 where
+  pub first : level.first ≤ node
+  pub last : node < level.first + level.wide * level.high

@@ -1,0 +1,83 @@
+ghost use Rattle.std.specs.Prelude.{◌≡◌, ◌+◌, ◌-◌, ◌<◌, ◌≤◌, ◌++◌, max, Some, None, IfOk, IfErr, length, slice_index, ℕ};
+ghost use Rattle.jx_tagtree.specs.Header.{Took, to_come, fault_of, exhausted};
+ghost use Rattle.jx_tagtree.specs.Scan.{scan, scan_one, scan_way, Zeros, Found, Scanned, PartRead};
+
+use crate::node::Node;
+use crate::shape::Way;
+use crate::{BitFault, BitReader};
+
+/// Reads the bits of a node that isn't settled, from what is known of it and of its parent.
+fn read_zeros(start: u32, threshold: u32, bits: &mut BitReader<'_>) -> Result<Node, BitFault>
+    ensures above { IfOk result (λ node. start ≤ node.known) }
+    ensures ok { IfOk result (λ node. scan (threshold - start) (to_come bits.old) ≡ Some (record { zeros = node.known - start; one = node.settled; rest = to_come bits.new })) }
+    ensures took { IfOk result (λ _. Took bits.old bits.new) }
+    ensures err { IfErr result (λ e. (scan (threshold - start) (to_come bits.old) ≡ None) × (e ≡ fault_of bits.old)) }
+    ensures given { IfErr result (λ _. bits.new ≡ exhausted bits.old) }
+{
+    let mut known = start;
+    while known < threshold {
+        if bits.bit()? {
+            return Ok(Node {
+                known,
+                settled: true,
+            });
+        }
+        known += 1;
+    }
+    Ok(Node {
+        known,
+        settled: false,
+    })
+}
+
+/// Reads the bits of a node at a threshold, from what is known of its parent.
+pub(crate) fn read_node(
+    node: Node,
+    above: u32,
+    threshold: u32,
+    bits: &mut BitReader<'_>,
+) -> Result<Node, BitFault>
+    ensures ok { IfOk result (λ after. scan_one threshold node above (to_come bits.old) ≡ Some (record { node = after; rest = to_come bits.new })) }
+    ensures took { IfOk result (λ _. Took bits.old bits.new) }
+    ensures err { IfErr result (λ e. (scan_one threshold node above (to_come bits.old) ≡ None) × (e ≡ fault_of bits.old)) }
+    ensures given { IfErr result (λ _. bits.new ≡ exhausted bits.old) }
+{
+    let start = node.known.max(above);
+    if node.settled {
+        return Ok(Node {
+            known: start,
+            settled: true,
+        });
+    }
+    read_zeros(start, threshold, bits)
+}
+
+/// Reads the bits of a way, from the root down to the leaf, and gives what is known of the leaf.
+pub(crate) fn read_way(
+    nodes: &mut Vec<Node>,
+    way: &Way,
+    threshold: u32,
+    bits: &mut BitReader<'_>,
+) -> Result<u32, BitFault>
+    requires { (k : ℕ) → k < length way.now → slice_index way.now k < length nodes.old.items }
+    ensures ok { IfOk result (λ known. scan_way threshold nodes.old.items way.now (to_come bits.old) ≡ Some (record { nodes = nodes.new.items; known = known; rest = to_come bits.new })) }
+    ensures took { IfOk result (λ _. Took bits.old bits.new) }
+    ensures err { IfErr result (λ e. (scan_way threshold nodes.old.items way.now (to_come bits.old) ≡ None) × (e ≡ fault_of bits.old)) }
+    ensures given { IfErr result (λ _. bits.new ≡ exhausted bits.old) }
+    ensures part { IfErr result (λ _. PartRead threshold nodes.old.items way.now (to_come bits.old) nodes.new.items) }
+{
+    let mut above = 0;
+    let mut place = way.len();
+    while place > 0 {
+        place -= 1;
+        let at = way.at(place) as usize;
+        match read_node(nodes[at], above, threshold, bits) {
+            Ok(node) => {
+                above = node.known;
+                nodes[at] = node;
+            }
+            Err(fault) => return Err(fault),
+        }
+    }
+    Ok(above)
+}

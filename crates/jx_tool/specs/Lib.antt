@@ -1,0 +1,1 @@
+-- The program cites no definition of its own.
