@@ -1,3 +1,8 @@
 -- Definitions that several crates cite.
+pub mod Markers
+pub mod MqReading
+pub mod MqTable
+pub mod MqWriting
 pub mod Numbers
 pub mod Places
+pub mod RawBits

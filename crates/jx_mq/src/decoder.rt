@@ -1,0 +1,166 @@
+ghost use Rattle.std.specs.Prelude.{◌≡◌, ◌+◌, ◌<◌, ◌≤◌, ℕ, min, length};
+ghost use Rattle.jx_base.specs.MqTable.{MqContexts, mq_row_of};
+ghost use Rattle.jx_base.specs.MqReading.{MqReader, mq_byte, mq_byte_in, mq_reader, mq_shifted_in, mq_refilled, mq_reads_mps, mq_chosen, mq_read, mq_bit, mq_after};
+ghost use Rattle.jx_mq.specs.Decoding.{MqDecoding, IsWithin, IsReading};
+
+use crate::contexts::Contexts;
+use std::marker::Model;
+
+/// The byte at a place, and FF past the end.
+fn byte_at(bytes: &[u8], place: usize) -> u8
+    ensures { result ≡ mq_byte bytes.now place }
+{
+    if place < bytes.len() {
+        bytes[place]
+    } else {
+        0xFF
+    }
+}
+
+/// The registers A, C and CT, the place of the byte B, and how many bytes were read or compared.
+#[derive(Drop)]
+struct Registers {
+    a: u32,
+    c: u32,
+    ct: u8,
+    place: usize,
+    looked: usize,
+}
+
+impl Model for Registers {
+    ghost Value = { MqReader };
+
+    ghost view = { λ r. record { a = r.a; c = r.c; ct = r.ct; place = r.place; looked = r.looked } };
+}
+
+impl Registers {
+    /// BYTEIN (Annex C.3.4).
+    fn byte_in(&mut self, bytes: &[u8])
+        requires { IsWithin bytes.now self.old }
+        ensures registers { self.new ≡ mq_byte_in bytes.now self.old }
+        ensures within { IsWithin bytes.now self.new }
+    {
+        let current = byte_at(bytes, self.place);
+        let next = byte_at(bytes, self.place + 1);
+        self.looked = self.place + 2;
+        if current == 0xFF && next > 0x8F {
+            self.c = self.c.wrapping_add(0xFF00);
+            self.ct = 8;
+            return;
+        }
+        self.place += 1;
+        if current == 0xFF {
+            self.c = self.c.wrapping_add(next as u32 * 512);
+            self.ct = 7;
+            return;
+        }
+        self.c = self.c.wrapping_add(next as u32 * 256);
+        self.ct = 8;
+    }
+
+    /// One shift of RENORMD (Annex C.3.3).
+    fn shift(&mut self, bytes: &[u8])
+        requires within { IsWithin bytes.now self.old }
+        requires room { self.old.a < 32768 }
+        ensures registers { self.new ≡ mq_shifted_in bytes.now self.old }
+        ensures within { IsWithin bytes.now self.new }
+    {
+        if self.ct == 0 {
+            self.byte_in(bytes);
+        }
+        self.a *= 2;
+        self.c = self.c << 1;
+        self.ct -= 1;
+    }
+
+    /// RENORMD (Annex C.3.3).
+    fn refill(&mut self, bytes: &[u8])
+        requires within { IsWithin bytes.now self.old }
+        requires some { 0 < self.old.a }
+        requires room { self.old.a < 65536 }
+        ensures registers { self.new ≡ mq_refilled bytes.now 15 self.old }
+        ensures reading { IsReading bytes.now self.new }
+    {
+        while self.a < 0x8000 {
+            self.shift(bytes);
+        }
+    }
+
+    /// Narrows the interval to the part in which the code lies, and says whether that part is the
+    /// more probable symbol's (Annex C.3.2).
+    fn choose(&mut self, qe: u32) -> bool
+        requires most { qe ≤ self.old.a }
+        requires room { self.old.a < 65536 }
+        ensures is_mps { result ≡ mq_reads_mps self.old qe }
+        ensures registers { self.new ≡ mq_chosen self.old qe }
+    {
+        let rest = self.a - qe;
+        if self.c >> 16 < qe {
+            self.a = qe;
+            return rest < qe;
+        }
+        self.c -= qe << 16;
+        self.a = rest;
+        rest >= qe
+    }
+}
+
+/// A decoder of one segment. It allocates nothing, and gives a decision for any bytes.
+#[derive(Drop)]
+pub struct MqDecoder<'a> {
+    bytes: &'a [u8],
+    registers: Registers,
+}
+
+impl<'a> Model for MqDecoder<'a> {
+    ghost Value = { MqDecoding };
+
+    ghost view = { λ d. record { bytes = d.bytes.now; reader = d.registers } };
+
+    ghost invariant = { λ d. IsReading d.bytes.now d.registers };
+}
+
+impl<'a> MqDecoder<'a> {
+    /// A decoder at the start of a segment (Annex C.3.5).
+    pub fn new(bytes: &'a [u8]) -> MqDecoder<'a>
+        ensures bytes { result.bytes ≡ bytes.now }
+        ensures reader { result.reader ≡ mq_reader bytes.now }
+    {
+        let mut registers = Registers {
+            a: 0x8000,
+            c: byte_at(bytes, 0) as u32 * 65536,
+            ct: 0,
+            place: 0,
+            looked: 1,
+        };
+        registers.byte_in(bytes);
+        registers.c = registers.c << 7;
+        registers.ct -= 7;
+        MqDecoder { bytes, registers }
+    }
+
+    /// The next decision under a label, which is below 19.
+    pub fn bit(&mut self, contexts: &mut Contexts, label: u8) -> bool
+        requires { label < 19 }
+        ensures bit { result ≡ mq_bit self.old.reader contexts.old label }
+        ensures contexts { contexts.new ≡ mq_after self.old.reader contexts.old label }
+        ensures bytes { self.new.bytes ≡ self.old.bytes }
+        ensures reader { self.new.reader ≡ mq_read self.old.bytes self.old.reader (mq_row_of contexts.old label).qe }
+    {
+        let row = contexts.row(label);
+        let symbol = contexts.symbol(label);
+        let qe = row.qe as u32;
+        let rest = self.registers.a - qe;
+        let is_mps = self.registers.choose(qe);
+        contexts.adapt(label, row, rest, is_mps);
+        self.registers.refill(self.bytes);
+        symbol == is_mps
+    }
+
+    /// How many bytes of the segment were read or compared so far.
+    pub fn looked(&self) -> usize
+        ensures { result ≡ min self.now.reader.looked (length self.now.bytes) }
+    {
+        self.registers.looked.min(self.bytes.len())
+    }
+}

@@ -1,0 +1,14 @@
+//! The arithmetic coder of bit-plane decisions (ITU-T T.800, Annex C): contexts, decoder, encoder.
+#![tactic(auto)]
+
+mod contexts;
+mod decoder;
+mod encoder;
+pub mod laws;
+mod table;
+#[cfg(test)]
+mod tests;
+
+pub use contexts::Contexts;
+pub use decoder::MqDecoder;
+pub use encoder::MqEncoder;

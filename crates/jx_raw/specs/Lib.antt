@@ -1,0 +1,2 @@
+pub mod RawReading
+pub mod RawWriting

@@ -1,0 +1,24 @@
+//! Laws of raw bits, over their definitions alone.
+
+ghost use Rattle.std.specs.Prelude.{◌≡◌, ◌≤◌, ℕ, ◌+◌, ◌-◌, Bool, List, [], ◌∷◌, ◌++◌, length, take, drop};
+ghost use Rattle.jx_base.specs.Markers.{HasNoMarker};
+ghost use Rattle.jx_base.specs.RawBits.{raw_bits, raw_read, raw_looked, raw_write};
+ghost use Rattle.jx_raw.specs.RawReading.{first_or_one};
+
+/// What was written of some bits is read back, and has no FF before a byte above 8F and none at
+/// its end.
+pub fn raw_bits_are_read_back()
+    ensures bits { (bits : List Bool) → raw_read (raw_write bits) (length bits) ≡ bits }
+    ensures markers { (bits : List Bool) → HasNoMarker 0 (raw_write bits) }
+{}
+
+/// The first bits of a segment are those that a reader gives one by one, and depend only on the
+/// bytes that it looked at for them.
+pub fn raw_bits_one_by_one()
+    ensures next { (segment : List ℕ) → (n : ℕ) →
+        raw_read segment (n + 1) ≡ raw_read segment n ++ first_or_one (drop n (raw_bits segment)) ∷ [] }
+    ensures looked { (segment : List ℕ) → (n : ℕ) →
+        raw_looked segment (length (raw_bits segment) - length (drop n (raw_bits segment))) ≡ raw_looked segment n }
+    ensures cut { (segment : List ℕ) → (n : ℕ) → (k : ℕ) →
+        raw_looked segment n ≤ k → raw_read (take k segment) n ≡ raw_read segment n }
+{}

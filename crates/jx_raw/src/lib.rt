@@ -1,0 +1,12 @@
+//! Raw bits, as segments that bypass the arithmetic coder have them (ITU-T T.800, Annex D.6): the
+//! most significant bit of a byte first, seven bits in a byte after FF, and 1 past the end.
+#![tactic(auto)]
+
+pub mod laws;
+mod reader;
+#[cfg(test)]
+mod tests;
+mod writer;
+
+pub use reader::RawReader;
+pub use writer::RawWriter;
