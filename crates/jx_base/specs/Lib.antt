@@ -5,4 +5,5 @@ pub mod MqTable
 pub mod MqWriting
 pub mod Numbers
 pub mod Places
+pub mod Passes
 pub mod RawBits

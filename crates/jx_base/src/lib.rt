@@ -4,7 +4,9 @@
 mod memory;
 mod names;
 mod numbers;
+mod style;
 
 pub use memory::NoMemory;
 pub use names::{Band, BlockName, Rect, Span};
 pub use numbers::{ceil_div, ceil_shift};
+pub use style::{Style, ends_segment, is_raw};
