@@ -1,5 +1,5 @@
 -- Before any call was made.
-use Rattle.std.proofs.Common.{◌≡◌, ℕ, [], ◌∷◌, refl}
+use Rattle.std.proofs.Common.{◌≡◌, [], ◌∷◌, refl}
 use Rattle.jx_outside.specs.declared.plan.Call.{Call}
 use Rattle.jx_outside.specs.declared.plan.Call.TheVariants.{Open, Read, Create, Write, Finish}
 use Rattle.jx_outside.specs.declared.plan.Plan.{Plan}

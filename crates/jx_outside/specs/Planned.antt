@@ -1,5 +1,5 @@
 -- Which calls of files in memory are to fail.
-use Rattle.std.specs.Prelude.{ℕ, ◌+◌, ◌-◌, ◌^◌, List, slice_index, min}
+use Rattle.std.specs.Prelude.{ℕ, ◌+◌, ◌-◌, ◌^◌, slice_index, min}
 use Rattle.jx_outside.specs.declared.plan.Call.{Call}
 use Rattle.jx_outside.specs.declared.plan.Call.TheVariants.{Open, Read, Create, Write, Finish}
 use Rattle.jx_outside.specs.declared.plan.Plan.{Plan}

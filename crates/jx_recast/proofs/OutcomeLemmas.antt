@@ -1,14 +1,13 @@
 -- Runs after what left the files as they were, on inputs that were cut, and with their line said.
-use Rattle.std.proofs.Common.{◌≡◌, ◌⊎◌, ◌∙◌, ◌<◌, ◌≤◌, ◌+◌, ◌^◌, min, ℕ, Bool, true, false, List, [], length, take, inl, inr, sym, refl, ap, subst, Option, Some, None, IfSome, arith}
+use Rattle.std.proofs.Common.{◌≡◌, ◌⊎◌, ◌∙◌, ◌<◌, ◌≤◌, ◌+◌, min, ℕ, List, [], length, take, inl, inr, refl, ap, Option, Some, None, IfSome, arith}
 use Rattle.std.proofs.lemmas.List.{take_all, length-take}
 use Rattle.std.proofs.lemmas.Bool.{cases_lt}
-use Rattle.jx_outside.specs.Causes.{Rose}
 use Rattle.jx_outside.specs.Device.{Meaning, joined}
 use Rattle.jx_recast.specs.declared.status.Status.{Status}
 use Rattle.jx_recast.specs.declared.status.Status.TheVariants as status
-use Rattle.jx_recast.specs.Words.{Text, Request, is_good, request_of}
+use Rattle.jx_recast.specs.Words.{Text, Request}
 use Rattle.jx_recast.specs.Small.{IsSmall, output}
-use Rattle.jx_recast.specs.Outcome.{IsUntouched, IsMade, IsPartlyMade, IsBegun, IsRefused, IsCutShort, Leaves, IsVerdict, Verdict, EndsOn, Ends, EndsFiles, EndsAtWords, EndsAs, Outcome, Says, line_of, most_bytes}
+use Rattle.jx_recast.specs.Outcome.{IsUntouched, IsMade, IsBegun, IsRefused, IsCutShort, Leaves, IsVerdict, Verdict, Ends, EndsFiles, EndsAtWords, EndsAs, line_of, most_bytes}
 
 pub untouched_twice : (a b c : Meaning) → IsUntouched a b → IsUntouched b c → IsUntouched a c
 untouched_twice a b c first next = record {

@@ -1,5 +1,5 @@
 -- The smallest codestreams.
-use Rattle.std.proofs.Common.{◌≡◌, ◌∙◌, ◌<◌, ℕ, true, nat_lt, arith, List, [], ◌∷◌, ◌++◌, length, drop, refl, sym, ap, subst, lit<, Option, Some, None, slice_index}
+use Rattle.std.proofs.Common.{◌≡◌, ◌∙◌, ◌<◌, ℕ, true, nat_lt, arith, List, [], ◌∷◌, ◌++◌, drop, refl, sym, ap, subst, lit<, Some, None, slice_index}
 use Rattle.std.proofs.Math.Seq.{drop-append_seam}
 use Rattle.std.proofs.lemmas.Bool.Decides.{nat_tests}
 use Rattle.jx_marker.specs.declared.Segment.{Segment}
@@ -8,11 +8,11 @@ use Rattle.jx_marker.specs.declared.Siz.{Siz}
 use Rattle.jx_marker.specs.declared.Cod.{Cod}
 use Rattle.jx_marker.specs.declared.Quant.{Quant}
 use Rattle.jx_marker.specs.declared.Sot.{Sot}
-use Rattle.jx_marker.specs.Segments.{spelling, segment_at, size_at, body_at}
+use Rattle.jx_marker.specs.Segments.{spelling, body_at}
 use Rattle.jx_marker.specs.Values.{siz_at, cod_at, quant_at, sot_at}
 use Rattle.jx_marker.specs.Rules.{first_broken}
 use Rattle.jx_marker.specs.Ranges.{InRange, SizInRange, CodInRange, QuantInRange, SotInRange}
-use Rattle.jx_marker.specs.Laws.{StandsAt, BeginsWith}
+use Rattle.jx_marker.specs.Laws.{BeginsWith}
 use Rattle.jx_marker.proofs.SpelledLemmas.{segment_is_read}
 use Rattle.jx_marker.proofs.OneLemmas.{at_most_one}
 use Rattle.jx_recast.specs.declared.small.Headers.{Headers}

@@ -1,5 +1,5 @@
 -- What stands at the front of some bytes of a codestream with one component.
-use Rattle.std.specs.Prelude.{◌≡◌, ℕ, List}
+use Rattle.std.specs.Prelude.{ℕ, List}
 use Rattle.jx_marker.specs.declared.Segment.{Segment}
 use Rattle.jx_marker.specs.Laws.{BeginsWith}
 

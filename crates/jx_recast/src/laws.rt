@@ -6,17 +6,13 @@ ghost use Rattle.jx_recast.specs.Small.{AreInRange, IsSmall, Spells, headers_at,
 
 /// The bytes of a codestream of this form tell its headers and its packet.
 pub fn one_reading()
-    ensures headers {
-        (bytes : List ℕ) (h : Headers) (packet : ℕ) → Spells bytes h packet → h ≡ headers_at bytes
-    }
+    ensures headers { (bytes : List ℕ) (h : Headers) (packet : ℕ) → Spells bytes h packet → h ≡ headers_at bytes }
     ensures packet { (bytes : List ℕ) (h : Headers) (packet : ℕ) → Spells bytes h packet → packet ≡ packet_at bytes }
-{
-}
+{}
 
 /// The output of an accepted input is spelled again by segments in their ranges: the input's own, but
 /// for the profile, the announced SOP, and the tile-part's length and number.
 pub fn output_is_spelled()
     ensures ranges { (bytes : List ℕ) → IsSmall bytes → AreInRange (with_sop (headers_at bytes)) }
     ensures spelled { (bytes : List ℕ) → output bytes ≡ spelled (with_sop (headers_at bytes)) marked_packet }
-{
-}
+{}

@@ -1,5 +1,4 @@
-use Rattle.std.proofs.Common.{◌≡◌, ◌≤◌, ◌-◌, length, IsTrue, vec_len}
-use Rattle.jx_outside.specs.Causes.{HasCause}
+use Rattle.std.proofs.Common.{◌≡◌, ◌≤◌, ◌-◌, IsTrue, vec_len}
 use Rattle.jx_outside.specs.Device.{Allows}
 use Rattle.jx_recast.specs.Progress.{SameButLeft, HasRead}
 use Rattle.jx_recast.proofs.device.read_all.Given as goal

@@ -1,4 +1,4 @@
-use Rattle.std.proofs.Common.{rules, arith, take, sym}
+use Rattle.std.proofs.Common.{rules, arith, take}
 use Rattle.std.proofs.lemmas.Grind.{common_steps}
 use Rattle.jx_recast.proofs.ProgressLemmas.{has_written_more}
 use Rattle.jx_recast.proofs.device.write_all.Goals as goal

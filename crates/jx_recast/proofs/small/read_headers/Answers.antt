@@ -1,4 +1,3 @@
-use Rattle.std.proofs.Common.{◌≡◌, ℕ, List}
 use Rattle.jx_recast.specs.declared.small.Headers.{Headers}
 use Rattle.jx_recast.specs.Small.{Spells, headers_at, packet_at}
 use Rattle.jx_recast.proofs.SmallLemmas.{spelled_headers, spelled_packet, left_after_soc, left_after_siz, left_after_cod, left_after_quant, left_after_sot, left_after_sod, no_soc, no_siz, no_cod, no_quant, no_sot, no_sod, spells_read}

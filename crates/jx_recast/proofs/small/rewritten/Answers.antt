@@ -1,6 +1,6 @@
-use Rattle.std.proofs.Common.{◌≡◌, ◌∙◌, sym, ap, arith, ℕ, List, true}
+use Rattle.std.proofs.Common.{◌≡◌, ◌∙◌, sym, ap, arith}
 use Rattle.jx_recast.specs.declared.small.Headers.{Headers}
-use Rattle.jx_recast.specs.Small.{Spells, headers_at, packet_at, is_one_of_each, spelled, with_sop, marked_packet}
+use Rattle.jx_recast.specs.Small.{Spells, headers_at, packet_at, spelled, marked_packet}
 use Rattle.jx_recast.proofs.SmallLemmas.{small_read, output_read}
 use Rattle.jx_recast.proofs.small.rewritten.Goals as goal
 

@@ -1,7 +1,5 @@
-use Rattle.std.proofs.Common.{ℕ, List, ◌≡◌, sym}
 use Rattle.jx_marker.specs.declared.Segment.{Segment}
 use Rattle.jx_marker.specs.declared.Segment.TheVariants as segment
-use Rattle.jx_marker.specs.Laws.{BeginsWith}
 use Rattle.jx_recast.specs.Fronts.{LacksThis}
 use Rattle.jx_recast.proofs.small.siz_front.Goals as goal
 
