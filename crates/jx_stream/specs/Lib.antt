@@ -1,0 +1,3 @@
+-- What a codestream's headers and tile-parts are, and the first rule that a file violates (ITU-T T.800, Annex A).
+pub mod Faults
+pub mod Headers
