@@ -1,3 +1,4 @@
 -- What a codestream's headers and tile-parts are, and the first rule that a file violates (ITU-T T.800, Annex A).
 pub mod Faults
 pub mod Headers
+pub mod Parts

@@ -163,7 +163,7 @@ pub fn read_header(
     requires slots { length seen.old ≡ slot_count comps }
     requires fresh { (slot : ℕ) → slice_index seen.old slot < at }
     ensures answer { Answers result (header_fault kind comps bytes.now at) (λ header. header ≡ header_at kind comps bytes.now at) }
-    ensures within { IfOk result (λ header. (at ≤ header.end) × (header.end ≤ length bytes.now)) }
+    ensures within { IfOk result (λ header. (at ≤ header.end) × (header.end + 2 ≤ length bytes.now)) }
     ensures marks { IfOk result (λ header. Marks at header.segments seen.new) }
 {
     let start = at as u32;

@@ -4,6 +4,7 @@
 mod faults;
 mod headers;
 mod lists;
+mod parts;
 
 pub use faults::StreamFault;
 pub use lists::{Bodies, Segments, Tiles};

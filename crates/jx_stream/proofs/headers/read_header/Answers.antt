@@ -1,7 +1,8 @@
 use Rattle.std.proofs.Common.{◌≡◌, ◌∙◌, ◌<◌, ◌≤◌, ◌-◌, ◌+◌, arith, length, drop, sym, refl, ap, true, false}
 use Rattle.std.proofs.lemmas.Result.{err_from_is_err_and}
+use Rattle.jx_marker.specs.Segments.{size_at}
 use Rattle.jx_stream.specs.Headers.{ends_header, is_second}
-use Rattle.jx_stream.proofs.HeaderLemmas.{read_early, read_second, read_end, read_more, marks_none, marks_at, second_at, progress}
+use Rattle.jx_stream.proofs.HeaderLemmas.{read_early, read_second, read_end, read_more, marks_none, marks_at, second_at, progress, size_is_two}
 use Rattle.jx_stream.proofs.headers.read_header.Goals as goal
 
 pub returns-in_err-segment-clause-answer : goal.returns-in_err-segment-clause-answer
@@ -38,3 +39,8 @@ segments-preserved c =
       marks = marks_at c.args.comps c.args.at c.segments.segments.items c.push.new.self.items c.in_ok-segment.segment c.slot_of.result c.segments.seen c.mark.new.seen c.slot_of.ensures c.in_ok-segment.ensures.range
           (c.segments.auto.seen ∙ c.requires.slots) c.mark.ensures.after c.in_ok-push.ensures.items c.segments.invariant.marks;
     }
+
+pub returns-then-ends_header-clause-within : goal.returns-then-ends_header-clause-within
+returns-then-ends_header-clause-within c =
+    let two : 2 ≤ size_at (drop c.segments.place c.args.bytes.now) = size_is_two (drop c.segments.place c.args.bytes.now) in
+    (c.segments.invariant.from, omega (arith, c.in_ok-segment.ensures.after.0, c.in_ok-segment.ensures.after.1))

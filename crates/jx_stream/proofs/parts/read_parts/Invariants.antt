@@ -1,0 +1,14 @@
+use Rattle.std.proofs.Common.{◌≡◌, ◌≤◌, ℕ, length, ◌-◌, get_or}
+use Rattle.jx_stream.specs.Parts.{longest_parts, parts_from, Tracks}
+use Rattle.jx_stream.proofs.parts.read_parts.Given as goal
+
+abbrev pub invariant-parts : goal.invariant-parts
+invariant-parts l = record {
+  within : l.place ≤ length l.bytes;
+  same : longest_parts l.comps (length l.fn.counts) l.bytes (length l.bytes) l.parts.items l.place ≡ parts_from l.comps (length l.fn.counts) l.bytes l.at;
+  tracks : Tracks l.parts.items l.counts l.told;
+  fresh : (slot : ℕ) → get_or l.seen slot 0 ≤ l.place;
+}
+
+abbrev pub decreases-parts : goal.decreases-parts
+decreases-parts l = length l.bytes - l.place
