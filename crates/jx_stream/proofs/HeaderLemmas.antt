@@ -23,7 +23,7 @@ use Rattle.jx_stream.specs.Faults.{broken, rule_at, fault_of, IsCause}
 use Rattle.jx_stream.specs.Headers.{stands_in, ends_header, slot_of, slot_count, has_slot, is_second, early_fault, segment_fault, stops, longest, header_at, header_fault, Marks}
 use Rattle.jx_stream.proofs.FaultLemmas.{cause_first, cause_same, none_of_both, broken_false, broken_true}
 
-is_or_not_true : (x : Bool) → (x ≡ true) ⊎ (x ≡ false)
+pub is_or_not_true : (x : Bool) → (x ≡ true) ⊎ (x ≡ false)
 is_or_not_true true = inl refl
 is_or_not_true false = inr refl
 
@@ -312,3 +312,16 @@ pub progress : (b : List ℕ) (at next : ℕ) → next ≡ at + size_at (drop at
 progress b at next after within =
     let two : 2 ≤ size_at (drop at b) = size_is_two (drop at b) in
     (omega arith, omega arith, omega arith)
+
+-- a header doesn't end before its start
+pub longest_rises : (kind : HeaderKind) (comps : ℕ) (b : List ℕ) (n : ℕ) (before : List Segment) (at : ℕ) → at ≤ (longest kind comps b n before at).end
+unfolding longest
+longest_rises kind comps b zero before at = omega arith
+longest_rises kind comps b (suc n) before at =
+    elim (is_or_not_true (stops kind comps b before at)) [
+      | inl t ↦ rw (longest_stops kind comps b (suc n) before at t) (omega arith)
+      | inr f ↦
+        let later : at + size_at (drop at b) ≤ (longest kind comps b n (before ++ segment_at comps (drop at b) ∷ []) (at + size_at (drop at b))).end =
+            longest_rises kind comps b n (before ++ segment_at comps (drop at b) ∷ []) (at + size_at (drop at b)) in
+        rw (longest_goes kind comps b n before at f) (omega arith)
+    ]
