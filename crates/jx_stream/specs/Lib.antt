@@ -2,3 +2,4 @@
 pub mod Faults
 pub mod Headers
 pub mod Parts
+pub mod Tiles

@@ -5,6 +5,7 @@ mod faults;
 mod headers;
 mod lists;
 mod parts;
+mod tiles;
 
 pub use faults::StreamFault;
 pub use lists::{Bodies, Segments, Tiles};
