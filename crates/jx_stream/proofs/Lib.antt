@@ -1,3 +1,4 @@
 pub mod FaultLemmas
 pub mod HeaderLemmas
 pub mod PartLemmas
+pub mod TileLemmas

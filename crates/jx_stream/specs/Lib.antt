@@ -3,3 +3,5 @@ pub mod Faults
 pub mod Headers
 pub mod Parts
 pub mod Tiles
+pub mod Params
+pub mod Index

@@ -1,7 +1,6 @@
 -- Tiles: what their tile-parts say together (T.800, A.4.2 and B.3).
 use Rattle.std.specs.Prelude.{◌≡◌, ℕ, ◌+◌, ◌==◌, Bool, true, false, List, [], ◌∷◌, length, drop, map, Option, None, Some, find, if◌then◌else◌}
 use Rattle.std.specs.List.{filter, flat_map, range_with_len}
-use Rattle.std.specs.Option.{option_or}
 use Rattle.jx_marker.specs.declared.Segment.{Segment}
 use Rattle.jx_marker.specs.declared.Segment.TheVariants as segment
 use Rattle.jx_marker.specs.declared.Progression.{Progression}
@@ -50,15 +49,15 @@ abbrev pub first_place : List Part → ℕ
 first_place [] = 0
 first_place (p ∷ later) = p.place
 
--- the first of three lists that isn't empty, or the last
-abbrev pub first_list : List Progression → List Progression → List Progression → List Progression
-first_list [] [] last = last
-first_list [] (entry ∷ entries) last = entry ∷ entries
-first_list (entry ∷ entries) second last = entry ∷ entries
+-- the first of two lists, or the second where it is empty
+abbrev pub or_list : List Progression → List Progression → List Progression
+or_list [] second = second
+or_list (entry ∷ entries) second = entry ∷ entries
 
--- the tile's own entries, joined over its tile-parts, else the main header's, else the one of its COD
+-- the tile's own entries, joined over its tile-parts, else the main header's, else the one of its COD, else of the main COD
 abbrev pub progressions_of : List Segment → List Part → List Progression
-progressions_of main own = first_list (joined (headers_of own)) (joined main) (entry_in (option_or (in_slot 1 (first_header own)) (in_slot 1 main)))
+progressions_of main own =
+    or_list (joined (headers_of own)) (or_list (joined main) (or_list (entry_in (in_slot 1 (first_header own))) (entry_in (in_slot 1 main))))
 
 -- the tile of these tile-parts
 abbrev pub tile_from : List Segment → List Part → Tile

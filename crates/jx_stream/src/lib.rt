@@ -3,6 +3,7 @@
 
 mod faults;
 mod headers;
+mod index;
 mod lists;
 mod parts;
 mod tiles;

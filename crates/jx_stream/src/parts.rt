@@ -1,6 +1,8 @@
 ghost use Rattle.std.specs.Prelude.{◌≡◌, ◌≤◌, ◌<◌, ◌+◌, ◌-◌, ◌^◌, ◌==◌, ◌&&◌, not, nat_lt, true, false, length, drop, slice_index, slice_set, IfOk, Some, None, ℕ, [], if◌then◌else◌};
 ghost use Rattle.jx_marker.specs.declared.Segment.{Segment};
 ghost use Rattle.jx_marker.specs.Segments.{segment_at};
+ghost use Rattle.std.specs.List.{All};
+ghost use Rattle.jx_stream.specs.declared.parts.Part.{Part};
 ghost use Rattle.jx_stream.specs.Faults.{Answers};
 ghost use Rattle.jx_stream.specs.Headers.{slot_count, Marks};
 ghost use Rattle.jx_stream.specs.Parts.{marker_at, sot_in, after_sot, kind_of, start_fault, sot_fault, sod_fault, is_out_of_turn, has_wrong_length, end_of, part_at, part_fault, tables_say,  parts_fault, parts_from, end_of_part, Tracks};
@@ -204,6 +206,7 @@ pub fn read_parts(
     ensures answer { Answers result (parts_fault comps (length counts.old) bytes.now at)
         (λ r. (r.0.items ≡ (parts_from comps (length counts.old) bytes.now at).parts) × (r.1 ≡ (parts_from comps (length counts.old) bytes.now at).end)) }
     ensures tracks { IfOk result (λ r. Tracks r.0.items counts.new told.new) }
+    ensures tiles { IfOk result (λ r. All (λ (part : Part). part.sot.tile < length counts.old) r.0.items) }
     ensures end { IfOk result (λ r. r.1 ≤ length bytes.now) }
 {
     let mut parts = Vec::new(alloc);

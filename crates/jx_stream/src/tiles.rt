@@ -1,9 +1,12 @@
 ghost use Rattle.std.specs.Prelude.{◌≡◌, ◌≤◌, ◌<◌, ◌+◌, ◌==◌, ◌++◌, ◌∷◌, [], List, length, map, IfOk, OnOk, ℕ, MatchOption, Some, None, if◌then◌else◌, slice_index_or};
 ghost use Rattle.std.specs.List.{filter, flat_map};
-ghost use Rattle.std.specs.Option.{option_or};
+ghost use Rattle.std.specs.Option.{option_to_list};
+ghost use Rattle.std.specs.List.{All};
+ghost use Rattle.jx_marker.specs.declared.Segment.{Segment};
+ghost use Rattle.jx_stream.specs.declared.tiles.Draft.{Draft};
 ghost use Rattle.jx_stream.specs.declared.parts.Part.{Part};
 ghost use Rattle.jx_stream.specs.Headers.{slot_of};
-ghost use Rattle.jx_stream.specs.Tiles.{in_slot, joined, is_com, entry_in, entries_of, first_list, tile_from, tiles_of, Collects};
+ghost use Rattle.jx_stream.specs.Tiles.{in_slot, joined, is_com, entry_in, entries_of, or_list, tile_from, tiles_of, Collects};
 ghost use Rattle.jx_stream.specs.Parts.{parts_of};
 
 use crate::headers::slot_of;
@@ -92,4 +95,135 @@ impl Draft {
         self.bodies.push(part.body)?;
         Ok(())
     }
+}
+
+/// Drafts of so many tiles without tile-parts.
+fn empty_drafts(alloc: Global, count: usize) -> Result<Vec<Draft>, AllocError>
+    ensures count { IfOk result (λ drafts. length drafts.items ≡ count) }
+    ensures each { IfOk result (λ drafts. (tile : ℕ) (other : Draft) → tile < count → Collects [] (slice_index_or drafts.items tile other)) }
+{
+    let mut drafts = Vec::new(alloc);
+    for _ in 0..count {
+        drafts.push(Draft::new(alloc))?;
+    }
+    Ok(drafts)
+}
+
+/// The drafts of so many tiles, each with its tile-parts in their order.
+fn collect_parts(alloc: Global, parts: Vec<Part>, count: usize) -> Result<Vec<Draft>, AllocError>
+    requires { All (λ (part : Part). part.sot.tile < count) parts.items }
+    ensures count { IfOk result (λ drafts. length drafts.items ≡ count) }
+    ensures each { IfOk result (λ drafts. (tile : ℕ) (other : Draft) → tile < count → Collects (parts_of tile parts.items) (slice_index_or drafts.items tile other)) }
+{
+    let mut drafts = empty_drafts(alloc, count)?;
+    for part in parts {
+        let tile = usize::from(part.sot.tile);
+        drafts[tile].add(part)?;
+    }
+    Ok(drafts)
+}
+
+/// The entry that a header's COD stands for.
+fn cod_entry(segments: &[Segment]) -> Option<Progression>
+    ensures { option_to_list result ≡ entry_in (in_slot 1 segments.now) }
+{
+    match in_slot(1, segments) {
+        Some(Segment::Cod(cod)) => Some(Progression {
+            rs: 0,
+            cs: 0,
+            lye: cod.layers,
+            re: 33,
+            ce: 0,
+            order: cod.order,
+        }),
+        _ => None,
+    }
+}
+
+fn one_entry(alloc: Global, entry: Option<Progression>) -> Result<Vec<Progression>, AllocError>
+    ensures { IfOk result (λ entries. entries.items ≡ option_to_list entry) }
+{
+    let mut entries = Vec::new(alloc);
+    if let Some(entry) = entry {
+        entries.push(entry)?;
+    }
+    Ok(entries)
+}
+
+/// The tile's own entries, else those of the main header, else the one of its COD, else the main COD's.
+fn progressions(
+    alloc: Global,
+    header: &[Segment],
+    own: Vec<Progression>,
+    main: &[Progression],
+    default: Option<Progression>,
+) -> Result<Vec<Progression>, AllocError>
+    ensures { IfOk result (λ entries. entries.items ≡ or_list own.items (or_list main.now (or_list (entry_in (in_slot 1 header.now)) (option_to_list default)))) }
+{
+    if !own.is_empty() {
+        return Ok(own);
+    }
+    if !main.is_empty() {
+        return Vec::from_slice(alloc, main);
+    }
+    let entry = cod_entry(header);
+    if entry.is_some() {
+        return one_entry(alloc, entry);
+    }
+    one_entry(alloc, default)
+}
+
+impl Draft {
+    /// The tile, with the main header's entries and the one of the main COD.
+    fn finish(
+        self,
+        alloc: Global,
+        main: &[Progression],
+        default: Option<Progression>,
+    ) -> Result<Tile, AllocError>
+        ensures { IfOk result (λ tile. (own : List Part) (segments : List Segment) → Collects own self → main.now ≡ joined segments
+            → option_to_list default ≡ entry_in (in_slot 1 segments) → tile ≡ tile_from segments own) }
+    {
+        let Draft {
+            place,
+            header,
+            notes,
+            entries,
+            bodies,
+        } = self;
+        let progressions = progressions(alloc, &header, entries, main, default)?;
+        Ok(Tile {
+            place,
+            header: Segments::new(header),
+            notes: Segments::new(notes),
+            progressions: Progressions::new(progressions),
+            bodies: Bodies::new(bodies),
+        })
+    }
+}
+
+fn finish_drafts(alloc: Global, main: &[Segment], drafts: Vec<Draft>) -> Result<Vec<Tile>, AllocError>
+    ensures count { IfOk result (λ tiles. length tiles.items ≡ length drafts.items) }
+    ensures each { IfOk result (λ tiles. (tile : ℕ) (other : Draft) (another : Tile) (own : List Part) → tile < length drafts.items
+        → Collects own (slice_index_or drafts.items tile other) → slice_index_or tiles.items tile another ≡ tile_from main.now own) }
+{
+    let mut entries = Vec::new(alloc);
+    push_entries(main, &mut entries)?;
+    let default = cod_entry(main);
+    let mut tiles = Vec::new(alloc);
+    for draft in drafts {
+        let tile = draft.finish(alloc, &entries, default)?;
+        tiles.push(tile)?;
+    }
+    Ok(tiles)
+}
+
+/// The tiles that some tile-parts make, whose tiles are below `count`.
+pub fn tiles_of(alloc: Global, main: &[Segment], parts: Vec<Part>, count: usize) -> Result<Vec<Tile>, AllocError>
+    requires { All (λ (part : Part). part.sot.tile < count) parts.items }
+    ensures { IfOk result (λ tiles. tiles.items ≡ tiles_of main.now parts.items count) }
+{
+    let drafts = collect_parts(alloc, parts, count)?;
+    let tiles = finish_drafts(alloc, main, drafts)?;
+    Ok(tiles)
 }
