@@ -2,3 +2,4 @@ pub mod FaultLemmas
 pub mod HeaderLemmas
 pub mod PartLemmas
 pub mod TileLemmas
+pub mod IndexLemmas

@@ -123,4 +123,4 @@ limit_4_of None = None
 limit_4_of (Some planes) = Some (fault.Limit 4 planes)
 
 abbrev pub planes_fault : List Segment → ℕ → List Tile → Option StreamFault
-planes_fault main comps tiles = limit_4_of (find (λ (planes : ℕ). nat_lt 74 planes) (flat_map (tile_planes main comps) tiles))
+planes_fault main comps tiles = limit_4_of (find (nat_lt 74) (flat_map (tile_planes main comps) tiles))

@@ -1,6 +1,6 @@
 //! A header's segments by their slots.
 
-ghost use Rattle.std.specs.Prelude.{◌≡◌, ◌≤◌, ◌<◌, ◌+◌, ◌*◌, ◌^◌, length, IfOk, MatchOption, Some, None, ℕ, slice_index};
+ghost use Rattle.std.specs.Prelude.{◌≡◌, ◌≤◌, ◌<◌, ◌+◌, ◌*◌, ◌^◌, ◌==◌, ◌&&◌, nat_lt, slice_set, if◌then◌else◌, length, IfOk, MatchOption, Some, None, ℕ, slice_index};
 ghost use Rattle.jx_stream.specs.Headers.{slot_count};
 ghost use Rattle.jx_stream.specs.Index.{Indexes};
 ghost use Rattle.jx_stream.specs.Tiles.{in_slot};
@@ -13,7 +13,7 @@ use std::alloc::{AllocError, Global};
 #[derive(Drop)]
 pub struct Index<'a> {
     pub segments: &'a [Segment],
-    pub table: Vec<u32>,
+    pub table: Vec<usize>,
     ghost right: { Indexes segments.now table.items },
 }
 
@@ -27,36 +27,43 @@ impl<'a> Index<'a> {
         if n == 0 {
             return None;
         }
-        self.segments.get(n as usize - 1)
+        self.segments.get(n - 1)
+    }
+}
+
+/// Enters a segment into the table, where it is the first of its slot.
+fn enter(slot: usize, place: usize, table: &mut Vec<usize>)
+    requires { place < 2 ^ 63 }
+    ensures { table.new.items ≡ (if nat_lt slot (length table.old.items) && (slice_index table.old.items slot == 0) then slice_set table.old.items slot (place + 1) else table.old.items) }
+{
+    if slot < table.len() && table[slot] == 0 {
+        table[slot] = place + 1;
     }
 }
 
 /// The table of a header's segments.
-fn table_of(alloc: Global, segments: &[Segment], comps: u16) -> Result<Vec<u32>, AllocError>
-    requires { length segments.now ≤ 2 ^ 28 }
+fn table_of(alloc: Global, segments: &[Segment], comps: u16) -> Result<Vec<usize>, AllocError>
+    requires { length segments.now < 2 ^ 63 }
     ensures right { IfOk result (λ table. Indexes segments.now table.items) }
     ensures count { IfOk result (λ table. length table.items ≡ slot_count comps) }
 {
     let mut table = zeros(alloc, 5 + 3 * usize::from(comps))?;
     for (place, segment) in segments.iter().enumerate() {
-        let slot = slot_of(segment);
-        if slot < table.len() && table[slot] == 0 {
-            table[slot] = place as u32 + 1;
-        }
+        enter(slot_of(segment), place, &mut table);
     }
     Ok(table)
 }
 
-fn zeros(alloc: Global, count: usize) -> Result<Vec<u32>, AllocError>
+fn zeros(alloc: Global, count: usize) -> Result<Vec<usize>, AllocError>
     ensures count { IfOk result (λ table. length table.items ≡ count) }
-    ensures zeros { IfOk result (λ table. (slot : ℕ) → slot < count → slice_index table.items slot ≡ 0) }
+    ensures zeros { IfOk result (λ table. (slot : ℕ) → slice_index table.items slot ≡ 0) }
 {
     vec![in alloc; 0; count]
 }
 
 /// A header's segments by their slots.
 pub fn index_of<'a>(alloc: Global, segments: &'a [Segment], comps: u16) -> Result<Index<'a>, AllocError>
-    requires { length segments.now ≤ 2 ^ 28 }
+    requires { length segments.now < 2 ^ 63 }
     ensures segments { IfOk result (λ index. index.segments.now ≡ segments.now) }
     ensures count { IfOk result (λ index. length index.table.items ≡ slot_count comps) }
 {

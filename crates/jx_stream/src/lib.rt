@@ -1,11 +1,13 @@
 //! Headers and tile-parts of a JPEG 2000 codestream (ITU-T T.800, Annex A), and the parameters that they give.
 #![tactic(auto)]
 
+mod checks;
 mod faults;
 mod headers;
 mod index;
 mod lists;
 mod parts;
+mod steps;
 mod tiles;
 
 pub use faults::StreamFault;
