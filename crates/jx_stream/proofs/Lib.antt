@@ -3,3 +3,4 @@ pub mod HeaderLemmas
 pub mod PartLemmas
 pub mod TileLemmas
 pub mod IndexLemmas
+pub mod ScanLemmas

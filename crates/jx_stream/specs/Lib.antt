@@ -5,3 +5,4 @@ pub mod Parts
 pub mod Tiles
 pub mod Params
 pub mod Index
+pub mod First

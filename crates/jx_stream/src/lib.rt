@@ -7,6 +7,7 @@ mod headers;
 mod index;
 mod lists;
 mod parts;
+mod reading;
 mod steps;
 mod tiles;
 

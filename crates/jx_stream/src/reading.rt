@@ -1,0 +1,144 @@
+ghost use Rattle.std.specs.Prelude.{◌≡◌, ◌≤◌, ◌<◌, ◌+◌, ◌-◌, ◌*◌, ◌^◌, ◌==◌, not, nat_lt, length, drop, slice_index, IfOk, ℕ, [], true};
+ghost use Rattle.std.specs.List.{All, list_any};
+ghost use Rattle.std.specs.Option.{option_or};
+ghost use Rattle.jx_marker.specs.Rules.{siz_fits};
+ghost use Rattle.jx_geom.specs.Ranges.{CanvasInRange};
+ghost use Rattle.jx_stream.specs.declared.parts.Part.{Part};
+ghost use Rattle.jx_stream.specs.Faults.{Answers};
+ghost use Rattle.jx_stream.specs.Headers.{slot_count};
+ghost use Rattle.jx_stream.specs.Parts.{Tracks, end_of_part};
+ghost use Rattle.jx_stream.specs.Params.{entries_fault, planes_fault};
+ghost use Rattle.jx_stream.specs.First.{canvas_of, tile_number, siz_of, after_siz, front_fault, tiles_fault, lacks_default, main_header, main_fault, parts_after, lacks_part, body_fault, stream_from, stream_in, parameters_fault, later_fault, first_fault};
+
+use crate::checks::{check_entries, check_planes};
+use crate::headers::{Header, HeaderKind, fault_of, read_header, violated};
+use crate::index::index_of;
+use crate::parts::{Part, has_marker, read_parts};
+use crate::tiles::tiles_of;
+use crate::{Segments, Stream, StreamFault, Tile, Tiles};
+use jx_geom::{Canvas, tiles};
+use jx_marker::{Segment, Siz, read_segment};
+use std::alloc::{AllocError, Global};
+
+/// The second byte of SOC.
+const SOC: u8 = 79;
+/// The second byte of SIZ.
+const SIZ: u8 = 81;
+/// The most tiles.
+const TILES: u64 = 65_535;
+
+/// The canvas and the tiles of a SIZ.
+fn canvas_of(siz: &Siz) -> Canvas
+    ensures { result ≡ canvas_of siz.now }
+{
+    Canvas {
+        x1: siz.x1,
+        y1: siz.y1,
+        x0: siz.x0,
+        y0: siz.y0,
+        tw: siz.tw,
+        th: siz.th,
+        tx: siz.tx,
+        ty: siz.ty,
+    }
+}
+
+/// The SIZ that stands after SOC, and the place after it.
+fn read_front(alloc: Global, bytes: &[u8]) -> Result<(Siz, usize), StreamFault>
+    requires { length bytes.now ≤ 2 ^ 28 }
+    ensures answer { Answers result (front_fault bytes.now) (λ r. (r.0 ≡ siz_of bytes.now) × (r.1 ≡ after_siz bytes.now)) }
+    ensures within { IfOk result (λ r. (0 < r.1) × (r.1 ≤ length bytes.now)) }
+    ensures range { IfOk result (λ r. siz_fits r.0 ≡ true) }
+{
+    if !has_marker(bytes, 0, SOC) {
+        return Err(violated(15, 0));
+    }
+    if !has_marker(bytes, 2, SIZ) {
+        return Err(violated(16, 2));
+    }
+    match read_segment(alloc, bytes, 2, 1) {
+        Ok((Segment::Siz(siz), next)) => Ok((siz, next)),
+        Ok(_) => Err(violated(16, 2)),
+        Err(rule) => Err(fault_of(rule, 2)),
+    }
+}
+
+/// The number of tiles, where there are at most 65,535.
+#[tactic(auto, unfolding(crate::specs::First::tiles_fault))]
+fn count_tiles(siz: &Siz) -> Result<usize, StreamFault>
+    requires { CanvasInRange (canvas_of siz.now) }
+    ensures { Answers result (tiles_fault siz.now) (λ count. (count ≡ tile_number siz.now) × (count ≤ 65535)) }
+{
+    let count = tiles(&canvas_of(siz));
+    if count > TILES {
+        return Err(StreamFault::Limit {
+            number: 3,
+            found: u128::from(count),
+        });
+    }
+    Ok(count as usize)
+}
+
+/// The main header, after which the first SOT stands.
+fn read_main(alloc: Global, bytes: &[u8], start: usize, comps: u16, seen: &mut [u32]) -> Result<Header, StreamFault>
+    requires place { start ≤ length bytes.now }
+    requires fits { length bytes.now ≤ 2 ^ 28 }
+    requires slots { length seen.old ≡ slot_count comps }
+    requires fresh { (slot : ℕ) → slice_index seen.old slot < start }
+    ensures answer { Answers result (main_fault comps bytes.now start) (λ main. main ≡ main_header comps bytes.now start) }
+    ensures within { IfOk result (λ main. (start ≤ main.end) × (main.end ≤ length bytes.now)) }
+    ensures marks { IfOk result (λ _. (slot : ℕ) → slice_index seen.new slot ≤ start) }
+{
+    let main = read_header(alloc, bytes, start, HeaderKind::Main, comps, seen)?;
+    if seen[1] as usize == start && seen[2] as usize == start {
+        return Ok(main);
+    }
+    Err(violated(17, main.end))
+}
+
+/// Whether a tile had no tile-part.
+fn lacks_part(counts: &[u16]) -> bool
+    ensures { result ≡ list_any (λ count. count == 0) counts.now }
+{
+    counts.iter().any(|count| *count == 0)
+}
+
+/// The main header and the tile-parts. The tables have 0 everywhere.
+fn read_body(
+    alloc: Global,
+    bytes: &[u8],
+    start: usize,
+    comps: u16,
+    seen: &mut [u32],
+    counts: &mut [u16],
+    told: &mut [u8],
+) -> Result<(Header, Vec<Part>), StreamFault>
+    requires place { start ≤ length bytes.now }
+    requires some { 0 < start }
+    requires fits { length bytes.now ≤ 2 ^ 28 }
+    requires slots { length seen.old ≡ slot_count comps }
+    requires fresh { (slot : ℕ) → slice_index seen.old slot ≡ 0 }
+    requires tables { length told.old ≡ length counts.old }
+    requires counts { (tile : ℕ) → slice_index counts.old tile ≡ 0 }
+    requires told { (tile : ℕ) → slice_index told.old tile ≡ 0 }
+    ensures answer { Answers result (body_fault comps (length counts.old) bytes.now start)
+        (λ r. (r.0 ≡ main_header comps bytes.now start) × (r.1.items ≡ (parts_after comps (length counts.old) bytes.now start).parts)) }
+    ensures tiles { IfOk result (λ r. All (λ (part : Part). part.sot.tile < length counts.old) r.1.items) }
+{
+    let main = read_main(alloc, bytes, start, comps, seen)?;
+    let (parts, eoc) = read_parts(alloc, bytes, main.end, comps, seen, counts, told)?;
+    if lacks_part(counts) {
+        return Err(violated(24, eoc));
+    }
+    Ok((main, parts))
+}
+
+/// Whether the tiles' quantization and planes violate nothing.
+fn check_tiles(alloc: Global, main: &[Segment], comps: u16, tiles: &[Tile]) -> Result<(), StreamFault>
+    requires { length main.now < 2 ^ 63 }
+    ensures { Answers result (option_or (entries_fault main.now comps tiles.now) (planes_fault main.now comps tiles.now)) (λ _. Unit {0}) }
+{
+    let index = index_of(alloc, main, comps)?;
+    check_entries(alloc, &index, comps, tiles)?;
+    check_planes(alloc, &index, comps, tiles)
+}
