@@ -4,3 +4,4 @@ pub mod PartLemmas
 pub mod TileLemmas
 pub mod IndexLemmas
 pub mod ScanLemmas
+pub mod FirstLemmas

@@ -26,11 +26,11 @@ use Rattle.jx_stream.proofs.FaultLemmas.{cause_first, cause_later, cause_same, n
 use Rattle.jx_stream.proofs.HeaderLemmas.{is_or_not_true, size_is_two, longest_rises}
 use Rattle.jx_stream.specs.declared.headers.HeaderKind.{HeaderKind}
 
-both : (x y : Bool) → (x && y) ≡ true → (x ≡ true) × (y ≡ true)
+pub both : (x y : Bool) → (x && y) ≡ true → (x ≡ true) × (y ≡ true)
 both true y h = (refl, h)
 both false y h = absurd (cc)
 
-is_equal : (a b : ℕ) → (a == b) ≡ true → a ≡ b
+pub is_equal : (a b : ℕ) → (a == b) ≡ true → a ≡ b
 is_equal a b h = grind (arith, nat_tests)
 
 not_below : (a b : ℕ) → nat_lt b a ≡ false → a ≤ b

@@ -13,6 +13,7 @@ mod tiles;
 
 pub use faults::StreamFault;
 pub use lists::{Bodies, Segments, Tiles};
+pub use reading::read_stream;
 
 use jx_marker::{Progressions, Siz};
 

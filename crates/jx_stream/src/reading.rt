@@ -1,4 +1,4 @@
-ghost use Rattle.std.specs.Prelude.{◌≡◌, ◌≤◌, ◌<◌, ◌+◌, ◌-◌, ◌*◌, ◌^◌, ◌==◌, not, nat_lt, length, drop, slice_index, IfOk, ℕ, [], true};
+ghost use Rattle.std.specs.Prelude.{◌≡◌, ◌≤◌, ◌<◌, ◌+◌, ◌-◌, ◌*◌, ◌^◌, ◌==◌, ◌&&◌, not, nat_lt, length, drop, slice_index, IfOk, ℕ, [], true};
 ghost use Rattle.std.specs.List.{All, list_any};
 ghost use Rattle.std.specs.Option.{option_or};
 ghost use Rattle.jx_marker.specs.Rules.{siz_fits};
@@ -57,8 +57,12 @@ fn read_front(alloc: Global, bytes: &[u8]) -> Result<(Siz, usize), StreamFault>
         return Err(violated(16, 2));
     }
     match read_segment(alloc, bytes, 2, 1) {
-        Ok((Segment::Siz(siz), next)) => Ok((siz, next)),
-        Ok(_) => Err(violated(16, 2)),
+        Ok((segment, next)) => {
+            let Segment::Siz(siz) = segment else {
+                return Err(violated(16, 2));
+            };
+            Ok((siz, next))
+        }
         Err(rule) => Err(fault_of(rule, 2)),
     }
 }
@@ -79,6 +83,14 @@ fn count_tiles(siz: &Siz) -> Result<usize, StreamFault>
     Ok(count as usize)
 }
 
+/// Whether the header from `start` on has a COD and a QCD.
+fn has_defaults(start: usize, seen: &[u32]) -> bool
+    requires { 2 < length seen.now }
+    ensures { result ≡ ((slice_index seen.now 1 == start) && (slice_index seen.now 2 == start)) }
+{
+    seen[1] as usize == start && seen[2] as usize == start
+}
+
 /// The main header, after which the first SOT stands.
 fn read_main(alloc: Global, bytes: &[u8], start: usize, comps: u16, seen: &mut [u32]) -> Result<Header, StreamFault>
     requires place { start ≤ length bytes.now }
@@ -90,10 +102,10 @@ fn read_main(alloc: Global, bytes: &[u8], start: usize, comps: u16, seen: &mut [
     ensures marks { IfOk result (λ _. (slot : ℕ) → slice_index seen.new slot ≤ start) }
 {
     let main = read_header(alloc, bytes, start, HeaderKind::Main, comps, seen)?;
-    if seen[1] as usize == start && seen[2] as usize == start {
-        return Ok(main);
+    if !has_defaults(start, seen) {
+        return Err(violated(17, main.end));
     }
-    Err(violated(17, main.end))
+    Ok(main)
 }
 
 /// Whether a tile had no tile-part.
@@ -141,4 +153,49 @@ fn check_tiles(alloc: Global, main: &[Segment], comps: u16, tiles: &[Tile]) -> R
     let index = index_of(alloc, main, comps)?;
     check_entries(alloc, &index, comps, tiles)?;
     check_planes(alloc, &index, comps, tiles)
+}
+
+/// How many components there are.
+fn count_comps(siz: &Siz) -> u16
+    requires { siz_fits siz.now ≡ true }
+    ensures { result ≡ length siz.now.comps }
+{
+    siz.comps.as_slice().len() as u16
+}
+
+/// The stream after its SIZ.
+fn read_rest(alloc: Global, bytes: &[u8], siz: Siz, start: usize) -> Result<Stream, StreamFault>
+    requires place { start ≤ length bytes.now }
+    requires some { 0 < start }
+    requires fits { length bytes.now ≤ 2 ^ 28 }
+    requires range { siz_fits siz ≡ true }
+    ensures { Answers result (later_fault siz bytes.now start) (λ stream. stream ≡ stream_from siz bytes.now start) }
+{
+    let count = count_tiles(&siz)?;
+    let comps = count_comps(&siz);
+    let mut seen = vec![in alloc; 0u32; 5 + 3 * usize::from(comps)]?;
+    let mut counts = vec![in alloc; 0u16; count]?;
+    let mut told = vec![in alloc; 0u8; count]?;
+    let (header, parts) = read_body(alloc, bytes, start, comps, &mut seen, &mut counts, &mut told)?;
+    let main = header.segments;
+    let tiles = tiles_of(alloc, main.as_slice(), parts, count)?;
+    check_tiles(alloc, main.as_slice(), comps, &tiles)?;
+    Ok(Stream {
+        siz,
+        main,
+        tiles: Tiles::new(tiles),
+    })
+}
+
+/// The stream that a file of at most 2^28 bytes spells.
+///
+/// `Rule` names the first of the rules 1 to 24 that the file violates, with its place; `Limit` the first of the
+/// limits 3 (tiles) and 4 (planes of a band) that it passes, with what was counted. What follows EOC isn't read.
+pub fn read_stream(alloc: Global, bytes: &[u8]) -> Result<Stream, StreamFault>
+    requires { length bytes.now ≤ 2 ^ 28 }
+    ensures { Answers result (first_fault bytes.now) (λ stream. stream ≡ stream_in bytes.now) }
+{
+    let (siz, start) = read_front(alloc, bytes)?;
+    let stream = read_rest(alloc, bytes, siz, start)?;
+    Ok(stream)
 }
