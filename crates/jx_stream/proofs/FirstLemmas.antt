@@ -24,6 +24,7 @@ use Rattle.jx_stream.specs.Faults.{broken, rule_at, fault_of, IsCause}
 use Rattle.jx_stream.specs.Headers.{header_fault, has_slot, slot_count, Marks}
 use Rattle.jx_stream.specs.Parts.{marker_at, parts_of, parts_fault, parts_from, Tracks}
 use Rattle.jx_stream.specs.Tiles.{tiles_of}
+use Rattle.jx_stream.specs.Params.{entries_fault, planes_fault}
 use Rattle.jx_stream.specs.First.{canvas_of, tile_number, siz_of, after_siz, front_fault, tiles_fault, lacks_default, main_header, main_fault, parts_after, lacks_part, body_fault, stream_from, stream_in, parameters_fault, later_fault, first_fault}
 use Rattle.jx_stream.proofs.FaultLemmas.{cause_first, cause_later, cause_same, none_of_both, broken_true, broken_false}
 use Rattle.jx_stream.proofs.PartLemmas.{both, is_equal}
@@ -243,3 +244,19 @@ first_clear b siz start s clear is after later stream = (
       none_of_both (front_fault b) (later_fault (siz_of b) b (after_siz b)) clear (sym (later_same b siz start is after) ∙ later),
       stream ∙ ap (λ (x : Siz). stream_from x b start) is ∙ ap (λ (n : ℕ). stream_from (siz_of b) b n) after,
     )
+
+siz_inside : Siz → Segment → Siz
+siz_inside other (segment.Siz siz) = siz
+siz_inside other _ = other
+
+pub siz_value : (b : List ℕ) (s : Segment) (siz : Siz) → marker_at b 2 81 ≡ true → segment_at 1 (drop 2 b) ≡ s → s ≡ segment.Siz siz → siz ≡ siz_of b
+unfolding siz_inside
+siz_value b s siz stands value is =
+    sym (ap (siz_inside siz) (sym (siz_stands b stands) ∙ value ∙ is))
+
+pub parameters_same : (siz : Siz) (main slice : List Segment) (tiles items : List Tile) (comps : ℕ) → slice ≡ main → comps ≡ length siz.comps → items ≡ tiles
+    → option_or (entries_fault slice comps items) (planes_fault slice comps items) ≡ parameters_fault (record { siz = siz; main = main; tiles = tiles })
+parameters_same siz main slice tiles items comps all is made =
+    ap (λ (x : List Segment). option_or (entries_fault x comps items) (planes_fault x comps items)) all
+    ∙ ap (λ (x : List Tile). option_or (entries_fault main comps x) (planes_fault main comps x)) made
+    ∙ ap (λ (n : ℕ). option_or (entries_fault main n tiles) (planes_fault main n tiles)) is

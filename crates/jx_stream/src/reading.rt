@@ -145,6 +145,28 @@ fn read_body(
     Ok((main, parts))
 }
 
+/// The main header and the tile-parts of a picture with so many components and tiles.
+fn read_headers(
+    alloc: Global,
+    bytes: &[u8],
+    start: usize,
+    comps: u16,
+    count: usize,
+) -> Result<(Header, Vec<Part>), StreamFault>
+    requires place { start ≤ length bytes.now }
+    requires some { 0 < start }
+    requires fits { length bytes.now ≤ 2 ^ 28 }
+    ensures answer { Answers result (body_fault comps count bytes.now start)
+        (λ r. (r.0 ≡ main_header comps bytes.now start) × (r.1.items ≡ (parts_after comps count bytes.now start).parts)) }
+    ensures tiles { IfOk result (λ r. All (λ (part : Part). part.sot.tile < count) r.1.items) }
+{
+    let mut seen = vec![in alloc; 0u32; 5 + 3 * usize::from(comps)]?;
+    let mut counts = vec![in alloc; 0u16; count]?;
+    let mut told = vec![in alloc; 0u8; count]?;
+    let (main, parts) = read_body(alloc, bytes, start, comps, &mut seen, &mut counts, &mut told)?;
+    Ok((main, parts))
+}
+
 /// Whether the tiles' quantization and planes violate nothing.
 fn check_tiles(alloc: Global, main: &[Segment], comps: u16, tiles: &[Tile]) -> Result<(), StreamFault>
     requires { length main.now < 2 ^ 63 }
@@ -173,10 +195,7 @@ fn read_rest(alloc: Global, bytes: &[u8], siz: Siz, start: usize) -> Result<Stre
 {
     let count = count_tiles(&siz)?;
     let comps = count_comps(&siz);
-    let mut seen = vec![in alloc; 0u32; 5 + 3 * usize::from(comps)]?;
-    let mut counts = vec![in alloc; 0u16; count]?;
-    let mut told = vec![in alloc; 0u8; count]?;
-    let (header, parts) = read_body(alloc, bytes, start, comps, &mut seen, &mut counts, &mut told)?;
+    let (header, parts) = read_headers(alloc, bytes, start, comps, count)?;
     let main = header.segments;
     let tiles = tiles_of(alloc, main.as_slice(), parts, count)?;
     check_tiles(alloc, main.as_slice(), comps, &tiles)?;

@@ -11,11 +11,11 @@ returns-in_err-main-clause-answer c =
 pub returns-then-not-has_defaults-clause-answer : goal.returns-then-not-has_defaults-clause-answer
 returns-then-not-has_defaults-clause-answer c =
     rw c.violated.ensures (main_lacks c.args.comps c.args.bytes.now c.args.start c.in_ok-main.main c.in_ok-main.ensures.answer.0 c.in_ok-main.ensures.answer.1
-    (lacks_by_table c.args.comps c.args.start c.in_ok-main.main.segments c.read_header.new.seen c.has_defaults.result c.in_ok-main.ensures.marks ? c.has_defaults.ensures ∙ ap not c.if-not-has_defaults.true))
+    (lacks_by_table c.args.comps c.args.start c.in_ok-main.main.segments c.read_header.new.seen c.has_defaults.result c.in_ok-main.ensures.marks (c.read_header.auto.seen ∙ c.requires.slots) c.has_defaults.ensures ∙ ap not c.if-not-has_defaults.true))
 
 pub returns-clause-answer : goal.returns-clause-answer
 returns-clause-answer c = (
       main_clear c.args.comps c.args.bytes.now c.args.start c.in_ok-main.main c.in_ok-main.ensures.answer.0 c.in_ok-main.ensures.answer.1
-      (lacks_by_table c.args.comps c.args.start c.in_ok-main.main.segments c.read_header.new.seen c.has_defaults.result c.in_ok-main.ensures.marks ? c.has_defaults.ensures ∙ ap not c.if-not-has_defaults.false),
+      (lacks_by_table c.args.comps c.args.start c.in_ok-main.main.segments c.read_header.new.seen c.has_defaults.result c.in_ok-main.ensures.marks (c.read_header.auto.seen ∙ c.requires.slots) c.has_defaults.ensures ∙ ap not c.if-not-has_defaults.false),
       c.in_ok-main.ensures.answer.1,
     )
