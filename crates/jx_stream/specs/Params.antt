@@ -1,6 +1,6 @@
 -- The parameters of a tile-component (T.800, A.6), the step of a band and its planes (E.1 and H.1).
 use Rattle.std.specs.Prelude.{◌≡◌, ◌≤◌, ◌<◌, ℕ, ◌+◌, ◌-◌, ◌*◌, ◌/◌, ◌%◌, ◌==◌, ◌||◌, ◌&&◌, nat_lt, Bool, true, false, List, [], ◌∷◌, length, map, Option, None, Some, find, if◌then◌else◌, slice_index}
-use Rattle.std.specs.List.{flat_map, list_any, range_with_len}
+use Rattle.std.specs.List.{slice_get, flat_map, list_any, range_with_len}
 use Rattle.std.specs.Option.{option_or, option_map}
 use Rattle.jx_base.specs.declared.names.Band.{Band}
 use Rattle.jx_base.specs.declared.names.Band.TheVariants.{LL, HL, LH, HH}
@@ -10,6 +10,8 @@ use Rattle.jx_marker.specs.declared.Shape.{Shape}
 use Rattle.jx_marker.specs.declared.Quant.{Quant}
 use Rattle.jx_marker.specs.declared.Cod.{Cod}
 use Rattle.jx_stream.specs.declared.Tile.{Tile}
+use Rattle.jx_stream.specs.declared.Stream.{Stream}
+use Rattle.jx_stream.specs.declared.Params.{Params}
 use Rattle.jx_stream.specs.declared.faults.StreamFault.{StreamFault}
 use Rattle.jx_stream.specs.declared.faults.StreamFault.TheVariants as fault
 use Rattle.jx_stream.specs.Tiles.{in_slot}
@@ -124,3 +126,75 @@ limit_4_of (Some planes) = Some (fault.Limit 4 planes)
 
 abbrev pub planes_fault : List Segment → ℕ → List Tile → Option StreamFault
 planes_fault main comps tiles = limit_4_of (find (nat_lt 74) (flat_map (tile_planes main comps) tiles))
+
+-- all parameters of a tile-component, of these headers
+
+abbrev pub shape_or : Option Shape → Shape
+shape_or (Some shape) = shape
+shape_or None = record { levels = 0; xcb = 0; ycb = 0; style = 0; wavelet = 0; precincts = [] }
+
+abbrev pub quant_or : Option Quant → Quant
+quant_or (Some quant) = quant
+quant_or None = record { sqcd = 0; entries = [] }
+
+abbrev pub cod_or : Option Cod → Cod
+cod_or (Some cod) = cod
+cod_or None = record { sop = false; eph = false; order = 0; layers = 0; transform = 0; shape = shape_or None }
+
+-- the exponents of resolution r: its byte, or 15 and 15 where no bytes are there (A.6.1, Table A.21)
+abbrev pub precinct_of : List ℕ → ℕ → ℕ
+precinct_of [] res = 255
+precinct_of (byte ∷ bytes) res = slice_index (byte ∷ bytes) res
+
+abbrev pub precincts_of : List ℕ → List ℕ
+precincts_of bytes = map (precinct_of bytes) (range_with_len 0 33)
+
+-- coding by shape and COD, quantization, the region's shift
+abbrev pub params_from : Shape → Cod → Quant → ℕ → Params
+params_from shape cod quant shift = record {
+  levels = shape.levels;
+  xcb = shape.xcb;
+  ycb = shape.ycb;
+  style = record { bits = shape.style };
+  wavelet = shape.wavelet;
+  precincts = precincts_of shape.precincts;
+  order = cod.order;
+  layers = cod.layers;
+  transform = cod.transform;
+  guard = quant.sqcd / 32;
+  quant = quant.sqcd % 32;
+  shift = shift;
+}
+
+-- the header of a tile
+abbrev pub header_in : Option Tile → List Segment
+header_in None = []
+header_in (Some tile) = tile.header
+
+abbrev pub header_of : Stream → ℕ → List Segment
+header_of s tile = header_in (slice_get s.tiles tile)
+
+-- the shape and the quantization of a component of a tile of a stream
+abbrev pub shape_at : Stream → ℕ → ℕ → Option Shape
+shape_at s tile comp = shape_of (header_of s tile) s.main comp
+
+abbrev pub quant_at : Stream → ℕ → ℕ → Option Quant
+quant_at s tile comp = quant_of (header_of s tile) s.main comp
+
+abbrev pub shift_at : Stream → ℕ → ℕ → ℕ
+shift_at s tile comp = shift_of (header_of s tile) s.main comp
+
+abbrev pub params_of : Stream → ℕ → ℕ → Params
+params_of s tile comp = params_from (shape_or (shape_at s tile comp)) (cod_or (cod_of (header_of s tile) s.main)) (quant_or (quant_at s tile comp)) (shift_at s tile comp)
+
+-- the exponent and the mantissa of a band's step
+abbrev pub step_of : Stream → ℕ → ℕ → ℕ → Band → ℕ × ℕ
+step_of s tile comp res band = (
+      exponent_of (quant_or (quant_at s tile comp)) (shape_or (shape_at s tile comp)).levels (number_of res band),
+      mantissa_of (quant_or (quant_at s tile comp)) (number_of res band),
+    )
+
+-- the planes of a band
+abbrev pub planes_at : Stream → ℕ → ℕ → ℕ → Band → ℕ
+planes_at s tile comp res band =
+    planes_of (quant_or (quant_at s tile comp)) (shape_or (shape_at s tile comp)).levels (shift_at s tile comp) (number_of res band)

@@ -6,6 +6,7 @@ mod faults;
 mod headers;
 mod index;
 mod lists;
+mod queries;
 mod parts;
 mod reading;
 mod steps;
@@ -15,6 +16,7 @@ pub use faults::StreamFault;
 pub use lists::{Bodies, Segments, Tiles};
 pub use reading::read_stream;
 
+use jx_base::Style;
 use jx_marker::{Progressions, Siz};
 
 /// The data of one tile-part: where it stands in the file.
@@ -50,4 +52,33 @@ pub struct Stream {
     pub main: Segments,
     /// The tiles by their numbers.
     pub tiles: Tiles,
+}
+
+/// The parameters of one component of one tile (ITU-T T.800, A.6).
+#[derive(Clone, Copy, Debug, PartialEq, Eq)]
+pub struct Params {
+    /// Levels of decomposition, 0 to 32.
+    pub levels: u8,
+    /// The exponent of a code-block's width, 2 to 10.
+    pub xcb: u8,
+    /// The exponent of a code-block's height, 2 to 10.
+    pub ycb: u8,
+    /// The code-block style.
+    pub style: Style,
+    /// 0 is the 9-7 wavelet, 1 the 5-3 one.
+    pub wavelet: u8,
+    /// For each resolution from 0 up the exponents of a precinct's width (low four bits) and height (high four).
+    pub precincts: [u8; 33],
+    /// The progression order: 0 LRCP, 1 RLCP, 2 RPCL, 3 PCRL, 4 CPRL.
+    pub order: u8,
+    /// The number of layers.
+    pub layers: u16,
+    /// The component transform, 0 or 1.
+    pub transform: u8,
+    /// The guard bits.
+    pub guard: u8,
+    /// The quantization style: 0 none, 1 scalar derived, 2 scalar expounded.
+    pub quant: u8,
+    /// The shift of a region of interest, or 0.
+    pub shift: u8,
 }
