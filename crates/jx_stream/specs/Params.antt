@@ -70,10 +70,11 @@ band_count levels = 3 * levels + 1
 abbrev pub level_of : ℕ → ℕ → ℕ
 level_of levels number = levels - (number - 1) / 3
 
--- the exponent of a band's step: with style 1 the one entry's, less the levels above the band's, else its own entry's
+-- the exponent of a band's step: without quantization the top five bits of its entry, which is one byte, with style 1
+-- the one entry's, less the levels above the band's, else its own entry's
 abbrev pub exponent_of : Quant → ℕ → ℕ → ℕ
 exponent_of quant levels number =
-    if quant.sqcd % 32 == 0 then slice_index quant.entries number / 8
+    if quant.sqcd % 32 == 0 then slice_index quant.entries number % 256 / 8
     else if quant.sqcd % 32 == 1 then slice_index quant.entries 0 / 2048 + level_of levels number - levels
     else slice_index quant.entries number / 2048
 

@@ -12,6 +12,9 @@ mod reading;
 mod steps;
 mod tiles;
 
+#[cfg(test)]
+mod tests;
+
 pub use faults::StreamFault;
 pub use lists::{Bodies, Segments, Tiles};
 pub use reading::read_stream;

@@ -27,10 +27,10 @@ fn level_of(levels: u8, number: usize) -> usize
 /// The exponent of the step of the band of a number.
 pub fn exponent_of(quant: &Quant, levels: u8, number: usize) -> u16
     ensures value { result ≡ exponent_of quant.now levels number }
-    ensures most { result < 8192 }
+    ensures most { result < 32 }
 {
     match quant.sqcd % 32 {
-        0 => entry_of(quant, number) / 8,
+        0 => entry_of(quant, number) % 256 / 8,
         1 => {
             let level = level_of(levels, number) as u16;
             (entry_of(quant, 0) / 2048 + level).saturating_sub(u16::from(levels))
