@@ -3,11 +3,12 @@ use Rattle.std.proofs.Common.{◌≡◌, ◌⊎◌, ◌∙◌, ◌<◌, ◌≤�
 use Rattle.std.proofs.lemmas.List.{take_all, length-take}
 use Rattle.std.proofs.lemmas.Bool.{cases_lt}
 use Rattle.jx_outside.specs.Device.{Meaning, joined}
+use Rattle.jx_stream.specs.First.{first_fault}
 use Rattle.jx_recast.specs.declared.status.Status.{Status}
 use Rattle.jx_recast.specs.declared.status.Status.TheVariants as status
 use Rattle.jx_recast.specs.Words.{Text, Request}
 use Rattle.jx_recast.specs.Small.{IsSmall, output}
-use Rattle.jx_recast.specs.Outcome.{IsUntouched, IsMade, IsBegun, IsRefused, IsCutShort, Leaves, IsVerdict, Verdict, Ends, EndsFiles, EndsAtWords, EndsAs, line_of, most_bytes}
+use Rattle.jx_recast.specs.Outcome.{IsUntouched, IsMade, IsBegun, IsRefused, IsCutShort, Leaves, IsVerdict, Verdict, Ends, EndsFiles, EndsAtWords, EndsAs, PassesLimit, line_of, most_bytes}
 
 pub untouched_twice : (a b c : Meaning) → IsUntouched a b → IsUntouched b c → IsUntouched a c
 untouched_twice a b c first next = record {
@@ -34,6 +35,7 @@ cut_after name input blocks a b c first (inr begun) = inr (begun.0, begun.1, beg
 leaves_after : (name : Text) (input : List ℕ) (s : Status) (blocks : ℕ) (a b c : Meaning) → IsUntouched a b → Leaves name input s blocks b c → Leaves name input s blocks a c
 leaves_after name input status.Done blocks a b c first next = (next.0, made_after name (output input) a b c first next.1)
 leaves_after name input status.Words blocks a b c first next = refused_after blocks a b c first next
+leaves_after name input (status.Rule number place) blocks a b c first next = refused_after blocks a b c first next
 leaves_after name input (status.Limit number found) blocks a b c first next = refused_after blocks a b c first next
 leaves_after name input status.Form blocks a b c first next = refused_after blocks a b c first next
 leaves_after name input status.ReadFault blocks a b c first next = refused_after blocks a b c first next
@@ -68,11 +70,16 @@ long_whole (Some bytes) read front long =
     omega (arith, counted, long)
 long_whole None read front long = long
 
+long_limit : (number found : ℕ) (read input : List ℕ) → most_bytes < length read → most_bytes < length input → PassesLimit read number found → PassesLimit input number found
+long_limit number found read input long whole (inl passed) = inl (whole, passed.1, passed.2)
+long_limit number found read input long whole (inr passed) = absurd (omega (arith, passed.0))
+
 -- the verdict on a front that is too long is that on the whole
 long_verdict : (s : Status) (read input : List ℕ) → most_bytes < length read → most_bytes < length input → Verdict read s → Verdict input s
 long_verdict status.Done read input long whole verdict = absurd (omega (arith, verdict.0))
 long_verdict status.Words read input long whole verdict = absurd verdict
-long_verdict (status.Limit number found) read input long whole verdict = (whole, verdict.1, verdict.2)
+long_verdict (status.Rule number place) read input long whole verdict = absurd (omega (arith, verdict.0))
+long_verdict (status.Limit number found) read input long whole verdict = long_limit number found read input long whole verdict
 long_verdict status.Form read input long whole verdict = absurd (omega (arith, verdict.0))
 long_verdict status.ReadFault read input long whole verdict = absurd verdict
 long_verdict status.WriteFault read input long whole verdict = absurd verdict
@@ -86,6 +93,7 @@ long_leaves : (name : Text) (s : Status) (read input : List ℕ) (blocks : ℕ) 
     → Leaves name read s blocks a b → Leaves name input s blocks a b
 long_leaves name status.Done read input blocks a b long verdict leaves = absurd (omega (arith, (verdict tt).0))
 long_leaves name status.Words read input blocks a b long verdict leaves = leaves
+long_leaves name (status.Rule number place) read input blocks a b long verdict leaves = leaves
 long_leaves name (status.Limit number found) read input blocks a b long verdict leaves = leaves
 long_leaves name status.Form read input blocks a b long verdict leaves = leaves
 long_leaves name status.ReadFault read input blocks a b long verdict leaves = leaves
@@ -95,6 +103,7 @@ long_leaves name status.NoMemory read input blocks a b long verdict leaves = lon
 long_not_done : (s : Status) (read : List ℕ) → most_bytes < length read → (IsVerdict s → Verdict read s) → s ≡ status.Done → ⊥
 long_not_done status.Done read long verdict e = omega (arith, (verdict tt).0)
 long_not_done status.Words read long verdict e = cc
+long_not_done (status.Rule number place) read long verdict e = cc
 long_not_done (status.Limit number found) read long verdict e = cc
 long_not_done status.Form read long verdict e = cc
 long_not_done status.ReadFault read long verdict e = cc
@@ -143,6 +152,7 @@ ends_unread request s a b (inr e) same = rw e (record {
 number_same : (s : Status) (blocks bytes n : ℕ) → (s ≡ status.Done → bytes ≡ n) → line_of s blocks n ≡ line_of s blocks bytes
 number_same status.Done blocks bytes n told = rw (told refl) refl
 number_same status.Words blocks bytes n told = refl
+number_same (status.Rule number place) blocks bytes n told = refl
 number_same (status.Limit number found) blocks bytes n told = refl
 number_same status.Form blocks bytes n told = refl
 number_same status.ReadFault blocks bytes n told = refl
@@ -153,6 +163,7 @@ number_same status.NoMemory blocks bytes n told = refl
 cut_short : (name : Text) (input : List ℕ) (s : Status) (blocks : ℕ) (a b : Meaning) → (IsVerdict s → Verdict input s) → Leaves name input s blocks a b → IsCutShort name input blocks a b
 cut_short name input status.Done blocks a b verdict leaves = inr (leaves.0, verdict tt, inr (inr leaves.1))
 cut_short name input status.Words blocks a b verdict leaves = inl leaves
+cut_short name input (status.Rule number place) blocks a b verdict leaves = inl leaves
 cut_short name input (status.Limit number found) blocks a b verdict leaves = inl leaves
 cut_short name input status.Form blocks a b verdict leaves = inl leaves
 cut_short name input status.ReadFault blocks a b verdict leaves = inl leaves
@@ -195,9 +206,9 @@ ends_at_words late fault_before fault_now files before now (inr (inl fault)) = r
 ends_at_words late fault_before fault_now files before now (inr (inr short)) = rw short.0 (record { words = inr (inr refl); files = refl; none = refl; said = inl short.1 })
 
 -- an output that was begun
-pub begun_leaves : (name : Text) (input bytes : List ℕ) (old new : Meaning) → length input ≤ most_bytes → IsSmall input → bytes ≡ output input
+pub begun_leaves : (name : Text) (input bytes : List ℕ) (old new : Meaning) → length input ≤ most_bytes → first_fault input ≡ None → IsSmall input → bytes ≡ output input
     → IsBegun name bytes old new → IsCutShort name input 1 old new
-begun_leaves name input bytes old new short small e begun = inr (refl, (short, small), rw (← e) begun)
+begun_leaves name input bytes old new short clean small e begun = inr (refl, (short, clean, small), rw (← e) begun)
 
 -- an output that was made
 pub made_leaves : (name : Text) (input bytes : List ℕ) (old new : Meaning) → bytes ≡ output input → IsMade name bytes old new → Leaves name input status.Done 1 old new

@@ -1,8 +1,10 @@
 -- How a run ends: the verdict on the words and the input, the line said, and what stands afterwards.
-use Rattle.std.specs.Prelude.{◌≡◌, ◌⊎◌, ℕ, ◌+◌, ◌^◌, ◌<◌, ◌≤◌, true, false, List, [], ◌++◌, length, Option, IfSome, codes}
+use Rattle.std.specs.Prelude.{◌≡◌, ◌⊎◌, ℕ, ◌+◌, ◌^◌, ◌<◌, ◌≤◌, true, false, List, [], ◌++◌, length, Option, IfSome, codes, Some, None}
 use Rattle.std.specs.Option.{option_map}
 use Rattle.std.specs.Fmt.{decimal}
 use Rattle.jx_outside.specs.Causes.{Rose}
+use Rattle.jx_stream.specs.First.{first_fault}
+use Rattle.jx_stream.specs.declared.faults.StreamFault.TheVariants as fault
 use Rattle.jx_outside.specs.Device.{Meaning, joined, after_create, after_write, after_finish}
 use Rattle.jx_recast.specs.declared.status.Status.{Status}
 use Rattle.jx_recast.specs.declared.status.Status.TheVariants as status
@@ -18,6 +20,7 @@ most_bytes = 2 ^ 28
 abbrev pub number_of : Status → ℕ
 number_of status.Done = 0
 number_of status.Words = 2
+number_of (status.Rule number place) = 3
 number_of (status.Limit number found) = 4
 number_of status.ReadFault = 7
 number_of status.WriteFault = 8
@@ -28,17 +31,26 @@ number_of status.Form = 10
 abbrev pub IsVerdict : Status → Type 0
 IsVerdict status.Done = Unit {0}
 IsVerdict status.Words = Unit {0}
+IsVerdict (status.Rule number place) = Unit {0}
 IsVerdict (status.Limit number found) = Unit {0}
 IsVerdict status.Form = Unit {0}
 IsVerdict status.ReadFault = ⊥
 IsVerdict status.WriteFault = ⊥
 IsVerdict status.NoMemory = ⊥
 
--- the status that an input has where the words are good and nothing fails: limit 1, then the form
+-- limit 1 is passed, or a limit that is passed first in the headers
+abbrev pub PassesLimit : List ℕ → ℕ → ℕ → Type 0
+PassesLimit input number found =
+    ((most_bytes < length input) × (number ≡ 1) × (found ≡ most_bytes + 1))
+  ⊎ ((length input ≤ most_bytes) × (first_fault input ≡ Some (fault.Limit number found)))
+
+-- the status that an input has where the words are good and nothing fails: limit 1, then the first rule that its headers
+-- violate or limit that they pass, then the form
 abbrev pub Verdict : List ℕ → Status → Type 0
-Verdict input status.Done = (length input ≤ most_bytes) × IsSmall input
-Verdict input (status.Limit number found) = (most_bytes < length input) × (number ≡ 1) × (found ≡ most_bytes + 1)
-Verdict input status.Form = (length input ≤ most_bytes) × (IsSmall input → ⊥)
+Verdict input status.Done = (length input ≤ most_bytes) × (first_fault input ≡ None) × IsSmall input
+Verdict input (status.Rule number place) = (length input ≤ most_bytes) × (first_fault input ≡ Some (fault.Rule number place))
+Verdict input (status.Limit number found) = PassesLimit input number found
+Verdict input status.Form = (length input ≤ most_bytes) × (first_fault input ≡ None) × (IsSmall input → ⊥)
 Verdict input status.Words = ⊥
 Verdict input status.ReadFault = ⊥
 Verdict input status.WriteFault = ⊥
@@ -48,6 +60,7 @@ Verdict input status.NoMemory = ⊥
 abbrev pub line_of : Status → ℕ → ℕ → List ℕ
 line_of status.Done blocks bytes = codes "done: " ++ (decimal blocks ++ (codes " blocks, " ++ (decimal bytes ++ codes " bytes\n")))
 line_of status.Words blocks bytes = codes "words\n"
+line_of (status.Rule number place) blocks bytes = codes "rule " ++ (decimal number ++ (codes " at " ++ (decimal place ++ codes "\n")))
 line_of (status.Limit number found) blocks bytes = codes "limit " ++ (decimal number ++ (codes ": " ++ (decimal found ++ codes "\n")))
 line_of status.Form blocks bytes = codes "form\n"
 line_of status.ReadFault blocks bytes = codes "read fault\n"
@@ -64,6 +77,7 @@ Says status.WriteFault line old new = new ≡ old
 Says status.NoMemory line old new = (new ≡ old) ⊎ (new ≡ said_after line old)
 Says status.Done line old new = new ≡ said_after line old
 Says status.Words line old new = new ≡ said_after line old
+Says (status.Rule number place) line old new = new ≡ said_after line old
 Says (status.Limit number found) line old new = new ≡ said_after line old
 Says status.Form line old new = new ≡ said_after line old
 Says status.ReadFault line old new = new ≡ said_after line old
@@ -98,6 +112,7 @@ IsCutShort name input blocks old new = IsRefused blocks old new ⊎ ((blocks ≡
 abbrev pub Leaves : Text → List ℕ → Status → ℕ → Meaning → Meaning → Type 0
 Leaves name input status.Done blocks old new = (blocks ≡ 1) × IsMade name (output input) old new
 Leaves name input status.Words blocks old new = IsRefused blocks old new
+Leaves name input (status.Rule number place) blocks old new = IsRefused blocks old new
 Leaves name input (status.Limit number found) blocks old new = IsRefused blocks old new
 Leaves name input status.Form blocks old new = IsRefused blocks old new
 Leaves name input status.ReadFault blocks old new = IsRefused blocks old new

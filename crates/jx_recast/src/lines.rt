@@ -16,6 +16,7 @@ pub fn line_of(
     match status {
         Status::Done => format!(in alloc; "done: {blocks} blocks, {bytes} bytes\n"),
         Status::Words => String::from_str(alloc, "words\n"),
+        Status::Rule { number, place } => format!(in alloc; "rule {number} at {place}\n"),
         Status::Limit { number, found } => format!(in alloc; "limit {number}: {found}\n"),
         Status::Form => String::from_str(alloc, "form\n"),
         Status::ReadFault => String::from_str(alloc, "read fault\n"),

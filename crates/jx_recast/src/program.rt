@@ -1,9 +1,11 @@
 ghost use Rattle.std.specs.Prelude.{◌≡◌, ◌≤◌, ◌⊎◌, ℕ, List, [], true, false, Some, None, length, map, take, IfOk, OnOk, OnErr, IfSome, IsTrue, string_bytes};
 ghost use Rattle.jx_outside.specs.Causes.{HasCause, Rose};
 ghost use Rattle.jx_outside.specs.Device.{Allows, joined};
+ghost use Rattle.jx_stream.specs.Faults.{Answers};
+ghost use Rattle.jx_stream.specs.First.{first_fault};
 ghost use Rattle.jx_recast.specs.Small.{output};
 ghost use Rattle.jx_recast.specs.Words.{is_good, request_of};
-ghost use Rattle.jx_recast.specs.Outcome.{EndsAs, EndsFiles, IsBegun, IsMade, IsUntouched, IsVerdict, Leaves, Outcome, Verdict, line_of};
+ghost use Rattle.jx_recast.specs.Outcome.{EndsAs, EndsFiles, IsBegun, IsMade, IsUntouched, IsVerdict, Leaves, Outcome, Verdict, line_of, most_bytes};
 
 use crate::device::{MOST, read_all, write_pieces};
 use crate::lines::line_of;
@@ -12,6 +14,7 @@ use crate::words::is_good;
 use crate::{Report, Status};
 use jx_base::NoMemory;
 use jx_outside::{Files, Refused, Sink};
+use jx_stream::{StreamFault, read_stream};
 use std::alloc::Global;
 
 /// How the files were left, before anything is said.
@@ -73,11 +76,48 @@ fn write_output<F: Files>(files: &mut F, name: &str, out: &Output) -> Result<(),
     files.finish()
 }
 
+/// What becomes of an input whose headers violate no rule and pass no limit.
+fn rewrite<F: Files>(alloc: Global, files: &mut F, input: &[u8], to: &str) -> Ending
+    requires creates { F.can_create files.old to.now }
+    requires within { length input.now ≤ most_bytes }
+    requires clean { first_fault input.now ≡ None }
+    ensures verdict { IsVerdict result.status → Verdict input.now result.status }
+    ensures leaves {
+        Leaves to.now input.now result.status result.blocks (F.meaning files.old) (F.meaning files.new)
+    }
+    ensures bytes { result.status ≡ Status.Done → result.bytes ≡ length (output input.now) }
+    ensures cause { result.status ≡ Status.WriteFault → Rose (F.write_faults files.old) (F.write_faults files.new) }
+    ensures read { (result.status ≡ Status.ReadFault → ⊥) × (result.status ≡ Status.Words → ⊥) }
+    ensures other { F.read_faults files.new ≡ F.read_faults files.old }
+{
+    let out = match rewritten(alloc, input) {
+        Ok(Some(out)) => out,
+        Ok(None) => return Ending::refused(Status::Form),
+        Err(NoMemory) => return Ending::refused(Status::NoMemory),
+    };
+    match write_output(files, to, &out) {
+        Ok(()) => Ending::accepted(Status::Done, out.bytes.len()),
+        Err(Refused::Failed) => Ending::accepted(Status::WriteFault, 0),
+        Err(Refused::NoMemory) => Ending::accepted(Status::NoMemory, 0),
+    }
+}
+
+/// What is first violated or passed in the headers.
+fn header_fault(alloc: Global, input: &[u8]) -> Result<(), StreamFault>
+    requires { length input.now ≤ most_bytes }
+    ensures { Answers result (first_fault input.now) (λ _. Unit {0}) }
+{
+    let _stream = read_stream(alloc, input)?;
+    Ok(())
+}
+
 /// What becomes of the bytes that were read, at most `MOST`.
 fn answer<F: Files>(alloc: Global, files: &mut F, input: &[u8], to: &str) -> Ending
     requires { F.can_create files.old to.now }
     ensures verdict { IsVerdict result.status → Verdict input.now result.status }
-    ensures leaves { Leaves to.now input.now result.status result.blocks (F.meaning files.old) (F.meaning files.new) }
+    ensures leaves {
+        Leaves to.now input.now result.status result.blocks (F.meaning files.old) (F.meaning files.new)
+    }
     ensures bytes { result.status ≡ Status.Done → result.bytes ≡ length (output input.now) }
     ensures cause { result.status ≡ Status.WriteFault → Rose (F.write_faults files.old) (F.write_faults files.new) }
     ensures read { (result.status ≡ Status.ReadFault → ⊥) × (result.status ≡ Status.Words → ⊥) }
@@ -89,15 +129,11 @@ fn answer<F: Files>(alloc: Global, files: &mut F, input: &[u8], to: &str) -> End
             found: 268_435_457,
         });
     }
-    let out = match rewritten(alloc, input) {
-        Ok(Some(out)) => out,
-        Ok(None) => return Ending::refused(Status::Form),
-        Err(NoMemory) => return Ending::refused(Status::NoMemory),
-    };
-    match write_output(files, to, &out) {
-        Ok(()) => Ending::accepted(Status::Done, out.bytes.len()),
-        Err(Refused::Failed) => Ending::accepted(Status::WriteFault, 0),
-        Err(Refused::NoMemory) => Ending::accepted(Status::NoMemory, 0),
+    match header_fault(alloc, input) {
+        Ok(()) => rewrite(alloc, files, input, to),
+        Err(StreamFault::Rule { number, place }) => Ending::refused(Status::Rule { number, place }),
+        Err(StreamFault::Limit { number, found }) => Ending::refused(Status::Limit { number, found }),
+        Err(StreamFault::NoMemory) => Ending::refused(Status::NoMemory),
     }
 }
 

@@ -5,6 +5,8 @@ pub enum Status {
     Done,
     /// The words are no command.
     Words,
+    /// The input violates a rule: its number, and the place of the byte.
+    Rule { number: u8, place: u32 },
     /// A limit was passed: its number, and what was counted.
     Limit { number: u8, found: u128 },
     /// The input is none of the codestreams that this version rewrites.
@@ -28,6 +30,7 @@ impl Status {
         match self {
             Status::Done => 0,
             Status::Words => 2,
+            Status::Rule { .. } => 3,
             Status::Limit { .. } => 4,
             Status::ReadFault => 7,
             Status::WriteFault => 8,
