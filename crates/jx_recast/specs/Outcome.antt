@@ -42,7 +42,7 @@ IsVerdict status.NoMemory = ⊥
 abbrev pub PassesLimit : List ℕ → ℕ → ℕ → Type 0
 PassesLimit input number found =
     ((most_bytes < length input) × (number ≡ 1) × (found ≡ most_bytes + 1))
-  ⊎ ((length input ≤ most_bytes) × (first_fault input ≡ Some (fault.Limit number found)))
+    ⊎ ((length input ≤ most_bytes) × (first_fault input ≡ Some (fault.Limit number found)))
 
 -- the status that an input has where the words are good and nothing fails: limit 1, then the first rule that its headers
 -- violate or limit that they pass, then the form

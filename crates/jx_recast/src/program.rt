@@ -82,9 +82,7 @@ fn rewrite<F: Files>(alloc: Global, files: &mut F, input: &[u8], to: &str) -> En
     requires within { length input.now ≤ most_bytes }
     requires clean { first_fault input.now ≡ None }
     ensures verdict { IsVerdict result.status → Verdict input.now result.status }
-    ensures leaves {
-        Leaves to.now input.now result.status result.blocks (F.meaning files.old) (F.meaning files.new)
-    }
+    ensures leaves { Leaves to.now input.now result.status result.blocks (F.meaning files.old) (F.meaning files.new) }
     ensures bytes { result.status ≡ Status.Done → result.bytes ≡ length (output input.now) }
     ensures cause { result.status ≡ Status.WriteFault → Rose (F.write_faults files.old) (F.write_faults files.new) }
     ensures read { (result.status ≡ Status.ReadFault → ⊥) × (result.status ≡ Status.Words → ⊥) }
@@ -115,9 +113,7 @@ fn header_fault(alloc: Global, input: &[u8]) -> Result<(), StreamFault>
 fn answer<F: Files>(alloc: Global, files: &mut F, input: &[u8], to: &str) -> Ending
     requires { F.can_create files.old to.now }
     ensures verdict { IsVerdict result.status → Verdict input.now result.status }
-    ensures leaves {
-        Leaves to.now input.now result.status result.blocks (F.meaning files.old) (F.meaning files.new)
-    }
+    ensures leaves { Leaves to.now input.now result.status result.blocks (F.meaning files.old) (F.meaning files.new) }
     ensures bytes { result.status ≡ Status.Done → result.bytes ≡ length (output input.now) }
     ensures cause { result.status ≡ Status.WriteFault → Rose (F.write_faults files.old) (F.write_faults files.new) }
     ensures read { (result.status ≡ Status.ReadFault → ⊥) × (result.status ≡ Status.Words → ⊥) }
@@ -132,7 +128,10 @@ fn answer<F: Files>(alloc: Global, files: &mut F, input: &[u8], to: &str) -> End
     match header_fault(alloc, input) {
         Ok(()) => rewrite(alloc, files, input, to),
         Err(StreamFault::Rule { number, place }) => Ending::refused(Status::Rule { number, place }),
-        Err(StreamFault::Limit { number, found }) => Ending::refused(Status::Limit { number, found }),
+        Err(StreamFault::Limit { number, found }) => Ending::refused(Status::Limit {
+            number,
+            found,
+        }),
         Err(StreamFault::NoMemory) => Ending::refused(Status::NoMemory),
     }
 }

@@ -158,44 +158,148 @@ fn refused(
     Ok(())
 }
 
+// The small file with these bytes in place of so many others.
+fn edited(
+    rt: &(impl Abort + AllocGlobal),
+    at: usize,
+    gone: usize,
+    put: &[u8],
+) -> Result<Vec<u8>, Fail> {
+    assert!(rt; at <= SMALL.len());
+    let mut bytes = SMALL[..at].to_vec(rt.alloc())?;
+    bytes.extend_from_slice(put)?;
+    assert!(rt; gone <= SMALL.len() - at);
+    bytes.extend_from_slice(&SMALL[at + gone..])?;
+    Ok(bytes)
+}
+
+fn breaks(
+    rt: &(impl Abort + AllocGlobal),
+    bytes: &[u8],
+    number: u8,
+    place: u32,
+) -> Result<(), Fail> {
+    let line = format!(in rt.alloc(); "rule {number} at {place}\n")?;
+    refused(rt, bytes, Status::Rule { number, place }, line.as_str())
+}
+
+#[test]
+fn rules_of_headers(rt: HostRuntime) -> Result<(), Fail> {
+    let rows: [(usize, usize, &[u8], u8, u32); 25] = [
+        (60, 22, &[], 1, 59),
+        (45, 2, &[0xFF, 0x50], 2, 45),
+        (4, 2, &[0, 0x2A], 3, 2),
+        (8, 4, &[0, 0, 0, 0], 4, 2),
+        (6, 2, &[0x40, 0], 5, 2),
+        (51, 2, &[0, 0], 6, 45),
+        (57, 1, &[0x40], 7, 45),
+        (
+            45,
+            14,
+            &[0xFF, 0x52, 0, 0x0E, 1, 0, 0, 1, 0, 1, 4, 4, 0, 1, 0x77, 7],
+            8,
+            45,
+        ),
+        (63, 1, &[0x43], 9, 59),
+        (54, 1, &[1], 9, 65),
+        (65, 0, &[0xFF, 0x5E, 0, 5, 0, 1, 0], 10, 65),
+        (65, 0, &[0xFF, 0x5F, 0, 9, 0, 0, 0, 1, 1, 1, 5], 11, 65),
+        (65, 0, &[0xFF, 0x5D, 0, 5, 5, 0x40, 0x40], 12, 65),
+        (77, 0, &[0xFF, 0x58, 0, 2], 13, 77),
+        (45, 2, &[0xFF, 0x60], 14, 45),
+        (0, 82, &[], 15, 0),
+        (2, 2, &[0xFF, 0x52], 16, 2),
+        (59, 6, &[], 17, 59),
+        (
+            59,
+            0,
+            &[0xFF, 0x52, 0, 0x0C, 0, 0, 0, 1, 0, 0, 4, 4, 0, 1],
+            18,
+            59,
+        ),
+        (45, 2, &[0xFF, 0x4F], 19, 45),
+        (69, 2, &[0, 1], 20, 65),
+        (75, 1, &[1], 21, 65),
+        (71, 4, &[0, 0, 0, 0x12], 22, 65),
+        (80, 2, &[], 23, 80),
+        (8, 4, &[0, 0, 0, 2], 24, 80),
+    ];
+    for (at, gone, put, number, place) in rows {
+        breaks(&rt, &edited(&rt, at, gone, put)?, number, place)?;
+    }
+    Ok(())
+}
+
+#[test]
+fn cut_files(rt: HostRuntime) -> Result<(), Fail> {
+    for (first, end, number, place) in [
+        (0usize, 2usize, 15u8, 0u32),
+        (2, 4, 16, 2),
+        (4, 45, 1, 2),
+        (45, 59, 1, 45),
+        (59, 65, 1, 59),
+        (65, 77, 1, 65),
+        (77, 80, 22, 65),
+        (80, 82, 23, 80),
+    ] {
+        for length in first..end {
+            assert!(rt; length <= SMALL.len());
+            breaks(&rt, &SMALL[..length], number, place)?;
+        }
+    }
+    Ok(())
+}
+
+#[test]
+fn limits_of_headers(rt: HostRuntime) -> Result<(), Fail> {
+    let tiles = edited(&rt, 8, 4, &[0, 1, 0, 0])?;
+    refused(
+        &rt,
+        &tiles,
+        Status::Limit {
+            number: 3,
+            found: 65_536,
+        },
+        "limit 3: 65536\n",
+    )?;
+    let planes = edited(&rt, 63, 2, &[0xE0, 0xF8, 0xFF, 0x5E, 0, 5, 0, 0, 38])?;
+    refused(
+        &rt,
+        &planes,
+        Status::Limit {
+            number: 4,
+            found: 75,
+        },
+        "limit 4: 75\n",
+    )?;
+    let wide = edited(&rt, 8, 8, &[0xFF; 8])?;
+    refused(
+        &rt,
+        &wide,
+        Status::Limit {
+            number: 3,
+            found: 18_446_744_065_119_617_025,
+        },
+        "limit 3: 18446744065119617025\n",
+    )
+}
+
 #[test]
 fn other_forms(rt: HostRuntime) -> Result<(), Fail> {
-    let alloc = rt.alloc();
-    for length in 0..SMALL.len() {
-        refused(&rt, &SMALL[..length], Status::Form, "form\n")?;
-    }
-    // a packet with a code-block
-    let mut block = SMALL[..79].to_vec(alloc)?;
-    block[74] = 0x11;
-    block.extend_from_slice(&[0xC0, 0x21, 0x03, 0xFF, 0xD9])?;
-    refused(&rt, &block, Status::Form, "form\n")?;
-    let mut more = SMALL.to_vec(alloc)?;
-    more.push(0)?;
-    refused(&rt, &more, Status::Form, "form\n")?;
-    // one byte of the small file changed
-    for (at, byte) in [
-        (6, 0x80),
-        (11, 0x41),
-        (27, 0),
-        (43, 2),
-        (44, 2),
-        (49, 1),
-        (49, 4),
-        (52, 2),
-        (54, 1),
-        (57, 0x40),
-        (63, 0x41),
-        (70, 1),
-        (74, 0x10),
-        (75, 1),
-        (76, 2),
-        (79, 0x80),
-        (81, 0xD8),
-    ] {
-        let mut changed = SMALL;
-        assert!(rt; at < changed.len());
-        changed[at] = byte;
-        refused(&rt, &changed, Status::Form, "form\n")?;
+    // two samples for one, EPH, two layers, two tile-parts told, a packet that isn't empty, a packet with a
+    // code-block, a byte after EOC
+    let rows: [(usize, usize, &[u8]); 8] = [
+        (43, 1, &[2]),
+        (44, 1, &[2]),
+        (49, 1, &[4]),
+        (52, 1, &[2]),
+        (76, 1, &[2]),
+        (79, 1, &[0x80]),
+        (74, 6, &[0x11, 0, 1, 0xFF, 0x93, 0xC0, 0x21, 3]),
+        (82, 0, &[0]),
+    ];
+    for (at, gone, put) in rows {
+        refused(&rt, &edited(&rt, at, gone, put)?, Status::Form, "form\n")?;
     }
     Ok(())
 }
