@@ -113,5 +113,128 @@ module _ (b : List ℕ) (start : ℕ) (cod : Cod) (quant : Quant) (sot : Sot) (r
       read_end Main 1 b start (segment.Cod cod ∷ segment.Qcd quant ∷ []) at_sot second
       (early_clear Main 1 b at_sot three.rules (ap (stands_in Main) three.value)) (ap ends_header three.value)
 
+-- the tile-part
+
+record IsPart (sot : Sot) : Type 0 where
+  tile : sot.tile ≡ 0
+  psot : sot.psot ≡ 15
+  part : sot.part ≡ 0
+  parts : sot.parts ≤ 1
+
+in_turn : (part parts : ℕ) → part ≡ 0 → parts ≤ 1 → (not (part == 0) || (nat_lt 0 parts && (nat_le parts part || false))) ≡ false
+in_turn part parts zero_part few = grind (arith, nat_tests)
+
+module _ (b : List ℕ) (at : ℕ) (sot : Sot) (packet : ℕ) (here : drop at b ≡ spelling 1 (segment.Sot sot) ++ tail_sod packet) (range : SotInRange sot) (is : IsPart sot) where
+  whole_size : length b ≡ at + 17
+  whole_size =
+      let size : length (drop at b) ≡ 17 = ap (λ (l : List ℕ). length l) here in
+      omega (arith, length-drop at b)
+
+  sot_here : sot ≡ sot_in b at
+  sot_here = sym (ap (λ (x : List ℕ). sot_at (body_at x)) here ∙ sot_read sot (tail_sod packet) range)
+
+  after_here : at + 12 ≡ after_sot b at
+  after_here = ap (λ (n : ℕ). at + n) (sym (stands_here b at (segment.Sot sot) (tail_sod packet) here range).takes)
+
+  sod_here : drop (at + 12) b ≡ spelling 1 segment.Sod ++ tail_end packet
+  sod_here = drop_on at 12 b ∙ ap (λ (x : List ℕ). drop 12 x) here
+
+  eoc_here : drop (at + 15) b ≡ 255 ∷ 217 ∷ []
+  eoc_here = drop_on at 15 b ∙ ap (λ (x : List ℕ). drop 15 x) here
+
+  first_kind : First ≡ kind_of sot
+  first_kind = rw is.part refl
+
+  abbrev part_head : Header
+  part_head = record { segments = []; end = at + 12 }
+
+  head_read : (header_fault First 1 b (at + 12) ≡ None) × (header_at First 1 b (at + 12) ≡ part_head)
+  head_read =
+      let sod = stands_here b (at + 12) segment.Sod (tail_end packet) sod_here tt in
+      read_end First 1 b (at + 12) [] (at + 12) refl (early_clear First 1 b (at + 12) sod.rules (ap (stands_in First) sod.value)) (ap ends_header sod.value)
+
+  head_is : part_head ≡ part_header 1 b at
+  head_is = header_same 1 b at sot (at + 12) First part_head sot_here after_here first_kind (sym head_read.1)
+
+  start_none : start_fault 1 b at ≡ None
+  start_none = start_clear 1 b at (marker_here b at 144 _ 144 here) (stands_here b at (segment.Sot sot) (tail_sod packet) here range).rules
+
+  sot_none : sot_fault 1 b at sot (comes_out_of_turn [] sot) ≡ None
+  unfolding sot_fault
+  sot_none =
+      let turn : comes_out_of_turn [] sot ≡ false = in_turn sot.part sot.parts is.part is.parts in
+      let size = whole_size in
+      let psot = is.psot in
+      let long : has_wrong_length b at sot ≡ false = grind (arith, nat_tests) in
+      rw (turn, is.tile, long) refl
+
+  sod_none : sod_fault b at sot (at + 12) ≡ None
+  unfolding sod_fault
+  sod_none =
+      let within : nat_lt (at + 15) (at + 12 + 2) ≡ false = grind (arith, nat_tests) in
+      rw (is.psot, within) refl
+
+  part_clear : fault_after 1 1 b [] at ≡ None
+  part_clear = part_none 1 1 b (comes_out_of_turn [] (sot_in b at)) at start_none
+      (ap (λ (s : Sot). sot_fault 1 b at s (comes_out_of_turn [] s)) (sym sot_here) ∙ sot_none)
+      (sym (header_fault_same 1 b at sot (at + 12) First sot_here after_here first_kind) ∙ head_read.0)
+      (ap (λ (s : Sot). sod_fault b at s (part_header 1 b at).end) (sym sot_here) ∙ ap (λ (h : Header). sod_fault b at sot h.end) (sym head_is) ∙ sod_none)
+
+  abbrev the_part : Part
+  the_part = record { place = at; sot = sot; header = []; body = record { at = at + 12 + 2; length = at + 15 - (at + 12 + 2) } }
+
+  end_here : at + 15 ≡ end_of b at sot
+  end_here = rw is.psot refl
+
+  the_part_is : the_part ≡ part_at 1 b at
+  the_part_is = part_is 1 b at sot part_head (at + 15) sot_here head_is end_here
+
+  parts_read : (parts_fault 1 1 b at ≡ None) × (the_part ∷ [] ≡ (parts_from 1 1 b at).parts) × (at + 15 ≡ (parts_from 1 1 b at).end)
+  parts_read =
+      let next : at + 15 ≡ end_of_part the_part = omega arith in
+      let more = parts_more 1 1 b at [] at refl (the_part ∷ []) the_part (at + 15) (inside_here b at _ _ here) (marker_here b at 144 _ 217 here) part_clear the_part_is refl next in
+      parts_end 1 1 b at (the_part ∷ []) (at + 15) more (marker_here b (at + 15) 217 _ 217 eoc_here)
+
+  none_lacking : lacks_part (the_part ∷ []) 1 ≡ false
+  none_lacking = rw is.tile refl
+
+  tiles_here : (main : List Segment) → ◌≡◌ {A = List Segment} (tile_of main (the_part ∷ []) 0).header []
+  unfolding tile_of
+  tiles_here main = rw is.tile refl
+
+-- its parameters
+
+record IsPlain (cod : Cod) (quant : Quant) : Type 0 where
+  levels : cod.shape.levels ≡ 0
+  style : (quant.sqcd % 32 == 0) ≡ true
+  entries : length quant.entries ≡ 1
+
+few_planes : (sqcd entry : ℕ) → sqcd < 256 → nat_lt 74 ((sqcd / 32 + entry % 256 / 8 - 1) + 0) ≡ false
+few_planes sqcd entry small =
+    let guard : sqcd / 32 ≤ 7 = omega arith in
+    let exponent : entry % 256 / 8 ≤ 31 = omega arith in
+    grind (arith, nat_tests)
+
+module _ (cod : Cod) (quant : Quant) (range : QuantInRange quant 0) (plain : IsPlain cod quant) (tile : Tile) (own : tile.header ≡ []) where
+  abbrev the_main : List Segment
+  the_main = segment.Cod cod ∷ segment.Qcd quant ∷ []
+
+  has_enough : tile_has_too_few the_main 1 tile ≡ false
+  unfolding tile_has_too_few
+  has_enough = rw (own, plain.style, plain.entries, plain.levels) refl
+
+  planes_are : tile_planes the_main 1 tile ≡ planes_of quant 0 0 0 ∷ []
+  unfolding tile_planes
+  planes_are = rw (own, plain.levels) refl
+
+  planes_few : nat_lt 74 (planes_of quant 0 0 0) ≡ false
+  planes_few = rw plain.style (few_planes quant.sqcd (slice_index quant.entries 0) range.sqcd)
+
+  entries_none : entries_fault the_main 1 (tile ∷ []) ≡ None
+  entries_none = rw has_enough refl
+
+  planes_none : planes_fault the_main 1 (tile ∷ []) ≡ None
+  planes_none = rw (planes_are, planes_few) refl
+
 pub small_is_clean : (bytes : List ℕ) → IsSmall bytes → first_fault bytes ≡ None
 small_is_clean bytes small = ?
