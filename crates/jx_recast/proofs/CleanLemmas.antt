@@ -236,5 +236,113 @@ module _ (cod : Cod) (quant : Quant) (range : QuantInRange quant 0) (plain : IsP
   planes_none : planes_fault the_main 1 (tile ∷ []) ≡ None
   planes_none = rw (planes_are, planes_few) refl
 
+-- what the tests of the headers say
+
+record IsSingle (h : Headers) : Type 0 where
+  comps : length h.siz.comps ≡ 1
+  across : h.siz.x1 ≤ h.siz.tx + h.siz.tw
+  down : h.siz.y1 ≤ h.siz.ty + h.siz.th
+  plain : IsPlain h.cod h.quant
+  part : IsPart h.sot
+
+most : (a b : ℕ) → nat_le a b ≡ true → a ≤ b
+most a b h = grind (arith, nat_tests)
+
+is_single : (h : Headers) → is_one_of_each h ≡ true → IsSingle h
+is_single h single =
+    let cod = h.cod in
+    let quant = h.quant in
+    let sot = h.sot in
+    let last_levels : Bool = (cod.shape.levels == 0) && (length cod.shape.precincts == 0) in
+    let one = both (is_one_component h.siz) (is_one_tile h.siz && (is_one_packet cod && (is_one_block h.siz cod.shape && (is_one_step quant && is_one_part sot)))) single in
+    let two = both (is_one_tile h.siz) (is_one_packet cod && (is_one_block h.siz cod.shape && (is_one_step quant && is_one_part sot))) one.1 in
+    let three = both (is_one_packet cod) (is_one_block h.siz cod.shape && (is_one_step quant && is_one_part sot)) two.1 in
+    let four = both (is_one_block h.siz cod.shape) (is_one_step quant && is_one_part sot) three.1 in
+    let five = both (is_one_step quant) (is_one_part sot) four.1 in
+    let comp = both (length h.siz.comps == 1) (list_all has_grid_sampling h.siz.comps) one.0 in
+    let tile = both (nat_le h.siz.x1 (h.siz.tx + h.siz.tw)) (nat_le h.siz.y1 (h.siz.ty + h.siz.th)) two.0 in
+    let no_sop = both (not cod.sop) (not cod.eph && ((cod.layers == 1) && last_levels)) three.0 in
+    let no_eph = both (not cod.eph) ((cod.layers == 1) && last_levels) no_sop.1 in
+    let layers = both (cod.layers == 1) last_levels no_eph.1 in
+    let levels = both (cod.shape.levels == 0) (length cod.shape.precincts == 0) layers.1 in
+    let step = both (quant.sqcd % 32 == 0) (length quant.entries == 1) five.0 in
+    let first = both (sot.tile == 0) ((sot.psot == 15) && ((sot.part == 0) && nat_le sot.parts 1)) five.1 in
+    let second = both (sot.psot == 15) ((sot.part == 0) && nat_le sot.parts 1) first.1 in
+    let third = both (sot.part == 0) (nat_le sot.parts 1) second.1 in
+    record {
+      comps = is_equal (length h.siz.comps) 1 comp.0;
+      across = most h.siz.x1 (h.siz.tx + h.siz.tw) tile.0;
+      down = most h.siz.y1 (h.siz.ty + h.siz.th) tile.1;
+      plain = record { levels = is_equal cod.shape.levels 0 levels.0; style = step.0; entries = is_equal (length quant.entries) 1 step.1 };
+      part = record {
+        tile = is_equal sot.tile 0 first.0;
+        psot = is_equal sot.psot 15 second.0;
+        part = is_equal sot.part 0 third.0;
+        parts = most sot.parts 1 third.1;
+      };
+    }
+
+-- the rest of the file after SIZ
+
+module _ (b : List ℕ) (start : ℕ) (h : Headers) (packet : ℕ) (here : drop start b ≡ tail_cod h packet) (ranges : AreInRange h) (single : IsSingle h) where
+  abbrev sot_place : ℕ
+  sot_place = at_sot b start h.cod h.quant h.sot (tail_sod packet) here ranges.cod ranges.quant ranges.sot
+
+  abbrev one_part : List Part
+  one_part = the_part b sot_place h.sot packet (sot_stands b start h.cod h.quant h.sot (tail_sod packet) here ranges.cod ranges.quant ranges.sot) ranges.sot single.part ∷ []
+
+  abbrev two_segments : List Segment
+  two_segments = segment.Cod h.cod ∷ segment.Qcd h.quant ∷ []
+
+  abbrev main_is : Header
+  main_is = record { segments = two_segments; end = sot_place }
+
+  abbrev the_stream : Stream
+  the_stream = record { siz = h.siz; main = two_segments; tiles = tiles_of two_segments one_part 1 }
+
+  sot_there : drop sot_place b ≡ spelling 1 (segment.Sot h.sot) ++ tail_sod packet
+  sot_there = sot_stands b start h.cod h.quant h.sot (tail_sod packet) here ranges.cod ranges.quant ranges.sot
+
+  main_there : (header_fault Main 1 b start ≡ None) × (header_at Main 1 b start ≡ main_is)
+  main_there = main_read b start h.cod h.quant h.sot (tail_sod packet) here ranges.cod ranges.quant ranges.sot
+
+  main_none : main_fault 1 b start ≡ None
+  main_none = main_clear 1 b start main_is main_there.0 (sym main_there.1) refl
+
+  body_none : (body_fault 1 1 b start ≡ None) × (one_part ≡ (parts_after 1 1 b start).parts)
+  body_none =
+      let read = parts_read b sot_place h.sot packet sot_there ranges.sot single.part in
+      body_clear 1 1 b start main_is one_part main_none (sym main_there.1) read.0 read.1 (none_lacking b sot_place h.sot packet sot_there ranges.sot single.part)
+
+  tiles_there : tile_number h.siz ≡ 1
+  tiles_there = one_tile h.siz ranges.siz single.across single.down
+
+  stream_there : the_stream ≡ stream_from h.siz b start
+  stream_there = stream_is h.siz b start 1 1 two_segments one_part (tiles_of two_segments one_part 1) (sym single.comps) (sym tiles_there)
+      (ap (λ (x : Header). x.segments) (sym main_there.1)) body_none.1 refl
+
+  parameters_none : parameters_fault the_stream ≡ None
+  parameters_none =
+      let own : ◌≡◌ {A = List Segment} (tile_of two_segments one_part 0).header [] = tiles_here b sot_place h.sot packet sot_there ranges.sot single.part two_segments in
+      let few = entries_none h.cod h.quant ranges.quant single.plain (tile_of two_segments one_part 0) own in
+      let low = planes_none h.cod h.quant ranges.quant single.plain (tile_of two_segments one_part 0) own in
+      rw (single.comps, few, low) refl
+
+  later_none : later_fault h.siz b start ≡ None
+  later_none = later_clear h.siz b start 1 1 the_stream (one_tile_clear h.siz tiles_there) (sym single.comps) (sym tiles_there) body_none.0 stream_there parameters_none
+
+-- the whole file
+
+clean : (b : List ℕ) (h : Headers) (packet : ℕ) → b ≡ spelled h (packet ∷ []) → AreInRange h → is_one_of_each h ≡ true → first_fault b ≡ None
+clean b h packet whole ranges single =
+    let siz_there : drop 2 b ≡ tail_siz h packet = ap (λ (x : List ℕ). drop 2 x) whole in
+    let front : front_fault b ≡ None = front_clear b (ap (λ (x : List ℕ). marker_at x 0 79) whole) (ap (λ (x : List ℕ). marker_at x 2 81) whole)
+        (stands_here b 2 (segment.Siz h.siz) (tail_cod h packet) siz_there ranges.siz).rules in
+    let is : h.siz ≡ siz_of b = sym (ap (λ (x : List ℕ). siz_at (body_at x)) siz_there ∙ siz_read h.siz (tail_cod h packet) ranges.siz) in
+    let cod_there : drop (after_siz b) b ≡ tail_cod h packet = rest_here b 2 (segment.Siz h.siz) (tail_cod h packet) siz_there ranges.siz in
+    let one = is_single h single in
+    (first_clear b h.siz (after_siz b) (the_stream b (after_siz b) h packet cod_there ranges one) front is refl
+    (later_none b (after_siz b) h packet cod_there ranges one) (stream_there b (after_siz b) h packet cod_there ranges one)).0
+
 pub small_is_clean : (bytes : List ℕ) → IsSmall bytes → first_fault bytes ≡ None
-small_is_clean bytes small = ?
+small_is_clean bytes small = clean bytes (headers_at bytes) (packet_at bytes) small.spells.whole small.spells.ranges small.single
