@@ -1,3 +1,4 @@
 pub mod ProgressLemmas
 pub mod OutcomeLemmas
 pub mod SmallLemmas
+pub mod CleanLemmas

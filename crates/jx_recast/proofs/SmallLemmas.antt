@@ -72,7 +72,7 @@ sot_of : Sot → Segment → Sot
 sot_of other (segment.Sot sot) = sot
 sot_of other _ = other
 
-siz_read : (siz : Siz) (rest : List ℕ) → SizInRange siz → siz_at (body_at (spelling 1 (segment.Siz siz) ++ rest)) ≡ siz
+pub siz_read : (siz : Siz) (rest : List ℕ) → SizInRange siz → siz_at (body_at (spelling 1 (segment.Siz siz) ++ rest)) ≡ siz
 unfolding siz_of
 siz_read siz rest range = ap (siz_of siz) (segment_is_read 1 (segment.Siz siz) rest range).value
 
@@ -84,7 +84,7 @@ quant_read : (quant : Quant) (rest : List ℕ) → QuantInRange quant 0 → quan
 unfolding quant_of
 quant_read quant rest range = ap (quant_of quant) (segment_is_read 1 (segment.Qcd quant) rest range).value
 
-sot_read : (sot : Sot) (rest : List ℕ) → SotInRange sot → sot_at (body_at (spelling 1 (segment.Sot sot) ++ rest)) ≡ sot
+pub sot_read : (sot : Sot) (rest : List ℕ) → SotInRange sot → sot_at (body_at (spelling 1 (segment.Sot sot) ++ rest)) ≡ sot
 unfolding sot_of
 sot_read sot rest range = ap (sot_of sot) (segment_is_read 1 (segment.Sot sot) rest range).value
 
