@@ -1,5 +1,5 @@
 -- The first violation of a file, by what was read before it.
-use Rattle.std.proofs.Common.{◌≡◌, ◌≢◌, ◌∙◌, ◌<◌, ◌≤◌, ◌+◌, ◌-◌, ◌*◌, ◌==◌, ◌||◌, ◌&&◌, ℕ, zero, suc, Bool, true, false, not, nat_lt, nat_le, arith, List, [], ◌∷◌, ◌++◌, length, drop, map, get_or, refl, sym, ap, subst, Option, Some, None, cond, Result, Ok, Err}
+use Rattle.std.proofs.Common.{◌≡◌, ◌∙◌, ◌<◌, ◌≤◌, ◌+◌, ◌==◌, ◌||◌, ◌&&◌, ℕ, Bool, true, false, not, nat_lt, nat_le, arith, List, [], ◌∷◌, length, drop, map, get_or, refl, sym, ap, Some, None, Result, Err}
 use Rattle.std.specs.List.{list_any, list_all, range_with_len}
 use Rattle.std.specs.Option.{option_or}
 use Rattle.std.proofs.lemmas.Bool.Decides.{nat_tests}
@@ -20,8 +20,8 @@ use Rattle.jx_stream.specs.declared.headers.HeaderKind.TheVariants.{Main}
 use Rattle.jx_stream.specs.declared.parts.Part.{Part}
 use Rattle.jx_stream.specs.declared.Stream.{Stream}
 use Rattle.jx_stream.specs.declared.Tile.{Tile}
-use Rattle.jx_stream.specs.Faults.{broken, rule_at, fault_of, IsCause}
-use Rattle.jx_stream.specs.Headers.{header_fault, has_slot, slot_count, Marks}
+use Rattle.jx_stream.specs.Faults.{broken, fault_of, IsCause}
+use Rattle.jx_stream.specs.Headers.{header_fault, slot_count, Marks}
 use Rattle.jx_stream.specs.Parts.{marker_at, parts_of, parts_fault, parts_from, Tracks}
 use Rattle.jx_stream.specs.Tiles.{tiles_of}
 use Rattle.jx_stream.specs.Params.{entries_fault, planes_fault}
@@ -174,7 +174,7 @@ pub lacks_by_counts : (parts : List Part) (counts told : List ℕ) (tiles : ℕ)
     → found ≡ list_any (λ (n : ℕ). n == 0) counts → lacks_part parts tiles ≡ found
 lacks_by_counts parts counts told tiles found tracks size is =
     let counted : counts ≡ map (λ (tile : ℕ). length (parts_of tile parts)) (range_with_len 0 tiles) =
-        fill_by_all (λ (tile : ℕ). length (parts_of tile parts)) counts tiles 0 size (λ k inside. tracks.count k (omega arith)) in
+    fill_by_all (λ (tile : ℕ). length (parts_of tile parts)) counts tiles 0 size (λ k inside. tracks.count k (omega arith)) in
     sym (is ∙ ap (λ (x : List ℕ). list_any (λ (n : ℕ). n == 0) x) counted ∙ any_mapped (λ (n : ℕ). n == 0) (λ (tile : ℕ). length (parts_of tile parts)) (range_with_len 0 tiles))
 
 pub tracks_none : (counts told : List ℕ) → ((tile : ℕ) → get_or counts tile 0 ≡ 0) → ((tile : ℕ) → get_or told tile 0 ≡ 0) → Tracks [] counts told
@@ -209,7 +209,7 @@ pub later_parameters : (siz : Siz) (b : List ℕ) (start comps tiles : ℕ) (s :
 unfolding later_fault
 later_parameters siz b start comps tiles s e clear is count body stream h =
     let none : body_fault (length siz.comps) (tile_number siz) b start ≡ None =
-        sym (ap (λ (n : ℕ). body_fault n tiles b start) is ∙ ap (λ (n : ℕ). body_fault (length siz.comps) n b start) count) ∙ body in
+    sym (ap (λ (n : ℕ). body_fault n tiles b start) is ∙ ap (λ (n : ℕ). body_fault (length siz.comps) n b start) count) ∙ body in
     cause_later e (tiles_fault siz) (option_or (body_fault (length siz.comps) (tile_number siz) b start) (parameters_fault (stream_from siz b start))) clear
     (cause_later e (body_fault (length siz.comps) (tile_number siz) b start) (parameters_fault (stream_from siz b start)) none
     (cause_same e (parameters_fault s) (parameters_fault (stream_from siz b start)) (ap parameters_fault stream) h))
@@ -219,7 +219,7 @@ pub later_clear : (siz : Siz) (b : List ℕ) (start comps tiles : ℕ) (s : Stre
 unfolding later_fault
 later_clear siz b start comps tiles s clear is count body stream h =
     let none : body_fault (length siz.comps) (tile_number siz) b start ≡ None =
-        sym (ap (λ (n : ℕ). body_fault n tiles b start) is ∙ ap (λ (n : ℕ). body_fault (length siz.comps) n b start) count) ∙ body in
+    sym (ap (λ (n : ℕ). body_fault n tiles b start) is ∙ ap (λ (n : ℕ). body_fault (length siz.comps) n b start) count) ∙ body in
     none_of_both (tiles_fault siz) (option_or (body_fault (length siz.comps) (tile_number siz) b start) (parameters_fault (stream_from siz b start))) clear
     (none_of_both (body_fault (length siz.comps) (tile_number siz) b start) (parameters_fault (stream_from siz b start)) none (sym (ap parameters_fault stream) ∙ h))
 
@@ -241,9 +241,9 @@ pub first_clear : (b : List ℕ) (siz : Siz) (start : ℕ) (s : Stream) → fron
     → (first_fault b ≡ None) × (s ≡ stream_in b)
 unfolding first_fault
 first_clear b siz start s clear is after later stream = (
-      none_of_both (front_fault b) (later_fault (siz_of b) b (after_siz b)) clear (sym (later_same b siz start is after) ∙ later),
-      stream ∙ ap (λ (x : Siz). stream_from x b start) is ∙ ap (λ (n : ℕ). stream_from (siz_of b) b n) after,
-    )
+  none_of_both (front_fault b) (later_fault (siz_of b) b (after_siz b)) clear (sym (later_same b siz start is after) ∙ later),
+  stream ∙ ap (λ (x : Siz). stream_from x b start) is ∙ ap (λ (n : ℕ). stream_from (siz_of b) b n) after,
+)
 
 siz_inside : Siz → Segment → Siz
 siz_inside other (segment.Siz siz) = siz

@@ -1,7 +1,5 @@
 -- Headers and the tables of their slots.
-use Rattle.std.proofs.Common.{◌≡◌, ◌≢◌, ◌∙◌, ◌<◌, ◌≤◌, ◌+◌, ◌-◌, ◌*◌, ◌==◌, ◌||◌, ◌&&◌, ℕ, zero, suc, Bool, true, false, not, nat_lt, arith, List, [], ◌∷◌, ◌++◌, length, drop, get_or, refl, sym, ap, subst, Option, Some, None, cond, Result, Ok, Err, ◌⊎◌, inl, inr}
-use Rattle.std.specs.List.{list_any}
-use Rattle.std.specs.Option.{option_or, is_some}
+use Rattle.std.proofs.Common.{◌≡◌, ◌≢◌, ◌∙◌, ◌<◌, ◌≤◌, ◌+◌, ◌-◌, ◌==◌, ◌||◌, ◌&&◌, ℕ, zero, suc, Bool, true, false, nat_lt, arith, List, [], ◌∷◌, ◌++◌, length, drop, get_or, refl, sym, ap, subst, Some, None, cond, Result, Err, ◌⊎◌, inl, inr}
 use Rattle.std.proofs.Math.ListN.{set}
 use Rattle.std.proofs.lemmas.Bool.Decides.{nat_tests}
 use Rattle.std.proofs.lemmas.List.Folds.{list_any-append}
@@ -19,9 +17,9 @@ use Rattle.jx_stream.specs.declared.faults.StreamFault.{StreamFault}
 use Rattle.jx_stream.specs.declared.faults.StreamFault.TheVariants as fault
 use Rattle.jx_stream.specs.declared.headers.HeaderKind.{HeaderKind}
 use Rattle.jx_stream.specs.declared.headers.Header.{Header}
-use Rattle.jx_stream.specs.Faults.{broken, rule_at, fault_of, IsCause}
+use Rattle.jx_stream.specs.Faults.{fault_of, IsCause}
 use Rattle.jx_stream.specs.Headers.{stands_in, ends_header, slot_of, slot_count, has_slot, is_second, early_fault, segment_fault, stops, longest, header_at, header_fault, Marks}
-use Rattle.jx_stream.proofs.FaultLemmas.{cause_first, cause_same, none_of_both, broken_false, broken_true}
+use Rattle.jx_stream.proofs.FaultLemmas.{broken_false, broken_true}
 
 pub is_or_not_true : (x : Bool) → (x ≡ true) ⊎ (x ≡ false)
 is_or_not_true true = inl refl
@@ -225,11 +223,11 @@ marks_slot start before s seen inside marks = record {
   each = λ slot some within.
       elim (same_or_not slot (slot_of s)) [
         | inl e ↦
-          rw (get_or-set_at seen (slot_of s) slot start 0 e inside) (equal_is start start refl ∙ sym (has_this slot before s (sym e)))
+            rw (get_or-set_at seen (slot_of s) slot start 0 e inside) (equal_is start start refl ∙ sym (has_this slot before s (sym e)))
         | inr n ↦
-          let within_old : slot < length seen = omega (arith, length-set {A = ℕ} seen (slot_of s) start) in
-          let other : slot_of s ≢ slot = λ e. n (sym e) in
-          rw (get_or-set_other seen (slot_of s) slot start 0 n) (marks.each slot some within_old ∙ sym (has_other slot before s other))
+            let within_old : slot < length seen = omega (arith, length-set {A = ℕ} seen (slot_of s) start) in
+            let other : slot_of s ≢ slot = λ e. n (sym e) in
+            rw (get_or-set_other seen (slot_of s) slot start 0 n) (marks.each slot some within_old ∙ sym (has_other slot before s other))
       ];
   most = λ slot.
       elim (same_or_not slot (slot_of s)) [
@@ -258,11 +256,11 @@ marks_more start before s seen after inside e marks =
     let P : List ℕ → Type 0 = λ x. Marks start (before ++ s ∷ []) x in
     elim (same_or_not (slot_of s) 0) [
       | inl free ↦
-        let is : seen ≡ after = sym (e ∙ ap (λ (x : Bool). cond x (set seen (slot_of s) start) seen) (not_above (slot_of s) free)) in
-        subst P is (marks_free start before s seen free marks)
+          let is : seen ≡ after = sym (e ∙ ap (λ (x : Bool). cond x (set seen (slot_of s) start) seen) (not_above (slot_of s) free)) in
+          subst P is (marks_free start before s seen free marks)
       | inr taken ↦
-        let is : set seen (slot_of s) start ≡ after = sym (e ∙ ap (λ (x : Bool). cond x (set seen (slot_of s) start) seen) (above (slot_of s) taken)) in
-        subst P is (marks_slot start before s seen inside marks)
+          let is : set seen (slot_of s) start ≡ after = sym (e ∙ ap (λ (x : Bool). cond x (set seen (slot_of s) start) seen) (above (slot_of s) taken)) in
+          subst P is (marks_slot start before s seen inside marks)
     ]
 
 -- the table answers rule 18
@@ -272,8 +270,8 @@ second_is start before s seen found inside marks e =
     elim (same_or_not (slot_of s) 0) [
       | inl free ↦ rw (e, not_above (slot_of s) free) refl
       | inr taken ↦
-        let some : 0 < slot_of s = omega arith in
-        rw (e, marks.each (slot_of s) some inside) refl
+          let some : 0 < slot_of s = omega arith in
+          rw (e, marks.each (slot_of s) some inside) refl
     ]
 
 -- the same for a slot that the code has counted
@@ -321,7 +319,7 @@ longest_rises kind comps b (suc n) before at =
     elim (is_or_not_true (stops kind comps b before at)) [
       | inl t ↦ rw (longest_stops kind comps b (suc n) before at t) (omega arith)
       | inr f ↦
-        let later : at + size_at (drop at b) ≤ (longest kind comps b n (before ++ segment_at comps (drop at b) ∷ []) (at + size_at (drop at b))).end =
-            longest_rises kind comps b n (before ++ segment_at comps (drop at b) ∷ []) (at + size_at (drop at b)) in
-        rw (longest_goes kind comps b n before at f) (omega arith)
+          let later : at + size_at (drop at b) ≤ (longest kind comps b n (before ++ segment_at comps (drop at b) ∷ []) (at + size_at (drop at b))).end =
+          longest_rises kind comps b n (before ++ segment_at comps (drop at b) ∷ []) (at + size_at (drop at b)) in
+          rw (longest_goes kind comps b n before at f) (omega arith)
     ]

@@ -1,10 +1,10 @@
 -- The table of a header's slots, one segment more.
 use Rattle.std.proofs.Common.{◌≡◌, ◌≢◌, ◌∙◌, ◌<◌, ◌≤◌, ◌+◌, ◌-◌, ◌==◌, ◌&&◌, ℕ, zero, suc, Bool, true, false, nat_lt, arith, List, [], ◌∷◌, ◌++◌, length, take, get_or, refl, sym, ap, subst, Option, Some, None, cond, ◌⊎◌, inl, inr}
-use Rattle.std.specs.List.{slice_get, find}
+use Rattle.std.specs.List.{slice_get}
 use Rattle.std.specs.Option.{option_or}
 use Rattle.std.proofs.Math.ListN.{set}
 use Rattle.std.proofs.lemmas.Bool.Decides.{nat_tests}
-use Rattle.std.proofs.lemmas.List.{get_or-set_other, length-set, length-append, length-take, take_more}
+use Rattle.std.proofs.lemmas.List.{get_or-set_other, length-set, length-take, take_more}
 use Rattle.std.proofs.lemmas.List.Folds.{find-append}
 use Rattle.std.proofs.lemmas.Grind.{get_or-set_at}
 use Rattle.jx_marker.specs.declared.Segment.{Segment}
@@ -116,16 +116,18 @@ module _ (xs : List Segment) (s : Segment) (table : List ℕ) (right : Indexes x
   index_more after is =
       elim (below_or_not (slot_of s) (length table)) [
         | inl inside ↦
-          elim (equal_or_not (get_or table (slot_of s) 0) 0) [
-            | inl free ↦ rw (is, below_yes (slot_of s) (length table) inside, equal_yes (get_or table (slot_of s) 0) 0 free) (entered inside free, entered_small inside)
-            | inr taken ↦ rw (is, below_yes (slot_of s) (length table) inside, equal_no (get_or table (slot_of s) 0) 0 taken)
-              ((λ slot within. elim (equal_or_not slot (slot_of s)) [
-                | inl e ↦ taken_slot slot within (λ zero_there. taken (ap (λ (n : ℕ). get_or table n 0) (sym e) ∙ zero_there))
-                | inr n ↦ kept_slot slot within (λ e. n (sym e))
-              ]), (λ slot. omega (arith, small slot)))
-          ]
+            elim (equal_or_not (get_or table (slot_of s) 0) 0) [
+              | inl free ↦ rw (is, below_yes (slot_of s) (length table) inside, equal_yes (get_or table (slot_of s) 0) 0 free) (entered inside free, entered_small inside)
+              | inr taken ↦ rw (is, below_yes (slot_of s) (length table) inside, equal_no (get_or table (slot_of s) 0) 0 taken) (
+                (λ slot within. elim (equal_or_not slot (slot_of s)) [
+                  | inl e ↦ taken_slot slot within (λ zero_there. taken (ap (λ (n : ℕ). get_or table n 0) (sym e) ∙ zero_there))
+                  | inr n ↦ kept_slot slot within (λ e. n (sym e))
+                ]),
+                (λ slot. omega (arith, small slot)),
+              )
+            ]
         | inr outside ↦ rw (is, below_no (slot_of s) (length table) outside)
-          ((λ slot within. kept_slot slot within (λ e. absurd (omega arith))), (λ slot. omega (arith, small slot)))
+            ((λ slot within. kept_slot slot within (λ e. absurd (omega arith))), (λ slot. omega (arith, small slot)))
       ]
 
 -- the same for the front of a list

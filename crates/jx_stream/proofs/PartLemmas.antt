@@ -1,10 +1,9 @@
 -- Tile-parts and the tables of their tiles.
-use Rattle.std.proofs.Common.{◌≡◌, ◌≢◌, ◌∙◌, ◌<◌, ◌≤◌, ◌+◌, ◌-◌, ◌*◌, ◌==◌, ◌||◌, ◌&&◌, ℕ, zero, suc, Bool, true, false, not, nat_lt, nat_le, arith, List, [], ◌∷◌, ◌++◌, length, drop, get_or, refl, sym, ap, subst, Option, Some, None, cond, Result, Ok, Err, ◌⊎◌, inl, inr}
-use Rattle.std.specs.List.{list_any, filter}
+use Rattle.std.proofs.Common.{◌≡◌, ◌≢◌, ◌∙◌, ◌<◌, ◌≤◌, ◌+◌, ◌-◌, ◌==◌, ◌||◌, ◌&&◌, ℕ, zero, suc, Bool, true, false, not, nat_lt, nat_le, arith, List, [], ◌∷◌, ◌++◌, length, drop, get_or, refl, sym, ap, Option, Some, None, cond, Result, Err, ◌⊎◌, inl, inr}
 use Rattle.std.specs.Option.{option_or, is_some}
 use Rattle.std.proofs.Math.ListN.{set}
 use Rattle.std.proofs.lemmas.Bool.Decides.{nat_tests}
-use Rattle.std.proofs.lemmas.List.{drop_all, get_or-set_other, length-set, get_or-drop, get_or_past, length-append, append-nil}
+use Rattle.std.proofs.lemmas.List.{get_or-set_other, length-set, get_or-drop, get_or_past, length-append, append-nil}
 use Rattle.std.proofs.lemmas.List.Folds.{list_any-append}
 use Rattle.std.proofs.lemmas.List.Elements.{filter-append}
 use Rattle.std.proofs.lemmas.Grind.{get_or-set_at}
@@ -14,15 +13,15 @@ use Rattle.jx_marker.specs.declared.Sot.{Sot}
 use Rattle.jx_marker.specs.declared.Rule.{Rule}
 use Rattle.jx_marker.specs.declared.Rule.TheVariants as rule
 use Rattle.jx_marker.specs.Rules.{first_broken}
-use Rattle.jx_marker.specs.Segments.{segment_at, size_at, code_at}
+use Rattle.jx_marker.specs.Segments.{segment_at, size_at}
 use Rattle.jx_stream.specs.declared.faults.StreamFault.{StreamFault}
 use Rattle.jx_stream.specs.declared.faults.StreamFault.TheVariants as fault
 use Rattle.jx_stream.specs.declared.headers.Header.{Header}
 use Rattle.jx_stream.specs.declared.parts.Part.{Part}
-use Rattle.jx_stream.specs.Faults.{broken, rule_at, fault_of, IsCause}
-use Rattle.jx_stream.specs.Headers.{header_at, header_fault, longest}
-use Rattle.jx_stream.specs.Parts.{marker_at, sot_in, after_sot, kind_of, parts_of, told_other, is_out_of_turn, comes_out_of_turn, tables_say, start_fault, sot_fault, sod_fault, has_wrong_length, end_of, part_header, body_of, part_at, part_fault, fault_after, end_of_part, parts_stop, Parts, longest_parts, parts_from, parts_fault, Tracks}
-use Rattle.jx_stream.proofs.FaultLemmas.{cause_first, cause_later, cause_same, none_of_both, none_first, none_later, broken_none, broken_false, broken_true}
+use Rattle.jx_stream.specs.Faults.{broken, fault_of, IsCause}
+use Rattle.jx_stream.specs.Headers.{header_at, header_fault}
+use Rattle.jx_stream.specs.Parts.{marker_at, sot_in, after_sot, kind_of, parts_of, told_other, is_out_of_turn, comes_out_of_turn, tables_say, start_fault, sot_fault, sod_fault, has_wrong_length, end_of, part_header, part_at, part_fault, fault_after, end_of_part, parts_stop, Parts, longest_parts, parts_from, parts_fault, Tracks}
+use Rattle.jx_stream.proofs.FaultLemmas.{cause_first, cause_later, none_first, none_later, broken_none}
 use Rattle.jx_stream.proofs.HeaderLemmas.{is_or_not_true, size_is_two, longest_rises}
 use Rattle.jx_stream.specs.declared.headers.HeaderKind.{HeaderKind}
 
@@ -180,8 +179,8 @@ module _ (comps : ℕ) (b : List ℕ) (parts : List Part) (counts told : List �
       elim (is_or_not_true (nat_le (length counts) (sot_in b at).tile)) [
         | inl t ↦ rw t refl
         | inr f ↦
-          let inside : (sot_in b at).tile < length counts = below (length counts) (sot_in b at).tile f in
-          ap (λ (out : Bool). part_fault comps (length counts) b out at) (tables_are_right (sot_in b at) inside)
+            let inside : (sot_in b at).tile < length counts = below (length counts) (sot_in b at).tile f in
+            ap (λ (out : Bool). part_fault comps (length counts) b out at) (tables_are_right (sot_in b at) inside)
       ]
 
 -- where tile-parts stop and where they go on
@@ -330,10 +329,10 @@ module _ (parts : List Part) (p : Part) (counts told : List ℕ) (inside : p.sot
       let within_old : tile < length counts = omega (arith, length-set {A = ℕ} counts p.sot.tile (p.sot.part + 1)) in
       elim (equal_or_not tile p.sot.tile) [
         | inl e ↦
-          rw (get_or-set_at counts p.sot.tile tile (p.sot.part + 1) 0 e inside, own_more tile parts p (sym e))
-          (omega (arith, turn.number, length-append (parts_of tile parts) (p ∷ []), ap (λ (t : ℕ). length (parts_of t parts)) e))
+            rw (get_or-set_at counts p.sot.tile tile (p.sot.part + 1) 0 e inside, own_more tile parts p (sym e))
+            (omega (arith, turn.number, length-append (parts_of tile parts) (p ∷ []), ap (λ (t : ℕ). length (parts_of t parts)) e))
         | inr n ↦
-          rw (get_or-set_other counts p.sot.tile tile (p.sot.part + 1) 0 n, own_same tile parts p (λ e. n (sym e))) (tracks.count tile within_old)
+            rw (get_or-set_other counts p.sot.tile tile (p.sot.part + 1) 0 n, own_same tile parts p (λ e. n (sym e))) (tracks.count tile within_old)
       ]
 
   told_before : (tile number : ℕ) → tile < length told → told_other number (parts_of tile parts) ≡ (nat_lt 0 (get_or told tile 0) && not (get_or told tile 0 == number))
@@ -355,14 +354,14 @@ module _ (parts : List Part) (p : Part) (counts told : List ℕ) (inside : p.sot
       let positive : 0 < p.sot.parts = above_zero p.sot.parts some in
       elim (equal_or_not tile p.sot.tile) [
         | inl e ↦
-          let old = told_before tile number within_old in
-          let agrees : (nat_lt 0 (get_or told tile 0) && not (get_or told tile 0 == p.sot.parts)) ≡ false =
-              sym (told_before tile p.sot.parts within_old) ∙ ap (λ (t : ℕ). told_other p.sot.parts (parts_of t parts)) e ∙ turn.same some in
-          rw (get_or-set_at told p.sot.tile tile p.sot.parts 0 e inside_told, own_more tile parts p (sym e))
-          (other_more number (parts_of tile parts) p ∙ ap (λ (x : Bool). x || (nat_lt 0 p.sot.parts && not (p.sot.parts == number))) old
-          ∙ told_joins (get_or told tile 0) p.sot.parts number positive agrees)
+            let old = told_before tile number within_old in
+            let agrees : (nat_lt 0 (get_or told tile 0) && not (get_or told tile 0 == p.sot.parts)) ≡ false =
+            sym (told_before tile p.sot.parts within_old) ∙ ap (λ (t : ℕ). told_other p.sot.parts (parts_of t parts)) e ∙ turn.same some in
+            rw (get_or-set_at told p.sot.tile tile p.sot.parts 0 e inside_told, own_more tile parts p (sym e))
+            (other_more number (parts_of tile parts) p ∙ ap (λ (x : Bool). x || (nat_lt 0 p.sot.parts && not (p.sot.parts == number))) old
+            ∙ told_joins (get_or told tile 0) p.sot.parts number positive agrees)
         | inr n ↦
-          rw (get_or-set_other told p.sot.tile tile p.sot.parts 0 n, own_same tile parts p (λ e. n (sym e))) (told_before tile number within_old)
+            rw (get_or-set_other told p.sot.tile tile p.sot.parts 0 n, own_same tile parts p (λ e. n (sym e))) (told_before tile number within_old)
       ]
 
   told_after : (tile number : ℕ) → tile < length (cond (nat_lt 0 p.sot.parts) (set told p.sot.tile p.sot.parts) told)

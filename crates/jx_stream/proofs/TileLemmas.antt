@@ -1,6 +1,5 @@
 -- Tiles from their drafts.
-use Rattle.std.proofs.Common.{◌≡◌, ◌∙◌, ◌<◌, ◌≤◌, ◌+◌, ◌-◌, ℕ, arith, List, [], ◌∷◌, ◌++◌, length, map, get_or, refl, sym, ap, subst, ◌⊎◌, inl, inr}
-use Rattle.std.specs.List.{range_with_len}
+use Rattle.std.proofs.Common.{◌≡◌, ◌∙◌, ◌<◌, ◌+◌, ℕ, arith, List, [], ◌∷◌, ◌++◌, length, get_or, refl, sym, ap, subst, ◌⊎◌, inl, inr}
 use Rattle.std.proofs.lemmas.List.{get_or_append_left, length-append}
 use Rattle.std.proofs.Math.Seq.{get_or-append_seam}
 use Rattle.std.proofs.lemmas.List.FromFn.{fill_by_all}
@@ -26,13 +25,13 @@ finishes_more main drafts tiles items draft tile size all before now k other ano
     let below : k < length drafts + 1 = omega (arith, length-append drafts (draft ∷ [])) in
     elim (before_or_last k (length drafts) below) [
       | inl lower ↦
-        let lower_tile : k < length tiles = omega arith in
-        let same : Collects own (get_or drafts k other) = subst (λ (d : Draft). Collects own d) (get_or_append_left drafts (draft ∷ []) other k lower) collects in
-        ap (λ (x : List Tile). get_or x k another) all ∙ get_or_append_left tiles (tile ∷ []) another k lower_tile ∙ before k other another own lower same
+          let lower_tile : k < length tiles = omega arith in
+          let same : Collects own (get_or drafts k other) = subst (λ (d : Draft). Collects own d) (get_or_append_left drafts (draft ∷ []) other k lower) collects in
+          ap (λ (x : List Tile). get_or x k another) all ∙ get_or_append_left tiles (tile ∷ []) another k lower_tile ∙ before k other another own lower same
       | inr last ↦
-        let at : get_or (drafts ++ draft ∷ []) k other ≡ draft = ap (λ (n : ℕ). get_or (drafts ++ draft ∷ []) n other) last ∙ get_or-append_seam drafts draft [] other in
-        let same : Collects own draft = subst (λ (d : Draft). Collects own d) at collects in
-        ap (λ (x : List Tile). get_or x k another) all ∙ ap (λ (n : ℕ). get_or (tiles ++ tile ∷ []) n another) (last ∙ sym size) ∙ get_or-append_seam tiles tile [] another ∙ now own same
+          let at : get_or (drafts ++ draft ∷ []) k other ≡ draft = ap (λ (n : ℕ). get_or (drafts ++ draft ∷ []) n other) last ∙ get_or-append_seam drafts draft [] other in
+          let same : Collects own draft = subst (λ (d : Draft). Collects own d) at collects in
+          ap (λ (x : List Tile). get_or x k another) all ∙ ap (λ (n : ℕ). get_or (tiles ++ tile ∷ []) n another) (last ∙ sym size) ∙ get_or-append_seam tiles tile [] another ∙ now own same
     ]
 
 tile_of_is : (main : List Segment) (parts : List Part) (tile : ℕ) → tile_from main (parts_of tile parts) ≡ tile_of main parts tile
@@ -51,4 +50,4 @@ tiles_are main parts count (first ∷ later) tiles size same collected finished 
     let some : Tile = record { place = 0; header = []; notes = []; progressions = []; bodies = [] } in
     fill_by_all (tile_of main parts) tiles count some (same ∙ size)
     (λ k inside. let within : k < length (first ∷ later) = omega (arith, size) in
-      finished k first some (parts_of k parts) within (collected k first inside) ∙ tile_of_is main parts k)
+    finished k first some (parts_of k parts) within (collected k first inside) ∙ tile_of_is main parts k)

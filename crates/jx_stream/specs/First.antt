@@ -1,5 +1,5 @@
 -- The stream that stands in a file, and the first rule that the file violates or limit that it passes.
-use Rattle.std.specs.Prelude.{◌≡◌, ◌<◌, ◌≤◌, ℕ, ◌+◌, ◌-◌, ◌*◌, ◌==◌, ◌&&◌, ◌||◌, not, nat_lt, nat_le, Bool, true, false, List, [], ◌∷◌, length, drop, Option, None, Some, if◌then◌else◌, slice_index}
+use Rattle.std.specs.Prelude.{ℕ, ◌+◌, ◌==◌, ◌&&◌, not, nat_lt, Bool, List, length, drop, Option, None, Some, if◌then◌else◌}
 use Rattle.std.specs.List.{list_any, range_with_len}
 use Rattle.std.specs.Option.{option_or}
 use Rattle.jx_marker.specs.declared.Segment.{Segment}
@@ -11,7 +11,6 @@ use Rattle.jx_geom.specs.declared.shape.Canvas.{Canvas}
 use Rattle.jx_geom.specs.Counts.{tile_count}
 use Rattle.jx_stream.specs.declared.faults.StreamFault.{StreamFault}
 use Rattle.jx_stream.specs.declared.faults.StreamFault.TheVariants as fault
-use Rattle.jx_stream.specs.declared.headers.HeaderKind.{HeaderKind}
 use Rattle.jx_stream.specs.declared.headers.HeaderKind.TheVariants.{Main}
 use Rattle.jx_stream.specs.declared.headers.Header.{Header}
 use Rattle.jx_stream.specs.declared.parts.Part.{Part}

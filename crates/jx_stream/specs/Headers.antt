@@ -1,5 +1,5 @@
 -- Headers: segments one after another, up to the SOT or SOD that ends them (T.800, A.3).
-use Rattle.std.specs.Prelude.{◌≡◌, ◌<◌, ◌≤◌, ℕ, zero, suc, ◌+◌, ◌*◌, ◌==◌, ◌&&◌, ◌||◌, not, nat_lt, Bool, true, false, List, [], ◌∷◌, ◌++◌, length, drop, Option, None, Some, if◌then◌else◌, slice_index}
+use Rattle.std.specs.Prelude.{◌≡◌, ◌<◌, ◌≤◌, ℕ, zero, suc, ◌+◌, ◌*◌, ◌==◌, ◌&&◌, ◌||◌, not, nat_lt, Bool, true, false, List, [], ◌∷◌, ◌++◌, length, drop, Option, if◌then◌else◌, slice_index}
 use Rattle.std.specs.List.{list_any}
 use Rattle.std.specs.Option.{option_or, is_some}
 use Rattle.jx_marker.specs.declared.Segment.{Segment}

@@ -1,7 +1,7 @@
 -- The parameters of a tile-component (T.800, A.6), the step of a band and its planes (E.1 and H.1).
-use Rattle.std.specs.Prelude.{◌≡◌, ◌≤◌, ◌<◌, ℕ, ◌+◌, ◌-◌, ◌*◌, ◌/◌, ◌%◌, ◌==◌, ◌||◌, ◌&&◌, nat_lt, Bool, true, false, List, [], ◌∷◌, length, map, Option, None, Some, find, if◌then◌else◌, slice_index}
+use Rattle.std.specs.Prelude.{ℕ, ◌+◌, ◌-◌, ◌*◌, ◌/◌, ◌%◌, ◌==◌, ◌||◌, ◌&&◌, nat_lt, Bool, false, List, [], ◌∷◌, length, map, Option, None, Some, find, if◌then◌else◌, slice_index}
 use Rattle.std.specs.List.{slice_get, flat_map, list_any, range_with_len}
-use Rattle.std.specs.Option.{option_or, option_map}
+use Rattle.std.specs.Option.{option_or}
 use Rattle.jx_base.specs.declared.names.Band.{Band}
 use Rattle.jx_base.specs.declared.names.Band.TheVariants.{LL, HL, LH, HH}
 use Rattle.jx_marker.specs.declared.Segment.{Segment}
@@ -191,9 +191,9 @@ params_of s tile comp = params_from (shape_or (shape_at s tile comp)) (cod_or (c
 -- the exponent and the mantissa of a band's step
 abbrev pub step_of : Stream → ℕ → ℕ → ℕ → Band → ℕ × ℕ
 step_of s tile comp res band = (
-      exponent_of (quant_or (quant_at s tile comp)) (shape_or (shape_at s tile comp)).levels (number_of res band),
-      mantissa_of (quant_or (quant_at s tile comp)) (number_of res band),
-    )
+  exponent_of (quant_or (quant_at s tile comp)) (shape_or (shape_at s tile comp)).levels (number_of res band),
+  mantissa_of (quant_or (quant_at s tile comp)) (number_of res band),
+)
 
 -- the planes of a band
 abbrev pub planes_at : Stream → ℕ → ℕ → ℕ → Band → ℕ

@@ -1,20 +1,19 @@
 -- Tile-parts: SOT, a header that SOD ends, and data up to the place that Psot names (T.800, A.4.2 and A.4.3).
-use Rattle.std.specs.Prelude.{◌≡◌, ◌<◌, ◌≤◌, ℕ, zero, suc, ◌+◌, ◌-◌, ◌*◌, ◌==◌, ◌&&◌, ◌||◌, not, nat_lt, nat_le, Bool, true, false, List, [], ◌∷◌, ◌++◌, length, drop, Option, None, Some, if◌then◌else◌, slice_index}
+use Rattle.std.specs.Prelude.{◌≡◌, ◌<◌, ℕ, zero, suc, ◌+◌, ◌-◌, ◌==◌, ◌&&◌, ◌||◌, not, nat_lt, nat_le, Bool, List, [], ◌∷◌, ◌++◌, length, drop, Option, None, if◌then◌else◌, slice_index}
 use Rattle.std.specs.List.{list_any, filter}
 use Rattle.std.specs.Option.{option_or, is_some}
-use Rattle.jx_marker.specs.declared.Segment.{Segment}
 use Rattle.jx_marker.specs.declared.Sot.{Sot}
 use Rattle.jx_marker.specs.Rules.{first_broken}
 use Rattle.jx_marker.specs.Segments.{size_at, body_at}
 use Rattle.jx_marker.specs.Values.{sot_at}
 use Rattle.jx_stream.specs.declared.faults.StreamFault.{StreamFault}
 use Rattle.jx_stream.specs.declared.headers.HeaderKind.{HeaderKind}
-use Rattle.jx_stream.specs.declared.headers.HeaderKind.TheVariants.{Main, First, Later}
+use Rattle.jx_stream.specs.declared.headers.HeaderKind.TheVariants.{First, Later}
 use Rattle.jx_stream.specs.declared.headers.Header.{Header}
 use Rattle.jx_stream.specs.declared.parts.Part.{Part}
 use Rattle.jx_stream.specs.declared.Body.{Body}
 use Rattle.jx_stream.specs.Faults.{broken, rule_at}
-use Rattle.jx_stream.specs.Headers.{header_at, header_fault, has_slot}
+use Rattle.jx_stream.specs.Headers.{header_at, header_fault}
 
 -- the marker of this second byte stands at a place
 abbrev pub marker_at : List ℕ → ℕ → ℕ → Bool

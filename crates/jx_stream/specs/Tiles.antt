@@ -1,12 +1,11 @@
 -- Tiles: what their tile-parts say together (T.800, A.4.2 and B.3).
-use Rattle.std.specs.Prelude.{◌≡◌, ℕ, ◌+◌, ◌==◌, Bool, true, false, List, [], ◌∷◌, length, drop, map, Option, None, Some, find, if◌then◌else◌}
+use Rattle.std.specs.Prelude.{◌≡◌, ℕ, ◌==◌, Bool, true, false, List, [], ◌∷◌, drop, map, Option, Some, find}
 use Rattle.std.specs.List.{filter, flat_map, range_with_len}
 use Rattle.jx_marker.specs.declared.Segment.{Segment}
 use Rattle.jx_marker.specs.declared.Segment.TheVariants as segment
 use Rattle.jx_marker.specs.declared.Progression.{Progression}
 use Rattle.jx_marker.specs.declared.Cod.{Cod}
 use Rattle.jx_stream.specs.declared.parts.Part.{Part}
-use Rattle.jx_stream.specs.declared.Body.{Body}
 use Rattle.jx_stream.specs.declared.Tile.{Tile}
 use Rattle.jx_stream.specs.declared.tiles.Draft.{Draft}
 use Rattle.jx_stream.specs.Headers.{slot_of}

@@ -14,7 +14,12 @@ use jx_marker::{Quant, Segment, Shape};
 use std::alloc::Global;
 
 /// The first that is there of the tile's own segment, its default, the main header's own, the main default.
-fn chosen<'a>(tile: &'a Index<'a>, main: &'a Index<'a>, own: usize, default: usize) -> Option<&'a Segment>
+fn chosen<'a>(
+    tile: &'a Index<'a>,
+    main: &'a Index<'a>,
+    own: usize,
+    default: usize,
+) -> Option<&'a Segment>
     requires tile_own { own < length tile.now.table.items }
     requires tile_default { default < length tile.now.table.items }
     requires main_own { own < length main.now.table.items }
@@ -153,7 +158,12 @@ fn tile_over(tile: &Index, main: &Index, comps: u16) -> Option<u32>
 
 /// Whether each component of each tile has quantization entries for its bands.
 #[tactic(auto, unfolding(crate::specs::Params::tile_has_too_few))]
-pub fn check_entries(alloc: Global, main: &Index, comps: u16, tiles: &[Tile]) -> Result<(), StreamFault>
+pub fn check_entries(
+    alloc: Global,
+    main: &Index,
+    comps: u16,
+    tiles: &[Tile],
+) -> Result<(), StreamFault>
     requires { length main.now.table.items ≡ slot_count comps }
     ensures { Answers result (entries_fault main.now.segments.now comps tiles.now) (λ _. Unit {0}) }
 {
@@ -171,7 +181,12 @@ pub fn check_entries(alloc: Global, main: &Index, comps: u16, tiles: &[Tile]) ->
 
 /// Whether no band has more than 74 planes.
 #[tactic(auto, unfolding(crate::specs::Params::tile_planes))]
-pub fn check_planes(alloc: Global, main: &Index, comps: u16, tiles: &[Tile]) -> Result<(), StreamFault>
+pub fn check_planes(
+    alloc: Global,
+    main: &Index,
+    comps: u16,
+    tiles: &[Tile],
+) -> Result<(), StreamFault>
     requires { length main.now.table.items ≡ slot_count comps }
     ensures { Answers result (planes_fault main.now.segments.now comps tiles.now) (λ _. Unit {0}) }
 {

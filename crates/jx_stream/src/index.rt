@@ -62,7 +62,11 @@ fn zeros(alloc: Global, count: usize) -> Result<Vec<usize>, AllocError>
 }
 
 /// A header's segments by their slots.
-pub fn index_of<'a>(alloc: Global, segments: &'a [Segment], comps: u16) -> Result<Index<'a>, AllocError>
+pub fn index_of<'a>(
+    alloc: Global,
+    segments: &'a [Segment],
+    comps: u16,
+) -> Result<Index<'a>, AllocError>
     requires { length segments.now < 2 ^ 63 }
     ensures segments { IfOk result (λ index. index.segments.now ≡ segments.now) }
     ensures count { IfOk result (λ index. length index.table.items ≡ slot_count comps) }

@@ -6,21 +6,19 @@ mod faults;
 mod headers;
 mod index;
 mod lists;
-mod queries;
 mod parts;
+mod queries;
 mod reading;
 mod steps;
-mod tiles;
-
 #[cfg(test)]
 mod tests;
+mod tiles;
 
 pub use faults::StreamFault;
-pub use lists::{Bodies, Segments, Tiles};
-pub use reading::read_stream;
-
 use jx_base::Style;
 use jx_marker::{Progressions, Siz};
+pub use lists::{Bodies, Segments, Tiles};
+pub use reading::read_stream;
 
 /// The data of one tile-part: where it stands in the file.
 #[derive(Clone, Copy, Debug, PartialEq, Eq)]

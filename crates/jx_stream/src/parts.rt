@@ -5,7 +5,7 @@ ghost use Rattle.std.specs.List.{All};
 ghost use Rattle.jx_stream.specs.declared.parts.Part.{Part};
 ghost use Rattle.jx_stream.specs.Faults.{Answers};
 ghost use Rattle.jx_stream.specs.Headers.{slot_count, Marks};
-ghost use Rattle.jx_stream.specs.Parts.{marker_at, sot_in, after_sot, kind_of, start_fault, sot_fault, sod_fault, is_out_of_turn, has_wrong_length, end_of, part_at, part_fault, tables_say,  parts_fault, parts_from, end_of_part, Tracks};
+ghost use Rattle.jx_stream.specs.Parts.{marker_at, sot_in, after_sot, kind_of, start_fault, sot_fault, sod_fault, is_out_of_turn, has_wrong_length, end_of, part_at, part_fault, tables_say, parts_fault, parts_from, end_of_part, Tracks};
 
 use crate::headers::{HeaderKind, fault_of, read_header, violated};
 use crate::{Body, Segments, StreamFault};
@@ -77,7 +77,13 @@ fn has_wrong_length(bytes: &[u8], at: usize, sot: Sot) -> bool
 /// Whether a SOT violates none of the rules 20 to 22. The tables have the number of tile-parts so far and a
 /// told number of them for each tile.
 #[tactic(auto, unfolding(crate::specs::Parts::sot_fault))]
-fn check_sot(bytes: &[u8], at: usize, sot: Sot, counts: &[u16], told: &[u8]) -> Result<(), StreamFault>
+fn check_sot(
+    bytes: &[u8],
+    at: usize,
+    sot: Sot,
+    counts: &[u16],
+    told: &[u8],
+) -> Result<(), StreamFault>
     requires place { at ≤ 2 ^ 28 }
     requires tables { length told.now ≡ length counts.now }
     ensures { Answers result (sot_fault (length counts.now) bytes.now at sot (tables_say counts.now told.now sot))

@@ -12,7 +12,12 @@ use crate::{Params, Stream};
 use jx_base::{Band, Style};
 use jx_marker::{Cod, Quant, Segment, Shape};
 
-fn chosen<'a>(own: usize, default: usize, tile: &'a [Segment], main: &'a [Segment]) -> Option<&'a Segment>
+fn chosen<'a>(
+    own: usize,
+    default: usize,
+    tile: &'a [Segment],
+    main: &'a [Segment],
+) -> Option<&'a Segment>
     ensures { MatchOption result (chosen own default tile.now main.now ≡ None) (λ segment. chosen own default tile.now main.now ≡ Some segment.now) }
 {
     if let Some(segment) = in_slot(own, tile) {
@@ -117,7 +122,13 @@ fn number_of(res: u8, band: Band) -> usize
 /// The parameters with those of a component's shape.
 fn with_shape(params: Params, tile: &[Segment], main: &[Segment], comp: u16) -> Params
     ensures { let shape = shape_or (shape_of tile.now main.now comp) in result ≡ record params {
-        levels = shape.levels; xcb = shape.xcb; ycb = shape.ycb; style = record { bits = shape.style }; wavelet = shape.wavelet; precincts = precincts_of shape.precincts } }
+      levels = shape.levels;
+      xcb = shape.xcb;
+      ycb = shape.ycb;
+      style = record { bits = shape.style };
+      wavelet = shape.wavelet;
+      precincts = precincts_of shape.precincts;
+    } }
 {
     let Some(shape) = shape_of(tile, main, comp) else {
         return Params {
@@ -219,7 +230,12 @@ impl Stream {
             quant: 0,
             shift: shift_of(header, main, comp),
         };
-        with_quant(with_cod(with_shape(empty, header, main, comp), header, main), header, main, comp)
+        with_quant(
+            with_cod(with_shape(empty, header, main, comp), header, main),
+            header,
+            main,
+            comp,
+        )
     }
 
     /// The exponent and the mantissa of the step of a band (T.800, E.1). With style 1 they follow from those of
@@ -235,7 +251,10 @@ impl Stream {
             return (0, 0);
         };
         let levels = levels_of(header, main, comp);
-        (exponent_of(quant, levels, number) as u8, mantissa_of(quant, number))
+        (
+            exponent_of(quant, levels, number) as u8,
+            mantissa_of(quant, number),
+        )
     }
 
     /// The planes of a band: its guard bits and exponent less 1, and the shift of a region of interest.

@@ -92,7 +92,13 @@ fn has_defaults(start: usize, seen: &[u32]) -> bool
 }
 
 /// The main header, after which the first SOT stands.
-fn read_main(alloc: Global, bytes: &[u8], start: usize, comps: u16, seen: &mut [u32]) -> Result<Header, StreamFault>
+fn read_main(
+    alloc: Global,
+    bytes: &[u8],
+    start: usize,
+    comps: u16,
+    seen: &mut [u32],
+) -> Result<Header, StreamFault>
     requires place { start ≤ length bytes.now }
     requires fits { length bytes.now ≤ 2 ^ 28 }
     requires slots { length seen.old ≡ slot_count comps }
@@ -163,12 +169,25 @@ fn read_headers(
     let mut seen = vec![in alloc; 0u32; 5 + 3 * usize::from(comps)]?;
     let mut counts = vec![in alloc; 0u16; count]?;
     let mut told = vec![in alloc; 0u8; count]?;
-    let (main, parts) = read_body(alloc, bytes, start, comps, &mut seen, &mut counts, &mut told)?;
+    let (main, parts) = read_body(
+        alloc,
+        bytes,
+        start,
+        comps,
+        &mut seen,
+        &mut counts,
+        &mut told,
+    )?;
     Ok((main, parts))
 }
 
 /// Whether the tiles' quantization and planes violate nothing.
-fn check_tiles(alloc: Global, main: &[Segment], comps: u16, tiles: &[Tile]) -> Result<(), StreamFault>
+fn check_tiles(
+    alloc: Global,
+    main: &[Segment],
+    comps: u16,
+    tiles: &[Tile],
+) -> Result<(), StreamFault>
     requires { length main.now < 2 ^ 63 }
     ensures { Answers result (option_or (entries_fault main.now comps tiles.now) (planes_fault main.now comps tiles.now)) (λ _. Unit {0}) }
 {

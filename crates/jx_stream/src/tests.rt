@@ -1,77 +1,323 @@
-//! Worked files: one for each rule, parameters by precedence, tile-parts of two tiles.
-
-ghost use Rattle.std.specs.Prelude.{◌≤◌};
+//! Worked files: one for each rule, the cuts of the smallest one, parameters by precedence, tile-parts of two
+//! tiles.
 
 use super::*;
+use jx_base::Band;
+use jx_marker::Segment;
 use std::alloc::{AllocError, Global};
+use std::process::Abort;
+use std::test::Fail;
 
-/// The smallest codestream: one tile, one component, one block, one empty packet.
-const SMALL: [u8; 82] = [
-    0xFF, 0x4F, 0xFF, 0x51, 0x00, 0x29, 0x00, 0x00, 0, 0, 0, 1, 0, 0, 0, 1, 0, 0, 0, 0, 0, 0, 0, 0, 0, 0, 0, 1, 0,
-    0, 0, 1, 0, 0, 0, 0, 0, 0, 0, 0, 0x00, 0x01, 0x07, 0x01, 0x01, 0xFF, 0x52, 0x00, 0x0C, 0x00, 0x00, 0x00, 0x01,
-    0x00, 0x00, 0x04, 0x04, 0x00, 0x01, 0xFF, 0x5C, 0x00, 0x04, 0x40, 0x40, 0xFF, 0x90, 0x00, 0x0A, 0x00, 0x00,
-    0x00, 0x00, 0x00, 0x0F, 0x00, 0x01, 0xFF, 0x93, 0x00, 0xFF, 0xD9,
-];
+// SOC and SIZ of a picture of 1 by 1, up to Csiz.
+const SIZ: &str =
+    "FF4F FF51 0029 0000 00000001 00000001 00000000 00000000 00000001 00000001 00000000 00000000";
+// The same with two tiles.
+const TWO: &str =
+    "FF4F FF51 0029 0000 00000002 00000001 00000000 00000000 00000001 00000001 00000000 00000000";
+// One component, COD and QCD.
+const MAIN: &str = "0001 07 01 01 FF52 000C 00 00 0001 00 00 04 04 00 01 FF5C 0004 40 40";
+// One tile-part with one byte of data.
+const PART: &str = "FF90 000A 0000 0000000F 00 01 FF93 00";
 
-/// The small file with the bytes from `from` to `to` replaced.
-fn edited(alloc: Global, from: usize, to: usize, bytes: &[u8]) -> Result<Vec<u8>, AllocError>
-    requires order { from ≤ to }
-    requires within { to ≤ 82 }
-{
+const EOC: &str = "FFD9";
+
+fn digit(byte: u8) -> Option<u8> {
+    match byte {
+        b'0'..=b'9' => Some(byte - b'0'),
+        b'A'..=b'F' => Some(byte - b'A' + 10),
+        _ => None,
+    }
+}
+
+// Appends the bytes of hexadecimal digits; what is no digit stands between them.
+fn push_hex(text: &str, bytes: &mut Vec<u8>) -> Result<(), AllocError> {
+    let mut high = None;
+    for byte in text.as_bytes() {
+        if let Some(low) = digit(*byte) {
+            match high {
+                None => high = Some(low),
+                Some(first) => {
+                    let first: u8 = first;
+                    bytes.push(first.wrapping_mul(16).wrapping_add(low))?;
+                    high = None;
+                }
+            }
+        }
+    }
+    Ok(())
+}
+
+// The bytes of some texts, one after another.
+fn file_of(alloc: Global, texts: &[&str]) -> Result<Vec<u8>, AllocError> {
+    let mut bytes = Vec::new(alloc);
+    for text in texts {
+        push_hex(text, &mut bytes)?;
+    }
+    Ok(bytes)
+}
+
+// The smallest codestream with the bytes from a place to another one replaced.
+fn edited(alloc: Global, from: usize, to: usize, text: &str) -> Result<Vec<u8>, AllocError> {
+    let small = file_of(alloc, &[SIZ, MAIN, PART, EOC])?;
+    let small = small.as_slice();
     let mut file = Vec::new(alloc);
-    file.extend_from_slice(&SMALL[..from])?;
-    file.extend_from_slice(bytes)?;
-    file.extend_from_slice(&SMALL[to..])?;
+    if from <= to && to <= small.len() {
+        file.extend_from_slice(&small[..from])?;
+        push_hex(text, &mut file)?;
+        file.extend_from_slice(&small[to..])?;
+    }
     Ok(file)
 }
 
-/// The number and place of the rule that a file violates, or 0 and 0 where it is read, or 100 and the limit's
-/// number.
-fn answer(alloc: Global, bytes: &[u8]) -> (u8, u32) {
+// The rule and its place, or 100 and more for a limit with what was counted, or 0.
+fn answer(alloc: Global, bytes: &[u8]) -> (u8, u128) {
     if bytes.len() > 1 << 28 {
-        return (0, 0);
+        return (200, 0);
     }
     match read_stream(alloc, bytes) {
         Ok(_) => (0, 0),
-        Err(StreamFault::Rule { number, place }) => (number, place),
-        Err(StreamFault::Limit { number, .. }) => (100, u32::from(number)),
-        Err(StreamFault::NoMemory) => (200, 0),
+        Err(StreamFault::Rule { number, place }) => (number, u128::from(place)),
+        Err(StreamFault::Limit { number, found }) => (number.wrapping_add(100), found),
+        Err(StreamFault::NoMemory) => (255, 0),
+    }
+}
+
+// The edit: the first byte replaced, the one after the last, and what stands there in `_` for spaces.
+const ROWS: &str = "
+60 82 - 1 59
+45 47 FF50 2 45
+4 6 002A 3 2
+8 12 00000000 4 2
+6 8 4000 5 2
+51 53 0000 6 45
+57 58 40 7 45
+45 59 FF52000E01000001000104040001_7707 8 45
+63 64 43 9 59
+54 55 01 9 65
+54 55 20 9 65
+65 65 FF5E0005000100 10 65
+65 65 FF5F0009_00000001010105 11 65
+65 65 FF5D0005054040 12 65
+77 77 FF580002 13 77
+45 47 FF60 14 45
+0 82 - 15 0
+2 4 FF52 16 2
+59 65 - 17 59
+59 59 FF52000C00000001000004040001 18 59
+77 77 FF52000C00000001000004040001_FF52000C00000001000004040001 18 91
+45 47 FF4F 19 45
+77 77 FF630002 19 77
+45 45 FF51002900000000000100000001000000000000000000000001000000010000000000000000000107_0101 19 45
+69 71 0001 20 65
+75 76 01 21 65
+76 77 00 0 0
+71 75 00000012 22 65
+71 75 0000000D 22 65
+71 75 0000000E 23 79
+71 75 FFFFFFFF 22 65
+71 75 00000000 0 0
+80 82 - 23 80
+80 82 FFD8 23 80
+8 12 00000002 24 80
+4 6 FFFF 1 2
+8 12 00010000 103 65536
+8 12 FFFFFFFF 103 4294967295
+8 16 FFFFFFFFFFFFFFFF 103 18446744065119617025
+63 65 E0F8_FF5E0005000026 104 75
+63 65 E0F8_FF5E0005000025 0 0
+";
+
+#[test]
+fn rules_and_limits(rt: HostRuntime) -> Result<(), Fail> {
+    let alloc = rt.alloc();
+    for line in ROWS.lines() {
+        let mut words = line.split_whitespace();
+        let Some(from) = words.next() else { continue };
+        let to = words.next().ok_or("end")?.parse::<usize>()?;
+        let text = words.next().ok_or("text")?;
+        let number = words.next().ok_or("rule")?.parse::<u8>()?;
+        let place = words.next().ok_or("place")?.parse::<u128>()?;
+        let file = edited(alloc, from.parse::<usize>()?, to, text)?;
+        assert_eq!(rt; answer(alloc, &file), (number, place), "{line}");
+    }
+    Ok(())
+}
+
+#[test]
+fn cuts(rt: HostRuntime) -> Result<(), Fail> {
+    let alloc = rt.alloc();
+    for n in 0..83 {
+        let file = edited(alloc, n, 82, "")?;
+        let want = match n {
+            0..=1 => (15, 0),
+            2..=3 => (16, 2),
+            4..=44 => (1, 2),
+            45..=58 => (1, 45),
+            59..=64 => (1, 59),
+            65..=76 => (1, 65),
+            77..=79 => (22, 65),
+            80..=81 => (23, 80),
+            _ => (0, 0),
+        };
+        assert_eq!(rt; answer(alloc, &file), want, "{n}");
+    }
+    Ok(())
+}
+
+// A stream that is there.
+fn stream_of(rt: &impl Abort, alloc: Global, texts: &[&str]) -> Result<Stream, Fail> {
+    let file = file_of(alloc, texts)?;
+    let known = file.len() < 1000;
+    assert!(rt; known);
+    match read_stream(alloc, &file) {
+        Ok(stream) => Ok(stream),
+        Err(_) => Err("refused")?,
     }
 }
 
 #[test]
-fn each_rule_has_its_place(rt: HostRuntime) {
+fn own_parameters(rt: HostRuntime) -> Result<(), Fail> {
     let alloc = rt.alloc();
-    let rows: [(u32, usize, usize, &[u8], u8, u32); 24] = [
-        (2, 45, 47, &[0xFF, 0x50], 2, 45),
-        (3, 4, 6, &[0x00, 0x2A], 3, 2),
-        (4, 8, 12, &[0, 0, 0, 0], 4, 2),
-        (5, 6, 8, &[0x40, 0x00], 5, 2),
-        (6, 51, 53, &[0, 0], 6, 45),
-        (7, 57, 58, &[0x40], 7, 45),
-        (8, 45, 59, &[0xFF, 0x52, 0x00, 0x0E, 0x01, 0x00, 0x00, 0x01, 0x00, 0x01, 0x04, 0x04, 0x00, 0x01, 0x77, 0x07], 8, 45),
-        (9, 63, 64, &[0x43], 9, 59),
-        (99, 54, 55, &[0x01], 9, 65),
-        (98, 54, 55, &[0x20], 9, 65),
-        (10, 65, 65, &[0xFF, 0x5E, 0x00, 0x05, 0x00, 0x01, 0x00], 10, 65),
-        (11, 65, 65, &[0xFF, 0x5F, 0x00, 0x09, 0x00, 0x00, 0x00, 0x01, 0x01, 0x01, 0x05], 11, 65),
-        (12, 65, 65, &[0xFF, 0x5D, 0x00, 0x05, 0x05, 0x40, 0x40], 12, 65),
-        (13, 77, 77, &[0xFF, 0x58, 0x00, 0x02], 13, 77),
-        (14, 45, 47, &[0xFF, 0x60], 14, 45),
-        (16, 2, 4, &[0xFF, 0x52], 16, 2),
-        (17, 59, 65, &[], 17, 59),
-        (18, 59, 59, &[0xFF, 0x52, 0x00, 0x0C, 0x00, 0x00, 0x00, 0x01, 0x00, 0x00, 0x04, 0x04, 0x00, 0x01], 18, 59),
-        (19, 45, 47, &[0xFF, 0x4F], 19, 45),
-        (20, 69, 71, &[0x00, 0x01], 20, 65),
-        (21, 75, 76, &[0x01], 21, 65),
-        (22, 71, 75, &[0x00, 0x00, 0x00, 0x12], 22, 65),
-        (97, 71, 75, &[0xFF, 0xFF, 0xFF, 0xFF], 22, 65),
-        (24, 8, 12, &[0x00, 0x00, 0x00, 0x02], 24, 80),
-    ];
-    for (row, from, to, bytes, number, place) in rows {
-        if from <= to && to <= 82 {
-            let file = edited(alloc, from, to, bytes).expect(&rt, "ample memory");
-            assert_eq!(rt; answer(alloc, &file), (number, place), "{row}");
-        }
+    let second =
+        "FF90 000A 0001 00000028 00 01 FF53 0009 00 00 00 04 04 01 01 FF5D 0005 00 40 48 FF5E 0005 00 00 0C FF93 00";
+    let stream = stream_of(
+        &rt,
+        alloc,
+        &[TWO, MAIN, "FF5E 0005 00 00 03", PART, second, EOC],
+    )?;
+    let first = stream.params(0, 0);
+    let own = stream.params(1, 0);
+    assert_eq!(rt;
+        (first.style.bits, first.shift, first.guard, first.quant),
+        (0, 3, 2, 0)
+    );
+    assert_eq!(rt;
+        (own.style.bits, own.shift, own.guard, own.quant),
+        (1, 12, 2, 0)
+    );
+    assert_eq!(rt;
+        (own.levels, own.xcb, own.ycb, own.wavelet, own.precincts[0]),
+        (0, 6, 6, 1, 255)
+    );
+    assert_eq!(rt; (own.order, own.layers, own.transform), (0, 1, 0));
+    assert_eq!(rt;
+        (
+            stream.planes(0, 0, 0, Band::LL),
+            stream.planes(1, 0, 0, Band::LL)
+        ),
+        (12, 22)
+    );
+    assert_eq!(rt;
+        (
+            stream.step(0, 0, 0, Band::LL),
+            stream.step(1, 0, 0, Band::LL)
+        ),
+        ((8, 0), (9, 0))
+    );
+    Ok(())
+}
+
+#[test]
+fn derived_quantization(rt: HostRuntime) -> Result<(), Fail> {
+    let alloc = rt.alloc();
+    let main = "0001 07 01 01 FF52 000C 00 00 0001 00 05 04 04 00 01 FF5C 0005 41 6F00";
+    let stream = stream_of(&rt, alloc, &[SIZ, main, PART, EOC])?;
+    assert_eq!(rt; stream.step(0, 0, 0, Band::LL), (13, 1792));
+    assert_eq!(rt; stream.step(0, 0, 1, Band::HL), (13, 1792));
+    assert_eq!(rt; stream.step(0, 0, 5, Band::HH), (9, 1792));
+    assert_eq!(rt; stream.planes(0, 0, 5, Band::LH), 10);
+    let main = "0001 07 01 01 FF52 000C 00 00 0001 00 05 04 04 00 01 FF5C 0005 01 1000";
+    let stream = stream_of(&rt, alloc, &[SIZ, main, PART, EOC])?;
+    assert_eq!(rt;
+        (
+            stream.step(0, 0, 5, Band::HL),
+            stream.planes(0, 0, 5, Band::HL)
+        ),
+        ((0, 0), 0)
+    );
+    let main =
+        "0001 07 01 01 FF52 000C 00 00 0001 00 01 04 04 00 01 FF5C 000B 42 4001 4802 5003 5804";
+    let stream = stream_of(&rt, alloc, &[SIZ, main, PART, EOC])?;
+    assert_eq!(rt;
+        (
+            stream.step(0, 0, 0, Band::LL),
+            stream.step(0, 0, 1, Band::HL)
+        ),
+        ((8, 1), (9, 2))
+    );
+    assert_eq!(rt;
+        (
+            stream.step(0, 0, 1, Band::LH),
+            stream.step(0, 0, 1, Band::HH)
+        ),
+        ((10, 3), (11, 4))
+    );
+    Ok(())
+}
+
+// The orders of a tile's entries.
+fn orders(alloc: Global, tile: &Tile) -> Result<Vec<u8>, AllocError> {
+    let mut orders = Vec::new(alloc);
+    for entry in tile.progressions.as_slice() {
+        orders.push(entry.order)?;
     }
+    Ok(orders)
+}
+
+const INTERLEAVED: &str = "
+FF90 000A 0000 0000001A 00 02 FF5F 0009 00 00 0001 01 01 00 FF93 00
+FF90 000A 0001 00000019 00 00 FF5F 0009 00 00 0001 01 01 01 FF93
+FF90 000A 0000 00000023 01 02 FF5F 0009 00 00 0001 01 01 02 FF64 0006 0001 6A78 FF93 80 81
+FF90 000A 0001 00000000 01 00 FF93 00 01";
+
+#[test]
+fn interleaved_parts(rt: HostRuntime) -> Result<(), Fail> {
+    let alloc = rt.alloc();
+    let stream = stream_of(&rt, alloc, &[TWO, MAIN, INTERLEAVED, EOC])?;
+    let tiles = stream.tiles.as_slice();
+    let two = tiles.len() == 2;
+    assert!(rt; two);
+    let (first, second) = (&tiles[0], &tiles[1]);
+    assert_eq!(rt; (first.place, second.place), (65, 91));
+    assert_eq!(rt;
+        (
+            first.header.as_slice().len(),
+            first.notes.as_slice().len(),
+            second.notes.as_slice().len()
+        ),
+        (1, 1, 0)
+    );
+    assert_eq!(rt; orders(alloc, first)?.as_slice(), [0u8, 2].as_slice());
+    assert_eq!(rt; orders(alloc, second)?.as_slice(), [1u8].as_slice());
+    let bodies = [Body { at: 90, length: 1 }, Body { at: 149, length: 2 }];
+    assert_eq!(rt; first.bodies.as_slice(), bodies.as_slice());
+    let bodies = [Body { at: 116, length: 0 }, Body { at: 165, length: 2 }];
+    assert_eq!(rt; second.bodies.as_slice(), bodies.as_slice());
+    let is_note = matches!(first.notes.as_slice(), [Segment::Com(_)]);
+    assert!(rt; is_note);
+    Ok(())
+}
+
+#[test]
+fn entries_of_the_main_header(rt: HostRuntime) -> Result<(), Fail> {
+    let alloc = rt.alloc();
+    let poc = "FF5F 0009 00 00 0001 01 01 04";
+    let second = "FF90 000A 0001 0000000F 00 01 FF93 00";
+    let stream = stream_of(&rt, alloc, &[TWO, MAIN, poc, PART, second, EOC])?;
+    for tile in stream.tiles.as_slice() {
+        assert_eq!(rt; orders(alloc, tile)?.as_slice(), [4u8].as_slice());
+    }
+    let stream = stream_of(&rt, alloc, &[SIZ, MAIN, PART, EOC])?;
+    let tiles = stream.tiles.as_slice();
+    let one = tiles.len() == 1;
+    assert!(rt; one);
+    let entries = tiles[0].progressions.as_slice();
+    let one = entries.len() == 1;
+    assert!(rt; one);
+    assert_eq!(rt; (entries[0].rs, entries[0].cs, entries[0].lye), (0, 0, 1));
+    assert_eq!(rt;
+        (entries[0].re, entries[0].ce, entries[0].order),
+        (33, 0, 0)
+    );
+    Ok(())
 }

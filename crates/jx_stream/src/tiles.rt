@@ -202,7 +202,11 @@ impl Draft {
     }
 }
 
-fn finish_drafts(alloc: Global, main: &[Segment], drafts: Vec<Draft>) -> Result<Vec<Tile>, AllocError>
+fn finish_drafts(
+    alloc: Global,
+    main: &[Segment],
+    drafts: Vec<Draft>,
+) -> Result<Vec<Tile>, AllocError>
     ensures count { IfOk result (λ tiles. length tiles.items ≡ length drafts.items) }
     ensures each { IfOk result (λ tiles. (tile : ℕ) (other : Draft) (another : Tile) (own : List Part) → tile < length drafts.items
         → Collects own (slice_index_or drafts.items tile other) → slice_index_or tiles.items tile another ≡ tile_from main.now own) }
@@ -219,7 +223,12 @@ fn finish_drafts(alloc: Global, main: &[Segment], drafts: Vec<Draft>) -> Result<
 }
 
 /// The tiles that some tile-parts make, whose tiles are below `count`.
-pub fn tiles_of(alloc: Global, main: &[Segment], parts: Vec<Part>, count: usize) -> Result<Vec<Tile>, AllocError>
+pub fn tiles_of(
+    alloc: Global,
+    main: &[Segment],
+    parts: Vec<Part>,
+    count: usize,
+) -> Result<Vec<Tile>, AllocError>
     requires { All (λ (part : Part). part.sot.tile < count) parts.items }
     ensures { IfOk result (λ tiles. tiles.items ≡ tiles_of main.now parts.items count) }
 {

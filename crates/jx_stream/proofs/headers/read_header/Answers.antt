@@ -1,8 +1,8 @@
-use Rattle.std.proofs.Common.{◌≡◌, ◌∙◌, ◌<◌, ◌≤◌, ◌-◌, ◌+◌, arith, length, drop, sym, refl, ap, true, false}
+use Rattle.std.proofs.Common.{◌≡◌, ◌∙◌, ◌≤◌, arith, drop, sym, ap, true, false}
 use Rattle.std.proofs.lemmas.Result.{err_from_is_err_and}
 use Rattle.jx_marker.specs.Segments.{size_at}
 use Rattle.jx_stream.specs.Headers.{ends_header, is_second}
-use Rattle.jx_stream.proofs.HeaderLemmas.{read_early, read_second, read_end, read_more, marks_none, marks_at, second_at, progress, size_is_two}
+use Rattle.jx_stream.proofs.HeaderLemmas.{read_early, read_second, read_end, read_more, marks_at, second_at, progress, size_is_two}
 use Rattle.jx_stream.proofs.headers.read_header.Goals as goal
 
 pub returns-in_err-segment-clause-answer : goal.returns-in_err-segment-clause-answer
@@ -13,7 +13,7 @@ returns-in_err-segment-clause-answer c =
 pub returns-then-ends_header-clause-answer : goal.returns-then-ends_header-clause-answer
 returns-then-ends_header-clause-answer c =
     let p = read_end c.args.kind c.args.comps c.args.bytes.now c.args.at c.segments.segments.items c.segments.place c.segments.invariant.same c.in_ok-segment.ensures.answer.0
-        (sym (ap ends_header c.in_ok-segment.ensures.answer.1) ∙ sym c.ends_header.ensures ∙ c.if-ends_header.true) in
+    (sym (ap ends_header c.in_ok-segment.ensures.answer.1) ∙ sym c.ends_header.ensures ∙ c.if-ends_header.true) in
     rw c.new.ensures (p.0, sym p.1)
 
 pub returns-then-mark-clause-answer : goal.returns-then-mark-clause-answer
@@ -30,7 +30,7 @@ pub segments-preserved : goal.segments-preserved
 segments-preserved c =
     let on = progress c.args.bytes.now c.segments.place c.in_ok-segment.next c.in_ok-segment.ensures.after.0 c.in_ok-segment.ensures.after.1 in
     let single : is_second c.segments.segments.items c.in_ok-segment.segment ≡ false = second_at c.args.comps c.args.at c.segments.segments.items c.in_ok-segment.segment c.slot_of.result c.segments.seen false c.slot_of.ensures c.in_ok-segment.ensures.range
-        (c.segments.auto.seen ∙ c.requires.slots) c.segments.invariant.marks c.if-mark.ensures.found in
+    (c.segments.auto.seen ∙ c.requires.slots) c.segments.invariant.marks c.if-mark.ensures.found in
     record {
       from = omega (arith, on.2);
       within = c.in_ok-segment.ensures.after.1;

@@ -4,9 +4,9 @@ use Rattle.jx_stream.proofs.headers.segment_in.Goals as goal
 
 pub returns-then-stands_in-clause-answer : goal.returns-then-stands_in-clause-answer
 returns-then-stands_in-clause-answer c = (
-      early_clear c.args.kind c.args.comps c.args.bytes.now c.args.at c.in-Ok.ensures.found.rules (rw c.in-Ok.ensures.found.value (sym c.stands_in.ensures ∙ c.if-stands_in.true)),
-      sym c.in-Ok.ensures.found.value,
-    )
+  early_clear c.args.kind c.args.comps c.args.bytes.now c.args.at c.in-Ok.ensures.found.rules (rw c.in-Ok.ensures.found.value (sym c.stands_in.ensures ∙ c.if-stands_in.true)),
+  sym c.in-Ok.ensures.found.value,
+)
 
 pub returns-else-stands_in-clause-answer : goal.returns-else-stands_in-clause-answer
 returns-else-stands_in-clause-answer c =

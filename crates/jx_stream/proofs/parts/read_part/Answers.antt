@@ -1,10 +1,10 @@
-use Rattle.std.proofs.Common.{◌≡◌, ◌∙◌, ◌<◌, ◌≤◌, ◌+◌, arith, sym, ap, subst, length, None, ℕ, get_or}
+use Rattle.std.proofs.Common.{◌≡◌, ◌∙◌, sym, ap, subst, length, None}
 use Rattle.std.proofs.lemmas.Result.{err_from_is_err_and}
 use Rattle.jx_marker.specs.declared.Sot.{Sot}
 use Rattle.jx_stream.specs.declared.headers.Header.{Header}
 use Rattle.jx_stream.specs.Faults.{IsCause}
-use Rattle.jx_stream.specs.Headers.{header_fault, header_at}
-use Rattle.jx_stream.specs.Parts.{sot_in, after_sot, kind_of, part_header, start_fault, sot_fault, sod_fault, tables_say, end_of}
+use Rattle.jx_stream.specs.Headers.{header_fault}
+use Rattle.jx_stream.specs.Parts.{sot_in, after_sot, kind_of, part_header, sot_fault, sod_fault, tables_say}
 use Rattle.jx_stream.proofs.FaultLemmas.{cause_same}
 use Rattle.jx_stream.proofs.PartLemmas.{part_start, part_sot, part_head, part_sod, part_none, part_is, header_same, header_fault_same}
 use Rattle.jx_stream.proofs.parts.read_part.Goals as goal
@@ -46,11 +46,10 @@ returns-in_err-end-clause-answer c =
 pub returns-clause-answer : goal.returns-clause-answer
 returns-clause-answer c =
     let P : Sot → Type 0 = λ s. sot_fault (length c.args.counts.now) c.args.bytes.now c.args.at s (tables_say c.args.counts.now c.args.told.now s) ≡ None in
-    let head = header_same c.args.comps c.args.bytes.now c.args.at c.in_ok-sot.sot c.in_ok-sot.next c.kind_of.result c.in_ok-header.header c.in_ok-sot.ensures.answer.1.0 c.in_ok-sot.ensures.answer.1.1 c.kind_of.ensures c.in_ok-header.ensures.answer.1 in
-    (
+    let head = header_same c.args.comps c.args.bytes.now c.args.at c.in_ok-sot.sot c.in_ok-sot.next c.kind_of.result c.in_ok-header.header c.in_ok-sot.ensures.answer.1.0 c.in_ok-sot.ensures.answer.1.1 c.kind_of.ensures c.in_ok-header.ensures.answer.1 in (
       part_none c.args.comps (length c.args.counts.now) c.args.bytes.now (tables_say c.args.counts.now c.args.told.now (sot_in c.args.bytes.now c.args.at)) c.args.at
-      c.in_ok-sot.ensures.answer.0 (subst P c.in_ok-sot.ensures.answer.1.0 c.in_ok-check_sot.ensures.0)
-      (sym (header_fault_same c.args.comps c.args.bytes.now c.args.at c.in_ok-sot.sot c.in_ok-sot.next c.kind_of.result c.in_ok-sot.ensures.answer.1.0 c.in_ok-sot.ensures.answer.1.1 c.kind_of.ensures) ∙ c.in_ok-header.ensures.answer.0)
-      (sym (ap (λ (s : Sot). sod_fault c.args.bytes.now c.args.at s c.in_ok-header.header.end) c.in_ok-sot.ensures.answer.1.0 ∙ ap (λ (h : Header). sod_fault c.args.bytes.now c.args.at (sot_in c.args.bytes.now c.args.at) h.end) head) ∙ c.in_ok-end.ensures.0),
+          c.in_ok-sot.ensures.answer.0 (subst P c.in_ok-sot.ensures.answer.1.0 c.in_ok-check_sot.ensures.0)
+          (sym (header_fault_same c.args.comps c.args.bytes.now c.args.at c.in_ok-sot.sot c.in_ok-sot.next c.kind_of.result c.in_ok-sot.ensures.answer.1.0 c.in_ok-sot.ensures.answer.1.1 c.kind_of.ensures) ∙ c.in_ok-header.ensures.answer.0)
+          (sym (ap (λ (s : Sot). sod_fault c.args.bytes.now c.args.at s c.in_ok-header.header.end) c.in_ok-sot.ensures.answer.1.0 ∙ ap (λ (h : Header). sod_fault c.args.bytes.now c.args.at (sot_in c.args.bytes.now c.args.at) h.end) head) ∙ c.in_ok-end.ensures.0),
       part_is c.args.comps c.args.bytes.now c.args.at c.in_ok-sot.sot c.in_ok-header.header c.in_ok-end.end c.in_ok-sot.ensures.answer.1.0 head c.in_ok-end.ensures.1.0,
     )

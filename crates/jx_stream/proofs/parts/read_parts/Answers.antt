@@ -1,4 +1,4 @@
-use Rattle.std.proofs.Common.{◌≡◌, ◌∙◌, ◌<◌, ◌≤◌, arith, sym, ap, length, None, false}
+use Rattle.std.proofs.Common.{◌≡◌, ◌∙◌, ◌<◌, arith, sym, length, None, false}
 use Rattle.std.proofs.lemmas.Result.{err_from_is_err_and}
 use Rattle.std.proofs.lemmas.List.Elements.{All-push}
 use Rattle.jx_stream.specs.declared.parts.Part.{Part}
@@ -26,7 +26,7 @@ pub parts-preserved : goal.parts-preserved
 parts-preserved c =
     let sizes : length c.parts.told ≡ length c.parts.counts = c.parts.auto.told ∙ c.requires.tables ∙ sym c.parts.auto.counts in
     let clear : fault_after c.args.comps (length c.args.counts.now) c.args.bytes.now c.parts.parts.items c.parts.place ≡ None =
-        sym (turn_at c.args.comps (length c.args.counts.now) c.args.bytes.now c.parts.parts.items c.parts.counts c.parts.told c.parts.place c.parts.auto.counts sizes c.parts.invariant.tracks) ∙ c.in_ok-part.ensures.answer.0 in
+    sym (turn_at c.args.comps (length c.args.counts.now) c.args.bytes.now c.parts.parts.items c.parts.counts c.parts.told c.parts.place c.parts.auto.counts sizes c.parts.invariant.tracks) ∙ c.in_ok-part.ensures.answer.0 in
     let goes : marker_at c.args.bytes.now c.parts.place 217 ≡ false = sym c.has_marker.ensures ∙ c.if-has_marker.false in
     record {
       within = omega (arith, c.end_of_part-place.ensures, c.in_ok-part.ensures.within.1);

@@ -1,4 +1,4 @@
-use Rattle.std.proofs.Common.{◌<◌, ◌≤◌, ℕ, arith}
+use Rattle.std.proofs.Common.{arith}
 use Rattle.std.proofs.lemmas.List.FromFn.{fill_by_all}
 use Rattle.jx_stream.specs.Params.{precinct_of}
 use Rattle.jx_stream.proofs.queries.precincts_of.Goals as goal

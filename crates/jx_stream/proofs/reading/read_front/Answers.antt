@@ -1,5 +1,5 @@
 use Rattle.std.proofs.Common.{◌∙◌, sym}
-use Rattle.jx_stream.proofs.FirstLemmas.{front_15, front_16, front_cause, front_clear, siz_stands, siz_value}
+use Rattle.jx_stream.proofs.FirstLemmas.{front_15, front_16, front_cause, front_clear, siz_value}
 use Rattle.jx_stream.proofs.reading.read_front.Goals as goal
 
 pub returns-then-not-has_marker-clause-answer : goal.returns-then-not-has_marker-clause-answer
@@ -12,8 +12,7 @@ returns-then-not-has_marker-2-clause-answer c =
 pub returns-in-Siz-clause-answer : goal.returns-in-Siz-clause-answer
 returns-in-Siz-clause-answer c =
     let soc = sym c.has_marker.ensures ∙ c.if-not-has_marker.false in
-    let siz = sym c.has_marker-2.ensures ∙ c.if-not-has_marker-2.false in
-    (
+    let siz = sym c.has_marker-2.ensures ∙ c.if-not-has_marker-2.false in (
       front_clear c.args.bytes.now soc siz c.in-Ok.ensures.found.rules,
       (siz_value c.args.bytes.now c.in-Ok.segment c.in-Siz.siz siz c.in-Ok.ensures.found.value c.in-Siz.is, c.in-Ok.ensures.after.0),
     )

@@ -1,4 +1,4 @@
-use Rattle.std.proofs.Common.{◌≡◌, ◌∙◌, ◌<◌, ap, subst, sym, length, ℕ, None, arith, List}
+use Rattle.std.proofs.Common.{◌≡◌, ◌<◌, subst, length, ℕ, None, arith}
 use Rattle.std.specs.List.{All}
 use Rattle.std.proofs.lemmas.Result.{err_from_is_err_and}
 use Rattle.jx_stream.specs.declared.parts.Part.{Part}

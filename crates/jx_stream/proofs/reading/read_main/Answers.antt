@@ -1,4 +1,4 @@
-use Rattle.std.proofs.Common.{◌∙◌, ap, not, sym, Bool}
+use Rattle.std.proofs.Common.{◌∙◌, ap, not}
 use Rattle.std.proofs.lemmas.Result.{err_from_is_err_and}
 use Rattle.jx_stream.proofs.FirstLemmas.{main_early, main_lacks, main_clear, lacks_by_table}
 use Rattle.jx_stream.proofs.reading.read_main.Goals as goal
@@ -15,7 +15,7 @@ returns-then-not-has_defaults-clause-answer c =
 
 pub returns-clause-answer : goal.returns-clause-answer
 returns-clause-answer c = (
-      main_clear c.args.comps c.args.bytes.now c.args.start c.in_ok-main.main c.in_ok-main.ensures.answer.0 c.in_ok-main.ensures.answer.1
+  main_clear c.args.comps c.args.bytes.now c.args.start c.in_ok-main.main c.in_ok-main.ensures.answer.0 c.in_ok-main.ensures.answer.1
       (lacks_by_table c.args.comps c.args.start c.in_ok-main.main.segments c.read_header.new.seen c.has_defaults.result c.in_ok-main.ensures.marks (c.read_header.auto.seen ∙ c.requires.slots) c.has_defaults.ensures ∙ ap not c.if-not-has_defaults.false),
-      c.in_ok-main.ensures.answer.1,
-    )
+  c.in_ok-main.ensures.answer.1,
+)

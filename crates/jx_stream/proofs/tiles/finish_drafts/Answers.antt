@@ -1,8 +1,7 @@
-use Rattle.std.proofs.Common.{◌≡◌, ◌∙◌, ◌+◌, ◌∷◌, [], ◌++◌, length, arith, sym, ap, List}
+use Rattle.std.proofs.Common.{◌∙◌, ◌∷◌, [], ◌++◌, length, arith, ap, List}
 use Rattle.std.proofs.lemmas.List.{length-append}
 use Rattle.jx_marker.specs.declared.Progression.{Progression}
 use Rattle.jx_stream.specs.Tiles.{joined}
-use Rattle.jx_stream.specs.declared.tiles.Draft.{Draft}
 use Rattle.jx_stream.specs.declared.Tile.{Tile}
 use Rattle.jx_stream.proofs.TileLemmas.{finishes_more}
 use Rattle.jx_stream.proofs.tiles.finish_drafts.Goals as goal
