@@ -1,0 +1,4 @@
+pub mod Loads
+pub mod Windows
+pub mod Changes
+pub mod Runs

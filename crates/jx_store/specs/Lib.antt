@@ -1,0 +1,5 @@
+pub mod Setup
+pub mod Machine
+pub mod Legal
+pub mod Order
+pub mod Shown
