@@ -21,3 +21,6 @@ pub use locked::Locked;
 pub use pass::Pass;
 pub use store::{Blanks, LockStore};
 pub use work::{Bounds, Entry, Named, Work};
+
+#[cfg(test)]
+mod tests;
