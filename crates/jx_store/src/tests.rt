@@ -1,6 +1,6 @@
 //! Worked runs on the core and through the passes of a lock store, and four threads on one store.
 
-ghost use Rattle.std.specs.Prelude.{ℕ, List, ◌≡◌, ◌<◌, ◌≤◌, ◌+◌, ◌^◌, All, None, Some, [], ◌∷◌, false, length, vec_len};
+ghost use Rattle.std.specs.Prelude.{ℕ, List, ◌≡◌, ◌<◌, ◌≤◌, ◌+◌, ◌^◌, All, IfOk, None, Some, [], ◌∷◌, false, length, vec_len};
 ghost use Rattle.std.specs.List.{sum};
 ghost use Rattle.jx_store.specs.Valid.{IsOf};
 
@@ -59,8 +59,12 @@ fn the_core_keeps_both_windows(rt: HostRuntime) -> Result<(), Fail> {
     assert_eq!(rt; core.step(commit_by(1, 1, 12)), Reply::Foreign);
     let tape = core.into_tape();
     assert_eq!(rt; tape.len(), 2);
-    assert!(rt; tape[0].number == 0 && tape[0].worker == 0 && tape[0].seen == 0 && tape[0].named == 10);
-    assert!(rt; tape[1].number == 1 && tape[1].worker == 1 && tape[1].seen == 0 && tape[1].named == 11);
+    assert!(rt;
+        tape[0].number == 0 && tape[0].worker == 0 && tape[0].seen == 0 && tape[0].named == 10
+    );
+    assert!(rt;
+        tape[1].number == 1 && tape[1].worker == 1 && tape[1].seen == 0 && tape[1].named == 11
+    );
 
     let mut even = Core::new(rt.alloc(), 0, &[5, 5, 5], 3, 10)?;
     assert_eq!(rt; even.step(claim_by(0)), claimed(0, 0));
@@ -200,15 +204,7 @@ fn lines<V: Work>(alloc: Global, tape: Vec<Entry<V>>) -> Result<Vec<Line>, NoMem
 }
 
 // Claims this number, told `seen`.
-fn claims<
-    V: Work,
-    N: Bounds<V::Job>,
-    A: Ledger,
-    B: Ledger,
-    C: Ledger,
-    D: Ledger,
-    R: Wait + Abort,
->(
+fn claims<V: Work, N: Bounds<V::Job>, A: Ledger, B: Ledger, C: Ledger, D: Ledger, R: Wait + Abort>(
     rt: &R,
     store: &LockStore<V, N, A, B, C, D>,
     pass: &mut Pass<N, A, B, C, D>,
@@ -241,12 +237,7 @@ fn is_refused<
     C: Ledger,
     D: Ledger,
     R: Wait + Abort,
->(
-    rt: &R,
-    store: &LockStore<V, N, A, B, C, D>,
-    pass: &mut Pass<N, A, B, C, D>,
-    reply: Reply,
-)
+>(rt: &R, store: &LockStore<V, N, A, B, C, D>, pass: &mut Pass<N, A, B, C, D>, reply: Reply)
     requires { pass.old.holds ≡ None }
     ensures { pass.new.holds ≡ None }
 {
@@ -261,15 +252,7 @@ fn is_refused<
 }
 
 // Commits this, and holds nothing more.
-fn commits<
-    V: Work,
-    N: Bounds<V::Job>,
-    A: Ledger,
-    B: Ledger,
-    C: Ledger,
-    D: Ledger,
-    R: Wait,
->(
+fn commits<V: Work, N: Bounds<V::Job>, A: Ledger, B: Ledger, C: Ledger, D: Ledger, R: Wait>(
     rt: &R,
     store: &LockStore<V, N, A, B, C, D>,
     pass: &mut Pass<N, A, B, C, D>,
@@ -284,14 +267,7 @@ fn commits<
 }
 
 // The tape of a store with these three passes.
-fn tape<
-    V: Work,
-    N: Bounds<V::Job>,
-    A: Ledger,
-    B: Ledger,
-    C: Ledger,
-    D: Ledger,
->(
+fn tape<V: Work, N: Bounds<V::Job>, A: Ledger, B: Ledger, C: Ledger, D: Ledger>(
     alloc: Global,
     store: LockStore<V, N, A, B, C, D>,
     first: Pass<N, A, B, C, D>,
@@ -337,8 +313,16 @@ fn narrow<
     requires parts { (blanks.claimed.parts ≡ A.parts) × (blanks.full.parts ≡ B.parts) × (blanks.all_claimed.parts ≡ C.parts) × (blanks.committed.parts ≡ D.parts) }
     requires each { (A.parts ≡ 3) × (B.parts ≡ 3) × (C.parts ≡ 3) × (D.parts ≡ 3) }
 {
-    let (store, mut passes) =
-        LockStore::<V, N, A, B, C, D>::new(alloc, jobs, &[0, 0, 0], 0, 2, 1, 3, blanks)?;
+    let (store, mut passes) = LockStore::<V, N, A, B, C, D>::new(
+        alloc,
+        jobs,
+        &[0, 0, 0],
+        0,
+        2,
+        1,
+        3,
+        blanks,
+    )?;
     let Some(mut third) = passes.pop() else {
         unreachable!()
     };
@@ -357,4 +341,278 @@ fn narrow<
     is_refused(rt, &store, &mut third, ALL_CLAIMED);
     commits(rt, &store, &mut first, two, maker.make(2));
     tape(alloc, store, first, second, third)
+}
+
+// Three workers, of which the last commits first and the second finds no memory.
+fn short<
+    V: Work,
+    N: Bounds<V::Job>,
+    A: Ledger,
+    B: Ledger,
+    C: Ledger,
+    D: Ledger,
+    R: Wait + Abort,
+    M: Maker<V>,
+>(rt: &R, alloc: Global, jobs: &[V::Job], maker: &M, blanks: Blanks) -> Result<Vec<Line>, NoMemory>
+    requires bounds { (N.setup ≡ record { first = 0; sizes = 0 ∷ 0 ∷ 0 ∷ []; window = 3; most = 1 }) × (N.workers ≡ 3) × (N.jobs ≡ jobs.now) }
+    requires jobs { (length jobs.now ≡ 3) × (M.jobs maker.now ≡ jobs.now) }
+    requires names { (blanks.claimed.name ≡ A.name) × (blanks.full.name ≡ B.name) × (blanks.all_claimed.name ≡ C.name) × (blanks.committed.name ≡ D.name) }
+    requires parts { (blanks.claimed.parts ≡ A.parts) × (blanks.full.parts ≡ B.parts) × (blanks.all_claimed.parts ≡ C.parts) × (blanks.committed.parts ≡ D.parts) }
+    requires each { (A.parts ≡ 3) × (B.parts ≡ 3) × (C.parts ≡ 3) × (D.parts ≡ 3) }
+{
+    let (store, mut passes) = LockStore::<V, N, A, B, C, D>::new(
+        alloc,
+        jobs,
+        &[0, 0, 0],
+        0,
+        3,
+        1,
+        3,
+        blanks,
+    )?;
+    let Some(mut third) = passes.pop() else {
+        unreachable!()
+    };
+    let Some(mut second) = passes.pop() else {
+        unreachable!()
+    };
+    let Some(mut first) = passes.pop() else {
+        unreachable!()
+    };
+    let zero = claims(rt, &store, &mut first, 0, 0);
+    let one = claims(rt, &store, &mut second, 1, 0);
+    let two = claims(rt, &store, &mut third, 2, 0);
+    commits(rt, &store, &mut third, two, maker.make(2));
+    commits(rt, &store, &mut first, zero, maker.make(0));
+    commits(rt, &store, &mut second, one, Named::Short(1));
+    tape(alloc, store, first, second, third)
+}
+
+type Runs = (Vec<Line>, Vec<Line>);
+
+fn plain_runs<'j, R: Wait + Abort>(rt: &R, alloc: Global, jobs: &'j [u32]) -> Result<Runs, NoMemory>
+    requires { length jobs.now ≡ 3 }
+{
+    let maker = Plains { jobs };
+    let one = narrow::<Plain, Brand, Brand, Brand, Brand, Brand, R, Plains<'j>>(
+        rt,
+        alloc,
+        jobs,
+        &maker,
+        blanks(3),
+    )?;
+    let other = short::<Plain, Brand, Brand, Brand, Brand, Brand, R, Plains<'j>>(
+        rt,
+        alloc,
+        jobs,
+        &maker,
+        blanks(3),
+    )?;
+    Ok((one, other))
+}
+
+fn counted_runs<'a, R: Wait + Abort>(
+    rt: &R,
+    alloc: Global,
+    jobs: &'a [Text<'a>],
+) -> Result<Runs, NoMemory>
+    requires { length jobs.now ≡ 3 }
+{
+    let maker = Counter { jobs };
+    let one = narrow::<Counted<'a>, Brand, Brand, Brand, Brand, Brand, R, Counter<'a>>(
+        rt,
+        alloc,
+        jobs,
+        &maker,
+        blanks(3),
+    )?;
+    let other = short::<Counted<'a>, Brand, Brand, Brand, Brand, Brand, R, Counter<'a>>(
+        rt,
+        alloc,
+        jobs,
+        &maker,
+        blanks(3),
+    )?;
+    Ok((one, other))
+}
+
+fn are_as_expected<R: Abort>(rt: &R, runs: &Runs) {
+    let narrow = [
+        written(0, 0, 0, true),
+        written(1, 1, 0, true),
+        written(2, 0, 2, true),
+    ];
+    let short = [
+        written(0, 0, 0, true),
+        written(1, 1, 0, false),
+        written(2, 2, 0, true),
+    ];
+    assert!(rt; runs.0.as_slice() == narrow.as_slice());
+    assert!(rt; runs.1.as_slice() == short.as_slice());
+}
+
+#[test]
+fn three_passes_share_a_store(rt: HostRuntime) -> Result<(), Fail> {
+    let plain = plain_runs(&rt, rt.alloc(), &[0, 1, 2])?;
+    are_as_expected(&rt, &plain);
+    let texts = [
+        Text {
+            number: 0,
+            letters: b"ab",
+        },
+        Text {
+            number: 1,
+            letters: b"",
+        },
+        Text {
+            number: 2,
+            letters: b"c",
+        },
+    ];
+    let counted = counted_runs(&rt, rt.alloc(), &texts)?;
+    are_as_expected(&rt, &counted);
+    Ok(())
+}
+
+// Claims and commits until all are claimed.
+fn work<
+    V: Work,
+    N: Bounds<V::Job>,
+    A: Ledger,
+    B: Ledger,
+    C: Ledger,
+    D: Ledger,
+    R: Wait,
+    M: Maker<V>,
+>(rt: &R, store: &LockStore<V, N, A, B, C, D>, pass: &mut Pass<N, A, B, C, D>, maker: &M)
+    requires named { (N.setup.first ≡ 0) × (M.jobs maker.now ≡ N.jobs) }
+    requires free { pass.old.holds ≡ None }
+    ensures { pass.new.holds ≡ None }
+{
+    for _ in rt.forever() {
+        match store.claim(rt, pass) {
+            ClaimAnswer::Claim(claim) => {
+                let named = maker.make(claim.number());
+                store.commit(rt, pass, claim, named);
+            }
+            ClaimAnswer::Full {
+                next: _,
+                drained: _,
+            } => thread::yield_now(),
+            ClaimAnswer::AllClaimed => return,
+        }
+    }
+    unreachable!()
+}
+
+// A worker for each pass.
+fn all_work<
+    V: Work + Send,
+    N: Bounds<V::Job> + Send + Sync,
+    A: Ledger + Send + Sync,
+    B: Ledger + Send + Sync,
+    C: Ledger + Send + Sync,
+    D: Ledger + Send + Sync,
+    R: Threads + Wait + Sync,
+    M: Maker<V> + Sync,
+>(rt: &R, store: &LockStore<V, N, A, B, C, D>, passes: &mut [Pass<N, A, B, C, D>], maker: &M)
+    requires some { 0 < length passes.old }
+    requires named { (N.setup.first ≡ 0) × (M.jobs maker.now ≡ N.jobs) }
+    requires free { All (λ p. p.holds ≡ None) passes.old }
+    ensures { All (λ p. p.holds ≡ None) passes.new }
+{
+    let threads = passes.len();
+    thread::for_each_mut(
+        rt,
+        passes,
+        threads,
+        &|_, pass: &mut Pass<N, A, B, C, D>|
+            requires { (pass.old.holds ≡ None) × (N.setup.first ≡ 0) × (M.jobs maker.now ≡ N.jobs) }
+            ensures { pass.new.holds ≡ None }
+        { work(rt, store, pass, maker) },
+    );
+}
+
+fn shared<
+    V: Work + Send,
+    N: Bounds<V::Job> + Send + Sync,
+    A: Ledger + Send + Sync,
+    B: Ledger + Send + Sync,
+    C: Ledger + Send + Sync,
+    D: Ledger + Send + Sync,
+    R: Threads + Wait + Sync,
+    M: Maker<V> + Sync,
+>(
+    rt: &R,
+    alloc: Global,
+    jobs: &[V::Job],
+    sizes: &[u32],
+    maker: &M,
+    blanks: Blanks,
+) -> Result<Vec<Line>, NoMemory>
+    requires bounds { (N.setup ≡ record { first = 0; sizes = sizes.now; window = 3; most = 1 }) × (N.workers ≡ 4) × (N.jobs ≡ jobs.now) }
+    requires jobs { (0 < length jobs.now) × (length jobs.now ≤ 2 ^ 20) × (length jobs.now ≡ length sizes.now) × (M.jobs maker.now ≡ jobs.now) }
+    requires sizes { sum sizes.now ≤ 2 ^ 28 }
+    requires names { (blanks.claimed.name ≡ A.name) × (blanks.full.name ≡ B.name) × (blanks.all_claimed.name ≡ C.name) × (blanks.committed.name ≡ D.name) }
+    requires parts { (blanks.claimed.parts ≡ A.parts) × (blanks.full.parts ≡ B.parts) × (blanks.all_claimed.parts ≡ C.parts) × (blanks.committed.parts ≡ D.parts) }
+    requires each { (A.parts ≡ 4) × (B.parts ≡ 4) × (C.parts ≡ 4) × (D.parts ≡ 4) }
+{
+    let (store, mut passes) = LockStore::<V, N, A, B, C, D>::new(
+        alloc, jobs, sizes, 0, 3, 1, 4, blanks,
+    )?;
+    all_work(rt, &store, passes.as_mut_slice(), maker);
+    lines(alloc, store.into_tape(passes))
+}
+
+fn by_four<'j, R: Threads + Wait + Sync>(
+    rt: &R,
+    alloc: Global,
+    jobs: &'j [u32],
+    sizes: &[u32],
+) -> Result<Vec<Line>, NoMemory>
+    requires jobs { (0 < length jobs.now) × (length jobs.now ≤ 2 ^ 20) × (length jobs.now ≡ length sizes.now) }
+    requires sizes { sum sizes.now ≤ 2 ^ 28 }
+{
+    let maker = Plains { jobs };
+    shared::<Plain, Brand, Brand, Brand, Brand, Brand, R, Plains<'j>>(
+        rt,
+        alloc,
+        jobs,
+        sizes,
+        &maker,
+        blanks(4),
+    )
+}
+
+fn first_numbers(alloc: Global) -> Result<Vec<u32>, NoMemory>
+    ensures { IfOk result (λ v. length v.items ≡ 1000) }
+{
+    let mut numbers = Vec::with_capacity(alloc, 1000)?;
+    for number in 0..1000 {
+        numbers.push_reserved(number);
+    }
+    Ok(numbers)
+}
+
+fn no_sizes(alloc: Global) -> Result<Vec<u32>, NoMemory>
+    ensures { IfOk result (λ v. (length v.items ≡ 1000) × (sum v.items ≡ 0)) }
+{
+    let mut sizes = Vec::with_capacity(alloc, 1000)?;
+    for _ in 0..1000_u32 {
+        sizes.push_reserved(0);
+    }
+    Ok(sizes)
+}
+
+#[test]
+fn four_threads_fill_the_tape(rt: HostRuntime) -> Result<(), Fail> {
+    let jobs = first_numbers(rt.alloc())?;
+    let sizes = no_sizes(rt.alloc())?;
+    let lines = by_four(&rt, rt.alloc(), jobs.as_slice(), sizes.as_slice())?;
+    assert_eq!(rt; lines.len(), 1000);
+    for (place, line) in lines.iter().enumerate() {
+        assert!(rt; line.number as usize == place && line.made && line.worker < 4);
+        assert!(rt; line.seen <= line.number && line.number - line.seen < 3);
+    }
+    Ok(())
 }
