@@ -15,7 +15,7 @@ use Rattle.jx_store.specs.Machine.{Claimant, Done, State, start, put, end, is_fu
 use Rattle.jx_store.specs.Shown.{Shown, held_in, parked_in, slot_of, state_of, items_of}
 use Rattle.jx_store.proofs.Windows.{slot_set, slot_next, slot_drained, slot_in, slot_out}
 
-through : {X Y : Type 0} (f : X → Y) (b : Bool) (x y : X) → f (cond b x y) ≡ cond b (f x) (f y)
+pub through : {X Y : Type 0} (f : X → Y) (b : Bool) (x y : X) → f (cond b x y) ≡ cond b (f x) (f y)
 through f true x y = refl
 through f false x y = refl
 

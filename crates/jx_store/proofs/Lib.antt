@@ -5,3 +5,4 @@ pub mod Runs
 pub mod Tally
 pub mod Valids
 pub mod Records
+pub mod Replays

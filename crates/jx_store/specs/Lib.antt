@@ -6,6 +6,7 @@ pub mod Shown
 pub mod Notes
 pub mod ShownNotes
 pub mod Recorded
+pub mod Replays
 pub mod Busy
 pub mod LockView
 pub mod Kept

@@ -184,15 +184,15 @@ impl<V: Drop> Core<V> {
             return Reply::Nothing;
         }
         let number = self.drained;
-        let place = (number % self.window) as usize;
-        let Slot::Parked { .. } = self.slots[place] else {
+        let head = (number % self.window) as usize;
+        let Slot::Parked { .. } = self.slots[head] else {
             return Reply::Nothing;
         };
         let Slot::Parked {
             worker,
             seen,
             value,
-        } = mem::replace(&mut self.slots[place], Slot::Empty)
+        } = mem::replace(&mut self.slots[head], Slot::Empty)
         else {
             unreachable!()
         };

@@ -11,7 +11,8 @@ ghost use Rattle.jx_store.specs.Order.{numbers};
 ghost use Rattle.jx_store.specs.Answers.{Tells, counted};
 ghost use Rattle.jx_store.specs.Replies.{replied};
 ghost use Rattle.jx_store.specs.Notes.{no_notes, note, count_full, count_all, count_claims, count_commits};
-ghost use Rattle.jx_store.specs.Recorded.{Recorded, Settled};
+ghost use Rattle.jx_store.specs.Recorded.{Settled};
+ghost use Rattle.jx_store.specs.Replays.{Remembers};
 ghost use Rattle.jx_store.specs.Shown.{state_of};
 ghost use Rattle.jx_store.specs.ShownNotes.{shown};
 ghost use Rattle.jx_store.specs.Valid.{IsOf};
@@ -124,11 +125,12 @@ impl<V: Work, N: Bounds<V::Job>, A: Ledger, B: Ledger, C: Ledger, D: Ledger> Loc
         })
     }
 
-    /// The history so far. It is legal, it replays to the state, and it has at most three events for
-    /// each number.
+    /// The history so far. It is kept of a legal list of events with replies that leads to the state;
+    /// by itself it leads to the state but for the values. It has at most three events for each
+    /// number. The next number in sequence isn't parked.
     pub fn history(&self) -> &History
         ensures shown { shown result.now ≡ self.now.notes }
-        ensures recorded { Recorded N.setup (shown result.now) (state_of self.now.core) }
+        ensures remembers { Remembers N.setup (shown result.now) (state_of self.now.core) }
         ensures short { length (shown result.now).steps ≤ 3 * length N.setup.sizes }
         ensures idle { (state_of self.now.core).parked self.now.core.drained ≡ None }
     {
