@@ -7,9 +7,8 @@ use Rattle.std.proofs.lemmas.Bool.{cases_lt}
 use Rattle.jx_store.specs.declared.event.Event.TheVariants.{Claim, Commit, Drain}
 use Rattle.jx_store.specs.declared.event.Slot.{Slot}
 use Rattle.jx_store.specs.declared.event.Slot.TheVariants.{Empty, Held, Parked}
-use Rattle.jx_store.specs.declared.event.Taped.{Taped}
 use Rattle.jx_store.specs.declared.event.Reply.{Reply}
-use Rattle.jx_store.specs.declared.event.Reply.TheVariants.{Claimed, Full, AllClaimed, Committed, Foreign, Drained, Nothing}
+use Rattle.jx_store.specs.declared.event.Reply.TheVariants.{Claimed, Committed, Drained, Nothing}
 use Rattle.jx_store.specs.Setup.{load}
 use Rattle.jx_store.specs.Machine.{Claimant, Done, State, start, put, end, is_full, claimed, committed, drained_one, commit_by, drain_by, does}
 use Rattle.jx_store.specs.Shown.{Shown, held_in, parked_in, slot_of, state_of, items_of}

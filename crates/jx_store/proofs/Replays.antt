@@ -1,5 +1,5 @@
 -- The history alone replays to the state but for the values.
-use Rattle.std.proofs.Common.{◌≡◌, ℕ, ◌+◌, ◌==◌, ◌⊎◌, Bool, true, false, cond, List, [], ◌∷◌, ◌++◌, map, refl, sym, ap, subst, ◌∙◌, inl, inr, arith, append_assoc, append-nil}
+use Rattle.std.proofs.Common.{◌≡◌, ℕ, ◌+◌, ◌==◌, cond, List, [], ◌∷◌, ◌++◌, map, refl, sym, ap, subst, ◌∙◌, inl, inr, arith, append_assoc, append-nil}
 use Rattle.std.specs.Prelude.{Option, Some, None}
 use Rattle.std.proofs.Math.Path.{fun_ext}
 use Rattle.std.proofs.lemmas.Bool.Decides.{nat_tests}
@@ -16,7 +16,7 @@ use Rattle.jx_store.specs.Machine.{Claimant, Done, State, put, start, end, is_fu
 use Rattle.jx_store.specs.Legal.{log_of}
 use Rattle.jx_store.specs.Notes.{Notes, no_notes, tells, note, notes, kind_of}
 use Rattle.jx_store.specs.Recorded.{Recorded}
-use Rattle.jx_store.specs.Replays.{Blank, blank_done, blank_taped, erase, event_of, replayed, Remembers}
+use Rattle.jx_store.specs.Replays.{Blank, blank_done, blank_taped, erase, event_of, Remembers}
 use Rattle.jx_store.proofs.Changes.{through, does_claim, does_commit, does_drain}
 use Rattle.jx_store.proofs.Runs.{cond_cases}
 

@@ -1,18 +1,17 @@
 -- Each event keeps the order.
-use Rattle.std.proofs.Common.{◌≡◌, ◌≢◌, ℕ, zero, suc, ◌+◌, ◌-◌, ◌<◌, ◌≤◌, ◌==◌, ◌⊎◌, Bool, true, false, cond, List, [], ◌∷◌, ◌++◌, map, length, get_or, refl, sym, ap, subst, ◌∙◌, inl, inr, arith, append_assoc, append-nil}
+use Rattle.std.proofs.Common.{◌≡◌, ◌≢◌, ℕ, zero, suc, ◌+◌, ◌-◌, ◌<◌, ◌≤◌, ◌==◌, ◌⊎◌, Bool, true, false, cond, List, [], ◌∷◌, ◌++◌, map, refl, sym, ap, subst, ◌∙◌, inl, inr, arith, append_assoc, append-nil}
 use Rattle.std.specs.Prelude.{Option, Some, None, slice_get, Contains}
-use Rattle.std.proofs.lemmas.Bool.{cases_eq, cases_lt, cases_Bool}
+use Rattle.std.proofs.lemmas.Bool.{cases_eq, cases_lt}
 use Rattle.std.proofs.lemmas.Bool.Decides.{nat_tests}
-use Rattle.std.proofs.lemmas.Grind.{common_steps}
-use Rattle.std.proofs.lemmas.List.{map-append, length_push}
-use Rattle.std.proofs.lemmas.List.Elements.{Contains-append_left, Contains-append_right, Contains-push}
-use Rattle.std.proofs.lemmas.Option.{gets, slice_get_cases, slice_get_within, none-some, same_Some}
+use Rattle.std.proofs.lemmas.List.{map-append}
+use Rattle.std.proofs.lemmas.List.Elements.{Contains-append_left, Contains-push}
+use Rattle.std.proofs.lemmas.Option.{none-some, same_Some}
 use Rattle.jx_store.specs.declared.event.Event.{Event}
 use Rattle.jx_store.specs.declared.event.Event.TheVariants.{Claim, Commit, Drain}
 use Rattle.jx_store.specs.declared.event.Reply.{Reply}
 use Rattle.jx_store.specs.declared.event.Reply.TheVariants.{Claimed, Full, AllClaimed, Committed, Foreign, Drained, Nothing}
 use Rattle.jx_store.specs.declared.event.Taped.{Taped}
-use Rattle.jx_store.specs.Setup.{Setup, load, Within}
+use Rattle.jx_store.specs.Setup.{Setup, Within}
 use Rattle.jx_store.specs.Legal.{log_of}
 use Rattle.jx_store.proofs.Loads.{load_rest}
 use Rattle.jx_store.proofs.Changes.{not_full}

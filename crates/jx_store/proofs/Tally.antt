@@ -1,5 +1,5 @@
 -- The counts of claims and commits.
-use Rattle.std.proofs.Common.{◌≡◌, ◌≢◌, ℕ, zero, suc, ◌+◌, ◌-◌, ◌<◌, ◌≤◌, ◌==◌, ◌⊎◌, Bool, true, false, cond, List, [], ◌∷◌, ◌++◌, map, length, refl, sym, ap, subst, ◌∙◌, inl, inr, arith}
+use Rattle.std.proofs.Common.{◌≡◌, ◌≢◌, ℕ, zero, suc, ◌+◌, ◌-◌, ◌<◌, ◌≤◌, ◌==◌, ◌⊎◌, true, false, cond, List, [], ◌∷◌, ◌++◌, map, length, refl, sym, ap, subst, ◌∙◌, inl, inr, arith}
 use Rattle.std.specs.Prelude.{Option, Some, None}
 use Rattle.std.proofs.lemmas.Bool.{cases_eq, cases_lt, false≢true}
 use Rattle.std.proofs.lemmas.List.{length_push}
@@ -7,17 +7,17 @@ use Rattle.std.proofs.lemmas.Bool.Decides.{nat_tests}
 use Rattle.jx_store.specs.declared.event.Event.{Event}
 use Rattle.jx_store.specs.declared.event.Event.TheVariants.{Claim, Commit, Drain}
 use Rattle.jx_store.specs.declared.event.Reply.{Reply}
-use Rattle.jx_store.specs.declared.event.Reply.TheVariants.{Claimed, Full, AllClaimed, Committed, Foreign, Drained, Nothing}
+use Rattle.jx_store.specs.declared.event.Reply.TheVariants.{Claimed, Full, AllClaimed, Committed, Foreign, Drained}
 use Rattle.jx_store.specs.declared.event.Taped.{Taped}
 use Rattle.jx_store.specs.Setup.{Setup, load, Within}
 use Rattle.jx_store.proofs.Changes.{not_full}
-use Rattle.jx_store.specs.Machine.{Claimant, Done, State, put, end, is_full, claimed, committed, drained_one, commit_by, drain_by, does, runs, start}
+use Rattle.jx_store.specs.Machine.{Claimant, Done, State, put, end, is_full, claimed, committed, commit_by, drain_by, does, start}
 use Rattle.jx_store.specs.Order.{InOrder, numbers}
 use Rattle.jx_store.specs.Busy.{one_if, busy}
 use Rattle.jx_store.specs.Kept.{Kept, drains}
 use Rattle.jx_store.specs.Shown.{Shown, state_of, parked_in}
 use Rattle.jx_store.proofs.Windows.{slot_out}
-use Rattle.jx_store.proofs.Runs.{always_in_order, Next, on_each, cond_cases, put_same, put_other, not_both}
+use Rattle.jx_store.proofs.Runs.{always_in_order, on_each, cond_cases, put_same, put_other, not_both}
 
 module _ {X : Type 0} where
   busy_put_out : (m : ℕ → Option X) (k : ℕ) (x : Option X) (a n : ℕ) → (k < a) ⊎ (a + n ≤ k) → busy (put m k x) a n ≡ busy m a n

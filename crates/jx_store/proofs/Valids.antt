@@ -1,22 +1,12 @@
-use Rattle.std.proofs.Common.{◌≡◌, ◌≢◌, ℕ, zero, suc, ◌+◌, ◌-◌, ◌<◌, ◌≤◌, ◌==◌, ◌⊎◌, Bool, true, false, cond, List, [], ◌∷◌, ◌++◌, map, length, refl, sym, ap, subst, ◌∙◌, inl, inr, arith}
+use Rattle.std.proofs.Common.{◌≡◌, ℕ, zero, suc, refl, sym, subst, ◌∙◌, inl, inr}
 use Rattle.std.specs.Prelude.{Option, Some, None}
-use Rattle.std.proofs.lemmas.Bool.{cases_eq, cases_lt}
-use Rattle.std.proofs.lemmas.List.{length_push}
-use Rattle.std.proofs.lemmas.Bool.Decides.{nat_tests}
-use Rattle.jx_store.specs.declared.event.Event.{Event}
 use Rattle.jx_store.specs.declared.event.Event.TheVariants.{Claim, Commit, Drain}
-use Rattle.jx_store.specs.declared.event.Reply.{Reply}
-use Rattle.jx_store.specs.declared.event.Reply.TheVariants.{Claimed, Full, AllClaimed, Committed, Foreign, Drained, Nothing}
+use Rattle.jx_store.specs.declared.event.Reply.TheVariants.{Claimed, Committed}
 use Rattle.jx_store.specs.declared.event.Taped.{Taped}
 use Rattle.jx_store.specs.Setup.{Setup}
-use Rattle.jx_store.specs.Machine.{Claimant, Done, State, put, claimed, committed, drained_one, commit_by, drain_by, does, runs, start}
-use Rattle.jx_store.specs.Order.{InOrder, numbers}
-use Rattle.jx_store.specs.Busy.{one_if, busy}
-use Rattle.jx_store.specs.Kept.{Kept, drains}
-use Rattle.jx_store.specs.Shown.{Shown, state_of, parked_in}
-use Rattle.jx_store.proofs.Windows.{slot_out}
-use Rattle.jx_store.proofs.Runs.{put_same, put_other, put_cases, push_cases, not_both}
-use Rattle.std.specs.Prelude.{slice_get}
+use Rattle.jx_store.specs.Machine.{Done, State, put, drain_by, does, start}
+use Rattle.jx_store.specs.Kept.{drains}
+use Rattle.jx_store.proofs.Runs.{put_cases, push_cases, not_both}
 use Rattle.std.proofs.lemmas.Option.{same_Some, none-some}
 use Rattle.jx_store.specs.Valid.{AllOf}
 use Rattle.jx_store.proofs.Tally.{was_claimed, was_committed}

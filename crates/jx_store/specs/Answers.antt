@@ -1,6 +1,5 @@
 -- What a claim and a commit say of the pass, and of what the core replies.
-use Rattle.std.specs.Prelude.{◌≡◌, ℕ, ◌+◌, ◌-◌, ◌<◌, ◌≤◌, ◌⊎◌, length}
-use Rattle.jx_store.specs.declared.claim.Claim.{Claim as Ticket}
+use Rattle.std.specs.Prelude.{◌≡◌, ◌+◌, ◌<◌, ◌≤◌, ◌⊎◌, length}
 use Rattle.jx_store.specs.declared.claim.ClaimAnswer.{ClaimAnswer}
 use Rattle.jx_store.specs.declared.claim.ClaimAnswer.TheVariants.{Claim, Full, AllClaimed}
 use Rattle.jx_store.specs.declared.event.Reply.{Reply}

@@ -1,5 +1,5 @@
 -- What the locked state keeps.
-use Rattle.std.specs.Prelude.{◌≡◌, ℕ, ◌+◌, ◌-◌, ◌<◌, ◌≤◌, zero, suc, None, List}
+use Rattle.std.specs.Prelude.{◌≡◌, ℕ, ◌+◌, ◌-◌, zero, suc, List}
 use Rattle.jx_store.specs.declared.event.Event.{Event}
 use Rattle.jx_store.specs.declared.event.Event.TheVariants.{Drain}
 use Rattle.jx_store.specs.declared.event.Reply.{Reply}

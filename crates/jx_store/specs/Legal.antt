@@ -2,7 +2,7 @@
 use Rattle.std.specs.Prelude.{◌≡◌, List, [], ◌∷◌, map}
 use Rattle.jx_store.specs.declared.event.Event.{Event}
 use Rattle.jx_store.specs.declared.event.Reply.{Reply}
-use Rattle.jx_store.specs.Machine.{State, does, runs}
+use Rattle.jx_store.specs.Machine.{State, does}
 
 module _ {V : Type 0} where
   -- each event with the reply that the machine gives to it

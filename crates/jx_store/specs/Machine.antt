@@ -1,5 +1,5 @@
 -- The store machine: a state with two maps and a tape, and what each event does to it.
-use Rattle.std.specs.Prelude.{◌≡◌, ℕ, ◌+◌, ◌-◌, ◌<◌, ◌≤◌, ◌==◌, nat_lt, Bool, cond, ◌&&◌, ◌||◌, List, [], ◌∷◌, ◌++◌, length, Option, Some, None}
+use Rattle.std.specs.Prelude.{ℕ, ◌+◌, ◌-◌, ◌==◌, nat_lt, Bool, cond, ◌&&◌, ◌||◌, List, [], ◌∷◌, ◌++◌, length, Option, Some, None}
 use Rattle.jx_store.specs.declared.event.Event.{Event}
 use Rattle.jx_store.specs.declared.event.Event.TheVariants.{Claim, Commit, Drain}
 use Rattle.jx_store.specs.declared.event.Reply.{Reply}

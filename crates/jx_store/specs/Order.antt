@@ -1,9 +1,9 @@
 -- What every run of the machine keeps.
-use Rattle.std.specs.Prelude.{◌≡◌, ℕ, zero, suc, ◌+◌, ◌-◌, ◌<◌, ◌≤◌, ◌⊎◌, List, [], ◌∷◌, ◌++◌, map, length, Option, Some, None, slice_get, Contains}
+use Rattle.std.specs.Prelude.{◌≡◌, ℕ, zero, suc, ◌+◌, ◌-◌, ◌<◌, ◌≤◌, ◌⊎◌, List, [], ◌∷◌, ◌++◌, map, Some, None, slice_get, Contains}
 use Rattle.jx_store.specs.declared.event.Event.{Event}
-use Rattle.jx_store.specs.declared.event.Event.TheVariants.{Claim, Commit, Drain}
+use Rattle.jx_store.specs.declared.event.Event.TheVariants.{Claim, Commit}
 use Rattle.jx_store.specs.declared.event.Reply.{Reply}
-use Rattle.jx_store.specs.declared.event.Reply.TheVariants.{Claimed, Full, AllClaimed, Committed, Foreign, Drained, Nothing}
+use Rattle.jx_store.specs.declared.event.Reply.TheVariants.{Claimed, Committed}
 use Rattle.jx_store.specs.declared.event.Taped.{Taped}
 use Rattle.jx_store.specs.Setup.{Setup, load, Within}
 use Rattle.jx_store.specs.Machine.{Claimant, Done, State, start, end, runs}

@@ -1,5 +1,5 @@
 -- The history that the lock keeps.
-use Rattle.std.specs.Prelude.{◌≡◌, ℕ, zero, suc, ◌+◌, ◌-◌, List, length, None}
+use Rattle.std.specs.Prelude.{◌≡◌, ℕ, zero, suc, ◌+◌, List, length, None}
 use Rattle.jx_store.specs.declared.event.Event.{Event}
 use Rattle.jx_store.specs.declared.event.Event.TheVariants.{Drain}
 use Rattle.jx_store.specs.Setup.{Setup}

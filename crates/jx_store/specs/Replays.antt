@@ -1,5 +1,5 @@
 -- What the history says by itself, where no value is known.
-use Rattle.std.specs.Prelude.{◌≡◌, ℕ, List, [], ◌∷◌, map, Option, Some, None}
+use Rattle.std.specs.Prelude.{◌≡◌, List, map, Option, Some, None}
 use Rattle.jx_store.specs.declared.event.Event.{Event}
 use Rattle.jx_store.specs.declared.event.Event.TheVariants.{Claim, Commit, Drain}
 use Rattle.jx_store.specs.declared.event.Reply.{Reply}

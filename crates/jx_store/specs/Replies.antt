@@ -1,5 +1,4 @@
 -- The core's reply that a claim hands on.
-use Rattle.jx_store.specs.declared.claim.Claim.{Claim as Ticket}
 use Rattle.jx_store.specs.declared.claim.ClaimAnswer.{ClaimAnswer}
 use Rattle.jx_store.specs.declared.claim.ClaimAnswer.TheVariants.{Claim, Full, AllClaimed}
 use Rattle.jx_store.specs.declared.event.Reply.{Reply}

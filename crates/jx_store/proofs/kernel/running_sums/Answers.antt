@@ -1,4 +1,4 @@
-use Rattle.std.proofs.Common.{◌≡◌, ℕ, ◌<◌, ◌≤◌, ◌+◌, ◌-◌, List, ◌∷◌, [], ◌++◌, get_or, refl, arith, ap, sym, ◌∙◌}
+use Rattle.std.proofs.Common.{ℕ, ◌+◌, ◌∷◌, [], ◌++◌, get_or, refl, arith, ap, sym, ◌∙◌}
 use Rattle.jx_store.proofs.Loads.{sums_grow, total_grow}
 use Rattle.jx_store.proofs.kernel.running_sums.Goals as goal
 

@@ -1,4 +1,4 @@
-use Rattle.std.proofs.Common.{◌≡◌, ℕ, suc, ◌+◌, ◌-◌, ◌≤◌, ◌<◌, length, arith, ap, sym, subst, refl, ◌∙◌}
+use Rattle.std.proofs.Common.{◌≡◌, suc, ◌+◌, length, arith, ap, sym, subst, ◌∙◌}
 use Rattle.std.proofs.lemmas.List.{length_push}
 use Rattle.jx_store.specs.Machine.{State, does}
 use Rattle.jx_store.specs.Notes.{Notes, note}

@@ -1,4 +1,4 @@
-use Rattle.std.proofs.Common.{◌≡◌, ℕ, ◌-◌, ◌+◌, ◌≤◌, length, vec_len, vec_capacity}
+use Rattle.std.proofs.Common.{◌≡◌, ℕ, ◌-◌, ◌+◌, ◌≤◌, length, vec_capacity}
 use Rattle.jx_store.specs.Kept.{drains}
 use Rattle.jx_store.specs.Recorded.{drain_notes}
 use Rattle.jx_store.specs.Shown.{state_of}

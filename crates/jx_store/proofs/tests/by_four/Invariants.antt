@@ -1,4 +1,3 @@
-use Rattle.std.specs.Prelude.{[], ◌∷◌}
 use Rattle.jx_store.proofs.tests.by_four.Given as goal
 
 abbrev pub ghosts-shared-N-Bounds : goal.ghosts-shared-N-Bounds

@@ -1,4 +1,4 @@
-use Rattle.std.proofs.Common.{◌≡◌, ◌-◌, ◌+◌, Bool, arith, ap, sym, ◌∙◌}
+use Rattle.std.proofs.Common.{arith, ap, sym, ◌∙◌}
 use Rattle.jx_store.specs.Machine.{is_full}
 use Rattle.jx_store.specs.Shown.{Shown, state_of}
 use Rattle.jx_store.proofs.Changes.{claim_does}

@@ -1,5 +1,5 @@
-use Rattle.std.proofs.Common.{◌≡◌, ℕ, List, ◌<◌, ◌≤◌, ◌+◌, ◌-◌, arith, ap, sym, subst, ◌∙◌}
-use Rattle.std.specs.Prelude.{Some, slice_get, vec_len}
+use Rattle.std.proofs.Common.{◌≡◌, ℕ, List, ◌≤◌, ◌+◌, ◌-◌, arith, ap, sym, subst, ◌∙◌}
+use Rattle.std.specs.Prelude.{slice_get}
 use Rattle.std.proofs.lemmas.Option.{slice_get_read}
 use Rattle.jx_store.specs.Machine.{end}
 use Rattle.jx_store.specs.Setup.{Setup, load}

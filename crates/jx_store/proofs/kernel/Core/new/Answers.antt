@@ -1,6 +1,6 @@
-use Rattle.std.proofs.Common.{◌≡◌, ℕ, ◌<◌, ◌≤◌, ◌+◌, ◌-◌, List, length, refl, arith, ap, sym, subst, ◌∙◌}
+use Rattle.std.proofs.Common.{ℕ, List, length, arith, ap, sym, ◌∙◌}
 use Rattle.jx_store.specs.declared.event.Taped.{Taped}
-use Rattle.jx_store.specs.Shown.{Shown, state_of, items_of, sums_from}
+use Rattle.jx_store.specs.Shown.{state_of, items_of, sums_from}
 use Rattle.jx_store.specs.Machine.{State, start}
 use Rattle.jx_store.proofs.Loads.{items_of_sums}
 use Rattle.jx_store.proofs.Changes.{fresh}

@@ -1,4 +1,4 @@
-use Rattle.std.proofs.Common.{ℕ, ◌≡◌, arith, sym, ◌∙◌}
+use Rattle.std.proofs.Common.{sym, ◌∙◌}
 use Rattle.jx_store.specs.Shown.{state_of}
 use Rattle.jx_store.proofs.Tally.{all_on_tape}
 use Rattle.jx_store.proofs.locked.Locked.audit.Goals as goal

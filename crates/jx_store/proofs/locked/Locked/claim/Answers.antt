@@ -1,4 +1,4 @@
-use Rattle.std.proofs.Common.{ℕ, ◌≡◌, ◌+◌, ◌-◌, length, arith, refl, ap, sym, subst, ◌∙◌}
+use Rattle.std.proofs.Common.{ℕ, ◌≡◌, length, arith, ap, sym, subst, ◌∙◌}
 use Rattle.jx_store.specs.declared.event.Event.TheVariants.{Claim}
 use Rattle.jx_store.specs.declared.event.Reply.TheVariants.{Claimed, Full, AllClaimed}
 use Rattle.jx_store.specs.declared.history.Kind.TheVariants.{Claims}

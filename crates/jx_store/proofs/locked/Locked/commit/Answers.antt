@@ -1,5 +1,4 @@
-use Rattle.std.proofs.Common.{ℕ, ◌≡◌, ◌+◌, ◌-◌, arith, refl, ap, sym, subst, ◌∙◌}
-use Rattle.jx_store.specs.Kept.{drains}
+use Rattle.std.proofs.Common.{◌≡◌, arith, refl, ap, sym, subst, ◌∙◌}
 use Rattle.jx_store.specs.Setup.{Setup}
 use Rattle.jx_store.specs.Machine.{State, does}
 use Rattle.jx_store.specs.LockView.{LockView}
