@@ -1,0 +1,4 @@
+pub mod JoinedLemmas
+pub mod LessLemmas
+pub mod OrderLemmas
+pub mod KeyLemmas

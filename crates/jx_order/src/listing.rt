@@ -1,0 +1,52 @@
+//! The list of a tile's packets.
+
+ghost use Rattle.std.specs.Prelude.{◌≡◌, ◌≢◌, ◌≤◌, ◌↔◌, ◌++◌, ℕ, IfOk, OnOk, length};
+ghost use Rattle.std.specs.List.{All, AllPairs, Contains};
+ghost use Rattle.jx_order.specs.declared.names.PacketName.{PacketName};
+ghost use Rattle.jx_order.specs.Packets.{AreCovered, HasUncovered, IsOrder, IsPacket};
+
+use crate::missing::first_missing;
+use crate::names::{OrderFault, PacketName};
+use crate::placing::list_entry;
+use crate::sent::{mark, none_sent};
+use jx_base::NoMemory;
+use jx_geom::TileGeom;
+use jx_marker::Progression;
+use std::alloc::{AllocError, Global};
+
+/// The packets of a tile of so many layers, in the order in which they are sent (T.800, B.12). Each
+/// progression entry sends those that it covers and that no entry before it sent, sorted by the key of its
+/// order; its ends are cut down to what is there (A.6.6). `Uncovered` comes where some packet of the tile
+/// is in no entry. The time grows with the packets, and with the entries times the resolutions.
+pub fn packets(
+    alloc: Global,
+    geom: &TileGeom,
+    layers: u16,
+    entries: &[Progression],
+) -> Result<Vec<PacketName>, OrderFault>
+    requires { All (λ e. e.order ≤ 4) entries.now }
+    ensures order { IfOk result (λ list. IsOrder geom.now layers entries.now (length entries.now) list.items) }
+    ensures whole { OnOk result (AreCovered geom.now layers entries.now) }
+    ensures every { IfOk result (λ list. (p : PacketName) → Contains list.items p ↔ IsPacket geom.now layers p) }
+    ensures once { IfOk result (λ list. AllPairs (λ p q. p ≢ q) list.items) }
+    ensures uncovered { result ≡ Err OrderFault.Uncovered → HasUncovered geom.now layers entries.now }
+{
+    let mut sent = none_sent(alloc, geom)?;
+    let mut list = Vec::new(alloc);
+    for entry in entries {
+        let next = list_entry(alloc, geom, layers, *entry, &sent)?;
+        mark(geom, layers, *entry, &mut sent);
+        append(&mut list, &next)?;
+    }
+    match first_missing(geom, layers, &sent) {
+        Some(_) => Err(OrderFault::Uncovered),
+        None => Ok(list),
+    }
+}
+
+/// Appends a list.
+fn append(list: &mut Vec<PacketName>, next: &[PacketName]) -> Result<(), NoMemory>
+    ensures { OnOk result (list.new.items ≡ list.old.items ++ next.now) }
+{
+    Ok(list.extend_from_slice(next)?)
+}
