@@ -2,3 +2,4 @@ pub mod JoinedLemmas
 pub mod LessLemmas
 pub mod OrderLemmas
 pub mod KeyLemmas
+pub mod PlacedLemmas

@@ -84,7 +84,7 @@ same_fields p q el er ec ek =
     let e : name_of p.layer p.res p.comp p.precinct ≡ name_of q.layer q.res q.comp q.precinct = cc in
     e
 
-same_or : (p q : PacketName) → (p ≡ q) ⊎ (p ≢ q)
+pub same_or : (p q : PacketName) → (p ≡ q) ⊎ (p ≢ q)
 same_or p q = elim (cases_eq p.layer q.layer) [
   | inr other ↦ inr (λ e. other (ap (λ (w : PacketName). w.layer) e))
   | inl el ↦ elim (cases_eq p.res q.res) [

@@ -1,7 +1,7 @@
 //! Where a progression entry ends, cut down to what is there (T.800, A.6.6).
 
 ghost use Rattle.std.specs.Prelude.{◌≡◌, ◌<◌, ◌≤◌, ◌+◌, ◌^◌, length};
-ghost use Rattle.jx_geom.specs.Geometry.{shape_of};
+ghost use Rattle.jx_geom.specs.Geometry.{GeometryInRange, shape_of};
 ghost use Rattle.jx_order.specs.Steps.{components, components_to, layers_to, resolutions_to};
 
 use jx_geom::TileGeom;
@@ -29,6 +29,7 @@ pub(crate) fn component_count(geom: &TileGeom) -> usize
     ensures value { result ≡ components geom.now }
     ensures bound { result ≤ 65536 }
     ensures there { result ≤ length geom.now.shapes }
+    ensures range { GeometryInRange geom.now }
 {
     geom.components().min(65_536)
 }
@@ -39,6 +40,7 @@ pub(crate) fn component_end(geom: &TileGeom, entry: Progression) -> usize
     ensures bound { result ≤ components geom.now }
     ensures named { result ≤ 65536 }
     ensures there { result ≤ length geom.now.shapes }
+    ensures range { GeometryInRange geom.now }
 {
     let count = component_count(geom);
     if entry.ce == 0 {

@@ -2,7 +2,7 @@
 
 ghost use Rattle.std.specs.Prelude.{◌≡◌, ◌<◌, ◌≤◌, ◌+◌, ◌*◌, ◌++◌, IfOk, OnOk, length, map};
 ghost use Rattle.jx_base.specs.Places.{size_of};
-ghost use Rattle.jx_geom.specs.Geometry.{HasResolution, precincts_in};
+ghost use Rattle.jx_geom.specs.Geometry.{GeometryInRange, HasResolution, precincts_in};
 ghost use Rattle.jx_order.specs.Orders.{order_of};
 ghost use Rattle.jx_order.specs.Steps.{
   HasPlaces,
@@ -162,7 +162,8 @@ fn place_all(
 ) -> Result<Vec<Placed>, NoMemory>
     requires order { entry.order ≤ 4 }
     requires places { HasPlaces geom.now sent.now }
-    ensures { IfOk result (λ list. list.items ≡ placed_all geom.now layers entry sent.now) }
+    ensures list { IfOk result (λ list. list.items ≡ placed_all geom.now layers entry sent.now) }
+    ensures range { GeometryInRange geom.now }
 {
     let mut list = Vec::new(alloc);
     for comp in usize::from(entry.cs)..component_end(geom, entry) {

@@ -16,9 +16,9 @@ loop-comp-preserved c = record {
   until = omega arith;
 }
 
-pub returns : goal.returns
+pub returns-clause-list : goal.returns-clause-list
 unfolding placed_all
-returns c =
+returns-clause-list c =
     let end = c.component_end-comp-end.ensures.value in
     let all : c.loop-comp.list.items ≡ joined (placed_component c.args.geom.now c.args.layers c.args.entry c.args.sent.now) c.args.entry.cs c.component_end-comp-end.result =
     makes_all c.loop-comp.list.items (placed_component c.args.geom.now c.args.layers c.args.entry c.args.sent.now) c.args.entry.cs
