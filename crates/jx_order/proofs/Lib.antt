@@ -3,3 +3,4 @@ pub mod LessLemmas
 pub mod OrderLemmas
 pub mod KeyLemmas
 pub mod PlacedLemmas
+pub mod TableLemmas

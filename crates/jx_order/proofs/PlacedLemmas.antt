@@ -98,13 +98,13 @@ pub record Due (g : Geometry) (layers : ℕ) (e : Progression) (sent : List ℕ)
   pub covers : Covers e p
   pub unsent : sent_at sent p.comp p.res ≤ p.layer
 
-components_end : (g : Geometry) (e : Progression) (c : ℕ) → c < components_to g e → (c < components g) × ((e.ce ≡ 0) ⊎ (c < e.ce))
+pub components_end : (g : Geometry) (e : Progression) (c : ℕ) → c < components_to g e → (c < components g) × ((e.ce ≡ 0) ⊎ (c < e.ce))
 components_end g e c h = elim (cases_eq e.ce 0) [
   | inl none ↦ (grind (arith, nat_tests), inl none)
   | inr some ↦ let below : c < min (components g) e.ce = grind (arith, nat_tests) in (omega arith, inr (omega arith))
 ]
 
-components_reach : (g : Geometry) (e : Progression) (c : ℕ) → c < components g → (e.ce ≡ 0) ⊎ (c < e.ce) → c < components_to g e
+pub components_reach : (g : Geometry) (e : Progression) (c : ℕ) → c < components g → (e.ce ≡ 0) ⊎ (c < e.ce) → c < components_to g e
 components_reach g e c h below = elim below [
   | inl none ↦ grind (arith, nat_tests)
   | inr some ↦ elim (cases_eq e.ce 0) [ inl none ↦ absurd (omega arith) | inr other ↦ let both : c < min (components g) e.ce = omega arith in grind (arith, nat_tests) ]

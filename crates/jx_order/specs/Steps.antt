@@ -1,5 +1,5 @@
 -- Words of the inner functions: lists that loops make, and how many layers were sent.
-use Rattle.std.specs.Prelude.{ℕ, zero, suc, ◌+◌, ◌-◌, ◌*◌, ◌^◌, ◌<◌, ◌≤◌, ◌≡◌, ◌==◌, ◌⊎◌, ◌↔◌, min, max, List, [], ◌∷◌, ◌++◌, length, slice_index, if◌then◌else◌}
+use Rattle.std.specs.Prelude.{ℕ, zero, suc, ◌+◌, ◌-◌, ◌*◌, ◌^◌, ◌<◌, ◌≤◌, ◌≡◌, ◌≢◌, ◌==◌, ◌⊎◌, ◌↔◌, min, max, List, [], ◌∷◌, ◌++◌, length, slice_index, if◌then◌else◌}
 use Rattle.std.specs.List.{AllPairs, Contains}
 use Rattle.jx_base.specs.Places.{size_of}
 use Rattle.jx_geom.specs.Geometry.{Geometry, HasResolution, precincts_in, shape_of}
@@ -9,7 +9,7 @@ use Rattle.jx_order.specs.declared.names.Order.{Order}
 use Rattle.jx_order.specs.declared.names.Order.TheVariants.{Lrcp, Rlcp, Rpcl, Pcrl, Cprl}
 use Rattle.jx_order.specs.declared.keys.Placed.{Placed}
 use Rattle.jx_order.specs.Orders.{ComesBefore, across_of, down_of, order_of}
-use Rattle.jx_order.specs.Packets.{IsPacket, Covers}
+use Rattle.jx_order.specs.Packets.{AreCovered, Covers, IsOrder, IsPacket}
 
 -- f a, f (a + 1), .. up to and not including f b, joined
 abbrev pub joined_below : {X : Type 0} → (ℕ → List X) → ℕ → ℕ → List X
@@ -104,3 +104,10 @@ AreSentIn g layers sent c = (r l : ℕ) → r ≤ (shape_of g c).levels → l < 
 
 abbrev pub AreSent : Geometry → ℕ → List ℕ → Type 0
 AreSent g layers sent = (c : ℕ) → c < components g → AreSentIn g layers sent c
+
+-- what the list of a tile is
+pub record IsListed (g : Geometry) (layers : ℕ) (entries : List Progression) (list : List PacketName) : Type 0 where
+  pub order : IsOrder g layers entries (length entries) list
+  pub whole : AreCovered g layers entries
+  pub every : (p : PacketName) → Contains list p ↔ IsPacket g layers p
+  pub once : AllPairs (λ p q. p ≢ q) list

@@ -35,9 +35,8 @@ pub(crate) fn first_missing(geom: &TileGeom, layers: u16, sent: &[u16]) -> Optio
     ensures { MatchOption result (AreSent geom.now layers sent.now) (IsMissing geom.now layers sent.now) }
 {
     for comp in 0..component_count(geom) {
-        let missing = missing_in(geom, layers, sent, comp as u16);
-        if missing.is_some() {
-            return missing;
+        if let Some(name) = missing_in(geom, layers, sent, comp as u16) {
+            return Some(name);
         }
     }
     None

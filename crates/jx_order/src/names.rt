@@ -42,7 +42,10 @@ pub enum OrderFault {
 }
 
 impl From<NoMemory> for OrderFault {
-    ghost from_gives = { λ _ _. Unit {0} };
+    ghost use Rattle.std.specs.Prelude.{◌≡◌};
+    ghost use Rattle.jx_order.specs.declared.names.OrderFault.TheVariants.{NoMemory as out_of_memory};
+
+    ghost from_gives = { λ _ fault. fault ≡ out_of_memory };
 
     fn from(_: NoMemory) -> Self {
         OrderFault::NoMemory

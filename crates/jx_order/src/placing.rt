@@ -189,7 +189,8 @@ pub(crate) fn list_entry(
 ) -> Result<Vec<PacketName>, NoMemory>
     requires order { entry.order ≤ 4 }
     requires places { HasPlaces geom.now sent.now }
-    ensures { IfOk result (λ names. Lists geom.now layers entry sent.now names.items) }
+    ensures lists { IfOk result (λ names. Lists geom.now layers entry sent.now names.items) }
+    ensures range { GeometryInRange geom.now }
 {
     let mut list = place_all(alloc, geom, layers, entry, sent)?;
     list.sort()?;

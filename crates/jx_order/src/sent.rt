@@ -1,7 +1,7 @@
 //! How many layers of each resolution were sent. Each entry begins at the first layer, so the layers of a
 //! resolution that were sent are always those below a number, and all precincts of it have the same.
 
-ghost use Rattle.std.specs.Prelude.{◌≡◌, ◌<◌, ◌≤◌, ◌^◌, ◌+◌, ◌*◌, ℕ, max, IfOk, length, slice_index};
+ghost use Rattle.std.specs.Prelude.{◌≡◌, ◌<◌, ◌≤◌, ◌^◌, ◌+◌, ◌*◌, ℕ, max, IfOk, length, slice_index, slice_set};
 ghost use Rattle.jx_order.specs.Steps.{
   HasPlaces,
   IsMarked,
@@ -32,6 +32,15 @@ pub(crate) fn layers_sent(sent: &[u16], comp: u16, res: u8) -> u16
     sent[usize::from(comp) * 33 + usize::from(res)]
 }
 
+/// Marks the layers of a resolution below an end.
+fn mark_resolution(end: u16, comp: u16, res: u8, sent: &mut [u16])
+    requires { comp * 33 + res < length sent.old }
+    ensures { sent.new ≡ slice_set sent.old (comp * 33 + res) (max (sent_at sent.old comp res) end) }
+{
+    let place = usize::from(comp) * 33 + usize::from(res);
+    sent[place] = sent[place].max(end);
+}
+
 /// Marks a component's resolutions that an entry has.
 fn mark_component(geom: &TileGeom, end: u16, entry: Progression, comp: u16, sent: &mut [u16])
     requires component { comp < length geom.now.shapes }
@@ -39,8 +48,7 @@ fn mark_component(geom: &TileGeom, end: u16, entry: Progression, comp: u16, sent
     ensures { IsMarkedComponent geom.now end entry comp sent.old sent.new }
 {
     for res in entry.rs..resolution_end(geom, entry, comp) {
-        let place = usize::from(comp) * 33 + usize::from(res);
-        sent[place] = sent[place].max(end);
+        mark_resolution(end, comp, res, sent);
     }
 }
 

@@ -6,8 +6,8 @@ use Rattle.jx_order.proofs.KeyLemmas.{not_before}
 use Rattle.jx_order.proofs.PlacedLemmas.{names, sorted_lists}
 use Rattle.jx_order.proofs.placing.list_entry.Goals as goal
 
-pub returns : goal.returns
-returns c =
+pub returns-clause-lists : goal.returns-clause-lists
+returns-clause-lists c =
     let lists : Lists c.args.geom.now c.args.layers c.args.entry c.args.sent.now (names c.sort.new.self.items) =
     sorted_lists c.args.geom.now c.args.layers c.args.entry c.args.sent.now c.in_ok-list.list.items c.sort.new.self.items
     c.place_all.ensures.range c.in_ok-list.ensures.list c.sort.ensures.permutation
