@@ -148,16 +148,25 @@ one_name g layers o p q range hp hq e = name_from g layers o p q range hp hq (sa
 drop_zero : (a b c d e f g h : ℕ) → IsLess (a ∷ b ∷ c ∷ d ∷ 0 ∷ []) (e ∷ f ∷ g ∷ h ∷ 0 ∷ []) → IsLess (a ∷ b ∷ c ∷ d ∷ []) (e ∷ f ∷ g ∷ h ∷ [])
 drop_zero a b c d e f g h less = elim less [
   | inl lt ↦ inl lt
-  | inr one ↦ inr (one.0, elim one.1 [
-    | inl lt ↦ inl lt
-    | inr two ↦ inr (two.0, elim two.1 [
+  | inr one ↦ inr (
+    one.0,
+    elim one.1 [
       | inl lt ↦ inl lt
-      | inr three ↦ inr (three.0, elim three.1 [
-        | inl lt ↦ inl lt
-        | inr four ↦ elim four.1 [ inl zero_less ↦ absurd (omega (arith, zero_less)) | inr five ↦ absurd five.1 ]
-      ])
-    ])
-  ])
+      | inr two ↦ inr (
+        two.0,
+        elim two.1 [
+          | inl lt ↦ inl lt
+          | inr three ↦ inr (
+            three.0,
+            elim three.1 [
+              | inl lt ↦ inl lt
+              | inr four ↦ elim four.1 [ inl zero_less ↦ absurd (omega (arith, zero_less)) | inr five ↦ absurd five.1 ]
+            ],
+          )
+        ],
+      )
+    ],
+  )
 ]
 
 pub before_from : (g : Geometry) (o : Order) (p q : PacketName) → IsLess (numbers (placed_of g o p)) (numbers (placed_of g o q)) → ComesBefore g o p q

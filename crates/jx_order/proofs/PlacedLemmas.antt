@@ -285,25 +285,25 @@ sorted_lists g layers e sent xs ys range made moved sorted =
     record {
       exact = λ p. (
         λ h. (let n = names_have ys p h in
-        let d = due n.0 n.1 in
-        let Q : PacketName → Type 0 = λ w. IsPacket g layers w × Covers e w × (sent_at sent w.comp w.res ≤ w.layer) in
-        let at : Q n.0.name = (d.1.packet, d.1.covers, d.1.unsent) in
-        subst Q n.2 at),
+            let d = due n.0 n.1 in
+            let Q : PacketName → Type 0 = λ w. IsPacket g layers w × Covers e w × (sent_at sent w.comp w.res ≤ w.layer) in
+            let at : Q n.0.name = (d.1.packet, d.1.covers, d.1.unsent) in
+            subst Q n.2 at),
         λ h. (let due_p : Due g layers e sent p = record { packet = h.0; covers = h.1; unsent = h.2 } in
-        let inside : Contains ys (placed_of g (order_of e.order) p) =
-        Contains-permutation xs ys (placed_of g (order_of e.order) p) moved (subst (C (placed_of g (order_of e.order) p)) (sym made) (due_all g layers e sent p due_p)) in
-        let N : PacketName → Type 0 = λ w. Contains (names ys) w in
-        subst N (name_is g (order_of e.order) p) (names_from ys (placed_of g (order_of e.order) p) inside))
+            let inside : Contains ys (placed_of g (order_of e.order) p) =
+            Contains-permutation xs ys (placed_of g (order_of e.order) p) moved (subst (C (placed_of g (order_of e.order) p)) (sym made) (due_all g layers e sent p due_p)) in
+            let N : PacketName → Type 0 = λ w. Contains (names ys) w in
+            subst N (name_is g (order_of e.order) p) (names_from ys (placed_of g (order_of e.order) p) inside)),
       );
       sorted = pairs_from_next (ComesBefore g (order_of e.order))
-      (λ x y z. less_trans (key_of g (order_of e.order) x) (key_of g (order_of e.order) y) (key_of g (order_of e.order) z)) (names ys)
-      (λ k d below. (
-        let lt : k + 1 < length ys = omega (arith, below, length-names ys) in
-        let here : k < length ys = omega arith in
-        let next = step_before g layers e sent ys range due apart k (behind d) lt (sorted k (behind d) lt) in
-        let B : PacketName → PacketName → Type 0 = λ v w. ComesBefore g (order_of e.order) v w in
-        let first : PacketName → Type 0 = λ v. B v (get_or ys (k + 1) (behind d)).name in
-        let second : PacketName → Type 0 = λ w. B (get_or (names ys) k d) w in
-        subst second (sym (name_at ys (k + 1) d lt)) (subst first (sym (name_at ys k d here)) next)
-      ));
+          (λ x y z. less_trans (key_of g (order_of e.order) x) (key_of g (order_of e.order) y) (key_of g (order_of e.order) z)) (names ys)
+          (λ k d below. (
+          let lt : k + 1 < length ys = omega (arith, below, length-names ys) in
+          let here : k < length ys = omega arith in
+          let next = step_before g layers e sent ys range due apart k (behind d) lt (sorted k (behind d) lt) in
+          let B : PacketName → PacketName → Type 0 = λ v w. ComesBefore g (order_of e.order) v w in
+          let first : PacketName → Type 0 = λ v. B v (get_or ys (k + 1) (behind d)).name in
+          let second : PacketName → Type 0 = λ w. B (get_or (names ys) k d) w in
+          subst second (sym (name_at ys (k + 1) d lt)) (subst first (sym (name_at ys k d here)) next)
+          ));
     }

@@ -38,8 +38,8 @@ marked_next end first c r before old now h inside_old e m =
             subst P (sym er) (same ∙ ap (λ v. max v end) unmarked)
       ];
       outside = λ i none.
-      (let ne : i ≢ c * 33 + r = λ eq. none r h (omega arith) eq in
-      other i ne ∙ m.outside i (λ k from below eq. none k from (omega arith) eq));
+          (let ne : i ≢ c * 33 + r = λ eq. none r h (omega arith) eq in
+          other i ne ∙ m.outside i (λ k from below eq. none k from (omega arith) eq));
     }
 
 pub marked_all : (g : Geometry) (end : ℕ) (e : Progression) (c r : ℕ) (before now : List ℕ) → resolutions_to g e c ≤ r → r ≤ max e.rs (resolutions_to g e c)
@@ -81,16 +81,16 @@ below_next g end e c before old now range from below one m =
             subst P (sym same) at reaches
       ];
       outside = λ k r lt none.
-      one.outside (k * 33 + r) (λ j jf jb je.
-      (let small : j < 33 = omega arith in
-      let same : k ≡ c = omega arith in
-      let place : r ≡ j = omega arith in
-      let Q : ℕ → ℕ → Type 0 = λ v w. Reaches g e v w in
-      let V : ℕ → Type 0 = λ v. Q v j in
-      let W : ℕ → Type 0 = λ w. Q k w in
-      let here : Reaches g e c j = record { comp_from = from; comp_below = below; res_from = jf; res_below = jb } in
-      none (subst W (sym place) (subst V (sym same) here)) (omega arith)))
-      ∙ m.outside k r lt (λ reaches less. none reaches (omega arith));
+          one.outside (k * 33 + r) (λ j jf jb je.
+          (let small : j < 33 = omega arith in
+          let same : k ≡ c = omega arith in
+          let place : r ≡ j = omega arith in
+          let Q : ℕ → ℕ → Type 0 = λ v w. Reaches g e v w in
+          let V : ℕ → Type 0 = λ v. Q v j in
+          let W : ℕ → Type 0 = λ w. Q k w in
+          let here : Reaches g e c j = record { comp_from = from; comp_below = below; res_from = jf; res_below = jb } in
+          none (subst W (sym place) (subst V (sym same) here)) (omega arith)))
+          ∙ m.outside k r lt (λ reaches less. none reaches (omega arith));
     }
 
 pub below_all : (g : Geometry) (layers : ℕ) (e : Progression) (c : ℕ) (before now : List ℕ) → components_to g e ≤ c
@@ -141,12 +141,12 @@ pub sends_from : (g : Geometry) (layers : ℕ) (e : Progression) (sent : List �
 sends_from g layers e sent before next table lists = record {
   exact = λ p. (
     λ h. (let l = (lists.exact p).0 h in
-    let unsent : sent_at sent p.comp p.res ≤ p.layer = l.2 in
-    (l.0, l.1, λ there. (let less = (table p l.0).1 there in omega arith))),
+        let unsent : sent_at sent p.comp p.res ≤ p.layer = l.2 in
+        (l.0, l.1, λ there. (let less = (table p l.0).1 there in omega arith))),
     λ h. elim (cases_lt p.layer (sent_at sent p.comp p.res)) [
       | inl less ↦ absurd (h.2 ((table p h.0).0 less))
       | inr ge ↦ (lists.exact p).1 (h.0, h.1, ge)
-    ]
+    ],
   );
   sorted = lists.sorted;
 }
@@ -167,8 +167,7 @@ pub table_next : (g : Geometry) (layers : ℕ) (e : Progression) (sent now : Lis
     → IsTable g layers before sent → Lists g layers e sent next → IsMarked g layers e sent now → IsTable g layers (before ++ next) now
 table_next g layers e sent now before next range table lists marked p packet =
     let level : (shape_of g p.comp).levels ≤ 32 = (range.shapes p.comp packet.resolution.component).numbers.levels in
-    let in_table : p.res < 33 = omega (arith, packet.resolution.level) in
-    (
+    let in_table : p.res < 33 = omega (arith, packet.resolution.level) in (
       λ less. elim (cases_lt p.layer (sent_at sent p.comp p.res)) [
         | inl old ↦ Contains-append_left before next p ((table p packet).0 old)
         | inr ge ↦ elim (reaches_or g e p.comp p.res) [
@@ -190,14 +189,14 @@ table_next g layers e sent now before next range table lists marked p packet =
             let l = (lists.exact p).0 new in
             let value = marked.inside p.comp p.res (reaches_from g layers e p packet l.1) in
             omega (arith, l.1.layer, packet.layer)
-      ]
+      ],
     )
 
 -- ---- at the end
 pub table_none : (g : Geometry) (layers : ℕ) (sent : List ℕ) → ((i : ℕ) → slice_index sent i ≡ 0) → IsTable g layers [] sent
 table_none g layers sent h p packet = (
   λ less. (let e : sent_at sent p.comp p.res ≡ 0 = h (p.comp * 33 + p.res) in absurd (omega arith)),
-  λ there. absurd (omega (arith, there.1))
+  λ there. absurd (omega (arith, there.1)),
 )
 
 pub all_there : (g : Geometry) (layers : ℕ) (list : List PacketName) (sent : List ℕ) → IsTable g layers list sent → AreSent g layers sent
@@ -216,12 +215,15 @@ covered_from g layers entries list p h there =
 pub uncovered_from : (g : Geometry) (layers : ℕ) (entries : List Progression) (list : List PacketName) (sent : List ℕ) (p : PacketName)
     → IsOrder g layers entries (length entries) list → IsTable g layers list sent → IsMissing g layers sent p → HasUncovered g layers entries
 uncovered_from g layers entries list sent p h table missing =
-    let unsent : sent_at sent p.comp p.res ≤ p.layer = missing.unsent in
-    (p, missing.packet, λ covered.
-    (let there = order_from g layers entries (length entries) list h p
-    (record { packet = missing.packet; entry = covered.0; below = covered.1; covers = covered.2 }) in
-    let less = (table p missing.packet).1 there in
-    omega arith))
+    let unsent : sent_at sent p.comp p.res ≤ p.layer = missing.unsent in (
+      p,
+      missing.packet,
+      λ covered.
+          (let there = order_from g layers entries (length entries) list h p
+          (record { packet = missing.packet; entry = covered.0; below = covered.1; covers = covered.2 }) in
+          let less = (table p missing.packet).1 there in
+          omega arith),
+    )
 
 -- ---- the search for what wasn't sent
 pub sent_next : (g : Geometry) (layers layer : ℕ) (sent : List ℕ) (c r : ℕ) → layer ≡ sent_at sent c r

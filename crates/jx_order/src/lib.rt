@@ -13,4 +13,5 @@ mod sent;
 pub use listing::packets;
 pub use names::{Order, OrderFault, PacketName};
 
-
+#[cfg(test)]
+mod tests;

@@ -24,7 +24,7 @@ loop-entry-preserved c =
     let Q : List PacketName → Type 0 = λ l. IsTable c.args.geom.now c.args.layers l c.mark.new.sent in
     record {
       order = subst P (sym joined) (order_next c.args.geom.now c.args.layers c.args.entries.now c.loop-entry.entry-index c.loop-entry.list.items
-      c.in_ok-next.next.items c.loop-entry.invariant.order sends);
+          c.in_ok-next.next.items c.loop-entry.invariant.order sends);
       table = subst Q (sym joined) (table_next c.args.geom.now c.args.layers _ c.loop-entry.sent c.mark.new.sent c.loop-entry.list.items
-      c.in_ok-next.next.items c.list_entry.ensures.range c.loop-entry.invariant.table c.in_ok-next.ensures.lists c.mark.ensures);
+          c.in_ok-next.next.items c.list_entry.ensures.range c.loop-entry.invariant.table c.in_ok-next.ensures.lists c.mark.ensures);
     }

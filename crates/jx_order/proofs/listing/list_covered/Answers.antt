@@ -17,7 +17,7 @@ returns-in-None-clause-listed c =
       whole = λ p packet. covered_from c.args.geom.now c.args.layers c.args.entries.now c.in_ok-list.list.items p order (there p packet);
       every = λ p. (
         λ contains. (order_to c.args.geom.now c.args.layers c.args.entries.now (length c.args.entries.now) c.in_ok-list.list.items order p contains).packet,
-        λ packet. there p packet
+        λ packet. there p packet,
       );
       once = order_once c.args.geom.now c.args.layers c.args.entries.now (length c.args.entries.now) c.in_ok-list.list.items order;
     }

@@ -11,8 +11,8 @@ loop-comp-init c =
 pub loop-comp-preserved : goal.loop-comp-preserved
 loop-comp-preserved c = record {
   items = makes_next c.loop-comp.list.items c.place_component.new.list.items
-  (placed_component c.args.geom.now c.args.layers c.args.entry c.args.sent.now) c.args.entry.cs c.loop-comp.comp (omega arith)
-  c.loop-comp.invariant.items c.in_ok-place_component.ensures;
+      (placed_component c.args.geom.now c.args.layers c.args.entry c.args.sent.now) c.args.entry.cs c.loop-comp.comp (omega arith)
+      c.loop-comp.invariant.items c.in_ok-place_component.ensures;
   until = omega arith;
 }
 

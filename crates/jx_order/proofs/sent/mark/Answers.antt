@@ -15,7 +15,7 @@ loop-comp-preserved c =
     let below : c.loop-comp.comp < c.component_end-comp-end.result = c.loop-comp-test.true in
     record {
       marked = below_next c.args.geom.now c.layer_end-end.result c.args.entry c.loop-comp.comp c.args.sent.now c.loop-comp.sent c.mark_component.new.sent
-      c.component_end-comp-end.ensures.range (omega arith) (rw end at below) c.mark_component.ensures c.loop-comp.invariant.marked;
+          c.component_end-comp-end.ensures.range (omega arith) (rw end at below) c.mark_component.ensures c.loop-comp.invariant.marked;
       until = omega arith;
     }
 

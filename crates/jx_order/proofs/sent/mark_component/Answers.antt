@@ -12,7 +12,7 @@ loop-res-init c = record {
 pub loop-res-preserved : goal.loop-res-preserved
 loop-res-preserved c = record {
   marked = marked_next c.args.end c.args.entry.rs c.args.comp c.loop-res.res c.args.sent.now c.loop-res.sent c.mark_resolution.new.sent
-  (omega arith) (omega arith) c.mark_resolution.ensures c.loop-res.invariant.marked;
+      (omega arith) (omega arith) c.mark_resolution.ensures c.loop-res.invariant.marked;
   until = omega arith;
 }
 
