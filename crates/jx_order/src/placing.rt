@@ -25,6 +25,20 @@ use jx_geom::TileGeom;
 use jx_marker::Progression;
 use std::alloc::{AllocError, Global};
 
+/// A packet behind five numbers.
+fn keyed(first: u64, second: u64, third: u64, fourth: u64, fifth: u64, name: PacketName) -> Placed
+    ensures { result ≡ record { first = first; second = second; third = third; fourth = fourth; fifth = fifth; name = name } }
+{
+    Placed {
+        first,
+        second,
+        third,
+        fourth,
+        fifth,
+        name,
+    }
+}
+
 /// A packet behind its key.
 fn place(geom: &TileGeom, order: Order, name: PacketName) -> Placed
     requires resolution { HasResolution geom.now name.comp name.res }
@@ -37,46 +51,11 @@ fn place(geom: &TileGeom, order: Order, name: PacketName) -> Placed
     let precinct = u64::from(name.precinct);
     let (x, y) = geom.reference_point(name.comp, name.res, name.precinct);
     match order {
-        Order::Lrcp => Placed {
-            first: layer,
-            second: res,
-            third: comp,
-            fourth: precinct,
-            fifth: 0,
-            name,
-        },
-        Order::Rlcp => Placed {
-            first: res,
-            second: layer,
-            third: comp,
-            fourth: precinct,
-            fifth: 0,
-            name,
-        },
-        Order::Rpcl => Placed {
-            first: res,
-            second: y,
-            third: x,
-            fourth: comp,
-            fifth: layer,
-            name,
-        },
-        Order::Pcrl => Placed {
-            first: y,
-            second: x,
-            third: comp,
-            fourth: res,
-            fifth: layer,
-            name,
-        },
-        Order::Cprl => Placed {
-            first: comp,
-            second: y,
-            third: x,
-            fourth: res,
-            fifth: layer,
-            name,
-        },
+        Order::Lrcp => keyed(layer, res, comp, precinct, 0, name),
+        Order::Rlcp => keyed(res, layer, comp, precinct, 0, name),
+        Order::Rpcl => keyed(res, y, x, comp, layer, name),
+        Order::Pcrl => keyed(y, x, comp, res, layer, name),
+        Order::Cprl => keyed(comp, y, x, res, layer, name),
     }
 }
 
