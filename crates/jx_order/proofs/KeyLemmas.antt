@@ -1,7 +1,7 @@
 -- A key tells packets apart: where two precincts of a resolution stand in one place, they are one.
-use Rattle.std.proofs.Common.{◌≡◌, ◌≢◌, ℕ, ◌+◌, ◌-◌, ◌*◌, ◌/◌, ◌^◌, ◌≤◌, ◌<◌, List, [], ◌∷◌, inl, inr, ◌⊎◌, ◌∙◌, ap, sym, subst, refl, arith, max, Ordering, nat_cmp, is_lt, false}
+use Rattle.std.proofs.Common.{◌≡◌, ℕ, ◌+◌, ◌-◌, ◌*◌, ◌/◌, ◌^◌, ◌≤◌, ◌<◌, List, [], ◌∷◌, inl, inr, ◌⊎◌, sym, subst, refl, arith, Ordering, nat_cmp, is_lt, false}
 use Rattle.std.specs.Ordering.{ordering_then}
-use Rattle.std.proofs.Math.Nat.{mul-le-mul_right, mul-le-mul_left, lt-div-mul-add, one-le-mul}
+use Rattle.std.proofs.Math.Nat.{mul-le-mul_right, lt-div-mul-add, one-le-mul}
 use Rattle.std.proofs.lemmas.Nat.{pow_pos}
 use Rattle.std.proofs.lemmas.Bool.{cases_lt}
 use Rattle.std.proofs.lemmas.Bool.Decides.{nat_tests}
@@ -14,7 +14,6 @@ use Rattle.jx_geom.specs.declared.shape.CompShape.{CompShape}
 use Rattle.jx_geom.specs.Ranges.{ShapeInRange, exponent_across, exponent_down}
 use Rattle.jx_geom.specs.Spans.{scaled, cells, reference_of}
 use Rattle.jx_geom.specs.Rects.{component_rect, resolution_rect, precinct_cells, precinct_column_point, precinct_row_point}
-use Rattle.jx_geom.specs.Counts.{precinct_count}
 use Rattle.jx_geom.specs.Geometry.{Geometry, GeometryInRange, HasResolution, precincts_in, reference_across, reference_down, rect_of_tile, shape_of}
 use Rattle.jx_geom.proofs.RasterLemmas.{raster_in, raster_one}
 use Rattle.jx_geom.proofs.SpanLemmas.{cells_low, reference_latest}
@@ -22,7 +21,7 @@ use Rattle.jx_order.specs.declared.keys.Placed.{Placed}
 use Rattle.jx_order.specs.declared.names.PacketName.{PacketName}
 use Rattle.jx_order.specs.declared.names.Order.{Order}
 use Rattle.jx_order.specs.declared.names.Order.TheVariants.{Lrcp, Rlcp, Rpcl, Pcrl, Cprl}
-use Rattle.jx_order.specs.Orders.{IsLess, ComesBefore, key_of, across_of, down_of}
+use Rattle.jx_order.specs.Orders.{IsLess, ComesBefore, across_of, down_of}
 use Rattle.jx_order.specs.Packets.{IsPacket}
 use Rattle.jx_order.specs.Steps.{placed_of}
 use Rattle.jx_order.proofs.OrderLemmas.{same_fields}

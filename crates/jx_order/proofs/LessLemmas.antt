@@ -1,7 +1,7 @@
 -- The order of keys.
-use Rattle.std.proofs.Common.{◌≡◌, ℕ, zero, suc, ◌+◌, ◌-◌, ◌≤◌, ◌<◌, Bool, true, false, List, [], ◌∷◌, ◌++◌, inl, inr, ◌⊎◌, ◌∙◌, ap, sym, subst, refl, add-one, arith, length, get_or, nat_cmp, is_lt}
-use Rattle.std.proofs.lemmas.Bool.{cases_lt, cases_eq}
-use Rattle.std.specs.List.{AllPairs, Contains}
+use Rattle.std.proofs.Common.{◌≡◌, ℕ, zero, suc, ◌+◌, ◌<◌, List, [], ◌∷◌, inl, inr, ◌∙◌, subst, add-one, arith, length, get_or}
+use Rattle.std.proofs.lemmas.Bool.{cases_lt}
+use Rattle.std.specs.List.{AllPairs}
 use Rattle.jx_order.specs.Orders.{IsLess}
 
 pub less_both : (xs ys : List ℕ) → IsLess xs ys → IsLess ys xs → ⊥

@@ -1,5 +1,5 @@
 -- A sorted set is one list; the members of the joined lists of entries.
-use Rattle.std.proofs.Common.{◌≡◌, ◌≢◌, ℕ, zero, suc, ◌+◌, ◌-◌, ◌≤◌, ◌<◌, ◌^◌, Bool, true, false, List, [], ◌∷◌, ◌++◌, inl, inr, ◌⊎◌, ◌↔◌, ◌∙◌, ap, sym, subst, refl, add-one, arith, length, get_or, take, drop}
+use Rattle.std.proofs.Common.{◌≡◌, ◌≢◌, ℕ, zero, suc, ◌<◌, List, [], ◌∷◌, ◌++◌, inl, inr, ◌⊎◌, ◌∙◌, ap, sym, subst, refl, arith, length, get_or, take, drop}
 use Rattle.std.proofs.lemmas.Bool.{cases_lt, cases_eq}
 use Rattle.std.proofs.lemmas.List.{take-append-drop}
 use Rattle.std.proofs.lemmas.List.Elements.{Contains-append_left, Contains-append_right, Contains-append_cases}
@@ -7,8 +7,8 @@ use Rattle.std.specs.List.{AllPairs, Contains}
 use Rattle.jx_geom.specs.Geometry.{Geometry}
 use Rattle.jx_marker.specs.declared.Progression.{Progression}
 use Rattle.jx_order.specs.declared.names.PacketName.{PacketName}
-use Rattle.jx_order.specs.Orders.{IsLess, ComesBefore, order_of, key_of}
-use Rattle.jx_order.specs.Packets.{IsPacket, Covers, Sends, IsOrder, IsCovered, AreCovered, entry_at}
+use Rattle.jx_order.specs.Orders.{ComesBefore, order_of, key_of}
+use Rattle.jx_order.specs.Packets.{IsPacket, Covers, Sends, IsOrder, entry_at}
 use Rattle.jx_order.specs.Steps.{name_of}
 use Rattle.jx_order.proofs.JoinedLemmas.{pairs_append}
 use Rattle.jx_order.proofs.LessLemmas.{less_both}

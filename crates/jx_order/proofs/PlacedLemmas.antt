@@ -1,6 +1,6 @@
 -- What an entry lists: the packets that it covers from the first layer that wasn't sent, each once.
-use Rattle.std.proofs.Common.{◌≡◌, ◌≢◌, ℕ, ◌+◌, ◌-◌, ◌*◌, ◌^◌, ◌≤◌, ◌<◌, Bool, true, false, List, [], ◌∷◌, ◌++◌, inl, inr, ◌⊎◌, ◌↔◌, ◌∙◌, ap, sym, subst, refl, add-one, arith, min, max, length, get_or, map}
-use Rattle.std.proofs.lemmas.Bool.{cases_lt, cases_eq}
+use Rattle.std.proofs.Common.{◌≡◌, ◌≢◌, ℕ, ◌+◌, ◌^◌, ◌≤◌, ◌<◌, Bool, true, false, List, [], ◌∷◌, inl, inr, ◌⊎◌, ◌∙◌, ap, sym, subst, refl, arith, min, length, get_or, map}
+use Rattle.std.proofs.lemmas.Bool.{cases_eq}
 use Rattle.std.proofs.lemmas.Bool.Decides.{nat_tests}
 use Rattle.std.proofs.lemmas.List.{get_or-map}
 use Rattle.std.proofs.Math.ListN.{length-map}
@@ -10,15 +10,15 @@ use Rattle.std.proofs.lemmas.Map.Keys.{IsDistinct-IsPermutation, IsDistinct-from
 use Rattle.std.specs.List.{AllPairs, Contains}
 use Rattle.std.specs.List.Sorted.{IsPermutation}
 use Rattle.jx_base.specs.Places.{size_of}
-use Rattle.jx_geom.specs.Geometry.{Geometry, GeometryInRange, HasResolution, precincts_in, shape_of}
+use Rattle.jx_geom.specs.Geometry.{Geometry, GeometryInRange, precincts_in, shape_of}
 use Rattle.jx_marker.specs.declared.Progression.{Progression}
 use Rattle.jx_order.specs.declared.keys.Placed.{Placed}
 use Rattle.jx_order.specs.declared.names.PacketName.{PacketName}
 use Rattle.jx_order.specs.declared.names.Order.{Order}
 use Rattle.jx_order.specs.Orders.{IsLess, ComesBefore, key_of, order_of}
 use Rattle.jx_order.specs.Packets.{IsPacket, Covers}
-use Rattle.jx_order.specs.Steps.{joined, name_of, placed_of, placed_one, placed_layer, placed_resolution, placed_component, placed_all, layers_to, resolutions_to, components, components_to, sent_at, Lists}
-use Rattle.jx_order.proofs.JoinedLemmas.{JoinedAt, joined_has, joined_from, joined_pairs}
+use Rattle.jx_order.specs.Steps.{name_of, placed_of, placed_one, placed_layer, placed_resolution, placed_component, placed_all, layers_to, resolutions_to, components, components_to, sent_at, Lists}
+use Rattle.jx_order.proofs.JoinedLemmas.{joined_has, joined_from, joined_pairs}
 use Rattle.jx_order.proofs.LessLemmas.{less_trans, pairs_from_next}
 use Rattle.jx_order.proofs.OrderLemmas.{same_or, contains_cons, contains_head, contains_none}
 use Rattle.jx_order.proofs.KeyLemmas.{numbers, one_name, before_from, name_is}

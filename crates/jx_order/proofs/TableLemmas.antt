@@ -1,16 +1,16 @@
 -- The table of the layers that were sent.
-use Rattle.std.proofs.Common.{◌≡◌, ◌≢◌, ℕ, suc, ◌+◌, ◌-◌, ◌*◌, ◌^◌, ◌≤◌, ◌<◌, List, [], ◌∷◌, ◌++◌, inl, inr, ◌⊎◌, ◌↔◌, ◌∙◌, ap, sym, subst, refl, add-one, arith, min, max, length, get_or, take, drop, get_or-set_same, get_or-set_other, slice_index, slice_set}
+use Rattle.std.proofs.Common.{◌≡◌, ◌≢◌, ℕ, suc, ◌+◌, ◌*◌, ◌≤◌, ◌<◌, List, [], ◌++◌, inl, inr, ◌⊎◌, ◌∙◌, ap, sym, subst, refl, add-one, arith, max, length, get_or, take, drop, get_or-set_same, get_or-set_other, slice_index, slice_set}
 use Rattle.std.proofs.Math.Seq.{take-append_seam, drop-append_seam}
-use Rattle.std.proofs.lemmas.Bool.{cases_lt, cases_eq}
+use Rattle.std.proofs.lemmas.Bool.{cases_lt}
 use Rattle.std.proofs.lemmas.List.Elements.{Contains-append_left, Contains-append_right, Contains-append_cases}
-use Rattle.std.specs.List.{AllPairs, Contains}
+use Rattle.std.specs.List.{Contains}
 use Rattle.jx_base.specs.Places.{size_of}
-use Rattle.jx_geom.specs.Geometry.{Geometry, GeometryInRange, HasResolution, precincts_in, shape_of}
+use Rattle.jx_geom.specs.Geometry.{Geometry, GeometryInRange, precincts_in, shape_of}
 use Rattle.jx_marker.specs.declared.Progression.{Progression}
 use Rattle.jx_order.specs.declared.names.PacketName.{PacketName}
-use Rattle.jx_order.specs.Packets.{IsPacket, Covers, Sends, IsOrder, IsCovered, AreCovered, HasUncovered, entry_at}
-use Rattle.jx_order.specs.Steps.{layers_to, resolutions_to, components, components_to, sent_at, Lists, IsTable, IsMarked, IsMarkedComponent, IsMissing, AreSent, AreSentIn, Reaches}
-use Rattle.jx_order.proofs.OrderLemmas.{SentBy, order_to, order_from, order_once}
+use Rattle.jx_order.specs.Packets.{IsPacket, Covers, Sends, IsOrder, IsCovered, HasUncovered, entry_at}
+use Rattle.jx_order.specs.Steps.{layers_to, resolutions_to, components, components_to, sent_at, Lists, IsTable, IsMarked, IsMarkedComponent, IsMissing, AreSent, Reaches}
+use Rattle.jx_order.proofs.OrderLemmas.{order_to, order_from}
 use Rattle.jx_order.proofs.PlacedLemmas.{components_end, components_reach}
 
 -- ---- one component: the resolutions from first on below r are marked

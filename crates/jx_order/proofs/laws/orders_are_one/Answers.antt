@@ -1,5 +1,4 @@
 use Rattle.jx_order.proofs.OrderLemmas.{one_order}
-use Rattle.jx_order.proofs.KeyLemmas.{one_name, not_before}
 use Rattle.jx_order.proofs.laws.orders_are_one.Goals as goal
 
 pub returns : goal.returns

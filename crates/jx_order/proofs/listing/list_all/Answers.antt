@@ -1,7 +1,7 @@
 use Rattle.std.proofs.Common.{◌≡◌, ◌+◌, ◌++◌, ◌∙◌, [], List, ap, sym, subst}
 use Rattle.jx_order.specs.declared.names.PacketName.{PacketName}
 use Rattle.jx_order.specs.Packets.{IsOrder}
-use Rattle.jx_order.specs.Steps.{IsTable, Lists}
+use Rattle.jx_order.specs.Steps.{IsTable}
 use Rattle.jx_order.proofs.TableLemmas.{sends_from, order_next, table_next, table_none}
 use Rattle.jx_order.proofs.listing.list_all.Goals as goal
 

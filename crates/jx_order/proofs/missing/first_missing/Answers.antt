@@ -1,5 +1,5 @@
-use Rattle.std.proofs.Common.{◌≡◌, ◌≤◌, ◌<◌, ◌+◌, ℕ, arith, below_more}
-use Rattle.jx_order.specs.Steps.{AreSentIn, components}
+use Rattle.std.proofs.Common.{ℕ, arith, below_more}
+use Rattle.jx_order.specs.Steps.{AreSentIn}
 use Rattle.jx_order.proofs.missing.first_missing.Goals as goal
 
 pub loop-comp-preserved : goal.loop-comp-preserved

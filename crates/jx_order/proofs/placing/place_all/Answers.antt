@@ -1,4 +1,4 @@
-use Rattle.std.proofs.Common.{◌≡◌, ◌≤◌, ◌++◌, arith, [], ◌∙◌, sym}
+use Rattle.std.proofs.Common.{◌≡◌, arith, ◌∙◌, sym}
 use Rattle.jx_order.specs.Steps.{placed_all, placed_component, joined}
 use Rattle.jx_order.proofs.JoinedLemmas.{joined_none, makes_next, makes_all}
 use Rattle.jx_order.proofs.placing.place_all.Goals as goal

@@ -1,6 +1,6 @@
-use Rattle.std.proofs.Common.{◌≡◌, ◌≤◌, ◌++◌, arith, refl}
+use Rattle.std.proofs.Common.{arith}
 use Rattle.jx_order.specs.Steps.{placed_layer}
-use Rattle.jx_order.proofs.JoinedLemmas.{appends_none, appends_next, appends_all}
+use Rattle.jx_order.proofs.JoinedLemmas.{appends_none, appends_next}
 use Rattle.jx_order.proofs.placing.place_resolution.Goals as goal
 
 pub loop-layer-init : goal.loop-layer-init

@@ -1,4 +1,4 @@
-use Rattle.std.proofs.Common.{◌≡◌, ◌<◌, ◌≤◌, List, ℕ, arith, subst}
+use Rattle.std.proofs.Common.{◌≡◌, ◌<◌, ◌≤◌, ℕ, arith, subst}
 use Rattle.jx_order.specs.Steps.{components_to, layers_to}
 use Rattle.jx_order.proofs.TableLemmas.{MarkedBelow, below_none, below_next, below_all}
 use Rattle.jx_order.proofs.sent.mark.Goals as goal
