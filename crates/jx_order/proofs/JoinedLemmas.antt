@@ -18,6 +18,18 @@ joined_next f a b h =
     let same : a + (b - a) ≡ b = omega arith in
     rw e (rw same refl)
 
+-- nothing, joined
+below_empty : {X : Type 0} (f : ℕ → List X) (a n : ℕ) → ((i : ℕ) → f i ≡ []) → joined_below f a n ≡ []
+below_empty f a zero h = refl
+below_empty {X} f a (suc n) h =
+    let before : joined_below f a n ≡ [] = below_empty f a n h in
+    let last : f (a + n) ≡ [] = h (a + n) in
+    rw (before, last) refl
+
+pub joined_empty : {X : Type 0} (f : ℕ → List X) (a b : ℕ) → ((i : ℕ) → f i ≡ []) → joined f a b ≡ []
+unfolding joined
+joined_empty f a b h = below_empty f a (b - a) h
+
 -- the steps of a loop that appends: before the first, one more, and after the last
 pub appends_none : {X : Type 0} (base : List X) (f : ℕ → List X) (a b : ℕ) → b ≤ a → base ≡ base ++ joined f a b
 appends_none base f a b h = let e = joined_none f a b h in rw e (sym (append-nil base))

@@ -18,7 +18,7 @@ use Rattle.jx_order.specs.declared.names.Order.{Order}
 use Rattle.jx_order.specs.Orders.{IsLess, ComesBefore, key_of, order_of}
 use Rattle.jx_order.specs.Packets.{IsPacket, Covers}
 use Rattle.jx_order.specs.Steps.{name_of, placed_of, placed_one, placed_layer, placed_resolution, placed_component, placed_all, layers_to, resolutions_to, components, components_to, sent_at, Lists}
-use Rattle.jx_order.proofs.JoinedLemmas.{joined_has, joined_from, joined_pairs}
+use Rattle.jx_order.proofs.JoinedLemmas.{joined_empty, joined_from, joined_has, joined_none, joined_pairs}
 use Rattle.jx_order.proofs.LessLemmas.{less_trans, pairs_from_next}
 use Rattle.jx_order.proofs.OrderLemmas.{same_or, contains_cons, contains_head, contains_none}
 use Rattle.jx_order.proofs.KeyLemmas.{numbers, one_name, before_from, name_is}
@@ -53,6 +53,17 @@ unfolding placed_layer
 layer_from g o c r l k lt =
     joined_from (placed_one g o c r l) 0 (size_of (precincts_in g c r)) (placed_of g o (name_of l r c k))
     (record { number = k; from = omega arith; below = lt; has = contains_head (placed_of g o (name_of l r c k)) [] })
+
+-- a resolution without precincts has none
+layer_none : (g : Geometry) (o : Order) (c r l : ℕ) → size_of (precincts_in g c r) ≤ 0 → placed_layer g o c r l ≡ []
+unfolding placed_layer
+layer_none g o c r l h = joined_none (placed_one g o c r l) 0 (size_of (precincts_in g c r)) h
+
+pub resolution_none : (g : Geometry) (layers : ℕ) (e : Progression) (sent : List ℕ) (c r : ℕ) → size_of (precincts_in g c r) ≤ 0
+    → placed_resolution g layers e sent c r ≡ []
+unfolding placed_resolution
+resolution_none g layers e sent c r h =
+    joined_empty (placed_layer g (order_of e.order) c r) (sent_at sent c r) (layers_to layers e) (λ l. layer_none g (order_of e.order) c r l h)
 
 record InResolution (g : Geometry) (layers : ℕ) (e : Progression) (sent : List ℕ) (c r : ℕ) (q : Placed) : Type 0 where
   pub layer : ℕ

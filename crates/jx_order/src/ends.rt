@@ -1,6 +1,6 @@
 //! Where a progression entry ends, cut down to what is there (T.800, A.6.6).
 
-ghost use Rattle.std.specs.Prelude.{◌≡◌, ◌<◌, ◌≤◌, ◌+◌, ◌^◌, length};
+ghost use Rattle.std.specs.Prelude.{◌≡◌, ◌<◌, ◌≤◌, ◌+◌, length};
 ghost use Rattle.jx_geom.specs.Geometry.{GeometryInRange, shape_of};
 ghost use Rattle.jx_order.specs.Steps.{components, components_to, layers_to, resolutions_to};
 

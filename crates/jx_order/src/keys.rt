@@ -1,8 +1,6 @@
 //! The keys by which packets are sorted.
 
-ghost use Rattle.std.specs.Prelude.{◌≡◌, ◌<◌, ◌≤◌};
-ghost use Rattle.jx_base.specs.Places.{size_of};
-ghost use Rattle.jx_geom.specs.Geometry.{HasResolution, precincts_in};
+ghost use Rattle.std.specs.Prelude.{◌≡◌, ◌≤◌};
 ghost use Rattle.jx_order.specs.Orders.{order_of};
 
 use crate::names::{Order, PacketName};

@@ -1,7 +1,7 @@
 //! Laws over the definitions. They run no code.
 
 ghost use Rattle.std.specs.Prelude.{◌≡◌, ℕ, List};
-ghost use Rattle.jx_geom.specs.Geometry.{Geometry, GeometryInRange};
+ghost use Rattle.jx_geom.specs.Geometry.{Geometry};
 ghost use Rattle.jx_marker.specs.declared.Progression.{Progression};
 ghost use Rattle.jx_order.specs.declared.names.PacketName.{PacketName};
 ghost use Rattle.jx_order.specs.Packets.{IsOrder};

@@ -17,8 +17,9 @@ use std::alloc::Global;
 
 /// The packets of a tile of so many layers, in the order in which they are sent (T.800, B.12). Each
 /// progression entry sends those that it covers and that no entry before it sent, sorted by the key of its
-/// order; its ends are cut down to what is there (A.6.6). `Uncovered` comes where some packet of the tile
-/// is in no entry. The time grows with the packets, and with the entries times the resolutions.
+/// order, a number from 0 to 4; its ends are cut down to what is there (A.6.6). `Uncovered` comes exactly
+/// where some packet of the tile is in no entry. The time grows with the packets, and with the entries
+/// times the resolutions that they cover.
 pub fn packets(
     alloc: Global,
     geom: &TileGeom,

@@ -1,6 +1,6 @@
 //! A packet that no entry sends.
 
-ghost use Rattle.std.specs.Prelude.{◌≡◌, ◌<◌, ◌≤◌, ◌+◌, ◌*◌, MatchOption, length};
+ghost use Rattle.std.specs.Prelude.{◌<◌, ◌≤◌, ◌+◌, ◌*◌, MatchOption, length};
 ghost use Rattle.jx_order.specs.Steps.{HasPlaces, IsMissing, AreSent, AreSentIn};
 
 use crate::ends::component_count;

@@ -3,17 +3,14 @@
 ghost use Rattle.std.specs.Prelude.{◌≡◌, ◌<◌, ◌≤◌, ◌+◌, ◌*◌, ◌++◌, IfOk, OnOk, length, map};
 ghost use Rattle.jx_base.specs.Places.{size_of};
 ghost use Rattle.jx_geom.specs.Geometry.{GeometryInRange, HasResolution, precincts_in};
-ghost use Rattle.jx_order.specs.Orders.{order_of};
 ghost use Rattle.jx_order.specs.Steps.{
   HasPlaces,
   Lists,
-  layers_to,
   placed_all,
   placed_component,
   placed_layer,
   placed_of,
   placed_resolution,
-  sent_at,
 };
 
 use crate::ends::{component_end, layer_end, resolution_end};
@@ -101,6 +98,10 @@ fn place_resolution(
     requires place { comp * 33 + res < length sent.now }
     ensures { OnOk result (list.new.items ≡ list.old.items ++ placed_resolution geom.now layers entry sent.now comp res) }
 {
+    let (columns, rows) = geom.precincts(comp, res);
+    if columns * rows == 0 {
+        return Ok(());
+    }
     let order = order_from(entry.order);
     let first = layers_sent(sent, comp, res);
     for layer in first..layer_end(layers, entry) {

@@ -1,12 +1,11 @@
 //! How many layers of each resolution were sent. Each entry begins at the first layer, so the layers of a
 //! resolution that were sent are always those below a number, and all precincts of it have the same.
 
-ghost use Rattle.std.specs.Prelude.{◌≡◌, ◌<◌, ◌≤◌, ◌^◌, ◌+◌, ◌*◌, ℕ, max, IfOk, length, slice_index, slice_set};
+ghost use Rattle.std.specs.Prelude.{◌≡◌, ◌<◌, ◌≤◌, ◌+◌, ◌*◌, ℕ, max, IfOk, length, slice_index, slice_set};
 ghost use Rattle.jx_order.specs.Steps.{
   HasPlaces,
   IsMarked,
   IsMarkedComponent,
-  layers_to,
   sent_at,
 };
 

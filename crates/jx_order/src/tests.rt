@@ -235,6 +235,31 @@ fn five_orders(rt: HostRuntime) -> Result<(), Fail> {
 }
 
 #[test]
+fn positions_row_by_row(rt: HostRuntime) -> Result<(), Fail> {
+    let mut precincts = WHOLE;
+    precincts[0] = 0x33;
+    let geom = geometry(rt.alloc(), &square(16), 0, &[shape(1, 0, precincts)])?;
+    let want = [
+        name(0, 0, 0, 0),
+        name(1, 0, 0, 0),
+        name(0, 0, 0, 1),
+        name(1, 0, 0, 1),
+        name(0, 0, 0, 2),
+        name(1, 0, 0, 2),
+        name(0, 0, 0, 3),
+        name(1, 0, 0, 3),
+    ];
+    for order in [2, 3, 4] {
+        expect_list(
+            &rt,
+            &list(rt.alloc(), &geom, 2, &[all(order)])?,
+            want.as_slice(),
+        );
+    }
+    Ok(())
+}
+
+#[test]
 fn fewer_levels_in_one_component(rt: HostRuntime) -> Result<(), Fail> {
     let comps = [shape(1, 1, WHOLE), shape(1, 5, WHOLE)];
     let geom = geometry(rt.alloc(), &square(64), 0, &comps)?;
@@ -329,5 +354,24 @@ fn many_packets(rt: HostRuntime) -> Result<(), Fail> {
         }
         Err(_) => assert!(&rt; false, "uncovered"),
     }
+    Ok(())
+}
+
+#[test]
+fn many_empty_resolutions(rt: HostRuntime) -> Result<(), Fail> {
+    // No multiple of 255 lies in the picture, so no component has a packet.
+    let canvas = Canvas {
+        x1: 3,
+        y1: 3,
+        x0: 1,
+        y0: 1,
+        tw: 3,
+        th: 3,
+        tx: 0,
+        ty: 0,
+    };
+    let comps = vec![in rt.alloc(); shape(255, 32, WHOLE); 2000]?;
+    let geom = geometry(rt.alloc(), &canvas, 0, &comps)?;
+    expect_list(&rt, &list(rt.alloc(), &geom, u16::MAX, &[all(1)])?, &[]);
     Ok(())
 }

@@ -1,4 +1,7 @@
-use Rattle.std.proofs.Common.{arith}
+use Rattle.std.proofs.Common.{◌≡◌, ◌≤◌, ◌*◌, arith, sym, append-nil}
+use Rattle.jx_base.specs.Places.{length_of}
+use Rattle.jx_geom.specs.Geometry.{precincts_in}
+use Rattle.jx_order.proofs.PlacedLemmas.{resolution_none}
 use Rattle.jx_order.specs.Steps.{placed_layer}
 use Rattle.jx_order.proofs.JoinedLemmas.{appends_none, appends_next}
 use Rattle.jx_order.proofs.placing.place_resolution.Goals as goal
@@ -17,3 +20,11 @@ loop-layer-preserved c = record {
       c.loop-layer.invariant.items c.in_ok-place_layer.ensures;
   until = omega arith;
 }
+
+pub returns-then-columns-rows-eq0 : goal.returns-then-columns-rows-eq0
+returns-then-columns-rows-eq0 c =
+    let columns : c.precincts-columns.result.0 ≡ length_of (precincts_in c.args.geom.now c.args.comp c.args.res).x = c.precincts-columns.ensures.columns in
+    let rows : c.precincts-columns.result.1 ≡ length_of (precincts_in c.args.geom.now c.args.comp c.args.res).y = c.precincts-columns.ensures.rows in
+    let none : c.precincts-columns.result.0 * c.precincts-columns.result.1 ≤ 0 = omega arith in
+    let e = resolution_none c.args.geom.now c.args.layers c.args.entry c.args.sent.now c.args.comp c.args.res (rw (columns, rows) at none) in
+    rw e (sym (append-nil c.args.list.now.items))
