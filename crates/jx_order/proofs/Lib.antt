@@ -1,0 +1,6 @@
+pub mod JoinedLemmas
+pub mod LessLemmas
+pub mod OrderLemmas
+pub mod KeyLemmas
+pub mod PlacedLemmas
+pub mod TableLemmas

@@ -1,0 +1,190 @@
+-- A sorted set is one list; the members of the joined lists of entries.
+use Rattle.std.proofs.Common.{◌≡◌, ◌≢◌, ℕ, zero, suc, ◌<◌, List, [], ◌∷◌, ◌++◌, inl, inr, ◌⊎◌, ◌∙◌, ap, sym, subst, refl, arith, length, get_or, take, drop}
+use Rattle.std.proofs.lemmas.Bool.{cases_lt, cases_eq}
+use Rattle.std.proofs.lemmas.List.{take-append-drop}
+use Rattle.std.proofs.lemmas.List.Elements.{Contains-append_left, Contains-append_right, Contains-append_cases}
+use Rattle.std.specs.List.{AllPairs, Contains}
+use Rattle.jx_geom.specs.Geometry.{Geometry}
+use Rattle.jx_marker.specs.declared.Progression.{Progression}
+use Rattle.jx_order.specs.declared.names.PacketName.{PacketName}
+use Rattle.jx_order.specs.Orders.{ComesBefore, order_of, key_of}
+use Rattle.jx_order.specs.Packets.{IsPacket, Covers, Sends, IsOrder, entry_at}
+use Rattle.jx_order.specs.Steps.{name_of}
+use Rattle.jx_order.proofs.JoinedLemmas.{pairs_append}
+use Rattle.jx_order.proofs.LessLemmas.{less_both}
+
+-- ---- lists by their first item
+at_cons : {X : Type 0} (x : X) (xs : List X) (y : X) (k : ℕ) → k < length (x ∷ xs) → get_or (x ∷ xs) k y ≡ y → (x ≡ y) ⊎ Contains xs y
+at_cons x xs y zero lt e = inl e
+at_cons x xs y (suc k) lt e = inr (k, omega arith, e)
+
+pub contains_cons : {X : Type 0} (x : X) (xs : List X) (y : X) → Contains (x ∷ xs) y → (x ≡ y) ⊎ Contains xs y
+contains_cons x xs y h = at_cons x xs y h.0 h.1 h.2
+
+pub contains_head : {X : Type 0} (x : X) (xs : List X) → Contains (x ∷ xs) x
+contains_head x xs = (zero, omega arith, refl)
+
+pub contains_tail : {X : Type 0} (x : X) (xs : List X) (y : X) → Contains xs y → Contains (x ∷ xs) y
+contains_tail x xs y h = (suc h.0, omega (arith, h.1), h.2)
+
+pub contains_none : {X : Type 0} (y : X) → Contains [] y → ⊥
+contains_none y h = omega (arith, h.1)
+
+pairs_tail : {X : Type 0} (R : X → X → Type 0) (x : X) (xs : List X) → AllPairs R (x ∷ xs) → AllPairs R xs
+pairs_tail R x xs h i j d lt below = h (suc i) (suc j) d (omega arith) (omega arith)
+
+pairs_head : {X : Type 0} (R : X → X → Type 0) (x : X) (xs : List X) (y : X) → AllPairs R (x ∷ xs) → Contains xs y → R x y
+pairs_head {X} R x xs y h c =
+    let P : X → Type 0 = λ z. R x z in
+    subst P c.2 (h zero (suc c.0) y (omega arith) (omega (arith, c.1)))
+
+-- ---- two lists that are sorted by a relation that never holds both ways, and have the same items, are one
+pub one_sorted : {X : Type 0} (R : X → X → Type 0) → ((x y : X) → R x y → R y x → ⊥) → (xs ys : List X) → AllPairs R xs → AllPairs R ys
+    → ((x : X) → Contains xs x → Contains ys x) → ((x : X) → Contains ys x → Contains xs x) → xs ≡ ys
+one_sorted R one [] [] hx hy to from = refl
+one_sorted R one [] (y ∷ ys) hx hy to from = absurd (contains_none y (from y (contains_head y ys)))
+one_sorted R one (x ∷ xs) [] hx hy to from = absurd (contains_none x (to x (contains_head x xs)))
+one_sorted {X} R one (x ∷ xs) (y ∷ ys) hx hy to from =
+    let irreflexive : (z : X) → R z z → ⊥ = λ z r. one z z r r in
+    let same : x ≡ y = elim (contains_cons y ys x (to x (contains_head x xs))) [
+      | inl e ↦ sym e
+      | inr c ↦ elim (contains_cons x xs y (from y (contains_head y ys))) [
+        | inl e ↦ e
+        | inr d ↦ absurd (one x y (pairs_head R x xs y hx d) (pairs_head R y ys x hy c))
+      ]
+    ] in
+    let forth : (z : X) → Contains xs z → Contains ys z = λ z c. elim (contains_cons y ys z (to z (contains_tail x xs z c))) [
+      | inl e ↦
+          let r : R x z = pairs_head R x xs z hx c in
+          let P : X → Type 0 = λ w. R w z in
+          absurd (irreflexive z (subst P (same ∙ e) r))
+      | inr d ↦ d
+    ] in
+    let back : (z : X) → Contains ys z → Contains xs z = λ z c. elim (contains_cons x xs z (from z (contains_tail y ys z c))) [
+      | inl e ↦
+          let r : R y z = pairs_head R y ys z hy c in
+          let P : X → Type 0 = λ w. R w z in
+          absurd (irreflexive z (subst P (sym same ∙ e) r))
+      | inr d ↦ d
+    ] in
+    let rest : xs ≡ ys = one_sorted R one xs ys (pairs_tail R x xs hx) (pairs_tail R y ys hy) forth back in
+    cc
+
+-- and no item stands in one twice
+pub pairs_apart : {X : Type 0} (R : X → X → Type 0) → ((x y : X) → R x y → R y x → ⊥) → (xs : List X) → AllPairs R xs → AllPairs (λ x y. x ≢ y) xs
+pairs_apart {X} R one xs h i j d lt below e =
+    let r : R (get_or xs i d) (get_or xs j d) = h i j d lt below in
+    let P : X → Type 0 = λ w. R w (get_or xs j d) in
+    let s : R (get_or xs j d) (get_or xs j d) = subst P e r in
+    one (get_or xs j d) (get_or xs j d) s s
+
+-- ---- names can be told apart
+pub same_fields : (p q : PacketName) → p.layer ≡ q.layer → p.res ≡ q.res → p.comp ≡ q.comp → p.precinct ≡ q.precinct → p ≡ q
+same_fields p q el er ec ek =
+    let e : name_of p.layer p.res p.comp p.precinct ≡ name_of q.layer q.res q.comp q.precinct = cc in
+    e
+
+pub same_or : (p q : PacketName) → (p ≡ q) ⊎ (p ≢ q)
+same_or p q = elim (cases_eq p.layer q.layer) [
+  | inr other ↦ inr (λ e. other (ap (λ (w : PacketName). w.layer) e))
+  | inl el ↦ elim (cases_eq p.res q.res) [
+    | inr other ↦ inr (λ e. other (ap (λ (w : PacketName). w.res) e))
+    | inl er ↦ elim (cases_eq p.comp q.comp) [
+      | inr other ↦ inr (λ e. other (ap (λ (w : PacketName). w.comp) e))
+      | inl ec ↦ elim (cases_eq p.precinct q.precinct) [
+        | inr other ↦ inr (λ e. other (ap (λ (w : PacketName). w.precinct) e))
+        | inl ek ↦ inl (same_fields p q el er ec ek)
+      ]
+    ]
+  ]
+]
+
+pub contains_or : (xs : List PacketName) (p : PacketName) → Contains xs p ⊎ (Contains xs p → ⊥)
+contains_or [] p = inr (contains_none p)
+contains_or (x ∷ xs) p = elim (same_or x p) [
+  | inl e ↦
+      let P : PacketName → Type 0 = λ w. Contains (x ∷ xs) w in
+      inl (subst P e (contains_head x xs))
+  | inr other ↦ elim (contains_or xs p) [
+    | inl h ↦ inl (contains_tail x xs p h)
+    | inr none ↦ inr (λ h. elim (contains_cons x xs p h) [ inl e ↦ other e | inr rest ↦ none rest ])
+  ]
+]
+
+-- ---- the members of an order
+pub record SentBy (g : Geometry) (layers : ℕ) (entries : List Progression) (n : ℕ) (p : PacketName) : Type 0 where
+  pub packet : IsPacket g layers p
+  pub entry : ℕ
+  pub below : entry < n
+  pub covers : Covers (entry_at entries entry) p
+
+pub order_to : (g : Geometry) (layers : ℕ) (entries : List Progression) (n : ℕ) (list : List PacketName) → IsOrder g layers entries n list
+    → (p : PacketName) → Contains list p → SentBy g layers entries n p
+order_to g layers entries zero list h p c =
+    let P : List PacketName → Type 0 = λ xs. Contains xs p in
+    absurd (contains_none p (subst P h c))
+order_to g layers entries (suc n) list h p c =
+    let P : List PacketName → Type 0 = λ xs. Contains xs p in
+    elim (Contains-append_cases (take h.0 list) (drop h.0 list) p (subst P (sym (take-append-drop h.0 list)) c)) [
+      | inl old ↦
+          let s = order_to g layers entries n (take h.0 list) h.1 p old in
+          record { packet = s.packet; entry = s.entry; below = omega (arith, s.below); covers = s.covers }
+      | inr new ↦
+          let s = (h.2.exact p).0 new in
+          record { packet = s.0; entry = n; below = omega arith; covers = s.1 }
+    ]
+
+pub order_from : (g : Geometry) (layers : ℕ) (entries : List Progression) (n : ℕ) (list : List PacketName) → IsOrder g layers entries n list
+    → (p : PacketName) → SentBy g layers entries n p → Contains list p
+order_from g layers entries zero list h p s = absurd (omega (arith, s.below))
+order_from g layers entries (suc n) list h p s =
+    let P : List PacketName → Type 0 = λ xs. Contains xs p in
+    let whole : Contains (take h.0 list ++ drop h.0 list) p = elim (contains_or (take h.0 list) p) [
+      | inl old ↦ Contains-append_left (take h.0 list) (drop h.0 list) p old
+      | inr none ↦ elim (cases_lt s.entry n) [
+        | inl less ↦ absurd (none (order_from g layers entries n (take h.0 list) h.1 p (record { packet = s.packet; entry = s.entry; below = less; covers = s.covers })))
+        | inr ge ↦
+            let e : s.entry ≡ n = omega (arith, s.below) in
+            let Q : ℕ → Type 0 = λ i. Covers (entry_at entries i) p in
+            Contains-append_right (take h.0 list) (drop h.0 list) p ((h.2.exact p).1 (s.packet, subst Q e s.covers, none))
+      ]
+    ] in
+    subst P (take-append-drop h.0 list) whole
+
+-- ---- there is one order
+before_both : (g : Geometry) (e : Progression) (p q : PacketName) → ComesBefore g (order_of e.order) p q → ComesBefore g (order_of e.order) q p → ⊥
+before_both g e p q h k = less_both (key_of g (order_of e.order) p) (key_of g (order_of e.order) q) h k
+
+one_sent : (g : Geometry) (layers : ℕ) (e : Progression) (before xs ys : List PacketName) → Sends g layers e before xs → Sends g layers e before ys → xs ≡ ys
+one_sent g layers e before xs ys h k =
+    one_sorted (ComesBefore g (order_of e.order)) (before_both g e) xs ys h.sorted k.sorted
+    (λ p c. (k.exact p).1 ((h.exact p).0 c)) (λ p c. (h.exact p).1 ((k.exact p).0 c))
+
+pub one_order : (g : Geometry) (layers : ℕ) (entries : List Progression) (n : ℕ) (a b : List PacketName)
+    → IsOrder g layers entries n a → IsOrder g layers entries n b → a ≡ b
+one_order g layers entries zero a b h k = h ∙ sym k
+one_order g layers entries (suc n) a b h k =
+    let front : take h.0 a ≡ take k.0 b = one_order g layers entries n (take h.0 a) (take k.0 b) h.1 k.1 in
+    let P : List PacketName → Type 0 = λ xs. Sends g layers (entry_at entries n) xs (drop h.0 a) in
+    let back : drop h.0 a ≡ drop k.0 b =
+    one_sent g layers (entry_at entries n) (take k.0 b) (drop h.0 a) (drop k.0 b) (subst P front h.2) k.2 in
+    let first : take h.0 a ++ drop h.0 a ≡ a = take-append-drop h.0 a in
+    let second : take k.0 b ++ drop k.0 b ≡ b = take-append-drop k.0 b in
+    cc
+
+-- ---- no packet is sent twice
+pub order_once : (g : Geometry) (layers : ℕ) (entries : List Progression) (n : ℕ) (list : List PacketName) → IsOrder g layers entries n list
+    → AllPairs (λ p q. p ≢ q) list
+order_once g layers entries zero list h = λ i j d lt below.
+    let P : List PacketName → Type 0 = λ xs. j < length xs in
+    let empty : List PacketName = [] in
+    let none : j < length empty = subst P h below in
+    absurd (omega (arith, none))
+order_once g layers entries (suc n) list h =
+    let P : List PacketName → Type 0 = λ xs. AllPairs (λ p q. p ≢ q) xs in
+    let apart : (p q : PacketName) → Contains (take h.0 list) p → Contains (drop h.0 list) q → p ≢ q = λ p q hp hq e.
+    (let Q : PacketName → Type 0 = λ w. Contains (take h.0 list) w in
+    ((h.2.exact q).0 hq).2 (subst Q e hp)) in
+    subst P (take-append-drop h.0 list) (pairs_append (λ p q. p ≢ q) (take h.0 list) (drop h.0 list)
+    (order_once g layers entries n (take h.0 list) h.1)
+    (pairs_apart (ComesBefore g (order_of (entry_at entries n).order)) (before_both g (entry_at entries n)) (drop h.0 list) h.2.sorted) apart)

@@ -1,0 +1,4 @@
+-- Packets of a tile and the orders in which they are sent (ITU-T T.800, A.6.6 and B.12).
+pub mod Orders
+pub mod Packets
+pub mod Steps

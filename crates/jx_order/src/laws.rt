@@ -1,0 +1,13 @@
+//! Laws over the definitions. They run no code.
+
+ghost use Rattle.std.specs.Prelude.{◌≡◌, ℕ, List};
+ghost use Rattle.jx_geom.specs.Geometry.{Geometry};
+ghost use Rattle.jx_marker.specs.declared.Progression.{Progression};
+ghost use Rattle.jx_order.specs.declared.names.PacketName.{PacketName};
+ghost use Rattle.jx_order.specs.Packets.{IsOrder};
+
+/// One tile's geometry, its number of layers and its entries give one list.
+pub fn orders_are_one()
+    ensures { (g : Geometry) (layers : ℕ) (entries : List Progression) (n : ℕ) (a b : List PacketName)
+        → IsOrder g layers entries n a → IsOrder g layers entries n b → a ≡ b }
+{}

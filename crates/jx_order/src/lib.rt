@@ -1,0 +1,17 @@
+//! Packet orders: the packets of a tile in the order in which they are sent (T.800, A.6.6 and B.12).
+#![tactic(auto)]
+
+mod ends;
+mod keys;
+pub mod laws;
+mod listing;
+mod missing;
+mod names;
+mod placing;
+mod sent;
+
+pub use listing::packets;
+pub use names::{Order, OrderFault, PacketName};
+
+#[cfg(test)]
+mod tests;

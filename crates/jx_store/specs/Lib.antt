@@ -1,0 +1,16 @@
+pub mod Setup
+pub mod Machine
+pub mod Legal
+pub mod Order
+pub mod Shown
+pub mod Notes
+pub mod ShownNotes
+pub mod Recorded
+pub mod Replays
+pub mod Busy
+pub mod LockView
+pub mod Kept
+pub mod Valid
+pub mod Passes
+pub mod Replies
+pub mod Answers
