@@ -1,5 +1,6 @@
 -- The smallest codestreams violate no rule and pass no limit.
-use Rattle.std.proofs.Common.{◌≡◌, ◌∙◌, ◌<◌, ◌≤◌, ◌+◌, ◌-◌, ◌*◌, ◌/◌, ◌%◌, ◌==◌, ◌&&◌, ◌||◌, ℕ, zero, suc, Bool, true, false, not, nat_lt, nat_le, arith, List, [], ◌∷◌, ◌++◌, length, drop, get_or, refl, sym, ap, subst, Option, Some, None, cond, slice_index}
+use Rattle.std.proofs.Common.{◌≡◌, ◌∙◌, ◌<◌, ◌≤◌, ◌+◌, ◌-◌, ◌*◌, ◌/◌, ◌%◌, ◌==◌, ◌&&◌, ◌||◌, ℕ, zero, suc, Bool, true, false, not, nat_lt, nat_le, arith, List, [], ◌∷◌, ◌++◌, length, drop, get_or, refl, sym, ap, subst, None, slice_index}
+use Rattle.std.specs.List.{list_all}
 use Rattle.std.proofs.Math.Seq.{drop-append_seam, drop-nil}
 use Rattle.std.proofs.lemmas.Bool.Decides.{nat_tests}
 use Rattle.std.proofs.lemmas.List.{length-drop, get_or-drop}
@@ -11,30 +12,27 @@ use Rattle.jx_marker.specs.declared.Siz.{Siz}
 use Rattle.jx_marker.specs.declared.Cod.{Cod}
 use Rattle.jx_marker.specs.declared.Quant.{Quant}
 use Rattle.jx_marker.specs.declared.Sot.{Sot}
-use Rattle.jx_marker.specs.Segments.{spelling, size_at, body_at, segment_at}
+use Rattle.jx_marker.specs.Segments.{spelling, size_at, body_at}
 use Rattle.jx_marker.specs.Values.{siz_at, sot_at}
 use Rattle.jx_marker.specs.Ranges.{InRange, SizInRange, CodInRange, QuantInRange, SotInRange}
 use Rattle.jx_marker.specs.Laws.{StandsAt}
 use Rattle.jx_marker.proofs.SpelledLemmas.{segment_is_read}
-use Rattle.jx_stream.specs.declared.faults.StreamFault.{StreamFault}
-use Rattle.jx_stream.specs.declared.headers.HeaderKind.{HeaderKind}
-use Rattle.jx_stream.specs.declared.headers.HeaderKind.TheVariants.{Main, First, Later}
+use Rattle.jx_stream.specs.declared.headers.HeaderKind.TheVariants.{Main, First}
 use Rattle.jx_stream.specs.declared.headers.Header.{Header}
 use Rattle.jx_stream.specs.declared.parts.Part.{Part}
 use Rattle.jx_stream.specs.declared.Stream.{Stream}
 use Rattle.jx_stream.specs.declared.Tile.{Tile}
-use Rattle.jx_stream.specs.Headers.{stands_in, ends_header, header_at, header_fault, early_fault, longest}
-use Rattle.jx_stream.specs.Parts.{marker_at, sot_in, after_sot, kind_of, comes_out_of_turn, has_wrong_length, start_fault, sot_fault, sod_fault, end_of, part_header, part_at, fault_after, parts_from, parts_fault, end_of_part, longest_parts}
+use Rattle.jx_stream.specs.Headers.{stands_in, ends_header, header_at, header_fault}
+use Rattle.jx_stream.specs.Parts.{marker_at, sot_in, after_sot, kind_of, comes_out_of_turn, has_wrong_length, start_fault, sot_fault, sod_fault, end_of, part_header, part_at, fault_after, parts_from, parts_fault, end_of_part}
 use Rattle.jx_stream.specs.Tiles.{tiles_of, tile_of}
 use Rattle.jx_stream.specs.Params.{planes_of, entries_fault, planes_fault, tile_has_too_few, tile_planes}
-use Rattle.jx_stream.specs.First.{canvas_of, tile_number, siz_of, after_siz, front_fault, tiles_fault, main_header, main_fault, body_fault, lacks_part, parts_after, stream_from, parameters_fault, later_fault, first_fault}
+use Rattle.jx_stream.specs.First.{tile_number, siz_of, after_siz, front_fault, tiles_fault, main_fault, body_fault, lacks_part, parts_after, stream_from, parameters_fault, later_fault, first_fault}
 use Rattle.jx_stream.proofs.HeaderLemmas.{early_clear, read_more, read_end}
 use Rattle.jx_stream.proofs.PartLemmas.{both, is_equal, start_clear, part_none, part_is, header_same, header_fault_same, parts_more, parts_end}
 use Rattle.jx_stream.proofs.FirstLemmas.{front_clear, canvas_fits, main_clear, body_clear, stream_is, later_clear, first_clear}
 use Rattle.jx_recast.specs.declared.small.Headers.{Headers}
 use Rattle.jx_recast.specs.Small.{AreInRange, IsSmall, headers_at, packet_at, is_one_of_each, is_one_component, is_one_tile, is_one_packet, is_one_block, is_one_step, is_one_part, spelled, has_grid_sampling}
-use Rattle.jx_recast.proofs.SmallLemmas.{tail_end, tail_sod, tail_sot, tail_quant, tail_cod, tail_siz, siz_read, sot_read}
-use Rattle.std.specs.List.{list_all}
+use Rattle.jx_recast.proofs.SmallLemmas.{tail_end, tail_sod, tail_cod, tail_siz, siz_read, sot_read}
 
 -- what stands at a place
 
@@ -253,7 +251,7 @@ is_single h single =
     let cod = h.cod in
     let quant = h.quant in
     let sot = h.sot in
-    let last_levels : Bool = (cod.shape.levels == 0) && (length cod.shape.precincts == 0) in
+    let last_two : Bool = (cod.shape.levels == 0) && (length cod.shape.precincts == 0) in
     let one = both (is_one_component h.siz) (is_one_tile h.siz && (is_one_packet cod && (is_one_block h.siz cod.shape && (is_one_step quant && is_one_part sot)))) single in
     let two = both (is_one_tile h.siz) (is_one_packet cod && (is_one_block h.siz cod.shape && (is_one_step quant && is_one_part sot))) one.1 in
     let three = both (is_one_packet cod) (is_one_block h.siz cod.shape && (is_one_step quant && is_one_part sot)) two.1 in
@@ -261,9 +259,9 @@ is_single h single =
     let five = both (is_one_step quant) (is_one_part sot) four.1 in
     let comp = both (length h.siz.comps == 1) (list_all has_grid_sampling h.siz.comps) one.0 in
     let tile = both (nat_le h.siz.x1 (h.siz.tx + h.siz.tw)) (nat_le h.siz.y1 (h.siz.ty + h.siz.th)) two.0 in
-    let no_sop = both (not cod.sop) (not cod.eph && ((cod.layers == 1) && last_levels)) three.0 in
-    let no_eph = both (not cod.eph) ((cod.layers == 1) && last_levels) no_sop.1 in
-    let layers = both (cod.layers == 1) last_levels no_eph.1 in
+    let no_sop = both (not cod.sop) (not cod.eph && ((cod.layers == 1) && last_two)) three.0 in
+    let no_eph = both (not cod.eph) ((cod.layers == 1) && last_two) no_sop.1 in
+    let layers = both (cod.layers == 1) last_two no_eph.1 in
     let levels = both (cod.shape.levels == 0) (length cod.shape.precincts == 0) layers.1 in
     let step = both (quant.sqcd % 32 == 0) (length quant.entries == 1) five.0 in
     let first = both (sot.tile == 0) ((sot.psot == 15) && ((sot.part == 0) && nat_le sot.parts 1)) five.1 in
