@@ -105,9 +105,9 @@ module _ (b : List ℕ) (start : ℕ) (cod : Cod) (quant : Quant) (sot : Sot) (r
       let two = stands_here b at_quant (segment.Qcd quant) (spelling 1 (segment.Sot sot) ++ rest) quant_stands quant_range in
       let three = stands_here b at_sot (segment.Sot sot) rest sot_stands sot_range in
       let first = read_more Main 1 b start [] (segment.Cod cod ∷ []) (segment.Cod cod) start at_quant refl (inside_here b start _ _ here)
-          (early_clear Main 1 b start one.rules (ap (stands_in Main) one.value)) (sym one.value) refl refl refl refl in
+      (early_clear Main 1 b start one.rules (ap (stands_in Main) one.value)) (sym one.value) refl refl refl refl in
       let second = read_more Main 1 b start (segment.Cod cod ∷ []) (segment.Cod cod ∷ segment.Qcd quant ∷ []) (segment.Qcd quant) at_quant at_sot first (inside_here b at_quant _ _ quant_stands)
-          (early_clear Main 1 b at_quant two.rules (ap (stands_in Main) two.value)) (sym two.value) refl refl refl refl in
+      (early_clear Main 1 b at_quant two.rules (ap (stands_in Main) two.value)) (sym two.value) refl refl refl refl in
       read_end Main 1 b start (segment.Cod cod ∷ segment.Qcd quant ∷ []) at_sot second
       (early_clear Main 1 b at_sot three.rules (ap (stands_in Main) three.value)) (ap ends_header three.value)
 
@@ -335,7 +335,7 @@ clean : (b : List ℕ) (h : Headers) (packet : ℕ) → b ≡ spelled h (packet 
 clean b h packet whole ranges single =
     let siz_there : drop 2 b ≡ tail_siz h packet = ap (λ (x : List ℕ). drop 2 x) whole in
     let front : front_fault b ≡ None = front_clear b (ap (λ (x : List ℕ). marker_at x 0 79) whole) (ap (λ (x : List ℕ). marker_at x 2 81) whole)
-        (stands_here b 2 (segment.Siz h.siz) (tail_cod h packet) siz_there ranges.siz).rules in
+    (stands_here b 2 (segment.Siz h.siz) (tail_cod h packet) siz_there ranges.siz).rules in
     let is : h.siz ≡ siz_of b = sym (ap (λ (x : List ℕ). siz_at (body_at x)) siz_there ∙ siz_read h.siz (tail_cod h packet) ranges.siz) in
     let cod_there : drop (after_siz b) b ≡ tail_cod h packet = rest_here b 2 (segment.Siz h.siz) (tail_cod h packet) siz_there ranges.siz in
     let one = is_single h single in
