@@ -5,3 +5,4 @@ pub mod TileLemmas
 pub mod IndexLemmas
 pub mod ScanLemmas
 pub mod FirstLemmas
+pub mod SpellLemmas
