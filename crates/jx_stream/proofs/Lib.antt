@@ -6,3 +6,4 @@ pub mod IndexLemmas
 pub mod ScanLemmas
 pub mod FirstLemmas
 pub mod SpellLemmas
+pub mod WholeLemmas

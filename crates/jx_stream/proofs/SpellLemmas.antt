@@ -32,11 +32,11 @@ not_some : (x : Option StreamFault) → is_some x ≡ false → x ≡ None
 not_some None h = refl
 not_some (Some e) h = absurd (cc)
 
-neither : (x y : Bool) → (x || y) ≡ false → (x ≡ false) × (y ≡ false)
+pub neither : (x y : Bool) → (x || y) ≡ false → (x ≡ false) × (y ≡ false)
 neither true y h = absurd (cc)
 neither false y h = (refl, h)
 
-not_false : (x : Bool) → not x ≡ false → x ≡ true
+pub not_false : (x : Bool) → not x ≡ false → x ≡ true
 not_false true h = refl
 not_false false h = absurd (cc)
 
@@ -66,12 +66,12 @@ going kind comps b before at h =
     let p = neither (is_some (segment_fault kind comps b before at)) (ends_header (segment_at comps (drop at b))) h in
     (not_some (segment_fault kind comps b before at) p.0, p.1)
 
-begins_at : (comps : ℕ) (b : List ℕ) (at : ℕ) → AreBytes b → first_broken comps (drop at b) ≡ None
+pub begins_at : (comps : ℕ) (b : List ℕ) (at : ℕ) → AreBytes b → first_broken comps (drop at b) ≡ None
     → BeginsWith comps (drop at b) (segment_at comps (drop at b)) (drop (size_at (drop at b)) (drop at b))
 begins_at comps b at are clear = segment_is_spelled comps (drop at b) (All-drop (λ (byte : ℕ). byte < 256) at b are) clear
 
 -- how many bytes a segment takes that bytes begin with
-takes : (comps : ℕ) (bytes rest : List ℕ) (s : Segment) → BeginsWith comps bytes s rest → size_at bytes ≡ length (spelling comps s)
+pub takes : (comps : ℕ) (bytes rest : List ℕ) (s : Segment) → BeginsWith comps bytes s rest → size_at bytes ≡ length (spelling comps s)
 takes comps bytes rest s begins = ap size_at begins.spelled ∙ (segment_is_read comps s rest begins.range).takes
 
 -- a header that was walked over

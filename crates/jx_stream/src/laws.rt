@@ -1,15 +1,12 @@
 //! Laws over the definitions of a codestream. The functions do nothing: their contracts carry the laws.
 
-ghost use Rattle.std.specs.Prelude.{◌≡◌, ℕ, List, [], drop, ◌++◌};
+ghost use Rattle.std.specs.Prelude.{◌≡◌, ℕ, List, None};
 ghost use Rattle.jx_marker.specs.Ranges.{AreBytes};
-ghost use Rattle.jx_stream.specs.declared.headers.HeaderKind.{HeaderKind};
-ghost use Rattle.jx_stream.specs.Headers.{header_at};
-ghost use Rattle.jx_stream.specs.Spells.{all_bytes, AreSegments};
+ghost use Rattle.jx_stream.specs.First.{first_fault, stream_in};
+ghost use Rattle.jx_stream.specs.Spells.{Spells};
 
-/// The bytes from a header's start on are the spellings of the segments that stand there one after another,
-/// which violate none of the rules 1 to 14, 18 and 19.
-pub fn headers_are_spelled()
-    ensures { (kind : HeaderKind) (comps : ℕ) (b : List ℕ) (at : ℕ) → AreBytes b
-        → (drop at b ≡ all_bytes comps (header_at kind comps b at).segments ++ drop (header_at kind comps b at).end b)
-        × AreSegments kind comps [] (header_at kind comps b at).segments }
+/// A file that violates no rule from 1 to 24 and passes none of the limits 3 and 4 spells the stream that is
+/// read from it.
+pub fn reading_is_spelled()
+    ensures { (b : List ℕ) → AreBytes b → first_fault b ≡ None → Spells b (stream_in b) }
 {}
