@@ -26,7 +26,7 @@ is_or_not_true true = inl refl
 is_or_not_true false = inr refl
 
 -- SOT and SOD may stand again
-ends_once : (before : List Segment) (s : Segment) → ends_header s ≡ true → is_second before s ≡ false
+pub ends_once : (before : List Segment) (s : Segment) → ends_header s ≡ true → is_second before s ≡ false
 ends_once before (segment.Sot sot) h = refl
 ends_once before segment.Sod h = refl
 ends_once before _ h = absurd (cc)

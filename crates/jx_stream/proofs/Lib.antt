@@ -7,3 +7,4 @@ pub mod ScanLemmas
 pub mod FirstLemmas
 pub mod SpellLemmas
 pub mod WholeLemmas
+pub mod OneLemmas

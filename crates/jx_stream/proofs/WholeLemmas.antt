@@ -17,7 +17,7 @@ use Rattle.jx_stream.specs.declared.parts.Part.{Part}
 use Rattle.jx_stream.specs.declared.Stream.{Stream}
 use Rattle.jx_stream.specs.declared.Tile.{Tile}
 use Rattle.jx_stream.specs.Faults.{broken, rule_at}
-use Rattle.jx_stream.specs.Headers.{header_at, header_fault}
+use Rattle.jx_stream.specs.Headers.{header_at, header_fault, ends_header}
 use Rattle.jx_stream.specs.Parts.{marker_at, Parts, parts_from, parts_fault}
 use Rattle.jx_stream.specs.Tiles.{tiles_of}
 use Rattle.jx_stream.specs.Params.{tile_has_too_few, rule_9_of, entries_fault, planes_fault}
@@ -25,7 +25,7 @@ use Rattle.jx_stream.specs.First.{tile_number, siz_of, after_siz, front_fault, t
 use Rattle.jx_stream.specs.Spells.{TilePart, all_bytes, part_bytes, file_bytes, placed, AreSegments, AreTileParts, first_sot, Spells}
 use Rattle.jx_stream.proofs.FaultLemmas.{none_first, none_later, broken_none, rule_none}
 use Rattle.jx_stream.proofs.FirstLemmas.{siz_stands}
-use Rattle.jx_stream.proofs.SpellLemmas.{walked, parts_written, eoc_there, marker_there, begins_at, takes, not_false}
+use Rattle.jx_stream.proofs.SpellLemmas.{walked, parts_written, eoc_there, marker_there, begins_at, takes, not_false, header_ends}
 
 record FrontClear (b : List ℕ) : Type 0 where
   pub soc : marker_at b 0 79 ≡ true
@@ -94,10 +94,10 @@ nothing_found (Some tile) h = absurd (cc)
 
 spells_made : (b : List ℕ) (siz : Siz) (main : List Segment) (parts : List TilePart) (all : List Part) (rest : List ℕ) (at : ℕ) → at ≡ first_sot siz main → all ≡ placed (length siz.comps) at parts
     → b ≡ file_bytes siz main parts rest → SizInRange siz → AreSegments Main (length siz.comps) [] main → lacks_default main ≡ false
-    → AreTileParts (length siz.comps) (tile_number siz) rest [] at parts → lacks_part all (tile_number siz) ≡ false
+    → 0 < length parts → AreTileParts (length siz.comps) (tile_number siz) rest [] at parts → lacks_part all (tile_number siz) ≡ false
     → find (tile_has_too_few main (length siz.comps)) (tiles_of main all (tile_number siz)) ≡ None
     → Spells b (record { siz = siz; main = main; tiles = tiles_of main all (tile_number siz) })
-spells_made b siz main parts all rest at place same bytes range segments defaults tile_parts each entries =
+spells_made b siz main parts all rest at place same bytes range segments defaults some tile_parts each entries =
     let placed_at : all ≡ placed (length siz.comps) (first_sot siz main) parts = same ∙ ap (λ (n : ℕ). placed (length siz.comps) n parts) place in
     let P : ℕ → Type 0 = λ n. AreTileParts (length siz.comps) (tile_number siz) rest [] n parts in
     record {
@@ -107,11 +107,21 @@ spells_made b siz main parts all rest at place same bytes range segments default
       siz = range;
       main = segments;
       defaults = defaults;
+      some = some;
       tile_parts = subst P place tile_parts;
       each = ap (λ (x : List Part). lacks_part x (tile_number siz)) (sym placed_at) ∙ each;
       tiles = ap (λ (x : List Part). tiles_of main x (tile_number siz)) placed_at;
       entries = entries;
     }
+
+-- where a header ends no EOC stands, so a tile-part does
+some_part : (comps : ℕ) (b : List ℕ) (at end : ℕ) (rest : List ℕ) (new : List TilePart) → ends_header (segment_at comps (drop at b)) ≡ true
+    → drop at b ≡ flat_map (part_bytes comps) new ++ drop end b → drop end b ≡ 255 ∷ 217 ∷ rest → 0 < length new
+some_part comps b at end rest [] ends spelled eoc =
+    let there : segment_at comps (drop at b) ≡ segment.Eoc = ap (λ (x : List ℕ). segment_at comps x) (spelled ∙ eoc) in
+    let wrong : false ≡ true = sym (ap ends_header there) ∙ ends in
+    absurd (cc)
+some_part comps b at end rest (p ∷ ps) ends spelled eoc = omega arith
 
 stream_shape : (b : List ℕ) → stream_in b ≡ record {
   siz = siz_of b;
@@ -151,4 +161,4 @@ whole_spelled b are h =
         nothing_found (find (tile_has_too_few header.segments comps) (tiles_of header.segments res.parts tiles))
         (sym (ap (λ (s : Stream). entries_fault s.main (length s.siz.comps) s.tiles) shape) ∙ clear.entries) in
     subst S (sym shape) (spells_made b siz header.segments pw.new res.parts rest header.end place pw.all bytes begins.range (subst Q (sym w.all) w.are) clear.body.defaults
-    (pw.are rest refl) clear.body.each entries)
+    (some_part comps b header.end res.end rest pw.new (header_ends Main comps b start clear.body.header) pw.spelled eoc) (pw.are rest refl) clear.body.each entries)

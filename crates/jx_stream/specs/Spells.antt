@@ -102,6 +102,8 @@ pub record Spells (b : List ℕ) (s : Stream) : Type 0 where
   pub main : AreSegments Main (length s.siz.comps) [] s.main
   -- rule 17
   pub defaults : lacks_default s.main ≡ false
+  -- the first SOT ends the main header
+  pub some : 0 < length parts
   pub tile_parts : AreTileParts (length s.siz.comps) (tile_number s.siz) rest [] (first_sot s.siz s.main) parts
   -- rule 24
   pub each : lacks_part (placed (length s.siz.comps) (first_sot s.siz s.main) parts) (tile_number s.siz) ≡ false
