@@ -8,3 +8,5 @@ pub mod FirstLemmas
 pub mod SpellLemmas
 pub mod WholeLemmas
 pub mod OneLemmas
+pub mod PartsReadLemmas
+pub mod UniqueLemmas

@@ -1,40 +1,27 @@
 -- What bytes spell is what is read from them.
-use Rattle.std.proofs.Common.{◌≡◌, ◌∙◌, ◌<◌, ◌≤◌, ◌+◌, ◌-◌, ◌==◌, ◌||◌, ◌&&◌, ℕ, zero, suc, Bool, true, false, not, nat_lt, nat_le, arith, List, [], ◌∷◌, ◌++◌, length, drop, take, get_or, refl, sym, ap, subst, Option, Some, None, cond, ◌⊎◌, inl, inr, add-zero}
-use Rattle.std.specs.List.{flat_map, All, find}
-use Rattle.std.specs.Option.{option_or, is_some}
-use Rattle.std.proofs.lemmas.Bool.Decides.{nat_tests}
-use Rattle.std.proofs.lemmas.List.{append-nil, append_assoc, drop-drop, drop_at, length-append, length-drop, get_or-drop}
+use Rattle.std.proofs.Common.{◌≡◌, ◌∙◌, ◌<◌, ◌≤◌, ◌+◌, ℕ, true, false, arith, List, [], ◌∷◌, ◌++◌, length, drop, refl, sym, ap, subst, None, ◌⊎◌, inl, inr, add-zero}
+use Rattle.std.proofs.lemmas.List.{append-nil, append_assoc, drop-drop, drop_at, length-append}
 use Rattle.jx_marker.specs.declared.Segment.{Segment}
-use Rattle.jx_marker.specs.declared.Segment.TheVariants as segment
-use Rattle.jx_marker.specs.declared.Sot.{Sot}
-use Rattle.jx_marker.specs.declared.Siz.{Siz}
 use Rattle.jx_marker.specs.Segments.{spelling, segment_at, size_at}
-use Rattle.jx_marker.specs.Rules.{first_broken}
-use Rattle.jx_marker.specs.Ranges.{InRange, SotInRange, SizInRange}
+use Rattle.jx_marker.specs.Ranges.{InRange}
 use Rattle.jx_marker.specs.Laws.{StandsAt}
 use Rattle.jx_marker.proofs.SpelledLemmas.{segment_is_read}
-use Rattle.jx_stream.specs.declared.faults.StreamFault.{StreamFault}
 use Rattle.jx_stream.specs.declared.headers.HeaderKind.{HeaderKind}
-use Rattle.jx_stream.specs.declared.headers.HeaderKind.TheVariants.{Main, First, Later}
 use Rattle.jx_stream.specs.declared.headers.Header.{Header}
-use Rattle.jx_stream.specs.declared.parts.Part.{Part}
-use Rattle.jx_stream.specs.Faults.{broken, rule_at}
-use Rattle.jx_stream.specs.Headers.{stands_in, ends_header, is_second, early_fault, segment_fault, stops, longest, header_at, header_fault}
-use Rattle.jx_stream.specs.Parts.{marker_at, sot_in, after_sot, kind_of, comes_out_of_turn, start_fault, sot_fault, sod_fault, has_wrong_length, end_of, part_header, body_of, part_at, part_fault, fault_after, end_of_part, parts_stop, Parts, longest_parts, parts_from, parts_fault}
-use Rattle.jx_stream.specs.Spells.{TilePart, all_bytes, head_bytes, part_bytes, part_of, placed, IsSegment, AreSegments, HasLength, IsTilePart, AreTileParts}
-use Rattle.jx_stream.proofs.FaultLemmas.{broken_false}
-use Rattle.jx_stream.proofs.HeaderLemmas.{is_or_not_true, early_clear, fault_none, goes_on, stops_at_end, stops_past, longest_stops, longest_on, ends_once}
+use Rattle.jx_stream.specs.Headers.{stands_in, ends_header, is_second, segment_fault, stops, longest, header_fault}
+use Rattle.jx_stream.specs.Spells.{all_bytes, AreSegments}
+use Rattle.jx_stream.proofs.HeaderLemmas.{early_clear, fault_none, goes_on, stops_at_end, stops_past, longest_stops, longest_on, ends_once}
 
 -- the segment that stands at a place, where its spelling does
-stands_there : (comps : ℕ) (b : List ℕ) (at : ℕ) (s : Segment) (tail : List ℕ) → InRange comps s → drop at b ≡ spelling comps s ++ tail → StandsAt comps (drop at b) s (length (spelling comps s))
+pub stands_there : (comps : ℕ) (b : List ℕ) (at : ℕ) (s : Segment) (tail : List ℕ) → InRange comps s → drop at b ≡ spelling comps s ++ tail → StandsAt comps (drop at b) s (length (spelling comps s))
 stands_there comps b at s tail range h =
     let P : List ℕ → Type 0 = λ x. StandsAt comps x s (length (spelling comps s)) in
     subst P (sym h) (segment_is_read comps s tail range)
 
-drop_on : (b : List ℕ) (at n : ℕ) (front rest : List ℕ) → drop at b ≡ front ++ rest → length front ≡ n → drop (at + n) b ≡ rest
+pub drop_on : (b : List ℕ) (at n : ℕ) (front rest : List ℕ) → drop at b ≡ front ++ rest → length front ≡ n → drop (at + n) b ≡ rest
 drop_on b at n front rest h size = sym (drop-drop n at b) ∙ ap (λ (x : List ℕ). drop n x) h ∙ drop_at front rest n size
 
-below_or_past : (a b : ℕ) → (a < b) ⊎ (b ≤ a)
+pub below_or_past : (a b : ℕ) → (a < b) ⊎ (b ≤ a)
 below_or_past a b = grind arith
 
 inside_of : (kind : HeaderKind) (comps : ℕ) (b : List ℕ) (before : List Segment) (at : ℕ) → stops kind comps b before at ≡ false → at < length b
@@ -68,7 +55,7 @@ header_read kind comps b (s ∷ ss) before at end tail are range ends stands h =
     ∙ ap (λ (n : ℕ). longest kind comps b (length b) (before ++ s ∷ []) (at + n)) there.takes
     ∙ header_read kind comps b ss (before ++ s ∷ []) (at + length (spelling comps s)) end tail are.1 range ends stands later
     ∙ header_same ((before ++ s ∷ []) ++ ss) (before ++ s ∷ ss) (at + length (spelling comps s) + length (all_bytes comps ss)) (at + length (all_bytes comps (s ∷ ss))) (append_assoc before (s ∷ []) ss)
-        (omega (arith, length-append (spelling comps s) (all_bytes comps ss)))
+    (omega (arith, length-append (spelling comps s) (all_bytes comps ss)))
 
 -- and nothing is violated where it ends
 pub header_clear : (kind : HeaderKind) (comps : ℕ) (b : List ℕ) (ss : List Segment) (at : ℕ) (end : Segment) (tail : List ℕ) → AreSegments kind comps [] ss → InRange comps end

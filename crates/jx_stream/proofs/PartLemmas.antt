@@ -193,7 +193,7 @@ stop_at_fault : (comps tiles : ℕ) (b : List ℕ) (parts : List Part) (at : ℕ
 unfolding parts_stop
 stop_at_fault comps tiles b parts at e h = rw h (or_is_true (marker_at b at 217))
 
-go_on : (comps tiles : ℕ) (b : List ℕ) (parts : List Part) (at : ℕ) → marker_at b at 217 ≡ false → fault_after comps tiles b parts at ≡ None → parts_stop comps tiles b parts at ≡ false
+pub go_on : (comps tiles : ℕ) (b : List ℕ) (parts : List Part) (at : ℕ) → marker_at b at 217 ≡ false → fault_after comps tiles b parts at ≡ None → parts_stop comps tiles b parts at ≡ false
 unfolding parts_stop
 go_on comps tiles b parts at goes clear = rw (goes, clear) refl
 
@@ -239,7 +239,7 @@ parts_same comps tiles b (suc n) (suc m) parts at below other =
           ∙ sym (parts_going comps tiles b m parts at f)
     ]
 
-parts_on : (comps tiles : ℕ) (b : List ℕ) (parts : List Part) (at : ℕ) → at < length b → parts_stop comps tiles b parts at ≡ false
+pub parts_on : (comps tiles : ℕ) (b : List ℕ) (parts : List Part) (at : ℕ) → at < length b → parts_stop comps tiles b parts at ≡ false
     → longest_parts comps tiles b (length b) parts at ≡ longest_parts comps tiles b (length b) (parts ++ part_at comps b at ∷ []) (end_of_part (part_at comps b at))
 parts_on comps tiles b parts at inside goes =
     let rises : at < end_of_part (part_at comps b at) = part_rises comps tiles b (comes_out_of_turn parts (sot_in b at)) at (goes_clear comps tiles b parts at goes) in

@@ -1,17 +1,17 @@
 -- What was walked over is spelled by the bytes.
 use Rattle.std.proofs.Common.{◌≡◌, ◌∙◌, ◌<◌, ◌≤◌, ◌+◌, ◌-◌, ◌==◌, ◌||◌, ◌&&◌, ℕ, zero, suc, Bool, true, false, not, nat_lt, nat_le, arith, List, [], ◌∷◌, ◌++◌, length, drop, take, get_or, refl, sym, ap, subst, Option, Some, None, cond, ◌⊎◌, inl, inr, add-zero}
-use Rattle.std.specs.List.{flat_map, All}
+use Rattle.std.specs.List.{flat_map}
 use Rattle.std.specs.Option.{option_or, is_some}
 use Rattle.std.proofs.lemmas.Bool.Decides.{nat_tests}
-use Rattle.std.proofs.lemmas.List.{append-nil, append_assoc, drop-drop, drop_at, length-append, length-drop, length-take, take-append-drop, get_or-drop, drop_all}
+use Rattle.std.proofs.lemmas.List.{append-nil, append_assoc, drop-drop, length-append, length-drop, length-take, take-append-drop, get_or-drop, drop_all}
 use Rattle.std.proofs.lemmas.List.Elements.{All-drop}
 use Rattle.jx_marker.specs.declared.Segment.{Segment}
 use Rattle.jx_marker.specs.declared.Segment.TheVariants as segment
 use Rattle.jx_marker.specs.declared.Sot.{Sot}
 use Rattle.jx_marker.specs.Segments.{spelling, segment_at, size_at}
 use Rattle.jx_marker.specs.Rules.{first_broken}
-use Rattle.jx_marker.specs.Ranges.{InRange, AreBytes, SotInRange}
-use Rattle.jx_marker.specs.Laws.{StandsAt, BeginsWith}
+use Rattle.jx_marker.specs.Ranges.{AreBytes, SotInRange}
+use Rattle.jx_marker.specs.Laws.{BeginsWith}
 use Rattle.jx_marker.proofs.SpelledLemmas.{segment_is_read}
 use Rattle.jx_marker.proofs.ReadLemmas.{segment_is_spelled}
 use Rattle.jx_stream.specs.declared.faults.StreamFault.{StreamFault}
@@ -19,11 +19,10 @@ use Rattle.jx_stream.specs.declared.headers.HeaderKind.{HeaderKind}
 use Rattle.jx_stream.specs.declared.headers.HeaderKind.TheVariants.{First, Later}
 use Rattle.jx_stream.specs.declared.headers.Header.{Header}
 use Rattle.jx_stream.specs.declared.parts.Part.{Part}
-use Rattle.jx_stream.specs.declared.Body.{Body}
 use Rattle.jx_stream.specs.Faults.{broken, rule_at}
 use Rattle.jx_stream.specs.Headers.{stands_in, ends_header, is_second, early_fault, segment_fault, stops, longest, header_at, header_fault}
 use Rattle.jx_stream.specs.Parts.{marker_at, sot_in, after_sot, kind_of, comes_out_of_turn, start_fault, sot_fault, sod_fault, has_wrong_length, end_of, part_header, body_of, part_at, part_fault, fault_after, end_of_part, parts_stop, Parts, longest_parts, parts_from, parts_fault}
-use Rattle.jx_stream.specs.Spells.{TilePart, all_bytes, head_bytes, part_bytes, part_of, placed, IsSegment, AreSegments, HasLength, IsTilePart, AreTileParts}
+use Rattle.jx_stream.specs.Spells.{TilePart, all_bytes, head_bytes, part_bytes, part_of, placed, AreSegments, IsTilePart, AreTileParts}
 use Rattle.jx_stream.proofs.FaultLemmas.{none_first, none_later, broken_none, rule_none}
 use Rattle.jx_stream.proofs.HeaderLemmas.{is_or_not_true, longest_stops, longest_goes, stops_past, size_is_two}
 use Rattle.jx_stream.proofs.PartLemmas.{both, is_equal, sot_stands, sod_within, parts_stopped, parts_going, stop_at_eoc, stop_past, goes_clear, part_rises}
@@ -111,8 +110,8 @@ walked kind comps b (suc n) before at are =
     elim (is_or_not_true (stops kind comps b before at)) [
       | inl t ↦ subst P (sym (longest_stops kind comps b (suc n) before at t)) (walked_none kind comps b before at)
       | inr f ↦ subst P (sym (longest_goes kind comps b n before at f))
-        (walked_more kind comps b before at (longest kind comps b n (before ++ segment_at comps (drop at b) ∷ []) (at + size_at (drop at b))) are f
-        (walked kind comps b n (before ++ segment_at comps (drop at b) ∷ []) (at + size_at (drop at b)) are))
+          (walked_more kind comps b before at (longest kind comps b n (before ++ segment_at comps (drop at b) ∷ []) (at + size_at (drop at b))) are f
+          (walked kind comps b n (before ++ segment_at comps (drop at b) ∷ []) (at + size_at (drop at b)) are))
     ]
 
 longest_ends : (kind : HeaderKind) (comps : ℕ) (b : List ℕ) (n : ℕ) (before : List Segment) (at : ℕ) → length b - at ≤ n
@@ -124,9 +123,9 @@ longest_ends kind comps b (suc n) before at h =
     elim (is_or_not_true (stops kind comps b before at)) [
       | inl t ↦ subst P (sym (longest_stops kind comps b (suc n) before at t)) t
       | inr f ↦
-        let two : 2 ≤ size_at (drop at b) = size_is_two (drop at b) in
-        let fewer : length b - (at + size_at (drop at b)) ≤ n = omega arith in
-        subst P (sym (longest_goes kind comps b n before at f)) (longest_ends kind comps b n (before ++ segment_at comps (drop at b) ∷ []) (at + size_at (drop at b)) fewer)
+          let two : 2 ≤ size_at (drop at b) = size_is_two (drop at b) in
+          let fewer : length b - (at + size_at (drop at b)) ≤ n = omega arith in
+          subst P (sym (longest_goes kind comps b n before at f)) (longest_ends kind comps b n (before ++ segment_at comps (drop at b) ∷ []) (at + size_at (drop at b)) fewer)
     ]
 
 or_same : (x y : Bool) → x ≡ false → (x || y) ≡ true → y ≡ true
@@ -233,8 +232,7 @@ either_first false y f h = absurd (cc)
 start_rules : (comps : ℕ) (b : List ℕ) (at : ℕ) → start_fault comps b at ≡ None → marker_at b at 217 ≡ false → (marker_at b at 144 ≡ true) × (first_broken comps (drop at b) ≡ None)
 unfolding start_fault
 start_rules comps b at h goes =
-    let here = not_false (marker_at b at 144 || marker_at b at 217) (broken_none 23 at (not (marker_at b at 144 || marker_at b at 217)) (none_first (broken 23 at (not (marker_at b at 144 || marker_at b at 217))) (rule_at at (first_broken comps (drop at b))) h)) in
-    (
+    let here = not_false (marker_at b at 144 || marker_at b at 217) (broken_none 23 at (not (marker_at b at 144 || marker_at b at 217)) (none_first (broken 23 at (not (marker_at b at 144 || marker_at b at 217))) (rule_at at (first_broken comps (drop at b))) h)) in (
       either_first (marker_at b at 144) (marker_at b at 217) goes here,
       rule_none at (first_broken comps (drop at b)) (none_later (broken 23 at (not (marker_at b at 144 || marker_at b at 217))) (rule_at at (first_broken comps (drop at b))) h),
     )
@@ -281,11 +279,11 @@ end_within b at sot h =
       | inr f ↦ rw f h
     ]
 
-same_part : (place : ℕ) (sot : Sot) (one other : List Segment) (from start count size : ℕ) → one ≡ other → from ≡ start → count ≡ size
+pub same_part : (place : ℕ) (sot : Sot) (one other : List Segment) (from start count size : ℕ) → one ≡ other → from ≡ start → count ≡ size
     → ◌≡◌ {A = Part} (record { place = place; sot = sot; header = one; body = record { at = from; length = count } }) (record { place = place; sot = sot; header = other; body = record { at = start; length = size } })
 same_part place sot one other from start count size headers places sizes = rw (headers, places, sizes) refl
 
-regroup : (a b c d e : List ℕ) → a ++ (b ++ (c ++ (d ++ e))) ≡ ((a ++ (b ++ c)) ++ d) ++ e
+pub regroup : (a b c d e : List ℕ) → a ++ (b ++ (c ++ (d ++ e))) ≡ ((a ++ (b ++ c)) ++ d) ++ e
 regroup a b c d e = sym (simp append_assoc)
 
 part_shape : (comps : ℕ) (b : List ℕ) (at : ℕ) → part_at comps b at ≡ record { place = at; sot = sot_in b at; header = (part_header comps b at).segments; body = body_of b at (sot_in b at) (part_header comps b at).end }
@@ -336,8 +334,8 @@ module _ (comps : ℕ) (b : List ℕ) (at : ℕ) (sot : Sot) (header : Header) (
   unfolding written_of data_of
   is_written first second third =
       let fourth : drop (header.end + 2) b ≡ data_of ++ drop (end_of b at sot) b =
-          sym (take-append-drop (end_of b at sot - (header.end + 2)) (drop (header.end + 2) b))
-          ∙ ap (λ (x : List ℕ). data_of ++ x) (drop-drop (end_of b at sot - (header.end + 2)) (header.end + 2) b ∙ ap (λ (n : ℕ). drop n b) (omega (arith, sizes.within))) in
+      sym (take-append-drop (end_of b at sot - (header.end + 2)) (drop (header.end + 2) b))
+      ∙ ap (λ (x : List ℕ). data_of ++ x) (drop-drop (end_of b at sot - (header.end + 2)) (header.end + 2) b ∙ ap (λ (n : ℕ). drop n b) (omega (arith, sizes.within))) in
       first ∙ ap (λ (x : List ℕ). spelling comps (segment.Sot sot) ++ x) (second ∙ ap (λ (x : List ℕ). all_bytes comps new ++ x) (third ∙ ap (λ (x : List ℕ). spelling comps segment.Sod ++ x) fourth))
       ∙ regroup (spelling comps (segment.Sot sot)) (all_bytes comps new) (spelling comps segment.Sod) data_of (drop (end_of b at sot) b)
 
@@ -383,7 +381,7 @@ part_written comps tiles b before at are goes none =
     let sizes : PartSizes comps b at sot header w.new (size_at (drop at b)) = record { sot_size = size; header_size = w.size; within = ending.within; most = end_within b at sot fits.length } in
     let written = written_of comps b at sot header w.new (size_at (drop at b)) sizes in
     let third : drop header.end b ≡ spelling comps segment.Sod ++ drop (header.end + 2) b =
-        begins_sod.spelled ∙ ap (λ (x : List ℕ). spelling comps segment.Sod ++ x) (ap (λ (n : ℕ). drop n (drop header.end b)) size_sod ∙ drop-drop 2 header.end b) in
+    begins_sod.spelled ∙ ap (λ (x : List ℕ). spelling comps segment.Sod ++ x) (ap (λ (n : ℕ). drop n (drop header.end b)) size_sod ∙ drop-drop 2 header.end b) in
     let first : drop at b ≡ spelling comps (segment.Sot sot) ++ drop (at + size_at (drop at b)) b = begins.spelled ∙ ap (λ (x : List ℕ). spelling comps (segment.Sot sot) ++ x) (drop-drop (size_at (drop at b)) at b) in
     let end : end_of_part (part_at comps b at) ≡ end_of b at sot = ap end_of_part (part_shape comps b at) ∙ omega (arith, ending.within) in
     let R : Sot → Type 0 = λ s. (s.psot ≡ length (part_bytes comps written)) ⊎ ((s.psot ≡ 0) × (end_of_part (part_at comps b at) ≡ length b - 2) × (marker_at b (length b - 2) 217 ≡ true)) in
@@ -445,16 +443,16 @@ parts_more_written comps tiles b n before at are goes none later =
     let spelled : drop at b ≡ part_bytes comps p ++ drop (at + length (part_bytes comps p)) b = here.spelled ∙ ap (λ (m : ℕ). part_bytes comps p ++ drop m b) here.end in
     elim here.length [
       | inl named ↦
-        let P : ℕ → Type 0 = λ m. PartsWritten comps tiles b (before ++ part_at comps b at ∷ []) m (longest_parts comps tiles b n (before ++ part_at comps b at ∷ []) (end_of_part (part_at comps b at))) in
-        let Q : Part → Type 0 = λ x. PartsWritten comps tiles b (before ++ x ∷ []) (at + length (part_bytes comps p)) (longest_parts comps tiles b n (before ++ part_at comps b at ∷ []) (end_of_part (part_at comps b at))) in
-        parts_and comps tiles b before at (longest_parts comps tiles b n (before ++ part_at comps b at ∷ []) (end_of_part (part_at comps b at))) p here.is named spelled (subst Q here.placed (subst P here.end later))
+          let P : ℕ → Type 0 = λ m. PartsWritten comps tiles b (before ++ part_at comps b at ∷ []) m (longest_parts comps tiles b n (before ++ part_at comps b at ∷ []) (end_of_part (part_at comps b at))) in
+          let Q : Part → Type 0 = λ x. PartsWritten comps tiles b (before ++ x ∷ []) (at + length (part_bytes comps p)) (longest_parts comps tiles b n (before ++ part_at comps b at ∷ []) (end_of_part (part_at comps b at))) in
+          parts_and comps tiles b before at (longest_parts comps tiles b n (before ++ part_at comps b at ∷ []) (end_of_part (part_at comps b at))) p here.is named spelled (subst Q here.placed (subst P here.end later))
       | inr last ↦
-        let eoc : marker_at b (end_of_part (part_at comps b at)) 217 ≡ true = ap (λ (m : ℕ). marker_at b m 217) last.1 ∙ last.2 in
-        let stop = parts_stopped comps tiles b n (before ++ part_at comps b at ∷ []) (end_of_part (part_at comps b at)) (stop_at_eoc comps tiles b (before ++ part_at comps b at ∷ []) (end_of_part (part_at comps b at)) eoc) in
-        let same : longest_parts comps tiles b n (before ++ part_at comps b at ∷ []) (end_of_part (part_at comps b at)) ≡ record { parts = before ++ part_of comps at p ∷ []; end = at + length (part_bytes comps p) } =
-            stop ∙ last_same before (part_at comps b at) (part_of comps at p) (end_of_part (part_at comps b at)) (at + length (part_bytes comps p)) here.placed here.end in
-        let R : Parts → Type 0 = λ x. PartsWritten comps tiles b before at x in
-        subst R (sym same) (parts_last comps tiles b before at p here.is last.0 spelled (sym here.end ∙ last.1))
+          let eoc : marker_at b (end_of_part (part_at comps b at)) 217 ≡ true = ap (λ (m : ℕ). marker_at b m 217) last.1 ∙ last.2 in
+          let stop = parts_stopped comps tiles b n (before ++ part_at comps b at ∷ []) (end_of_part (part_at comps b at)) (stop_at_eoc comps tiles b (before ++ part_at comps b at ∷ []) (end_of_part (part_at comps b at)) eoc) in
+          let same : longest_parts comps tiles b n (before ++ part_at comps b at ∷ []) (end_of_part (part_at comps b at)) ≡ record { parts = before ++ part_of comps at p ∷ []; end = at + length (part_bytes comps p) } =
+          stop ∙ last_same before (part_at comps b at) (part_of comps at p) (end_of_part (part_at comps b at)) (at + length (part_bytes comps p)) here.placed here.end in
+          let R : Parts → Type 0 = λ x. PartsWritten comps tiles b before at x in
+          subst R (sym same) (parts_last comps tiles b before at p here.is last.0 spelled (sym here.end ∙ last.1))
     ]
 
 goes_on_at : (comps tiles : ℕ) (b : List ℕ) (parts : List Part) (at : ℕ) → parts_stop comps tiles b parts at ≡ false → marker_at b at 217 ≡ false
@@ -469,8 +467,8 @@ parts_written comps tiles b (suc n) before at are =
     elim (is_or_not_true (parts_stop comps tiles b before at)) [
       | inl t ↦ subst P (sym (parts_stopped comps tiles b (suc n) before at t)) (parts_none comps tiles b before at)
       | inr f ↦ subst P (sym (parts_going comps tiles b n before at f))
-        (parts_more_written comps tiles b n before at are (goes_on_at comps tiles b before at f) (goes_clear comps tiles b before at f)
-        (parts_written comps tiles b n (before ++ part_at comps b at ∷ []) (end_of_part (part_at comps b at)) are))
+          (parts_more_written comps tiles b n before at are (goes_on_at comps tiles b before at f) (goes_clear comps tiles b before at f)
+          (parts_written comps tiles b n (before ++ part_at comps b at ∷ []) (end_of_part (part_at comps b at)) are))
     ]
 
 parts_end_there : (comps tiles : ℕ) (b : List ℕ) (n : ℕ) (before : List Part) (at : ℕ) → length b - at ≤ n
@@ -482,9 +480,9 @@ parts_end_there comps tiles b (suc n) before at h =
     elim (is_or_not_true (parts_stop comps tiles b before at)) [
       | inl t ↦ subst P (sym (parts_stopped comps tiles b (suc n) before at t)) t
       | inr f ↦
-        let rises : at < end_of_part (part_at comps b at) = part_rises comps tiles b (comes_out_of_turn before (sot_in b at)) at (goes_clear comps tiles b before at f) in
-        let fewer : length b - end_of_part (part_at comps b at) ≤ n = omega arith in
-        subst P (sym (parts_going comps tiles b n before at f)) (parts_end_there comps tiles b n (before ++ part_at comps b at ∷ []) (end_of_part (part_at comps b at)) fewer)
+          let rises : at < end_of_part (part_at comps b at) = part_rises comps tiles b (comes_out_of_turn before (sot_in b at)) at (goes_clear comps tiles b before at f) in
+          let fewer : length b - end_of_part (part_at comps b at) ≤ n = omega arith in
+          subst P (sym (parts_going comps tiles b n before at f)) (parts_end_there comps tiles b n (before ++ part_at comps b at ∷ []) (end_of_part (part_at comps b at)) fewer)
     ]
 
 no_stop : (x : Bool) (e : Option StreamFault) → x ≡ false → e ≡ None → (x || is_some e) ≡ true → ⊥
@@ -498,8 +496,8 @@ eoc_of_stop comps tiles b parts at stop clear =
     elim (is_or_not_true (marker_at b at 217)) [
       | inl t ↦ t
       | inr f ↦
-        let none : fault_after comps tiles b parts at ≡ None = rw f at clear in
-        absurd (no_stop (marker_at b at 217) (fault_after comps tiles b parts at) f none stop)
+          let none : fault_after comps tiles b parts at ≡ None = rw f at clear in
+          absurd (no_stop (marker_at b at 217) (fault_after comps tiles b parts at) f none stop)
     ]
 
 -- where nothing is violated EOC stands after the tile-parts

@@ -1,7 +1,7 @@
 -- A file in which nothing is violated spells its stream.
-use Rattle.std.proofs.Common.{◌≡◌, ◌∙◌, ◌<◌, ◌≤◌, ◌+◌, ◌-◌, ◌==◌, ◌||◌, ◌&&◌, ℕ, zero, suc, Bool, true, false, not, nat_lt, nat_le, arith, List, [], ◌∷◌, ◌++◌, length, drop, take, get_or, refl, sym, ap, subst, Option, Some, None, cond}
-use Rattle.std.specs.List.{flat_map, All, find}
-use Rattle.std.specs.Option.{option_or, is_some}
+use Rattle.std.proofs.Common.{◌≡◌, ◌∙◌, ◌<◌, ◌+◌, ℕ, true, false, not, arith, List, [], ◌∷◌, ◌++◌, length, drop, refl, sym, ap, subst, Option, Some, None}
+use Rattle.std.specs.List.{flat_map, find}
+use Rattle.std.specs.Option.{option_or}
 use Rattle.std.proofs.lemmas.List.{drop-drop}
 use Rattle.jx_marker.specs.declared.Segment.{Segment}
 use Rattle.jx_marker.specs.declared.Segment.TheVariants as segment
@@ -10,15 +10,13 @@ use Rattle.jx_marker.specs.Segments.{spelling, segment_at, size_at}
 use Rattle.jx_marker.specs.Rules.{first_broken}
 use Rattle.jx_marker.specs.Ranges.{AreBytes, SizInRange}
 use Rattle.jx_marker.specs.Laws.{BeginsWith}
-use Rattle.jx_stream.specs.declared.faults.StreamFault.{StreamFault}
 use Rattle.jx_stream.specs.declared.headers.HeaderKind.TheVariants.{Main}
-use Rattle.jx_stream.specs.declared.headers.Header.{Header}
 use Rattle.jx_stream.specs.declared.parts.Part.{Part}
 use Rattle.jx_stream.specs.declared.Stream.{Stream}
 use Rattle.jx_stream.specs.declared.Tile.{Tile}
 use Rattle.jx_stream.specs.Faults.{broken, rule_at}
-use Rattle.jx_stream.specs.Headers.{header_at, header_fault, ends_header}
-use Rattle.jx_stream.specs.Parts.{marker_at, Parts, parts_from, parts_fault}
+use Rattle.jx_stream.specs.Headers.{header_fault, ends_header}
+use Rattle.jx_stream.specs.Parts.{marker_at, parts_fault}
 use Rattle.jx_stream.specs.Tiles.{tiles_of}
 use Rattle.jx_stream.specs.Params.{tile_has_too_few, rule_9_of, entries_fault, planes_fault}
 use Rattle.jx_stream.specs.First.{tile_number, siz_of, after_siz, front_fault, tiles_fault, lacks_default, main_header, main_fault, parts_after, lacks_part, body_fault, stream_from, stream_in, parameters_fault, later_fault, first_fault}
@@ -152,13 +150,13 @@ whole_spelled b are h =
     let Q : List Segment → Type 0 = λ x. AreSegments Main comps [] x in
     let header_bytes : drop start b ≡ all_bytes comps header.segments ++ drop header.end b = w.spelled ∙ ap (λ (x : List Segment). all_bytes comps x ++ drop header.end b) (sym w.all) in
     let bytes : b ≡ file_bytes siz header.segments pw.new rest =
-        soc ∙ ap (λ (x : List ℕ). 255 ∷ 79 ∷ x) (begins.spelled ∙ ap (λ (x : List ℕ). spelling 1 (segment.Siz siz) ++ x) (drop-drop (size_at (drop 2 b)) 2 b ∙ header_bytes
-            ∙ ap (λ (x : List ℕ). all_bytes comps header.segments ++ x) (pw.spelled ∙ ap (λ (x : List ℕ). flat_map (part_bytes comps) pw.new ++ x) eoc))) in
+    soc ∙ ap (λ (x : List ℕ). 255 ∷ 79 ∷ x) (begins.spelled ∙ ap (λ (x : List ℕ). spelling 1 (segment.Siz siz) ++ x) (drop-drop (size_at (drop 2 b)) 2 b ∙ header_bytes
+    ∙ ap (λ (x : List ℕ). all_bytes comps header.segments ++ x) (pw.spelled ∙ ap (λ (x : List ℕ). flat_map (part_bytes comps) pw.new ++ x) eoc))) in
     let place : header.end ≡ first_sot siz header.segments = w.size ∙ omega (arith, size, ap (λ (x : List Segment). length (all_bytes comps x)) w.all) in
     let S : Stream → Type 0 = λ s. Spells b s in
     let shape = stream_shape b in
     let entries : find (tile_has_too_few header.segments comps) (tiles_of header.segments res.parts tiles) ≡ None =
-        nothing_found (find (tile_has_too_few header.segments comps) (tiles_of header.segments res.parts tiles))
-        (sym (ap (λ (s : Stream). entries_fault s.main (length s.siz.comps) s.tiles) shape) ∙ clear.entries) in
+    nothing_found (find (tile_has_too_few header.segments comps) (tiles_of header.segments res.parts tiles))
+    (sym (ap (λ (s : Stream). entries_fault s.main (length s.siz.comps) s.tiles) shape) ∙ clear.entries) in
     subst S (sym shape) (spells_made b siz header.segments pw.new res.parts rest header.end place pw.all bytes begins.range (subst Q (sym w.all) w.are) clear.body.defaults
     (some_part comps b header.end res.end rest pw.new (header_ends Main comps b start clear.body.header) pw.spelled eoc) (pw.are rest refl) clear.body.each entries)

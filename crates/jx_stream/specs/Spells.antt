@@ -1,5 +1,5 @@
 -- Which stream the bytes of a file spell (T.800, A.2 to A.4): SOC, SIZ, the main header's segments, the tile-parts, EOC.
-use Rattle.std.specs.Prelude.{◌≡◌, ◌≢◌, ◌<◌, ℕ, ◌+◌, Bool, true, false, List, [], ◌∷◌, ◌++◌, length, Option, None, find, ◌⊎◌}
+use Rattle.std.specs.Prelude.{◌≡◌, ◌<◌, ℕ, ◌+◌, true, false, List, [], ◌∷◌, ◌++◌, length, None, find, ◌⊎◌}
 use Rattle.std.specs.List.{flat_map}
 use Rattle.jx_marker.specs.declared.Segment.{Segment}
 use Rattle.jx_marker.specs.declared.Segment.TheVariants as segment
