@@ -26,7 +26,7 @@ is_or_not_true true = inl refl
 is_or_not_true false = inr refl
 
 -- SOT and SOD may stand again
-ends_once : (before : List Segment) (s : Segment) → ends_header s ≡ true → is_second before s ≡ false
+pub ends_once : (before : List Segment) (s : Segment) → ends_header s ≡ true → is_second before s ≡ false
 ends_once before (segment.Sot sot) h = refl
 ends_once before segment.Sod h = refl
 ends_once before _ h = absurd (cc)
@@ -95,7 +95,7 @@ pub fault_none : (kind : HeaderKind) (comps : ℕ) (b : List ℕ) (before : List
 unfolding segment_fault
 fault_none kind comps b before at clear second = rw (clear, broken_false 18 at _ second) refl
 
-stops_past : (kind : HeaderKind) (comps : ℕ) (b : List ℕ) (before : List Segment) (at : ℕ) → length b ≤ at → stops kind comps b before at ≡ true
+pub stops_past : (kind : HeaderKind) (comps : ℕ) (b : List ℕ) (before : List Segment) (at : ℕ) → length b ≤ at → stops kind comps b before at ≡ true
 stops_past kind comps b before at h =
     stops_at_fault kind comps b before at (fault.Rule 1 at) (fault_early kind comps b before at (fault.Rule 1 at) (early_broken kind comps b at 1 (end_breaks comps (drop at b) (drop_all at b h))))
 
@@ -105,7 +105,7 @@ unfolding longest
 longest_stops kind comps b zero before at h = refl
 longest_stops kind comps b (suc n) before at h = rw h refl
 
-longest_goes : (kind : HeaderKind) (comps : ℕ) (b : List ℕ) (n : ℕ) (before : List Segment) (at : ℕ) → stops kind comps b before at ≡ false
+pub longest_goes : (kind : HeaderKind) (comps : ℕ) (b : List ℕ) (n : ℕ) (before : List Segment) (at : ℕ) → stops kind comps b before at ≡ false
     → longest kind comps b (suc n) before at ≡ longest kind comps b n (before ++ segment_at comps (drop at b) ∷ []) (at + size_at (drop at b))
 unfolding longest
 longest_goes kind comps b n before at h = rw h refl

@@ -5,3 +5,8 @@ pub mod TileLemmas
 pub mod IndexLemmas
 pub mod ScanLemmas
 pub mod FirstLemmas
+pub mod SpellLemmas
+pub mod WholeLemmas
+pub mod OneLemmas
+pub mod PartsReadLemmas
+pub mod UniqueLemmas

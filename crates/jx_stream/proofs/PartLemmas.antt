@@ -145,7 +145,7 @@ header_fault_same comps b at sot next kind is after of =
 
 -- a tile-part in which nothing is violated ends behind its first byte
 
-sod_within : (b : List ℕ) (at : ℕ) (sot : Sot) (sod : ℕ) → sod_fault b at sot sod ≡ None → sod + 2 ≤ end_of b at sot
+pub sod_within : (b : List ℕ) (at : ℕ) (sot : Sot) (sod : ℕ) → sod_fault b at sot sod ≡ None → sod + 2 ≤ end_of b at sot
 unfolding sod_fault
 sod_within b at sot sod h =
     elim (is_or_not_true (sot.psot == 0)) [
@@ -185,7 +185,7 @@ module _ (comps : ℕ) (b : List ℕ) (parts : List Part) (counts told : List �
 
 -- where tile-parts stop and where they go on
 
-stop_at_eoc : (comps tiles : ℕ) (b : List ℕ) (parts : List Part) (at : ℕ) → marker_at b at 217 ≡ true → parts_stop comps tiles b parts at ≡ true
+pub stop_at_eoc : (comps tiles : ℕ) (b : List ℕ) (parts : List Part) (at : ℕ) → marker_at b at 217 ≡ true → parts_stop comps tiles b parts at ≡ true
 unfolding parts_stop
 stop_at_eoc comps tiles b parts at h = rw h refl
 
@@ -193,29 +193,29 @@ stop_at_fault : (comps tiles : ℕ) (b : List ℕ) (parts : List Part) (at : ℕ
 unfolding parts_stop
 stop_at_fault comps tiles b parts at e h = rw h (or_is_true (marker_at b at 217))
 
-go_on : (comps tiles : ℕ) (b : List ℕ) (parts : List Part) (at : ℕ) → marker_at b at 217 ≡ false → fault_after comps tiles b parts at ≡ None → parts_stop comps tiles b parts at ≡ false
+pub go_on : (comps tiles : ℕ) (b : List ℕ) (parts : List Part) (at : ℕ) → marker_at b at 217 ≡ false → fault_after comps tiles b parts at ≡ None → parts_stop comps tiles b parts at ≡ false
 unfolding parts_stop
 go_on comps tiles b parts at goes clear = rw (goes, clear) refl
 
-goes_clear : (comps tiles : ℕ) (b : List ℕ) (parts : List Part) (at : ℕ) → parts_stop comps tiles b parts at ≡ false → fault_after comps tiles b parts at ≡ None
+pub goes_clear : (comps tiles : ℕ) (b : List ℕ) (parts : List Part) (at : ℕ) → parts_stop comps tiles b parts at ≡ false → fault_after comps tiles b parts at ≡ None
 unfolding parts_stop
 goes_clear comps tiles b parts at h = none_is (fault_after comps tiles b parts at) (or_none (marker_at b at 217) (is_some (fault_after comps tiles b parts at)) h)
 
 marker_past : (b : List ℕ) (at code : ℕ) → length b ≤ at → marker_at b at code ≡ false
 marker_past b at code h = rw (get_or_past b at 0 h) refl
 
-stop_past : (comps tiles : ℕ) (b : List ℕ) (parts : List Part) (at : ℕ) → length b ≤ at → parts_stop comps tiles b parts at ≡ true
+pub stop_past : (comps tiles : ℕ) (b : List ℕ) (parts : List Part) (at : ℕ) → length b ≤ at → parts_stop comps tiles b parts at ≡ true
 stop_past comps tiles b parts at h =
     stop_at_fault comps tiles b parts at (fault.Rule 23 at)
     (part_start comps tiles b (comes_out_of_turn parts (sot_in b at)) at (fault.Rule 23 at) (start_missing comps b at (marker_past b at 144 h) (marker_past b at 217 h)))
 
-parts_stopped : (comps tiles : ℕ) (b : List ℕ) (n : ℕ) (parts : List Part) (at : ℕ) → parts_stop comps tiles b parts at ≡ true
+pub parts_stopped : (comps tiles : ℕ) (b : List ℕ) (n : ℕ) (parts : List Part) (at : ℕ) → parts_stop comps tiles b parts at ≡ true
     → longest_parts comps tiles b n parts at ≡ record { parts = parts; end = at }
 unfolding longest_parts
 parts_stopped comps tiles b zero parts at h = refl
 parts_stopped comps tiles b (suc n) parts at h = rw h refl
 
-parts_going : (comps tiles : ℕ) (b : List ℕ) (n : ℕ) (parts : List Part) (at : ℕ) → parts_stop comps tiles b parts at ≡ false
+pub parts_going : (comps tiles : ℕ) (b : List ℕ) (n : ℕ) (parts : List Part) (at : ℕ) → parts_stop comps tiles b parts at ≡ false
     → longest_parts comps tiles b (suc n) parts at ≡ longest_parts comps tiles b n (parts ++ part_at comps b at ∷ []) (end_of_part (part_at comps b at))
 unfolding longest_parts
 parts_going comps tiles b n parts at h = rw h refl
@@ -239,7 +239,7 @@ parts_same comps tiles b (suc n) (suc m) parts at below other =
           ∙ sym (parts_going comps tiles b m parts at f)
     ]
 
-parts_on : (comps tiles : ℕ) (b : List ℕ) (parts : List Part) (at : ℕ) → at < length b → parts_stop comps tiles b parts at ≡ false
+pub parts_on : (comps tiles : ℕ) (b : List ℕ) (parts : List Part) (at : ℕ) → at < length b → parts_stop comps tiles b parts at ≡ false
     → longest_parts comps tiles b (length b) parts at ≡ longest_parts comps tiles b (length b) (parts ++ part_at comps b at ∷ []) (end_of_part (part_at comps b at))
 parts_on comps tiles b parts at inside goes =
     let rises : at < end_of_part (part_at comps b at) = part_rises comps tiles b (comes_out_of_turn parts (sot_in b at)) at (goes_clear comps tiles b parts at goes) in

@@ -6,3 +6,4 @@ pub mod Tiles
 pub mod Params
 pub mod Index
 pub mod First
+pub mod Spells

@@ -5,6 +5,7 @@ mod checks;
 mod faults;
 mod headers;
 mod index;
+pub mod laws;
 mod lists;
 mod parts;
 mod queries;

@@ -1,10 +1,12 @@
-ghost use Rattle.std.specs.Prelude.{◌≡◌, ◌≤◌, ◌<◌, ◌+◌, ◌-◌, ◌*◌, ◌^◌, ◌==◌, ◌&&◌, not, nat_lt, length, drop, slice_index, IfOk, ℕ, [], true};
+ghost use Rattle.std.specs.Prelude.{◌≡◌, ◌≤◌, ◌<◌, ◌+◌, ◌-◌, ◌*◌, ◌^◌, ◌==◌, ◌&&◌, not, nat_lt, length, drop, slice_index, IfOk, Err, ℕ, [], true};
 ghost use Rattle.std.specs.List.{All, list_any};
 ghost use Rattle.std.specs.Option.{option_or};
 ghost use Rattle.jx_marker.specs.Rules.{siz_fits};
 ghost use Rattle.jx_geom.specs.Ranges.{CanvasInRange};
 ghost use Rattle.jx_stream.specs.declared.parts.Part.{Part};
+ghost use Rattle.jx_stream.specs.declared.Stream.{Stream};
 ghost use Rattle.jx_stream.specs.Faults.{Answers};
+ghost use Rattle.jx_stream.specs.Spells.{Spells};
 ghost use Rattle.jx_stream.specs.Headers.{slot_count};
 ghost use Rattle.jx_stream.specs.Parts.{Tracks, end_of_part};
 ghost use Rattle.jx_stream.specs.Params.{entries_fault, planes_fault};
@@ -231,7 +233,12 @@ fn read_rest(alloc: Global, bytes: &[u8], siz: Siz, start: usize) -> Result<Stre
 /// limits 3 (tiles) and 4 (planes of a band) that it passes, with what was counted. What follows EOC isn't read.
 pub fn read_stream(alloc: Global, bytes: &[u8]) -> Result<Stream, StreamFault>
     requires { length bytes.now ≤ 2 ^ 28 }
-    ensures { Answers result (first_fault bytes.now) (λ stream. stream ≡ stream_in bytes.now) }
+    ensures exact { Answers result (first_fault bytes.now) (λ stream. stream ≡ stream_in bytes.now) }
+    // What is read is spelled, and nothing else is.
+    ensures spelled { IfOk result (λ stream. Spells bytes.now stream) }
+    ensures only { IfOk result (λ stream. (other : Stream) → Spells bytes.now other → other ≡ stream) }
+    // Where a rule is violated nothing is spelled.
+    ensures unspelled { (number place : ℕ) (stream : Stream) → result ≡ Err (StreamFault.Rule number place) → Spells bytes.now stream → ⊥ }
 {
     let (siz, start) = read_front(alloc, bytes)?;
     let stream = read_rest(alloc, bytes, siz, start)?;

@@ -1,0 +1,194 @@
+-- The stream that a file spells is the one that stands in it, and no rule is violated.
+use Rattle.std.proofs.Common.{◌≡◌, ◌∙◌, ◌<◌, ◌+◌, ℕ, true, false, arith, List, [], ◌∷◌, ◌++◌, length, drop, refl, sym, ap, subst, Option, Some, None, cond, nat_lt, inl, inr, Result, Err}
+use Rattle.std.specs.List.{flat_map, find}
+use Rattle.std.specs.Option.{option_or}
+use Rattle.std.proofs.lemmas.List.{append_assoc}
+use Rattle.jx_marker.specs.declared.Segment.{Segment}
+use Rattle.jx_marker.specs.declared.Segment.TheVariants as segment
+use Rattle.jx_marker.specs.declared.Siz.{Siz}
+use Rattle.jx_marker.specs.Segments.{spelling}
+use Rattle.jx_stream.specs.declared.faults.StreamFault.{StreamFault}
+use Rattle.jx_stream.specs.declared.faults.StreamFault.TheVariants as fault
+use Rattle.jx_stream.proofs.HeaderLemmas.{is_or_not_true}
+use Rattle.jx_stream.specs.declared.headers.HeaderKind.TheVariants.{Main}
+use Rattle.jx_stream.specs.declared.headers.Header.{Header}
+use Rattle.jx_stream.specs.declared.parts.Part.{Part}
+use Rattle.jx_stream.specs.declared.Stream.{Stream}
+use Rattle.jx_stream.specs.declared.Tile.{Tile}
+use Rattle.jx_stream.specs.Faults.{broken, IsCause}
+use Rattle.jx_stream.specs.Headers.{header_at, header_fault}
+use Rattle.jx_stream.specs.Parts.{marker_at, Parts, parts_from, parts_fault, fault_after}
+use Rattle.jx_stream.specs.Tiles.{tiles_of}
+use Rattle.jx_stream.specs.Params.{tile_has_too_few, tile_planes, rule_9_of, limit_4_of, planes_fault}
+use Rattle.jx_stream.specs.First.{tile_number, siz_of, after_siz, front_fault, tiles_fault, lacks_default, main_header, main_fault, parts_after, lacks_part, body_fault, stream_from, stream_in, parameters_fault, later_fault, first_fault}
+use Rattle.jx_stream.specs.Spells.{TilePart, all_bytes, part_bytes, placed, AreSegments, AreTileParts, first_sot, Spells}
+use Rattle.jx_stream.proofs.FaultLemmas.{none_of_both, broken_false}
+use Rattle.jx_stream.proofs.FirstLemmas.{siz_stands, front_clear}
+use Rattle.jx_stream.proofs.SpellLemmas.{regroup}
+use Rattle.jx_stream.proofs.OneLemmas.{stands_there, drop_on, header_read, header_clear}
+use Rattle.jx_stream.proofs.PartsReadLemmas.{marker_is, parts_read}
+use Rattle.jx_stream.proofs.WholeLemmas.{whole_spelled}
+use Rattle.jx_marker.specs.Ranges.{AreBytes}
+
+-- the main header, with a tile-part after it
+record MainRead (comps : ℕ) (b : List ℕ) (main : List Segment) (start : ℕ) : Type 0 where
+  pub header : header_at Main comps b start ≡ record { segments = main; end = start + length (all_bytes comps main) }
+  pub clear : header_fault Main comps b start ≡ None
+
+main_read : (comps tiles : ℕ) (b rest tail : List ℕ) (main : List Segment) (parts : List TilePart) (before : List Part) (at start : ℕ) → 0 < length parts → AreTileParts comps tiles rest before at parts
+    → AreSegments Main comps [] main → drop start b ≡ all_bytes comps main ++ (flat_map (part_bytes comps) parts ++ tail) → MainRead comps b main start
+main_read comps tiles b rest tail main [] before at start some are segments h = absurd (omega arith)
+main_read comps tiles b rest tail main (p ∷ ps) before at start some are segments h =
+    let more = flat_map (part_bytes comps) ps ++ tail in
+    let later = all_bytes comps p.header ++ (spelling comps segment.Sod ++ (p.body ++ more)) in
+    let front : drop start b ≡ all_bytes comps main ++ (spelling comps (segment.Sot p.sot) ++ later) =
+    h ∙ ap (λ (x : List ℕ). all_bytes comps main ++ x) (append_assoc (part_bytes comps p) (flat_map (part_bytes comps) ps) tail
+    ∙ sym (regroup (spelling comps (segment.Sot p.sot)) (all_bytes comps p.header) (spelling comps segment.Sod) p.body more)) in
+    record {
+      header = header_read Main comps b main [] start (segment.Sot p.sot) later segments are.0.range refl refl front;
+      clear = header_clear Main comps b main start (segment.Sot p.sot) later segments are.0.range refl refl front;
+    }
+
+-- the body, from its bytes
+record BodyRead (comps tiles : ℕ) (b : List ℕ) (main : List Segment) (parts : List TilePart) (start : ℕ) : Type 0 where
+  pub clear : body_fault comps tiles b start ≡ None
+  pub segments : (main_header comps b start).segments ≡ main
+  pub all : (parts_after comps tiles b start).parts ≡ placed comps (start + length (all_bytes comps main)) parts
+
+body_read : (comps tiles : ℕ) (b rest : List ℕ) (main : List Segment) (parts : List TilePart) (start : ℕ) → 0 < length parts → AreTileParts comps tiles rest [] (start + length (all_bytes comps main)) parts
+    → AreSegments Main comps [] main → lacks_default main ≡ false → lacks_part (placed comps (start + length (all_bytes comps main)) parts) tiles ≡ false
+    → drop start b ≡ all_bytes comps main ++ (flat_map (part_bytes comps) parts ++ (255 ∷ 217 ∷ rest)) → BodyRead comps tiles b main parts start
+unfolding body_fault main_fault
+body_read comps tiles b rest main parts start some are segments_fit defaults each h =
+    let read = main_read comps tiles b rest (255 ∷ 217 ∷ rest) main parts [] (start + length (all_bytes comps main)) start some are segments_fit h in
+    let place = start + length (all_bytes comps main) in
+    let there : drop place b ≡ flat_map (part_bytes comps) parts ++ (255 ∷ 217 ∷ rest) =
+    drop_on b start (length (all_bytes comps main)) (all_bytes comps main) (flat_map (part_bytes comps) parts ++ (255 ∷ 217 ∷ rest)) h refl in
+    let walked = parts_read comps tiles b parts [] place rest are there in
+    let end = place + length (flat_map (part_bytes comps) parts) in
+    let eoc : marker_at b end 217 ≡ true = marker_is b end 217 rest (drop_on b place (length (flat_map (part_bytes comps) parts)) (flat_map (part_bytes comps) parts) (255 ∷ 217 ∷ rest) there refl) in
+    let segments_are : (main_header comps b start).segments ≡ main = ap (λ (x : Header). x.segments) read.header in
+    let end_is : (main_header comps b start).end ≡ place = ap (λ (x : Header). x.end) read.header in
+    let after : parts_after comps tiles b start ≡ record { parts = placed comps place parts; end = end } = ap (λ (n : ℕ). parts_from comps tiles b n) end_is ∙ walked in
+    let parts_clear : parts_fault comps tiles b (main_header comps b start).end ≡ None =
+    ap (λ (x : Parts). cond (marker_at b x.end 217) None (fault_after comps tiles b x.parts x.end)) after ∙ rw eoc refl in
+    let lacks : lacks_default (main_header comps b start).segments ≡ false = ap lacks_default segments_are ∙ defaults in
+    let lacks_one : lacks_part (parts_after comps tiles b start).parts tiles ≡ false = ap (λ (x : Parts). lacks_part x.parts tiles) after ∙ each in
+    record {
+      clear = none_of_both (option_or (header_fault Main comps b start) (broken 17 (main_header comps b start).end (lacks_default (main_header comps b start).segments)))
+          (option_or (parts_fault comps tiles b (main_header comps b start).end) (broken 24 (parts_after comps tiles b start).end (lacks_part (parts_after comps tiles b start).parts tiles)))
+          (none_of_both (header_fault Main comps b start) (broken 17 (main_header comps b start).end (lacks_default (main_header comps b start).segments)) read.clear
+          (broken_false 17 (main_header comps b start).end (lacks_default (main_header comps b start).segments) lacks))
+          (none_of_both (parts_fault comps tiles b (main_header comps b start).end) (broken 24 (parts_after comps tiles b start).end (lacks_part (parts_after comps tiles b start).parts tiles)) parts_clear
+          (broken_false 24 (parts_after comps tiles b start).end (lacks_part (parts_after comps tiles b start).parts tiles) lacks_one));
+      segments = segments_are;
+      all = ap (λ (x : Parts). x.parts) after;
+    }
+
+-- the front
+record FrontRead (b : List ℕ) (siz : Siz) (later : List ℕ) : Type 0 where
+  pub clear : front_fault b ≡ None
+  pub same : siz_of b ≡ siz
+  pub start : after_siz b ≡ 2 + length (spelling 1 (segment.Siz siz))
+  pub rest : drop (after_siz b) b ≡ later
+
+front_read : (b : List ℕ) (s : Stream) (later : List ℕ) → Spells b s → b ≡ spelling 1 segment.Soc ++ (spelling 1 (segment.Siz s.siz) ++ later) → FrontRead b s.siz later
+front_read b s later spells h =
+    let second : drop 2 b ≡ spelling 1 (segment.Siz s.siz) ++ later = ap (λ (x : List ℕ). drop 2 x) h in
+    let soc : marker_at b 0 79 ≡ true = marker_is b 0 79 (spelling 1 (segment.Siz s.siz) ++ later) h in
+    let siz : marker_at b 2 81 ≡ true = marker_is b 2 81 (drop 2 (spelling 1 (segment.Siz s.siz) ++ later)) second in
+    let there = stands_there 1 b 2 (segment.Siz s.siz) later spells.siz second in
+    let same : segment.Siz (siz_of b) ≡ segment.Siz s.siz = sym (siz_stands b siz) ∙ there.value in
+    let start : after_siz b ≡ 2 + length (spelling 1 (segment.Siz s.siz)) = ap (λ (n : ℕ). 2 + n) there.takes in
+    record {
+      clear = front_clear b soc siz there.rules;
+      same = cc;
+      start = start;
+      rest = ap (λ (n : ℕ). drop n b) start ∙ drop_on b 2 (length (spelling 1 (segment.Siz s.siz))) (spelling 1 (segment.Siz s.siz)) later second refl;
+    }
+
+-- what is spelled is read, and the first violation is a limit or none
+pub record IsRead (b : List ℕ) (s : Stream) : Type 0 where
+  pub stream : s ≡ stream_in b
+  pub first : first_fault b ≡ option_or (tiles_fault s.siz) (planes_fault s.main (length s.siz.comps) s.tiles)
+
+later_is : (siz : Siz) (b : List ℕ) (start : ℕ) (s : Stream) → body_fault (length siz.comps) (tile_number siz) b start ≡ None → stream_from siz b start ≡ s → find (tile_has_too_few s.main (length s.siz.comps)) s.tiles ≡ None
+    → later_fault siz b start ≡ option_or (tiles_fault siz) (planes_fault s.main (length s.siz.comps) s.tiles)
+unfolding later_fault
+later_is siz b start s body same entries =
+    ap (λ (x : Option StreamFault). option_or (tiles_fault siz) (option_or x (parameters_fault (stream_from siz b start)))) body
+    ∙ ap (λ (x : Stream). option_or (tiles_fault siz) (parameters_fault x)) same
+    ∙ ap (λ (x : Option Tile). option_or (tiles_fault siz) (option_or (rule_9_of x) (planes_fault s.main (length s.siz.comps) s.tiles))) entries
+
+first_is : (b : List ℕ) (siz : Siz) → front_fault b ≡ None → siz_of b ≡ siz → first_fault b ≡ later_fault siz b (after_siz b)
+unfolding first_fault
+first_is b siz clear same = ap (λ (x : Option StreamFault). option_or x (later_fault (siz_of b) b (after_siz b))) clear ∙ ap (λ (x : Siz). later_fault x b (after_siz b)) same
+
+stream_made : (siz : Siz) (b : List ℕ) (start : ℕ) (main : List Segment) (all : List Part) (tiles : List Tile) → (main_header (length siz.comps) b start).segments ≡ main
+    → (parts_after (length siz.comps) (tile_number siz) b start).parts ≡ all → tiles ≡ tiles_of main all (tile_number siz) → stream_from siz b start ≡ record { siz = siz; main = main; tiles = tiles }
+unfolding stream_from
+stream_made siz b start main all tiles of parts made = rw (of, parts, made) refl
+
+pub is_read : (b : List ℕ) (s : Stream) → Spells b s → IsRead b s
+is_read b s spells =
+    let comps = length s.siz.comps in
+    let tiles = tile_number s.siz in
+    let later = all_bytes comps s.main ++ (flat_map (part_bytes comps) spells.parts ++ (255 ∷ 217 ∷ spells.rest)) in
+    let front = front_read b s later spells spells.bytes in
+    let start = after_siz b in
+    let place : first_sot s.siz s.main ≡ start + length (all_bytes comps s.main) = ap (λ (n : ℕ). n + length (all_bytes comps s.main)) (sym front.start) in
+    let P : ℕ → Type 0 = λ n. AreTileParts comps tiles spells.rest [] n spells.parts in
+    let body = body_read comps tiles b spells.rest s.main spells.parts start spells.some (subst P place spells.tile_parts) spells.main spells.defaults
+    (sym (ap (λ (n : ℕ). lacks_part (placed comps n spells.parts) tiles) place) ∙ spells.each) front.rest in
+    let made : s.tiles ≡ tiles_of s.main (placed comps (start + length (all_bytes comps s.main)) spells.parts) tiles =
+    spells.tiles ∙ ap (λ (n : ℕ). tiles_of s.main (placed comps n spells.parts) tiles) place in
+    let same : stream_from s.siz b start ≡ s = stream_made s.siz b start s.main (placed comps (start + length (all_bytes comps s.main)) spells.parts) s.tiles body.segments body.all made in
+    record {
+      stream = sym (ap (λ (x : Siz). stream_from x b start) front.same ∙ same);
+      first = first_is b s.siz front.clear front.same ∙ later_is s.siz b start s body.clear same spells.entries;
+    }
+
+pub only_one : (b : List ℕ) (one other : Stream) → Spells b one → Spells b other → one ≡ other
+only_one b one other spells spells_other = (is_read b one spells).stream ∙ sym (is_read b other spells_other).stream
+
+-- the stream that is spelled, of which no limit is passed
+pub clear_limits : (b : List ℕ) (s : Stream) → Spells b s → tiles_fault s.siz ≡ None → planes_fault s.main (length s.siz.comps) s.tiles ≡ None → first_fault b ≡ None
+clear_limits b s spells tiles planes = (is_read b s spells).first ∙ none_of_both (tiles_fault s.siz) (planes_fault s.main (length s.siz.comps) s.tiles) tiles planes
+
+planes_alone : (found : Option ℕ) (number place : ℕ) → limit_4_of found ≡ Some (fault.Rule number place) → ⊥
+planes_alone None number place h = cc
+planes_alone (Some planes) number place h = cc
+
+-- a limit isn't a rule
+pub limits_alone : (siz : Siz) (main : List Segment) (comps : ℕ) (tiles : List Tile) (number place : ℕ) → option_or (tiles_fault siz) (planes_fault main comps tiles) ≡ Some (fault.Rule number place) → ⊥
+unfolding tiles_fault
+limits_alone siz main comps tiles number place =
+    elim (is_or_not_true (nat_lt 65535 (tile_number siz))) [
+      | inl t ↦ rw t (λ h. cc)
+      | inr f ↦ rw f (planes_alone (find (nat_lt 74) (flat_map (tile_planes main comps) tiles)) number place)
+    ]
+
+-- where a rule is violated nothing is spelled
+pub rule_unspelled : (b : List ℕ) (s : Stream) (number place : ℕ) → first_fault b ≡ Some (fault.Rule number place) → Spells b s → ⊥
+rule_unspelled b s number place h spells = limits_alone s.siz s.main (length s.siz.comps) s.tiles number place (sym (is_read b s spells).first ∙ h)
+
+-- what the answers of reading say
+
+pub read_only : (b : List ℕ) (s : Stream) → s ≡ stream_in b → (other : Stream) → Spells b other → other ≡ s
+read_only b s is other spells = (is_read b other spells).stream ∙ sym is
+
+pub read_spelled : (b : List ℕ) (s : Stream) → AreBytes b → first_fault b ≡ None → s ≡ stream_in b → Spells b s
+read_spelled b s are clear is = subst (λ (x : Stream). Spells b x) (sym is) (whole_spelled b are clear)
+
+same_fault : (e other : StreamFault) {X : Type 0} (r : Result X StreamFault) → r ≡ Err e → r ≡ Err other → e ≡ other
+same_fault e other r one two = let p : Err e ≡ Err other = sym one ∙ two in cc
+
+pub refused_unspelled : {X : Type 0} (b : List ℕ) (e : StreamFault) (r : Result X StreamFault) → r ≡ Err e → IsCause e (first_fault b)
+    → (number place : ℕ) (s : Stream) → r ≡ Err (fault.Rule number place) → Spells b s → ⊥
+refused_unspelled b e r is cause number place s refused spells =
+    let same : e ≡ fault.Rule number place = same_fault e (fault.Rule number place) r is refused in
+    rule_unspelled b s number place (subst (λ (x : StreamFault). IsCause x (first_fault b)) same cause) spells
+
+pub refused_by : {X : Type 0} (b : List ℕ) (y e : StreamFault) (r : Result X StreamFault) → r ≡ Err y → y ≡ e → IsCause e (first_fault b)
+    → (number place : ℕ) (s : Stream) → r ≡ Err (fault.Rule number place) → Spells b s → ⊥
+refused_by b y e r is same cause = refused_unspelled b y r is (subst (λ (x : StreamFault). IsCause x (first_fault b)) (sym same) cause)
