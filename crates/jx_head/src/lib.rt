@@ -1,0 +1,30 @@
+//! Packet headers, both ways (ITU-T T.800, B.10).
+#![tactic(auto)]
+
+mod known;
+
+pub use known::Known;
+
+/// The passes that one packet has of a block and that lie in one segment.
+#[derive(Clone, Copy, Debug, PartialEq, Eq)]
+pub struct Part {
+    /// The block's number in its precinct, over the bands in order and raster within a band.
+    pub block: u32,
+    /// The block's first pass of this part.
+    pub first: u16,
+    /// How many passes the part has, at least 1.
+    pub passes: u16,
+    /// How many bytes the part has.
+    pub length: u32,
+}
+
+/// Why a packet header is not read.
+#[derive(Clone, Copy, Debug, PartialEq, Eq)]
+pub enum HeadFault {
+    /// A bit of the header lies past the bytes, a stuffed bit is 1, or a length is 2^32 or more (rule 26).
+    Bits,
+    /// A block's zero planes reach its band's planes, or it has more passes than its planes allow (rule 27).
+    Planes,
+    /// Memory was refused.
+    NoMemory,
+}
