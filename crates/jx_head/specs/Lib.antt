@@ -2,3 +2,4 @@ pub mod Words
 pub mod Parts
 pub mod Packet
 pub mod Scan
+pub mod Frame
