@@ -222,7 +222,7 @@ pub record ZerosGo (values : ℕ → ℕ) (leaf more n : ℕ) (tree : Tree) (bit
   pub before : ValuesOf tree values
   pub read : n ≤ values leaf → ZerosRead values leaf more n tree bits z
 
-zeros_leaf : (leaf more n : ℕ) (tree : Tree) (bits : List Bool) (z : Zeros) → IsLeafOf tree leaf → scan_more_zeros tree leaf n more bits ≡ Some z → IsLeafOf z.tree leaf
+pub zeros_leaf : (leaf more n : ℕ) (tree : Tree) (bits : List Bool) (z : Zeros) → IsLeafOf tree leaf → scan_more_zeros tree leaf n more bits ≡ Some z → IsLeafOf z.tree leaf
 zeros_leaf leaf zero n tree bits z l h = let is : zeros_is n tree bits ≡ z = cc in subst (λ (x : Zeros). IsLeafOf x.tree leaf) is l
 zeros_leaf leaf (suc more) n tree bits z l h =
     by (λ (next : Tree) (rest : List Bool) (k : IsLeafOf next leaf) (e : scan_more_zeros next leaf (n + 1) more rest ≡ Some z). zeros_leaf leaf more (n + 1) next rest z k e) (ask tree leaf (n + 1) bits) refl h
@@ -236,7 +236,7 @@ zeros_leaf leaf (suc more) n tree bits z l h =
     by again None eq h = absurd cc
     by again (Some a) eq h = pick again a (ask_tree tree leaf (n + 1) l bits a eq) a.below h
 
-zeros_go : (values : ℕ → ℕ) (leaf more n : ℕ) (tree : Tree) (bits : List Bool) (z : Zeros) → IsLeafOf tree leaf → scan_more_zeros tree leaf n more bits ≡ Some z → ValuesOf z.tree values →
+pub zeros_go : (values : ℕ → ℕ) (leaf more n : ℕ) (tree : Tree) (bits : List Bool) (z : Zeros) → IsLeafOf tree leaf → scan_more_zeros tree leaf n more bits ≡ Some z → ValuesOf z.tree values →
     ZerosGo values leaf more n tree bits z
 zeros_go values leaf zero n tree bits z l h v =
     let is : zeros_is n tree bits ≡ z = cc in
