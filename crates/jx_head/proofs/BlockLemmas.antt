@@ -120,35 +120,35 @@ zero_leaf None tree leaf planes bits z l h = zeros_leaf leaf planes 0 tree bits 
 zero_leaf (Some n) tree leaf planes bits z l h = let is : zeros_is n tree bits ≡ z = cc in subst (λ (x : Zeros). IsLeafOf x.tree leaf) is l
 
 -- ---- what it has where it is included
-nat_lt-false : (a b : ℕ) → b ≤ a → nat_lt a b ≡ false
+pub nat_lt-false : (a b : ℕ) → b ≤ a → nat_lt a b ≡ false
 nat_lt-false a b h = grind (arith, nat_tests)
 
-nat_lt-true : (a b : ℕ) → a < b → nat_lt a b ≡ true
+pub nat_lt-true : (a b : ℕ) → a < b → nat_lt a b ≡ true
 nat_lt-true a b h = grind (arith, nat_tests)
 
-nat_le-true : (a b : ℕ) → a ≤ b → nat_le a b ≡ true
+pub nat_le-true : (a b : ℕ) → a ≤ b → nat_le a b ≡ true
 nat_le-true a b h = grind (arith, nat_tests)
 
-nat_le-false : (a b : ℕ) → b < a → nat_le a b ≡ false
+pub nat_le-false : (a b : ℕ) → b < a → nat_le a b ≡ false
 nat_le-false a b h = grind (arith, nat_tests)
 
-lt-of : (a b : ℕ) → nat_lt a b ≡ true → a < b
+pub lt-of : (a b : ℕ) → nat_lt a b ≡ true → a < b
 lt-of a b h = grind (arith, nat_tests)
 
-le-of : (a b : ℕ) → nat_lt a b ≡ false → b ≤ a
+pub le-of : (a b : ℕ) → nat_lt a b ≡ false → b ≤ a
 le-of a b h = grind (arith, nat_tests)
 
-le-is : (a b : ℕ) → nat_le a b ≡ true → a ≤ b
+pub le-is : (a b : ℕ) → nat_le a b ≡ true → a ≤ b
 le-is a b h = grind (arith, nat_tests)
 
-lt-is : (a b : ℕ) → nat_le a b ≡ false → b < a
+pub lt-is : (a b : ℕ) → nat_le a b ≡ false → b < a
 lt-is a b h = grind (arith, nat_tests)
 
 -- after the code word of the passes
-abbrev on_passes : ℕ → ℕ → ℕ → ℕ → Known → Found ℕ → Result (Found Entry) HeadFault
+abbrev pub on_passes : ℕ → ℕ → ℕ → ℕ → Known → Found ℕ → Result (Found Entry) HeadFault
 on_passes style block planes z known p = cond (nat_lt (most_passes planes z) (known.passes + p.value)) (Err Planes) (or_bits (scan_lengths style block known p.value p.rest))
 
-abbrev on_raise : ℕ → ℕ → Known → ℕ → Found ℕ → Option (Found Entry)
+abbrev pub on_raise : ℕ → ℕ → Known → ℕ → Found ℕ → Option (Found Entry)
 on_raise style block known n k = option_map (entry_of n k.value) (scan_parts (known.lblock + k.value) block known.passes (cut style known.passes n) k.rest)
 
 abbrev entry_is : ℕ → ℕ → List Part → Entry
@@ -218,7 +218,7 @@ pub record TooMany (planes z : ℕ) (known : Known) (bits : List Bool) : Type 0 
   pub rest : List Bool
   pub stands : bits ≡ pass_word passes ++ rest
 
-only_bits : {A : Type 0} (o : Option A) → or_bits o ≡ Err Planes → ⊥
+pub only_bits : {A : Type 0} (o : Option A) → or_bits o ≡ Err Planes → ⊥
 only_bits None h = cc
 only_bits (Some x) h = cc
 
@@ -242,11 +242,11 @@ pub record IsBlockOf (cells : Cells) (leaf : ℕ) : Type 0 where
 abbrev pub told_is : Entry → Cells → List Bool → Told
 told_is e cells rest = record { entry = e; cells = cells; rest = rest }
 
-abbrev on_zeros : ℕ → ℕ → ℕ → Cells → Zeros → Result Told HeadFault
+abbrev pub on_zeros : ℕ → ℕ → ℕ → Cells → Zeros → Result Told HeadFault
 on_zeros style block leaf cells z =
     cond (nat_le cells.planes z.zeros) (Err Planes) (and_told (told_of (record cells { zeros = z.tree }) leaf z.zeros) (scan_entry style block cells.planes z.zeros (block_at cells leaf) z.rest))
 
-abbrev on_first : ℕ → ℕ → ℕ → Cells → Asked → Result Told HeadFault
+abbrev pub on_first : ℕ → ℕ → ℕ → Cells → Asked → Result Told HeadFault
 on_first style block leaf cells a =
     cond a.below (scan_included style block leaf (record cells { first = a.tree }) a.rest) (Ok (told_is nothing (record cells { first = a.tree }) a.rest))
 

@@ -1,3 +1,4 @@
 pub mod WordLemmas
 pub mod AskLemmas
 pub mod BlockLemmas
+pub mod BandLemmas

@@ -3,3 +3,4 @@ pub mod Parts
 pub mod Packet
 pub mod Scan
 pub mod Frame
+pub mod Kept
