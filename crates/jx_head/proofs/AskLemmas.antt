@@ -19,12 +19,7 @@ use Rattle.jx_head.specs.declared.HeadFault.TheVariants.{Bits, Planes}
 use Rattle.jx_head.specs.Packet.{asked, zero_questions, zero_bits, zero_after, zero_planes, first_bits, first_after, IsInclusion}
 use Rattle.jx_head.specs.Scan.{Asked, asked_of, ask, Zeros, scan_more_zeros, scan_zeros, scan_first, scan_bit}
 use Rattle.jx_head.specs.Frame.{Frame, frame}
-
--- a tag tree, and one of its leaves
-pub record IsLeafOf (tree : Tree) (leaf : ℕ) : Type 0 where
-  pub shape : IsShape tree.wide tree.high
-  pub is : IsTree tree
-  pub inside : leaf < tree.wide * tree.high
+use Rattle.jx_head.specs.Kept.{IsLeafOf}
 
 -- ---- one query
 abbrev pub asked_is : Bool → Tree → List Bool → Asked
@@ -299,3 +294,8 @@ zeros_go values leaf (suc more) n tree bits z l h v =
         (o : Option Asked) → ask tree leaf (n + 1) bits ≡ o → option_and_then (choose leaf n more) o ≡ Some z → ZerosGo values leaf (suc more) n tree bits z
     by again None eq h = absurd cc
     by again (Some a) eq h = pick again a eq a.below refl h
+
+-- ---- how many bits are left
+pub few_left : (r : Reading) → length (to_come r) ≤ (frame r).total
+unfolding frame
+few_left r = omega arith

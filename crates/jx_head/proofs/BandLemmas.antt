@@ -11,9 +11,9 @@ use Rattle.jx_head.specs.declared.HeadFault.TheVariants.{Bits, Planes}
 use Rattle.jx_head.specs.declared.known.Known.{Known}
 use Rattle.jx_head.specs.Words.{pass_word}
 use Rattle.jx_head.specs.Packet.{Cells, Values, Agree, Entry, nothing, contributes, block_at, block_after, asked, zero_questions, zero_bits, zero_after, zero_planes, first_bits, first_after, IsInclusion, entry_bits, cells_first, cells_included, entry_after, IsEntry, ReachesPlanes, PassesPlanes, Breaks, blocks_bits, blocks_after, AreEntries, parts_told, BlocksBreak, BandTold, IsBandTold, band_bits, band_after, bands_bits, bands_after, AreBandsTold, bands_parts, BandBreaks, BandStands, BandsBreak}
-use Rattle.jx_head.specs.Kept.{AreTrees}
+use Rattle.jx_head.specs.Kept.{AreTrees, IsLeafOf}
 use Rattle.jx_head.specs.Scan.{Found, or_bits, and_then, Asked, scan_first, Zeros, scan_zeros, scan_entry, Told, told_of, and_told, scan_included, scan_block, AllTold, after_told, and_parts, scan_blocks, scan_band, BandsRead, after_band, and_band, scan_bands}
-use Rattle.jx_head.proofs.AskLemmas.{IsLeafOf, after_leaf, after_agrees, zeros_is}
+use Rattle.jx_head.proofs.AskLemmas.{after_leaf, after_agrees, zeros_is}
 use Rattle.jx_head.proofs.BlockLemmas.{IsBlockOf, told_is, on_zeros, on_first, first_leaf, first_agrees, zero_leaf, zero_read, below_counted, reaches_counted, counted, entry_breaks, TooMany, only_bits, block_made, block_over, BlockRead, block_read, FirstRead, first_read, le-is, lt-is}
 
 -- ---- trees stay trees

@@ -13,9 +13,10 @@ use Rattle.jx_head.specs.declared.known.Known.{Known}
 use Rattle.jx_head.specs.Words.{IsCount, pass_word, raise_word}
 use Rattle.jx_head.specs.Parts.{cut, AreParts, length_bits}
 use Rattle.jx_head.specs.Packet.{Cells, Values, Agree, Entry, nothing, contributes, block_at, block_after, asked, zero_questions, zero_bits, zero_after, zero_planes, first_bits, first_after, IsInclusion, told_bits, included_bits, entry_bits, cells_first, cells_included, entry_after, most_passes, IsIncluded, IsEntry, ReachesPlanes, PassesPlanes, Breaks}
+use Rattle.jx_head.specs.Kept.{IsLeafOf}
 use Rattle.jx_head.specs.Scan.{Found, or_bits, and_then, scan_passes, scan_raise, scan_parts, Asked, ask, scan_bit, scan_first, Zeros, scan_more_zeros, scan_zeros, entry_of, scan_lengths, scan_entry, Told, told_of, and_told, scan_included, scan_block}
 use Rattle.jx_head.proofs.WordLemmas.{found, passes_made, passes_read, PassesRead, raise_made, raise_read, parts_made, parts_read, PartsRead}
-use Rattle.jx_head.proofs.AskLemmas.{IsLeafOf, asked_is, AskRead, ask_made, ask_read, ask_tree, after_leaf, after_agrees, zeros_is, zeros_made, ZerosRead, ZerosGo, zeros_leaf, zeros_go}
+use Rattle.jx_head.proofs.AskLemmas.{asked_is, AskRead, ask_made, ask_read, ask_tree, after_leaf, after_agrees, zeros_is, zeros_made, ZerosRead, ZerosGo, zeros_leaf, zeros_go}
 
 -- ---- whether it is included
 pub first_made : (known : Option ℕ) (values : ℕ → ℕ) (tree : Tree) (leaf layer : ℕ) (included : Bool) (rest : List Bool) → IsLeafOf tree leaf → ValuesOf tree values →

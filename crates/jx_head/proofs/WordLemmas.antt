@@ -1,9 +1,9 @@
 -- Laws of the code words.
-use Rattle.std.proofs.Common.{◌≡◌, ℕ, zero, suc, ◌+◌, ◌-◌, ◌*◌, ◌/◌, ◌%◌, ◌^◌, ◌<◌, ◌≤◌, ◌==◌, nat_le, nat_lt, Bool, true, false, ◌&&◌, List, [], ◌∷◌, ◌++◌, length, take, drop, replicate, refl, sym, ap, ◌∙◌, subst, cond, arith, append_assoc, length-append, Some, None, inl, inr, ◌⊎◌}
+use Rattle.std.proofs.Common.{◌≡◌, ℕ, zero, suc, ◌+◌, ◌-◌, ◌*◌, ◌/◌, ◌%◌, ◌^◌, ◌<◌, ◌≤◌, ◌==◌, nat_le, nat_lt, Bool, true, false, ◌&&◌, List, [], ◌∷◌, ◌++◌, length, take, drop, replicate, refl, sym, ap, ◌∙◌, subst, cond, arith, append_assoc, length-append, pow_mono, Some, None, inl, inr, ◌⊎◌}
 use Rattle.std.specs.Prelude.{Option, option_map, option_and_then}
 use Rattle.std.proofs.lemmas.List.{take-append-drop, append-nil}
 use Rattle.std.proofs.Math.Seq.{drop-append_seam}
-use Rattle.std.proofs.Math.Nat.{mod-eq_of_lt}
+use Rattle.std.proofs.Math.Nat.{mod-eq_of_lt, two-pow-succ}
 use Rattle.std.proofs.lemmas.Bool.Decides.{nat_tests}
 use Rattle.std.proofs.lemmas.Bool.{cases_lt}
 use Rattle.jx_tagtree.specs.Header.{low_bits, number_of}
@@ -310,3 +310,138 @@ parts_read lblock block first (run ∷ runs) bits f h =
         PartsRead lblock block first (run ∷ runs) bits f
     by again None eq h = absurd cc
     by again (Some g) eq h = more again g (number_read (width lblock run) bits g eq) (scan_parts lblock block (first + run) runs g.rest) refl h
+
+-- ---- a number, bit by bit
+pub number_step : (n : ℕ) (bits : List Bool) (b : Bool) (rest : List Bool) → drop n bits ≡ b ∷ rest → number_of (n + 1) bits ≡ 2 * number_of n bits + cond b 1 0
+number_step zero [] b rest h = absurd cc
+number_step zero (x ∷ bits) b rest h =
+    let e : x ≡ b = cc in
+    first x ∙ ap (λ (y : Bool). 2 * 0 + cond y 1 0) e
+  where
+    first : (x : Bool) → number_of (0 + 1) (x ∷ bits) ≡ 2 * 0 + cond x 1 0
+    first true = refl
+    first false = refl
+number_step (suc n) [] b rest h = absurd cc
+number_step (suc n) (x ∷ bits) b rest h = let e : suc n + 1 ≡ suc (n + 1) = omega arith in ap (λ (k : ℕ). number_of k (x ∷ bits)) e ∙ by x (number_step n bits b rest h)
+  where
+    by : (x : Bool) → number_of (n + 1) bits ≡ 2 * number_of n bits + cond b 1 0 → number_of (suc (n + 1)) (x ∷ bits) ≡ 2 * number_of (suc n) (x ∷ bits) + cond b 1 0
+    by true i = let p : 2 ^ (n + 1) ≡ 2 ^ n + 2 ^ n = ap (λ (k : ℕ). 2 ^ k) (let s : n + 1 ≡ suc n = omega arith in s) ∙ two-pow-succ n in omega arith
+    by false i = i
+
+pub number_grows : (n k : ℕ) (bits : List Bool) → number_of n bits ≤ number_of (n + k) bits
+number_grows zero k bits = omega arith
+number_grows (suc n) k [] = omega arith
+number_grows (suc n) k (x ∷ bits) = let e : suc n + k ≡ suc (n + k) = omega arith in
+    subst (λ (m : ℕ). number_of (suc n) (x ∷ bits) ≤ number_of m (x ∷ bits)) (sym e) (by x (number_grows n k bits))
+  where
+    by : (x : Bool) → number_of n bits ≤ number_of (n + k) bits → number_of (suc n) (x ∷ bits) ≤ number_of (suc (n + k)) (x ∷ bits)
+    by true i = let p : 2 ^ n ≤ 2 ^ (n + k) = pow_mono (let s : n ≤ n + k = omega arith in s) in omega arith
+    by false i = i
+
+pub number_whole : (n : ℕ) (bits : List Bool) → n ≤ length bits → number_of n bits < 2 ^ 32 → scan_number n bits ≡ Some (found (number_of n bits) (drop n bits))
+unfolding scan_number
+number_whole n bits long short =
+    let a : nat_le n (length bits) ≡ true = grind (arith, nat_tests) in
+    let b : nat_lt (number_of n bits) (2 ^ 32) ≡ true = grind (arith, nat_tests) in
+    rw (a, b) refl
+
+pub number_ended : (n : ℕ) (bits : List Bool) → length bits < n → scan_number n bits ≡ None
+unfolding scan_number
+number_ended n bits short =
+    let a : nat_le n (length bits) ≡ false = grind (arith, nat_tests) in
+    rw a refl
+
+pub number_large : (n m : ℕ) (bits : List Bool) → n ≤ m → 2 ^ 32 ≤ number_of n bits → scan_number m bits ≡ None
+unfolding scan_number
+number_large n m bits le large =
+    let g : number_of n bits ≤ number_of (n + (m - n)) bits = number_grows n (m - n) bits in
+    let e : n + (m - n) ≡ m = omega arith in
+    let g' : number_of n bits ≤ number_of m bits = subst (λ (k : ℕ). number_of n bits ≤ number_of k bits) e g in
+    let b : nat_lt (number_of m bits) (2 ^ 32) ≡ false = grind (arith, nat_tests) in
+    by (nat_le m (length bits)) (nat_lt (number_of m bits) (2 ^ 32)) b
+  where
+    by : (x y : Bool) → y ≡ false → (cond (x && y) (Some (found (number_of m bits) (drop m bits))) None) ≡ None
+    by true y e = ap (λ (z : Bool). cond z (Some (found (number_of m bits) (drop m bits))) None) e
+    by false y e = refl
+
+pub drop_step : (n : ℕ) (bits : List Bool) (b : Bool) (rest : List Bool) → drop n bits ≡ b ∷ rest → (drop (n + 1) bits ≡ rest) × (n + 1 ≤ length bits)
+drop_step zero [] b rest h = absurd cc
+drop_step zero (x ∷ bits) b rest h = (cc, omega arith)
+drop_step (suc n) [] b rest h = absurd cc
+drop_step (suc n) (x ∷ bits) b rest h =
+    let again = drop_step n bits b rest h in
+    let e : suc n + 1 ≡ suc (n + 1) = omega arith in
+    let le : n + 1 ≤ length bits = again.1 in
+    (ap (λ (k : ℕ). drop k (x ∷ bits)) e ∙ again.0, omega arith)
+
+pub drop_end : (n : ℕ) (bits : List Bool) → drop n bits ≡ [] → length bits ≤ n
+drop_end zero [] h = omega arith
+drop_end zero (x ∷ bits) h = absurd cc
+drop_end (suc n) [] h = omega arith
+drop_end (suc n) (x ∷ bits) h = let le : length bits ≤ n = drop_end n bits h in omega arith
+
+-- of a number, what was taken of its bits
+pub record Taking (width taken value : ℕ) (bits left : List Bool) : Type 0 where
+  pub within : taken ≤ width
+  pub left_is : drop taken bits ≡ left
+  pub there : taken ≤ length bits
+  pub value_is : value ≡ number_of taken bits
+  pub short : value < 2 ^ 32
+
+pub taking_start : (width : ℕ) (bits : List Bool) → Taking width 0 0 bits bits
+taking_start width bits = record { within = omega arith; left_is = refl; there = omega arith; value_is = refl; short = omega arith }
+
+pub taking_bit : (width taken value next : ℕ) (bits left : List Bool) (b : Bool) (rest : List Bool) → Taking width taken value bits left → taken < width → left ≡ b ∷ rest → next ≡ 2 * value + cond b 1 0 →
+    (next ≡ number_of (taken + 1) bits) × (next < 2 ^ 32 → Taking width (taken + 1) next bits rest)
+taking_bit width taken value next bits left b rest t lt is e =
+    let s = drop_step taken bits b rest (t.left_is ∙ is) in
+    let n : next ≡ number_of (taken + 1) bits = e ∙ ap (λ (m : ℕ). 2 * m + cond b 1 0) t.value_is ∙ sym (number_step taken bits b rest (t.left_is ∙ is)) in
+    (n, λ small. record { within = omega arith; left_is = s.0; there = s.1; value_is = n; short = small })
+
+pub taking_large : (width taken value next : ℕ) (bits left : List Bool) (b : Bool) (rest : List Bool) → Taking width taken value bits left → taken < width → left ≡ b ∷ rest → next ≡ 2 * value + cond b 1 0 →
+    2 ^ 32 ≤ next → scan_number width bits ≡ None
+taking_large width taken value next bits left b rest t lt is e large =
+    let n : next ≡ number_of (taken + 1) bits = (taking_bit width taken value next bits left b rest t lt is e).0 in
+    number_large (taken + 1) width bits (omega arith) (subst (λ (m : ℕ). 2 ^ 32 ≤ m) n large)
+
+pub taking_end : (width taken value : ℕ) (bits left : List Bool) → Taking width taken value bits left → width ≤ taken → scan_number width bits ≡ Some (found value left)
+taking_end width taken value bits left t ge =
+    let within : taken ≤ width = t.within in
+    let e : taken ≡ width = omega arith in
+    let v : number_of width bits ≡ value = ap (λ (k : ℕ). number_of k bits) (sym e) ∙ sym t.value_is in
+    let l : drop width bits ≡ left = ap (λ (k : ℕ). drop k bits) (sym e) ∙ t.left_is in
+    number_whole width bits (subst (λ (k : ℕ). k ≤ length bits) e t.there) (subst (λ (m : ℕ). m < 2 ^ 32) (sym v) t.short)
+    ∙ ap (λ (m : ℕ). Some (found m (drop width bits))) v ∙ ap (λ (q : List Bool). Some (found value q)) l
+
+pub taking_none : (width taken value : ℕ) (bits left : List Bool) → Taking width taken value bits left → taken < width → left ≡ [] → scan_number width bits ≡ None
+taking_none width taken value bits left t lt none =
+    let le : length bits ≤ taken = drop_end taken bits (t.left_is ∙ none) in
+    number_ended width bits (omega arith)
+
+-- ---- what the reader's functions answer
+pub passes_none : (bits : List Bool) → bits ≡ [] → scan_passes bits ≡ None
+unfolding scan_passes
+passes_none bits e = ap scan_passes e
+
+pub passes_one : (bits rest : List Bool) → bits ≡ false ∷ rest → scan_passes bits ≡ Some (found 1 rest)
+unfolding scan_passes
+passes_one bits rest e = ap scan_passes e
+
+pub passes_half : (bits rest : List Bool) → bits ≡ true ∷ rest → rest ≡ [] → scan_passes bits ≡ None
+unfolding scan_passes
+passes_half bits rest e f = ap scan_passes (e ∙ ap (λ (l : List Bool). true ∷ l) f)
+
+pub passes_two : (bits rest more : List Bool) → bits ≡ true ∷ rest → rest ≡ false ∷ more → scan_passes bits ≡ Some (found 2 more)
+unfolding scan_passes
+passes_two bits rest more e f = ap scan_passes (e ∙ ap (λ (l : List Bool). true ∷ l) f)
+
+pub passes_more : (bits rest more : List Bool) → bits ≡ true ∷ rest → rest ≡ true ∷ more → scan_passes bits ≡ scan_passes_2 more
+unfolding scan_passes
+passes_more bits rest more e f = ap scan_passes (e ∙ ap (λ (l : List Bool). true ∷ l) f)
+
+pub taking_fits : (width taken value : ℕ) (bits left : List Bool) → Taking width taken value bits left → value < 2 ^ width
+taking_fits width taken value bits left t =
+    let lt : number_of taken bits < 2 ^ taken = number_of-lt taken bits in
+    let le : 2 ^ taken ≤ 2 ^ width = pow_mono t.within in
+    let e : value ≡ number_of taken bits = t.value_is in
+    omega arith

@@ -1,9 +1,15 @@
 -- What is true of what is known.
-use Rattle.std.specs.Prelude.{◌≡◌, ℕ, ◌*◌, ◌≤◌, ◌^◌, length, List, [], ◌∷◌}
+use Rattle.std.specs.Prelude.{◌≡◌, ℕ, ◌*◌, ◌≤◌, ◌<◌, ◌^◌, length, List, [], ◌∷◌}
 use Rattle.jx_tagtree.specs.Shape.{IsShape}
 use Rattle.jx_tagtree.specs.TagTree.{Tree, IsTree}
 use Rattle.jx_head.specs.declared.known.Known.{Known}
 use Rattle.jx_head.specs.Packet.{Cells, State, block_at}
+
+-- a tag tree, and one of its leaves
+pub record IsLeafOf (tree : Tree) (leaf : ℕ) : Type 0 where
+  pub shape : IsShape tree.wide tree.high
+  pub is : IsTree tree
+  pub inside : leaf < tree.wide * tree.high
 
 -- a band's two tag trees, with a leaf for each block
 pub record AreTrees (cells : Cells) : Type 0 where

@@ -3,4 +3,5 @@ pub mod Parts
 pub mod Packet
 pub mod Scan
 pub mod Frame
+pub mod Said
 pub mod Kept

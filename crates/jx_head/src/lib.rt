@@ -1,7 +1,11 @@
 //! Packet headers, both ways (ITU-T T.800, B.10).
 #![tactic(auto)]
 
+mod band;
 mod known;
+mod parts;
+mod query;
+mod words;
 
 pub use known::Known;
 
