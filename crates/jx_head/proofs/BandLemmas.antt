@@ -1,17 +1,25 @@
 -- What is read of the blocks of a band, and of the bands of a precinct.
-use Rattle.std.proofs.Common.{◌≡◌, ℕ, zero, suc, ◌+◌, ◌-◌, ◌*◌, ◌<◌, ◌≤◌, ◌^◌, min, max, nat_lt, nat_le, Bool, true, false, ◌&&◌, List, [], ◌∷◌, ◌++◌, length, drop, refl, sym, ap, ◌∙◌, subst, cond, arith, append_assoc, Some, None, Ok, Err, Result, inl, inr, ◌⊎◌, length-set}
+use Rattle.std.proofs.Common.{◌≡◌, ℕ, zero, suc, ◌+◌, ◌-◌, ◌*◌, ◌<◌, ◌≤◌, ◌^◌, min, max, nat_lt, nat_le, Bool, true, false, ◌&&◌, List, [], ◌∷◌, ◌++◌, length, drop, refl, sym, ap, ◌∙◌, subst, cond, arith, append_assoc, Some, None, Ok, Err, Result, inl, inr, ◌⊎◌, length-set, length-append, get_or, set, ◌≢◌, get_or-set_same, get_or-set_other}
 use Rattle.std.specs.Prelude.{Option, slice_set}
+use Rattle.std.specs.Bool.{MatchBool}
+use Rattle.std.proofs.lemmas.Bool.{cases_lt}
+use Rattle.std.proofs.lemmas.List.{set_past, get_or_default, append-nil}
+use Rattle.jx_base.specs.Passes.{end_pass}
+use Rattle.jx_tagtree.specs.Header.{low_bits}
+use Rattle.jx_tagtree.proofs.HeaderLemmas.{length-low_bits}
 use Rattle.jx_tagtree.specs.Shape.{IsShape}
 use Rattle.jx_tagtree.specs.TagTree.{Tree, ValuesOf, IsTree, query, tree_after}
 use Rattle.jx_tagtree.specs.Questions.{Question, all_bits, after_all}
 use Rattle.jx_tagtree.proofs.QuestionLemmas.{known_values}
 use Rattle.jx_head.specs.declared.Part.{Part}
 use Rattle.jx_head.specs.declared.HeadFault.{HeadFault}
-use Rattle.jx_head.specs.declared.HeadFault.TheVariants.{Bits, Planes}
+use Rattle.jx_head.specs.declared.HeadFault.TheVariants.{Bits, Planes, NoMemory}
+use Rattle.jx_head.specs.Said.{Refuses, BandSaid}
 use Rattle.jx_head.specs.declared.known.Known.{Known}
-use Rattle.jx_head.specs.Words.{pass_word}
-use Rattle.jx_head.specs.Packet.{Cells, Values, Agree, Entry, nothing, contributes, block_at, block_after, asked, zero_questions, zero_bits, zero_after, zero_planes, first_bits, first_after, IsInclusion, entry_bits, cells_first, cells_included, entry_after, IsEntry, ReachesPlanes, PassesPlanes, Breaks, blocks_bits, blocks_after, AreEntries, parts_told, BlocksBreak, BandTold, IsBandTold, band_bits, band_after, bands_bits, bands_after, AreBandsTold, bands_parts, BandBreaks, BandStands, BandsBreak}
-use Rattle.jx_head.specs.Kept.{AreTrees, IsLeafOf}
+use Rattle.jx_head.specs.Words.{pass_word, raise_word}
+use Rattle.jx_head.specs.Parts.{one_more, cut, width, AreParts, length_bits}
+use Rattle.jx_head.specs.Packet.{Cells, Values, Agree, Entry, nothing, contributes, block_at, block_after, unknown_block, told_bits, included_bits, most_passes, IsIncluded, asked, zero_questions, zero_bits, zero_after, zero_planes, first_bits, first_after, IsInclusion, entry_bits, cells_first, cells_included, entry_after, IsEntry, ReachesPlanes, PassesPlanes, Breaks, blocks_bits, blocks_after, AreEntries, parts_told, BlocksBreak, BandTold, IsBandTold, band_bits, band_after, bands_bits, bands_after, AreBandsTold, bands_parts, BandBreaks, BandStands, BandsBreak}
+use Rattle.jx_head.specs.Kept.{AreTrees, IsLeafOf, IsKnown, IsBand}
 use Rattle.jx_head.specs.Scan.{Found, or_bits, and_then, Asked, scan_first, Zeros, scan_zeros, scan_entry, Told, told_of, and_told, scan_included, scan_block, AllTold, after_told, and_parts, scan_blocks, scan_band, BandsRead, after_band, and_band, scan_bands}
 use Rattle.jx_head.proofs.AskLemmas.{after_leaf, after_agrees, zeros_is}
 use Rattle.jx_head.proofs.BlockLemmas.{IsBlockOf, told_is, on_zeros, on_first, first_leaf, first_agrees, zero_leaf, zero_read, below_counted, reaches_counted, counted, entry_breaks, TooMany, only_bits, block_made, block_over, BlockRead, block_read, FirstRead, first_read, le-is, lt-is}
@@ -549,3 +557,162 @@ bands_breaks style layer base (cells ∷ bands) bits t h =
     by again (Ok a) eq h =
         let o = band_go style layer base cells bits a t.0 eq in
         inr (a.rest, record { told = o.told; is = o.is; stands = o.bits_are }, again a.rest (bands_fault a (scan_bands style layer (base + length cells.blocks) bands a.rest) h))
+
+-- ---- what is true of a band stays true
+first_size : (known : Option ℕ) (tree : Tree) (leaf layer : ℕ) (bits : List Bool) (a : Asked) → IsLeafOf tree leaf → scan_first known tree leaf layer bits ≡ Some a → (a.tree.wide ≡ tree.wide) × (a.tree.high ≡ tree.high)
+first_size known tree leaf layer bits a l h =
+    let f = known_values a.tree (first_leaf known tree leaf layer bits a l h).is in
+    let r : FirstRead known f.0 tree leaf layer bits a = first_read known f.0 tree leaf layer bits a l h f.1 in
+    (ap (λ (t : Tree). t.wide) r.tree_is ∙ first_wide known f.0 tree leaf layer, ap (λ (t : Tree). t.high) r.tree_is ∙ first_high known f.0 tree leaf layer)
+
+pub first_band : (cells old : Cells) (leaf layer : ℕ) (bits : List Bool) (a : Asked) → cells ≡ old → IsBand old → leaf < length old.blocks →
+    scan_first (block_at cells leaf).zero cells.first leaf layer bits ≡ Some a → IsBand (record cells { first = a.tree })
+first_band cells old leaf layer bits a same b lt h =
+    let b' : IsBand cells = subst (λ (c : Cells). IsBand c) (sym same) b in
+    let lt' : leaf < length cells.blocks = subst (λ (c : Cells). leaf < length c.blocks) (sym same) lt in
+    let l = (block_of cells leaf b'.trees lt').in_first in
+    let s = first_size (block_at cells leaf).zero cells.first leaf layer bits a l h in
+    let size : SameSize (record cells { first = a.tree }) cells = record { wide = s.0; high = s.1; zeros_wide = refl; zeros_high = refl; long = refl; planes = refl } in
+    record {
+      trees = same_trees (record cells { first = a.tree }) cells size b'.trees (first_leaf (block_at cells leaf).zero cells.first leaf layer bits a l h).is b'.trees.zeros_is;
+      planes = b'.planes;
+      blocks = b'.blocks;
+    }
+
+-- a length's field lies within the bits
+cut_some : (style first n : ℕ) → 1 ≤ n → (run : ℕ) × (runs : List ℕ) × (cut style first n ≡ run ∷ runs)
+cut_some style first zero ge = absurd (omega arith)
+cut_some style first (suc n) ge = by (end_pass style first) (cut style (first + 1) n)
+  where
+    by : (b : Bool) (runs : List ℕ) → (run : ℕ) × (more : List ℕ) × (cond b (1 ∷ runs) (one_more runs) ≡ run ∷ more)
+    by true runs = (1, runs, refl)
+    by false [] = (1, [], refl)
+    by false (run ∷ runs) = (suc run, runs, refl)
+
+lblock_fits : (lblock block first : ℕ) (runs : List ℕ) (parts : List Part) (run : ℕ) (more : List ℕ) → runs ≡ run ∷ more → AreParts lblock block first runs parts → lblock ≤ length (length_bits lblock parts)
+lblock_fits lblock block first [] parts run more e are = absurd cc
+lblock_fits lblock block first (x ∷ xs) [] run more e are = absurd are
+lblock_fits lblock block first (x ∷ xs) (p ∷ ps) run more e are =
+    let front = low_bits (width lblock p.passes) p.length in
+    let l : length front ≡ width lblock p.passes = length-low_bits (width lblock p.passes) p.length in
+    let a : length (front ++ length_bits lblock ps) ≡ length front + length (length_bits lblock ps) = length-append front (length_bits lblock ps) in
+    omega arith
+
+entry_lblock : (style block planes z : ℕ) (known : Known) (e : Entry) → IsIncluded style block planes z known e → known.lblock + e.raise ≤ length (told_bits known.lblock e)
+entry_lblock style block planes z known e is =
+    let s = cut_some style known.passes e.passes is.count.some in
+    let le : known.lblock + e.raise ≤ length (length_bits (known.lblock + e.raise) e.parts) = lblock_fits (known.lblock + e.raise) block known.passes (cut style known.passes e.passes) e.parts s.0 s.1 s.2 is.parts in
+    let lengths = length_bits (known.lblock + e.raise) e.parts in
+    let a : length (pass_word e.passes ++ (raise_word e.raise ++ lengths)) ≡ length (pass_word e.passes) + length (raise_word e.raise ++ lengths) = length-append (pass_word e.passes) (raise_word e.raise ++ lengths) in
+    let b : length (raise_word e.raise ++ lengths) ≡ length (raise_word e.raise) + length lengths = length-append (raise_word e.raise) lengths in
+    omega arith
+
+known_after : (style block planes z : ℕ) (known : Known) (e : Entry) (more : ℕ) → IsIncluded style block planes z known e → planes ≤ 255 → length (told_bits known.lblock e) ≤ more → more ≤ 2 ^ 67 → IsKnown (block_after known z e)
+known_after style block planes z known e more is few le small =
+    let fit : known.passes + e.passes ≤ most_passes planes z = is.few in
+    let l : known.lblock + e.raise ≤ length (told_bits known.lblock e) = entry_lblock style block planes z known e is in
+    record { passes = omega arith; lblock = omega arith }
+
+same_or : (i j : ℕ) → (i ≡ j) ⊎ (i ≢ j)
+same_or i j = elim (cases_lt i j) [
+  | inl lt ↦ inr (λ (e : i ≡ j). (let f : i ≡ j = e in omega arith))
+  | inr ge ↦ elim (cases_lt j i) [
+    | inl gt ↦ inr (λ (e : i ≡ j). (let f : i ≡ j = e in omega arith))
+    | inr le ↦ inl (omega arith)
+  ]
+]
+
+blocks_after_set : (cells : Cells) (leaf : ℕ) (known : Known) → ((i : ℕ) → IsKnown (block_at cells i)) → IsKnown known → (i : ℕ) → IsKnown (get_or (set cells.blocks leaf known) i unknown_block)
+blocks_after_set cells leaf known all here i = by (cases_lt leaf (length cells.blocks)) (same_or i leaf)
+  where
+    by : (leaf < length cells.blocks) ⊎ (length cells.blocks ≤ leaf) → (i ≡ leaf) ⊎ (i ≢ leaf) → IsKnown (get_or (set cells.blocks leaf known) i unknown_block)
+    by (inl lt) (inl e) = subst (λ (k : Known). IsKnown k) (sym (ap (λ (j : ℕ). get_or (set cells.blocks leaf known) j unknown_block) e ∙ get_or-set_same cells.blocks leaf known unknown_block lt)) here
+    by (inr ge) (inl e) = subst (λ (l : List Known). IsKnown (get_or l i unknown_block)) (sym (set_past cells.blocks leaf known ge)) (all i)
+    by s (inr ne) = subst (λ (k : Known). IsKnown k) (sym (get_or-set_other cells.blocks leaf i known unknown_block ne)) (all i)
+
+entry_bound : (v : Values) (style layer block leaf : ℕ) (cells : Cells) (e : Entry) (bits rest : List Bool) → IsBand cells → leaf < length cells.blocks → IsEntry v style layer block leaf cells e →
+    bits ≡ entry_bits v layer leaf cells e ++ rest → length bits ≤ 2 ^ 67 → (i : ℕ) → IsKnown (block_at (entry_after v layer leaf cells e) i)
+entry_bound v style layer block leaf cells e bits rest b lt is stands small = by (contributes e) is.told stands
+  where
+    known : Known
+    known = block_at cells leaf
+    by : (c : Bool) → MatchBool c (IsIncluded style block cells.planes (zero_planes (block_at cells leaf).zero v.zeros leaf) (block_at cells leaf) e) (e ≡ nothing) →
+        bits ≡ (first_bits (block_at cells leaf).zero v.first cells.first leaf layer (contributes e) ++ cond c (included_bits v leaf cells e) []) ++ rest →
+        (i : ℕ) → IsKnown (block_at (cond c (cells_included v leaf (cells_first v layer leaf cells) e) (cells_first v layer leaf cells)) i)
+    by true told s i =
+        let firsts = first_bits (block_at cells leaf).zero v.first cells.first leaf layer (contributes e) in
+        let zeros = zero_bits (block_at cells leaf).zero v.zeros cells.zeros leaf cells.planes in
+        let tell = told_bits (block_at cells leaf).lblock e in
+        let whole : length bits ≡ length (firsts ++ (zeros ++ tell)) + length rest = ap (λ (l : List Bool). length l) s ∙ length-append (firsts ++ (zeros ++ tell)) rest in
+        let a : length (firsts ++ (zeros ++ tell)) ≡ length firsts + length (zeros ++ tell) = length-append firsts (zeros ++ tell) in
+        let d : length (zeros ++ tell) ≡ length zeros + length tell = length-append zeros tell in
+        blocks_after_set cells leaf (block_after (block_at cells leaf) (zero_planes (block_at cells leaf).zero v.zeros leaf) e) b.blocks
+        (known_after style block cells.planes (zero_planes (block_at cells leaf).zero v.zeros leaf) (block_at cells leaf) e (length bits) told b.planes (omega arith) small) i
+    by false told s i = b.blocks i
+
+pub block_band : (style layer block leaf : ℕ) (cells : Cells) (bits : List Bool) (t : Told) → IsBand cells → leaf < length cells.blocks → length bits ≤ 2 ^ 67 →
+    scan_block style layer block leaf cells bits ≡ Ok t → IsBand t.cells × (length t.cells.blocks ≡ length cells.blocks)
+block_band style layer block leaf cells bits t b lt small h =
+    let k = block_kept style layer block leaf cells bits t b.trees lt h in
+    let o = block_of cells leaf b.trees lt in
+    let l = block_leaf style layer block leaf cells bits t o h in
+    let f = known_values t.cells.first l.in_first.is in
+    let z = known_values t.cells.zeros l.in_zeros.is in
+    let v : Values = record { first = f.0; zeros = z.0 } in
+    let r : BlockRead v style layer block leaf cells bits t = block_read v style layer block leaf cells bits t o h (record { in_first = f.1; in_zeros = z.1 }) in
+    (record {
+      trees = k.trees;
+      planes = subst (λ (n : ℕ). n ≤ 255) (sym k.planes) b.planes;
+      blocks = subst (λ (c : Cells). (i : ℕ) → IsKnown (block_at c i)) (sym r.cells_are) (entry_bound v style layer block leaf cells t.entry bits t.rest b lt r.is r.bits_are small);
+    }, k.long)
+
+-- ---- block after block
+parts_parts : (ps qs : List Part) (r : Result AllTold HeadFault) → and_parts ps (and_parts qs r) ≡ and_parts (ps ++ qs) r
+parts_parts ps qs (Err e) = refl
+parts_parts ps qs (Ok a) = ap (λ (l : List Part). Ok (all_is l a.cells a.rest)) (sym (append_assoc ps qs a.parts))
+
+pub blocks_start : (ps : List Part) (r : Result AllTold HeadFault) → and_parts ps r ≡ and_parts ps r
+blocks_start ps r = refl
+
+pub blocks_step : (whole : Result AllTold HeadFault) (begun now new : List Part) (style layer base left leaf : ℕ) (cells after : Cells) (bits rest : List Bool) (e : Entry) → 0 < left →
+    and_parts begun whole ≡ and_parts now (scan_blocks style layer base left leaf cells bits) → scan_block style layer (base + leaf) leaf cells bits ≡ Ok (told_is e after rest) → new ≡ now ++ e.parts →
+    and_parts begun whole ≡ and_parts new (scan_blocks style layer base (left - 1) (leaf + 1) after rest)
+blocks_step whole begun now new style layer base zero leaf cells after bits rest e lt h was is = absurd (omega arith)
+blocks_step whole begun now new style layer base (suc more) leaf cells after bits rest e lt h was is =
+    let less : more ≡ suc more - 1 = omega arith in
+    h ∙ ap (λ (r : Result Told HeadFault). and_parts now (and_then r (on_block style layer base more leaf))) was
+    ∙ parts_parts now e.parts (scan_blocks style layer base more (leaf + 1) after rest)
+    ∙ ap (λ (l : List Part). and_parts l (scan_blocks style layer base more (leaf + 1) after rest)) (sym is)
+    ∙ ap (λ (k : ℕ). and_parts new (scan_blocks style layer base k (leaf + 1) after rest)) less
+
+whole_fault : (begun : List Part) (whole : Result AllTold HeadFault) (f : HeadFault) → and_parts begun whole ≡ Err f → whole ≡ Err f
+whole_fault begun (Err e) f h = let is : e ≡ f = cc in ap (λ (x : HeadFault). let y : Result AllTold HeadFault = Err x in y) is
+whole_fault begun (Ok x) f h = absurd cc
+
+blocks_err : (whole : Result AllTold HeadFault) (begun now : List Part) (style layer base left leaf : ℕ) (cells : Cells) (bits : List Bool) (f : HeadFault) → 0 < left →
+    and_parts begun whole ≡ and_parts now (scan_blocks style layer base left leaf cells bits) → scan_block style layer (base + leaf) leaf cells bits ≡ Err f → whole ≡ Err f
+blocks_err whole begun now style layer base zero leaf cells bits f lt h was = absurd (omega arith)
+blocks_err whole begun now style layer base (suc more) leaf cells bits f lt h was =
+    whole_fault begun whole f (h ∙ ap (λ (r : Result Told HeadFault). and_parts now (and_then r (on_block style layer base more leaf))) was)
+
+pub blocks_refuse : (whole : Result AllTold HeadFault) (begun now : List Part) (style layer base left leaf : ℕ) (cells : Cells) (bits : List Bool) (f : HeadFault) → 0 < left →
+    and_parts begun whole ≡ and_parts now (scan_blocks style layer base left leaf cells bits) → Refuses f (scan_block style layer (base + leaf) leaf cells bits) → Refuses f whole
+blocks_refuse whole begun now style layer base left leaf cells bits Bits lt h was = blocks_err whole begun now style layer base left leaf cells bits Bits lt h was
+blocks_refuse whole begun now style layer base left leaf cells bits Planes lt h was = blocks_err whole begun now style layer base left leaf cells bits Planes lt h was
+blocks_refuse whole begun now style layer base left leaf cells bits NoMemory lt h was = tt
+
+pub blocks_said : (whole : Result AllTold HeadFault) (begun now : List Part) (style layer base left leaf : ℕ) (cells : Cells) (bits : List Bool) → left ≡ 0 →
+    and_parts begun whole ≡ and_parts now (scan_blocks style layer base left leaf cells bits) → BandSaid whole begun now cells bits
+blocks_said (Err e) begun now style layer base zero leaf cells bits none h = absurd cc
+blocks_said (Ok a) begun now style layer base zero leaf cells bits none h =
+    let is : all_is (begun ++ a.parts) a.cells a.rest ≡ all_is (now ++ []) cells bits = cc in
+    let new : begun ++ a.parts ≡ now = ap (λ (x : AllTold). x.parts) is ∙ append-nil now in
+    record {
+      parts = a.parts;
+      is = ap (λ (c : Cells). Ok (all_is a.parts c a.rest)) (ap (λ (x : AllTold). x.cells) is) ∙ ap (λ (l : List Bool). Ok (all_is a.parts cells l)) (ap (λ (x : AllTold). x.rest) is);
+      new_is = sym new;
+    }
+blocks_said whole begun now style layer base (suc left) leaf cells bits none h = absurd (omega arith)
+
+pub block_is : (blocks : List Known) (leaf : ℕ) (k : Known) → leaf < length blocks → k ≡ get_or blocks leaf k → get_or blocks leaf unknown_block ≡ k
+block_is blocks leaf k lt e = get_or_default blocks leaf unknown_block k lt ∙ sym e

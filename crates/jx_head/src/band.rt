@@ -130,8 +130,6 @@ pub(crate) fn read_block(
     requires leaf { leaf < length band.old.blocks }
     requires few { (frame bits.old).total < 2 ^ 67 }
     ensures ok { OnOk result (BlockSaid (scan_block style.bits layer block leaf band.old (to_come bits.old)) parts.old.items parts.new.items band.new (to_come bits.new)) }
-    ensures kept { OnOk result (IsBand band.new) }
-    ensures long { OnOk result (length band.new.blocks ≡ length band.old.blocks) }
     ensures frame { OnOk result (frame bits.new ≡ frame bits.old) }
     ensures err { IfErr result (λ e. Refuses e (scan_block style.bits layer block leaf band.old (to_come bits.old))) }
 {
