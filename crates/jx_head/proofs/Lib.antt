@@ -2,3 +2,4 @@ pub mod WordLemmas
 pub mod AskLemmas
 pub mod BlockLemmas
 pub mod BandLemmas
+pub mod PacketLemmas

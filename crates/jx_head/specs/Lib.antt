@@ -4,4 +4,5 @@ pub mod Packet
 pub mod Scan
 pub mod Frame
 pub mod Said
+pub mod Precinct
 pub mod Kept

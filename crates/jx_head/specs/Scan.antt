@@ -10,7 +10,7 @@ use Rattle.jx_head.specs.declared.HeadFault.{HeadFault}
 use Rattle.jx_head.specs.declared.HeadFault.TheVariants.{Bits, Planes}
 use Rattle.jx_head.specs.declared.known.Known.{Known}
 use Rattle.jx_head.specs.Parts.{cut, width}
-use Rattle.jx_head.specs.Packet.{Cells, Entry, nothing, block_at, block_after, most_passes}
+use Rattle.jx_head.specs.Packet.{Cells, State, Entry, nothing, block_at, block_after, most_passes}
 
 -- something that was read, and the bits behind it
 pub record Found (A : Type 0) : Type 0 where
@@ -184,3 +184,17 @@ scan_bands style layer base [] bits = Ok (record { parts = []; bands = []; rest 
 scan_bands style layer base (cells ∷ bands) bits =
     and_then (scan_band style layer base cells bits)
     (λ (a : AllTold). and_band a (scan_bands style layer (base + length cells.blocks) bands a.rest))
+
+-- a header
+pub record HeaderRead : Type 0 where
+  pub parts : List Part
+  pub after : State
+  pub rest : List Bool
+
+abbrev pub header_of : State → BandsRead → HeaderRead
+header_of k b = record { parts = b.parts; after = record { style = k.style; layer = k.layer + 1; bands = b.bands }; rest = b.rest }
+
+abbrev pub scan_header : State → List Bool → Result HeaderRead HeadFault
+scan_header k [] = Err Bits
+scan_header k (false ∷ bits) = Ok (header_of k (record { parts = []; bands = k.bands; rest = bits }))
+scan_header k (true ∷ bits) = and_then (scan_bands k.style k.layer 0 k.bands bits) (λ (b : BandsRead). Ok (header_of k b))

@@ -9,6 +9,17 @@ mod words;
 
 pub use known::Known;
 
+/// The blocks of a precinct's band.
+#[derive(Clone, Copy, Debug, PartialEq, Eq)]
+pub struct BandCells {
+    /// How many blocks stand side by side, 0 where there are none.
+    pub wide: u32,
+    /// How many stand one above another, 0 where there are none.
+    pub high: u32,
+    /// The band's planes, at most 255.
+    pub planes: u32,
+}
+
 /// The passes that one packet has of a block and that lie in one segment.
 #[derive(Clone, Copy, Debug, PartialEq, Eq)]
 pub struct Part {
