@@ -13,7 +13,7 @@ use Rattle.jx_head.specs.Packet.{Cells, State, BandTold, AreBandsTold, bands_bit
 use Rattle.jx_head.specs.Kept.{AreTrees, IsBand, AreBands}
 use Rattle.jx_head.specs.Frame.{Frame, frame}
 use Rattle.jx_head.specs.Scan.{and_then, BandsRead, scan_bands, HeaderRead, header_of, scan_header}
-use Rattle.jx_head.specs.Said.{HasCause}
+use Rattle.jx_head.specs.Said.{HasCause, Refuses, OnlyMemory, OnlyPlanes}
 use Rattle.jx_head.proofs.BandLemmas.{AreAllTrees, bands_is, bands_made, bands_over, BandsGo, bands_read, bands_breaks}
 
 -- ---- a reader of a header's bytes
@@ -160,3 +160,43 @@ pub record OneHeader (parts others : List Part) (after others_after : State) (us
   pub parts_are : parts ≡ others
   pub used_is : used ≡ ends
   pub after_is : after ≡ others_after
+
+-- ---- refusals
+pub refuse_cause : (f : HeadFault) (bytes : List ℕ) (k : State) → AreBands k.bands → Refuses f (scan_header k (bits_of bytes).bits) → HasCause f bytes k
+refuse_cause Bits bytes k b h = (
+  λ (x : BreaksPlanes bytes k). (let e : Err Bits ≡ Err Planes = sym h ∙ header_over bytes k b x in cc),
+  λ (parts : List Part) (used : ℕ) (after : State) (p : IsPacket bytes k parts used after). packet_none bytes k Bits parts after used b h p,
+)
+refuse_cause Planes bytes k b h = header_breaks bytes k b h
+refuse_cause NoMemory bytes k b h = tt
+
+pub refuse_only : (f : HeadFault) (bytes : List ℕ) (k : State) (parts : List Part) (used : ℕ) (after : State) → AreBands k.bands → Refuses f (scan_header k (bits_of bytes).bits) → IsPacket bytes k parts used after → OnlyMemory f
+refuse_only Bits bytes k parts used after b h p = absurd (packet_none bytes k Bits parts after used b h p)
+refuse_only Planes bytes k parts used after b h p = absurd (packet_none bytes k Planes parts after used b h p)
+refuse_only NoMemory bytes k parts used after b h p = tt
+
+pub refuse_planes : (f : HeadFault) (bytes : List ℕ) (k : State) → AreBands k.bands → Refuses f (scan_header k (bits_of bytes).bits) → BreaksPlanes bytes k → OnlyPlanes f
+refuse_planes Bits bytes k b h x = absurd (let e : Err Bits ≡ Err Planes = sym h ∙ header_over bytes k b x in cc)
+refuse_planes Planes bytes k b h x = tt
+refuse_planes NoMemory bytes k b h x = tt
+
+-- where bits were read, no block breaks its planes
+pub read_planes : (bytes : List ℕ) (k : State) (r : Reading) (parts : List Part) (after : State) → AreBands k.bands → WasRead bytes k r parts after → BreaksPlanes bytes k → ⊥
+read_planes bytes k r parts after b w x =
+    let e : Ok (header_is parts after (to_come r)) ≡ Err Planes = sym w.scanned ∙ header_over bytes k b x in
+    cc
+
+-- where its last byte is missing, no header stands there
+pub end_cause : (bytes : List ℕ) (k : State) (r : Reading) (parts : List Part) (after : State) (e : BitFault) → AreBands k.bands → WasRead bytes k r parts after → end_of r ≡ Err e → HasCause Bits bytes k
+end_cause bytes k r parts after e b w ends = (
+  λ (x : BreaksPlanes bytes k). read_planes bytes k r parts after b w x,
+  λ (others : List Part) (used : ℕ) (others_after : State) (p : IsPacket bytes k others used others_after). (
+      let s = packet_only bytes k r parts others after others_after used b w p in
+      let f : Err e ≡ Ok used = sym ends ∙ s.ends in
+      cc),
+)
+
+-- the bits of bytes are all there at first
+pub was_read : (bytes : List ℕ) (k : State) (r : Reading) (parts : List Part) (after : State) (new : List Part) →
+    scan_header k (to_come (start_of bytes)) ≡ Ok (header_is parts after (to_come r)) → new ≡ [] ++ parts → frame r ≡ frame (start_of bytes) → WasRead bytes k r new after
+was_read bytes k r parts after new h is kept = record { scanned = h ∙ ap (λ (l : List Part). Ok (header_is l after (to_come r))) (sym is); kept = kept }

@@ -40,6 +40,11 @@ pub record BandsSaid (s : Result BandsRead HeadFault) (old new : List Part) (ban
   pub is : s ≡ Ok (record { parts = parts; bands = bands; rest = rest })
   pub new_is : new ≡ old ++ parts
 
+pub record HeaderSaid (s : Result HeaderRead HeadFault) (old new : List Part) (after : State) (rest : List Bool) : Type 0 where
+  pub parts : List Part
+  pub is : s ≡ Ok (record { parts = parts; after = after; rest = rest })
+  pub new_is : new ≡ old ++ parts
+
 -- ---- a whole header
 -- Why a header was not read. Rule 27 is broken where a block breaks its band's planes; rule 26 where the bytes have neither such
 -- a block nor a header.

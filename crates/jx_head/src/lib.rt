@@ -4,10 +4,12 @@
 mod band;
 mod known;
 mod parts;
+mod precinct;
 mod query;
 mod words;
 
 pub use known::Known;
+pub use precinct::Precinct;
 
 /// The blocks of a precinct's band.
 #[derive(Clone, Copy, Debug, PartialEq, Eq)]
