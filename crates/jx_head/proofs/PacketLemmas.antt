@@ -13,7 +13,7 @@ use Rattle.jx_head.specs.Packet.{Cells, State, BandTold, AreBandsTold, bands_bit
 use Rattle.jx_head.specs.Kept.{AreTrees, IsBand, AreBands}
 use Rattle.jx_head.specs.Frame.{Frame, frame}
 use Rattle.jx_head.specs.Scan.{and_then, BandsRead, scan_bands, HeaderRead, header_of, scan_header}
-use Rattle.jx_head.specs.Said.{HasCause, Refuses, OnlyMemory, OnlyPlanes}
+use Rattle.jx_head.specs.Said.{HasCause, Refuses, OnlyMemory, OnlyPlanes, HeaderSaid}
 use Rattle.jx_head.proofs.BandLemmas.{AreAllTrees, bands_is, bands_made, bands_over, BandsGo, bands_read, bands_breaks}
 
 -- ---- a reader of a header's bytes
@@ -200,3 +200,11 @@ end_cause bytes k r parts after e b w ends = (
 pub was_read : (bytes : List ℕ) (k : State) (r : Reading) (parts : List Part) (after : State) (new : List Part) →
     scan_header k (to_come (start_of bytes)) ≡ Ok (header_is parts after (to_come r)) → new ≡ [] ++ parts → frame r ≡ frame (start_of bytes) → WasRead bytes k r new after
 was_read bytes k r parts after new h is kept = record { scanned = h ∙ ap (λ (l : List Part). Ok (header_is l after (to_come r))) (sym is); kept = kept }
+
+-- the same of a call, whose state is seen by its view
+pub read_by : (bytes : List ℕ) (inner k : State) (start r : Reading) (old new : List Part) (after : State) → inner ≡ k → start ≡ start_of bytes → old ≡ [] →
+    HeaderSaid (scan_header inner (to_come start)) old new after (to_come r) → frame r ≡ frame start → WasRead bytes k r new after
+read_by bytes inner k start r old new after view begun none said kept =
+    was_read bytes k r said.parts after new
+    (ap (λ (s : State). scan_header s (to_come (start_of bytes))) (sym view) ∙ ap (λ (x : Reading). scan_header inner (to_come x)) (sym begun) ∙ said.is)
+    (said.new_is ∙ ap (λ (l : List Part). l ++ said.parts) none) (kept ∙ ap frame begun)

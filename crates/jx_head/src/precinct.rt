@@ -1,11 +1,11 @@
-ghost use Rattle.std.specs.Prelude.{◌≡◌, ◌<◌, ◌≤◌, ◌+◌, ◌^◌, ℕ, List, length, IfOk, IfErr, OnOk, MatchResult, Some, slice_index_or};
+ghost use Rattle.std.specs.Prelude.{◌≡◌, ◌<◌, ◌≤◌, ◌+◌, ◌*◌, ◌^◌, ℕ, List, length, IfOk, IfErr, OnOk, MatchResult, Some, slice_index_or};
 ghost use Rattle.jx_tagtree.specs.Header.{to_come};
 ghost use Rattle.jx_head.specs.Packet.{Cells, State, IsPacket, BreaksPlanes, unknown_block};
 ghost use Rattle.jx_head.specs.Scan.{scan_bands, scan_header};
 ghost use Rattle.jx_head.specs.Frame.{frame};
 ghost use Rattle.jx_head.specs.Kept.{IsBand, AreBands};
 ghost use Rattle.jx_head.specs.Said.{Refuses, BandsSaid, HeaderSaid, HasCause, OnlyPlanes, OnlyMemory};
-ghost use Rattle.jx_head.specs.Precinct.{CellsInRange, fresh_cells, fresh_state, all_blocks, IsState};
+ghost use Rattle.jx_head.specs.Precinct.{CellsInRange, IsBandCells, cells_in, fresh_cells, fresh_state, all_blocks, IsState};
 ghost use Rattle.jx_head.specs.declared.Part.{Part};
 
 use crate::band::{Band, read_band};
@@ -32,6 +32,27 @@ impl Model for Precinct {
     ghost Value = { State };
 
     ghost view = { λ p. record { style = p.style.bits; layer = p.next; bands = p.bands.items } };
+}
+
+/// A band of which no header has told anything.
+pub(crate) fn fresh_band(alloc: Global, cells: BandCells) -> Result<Band, NoMemory>
+    requires some { 0 < cells.wide }
+    requires is { IsBandCells cells }
+    requires few { cells.wide * cells.high ≤ 2 ^ 20 }
+    ensures { IfOk result (λ band. band ≡ fresh_cells cells) }
+{
+    let unknown = Known {
+        zero: None,
+        passes: 0,
+        lblock: 3,
+    };
+    let count = cells.wide as usize * cells.high as usize;
+    Ok(Band {
+        first: TagReader::new(alloc, cells.wide, cells.high)?,
+        zeros: TagReader::new(alloc, cells.wide, cells.high)?,
+        planes: cells.planes,
+        blocks: vec![in alloc; unknown; count]?,
+    })
 }
 
 /// Reads what a header of a layer has of the bands of a precinct, and appends the parts.
@@ -96,6 +117,41 @@ fn read_told(
 }
 
 impl Precinct {
+    /// A precinct of which no packet was read. Its bands have `wide` by `high` blocks, both 0 or both at
+    /// least 1 and 2^20 in all, and at most 255 planes.
+    pub fn new(alloc: Global, bands: &[BandCells], style: Style) -> Result<Precinct, NoMemory>
+        requires { CellsInRange bands.now }
+        ensures fresh { IfOk result (λ p. p ≡ fresh_state style.bits bands.now) }
+        ensures state { IfOk result (λ p. IsState p) }
+    {
+        let mut made = Vec::new(alloc);
+        for cells in bands {
+            if cells.wide > 0 {
+                made.push(fresh_band(alloc, *cells)?)?;
+            }
+        }
+        Ok(Precinct {
+            style,
+            next: 0,
+            bands: made,
+        })
+    }
+
+    /// The zero planes of a block that a packet has included, and None of any other.
+    pub fn zero(&self, block: u32) -> Option<u8>
+        requires { block < length (all_blocks self.now.bands) }
+        ensures { result ≡ (slice_index_or (all_blocks self.now.bands) block unknown_block).zero }
+    {
+        let mut left = block as usize;
+        for band in &self.bands {
+            if left < band.blocks.len() {
+                return band.blocks[left].zero;
+            }
+            left -= band.blocks.len();
+        }
+        None
+    }
+
     /// Reads the header of a layer's packet at the front of some bytes: the parts of its blocks, and how
     /// many bytes the header has. Layers come in order from 0. After an `Err` the precinct is given up.
     pub fn read_header(
@@ -128,9 +184,10 @@ impl Precinct {
             Ok(()) => {}
             Err(fault) => return Err(fault),
         }
-        match bits.finish() {
-            Ok(used) => Ok((parts, used)),
-            Err(_) => Err(HeadFault::Bits),
-        }
+        let used = match bits.finish() {
+            Ok(used) => used,
+            Err(_) => return Err(HeadFault::Bits),
+        };
+        Ok((parts, used))
     }
 }
