@@ -3,3 +3,4 @@ pub mod AskLemmas
 pub mod BlockLemmas
 pub mod BandLemmas
 pub mod PacketLemmas
+pub mod FreshLemmas
