@@ -2,14 +2,16 @@
 use Rattle.std.proofs.Common.{◌≡◌, ℕ, zero, suc, ◌+◌, ◌-◌, ◌*◌, ◌<◌, ◌≤◌, ◌^◌, ◌==◌, nat_lt, nat_le, Bool, true, false, List, [], ◌∷◌, ◌++◌, length, take, drop, get_or, set, refl, sym, ap, ◌∙◌, subst, cond, arith, append_assoc, length-append, length-drop, Some, None, Ok, Err, Result, inl, inr, ◌⊎◌}
 use Rattle.std.specs.Prelude.{Option}
 use Rattle.std.specs.Bool.{MatchBool}
-use Rattle.std.proofs.lemmas.List.{append-nil}
+use Rattle.std.proofs.lemmas.List.{append_cancel_right}
+use Rattle.jx_tagtree.specs.Header.{bytes_of}
+use Rattle.jx_tagtree.proofs.LawLemmas.{read_back}
 use Rattle.jx_tagtree.specs.declared.BitFault.{BitFault}
 use Rattle.jx_tagtree.specs.Header.{Reading, Bits as ByteBits, room, is_stuffed, low_bits, bits_after, bits_of, to_come, start_of, end_after, end_of, end_unless}
 use Rattle.jx_tagtree.proofs.HeaderLemmas.{length-low_bits, room-le}
 use Rattle.jx_head.specs.declared.Part.{Part}
 use Rattle.jx_head.specs.declared.HeadFault.{HeadFault}
 use Rattle.jx_head.specs.declared.HeadFault.TheVariants.{Bits, Planes, NoMemory}
-use Rattle.jx_head.specs.Packet.{Cells, State, BandTold, AreBandsTold, bands_bits, bands_after, bands_parts, BandsBreak, Header, header_bits, header_after, header_parts, IsToldOf, IsPacket, BreaksPlanes}
+use Rattle.jx_head.specs.Packet.{Cells, State, BandTold, AreBandsTold, bands_bits, bands_after, bands_parts, BandsBreak, Header, header_bits, header_after, header_parts, IsToldOf, IsPacket, BreaksPlanes, OneHeader}
 use Rattle.jx_head.specs.Kept.{AreTrees, IsBand, AreBands}
 use Rattle.jx_head.specs.Frame.{Frame, frame}
 use Rattle.jx_head.specs.Scan.{and_then, BandsRead, scan_bands, HeaderRead, header_of, scan_header}
@@ -155,12 +157,6 @@ packet_none bytes k f parts after used b h p =
     let one : Ok (header_is (header_parts p.header) (header_after k p.header) p.rest) ≡ Err f = sym (header_made k p.header p.rest b p.is) ∙ sym (ap (scan_header k) p.stands) ∙ h in
     cc
 
--- two headers at the front of the same bytes are one
-pub record OneHeader (parts others : List Part) (after others_after : State) (used ends : ℕ) : Type 0 where
-  pub parts_are : parts ≡ others
-  pub used_is : used ≡ ends
-  pub after_is : after ≡ others_after
-
 -- ---- refusals
 pub refuse_cause : (f : HeadFault) (bytes : List ℕ) (k : State) → AreBands k.bands → Refuses f (scan_header k (bits_of bytes).bits) → HasCause f bytes k
 refuse_cause Bits bytes k b h = (
@@ -208,3 +204,27 @@ read_by bytes inner k start r old new after view begun none said kept =
     was_read bytes k r said.parts after new
     (ap (λ (s : State). scan_header s (to_come (start_of bytes))) (sym view) ∙ ap (λ (x : Reading). scan_header inner (to_come x)) (sym begun) ∙ said.is)
     (said.new_is ∙ ap (λ (l : List Part). l ++ said.parts) none) (kept ∙ ap frame begun)
+
+-- ---- one reading
+-- a written header stands at the front of its bytes
+pub stands_there : (k : State) (h : Header) (rest : List ℕ) → IsToldOf k h → IsPacket (bytes_of (header_bits k h) ++ rest) k (header_parts h) (length (bytes_of (header_bits k h))) (header_after k h)
+stands_there k h rest is =
+    let b = read_back (header_bits k h) rest in
+    record { header = h; is = is; rest = b.more; stands = b.first; ends = b.end; parts_are = refl; after_is = refl }
+
+-- two headers at the front of the same bytes are one
+pub one_header : (bytes : List ℕ) (k : State) (parts others : List Part) (used ends : ℕ) (after others_after : State) → AreBands k.bands → IsPacket bytes k parts used after → IsPacket bytes k others ends others_after →
+    OneHeader parts others after others_after used ends
+one_header bytes k parts others used ends after others_after b p q =
+    let one : Ok (header_is (header_parts p.header) (header_after k p.header) p.rest) ≡ Ok (header_is (header_parts q.header) (header_after k q.header) q.rest) =
+    sym (header_made k p.header p.rest b p.is) ∙ sym (ap (scan_header k) p.stands) ∙ ap (scan_header k) q.stands ∙ header_made k q.header q.rest b q.is in
+    let same : header_is (header_parts p.header) (header_after k p.header) p.rest ≡ header_is (header_parts q.header) (header_after k q.header) q.rest = cc in
+    let whole : header_bits k p.header ++ p.rest ≡ header_bits k q.header ++ q.rest = sym p.stands ∙ q.stands in
+    let rests : p.rest ≡ q.rest = ap (λ (x : HeaderRead). x.rest) same in
+    let bits : header_bits k p.header ≡ header_bits k q.header = append_cancel_right (header_bits k p.header) (header_bits k q.header) p.rest (whole ∙ ap (λ (l : List Bool). header_bits k q.header ++ l) (sym rests)) in
+    let both : Ok used ≡ Ok ends = sym p.ends ∙ ap (λ (l : List Bool). end_after bytes (length l)) bits ∙ q.ends in
+    record {
+      parts_are = p.parts_are ∙ ap (λ (x : HeaderRead). x.parts) same ∙ sym q.parts_are;
+      used_is = cc;
+      after_is = p.after_is ∙ ap (λ (x : HeaderRead). x.after) same ∙ sym q.after_is;
+    }

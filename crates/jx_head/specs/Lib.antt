@@ -5,4 +5,5 @@ pub mod Scan
 pub mod Frame
 pub mod Said
 pub mod Precinct
+pub mod Written
 pub mod Kept

@@ -278,3 +278,9 @@ pub record BreaksPlanes (bytes : List ℕ) (k : State) : Type 0 where
   pub rest : List Bool
   pub stands : (bits_of bytes).bits ≡ true ∷ rest
   pub breaks : BandsBreak k.style k.layer 0 k.bands rest
+
+-- Two headers at the front of the same bytes are one: the same parts, the same length and the same state after.
+pub record OneHeader (parts others : List Part) (after others_after : State) (used ends : ℕ) : Type 0 where
+  pub parts_are : parts ≡ others
+  pub used_is : used ≡ ends
+  pub after_is : after ≡ others_after

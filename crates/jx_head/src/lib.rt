@@ -3,6 +3,7 @@
 
 mod band;
 mod known;
+pub mod laws;
 mod parts;
 mod precinct;
 mod query;
