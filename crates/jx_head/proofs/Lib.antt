@@ -4,3 +4,4 @@ pub mod BlockLemmas
 pub mod BandLemmas
 pub mod PacketLemmas
 pub mod FreshLemmas
+pub mod PutLemmas

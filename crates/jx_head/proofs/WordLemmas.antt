@@ -58,7 +58,7 @@ number_read n bits f h = by (nat_le n (length bits)) (nat_lt (number_of n bits) 
         })
 
 -- ---- numbers of passes
-word_few : (n : ℕ) → 3 ≤ n → n ≤ 5 → pass_word n ≡ true ∷ true ∷ low_bits 2 (n - 3)
+pub word_few : (n : ℕ) → 3 ≤ n → n ≤ 5 → pass_word n ≡ true ∷ true ∷ low_bits 2 (n - 3)
 unfolding pass_word
 word_few n ge le =
     let a : (n == 1) ≡ false = grind (arith, nat_tests) in
@@ -66,7 +66,7 @@ word_few n ge le =
     let c : nat_le n 5 ≡ true = grind (arith, nat_tests) in
     rw (a, b, c) refl
 
-word_some : (n : ℕ) → 6 ≤ n → n ≤ 36 → pass_word n ≡ true ∷ true ∷ true ∷ true ∷ low_bits 5 (n - 6)
+pub word_some : (n : ℕ) → 6 ≤ n → n ≤ 36 → pass_word n ≡ true ∷ true ∷ true ∷ true ∷ low_bits 5 (n - 6)
 unfolding pass_word
 word_some n ge le =
     let a : (n == 1) ≡ false = grind (arith, nat_tests) in
@@ -75,7 +75,7 @@ word_some n ge le =
     let d : nat_le n 36 ≡ true = grind (arith, nat_tests) in
     rw (a, b, c, d) refl
 
-word_many : (n : ℕ) → 37 ≤ n → pass_word n ≡ true ∷ true ∷ true ∷ true ∷ true ∷ true ∷ true ∷ true ∷ true ∷ low_bits 7 (n - 37)
+pub word_many : (n : ℕ) → 37 ≤ n → pass_word n ≡ true ∷ true ∷ true ∷ true ∷ true ∷ true ∷ true ∷ true ∷ true ∷ low_bits 7 (n - 37)
 unfolding pass_word
 word_many n ge =
     let a : (n == 1) ≡ false = grind (arith, nat_tests) in
@@ -84,11 +84,11 @@ word_many n ge =
     let d : nat_le n 36 ≡ false = grind (arith, nat_tests) in
     rw (a, b, c, d) refl
 
-word_one : pass_word 1 ≡ false ∷ []
+pub word_one : pass_word 1 ≡ false ∷ []
 unfolding pass_word
 word_one = refl
 
-word_two : pass_word 2 ≡ true ∷ false ∷ []
+pub word_two : pass_word 2 ≡ true ∷ false ∷ []
 unfolding pass_word
 word_two = refl
 

@@ -6,4 +6,5 @@ pub mod Frame
 pub mod Said
 pub mod Precinct
 pub mod Written
+pub mod Leafs
 pub mod Kept

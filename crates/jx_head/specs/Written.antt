@@ -1,7 +1,7 @@
 -- The one header that is written for some blocks (ITU-T T.800, B.10).
 use Rattle.std.specs.Prelude.{◌≡◌, ℕ, zero, suc, ◌+◌, ◌-◌, ◌<◌, ◌≤◌, ◌==◌, max, nat_lt, Bool, true, false, ◌||◌, List, [], ◌∷◌, ◌++◌, length, take, drop, map, if◌then◌else◌}
 use Rattle.jx_tagtree.specs.Header.{bytes_of}
-use Rattle.jx_tagtree.specs.Leaves.{least_leaf}
+use Rattle.jx_tagtree.specs.Leaves.{Written, least_leaf}
 use Rattle.jx_head.specs.declared.Part.{Part}
 use Rattle.jx_head.specs.declared.BandCells.{BandCells}
 use Rattle.jx_head.specs.declared.known.Known.{Known}
@@ -21,8 +21,8 @@ first_layer layers [] = layers
 first_layer layers (p ∷ ps) = p.0
 
 abbrev pub zero_leaf : ℕ → ℕ → List (ℕ × Part) → ℕ
-zero_leaf planes zeros [] = planes
-zero_leaf planes zeros (p ∷ ps) = zeros
+zero_leaf planes z [] = planes
+zero_leaf planes z (p ∷ ps) = z
 
 abbrev pub first_leaves : ℕ → List Leafed → List ℕ
 first_leaves layers leaves = map (λ (l : Leafed). first_layer layers l.parts) leaves
@@ -70,6 +70,23 @@ abbrev pub bands_written : ℕ → ℕ → List Cells → List Leafed → List B
 bands_written layers layer [] leaves = []
 bands_written layers layer (cells ∷ bands) leaves =
     band_written layers layer cells (take (length cells.blocks) leaves) ∷ bands_written layers layer bands (drop (length cells.blocks) leaves)
+
+-- what a band's writer holds
+pub record Writes : Type 0 where
+  pub first : Written
+  pub zeros : Written
+  pub planes : ℕ
+  pub blocks : List Known
+
+-- the values of a tag tree that is written
+abbrev pub least_of : Written → ℕ → ℕ
+least_of w = least_leaf w.tree.wide w.tree.high w.leaves
+
+abbrev pub cells_of : Writes → Cells
+cells_of w = record { first = w.first.tree; zeros = w.zeros.tree; planes = w.planes; blocks = w.blocks }
+
+abbrev pub values_of : Writes → Values
+values_of w = record { first = least_of w.first; zeros = least_of w.zeros }
 
 -- whether some block contributes to a layer's packet
 abbrev pub some_in : ℕ → List Leafed → Bool

@@ -2,10 +2,12 @@
 #![tactic(auto)]
 
 mod band;
+mod band_out;
 mod known;
 pub mod laws;
 mod parts;
 mod precinct;
+mod put;
 mod query;
 mod words;
 
@@ -34,6 +36,15 @@ pub struct Part {
     pub passes: u16,
     /// How many bytes the part has.
     pub length: u32,
+}
+
+/// A block that is written: a leaf of its band's two tag trees.
+#[derive(Drop)]
+pub struct Leaf {
+    /// Its zero planes. They aren't read where it has no parts, which is a block that is never included.
+    pub zero: u8,
+    /// Its parts, each with the layer in whose packet it is.
+    pub parts: Vec<(u16, Part)>,
 }
 
 /// Why a packet header is not read.

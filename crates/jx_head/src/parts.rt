@@ -29,7 +29,8 @@ pub(crate) fn digits(number: u32) -> u32
 /// How many bits the length of a part takes (T.800 B.10.7).
 pub(crate) fn length_width(lblock: u128, passes: u16) -> u128
     requires { lblock < 2 ^ 127 }
-    ensures { result ≡ width lblock passes }
+    ensures value { result ≡ width lblock passes }
+    ensures few { result ≤ lblock + 31 }
 {
     lblock + u128::from(digits(u32::from(passes)).saturating_sub(1))
 }
