@@ -114,3 +114,34 @@ fn write_entry(
         lblock,
     })
 }
+
+/// Writes what a layer's packet has of a block.
+pub(crate) fn write_block(
+    band: &mut BandOut,
+    leaf: u32,
+    layer: u16,
+    of: &Leaf,
+    bits: &mut BitWriter,
+) -> Result<(), NoMemory>
+    requires inside { leaf < length band.old.blocks }
+    requires first { leaf < band.old.first.tree.wide * band.old.first.tree.high }
+    requires zeros { leaf < band.old.zeros.tree.wide * band.old.zeros.tree.high }
+    requires zero { 1 ≤ passes_of (parts_in layer (leaf_of of.now).parts) → least_of band.old.zeros leaf ≡ of.now.zero }
+    requires few { (block_at (cells_of band.old) leaf).passes + passes_of (parts_in layer (leaf_of of.now).parts) < 2 ^ 16 }
+    requires lblock { (block_at (cells_of band.old) leaf).lblock ≤ 32 }
+    ensures bits { OnOk result (bits.new ≡ bits.old ++ entry_bits (values_of band.old) layer leaf (cells_of band.old) (entry_written layer (block_at (cells_of band.old) leaf) (leaf_of of.now))) }
+    ensures after { OnOk result (cells_of band.new ≡ entry_after (values_of band.old) layer leaf (cells_of band.old) (entry_written layer (block_at (cells_of band.old) leaf) (leaf_of of.now))) }
+    ensures first { OnOk result (band.new.first.leaves ≡ band.old.first.leaves) }
+    ensures zeros { OnOk result (band.new.zeros.leaves ≡ band.old.zeros.leaves) }
+{
+    let known = band.blocks[leaf as usize];
+    let passes = passes_in(&of.parts, layer);
+    write_inclusion(&mut band.first, known.zero, leaf, layer, passes > 0, bits)?;
+    if passes == 0 {
+        return Ok(());
+    }
+    write_zero(&mut band.zeros, known.zero, of.zero, leaf, band.planes, bits)?;
+    let zero = known.zero.unwrap_or(of.zero);
+    band.blocks[leaf as usize] = write_entry(known, zero, passes, &of.parts, layer, bits)?;
+    Ok(())
+}
