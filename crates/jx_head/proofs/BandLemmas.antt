@@ -85,7 +85,7 @@ block_leaf style layer block leaf cells bits t b h = by (scan_first (block_at ce
     by (Some s) eq h = pick s (first_leaf (block_at cells leaf).zero cells.first leaf layer bits s b.in_first eq) s.below h
 
 -- sizes stay
-record SameSize (new old : Cells) : Type 0 where
+pub record SameSize (new old : Cells) : Type 0 where
   pub wide : new.first.wide ≡ old.first.wide
   pub high : new.first.high ≡ old.first.high
   pub zeros_wide : new.zeros.wide ≡ old.zeros.wide
@@ -117,7 +117,7 @@ zero_high : (known : Option ℕ) (values : ℕ → ℕ) (tree : Tree) (leaf plan
 zero_high None values tree leaf planes = all_high values (zero_questions values leaf planes) tree
 zero_high (Some z) values tree leaf planes = refl
 
-entry_size : (v : Values) (layer leaf : ℕ) (cells : Cells) (e : Entry) → SameSize (entry_after v layer leaf cells e) cells
+pub entry_size : (v : Values) (layer leaf : ℕ) (cells : Cells) (e : Entry) → SameSize (entry_after v layer leaf cells e) cells
 entry_size v layer leaf cells e = by (contributes e)
   where
     by : (c : Bool) → SameSize (cond c (cells_included v leaf (cells_first v layer leaf cells) e) (cells_first v layer leaf cells)) cells
@@ -614,7 +614,7 @@ known_after style block planes z known e more is few le small =
     let l : known.lblock + e.raise ≤ length (told_bits known.lblock e) = entry_lblock style block planes z known e is in
     record { passes = omega arith; lblock = omega arith }
 
-same_or : (i j : ℕ) → (i ≡ j) ⊎ (i ≢ j)
+pub same_or : (i j : ℕ) → (i ≡ j) ⊎ (i ≢ j)
 same_or i j = elim (cases_lt i j) [
   | inl lt ↦ inr (λ (e : i ≡ j). (let f : i ≡ j = e in omega arith))
   | inr ge ↦ elim (cases_lt j i) [

@@ -5,3 +5,4 @@ pub mod BandLemmas
 pub mod PacketLemmas
 pub mod FreshLemmas
 pub mod PutLemmas
+pub mod WriteLemmas

@@ -7,7 +7,7 @@ use Rattle.jx_tagtree.specs.Leaves.{Written, least_leaf, told_after}
 use Rattle.jx_tagtree.specs.Questions.{all_bits, after_all}
 use Rattle.jx_head.specs.Packet.{asked}
 use Rattle.jx_head.specs.Written.{least_of}
-use Rattle.jx_head.specs.Words.{pass_word}
+use Rattle.jx_head.specs.Words.{pass_word, powers, size}
 use Rattle.jx_head.proofs.WordLemmas.{word_one, word_two, word_few, word_some, word_many}
 
 -- a bit that was written was the first of those to come
@@ -74,3 +74,16 @@ count_after first w new leaf n left less same lt is after =
     ap (λ (x : Tree). after_all v x (asked leaf (n + 1) less)) tree
     ∙ ap (λ (k : ℕ). after_all v (tree_after v w.tree leaf (n + 1)) (asked leaf (n + 1) k)) is
     ∙ sym (asked_after v w.tree leaf n left lt)
+
+-- ---- sizes
+powers_le : (n m : ℕ) → powers n m ≤ n
+powers_le zero m = omega arith
+powers_le (suc n) m = by (nat_le (2 ^ n) m) (powers_le n m)
+  where
+    by : (b : Bool) → powers n m ≤ n → powers n m + cond b 1 0 ≤ suc n
+    by true le = omega arith
+    by false le = omega arith
+
+pub size_le : (m : ℕ) → size m ≤ 32
+unfolding size
+size_le m = powers_le 32 m

@@ -7,4 +7,5 @@ pub mod Said
 pub mod Precinct
 pub mod Written
 pub mod Leafs
+pub mod Writable
 pub mod Kept
