@@ -16,6 +16,7 @@ use Rattle.jx_head.specs.declared.HeadFault.{HeadFault}
 use Rattle.jx_head.specs.declared.HeadFault.TheVariants.{Bits, Planes, NoMemory}
 use Rattle.jx_head.specs.Said.{Refuses, BandSaid, BandsSaid}
 use Rattle.jx_head.specs.Precinct.{all_blocks}
+use Rattle.jx_head.specs.Writable.{SameSize}
 use Rattle.jx_head.specs.declared.known.Known.{Known}
 use Rattle.jx_head.specs.Words.{pass_word, raise_word}
 use Rattle.jx_head.specs.Parts.{one_more, cut, width, AreParts, length_bits}
@@ -85,14 +86,6 @@ block_leaf style layer block leaf cells bits t b h = by (scan_first (block_at ce
     by (Some s) eq h = pick s (first_leaf (block_at cells leaf).zero cells.first leaf layer bits s b.in_first eq) s.below h
 
 -- sizes stay
-pub record SameSize (new old : Cells) : Type 0 where
-  pub wide : new.first.wide ≡ old.first.wide
-  pub high : new.first.high ≡ old.first.high
-  pub zeros_wide : new.zeros.wide ≡ old.zeros.wide
-  pub zeros_high : new.zeros.high ≡ old.zeros.high
-  pub long : length new.blocks ≡ length old.blocks
-  pub planes : new.planes ≡ old.planes
-
 first_wide : (known : Option ℕ) (values : ℕ → ℕ) (tree : Tree) (leaf layer : ℕ) → (first_after known values tree leaf layer).wide ≡ tree.wide
 first_wide None values tree leaf layer = refl
 first_wide (Some z) values tree leaf layer = refl

@@ -6,3 +6,4 @@ pub mod PacketLemmas
 pub mod FreshLemmas
 pub mod PutLemmas
 pub mod WriteLemmas
+pub mod PlanLemmas

@@ -1,10 +1,10 @@
 -- What is true of a precinct that is written.
-use Rattle.std.specs.Prelude.{◌≡◌, ℕ, zero, suc, ◌+◌, ◌*◌, ◌^◌, ◌<◌, ◌≤◌, nat_le, List, [], ◌∷◌, length, slice_index, slice_index_or, if◌then◌else◌}
+use Rattle.std.specs.Prelude.{◌≡◌, ℕ, zero, suc, ◌+◌, ◌*◌, ◌^◌, ◌<◌, ◌≤◌, nat_le, Bool, ◌++◌, List, [], ◌∷◌, length, map, take, drop, slice_index, slice_index_or, if◌then◌else◌}
 use Rattle.jx_tagtree.specs.Shape.{IsShape}
 use Rattle.jx_head.specs.declared.Part.{Part}
 use Rattle.jx_head.specs.declared.known.Known.{Known}
-use Rattle.jx_head.specs.Packet.{unknown_block}
-use Rattle.jx_head.specs.Written.{Leafed, Writes, first_leaves, zero_leaves, passes_of, parts_in}
+use Rattle.jx_head.specs.Packet.{Cells, BandTold, bands_bits, bands_after, unknown_block}
+use Rattle.jx_head.specs.Written.{Leafed, Writes, cells_of, values_of, entries_written, first_leaves, zero_leaves, passes_of, parts_in}
 
 abbrev pub no_leaf : Leafed
 no_leaf = record { zero = 0; parts = [] }
@@ -23,22 +23,61 @@ pub record IsDue (layer : ℕ) (known : Known) (leaf : Leafed) : Type 0 where
   pub lblock : known.lblock ≤ 32
 
 -- a band's blocks and the leaves of its tag trees
-pub record AreWrites (layers : ℕ) (leaves : List Leafed) (w : Writes) : Type 0 where
+pub record AreWrites (leaves : List Leafed) (w : Writes) : Type 0 where
   pub shape : IsShape w.zeros.tree.wide w.zeros.tree.high
   pub wide : w.first.tree.wide ≡ w.zeros.tree.wide
   pub high : w.first.tree.high ≡ w.zeros.tree.high
   pub long : length w.blocks ≡ w.zeros.tree.wide * w.zeros.tree.high
   pub all : length leaves ≡ length w.blocks
-  pub first_are : w.first.leaves ≡ first_leaves layers leaves
   pub zeros_are : w.zeros.leaves ≡ zero_leaves w.planes leaves
   pub fit : (i : ℕ) → slice_index (zero_leaves w.planes leaves) i < 2 ^ 32
 
-pub record IsWrites (layers layer : ℕ) (leaves : List Leafed) (w : Writes) : Type 0 where
-  pub are : AreWrites layers leaves w
+pub record IsWrites (layer : ℕ) (leaves : List Leafed) (w : Writes) : Type 0 where
+  pub are : AreWrites leaves w
   pub due : (i : ℕ) → IsDue layer (slice_index_or w.blocks i unknown_block) (leaf_at leaves i)
 
 -- the first blocks of which this layer was written
-pub record IsPartly (layers layer at : ℕ) (leaves : List Leafed) (w : Writes) : Type 0 where
-  pub are : AreWrites layers leaves w
+pub record IsPartly (layer at : ℕ) (leaves : List Leafed) (w : Writes) : Type 0 where
+  pub are : AreWrites leaves w
   pub done : (i : ℕ) → i < at → IsDue (layer + 1) (slice_index_or w.blocks i unknown_block) (leaf_at leaves i)
   pub due : (i : ℕ) → at ≤ i → IsDue layer (slice_index_or w.blocks i unknown_block) (leaf_at leaves i)
+
+-- a band keeps its sizes
+pub record SameSize (new old : Cells) : Type 0 where
+  pub wide : new.first.wide ≡ old.first.wide
+  pub high : new.first.high ≡ old.first.high
+  pub zeros_wide : new.zeros.wide ≡ old.zeros.wide
+  pub zeros_high : new.zeros.high ≡ old.zeros.high
+  pub long : length new.blocks ≡ length old.blocks
+  pub planes : new.planes ≡ old.planes
+
+-- the bands of a precinct, each with its leaves
+abbrev pub AreDue : ℕ → List Writes → List Leafed → Type 0
+AreDue layer [] leaves = Unit {0}
+AreDue layer (w ∷ ws) leaves = IsWrites layer (take (length w.blocks) leaves) w × AreDue layer ws (drop (length w.blocks) leaves)
+
+-- what a header tells of bands that hold these trees
+abbrev pub tolds_of : ℕ → List Writes → List Leafed → List BandTold
+tolds_of layer [] leaves = []
+tolds_of layer (w ∷ ws) leaves =
+    record { values = values_of w; entries = entries_written layer w.blocks (take (length w.blocks) leaves) } ∷ tolds_of layer ws (drop (length w.blocks) leaves)
+
+-- of each band, the leaves of its first tag tree, and how many blocks it has
+abbrev pub head_of : Writes → List ℕ × ℕ
+head_of w = (w.first.leaves, length w.blocks)
+
+abbrev pub heads_of : List Writes → List (List ℕ × ℕ)
+heads_of ws = map head_of ws
+
+-- these leaves are the blocks' first layers
+abbrev pub AreFirst : ℕ → List (List ℕ × ℕ) → List Leafed → Type 0
+AreFirst layers [] leaves = Unit {0}
+AreFirst layers (h ∷ hs) leaves = (h.0 ≡ first_leaves layers (take h.1 leaves)) × AreFirst layers hs (drop h.1 leaves)
+
+-- when a layer of each band was written
+pub record BandsDone (layer : ℕ) (leaves : List Leafed) (start ws : List Writes) (begun bits : List Bool) : Type 0 where
+  pub bits_are : bits ≡ begun ++ bands_bits layer (map cells_of start) (tolds_of layer start leaves)
+  pub after_are : map cells_of ws ≡ bands_after layer (map cells_of start) (tolds_of layer start leaves)
+  pub due : AreDue (layer + 1) ws leaves
+  pub heads : heads_of ws ≡ heads_of start
+

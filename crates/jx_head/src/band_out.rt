@@ -1,8 +1,9 @@
-ghost use Rattle.std.specs.Prelude.{◌≡◌, ◌<◌, ◌≤◌, ◌+◌, ◌*◌, ◌^◌, ◌++◌, length, IfOk, OnOk, slice_index};
+ghost use Rattle.std.specs.Prelude.{◌≡◌, ◌<◌, ◌≤◌, ◌+◌, ◌*◌, ◌^◌, ◌++◌, length, map, IfOk, OnOk, slice_index};
 ghost use Rattle.jx_tagtree.specs.Questions.{all_bits, after_all};
-ghost use Rattle.jx_head.specs.Packet.{Entry, asked, block_at, first_bits, first_after, zero_bits, zero_after, told_bits, block_after, entry_bits, entry_after};
-ghost use Rattle.jx_head.specs.Written.{parts_in, passes_of, raise_of, entry_written, Writes, least_of, cells_of, values_of};
+ghost use Rattle.jx_head.specs.Packet.{Entry, asked, block_at, first_bits, first_after, zero_bits, zero_after, told_bits, block_after, entry_bits, entry_after, blocks_bits, blocks_after};
+ghost use Rattle.jx_head.specs.Written.{parts_in, passes_of, raise_of, entry_written, entries_written, Writes, least_of, cells_of, values_of};
 ghost use Rattle.jx_head.specs.Leafs.{leaf_of};
+ghost use Rattle.jx_head.specs.Writable.{IsWrites, SameSize};
 
 use crate::put::{passes_in, put_lengths, put_passes, put_raise, raise_in};
 use crate::{Known, Leaf, Part};
@@ -143,5 +144,27 @@ pub(crate) fn write_block(
     write_zero(&mut band.zeros, known.zero, of.zero, leaf, band.planes, bits)?;
     let zero = known.zero.unwrap_or(of.zero);
     band.blocks[leaf as usize] = write_entry(known, zero, passes, &of.parts, layer, bits)?;
+    Ok(())
+}
+
+/// Writes what a layer's packet has of a band.
+pub(crate) fn write_band(
+    band: &mut BandOut,
+    layer: u16,
+    leaves: &[Leaf],
+    bits: &mut BitWriter,
+) -> Result<(), NoMemory>
+    requires { IsWrites layer (map leaf_of leaves.now) band.old }
+    ensures bits { OnOk result (bits.new ≡ bits.old ++ blocks_bits (values_of band.old) layer 0 (cells_of band.old) (entries_written layer band.old.blocks (map leaf_of leaves.now))) }
+    ensures after { OnOk result (cells_of band.new ≡ blocks_after (values_of band.old) layer 0 (cells_of band.old) (entries_written layer band.old.blocks (map leaf_of leaves.now))) }
+    ensures values { OnOk result (values_of band.new ≡ values_of band.old) }
+    ensures due { OnOk result (IsWrites (layer + 1) (map leaf_of leaves.now) band.new) }
+    ensures first { OnOk result (band.new.first.leaves ≡ band.old.first.leaves) }
+    ensures size { OnOk result (SameSize (cells_of band.new) (cells_of band.old)) }
+{
+    let count = leaves.len() as u32;
+    for leaf in 0..count {
+        write_block(band, leaf, layer, &leaves[leaf as usize], bits)?;
+    }
     Ok(())
 }

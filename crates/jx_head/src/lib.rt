@@ -7,6 +7,7 @@ mod known;
 pub mod laws;
 mod parts;
 mod precinct;
+mod precinct_out;
 mod put;
 mod query;
 mod words;
