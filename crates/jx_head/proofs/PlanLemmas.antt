@@ -1,6 +1,8 @@
 -- The bands of a precinct that is written.
 use Rattle.std.proofs.Common.{◌≡◌, ◌≢◌, ℕ, zero, suc, ◌+◌, ◌-◌, ◌*◌, ◌^◌, ◌<◌, ◌≤◌, ◌==◌, Bool, true, false, List, [], ◌∷◌, ◌++◌, length, take, drop, map, get_or, set, refl, sym, ap, ◌∙◌, subst, cond, arith, append_assoc, length-set, inl, inr, ◌⊎◌}
-use Rattle.std.proofs.lemmas.List.{append-nil, take_all, drop_all}
+use Rattle.std.proofs.lemmas.List.{append-nil, take_all, drop_all, take-map, drop-map}
+use Rattle.jx_head.specs.declared.Leaf.{Leaf}
+use Rattle.jx_head.specs.Leafs.{leaf_of}
 use Rattle.jx_head.specs.Packet.{Cells, Values, Entry, BandTold, band_bits, band_after, bands_bits, bands_after, blocks_bits, blocks_after}
 use Rattle.jx_head.specs.Written.{Leafed, Writes, entries_written, cells_of, values_of}
 use Rattle.jx_head.specs.Writable.{IsWrites, BandsDone, AreDue, tolds_of, head_of, heads_of}
@@ -33,13 +35,13 @@ unfolding blocks_of
 blocks_of-snoc [] w = omega arith
 blocks_of-snoc (x ∷ xs) w = let i : blocks_of (xs ++ w ∷ []) ≡ blocks_of xs + length w.blocks = blocks_of-snoc xs w in omega arith
 
+drop_nil : {A : Type 0} (n : ℕ) → drop {A = A} n [] ≡ []
+drop_nil zero = refl
+drop_nil (suc n) = refl
+
 drop_drop : {A : Type 0} (n m : ℕ) (xs : List A) → drop n (drop m xs) ≡ drop (m + n) xs
 drop_drop n zero xs = let e : n ≡ 0 + n = omega arith in ap (λ (k : ℕ). drop k xs) e
-drop_drop n (suc m) [] = nil n ∙ (let e : suc m + n ≡ suc (m + n) = omega arith in ap (λ (k : ℕ). drop k []) (sym e))
-  where
-    nil : (n : ℕ) → drop n [] ≡ drop (suc (m + n)) []
-    nil zero = refl
-    nil (suc n) = refl
+drop_drop {A} n (suc m) [] = drop_nil {A = A} n ∙ sym (drop_nil {A = A} (suc m + n))
 drop_drop n (suc m) (x ∷ xs) = drop_drop n m xs ∙ (let e : suc (m + n) ≡ suc m + n = omega arith in ap (λ (k : ℕ). drop k (x ∷ xs)) e)
 
 due_snoc : (layer : ℕ) (ws : List Writes) (w : Writes) (leaves : List Leafed) → AreDue layer ws leaves → IsWrites layer (take (length w.blocks) (drop (blocks_of ws) leaves)) w → AreDue layer (ws ++ w ∷ []) leaves
@@ -128,3 +130,8 @@ bands_end layer at base leaves start ws begun bits ge l =
       due = subst (λ (q : List Writes). AreDue (layer + 1) q leaves) whole l.done;
       heads = l.heads;
     }
+
+-- the leaves of a part of the blocks
+pub part_leaves : (leaves : List Leaf) (base n m : ℕ) → m ≡ n → map leaf_of (take m (drop base leaves)) ≡ take n (drop base (map leaf_of leaves))
+part_leaves leaves base n m e =
+    ap (λ (k : ℕ). map leaf_of (take k (drop base leaves))) e ∙ sym (take-map leaf_of n (drop base leaves)) ∙ ap (take n) (sym (drop-map leaf_of base leaves))
