@@ -8,4 +8,5 @@ pub mod Precinct
 pub mod Written
 pub mod Leafs
 pub mod Writable
+pub mod LeavesFit
 pub mod Kept
