@@ -22,7 +22,7 @@ cells_few [] at d lt = absurd (omega arith)
 cells_few (b ∷ bs) zero d lt = omega arith
 cells_few (b ∷ bs) (suc at) d lt = let le : (get_or bs at d).wide * (get_or bs at d).high ≤ cells_in bs = cells_few bs at d (omega arith) in omega arith
 
-unknown_at : (n i : ℕ) → get_or (replicate n unknown_block) i unknown_block ≡ unknown_block
+pub unknown_at : (n i : ℕ) → get_or (replicate n unknown_block) i unknown_block ≡ unknown_block
 unknown_at n i = elim (cases_lt i n) [
   | inl lt ↦ get_or-replicate n i unknown_block unknown_block lt
   | inr ge ↦ get_or_past (replicate n unknown_block) i unknown_block (let e : length (replicate n unknown_block) ≡ n = length-replicate n unknown_block in omega arith)

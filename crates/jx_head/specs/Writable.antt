@@ -1,10 +1,13 @@
 -- What is true of a precinct that is written.
-use Rattle.std.specs.Prelude.{◌≡◌, ℕ, zero, suc, ◌+◌, ◌*◌, ◌^◌, ◌<◌, ◌≤◌, nat_le, Bool, ◌++◌, List, [], ◌∷◌, length, map, take, drop, slice_index, slice_index_or, if◌then◌else◌}
+use Rattle.std.specs.Prelude.{◌≡◌, ℕ, zero, suc, ◌+◌, ◌*◌, ◌^◌, ◌<◌, ◌≤◌, nat_le, Bool, true, false, ◌++◌, List, [], ◌∷◌, length, map, take, drop, slice_index, slice_index_or, if◌then◌else◌}
 use Rattle.jx_tagtree.specs.Shape.{IsShape}
+use Rattle.jx_tagtree.specs.Header.{bytes_of}
+use Rattle.jx_head.specs.Precinct.{fresh_bands}
+use Rattle.jx_head.specs.declared.BandCells.{BandCells}
 use Rattle.jx_head.specs.declared.Part.{Part}
 use Rattle.jx_head.specs.declared.known.Known.{Known}
 use Rattle.jx_head.specs.Packet.{Cells, BandTold, bands_bits, bands_after, unknown_block}
-use Rattle.jx_head.specs.Written.{Leafed, Writes, cells_of, values_of, entries_written, first_leaves, zero_leaves, passes_of, parts_in}
+use Rattle.jx_head.specs.Written.{Leafed, Writes, cells_of, values_of, entries_written, first_leaves, zero_leaf, zero_leaves, some_in, passes_of, parts_in}
 
 abbrev pub no_leaf : Leafed
 no_leaf = record { zero = 0; parts = [] }
@@ -81,3 +84,21 @@ pub record BandsDone (layer : ℕ) (leaves : List Leafed) (start ws : List Write
   pub due : AreDue (layer + 1) ws leaves
   pub heads : heads_of ws ≡ heads_of start
 
+
+-- each block has few passes, and zero planes of a byte
+abbrev pub AllFew : List Leafed → Type 0
+AllFew [] = Unit {0}
+AllFew (l ∷ ls) = (passes_from 0 l.parts < 2 ^ 16) × (zero_leaf 0 l.zero l.parts < 2 ^ 8) × AllFew ls
+
+-- when the header of a layer was written
+pub record HeaderDone (layer : ℕ) (leaves : List Leafed) (start ws : List Writes) (bytes : List ℕ) : Type 0 where
+  pub bytes_are : bytes ≡ bytes_of (if some_in layer leaves then true ∷ bands_bits layer (map cells_of start) (tolds_of layer start leaves) else false ∷ [])
+  pub after_are : map cells_of ws ≡ (if some_in layer leaves then bands_after layer (map cells_of start) (tolds_of layer start leaves) else map cells_of start)
+  pub due : AreDue (layer + 1) ws leaves
+  pub heads : heads_of ws ≡ heads_of start
+
+-- when the bands of which no packet was written were made
+pub record AreMade (layers : ℕ) (bands : List BandCells) (leaves : List Leafed) (made : List Writes) : Type 0 where
+  pub cells : map cells_of made ≡ fresh_bands bands
+  pub due : AreDue 0 made leaves
+  pub first : AreFirst layers (heads_of made) leaves

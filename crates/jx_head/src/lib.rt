@@ -14,6 +14,7 @@ mod words;
 
 pub use known::Known;
 pub use precinct::Precinct;
+pub use precinct_out::PrecinctOut;
 
 /// The blocks of a precinct's band.
 #[derive(Clone, Copy, Debug, PartialEq, Eq)]

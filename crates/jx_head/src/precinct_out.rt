@@ -1,9 +1,9 @@
-ghost use Rattle.std.specs.Prelude.{◌≡◌, ◌<◌, ◌≤◌, ◌+◌, ◌*◌, ◌^◌, ◌++◌, ℕ, map, length, IfOk, OnOk, OnErr};
-ghost use Rattle.jx_head.specs.Precinct.{IsBandCells};
-ghost use Rattle.jx_head.specs.Written.{first_leaves, zero_leaves, parts_in, passes_of, some_in};
+ghost use Rattle.std.specs.Prelude.{◌≡◌, ◌<◌, ◌≤◌, ◌+◌, ◌*◌, ◌^◌, ◌++◌, map, length, vec_len, vec_capacity, IfOk, OnOk, OnErr};
+ghost use Rattle.jx_head.specs.Precinct.{IsBandCells, CellsInRange, cells_in};
+ghost use Rattle.jx_head.specs.Written.{first_leaves, zero_leaves, some_in, next_header};
 ghost use Rattle.jx_head.specs.Leafs.{leaf_of};
-ghost use Rattle.jx_head.specs.Writable.{AreDue, BandsDone, leaf_at};
-ghost use Rattle.jx_head.specs.LeavesFit.{fresh_writes};
+ghost use Rattle.jx_head.specs.Writable.{AreDue, BandsDone, AllFew, HeaderDone, AreMade};
+ghost use Rattle.jx_head.specs.LeavesFit.{LeavesFit, fresh_writes};
 
 use crate::band_out::{BandOut, write_band};
 use crate::put::passes_in;
@@ -93,7 +93,7 @@ fn fresh_band(
 
 /// Whether some block contributes to a layer's packet.
 fn some_contributes(layer: u16, leaves: &[Leaf]) -> bool
-    requires { (i : ℕ) → passes_of (parts_in layer (leaf_at (map leaf_of leaves.now) i).parts) < 2 ^ 16 }
+    requires { AllFew (map leaf_of leaves.now) }
     ensures { result ≡ some_in layer (map leaf_of leaves.now) }
 {
     for leaf in leaves {
@@ -102,4 +102,126 @@ fn some_contributes(layer: u16, leaves: &[Leaf]) -> bool
         }
     }
     false
+}
+
+/// The bands of which no packet was written.
+fn fresh_bands_out(
+    alloc: Global,
+    bands: &[BandCells],
+    layers: u16,
+    leaves: &[Leaf],
+) -> Result<Vec<BandOut>, NoMemory>
+    requires bands { CellsInRange bands.now }
+    requires all { length leaves.now ≡ cells_in bands.now }
+    requires few { AllFew (map leaf_of leaves.now) }
+    ensures { IfOk result (λ made. AreMade layers bands.now (map leaf_of leaves.now) made.items) }
+{
+    let mut made = Vec::new(alloc);
+    let mut base = 0;
+    for cells in bands {
+        let count = cells.wide as usize * cells.high as usize;
+        if cells.wide > 0 {
+            made.push(fresh_band(
+                alloc,
+                *cells,
+                layers,
+                &leaves[base..base + count],
+            )?)?;
+        }
+        base += count;
+    }
+    Ok(made)
+}
+
+/// Writes the header of a layer's packet.
+fn one_header(
+    alloc: Global,
+    bands: &mut Vec<BandOut>,
+    layer: u16,
+    leaves: &[Leaf],
+) -> Result<Vec<u8>, NoMemory>
+    requires due { AreDue layer bands.old.items (map leaf_of leaves.now) }
+    requires few { AllFew (map leaf_of leaves.now) }
+    ensures { IfOk result (λ bytes. HeaderDone layer (map leaf_of leaves.now) bands.old.items bands.new.items bytes.items) }
+{
+    let mut bits = BitWriter::new(alloc);
+    if !some_contributes(layer, leaves) {
+        bits.bit(false)?;
+        return bits.finish();
+    }
+    bits.bit(true)?;
+    write_bands(bands, layer, leaves, &mut bits)?;
+    bits.finish()
+}
+
+/// A precinct that is written: the headers of its packets (T.800 B.10). All room that they take is taken
+/// when it is made.
+#[derive(Drop)]
+pub struct PrecinctOut {
+    style: Style,
+    layers: u16,
+    /// The next packet's layer.
+    next: u32,
+    bands: Vec<BandCells>,
+    leaves: Vec<Leaf>,
+    /// The headers of all layers.
+    headers: Vec<Vec<u8>>,
+}
+
+impl Model for PrecinctOut {
+    ghost use Rattle.std.specs.Prelude.{map, List, ℕ};
+    ghost use Rattle.jx_head.specs.Written.{Plan};
+    ghost use Rattle.jx_head.specs.Leafs.{leaf_of};
+    ghost use Rattle.jx_head.specs.LeavesFit.{AreHeaders};
+
+    ghost Value = { Plan };
+
+    ghost view = { λ p. record { style = p.style.bits; layers = p.layers; next = p.next; bands = p.bands.items; leaves = map leaf_of p.leaves.items } };
+
+    ghost invariant = { λ p. AreHeaders p.layers p.style.bits p.bands.items (map leaf_of p.leaves.items) p.layers (map (λ v. v.items) p.headers.items) };
+}
+
+impl PrecinctOut {
+    /// A precinct of which no packet was written, with one leaf for each block. `layers` is how many
+    /// packets it has.
+    pub fn new(
+        alloc: Global,
+        bands: &[BandCells],
+        style: Style,
+        layers: u16,
+        leaves: Vec<Leaf>,
+    ) -> Result<PrecinctOut, NoMemory>
+        requires bands { CellsInRange bands.now }
+        requires leaves { LeavesFit style.bits layers bands.now (map leaf_of leaves.items) }
+        ensures { IfOk result (λ p. p ≡ record { style = style.bits; layers = layers; next = 0; bands = bands.now; leaves = map leaf_of leaves.items }) }
+    {
+        let mut made = fresh_bands_out(alloc, bands, layers, &leaves)?;
+        let mut headers = Vec::new(alloc);
+        for layer in 0..layers {
+            headers.push(one_header(alloc, &mut made, layer, &leaves)?)?;
+        }
+        Ok(PrecinctOut {
+            style,
+            layers,
+            next: 0,
+            bands: Vec::from_slice(alloc, bands)?,
+            leaves,
+            headers,
+        })
+    }
+
+    /// Appends the header of a layer's packet. Layers come in order from 0. With room for it in `out` it
+    /// isn't refused; after an `Err` `out` is as before.
+    pub fn write_header(&mut self, layer: u16, out: &mut Vec<u8>) -> Result<(), NoMemory>
+        requires layer { self.old.next ≡ layer }
+        requires below { layer < self.old.layers }
+        ensures ok { OnOk result (out.new.items ≡ out.old.items ++ next_header self.old) }
+        ensures next { OnOk result (self.new ≡ record self.old { next = self.old.next + 1 }) }
+        ensures err { OnErr result (out.new.items ≡ out.old.items) }
+        ensures room { OnErr result (vec_capacity out.old < vec_len out.old + length (next_header self.old)) }
+    {
+        out.extend_from_slice(&self.headers[layer as usize])?;
+        self.next += 1;
+        Ok(())
+    }
 }
