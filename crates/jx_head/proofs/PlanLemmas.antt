@@ -1,5 +1,5 @@
 -- The bands of a precinct that is written.
-use Rattle.std.proofs.Common.{◌≡◌, ◌≢◌, ℕ, zero, suc, ◌+◌, ◌-◌, ◌*◌, ◌^◌, ◌<◌, ◌≤◌, ◌==◌, nat_le, min, Bool, true, false, List, [], ◌∷◌, ◌++◌, length, take, drop, map, get_or, set, replicate, refl, sym, ap, ◌∙◌, subst, cond, arith, append_assoc, length-set, length-append, length-drop, length-take, inl, inr, ◌⊎◌}
+use Rattle.std.proofs.Common.{◌≡◌, ◌≢◌, ℕ, zero, suc, ◌+◌, ◌-◌, ◌*◌, ◌^◌, ◌<◌, ◌≤◌, ◌==◌, nat_le, min, Bool, true, false, List, [], ◌∷◌, ◌++◌, length, take, drop, map, get_or, set, replicate, refl, sym, ap, ◌∙◌, subst, cond, arith, append_assoc, length-set, length-append, length-drop, length-take, Vec, Global, inl, inr, ◌⊎◌}
 use Rattle.std.proofs.lemmas.List.{append-nil, take_all, drop_all, take-map, drop-map, length-replicate, get_or_default}
 use Rattle.std.proofs.lemmas.Bool.Decides.{nat_tests}
 use Rattle.std.proofs.lemmas.Bool.{cases_lt}
@@ -261,7 +261,7 @@ making_room layers at base bands leaves made d m lt =
     omega arith
 
 pub making_skip : (layers at base : ℕ) (bands : List BandCells) (leaves : List Leafed) (made : List Writes) (d : BandCells) → Making layers at base bands leaves made → at < length bands → (get_or bands at d).wide ≡ 0 →
-    Making layers (at + 1) (base + (get_or bands at d).wide * (get_or bands at d).high) bands leaves made
+    Making layers (at + 1) base bands leaves made
 making_skip layers at base bands leaves made d m lt none =
     let b = get_or bands at d in
     let here = drop_get bands at d lt in
@@ -426,3 +426,15 @@ layers_next layers style layer bands leaves ws new headers after bytes l d e =
       first = subst (λ (h : List (List ℕ × ℕ)). AreFirst layers h leaves) (sym d.heads) l.first;
       headers_are = subst (λ (hs : List (List ℕ)). AreHeaders layers style bands leaves (layer + 1) hs) (sym e) (headers_push layers style layer bands leaves headers bytes l.headers_are header);
     }
+
+-- ---- calls
+pub one_empty : (layer : ℕ) (leaves : List Leafed) (ws : List Writes) (start bits : List Bool) (contributes : Bool) → AreDue layer ws leaves → contributes ≡ some_in layer leaves → contributes ≡ false → start ≡ [] → bits ≡ start ++ false ∷ [] →
+    (bytes : List ℕ) → bytes ≡ bytes_of bits → HeaderDone layer leaves ws ws bytes
+one_empty layer leaves ws start bits contributes d is none e f bytes g = header_empty layer leaves ws bits bytes d (sym is ∙ none) (f ∙ ap (λ (l : List Bool). l ++ false ∷ []) e) g
+
+map_push : {A B : Type 0} (f : A → B) (xs : List A) (y : A) → map f (xs ++ y ∷ []) ≡ map f xs ++ f y ∷ []
+map_push f [] y = refl
+map_push f (x ∷ xs) y = ap (λ l. f x ∷ l) (map_push f xs y)
+
+pub bytes_push : (headers new : List (Vec ℕ Global)) (v : Vec ℕ Global) → new ≡ headers ++ v ∷ [] → map (λ (x : Vec ℕ Global). x.items) new ≡ map (λ (x : Vec ℕ Global). x.items) headers ++ v.items ∷ []
+bytes_push headers new v e = ap (map (λ (x : Vec ℕ Global). x.items)) e ∙ map_push (λ (x : Vec ℕ Global). x.items) headers v

@@ -119,15 +119,12 @@ fn fresh_bands_out(
     let mut made = Vec::new(alloc);
     let mut base = 0;
     for cells in bands {
-        let count = cells.wide as usize * cells.high as usize;
-        if cells.wide > 0 {
-            made.push(fresh_band(
-                alloc,
-                *cells,
-                layers,
-                &leaves[base..base + count],
-            )?)?;
+        if cells.wide == 0 {
+            continue;
         }
+        let count = cells.wide as usize * cells.high as usize;
+        let mine = &leaves[base..base + count];
+        made.push(fresh_band(alloc, *cells, layers, mine)?)?;
         base += count;
     }
     Ok(made)
