@@ -12,11 +12,11 @@ use Rattle.jx_head.specs.declared.Leaf.{Leaf}
 use Rattle.jx_head.specs.Leafs.{leaf_of}
 use Rattle.jx_head.specs.Packet.{Cells, Values, Entry, BandTold, band_bits, band_after, bands_bits, bands_after, blocks_bits, blocks_after, most_passes, unknown_block}
 use Rattle.jx_head.specs.Written.{Leafed, Writes, entries_written, cells_of, values_of, first_leaves, zero_leaf, zero_leaves, parts_in, passes_of, some_in, bands_written, state_at}
-use Rattle.jx_head.specs.Precinct.{cells_in, IsBandCells, AreBandCells, fresh_cells, fresh_bands}
-use Rattle.jx_head.specs.LeavesFit.{FitsLeaf, FitBand, FitBands, fresh_writes, header_at, AreHeaders}
+use Rattle.jx_head.specs.Precinct.{cells_in, CellsInRange, IsBandCells, AreBandCells, fresh_cells, fresh_bands}
+use Rattle.jx_head.specs.LeavesFit.{LeavesFit, LeavesInRange, FitsLeaf, FitBand, FitBands, fresh_writes, header_at, AreHeaders}
 use Rattle.jx_head.proofs.FreshLemmas.{some_cells, unknown_at}
 use Rattle.jx_head.proofs.WriteLemmas.{due_split}
-use Rattle.jx_head.specs.Writable.{IsDue, IsWrites, BandsDone, AreDue, tolds_of, head_of, heads_of, AreFirst, AllFew, HeaderDone, AreMade, leaf_at, passes_from}
+use Rattle.jx_head.specs.Writable.{IsDue, IsWrites, BandsDone, AreDue, tolds_of, head_of, heads_of, AreFirst, AllFew, HeaderDone, AreMade, leaf_at, all_passes, passes_from}
 
 -- ---- a list at a place
 pub record Place (A : Type 0) (xs : List A) (at : ℕ) (y x : A) : Type 0 where
@@ -148,23 +148,25 @@ part_leaves leaves base n m e =
     ap (λ (k : ℕ). map leaf_of (take k (drop base leaves))) e ∙ sym (take-map leaf_of n (drop base leaves)) ∙ ap (take n) (sym (drop-map leaf_of base leaves))
 
 -- ---- few passes
-in_le : (layer : ℕ) (parts : List (ℕ × Part)) → passes_of (parts_in layer parts) ≤ passes_from 0 parts
+in_le : (layer : ℕ) (parts : List (ℕ × Part)) → passes_of (parts_in layer parts) ≤ all_passes parts
 in_le layer [] = omega arith
-in_le layer (p ∷ ps) =
-    let z : nat_le 0 p.0 ≡ true = grind (arith, nat_tests) in
-    by (p.0 == layer) (nat_le 0 p.0) z (in_le layer ps)
+in_le layer (p ∷ ps) = by (p.0 == layer) (in_le layer ps)
   where
-    by : (b c : Bool) → c ≡ true → passes_of (parts_in layer ps) ≤ passes_from 0 ps → passes_of (cond b (p.1 ∷ parts_in layer ps) (parts_in layer ps)) ≤ cond c (p.1.passes + passes_from 0 ps) (passes_from 0 ps)
-    by true true e le = omega arith
-    by false true e le = omega arith
-    by true false e le = absurd cc
-    by false false e le = absurd cc
+    by : (b : Bool) → passes_of (parts_in layer ps) ≤ all_passes ps → passes_of (cond b (p.1 ∷ parts_in layer ps) (parts_in layer ps)) ≤ p.1.passes + all_passes ps
+    by true le = omega arith
+    by false le = omega arith
+
+from_first : (parts : List (ℕ × Part)) → passes_from 0 parts ≡ all_passes parts
+from_first [] = refl
+from_first (p ∷ ps) =
+    let z : nat_le 0 p.0 ≡ true = grind (arith, nat_tests) in
+    ap (λ (b : Bool). cond b (p.1.passes + passes_from 0 ps) (passes_from 0 ps)) z ∙ ap (λ (n : ℕ). p.1.passes + n) (from_first ps)
 
 pub few_at : (layer i : ℕ) (leaves : List Leaf) (x : Leaf) → AllFew (map leaf_of leaves) → i < length leaves → x ≡ get_or leaves i x → passes_of (parts_in layer x.parts.items) < 2 ^ 16
 few_at layer i [] x f lt e = absurd (omega arith)
 few_at layer zero (l ∷ ls) x f lt e =
     subst (λ (y : Leaf). passes_of (parts_in layer y.parts.items) < 2 ^ 16) (sym e)
-    (let le : passes_of (parts_in layer l.parts.items) ≤ passes_from 0 l.parts.items = in_le layer l.parts.items in let s : passes_from 0 l.parts.items < 2 ^ 16 = f.0 in omega arith)
+    (let le : passes_of (parts_in layer l.parts.items) ≤ all_passes l.parts.items = in_le layer l.parts.items in let s : all_passes l.parts.items < 2 ^ 16 = f.0 in omega arith)
 few_at layer (suc i) (l ∷ ls) x f lt e = few_at layer i ls x f.2 (omega arith) e
 
 few_split : (n : ℕ) (leaves : List Leafed) → AllFew (take n leaves) → AllFew (drop n leaves) → AllFew leaves
@@ -183,10 +185,10 @@ few_drop (suc n) [] f = tt
 few_drop (suc n) (l ∷ ls) f = few_drop n ls f.2
 
 fit_leaf : (style layers planes block z : ℕ) (parts : List (ℕ × Part)) → planes ≤ 255 → FitsLeaf style layers planes block (record { zero = z; parts = parts }) parts →
-    (passes_from 0 parts < 2 ^ 16) × (zero_leaf 0 z parts < 2 ^ 8)
+    (all_passes parts < 2 ^ 16) × (zero_leaf 0 z parts < 2 ^ 8)
 fit_leaf style layers planes block z [] le f = (omega arith, omega arith)
 fit_leaf style layers planes block z (p ∷ ps) le f =
-    let a : passes_from 0 (p ∷ ps) ≤ most_passes planes z = f.few in
+    let a : all_passes (p ∷ ps) ≤ most_passes planes z = f.few in
     let b : z < planes = f.zero_planes in
     (omega arith, omega arith)
 
@@ -214,7 +216,7 @@ zeros_fit planes zero (l ∷ ls) le f = by l.parts f.1
     by (p ∷ ps) lt = omega arith
 zeros_fit planes (suc i) (l ∷ ls) le f = zeros_fit planes i ls le f.2
 
-few_leaf : (i : ℕ) (leaves : List Leafed) → AllFew leaves → passes_from 0 (leaf_at leaves i).parts < 2 ^ 16
+few_leaf : (i : ℕ) (leaves : List Leafed) → AllFew leaves → all_passes (leaf_at leaves i).parts < 2 ^ 16
 few_leaf i [] f = omega arith
 few_leaf zero (l ∷ ls) f = f.0
 few_leaf (suc i) (l ∷ ls) f = few_leaf i ls f.2
@@ -230,7 +232,7 @@ fresh_due layers b leaves is lt few all f = record {
     zeros_are = refl;
     fit = λ i. zeros_fit b.planes i leaves is.planes f;
   };
-  due = λ i. subst (λ (k : Known). IsDue 0 k (leaf_at leaves i)) (sym (unknown_at (b.wide * b.high) i)) (record { few = (let s : passes_from 0 (leaf_at leaves i).parts < 2 ^ 16 = few_leaf i leaves f in omega arith); lblock = omega arith });
+  due = λ i. subst (λ (k : Known). IsDue 0 k (leaf_at leaves i)) (sym (unknown_at (b.wide * b.high) i)) (record { few = (let s : all_passes (leaf_at leaves i).parts < 2 ^ 16 = few_leaf i leaves f in let e : passes_from 0 (leaf_at leaves i).parts ≡ all_passes (leaf_at leaves i).parts = from_first (leaf_at leaves i).parts in omega arith); lblock = omega arith });
 }
 
 pub record Making (layers at base : ℕ) (bands : List BandCells) (leaves : List Leafed) (made : List Writes) : Type 0 where
@@ -438,3 +440,7 @@ map_push f (x ∷ xs) y = ap (λ l. f x ∷ l) (map_push f xs y)
 
 pub bytes_push : (headers new : List (Vec ℕ Global)) (v : Vec ℕ Global) → new ≡ headers ++ v ∷ [] → map (λ (x : Vec ℕ Global). x.items) new ≡ map (λ (x : Vec ℕ Global). x.items) headers ++ v.items ∷ []
 bytes_push headers new v e = ap (map (λ (x : Vec ℕ Global). x.items)) e ∙ map_push (λ (x : Vec ℕ Global). x.items) headers v
+
+-- leaves that fit are in range
+pub fit_range : (style layers : ℕ) (bands : List BandCells) (leaves : List Leafed) → CellsInRange bands → LeavesFit style layers bands leaves → LeavesInRange bands leaves
+fit_range style layers bands leaves r f = record { all = f.all; few = fit_few style layers 0 bands leaves r.each f.all f.each }

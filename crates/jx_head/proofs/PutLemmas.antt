@@ -1,12 +1,16 @@
 -- Bits that are written.
-use Rattle.std.proofs.Common.{◌≡◌, ℕ, zero, suc, ◌+◌, ◌-◌, ◌*◌, ◌/◌, ◌%◌, ◌^◌, ◌<◌, ◌≤◌, ◌==◌, nat_le, nat_lt, Bool, true, false, List, [], ◌∷◌, ◌++◌, length, replicate, refl, sym, ap, ◌∙◌, subst, cond, arith, append_assoc}
+use Rattle.std.proofs.Common.{◌≡◌, ℕ, zero, suc, ◌+◌, ◌-◌, ◌*◌, ◌/◌, ◌%◌, ◌^◌, ◌<◌, ◌≤◌, ◌==◌, nat_le, nat_lt, Bool, true, false, List, [], ◌∷◌, ◌++◌, length, replicate, refl, sym, ap, ◌∙◌, subst, cond, arith, append_assoc, pow_mono, inl, inr, ◌⊎◌}
 use Rattle.std.proofs.lemmas.Bool.Decides.{nat_tests}
+use Rattle.std.proofs.lemmas.Bool.{cases_lt}
+use Rattle.jx_head.specs.declared.Part.{Part}
+use Rattle.jx_head.specs.Parts.{width}
+use Rattle.jx_head.specs.LeavesFit.{AreShort, AllFit}
 use Rattle.jx_tagtree.specs.Header.{low_bits}
 use Rattle.jx_tagtree.specs.TagTree.{Tree, query, tree_after}
 use Rattle.jx_tagtree.specs.Leaves.{Written, least_leaf, told_after}
 use Rattle.jx_tagtree.specs.Questions.{all_bits, after_all}
 use Rattle.jx_head.specs.Packet.{asked}
-use Rattle.jx_head.specs.Written.{least_of}
+use Rattle.jx_head.specs.Written.{least_of, raise_of}
 use Rattle.jx_head.specs.Words.{pass_word, powers, size}
 use Rattle.jx_head.proofs.WordLemmas.{word_one, word_two, word_few, word_some, word_many}
 
@@ -87,3 +91,76 @@ powers_le (suc n) m = by (nat_le (2 ^ n) m) (powers_le n m)
 pub size_le : (m : ℕ) → size m ≤ 32
 unfolding size
 size_le m = powers_le 32 m
+
+-- a number reaches no power of 2 that is above it, and each that isn't
+powers_small : (n m w : ℕ) → m < 2 ^ w → powers n m ≤ w
+powers_small zero m w lt = omega arith
+powers_small (suc n) m w lt = by (cases_lt n w) (powers_small n m w lt)
+  where
+    step : (b : Bool) → powers n m ≤ n → n < w → powers n m + cond b 1 0 ≤ w
+    step true le l = omega arith
+    step false le l = omega arith
+    by : (n < w) ⊎ (w ≤ n) → powers n m ≤ w → powers (suc n) m ≤ w
+    by (inl l) i = step (nat_le (2 ^ n) m) (powers_le n m) l
+    by (inr ge) i =
+        let p : 2 ^ w ≤ 2 ^ n = pow_mono ge in
+        let none : nat_le (2 ^ n) m ≡ false = (let l : m < 2 ^ n = omega arith in grind (arith, nat_tests)) in
+        ap-le (nat_le (2 ^ n) m) none i
+      where
+        ap-le : (b : Bool) → b ≡ false → powers n m ≤ w → powers n m + cond b 1 0 ≤ w
+        ap-le false e i = omega arith
+        ap-le true e i = absurd cc
+
+powers_large : (n m w : ℕ) → 2 ^ w ≤ m → w < n → w < powers n m
+powers_large zero m w ge lt = absurd (omega arith)
+powers_large (suc n) m w ge lt = by (λ (l : w < n). powers_large n m w ge l) (cases_lt w n)
+  where
+    all : (k : ℕ) → k ≤ w → powers k m ≡ k
+    all zero le = refl
+    all (suc k) le =
+        let p : 2 ^ k ≤ 2 ^ w = pow_mono (let l : k ≤ w = omega arith in l) in
+        let yes : nat_le (2 ^ k) m ≡ true = (let l : 2 ^ k ≤ m = omega arith in grind (arith, nat_tests)) in
+        ap (λ (b : Bool). powers k m + cond b 1 0) yes ∙ ap (λ (j : ℕ). j + 1) (all k (omega arith)) ∙ (let s : k + 1 ≡ suc k = omega arith in s)
+    more : (b : Bool) → w < powers n m → w < powers n m + cond b 1 0
+    more true i = omega arith
+    more false i = omega arith
+    by : (w < n → w < powers n m) → (w < n) ⊎ (n ≤ w) → w < powers (suc n) m
+    by again (inl l) = more (nat_le (2 ^ n) m) (again l)
+    by again (inr le) =
+        let e : n ≡ w = omega arith in
+        let a : powers w m ≡ w = all w (omega arith) in
+        let yes : nat_le (2 ^ n) m ≡ true = (let l : 2 ^ n ≤ m = subst (λ (k : ℕ). 2 ^ k ≤ m) (sym e) ge in grind (arith, nat_tests)) in
+        let f : powers n m ≡ w = ap (λ (k : ℕ). powers k m) e ∙ a in
+        one (nat_le (2 ^ n) m) yes f
+      where
+        one : (b : Bool) → b ≡ true → powers n m ≡ w → w < powers n m + cond b 1 0
+        one true e f = omega arith
+        one false e f = absurd cc
+
+pub size_small : (m w : ℕ) → m < 2 ^ w → size m ≤ w
+unfolding size
+size_small m w lt = powers_small 32 m w lt
+
+pub size_fits : (m w : ℕ) → m < 2 ^ 32 → size m ≤ w → m < 2 ^ w
+unfolding size
+size_fits m w short le = elim (cases_lt m (2 ^ w)) [
+  | inl lt ↦ lt
+  | inr ge ↦ elim (cases_lt w 32) [
+    | inl small ↦ absurd (let l : w < powers 32 m = powers_large 32 m w ge small in omega arith)
+    | inr big ↦ (let p : 2 ^ 32 ≤ 2 ^ w = pow_mono big in omega arith)
+  ]
+]
+
+pub raise_fits : (lblock : ℕ) (parts : List Part) → AreShort parts → AllFit (lblock + raise_of lblock parts) parts
+raise_fits lblock parts s = all parts (raise_of lblock parts) s (omega arith)
+  where
+    all : (ps : List Part) (k : ℕ) → AreShort ps → raise_of lblock ps ≤ k → AllFit (lblock + k) ps
+    all [] k s le = tt
+    all (p ∷ ps) k s le = (size_fits p.length (width (lblock + k) p.passes) s.0 (omega arith), all ps k s.1 (omega arith))
+
+pub raise_least : (lblock raise : ℕ) (parts : List Part) → AllFit (lblock + raise) parts → raise_of lblock parts ≤ raise
+raise_least lblock raise [] f = omega arith
+raise_least lblock raise (p ∷ ps) f =
+    let s : size p.length ≤ width (lblock + raise) p.passes = size_small p.length (width (lblock + raise) p.passes) f.0 in
+    let i : raise_of lblock ps ≤ raise = raise_least lblock raise ps f.1 in
+    omega arith

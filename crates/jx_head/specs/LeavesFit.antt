@@ -1,14 +1,14 @@
 -- The leaves that a precinct may be written with.
-use Rattle.std.specs.Prelude.{◌≡◌, ℕ, zero, suc, ◌+◌, ◌*◌, ◌<◌, ◌≤◌, nat_lt, List, [], ◌∷◌, length, map, take, drop, replicate, slice_index_or, if◌then◌else◌}
+use Rattle.std.specs.Prelude.{◌≡◌, ℕ, zero, suc, ◌+◌, ◌*◌, ◌^◌, ◌<◌, ◌≤◌, nat_lt, List, [], ◌∷◌, length, map, take, drop, replicate, slice_index_or, if◌then◌else◌}
 use Rattle.jx_tagtree.specs.Header.{bytes_of}
 use Rattle.jx_tagtree.specs.Leaves.{untold}
 use Rattle.jx_head.specs.declared.Part.{Part}
 use Rattle.jx_head.specs.declared.BandCells.{BandCells}
-use Rattle.jx_head.specs.Parts.{cut}
+use Rattle.jx_head.specs.Parts.{cut, width}
 use Rattle.jx_head.specs.Packet.{State, header_bits, most_passes, unknown_block}
 use Rattle.jx_head.specs.Precinct.{cells_in}
 use Rattle.jx_head.specs.Written.{Leafed, Writes, first_leaves, zero_leaves, parts_in, passes_of, header_written, state_at}
-use Rattle.jx_head.specs.Writable.{passes_from}
+use Rattle.jx_head.specs.Writable.{AllFew, all_passes}
 
 -- parts of a block in order of layers and passes, from a layer and a pass on, without a gap
 abbrev pub AreRuns : ℕ → ℕ → ℕ → ℕ → List (ℕ × Part) → Type 0
@@ -29,7 +29,7 @@ pub record IsLayerCut (style layer : ℕ) (parts : List (ℕ × Part)) : Type 0 
 -- a block that is included
 pub record IsLeaf (style layers planes block : ℕ) (leaf : Leafed) : Type 0 where
   pub zero_planes : leaf.zero < planes
-  pub few : passes_from 0 leaf.parts ≤ most_passes planes leaf.zero
+  pub few : all_passes leaf.parts ≤ most_passes planes leaf.zero
   pub parts : AreRuns layers block 0 0 leaf.parts
   pub cuts : (layer : ℕ) → IsLayerCut style layer leaf.parts
 
@@ -52,6 +52,11 @@ pub record LeavesFit (style layers : ℕ) (bands : List BandCells) (leaves : Lis
   pub all : length leaves ≡ cells_in bands
   pub each : FitBands style layers 0 bands leaves
 
+-- what is asked of them: one leaf for each block, with few passes
+pub record LeavesInRange (bands : List BandCells) (leaves : List Leafed) : Type 0 where
+  pub all : length leaves ≡ cells_in bands
+  pub few : AllFew leaves
+
 -- a band's writer before the first packet
 abbrev pub fresh_writes : ℕ → BandCells → List Leafed → Writes
 fresh_writes layers b leaves = record {
@@ -70,3 +75,13 @@ header_at layers style bands leaves layer =
 pub record AreHeaders (layers style : ℕ) (bands : List BandCells) (leaves : List Leafed) (count : ℕ) (headers : List (List ℕ)) : Type 0 where
   pub long : length headers ≡ count
   pub each : (layer : ℕ) → layer < count → slice_index_or headers layer [] ≡ header_at layers style bands leaves layer
+
+-- lengths of 32 bits
+abbrev pub AreShort : List Part → Type 0
+AreShort [] = Unit {0}
+AreShort (p ∷ ps) = (p.length < 2 ^ 32) × AreShort ps
+
+-- each length fits its bits
+abbrev pub AllFit : ℕ → List Part → Type 0
+AllFit lblock [] = Unit {0}
+AllFit lblock (p ∷ ps) = (p.length < 2 ^ width lblock p.passes) × AllFit lblock ps

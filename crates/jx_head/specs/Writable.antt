@@ -85,10 +85,15 @@ pub record BandsDone (layer : ℕ) (leaves : List Leafed) (start ws : List Write
   pub heads : heads_of ws ≡ heads_of start
 
 
+-- how many passes a block has in all
+abbrev pub all_passes : List (ℕ × Part) → ℕ
+all_passes [] = 0
+all_passes (p ∷ ps) = p.1.passes + all_passes ps
+
 -- each block has few passes, and zero planes of a byte
 abbrev pub AllFew : List Leafed → Type 0
 AllFew [] = Unit {0}
-AllFew (l ∷ ls) = (passes_from 0 l.parts < 2 ^ 16) × (zero_leaf 0 l.zero l.parts < 2 ^ 8) × AllFew ls
+AllFew (l ∷ ls) = (all_passes l.parts < 2 ^ 16) × (zero_leaf 0 l.zero l.parts < 2 ^ 8) × AllFew ls
 
 -- when the header of a layer was written
 pub record HeaderDone (layer : ℕ) (leaves : List Leafed) (start ws : List Writes) (bytes : List ℕ) : Type 0 where

@@ -59,3 +59,6 @@ pub enum HeadFault {
     /// Memory was refused.
     NoMemory,
 }
+
+#[cfg(test)]
+mod tests;

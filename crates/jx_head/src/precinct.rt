@@ -100,6 +100,7 @@ fn read_told(
     requires few { (frame bits.old).total < 2 ^ 67 }
     ensures ok { OnOk result (HeaderSaid (scan_header (record { style = style.bits; layer = next.old; bands = bands.old.items }) (to_come bits.old)) parts.old.items parts.new.items
         (record { style = style.bits; layer = next.new; bands = bands.new.items }) (to_come bits.new)) }
+    ensures next { OnOk result (next.new ≡ next.old + 1) }
     ensures kept { OnOk result (AreBands bands.new.items) }
     ensures blocks { OnOk result (length (all_blocks bands.new.items) ≡ length (all_blocks bands.old.items)) }
     ensures frame { OnOk result (frame bits.new ≡ frame bits.old) }
@@ -170,6 +171,8 @@ impl Precinct {
         ensures planes { BreaksPlanes bytes.now self.old → MatchResult result (λ _. ⊥) OnlyPlanes }
         ensures err { IfErr result (λ e. HasCause e bytes.now self.old) }
         ensures state { OnOk result (IsState self.new) }
+        ensures next { OnOk result (self.new.layer ≡ self.old.layer + 1) }
+        ensures blocks { OnOk result (length (all_blocks self.new.bands) ≡ length (all_blocks self.old.bands)) }
     {
         let mut bits = BitReader::new(bytes);
         let mut parts = Vec::new(*self.bands.allocator());

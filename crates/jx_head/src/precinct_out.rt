@@ -3,7 +3,7 @@ ghost use Rattle.jx_head.specs.Precinct.{IsBandCells, CellsInRange, cells_in};
 ghost use Rattle.jx_head.specs.Written.{first_leaves, zero_leaves, some_in, next_header};
 ghost use Rattle.jx_head.specs.Leafs.{leaf_of};
 ghost use Rattle.jx_head.specs.Writable.{AreDue, BandsDone, AllFew, HeaderDone, AreMade};
-ghost use Rattle.jx_head.specs.LeavesFit.{LeavesFit, fresh_writes};
+ghost use Rattle.jx_head.specs.LeavesFit.{LeavesInRange, fresh_writes};
 
 use crate::band_out::{BandOut, write_band};
 use crate::put::passes_in;
@@ -189,7 +189,7 @@ impl PrecinctOut {
         leaves: Vec<Leaf>,
     ) -> Result<PrecinctOut, NoMemory>
         requires bands { CellsInRange bands.now }
-        requires leaves { LeavesFit style.bits layers bands.now (map leaf_of leaves.items) }
+        requires leaves { LeavesInRange bands.now (map leaf_of leaves.items) }
         ensures { IfOk result (λ p. p ≡ record { style = style.bits; layers = layers; next = 0; bands = bands.now; leaves = map leaf_of leaves.items }) }
     {
         let mut made = fresh_bands_out(alloc, bands, layers, &leaves)?;

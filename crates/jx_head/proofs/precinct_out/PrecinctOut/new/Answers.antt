@@ -2,18 +2,18 @@ use Rattle.std.proofs.Common.{◌≡◌, ◌∙◌, ℕ, List, map, length, sym,
 use Rattle.jx_head.specs.declared.Leaf.{Leaf}
 use Rattle.jx_head.specs.Leafs.{leaf_of}
 use Rattle.jx_head.specs.Writable.{AllFew, HeaderDone}
-use Rattle.jx_head.proofs.PlanLemmas.{fit_few, layers_next, bytes_push}
+use Rattle.jx_head.proofs.PlanLemmas.{layers_next, bytes_push}
 use Rattle.jx_head.proofs.precinct_out.PrecinctOut.new.Goals as goal
 
 pub fresh_bands_out-requires-clause-few : goal.fresh_bands_out-requires-clause-few
 fresh_bands_out-requires-clause-few c =
     subst (λ (l : List Leaf). AllFew (map leaf_of l)) (sym c.deref.ensures.value)
-    (fit_few c.args.style.bits c.args.layers 0 c.args.bands.now (map leaf_of c.args.leaves.items) c.requires.bands.each c.requires.leaves.all c.requires.leaves.each)
+    c.requires.leaves.few
 
 pub one_header-requires-clause-few : goal.one_header-requires-clause-few
 one_header-requires-clause-few c =
     subst (λ (l : List Leaf). AllFew (map leaf_of l)) (sym c.deref-in-loop-layer.ensures.value)
-    (fit_few c.args.style.bits c.args.layers 0 c.args.bands.now (map leaf_of c.args.leaves.items) c.requires.bands.each c.requires.leaves.all c.requires.leaves.each)
+    c.requires.leaves.few
 
 pub loop-layer-preserved : goal.loop-layer-preserved
 loop-layer-preserved c =
