@@ -189,6 +189,7 @@ zeros_made values leaf (suc more) n tree rest l v le =
   where
     next' : Tree
     next' = tree_after values tree leaf (n + 1)
+
     by : (n + 1 ≤ values leaf → scan_more_zeros (tree_after values tree leaf (n + 1)) leaf (n + 1) more (all_bits values (tree_after values tree leaf (n + 1)) (asked leaf (n + 1) (left more (values leaf) (n + 1))) ++ rest)
         ≡ Some (zeros_is (min (values leaf) (n + 1 + more)) (after_all values (tree_after values tree leaf (n + 1)) (asked leaf (n + 1) (left more (values leaf) (n + 1)))) rest)) →
         (b : Bool) → nat_lt (values leaf) (n + 1) ≡ b →
@@ -226,6 +227,7 @@ zeros_leaf leaf (suc more) n tree bits z l h =
         (a : Asked) → IsLeafOf a.tree leaf → (b : Bool) → cond b (Some (zeros_is n a.tree a.rest)) (scan_more_zeros a.tree leaf (n + 1) more a.rest) ≡ Some z → IsLeafOf z.tree leaf
     pick again a k true h = let is : zeros_is n a.tree a.rest ≡ z = cc in subst (λ (x : Zeros). IsLeafOf x.tree leaf) is k
     pick again a k false h = again a.tree a.rest k h
+
     by : ((next : Tree) (rest : List Bool) → IsLeafOf next leaf → scan_more_zeros next leaf (n + 1) more rest ≡ Some z → IsLeafOf z.tree leaf) →
         (o : Option Asked) → ask tree leaf (n + 1) bits ≡ o → option_and_then (choose leaf n more) o ≡ Some z → IsLeafOf z.tree leaf
     by again None eq h = absurd cc
@@ -253,17 +255,18 @@ zeros_go values leaf (suc more) n tree bits z l h v =
         subst (λ (x : Zeros). ZerosGo values leaf (suc more) n tree bits x) is (record {
           before = r.before;
           read = λ le. (
-            let lt : values leaf < n + 1 = lt-of (values leaf) (n + 1) (sym r.below_is ∙ e) in
-            let one : left (suc more) (values leaf) n ≡ 1 = omega arith in
-            record {
-              zeros_are = omega arith;
-              bits_are = r.bits_are ∙ ap (λ (q : List Bool). q ++ a.rest) (sym (nil_behind (query values tree leaf (n + 1)).bits)) ∙ ap (λ (k : ℕ). all_bits values tree (asked leaf n k) ++ a.rest) (sym one);
-              tree_is = r.tree_is ∙ ap (λ (k : ℕ). after_all values tree (asked leaf n k)) (sym one);
-            });
+              let lt : values leaf < n + 1 = lt-of (values leaf) (n + 1) (sym r.below_is ∙ e) in
+              let one : left (suc more) (values leaf) n ≡ 1 = omega arith in
+              record {
+                zeros_are = omega arith;
+                bits_are = r.bits_are ∙ ap (λ (q : List Bool). q ++ a.rest) (sym (nil_behind (query values tree leaf (n + 1)).bits)) ∙ ap (λ (k : ℕ). all_bits values tree (asked leaf n k) ++ a.rest) (sym one);
+                tree_is = r.tree_is ∙ ap (λ (k : ℕ). after_all values tree (asked leaf n k)) (sym one);
+              });
         })
       where
         nil_behind : (q : List Bool) → q ++ [] ≡ q
         nil_behind q = simp append-nil
+
     more_go : (a : Asked) → ask tree leaf (n + 1) bits ≡ Some a → a.below ≡ false → ZerosGo values leaf more (n + 1) a.tree a.rest z → ZerosGo values leaf (suc more) n tree bits z
     more_go a eq e g =
         let r = ask_read tree leaf (n + 1) l values bits a eq g.before in
@@ -285,11 +288,13 @@ zeros_go values leaf (suc more) n tree bits z l h v =
                 ∙ ap (λ (j : ℕ). after_all values tree (asked leaf n j)) (sym some);
           };
         }
+
     pick : ((next : Tree) (rest : List Bool) → IsLeafOf next leaf → scan_more_zeros next leaf (n + 1) more rest ≡ Some z → ZerosGo values leaf more (n + 1) next rest z) →
         (a : Asked) → ask tree leaf (n + 1) bits ≡ Some a → (b : Bool) → a.below ≡ b → cond b (Some (zeros_is n a.tree a.rest)) (scan_more_zeros a.tree leaf (n + 1) more a.rest) ≡ Some z →
         ZerosGo values leaf (suc more) n tree bits z
     pick again a eq true e h = last a eq e cc
     pick again a eq false e h = more_go a eq e (again a.tree a.rest (ask_tree tree leaf (n + 1) l bits a eq) h)
+
     by : ((next : Tree) (rest : List Bool) → IsLeafOf next leaf → scan_more_zeros next leaf (n + 1) more rest ≡ Some z → ZerosGo values leaf more (n + 1) next rest z) →
         (o : Option Asked) → ask tree leaf (n + 1) bits ≡ o → option_and_then (choose leaf n more) o ≡ Some z → ZerosGo values leaf (suc more) n tree bits z
     by again None eq h = absurd cc

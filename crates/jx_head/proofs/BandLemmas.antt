@@ -65,10 +65,12 @@ included_leaf style block leaf cells bits t b h = by (scan_zeros (block_at cells
     last z l (Err e) h = absurd cc
     last z l (Ok f) h = let is : told_of (record cells { zeros = z.tree }) leaf z.zeros f ≡ t = cc in
         subst (λ (x : Told). IsBlockOf x.cells leaf) is (record { in_first = b.in_first; in_zeros = l })
+
     pick : (z : Zeros) → IsLeafOf z.tree leaf → (c : Bool) →
         cond c (Err Planes) (and_told (told_of (record cells { zeros = z.tree }) leaf z.zeros) (scan_entry style block cells.planes z.zeros (block_at cells leaf) z.rest)) ≡ Ok t → IsBlockOf t.cells leaf
     pick z l true h = absurd cc
     pick z l false h = last z l (scan_entry style block cells.planes z.zeros (block_at cells leaf) z.rest) h
+
     by : (o : Option Zeros) → scan_zeros (block_at cells leaf).zero cells.zeros leaf cells.planes bits ≡ o → and_then (or_bits o) (on_zeros style block leaf cells) ≡ Ok t → IsBlockOf t.cells leaf
     by None eq h = absurd cc
     by (Some z) eq h = pick z (zero_leaf (block_at cells leaf).zero cells.zeros leaf cells.planes bits z b.in_zeros eq) (nat_le cells.planes z.zeros) h
@@ -81,6 +83,7 @@ block_leaf style layer block leaf cells bits t b h = by (scan_first (block_at ce
     pick s l true h = included_leaf style block leaf (record cells { first = s.tree }) s.rest t (record { in_first = l; in_zeros = b.in_zeros }) h
     pick s l false h = let is : told_is nothing (record cells { first = s.tree }) s.rest ≡ t = cc in
         subst (λ (x : Told). IsBlockOf x.cells leaf) is (record { in_first = l; in_zeros = b.in_zeros })
+
     by : (o : Option Asked) → scan_first (block_at cells leaf).zero cells.first leaf layer bits ≡ o → and_then (or_bits o) (on_first style block leaf cells) ≡ Ok t → IsBlockOf t.cells leaf
     by None eq h = absurd cc
     by (Some s) eq h = pick s (first_leaf (block_at cells leaf).zero cells.first leaf layer bits s b.in_first eq) s.below h
@@ -191,12 +194,14 @@ block_breaks style layer block leaf cells bits b h = by (scan_first (block_at ce
             breaks = breaks v g.1;
           };
         }
+
     reach : (s : Asked) → (z : Zeros) → scan_zeros (block_at cells leaf).zero cells.zeros leaf cells.planes s.rest ≡ Some z → cells.planes ≤ z.zeros →
         (v : Values) → ValuesOf z.tree v.zeros → ReachesPlanes v leaf cells s.rest
     reach s z was le v a =
         let q = zero_read (block_at cells leaf).zero v.zeros cells.zeros leaf cells.planes s.rest z b.in_zeros was a in
         let le' : cells.planes ≤ counted (block_at cells leaf).zero v.zeros leaf cells.planes = subst (λ (n : ℕ). cells.planes ≤ n) q.zeros_are le in
         record { reach = reaches_counted (block_at cells leaf).zero v.zeros leaf cells.planes le'; rest = z.rest; stands = q.bits_are }
+
     pass : (s : Asked) → (z : Zeros) → scan_zeros (block_at cells leaf).zero cells.zeros leaf cells.planes s.rest ≡ Some z → z.zeros < cells.planes →
         TooMany cells.planes z.zeros (block_at cells leaf) z.rest → (v : Values) → ValuesOf z.tree v.zeros → PassesPlanes v leaf cells s.rest
     pass s z was lt m v a =
@@ -212,9 +217,11 @@ block_breaks style layer block leaf cells bits b h = by (scan_first (block_at ce
           rest = m'.rest;
           stands = q.bits_are ∙ ap (λ (l : List Bool). zero_bits (block_at cells leaf).zero v.zeros cells.zeros leaf cells.planes ++ l) m'.stands;
         }
+
     inner : (style planes z : ℕ) (known : Known) (g : Found Entry → Told) (rest : List Bool) (r : Result (Found Entry) HeadFault) → and_told g r ≡ Err Planes → r ≡ Err Planes
     inner style planes z known g rest (Err e) h = let is : e ≡ Planes = cc in ap (λ (x : HeadFault). let y : Result (Found Entry) HeadFault = Err x in y) is
     inner style planes z known g rest (Ok f) h = absurd cc
+
     over : (s : Asked) → scan_first (block_at cells leaf).zero cells.first leaf layer bits ≡ Some s → s.below ≡ true → (z : Zeros) →
         scan_zeros (block_at cells leaf).zero cells.zeros leaf cells.planes s.rest ≡ Some z → (c : Bool) → nat_le cells.planes z.zeros ≡ c →
         cond c (Err Planes) (and_told (told_of (record cells { first = s.tree; zeros = z.tree }) leaf z.zeros) (scan_entry style block cells.planes z.zeros (block_at cells leaf) z.rest)) ≡ Err Planes →
@@ -224,15 +231,18 @@ block_breaks style layer block leaf cells bits b h = by (scan_first (block_at ce
         let i = inner style cells.planes z.zeros (block_at cells leaf) (told_of (record cells { first = s.tree; zeros = z.tree }) leaf z.zeros) z.rest (scan_entry style block cells.planes z.zeros (block_at cells leaf) z.rest) h in
         let m = entry_breaks style block cells.planes z.zeros (block_at cells leaf) z.rest i in
         whole s eq e z was (λ v a. inr (pass s z was (lt-is cells.planes z.zeros c) m v a))
+
     zeros : (s : Asked) → scan_first (block_at cells leaf).zero cells.first leaf layer bits ≡ Some s → s.below ≡ true → (o : Option Zeros) →
         scan_zeros (block_at cells leaf).zero cells.zeros leaf cells.planes s.rest ≡ o → and_then (or_bits o) (on_zeros style block leaf (record cells { first = s.tree })) ≡ Err Planes →
         SomeBreak layer leaf cells bits
     zeros s eq e None was h = absurd cc
     zeros s eq e (Some z) was h = over s eq e z was (nat_le cells.planes z.zeros) refl h
+
     pick : (s : Asked) → scan_first (block_at cells leaf).zero cells.first leaf layer bits ≡ Some s → (c : Bool) → s.below ≡ c →
         cond c (scan_included style block leaf (record cells { first = s.tree }) s.rest) (Ok (told_is nothing (record cells { first = s.tree }) s.rest)) ≡ Err Planes → SomeBreak layer leaf cells bits
     pick s eq true e h = zeros s eq e (scan_zeros (block_at cells leaf).zero cells.zeros leaf cells.planes s.rest) refl h
     pick s eq false e h = absurd cc
+
     by : (o : Option Asked) → scan_first (block_at cells leaf).zero cells.first leaf layer bits ≡ o → and_then (or_bits o) (on_first style block leaf cells) ≡ Err Planes → SomeBreak layer leaf cells bits
     by None eq h = absurd cc
     by (Some s) eq h = pick s eq s.below refl h
@@ -311,6 +321,7 @@ blocks_read style layer base stop (suc more) leaf cells bits a t all sum h =
   where
     lt : leaf < length cells.blocks
     lt = let i : leaf < stop = omega arith in subst (λ (n : ℕ). leaf < n) all i
+
     join : (u : Told) → scan_block style layer (base + leaf) leaf cells bits ≡ Ok u → (x : AllTold) → BlocksRead style layer base stop (leaf + 1) u.cells u.rest x → after_told u.entry.parts x ≡ a →
         BlocksRead style layer base stop leaf cells bits a
     join u eq x r is =
@@ -321,19 +332,20 @@ blocks_read style layer base stop (suc more) leaf cells bits a t all sum h =
           entries = u.entry ∷ r.entries;
           parts_are = ap (λ (ps : List Part). u.entry.parts ++ ps) r.parts_are;
           go = λ v agree. (
-            let g : BlocksGo v style layer base stop (leaf + 1) u.cells u.rest r.entries x = r.go v agree in
-            let o : BlockRead v style layer (base + leaf) leaf cells bits u = block_read v style layer (base + leaf) leaf cells bits u b eq g.before in
-            let front = entry_bits v layer leaf cells u.entry in
-            let next = entry_after v layer leaf cells u.entry in
-            record {
-              before = o.before;
-              are = ((let i : leaf < stop = omega arith in i), o.is, subst (λ (c : Cells). AreEntries v style layer base stop (leaf + 1) c r.entries) o.cells_are g.are);
-              bits_are = o.bits_are ∙ ap (λ (q : List Bool). front ++ q) g.bits_are
-                  ∙ ap (λ (c : Cells). front ++ (blocks_bits v layer (leaf + 1) c r.entries ++ x.rest)) o.cells_are
-                  ∙ sym (append_assoc front (blocks_bits v layer (leaf + 1) next r.entries) x.rest);
-              cells_are = g.cells_are ∙ ap (λ (c : Cells). blocks_after v layer (leaf + 1) c r.entries) o.cells_are;
-            });
+              let g : BlocksGo v style layer base stop (leaf + 1) u.cells u.rest r.entries x = r.go v agree in
+              let o : BlockRead v style layer (base + leaf) leaf cells bits u = block_read v style layer (base + leaf) leaf cells bits u b eq g.before in
+              let front = entry_bits v layer leaf cells u.entry in
+              let next = entry_after v layer leaf cells u.entry in
+              record {
+                before = o.before;
+                are = ((let i : leaf < stop = omega arith in i), o.is, subst (λ (c : Cells). AreEntries v style layer base stop (leaf + 1) c r.entries) o.cells_are g.are);
+                bits_are = o.bits_are ∙ ap (λ (q : List Bool). front ++ q) g.bits_are
+                    ∙ ap (λ (c : Cells). front ++ (blocks_bits v layer (leaf + 1) c r.entries ++ x.rest)) o.cells_are
+                    ∙ sym (append_assoc front (blocks_bits v layer (leaf + 1) next r.entries) x.rest);
+                cells_are = g.cells_are ∙ ap (λ (c : Cells). blocks_after v layer (leaf + 1) c r.entries) o.cells_are;
+              });
         })
+
     last : ((next : Cells) (rest : List Bool) (x : AllTold) → AreTrees next → stop ≡ length next.blocks → scan_blocks style layer base more (leaf + 1) next rest ≡ Ok x →
         BlocksRead style layer base stop (leaf + 1) next rest x) →
         (u : Told) → scan_block style layer (base + leaf) leaf cells bits ≡ Ok u → (r : Result AllTold HeadFault) → scan_blocks style layer base more (leaf + 1) u.cells u.rest ≡ r →
@@ -342,6 +354,7 @@ blocks_read style layer base stop (suc more) leaf cells bits a t all sum h =
     last again u eq (Ok x) was h =
         let k = block_kept style layer (base + leaf) leaf cells bits u t lt eq in
         join u eq x (again u.cells u.rest x k.trees (all ∙ sym k.long) was) cc
+
     by : ((next : Cells) (rest : List Bool) (x : AllTold) → AreTrees next → stop ≡ length next.blocks → scan_blocks style layer base more (leaf + 1) next rest ≡ Ok x →
         BlocksRead style layer base stop (leaf + 1) next rest x) →
         (r : Result Told HeadFault) → scan_block style layer (base + leaf) leaf cells bits ≡ r → and_then r (on_block style layer base more leaf) ≡ Ok a → BlocksRead style layer base stop leaf cells bits a
@@ -374,8 +387,10 @@ blocks_breaks style layer base stop (suc more) leaf cells bits t all sum h =
   where
     in_stop : leaf < stop
     in_stop = omega arith
+
     lt : leaf < length cells.blocks
     lt = subst (λ (n : ℕ). leaf < n) all in_stop
+
     join : (u : Told) → scan_block style layer (base + leaf) leaf cells bits ≡ Ok u → SomeBlocksBreak style layer base stop (leaf + 1) u.cells u.rest → SomeBlocksBreak style layer base stop leaf cells bits
     join u eq s =
         let v = s.values in
@@ -397,6 +412,7 @@ blocks_breaks style layer base stop (suc more) leaf cells bits t all sum h =
           breaks = subst (λ (c : Cells). Breaks v layer s.at (blocks_after v layer (leaf + 1) c s.entries) s.behind) o.cells_are s.breaks;
           from = omega arith;
         }
+
     by : ((next : Cells) (rest : List Bool) → AreTrees next → stop ≡ length next.blocks → scan_blocks style layer base more (leaf + 1) next rest ≡ Err Planes → SomeBlocksBreak style layer base stop (leaf + 1) next rest) →
         (r : Result Told HeadFault) → scan_block style layer (base + leaf) leaf cells bits ≡ r → and_then r (on_block style layer base more leaf) ≡ Err Planes → SomeBlocksBreak style layer base stop leaf cells bits
     by again (Err e) eq h =
@@ -518,11 +534,13 @@ bands_read style layer base (cells ∷ bands) bits b t h =
           bands_are = ap (λ (c : Cells). c ∷ x.bands) o.cells_are ∙ ap (λ (cs : List Cells). band_after layer cells o.told ∷ cs) g.bands_are;
           trees = (o.kept.trees, g.trees);
         })
+
     last : ((q : List Bool) (x : BandsRead) → scan_bands style layer (base + length cells.blocks) bands q ≡ Ok x → BandsGo style layer (base + length cells.blocks) bands q x) →
         (a : AllTold) → scan_band style layer base cells bits ≡ Ok a → (r : Result BandsRead HeadFault) → scan_bands style layer (base + length cells.blocks) bands a.rest ≡ r →
         and_band a r ≡ Ok b → BandsGo style layer base (cells ∷ bands) bits b
     last again a eq (Err e) was h = absurd cc
     last again a eq (Ok x) was h = join a eq x (again a.rest x was) cc
+
     by : ((q : List Bool) (x : BandsRead) → scan_bands style layer (base + length cells.blocks) bands q ≡ Ok x → BandsGo style layer (base + length cells.blocks) bands q x) →
         (r : Result AllTold HeadFault) → scan_band style layer base cells bits ≡ r → and_then r (on_band style layer base cells bands) ≡ Ok b → BandsGo style layer base (cells ∷ bands) bits b
     by again (Err e) eq h = absurd cc
@@ -630,6 +648,7 @@ entry_bound v style layer block leaf cells e bits rest b lt is stands small = by
   where
     known : Known
     known = block_at cells leaf
+
     by : (c : Bool) → MatchBool c (IsIncluded style block cells.planes (zero_planes (block_at cells leaf).zero v.zeros leaf) (block_at cells leaf) e) (e ≡ nothing) →
         bits ≡ (first_bits (block_at cells leaf).zero v.first cells.first leaf layer (contributes e) ++ cond c (included_bits v leaf cells e) []) ++ rest →
         (i : ℕ) → IsKnown (block_at (cond c (cells_included v leaf (cells_first v layer leaf cells) e) (cells_first v layer leaf cells)) i)
@@ -653,12 +672,14 @@ block_band style layer block leaf cells bits t b lt small h =
     let f = known_values t.cells.first l.in_first.is in
     let z = known_values t.cells.zeros l.in_zeros.is in
     let v : Values = record { first = f.0; zeros = z.0 } in
-    let r : BlockRead v style layer block leaf cells bits t = block_read v style layer block leaf cells bits t o h (record { in_first = f.1; in_zeros = z.1 }) in
-    (record {
-      trees = k.trees;
-      planes = subst (λ (n : ℕ). n ≤ 255) (sym k.planes) b.planes;
-      blocks = subst (λ (c : Cells). (i : ℕ) → IsKnown (block_at c i)) (sym r.cells_are) (entry_bound v style layer block leaf cells t.entry bits t.rest b lt r.is r.bits_are small);
-    }, k.long)
+    let r : BlockRead v style layer block leaf cells bits t = block_read v style layer block leaf cells bits t o h (record { in_first = f.1; in_zeros = z.1 }) in (
+      record {
+        trees = k.trees;
+        planes = subst (λ (n : ℕ). n ≤ 255) (sym k.planes) b.planes;
+        blocks = subst (λ (c : Cells). (i : ℕ) → IsKnown (block_at c i)) (sym r.cells_are) (entry_bound v style layer block leaf cells t.entry bits t.rest b lt r.is r.bits_are small);
+      },
+      k.long,
+    )
 
 -- ---- block after block
 parts_parts : (ps qs : List Part) (r : Result AllTold HeadFault) → and_parts ps (and_parts qs r) ≡ and_parts (ps ++ qs) r
@@ -785,7 +806,7 @@ bands_err : (whole : Result BandsRead HeadFault) (begun now : List Part) (style 
 bands_err whole begun now style layer base at bands d bits f lt h was =
     let s = set_at bands at d d lt in
     whole_bands_fault begun whole f (h ∙ ap (λ (l : List Cells). and_done now (take at bands) (scan_bands style layer base l bits)) s.here
-        ∙ ap (λ (r : Result AllTold HeadFault). and_done now (take at bands) (and_then r (on_band style layer base (get_or bands at d) (drop (at + 1) bands)))) was)
+    ∙ ap (λ (r : Result AllTold HeadFault). and_done now (take at bands) (and_then r (on_band style layer base (get_or bands at d) (drop (at + 1) bands)))) was)
 
 pub bands_refuse : (whole : Result BandsRead HeadFault) (begun now : List Part) (style layer base at : ℕ) (bands : List Cells) (d : Cells) (bits : List Bool) (f : HeadFault) → at < length bands →
     and_done begun [] whole ≡ and_done now (take at bands) (scan_bands style layer base (drop at bands) bits) → Refuses f (scan_band style layer base (get_or bands at d) bits) → Refuses f whole
@@ -797,7 +818,7 @@ pub bands_said : (whole : Result BandsRead HeadFault) (begun now : List Part) (s
     and_done begun [] whole ≡ and_done now (take at bands) (scan_bands style layer base (drop at bands) bits) → BandsSaid whole begun now bands bits
 bands_said whole begun now style layer base at bands bits ge h =
     by whole (h ∙ ap (λ (l : List Cells). and_done now l (scan_bands style layer base (drop at bands) bits)) (take_all at bands ge)
-        ∙ ap (λ (l : List Cells). and_done now bands (scan_bands style layer base l bits)) (drop_all at bands ge))
+    ∙ ap (λ (l : List Cells). and_done now bands (scan_bands style layer base l bits)) (drop_all at bands ge))
   where
     by : (w : Result BandsRead HeadFault) → and_done begun [] w ≡ Ok (bands_is (now ++ []) (bands ++ []) bits) → BandsSaid w begun now bands bits
     by (Err e) h = absurd cc

@@ -199,14 +199,17 @@ entry_read style block planes z known bits f below h = by (scan_passes bits) ref
               ∙ ap (λ (l : List Bool). pass_word p.value ++ l) (raise_read p.rest k was ∙ ap (λ (l : List Bool). raise_word k.value ++ l) s.bits_are ∙ sym (append_assoc (raise_word k.value) lengths q.rest))
               ∙ sym (append_assoc (pass_word p.value) (raise_word k.value ++ lengths) q.rest);
         })
+
     more : (p : Found ℕ) → PassesRead bits p → known.passes + p.value ≤ most_passes planes z → (o : Option (Found ℕ)) → scan_raise p.rest ≡ o →
         or_bits (option_and_then (on_raise style block known p.value) o) ≡ Ok f → EntryRead style block planes z known bits f
     more p r few None eq h = absurd cc
     more p r few (Some k) eq h = end p k r few eq (scan_parts (known.lblock + k.value) block known.passes (cut style known.passes p.value) k.rest) refl h
+
     pick : (p : Found ℕ) → PassesRead bits p → (b : Bool) → nat_lt (most_passes planes z) (known.passes + p.value) ≡ b →
         cond b (Err Planes) (or_bits (scan_lengths style block known p.value p.rest)) ≡ Ok f → EntryRead style block planes z known bits f
     pick p r true e h = absurd cc
     pick p r false e h = more p r (le-of (most_passes planes z) (known.passes + p.value) e) (scan_raise p.rest) refl h
+
     by : (o : Option (Found ℕ)) → scan_passes bits ≡ o → and_then (or_bits o) (on_passes style block planes z known) ≡ Ok f → EntryRead style block planes z known bits f
     by None eq h = absurd cc
     by (Some p) eq h = pick p (passes_read bits p eq) (nat_lt (most_passes planes z) (known.passes + p.value)) refl h
@@ -230,6 +233,7 @@ entry_breaks style block planes z known bits h = by (scan_passes bits) refl h
         cond b (Err Planes) (or_bits (scan_lengths style block known p.value p.rest)) ≡ Err Planes → TooMany planes z known bits
     pick p r true e h = record { passes = p.value; count = r.count; over = lt-of (most_passes planes z) (known.passes + p.value) e; rest = p.rest; stands = r.bits_are }
     pick p r false e h = absurd (only_bits (scan_lengths style block known p.value p.rest) h)
+
     by : (o : Option (Found ℕ)) → scan_passes bits ≡ o → and_then (or_bits o) (on_passes style block planes z known) ≡ Err Planes → TooMany planes z known bits
     by None eq h = absurd cc
     by (Some p) eq h = pick p (passes_read bits p eq) (nat_lt (most_passes planes z) (known.passes + p.value)) refl h
@@ -312,6 +316,7 @@ block_over v style layer block leaf cells bits b a breaks =
         ∙ ap (λ (o : Option Zeros). and_then (or_bits o) (on_zeros style block leaf cells')) (zero_made known.zero v.zeros cells.zeros leaf cells.planes r.rest b.in_zeros a.in_zeros)
         ∙ ap (λ (x : Bool). cond x (Err Planes) (and_told (told_of (record cells' { zeros = zs.tree }) leaf zs.zeros) (scan_entry style block cells.planes zs.zeros known zs.rest)))
         (nat_le-true cells.planes z (counted_reaches known.zero v.zeros leaf cells.planes r.reach))
+
     pass : PassesPlanes v leaf cells breaks.behind → scan_included style block leaf (record cells { first = first_after (block_at cells leaf).zero v.first cells.first leaf layer }) breaks.behind ≡ Err Planes
     pass r =
         let known = block_at cells leaf in
@@ -324,6 +329,7 @@ block_over v style layer block leaf cells bits b a breaks =
         ∙ ap (λ (n : ℕ). on_zeros style block leaf cells' (zeros_is n tree behind)) (counted_below known.zero v.zeros leaf cells.planes r.below)
         ∙ ap (λ (x : Bool). cond x (Err Planes) (and_told (told_of (record cells' { zeros = tree }) leaf z) (scan_entry style block cells.planes z known behind))) (nat_le-false cells.planes z r.below)
         ∙ ap (and_told (told_of (record cells' { zeros = tree }) leaf z)) (entry_over style block cells.planes z known r.passes r.rest r.count r.over)
+
     by : ReachesPlanes v leaf cells breaks.behind ⊎ PassesPlanes v leaf cells breaks.behind →
         scan_included style block leaf (record cells { first = first_after (block_at cells leaf).zero v.first cells.first leaf layer }) breaks.behind ≡ Err Planes
     by (inl r) = reach r
@@ -349,6 +355,7 @@ included_read v style block leaf cells bits t l h a = by (scan_zeros (block_at c
   where
     known : Known
     known = block_at cells leaf
+
     last : (z : Zeros) → scan_zeros (block_at cells leaf).zero cells.zeros leaf cells.planes bits ≡ Some z → z.zeros < cells.planes →
         (r : Result (Found Entry) HeadFault) → scan_entry style block cells.planes z.zeros (block_at cells leaf) z.rest ≡ r →
         and_told (told_of (record cells { zeros = z.tree }) leaf z.zeros) r ≡ Ok t → IncludedRead v style block leaf cells bits t
@@ -369,11 +376,13 @@ included_read v style block leaf cells bits t l h a = by (scan_zeros (block_at c
               ∙ ap (λ (n : ℕ). (told_of (record cells { zeros = zero_after (block_at cells leaf).zero v.zeros cells.zeros leaf cells.planes }) leaf n f).cells) same;
           first_is = refl;
         })
+
     pick : (z : Zeros) → scan_zeros (block_at cells leaf).zero cells.zeros leaf cells.planes bits ≡ Some z → (b : Bool) → nat_le cells.planes z.zeros ≡ b →
         cond b (Err Planes) (and_told (told_of (record cells { zeros = z.tree }) leaf z.zeros) (scan_entry style block cells.planes z.zeros (block_at cells leaf) z.rest)) ≡ Ok t →
         IncludedRead v style block leaf cells bits t
     pick z eq true e h = absurd cc
     pick z eq false e h = last z eq (lt-is cells.planes z.zeros e) (scan_entry style block cells.planes z.zeros (block_at cells leaf) z.rest) refl h
+
     by : (o : Option Zeros) → scan_zeros (block_at cells leaf).zero cells.zeros leaf cells.planes bits ≡ o → and_then (or_bits o) (on_zeros style block leaf cells) ≡ Ok t →
         IncludedRead v style block leaf cells bits t
     by None eq h = absurd cc
@@ -385,6 +394,7 @@ block_read v style layer block leaf cells bits t b h a = by (scan_first (block_a
   where
     firsts : Bool → List Bool
     firsts c = first_bits (block_at cells leaf).zero v.first cells.first leaf layer c
+
     yes : (s : Asked) → scan_first (block_at cells leaf).zero cells.first leaf layer bits ≡ Some s → s.below ≡ true →
         scan_included style block leaf (record cells { first = s.tree }) s.rest ≡ Ok t → BlockRead v style layer block leaf cells bits t
     yes s eq e h =
@@ -408,6 +418,7 @@ block_read v style layer block leaf cells bits t b h a = by (scan_first (block_a
           cells_are = i.cells_are ∙ ap (λ (x : Tree). cells_included v leaf (record cells { first = x }) t.entry) r.tree_is
               ∙ ap (λ (x : Bool). cond x (cells_included v leaf (cells_first v layer leaf cells) t.entry) (cells_first v layer leaf cells)) (sym c);
         }
+
     none : (s : Asked) → scan_first (block_at cells leaf).zero cells.first leaf layer bits ≡ Some s → s.below ≡ false →
         told_is nothing (record cells { first = s.tree }) s.rest ≡ t → BlockRead v style layer block leaf cells bits t
     none s eq e is =
@@ -421,11 +432,13 @@ block_read v style layer block leaf cells bits t b h a = by (scan_first (block_a
               ∙ sym (append_assoc (first_bits known.zero v.first cells.first leaf layer false) [] s.rest);
           cells_are = ap (λ (x : Tree). let c : Cells = record cells { first = x } in c) r.tree_is;
         })
+
     pick : (s : Asked) → scan_first (block_at cells leaf).zero cells.first leaf layer bits ≡ Some s → (x : Bool) → s.below ≡ x →
         cond x (scan_included style block leaf (record cells { first = s.tree }) s.rest) (Ok (told_is nothing (record cells { first = s.tree }) s.rest)) ≡ Ok t →
         BlockRead v style layer block leaf cells bits t
     pick s eq true e h = yes s eq e h
     pick s eq false e h = none s eq e cc
+
     by : (o : Option Asked) → scan_first (block_at cells leaf).zero cells.first leaf layer bits ≡ o → and_then (or_bits o) (on_first style block leaf cells) ≡ Ok t →
         BlockRead v style layer block leaf cells bits t
     by None eq h = absurd cc

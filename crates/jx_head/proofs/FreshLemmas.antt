@@ -115,3 +115,23 @@ within_end bands at left block ge w =
     let e : length (all_blocks (drop at bands)) ≡ 0 = ap (λ (l : List Cells). length (all_blocks l)) (drop_all at bands ge) in
     let i : left < length (all_blocks (drop at bands)) = w.inside in
     omega arith
+
+-- it has the blocks of all bands
+pub fresh_count : (bands : List BandCells) → AreBandCells bands → length (all_blocks (fresh_bands bands)) ≡ cells_in bands
+fresh_count [] a = refl
+fresh_count (b ∷ bs) a = by (b.wide == 0) refl (fresh_count bs a.1)
+  where
+    none : b.wide ≡ 0 → b.wide * b.high ≡ 0
+    none e = ap (λ (n : ℕ). n * b.high) e ∙ (let z : 0 * b.high ≡ 0 = omega arith in z)
+
+    by : (c : Bool) → (b.wide == 0) ≡ c → length (all_blocks (fresh_bands bs)) ≡ cells_in bs →
+        length (all_blocks (cond c (fresh_bands bs) (fresh_cells b ∷ fresh_bands bs))) ≡ b.wide * b.high + cells_in bs
+    by true e again =
+        let z : b.wide ≡ 0 = grind (arith, nat_tests) in
+        let p : b.wide * b.high ≡ 0 = none z in
+        omega arith
+    by false e again =
+        let l : length (replicate (b.wide * b.high) unknown_block) ≡ b.wide * b.high = length-replicate (b.wide * b.high) unknown_block in
+        let s : length (replicate (b.wide * b.high) unknown_block ++ all_blocks (fresh_bands bs)) ≡ length (replicate (b.wide * b.high) unknown_block) + length (all_blocks (fresh_bands bs)) =
+        length-append (replicate (b.wide * b.high) unknown_block) (all_blocks (fresh_bands bs)) in
+        omega arith

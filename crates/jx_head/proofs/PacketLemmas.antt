@@ -108,6 +108,7 @@ header_breaks bytes k b h = by (bits_of bytes).bits refl h
     inner : (s : Result BandsRead HeadFault) → and_then s (λ (x : BandsRead). Ok (header_of k x)) ≡ Err Planes → s ≡ Err Planes
     inner (Err e) h = let is : e ≡ Planes = cc in ap (λ (x : HeadFault). let y : Result BandsRead HeadFault = Err x in y) is
     inner (Ok x) h = absurd cc
+
     by : (bits : List Bool) → (bits_of bytes).bits ≡ bits → scan_header k bits ≡ Err Planes → BreaksPlanes bytes k
     by [] eq h = absurd cc
     by (false ∷ rest) eq h = absurd cc

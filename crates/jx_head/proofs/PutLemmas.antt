@@ -100,6 +100,7 @@ powers_small (suc n) m w lt = by (cases_lt n w) (powers_small n m w lt)
     step : (b : Bool) → powers n m ≤ n → n < w → powers n m + cond b 1 0 ≤ w
     step true le l = omega arith
     step false le l = omega arith
+
     by : (n < w) ⊎ (w ≤ n) → powers n m ≤ w → powers (suc n) m ≤ w
     by (inl l) i = step (nat_le (2 ^ n) m) (powers_le n m) l
     by (inr ge) i =
@@ -121,9 +122,11 @@ powers_large (suc n) m w ge lt = by (λ (l : w < n). powers_large n m w ge l) (c
         let p : 2 ^ k ≤ 2 ^ w = pow_mono (let l : k ≤ w = omega arith in l) in
         let yes : nat_le (2 ^ k) m ≡ true = (let l : 2 ^ k ≤ m = omega arith in grind (arith, nat_tests)) in
         ap (λ (b : Bool). powers k m + cond b 1 0) yes ∙ ap (λ (j : ℕ). j + 1) (all k (omega arith)) ∙ (let s : k + 1 ≡ suc k = omega arith in s)
+
     more : (b : Bool) → w < powers n m → w < powers n m + cond b 1 0
     more true i = omega arith
     more false i = omega arith
+
     by : (w < n → w < powers n m) → (w < n) ⊎ (n ≤ w) → w < powers (suc n) m
     by again (inl l) = more (nat_le (2 ^ n) m) (again l)
     by again (inr le) =

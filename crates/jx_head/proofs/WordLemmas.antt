@@ -185,6 +185,7 @@ read_4 bits f h = by (scan_number 5 bits) refl h
               ∙ ap (λ (l : List Bool). true ∷ true ∷ true ∷ true ∷ true ∷ l) (s.bits_are ∙ ap (λ (m : ℕ). low_bits 7 m ++ k.rest) (sym less)))
               ∙ ap (λ (l : List Bool). l ++ k.rest) (sym (word_many (37 + k.value) ge));
         })
+
     choose : (g : Found ℕ) → NumberRead 5 bits g → (b : Bool) → nat_lt g.value 31 ≡ b → cond b (Some (plus 6 g)) (option_map (plus 37) (scan_number 7 g.rest)) ≡ Some f →
         PassesRead (true ∷ true ∷ true ∷ true ∷ bits) f
     choose g r true e h =
@@ -199,6 +200,7 @@ read_4 bits f h = by (scan_number 5 bits) refl h
               ∙ ap (λ (l : List Bool). l ++ g.rest) (sym (word_some (6 + g.value) ge le));
         })
     choose g r false e h = last g r e (scan_number 7 g.rest) refl h
+
     by : (o : Option (Found ℕ)) → scan_number 5 bits ≡ o →
         option_and_then (λ (x : Found ℕ). cond (nat_lt x.value 31) (Some (plus 6 x)) (option_map (plus 37) (scan_number 7 x.rest))) o ≡ Some f → PassesRead (true ∷ true ∷ true ∷ true ∷ bits) f
     by None eq h = absurd cc
@@ -227,6 +229,7 @@ read_2 bits f h = by (scan_number 2 bits) refl h
           count = p.count;
           bits_are = ap (λ (l : List Bool). true ∷ true ∷ l) (r.bits_are ∙ ap (λ (m : ℕ). low_bits 2 m ++ g.rest) top) ∙ p.bits_are;
         }
+
     by : (o : Option (Found ℕ)) → scan_number 2 bits ≡ o →
         option_and_then (λ (x : Found ℕ). cond (nat_lt x.value 3) (Some (plus 3 x)) (scan_passes_4 x.rest)) o ≡ Some f → PassesRead (true ∷ true ∷ bits) f
     by None eq h = absurd cc
@@ -304,6 +307,7 @@ parts_read lblock block first (run ∷ runs) bits f h =
           bits_are = r.bits_are ∙ ap (λ (l : List Bool). low_bits (width lblock run) g.value ++ l) p.bits_are
               ∙ sym (append_assoc (low_bits (width lblock run) g.value) (length_bits lblock k.value) k.rest);
         })
+
     by : ((l : List Bool) (k : Found (List Part)) → scan_parts lblock block (first + run) runs l ≡ Some k → PartsRead lblock block (first + run) runs l k) →
         (o : Option (Found ℕ)) → scan_number (width lblock run) bits ≡ o →
         option_and_then (λ (x : Found ℕ). option_map (behind (part_of block first run x.value ∷ [])) (scan_parts lblock block (first + run) runs x.rest)) o ≡ Some f →

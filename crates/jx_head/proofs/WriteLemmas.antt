@@ -159,6 +159,7 @@ due_here v layer i cells leaves lt d = by (contributes e) refl
   where
     e : Entry
     e = entry_written layer (block_at cells i) (leaf_at leaves i)
+
     by : (c : Bool) → contributes (entry_written layer (block_at cells i) (leaf_at leaves i)) ≡ c →
         IsDue (layer + 1) (block_at (cond c (cells_included v i (cells_first v layer i cells) (entry_written layer (block_at cells i) (leaf_at leaves i))) (cells_first v layer i cells)) i) (leaf_at leaves i)
     by c is =
@@ -203,6 +204,7 @@ partly_next v layer i leaves w new lt p first zeros is =
   where
     below : (j i : ℕ) → j < i + 1 → j ≢ i → j < i
     below j i lt ne = omega arith
+
     above : (j i : ℕ) → i + 1 ≤ j → j ≢ i
     above j i ge = λ (e : j ≡ i). (let f : j ≡ i = e in omega arith)
 

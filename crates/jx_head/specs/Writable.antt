@@ -84,7 +84,6 @@ pub record BandsDone (layer : ℕ) (leaves : List Leafed) (start ws : List Write
   pub due : AreDue (layer + 1) ws leaves
   pub heads : heads_of ws ≡ heads_of start
 
-
 -- how many passes a block has in all
 abbrev pub all_passes : List (ℕ × Part) → ℕ
 all_passes [] = 0

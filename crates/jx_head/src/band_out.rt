@@ -141,7 +141,14 @@ pub(crate) fn write_block(
     if passes == 0 {
         return Ok(());
     }
-    write_zero(&mut band.zeros, known.zero, of.zero, leaf, band.planes, bits)?;
+    write_zero(
+        &mut band.zeros,
+        known.zero,
+        of.zero,
+        leaf,
+        band.planes,
+        bits,
+    )?;
     let zero = known.zero.unwrap_or(of.zero);
     band.blocks[leaf as usize] = write_entry(known, zero, passes, &of.parts, layer, bits)?;
     Ok(())

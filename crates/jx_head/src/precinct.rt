@@ -124,6 +124,7 @@ impl Precinct {
         requires { CellsInRange bands.now }
         ensures fresh { IfOk result (λ p. p ≡ fresh_state style.bits bands.now) }
         ensures state { IfOk result (λ p. IsState p) }
+        ensures blocks { IfOk result (λ p. length (all_blocks p.bands) ≡ cells_in bands.now) }
     {
         let mut made = Vec::new(alloc);
         for cells in bands {
@@ -155,11 +156,7 @@ impl Precinct {
 
     /// Reads the header of a layer's packet at the front of some bytes: the parts of its blocks, and how
     /// many bytes the header has. Layers come in order from 0. After an `Err` the precinct is given up.
-    pub fn read_header(
-        &mut self,
-        layer: u16,
-        bytes: &[u8],
-    ) -> Result<(Vec<Part>, usize), HeadFault>
+    pub fn read_header(&mut self, layer: u16, bytes: &[u8]) -> Result<(Vec<Part>, usize), HeadFault>
         // It wasn't given up.
         requires state { IsState self.old }
         requires layer { self.old.layer ≡ layer }

@@ -152,7 +152,10 @@ fn worked_headers(rt: HostRuntime) -> Result<(), Fail> {
     leaves.push(leaf(alloc, 1, &[(0, part(0, 0, 2, 5))])?)?;
     leaves.push(leaf(alloc, 3, &[(1, part(1, 0, 4, 9))])?)?;
     let headers = both_ways(&rt, alloc, &[two], PLAIN, 2, leaves)?;
-    assert_eq!(rt; headers.as_slice(), [2, 0xee, 0x28, 2, 0xa7, 0x49].as_slice());
+    assert_eq!(rt;
+        headers.as_slice(),
+        [2, 0xee, 0x28, 2, 0xa7, 0x49].as_slice()
+    );
     Ok(())
 }
 
@@ -294,12 +297,21 @@ fn refusals(rt: HostRuntime) -> Result<(), Fail> {
     // A stuffed bit is 1.
     assert_eq!(rt; first(&rt, alloc, ONE, &[0xff, 0x80]), Err(HeadFault::Bits));
     // A length may have leading zeros, and must be below 2^32.
-    assert_eq!(rt; first(&rt, alloc, ONE, &wide_length(alloc, false)?), Ok((1, 9)));
-    assert_eq!(rt; first(&rt, alloc, ONE, &wide_length(alloc, true)?), Err(HeadFault::Bits));
+    assert_eq!(rt;
+        first(&rt, alloc, ONE, &wide_length(alloc, false)?),
+        Ok((1, 9))
+    );
+    assert_eq!(rt;
+        first(&rt, alloc, ONE, &wide_length(alloc, true)?),
+        Err(HeadFault::Bits)
+    );
     let header = [0xef, 0xf7, 0xff, 0x00];
     assert_eq!(rt; first(&rt, alloc, ONE, &header), Ok((1, 4)));
     for end in 0..4 {
-        assert_eq!(rt; first(&rt, alloc, ONE, &header[..end]), Err(HeadFault::Bits));
+        assert_eq!(rt;
+            first(&rt, alloc, ONE, &header[..end]),
+            Err(HeadFault::Bits)
+        );
     }
     Ok(())
 }
@@ -308,10 +320,13 @@ fn refusals(rt: HostRuntime) -> Result<(), Fail> {
 fn zero_planes_are_told(rt: HostRuntime) -> Result<(), Fail> {
     let bands = [ONE];
     assert!(rt; in_range(&bands));
+    assert_eq!(rt; blocks(&bands), 1);
     let mut precinct = Precinct::new(rt.alloc(), &bands, PLAIN)?;
-    let (parts, _) = precinct.read_header(0, &[0x80])?;
-    assert!(rt; parts.is_empty());
-    assert!(rt; blocks(&bands) == 1);
+    assert_eq!(rt; precinct.zero(0), None);
+    let (parts, used) = precinct.read_header(0, &[0xc0, 0x21])?;
+    assert_eq!(rt; parts.as_slice(), [part(0, 0, 1, 1)].as_slice());
+    assert_eq!(rt; used, 2);
+    assert_eq!(rt; precinct.zero(0), Some(8));
     Ok(())
 }
 

@@ -26,8 +26,7 @@ loop-leaf-preserved c =
     let total : (frame c.loop-leaf.bits).total ≡ (frame c.args.bits.now).total = ap (λ (f : Frame). f.total) c.loop-leaf.invariant.1 in
     let few : (frame c.args.bits.now).total < 2 ^ 67 = c.requires.few in
     let kept = block_band c.args.style.bits c.args.layer (c.args.base + c.loop-leaf.leaf) c.loop-leaf.leaf c.loop-leaf.band (to_come c.loop-leaf.bits) (told_is said.entry c.read_block.new.band (to_come c.read_block.new.bits))
-    c.loop-leaf.invariant.2 inside (omega arith) said.is in
-    (
+    c.loop-leaf.invariant.2 inside (omega arith) said.is in (
       subst (λ (k : ℕ). and_parts c.args.parts.now.items (scan_blocks c.args.style.bits c.args.layer c.args.base (length c.args.band.now.blocks) 0 c.args.band.now (to_come c.args.bits.now))
           ≡ and_parts c.read_block.new.parts.items (scan_blocks c.args.style.bits c.args.layer c.args.base k (c.loop-leaf.leaf + 1) c.read_block.new.band (to_come c.read_block.new.bits))) less (
           blocks_step (scan_blocks c.args.style.bits c.args.layer c.args.base (length c.args.band.now.blocks) 0 c.args.band.now (to_come c.args.bits.now)) c.args.parts.now.items c.loop-leaf.parts.items c.read_block.new.parts.items

@@ -11,14 +11,14 @@ write_block-requires-clause-zero c =
     let inside : c.loop-leaf.leaf < length c.args.leaves.now = omega arith in
     let inside' : c.loop-leaf.leaf < length (map leaf_of c.args.leaves.now) = omega (arith, length-map c.args.leaves.now leaf_of) in
     (loop_calls c.args.layer c.loop-leaf.leaf (map leaf_of c.args.leaves.now) c.loop-leaf.band (leaf_of c.index-leaves-leaf.result) c.loop-leaf.invariant.partly inside'
-        (leaf_is c.args.leaves.now c.loop-leaf.leaf c.index-leaves-leaf.result inside c.index-leaves-leaf.is)).zero
+    (leaf_is c.args.leaves.now c.loop-leaf.leaf c.index-leaves-leaf.result inside c.index-leaves-leaf.is)).zero
 
 pub write_block-requires-clause-few : goal.write_block-requires-clause-few
 write_block-requires-clause-few c =
     let inside : c.loop-leaf.leaf < length c.args.leaves.now = omega arith in
     let inside' : c.loop-leaf.leaf < length (map leaf_of c.args.leaves.now) = omega (arith, length-map c.args.leaves.now leaf_of) in
     (loop_calls c.args.layer c.loop-leaf.leaf (map leaf_of c.args.leaves.now) c.loop-leaf.band (leaf_of c.index-leaves-leaf.result) c.loop-leaf.invariant.partly inside'
-        (leaf_is c.args.leaves.now c.loop-leaf.leaf c.index-leaves-leaf.result inside c.index-leaves-leaf.is)).few
+    (leaf_is c.args.leaves.now c.loop-leaf.leaf c.index-leaves-leaf.result inside c.index-leaves-leaf.is)).few
 
 pub loop-leaf-preserved : goal.loop-leaf-preserved
 loop-leaf-preserved c =

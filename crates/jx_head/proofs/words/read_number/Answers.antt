@@ -7,8 +7,10 @@ use Rattle.jx_head.proofs.words.read_number.Goals as goal
 pub returns-in_err-flag-clause-err : goal.returns-in_err-flag-clause-err
 returns-in_err-flag-clause-err c =
     let p = err_from_is_err_and c.from_residual.result c.from_residual.ensures.1 in
-    rw (p.1, p.2) (c.in_err-flag.ensures.err.0,
-        taking_none c.args.width c.loop-taken.taken c.loop-taken.value (to_come c.args.bits.now) (to_come c.loop-taken.bits) c.loop-taken.invariant.0 c.loop-taken-test.true c.in_err-flag.ensures.err.1)
+    rw (p.1, p.2) (
+      c.in_err-flag.ensures.err.0,
+      taking_none c.args.width c.loop-taken.taken c.loop-taken.value (to_come c.args.bits.now) (to_come c.loop-taken.bits) c.loop-taken.invariant.0 c.loop-taken-test.true c.in_err-flag.ensures.err.1,
+    )
 
 pub returns-then-next-clause-err : goal.returns-then-next-clause-err
 returns-then-next-clause-err c = (

@@ -16,8 +16,11 @@ returns-then-not-branch-clause-ok c =
 pub returns-in_err-flag-2-clause-err : goal.returns-in_err-flag-2-clause-err
 returns-in_err-flag-2-clause-err c =
     let p = err_from_is_err_and c.from_residual-in_err-flag-2.result c.from_residual-in_err-flag-2.ensures.1 in
-    rw (p.1, p.2) (c.in_err-flag-2.ensures.err.0, passes_half (to_come c.args.bits.now) (to_come c.flag.new.bits)
-        (c.in_ok-flag.ensures.ok ∙ ap (λ (b : Bool). b ∷ to_come c.flag.new.bits) c.if-not-branch.false) c.in_err-flag-2.ensures.err.1)
+    rw (p.1, p.2) (
+      c.in_err-flag-2.ensures.err.0,
+      passes_half (to_come c.args.bits.now) (to_come c.flag.new.bits)
+          (c.in_ok-flag.ensures.ok ∙ ap (λ (b : Bool). b ∷ to_come c.flag.new.bits) c.if-not-branch.false) c.in_err-flag-2.ensures.err.1,
+    )
 
 pub returns-then-not-branch-2-clause-ok : goal.returns-then-not-branch-2-clause-ok
 returns-then-not-branch-2-clause-ok c =

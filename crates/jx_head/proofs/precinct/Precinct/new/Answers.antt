@@ -2,8 +2,8 @@ use Rattle.std.proofs.Common.{◌≡◌, ◌<◌, ◌≤◌, ◌∙◌, ◌++◌
 use Rattle.std.proofs.lemmas.List.{append-nil, drop_all}
 use Rattle.jx_head.specs.declared.BandCells.{BandCells}
 use Rattle.jx_head.specs.Packet.{Cells, State}
-use Rattle.jx_head.specs.Precinct.{cells_in, fresh_bands, fresh_state, IsState}
-use Rattle.jx_head.proofs.FreshLemmas.{cells_at, cells_few, fresh_state_is}
+use Rattle.jx_head.specs.Precinct.{cells_in, fresh_bands, fresh_state, all_blocks, IsState}
+use Rattle.jx_head.proofs.FreshLemmas.{cells_at, cells_few, fresh_state_is, fresh_count}
 use Rattle.jx_head.proofs.precinct.Precinct.new.Goals as goal
 
 pub fresh_band-requires-clause-is : goal.fresh_band-requires-clause-is
@@ -17,3 +17,9 @@ returns-clause-state c =
     let none : drop c.loop-cells.cells-index c.args.bands.now ≡ [] = drop_all c.loop-cells.cells-index c.args.bands.now (omega arith) in
     let is : fresh_bands c.args.bands.now ≡ c.loop-cells.made.items = sym c.loop-cells.invariant ∙ ap (λ (l : List BandCells). c.loop-cells.made.items ++ fresh_bands l) none ∙ append-nil c.loop-cells.made.items in
     subst (λ (l : List Cells). IsState (record { style = c.args.style.bits; layer = 0; bands = l })) is (fresh_state_is c.args.style.bits c.args.bands.now c.requires)
+
+pub returns-clause-blocks : goal.returns-clause-blocks
+returns-clause-blocks c =
+    let none : drop c.loop-cells.cells-index c.args.bands.now ≡ [] = drop_all c.loop-cells.cells-index c.args.bands.now (omega arith) in
+    let is : fresh_bands c.args.bands.now ≡ c.loop-cells.made.items = sym c.loop-cells.invariant ∙ ap (λ (l : List BandCells). c.loop-cells.made.items ++ fresh_bands l) none ∙ append-nil c.loop-cells.made.items in
+    ap (λ (l : List Cells). length (all_blocks l)) (sym is) ∙ fresh_count c.args.bands.now c.requires.each

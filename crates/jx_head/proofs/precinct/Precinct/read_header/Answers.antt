@@ -12,7 +12,6 @@ use Rattle.jx_head.proofs.precinct.Precinct.read_header.Goals as goal
 pub read_told-requires-clause-few : goal.read_told-requires-clause-few
 read_told-requires-clause-few c = rw c.new-bits.ensures (total_few c.args.bytes.now (omega arith))
 
-
 pub returns-in-Err-clause-only : goal.returns-in-Err-clause-only
 returns-in-Err-clause-only c = λ parts used after p.
     let k : State = record { style = c.self.inside.style.bits; layer = c.self.inside.next; bands = c.self.inside.bands.items } in
@@ -33,8 +32,8 @@ pub returns-in-Err-clause-err : goal.returns-in-Err-clause-err
 returns-in-Err-clause-err c =
     let k : State = record { style = c.self.inside.style.bits; layer = c.self.inside.next; bands = c.self.inside.bands.items } in
     subst (λ (s : State). HasCause c.in-Err.fault c.args.bytes.now s) c.self.view_is (refuse_cause c.in-Err.fault c.args.bytes.now k
-        (subst (λ (s : State). AreBands s.bands) (sym c.self.view_is) c.requires.state.bands)
-        (subst (λ (r : Reading). Refuses c.in-Err.fault (scan_header k (to_come r))) c.new-bits.ensures c.in-Err.ensures.err))
+    (subst (λ (s : State). AreBands s.bands) (sym c.self.view_is) c.requires.state.bands)
+    (subst (λ (r : Reading). Refuses c.in-Err.fault (scan_header k (to_come r))) c.new-bits.ensures c.in-Err.ensures.err))
 
 pub returns-in-Err-finish-clause-only : goal.returns-in-Err-finish-clause-only
 returns-in-Err-finish-clause-only c = λ parts used after p.

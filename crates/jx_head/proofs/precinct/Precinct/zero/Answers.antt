@@ -18,7 +18,7 @@ returns-then-left-len c =
     let here = within_here c.args.self.now.bands c.loop-band.band-index c.loop-band.left c.args.block x inside
     (c.band-item.is ∙ ap (λ (l : List Cells). get_or l c.loop-band.band-index x) items) c.loop-band.invariant.0 (omega arith) in
     ap (λ (k : Known). k.zero) (sym (block_is c.band.inside.blocks.items c.loop-band.left c.index.result.now lt c.index.ensures)
-        ∙ ap (λ (z : Cells). get_or z.blocks c.loop-band.left unknown_block) c.band.view_is ∙ here)
+    ∙ ap (λ (z : Cells). get_or z.blocks c.loop-band.left unknown_block) c.band.view_is ∙ here)
 
 pub loop-band-preserved : goal.loop-band-preserved
 loop-band-preserved c =
