@@ -1,23 +1,20 @@
 -- Queries of tag trees, read without their values.
-use Rattle.std.proofs.Common.{◌≡◌, ℕ, zero, suc, ◌+◌, ◌-◌, ◌*◌, ◌<◌, ◌≤◌, min, max, nat_lt, nat_le, Bool, true, false, ◌&&◌, List, [], ◌∷◌, ◌++◌, length, drop, refl, sym, ap, ◌∙◌, subst, cond, arith, append_assoc, length-append, Some, None, Ok, Err, Result, inl, inr, ◌⊎◌}
+use Rattle.std.proofs.Common.{◌≡◌, ℕ, zero, suc, ◌+◌, ◌-◌, ◌<◌, ◌≤◌, min, nat_lt, Bool, true, false, ◌&&◌, List, [], ◌∷◌, ◌++◌, length, refl, sym, ap, ◌∙◌, subst, cond, arith, append_assoc, length-append, Some, None, Ok, Err, Result, ◌⊎◌}
 use Rattle.std.specs.Prelude.{Option, option_map, option_and_then}
 use Rattle.std.proofs.lemmas.Bool.Decides.{nat_tests}
-use Rattle.std.proofs.lemmas.List.{append_cancel_right, append-nil}
-use Rattle.std.proofs.Math.Seq.{drop-append_seam}
+use Rattle.std.proofs.lemmas.List.{append-nil}
 use Rattle.jx_tagtree.specs.declared.BitFault.{BitFault}
 use Rattle.jx_tagtree.specs.declared.node.Node.{Node}
-use Rattle.jx_tagtree.specs.Header.{Reading, bits_of, to_come, advance, Took, end_after, end_of, end_unless, start_of}
-use Rattle.jx_tagtree.specs.Shape.{IsShape, root, parent, way}
+use Rattle.jx_tagtree.specs.Header.{Reading, to_come, advance, Took}
+use Rattle.jx_tagtree.specs.Shape.{root, parent, way}
 use Rattle.jx_tagtree.specs.TagTree.{Tree, node_at, Agree, ValuesOf, IsTree, query, tree_after, HasRead}
 use Rattle.jx_tagtree.specs.Scan.{Scanned, scan_way}
-use Rattle.jx_tagtree.specs.Questions.{Question, all_bits, after_all}
+use Rattle.jx_tagtree.specs.Questions.{all_bits, after_all}
 use Rattle.jx_tagtree.proofs.WayLemmas.{IsWay, way_is}
 use Rattle.jx_tagtree.proofs.TagLemmas.{After, scan_sound, scan_read, IsRead, scan_only, answer_is, scanned_of, WasRead}
 use Rattle.jx_tagtree.proofs.QuestionLemmas.{known_values, after_tree, after_values}
-use Rattle.jx_head.specs.declared.HeadFault.{HeadFault}
-use Rattle.jx_head.specs.declared.HeadFault.TheVariants.{Bits, Planes}
-use Rattle.jx_head.specs.Packet.{asked, zero_questions, zero_bits, zero_after, zero_planes, first_bits, first_after, IsInclusion}
-use Rattle.jx_head.specs.Scan.{Asked, asked_of, ask, Zeros, scan_more_zeros, scan_zeros, scan_first, scan_bit}
+use Rattle.jx_head.specs.Packet.{asked}
+use Rattle.jx_head.specs.Scan.{Asked, asked_of, ask, Zeros, scan_more_zeros}
 use Rattle.jx_head.specs.Frame.{Frame, frame}
 use Rattle.jx_head.specs.Kept.{IsLeafOf}
 

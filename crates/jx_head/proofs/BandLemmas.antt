@@ -1,6 +1,6 @@
 -- What is read of the blocks of a band, and of the bands of a precinct.
-use Rattle.std.proofs.Common.{◌≡◌, ℕ, zero, suc, ◌+◌, ◌-◌, ◌*◌, ◌<◌, ◌≤◌, ◌^◌, min, max, nat_lt, nat_le, Bool, true, false, ◌&&◌, List, [], ◌∷◌, ◌++◌, length, take, drop, refl, sym, ap, ◌∙◌, subst, cond, arith, append_assoc, Some, None, Ok, Err, Result, inl, inr, ◌⊎◌, length-set, length-append, get_or, set, ◌≢◌, get_or-set_same, get_or-set_other}
-use Rattle.std.specs.Prelude.{Option, slice_set}
+use Rattle.std.proofs.Common.{◌≡◌, ℕ, zero, suc, ◌+◌, ◌-◌, ◌*◌, ◌<◌, ◌≤◌, ◌^◌, min, nat_le, Bool, true, false, List, [], ◌∷◌, ◌++◌, length, take, drop, refl, sym, ap, ◌∙◌, subst, cond, arith, append_assoc, Some, None, Ok, Err, Result, inl, inr, ◌⊎◌, length-set, length-append, get_or, set, ◌≢◌, get_or-set_same, get_or-set_other}
+use Rattle.std.specs.Prelude.{Option}
 use Rattle.std.specs.Bool.{MatchBool}
 use Rattle.std.proofs.lemmas.Bool.{cases_lt}
 use Rattle.std.proofs.lemmas.List.{set_past, get_or_default, append-nil, take_all, drop_all}
@@ -8,8 +8,8 @@ use Rattle.jx_base.specs.Passes.{end_pass}
 use Rattle.jx_tagtree.specs.Header.{low_bits}
 use Rattle.jx_tagtree.proofs.HeaderLemmas.{length-low_bits}
 use Rattle.jx_tagtree.specs.Shape.{IsShape}
-use Rattle.jx_tagtree.specs.TagTree.{Tree, ValuesOf, IsTree, query, tree_after}
-use Rattle.jx_tagtree.specs.Questions.{Question, all_bits, after_all}
+use Rattle.jx_tagtree.specs.TagTree.{Tree, ValuesOf, IsTree, tree_after}
+use Rattle.jx_tagtree.specs.Questions.{Question, after_all}
 use Rattle.jx_tagtree.proofs.QuestionLemmas.{known_values}
 use Rattle.jx_head.specs.declared.Part.{Part}
 use Rattle.jx_head.specs.declared.HeadFault.{HeadFault}
@@ -20,11 +20,11 @@ use Rattle.jx_head.specs.Writable.{SameSize}
 use Rattle.jx_head.specs.declared.known.Known.{Known}
 use Rattle.jx_head.specs.Words.{pass_word, raise_word}
 use Rattle.jx_head.specs.Parts.{one_more, cut, width, AreParts, length_bits}
-use Rattle.jx_head.specs.Packet.{Cells, Values, Agree, Entry, nothing, contributes, block_at, block_after, unknown_block, told_bits, included_bits, most_passes, IsIncluded, asked, zero_questions, zero_bits, zero_after, zero_planes, first_bits, first_after, IsInclusion, entry_bits, cells_first, cells_included, entry_after, IsEntry, ReachesPlanes, PassesPlanes, Breaks, blocks_bits, blocks_after, AreEntries, parts_told, BlocksBreak, BandTold, IsBandTold, band_bits, band_after, bands_bits, bands_after, AreBandsTold, bands_parts, BandBreaks, BandStands, BandsBreak}
+use Rattle.jx_head.specs.Packet.{Cells, Values, Agree, Entry, nothing, contributes, block_at, block_after, unknown_block, told_bits, included_bits, most_passes, IsIncluded, asked, zero_questions, zero_bits, zero_after, zero_planes, first_bits, first_after, IsInclusion, entry_bits, cells_first, cells_included, entry_after, IsEntry, ReachesPlanes, PassesPlanes, Breaks, blocks_bits, blocks_after, AreEntries, parts_told, BandTold, IsBandTold, band_bits, band_after, bands_bits, bands_after, AreBandsTold, bands_parts, BandBreaks, BandStands, BandsBreak}
 use Rattle.jx_head.specs.Kept.{AreTrees, IsLeafOf, IsKnown, IsBand, AreBands}
 use Rattle.jx_head.specs.Scan.{Found, or_bits, and_then, Asked, scan_first, Zeros, scan_zeros, scan_entry, Told, told_of, and_told, scan_included, scan_block, AllTold, after_told, and_parts, scan_blocks, scan_band, BandsRead, after_band, and_band, scan_bands}
-use Rattle.jx_head.proofs.AskLemmas.{after_leaf, after_agrees, zeros_is}
-use Rattle.jx_head.proofs.BlockLemmas.{IsBlockOf, told_is, on_zeros, on_first, first_leaf, first_agrees, zero_leaf, zero_read, below_counted, reaches_counted, counted, entry_breaks, TooMany, only_bits, block_made, block_over, BlockRead, block_read, FirstRead, first_read, le-is, lt-is}
+use Rattle.jx_head.proofs.AskLemmas.{after_leaf, after_agrees}
+use Rattle.jx_head.proofs.BlockLemmas.{IsBlockOf, told_is, on_zeros, on_first, first_leaf, first_agrees, zero_leaf, zero_read, below_counted, reaches_counted, counted, entry_breaks, TooMany, block_made, block_over, BlockRead, block_read, FirstRead, first_read, le-is, lt-is}
 
 -- ---- trees stay trees
 asked_agree : (values : ℕ → ℕ) (leaf n more : ℕ) (tree : Tree) → IsLeafOf tree leaf → ValuesOf tree values → ValuesOf (after_all values tree (asked leaf n more)) values

@@ -1,22 +1,21 @@
 -- What is read of one block.
-use Rattle.std.proofs.Common.{◌≡◌, ℕ, zero, suc, ◌+◌, ◌-◌, ◌*◌, ◌<◌, ◌≤◌, min, max, nat_lt, nat_le, Bool, true, false, ◌&&◌, List, [], ◌∷◌, ◌++◌, length, drop, refl, sym, ap, ◌∙◌, subst, cond, arith, append_assoc, Some, None, Ok, Err, Result, inl, inr, ◌⊎◌}
-use Rattle.std.specs.Prelude.{Option, option_map, option_and_then, slice_set}
+use Rattle.std.proofs.Common.{◌≡◌, ℕ, ◌+◌, ◌-◌, ◌<◌, ◌≤◌, min, nat_lt, nat_le, Bool, true, false, List, [], ◌∷◌, ◌++◌, refl, sym, ap, ◌∙◌, subst, cond, arith, append_assoc, Some, None, Ok, Err, Result, inl, inr, ◌⊎◌}
+use Rattle.std.specs.Prelude.{Option, option_map, option_and_then}
 use Rattle.std.specs.Bool.{MatchBool}
 use Rattle.std.proofs.lemmas.Bool.Decides.{nat_tests}
-use Rattle.jx_tagtree.specs.TagTree.{Tree, ValuesOf, query, tree_after}
+use Rattle.jx_tagtree.specs.TagTree.{Tree, ValuesOf, tree_after}
 use Rattle.jx_tagtree.specs.Questions.{Question, all_bits, after_all}
-use Rattle.jx_tagtree.proofs.QuestionLemmas.{known_values}
 use Rattle.jx_head.specs.declared.Part.{Part}
 use Rattle.jx_head.specs.declared.HeadFault.{HeadFault}
-use Rattle.jx_head.specs.declared.HeadFault.TheVariants.{Bits, Planes}
+use Rattle.jx_head.specs.declared.HeadFault.TheVariants.{Planes}
 use Rattle.jx_head.specs.declared.known.Known.{Known}
 use Rattle.jx_head.specs.Words.{IsCount, pass_word, raise_word}
 use Rattle.jx_head.specs.Parts.{cut, AreParts, length_bits}
-use Rattle.jx_head.specs.Packet.{Cells, Values, Agree, Entry, nothing, contributes, block_at, block_after, asked, zero_questions, zero_bits, zero_after, zero_planes, first_bits, first_after, IsInclusion, told_bits, included_bits, entry_bits, cells_first, cells_included, entry_after, most_passes, IsIncluded, IsEntry, ReachesPlanes, PassesPlanes, Breaks}
+use Rattle.jx_head.specs.Packet.{Cells, Values, Agree, Entry, nothing, contributes, block_at, asked, zero_questions, zero_bits, zero_after, zero_planes, first_bits, first_after, IsInclusion, told_bits, included_bits, entry_bits, cells_first, cells_included, entry_after, most_passes, IsIncluded, IsEntry, ReachesPlanes, PassesPlanes, Breaks}
 use Rattle.jx_head.specs.Kept.{IsLeafOf}
-use Rattle.jx_head.specs.Scan.{Found, or_bits, and_then, scan_passes, scan_raise, scan_parts, Asked, ask, scan_bit, scan_first, Zeros, scan_more_zeros, scan_zeros, entry_of, scan_lengths, scan_entry, Told, told_of, and_told, scan_included, scan_block}
-use Rattle.jx_head.proofs.WordLemmas.{found, passes_made, passes_read, PassesRead, raise_made, raise_read, parts_made, parts_read, PartsRead}
-use Rattle.jx_head.proofs.AskLemmas.{asked_is, AskRead, ask_made, ask_read, ask_tree, after_leaf, after_agrees, zeros_is, zeros_made, ZerosRead, ZerosGo, zeros_leaf, zeros_go}
+use Rattle.jx_head.specs.Scan.{Found, or_bits, and_then, scan_passes, scan_raise, scan_parts, Asked, scan_first, Zeros, scan_more_zeros, scan_zeros, entry_of, scan_lengths, scan_entry, Told, told_of, and_told, scan_included, scan_block}
+use Rattle.jx_head.proofs.WordLemmas.{found, passes_made, passes_read, PassesRead, raise_made, raise_read, parts_made, parts_read}
+use Rattle.jx_head.proofs.AskLemmas.{asked_is, ask_made, ask_read, ask_tree, after_agrees, zeros_is, zeros_made, zeros_leaf, zeros_go}
 
 -- ---- whether it is included
 pub first_made : (known : Option ℕ) (values : ℕ → ℕ) (tree : Tree) (leaf layer : ℕ) (included : Bool) (rest : List Bool) → IsLeafOf tree leaf → ValuesOf tree values →

@@ -1,14 +1,13 @@
 -- A precinct before its first packet.
-use Rattle.std.proofs.Common.{◌≡◌, ℕ, zero, suc, ◌+◌, ◌-◌, ◌*◌, ◌<◌, ◌≤◌, ◌^◌, ◌==◌, Bool, true, false, List, [], ◌∷◌, ◌++◌, length, drop, get_or, replicate, refl, sym, ap, ◌∙◌, subst, cond, arith, append_assoc, length-append, inl, inr, ◌⊎◌}
+use Rattle.std.proofs.Common.{◌≡◌, ℕ, zero, suc, ◌+◌, ◌-◌, ◌*◌, ◌<◌, ◌≤◌, ◌^◌, ◌==◌, Bool, true, false, List, [], ◌∷◌, ◌++◌, length, drop, get_or, replicate, refl, sym, ap, ◌∙◌, subst, cond, arith, length-append, inl, inr, ◌⊎◌}
 use Rattle.std.proofs.lemmas.Bool.{cases_lt}
 use Rattle.std.proofs.lemmas.Bool.Decides.{nat_tests}
-use Rattle.std.proofs.lemmas.List.{length-replicate, get_or-replicate, get_or_past, get_or_append_left, drop_all}
-use Rattle.jx_tagtree.specs.Shape.{IsShape}
+use Rattle.std.proofs.lemmas.List.{length-replicate, get_or-replicate, get_or_past, drop_all}
 use Rattle.jx_tagtree.proofs.QuestionLemmas.{fresh_tree}
 use Rattle.jx_head.specs.declared.BandCells.{BandCells}
 use Rattle.jx_head.specs.declared.known.Known.{Known}
-use Rattle.jx_head.specs.Packet.{Cells, State, unknown_block, block_at}
-use Rattle.jx_head.specs.Kept.{AreTrees, IsKnown, IsBand, AreBands}
+use Rattle.jx_head.specs.Packet.{Cells, unknown_block}
+use Rattle.jx_head.specs.Kept.{IsKnown, IsBand, AreBands}
 use Rattle.jx_head.proofs.BandLemmas.{set_at}
 use Rattle.jx_head.specs.Precinct.{cells_in, IsBandCells, AreBandCells, CellsInRange, fresh_cells, fresh_bands, fresh_state, all_blocks, IsState}
 

@@ -1,5 +1,5 @@
 -- Whole headers.
-use Rattle.std.proofs.Common.{◌≡◌, ℕ, zero, suc, ◌+◌, ◌-◌, ◌*◌, ◌<◌, ◌≤◌, ◌^◌, ◌==◌, nat_lt, nat_le, Bool, true, false, List, [], ◌∷◌, ◌++◌, length, take, drop, get_or, set, refl, sym, ap, ◌∙◌, subst, cond, arith, append_assoc, length-append, length-drop, Some, None, Ok, Err, Result, inl, inr, ◌⊎◌}
+use Rattle.std.proofs.Common.{◌≡◌, ℕ, suc, ◌+◌, ◌*◌, ◌<◌, ◌≤◌, ◌^◌, Bool, true, false, List, [], ◌∷◌, ◌++◌, length, refl, sym, ap, ◌∙◌, subst, cond, arith, length-append, None, Ok, Err, Result}
 use Rattle.std.specs.Prelude.{Option}
 use Rattle.std.specs.Bool.{MatchBool}
 use Rattle.std.proofs.lemmas.List.{append_cancel_right}
@@ -11,12 +11,12 @@ use Rattle.jx_tagtree.proofs.HeaderLemmas.{length-low_bits, room-le}
 use Rattle.jx_head.specs.declared.Part.{Part}
 use Rattle.jx_head.specs.declared.HeadFault.{HeadFault}
 use Rattle.jx_head.specs.declared.HeadFault.TheVariants.{Bits, Planes, NoMemory}
-use Rattle.jx_head.specs.Packet.{Cells, State, BandTold, AreBandsTold, bands_bits, bands_after, bands_parts, BandsBreak, Header, header_bits, header_after, header_parts, IsToldOf, IsPacket, BreaksPlanes, OneHeader}
-use Rattle.jx_head.specs.Kept.{AreTrees, IsBand, AreBands}
+use Rattle.jx_head.specs.Packet.{Cells, State, AreBandsTold, bands_bits, bands_after, bands_parts, Header, header_bits, header_after, header_parts, IsToldOf, IsPacket, BreaksPlanes, OneHeader}
+use Rattle.jx_head.specs.Kept.{AreBands}
 use Rattle.jx_head.specs.Frame.{Frame, frame}
 use Rattle.jx_head.specs.Scan.{and_then, BandsRead, scan_bands, HeaderRead, header_of, scan_header}
 use Rattle.jx_head.specs.Said.{HasCause, Refuses, OnlyMemory, OnlyPlanes, HeaderSaid}
-use Rattle.jx_head.proofs.BandLemmas.{AreAllTrees, bands_is, bands_made, bands_over, BandsGo, bands_read, bands_breaks}
+use Rattle.jx_head.proofs.BandLemmas.{AreAllTrees, bands_is, bands_made, bands_over, bands_read, bands_breaks}
 
 -- ---- a reader of a header's bytes
 -- bytes have at most eight times as many bits

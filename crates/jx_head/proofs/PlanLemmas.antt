@@ -1,5 +1,5 @@
 -- The bands of a precinct that is written.
-use Rattle.std.proofs.Common.{◌≡◌, ◌≢◌, ℕ, zero, suc, ◌+◌, ◌-◌, ◌*◌, ◌^◌, ◌<◌, ◌≤◌, ◌==◌, nat_le, min, Bool, true, false, List, [], ◌∷◌, ◌++◌, length, take, drop, map, get_or, set, replicate, refl, sym, ap, ◌∙◌, subst, cond, arith, append_assoc, length-set, length-append, length-drop, length-take, Vec, Global, inl, inr, ◌⊎◌}
+use Rattle.std.proofs.Common.{◌≡◌, ℕ, zero, suc, ◌+◌, ◌-◌, ◌*◌, ◌^◌, ◌<◌, ◌≤◌, ◌==◌, nat_le, min, Bool, true, false, List, [], ◌∷◌, ◌++◌, length, take, drop, map, get_or, set, refl, sym, ap, ◌∙◌, subst, cond, arith, append_assoc, length-set, length-append, length-drop, length-take, Vec, Global, inl, inr}
 use Rattle.std.proofs.lemmas.List.{append-nil, take_all, drop_all, take-map, drop-map, length-replicate, get_or_default}
 use Rattle.std.proofs.lemmas.Bool.Decides.{nat_tests}
 use Rattle.std.proofs.lemmas.Bool.{cases_lt}
@@ -10,7 +10,7 @@ use Rattle.jx_head.specs.declared.BandCells.{BandCells}
 use Rattle.jx_head.specs.declared.known.Known.{Known}
 use Rattle.jx_head.specs.declared.Leaf.{Leaf}
 use Rattle.jx_head.specs.Leafs.{leaf_of}
-use Rattle.jx_head.specs.Packet.{Cells, Values, Entry, BandTold, band_bits, band_after, bands_bits, bands_after, blocks_bits, blocks_after, most_passes, unknown_block}
+use Rattle.jx_head.specs.Packet.{Cells, BandTold, band_bits, bands_bits, bands_after, blocks_bits, blocks_after, most_passes, unknown_block}
 use Rattle.jx_head.specs.Written.{Leafed, Writes, entries_written, cells_of, values_of, first_leaves, zero_leaf, zero_leaves, parts_in, passes_of, some_in, bands_written, state_at}
 use Rattle.jx_head.specs.Precinct.{cells_in, CellsInRange, IsBandCells, AreBandCells, fresh_cells, fresh_bands}
 use Rattle.jx_head.specs.LeavesFit.{LeavesFit, LeavesInRange, FitsLeaf, FitBand, FitBands, fresh_writes, header_at, AreHeaders}

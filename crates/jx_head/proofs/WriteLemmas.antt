@@ -1,19 +1,17 @@
 -- Headers that are written.
-use Rattle.std.proofs.Common.{◌≡◌, ◌≢◌, ℕ, zero, suc, ◌+◌, ◌-◌, ◌*◌, ◌^◌, ◌<◌, ◌≤◌, ◌==◌, max, nat_le, nat_lt, Bool, true, false, List, [], ◌∷◌, ◌++◌, length, take, drop, map, get_or, set, refl, sym, ap, ◌∙◌, subst, cond, arith, append_assoc, length-set, get_or-set_same, get_or-set_other, inl, inr, ◌⊎◌, Some, None}
-use Rattle.std.specs.Prelude.{Option}
+use Rattle.std.proofs.Common.{◌≡◌, ◌≢◌, ℕ, zero, suc, ◌+◌, ◌*◌, ◌^◌, ◌<◌, ◌≤◌, ◌==◌, nat_le, Bool, true, false, List, [], ◌∷◌, ◌++◌, length, drop, map, get_or, set, refl, sym, ap, ◌∙◌, subst, cond, arith, append_assoc, get_or-set_same, get_or-set_other, inl, inr, ◌⊎◌}
 use Rattle.std.proofs.lemmas.Bool.Decides.{nat_tests}
 use Rattle.std.proofs.lemmas.Bool.{cases_lt}
 use Rattle.std.proofs.lemmas.List.{get_or-map, length-map, get_or_past, append-nil}
-use Rattle.jx_tagtree.specs.TagTree.{Tree}
 use Rattle.jx_tagtree.specs.Shape.{IsShape}
-use Rattle.jx_tagtree.specs.Leaves.{Written, least_leaf}
+use Rattle.jx_tagtree.specs.Leaves.{least_leaf}
 use Rattle.jx_tagtree.proofs.LeafLemmas.{least_of_leaf}
 use Rattle.jx_head.specs.declared.Part.{Part}
 use Rattle.jx_head.specs.declared.Leaf.{Leaf}
 use Rattle.jx_head.specs.declared.known.Known.{Known}
 use Rattle.jx_head.specs.Words.{size}
-use Rattle.jx_head.specs.Packet.{Cells, Values, Entry, contributes, unknown_block, block_at, block_after, zero_planes, zero_after, first_after, cells_first, cells_included, entry_bits, entry_after, blocks_bits, blocks_after}
-use Rattle.jx_head.specs.Written.{Leafed, Writes, first_layer, zero_leaf, first_leaves, zero_leaves, parts_in, passes_of, raise_of, entry_written, entries_written, least_of, cells_of, values_of}
+use Rattle.jx_head.specs.Packet.{Cells, Values, Entry, contributes, unknown_block, block_at, block_after, zero_planes, cells_first, cells_included, entry_bits, entry_after, blocks_bits, blocks_after}
+use Rattle.jx_head.specs.Written.{Leafed, Writes, zero_leaf, zero_leaves, parts_in, passes_of, raise_of, entry_written, entries_written, least_of, cells_of, values_of}
 use Rattle.jx_head.specs.Leafs.{leaf_of}
 use Rattle.jx_head.specs.Writable.{no_leaf, leaf_at, passes_from, IsDue, AreWrites, IsWrites, IsPartly, SameSize}
 use Rattle.jx_head.proofs.BandLemmas.{entry_size, same_or}

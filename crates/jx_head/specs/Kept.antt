@@ -3,7 +3,7 @@ use Rattle.std.specs.Prelude.{◌≡◌, ℕ, ◌*◌, ◌≤◌, ◌<◌, ◌^�
 use Rattle.jx_tagtree.specs.Shape.{IsShape}
 use Rattle.jx_tagtree.specs.TagTree.{Tree, IsTree}
 use Rattle.jx_head.specs.declared.known.Known.{Known}
-use Rattle.jx_head.specs.Packet.{Cells, State, block_at}
+use Rattle.jx_head.specs.Packet.{Cells, block_at}
 
 -- a tag tree, and one of its leaves
 pub record IsLeafOf (tree : Tree) (leaf : ℕ) : Type 0 where

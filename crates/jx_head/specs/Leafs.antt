@@ -1,5 +1,4 @@
 -- A leaf as a plain record.
-use Rattle.std.specs.Prelude.{ℕ, List}
 use Rattle.jx_head.specs.declared.Leaf.{Leaf}
 use Rattle.jx_head.specs.Written.{Leafed}
 

@@ -1,11 +1,11 @@
 -- The leaves that a precinct may be written with.
-use Rattle.std.specs.Prelude.{◌≡◌, ℕ, zero, suc, ◌+◌, ◌*◌, ◌^◌, ◌<◌, ◌≤◌, nat_lt, List, [], ◌∷◌, length, map, take, drop, replicate, slice_index_or, if◌then◌else◌}
+use Rattle.std.specs.Prelude.{◌≡◌, ℕ, ◌+◌, ◌*◌, ◌^◌, ◌<◌, ◌≤◌, nat_lt, List, [], ◌∷◌, length, map, take, drop, replicate, slice_index_or, if◌then◌else◌}
 use Rattle.jx_tagtree.specs.Header.{bytes_of}
 use Rattle.jx_tagtree.specs.Leaves.{untold}
 use Rattle.jx_head.specs.declared.Part.{Part}
 use Rattle.jx_head.specs.declared.BandCells.{BandCells}
 use Rattle.jx_head.specs.Parts.{cut, width}
-use Rattle.jx_head.specs.Packet.{State, header_bits, most_passes, unknown_block}
+use Rattle.jx_head.specs.Packet.{header_bits, most_passes, unknown_block}
 use Rattle.jx_head.specs.Precinct.{cells_in}
 use Rattle.jx_head.specs.Written.{Leafed, Writes, first_leaves, zero_leaves, parts_in, passes_of, header_written, state_at}
 use Rattle.jx_head.specs.Writable.{AllFew, all_passes}

@@ -1,5 +1,5 @@
 -- Packet headers (ITU-T T.800, B.10): the bits of a header are a function of what it tells and of what was told before.
-use Rattle.std.specs.Prelude.{◌≡◌, ℕ, zero, suc, ◌+◌, ◌-◌, ◌*◌, ◌<◌, ◌≤◌, min, nat_lt, Bool, true, false, List, [], ◌∷◌, ◌++◌, length, slice_set, slice_index_or, if◌then◌else◌, Option, Some, None, Result, Ok, ◌⊎◌}
+use Rattle.std.specs.Prelude.{◌≡◌, ℕ, zero, suc, ◌+◌, ◌-◌, ◌*◌, ◌<◌, ◌≤◌, min, nat_lt, Bool, true, false, List, [], ◌∷◌, ◌++◌, length, slice_set, slice_index_or, if◌then◌else◌, Option, Some, None, Ok, ◌⊎◌}
 use Rattle.std.specs.Bool.{MatchBool}
 use Rattle.jx_tagtree.specs.Header.{bits_of, end_after}
 use Rattle.jx_tagtree.specs.TagTree.{Tree, query, tree_after, ValuesOf}

@@ -1,6 +1,6 @@
 -- What the reader of headers does with bits whose values it doesn't know: the contracts of its inner functions say it, and
 -- laws tie it to the packets.
-use Rattle.std.specs.Prelude.{◌≡◌, ℕ, zero, suc, ◌+◌, ◌-◌, ◌^◌, ◌&&◌, nat_lt, nat_le, Bool, true, false, List, [], ◌∷◌, ◌++◌, length, drop, slice_set, if◌then◌else◌, Option, Some, None, option_map, option_and_then, Result, Ok, Err}
+use Rattle.std.specs.Prelude.{ℕ, zero, suc, ◌+◌, ◌^◌, ◌&&◌, nat_lt, nat_le, Bool, true, false, List, [], ◌∷◌, ◌++◌, length, drop, slice_set, if◌then◌else◌, Option, Some, None, option_map, option_and_then, Result, Ok, Err}
 use Rattle.jx_tagtree.specs.Header.{number_of}
 use Rattle.jx_tagtree.specs.Shape.{way}
 use Rattle.jx_tagtree.specs.TagTree.{Tree, node_at}

@@ -1,5 +1,5 @@
 -- The code words of packet headers that no tag tree has (ITU-T T.800, B.10.6 and B.10.7).
-use Rattle.std.specs.Prelude.{◌≡◌, ℕ, zero, suc, ◌+◌, ◌-◌, ◌^◌, ◌<◌, ◌≤◌, ◌==◌, nat_le, Bool, true, false, List, [], ◌∷◌, ◌++◌, replicate, if◌then◌else◌}
+use Rattle.std.specs.Prelude.{◌≡◌, ℕ, zero, suc, ◌+◌, ◌-◌, ◌^◌, ◌≤◌, ◌==◌, nat_le, Bool, true, false, List, [], ◌∷◌, ◌++◌, replicate, if◌then◌else◌}
 use Rattle.jx_tagtree.specs.Header.{low_bits}
 
 -- the number of passes that one packet may have of a block

@@ -1,5 +1,5 @@
 -- What is true of a precinct that is written.
-use Rattle.std.specs.Prelude.{◌≡◌, ℕ, zero, suc, ◌+◌, ◌*◌, ◌^◌, ◌<◌, ◌≤◌, nat_le, Bool, true, false, ◌++◌, List, [], ◌∷◌, length, map, take, drop, slice_index, slice_index_or, if◌then◌else◌}
+use Rattle.std.specs.Prelude.{◌≡◌, ℕ, ◌+◌, ◌*◌, ◌^◌, ◌<◌, ◌≤◌, nat_le, Bool, true, false, ◌++◌, List, [], ◌∷◌, length, map, take, drop, slice_index, slice_index_or, if◌then◌else◌}
 use Rattle.jx_tagtree.specs.Shape.{IsShape}
 use Rattle.jx_tagtree.specs.Header.{bytes_of}
 use Rattle.jx_head.specs.Precinct.{fresh_bands}
@@ -7,7 +7,7 @@ use Rattle.jx_head.specs.declared.BandCells.{BandCells}
 use Rattle.jx_head.specs.declared.Part.{Part}
 use Rattle.jx_head.specs.declared.known.Known.{Known}
 use Rattle.jx_head.specs.Packet.{Cells, BandTold, bands_bits, bands_after, unknown_block}
-use Rattle.jx_head.specs.Written.{Leafed, Writes, cells_of, values_of, entries_written, first_leaves, zero_leaf, zero_leaves, some_in, passes_of, parts_in}
+use Rattle.jx_head.specs.Written.{Leafed, Writes, cells_of, values_of, entries_written, first_leaves, zero_leaf, zero_leaves, some_in}
 
 abbrev pub no_leaf : Leafed
 no_leaf = record { zero = 0; parts = [] }

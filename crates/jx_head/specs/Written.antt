@@ -1,5 +1,5 @@
 -- The one header that is written for some blocks (ITU-T T.800, B.10).
-use Rattle.std.specs.Prelude.{◌≡◌, ℕ, zero, suc, ◌+◌, ◌-◌, ◌<◌, ◌≤◌, ◌==◌, max, nat_lt, Bool, true, false, ◌||◌, List, [], ◌∷◌, ◌++◌, length, take, drop, map, if◌then◌else◌}
+use Rattle.std.specs.Prelude.{ℕ, zero, suc, ◌+◌, ◌-◌, ◌==◌, max, nat_lt, Bool, false, ◌||◌, List, [], ◌∷◌, length, take, drop, map, if◌then◌else◌}
 use Rattle.jx_tagtree.specs.Header.{bytes_of}
 use Rattle.jx_tagtree.specs.Leaves.{Written, least_leaf}
 use Rattle.jx_head.specs.declared.Part.{Part}

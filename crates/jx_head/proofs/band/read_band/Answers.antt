@@ -1,8 +1,7 @@
-use Rattle.std.proofs.Common.{◌≡◌, ◌<◌, ◌≤◌, ◌-◌, ◌+◌, ◌^◌, ◌∙◌, sym, ap, subst, length, ℕ, arith}
+use Rattle.std.proofs.Common.{◌≡◌, ◌<◌, ◌≤◌, ◌-◌, ◌+◌, ◌^◌, ◌∙◌, ap, subst, length, ℕ, arith}
 use Rattle.jx_tagtree.specs.Header.{to_come}
 use Rattle.jx_head.specs.Frame.{Frame, frame}
 use Rattle.jx_head.specs.Packet.{Cells}
-use Rattle.jx_head.specs.Kept.{IsBand}
 use Rattle.jx_head.specs.Scan.{scan_blocks, scan_band, and_parts}
 use Rattle.jx_head.proofs.AskLemmas.{few_left}
 use Rattle.jx_head.proofs.BlockLemmas.{told_is}

@@ -1,5 +1,4 @@
 use Rattle.std.proofs.Common.{◌≡◌, ◌<◌, ◌∙◌, sym, ap, subst, length, Some}
-use Rattle.std.specs.Prelude.{Option}
 use Rattle.jx_tagtree.specs.Header.{to_come}
 use Rattle.jx_head.specs.declared.known.Known.{Known}
 use Rattle.jx_head.specs.Packet.{Cells, block_at}

@@ -1,8 +1,6 @@
-use Rattle.std.proofs.Common.{◌≡◌, ◌<◌, ◌≤◌, ◌+◌, map, length, arith}
+use Rattle.std.proofs.Common.{◌<◌, map, length, arith}
 use Rattle.std.proofs.lemmas.List.{length-map}
-use Rattle.jx_head.specs.declared.Leaf.{Leaf}
 use Rattle.jx_head.specs.Leafs.{leaf_of}
-use Rattle.jx_head.specs.Writable.{leaf_at}
 use Rattle.jx_head.proofs.WriteLemmas.{leaf_is, loop_calls, loop_next}
 use Rattle.jx_head.proofs.band_out.write_band.Goals as goal
 

@@ -1,4 +1,4 @@
-use Rattle.std.proofs.Common.{◌≡◌, ◌<◌, map}
+use Rattle.std.proofs.Common.{map}
 use Rattle.jx_head.specs.Leafs.{leaf_of}
 use Rattle.jx_head.proofs.WriteLemmas.{Loop}
 use Rattle.jx_head.proofs.band_out.write_band.Given as goal

@@ -1,4 +1,4 @@
-use Rattle.std.proofs.Common.{◌≡◌, ◌-◌, ◌+◌, ◌<◌, ◌∙◌, ℕ, sym, ap, arith}
+use Rattle.std.proofs.Common.{◌≡◌, ◌-◌, ◌+◌, ◌∙◌, ap, arith}
 use Rattle.jx_tagtree.specs.Leaves.{Written}
 use Rattle.jx_head.proofs.PutLemmas.{same_least, count_bits, count_after}
 use Rattle.jx_head.proofs.band_out.write_count.Goals as goal

@@ -1,12 +1,12 @@
-use Rattle.std.proofs.Common.{◌≡◌, ◌<◌, ◌≤◌, ◌+◌, ◌^◌, ◌∙◌, sym, ap, subst, length, drop, get_or, ℕ, List, set, arith}
-use Rattle.std.proofs.Common.{length-append, length-set}
+use Rattle.std.proofs.Common.{◌≡◌, ◌<◌, ◌≤◌, ◌+◌, ◌^◌, ◌∙◌, sym, ap, subst, length, drop, get_or, ℕ, set, arith}
+use Rattle.std.proofs.Common.{length-set}
 use Rattle.jx_tagtree.specs.Header.{to_come}
 use Rattle.jx_head.specs.Packet.{Cells}
 use Rattle.jx_head.specs.Precinct.{all_blocks}
-use Rattle.jx_head.specs.Kept.{IsBand, AreBands}
+use Rattle.jx_head.specs.Kept.{IsBand}
 use Rattle.jx_head.specs.Scan.{scan_bands, scan_band}
 use Rattle.jx_head.specs.Said.{BandSaid}
-use Rattle.jx_head.proofs.BandLemmas.{band_at, bands_set, blocks_set, bands_step, bands_refuse, set_at, next_left}
+use Rattle.jx_head.proofs.BandLemmas.{band_at, bands_set, blocks_set, bands_step, next_left}
 use Rattle.jx_head.proofs.precinct.read_bands.Goals as goal
 
 pub read_band-requires-clause-band : goal.read_band-requires-clause-band

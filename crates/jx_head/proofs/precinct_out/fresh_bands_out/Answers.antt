@@ -1,7 +1,7 @@
-use Rattle.std.proofs.Common.{◌≡◌, ◌<◌, ◌≤◌, ◌+◌, ◌-◌, ◌*◌, ◌^◌, ◌++◌, ◌∷◌, ◌∙◌, [], ℕ, List, map, take, drop, get_or, length, refl, sym, ap, subst, arith}
+use Rattle.std.proofs.Common.{◌≡◌, ◌<◌, ◌≤◌, ◌+◌, ◌-◌, ◌*◌, ◌^◌, ◌∙◌, List, map, take, drop, get_or, length, sym, ap, subst, arith}
 use Rattle.std.proofs.lemmas.List.{length-map}
 use Rattle.jx_head.specs.declared.BandCells.{BandCells}
-use Rattle.jx_head.specs.Precinct.{IsBandCells, cells_in}
+use Rattle.jx_head.specs.Precinct.{cells_in}
 use Rattle.jx_head.specs.Written.{Leafed, Writes}
 use Rattle.jx_head.specs.Leafs.{leaf_of}
 use Rattle.jx_head.specs.LeavesFit.{fresh_writes}

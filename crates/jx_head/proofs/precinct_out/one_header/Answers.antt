@@ -1,4 +1,4 @@
-use Rattle.std.proofs.Common.{◌≡◌, ℕ, List, map, Vec, Global}
+use Rattle.std.proofs.Common.{◌≡◌, ℕ, map, Vec, Global}
 use Rattle.std.proofs.lemmas.Result.{IfOk-weaker}
 use Rattle.jx_tagtree.specs.Header.{bytes_of}
 use Rattle.jx_head.specs.Leafs.{leaf_of}

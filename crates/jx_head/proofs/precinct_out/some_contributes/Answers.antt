@@ -1,4 +1,4 @@
-use Rattle.std.proofs.Common.{◌≡◌, ◌<◌, ◌^◌, ◌∙◌, ℕ, List, sym, ap, subst, length, arith}
+use Rattle.std.proofs.Common.{◌<◌, ◌^◌, ℕ, List, sym, subst, length, arith}
 use Rattle.jx_head.specs.declared.Part.{Part}
 use Rattle.jx_head.specs.Written.{parts_in, passes_of}
 use Rattle.jx_head.proofs.PlanLemmas.{few_at}

@@ -1,9 +1,9 @@
-use Rattle.std.proofs.Common.{◌≡◌, ◌<◌, ◌≤◌, ◌+◌, ◌-◌, ◌++◌, ◌∙◌, ℕ, List, Bool, map, take, drop, length, get_or, sym, ap, subst, arith}
-use Rattle.jx_head.specs.Packet.{Cells, blocks_bits, blocks_after}
+use Rattle.std.proofs.Common.{◌≡◌, ◌<◌, ◌+◌, ◌-◌, ◌++◌, ◌∙◌, List, map, length, sym, ap, subst, arith}
+use Rattle.jx_head.specs.Packet.{blocks_bits, blocks_after}
 use Rattle.jx_head.specs.Written.{Leafed, Writes, cells_of, values_of, entries_written}
 use Rattle.jx_head.specs.Leafs.{leaf_of}
 use Rattle.jx_head.specs.Writable.{IsWrites}
-use Rattle.jx_head.proofs.PlanLemmas.{bands_start, bands_due, bands_next, bands_end, part_leaves}
+use Rattle.jx_head.proofs.PlanLemmas.{bands_start, bands_due, bands_next, part_leaves}
 use Rattle.jx_head.proofs.precinct_out.write_bands.Goals as goal
 
 pub loop-at-init : goal.loop-at-init

@@ -1,4 +1,4 @@
-use Rattle.std.proofs.Common.{◌≡◌, ◌-◌, ◌+◌, ◌/◌, ◌%◌, ◌^◌, ◌==◌, ◌++◌, ◌∷◌, ◌∙◌, [], ℕ, List, Bool, sym, ap, arith}
+use Rattle.std.proofs.Common.{◌≡◌, ◌-◌, ◌/◌, ◌%◌, ◌^◌, ◌==◌, ◌++◌, ◌∷◌, ◌∙◌, ℕ, List, Bool, sym, ap, arith}
 use Rattle.jx_tagtree.specs.Header.{low_bits}
 use Rattle.jx_head.proofs.PutLemmas.{push_first, number_next}
 use Rattle.jx_head.proofs.put.put_number.Goals as goal

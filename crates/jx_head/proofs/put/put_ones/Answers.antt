@@ -1,4 +1,4 @@
-use Rattle.std.proofs.Common.{◌≡◌, ◌-◌, ◌+◌, ◌++◌, ◌∷◌, ◌∙◌, [], ℕ, List, Bool, sym, ap, replicate, true, refl, arith}
+use Rattle.std.proofs.Common.{◌≡◌, ◌-◌, ◌+◌, ◌++◌, ◌∙◌, ℕ, List, Bool, sym, ap, replicate, true, arith}
 use Rattle.std.proofs.lemmas.List.{append-nil}
 use Rattle.jx_head.proofs.PutLemmas.{push_first, ones_next}
 use Rattle.jx_head.proofs.put.put_ones.Goals as goal

@@ -1,4 +1,4 @@
-use Rattle.std.proofs.Common.{◌≡◌, ◌<◌, ◌-◌, ◌++◌, ◌∙◌, ℕ, List, Bool, sym, ap, arith}
+use Rattle.std.proofs.Common.{◌<◌, ◌-◌, ◌++◌, ◌∙◌, ℕ, List, Bool, sym, ap, arith}
 use Rattle.std.proofs.lemmas.Result.{IfOk-equal}
 use Rattle.jx_tagtree.specs.Header.{low_bits}
 use Rattle.jx_head.specs.Words.{pass_word}

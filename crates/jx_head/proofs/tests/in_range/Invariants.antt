@@ -1,4 +1,4 @@
-use Rattle.std.proofs.Common.{◌≡◌, ◌+◌, ◌≤◌, ◌^◌, drop}
+use Rattle.std.proofs.Common.{◌≤◌, ◌^◌, drop}
 use Rattle.jx_head.specs.Precinct.{AreBandCells, cells_in}
 use Rattle.jx_head.proofs.tests.in_range.Given as goal
 

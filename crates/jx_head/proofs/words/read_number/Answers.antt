@@ -1,7 +1,7 @@
-use Rattle.std.proofs.Common.{◌≡◌, ◌<◌, ◌≤◌, ◌^◌, ◌∙◌, refl, arith}
+use Rattle.std.proofs.Common.{◌∙◌, refl, arith}
 use Rattle.std.proofs.lemmas.Result.{err_from_is_err_and}
 use Rattle.jx_tagtree.specs.Header.{to_come}
-use Rattle.jx_head.proofs.WordLemmas.{taking_start, taking_bit, taking_large, taking_end, taking_none, taking_fits}
+use Rattle.jx_head.proofs.WordLemmas.{taking_bit, taking_large, taking_end, taking_none, taking_fits}
 use Rattle.jx_head.proofs.words.read_number.Goals as goal
 
 pub returns-in_err-flag-clause-err : goal.returns-in_err-flag-clause-err

@@ -1,4 +1,4 @@
-use Rattle.std.proofs.Common.{◌≡◌, ◌∷◌, ◌∙◌, ap, Bool}
+use Rattle.std.proofs.Common.{◌∷◌, ◌∙◌, ap, Bool}
 use Rattle.std.proofs.lemmas.Result.{err_from_is_err_and}
 use Rattle.jx_tagtree.specs.Header.{to_come}
 use Rattle.jx_head.proofs.WordLemmas.{passes_none, passes_one, passes_half, passes_two, passes_more}

@@ -1,8 +1,8 @@
-use Rattle.std.proofs.Common.{◌≡◌, ◌<◌, ◌≤◌, ◌∙◌, ◌++◌, [], List, sym, ap, subst, length, drop, arith}
+use Rattle.std.proofs.Common.{◌≡◌, ◌∙◌, ◌++◌, [], List, sym, ap, subst, length, drop, arith}
 use Rattle.std.proofs.lemmas.List.{append-nil, drop_all}
 use Rattle.jx_head.specs.declared.BandCells.{BandCells}
-use Rattle.jx_head.specs.Packet.{Cells, State}
-use Rattle.jx_head.specs.Precinct.{cells_in, fresh_bands, fresh_state, all_blocks, IsState}
+use Rattle.jx_head.specs.Packet.{Cells}
+use Rattle.jx_head.specs.Precinct.{fresh_bands, all_blocks, IsState}
 use Rattle.jx_head.proofs.FreshLemmas.{cells_at, cells_few, fresh_state_is, fresh_count}
 use Rattle.jx_head.proofs.precinct.Precinct.new.Goals as goal
 

@@ -1,12 +1,10 @@
-use Rattle.std.proofs.Common.{◌≡◌, ◌<◌, ◌≤◌, ◌+◌, ◌^◌, ◌∙◌, sym, ap, subst, length, ℕ, List, Ok, Err, refl, arith}
-use Rattle.jx_tagtree.specs.Header.{Reading, bits_of, to_come, start_of, end_of}
-use Rattle.jx_head.specs.declared.Part.{Part}
+use Rattle.std.proofs.Common.{◌≡◌, ◌∙◌, sym, subst, Ok, arith}
+use Rattle.jx_tagtree.specs.Header.{Reading, to_come}
 use Rattle.jx_head.specs.Packet.{State, IsPacket, BreaksPlanes}
 use Rattle.jx_head.specs.Kept.{AreBands}
-use Rattle.jx_head.specs.Frame.{Frame, frame}
 use Rattle.jx_head.specs.Scan.{scan_header}
-use Rattle.jx_head.specs.Said.{Refuses, HasCause, OnlyMemory, OnlyPlanes}
-use Rattle.jx_head.proofs.PacketLemmas.{total_few, WasRead, read_by, packet_ok, packet_only, refuse_cause, refuse_only, refuse_planes, read_planes, end_cause}
+use Rattle.jx_head.specs.Said.{Refuses, HasCause}
+use Rattle.jx_head.proofs.PacketLemmas.{total_few, read_by, packet_ok, packet_only, refuse_cause, refuse_only, refuse_planes, read_planes, end_cause}
 use Rattle.jx_head.proofs.precinct.Precinct.read_header.Goals as goal
 
 pub read_told-requires-clause-few : goal.read_told-requires-clause-few
