@@ -1,0 +1,12 @@
+pub mod Words
+pub mod Parts
+pub mod Packet
+pub mod Scan
+pub mod Frame
+pub mod Said
+pub mod Precinct
+pub mod Written
+pub mod Leafs
+pub mod Writable
+pub mod LeavesFit
+pub mod Kept

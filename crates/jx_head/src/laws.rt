@@ -1,0 +1,48 @@
+//! Laws of packet headers. Each function's contract is a law over the definitions that the other
+//! contracts cite, so its body is empty.
+ghost use Rattle.std.specs.Prelude.{◌≡◌, ◌++◌, ◌+◌, ◌≤◌, List, ℕ, Bool, length};
+ghost use Rattle.jx_tagtree.specs.Header.{bytes_of};
+ghost use Rattle.jx_head.specs.declared.Part.{Part};
+ghost use Rattle.jx_head.specs.Words.{IsCount, pass_word, OneWord};
+ghost use Rattle.jx_head.specs.Packet.{State, Header, header_bits, header_after, header_parts, IsToldOf, IsPacket, OneHeader};
+ghost use Rattle.jx_head.specs.declared.BandCells.{BandCells};
+ghost use Rattle.jx_head.specs.Precinct.{CellsInRange, IsState};
+ghost use Rattle.jx_head.specs.Written.{Leafed, raise_of, header_written};
+ghost use Rattle.jx_head.specs.LeavesFit.{LeavesFit, LeavesInRange, AreShort, AllFit};
+
+/// No code word of a number of passes begins another (T.800 table B.4).
+pub fn passes_are_told_apart()
+    ensures { (n m : ℕ) (rest others : List Bool) → IsCount n → IsCount m → pass_word n ++ rest ≡ pass_word m ++ others → OneWord n m rest others }
+{}
+
+/// Bytes have one reading from a state: two headers at their front are one.
+pub fn one_reading()
+    ensures { (bytes : List ℕ) (k : State) (parts others : List Part) (used ends : ℕ) (after others_after : State) → IsState k →
+        IsPacket bytes k parts used after → IsPacket bytes k others ends others_after → OneHeader parts others after others_after used ends }
+{}
+
+/// A header that is written with the bits of what it tells, with zeros as filling, stands at the front of
+/// its bytes, whatever follows it.
+pub fn written_stands()
+    ensures { (k : State) (h : Header) (rest : List ℕ) → IsToldOf k h →
+        IsPacket (bytes_of (header_bits k h) ++ rest) k (header_parts h) (length (bytes_of (header_bits k h))) (header_after k h) }
+{}
+
+/// The header that is written for some leaves from a state with which they agree has one reading from that
+/// state, whatever follows it: its parts, the state after it, and its length.
+pub fn written_read_back()
+    ensures { (layers : ℕ) (k : State) (leaves : List Leafed) (rest : List ℕ) (parts : List Part) (used : ℕ) (after : State) → IsState k → IsToldOf k (header_written layers k leaves) →
+        IsPacket (bytes_of (header_bits k (header_written layers k leaves)) ++ rest) k parts used after →
+        OneHeader parts (header_parts (header_written layers k leaves)) after (header_after k (header_written layers k leaves)) used (length (bytes_of (header_bits k (header_written layers k leaves)))) }
+{}
+
+/// Leaves that may be written are in range.
+pub fn leaves_that_fit()
+    ensures { (style layers : ℕ) (bands : List BandCells) (leaves : List Leafed) → CellsInRange bands → LeavesFit style layers bands leaves → LeavesInRange bands leaves }
+{}
+
+/// The raise of Lblock with which lengths are written is the least with which each fits its bits.
+pub fn raise_is_least()
+    ensures fits { (lblock : ℕ) (parts : List Part) → AreShort parts → AllFit (lblock + raise_of lblock parts) parts }
+    ensures least { (lblock raise : ℕ) (parts : List Part) → AllFit (lblock + raise) parts → raise_of lblock parts ≤ raise }
+{}

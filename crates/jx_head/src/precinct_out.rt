@@ -1,0 +1,224 @@
+ghost use Rattle.std.specs.Prelude.{◌≡◌, ◌<◌, ◌≤◌, ◌+◌, ◌*◌, ◌^◌, ◌++◌, map, length, vec_len, vec_capacity, IfOk, OnOk, OnErr};
+ghost use Rattle.jx_head.specs.Precinct.{IsBandCells, CellsInRange, cells_in};
+ghost use Rattle.jx_head.specs.Written.{first_leaves, zero_leaves, some_in, next_header};
+ghost use Rattle.jx_head.specs.Leafs.{leaf_of};
+ghost use Rattle.jx_head.specs.Writable.{AreDue, BandsDone, AllFew, HeaderDone, AreMade};
+ghost use Rattle.jx_head.specs.LeavesFit.{LeavesInRange, fresh_writes};
+
+use crate::band_out::{BandOut, write_band};
+use crate::put::passes_in;
+use crate::{BandCells, Known, Leaf};
+use jx_base::{NoMemory, Style};
+use jx_tagtree::{BitWriter, TagWriter};
+use std::alloc::Global;
+use std::marker::Model;
+
+/// Writes what a layer's packet has of the bands of a precinct.
+fn write_bands(
+    bands: &mut Vec<BandOut>,
+    layer: u16,
+    leaves: &[Leaf],
+    bits: &mut BitWriter,
+) -> Result<(), NoMemory>
+    requires { AreDue layer bands.old.items (map leaf_of leaves.now) }
+    ensures { OnOk result (BandsDone layer (map leaf_of leaves.now) bands.old.items bands.new.items bits.old bits.new) }
+{
+    let mut base = 0;
+    for at in 0..bands.len() {
+        let band = &mut bands[at];
+        let count = band.blocks.len();
+        write_band(band, layer, &leaves[base..base + count], bits)?;
+        base += count;
+    }
+    Ok(())
+}
+
+/// The layers in which blocks are included first.
+fn first_layers(alloc: Global, layers: u16, leaves: &[Leaf]) -> Result<Vec<u32>, NoMemory>
+    ensures { IfOk result (λ first. first.items ≡ first_leaves layers (map leaf_of leaves.now)) }
+{
+    let mut first = Vec::new(alloc);
+    for leaf in leaves {
+        first.push(match leaf.parts.first() {
+            None => u32::from(layers),
+            Some(part) => u32::from(part.0),
+        })?;
+    }
+    Ok(first)
+}
+
+/// The zero planes of blocks.
+fn zero_planes(alloc: Global, planes: u32, leaves: &[Leaf]) -> Result<Vec<u32>, NoMemory>
+    ensures { IfOk result (λ zeros. zeros.items ≡ zero_leaves planes (map leaf_of leaves.now)) }
+{
+    let mut zeros = Vec::new(alloc);
+    for leaf in leaves {
+        zeros.push(if leaf.parts.is_empty() {
+            planes
+        } else {
+            u32::from(leaf.zero)
+        })?;
+    }
+    Ok(zeros)
+}
+
+/// A band of which no packet was written.
+fn fresh_band(
+    alloc: Global,
+    cells: BandCells,
+    layers: u16,
+    leaves: &[Leaf],
+) -> Result<BandOut, NoMemory>
+    requires some { 0 < cells.wide }
+    requires is { IsBandCells cells }
+    requires few { cells.wide * cells.high ≤ 2 ^ 20 }
+    requires all { length leaves.now ≡ cells.wide * cells.high }
+    ensures { IfOk result (λ band. band ≡ fresh_writes layers cells (map leaf_of leaves.now)) }
+{
+    let unknown = Known {
+        zero: None,
+        passes: 0,
+        lblock: 3,
+    };
+    let count = cells.wide as usize * cells.high as usize;
+    let first = first_layers(alloc, layers, leaves)?;
+    let zeros = zero_planes(alloc, cells.planes, leaves)?;
+    Ok(BandOut {
+        first: TagWriter::new(alloc, cells.wide, cells.high, &first)?,
+        zeros: TagWriter::new(alloc, cells.wide, cells.high, &zeros)?,
+        planes: cells.planes,
+        blocks: vec![in alloc; unknown; count]?,
+    })
+}
+
+/// Whether some block contributes to a layer's packet.
+fn some_contributes(layer: u16, leaves: &[Leaf]) -> bool
+    requires { AllFew (map leaf_of leaves.now) }
+    ensures { result ≡ some_in layer (map leaf_of leaves.now) }
+{
+    for leaf in leaves {
+        if passes_in(&leaf.parts, layer) > 0 {
+            return true;
+        }
+    }
+    false
+}
+
+/// The bands of which no packet was written.
+fn fresh_bands_out(
+    alloc: Global,
+    bands: &[BandCells],
+    layers: u16,
+    leaves: &[Leaf],
+) -> Result<Vec<BandOut>, NoMemory>
+    requires bands { CellsInRange bands.now }
+    requires all { length leaves.now ≡ cells_in bands.now }
+    requires few { AllFew (map leaf_of leaves.now) }
+    ensures { IfOk result (λ made. AreMade layers bands.now (map leaf_of leaves.now) made.items) }
+{
+    let mut made = Vec::new(alloc);
+    let mut base = 0;
+    for cells in bands {
+        if cells.wide == 0 {
+            continue;
+        }
+        let count = cells.wide as usize * cells.high as usize;
+        let mine = &leaves[base..base + count];
+        made.push(fresh_band(alloc, *cells, layers, mine)?)?;
+        base += count;
+    }
+    Ok(made)
+}
+
+/// Writes the header of a layer's packet.
+fn one_header(
+    alloc: Global,
+    bands: &mut Vec<BandOut>,
+    layer: u16,
+    leaves: &[Leaf],
+) -> Result<Vec<u8>, NoMemory>
+    requires due { AreDue layer bands.old.items (map leaf_of leaves.now) }
+    requires few { AllFew (map leaf_of leaves.now) }
+    ensures { IfOk result (λ bytes. HeaderDone layer (map leaf_of leaves.now) bands.old.items bands.new.items bytes.items) }
+{
+    let mut bits = BitWriter::new(alloc);
+    if !some_contributes(layer, leaves) {
+        bits.bit(false)?;
+        return bits.finish();
+    }
+    bits.bit(true)?;
+    write_bands(bands, layer, leaves, &mut bits)?;
+    bits.finish()
+}
+
+/// A precinct that is written: the headers of its packets (T.800 B.10). All room that they take is taken
+/// when it is made.
+#[derive(Drop)]
+pub struct PrecinctOut {
+    style: Style,
+    layers: u16,
+    /// The next packet's layer.
+    next: u32,
+    bands: Vec<BandCells>,
+    leaves: Vec<Leaf>,
+    /// The headers of all layers.
+    headers: Vec<Vec<u8>>,
+}
+
+impl Model for PrecinctOut {
+    ghost use Rattle.std.specs.Prelude.{map, List, ℕ};
+    ghost use Rattle.jx_head.specs.Written.{Plan};
+    ghost use Rattle.jx_head.specs.Leafs.{leaf_of};
+    ghost use Rattle.jx_head.specs.LeavesFit.{AreHeaders};
+
+    ghost Value = { Plan };
+
+    ghost view = { λ p. record { style = p.style.bits; layers = p.layers; next = p.next; bands = p.bands.items; leaves = map leaf_of p.leaves.items } };
+
+    ghost invariant = { λ p. AreHeaders p.layers p.style.bits p.bands.items (map leaf_of p.leaves.items) p.layers (map (λ v. v.items) p.headers.items) };
+}
+
+impl PrecinctOut {
+    /// A precinct of which no packet was written, with one leaf for each block. `layers` is how many
+    /// packets it has.
+    pub fn new(
+        alloc: Global,
+        bands: &[BandCells],
+        style: Style,
+        layers: u16,
+        leaves: Vec<Leaf>,
+    ) -> Result<PrecinctOut, NoMemory>
+        requires bands { CellsInRange bands.now }
+        requires leaves { LeavesInRange bands.now (map leaf_of leaves.items) }
+        ensures { IfOk result (λ p. p ≡ record { style = style.bits; layers = layers; next = 0; bands = bands.now; leaves = map leaf_of leaves.items }) }
+    {
+        let mut made = fresh_bands_out(alloc, bands, layers, &leaves)?;
+        let mut headers = Vec::new(alloc);
+        for layer in 0..layers {
+            headers.push(one_header(alloc, &mut made, layer, &leaves)?)?;
+        }
+        Ok(PrecinctOut {
+            style,
+            layers,
+            next: 0,
+            bands: Vec::from_slice(alloc, bands)?,
+            leaves,
+            headers,
+        })
+    }
+
+    /// Appends the header of a layer's packet. Layers come in order from 0. With room for it in `out` it
+    /// isn't refused; after an `Err` `out` is as before.
+    pub fn write_header(&mut self, layer: u16, out: &mut Vec<u8>) -> Result<(), NoMemory>
+        requires layer { self.old.next ≡ layer }
+        requires below { layer < self.old.layers }
+        ensures ok { OnOk result (out.new.items ≡ out.old.items ++ next_header self.old) }
+        ensures next { OnOk result (self.new ≡ record self.old { next = self.old.next + 1 }) }
+        ensures err { OnErr result (out.new.items ≡ out.old.items) }
+        ensures room { OnErr result (vec_capacity out.old < vec_len out.old + length (next_header self.old)) }
+    {
+        out.extend_from_slice(&self.headers[layer as usize])?;
+        self.next += 1;
+        Ok(())
+    }
+}
