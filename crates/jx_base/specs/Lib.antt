@@ -6,4 +6,6 @@ pub mod MqWriting
 pub mod Numbers
 pub mod Places
 pub mod Passes
+pub mod Pieces
 pub mod RawBits
+pub mod Sound

@@ -4,9 +4,11 @@
 mod memory;
 mod names;
 mod numbers;
+mod pieces;
 mod style;
 
 pub use memory::NoMemory;
 pub use names::{Band, BlockName, Rect, Span};
 pub use numbers::{ceil_div, ceil_shift};
+pub use pieces::{Block, Piece, Pieces};
 pub use style::{Style, ends_segment, is_raw};
