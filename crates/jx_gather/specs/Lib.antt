@@ -1,0 +1,12 @@
+pub mod Faults
+pub mod Shapes
+pub mod Totals
+pub mod Cells
+pub mod Data
+pub mod Cuts
+pub mod Blocks
+pub mod Gathered
+pub mod WellFormed
+pub mod InRange
+pub mod Put
+pub mod Accepted
