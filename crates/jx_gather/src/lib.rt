@@ -3,6 +3,11 @@
 #![tactic(auto)]
 
 mod faults;
+mod gathering;
 
 pub use faults::GatherFault;
+pub use gathering::gather;
 pub use jx_base::{Block, Piece, Pieces};
+
+#[cfg(test)]
+mod tests;

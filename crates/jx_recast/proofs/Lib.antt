@@ -2,3 +2,4 @@ pub mod ProgressLemmas
 pub mod OutcomeLemmas
 pub mod SmallLemmas
 pub mod CleanLemmas
+pub mod JudgedLemmas

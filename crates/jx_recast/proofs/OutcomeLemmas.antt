@@ -3,7 +3,7 @@ use Rattle.std.proofs.Common.{◌≡◌, ◌⊎◌, ◌∙◌, ◌<◌, ◌≤�
 use Rattle.std.proofs.lemmas.List.{take_all, length-take}
 use Rattle.std.proofs.lemmas.Bool.{cases_lt}
 use Rattle.jx_outside.specs.Device.{Meaning, joined}
-use Rattle.jx_stream.specs.First.{first_fault}
+use Rattle.jx_recast.specs.Judged.{IsClean}
 use Rattle.jx_recast.specs.declared.status.Status.{Status}
 use Rattle.jx_recast.specs.declared.status.Status.TheVariants as status
 use Rattle.jx_recast.specs.Words.{Text, Request}
@@ -206,7 +206,7 @@ ends_at_words late fault_before fault_now files before now (inr (inl fault)) = r
 ends_at_words late fault_before fault_now files before now (inr (inr short)) = rw short.0 (record { words = inr (inr refl); files = refl; none = refl; said = inl short.1 })
 
 -- an output that was begun
-pub begun_leaves : (name : Text) (input bytes : List ℕ) (old new : Meaning) → length input ≤ most_bytes → first_fault input ≡ None → IsSmall input → bytes ≡ output input
+pub begun_leaves : (name : Text) (input bytes : List ℕ) (old new : Meaning) → length input ≤ most_bytes → IsClean input → IsSmall input → bytes ≡ output input
     → IsBegun name bytes old new → IsCutShort name input 1 old new
 begun_leaves name input bytes old new short clean small e begun = inr (refl, (short, clean, small), rw (← e) begun)
 

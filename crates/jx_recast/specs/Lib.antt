@@ -3,3 +3,4 @@ pub mod Small
 pub mod Fronts
 pub mod Outcome
 pub mod Progress
+pub mod Judged

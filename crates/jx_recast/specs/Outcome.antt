@@ -1,16 +1,15 @@
 -- How a run ends: the verdict on the words and the input, the line said, and what stands afterwards.
-use Rattle.std.specs.Prelude.{◌≡◌, ◌⊎◌, ℕ, ◌+◌, ◌^◌, ◌<◌, ◌≤◌, true, false, List, [], ◌++◌, length, Option, IfSome, codes, Some, None}
+use Rattle.std.specs.Prelude.{◌≡◌, ◌⊎◌, ℕ, ◌+◌, ◌^◌, ◌<◌, ◌≤◌, true, false, List, [], ◌++◌, length, Option, IfSome, codes}
 use Rattle.std.specs.Option.{option_map}
 use Rattle.std.specs.Fmt.{decimal}
 use Rattle.jx_outside.specs.Causes.{Rose}
-use Rattle.jx_stream.specs.First.{first_fault}
-use Rattle.jx_stream.specs.declared.faults.StreamFault.TheVariants as fault
 use Rattle.jx_outside.specs.Device.{Meaning, joined, after_create, after_write, after_finish}
 use Rattle.jx_recast.specs.declared.status.Status.{Status}
 use Rattle.jx_recast.specs.declared.status.Status.TheVariants as status
 use Rattle.jx_recast.specs.Words.{Text, Request, is_good, request_of}
 use Rattle.jx_recast.specs.Small.{IsSmall, output}
 use Rattle.jx_recast.specs.Progress.{HasWritten}
+use Rattle.jx_recast.specs.Judged.{Violates, Passes, IsClean}
 
 -- the most bytes that an input may have
 abbrev pub most_bytes : ℕ
@@ -38,19 +37,19 @@ IsVerdict status.ReadFault = ⊥
 IsVerdict status.WriteFault = ⊥
 IsVerdict status.NoMemory = ⊥
 
--- limit 1 is passed, or a limit that is passed first in the headers
+-- limit 1 is passed, or a limit that is passed first in the headers or the tile data
 abbrev pub PassesLimit : List ℕ → ℕ → ℕ → Type 0
 PassesLimit input number found =
     ((most_bytes < length input) × (number ≡ 1) × (found ≡ most_bytes + 1))
-    ⊎ ((length input ≤ most_bytes) × (first_fault input ≡ Some (fault.Limit number found)))
+    ⊎ ((length input ≤ most_bytes) × Passes input number found)
 
--- the status that an input has where the words are good and nothing fails: limit 1, then the first rule that its headers
--- violate or limit that they pass, then the form
+-- the status that an input has where the words are good and nothing fails: limit 1, then the first rule that it violates
+-- or limit that it passes in its headers or its tile data, then the form
 abbrev pub Verdict : List ℕ → Status → Type 0
-Verdict input status.Done = (length input ≤ most_bytes) × (first_fault input ≡ None) × IsSmall input
-Verdict input (status.Rule number place) = (length input ≤ most_bytes) × (first_fault input ≡ Some (fault.Rule number place))
+Verdict input status.Done = (length input ≤ most_bytes) × IsClean input × IsSmall input
+Verdict input (status.Rule number place) = (length input ≤ most_bytes) × Violates input number place
 Verdict input (status.Limit number found) = PassesLimit input number found
-Verdict input status.Form = (length input ≤ most_bytes) × (first_fault input ≡ None) × (IsSmall input → ⊥)
+Verdict input status.Form = (length input ≤ most_bytes) × IsClean input × (IsSmall input → ⊥)
 Verdict input status.Words = ⊥
 Verdict input status.ReadFault = ⊥
 Verdict input status.WriteFault = ⊥

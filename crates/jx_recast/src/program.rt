@@ -1,8 +1,10 @@
-ghost use Rattle.std.specs.Prelude.{◌≡◌, ◌≤◌, ◌⊎◌, ℕ, List, [], true, false, Some, None, length, map, take, IfOk, OnOk, OnErr, IfSome, IsTrue, string_bytes};
+ghost use Rattle.std.specs.Prelude.{◌≡◌, ◌≤◌, ◌⊎◌, ℕ, List, [], true, false, Some, None, length, map, take, IfOk, IfErr, OnOk, OnErr, IfSome, IsTrue, string_bytes};
 ghost use Rattle.jx_outside.specs.Causes.{HasCause, Rose};
 ghost use Rattle.jx_outside.specs.Device.{Allows, joined};
-ghost use Rattle.jx_stream.specs.Faults.{Answers};
-ghost use Rattle.jx_stream.specs.First.{first_fault};
+ghost use Rattle.jx_stream.specs.First.{stream_in};
+ghost use Rattle.jx_gather.specs.Accepted.{IsAccepted};
+ghost use Rattle.jx_gather.specs.Shapes.{IsRead};
+ghost use Rattle.jx_recast.specs.Judged.{IsClean, IsInputCause, IsTileCause};
 ghost use Rattle.jx_recast.specs.Small.{output};
 ghost use Rattle.jx_recast.specs.Words.{is_good, request_of};
 ghost use Rattle.jx_recast.specs.Outcome.{EndsAs, EndsFiles, IsBegun, IsMade, IsUntouched, IsVerdict, Leaves, Outcome, Verdict, line_of, most_bytes};
@@ -13,8 +15,9 @@ use crate::small::{Output, rewritten};
 use crate::words::is_good;
 use crate::{Report, Status};
 use jx_base::NoMemory;
+use jx_gather::{GatherFault, gather};
 use jx_outside::{Files, Refused, Sink};
-use jx_stream::{StreamFault, read_stream};
+use jx_stream::{Stream, StreamFault, read_stream};
 use std::alloc::Global;
 
 /// How the files were left, before anything is said.
@@ -76,11 +79,11 @@ fn write_output<F: Files>(files: &mut F, name: &str, out: &Output) -> Result<(),
     files.finish()
 }
 
-/// What becomes of an input whose headers violate no rule and pass no limit.
+/// What becomes of an input that violates no rule and passes no limit.
 fn rewrite<F: Files>(alloc: Global, files: &mut F, input: &[u8], to: &str) -> Ending
     requires creates { F.can_create files.old to.now }
     requires within { length input.now ≤ most_bytes }
-    requires clean { first_fault input.now ≡ None }
+    requires clean { IsClean input.now }
     ensures verdict { IsVerdict result.status → Verdict input.now result.status }
     ensures leaves { Leaves to.now input.now result.status result.blocks (F.meaning files.old) (F.meaning files.new) }
     ensures bytes { result.status ≡ Status.Done → result.bytes ≡ length (output input.now) }
@@ -100,13 +103,32 @@ fn rewrite<F: Files>(alloc: Global, files: &mut F, input: &[u8], to: &str) -> En
     }
 }
 
-/// What is first violated or passed in the headers.
-fn header_fault(alloc: Global, input: &[u8]) -> Result<(), StreamFault>
-    requires { length input.now ≤ most_bytes }
-    ensures { Answers result (first_fault input.now) (λ _. Unit {0}) }
+/// What is first violated or passed in the tile data of a stream.
+fn tile_fault(alloc: Global, input: &[u8], stream: &Stream) -> Result<(), StreamFault>
+    requires within { length input.now ≤ most_bytes }
+    requires read { IsRead input.now stream.now }
+    ensures ok { OnOk result (IsAccepted input.now stream.now) }
+    ensures err { IfErr result (λ e. IsTileCause input.now stream.now e) }
 {
-    let _stream = read_stream(alloc, input)?;
-    Ok(())
+    match gather(alloc, input, stream) {
+        Ok(_) => Ok(()),
+        Err(GatherFault::Rule { number, place }) => Err(StreamFault::Rule { number, place }),
+        Err(GatherFault::Limit { number, found }) => Err(StreamFault::Limit { number, found }),
+        Err(GatherFault::NoMemory) => Err(StreamFault::NoMemory),
+    }
+}
+
+/// What is first violated or passed in the headers, else in the tile data.
+#[tactic(auto, using(crate::proofs::JudgedLemmas::read_is))]
+fn input_fault(alloc: Global, input: &[u8]) -> Result<(), StreamFault>
+    requires { length input.now ≤ most_bytes }
+    ensures ok { OnOk result (IsAccepted input.now (stream_in input.now)) }
+    ensures err { IfErr result (λ e. IsInputCause input.now e) }
+{
+    match read_stream(alloc, input) {
+        Ok(stream) => tile_fault(alloc, input, &stream),
+        Err(fault) => Err(fault),
+    }
 }
 
 /// What becomes of the bytes that were read, at most `MOST`.
@@ -125,7 +147,7 @@ fn answer<F: Files>(alloc: Global, files: &mut F, input: &[u8], to: &str) -> End
             found: 268_435_457,
         });
     }
-    match header_fault(alloc, input) {
+    match input_fault(alloc, input) {
         Ok(()) => rewrite(alloc, files, input, to),
         Err(StreamFault::Rule { number, place }) => Ending::refused(Status::Rule { number, place }),
         Err(StreamFault::Limit { number, found }) => Ending::refused(Status::Limit {
