@@ -1,2 +1,5 @@
 pub mod SegmentLemmas
 pub mod PlaneLemmas
+pub mod ShapeLemmas
+pub mod EntryLemmas
+pub mod RangeLemmas

@@ -12,7 +12,7 @@ use Rattle.jx_marker.specs.Ranges.{InRange, ShapeInRange, CodInRange}
 use Rattle.jx_stream.specs.declared.headers.HeaderKind.{HeaderKind}
 use Rattle.jx_stream.specs.declared.parts.Part.{Part}
 use Rattle.jx_stream.specs.Headers.{slot_of, has_slot}
-use Rattle.jx_stream.specs.Tiles.{in_slot, headers_of, first_header, entry_in, entry_of}
+use Rattle.jx_stream.specs.Tiles.{in_slot, headers_of, first_header}
 use Rattle.jx_stream.specs.Params.{shape_in, quant_in, cod_in, chosen}
 use Rattle.jx_stream.specs.First.{lacks_default}
 use Rattle.jx_stream.specs.Spells.{TilePart, part_bytes, part_of, placed, AreSegments, AreTileParts}
@@ -128,11 +128,9 @@ pub record IsCoded (o : Option Segment) : Type 0 where
   pub cod : Cod
   pub is : cod_in o ≡ Some cod
   pub fits : CodInRange cod
-  -- as the one entry of a tile without POC
-  pub entry : entry_in o ≡ entry_of cod ∷ []
 
 coded : (comps : ℕ) (s : Segment) → InRange comps s → slot_of s ≡ 1 → IsCoded (Some s)
-coded comps (segment.Cod cod) r one = record { cod = cod; is = refl; fits = r; entry = refl }
+coded comps (segment.Cod cod) r one = record { cod = cod; is = refl; fits = r }
 coded comps (segment.Coc other shape) r one = absurd (omega arith)
 coded comps (segment.Qcc other quant) r one = absurd (omega arith)
 coded comps (segment.Rgn other shift) r one = absurd (omega arith)
