@@ -3,3 +3,4 @@ pub mod PlaneLemmas
 pub mod ShapeLemmas
 pub mod EntryLemmas
 pub mod RangeLemmas
+pub mod TotalLemmas

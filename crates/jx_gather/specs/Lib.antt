@@ -10,3 +10,4 @@ pub mod WellFormed
 pub mod InRange
 pub mod Put
 pub mod Accepted
+pub mod Covered
