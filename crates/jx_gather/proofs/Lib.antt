@@ -4,3 +4,4 @@ pub mod ShapeLemmas
 pub mod EntryLemmas
 pub mod RangeLemmas
 pub mod TotalLemmas
+pub mod CoveredLemmas

@@ -13,7 +13,7 @@ ghost use Rattle.jx_gather.specs.Gathered.{IsListOf, IsUncovered, IsWhole};
 ghost use Rattle.jx_gather.specs.Covered.{LacksPacket};
 
 use crate::faults::GatherFault;
-use crate::shapes::{geometry_of, tile_count};
+use crate::shapes::{geometry_of, tile_at, tile_count};
 use jx_geom::TileGeom;
 use jx_order::{OrderFault, PacketName, packets};
 use jx_stream::Stream;
@@ -35,7 +35,7 @@ pub(crate) fn list_of(
     ensures once { IfOk result (λ list. AllPairs (λ p q. p ≢ q) list.items) }
     ensures uncovered { IfErr result (λ fault. HasCause (LacksPacket stream.now geom.now.tile) fault) }
 {
-    let tile = &stream.tiles.as_slice()[usize::from(geom.number())];
+    let tile = tile_at(stream, geom.number());
     let layers = stream.params(geom.number(), 0).layers;
     match packets(alloc, geom, layers, tile.progressions.as_slice()) {
         Ok(list) => Ok(list),

@@ -3,13 +3,13 @@
 ghost use Rattle.std.specs.Prelude.{◌≡◌, ◌<◌, IfOk, None, length};
 ghost use Rattle.jx_stream.specs.First.{canvas_of, tile_number};
 ghost use Rattle.jx_gather.specs.InRange.{StreamInRange};
-ghost use Rattle.jx_gather.specs.Shapes.{geometry, shape_in, shapes_of, size_of};
+ghost use Rattle.jx_gather.specs.Shapes.{geometry, shape_in, shapes_of, size_of, tile_at};
 ghost use Rattle.jx_gather.specs.Totals.{totals_fault};
 
 use jx_base::NoMemory;
 use jx_geom::{Canvas, CompShape, TileGeom};
 use jx_marker::{CompSize, Siz};
-use jx_stream::Stream;
+use jx_stream::{Stream, Tile};
 use std::alloc::Global;
 
 /// The canvas of a SIZ (ITU-T T.800, A.5.1).
@@ -42,6 +42,14 @@ pub(crate) fn tile_count(stream: &Stream) -> u16
     ensures { result ≡ tile_number stream.now.siz }
 {
     stream.tiles.as_slice().len() as u16
+}
+
+/// A tile.
+pub(crate) fn tile_at(stream: &Stream, tile: u16) -> &Tile
+    requires { tile < length stream.now.tiles }
+    ensures { result.now ≡ tile_at stream.now tile }
+{
+    &stream.tiles.as_slice()[usize::from(tile)]
 }
 
 /// A component's subsampling.
