@@ -1,2 +1,9 @@
 pub mod GatherLemmas
 pub mod ReadLemmas
+pub mod SegmentLemmas
+pub mod PlaneLemmas
+pub mod ShapeLemmas
+pub mod EntryLemmas
+pub mod RangeLemmas
+pub mod TotalLemmas
+pub mod CoveredLemmas

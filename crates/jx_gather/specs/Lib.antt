@@ -11,3 +11,4 @@ pub mod InRange
 pub mod Put
 pub mod Accepted
 pub mod Joined
+pub mod Covered

@@ -2,8 +2,11 @@
 //! pieces of each block are joined.
 #![tactic(auto)]
 
+mod covered;
 mod faults;
 mod gathering;
+mod shapes;
+mod totals;
 
 pub use faults::GatherFault;
 pub use gathering::gather;
