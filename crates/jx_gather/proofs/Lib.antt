@@ -1,3 +1,4 @@
 pub mod PartLemmas
 pub mod BodyLemmas
 pub mod PutLemmas
+pub mod MarkLemmas
