@@ -25,7 +25,7 @@ use Rattle.jx_gather.specs.Leaves.{leaves, leaves_in}
 use Rattle.jx_gather.proofs.BlockLemmas.{bands_low, bands_high}
 
 -- how many blocks a band of a precinct has
-abbrev pick : Rect → ℕ → Bool → BandCells
+abbrev pub pick : Rect → ℕ → Bool → BandCells
 pick cells planes t = cond t (record { wide = 0; high = 0; planes = planes }) (record { wide = length_of cells.x; high = length_of cells.y; planes = planes })
 
 pub size_is : (cells : Rect) (planes : ℕ) → (sizes_of cells planes).wide * (sizes_of cells planes).high ≡ size_of cells
@@ -35,7 +35,7 @@ size_is cells planes = by (size_of cells == 0) refl
     by true e = grind (arith, nat_tests)
     by false e = refl
 
-abbrev bands_of : Stream → Geometry → ℕ → ℕ → ℕ → List Band → List BandCells
+abbrev pub bands_of : Stream → Geometry → ℕ → ℕ → ℕ → List Band → List BandCells
 bands_of s g c r k bands = map (λ (b : Band). sizes_of (cells_at g c r k b) (planes_at s g.tile c r b)) bands
 
 bands_count : (s : Stream) (g : Geometry) (c r k : ℕ) (bands : List Band) → cells_in (bands_of s g c r k bands) ≡ leaves_in g c r k bands
@@ -78,11 +78,11 @@ pub name_later : (g : Geometry) (c r k : ℕ) (b : Band) (bands : List Band) (j 
 name_later g c r k b bands j ge = grind (arith, nat_tests)
 
 -- the resolution has each of these bands
-abbrev Have : ℕ → List Band → Type 0
+abbrev pub Have : ℕ → List Band → Type 0
 Have r [] = Unit {0}
 Have r (b ∷ bands) = HasBand r b × Have r bands
 
-bands_have : (r : ℕ) → Have r (bands_at r)
+pub bands_have : (r : ℕ) → Have r (bands_at r)
 bands_have r = elim (cases_lt 0 r) [
   | inl some ↦
       let P : List Band → Type 0 = λ bands. Have r bands in
@@ -94,7 +94,7 @@ bands_have r = elim (cases_lt 0 r) [
 ]
 
 -- a cell of a precinct's part of a band is one of the band's
-cell_in_band : (g : Geometry) (c r k : ℕ) (b : Band) (u v : ℕ) → GeometryInRange g → HasPrecinct g c r k
+pub cell_in_band : (g : Geometry) (c r k : ℕ) (b : Band) (u v : ℕ) → GeometryInRange g → HasPrecinct g c r k
     → InRect (cells_at g c r k b) u v → InRect (blocks_in g c r b) u v
 cell_in_band g c r k b u v h there i =
     let shape = h.shapes c there.resolution.component in

@@ -1,3 +1,4 @@
 pub mod NumberLemmas
 pub mod BlockLemmas
 pub mod CellLemmas
+pub mod FreshLemmas
