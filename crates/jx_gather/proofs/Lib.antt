@@ -3,3 +3,7 @@ pub mod BodyLemmas
 pub mod PutLemmas
 pub mod MarkLemmas
 pub mod GrowLemmas
+pub mod NumberLemmas
+pub mod BlockLemmas
+pub mod CellLemmas
+pub mod FreshLemmas
