@@ -1,5 +1,5 @@
 -- The packets of a precinct stand in the order of their layers.
-use Rattle.std.proofs.Common.{◌≡◌, ℕ, zero, suc, ◌+◌, ◌<◌, ◌≤◌, List, [], ◌∷◌, ◌++◌, inl, inr, ◌⊎◌, sym, subst, refl, arith, length, take, drop, get_or}
+use Rattle.std.proofs.Common.{◌≡◌, ℕ, zero, suc, ◌<◌, ◌≤◌, List, [], ◌∷◌, inl, inr, subst, arith, length, take, drop, get_or}
 use Rattle.std.proofs.lemmas.Bool.{cases_lt}
 use Rattle.std.proofs.lemmas.List.{take-append-drop}
 use Rattle.std.specs.List.{AllPairs, Contains}
@@ -9,9 +9,9 @@ use Rattle.jx_order.specs.declared.names.PacketName.{PacketName}
 use Rattle.jx_order.specs.declared.names.Order.{Order}
 use Rattle.jx_order.specs.declared.names.Order.TheVariants.{Lrcp, Rlcp, Rpcl, Pcrl, Cprl}
 use Rattle.jx_order.specs.Orders.{IsLess, ComesBefore, across_of, down_of, order_of}
-use Rattle.jx_order.specs.Packets.{IsPacket, Covers, Sends, IsOrder, SamePrecinct, LayersRise, entry_at}
+use Rattle.jx_order.specs.Packets.{IsPacket, Covers, IsOrder, SamePrecinct, LayersRise, entry_at}
 use Rattle.jx_order.proofs.JoinedLemmas.{pairs_append}
-use Rattle.jx_order.proofs.OrderLemmas.{SentBy, order_to, order_from}
+use Rattle.jx_order.proofs.OrderLemmas.{order_to, order_from}
 
 -- keys that begin with the same number, and keys that differ in their first one alone
 skip : (x y : ℕ) (xs ys : List ℕ) → x ≡ y → IsLess (x ∷ xs) (y ∷ ys) → IsLess xs ys
