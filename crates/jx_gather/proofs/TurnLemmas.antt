@@ -181,3 +181,163 @@ same_state k m e = cc
 pub turn_state : (b : List ℕ) (s : Stream) (g : Geometry) (layers : ℕ) (done : List PacketName) (number : ℕ) (old : Left) (c : Cut) (new : Left)
     → (k : Known s g layers done old.states c.name.comp c.name.res c.name.precinct) → (t : IsTurn b g number old c new) → k.state ≡ t.state
 turn_state b s g layers done number old c new k t = same_state k.state t.state (sym k.known ∙ t.known)
+
+-- its precinct's state afterwards
+own_known : (b : List ℕ) (s : Stream) (g : Geometry) (layers : ℕ) (list done rest : List PacketName) (number : ℕ) (old : Left) (c : Cut) (new : Left) → Keeps b → Listed g layers list
+    → list ≡ done ++ (c.name ∷ rest) → Known s g layers done old.states c.name.comp c.name.res c.name.precinct → IsTurn b g number old c new
+    → Known s g layers (done ++ c.name ∷ []) new.states c.name.comp c.name.res c.name.precinct
+own_known b s g layers list done rest number old c new keeps h e k t =
+    let p : PacketName = c.name in
+    let kept = keeps.kept (header_in (window b t.body)) t.state c.parts c.used c.after (window_few b t.body)
+    (let I : State → Type 0 = λ x. IsState x in subst I (turn_state b s g layers done number old c new k t) k.is) t.cut.header in
+    let layer : c.after.layer ≡ t.state.layer + 1 = layer_after (header_in (window b t.body)) t.state c.parts c.used c.after t.cut.header in
+    let same : k.state ≡ t.state = turn_state b s g layers done number old c new k t in
+    let at : k.state.layer ≡ p.layer = layer_is s g layers list done rest p old.states h e k in
+    let next : c.after.layer ≡ p.layer + 1 = (let l : k.state.layer ≡ t.state.layer = ap (λ (x : State). x.layer) same in omega arith) in
+    let states : new.states ≡ set old.states (number_of g p) c.after = ap (λ (x : Left). x.states) t.new_is in
+    let set_it : slice_get (set old.states (number_of g p) c.after) (number_of g p) ≡ Some c.after =
+    get_set_same old.states (number_of g p) c.after (slice_get_within old.states (number_of g p) t.state t.known) in
+    record {
+      state = c.after;
+      known = ap (λ (xs : List State). slice_get xs (number_of g p)) states ∙ set_it;
+      is = kept.is;
+      style = kept.style ∙ sym (ap (λ (x : State). x.style) same) ∙ k.style;
+      blocks = kept.blocks ∙ sym (ap (λ (x : State). length (all_blocks x.bands)) same) ∙ k.blocks;
+      layers_are = λ l lt. (
+        λ less. elim (cases_lt l p.layer) [
+          | inl below ↦
+              let was : l < k.state.layer = omega arith in
+              Contains-append_left done (p ∷ []) (name_of l p.res p.comp p.precinct) ((k.layers_are l lt).0 was)
+          | inr ge ↦
+              let is : p.layer ≡ l = omega arith in
+              let C : ℕ → Type 0 = λ m. Contains (done ++ p ∷ []) (name_of m p.res p.comp p.precinct) in
+              subst C is (Contains-push done p)
+        ],
+        λ has. elim (Contains-push_cases done p (name_of l p.res p.comp p.precinct) has) [
+          | inl old_one ↦ (let was : l < k.state.layer = (k.layers_are l lt).1 old_one in omega arith)
+          | inr new_one ↦ (let is : p.layer ≡ l = ap (λ (w : PacketName). w.layer) new_one in omega arith)
+        ],
+      );
+    }
+
+-- and that of another
+other_known : (b : List ℕ) (s : Stream) (g : Geometry) (layers : ℕ) (done : List PacketName) (number : ℕ) (old : Left) (c : Cut) (new : Left) (e r k : ℕ)
+    → (number_of g c.name ≡ precinct_number g e r k → ⊥) → IsTurn b g number old c new → Known s g layers done old.states e r k
+    → Known s g layers (done ++ c.name ∷ []) new.states e r k
+other_known b s g layers done number old c new e r k other t was =
+    let p : PacketName = c.name in
+    let states : new.states ≡ set old.states (number_of g p) c.after = ap (λ (x : Left). x.states) t.new_is in
+    record {
+      state = was.state;
+      known = ap (λ (xs : List State). slice_get xs (precinct_number g e r k)) states
+      ∙ get_set_other old.states (number_of g p) (precinct_number g e r k) c.after other ∙ was.known;
+      is = was.is;
+      style = was.style;
+      blocks = was.blocks;
+      layers_are = λ l lt. (
+        λ less. Contains-append_left done (p ∷ []) (name_of l r e k) ((was.layers_are l lt).0 less),
+        λ has. elim (Contains-push_cases done p (name_of l r e k) has) [
+          | inl old_one ↦ (was.layers_are l lt).1 old_one
+          | inr new_one ↦ absurd (other (ap (number_of g) new_one))
+        ],
+      );
+    }
+
+pub turn_known : (b : List ℕ) (s : Stream) (g : Geometry) (layers : ℕ) (list done rest : List PacketName) (number : ℕ) (old : Left) (c : Cut) (new : Left)
+    → Precincts s g → Keeps b → Listed g layers list → list ≡ done ++ (c.name ∷ rest)
+    → AllKnown s g layers done old.states → IsTurn b g number old c new → AllKnown s g layers (done ++ c.name ∷ []) new.states
+turn_known b s g layers list done rest number old c new places keeps h e all t d r k has =
+    let p : PacketName = c.name in
+    let own : HasPrecinct g p.comp p.res p.precinct = has_precinct g layers p (due_named g layers list done rest p h e) in
+    elim (cases_eq (number_of g p) (precinct_number g d r k)) [
+      | inl same ↦
+          let is = places.once p.comp p.res p.precinct d r k own has same in
+          let here : Known s g layers (done ++ p ∷ []) new.states p.comp p.res p.precinct =
+          own_known b s g layers list done rest number old c new keeps h e (all p.comp p.res p.precinct own) t in
+          let A : ℕ → Type 0 = λ x. Known s g layers (done ++ p ∷ []) new.states x p.res p.precinct in
+          let B : ℕ → Type 0 = λ x. Known s g layers (done ++ p ∷ []) new.states d x p.precinct in
+          let C : ℕ → Type 0 = λ x. Known s g layers (done ++ p ∷ []) new.states d r x in
+          subst C is.2 (subst B is.1 (subst A is.0 here))
+      | inr other ↦ other_known b s g layers done number old c new d r k other t (all d r k has)
+    ]
+
+-- ---- packets one after another
+push_on : {X : Type 0} (xs ys : List X) (x : X) → (xs ++ x ∷ []) ++ ys ≡ xs ++ (x ∷ ys)
+push_on xs ys x = append_assoc xs (x ∷ []) ys
+
+pub cuts_known : (b : List ℕ) (s : Stream) (g : Geometry) (layers : ℕ) (list done : List PacketName) (cuts : List Cut) (rest : List PacketName) (number : ℕ) (old new : Left)
+    → Precincts s g → Keeps b → Listed g layers list → list ≡ done ++ (names_of cuts ++ rest)
+    → AllKnown s g layers done old.states → AreCuts b g number old cuts new → AllKnown s g layers (done ++ names_of cuts) new.states
+cuts_known b s g layers list done [] rest number old new places keeps h e all are =
+    let P : List PacketName → Type 0 = λ xs. AllKnown s g layers xs new.states in
+    let Q : Left → Type 0 = λ x. AllKnown s g layers done x.states in
+    subst P (sym (append-nil done)) (subst Q are all)
+cuts_known b s g layers list done (c ∷ cuts) rest number old new places keeps h e all are =
+    let P : List PacketName → Type 0 = λ xs. AllKnown s g layers xs new.states in
+    let next : AllKnown s g layers (done ++ c.name ∷ []) are.0.states =
+    turn_known b s g layers list done (names_of cuts ++ rest) number old c are.0 places keeps h e all are.1 in
+    subst P (push_on done (names_of cuts) c.name)
+    (cuts_known b s g layers list (done ++ c.name ∷ []) cuts rest (number + 1) are.0 new places keeps h
+    (e ∙ sym (push_on done (names_of cuts ++ rest) c.name)) next are.2)
+
+pub known_there : (b : List ℕ) (s : Stream) (t : ℕ) (list : List PacketName) (cuts : List Cut) (rest : List PacketName) (left : Left)
+    → Precincts s (geometry s t) → Keeps b → Listed (geometry s t) (layers_of s t) list → list ≡ names_of cuts ++ rest
+    → AreCuts b (geometry s t) 0 (start s t) cuts left → AllKnown s (geometry s t) (layers_of s t) (names_of cuts) left.states
+known_there b s t list cuts rest left places keeps h e are =
+    cuts_known b s (geometry s t) (layers_of s t) list [] cuts rest 0 (start s t) left places keeps h e (start_known s t (layers_of s t) places) are
+
+pub in_turn : (b : List ℕ) (s : Stream) (t : ℕ) (list : List PacketName) (cuts : List Cut) (p : PacketName) (rest : List PacketName) (left : Left) (state : State)
+    → Precincts s (geometry s t) → Keeps b → Listed (geometry s t) (layers_of s t) list → list ≡ names_of cuts ++ (p ∷ rest)
+    → AreCuts b (geometry s t) 0 (start s t) cuts left → slice_get left.states (number_of (geometry s t) p) ≡ Some state → state.layer ≡ p.layer
+in_turn b s t list cuts p rest left state places keeps h e are found =
+    let all = known_there b s t list cuts (p ∷ rest) left places keeps h e are in
+    let own = has_precinct (geometry s t) (layers_of s t) p (due_named (geometry s t) (layers_of s t) list (names_of cuts) rest p h e) in
+    let k = all p.comp p.res p.precinct own in
+    let same : k.state ≡ state = same_state k.state state (sym k.known ∙ found) in
+    sym (ap (λ (x : State). x.layer) same) ∙ layer_is s (geometry s t) (layers_of s t) list (names_of cuts) rest p left.states h e k
+
+-- ---- each turn with what is known of its precinct's state before it
+pub record InTurn (b : List ℕ) (s : Stream) (g : Geometry) (number : ℕ) (old : Left) (c : Cut) (new : Left) : Type 0 where
+  pub turn : IsTurn b g number old c new
+  pub precinct : HasPrecinct g c.name.comp c.name.res c.name.precinct
+  pub layer : turn.state.layer ≡ c.name.layer
+  pub is : IsState turn.state
+  pub style : turn.state.style ≡ style_of s g.tile c.name.comp
+  pub blocks : length (all_blocks turn.state.bands) ≡ length (all_blocks (fresh_precinct s g c.name.comp c.name.res c.name.precinct).bands)
+
+abbrev pub AreInTurn : List ℕ → Stream → Geometry → ℕ → Left → List Cut → Left → Type 0
+AreInTurn b s g number old [] new = old ≡ new
+AreInTurn b s g number old (c ∷ cuts) new = (next : Left) × InTurn b s g number old c next × AreInTurn b s g (number + 1) next cuts new
+
+pub turn_in : (b : List ℕ) (s : Stream) (g : Geometry) (layers : ℕ) (list done rest : List PacketName) (number : ℕ) (old : Left) (c : Cut) (new : Left)
+    → Listed g layers list → list ≡ done ++ (c.name ∷ rest) → AllKnown s g layers done old.states → IsTurn b g number old c new → InTurn b s g number old c new
+turn_in b s g layers list done rest number old c new h e all t =
+    let own = has_precinct g layers c.name (due_named g layers list done rest c.name h e) in
+    let k = all c.name.comp c.name.res c.name.precinct own in
+    let same : k.state ≡ t.state = turn_state b s g layers done number old c new k t in
+    let I : State → Type 0 = λ x. IsState x in
+    record {
+      turn = t;
+      precinct = own;
+      layer = sym (ap (λ (x : State). x.layer) same) ∙ layer_is s g layers list done rest c.name old.states h e k;
+      is = subst I same k.is;
+      style = sym (ap (λ (x : State). x.style) same) ∙ k.style;
+      blocks = sym (ap (λ (x : State). length (all_blocks x.bands)) same) ∙ k.blocks;
+    }
+
+pub cuts_in : (b : List ℕ) (s : Stream) (g : Geometry) (layers : ℕ) (list done : List PacketName) (cuts : List Cut) (rest : List PacketName) (number : ℕ) (old new : Left)
+    → Precincts s g → Keeps b → Listed g layers list → list ≡ done ++ (names_of cuts ++ rest)
+    → AllKnown s g layers done old.states → AreCuts b g number old cuts new → AreInTurn b s g number old cuts new
+cuts_in b s g layers list done [] rest number old new places keeps h e all are = are
+cuts_in b s g layers list done (c ∷ cuts) rest number old new places keeps h e all are = (
+  are.0,
+  turn_in b s g layers list done (names_of cuts ++ rest) number old c are.0 h e all are.1,
+  cuts_in b s g layers list (done ++ c.name ∷ []) cuts rest (number + 1) are.0 new places keeps h (e ∙ sym (push_on done (names_of cuts ++ rest) c.name))
+  (turn_known b s g layers list done (names_of cuts ++ rest) number old c are.0 places keeps h e all are.1) are.2,
+)
+
+pub are_in_turn : (b : List ℕ) (s : Stream) (t : ℕ) (list : List PacketName) (cuts : List Cut) (rest : List PacketName) (left : Left)
+    → Precincts s (geometry s t) → Keeps b → Listed (geometry s t) (layers_of s t) list → list ≡ names_of cuts ++ rest
+    → AreCuts b (geometry s t) 0 (start s t) cuts left → AreInTurn b s (geometry s t) 0 (start s t) cuts left
+are_in_turn b s t list cuts rest left places keeps h e are =
+    cuts_in b s (geometry s t) (layers_of s t) list [] cuts rest 0 (start s t) left places keeps h e (start_known s t (layers_of s t) places) are
