@@ -7,3 +7,5 @@ pub mod NumberLemmas
 pub mod BlockLemmas
 pub mod CellLemmas
 pub mod FreshLemmas
+pub mod TurnLemmas
+pub mod OnceLemmas
