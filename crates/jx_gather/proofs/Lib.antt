@@ -9,3 +9,4 @@ pub mod CellLemmas
 pub mod FreshLemmas
 pub mod TurnLemmas
 pub mod OnceLemmas
+pub mod TrackLemmas

@@ -31,12 +31,12 @@ pub record IsOfBlock (g : Geometry) (f : Found) : Type 0 where
   pub number : number_in_tile g name ≡ f.number
 
 -- ---- lists
-get-set_same : {X : Type 0} (xs : List X) (i : ℕ) (y : X) → i < length xs → slice_get (set xs i y) i ≡ Some y
+pub get-set_same : {X : Type 0} (xs : List X) (i : ℕ) (y : X) → i < length xs → slice_get (set xs i y) i ≡ Some y
 get-set_same [] i y lt = absurd (omega arith)
 get-set_same (x ∷ xs) zero y lt = refl
 get-set_same (x ∷ xs) (suc i) y lt = get-set_same xs i y (omega arith)
 
-get-set_other : {X : Type 0} (xs : List X) (i j : ℕ) (y : X) → (j ≡ i → ⊥) → slice_get (set xs i y) j ≡ slice_get xs j
+pub get-set_other : {X : Type 0} (xs : List X) (i j : ℕ) (y : X) → (j ≡ i → ⊥) → slice_get (set xs i y) j ≡ slice_get xs j
 get-set_other [] i j y ne = refl
 get-set_other (x ∷ xs) zero zero y ne = absurd (ne refl)
 get-set_other (x ∷ xs) zero (suc j) y ne = refl
