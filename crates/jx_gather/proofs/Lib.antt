@@ -10,3 +10,4 @@ pub mod FreshLemmas
 pub mod TurnLemmas
 pub mod OnceLemmas
 pub mod TrackLemmas
+pub mod SoundLemmas
