@@ -3,7 +3,7 @@ use Rattle.std.proofs.Common.{◌≡◌, ◌≢◌, ℕ, zero, suc, ◌+◌, ◌
 use Rattle.std.specs.List.{AllByRecursion, AllPairs, Contains}
 use Rattle.std.proofs.lemmas.Bool.{cases_lt, cases_eq, eqb-true, eq-eqb, ne_eqb, lt-ltb, le-ltb, cond-true, cond-false}
 use Rattle.std.proofs.lemmas.List.{length-replicate}
-use Rattle.std.proofs.lemmas.List.Elements.{All-from_recursion, All-weaker}
+use Rattle.std.proofs.lemmas.List.Elements.{All-from_recursion, All-weaker, Contains-append_left}
 use Rattle.std.proofs.lemmas.Option.{get_or_from_slice_get}
 use Rattle.jx_base.specs.declared.names.Band.{Band}
 use Rattle.jx_base.specs.declared.names.BlockName.{BlockName}
@@ -24,7 +24,7 @@ use Rattle.jx_head.specs.Precinct.{fresh_cells, fresh_bands, all_blocks}
 use Rattle.jx_head.proofs.FreshLemmas.{unknown_at, block_left, block_right}
 use Rattle.jx_order.specs.declared.names.PacketName.{PacketName}
 use Rattle.jx_order.specs.Packets.{IsPacket, SamePrecinct, LayersRise}
-use Rattle.jx_order.proofs.OrderLemmas.{order_to, pairs_head, pairs_tail, contains_head}
+use Rattle.jx_order.proofs.OrderLemmas.{order_to, pairs_head, pairs_tail, contains_head, contains_tail}
 use Rattle.jx_order.proofs.RiseLemmas.{order_rises}
 use Rattle.jx_stream.specs.declared.Stream.{Stream}
 use Rattle.jx_stream.specs.First.{tile_number}
@@ -154,4 +154,197 @@ there_from g layers [] all = tt
 there_from g layers (c ∷ cuts) all =
     let is : IsPacket g layers c.name = all c.name (contains_head c.name (names_of cuts)) in
     (record { resolution = is.resolution; precinct = is.precinct },
-    there_from g layers cuts (λ (p : PacketName) (h : Contains (names_of cuts) p). all p (Rattle.jx_order.proofs.OrderLemmas.contains_tail c.name (names_of cuts) p h)))
+    there_from g layers cuts (λ (p : PacketName) (h : Contains (names_of cuts) p). all p (contains_tail c.name (names_of cuts) p h)))
+
+abbrev Rises : PacketName → PacketName → Type 0
+Rises p q = SamePrecinct p q → p.layer < q.layer
+
+later_rise : (g : Geometry) (c : Cut) (cuts : List Cut) → HasPrecinct g c.name.comp c.name.res c.name.precinct → AreThere g cuts → ((q : PacketName) → Contains (names_of cuts) q → Rises c.name q) →
+    AllByRecursion (λ (d : Cut). number_of g c.name ≡ number_of g d.name → c.name.layer < d.name.layer) cuts
+later_rise g c [] own there all = tt
+later_rise g c (d ∷ cuts) own there all =
+    ((λ (e : number_of g c.name ≡ number_of g d.name).
+      (let one = precinct_once g c.name.comp c.name.res c.name.precinct d.name.comp d.name.res d.name.precinct own there.0 e in
+      all d.name (contains_head d.name (names_of cuts)) (record { comp = one.0; res = one.1; precinct = one.2 }))),
+    later_rise g c cuts own there.1 (λ (q : PacketName) (h : Contains (names_of cuts) q). all q (contains_tail d.name (names_of cuts) q h)))
+
+rise_from : (g : Geometry) (cuts : List Cut) (rest : List PacketName) → AreThere g cuts → AllPairs Rises (names_of cuts ++ rest) → Rise g cuts
+rise_from g [] rest there all = tt
+rise_from g (c ∷ cuts) rest there all =
+    (later_rise g c cuts there.0 there.1 (λ (q : PacketName) (h : Contains (names_of cuts) q). pairs_head Rises c.name (names_of cuts ++ rest) q all (Contains-append_left (names_of cuts) rest q h)),
+    rise_from g cuts rest there.1 (pairs_tail Rises c.name (names_of cuts ++ rest) all))
+
+pub begun : (b : List ℕ) (s : Stream) (t : ℕ) (cuts : List Cut) (rest : List PacketName) (left : Left) → StreamInRange s → GeometryInRange (geometry s t) → t < tile_number s.siz → length b ≤ 2 ^ 28 →
+    DataInRange b (tile_at s t).bodies → IsListOf s t (names_of cuts ++ rest) → AreCuts b (geometry s t) 0 (start s t) cuts left → IsBegun b s t cuts left
+begun b s t cuts rest left range limits tile short bodies list are =
+    let entries = (tile_at s t).progressions in
+    let there : AreThere (geometry s t) cuts = there_from (geometry s t) (layers_of s t) cuts (λ (p : PacketName) (h : Contains (names_of cuts) p).
+      (order_to (geometry s t) (layers_of s t) entries (length entries) (names_of cuts ++ rest) list p (Contains-append_left (names_of cuts) rest p h)).packet) in
+    let sum : together (tile_at s t).bodies ≤ length b = bodies.together in
+    record {
+      range = range;
+      tile = tile;
+      limits = limits;
+      there = there;
+      rise = rise_from (geometry s t) cuts rest there (order_rises (geometry s t) (layers_of s t) entries (length entries) (names_of cuts ++ rest) list);
+      are = are;
+      few = omega arith;
+    }
+
+pub begun_leaves : (b : List ℕ) (s : Stream) (t : ℕ) (cuts : List Cut) (left : Left) → IsBegun b s t cuts left → AreFromLeaves (geometry s t) (founds_of (geometry s t) cuts)
+begun_leaves b s t cuts left h = founds_leaves b s (geometry s t) 0 cuts (start s t) left h.there (start_follow s (geometry s t)) h.are
+
+-- ---- one block
+record OfNumber (g : Geometry) (i : ℕ) (f : Found) : Type 0 where
+  leaf : FromLeaf g f
+  number : f.number ≡ i
+
+own_have : (g : Geometry) (i : ℕ) (founds : List Found) → AreFromLeaves g founds → AllByRecursion (OfNumber g i) (own_founds i founds)
+unfolding own_founds
+own_have g i [] all = tt
+own_have g i (f ∷ founds) all = by (f.number == i) refl (own_have g i founds all.1)
+  where
+    by : (b : Bool) → (f.number == i) ≡ b → AllByRecursion (OfNumber g i) (filter (λ (x : Found). x.number == i) founds) →
+        AllByRecursion (OfNumber g i) (cond b (f ∷ filter (λ (x : Found). x.number == i) founds) (filter (λ (x : Found). x.number == i) founds))
+    by true e again = (record { leaf = all.0; number = eqb-true f.number i e }, again)
+    by false e again = again
+
+above_zero : (g : Geometry) (number : ℕ) (cuts : List Cut) → AreAbove g number 0 cuts
+above_zero g number [] = tt
+above_zero g number (c ∷ cuts) = ((λ (e : number_of g c.name ≡ number). (let z : 0 ≤ c.name.layer = omega arith in z)), above_zero g number cuts)
+
+block_size : (g : Geometry) (n : BlockName) → GeometryInRange g → HasBlock g n → HasBlockSize (block_rect (rect_of_tile g) (shape_of g n.comp) n.res n.band n.index)
+block_size g n h is =
+    let fits : BlockFits (block_rect (rect_of_tile g) (shape_of g n.comp) n.res n.band n.index) =
+    block_fits (rect_of_tile g) (shape_of g n.comp) n.res n.band n.index (h.shapes n.comp is.resolution.component) is.index in
+    let across = fits.some_across in
+    let down = fits.some_down in
+    record { wide = omega arith; high = omega arith; most_wide = fits.wide; most_high = fits.high; most = fits.area }
+
+-- it has no piece
+sound_none : (s : Stream) (g : Geometry) (n : BlockName) → HasBlockSize (block_rect (rect_of_tile g) (shape_of g n.comp) n.res n.band n.index) → planes_at s g.tile n.comp n.res n.band ≤ 74 →
+    IsSound (block_with s g n [])
+sound_none s g n size planes = record { size = size; planes = planes; zero = omega arith; few = omega arith; pieces = refl; bytes = omega arith }
+
+-- it has some
+sound_some : (s : Stream) (g : Geometry) (n : BlockName) (own : List Found) (new : Known) → HasBlockSize (block_rect (rect_of_tile g) (shape_of g n.comp) n.res n.band n.index) →
+    planes_at s g.tile n.comp n.res n.band ≤ 74 → bytes_in (pieces_in own) ≤ 2 ^ 28 →
+    Gained (style_of s g.tile n.comp) (planes_at s g.tile n.comp n.res n.band) 0 own unknown_block new → IsSound (block_with s g n own)
+sound_some s g n own new size planes bytes gained =
+    let all : ℕ = planes_at s g.tile n.comp n.res n.band in
+    let told : zero_from (planes_at s g.tile n.comp n.res n.band) own ≡ gained.z = gained.told in
+    let below : gained.z < planes_at s g.tile n.comp n.res n.band = gained.below in
+    let few : new.passes ≤ 3 * (planes_at s g.tile n.comp n.res n.band - gained.z) - 2 = gained.few in
+    let sum : 0 + passes_in own ≡ new.passes = pieces_sum (style_of s g.tile n.comp) 0 0 new.passes own gained.pieces in
+    let passes : new.passes ≡ passes_in own = omega arith in
+    record {
+      size = size;
+      planes = planes;
+      zero = omega arith;
+      few = subst (λ (z : ℕ). passes_in own ≤ 3 * (planes_at s g.tile n.comp n.res n.band - z) - 2) (sym told) (omega arith);
+      pieces = subst (λ (m : ℕ). ArePieces (style_of s g.tile n.comp) 0 0 m (pieces_in own)) passes gained.pieces;
+      bytes = bytes;
+    }
+
+-- the same, told of its precinct's block
+same_gained : (s : Stream) (g : Geometry) (n : BlockName) (c r k j : ℕ) (own : List Found) (new : Known) → HasBlock g n → HasBlock g (leaf_name g c r k j) → j < leaves g c r k →
+    number_in_tile g n ≡ leaf_number g c r k j → Gained (style_of s g.tile c) (planes_of (fresh_precinct s g c r k).bands j) 0 own (known_in (fresh_precinct s g c r k).bands j) new →
+    Gained (style_of s g.tile n.comp) (planes_at s g.tile n.comp n.res n.band) 0 own unknown_block new
+same_gained s g n c r k j own new is there lt number gained =
+    let one = number_once g n (leaf_name g c r k j) is there (number ∙ leaf_is g c r k j) in
+    let comp : c ≡ n.comp = sym (one.0 ∙ leaf_comp g c r k j) in
+    let res : r ≡ n.res = sym (one.1 ∙ leaf_res g c r k j) in
+    let band : (leaf_name g c r k j).band ≡ n.band = sym one.2 in
+    let planes : planes_of (fresh_precinct s g c r k).bands j ≡ planes_at s g.tile n.comp n.res n.band =
+    leaf_planes s g c r k j lt ∙ ap (λ (x : ℕ). planes_at s g.tile x r (leaf_name g c r k j).band) comp ∙ ap (λ (x : ℕ). planes_at s g.tile n.comp x (leaf_name g c r k j).band) res
+        ∙ ap (λ (x : Band). planes_at s g.tile n.comp n.res x) band in
+    subst (λ (x : ℕ). Gained (style_of s g.tile x) (planes_at s g.tile n.comp n.res n.band) 0 own unknown_block new) comp
+    (subst (λ (x : ℕ). Gained (style_of s g.tile c) x 0 own unknown_block new) planes
+    (subst (λ (x : Known). Gained (style_of s g.tile c) (planes_of (fresh_precinct s g c r k).bands j) 0 own x new) (fresh_unknown (precinct_bands s g c r k) j) gained))
+
+pub sound_block : (b : List ℕ) (s : Stream) (t : ℕ) (cuts : List Cut) (left : Left) (n : BlockName) → IsBegun b s t cuts left → HasBlock (geometry s t) n →
+    IsSound (block_of s (geometry s t) (founds_of (geometry s t) cuts) n)
+sound_block b s t cuts left n h is =
+    by (own_founds (number_in_tile (geometry s t) n) (founds_of (geometry s t) cuts)) refl
+    (own_have (geometry s t) (number_in_tile (geometry s t) n) (founds_of (geometry s t) cuts) (begun_leaves b s t cuts left h)) few
+  where
+    few : bytes_in (pieces_in (own_founds (number_in_tile (geometry s t) n) (founds_of (geometry s t) cuts))) ≤ 2 ^ 28
+    few =
+        let all : bytes_in (pieces_in (founds_of (geometry s t) cuts)) ≤ together (tile_at s t).bodies = cuts_take b (geometry s t) 0 cuts (start s t) left h.are in
+        let own : bytes_in (pieces_in (own_founds (number_in_tile (geometry s t) n) (founds_of (geometry s t) cuts))) ≤ bytes_in (pieces_in (founds_of (geometry s t) cuts)) =
+        bytes_own (number_in_tile (geometry s t) n) (founds_of (geometry s t) cuts) in
+        let small : together (tile_at s t).bodies ≤ 2 ^ 28 = h.few in
+        omega arith
+
+    size : HasBlockSize (block_rect (rect_of_tile (geometry s t)) (shape_of (geometry s t) n.comp) n.res n.band n.index)
+    size = block_size (geometry s t) n h.limits is
+
+    planes : planes_at s t n.comp n.res n.band ≤ 74
+    planes = h.range.planes t n.comp n.res n.band h.tile is.resolution is.band
+
+    grown : (own : List Found) (f : Found) (fs : List Found) (c r k j : ℕ) (new : Known) → own ≡ f ∷ fs → HasPrecinct (geometry s t) c r k → j < leaves (geometry s t) c r k →
+        number_in_tile (geometry s t) n ≡ leaf_number (geometry s t) c r k j → bytes_in (pieces_in own) ≤ 2 ^ 28 →
+        Grows (style_of s t c) (planes_of (fresh_precinct s (geometry s t) c r k).bands j) 0 own (known_in (fresh_precinct s (geometry s t) c r k).bands j) new → IsSound (block_with s (geometry s t) n own)
+    grown own f fs c r k j new e there lt number small (inl none) = absurd (let z : length (f ∷ fs) ≡ 0 = ap (λ (l : List Found). length l) (sym e ∙ none.0) in omega arith)
+    grown own f fs c r k j new e there lt number small (inr gained) =
+        sound_some s (geometry s t) n own new size planes small
+        (same_gained s (geometry s t) n c r k j own new is (leaf_there (geometry s t) c r k j h.limits there lt) lt number gained)
+
+    by : (own : List Found) → own_founds (number_in_tile (geometry s t) n) (founds_of (geometry s t) cuts) ≡ own → AllByRecursion (OfNumber (geometry s t) (number_in_tile (geometry s t) n)) own →
+        bytes_in (pieces_in own) ≤ 2 ^ 28 → IsSound (block_with s (geometry s t) n own)
+    by [] e all small = sound_none s (geometry s t) n size planes
+    by (f ∷ fs) e all small =
+        let leaf : FromLeaf (geometry s t) f = all.0.leaf in
+        let number : number_in_tile (geometry s t) n ≡ leaf_number (geometry s t) leaf.comp leaf.res leaf.precinct leaf.block = sym (leaf.number ∙ all.0.number) in
+        let tracked : Tracked s (geometry s t) leaf.comp leaf.res leaf.precinct leaf.block 0 (founds_of (geometry s t) cuts) (fresh_precinct s (geometry s t) leaf.comp leaf.res leaf.precinct) left.states =
+        track b s (geometry s t) leaf.comp leaf.res leaf.precinct leaf.block 0 0 cuts (start s t) left (fresh_precinct s (geometry s t) leaf.comp leaf.res leaf.precinct) h.limits leaf.there leaf.inside h.there h.rise
+            (start_follow s (geometry s t)) (above_zero (geometry s t) (precinct_number (geometry s t) leaf.comp leaf.res leaf.precinct) cuts) h.are
+            (precinct_there s (geometry s t) leaf.comp leaf.res leaf.precinct leaf.there) in
+        let own : own_founds (leaf_number (geometry s t) leaf.comp leaf.res leaf.precinct leaf.block) (founds_of (geometry s t) cuts) ≡ f ∷ fs =
+        ap (λ (i : ℕ). own_founds i (founds_of (geometry s t) cuts)) (sym number) ∙ e in
+        grown (f ∷ fs) f fs leaf.comp leaf.res leaf.precinct leaf.block (known_in tracked.after.bands leaf.block) refl leaf.there leaf.inside number small
+        (subst (λ (l : List Found). Grows (style_of s t leaf.comp) (planes_of (fresh_precinct s (geometry s t) leaf.comp leaf.res leaf.precinct).bands leaf.block) 0 l
+            (known_in (fresh_precinct s (geometry s t) leaf.comp leaf.res leaf.precinct).bands leaf.block) (known_in tracked.after.bands leaf.block)) own tracked.grows)
+
+-- ---- all blocks of a tile
+pub sound_cuts : (b : List ℕ) (s : Stream) (t : ℕ) (cuts : List Cut) (left : Left) → IsBegun b s t cuts left → All IsSound (tile_blocks s (geometry s t) (founds_of (geometry s t) cuts))
+sound_cuts b s t cuts left h i d lt =
+    let at : BlockAt s (geometry s t) (founds_of (geometry s t) cuts) i = block_named s (geometry s t) (founds_of (geometry s t) cuts) i h.limits lt in
+    let block : Block = block_of s (geometry s t) (founds_of (geometry s t) cuts) at.name in
+    subst (λ (x : Block). IsSound x) (sym (get_or_from_slice_get (tile_blocks s (geometry s t) (founds_of (geometry s t) cuts)) i block d at.found)) (sound_block b s t cuts left at.name h at.there)
+
+-- few passes
+pub passes_fit : (b : List ℕ) (s : Stream) (t : ℕ) (cuts : List Cut) (left : Left) → IsBegun b s t cuts left → All (λ (k : Block). k.passes < 2 ^ 16) (tile_blocks s (geometry s t) (founds_of (geometry s t) cuts))
+passes_fit b s t cuts left h = All-weaker IsSound (λ (k : Block). k.passes < 2 ^ 16) few (tile_blocks s (geometry s t) (founds_of (geometry s t) cuts)) (sound_cuts b s t cuts left h)
+  where
+    few : (k : Block) → IsSound k → k.passes < 2 ^ 16
+    few k is =
+        let passes : k.passes ≤ 3 * (k.planes - k.zero) - 2 = is.few in
+        let planes : k.planes ≤ 74 = is.planes in
+        omega arith
+
+-- pieces put to them
+pub tiled : (s : Stream) (g : Geometry) → GeometryInRange g → Tiled s g
+tiled s g h = record {
+  long = λ founds. blocks_long s g founds ∙ sym (blocks_long s g []);
+  there = λ founds n is. block_there s g founds n is;
+  named = λ i lt. (let at : BlockAt s g [] i = block_named s g [] i h lt in (at.name, (at.there, at.number)));
+}
+
+of_blocks : (g : Geometry) (founds : List Found) → GeometryInRange g → AreFromLeaves g founds → AllByRecursion (IsOfBlock g) founds
+of_blocks g [] h all = tt
+of_blocks g (f ∷ founds) h all =
+    let leaf : FromLeaf g f = all.0 in (
+      record {
+        name = leaf_name g leaf.comp leaf.res leaf.precinct leaf.block;
+        there = leaf_there g leaf.comp leaf.res leaf.precinct leaf.block h leaf.there leaf.inside;
+        number = sym (leaf_is g leaf.comp leaf.res leaf.precinct leaf.block) ∙ leaf.number;
+      },
+      of_blocks g founds h all.1,
+    )
+
+pub put_cuts : (b : List ℕ) (s : Stream) (t : ℕ) (cuts : List Cut) (left : Left) → IsBegun b s t cuts left →
+    put_all (tile_blocks s (geometry s t) []) (founds_of (geometry s t) cuts) ≡ tile_blocks s (geometry s t) (founds_of (geometry s t) cuts)
+put_cuts b s t cuts left h =
+    put_found s (geometry s t) (founds_of (geometry s t) cuts) (tiled s (geometry s t) h.limits)
+    (All-from_recursion (IsOfBlock (geometry s t)) (founds_of (geometry s t) cuts) (of_blocks (geometry s t) (founds_of (geometry s t) cuts) h.limits (begun_leaves b s t cuts left h)))
