@@ -11,3 +11,10 @@ pub mod TurnLemmas
 pub mod OnceLemmas
 pub mod TrackLemmas
 pub mod SoundLemmas
+pub mod SegmentLemmas
+pub mod PlaneLemmas
+pub mod ShapeLemmas
+pub mod EntryLemmas
+pub mod RangeLemmas
+pub mod TotalLemmas
+pub mod CoveredLemmas

@@ -11,3 +11,4 @@ pub mod WellFormed
 pub mod InRange
 pub mod Put
 pub mod Accepted
+pub mod Covered

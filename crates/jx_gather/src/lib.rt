@@ -2,7 +2,10 @@
 //! pieces of each block are joined.
 #![tactic(auto)]
 
+mod covered;
 mod faults;
+mod shapes;
+mod totals;
 
 pub use faults::GatherFault;
 pub use jx_base::{Block, Piece, Pieces};
