@@ -1,5 +1,5 @@
 -- Tile data have one reading: they are cut into packets in one way, or break one rule first.
-use Rattle.std.proofs.Common.{◌≡◌, ℕ, zero, suc, ◌+◌, ◌<◌, ◌≤◌, Bool, true, false, List, [], ◌∷◌, ◌++◌, Some, None, Option, inl, inr, ◌⊎◌, ◌∙◌, ap, sym, subst, refl, arith, length, take, drop, set, append-nil, length-append}
+use Rattle.std.proofs.Common.{◌≡◌, ℕ, zero, suc, ◌+◌, ◌<◌, Bool, true, false, List, [], ◌∷◌, ◌++◌, Some, None, Option, inl, inr, ◌⊎◌, ◌∙◌, ap, sym, subst, refl, arith, length, take, drop, set, append-nil, length-append}
 use Rattle.std.specs.Prelude.{◌-◌, slice_get}
 use Rattle.std.specs.Option.{option_or}
 use Rattle.std.proofs.lemmas.Bool.{cases_lt}
@@ -22,11 +22,11 @@ use Rattle.jx_gather.specs.declared.faults.GatherFault.TheVariants as fault
 use Rattle.jx_gather.specs.Faults.{broken}
 use Rattle.jx_gather.specs.Shapes.{geometry, layers_of, tile_at}
 use Rattle.jx_gather.specs.Totals.{totals_fault}
-use Rattle.jx_gather.specs.Data.{window, due, behind, end_of_data, sop_fault, has_sop, header_in, first_mark, rule_30, marks_fault, body_fault, front_length, parts_length}
+use Rattle.jx_gather.specs.Data.{window, due, behind, end_of_data, sop_fault, header_in, first_mark, rule_30, marks_fault, body_fault, front_length, parts_length}
 use Rattle.jx_gather.specs.Cuts.{Cut, IsCut, BreaksHeader, BreaksBody, Breaks, Left, IsTurn, AreCuts, names_of, number_of, BreaksDue, IsLeftOver, Stops}
 use Rattle.jx_gather.specs.Blocks.{founds_of, tile_blocks}
 use Rattle.jx_gather.specs.Gathered.{IsListOf, IsWhole, IsCutUp, AreTileBlocks, IsGathered, IsUncovered, BreaksTile, BreaksData, IsBroken, start}
-use Rattle.jx_gather.proofs.TurnLemmas.{Precincts, Keeps, Listed, listed, AllKnown, InTurn, AreInTurn, are_in_turn, known_there, has_precinct, due_named}
+use Rattle.jx_gather.proofs.TurnLemmas.{Precincts, Keeps, Listed, listed, AllKnown, AreInTurn, are_in_turn, known_there, has_precinct, due_named}
 
 -- ---- where a test is violated is no matter of the place
 some_none : {X : Type 0} (x : X) → Some x ≡ None → ⊥
@@ -395,3 +395,93 @@ tile_broken_once b s t f h r x y =
       | inl ahead ↦ broken_ahead b s t f h r x y ahead
       | inr behind ↦ sym (broken_ahead b s t h f r y x behind)
     ]
+
+-- ---- a codestream
+-- what is asked of it: in each tile the precincts are told apart, and no header gives a state up
+pub record Ready (b : List ℕ) (s : Stream) : Type 0 where
+  pub keeps : Keeps b
+  pub places : (t : ℕ) → t < tile_number s.siz → Precincts s (geometry s t)
+
+pub ready_tile : (b : List ℕ) (s : Stream) (t : ℕ) → Ready b s → t < tile_number s.siz → IsWhole s t → IsReady b s t
+ready_tile b s t r inside whole = record { places = r.places t inside; keeps = r.keeps; whole = whole }
+
+below_same : {X : Type 0} (f h : ℕ → List X) (a n : ℕ) → ((i : ℕ) → i < n → f (a + i) ≡ h (a + i)) → joined_below f a n ≡ joined_below h a n
+below_same f h a zero same = refl
+below_same {X} f h a (suc n) same =
+    let front : joined_below f a n ≡ joined_below h a n = below_same f h a n (λ i lt. same i (omega arith)) in
+    ap (λ (xs : List X). xs ++ f (a + n)) front ∙ ap (λ (xs : List X). joined_below h a n ++ xs) (same n (omega arith))
+
+pub joined_same : {X : Type 0} (f h : ℕ → List X) (n : ℕ) → ((i : ℕ) → i < n → f i ≡ h i) → joined f 0 n ≡ joined h 0 n
+unfolding joined
+joined_same {X} f h n same = below_same f h 0 (n - 0) (λ i lt.
+    (let e : i ≡ 0 + i = omega arith in
+    let P : ℕ → Type 0 = λ m. f m ≡ h m in
+    subst P e (same i (omega arith))))
+
+tile_once : (b : List ℕ) (s : Stream) (t : ℕ) (xs ys : List Block) → IsReady b s t → AreTileBlocks b s t xs → AreTileBlocks b s t ys → xs ≡ ys
+tile_once b s t xs ys r x y =
+    let same : x.0 ≡ y.0 = one_cut_up b s t x.0 y.0 r x.1 y.1 in
+    x.2 ∙ ap (λ (cuts : List Cut). tile_blocks s (geometry s t) (founds_of (geometry s t) cuts)) same ∙ sym y.2
+
+-- the blocks are one list
+pub one_gathering : (b : List ℕ) (s : Stream) (xs ys : List Block) → Ready b s → IsGathered b s xs → IsGathered b s ys → xs ≡ ys
+one_gathering b s xs ys r x y =
+    let each : (t : ℕ) → t < tile_number s.siz → x.tiles t ≡ y.tiles t = λ t inside.
+    tile_once b s t (x.tiles t) (y.tiles t) (ready_tile b s t r inside (x.whole t inside)) (x.are t inside) (y.are t inside) in
+    x.blocks_are ∙ joined_same x.tiles y.tiles (tile_number s.siz) each ∙ sym y.blocks_are
+
+-- a tile whose packets are covered has none that isn't
+pub whole_or_uncovered : (s : Stream) (t : ℕ) → IsWhole s t → HasUncovered (geometry s t) (layers_of s t) (tile_at s t).progressions → ⊥
+whole_or_uncovered s t whole some = some.2 (whole some.0 some.1)
+
+-- the first violation is one
+uncovered_once : (s : Stream) (f h : GatherFault) → IsUncovered s f → IsUncovered s h → f ≡ h
+uncovered_once s f h x y = elim (cases_lt x.tile y.tile) [
+  | inl lt ↦ absurd (whole_or_uncovered s x.tile (y.lowest x.tile lt) x.some)
+  | inr le ↦ elim (cases_lt y.tile x.tile) [
+    | inl gt ↦ absurd (whole_or_uncovered s y.tile (x.lowest y.tile gt) y.some)
+    | inr ge ↦
+        let same : x.tile ≡ y.tile = omega arith in
+        x.fault_is ∙ ap (λ (t : ℕ). fault.Rule 25 (tile_at s t).place) same ∙ sym y.fault_is
+  ]
+]
+
+data_once : (b : List ℕ) (s : Stream) (f h : GatherFault) → Ready b s → BreaksData b s f → BreaksData b s h → f ≡ h
+data_once b s f h r x y = elim (cases_lt x.tile y.tile) [
+  | inl lt ↦
+      let up = y.before x.tile lt in
+      absurd (up_or_broken b s x.tile up.0 f (ready_tile b s x.tile r x.inside (x.whole x.tile x.inside)) up.1 x.breaks)
+  | inr le ↦ elim (cases_lt y.tile x.tile) [
+    | inl gt ↦
+        let up = x.before y.tile gt in
+        absurd (up_or_broken b s y.tile up.0 h (ready_tile b s y.tile r y.inside (y.whole y.tile y.inside)) up.1 y.breaks)
+    | inr ge ↦
+        let same : x.tile ≡ y.tile = omega arith in
+        let P : ℕ → Type 0 = λ t. BreaksTile b s t f in
+        tile_broken_once b s y.tile f h (ready_tile b s y.tile r y.inside (y.whole y.tile y.inside)) (subst P same x.breaks) y.breaks
+  ]
+]
+
+pub broken_once : (b : List ℕ) (s : Stream) (f h : GatherFault) → (totals_fault s ≡ None → Ready b s) → IsBroken b s f → IsBroken b s h → f ≡ h
+broken_once b s f h r x y = elim x [
+  | inl p ↦ elim y [ inl q ↦ some_same f h (sym p ∙ q) | inr q ↦ absurd (some_none f (sym p ∙ q.0)) ]
+  | inr p ↦ elim y [
+    | inl q ↦ absurd (some_none h (sym q ∙ p.0))
+    | inr q ↦ elim p.1 [
+      | inl pu ↦ elim q.1 [ inl qu ↦ uncovered_once s f h pu qu | inr qd ↦ absurd (whole_or_uncovered s pu.tile (qd.whole pu.tile pu.inside) pu.some) ]
+      | inr pd ↦ elim q.1 [ inl qu ↦ absurd (whole_or_uncovered s qu.tile (pd.whole qu.tile qu.inside) qu.some) | inr qd ↦ data_once b s f h (r p.0) pd qd ]
+    ]
+  ]
+]
+
+-- where no limit is passed, there are blocks or a violated rule, and not both
+pub not_both : (b : List ℕ) (s : Stream) (blocks : List Block) (f : GatherFault) → Ready b s → totals_fault s ≡ None → IsGathered b s blocks → IsBroken b s f → ⊥
+not_both b s blocks f r none x y = elim y [
+  | inl p ↦ some_none f (sym p ∙ none)
+  | inr p ↦ elim p.1 [
+    | inl u ↦ whole_or_uncovered s u.tile (x.whole u.tile u.inside) u.some
+    | inr d ↦
+        let tile = x.are d.tile d.inside in
+        up_or_broken b s d.tile tile.0 f (ready_tile b s d.tile r d.inside (x.whole d.tile d.inside)) tile.1 d.breaks
+  ]
+]
