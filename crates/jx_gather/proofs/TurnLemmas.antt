@@ -1,5 +1,5 @@
 -- Packets in their turn: when a packet is due, its precinct's state is at its layer.
-use Rattle.std.proofs.Common.{◌≡◌, ◌≢◌, ℕ, zero, suc, ◌+◌, ◌<◌, ◌≤◌, List, [], ◌∷◌, ◌++◌, Some, Option, inl, inr, ◌⊎◌, ◌∙◌, ap, sym, subst, refl, arith, length, set, take, drop, append_assoc, append-nil, length-drop, length-take}
+use Rattle.std.proofs.Common.{◌≡◌, ℕ, zero, suc, ◌+◌, ◌<◌, ◌≤◌, List, [], ◌∷◌, ◌++◌, Some, inl, inr, ◌∙◌, ap, sym, subst, refl, arith, length, set, take, drop, append_assoc, append-nil, length-drop, length-take}
 use Rattle.std.specs.Prelude.{◌↔◌, slice_get}
 use Rattle.std.specs.List.{AllPairs, Contains}
 use Rattle.std.proofs.lemmas.Bool.{cases_lt, cases_eq}
@@ -7,12 +7,12 @@ use Rattle.std.proofs.lemmas.Option.{slice_get_within}
 use Rattle.std.proofs.lemmas.List.Elements.{Contains-append_left, Contains-append_right, Contains-append_cases, Contains-push, Contains-push_cases}
 use Rattle.jx_geom.specs.Geometry.{Geometry}
 use Rattle.jx_head.specs.declared.Part.{Part}
-use Rattle.jx_head.specs.Packet.{State, IsPacket, header_after}
+use Rattle.jx_head.specs.Packet.{State, IsPacket}
 use Rattle.jx_head.specs.Precinct.{IsState, all_blocks}
 use Rattle.jx_order.specs.declared.names.PacketName.{PacketName}
 use Rattle.jx_order.specs.Packets.{IsPacket as IsNamed, SamePrecinct, LayersRise, IsCovered}
 use Rattle.jx_order.specs.Steps.{name_of}
-use Rattle.jx_order.proofs.OrderLemmas.{contains_cons, contains_head, contains_tail, contains_none, pairs_tail, pairs_head, order_to, order_from}
+use Rattle.jx_order.proofs.OrderLemmas.{contains_cons, contains_head, contains_none, pairs_tail, pairs_head, order_to, order_from}
 use Rattle.jx_order.proofs.RiseLemmas.{order_rises}
 use Rattle.jx_stream.specs.declared.Body.{Body}
 use Rattle.jx_stream.specs.declared.Stream.{Stream}
@@ -230,7 +230,7 @@ other_known b s g layers done number old c new e r k other t was =
     record {
       state = was.state;
       known = ap (λ (xs : List State). slice_get xs (precinct_number g e r k)) states
-      ∙ get_set_other old.states (number_of g p) (precinct_number g e r k) c.after other ∙ was.known;
+          ∙ get_set_other old.states (number_of g p) (precinct_number g e r k) c.after other ∙ was.known;
       is = was.is;
       style = was.style;
       blocks = was.blocks;
@@ -333,7 +333,7 @@ cuts_in b s g layers list done (c ∷ cuts) rest number old new places keeps h e
   are.0,
   turn_in b s g layers list done (names_of cuts ++ rest) number old c are.0 h e all are.1,
   cuts_in b s g layers list (done ++ c.name ∷ []) cuts rest (number + 1) are.0 new places keeps h (e ∙ sym (push_on done (names_of cuts ++ rest) c.name))
-  (turn_known b s g layers list done (names_of cuts ++ rest) number old c are.0 places keeps h e all are.1) are.2,
+      (turn_known b s g layers list done (names_of cuts ++ rest) number old c are.0 places keeps h e all are.1) are.2,
 )
 
 pub are_in_turn : (b : List ℕ) (s : Stream) (t : ℕ) (list : List PacketName) (cuts : List Cut) (rest : List PacketName) (left : Left)
