@@ -10,7 +10,11 @@ use Rattle.jx_stream.specs.First.{tile_number}
 use Rattle.jx_gather.specs.declared.faults.GatherFault.{GatherFault}
 use Rattle.jx_gather.specs.Cuts.{Cut}
 use Rattle.jx_gather.specs.Totals.{totals_fault}
-use Rattle.jx_gather.specs.Gathered.{IsWhole, IsCutUp, AreTileBlocks, IsGathered, BreaksTile, BreaksData, IsBroken}
+use Rattle.jx_gather.specs.declared.faults.GatherFault.TheVariants as fault
+use Rattle.jx_gather.specs.Faults.{HasCause}
+use Rattle.jx_gather.specs.Shapes.{IsRead}
+use Rattle.jx_gather.specs.WellFormed.{IsWellFormed}
+use Rattle.jx_gather.specs.Gathered.{IsWhole, IsCutUp, AreTileBlocks, IsGathered, IsUncovered, BreaksTile, BreaksData, IsBroken}
 use Rattle.jx_gather.specs.Joined.{IsGatheredTo, with_tile}
 
 agree_below : {X : Type 0} (f g : ℕ → List X) (n : ℕ) → ((i : ℕ) → i < n → f i ≡ g i) → joined_below f 0 n ≡ joined_below g 0 n
@@ -68,3 +72,28 @@ tile_refused b s t blocks f whole below done breaks = record {
 
 pub data_refused : (b : List ℕ) (s : Stream) (f : GatherFault) → totals_fault s ≡ None → BreaksData b s f → IsBroken b s f
 data_refused b s f totals breaks = inr (totals, inr breaks)
+
+-- a refusal of a tile is one of the codestream
+pub cause_of_tile : (b : List ℕ) (s : Stream) (t : ℕ) (blocks : List Block) (e : GatherFault) → ((t : ℕ) → t < tile_number s.siz → IsWhole s t) → t < tile_number s.siz
+    → IsGatheredTo b s t blocks → HasCause (BreaksTile b s t) e → HasCause (BreaksData b s) e
+cause_of_tile b s t blocks (fault.Rule number place) whole below done breaks = tile_refused b s t blocks (fault.Rule number place) whole below done breaks
+cause_of_tile b s t blocks (fault.Limit number found) whole below done breaks = tile_refused b s t blocks (fault.Limit number found) whole below done breaks
+cause_of_tile b s t blocks fault.NoMemory whole below done breaks = tt
+
+pub cause_of_data : (b : List ℕ) (s : Stream) (e : GatherFault) → totals_fault s ≡ None → HasCause (BreaksData b s) e → HasCause (IsBroken b s) e
+cause_of_data b s (fault.Rule number place) none breaks = inr (none, inr breaks)
+cause_of_data b s (fault.Limit number found) none breaks = inr (none, inr breaks)
+cause_of_data b s fault.NoMemory none breaks = tt
+
+pub cause_of_cover : (b : List ℕ) (s : Stream) (e : GatherFault) → totals_fault s ≡ None → HasCause (IsUncovered s) e → HasCause (IsBroken b s) e
+cause_of_cover b s (fault.Rule number place) none breaks = inr (none, inl breaks)
+cause_of_cover b s (fault.Limit number found) none breaks = inr (none, inl breaks)
+cause_of_cover b s fault.NoMemory none breaks = tt
+
+pub cause_of_totals : (b : List ℕ) (s : Stream) (e : GatherFault) → HasCause (λ f. totals_fault s ≡ Some f) e → HasCause (IsBroken b s) e
+cause_of_totals b s (fault.Rule number place) h = inl h
+cause_of_totals b s (fault.Limit number found) h = inl h
+cause_of_totals b s fault.NoMemory h = tt
+
+pub well_formed : (b : List ℕ) (s : Stream) (blocks : List Block) → IsRead b s → IsGathered b s blocks → IsWellFormed b
+well_formed b s blocks read gathered = record { stream = s; spelled = read.spelled; blocks = blocks; gathered = gathered }

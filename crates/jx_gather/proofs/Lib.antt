@@ -20,3 +20,4 @@ pub mod EntryLemmas
 pub mod RangeLemmas
 pub mod TotalLemmas
 pub mod CoveredLemmas
+pub mod ReadyLemmas

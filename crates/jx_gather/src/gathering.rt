@@ -1,35 +1,114 @@
-ghost use Rattle.std.specs.Prelude.{◌≡◌, ◌≤◌, ◌^◌, List, None, length, IfOk, IfErr, OnOk, MatchResult};
+//! The code-blocks of a whole codestream, tile by tile.
+
+ghost use Rattle.std.specs.Prelude.{◌≡◌, ◌≤◌, ◌<◌, ◌^◌, ◌++◌, ℕ, List, None, length, IfOk, IfErr, OnOk, MatchResult};
 ghost use Rattle.std.specs.List.{All};
 ghost use Rattle.jx_base.specs.declared.pieces.Block.{Block};
 ghost use Rattle.jx_base.specs.Sound.{IsSound};
+ghost use Rattle.jx_stream.specs.First.{tile_number};
 ghost use Rattle.jx_gather.specs.declared.faults.GatherFault.{GatherFault};
 ghost use Rattle.jx_gather.specs.Faults.{HasCause, IsMemory, IsOnly};
 ghost use Rattle.jx_gather.specs.Shapes.{IsRead};
+ghost use Rattle.jx_gather.specs.InRange.{StreamInRange};
 ghost use Rattle.jx_gather.specs.Totals.{totals_fault};
-ghost use Rattle.jx_gather.specs.Gathered.{IsBroken, IsGathered};
+ghost use Rattle.jx_gather.specs.Gathered.{AreTileBlocks, BreaksData, BreaksTile, IsBroken, IsGathered, IsWhole};
+ghost use Rattle.jx_gather.specs.Joined.{IsGatheredTo};
 ghost use Rattle.jx_gather.specs.WellFormed.{IsWellFormed};
 
 use crate::GatherFault;
-use jx_base::Block;
+use crate::covered::check_covered;
+use crate::shapes::tile_count;
+use crate::tile_blocks::gather_tile;
+use crate::totals::check_totals;
+use jx_base::{Block, NoMemory};
 use jx_stream::Stream;
 use std::alloc::Global;
 
+/// Moves the blocks of a tile behind those of the tiles before it.
+fn append<'a>(blocks: &mut Vec<Block<'a>>, mut next: Vec<Block<'a>>) -> Result<(), NoMemory>
+    ensures { OnOk result (blocks.new.items ≡ blocks.old.items ++ next.entry.items) }
+{
+    Ok(blocks.append(&mut next)?)
+}
+
+/// The blocks of all tiles, where each packet is covered by an entry.
+#[tactic(auto, using(crate::proofs::GatherLemmas::gathered_none, crate::proofs::GatherLemmas::gathered_next, crate::proofs::GatherLemmas::gathered_all, crate::proofs::GatherLemmas::cause_of_tile))]
+fn gather_tiles<'a>(
+    alloc: Global,
+    bytes: &'a [u8],
+    stream: &Stream,
+) -> Result<Vec<Block<'a>>, GatherFault>
+    requires read { IsRead bytes.now stream.now }
+    requires range { StreamInRange stream.now }
+    requires fits { length bytes.now ≤ 2 ^ 28 }
+    requires totals { totals_fault stream.now ≡ None }
+    requires whole { (t : ℕ) → t < tile_number stream.now.siz → IsWhole stream.now t }
+    ensures gathered { IfOk result (λ blocks. IsGathered bytes.entry.now stream.now blocks.items) }
+    ensures sound { IfOk result (λ blocks. All IsSound blocks.items) }
+    ensures broken { IfErr result (λ e. HasCause (BreaksData bytes.entry.now stream.now) e) }
+{
+    let mut blocks = Vec::new(alloc);
+    for tile in 0..tile_count(stream) {
+        match gather_tile(alloc, bytes, stream, tile) {
+            Ok(next) => append(&mut blocks, next)?,
+            Err(fault) => return Err(fault),
+        }
+    }
+    Ok(blocks)
+}
+
+/// The same, with the limits and the cover of packets tested first.
+#[tactic(auto, using(crate::proofs::RangeLemmas::read_in_range, crate::proofs::GatherLemmas::cause_of_data, crate::proofs::GatherLemmas::cause_of_cover, crate::proofs::GatherLemmas::cause_of_totals))]
+fn gather_first<'a>(
+    alloc: Global,
+    bytes: &'a [u8],
+    stream: &Stream,
+) -> Result<Vec<Block<'a>>, GatherFault>
+    requires read { IsRead bytes.now stream.now }
+    requires fits { length bytes.now ≤ 2 ^ 28 }
+    ensures gathered { IfOk result (λ blocks. IsGathered bytes.entry.now stream.now blocks.items) }
+    ensures totals { OnOk result (totals_fault stream.now ≡ None) }
+    ensures sound { IfOk result (λ blocks. All IsSound blocks.items) }
+    ensures broken { IfErr result (λ e. HasCause (IsBroken bytes.entry.now stream.now) e) }
+{
+    match check_totals(stream) {
+        Ok(()) => {}
+        Err(fault) => return Err(fault),
+    }
+    match check_covered(alloc, stream) {
+        Ok(()) => {}
+        Err(fault) => return Err(fault),
+    }
+    gather_tiles(alloc, bytes, stream)
+}
+
 /// The code-blocks of a codestream, in the order of their numbers, each with its pieces as slices of the file.
-pub fn gather<'a>(alloc: Global, bytes: &'a [u8], stream: &Stream) -> Result<Vec<Block<'a>>, GatherFault>
+///
+/// `stream` is what `read_stream` gives for `bytes`, of which there are at most 2^28. Limits 5 and 6 come first, then rule 25,
+/// then, tile by tile and packet by packet, the rules 26 to 31. A block that no packet includes has no passes, and as many
+/// zero planes as planes (T.800, B.7 and B.9 to B.12).
+#[tactic(auto, using(crate::proofs::GatherLemmas::well_formed))]
+pub fn gather<'a>(
+    alloc: Global,
+    bytes: &'a [u8],
+    stream: &Stream,
+) -> Result<Vec<Block<'a>>, GatherFault>
     requires read { IsRead bytes.now stream.now }
     requires fits { length bytes.now ≤ 2 ^ 28 }
     // What is given are the blocks of these bytes,
     ensures gathered { IfOk result (λ blocks. IsGathered bytes.entry.now stream.now blocks.items) }
     ensures totals { OnOk result (totals_fault stream.now ≡ None) }
-    // and they are given where there are such blocks, but for want of memory.
+    // and where there are such blocks nothing else is answered, but for want of memory.
     ensures only { (blocks : List Block) → totals_fault stream.now ≡ None → IsGathered bytes.entry.now stream.now blocks
         → MatchResult result (λ given. given.items ≡ blocks) IsMemory }
     // A rule or limit that is named is the first one violated or passed,
     ensures broken { IfErr result (λ e. HasCause (IsBroken bytes.entry.now stream.now) e) }
-    // and where one is, it is named, but for want of memory.
+    // and where one is, nothing else is answered, but for want of memory.
     ensures broken_only { (first : GatherFault) → IsBroken bytes.entry.now stream.now first → MatchResult result (λ _. ⊥) (IsOnly first) }
     ensures sound { IfOk result (λ blocks. All IsSound blocks.items) }
     ensures well_formed { OnOk result (IsWellFormed bytes.entry.now) }
 {
-    Err(GatherFault::NoMemory)
+    match gather_first(alloc, bytes, stream) {
+        Ok(blocks) => Ok(blocks),
+        Err(fault) => Err(fault),
+    }
 }

@@ -6,6 +6,7 @@ mod covered;
 mod faults;
 mod gathering;
 mod shapes;
+mod tile_blocks;
 mod totals;
 
 pub use faults::GatherFault;
