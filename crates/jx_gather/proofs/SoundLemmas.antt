@@ -1,5 +1,5 @@
 -- Each block of a tile that is cut into packets is sound.
-use Rattle.std.proofs.Common.{◌≡◌, ◌≢◌, ℕ, zero, suc, ◌+◌, ◌-◌, ◌*◌, ◌^◌, ◌<◌, ◌≤◌, ◌==◌, nat_lt, Bool, true, false, List, [], ◌∷◌, ◌++◌, length, map, filter, replicate, refl, sym, ap, ◌∙◌, subst, cond, arith, Some, None, inl, inr, ◌⊎◌, All, get_or, slice_get, if◌then◌else◌}
+use Rattle.std.proofs.Common.{◌≡◌, ◌≢◌, ℕ, zero, suc, ◌+◌, ◌-◌, ◌*◌, ◌^◌, ◌<◌, ◌≤◌, ◌==◌, nat_lt, Bool, true, false, List, [], ◌∷◌, ◌++◌, length, map, filter, replicate, refl, sym, ap, ◌∙◌, subst, cond, arith, Some, None, inl, inr, ◌⊎◌, All, get_or, slice_get, append-nil, if◌then◌else◌}
 use Rattle.std.specs.List.{AllByRecursion, AllPairs, Contains}
 use Rattle.std.proofs.lemmas.Bool.{cases_lt, cases_eq, eqb-true, eq-eqb, ne_eqb, lt-ltb, le-ltb, cond-true, cond-false}
 use Rattle.std.proofs.lemmas.List.{length-replicate}
@@ -29,17 +29,21 @@ use Rattle.jx_order.proofs.RiseLemmas.{order_rises}
 use Rattle.jx_stream.specs.declared.Stream.{Stream}
 use Rattle.jx_stream.specs.First.{tile_number}
 use Rattle.jx_stream.specs.Params.{planes_at}
-use Rattle.jx_gather.specs.Shapes.{geometry, layers_of, style_of, tile_at}
+use Rattle.jx_gather.specs.Shapes.{geometry, layers_of, style_of, tile_at, IsRead}
+use Rattle.jx_gather.specs.Totals.{totals_fault}
 use Rattle.jx_gather.specs.InRange.{StreamInRange, DataInRange}
 use Rattle.jx_gather.specs.Leaves.{leaves, leaves_in}
 use Rattle.jx_gather.specs.Cells.{HasPrecinct, bands_at, cells_at, sizes_of, precinct_bands, fresh_precinct, fresh_precincts, precinct_number, name_from, leaf_name, leaf_number}
 use Rattle.jx_gather.specs.Cuts.{Cut, Left, AreCuts, number_of, names_of}
 use Rattle.jx_gather.specs.Blocks.{Found, founds_of, own_founds, pieces_in, passes_in, zero_from, block_with, block_of, tile_blocks}
-use Rattle.jx_gather.specs.Gathered.{IsListOf, start}
+use Rattle.jx_gather.specs.Gathered.{IsListOf, IsCutUp, start}
 use Rattle.jx_gather.specs.Put.{put_all}
 use Rattle.jx_gather.proofs.NumberLemmas.{precinct_there, precinct_once}
 use Rattle.jx_gather.proofs.CellLemmas.{bands_of, name_here, name_later, leaf_there, leaf_is, number_once}
 use Rattle.jx_gather.proofs.BlockLemmas.{blocks_long, block_there, block_named, BlockAt}
+use Rattle.jx_gather.proofs.RangeLemmas.{read_in_range}
+use Rattle.jx_gather.proofs.TotalLemmas.{geometry_fits}
+use Rattle.jx_gather.proofs.BodyLemmas.{read_data}
 use Rattle.jx_gather.proofs.PartLemmas.{known_in, planes_of}
 use Rattle.jx_gather.proofs.PutLemmas.{Tiled, IsOfBlock, put_found}
 use Rattle.jx_gather.proofs.GrowLemmas.{Gained, Grows, pieces_sum, bytes_own}
@@ -348,3 +352,15 @@ pub put_cuts : (b : List ℕ) (s : Stream) (t : ℕ) (cuts : List Cut) (left : L
 put_cuts b s t cuts left h =
     put_found s (geometry s t) (founds_of (geometry s t) cuts) (tiled s (geometry s t) h.limits)
     (All-from_recursion (IsOfBlock (geometry s t)) (founds_of (geometry s t) cuts) (of_blocks (geometry s t) (founds_of (geometry s t) cuts) h.limits (begun_leaves b s t cuts left h)))
+
+-- ---- of a codestream that is read
+pub read_begun : (b : List ℕ) (s : Stream) (t : ℕ) (cuts : List Cut) (rest : List PacketName) (left : Left) → IsRead b s → length b ≤ 2 ^ 28 → t < tile_number s.siz → totals_fault s ≡ None →
+    IsListOf s t (names_of cuts ++ rest) → AreCuts b (geometry s t) 0 (start s t) cuts left → IsBegun b s t cuts left
+read_begun b s t cuts rest left read short tile totals list are =
+    let range : StreamInRange s = read_in_range b s read in
+    begun b s t cuts rest left range (geometry_fits s t range totals tile) tile short (read_data b s t read tile) list are
+
+pub sound_blocks : (b : List ℕ) (s : Stream) (t : ℕ) (cuts : List Cut) → IsRead b s → length b ≤ 2 ^ 28 → t < tile_number s.siz → totals_fault s ≡ None → IsCutUp b s t cuts →
+    All IsSound (tile_blocks s (geometry s t) (founds_of (geometry s t) cuts))
+sound_blocks b s t cuts read short tile totals up =
+    sound_cuts b s t cuts up.end (read_begun b s t cuts [] up.end read short tile totals (subst (λ (l : List PacketName). IsListOf s t l) (sym (append-nil (names_of cuts))) up.order) up.are)
