@@ -80,7 +80,6 @@ bodies_are main parts t = refl
 pub read_data : (b : List ℕ) (s : Stream) (t : ℕ) → IsRead b s → t < tile_number s.siz → DataInRange b (tile_at s t).bodies
 read_data b s t r lt =
     let w : Spells b s = r.spelled in
-    let comps : ℕ = length s.siz.comps in
     let soc : List ℕ = spelling 1 segment.Soc in
     let siz : List ℕ = spelling 1 (segment.Siz s.siz) in
     let main : List ℕ = all_bytes (length s.siz.comps) s.main in

@@ -249,12 +249,6 @@ blocks_go v style layer base stop leaf j cells [] all are ge lt = absurd (let e 
 blocks_go v style layer base stop leaf j cells (e ∷ es) all are ge lt =
     by (cases_eq j leaf) (λ (ge' : leaf + 1 ≤ j). blocks_go v style layer base stop (leaf + 1) j (entry_after v layer leaf cells e) es (all ∙ sym (entry_size v layer leaf cells e).long) are.2 ge' lt)
   where
-    next : Cells
-    next = entry_after v layer leaf cells e
-
-    after : Cells
-    after = blocks_after v layer (leaf + 1) (entry_after v layer leaf cells e) es
-
     by : (j ≡ leaf) ⊎ (j ≡ leaf → ⊥) →
         (leaf + 1 ≤ j → Goes style (entry_after v layer leaf cells e).planes (own_parts (base + j) (parts_told es)) (block_at (entry_after v layer leaf cells e) j) (block_at (blocks_after v layer (leaf + 1) (entry_after v layer leaf cells e) es) j)) →
         Goes style cells.planes (own_parts (base + j) (e.parts ++ parts_told es)) (block_at cells j) (block_at (blocks_after v layer (leaf + 1) (entry_after v layer leaf cells e) es) j)
@@ -316,9 +310,6 @@ bands_go style layer base j (cells ∷ bands) [] are lt = absurd are
 bands_go style layer base j (cells ∷ bands) (told ∷ tolds) are lt =
     by (cases_lt j (length cells.blocks)) (λ (i : ℕ) (l : i < length (all_blocks bands)). bands_go style layer (base + length cells.blocks) i bands tolds are.1 l)
   where
-    size : SameCells (band_after layer cells told) cells
-    size = blocks_size told.values layer 0 cells told.entries
-
     by : (j < length cells.blocks) ⊎ (length cells.blocks ≤ j) →
         ((i : ℕ) → i < length (all_blocks bands) → Goes style (planes_of bands i) (own_parts (base + length cells.blocks + i) (bands_parts tolds)) (known_in bands i) (known_in (bands_after layer bands tolds) i)) →
         Goes style (if nat_lt j (length cells.blocks) then cells.planes else planes_of bands (j - length cells.blocks)) (own_parts (base + j) (parts_told told.entries ++ bands_parts tolds))
@@ -338,7 +329,6 @@ bands_go style layer base j (cells ∷ bands) (told ∷ tolds) are lt =
     by (inr past) again =
         let long : length (band_after layer cells told).blocks ≡ length cells.blocks = (blocks_size told.values layer 0 cells told.entries).long in
         let sum : length (cells.blocks ++ all_blocks bands) ≡ length cells.blocks + length (all_blocks bands) = length-append cells.blocks (all_blocks bands) in
-        let i : ℕ = j - length cells.blocks in
         let at : base + length cells.blocks + (j - length cells.blocks) ≡ base + j = omega arith in
         let none : own_parts (base + j) (parts_told told.entries) ≡ [] = own_none (base + 0) (base + length cells.blocks) (base + j) (parts_told told.entries)
             (blocks_within told.values style layer base (length cells.blocks) 0 cells told.entries are.0.are) (inr (omega arith)) in

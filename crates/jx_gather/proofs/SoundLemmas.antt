@@ -3,7 +3,7 @@ use Rattle.std.proofs.Common.{◌≡◌, ◌≢◌, ℕ, zero, suc, ◌+◌, ◌
 use Rattle.std.specs.List.{AllByRecursion, AllPairs, Contains}
 use Rattle.std.proofs.lemmas.Bool.{cases_lt, cases_eq, eqb-true, eq-eqb, ne_eqb, lt-ltb, le-ltb, cond-true, cond-false}
 use Rattle.std.proofs.lemmas.List.{length-replicate}
-use Rattle.std.proofs.lemmas.List.Elements.{All-from_recursion, All-weaker, Contains-append_left}
+use Rattle.std.proofs.lemmas.List.Elements.{All-from_recursion, All-weaker, All-append, Contains-append_left}
 use Rattle.std.proofs.lemmas.Option.{get_or_from_slice_get}
 use Rattle.jx_base.specs.declared.names.Band.{Band}
 use Rattle.jx_base.specs.declared.names.BlockName.{BlockName}
@@ -26,6 +26,7 @@ use Rattle.jx_order.specs.declared.names.PacketName.{PacketName}
 use Rattle.jx_order.specs.Packets.{IsPacket, SamePrecinct, LayersRise}
 use Rattle.jx_order.proofs.OrderLemmas.{order_to, pairs_head, pairs_tail, contains_head, contains_tail}
 use Rattle.jx_order.proofs.RiseLemmas.{order_rises}
+use Rattle.jx_order.specs.Steps.{joined, joined_below}
 use Rattle.jx_stream.specs.declared.Stream.{Stream}
 use Rattle.jx_stream.specs.First.{tile_number}
 use Rattle.jx_stream.specs.Params.{planes_at}
@@ -36,7 +37,7 @@ use Rattle.jx_gather.specs.Leaves.{leaves, leaves_in}
 use Rattle.jx_gather.specs.Cells.{HasPrecinct, bands_at, cells_at, sizes_of, precinct_bands, fresh_precinct, fresh_precincts, precinct_number, name_from, leaf_name, leaf_number}
 use Rattle.jx_gather.specs.Cuts.{Cut, Left, AreCuts, number_of, names_of}
 use Rattle.jx_gather.specs.Blocks.{Found, founds_of, own_founds, pieces_in, passes_in, zero_from, block_with, block_of, tile_blocks}
-use Rattle.jx_gather.specs.Gathered.{IsListOf, IsCutUp, start}
+use Rattle.jx_gather.specs.Gathered.{IsListOf, IsCutUp, IsGathered, start}
 use Rattle.jx_gather.specs.Put.{put_all}
 use Rattle.jx_gather.proofs.NumberLemmas.{precinct_there, precinct_once}
 use Rattle.jx_gather.proofs.CellLemmas.{bands_of, name_here, name_later, leaf_there, leaf_is, number_once}
@@ -235,7 +236,6 @@ sound_some : (s : Stream) (g : Geometry) (n : BlockName) (own : List Found) (new
     planes_at s g.tile n.comp n.res n.band ≤ 74 → bytes_in (pieces_in own) ≤ 2 ^ 28 →
     Gained (style_of s g.tile n.comp) (planes_at s g.tile n.comp n.res n.band) 0 own unknown_block new → IsSound (block_with s g n own)
 sound_some s g n own new size planes bytes gained =
-    let all : ℕ = planes_at s g.tile n.comp n.res n.band in
     let told : zero_from (planes_at s g.tile n.comp n.res n.band) own ≡ gained.z = gained.told in
     let below : gained.z < planes_at s g.tile n.comp n.res n.band = gained.below in
     let few : new.passes ≤ 3 * (planes_at s g.tile n.comp n.res n.band - gained.z) - 2 = gained.few in
@@ -364,3 +364,23 @@ pub sound_blocks : (b : List ℕ) (s : Stream) (t : ℕ) (cuts : List Cut) → I
     All IsSound (tile_blocks s (geometry s t) (founds_of (geometry s t) cuts))
 sound_blocks b s t cuts read short tile totals up =
     sound_cuts b s t cuts up.end (read_begun b s t cuts [] up.end read short tile totals (subst (λ (l : List PacketName). IsListOf s t l) (sym (append-nil (names_of cuts))) up.order) up.are)
+
+below_all : {X : Type 0} (P : X → Type 0) (f : ℕ → List X) (a n : ℕ) → ((i : ℕ) → i < n → All P (f (a + i))) → All P (joined_below f a n)
+below_all P f a zero each = λ k d lt. absurd (omega arith)
+below_all P f a (suc n) each = All-append P (joined_below f a n) (f (a + n)) (below_all P f a n (λ (i : ℕ) (lt : i < n). each i (omega arith))) (each n (omega arith))
+
+joined_all : {X : Type 0} (P : X → Type 0) (f : ℕ → List X) (n : ℕ) → ((i : ℕ) → i < n → All P (f i)) → All P (joined f 0 n)
+unfolding joined
+joined_all {X} P f n each = below_all P f 0 (n - 0) (λ (i : ℕ) (lt : i < n - 0).
+  (let e : i ≡ 0 + i = omega arith in
+  let Q : ℕ → Type 0 = λ (m : ℕ). All P (f m) in
+  subst Q e (each i (omega arith))))
+
+pub sound_gathered : (b : List ℕ) (s : Stream) (blocks : List Block) → IsRead b s → length b ≤ 2 ^ 28 → totals_fault s ≡ None → IsGathered b s blocks → All IsSound blocks
+sound_gathered b s blocks read short totals g =
+    subst (λ (l : List Block). All IsSound l) (sym g.blocks_are) (joined_all IsSound g.tiles (tile_number s.siz) each)
+  where
+    each : (t : ℕ) → t < tile_number s.siz → All IsSound (g.tiles t)
+    each t tile =
+        let are = g.are t tile in
+        subst (λ (l : List Block). All IsSound l) (sym are.2) (sound_blocks b s t are.0 read short tile totals are.1)

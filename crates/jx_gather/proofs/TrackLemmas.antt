@@ -112,7 +112,6 @@ turn_inside : (b : List ℕ) (s : Stream) (g : Geometry) (number : ℕ) (old : L
     IsTurn b g number old c new → AreInside (leaves g c.name.comp c.name.res c.name.precinct) c.parts
 turn_inside b s g number old c new all there t =
     let f = own_follows b s g number old c new all there t in
-    let count : ℕ = length (all_blocks t.state.bands) in
     subst (λ (n : ℕ). AreInside n c.parts) f.count
     (inside_from (length (all_blocks t.state.bands)) c.parts
     (recursion_from_All (PartIn (length (all_blocks t.state.bands))) c.parts (part_inside (header_in (window b t.body)) t.state c.parts c.used c.after t.cut.header)))
@@ -318,8 +317,6 @@ due_together (body ∷ later) = by (body.length == 0) refl (due_together later)
 
 turn_takes : (b : List ℕ) (g : Geometry) (number : ℕ) (old : Left) (c : Cut) (new : Left) → IsTurn b g number old c new → bytes_in (pieces_in (founds_in g c)) + together new.bodies ≤ together old.bodies
 turn_takes b g number old c new t =
-    let w : List ℕ = window b t.body in
-    let f : ℕ = front_length (window b t.body) c.used in
     let from : bytes_in (pieces_in (founds_from g c.name c.after c.bytes c.parts)) ≤ length c.bytes = bytes_from g c.name c.after c.bytes c.parts in
     let bytes : length c.bytes ≡ length (take (parts_length c.parts) (drop (front_length (window b t.body) c.used) (window b t.body))) = ap length t.cut.bytes_are in
     let short : length (take (parts_length c.parts) (drop (front_length (window b t.body) c.used) (window b t.body))) ≡ min (parts_length c.parts) (length (drop (front_length (window b t.body) c.used) (window b t.body))) =
