@@ -1,18 +1,16 @@
 -- Where the data of a tile lie in the file that is read.
-use Rattle.std.proofs.Common.{◌≡◌, ℕ, ◌+◌, ◌<◌, ◌≤◌, ◌==◌, Bool, true, false, List, [], ◌∷◌, ◌++◌, length, map, filter, sum_by, flat_map, refl, sym, ap, ◌∙◌, subst, cond, arith, length-append, All, get_or}
-use Rattle.std.specs.List.{AllByRecursion, range_with_len}
+use Rattle.std.proofs.Common.{◌≡◌, ℕ, ◌+◌, ◌<◌, ◌≤◌, ◌==◌, Bool, true, false, List, [], ◌∷◌, ◌++◌, length, map, filter, sum_by, flat_map, refl, sym, ap, ◌∙◌, subst, cond, arith, length-append, get_or}
+use Rattle.std.specs.List.{AllByRecursion}
 use Rattle.std.proofs.lemmas.List.Elements.{All-from_recursion}
 use Rattle.std.proofs.lemmas.List.FromFn.{get_or-map-range_with_len}
 use Rattle.std.proofs.lemmas.List.Sums.{sum_by-cons}
 use Rattle.jx_marker.specs.Segments.{spelling}
 use Rattle.jx_marker.specs.declared.Segment.{Segment}
 use Rattle.jx_marker.specs.declared.Segment.TheVariants as segment
-use Rattle.jx_marker.specs.declared.Siz.{Siz}
 use Rattle.jx_stream.specs.declared.parts.Part.{Part}
 use Rattle.jx_stream.specs.declared.Body.{Body}
 use Rattle.jx_stream.specs.declared.Stream.{Stream}
 use Rattle.jx_stream.specs.declared.Tile.{Tile}
-use Rattle.jx_stream.specs.Parts.{parts_of}
 use Rattle.jx_stream.specs.Tiles.{tile_of, tiles_of}
 use Rattle.jx_stream.specs.First.{tile_number}
 use Rattle.jx_stream.specs.Spells.{TilePart, all_bytes, head_bytes, part_bytes, part_of, placed, first_sot, Spells}
@@ -54,7 +52,7 @@ together test comps at (p ∷ ps) =
     let a : length (part_bytes comps p ++ flat_map (part_bytes comps) ps) ≡ length (part_bytes comps p) + length (flat_map (part_bytes comps) ps) = length-append (part_bytes comps p) (flat_map (part_bytes comps) ps) in
     let l : length (part_bytes comps p) ≡ length (head_bytes comps p) + length p.body = part_length comps p in
     let some : sum_by (λ (body : Body). body.length) (map (λ (q : Part). q.body) (cond (test (part_of comps at p)) (part_of comps at p ∷ filter test (placed comps (at + length (part_bytes comps p)) ps)) (filter test (placed comps (at + length (part_bytes comps p)) ps))))
-        ≤ length p.body + length (flat_map (part_bytes comps) ps) = by (test (part_of comps at p)) (together test comps (at + length (part_bytes comps p)) ps) in
+    ≤ length p.body + length (flat_map (part_bytes comps) ps) = by (test (part_of comps at p)) (together test comps (at + length (part_bytes comps p)) ps) in
     omega arith
   where
     by : (c : Bool) → sum_by (λ (body : Body). body.length) (bodies_by test (placed comps (at + length (part_bytes comps p)) ps)) ≤ length (flat_map (part_bytes comps) ps) →
@@ -80,7 +78,6 @@ bodies_are main parts t = refl
 pub read_data : (b : List ℕ) (s : Stream) (t : ℕ) → IsRead b s → t < tile_number s.siz → DataInRange b (tile_at s t).bodies
 read_data b s t r lt =
     let w : Spells b s = r.spelled in
-    let comps : ℕ = length s.siz.comps in
     let soc : List ℕ = spelling 1 segment.Soc in
     let siz : List ℕ = spelling 1 (segment.Siz s.siz) in
     let main : List ℕ = all_bytes (length s.siz.comps) s.main in

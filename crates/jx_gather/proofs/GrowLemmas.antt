@@ -1,12 +1,12 @@
 -- The pieces of one block: those of one packet, and those of packets one after another.
-use Rattle.std.proofs.Common.{◌≡◌, ◌≢◌, ℕ, zero, suc, ◌+◌, ◌-◌, ◌<◌, ◌≤◌, ◌==◌, min, Bool, true, false, List, [], ◌∷◌, ◌++◌, length, take, drop, map, filter, sum_by, refl, sym, ap, ◌∙◌, subst, cond, arith, Some, None, inl, inr, ◌⊎◌, Option, append-nil, length-take, length-drop, length-append}
+use Rattle.std.proofs.Common.{◌≡◌, ℕ, ◌+◌, ◌-◌, ◌<◌, ◌≤◌, ◌==◌, min, Bool, true, false, List, [], ◌∷◌, ◌++◌, length, take, drop, filter, refl, sym, ap, ◌∙◌, subst, cond, arith, Some, None, inl, inr, ◌⊎◌, append-nil, length-take, length-drop}
 use Rattle.std.specs.List.{AllByRecursion}
-use Rattle.std.proofs.lemmas.Bool.{cases_eq, eq-eqb, ne_eqb, cases_lt}
+use Rattle.std.proofs.lemmas.Bool.{cases_eq, eq-eqb, ne_eqb}
 use Rattle.std.proofs.lemmas.List.{take-take, drop-take, map-append}
 use Rattle.std.proofs.lemmas.List.Sums.{sum_by-cons, sum_by-append}
 use Rattle.std.proofs.lemmas.Option.{same_Some, none-some}
 use Rattle.jx_base.specs.Markers.{HasNoMarker}
-use Rattle.jx_base.specs.Pieces.{PieceValue, IsPieceOf, ArePieces, IsInOneSegment, bytes_in}
+use Rattle.jx_base.specs.Pieces.{PieceValue, ArePieces, IsInOneSegment, bytes_in}
 use Rattle.jx_geom.specs.Geometry.{Geometry}
 use Rattle.jx_head.specs.declared.Part.{Part}
 use Rattle.jx_head.specs.declared.known.Known.{Known}
@@ -15,7 +15,7 @@ use Rattle.jx_order.specs.declared.names.PacketName.{PacketName}
 use Rattle.jx_gather.specs.Cells.{leaf_number}
 use Rattle.jx_gather.specs.Data.{parts_length, marks_fault}
 use Rattle.jx_gather.specs.Blocks.{Found, zero_in, founds_from, own_founds, pieces_in, passes_in, zero_from}
-use Rattle.jx_gather.proofs.PartLemmas.{own_parts, IsStep, AreSteps, Included, Goes}
+use Rattle.jx_gather.proofs.PartLemmas.{own_parts, AreSteps, Goes}
 use Rattle.jx_gather.proofs.MarkLemmas.{mark_here, marks_later}
 
 -- ---- pieces in order
@@ -65,7 +65,7 @@ matches_pieces style layer z first last (q ∷ qs) (f ∷ fs) m a =
         markers = m.4;
       },
       subst (λ (l : ℕ). ArePieces style l (first + f.piece.passes) last (pieces_in fs)) (sym at)
-      (subst (λ (n : ℕ). ArePieces style layer (first + n) last (pieces_in fs)) (sym has) later),
+          (subst (λ (n : ℕ). ArePieces style layer (first + n) last (pieces_in fs)) (sym has) later),
     )
 
 matches_top : (layer z : ℕ) (qs : List Part) (fs : List Found) → Matches layer z qs fs → AllByRecursion (λ (p : PieceValue). p.layer ≤ layer) (pieces_in fs)
@@ -167,9 +167,10 @@ pub packet_grows : (g : Geometry) (p : PacketName) (style planes j at : ℕ) (k 
     Apart g p (leaf_number g p.comp p.res p.precinct j) j parts → marks_fault at bytes parts ≡ None → Goes style planes (own_parts j parts) old new → ((z : ℕ) → new.zero ≡ Some z → zero_in k j ≡ z) →
     Grows style planes p.layer (own_founds (leaf_number g p.comp p.res p.precinct j) (founds_from g p k (take (parts_length parts) bytes) parts)) old new
     × HaveTop p.layer (own_founds (leaf_number g p.comp p.res p.precinct j) (founds_from g p k (take (parts_length parts) bytes) parts))
-packet_grows g p style planes j at k old new bytes parts apart marks goes told =
-    (by goes (matched g p k j at bytes parts apart marks),
-    matches_top p.layer (zero_in k j) (own_parts j parts) (own_founds (leaf_number g p.comp p.res p.precinct j) (founds_from g p k (take (parts_length parts) bytes) parts)) (matched g p k j at bytes parts apart marks))
+packet_grows g p style planes j at k old new bytes parts apart marks goes told = (
+  by goes (matched g p k j at bytes parts apart marks),
+  matches_top p.layer (zero_in k j) (own_parts j parts) (own_founds (leaf_number g p.comp p.res p.precinct j) (founds_from g p k (take (parts_length parts) bytes) parts)) (matched g p k j at bytes parts apart marks),
+)
   where
     by : Goes style planes (own_parts j parts) old new →
         Matches p.layer (zero_in k j) (own_parts j parts) (own_founds (leaf_number g p.comp p.res p.precinct j) (founds_from g p k (take (parts_length parts) bytes) parts)) →
@@ -181,7 +182,7 @@ packet_grows g p style planes j at k old new bytes parts apart marks goes told =
         let own = own_founds (leaf_number g p.comp p.res p.precinct j) (founds_from g p k (take (parts_length parts) bytes) parts) in
         let more : old.passes < new.passes = i.some in
         let some : own_parts j parts ≡ [] → ⊥ = λ (e : own_parts j parts ≡ []).
-            (let same : old.passes ≡ new.passes = subst (λ (l : List Part). AreSteps style old.passes new.passes l) e i.steps in omega arith) in
+        (let same : old.passes ≡ new.passes = subst (λ (l : List Part). AreSteps style old.passes new.passes l) e i.steps in omega arith) in
         inr (record {
           z = i.z;
           below = i.below;
@@ -196,7 +197,12 @@ packet_grows g p style planes j at k old new bytes parts apart marks goes told =
 pub grows_lower : (style planes low layer : ℕ) (own : List Found) (old new : Known) → low ≤ layer → Grows style planes layer own old new → Grows style planes low own old new
 grows_lower style planes low layer own old new le (inl n) = inl n
 grows_lower style planes low layer own old new le (inr i) = inr (record {
-  z = i.z; below = i.below; was = i.was; is = i.is; few = i.few; told = i.told;
+  z = i.z;
+  below = i.below;
+  was = i.was;
+  is = i.is;
+  few = i.few;
+  told = i.told;
   pieces = pieces_lower style low layer old.passes new.passes (pieces_in own) le i.pieces;
 })
 

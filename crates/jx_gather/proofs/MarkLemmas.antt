@@ -1,12 +1,11 @@
 -- What the rules on coded bytes say of them, where none is violated.
-use Rattle.std.proofs.Common.{◌≡◌, ◌≢◌, ℕ, zero, suc, ◌+◌, ◌<◌, ◌≤◌, ◌==◌, ◌&&◌, ◌||◌, nat_lt, Bool, true, false, List, [], ◌∷◌, length, take, drop, refl, sym, ap, ◌∙◌, subst, cond, arith, Some, None, inl, inr, ◌⊎◌, Option, get_or, find, slice_index}
+use Rattle.std.proofs.Common.{◌≡◌, ℕ, zero, suc, ◌+◌, ◌<◌, ◌≤◌, ◌==◌, ◌&&◌, ◌||◌, nat_lt, Bool, true, false, List, [], ◌∷◌, length, take, drop, refl, sym, ap, ◌∙◌, subst, cond, arith, Some, None, inl, inr, ◌⊎◌, Option, get_or, find, slice_index}
 use Rattle.std.specs.List.{range_with_len}
 use Rattle.std.specs.Option.{option_or}
-use Rattle.std.proofs.lemmas.Bool.{eq-eqb, cases_eq, and_cases, or_parts, ltb-false, both_ways, true≢false}
+use Rattle.std.proofs.lemmas.Bool.{eq-eqb, and_cases, or_parts, ltb-false, both_ways, true≢false}
 use Rattle.jx_base.specs.Markers.{HasNoMarker}
 use Rattle.jx_head.specs.declared.Part.{Part}
 use Rattle.jx_gather.specs.declared.faults.GatherFault.{GatherFault}
-use Rattle.jx_gather.specs.declared.faults.GatherFault.TheVariants as fault
 use Rattle.jx_gather.specs.Faults.{broken}
 use Rattle.jx_gather.specs.Data.{front_length, parts_length, is_marked, first_mark, rule_30, marks_fault, body_fault}
 

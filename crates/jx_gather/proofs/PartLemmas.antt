@@ -1,14 +1,14 @@
 -- What a packet's header tells of one block of its precinct.
 use Rattle.std.proofs.Common.{◌≡◌, ℕ, zero, suc, ◌+◌, ◌-◌, ◌*◌, ◌<◌, ◌≤◌, ◌^◌, ◌==◌, nat_lt, Bool, true, false, List, [], ◌∷◌, ◌++◌, length, refl, sym, ap, ◌∙◌, subst, cond, arith, append-nil, Some, None, inl, inr, ◌⊎◌, ◌≢◌, length-append, get_or, set, filter, All, MatchBool, if◌then◌else◌, get_or-set_same, get_or-set_other, Option}
 use Rattle.std.proofs.lemmas.Bool.{cases_lt, cases_eq, eq-eqb, ne_eqb, lt-ltb, le-ltb, cond-true, cond-false}
-use Rattle.std.proofs.lemmas.List.Elements.{filter-append, All-from_recursion}
+use Rattle.std.proofs.lemmas.List.Elements.{filter-append}
 use Rattle.jx_base.specs.Passes.{end_pass}
 use Rattle.jx_base.specs.Pieces.{IsInOneSegment}
 use Rattle.jx_tagtree.specs.Header.{bits_of}
 use Rattle.jx_head.specs.declared.Part.{Part}
 use Rattle.jx_head.specs.declared.known.Known.{Known}
 use Rattle.jx_head.specs.Parts.{one_more, cut, AreParts}
-use Rattle.jx_head.specs.Packet.{Cells, State, Values, Agree, Entry, nothing, contributes, block_at, block_after, unknown_block, most_passes, IsIncluded, zero_planes, cells_first, cells_included, entry_after, entry_bits, IsEntry, blocks_bits, blocks_after, AreEntries, parts_told, BandTold, IsBandTold, band_bits, band_after, bands_bits, bands_after, AreBandsTold, bands_parts, Header, header_bits, IsToldOf, IsPacket}
+use Rattle.jx_head.specs.Packet.{Cells, State, Values, Agree, Entry, nothing, contributes, block_at, block_after, unknown_block, most_passes, IsIncluded, zero_planes, cells_first, cells_included, entry_after, entry_bits, IsEntry, blocks_bits, blocks_after, AreEntries, parts_told, BandTold, band_bits, band_after, bands_bits, bands_after, AreBandsTold, bands_parts, Header, header_bits, IsPacket}
 use Rattle.jx_head.specs.Kept.{IsBand, AreBands}
 use Rattle.jx_head.specs.Writable.{SameSize}
 use Rattle.jx_head.specs.Precinct.{all_blocks, IsState}
@@ -249,12 +249,6 @@ blocks_go v style layer base stop leaf j cells [] all are ge lt = absurd (let e 
 blocks_go v style layer base stop leaf j cells (e ∷ es) all are ge lt =
     by (cases_eq j leaf) (λ (ge' : leaf + 1 ≤ j). blocks_go v style layer base stop (leaf + 1) j (entry_after v layer leaf cells e) es (all ∙ sym (entry_size v layer leaf cells e).long) are.2 ge' lt)
   where
-    next : Cells
-    next = entry_after v layer leaf cells e
-
-    after : Cells
-    after = blocks_after v layer (leaf + 1) (entry_after v layer leaf cells e) es
-
     by : (j ≡ leaf) ⊎ (j ≡ leaf → ⊥) →
         (leaf + 1 ≤ j → Goes style (entry_after v layer leaf cells e).planes (own_parts (base + j) (parts_told es)) (block_at (entry_after v layer leaf cells e) j) (block_at (blocks_after v layer (leaf + 1) (entry_after v layer leaf cells e) es) j)) →
         Goes style cells.planes (own_parts (base + j) (e.parts ++ parts_told es)) (block_at cells j) (block_at (blocks_after v layer (leaf + 1) (entry_after v layer leaf cells e) es) j)
@@ -262,7 +256,7 @@ blocks_go v style layer base stop leaf j cells (e ∷ es) all are ge lt =
         let here : Goes style cells.planes e.parts (block_at cells leaf) (block_at (entry_after v layer leaf cells e) leaf) =
         entry_here v style layer (base + leaf) leaf cells e (let l : leaf < stop = are.0 in subst (λ (n : ℕ). leaf < n) all l) are.1 in
         let none : own_parts (base + j) (parts_told es) ≡ [] = own_none (base + (leaf + 1)) (base + stop) (base + j) (parts_told es)
-            (blocks_within v style layer base stop (leaf + 1) (entry_after v layer leaf cells e) es are.2) (inl (omega arith)) in
+        (blocks_within v style layer base stop (leaf + 1) (entry_after v layer leaf cells e) es are.2) (inl (omega arith)) in
         let within : AreWithin (base + j) (base + j + 1) e.parts =
         subst (λ (n : ℕ). AreWithin (base + n) (base + n + 1) e.parts) (sym same) (entry_within v style layer (base + leaf) leaf cells e are.1) in
         let own : e.parts ≡ own_parts (base + j) (e.parts ++ parts_told es) = sym (own_all (base + j) e.parts within) ∙ own_left (base + j) e.parts (parts_told es) none in
@@ -292,7 +286,7 @@ blocks_band v style layer base stop leaf cells (e ∷ es) b all a are few =
     length-append (entry_bits v layer leaf cells e) (blocks_bits v layer (leaf + 1) next es) in
     let front : length (entry_bits v layer leaf cells e ++ []) ≡ length (entry_bits v layer leaf cells e) = ap length (append-nil (entry_bits v layer leaf cells e)) in
     let k = block_band style layer (base + leaf) leaf cells (entry_bits v layer leaf cells e ++ []) (told_is e next []) b lt (omega arith)
-        (block_made v style layer (base + leaf) leaf cells e [] leafed a are.1) in
+    (block_made v style layer (base + leaf) leaf cells e [] leafed a are.1) in
     blocks_band v style layer base stop (leaf + 1) next es k.0 (all ∙ sym k.1) (entry_agrees v layer leaf cells e leafed a) are.2 (omega arith)
 
 -- ---- the bands of a precinct
@@ -316,9 +310,6 @@ bands_go style layer base j (cells ∷ bands) [] are lt = absurd are
 bands_go style layer base j (cells ∷ bands) (told ∷ tolds) are lt =
     by (cases_lt j (length cells.blocks)) (λ (i : ℕ) (l : i < length (all_blocks bands)). bands_go style layer (base + length cells.blocks) i bands tolds are.1 l)
   where
-    size : SameCells (band_after layer cells told) cells
-    size = blocks_size told.values layer 0 cells told.entries
-
     by : (j < length cells.blocks) ⊎ (length cells.blocks ≤ j) →
         ((i : ℕ) → i < length (all_blocks bands) → Goes style (planes_of bands i) (own_parts (base + length cells.blocks + i) (bands_parts tolds)) (known_in bands i) (known_in (bands_after layer bands tolds) i)) →
         Goes style (if nat_lt j (length cells.blocks) then cells.planes else planes_of bands (j - length cells.blocks)) (own_parts (base + j) (parts_told told.entries ++ bands_parts tolds))
@@ -326,7 +317,7 @@ bands_go style layer base j (cells ∷ bands) (told ∷ tolds) are lt =
     by (inl here) again =
         let long : length (band_after layer cells told).blocks ≡ length cells.blocks = (blocks_size told.values layer 0 cells told.entries).long in
         let none : own_parts (base + j) (bands_parts tolds) ≡ [] = own_none (base + length cells.blocks) (base + length cells.blocks + length (all_blocks bands)) (base + j) (bands_parts tolds)
-            (bands_within style layer (base + length cells.blocks) bands tolds are.1) (inl (omega arith)) in
+        (bands_within style layer (base + length cells.blocks) bands tolds are.1) (inl (omega arith)) in
         goes_same style cells.planes (cond (nat_lt j (length cells.blocks)) cells.planes (planes_of bands (j - length cells.blocks)))
         (own_parts (base + j) (parts_told told.entries)) (own_parts (base + j) (parts_told told.entries ++ bands_parts tolds))
         (block_at cells j) (known_in (cells ∷ bands) j) (block_at (band_after layer cells told) j) (known_in (band_after layer cells told ∷ bands_after layer bands tolds) j)
@@ -338,10 +329,9 @@ bands_go style layer base j (cells ∷ bands) (told ∷ tolds) are lt =
     by (inr past) again =
         let long : length (band_after layer cells told).blocks ≡ length cells.blocks = (blocks_size told.values layer 0 cells told.entries).long in
         let sum : length (cells.blocks ++ all_blocks bands) ≡ length cells.blocks + length (all_blocks bands) = length-append cells.blocks (all_blocks bands) in
-        let i : ℕ = j - length cells.blocks in
         let at : base + length cells.blocks + (j - length cells.blocks) ≡ base + j = omega arith in
         let none : own_parts (base + j) (parts_told told.entries) ≡ [] = own_none (base + 0) (base + length cells.blocks) (base + j) (parts_told told.entries)
-            (blocks_within told.values style layer base (length cells.blocks) 0 cells told.entries are.0.are) (inr (omega arith)) in
+        (blocks_within told.values style layer base (length cells.blocks) 0 cells told.entries are.0.are) (inr (omega arith)) in
         let gone : j - length (band_after layer cells told).blocks ≡ j - length cells.blocks = ap (λ (n : ℕ). j - n) long in
         goes_same style (planes_of bands (j - length cells.blocks)) (cond (nat_lt j (length cells.blocks)) cells.planes (planes_of bands (j - length cells.blocks)))
         (own_parts (base + length cells.blocks + (j - length cells.blocks)) (bands_parts tolds)) (own_parts (base + j) (parts_told told.entries ++ bands_parts tolds))

@@ -1,13 +1,12 @@
 -- Each block of a tile that is cut into packets is sound.
-use Rattle.std.proofs.Common.{◌≡◌, ◌≢◌, ℕ, zero, suc, ◌+◌, ◌-◌, ◌*◌, ◌^◌, ◌<◌, ◌≤◌, ◌==◌, nat_lt, Bool, true, false, List, [], ◌∷◌, ◌++◌, length, map, filter, replicate, refl, sym, ap, ◌∙◌, subst, cond, arith, Some, None, inl, inr, ◌⊎◌, All, get_or, slice_get, if◌then◌else◌}
+use Rattle.std.proofs.Common.{◌≡◌, ℕ, zero, suc, ◌+◌, ◌-◌, ◌*◌, ◌^◌, ◌<◌, ◌≤◌, ◌==◌, nat_lt, Bool, true, false, List, [], ◌∷◌, ◌++◌, length, filter, replicate, refl, sym, ap, ◌∙◌, subst, cond, arith, None, inl, inr, ◌⊎◌, All, get_or, append-nil, if◌then◌else◌}
 use Rattle.std.specs.List.{AllByRecursion, AllPairs, Contains}
 use Rattle.std.proofs.lemmas.Bool.{cases_lt, cases_eq, eqb-true, eq-eqb, ne_eqb, lt-ltb, le-ltb, cond-true, cond-false}
 use Rattle.std.proofs.lemmas.List.{length-replicate}
-use Rattle.std.proofs.lemmas.List.Elements.{All-from_recursion, All-weaker, Contains-append_left}
+use Rattle.std.proofs.lemmas.List.Elements.{All-from_recursion, All-weaker, All-append, Contains-append_left}
 use Rattle.std.proofs.lemmas.Option.{get_or_from_slice_get}
 use Rattle.jx_base.specs.declared.names.Band.{Band}
 use Rattle.jx_base.specs.declared.names.BlockName.{BlockName}
-use Rattle.jx_base.specs.declared.names.Rect.{Rect}
 use Rattle.jx_base.specs.declared.pieces.Block.{Block}
 use Rattle.jx_base.specs.Places.{length_of, size_of}
 use Rattle.jx_base.specs.Pieces.{ArePieces, bytes_in}
@@ -23,23 +22,28 @@ use Rattle.jx_head.specs.Packet.{Cells, unknown_block}
 use Rattle.jx_head.specs.Precinct.{fresh_cells, fresh_bands, all_blocks}
 use Rattle.jx_head.proofs.FreshLemmas.{unknown_at, block_left, block_right}
 use Rattle.jx_order.specs.declared.names.PacketName.{PacketName}
-use Rattle.jx_order.specs.Packets.{IsPacket, SamePrecinct, LayersRise}
+use Rattle.jx_order.specs.Packets.{IsPacket, SamePrecinct}
 use Rattle.jx_order.proofs.OrderLemmas.{order_to, pairs_head, pairs_tail, contains_head, contains_tail}
 use Rattle.jx_order.proofs.RiseLemmas.{order_rises}
+use Rattle.jx_order.specs.Steps.{joined, joined_below}
 use Rattle.jx_stream.specs.declared.Stream.{Stream}
 use Rattle.jx_stream.specs.First.{tile_number}
 use Rattle.jx_stream.specs.Params.{planes_at}
-use Rattle.jx_gather.specs.Shapes.{geometry, layers_of, style_of, tile_at}
+use Rattle.jx_gather.specs.Shapes.{geometry, layers_of, style_of, tile_at, IsRead}
+use Rattle.jx_gather.specs.Totals.{totals_fault}
 use Rattle.jx_gather.specs.InRange.{StreamInRange, DataInRange}
 use Rattle.jx_gather.specs.Leaves.{leaves, leaves_in}
-use Rattle.jx_gather.specs.Cells.{HasPrecinct, bands_at, cells_at, sizes_of, precinct_bands, fresh_precinct, fresh_precincts, precinct_number, name_from, leaf_name, leaf_number}
+use Rattle.jx_gather.specs.Cells.{HasPrecinct, bands_at, cells_at, sizes_of, precinct_bands, fresh_precinct, precinct_number, name_from, leaf_name, leaf_number}
 use Rattle.jx_gather.specs.Cuts.{Cut, Left, AreCuts, number_of, names_of}
 use Rattle.jx_gather.specs.Blocks.{Found, founds_of, own_founds, pieces_in, passes_in, zero_from, block_with, block_of, tile_blocks}
-use Rattle.jx_gather.specs.Gathered.{IsListOf, start}
+use Rattle.jx_gather.specs.Gathered.{IsListOf, IsCutUp, IsGathered, start}
 use Rattle.jx_gather.specs.Put.{put_all}
 use Rattle.jx_gather.proofs.NumberLemmas.{precinct_there, precinct_once}
 use Rattle.jx_gather.proofs.CellLemmas.{bands_of, name_here, name_later, leaf_there, leaf_is, number_once}
 use Rattle.jx_gather.proofs.BlockLemmas.{blocks_long, block_there, block_named, BlockAt}
+use Rattle.jx_gather.proofs.RangeLemmas.{read_in_range}
+use Rattle.jx_gather.proofs.TotalLemmas.{geometry_fits}
+use Rattle.jx_gather.proofs.BodyLemmas.{read_data}
 use Rattle.jx_gather.proofs.PartLemmas.{known_in, planes_of}
 use Rattle.jx_gather.proofs.PutLemmas.{Tiled, IsOfBlock, put_found}
 use Rattle.jx_gather.proofs.GrowLemmas.{Gained, Grows, pieces_sum, bytes_own}
@@ -152,9 +156,10 @@ pub record IsBegun (b : List ℕ) (s : Stream) (t : ℕ) (cuts : List Cut) (left
 there_from : (g : Geometry) (layers : ℕ) (cuts : List Cut) → ((p : PacketName) → Contains (names_of cuts) p → IsPacket g layers p) → AreThere g cuts
 there_from g layers [] all = tt
 there_from g layers (c ∷ cuts) all =
-    let is : IsPacket g layers c.name = all c.name (contains_head c.name (names_of cuts)) in
-    (record { resolution = is.resolution; precinct = is.precinct },
-    there_from g layers cuts (λ (p : PacketName) (h : Contains (names_of cuts) p). all p (contains_tail c.name (names_of cuts) p h)))
+    let is : IsPacket g layers c.name = all c.name (contains_head c.name (names_of cuts)) in (
+      record { resolution = is.resolution; precinct = is.precinct },
+      there_from g layers cuts (λ (p : PacketName) (h : Contains (names_of cuts) p). all p (contains_tail c.name (names_of cuts) p h)),
+    )
 
 abbrev Rises : PacketName → PacketName → Type 0
 Rises p q = SamePrecinct p q → p.layer < q.layer
@@ -162,24 +167,26 @@ Rises p q = SamePrecinct p q → p.layer < q.layer
 later_rise : (g : Geometry) (c : Cut) (cuts : List Cut) → HasPrecinct g c.name.comp c.name.res c.name.precinct → AreThere g cuts → ((q : PacketName) → Contains (names_of cuts) q → Rises c.name q) →
     AllByRecursion (λ (d : Cut). number_of g c.name ≡ number_of g d.name → c.name.layer < d.name.layer) cuts
 later_rise g c [] own there all = tt
-later_rise g c (d ∷ cuts) own there all =
-    ((λ (e : number_of g c.name ≡ number_of g d.name).
+later_rise g c (d ∷ cuts) own there all = (
+  (λ (e : number_of g c.name ≡ number_of g d.name).
       (let one = precinct_once g c.name.comp c.name.res c.name.precinct d.name.comp d.name.res d.name.precinct own there.0 e in
       all d.name (contains_head d.name (names_of cuts)) (record { comp = one.0; res = one.1; precinct = one.2 }))),
-    later_rise g c cuts own there.1 (λ (q : PacketName) (h : Contains (names_of cuts) q). all q (contains_tail d.name (names_of cuts) q h)))
+  later_rise g c cuts own there.1 (λ (q : PacketName) (h : Contains (names_of cuts) q). all q (contains_tail d.name (names_of cuts) q h)),
+)
 
 rise_from : (g : Geometry) (cuts : List Cut) (rest : List PacketName) → AreThere g cuts → AllPairs Rises (names_of cuts ++ rest) → Rise g cuts
 rise_from g [] rest there all = tt
-rise_from g (c ∷ cuts) rest there all =
-    (later_rise g c cuts there.0 there.1 (λ (q : PacketName) (h : Contains (names_of cuts) q). pairs_head Rises c.name (names_of cuts ++ rest) q all (Contains-append_left (names_of cuts) rest q h)),
-    rise_from g cuts rest there.1 (pairs_tail Rises c.name (names_of cuts ++ rest) all))
+rise_from g (c ∷ cuts) rest there all = (
+  later_rise g c cuts there.0 there.1 (λ (q : PacketName) (h : Contains (names_of cuts) q). pairs_head Rises c.name (names_of cuts ++ rest) q all (Contains-append_left (names_of cuts) rest q h)),
+  rise_from g cuts rest there.1 (pairs_tail Rises c.name (names_of cuts ++ rest) all),
+)
 
 pub begun : (b : List ℕ) (s : Stream) (t : ℕ) (cuts : List Cut) (rest : List PacketName) (left : Left) → StreamInRange s → GeometryInRange (geometry s t) → t < tile_number s.siz → length b ≤ 2 ^ 28 →
     DataInRange b (tile_at s t).bodies → IsListOf s t (names_of cuts ++ rest) → AreCuts b (geometry s t) 0 (start s t) cuts left → IsBegun b s t cuts left
 begun b s t cuts rest left range limits tile short bodies list are =
     let entries = (tile_at s t).progressions in
     let there : AreThere (geometry s t) cuts = there_from (geometry s t) (layers_of s t) cuts (λ (p : PacketName) (h : Contains (names_of cuts) p).
-      (order_to (geometry s t) (layers_of s t) entries (length entries) (names_of cuts ++ rest) list p (Contains-append_left (names_of cuts) rest p h)).packet) in
+    (order_to (geometry s t) (layers_of s t) entries (length entries) (names_of cuts ++ rest) list p (Contains-append_left (names_of cuts) rest p h)).packet) in
     let sum : together (tile_at s t).bodies ≤ length b = bodies.together in
     record {
       range = range;
@@ -231,7 +238,6 @@ sound_some : (s : Stream) (g : Geometry) (n : BlockName) (own : List Found) (new
     planes_at s g.tile n.comp n.res n.band ≤ 74 → bytes_in (pieces_in own) ≤ 2 ^ 28 →
     Gained (style_of s g.tile n.comp) (planes_at s g.tile n.comp n.res n.band) 0 own unknown_block new → IsSound (block_with s g n own)
 sound_some s g n own new size planes bytes gained =
-    let all : ℕ = planes_at s g.tile n.comp n.res n.band in
     let told : zero_from (planes_at s g.tile n.comp n.res n.band) own ≡ gained.z = gained.told in
     let below : gained.z < planes_at s g.tile n.comp n.res n.band = gained.below in
     let few : new.passes ≤ 3 * (planes_at s g.tile n.comp n.res n.band - gained.z) - 2 = gained.few in
@@ -257,7 +263,7 @@ same_gained s g n c r k j own new is there lt number gained =
     let band : (leaf_name g c r k j).band ≡ n.band = sym one.2 in
     let planes : planes_of (fresh_precinct s g c r k).bands j ≡ planes_at s g.tile n.comp n.res n.band =
     leaf_planes s g c r k j lt ∙ ap (λ (x : ℕ). planes_at s g.tile x r (leaf_name g c r k j).band) comp ∙ ap (λ (x : ℕ). planes_at s g.tile n.comp x (leaf_name g c r k j).band) res
-        ∙ ap (λ (x : Band). planes_at s g.tile n.comp n.res x) band in
+    ∙ ap (λ (x : Band). planes_at s g.tile n.comp n.res x) band in
     subst (λ (x : ℕ). Gained (style_of s g.tile x) (planes_at s g.tile n.comp n.res n.band) 0 own unknown_block new) comp
     (subst (λ (x : ℕ). Gained (style_of s g.tile c) x 0 own unknown_block new) planes
     (subst (λ (x : Known). Gained (style_of s g.tile c) (planes_of (fresh_precinct s g c r k).bands j) 0 own x new) (fresh_unknown (precinct_bands s g c r k) j) gained))
@@ -298,13 +304,13 @@ sound_block b s t cuts left n h is =
         let number : number_in_tile (geometry s t) n ≡ leaf_number (geometry s t) leaf.comp leaf.res leaf.precinct leaf.block = sym (leaf.number ∙ all.0.number) in
         let tracked : Tracked s (geometry s t) leaf.comp leaf.res leaf.precinct leaf.block 0 (founds_of (geometry s t) cuts) (fresh_precinct s (geometry s t) leaf.comp leaf.res leaf.precinct) left.states =
         track b s (geometry s t) leaf.comp leaf.res leaf.precinct leaf.block 0 0 cuts (start s t) left (fresh_precinct s (geometry s t) leaf.comp leaf.res leaf.precinct) h.limits leaf.there leaf.inside h.there h.rise
-            (start_follow s (geometry s t)) (above_zero (geometry s t) (precinct_number (geometry s t) leaf.comp leaf.res leaf.precinct) cuts) h.are
-            (precinct_there s (geometry s t) leaf.comp leaf.res leaf.precinct leaf.there) in
+        (start_follow s (geometry s t)) (above_zero (geometry s t) (precinct_number (geometry s t) leaf.comp leaf.res leaf.precinct) cuts) h.are
+        (precinct_there s (geometry s t) leaf.comp leaf.res leaf.precinct leaf.there) in
         let own : own_founds (leaf_number (geometry s t) leaf.comp leaf.res leaf.precinct leaf.block) (founds_of (geometry s t) cuts) ≡ f ∷ fs =
         ap (λ (i : ℕ). own_founds i (founds_of (geometry s t) cuts)) (sym number) ∙ e in
         grown (f ∷ fs) f fs leaf.comp leaf.res leaf.precinct leaf.block (known_in tracked.after.bands leaf.block) refl leaf.there leaf.inside number small
         (subst (λ (l : List Found). Grows (style_of s t leaf.comp) (planes_of (fresh_precinct s (geometry s t) leaf.comp leaf.res leaf.precinct).bands leaf.block) 0 l
-            (known_in (fresh_precinct s (geometry s t) leaf.comp leaf.res leaf.precinct).bands leaf.block) (known_in tracked.after.bands leaf.block)) own tracked.grows)
+        (known_in (fresh_precinct s (geometry s t) leaf.comp leaf.res leaf.precinct).bands leaf.block) (known_in tracked.after.bands leaf.block)) own tracked.grows)
 
 -- ---- all blocks of a tile
 pub sound_cuts : (b : List ℕ) (s : Stream) (t : ℕ) (cuts : List Cut) (left : Left) → IsBegun b s t cuts left → All IsSound (tile_blocks s (geometry s t) (founds_of (geometry s t) cuts))
@@ -348,3 +354,35 @@ pub put_cuts : (b : List ℕ) (s : Stream) (t : ℕ) (cuts : List Cut) (left : L
 put_cuts b s t cuts left h =
     put_found s (geometry s t) (founds_of (geometry s t) cuts) (tiled s (geometry s t) h.limits)
     (All-from_recursion (IsOfBlock (geometry s t)) (founds_of (geometry s t) cuts) (of_blocks (geometry s t) (founds_of (geometry s t) cuts) h.limits (begun_leaves b s t cuts left h)))
+
+-- ---- of a codestream that is read
+pub read_begun : (b : List ℕ) (s : Stream) (t : ℕ) (cuts : List Cut) (rest : List PacketName) (left : Left) → IsRead b s → length b ≤ 2 ^ 28 → t < tile_number s.siz → totals_fault s ≡ None →
+    IsListOf s t (names_of cuts ++ rest) → AreCuts b (geometry s t) 0 (start s t) cuts left → IsBegun b s t cuts left
+read_begun b s t cuts rest left read short tile totals list are =
+    let range : StreamInRange s = read_in_range b s read in
+    begun b s t cuts rest left range (geometry_fits s t range totals tile) tile short (read_data b s t read tile) list are
+
+pub sound_blocks : (b : List ℕ) (s : Stream) (t : ℕ) (cuts : List Cut) → IsRead b s → length b ≤ 2 ^ 28 → t < tile_number s.siz → totals_fault s ≡ None → IsCutUp b s t cuts →
+    All IsSound (tile_blocks s (geometry s t) (founds_of (geometry s t) cuts))
+sound_blocks b s t cuts read short tile totals up =
+    sound_cuts b s t cuts up.end (read_begun b s t cuts [] up.end read short tile totals (subst (λ (l : List PacketName). IsListOf s t l) (sym (append-nil (names_of cuts))) up.order) up.are)
+
+below_all : {X : Type 0} (P : X → Type 0) (f : ℕ → List X) (a n : ℕ) → ((i : ℕ) → i < n → All P (f (a + i))) → All P (joined_below f a n)
+below_all P f a zero each = λ k d lt. absurd (omega arith)
+below_all P f a (suc n) each = All-append P (joined_below f a n) (f (a + n)) (below_all P f a n (λ (i : ℕ) (lt : i < n). each i (omega arith))) (each n (omega arith))
+
+joined_all : {X : Type 0} (P : X → Type 0) (f : ℕ → List X) (n : ℕ) → ((i : ℕ) → i < n → All P (f i)) → All P (joined f 0 n)
+unfolding joined
+joined_all {X} P f n each = below_all P f 0 (n - 0) (λ (i : ℕ) (lt : i < n - 0).
+    (let e : i ≡ 0 + i = omega arith in
+    let Q : ℕ → Type 0 = λ (m : ℕ). All P (f m) in
+    subst Q e (each i (omega arith))))
+
+pub sound_gathered : (b : List ℕ) (s : Stream) (blocks : List Block) → IsRead b s → length b ≤ 2 ^ 28 → totals_fault s ≡ None → IsGathered b s blocks → All IsSound blocks
+sound_gathered b s blocks read short totals g =
+    subst (λ (l : List Block). All IsSound l) (sym g.blocks_are) (joined_all IsSound g.tiles (tile_number s.siz) each)
+  where
+    each : (t : ℕ) → t < tile_number s.siz → All IsSound (g.tiles t)
+    each t tile =
+        let are = g.are t tile in
+        subst (λ (l : List Block). All IsSound l) (sym are.2) (sound_blocks b s t are.0 read short tile totals are.1)

@@ -1,5 +1,5 @@
 -- A block over the packets of its tile.
-use Rattle.std.proofs.Common.{◌≡◌, ◌≢◌, ℕ, zero, suc, ◌+◌, ◌-◌, ◌<◌, ◌≤◌, ◌==◌, min, Bool, true, false, List, [], ◌∷◌, ◌++◌, length, take, drop, set, map, filter, sum_by, refl, sym, ap, ◌∙◌, subst, cond, arith, Some, None, inl, inr, ◌⊎◌, Option, All, slice_get, length-take}
+use Rattle.std.proofs.Common.{◌≡◌, ℕ, ◌+◌, ◌-◌, ◌<◌, ◌≤◌, ◌==◌, min, Bool, true, false, List, [], ◌∷◌, ◌++◌, length, take, drop, set, sum_by, refl, sym, ap, ◌∙◌, subst, cond, arith, Some, inl, inr, ◌⊎◌, slice_get, length-take}
 use Rattle.std.specs.List.{AllByRecursion}
 use Rattle.std.proofs.lemmas.Bool.{cases_eq, eqb-true}
 use Rattle.std.proofs.lemmas.List.Elements.{recursion_from_All, filter-append}
@@ -8,8 +8,7 @@ use Rattle.std.proofs.lemmas.Option.{same_Some, slice_get_within}
 use Rattle.jx_base.specs.Pieces.{bytes_in}
 use Rattle.jx_geom.specs.Geometry.{Geometry, GeometryInRange}
 use Rattle.jx_head.specs.declared.Part.{Part}
-use Rattle.jx_head.specs.declared.known.Known.{Known}
-use Rattle.jx_head.specs.Packet.{State, IsPacket}
+use Rattle.jx_head.specs.Packet.{State}
 use Rattle.jx_head.specs.Precinct.{all_blocks}
 use Rattle.jx_order.specs.declared.names.PacketName.{PacketName}
 use Rattle.jx_stream.specs.declared.Body.{Body}
@@ -18,14 +17,14 @@ use Rattle.jx_gather.specs.Shapes.{style_of}
 use Rattle.jx_gather.specs.Leaves.{leaves}
 use Rattle.jx_gather.specs.Cells.{HasPrecinct, fresh_precinct, fresh_precincts, precinct_number, leaf_number}
 use Rattle.jx_gather.specs.Data.{window, due, behind, header_in, front_length, parts_length}
-use Rattle.jx_gather.specs.Cuts.{Cut, Left, IsCut, IsTurn, AreCuts, number_of}
-use Rattle.jx_gather.specs.Blocks.{Found, told_zero, zero_in, founds_from, founds_in, founds_of, own_founds, pieces_in}
+use Rattle.jx_gather.specs.Cuts.{Cut, Left, IsTurn, AreCuts, number_of}
+use Rattle.jx_gather.specs.Blocks.{Found, told_zero, founds_from, founds_in, founds_of, own_founds, pieces_in}
 use Rattle.jx_gather.proofs.NumberLemmas.{precinct_there, precinct_once}
 use Rattle.jx_gather.proofs.CellLemmas.{leaf_count, leaf_once}
 use Rattle.jx_gather.proofs.PartLemmas.{own_parts, known_in, planes_of, Goes, PartIn, Kept, part_inside, packet_goes, packet_kept}
 use Rattle.jx_gather.proofs.PutLemmas.{get-set_same, get-set_other}
 use Rattle.jx_gather.proofs.MarkLemmas.{body_fits, body_marks}
-use Rattle.jx_gather.proofs.GrowLemmas.{Apart, Elsewhere, own_elsewhere, Grows, HaveTop, packet_grows, grows_lower, grows_join, bytes_join, bytes_own, bytes_from}
+use Rattle.jx_gather.proofs.GrowLemmas.{Apart, Elsewhere, own_elsewhere, Grows, HaveTop, packet_grows, grows_lower, grows_join, bytes_join, bytes_from}
 
 -- ---- packets of precincts that are there, in layers that rise
 abbrev pub AreThere : Geometry → List Cut → Type 0
@@ -112,7 +111,6 @@ turn_inside : (b : List ℕ) (s : Stream) (g : Geometry) (number : ℕ) (old : L
     IsTurn b g number old c new → AreInside (leaves g c.name.comp c.name.res c.name.precinct) c.parts
 turn_inside b s g number old c new all there t =
     let f = own_follows b s g number old c new all there t in
-    let count : ℕ = length (all_blocks t.state.bands) in
     subst (λ (n : ℕ). AreInside n c.parts) f.count
     (inside_from (length (all_blocks t.state.bands)) c.parts
     (recursion_from_All (PartIn (length (all_blocks t.state.bands))) c.parts (part_inside (header_in (window b t.body)) t.state c.parts c.used c.after t.cut.header)))
@@ -121,24 +119,26 @@ turn_inside b s g number old c new all there t =
 parts_apart : (g : Geometry) (p : PacketName) (j : ℕ) (parts : List Part) → GeometryInRange g → HasPrecinct g p.comp p.res p.precinct → j < leaves g p.comp p.res p.precinct →
     AreInside (leaves g p.comp p.res p.precinct) parts → Apart g p (leaf_number g p.comp p.res p.precinct j) j parts
 parts_apart g p j [] h there lt all = tt
-parts_apart g p j (q ∷ parts) h there lt all =
-    ((λ (e : leaf_number g p.comp p.res p.precinct q.block ≡ leaf_number g p.comp p.res p.precinct j).
+parts_apart g p j (q ∷ parts) h there lt all = (
+  (λ (e : leaf_number g p.comp p.res p.precinct q.block ≡ leaf_number g p.comp p.res p.precinct j).
       (leaf_once g p.comp p.res p.precinct q.block p.comp p.res p.precinct j h there all.0 there lt e).3),
-    parts_apart g p j parts h there lt all.1)
+  parts_apart g p j parts h there lt all.1,
+)
 
 parts_elsewhere : (g : Geometry) (p : PacketName) (c r k j : ℕ) (parts : List Part) → GeometryInRange g → HasPrecinct g p.comp p.res p.precinct → HasPrecinct g c r k → j < leaves g c r k →
     (number_of g p ≡ precinct_number g c r k → ⊥) → AreInside (leaves g p.comp p.res p.precinct) parts → Elsewhere g p (leaf_number g c r k j) parts
 parts_elsewhere g p c r k j [] h there has lt ne all = tt
-parts_elsewhere g p c r k j (q ∷ parts) h there has lt ne all =
-    ((λ (e : leaf_number g p.comp p.res p.precinct q.block ≡ leaf_number g c r k j).
+parts_elsewhere g p c r k j (q ∷ parts) h there has lt ne all = (
+  (λ (e : leaf_number g p.comp p.res p.precinct q.block ≡ leaf_number g c r k j).
       (let one = leaf_once g p.comp p.res p.precinct q.block c r k j h there all.0 has lt e in
       ne (ap (λ (x : ℕ). precinct_number g x p.res p.precinct) one.0 ∙ ap (λ (x : ℕ). precinct_number g c x p.precinct) one.1 ∙ ap (λ (x : ℕ). precinct_number g c r x) one.2))),
-    parts_elsewhere g p c r k j parts h there has lt ne all.1)
+  parts_elsewhere g p c r k j parts h there has lt ne all.1,
+)
 
 turn_grows : (b : List ℕ) (s : Stream) (g : Geometry) (number j : ℕ) (old : Left) (c : Cut) (new : Left) → GeometryInRange g → AllFollow s g old.states →
     HasPrecinct g c.name.comp c.name.res c.name.precinct → j < leaves g c.name.comp c.name.res c.name.precinct → (t : IsTurn b g number old c new) →
     Grows (style_of s g.tile c.name.comp) (planes_of (fresh_precinct s g c.name.comp c.name.res c.name.precinct).bands j) c.name.layer
-        (own_founds (leaf_number g c.name.comp c.name.res c.name.precinct j) (founds_in g c)) (known_in t.state.bands j) (known_in c.after.bands j)
+    (own_founds (leaf_number g c.name.comp c.name.res c.name.precinct j) (founds_in g c)) (known_in t.state.bands j) (known_in c.after.bands j)
     × HaveTop c.name.layer (own_founds (leaf_number g c.name.comp c.name.res c.name.precinct j) (founds_in g c))
 turn_grows b s g number j old c new h all there lt t =
     let f = own_follows b s g number old c new all there t in
@@ -154,9 +154,9 @@ turn_grows b s g number j old c new h all there lt t =
     subst (λ (n : ℕ). Goes style n (own_parts j c.parts) (known_in t.state.bands j) (known_in c.after.bands j)) (f.planes j) styled in
     let apart = parts_apart g p j c.parts h there lt (turn_inside b s g number old c new all there t) in
     let grows = packet_grows g p style planes j (0 + front_length w c.used) c.after (known_in t.state.bands j) (known_in c.after.bands j) (drop (front_length w c.used) w) c.parts apart
-        (body_marks w 0 c.used c.parts t.cut.body) planed (λ (z : ℕ) (e : (known_in c.after.bands j).zero ≡ Some z). ap told_zero e) in
+    (body_marks w 0 c.used c.parts t.cut.body) planed (λ (z : ℕ) (e : (known_in c.after.bands j).zero ≡ Some z). ap told_zero e) in
     subst (λ (l : List ℕ). Grows style planes p.layer (own_founds (leaf_number g p.comp p.res p.precinct j) (founds_from g p c.after l c.parts)) (known_in t.state.bands j) (known_in c.after.bands j)
-        × HaveTop p.layer (own_founds (leaf_number g p.comp p.res p.precinct j) (founds_from g p c.after l c.parts)))
+    × HaveTop p.layer (own_founds (leaf_number g p.comp p.res p.precinct j) (founds_from g p c.after l c.parts)))
     (sym t.cut.bytes_are) grows
 
 -- ---- packets one after another
@@ -253,7 +253,7 @@ track b s g c r k j layer number (d ∷ cuts) old new state h has lt there rise 
     subst (λ (l : List Found). Tracked s g c r k j layer l state new.states) (sym (founds_cons g d cuts))
     (by (cases_eq (number_of g d.name) (precinct_number g c r k))
     (λ (m : ℕ) (k' : State) (a : AreAbove g (precinct_number g c r k) m cuts) (e : slice_get are.0.states (precinct_number g c r k) ≡ Some k').
-      track b s g c r k j m (number + 1) cuts are.0 new k' h has lt there.1 rise.1 (turn_follows b s g number old d are.0 all are.1) a are.2 e))
+    track b s g c r k j m (number + 1) cuts are.0 new k' h has lt there.1 rise.1 (turn_follows b s g number old d are.0 all are.1) a are.2 e))
   where
     Again : Type 0
     Again = (m : ℕ) (k' : State) → AreAbove g (precinct_number g c r k) m cuts → slice_get are.0.states (precinct_number g c r k) ≡ Some k' → Tracked s g c r k j m (founds_of g cuts) k' new.states
@@ -318,8 +318,6 @@ due_together (body ∷ later) = by (body.length == 0) refl (due_together later)
 
 turn_takes : (b : List ℕ) (g : Geometry) (number : ℕ) (old : Left) (c : Cut) (new : Left) → IsTurn b g number old c new → bytes_in (pieces_in (founds_in g c)) + together new.bodies ≤ together old.bodies
 turn_takes b g number old c new t =
-    let w : List ℕ = window b t.body in
-    let f : ℕ = front_length (window b t.body) c.used in
     let from : bytes_in (pieces_in (founds_from g c.name c.after c.bytes c.parts)) ≤ length c.bytes = bytes_from g c.name c.after c.bytes c.parts in
     let bytes : length c.bytes ≡ length (take (parts_length c.parts) (drop (front_length (window b t.body) c.used) (window b t.body))) = ap length t.cut.bytes_are in
     let short : length (take (parts_length c.parts) (drop (front_length (window b t.body) c.used) (window b t.body))) ≡ min (parts_length c.parts) (length (drop (front_length (window b t.body) c.used) (window b t.body))) =
