@@ -1,6 +1,6 @@
 //! The code-blocks of a whole codestream, tile by tile.
 
-ghost use Rattle.std.specs.Prelude.{◌≡◌, ◌≤◌, ◌<◌, ◌^◌, ◌++◌, ℕ, List, None, length, IfOk, IfErr, OnOk, MatchResult};
+ghost use Rattle.std.specs.Prelude.{◌≡◌, ◌≤◌, ◌<◌, ◌^◌, ◌++◌, ℕ, List, None, length, IfOk, IfErr, OnOk};
 ghost use Rattle.std.specs.List.{All};
 ghost use Rattle.jx_base.specs.declared.pieces.Block.{Block};
 ghost use Rattle.jx_base.specs.Sound.{IsSound};
@@ -57,7 +57,7 @@ fn gather_tiles<'a>(
 }
 
 /// The same, with the limits and the cover of packets tested first.
-#[tactic(auto, using(crate::proofs::RangeLemmas::read_in_range, crate::proofs::GatherLemmas::cause_of_data, crate::proofs::GatherLemmas::cause_of_cover, crate::proofs::GatherLemmas::cause_of_totals))]
+#[tactic(auto, using(crate::proofs::GatherLemmas::cause_of_data, crate::proofs::GatherLemmas::cause_of_cover, crate::proofs::GatherLemmas::cause_of_totals))]
 fn gather_first<'a>(
     alloc: Global,
     bytes: &'a [u8],
@@ -94,16 +94,17 @@ pub fn gather<'a>(
 ) -> Result<Vec<Block<'a>>, GatherFault>
     requires read { IsRead bytes.now stream.now }
     requires fits { length bytes.now ≤ 2 ^ 28 }
-    // What is given are the blocks of these bytes,
+    // What is given are the blocks of these bytes, and no others are;
     ensures gathered { IfOk result (λ blocks. IsGathered bytes.entry.now stream.now blocks.items) }
+    ensures only { IfOk result (λ blocks. (others : List Block) → IsGathered bytes.entry.now stream.now others → blocks.items ≡ others) }
+    // no rule is violated then, and no limit passed.
     ensures totals { OnOk result (totals_fault stream.now ≡ None) }
-    // and where there are such blocks nothing else is answered, but for want of memory.
-    ensures only { (blocks : List Block) → totals_fault stream.now ≡ None → IsGathered bytes.entry.now stream.now blocks
-        → MatchResult result (λ given. given.items ≡ blocks) IsMemory }
-    // A rule or limit that is named is the first one violated or passed,
+    ensures unbroken { OnOk result ((first : GatherFault) → IsBroken bytes.entry.now stream.now first → ⊥) }
+    // A rule or limit that is named is the first one violated or passed, and the only one;
     ensures broken { IfErr result (λ e. HasCause (IsBroken bytes.entry.now stream.now) e) }
-    // and where one is, nothing else is answered, but for want of memory.
-    ensures broken_only { (first : GatherFault) → IsBroken bytes.entry.now stream.now first → MatchResult result (λ _. ⊥) (IsOnly first) }
+    ensures first { IfErr result (λ e. (first : GatherFault) → IsBroken bytes.entry.now stream.now first → IsOnly first e) }
+    // where there are blocks, within the limits, only memory is wanting.
+    ensures memory { IfErr result (λ e. (blocks : List Block) → totals_fault stream.now ≡ None → IsGathered bytes.entry.now stream.now blocks → IsMemory e) }
     ensures sound { IfOk result (λ blocks. All IsSound blocks.items) }
     ensures well_formed { OnOk result (IsWellFormed bytes.entry.now) }
 {
