@@ -7,3 +7,4 @@ pub mod FreshLemmas
 pub mod PutLemmas
 pub mod WriteLemmas
 pub mod PlanLemmas
+pub mod LayerLemmas

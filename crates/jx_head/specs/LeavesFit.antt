@@ -1,5 +1,5 @@
 -- The leaves that a precinct may be written with.
-use Rattle.std.specs.Prelude.{◌≡◌, ℕ, ◌+◌, ◌*◌, ◌^◌, ◌<◌, ◌≤◌, nat_lt, List, [], ◌∷◌, length, map, take, drop, replicate, slice_index_or, if◌then◌else◌}
+use Rattle.std.specs.Prelude.{◌≡◌, ℕ, ◌+◌, ◌*◌, ◌^◌, ◌<◌, ◌≤◌, nat_lt, List, [], ◌∷◌, ◌++◌, length, map, take, drop, replicate, slice_index_or, if◌then◌else◌}
 use Rattle.jx_tagtree.specs.Header.{bytes_of}
 use Rattle.jx_tagtree.specs.Leaves.{untold}
 use Rattle.jx_head.specs.declared.Part.{Part}
@@ -85,3 +85,22 @@ AreShort (p ∷ ps) = (p.length < 2 ^ 32) × AreShort ps
 abbrev pub AllFit : ℕ → List Part → Type 0
 AllFit lblock [] = Unit {0}
 AllFit lblock (p ∷ ps) = (p.length < 2 ^ width lblock p.passes) × AllFit lblock ps
+
+-- the parts that a layer's packet has, over the blocks in order
+abbrev pub parts_at : ℕ → List Leafed → List Part
+parts_at layer [] = []
+parts_at layer (leaf ∷ leaves) = parts_in layer leaf.parts ++ parts_at layer leaves
+
+-- a block's lengths have 32 bits
+abbrev pub HasShort : List (ℕ × Part) → Type 0
+HasShort [] = Unit {0}
+HasShort (p ∷ ps) = (p.1.length < 2 ^ 32) × HasShort ps
+
+abbrev pub AllShort : List Leafed → Type 0
+AllShort [] = Unit {0}
+AllShort (l ∷ ls) = HasShort l.parts × AllShort ls
+
+-- the ranges that the program's types have: the number of layers has 16 bits, a length 32
+pub record InTypes (layers : ℕ) (leaves : List Leafed) : Type 0 where
+  pub few : layers < 2 ^ 16
+  pub short : AllShort leaves
