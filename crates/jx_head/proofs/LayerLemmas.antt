@@ -9,9 +9,11 @@ use Rattle.jx_head.specs.declared.known.Known.{Known}
 use Rattle.jx_head.specs.Parts.{cut, AreParts}
 use Rattle.jx_head.specs.Packet.{Entry, nothing, most_passes, IsInclusion, zero_planes, block_after, unknown_block, IsIncluded}
 use Rattle.jx_head.specs.Written.{Leafed, first_layer, zero_leaf, parts_in, passes_of, raise_of, entry_written}
+use Rattle.jx_head.specs.Kept.{IsKnown}
 use Rattle.jx_head.specs.Writable.{all_passes}
 use Rattle.jx_head.specs.LeavesFit.{AreRuns, passes_before, IsLeaf, FitsLeaf, AreShort, AllFit, HasShort}
 use Rattle.jx_head.proofs.PutLemmas.{raise_fits}
+use Rattle.jx_head.proofs.WriteLemmas.{raise_few}
 
 -- ---- parts in order of layers
 -- none stands before the first
@@ -136,6 +138,7 @@ zero_told layer z (p ∷ ps) = cond (nat_lt p.0 layer) (Some z) None
 pub record IsTold (layer : ℕ) (known : Known) (leaf : Leafed) : Type 0 where
   pub passes : known.passes ≡ passes_before layer leaf.parts
   pub zero : known.zero ≡ zero_told layer leaf.zero leaf.parts
+  pub lblock : known.lblock ≤ 32
 
 pub record IsFit (style layers planes block : ℕ) (leaf : Leafed) : Type 0 where
   pub fits : FitsLeaf style layers planes block leaf leaf.parts
@@ -145,10 +148,11 @@ pub nothing_told : (leaf : Leafed) → IsTold 0 unknown_block leaf
 nothing_told leaf = by leaf.zero leaf.parts
   where
     by : (z : ℕ) (parts : List (ℕ × Part)) → IsTold 0 unknown_block (record { zero = z; parts = parts })
-    by z [] = record { passes = refl; zero = refl }
+    by z [] = record { passes = refl; zero = refl; lblock = omega arith }
     by z (p ∷ ps) = record {
       passes = zeros (p ∷ ps);
       zero = (let e : nat_lt p.0 0 ≡ false = grind (arith, nat_tests) in sym (ap (λ (b : Bool). let o : Option ℕ = cond b (Some z) None in o) e));
+      lblock = omega arith;
     }
       where
         zeros : (parts : List (ℕ × Part)) → 0 ≡ passes_before 0 parts
@@ -239,6 +243,7 @@ pub told_more : (style layers layer planes block z : ℕ) (known : Known) (leaf 
 told_more style layers layer planes block z known leaf of_leaf ge fit told = record {
   passes = ap (λ (n : ℕ). n + passes_of (parts_in layer leaf.parts)) told.passes ∙ sym (before_split layer leaf.parts);
   zero = ap (λ (n : ℕ). let o : Option ℕ = Some n in o) of_leaf ∙ first_here layers layer block leaf.zero leaf.parts (fits_runs style layers planes block leaf.zero leaf.parts fit.fits) ge;
+  lblock = raise_few known.lblock (parts_in layer leaf.parts) told.lblock;
 }
 
 same_told : (layer z : ℕ) (parts : List (ℕ × Part)) (layers block : ℕ) → AreRuns layers block 0 0 parts → passes_of (parts_in layer parts) ≡ 0 → zero_told layer z parts ≡ zero_told (layer + 1) z parts
@@ -258,4 +263,27 @@ told_still style layers layer planes block known leaf e fit told =
     record {
       passes = omega arith;
       zero = told.zero ∙ same_told layer leaf.zero leaf.parts layers block (fits_runs style layers planes block leaf.zero leaf.parts fit.fits) e;
+      lblock = told.lblock;
     }
+
+-- ---- an entry, and what is known after it
+pub entry_told : (style layers layer planes block z : ℕ) (known : Known) (leaf : Leafed) (b : Bool) → nat_lt 0 (passes_of (parts_in layer leaf.parts)) ≡ b → (1 ≤ passes_of (parts_in layer leaf.parts) → z ≡ leaf.zero) →
+    IsFit style layers planes block leaf → IsTold layer known leaf → MatchBool b (IsIncluded style block planes z known (entry_written layer known leaf)) (entry_written layer known leaf ≡ nothing)
+entry_told style layers layer planes block z known leaf true is of_leaf fit told =
+    let ge : 1 ≤ passes_of (parts_in layer leaf.parts) = grind (arith, nat_tests) in
+    entry_included style layers layer planes block z known leaf (of_leaf ge) ge fit told
+entry_told style layers layer planes block z known leaf false is of_leaf fit told =
+    entry_nothing style layers layer planes block known leaf (let e : passes_of (parts_in layer leaf.parts) ≡ 0 = grind (arith, nat_tests) in e) fit
+
+-- what is known of a block has the ranges of a precinct that is read
+pub told_known : (style layers layer planes block : ℕ) (known : Known) (leaf : Leafed) → planes ≤ 255 → IsFit style layers planes block leaf → IsTold layer known leaf → IsKnown known
+told_known style layers layer planes block known leaf le fit told =
+    let a = few leaf.zero leaf.parts fit.fits in
+    let before : passes_before layer leaf.parts ≤ all_passes leaf.parts = before_few layer leaf.parts in
+    let is : known.passes ≡ passes_before layer leaf.parts = told.passes in
+    let small : known.lblock ≤ 32 = told.lblock in
+    record { passes = omega arith; lblock = omega arith }
+  where
+    few : (z : ℕ) (parts : List (ℕ × Part)) → FitsLeaf style layers planes block (record { zero = z; parts = parts }) parts → all_passes parts ≤ 765
+    few z [] f = omega arith
+    few z (p ∷ ps) f = let l : all_passes (p ∷ ps) ≤ most_passes planes z = f.few in omega arith

@@ -8,3 +8,4 @@ pub mod PutLemmas
 pub mod WriteLemmas
 pub mod PlanLemmas
 pub mod LayerLemmas
+pub mod AgreeLemmas
