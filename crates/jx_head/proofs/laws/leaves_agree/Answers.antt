@@ -1,6 +1,5 @@
-use Rattle.jx_head.proofs.AgreeLemmas.{AreLeafValues}
-use Rattle.jx_head.proofs.LayerLemmas.{told_still, told_more, entry_nothing, entry_included, zero_of, inclusion, nothing_told}
+use Rattle.jx_head.proofs.AgreeLemmas.{leaves_agree}
 use Rattle.jx_head.proofs.laws.leaves_agree.Goals as goal
 
 pub returns : goal.returns
-returns c = ?
+returns c = λ layers style layer bands leaves r f t lt. (leaves_agree layers style layer bands leaves r f t lt).told
