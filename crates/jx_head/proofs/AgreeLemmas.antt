@@ -15,9 +15,9 @@ use Rattle.jx_head.specs.declared.known.Known.{Known}
 use Rattle.jx_head.specs.Packet.{Cells, State, Values, Agree, Entry, nothing, contributes, unknown_block, block_at, block_after, zero_planes, cells_first, cells_included, entry_after, IsEntry, AreEntries, blocks_after, parts_told, BandTold, IsBandTold, band_after, AreBandsTold, bands_after, bands_parts, Header, header_after, header_parts, header_bits, IsToldOf, IsPacket}
 use Rattle.jx_head.specs.Kept.{AreTrees, IsKnown, IsBand, AreBands}
 use Rattle.jx_head.specs.Precinct.{cells_in, CellsInRange, IsBandCells, AreBandCells, fresh_cells, fresh_bands, fresh_state, all_blocks, IsState}
-use Rattle.jx_head.specs.Written.{Leafed, first_layer, zero_leaf, first_leaves, zero_leaves, parts_in, passes_of, entry_written, entries_written, values_written, band_written, bands_written, header_written, some_in, state_at}
+use Rattle.jx_head.specs.Written.{Leafed, first_layer, zero_leaf, first_leaves, zero_leaves, parts_in, passes_of, entry_written, entries_written, values_written, band_written, bands_written, header_written, some_in, state_at, Plan, state_of, next_header}
 use Rattle.jx_head.specs.Writable.{no_leaf, leaf_at, SameSize}
-use Rattle.jx_head.specs.LeavesFit.{LeavesFit, FitsLeaf, FitBand, FitBands, HasShort, AllShort, InTypes, parts_at, header_at}
+use Rattle.jx_head.specs.LeavesFit.{LeavesFit, FitsLeaf, FitBand, FitBands, HasShort, AllShort, InTypes, parts_at, header_at, IsPlan}
 use Rattle.jx_head.specs.ReadBack.{IsOneReading}
 use Rattle.jx_head.proofs.BandLemmas.{block_of, entry_agrees, entry_size, entry_kept, same_or}
 use Rattle.jx_head.proofs.FreshLemmas.{fresh_is, unknown_at, some_cells}
@@ -476,3 +476,11 @@ written_is_read layers style layer bands leaves rest r f t lt =
       only = λ others ends others_after p.
           one_header (bytes ++ rest) k others (parts_at layer leaves) ends (length bytes) others_after (state_at layers style bands leaves (layer + 1)) (written_state layers style layer bands leaves r f t (omega arith)).bands p stands;
     }
+
+-- the next header of a precinct that is written
+pub plan_is_read : (p new : Plan) (layer : ℕ) (headers : List (List ℕ)) (rest : List ℕ) → IsPlan p.layers p.style p.bands p.leaves headers → LeavesFit p.style p.layers p.bands p.leaves → p.next ≡ layer → layer < p.layers →
+    new ≡ record p { next = p.next + 1 } → IsOneReading (next_header p ++ rest) (state_of p) (parts_at layer p.leaves) (length (next_header p)) (state_of new)
+plan_is_read p new layer headers rest is fit next lt after =
+    let r = written_is_read p.layers p.style p.next p.bands p.leaves rest is.cells fit is.types (omega arith) in
+    subst (λ (q : Plan). IsOneReading (next_header p ++ rest) (state_of p) (parts_at layer p.leaves) (length (next_header p)) (state_of q)) (sym after)
+    (subst (λ (n : ℕ). IsOneReading (next_header p ++ rest) (state_of p) (parts_at n p.leaves) (length (next_header p)) (state_at p.layers p.style p.bands p.leaves (p.next + 1))) next r)

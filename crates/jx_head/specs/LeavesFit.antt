@@ -6,7 +6,7 @@ use Rattle.jx_head.specs.declared.Part.{Part}
 use Rattle.jx_head.specs.declared.BandCells.{BandCells}
 use Rattle.jx_head.specs.Parts.{cut, width}
 use Rattle.jx_head.specs.Packet.{header_bits, most_passes, unknown_block}
-use Rattle.jx_head.specs.Precinct.{cells_in}
+use Rattle.jx_head.specs.Precinct.{cells_in, CellsInRange}
 use Rattle.jx_head.specs.Written.{Leafed, Writes, first_leaves, zero_leaves, parts_in, passes_of, header_written, state_at}
 use Rattle.jx_head.specs.Writable.{AllFew, all_passes}
 
@@ -104,3 +104,9 @@ AllShort (l ∷ ls) = HasShort l.parts × AllShort ls
 pub record InTypes (layers : ℕ) (leaves : List Leafed) : Type 0 where
   pub few : layers < 2 ^ 16
   pub short : AllShort leaves
+
+-- a precinct that is written, with the headers of all its layers
+pub record IsPlan (layers style : ℕ) (bands : List BandCells) (leaves : List Leafed) (headers : List (List ℕ)) : Type 0 where
+  pub cells : CellsInRange bands
+  pub types : InTypes layers leaves
+  pub are : AreHeaders layers style bands leaves layers headers
