@@ -1,6 +1,6 @@
 -- What is written agrees with the state before it: the nodes of its trees have the values of the leaves, and of each block
 -- is known what was written of its leaf.
-use Rattle.std.proofs.Common.{◌≡◌, ◌≢◌, ℕ, zero, suc, ◌+◌, ◌-◌, ◌*◌, ◌^◌, ◌<◌, ◌≤◌, ◌==◌, nat_lt, min, Bool, true, false, ◌||◌, List, [], ◌∷◌, ◌++◌, length, take, drop, map, get_or, set, replicate, refl, sym, ap, ◌∙◌, subst, cond, arith, append_assoc, length-append, length-drop, length-take, get_or-set_same, inl, inr, ◌⊎◌}
+use Rattle.std.proofs.Common.{◌≡◌, ◌≢◌, ℕ, zero, suc, ◌+◌, ◌-◌, ◌*◌, ◌^◌, ◌<◌, ◌≤◌, ◌==◌, nat_lt, min, Bool, true, false, ◌||◌, List, [], ◌∷◌, ◌++◌, length, take, drop, map, get_or, replicate, refl, sym, ap, ◌∙◌, subst, cond, arith, append_assoc, length-append, length-drop, length-take, get_or-set_same, inl, inr}
 use Rattle.std.specs.Bool.{MatchBool}
 use Rattle.std.proofs.lemmas.Bool.Decides.{nat_tests}
 use Rattle.std.proofs.lemmas.Bool.{cases_lt}
@@ -12,12 +12,12 @@ use Rattle.jx_tagtree.proofs.QuestionLemmas.{fresh_values}
 use Rattle.jx_head.specs.declared.Part.{Part}
 use Rattle.jx_head.specs.declared.BandCells.{BandCells}
 use Rattle.jx_head.specs.declared.known.Known.{Known}
-use Rattle.jx_head.specs.Packet.{Cells, State, Values, Agree, Entry, nothing, contributes, unknown_block, block_at, block_after, zero_planes, cells_first, cells_included, entry_after, IsEntry, AreEntries, blocks_after, parts_told, BandTold, IsBandTold, band_after, AreBandsTold, bands_after, bands_parts, Header, header_after, header_parts, header_bits, IsToldOf, IsPacket}
+use Rattle.jx_head.specs.Packet.{Cells, State, Values, Agree, Entry, unknown_block, block_at, block_after, zero_planes, cells_first, cells_included, entry_after, IsEntry, AreEntries, blocks_after, parts_told, BandTold, IsBandTold, band_after, AreBandsTold, bands_after, bands_parts, header_after, header_parts, IsToldOf, IsPacket}
 use Rattle.jx_head.specs.Kept.{AreTrees, IsKnown, IsBand, AreBands}
-use Rattle.jx_head.specs.Precinct.{cells_in, CellsInRange, IsBandCells, AreBandCells, fresh_cells, fresh_bands, fresh_state, all_blocks, IsState}
+use Rattle.jx_head.specs.Precinct.{cells_in, CellsInRange, IsBandCells, AreBandCells, fresh_cells, fresh_bands, all_blocks, IsState}
 use Rattle.jx_head.specs.Written.{Leafed, first_layer, zero_leaf, first_leaves, zero_leaves, parts_in, passes_of, entry_written, entries_written, values_written, band_written, bands_written, header_written, some_in, state_at, Plan, state_of, next_header}
 use Rattle.jx_head.specs.Writable.{no_leaf, leaf_at, SameSize}
-use Rattle.jx_head.specs.LeavesFit.{LeavesFit, FitsLeaf, FitBand, FitBands, HasShort, AllShort, InTypes, parts_at, header_at, IsPlan}
+use Rattle.jx_head.specs.LeavesFit.{LeavesFit, FitsLeaf, FitBand, FitBands, AllShort, InTypes, parts_at, header_at, IsPlan}
 use Rattle.jx_head.specs.ReadBack.{IsOneReading}
 use Rattle.jx_head.proofs.BandLemmas.{block_of, entry_agrees, entry_size, entry_kept, same_or}
 use Rattle.jx_head.proofs.FreshLemmas.{fresh_is, unknown_at, some_cells}

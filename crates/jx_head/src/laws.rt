@@ -37,10 +37,13 @@ pub fn written_read_back()
         OneHeader parts (header_parts (header_written layers k leaves)) after (header_after k (header_written layers k leaves)) used (length (bytes_of (header_bits k (header_written layers k leaves)))) }
 {}
 
-/// What is written agrees with the state before it, whose trees' nodes have the values of the leaves.
+/// What is written of leaves that fit agrees with the state before it, which is that of a precinct that may
+/// be read. `InTypes` says what the types of the number of layers and of the lengths say.
 pub fn leaves_agree()
-    ensures { (layers style layer : ℕ) (bands : List BandCells) (leaves : List Leafed) → CellsInRange bands → LeavesFit style layers bands leaves → InTypes layers leaves → layer < layers →
+    ensures told { (layers style layer : ℕ) (bands : List BandCells) (leaves : List Leafed) → CellsInRange bands → LeavesFit style layers bands leaves → InTypes layers leaves → layer < layers →
         IsToldOf (state_at layers style bands leaves layer) (header_written layers (state_at layers style bands leaves layer) leaves) }
+    ensures state { (layers style layer : ℕ) (bands : List BandCells) (leaves : List Leafed) → CellsInRange bands → LeavesFit style layers bands leaves → InTypes layers leaves → layer ≤ layers →
+        IsState (state_at layers style bands leaves layer) }
 {}
 
 /// The header that is written for a layer has one reading from the state before it, whatever follows it:
@@ -50,7 +53,7 @@ pub fn written_is_read()
         IsOneReading (header_at layers style bands leaves layer ++ rest) (state_at layers style bands leaves layer) (parts_at layer leaves) (length (header_at layers style bands leaves layer)) (state_at layers style bands leaves (layer + 1)) }
 {}
 
-/// A header that breaks its band's planes is no packet's.
+/// Where a block of a header breaks its band's planes, no header stands.
 pub fn planes_or_packet()
     ensures { (bytes : List ℕ) (k : State) (parts : List Part) (used : ℕ) (after : State) → IsState k → BreaksPlanes bytes k → IsPacket bytes k parts used after → ⊥ }
 {}

@@ -155,8 +155,7 @@ fn one_header(
 /// A length has 32 bits, as its type says.
 fn is_short(length: u32)
     ensures { length < 2 ^ 32 }
-{
-}
+{}
 
 /// Says so of a block's lengths.
 fn lengths_are_short(parts: &[(u16, Part)])
@@ -217,6 +216,7 @@ impl PrecinctOut {
         requires leaves { LeavesInRange bands.now (map leaf_of leaves.items) }
         ensures { IfOk result (λ p. p ≡ record { style = style.bits; layers = layers; next = 0; bands = bands.now; leaves = map leaf_of leaves.items }) }
     {
+        // Only proofs rest on it: it does no work.
         all_are_short(&leaves);
         let mut made = fresh_bands_out(alloc, bands, layers, &leaves)?;
         let mut headers = Vec::new(alloc);
