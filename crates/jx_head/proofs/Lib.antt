@@ -2,6 +2,7 @@ pub mod WordLemmas
 pub mod AskLemmas
 pub mod BlockLemmas
 pub mod BandLemmas
+pub mod BandLoopLemmas
 pub mod PacketLemmas
 pub mod FreshLemmas
 pub mod PutLemmas
