@@ -1,9 +1,9 @@
 -- What is read of the blocks of a band, and of the bands of a precinct.
-use Rattle.std.proofs.Common.{◌≡◌, ℕ, zero, suc, ◌+◌, ◌-◌, ◌*◌, ◌<◌, ◌≤◌, ◌^◌, min, nat_le, Bool, true, false, List, [], ◌∷◌, ◌++◌, length, take, drop, refl, sym, ap, ◌∙◌, subst, cond, arith, append_assoc, Some, None, Ok, Err, Result, inl, inr, ◌⊎◌, length-set, length-append, get_or, set, ◌≢◌, get_or-set_same, get_or-set_other}
+use Rattle.std.proofs.Common.{◌≡◌, ℕ, zero, suc, ◌+◌, ◌-◌, ◌*◌, ◌<◌, ◌≤◌, ◌^◌, min, nat_le, Bool, true, false, List, [], ◌∷◌, ◌++◌, length, refl, sym, ap, ◌∙◌, subst, cond, arith, append_assoc, Some, None, Ok, Err, Result, inl, inr, ◌⊎◌, length-set, length-append, get_or, set, ◌≢◌, get_or-set_same, get_or-set_other}
 use Rattle.std.specs.Prelude.{Option}
 use Rattle.std.specs.Bool.{MatchBool}
 use Rattle.std.proofs.lemmas.Bool.{cases_lt}
-use Rattle.std.proofs.lemmas.List.{set_past, get_or_default, append-nil, take_all, drop_all}
+use Rattle.std.proofs.lemmas.List.{set_past, get_or_default, append-nil}
 use Rattle.jx_base.specs.Passes.{end_pass}
 use Rattle.jx_tagtree.specs.Header.{low_bits}
 use Rattle.jx_tagtree.proofs.HeaderLemmas.{length-low_bits}
@@ -14,14 +14,13 @@ use Rattle.jx_tagtree.proofs.QuestionLemmas.{known_values}
 use Rattle.jx_head.specs.declared.Part.{Part}
 use Rattle.jx_head.specs.declared.HeadFault.{HeadFault}
 use Rattle.jx_head.specs.declared.HeadFault.TheVariants.{Bits, Planes, NoMemory}
-use Rattle.jx_head.specs.Said.{Refuses, BandSaid, BandsSaid}
-use Rattle.jx_head.specs.Precinct.{all_blocks}
+use Rattle.jx_head.specs.Said.{Refuses, BandSaid}
 use Rattle.jx_head.specs.Writable.{SameSize}
 use Rattle.jx_head.specs.declared.known.Known.{Known}
 use Rattle.jx_head.specs.Words.{pass_word, raise_word}
 use Rattle.jx_head.specs.Parts.{one_more, cut, width, AreParts, length_bits}
 use Rattle.jx_head.specs.Packet.{Cells, Values, Agree, Entry, nothing, contributes, block_at, block_after, unknown_block, told_bits, included_bits, most_passes, IsIncluded, asked, zero_questions, zero_bits, zero_after, zero_planes, first_bits, first_after, IsInclusion, entry_bits, cells_first, cells_included, entry_after, IsEntry, ReachesPlanes, PassesPlanes, Breaks, blocks_bits, blocks_after, AreEntries, parts_told, BandTold, IsBandTold, band_bits, band_after, bands_bits, bands_after, AreBandsTold, bands_parts, BandBreaks, BandStands, BandsBreak}
-use Rattle.jx_head.specs.Kept.{AreTrees, IsLeafOf, IsKnown, IsBand, AreBands}
+use Rattle.jx_head.specs.Kept.{AreTrees, IsLeafOf, IsKnown, IsBand}
 use Rattle.jx_head.specs.Scan.{Found, or_bits, and_then, Asked, scan_first, Zeros, scan_zeros, scan_entry, Told, told_of, and_told, scan_included, scan_block, AllTold, after_told, and_parts, scan_blocks, scan_band, BandsRead, after_band, and_band, scan_bands}
 use Rattle.jx_head.proofs.AskLemmas.{after_leaf, after_agrees}
 use Rattle.jx_head.proofs.BlockLemmas.{IsBlockOf, told_is, on_zeros, on_first, first_leaf, first_agrees, zero_leaf, zero_read, below_counted, reaches_counted, counted, entry_breaks, TooMany, block_made, block_over, BlockRead, block_read, FirstRead, first_read, le-is, lt-is}
@@ -248,7 +247,7 @@ block_breaks style layer block leaf cells bits b h = by (scan_first (block_at ce
     by (Some s) eq h = pick s eq s.below refl h
 
 -- ---- the blocks of a band
-abbrev all_is : List Part → Cells → List Bool → AllTold
+abbrev pub all_is : List Part → Cells → List Bool → AllTold
 all_is parts cells rest = record { parts = parts; cells = cells; rest = rest }
 
 abbrev on_block : ℕ → ℕ → ℕ → ℕ → ℕ → Told → Result AllTold HeadFault
@@ -432,7 +431,7 @@ AreAllTrees (cells ∷ bands) = AreTrees cells × AreAllTrees bands
 abbrev pub bands_is : List Part → List Cells → List Bool → BandsRead
 bands_is parts bands rest = record { parts = parts; bands = bands; rest = rest }
 
-abbrev on_band : ℕ → ℕ → ℕ → Cells → List Cells → AllTold → Result BandsRead HeadFault
+abbrev pub on_band : ℕ → ℕ → ℕ → Cells → List Cells → AllTold → Result BandsRead HeadFault
 on_band style layer base cells bands a = and_band a (scan_bands style layer (base + length cells.blocks) bands a.rest)
 
 pub band_made : (style layer base : ℕ) (cells : Cells) (told : BandTold) (rest : List Bool) → AreTrees cells → IsBandTold style layer base cells told →
@@ -731,113 +730,3 @@ blocks_said whole begun now style layer base (suc left) leaf cells bits none h =
 
 pub block_is : (blocks : List Known) (leaf : ℕ) (k : Known) → leaf < length blocks → k ≡ get_or blocks leaf k → get_or blocks leaf unknown_block ≡ k
 block_is blocks leaf k lt e = get_or_default blocks leaf unknown_block k lt ∙ sym e
-
--- ---- band after band
-pub record SetAt (xs : List Cells) (at : ℕ) (y d : Cells) : Type 0 where
-  pub front : take (at + 1) (set xs at y) ≡ take at xs ++ y ∷ []
-  pub behind : drop (at + 1) (set xs at y) ≡ drop (at + 1) xs
-  pub here : drop at xs ≡ get_or xs at d ∷ drop (at + 1) xs
-
-pub set_at : (xs : List Cells) (at : ℕ) (y d : Cells) → at < length xs → SetAt xs at y d
-set_at [] at y d lt = absurd (omega arith)
-set_at (x ∷ xs) zero y d lt = record { front = refl; behind = refl; here = refl }
-set_at (x ∷ xs) (suc at) y d lt =
-    let s = set_at xs at y d (omega arith) in
-    let e : suc at + 1 ≡ suc (at + 1) = omega arith in
-    record {
-      front = ap (λ (n : ℕ). take n (x ∷ set xs at y)) e ∙ ap (λ (l : List Cells). x ∷ l) s.front;
-      behind = ap (λ (n : ℕ). drop n (x ∷ set xs at y)) e ∙ s.behind ∙ ap (λ (n : ℕ). drop n (x ∷ xs)) (sym e);
-      here = s.here ∙ ap (λ (n : ℕ). get_or xs at d ∷ drop n (x ∷ xs)) (sym e);
-    }
-
-pub band_at : (bands : List Cells) (at : ℕ) (d : Cells) → AreBands bands → at < length bands → IsBand (get_or bands at d)
-band_at [] at d b lt = absurd (omega arith)
-band_at (x ∷ xs) zero d b lt = b.0
-band_at (x ∷ xs) (suc at) d b lt = band_at xs at d b.1 (omega arith)
-
-pub bands_set : (bands : List Cells) (at : ℕ) (y : Cells) → AreBands bands → IsBand y → AreBands (set bands at y)
-bands_set [] at y b h = tt
-bands_set (x ∷ xs) zero y b h = (h, b.1)
-bands_set (x ∷ xs) (suc at) y b h = (b.0, bands_set xs at y b.1 h)
-
-pub blocks_set : (bands : List Cells) (at : ℕ) (y d : Cells) → at < length bands → length y.blocks ≡ length (get_or bands at d).blocks → length (all_blocks (set bands at y)) ≡ length (all_blocks bands)
-blocks_set [] at y d lt e = absurd (omega arith)
-blocks_set (x ∷ xs) zero y d lt e =
-    let a : length (y.blocks ++ all_blocks xs) ≡ length y.blocks + length (all_blocks xs) = length-append y.blocks (all_blocks xs) in
-    let b : length (x.blocks ++ all_blocks xs) ≡ length x.blocks + length (all_blocks xs) = length-append x.blocks (all_blocks xs) in
-    omega arith
-blocks_set (x ∷ xs) (suc at) y d lt e =
-    let i : length (all_blocks (set xs at y)) ≡ length (all_blocks xs) = blocks_set xs at y d (omega arith) e in
-    let a : length (x.blocks ++ all_blocks (set xs at y)) ≡ length x.blocks + length (all_blocks (set xs at y)) = length-append x.blocks (all_blocks (set xs at y)) in
-    let b : length (x.blocks ++ all_blocks xs) ≡ length x.blocks + length (all_blocks xs) = length-append x.blocks (all_blocks xs) in
-    omega arith
-
-abbrev pub and_done : List Part → List Cells → Result BandsRead HeadFault → Result BandsRead HeadFault
-and_done parts done r = and_then r (λ (b : BandsRead). Ok (bands_is (parts ++ b.parts) (done ++ b.bands) b.rest))
-
-done_done : (now parts : List Part) (done : List Cells) (cells : Cells) (rest : List Bool) (r : Result BandsRead HeadFault) →
-    and_done now done (and_band (all_is parts cells rest) r) ≡ and_done (now ++ parts) (done ++ cells ∷ []) r
-done_done now parts done cells rest (Err e) = refl
-done_done now parts done cells rest (Ok b) =
-    ap (λ (l : List Part). Ok (bands_is l (done ++ cells ∷ b.bands) b.rest)) (sym (append_assoc now parts b.parts))
-    ∙ ap (λ (l : List Cells). Ok (bands_is ((now ++ parts) ++ b.parts) l b.rest)) (sym (append_assoc done (cells ∷ []) b.bands))
-
-pub bands_step : (whole : Result BandsRead HeadFault) (begun now new parts : List Part) (style layer base at : ℕ) (bands : List Cells) (y d : Cells) (bits rest : List Bool) → at < length bands →
-    and_done begun [] whole ≡ and_done now (take at bands) (scan_bands style layer base (drop at bands) bits) →
-    scan_band style layer base (get_or bands at d) bits ≡ Ok (all_is parts y rest) → new ≡ now ++ parts →
-    and_done begun [] whole ≡ and_done new (take (at + 1) (set bands at y)) (scan_bands style layer (base + length (get_or bands at d).blocks) (drop (at + 1) (set bands at y)) rest)
-bands_step whole begun now new parts style layer base at bands y d bits rest lt h was is =
-    let s = set_at bands at y d lt in
-    let x = get_or bands at d in
-    let next = scan_bands style layer (base + length x.blocks) (drop (at + 1) bands) rest in
-    h ∙ ap (λ (l : List Cells). and_done now (take at bands) (scan_bands style layer base l bits)) s.here
-    ∙ ap (λ (r : Result AllTold HeadFault). and_done now (take at bands) (and_then r (on_band style layer base x (drop (at + 1) bands)))) was
-    ∙ done_done now parts (take at bands) y rest next
-    ∙ ap (λ (l : List Part). and_done l (take at bands ++ y ∷ []) next) (sym is)
-    ∙ ap (λ (l : List Cells). and_done new l next) (sym s.front)
-    ∙ ap (λ (l : List Cells). and_done new (take (at + 1) (set bands at y)) (scan_bands style layer (base + length x.blocks) l rest)) (sym s.behind)
-
-whole_bands_fault : (begun : List Part) (whole : Result BandsRead HeadFault) (f : HeadFault) → and_done begun [] whole ≡ Err f → whole ≡ Err f
-whole_bands_fault begun (Err e) f h = let is : e ≡ f = cc in ap (λ (x : HeadFault). let y : Result BandsRead HeadFault = Err x in y) is
-whole_bands_fault begun (Ok x) f h = absurd cc
-
-bands_err : (whole : Result BandsRead HeadFault) (begun now : List Part) (style layer base at : ℕ) (bands : List Cells) (d : Cells) (bits : List Bool) (f : HeadFault) → at < length bands →
-    and_done begun [] whole ≡ and_done now (take at bands) (scan_bands style layer base (drop at bands) bits) → scan_band style layer base (get_or bands at d) bits ≡ Err f → whole ≡ Err f
-bands_err whole begun now style layer base at bands d bits f lt h was =
-    let s = set_at bands at d d lt in
-    whole_bands_fault begun whole f (h ∙ ap (λ (l : List Cells). and_done now (take at bands) (scan_bands style layer base l bits)) s.here
-    ∙ ap (λ (r : Result AllTold HeadFault). and_done now (take at bands) (and_then r (on_band style layer base (get_or bands at d) (drop (at + 1) bands)))) was)
-
-pub bands_refuse : (whole : Result BandsRead HeadFault) (begun now : List Part) (style layer base at : ℕ) (bands : List Cells) (d : Cells) (bits : List Bool) (f : HeadFault) → at < length bands →
-    and_done begun [] whole ≡ and_done now (take at bands) (scan_bands style layer base (drop at bands) bits) → Refuses f (scan_band style layer base (get_or bands at d) bits) → Refuses f whole
-bands_refuse whole begun now style layer base at bands d bits Bits lt h was = bands_err whole begun now style layer base at bands d bits Bits lt h was
-bands_refuse whole begun now style layer base at bands d bits Planes lt h was = bands_err whole begun now style layer base at bands d bits Planes lt h was
-bands_refuse whole begun now style layer base at bands d bits NoMemory lt h was = tt
-
-pub bands_said : (whole : Result BandsRead HeadFault) (begun now : List Part) (style layer base at : ℕ) (bands : List Cells) (bits : List Bool) → length bands ≤ at →
-    and_done begun [] whole ≡ and_done now (take at bands) (scan_bands style layer base (drop at bands) bits) → BandsSaid whole begun now bands bits
-bands_said whole begun now style layer base at bands bits ge h =
-    by whole (h ∙ ap (λ (l : List Cells). and_done now l (scan_bands style layer base (drop at bands) bits)) (take_all at bands ge)
-    ∙ ap (λ (l : List Cells). and_done now bands (scan_bands style layer base l bits)) (drop_all at bands ge))
-  where
-    by : (w : Result BandsRead HeadFault) → and_done begun [] w ≡ Ok (bands_is (now ++ []) (bands ++ []) bits) → BandsSaid w begun now bands bits
-    by (Err e) h = absurd cc
-    by (Ok b) h =
-        let is : bands_is (begun ++ b.parts) b.bands b.rest ≡ bands_is (now ++ []) (bands ++ []) bits = cc in
-        let cs : b.bands ≡ bands = ap (λ (x : BandsRead). x.bands) is ∙ append-nil bands in
-        let rs : b.rest ≡ bits = ap (λ (x : BandsRead). x.rest) is in
-        record {
-          parts = b.parts;
-          is = ap (λ (c : List Cells). Ok (bands_is b.parts c b.rest)) cs ∙ ap (λ (l : List Bool). Ok (bands_is b.parts bands l)) rs;
-          new_is = sym (ap (λ (x : BandsRead). x.parts) is ∙ append-nil now);
-        }
-
-pub next_left : (bands : List Cells) (at base most : ℕ) (y d : Cells) → at < length bands → base + length (all_blocks (drop at bands)) ≤ most →
-    base + length (get_or bands at d).blocks + length (all_blocks (drop (at + 1) (set bands at y))) ≤ most
-next_left bands at base most y d lt le =
-    let s = set_at bands at y d lt in
-    let x = get_or bands at d in
-    let a : length (x.blocks ++ all_blocks (drop (at + 1) bands)) ≡ length x.blocks + length (all_blocks (drop (at + 1) bands)) = length-append x.blocks (all_blocks (drop (at + 1) bands)) in
-    let b : length (all_blocks (drop at bands)) ≡ length (x.blocks ++ all_blocks (drop (at + 1) bands)) = ap (λ (l : List Cells). length (all_blocks l)) s.here in
-    let e : length (all_blocks (drop (at + 1) (set bands at y))) ≡ length (all_blocks (drop (at + 1) bands)) = ap (λ (l : List Cells). length (all_blocks l)) s.behind in
-    omega arith

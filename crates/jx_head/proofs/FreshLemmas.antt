@@ -8,7 +8,7 @@ use Rattle.jx_head.specs.declared.BandCells.{BandCells}
 use Rattle.jx_head.specs.declared.known.Known.{Known}
 use Rattle.jx_head.specs.Packet.{Cells, unknown_block}
 use Rattle.jx_head.specs.Kept.{IsKnown, IsBand, AreBands}
-use Rattle.jx_head.proofs.BandLemmas.{set_at}
+use Rattle.jx_head.proofs.BandLoopLemmas.{set_at}
 use Rattle.jx_head.specs.Precinct.{cells_in, IsBandCells, AreBandCells, CellsInRange, fresh_cells, fresh_bands, fresh_state, all_blocks, IsState}
 
 pub cells_at : (bands : List BandCells) (at : ℕ) (d : BandCells) → AreBandCells bands → at < length bands → IsBandCells (get_or bands at d)

@@ -2,8 +2,11 @@ pub mod WordLemmas
 pub mod AskLemmas
 pub mod BlockLemmas
 pub mod BandLemmas
+pub mod BandLoopLemmas
 pub mod PacketLemmas
 pub mod FreshLemmas
 pub mod PutLemmas
 pub mod WriteLemmas
 pub mod PlanLemmas
+pub mod LayerLemmas
+pub mod AgreeLemmas

@@ -229,3 +229,7 @@ one_header bytes k parts others used ends after others_after b p q =
       used_is = cc;
       after_is = p.after_is ∙ ap (λ (x : HeaderRead). x.after) same ∙ sym q.after_is;
     }
+
+-- where a block breaks its planes, no header stands
+pub planes_or_packet : (bytes : List ℕ) (k : State) (parts : List Part) (used : ℕ) (after : State) → AreBands k.bands → BreaksPlanes bytes k → IsPacket bytes k parts used after → ⊥
+planes_or_packet bytes k parts used after b x p = packet_none bytes k Planes parts after used b (header_over bytes k b x) p

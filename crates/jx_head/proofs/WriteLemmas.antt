@@ -92,7 +92,7 @@ drop_set (x ∷ xs) zero y = refl
 drop_set (x ∷ xs) (suc i) y = let s : suc i + 1 ≡ suc (i + 1) = omega arith in
     ap (λ (n : ℕ). drop n (x ∷ set xs i y)) s ∙ drop_set xs i y ∙ ap (λ (n : ℕ). drop n (x ∷ xs)) (sym s)
 
-behind_same : (v : Values) (layer i : ℕ) (cells : Cells) (e : Entry) → drop (i + 1) (entry_after v layer i cells e).blocks ≡ drop (i + 1) cells.blocks
+pub behind_same : (v : Values) (layer i : ℕ) (cells : Cells) (e : Entry) → drop (i + 1) (entry_after v layer i cells e).blocks ≡ drop (i + 1) cells.blocks
 behind_same v layer i cells e = by (contributes e)
   where
     by : (c : Bool) → drop (i + 1) (cond c (cells_included v i (cells_first v layer i cells) e) (cells_first v layer i cells)).blocks ≡ drop (i + 1) cells.blocks
@@ -147,7 +147,7 @@ still_writes leaves w old first zeros s a = record {
   fit = subst (λ (n : ℕ). (i : ℕ) → get_or (zero_leaves n leaves) i 0 < 2 ^ 32) (sym s.planes) a.fit;
 }
 
-raise_few : (lblock : ℕ) (parts : List Part) → lblock ≤ 32 → lblock + raise_of lblock parts ≤ 32
+pub raise_few : (lblock : ℕ) (parts : List Part) → lblock ≤ 32 → lblock + raise_of lblock parts ≤ 32
 raise_few lblock [] le = omega arith
 raise_few lblock (p ∷ ps) le = let i : lblock + raise_of lblock ps ≤ 32 = raise_few lblock ps le in let s : size p.length ≤ 32 = size_le p.length in omega arith
 
@@ -176,7 +176,7 @@ due_here v layer i cells leaves lt d = by (contributes e) refl
             subst (λ (k : Known). IsDue (layer + 1) k (leaf_at leaves i)) (sym (get_or-set_same cells.blocks i after unknown_block lt)) (record { few = omega arith; lblock = r })
         two false split few r = record { few = omega arith; lblock = omega arith }
 
-other_same : (v : Values) (layer i j : ℕ) (cells : Cells) (e : Entry) → j ≢ i → block_at (entry_after v layer i cells e) j ≡ block_at cells j
+pub other_same : (v : Values) (layer i j : ℕ) (cells : Cells) (e : Entry) → j ≢ i → block_at (entry_after v layer i cells e) j ≡ block_at cells j
 other_same v layer i j cells e ne = by (contributes e)
   where
     by : (c : Bool) → block_at (cond c (cells_included v i (cells_first v layer i cells) e) (cells_first v layer i cells)) j ≡ block_at cells j

@@ -1,12 +1,12 @@
 -- The leaves that a precinct may be written with.
-use Rattle.std.specs.Prelude.{◌≡◌, ℕ, ◌+◌, ◌*◌, ◌^◌, ◌<◌, ◌≤◌, nat_lt, List, [], ◌∷◌, length, map, take, drop, replicate, slice_index_or, if◌then◌else◌}
+use Rattle.std.specs.Prelude.{◌≡◌, ℕ, ◌+◌, ◌*◌, ◌^◌, ◌<◌, ◌≤◌, nat_lt, List, [], ◌∷◌, ◌++◌, length, map, take, drop, replicate, slice_index_or, if◌then◌else◌}
 use Rattle.jx_tagtree.specs.Header.{bytes_of}
 use Rattle.jx_tagtree.specs.Leaves.{untold}
 use Rattle.jx_head.specs.declared.Part.{Part}
 use Rattle.jx_head.specs.declared.BandCells.{BandCells}
 use Rattle.jx_head.specs.Parts.{cut, width}
 use Rattle.jx_head.specs.Packet.{header_bits, most_passes, unknown_block}
-use Rattle.jx_head.specs.Precinct.{cells_in}
+use Rattle.jx_head.specs.Precinct.{cells_in, CellsInRange}
 use Rattle.jx_head.specs.Written.{Leafed, Writes, first_leaves, zero_leaves, parts_in, passes_of, header_written, state_at}
 use Rattle.jx_head.specs.Writable.{AllFew, all_passes}
 
@@ -85,3 +85,28 @@ AreShort (p ∷ ps) = (p.length < 2 ^ 32) × AreShort ps
 abbrev pub AllFit : ℕ → List Part → Type 0
 AllFit lblock [] = Unit {0}
 AllFit lblock (p ∷ ps) = (p.length < 2 ^ width lblock p.passes) × AllFit lblock ps
+
+-- the parts that a layer's packet has, over the blocks in order
+abbrev pub parts_at : ℕ → List Leafed → List Part
+parts_at layer [] = []
+parts_at layer (leaf ∷ leaves) = parts_in layer leaf.parts ++ parts_at layer leaves
+
+-- a block's lengths have 32 bits
+abbrev pub HasShort : List (ℕ × Part) → Type 0
+HasShort [] = Unit {0}
+HasShort (p ∷ ps) = (p.1.length < 2 ^ 32) × HasShort ps
+
+abbrev pub AllShort : List Leafed → Type 0
+AllShort [] = Unit {0}
+AllShort (l ∷ ls) = HasShort l.parts × AllShort ls
+
+-- the ranges that the program's types have: the number of layers has 16 bits, a length 32
+pub record InTypes (layers : ℕ) (leaves : List Leafed) : Type 0 where
+  pub few : layers < 2 ^ 16
+  pub short : AllShort leaves
+
+-- a precinct that is written, with the headers of all its layers
+pub record IsPlan (layers style : ℕ) (bands : List BandCells) (leaves : List Leafed) (headers : List (List ℕ)) : Type 0 where
+  pub cells : CellsInRange bands
+  pub types : InTypes layers leaves
+  pub are : AreHeaders layers style bands leaves layers headers

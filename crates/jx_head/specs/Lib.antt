@@ -9,4 +9,5 @@ pub mod Written
 pub mod Leafs
 pub mod Writable
 pub mod LeavesFit
+pub mod ReadBack
 pub mod Kept

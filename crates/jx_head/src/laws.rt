@@ -1,14 +1,15 @@
 //! Laws of packet headers. Each function's contract is a law over the definitions that the other
 //! contracts cite, so its body is empty.
-ghost use Rattle.std.specs.Prelude.{◌≡◌, ◌++◌, ◌+◌, ◌≤◌, List, ℕ, Bool, length};
+ghost use Rattle.std.specs.Prelude.{◌≡◌, ◌++◌, ◌+◌, ◌≤◌, ◌<◌, List, ℕ, Bool, length};
 ghost use Rattle.jx_tagtree.specs.Header.{bytes_of};
 ghost use Rattle.jx_head.specs.declared.Part.{Part};
 ghost use Rattle.jx_head.specs.Words.{IsCount, pass_word, OneWord};
-ghost use Rattle.jx_head.specs.Packet.{State, Header, header_bits, header_after, header_parts, IsToldOf, IsPacket, OneHeader};
+ghost use Rattle.jx_head.specs.Packet.{State, Header, header_bits, header_after, header_parts, IsToldOf, IsPacket, BreaksPlanes, OneHeader};
 ghost use Rattle.jx_head.specs.declared.BandCells.{BandCells};
 ghost use Rattle.jx_head.specs.Precinct.{CellsInRange, IsState};
-ghost use Rattle.jx_head.specs.Written.{Leafed, raise_of, header_written};
-ghost use Rattle.jx_head.specs.LeavesFit.{LeavesFit, LeavesInRange, AreShort, AllFit};
+ghost use Rattle.jx_head.specs.Written.{Leafed, raise_of, header_written, state_at};
+ghost use Rattle.jx_head.specs.LeavesFit.{LeavesFit, LeavesInRange, AreShort, AllFit, InTypes, header_at, parts_at};
+ghost use Rattle.jx_head.specs.ReadBack.{IsOneReading};
 
 /// No code word of a number of passes begins another (T.800 table B.4).
 pub fn passes_are_told_apart()
@@ -34,6 +35,27 @@ pub fn written_read_back()
     ensures { (layers : ℕ) (k : State) (leaves : List Leafed) (rest : List ℕ) (parts : List Part) (used : ℕ) (after : State) → IsState k → IsToldOf k (header_written layers k leaves) →
         IsPacket (bytes_of (header_bits k (header_written layers k leaves)) ++ rest) k parts used after →
         OneHeader parts (header_parts (header_written layers k leaves)) after (header_after k (header_written layers k leaves)) used (length (bytes_of (header_bits k (header_written layers k leaves)))) }
+{}
+
+/// What is written of leaves that fit agrees with the state before it, which is that of a precinct that may
+/// be read. `InTypes` says what the types of the number of layers and of the lengths say.
+pub fn leaves_agree()
+    ensures told { (layers style layer : ℕ) (bands : List BandCells) (leaves : List Leafed) → CellsInRange bands → LeavesFit style layers bands leaves → InTypes layers leaves → layer < layers →
+        IsToldOf (state_at layers style bands leaves layer) (header_written layers (state_at layers style bands leaves layer) leaves) }
+    ensures state { (layers style layer : ℕ) (bands : List BandCells) (leaves : List Leafed) → CellsInRange bands → LeavesFit style layers bands leaves → InTypes layers leaves → layer ≤ layers →
+        IsState (state_at layers style bands leaves layer) }
+{}
+
+/// The header that is written for a layer has one reading from the state before it, whatever follows it:
+/// the layer's parts, the state before the next layer, and its length.
+pub fn written_is_read()
+    ensures { (layers style layer : ℕ) (bands : List BandCells) (leaves : List Leafed) (rest : List ℕ) → CellsInRange bands → LeavesFit style layers bands leaves → InTypes layers leaves → layer < layers →
+        IsOneReading (header_at layers style bands leaves layer ++ rest) (state_at layers style bands leaves layer) (parts_at layer leaves) (length (header_at layers style bands leaves layer)) (state_at layers style bands leaves (layer + 1)) }
+{}
+
+/// Where a block of a header breaks its band's planes, no header stands.
+pub fn planes_or_packet()
+    ensures { (bytes : List ℕ) (k : State) (parts : List Part) (used : ℕ) (after : State) → IsState k → BreaksPlanes bytes k → IsPacket bytes k parts used after → ⊥ }
 {}
 
 /// Leaves that may be written are in range.

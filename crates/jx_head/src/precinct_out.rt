@@ -1,13 +1,14 @@
-ghost use Rattle.std.specs.Prelude.{◌≡◌, ◌<◌, ◌≤◌, ◌+◌, ◌*◌, ◌^◌, ◌++◌, map, length, vec_len, vec_capacity, IfOk, OnOk, OnErr};
+ghost use Rattle.std.specs.Prelude.{◌≡◌, ◌<◌, ◌≤◌, ◌+◌, ◌*◌, ◌^◌, ◌++◌, map, List, ℕ, length, vec_len, vec_capacity, IfOk, OnOk, OnErr};
 ghost use Rattle.jx_head.specs.Precinct.{IsBandCells, CellsInRange, cells_in};
-ghost use Rattle.jx_head.specs.Written.{first_leaves, zero_leaves, some_in, next_header};
+ghost use Rattle.jx_head.specs.Written.{first_leaves, zero_leaves, some_in, next_header, state_of};
 ghost use Rattle.jx_head.specs.Leafs.{leaf_of};
 ghost use Rattle.jx_head.specs.Writable.{AreDue, BandsDone, AllFew, HeaderDone, AreMade};
-ghost use Rattle.jx_head.specs.LeavesFit.{LeavesInRange, fresh_writes};
+ghost use Rattle.jx_head.specs.LeavesFit.{LeavesFit, LeavesInRange, fresh_writes, parts_at, HasShort, AllShort};
+ghost use Rattle.jx_head.specs.ReadBack.{IsOneReading};
 
 use crate::band_out::{BandOut, write_band};
 use crate::put::passes_in;
-use crate::{BandCells, Known, Leaf};
+use crate::{BandCells, Known, Leaf, Part};
 use jx_base::{NoMemory, Style};
 use jx_tagtree::{BitWriter, TagWriter};
 use std::alloc::Global;
@@ -151,6 +152,29 @@ fn one_header(
     bits.finish()
 }
 
+/// A length has 32 bits, as its type says.
+fn is_short(length: u32)
+    ensures { length < 2 ^ 32 }
+{}
+
+/// Says so of a block's lengths.
+fn lengths_are_short(parts: &[(u16, Part)])
+    ensures { HasShort parts.now }
+{
+    for (_, part) in parts {
+        is_short(part.length);
+    }
+}
+
+/// Says so of all blocks' lengths.
+fn all_are_short(leaves: &[Leaf])
+    ensures { AllShort (map leaf_of leaves.now) }
+{
+    for leaf in leaves {
+        lengths_are_short(&leaf.parts);
+    }
+}
+
 /// A precinct that is written: the headers of its packets (T.800 B.10). All room that they take is taken
 /// when it is made.
 #[derive(Drop)]
@@ -169,13 +193,13 @@ impl Model for PrecinctOut {
     ghost use Rattle.std.specs.Prelude.{map, List, ℕ};
     ghost use Rattle.jx_head.specs.Written.{Plan};
     ghost use Rattle.jx_head.specs.Leafs.{leaf_of};
-    ghost use Rattle.jx_head.specs.LeavesFit.{AreHeaders};
+    ghost use Rattle.jx_head.specs.LeavesFit.{IsPlan};
 
     ghost Value = { Plan };
 
     ghost view = { λ p. record { style = p.style.bits; layers = p.layers; next = p.next; bands = p.bands.items; leaves = map leaf_of p.leaves.items } };
 
-    ghost invariant = { λ p. AreHeaders p.layers p.style.bits p.bands.items (map leaf_of p.leaves.items) p.layers (map (λ v. v.items) p.headers.items) };
+    ghost invariant = { λ p. IsPlan p.layers p.style.bits p.bands.items (map leaf_of p.leaves.items) (map (λ v. v.items) p.headers.items) };
 }
 
 impl PrecinctOut {
@@ -192,6 +216,8 @@ impl PrecinctOut {
         requires leaves { LeavesInRange bands.now (map leaf_of leaves.items) }
         ensures { IfOk result (λ p. p ≡ record { style = style.bits; layers = layers; next = 0; bands = bands.now; leaves = map leaf_of leaves.items }) }
     {
+        // Only proofs rest on it: it does no work.
+        all_are_short(&leaves);
         let mut made = fresh_bands_out(alloc, bands, layers, &leaves)?;
         let mut headers = Vec::new(alloc);
         for layer in 0..layers {
@@ -215,6 +241,8 @@ impl PrecinctOut {
         ensures ok { OnOk result (out.new.items ≡ out.old.items ++ next_header self.old) }
         ensures next { OnOk result (self.new ≡ record self.old { next = self.old.next + 1 }) }
         ensures err { OnErr result (out.new.items ≡ out.old.items) }
+        ensures read_back { OnOk result (LeavesFit self.old.style self.old.layers self.old.bands self.old.leaves → (rest : List ℕ) →
+            IsOneReading (next_header self.old ++ rest) (state_of self.old) (parts_at layer self.old.leaves) (length (next_header self.old)) (state_of self.new)) }
         ensures room { OnErr result (vec_capacity out.old < vec_len out.old + length (next_header self.old)) }
     {
         out.extend_from_slice(&self.headers[layer as usize])?;

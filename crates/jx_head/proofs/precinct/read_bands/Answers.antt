@@ -6,7 +6,7 @@ use Rattle.jx_head.specs.Precinct.{all_blocks}
 use Rattle.jx_head.specs.Kept.{IsBand}
 use Rattle.jx_head.specs.Scan.{scan_bands, scan_band}
 use Rattle.jx_head.specs.Said.{BandSaid}
-use Rattle.jx_head.proofs.BandLemmas.{band_at, bands_set, blocks_set, bands_step, next_left}
+use Rattle.jx_head.proofs.BandLoopLemmas.{band_at, bands_set, blocks_set, bands_step, next_left}
 use Rattle.jx_head.proofs.precinct.read_bands.Goals as goal
 
 pub read_band-requires-clause-band : goal.read_band-requires-clause-band

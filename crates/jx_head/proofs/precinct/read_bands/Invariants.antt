@@ -4,7 +4,7 @@ use Rattle.jx_head.specs.Frame.{frame}
 use Rattle.jx_head.specs.Kept.{AreBands}
 use Rattle.jx_head.specs.Precinct.{all_blocks}
 use Rattle.jx_head.specs.Scan.{scan_bands}
-use Rattle.jx_head.proofs.BandLemmas.{and_done}
+use Rattle.jx_head.proofs.BandLoopLemmas.{and_done}
 use Rattle.jx_head.proofs.precinct.read_bands.Given as goal
 
 abbrev pub invariant-loop-at : goal.invariant-loop-at
