@@ -10,3 +10,4 @@ pub mod WholeLemmas
 pub mod OneLemmas
 pub mod PartsReadLemmas
 pub mod UniqueLemmas
+pub mod FrontLemmas
