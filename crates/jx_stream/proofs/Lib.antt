@@ -11,3 +11,4 @@ pub mod OneLemmas
 pub mod PartsReadLemmas
 pub mod UniqueLemmas
 pub mod FrontLemmas
+pub mod ViolatedLemmas
