@@ -185,7 +185,6 @@ sot_spelled comps b at are goes clear =
 
 module _ (b : List ℕ) (siz : Siz) (main : List Segment) (parts : List TilePart) (f : StreamFault) (are : AreBytes b) (up : UpTo b siz main parts)
     (start : start_fault (length siz.comps) b (length (front_bytes siz main parts)) ≡ None) where
-
   there : SotSpelled (length siz.comps) b (length (front_bytes siz main parts))
   there = sot_spelled (length siz.comps) b (length (front_bytes siz main parts)) are up.goes start
 
