@@ -1,5 +1,5 @@
 -- A front that is spelled is walked over, and what is violated where it ends is what is violated first.
-use Rattle.std.proofs.Common.{◌≡◌, ◌≢◌, ◌∙◌, ◌<◌, ◌+◌, ◌==◌, ◌||◌, ℕ, Bool, true, false, not, arith, List, [], ◌∷◌, ◌++◌, length, drop, refl, sym, ap, subst, Option, Some, None, cond, ◌⊎◌, inl, inr, add-zero}
+use Rattle.std.proofs.Common.{◌≡◌, ◌∙◌, ◌<◌, ◌+◌, ◌||◌, ℕ, Bool, true, false, not, arith, List, [], ◌∷◌, ◌++◌, length, drop, refl, sym, ap, subst, Option, Some, None, inl, inr, add-zero}
 use Rattle.std.specs.List.{flat_map}
 use Rattle.std.specs.Option.{option_or}
 use Rattle.std.proofs.lemmas.List.{append-nil, append_assoc, length-append}
@@ -16,21 +16,20 @@ use Rattle.jx_stream.specs.declared.headers.HeaderKind.TheVariants.{Main}
 use Rattle.jx_stream.specs.declared.headers.Header.{Header}
 use Rattle.jx_stream.specs.declared.parts.Part.{Part}
 use Rattle.jx_stream.specs.declared.Stream.{Stream}
-use Rattle.jx_stream.specs.declared.Tile.{Tile}
 use Rattle.jx_stream.specs.Faults.{broken, rule_at}
-use Rattle.jx_stream.specs.Headers.{segment_fault, longest, header_at, header_fault}
-use Rattle.jx_stream.specs.Parts.{marker_at, sot_in, after_sot, kind_of, comes_out_of_turn, start_fault, sot_fault, sod_fault, part_header, part_at, part_fault, fault_after, end_of_part, longest_parts, parts_from, parts_fault}
+use Rattle.jx_stream.specs.Headers.{segment_fault, header_at, header_fault}
+use Rattle.jx_stream.specs.Parts.{marker_at, sot_in, after_sot, kind_of, comes_out_of_turn, start_fault, sot_fault, sod_fault, part_header, part_at, part_fault, fault_after, end_of_part, longest_parts, parts_fault}
 use Rattle.jx_stream.specs.Tiles.{tiles_of}
 use Rattle.jx_stream.specs.Params.{entries_fault, planes_fault}
 use Rattle.jx_stream.specs.First.{tile_number, siz_of, after_siz, front_fault, tiles_fault, lacks_default, main_header, main_fault, parts_after, lacks_part, body_fault, stream_from, parameters_fault, later_fault, first_fault}
 use Rattle.jx_stream.specs.Spells.{TilePart, all_bytes, head_bytes, part_bytes, part_of, placed, AreSegments, AreTileParts, first_sot, Spells}
-use Rattle.jx_stream.specs.FirstViolated.{Begins, main_bytes, front_bytes, sot_bytes, header_bytes, IsMain, AreNamed, AreParts, sot_first, IsHeader, IsWhole, IsInSiz, IsInMain, IsAtFirstSot, IsAtPart, IsAtSot, IsInHeader, IsAtSod, IsAtEoc, IsShort, IsOver, IsFirst, IsWithin}
+use Rattle.jx_stream.specs.FirstViolated.{main_bytes, front_bytes, sot_bytes, header_bytes, AreNamed, AreParts, IsHeader, IsWhole, IsInSiz, IsInMain, IsAtFirstSot, IsAtPart, IsAtSot, IsInHeader, IsAtSod, IsAtEoc, IsShort, IsOver, IsFirst, IsWithin}
 use Rattle.jx_stream.proofs.FaultLemmas.{none_of_both, broken_false}
 use Rattle.jx_stream.proofs.HeaderLemmas.{is_or_not_true, stops_at_fault, stopped_fault}
-use Rattle.jx_stream.proofs.PartLemmas.{or_is_true, sot_stands, start_clear, parts_on, go_on, stop_at_fault, fault_at_end}
+use Rattle.jx_stream.proofs.PartLemmas.{or_is_true, parts_on, go_on, stop_at_fault, fault_at_end}
 use Rattle.jx_stream.proofs.SpellLemmas.{regroup, marker_there}
 use Rattle.jx_stream.proofs.OneLemmas.{stands_there, drop_on, header_walked, header_read, header_clear}
-use Rattle.jx_stream.proofs.PartsReadLemmas.{marker_is, marker_is_not, sod_stands, sot_size, SotRead, sot_read, ends_named, part_read}
+use Rattle.jx_stream.proofs.PartsReadLemmas.{sod_stands, sot_size, SotRead, sot_read, ends_named, part_read}
 use Rattle.jx_stream.proofs.UniqueLemmas.{front_read, first_is, BodyOver, body_over, body_read, stream_made, is_read, clear_limits}
 
 pub some_first : (x later : Option StreamFault) (f : StreamFault) → x ≡ Some f → option_or x later ≡ Some f

@@ -12,24 +12,22 @@ use Rattle.jx_marker.specs.Ranges.{AreBytes, SizInRange, SotInRange}
 use Rattle.jx_marker.specs.Laws.{BeginsWith}
 use Rattle.jx_stream.specs.declared.faults.StreamFault.{StreamFault}
 use Rattle.jx_stream.specs.declared.faults.StreamFault.TheVariants as fault
-use Rattle.jx_stream.specs.declared.headers.HeaderKind.{HeaderKind}
 use Rattle.jx_stream.specs.declared.headers.HeaderKind.TheVariants.{Main}
-use Rattle.jx_stream.specs.declared.headers.Header.{Header}
 use Rattle.jx_stream.specs.declared.parts.Part.{Part}
 use Rattle.jx_stream.specs.declared.Stream.{Stream}
 use Rattle.jx_stream.specs.Faults.{broken, IsCause, Answers}
-use Rattle.jx_stream.specs.Headers.{stands_in, stands_in_main, ends_header, segment_fault, header_at, header_fault}
-use Rattle.jx_stream.specs.Parts.{marker_at, sot_in, after_sot, kind_of, comes_out_of_turn, start_fault, sot_fault, sod_fault, part_header, part_at, part_fault, fault_after, end_of_part, parts_stop, Parts, longest_parts, parts_from, parts_fault}
+use Rattle.jx_stream.specs.Headers.{stands_in_main, ends_header, segment_fault, header_fault}
+use Rattle.jx_stream.specs.Parts.{marker_at, sot_in, after_sot, kind_of, comes_out_of_turn, start_fault, sot_fault, sod_fault, part_header, part_at, part_fault, fault_after, end_of_part, parts_stop, Parts, longest_parts, parts_fault}
 use Rattle.jx_stream.specs.Tiles.{tiles_of}
 use Rattle.jx_stream.specs.Params.{entries_fault, planes_fault}
-use Rattle.jx_stream.specs.First.{tile_number, siz_of, after_siz, front_fault, tiles_fault, lacks_default, main_header, main_fault, parts_after, lacks_part, body_fault, stream_from, stream_in, parameters_fault, later_fault, first_fault}
-use Rattle.jx_stream.specs.Spells.{TilePart, all_bytes, part_bytes, part_of, placed, AreSegments, IsTilePart, first_sot, Spells}
-use Rattle.jx_stream.specs.FirstViolated.{Begins, main_bytes, front_bytes, sot_bytes, header_bytes, IsMain, AreNamed, AreParts, sot_first, IsHeader, IsWhole, IsInSiz, IsInMain, IsAtFirstSot, IsAtPart, IsAtSot, IsInHeader, IsAtSod, IsAtEoc, IsShort, IsOver, IsFirst, IsWithin}
-use Rattle.jx_stream.proofs.FaultLemmas.{none_first, none_later, broken_none}
+use Rattle.jx_stream.specs.First.{tile_number, siz_of, after_siz, front_fault, tiles_fault, lacks_default, main_header, main_fault, parts_after, lacks_part, body_fault, stream_in, parameters_fault, later_fault, first_fault}
+use Rattle.jx_stream.specs.Spells.{TilePart, all_bytes, part_bytes, part_of, placed, IsTilePart, first_sot, Spells}
+use Rattle.jx_stream.specs.FirstViolated.{main_bytes, front_bytes, header_bytes, IsMain, AreNamed, AreParts, sot_first, IsHeader, IsInSiz, IsInMain, IsAtFirstSot, IsAtPart, IsAtSot, IsInHeader, IsAtSod, IsAtEoc, IsShort, IsOver, IsFirst, IsWithin}
+use Rattle.jx_stream.proofs.FaultLemmas.{none_first, none_later}
 use Rattle.jx_stream.proofs.HeaderLemmas.{is_or_not_true}
 use Rattle.jx_stream.proofs.PartLemmas.{sot_stands, parts_stopped, parts_going, stop_at_eoc, goes_clear}
-use Rattle.jx_stream.proofs.SpellLemmas.{IsClear, is_clear, begins_at, takes, header_spelled, header_ends, start_rules, sod_ends, part_written, goes_on_at}
-use Rattle.jx_stream.proofs.WholeLemmas.{FrontClear, front_is_clear, body_is_clear, FileClear, front_spelled, MainSpelled, main_spelled, WholeSpelled, up_to_eoc, stream_shape, clear_spelled, whole_spelled}
+use Rattle.jx_stream.proofs.SpellLemmas.{is_clear, begins_at, takes, header_spelled, header_ends, start_rules, sod_ends, part_written, goes_on_at}
+use Rattle.jx_stream.proofs.WholeLemmas.{FrontClear, front_is_clear, body_is_clear, front_spelled, MainSpelled, main_spelled, WholeSpelled, up_to_eoc, stream_shape, clear_spelled, whole_spelled}
 use Rattle.jx_stream.proofs.PartsReadLemmas.{sot_read, sot_size}
 use Rattle.jx_stream.proofs.UniqueLemmas.{is_read}
 use Rattle.jx_stream.proofs.FrontLemmas.{main_size, front_size, header_size, main_rest, front_rest, sot_rest, header_rest, told_is_first}

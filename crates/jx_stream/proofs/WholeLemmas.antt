@@ -20,7 +20,7 @@ use Rattle.jx_stream.specs.Parts.{marker_at, Parts, parts_fault}
 use Rattle.jx_stream.specs.Tiles.{tiles_of}
 use Rattle.jx_stream.specs.Params.{tile_has_too_few, rule_9_of, entries_fault, planes_fault}
 use Rattle.jx_stream.specs.First.{tile_number, siz_of, after_siz, front_fault, tiles_fault, lacks_default, main_header, main_fault, parts_after, lacks_part, body_fault, stream_from, stream_in, parameters_fault, later_fault, first_fault}
-use Rattle.jx_stream.specs.Spells.{TilePart, all_bytes, part_bytes, file_bytes, placed, AreSegments, AreTileParts, first_sot, Spells}
+use Rattle.jx_stream.specs.Spells.{TilePart, all_bytes, part_bytes, placed, AreSegments, AreTileParts, first_sot, Spells}
 use Rattle.jx_stream.specs.FirstViolated.{IsWhole}
 use Rattle.jx_stream.proofs.FaultLemmas.{none_first, none_later, broken_none, rule_none}
 use Rattle.jx_stream.proofs.FirstLemmas.{siz_stands}
