@@ -150,7 +150,7 @@ module _ (kind : HeaderKind) (comps : ℕ) (b : List ℕ) (start : ℕ) (before 
   stopped : stops kind comps b before at ≡ true → header_at kind comps b start ≡ record { segments = before; end = at }
   stopped h = sym same ∙ longest_stops kind comps b (length b) before at h
 
-  stopped_fault : stops kind comps b before at ≡ true → header_fault kind comps b start ≡ segment_fault kind comps b before at
+  pub stopped_fault : stops kind comps b before at ≡ true → header_fault kind comps b start ≡ segment_fault kind comps b before at
   stopped_fault h = ap (λ (header : Header). segment_fault kind comps b header.segments header.end) (stopped h)
 
   pub read_early : (e : StreamFault) → IsCause e (early_fault kind comps b at) → IsCause e (header_fault kind comps b start)

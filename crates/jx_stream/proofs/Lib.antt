@@ -10,3 +10,5 @@ pub mod WholeLemmas
 pub mod OneLemmas
 pub mod PartsReadLemmas
 pub mod UniqueLemmas
+pub mod FrontLemmas
+pub mod ViolatedLemmas

@@ -31,31 +31,36 @@ inside_of kind comps b before at goes =
       | inr past ↦ let wrong : true ≡ false = sym (stops_past kind comps b before at past) ∙ goes in absurd (cc)
     ]
 
-header_same : (one other : List Segment) (end place : ℕ) → one ≡ other → end ≡ place → ◌≡◌ {A = Header} (record { segments = one; end = end }) (record { segments = other; end = place })
-header_same one other end place same ends = rw (same, ends) refl
-
--- a header that is spelled is walked over
-pub header_read : (kind : HeaderKind) (comps : ℕ) (b : List ℕ) (ss before : List Segment) (at : ℕ) (end : Segment) (tail : List ℕ) → AreSegments kind comps before ss → InRange comps end
-    → ends_header end ≡ true → stands_in kind end ≡ true → drop at b ≡ all_bytes comps ss ++ (spelling comps end ++ tail)
-    → longest kind comps b (length b) before at ≡ record { segments = before ++ ss; end = at + length (all_bytes comps ss) }
-header_read kind comps b [] before at end tail are range ends stands h =
-    let there = stands_there comps b at end tail range h in
-    let last : ends_header (segment_at comps (drop at b)) ≡ true = ap ends_header there.value ∙ ends in
-    let clear = fault_none kind comps b before at (early_clear kind comps b at there.rules (ap (stands_in kind) there.value ∙ stands)) (ends_once before (segment_at comps (drop at b)) last) in
-    longest_stops kind comps b (length b) before at (stops_at_end kind comps b before at clear last) ∙ header_same before (before ++ []) at (at + 0) (sym (append-nil before)) (sym (add-zero at))
-header_read kind comps b (s ∷ ss) before at end tail are range ends stands h =
-    let rest = all_bytes comps ss ++ (spelling comps end ++ tail) in
-    let front : drop at b ≡ spelling comps s ++ rest = h ∙ append_assoc (spelling comps s) (all_bytes comps ss) (spelling comps end ++ tail) in
+-- segments that are spelled are walked over
+pub header_walked : (kind : HeaderKind) (comps : ℕ) (b : List ℕ) (ss before : List Segment) (at : ℕ) (tail : List ℕ) → AreSegments kind comps before ss → drop at b ≡ all_bytes comps ss ++ tail
+    → longest kind comps b (length b) before at ≡ longest kind comps b (length b) (before ++ ss) (at + length (all_bytes comps ss))
+header_walked kind comps b [] before at tail are h =
+    ap (λ (x : List Segment). longest kind comps b (length b) x at) (sym (append-nil before)) ∙ ap (λ (n : ℕ). longest kind comps b (length b) (before ++ []) n) (sym (add-zero at))
+header_walked kind comps b (s ∷ ss) before at tail are h =
+    let rest = all_bytes comps ss ++ tail in
+    let front : drop at b ≡ spelling comps s ++ rest = h ∙ append_assoc (spelling comps s) (all_bytes comps ss) tail in
     let there = stands_there comps b at s rest are.0.range front in
     let clear = fault_none kind comps b before at (early_clear kind comps b at there.rules (ap (stands_in kind) there.value ∙ are.0.stands)) (ap (is_second before) there.value ∙ are.0.once) in
     let goes = goes_on kind comps b before at clear (ap ends_header there.value ∙ are.0.inside) in
     let later : drop (at + length (spelling comps s)) b ≡ rest = drop_on b at (length (spelling comps s)) (spelling comps s) rest front refl in
+    let end : at + length (spelling comps s) + length (all_bytes comps ss) ≡ at + length (all_bytes comps (s ∷ ss)) = omega (arith, length-append (spelling comps s) (all_bytes comps ss)) in
     longest_on kind comps b before at (inside_of kind comps b before at goes) goes
     ∙ ap (λ (x : Segment). longest kind comps b (length b) (before ++ x ∷ []) (at + size_at (drop at b))) there.value
     ∙ ap (λ (n : ℕ). longest kind comps b (length b) (before ++ s ∷ []) (at + n)) there.takes
-    ∙ header_read kind comps b ss (before ++ s ∷ []) (at + length (spelling comps s)) end tail are.1 range ends stands later
-    ∙ header_same ((before ++ s ∷ []) ++ ss) (before ++ s ∷ ss) (at + length (spelling comps s) + length (all_bytes comps ss)) (at + length (all_bytes comps (s ∷ ss))) (append_assoc before (s ∷ []) ss)
-    (omega (arith, length-append (spelling comps s) (all_bytes comps ss)))
+    ∙ header_walked kind comps b ss (before ++ s ∷ []) (at + length (spelling comps s)) tail are.1 later
+    ∙ ap (λ (x : List Segment). longest kind comps b (length b) x (at + length (spelling comps s) + length (all_bytes comps ss))) (append_assoc before (s ∷ []) ss)
+    ∙ ap (λ (n : ℕ). longest kind comps b (length b) (before ++ s ∷ ss) n) end
+
+-- a header that is spelled is read up to its end
+pub header_read : (kind : HeaderKind) (comps : ℕ) (b : List ℕ) (ss before : List Segment) (at : ℕ) (end : Segment) (tail : List ℕ) → AreSegments kind comps before ss → InRange comps end
+    → ends_header end ≡ true → stands_in kind end ≡ true → drop at b ≡ all_bytes comps ss ++ (spelling comps end ++ tail)
+    → longest kind comps b (length b) before at ≡ record { segments = before ++ ss; end = at + length (all_bytes comps ss) }
+header_read kind comps b ss before at end tail are range ends stands h =
+    let place = at + length (all_bytes comps ss) in
+    let there = stands_there comps b place end tail range (drop_on b at (length (all_bytes comps ss)) (all_bytes comps ss) (spelling comps end ++ tail) h refl) in
+    let last : ends_header (segment_at comps (drop place b)) ≡ true = ap ends_header there.value ∙ ends in
+    let clear = fault_none kind comps b (before ++ ss) place (early_clear kind comps b place there.rules (ap (stands_in kind) there.value ∙ stands)) (ends_once (before ++ ss) (segment_at comps (drop place b)) last) in
+    header_walked kind comps b ss before at (spelling comps end ++ tail) are h ∙ longest_stops kind comps b (length b) (before ++ ss) place (stops_at_end kind comps b (before ++ ss) place clear last)
 
 -- and nothing is violated where it ends
 pub header_clear : (kind : HeaderKind) (comps : ℕ) (b : List ℕ) (ss : List Segment) (at : ℕ) (end : Segment) (tail : List ℕ) → AreSegments kind comps [] ss → InRange comps end

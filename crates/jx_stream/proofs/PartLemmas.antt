@@ -42,7 +42,7 @@ or_none false y h = h
 below : (a b : ℕ) → nat_le a b ≡ false → b < a
 below a b h = grind (arith, nat_tests)
 
-or_is_true : (x : Bool) → (x || true) ≡ true
+pub or_is_true : (x : Bool) → (x || true) ≡ true
 or_is_true true = refl
 or_is_true false = refl
 
@@ -189,7 +189,7 @@ pub stop_at_eoc : (comps tiles : ℕ) (b : List ℕ) (parts : List Part) (at : �
 unfolding parts_stop
 stop_at_eoc comps tiles b parts at h = rw h refl
 
-stop_at_fault : (comps tiles : ℕ) (b : List ℕ) (parts : List Part) (at : ℕ) (e : StreamFault) → fault_after comps tiles b parts at ≡ Some e → parts_stop comps tiles b parts at ≡ true
+pub stop_at_fault : (comps tiles : ℕ) (b : List ℕ) (parts : List Part) (at : ℕ) (e : StreamFault) → fault_after comps tiles b parts at ≡ Some e → parts_stop comps tiles b parts at ≡ true
 unfolding parts_stop
 stop_at_fault comps tiles b parts at e h = rw h (or_is_true (marker_at b at 217))
 
@@ -258,7 +258,7 @@ module _ (comps tiles : ℕ) (b : List ℕ) (start : ℕ) (parts : List Part) (a
   ended : parts_stop comps tiles b parts at ≡ true → parts_from comps tiles b start ≡ record { parts = parts; end = at }
   ended h = sym same ∙ parts_stopped comps tiles b (length b) parts at h
 
-  fault_at_end : parts_stop comps tiles b parts at ≡ true → parts_fault comps tiles b start ≡ cond (marker_at b at 217) None (fault_after comps tiles b parts at)
+  pub fault_at_end : parts_stop comps tiles b parts at ≡ true → parts_fault comps tiles b start ≡ cond (marker_at b at 217) None (fault_after comps tiles b parts at)
   fault_at_end h = ap (λ (x : Parts). cond (marker_at b x.end 217) None (fault_after comps tiles b x.parts x.end)) (ended h)
 
   pub parts_end : marker_at b at 217 ≡ true

@@ -6,6 +6,7 @@ use Rattle.std.proofs.lemmas.List.{append-nil, append_assoc, length-append, leng
 use Rattle.jx_marker.specs.declared.Segment.TheVariants as segment
 use Rattle.jx_marker.specs.declared.Sot.{Sot}
 use Rattle.jx_marker.specs.Segments.{spelling}
+use Rattle.jx_marker.specs.Ranges.{SotInRange}
 use Rattle.jx_stream.specs.declared.headers.Header.{Header}
 use Rattle.jx_stream.specs.declared.parts.Part.{Part}
 use Rattle.jx_stream.specs.Headers.{stands_in, header_at, header_fault}
@@ -46,19 +47,44 @@ marker_is_not b at code other rest h differs =
     let no_such : (get_or b (at + 1) 0 == other) ≡ false = equal_no (get_or b (at + 1) 0) other (λ e. differs (sym second ∙ e)) in
     ap (λ (x : Bool). (get_or b at 0 == 255) && x) no_such ∙ and_false (get_or b at 0 == 255)
 
-sod_stands : (sot : Sot) → stands_in (kind_of sot) segment.Sod ≡ true
+pub sod_stands : (sot : Sot) → stands_in (kind_of sot) segment.Sod ≡ true
 sod_stands sot =
     elim (is_or_not_true (sot.part == 0)) [
       | inl t ↦ rw t refl
       | inr f ↦ rw f refl
     ]
 
-sot_size : (comps : ℕ) (sot : Sot) → length (spelling comps (segment.Sot sot)) ≡ 12
+pub sot_size : (comps : ℕ) (sot : Sot) → length (spelling comps (segment.Sot sot)) ≡ 12
 sot_size comps sot = refl
+
+-- a SOT that is spelled
+pub record SotRead (comps : ℕ) (b : List ℕ) (at : ℕ) (sot : Sot) (tail : List ℕ) : Type 0 where
+  pub goes : marker_at b at 217 ≡ false
+  pub clear : start_fault comps b at ≡ None
+  pub value : sot_in b at ≡ sot
+  pub after : after_sot b at ≡ at + 12
+  pub there : drop (at + 12) b ≡ tail
+
+pub sot_read : (comps : ℕ) (b : List ℕ) (at : ℕ) (sot : Sot) (tail : List ℕ) → SotInRange sot → drop at b ≡ spelling comps (segment.Sot sot) ++ tail → SotRead comps b at sot tail
+sot_read comps b at sot tail range h =
+    let there = stands_there comps b at (segment.Sot sot) tail range h in
+    let here : marker_at b at 144 ≡ true = marker_is b at 144 (drop 2 (spelling comps (segment.Sot sot) ++ tail)) h in
+    let same : segment.Sot (sot_in b at) ≡ segment.Sot sot = sym (sot_stands comps b at here) ∙ there.value in
+    record {
+      goes = marker_is_not b at 144 217 (drop 2 (spelling comps (segment.Sot sot) ++ tail)) h (λ e. absurd (omega arith));
+      clear = start_clear comps b at here there.rules;
+      value = cc;
+      after = ap (λ (n : ℕ). at + n) (there.takes ∙ sot_size comps sot);
+      there = drop_on b at 12 (spelling comps (segment.Sot sot)) tail h (sot_size comps sot);
+    }
 
 -- where Psot is the tile-part's length, or it is 0 and only EOC follows
 pub Ends : ℕ → TilePart → List ℕ → Type 0
 Ends comps p tail = (p.sot.psot ≡ length (part_bytes comps p)) ⊎ ((p.sot.psot ≡ 0) × (tail ≡ 255 ∷ 217 ∷ []))
+
+pub ends_named : (comps : ℕ) (p : TilePart) (tail : List ℕ) → p.sot.psot ≡ length (part_bytes comps p) → Ends comps p tail
+unfolding Ends
+ends_named comps p tail named = inl named
 
 pub record PartRead (comps tiles : ℕ) (b : List ℕ) (before : List Part) (at : ℕ) (p : TilePart) : Type 0 where
   pub goes : marker_at b at 217 ≡ false
@@ -90,40 +116,19 @@ module _ (comps tiles : ℕ) (b : List ℕ) (before : List Part) (at : ℕ) (p :
       let left : length b - at ≡ length (part_bytes comps p) + length tail = sym (length-drop at b) ∙ ap (λ (x : List ℕ). length x) h ∙ length-append (part_bytes comps p) tail in
       omega (arith, left, whole, after)
 
-  there_144 : marker_at b at 144 ≡ true
-  there_144 = marker_is b at 144 (drop 2 (spelling comps (segment.Sot p.sot) ++ (all_bytes comps p.header ++ (spelling comps segment.Sod ++ (p.body ++ tail))))) front
-
-  not_217 : marker_at b at 217 ≡ false
-  not_217 = marker_is_not b at 144 217 (drop 2 (spelling comps (segment.Sot p.sot) ++ (all_bytes comps p.header ++ (spelling comps segment.Sod ++ (p.body ++ tail))))) front (λ e. absurd (omega arith))
-
-  sot_is : sot_in b at ≡ p.sot
-  sot_is =
-      let there = stands_there comps b at (segment.Sot p.sot) (all_bytes comps p.header ++ (spelling comps segment.Sod ++ (p.body ++ tail))) is.range front in
-      let e : segment.Sot (sot_in b at) ≡ segment.Sot p.sot = sym (sot_stands comps b at there_144) ∙ there.value in cc
-
-  start_none : start_fault comps b at ≡ None
-  start_none =
-      let there = stands_there comps b at (segment.Sot p.sot) (all_bytes comps p.header ++ (spelling comps segment.Sod ++ (p.body ++ tail))) is.range front in
-      start_clear comps b at there_144 there.rules
-
-  after_is : after_sot b at ≡ at + 12
-  after_is =
-      let there = stands_there comps b at (segment.Sot p.sot) (all_bytes comps p.header ++ (spelling comps segment.Sod ++ (p.body ++ tail))) is.range front in
-      ap (λ (n : ℕ). at + n) (there.takes ∙ sot_size comps p.sot)
-
-  second : drop (at + 12) b ≡ all_bytes comps p.header ++ (spelling comps segment.Sod ++ (p.body ++ tail))
-  second = drop_on b at 12 (spelling comps (segment.Sot p.sot)) (all_bytes comps p.header ++ (spelling comps segment.Sod ++ (p.body ++ tail))) front (sot_size comps p.sot)
+  sot_there : SotRead comps b at p.sot (all_bytes comps p.header ++ (spelling comps segment.Sod ++ (p.body ++ tail)))
+  sot_there = sot_read comps b at p.sot (all_bytes comps p.header ++ (spelling comps segment.Sod ++ (p.body ++ tail))) is.range front
 
   header_is : part_header comps b at ≡ record { segments = p.header; end = sod }
   unfolding sod
   header_is =
-      ap (λ (s : Sot). header_at (kind_of s) comps b (after_sot b at)) sot_is ∙ ap (λ (n : ℕ). header_at (kind_of p.sot) comps b n) after_is
-      ∙ header_read (kind_of p.sot) comps b p.header [] (at + 12) segment.Sod (p.body ++ tail) is.header tt refl (sod_stands p.sot) second
+      ap (λ (s : Sot). header_at (kind_of s) comps b (after_sot b at)) sot_there.value ∙ ap (λ (n : ℕ). header_at (kind_of p.sot) comps b n) sot_there.after
+      ∙ header_read (kind_of p.sot) comps b p.header [] (at + 12) segment.Sod (p.body ++ tail) is.header tt refl (sod_stands p.sot) sot_there.there
 
   header_none : header_fault (kind_of (sot_in b at)) comps b (after_sot b at) ≡ None
   header_none =
-      ap (λ (s : Sot). header_fault (kind_of s) comps b (after_sot b at)) sot_is ∙ ap (λ (n : ℕ). header_fault (kind_of p.sot) comps b n) after_is
-      ∙ header_clear (kind_of p.sot) comps b p.header (at + 12) segment.Sod (p.body ++ tail) is.header tt refl (sod_stands p.sot) second
+      ap (λ (s : Sot). header_fault (kind_of s) comps b (after_sot b at)) sot_there.value ∙ ap (λ (n : ℕ). header_fault (kind_of p.sot) comps b n) sot_there.after
+      ∙ header_clear (kind_of p.sot) comps b p.header (at + 12) segment.Sod (p.body ++ tail) is.header tt refl (sod_stands p.sot) sot_there.there
 
   fits : at + p.sot.psot ≤ length b
   unfolding Ends
@@ -174,9 +179,9 @@ module _ (comps tiles : ℕ) (b : List ℕ) (before : List Part) (at : ℕ) (p :
       let Q : Sot → Type 0 = λ s. sod_fault b at s (part_header comps b at).end ≡ None in
       let last : sod_fault b at p.sot (part_header comps b at).end ≡ None = ap (λ (x : Header). sod_fault b at p.sot x.end) header_is ∙ sod_none in
       record {
-        goes = not_217;
-        clear = part_none comps tiles b (comes_out_of_turn before (sot_in b at)) at start_none (subst P (sym sot_is) sot_none) header_none (subst Q (sym sot_is) last);
-        value = sym (part_is comps b at p.sot (record { segments = p.header; end = sod }) (at + length (part_bytes comps p)) (sym sot_is) (sym header_is) (sym end_is))
+        goes = sot_there.goes;
+        clear = part_none comps tiles b (comes_out_of_turn before (sot_in b at)) at sot_there.clear (subst P (sym sot_there.value) sot_none) header_none (subst Q (sym sot_there.value) last);
+        value = sym (part_is comps b at p.sot (record { segments = p.header; end = sod }) (at + length (part_bytes comps p)) (sym sot_there.value) (sym header_is) (sym end_is))
             ∙ same_part at p.sot p.header p.header (sod + 2) (at + length (head_bytes comps p)) (at + length (part_bytes comps p) - (sod + 2)) (length p.body) refl (sym head) (omega (arith, whole));
         inside = omega (arith, total, whole, after);
       }
@@ -187,7 +192,7 @@ parts_same one other end place same ends = rw (same, ends) refl
 ends_of : (comps : ℕ) (p : TilePart) (ps : List TilePart) (rest : List ℕ) → HasLength comps p ps rest → Ends comps p (flat_map (part_bytes comps) ps ++ (255 ∷ 217 ∷ rest))
 unfolding Ends
 ends_of comps p ps rest has = elim has [
-  | inl named ↦ inl named
+  | inl named ↦ ends_named comps p (flat_map (part_bytes comps) ps ++ (255 ∷ 217 ∷ rest)) named
   | inr last ↦ inr (last.0, ap (λ (x : List TilePart). flat_map (part_bytes comps) x ++ (255 ∷ 217 ∷ rest)) last.1 ∙ ap (λ (x : List ℕ). 255 ∷ 217 ∷ x) last.2)
 ]
 

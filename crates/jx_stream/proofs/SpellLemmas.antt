@@ -41,12 +41,12 @@ not_false false h = absurd (cc)
 
 -- a place of a header at which nothing is violated
 
-record IsClear (kind : HeaderKind) (comps : ℕ) (b : List ℕ) (before : List Segment) (at : ℕ) : Type 0 where
+pub record IsClear (kind : HeaderKind) (comps : ℕ) (b : List ℕ) (before : List Segment) (at : ℕ) : Type 0 where
   pub rules : first_broken comps (drop at b) ≡ None
   pub stands : stands_in kind (segment_at comps (drop at b)) ≡ true
   pub once : is_second before (segment_at comps (drop at b)) ≡ false
 
-is_clear : (kind : HeaderKind) (comps : ℕ) (b : List ℕ) (before : List Segment) (at : ℕ) → segment_fault kind comps b before at ≡ None → IsClear kind comps b before at
+pub is_clear : (kind : HeaderKind) (comps : ℕ) (b : List ℕ) (before : List Segment) (at : ℕ) → segment_fault kind comps b before at ≡ None → IsClear kind comps b before at
 unfolding segment_fault early_fault
 is_clear kind comps b before at h =
     let s = segment_at comps (drop at b) in
@@ -169,8 +169,8 @@ sod_later (segment.Sot sot) ends stands = absurd (cc)
 sod_later segment.Sod ends stands = refl
 sod_later _ ends stands = absurd (cc)
 
-sod_stands : (sot : Sot) (s : Segment) → ends_header s ≡ true → stands_in (kind_of sot) s ≡ true → s ≡ segment.Sod
-sod_stands sot s ends =
+pub sod_ends : (sot : Sot) (s : Segment) → ends_header s ≡ true → stands_in (kind_of sot) s ≡ true → s ≡ segment.Sod
+sod_ends sot s ends =
     elim (is_or_not_true (sot.part == 0)) [
       | inl t ↦ rw t (sod_first s ends)
       | inr f ↦ rw f (sod_later s ends)
@@ -229,7 +229,7 @@ either_first : (x y : Bool) → y ≡ false → (x || y) ≡ true → x ≡ true
 either_first true y f h = refl
 either_first false y f h = absurd (cc)
 
-start_rules : (comps : ℕ) (b : List ℕ) (at : ℕ) → start_fault comps b at ≡ None → marker_at b at 217 ≡ false → (marker_at b at 144 ≡ true) × (first_broken comps (drop at b) ≡ None)
+pub start_rules : (comps : ℕ) (b : List ℕ) (at : ℕ) → start_fault comps b at ≡ None → marker_at b at 217 ≡ false → (marker_at b at 144 ≡ true) × (first_broken comps (drop at b) ≡ None)
 unfolding start_fault
 start_rules comps b at h goes =
     let here = not_false (marker_at b at 144 || marker_at b at 217) (broken_none 23 at (not (marker_at b at 144 || marker_at b at 217)) (none_first (broken 23 at (not (marker_at b at 144 || marker_at b at 217))) (rule_at at (first_broken comps (drop at b))) h)) in (
@@ -263,12 +263,21 @@ pub record PartWritten (comps tiles : ℕ) (b : List ℕ) (before : List Part) (
   pub is : IsTilePart comps tiles before written
   pub length : (written.sot.psot ≡ length (part_bytes comps written)) ⊎ ((written.sot.psot ≡ 0) × (end_of_part part ≡ length b - 2) × (marker_at b (length b - 2) 217 ≡ true))
 
-pub header_spelled : (kind : HeaderKind) (comps : ℕ) (b : List ℕ) (at : ℕ) → AreBytes b
-    → (drop at b ≡ all_bytes comps (header_at kind comps b at).segments ++ drop (header_at kind comps b at).end b) × AreSegments kind comps [] (header_at kind comps b at).segments
+-- a header as it was walked over
+pub record HeaderSpelled (kind : HeaderKind) (comps : ℕ) (b : List ℕ) (at : ℕ) : Type 0 where
+  pub spelled : drop at b ≡ all_bytes comps (header_at kind comps b at).segments ++ drop (header_at kind comps b at).end b
+  pub are : AreSegments kind comps [] (header_at kind comps b at).segments
+  pub size : (header_at kind comps b at).end ≡ at + length (all_bytes comps (header_at kind comps b at).segments)
+
+pub header_spelled : (kind : HeaderKind) (comps : ℕ) (b : List ℕ) (at : ℕ) → AreBytes b → HeaderSpelled kind comps b at
 header_spelled kind comps b at are =
     let w = walked kind comps b (length b) [] at are in
-    let P : List Segment → Type 0 = λ x. (drop at b ≡ all_bytes comps x ++ drop (header_at kind comps b at).end b) × AreSegments kind comps [] x in
-    subst P (sym w.all) (w.spelled, w.are)
+    let P : List Segment → Type 0 = λ x. AreSegments kind comps [] x in
+    record {
+      spelled = w.spelled ∙ ap (λ (x : List Segment). all_bytes comps x ++ drop (header_at kind comps b at).end b) (sym w.all);
+      are = subst P (sym w.all) w.are;
+      size = w.size ∙ ap (λ (x : List Segment). at + length (all_bytes comps x)) (sym w.all);
+    }
 
 -- one tile-part
 
@@ -374,7 +383,7 @@ part_written comps tiles b before at are goes none =
     let size = takes comps (drop at b) (drop (size_at (drop at b)) (drop at b)) (segment.Sot sot) begins in
     let w = walked (kind_of sot) comps b (length b) [] (after_sot b at) are in
     let last = is_clear (kind_of sot) comps b header.segments header.end clear.header in
-    let sod : segment_at comps (drop header.end b) ≡ segment.Sod = sod_stands sot (segment_at comps (drop header.end b)) (header_ends (kind_of sot) comps b (after_sot b at) clear.header) last.stands in
+    let sod : segment_at comps (drop header.end b) ≡ segment.Sod = sod_ends sot (segment_at comps (drop header.end b)) (header_ends (kind_of sot) comps b (after_sot b at) clear.header) last.stands in
     let Q : Segment → Type 0 = λ s. BeginsWith comps (drop header.end b) s (drop (size_at (drop header.end b)) (drop header.end b)) in
     let begins_sod = subst Q sod (begins_at comps b header.end are last.rules) in
     let size_sod : size_at (drop header.end b) ≡ 2 = takes comps (drop header.end b) (drop (size_at (drop header.end b)) (drop header.end b)) segment.Sod begins_sod in
@@ -404,9 +413,10 @@ pub record PartsWritten (comps tiles : ℕ) (b : List ℕ) (before : List Part) 
   pub all : res.parts ≡ before ++ placed comps at new
   pub spelled : drop at b ≡ flat_map (part_bytes comps) new ++ drop res.end b
   pub are : (rest : List ℕ) → rest ≡ drop (res.end + 2) b → AreTileParts comps tiles rest before at new
+  pub size : res.end ≡ at + length (flat_map (part_bytes comps) new)
 
 parts_none : (comps tiles : ℕ) (b : List ℕ) (before : List Part) (at : ℕ) → PartsWritten comps tiles b before at (record { parts = before; end = at })
-parts_none comps tiles b before at = record { new = []; all = sym (append-nil before); spelled = refl; are = λ rest same. tt }
+parts_none comps tiles b before at = record { new = []; all = sym (append-nil before); spelled = refl; are = λ rest same. tt; size = omega arith }
 
 -- one that names its length, and others after it
 parts_and : (comps tiles : ℕ) (b : List ℕ) (before : List Part) (at : ℕ) (res : Parts) (p : TilePart) → IsTilePart comps tiles before p → p.sot.psot ≡ length (part_bytes comps p)
@@ -417,6 +427,7 @@ parts_and comps tiles b before at res p is named spelled later = record {
   all = later.all ∙ append_assoc before (part_of comps at p ∷ []) (placed comps (at + length (part_bytes comps p)) later.new);
   spelled = spelled ∙ ap (λ (x : List ℕ). part_bytes comps p ++ x) later.spelled ∙ sym (append_assoc (part_bytes comps p) (flat_map (part_bytes comps) later.new) (drop res.end b));
   are = λ rest same. (is, inl named, later.are rest same);
+  size = later.size ∙ omega (arith, length-append (part_bytes comps p) (flat_map (part_bytes comps) later.new));
 }
 
 -- the last one, up to EOC at the end of the file
@@ -428,6 +439,7 @@ parts_last comps tiles b before at p is none spelled end = record {
   all = refl;
   spelled = spelled ∙ ap (λ (x : List ℕ). x ++ drop (at + length (part_bytes comps p)) b) (sym (append-nil (part_bytes comps p)));
   are = λ rest same. (is, inr (none, refl, same ∙ drop_all (at + length (part_bytes comps p) + 2) b (omega arith)), tt);
+  size = ap (λ (x : List ℕ). at + length x) (sym (append-nil (part_bytes comps p)));
 }
 
 last_same : (before : List Part) (one other : Part) (end place : ℕ) → one ≡ other → end ≡ place
@@ -455,7 +467,7 @@ parts_more_written comps tiles b n before at are goes none later =
           subst R (sym same) (parts_last comps tiles b before at p here.is last.0 spelled (sym here.end ∙ last.1))
     ]
 
-goes_on_at : (comps tiles : ℕ) (b : List ℕ) (parts : List Part) (at : ℕ) → parts_stop comps tiles b parts at ≡ false → marker_at b at 217 ≡ false
+pub goes_on_at : (comps tiles : ℕ) (b : List ℕ) (parts : List Part) (at : ℕ) → parts_stop comps tiles b parts at ≡ false → marker_at b at 217 ≡ false
 unfolding parts_stop
 goes_on_at comps tiles b parts at h = (neither (marker_at b at 217) (is_some (fault_after comps tiles b parts at)) h).0
 

@@ -28,7 +28,7 @@ use Rattle.jx_stream.proofs.SpellLemmas.{regroup}
 use Rattle.jx_stream.proofs.OneLemmas.{stands_there, drop_on, header_read, header_clear}
 use Rattle.jx_stream.proofs.PartsReadLemmas.{marker_is, parts_read}
 use Rattle.jx_stream.proofs.WholeLemmas.{whole_spelled}
-use Rattle.jx_marker.specs.Ranges.{AreBytes}
+use Rattle.jx_marker.specs.Ranges.{AreBytes, SizInRange}
 
 -- the main header, with a tile-part after it
 record MainRead (comps : ℕ) (b : List ℕ) (main : List Segment) (start : ℕ) : Type 0 where
@@ -49,17 +49,18 @@ main_read comps tiles b rest tail main (p ∷ ps) before at start some are segme
       clear = header_clear Main comps b main start (segment.Sot p.sot) later segments are.0.range refl refl front;
     }
 
--- the body, from its bytes
-record BodyRead (comps tiles : ℕ) (b : List ℕ) (main : List Segment) (parts : List TilePart) (start : ℕ) : Type 0 where
-  pub clear : body_fault comps tiles b start ≡ None
+-- the main header and the tile-parts, from their bytes
+pub record BodyOver (comps tiles : ℕ) (b : List ℕ) (main : List Segment) (parts : List TilePart) (start : ℕ) : Type 0 where
+  pub main_clear : main_fault comps b start ≡ None
+  pub parts_clear : parts_fault comps tiles b (main_header comps b start).end ≡ None
   pub segments : (main_header comps b start).segments ≡ main
   pub all : (parts_after comps tiles b start).parts ≡ placed comps (start + length (all_bytes comps main)) parts
+  pub end : (parts_after comps tiles b start).end ≡ start + length (all_bytes comps main) + length (flat_map (part_bytes comps) parts)
 
-body_read : (comps tiles : ℕ) (b rest : List ℕ) (main : List Segment) (parts : List TilePart) (start : ℕ) → 0 < length parts → AreTileParts comps tiles rest [] (start + length (all_bytes comps main)) parts
-    → AreSegments Main comps [] main → lacks_default main ≡ false → lacks_part (placed comps (start + length (all_bytes comps main)) parts) tiles ≡ false
-    → drop start b ≡ all_bytes comps main ++ (flat_map (part_bytes comps) parts ++ (255 ∷ 217 ∷ rest)) → BodyRead comps tiles b main parts start
-unfolding body_fault main_fault
-body_read comps tiles b rest main parts start some are segments_fit defaults each h =
+pub body_over : (comps tiles : ℕ) (b rest : List ℕ) (main : List Segment) (parts : List TilePart) (start : ℕ) → 0 < length parts → AreTileParts comps tiles rest [] (start + length (all_bytes comps main)) parts
+    → AreSegments Main comps [] main → lacks_default main ≡ false → drop start b ≡ all_bytes comps main ++ (flat_map (part_bytes comps) parts ++ (255 ∷ 217 ∷ rest)) → BodyOver comps tiles b main parts start
+unfolding main_fault
+body_over comps tiles b rest main parts start some are segments_fit defaults h =
     let read = main_read comps tiles b rest (255 ∷ 217 ∷ rest) main parts [] (start + length (all_bytes comps main)) start some are segments_fit h in
     let place = start + length (all_bytes comps main) in
     let there : drop place b ≡ flat_map (part_bytes comps) parts ++ (255 ∷ 217 ∷ rest) =
@@ -70,41 +71,46 @@ body_read comps tiles b rest main parts start some are segments_fit defaults eac
     let segments_are : (main_header comps b start).segments ≡ main = ap (λ (x : Header). x.segments) read.header in
     let end_is : (main_header comps b start).end ≡ place = ap (λ (x : Header). x.end) read.header in
     let after : parts_after comps tiles b start ≡ record { parts = placed comps place parts; end = end } = ap (λ (n : ℕ). parts_from comps tiles b n) end_is ∙ walked in
-    let parts_clear : parts_fault comps tiles b (main_header comps b start).end ≡ None =
-    ap (λ (x : Parts). cond (marker_at b x.end 217) None (fault_after comps tiles b x.parts x.end)) after ∙ rw eoc refl in
-    let lacks : lacks_default (main_header comps b start).segments ≡ false = ap lacks_default segments_are ∙ defaults in
-    let lacks_one : lacks_part (parts_after comps tiles b start).parts tiles ≡ false = ap (λ (x : Parts). lacks_part x.parts tiles) after ∙ each in
     record {
-      clear = none_of_both (option_or (header_fault Main comps b start) (broken 17 (main_header comps b start).end (lacks_default (main_header comps b start).segments)))
-          (option_or (parts_fault comps tiles b (main_header comps b start).end) (broken 24 (parts_after comps tiles b start).end (lacks_part (parts_after comps tiles b start).parts tiles)))
-          (none_of_both (header_fault Main comps b start) (broken 17 (main_header comps b start).end (lacks_default (main_header comps b start).segments)) read.clear
-          (broken_false 17 (main_header comps b start).end (lacks_default (main_header comps b start).segments) lacks))
-          (none_of_both (parts_fault comps tiles b (main_header comps b start).end) (broken 24 (parts_after comps tiles b start).end (lacks_part (parts_after comps tiles b start).parts tiles)) parts_clear
-          (broken_false 24 (parts_after comps tiles b start).end (lacks_part (parts_after comps tiles b start).parts tiles) lacks_one));
+      main_clear = none_of_both (header_fault Main comps b start) (broken 17 (main_header comps b start).end (lacks_default (main_header comps b start).segments)) read.clear
+          (broken_false 17 (main_header comps b start).end (lacks_default (main_header comps b start).segments) (ap lacks_default segments_are ∙ defaults));
+      parts_clear = ap (λ (x : Parts). cond (marker_at b x.end 217) None (fault_after comps tiles b x.parts x.end)) after ∙ rw eoc refl;
       segments = segments_are;
       all = ap (λ (x : Parts). x.parts) after;
+      end = ap (λ (x : Parts). x.end) after;
     }
 
+-- the same, and each tile has a tile-part
+pub body_read : (comps tiles : ℕ) (b : List ℕ) (main : List Segment) (parts : List TilePart) (start : ℕ) → BodyOver comps tiles b main parts start
+    → lacks_part (placed comps (start + length (all_bytes comps main)) parts) tiles ≡ false → body_fault comps tiles b start ≡ None
+unfolding body_fault
+body_read comps tiles b main parts start over each =
+    none_of_both (main_fault comps b start)
+    (option_or (parts_fault comps tiles b (main_header comps b start).end) (broken 24 (parts_after comps tiles b start).end (lacks_part (parts_after comps tiles b start).parts tiles)))
+    over.main_clear
+    (none_of_both (parts_fault comps tiles b (main_header comps b start).end) (broken 24 (parts_after comps tiles b start).end (lacks_part (parts_after comps tiles b start).parts tiles)) over.parts_clear
+    (broken_false 24 (parts_after comps tiles b start).end (lacks_part (parts_after comps tiles b start).parts tiles) (ap (λ (x : List Part). lacks_part x tiles) over.all ∙ each)))
+
 -- the front
-record FrontRead (b : List ℕ) (siz : Siz) (later : List ℕ) : Type 0 where
+pub record FrontRead (b : List ℕ) (siz : Siz) (later : List ℕ) : Type 0 where
   pub clear : front_fault b ≡ None
   pub same : siz_of b ≡ siz
   pub start : after_siz b ≡ 2 + length (spelling 1 (segment.Siz siz))
   pub rest : drop (after_siz b) b ≡ later
 
-front_read : (b : List ℕ) (s : Stream) (later : List ℕ) → Spells b s → b ≡ spelling 1 segment.Soc ++ (spelling 1 (segment.Siz s.siz) ++ later) → FrontRead b s.siz later
-front_read b s later spells h =
-    let second : drop 2 b ≡ spelling 1 (segment.Siz s.siz) ++ later = ap (λ (x : List ℕ). drop 2 x) h in
-    let soc : marker_at b 0 79 ≡ true = marker_is b 0 79 (spelling 1 (segment.Siz s.siz) ++ later) h in
-    let siz : marker_at b 2 81 ≡ true = marker_is b 2 81 (drop 2 (spelling 1 (segment.Siz s.siz) ++ later)) second in
-    let there = stands_there 1 b 2 (segment.Siz s.siz) later spells.siz second in
-    let same : segment.Siz (siz_of b) ≡ segment.Siz s.siz = sym (siz_stands b siz) ∙ there.value in
-    let start : after_siz b ≡ 2 + length (spelling 1 (segment.Siz s.siz)) = ap (λ (n : ℕ). 2 + n) there.takes in
+pub front_read : (b : List ℕ) (siz : Siz) (later : List ℕ) → SizInRange siz → b ≡ spelling 1 segment.Soc ++ (spelling 1 (segment.Siz siz) ++ later) → FrontRead b siz later
+front_read b siz later range h =
+    let second : drop 2 b ≡ spelling 1 (segment.Siz siz) ++ later = ap (λ (x : List ℕ). drop 2 x) h in
+    let soc : marker_at b 0 79 ≡ true = marker_is b 0 79 (spelling 1 (segment.Siz siz) ++ later) h in
+    let stands : marker_at b 2 81 ≡ true = marker_is b 2 81 (drop 2 (spelling 1 (segment.Siz siz) ++ later)) second in
+    let there = stands_there 1 b 2 (segment.Siz siz) later range second in
+    let same : segment.Siz (siz_of b) ≡ segment.Siz siz = sym (siz_stands b stands) ∙ there.value in
+    let start : after_siz b ≡ 2 + length (spelling 1 (segment.Siz siz)) = ap (λ (n : ℕ). 2 + n) there.takes in
     record {
-      clear = front_clear b soc siz there.rules;
+      clear = front_clear b soc stands there.rules;
       same = cc;
       start = start;
-      rest = ap (λ (n : ℕ). drop n b) start ∙ drop_on b 2 (length (spelling 1 (segment.Siz s.siz))) (spelling 1 (segment.Siz s.siz)) later second refl;
+      rest = ap (λ (n : ℕ). drop n b) start ∙ drop_on b 2 (length (spelling 1 (segment.Siz siz))) (spelling 1 (segment.Siz siz)) later second refl;
     }
 
 -- what is spelled is read, and the first violation is a limit or none
@@ -120,11 +126,11 @@ later_is siz b start s body same entries =
     ∙ ap (λ (x : Stream). option_or (tiles_fault siz) (parameters_fault x)) same
     ∙ ap (λ (x : Option Tile). option_or (tiles_fault siz) (option_or (rule_9_of x) (planes_fault s.main (length s.siz.comps) s.tiles))) entries
 
-first_is : (b : List ℕ) (siz : Siz) → front_fault b ≡ None → siz_of b ≡ siz → first_fault b ≡ later_fault siz b (after_siz b)
+pub first_is : (b : List ℕ) (siz : Siz) → front_fault b ≡ None → siz_of b ≡ siz → first_fault b ≡ later_fault siz b (after_siz b)
 unfolding first_fault
 first_is b siz clear same = ap (λ (x : Option StreamFault). option_or x (later_fault (siz_of b) b (after_siz b))) clear ∙ ap (λ (x : Siz). later_fault x b (after_siz b)) same
 
-stream_made : (siz : Siz) (b : List ℕ) (start : ℕ) (main : List Segment) (all : List Part) (tiles : List Tile) → (main_header (length siz.comps) b start).segments ≡ main
+pub stream_made : (siz : Siz) (b : List ℕ) (start : ℕ) (main : List Segment) (all : List Part) (tiles : List Tile) → (main_header (length siz.comps) b start).segments ≡ main
     → (parts_after (length siz.comps) (tile_number siz) b start).parts ≡ all → tiles ≡ tiles_of main all (tile_number siz) → stream_from siz b start ≡ record { siz = siz; main = main; tiles = tiles }
 unfolding stream_from
 stream_made siz b start main all tiles of parts made = rw (of, parts, made) refl
@@ -134,18 +140,18 @@ is_read b s spells =
     let comps = length s.siz.comps in
     let tiles = tile_number s.siz in
     let later = all_bytes comps s.main ++ (flat_map (part_bytes comps) spells.parts ++ (255 ∷ 217 ∷ spells.rest)) in
-    let front = front_read b s later spells spells.bytes in
+    let front = front_read b s.siz later spells.siz spells.bytes in
     let start = after_siz b in
     let place : first_sot s.siz s.main ≡ start + length (all_bytes comps s.main) = ap (λ (n : ℕ). n + length (all_bytes comps s.main)) (sym front.start) in
     let P : ℕ → Type 0 = λ n. AreTileParts comps tiles spells.rest [] n spells.parts in
-    let body = body_read comps tiles b spells.rest s.main spells.parts start spells.some (subst P place spells.tile_parts) spells.main spells.defaults
-    (sym (ap (λ (n : ℕ). lacks_part (placed comps n spells.parts) tiles) place) ∙ spells.each) front.rest in
+    let body = body_over comps tiles b spells.rest s.main spells.parts start spells.some (subst P place spells.tile_parts) spells.main spells.defaults front.rest in
+    let clear = body_read comps tiles b s.main spells.parts start body (sym (ap (λ (n : ℕ). lacks_part (placed comps n spells.parts) tiles) place) ∙ spells.each) in
     let made : s.tiles ≡ tiles_of s.main (placed comps (start + length (all_bytes comps s.main)) spells.parts) tiles =
     spells.tiles ∙ ap (λ (n : ℕ). tiles_of s.main (placed comps n spells.parts) tiles) place in
     let same : stream_from s.siz b start ≡ s = stream_made s.siz b start s.main (placed comps (start + length (all_bytes comps s.main)) spells.parts) s.tiles body.segments body.all made in
     record {
       stream = sym (ap (λ (x : Siz). stream_from x b start) front.same ∙ same);
-      first = first_is b s.siz front.clear front.same ∙ later_is s.siz b start s body.clear same spells.entries;
+      first = first_is b s.siz front.clear front.same ∙ later_is s.siz b start s clear same spells.entries;
     }
 
 pub only_one : (b : List ℕ) (one other : Stream) → Spells b one → Spells b other → one ≡ other

@@ -1,4 +1,6 @@
--- The stream that stands in a file, and the first rule that the file violates or limit that it passes.
+-- The stream that stands in a file, and the first rule that the file violates or limit that it passes, by a walk from the
+-- file's front: what the reader is proved by. The relations on the whole file, which retell no walk, are `Spells` and, for
+-- the first violation, `IsFirst` of FirstViolated; the laws `first_is_told` and `told_is_first` say that both are one.
 use Rattle.std.specs.Prelude.{ℕ, ◌+◌, ◌==◌, ◌&&◌, not, nat_lt, Bool, List, length, drop, Option, None, Some, if◌then◌else◌}
 use Rattle.std.specs.List.{list_any, range_with_len}
 use Rattle.std.specs.Option.{option_or}

@@ -7,3 +7,4 @@ pub mod Params
 pub mod Index
 pub mod First
 pub mod Spells
+pub mod FirstViolated

@@ -1,12 +1,14 @@
-ghost use Rattle.std.specs.Prelude.{◌≡◌, ◌≤◌, ◌<◌, ◌+◌, ◌-◌, ◌*◌, ◌^◌, ◌==◌, ◌&&◌, not, nat_lt, length, drop, slice_index, IfOk, Err, ℕ, [], true};
+ghost use Rattle.std.specs.Prelude.{◌≡◌, ◌⊎◌, ◌≤◌, ◌<◌, ◌+◌, ◌-◌, ◌*◌, ◌^◌, ◌==◌, ◌&&◌, not, nat_lt, length, drop, slice_index, IfOk, Err, ℕ, [], true};
 ghost use Rattle.std.specs.List.{All, list_any};
 ghost use Rattle.std.specs.Option.{option_or};
 ghost use Rattle.jx_marker.specs.Rules.{siz_fits};
 ghost use Rattle.jx_geom.specs.Ranges.{CanvasInRange};
 ghost use Rattle.jx_stream.specs.declared.parts.Part.{Part};
 ghost use Rattle.jx_stream.specs.declared.Stream.{Stream};
+ghost use Rattle.jx_stream.specs.declared.faults.StreamFault.{StreamFault};
 ghost use Rattle.jx_stream.specs.Faults.{Answers};
 ghost use Rattle.jx_stream.specs.Spells.{Spells};
+ghost use Rattle.jx_stream.specs.FirstViolated.{IsFirst};
 ghost use Rattle.jx_stream.specs.Headers.{slot_count};
 ghost use Rattle.jx_stream.specs.Parts.{Tracks, end_of_part};
 ghost use Rattle.jx_stream.specs.Params.{entries_fault, planes_fault};
@@ -230,7 +232,9 @@ fn read_rest(alloc: Global, bytes: &[u8], siz: Siz, start: usize) -> Result<Stre
 /// The stream that a file of at most 2^28 bytes spells.
 ///
 /// `Rule` names the first of the rules 1 to 24 that the file violates, with its place; `Limit` the first of the
-/// limits 3 (tiles) and 4 (planes of a band) that it passes, with what was counted. What follows EOC isn't read.
+/// limits 3 (tiles) and 4 (planes of a band) that it passes, with what was counted. First is what `IsFirst` says, a
+/// relation on the whole file: a front of it is spelled and violates nothing, and where this front ends the first test
+/// of that place that is true is this one. `NoMemory` may stand in place of either. What follows EOC isn't read.
 pub fn read_stream(alloc: Global, bytes: &[u8]) -> Result<Stream, StreamFault>
     requires { length bytes.now ≤ 2 ^ 28 }
     ensures exact { Answers result (first_fault bytes.now) (λ stream. stream ≡ stream_in bytes.now) }
@@ -239,6 +243,9 @@ pub fn read_stream(alloc: Global, bytes: &[u8]) -> Result<Stream, StreamFault>
     ensures only { IfOk result (λ stream. (other : Stream) → Spells bytes.now other → other ≡ stream) }
     // Where a rule is violated nothing is spelled.
     ensures unspelled { (number place : ℕ) (stream : Stream) → result ≡ Err (StreamFault.Rule number place) → Spells bytes.now stream → ⊥ }
+    // The rule or limit of a refusal is the first one, and no other is.
+    ensures first { (fault : StreamFault) → result ≡ Err fault → (fault ≡ StreamFault.NoMemory) ⊎ IsFirst bytes.now fault }
+    ensures first_only { (fault : StreamFault) → IsFirst bytes.now fault → (result ≡ Err fault) ⊎ (result ≡ Err StreamFault.NoMemory) }
 {
     let (siz, start) = read_front(alloc, bytes)?;
     let stream = read_rest(alloc, bytes, siz, start)?;

@@ -165,14 +165,68 @@ fn cuts(rt: HostRuntime) -> Result<(), Fail> {
 }
 
 // A stream that is there.
-fn stream_of(rt: &impl Abort, alloc: Global, texts: &[&str]) -> Result<Stream, Fail> {
-    let file = file_of(alloc, texts)?;
-    let known = file.len() < 1000;
+fn stream_in(rt: &impl Abort, alloc: Global, file: &[u8]) -> Result<Stream, Fail> {
+    let known = file.len() < 2000;
     assert!(rt; known);
-    match read_stream(alloc, &file) {
+    match read_stream(alloc, file) {
         Ok(stream) => Ok(stream),
         Err(_) => Err("refused")?,
     }
+}
+
+fn stream_of(rt: &impl Abort, alloc: Global, texts: &[&str]) -> Result<Stream, Fail> {
+    let file = file_of(alloc, texts)?;
+    stream_in(rt, alloc, &file)
+}
+
+// SOC and SIZ up to Csiz, with 257 components, then COD and QCD.
+const WIDE: &str =
+    "FF4F FF51 0329 0000 00000001 00000001 00000000 00000000 00000001 00000001 00000000 00000000 0101";
+
+const CODING: &str = "FF52 000C 00 00 0001 00 00 04 04 00 01 FF5C 0004 40 40";
+
+fn push_times(text: &str, times: u16, bytes: &mut Vec<u8>) -> Result<(), AllocError> {
+    for _ in 0..times {
+        push_hex(text, bytes)?;
+    }
+    Ok(())
+}
+
+// The smallest codestream of 257 components, with a segment before its SOT.
+fn wide(alloc: Global, segment: &str) -> Result<Vec<u8>, AllocError> {
+    let mut file = file_of(alloc, &[WIDE])?;
+    push_times("07 01 01", 257, &mut file)?;
+    push_hex(CODING, &mut file)?;
+    push_hex(segment, &mut file)?;
+    push_hex("FF90 000A 0000 0000010F 00 01 FF93", &mut file)?;
+    push_times("00", 257, &mut file)?;
+    push_hex(EOC, &mut file)?;
+    Ok(file)
+}
+
+#[test]
+fn indexes_of_two_bytes(rt: HostRuntime) -> Result<(), Fail> {
+    let alloc = rt.alloc();
+    let plain = stream_in(&rt, alloc, &wide(alloc, "")?)?;
+    assert_eq!(rt;
+        (
+            plain.siz.comps.as_slice().len(),
+            plain.params(0, 256).style.bits
+        ),
+        (257, 0)
+    );
+    let own = stream_in(
+        &rt,
+        alloc,
+        &wide(alloc, "FF53 000A 0100 00 00 04 04 20 01")?,
+    )?;
+    assert_eq!(rt;
+        (own.params(0, 255).style.bits, own.params(0, 256).style.bits),
+        (0, 0x20)
+    );
+    let past = wide(alloc, "FF53 000A 0101 00 00 04 04 20 01")?;
+    assert_eq!(rt; answer(alloc, &past), (12, 833));
+    Ok(())
 }
 
 #[test]

@@ -1,8 +1,11 @@
-use Rattle.std.proofs.Common.{arith}
+use Rattle.std.proofs.Common.{◌≡◌, Ok, arith}
 use Rattle.std.proofs.lemmas.Result.{err_from_is_err_and}
 use Rattle.jx_marker.proofs.ReadLemmas.{bytes_are}
 use Rattle.jx_stream.proofs.FirstLemmas.{first_front, first_later, first_clear}
+use Rattle.jx_stream.specs.First.{stream_in}
+use Rattle.jx_stream.specs.declared.Stream.{Stream}
 use Rattle.jx_stream.proofs.UniqueLemmas.{read_only, read_spelled, refused_by}
+use Rattle.jx_stream.proofs.ViolatedLemmas.{answer_first, answer_only}
 use Rattle.jx_stream.proofs.reading.read_stream.Goals as goal
 
 pub returns-in_err-siz-clause-exact : goal.returns-in_err-siz-clause-exact
@@ -39,3 +42,24 @@ pub returns-clause-only : goal.returns-clause-only
 returns-clause-only c =
     let p = first_clear c.args.bytes.now c.in_ok-siz.siz c.in_ok-siz.start c.in_ok-stream.stream c.in_ok-siz.ensures.answer.0 c.in_ok-siz.ensures.answer.1.0 c.in_ok-siz.ensures.answer.1.1 c.in_ok-stream.ensures.0 c.in_ok-stream.ensures.1 in
     read_only c.args.bytes.now c.in_ok-stream.stream p.1
+
+pub returns-in_err-siz-clause-first : goal.returns-in_err-siz-clause-first
+returns-in_err-siz-clause-first c =
+    answer_first c.args.bytes.now c.from_residual.result (λ (s : Stream). s ≡ stream_in c.args.bytes.now) (bytes_are c.args.bytes.now (λ i. omega (arith, c.type_inv.bytes i))) (returns-in_err-siz-clause-exact c)
+
+pub returns-in_err-siz-clause-first_only : goal.returns-in_err-siz-clause-first_only
+returns-in_err-siz-clause-first_only c =
+    answer_only c.args.bytes.now c.from_residual.result (λ (s : Stream). s ≡ stream_in c.args.bytes.now) (returns-in_err-siz-clause-exact c)
+
+pub returns-in_err-stream-clause-first : goal.returns-in_err-stream-clause-first
+returns-in_err-stream-clause-first c =
+    answer_first c.args.bytes.now c.from_residual-in_err-stream.result (λ (s : Stream). s ≡ stream_in c.args.bytes.now) (bytes_are c.args.bytes.now (λ i. omega (arith, c.type_inv.bytes i)))
+    (returns-in_err-stream-clause-exact c)
+
+pub returns-in_err-stream-clause-first_only : goal.returns-in_err-stream-clause-first_only
+returns-in_err-stream-clause-first_only c =
+    answer_only c.args.bytes.now c.from_residual-in_err-stream.result (λ (s : Stream). s ≡ stream_in c.args.bytes.now) (returns-in_err-stream-clause-exact c)
+
+pub returns-clause-first_only : goal.returns-clause-first_only
+returns-clause-first_only c =
+    answer_only c.args.bytes.now (Ok c.in_ok-stream.stream) (λ (s : Stream). s ≡ stream_in c.args.bytes.now) (returns-clause-exact c)
