@@ -5,6 +5,8 @@
 mod covered;
 mod faults;
 mod shapes;
+#[cfg(test)]
+mod tests;
 mod totals;
 
 pub use faults::GatherFault;
