@@ -1,8 +1,8 @@
 -- Lists of lists, and the planes of every band of a stream that was read.
-use Rattle.std.proofs.Common.{◌≡◌, ◌∙◌, ◌<◌, ◌≤◌, ◌+◌, ◌-◌, ◌*◌, ◌==◌, ℕ, Bool, true, false, arith, List, [], ◌∷◌, ◌++◌, length, map, get_or, refl, sym, ap, subst, nat_lt, Option, Some, None, inl, inr}
+use Rattle.std.proofs.Common.{◌≡◌, ◌∙◌, ◌<◌, ◌≤◌, ◌+◌, ◌-◌, ℕ, Bool, false, arith, List, [], ◌∷◌, ◌++◌, length, get_or, refl, ap, subst, nat_lt, Option, Some, None, inl, inr}
 use Rattle.std.specs.List.{All, flat_map, find, range_with_len}
 use Rattle.std.proofs.lemmas.Bool.Decides.{nat_tests}
-use Rattle.std.proofs.lemmas.List.Elements.{All-nil, All-cons, All-append}
+use Rattle.std.proofs.lemmas.List.Elements.{All-nil, All-cons}
 use Rattle.std.proofs.lemmas.List.{get_or_append_left, get_or-append_right, length-append}
 use Rattle.std.proofs.lemmas.List.FromFn.{get_or-map-range_with_len, length-map-range_with_len, get_or-range_with_len, length-range_with_len}
 use Rattle.jx_base.specs.declared.names.Band.{Band}

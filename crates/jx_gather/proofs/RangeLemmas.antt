@@ -1,6 +1,6 @@
 -- A stream that was read is within the ranges that the calls below ask for.
-use Rattle.std.proofs.Common.{◌≡◌, ◌∙◌, ◌<◌, ◌≤◌, ◌+◌, ◌*◌, ◌^◌, ◌==◌, ℕ, true, false, arith, List, [], ◌∷◌, length, map, get_or, refl, sym, ap, subst, nat_lt, Option, Some, None, inl, inr}
-use Rattle.std.specs.List.{All, flat_map, range_with_len, slice_get}
+use Rattle.std.proofs.Common.{◌≡◌, ◌∙◌, ◌<◌, ◌≤◌, ◌+◌, ◌*◌, ◌==◌, ℕ, true, false, arith, List, [], length, get_or, refl, sym, ap, subst, nat_lt, Option, Some, None, inl}
+use Rattle.std.specs.List.{All}
 use Rattle.std.specs.Option.{option_or}
 use Rattle.std.proofs.lemmas.Bool.Decides.{nat_tests}
 use Rattle.std.proofs.lemmas.Option.{slice_get-get_or}
@@ -22,13 +22,15 @@ use Rattle.jx_stream.specs.declared.Tile.{Tile}
 use Rattle.jx_stream.specs.declared.Stream.{Stream}
 use Rattle.jx_stream.specs.Headers.{has_slot}
 use Rattle.jx_stream.specs.Parts.{parts_of}
-use Rattle.jx_stream.specs.Tiles.{in_slot, first_header, progressions_of, tile_from, tile_of}
-use Rattle.jx_stream.specs.First.{tile_number, tiles_fault}
-use Rattle.jx_stream.specs.Params.{chosen, shape_of, quant_of, shift_of, cod_of, shape_or, quant_or, cod_or, header_in, header_of, shape_at, quant_at, shift_at, params_of, planes_of, planes_at, precincts_of, number_of, band_count, band_planes, tile_planes}
-use Rattle.jx_stream.specs.Spells.{placed, first_sot}
-use Rattle.jx_gather.specs.Shapes.{IsRead, shapes_of, shape_in, geometry, size_of, no_size, tile_at, no_tile, layers_of, style_of}
+use Rattle.jx_stream.specs.Tiles.{in_slot, tile_from, tile_of}
+use Rattle.jx_stream.specs.First.{tile_number, tiles_fault, first_fault}
+use Rattle.jx_stream.specs.Params.{chosen, shape_of, quant_of, shift_of, cod_of, shape_or, quant_or, cod_or, header_in, header_of, shape_at, quant_at, shift_at, params_of, planes_of, planes_at, precincts_of, number_of, band_count, band_planes, tile_planes, planes_fault}
+use Rattle.jx_stream.specs.Spells.{Spells, placed, first_sot}
+use Rattle.jx_stream.proofs.FaultLemmas.{none_first, none_later}
+use Rattle.jx_stream.proofs.UniqueLemmas as unique
+use Rattle.jx_gather.specs.Shapes.{IsRead, shapes_of, shape_in, geometry, size_of, no_size, tile_at, no_tile, layers_of}
 use Rattle.jx_gather.specs.InRange.{StreamInRange}
-use Rattle.jx_gather.proofs.SegmentLemmas.{HasFitting, IsChosen, segments_fit, parts_fit, first_fits, defaults_there, slot_chosen, or_chosen, slot_there, or_there, chosen_fits, chosen_there, IsShaped, shape_there, IsQuantized, quant_there, IsCoded, cod_there}
+use Rattle.jx_gather.proofs.SegmentLemmas.{HasFitting, segments_fit, parts_fit, first_fits, defaults_there, slot_chosen, or_chosen, slot_there, or_there, chosen_fits, chosen_there, IsShaped, shape_there, IsQuantized, quant_there, IsCoded, cod_there}
 use Rattle.jx_gather.proofs.PlaneLemmas.{All-flat, all_planes, tile_fits, band_fits, number_inside}
 use Rattle.jx_gather.proofs.ShapeLemmas.{SizFits, siz_is, shape_fits}
 use Rattle.jx_gather.proofs.EntryLemmas.{HasOrder, orders_fit}
@@ -159,3 +161,13 @@ module _ (b : List ℕ) (s : Stream) (read : IsRead b s) where
         subst (λ (x : Tile). All HasOrder x.progressions) (sym (tile_is t inside)) (orders_fit (length s.siz.comps) s.main (parts_of t parts) main_fit (own_fit t));
     planes = planes_within;
   }
+
+-- where a file violates no rule up to 24 and passes no limit up to 4
+pub is_read : (b : List ℕ) (s : Stream) → first_fault b ≡ None → Spells b s → IsRead b s
+is_read b s clear spells =
+    let both = sym (unique.is_read b s spells).first ∙ clear in
+    record {
+      spelled = spells;
+      tiles = none_first (tiles_fault s.siz) (planes_fault s.main (length s.siz.comps) s.tiles) both;
+      planes = none_later (tiles_fault s.siz) (planes_fault s.main (length s.siz.comps) s.tiles) both;
+    }

@@ -1,6 +1,6 @@
 -- A component's shape, from its segments, is in range.
-use Rattle.std.proofs.Common.{◌≡◌, ◌∙◌, ◌<◌, ◌≤◌, ◌+◌, ◌-◌, ◌*◌, ◌/◌, ◌%◌, ◌==◌, ◌&&◌, ◌||◌, ℕ, Bool, true, false, arith, List, [], ◌∷◌, ◌++◌, length, map, drop, get_or, refl, sym, ap, subst, nat_lt, nat_le, cond, slice_index}
-use Rattle.std.specs.List.{All, list_all, list_any, range_with_len}
+use Rattle.std.proofs.Common.{◌≡◌, ◌∙◌, ◌<◌, ◌≤◌, ◌+◌, ◌-◌, ◌/◌, ◌%◌, ◌==◌, ◌&&◌, ℕ, Bool, true, false, arith, List, [], ◌∷◌, length, drop, get_or, sym, ap, subst, nat_lt, nat_le, cond, slice_index}
+use Rattle.std.specs.List.{All, list_all, list_any}
 use Rattle.std.proofs.lemmas.Bool.Decides.{nat_tests}
 use Rattle.std.proofs.lemmas.List.{get_or-drop, length-drop}
 use Rattle.std.proofs.lemmas.List.FromFn.{get_or-map-range_with_len}
@@ -10,7 +10,7 @@ use Rattle.jx_marker.specs.declared.Siz.{Siz}
 use Rattle.jx_marker.specs.declared.Shape.{Shape}
 use Rattle.jx_marker.specs.Rules.{axis_fits, comp_size_fits, siz_fits, has_zero_exponent}
 use Rattle.jx_marker.specs.Ranges as fits
-use Rattle.jx_geom.specs.Ranges.{CanvasInRange, ShapeInRange, NumbersInRange, PrecinctsInRange, exponent_across, exponent_down}
+use Rattle.jx_geom.specs.Ranges.{CanvasInRange, ShapeInRange}
 use Rattle.jx_stream.specs.declared.Params.{Params}
 use Rattle.jx_stream.specs.First.{canvas_of}
 use Rattle.jx_stream.specs.Params.{precinct_of, precincts_of}
@@ -71,8 +71,14 @@ siz_is siz h =
       some = above 0 (length siz.comps) one.0;
       few = most (length siz.comps) 16384 two.0;
       canvas = record {
-        wide = x.some; offset_across = x.offset; some_across = x.holds; first_across = x.meets;
-        high = y.some; offset_down = y.offset; some_down = y.holds; first_down = y.meets;
+        wide = x.some;
+        offset_across = x.offset;
+        some_across = x.holds;
+        first_across = x.meets;
+        high = y.some;
+        offset_down = y.offset;
+        some_down = y.holds;
+        first_down = y.meets;
       };
       each = all_pass comp_size_fits siz.comps four.1;
     }

@@ -1,5 +1,5 @@
 -- Totals over the tiles and components of a stream in range, and what the limits on them say of one tile.
-use Rattle.std.proofs.Common.{◌≡◌, ◌∙◌, ◌<◌, ◌≤◌, ◌+◌, ◌*◌, ◌^◌, ℕ, Bool, true, false, arith, length, map, get_or, refl, sym, ap, subst, nat_lt, Option, Some, None, cond}
+use Rattle.std.proofs.Common.{◌≡◌, ◌∙◌, ◌<◌, ◌≤◌, ◌+◌, ◌*◌, ◌^◌, ℕ, arith, length, map, refl, sym, ap, subst, nat_lt, Option, Some, None}
 use Rattle.std.specs.Option.{option_or}
 use Rattle.std.specs.List.{range_with_len, sum_by}
 use Rattle.std.proofs.lemmas.Bool.Decides.{nat_tests}
@@ -8,10 +8,10 @@ use Rattle.jx_base.specs.declared.names.Rect.{Rect}
 use Rattle.jx_geom.specs.declared.shape.CompShape.{CompShape}
 use Rattle.jx_geom.specs.Ranges.{ShapeInRange}
 use Rattle.jx_geom.specs.Rects.{tile_rect}
-use Rattle.jx_geom.specs.Counts.{sum_below, component_blocks, component_precincts, tile_blocks, tile_precincts}
-use Rattle.jx_geom.specs.Numbering.{blocks_below, blocks_of_all}
+use Rattle.jx_geom.specs.Counts.{sum_below, tile_blocks, tile_precincts}
+use Rattle.jx_geom.specs.Numbering.{blocks_below}
 use Rattle.jx_geom.specs.Geometry.{no_shape, WithinLimits, GeometryInRange}
-use Rattle.jx_geom.proofs.CountLemmas.{sum_below_next, sum_below_more}
+use Rattle.jx_geom.proofs.CountLemmas.{sum_below_more}
 use Rattle.jx_stream.specs.declared.Stream.{Stream}
 use Rattle.jx_stream.specs.First.{canvas_of, tile_number}
 use Rattle.jx_gather.specs.declared.faults.GatherFault.{GatherFault}

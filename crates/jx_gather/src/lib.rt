@@ -7,6 +7,8 @@ mod faults;
 mod gathering;
 mod shapes;
 mod tile_blocks;
+#[cfg(test)]
+mod tests;
 mod totals;
 
 pub use faults::GatherFault;

@@ -1,4 +1,4 @@
-use Rattle.std.proofs.Common.{◌∙◌, ◌≤◌, ℕ, ap, sym, subst, List, Err}
+use Rattle.std.proofs.Common.{◌∙◌, ◌≤◌, ap, sym, subst, List, Err}
 use Rattle.std.specs.List.{All}
 use Rattle.jx_marker.specs.declared.Progression.{Progression}
 use Rattle.jx_stream.specs.declared.Tile.{Tile}
