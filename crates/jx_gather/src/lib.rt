@@ -14,6 +14,3 @@ mod totals;
 pub use faults::GatherFault;
 pub use gathering::gather;
 pub use jx_base::{Block, Piece, Pieces};
-
-#[cfg(test)]
-mod tests;

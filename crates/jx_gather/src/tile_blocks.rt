@@ -1,6 +1,6 @@
 //! The code-blocks of one tile.
 
-ghost use Rattle.std.specs.Prelude.{◌≡◌, ◌≤◌, ◌<◌, ◌^◌, ℕ, List, None, length, IfOk, IfErr, OnOk};
+ghost use Rattle.std.specs.Prelude.{◌≡◌, ◌≤◌, ◌<◌, ◌^◌, None, length, IfOk, IfErr};
 ghost use Rattle.std.specs.List.{All};
 ghost use Rattle.jx_base.specs.Sound.{IsSound};
 ghost use Rattle.jx_stream.specs.First.{tile_number};
@@ -11,11 +11,15 @@ ghost use Rattle.jx_gather.specs.Totals.{totals_fault};
 ghost use Rattle.jx_gather.specs.Gathered.{AreTileBlocks, BreaksTile, IsWhole};
 
 use crate::GatherFault;
+use crate::covered::list_of;
+use crate::fresh::blocks_of;
+use crate::shapes::geometry_of;
+use crate::tile::read_tile;
 use jx_base::Block;
 use jx_stream::Stream;
 use std::alloc::Global;
 
-/// The blocks of a tile whose packets are covered.
+/// The blocks of a tile whose packets are covered by its progression entries.
 pub(crate) fn gather_tile<'a>(
     alloc: Global,
     bytes: &'a [u8],
@@ -32,5 +36,14 @@ pub(crate) fn gather_tile<'a>(
     ensures sound { IfOk result (λ blocks. All IsSound blocks.items) }
     ensures broken { IfErr result (λ e. HasCause (BreaksTile bytes.entry.now stream.now tile) e) }
 {
-    Err(GatherFault::NoMemory)
+    let geom = geometry_of(alloc, stream, tile)?;
+    let list = match list_of(alloc, stream, &geom) {
+        Ok(list) => list,
+        Err(fault) => return Err(fault),
+    };
+    let mut blocks = blocks_of(alloc, stream, &geom)?;
+    match read_tile(alloc, bytes, stream, &geom, &list, &mut blocks) {
+        Ok(()) => Ok(blocks),
+        Err(fault) => Err(fault),
+    }
 }
