@@ -1,4 +1,7 @@
 pub mod ProgressLemmas
 pub mod OutcomeLemmas
 pub mod SmallLemmas
+pub mod OneTileLemmas
 pub mod CleanLemmas
+pub mod OneListLemmas
+pub mod AcceptLemmas
