@@ -1,16 +1,17 @@
 -- The smallest codestreams are read whole: their one packet is empty, and no byte is left.
-use Rattle.std.proofs.Common.{◌≡◌, ◌∙◌, ◌<◌, ◌≤◌, ◌+◌, ◌*◌, ◌/◌, ◌%◌, ◌==◌, ◌^◌, ℕ, zero, suc, Bool, true, false, nat_lt, arith, List, [], ◌∷◌, ◌++◌, length, take, drop, get_or, refl, sym, ap, subst, Ok, None, Some}
+use Rattle.std.proofs.Common.{◌≡◌, ◌∙◌, ◌<◌, ◌≤◌, ◌+◌, ◌*◌, ◌/◌, ◌%◌, ◌==◌, ◌^◌, ℕ, zero, suc, Bool, true, false, nat_lt, arith, List, [], ◌∷◌, ◌++◌, append-nil, length, take, drop, get_or, refl, sym, ap, subst, Ok, None, Some}
 use Rattle.std.specs.List.{slice_get}
 use Rattle.std.proofs.Math.Nat.{div-eq_of_lt}
 use Rattle.std.proofs.lemmas.Bool.Decides.{nat_tests}
 use Rattle.jx_base.specs.declared.pieces.Block.{Block}
+use Rattle.jx_base.specs.declared.names.Band.TheVariants.{LL}
 use Rattle.jx_base.specs.Places.{size_of}
 use Rattle.jx_marker.specs.declared.Siz.{Siz}
 use Rattle.jx_marker.specs.declared.Cod.{Cod}
 use Rattle.jx_marker.specs.declared.Quant.{Quant}
 use Rattle.jx_marker.specs.Ranges.{SizInRange, CodInRange}
 use Rattle.jx_geom.specs.declared.shape.CompShape.{CompShape}
-use Rattle.jx_geom.specs.Geometry.{Geometry, precincts_in, shape_of}
+use Rattle.jx_geom.specs.Geometry.{Geometry, blocks_in, precincts_in, shape_of}
 use Rattle.jx_tagtree.specs.Header.{bits_of, end_after, low_bits}
 use Rattle.jx_head.specs.Packet.{State, IsPacket}
 use Rattle.jx_order.specs.Packets.{IsOrder, AreCovered}
@@ -21,18 +22,19 @@ use Rattle.jx_stream.specs.Tiles.{entry_of}
 use Rattle.jx_stream.specs.First.{canvas_of, tile_number, stream_in}
 use Rattle.jx_stream.proofs.FirstLemmas.{canvas_fits}
 use Rattle.jx_stream.proofs.UniqueLemmas.{is_read}
-use Rattle.jx_gather.specs.Shapes.{no_size, shapes_of, geometry, layers_of}
+use Rattle.jx_gather.specs.Shapes.{IsRead, no_size, shapes_of, geometry, layers_of}
 use Rattle.jx_gather.specs.Totals.{block_total, packet_total, totals_fault}
 use Rattle.jx_gather.specs.Cells.{fresh_precinct, fresh_precincts, fresh_component, fresh_resolution, one_precinct, precinct_number}
 use Rattle.jx_gather.specs.Data.{sop_fault, header_in, front_length, body_fault}
 use Rattle.jx_gather.specs.Cuts.{Cut, IsCut, Left, AreCuts, number_of}
-use Rattle.jx_gather.specs.Blocks.{founds_of, tile_blocks}
+use Rattle.jx_gather.specs.Blocks.{founds_of, own_founds, block_of, one_block, band_blocks, resolution_blocks, component_blocks, tile_blocks}
 use Rattle.jx_gather.specs.Gathered.{IsWhole, IsListOf, IsCutUp, IsGathered, AreTileBlocks, start}
 use Rattle.jx_gather.specs.Accepted.{IsAccepted}
+use Rattle.jx_recast.specs.OneBlock.{HasOneBlock}
 use Rattle.jx_recast.specs.Small.{IsSmall, headers_at, packet_at}
 use Rattle.jx_recast.proofs.SmallLemmas.{tail_end}
 use Rattle.jx_recast.proofs.OneTileLemmas.{one_shape, IsOneTile, one_across, one_down, tile_is, precincts_count, blocks_count}
-use Rattle.jx_recast.proofs.OneListLemmas.{one_geometry, first_packet, one_in, one_whole, one_list}
+use Rattle.jx_recast.proofs.OneListLemmas.{one_geometry, first_packet, one_in, one_block_in, one_whole, one_list}
 use Rattle.jx_recast.proofs.CleanLemmas.{IsOneBlock, plain_stream, is_single, one_tile, sot_place, small_stream, small_spells, small_tiles, small_planes, small_data}
 
 -- an empty packet of one byte
@@ -129,9 +131,9 @@ module _ (siz : Siz) (cod : Cod) (quant : Quant) (place at : ℕ) (range : SizIn
   unfolding geometry_with
   geometry_is = ap geometry_with shapes_are
 
-  pub one_block : block_total s ≡ 1
+  pub one_total : block_total s ≡ 1
   unfolding block_total
-  one_block = rw (one_across (canvas_of siz) cod.shape.xcb cod.shape.ycb is_one, one_down (canvas_of siz) cod.shape.xcb cod.shape.ycb is_one)
+  one_total = rw (one_across (canvas_of siz) cod.shape.xcb cod.shape.ycb is_one, one_down (canvas_of siz) cod.shape.xcb cod.shape.ycb is_one)
       (rw (tile_is (canvas_of siz) cod.shape.xcb cod.shape.ycb is_one, shapes_are) (rw (blocks_count (canvas_of siz) cod.shape.xcb cod.shape.ycb is_one) refl))
 
   pub one_packet : packet_total s ≡ 1
@@ -141,7 +143,7 @@ module _ (siz : Siz) (cod : Cod) (quant : Quant) (place at : ℕ) (range : SizIn
 
   pub totals_none : totals_fault s ≡ None
   unfolding totals_fault
-  totals_none = rw (one_block, one_packet) refl
+  totals_none = rw (one_total, one_packet) refl
 
   whole_there : IsWhole s 0
   whole_there = subst (λ (g : Geometry). AreCovered g cod.layers (entry_of cod ∷ [])) (sym geometry_is) (one_whole (canvas_of siz) cod.shape.xcb cod.shape.ycb is_one cod block.layers)
@@ -159,6 +161,16 @@ module _ (siz : Siz) (cod : Cod) (quant : Quant) (place at : ℕ) (range : SizIn
       let size : size_of (precincts_in g 0 0) ≡ 1 = ap (λ (x : Geometry). size_of (precincts_in x 0 0)) is ∙ one_in (canvas_of siz) cod.shape.xcb cod.shape.ycb is_one cod block.layers in
       one_joined (fresh_component s g) (length g.shapes) comps ∙ (one_joined (fresh_resolution s g 0) ((shape_of g 0).levels + 1) levels
       ∙ one_joined (one_precinct s g 0 0) (size_of (precincts_in g 0 0)) size)
+
+  -- and so is its one block
+  one_in_tile : (g : Geometry) → g ≡ one_g → tile_blocks s g [] ≡ one_block s g [] 0 0 LL 0
+  unfolding tile_blocks component_blocks resolution_blocks band_blocks
+  one_in_tile g is =
+      let comps : length g.shapes ≡ 1 = ap (λ (x : Geometry). length x.shapes) is in
+      let levels : (shape_of g 0).levels + 1 ≡ 1 = ap (λ (x : Geometry). (shape_of x 0).levels + 1) is in
+      let size : size_of (blocks_in g 0 0 LL) ≡ 1 = ap (λ (x : Geometry). size_of (blocks_in x 0 0 LL)) is ∙ one_block_in (canvas_of siz) cod.shape.xcb cod.shape.ycb is_one cod block.layers in
+      one_joined (component_blocks s g []) (length g.shapes) comps ∙ (one_joined (resolution_blocks s g [] 0) ((shape_of g 0).levels + 1) levels
+      ∙ (append-nil (band_blocks s g [] 0 0 LL) ∙ one_joined (one_block s g [] 0 0 LL) (size_of (blocks_in g 0 0 LL)) size))
 
   number_zero : (g : Geometry) → number_of g first_packet ≡ 0
   unfolding precinct_number
@@ -190,21 +202,34 @@ module _ (siz : Siz) (cod : Cod) (quant : Quant) (place at : ℕ) (range : SizIn
       none_left = refl;
     }
 
-    abbrev pub blocks_in_tile : ℕ → List Block
-    blocks_in_tile t = tile_blocks s (geometry s t) (founds_of (geometry s t) (cut_there ∷ []))
+    one_tile_there : tile_number siz ≡ 1
+    one_tile_there = one_tile siz range block.across block.down
 
     at_first : (t : ℕ) → t < tile_number siz → 0 ≡ t
-    at_first t below =
-        let one : tile_number siz ≡ 1 = one_tile siz range block.across block.down in
-        omega arith
+    at_first t below = let one = one_tile_there in omega arith
 
-    pub gathered_there : IsGathered b s (joined blocks_in_tile 0 (tile_number siz))
+    blocks_in_tile : ℕ → List Block
+    blocks_in_tile t = tile_blocks s (geometry s t) (founds_of (geometry s t) (cut_there ∷ []))
+
+    abbrev empty_block : Block
+    empty_block = block_of s (geometry s 0) [] (record { tile = 0; comp = 0; res = 0; band = LL; index = 0 })
+
+    blocks_are : joined blocks_in_tile 0 (tile_number siz) ≡ empty_block ∷ []
+    unfolding blocks_in_tile founds_of
+    blocks_are = one_joined blocks_in_tile (tile_number siz) one_tile_there ∙ one_in_tile (geometry s 0) geometry_is
+
+    gathered_there : IsGathered b s (empty_block ∷ [])
+    unfolding blocks_in_tile
     gathered_there = record {
       whole = λ t below. subst (IsWhole s) (at_first t below) whole_there;
       tiles = blocks_in_tile;
       are = λ t below. subst (λ (n : ℕ). AreTileBlocks b s n (blocks_in_tile n)) (at_first t below) (cut_there ∷ [], cut_up, refl);
-      blocks_are = refl;
+      blocks_are = sym blocks_are;
     }
+
+    pub has_one_block : HasOneBlock b s
+    unfolding own_founds
+    has_one_block = record { total = one_total; block = empty_block; gathered = gathered_there; passes = refl; pieces = refl }
 
 -- the whole file
 
@@ -212,11 +237,12 @@ below_128 : (packet : ℕ) → nat_lt packet 128 ≡ true → packet < 128
 below_128 packet h = grind (arith, nat_tests)
 
 -- the stream in such a file
-pub record IsSmallIn (bytes : List ℕ) (s : Stream) : Type 0 where
-  pub accepted : IsAccepted bytes s
-  pub one : block_total s ≡ 1
+record IsSmallIn (bytes : List ℕ) (s : Stream) : Type 0 where
+  read : IsRead bytes s
+  totals : totals_fault s ≡ None
+  one : HasOneBlock bytes s
 
-pub small_is_in : (bytes : List ℕ) → IsSmall bytes → IsSmallIn bytes (stream_in bytes)
+small_is_in : (bytes : List ℕ) → IsSmall bytes → IsSmallIn bytes (stream_in bytes)
 small_is_in bytes small =
     let h = headers_at bytes in
     let packet = packet_at bytes in
@@ -225,20 +251,17 @@ small_is_in bytes small =
     let single = is_single h small.single in
     let place = sot_place bytes h packet whole ranges single in
     let spells = small_spells bytes h packet whole ranges single in
-    let below = below_128 packet small.empty in
-    let here = small_data bytes h packet whole ranges single in
     subst (IsSmallIn bytes) (is_read bytes (small_stream bytes h packet whole ranges single) spells).stream (record {
-      accepted = record {
-        read = record { spelled = spells; tiles = small_tiles bytes h packet whole ranges single; planes = small_planes bytes h packet whole ranges single };
-        totals = totals_none h.siz h.cod h.quant place (place + 14) ranges.siz ranges.cod single.block;
-        blocks = joined (blocks_in_tile h.siz h.cod h.quant place (place + 14) ranges.siz ranges.cod single.block bytes packet below here) 0 (tile_number h.siz);
-        gathered = gathered_there h.siz h.cod h.quant place (place + 14) ranges.siz ranges.cod single.block bytes packet below here;
-      };
-      one = one_block h.siz h.cod h.quant place (place + 14) ranges.siz ranges.cod single.block;
+      read = record { spelled = spells; tiles = small_tiles bytes h packet whole ranges single; planes = small_planes bytes h packet whole ranges single };
+      totals = totals_none h.siz h.cod h.quant place (place + 14) ranges.siz ranges.cod single.block;
+      one = has_one_block h.siz h.cod h.quant place (place + 14) ranges.siz ranges.cod single.block
+          bytes packet (below_128 packet small.empty) (small_data bytes h packet whole ranges single);
     })
 
 pub small_is_accepted : (bytes : List ℕ) → IsSmall bytes → IsAccepted bytes (stream_in bytes)
-small_is_accepted bytes small = (small_is_in bytes small).accepted
+small_is_accepted bytes small =
+    let is = small_is_in bytes small in
+    record { read = is.read; totals = is.totals; blocks = is.one.block ∷ []; gathered = is.one.gathered }
 
-pub small_has_one_block : (bytes : List ℕ) → IsSmall bytes → block_total (stream_in bytes) ≡ 1
+pub small_has_one_block : (bytes : List ℕ) → IsSmall bytes → HasOneBlock bytes (stream_in bytes)
 small_has_one_block bytes small = (small_is_in bytes small).one

@@ -1,15 +1,16 @@
 -- A tile of one packet: its name is the whole list of its progression entry.
 use Rattle.std.proofs.Common.{◌≡◌, ◌≢◌, ◌<◌, ◌≤◌, ◌^◌, ◌∙◌, ℕ, arith, List, [], ◌∷◌, length, refl, sym, ap, subst, inl, inr, ◌⊎◌}
 use Rattle.std.specs.List.{Contains}
+use Rattle.jx_base.specs.declared.names.Band.TheVariants.{LL}
 use Rattle.jx_base.specs.Places.{size_of}
 use Rattle.jx_marker.specs.declared.Cod.{Cod}
 use Rattle.jx_geom.specs.declared.shape.Canvas.{Canvas}
-use Rattle.jx_geom.specs.Geometry.{Geometry, HasResolution, precincts_in, shape_of}
+use Rattle.jx_geom.specs.Geometry.{Geometry, HasResolution, blocks_in, precincts_in, shape_of}
 use Rattle.jx_order.specs.declared.names.PacketName.{PacketName}
 use Rattle.jx_order.specs.Packets.{IsPacket, IsOrder, AreCovered, Covers, Sends}
 use Rattle.jx_order.proofs.OrderLemmas.{same_fields, contains_cons, contains_head, contains_none}
 use Rattle.jx_stream.specs.Tiles.{entry_of}
-use Rattle.jx_recast.proofs.OneTileLemmas.{one_shape, IsOneTile, tile_is, one_precinct}
+use Rattle.jx_recast.proofs.OneTileLemmas.{one_shape, IsOneTile, tile_is, one_precinct, one_cell}
 
 abbrev pub one_geometry : Canvas → ℕ → ℕ → Geometry
 one_geometry c xcb ycb = record { canvas = c; tile = 0; shapes = one_shape xcb ycb ∷ [] }
@@ -23,6 +24,9 @@ module _ (c : Canvas) (xcb ycb : ℕ) (is : IsOneTile c xcb ycb) (cod : Cod) (la
 
   pub one_in : size_of (precincts_in g 0 0) ≡ 1
   one_in = rw (tile_is c xcb ycb is) (one_precinct c xcb ycb is)
+
+  pub one_block_in : size_of (blocks_in g 0 0 LL) ≡ 1
+  one_block_in = rw (tile_is c xcb ycb is) (one_cell c xcb ycb is)
 
   at_zero : (r : ℕ) → r ≤ 0 → r ≡ 0
   at_zero r h = omega arith

@@ -131,9 +131,12 @@ module _ (c : Canvas) (xcb ycb : ℕ) (is : IsOneTile c xcb ycb) where
   unfolding component_precincts
   precincts_count = rw one_precinct refl
 
+  pub one_cell : size_of (block_cells area (one_shape xcb ycb) 0 LL) ≡ 1
+  one_cell = rw blocks_are refl
+
   resolution_count : resolution_blocks area (one_shape xcb ycb) 0 ≡ 1
   unfolding resolution_blocks
-  resolution_count = rw blocks_are refl
+  resolution_count = rw one_cell refl
 
   pub blocks_count : component_blocks area (one_shape xcb ycb) ≡ 1
   unfolding component_blocks

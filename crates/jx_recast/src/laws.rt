@@ -2,9 +2,9 @@
 //! their contracts carry the laws.
 ghost use Rattle.std.specs.Prelude.{◌≡◌, ◌∷◌, [], ℕ, List, None};
 ghost use Rattle.jx_recast.specs.declared.small.Headers.{Headers};
+ghost use Rattle.jx_recast.specs.OneBlock.{HasOneBlock};
 ghost use Rattle.jx_recast.specs.Small.{AreInRange, IsSmall, Spells, headers_at, marked_packet, output, packet_at, spelled, with_sop};
 ghost use Rattle.jx_stream.specs.First.{first_fault, stream_in};
-ghost use Rattle.jx_gather.specs.Totals.{block_total};
 ghost use Rattle.jx_gather.specs.Accepted.{IsAccepted};
 
 /// The bytes of a codestream of this form tell its headers and its packet.
@@ -25,9 +25,9 @@ pub fn small_violates_nothing()
     ensures { (bytes : List ℕ) → IsSmall bytes → first_fault bytes ≡ None }
 {}
 
-/// The smallest codestreams are read whole: they violate no rule up to 31 and pass no limit, and they have one
-/// code-block.
+/// The smallest codestreams are read whole: they violate no rule up to 31 and pass no limit up to 6, and their
+/// one code-block has no pass.
 pub fn small_is_accepted()
     ensures accepted { (bytes : List ℕ) → IsSmall bytes → IsAccepted bytes (stream_in bytes) }
-    ensures one_block { (bytes : List ℕ) → IsSmall bytes → block_total (stream_in bytes) ≡ 1 }
+    ensures one_block { (bytes : List ℕ) → IsSmall bytes → HasOneBlock bytes (stream_in bytes) }
 {}
