@@ -1,6 +1,5 @@
 -- The smallest codestreams are read whole: their one packet is empty, and no byte is left.
-use Rattle.std.proofs.Common.{◌≡◌, ◌∙◌, ◌<◌, ◌≤◌, ◌+◌, ◌*◌, ◌/◌, ◌%◌, ◌==◌, ◌^◌, ℕ, zero, suc, Bool, true, false, nat_lt, arith, List, [], ◌∷◌, ◌++◌, append-nil, length, take, drop, get_or, refl, sym, ap, subst, Ok, None, Some}
-use Rattle.std.specs.List.{slice_get}
+use Rattle.std.proofs.Common.{◌≡◌, ◌∙◌, ◌<◌, ◌+◌, ◌/◌, ◌==◌, ℕ, true, false, nat_lt, arith, List, [], ◌∷◌, append-nil, length, take, drop, refl, sym, ap, subst, Ok, None}
 use Rattle.std.proofs.Math.Nat.{div-eq_of_lt}
 use Rattle.std.proofs.lemmas.Bool.Decides.{nat_tests}
 use Rattle.jx_base.specs.declared.pieces.Block.{Block}
@@ -16,19 +15,18 @@ use Rattle.jx_tagtree.specs.Header.{bits_of, end_after, low_bits}
 use Rattle.jx_head.specs.Packet.{State, IsPacket}
 use Rattle.jx_order.specs.Packets.{IsOrder, AreCovered}
 use Rattle.jx_order.specs.Steps.{joined}
-use Rattle.jx_stream.specs.declared.Body.{Body}
 use Rattle.jx_stream.specs.declared.Stream.{Stream}
 use Rattle.jx_stream.specs.Tiles.{entry_of}
 use Rattle.jx_stream.specs.First.{canvas_of, tile_number, stream_in}
 use Rattle.jx_stream.proofs.FirstLemmas.{canvas_fits}
 use Rattle.jx_stream.proofs.UniqueLemmas.{is_read}
-use Rattle.jx_gather.specs.Shapes.{IsRead, no_size, shapes_of, geometry, layers_of}
+use Rattle.jx_gather.specs.Shapes.{IsRead, shapes_of, geometry}
 use Rattle.jx_gather.specs.Totals.{block_total, packet_total, totals_fault}
 use Rattle.jx_gather.specs.Cells.{fresh_precinct, fresh_precincts, fresh_component, fresh_resolution, one_precinct, precinct_number}
 use Rattle.jx_gather.specs.Data.{sop_fault, header_in, front_length, body_fault}
-use Rattle.jx_gather.specs.Cuts.{Cut, IsCut, Left, AreCuts, number_of}
+use Rattle.jx_gather.specs.Cuts.{Cut, IsCut, Left, number_of}
 use Rattle.jx_gather.specs.Blocks.{founds_of, own_founds, block_of, one_block, band_blocks, resolution_blocks, component_blocks, tile_blocks}
-use Rattle.jx_gather.specs.Gathered.{IsWhole, IsListOf, IsCutUp, IsGathered, AreTileBlocks, start}
+use Rattle.jx_gather.specs.Gathered.{IsWhole, IsListOf, IsCutUp, IsGathered, AreTileBlocks}
 use Rattle.jx_gather.specs.Accepted.{IsAccepted}
 use Rattle.jx_recast.specs.OneBlock.{HasOneBlock}
 use Rattle.jx_recast.specs.Small.{IsSmall, headers_at, packet_at}
@@ -133,24 +131,24 @@ module _ (siz : Siz) (cod : Cod) (quant : Quant) (place at : ℕ) (range : SizIn
 
   pub one_total : block_total s ≡ 1
   unfolding block_total
-  one_total = rw (one_across (canvas_of siz) cod.shape.xcb cod.shape.ycb is_one, one_down (canvas_of siz) cod.shape.xcb cod.shape.ycb is_one)
-      (rw (tile_is (canvas_of siz) cod.shape.xcb cod.shape.ycb is_one, shapes_are) (rw (blocks_count (canvas_of siz) cod.shape.xcb cod.shape.ycb is_one) refl))
+  one_total = rw (one_across is_one, one_down is_one)
+      (rw (tile_is is_one, shapes_are) (rw (blocks_count is_one) refl))
 
   pub one_packet : packet_total s ≡ 1
   unfolding packet_total
-  one_packet = rw (one_across (canvas_of siz) cod.shape.xcb cod.shape.ycb is_one, one_down (canvas_of siz) cod.shape.xcb cod.shape.ycb is_one)
-      (rw (tile_is (canvas_of siz) cod.shape.xcb cod.shape.ycb is_one, shapes_are, block.layers) (rw (precincts_count (canvas_of siz) cod.shape.xcb cod.shape.ycb is_one) refl))
+  one_packet = rw (one_across is_one, one_down is_one)
+      (rw (tile_is is_one, shapes_are, block.layers) (rw (precincts_count is_one) refl))
 
   pub totals_none : totals_fault s ≡ None
   unfolding totals_fault
   totals_none = rw (one_total, one_packet) refl
 
   whole_there : IsWhole s 0
-  whole_there = subst (λ (g : Geometry). AreCovered g cod.layers (entry_of cod ∷ [])) (sym geometry_is) (one_whole (canvas_of siz) cod.shape.xcb cod.shape.ycb is_one cod block.layers)
+  whole_there = subst (λ (g : Geometry). AreCovered g cod.layers (entry_of cod ∷ [])) (sym geometry_is) (one_whole is_one cod block.layers)
 
   list_there : IsListOf s 0 (first_packet ∷ [])
   list_there = subst (λ (g : Geometry). IsOrder g cod.layers (entry_of cod ∷ []) 1 (first_packet ∷ [])) (sym geometry_is)
-      (one_list (canvas_of siz) cod.shape.xcb cod.shape.ycb is_one cod block.layers)
+      (one_list is_one cod block.layers)
 
   -- its one precinct is the first
   one_fresh : (g : Geometry) → g ≡ one_g → fresh_precincts s g ≡ fresh_precinct s g 0 0 0 ∷ []
@@ -158,7 +156,7 @@ module _ (siz : Siz) (cod : Cod) (quant : Quant) (place at : ℕ) (range : SizIn
   one_fresh g is =
       let comps : length g.shapes ≡ 1 = ap (λ (x : Geometry). length x.shapes) is in
       let levels : (shape_of g 0).levels + 1 ≡ 1 = ap (λ (x : Geometry). (shape_of x 0).levels + 1) is in
-      let size : size_of (precincts_in g 0 0) ≡ 1 = ap (λ (x : Geometry). size_of (precincts_in x 0 0)) is ∙ one_in (canvas_of siz) cod.shape.xcb cod.shape.ycb is_one cod block.layers in
+      let size : size_of (precincts_in g 0 0) ≡ 1 = ap (λ (x : Geometry). size_of (precincts_in x 0 0)) is ∙ one_in is_one cod block.layers in
       one_joined (fresh_component s g) (length g.shapes) comps ∙ (one_joined (fresh_resolution s g 0) ((shape_of g 0).levels + 1) levels
       ∙ one_joined (one_precinct s g 0 0) (size_of (precincts_in g 0 0)) size)
 
@@ -168,7 +166,7 @@ module _ (siz : Siz) (cod : Cod) (quant : Quant) (place at : ℕ) (range : SizIn
   one_in_tile g is =
       let comps : length g.shapes ≡ 1 = ap (λ (x : Geometry). length x.shapes) is in
       let levels : (shape_of g 0).levels + 1 ≡ 1 = ap (λ (x : Geometry). (shape_of x 0).levels + 1) is in
-      let size : size_of (blocks_in g 0 0 LL) ≡ 1 = ap (λ (x : Geometry). size_of (blocks_in x 0 0 LL)) is ∙ one_block_in (canvas_of siz) cod.shape.xcb cod.shape.ycb is_one cod block.layers in
+      let size : size_of (blocks_in g 0 0 LL) ≡ 1 = ap (λ (x : Geometry). size_of (blocks_in x 0 0 LL)) is ∙ one_block_in is_one cod block.layers in
       one_joined (component_blocks s g []) (length g.shapes) comps ∙ (one_joined (resolution_blocks s g [] 0) ((shape_of g 0).levels + 1) levels
       ∙ (append-nil (band_blocks s g [] 0 0 LL) ∙ one_joined (one_block s g [] 0 0 LL) (size_of (blocks_in g 0 0 LL)) size))
 
@@ -190,15 +188,19 @@ module _ (siz : Siz) (cod : Cod) (quant : Quant) (place at : ℕ) (range : SizIn
     cut_up = record {
       order = list_there;
       end = at_end;
-      are = (at_end, record {
-        body = record { at = at; length = 1 };
-        later = [];
-        due_is = refl;
-        state = first_state;
-        known = rw (number_zero (geometry s 0), one_fresh (geometry s 0) geometry_is) refl;
-        cut = subst (λ (w : List ℕ). IsCut (take 1 w) 0 first_state cut_there) (sym here) (is_cut packet small first_state);
-        new_is = rw (number_zero (geometry s 0), one_fresh (geometry s 0) geometry_is) refl;
-      }, refl);
+      are = (
+        at_end,
+        record {
+          body = record { at = at; length = 1 };
+          later = [];
+          due_is = refl;
+          state = first_state;
+          known = rw (number_zero (geometry s 0), one_fresh (geometry s 0) geometry_is) refl;
+          cut = subst (λ (w : List ℕ). IsCut (take 1 w) 0 first_state cut_there) (sym here) (is_cut packet small first_state);
+          new_is = rw (number_zero (geometry s 0), one_fresh (geometry s 0) geometry_is) refl;
+        },
+        refl,
+      );
       none_left = refl;
     }
 

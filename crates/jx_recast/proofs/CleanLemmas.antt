@@ -1,5 +1,5 @@
 -- The smallest codestreams spell a stream, violate no rule of headers and pass no limit of theirs.
-use Rattle.std.proofs.Common.{◌≡◌, ◌∙◌, ◌<◌, ◌≤◌, ◌+◌, ◌-◌, ◌/◌, ◌%◌, ◌==◌, ◌&&◌, ◌||◌, ◌^◌, ℕ, zero, suc, Bool, true, false, not, nat_lt, nat_le, arith, List, [], ◌∷◌, ◌++◌, length, drop, get_or, refl, sym, ap, inl, append-nil, append_assoc, None, slice_index}
+use Rattle.std.proofs.Common.{◌≡◌, ◌∙◌, ◌<◌, ◌≤◌, ◌+◌, ◌-◌, ◌/◌, ◌%◌, ◌==◌, ◌&&◌, ◌||◌, ◌^◌, ℕ, Bool, true, false, not, nat_lt, nat_le, arith, List, [], ◌∷◌, ◌++◌, length, drop, get_or, refl, sym, ap, inl, append-nil, append_assoc, None, slice_index}
 use Rattle.std.specs.List.{list_all, find}
 use Rattle.std.proofs.lemmas.Bool.Decides.{nat_tests}
 use Rattle.jx_marker.specs.declared.CompSize.{CompSize}
@@ -16,7 +16,7 @@ use Rattle.jx_stream.specs.declared.Tile.{Tile}
 use Rattle.jx_stream.specs.Parts.{comes_out_of_turn}
 use Rattle.jx_stream.specs.Tiles.{entry_of, tile_of}
 use Rattle.jx_stream.specs.Params.{planes_of, planes_fault, tile_has_too_few, tile_planes}
-use Rattle.jx_stream.specs.First.{canvas_of, tile_number, tiles_fault, lacks_part, first_fault}
+use Rattle.jx_stream.specs.First.{tile_number, tiles_fault, first_fault}
 use Rattle.jx_stream.specs.Spells.{TilePart, all_bytes, placed, first_sot, Spells}
 use Rattle.jx_stream.proofs.PartLemmas.{both, is_equal}
 use Rattle.jx_stream.proofs.FirstLemmas.{canvas_fits}
@@ -25,7 +25,7 @@ use Rattle.jx_stream.proofs.UniqueLemmas.{clear_limits}
 use Rattle.jx_gather.specs.Shapes.{no_size}
 use Rattle.jx_recast.specs.declared.small.Headers.{Headers}
 use Rattle.jx_recast.specs.Small.{AreInRange, IsSmall, headers_at, packet_at, is_one_of_each, is_one_component, is_one_tile, is_one_packet, is_one_block, is_one_step, is_one_part, spelled, has_grid_sampling}
-use Rattle.jx_recast.proofs.SmallLemmas.{tail_end, tail_sod, tail_sot, tail_cod, tail_siz}
+use Rattle.jx_recast.proofs.SmallLemmas.{tail_end, tail_sot, tail_cod, tail_siz}
 use Rattle.jx_recast.proofs.OneTileLemmas.{one_along}
 
 -- what the tests of the headers say

@@ -1,11 +1,11 @@
 -- A tile of one packet: its name is the whole list of its progression entry.
-use Rattle.std.proofs.Common.{◌≡◌, ◌≢◌, ◌<◌, ◌≤◌, ◌^◌, ◌∙◌, ℕ, arith, List, [], ◌∷◌, length, refl, sym, ap, subst, inl, inr, ◌⊎◌}
+use Rattle.std.proofs.Common.{◌≡◌, ◌<◌, ◌≤◌, ℕ, arith, [], ◌∷◌, refl, sym, ap, subst, inl, inr}
 use Rattle.std.specs.List.{Contains}
 use Rattle.jx_base.specs.declared.names.Band.TheVariants.{LL}
 use Rattle.jx_base.specs.Places.{size_of}
 use Rattle.jx_marker.specs.declared.Cod.{Cod}
 use Rattle.jx_geom.specs.declared.shape.Canvas.{Canvas}
-use Rattle.jx_geom.specs.Geometry.{Geometry, HasResolution, blocks_in, precincts_in, shape_of}
+use Rattle.jx_geom.specs.Geometry.{Geometry, blocks_in, precincts_in, shape_of}
 use Rattle.jx_order.specs.declared.names.PacketName.{PacketName}
 use Rattle.jx_order.specs.Packets.{IsPacket, IsOrder, AreCovered, Covers, Sends}
 use Rattle.jx_order.proofs.OrderLemmas.{same_fields, contains_cons, contains_head, contains_none}
@@ -18,15 +18,15 @@ one_geometry c xcb ycb = record { canvas = c; tile = 0; shapes = one_shape xcb y
 abbrev pub first_packet : PacketName
 first_packet = record { layer = 0; res = 0; comp = 0; precinct = 0 }
 
-module _ (c : Canvas) (xcb ycb : ℕ) (is : IsOneTile c xcb ycb) (cod : Cod) (layers : cod.layers ≡ 1) where
+module _ {c : Canvas} {xcb ycb : ℕ} (is : IsOneTile c xcb ycb) (cod : Cod) (layers : cod.layers ≡ 1) where
   abbrev g : Geometry
   g = one_geometry c xcb ycb
 
   pub one_in : size_of (precincts_in g 0 0) ≡ 1
-  one_in = rw (tile_is c xcb ycb is) (one_precinct c xcb ycb is)
+  one_in = rw (tile_is is) (one_precinct is)
 
   pub one_block_in : size_of (blocks_in g 0 0 LL) ≡ 1
-  one_block_in = rw (tile_is c xcb ycb is) (one_cell c xcb ycb is)
+  one_block_in = rw (tile_is is) (one_cell is)
 
   at_zero : (r : ℕ) → r ≤ 0 → r ≡ 0
   at_zero r h = omega arith
@@ -63,11 +63,11 @@ module _ (c : Canvas) (xcb ycb : ℕ) (is : IsOneTile c xcb ycb) (cod : Cod) (la
 
   listed : (p : PacketName) → Contains (first_packet ∷ []) p → IsPacket g cod.layers p × Covers (entry_of cod) p × (Contains [] p → ⊥)
   listed p h = elim (contains_cons first_packet [] p h) [
-      | inl same ↦
-          let there : IsPacket g cod.layers p = subst (λ (q : PacketName). IsPacket g cod.layers q) same is_first in
-          (there, covered p there, contains_none p)
-      | inr more ↦ absurd (contains_none p more)
-    ]
+    | inl same ↦
+        let there : IsPacket g cod.layers p = subst (λ (q : PacketName). IsPacket g cod.layers q) same is_first in
+        (there, covered p there, contains_none p)
+    | inr more ↦ absurd (contains_none p more)
+  ]
 
   lists : (p : PacketName) → IsPacket g cod.layers p × Covers (entry_of cod) p × (Contains [] p → ⊥) → Contains (first_packet ∷ []) p
   lists p h = subst (λ (q : PacketName). Contains (first_packet ∷ []) q) (sym (only_packet p h.0)) (contains_head first_packet [])

@@ -1,9 +1,7 @@
 -- A tile that lies in the first cell of each grid has one precinct and one code-block.
-use Rattle.std.proofs.Common.{◌≡◌, ◌∙◌, ℕ, ◌+◌, ◌-◌, ◌*◌, ◌/◌, ◌%◌, ◌^◌, ◌≤◌, ◌<◌, min, max, nat_lt, true, List, [], ◌∷◌, refl, sym, ap, arith}
+use Rattle.std.proofs.Common.{◌≡◌, ◌∙◌, ℕ, ◌+◌, ◌-◌, ◌*◌, ◌/◌, ◌^◌, ◌≤◌, ◌<◌, min, max, nat_lt, true, [], refl, arith}
 use Rattle.std.proofs.Math.Nat.{div-eq_of_lt, pow-le-pow_right}
-use Rattle.std.proofs.lemmas.Nat.{pow_pos}
 use Rattle.std.proofs.lemmas.Bool.Decides.{nat_tests}
-use Rattle.jx_base.specs.declared.names.Span.{Span}
 use Rattle.jx_base.specs.declared.names.Rect.{Rect}
 use Rattle.jx_base.specs.declared.names.Band.TheVariants.{LL}
 use Rattle.jx_base.specs.Numbers.{ceil_of}
@@ -11,9 +9,9 @@ use Rattle.jx_base.specs.Places.{rect_of, span_of, size_of}
 use Rattle.jx_base.proofs.Ceilings.{ceil_least, ceil_above}
 use Rattle.jx_geom.specs.declared.shape.Canvas.{Canvas}
 use Rattle.jx_geom.specs.declared.shape.CompShape.{CompShape}
-use Rattle.jx_geom.specs.Ranges.{CanvasInRange, exponent_across, exponent_down}
+use Rattle.jx_geom.specs.Ranges.{CanvasInRange}
 use Rattle.jx_geom.specs.Spans.{tiles_along, tile_span, scaled, band_span, cells}
-use Rattle.jx_geom.specs.Rects.{tiles_across, tiles_down, tile_rect, component_rect, resolution_rect, band_rect, precinct_cells, block_cells, block_across, block_down}
+use Rattle.jx_geom.specs.Rects.{tiles_across, tiles_down, tile_rect, component_rect, resolution_rect, band_rect, precinct_cells, block_cells}
 use Rattle.jx_geom.specs.Counts.{resolution_blocks, component_blocks, component_precincts}
 use Rattle.jx_stream.specs.Params.{precincts_of}
 
@@ -83,7 +81,7 @@ in_precinct n e few le =
     let grows : 2 ^ e ≤ 2 ^ 10 = pow-le-pow_right two few in
     omega arith
 
-module _ (c : Canvas) (xcb ycb : ℕ) (is : IsOneTile c xcb ycb) where
+module _ {c : Canvas} {xcb ycb : ℕ} (is : IsOneTile c xcb ycb) where
   abbrev pub area : Rect
   area = rect_of (span_of c.x0 c.x1) (span_of c.y0 c.y1)
 
@@ -110,8 +108,10 @@ module _ (c : Canvas) (xcb ycb : ℕ) (is : IsOneTile c xcb ycb) where
 
   precincts_are : precinct_cells area (one_shape xcb ycb) 0 ≡ first_place
   unfolding precinct_cells
-  precincts_are = rw resolution_is (rw (first_cell c.x0 c.x1 32768 is.range.some_across (in_precinct c.x1 xcb is.few_across is.wide),
-    first_cell c.y0 c.y1 32768 is.range.some_down (in_precinct c.y1 ycb is.few_down is.high)) refl)
+  precincts_are = rw resolution_is (rw (
+    first_cell c.x0 c.x1 32768 is.range.some_across (in_precinct c.x1 xcb is.few_across is.wide),
+    first_cell c.y0 c.y1 32768 is.range.some_down (in_precinct c.y1 ycb is.few_down is.high),
+  ) refl)
 
   band_is : band_rect area (one_shape xcb ycb) 0 LL ≡ area
   unfolding band_rect
