@@ -25,8 +25,8 @@ pub fn small_violates_nothing()
     ensures { (bytes : List ℕ) → IsSmall bytes → first_fault bytes ≡ None }
 {}
 
-/// The smallest codestreams are read whole: they violate no rule up to 31 and pass no limit up to 6, and their
-/// one code-block has no pass.
+/// The smallest codestreams are read whole: they violate none of the rules 1 to 31 and pass none of the limits
+/// 3 to 6, and their one code-block has no pass.
 pub fn small_is_accepted()
     ensures accepted { (bytes : List ℕ) → IsSmall bytes → IsAccepted bytes (stream_in bytes) }
     ensures one_block { (bytes : List ℕ) → IsSmall bytes → HasOneBlock bytes (stream_in bytes) }
