@@ -1,6 +1,7 @@
 -- The smallest codestreams are read whole: their one packet is empty, and no byte is left.
-use Rattle.std.proofs.Common.{◌≡◌, ◌∙◌, ◌<◌, ◌+◌, ◌/◌, ◌==◌, ℕ, true, false, nat_lt, arith, List, [], ◌∷◌, append-nil, length, take, drop, refl, sym, ap, subst, Ok, None}
+use Rattle.std.proofs.Common.{◌≡◌, ◌∙◌, ◌<◌, ◌+◌, ◌-◌, ◌/◌, ◌==◌, ℕ, true, false, nat_lt, arith, List, [], ◌∷◌, ◌++◌, append-nil, length, take, drop, refl, sym, ap, subst, Ok, None}
 use Rattle.std.proofs.Math.Nat.{div-eq_of_lt}
+use Rattle.std.proofs.Math.Seq.{take-append_seam}
 use Rattle.std.proofs.lemmas.Bool.Decides.{nat_tests}
 use Rattle.jx_base.specs.declared.pieces.Block.{Block}
 use Rattle.jx_base.specs.declared.names.Band.TheVariants.{LL}
@@ -8,10 +9,12 @@ use Rattle.jx_base.specs.Places.{size_of}
 use Rattle.jx_marker.specs.declared.Siz.{Siz}
 use Rattle.jx_marker.specs.declared.Cod.{Cod}
 use Rattle.jx_marker.specs.declared.Quant.{Quant}
+use Rattle.jx_marker.specs.declared.Segment.TheVariants as segment
+use Rattle.jx_marker.specs.Segments.{spelling}
 use Rattle.jx_marker.specs.Ranges.{SizInRange, CodInRange}
 use Rattle.jx_geom.specs.declared.shape.CompShape.{CompShape}
 use Rattle.jx_geom.specs.Geometry.{Geometry, blocks_in, precincts_in, shape_of}
-use Rattle.jx_tagtree.specs.Header.{bits_of, end_after, low_bits}
+use Rattle.jx_tagtree.specs.Header.{low_bits}
 use Rattle.jx_head.specs.Packet.{State, IsPacket}
 use Rattle.jx_order.specs.Packets.{IsOrder, AreCovered}
 use Rattle.jx_order.specs.Steps.{joined}
@@ -20,77 +23,82 @@ use Rattle.jx_stream.specs.Tiles.{entry_of}
 use Rattle.jx_stream.specs.First.{canvas_of, tile_number, stream_in}
 use Rattle.jx_stream.proofs.FirstLemmas.{canvas_fits}
 use Rattle.jx_stream.proofs.UniqueLemmas.{is_read}
+use Rattle.jx_recast.specs.declared.small.Headers.{Headers}
 use Rattle.jx_gather.specs.Shapes.{IsRead, shapes_of, geometry}
 use Rattle.jx_gather.specs.Totals.{block_total, packet_total, totals_fault}
 use Rattle.jx_gather.specs.Cells.{fresh_precinct, fresh_precincts, fresh_component, fresh_resolution, one_precinct, precinct_number}
-use Rattle.jx_gather.specs.Data.{sop_fault, header_in, front_length, body_fault}
+use Rattle.jx_gather.specs.Data.{due, sop_fault, header_in, front_length, body_fault}
 use Rattle.jx_gather.specs.Cuts.{Cut, IsCut, Left, number_of}
 use Rattle.jx_gather.specs.Blocks.{founds_of, own_founds, block_of, one_block, band_blocks, resolution_blocks, component_blocks, tile_blocks}
 use Rattle.jx_gather.specs.Gathered.{IsWhole, IsListOf, IsCutUp, IsGathered, AreTileBlocks}
 use Rattle.jx_gather.specs.Accepted.{IsAccepted}
 use Rattle.jx_recast.specs.OneBlock.{HasOneBlock}
-use Rattle.jx_recast.specs.Small.{IsSmall, headers_at, packet_at}
-use Rattle.jx_recast.proofs.SmallLemmas.{tail_end}
+use Rattle.jx_recast.specs.Small.{IsSmall, AreInRange, headers_at, packet_at, spelled, with_sop, marked_packet, output}
+use Rattle.jx_recast.proofs.SmallLemmas.{output_same, output_in_range}
 use Rattle.jx_recast.proofs.OneTileLemmas.{one_shape, IsOneTile, one_across, one_down, tile_is, precincts_count, blocks_count}
 use Rattle.jx_recast.proofs.OneListLemmas.{one_geometry, first_packet, one_in, one_block_in, one_whole, one_list}
-use Rattle.jx_recast.proofs.CleanLemmas.{IsOneBlock, plain_stream, is_single, one_tile, sot_place, small_stream, small_spells, small_tiles, small_planes, small_data}
+use Rattle.jx_recast.proofs.CleanLemmas.{IsOneBlock, IsSingle, plain_stream, is_single, is_single_output, one_tile, sot_place, the_stream, spells_stream, tiles_none, stream_planes, body_there}
 
--- an empty packet of one byte
+-- an empty packet, whose header is one byte, with SOP or not
 
-few_bits : (packet : ℕ) → packet < 128 → packet / 128 ≡ 0
-few_bits packet small = div-eq_of_lt small
+pub record IsEmpty (w : List ℕ) (packet : ℕ) : Type 0 where
+  pub some : (length w == 0) ≡ false
+  pub first_bit : packet < 128
+  pub sop : sop_fault w 0 0 ≡ None
+  pub header : header_in w ≡ packet ∷ []
+  pub front : front_length w 1 ≡ length w
 
 not_ff : (packet : ℕ) → packet < 128 → (packet == 255) ≡ false
 not_ff packet small = grind (arith, nat_tests)
 
-module _ (packet : ℕ) (small : packet < 128) where
-  no_sop : sop_fault (packet ∷ []) 0 0 ≡ None
-  unfolding sop_fault
-  no_sop = rw (not_ff packet small) refl
+without_sop : (packet : ℕ) → packet < 128 → IsEmpty (packet ∷ []) packet
+unfolding sop_fault header_in front_length
+without_sop packet small = record {
+  some = refl;
+  first_bit = small;
+  sop = rw (not_ff packet small) refl;
+  header = rw (not_ff packet small) refl;
+  front = rw (not_ff packet small) refl;
+}
 
-  header_whole : header_in (packet ∷ []) ≡ packet ∷ []
-  unfolding header_in
-  header_whole = rw (not_ff packet small) refl
+with_marker : IsEmpty marked_packet 0
+unfolding sop_fault header_in front_length
+with_marker = record { some = refl; first_bit = omega arith; sop = refl; header = refl; front = refl }
 
-  front_one : front_length (packet ∷ []) 1 ≡ 1
-  unfolding front_length header_in
-  front_one = rw (not_ff packet small) refl
+abbrev next_state : State → State
+next_state k = record { style = k.style; layer = k.layer + 1; bands = k.bands }
 
-  body_clear : body_fault (packet ∷ []) 0 1 [] ≡ None
-  unfolding body_fault
-  body_clear = rw front_one refl
+abbrev one_cut : ℕ → State → Cut
+one_cut size k = record { name = first_packet; count = size; used = 1; parts = []; bytes = []; after = next_state k }
 
-  first_bit : (bits_of (packet ∷ [])).bits ≡ false ∷ low_bits 7 packet
-  first_bit = rw (few_bits packet small) refl
+is_empty : (packet : ℕ) → packet < 128 → (k : State) → IsPacket (packet ∷ []) k [] 1 (next_state k)
+is_empty packet small k =
+    let low : packet / 128 ≡ 0 = div-eq_of_lt small in
+    record {
+      header = record { some = false; tolds = [] };
+      is = refl;
+      rest = low_bits 7 packet;
+      stands = rw low refl;
+      ends = rw (not_ff packet small) refl;
+      parts_are = refl;
+      after_is = refl;
+    }
 
-  ends_there : end_after (packet ∷ []) 1 ≡ Ok 1
-  ends_there = rw (not_ff packet small) refl
+inside : (n : ℕ) → nat_lt n (n + 0) ≡ false
+inside n = grind (arith, nat_tests)
 
-  abbrev next_state : State → State
-  next_state k = record { style = k.style; layer = k.layer + 1; bands = k.bands }
+no_fault : (w : List ℕ) → front_length w 1 ≡ length w → body_fault w 0 1 [] ≡ None
+unfolding body_fault
+no_fault w front = rw (front, inside (length w)) refl
 
-  is_empty : (k : State) → IsPacket (packet ∷ []) k [] 1 (next_state k)
-  is_empty k = record {
-    header = record { some = false; tolds = [] };
-    is = refl;
-    rest = low_bits 7 packet;
-    stands = first_bit;
-    ends = ends_there;
-    parts_are = refl;
-    after_is = refl;
-  }
-
-  abbrev one_cut : State → Cut
-  one_cut k = record { name = first_packet; count = 1; used = 1; parts = []; bytes = []; after = next_state k }
-
-  is_cut : (k : State) → IsCut (packet ∷ []) 0 k (one_cut k)
-  is_cut k = record {
-    sop = no_sop;
-    header = subst (λ (w : List ℕ). IsPacket w k [] 1 (next_state k)) (sym header_whole) (is_empty k);
-    body = body_clear;
-    count_is = rw front_one refl;
-    bytes_are = refl;
-  }
+is_cut : (w : List ℕ) (packet : ℕ) (is : IsEmpty w packet) (k : State) → IsCut w 0 k (one_cut (length w) k)
+is_cut w packet is k = record {
+  sop = is.sop;
+  header = subst (λ (x : List ℕ). IsPacket x k [] 1 (next_state k)) (sym is.header) (is_empty packet is.first_bit k);
+  body = no_fault w is.front;
+  count_is = omega (arith, is.front);
+  bytes_are = refl;
+}
 
 -- the one item of a joined list
 
@@ -100,9 +108,9 @@ one_joined f n e = rw e refl
 
 -- the stream
 
-module _ (siz : Siz) (cod : Cod) (quant : Quant) (place at : ℕ) (range : SizInRange siz) (cod_range : CodInRange cod) (block : IsOneBlock siz cod) where
+module _ (siz : Siz) (cod : Cod) (quant : Quant) (place at size : ℕ) (range : SizInRange siz) (cod_range : CodInRange cod) (block : IsOneBlock siz cod) where
   abbrev s : Stream
-  s = plain_stream siz cod quant place at
+  s = plain_stream siz cod quant place at size
 
   abbrev one_g : Geometry
   one_g = one_geometry (canvas_of siz) cod.shape.xcb cod.shape.ycb
@@ -174,15 +182,28 @@ module _ (siz : Siz) (cod : Cod) (quant : Quant) (place at : ℕ) (range : SizIn
   unfolding precinct_number
   number_zero g = refl
 
-  module _ (b : List ℕ) (packet : ℕ) (small : packet < 128) (here : drop at b ≡ tail_end packet) where
+  module _ (b w rest : List ℕ) (packet : ℕ) (empty : IsEmpty w packet) (long : length w ≡ size) (here : drop at b ≡ w ++ rest) where
     abbrev first_state : State
     first_state = fresh_precinct s (geometry s 0) 0 0 0
 
     abbrev cut_there : Cut
-    cut_there = one_cut packet small first_state
+    cut_there = one_cut size first_state
 
     abbrev at_end : Left
-    at_end = record { bodies = record { at = at + 1; length = 0 } ∷ []; states = next_state packet small first_state ∷ [] }
+    at_end = record { bodies = record { at = at + size; length = size - size } ∷ []; states = next_state first_state ∷ [] }
+
+    some_left : (size == 0) ≡ false
+    some_left = sym (ap (λ (n : ℕ). n == 0) long) ∙ empty.some
+
+    window_is : take size (drop at b) ≡ w
+    window_is = ap (λ (x : List ℕ). take size x) here ∙ (ap (λ (n : ℕ). take n (w ++ rest)) (sym long) ∙ take-append_seam w rest)
+
+    cut_is : IsCut (take size (drop at b)) 0 first_state cut_there
+    cut_is = subst (λ (x : List ℕ). IsCut x 0 first_state cut_there) (sym window_is)
+        (subst (λ (n : ℕ). IsCut w 0 first_state (one_cut n first_state)) long (is_cut w packet empty first_state))
+
+    none_over : due at_end.bodies ≡ []
+    none_over = let nothing : size - size ≡ 0 = omega arith in rw nothing refl
 
     cut_up : IsCutUp b s 0 (cut_there ∷ [])
     cut_up = record {
@@ -191,17 +212,17 @@ module _ (siz : Siz) (cod : Cod) (quant : Quant) (place at : ℕ) (range : SizIn
       are = (
         at_end,
         record {
-          body = record { at = at; length = 1 };
+          body = record { at = at; length = size };
           later = [];
-          due_is = refl;
+          due_is = rw some_left refl;
           state = first_state;
           known = rw (number_zero (geometry s 0), one_fresh (geometry s 0) geometry_is) refl;
-          cut = subst (λ (w : List ℕ). IsCut (take 1 w) 0 first_state cut_there) (sym here) (is_cut packet small first_state);
+          cut = cut_is;
           new_is = rw (number_zero (geometry s 0), one_fresh (geometry s 0) geometry_is) refl;
         },
         refl,
       );
-      none_left = refl;
+      none_left = none_over;
     }
 
     one_tile_there : tile_number siz ≡ 1
@@ -238,32 +259,46 @@ module _ (siz : Siz) (cod : Cod) (quant : Quant) (place at : ℕ) (range : SizIn
 below_128 : (packet : ℕ) → nat_lt packet 128 ≡ true → packet < 128
 below_128 packet h = grind (arith, nat_tests)
 
--- the stream in such a file
-record IsSmallIn (bytes : List ℕ) (s : Stream) : Type 0 where
+-- the stream in a file
+record IsReadWhole (bytes : List ℕ) (s : Stream) : Type 0 where
   read : IsRead bytes s
   totals : totals_fault s ≡ None
   one : HasOneBlock bytes s
 
-small_is_in : (bytes : List ℕ) → IsSmall bytes → IsSmallIn bytes (stream_in bytes)
-small_is_in bytes small =
-    let h = headers_at bytes in
-    let packet = packet_at bytes in
-    let whole = small.spells.whole in
-    let ranges = small.spells.ranges in
-    let single = is_single h small.single in
-    let place = sot_place bytes h packet whole ranges single in
-    let spells = small_spells bytes h packet whole ranges single in
-    subst (IsSmallIn bytes) (is_read bytes (small_stream bytes h packet whole ranges single) spells).stream (record {
-      read = record { spelled = spells; tiles = small_tiles bytes h packet whole ranges single; planes = small_planes bytes h packet whole ranges single };
-      totals = totals_none h.siz h.cod h.quant place (place + 14) ranges.siz ranges.cod single.block;
-      one = has_one_block h.siz h.cod h.quant place (place + 14) ranges.siz ranges.cod single.block
-          bytes packet (below_128 packet small.empty) (small_data bytes h packet whole ranges single);
+is_whole : (b : List ℕ) (h : Headers) (body : List ℕ) (packet : ℕ) → b ≡ spelled h body → AreInRange h → IsSingle h (length body) → IsEmpty body packet → IsReadWhole b (stream_in b)
+is_whole b h body packet whole ranges single empty =
+    let place = sot_place b h body whole ranges single in
+    let spells = spells_stream b h body whole ranges single in
+    subst (IsReadWhole b) (is_read b (the_stream b h body whole ranges single) spells).stream (record {
+      read = record { spelled = spells; tiles = tiles_none b h body whole ranges single; planes = stream_planes b h body whole ranges single };
+      totals = totals_none h.siz h.cod h.quant place (place + 14) (length body) ranges.siz ranges.cod single.block;
+      one = has_one_block h.siz h.cod h.quant place (place + 14) (length body) ranges.siz ranges.cod single.block
+          b body (spelling 1 segment.Eoc) packet empty refl (body_there b h body whole ranges single);
     })
 
+accepted : (b : List ℕ) (s : Stream) → IsReadWhole b s → IsAccepted b s
+accepted b s is = record { read = is.read; totals = is.totals; blocks = is.one.block ∷ []; gathered = is.one.gathered }
+
+-- one of the smallest codestreams, and its output
+
+whole_input : (bytes : List ℕ) → IsSmall bytes → IsReadWhole bytes (stream_in bytes)
+whole_input bytes small =
+    is_whole bytes (headers_at bytes) (packet_at bytes ∷ []) (packet_at bytes) small.spells.whole small.spells.ranges (is_single (headers_at bytes) small.single)
+    (without_sop (packet_at bytes) (below_128 (packet_at bytes) small.empty))
+
+whole_output : (bytes : List ℕ) → IsSmall bytes → IsReadWhole (output bytes) (stream_in (output bytes))
+whole_output bytes small =
+    is_whole (output bytes) (with_sop (headers_at bytes)) marked_packet 0 (output_same bytes) (output_in_range bytes small)
+    (is_single_output (headers_at bytes) (is_single (headers_at bytes) small.single)) with_marker
+
 pub small_is_accepted : (bytes : List ℕ) → IsSmall bytes → IsAccepted bytes (stream_in bytes)
-small_is_accepted bytes small =
-    let is = small_is_in bytes small in
-    record { read = is.read; totals = is.totals; blocks = is.one.block ∷ []; gathered = is.one.gathered }
+small_is_accepted bytes small = accepted bytes (stream_in bytes) (whole_input bytes small)
 
 pub small_has_one_block : (bytes : List ℕ) → IsSmall bytes → HasOneBlock bytes (stream_in bytes)
-small_has_one_block bytes small = (small_is_in bytes small).one
+small_has_one_block bytes small = (whole_input bytes small).one
+
+pub output_is_accepted : (bytes : List ℕ) → IsSmall bytes → IsAccepted (output bytes) (stream_in (output bytes))
+output_is_accepted bytes small = accepted (output bytes) (stream_in (output bytes)) (whole_output bytes small)
+
+pub output_has_one_block : (bytes : List ℕ) → IsSmall bytes → HasOneBlock (output bytes) (stream_in (output bytes))
+output_has_one_block bytes small = (whole_output bytes small).one

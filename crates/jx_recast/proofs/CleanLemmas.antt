@@ -1,5 +1,5 @@
 -- The smallest codestreams spell a stream, violate no rule of headers and pass no limit of theirs.
-use Rattle.std.proofs.Common.{◌≡◌, ◌∙◌, ◌<◌, ◌≤◌, ◌+◌, ◌-◌, ◌/◌, ◌%◌, ◌==◌, ◌&&◌, ◌||◌, ◌^◌, ℕ, Bool, true, false, not, nat_lt, nat_le, arith, List, [], ◌∷◌, ◌++◌, length, drop, get_or, refl, sym, ap, inl, append-nil, append_assoc, None, slice_index}
+use Rattle.std.proofs.Common.{◌≡◌, ◌∙◌, ◌<◌, ◌≤◌, ◌+◌, ◌-◌, ◌/◌, ◌%◌, ◌==◌, ◌&&◌, ◌||◌, ◌^◌, ℕ, Bool, true, false, not, nat_lt, nat_le, arith, List, [], ◌∷◌, ◌++◌, length, drop, get_or, refl, sym, ap, inl, append-nil, append_assoc, length-append, None, slice_index}
 use Rattle.std.specs.List.{list_all, find}
 use Rattle.std.proofs.lemmas.Bool.Decides.{nat_tests}
 use Rattle.jx_marker.specs.declared.CompSize.{CompSize}
@@ -17,22 +17,22 @@ use Rattle.jx_stream.specs.Parts.{comes_out_of_turn}
 use Rattle.jx_stream.specs.Tiles.{entry_of, tile_of}
 use Rattle.jx_stream.specs.Params.{planes_of, planes_fault, tile_has_too_few, tile_planes}
 use Rattle.jx_stream.specs.First.{tile_number, tiles_fault, first_fault}
-use Rattle.jx_stream.specs.Spells.{TilePart, all_bytes, placed, first_sot, Spells}
+use Rattle.jx_stream.specs.Spells.{TilePart, all_bytes, head_bytes, file_bytes, placed, first_sot, Spells}
 use Rattle.jx_stream.proofs.PartLemmas.{both, is_equal}
 use Rattle.jx_stream.proofs.FirstLemmas.{canvas_fits}
 use Rattle.jx_stream.proofs.OneLemmas.{drop_on}
 use Rattle.jx_stream.proofs.UniqueLemmas.{clear_limits}
 use Rattle.jx_gather.specs.Shapes.{no_size}
 use Rattle.jx_recast.specs.declared.small.Headers.{Headers}
-use Rattle.jx_recast.specs.Small.{AreInRange, IsSmall, headers_at, packet_at, is_one_of_each, is_one_component, is_one_tile, is_one_packet, is_one_block, is_one_step, is_one_part, spelled, has_grid_sampling}
-use Rattle.jx_recast.proofs.SmallLemmas.{tail_end, tail_sot, tail_cod, tail_siz}
+use Rattle.jx_recast.specs.Small.{AreInRange, IsSmall, headers_at, packet_at, is_one_of_each, is_one_component, is_one_tile, is_one_packet, is_one_block, is_one_step, is_one_part, spelled, with_sop, has_grid_sampling}
 use Rattle.jx_recast.proofs.OneTileLemmas.{one_along}
 
 -- what the tests of the headers say
 
-pub record IsPart (sot : Sot) : Type 0 where
+-- the tile's only tile-part, with so many bytes of data
+pub record IsPart (sot : Sot) (size : ℕ) : Type 0 where
   pub tile : sot.tile ≡ 0
-  pub psot : sot.psot ≡ 15
+  pub psot : sot.psot ≡ 14 + size
   pub part : sot.part ≡ 0
   pub parts : sot.parts ≤ 1
 
@@ -54,10 +54,10 @@ pub record IsOneBlock (siz : Siz) (cod : Cod) : Type 0 where
   pub wide : siz.x1 ≤ 2 ^ cod.shape.xcb
   pub high : siz.y1 ≤ 2 ^ cod.shape.ycb
 
-pub record IsSingle (h : Headers) : Type 0 where
+pub record IsSingle (h : Headers) (size : ℕ) : Type 0 where
   pub block : IsOneBlock h.siz h.cod
   pub plain : IsPlain h.cod h.quant
-  pub part : IsPart h.sot
+  pub part : IsPart h.sot size
 
 most : (a b : ℕ) → nat_le a b ≡ true → a ≤ b
 most a b h = grind (arith, nat_tests)
@@ -74,7 +74,7 @@ has_steps (comp ∷ []) size h =
     (is_equal comp.dx 1 two.0, is_equal comp.dy 1 two.1)
 has_steps (comp ∷ other ∷ comps) size h = absurd (omega arith)
 
-pub is_single : (h : Headers) → is_one_of_each h ≡ true → IsSingle h
+pub is_single : (h : Headers) → is_one_of_each h ≡ true → IsSingle h 1
 is_single h single =
     let siz = h.siz in
     let cod = h.cod in
@@ -166,11 +166,11 @@ module _ (cod : Cod) (quant : Quant) (range : QuantInRange quant 0) (plain : IsP
 
 -- the stream of such a file whose SOT stands at a place, and its tile's data at another
 
-abbrev pub plain_tile : Cod → ℕ → ℕ → Tile
-plain_tile cod place at = record { place = place; header = []; notes = []; progressions = entry_of cod ∷ []; bodies = record { at = at; length = 1 } ∷ [] }
+abbrev pub plain_tile : Cod → ℕ → ℕ → ℕ → Tile
+plain_tile cod place at size = record { place = place; header = []; notes = []; progressions = entry_of cod ∷ []; bodies = record { at = at; length = size } ∷ [] }
 
-abbrev pub plain_stream : Siz → Cod → Quant → ℕ → ℕ → Stream
-plain_stream siz cod quant place at = record { siz = siz; main = segment.Cod cod ∷ segment.Qcd quant ∷ []; tiles = plain_tile cod place at ∷ [] }
+abbrev pub plain_stream : Siz → Cod → Quant → ℕ → ℕ → ℕ → Stream
+plain_stream siz cod quant place at size = record { siz = siz; main = segment.Cod cod ∷ segment.Qcd quant ∷ []; tiles = plain_tile cod place at size ∷ [] }
 
 in_turn : (part parts : ℕ) → part ≡ 0 → parts ≤ 1 → (not (part == 0) || (nat_lt 0 parts && (nat_le parts part || false))) ≡ false
 in_turn part parts zero_part few = grind (arith, nat_tests)
@@ -178,7 +178,14 @@ in_turn part parts zero_part few = grind (arith, nat_tests)
 regroup_two : (p q x : List ℕ) → p ++ (q ++ x) ≡ (p ++ (q ++ [])) ++ x
 regroup_two p q x = ap (λ (l : List ℕ). p ++ (l ++ x)) (sym (append-nil q)) ∙ sym (append_assoc p (q ++ []) x)
 
-module _ (b : List ℕ) (h : Headers) (packet : ℕ) (whole : b ≡ spelled h (packet ∷ [])) (ranges : AreInRange h) (single : IsSingle h) where
+-- what stands from the SOT on, and from the COD on
+abbrev pub rest_sot : Headers → List ℕ → List ℕ
+rest_sot h body = spelling 1 (segment.Sot h.sot) ++ (spelling 1 segment.Sod ++ (body ++ spelling 1 segment.Eoc))
+
+abbrev pub rest_cod : Headers → List ℕ → List ℕ
+rest_cod h body = spelling 1 (segment.Cod h.cod) ++ (spelling 1 (segment.Qcd h.quant) ++ rest_sot h body)
+
+module _ (b : List ℕ) (h : Headers) (body : List ℕ) (whole : b ≡ spelled h body) (ranges : AreInRange h) (single : IsSingle h (length body)) where
   abbrev two_segments : List Segment
   two_segments = segment.Cod h.cod ∷ segment.Qcd h.quant ∷ []
 
@@ -186,10 +193,13 @@ module _ (b : List ℕ) (h : Headers) (packet : ℕ) (whole : b ≡ spelled h (p
   sot_place = first_sot h.siz two_segments
 
   abbrev one_part : TilePart
-  one_part = record { sot = h.sot; header = []; body = packet ∷ [] }
+  one_part = record { sot = h.sot; header = []; body = body }
 
-  abbrev pub small_stream : Stream
-  small_stream = plain_stream h.siz h.cod h.quant sot_place (sot_place + 14)
+  abbrev pub the_tile : Tile
+  the_tile = plain_tile h.cod sot_place (sot_place + 14) (length body)
+
+  abbrev pub the_stream : Stream
+  the_stream = plain_stream h.siz h.cod h.quant sot_place (sot_place + 14) (length body)
 
   tiles_there : tile_number h.siz ≡ 1
   tiles_there = one_tile h.siz ranges.siz single.block.across single.block.down
@@ -197,50 +207,80 @@ module _ (b : List ℕ) (h : Headers) (packet : ℕ) (whole : b ≡ spelled h (p
   turn_kept : comes_out_of_turn [] h.sot ≡ false
   turn_kept = in_turn h.sot.part h.sot.parts single.part.part single.part.parts
 
-  own_tile : tile_of two_segments (placed 1 sot_place (one_part ∷ [])) 0 ≡ plain_tile h.cod sot_place (sot_place + 14)
+  own_tile : tile_of two_segments (placed 1 sot_place (one_part ∷ [])) 0 ≡ the_tile
   unfolding tile_of
   own_tile = rw single.part.tile refl
 
-  pub small_spells : Spells b small_stream
-  small_spells = record {
+  bytes_are : b ≡ file_bytes h.siz two_segments (one_part ∷ []) []
+  bytes_are =
+      let front : List ℕ → List ℕ = λ x. spelling 1 segment.Soc ++ (spelling 1 (segment.Siz h.siz) ++ x) in
+      let last : List ℕ → List ℕ = λ x. spelling 1 (segment.Sot h.sot) ++ (spelling 1 segment.Sod ++ (x ++ spelling 1 segment.Eoc)) in
+      whole ∙ ap front (regroup_two (spelling 1 (segment.Cod h.cod)) (spelling 1 (segment.Qcd h.quant)) (rest_sot h body))
+      ∙ ap (λ (x : List ℕ). front (all_bytes 1 two_segments ++ last x)) (sym (append-nil body))
+
+  pub spells_stream : Spells b the_stream
+  spells_stream = record {
     parts = one_part ∷ [];
     rest = [];
-    bytes = whole ∙ ap (λ (x : List ℕ). spelling 1 segment.Soc ++ (spelling 1 (segment.Siz h.siz) ++ x)) (regroup_two (spelling 1 (segment.Cod h.cod)) (spelling 1 (segment.Qcd h.quant)) (tail_sot h packet));
+    bytes = bytes_are;
     siz = ranges.siz;
     main = (record { range = ranges.cod; stands = refl; inside = refl; once = refl }, (record { range = ranges.quant; stands = refl; inside = refl; once = refl }, tt));
     defaults = refl;
     some = omega arith;
-    tile_parts = (record { range = ranges.sot; header = tt; tile = rw (single.part.tile, tiles_there) (omega arith); turn = turn_kept }, inl single.part.psot, tt);
+    tile_parts = (
+      record { range = ranges.sot; header = tt; tile = rw (single.part.tile, tiles_there) (omega arith); turn = turn_kept },
+      inl (single.part.psot ∙ sym (length-append (head_bytes 1 one_part) body)),
+      tt,
+    );
     each = rw (tiles_there, single.part.tile) refl;
     tiles = rw (tiles_there, own_tile) refl;
-    entries = entries_none h.cod h.quant ranges.quant single.plain (plain_tile h.cod sot_place (sot_place + 14)) refl (length h.siz.comps) single.block.comps;
+    entries = entries_none h.cod h.quant ranges.quant single.plain the_tile refl (length h.siz.comps) single.block.comps;
   }
 
-  pub small_tiles : tiles_fault h.siz ≡ None
-  small_tiles = one_tile_clear h.siz tiles_there
+  pub tiles_none : tiles_fault h.siz ≡ None
+  tiles_none = one_tile_clear h.siz tiles_there
 
-  pub small_planes : planes_fault two_segments (length h.siz.comps) small_stream.tiles ≡ None
-  small_planes = planes_none h.cod h.quant ranges.quant single.plain (plain_tile h.cod sot_place (sot_place + 14)) refl (length h.siz.comps) single.block.comps
+  pub stream_planes : planes_fault two_segments (length h.siz.comps) the_stream.tiles ≡ None
+  stream_planes = planes_none h.cod h.quant ranges.quant single.plain the_tile refl (length h.siz.comps) single.block.comps
 
   -- its data
-  pub small_data : drop (sot_place + 14) b ≡ tail_end packet
-  small_data =
-      let siz : drop 2 b ≡ tail_siz h packet = ap (λ (x : List ℕ). drop 2 x) whole in
-      let cod : drop (2 + length (spelling 1 (segment.Siz h.siz))) b ≡ tail_cod h packet =
-      drop_on b 2 (length (spelling 1 (segment.Siz h.siz))) (spelling 1 (segment.Siz h.siz)) (tail_cod h packet) siz refl in
-      let sot : drop sot_place b ≡ tail_sot h packet =
-      drop_on b (2 + length (spelling 1 (segment.Siz h.siz))) (length (all_bytes 1 two_segments)) (all_bytes 1 two_segments) (tail_sot h packet)
-      (cod ∙ regroup_two (spelling 1 (segment.Cod h.cod)) (spelling 1 (segment.Qcd h.quant)) (tail_sot h packet)) refl in
-      drop_on b sot_place 14 (spelling 1 (segment.Sot h.sot) ++ spelling 1 segment.Sod) (tail_end packet) sot refl
+  pub body_there : drop (sot_place + 14) b ≡ body ++ spelling 1 segment.Eoc
+  body_there =
+      let siz : drop 2 b ≡ spelling 1 (segment.Siz h.siz) ++ rest_cod h body = ap (λ (x : List ℕ). drop 2 x) whole in
+      let cod : drop (2 + length (spelling 1 (segment.Siz h.siz))) b ≡ rest_cod h body =
+      drop_on b 2 (length (spelling 1 (segment.Siz h.siz))) (spelling 1 (segment.Siz h.siz)) (rest_cod h body) siz refl in
+      let sot : drop sot_place b ≡ rest_sot h body =
+      drop_on b (2 + length (spelling 1 (segment.Siz h.siz))) (length (all_bytes 1 two_segments)) (all_bytes 1 two_segments) (rest_sot h body)
+      (cod ∙ regroup_two (spelling 1 (segment.Cod h.cod)) (spelling 1 (segment.Qcd h.quant)) (rest_sot h body)) refl in
+      drop_on b sot_place 14 (spelling 1 (segment.Sot h.sot) ++ spelling 1 segment.Sod) (body ++ spelling 1 segment.Eoc) sot refl
 
 -- the whole file
 
 pub small_is_clean : (bytes : List ℕ) → IsSmall bytes → first_fault bytes ≡ None
 small_is_clean bytes small =
     let h = headers_at bytes in
-    let packet = packet_at bytes in
+    let body = packet_at bytes ∷ [] in
     let whole = small.spells.whole in
     let ranges = small.spells.ranges in
     let single = is_single h small.single in
-    clear_limits bytes (small_stream bytes h packet whole ranges single) (small_spells bytes h packet whole ranges single)
-    (small_tiles bytes h packet whole ranges single) (small_planes bytes h packet whole ranges single)
+    clear_limits bytes (the_stream bytes h body whole ranges single) (spells_stream bytes h body whole ranges single)
+    (tiles_none bytes h body whole ranges single) (stream_planes bytes h body whole ranges single)
+
+-- the headers of its output are of the same kind, before seven bytes of data
+pub is_single_output : (h : Headers) → IsSingle h 1 → IsSingle (with_sop h) 7
+is_single_output h single = record {
+  block = record {
+    comps = single.block.comps;
+    step_across = single.block.step_across;
+    step_down = single.block.step_down;
+    across = single.block.across;
+    down = single.block.down;
+    layers = single.block.layers;
+    levels = single.block.levels;
+    precincts = single.block.precincts;
+    wide = single.block.wide;
+    high = single.block.high;
+  };
+  plain = record { levels = single.plain.levels; style = single.plain.style; entries = single.plain.entries };
+  part = record { tile = single.part.tile; psot = refl; part = single.part.part; parts = omega arith };
+}

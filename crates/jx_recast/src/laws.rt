@@ -31,3 +31,9 @@ pub fn small_is_accepted()
     ensures accepted { (bytes : List ℕ) → IsSmall bytes → IsAccepted bytes (stream_in bytes) }
     ensures one_block { (bytes : List ℕ) → IsSmall bytes → HasOneBlock bytes (stream_in bytes) }
 {}
+
+/// So is their output, which has one code-block without a pass too.
+pub fn output_is_accepted()
+    ensures accepted { (bytes : List ℕ) → IsSmall bytes → IsAccepted (output bytes) (stream_in (output bytes)) }
+    ensures one_block { (bytes : List ℕ) → IsSmall bytes → HasOneBlock (output bytes) (stream_in (output bytes)) }
+{}
