@@ -1,5 +1,5 @@
 -- The smallest codestreams are read whole: their one packet is empty, and no byte is left.
-use Rattle.std.proofs.Common.{◌≡◌, ◌∙◌, ◌<◌, ◌+◌, ◌-◌, ◌/◌, ◌==◌, ℕ, true, false, nat_lt, arith, List, [], ◌∷◌, ◌++◌, append-nil, length, take, drop, refl, sym, ap, subst, Ok, None}
+use Rattle.std.proofs.Common.{◌≡◌, ◌∙◌, ◌<◌, ◌+◌, ◌-◌, ◌/◌, ◌==◌, ℕ, true, false, nat_lt, arith, List, [], ◌∷◌, ◌++◌, append-nil, length, take, drop, refl, sym, ap, subst, None}
 use Rattle.std.proofs.Math.Nat.{div-eq_of_lt}
 use Rattle.std.proofs.Math.Seq.{take-append_seam}
 use Rattle.std.proofs.lemmas.Bool.Decides.{nat_tests}
@@ -32,7 +32,7 @@ use Rattle.jx_gather.specs.Cuts.{Cut, IsCut, Left, number_of}
 use Rattle.jx_gather.specs.Blocks.{founds_of, own_founds, block_of, one_block, band_blocks, resolution_blocks, component_blocks, tile_blocks}
 use Rattle.jx_gather.specs.Gathered.{IsWhole, IsListOf, IsCutUp, IsGathered, AreTileBlocks}
 use Rattle.jx_gather.specs.Accepted.{IsAccepted}
-use Rattle.jx_recast.specs.OneBlock.{HasOneBlock}
+use Rattle.jx_recast.specs.OneBlock.{HasOneBlock, KeepsBlock}
 use Rattle.jx_recast.specs.Small.{IsSmall, AreInRange, headers_at, packet_at, spelled, with_sop, marked_packet, output}
 use Rattle.jx_recast.proofs.SmallLemmas.{output_same, output_in_range}
 use Rattle.jx_recast.proofs.OneTileLemmas.{one_shape, IsOneTile, one_across, one_down, tile_is, precincts_count, blocks_count}
@@ -106,7 +106,12 @@ one_joined : {X : Type 0} (f : ℕ → List X) (n : ℕ) → n ≡ 1 → joined 
 unfolding joined
 one_joined f n e = rw e refl
 
--- the stream
+-- the stream, and its one block
+
+abbrev plain_block : Siz → Cod → Quant → Block
+plain_block siz cod quant =
+    block_of (plain_stream siz cod quant 0 0 0) (one_geometry (canvas_of siz) cod.shape.xcb cod.shape.ycb) []
+    (record { tile = 0; comp = 0; res = 0; band = LL; index = 0 })
 
 module _ (siz : Siz) (cod : Cod) (quant : Quant) (place at size : ℕ) (range : SizInRange siz) (cod_range : CodInRange cod) (block : IsOneBlock siz cod) where
   abbrev s : Stream
@@ -235,11 +240,13 @@ module _ (siz : Siz) (cod : Cod) (quant : Quant) (place at size : ℕ) (range : 
     blocks_in_tile t = tile_blocks s (geometry s t) (founds_of (geometry s t) (cut_there ∷ []))
 
     abbrev empty_block : Block
-    empty_block = block_of s (geometry s 0) [] (record { tile = 0; comp = 0; res = 0; band = LL; index = 0 })
+    empty_block = plain_block siz cod quant
 
     blocks_are : joined blocks_in_tile 0 (tile_number siz) ≡ empty_block ∷ []
     unfolding blocks_in_tile founds_of
-    blocks_are = one_joined blocks_in_tile (tile_number siz) one_tile_there ∙ one_in_tile (geometry s 0) geometry_is
+    blocks_are =
+        one_joined blocks_in_tile (tile_number siz) one_tile_there ∙ (one_in_tile (geometry s 0) geometry_is
+        ∙ ap (λ (g : Geometry). one_block s g [] 0 0 LL 0) geometry_is)
 
     gathered_there : IsGathered b s (empty_block ∷ [])
     unfolding blocks_in_tile
@@ -250,9 +257,9 @@ module _ (siz : Siz) (cod : Cod) (quant : Quant) (place at size : ℕ) (range : 
       blocks_are = sym blocks_are;
     }
 
-    pub has_one_block : HasOneBlock b s
+    pub has_one_block : HasOneBlock b s empty_block
     unfolding own_founds
-    has_one_block = record { total = one_total; block = empty_block; gathered = gathered_there; passes = refl; pieces = refl }
+    has_one_block = record { total = one_total; gathered = gathered_there; passes = refl; pieces = refl }
 
 -- the whole file
 
@@ -260,45 +267,47 @@ below_128 : (packet : ℕ) → nat_lt packet 128 ≡ true → packet < 128
 below_128 packet h = grind (arith, nat_tests)
 
 -- the stream in a file
-record IsReadWhole (bytes : List ℕ) (s : Stream) : Type 0 where
+record IsReadWhole (bytes : List ℕ) (s : Stream) (block : Block) : Type 0 where
   read : IsRead bytes s
   totals : totals_fault s ≡ None
-  one : HasOneBlock bytes s
+  one : HasOneBlock bytes s block
 
-is_whole : (b : List ℕ) (h : Headers) (body : List ℕ) (packet : ℕ) → b ≡ spelled h body → AreInRange h → IsSingle h (length body) → IsEmpty body packet → IsReadWhole b (stream_in b)
-is_whole b h body packet whole ranges single empty =
+read_whole : (b : List ℕ) (h : Headers) (body : List ℕ) (packet : ℕ) → b ≡ spelled h body → AreInRange h → IsSingle h (length body) → IsEmpty body packet
+    → IsReadWhole b (stream_in b) (plain_block h.siz h.cod h.quant)
+read_whole b h body packet whole ranges single empty =
     let place = sot_place b h body whole ranges single in
     let spells = spells_stream b h body whole ranges single in
-    subst (IsReadWhole b) (is_read b (the_stream b h body whole ranges single) spells).stream (record {
+    let P : Stream → Type 0 = λ s. IsReadWhole b s (plain_block h.siz h.cod h.quant) in
+    subst P (is_read b (the_stream b h body whole ranges single) spells).stream (record {
       read = record { spelled = spells; tiles = tiles_none b h body whole ranges single; planes = stream_planes b h body whole ranges single };
       totals = totals_none h.siz h.cod h.quant place (place + 14) (length body) ranges.siz ranges.cod single.block;
       one = has_one_block h.siz h.cod h.quant place (place + 14) (length body) ranges.siz ranges.cod single.block
           b body (spelling 1 segment.Eoc) packet empty refl (body_there b h body whole ranges single);
     })
 
-accepted : (b : List ℕ) (s : Stream) → IsReadWhole b s → IsAccepted b s
-accepted b s is = record { read = is.read; totals = is.totals; blocks = is.one.block ∷ []; gathered = is.one.gathered }
+accepted : (b : List ℕ) (s : Stream) (block : Block) → IsReadWhole b s block → IsAccepted b s
+accepted b s block is = record { read = is.read; totals = is.totals; blocks = block ∷ []; gathered = is.one.gathered }
 
 -- one of the smallest codestreams, and its output
 
-whole_input : (bytes : List ℕ) → IsSmall bytes → IsReadWhole bytes (stream_in bytes)
+abbrev block_in : List ℕ → Block
+block_in bytes = plain_block (headers_at bytes).siz (headers_at bytes).cod (headers_at bytes).quant
+
+whole_input : (bytes : List ℕ) → IsSmall bytes → IsReadWhole bytes (stream_in bytes) (block_in bytes)
 whole_input bytes small =
-    is_whole bytes (headers_at bytes) (packet_at bytes ∷ []) (packet_at bytes) small.spells.whole small.spells.ranges (is_single (headers_at bytes) small.single)
+    read_whole bytes (headers_at bytes) (packet_at bytes ∷ []) (packet_at bytes) small.spells.whole small.spells.ranges (is_single (headers_at bytes) small.single)
     (without_sop (packet_at bytes) (below_128 (packet_at bytes) small.empty))
 
-whole_output : (bytes : List ℕ) → IsSmall bytes → IsReadWhole (output bytes) (stream_in (output bytes))
+whole_output : (bytes : List ℕ) → IsSmall bytes → IsReadWhole (output bytes) (stream_in (output bytes)) (block_in bytes)
 whole_output bytes small =
-    is_whole (output bytes) (with_sop (headers_at bytes)) marked_packet 0 (output_same bytes) (output_in_range bytes small)
+    read_whole (output bytes) (with_sop (headers_at bytes)) marked_packet 0 (output_same bytes) (output_in_range bytes small)
     (is_single_output (headers_at bytes) (is_single (headers_at bytes) small.single)) with_marker
 
 pub small_is_accepted : (bytes : List ℕ) → IsSmall bytes → IsAccepted bytes (stream_in bytes)
-small_is_accepted bytes small = accepted bytes (stream_in bytes) (whole_input bytes small)
-
-pub small_has_one_block : (bytes : List ℕ) → IsSmall bytes → HasOneBlock bytes (stream_in bytes)
-small_has_one_block bytes small = (whole_input bytes small).one
+small_is_accepted bytes small = accepted bytes (stream_in bytes) (block_in bytes) (whole_input bytes small)
 
 pub output_is_accepted : (bytes : List ℕ) → IsSmall bytes → IsAccepted (output bytes) (stream_in (output bytes))
-output_is_accepted bytes small = accepted (output bytes) (stream_in (output bytes)) (whole_output bytes small)
+output_is_accepted bytes small = accepted (output bytes) (stream_in (output bytes)) (block_in bytes) (whole_output bytes small)
 
-pub output_has_one_block : (bytes : List ℕ) → IsSmall bytes → HasOneBlock (output bytes) (stream_in (output bytes))
-output_has_one_block bytes small = (whole_output bytes small).one
+pub block_is_kept : (bytes : List ℕ) → IsSmall bytes → KeepsBlock bytes
+block_is_kept bytes small = record { block = block_in bytes; before = (whole_input bytes small).one; after = (whole_output bytes small).one }

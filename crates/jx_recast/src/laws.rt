@@ -2,7 +2,7 @@
 //! their contracts carry the laws.
 ghost use Rattle.std.specs.Prelude.{◌≡◌, ◌∷◌, [], ℕ, List, None};
 ghost use Rattle.jx_recast.specs.declared.small.Headers.{Headers};
-ghost use Rattle.jx_recast.specs.OneBlock.{HasOneBlock};
+ghost use Rattle.jx_recast.specs.OneBlock.{KeepsBlock};
 ghost use Rattle.jx_recast.specs.Small.{AreInRange, IsSmall, Spells, headers_at, marked_packet, output, packet_at, spelled, with_sop};
 ghost use Rattle.jx_stream.specs.First.{first_fault, stream_in};
 ghost use Rattle.jx_gather.specs.Accepted.{IsAccepted};
@@ -26,14 +26,13 @@ pub fn small_violates_nothing()
 {}
 
 /// The smallest codestreams are read whole: they violate none of the rules 1 to 31 and pass none of the limits
-/// 3 to 6, and their one code-block has no pass.
+/// 3 to 6.
 pub fn small_is_accepted()
-    ensures accepted { (bytes : List ℕ) → IsSmall bytes → IsAccepted bytes (stream_in bytes) }
-    ensures one_block { (bytes : List ℕ) → IsSmall bytes → HasOneBlock bytes (stream_in bytes) }
+    ensures { (bytes : List ℕ) → IsSmall bytes → IsAccepted bytes (stream_in bytes) }
 {}
 
-/// So is their output, which has one code-block without a pass too.
+/// So are their outputs, which have the same one code-block.
 pub fn output_is_accepted()
     ensures accepted { (bytes : List ℕ) → IsSmall bytes → IsAccepted (output bytes) (stream_in (output bytes)) }
-    ensures one_block { (bytes : List ℕ) → IsSmall bytes → HasOneBlock (output bytes) (stream_in (output bytes)) }
+    ensures block { (bytes : List ℕ) → IsSmall bytes → KeepsBlock bytes }
 {}
