@@ -1,79 +1,129 @@
--- The smallest codestreams violate no rule and pass no limit.
-use Rattle.std.proofs.Common.{◌≡◌, ◌∙◌, ◌<◌, ◌≤◌, ◌+◌, ◌-◌, ◌*◌, ◌/◌, ◌%◌, ◌==◌, ◌&&◌, ◌||◌, ℕ, zero, suc, Bool, true, false, not, nat_lt, nat_le, arith, List, [], ◌∷◌, ◌++◌, length, drop, get_or, refl, sym, ap, subst, None, slice_index}
-use Rattle.std.specs.List.{list_all}
-use Rattle.std.proofs.Math.Seq.{drop-append_seam, drop-nil}
+-- The smallest codestreams spell a stream, violate no rule of headers and pass no limit of theirs.
+use Rattle.std.proofs.Common.{◌≡◌, ◌∙◌, ◌<◌, ◌≤◌, ◌+◌, ◌-◌, ◌/◌, ◌%◌, ◌==◌, ◌&&◌, ◌||◌, ◌^◌, ℕ, Bool, true, false, not, nat_lt, nat_le, arith, List, [], ◌∷◌, ◌++◌, length, drop, get_or, refl, sym, ap, inl, append-nil, append_assoc, length-append, None, slice_index}
+use Rattle.std.specs.List.{list_all, find}
 use Rattle.std.proofs.lemmas.Bool.Decides.{nat_tests}
-use Rattle.std.proofs.lemmas.List.{length-drop, get_or-drop}
-use Rattle.jx_base.specs.Numbers.{ceil_of}
-use Rattle.jx_base.proofs.Ceilings.{ceil_least, ceil_above}
+use Rattle.jx_marker.specs.declared.CompSize.{CompSize}
 use Rattle.jx_marker.specs.declared.Segment.{Segment}
 use Rattle.jx_marker.specs.declared.Segment.TheVariants as segment
 use Rattle.jx_marker.specs.declared.Siz.{Siz}
 use Rattle.jx_marker.specs.declared.Cod.{Cod}
 use Rattle.jx_marker.specs.declared.Quant.{Quant}
 use Rattle.jx_marker.specs.declared.Sot.{Sot}
-use Rattle.jx_marker.specs.Segments.{spelling, size_at, body_at}
-use Rattle.jx_marker.specs.Values.{siz_at, sot_at}
-use Rattle.jx_marker.specs.Ranges.{InRange, SizInRange, CodInRange, QuantInRange, SotInRange}
-use Rattle.jx_marker.specs.Laws.{StandsAt}
-use Rattle.jx_marker.proofs.SpelledLemmas.{segment_is_read}
-use Rattle.jx_stream.specs.declared.headers.HeaderKind.TheVariants.{Main, First}
-use Rattle.jx_stream.specs.declared.headers.Header.{Header}
-use Rattle.jx_stream.specs.declared.parts.Part.{Part}
+use Rattle.jx_marker.specs.Segments.{spelling}
+use Rattle.jx_marker.specs.Ranges.{SizInRange, QuantInRange}
 use Rattle.jx_stream.specs.declared.Stream.{Stream}
 use Rattle.jx_stream.specs.declared.Tile.{Tile}
-use Rattle.jx_stream.specs.Headers.{stands_in, ends_header, header_at, header_fault}
-use Rattle.jx_stream.specs.Parts.{marker_at, sot_in, after_sot, kind_of, comes_out_of_turn, has_wrong_length, start_fault, sot_fault, sod_fault, end_of, part_header, part_at, fault_after, parts_from, parts_fault, end_of_part}
-use Rattle.jx_stream.specs.Tiles.{tiles_of, tile_of}
-use Rattle.jx_stream.specs.Params.{planes_of, entries_fault, planes_fault, tile_has_too_few, tile_planes}
-use Rattle.jx_stream.specs.First.{tile_number, siz_of, after_siz, front_fault, tiles_fault, main_fault, body_fault, lacks_part, parts_after, stream_from, parameters_fault, later_fault, first_fault}
-use Rattle.jx_stream.proofs.HeaderLemmas.{early_clear, read_more, read_end}
-use Rattle.jx_stream.proofs.PartLemmas.{both, is_equal, start_clear, part_none, part_is, header_same, header_fault_same, parts_more, parts_end}
-use Rattle.jx_stream.proofs.FirstLemmas.{front_clear, canvas_fits, main_clear, body_clear, stream_is, later_clear, first_clear}
+use Rattle.jx_stream.specs.Parts.{comes_out_of_turn}
+use Rattle.jx_stream.specs.Tiles.{entry_of, tile_of}
+use Rattle.jx_stream.specs.Params.{planes_of, planes_fault, tile_has_too_few, tile_planes}
+use Rattle.jx_stream.specs.First.{tile_number, tiles_fault, first_fault}
+use Rattle.jx_stream.specs.Spells.{TilePart, all_bytes, head_bytes, file_bytes, placed, first_sot, Spells}
+use Rattle.jx_stream.proofs.PartLemmas.{both, is_equal}
+use Rattle.jx_stream.proofs.FirstLemmas.{canvas_fits}
+use Rattle.jx_stream.proofs.OneLemmas.{drop_on}
+use Rattle.jx_stream.proofs.UniqueLemmas.{clear_limits}
+use Rattle.jx_gather.specs.Shapes.{no_size}
 use Rattle.jx_recast.specs.declared.small.Headers.{Headers}
-use Rattle.jx_recast.specs.Small.{AreInRange, IsSmall, headers_at, packet_at, is_one_of_each, is_one_component, is_one_tile, is_one_packet, is_one_block, is_one_step, is_one_part, spelled, has_grid_sampling}
-use Rattle.jx_recast.proofs.SmallLemmas.{tail_end, tail_sod, tail_cod, tail_siz, siz_read, sot_read}
+use Rattle.jx_recast.specs.Small.{AreInRange, IsSmall, headers_at, packet_at, is_one_of_each, is_one_component, is_one_tile, is_one_packet, is_one_block, is_one_step, is_one_part, spelled, with_sop, has_grid_sampling}
+use Rattle.jx_recast.proofs.OneTileLemmas.{one_along}
 
--- what stands at a place
+-- what the tests of the headers say
 
-drop_on : (m n : ℕ) (b : List ℕ) → drop (m + n) b ≡ drop n (drop m b)
-drop_on zero n b = let e : 0 + n ≡ n = omega arith in rw e refl
-drop_on (suc m) n [] = drop-nil (suc m + n) ∙ sym (drop-nil n)
-drop_on (suc m) n (x ∷ b) = let e : suc m + n ≡ suc (m + n) = omega arith in rw e (drop_on m n b)
+-- the tile's only tile-part, with so many bytes of data
+pub record IsPart (sot : Sot) (size : ℕ) : Type 0 where
+  pub tile : sot.tile ≡ 0
+  pub psot : sot.psot ≡ 14 + size
+  pub part : sot.part ≡ 0
+  pub parts : sot.parts ≤ 1
 
-stands_here : (b : List ℕ) (at : ℕ) (s : Segment) (rest : List ℕ) → drop at b ≡ spelling 1 s ++ rest → InRange 1 s → StandsAt 1 (drop at b) s (length (spelling 1 s))
-stands_here b at s rest here range =
-    let P : List ℕ → Type 0 = λ x. StandsAt 1 x s (length (spelling 1 s)) in
-    subst P (sym here) (segment_is_read 1 s rest range)
+pub record IsPlain (cod : Cod) (quant : Quant) : Type 0 where
+  pub levels : cod.shape.levels ≡ 0
+  pub style : (quant.sqcd % 32 == 0) ≡ true
+  pub entries : length quant.entries ≡ 1
 
-rest_here : (b : List ℕ) (at : ℕ) (s : Segment) (rest : List ℕ) → drop at b ≡ spelling 1 s ++ rest → InRange 1 s → drop (at + size_at (drop at b)) b ≡ rest
-rest_here b at s rest here range =
-    drop_on at (size_at (drop at b)) b ∙ ap (λ (n : ℕ). drop n (drop at b)) (stands_here b at s rest here range).takes
-    ∙ ap (λ (x : List ℕ). drop (length (spelling 1 s)) x) here ∙ drop-append_seam (spelling 1 s) rest
+-- one packet and one code-block
+pub record IsOneBlock (siz : Siz) (cod : Cod) : Type 0 where
+  pub comps : length siz.comps ≡ 1
+  pub step_across : (get_or siz.comps 0 no_size).dx ≡ 1
+  pub step_down : (get_or siz.comps 0 no_size).dy ≡ 1
+  pub across : siz.x1 ≤ siz.tx + siz.tw
+  pub down : siz.y1 ≤ siz.ty + siz.th
+  pub layers : cod.layers ≡ 1
+  pub levels : cod.shape.levels ≡ 0
+  pub precincts : cod.shape.precincts ≡ []
+  pub wide : siz.x1 ≤ 2 ^ cod.shape.xcb
+  pub high : siz.y1 ≤ 2 ^ cod.shape.ycb
 
-inside_here : (b : List ℕ) (at x : ℕ) (rest : List ℕ) → drop at b ≡ x ∷ rest → at < length b
-inside_here b at x rest here =
-    let size : length (drop at b) ≡ suc (length rest) = ap (λ (l : List ℕ). length l) here in
-    omega (arith, length-drop at b)
+pub record IsSingle (h : Headers) (size : ℕ) : Type 0 where
+  pub block : IsOneBlock h.siz h.cod
+  pub plain : IsPlain h.cod h.quant
+  pub part : IsPart h.sot size
 
-marker_here : (b : List ℕ) (at code : ℕ) (rest : List ℕ) (other : ℕ) → drop at b ≡ 255 ∷ code ∷ rest → marker_at b at other ≡ (code == other)
-marker_here b at code rest other here =
-    let e : at ≡ at + 0 = omega arith in
-    let first : get_or b at 0 ≡ 255 = ap (λ (n : ℕ). get_or b n 0) e ∙ sym (get_or-drop at b 0 0) ∙ ap (λ (x : List ℕ). get_or x 0 0) here in
-    let second : get_or b (at + 1) 0 ≡ code = sym (get_or-drop at b 1 0) ∙ ap (λ (x : List ℕ). get_or x 1 0) here in
-    rw (first, second) refl
+most : (a b : ℕ) → nat_le a b ≡ true → a ≤ b
+most a b h = grind (arith, nat_tests)
+
+nothing_in : {X : Type 0} (xs : List X) → length xs ≡ 0 → xs ≡ []
+nothing_in [] h = refl
+nothing_in (x ∷ xs) h = absurd (omega arith)
+
+has_steps : (comps : List CompSize) → length comps ≡ 1 → list_all has_grid_sampling comps ≡ true → ((get_or comps 0 no_size).dx ≡ 1) × ((get_or comps 0 no_size).dy ≡ 1)
+has_steps [] size h = absurd (omega arith)
+has_steps (comp ∷ []) size h =
+    let one = both (has_grid_sampling comp) true h in
+    let two = both (comp.dx == 1) (comp.dy == 1) one.0 in
+    (is_equal comp.dx 1 two.0, is_equal comp.dy 1 two.1)
+has_steps (comp ∷ other ∷ comps) size h = absurd (omega arith)
+
+pub is_single : (h : Headers) → is_one_of_each h ≡ true → IsSingle h 1
+is_single h single =
+    let siz = h.siz in
+    let cod = h.cod in
+    let shape = cod.shape in
+    let quant = h.quant in
+    let sot = h.sot in
+    let last_two : Bool = (shape.levels == 0) && (length shape.precincts == 0) in
+    let one = both (is_one_component siz) (is_one_tile siz && (is_one_packet cod && (is_one_block siz shape && (is_one_step quant && is_one_part sot)))) single in
+    let two = both (is_one_tile siz) (is_one_packet cod && (is_one_block siz shape && (is_one_step quant && is_one_part sot))) one.1 in
+    let three = both (is_one_packet cod) (is_one_block siz shape && (is_one_step quant && is_one_part sot)) two.1 in
+    let four = both (is_one_block siz shape) (is_one_step quant && is_one_part sot) three.1 in
+    let five = both (is_one_step quant) (is_one_part sot) four.1 in
+    let comp = both (length siz.comps == 1) (list_all has_grid_sampling siz.comps) one.0 in
+    let steps = has_steps siz.comps (is_equal (length siz.comps) 1 comp.0) comp.1 in
+    let tile = both (nat_le siz.x1 (siz.tx + siz.tw)) (nat_le siz.y1 (siz.ty + siz.th)) two.0 in
+    let no_sop = both (not cod.sop) (not cod.eph && ((cod.layers == 1) && last_two)) three.0 in
+    let no_eph = both (not cod.eph) ((cod.layers == 1) && last_two) no_sop.1 in
+    let layers = both (cod.layers == 1) last_two no_eph.1 in
+    let levels = both (shape.levels == 0) (length shape.precincts == 0) layers.1 in
+    let block = both (nat_le siz.x1 (2 ^ shape.xcb)) (nat_le siz.y1 (2 ^ shape.ycb)) four.0 in
+    let step = both (quant.sqcd % 32 == 0) (length quant.entries == 1) five.0 in
+    let first = both (sot.tile == 0) ((sot.psot == 15) && ((sot.part == 0) && nat_le sot.parts 1)) five.1 in
+    let second = both (sot.psot == 15) ((sot.part == 0) && nat_le sot.parts 1) first.1 in
+    let third = both (sot.part == 0) (nat_le sot.parts 1) second.1 in
+    record {
+      block = record {
+        comps = is_equal (length siz.comps) 1 comp.0;
+        step_across = steps.0;
+        step_down = steps.1;
+        across = most siz.x1 (siz.tx + siz.tw) tile.0;
+        down = most siz.y1 (siz.ty + siz.th) tile.1;
+        layers = is_equal cod.layers 1 layers.0;
+        levels = is_equal shape.levels 0 levels.0;
+        precincts = nothing_in shape.precincts (is_equal (length shape.precincts) 0 levels.1);
+        wide = most siz.x1 (2 ^ shape.xcb) block.0;
+        high = most siz.y1 (2 ^ shape.ycb) block.1;
+      };
+      plain = record { levels = is_equal shape.levels 0 levels.0; style = step.0; entries = is_equal (length quant.entries) 1 step.1 };
+      part = record {
+        tile = is_equal sot.tile 0 first.0;
+        psot = is_equal sot.psot 15 second.0;
+        part = is_equal sot.part 0 third.0;
+        parts = most sot.parts 1 third.1;
+      };
+    }
 
 -- one tile
 
-one_along : (end begin size first : ℕ) → 0 < size → first ≤ begin → begin < end → end ≤ first + size → ceil_of (end - first) size ≡ 1
-one_along end begin size first some from before reach =
-    let most : end - first ≤ 1 * size = omega arith in
-    let least : 0 * size < end - first = omega arith in
-    let low : 0 < ceil_of (end - first) size = ceil_above (end - first) size 0 some least in
-    let high : ceil_of (end - first) size ≤ 1 = ceil_least (end - first) size 1 some most in
-    omega arith
-
-one_tile : (siz : Siz) → SizInRange siz → siz.x1 ≤ siz.tx + siz.tw → siz.y1 ≤ siz.ty + siz.th → tile_number siz ≡ 1
+pub one_tile : (siz : Siz) → SizInRange siz → siz.x1 ≤ siz.tx + siz.tw → siz.y1 ≤ siz.ty + siz.th → tile_number siz ≡ 1
 one_tile siz range across down =
     let fits = canvas_fits siz range.fits in
     rw (one_along siz.x1 siz.x0 siz.tw siz.tx fits.wide fits.offset_across fits.some_across across, one_along siz.y1 siz.y0 siz.th siz.ty fits.high fits.offset_down fits.some_down down) refl
@@ -82,130 +132,7 @@ one_tile_clear : (siz : Siz) → tile_number siz ≡ 1 → tiles_fault siz ≡ N
 unfolding tiles_fault
 one_tile_clear siz h = rw h refl
 
--- the main header
-
-module _ (b : List ℕ) (start : ℕ) (cod : Cod) (quant : Quant) (sot : Sot) (rest : List ℕ)
-    (here : drop start b ≡ spelling 1 (segment.Cod cod) ++ (spelling 1 (segment.Qcd quant) ++ (spelling 1 (segment.Sot sot) ++ rest)))
-    (cod_range : CodInRange cod) (quant_range : QuantInRange quant 0) (sot_range : SotInRange sot) where
-  abbrev at_quant : ℕ
-  at_quant = start + size_at (drop start b)
-
-  abbrev at_sot : ℕ
-  at_sot = at_quant + size_at (drop at_quant b)
-
-  quant_stands : drop at_quant b ≡ spelling 1 (segment.Qcd quant) ++ (spelling 1 (segment.Sot sot) ++ rest)
-  quant_stands = rest_here b start (segment.Cod cod) (spelling 1 (segment.Qcd quant) ++ (spelling 1 (segment.Sot sot) ++ rest)) here cod_range
-
-  sot_stands : drop at_sot b ≡ spelling 1 (segment.Sot sot) ++ rest
-  sot_stands = rest_here b at_quant (segment.Qcd quant) (spelling 1 (segment.Sot sot) ++ rest) quant_stands quant_range
-
-  main_read : (header_fault Main 1 b start ≡ None) × (header_at Main 1 b start ≡ record { segments = segment.Cod cod ∷ segment.Qcd quant ∷ []; end = at_sot })
-  main_read =
-      let one = stands_here b start (segment.Cod cod) (spelling 1 (segment.Qcd quant) ++ (spelling 1 (segment.Sot sot) ++ rest)) here cod_range in
-      let two = stands_here b at_quant (segment.Qcd quant) (spelling 1 (segment.Sot sot) ++ rest) quant_stands quant_range in
-      let three = stands_here b at_sot (segment.Sot sot) rest sot_stands sot_range in
-      let first = read_more Main 1 b start [] (segment.Cod cod ∷ []) (segment.Cod cod) start at_quant refl (inside_here b start _ _ here)
-      (early_clear Main 1 b start one.rules (ap (stands_in Main) one.value)) (sym one.value) refl refl refl refl in
-      let second = read_more Main 1 b start (segment.Cod cod ∷ []) (segment.Cod cod ∷ segment.Qcd quant ∷ []) (segment.Qcd quant) at_quant at_sot first (inside_here b at_quant _ _ quant_stands)
-      (early_clear Main 1 b at_quant two.rules (ap (stands_in Main) two.value)) (sym two.value) refl refl refl refl in
-      read_end Main 1 b start (segment.Cod cod ∷ segment.Qcd quant ∷ []) at_sot second
-      (early_clear Main 1 b at_sot three.rules (ap (stands_in Main) three.value)) (ap ends_header three.value)
-
--- the tile-part
-
-record IsPart (sot : Sot) : Type 0 where
-  tile : sot.tile ≡ 0
-  psot : sot.psot ≡ 15
-  part : sot.part ≡ 0
-  parts : sot.parts ≤ 1
-
-in_turn : (part parts : ℕ) → part ≡ 0 → parts ≤ 1 → (not (part == 0) || (nat_lt 0 parts && (nat_le parts part || false))) ≡ false
-in_turn part parts zero_part few = grind (arith, nat_tests)
-
-module _ (b : List ℕ) (at : ℕ) (sot : Sot) (packet : ℕ) (here : drop at b ≡ spelling 1 (segment.Sot sot) ++ tail_sod packet) (range : SotInRange sot) (is : IsPart sot) where
-  whole_size : length b ≡ at + 17
-  whole_size =
-      let size : length (drop at b) ≡ 17 = ap (λ (l : List ℕ). length l) here in
-      omega (arith, length-drop at b)
-
-  sot_here : sot ≡ sot_in b at
-  sot_here = sym (ap (λ (x : List ℕ). sot_at (body_at x)) here ∙ sot_read sot (tail_sod packet) range)
-
-  after_here : at + 12 ≡ after_sot b at
-  after_here = ap (λ (n : ℕ). at + n) (sym (stands_here b at (segment.Sot sot) (tail_sod packet) here range).takes)
-
-  sod_here : drop (at + 12) b ≡ spelling 1 segment.Sod ++ tail_end packet
-  sod_here = drop_on at 12 b ∙ ap (λ (x : List ℕ). drop 12 x) here
-
-  eoc_here : drop (at + 15) b ≡ 255 ∷ 217 ∷ []
-  eoc_here = drop_on at 15 b ∙ ap (λ (x : List ℕ). drop 15 x) here
-
-  first_kind : First ≡ kind_of sot
-  first_kind = rw is.part refl
-
-  abbrev part_head : Header
-  part_head = record { segments = []; end = at + 12 }
-
-  head_read : (header_fault First 1 b (at + 12) ≡ None) × (header_at First 1 b (at + 12) ≡ part_head)
-  head_read =
-      let sod = stands_here b (at + 12) segment.Sod (tail_end packet) sod_here tt in
-      read_end First 1 b (at + 12) [] (at + 12) refl (early_clear First 1 b (at + 12) sod.rules (ap (stands_in First) sod.value)) (ap ends_header sod.value)
-
-  head_is : part_head ≡ part_header 1 b at
-  head_is = header_same 1 b at sot (at + 12) First part_head sot_here after_here first_kind (sym head_read.1)
-
-  start_none : start_fault 1 b at ≡ None
-  start_none = start_clear 1 b at (marker_here b at 144 _ 144 here) (stands_here b at (segment.Sot sot) (tail_sod packet) here range).rules
-
-  sot_none : sot_fault 1 b at sot (comes_out_of_turn [] sot) ≡ None
-  unfolding sot_fault
-  sot_none =
-      let turn : comes_out_of_turn [] sot ≡ false = in_turn sot.part sot.parts is.part is.parts in
-      let size = whole_size in
-      let psot = is.psot in
-      let long : has_wrong_length b at sot ≡ false = grind (arith, nat_tests) in
-      rw (turn, is.tile, long) refl
-
-  sod_none : sod_fault b at sot (at + 12) ≡ None
-  unfolding sod_fault
-  sod_none =
-      let within : nat_lt (at + 15) (at + 12 + 2) ≡ false = grind (arith, nat_tests) in
-      rw (is.psot, within) refl
-
-  part_clear : fault_after 1 1 b [] at ≡ None
-  part_clear = part_none 1 1 b (comes_out_of_turn [] (sot_in b at)) at start_none
-      (ap (λ (s : Sot). sot_fault 1 b at s (comes_out_of_turn [] s)) (sym sot_here) ∙ sot_none)
-      (sym (header_fault_same 1 b at sot (at + 12) First sot_here after_here first_kind) ∙ head_read.0)
-      (ap (λ (s : Sot). sod_fault b at s (part_header 1 b at).end) (sym sot_here) ∙ ap (λ (h : Header). sod_fault b at sot h.end) (sym head_is) ∙ sod_none)
-
-  abbrev the_part : Part
-  the_part = record { place = at; sot = sot; header = []; body = record { at = at + 12 + 2; length = at + 15 - (at + 12 + 2) } }
-
-  end_here : at + 15 ≡ end_of b at sot
-  end_here = rw is.psot refl
-
-  the_part_is : the_part ≡ part_at 1 b at
-  the_part_is = part_is 1 b at sot part_head (at + 15) sot_here head_is end_here
-
-  parts_read : (parts_fault 1 1 b at ≡ None) × (the_part ∷ [] ≡ (parts_from 1 1 b at).parts) × (at + 15 ≡ (parts_from 1 1 b at).end)
-  parts_read =
-      let next : at + 15 ≡ end_of_part the_part = omega arith in
-      let more = parts_more 1 1 b at [] at refl (the_part ∷ []) the_part (at + 15) (inside_here b at _ _ here) (marker_here b at 144 _ 217 here) part_clear the_part_is refl next in
-      parts_end 1 1 b at (the_part ∷ []) (at + 15) more (marker_here b (at + 15) 217 _ 217 eoc_here)
-
-  none_lacking : lacks_part (the_part ∷ []) 1 ≡ false
-  none_lacking = rw is.tile refl
-
-  tiles_here : (main : List Segment) → ◌≡◌ {A = List Segment} (tile_of main (the_part ∷ []) 0).header []
-  unfolding tile_of
-  tiles_here main = rw is.tile refl
-
 -- its parameters
-
-record IsPlain (cod : Cod) (quant : Quant) : Type 0 where
-  levels : cod.shape.levels ≡ 0
-  style : (quant.sqcd % 32 == 0) ≡ true
-  entries : length quant.entries ≡ 1
 
 few_planes : (sqcd entry : ℕ) → sqcd < 256 → nat_lt 74 ((sqcd / 32 + entry % 256 / 8 - 1) + 0) ≡ false
 few_planes sqcd entry small =
@@ -228,119 +155,132 @@ module _ (cod : Cod) (quant : Quant) (range : QuantInRange quant 0) (plain : IsP
   planes_few : nat_lt 74 (planes_of quant 0 0 0) ≡ false
   planes_few = rw plain.style (few_planes quant.sqcd (slice_index quant.entries 0) range.sqcd)
 
-  entries_none : entries_fault the_main 1 (tile ∷ []) ≡ None
-  entries_none = rw has_enough refl
+  planes_low : planes_fault the_main 1 (tile ∷ []) ≡ None
+  planes_low = rw (planes_are, planes_few) refl
 
-  planes_none : planes_fault the_main 1 (tile ∷ []) ≡ None
-  planes_none = rw (planes_are, planes_few) refl
+  entries_none : (comps : ℕ) → comps ≡ 1 → find (tile_has_too_few the_main comps) (tile ∷ []) ≡ None
+  entries_none comps one = rw (one, has_enough) refl
 
--- what the tests of the headers say
+  planes_none : (comps : ℕ) → comps ≡ 1 → planes_fault the_main comps (tile ∷ []) ≡ None
+  planes_none comps one = rw one planes_low
 
-record IsSingle (h : Headers) : Type 0 where
-  comps : length h.siz.comps ≡ 1
-  across : h.siz.x1 ≤ h.siz.tx + h.siz.tw
-  down : h.siz.y1 ≤ h.siz.ty + h.siz.th
-  plain : IsPlain h.cod h.quant
-  part : IsPart h.sot
+-- the stream of such a file whose SOT stands at a place, and its tile's data at another
 
-most : (a b : ℕ) → nat_le a b ≡ true → a ≤ b
-most a b h = grind (arith, nat_tests)
+abbrev pub plain_tile : Cod → ℕ → ℕ → ℕ → Tile
+plain_tile cod place at size = record { place = place; header = []; notes = []; progressions = entry_of cod ∷ []; bodies = record { at = at; length = size } ∷ [] }
 
-is_single : (h : Headers) → is_one_of_each h ≡ true → IsSingle h
-is_single h single =
-    let cod = h.cod in
-    let quant = h.quant in
-    let sot = h.sot in
-    let last_two : Bool = (cod.shape.levels == 0) && (length cod.shape.precincts == 0) in
-    let one = both (is_one_component h.siz) (is_one_tile h.siz && (is_one_packet cod && (is_one_block h.siz cod.shape && (is_one_step quant && is_one_part sot)))) single in
-    let two = both (is_one_tile h.siz) (is_one_packet cod && (is_one_block h.siz cod.shape && (is_one_step quant && is_one_part sot))) one.1 in
-    let three = both (is_one_packet cod) (is_one_block h.siz cod.shape && (is_one_step quant && is_one_part sot)) two.1 in
-    let four = both (is_one_block h.siz cod.shape) (is_one_step quant && is_one_part sot) three.1 in
-    let five = both (is_one_step quant) (is_one_part sot) four.1 in
-    let comp = both (length h.siz.comps == 1) (list_all has_grid_sampling h.siz.comps) one.0 in
-    let tile = both (nat_le h.siz.x1 (h.siz.tx + h.siz.tw)) (nat_le h.siz.y1 (h.siz.ty + h.siz.th)) two.0 in
-    let no_sop = both (not cod.sop) (not cod.eph && ((cod.layers == 1) && last_two)) three.0 in
-    let no_eph = both (not cod.eph) ((cod.layers == 1) && last_two) no_sop.1 in
-    let layers = both (cod.layers == 1) last_two no_eph.1 in
-    let levels = both (cod.shape.levels == 0) (length cod.shape.precincts == 0) layers.1 in
-    let step = both (quant.sqcd % 32 == 0) (length quant.entries == 1) five.0 in
-    let first = both (sot.tile == 0) ((sot.psot == 15) && ((sot.part == 0) && nat_le sot.parts 1)) five.1 in
-    let second = both (sot.psot == 15) ((sot.part == 0) && nat_le sot.parts 1) first.1 in
-    let third = both (sot.part == 0) (nat_le sot.parts 1) second.1 in
-    record {
-      comps = is_equal (length h.siz.comps) 1 comp.0;
-      across = most h.siz.x1 (h.siz.tx + h.siz.tw) tile.0;
-      down = most h.siz.y1 (h.siz.ty + h.siz.th) tile.1;
-      plain = record { levels = is_equal cod.shape.levels 0 levels.0; style = step.0; entries = is_equal (length quant.entries) 1 step.1 };
-      part = record {
-        tile = is_equal sot.tile 0 first.0;
-        psot = is_equal sot.psot 15 second.0;
-        part = is_equal sot.part 0 third.0;
-        parts = most sot.parts 1 third.1;
-      };
-    }
+abbrev pub plain_stream : Siz → Cod → Quant → ℕ → ℕ → ℕ → Stream
+plain_stream siz cod quant place at size = record { siz = siz; main = segment.Cod cod ∷ segment.Qcd quant ∷ []; tiles = plain_tile cod place at size ∷ [] }
 
--- the rest of the file after SIZ
+in_turn : (part parts : ℕ) → part ≡ 0 → parts ≤ 1 → (not (part == 0) || (nat_lt 0 parts && (nat_le parts part || false))) ≡ false
+in_turn part parts zero_part few = grind (arith, nat_tests)
 
-module _ (b : List ℕ) (start : ℕ) (h : Headers) (packet : ℕ) (here : drop start b ≡ tail_cod h packet) (ranges : AreInRange h) (single : IsSingle h) where
-  abbrev sot_place : ℕ
-  sot_place = at_sot b start h.cod h.quant h.sot (tail_sod packet) here ranges.cod ranges.quant ranges.sot
+regroup_two : (p q x : List ℕ) → p ++ (q ++ x) ≡ (p ++ (q ++ [])) ++ x
+regroup_two p q x = ap (λ (l : List ℕ). p ++ (l ++ x)) (sym (append-nil q)) ∙ sym (append_assoc p (q ++ []) x)
 
-  abbrev one_part : List Part
-  one_part = the_part b sot_place h.sot packet (sot_stands b start h.cod h.quant h.sot (tail_sod packet) here ranges.cod ranges.quant ranges.sot) ranges.sot single.part ∷ []
+-- what stands from the SOT on, and from the COD on
+abbrev pub rest_sot : Headers → List ℕ → List ℕ
+rest_sot h body = spelling 1 (segment.Sot h.sot) ++ (spelling 1 segment.Sod ++ (body ++ spelling 1 segment.Eoc))
 
+abbrev pub rest_cod : Headers → List ℕ → List ℕ
+rest_cod h body = spelling 1 (segment.Cod h.cod) ++ (spelling 1 (segment.Qcd h.quant) ++ rest_sot h body)
+
+module _ (b : List ℕ) (h : Headers) (body : List ℕ) (whole : b ≡ spelled h body) (ranges : AreInRange h) (single : IsSingle h (length body)) where
   abbrev two_segments : List Segment
   two_segments = segment.Cod h.cod ∷ segment.Qcd h.quant ∷ []
 
-  abbrev main_is : Header
-  main_is = record { segments = two_segments; end = sot_place }
+  abbrev pub sot_place : ℕ
+  sot_place = first_sot h.siz two_segments
 
-  abbrev the_stream : Stream
-  the_stream = record { siz = h.siz; main = two_segments; tiles = tiles_of two_segments one_part 1 }
+  abbrev one_part : TilePart
+  one_part = record { sot = h.sot; header = []; body = body }
 
-  sot_there : drop sot_place b ≡ spelling 1 (segment.Sot h.sot) ++ tail_sod packet
-  sot_there = sot_stands b start h.cod h.quant h.sot (tail_sod packet) here ranges.cod ranges.quant ranges.sot
+  abbrev pub the_tile : Tile
+  the_tile = plain_tile h.cod sot_place (sot_place + 14) (length body)
 
-  main_there : (header_fault Main 1 b start ≡ None) × (header_at Main 1 b start ≡ main_is)
-  main_there = main_read b start h.cod h.quant h.sot (tail_sod packet) here ranges.cod ranges.quant ranges.sot
-
-  main_none : main_fault 1 b start ≡ None
-  main_none = main_clear 1 b start main_is main_there.0 (sym main_there.1) refl
-
-  body_none : (body_fault 1 1 b start ≡ None) × (one_part ≡ (parts_after 1 1 b start).parts)
-  body_none =
-      let read = parts_read b sot_place h.sot packet sot_there ranges.sot single.part in
-      body_clear 1 1 b start main_is one_part main_none (sym main_there.1) read.0 read.1 (none_lacking b sot_place h.sot packet sot_there ranges.sot single.part)
+  abbrev pub the_stream : Stream
+  the_stream = plain_stream h.siz h.cod h.quant sot_place (sot_place + 14) (length body)
 
   tiles_there : tile_number h.siz ≡ 1
-  tiles_there = one_tile h.siz ranges.siz single.across single.down
+  tiles_there = one_tile h.siz ranges.siz single.block.across single.block.down
 
-  stream_there : the_stream ≡ stream_from h.siz b start
-  stream_there = stream_is h.siz b start 1 1 two_segments one_part (tiles_of two_segments one_part 1) (sym single.comps) (sym tiles_there)
-      (ap (λ (x : Header). x.segments) (sym main_there.1)) body_none.1 refl
+  turn_kept : comes_out_of_turn [] h.sot ≡ false
+  turn_kept = in_turn h.sot.part h.sot.parts single.part.part single.part.parts
 
-  parameters_none : parameters_fault the_stream ≡ None
-  parameters_none =
-      let own : ◌≡◌ {A = List Segment} (tile_of two_segments one_part 0).header [] = tiles_here b sot_place h.sot packet sot_there ranges.sot single.part two_segments in
-      let few = entries_none h.cod h.quant ranges.quant single.plain (tile_of two_segments one_part 0) own in
-      let low = planes_none h.cod h.quant ranges.quant single.plain (tile_of two_segments one_part 0) own in
-      rw (single.comps, few, low) refl
+  own_tile : tile_of two_segments (placed 1 sot_place (one_part ∷ [])) 0 ≡ the_tile
+  unfolding tile_of
+  own_tile = rw single.part.tile refl
 
-  later_none : later_fault h.siz b start ≡ None
-  later_none = later_clear h.siz b start 1 1 the_stream (one_tile_clear h.siz tiles_there) (sym single.comps) (sym tiles_there) body_none.0 stream_there parameters_none
+  bytes_are : b ≡ file_bytes h.siz two_segments (one_part ∷ []) []
+  bytes_are =
+      let front : List ℕ → List ℕ = λ x. spelling 1 segment.Soc ++ (spelling 1 (segment.Siz h.siz) ++ x) in
+      let last : List ℕ → List ℕ = λ x. spelling 1 (segment.Sot h.sot) ++ (spelling 1 segment.Sod ++ (x ++ spelling 1 segment.Eoc)) in
+      whole ∙ ap front (regroup_two (spelling 1 (segment.Cod h.cod)) (spelling 1 (segment.Qcd h.quant)) (rest_sot h body))
+      ∙ ap (λ (x : List ℕ). front (all_bytes 1 two_segments ++ last x)) (sym (append-nil body))
+
+  pub spells_stream : Spells b the_stream
+  spells_stream = record {
+    parts = one_part ∷ [];
+    rest = [];
+    bytes = bytes_are;
+    siz = ranges.siz;
+    main = (record { range = ranges.cod; stands = refl; inside = refl; once = refl }, (record { range = ranges.quant; stands = refl; inside = refl; once = refl }, tt));
+    defaults = refl;
+    some = omega arith;
+    tile_parts = (
+      record { range = ranges.sot; header = tt; tile = rw (single.part.tile, tiles_there) (omega arith); turn = turn_kept },
+      inl (single.part.psot ∙ sym (length-append (head_bytes 1 one_part) body)),
+      tt,
+    );
+    each = rw (tiles_there, single.part.tile) refl;
+    tiles = rw (tiles_there, own_tile) refl;
+    entries = entries_none h.cod h.quant ranges.quant single.plain the_tile refl (length h.siz.comps) single.block.comps;
+  }
+
+  pub tiles_none : tiles_fault h.siz ≡ None
+  tiles_none = one_tile_clear h.siz tiles_there
+
+  pub stream_planes : planes_fault two_segments (length h.siz.comps) the_stream.tiles ≡ None
+  stream_planes = planes_none h.cod h.quant ranges.quant single.plain the_tile refl (length h.siz.comps) single.block.comps
+
+  -- its data
+  pub body_there : drop (sot_place + 14) b ≡ body ++ spelling 1 segment.Eoc
+  body_there =
+      let siz : drop 2 b ≡ spelling 1 (segment.Siz h.siz) ++ rest_cod h body = ap (λ (x : List ℕ). drop 2 x) whole in
+      let cod : drop (2 + length (spelling 1 (segment.Siz h.siz))) b ≡ rest_cod h body =
+      drop_on b 2 (length (spelling 1 (segment.Siz h.siz))) (spelling 1 (segment.Siz h.siz)) (rest_cod h body) siz refl in
+      let sot : drop sot_place b ≡ rest_sot h body =
+      drop_on b (2 + length (spelling 1 (segment.Siz h.siz))) (length (all_bytes 1 two_segments)) (all_bytes 1 two_segments) (rest_sot h body)
+      (cod ∙ regroup_two (spelling 1 (segment.Cod h.cod)) (spelling 1 (segment.Qcd h.quant)) (rest_sot h body)) refl in
+      drop_on b sot_place 14 (spelling 1 (segment.Sot h.sot) ++ spelling 1 segment.Sod) (body ++ spelling 1 segment.Eoc) sot refl
 
 -- the whole file
 
-clean : (b : List ℕ) (h : Headers) (packet : ℕ) → b ≡ spelled h (packet ∷ []) → AreInRange h → is_one_of_each h ≡ true → first_fault b ≡ None
-clean b h packet whole ranges single =
-    let siz_there : drop 2 b ≡ tail_siz h packet = ap (λ (x : List ℕ). drop 2 x) whole in
-    let front : front_fault b ≡ None = front_clear b (ap (λ (x : List ℕ). marker_at x 0 79) whole) (ap (λ (x : List ℕ). marker_at x 2 81) whole)
-    (stands_here b 2 (segment.Siz h.siz) (tail_cod h packet) siz_there ranges.siz).rules in
-    let is : h.siz ≡ siz_of b = sym (ap (λ (x : List ℕ). siz_at (body_at x)) siz_there ∙ siz_read h.siz (tail_cod h packet) ranges.siz) in
-    let cod_there : drop (after_siz b) b ≡ tail_cod h packet = rest_here b 2 (segment.Siz h.siz) (tail_cod h packet) siz_there ranges.siz in
-    let one = is_single h single in
-    (first_clear b h.siz (after_siz b) (the_stream b (after_siz b) h packet cod_there ranges one) front is refl
-    (later_none b (after_siz b) h packet cod_there ranges one) (stream_there b (after_siz b) h packet cod_there ranges one)).0
-
 pub small_is_clean : (bytes : List ℕ) → IsSmall bytes → first_fault bytes ≡ None
-small_is_clean bytes small = clean bytes (headers_at bytes) (packet_at bytes) small.spells.whole small.spells.ranges small.single
+small_is_clean bytes small =
+    let h = headers_at bytes in
+    let body = packet_at bytes ∷ [] in
+    let whole = small.spells.whole in
+    let ranges = small.spells.ranges in
+    let single = is_single h small.single in
+    clear_limits bytes (the_stream bytes h body whole ranges single) (spells_stream bytes h body whole ranges single)
+    (tiles_none bytes h body whole ranges single) (stream_planes bytes h body whole ranges single)
+
+-- the headers of its output are of the same kind, before seven bytes of data
+pub is_single_output : (h : Headers) → IsSingle h 1 → IsSingle (with_sop h) 7
+is_single_output h single = record {
+  block = record {
+    comps = single.block.comps;
+    step_across = single.block.step_across;
+    step_down = single.block.step_down;
+    across = single.block.across;
+    down = single.block.down;
+    layers = single.block.layers;
+    levels = single.block.levels;
+    precincts = single.block.precincts;
+    wide = single.block.wide;
+    high = single.block.high;
+  };
+  plain = record { levels = single.plain.levels; style = single.plain.style; entries = single.plain.entries };
+  part = record { tile = single.part.tile; psot = refl; part = single.part.part; parts = omega arith };
+}

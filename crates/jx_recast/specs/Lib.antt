@@ -1,5 +1,6 @@
 pub mod Words
 pub mod Small
+pub mod OneBlock
 pub mod Fronts
 pub mod Outcome
 pub mod Progress

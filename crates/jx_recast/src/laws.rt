@@ -2,8 +2,10 @@
 //! their contracts carry the laws.
 ghost use Rattle.std.specs.Prelude.{◌≡◌, ◌∷◌, [], ℕ, List, None};
 ghost use Rattle.jx_recast.specs.declared.small.Headers.{Headers};
+ghost use Rattle.jx_recast.specs.OneBlock.{KeepsBlock};
 ghost use Rattle.jx_recast.specs.Small.{AreInRange, IsSmall, Spells, headers_at, marked_packet, output, packet_at, spelled, with_sop};
-ghost use Rattle.jx_stream.specs.First.{first_fault};
+ghost use Rattle.jx_stream.specs.First.{first_fault, stream_in};
+ghost use Rattle.jx_gather.specs.Accepted.{IsAccepted};
 
 /// The bytes of a codestream of this form tell its headers and its packet.
 pub fn one_reading()
@@ -21,4 +23,16 @@ pub fn output_is_spelled()
 /// The smallest codestreams violate no rule and pass no limit.
 pub fn small_violates_nothing()
     ensures { (bytes : List ℕ) → IsSmall bytes → first_fault bytes ≡ None }
+{}
+
+/// The smallest codestreams are read whole: they violate none of the rules 1 to 31 and pass none of the limits
+/// 3 to 6.
+pub fn small_is_accepted()
+    ensures { (bytes : List ℕ) → IsSmall bytes → IsAccepted bytes (stream_in bytes) }
+{}
+
+/// So are their outputs, which have the same one code-block.
+pub fn output_is_accepted()
+    ensures accepted { (bytes : List ℕ) → IsSmall bytes → IsAccepted (output bytes) (stream_in (output bytes)) }
+    ensures block { (bytes : List ℕ) → IsSmall bytes → KeepsBlock bytes }
 {}
