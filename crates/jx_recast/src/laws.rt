@@ -1,8 +1,11 @@
 //! Laws over the definitions of the smallest codestreams and their outputs. The functions do nothing:
 //! their contracts carry the laws.
-ghost use Rattle.std.specs.Prelude.{◌≡◌, ◌∷◌, [], ℕ, List, None};
+ghost use Rattle.std.specs.Prelude.{◌≡◌, ◌≤◌, ◌⊎◌, ◌∷◌, [], ℕ, List, None, length};
 ghost use Rattle.jx_recast.specs.declared.small.Headers.{Headers};
+ghost use Rattle.jx_recast.specs.declared.status.Status.{Status};
+ghost use Rattle.jx_recast.specs.Judged.{IsClean};
 ghost use Rattle.jx_recast.specs.OneBlock.{KeepsBlock};
+ghost use Rattle.jx_recast.specs.Outcome.{Verdict, most_bytes};
 ghost use Rattle.jx_recast.specs.Small.{AreInRange, IsSmall, Spells, headers_at, marked_packet, output, packet_at, spelled, with_sop};
 ghost use Rattle.jx_stream.specs.First.{first_fault, stream_in};
 ghost use Rattle.jx_gather.specs.Accepted.{IsAccepted};
@@ -35,4 +38,12 @@ pub fn small_is_accepted()
 pub fn output_is_accepted()
     ensures accepted { (bytes : List ℕ) → IsSmall bytes → IsAccepted (output bytes) (stream_in (output bytes)) }
     ensures block { (bytes : List ℕ) → IsSmall bytes → KeepsBlock bytes }
+{}
+
+/// The verdict on a codestream that violates no rule and passes no limit is Done where it is one of the smallest, else
+/// Form; on one of the smallest it is Done.
+pub fn clean_is_done_or_form()
+    ensures clean { (input : List ℕ) (s : Status) → IsClean input → length input ≤ most_bytes → Verdict input s
+        → ((s ≡ Status.Done) × IsSmall input) ⊎ ((s ≡ Status.Form) × (IsSmall input → ⊥)) }
+    ensures small { (input : List ℕ) (s : Status) → IsSmall input → length input ≤ most_bytes → Verdict input s → s ≡ Status.Done }
 {}

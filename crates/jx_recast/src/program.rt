@@ -119,7 +119,7 @@ fn tile_fault(alloc: Global, input: &[u8], stream: &Stream) -> Result<(), Stream
 }
 
 /// What is first violated or passed in the headers, else in the tile data.
-#[tactic(auto, using(crate::proofs::JudgedLemmas::read_is))]
+#[tactic(auto, using(jx_gather::proofs::ReadLemmas::read_is))]
 fn input_fault(alloc: Global, input: &[u8]) -> Result<(), StreamFault>
     requires { length input.now ≤ most_bytes }
     ensures ok { OnOk result (IsAccepted input.now (stream_in input.now)) }

@@ -286,13 +286,12 @@ fn limits_of_headers(rt: HostRuntime) -> Result<(), Fail> {
 
 #[test]
 fn other_forms(rt: HostRuntime) -> Result<(), Fail> {
-    // two samples for one, EPH, two layers, two tile-parts told, a packet that isn't empty, a packet with a
-    // code-block, a byte after EOC
-    let rows: [(usize, usize, &[u8]); 8] = [
+    // two samples for one, EPH, two tile-parts told, a packet that isn't empty, a packet with a code-block, a
+    // byte after EOC
+    let rows: [(usize, usize, &[u8]); 7] = [
         (43, 1, &[2]),
         (44, 1, &[2]),
         (49, 1, &[4]),
-        (52, 1, &[2]),
         (76, 1, &[2]),
         (79, 1, &[0x80]),
         (74, 6, &[0x11, 0, 1, 0xFF, 0x93, 0xC0, 0x21, 3]),
@@ -302,6 +301,83 @@ fn other_forms(rt: HostRuntime) -> Result<(), Fail> {
         refused(&rt, &edited(&rt, at, gone, put)?, Status::Form, "form\n")?;
     }
     Ok(())
+}
+
+// From Psot on: the tile-part's length, its number, SOD and the tile data, in place of the small file's.
+#[test]
+fn rules_of_tile_data(rt: HostRuntime) -> Result<(), Fail> {
+    let rows: [(&[u8], u8, u32); 8] = [
+        (&[0, 0, 0, 15, 0, 1, 0xFF, 0x93, 0xC0], 26, 79),
+        (&[0, 0, 0, 14, 0, 1, 0xFF, 0x93], 26, 79),
+        (&[0, 0, 0, 16, 0, 1, 0xFF, 0x93, 0xC0, 0], 27, 79),
+        (&[0, 0, 0, 16, 0, 1, 0xFF, 0x93, 0xC0, 0x21], 28, 79),
+        (
+            &[0, 0, 0, 21, 0, 1, 0xFF, 0x93, 0xFF, 0x91, 0, 4, 0, 1, 0],
+            29,
+            79,
+        ),
+        (&[0, 0, 0, 17, 0, 1, 0xFF, 0x93, 0xC0, 0x21, 0xFF], 30, 81),
+        (&[0, 0, 0, 16, 0, 1, 0xFF, 0x93, 0, 0], 31, 80),
+        (&[0, 0, 0, 17, 0, 1, 0xFF, 0x93, 0, 0xFF, 0x92], 31, 82),
+    ];
+    for (put, number, place) in rows {
+        breaks(&rt, &edited(&rt, 71, 9, put)?, number, place)?;
+    }
+    // two layers, and a packet for one; two layers, and an entry for one
+    breaks(&rt, &edited(&rt, 52, 1, &[2])?, 26, 80)?;
+    let entry = [
+        2, 0, 0, 4, 4, 0, 1, 0xFF, 0x5C, 0, 4, 0x40, 0x40, 0xFF, 0x5F, 0, 9, 0, 0, 0, 1, 1, 1, 0,
+    ];
+    breaks(&rt, &edited(&rt, 52, 13, &entry)?, 25, 76)
+}
+
+#[test]
+fn limits_of_tile_data(rt: HostRuntime) -> Result<(), Fail> {
+    // 65,536 by 65,536 places in one tile, and code-blocks of 4 by 4
+    let blocks = [
+        0, 1, 0, 0, 0, 1, 0, 0, 0, 0, 0, 0, 0, 0, 0, 0, 0, 1, 0, 0, 0, 1, 0, 0, 0, 0, 0, 0, 0, 0, 0,
+        0, 0, 1, 7, 1, 1, 0xFF, 0x52, 0, 12, 0, 0, 0, 1, 0, 0, 0, 0,
+    ];
+    refused(
+        &rt,
+        &edited(&rt, 8, 49, &blocks)?,
+        Status::Limit {
+            number: 5,
+            found: 268_435_456,
+        },
+        "limit 5: 268435456\n",
+    )?;
+    // 9 by 9 precincts of one place, and 65,535 layers
+    let packets = [
+        0, 0, 0, 9, 0, 0, 0, 9, 0, 0, 0, 0, 0, 0, 0, 0, 0, 0, 0, 9, 0, 0, 0, 9, 0, 0, 0, 0, 0, 0, 0,
+        0, 0, 1, 7, 1, 1, 0xFF, 0x52, 0, 13, 1, 0, 0xFF, 0xFF, 0, 0, 4, 4, 0, 1, 0,
+    ];
+    refused(
+        &rt,
+        &edited(&rt, 8, 51, &packets)?,
+        Status::Limit {
+            number: 6,
+            found: 5_308_335,
+        },
+        "limit 6: 5308335\n",
+    )
+}
+
+// Edits of the small file that are worth having, among them 33 resolutions and a file of 115 bytes.
+#[test]
+fn hostile_files(rt: HostRuntime) -> Result<(), Fail> {
+    breaks(&rt, &edited(&rt, 4, 2, &[0xFF, 0xFF])?, 1, 2)?;
+    breaks(&rt, &edited(&rt, 71, 4, &[0xFF; 4])?, 22, 65)?;
+    breaks(&rt, &edited(&rt, 54, 1, &[0x20])?, 9, 65)?;
+    let mut long = edited(&rt, 54, 11, &[0x20, 4, 4, 0, 1, 0xFF, 0x5C, 0, 5, 0x41, 0x40])?;
+    long.push(0)?;
+    long.truncate(65);
+    let part = [0xFF, 0x90, 0, 10, 0, 0, 0, 0, 0, 0x2F, 0, 1, 0xFF, 0x93];
+    long.push(0)?;
+    long.extend_from_slice(&part)?;
+    long.extend_from_slice(&[0; 33])?;
+    long.extend_from_slice(&[0xFF, 0xD9])?;
+    refused(&rt, &long, Status::Form, "form\n")
 }
 
 #[test]
