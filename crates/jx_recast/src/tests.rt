@@ -318,7 +318,7 @@ fn rules_of_tile_data(rt: HostRuntime) -> Result<(), Fail> {
         ),
         (&[0, 0, 0, 17, 0, 1, 0xFF, 0x93, 0xC0, 0x21, 0xFF], 30, 81),
         (&[0, 0, 0, 16, 0, 1, 0xFF, 0x93, 0, 0], 31, 80),
-        (&[0, 0, 0, 17, 0, 1, 0xFF, 0x93, 0, 0xFF, 0x92], 31, 82),
+        (&[0, 0, 0, 18, 0, 1, 0xFF, 0x93, 0, 0xFF, 0x92, 0], 31, 82),
     ];
     for (put, number, place) in rows {
         breaks(&rt, &edited(&rt, 71, 9, put)?, number, place)?;
@@ -335,8 +335,8 @@ fn rules_of_tile_data(rt: HostRuntime) -> Result<(), Fail> {
 fn limits_of_tile_data(rt: HostRuntime) -> Result<(), Fail> {
     // 65,536 by 65,536 places in one tile, and code-blocks of 4 by 4
     let blocks = [
-        0, 1, 0, 0, 0, 1, 0, 0, 0, 0, 0, 0, 0, 0, 0, 0, 0, 1, 0, 0, 0, 1, 0, 0, 0, 0, 0, 0, 0, 0, 0,
-        0, 0, 1, 7, 1, 1, 0xFF, 0x52, 0, 12, 0, 0, 0, 1, 0, 0, 0, 0,
+        0, 1, 0, 0, 0, 1, 0, 0, 0, 0, 0, 0, 0, 0, 0, 0, 0, 1, 0, 0, 0, 1, 0, 0, 0, 0, 0, 0, 0, 0,
+        0, 0, 0, 1, 7, 1, 1, 0xFF, 0x52, 0, 12, 0, 0, 0, 1, 0, 0, 0, 0,
     ];
     refused(
         &rt,
@@ -349,8 +349,8 @@ fn limits_of_tile_data(rt: HostRuntime) -> Result<(), Fail> {
     )?;
     // 9 by 9 precincts of one place, and 65,535 layers
     let packets = [
-        0, 0, 0, 9, 0, 0, 0, 9, 0, 0, 0, 0, 0, 0, 0, 0, 0, 0, 0, 9, 0, 0, 0, 9, 0, 0, 0, 0, 0, 0, 0,
-        0, 0, 1, 7, 1, 1, 0xFF, 0x52, 0, 13, 1, 0, 0xFF, 0xFF, 0, 0, 4, 4, 0, 1, 0,
+        0, 0, 0, 9, 0, 0, 0, 9, 0, 0, 0, 0, 0, 0, 0, 0, 0, 0, 0, 9, 0, 0, 0, 9, 0, 0, 0, 0, 0, 0,
+        0, 0, 0, 1, 7, 1, 1, 0xFF, 0x52, 0, 13, 1, 0, 0xFF, 0xFF, 0, 0, 4, 4, 0, 1, 0,
     ];
     refused(
         &rt,
@@ -369,12 +369,14 @@ fn hostile_files(rt: HostRuntime) -> Result<(), Fail> {
     breaks(&rt, &edited(&rt, 4, 2, &[0xFF, 0xFF])?, 1, 2)?;
     breaks(&rt, &edited(&rt, 71, 4, &[0xFF; 4])?, 22, 65)?;
     breaks(&rt, &edited(&rt, 54, 1, &[0x20])?, 9, 65)?;
-    let mut long = edited(&rt, 54, 11, &[0x20, 4, 4, 0, 1, 0xFF, 0x5C, 0, 5, 0x41, 0x40])?;
-    long.push(0)?;
+    let mut long = edited(
+        &rt,
+        54,
+        11,
+        &[0x20, 4, 4, 0, 1, 0xFF, 0x5C, 0, 5, 0x41, 0x40],
+    )?;
     long.truncate(65);
-    let part = [0xFF, 0x90, 0, 10, 0, 0, 0, 0, 0, 0x2F, 0, 1, 0xFF, 0x93];
-    long.push(0)?;
-    long.extend_from_slice(&part)?;
+    long.extend_from_slice(&[0, 0xFF, 0x90, 0, 10, 0, 0, 0, 0, 0, 0x2F, 0, 1, 0xFF, 0x93])?;
     long.extend_from_slice(&[0; 33])?;
     long.extend_from_slice(&[0xFF, 0xD9])?;
     refused(&rt, &long, Status::Form, "form\n")
