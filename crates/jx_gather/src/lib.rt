@@ -2,6 +2,7 @@
 //! pieces of each block are joined.
 #![tactic(auto)]
 
+mod data;
 mod faults;
 
 pub use faults::GatherFault;
