@@ -9,4 +9,5 @@ pub mod Gathered
 pub mod WellFormed
 pub mod InRange
 pub mod Put
+pub mod Reading
 pub mod Accepted

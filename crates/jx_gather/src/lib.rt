@@ -4,6 +4,7 @@
 
 mod data;
 mod faults;
+mod packet;
 
 pub use faults::GatherFault;
 pub use jx_base::{Block, Piece, Pieces};
