@@ -1,2 +1,3 @@
 pub mod DataLemmas
 pub mod PacketLemmas
+pub mod PieceLemmas

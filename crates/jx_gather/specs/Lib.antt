@@ -2,6 +2,7 @@ pub mod Faults
 pub mod Shapes
 pub mod Totals
 pub mod Cells
+pub mod Leaves
 pub mod Data
 pub mod Cuts
 pub mod Blocks

@@ -4,7 +4,9 @@
 
 mod data;
 mod faults;
+mod layout;
 mod packet;
+mod pieces;
 
 pub use faults::GatherFault;
 pub use jx_base::{Block, Piece, Pieces};
