@@ -1,15 +1,20 @@
 -- Inner: what is read of a packet, as a packet that was cut off, and pieces that can be put to their blocks.
-use Rattle.std.specs.Prelude.{ℕ, ◌+◌, ◌<◌, ◌^◌, List, length, Option, None, Some}
+use Rattle.std.specs.Prelude.{◌≡◌, ℕ, ◌+◌, ◌<◌, ◌≤◌, ◌^◌, List, [], length, Option, None, Some, slice_index_or}
 use Rattle.std.specs.List.{All}
 use Rattle.jx_base.specs.declared.pieces.Block.{Block}
 use Rattle.jx_geom.specs.Geometry.{Geometry}
 use Rattle.jx_head.specs.declared.Part.{Part}
 use Rattle.jx_head.specs.Packet.{State}
 use Rattle.jx_order.specs.declared.names.PacketName.{PacketName}
+use Rattle.jx_stream.specs.declared.Body.{Body}
+use Rattle.jx_stream.specs.declared.Stream.{Stream}
 use Rattle.jx_gather.specs.declared.packet.Packet.{Packet}
 use Rattle.jx_gather.specs.Cells.{leaf_number}
-use Rattle.jx_gather.specs.Cuts.{Cut}
-use Rattle.jx_gather.specs.Blocks.{Found, zero_in}
+use Rattle.jx_gather.specs.Shapes.{geometry}
+use Rattle.jx_gather.specs.Data.{due}
+use Rattle.jx_gather.specs.Cuts.{Cut, Left, AreCuts, names_of}
+use Rattle.jx_gather.specs.Gathered.{start}
+use Rattle.jx_gather.specs.Blocks.{Found, zero_in, founds_of, tile_blocks}
 use Rattle.jx_gather.specs.Put.{put_all}
 
 abbrev pub cut_of : PacketName → Packet → State → Cut
@@ -32,3 +37,24 @@ found_of g p k part bytes = record {
   zero = zero_in k part.block;
   piece = record { layer = p.layer; first = part.first; passes = part.passes; bytes = bytes };
 }
+
+-- a precinct that isn't there
+abbrev pub no_state : State
+no_state = record { style = 0; layer = 0; bands = [] }
+
+abbrev pub state_at : List State → ℕ → State
+state_at states i = slice_index_or states i no_state
+
+-- data of tile-parts that lie in the file
+abbrev pub AreInside : List ℕ → List Body → Type 0
+AreInside b bodies = All (λ (body : Body). body.at + body.length ≤ length b) bodies
+
+-- these packets of a tile were read, and their pieces put to its blocks
+pub record IsFront (b : List ℕ) (s : Stream) (t : ℕ) (done : List PacketName) (left : Left) (blocks : List Block) : Type 0 where
+  pub cuts : List Cut
+  pub names : names_of cuts ≡ done
+  pub mid : Left
+  pub are : AreCuts b (geometry s t) 0 (start s t) cuts mid
+  pub due_are : due mid.bodies ≡ due left.bodies
+  pub states_are : mid.states ≡ left.states
+  pub blocks_are : blocks ≡ put_all (tile_blocks s (geometry s t) []) (founds_of (geometry s t) cuts)

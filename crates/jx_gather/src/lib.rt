@@ -7,6 +7,7 @@ mod faults;
 mod layout;
 mod packet;
 mod pieces;
+mod rest;
 
 pub use faults::GatherFault;
 pub use jx_base::{Block, Piece, Pieces};
