@@ -2,18 +2,20 @@
 use Rattle.std.specs.Prelude.{◌≡◌, ℕ, ◌+◌, ◌<◌, ◌≤◌, ◌^◌, List, [], length, Option, None, Some, slice_index_or}
 use Rattle.std.specs.List.{All}
 use Rattle.jx_base.specs.declared.pieces.Block.{Block}
-use Rattle.jx_geom.specs.Geometry.{Geometry}
+use Rattle.jx_geom.specs.Geometry.{Geometry, GeometryInRange}
 use Rattle.jx_head.specs.declared.Part.{Part}
 use Rattle.jx_head.specs.Packet.{State}
 use Rattle.jx_order.specs.declared.names.PacketName.{PacketName}
 use Rattle.jx_stream.specs.declared.Body.{Body}
 use Rattle.jx_stream.specs.declared.Stream.{Stream}
+use Rattle.jx_stream.specs.First.{tile_number}
 use Rattle.jx_gather.specs.declared.packet.Packet.{Packet}
 use Rattle.jx_gather.specs.Cells.{leaf_number}
-use Rattle.jx_gather.specs.Shapes.{geometry}
+use Rattle.jx_gather.specs.Shapes.{geometry, tile_at}
 use Rattle.jx_gather.specs.Data.{due}
 use Rattle.jx_gather.specs.Cuts.{Cut, Left, AreCuts, names_of}
-use Rattle.jx_gather.specs.Gathered.{start}
+use Rattle.jx_gather.specs.Gathered.{IsListOf, IsWhole, start}
+use Rattle.jx_gather.specs.InRange.{StreamInRange}
 use Rattle.jx_gather.specs.Blocks.{Found, zero_in, founds_of, tile_blocks}
 use Rattle.jx_gather.specs.Put.{put_all}
 
@@ -58,3 +60,14 @@ pub record IsFront (b : List ℕ) (s : Stream) (t : ℕ) (done : List PacketName
   pub due_are : due mid.bodies ≡ due left.bodies
   pub states_are : mid.states ≡ left.states
   pub blocks_are : blocks ≡ put_all (tile_blocks s (geometry s t) []) (founds_of (geometry s t) cuts)
+
+-- what a tile's packets are read by
+pub record IsTask (b : List ℕ) (s : Stream) (g : Geometry) (list : List PacketName) : Type 0 where
+  pub fits : length b ≤ 2 ^ 28
+  pub range : StreamInRange s
+  pub below : g.tile < tile_number s.siz
+  pub geometry_is : g ≡ geometry s g.tile
+  pub ranges : GeometryInRange g
+  pub order : IsListOf s g.tile list
+  pub whole : IsWhole s g.tile
+  pub inside : AreInside b (tile_at s g.tile).bodies

@@ -4,10 +4,12 @@
 
 mod data;
 mod faults;
+mod fresh;
 mod layout;
 mod packet;
 mod pieces;
 mod rest;
+mod tile;
 
 pub use faults::GatherFault;
 pub use jx_base::{Block, Piece, Pieces};
