@@ -12,3 +12,4 @@ pub mod InRange
 pub mod Put
 pub mod Reading
 pub mod Accepted
+pub mod Covered

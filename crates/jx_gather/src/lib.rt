@@ -2,6 +2,7 @@
 //! pieces of each block are joined.
 #![tactic(auto)]
 
+mod covered;
 mod data;
 mod faults;
 mod fresh;
@@ -9,7 +10,9 @@ mod layout;
 mod packet;
 mod pieces;
 mod rest;
+mod shapes;
 mod tile;
+mod totals;
 
 pub use faults::GatherFault;
 pub use jx_base::{Block, Piece, Pieces};

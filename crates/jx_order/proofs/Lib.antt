@@ -4,3 +4,4 @@ pub mod OrderLemmas
 pub mod KeyLemmas
 pub mod PlacedLemmas
 pub mod TableLemmas
+pub mod RiseLemmas

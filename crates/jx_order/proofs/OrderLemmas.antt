@@ -30,10 +30,10 @@ contains_tail x xs y h = (suc h.0, omega (arith, h.1), h.2)
 pub contains_none : {X : Type 0} (y : X) → Contains [] y → ⊥
 contains_none y h = omega (arith, h.1)
 
-pairs_tail : {X : Type 0} (R : X → X → Type 0) (x : X) (xs : List X) → AllPairs R (x ∷ xs) → AllPairs R xs
+pub pairs_tail : {X : Type 0} (R : X → X → Type 0) (x : X) (xs : List X) → AllPairs R (x ∷ xs) → AllPairs R xs
 pairs_tail R x xs h i j d lt below = h (suc i) (suc j) d (omega arith) (omega arith)
 
-pairs_head : {X : Type 0} (R : X → X → Type 0) (x : X) (xs : List X) (y : X) → AllPairs R (x ∷ xs) → Contains xs y → R x y
+pub pairs_head : {X : Type 0} (R : X → X → Type 0) (x : X) (xs : List X) (y : X) → AllPairs R (x ∷ xs) → Contains xs y → R x y
 pairs_head {X} R x xs y h c =
     let P : X → Type 0 = λ z. R x z in
     subst P c.2 (h zero (suc c.0) y (omega arith) (omega (arith, c.1)))

@@ -53,3 +53,13 @@ AreCovered g layers entries = (p : PacketName) → IsPacket g layers p → IsCov
 -- some packet of the tile is in no entry
 abbrev pub HasUncovered : Geometry → ℕ → List Progression → Type 0
 HasUncovered g layers entries = (p : PacketName) × IsPacket g layers p × (IsCovered entries p → ⊥)
+
+-- two packets of one precinct
+pub record SamePrecinct (p q : PacketName) : Type 0 where
+  pub comp : p.comp ≡ q.comp
+  pub res : p.res ≡ q.res
+  pub precinct : p.precinct ≡ q.precinct
+
+-- the packets of each precinct stand in the order of their layers
+abbrev pub LayersRise : List PacketName → Type 0
+LayersRise list = AllPairs (λ (p q : PacketName). SamePrecinct p q → p.layer < q.layer) list

@@ -4,10 +4,16 @@ ghost use Rattle.std.specs.Prelude.{◌≡◌, ℕ, List};
 ghost use Rattle.jx_geom.specs.Geometry.{Geometry};
 ghost use Rattle.jx_marker.specs.declared.Progression.{Progression};
 ghost use Rattle.jx_order.specs.declared.names.PacketName.{PacketName};
-ghost use Rattle.jx_order.specs.Packets.{IsOrder};
+ghost use Rattle.jx_order.specs.Packets.{IsOrder, LayersRise};
 
 /// One tile's geometry, its number of layers and its entries give one list.
 pub fn orders_are_one()
     ensures { (g : Geometry) (layers : ℕ) (entries : List Progression) (n : ℕ) (a b : List PacketName)
         → IsOrder g layers entries n a → IsOrder g layers entries n b → a ≡ b }
+{}
+
+/// In a tile's list the packets of a precinct stand in the order of their layers, lowest first.
+pub fn layers_rise()
+    ensures { (g : Geometry) (layers : ℕ) (entries : List Progression) (n : ℕ) (list : List PacketName)
+        → IsOrder g layers entries n list → LayersRise list }
 {}

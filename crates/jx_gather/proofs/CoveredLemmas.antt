@@ -1,0 +1,32 @@
+-- Rule 25 over the tiles of a stream.
+use Rattle.std.proofs.Common.{◌≡◌, ◌∙◌, ◌<◌, ℕ, List, ap, subst}
+use Rattle.jx_geom.specs.Geometry.{Geometry}
+use Rattle.jx_marker.specs.declared.Progression.{Progression}
+use Rattle.jx_order.specs.Packets.{HasUncovered}
+use Rattle.jx_stream.specs.declared.Tile.{Tile}
+use Rattle.jx_stream.specs.declared.Stream.{Stream}
+use Rattle.jx_stream.specs.First.{tile_number}
+use Rattle.jx_gather.specs.declared.faults.GatherFault.{GatherFault}
+use Rattle.jx_gather.specs.declared.faults.GatherFault.TheVariants as fault
+use Rattle.jx_gather.specs.Faults.{HasCause}
+use Rattle.jx_gather.specs.Shapes.{geometry, layers_of, tile_at}
+use Rattle.jx_gather.specs.Gathered.{IsWhole, IsUncovered}
+use Rattle.jx_gather.specs.Covered.{LacksPacket}
+
+-- in the lowest tile of which some packet isn't covered
+pub uncovered_first : (s : Stream) (t : ℕ) (f : GatherFault) → t < tile_number s.siz → ((k : ℕ) → k < t → IsWhole s k) → HasCause (LacksPacket s t) f → HasCause (IsUncovered s) f
+uncovered_first s t (fault.Rule number place) inside before h = record { tile = t; inside = inside; some = h.some; lowest = before; fault_is = h.fault_is }
+uncovered_first s t (fault.Limit number found) inside before h = record { tile = t; inside = inside; some = h.some; lowest = before; fault_is = h.fault_is }
+uncovered_first s t fault.NoMemory inside before h = tt
+
+-- by the values that a tile's list is made from
+pub lacks_here : (s : Stream) (g : Geometry) (layers : ℕ) (entries : List Progression) (tile : Tile) → g ≡ geometry s g.tile → layers ≡ layers_of s g.tile → tile ≡ tile_at s g.tile
+    → entries ≡ tile.progressions → HasUncovered g layers entries → LacksPacket s g.tile (fault.Rule 25 tile.place)
+lacks_here s g layers entries tile is many at sent h =
+    let P : Geometry → Type 0 = λ x. HasUncovered x (layers_of s g.tile) (tile_at s g.tile).progressions in
+    let Q : ℕ → Type 0 = λ n. HasUncovered g n (tile_at s g.tile).progressions in
+    let R : List Progression → Type 0 = λ x. HasUncovered g layers x in
+    record {
+      some = subst P is (subst Q many (subst R (sent ∙ ap (λ (x : Tile). x.progressions) at) h));
+      fault_is = ap (λ (x : Tile). fault.Rule 25 x.place) at;
+    }

@@ -1,0 +1,86 @@
+-- Totals over the tiles and components of a stream in range, and what the limits on them say of one tile.
+use Rattle.std.proofs.Common.{◌≡◌, ◌∙◌, ◌<◌, ◌≤◌, ◌+◌, ◌*◌, ◌^◌, ℕ, Bool, true, false, arith, length, map, get_or, refl, sym, ap, subst, nat_lt, Option, Some, None, cond}
+use Rattle.std.specs.Option.{option_or}
+use Rattle.std.specs.List.{range_with_len, sum_by}
+use Rattle.std.proofs.lemmas.Bool.Decides.{nat_tests}
+use Rattle.std.proofs.lemmas.List.FromFn.{sum_by-map-range_with_len_more}
+use Rattle.jx_base.specs.declared.names.Rect.{Rect}
+use Rattle.jx_geom.specs.declared.shape.CompShape.{CompShape}
+use Rattle.jx_geom.specs.Ranges.{ShapeInRange}
+use Rattle.jx_geom.specs.Rects.{tile_rect}
+use Rattle.jx_geom.specs.Counts.{sum_below, component_blocks, component_precincts, tile_blocks, tile_precincts}
+use Rattle.jx_geom.specs.Numbering.{blocks_below, blocks_of_all}
+use Rattle.jx_geom.specs.Geometry.{no_shape, WithinLimits, GeometryInRange}
+use Rattle.jx_geom.proofs.CountLemmas.{sum_below_next, sum_below_more}
+use Rattle.jx_stream.specs.declared.Stream.{Stream}
+use Rattle.jx_stream.specs.First.{canvas_of, tile_number}
+use Rattle.jx_gather.specs.declared.faults.GatherFault.{GatherFault}
+use Rattle.jx_gather.specs.Faults.{passed}
+use Rattle.jx_gather.specs.Shapes.{shapes_of, shape_in, geometry, layers_of}
+use Rattle.jx_gather.specs.InRange.{StreamInRange}
+use Rattle.jx_gather.specs.Totals.{block_total, tile_packets, packet_total, totals_fault}
+use Rattle.jx_gather.proofs.RangeLemmas.{shapes_length, shapes_at}
+
+pub shape_ranges : (s : Stream) (t c : ℕ) → StreamInRange s → t < tile_number s.siz → c < length s.siz.comps → ShapeInRange (shape_in s t c)
+shape_ranges s t c range inside within =
+    let near : c < length (shapes_of s t) = omega (arith, shapes_length s t) in
+    subst (λ (x : CompShape). ShapeInRange x) (shapes_at s t c no_shape within) (range.shapes t inside c near)
+
+-- the shapes as the loops make them
+pub shapes_are : (s : Stream) (t : ℕ) → shapes_of s t ≡ map (shape_in s t) (range_with_len 0 (length s.siz.comps))
+unfolding shapes_of
+shapes_are s t = refl
+
+pub blocks_are : (s : Stream) → block_total s ≡ blocks_below (canvas_of s.siz) (shapes_of s) (tile_number s.siz)
+unfolding block_total
+blocks_are s = refl
+
+pub packets_are : (s : Stream) → packet_total s ≡ sum_below (tile_packets s) (tile_number s.siz)
+unfolding packet_total
+packets_are s = refl
+
+-- the limits on all bound each tile
+
+record WithinTotals (s : Stream) : Type 0 where
+  pub blocks : block_total s ≤ 2 ^ 20
+  pub packets : packet_total s ≤ 2 ^ 22
+
+not_passed : (number found most : ℕ) → passed number found (nat_lt most found) ≡ None → found ≤ most
+not_passed number found most h = grind (arith, nat_tests)
+
+first_none : (first later : Option GatherFault) → option_or first later ≡ None → (first ≡ None) × (later ≡ None)
+first_none None later h = (refl, h)
+first_none (Some f) later h = absurd (cc)
+
+within_totals : (s : Stream) → totals_fault s ≡ None → WithinTotals s
+unfolding totals_fault
+within_totals s h =
+    let both = first_none (passed 5 (block_total s) (nat_lt (2 ^ 20) (block_total s))) (passed 6 (packet_total s) (nat_lt (2 ^ 22) (packet_total s))) h in
+    record { blocks = not_passed 5 (block_total s) (2 ^ 20) both.0; packets = not_passed 6 (packet_total s) (2 ^ 22) both.1 }
+
+some_times : (a b : ℕ) → 1 ≤ b → a ≤ a * b
+some_times a b h = grind arith
+
+pub tile_within : (s : Stream) (t : ℕ) → StreamInRange s → totals_fault s ≡ None → t < tile_number s.siz → WithinLimits (canvas_of s.siz) t (shapes_of s t)
+tile_within s t range none inside =
+    let all = within_totals s none in
+    let rect : Rect = tile_rect (canvas_of s.siz) t in
+    let blocks = sum_below_more (λ (n : ℕ). tile_blocks (tile_rect (canvas_of s.siz) n) (shapes_of s n)) t (tile_number s.siz) inside in
+    let packets = sum_below_more (tile_packets s) t (tile_number s.siz) inside in
+    record {
+      blocks = omega (arith, blocks, blocks_are s, all.blocks);
+      precincts = omega (arith, packets, packets_are s, all.packets, some_times (tile_precincts rect (shapes_of s t)) (layers_of s t) (range.some_layers t inside));
+    }
+
+-- so the geometry of each tile is in range
+pub geometry_fits : (s : Stream) (t : ℕ) → StreamInRange s → totals_fault s ≡ None → t < tile_number s.siz → GeometryInRange (geometry s t)
+geometry_fits s t range none inside = record { canvas = range.canvas; tile = inside; shapes = range.shapes t inside; limits = tile_within s t range none inside }
+
+-- the sums that the loops make
+
+pub sum_more : (f : CompShape → ℕ) (g : ℕ → CompShape) (total more n : ℕ) (shape : CompShape) → total ≡ sum_by f (map g (range_with_len 0 n)) → more ≡ f shape → shape ≡ g n
+    → total + more ≡ sum_by f (map g (range_with_len 0 (n + 1)))
+sum_more f g total more n shape before now is = omega (arith, before, now, ap f is, sum_by-map-range_with_len_more f g 0 n n (omega arith))
+
+pub sum_all : (f : CompShape → ℕ) (s : Stream) (t total n : ℕ) → n ≡ length s.siz.comps → total ≡ sum_by f (map (shape_in s t) (range_with_len 0 n)) → total ≡ sum_by f (shapes_of s t)
+sum_all f s t total n all h = h ∙ ap (λ (m : ℕ). sum_by f (map (shape_in s t) (range_with_len 0 m))) all ∙ ap (sum_by f) (sym (shapes_are s t))

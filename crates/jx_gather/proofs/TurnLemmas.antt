@@ -1,0 +1,343 @@
+-- Packets in their turn: when a packet is due, its precinct's state is at its layer.
+use Rattle.std.proofs.Common.{◌≡◌, ℕ, zero, suc, ◌+◌, ◌<◌, ◌≤◌, List, [], ◌∷◌, ◌++◌, Some, inl, inr, ◌∙◌, ap, sym, subst, refl, arith, length, set, take, drop, append_assoc, append-nil, length-drop, length-take}
+use Rattle.std.specs.Prelude.{◌↔◌, slice_get}
+use Rattle.std.specs.List.{AllPairs, Contains}
+use Rattle.std.proofs.lemmas.Bool.{cases_lt, cases_eq}
+use Rattle.std.proofs.lemmas.Option.{slice_get_within}
+use Rattle.std.proofs.lemmas.List.Elements.{Contains-append_left, Contains-append_right, Contains-append_cases, Contains-push, Contains-push_cases}
+use Rattle.jx_geom.specs.Geometry.{Geometry}
+use Rattle.jx_head.specs.declared.Part.{Part}
+use Rattle.jx_head.specs.Packet.{State, IsPacket}
+use Rattle.jx_head.specs.Precinct.{IsState, all_blocks}
+use Rattle.jx_order.specs.declared.names.PacketName.{PacketName}
+use Rattle.jx_order.specs.Packets.{IsPacket as IsNamed, SamePrecinct, LayersRise, IsCovered}
+use Rattle.jx_order.specs.Steps.{name_of}
+use Rattle.jx_order.proofs.OrderLemmas.{contains_cons, contains_head, contains_none, pairs_tail, pairs_head, order_to, order_from}
+use Rattle.jx_order.proofs.RiseLemmas.{order_rises}
+use Rattle.jx_stream.specs.declared.Body.{Body}
+use Rattle.jx_stream.specs.declared.Stream.{Stream}
+use Rattle.jx_gather.specs.Shapes.{geometry, layers_of, tile_at, style_of}
+use Rattle.jx_gather.specs.Cells.{HasPrecinct, fresh_precinct, fresh_precincts, precinct_number}
+use Rattle.jx_gather.specs.Data.{window, header_in, sop_length}
+use Rattle.jx_gather.specs.Cuts.{Cut, Left, IsTurn, AreCuts, names_of, number_of}
+use Rattle.jx_gather.specs.Gathered.{IsListOf, IsWhole, start}
+
+-- ---- what is cited of a tile's precincts and of their states
+pub record Precincts (s : Stream) (g : Geometry) : Type 0 where
+  pub there : (c r k : ℕ) → HasPrecinct g c r k → slice_get (fresh_precincts s g) (precinct_number g c r k) ≡ Some (fresh_precinct s g c r k)
+  pub once : (c r k d q m : ℕ) → HasPrecinct g c r k → HasPrecinct g d q m → precinct_number g c r k ≡ precinct_number g d q m → (c ≡ d) × (r ≡ q) × (k ≡ m)
+  pub states : (c r k : ℕ) → HasPrecinct g c r k → IsState (fresh_precinct s g c r k)
+
+pub record StateKept (k after : State) : Type 0 where
+  pub is : IsState after
+  pub style : after.style ≡ k.style
+  pub blocks : length (all_blocks after.bands) ≡ length (all_blocks k.bands)
+
+-- headers that stand in bytes of which there are at most as many as in a file
+pub record Keeps (b : List ℕ) : Type 0 where
+  pub kept : (h : List ℕ) (k : State) (parts : List Part) (used : ℕ) (after : State) → length h ≤ length b → IsState k → IsPacket h k parts used after → StateKept k after
+
+-- ---- a tile's list
+pub record Listed (g : Geometry) (layers : ℕ) (list : List PacketName) : Type 0 where
+  pub every : (p : PacketName) → Contains list p ↔ IsNamed g layers p
+  pub rise : LayersRise list
+
+pub listed : (s : Stream) (t : ℕ) (list : List PacketName) → IsListOf s t list → IsWhole s t → Listed (geometry s t) (layers_of s t) list
+listed s t list order whole =
+    let entries = (tile_at s t).progressions in
+    let from : (p : PacketName) → Contains list p → IsNamed (geometry s t) (layers_of s t) p = λ p c.
+    (let sent = order_to (geometry s t) (layers_of s t) entries (length entries) list order p c in
+    sent.packet) in
+    let to : (p : PacketName) → IsNamed (geometry s t) (layers_of s t) p → Contains list p = λ p is.
+    (let covered : IsCovered entries p = whole p is in
+    order_from (geometry s t) (layers_of s t) entries (length entries) list order p
+    (record { packet = is; entry = covered.0; below = covered.1; covers = covered.2 })) in
+    record { every = λ p. (from p, to p); rise = order_rises (geometry s t) (layers_of s t) entries (length entries) list order }
+
+-- a pair of items in two lists one after another
+pub pairs_across : {X : Type 0} (R : X → X → Type 0) (xs ys : List X) (x y : X) → AllPairs R (xs ++ ys) → Contains xs x → Contains ys y → R x y
+pairs_across R [] ys x y h cx cy = absurd (contains_none x cx)
+pairs_across {X} R (z ∷ zs) ys x y h cx cy = elim (contains_cons z zs x cx) [
+  | inl e ↦
+      let P : X → Type 0 = λ w. R w y in
+      subst P e (pairs_head R z (zs ++ ys) y h (Contains-append_right zs ys y cy))
+  | inr rest ↦ pairs_across R zs ys x y (pairs_tail R z (zs ++ ys) h) rest cy
+]
+
+pub pairs_back : {X : Type 0} (R : X → X → Type 0) (xs ys : List X) → AllPairs R (xs ++ ys) → AllPairs R ys
+pairs_back R [] ys h = h
+pairs_back R (z ∷ zs) ys h = pairs_back R zs ys (pairs_tail R z (zs ++ ys) h)
+
+-- ---- an item that is set
+get_set_same : {X : Type 0} (xs : List X) (i : ℕ) (y : X) → i < length xs → slice_get (set xs i y) i ≡ Some y
+get_set_same [] i y h = absurd (omega arith)
+get_set_same (x ∷ xs) zero y h = refl
+get_set_same (x ∷ xs) (suc i) y h = get_set_same xs i y (omega arith)
+
+get_set_other : {X : Type 0} (xs : List X) (i j : ℕ) (y : X) → (i ≡ j → ⊥) → slice_get (set xs i y) j ≡ slice_get xs j
+get_set_other [] i j y h = refl
+get_set_other (x ∷ xs) zero zero y h = absurd (h refl)
+get_set_other (x ∷ xs) zero (suc j) y h = refl
+get_set_other (x ∷ xs) (suc i) zero y h = refl
+get_set_other (x ∷ xs) (suc i) (suc j) y h = get_set_other xs i j y (λ e. h (ap suc e))
+
+-- ---- what is known of a precinct, where these packets were read
+pub record Known (s : Stream) (g : Geometry) (layers : ℕ) (done : List PacketName) (states : List State) (c r k : ℕ) : Type 0 where
+  pub state : State
+  pub known : slice_get states (precinct_number g c r k) ≡ Some state
+  pub is : IsState state
+  pub style : state.style ≡ style_of s g.tile c
+  pub blocks : length (all_blocks state.bands) ≡ length (all_blocks (fresh_precinct s g c r k).bands)
+  pub layers_are : (l : ℕ) → l < layers → (l < state.layer) ↔ Contains done (name_of l r c k)
+
+abbrev pub AllKnown : Stream → Geometry → ℕ → List PacketName → List State → Type 0
+AllKnown s g layers done states = (c r k : ℕ) → HasPrecinct g c r k → Known s g layers done states c r k
+
+pub start_known : (s : Stream) (t layers : ℕ) → Precincts s (geometry s t) → AllKnown s (geometry s t) layers [] (start s t).states
+start_known s t layers p c r k has = record {
+  state = fresh_precinct s (geometry s t) c r k;
+  known = p.there c r k has;
+  is = p.states c r k has;
+  style = refl;
+  blocks = refl;
+  layers_are = λ l lt. (λ h. absurd (omega (arith, h)), λ h. absurd (contains_none (name_of l r c k) h));
+}
+
+-- ---- a packet that is due
+pub has_precinct : (g : Geometry) (layers : ℕ) (p : PacketName) → IsNamed g layers p → HasPrecinct g p.comp p.res p.precinct
+has_precinct g layers p is = record { resolution = is.resolution; precinct = is.precinct }
+
+pub due_named : (g : Geometry) (layers : ℕ) (list done rest : List PacketName) (p : PacketName) → Listed g layers list → list ≡ done ++ (p ∷ rest) → IsNamed g layers p
+due_named g layers list done rest p h e =
+    let P : List PacketName → Type 0 = λ xs. Contains xs p in
+    (h.every p).0 (subst P (sym e) (Contains-append_right done (p ∷ rest) p (contains_head p rest)))
+
+-- a lower layer was read before
+lower_done : (g : Geometry) (layers : ℕ) (list done rest : List PacketName) (p : PacketName) (l : ℕ) → Listed g layers list → list ≡ done ++ (p ∷ rest)
+    → l < p.layer → Contains done (name_of l p.res p.comp p.precinct)
+lower_done g layers list done rest p l h e lt =
+    let is = due_named g layers list done rest p h e in
+    let q : PacketName = name_of l p.res p.comp p.precinct in
+    let named : IsNamed g layers q = record { layer = omega (arith, is.layer); named = is.named; resolution = is.resolution; precinct = is.precinct } in
+    let C : List PacketName → Type 0 = λ xs. Contains xs q in
+    let R : PacketName → PacketName → Type 0 = λ a b. (SamePrecinct a b → a.layer < b.layer) in
+    let A : List PacketName → Type 0 = λ xs. AllPairs R xs in
+    let rises : AllPairs R (p ∷ rest) = pairs_back R done (p ∷ rest) (subst A e h.rise) in
+    elim (Contains-append_cases done (p ∷ rest) q (subst C e ((h.every q).1 named))) [
+      | inl old ↦ old
+      | inr new ↦ elim (contains_cons p rest q new) [
+        | inl same ↦
+            let layer : p.layer ≡ l = ap (λ (w : PacketName). w.layer) same in
+            absurd (omega arith)
+        | inr later ↦
+            let up : p.layer < l = pairs_head R p rest q rises later (record { comp = refl; res = refl; precinct = refl }) in
+            absurd (omega arith)
+      ]
+    ]
+
+-- and the packet's own was not
+own_new : (g : Geometry) (layers : ℕ) (list done rest : List PacketName) (p : PacketName) → Listed g layers list → list ≡ done ++ (p ∷ rest) → Contains done p → ⊥
+own_new g layers list done rest p h e c =
+    let R : PacketName → PacketName → Type 0 = λ a b. (SamePrecinct a b → a.layer < b.layer) in
+    let A : List PacketName → Type 0 = λ xs. AllPairs R xs in
+    let up : p.layer < p.layer =
+    pairs_across R done (p ∷ rest) p p (subst A e h.rise) c (contains_head p rest) (record { comp = refl; res = refl; precinct = refl }) in
+    omega arith
+
+pub layer_is : (s : Stream) (g : Geometry) (layers : ℕ) (list done rest : List PacketName) (p : PacketName) (states : List State) → Listed g layers list
+    → list ≡ done ++ (p ∷ rest) → (k : Known s g layers done states p.comp p.res p.precinct) → k.state.layer ≡ p.layer
+layer_is s g layers list done rest p states h e k =
+    let is = due_named g layers list done rest p h e in
+    elim (cases_lt k.state.layer p.layer) [
+      | inl lt ↦
+          let below : k.state.layer < k.state.layer =
+          (k.layers_are k.state.layer (omega (arith, is.layer))).1 (lower_done g layers list done rest p k.state.layer h e lt) in
+          absurd (omega arith)
+      | inr le ↦ elim (cases_lt p.layer k.state.layer) [
+        | inl gt ↦ absurd (own_new g layers list done rest p h e ((k.layers_are p.layer is.layer).0 gt))
+        | inr ge ↦ omega arith
+      ]
+    ]
+
+-- ---- one turn
+pub header_few : (w : List ℕ) → length (header_in w) ≤ length w
+unfolding header_in
+header_few w = let e = length-drop (sop_length w) w in omega arith
+
+pub window_few : (b : List ℕ) (body : Body) → length (header_in (window b body)) ≤ length b
+window_few b body =
+    let h = header_few (window b body) in
+    let d : length (drop body.at b) ≤ length b = (let e = length-drop body.at b in omega arith) in
+    let t : length (take body.length (drop body.at b)) ≤ length (drop body.at b) = (let e = length-take body.length (drop body.at b) in omega arith) in
+    omega arith
+
+pub layer_after : (h : List ℕ) (k : State) (parts : List Part) (used : ℕ) (after : State) → IsPacket h k parts used after → after.layer ≡ k.layer + 1
+layer_after h k parts used after p = ap (λ (x : State). x.layer) p.after_is
+
+same_state : (k m : State) → Some k ≡ Some m → k ≡ m
+same_state k m e = cc
+
+-- the turn's state is the one that is known
+pub turn_state : (b : List ℕ) (s : Stream) (g : Geometry) (layers : ℕ) (done : List PacketName) (number : ℕ) (old : Left) (c : Cut) (new : Left)
+    → (k : Known s g layers done old.states c.name.comp c.name.res c.name.precinct) → (t : IsTurn b g number old c new) → k.state ≡ t.state
+turn_state b s g layers done number old c new k t = same_state k.state t.state (sym k.known ∙ t.known)
+
+-- its precinct's state afterwards
+own_known : (b : List ℕ) (s : Stream) (g : Geometry) (layers : ℕ) (list done rest : List PacketName) (number : ℕ) (old : Left) (c : Cut) (new : Left) → Keeps b → Listed g layers list
+    → list ≡ done ++ (c.name ∷ rest) → Known s g layers done old.states c.name.comp c.name.res c.name.precinct → IsTurn b g number old c new
+    → Known s g layers (done ++ c.name ∷ []) new.states c.name.comp c.name.res c.name.precinct
+own_known b s g layers list done rest number old c new keeps h e k t =
+    let p : PacketName = c.name in
+    let kept = keeps.kept (header_in (window b t.body)) t.state c.parts c.used c.after (window_few b t.body)
+    (let I : State → Type 0 = λ x. IsState x in subst I (turn_state b s g layers done number old c new k t) k.is) t.cut.header in
+    let layer : c.after.layer ≡ t.state.layer + 1 = layer_after (header_in (window b t.body)) t.state c.parts c.used c.after t.cut.header in
+    let same : k.state ≡ t.state = turn_state b s g layers done number old c new k t in
+    let at : k.state.layer ≡ p.layer = layer_is s g layers list done rest p old.states h e k in
+    let next : c.after.layer ≡ p.layer + 1 = (let l : k.state.layer ≡ t.state.layer = ap (λ (x : State). x.layer) same in omega arith) in
+    let states : new.states ≡ set old.states (number_of g p) c.after = ap (λ (x : Left). x.states) t.new_is in
+    let set_it : slice_get (set old.states (number_of g p) c.after) (number_of g p) ≡ Some c.after =
+    get_set_same old.states (number_of g p) c.after (slice_get_within old.states (number_of g p) t.state t.known) in
+    record {
+      state = c.after;
+      known = ap (λ (xs : List State). slice_get xs (number_of g p)) states ∙ set_it;
+      is = kept.is;
+      style = kept.style ∙ sym (ap (λ (x : State). x.style) same) ∙ k.style;
+      blocks = kept.blocks ∙ sym (ap (λ (x : State). length (all_blocks x.bands)) same) ∙ k.blocks;
+      layers_are = λ l lt. (
+        λ less. elim (cases_lt l p.layer) [
+          | inl below ↦
+              let was : l < k.state.layer = omega arith in
+              Contains-append_left done (p ∷ []) (name_of l p.res p.comp p.precinct) ((k.layers_are l lt).0 was)
+          | inr ge ↦
+              let is : p.layer ≡ l = omega arith in
+              let C : ℕ → Type 0 = λ m. Contains (done ++ p ∷ []) (name_of m p.res p.comp p.precinct) in
+              subst C is (Contains-push done p)
+        ],
+        λ has. elim (Contains-push_cases done p (name_of l p.res p.comp p.precinct) has) [
+          | inl old_one ↦ (let was : l < k.state.layer = (k.layers_are l lt).1 old_one in omega arith)
+          | inr new_one ↦ (let is : p.layer ≡ l = ap (λ (w : PacketName). w.layer) new_one in omega arith)
+        ],
+      );
+    }
+
+-- and that of another
+other_known : (b : List ℕ) (s : Stream) (g : Geometry) (layers : ℕ) (done : List PacketName) (number : ℕ) (old : Left) (c : Cut) (new : Left) (e r k : ℕ)
+    → (number_of g c.name ≡ precinct_number g e r k → ⊥) → IsTurn b g number old c new → Known s g layers done old.states e r k
+    → Known s g layers (done ++ c.name ∷ []) new.states e r k
+other_known b s g layers done number old c new e r k other t was =
+    let p : PacketName = c.name in
+    let states : new.states ≡ set old.states (number_of g p) c.after = ap (λ (x : Left). x.states) t.new_is in
+    record {
+      state = was.state;
+      known = ap (λ (xs : List State). slice_get xs (precinct_number g e r k)) states
+          ∙ get_set_other old.states (number_of g p) (precinct_number g e r k) c.after other ∙ was.known;
+      is = was.is;
+      style = was.style;
+      blocks = was.blocks;
+      layers_are = λ l lt. (
+        λ less. Contains-append_left done (p ∷ []) (name_of l r e k) ((was.layers_are l lt).0 less),
+        λ has. elim (Contains-push_cases done p (name_of l r e k) has) [
+          | inl old_one ↦ (was.layers_are l lt).1 old_one
+          | inr new_one ↦ absurd (other (ap (number_of g) new_one))
+        ],
+      );
+    }
+
+pub turn_known : (b : List ℕ) (s : Stream) (g : Geometry) (layers : ℕ) (list done rest : List PacketName) (number : ℕ) (old : Left) (c : Cut) (new : Left)
+    → Precincts s g → Keeps b → Listed g layers list → list ≡ done ++ (c.name ∷ rest)
+    → AllKnown s g layers done old.states → IsTurn b g number old c new → AllKnown s g layers (done ++ c.name ∷ []) new.states
+turn_known b s g layers list done rest number old c new places keeps h e all t d r k has =
+    let p : PacketName = c.name in
+    let own : HasPrecinct g p.comp p.res p.precinct = has_precinct g layers p (due_named g layers list done rest p h e) in
+    elim (cases_eq (number_of g p) (precinct_number g d r k)) [
+      | inl same ↦
+          let is = places.once p.comp p.res p.precinct d r k own has same in
+          let here : Known s g layers (done ++ p ∷ []) new.states p.comp p.res p.precinct =
+          own_known b s g layers list done rest number old c new keeps h e (all p.comp p.res p.precinct own) t in
+          let A : ℕ → Type 0 = λ x. Known s g layers (done ++ p ∷ []) new.states x p.res p.precinct in
+          let B : ℕ → Type 0 = λ x. Known s g layers (done ++ p ∷ []) new.states d x p.precinct in
+          let C : ℕ → Type 0 = λ x. Known s g layers (done ++ p ∷ []) new.states d r x in
+          subst C is.2 (subst B is.1 (subst A is.0 here))
+      | inr other ↦ other_known b s g layers done number old c new d r k other t (all d r k has)
+    ]
+
+-- ---- packets one after another
+push_on : {X : Type 0} (xs ys : List X) (x : X) → (xs ++ x ∷ []) ++ ys ≡ xs ++ (x ∷ ys)
+push_on xs ys x = append_assoc xs (x ∷ []) ys
+
+pub cuts_known : (b : List ℕ) (s : Stream) (g : Geometry) (layers : ℕ) (list done : List PacketName) (cuts : List Cut) (rest : List PacketName) (number : ℕ) (old new : Left)
+    → Precincts s g → Keeps b → Listed g layers list → list ≡ done ++ (names_of cuts ++ rest)
+    → AllKnown s g layers done old.states → AreCuts b g number old cuts new → AllKnown s g layers (done ++ names_of cuts) new.states
+cuts_known b s g layers list done [] rest number old new places keeps h e all are =
+    let P : List PacketName → Type 0 = λ xs. AllKnown s g layers xs new.states in
+    let Q : Left → Type 0 = λ x. AllKnown s g layers done x.states in
+    subst P (sym (append-nil done)) (subst Q are all)
+cuts_known b s g layers list done (c ∷ cuts) rest number old new places keeps h e all are =
+    let P : List PacketName → Type 0 = λ xs. AllKnown s g layers xs new.states in
+    let next : AllKnown s g layers (done ++ c.name ∷ []) are.0.states =
+    turn_known b s g layers list done (names_of cuts ++ rest) number old c are.0 places keeps h e all are.1 in
+    subst P (push_on done (names_of cuts) c.name)
+    (cuts_known b s g layers list (done ++ c.name ∷ []) cuts rest (number + 1) are.0 new places keeps h
+    (e ∙ sym (push_on done (names_of cuts ++ rest) c.name)) next are.2)
+
+pub known_there : (b : List ℕ) (s : Stream) (t : ℕ) (list : List PacketName) (cuts : List Cut) (rest : List PacketName) (left : Left)
+    → Precincts s (geometry s t) → Keeps b → Listed (geometry s t) (layers_of s t) list → list ≡ names_of cuts ++ rest
+    → AreCuts b (geometry s t) 0 (start s t) cuts left → AllKnown s (geometry s t) (layers_of s t) (names_of cuts) left.states
+known_there b s t list cuts rest left places keeps h e are =
+    cuts_known b s (geometry s t) (layers_of s t) list [] cuts rest 0 (start s t) left places keeps h e (start_known s t (layers_of s t) places) are
+
+pub in_turn : (b : List ℕ) (s : Stream) (t : ℕ) (list : List PacketName) (cuts : List Cut) (p : PacketName) (rest : List PacketName) (left : Left) (state : State)
+    → Precincts s (geometry s t) → Keeps b → Listed (geometry s t) (layers_of s t) list → list ≡ names_of cuts ++ (p ∷ rest)
+    → AreCuts b (geometry s t) 0 (start s t) cuts left → slice_get left.states (number_of (geometry s t) p) ≡ Some state → state.layer ≡ p.layer
+in_turn b s t list cuts p rest left state places keeps h e are found =
+    let all = known_there b s t list cuts (p ∷ rest) left places keeps h e are in
+    let own = has_precinct (geometry s t) (layers_of s t) p (due_named (geometry s t) (layers_of s t) list (names_of cuts) rest p h e) in
+    let k = all p.comp p.res p.precinct own in
+    let same : k.state ≡ state = same_state k.state state (sym k.known ∙ found) in
+    sym (ap (λ (x : State). x.layer) same) ∙ layer_is s (geometry s t) (layers_of s t) list (names_of cuts) rest p left.states h e k
+
+-- ---- each turn with what is known of its precinct's state before it
+pub record InTurn (b : List ℕ) (s : Stream) (g : Geometry) (number : ℕ) (old : Left) (c : Cut) (new : Left) : Type 0 where
+  pub turn : IsTurn b g number old c new
+  pub precinct : HasPrecinct g c.name.comp c.name.res c.name.precinct
+  pub layer : turn.state.layer ≡ c.name.layer
+  pub is : IsState turn.state
+  pub style : turn.state.style ≡ style_of s g.tile c.name.comp
+  pub blocks : length (all_blocks turn.state.bands) ≡ length (all_blocks (fresh_precinct s g c.name.comp c.name.res c.name.precinct).bands)
+
+abbrev pub AreInTurn : List ℕ → Stream → Geometry → ℕ → Left → List Cut → Left → Type 0
+AreInTurn b s g number old [] new = old ≡ new
+AreInTurn b s g number old (c ∷ cuts) new = (next : Left) × InTurn b s g number old c next × AreInTurn b s g (number + 1) next cuts new
+
+pub turn_in : (b : List ℕ) (s : Stream) (g : Geometry) (layers : ℕ) (list done rest : List PacketName) (number : ℕ) (old : Left) (c : Cut) (new : Left)
+    → Listed g layers list → list ≡ done ++ (c.name ∷ rest) → AllKnown s g layers done old.states → IsTurn b g number old c new → InTurn b s g number old c new
+turn_in b s g layers list done rest number old c new h e all t =
+    let own = has_precinct g layers c.name (due_named g layers list done rest c.name h e) in
+    let k = all c.name.comp c.name.res c.name.precinct own in
+    let same : k.state ≡ t.state = turn_state b s g layers done number old c new k t in
+    let I : State → Type 0 = λ x. IsState x in
+    record {
+      turn = t;
+      precinct = own;
+      layer = sym (ap (λ (x : State). x.layer) same) ∙ layer_is s g layers list done rest c.name old.states h e k;
+      is = subst I same k.is;
+      style = sym (ap (λ (x : State). x.style) same) ∙ k.style;
+      blocks = sym (ap (λ (x : State). length (all_blocks x.bands)) same) ∙ k.blocks;
+    }
+
+pub cuts_in : (b : List ℕ) (s : Stream) (g : Geometry) (layers : ℕ) (list done : List PacketName) (cuts : List Cut) (rest : List PacketName) (number : ℕ) (old new : Left)
+    → Precincts s g → Keeps b → Listed g layers list → list ≡ done ++ (names_of cuts ++ rest)
+    → AllKnown s g layers done old.states → AreCuts b g number old cuts new → AreInTurn b s g number old cuts new
+cuts_in b s g layers list done [] rest number old new places keeps h e all are = are
+cuts_in b s g layers list done (c ∷ cuts) rest number old new places keeps h e all are = (
+  are.0,
+  turn_in b s g layers list done (names_of cuts ++ rest) number old c are.0 h e all are.1,
+  cuts_in b s g layers list (done ++ c.name ∷ []) cuts rest (number + 1) are.0 new places keeps h (e ∙ sym (push_on done (names_of cuts ++ rest) c.name))
+      (turn_known b s g layers list done (names_of cuts ++ rest) number old c are.0 places keeps h e all are.1) are.2,
+)
+
+pub are_in_turn : (b : List ℕ) (s : Stream) (t : ℕ) (list : List PacketName) (cuts : List Cut) (rest : List PacketName) (left : Left)
+    → Precincts s (geometry s t) → Keeps b → Listed (geometry s t) (layers_of s t) list → list ≡ names_of cuts ++ rest
+    → AreCuts b (geometry s t) 0 (start s t) cuts left → AreInTurn b s (geometry s t) 0 (start s t) cuts left
+are_in_turn b s t list cuts rest left places keeps h e are =
+    cuts_in b s (geometry s t) (layers_of s t) list [] cuts rest 0 (start s t) left places keeps h e (start_known s t (layers_of s t) places) are

@@ -1,0 +1,14 @@
+use Rattle.std.proofs.Common.{◌∙◌, List, subst, sym}
+use Rattle.jx_geom.specs.declared.shape.Canvas.{Canvas}
+use Rattle.jx_geom.specs.declared.shape.CompShape.{CompShape}
+use Rattle.jx_geom.specs.Geometry.{WithinLimits}
+use Rattle.jx_gather.specs.Shapes.{shapes_of}
+use Rattle.jx_gather.proofs.TotalLemmas.{tile_within}
+use Rattle.jx_gather.proofs.shapes.geometry_of.Goals as goal
+
+pub new-requires-clause-limits : goal.new-requires-clause-limits
+new-requires-clause-limits c =
+    let s = c.args.stream.now in
+    let P : Canvas → Type 0 = λ x. WithinLimits x c.args.tile (shapes_of s c.args.tile) in
+    let Q : List CompShape → Type 0 = λ x. WithinLimits c.canvas_of.result c.args.tile x in
+    subst Q (sym (c.deref.ensures.value ∙ c.in_ok-comps.ensures)) (subst P (sym c.canvas_of.ensures) (tile_within s c.args.tile c.requires.range c.requires.totals c.requires.tile))

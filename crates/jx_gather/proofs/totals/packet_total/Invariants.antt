@@ -1,0 +1,10 @@
+use Rattle.std.proofs.Common.{◌≡◌, ◌*◌, ◌≤◌, ◌^◌}
+use Rattle.jx_geom.specs.Counts.{sum_below}
+use Rattle.jx_gather.specs.Totals.{tile_packets}
+use Rattle.jx_gather.proofs.totals.packet_total.Given as goal
+
+abbrev pub invariant-loop-tile : goal.invariant-loop-tile
+invariant-loop-tile l = record {
+  total : l.total ≡ sum_below (tile_packets l.stream) l.tile;
+  most : l.total ≤ l.tile * 2 ^ 103;
+}

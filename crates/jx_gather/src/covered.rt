@@ -1,0 +1,62 @@
+//! The packets of a tile in their order, and rule 25.
+
+ghost use Rattle.std.specs.Prelude.{◌≡◌, ◌≢◌, ◌<◌, ◌↔◌, ℕ, IfOk, IfErr, OnOk, None};
+ghost use Rattle.std.specs.List.{AllPairs, Contains};
+ghost use Rattle.jx_order.specs.declared.names.PacketName.{PacketName};
+ghost use Rattle.jx_order.specs.Packets.{HasUncovered, IsPacket};
+ghost use Rattle.jx_stream.specs.First.{tile_number};
+ghost use Rattle.jx_gather.specs.Faults.{HasCause};
+ghost use Rattle.jx_gather.specs.InRange.{StreamInRange};
+ghost use Rattle.jx_gather.specs.Shapes.{geometry, layers_of, tile_at};
+ghost use Rattle.jx_gather.specs.Totals.{totals_fault};
+ghost use Rattle.jx_gather.specs.Gathered.{IsListOf, IsUncovered, IsWhole};
+ghost use Rattle.jx_gather.specs.Covered.{LacksPacket};
+
+use crate::faults::GatherFault;
+use crate::shapes::{geometry_of, tile_at, tile_count};
+use jx_geom::TileGeom;
+use jx_order::{OrderFault, PacketName, packets};
+use jx_stream::Stream;
+use std::alloc::Global;
+
+/// The packets of a tile in the order in which they are sent (ITU-T T.800, B.12); rule 25 at the tile's first SOT where
+/// some packet is in no progression entry.
+pub(crate) fn list_of(
+    alloc: Global,
+    stream: &Stream,
+    geom: &TileGeom,
+) -> Result<Vec<PacketName>, GatherFault>
+    requires range { StreamInRange stream.now }
+    requires tile { geom.now.tile < tile_number stream.now.siz }
+    requires geometry { geom.now ≡ geometry stream.now geom.now.tile }
+    ensures order { IfOk result (λ list. IsListOf stream.now geom.now.tile list.items) }
+    ensures whole { OnOk result (IsWhole stream.now geom.now.tile) }
+    ensures every { IfOk result (λ list. (p : PacketName) → Contains list.items p ↔ IsPacket geom.now (layers_of stream.now geom.now.tile) p) }
+    ensures once { IfOk result (λ list. AllPairs (λ p q. p ≢ q) list.items) }
+    ensures uncovered { IfErr result (λ fault. HasCause (LacksPacket stream.now geom.now.tile) fault) }
+{
+    let tile = tile_at(stream, geom.number());
+    let layers = stream.params(geom.number(), 0).layers;
+    match packets(alloc, geom, layers, tile.progressions.as_slice()) {
+        Ok(list) => Ok(list),
+        Err(OrderFault::Uncovered) => Err(GatherFault::Rule {
+            number: 25,
+            place: tile.place,
+        }),
+        Err(OrderFault::NoMemory) => Err(GatherFault::NoMemory),
+    }
+}
+
+/// Whether the packets of each tile are covered: rule 25 in the lowest tile where one isn't.
+pub(crate) fn check_covered(alloc: Global, stream: &Stream) -> Result<(), GatherFault>
+    requires range { StreamInRange stream.now }
+    requires totals { totals_fault stream.now ≡ None }
+    ensures whole { OnOk result ((t : ℕ) → t < tile_number stream.now.siz → IsWhole stream.now t) }
+    ensures uncovered { IfErr result (λ fault. HasCause (IsUncovered stream.now) fault) }
+{
+    for tile in 0..tile_count(stream) {
+        let geom = geometry_of(alloc, stream, tile)?;
+        list_of(alloc, stream, &geom)?;
+    }
+    Ok(())
+}
