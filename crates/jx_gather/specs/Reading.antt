@@ -2,7 +2,7 @@
 use Rattle.std.specs.Prelude.{◌≡◌, ℕ, ◌+◌, ◌<◌, ◌≤◌, ◌^◌, List, [], length, Option, None, Some, slice_index_or}
 use Rattle.std.specs.List.{All}
 use Rattle.jx_base.specs.declared.pieces.Block.{Block}
-use Rattle.jx_geom.specs.Geometry.{Geometry, GeometryInRange}
+use Rattle.jx_geom.specs.Geometry.{Geometry}
 use Rattle.jx_head.specs.declared.Part.{Part}
 use Rattle.jx_head.specs.Packet.{State}
 use Rattle.jx_order.specs.declared.names.PacketName.{PacketName}
@@ -15,7 +15,8 @@ use Rattle.jx_gather.specs.Shapes.{geometry, tile_at}
 use Rattle.jx_gather.specs.Data.{due}
 use Rattle.jx_gather.specs.Cuts.{Cut, Left, AreCuts, names_of}
 use Rattle.jx_gather.specs.Gathered.{IsListOf, IsWhole, start}
-use Rattle.jx_gather.specs.InRange.{StreamInRange}
+use Rattle.jx_gather.specs.InRange.{StreamInRange, DataInRange}
+use Rattle.jx_gather.specs.Totals.{totals_fault}
 use Rattle.jx_gather.specs.Blocks.{Found, zero_in, founds_of, tile_blocks}
 use Rattle.jx_gather.specs.Put.{put_all}
 
@@ -65,9 +66,9 @@ pub record IsFront (b : List ℕ) (s : Stream) (t : ℕ) (done : List PacketName
 pub record IsTask (b : List ℕ) (s : Stream) (g : Geometry) (list : List PacketName) : Type 0 where
   pub fits : length b ≤ 2 ^ 28
   pub range : StreamInRange s
+  pub totals : totals_fault s ≡ None
   pub below : g.tile < tile_number s.siz
   pub geometry_is : g ≡ geometry s g.tile
-  pub ranges : GeometryInRange g
   pub order : IsListOf s g.tile list
   pub whole : IsWhole s g.tile
-  pub inside : AreInside b (tile_at s g.tile).bodies
+  pub bodies : DataInRange b (tile_at s g.tile).bodies

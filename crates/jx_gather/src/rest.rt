@@ -37,7 +37,7 @@ impl<'s> Model for Rest<'s> {
 impl<'s> Rest<'s> {
     /// All of a tile's data, with precincts of which no packet was read.
     pub(crate) fn new(bodies: &'s [Body], precincts: Vec<Precinct>) -> Rest<'s>
-        ensures bodies { due result.bodies ≡ due bodies.now }
+        ensures bodies { result.bodies ≡ record { at = 0; length = 0 } ∷ bodies.now }
         ensures states { result.states ≡ precincts.items }
     {
         Rest {

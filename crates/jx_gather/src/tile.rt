@@ -1,13 +1,14 @@
 //! The packets of one tile (ITU-T T.800, B.9 to B.12).
 
-ghost use Rattle.std.specs.Prelude.{◌≡◌, ◌≤◌, ◌<◌, ◌+◌, ◌^◌, List, [], length, take, IfErr, OnOk};
+ghost use Rattle.std.specs.Prelude.{◌≡◌, ◌≤◌, ◌<◌, ◌+◌, ◌^◌, None, List, [], length, take, IfErr, OnOk};
 ghost use Rattle.jx_stream.specs.First.{tile_number};
 ghost use Rattle.jx_gather.specs.Faults.{HasCause};
 ghost use Rattle.jx_gather.specs.Shapes.{geometry, tile_at};
+ghost use Rattle.jx_gather.specs.Totals.{totals_fault};
 ghost use Rattle.jx_gather.specs.Data.{window, end_of_data};
 ghost use Rattle.jx_gather.specs.Blocks.{tile_blocks};
 ghost use Rattle.jx_gather.specs.Gathered.{AreTileBlocks, BreaksTile, IsListOf, IsWhole};
-ghost use Rattle.jx_gather.specs.InRange.{StreamInRange};
+ghost use Rattle.jx_gather.specs.InRange.{DataInRange, StreamInRange};
 ghost use Rattle.jx_gather.specs.Reading.{AreInside, IsFront, IsTask};
 
 use crate::GatherFault;
@@ -16,6 +17,7 @@ use crate::fresh::precincts_of;
 use crate::layout::Layout;
 use crate::pieces::put_pieces;
 use crate::rest::Rest;
+use crate::shapes::tile_at;
 use jx_base::Block;
 use jx_geom::TileGeom;
 use jx_order::PacketName;
@@ -131,19 +133,19 @@ pub(crate) fn read_tile<'a>(
 ) -> Result<(), GatherFault>
     requires fits { length bytes.now ≤ 2 ^ 28 }
     requires range { StreamInRange stream.now }
+    requires totals { totals_fault stream.now ≡ None }
     requires tile { geom.now.tile < tile_number stream.now.siz }
     requires geometry { geom.now ≡ geometry stream.now geom.now.tile }
     requires order { IsListOf stream.now geom.now.tile list.now }
     requires whole { IsWhole stream.now geom.now.tile }
-    requires inside { AreInside bytes.now (tile_at stream.now geom.now.tile).bodies }
+    requires bodies { DataInRange bytes.now (tile_at stream.now geom.now.tile).bodies }
     requires blocks { blocks.old.items ≡ tile_blocks stream.now geom.now [] }
     ensures ok { OnOk result (AreTileBlocks bytes.now stream.now geom.now.tile blocks.new.items) }
     ensures err { IfErr result (λ e. HasCause (BreaksTile bytes.now stream.now geom.now.tile) e) }
 {
     let precincts = precincts_of(alloc, stream, geom)?;
     let layout = Layout::new(alloc, geom)?;
-    let tile = &stream.tiles.as_slice()[usize::from(geom.number())];
-    let bodies = tile.bodies.as_slice();
+    let bodies = tile_at(stream, geom.number()).bodies.as_slice();
     let source = Source {
         bytes,
         stream,
