@@ -31,7 +31,7 @@ use Rattle.jx_gather.specs.Reading.{cut_of, CanPut, state_at, no_state, AreInsid
 use Rattle.jx_gather.proofs.TotalLemmas.{geometry_fits}
 use Rattle.jx_gather.proofs.CellLemmas.{leaf_count, leaf_below}
 use Rattle.jx_gather.proofs.BlockLemmas.{blocks_long}
-use Rattle.jx_gather.proofs.PartLemmas.{PartIn, part_inside}
+use Rattle.jx_gather.proofs.PartLemmas.{PartIn, part_inside, packet_kept}
 use Rattle.jx_gather.proofs.TurnLemmas.{Precincts, Keeps, Listed, Known, listed, due_named, has_precinct, known_there, layer_is}
 use Rattle.jx_gather.proofs.SoundLemmas.{IsBegun, begun, passes_fit, put_cuts}
 use Rattle.jx_gather.proofs.ReadyLemmas.{keeps, precincts}
@@ -370,3 +370,34 @@ first_front b s g left blocks geometry_is bodies states same = record {
   states_are = sym states;
   blocks_are = same ∙ ap (λ (x : Geometry). tile_blocks s x []) geometry_is;
 }
+
+-- ---- after a packet
+after_kept : (b : List ℕ) (g : Geometry) (number : ℕ) (left : Left) (p : PacketName) (packet : Packet) (after : State) (new : Left) → (step : Step b g number left p packet after new)
+    → length (all_blocks after.bands) ≡ length (all_blocks (state_at left.states step.n).bands)
+after_kept b g number left p packet after new step =
+    (packet_kept (header_in (window b step.body)) (state_at left.states step.n) packet.parts.items packet.used after step.cut.header).blocks
+
+pub after_parts : (b : List ℕ) (g : Geometry) (number : ℕ) (left : Left) (p : PacketName) (packet : Packet) (after : State) (new : Left) → (step : Step b g number left p packet after new)
+    → All (λ (part : Part). part.block < length (all_blocks after.bands)) packet.parts.items
+after_parts b g number left p packet after new step =
+    let C : ℕ → Type 0 = λ m. All (λ (part : Part). part.block < m) packet.parts.items in
+    subst C (sym (after_kept b g number left p packet after new step)) (parts_there b g number left p packet after new step)
+
+pub after_leaves : (b : List ℕ) (s : Stream) (g : Geometry) (list : List PacketName) (number : ℕ) (left : Left) (blocks : List Block) (d : PacketName) (packet : Packet) (after : State) (new : Left)
+    → IsTask b s g list → number < length list → IsFront b s g.tile (take number list) left blocks → Step b g number left (get_or list number d) packet after new
+    → length (all_blocks after.bands) ≡ leaves g (get_or list number d).comp (get_or list number d).res (get_or list number d).precinct
+after_leaves b s g list number left blocks d packet after new task lt front step =
+    after_kept b g number left (get_or list number d) packet after new step
+    ∙ (ready_at b s g list number left blocks d left.states step.n task lt front refl step.number_is).leaves_are
+
+pub next_inside : (b : List ℕ) (bodies : List Body) (body : Body) (later : List Body) (count : ℕ) (w : List ℕ) (new : List Body) → AreInside b bodies → due bodies ≡ body ∷ later → w ≡ window b body
+    → count ≤ length w → new ≡ behind body count ∷ later → AreInside b new
+next_inside b bodies body later count w new all due_is window_is few new_is =
+    let long : length w ≤ body.length = omega (arith, ap length window_is, length-take body.length (drop body.at b)) in
+    let I : List Body → Type 0 = λ ys. AreInside b ys in
+    subst I (sym new_is) (behind_inside b body later count (omega arith) (inside_due b bodies body later all due_is))
+
+pub first_inside : (b : List ℕ) (bodies all : List Body) → AreInside b bodies → all ≡ record { at = 0; length = 0 } ∷ bodies → AreInside b all
+first_inside b bodies all inside is =
+    let I : List Body → Type 0 = λ ys. AreInside b ys in
+    subst I (sym is) (All-cons (λ (y : Body). y.at + y.length ≤ length b) (record { at = 0; length = 0 }) bodies (omega arith) inside)
