@@ -87,3 +87,65 @@ pub(crate) fn read_packet<'a>(
         bytes: coded.split_at(length).0,
     })
 }
+
+#[cfg(test)]
+mod tests {
+    use super::*;
+    use jx_base::{NoMemory, Style};
+    use jx_head::BandCells;
+    use std::alloc::Global;
+
+    /// A precinct of one block, in a band of nine planes.
+    fn one_block(alloc: Global) -> Result<Precinct, NoMemory>
+        ensures state { IfOk result (λ p. IsState p) }
+        ensures layer { IfOk result (λ p. p.layer ≡ 0) }
+    {
+        let cells = BandCells {
+            wide: 1,
+            high: 1,
+            planes: 9,
+        };
+        Precinct::new(alloc, &[cells], Style { bits: 0 })
+    }
+
+    /// Reads the first packet of such a precinct, which begins at 79: how many bytes it has and how many of
+    /// them are coded bytes, or the rule that it violates and where.
+    fn reads(alloc: Global, bytes: &[u8]) -> Result<(usize, usize), (u8, u32)>
+        requires { length bytes.now ≤ 100 }
+    {
+        let name = PacketName {
+            layer: 0,
+            res: 0,
+            comp: 0,
+            precinct: 0,
+        };
+        let Ok(mut precinct) = one_block(alloc) else {
+            return Err((0, 0));
+        };
+        match read_packet(&mut precinct, name, 0, bytes, 79) {
+            Ok(packet) => Ok((packet.count, packet.bytes.len())),
+            Err(GatherFault::Rule { number, place }) => Err((number, place)),
+            Err(_) => Err((0, 0)),
+        }
+    }
+
+    // An empty packet, one of a coded byte, and SOP and EPH around a header.
+    #[test]
+    fn packets_end(rt: HostRuntime) {
+        assert_eq!(rt; reads(rt.alloc(), &[0x00, 0x00]), Ok((1, 0)));
+        assert_eq!(rt; reads(rt.alloc(), &[0xC0, 0x21, 5, 6]), Ok((3, 1)));
+        let marked = [0xFF, 0x91, 0, 4, 0, 0, 0xC0, 0x21, 0xFF, 0x92, 5];
+        assert_eq!(rt; reads(rt.alloc(), &marked), Ok((11, 1)));
+    }
+
+    // Each rule is named with its place.
+    #[test]
+    fn rules_have_places(rt: HostRuntime) {
+        assert_eq!(rt; reads(rt.alloc(), &[0xC0]), Err((26, 79)));
+        assert_eq!(rt; reads(rt.alloc(), &[0xFF, 0x91, 0, 4, 0]), Err((26, 79)));
+        assert_eq!(rt; reads(rt.alloc(), &[0xC0, 0x00]), Err((27, 79)));
+        assert_eq!(rt; reads(rt.alloc(), &[0xC0, 0x21]), Err((28, 79)));
+        assert_eq!(rt; reads(rt.alloc(), &[0xFF, 0x91, 0, 4, 0, 1, 0]), Err((29, 79)));
+        assert_eq!(rt; reads(rt.alloc(), &[0xC0, 0x21, 0xFF]), Err((30, 81)));
+    }
+}
