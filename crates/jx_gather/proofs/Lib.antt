@@ -1,5 +1,8 @@
 pub mod GatherLemmas
 pub mod ReadLemmas
+pub mod DataLemmas
+pub mod PacketLemmas
+pub mod PieceLemmas
 pub mod PartLemmas
 pub mod BodyLemmas
 pub mod PutLemmas
@@ -21,3 +24,4 @@ pub mod RangeLemmas
 pub mod TotalLemmas
 pub mod CoveredLemmas
 pub mod ReadyLemmas
+pub mod TileLemmas

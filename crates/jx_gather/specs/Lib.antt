@@ -10,6 +10,7 @@ pub mod Gathered
 pub mod WellFormed
 pub mod InRange
 pub mod Put
+pub mod Reading
 pub mod Accepted
 pub mod Joined
 pub mod Covered

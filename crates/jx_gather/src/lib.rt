@@ -3,12 +3,20 @@
 #![tactic(auto)]
 
 mod covered;
+mod data;
 mod faults;
 mod gathering;
 mod shapes;
 mod tile_blocks;
 #[cfg(test)]
 mod tests;
+mod fresh;
+mod layout;
+mod packet;
+mod pieces;
+mod rest;
+mod shapes;
+mod tile;
 mod totals;
 
 pub use faults::GatherFault;
