@@ -66,7 +66,7 @@ pub leaf_count : (s : Stream) (g : Geometry) (c r k : ℕ) → length (all_block
 leaf_count s g c r k = all_count (precinct_bands s g c r k) ∙ cells_count s g c r k
 
 -- the name of a block of the first band, and of a later one
-abbrev named : Geometry → ℕ → ℕ → Band → ℕ → BlockName
+abbrev pub named : Geometry → ℕ → ℕ → Band → ℕ → BlockName
 named g c r b i = record { tile = g.tile; comp = c; res = r; band = b; index = i }
 
 pub name_here : (g : Geometry) (c r k : ℕ) (b : Band) (bands : List Band) (j : ℕ) → j < size_of (cells_at g c r k b)

@@ -2,3 +2,4 @@ pub mod NumberLemmas
 pub mod BlockLemmas
 pub mod CellLemmas
 pub mod FreshLemmas
+mod LayoutLemmas

@@ -3,6 +3,7 @@ pub mod Shapes
 pub mod Totals
 pub mod Cells
 pub mod Leaves
+pub mod Layout
 pub mod Data
 pub mod Cuts
 pub mod Blocks

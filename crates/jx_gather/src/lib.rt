@@ -3,6 +3,7 @@
 #![tactic(auto)]
 
 mod faults;
+mod layout;
 
 pub use faults::GatherFault;
 pub use jx_base::{Block, Piece, Pieces};
