@@ -3,3 +3,4 @@ pub mod BlockLemmas
 pub mod CellLemmas
 pub mod FreshLemmas
 mod LayoutLemmas
+mod ListLemmas

@@ -55,7 +55,7 @@ pub(crate) fn area(rect: Rect) -> u32
 }
 
 /// How many code-blocks a band has.
-fn band_count(geom: &TileGeom, comp: u16, res: u8, band: Band) -> u32
+pub(crate) fn band_count(geom: &TileGeom, comp: u16, res: u8, band: Band) -> u32
     requires res { HasResolution geom.now comp res }
     requires band { HasBand res band }
     ensures value { result ≡ size_of (blocks_in geom.now comp res band) }
@@ -233,12 +233,21 @@ impl<'g> Layout<'g> {
         Ok(Layout { geom, rows })
     }
 
+    /// The row of a component.
+    fn row(&self, comp: u16) -> &Row
+        requires { comp < length self.now.shapes }
+        ensures row { IsRow self.now comp result.now }
+        ensures range { GeometryInRange self.now }
+    {
+        &self.rows[usize::from(comp)]
+    }
+
     /// The number of a packet's precinct among those of the tile.
     pub(crate) fn precinct(&self, name: &PacketName) -> usize
         requires { HasPrecinct self.now name.now.comp name.now.res name.now.precinct }
         ensures { result ≡ precinct_number self.now name.now.comp name.now.res name.now.precinct }
     {
-        let row = &self.rows[usize::from(name.comp)];
+        let row = self.row(name.comp);
         let below = row.precincts[usize::from(name.res)];
         (row.precincts_before + (below + name.precinct)) as usize
     }
@@ -251,7 +260,7 @@ impl<'g> Layout<'g> {
         ensures { result ≡ leaf_number self.now name.now.comp name.now.res name.now.precinct block }
     {
         let place = leaf_in_resolution(self.geom, name, block);
-        let row = &self.rows[usize::from(name.comp)];
+        let row = self.row(name.comp);
         let below = row.blocks[usize::from(name.res)];
         (row.blocks_before + (below + place)) as usize
     }

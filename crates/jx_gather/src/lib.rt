@@ -3,6 +3,7 @@
 #![tactic(auto)]
 
 mod faults;
+mod fresh;
 mod layout;
 
 pub use faults::GatherFault;
