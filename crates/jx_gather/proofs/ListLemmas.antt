@@ -1,18 +1,23 @@
 -- The lists of a tile that loops make.
 use Rattle.std.proofs.Common.{◌≡◌, ℕ, ◌<◌, ◌≤◌, List, [], ◌∷◌, ◌++◌, length, map, inl, inr, ◌∙◌, ap, sym, subst, refl, arith, append_assoc}
 use Rattle.std.specs.List.{range_with_len}
-use Rattle.std.proofs.lemmas.List.{length-map, length-range_with_len}
+use Rattle.std.proofs.lemmas.List.{length-map}
+use Rattle.std.proofs.lemmas.List.FromFn.{length-range_with_len}
 use Rattle.jx_base.specs.declared.names.Band.{Band}
 use Rattle.jx_base.specs.declared.names.Band.TheVariants.{LL, HL, LH, HH}
+use Rattle.jx_base.specs.declared.names.BlockName.{BlockName}
+use Rattle.jx_base.specs.declared.style.Style.{Style}
 use Rattle.jx_base.specs.declared.pieces.Block.{Block}
-use Rattle.jx_geom.specs.Geometry.{Geometry}
+use Rattle.jx_geom.specs.Rects.{block_rect}
+use Rattle.jx_geom.specs.Geometry.{Geometry, shape_of, rect_of_tile}
 use Rattle.jx_head.specs.declared.BandCells.{BandCells}
+use Rattle.jx_head.specs.Precinct.{fresh_state}
 use Rattle.jx_stream.specs.declared.Stream.{Stream}
 use Rattle.jx_stream.specs.Params.{planes_at}
-use Rattle.jx_gather.specs.Blocks.{Found, band_blocks, resolution_blocks}
-use Rattle.jx_gather.specs.Cells.{cells_at, sizes_of, precinct_bands}
+use Rattle.jx_gather.specs.Blocks.{Found, own_founds, block_of, band_blocks, resolution_blocks}
+use Rattle.jx_gather.specs.Cells.{cells_at, sizes_of, precinct_bands, fresh_precinct}
 use Rattle.jx_gather.specs.InRange.{StreamInRange}
-use Rattle.jx_gather.specs.Shapes.{geometry, shapes_of, shape_in}
+use Rattle.jx_gather.specs.Shapes.{geometry, shapes_of, shape_in, style_of}
 use Rattle.jx_gather.proofs.BlockLemmas.{bands_low, bands_high, blocks_low, blocks_high}
 use Rattle.jx_gather.proofs.CellLemmas.{bands_of}
 
@@ -22,7 +27,7 @@ unfolding shapes_of
 few_components s g h e =
     let P : Geometry → Type 0 = λ x. length x.shapes ≤ 16384 in
     let long : length (shapes_of s g.tile) ≡ length s.siz.comps =
-    length-map (shape_in s g.tile) (range_with_len 0 (length s.siz.comps)) ∙ length-range_with_len 0 (length s.siz.comps) in
+    length-map _ _ ∙ length-range_with_len 0 (length s.siz.comps) in
     subst P (sym e) (omega (arith, long, h.few_comps))
 
 -- the bands of a precinct, one and three
@@ -63,3 +68,36 @@ appends_high s g founds c r old one two new some e e2 e3 =
     let second : two ≡ (old ++ x) ++ y = e2 ∙ ap (λ (bs : List Block). bs ++ y) e in
     let third : new ≡ ((old ++ x) ++ y) ++ z = e3 ∙ ap (λ (bs : List Block). bs ++ z) second in
     third ∙ append_assoc (old ++ x) y z ∙ append_assoc old x (y ++ z) ∙ ap (λ (bs : List Block). old ++ bs) (sym (blocks_high s g founds c r some))
+
+-- a precinct of these bands, and a block that has no pass
+pub fresh_from : (s : Stream) (g : Geometry) (c r k bits : ℕ) (bands : List BandCells) → bits ≡ style_of s g.tile c → bands ≡ precinct_bands s g c r k
+    → fresh_state bits bands ≡ fresh_precinct s g c r k
+fresh_from s g c r k bits bands e is =
+    ap (λ n. fresh_state n bands) e ∙ ap (λ (x : List BandCells). fresh_state (style_of s g.tile c) x) is
+
+abbrev named_at : ℕ → ℕ → ℕ → Band → ℕ → BlockName
+named_at t c r b i = record { tile = t; comp = c; res = r; band = b; index = i }
+
+abbrev value : Geometry → BlockName → Style → ℕ → Block
+value g n style planes = record {
+  name = n;
+  rect = block_rect (rect_of_tile g) (shape_of g n.comp) n.res n.band n.index;
+  planes = planes;
+  zero = planes;
+  passes = 0;
+  style = style;
+  pieces = [];
+}
+
+abbrev style_with : ℕ → Style
+style_with n = record { bits = n }
+
+pub fresh_is : (s : Stream) (g : Geometry) (c r : ℕ) (b : Band) (i t planes : ℕ) (style : Style) (x : Block) → t ≡ g.tile
+    → style.bits ≡ style_of s t c → planes ≡ planes_at s t c r b → x ≡ value g (named_at t c r b i) style planes
+    → x ≡ block_of s g [] (named_at g.tile c r b i)
+unfolding own_founds
+fresh_is s g c r b i t planes style x same bits all is =
+    let P : ℕ → Type 0 = λ n. value g (named_at n c r b i) (style_with (style_of s n c)) (planes_at s n c r b) ≡ block_of s g [] (named_at g.tile c r b i) in
+    is ∙ ap (λ n. value g (named_at t c r b i) style n) all
+    ∙ ap (λ n. value g (named_at t c r b i) (style_with n) (planes_at s t c r b)) bits
+    ∙ subst P (sym same) refl
