@@ -128,13 +128,13 @@ fn rows_of(alloc: Global, geom: &TileGeom) -> Result<Vec<Row>, NoMemory>
     ensures each { IfOk result (λ rows. AreRows geom.now rows.items) }
 {
     let mut rows = Vec::new(alloc);
-    let mut precincts = 0;
-    let mut blocks = 0;
+    let mut precincts_before = 0;
+    let mut blocks_before = 0;
     for comp in 0..geom.components().min(65_536) {
-        let row = row_of(geom, comp as u16, precincts, blocks);
+        let row = row_of(geom, comp as u16, precincts_before, blocks_before);
         let last = usize::from(geom.levels(comp as u16)) + 1;
-        precincts += row.precincts[last];
-        blocks += row.blocks[last];
+        precincts_before += row.precincts[last];
+        blocks_before += row.blocks[last];
         rows.push(row)?;
     }
     Ok(rows)

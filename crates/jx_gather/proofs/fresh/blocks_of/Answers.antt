@@ -9,7 +9,7 @@ loop-comp-init c = c.new-list.ensures.items ∙ sym (joined_none (component_bloc
 
 pub overflow_cast-comp : goal.overflow_cast-comp
 overflow_cast-comp c =
-    omega (arith, c.components.ensures.count, few_components c.args.stream.now c.args.geom.now c.requires.range c.requires.geometry)
+    omega (arith, c.components-comp-end.ensures.count, few_components c.args.stream.now c.args.geom.now c.requires.range c.requires.geometry)
 
 pub loop-comp-preserved : goal.loop-comp-preserved
 loop-comp-preserved c =

@@ -15,4 +15,11 @@ returns-then-res-eq0 c =
     c.push_band.ensures
 
 pub returns : goal.returns
-returns c = ?
+returns c =
+    on_ok_weaker
+    {P = c.push_band-4.new.list.items ≡ c.push_band-3.new.list.items ++ band_blocks c.args.stream.now c.args.geom.now [] c.args.comp c.args.res HH}
+    {Q = c.push_band-4.new.list.items ≡ c.args.list.now.items ++ resolution_blocks c.args.stream.now c.args.geom.now [] c.args.comp c.args.res}
+    c.push_band-4.result
+    (appends_high c.args.stream.now c.args.geom.now [] c.args.comp c.args.res c.args.list.now.items c.push_band-2.new.list.items c.push_band-3.new.list.items
+    c.push_band-4.new.list.items (omega arith) c.in_ok-push_band.ensures c.in_ok-push_band-2.ensures)
+    c.push_band-4.ensures

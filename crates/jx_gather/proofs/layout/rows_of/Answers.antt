@@ -5,19 +5,19 @@ use Rattle.jx_gather.specs.Layout.{AreRows, IsRow}
 use Rattle.jx_gather.proofs.LayoutLemmas.{rows_next, precincts_next, blocks_next, front_precincts, front_blocks}
 use Rattle.jx_gather.proofs.layout.rows_of.Goals as goal
 
-pub overflow_add-precincts : goal.overflow_add-precincts
-overflow_add-precincts c =
+pub overflow_add-precincts_before : goal.overflow_add-precincts_before
+overflow_add-precincts_before c =
     let lt : c.loop-comp.comp < length c.args.geom.now.shapes = omega (arith, c.loop-comp-test.true, c.min-comp-end.ensures, c.components.ensures.count) in
     let last : c.from-last.result + 1 ≡ (shape_of c.args.geom.now c.loop-comp.comp).levels + 1 = omega (arith, c.from-last.ensures, c.levels.ensures.value) in
-    let next = precincts_next c.args.geom.now c.loop-comp.comp (c.from-last.result + 1) c.loop-comp.precincts c.row_of-row.result.precincts lt c.loop-comp.invariant.precincts
+    let next = precincts_next c.args.geom.now c.loop-comp.comp (c.from-last.result + 1) c.loop-comp.precincts_before c.row_of-row.result.precincts lt c.loop-comp.invariant.precincts
     c.row_of-row.ensures.precincts last in
     omega (arith, next, front_precincts c.args.geom.now (c.loop-comp.comp + 1) c.components.ensures.range)
 
-pub overflow_add-blocks : goal.overflow_add-blocks
-overflow_add-blocks c =
+pub overflow_add-blocks_before : goal.overflow_add-blocks_before
+overflow_add-blocks_before c =
     let lt : c.loop-comp.comp < length c.args.geom.now.shapes = omega (arith, c.loop-comp-test.true, c.min-comp-end.ensures, c.components.ensures.count) in
     let last : c.from-last.result + 1 ≡ (shape_of c.args.geom.now c.loop-comp.comp).levels + 1 = omega (arith, c.from-last.ensures, c.levels.ensures.value) in
-    let next = blocks_next c.args.geom.now c.loop-comp.comp (c.from-last.result + 1) c.loop-comp.blocks c.row_of-row.result.blocks lt c.loop-comp.invariant.blocks
+    let next = blocks_next c.args.geom.now c.loop-comp.comp (c.from-last.result + 1) c.loop-comp.blocks_before c.row_of-row.result.blocks lt c.loop-comp.invariant.blocks
     c.row_of-row.ensures.blocks last in
     omega (arith, next, front_blocks c.args.geom.now (c.loop-comp.comp + 1) c.components.ensures.range)
 
@@ -25,9 +25,9 @@ pub loop-comp-preserved : goal.loop-comp-preserved
 loop-comp-preserved c =
     let lt : c.loop-comp.comp < length c.args.geom.now.shapes = omega (arith, c.loop-comp-test.true, c.min-comp-end.ensures, c.components.ensures.count) in
     let last : c.from-last.result + 1 ≡ (shape_of c.args.geom.now c.loop-comp.comp).levels + 1 = omega (arith, c.from-last.ensures, c.levels.ensures.value) in
-    let precincts = precincts_next c.args.geom.now c.loop-comp.comp (c.from-last.result + 1) c.loop-comp.precincts c.row_of-row.result.precincts lt c.loop-comp.invariant.precincts
+    let precincts = precincts_next c.args.geom.now c.loop-comp.comp (c.from-last.result + 1) c.loop-comp.precincts_before c.row_of-row.result.precincts lt c.loop-comp.invariant.precincts
     c.row_of-row.ensures.precincts last in
-    let blocks = blocks_next c.args.geom.now c.loop-comp.comp (c.from-last.result + 1) c.loop-comp.blocks c.row_of-row.result.blocks lt c.loop-comp.invariant.blocks
+    let blocks = blocks_next c.args.geom.now c.loop-comp.comp (c.from-last.result + 1) c.loop-comp.blocks_before c.row_of-row.result.blocks lt c.loop-comp.invariant.blocks
     c.row_of-row.ensures.blocks last in
     let row : IsRow c.args.geom.now c.loop-comp.comp c.row_of-row.result = record {
       precincts_before = c.row_of-row.ensures.precincts_before ∙ c.loop-comp.invariant.precincts;
