@@ -66,7 +66,7 @@ pub leaf_count : (s : Stream) (g : Geometry) (c r k : ℕ) → length (all_block
 leaf_count s g c r k = all_count (precinct_bands s g c r k) ∙ cells_count s g c r k
 
 -- the name of a block of the first band, and of a later one
-abbrev named : Geometry → ℕ → ℕ → Band → ℕ → BlockName
+abbrev pub named : Geometry → ℕ → ℕ → Band → ℕ → BlockName
 named g c r b i = record { tile = g.tile; comp = c; res = r; band = b; index = i }
 
 pub name_here : (g : Geometry) (c r k : ℕ) (b : Band) (bands : List Band) (j : ℕ) → j < size_of (cells_at g c r k b)
@@ -102,13 +102,13 @@ cell_in_band g c r k b u v h there i =
     block_cell_from (rect_of_tile g) (shape_of g c) r b u v place.0 place.1 shape place.2.0.place place.2.1
 
 -- a block of a precinct
-record IsLeaf (g : Geometry) (c r k : ℕ) (n : BlockName) : Type 0 where
-  there : HasBlock g n
-  comp : n.comp ≡ c
-  res : n.res ≡ r
-  band : HasBand r n.band
-  index : n.index < size_of (blocks_in g c r n.band)
-  cell : InRect (cells_at g c r k n.band) (column_at (blocks_in g c r n.band) n.index) (row_at (blocks_in g c r n.band) n.index)
+pub record IsLeaf (g : Geometry) (c r k : ℕ) (n : BlockName) : Type 0 where
+  pub there : HasBlock g n
+  pub comp : n.comp ≡ c
+  pub res : n.res ≡ r
+  pub band : HasBand r n.band
+  pub index : n.index < size_of (blocks_in g c r n.band)
+  pub cell : InRect (cells_at g c r k n.band) (column_at (blocks_in g c r n.band) n.index) (row_at (blocks_in g c r n.band) n.index)
 
 first_leaf : (g : Geometry) (c r k : ℕ) (b : Band) (j : ℕ) → GeometryInRange g → HasPrecinct g c r k → HasBand r b
     → j < size_of (cells_at g c r k b) → IsLeaf g c r k (named g c r b (leaf_index g c r k b j))
@@ -142,7 +142,7 @@ leaf_in g c r k (b ∷ bands) j h there have lt = elim (cases_lt j (size_of (cel
       (leaf_in g c r k bands (j - size_of (cells_at g c r k b)) h there have.1 (omega arith))
 ]
 
-leaf_of : (g : Geometry) (c r k j : ℕ) → GeometryInRange g → HasPrecinct g c r k → j < leaves g c r k → IsLeaf g c r k (leaf_name g c r k j)
+pub leaf_of : (g : Geometry) (c r k j : ℕ) → GeometryInRange g → HasPrecinct g c r k → j < leaves g c r k → IsLeaf g c r k (leaf_name g c r k j)
 unfolding leaf_name
 leaf_of g c r k j h there lt = leaf_in g c r k (bands_at r) j h there (bands_have r) lt
 

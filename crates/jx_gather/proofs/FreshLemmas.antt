@@ -12,7 +12,7 @@ use Rattle.jx_geom.specs.declared.shape.CompShape.{CompShape}
 use Rattle.jx_geom.specs.Counts.{sum_below, resolution_blocks, component_blocks, tile_blocks}
 use Rattle.jx_geom.specs.Geometry.{Geometry, GeometryInRange, HasResolution, no_shape, shape_of, rect_of_tile, blocks_in}
 use Rattle.jx_geom.specs.Ranges.{HasBand}
-use Rattle.jx_geom.proofs.CountLemmas.{sum_below_more, resolution_low, resolution_high}
+use Rattle.jx_geom.proofs.CountLemmas.{sum_below_more, resolution_low, resolution_high, blocks_limited}
 use Rattle.jx_geom.proofs.RasterLemmas.{factor_some}
 use Rattle.jx_head.specs.declared.BandCells.{BandCells}
 use Rattle.jx_head.specs.Precinct.{IsBandCells, AreBandCells, CellsInRange, IsState}
@@ -55,11 +55,14 @@ fewer_places a b inside = elim (cases_lt 0 (length_of a.x)) [
 pub cells_fit : (g : Geometry) (c r k : ℕ) (b : Band) → GeometryInRange g → HasPrecinct g c r k → size_of (cells_at g c r k b) ≤ size_of (blocks_in g c r b)
 cells_fit g c r k b h there = fewer_places (cells_at g c r k b) (blocks_in g c r b) (λ u v i. cell_in_band g c r k b u v h there i)
 
+pub cells_small : (g : Geometry) (c r k : ℕ) (b : Band) → GeometryInRange g → HasPrecinct g c r k → HasBand r b → size_of (cells_at g c r k b) ≤ 2 ^ 20
+cells_small g c r k b h there has = omega (arith, cells_fit g c r k b h there, blocks_limited g c r b h there.resolution has)
+
 -- a precinct has no more blocks than its resolution
-leaves_low : (g : Geometry) (c r k : ℕ) → r ≡ 0 → leaves g c r k ≡ size_of (cells_at g c r k LL) + 0
+pub leaves_low : (g : Geometry) (c r k : ℕ) → r ≡ 0 → leaves g c r k ≡ size_of (cells_at g c r k LL) + 0
 leaves_low g c r k e = ap (λ (bands : List Band). leaves_in g c r k bands) (bands_low r e)
 
-leaves_high : (g : Geometry) (c r k : ℕ) → 0 < r
+pub leaves_high : (g : Geometry) (c r k : ℕ) → 0 < r
     → leaves g c r k ≡ size_of (cells_at g c r k HL) + (size_of (cells_at g c r k LH) + (size_of (cells_at g c r k HH) + 0))
 leaves_high g c r k some = ap (λ (bands : List Band). leaves_in g c r k bands) (bands_high r some)
 

@@ -18,6 +18,8 @@ mod rest;
 mod shapes;
 mod tile;
 mod totals;
+mod fresh;
+mod layout;
 
 pub use faults::GatherFault;
 pub use gathering::gather;
