@@ -5,22 +5,20 @@
 mod covered;
 mod data;
 mod faults;
-mod gathering;
-mod shapes;
-mod tile_blocks;
-#[cfg(test)]
-mod tests;
 mod fresh;
+mod gathering;
 mod layout;
 mod packet;
 mod pieces;
 mod rest;
 mod shapes;
 mod tile;
+mod tile_blocks;
 mod totals;
-mod fresh;
-mod layout;
 
 pub use faults::GatherFault;
 pub use gathering::gather;
 pub use jx_base::{Block, Piece, Pieces};
+
+#[cfg(test)]
+mod tests;
