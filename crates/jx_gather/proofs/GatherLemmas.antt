@@ -1,8 +1,11 @@
 -- The blocks of the tiles, joined, and what follows where a tile is refused.
-use Rattle.std.proofs.Common.{◌≡◌, ◌<◌, ◌≤◌, ◌+◌, ◌-◌, ◌∙◌, ℕ, zero, suc, List, [], ◌++◌, refl, sym, ap, subst, arith, inl, inr, Some, None}
+use Rattle.std.proofs.Common.{◌≡◌, ◌<◌, ◌≤◌, ◌+◌, ◌-◌, ◌∙◌, ℕ, zero, suc, List, [], ◌++◌, refl, sym, ap, subst, arith, inl, inr, Some, None, length, ◌^◌}
 use Rattle.std.proofs.lemmas.Bool.Decides.{nat_tests}
 use Rattle.std.proofs.lemmas.Bool.{cases_eq}
+use Rattle.std.specs.List.{All}
 use Rattle.jx_base.specs.declared.pieces.Block.{Block}
+use Rattle.jx_base.specs.Sound.{IsSound}
+use Rattle.jx_gather.proofs.SoundLemmas.{sound_blocks}
 use Rattle.jx_order.specs.Steps.{joined, joined_below}
 use Rattle.jx_order.proofs.JoinedLemmas.{joined_next, joined_none}
 use Rattle.jx_stream.specs.declared.Stream.{Stream}
@@ -97,3 +100,9 @@ cause_of_totals b s fault.NoMemory h = tt
 
 pub well_formed : (b : List ℕ) (s : Stream) (blocks : List Block) → IsRead b s → IsGathered b s blocks → IsWellFormed b
 well_formed b s blocks read gathered = record { stream = s; spelled = read.spelled; blocks = blocks; gathered = gathered }
+
+-- the blocks of a tile are sound
+pub tile_sound : (b : List ℕ) (s : Stream) (t : ℕ) (blocks : List Block) → IsRead b s → length b ≤ 2 ^ 28 → t < tile_number s.siz → totals_fault s ≡ None
+    → AreTileBlocks b s t blocks → All IsSound blocks
+tile_sound b s t blocks read short inside totals are =
+    subst (λ (xs : List Block). All IsSound xs) (sym are.2) (sound_blocks b s t are.0 read short inside totals are.1)

@@ -27,3 +27,5 @@ pub mod ReadyLemmas
 pub mod TileLemmas
 mod LayoutLemmas
 mod ListLemmas
+pub mod ListLemmas
+pub mod LayoutLemmas
