@@ -1,5 +1,5 @@
 -- The blocks of a precinct: how many there are, and that each block of a tile is one of one precinct alone.
-use Rattle.std.proofs.Common.{◌≡◌, ℕ, zero, suc, ◌+◌, ◌-◌, ◌*◌, ◌≤◌, ◌<◌, ◌==◌, Bool, true, false, cond, List, [], ◌∷◌, ◌++◌, length, map, replicate, sum_by, inl, inr, ◌∙◌, ap, sym, subst, refl, arith, length-append}
+use Rattle.std.proofs.Common.{◌≡◌, ℕ, ◌+◌, ◌-◌, ◌*◌, ◌≤◌, ◌<◌, ◌==◌, Bool, true, false, cond, List, [], ◌∷◌, length, map, replicate, inl, inr, ◌∙◌, ap, sym, subst, refl, arith, length-append}
 use Rattle.std.proofs.lemmas.Bool.{cases_lt}
 use Rattle.std.proofs.lemmas.Bool.Decides.{nat_tests}
 use Rattle.std.proofs.lemmas.List.{length-replicate}
@@ -14,7 +14,7 @@ use Rattle.jx_geom.specs.Numbering.{band_place, number_in_tile}
 use Rattle.jx_geom.specs.Ranges.{HasBand}
 use Rattle.jx_geom.proofs.LawLemmas.{precinct_blocks_to, block_cell_from, block_in_one_precinct}
 use Rattle.jx_geom.proofs.NumberLemmas.{number_in_tile_below, number_in_tile_grows}
-use Rattle.jx_geom.proofs.RasterLemmas.{raster_in, number_at, number_below, number_column, number_row, raster_one}
+use Rattle.jx_geom.proofs.RasterLemmas.{raster_in, number_below, number_column, number_row, raster_one}
 use Rattle.jx_head.specs.declared.BandCells.{BandCells}
 use Rattle.jx_head.specs.Packet.{unknown_block}
 use Rattle.jx_head.specs.Precinct.{cells_in, fresh_bands, fresh_cells, all_blocks}
@@ -66,7 +66,7 @@ pub leaf_count : (s : Stream) (g : Geometry) (c r k : ℕ) → length (all_block
 leaf_count s g c r k = all_count (precinct_bands s g c r k) ∙ cells_count s g c r k
 
 -- the name of a block of the first band, and of a later one
-abbrev named : Geometry → ℕ → ℕ → Band → ℕ → BlockName
+abbrev pub named : Geometry → ℕ → ℕ → Band → ℕ → BlockName
 named g c r b i = record { tile = g.tile; comp = c; res = r; band = b; index = i }
 
 pub name_here : (g : Geometry) (c r k : ℕ) (b : Band) (bands : List Band) (j : ℕ) → j < size_of (cells_at g c r k b)
@@ -102,13 +102,13 @@ cell_in_band g c r k b u v h there i =
     block_cell_from (rect_of_tile g) (shape_of g c) r b u v place.0 place.1 shape place.2.0.place place.2.1
 
 -- a block of a precinct
-record IsLeaf (g : Geometry) (c r k : ℕ) (n : BlockName) : Type 0 where
-  there : HasBlock g n
-  comp : n.comp ≡ c
-  res : n.res ≡ r
-  band : HasBand r n.band
-  index : n.index < size_of (blocks_in g c r n.band)
-  cell : InRect (cells_at g c r k n.band) (column_at (blocks_in g c r n.band) n.index) (row_at (blocks_in g c r n.band) n.index)
+pub record IsLeaf (g : Geometry) (c r k : ℕ) (n : BlockName) : Type 0 where
+  pub there : HasBlock g n
+  pub comp : n.comp ≡ c
+  pub res : n.res ≡ r
+  pub band : HasBand r n.band
+  pub index : n.index < size_of (blocks_in g c r n.band)
+  pub cell : InRect (cells_at g c r k n.band) (column_at (blocks_in g c r n.band) n.index) (row_at (blocks_in g c r n.band) n.index)
 
 first_leaf : (g : Geometry) (c r k : ℕ) (b : Band) (j : ℕ) → GeometryInRange g → HasPrecinct g c r k → HasBand r b
     → j < size_of (cells_at g c r k b) → IsLeaf g c r k (named g c r b (leaf_index g c r k b j))
@@ -142,7 +142,7 @@ leaf_in g c r k (b ∷ bands) j h there have lt = elim (cases_lt j (size_of (cel
       (leaf_in g c r k bands (j - size_of (cells_at g c r k b)) h there have.1 (omega arith))
 ]
 
-leaf_of : (g : Geometry) (c r k j : ℕ) → GeometryInRange g → HasPrecinct g c r k → j < leaves g c r k → IsLeaf g c r k (leaf_name g c r k j)
+pub leaf_of : (g : Geometry) (c r k j : ℕ) → GeometryInRange g → HasPrecinct g c r k → j < leaves g c r k → IsLeaf g c r k (leaf_name g c r k j)
 unfolding leaf_name
 leaf_of g c r k j h there lt = leaf_in g c r k (bands_at r) j h there (bands_have r) lt
 

@@ -1,5 +1,5 @@
 -- A precinct of which no packet was read is within its ranges.
-use Rattle.std.proofs.Common.{◌≡◌, ℕ, zero, suc, ◌+◌, ◌-◌, ◌*◌, ◌^◌, ◌≤◌, ◌<◌, ◌==◌, ◌⊎◌, Bool, true, false, List, [], ◌∷◌, sum_by, inl, inr, ◌∙◌, ap, sym, subst, refl, arith}
+use Rattle.std.proofs.Common.{◌≡◌, ℕ, ◌+◌, ◌-◌, ◌*◌, ◌^◌, ◌≤◌, ◌<◌, ◌==◌, Bool, true, false, List, [], ◌∷◌, inl, inr, ap, subst, refl, arith}
 use Rattle.std.proofs.lemmas.Bool.{cases_lt}
 use Rattle.std.proofs.lemmas.Bool.Decides.{nat_tests}
 use Rattle.std.proofs.lemmas.List.Sums.{get_or-le-sum_by}
@@ -8,13 +8,11 @@ use Rattle.jx_base.specs.declared.names.Band.{Band}
 use Rattle.jx_base.specs.declared.names.Band.TheVariants.{LL, HL, LH, HH}
 use Rattle.jx_base.specs.declared.names.Rect.{Rect}
 use Rattle.jx_base.specs.Places.{InRect, length_of, size_of}
-use Rattle.jx_geom.specs.declared.shape.CompShape.{CompShape}
-use Rattle.jx_geom.specs.Counts.{sum_below, resolution_blocks, component_blocks, tile_blocks}
+use Rattle.jx_geom.specs.Counts.{resolution_blocks, component_blocks}
 use Rattle.jx_geom.specs.Geometry.{Geometry, GeometryInRange, HasResolution, no_shape, shape_of, rect_of_tile, blocks_in}
 use Rattle.jx_geom.specs.Ranges.{HasBand}
-use Rattle.jx_geom.proofs.CountLemmas.{sum_below_more, resolution_low, resolution_high}
+use Rattle.jx_geom.proofs.CountLemmas.{sum_below_more, resolution_low, resolution_high, blocks_limited}
 use Rattle.jx_geom.proofs.RasterLemmas.{factor_some}
-use Rattle.jx_head.specs.declared.BandCells.{BandCells}
 use Rattle.jx_head.specs.Precinct.{IsBandCells, AreBandCells, CellsInRange, IsState}
 use Rattle.jx_head.proofs.FreshLemmas.{fresh_state_is}
 use Rattle.jx_stream.specs.declared.Stream.{Stream}
@@ -55,19 +53,28 @@ fewer_places a b inside = elim (cases_lt 0 (length_of a.x)) [
 pub cells_fit : (g : Geometry) (c r k : ℕ) (b : Band) → GeometryInRange g → HasPrecinct g c r k → size_of (cells_at g c r k b) ≤ size_of (blocks_in g c r b)
 cells_fit g c r k b h there = fewer_places (cells_at g c r k b) (blocks_in g c r b) (λ u v i. cell_in_band g c r k b u v h there i)
 
+pub cells_small : (g : Geometry) (c r k : ℕ) (b : Band) → GeometryInRange g → HasPrecinct g c r k → HasBand r b → size_of (cells_at g c r k b) ≤ 2 ^ 20
+cells_small g c r k b h there has = omega (arith, cells_fit g c r k b h there, blocks_limited g c r b h there.resolution has)
+
 -- a precinct has no more blocks than its resolution
-leaves_low : (g : Geometry) (c r k : ℕ) → r ≡ 0 → leaves g c r k ≡ size_of (cells_at g c r k LL) + 0
+pub leaves_low : (g : Geometry) (c r k : ℕ) → r ≡ 0 → leaves g c r k ≡ size_of (cells_at g c r k LL) + 0
 leaves_low g c r k e = ap (λ (bands : List Band). leaves_in g c r k bands) (bands_low r e)
 
-leaves_high : (g : Geometry) (c r k : ℕ) → 0 < r
+pub leaves_high : (g : Geometry) (c r k : ℕ) → 0 < r
     → leaves g c r k ≡ size_of (cells_at g c r k HL) + (size_of (cells_at g c r k LH) + (size_of (cells_at g c r k HH) + 0))
 leaves_high g c r k some = ap (λ (bands : List Band). leaves_in g c r k bands) (bands_high r some)
 
 leaves_within : (g : Geometry) (c r k : ℕ) → GeometryInRange g → HasPrecinct g c r k → leaves g c r k ≤ resolution_blocks (rect_of_tile g) (shape_of g c) r
 leaves_within g c r k h there = elim (cases_lt 0 r) [
   | inl some ↦
-      omega (arith, leaves_high g c r k some, resolution_high (rect_of_tile g) (shape_of g c) r some, cells_fit g c r k HL h there,
-      cells_fit g c r k LH h there, cells_fit g c r k HH h there)
+      omega (
+        arith,
+        leaves_high g c r k some,
+        resolution_high (rect_of_tile g) (shape_of g c) r some,
+        cells_fit g c r k HL h there,
+        cells_fit g c r k LH h there,
+        cells_fit g c r k HH h there,
+      )
   | inr none ↦
       let low : r ≡ 0 = omega arith in
       omega (arith, leaves_low g c r k low, resolution_low (rect_of_tile g) (shape_of g c) r low, cells_fit g c r k LL h there)

@@ -23,3 +23,5 @@ pub mod TotalLemmas
 pub mod CoveredLemmas
 pub mod ReadyLemmas
 pub mod TileLemmas
+mod LayoutLemmas
+mod ListLemmas

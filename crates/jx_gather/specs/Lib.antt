@@ -3,6 +3,8 @@ pub mod Shapes
 pub mod Totals
 pub mod Cells
 pub mod Leaves
+pub mod Layout
+pub mod Coding
 pub mod Data
 pub mod Cuts
 pub mod Blocks

@@ -1,0 +1,10 @@
+use Rattle.std.proofs.Common.{◌≡◌, ◌≤◌, ℕ, length, slice_index}
+use Rattle.jx_geom.specs.Counts.{sum_below, resolution_blocks}
+use Rattle.jx_geom.specs.Geometry.{rect_of_tile, shape_of}
+use Rattle.jx_gather.proofs.layout.block_counts.Given as goal
+
+abbrev pub invariant-loop-res : goal.invariant-loop-res
+invariant-loop-res l = record {
+  long : length l.counts ≡ 34;
+  below : (r : ℕ) → r ≤ l.res → slice_index l.counts r ≡ sum_below (resolution_blocks (rect_of_tile l.geom) (shape_of l.geom l.comp)) r;
+}

@@ -1,0 +1,294 @@
+//! The precincts and the code-blocks of a tile of which no packet was read.
+
+ghost use Rattle.std.specs.Prelude.{◌≡◌, ◌<◌, ◌≤◌, ◌++◌, [], length, IfOk, OnOk};
+ghost use Rattle.jx_base.specs.Places.{size_of};
+ghost use Rattle.jx_geom.specs.Geometry.{GeometryInRange, HasBlock, HasResolution, precincts_in, rect_of_tile, shape_of};
+ghost use Rattle.jx_geom.specs.Ranges.{HasBand};
+ghost use Rattle.jx_geom.specs.Rects.{block_rect};
+ghost use Rattle.jx_stream.specs.First.{tile_number};
+ghost use Rattle.jx_gather.specs.Blocks.{band_blocks, component_blocks, resolution_blocks, tile_blocks};
+ghost use Rattle.jx_gather.specs.Cells.{HasPrecinct, cells_at, fresh_component, fresh_precinct, fresh_precincts, fresh_resolution, sizes_of};
+ghost use Rattle.jx_gather.specs.Coding.{IsCoding};
+ghost use Rattle.jx_gather.specs.InRange.{StreamInRange};
+ghost use Rattle.jx_gather.specs.Shapes.{geometry};
+
+use crate::layout::band_count;
+use jx_base::{Band, Block, BlockName, NoMemory, Pieces, Style};
+use jx_geom::TileGeom;
+use jx_head::{BandCells, Precinct};
+use jx_stream::Stream;
+use std::alloc::Global;
+
+/// How the code-blocks of a resolution are coded.
+#[derive(Clone, Copy)]
+struct Coding {
+    style: Style,
+    /// The planes of its bands in their order.
+    planes: [u32; 3],
+}
+
+fn coding_of(stream: &Stream, tile: u16, comp: u16, res: u8) -> Coding
+    ensures { IsCoding stream.now tile comp res result }
+{
+    let style = stream.params(tile, comp).style;
+    if res == 0 {
+        let planes = [stream.planes(tile, comp, res, Band::LL), 0, 0];
+        return Coding { style, planes };
+    }
+    let planes = [
+        stream.planes(tile, comp, res, Band::HL),
+        stream.planes(tile, comp, res, Band::LH),
+        stream.planes(tile, comp, res, Band::HH),
+    ];
+    Coding { style, planes }
+}
+
+/// How many code-blocks a precinct has in a band, side by side and one above another.
+fn sizes_of(
+    geom: &TileGeom,
+    comp: u16,
+    res: u8,
+    band: Band,
+    precinct: u32,
+    planes: u32,
+) -> BandCells
+    requires precinct { HasPrecinct geom.now comp res precinct }
+    requires band { HasBand res band }
+    ensures { result ≡ sizes_of (cells_at geom.now comp res precinct band) planes }
+{
+    let cells = geom.blocks(comp, res, band, precinct);
+    let wide = cells.x.high.saturating_sub(cells.x.low);
+    let high = cells.y.high.saturating_sub(cells.y.low);
+    if wide == 0 || high == 0 {
+        return BandCells {
+            wide: 0,
+            high: 0,
+            planes,
+        };
+    }
+    BandCells { wide, high, planes }
+}
+
+/// A precinct of which no packet was read.
+fn fresh_precinct(
+    alloc: Global,
+    stream: &Stream,
+    geom: &TileGeom,
+    comp: u16,
+    res: u8,
+    precinct: u32,
+    coding: Coding,
+) -> Result<Precinct, NoMemory>
+    requires range { StreamInRange stream.now }
+    requires tile { geom.now.tile < tile_number stream.now.siz }
+    requires geometry { geom.now ≡ geometry stream.now geom.now.tile }
+    requires limits { GeometryInRange geom.now }
+    requires precinct { HasPrecinct geom.now comp res precinct }
+    requires coding { IsCoding stream.now geom.now.tile comp res coding }
+    ensures { IfOk result (λ p. p ≡ fresh_precinct stream.now geom.now comp res precinct) }
+{
+    let [first, second, third] = coding.planes;
+    if res == 0 {
+        let bands = [sizes_of(geom, comp, res, Band::LL, precinct, first)];
+        return Precinct::new(alloc, &bands, coding.style);
+    }
+    let bands = [
+        sizes_of(geom, comp, res, Band::HL, precinct, first),
+        sizes_of(geom, comp, res, Band::LH, precinct, second),
+        sizes_of(geom, comp, res, Band::HH, precinct, third),
+    ];
+    Precinct::new(alloc, &bands, coding.style)
+}
+
+/// Appends the precincts of a resolution.
+#[tactic(auto, using(jx_order::proofs::JoinedLemmas::joined_none, jx_order::proofs::JoinedLemmas::joined_next), unfolding(crate::specs::Cells::fresh_resolution))]
+fn push_resolution(
+    alloc: Global,
+    stream: &Stream,
+    geom: &TileGeom,
+    comp: u16,
+    res: u8,
+    list: &mut Vec<Precinct>,
+) -> Result<(), NoMemory>
+    requires range { StreamInRange stream.now }
+    requires tile { geom.now.tile < tile_number stream.now.siz }
+    requires geometry { geom.now ≡ geometry stream.now geom.now.tile }
+    requires limits { GeometryInRange geom.now }
+    requires res { HasResolution geom.now comp res }
+    ensures { OnOk result (list.new.items ≡ list.old.items ++ fresh_resolution stream.now geom.now comp res) }
+{
+    let coding = coding_of(stream, geom.number(), comp, res);
+    let (columns, rows) = geom.precincts(comp, res);
+    for precinct in 0..columns * rows {
+        list.push(fresh_precinct(alloc, stream, geom, comp, res, precinct, coding)?)?;
+    }
+    Ok(())
+}
+
+/// Appends the precincts of a component.
+#[tactic(auto, using(jx_order::proofs::JoinedLemmas::joined_none, jx_order::proofs::JoinedLemmas::joined_next), unfolding(crate::specs::Cells::fresh_component))]
+fn push_component(
+    alloc: Global,
+    stream: &Stream,
+    geom: &TileGeom,
+    comp: u16,
+    list: &mut Vec<Precinct>,
+) -> Result<(), NoMemory>
+    requires range { StreamInRange stream.now }
+    requires tile { geom.now.tile < tile_number stream.now.siz }
+    requires geometry { geom.now ≡ geometry stream.now geom.now.tile }
+    requires limits { GeometryInRange geom.now }
+    requires comp { comp < length geom.now.shapes }
+    ensures { OnOk result (list.new.items ≡ list.old.items ++ fresh_component stream.now geom.now comp) }
+{
+    for res in 0..geom.levels(comp) + 1 {
+        push_resolution(alloc, stream, geom, comp, res, list)?;
+    }
+    Ok(())
+}
+
+/// The precincts of a tile by component, resolution and number.
+#[tactic(auto, using(jx_order::proofs::JoinedLemmas::joined_none, jx_order::proofs::JoinedLemmas::joined_next), unfolding(crate::specs::Cells::fresh_precincts))]
+pub(crate) fn precincts_of(
+    alloc: Global,
+    stream: &Stream,
+    geom: &TileGeom,
+) -> Result<Vec<Precinct>, NoMemory>
+    requires range { StreamInRange stream.now }
+    requires tile { geom.now.tile < tile_number stream.now.siz }
+    requires geometry { geom.now ≡ geometry stream.now geom.now.tile }
+    ensures { IfOk result (λ list. list.items ≡ fresh_precincts stream.now geom.now) }
+{
+    let mut list = Vec::new(alloc);
+    for comp in 0..geom.components() {
+        push_component(alloc, stream, geom, comp as u16, &mut list)?;
+    }
+    Ok(list)
+}
+
+/// A code-block that has no pass.
+fn fresh_block<'a>(
+    alloc: Global,
+    geom: &TileGeom,
+    block: BlockName,
+    bits: Style,
+    all: u8,
+) -> Block<'a>
+    requires { HasBlock geom.now block }
+    ensures { result ≡ record {
+      name = block;
+      rect = block_rect (rect_of_tile geom.now) (shape_of geom.now block.comp) block.res block.band block.index;
+      planes = all;
+      zero = all;
+      passes = 0;
+      style = bits;
+      pieces = [];
+    } }
+{
+    Block {
+        name: block,
+        rect: geom.block(&block),
+        planes: all,
+        zero: all,
+        passes: 0,
+        style: bits,
+        pieces: Pieces::new(alloc),
+    }
+}
+
+/// Appends the code-blocks of a band.
+#[tactic(auto, using(jx_order::proofs::JoinedLemmas::joined_none, jx_order::proofs::JoinedLemmas::joined_next), unfolding(crate::specs::Blocks::band_blocks))]
+fn push_band<'a>(
+    alloc: Global,
+    stream: &Stream,
+    geom: &TileGeom,
+    comp: u16,
+    res: u8,
+    band: Band,
+    list: &mut Vec<Block<'a>>,
+) -> Result<(), NoMemory>
+    requires range { StreamInRange stream.now }
+    requires tile { geom.now.tile < tile_number stream.now.siz }
+    requires geometry { geom.now ≡ geometry stream.now geom.now.tile }
+    requires res { HasResolution geom.now comp res }
+    requires band { HasBand res band }
+    ensures { OnOk result (list.new.items ≡ list.old.items ++ band_blocks stream.now geom.now [] comp res band) }
+{
+    let tile = geom.number();
+    let style = stream.params(tile, comp).style;
+    let planes = stream.planes(tile, comp, res, band) as u8;
+    for index in 0..band_count(geom, comp, res, band) {
+        let name = BlockName {
+            tile,
+            comp,
+            res,
+            band,
+            index,
+        };
+        list.push(fresh_block(alloc, geom, name, style, planes))?;
+    }
+    Ok(())
+}
+
+/// Appends the code-blocks of a resolution.
+fn push_bands<'a>(
+    alloc: Global,
+    stream: &Stream,
+    geom: &TileGeom,
+    comp: u16,
+    res: u8,
+    list: &mut Vec<Block<'a>>,
+) -> Result<(), NoMemory>
+    requires range { StreamInRange stream.now }
+    requires tile { geom.now.tile < tile_number stream.now.siz }
+    requires geometry { geom.now ≡ geometry stream.now geom.now.tile }
+    requires res { HasResolution geom.now comp res }
+    ensures { OnOk result (list.new.items ≡ list.old.items ++ resolution_blocks stream.now geom.now [] comp res) }
+{
+    if res == 0 {
+        return push_band(alloc, stream, geom, comp, res, Band::LL, list);
+    }
+    push_band(alloc, stream, geom, comp, res, Band::HL, list)?;
+    push_band(alloc, stream, geom, comp, res, Band::LH, list)?;
+    push_band(alloc, stream, geom, comp, res, Band::HH, list)
+}
+
+/// Appends the code-blocks of a component.
+#[tactic(auto, using(jx_order::proofs::JoinedLemmas::joined_none, jx_order::proofs::JoinedLemmas::joined_next), unfolding(crate::specs::Blocks::component_blocks))]
+fn push_blocks<'a>(
+    alloc: Global,
+    stream: &Stream,
+    geom: &TileGeom,
+    comp: u16,
+    list: &mut Vec<Block<'a>>,
+) -> Result<(), NoMemory>
+    requires range { StreamInRange stream.now }
+    requires tile { geom.now.tile < tile_number stream.now.siz }
+    requires geometry { geom.now ≡ geometry stream.now geom.now.tile }
+    requires comp { comp < length geom.now.shapes }
+    ensures { OnOk result (list.new.items ≡ list.old.items ++ component_blocks stream.now geom.now [] comp) }
+{
+    for res in 0..geom.levels(comp) + 1 {
+        push_bands(alloc, stream, geom, comp, res, list)?;
+    }
+    Ok(())
+}
+
+/// The code-blocks of a tile in the order of their numbers.
+#[tactic(auto, using(jx_order::proofs::JoinedLemmas::joined_none, jx_order::proofs::JoinedLemmas::joined_next), unfolding(crate::specs::Blocks::tile_blocks))]
+pub(crate) fn blocks_of<'a>(
+    alloc: Global,
+    stream: &Stream,
+    geom: &TileGeom,
+) -> Result<Vec<Block<'a>>, NoMemory>
+    requires range { StreamInRange stream.now }
+    requires tile { geom.now.tile < tile_number stream.now.siz }
+    requires geometry { geom.now ≡ geometry stream.now geom.now.tile }
+    ensures { IfOk result (λ list. list.items ≡ tile_blocks stream.now geom.now []) }
+{
+    let mut list = Vec::new(alloc);
+    for comp in 0..geom.components() {
+        push_blocks(alloc, stream, geom, comp as u16, &mut list)?;
+    }
+    Ok(list)
+}
