@@ -1,5 +1,5 @@
 -- The blocks of a tile stand at their numbers.
-use Rattle.std.proofs.Common.{◌≡◌, ℕ, zero, suc, ◌+◌, ◌≤◌, ◌<◌, List, [], ◌∷◌, ◌++◌, length, take, get_or, sum_by, Some, inl, inr, ◌∙◌, ap, sym, subst, refl, arith, length-append, append-nil}
+use Rattle.std.proofs.Common.{◌≡◌, ℕ, zero, suc, ◌+◌, ◌≤◌, ◌<◌, List, [], ◌∷◌, ◌++◌, length, Some, inl, inr, ◌∙◌, ap, sym, subst, refl, arith, length-append, append-nil}
 use Rattle.std.specs.List.{slice_get, flat_map}
 use Rattle.std.proofs.lemmas.Bool.{cases_lt}
 use Rattle.std.proofs.lemmas.Bool.Decides.{nat_tests}
@@ -12,8 +12,8 @@ use Rattle.jx_geom.specs.declared.shape.CompShape.{CompShape}
 use Rattle.jx_geom.specs.Rects.{tile_rect}
 use Rattle.jx_geom.specs.Counts.{sum_below, block_count, blocks_before_band, tile_count}
 use Rattle.jx_geom.specs.Counts.{resolution_blocks as count_in_resolution, component_blocks as count_in_component, tile_blocks as count_in_tile}
-use Rattle.jx_geom.specs.Geometry.{Geometry, GeometryInRange, HasBlock, no_shape, shape_of, rect_of_tile, blocks_in}
-use Rattle.jx_geom.specs.Numbering.{number_in_tile, number_in_component, geometry_of, blocks_below, block_number, IsBlock}
+use Rattle.jx_geom.specs.Geometry.{Geometry, GeometryInRange, HasBlock, shape_of, rect_of_tile, blocks_in}
+use Rattle.jx_geom.specs.Numbering.{number_in_tile, number_in_component, geometry_of, blocks_below, block_number}
 use Rattle.jx_geom.specs.Ranges.{HasBand}
 use Rattle.jx_geom.proofs.CountLemmas.{sum_below_more, resolution_low, resolution_high, band_within}
 use Rattle.jx_geom.proofs.NumberLemmas.{number_in_tile_below, block_number_taken}
@@ -75,9 +75,14 @@ resolution_long s g founds c r = elim (cases_lt 0 r) [
       let e : length (resolution_blocks s g founds c r)
       ≡ length (band_blocks s g founds c r HL ++ (band_blocks s g founds c r LH ++ band_blocks s g founds c r HH))
       = ap (λ (bs : List Block). length bs) (blocks_high s g founds c r some) in
-      omega (arith, length-append (band_blocks s g founds c r HL) (band_blocks s g founds c r LH ++ band_blocks s g founds c r HH),
-      length-append (band_blocks s g founds c r LH) (band_blocks s g founds c r HH),
-      band_long s g founds c r HL, band_long s g founds c r LH, band_long s g founds c r HH)
+      omega (
+        arith,
+        length-append (band_blocks s g founds c r HL) (band_blocks s g founds c r LH ++ band_blocks s g founds c r HH),
+        length-append (band_blocks s g founds c r LH) (band_blocks s g founds c r HH),
+        band_long s g founds c r HL,
+        band_long s g founds c r LH,
+        band_long s g founds c r HH,
+      )
   | inr none ↦
       let low : r ≡ 0 = omega arith in
       let e : length (resolution_blocks s g founds c r) ≡ length (band_blocks s g founds c r LL) = ap (λ (bs : List Block). length bs) (blocks_low s g founds c r low) in
@@ -137,8 +142,12 @@ within_component : (g : Geometry) (n : BlockName) → HasBlock g n
     → number_in_component (rect_of_tile g) (shape_of g n.comp) n.res n.band n.index < count_in_component (rect_of_tile g) (shape_of g n.comp)
 unfolding count_in_component
 within_component g n h =
-    omega (arith, sum_below_more (count_in_resolution (rect_of_tile g) (shape_of g n.comp)) n.res ((shape_of g n.comp).levels + 1) (omega (arith, h.resolution.level)),
-    band_within (rect_of_tile g) (shape_of g n.comp) n.res n.band h.band, h.index)
+    omega (
+      arith,
+      sum_below_more (count_in_resolution (rect_of_tile g) (shape_of g n.comp)) n.res ((shape_of g n.comp).levels + 1) (omega (arith, h.resolution.level)),
+      band_within (rect_of_tile g) (shape_of g n.comp) n.res n.band h.band,
+      h.index,
+    )
 
 -- a block's number as sums of terms by place
 number_is : (g : Geometry) (n : BlockName) → n.comp ≤ length g.shapes

@@ -1,5 +1,5 @@
 -- The blocks of a precinct: how many there are, and that each block of a tile is one of one precinct alone.
-use Rattle.std.proofs.Common.{◌≡◌, ℕ, zero, suc, ◌+◌, ◌-◌, ◌*◌, ◌≤◌, ◌<◌, ◌==◌, Bool, true, false, cond, List, [], ◌∷◌, ◌++◌, length, map, replicate, sum_by, inl, inr, ◌∙◌, ap, sym, subst, refl, arith, length-append}
+use Rattle.std.proofs.Common.{◌≡◌, ℕ, ◌+◌, ◌-◌, ◌*◌, ◌≤◌, ◌<◌, ◌==◌, Bool, true, false, cond, List, [], ◌∷◌, length, map, replicate, inl, inr, ◌∙◌, ap, sym, subst, refl, arith, length-append}
 use Rattle.std.proofs.lemmas.Bool.{cases_lt}
 use Rattle.std.proofs.lemmas.Bool.Decides.{nat_tests}
 use Rattle.std.proofs.lemmas.List.{length-replicate}
@@ -14,7 +14,7 @@ use Rattle.jx_geom.specs.Numbering.{band_place, number_in_tile}
 use Rattle.jx_geom.specs.Ranges.{HasBand}
 use Rattle.jx_geom.proofs.LawLemmas.{precinct_blocks_to, block_cell_from, block_in_one_precinct}
 use Rattle.jx_geom.proofs.NumberLemmas.{number_in_tile_below, number_in_tile_grows}
-use Rattle.jx_geom.proofs.RasterLemmas.{raster_in, number_at, number_below, number_column, number_row, raster_one}
+use Rattle.jx_geom.proofs.RasterLemmas.{raster_in, number_below, number_column, number_row, raster_one}
 use Rattle.jx_head.specs.declared.BandCells.{BandCells}
 use Rattle.jx_head.specs.Packet.{unknown_block}
 use Rattle.jx_head.specs.Precinct.{cells_in, fresh_bands, fresh_cells, all_blocks}

@@ -1,5 +1,5 @@
 -- A precinct of which no packet was read is within its ranges.
-use Rattle.std.proofs.Common.{◌≡◌, ℕ, zero, suc, ◌+◌, ◌-◌, ◌*◌, ◌^◌, ◌≤◌, ◌<◌, ◌==◌, ◌⊎◌, Bool, true, false, List, [], ◌∷◌, sum_by, inl, inr, ◌∙◌, ap, sym, subst, refl, arith}
+use Rattle.std.proofs.Common.{◌≡◌, ℕ, ◌+◌, ◌-◌, ◌*◌, ◌^◌, ◌≤◌, ◌<◌, ◌==◌, Bool, true, false, List, [], ◌∷◌, inl, inr, ap, subst, refl, arith}
 use Rattle.std.proofs.lemmas.Bool.{cases_lt}
 use Rattle.std.proofs.lemmas.Bool.Decides.{nat_tests}
 use Rattle.std.proofs.lemmas.List.Sums.{get_or-le-sum_by}
@@ -8,13 +8,11 @@ use Rattle.jx_base.specs.declared.names.Band.{Band}
 use Rattle.jx_base.specs.declared.names.Band.TheVariants.{LL, HL, LH, HH}
 use Rattle.jx_base.specs.declared.names.Rect.{Rect}
 use Rattle.jx_base.specs.Places.{InRect, length_of, size_of}
-use Rattle.jx_geom.specs.declared.shape.CompShape.{CompShape}
-use Rattle.jx_geom.specs.Counts.{sum_below, resolution_blocks, component_blocks, tile_blocks}
+use Rattle.jx_geom.specs.Counts.{resolution_blocks, component_blocks}
 use Rattle.jx_geom.specs.Geometry.{Geometry, GeometryInRange, HasResolution, no_shape, shape_of, rect_of_tile, blocks_in}
 use Rattle.jx_geom.specs.Ranges.{HasBand}
 use Rattle.jx_geom.proofs.CountLemmas.{sum_below_more, resolution_low, resolution_high, blocks_limited}
 use Rattle.jx_geom.proofs.RasterLemmas.{factor_some}
-use Rattle.jx_head.specs.declared.BandCells.{BandCells}
 use Rattle.jx_head.specs.Precinct.{IsBandCells, AreBandCells, CellsInRange, IsState}
 use Rattle.jx_head.proofs.FreshLemmas.{fresh_state_is}
 use Rattle.jx_stream.specs.declared.Stream.{Stream}
@@ -69,8 +67,14 @@ leaves_high g c r k some = ap (λ (bands : List Band). leaves_in g c r k bands) 
 leaves_within : (g : Geometry) (c r k : ℕ) → GeometryInRange g → HasPrecinct g c r k → leaves g c r k ≤ resolution_blocks (rect_of_tile g) (shape_of g c) r
 leaves_within g c r k h there = elim (cases_lt 0 r) [
   | inl some ↦
-      omega (arith, leaves_high g c r k some, resolution_high (rect_of_tile g) (shape_of g c) r some, cells_fit g c r k HL h there,
-      cells_fit g c r k LH h there, cells_fit g c r k HH h there)
+      omega (
+        arith,
+        leaves_high g c r k some,
+        resolution_high (rect_of_tile g) (shape_of g c) r some,
+        cells_fit g c r k HL h there,
+        cells_fit g c r k LH h there,
+        cells_fit g c r k HH h there,
+      )
   | inr none ↦
       let low : r ≡ 0 = omega arith in
       omega (arith, leaves_low g c r k low, resolution_low (rect_of_tile g) (shape_of g c) r low, cells_fit g c r k LL h there)

@@ -1,5 +1,5 @@
 -- The table of what stands before each resolution.
-use Rattle.std.proofs.Common.{◌≡◌, ℕ, zero, suc, ◌+◌, ◌-◌, ◌*◌, ◌^◌, ◌≤◌, ◌<◌, List, [], ◌∷◌, ◌++◌, length, take, get_or, set, slice_index, inl, inr, ◌∙◌, ap, sym, subst, refl, arith, length-append}
+use Rattle.std.proofs.Common.{◌≡◌, ℕ, ◌+◌, ◌-◌, ◌^◌, ◌≤◌, ◌<◌, List, [], ◌∷◌, ◌++◌, length, take, get_or, set, slice_index, inl, inr, ◌∙◌, ap, sym, subst, refl, arith, length-append}
 use Rattle.std.proofs.lemmas.Bool.{cases_eq, cases_lt}
 use Rattle.std.proofs.lemmas.List.{get_or-set_other}
 use Rattle.std.proofs.lemmas.Grind.{get_or-set_at}
@@ -19,7 +19,7 @@ use Rattle.jx_gather.specs.Cells.{HasPrecinct, precinct_number, leaf_number, ban
 use Rattle.jx_gather.specs.Leaves.{leaves}
 use Rattle.jx_gather.specs.Layout.{CountsPrecincts, CountsBlocks, IsRow, AreRows, IsTable, number_in_resolution}
 use Rattle.jx_gather.proofs.BlockLemmas.{bands_low, bands_high}
-use Rattle.jx_gather.proofs.CellLemmas.{named, name_here, name_later, IsLeaf, leaf_of, leaf_is, leaf_below}
+use Rattle.jx_gather.proofs.CellLemmas.{named, name_here, name_later, leaf_of, leaf_is, leaf_below}
 use Rattle.jx_gather.proofs.NumberLemmas.{precinct_below}
 use Rattle.jx_gather.proofs.FreshLemmas.{leaves_low, leaves_high}
 

@@ -1,6 +1,5 @@
 -- The lists of a tile that loops make.
-use Rattle.std.proofs.Common.{◌≡◌, ℕ, ◌<◌, ◌≤◌, List, [], ◌∷◌, ◌++◌, length, map, inl, inr, ◌∙◌, ap, sym, subst, refl, arith, append_assoc}
-use Rattle.std.specs.List.{range_with_len}
+use Rattle.std.proofs.Common.{◌≡◌, ℕ, ◌<◌, ◌≤◌, List, [], ◌∷◌, ◌++◌, length, ◌∙◌, ap, sym, subst, refl, arith, append_assoc}
 use Rattle.std.proofs.lemmas.List.{length-map}
 use Rattle.std.proofs.lemmas.List.FromFn.{length-range_with_len}
 use Rattle.jx_base.specs.declared.names.Band.{Band}
@@ -17,7 +16,7 @@ use Rattle.jx_stream.specs.Params.{planes_at}
 use Rattle.jx_gather.specs.Blocks.{Found, own_founds, block_of, band_blocks, resolution_blocks}
 use Rattle.jx_gather.specs.Cells.{cells_at, sizes_of, precinct_bands, fresh_precinct}
 use Rattle.jx_gather.specs.InRange.{StreamInRange}
-use Rattle.jx_gather.specs.Shapes.{geometry, shapes_of, shape_in, style_of}
+use Rattle.jx_gather.specs.Shapes.{geometry, shapes_of, style_of}
 use Rattle.jx_gather.proofs.BlockLemmas.{bands_low, bands_high, blocks_low, blocks_high}
 use Rattle.jx_gather.proofs.CellLemmas.{bands_of}
 

@@ -9,7 +9,6 @@ use Rattle.jx_geom.specs.declared.shape.CompShape.{CompShape}
 use Rattle.jx_geom.specs.Counts.{sum_below, precinct_count, component_precincts, tile_precincts}
 use Rattle.jx_geom.specs.Geometry.{Geometry, no_shape, shape_of, rect_of_tile, precincts_in}
 use Rattle.jx_geom.proofs.CountLemmas.{sum_below_more}
-use Rattle.jx_head.specs.Packet.{State}
 use Rattle.jx_order.specs.Steps.{joined}
 use Rattle.jx_order.proofs.JoinedLemmas.{joined_none, joined_next}
 use Rattle.jx_stream.specs.declared.Stream.{Stream}
@@ -120,8 +119,13 @@ precinct_within g c r k h =
 pub precinct_below : (g : Geometry) (c r k : ℕ) → HasPrecinct g c r k → precinct_number g c r k < tile_precincts (rect_of_tile g) g.shapes
 precinct_below g c r k h =
     let more = sum_below_more (λ c. component_precincts (rect_of_tile g) (shape_of g c)) c (length g.shapes) h.resolution.component in
-    omega (arith, precinct_number_is g c r k (omega (arith, h.resolution.component)), precinct_within g c r k h, more,
-    whole_sum (component_precincts (rect_of_tile g)) g.shapes)
+    omega (
+      arith,
+      precinct_number_is g c r k (omega (arith, h.resolution.component)),
+      precinct_within g c r k h,
+      more,
+      whole_sum (component_precincts (rect_of_tile g)) g.shapes,
+    )
 
 in_resolution : (s : Stream) (g : Geometry) (c r k : ℕ) → k < size_of (precincts_in g c r) → slice_get (fresh_resolution s g c r) k ≡ Some (fresh_precinct s g c r k)
 unfolding fresh_resolution
@@ -162,7 +166,7 @@ precinct_once g c r k c' r' k' h h' e =
     (sum_below (precinct_count (rect_of_tile g) (shape_of g c)) r + k) (sum_below (precinct_count (rect_of_tile g) (shape_of g c')) r' + k')
     (precinct_within g c r k h) (precinct_within g c' r' k' h') (sym first ∙ e ∙ second) in
     let P : ℕ → Type 0 = λ n. HasPrecinct g n r' k'
-        → sum_below (precinct_count (rect_of_tile g) (shape_of g c)) r + k ≡ sum_below (precinct_count (rect_of_tile g) (shape_of g n)) r' + k'
-        → (r ≡ r') × (k ≡ k') in
+    → sum_below (precinct_count (rect_of_tile g) (shape_of g c)) r + k ≡ sum_below (precinct_count (rect_of_tile g) (shape_of g n)) r' + k'
+    → (r ≡ r') × (k ≡ k') in
     let inner = subst P comp.0 (once_in_component g c r k r' k' h) h' comp.1 in
     (comp.0, inner.0, inner.1)

@@ -172,10 +172,7 @@ fn leaf_in_band(geom: &TileGeom, name: &PacketName, band: Band, place: u32) -> u
     ensures below { result < size_of (blocks_in geom.now name.now.comp name.now.res band) }
     ensures few { result < 2 ^ 20 }
 {
-    let (column, row) = place_in(
-        geom.blocks(name.comp, name.res, band, name.precinct),
-        place,
-    );
+    let (column, row) = place_in(geom.blocks(name.comp, name.res, band, name.precinct), place);
     number_in(geom.cells(name.comp, name.res, band), column, row)
 }
 

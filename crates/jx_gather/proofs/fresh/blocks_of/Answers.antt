@@ -1,4 +1,4 @@
-use Rattle.std.proofs.Common.{◌≡◌, [], sym, ◌∙◌, arith}
+use Rattle.std.proofs.Common.{[], sym, ◌∙◌, arith}
 use Rattle.jx_gather.specs.Blocks.{component_blocks}
 use Rattle.jx_order.proofs.JoinedLemmas.{joined_none, makes_next}
 use Rattle.jx_gather.proofs.ListLemmas.{few_components}

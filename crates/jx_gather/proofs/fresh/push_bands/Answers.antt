@@ -1,6 +1,6 @@
 use Rattle.std.proofs.Common.{◌≡◌, ◌++◌, [], arith}
 use Rattle.std.proofs.lemmas.Result.{on_ok_weaker}
-use Rattle.jx_base.specs.declared.names.Band.TheVariants.{LL, HL, LH, HH}
+use Rattle.jx_base.specs.declared.names.Band.TheVariants.{LL, HH}
 use Rattle.jx_gather.specs.Blocks.{band_blocks, resolution_blocks}
 use Rattle.jx_gather.proofs.ListLemmas.{appends_low, appends_high}
 use Rattle.jx_gather.proofs.fresh.push_bands.Goals as goal

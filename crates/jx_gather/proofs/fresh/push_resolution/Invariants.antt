@@ -1,4 +1,4 @@
-use Rattle.std.proofs.Common.{◌≡◌, ◌++◌, []}
+use Rattle.std.proofs.Common.{◌≡◌, ◌++◌}
 use Rattle.jx_order.specs.Steps.{joined}
 use Rattle.jx_gather.specs.Cells.{one_precinct}
 use Rattle.jx_gather.proofs.fresh.push_resolution.Given as goal

@@ -1,4 +1,4 @@
-use Rattle.std.proofs.Common.{◌≡◌, ◌+◌, ap, ◌∙◌, slice_index, arith}
+use Rattle.std.proofs.Common.{◌≡◌, ap, ◌∙◌, slice_index, arith}
 use Rattle.std.proofs.lemmas.List.{length-set}
 use Rattle.jx_geom.specs.Counts.{resolution_blocks}
 use Rattle.jx_geom.specs.Geometry.{rect_of_tile, shape_of}

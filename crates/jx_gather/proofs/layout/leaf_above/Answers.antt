@@ -1,4 +1,4 @@
-use Rattle.std.proofs.Common.{◌∙◌, sym, arith}
+use Rattle.std.proofs.Common.{◌∙◌, sym}
 use Rattle.jx_gather.proofs.LayoutLemmas.{leaf_first, leaf_second, leaf_third}
 use Rattle.jx_gather.proofs.layout.leaf_above.Goals as goal
 

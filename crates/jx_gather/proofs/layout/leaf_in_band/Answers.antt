@@ -1,9 +1,6 @@
 use Rattle.std.proofs.Common.{◌<◌, subst, sym}
 use Rattle.jx_base.specs.declared.names.Rect.{Rect}
 use Rattle.jx_base.specs.Places.{InRect, size_of}
-use Rattle.jx_geom.specs.Geometry.{blocks_in}
-use Rattle.jx_geom.proofs.RasterLemmas.{number_below}
-use Rattle.jx_gather.specs.Cells.{cells_at}
 use Rattle.jx_gather.proofs.CellLemmas.{cell_in_band}
 use Rattle.jx_gather.proofs.layout.leaf_in_band.Goals as goal
 

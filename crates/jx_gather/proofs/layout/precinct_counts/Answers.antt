@@ -1,4 +1,4 @@
-use Rattle.std.proofs.Common.{◌≡◌, ◌+◌, ◌*◌, ap, ◌∙◌, sym, slice_index, arith, length}
+use Rattle.std.proofs.Common.{◌≡◌, ◌*◌, ap, ◌∙◌, slice_index, arith}
 use Rattle.std.proofs.lemmas.List.{length-set}
 use Rattle.jx_base.specs.Places.{length_of, size_of}
 use Rattle.jx_geom.specs.Counts.{precinct_count}

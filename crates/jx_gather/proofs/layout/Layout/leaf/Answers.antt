@@ -12,8 +12,12 @@ overflow_add-result c =
     let whole = leaf_by_row c.args.self.now c.args.name.now.comp c.args.name.now.res c.args.name.now.precinct c.args.block c.from.result
     c.leaf_in_resolution-place.result c.row-row.result.now c.row-row.ensures.range c.row-row.ensures.row c.requires.precinct c.requires.block
     c.from.ensures (subst P c.self.view_is c.leaf_in_resolution-place.ensures) in
-    omega (arith, whole, leaf_fits c.args.self.now c.args.name.now.comp c.args.name.now.res c.args.name.now.precinct c.args.block
-    c.row-row.ensures.range c.requires.precinct c.requires.block)
+    omega (
+      arith,
+      whole,
+      leaf_fits c.args.self.now c.args.name.now.comp c.args.name.now.res c.args.name.now.precinct c.args.block
+          c.row-row.ensures.range c.requires.precinct c.requires.block,
+    )
 
 pub overflow_add-result-2 : goal.overflow_add-result-2
 overflow_add-result-2 c =
@@ -22,8 +26,12 @@ overflow_add-result-2 c =
     let whole = leaf_by_row c.args.self.now c.args.name.now.comp c.args.name.now.res c.args.name.now.precinct c.args.block c.from.result
     c.leaf_in_resolution-place.result c.row-row.result.now c.row-row.ensures.range c.row-row.ensures.row c.requires.precinct c.requires.block
     c.from.ensures (subst P c.self.view_is c.leaf_in_resolution-place.ensures) in
-    omega (arith, whole, leaf_fits c.args.self.now c.args.name.now.comp c.args.name.now.res c.args.name.now.precinct c.args.block
-    c.row-row.ensures.range c.requires.precinct c.requires.block)
+    omega (
+      arith,
+      whole,
+      leaf_fits c.args.self.now c.args.name.now.comp c.args.name.now.res c.args.name.now.precinct c.args.block
+          c.row-row.ensures.range c.requires.precinct c.requires.block,
+    )
 
 pub returns : goal.returns
 returns c =
