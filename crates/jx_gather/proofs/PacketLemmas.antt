@@ -79,4 +79,4 @@ pub body_breaks : (w h : List ℕ) (at number : ℕ) (k : State) (parts : List P
 body_breaks w h at number k parts used after e sop same packet breaks =
     let P : List ℕ → Type 0 = λ h. IsPacket h k parts used after in
     cause_on (λ f. body_fault w at used parts ≡ Some f) (Breaks w at number k) e
-        (λ f b. inr (sop, inr (record { parts = parts; used = used; after = after; header = subst P same packet; body = b }))) breaks
+    (λ f b. inr (sop, inr (record { parts = parts; used = used; after = after; header = subst P same packet; body = b }))) breaks

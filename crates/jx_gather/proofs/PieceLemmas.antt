@@ -74,9 +74,9 @@ one_grows blocks f i = by (cases_eq f.number i) (slice_get blocks f.number) refl
     by (inl here) (Some b) e =
         let P : ℕ → Type 0 = λ n. passes_of (slice_get blocks n) ≤ passes_of (slice_get (put_one blocks f) n) in
         subst P here (
-          let was : passes_of (slice_get blocks f.number) ≡ b.passes = ap passes_of e in
-          let is : passes_of (slice_get (put_one blocks f) f.number) ≡ b.passes + f.piece.passes = ap passes_of (one_here blocks f b e) in
-          omega arith
+        let was : passes_of (slice_get blocks f.number) ≡ b.passes = ap passes_of e in
+        let is : passes_of (slice_get (put_one blocks f) f.number) ≡ b.passes + f.piece.passes = ap passes_of (one_here blocks f b e) in
+        omega arith
         )
 
 all_grow : (blocks : List Block) (founds : List Found) (i : ℕ) → passes_of (slice_get blocks i) ≤ passes_of (slice_get (put_all blocks founds) i)

@@ -145,7 +145,10 @@ mod tests {
         assert_eq!(rt; reads(rt.alloc(), &[0xFF, 0x91, 0, 4, 0]), Err((26, 79)));
         assert_eq!(rt; reads(rt.alloc(), &[0xC0, 0x00]), Err((27, 79)));
         assert_eq!(rt; reads(rt.alloc(), &[0xC0, 0x21]), Err((28, 79)));
-        assert_eq!(rt; reads(rt.alloc(), &[0xFF, 0x91, 0, 4, 0, 1, 0]), Err((29, 79)));
+        assert_eq!(rt;
+            reads(rt.alloc(), &[0xFF, 0x91, 0, 4, 0, 1, 0]),
+            Err((29, 79))
+        );
         assert_eq!(rt; reads(rt.alloc(), &[0xC0, 0x21, 0xFF]), Err((30, 81)));
     }
 }

@@ -76,7 +76,10 @@ fn told(fault: GatherFault) -> (u8, u128) {
 // The blocks of a file, each as its planes, zero planes, passes, pieces and bytes; what is said of a fault; or 200 where its
 // headers are refused.
 #[tactic(auto, using(crate::proofs::ReadLemmas::read_is))]
-fn blocks_of(alloc: Global, bytes: &[u8]) -> Result<Result<Vec<[usize; 5]>, (u8, u128)>, AllocError> {
+fn blocks_of(
+    alloc: Global,
+    bytes: &[u8],
+) -> Result<Result<Vec<[usize; 5]>, (u8, u128)>, AllocError> {
     if bytes.len() > 1 << 28 {
         return Ok(Err((200, 0)));
     }
@@ -157,7 +160,8 @@ fn rules_and_limits(rt: HostRuntime) -> Result<(), Fail> {
 #[test]
 fn one_block(rt: HostRuntime) -> Result<(), Fail> {
     let alloc = rt.alloc();
-    let deep = "E0F8 FF5E 0005 00 00 25 FF90 000A 0000 0000001A 00 01 FF93 C0 0000000000000000 10 80 03";
+    let deep =
+        "E0F8 FF5E 0005 00 00 25 FF90 000A 0000 0000001A 00 01 FF93 C0 0000000000000000 10 80 03";
     for (from, text, want) in [
         (71, "00000011 00 01 FF93 C0 21 03", [9, 8, 1, 1, 1]),
         (71, "00000012 00 01 FF93 C0 74 10 01", [9, 7, 4, 1, 1]),

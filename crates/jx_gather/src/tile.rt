@@ -96,11 +96,7 @@ impl<'t, 'a> Source<'t, 'a> {
     }
 
     /// Reads all of the list's packets, behind which no byte of the tile is left.
-    fn read_all(
-        &self,
-        rest: &mut Rest<'_>,
-        blocks: &mut Vec<Block<'a>>,
-    ) -> Result<(), GatherFault>
+    fn read_all(&self, rest: &mut Rest<'_>, blocks: &mut Vec<Block<'a>>) -> Result<(), GatherFault>
         requires task { IsTask self.now.bytes.now self.now.stream.now self.now.layout self.now.list.now }
         requires end { self.now.end ≡ end_of_data (tile_at self.now.stream.now self.now.layout.tile).bodies }
         requires front { IsFront self.now.bytes.now self.now.stream.now self.now.layout.tile (take 0 self.now.list.now) rest.old blocks.old.items }

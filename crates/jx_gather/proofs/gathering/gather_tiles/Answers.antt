@@ -11,5 +11,6 @@ returns-in-Err-clause-broken c =
 
 pub loop-tile-preserved : goal.loop-tile-preserved
 loop-tile-preserved c = rw c.in_ok-append-in-Ok.ensures (
-    gathered_next c.args.bytes.now c.args.stream.now c.loop-tile.tile c.loop-tile.blocks.items c.in-Ok.next.items c.loop-tile.invariant.0 c.in-Ok.ensures.blocks,
-    All-append IsSound c.loop-tile.blocks.items c.in-Ok.next.items c.loop-tile.invariant.1 c.in-Ok.ensures.sound)
+  gathered_next c.args.bytes.now c.args.stream.now c.loop-tile.tile c.loop-tile.blocks.items c.in-Ok.next.items c.loop-tile.invariant.0 c.in-Ok.ensures.blocks,
+  All-append IsSound c.loop-tile.blocks.items c.in-Ok.next.items c.loop-tile.invariant.1 c.in-Ok.ensures.sound,
+)

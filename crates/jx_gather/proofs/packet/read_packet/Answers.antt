@@ -22,7 +22,7 @@ returns-in-Err-check_body-clause-err c =
     let w = c.args.window.now in
     let behind = c.split_at.ensures.back ∙ ap (λ (n : ℕ). drop n w) c.in-Ok.ensures.1.0 in
     body_breaks w c.split_at.result.1.now c.args.at c.args.number c.args.precinct.now c.in-Ok-read_head.read.0.items c.in-Ok-read_head.read.1 c.read_head.new.precinct
-        c.in-Err-check_body.fault c.in-Ok.ensures.0 behind c.in-Ok-read_head.ensures.ok (rw c.deref.ensures.value at c.in-Err-check_body.ensures)
+    c.in-Err-check_body.fault c.in-Ok.ensures.0 behind c.in-Ok-read_head.ensures.ok (rw c.deref.ensures.value at c.in-Err-check_body.ensures)
 
 pub returns-clause-ok : goal.returns-clause-ok
 unfolding header_in
