@@ -62,12 +62,12 @@ pub record AreParts (siz : Siz) (main : List Segment) (parts : List TilePart) : 
   pub defaults : lacks_default main ≡ false
   pub each : AreNamed (length siz.comps) (tile_number siz) [] (first_sot siz main) parts
 
--- the first of the rules 20 to 22 that a SOT violates after these
+-- the first of the rules 20 to 22 that a SOT violates after a main header and tile-parts
 abbrev pub sot_first : List ℕ → Siz → List Segment → List TilePart → Sot → Option StreamFault
 sot_first b siz main parts sot = sot_fault (tile_number siz) b (length (front_bytes siz main parts)) sot
     (comes_out_of_turn (placed (length siz.comps) (first_sot siz main) parts) sot)
 
--- the same, then a SOT and segments of its header
+-- a main header, tile-parts, then a SOT and segments of its header, by which nothing is violated
 pub record IsHeader (b : List ℕ) (siz : Siz) (main : List Segment) (parts : List TilePart) (sot : Sot) (before : List Segment) : Type 0 where
   pub front : AreParts siz main parts
   pub range : SotInRange sot
