@@ -25,7 +25,5 @@ pub mod TotalLemmas
 pub mod CoveredLemmas
 pub mod ReadyLemmas
 pub mod TileLemmas
-mod LayoutLemmas
-mod ListLemmas
-pub mod ListLemmas
 pub mod LayoutLemmas
+pub mod ListLemmas
