@@ -1,4 +1,4 @@
-use Rattle.std.proofs.Common.{◌≡◌, arith}
+use Rattle.std.proofs.Common.{◌≡◌}
 use Rattle.jx_recast.specs.Small.{IsSmall, output}
 use Rattle.jx_recast.proofs.OutcomeLemmas.{begun_leaves, made_leaves}
 use Rattle.jx_recast.proofs.program.rewrite.Goals as goal
