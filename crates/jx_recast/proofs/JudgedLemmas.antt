@@ -1,5 +1,5 @@
 -- What the verdict on an input that violates nothing is.
-use Rattle.std.proofs.Common.{◌≡◌, ◌⊎◌, ◌∙◌, ◌<◌, ◌≤◌, inl, inr, sym, refl, arith, List, ℕ, Some, None, length}
+use Rattle.std.proofs.Common.{◌≡◌, ◌⊎◌, ◌≤◌, inl, inr, refl, arith, List, ℕ, Some, None, length}
 use Rattle.jx_stream.specs.declared.faults.StreamFault.{StreamFault}
 use Rattle.jx_stream.specs.declared.faults.StreamFault.TheVariants as header
 use Rattle.jx_stream.specs.First.{first_fault, stream_in}
@@ -11,7 +11,7 @@ use Rattle.jx_gather.proofs.ReadyLemmas.{not_both}
 use Rattle.jx_recast.specs.declared.status.Status.{Status}
 use Rattle.jx_recast.specs.declared.status.Status.TheVariants as status
 use Rattle.jx_recast.specs.Small.{IsSmall}
-use Rattle.jx_recast.specs.Judged.{Violates, Passes, IsClean}
+use Rattle.jx_recast.specs.Judged.{Violates, IsClean}
 use Rattle.jx_recast.specs.Outcome.{Verdict, PassesLimit, most_bytes}
 use Rattle.jx_recast.proofs.AcceptLemmas.{small_is_accepted}
 

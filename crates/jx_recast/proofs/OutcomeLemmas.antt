@@ -1,5 +1,5 @@
 -- Runs after what left the files as they were, on inputs that were cut, and with their line said.
-use Rattle.std.proofs.Common.{◌≡◌, ◌⊎◌, ◌∙◌, ◌<◌, ◌≤◌, ◌+◌, min, ℕ, List, [], length, take, inl, inr, refl, ap, Option, Some, None, IfSome, arith}
+use Rattle.std.proofs.Common.{◌≡◌, ◌⊎◌, ◌∙◌, ◌<◌, ◌≤◌, ◌+◌, min, ℕ, List, [], length, take, inl, inr, refl, sym, subst, ap, Option, Some, None, IfSome, arith}
 use Rattle.std.proofs.lemmas.List.{take_all, length-take}
 use Rattle.std.proofs.lemmas.Bool.{cases_lt}
 use Rattle.jx_outside.specs.Device.{Meaning, joined}
@@ -213,3 +213,12 @@ begun_leaves name input bytes old new short clean small e begun = inr (refl, (sh
 -- an output that was made
 pub made_leaves : (name : Text) (input bytes : List ℕ) (old new : Meaning) → bytes ≡ output input → IsMade name bytes old new → Leaves name input status.Done 1 old new
 made_leaves name input bytes old new e made = (refl, rw (← e) made)
+
+-- a run over other words whose line was said
+pub words_said : (s late : Status) (blocks bytes fault_before fault_now : ℕ) (old new : Meaning) (before now : Option (List ℕ)) → s ≡ status.Words → blocks ≡ 0 → new ≡ old
+    → EndsAs s (line_of s blocks bytes) late before now fault_before fault_now → EndsAtWords late blocks old new before now
+words_said s late blocks bytes fault_before fault_now old new before now words none same said =
+    let told : EndsAs status.Words (line_of status.Words 0 0) late before now fault_before fault_now =
+    subst (λ (x : Status). EndsAs x (line_of x blocks bytes) late before now fault_before fault_now) words said in
+    let ends : EndsAtWords late 0 old old before now = ends_at_words late fault_before fault_now old before now told in
+    subst (λ (n : ℕ). EndsAtWords late n old new before now) (sym none) (subst (λ (m : Meaning). EndsAtWords late 0 old m before now) (sym same) ends)
