@@ -32,7 +32,8 @@ use Rattle.jx_gather.specs.Cuts.{Cut, IsCut, Left, number_of}
 use Rattle.jx_gather.specs.Blocks.{founds_of, own_founds, block_of, one_block, band_blocks, resolution_blocks, component_blocks, tile_blocks}
 use Rattle.jx_gather.specs.Gathered.{IsWhole, IsListOf, IsCutUp, IsGathered, AreTileBlocks}
 use Rattle.jx_gather.specs.Accepted.{IsAccepted}
-use Rattle.jx_recast.specs.OneBlock.{HasOneBlock, KeepsBlock}
+use Rattle.jx_stream.specs.Params.{step_of, shift_at, exponent_of, mantissa_of}
+use Rattle.jx_recast.specs.OneBlock.{HasOneBlock, KeepsBlock, IsKept}
 use Rattle.jx_recast.specs.Small.{IsSmall, AreInRange, headers_at, packet_at, spelled, with_sop, marked_packet, output}
 use Rattle.jx_recast.proofs.SmallLemmas.{output_same, output_in_range}
 use Rattle.jx_recast.proofs.OneTileLemmas.{one_shape, IsOneTile, one_across, one_down, tile_is, precincts_count, blocks_count}
@@ -311,3 +312,32 @@ output_is_accepted bytes small = accepted (output bytes) (stream_in (output byte
 
 pub block_is_kept : (bytes : List ℕ) → IsSmall bytes → KeepsBlock bytes
 block_is_kept bytes small = record { block = block_in bytes; before = (whole_input bytes small).one; after = (whole_output bytes small).one }
+
+-- the step of the one band, and the region's shift
+read_step : (b : List ℕ) (h : Headers) (body : List ℕ) → b ≡ spelled h body → AreInRange h → IsSingle h (length body)
+    → step_of (stream_in b) 0 0 0 LL ≡ (exponent_of h.quant h.cod.shape.levels 0, mantissa_of h.quant 0)
+read_step b h body whole ranges single =
+    let P : Stream → Type 0 = λ s. step_of s 0 0 0 LL ≡ (exponent_of h.quant h.cod.shape.levels 0, mantissa_of h.quant 0) in
+    subst P (is_read b (the_stream b h body whole ranges single) (spells_stream b h body whole ranges single)).stream refl
+
+read_shift : (b : List ℕ) (h : Headers) (body : List ℕ) → b ≡ spelled h body → AreInRange h → IsSingle h (length body) → shift_at (stream_in b) 0 0 ≡ 0
+read_shift b h body whole ranges single =
+    let P : Stream → Type 0 = λ s. shift_at s 0 0 ≡ 0 in
+    subst P (is_read b (the_stream b h body whole ranges single) (spells_stream b h body whole ranges single)).stream refl
+
+pub small_is_kept : (bytes : List ℕ) → IsSmall bytes → IsKept bytes
+small_is_kept bytes small =
+    let out = output_is_accepted bytes small in
+    let h : Headers = headers_at bytes in
+    let body : List ℕ = packet_at bytes ∷ [] in
+    let single = is_single h small.single in
+    let single_out = is_single_output h single in
+    let range_out = output_in_range bytes small in
+    record {
+      well_formed = record { stream = stream_in (output bytes); spelled = out.read.spelled; blocks = out.blocks; gathered = out.gathered };
+      block = block_is_kept bytes small;
+      step = read_step (output bytes) (with_sop h) marked_packet (output_same bytes) range_out single_out
+          ∙ sym (read_step bytes h body small.spells.whole small.spells.ranges single);
+      shift = read_shift (output bytes) (with_sop h) marked_packet (output_same bytes) range_out single_out
+          ∙ sym (read_shift bytes h body small.spells.whole small.spells.ranges single);
+    }

@@ -4,6 +4,7 @@ use Rattle.std.proofs.lemmas.List.{take_all, length-take}
 use Rattle.std.proofs.lemmas.Bool.{cases_lt}
 use Rattle.jx_outside.specs.Device.{Meaning, joined}
 use Rattle.jx_recast.specs.Judged.{IsClean}
+use Rattle.jx_recast.proofs.AcceptLemmas.{small_is_kept}
 use Rattle.jx_recast.specs.declared.status.Status.{Status}
 use Rattle.jx_recast.specs.declared.status.Status.TheVariants as status
 use Rattle.jx_recast.specs.Words.{Text, Request}
@@ -33,7 +34,7 @@ cut_after name input blocks a b c first (inl refused) = inl (refused_after block
 cut_after name input blocks a b c first (inr begun) = inr (begun.0, begun.1, begun_after name (output input) a b c first begun.2)
 
 leaves_after : (name : Text) (input : List ℕ) (s : Status) (blocks : ℕ) (a b c : Meaning) → IsUntouched a b → Leaves name input s blocks b c → Leaves name input s blocks a c
-leaves_after name input status.Done blocks a b c first next = (next.0, made_after name (output input) a b c first next.1)
+leaves_after name input status.Done blocks a b c first next = (next.0, made_after name (output input) a b c first next.1, next.2)
 leaves_after name input status.Words blocks a b c first next = refused_after blocks a b c first next
 leaves_after name input (status.Rule number place) blocks a b c first next = refused_after blocks a b c first next
 leaves_after name input (status.Limit number found) blocks a b c first next = refused_after blocks a b c first next
@@ -211,8 +212,8 @@ pub begun_leaves : (name : Text) (input bytes : List ℕ) (old new : Meaning) �
 begun_leaves name input bytes old new short clean small e begun = inr (refl, (short, clean, small), rw (← e) begun)
 
 -- an output that was made
-pub made_leaves : (name : Text) (input bytes : List ℕ) (old new : Meaning) → bytes ≡ output input → IsMade name bytes old new → Leaves name input status.Done 1 old new
-made_leaves name input bytes old new e made = (refl, rw (← e) made)
+pub made_leaves : (name : Text) (input bytes : List ℕ) (old new : Meaning) → IsSmall input → bytes ≡ output input → IsMade name bytes old new → Leaves name input status.Done 1 old new
+made_leaves name input bytes old new small e made = (refl, rw (← e) made, small_is_kept input small)
 
 -- a run over other words whose line was said
 pub words_said : (s late : Status) (blocks bytes fault_before fault_now : ℕ) (old new : Meaning) (before now : Option (List ℕ)) → s ≡ status.Words → blocks ≡ 0 → new ≡ old

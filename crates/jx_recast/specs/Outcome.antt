@@ -8,6 +8,7 @@ use Rattle.jx_recast.specs.declared.status.Status.{Status}
 use Rattle.jx_recast.specs.declared.status.Status.TheVariants as status
 use Rattle.jx_recast.specs.Words.{Text, Request, is_good, request_of}
 use Rattle.jx_recast.specs.Small.{IsSmall, output}
+use Rattle.jx_recast.specs.OneBlock.{IsKept}
 use Rattle.jx_recast.specs.Progress.{HasWritten}
 use Rattle.jx_recast.specs.Judged.{Violates, Passes, IsClean}
 
@@ -109,7 +110,7 @@ IsCutShort name input blocks old new = IsRefused blocks old new ⊎ ((blocks ≡
 
 -- what stands after a status, and the blocks that are told
 abbrev pub Leaves : Text → List ℕ → Status → ℕ → Meaning → Meaning → Type 0
-Leaves name input status.Done blocks old new = (blocks ≡ 1) × IsMade name (output input) old new
+Leaves name input status.Done blocks old new = (blocks ≡ 1) × IsMade name (output input) old new × IsKept input
 Leaves name input status.Words blocks old new = IsRefused blocks old new
 Leaves name input (status.Rule number place) blocks old new = IsRefused blocks old new
 Leaves name input (status.Limit number found) blocks old new = IsRefused blocks old new

@@ -1,10 +1,8 @@
 ghost use Rattle.std.specs.Prelude.{◌≡◌, ◌≤◌, ◌⊎◌, ℕ, List, [], true, false, Some, None, length, map, take, IfOk, IfErr, OnOk, OnErr, IfSome, IsTrue, string_bytes};
 ghost use Rattle.jx_outside.specs.Causes.{HasCause, Rose};
 ghost use Rattle.jx_outside.specs.Device.{Allows, joined};
-ghost use Rattle.jx_stream.specs.First.{stream_in};
-ghost use Rattle.jx_gather.specs.Accepted.{IsAccepted};
 ghost use Rattle.jx_gather.specs.Shapes.{IsRead};
-ghost use Rattle.jx_recast.specs.Judged.{IsClean, IsInputCause, IsTileCause};
+ghost use Rattle.jx_recast.specs.Judged.{IsClean, IsInputCause, header_fault};
 ghost use Rattle.jx_recast.specs.Small.{output};
 ghost use Rattle.jx_recast.specs.Words.{is_good, request_of};
 ghost use Rattle.jx_recast.specs.Outcome.{EndsAs, EndsFiles, IsBegun, IsMade, IsUntouched, IsVerdict, Leaves, Outcome, Verdict, line_of, most_bytes};
@@ -103,18 +101,27 @@ fn rewrite<F: Files>(alloc: Global, files: &mut F, input: &[u8], to: &str) -> En
     }
 }
 
+/// A refusal of tile data, as one of the headers.
+fn header_fault(fault: GatherFault) -> StreamFault
+    ensures { result ≡ header_fault fault }
+{
+    match fault {
+        GatherFault::Rule { number, place } => StreamFault::Rule { number, place },
+        GatherFault::Limit { number, found } => StreamFault::Limit { number, found },
+        GatherFault::NoMemory => StreamFault::NoMemory,
+    }
+}
+
 /// What is first violated or passed in the tile data of a stream.
 fn tile_fault(alloc: Global, input: &[u8], stream: &Stream) -> Result<(), StreamFault>
     requires within { length input.now ≤ most_bytes }
     requires read { IsRead input.now stream.now }
-    ensures ok { OnOk result (IsAccepted input.now stream.now) }
-    ensures err { IfErr result (λ e. IsTileCause input.now stream.now e) }
+    ensures ok { OnOk result (IsClean input.now) }
+    ensures err { IfErr result (λ e. IsInputCause input.now e) }
 {
     match gather(alloc, input, stream) {
-        Ok(_) => Ok(()),
-        Err(GatherFault::Rule { number, place }) => Err(StreamFault::Rule { number, place }),
-        Err(GatherFault::Limit { number, found }) => Err(StreamFault::Limit { number, found }),
-        Err(GatherFault::NoMemory) => Err(StreamFault::NoMemory),
+        Ok(_blocks) => Ok(()),
+        Err(fault) => Err(header_fault(fault)),
     }
 }
 
@@ -122,7 +129,7 @@ fn tile_fault(alloc: Global, input: &[u8], stream: &Stream) -> Result<(), Stream
 #[tactic(auto, using(jx_gather::proofs::ReadLemmas::read_is))]
 fn input_fault(alloc: Global, input: &[u8]) -> Result<(), StreamFault>
     requires { length input.now ≤ most_bytes }
-    ensures ok { OnOk result (IsAccepted input.now (stream_in input.now)) }
+    ensures ok { OnOk result (IsClean input.now) }
     ensures err { IfErr result (λ e. IsInputCause input.now e) }
 {
     match read_stream(alloc, input) {

@@ -6,7 +6,7 @@ use Rattle.jx_recast.proofs.program.rewrite.Goals as goal
 pub returns-in-Ok-clause-leaves : goal.returns-in-Ok-clause-leaves
 returns-in-Ok-clause-leaves g c =
     let out : IsSmall c.args.input.now × (c.in-Ok-Some.out.bytes.items ≡ output c.args.input.now) = rw c.in-Ok-Some.field-0-is at c.in-Ok-Some.ensures in
-    rw c.accepted.ensures (made_leaves c.args.to.now c.args.input.now c.in-Ok-Some.out.bytes.items _ _ out.1 c.in-Ok.ensures.ok)
+    rw c.accepted.ensures (made_leaves c.args.to.now c.args.input.now c.in-Ok-Some.out.bytes.items _ _ out.0 out.1 c.in-Ok.ensures.ok)
 
 pub returns-in-Err-Failed-clause-leaves : goal.returns-in-Err-Failed-clause-leaves
 returns-in-Err-Failed-clause-leaves g c =
