@@ -1,35 +1,24 @@
 -- The blocks of the tiles, joined, and what follows where a tile is refused.
-use Rattle.std.proofs.Common.{◌≡◌, ◌<◌, ◌≤◌, ◌+◌, ◌-◌, ◌∙◌, ℕ, zero, suc, List, [], ◌++◌, refl, sym, ap, subst, arith, inl, inr, Some, None, length, ◌^◌}
+use Rattle.std.proofs.Common.{◌≡◌, ◌<◌, ◌≤◌, ◌+◌, ◌∙◌, ℕ, List, [], ◌++◌, sym, ap, subst, arith, inl, inr, Some, None, length, ◌^◌}
 use Rattle.std.proofs.lemmas.Bool.Decides.{nat_tests}
 use Rattle.std.proofs.lemmas.Bool.{cases_eq}
 use Rattle.std.specs.List.{All}
 use Rattle.jx_base.specs.declared.pieces.Block.{Block}
 use Rattle.jx_base.specs.Sound.{IsSound}
 use Rattle.jx_gather.proofs.SoundLemmas.{sound_blocks}
-use Rattle.jx_order.specs.Steps.{joined, joined_below}
+use Rattle.jx_gather.proofs.OnceLemmas.{joined_same}
+use Rattle.jx_order.specs.Steps.{joined}
 use Rattle.jx_order.proofs.JoinedLemmas.{joined_next, joined_none}
 use Rattle.jx_stream.specs.declared.Stream.{Stream}
 use Rattle.jx_stream.specs.First.{tile_number}
 use Rattle.jx_gather.specs.declared.faults.GatherFault.{GatherFault}
-use Rattle.jx_gather.specs.Cuts.{Cut}
 use Rattle.jx_gather.specs.Totals.{totals_fault}
 use Rattle.jx_gather.specs.declared.faults.GatherFault.TheVariants as fault
 use Rattle.jx_gather.specs.Faults.{HasCause}
 use Rattle.jx_gather.specs.Shapes.{IsRead}
 use Rattle.jx_gather.specs.WellFormed.{IsWellFormed}
-use Rattle.jx_gather.specs.Gathered.{IsWhole, IsCutUp, AreTileBlocks, IsGathered, IsUncovered, BreaksTile, BreaksData, IsBroken}
+use Rattle.jx_gather.specs.Gathered.{IsWhole, AreTileBlocks, IsGathered, IsUncovered, BreaksTile, BreaksData, IsBroken}
 use Rattle.jx_gather.specs.Joined.{IsGatheredTo, with_tile}
-
-agree_below : {X : Type 0} (f g : ℕ → List X) (n : ℕ) → ((i : ℕ) → i < n → f i ≡ g i) → joined_below f 0 n ≡ joined_below g 0 n
-agree_below f g zero same = refl
-agree_below {X} f g (suc n) same =
-    let front : joined_below f 0 n ≡ joined_below g 0 n = agree_below f g n (λ i h. same i (omega (arith, h))) in
-    let last : f (0 + n) ≡ g (0 + n) = same (0 + n) (omega arith) in
-    rw front (ap (λ xs. joined_below g 0 n ++ xs) last)
-
-pub joined_agree : {X : Type 0} (f g : ℕ → List X) (n : ℕ) → ((i : ℕ) → i < n → f i ≡ g i) → joined f 0 n ≡ joined g 0 n
-unfolding joined
-joined_agree f g n same = let e : n - 0 ≡ n = omega arith in rw e (agree_below f g n same)
 
 pub gathered_none : (b : List ℕ) (s : Stream) → IsGatheredTo b s 0 []
 gathered_none b s = record {
@@ -48,7 +37,7 @@ pub gathered_next : (b : List ℕ) (s : Stream) (count : ℕ) (blocks next : Lis
     → IsGatheredTo b s (count + 1) (blocks ++ next)
 gathered_next b s count blocks next done own =
     let tiles : ℕ → List Block = with_tile done.tiles count next in
-    let front : joined tiles 0 count ≡ blocks = joined_agree tiles done.tiles count (λ i h. with_other done.tiles count next i h) ∙ sym done.blocks_are in
+    let front : joined tiles 0 count ≡ blocks = joined_same tiles done.tiles count (λ i h. with_other done.tiles count next i h) ∙ sym done.blocks_are in
     let last : tiles count ≡ next = with_own done.tiles count next in
     record {
       tiles = tiles;
@@ -72,9 +61,6 @@ tile_refused b s t blocks f whole below done breaks = record {
   before = λ i h. ((done.are i h).0, (done.are i h).1);
   breaks = breaks;
 }
-
-pub data_refused : (b : List ℕ) (s : Stream) (f : GatherFault) → totals_fault s ≡ None → BreaksData b s f → IsBroken b s f
-data_refused b s f totals breaks = inr (totals, inr breaks)
 
 -- a refusal of a tile is one of the codestream
 pub cause_of_tile : (b : List ℕ) (s : Stream) (t : ℕ) (blocks : List Block) (e : GatherFault) → ((t : ℕ) → t < tile_number s.siz → IsWhole s t) → t < tile_number s.siz

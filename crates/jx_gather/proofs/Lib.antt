@@ -1,5 +1,4 @@
 pub mod GatherLemmas
-pub mod ReadLemmas
 pub mod DataLemmas
 pub mod PacketLemmas
 pub mod PieceLemmas

@@ -6,10 +6,9 @@ use Rattle.std.proofs.lemmas.Bool.{cases_lt}
 use Rattle.jx_base.specs.declared.pieces.Block.{Block}
 use Rattle.jx_geom.specs.Geometry.{Geometry}
 use Rattle.jx_head.specs.declared.Part.{Part}
-use Rattle.jx_head.specs.declared.HeadFault.TheVariants.{Planes}
-use Rattle.jx_head.specs.Packet.{State, IsPacket, BreaksPlanes}
+use Rattle.jx_head.specs.Packet.{State}
 use Rattle.jx_head.specs.Precinct.{IsState}
-use Rattle.jx_head.proofs.PacketLemmas.{one_header, header_over, packet_none}
+use Rattle.jx_head.proofs.PacketLemmas.{one_header, planes_or_packet}
 use Rattle.jx_order.specs.declared.names.PacketName.{PacketName}
 use Rattle.jx_order.specs.Packets.{HasUncovered}
 use Rattle.jx_order.specs.Steps.{joined, joined_below}
@@ -69,9 +68,6 @@ body_clear w a b used parts f h k =
     (marks_clear (a + front_length w used) (b + front_length w used) (drop (front_length w used) w) parts f) h k
 
 -- ---- a packet
-pub planes_or_packet : (h : List ℕ) (k : State) (parts : List Part) (used : ℕ) (after : State) → IsState k → BreaksPlanes h k → IsPacket h k parts used after → ⊥
-planes_or_packet h k parts used after is x p = packet_none h k Planes parts after used is.bands (header_over h k is.bands x) p
-
 cut_of : PacketName → ℕ → ℕ → List Part → List ℕ → State → Cut
 cut_of n count used parts bytes after = record { name = n; count = count; used = used; parts = parts; bytes = bytes; after = after }
 
@@ -99,7 +95,7 @@ breaks_not_cut w at number k f c is x cut = elim x [
   | inl sop ↦ sop_clear w at 0 number f sop cut.sop
   | inr rest ↦ elim rest.1 [
     | inl header ↦ elim header [
-      | inl planes ↦ planes_or_packet (header_in w) k c.parts c.used c.after is planes.0 cut.header
+      | inl planes ↦ planes_or_packet (header_in w) k c.parts c.used c.after is.bands planes.0 cut.header
       | inr bits ↦ bits.1 c.parts c.used c.after cut.header
     ]
     | inr body ↦
@@ -119,7 +115,7 @@ header_breaks_once h at k f g x y = elim x [
 
 header_or_body : (w : List ℕ) (at : ℕ) (k : State) (f g : GatherFault) → IsState k → BreaksHeader (header_in w) at k f → BreaksBody w at k g → ⊥
 header_or_body w at k f g is x y = elim x [
-  | inl p ↦ planes_or_packet (header_in w) k y.parts y.used y.after is p.0 y.header
+  | inl p ↦ planes_or_packet (header_in w) k y.parts y.used y.after is.bands p.0 y.header
   | inr p ↦ p.1 y.parts y.used y.after y.header
 ]
 

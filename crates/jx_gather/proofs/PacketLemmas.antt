@@ -1,5 +1,5 @@
 -- One packet: its parts make a packet that was cut off, or what breaks a rule in it does so in the packet.
-use Rattle.std.proofs.Common.{◌≡◌, ℕ, ◌+◌, ◌<◌, ◌≤◌, Bool, true, false, List, [], ◌∷◌, ◌++◌, length, take, drop, Option, Some, None, refl, ap, sym, ◌∙◌, subst, inl, inr, arith, length-append}
+use Rattle.std.proofs.Common.{◌≡◌, ℕ, ◌+◌, ◌≤◌, Bool, true, false, List, [], ◌∷◌, length, take, drop, Option, Some, None, refl, ap, subst, inl, inr, arith, length-append}
 use Rattle.std.specs.Option.{option_or}
 use Rattle.jx_tagtree.specs.Header.{bits_of}
 use Rattle.jx_tagtree.proofs.LawLemmas.{ends_at}
@@ -8,8 +8,8 @@ use Rattle.jx_head.specs.Packet.{State, IsPacket, header_bits}
 use Rattle.jx_gather.specs.declared.faults.GatherFault.{GatherFault}
 use Rattle.jx_gather.specs.declared.faults.GatherFault.TheVariants as fault
 use Rattle.jx_gather.specs.Faults.{HasCause, broken}
-use Rattle.jx_gather.specs.Data.{sop_length, sop_fault, header_in, front_length, parts_length, first_mark, rule_30, marks_fault, body_fault}
-use Rattle.jx_gather.specs.Cuts.{Cut, IsCut, Breaks, BreaksHeader, BreaksBody}
+use Rattle.jx_gather.specs.Data.{sop_fault, header_in, front_length, parts_length, first_mark, rule_30, marks_fault, body_fault}
+use Rattle.jx_gather.specs.Cuts.{Cut, IsCut, Breaks, BreaksHeader}
 
 pub cause_on : (P Q : GatherFault → Type 0) (e : GatherFault) → ((f : GatherFault) → P f → Q f) → HasCause P e → HasCause Q e
 cause_on P Q (fault.Rule number place) on h = on (fault.Rule number place) h

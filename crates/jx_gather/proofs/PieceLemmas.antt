@@ -1,5 +1,5 @@
 -- The pieces of a packet, put to their blocks one after another.
-use Rattle.std.proofs.Common.{◌≡◌, ℕ, zero, suc, ◌+◌, ◌<◌, ◌≤◌, ◌^◌, List, [], ◌∷◌, length, get_or, set, drop, take, Option, Some, None, slice_get, refl, ap, sym, ◌∙◌, subst, arith, length-set, lit<, inl, inr, ◌⊎◌, All}
+use Rattle.std.proofs.Common.{◌≡◌, ℕ, zero, suc, ◌+◌, ◌<◌, ◌≤◌, ◌^◌, List, [], ◌∷◌, length, get_or, drop, take, Option, Some, None, slice_get, refl, ap, sym, ◌∙◌, subst, arith, length-set, lit<, inl, inr, ◌⊎◌, All}
 use Rattle.std.proofs.lemmas.Bool.{cases_eq}
 use Rattle.std.proofs.lemmas.List.{at_drop_more}
 use Rattle.std.proofs.lemmas.List.Elements.{All-head, All-tail}
@@ -11,23 +11,12 @@ use Rattle.jx_order.specs.declared.names.PacketName.{PacketName}
 use Rattle.jx_gather.specs.Blocks.{Found, founds_from}
 use Rattle.jx_gather.specs.Put.{put_to, put_at, put_one, put_all}
 use Rattle.jx_gather.specs.Reading.{CanPut, HasRoom, found_of}
+use Rattle.jx_gather.proofs.PutLemmas.{get-set_same, get-set_other}
 
 -- ---- passes only grow
 abbrev passes_of : Option Block → ℕ
 passes_of None = 0
 passes_of (Some b) = b.passes
-
-get_set_same : (xs : List Block) (i : ℕ) (y : Block) → i < length xs → slice_get (set xs i y) i ≡ Some y
-get_set_same [] i y h = absurd (omega arith)
-get_set_same (x ∷ xs) zero y h = refl
-get_set_same (x ∷ xs) (suc i) y h = get_set_same xs i y (omega arith)
-
-get_set_other : (xs : List Block) (i j : ℕ) (y : Block) → (i ≡ j → ⊥) → slice_get (set xs i y) j ≡ slice_get xs j
-get_set_other [] i j y h = refl
-get_set_other (x ∷ xs) zero zero y h = absurd (h refl)
-get_set_other (x ∷ xs) zero (suc j) y h = refl
-get_set_other (x ∷ xs) (suc i) zero y h = refl
-get_set_other (x ∷ xs) (suc i) (suc j) y h = get_set_other xs i j y (λ e. h (ap suc e))
 
 get_inside : (xs : List Block) (i : ℕ) → i < length xs → (b : Block) × (slice_get xs i ≡ Some b)
 get_inside [] i h = absurd (omega arith)
@@ -45,11 +34,11 @@ at_one blocks f o e = ap (λ (x : Option Block). put_at x blocks f) (sym e)
 
 one_here : (blocks : List Block) (f : Found) (b : Block) → slice_get blocks f.number ≡ Some b → slice_get (put_one blocks f) f.number ≡ Some (put_to b f)
 one_here blocks f b e =
-    ap (λ (xs : List Block). slice_get xs f.number) (sym (at_one blocks f (Some b) e)) ∙ get_set_same blocks f.number (put_to b f) (get_within blocks f.number b e)
+    ap (λ (xs : List Block). slice_get xs f.number) (sym (at_one blocks f (Some b) e)) ∙ get-set_same blocks f.number (put_to b f) (get_within blocks f.number b e)
 
 at_other : (o : Option Block) (blocks : List Block) (f : Found) (i : ℕ) → (f.number ≡ i → ⊥) → slice_get (put_at o blocks f) i ≡ slice_get blocks i
 at_other None blocks f i ne = refl
-at_other (Some b) blocks f i ne = get_set_other blocks f.number i (put_to b f) ne
+at_other (Some b) blocks f i ne = get-set_other blocks f.number i (put_to b f) (λ (e : i ≡ f.number). ne (sym e))
 
 one_other : (blocks : List Block) (f : Found) (i : ℕ) → (f.number ≡ i → ⊥) → slice_get (put_one blocks f) i ≡ slice_get blocks i
 unfolding put_one

@@ -1,5 +1,5 @@
 -- A stream that was read, within the limits 5 and 6, is ready: its precincts are told apart, and headers keep their states.
-use Rattle.std.proofs.Common.{◌≡◌, ℕ, ◌+◌, ◌*◌, ◌<◌, ◌≤◌, ◌^◌, List, None, refl, arith, length}
+use Rattle.std.proofs.Common.{◌≡◌, ℕ, ◌<◌, ◌≤◌, ◌^◌, List, None, refl, arith, length}
 use Rattle.jx_base.specs.declared.pieces.Block.{Block}
 use Rattle.jx_geom.specs.Geometry.{GeometryInRange}
 use Rattle.jx_stream.specs.declared.Stream.{Stream}
@@ -10,8 +10,7 @@ use Rattle.jx_gather.specs.InRange.{StreamInRange}
 use Rattle.jx_gather.specs.Totals.{totals_fault}
 use Rattle.jx_gather.specs.declared.faults.GatherFault.TheVariants as fault
 use Rattle.jx_gather.specs.Faults.{HasCause, IsMemory, IsOnly}
-use Rattle.jx_gather.specs.Covered.{LacksPacket}
-use Rattle.jx_gather.specs.Gathered.{IsWhole, IsGathered, IsBroken}
+use Rattle.jx_gather.specs.Gathered.{IsGathered, IsBroken}
 use Rattle.jx_gather.proofs.RangeLemmas.{read_in_range}
 use Rattle.jx_gather.proofs.TotalLemmas.{geometry_fits}
 use Rattle.jx_gather.proofs.NumberLemmas.{precinct_there, precinct_once}
@@ -64,9 +63,3 @@ pub only_first : (b : List ℕ) (s : Stream) (first e : GatherFault) → (totals
 only_first b s first (fault.Rule number place) r is broken = once.broken_once b s first (fault.Rule number place) r is broken
 only_first b s first (fault.Limit number found) r is broken = once.broken_once b s first (fault.Limit number found) r is broken
 only_first b s first fault.NoMemory r is broken = tt
-
--- a tile whose packets are covered lacks none
-pub lacks_none : (P : GatherFault → Type 0) (s : Stream) (t : ℕ) (e : GatherFault) → IsWhole s t → HasCause (LacksPacket s t) e → HasCause P e
-lacks_none P s t (fault.Rule number place) whole lacks = absurd (once.whole_or_uncovered s t whole lacks.some)
-lacks_none P s t (fault.Limit number found) whole lacks = absurd (once.whole_or_uncovered s t whole lacks.some)
-lacks_none P s t fault.NoMemory whole lacks = tt

@@ -1,6 +1,6 @@
 -- The packets of a tile, read one after another.
-use Rattle.std.proofs.Common.{◌≡◌, ℕ, zero, suc, ◌+◌, ◌-◌, ◌<◌, ◌≤◌, ◌^◌, List, [], ◌∷◌, ◌++◌, length, map, get_or, set, drop, take, Option, Some, None, slice_get, refl, ap, sym, ◌∙◌, subst, arith, length-set, inl, inr, ◌⊎◌, All, append_assoc, append-nil, ◌==◌, Bool, true, false, cond, length-take, length-drop, take-append-drop}
-use Rattle.std.specs.List.{flat_map, AllByRecursion}
+use Rattle.std.proofs.Common.{◌≡◌, ℕ, suc, ◌+◌, ◌-◌, ◌<◌, ◌≤◌, ◌^◌, List, [], ◌∷◌, ◌++◌, length, get_or, set, drop, take, Some, slice_get, refl, ap, sym, ◌∙◌, subst, arith, inl, inr, All, append-nil, ◌==◌, Bool, true, false, cond, length-take, take-append-drop}
+use Rattle.std.specs.List.{flat_map}
 use Rattle.std.proofs.lemmas.List.{at_drop_more, at_drop_all, take_more}
 use Rattle.std.proofs.lemmas.List.Concat.{flat_map-append}
 use Rattle.std.proofs.lemmas.List.Elements.{All-head, All-tail, All-cons, All-weaker}
@@ -9,24 +9,23 @@ use Rattle.jx_base.specs.declared.pieces.Block.{Block}
 use Rattle.jx_geom.specs.Geometry.{Geometry, GeometryInRange, rect_of_tile}
 use Rattle.jx_geom.specs.Counts.{tile_blocks as count_in_tile}
 use Rattle.jx_head.specs.declared.Part.{Part}
-use Rattle.jx_head.specs.Packet.{State, IsPacket}
+use Rattle.jx_head.specs.Packet.{State}
 use Rattle.jx_head.specs.Precinct.{IsState, all_blocks}
 use Rattle.jx_order.specs.declared.names.PacketName.{PacketName}
 use Rattle.jx_stream.specs.declared.Body.{Body}
 use Rattle.jx_stream.specs.declared.Stream.{Stream}
-use Rattle.jx_stream.specs.First.{tile_number}
 use Rattle.jx_gather.specs.declared.faults.GatherFault.{GatherFault}
 use Rattle.jx_gather.specs.declared.faults.GatherFault.TheVariants as fault
 use Rattle.jx_gather.specs.declared.packet.Packet.{Packet}
 use Rattle.jx_gather.specs.Faults.{HasCause}
 use Rattle.jx_gather.specs.Shapes.{geometry, layers_of, tile_at}
-use Rattle.jx_gather.specs.Cells.{HasPrecinct, fresh_precinct, leaf_number, precinct_number}
+use Rattle.jx_gather.specs.Cells.{HasPrecinct, leaf_number}
 use Rattle.jx_gather.specs.Leaves.{leaves}
 use Rattle.jx_gather.specs.Data.{window, due, behind, end_of_data, header_in}
-use Rattle.jx_gather.specs.Cuts.{Cut, Left, IsCut, IsTurn, AreCuts, names_of, number_of, Breaks, BreaksDue, Stops}
+use Rattle.jx_gather.specs.Cuts.{Cut, Left, IsCut, IsTurn, AreCuts, names_of, number_of, Breaks}
 use Rattle.jx_gather.specs.Blocks.{Found, founds_from, founds_in, founds_of, tile_blocks}
 use Rattle.jx_gather.specs.Put.{put_one, put_all}
-use Rattle.jx_gather.specs.Gathered.{IsListOf, IsWhole, IsCutUp, AreTileBlocks, BreaksTile, start}
+use Rattle.jx_gather.specs.Gathered.{IsListOf, AreTileBlocks, BreaksTile, start}
 use Rattle.jx_gather.specs.Reading.{cut_of, CanPut, state_at, no_state, AreInside, IsFront, IsTask}
 use Rattle.jx_gather.proofs.TotalLemmas.{geometry_fits}
 use Rattle.jx_gather.proofs.CellLemmas.{leaf_count, leaf_below}

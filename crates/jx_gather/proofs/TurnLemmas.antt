@@ -1,5 +1,5 @@
 -- Packets in their turn: when a packet is due, its precinct's state is at its layer.
-use Rattle.std.proofs.Common.{◌≡◌, ℕ, zero, suc, ◌+◌, ◌<◌, ◌≤◌, List, [], ◌∷◌, ◌++◌, Some, inl, inr, ◌∙◌, ap, sym, subst, refl, arith, length, set, take, drop, append_assoc, append-nil, length-drop, length-take}
+use Rattle.std.proofs.Common.{◌≡◌, ℕ, ◌+◌, ◌<◌, ◌≤◌, List, [], ◌∷◌, ◌++◌, Some, inl, inr, ◌∙◌, ap, sym, subst, refl, arith, length, set, take, drop, append_assoc, append-nil, length-drop, length-take}
 use Rattle.std.specs.Prelude.{◌↔◌, slice_get}
 use Rattle.std.specs.List.{AllPairs, Contains}
 use Rattle.std.proofs.lemmas.Bool.{cases_lt, cases_eq}
@@ -21,6 +21,7 @@ use Rattle.jx_gather.specs.Cells.{HasPrecinct, fresh_precinct, fresh_precincts, 
 use Rattle.jx_gather.specs.Data.{window, header_in, sop_length}
 use Rattle.jx_gather.specs.Cuts.{Cut, Left, IsTurn, AreCuts, names_of, number_of}
 use Rattle.jx_gather.specs.Gathered.{IsListOf, IsWhole, start}
+use Rattle.jx_gather.proofs.PutLemmas.{get-set_same, get-set_other}
 
 -- ---- what is cited of a tile's precincts and of their states
 pub record Precincts (s : Stream) (g : Geometry) : Type 0 where
@@ -69,18 +70,6 @@ pairs_back R [] ys h = h
 pairs_back R (z ∷ zs) ys h = pairs_back R zs ys (pairs_tail R z (zs ++ ys) h)
 
 -- ---- an item that is set
-get_set_same : {X : Type 0} (xs : List X) (i : ℕ) (y : X) → i < length xs → slice_get (set xs i y) i ≡ Some y
-get_set_same [] i y h = absurd (omega arith)
-get_set_same (x ∷ xs) zero y h = refl
-get_set_same (x ∷ xs) (suc i) y h = get_set_same xs i y (omega arith)
-
-get_set_other : {X : Type 0} (xs : List X) (i j : ℕ) (y : X) → (i ≡ j → ⊥) → slice_get (set xs i y) j ≡ slice_get xs j
-get_set_other [] i j y h = refl
-get_set_other (x ∷ xs) zero zero y h = absurd (h refl)
-get_set_other (x ∷ xs) zero (suc j) y h = refl
-get_set_other (x ∷ xs) (suc i) zero y h = refl
-get_set_other (x ∷ xs) (suc i) (suc j) y h = get_set_other xs i j y (λ e. h (ap suc e))
-
 -- ---- what is known of a precinct, where these packets were read
 pub record Known (s : Stream) (g : Geometry) (layers : ℕ) (done : List PacketName) (states : List State) (c r k : ℕ) : Type 0 where
   pub state : State
@@ -196,7 +185,7 @@ own_known b s g layers list done rest number old c new keeps h e k t =
     let next : c.after.layer ≡ p.layer + 1 = (let l : k.state.layer ≡ t.state.layer = ap (λ (x : State). x.layer) same in omega arith) in
     let states : new.states ≡ set old.states (number_of g p) c.after = ap (λ (x : Left). x.states) t.new_is in
     let set_it : slice_get (set old.states (number_of g p) c.after) (number_of g p) ≡ Some c.after =
-    get_set_same old.states (number_of g p) c.after (slice_get_within old.states (number_of g p) t.state t.known) in
+    get-set_same old.states (number_of g p) c.after (slice_get_within old.states (number_of g p) t.state t.known) in
     record {
       state = c.after;
       known = ap (λ (xs : List State). slice_get xs (number_of g p)) states ∙ set_it;
@@ -230,7 +219,7 @@ other_known b s g layers done number old c new e r k other t was =
     record {
       state = was.state;
       known = ap (λ (xs : List State). slice_get xs (precinct_number g e r k)) states
-          ∙ get_set_other old.states (number_of g p) (precinct_number g e r k) c.after other ∙ was.known;
+          ∙ get-set_other old.states (number_of g p) (precinct_number g e r k) c.after (λ (x : precinct_number g e r k ≡ number_of g p). other (sym x)) ∙ was.known;
       is = was.is;
       style = was.style;
       blocks = was.blocks;

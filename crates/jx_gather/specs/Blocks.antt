@@ -1,5 +1,5 @@
 -- The code-blocks of a tile and their pieces, joined over the layers (ITU-T T.800, B.7 and B.10).
-use Rattle.std.specs.Prelude.{◌≡◌, ℕ, ◌+◌, ◌==◌, Bool, List, [], ◌∷◌, length, map, take, drop, Option, None, Some, sum_by, slice_index_or}
+use Rattle.std.specs.Prelude.{ℕ, ◌+◌, ◌==◌, List, [], ◌∷◌, length, map, take, drop, Option, None, Some, sum_by, slice_index_or}
 use Rattle.std.specs.List.{filter, flat_map}
 use Rattle.jx_base.specs.declared.names.Band.{Band}
 use Rattle.jx_base.specs.declared.names.BlockName.{BlockName}

@@ -1,5 +1,5 @@
 -- The code-blocks of a precinct, their numbers, and the precincts of a tile one after another (ITU-T T.800, B.6, B.7 and B.9).
-use Rattle.std.specs.Prelude.{◌≡◌, ◌<◌, ℕ, ◌+◌, ◌-◌, ◌*◌, ◌==◌, nat_lt, List, [], ◌∷◌, length, map, take, if◌then◌else◌}
+use Rattle.std.specs.Prelude.{◌<◌, ℕ, ◌+◌, ◌-◌, ◌*◌, ◌==◌, nat_lt, List, [], ◌∷◌, length, map, take, if◌then◌else◌}
 use Rattle.jx_base.specs.declared.names.Rect.{Rect}
 use Rattle.jx_base.specs.declared.names.Band.{Band}
 use Rattle.jx_base.specs.declared.names.Band.TheVariants.{LL, HL, LH, HH}

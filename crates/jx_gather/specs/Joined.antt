@@ -1,5 +1,5 @@
 -- Inner: the tiles of a codestream gathered one after another.
-use Rattle.std.specs.Prelude.{◌≡◌, ◌<◌, ℕ, ◌==◌, List, [], if◌then◌else◌}
+use Rattle.std.specs.Prelude.{◌≡◌, ◌<◌, ℕ, ◌==◌, List, if◌then◌else◌}
 use Rattle.jx_base.specs.declared.pieces.Block.{Block}
 use Rattle.jx_order.specs.Steps.{joined}
 use Rattle.jx_stream.specs.declared.Stream.{Stream}

@@ -1,5 +1,5 @@
 -- Inner: pieces put to their blocks one after another.
-use Rattle.std.specs.Prelude.{ℕ, ◌+◌, ◌==◌, ◌++◌, List, [], ◌∷◌, Option, None, Some, slice_get, slice_set, length, if◌then◌else◌}
+use Rattle.std.specs.Prelude.{◌+◌, ◌==◌, ◌++◌, List, [], ◌∷◌, Option, None, Some, slice_get, slice_set, length, if◌then◌else◌}
 use Rattle.jx_base.specs.declared.pieces.Block.{Block}
 use Rattle.jx_gather.specs.Blocks.{Found}
 

@@ -1,7 +1,6 @@
 -- The tiles of a stream as geometry (ITU-T T.800, A.5, A.6 and B.3).
 use Rattle.std.specs.Prelude.{◌≡◌, ℕ, List, [], length, map, None, slice_index_or}
 use Rattle.std.specs.List.{range_with_len}
-use Rattle.jx_base.specs.declared.names.Band.{Band}
 use Rattle.jx_marker.specs.declared.CompSize.{CompSize}
 use Rattle.jx_geom.specs.declared.shape.CompShape.{CompShape}
 use Rattle.jx_geom.specs.Geometry.{Geometry}

@@ -75,7 +75,7 @@ fn told(fault: GatherFault) -> (u8, u128) {
 
 // The blocks of a file, each as its planes, zero planes, passes, pieces and bytes; what is said of a fault; or 200 where its
 // headers are refused.
-#[tactic(auto, using(crate::proofs::ReadLemmas::read_is))]
+#[tactic(auto, using(crate::proofs::RangeLemmas::is_read))]
 fn blocks_of(
     alloc: Global,
     bytes: &[u8],
@@ -134,6 +134,8 @@ const ROWS: &str = "
 71 80 00000011_0001_FF93_C02103 0 0
 71 80 0000000F_0001_FF93_80 0 0
 71 80 00000017_0001_FF93_FF910004000000FF92 0 0
+71 80 00000019_0001_FF93_FF9100040000C021FF9205 0 0
+71 80 00000013_0001_FF93_FF91000400 26 79
 49 50 06 0 0
 ";
 

@@ -126,7 +126,7 @@ fn tile_fault(alloc: Global, input: &[u8], stream: &Stream) -> Result<(), Stream
 }
 
 /// What is first violated or passed in the headers, else in the tile data.
-#[tactic(auto, using(jx_gather::proofs::ReadLemmas::read_is))]
+#[tactic(auto, using(jx_gather::proofs::RangeLemmas::is_read))]
 fn input_fault(alloc: Global, input: &[u8]) -> Result<(), StreamFault>
     requires { length input.now ≤ most_bytes }
     ensures ok { OnOk result (IsClean input.now) }

@@ -1,4 +1,4 @@
-use Rattle.std.proofs.Common.{◌≡◌, arith}
+use Rattle.std.proofs.Common.{arith}
 use Rattle.std.proofs.lemmas.List.Elements.{All-append}
 use Rattle.jx_base.specs.Sound.{IsSound}
 use Rattle.jx_gather.proofs.GatherLemmas.{gathered_next, cause_of_tile}

@@ -1,4 +1,3 @@
-use Rattle.std.proofs.Common.{◌≡◌, ◌≤◌}
 use Rattle.std.specs.List.{All}
 use Rattle.jx_base.specs.Sound.{IsSound}
 use Rattle.jx_gather.specs.Joined.{IsGatheredTo}

@@ -1,5 +1,5 @@
-use Rattle.std.proofs.Common.{◌≡◌, ◌+◌, ◌≤◌, List, ℕ, length, drop, take, ap, sym, ◌∙◌, arith, length-drop}
-use Rattle.jx_gather.specs.Data.{header_in, front_length, parts_length}
+use Rattle.std.proofs.Common.{◌≤◌, List, ℕ, length, drop, take, ap, ◌∙◌, arith, length-drop}
+use Rattle.jx_gather.specs.Data.{header_in, front_length}
 use Rattle.jx_gather.proofs.PacketLemmas.{packet_within, head_breaks, body_breaks, cut_made}
 use Rattle.jx_gather.proofs.packet.read_packet.Goals as goal
 

@@ -1,11 +1,11 @@
-use Rattle.std.proofs.Common.{◌≡◌, ℕ, List, [], ◌∷◌, ap, sym, ◌∙◌, subst}
+use Rattle.std.proofs.Common.{ℕ, List, [], ◌∷◌, ap, sym, ◌∙◌, subst}
 use Rattle.jx_geom.specs.Geometry.{Geometry}
 use Rattle.jx_stream.specs.declared.Body.{Body}
 use Rattle.jx_stream.specs.declared.Tile.{Tile}
 use Rattle.jx_gather.specs.Shapes.{tile_at}
 use Rattle.jx_gather.specs.Cells.{fresh_precincts}
 use Rattle.jx_gather.specs.Data.{due}
-use Rattle.jx_gather.specs.Reading.{AreInside, IsFront, IsTask}
+use Rattle.jx_gather.specs.Reading.{IsFront, IsTask}
 use Rattle.jx_gather.proofs.TileLemmas.{first_front, first_inside}
 use Rattle.jx_gather.proofs.tile.read_tile.Goals as goal
 
