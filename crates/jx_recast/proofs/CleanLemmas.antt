@@ -16,15 +16,14 @@ use Rattle.jx_stream.specs.declared.Tile.{Tile}
 use Rattle.jx_stream.specs.Parts.{comes_out_of_turn}
 use Rattle.jx_stream.specs.Tiles.{entry_of, tile_of}
 use Rattle.jx_stream.specs.Params.{planes_of, planes_fault, tile_has_too_few, tile_planes}
-use Rattle.jx_stream.specs.First.{tile_number, tiles_fault, first_fault}
+use Rattle.jx_stream.specs.First.{tile_number, tiles_fault}
 use Rattle.jx_stream.specs.Spells.{TilePart, all_bytes, head_bytes, file_bytes, placed, first_sot, Spells}
 use Rattle.jx_stream.proofs.PartLemmas.{both, is_equal}
 use Rattle.jx_stream.proofs.FirstLemmas.{canvas_fits}
 use Rattle.jx_stream.proofs.OneLemmas.{drop_on}
-use Rattle.jx_stream.proofs.UniqueLemmas.{clear_limits}
 use Rattle.jx_gather.specs.Shapes.{no_size}
 use Rattle.jx_recast.specs.declared.small.Headers.{Headers}
-use Rattle.jx_recast.specs.Small.{AreInRange, IsSmall, headers_at, packet_at, is_one_of_each, is_one_component, is_one_tile, is_one_packet, is_one_block, is_one_step, is_one_part, spelled, with_sop, has_grid_sampling}
+use Rattle.jx_recast.specs.Small.{AreInRange, is_one_of_each, is_one_component, is_one_tile, is_one_packet, is_one_block, is_one_step, is_one_part, spelled, with_sop, has_grid_sampling}
 use Rattle.jx_recast.proofs.OneTileLemmas.{one_along}
 
 -- what the tests of the headers say
@@ -253,18 +252,6 @@ module _ (b : List ℕ) (h : Headers) (body : List ℕ) (whole : b ≡ spelled h
       drop_on b (2 + length (spelling 1 (segment.Siz h.siz))) (length (all_bytes 1 two_segments)) (all_bytes 1 two_segments) (rest_sot h body)
       (cod ∙ regroup_two (spelling 1 (segment.Cod h.cod)) (spelling 1 (segment.Qcd h.quant)) (rest_sot h body)) refl in
       drop_on b sot_place 14 (spelling 1 (segment.Sot h.sot) ++ spelling 1 segment.Sod) (body ++ spelling 1 segment.Eoc) sot refl
-
--- the whole file
-
-pub small_is_clean : (bytes : List ℕ) → IsSmall bytes → first_fault bytes ≡ None
-small_is_clean bytes small =
-    let h = headers_at bytes in
-    let body = packet_at bytes ∷ [] in
-    let whole = small.spells.whole in
-    let ranges = small.spells.ranges in
-    let single = is_single h small.single in
-    clear_limits bytes (the_stream bytes h body whole ranges single) (spells_stream bytes h body whole ranges single)
-    (tiles_none bytes h body whole ranges single) (stream_planes bytes h body whole ranges single)
 
 -- the headers of its output are of the same kind, before seven bytes of data
 pub is_single_output : (h : Headers) → IsSingle h 1 → IsSingle (with_sop h) 7

@@ -1,13 +1,13 @@
 //! Laws over the definitions of the smallest codestreams and their outputs. The functions do nothing:
 //! their contracts carry the laws.
-ghost use Rattle.std.specs.Prelude.{◌≡◌, ◌≤◌, ◌⊎◌, ◌∷◌, [], ℕ, List, None, length};
+ghost use Rattle.std.specs.Prelude.{◌≡◌, ◌≤◌, ◌⊎◌, ◌∷◌, [], ℕ, List, length};
 ghost use Rattle.jx_recast.specs.declared.small.Headers.{Headers};
 ghost use Rattle.jx_recast.specs.declared.status.Status.{Status};
 ghost use Rattle.jx_recast.specs.Judged.{IsClean};
 ghost use Rattle.jx_recast.specs.OneBlock.{KeepsBlock};
 ghost use Rattle.jx_recast.specs.Outcome.{Verdict, most_bytes};
 ghost use Rattle.jx_recast.specs.Small.{AreInRange, IsSmall, Spells, headers_at, marked_packet, output, packet_at, spelled, with_sop};
-ghost use Rattle.jx_stream.specs.First.{first_fault, stream_in};
+ghost use Rattle.jx_stream.specs.First.{stream_in};
 ghost use Rattle.jx_gather.specs.Accepted.{IsAccepted};
 
 /// The bytes of a codestream of this form tell its headers and its packet.
@@ -21,11 +21,6 @@ pub fn one_reading()
 pub fn output_is_spelled()
     ensures ranges { (bytes : List ℕ) → IsSmall bytes → AreInRange (with_sop (headers_at bytes)) }
     ensures spelled { (bytes : List ℕ) → output bytes ≡ spelled (with_sop (headers_at bytes)) marked_packet }
-{}
-
-/// The smallest codestreams violate no rule and pass no limit.
-pub fn small_violates_nothing()
-    ensures { (bytes : List ℕ) → IsSmall bytes → first_fault bytes ≡ None }
 {}
 
 /// The smallest codestreams are read whole: they violate none of the rules 1 to 31 and pass none of the limits

@@ -1,1 +1,1 @@
--- The program cites no definition of its own.
+pub mod Ended

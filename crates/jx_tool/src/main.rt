@@ -1,7 +1,11 @@
 //! `jx`, the transcoder: real files, standard output, and the status that the process ends with.
 #![tactic(auto)]
 
-use jx_outside::{StdFiles, StdSink};
+ghost use Rattle.std.specs.Prelude.{◌≡◌, true, map, string_bytes, IfErr};
+ghost use Rattle.jx_recast.specs.Words.{is_good, request_of};
+ghost use Rattle.jx_tool.specs.Ended.{IsEnded};
+
+use jx_outside::{Files, Sink, StdFiles, StdSink};
 use jx_recast::{Status, run};
 use std::alloc::Global;
 use std::env::Args;
@@ -9,7 +13,9 @@ use std::process::ExitCode;
 use std::{env, io};
 
 /// The words of the command line. A word that is no text makes none of them good.
-fn words_of(alloc: Global, args: io::Result<Args>) -> Result<Vec<String>, Status> {
+fn words_of(alloc: Global, args: io::Result<Args>) -> Result<Vec<String>, Status>
+    ensures { IfErr result (λ status. status ≡ Status.NoMemory) }
+{
     match args {
         Ok(args) => match args.collect::<Vec<String>>(alloc) {
             Ok(words) => Ok(words),
@@ -24,6 +30,16 @@ fn words_of(alloc: Global, args: io::Result<Args>) -> Result<Vec<String>, Status
     }
 }
 
+/// Runs on these words; the number with which the process ends.
+fn end_of<F: Files, S: Sink>(alloc: Global, words: &[String], files: &mut F, say: &mut S) -> u8
+    requires opens { is_good (map string_bytes words.now) ≡ true → F.can_open files.old (request_of (map string_bytes words.now)).from }
+    requires creates { is_good (map string_bytes words.now) ≡ true → F.can_create files.old (request_of (map string_bytes words.now)).to }
+    ensures { IsEnded (map string_bytes words.now) result (F.meaning files.old) (F.meaning files.new) (S.said say.old) (S.said say.new) }
+{
+    let report = run(alloc, words, files, say);
+    report.status.number()
+}
+
 fn main(rt: HostRuntime) -> ExitCode {
     let alloc = rt.alloc();
     let words = match words_of(alloc, env::args(&rt)) {
@@ -32,6 +48,5 @@ fn main(rt: HostRuntime) -> ExitCode {
     };
     let mut files = StdFiles::new(&rt);
     let mut say = StdSink::new(&rt);
-    let report = run(alloc, &words, &mut files, &mut say);
-    ExitCode::from(report.status.number())
+    ExitCode::from(end_of(alloc, &words, &mut files, &mut say))
 }
