@@ -1,1 +1,5 @@
 pub mod Ceilings
+pub mod Joined
+pub mod Lists
+pub mod Raster
+pub mod Sums

@@ -1,4 +1,6 @@
 -- Definitions that several crates cite.
+pub mod Bands
+pub mod Joined
 pub mod Markers
 pub mod MqReading
 pub mod MqTable

@@ -11,6 +11,18 @@ bypasses style = style % 2 == 1
 abbrev pub terminates : ℕ → Bool
 terminates style = style / 4 % 2 == 1
 
+-- style bit 1: reset of the contexts on each coding pass
+abbrev pub resets : ℕ → Bool
+resets style = style / 2 % 2 == 1
+
+-- style bit 3: vertically causal contexts
+abbrev pub is_causal : ℕ → Bool
+is_causal style = style / 8 % 2 == 1
+
+-- style bit 5: segmentation symbols
+abbrev pub has_symbols : ℕ → Bool
+has_symbols style = style / 32 % 2 == 1
+
 -- whether a pass is raw
 abbrev pub raw_pass : ℕ → ℕ → Bool
 raw_pass style pass = bypasses style && nat_le 10 pass && not (pass % 3 == 0)

@@ -34,6 +34,10 @@ column_at r n = r.x.low + n % length_of r.x
 abbrev pub row_at : Rect → ℕ → ℕ
 row_at r n = r.y.low + n / length_of r.x
 
+-- and back: the number of the place of a column and a row
+abbrev pub number_at : Rect → ℕ → ℕ → ℕ
+number_at r x y = (y - r.y.low) * length_of r.x + (x - r.x.low)
+
 -- exactly one number has the property
 pub record ExactlyOne (P : ℕ → Type 0) : Type 0 where
   pub number : ℕ

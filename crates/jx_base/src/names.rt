@@ -1,5 +1,9 @@
 //! Names of bands and blocks, and sets of places with straight borders.
 
+ghost use Rattle.std.specs.Prelude.{◌≡◌, ◌<◌};
+ghost use Rattle.jx_base.specs.Bands.{bands_at};
+ghost use Rattle.jx_base.specs.Places.{InRect, column_at, length_of, number_at, row_at, size_of};
+
 /// The kind of a band: how it was filtered across and down (T.800, B.5).
 #[derive(Clone, Copy, Debug, PartialEq, Eq)]
 pub enum Band {
@@ -11,6 +15,18 @@ pub enum Band {
     LH,
     /// High both ways.
     HH,
+}
+
+impl Band {
+    /// The bands of a resolution in their order: LL; above resolution 0 HL, LH, HH.
+    pub fn of_resolution(res: u8) -> &'static [Band]
+        ensures { result.now ≡ bands_at res }
+    {
+        if res == 0 {
+            return &[Band::LL];
+        }
+        &[Band::HL, Band::LH, Band::HH]
+    }
 }
 
 /// The numbers from `low` on below `high`; none where `high` isn't above `low`.
@@ -29,6 +45,47 @@ pub struct Rect {
     pub x: Span,
     /// The rows.
     pub y: Span,
+}
+
+impl Span {
+    /// How many numbers it has.
+    pub fn len(self) -> u32
+        ensures { result ≡ length_of self }
+    {
+        self.high.saturating_sub(self.low)
+    }
+}
+
+impl Rect {
+    /// How many places it has.
+    pub fn area(self) -> u64
+        ensures { result ≡ size_of self }
+    {
+        u64::from(self.x.len()) * u64::from(self.y.len())
+    }
+
+    /// The number of a place, row by row from above, each from the left.
+    pub fn number(self, column: u32, row: u32) -> u64
+        requires { InRect self column row }
+        ensures value { result ≡ number_at self column row }
+        ensures below { result < size_of self }
+    {
+        u64::from(row - self.y.low) * u64::from(self.x.len()) + u64::from(column - self.x.low)
+    }
+
+    /// The column and the row of the place of a number.
+    pub fn place(self, number: u64) -> (u32, u32)
+        requires { number < size_of self }
+        ensures column { result.0 ≡ column_at self number }
+        ensures row { result.1 ≡ row_at self number }
+        ensures inside { InRect self result.0 result.1 }
+    {
+        let wide = u64::from(self.x.len());
+        (
+            self.x.low + (number % wide) as u32,
+            self.y.low + (number / wide) as u32,
+        )
+    }
 }
 
 /// A code-block's name within the codestream (T.800, B.7).

@@ -45,6 +45,20 @@ impl<'a> Pieces<'a> {
         }
     }
 
+    /// The pieces of a list. It takes no memory.
+    pub fn from_vec(items: Vec<Piece<'a>>) -> Pieces<'a>
+        ensures { result ≡ map value_of items.entry.items }
+    {
+        Pieces { items }
+    }
+
+    /// The list of the pieces. It takes no memory.
+    pub fn into_vec(self) -> Vec<Piece<'a>>
+        ensures { map value_of result.items ≡ self.entry }
+    {
+        self.items
+    }
+
     /// The pieces.
     pub fn as_slice(&self) -> &[Piece<'a>]
         ensures { map value_of result.now ≡ self.now }

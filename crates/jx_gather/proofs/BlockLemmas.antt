@@ -10,18 +10,20 @@ use Rattle.jx_base.specs.declared.pieces.Block.{Block}
 use Rattle.jx_base.specs.Places.{size_of}
 use Rattle.jx_geom.specs.declared.shape.CompShape.{CompShape}
 use Rattle.jx_geom.specs.Rects.{tile_rect}
-use Rattle.jx_geom.specs.Counts.{sum_below, block_count, blocks_before_band, tile_count}
+use Rattle.jx_geom.specs.Counts.{block_count, blocks_before_band, tile_count}
 use Rattle.jx_geom.specs.Counts.{resolution_blocks as count_in_resolution, component_blocks as count_in_component, tile_blocks as count_in_tile}
 use Rattle.jx_geom.specs.Geometry.{Geometry, GeometryInRange, HasBlock, shape_of, rect_of_tile, blocks_in}
 use Rattle.jx_geom.specs.Numbering.{number_in_tile, number_in_component, geometry_of, blocks_below, block_number}
 use Rattle.jx_geom.specs.Ranges.{HasBand}
-use Rattle.jx_geom.proofs.CountLemmas.{sum_below_more, resolution_low, resolution_high, band_within}
+use Rattle.jx_geom.proofs.CountLemmas.{resolution_low, resolution_high, band_within}
 use Rattle.jx_geom.proofs.NumberLemmas.{number_in_tile_below, block_number_taken}
-use Rattle.jx_order.specs.Steps.{joined}
 use Rattle.jx_stream.specs.declared.Stream.{Stream}
 use Rattle.jx_gather.specs.Blocks.{Found, block_of, one_block, band_blocks, resolution_blocks, component_blocks, tile_blocks}
-use Rattle.jx_gather.specs.Cells.{bands_at}
-use Rattle.jx_gather.proofs.NumberLemmas.{get_left, get_right, joined_length, joined_at, sum_once, front_sum, whole_sum}
+use Rattle.jx_base.specs.Joined.{joined, sum_below}
+use Rattle.jx_base.proofs.Sums.{sum_below_more, sum_once, front_sum, whole_sum}
+use Rattle.jx_base.proofs.Lists.{get_left, get_right}
+use Rattle.jx_base.proofs.Joined.{joined_length, joined_at}
+use Rattle.jx_base.specs.Bands.{bands_at}
 
 -- the bands of a resolution
 pub bands_low : (r : ℕ) → r ≡ 0 → bands_at r ≡ LL ∷ []
@@ -126,7 +128,7 @@ pub blocks_long : (s : Stream) (g : Geometry) (founds : List Found) → length (
 unfolding tile_blocks
 blocks_long s g founds =
     joined_length (component_blocks s g founds) (λ c. count_in_component (rect_of_tile g) (shape_of g c)) (length g.shapes) (component_long s g founds)
-    ∙ sym (whole_sum (count_in_component (rect_of_tile g)) g.shapes)
+    ∙ sym (whole_sum (count_in_component (rect_of_tile g)) g.shapes no_shape)
 
 in_component : (s : Stream) (g : Geometry) (founds : List Found) (n : BlockName) → HasBlock g n
     → slice_get (component_blocks s g founds n.comp) (number_in_component (rect_of_tile g) (shape_of g n.comp) n.res n.band n.index)
@@ -154,7 +156,7 @@ number_is : (g : Geometry) (n : BlockName) → n.comp ≤ length g.shapes
     → number_in_tile g n ≡ sum_below (λ c. count_in_component (rect_of_tile g) (shape_of g c)) n.comp
     + number_in_component (rect_of_tile g) (shape_of g n.comp) n.res n.band n.index
 unfolding number_in_tile
-number_is g n le = omega (arith, front_sum (count_in_component (rect_of_tile g)) g.shapes n.comp le)
+number_is g n le = omega (arith, front_sum (count_in_component (rect_of_tile g)) g.shapes no_shape n.comp le)
 
 in_tile : (s : Stream) (g : Geometry) (founds : List Found) (n : BlockName) → HasBlock g n
     → slice_get (tile_blocks s g founds) (number_in_tile g n) ≡ Some (block_of s g founds (named g n.comp n.res n.band n.index))

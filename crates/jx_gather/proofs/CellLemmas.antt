@@ -14,15 +14,16 @@ use Rattle.jx_geom.specs.Numbering.{band_place, number_in_tile}
 use Rattle.jx_geom.specs.Ranges.{HasBand}
 use Rattle.jx_geom.proofs.LawLemmas.{precinct_blocks_to, block_cell_from, block_in_one_precinct}
 use Rattle.jx_geom.proofs.NumberLemmas.{number_in_tile_below, number_in_tile_grows}
-use Rattle.jx_geom.proofs.RasterLemmas.{raster_in, number_below, number_column, number_row, raster_one}
 use Rattle.jx_head.specs.declared.BandCells.{BandCells}
 use Rattle.jx_head.specs.Packet.{unknown_block}
 use Rattle.jx_head.specs.Precinct.{cells_in, fresh_bands, fresh_cells, all_blocks}
 use Rattle.jx_stream.specs.declared.Stream.{Stream}
 use Rattle.jx_stream.specs.Params.{planes_at}
-use Rattle.jx_gather.specs.Cells.{HasPrecinct, bands_at, cells_at, sizes_of, precinct_bands, fresh_precinct, leaf_index, name_from, leaf_name, leaf_number}
+use Rattle.jx_gather.specs.Cells.{HasPrecinct, cells_at, sizes_of, precinct_bands, fresh_precinct, leaf_index, name_from, leaf_name, leaf_number}
 use Rattle.jx_gather.specs.Leaves.{leaves, leaves_in}
 use Rattle.jx_gather.proofs.BlockLemmas.{bands_low, bands_high}
+use Rattle.jx_base.proofs.Raster.{raster_in, number_below, number_column, number_row, raster_one}
+use Rattle.jx_base.specs.Bands.{bands_at}
 
 -- how many blocks a band of a precinct has
 abbrev pub pick : Rect → ℕ → Bool → BandCells

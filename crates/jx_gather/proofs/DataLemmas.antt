@@ -2,16 +2,14 @@
 use Rattle.std.proofs.Common.{◌≡◌, ℕ, ◌+◌, ◌-◌, ◌<◌, ◌≤◌, suc, true, false, List, ◌∷◌, Some, None, refl, arith}
 use Rattle.std.specs.List.{find, range_with_len}
 use Rattle.jx_gather.specs.Data.{is_marked}
-
-range_on : (i n : ℕ) → i < n → range_with_len i (n - i) ≡ i ∷ range_with_len (i + 1) (n - (i + 1))
-range_on i n h = let e : n - i ≡ suc (n - (i + 1)) = omega arith in rw e refl
+use Rattle.jx_base.proofs.Lists.{range_next}
 
 pub mark_here : (bytes : List ℕ) (i n : ℕ) → i < n → is_marked bytes i ≡ true → find (is_marked bytes) (range_with_len i (n - i)) ≡ Some i
-mark_here bytes i n h e = rw range_on (rw e refl)
+mark_here bytes i n h e = rw range_next (rw e refl)
 
 pub mark_on : (bytes : List ℕ) (i n : ℕ) → i < n → is_marked bytes i ≡ false →
     find (is_marked bytes) (range_with_len i (n - i)) ≡ find (is_marked bytes) (range_with_len (i + 1) (n - (i + 1)))
-mark_on bytes i n h e = rw (range_on i n h) (rw e refl)
+mark_on bytes i n h e = rw (range_next i n h) (rw e refl)
 
 pub mark_none : (bytes : List ℕ) (i n : ℕ) → n ≤ i → find (is_marked bytes) (range_with_len i (n - i)) ≡ None
 mark_none bytes i n h = let e : n - i ≡ 0 = omega arith in rw e refl

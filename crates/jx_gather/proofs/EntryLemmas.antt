@@ -10,21 +10,18 @@ use Rattle.jx_marker.specs.Rules.{progression_fits}
 use Rattle.jx_marker.specs.Ranges.{InRange}
 use Rattle.jx_stream.specs.declared.parts.Part.{Part}
 use Rattle.jx_stream.specs.Tiles.{in_slot, entries_of, joined, entry_of, entry_in, headers_of, first_header, or_list, progressions_of}
-use Rattle.jx_stream.proofs.PartLemmas.{both}
 use Rattle.jx_gather.proofs.SegmentLemmas.{HasFitting, IsChosen, slot_chosen, headers_fit, first_fits}
-use Rattle.jx_gather.proofs.ShapeLemmas.{all_pass}
+use Rattle.jx_base.proofs.Lists.{all_pass}
+use Rattle.std.proofs.lemmas.Bool.{leb-true, and_parts}
 
 abbrev pub HasOrder : Progression → Type 0
 HasOrder e = e.order ≤ 4
 
-most : (a b : ℕ) → nat_le a b ≡ true → a ≤ b
-most a b h = grind (arith, nat_tests)
-
 one_order : (e : Progression) → progression_fits e ≡ true → HasOrder e
 one_order e h =
-    let one = both (nat_lt e.rs e.re) (((e.ce == 0) || nat_lt e.cs e.ce) && (nat_lt 0 e.lye && nat_le e.order 4)) h in
-    let two = both ((e.ce == 0) || nat_lt e.cs e.ce) (nat_lt 0 e.lye && nat_le e.order 4) one.1 in
-    most e.order 4 (both (nat_lt 0 e.lye) (nat_le e.order 4) two.1).1
+    let one = and_parts (nat_lt e.rs e.re) (((e.ce == 0) || nat_lt e.cs e.ce) && (nat_lt 0 e.lye && nat_le e.order 4)) h in
+    let two = and_parts ((e.ce == 0) || nat_lt e.cs e.ce) (nat_lt 0 e.lye && nat_le e.order 4) one.1 in
+    leb-true e.order 4 (and_parts (nat_lt 0 e.lye) (nat_le e.order 4) two.1).1
 
 own_orders : (comps : ℕ) (s : Segment) → InRange comps s → All HasOrder (entries_of s)
 own_orders comps (segment.Poc entries) r = All-weaker (λ (e : Progression). progression_fits e ≡ true) HasOrder one_order entries (all_pass progression_fits entries r.fits)

@@ -11,8 +11,7 @@ use Rattle.jx_base.specs.Places.{InRect, length_of, size_of}
 use Rattle.jx_geom.specs.Counts.{resolution_blocks, component_blocks}
 use Rattle.jx_geom.specs.Geometry.{Geometry, GeometryInRange, HasResolution, no_shape, shape_of, rect_of_tile, blocks_in}
 use Rattle.jx_geom.specs.Ranges.{HasBand}
-use Rattle.jx_geom.proofs.CountLemmas.{sum_below_more, resolution_low, resolution_high, blocks_limited}
-use Rattle.jx_geom.proofs.RasterLemmas.{factor_some}
+use Rattle.jx_geom.proofs.CountLemmas.{resolution_low, resolution_high, blocks_limited}
 use Rattle.jx_head.specs.Precinct.{IsBandCells, AreBandCells, CellsInRange, IsState}
 use Rattle.jx_head.proofs.FreshLemmas.{fresh_state_is}
 use Rattle.jx_stream.specs.declared.Stream.{Stream}
@@ -20,10 +19,13 @@ use Rattle.jx_stream.specs.First.{tile_number}
 use Rattle.jx_stream.specs.Params.{planes_at}
 use Rattle.jx_gather.specs.Shapes.{geometry, style_of}
 use Rattle.jx_gather.specs.InRange.{StreamInRange}
-use Rattle.jx_gather.specs.Cells.{HasPrecinct, bands_at, cells_at, sizes_of, precinct_bands, fresh_precinct}
+use Rattle.jx_gather.specs.Cells.{HasPrecinct, cells_at, sizes_of, precinct_bands, fresh_precinct}
 use Rattle.jx_gather.specs.Leaves.{leaves, leaves_in}
 use Rattle.jx_gather.proofs.BlockLemmas.{bands_low, bands_high}
 use Rattle.jx_gather.proofs.CellLemmas.{Have, bands_have, bands_of, pick, cell_in_band, cells_count}
+use Rattle.jx_base.proofs.Sums.{sum_below_more}
+use Rattle.jx_base.proofs.Raster.{factor_some}
+use Rattle.jx_base.specs.Bands.{bands_at}
 
 -- a rect that lies in another has no more places
 corners : (a b : Rect) → 0 < length_of a.x → 0 < length_of a.y → ((u v : ℕ) → InRect a u v → InRect b u v) → size_of a ≤ size_of b

@@ -6,9 +6,6 @@ use Rattle.std.specs.List.{All}
 use Rattle.jx_base.specs.declared.pieces.Block.{Block}
 use Rattle.jx_base.specs.Sound.{IsSound}
 use Rattle.jx_gather.proofs.SoundLemmas.{sound_blocks}
-use Rattle.jx_gather.proofs.OnceLemmas.{joined_same}
-use Rattle.jx_order.specs.Steps.{joined}
-use Rattle.jx_order.proofs.JoinedLemmas.{joined_next, joined_none}
 use Rattle.jx_stream.specs.declared.Stream.{Stream}
 use Rattle.jx_stream.specs.First.{tile_number}
 use Rattle.jx_gather.specs.declared.faults.GatherFault.{GatherFault}
@@ -19,6 +16,8 @@ use Rattle.jx_gather.specs.Shapes.{IsRead}
 use Rattle.jx_gather.specs.WellFormed.{IsWellFormed}
 use Rattle.jx_gather.specs.Gathered.{IsWhole, AreTileBlocks, IsGathered, IsUncovered, BreaksTile, BreaksData, IsBroken}
 use Rattle.jx_gather.specs.Joined.{IsGatheredTo, with_tile}
+use Rattle.jx_base.specs.Joined.{joined}
+use Rattle.jx_base.proofs.Joined.{joined_none, joined_next, joined_same}
 
 pub gathered_none : (b : List ℕ) (s : Stream) → IsGatheredTo b s 0 []
 gathered_none b s = record {

@@ -10,18 +10,20 @@ use Rattle.jx_base.specs.declared.names.Band.{Band}
 use Rattle.jx_base.specs.declared.names.Band.TheVariants.{LL, HL, LH, HH}
 use Rattle.jx_base.specs.declared.names.BlockName.{BlockName}
 use Rattle.jx_base.specs.Places.{size_of}
-use Rattle.jx_geom.specs.Counts.{sum_below, precinct_count, component_precincts, component_blocks, resolution_blocks, tile_precincts, tile_blocks}
+use Rattle.jx_geom.specs.Counts.{precinct_count, component_precincts, component_blocks, resolution_blocks, tile_precincts, tile_blocks}
 use Rattle.jx_geom.specs.Numbering.{number_in_tile}
 use Rattle.jx_geom.specs.Geometry.{Geometry, GeometryInRange, no_shape, shape_of, rect_of_tile, blocks_in}
-use Rattle.jx_geom.proofs.CountLemmas.{sum_below_more, sum_below_next}
 use Rattle.jx_gather.specs.declared.layout.Row.{Row}
-use Rattle.jx_gather.specs.Cells.{HasPrecinct, precinct_number, leaf_number, bands_at, cells_at, leaf_index, leaf_name, name_from}
+use Rattle.jx_gather.specs.Cells.{HasPrecinct, precinct_number, leaf_number, cells_at, leaf_index, leaf_name, name_from}
 use Rattle.jx_gather.specs.Leaves.{leaves}
 use Rattle.jx_gather.specs.Layout.{CountsPrecincts, CountsBlocks, IsRow, AreRows, IsTable, number_in_resolution}
 use Rattle.jx_gather.proofs.BlockLemmas.{bands_low, bands_high}
 use Rattle.jx_gather.proofs.CellLemmas.{named, name_here, name_later, leaf_of, leaf_is, leaf_below}
 use Rattle.jx_gather.proofs.NumberLemmas.{precinct_below}
 use Rattle.jx_gather.proofs.FreshLemmas.{leaves_low, leaves_high}
+use Rattle.jx_base.specs.Joined.{sum_below}
+use Rattle.jx_base.proofs.Sums.{sum_below_next, sum_below_more}
+use Rattle.jx_base.specs.Bands.{bands_at}
 
 -- one more sum in a list of sums
 pub counts_next : (f : ℕ → ℕ) (counts : List ℕ) (n q m x : ℕ) → q ≡ n → m ≡ n → n + 1 < length counts → x ≡ f n

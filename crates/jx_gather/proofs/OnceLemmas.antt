@@ -11,7 +11,6 @@ use Rattle.jx_head.specs.Precinct.{IsState}
 use Rattle.jx_head.proofs.PacketLemmas.{one_header, planes_or_packet}
 use Rattle.jx_order.specs.declared.names.PacketName.{PacketName}
 use Rattle.jx_order.specs.Packets.{HasUncovered}
-use Rattle.jx_order.specs.Steps.{joined, joined_below}
 use Rattle.jx_order.proofs.OrderLemmas.{one_order}
 use Rattle.jx_stream.specs.declared.Body.{Body}
 use Rattle.jx_stream.specs.declared.Stream.{Stream}
@@ -26,17 +25,11 @@ use Rattle.jx_gather.specs.Cuts.{Cut, IsCut, BreaksHeader, BreaksBody, Breaks, L
 use Rattle.jx_gather.specs.Blocks.{founds_of, tile_blocks}
 use Rattle.jx_gather.specs.Gathered.{IsListOf, IsWhole, IsCutUp, AreTileBlocks, IsGathered, IsUncovered, BreaksTile, BreaksData, IsBroken, start}
 use Rattle.jx_gather.proofs.TurnLemmas.{Precincts, Keeps, Listed, listed, AllKnown, AreInTurn, are_in_turn, known_there, has_precinct, due_named}
+use Rattle.jx_base.specs.Joined.{joined, joined_below}
+use Rattle.jx_base.proofs.Joined.{joined_same}
+use Rattle.jx_base.proofs.Lists.{some_none, none_some, some_same, head_same, tail_same}
 
 -- ---- where a test is violated is no matter of the place
-some_none : {X : Type 0} (x : X) → Some x ≡ None → ⊥
-some_none x e = cc
-
-none_some : {X : Type 0} (x : X) → None ≡ Some x → ⊥
-none_some x e = cc
-
-some_same : {X : Type 0} (x y : X) → Some x ≡ Some y → x ≡ y
-some_same x y e = cc
-
 both_clear : (m n a b : ℕ) (x y : Bool) (f : GatherFault) → option_or (broken m a x) (broken n a y) ≡ Some f → option_or (broken m b x) (broken n b y) ≡ None → ⊥
 both_clear m n a b true y f h k = some_none (fault.Rule m b) k
 both_clear m n a b false true f h k = some_none (fault.Rule n b) k
@@ -338,12 +331,6 @@ record Begun (xs ys us vs : List PacketName) : Type 0 where
   pub longer : ys ≡ xs ++ mid
   pub rest : us ≡ mid ++ vs
 
-head_same : {X : Type 0} (x y : X) (xs ys : List X) → x ∷ xs ≡ y ∷ ys → x ≡ y
-head_same x y xs ys e = cc
-
-tail_same : {X : Type 0} (x y : X) (xs ys : List X) → x ∷ xs ≡ y ∷ ys → xs ≡ ys
-tail_same x y xs ys e = cc
-
 fronts : (xs ys us vs : List PacketName) → xs ++ us ≡ ys ++ vs → Begun xs ys us vs ⊎ Begun ys xs vs us
 fronts [] ys us vs e = inl (record { mid = ys; longer = refl; rest = e })
 fronts (x ∷ xs) [] us vs e = inr (record { mid = x ∷ xs; longer = refl; rest = sym e })
@@ -400,19 +387,6 @@ pub record Ready (b : List ℕ) (s : Stream) : Type 0 where
 
 pub ready_tile : (b : List ℕ) (s : Stream) (t : ℕ) → Ready b s → t < tile_number s.siz → IsWhole s t → IsReady b s t
 ready_tile b s t r inside whole = record { places = r.places t inside; keeps = r.keeps; whole = whole }
-
-below_same : {X : Type 0} (f h : ℕ → List X) (a n : ℕ) → ((i : ℕ) → i < n → f (a + i) ≡ h (a + i)) → joined_below f a n ≡ joined_below h a n
-below_same f h a zero same = refl
-below_same {X} f h a (suc n) same =
-    let front : joined_below f a n ≡ joined_below h a n = below_same f h a n (λ i lt. same i (omega arith)) in
-    ap (λ (xs : List X). xs ++ f (a + n)) front ∙ ap (λ (xs : List X). joined_below h a n ++ xs) (same n (omega arith))
-
-pub joined_same : {X : Type 0} (f h : ℕ → List X) (n : ℕ) → ((i : ℕ) → i < n → f i ≡ h i) → joined f 0 n ≡ joined h 0 n
-unfolding joined
-joined_same {X} f h n same = below_same f h 0 (n - 0) (λ i lt.
-    (let e : i ≡ 0 + i = omega arith in
-    let P : ℕ → Type 0 = λ m. f m ≡ h m in
-    subst P e (same i (omega arith))))
 
 tile_once : (b : List ℕ) (s : Stream) (t : ℕ) (xs ys : List Block) → IsReady b s t → AreTileBlocks b s t xs → AreTileBlocks b s t ys → xs ≡ ys
 tile_once b s t xs ys r x y =

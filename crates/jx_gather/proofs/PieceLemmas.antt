@@ -11,7 +11,7 @@ use Rattle.jx_order.specs.declared.names.PacketName.{PacketName}
 use Rattle.jx_gather.specs.Blocks.{Found, founds_from}
 use Rattle.jx_gather.specs.Put.{put_to, put_at, put_one, put_all}
 use Rattle.jx_gather.specs.Reading.{CanPut, HasRoom, found_of}
-use Rattle.jx_gather.proofs.PutLemmas.{get-set_same, get-set_other}
+use Rattle.jx_base.proofs.Lists.{get-set_same, get-set_other}
 
 -- ---- passes only grow
 abbrev passes_of : Option Block → ℕ

@@ -13,28 +13,8 @@ use Rattle.jx_marker.specs.declared.Quant.{Quant}
 use Rattle.jx_geom.specs.Ranges.{HasBand}
 use Rattle.jx_stream.specs.declared.Tile.{Tile}
 use Rattle.jx_stream.specs.Params.{band_count, number_of, planes_of, quant_of, shape_of, shift_of, band_planes, tile_planes, limit_4_of, planes_fault}
-use Rattle.jx_stream.proofs.HeaderLemmas.{is_or_not_true}
-
-pub find_none : {X : Type 0} (p : X → Bool) (xs : List X) → find p xs ≡ None → All (λ (x : X). p x ≡ false) xs
-find_none {X} p [] h = All-nil (λ (x : X). p x ≡ false)
-find_none {X} p (x ∷ xs) h = elim (is_or_not_true (p x)) [
-  | inl t ↦ let e = rw t at h in absurd (cc)
-  | inr f ↦ All-cons (λ (y : X). p y ≡ false) x xs f (find_none p xs (rw f at h))
-]
-
-pub All-left : {X : Type 0} (P : X → Type 0) (xs ys : List X) → All P (xs ++ ys) → All P xs
-All-left P xs ys h k d inside = subst P (get_or_append_left xs ys d k inside) (h k d (omega (arith, length-append xs ys)))
-
-pub All-right : {X : Type 0} (P : X → Type 0) (xs ys : List X) → All P (xs ++ ys) → All P ys
-All-right P xs ys h k d inside =
-    let here : length xs + k < length (xs ++ ys) = omega (arith, length-append xs ys) in
-    let same : length xs + k - length xs ≡ k = omega arith in
-    subst P (get_or-append_right xs ys (length xs) (length xs + k) d refl (omega arith) ∙ ap (λ (n : ℕ). get_or ys n d) same) (h (length xs + k) d here)
-
--- what holds of a list of lists joined holds of each
-pub All-flat : {X A : Type 0} (P : A → Type 0) (f : X → List A) (xs : List X) → All P (flat_map f xs) → All (λ (x : X). All P (f x)) xs
-All-flat {X} P f [] h = All-nil (λ (x : X). All P (f x))
-All-flat {X} P f (x ∷ xs) h = All-cons (λ (y : X). All P (f y)) x xs (All-left P (f x) (flat_map f xs) h) (All-flat P f xs (All-right P (f x) (flat_map f xs) h))
+use Rattle.jx_base.proofs.Lists.{find_none, All-flat}
+use Rattle.std.proofs.lemmas.Bool.{cases_Bool}
 
 is_most : (n : ℕ) → nat_lt 74 n ≡ false → n ≤ 74
 is_most n h = grind (arith, nat_tests)

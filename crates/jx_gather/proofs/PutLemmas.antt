@@ -17,6 +17,7 @@ use Rattle.jx_stream.specs.Params.{planes_at}
 use Rattle.jx_gather.specs.Shapes.{style_of}
 use Rattle.jx_gather.specs.Blocks.{Found, own_founds, pieces_in, passes_in, zero_from, block_with, block_of, tile_blocks}
 use Rattle.jx_gather.specs.Put.{put_to, put_at, put_one, put_all}
+use Rattle.jx_base.proofs.Lists.{get-set_same, get-set_other, same_gets}
 
 -- the blocks of a tile are those of its names, whatever pieces they have
 pub record Tiled (s : Stream) (g : Geometry) : Type 0 where
@@ -31,28 +32,6 @@ pub record IsOfBlock (g : Geometry) (f : Found) : Type 0 where
   pub number : number_in_tile g name ≡ f.number
 
 -- ---- lists
-pub get-set_same : {X : Type 0} (xs : List X) (i : ℕ) (y : X) → i < length xs → slice_get (set xs i y) i ≡ Some y
-get-set_same [] i y lt = absurd (omega arith)
-get-set_same (x ∷ xs) zero y lt = refl
-get-set_same (x ∷ xs) (suc i) y lt = get-set_same xs i y (omega arith)
-
-pub get-set_other : {X : Type 0} (xs : List X) (i j : ℕ) (y : X) → (j ≡ i → ⊥) → slice_get (set xs i y) j ≡ slice_get xs j
-get-set_other [] i j y ne = refl
-get-set_other (x ∷ xs) zero zero y ne = absurd (ne refl)
-get-set_other (x ∷ xs) zero (suc j) y ne = refl
-get-set_other (x ∷ xs) (suc i) zero y ne = refl
-get-set_other (x ∷ xs) (suc i) (suc j) y ne = get-set_other xs i j y (λ (e : j ≡ i). ne (ap suc e))
-
-same_gets : {X : Type 0} (xs ys : List X) → length xs ≡ length ys → ((i : ℕ) → i < length xs → slice_get xs i ≡ slice_get ys i) → xs ≡ ys
-same_gets [] [] l h = refl
-same_gets [] (y ∷ ys) l h = absurd (omega arith)
-same_gets (x ∷ xs) [] l h = absurd (omega arith)
-same_gets {X} (x ∷ xs) (y ∷ ys) l h =
-    let first : ◌≡◌ {A = Option X} (Some x) (Some y) = h 0 (omega arith) in
-    let head : x ≡ y = cc in
-    let rest : xs ≡ ys = same_gets xs ys (omega arith) (λ (i : ℕ) (lt : i < length xs). h (suc i) (omega arith)) in
-    ap (λ (z : X). z ∷ xs) head ∙ ap (λ (zs : List X). y ∷ zs) rest
-
 -- ---- one piece
 made : Stream → Geometry → BlockName → ℕ → ℕ → List PieceValue → Block
 made s g n z passes pieces = record {

@@ -31,9 +31,10 @@ use Rattle.jx_stream.proofs.UniqueLemmas as unique
 use Rattle.jx_gather.specs.Shapes.{IsRead, shapes_of, shape_in, geometry, size_of, no_size, tile_at, no_tile, layers_of}
 use Rattle.jx_gather.specs.InRange.{StreamInRange}
 use Rattle.jx_gather.proofs.SegmentLemmas.{HasFitting, segments_fit, parts_fit, first_fits, defaults_there, slot_chosen, or_chosen, slot_there, or_there, chosen_fits, chosen_there, IsShaped, shape_there, IsQuantized, quant_there, IsCoded, cod_there}
-use Rattle.jx_gather.proofs.PlaneLemmas.{All-flat, all_planes, tile_fits, band_fits, number_inside}
+use Rattle.jx_gather.proofs.PlaneLemmas.{all_planes, tile_fits, band_fits, number_inside}
 use Rattle.jx_gather.proofs.ShapeLemmas.{SizFits, siz_is, shape_fits}
 use Rattle.jx_gather.proofs.EntryLemmas.{HasOrder, orders_fit}
+use Rattle.jx_base.proofs.Lists.{All-flat}
 
 -- the shapes of a tile, one for each component
 

@@ -16,9 +16,7 @@ use Rattle.jx_stream.specs.Tiles.{in_slot, headers_of, first_header}
 use Rattle.jx_stream.specs.Params.{shape_in, quant_in, cod_in, chosen}
 use Rattle.jx_stream.specs.First.{lacks_default}
 use Rattle.jx_stream.specs.Spells.{TilePart, part_bytes, part_of, placed, AreSegments, AreTileParts}
-use Rattle.jx_stream.proofs.HeaderLemmas.{is_or_not_true}
-use Rattle.jx_stream.proofs.PartLemmas.{is_equal, both}
-use Rattle.jx_stream.proofs.SpellLemmas.{not_false}
+use Rattle.std.proofs.lemmas.Bool.{not-false, and_parts, eqb-true, cases_Bool}
 
 -- each segment of a header is in range
 
@@ -55,8 +53,8 @@ pub slot_chosen : (comps own default slot : ℕ) (segments : List Segment) → A
     → IsChosen comps own default (in_slot slot segments)
 slot_chosen comps own default slot [] fit one = tt
 slot_chosen comps own default slot (s ∷ ss) fit one =
-    elim (is_or_not_true (slot_of s == slot)) [
-      | inl t ↦ rw t (All-head (InRange comps) s ss fit, elim one [ inl e ↦ inl (let q = is_equal (slot_of s) slot t in omega (arith, q, e)) | inr e ↦ inr (let q = is_equal (slot_of s) slot t in omega (arith, q, e)) ])
+    elim (cases_Bool (slot_of s == slot)) [
+      | inl t ↦ rw t (All-head (InRange comps) s ss fit, elim one [ inl e ↦ inl (let q = eqb-true (slot_of s) slot t in omega (arith, q, e)) | inr e ↦ inr (let q = eqb-true (slot_of s) slot t in omega (arith, q, e)) ])
       | inr f ↦ rw f (slot_chosen comps own default slot ss (All-tail (InRange comps) s ss fit) one)
     ]
 
@@ -67,7 +65,7 @@ or_chosen comps own default (Some s) later a b = a
 
 pub slot_there : (slot : ℕ) (segments : List Segment) → has_slot slot segments ≡ true → is_some (in_slot slot segments) ≡ true
 slot_there slot [] h = absurd (cc)
-slot_there slot (s ∷ ss) h = elim (is_or_not_true (slot_of s == slot)) [
+slot_there slot (s ∷ ss) h = elim (cases_Bool (slot_of s == slot)) [
   | inl t ↦ rw t refl
   | inr f ↦ rw f (slot_there slot ss (rw f at h))
 ]
@@ -76,9 +74,9 @@ pub or_there : (first later : Option Segment) → is_some later ≡ true → is_
 or_there None later h = h
 or_there (Some s) later h = refl
 
--- the main header has both defaults
+-- the main header has and_parts defaults
 pub defaults_there : (main : List Segment) → lacks_default main ≡ false → (has_slot 1 main ≡ true) × (has_slot 2 main ≡ true)
-defaults_there main h = both (has_slot 1 main) (has_slot 2 main) (not_false (has_slot 1 main && has_slot 2 main) h)
+defaults_there main h = and_parts (has_slot 1 main) (has_slot 2 main) (not-false (has_slot 1 main && has_slot 2 main) h)
 
 pub chosen_fits : (comps own default : ℕ) (tile main : List Segment) → All (InRange comps) tile → All (InRange comps) main
     → IsChosen comps own default (chosen own default tile main)

@@ -14,26 +14,12 @@ use Rattle.jx_geom.specs.Ranges.{CanvasInRange, ShapeInRange}
 use Rattle.jx_stream.specs.declared.Params.{Params}
 use Rattle.jx_stream.specs.First.{canvas_of}
 use Rattle.jx_stream.specs.Params.{precinct_of, precincts_of}
-use Rattle.jx_stream.proofs.PartLemmas.{both}
-use Rattle.jx_stream.proofs.SpellLemmas.{neither}
 use Rattle.jx_gather.specs.Shapes.{shape_from}
-
-above : (a b : ℕ) → nat_lt a b ≡ true → a < b
-above a b h = grind (arith, nat_tests)
-
-most : (a b : ℕ) → nat_le a b ≡ true → a ≤ b
-most a b h = grind (arith, nat_tests)
+use Rattle.jx_base.proofs.Lists.{all_pass, none_passes}
+use Rattle.std.proofs.lemmas.Bool.{ltb-true, leb-true, or_parts, and_parts}
 
 not_zero : (n : ℕ) → (n == 0) ≡ false → 0 < n
 not_zero n h = grind (arith, nat_tests)
-
-pub all_pass : {X : Type 0} (p : X → Bool) (xs : List X) → list_all p xs ≡ true → All (λ (x : X). p x ≡ true) xs
-all_pass {X} p [] h = All-nil (λ (x : X). p x ≡ true)
-all_pass {X} p (x ∷ xs) h = let e = both (p x) (list_all p xs) h in All-cons (λ (y : X). p y ≡ true) x xs e.0 (all_pass p xs e.1)
-
-pub none_passes : {X : Type 0} (p : X → Bool) (xs : List X) → list_any p xs ≡ false → All (λ (x : X). p x ≡ false) xs
-none_passes {X} p [] h = All-nil (λ (x : X). p x ≡ false)
-none_passes {X} p (x ∷ xs) h = let e = neither (p x) (list_any p xs) h in All-cons (λ (y : X). p y ≡ false) x xs e.0 (none_passes p xs e.1)
 
 -- rule 4
 
@@ -45,10 +31,10 @@ record AxisFits (end begin tile first : ℕ) : Type 0 where
 
 axis : (end begin tile first : ℕ) → axis_fits end begin tile first ≡ true → AxisFits end begin tile first
 axis end begin tile first h =
-    let one = both (nat_lt 0 tile) (nat_le first begin && (nat_lt begin end && nat_lt begin (first + tile))) h in
-    let two = both (nat_le first begin) (nat_lt begin end && nat_lt begin (first + tile)) one.1 in
-    let three = both (nat_lt begin end) (nat_lt begin (first + tile)) two.1 in
-    record { some = above 0 tile one.0; offset = most first begin two.0; holds = above begin end three.0; meets = above begin (first + tile) three.1 }
+    let one = and_parts (nat_lt 0 tile) (nat_le first begin && (nat_lt begin end && nat_lt begin (first + tile))) h in
+    let two = and_parts (nat_le first begin) (nat_lt begin end && nat_lt begin (first + tile)) one.1 in
+    let three = and_parts (nat_lt begin end) (nat_lt begin (first + tile)) two.1 in
+    record { some = ltb-true 0 tile one.0; offset = leb-true first begin two.0; holds = ltb-true begin end three.0; meets = ltb-true begin (first + tile) three.1 }
 
 pub record SizFits (siz : Siz) : Type 0 where
   pub some : 1 ≤ length siz.comps
@@ -61,15 +47,15 @@ siz_is siz h =
     let across = axis_fits siz.x1 siz.x0 siz.tw siz.tx in
     let down = axis_fits siz.y1 siz.y0 siz.th siz.ty in
     let each = list_all comp_size_fits siz.comps in
-    let one = both (nat_lt 0 (length siz.comps)) (nat_le (length siz.comps) 16384 && (across && (down && each))) h in
-    let two = both (nat_le (length siz.comps) 16384) (across && (down && each)) one.1 in
-    let three = both across (down && each) two.1 in
-    let four = both down each three.1 in
+    let one = and_parts (nat_lt 0 (length siz.comps)) (nat_le (length siz.comps) 16384 && (across && (down && each))) h in
+    let two = and_parts (nat_le (length siz.comps) 16384) (across && (down && each)) one.1 in
+    let three = and_parts across (down && each) two.1 in
+    let four = and_parts down each three.1 in
     let x = axis siz.x1 siz.x0 siz.tw siz.tx three.0 in
     let y = axis siz.y1 siz.y0 siz.th siz.ty four.0 in
     record {
-      some = above 0 (length siz.comps) one.0;
-      few = most (length siz.comps) 16384 two.0;
+      some = ltb-true 0 (length siz.comps) one.0;
+      few = leb-true (length siz.comps) 16384 two.0;
       canvas = record {
         wide = x.some;
         offset_across = x.offset;
@@ -89,9 +75,9 @@ record StepsFit (comp : CompSize) : Type 0 where
 
 steps : (comp : CompSize) → comp_size_fits comp ≡ true → StepsFit comp
 steps comp h =
-    let one = both (nat_le (comp.ssiz % 128 + 1) 38) (nat_lt 0 comp.dx && nat_lt 0 comp.dy) h in
-    let two = both (nat_lt 0 comp.dx) (nat_lt 0 comp.dy) one.1 in
-    record { across = above 0 comp.dx two.0; down = above 0 comp.dy two.1 }
+    let one = and_parts (nat_le (comp.ssiz % 128 + 1) 38) (nat_lt 0 comp.dx && nat_lt 0 comp.dy) h in
+    let two = and_parts (nat_lt 0 comp.dx) (nat_lt 0 comp.dy) one.1 in
+    record { across = ltb-true 0 comp.dx two.0; down = ltb-true 0 comp.dy two.1 }
 
 -- rules 6 and 8
 
@@ -99,7 +85,7 @@ byte_of : (bytes : List ℕ) (r : ℕ) → r < 33 → slice_index (precincts_of 
 byte_of bytes r inside = get_or-map-range_with_len (precinct_of bytes) 0 33 r r 0 inside (omega arith)
 
 halves : (n : ℕ) → has_zero_exponent n ≡ false → (0 < n % 16) × (0 < n / 16)
-halves n h = let e = neither (n % 16 == 0) (n / 16 == 0) h in (not_zero (n % 16) e.0, not_zero (n / 16) e.1)
+halves n h = let e = or_parts (n % 16 == 0) (n / 16 == 0) h in (not_zero (n % 16) e.0, not_zero (n / 16) e.1)
 
 counted : (n m : ℕ) → 0 < n → n ≡ (cond (n == 0) 0 m) → n ≡ m
 counted n m some h = grind (arith, nat_tests)

@@ -23,9 +23,8 @@ use Rattle.jx_head.specs.Precinct.{fresh_cells, fresh_bands, all_blocks}
 use Rattle.jx_head.proofs.FreshLemmas.{unknown_at, block_left, block_right}
 use Rattle.jx_order.specs.declared.names.PacketName.{PacketName}
 use Rattle.jx_order.specs.Packets.{IsPacket, SamePrecinct}
-use Rattle.jx_order.proofs.OrderLemmas.{order_to, pairs_head, pairs_tail, contains_head, contains_tail}
+use Rattle.jx_order.proofs.OrderLemmas.{order_to}
 use Rattle.jx_order.proofs.RiseLemmas.{order_rises}
-use Rattle.jx_order.specs.Steps.{joined, joined_below}
 use Rattle.jx_stream.specs.declared.Stream.{Stream}
 use Rattle.jx_stream.specs.First.{tile_number}
 use Rattle.jx_stream.specs.Params.{planes_at}
@@ -33,7 +32,7 @@ use Rattle.jx_gather.specs.Shapes.{geometry, layers_of, style_of, tile_at, IsRea
 use Rattle.jx_gather.specs.Totals.{totals_fault}
 use Rattle.jx_gather.specs.InRange.{StreamInRange, DataInRange}
 use Rattle.jx_gather.specs.Leaves.{leaves, leaves_in}
-use Rattle.jx_gather.specs.Cells.{HasPrecinct, bands_at, cells_at, sizes_of, precinct_bands, fresh_precinct, precinct_number, name_from, leaf_name, leaf_number}
+use Rattle.jx_gather.specs.Cells.{HasPrecinct, cells_at, sizes_of, precinct_bands, fresh_precinct, precinct_number, name_from, leaf_name, leaf_number}
 use Rattle.jx_gather.specs.Cuts.{Cut, Left, AreCuts, number_of, names_of}
 use Rattle.jx_gather.specs.Blocks.{Found, founds_of, own_founds, pieces_in, passes_in, zero_from, block_with, block_of, tile_blocks}
 use Rattle.jx_gather.specs.Gathered.{IsListOf, IsCutUp, IsGathered, start}
@@ -48,6 +47,10 @@ use Rattle.jx_gather.proofs.PartLemmas.{known_in, planes_of}
 use Rattle.jx_gather.proofs.PutLemmas.{Tiled, IsOfBlock, put_found}
 use Rattle.jx_gather.proofs.GrowLemmas.{Gained, Grows, pieces_sum, bytes_own}
 use Rattle.jx_gather.proofs.TrackLemmas.{AreThere, Rise, AreAbove, Tracked, FromLeaf, AreFromLeaves, start_follow, track, founds_leaves, together, cuts_take}
+use Rattle.jx_base.specs.Joined.{joined, joined_below}
+use Rattle.jx_base.proofs.Lists.{contains_head, contains_tail, pairs_tail, pairs_head}
+use Rattle.jx_base.proofs.Joined.{joined_all}
+use Rattle.jx_base.specs.Bands.{bands_at}
 
 -- ---- a precinct before its first packet
 fresh_unknown : (bs : List BandCells) (j : ℕ) → get_or (all_blocks (fresh_bands bs)) j unknown_block ≡ unknown_block
@@ -366,17 +369,6 @@ pub sound_blocks : (b : List ℕ) (s : Stream) (t : ℕ) (cuts : List Cut) → I
     All IsSound (tile_blocks s (geometry s t) (founds_of (geometry s t) cuts))
 sound_blocks b s t cuts read short tile totals up =
     sound_cuts b s t cuts up.end (read_begun b s t cuts [] up.end read short tile totals (subst (λ (l : List PacketName). IsListOf s t l) (sym (append-nil (names_of cuts))) up.order) up.are)
-
-below_all : {X : Type 0} (P : X → Type 0) (f : ℕ → List X) (a n : ℕ) → ((i : ℕ) → i < n → All P (f (a + i))) → All P (joined_below f a n)
-below_all P f a zero each = λ k d lt. absurd (omega arith)
-below_all P f a (suc n) each = All-append P (joined_below f a n) (f (a + n)) (below_all P f a n (λ (i : ℕ) (lt : i < n). each i (omega arith))) (each n (omega arith))
-
-joined_all : {X : Type 0} (P : X → Type 0) (f : ℕ → List X) (n : ℕ) → ((i : ℕ) → i < n → All P (f i)) → All P (joined f 0 n)
-unfolding joined
-joined_all {X} P f n each = below_all P f 0 (n - 0) (λ (i : ℕ) (lt : i < n - 0).
-    (let e : i ≡ 0 + i = omega arith in
-    let Q : ℕ → Type 0 = λ (m : ℕ). All P (f m) in
-    subst Q e (each i (omega arith))))
 
 pub sound_gathered : (b : List ℕ) (s : Stream) (blocks : List Block) → IsRead b s → length b ≤ 2 ^ 28 → totals_fault s ≡ None → IsGathered b s blocks → All IsSound blocks
 sound_gathered b s blocks read short totals g =

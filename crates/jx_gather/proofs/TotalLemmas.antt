@@ -8,10 +8,9 @@ use Rattle.jx_base.specs.declared.names.Rect.{Rect}
 use Rattle.jx_geom.specs.declared.shape.CompShape.{CompShape}
 use Rattle.jx_geom.specs.Ranges.{ShapeInRange}
 use Rattle.jx_geom.specs.Rects.{tile_rect}
-use Rattle.jx_geom.specs.Counts.{sum_below, tile_blocks, tile_precincts}
+use Rattle.jx_geom.specs.Counts.{tile_blocks, tile_precincts}
 use Rattle.jx_geom.specs.Numbering.{blocks_below}
 use Rattle.jx_geom.specs.Geometry.{no_shape, WithinLimits, GeometryInRange}
-use Rattle.jx_geom.proofs.CountLemmas.{sum_below_more}
 use Rattle.jx_stream.specs.declared.Stream.{Stream}
 use Rattle.jx_stream.specs.First.{canvas_of, tile_number}
 use Rattle.jx_gather.specs.declared.faults.GatherFault.{GatherFault}
@@ -20,6 +19,8 @@ use Rattle.jx_gather.specs.Shapes.{shapes_of, shape_in, geometry, layers_of}
 use Rattle.jx_gather.specs.InRange.{StreamInRange}
 use Rattle.jx_gather.specs.Totals.{block_total, tile_packets, packet_total, totals_fault}
 use Rattle.jx_gather.proofs.RangeLemmas.{shapes_length, shapes_at}
+use Rattle.jx_base.specs.Joined.{sum_below}
+use Rattle.jx_base.proofs.Sums.{sum_below_more}
 
 pub shape_ranges : (s : Stream) (t c : ℕ) → StreamInRange s → t < tile_number s.siz → c < length s.siz.comps → ShapeInRange (shape_in s t c)
 shape_ranges s t c range inside within =

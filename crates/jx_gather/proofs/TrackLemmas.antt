@@ -22,9 +22,9 @@ use Rattle.jx_gather.specs.Blocks.{Found, told_zero, founds_from, founds_in, fou
 use Rattle.jx_gather.proofs.NumberLemmas.{precinct_there, precinct_once}
 use Rattle.jx_gather.proofs.CellLemmas.{leaf_count, leaf_once}
 use Rattle.jx_gather.proofs.PartLemmas.{own_parts, known_in, planes_of, Goes, PartIn, Kept, part_inside, packet_goes, packet_kept}
-use Rattle.jx_gather.proofs.PutLemmas.{get-set_same, get-set_other}
 use Rattle.jx_gather.proofs.MarkLemmas.{body_fits, body_marks}
 use Rattle.jx_gather.proofs.GrowLemmas.{Apart, Elsewhere, own_elsewhere, Grows, HaveTop, packet_grows, grows_lower, grows_join, bytes_join, bytes_from}
+use Rattle.jx_base.proofs.Lists.{get-set_same, get-set_other}
 
 -- ---- packets of precincts that are there, in layers that rise
 abbrev pub AreThere : Geometry → List Cut → Type 0

@@ -12,7 +12,7 @@ use Rattle.jx_head.specs.Precinct.{IsState, all_blocks}
 use Rattle.jx_order.specs.declared.names.PacketName.{PacketName}
 use Rattle.jx_order.specs.Packets.{IsPacket as IsNamed, SamePrecinct, LayersRise, IsCovered}
 use Rattle.jx_order.specs.Steps.{name_of}
-use Rattle.jx_order.proofs.OrderLemmas.{contains_cons, contains_head, contains_none, pairs_tail, pairs_head, order_to, order_from}
+use Rattle.jx_order.proofs.OrderLemmas.{order_to, order_from}
 use Rattle.jx_order.proofs.RiseLemmas.{order_rises}
 use Rattle.jx_stream.specs.declared.Body.{Body}
 use Rattle.jx_stream.specs.declared.Stream.{Stream}
@@ -21,7 +21,7 @@ use Rattle.jx_gather.specs.Cells.{HasPrecinct, fresh_precinct, fresh_precincts, 
 use Rattle.jx_gather.specs.Data.{window, header_in, sop_length}
 use Rattle.jx_gather.specs.Cuts.{Cut, Left, IsTurn, AreCuts, names_of, number_of}
 use Rattle.jx_gather.specs.Gathered.{IsListOf, IsWhole, start}
-use Rattle.jx_gather.proofs.PutLemmas.{get-set_same, get-set_other}
+use Rattle.jx_base.proofs.Lists.{contains_cons, contains_head, contains_none, pairs_tail, pairs_head, pairs_across, pairs_back, push_on, get-set_same, get-set_other}
 
 -- ---- what is cited of a tile's precincts and of their states
 pub record Precincts (s : Stream) (g : Geometry) : Type 0 where
@@ -54,20 +54,6 @@ listed s t list order whole =
     order_from (geometry s t) (layers_of s t) entries (length entries) list order p
     (record { packet = is; entry = covered.0; below = covered.1; covers = covered.2 })) in
     record { every = λ p. (from p, to p); rise = order_rises (geometry s t) (layers_of s t) entries (length entries) list order }
-
--- a pair of items in two lists one after another
-pub pairs_across : {X : Type 0} (R : X → X → Type 0) (xs ys : List X) (x y : X) → AllPairs R (xs ++ ys) → Contains xs x → Contains ys y → R x y
-pairs_across R [] ys x y h cx cy = absurd (contains_none x cx)
-pairs_across {X} R (z ∷ zs) ys x y h cx cy = elim (contains_cons z zs x cx) [
-  | inl e ↦
-      let P : X → Type 0 = λ w. R w y in
-      subst P e (pairs_head R z (zs ++ ys) y h (Contains-append_right zs ys y cy))
-  | inr rest ↦ pairs_across R zs ys x y (pairs_tail R z (zs ++ ys) h) rest cy
-]
-
-pub pairs_back : {X : Type 0} (R : X → X → Type 0) (xs ys : List X) → AllPairs R (xs ++ ys) → AllPairs R ys
-pairs_back R [] ys h = h
-pairs_back R (z ∷ zs) ys h = pairs_back R zs ys (pairs_tail R z (zs ++ ys) h)
 
 -- ---- an item that is set
 -- ---- what is known of a precinct, where these packets were read
@@ -251,9 +237,6 @@ turn_known b s g layers list done rest number old c new places keeps h e all t d
     ]
 
 -- ---- packets one after another
-push_on : {X : Type 0} (xs ys : List X) (x : X) → (xs ++ x ∷ []) ++ ys ≡ xs ++ (x ∷ ys)
-push_on xs ys x = append_assoc xs (x ∷ []) ys
-
 pub cuts_known : (b : List ℕ) (s : Stream) (g : Geometry) (layers : ℕ) (list done : List PacketName) (cuts : List Cut) (rest : List PacketName) (number : ℕ) (old new : Left)
     → Precincts s g → Keeps b → Listed g layers list → list ≡ done ++ (names_of cuts ++ rest)
     → AllKnown s g layers done old.states → AreCuts b g number old cuts new → AllKnown s g layers (done ++ names_of cuts) new.states

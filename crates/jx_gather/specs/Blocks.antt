@@ -13,12 +13,13 @@ use Rattle.jx_head.specs.declared.Part.{Part}
 use Rattle.jx_head.specs.Packet.{State, unknown_block}
 use Rattle.jx_head.specs.Precinct.{all_blocks}
 use Rattle.jx_order.specs.declared.names.PacketName.{PacketName}
-use Rattle.jx_order.specs.Steps.{joined}
 use Rattle.jx_stream.specs.declared.Stream.{Stream}
 use Rattle.jx_stream.specs.Params.{planes_at}
 use Rattle.jx_gather.specs.Shapes.{style_of}
-use Rattle.jx_gather.specs.Cells.{bands_at, leaf_number}
+use Rattle.jx_gather.specs.Cells.{leaf_number}
 use Rattle.jx_gather.specs.Cuts.{Cut}
+use Rattle.jx_base.specs.Joined.{joined}
+use Rattle.jx_base.specs.Bands.{bands_at}
 
 -- a piece, with its block's number in the tile and the zero planes that were told of the block
 pub record Found : Type 0 where

@@ -4,22 +4,19 @@ use Rattle.jx_base.specs.declared.names.Rect.{Rect}
 use Rattle.jx_base.specs.declared.names.Band.{Band}
 use Rattle.jx_base.specs.declared.names.Band.TheVariants.{LL, HL, LH, HH}
 use Rattle.jx_base.specs.declared.names.BlockName.{BlockName}
-use Rattle.jx_base.specs.Places.{length_of, size_of, column_at, row_at}
+use Rattle.jx_base.specs.Places.{length_of, size_of, column_at, row_at, number_at}
 use Rattle.jx_geom.specs.Rects.{precinct_blocks}
-use Rattle.jx_geom.specs.Counts.{sum_below, precinct_count, tile_precincts}
+use Rattle.jx_geom.specs.Counts.{precinct_count, tile_precincts}
 use Rattle.jx_geom.specs.Geometry.{Geometry, HasResolution, shape_of, rect_of_tile, blocks_in, precincts_in}
 use Rattle.jx_geom.specs.Numbering.{number_in_tile}
 use Rattle.jx_head.specs.declared.BandCells.{BandCells}
 use Rattle.jx_head.specs.Packet.{State}
 use Rattle.jx_head.specs.Precinct.{fresh_state}
-use Rattle.jx_order.specs.Steps.{joined}
 use Rattle.jx_stream.specs.declared.Stream.{Stream}
 use Rattle.jx_stream.specs.Params.{planes_at}
 use Rattle.jx_gather.specs.Shapes.{style_of}
-
--- B.5: the bands of a resolution
-abbrev pub bands_at : ℕ → List Band
-bands_at r = if r == 0 then LL ∷ [] else HL ∷ LH ∷ HH ∷ []
+use Rattle.jx_base.specs.Joined.{joined, sum_below}
+use Rattle.jx_base.specs.Bands.{bands_at}
 
 -- the code-blocks of a precinct in a band, as cells
 abbrev pub cells_at : Geometry → ℕ → ℕ → ℕ → Band → Rect
@@ -61,12 +58,8 @@ unfoldable pub precinct_number : Geometry → ℕ → ℕ → ℕ → ℕ
 precinct_number g c r k =
     tile_precincts (rect_of_tile g) (take c g.shapes) + (sum_below (precinct_count (rect_of_tile g) (shape_of g c)) r + k)
 
--- the place of a cell among those of its band, row by row
-abbrev pub index_in : Rect → ℕ → ℕ → ℕ
-index_in cells u v = (v - cells.y.low) * length_of cells.x + (u - cells.x.low)
-
 abbrev pub leaf_index : Geometry → ℕ → ℕ → ℕ → Band → ℕ → ℕ
-leaf_index g c r k b j = index_in (blocks_in g c r b) (column_at (cells_at g c r k b) j) (row_at (cells_at g c r k b) j)
+leaf_index g c r k b j = number_at (blocks_in g c r b) (column_at (cells_at g c r k b) j) (row_at (cells_at g c r k b) j)
 
 -- B.10: a precinct's blocks are counted over its bands in order, row by row within a band
 abbrev pub name_from : Geometry → ℕ → ℕ → ℕ → List Band → ℕ → BlockName

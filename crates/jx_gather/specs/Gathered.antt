@@ -3,7 +3,6 @@ use Rattle.std.specs.Prelude.{◌≡◌, ◌⊎◌, ◌<◌, ℕ, List, [], ◌+
 use Rattle.jx_base.specs.declared.pieces.Block.{Block}
 use Rattle.jx_order.specs.declared.names.PacketName.{PacketName}
 use Rattle.jx_order.specs.Packets.{IsOrder, AreCovered, HasUncovered}
-use Rattle.jx_order.specs.Steps.{joined}
 use Rattle.jx_stream.specs.declared.Stream.{Stream}
 use Rattle.jx_stream.specs.First.{tile_number}
 use Rattle.jx_gather.specs.declared.faults.GatherFault.{GatherFault}
@@ -14,6 +13,7 @@ use Rattle.jx_gather.specs.Cells.{fresh_precincts}
 use Rattle.jx_gather.specs.Data.{due, end_of_data}
 use Rattle.jx_gather.specs.Cuts.{Cut, Left, AreCuts, names_of, Stops}
 use Rattle.jx_gather.specs.Blocks.{founds_of, tile_blocks}
+use Rattle.jx_base.specs.Joined.{joined}
 
 -- B.12: the packets of a tile, in the order of its progression entries
 abbrev pub IsListOf : Stream → ℕ → List PacketName → Type 0

@@ -1,9 +1,9 @@
 -- Inner: the tiles of a codestream gathered one after another.
 use Rattle.std.specs.Prelude.{◌≡◌, ◌<◌, ℕ, ◌==◌, List, if◌then◌else◌}
 use Rattle.jx_base.specs.declared.pieces.Block.{Block}
-use Rattle.jx_order.specs.Steps.{joined}
 use Rattle.jx_stream.specs.declared.Stream.{Stream}
 use Rattle.jx_gather.specs.Gathered.{AreTileBlocks}
+use Rattle.jx_base.specs.Joined.{joined}
 
 -- the blocks of the tiles below one
 pub record IsGatheredTo (b : List ℕ) (s : Stream) (count : ℕ) (blocks : List Block) : Type 0 where

@@ -1,9 +1,10 @@
 -- Inner: the table of what stands before each resolution of a tile.
 use Rattle.std.specs.Prelude.{◌≡◌, ◌≤◌, ◌<◌, ◌+◌, ◌^◌, ℕ, List, length, take, min, slice_index, slice_index_or}
 use Rattle.jx_base.specs.declared.names.BlockName.{BlockName}
-use Rattle.jx_geom.specs.Counts.{sum_below, precinct_count, resolution_blocks, tile_blocks, tile_precincts, blocks_before_band}
+use Rattle.jx_geom.specs.Counts.{precinct_count, resolution_blocks, tile_blocks, tile_precincts, blocks_before_band}
 use Rattle.jx_geom.specs.Geometry.{Geometry, GeometryInRange, shape_of, rect_of_tile}
 use Rattle.jx_gather.specs.declared.layout.Row.{Row}
+use Rattle.jx_base.specs.Joined.{sum_below}
 
 -- the precincts of a component below each of its resolutions, and the blocks
 abbrev pub CountsPrecincts : Geometry → ℕ → List ℕ → Type 0

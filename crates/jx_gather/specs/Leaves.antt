@@ -3,7 +3,8 @@ use Rattle.std.specs.Prelude.{ℕ, ◌+◌, List, [], ◌∷◌}
 use Rattle.jx_base.specs.declared.names.Band.{Band}
 use Rattle.jx_base.specs.Places.{size_of}
 use Rattle.jx_geom.specs.Geometry.{Geometry}
-use Rattle.jx_gather.specs.Cells.{cells_at, bands_at}
+use Rattle.jx_gather.specs.Cells.{cells_at}
+use Rattle.jx_base.specs.Bands.{bands_at}
 
 -- in some bands, and in all of its resolution
 abbrev pub leaves_in : Geometry → ℕ → ℕ → ℕ → List Band → ℕ

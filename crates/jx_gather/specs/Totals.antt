@@ -2,13 +2,14 @@
 use Rattle.std.specs.Prelude.{ℕ, ◌*◌, ◌^◌, nat_lt, Option}
 use Rattle.std.specs.Option.{option_or}
 use Rattle.jx_geom.specs.Rects.{tile_rect}
-use Rattle.jx_geom.specs.Counts.{sum_below, tile_precincts}
+use Rattle.jx_geom.specs.Counts.{tile_precincts}
 use Rattle.jx_geom.specs.Numbering.{blocks_of_all}
 use Rattle.jx_stream.specs.declared.Stream.{Stream}
 use Rattle.jx_stream.specs.First.{canvas_of, tile_number}
 use Rattle.jx_gather.specs.declared.faults.GatherFault.{GatherFault}
 use Rattle.jx_gather.specs.Faults.{passed}
 use Rattle.jx_gather.specs.Shapes.{shapes_of, layers_of}
+use Rattle.jx_base.specs.Joined.{sum_below}
 
 -- B.7: every cell of a band that isn't empty is a block
 unfoldable pub block_total : Stream → ℕ

@@ -101,7 +101,7 @@ fn fresh_precinct(
 }
 
 /// Appends the precincts of a resolution.
-#[tactic(auto, using(jx_order::proofs::JoinedLemmas::joined_none, jx_order::proofs::JoinedLemmas::joined_next), unfolding(crate::specs::Cells::fresh_resolution))]
+#[tactic(auto, using(jx_base::proofs::Joined::joined_none, jx_base::proofs::Joined::joined_next), unfolding(crate::specs::Cells::fresh_resolution))]
 fn push_resolution(
     alloc: Global,
     stream: &Stream,
@@ -126,7 +126,7 @@ fn push_resolution(
 }
 
 /// Appends the precincts of a component.
-#[tactic(auto, using(jx_order::proofs::JoinedLemmas::joined_none, jx_order::proofs::JoinedLemmas::joined_next), unfolding(crate::specs::Cells::fresh_component))]
+#[tactic(auto, using(jx_base::proofs::Joined::joined_none, jx_base::proofs::Joined::joined_next), unfolding(crate::specs::Cells::fresh_component))]
 fn push_component(
     alloc: Global,
     stream: &Stream,
@@ -148,7 +148,7 @@ fn push_component(
 }
 
 /// The precincts of a tile by component, resolution and number.
-#[tactic(auto, using(jx_order::proofs::JoinedLemmas::joined_none, jx_order::proofs::JoinedLemmas::joined_next), unfolding(crate::specs::Cells::fresh_precincts))]
+#[tactic(auto, using(jx_base::proofs::Joined::joined_none, jx_base::proofs::Joined::joined_next), unfolding(crate::specs::Cells::fresh_precincts))]
 pub(crate) fn precincts_of(
     alloc: Global,
     stream: &Stream,
@@ -197,7 +197,7 @@ fn fresh_block<'a>(
 }
 
 /// Appends the code-blocks of a band.
-#[tactic(auto, using(jx_order::proofs::JoinedLemmas::joined_none, jx_order::proofs::JoinedLemmas::joined_next), unfolding(crate::specs::Blocks::band_blocks))]
+#[tactic(auto, using(jx_base::proofs::Joined::joined_none, jx_base::proofs::Joined::joined_next), unfolding(crate::specs::Blocks::band_blocks))]
 fn push_band<'a>(
     alloc: Global,
     stream: &Stream,
@@ -254,7 +254,7 @@ fn push_bands<'a>(
 }
 
 /// Appends the code-blocks of a component.
-#[tactic(auto, using(jx_order::proofs::JoinedLemmas::joined_none, jx_order::proofs::JoinedLemmas::joined_next), unfolding(crate::specs::Blocks::component_blocks))]
+#[tactic(auto, using(jx_base::proofs::Joined::joined_none, jx_base::proofs::Joined::joined_next), unfolding(crate::specs::Blocks::component_blocks))]
 fn push_blocks<'a>(
     alloc: Global,
     stream: &Stream,
@@ -275,7 +275,7 @@ fn push_blocks<'a>(
 }
 
 /// The code-blocks of a tile in the order of their numbers.
-#[tactic(auto, using(jx_order::proofs::JoinedLemmas::joined_none, jx_order::proofs::JoinedLemmas::joined_next), unfolding(crate::specs::Blocks::tile_blocks))]
+#[tactic(auto, using(jx_base::proofs::Joined::joined_none, jx_base::proofs::Joined::joined_next), unfolding(crate::specs::Blocks::tile_blocks))]
 pub(crate) fn blocks_of<'a>(
     alloc: Global,
     stream: &Stream,

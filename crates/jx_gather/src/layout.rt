@@ -1,11 +1,11 @@
 //! The numbers of a tile's precincts and code-blocks.
 
 ghost use Rattle.std.specs.Prelude.{◌≡◌, ◌<◌, ◌≤◌, ◌+◌, ◌^◌, IfOk, length};
-ghost use Rattle.jx_base.specs.Places.{InRect, column_at, row_at, size_of};
+ghost use Rattle.jx_base.specs.Places.{InRect, column_at, row_at, size_of, number_at};
 ghost use Rattle.jx_geom.specs.Geometry.{GeometryInRange, HasResolution, blocks_in, rect_of_tile, shape_of};
 ghost use Rattle.jx_geom.specs.Counts.{resolution_blocks};
 ghost use Rattle.jx_geom.specs.Ranges.{HasBand};
-ghost use Rattle.jx_gather.specs.Cells.{HasPrecinct, cells_at, index_in, leaf_index, leaf_name, leaf_number, precinct_number};
+ghost use Rattle.jx_gather.specs.Cells.{HasPrecinct, cells_at, leaf_index, leaf_name, leaf_number, precinct_number};
 ghost use Rattle.jx_gather.specs.Leaves.{leaves};
 ghost use Rattle.jx_gather.specs.Layout.{AreRows, CountsBlocks, CountsPrecincts, IsRow, components, number_in_resolution};
 
@@ -144,7 +144,7 @@ fn rows_of(alloc: Global, geom: &TileGeom) -> Result<Vec<Row>, NoMemory>
 fn number_in(cells: Rect, column: u32, row: u32) -> u32
     requires place { InRect cells column row }
     requires few { size_of cells ≤ 2 ^ 20 }
-    ensures value { result ≡ index_in cells column row }
+    ensures value { result ≡ number_at cells column row }
     ensures below { result < size_of cells }
 {
     let wide = cells.x.high - cells.x.low;

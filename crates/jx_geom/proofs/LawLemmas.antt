@@ -4,14 +4,14 @@ use Rattle.std.proofs.lemmas.Nat.{pow-add, shr-shr}
 use Rattle.jx_base.specs.declared.names.Rect.{Rect}
 use Rattle.jx_base.specs.declared.names.Band.{Band}
 use Rattle.jx_base.specs.declared.names.Band.TheVariants.{LL, HL, LH, HH}
-use Rattle.jx_base.specs.Places.{InRect, ExactlyOne, column_at, row_at}
+use Rattle.jx_base.specs.Places.{InRect, ExactlyOne, column_at, row_at, number_at}
 use Rattle.jx_geom.specs.declared.shape.CompShape.{CompShape}
 use Rattle.jx_geom.specs.Ranges.{ShapeInRange, HasBand, exponent_across, exponent_down}
 use Rattle.jx_geom.specs.Rects.{resolution_rect, band_rect, precinct_cells, block_cells, precinct_part, precinct_blocks, off_across, off_down, part_across, part_down, block_across, block_down}
 use Rattle.jx_geom.specs.Sets.{InComponent, InResolution, InBand, InCell, InPrecinct, InPart, InBlock, HasPlace}
 use Rattle.jx_geom.specs.Counts.{precinct_count, block_count}
-use Rattle.jx_geom.proofs.RasterLemmas.{raster_in, number_at, number_below, number_column, number_row, raster_one}
 use Rattle.jx_geom.proofs.SetLemmas.{resolution_to, resolution_from, band_rect_to, band_rect_from, cell_of_place, place_of_cell, cells_over, precinct_part_to, precinct_part_from}
+use Rattle.jx_base.proofs.Raster.{raster_in, number_below, number_column, number_row, raster_one}
 
 -- a cell of a rect's cells, where a place of the rect lies in it
 cell_from : (places : Rect) (wide high u v x y : ℕ) → InRect places x y → InCell wide high u v x y → InRect (cells_over places wide high) u v

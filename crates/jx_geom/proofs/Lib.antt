@@ -1,7 +1,6 @@
 pub mod CountLemmas
 pub mod LawLemmas
 pub mod NumberLemmas
-pub mod RasterLemmas
 pub mod RectLemmas
 pub mod SetLemmas
 pub mod SizeLemmas

@@ -1,5 +1,5 @@
 -- The number of a block is below the count of blocks, and grows with the block's name.
-use Rattle.std.proofs.Common.{zero, suc, ◌-◌, add-one, ◌≡◌, ℕ, ◌+◌, ◌≤◌, ◌<◌, ◌⊎◌, inl, inr, refl, arith, subst, sym, ap, List, length, get_or, take, sum_by}
+use Rattle.std.proofs.Common.{zero, suc, ◌-◌, ◌≡◌, ℕ, ◌+◌, ◌≤◌, ◌<◌, ◌⊎◌, inl, inr, refl, arith, subst, sym, ap, List, length, get_or, take, sum_by}
 use Rattle.std.proofs.lemmas.List.{take-take}
 use Rattle.std.proofs.Math.Seq.{take-length}
 use Rattle.std.proofs.lemmas.Bool.{cases_lt}
@@ -12,10 +12,12 @@ use Rattle.jx_geom.specs.declared.shape.Canvas.{Canvas}
 use Rattle.jx_geom.specs.declared.shape.CompShape.{CompShape}
 use Rattle.jx_geom.specs.Ranges.{HasBand}
 use Rattle.jx_geom.specs.Rects.{tile_rect}
-use Rattle.jx_geom.specs.Counts.{sum_below, block_count, resolution_blocks, blocks_before_band, component_blocks, tile_blocks, tile_count}
+use Rattle.jx_geom.specs.Counts.{block_count, resolution_blocks, blocks_before_band, component_blocks, tile_blocks, tile_count}
 use Rattle.jx_geom.specs.Geometry.{Geometry, HasBlock, no_shape, shape_of, rect_of_tile}
 use Rattle.jx_geom.specs.Numbering.{band_place, ComesBefore, number_in_component, number_in_tile, geometry_of, blocks_below, block_number, blocks_of_all, IsBlock}
-use Rattle.jx_geom.proofs.CountLemmas.{sum_below_more, band_within, band_before, resolution_low, resolution_high}
+use Rattle.jx_geom.proofs.CountLemmas.{band_within, band_before, resolution_low, resolution_high}
+use Rattle.jx_base.specs.Joined.{sum_below}
+use Rattle.jx_base.proofs.Sums.{sum_below_more, front_sum}
 
 -- within a resolution, and within a component
 in_resolution : (tile : Rect) (s : CompShape) (r : ℕ) (b : Band) (i : ℕ) → HasBand r b → i < block_count tile s r b
@@ -127,24 +129,14 @@ sum_below_split f (suc n) k lt = elim (cases_lt k (sum_below f n)) [
   | inr after ↦ (n, k - sum_below f n, (omega arith, omega arith, omega arith))
 ]
 
--- a sum over the front of a list, as a sum of its terms by place
-front_sum : (f : CompShape → ℕ) (xs : List CompShape) (n : ℕ) → n ≤ length xs
-    → sum_by f (take n xs) ≡ sum_below (λ c. f (get_or xs c no_shape)) n
-front_sum f xs zero le = refl
-front_sum f xs (suc n) le =
-    let before : sum_by f (take n xs) ≡ sum_below (λ c. f (get_or xs c no_shape)) n = front_sum f xs n (omega arith) in
-    let more : sum_by f (take (n + 1) xs) ≡ sum_by f (take n xs) + f (get_or xs n no_shape) = sum_by_more f xs n no_shape (omega arith) in
-    let more' : sum_by f (take (suc n) xs) ≡ sum_by f (take n xs) + f (get_or xs n no_shape) = rw add-one at more in
-    omega arith
-
 -- the component, the band and the place of a number
 component_split : (f : CompShape → ℕ) (xs : List CompShape) (k : ℕ) → k < sum_by f xs
     → (c : ℕ) × (m : ℕ) × ((c < length xs) × (m < f (get_or xs c no_shape)) × (k ≡ sum_by f (take c xs) + m))
 component_split f xs k lt =
     let whole : sum_by f (take (length xs) xs) ≡ sum_by f xs = ap (λ ys. sum_by f ys) (take-length xs) in
-    let places : sum_by f (take (length xs) xs) ≡ sum_below (λ c. f (get_or xs c no_shape)) (length xs) = front_sum f xs (length xs) (omega arith) in
+    let places : sum_by f (take (length xs) xs) ≡ sum_below (λ c. f (get_or xs c no_shape)) (length xs) = front_sum f xs no_shape (length xs) (omega arith) in
     let part = sum_below_split (λ c. f (get_or xs c no_shape)) (length xs) k (omega arith) in
-    let back = front_sum f xs part.0 (omega (arith, part.2.0)) in
+    let back = front_sum f xs no_shape part.0 (omega (arith, part.2.0)) in
     (part.0, part.1, (part.2.0, part.2.1, omega (arith, part.2.2, back)))
 
 high_split : (tile : Rect) (s : CompShape) (r k : ℕ) → 0 < r → k < resolution_blocks tile s r

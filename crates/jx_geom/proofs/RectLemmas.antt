@@ -8,8 +8,8 @@ use Rattle.jx_geom.specs.declared.shape.CompShape.{CompShape}
 use Rattle.jx_geom.specs.Ranges.{ShapeInRange, exponent_across, exponent_down}
 use Rattle.jx_geom.specs.Rects.{component_rect, resolution_rect, precinct_cells, precinct_column_point, precinct_row_point}
 use Rattle.jx_geom.specs.Counts.{precinct_count}
-use Rattle.jx_geom.proofs.RasterLemmas.{raster_in}
 use Rattle.jx_geom.proofs.SpanLemmas.{twice_scaled_times, grows_by, reference_latest}
+use Rattle.jx_base.proofs.Raster.{raster_in}
 
 -- what the first place of a counted precinct stands for lies before the tile's end
 pub precinct_column_fits : (tile : Rect) (s : CompShape) (r k : ℕ) → ShapeInRange s → k < precinct_count tile s r

@@ -11,8 +11,8 @@ use Rattle.jx_geom.specs.Spans.{tiles_along, tile_span}
 use Rattle.jx_geom.specs.Rects.{tile_rect, tiles_across, tiles_down}
 use Rattle.jx_geom.specs.Counts.{tile_count}
 use Rattle.jx_geom.specs.Sets.{InPicture, InTile, HasPlace}
-use Rattle.jx_geom.proofs.RasterLemmas.{in_rows, same_number, row_below, column_below}
 use Rattle.jx_geom.proofs.SpanLemmas.{in_cell_low, in_cell_high, tile_span_fits, TileSpanFits}
+use Rattle.jx_base.proofs.Raster.{row_below, column_below, in_rows, same_number}
 
 tile_span_to : (start end offset size p x : ℕ) → 0 < size → offset ≤ start → InSpan (tile_span start end offset size p) x
     → InSpan (span_of start end) x × ((x - offset) / size ≡ p)

@@ -1,5 +1,5 @@
 -- How many blocks and precincts there are.
-use Rattle.std.specs.Prelude.{ℕ, zero, suc, ◌+◌, ◌*◌, List, sum_by, ◌==◌, if◌then◌else◌}
+use Rattle.std.specs.Prelude.{ℕ, ◌+◌, ◌*◌, List, sum_by, ◌==◌, if◌then◌else◌}
 use Rattle.jx_base.specs.declared.names.Rect.{Rect}
 use Rattle.jx_base.specs.declared.names.Band.{Band}
 use Rattle.jx_base.specs.declared.names.Band.TheVariants.{LL, HL, LH, HH}
@@ -7,11 +7,7 @@ use Rattle.jx_base.specs.Places.{size_of}
 use Rattle.jx_geom.specs.declared.shape.Canvas.{Canvas}
 use Rattle.jx_geom.specs.declared.shape.CompShape.{CompShape}
 use Rattle.jx_geom.specs.Rects.{tiles_across, tiles_down, precinct_cells, block_cells}
-
--- f 0 + f 1 + .. up to and not including f n
-abbrev pub sum_below : (ℕ → ℕ) → ℕ → ℕ
-sum_below f zero = 0
-sum_below f (suc n) = sum_below f n + f n
+use Rattle.jx_base.specs.Joined.{sum_below}
 
 -- B.3, equation B-5: all tiles
 abbrev pub tile_count : Canvas → ℕ

@@ -8,8 +8,9 @@ use Rattle.jx_base.specs.declared.names.BlockName.{BlockName}
 use Rattle.jx_geom.specs.declared.shape.Canvas.{Canvas}
 use Rattle.jx_geom.specs.declared.shape.CompShape.{CompShape}
 use Rattle.jx_geom.specs.Rects.{tile_rect}
-use Rattle.jx_geom.specs.Counts.{sum_below, tile_count, tile_blocks, resolution_blocks, blocks_before_band}
+use Rattle.jx_geom.specs.Counts.{tile_count, tile_blocks, resolution_blocks, blocks_before_band}
 use Rattle.jx_geom.specs.Geometry.{Geometry, HasBlock, shape_of, rect_of_tile}
+use Rattle.jx_base.specs.Joined.{sum_below}
 
 -- the order of the bands of a resolution
 abbrev pub band_place : Band → ℕ

@@ -53,7 +53,7 @@ fn count_resolution(tile: Rect, shape: &CompShape, res: u8) -> u128
 }
 
 /// How many code-blocks a component of a tile has, over all its bands (T.800, B.7).
-#[tactic(auto, using(crate::proofs::CountLemmas::sum_below_next), unfolding(crate::specs::Counts::component_blocks))]
+#[tactic(auto, using(jx_base::proofs::Sums::sum_below_next), unfolding(crate::specs::Counts::component_blocks))]
 pub fn count_blocks(canvas: &Canvas, tile: u16, comp: &CompShape) -> u128
     requires canvas { CanvasInRange canvas.now }
     requires tile { tile < tile_count canvas.now }
@@ -70,7 +70,7 @@ pub fn count_blocks(canvas: &Canvas, tile: u16, comp: &CompShape) -> u128
 }
 
 /// How many precincts a component of a tile has, over all its resolutions (T.800, B.6).
-#[tactic(auto, using(crate::proofs::CountLemmas::sum_below_next), unfolding(crate::specs::Counts::component_precincts))]
+#[tactic(auto, using(jx_base::proofs::Sums::sum_below_next), unfolding(crate::specs::Counts::component_precincts))]
 pub fn count_precincts(canvas: &Canvas, tile: u16, comp: &CompShape) -> u128
     requires canvas { CanvasInRange canvas.now }
     requires tile { tile < tile_count canvas.now }

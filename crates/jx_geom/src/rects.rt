@@ -53,7 +53,7 @@ fn down(canvas: &Canvas) -> u64
 }
 
 /// A tile's places on the reference grid.
-#[tactic(auto, using(crate::proofs::RasterLemmas::row_below), unfolding(crate::specs::Rects::tile_rect))]
+#[tactic(auto, using(jx_base::proofs::Raster::row_below), unfolding(crate::specs::Rects::tile_rect))]
 pub(crate) fn tile_of(canvas: &Canvas, tile: u16) -> Rect
     requires canvas { CanvasInRange canvas.now }
     requires tile { tile < tile_count canvas.now }
@@ -171,7 +171,7 @@ pub(crate) fn blocks_of(tile: Rect, shape: &CompShape, res: u8, band: Band) -> R
 }
 
 /// The column of the cell of a number among the cells of a rect, row by row.
-#[tactic(auto, using(crate::proofs::RasterLemmas::raster_in))]
+#[tactic(auto, using(jx_base::proofs::Raster::raster_in))]
 fn column_of(cells: Rect, index: u32) -> u32
     requires { index < size_of cells }
     ensures value { result ≡ column_at cells index }
@@ -181,7 +181,7 @@ fn column_of(cells: Rect, index: u32) -> u32
 }
 
 /// The row of that cell.
-#[tactic(auto, using(crate::proofs::RasterLemmas::raster_in))]
+#[tactic(auto, using(jx_base::proofs::Raster::raster_in))]
 fn row_of(cells: Rect, index: u32) -> u32
     requires { index < size_of cells }
     ensures value { result ≡ row_at cells index }

@@ -1,27 +1,17 @@
 -- What the fields of a segment are that violates no rule.
-use Rattle.std.proofs.Common.{◌≡◌, ◌≢◌, ◌<◌, ◌≤◌, ◌+◌, ◌-◌, ◌*◌, ◌%◌, ◌^◌, ℕ, List, ◌∷◌, [], length, drop, arith, refl, Bool, true, false, ◌&&◌, ◌||◌, ◌==◌, not, None, slice_index, cond, ltb, leb}
+use Rattle.std.proofs.Common.{◌≡◌, ◌<◌, ◌≤◌, ◌+◌, ◌-◌, ◌*◌, ◌%◌, ◌^◌, ℕ, List, ◌∷◌, [], length, drop, arith, refl, Bool, true, false, ◌||◌, ◌==◌, None, slice_index, cond, leb}
 use Rattle.std.specs.List.{list_all, list_any}
 use Rattle.std.proofs.lemmas.Bool.Decides.{nat_tests}
 use Rattle.byteorder.specs.Endian.{big_from}
 use Rattle.jx_marker.specs.Markers.{has_length, index_size, entry_size, progression_size}
 use Rattle.jx_marker.specs.Values.{siz_at, poc_at, index_at}
 use Rattle.jx_marker.specs.Rules.{breaks_3, breaks_4, breaks_5, breaks_6, breaks_7, breaks_8, breaks_9, breaks_10, breaks_11, breaks_12, first_true, rules_inside, siz_fits, shape_fits, cod_fits, quant_fits, has_zero_exponent, progression_fits}
-use Rattle.jx_marker.proofs.RuleLemmas.{cleared, siz_rules, cod_rules, coc_rules, qcd_rules, qcc_rules, rgn_rules, poc_rules, neither}
-
-pub first_holds : (x y : Bool) → (x && y) ≡ true → (x ≡ true) × (y ≡ true)
-first_holds true y h = (refl, h)
-first_holds false y h = absurd (cc)
+use Rattle.jx_marker.proofs.RuleLemmas.{cleared, siz_rules, cod_rules, coc_rules, qcd_rules, qcc_rules, rgn_rules, poc_rules}
+use Rattle.std.proofs.lemmas.Bool.{or_parts, and_parts, not-false, leb-true, leb-false, ltb-true, eqb-true}
 
 last_holds : (x : Bool) → (x || false) ≡ true → x ≡ true
 last_holds true h = refl
 last_holds false h = absurd (cc)
-
-pub not_equal : (a b : ℕ) → a ≢ b → (a == b) ≡ false
-not_equal a b h = grind (arith, nat_tests)
-
-pub not_false : (x : Bool) → not x ≡ false → x ≡ true
-not_false true h = refl
-not_false false h = absurd (cc)
 
 pub record IsClearSiz (body : List ℕ) : Type 0 where
   pub count : length body ≡ 36 + 3 * big_from 34 2 body
@@ -35,11 +25,11 @@ clear_siz comps body h =
     let third = cleared 3 (breaks_3 81 body) ((4, breaks_4 81 body) ∷ (5, breaks_5 81 body) ∷ []) all in
     let fourth = cleared 4 (breaks_4 81 body) ((5, breaks_5 81 body) ∷ []) third.1 in
     let fifth = cleared 5 (breaks_5 81 body) [] fourth.1 in
-    let length_is = not_false _ third.0 in
+    let length_is = not-false _ third.0 in
     let rsiz_is = fifth.0 in
     record {
       count = grind (arith, nat_tests, length_is);
-      fits = not_false _ fourth.0;
+      fits = not-false _ fourth.0;
       rsiz = grind (arith, nat_tests, rsiz_is);
     }
 
@@ -53,34 +43,22 @@ pub record IsClearShape (flags at : ℕ) (body : List ℕ) : Type 0 where
   pub style : slice_index body (at + 3) < 64
   pub above : list_any has_zero_exponent (drop (at + 6) body) ≡ false
 
-le_true : (a b : ℕ) → leb a b ≡ true → a ≤ b
-le_true a b h = grind (arith, nat_tests)
-
-le_false : (a b : ℕ) → leb a b ≡ false → b < a
-le_false a b h = grind (arith, nat_tests)
-
-lt_true : (a b : ℕ) → ltb a b ≡ true → a < b
-lt_true a b h = grind (arith, nat_tests)
-
-eq_true : (a b : ℕ) → (a == b) ≡ true → a ≡ b
-eq_true a b h = grind (arith, nat_tests)
-
 clear_shape : (flags at : ℕ) (body : List ℕ) → shape_fits flags at body ≡ true → leb 64 (slice_index body (at + 3)) ≡ false
     → list_any has_zero_exponent (drop (at + 6) body) ≡ false → IsClearShape flags at body
 clear_shape flags at body h style above =
-    let size = first_holds _ _ h in
-    let levels = first_holds _ _ size.1 in
-    let xcb = first_holds _ _ levels.1 in
-    let ycb = first_holds _ _ xcb.1 in
-    let area = first_holds _ _ ycb.1 in
+    let size = and_parts _ _ h in
+    let levels = and_parts _ _ size.1 in
+    let xcb = and_parts _ _ levels.1 in
+    let ycb = and_parts _ _ xcb.1 in
+    let area = and_parts _ _ ycb.1 in
     record {
-      size = eq_true _ _ size.0;
-      levels = le_true _ _ levels.0;
-      xcb = le_true _ _ xcb.0;
-      ycb = le_true _ _ ycb.0;
-      area = le_true _ _ area.0;
-      wavelet = le_true _ _ area.1;
-      style = le_false _ _ style;
+      size = eqb-true _ _ size.0;
+      levels = leb-true _ _ levels.0;
+      xcb = leb-true _ _ xcb.0;
+      ycb = leb-true _ _ ycb.0;
+      area = leb-true _ _ area.0;
+      wavelet = leb-true _ _ area.1;
+      style = leb-false _ _ style;
       above = above;
     }
 
@@ -98,15 +76,15 @@ clear_cod comps body h =
     let sixth = cleared 6 (breaks_6 comps 82 body) ((7, breaks_7 comps 82 body) ∷ (8, breaks_8 comps 82 body) ∷ []) all in
     let seventh = cleared 7 (breaks_7 comps 82 body) ((8, breaks_8 comps 82 body) ∷ []) sixth.1 in
     let eighth = cleared 8 (breaks_8 comps 82 body) [] seventh.1 in
-    let fields = first_holds (cod_fits body) (shape_fits (slice_index body 0) 5 body) (not_false _ (neither _ _ sixth.0).0) in
-    let flags = first_holds _ _ fields.0 in
-    let order = first_holds _ _ flags.1 in
-    let layers = first_holds _ _ order.1 in
+    let fields = and_parts (cod_fits body) (shape_fits (slice_index body 0) 5 body) (not-false _ (or_parts _ _ sixth.0).0) in
+    let flags = and_parts _ _ fields.0 in
+    let order = and_parts _ _ flags.1 in
+    let layers = and_parts _ _ order.1 in
     record {
-      flags = lt_true _ _ flags.0;
-      order = le_true _ _ order.0;
-      layers = lt_true _ _ layers.0;
-      transform = le_true _ _ layers.1;
+      flags = ltb-true _ _ flags.0;
+      order = leb-true _ _ order.0;
+      layers = ltb-true _ _ layers.0;
+      transform = leb-true _ _ layers.1;
       shape = clear_shape (slice_index body 0) 5 body fields.1 seventh.0 eighth.0;
     }
 
@@ -123,11 +101,11 @@ clear_coc comps body h =
     let seventh = cleared 7 (breaks_7 comps 83 body) ((8, breaks_8 comps 83 body) ∷ (12, breaks_12 comps 83 body) ∷ []) sixth.1 in
     let eighth = cleared 8 (breaks_8 comps 83 body) ((12, breaks_12 comps 83 body) ∷ []) seventh.1 in
     let twelfth = cleared 12 (breaks_12 comps 83 body) [] eighth.1 in
-    let fields = first_holds _ (shape_fits (slice_index body (index_size comps)) (1 + index_size comps) body) (not_false _ sixth.0) in
+    let fields = and_parts _ (shape_fits (slice_index body (index_size comps)) (1 + index_size comps) body) (not-false _ sixth.0) in
     record {
-      flags = lt_true _ _ fields.0;
+      flags = ltb-true _ _ fields.0;
       shape = clear_shape (slice_index body (index_size comps)) (1 + index_size comps) body fields.1 seventh.0 eighth.0;
-      index = le_false _ _ twelfth.0;
+      index = leb-false _ _ twelfth.0;
     }
 
 pub record IsClearQuant (at : ℕ) (body : List ℕ) : Type 0 where
@@ -137,15 +115,15 @@ pub record IsClearQuant (at : ℕ) (body : List ℕ) : Type 0 where
 
 clear_quant : (at : ℕ) (body : List ℕ) → quant_fits at body ≡ true → IsClearQuant at body
 clear_quant at body h =
-    let style = first_holds _ _ h in
-    let some = first_holds _ _ style.1 in
-    record { style = le_true _ _ style.0; some = le_true _ _ some.0; whole = eq_true _ _ some.1 }
+    let style = and_parts _ _ h in
+    let some = and_parts _ _ style.1 in
+    record { style = leb-true _ _ style.0; some = leb-true _ _ some.0; whole = eqb-true _ _ some.1 }
 
 pub clear_qcd : (comps : ℕ) (body : List ℕ) → first_true (rules_inside comps 92 body) ≡ None → IsClearQuant 0 body
 unfolding breaks_9
 clear_qcd comps body h =
     let ninth = cleared 9 (breaks_9 comps 92 body) [] (rw qcd_rules at h) in
-    clear_quant 0 body (not_false _ (neither _ _ ninth.0).0)
+    clear_quant 0 body (not-false _ (or_parts _ _ ninth.0).0)
 
 pub record IsClearQcc (comps : ℕ) (body : List ℕ) : Type 0 where
   pub quant : IsClearQuant (index_size comps) body
@@ -156,7 +134,7 @@ unfolding breaks_9 breaks_12
 clear_qcc comps body h =
     let ninth = cleared 9 (breaks_9 comps 93 body) ((12, breaks_12 comps 93 body) ∷ []) (rw qcc_rules at h) in
     let twelfth = cleared 12 (breaks_12 comps 93 body) [] ninth.1 in
-    record { quant = clear_quant (index_size comps) body (not_false _ ninth.0); index = le_false _ _ twelfth.0 }
+    record { quant = clear_quant (index_size comps) body (not-false _ ninth.0); index = leb-false _ _ twelfth.0 }
 
 pub record IsClearRgn (comps : ℕ) (body : List ℕ) : Type 0 where
   pub size : length body ≡ index_size comps + 2
@@ -168,8 +146,8 @@ unfolding breaks_10 breaks_12
 clear_rgn comps body h =
     let tenth = cleared 10 (breaks_10 comps 94 body) ((12, breaks_12 comps 94 body) ∷ []) (rw rgn_rules at h) in
     let twelfth = cleared 12 (breaks_12 comps 94 body) [] tenth.1 in
-    let fields = first_holds _ _ (not_false _ tenth.0) in
-    record { size = eq_true _ _ fields.0; style = eq_true _ _ fields.1; index = le_false _ _ twelfth.0 }
+    let fields = and_parts _ _ (not-false _ tenth.0) in
+    record { size = eqb-true _ _ fields.0; style = eqb-true _ _ fields.1; index = leb-false _ _ twelfth.0 }
 
 pub record IsClearPoc (comps : ℕ) (body : List ℕ) : Type 0 where
   pub whole : length body % progression_size comps ≡ 0
@@ -179,8 +157,8 @@ pub clear_poc : (comps : ℕ) (body : List ℕ) → first_true (rules_inside com
 unfolding breaks_11
 clear_poc comps body h =
     let eleventh = cleared 11 (breaks_11 comps 95 body) [] (rw poc_rules at h) in
-    let fields = first_holds _ _ (not_false _ eleventh.0) in
-    record { whole = eq_true _ _ fields.0; fits = fields.1 }
+    let fields = and_parts _ _ (not-false _ eleventh.0) in
+    record { whole = eqb-true _ _ fields.0; fits = fields.1 }
 
 -- the only marker with a length that is left
 pub sot_left : (code : ℕ) → has_length code ≡ true → (code == 81) ≡ false → (code == 82) ≡ false → (code == 83) ≡ false → (code == 85) ≡ false → (code == 87) ≡ false
@@ -188,4 +166,4 @@ pub sot_left : (code : ℕ) → has_length code ≡ true → (code == 81) ≡ fa
     → (code == 99) ≡ false → (code == 100) ≡ false → code ≡ 144
 sot_left code h n81 n82 n83 n85 n87 n88 n92 n93 n94 n95 n96 n97 n99 n100 =
     let left = rw (n81, n82, n83, n85, n87, n88, n92, n93, n94, n95, n96, n97, n99, n100) at h in
-    eq_true code 144 (last_holds (code == 144) left)
+    eqb-true code 144 (last_holds (code == 144) left)

@@ -1,5 +1,5 @@
 -- A marker, a length and what follows, in front of other bytes.
-use Rattle.std.proofs.Common.{◌≡◌, ◌<◌, ◌≤◌, ◌+◌, ◌-◌, ℕ, suc, List, ◌∷◌, ◌++◌, [], length, arith, append_assoc, refl, ap₂, Bool, true, false, ◌&&◌, ◌==◌, not, None, slice_index, ltb, leb, length-append}
+use Rattle.std.proofs.Common.{◌≡◌, ◌≤◌, ◌+◌, ◌-◌, ℕ, suc, List, ◌∷◌, ◌++◌, [], length, arith, append_assoc, refl, ap₂, Bool, true, false, ◌&&◌, ◌==◌, not, None, slice_index, ltb, length-append}
 use Rattle.std.proofs.lemmas.Bool.Decides.{nat_tests}
 use Rattle.std.proofs.lemmas.List.{take_at}
 use Rattle.std.specs.List.{AllByRecursion, flat_map}
@@ -97,19 +97,3 @@ whole_read comps code body rest segment whole is =
       value = rw (whole.follows, inner) is;
       takes = rw (whole.follows, n) (omega arith);
     }
-
--- tests that hold
-pub eq_holds : (a b : ℕ) → a ≡ b → (a == b) ≡ true
-eq_holds a b h = grind (arith, nat_tests)
-
-pub le_holds : (a b : ℕ) → a ≤ b → leb a b ≡ true
-le_holds a b h = grind (arith, nat_tests)
-
-pub lt_holds : (a b : ℕ) → a < b → ltb a b ≡ true
-lt_holds a b h = grind (arith, nat_tests)
-
-pub le_fails : (a b : ℕ) → b < a → leb a b ≡ false
-le_fails a b h = grind (arith, nat_tests)
-
-pub and_holds : (x y : Bool) → x ≡ true → y ≡ true → (x && y) ≡ true
-and_holds x y h e = rw (h, e) refl

@@ -1,5 +1,5 @@
 -- How long what follows a segment's length is.
-use Rattle.std.proofs.Common.{◌≡◌, ◌≤◌, ◌+◌, ◌*◌, ℕ, List, ◌∷◌, ◌++◌, [], length, arith, append_assoc, refl, ap, true, false, Bool, length-append, ltb, leb, ◌&&◌, take, drop, sym, ◌∙◌}
+use Rattle.std.proofs.Common.{◌≡◌, ◌≤◌, ◌+◌, ◌*◌, ℕ, List, ◌∷◌, ◌++◌, [], length, arith, append_assoc, refl, ap, length-append, ltb, leb, take, drop, sym, ◌∙◌}
 use Rattle.std.proofs.Math.Seq.{take-append_seam}
 use Rattle.std.proofs.lemmas.List.{take-append-drop}
 use Rattle.std.proofs.lemmas.Bool.Decides.{nat_tests}
@@ -14,6 +14,7 @@ use Rattle.jx_marker.specs.Markers.{index_size, entry_size, progression_size}
 use Rattle.jx_marker.specs.Values.{siz_bytes, canvas_bytes, cod_bytes, comp_size_bytes, index_bytes, quant_bytes, progression_bytes, poc_bytes}
 use Rattle.jx_marker.specs.Segments.{with_length}
 use Rattle.jx_marker.specs.Ranges.{SizInRange}
+use Rattle.std.proofs.lemmas.Bool.{and_parts}
 
 -- a marker, a length and what follows it, appended in turn
 pub fronted : (code size : ℕ) (out body : List ℕ) → size ≡ length body → (out ++ 255 ∷ code ∷ big_bytes 2 (2 + size)) ++ body ≡ out ++ with_length code body
@@ -36,14 +37,10 @@ length_siz siz = let e = length_each comp_size_bytes 3 (λ comp. refl) siz.comps
     let tail : List ℕ = big_bytes 2 (length siz.comps) ++ flat_map comp_size_bytes siz.comps in
     omega (arith, e, length_canvas siz, length-append (canvas_bytes siz) tail)
 
-first_holds : (x y : Bool) → (x && y) ≡ true → (x ≡ true) × (y ≡ true)
-first_holds true y h = (refl, h)
-first_holds false y h = absurd (cc)
-
 pub most_comps : (siz : Siz) → SizInRange siz → length siz.comps ≤ 16384
 most_comps siz range =
-    let some = first_holds (ltb 0 (length siz.comps)) _ range.fits in
-    let most = first_holds (leb (length siz.comps) 16384) _ some.1 in
+    let some = and_parts (ltb 0 (length siz.comps)) _ range.fits in
+    let most = and_parts (leb (length siz.comps) 16384) _ some.1 in
     let most0 = most.0 in
     grind (arith, nat_tests, most0)
 

@@ -16,8 +16,9 @@ use Rattle.jx_marker.specs.Ranges.{InRange, AreBytes, FitsLength, SizInRange, Co
 use Rattle.jx_marker.specs.Laws.{BeginsWith, StandsAt}
 use Rattle.jx_marker.proofs.ValueLemmas.{length_values}
 use Rattle.jx_marker.proofs.CutLemmas.{byte_small, drop_end, cut_2_to, cut_to, bytes_drop, drop_one, cut_2, cut_4, cut_narrow, small_2, small_4, small_narrow, values_spelled, all_values}
-use Rattle.jx_marker.proofs.RuleLemmas.{cleared, neither, both, plain_rules, IsClear, clear, two_bytes, has_room, length_body, not_packed}
-use Rattle.jx_marker.proofs.ClearLemmas.{first_holds, not_false, not_equal, IsClearSiz, clear_siz, IsClearShape, IsClearCod, clear_cod, IsClearCoc, clear_coc, IsClearQuant, clear_qcd, IsClearQcc, clear_qcc, IsClearRgn, clear_rgn, IsClearPoc, clear_poc, sot_left}
+use Rattle.jx_marker.proofs.RuleLemmas.{cleared, both, plain_rules, IsClear, clear, two_bytes, has_room, length_body, not_packed}
+use Rattle.jx_marker.proofs.ClearLemmas.{IsClearSiz, clear_siz, IsClearShape, IsClearCod, clear_cod, IsClearCoc, clear_coc, IsClearQuant, clear_qcd, IsClearQcc, clear_qcc, IsClearRgn, clear_rgn, IsClearPoc, clear_poc, sot_left}
+use Rattle.std.proofs.lemmas.Bool.{cases_Bool, or_parts, and_parts, ne_eqb, not-false}
 
 -- SIZ
 
@@ -385,14 +386,14 @@ read_plt : (comps : ℕ) (body : List ℕ) → IsSound comps 88 body → IsSpell
 unfolding breaks_13
 read_plt comps body h =
     let all = rw (plain_rules comps 88 body (record { siz = refl; cod = refl; coc = refl; qcd = refl; qcc = refl; rgn = refl; poc = refl })) at h.rules in
-    let long = neither (ltb (2 + length body) 3) false (cleared 13 (breaks_13 88 body) [] all).0 in
+    let long = or_parts (ltb (2 + length body) 3) false (cleared 13 (breaks_13 88 body) [] all).0 in
     record { spelled = refl; range = record { some = not_short (length body) 1 long.0; count = h.fits; each = h.are_bytes } }
 
 read_plm : (comps : ℕ) (body : List ℕ) → IsSound comps 87 body → IsSpelled comps 87 body
 unfolding breaks_13
 read_plm comps body h =
     let all = rw (plain_rules comps 87 body (record { siz = refl; cod = refl; coc = refl; qcd = refl; qcc = refl; rgn = refl; poc = refl })) at h.rules in
-    let long = neither (ltb (2 + length body) 3) false (cleared 13 (breaks_13 87 body) [] all).0 in
+    let long = or_parts (ltb (2 + length body) 3) false (cleared 13 (breaks_13 87 body) [] all).0 in
     record { spelled = refl; range = record { some = not_short (length body) 1 long.0; count = h.fits; each = h.are_bytes } }
 
 read_tlm : (comps : ℕ) (body : List ℕ) → IsSound comps 85 body → IsSpelled comps 85 body
@@ -477,7 +478,7 @@ marker_is : (bytes : List ℕ) → 2 ≤ length bytes → breaks_2 bytes ≡ fal
 unfolding breaks_2
 marker_is bytes room h =
     let long : leb 2 (length bytes) ≡ true = grind (arith, nat_tests) in
-    let fields = first_holds (slice_index bytes 0 == 255) (has_length (code_at bytes) || stands_alone (code_at bytes)) (not_false _ (both (leb 2 (length bytes)) _ long h)) in
+    let fields = and_parts (slice_index bytes 0 == 255) (has_length (code_at bytes) || stands_alone (code_at bytes)) (not-false _ (both (leb 2 (length bytes)) _ long h)) in
     let is = fields.0 in
     (grind (arith, nat_tests, is), fields.1)
 
@@ -499,8 +500,8 @@ length_spelled comps bytes are fine follows =
       least = omega arith;
       sot = λ is. (let ten = room.sot is in omega arith);
       follows = follows;
-      not_ppm = not_equal (code_at bytes) 96 packed.0;
-      not_ppt = not_equal (code_at bytes) 97 packed.1;
+      not_ppm = ne_eqb (code_at bytes) 96 packed.0;
+      not_ppt = ne_eqb (code_at bytes) 97 packed.1;
     } in
     let done = value_spelled comps (code_at bytes) (body_at bytes) sound in
     rw follows (record {
@@ -520,7 +521,7 @@ alone_spelled comps code h =
                   | inl e ↦ rw e (refl, tt)
                   | inr n217 ↦
                       (let left = rw (n79, n147, n217) at h in
-                      let low = first_holds (leb 48 code) (leb code 63) left in
+                      let low = and_parts (leb 48 code) (leb code 63) left in
                       let l0 = low.0 in let l1 = low.1 in
                       rw (n79, n147, n217) (refl, (grind (arith, nat_tests, l0), grind (arith, nat_tests, l1))))
                 ]
@@ -541,15 +542,11 @@ marker_spelled comps bytes fine none =
       range = done.1;
     })
 
-true_or_false : (x : Bool) → (x ≡ true) ⊎ (x ≡ false)
-true_or_false true = inl refl
-true_or_false false = inr refl
-
 pub segment_is_spelled : (comps : ℕ) (bytes : List ℕ) → AreBytes bytes → first_broken comps bytes ≡ None
     → BeginsWith comps bytes (segment_at comps bytes) (drop (size_at bytes) bytes)
 segment_is_spelled comps bytes are h =
     let fine = clear comps bytes h in
-    elim (true_or_false (has_length (code_at bytes))) [ inl follows ↦ length_spelled comps bytes are fine follows | inr none ↦ marker_spelled comps bytes fine none ]
+    elim (cases_Bool (has_length (code_at bytes))) [ inl follows ↦ length_spelled comps bytes are fine follows | inr none ↦ marker_spelled comps bytes fine none ]
 
 pub bytes_are : (bytes : List ℕ) → ((i : ℕ) → slice_index bytes i < 256) → AreBytes bytes
 bytes_are bytes each = All-from_get_or (λ (byte : ℕ). byte < 256) bytes 0 (λ i inside. each i)

@@ -1,5 +1,5 @@
 -- Which rules speak of which segment, and what follows where none is violated.
-use Rattle.std.proofs.Common.{◌≡◌, ◌≢◌, ◌<◌, ◌≤◌, ◌+◌, ℕ, List, ◌∷◌, [], length, arith, refl, Bool, true, false, ◌&&◌, ◌||◌, ◌==◌, not, None, ltb, leb, length-take, length-drop}
+use Rattle.std.proofs.Common.{◌≡◌, ◌≢◌, ◌<◌, ◌≤◌, ◌+◌, ℕ, List, ◌∷◌, [], length, arith, refl, Bool, true, false, ◌&&◌, ◌==◌, not, None, ltb, leb, length-take, length-drop}
 use Rattle.std.proofs.lemmas.Bool.Decides.{nat_tests}
 use Rattle.byteorder.specs.Endian.{big_from}
 use Rattle.jx_marker.specs.Markers.{has_length}
@@ -8,6 +8,7 @@ use Rattle.jx_marker.specs.Values.{values_from, comp_size_at}
 use Rattle.jx_marker.proofs.ValueLemmas.{length_values}
 use Rattle.jx_marker.specs.Segments.{code_at, length_at, body_at}
 use Rattle.jx_marker.specs.Rules.{breaks_1, breaks_2, breaks_3, breaks_4, breaks_5, breaks_6, breaks_7, breaks_8, breaks_9, breaks_10, breaks_11, breaks_12, breaks_13, breaks_14, first_true, rules_inside, first_broken, least_length, axis_fits, comp_size_fits}
+use Rattle.std.proofs.lemmas.Bool.{or_parts}
 
 pub siz_rules : (comps : ℕ) (body : List ℕ) → first_true (rules_inside comps 81 body) ≡ first_true ((3, breaks_3 81 body) ∷ (4, breaks_4 81 body) ∷ (5, breaks_5 81 body) ∷ [])
 unfolding breaks_6 breaks_7 breaks_8 breaks_9 breaks_10 breaks_11 breaks_12 breaks_13
@@ -51,23 +52,19 @@ pub plain_rules : (comps code : ℕ) (body : List ℕ) → IsPlain code → firs
 unfolding breaks_3 breaks_4 breaks_5 breaks_6 breaks_7 breaks_8 breaks_9 breaks_10 breaks_11 breaks_12
 plain_rules comps code body plain = rw (plain.siz, plain.cod, plain.coc, plain.qcd, plain.qcc, plain.rgn, plain.poc) refl
 
-pub neither : (x y : Bool) → (x || y) ≡ false → (x ≡ false) × (y ≡ false)
-neither true y h = absurd (cc)
-neither false y h = (refl, h)
-
 pub alone_rules : (comps code : ℕ) (body : List ℕ) → has_length code ≡ false → first_true (rules_inside comps code body) ≡ None
 unfolding breaks_13
 alone_rules comps code body none =
-    let siz = neither (code == 81) _ none in
-    let cod = neither (code == 82) _ siz.1 in
-    let coc = neither (code == 83) _ cod.1 in
-    let tlm = neither (code == 85) _ coc.1 in
-    let plm = neither (code == 87) _ tlm.1 in
-    let plt = neither (code == 88) _ plm.1 in
-    let qcd = neither (code == 92) _ plt.1 in
-    let qcc = neither (code == 93) _ qcd.1 in
-    let rgn = neither (code == 94) _ qcc.1 in
-    let poc = neither (code == 95) _ rgn.1 in
+    let siz = or_parts (code == 81) _ none in
+    let cod = or_parts (code == 82) _ siz.1 in
+    let coc = or_parts (code == 83) _ cod.1 in
+    let tlm = or_parts (code == 85) _ coc.1 in
+    let plm = or_parts (code == 87) _ tlm.1 in
+    let plt = or_parts (code == 88) _ plm.1 in
+    let qcd = or_parts (code == 92) _ plt.1 in
+    let qcc = or_parts (code == 93) _ qcd.1 in
+    let rgn = or_parts (code == 94) _ qcc.1 in
+    let poc = or_parts (code == 95) _ rgn.1 in
     rw (plain_rules comps code body (record { siz = siz.0; cod = cod.0; coc = coc.0; qcd = qcd.0; qcc = qcc.0; rgn = rgn.0; poc = poc.0 }), plm.0, plt.0, tlm.0) refl
 
 -- a test that comes first in a list of which none is true
@@ -95,7 +92,7 @@ clear_broken comps bytes h = rw (h.marker, h.packed, h.long) h.inside
 
 pub two_bytes : (comps : ℕ) (bytes : List ℕ) → breaks_1 comps bytes ≡ false → 2 ≤ length bytes
 unfolding breaks_1
-two_bytes comps bytes h = let none = neither (ltb (length bytes) 2) _ h in grind (arith, nat_tests)
+two_bytes comps bytes h = let none = or_parts (ltb (length bytes) 2) _ h in grind (arith, nat_tests)
 
 -- the room that rule 1 sees to where a length follows
 pub record HasRoom (comps : ℕ) (bytes : List ℕ) : Type 0 where
@@ -111,11 +108,11 @@ both false y h e = absurd (cc)
 pub has_room : (comps : ℕ) (bytes : List ℕ) → breaks_1 comps bytes ≡ false → has_length (code_at bytes) ≡ true → HasRoom comps bytes
 unfolding breaks_1
 has_room comps bytes h follows =
-    let short = neither (ltb (length bytes) 2) _ h in
+    let short = or_parts (ltb (length bytes) 2) _ h in
     let inner = both (has_length (code_at bytes)) _ follows short.1 in
-    let front = neither (ltb (length bytes) 4) _ inner in
-    let whole = neither (ltb (length bytes) (2 + length_at bytes)) _ front.1 in
-    let least = neither (ltb (length_at bytes) (least_length comps (code_at bytes))) _ whole.1 in
+    let front = or_parts (ltb (length bytes) 4) _ inner in
+    let whole = or_parts (ltb (length bytes) (2 + length_at bytes)) _ front.1 in
+    let least = or_parts (ltb (length_at bytes) (least_length comps (code_at bytes))) _ whole.1 in
     let f0 = front.0 in let w0 = whole.0 in let l0 = least.0 in let l1 = least.1 in
     record {
       front = grind (arith, nat_tests, f0);
@@ -151,21 +148,21 @@ not_packed comps bytes long packed =
     let two = two_bytes comps bytes long in
     let long_enough : leb 2 (length bytes) ≡ true = grind (arith, nat_tests) in
     let codes = both (leb 2 (length bytes)) _ long_enough packed in
-    let each = neither (code_at bytes == 96) _ codes in
+    let each = or_parts (code_at bytes == 96) _ codes in
     (λ is. grind (arith, nat_tests, each, is), λ is. grind (arith, nat_tests, each, is))
 
 pub packed_not_alone : (code : ℕ) → has_length code ≡ false → ((code == 96) ≡ false) × ((code == 97) ≡ false)
 packed_not_alone code none =
-    let siz = neither (code == 81) _ none in
-    let cod = neither (code == 82) _ siz.1 in
-    let coc = neither (code == 83) _ cod.1 in
-    let tlm = neither (code == 85) _ coc.1 in
-    let plm = neither (code == 87) _ tlm.1 in
-    let plt = neither (code == 88) _ plm.1 in
-    let qcd = neither (code == 92) _ plt.1 in
-    let qcc = neither (code == 93) _ qcd.1 in
-    let rgn = neither (code == 94) _ qcc.1 in
-    let poc = neither (code == 95) _ rgn.1 in
-    let ppm = neither (code == 96) _ poc.1 in
-    let ppt = neither (code == 97) _ ppm.1 in
+    let siz = or_parts (code == 81) _ none in
+    let cod = or_parts (code == 82) _ siz.1 in
+    let coc = or_parts (code == 83) _ cod.1 in
+    let tlm = or_parts (code == 85) _ coc.1 in
+    let plm = or_parts (code == 87) _ tlm.1 in
+    let plt = or_parts (code == 88) _ plm.1 in
+    let qcd = or_parts (code == 92) _ plt.1 in
+    let qcc = or_parts (code == 93) _ qcd.1 in
+    let rgn = or_parts (code == 94) _ qcc.1 in
+    let poc = or_parts (code == 95) _ rgn.1 in
+    let ppm = or_parts (code == 96) _ poc.1 in
+    let ppt = or_parts (code == 97) _ ppm.1 in
     (ppm.0, ppt.0)

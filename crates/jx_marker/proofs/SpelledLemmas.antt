@@ -23,7 +23,8 @@ use Rattle.jx_marker.specs.Ranges.{InRange, SizInRange, CompSizeInRange, ShapeIn
 use Rattle.jx_marker.specs.Laws.{StandsAt}
 use Rattle.jx_marker.proofs.RuleLemmas.{siz_rules, cod_rules, coc_rules, qcd_rules, qcc_rules, rgn_rules, poc_rules, plain_rules, alone_rules, clear_broken, packed_not_alone}
 use Rattle.jx_marker.proofs.PutLemmas.{length_siz, length_cod, length_quant, length_qcc, length_poc, length_progression, most_comps}
-use Rattle.jx_marker.proofs.FrontLemmas.{whole_read, values_read, slice_past, big_from_past, eq_holds, le_holds, lt_holds, le_fails, and_holds}
+use Rattle.jx_marker.proofs.FrontLemmas.{whole_read, values_read, slice_past, big_from_past}
+use Rattle.std.proofs.lemmas.Bool.{eq-eqb, le-leb, lt-ltb, lt-leb, and_from}
 
 -- SIZ
 
@@ -117,17 +118,17 @@ shape_fits_read flags shape range bit front at place =
     let size : length (front ++ rest) ≡ length front + 5 + length shape.precincts = omega (arith, length-append front rest) in
     let low_x = range.least_xcb in let low_y = range.least_ycb in let area = range.area in let most_x = range.xcb in let most_y = range.ycb in
     rw place (rw (levels, xcb, ycb, wavelet, bit, count)
-    (and_holds _ _ (eq_holds (length (front ++ rest)) (length front + 5 + length shape.precincts) size)
-    (and_holds _ _ (le_holds shape.levels 32 range.levels)
-    (and_holds _ _ (le_holds (shape.xcb - 2) 8 (omega arith))
-    (and_holds _ _ (le_holds (shape.ycb - 2) 8 (omega arith))
-    (and_holds _ _ (le_holds (shape.xcb - 2 + (shape.ycb - 2)) 8 (omega arith)) (le_holds shape.wavelet 1 range.wavelet)))))))
+    (and_from _ _ (eq-eqb (length (front ++ rest)) (length front + 5 + length shape.precincts) size)
+    (and_from _ _ (le-leb shape.levels 32 range.levels)
+    (and_from _ _ (le-leb (shape.xcb - 2) 8 (omega arith))
+    (and_from _ _ (le-leb (shape.ycb - 2) 8 (omega arith))
+    (and_from _ _ (le-leb (shape.xcb - 2 + (shape.ycb - 2)) 8 (omega arith)) (le-leb shape.wavelet 1 range.wavelet)))))))
 
 most_precincts : (shape : Shape) → ShapeInRange shape → length shape.precincts ≤ 33
 most_precincts shape range = let count = range.count in let levels = range.levels in grind (arith, nat_tests)
 
 style_read : (shape : Shape) → ShapeInRange shape → (front : List ℕ) (at : ℕ) → at ≡ length front → leb 64 (slice_index (front ++ shape_bytes shape) (at + 3)) ≡ false
-style_read shape range front at place = rw place (rw (slice_past front (shape_bytes shape) 3) (le_fails 64 shape.style range.style))
+style_read shape range front at place = rw place (rw (slice_past front (shape_bytes shape) 3) (lt-leb 64 shape.style range.style))
 
 above_read : (shape : Shape) → ShapeInRange shape → (front : List ℕ) (at : ℕ) → at ≡ length front
     → list_any has_zero_exponent (drop (at + 6) (front ++ shape_bytes shape)) ≡ false
@@ -222,9 +223,9 @@ cod_is_read comps cod rest range =
     let layers : big_from 2 2 body ≡ cod.layers = big_number-reads_back 2 cod.layers [] range.layers in
     let bit : scod cod % 2 ≡ precinct_bit cod.shape = bit_read (precinct_bit cod.shape) small cod.sop cod.eph in
     let shape : shape_fits (scod cod) 5 body ≡ true = shape_fits_read (scod cod) cod.shape range.shape bit front 5 refl in
-    let flags : ltb (scod cod) 8 ≡ true = lt_holds (scod cod) 8 (scod_small (precinct_bit cod.shape) small cod.sop cod.eph) in
-    let fields : cod_fits body ≡ true = rw layers (and_holds _ _ flags (and_holds _ _ (le_holds cod.order 4 range.order) (and_holds _ _ (lt_holds 0 cod.layers range.some) (le_holds cod.transform 1 range.transform)))) in
-    let sixth : breaks_6 comps 82 body ≡ false = ap (λ (x : Bool). not x || false) (and_holds (cod_fits body) (shape_fits (scod cod) 5 body) fields shape) in
+    let flags : ltb (scod cod) 8 ≡ true = lt-ltb (scod cod) 8 (scod_small (precinct_bit cod.shape) small cod.sop cod.eph) in
+    let fields : cod_fits body ≡ true = rw layers (and_from _ _ flags (and_from _ _ (le-leb cod.order 4 range.order) (and_from _ _ (lt-ltb 0 cod.layers range.some) (le-leb cod.transform 1 range.transform)))) in
+    let sixth : breaks_6 comps 82 body ≡ false = ap (λ (x : Bool). not x || false) (and_from (cod_fits body) (shape_fits (scod cod) 5 body) fields shape) in
     let seventh : breaks_7 comps 82 body ≡ false = style_read cod.shape range.shape front 5 refl in
     let eighth : breaks_8 comps 82 body ≡ false = above_read cod.shape range.shape front 5 refl in
     let size = length_cod cod in
@@ -304,13 +305,13 @@ coc_is_read comps comp shape rest range =
     let small = bit_small shape in
     let fits : shape_fits (precinct_bit shape) at body ≡ true
     = ap (λ (b : List ℕ). shape_fits (precinct_bit shape) at b) parts ∙ shape_fits_read (precinct_bit shape) shape range.fits (bit_of_bit shape) front at place in
-    let flag : ltb (precinct_bit shape) 2 ≡ true = lt_holds (precinct_bit shape) 2 (omega arith) in
+    let flag : ltb (precinct_bit shape) 2 ≡ true = lt-ltb (precinct_bit shape) 2 (omega arith) in
     let sixth : breaks_6 comps 83 body ≡ false
-    = ap (λ (f : ℕ). not (ltb f 2 && shape_fits f at body)) bit ∙ ap not (and_holds (ltb (precinct_bit shape) 2) (shape_fits (precinct_bit shape) at body) flag fits) in
+    = ap (λ (f : ℕ). not (ltb f 2 && shape_fits f at body)) bit ∙ ap not (and_from (ltb (precinct_bit shape) 2) (shape_fits (precinct_bit shape) at body) flag fits) in
     let seventh : breaks_7 comps 83 body ≡ false = ap (λ (b : List ℕ). leb 64 (slice_index b (at + 3))) parts ∙ style_read shape range.fits front at place in
     let eighth : breaks_8 comps 83 body ≡ false = ap (λ (b : List ℕ). list_any has_zero_exponent (drop (at + 6) b)) parts ∙ above_read shape range.fits front at place in
     let index : index_at comps 0 body ≡ comp = index_read comps comp (precinct_bit shape ∷ shape_bytes shape) (index_fits comps comp range.index range.word) in
-    let twelfth : breaks_12 comps 83 body ≡ false = ap (λ (n : ℕ). leb comps n) index ∙ le_fails comps comp range.index in
+    let twelfth : breaks_12 comps 83 body ≡ false = ap (λ (n : ℕ). leb comps n) index ∙ lt-leb comps comp range.index in
     let size : length body ≡ index_size comps + (6 + length shape.precincts)
     = omega (arith, length-append (index_bytes comps comp) (precinct_bit shape ∷ shape_bytes shape), index_length comps comp) in
     let count = most_precincts shape range.fits in
@@ -366,8 +367,8 @@ quant_fits_read quant space range front at place =
     let sqcd : slice_index body (length front) ≡ quant.sqcd = ap (λ (n : ℕ). slice_index body n) here ∙ slice_past front (quant_bytes quant) 0 in
     let some : size ≤ length quant.entries * size = mul_some (length quant.entries) size range.some in
     let whole : length quant.entries * size % size ≡ 0 = mul-mod_left (length quant.entries) size in
-    rw place (rw (sqcd, quant_length front quant) (and_holds _ _ (le_holds (quant.sqcd % 32) 2 range.style)
-    (and_holds _ _ (le_holds size (length quant.entries * size) some) (eq_holds (length quant.entries * size % size) 0 whole))))
+    rw place (rw (sqcd, quant_length front quant) (and_from _ _ (le-leb (quant.sqcd % 32) 2 range.style)
+    (and_from _ _ (le-leb size (length quant.entries * size) some) (eq-eqb (length quant.entries * size % size) 0 whole))))
 
 qcd_is_read : (comps : ℕ) (quant : Quant) (rest : List ℕ) → QuantInRange quant 0 → StandsAt comps (spelling comps (segment.Qcd quant) ++ rest) (segment.Qcd quant) (length (spelling comps (segment.Qcd quant)))
 unfolding breaks_9
@@ -397,7 +398,7 @@ qcc_is_read comps comp quant rest range =
     let fits : quant_fits (index_size comps) body ≡ true = quant_fits_read quant (index_size comps) range.fits front (index_size comps) place in
     let ninth : breaks_9 comps 93 body ≡ false = ap not fits in
     let index : index_at comps 0 body ≡ comp = index_read comps comp (quant_bytes quant) (index_fits comps comp range.index range.word) in
-    let twelfth : breaks_12 comps 93 body ≡ false = ap (λ (n : ℕ). leb comps n) index ∙ le_fails comps comp range.index in
+    let twelfth : breaks_12 comps 93 body ≡ false = ap (λ (n : ℕ). leb comps n) index ∙ lt-leb comps comp range.index in
     let size = length_qcc comps comp quant in
     let count = range.fits.count in
     let value : quant_at (index_size comps) body ≡ quant = quant_value quant (index_size comps) range.fits front (index_size comps) place in
@@ -421,9 +422,9 @@ rgn_is_read comps comp shift rest range =
     let size : length body ≡ index_size comps + 2 = omega (arith, length-append (index_bytes comps comp) (0 ∷ shift ∷ []), index_length comps comp) in
     let style : slice_index body (index_size comps) ≡ 0 = flag_read comps comp (shift ∷ []) 0 in
     let tenth : breaks_10 comps 94 body ≡ false
-    = ap not (and_holds (length body == index_size comps + 2) (slice_index body (index_size comps) == 0) (eq_holds (length body) (index_size comps + 2) size) (eq_holds (slice_index body (index_size comps)) 0 style)) in
+    = ap not (and_from (length body == index_size comps + 2) (slice_index body (index_size comps) == 0) (eq-eqb (length body) (index_size comps + 2) size) (eq-eqb (slice_index body (index_size comps)) 0 style)) in
     let index : index_at comps 0 body ≡ comp = index_read comps comp (0 ∷ shift ∷ []) (index_fits comps comp range.index range.word) in
-    let twelfth : breaks_12 comps 94 body ≡ false = ap (λ (n : ℕ). leb comps n) index ∙ le_fails comps comp range.index in
+    let twelfth : breaks_12 comps 94 body ≡ false = ap (λ (n : ℕ). leb comps n) index ∙ lt-leb comps comp range.index in
     let narrow = narrow_index comps in
     let here : 1 + index_size comps ≡ length (index_bytes comps comp) + 1 = omega (arith, index_length comps comp) in
     let shift_is : slice_index body (1 + index_size comps) ≡ shift = ap (λ (n : ℕ). slice_index body n) here ∙ slice_past (index_bytes comps comp) (0 ∷ shift ∷ []) 1 in
@@ -521,7 +522,7 @@ poc_is_read comps entries rest range =
     let long = length_poc comps entries in
     let whole : length body % size ≡ 0 = ap (λ (n : ℕ). n % size) long ∙ mul-mod_left (length entries) size in
     let fits : list_all progression_fits (poc_at comps body) ≡ true = ap (λ (es : List Progression). list_all progression_fits es) value ∙ range.fits in
-    let eleventh : breaks_11 comps 95 body ≡ false = ap not (and_holds (length body % size == 0) (list_all progression_fits (poc_at comps body)) (eq_holds (length body % size) 0 whole) fits) in
+    let eleventh : breaks_11 comps 95 body ≡ false = ap not (and_from (length body % size == 0) (list_all progression_fits (poc_at comps body)) (eq-eqb (length body % size) 0 whole) fits) in
     let some = mul_some (length entries) size range.some in
     let count = range.count in
     whole_read comps 95 body rest (segment.Poc entries) (record {

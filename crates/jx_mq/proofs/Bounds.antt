@@ -1,6 +1,6 @@
 -- The encoder's registers stay within their bounds.
 use Rattle.std.proofs.Common.{◌≡◌, ◌≢◌, ◌<◌, ◌≤◌, ◌+◌, ◌-◌, ◌*◌, ◌/◌, ◌^◌, ℕ, suc, Bool, true, false, List, [], ◌∷◌, refl, arith, eqb, ltb, inl, inr, if◌then◌else◌}
-use Rattle.std.proofs.lemmas.Bool.{cases_lt, cases_eq}
+use Rattle.std.proofs.lemmas.Bool.{cases_lt, cases_eq, lt-ltb, le-ltb}
 use Rattle.std.proofs.lemmas.Bool.Decides.{nat_tests}
 use Rattle.std.proofs.lemmas.Nat.{mul-le}
 use Rattle.std.proofs.Math.Nat.{two-pow-succ}
@@ -12,12 +12,6 @@ no_byte byte ne = grind (arith, nat_tests)
 
 pub is_byte : (byte : ℕ) → byte ≡ 255 → eqb byte 255 ≡ true
 is_byte byte e = grind (arith, nat_tests)
-
-pub below : (c most : ℕ) → c < most → ltb c most ≡ true
-below c most less = grind (arith, nat_tests)
-
-pub not_below : (c most : ℕ) → most ≤ c → ltb c most ≡ false
-not_below c most less = grind (arith, nat_tests)
 
 -- at CT 0 the bounds are those of C and A
 at_zero : (n ct : ℕ) → ct ≡ 0 → n * 2 ^ ct ≡ n
@@ -82,14 +76,14 @@ byte_out_at a c ct byte older zero_ct h =
       | inl ff ↦ rw (is_byte byte ff) (stuffed_coding a c ct byte older h.some h.width room h.given ff)
       | inr ne ↦
           elim (cases_lt c 134217728) [
-            | inl less ↦ rw (no_byte byte ne, below c 134217728 less) (plain_coding a c ct byte older h.some h.width less h.given ne)
+            | inl less ↦ rw (no_byte byte ne, lt-ltb c 134217728 less) (plain_coding a c ct byte older h.some h.width less h.given ne)
             | inr carry ↦
                 let free : IsFull (byte ∷ older) → ⊥ = λ full. let most : c + a ≤ 134217728 = rw (at_zero (c + a) ct zero_ct) at (h.tight full) in omega arith in
                 let given : AreGiven ((byte + 1) ∷ older) = raised_given byte older h.given free ne in
                 elim (cases_eq (byte + 1) 255) [
-                  | inl ff ↦ rw (no_byte byte ne, not_below c 134217728 carry, is_byte (byte + 1) ff)
+                  | inl ff ↦ rw (no_byte byte ne, le-ltb c 134217728 carry, is_byte (byte + 1) ff)
                       (stuffed_coding a (c - 134217728) ct (byte + 1) older h.some h.width (omega arith) given ff)
-                  | inr more ↦ rw (no_byte byte ne, not_below c 134217728 carry, no_byte (byte + 1) more)
+                  | inr more ↦ rw (no_byte byte ne, le-ltb c 134217728 carry, no_byte (byte + 1) more)
                       (plain_coding a (c - 134217728) ct (byte + 1) older h.some h.width (omega arith) given more)
                 ]
           ]

@@ -1,11 +1,11 @@
 -- What a shift and a byte given out do to the ends of the interval.
 use Rattle.std.proofs.Common.{◌≡◌, ◌≢◌, ◌<◌, ◌≤◌, ◌+◌, ◌-◌, ◌*◌, ◌/◌, ◌%◌, ◌^◌, ℕ, suc, List, [], ◌∷◌, refl, ◌∙◌, arith, inl, inr}
-use Rattle.std.proofs.lemmas.Bool.{cases_lt, cases_eq}
+use Rattle.std.proofs.lemmas.Bool.{cases_lt, cases_eq, lt-ltb, le-ltb}
 use Rattle.std.proofs.Math.Nat.{two-pow-succ}
 use Rattle.jx_base.specs.MqWriting.{MqWriter, mq_newest, mq_plain, mq_stuffed, mq_byte_out}
 use Rattle.jx_mq.specs.Coding.{AreGiven}
 use Rattle.jx_mq.specs.Fraction.{span, value, low, scale}
-use Rattle.jx_mq.proofs.Bounds.{coder, no_byte, is_byte, below, not_below}
+use Rattle.jx_mq.proofs.Bounds.{coder, no_byte, is_byte}
 
 -- a byte was given out, and the one before it may have taken a carry
 pub record GivesOut (w after : MqWriter) (newest byte before : ℕ) (older : List ℕ) : Type 0 where
@@ -91,12 +91,12 @@ gives_at a c byte older =
       | inl ff ↦ rw (is_byte byte ff) (byte, (c / 1048576, (byte, (older, stuffed_gives a c byte older ff))))
       | inr ne ↦
           elim (cases_lt c 134217728) [
-            | inl less ↦ rw (no_byte byte ne, below c 134217728 less) (byte, (c / 524288, (byte, (older, plain_gives a c byte older ne))))
+            | inl less ↦ rw (no_byte byte ne, lt-ltb c 134217728 less) (byte, (c / 524288, (byte, (older, plain_gives a c byte older ne))))
             | inr carry ↦
                 elim (cases_eq (byte + 1) 255) [
-                  | inl ff ↦ rw (no_byte byte ne, not_below c 134217728 carry, is_byte (byte + 1) ff)
+                  | inl ff ↦ rw (no_byte byte ne, le-ltb c 134217728 carry, is_byte (byte + 1) ff)
                       (byte, ((c - 134217728) / 1048576, (byte + 1, (older, carried_gives a c byte _ older _ carry (stuffed_gives a (c - 134217728) (byte + 1) older ff)))))
-                  | inr more ↦ rw (no_byte byte ne, not_below c 134217728 carry, no_byte (byte + 1) more)
+                  | inr more ↦ rw (no_byte byte ne, le-ltb c 134217728 carry, no_byte (byte + 1) more)
                       (byte, ((c - 134217728) / 524288, (byte + 1, (older, carried_gives a c byte _ older _ carry (plain_gives a (c - 134217728) (byte + 1) older more)))))
                 ]
           ]

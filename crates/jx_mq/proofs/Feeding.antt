@@ -1,13 +1,13 @@
 -- A byte taken by the decoder, and a shift of both registers.
 use Rattle.std.proofs.Common.{◌≡◌, ◌≢◌, ◌<◌, ◌≤◌, ◌+◌, ◌-◌, ◌*◌, ◌%◌, ◌^◌, ℕ, zero, suc, List, refl, ◌∙◌, add-one, arith, ◌⊎◌, inl, inr}
-use Rattle.std.proofs.lemmas.Bool.{cases_lt, cases_eq}
+use Rattle.std.proofs.lemmas.Bool.{cases_lt, cases_eq, lt-ltb, le-ltb}
 use Rattle.std.proofs.lemmas.Nat.{pow-add}
 use Rattle.std.proofs.Math.Nat.{two-pow-succ, mod-eq_of_lt}
 use Rattle.jx_base.specs.MqReading.{MqReader, mq_byte, mq_byte_in, mq_shifted_in, mq_refilled}
 use Rattle.jx_base.specs.MqWriting.{MqWriter, mq_byte_out, mq_shifted, mq_renormalized}
 use Rattle.jx_mq.specs.Coding.{IsCoding}
 use Rattle.jx_mq.specs.Fraction.{span, value, low, scale, front}
-use Rattle.jx_mq.proofs.Bounds.{coder, no_byte, is_byte, below, not_below, is_zero, isnt_zero, shifted_coding}
+use Rattle.jx_mq.proofs.Bounds.{coder, no_byte, is_byte, is_zero, isnt_zero, shifted_coding}
 use Rattle.jx_mq.proofs.Renormals.{renormalized_more, renormalized_done}
 use Rattle.jx_mq.proofs.Refills.{refilled_more, refilled_done}
 use Rattle.jx_mq.proofs.Ends.{HasGivenOut, gives_out, doubled_ends}
@@ -19,13 +19,13 @@ in_marker : (s : List ℕ) (r : MqReader) → r.c < 2147483648 → mq_byte s r.p
     mq_byte_in s r ≡ record r { c = r.c + 65280; ct = 8; looked = r.place + 2 }
 in_marker s r room ff high =
     let less : r.c + 65280 < 4294967296 = omega arith in
-    rw (is_byte (mq_byte s r.place) ff, add-one r.place, below 143 (mq_byte s (suc r.place)) high, mod-eq_of_lt less) refl
+    rw (is_byte (mq_byte s r.place) ff, add-one r.place, lt-ltb 143 (mq_byte s (suc r.place)) high, mod-eq_of_lt less) refl
 
 in_stuffed : (s : List ℕ) (r : MqReader) → r.c < 2147483648 → mq_byte s r.place ≡ 255 → mq_byte s (suc r.place) ≤ 143 →
     mq_byte_in s r ≡ record r { c = r.c + mq_byte s (suc r.place) * 512; ct = 7; place = suc r.place; looked = r.place + 2 }
 in_stuffed s r room ff small =
     let less : r.c + mq_byte s (suc r.place) * 512 < 4294967296 = omega arith in
-    rw (is_byte (mq_byte s r.place) ff, add-one r.place, not_below 143 (mq_byte s (suc r.place)) small, mod-eq_of_lt less) refl
+    rw (is_byte (mq_byte s r.place) ff, add-one r.place, le-ltb 143 (mq_byte s (suc r.place)) small, mod-eq_of_lt less) refl
 
 in_plain : (s : List ℕ) (r : MqReader) → r.c < 2147483648 → mq_byte s r.place ≢ 255 → mq_byte s (suc r.place) < 256 →
     mq_byte_in s r ≡ record r { c = r.c + mq_byte s (suc r.place) * 256; ct = 8; place = suc r.place; looked = r.place + 2 }

@@ -1,12 +1,11 @@
 -- The decoder follows the encoder: its C is the fraction that it took, less the lower end.
 use Rattle.std.proofs.Common.{◌≡◌, ◌<◌, ◌≤◌, ◌+◌, ◌-◌, ◌*◌, ◌/◌, ◌^◌, ℕ, Bool, true, false, not, refl, ap, ◌∙◌, arith, ltb, inl, inr}
-use Rattle.std.proofs.lemmas.Bool.{cases_lt}
+use Rattle.std.proofs.lemmas.Bool.{cases_lt, lt-ltb, le-ltb}
 use Rattle.std.proofs.lemmas.Nat.{pow_pos, pow-add, mul-le}
 use Rattle.jx_base.specs.MqReading.{MqReader, mq_is_low, mq_reads_mps, mq_chosen}
 use Rattle.jx_base.specs.MqWriting.{MqWriter, mq_lower, mq_upper, mq_part}
 use Rattle.jx_mq.specs.Coding.{IsCoding}
 use Rattle.jx_mq.specs.Fraction.{low, scale}
-use Rattle.jx_mq.proofs.Bounds.{below, not_below}
 use Rattle.jx_mq.proofs.Fitting.{mul_less, cancel_less, FitsIn}
 use Rattle.jx_mq.proofs.Fronts.{Taken, between}
 
@@ -35,7 +34,7 @@ sixteen u ct most =
     let g : (u * 2 ^ ct) * 2 ^ (16 - ct) ≡ u * (2 ^ ct * 2 ^ (16 - ct)) = grind arith in
     g ∙ rw f refl
 
--- the code is below a part's width where what was taken lies in it
+-- the code is lt-ltb a part's width where what was taken lies in it
 code_below : (c l u v ct : ℕ) → ct ≤ 8 → c + l * 65536 ≡ v * 2 ^ (16 - ct) → v < (l + u) * 2 ^ ct → c < u * 65536
 code_below c l u v ct most code less =
     let e = sixteen (l + u) ct most in
@@ -58,7 +57,7 @@ lower_is_low : (w : MqWriter) (r : MqReader) (byte : ℕ → ℕ) (last v qe : �
 lower_is_low w r byte last v qe h fits f =
     let b = between (mq_lower w qe) byte last r.place v r.ct h fits f.taken in
     let less : r.c < qe * 65536 = code_below r.c (low w) qe v r.ct f.ct f.code (taken_most (low w + qe) v (scale w) r.ct b.most) in
-    below (r.c / 65536) qe (omega arith)
+    lt-ltb (r.c / 65536) qe (omega arith)
 
 lower_follows : (w : MqWriter) (r : MqReader) (byte : ℕ → ℕ) (last v qe : ℕ) → mq_is_low r qe ≡ true → Follows w r byte last v → Follows (mq_lower w qe) (mq_chosen r qe) byte last v
 lower_follows w r byte last v qe is_low f = rw is_low (record { a = refl; code = f.code; ct = f.ct; taken = f.taken })
@@ -72,7 +71,7 @@ upper_isnt_low w r byte last v qe h fits f =
     let b = between (mq_upper w qe) byte last r.place v r.ct h fits f.taken in
     let least : (low w + qe) * 2 ^ r.ct ≤ v = taken_least (low w + qe) v (scale w) r.ct (rw (upper_low w qe) at b.least) in
     let more : qe * 65536 ≤ r.c = code_least r.c (low w) qe v r.ct f.ct f.code least in
-    (more, not_below (r.c / 65536) qe (omega arith))
+    (more, le-ltb (r.c / 65536) qe (omega arith))
 
 upper_follows : (w : MqWriter) (r : MqReader) (byte : ℕ → ℕ) (last v qe : ℕ) → qe * 65536 ≤ r.c → mq_is_low r qe ≡ false → Follows w r byte last v → Follows (mq_upper w qe) (mq_chosen r qe) byte last v
 upper_follows w r byte last v qe more isnt f =
@@ -100,15 +99,15 @@ pub decides : (w : MqWriter) (r : MqReader) (byte : ℕ → ℕ) (last v qe : �
     Decides w r byte last v qe is_mps
 decides w r byte last v qe true h fits f =
     elim (cases_lt (w.a - qe) qe) [
-      | inl less ↦ let t = below (w.a - qe) qe less in let e : mq_part w qe true ≡ mq_lower w qe = rw t refl in
+      | inl less ↦ let t = lt-ltb (w.a - qe) qe less in let e : mq_part w qe true ≡ mq_lower w qe = rw t refl in
           decides_lower w r byte last v qe true t e (rw e at h) (rw e at fits) f
-      | inr more ↦ let t = not_below (w.a - qe) qe more in let e : mq_part w qe true ≡ mq_upper w qe = rw t refl in
+      | inr more ↦ let t = le-ltb (w.a - qe) qe more in let e : mq_part w qe true ≡ mq_upper w qe = rw t refl in
           decides_upper w r byte last v qe true (rw t refl) e (rw e at h) (rw e at fits) f
     ]
 decides w r byte last v qe false h fits f =
     elim (cases_lt (w.a - qe) qe) [
-      | inl less ↦ let t = below (w.a - qe) qe less in let e : mq_part w qe false ≡ mq_upper w qe = rw t refl in
+      | inl less ↦ let t = lt-ltb (w.a - qe) qe less in let e : mq_part w qe false ≡ mq_upper w qe = rw t refl in
           decides_upper w r byte last v qe false (rw t refl) e (rw e at h) (rw e at fits) f
-      | inr more ↦ let t = not_below (w.a - qe) qe more in let e : mq_part w qe false ≡ mq_lower w qe = rw t refl in
+      | inr more ↦ let t = le-ltb (w.a - qe) qe more in let e : mq_part w qe false ≡ mq_lower w qe = rw t refl in
           decides_lower w r byte last v qe false t e (rw e at h) (rw e at fits) f
     ]

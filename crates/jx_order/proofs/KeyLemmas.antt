@@ -15,7 +15,6 @@ use Rattle.jx_geom.specs.Ranges.{ShapeInRange, exponent_across, exponent_down}
 use Rattle.jx_geom.specs.Spans.{scaled, cells, reference_of}
 use Rattle.jx_geom.specs.Rects.{component_rect, resolution_rect, precinct_cells, precinct_column_point, precinct_row_point}
 use Rattle.jx_geom.specs.Geometry.{Geometry, GeometryInRange, HasResolution, precincts_in, reference_across, reference_down, rect_of_tile, shape_of}
-use Rattle.jx_geom.proofs.RasterLemmas.{raster_in, raster_one}
 use Rattle.jx_geom.proofs.SpanLemmas.{cells_low, reference_latest}
 use Rattle.jx_order.specs.declared.keys.Placed.{Placed}
 use Rattle.jx_order.specs.declared.names.PacketName.{PacketName}
@@ -25,6 +24,7 @@ use Rattle.jx_order.specs.Orders.{IsLess, ComesBefore, across_of, down_of}
 use Rattle.jx_order.specs.Packets.{IsPacket}
 use Rattle.jx_order.specs.Steps.{placed_of}
 use Rattle.jx_order.proofs.OrderLemmas.{same_fields}
+use Rattle.jx_base.proofs.Raster.{raster_in, raster_one}
 
 -- a later cell begins past the start of what is scaled
 later_start : (start first second size low v : ℕ) → 0 < first → 0 < second → 0 < size → start ≤ low * second * first → low / size < v

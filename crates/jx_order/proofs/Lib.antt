@@ -1,4 +1,3 @@
-pub mod JoinedLemmas
 pub mod LessLemmas
 pub mod OrderLemmas
 pub mod KeyLemmas

@@ -10,74 +10,11 @@ use Rattle.jx_order.specs.declared.names.PacketName.{PacketName}
 use Rattle.jx_order.specs.Orders.{ComesBefore, order_of, key_of}
 use Rattle.jx_order.specs.Packets.{IsPacket, Covers, Sends, IsOrder, entry_at}
 use Rattle.jx_order.specs.Steps.{name_of}
-use Rattle.jx_order.proofs.JoinedLemmas.{pairs_append}
 use Rattle.jx_order.proofs.LessLemmas.{less_both}
+use Rattle.jx_base.proofs.Lists.{pairs_append, contains_cons, contains_head, contains_tail, contains_none, one_sorted, pairs_apart}
 
 -- ---- lists by their first item
-at_cons : {X : Type 0} (x : X) (xs : List X) (y : X) (k : ℕ) → k < length (x ∷ xs) → get_or (x ∷ xs) k y ≡ y → (x ≡ y) ⊎ Contains xs y
-at_cons x xs y zero lt e = inl e
-at_cons x xs y (suc k) lt e = inr (k, omega arith, e)
-
-pub contains_cons : {X : Type 0} (x : X) (xs : List X) (y : X) → Contains (x ∷ xs) y → (x ≡ y) ⊎ Contains xs y
-contains_cons x xs y h = at_cons x xs y h.0 h.1 h.2
-
-pub contains_head : {X : Type 0} (x : X) (xs : List X) → Contains (x ∷ xs) x
-contains_head x xs = (zero, omega arith, refl)
-
-pub contains_tail : {X : Type 0} (x : X) (xs : List X) (y : X) → Contains xs y → Contains (x ∷ xs) y
-contains_tail x xs y h = (suc h.0, omega (arith, h.1), h.2)
-
-pub contains_none : {X : Type 0} (y : X) → Contains [] y → ⊥
-contains_none y h = omega (arith, h.1)
-
-pub pairs_tail : {X : Type 0} (R : X → X → Type 0) (x : X) (xs : List X) → AllPairs R (x ∷ xs) → AllPairs R xs
-pairs_tail R x xs h i j d lt below = h (suc i) (suc j) d (omega arith) (omega arith)
-
-pub pairs_head : {X : Type 0} (R : X → X → Type 0) (x : X) (xs : List X) (y : X) → AllPairs R (x ∷ xs) → Contains xs y → R x y
-pairs_head {X} R x xs y h c =
-    let P : X → Type 0 = λ z. R x z in
-    subst P c.2 (h zero (suc c.0) y (omega arith) (omega (arith, c.1)))
-
 -- ---- two lists that are sorted by a relation that never holds both ways, and have the same items, are one
-pub one_sorted : {X : Type 0} (R : X → X → Type 0) → ((x y : X) → R x y → R y x → ⊥) → (xs ys : List X) → AllPairs R xs → AllPairs R ys
-    → ((x : X) → Contains xs x → Contains ys x) → ((x : X) → Contains ys x → Contains xs x) → xs ≡ ys
-one_sorted R one [] [] hx hy to from = refl
-one_sorted R one [] (y ∷ ys) hx hy to from = absurd (contains_none y (from y (contains_head y ys)))
-one_sorted R one (x ∷ xs) [] hx hy to from = absurd (contains_none x (to x (contains_head x xs)))
-one_sorted {X} R one (x ∷ xs) (y ∷ ys) hx hy to from =
-    let irreflexive : (z : X) → R z z → ⊥ = λ z r. one z z r r in
-    let same : x ≡ y = elim (contains_cons y ys x (to x (contains_head x xs))) [
-      | inl e ↦ sym e
-      | inr c ↦ elim (contains_cons x xs y (from y (contains_head y ys))) [
-        | inl e ↦ e
-        | inr d ↦ absurd (one x y (pairs_head R x xs y hx d) (pairs_head R y ys x hy c))
-      ]
-    ] in
-    let forth : (z : X) → Contains xs z → Contains ys z = λ z c. elim (contains_cons y ys z (to z (contains_tail x xs z c))) [
-      | inl e ↦
-          let r : R x z = pairs_head R x xs z hx c in
-          let P : X → Type 0 = λ w. R w z in
-          absurd (irreflexive z (subst P (same ∙ e) r))
-      | inr d ↦ d
-    ] in
-    let back : (z : X) → Contains ys z → Contains xs z = λ z c. elim (contains_cons x xs z (from z (contains_tail y ys z c))) [
-      | inl e ↦
-          let r : R y z = pairs_head R y ys z hy c in
-          let P : X → Type 0 = λ w. R w z in
-          absurd (irreflexive z (subst P (sym same ∙ e) r))
-      | inr d ↦ d
-    ] in
-    let rest : xs ≡ ys = one_sorted R one xs ys (pairs_tail R x xs hx) (pairs_tail R y ys hy) forth back in
-    cc
-
--- and no item stands in one twice
-pub pairs_apart : {X : Type 0} (R : X → X → Type 0) → ((x y : X) → R x y → R y x → ⊥) → (xs : List X) → AllPairs R xs → AllPairs (λ x y. x ≢ y) xs
-pairs_apart {X} R one xs h i j d lt below e =
-    let r : R (get_or xs i d) (get_or xs j d) = h i j d lt below in
-    let P : X → Type 0 = λ w. R w (get_or xs j d) in
-    let s : R (get_or xs j d) (get_or xs j d) = subst P e r in
-    one (get_or xs j d) (get_or xs j d) s s
-
 -- ---- names can be told apart
 pub same_fields : (p q : PacketName) → p.layer ≡ q.layer → p.res ≡ q.res → p.comp ≡ q.comp → p.precinct ≡ q.precinct → p ≡ q
 same_fields p q el er ec ek =

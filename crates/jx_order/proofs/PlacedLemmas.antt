@@ -18,10 +18,11 @@ use Rattle.jx_order.specs.declared.names.Order.{Order}
 use Rattle.jx_order.specs.Orders.{IsLess, ComesBefore, key_of, order_of}
 use Rattle.jx_order.specs.Packets.{IsPacket, Covers}
 use Rattle.jx_order.specs.Steps.{name_of, placed_of, placed_one, placed_layer, placed_resolution, placed_component, placed_all, layers_to, resolutions_to, components, components_to, sent_at, Lists}
-use Rattle.jx_order.proofs.JoinedLemmas.{joined_empty, joined_from, joined_has, joined_none, joined_pairs}
-use Rattle.jx_order.proofs.LessLemmas.{less_trans, pairs_from_next}
-use Rattle.jx_order.proofs.OrderLemmas.{same_or, contains_cons, contains_head, contains_none}
+use Rattle.jx_order.proofs.LessLemmas.{less_trans}
+use Rattle.jx_order.proofs.OrderLemmas.{same_or}
 use Rattle.jx_order.proofs.KeyLemmas.{numbers, one_name, before_from, name_is}
+use Rattle.jx_base.proofs.Joined.{joined_none, joined_empty, joined_has, joined_from, joined_pairs}
+use Rattle.jx_base.proofs.Lists.{contains_cons, contains_head, contains_none, pairs_from_next}
 
 -- ---- what is in each list, level by level
 record InLayer (g : Geometry) (o : Order) (c r l : ℕ) (q : Placed) : Type 0 where

@@ -10,8 +10,8 @@ use Rattle.jx_order.specs.declared.names.Order.{Order}
 use Rattle.jx_order.specs.declared.names.Order.TheVariants.{Lrcp, Rlcp, Rpcl, Pcrl, Cprl}
 use Rattle.jx_order.specs.Orders.{IsLess, ComesBefore, across_of, down_of, order_of}
 use Rattle.jx_order.specs.Packets.{IsPacket, Covers, IsOrder, SamePrecinct, LayersRise, entry_at}
-use Rattle.jx_order.proofs.JoinedLemmas.{pairs_append}
 use Rattle.jx_order.proofs.OrderLemmas.{order_to, order_from}
+use Rattle.jx_base.proofs.Lists.{pairs_append}
 
 -- keys that begin with the same number, and keys that differ in their first one alone
 skip : (x y : ℕ) (xs ys : List ℕ) → x ≡ y → IsLess (x ∷ xs) (y ∷ ys) → IsLess xs ys

@@ -10,14 +10,7 @@ use Rattle.jx_order.specs.declared.names.Order.TheVariants.{Lrcp, Rlcp, Rpcl, Pc
 use Rattle.jx_order.specs.declared.keys.Placed.{Placed}
 use Rattle.jx_order.specs.Orders.{ComesBefore, across_of, down_of, order_of}
 use Rattle.jx_order.specs.Packets.{AreCovered, Covers, IsOrder, IsPacket}
-
--- f a, f (a + 1), .. up to and not including f b, joined
-abbrev pub joined_below : {X : Type 0} → (ℕ → List X) → ℕ → ℕ → List X
-joined_below f a zero = []
-joined_below f a (suc n) = joined_below f a n ++ f (a + n)
-
-unfoldable pub joined : {X : Type 0} → (ℕ → List X) → ℕ → ℕ → List X
-joined f a b = joined_below f a (b - a)
+use Rattle.jx_base.specs.Joined.{joined}
 
 -- a packet with its key before its name; a key of four numbers has a last 0
 abbrev pub placed_of : Geometry → Order → PacketName → Placed

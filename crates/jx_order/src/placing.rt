@@ -57,7 +57,7 @@ fn place(geom: &TileGeom, order: Order, name: PacketName) -> Placed
 }
 
 /// Lists the packets of a layer of a resolution.
-#[tactic(auto, using(crate::proofs::JoinedLemmas::joined_none, crate::proofs::JoinedLemmas::joined_next), unfolding(crate::specs::Steps::placed_layer))]
+#[tactic(auto, using(jx_base::proofs::Joined::joined_none, jx_base::proofs::Joined::joined_next), unfolding(crate::specs::Steps::placed_layer))]
 fn place_layer(
     geom: &TileGeom,
     order: Order,
@@ -83,7 +83,7 @@ fn place_layer(
 }
 
 /// Lists the packets of a resolution, from the first layer that wasn't sent to the entry's last.
-#[tactic(auto, using(crate::proofs::JoinedLemmas::joined_none, crate::proofs::JoinedLemmas::joined_next), unfolding(crate::specs::Steps::placed_resolution))]
+#[tactic(auto, using(jx_base::proofs::Joined::joined_none, jx_base::proofs::Joined::joined_next), unfolding(crate::specs::Steps::placed_resolution))]
 fn place_resolution(
     geom: &TileGeom,
     layers: u16,
@@ -111,7 +111,7 @@ fn place_resolution(
 }
 
 /// Lists the packets of a component.
-#[tactic(auto, using(crate::proofs::JoinedLemmas::joined_none, crate::proofs::JoinedLemmas::joined_next), unfolding(crate::specs::Steps::placed_component))]
+#[tactic(auto, using(jx_base::proofs::Joined::joined_none, jx_base::proofs::Joined::joined_next), unfolding(crate::specs::Steps::placed_component))]
 fn place_component(
     geom: &TileGeom,
     layers: u16,
@@ -132,7 +132,7 @@ fn place_component(
 }
 
 /// The packets of an entry that weren't sent, behind their keys.
-#[tactic(auto, using(crate::proofs::JoinedLemmas::joined_none, crate::proofs::JoinedLemmas::joined_next), unfolding(crate::specs::Steps::placed_all))]
+#[tactic(auto, using(jx_base::proofs::Joined::joined_none, jx_base::proofs::Joined::joined_next), unfolding(crate::specs::Steps::placed_all))]
 fn place_all(
     alloc: Global,
     geom: &TileGeom,

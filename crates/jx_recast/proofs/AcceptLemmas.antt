@@ -17,7 +17,6 @@ use Rattle.jx_geom.specs.Geometry.{Geometry, blocks_in, precincts_in, shape_of}
 use Rattle.jx_tagtree.specs.Header.{low_bits}
 use Rattle.jx_head.specs.Packet.{State, IsPacket}
 use Rattle.jx_order.specs.Packets.{IsOrder, AreCovered}
-use Rattle.jx_order.specs.Steps.{joined}
 use Rattle.jx_stream.specs.declared.Stream.{Stream}
 use Rattle.jx_stream.specs.Tiles.{entry_of}
 use Rattle.jx_stream.specs.First.{canvas_of, tile_number, stream_in}
@@ -39,6 +38,8 @@ use Rattle.jx_recast.proofs.SmallLemmas.{output_same, output_in_range}
 use Rattle.jx_recast.proofs.OneTileLemmas.{one_shape, IsOneTile, one_across, one_down, tile_is, precincts_count, blocks_count}
 use Rattle.jx_recast.proofs.OneListLemmas.{one_geometry, first_packet, one_in, one_block_in, one_whole, one_list}
 use Rattle.jx_recast.proofs.CleanLemmas.{IsOneBlock, IsSingle, plain_stream, is_single, is_single_output, one_tile, sot_place, the_stream, spells_stream, tiles_none, stream_planes, body_there}
+use Rattle.jx_base.specs.Joined.{joined}
+use Rattle.jx_base.proofs.Joined.{joined_one}
 
 -- an empty packet, whose header is one byte, with SOP or not
 
@@ -102,10 +103,6 @@ is_cut w packet is k = record {
 }
 
 -- the one item of a joined list
-
-one_joined : {X : Type 0} (f : ℕ → List X) (n : ℕ) → n ≡ 1 → joined f 0 n ≡ f 0
-unfolding joined
-one_joined f n e = rw e refl
 
 -- the stream, and its one block
 
@@ -171,8 +168,8 @@ module _ (siz : Siz) (cod : Cod) (quant : Quant) (place at size : ℕ) (range : 
       let comps : length g.shapes ≡ 1 = ap (λ (x : Geometry). length x.shapes) is in
       let levels : (shape_of g 0).levels + 1 ≡ 1 = ap (λ (x : Geometry). (shape_of x 0).levels + 1) is in
       let size : size_of (precincts_in g 0 0) ≡ 1 = ap (λ (x : Geometry). size_of (precincts_in x 0 0)) is ∙ one_in is_one cod block.layers in
-      one_joined (fresh_component s g) (length g.shapes) comps ∙ (one_joined (fresh_resolution s g 0) ((shape_of g 0).levels + 1) levels
-      ∙ one_joined (one_precinct s g 0 0) (size_of (precincts_in g 0 0)) size)
+      joined_one (fresh_component s g) (length g.shapes) comps ∙ (joined_one (fresh_resolution s g 0) ((shape_of g 0).levels + 1) levels
+      ∙ joined_one (one_precinct s g 0 0) (size_of (precincts_in g 0 0)) size)
 
   -- and so is its one block
   one_in_tile : (g : Geometry) → g ≡ one_g → tile_blocks s g [] ≡ one_block s g [] 0 0 LL 0
@@ -181,8 +178,8 @@ module _ (siz : Siz) (cod : Cod) (quant : Quant) (place at size : ℕ) (range : 
       let comps : length g.shapes ≡ 1 = ap (λ (x : Geometry). length x.shapes) is in
       let levels : (shape_of g 0).levels + 1 ≡ 1 = ap (λ (x : Geometry). (shape_of x 0).levels + 1) is in
       let size : size_of (blocks_in g 0 0 LL) ≡ 1 = ap (λ (x : Geometry). size_of (blocks_in x 0 0 LL)) is ∙ one_block_in is_one cod block.layers in
-      one_joined (component_blocks s g []) (length g.shapes) comps ∙ (one_joined (resolution_blocks s g [] 0) ((shape_of g 0).levels + 1) levels
-      ∙ (append-nil (band_blocks s g [] 0 0 LL) ∙ one_joined (one_block s g [] 0 0 LL) (size_of (blocks_in g 0 0 LL)) size))
+      joined_one (component_blocks s g []) (length g.shapes) comps ∙ (joined_one (resolution_blocks s g [] 0) ((shape_of g 0).levels + 1) levels
+      ∙ (append-nil (band_blocks s g [] 0 0 LL) ∙ joined_one (one_block s g [] 0 0 LL) (size_of (blocks_in g 0 0 LL)) size))
 
   number_zero : (g : Geometry) → number_of g first_packet ≡ 0
   unfolding precinct_number
@@ -246,7 +243,7 @@ module _ (siz : Siz) (cod : Cod) (quant : Quant) (place at size : ℕ) (range : 
     blocks_are : joined blocks_in_tile 0 (tile_number siz) ≡ empty_block ∷ []
     unfolding blocks_in_tile founds_of
     blocks_are =
-        one_joined blocks_in_tile (tile_number siz) one_tile_there ∙ (one_in_tile (geometry s 0) geometry_is
+        joined_one blocks_in_tile (tile_number siz) one_tile_there ∙ (one_in_tile (geometry s 0) geometry_is
         ∙ ap (λ (g : Geometry). one_block s g [] 0 0 LL 0) geometry_is)
 
     gathered_there : IsGathered b s (empty_block ∷ [])

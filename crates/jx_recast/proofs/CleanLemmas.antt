@@ -18,13 +18,13 @@ use Rattle.jx_stream.specs.Tiles.{entry_of, tile_of}
 use Rattle.jx_stream.specs.Params.{planes_of, planes_fault, tile_has_too_few, tile_planes}
 use Rattle.jx_stream.specs.First.{tile_number, tiles_fault}
 use Rattle.jx_stream.specs.Spells.{TilePart, all_bytes, head_bytes, file_bytes, placed, first_sot, Spells}
-use Rattle.jx_stream.proofs.PartLemmas.{both, is_equal}
 use Rattle.jx_stream.proofs.FirstLemmas.{canvas_fits}
 use Rattle.jx_stream.proofs.OneLemmas.{drop_on}
 use Rattle.jx_gather.specs.Shapes.{no_size}
 use Rattle.jx_recast.specs.declared.small.Headers.{Headers}
 use Rattle.jx_recast.specs.Small.{AreInRange, is_one_of_each, is_one_component, is_one_tile, is_one_packet, is_one_block, is_one_step, is_one_part, spelled, with_sop, has_grid_sampling}
 use Rattle.jx_recast.proofs.OneTileLemmas.{one_along}
+use Rattle.std.proofs.lemmas.Bool.{leb-true, and_parts, eqb-true}
 
 -- what the tests of the headers say
 
@@ -58,9 +58,6 @@ pub record IsSingle (h : Headers) (size : ℕ) : Type 0 where
   pub plain : IsPlain h.cod h.quant
   pub part : IsPart h.sot size
 
-most : (a b : ℕ) → nat_le a b ≡ true → a ≤ b
-most a b h = grind (arith, nat_tests)
-
 nothing_in : {X : Type 0} (xs : List X) → length xs ≡ 0 → xs ≡ []
 nothing_in [] h = refl
 nothing_in (x ∷ xs) h = absurd (omega arith)
@@ -68,9 +65,9 @@ nothing_in (x ∷ xs) h = absurd (omega arith)
 has_steps : (comps : List CompSize) → length comps ≡ 1 → list_all has_grid_sampling comps ≡ true → ((get_or comps 0 no_size).dx ≡ 1) × ((get_or comps 0 no_size).dy ≡ 1)
 has_steps [] size h = absurd (omega arith)
 has_steps (comp ∷ []) size h =
-    let one = both (has_grid_sampling comp) true h in
-    let two = both (comp.dx == 1) (comp.dy == 1) one.0 in
-    (is_equal comp.dx 1 two.0, is_equal comp.dy 1 two.1)
+    let one = and_parts (has_grid_sampling comp) true h in
+    let two = and_parts (comp.dx == 1) (comp.dy == 1) one.0 in
+    (eqb-true comp.dx 1 two.0, eqb-true comp.dy 1 two.1)
 has_steps (comp ∷ other ∷ comps) size h = absurd (omega arith)
 
 pub is_single : (h : Headers) → is_one_of_each h ≡ true → IsSingle h 1
@@ -81,42 +78,42 @@ is_single h single =
     let quant = h.quant in
     let sot = h.sot in
     let last_two : Bool = (shape.levels == 0) && (length shape.precincts == 0) in
-    let one = both (is_one_component siz) (is_one_tile siz && (is_one_packet cod && (is_one_block siz shape && (is_one_step quant && is_one_part sot)))) single in
-    let two = both (is_one_tile siz) (is_one_packet cod && (is_one_block siz shape && (is_one_step quant && is_one_part sot))) one.1 in
-    let three = both (is_one_packet cod) (is_one_block siz shape && (is_one_step quant && is_one_part sot)) two.1 in
-    let four = both (is_one_block siz shape) (is_one_step quant && is_one_part sot) three.1 in
-    let five = both (is_one_step quant) (is_one_part sot) four.1 in
-    let comp = both (length siz.comps == 1) (list_all has_grid_sampling siz.comps) one.0 in
-    let steps = has_steps siz.comps (is_equal (length siz.comps) 1 comp.0) comp.1 in
-    let tile = both (nat_le siz.x1 (siz.tx + siz.tw)) (nat_le siz.y1 (siz.ty + siz.th)) two.0 in
-    let no_sop = both (not cod.sop) (not cod.eph && ((cod.layers == 1) && last_two)) three.0 in
-    let no_eph = both (not cod.eph) ((cod.layers == 1) && last_two) no_sop.1 in
-    let layers = both (cod.layers == 1) last_two no_eph.1 in
-    let levels = both (shape.levels == 0) (length shape.precincts == 0) layers.1 in
-    let block = both (nat_le siz.x1 (2 ^ shape.xcb)) (nat_le siz.y1 (2 ^ shape.ycb)) four.0 in
-    let step = both (quant.sqcd % 32 == 0) (length quant.entries == 1) five.0 in
-    let first = both (sot.tile == 0) ((sot.psot == 15) && ((sot.part == 0) && nat_le sot.parts 1)) five.1 in
-    let second = both (sot.psot == 15) ((sot.part == 0) && nat_le sot.parts 1) first.1 in
-    let third = both (sot.part == 0) (nat_le sot.parts 1) second.1 in
+    let one = and_parts (is_one_component siz) (is_one_tile siz && (is_one_packet cod && (is_one_block siz shape && (is_one_step quant && is_one_part sot)))) single in
+    let two = and_parts (is_one_tile siz) (is_one_packet cod && (is_one_block siz shape && (is_one_step quant && is_one_part sot))) one.1 in
+    let three = and_parts (is_one_packet cod) (is_one_block siz shape && (is_one_step quant && is_one_part sot)) two.1 in
+    let four = and_parts (is_one_block siz shape) (is_one_step quant && is_one_part sot) three.1 in
+    let five = and_parts (is_one_step quant) (is_one_part sot) four.1 in
+    let comp = and_parts (length siz.comps == 1) (list_all has_grid_sampling siz.comps) one.0 in
+    let steps = has_steps siz.comps (eqb-true (length siz.comps) 1 comp.0) comp.1 in
+    let tile = and_parts (nat_le siz.x1 (siz.tx + siz.tw)) (nat_le siz.y1 (siz.ty + siz.th)) two.0 in
+    let no_sop = and_parts (not cod.sop) (not cod.eph && ((cod.layers == 1) && last_two)) three.0 in
+    let no_eph = and_parts (not cod.eph) ((cod.layers == 1) && last_two) no_sop.1 in
+    let layers = and_parts (cod.layers == 1) last_two no_eph.1 in
+    let levels = and_parts (shape.levels == 0) (length shape.precincts == 0) layers.1 in
+    let block = and_parts (nat_le siz.x1 (2 ^ shape.xcb)) (nat_le siz.y1 (2 ^ shape.ycb)) four.0 in
+    let step = and_parts (quant.sqcd % 32 == 0) (length quant.entries == 1) five.0 in
+    let first = and_parts (sot.tile == 0) ((sot.psot == 15) && ((sot.part == 0) && nat_le sot.parts 1)) five.1 in
+    let second = and_parts (sot.psot == 15) ((sot.part == 0) && nat_le sot.parts 1) first.1 in
+    let third = and_parts (sot.part == 0) (nat_le sot.parts 1) second.1 in
     record {
       block = record {
-        comps = is_equal (length siz.comps) 1 comp.0;
+        comps = eqb-true (length siz.comps) 1 comp.0;
         step_across = steps.0;
         step_down = steps.1;
-        across = most siz.x1 (siz.tx + siz.tw) tile.0;
-        down = most siz.y1 (siz.ty + siz.th) tile.1;
-        layers = is_equal cod.layers 1 layers.0;
-        levels = is_equal shape.levels 0 levels.0;
-        precincts = nothing_in shape.precincts (is_equal (length shape.precincts) 0 levels.1);
-        wide = most siz.x1 (2 ^ shape.xcb) block.0;
-        high = most siz.y1 (2 ^ shape.ycb) block.1;
+        across = leb-true siz.x1 (siz.tx + siz.tw) tile.0;
+        down = leb-true siz.y1 (siz.ty + siz.th) tile.1;
+        layers = eqb-true cod.layers 1 layers.0;
+        levels = eqb-true shape.levels 0 levels.0;
+        precincts = nothing_in shape.precincts (eqb-true (length shape.precincts) 0 levels.1);
+        wide = leb-true siz.x1 (2 ^ shape.xcb) block.0;
+        high = leb-true siz.y1 (2 ^ shape.ycb) block.1;
       };
-      plain = record { levels = is_equal shape.levels 0 levels.0; style = step.0; entries = is_equal (length quant.entries) 1 step.1 };
+      plain = record { levels = eqb-true shape.levels 0 levels.0; style = step.0; entries = eqb-true (length quant.entries) 1 step.1 };
       part = record {
-        tile = is_equal sot.tile 0 first.0;
-        psot = is_equal sot.psot 15 second.0;
-        part = is_equal sot.part 0 third.0;
-        parts = most sot.parts 1 third.1;
+        tile = eqb-true sot.tile 0 first.0;
+        psot = eqb-true sot.psot 15 second.0;
+        part = eqb-true sot.part 0 third.0;
+        parts = leb-true sot.parts 1 third.1;
       };
     }
 

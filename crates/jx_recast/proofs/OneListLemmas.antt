@@ -8,9 +8,10 @@ use Rattle.jx_geom.specs.declared.shape.Canvas.{Canvas}
 use Rattle.jx_geom.specs.Geometry.{Geometry, blocks_in, precincts_in, shape_of}
 use Rattle.jx_order.specs.declared.names.PacketName.{PacketName}
 use Rattle.jx_order.specs.Packets.{IsPacket, IsOrder, AreCovered, Covers, Sends}
-use Rattle.jx_order.proofs.OrderLemmas.{same_fields, contains_cons, contains_head, contains_none}
+use Rattle.jx_order.proofs.OrderLemmas.{same_fields}
 use Rattle.jx_stream.specs.Tiles.{entry_of}
 use Rattle.jx_recast.proofs.OneTileLemmas.{one_shape, IsOneTile, tile_is, one_precinct, one_cell}
+use Rattle.jx_base.proofs.Lists.{contains_cons, contains_head, contains_none}
 
 abbrev pub one_geometry : Canvas → ℕ → ℕ → Geometry
 one_geometry c xcb ycb = record { canvas = c; tile = 0; shapes = one_shape xcb ycb ∷ [] }

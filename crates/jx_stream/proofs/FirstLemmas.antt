@@ -27,13 +27,13 @@ use Rattle.jx_stream.specs.Tiles.{tiles_of}
 use Rattle.jx_stream.specs.Params.{entries_fault, planes_fault}
 use Rattle.jx_stream.specs.First.{canvas_of, tile_number, siz_of, after_siz, front_fault, tiles_fault, lacks_default, main_header, main_fault, parts_after, lacks_part, body_fault, stream_from, stream_in, parameters_fault, later_fault, first_fault}
 use Rattle.jx_stream.proofs.FaultLemmas.{cause_first, cause_later, cause_same, none_of_both, broken_true, broken_false}
-use Rattle.jx_stream.proofs.PartLemmas.{both, is_equal}
+use Rattle.std.proofs.lemmas.Bool.{and_parts, eqb-true, ltb-true, leb-true}
 
 -- SOC and SIZ
 
 pub siz_stands : (b : List ℕ) → marker_at b 2 81 ≡ true → segment_at 1 (drop 2 b) ≡ segment.Siz (siz_of b)
 siz_stands b h =
-    let e : get_or (drop 2 b) 1 0 ≡ 81 = get_or-drop 2 b 1 0 ∙ is_equal (get_or b 3 0) 81 (both (get_or b 2 0 == 255) (get_or b 3 0 == 81) h).1 in
+    let e : get_or (drop 2 b) 1 0 ≡ 81 = get_or-drop 2 b 1 0 ∙ eqb-true (get_or b 3 0) 81 (and_parts (get_or b 2 0 == 255) (get_or b 3 0 == 81) h).1 in
     rw e refl
 
 pub front_15 : (b : List ℕ) → marker_at b 0 79 ≡ false → front_fault b ≡ Some (fault.Rule 15 0)
@@ -56,12 +56,6 @@ front_clear b soc siz h = rw (soc, siz, h) refl
 
 -- the canvas of a SIZ in its ranges
 
-above : (a b : ℕ) → nat_lt a b ≡ true → a < b
-above a b h = grind (arith, nat_tests)
-
-most : (a b : ℕ) → nat_le a b ≡ true → a ≤ b
-most a b h = grind (arith, nat_tests)
-
 record OnAxis (end begin tile first : ℕ) : Type 0 where
   pub some : 0 < tile
   pub from : first ≤ begin
@@ -70,10 +64,10 @@ record OnAxis (end begin tile first : ℕ) : Type 0 where
 
 on_axis : (end begin tile first : ℕ) → axis_fits end begin tile first ≡ true → OnAxis end begin tile first
 on_axis end begin tile first h =
-    let one = both (nat_lt 0 tile) (nat_le first begin && (nat_lt begin end && nat_lt begin (first + tile))) h in
-    let two = both (nat_le first begin) (nat_lt begin end && nat_lt begin (first + tile)) one.1 in
-    let three = both (nat_lt begin end) (nat_lt begin (first + tile)) two.1 in
-    record { some = above 0 tile one.0; from = most first begin two.0; before = above begin end three.0; reaches = above begin (first + tile) three.1 }
+    let one = and_parts (nat_lt 0 tile) (nat_le first begin && (nat_lt begin end && nat_lt begin (first + tile))) h in
+    let two = and_parts (nat_le first begin) (nat_lt begin end && nat_lt begin (first + tile)) one.1 in
+    let three = and_parts (nat_lt begin end) (nat_lt begin (first + tile)) two.1 in
+    record { some = ltb-true 0 tile one.0; from = leb-true first begin two.0; before = ltb-true begin end three.0; reaches = ltb-true begin (first + tile) three.1 }
 
 record SizFits (siz : Siz) : Type 0 where
   pub comps : length siz.comps ≤ 16384
@@ -85,11 +79,11 @@ fits_of siz h =
     let across = axis_fits siz.x1 siz.x0 siz.tw siz.tx in
     let down = axis_fits siz.y1 siz.y0 siz.th siz.ty in
     let each = list_all comp_size_fits siz.comps in
-    let one = both (nat_lt 0 (length siz.comps)) (nat_le (length siz.comps) 16384 && (across && (down && each))) h in
-    let two = both (nat_le (length siz.comps) 16384) (across && (down && each)) one.1 in
-    let three = both across (down && each) two.1 in
-    let four = both down each three.1 in
-    record { comps = most (length siz.comps) 16384 two.0; across = on_axis siz.x1 siz.x0 siz.tw siz.tx three.0; down = on_axis siz.y1 siz.y0 siz.th siz.ty four.0 }
+    let one = and_parts (nat_lt 0 (length siz.comps)) (nat_le (length siz.comps) 16384 && (across && (down && each))) h in
+    let two = and_parts (nat_le (length siz.comps) 16384) (across && (down && each)) one.1 in
+    let three = and_parts across (down && each) two.1 in
+    let four = and_parts down each three.1 in
+    record { comps = leb-true (length siz.comps) 16384 two.0; across = on_axis siz.x1 siz.x0 siz.tw siz.tx three.0; down = on_axis siz.y1 siz.y0 siz.th siz.ty four.0 }
 
 pub comps_fit : (siz : Siz) → siz_fits siz ≡ true → length siz.comps ≤ 16384
 comps_fit siz h = (fits_of siz h).comps

@@ -25,12 +25,13 @@ use Rattle.jx_stream.specs.First.{tile_number, siz_of, after_siz, front_fault, t
 use Rattle.jx_stream.specs.Spells.{TilePart, all_bytes, head_bytes, part_bytes, part_of, placed, AreSegments, AreTileParts, first_sot, Spells}
 use Rattle.jx_stream.specs.FirstViolated.{main_bytes, front_bytes, sot_bytes, header_bytes, AreNamed, AreParts, IsHeader, IsWhole, IsInSiz, IsInMain, IsAtFirstSot, IsAtPart, IsAtSot, IsInHeader, IsAtSod, IsAtEoc, IsShort, IsOver, IsFirst, IsWithin}
 use Rattle.jx_stream.proofs.FaultLemmas.{none_of_both, broken_false}
-use Rattle.jx_stream.proofs.HeaderLemmas.{is_or_not_true, stops_at_fault, stopped_fault}
+use Rattle.jx_stream.proofs.HeaderLemmas.{stops_at_fault, stopped_fault}
 use Rattle.jx_stream.proofs.PartLemmas.{or_is_true, parts_on, go_on, stop_at_fault, fault_at_end}
 use Rattle.jx_stream.proofs.SpellLemmas.{regroup, marker_there}
 use Rattle.jx_stream.proofs.OneLemmas.{stands_there, drop_on, header_walked, header_read, header_clear}
 use Rattle.jx_stream.proofs.PartsReadLemmas.{sod_stands, sot_size, SotRead, sot_read, ends_named, part_read}
 use Rattle.jx_stream.proofs.UniqueLemmas.{front_read, first_is, BodyOver, body_over, body_read, stream_made, is_read, clear_limits}
+use Rattle.std.proofs.lemmas.Bool.{cases_Bool}
 
 pub some_first : (x later : Option StreamFault) (f : StreamFault) → x ≡ Some f → option_or x later ≡ Some f
 some_first x later f h = rw h refl
@@ -255,7 +256,7 @@ eoc_starts comps b at h =
 
 start_goes : (comps : ℕ) (b : List ℕ) (at : ℕ) (f : StreamFault) → start_fault comps b at ≡ Some f → marker_at b at 217 ≡ false
 start_goes comps b at f h =
-    elim (is_or_not_true (marker_at b at 217)) [
+    elim (cases_Bool (marker_at b at 217)) [
       | inl t ↦ let e : None ≡ Some f = sym (eoc_starts comps b at t) ∙ h in absurd (cc)
       | inr g ↦ g
     ]

@@ -20,10 +20,7 @@ use Rattle.jx_stream.specs.declared.headers.Header.{Header}
 use Rattle.jx_stream.specs.Faults.{fault_of, IsCause}
 use Rattle.jx_stream.specs.Headers.{stands_in, ends_header, slot_of, slot_count, has_slot, is_second, early_fault, segment_fault, stops, longest, header_at, header_fault, Marks}
 use Rattle.jx_stream.proofs.FaultLemmas.{broken_false, broken_true}
-
-pub is_or_not_true : (x : Bool) → (x ≡ true) ⊎ (x ≡ false)
-is_or_not_true true = inl refl
-is_or_not_true false = inr refl
+use Rattle.std.proofs.lemmas.Bool.{cases_Bool, eq-eqb, ne_eqb}
 
 -- SOT and SOD may stand again
 pub ends_once : (before : List Segment) (s : Segment) → ends_header s ≡ true → is_second before s ≡ false
@@ -120,7 +117,7 @@ longest_same kind comps b (suc n) zero before at below other =
     let past : length b ≤ at = omega arith in
     longest_stops kind comps b (suc n) before at (stops_past kind comps b before at past) ∙ sym (longest_stops kind comps b zero before at (stops_past kind comps b before at past))
 longest_same kind comps b (suc n) (suc m) before at below other =
-    elim (is_or_not_true (stops kind comps b before at)) [
+    elim (cases_Bool (stops kind comps b before at)) [
       | inl t ↦ longest_stops kind comps b (suc n) before at t ∙ sym (longest_stops kind comps b (suc m) before at t)
       | inr f ↦ let two : 2 ≤ size_at (drop at b) = size_is_two (drop at b) in
           let fewer : length b - (at + size_at (drop at b)) ≤ n = omega arith in
@@ -185,12 +182,6 @@ module _ (kind : HeaderKind) (comps : ℕ) (b : List ℕ) (start : ℕ) (before 
 none_yet : (a b : ℕ) → a < b → (a == b) ≡ false
 none_yet a b h = grind (arith, nat_tests)
 
-equal_is : (a b : ℕ) → a ≡ b → (a == b) ≡ true
-equal_is a b h = grind (arith, nat_tests)
-
-differs : (a b : ℕ) → a ≢ b → (a == b) ≡ false
-differs a b h = grind (arith, nat_tests)
-
 pub marks_none : (start : ℕ) (seen : List ℕ) → ((slot : ℕ) → get_or seen slot 0 < start) → Marks start [] seen
 marks_none start seen h = record {
   each = λ slot some inside. none_yet (get_or seen slot 0) start (h slot);
@@ -209,10 +200,10 @@ has_more : (slot : ℕ) (before : List Segment) (s : Segment) → has_slot slot 
 has_more slot before s = list_any-append (λ (x : Segment). slot_of x == slot) before (s ∷ []) ∙ ap (λ (x : Bool). has_slot slot before || x) (or_false (slot_of s == slot))
 
 has_this : (slot : ℕ) (before : List Segment) (s : Segment) → slot_of s ≡ slot → has_slot slot (before ++ s ∷ []) ≡ true
-has_this slot before s h = has_more slot before s ∙ rw (equal_is (slot_of s) slot h) (or_true (has_slot slot before))
+has_this slot before s h = has_more slot before s ∙ rw (eq-eqb (slot_of s) slot h) (or_true (has_slot slot before))
 
 has_other : (slot : ℕ) (before : List Segment) (s : Segment) → slot_of s ≢ slot → has_slot slot (before ++ s ∷ []) ≡ has_slot slot before
-has_other slot before s h = has_more slot before s ∙ rw (differs (slot_of s) slot h) (or_false (has_slot slot before))
+has_other slot before s h = has_more slot before s ∙ rw (ne_eqb (slot_of s) slot h) (or_false (has_slot slot before))
 
 same_or_not : (a b : ℕ) → (a ≡ b) ⊎ (a ≢ b)
 same_or_not a b = grind (arith, nat_tests)
@@ -223,7 +214,7 @@ marks_slot start before s seen inside marks = record {
   each = λ slot some within.
       elim (same_or_not slot (slot_of s)) [
         | inl e ↦
-            rw (get_or-set_at seen (slot_of s) slot start 0 e inside) (equal_is start start refl ∙ sym (has_this slot before s (sym e)))
+            rw (get_or-set_at seen (slot_of s) slot start 0 e inside) (eq-eqb start start refl ∙ sym (has_this slot before s (sym e)))
         | inr n ↦
             let within_old : slot < length seen = omega (arith, length-set {A = ℕ} seen (slot_of s) start) in
             let other : slot_of s ≢ slot = λ e. n (sym e) in
@@ -316,7 +307,7 @@ pub longest_rises : (kind : HeaderKind) (comps : ℕ) (b : List ℕ) (n : ℕ) (
 unfolding longest
 longest_rises kind comps b zero before at = omega arith
 longest_rises kind comps b (suc n) before at =
-    elim (is_or_not_true (stops kind comps b before at)) [
+    elim (cases_Bool (stops kind comps b before at)) [
       | inl t ↦ rw (longest_stops kind comps b (suc n) before at t) (omega arith)
       | inr f ↦
           let later : at + size_at (drop at b) ≤ (longest kind comps b n (before ++ segment_at comps (drop at b) ∷ []) (at + size_at (drop at b))).end =

@@ -11,6 +11,7 @@ use Rattle.jx_marker.specs.declared.Segment.{Segment}
 use Rattle.jx_stream.specs.Headers.{slot_of}
 use Rattle.jx_stream.specs.Tiles.{in_slot}
 use Rattle.jx_stream.specs.Index.{entry_at, Indexes}
+use Rattle.std.proofs.lemmas.Bool.{eq-eqb, ne_eqb, cases_lt, lt-ltb, le-ltb}
 
 get_old : (xs ys : List Segment) (k : ℕ) → k < length xs → slice_get (xs ++ ys) k ≡ slice_get xs k
 get_old [] ys k h = absurd (omega arith)
@@ -26,23 +27,8 @@ get_some [] k h = absurd (omega arith)
 get_some (x ∷ xs) zero h = (x, refl)
 get_some (x ∷ xs) (suc k) h = get_some xs k (omega arith)
 
-equal_yes : (a b : ℕ) → a ≡ b → (a == b) ≡ true
-equal_yes a b h = grind (arith, nat_tests)
-
-equal_no : (a b : ℕ) → a ≢ b → (a == b) ≡ false
-equal_no a b h = grind (arith, nat_tests)
-
 equal_or_not : (a b : ℕ) → (a ≡ b) ⊎ (a ≢ b)
 equal_or_not a b = grind (arith, nat_tests)
-
-below_or_not : (a b : ℕ) → (a < b) ⊎ (b ≤ a)
-below_or_not a b = grind arith
-
-below_yes : (a b : ℕ) → a < b → nat_lt a b ≡ true
-below_yes a b h = grind (arith, nat_tests)
-
-below_no : (a b : ℕ) → b ≤ a → nat_lt a b ≡ false
-below_no a b h = grind (arith, nat_tests)
 
 in_more : (slot : ℕ) (xs : List Segment) (s : Segment) → in_slot slot (xs ++ s ∷ []) ≡ option_or (in_slot slot xs) (cond (slot_of s == slot) (Some s) None)
 in_more slot xs s = find-append (λ (x : Segment). slot_of x == slot) xs (s ∷ [])
@@ -52,29 +38,29 @@ or_none None = refl
 or_none (Some s) = refl
 
 in_other : (slot : ℕ) (xs : List Segment) (s : Segment) → slot_of s ≢ slot → in_slot slot (xs ++ s ∷ []) ≡ in_slot slot xs
-in_other slot xs s h = in_more slot xs s ∙ rw (equal_no (slot_of s) slot h) (or_none (in_slot slot xs))
+in_other slot xs s h = in_more slot xs s ∙ rw (ne_eqb (slot_of s) slot h) (or_none (in_slot slot xs))
 
 entry_none : (xs : List Segment) (n : ℕ) → n ≡ 0 → entry_at xs n ≡ None
-entry_none xs n h = rw (equal_yes n 0 h) refl
+entry_none xs n h = rw (eq-eqb n 0 h) refl
 
 entry_some : (xs : List Segment) (n : ℕ) → n ≢ 0 → n ≤ length xs → (y : Segment) × (entry_at xs n ≡ Some y)
 entry_some xs n h most =
     let within : n - 1 < length xs = omega arith in
     let found = get_some xs (n - 1) within in
-    (found.0, rw (equal_no n 0 h) found.1)
+    (found.0, rw (ne_eqb n 0 h) found.1)
 
 entry_old : (xs : List Segment) (s : Segment) (n : ℕ) → n ≤ length xs → entry_at (xs ++ s ∷ []) n ≡ entry_at xs n
 entry_old xs s n most =
     elim (equal_or_not n 0) [
       | inl e ↦ entry_none (xs ++ s ∷ []) n e ∙ sym (entry_none xs n e)
-      | inr h ↦ let within : n - 1 < length xs = omega arith in rw (equal_no n 0 h) (get_old xs (s ∷ []) (n - 1) within)
+      | inr h ↦ let within : n - 1 < length xs = omega arith in rw (ne_eqb n 0 h) (get_old xs (s ∷ []) (n - 1) within)
     ]
 
 entry_new : (xs : List Segment) (s : Segment) → entry_at (xs ++ s ∷ []) (length xs + 1) ≡ Some s
 entry_new xs s =
     let one : length xs + 1 ≢ 0 = λ e. absurd (omega arith) in
     let last : length xs + 1 - 1 ≡ length xs = omega arith in
-    rw (equal_no (length xs + 1) 0 one, last) (get_last xs s)
+    rw (ne_eqb (length xs + 1) 0 one, last) (get_last xs s)
 
 -- no number in the table passes the segments
 abbrev pub IsSmall : ℕ → List ℕ → Type 0
@@ -93,7 +79,7 @@ module _ (xs : List Segment) (s : Segment) (table : List ℕ) (right : Indexes x
   free_slot : slot_of s < length table → get_or table (slot_of s) 0 ≡ 0 → in_slot (slot_of s) (xs ++ s ∷ []) ≡ Some s
   free_slot inside h =
       let before : in_slot (slot_of s) xs ≡ None = sym (right (slot_of s) inside) ∙ entry_none xs (get_or table (slot_of s) 0) h in
-      in_more (slot_of s) xs s ∙ rw (before, equal_yes (slot_of s) (slot_of s) refl) refl
+      in_more (slot_of s) xs s ∙ rw (before, eq-eqb (slot_of s) (slot_of s) refl) refl
 
   entered : slot_of s < length table → get_or table (slot_of s) 0 ≡ 0 → Indexes (xs ++ s ∷ []) (set table (slot_of s) (length xs + 1))
   entered inside h slot within =
@@ -114,11 +100,11 @@ module _ (xs : List Segment) (s : Segment) (table : List ℕ) (right : Indexes x
   pub index_more : (after : List ℕ) → after ≡ cond (nat_lt (slot_of s) (length table) && (get_or table (slot_of s) 0 == 0)) (set table (slot_of s) (length xs + 1)) table
       → Indexes (xs ++ s ∷ []) after × IsSmall (length xs + 1) after
   index_more after is =
-      elim (below_or_not (slot_of s) (length table)) [
+      elim (cases_lt (slot_of s) (length table)) [
         | inl inside ↦
             elim (equal_or_not (get_or table (slot_of s) 0) 0) [
-              | inl free ↦ rw (is, below_yes (slot_of s) (length table) inside, equal_yes (get_or table (slot_of s) 0) 0 free) (entered inside free, entered_small inside)
-              | inr taken ↦ rw (is, below_yes (slot_of s) (length table) inside, equal_no (get_or table (slot_of s) 0) 0 taken) (
+              | inl free ↦ rw (is, lt-ltb (slot_of s) (length table) inside, eq-eqb (get_or table (slot_of s) 0) 0 free) (entered inside free, entered_small inside)
+              | inr taken ↦ rw (is, lt-ltb (slot_of s) (length table) inside, ne_eqb (get_or table (slot_of s) 0) 0 taken) (
                 (λ slot within. elim (equal_or_not slot (slot_of s)) [
                   | inl e ↦ taken_slot slot within (λ zero_there. taken (ap (λ (n : ℕ). get_or table n 0) (sym e) ∙ zero_there))
                   | inr n ↦ kept_slot slot within (λ e. n (sym e))
@@ -126,7 +112,7 @@ module _ (xs : List Segment) (s : Segment) (table : List ℕ) (right : Indexes x
                 (λ slot. omega (arith, small slot)),
               )
             ]
-        | inr outside ↦ rw (is, below_no (slot_of s) (length table) outside)
+        | inr outside ↦ rw (is, le-ltb (slot_of s) (length table) outside)
             ((λ slot within. kept_slot slot within (λ e. absurd (omega arith))), (λ slot. omega (arith, small slot)))
       ]
 

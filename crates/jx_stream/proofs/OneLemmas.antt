@@ -11,6 +11,7 @@ use Rattle.jx_stream.specs.declared.headers.Header.{Header}
 use Rattle.jx_stream.specs.Headers.{stands_in, ends_header, is_second, segment_fault, stops, longest, header_fault}
 use Rattle.jx_stream.specs.Spells.{all_bytes, AreSegments}
 use Rattle.jx_stream.proofs.HeaderLemmas.{early_clear, fault_none, goes_on, stops_at_end, stops_past, longest_stops, longest_on, ends_once}
+use Rattle.std.proofs.lemmas.Bool.{cases_lt}
 
 -- the segment that stands at a place, where its spelling does
 pub stands_there : (comps : ℕ) (b : List ℕ) (at : ℕ) (s : Segment) (tail : List ℕ) → InRange comps s → drop at b ≡ spelling comps s ++ tail → StandsAt comps (drop at b) s (length (spelling comps s))
@@ -21,12 +22,9 @@ stands_there comps b at s tail range h =
 pub drop_on : (b : List ℕ) (at n : ℕ) (front rest : List ℕ) → drop at b ≡ front ++ rest → length front ≡ n → drop (at + n) b ≡ rest
 drop_on b at n front rest h size = sym (drop-drop n at b) ∙ ap (λ (x : List ℕ). drop n x) h ∙ drop_at front rest n size
 
-pub below_or_past : (a b : ℕ) → (a < b) ⊎ (b ≤ a)
-below_or_past a b = grind arith
-
 inside_of : (kind : HeaderKind) (comps : ℕ) (b : List ℕ) (before : List Segment) (at : ℕ) → stops kind comps b before at ≡ false → at < length b
 inside_of kind comps b before at goes =
-    elim (below_or_past at (length b)) [
+    elim (cases_lt at (length b)) [
       | inl h ↦ h
       | inr past ↦ let wrong : true ≡ false = sym (stops_past kind comps b before at past) ∙ goes in absurd (cc)
     ]

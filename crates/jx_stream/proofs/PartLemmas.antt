@@ -22,15 +22,9 @@ use Rattle.jx_stream.specs.Faults.{broken, fault_of, IsCause}
 use Rattle.jx_stream.specs.Headers.{header_at, header_fault}
 use Rattle.jx_stream.specs.Parts.{marker_at, sot_in, after_sot, kind_of, parts_of, told_other, is_out_of_turn, comes_out_of_turn, tables_say, start_fault, sot_fault, sod_fault, has_wrong_length, end_of, part_header, part_at, part_fault, fault_after, end_of_part, parts_stop, Parts, longest_parts, parts_from, parts_fault, Tracks}
 use Rattle.jx_stream.proofs.FaultLemmas.{cause_first, cause_later, none_first, none_later, broken_none}
-use Rattle.jx_stream.proofs.HeaderLemmas.{is_or_not_true, size_is_two, longest_rises}
+use Rattle.jx_stream.proofs.HeaderLemmas.{size_is_two, longest_rises}
 use Rattle.jx_stream.specs.declared.headers.HeaderKind.{HeaderKind}
-
-pub both : (x y : Bool) → (x && y) ≡ true → (x ≡ true) × (y ≡ true)
-both true y h = (refl, h)
-both false y h = absurd (cc)
-
-pub is_equal : (a b : ℕ) → (a == b) ≡ true → a ≡ b
-is_equal a b h = grind (arith, nat_tests)
+use Rattle.std.proofs.lemmas.Bool.{and_parts, eqb-true, leb-false, not-false, eq-eqb, ne_eqb, cases_Bool}
 
 not_below : (a b : ℕ) → nat_lt b a ≡ false → a ≤ b
 not_below a b h = grind (arith, nat_tests)
@@ -38,9 +32,6 @@ not_below a b h = grind (arith, nat_tests)
 or_none : (x y : Bool) → (x || y) ≡ false → y ≡ false
 or_none true y h = absurd (cc)
 or_none false y h = h
-
-below : (a b : ℕ) → nat_le a b ≡ false → b < a
-below a b h = grind (arith, nat_tests)
 
 pub or_is_true : (x : Bool) → (x || true) ≡ true
 or_is_true true = refl
@@ -53,10 +44,6 @@ none_is (Some e) h = absurd (cc)
 or_false : (x : Bool) → (x || false) ≡ x
 or_false true = refl
 or_false false = refl
-
-not_not : (x : Bool) → not x ≡ false → x ≡ true
-not_not true h = refl
-not_not false h = absurd (cc)
 
 or_left : (x y : Bool) → (x || y) ≡ false → x ≡ false
 or_left true y h = absurd (cc)
@@ -72,7 +59,7 @@ above_zero n h = grind (arith, nat_tests)
 -- where the marker stands, the segment is a SOT
 pub sot_stands : (comps : ℕ) (b : List ℕ) (at : ℕ) → marker_at b at 144 ≡ true → segment_at comps (drop at b) ≡ segment.Sot (sot_in b at)
 sot_stands comps b at h =
-    let e : get_or (drop at b) 1 0 ≡ 144 = get_or-drop at b 1 0 ∙ is_equal (get_or b (at + 1) 0) 144 (both (get_or b at 0 == 255) (get_or b (at + 1) 0 == 144) h).1 in
+    let e : get_or (drop at b) 1 0 ≡ 144 = get_or-drop at b 1 0 ∙ eqb-true (get_or b (at + 1) 0) 144 (and_parts (get_or b at 0 == 255) (get_or b (at + 1) 0 == 144) h).1 in
     rw e refl
 
 pub sot_of_segment : (comps : ℕ) (b : List ℕ) (at : ℕ) (s : Segment) → marker_at b at 144 ≡ true → segment_at comps (drop at b) ≡ s → s ≡ segment.Sot (sot_in b at)
@@ -148,7 +135,7 @@ header_fault_same comps b at sot next kind is after of =
 pub sod_within : (b : List ℕ) (at : ℕ) (sot : Sot) (sod : ℕ) → sod_fault b at sot sod ≡ None → sod + 2 ≤ end_of b at sot
 unfolding sod_fault
 sod_within b at sot sod h =
-    elim (is_or_not_true (sot.psot == 0)) [
+    elim (cases_Bool (sot.psot == 0)) [
       | inl t ↦ rw t (not_below (sod + 2) (length b - 2) (or_none (not (marker_at b (length b - 2) 217)) (nat_lt (length b - 2) (sod + 2)) (broken_none 23 (length b - 2) _ (rw t at h))))
       | inr f ↦ rw f (not_below (sod + 2) (at + sot.psot) (broken_none 22 at _ (rw f at h)))
     ]
@@ -176,10 +163,10 @@ module _ (comps : ℕ) (b : List ℕ) (parts : List Part) (counts told : List �
   pub turn_same : part_fault comps (length counts) b (tables_say counts told (sot_in b at)) at ≡ fault_after comps (length counts) b parts at
   unfolding part_fault sot_fault
   turn_same =
-      elim (is_or_not_true (nat_le (length counts) (sot_in b at).tile)) [
+      elim (cases_Bool (nat_le (length counts) (sot_in b at).tile)) [
         | inl t ↦ rw t refl
         | inr f ↦
-            let inside : (sot_in b at).tile < length counts = below (length counts) (sot_in b at).tile f in
+            let inside : (sot_in b at).tile < length counts = leb-false (length counts) (sot_in b at).tile f in
             ap (λ (out : Bool). part_fault comps (length counts) b out at) (tables_are_right (sot_in b at) inside)
       ]
 
@@ -222,14 +209,14 @@ parts_going comps tiles b n parts at h = rw h refl
 
 parts_same : (comps tiles : ℕ) (b : List ℕ) (n m : ℕ) (parts : List Part) (at : ℕ) → length b - at ≤ n → length b - at ≤ m
     → longest_parts comps tiles b n parts at ≡ longest_parts comps tiles b m parts at
-parts_same comps tiles b zero m parts at below other =
+parts_same comps tiles b zero m parts at leb-false other =
     let past : length b ≤ at = omega arith in
     parts_stopped comps tiles b zero parts at (stop_past comps tiles b parts at past) ∙ sym (parts_stopped comps tiles b m parts at (stop_past comps tiles b parts at past))
-parts_same comps tiles b (suc n) zero parts at below other =
+parts_same comps tiles b (suc n) zero parts at leb-false other =
     let past : length b ≤ at = omega arith in
     parts_stopped comps tiles b (suc n) parts at (stop_past comps tiles b parts at past) ∙ sym (parts_stopped comps tiles b zero parts at (stop_past comps tiles b parts at past))
-parts_same comps tiles b (suc n) (suc m) parts at below other =
-    elim (is_or_not_true (parts_stop comps tiles b parts at)) [
+parts_same comps tiles b (suc n) (suc m) parts at leb-false other =
+    elim (cases_Bool (parts_stop comps tiles b parts at)) [
       | inl t ↦ parts_stopped comps tiles b (suc n) parts at t ∙ sym (parts_stopped comps tiles b (suc m) parts at t)
       | inr f ↦ let rises : at < end_of_part (part_at comps b at) = part_rises comps tiles b (comes_out_of_turn parts (sot_in b at)) at (goes_clear comps tiles b parts at f) in
           let fewer : length b - end_of_part (part_at comps b at) ≤ n = omega arith in
@@ -286,20 +273,14 @@ module _ (comps tiles : ℕ) (b : List ℕ) (start : ℕ) (parts : List Part) (a
 
 -- the tables after one tile-part more
 
-equal_yes : (a b : ℕ) → a ≡ b → (a == b) ≡ true
-equal_yes a b h = grind (arith, nat_tests)
-
-equal_no : (a b : ℕ) → a ≢ b → (a == b) ≡ false
-equal_no a b h = grind (arith, nat_tests)
-
 equal_or_not : (a b : ℕ) → (a ≡ b) ⊎ (a ≢ b)
 equal_or_not a b = grind (arith, nat_tests)
 
 own_more : (tile : ℕ) (parts : List Part) (p : Part) → p.sot.tile ≡ tile → parts_of tile (parts ++ p ∷ []) ≡ parts_of tile parts ++ p ∷ []
-own_more tile parts p h = filter-append (λ (x : Part). x.sot.tile == tile) parts (p ∷ []) ∙ rw (equal_yes p.sot.tile tile h) refl
+own_more tile parts p h = filter-append (λ (x : Part). x.sot.tile == tile) parts (p ∷ []) ∙ rw (eq-eqb p.sot.tile tile h) refl
 
 own_same : (tile : ℕ) (parts : List Part) (p : Part) → p.sot.tile ≢ tile → parts_of tile (parts ++ p ∷ []) ≡ parts_of tile parts
-own_same tile parts p h = filter-append (λ (x : Part). x.sot.tile == tile) parts (p ∷ []) ∙ rw (equal_no p.sot.tile tile h) (append-nil (parts_of tile parts))
+own_same tile parts p h = filter-append (λ (x : Part). x.sot.tile == tile) parts (p ∷ []) ∙ rw (ne_eqb p.sot.tile tile h) (append-nil (parts_of tile parts))
 
 other_more : (number : ℕ) (own : List Part) (p : Part) → told_other number (own ++ p ∷ []) ≡ (told_other number own || (nat_lt 0 p.sot.parts && not (p.sot.parts == number)))
 other_more number own p = list_any-append (λ (x : Part). nat_lt 0 x.sot.parts && not (x.sot.parts == number)) own (p ∷ [])
@@ -312,7 +293,7 @@ pub record InTurn (sot : Sot) (count : ℕ) (other : Bool) : Type 0 where
 
 in_turn : (sot : Sot) (count : ℕ) (other : Bool) → is_out_of_turn sot count other ≡ false → InTurn sot count other
 in_turn sot count other h = record {
-  number = is_equal sot.part count (not_not (sot.part == count) (or_left (not (sot.part == count)) (nat_lt 0 sot.parts && (nat_le sot.parts sot.part || other)) h));
+  number = eqb-true sot.part count (not-false (sot.part == count) (or_left (not (sot.part == count)) (nat_lt 0 sot.parts && (nat_le sot.parts sot.part || other)) h));
   same = λ some.
       let rest = or_none (not (sot.part == count)) (nat_lt 0 sot.parts && (nat_le sot.parts sot.part || other)) h in
       or_none (nat_le sot.parts sot.part) other (and_first (nat_lt 0 sot.parts) (nat_le sot.parts sot.part || other) some rest);
@@ -368,7 +349,7 @@ module _ (parts : List Part) (p : Part) (counts told : List ℕ) (inside : p.sot
       → told_other number (parts_of tile (parts ++ p ∷ [])) ≡ (nat_lt 0 (get_or (cond (nat_lt 0 p.sot.parts) (set told p.sot.tile p.sot.parts) told) tile 0)
       && not (get_or (cond (nat_lt 0 p.sot.parts) (set told p.sot.tile p.sot.parts) told) tile 0 == number))
   told_after tile number =
-      elim (is_or_not_true (nat_lt 0 p.sot.parts)) [
+      elim (cases_Bool (nat_lt 0 p.sot.parts)) [
         | inl t ↦ rw t (new_told t tile number)
         | inr f ↦ rw f (kept_told f tile number)
       ]

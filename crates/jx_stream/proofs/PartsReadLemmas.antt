@@ -12,22 +12,10 @@ use Rattle.jx_stream.specs.declared.parts.Part.{Part}
 use Rattle.jx_stream.specs.Headers.{stands_in, header_at, header_fault}
 use Rattle.jx_stream.specs.Parts.{marker_at, sot_in, after_sot, kind_of, comes_out_of_turn, start_fault, sot_fault, sod_fault, end_of, part_header, part_at, fault_after, end_of_part, Parts, longest_parts}
 use Rattle.jx_stream.specs.Spells.{TilePart, all_bytes, head_bytes, part_bytes, part_of, placed, HasLength, IsTilePart, AreTileParts}
-use Rattle.jx_stream.proofs.HeaderLemmas.{is_or_not_true}
 use Rattle.jx_stream.proofs.PartLemmas.{sot_stands, start_clear, part_none, part_is, parts_stopped, parts_on, stop_at_eoc, go_on}
 use Rattle.jx_stream.proofs.SpellLemmas.{regroup, same_part}
 use Rattle.jx_stream.proofs.OneLemmas.{stands_there, drop_on, header_read, header_clear}
-
-equal_yes : (a b : ℕ) → a ≡ b → (a == b) ≡ true
-equal_yes a b h = grind (arith, nat_tests)
-
-equal_no : (a b : ℕ) → a ≢ b → (a == b) ≡ false
-equal_no a b h = grind (arith, nat_tests)
-
-over_no : (a b : ℕ) → b ≤ a → nat_lt a b ≡ false
-over_no a b h = grind (arith, nat_tests)
-
-most_no : (a b : ℕ) → b < a → nat_le a b ≡ false
-most_no a b h = grind (arith, nat_tests)
+use Rattle.std.proofs.lemmas.Bool.{cases_Bool, eq-eqb, ne_eqb, le-ltb, lt-leb}
 
 -- which marker stands at a place
 
@@ -35,7 +23,7 @@ pub marker_is : (b : List ℕ) (at code : ℕ) (rest : List ℕ) → drop at b �
 marker_is b at code rest h =
     let first : get_or b at 0 ≡ 255 = sym (get_or-drop at b 0 0 ∙ ap (λ (n : ℕ). get_or b n 0) (add-zero at)) ∙ ap (λ (x : List ℕ). get_or x 0 0) h in
     let second : get_or b (at + 1) 0 ≡ code = sym (get_or-drop at b 1 0) ∙ ap (λ (x : List ℕ). get_or x 1 0) h in
-    rw (equal_yes (get_or b at 0) 255 first, equal_yes (get_or b (at + 1) 0) code second) refl
+    rw (eq-eqb (get_or b at 0) 255 first, eq-eqb (get_or b (at + 1) 0) code second) refl
 
 and_false : (x : Bool) → (x && false) ≡ false
 and_false true = refl
@@ -44,12 +32,12 @@ and_false false = refl
 pub marker_is_not : (b : List ℕ) (at code other : ℕ) (rest : List ℕ) → drop at b ≡ 255 ∷ code ∷ rest → code ≢ other → marker_at b at other ≡ false
 marker_is_not b at code other rest h differs =
     let second : get_or b (at + 1) 0 ≡ code = sym (get_or-drop at b 1 0) ∙ ap (λ (x : List ℕ). get_or x 1 0) h in
-    let no_such : (get_or b (at + 1) 0 == other) ≡ false = equal_no (get_or b (at + 1) 0) other (λ e. differs (sym second ∙ e)) in
+    let no_such : (get_or b (at + 1) 0 == other) ≡ false = ne_eqb (get_or b (at + 1) 0) other (λ e. differs (sym second ∙ e)) in
     ap (λ (x : Bool). (get_or b at 0 == 255) && x) no_such ∙ and_false (get_or b at 0 == 255)
 
 pub sod_stands : (sot : Sot) → stands_in (kind_of sot) segment.Sod ≡ true
 sod_stands sot =
-    elim (is_or_not_true (sot.part == 0)) [
+    elim (cases_Bool (sot.part == 0)) [
       | inl t ↦ rw t refl
       | inr f ↦ rw f refl
     ]
@@ -142,35 +130,35 @@ module _ (comps tiles : ℕ) (b : List ℕ) (before : List Part) (at : ℕ) (p :
   not_short = elim ends [
     | inl named ↦
         let long : 14 ≤ p.sot.psot = omega (arith, named, whole, after) in
-        ap (λ (x : Bool). nat_lt 0 p.sot.psot && x) (over_no p.sot.psot 14 long) ∙ and_false (nat_lt 0 p.sot.psot)
-    | inr last ↦ let none : p.sot.psot ≤ 0 = omega (arith, last.0) in rw (over_no 0 p.sot.psot none) refl
+        ap (λ (x : Bool). nat_lt 0 p.sot.psot && x) (le-ltb p.sot.psot 14 long) ∙ and_false (nat_lt 0 p.sot.psot)
+    | inr last ↦ let none : p.sot.psot ≤ 0 = omega (arith, last.0) in rw (le-ltb 0 p.sot.psot none) refl
   ]
 
   sot_none : sot_fault tiles b at p.sot (comes_out_of_turn before p.sot) ≡ None
   unfolding sot_fault
-  sot_none = rw (most_no tiles p.sot.tile is.tile, is.turn, not_short, over_no (length b) (at + p.sot.psot) fits) refl
+  sot_none = rw (lt-leb tiles p.sot.tile is.tile, is.turn, not_short, le-ltb (length b) (at + p.sot.psot) fits) refl
 
   end_is : end_of b at p.sot ≡ at + length (part_bytes comps p)
   unfolding Ends
   end_is = elim ends [
     | inl named ↦
-        let some : (p.sot.psot == 0) ≡ false = equal_no p.sot.psot 0 (λ e. absurd (omega (arith, named, whole, after))) in
+        let some : (p.sot.psot == 0) ≡ false = ne_eqb p.sot.psot 0 (λ e. absurd (omega (arith, named, whole, after))) in
         rw some (omega (arith, named))
-    | inr last ↦ rw (equal_yes p.sot.psot 0 last.0) (omega (arith, total, ap (λ (x : List ℕ). length x) last.1))
+    | inr last ↦ rw (eq-eqb p.sot.psot 0 last.0) (omega (arith, total, ap (λ (x : List ℕ). length x) last.1))
   ]
 
   sod_none : sod_fault b at p.sot sod ≡ None
   unfolding Ends sod_fault
   sod_none = elim ends [
     | inl named ↦
-        let some : (p.sot.psot == 0) ≡ false = equal_no p.sot.psot 0 (λ e. absurd (omega (arith, named, whole, after))) in
+        let some : (p.sot.psot == 0) ≡ false = ne_eqb p.sot.psot 0 (λ e. absurd (omega (arith, named, whole, after))) in
         let long : sod + 2 ≤ at + p.sot.psot = omega (arith, named, whole) in
-        rw (some, over_no (at + p.sot.psot) (sod + 2) long) refl
+        rw (some, le-ltb (at + p.sot.psot) (sod + 2) long) refl
     | inr last ↦
         let place : length b - 2 ≡ at + length (part_bytes comps p) = omega (arith, total, ap (λ (x : List ℕ). length x) last.1) in
         let there : drop (length b - 2) b ≡ 255 ∷ 217 ∷ [] = ap (λ (n : ℕ). drop n b) place ∙ drop_on b at (length (part_bytes comps p)) (part_bytes comps p) tail h refl ∙ last.1 in
         let long : sod + 2 ≤ length b - 2 = omega (arith, place, whole) in
-        rw (equal_yes p.sot.psot 0 last.0, marker_is b (length b - 2) 217 [] there, over_no (length b - 2) (sod + 2) long) refl
+        rw (eq-eqb p.sot.psot 0 last.0, marker_is b (length b - 2) 217 [] there, le-ltb (length b - 2) (sod + 2) long) refl
   ]
 
   pub part_read : PartRead comps tiles b before at p

@@ -9,11 +9,7 @@ use Rattle.jx_stream.specs.declared.Tile.{Tile}
 use Rattle.jx_stream.specs.declared.faults.StreamFault.TheVariants as fault
 use Rattle.jx_stream.specs.Params.{rule_9_of, limit_4_of, has_too_few, quant_of, shape_of, shift_of, band_planes, tile_has_too_few, tile_planes}
 use Rattle.jx_marker.specs.declared.Segment.{Segment}
-
-range_next : (i n : ℕ) → i < n → range_with_len i (n - i) ≡ i ∷ range_with_len (i + 1) (n - (i + 1))
-range_next i n h =
-    let e : n - i ≡ suc (n - (i + 1)) = omega arith in
-    ap (λ (m : ℕ). range_with_len i m) e
+use Rattle.jx_base.proofs.Lists.{range_next}
 
 pub any_here : (f : ℕ → Bool) (i n : ℕ) → i < n → f i ≡ true → list_any f (range_with_len i (n - i)) ≡ true
 any_here f i n h t = ap (λ (x : List ℕ). list_any f x) (range_next i n h) ∙ rw t refl
@@ -88,6 +84,3 @@ pub tile_list : (main segments : List Segment) (comps : ℕ) (tile : Tile) → s
     → flat_map (λ (comp : ℕ). band_planes (quant_of segments main comp) (shape_of segments main comp) (shift_of segments main comp)) (range_with_len 0 comps) ≡ tile_planes main comps tile
 unfolding tile_planes
 tile_list main segments comps tile h = ap (λ (x : List Segment). flat_map (λ (comp : ℕ). band_planes (quant_of x main comp) (shape_of x main comp) (shift_of x main comp)) (range_with_len 0 comps)) h
-
-pub not_over : (a b : ℕ) → b ≤ a → nat_lt a b ≡ false
-not_over a b h = grind (arith, nat_tests)

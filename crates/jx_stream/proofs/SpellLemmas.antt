@@ -24,20 +24,13 @@ use Rattle.jx_stream.specs.Headers.{stands_in, ends_header, is_second, early_fau
 use Rattle.jx_stream.specs.Parts.{marker_at, sot_in, after_sot, kind_of, comes_out_of_turn, start_fault, sot_fault, sod_fault, has_wrong_length, end_of, part_header, body_of, part_at, part_fault, fault_after, end_of_part, parts_stop, Parts, longest_parts, parts_from, parts_fault}
 use Rattle.jx_stream.specs.Spells.{TilePart, all_bytes, head_bytes, part_bytes, part_of, placed, AreSegments, IsTilePart, AreTileParts}
 use Rattle.jx_stream.proofs.FaultLemmas.{none_first, none_later, broken_none, rule_none}
-use Rattle.jx_stream.proofs.HeaderLemmas.{is_or_not_true, longest_stops, longest_goes, stops_past, size_is_two}
-use Rattle.jx_stream.proofs.PartLemmas.{both, is_equal, sot_stands, sod_within, parts_stopped, parts_going, stop_at_eoc, stop_past, goes_clear, part_rises}
+use Rattle.jx_stream.proofs.HeaderLemmas.{longest_stops, longest_goes, stops_past, size_is_two}
+use Rattle.jx_stream.proofs.PartLemmas.{sot_stands, sod_within, parts_stopped, parts_going, stop_at_eoc, stop_past, goes_clear, part_rises}
+use Rattle.std.proofs.lemmas.Bool.{or_parts, not-false, leb-false, ltb-false, and_parts, eqb-true, cases_Bool}
 
 not_some : (x : Option StreamFault) → is_some x ≡ false → x ≡ None
 not_some None h = refl
 not_some (Some e) h = absurd (cc)
-
-pub neither : (x y : Bool) → (x || y) ≡ false → (x ≡ false) × (y ≡ false)
-neither true y h = absurd (cc)
-neither false y h = (refl, h)
-
-pub not_false : (x : Bool) → not x ≡ false → x ≡ true
-not_false true h = refl
-not_false false h = absurd (cc)
 
 -- a place of a header at which nothing is violated
 
@@ -54,7 +47,7 @@ is_clear kind comps b before at h =
     let second = none_later (option_or (rule_at at (first_broken comps (drop at b))) (broken 19 at (not (stands_in kind s)))) (broken 18 at (is_second before s)) h in
     record {
       rules = rule_none at (first_broken comps (drop at b)) (none_first (rule_at at (first_broken comps (drop at b))) (broken 19 at (not (stands_in kind s))) early);
-      stands = not_false (stands_in kind s) (broken_none 19 at (not (stands_in kind s)) (none_later (rule_at at (first_broken comps (drop at b))) (broken 19 at (not (stands_in kind s))) early));
+      stands = not-false (stands_in kind s) (broken_none 19 at (not (stands_in kind s)) (none_later (rule_at at (first_broken comps (drop at b))) (broken 19 at (not (stands_in kind s))) early));
       once = broken_none 18 at (is_second before s) second;
     }
 
@@ -62,7 +55,7 @@ going : (kind : HeaderKind) (comps : ℕ) (b : List ℕ) (before : List Segment)
     → (segment_fault kind comps b before at ≡ None) × (ends_header (segment_at comps (drop at b)) ≡ false)
 unfolding stops
 going kind comps b before at h =
-    let p = neither (is_some (segment_fault kind comps b before at)) (ends_header (segment_at comps (drop at b))) h in
+    let p = or_parts (is_some (segment_fault kind comps b before at)) (ends_header (segment_at comps (drop at b))) h in
     (not_some (segment_fault kind comps b before at) p.0, p.1)
 
 pub begins_at : (comps : ℕ) (b : List ℕ) (at : ℕ) → AreBytes b → first_broken comps (drop at b) ≡ None
@@ -107,7 +100,7 @@ unfolding longest
 walked kind comps b zero before at are = walked_none kind comps b before at
 walked kind comps b (suc n) before at are =
     let P : Header → Type 0 = λ h. Walked kind comps b before at h in
-    elim (is_or_not_true (stops kind comps b before at)) [
+    elim (cases_Bool (stops kind comps b before at)) [
       | inl t ↦ subst P (sym (longest_stops kind comps b (suc n) before at t)) (walked_none kind comps b before at)
       | inr f ↦ subst P (sym (longest_goes kind comps b n before at f))
           (walked_more kind comps b before at (longest kind comps b n (before ++ segment_at comps (drop at b) ∷ []) (at + size_at (drop at b))) are f
@@ -120,7 +113,7 @@ unfolding longest
 longest_ends kind comps b zero before at h = stops_past kind comps b before at (omega arith)
 longest_ends kind comps b (suc n) before at h =
     let P : Header → Type 0 = λ x. stops kind comps b x.segments x.end ≡ true in
-    elim (is_or_not_true (stops kind comps b before at)) [
+    elim (cases_Bool (stops kind comps b before at)) [
       | inl t ↦ subst P (sym (longest_stops kind comps b (suc n) before at t)) t
       | inr f ↦
           let two : 2 ≤ size_at (drop at b) = size_is_two (drop at b) in
@@ -152,9 +145,9 @@ get_two (x ∷ y ∷ xs) first second one two some = rw (← one, ← two) refl
 
 pub marker_there : (b : List ℕ) (at code : ℕ) → marker_at b at code ≡ true → 0 < code → drop at b ≡ 255 ∷ code ∷ drop (at + 2) b
 marker_there b at code h some =
-    let p = both (get_or b at 0 == 255) (get_or b (at + 1) 0 == code) h in
-    let first : get_or (drop at b) 0 0 ≡ 255 = get_or-drop at b 0 0 ∙ ap (λ (n : ℕ). get_or b n 0) (add-zero at) ∙ is_equal (get_or b at 0) 255 p.0 in
-    let second : get_or (drop at b) 1 0 ≡ code = get_or-drop at b 1 0 ∙ is_equal (get_or b (at + 1) 0) code p.1 in
+    let p = and_parts (get_or b at 0 == 255) (get_or b (at + 1) 0 == code) h in
+    let first : get_or (drop at b) 0 0 ≡ 255 = get_or-drop at b 0 0 ∙ ap (λ (n : ℕ). get_or b n 0) (add-zero at) ∙ eqb-true (get_or b at 0) 255 p.0 in
+    let second : get_or (drop at b) 1 0 ≡ code = get_or-drop at b 1 0 ∙ eqb-true (get_or b (at + 1) 0) code p.1 in
     get_two (drop at b) 255 code first second some ∙ ap (λ (x : List ℕ). 255 ∷ code ∷ x) (drop-drop 2 at b)
 
 -- SOD, and no other segment, ends a tile-part's header
@@ -171,7 +164,7 @@ sod_later _ ends stands = absurd (cc)
 
 pub sod_ends : (sot : Sot) (s : Segment) → ends_header s ≡ true → stands_in (kind_of sot) s ≡ true → s ≡ segment.Sod
 sod_ends sot s ends =
-    elim (is_or_not_true (sot.part == 0)) [
+    elim (cases_Bool (sot.part == 0)) [
       | inl t ↦ rw t (sod_first s ends)
       | inr f ↦ rw f (sod_later s ends)
     ]
@@ -205,12 +198,6 @@ record SotClear (tiles : ℕ) (b : List ℕ) (at : ℕ) (sot : Sot) (out : Bool)
   pub turn : out ≡ false
   pub length : at + sot.psot ≤ length b
 
-is_below : (a b : ℕ) → nat_le a b ≡ false → b < a
-is_below a b h = grind (arith, nat_tests)
-
-is_most : (a b : ℕ) → nat_lt a b ≡ false → b ≤ a
-is_most a b h = grind (arith, nat_tests)
-
 sot_clear : (tiles : ℕ) (b : List ℕ) (at : ℕ) (sot : Sot) (out : Bool) → sot_fault tiles b at sot out ≡ None → SotClear tiles b at sot out
 unfolding sot_fault
 sot_clear tiles b at sot out h =
@@ -218,11 +205,11 @@ sot_clear tiles b at sot out h =
     let turn = broken 21 at out in
     let size = broken 22 at (has_wrong_length b at sot) in
     let one = none_first (option_or tile turn) size h in
-    let two = neither (nat_lt 0 sot.psot && nat_lt sot.psot 14) (nat_lt (length b) (at + sot.psot)) (broken_none 22 at (has_wrong_length b at sot) (none_later (option_or tile turn) size h)) in
+    let two = or_parts (nat_lt 0 sot.psot && nat_lt sot.psot 14) (nat_lt (length b) (at + sot.psot)) (broken_none 22 at (has_wrong_length b at sot) (none_later (option_or tile turn) size h)) in
     record {
-      tile = is_below tiles sot.tile (broken_none 20 at (nat_le tiles sot.tile) (none_first tile turn one));
+      tile = leb-false tiles sot.tile (broken_none 20 at (nat_le tiles sot.tile) (none_first tile turn one));
       turn = broken_none 21 at out (none_later tile turn one);
-      length = is_most (length b) (at + sot.psot) two.1;
+      length = ltb-false (length b) (at + sot.psot) two.1;
     }
 
 either_first : (x y : Bool) → y ≡ false → (x || y) ≡ true → x ≡ true
@@ -232,7 +219,7 @@ either_first false y f h = absurd (cc)
 pub start_rules : (comps : ℕ) (b : List ℕ) (at : ℕ) → start_fault comps b at ≡ None → marker_at b at 217 ≡ false → (marker_at b at 144 ≡ true) × (first_broken comps (drop at b) ≡ None)
 unfolding start_fault
 start_rules comps b at h goes =
-    let here = not_false (marker_at b at 144 || marker_at b at 217) (broken_none 23 at (not (marker_at b at 144 || marker_at b at 217)) (none_first (broken 23 at (not (marker_at b at 144 || marker_at b at 217))) (rule_at at (first_broken comps (drop at b))) h)) in (
+    let here = not-false (marker_at b at 144 || marker_at b at 217) (broken_none 23 at (not (marker_at b at 144 || marker_at b at 217)) (none_first (broken 23 at (not (marker_at b at 144 || marker_at b at 217))) (rule_at at (first_broken comps (drop at b))) h)) in (
       either_first (marker_at b at 144) (marker_at b at 217) goes here,
       rule_none at (first_broken comps (drop at b)) (none_later (broken 23 at (not (marker_at b at 144 || marker_at b at 217))) (rule_at at (first_broken comps (drop at b))) h),
     )
@@ -244,7 +231,7 @@ sod_last : (b : List ℕ) (at : ℕ) (sot : Sot) (sod : ℕ) → sod_fault b at 
 unfolding sod_fault
 sod_last b at sot sod h none =
     let here : (sot.psot == 0) ≡ true = zero_is sot.psot none in
-    not_false (marker_at b (length b - 2) 217) (neither (not (marker_at b (length b - 2) 217)) (nat_lt (length b - 2) (sod + 2)) (broken_none 23 (length b - 2) (not (marker_at b (length b - 2) 217) || nat_lt (length b - 2) (sod + 2)) (rw here at h))).0
+    not-false (marker_at b (length b - 2) 217) (or_parts (not (marker_at b (length b - 2) 217)) (nat_lt (length b - 2) (sod + 2)) (broken_none 23 (length b - 2) (not (marker_at b (length b - 2) 217) || nat_lt (length b - 2) (sod + 2)) (rw here at h))).0
 
 -- where a tile-part ends: Psot says, or EOC stands at the end of the file
 record SodClear (b : List ℕ) (at : ℕ) (sot : Sot) (sod : ℕ) : Type 0 where
@@ -283,7 +270,7 @@ header_spelled kind comps b at are =
 
 end_within : (b : List ℕ) (at : ℕ) (sot : Sot) → at + sot.psot ≤ length b → end_of b at sot ≤ length b
 end_within b at sot h =
-    elim (is_or_not_true (sot.psot == 0)) [
+    elim (cases_Bool (sot.psot == 0)) [
       | inl t ↦ rw t (omega arith)
       | inr f ↦ rw f h
     ]
@@ -469,14 +456,14 @@ parts_more_written comps tiles b n before at are goes none later =
 
 pub goes_on_at : (comps tiles : ℕ) (b : List ℕ) (parts : List Part) (at : ℕ) → parts_stop comps tiles b parts at ≡ false → marker_at b at 217 ≡ false
 unfolding parts_stop
-goes_on_at comps tiles b parts at h = (neither (marker_at b at 217) (is_some (fault_after comps tiles b parts at)) h).0
+goes_on_at comps tiles b parts at h = (or_parts (marker_at b at 217) (is_some (fault_after comps tiles b parts at)) h).0
 
 pub parts_written : (comps tiles : ℕ) (b : List ℕ) (n : ℕ) (before : List Part) (at : ℕ) → AreBytes b → PartsWritten comps tiles b before at (longest_parts comps tiles b n before at)
 unfolding longest_parts
 parts_written comps tiles b zero before at are = parts_none comps tiles b before at
 parts_written comps tiles b (suc n) before at are =
     let P : Parts → Type 0 = λ x. PartsWritten comps tiles b before at x in
-    elim (is_or_not_true (parts_stop comps tiles b before at)) [
+    elim (cases_Bool (parts_stop comps tiles b before at)) [
       | inl t ↦ subst P (sym (parts_stopped comps tiles b (suc n) before at t)) (parts_none comps tiles b before at)
       | inr f ↦ subst P (sym (parts_going comps tiles b n before at f))
           (parts_more_written comps tiles b n before at are (goes_on_at comps tiles b before at f) (goes_clear comps tiles b before at f)
@@ -489,7 +476,7 @@ unfolding longest_parts
 parts_end_there comps tiles b zero before at h = stop_past comps tiles b before at (omega arith)
 parts_end_there comps tiles b (suc n) before at h =
     let P : Parts → Type 0 = λ x. parts_stop comps tiles b x.parts x.end ≡ true in
-    elim (is_or_not_true (parts_stop comps tiles b before at)) [
+    elim (cases_Bool (parts_stop comps tiles b before at)) [
       | inl t ↦ subst P (sym (parts_stopped comps tiles b (suc n) before at t)) t
       | inr f ↦
           let rises : at < end_of_part (part_at comps b at) = part_rises comps tiles b (comes_out_of_turn before (sot_in b at)) at (goes_clear comps tiles b before at f) in
@@ -505,7 +492,7 @@ no_stop false (Some e) f none h = cc
 eoc_of_stop : (comps tiles : ℕ) (b : List ℕ) (parts : List Part) (at : ℕ) → parts_stop comps tiles b parts at ≡ true → cond (marker_at b at 217) None (fault_after comps tiles b parts at) ≡ None → marker_at b at 217 ≡ true
 unfolding parts_stop
 eoc_of_stop comps tiles b parts at stop clear =
-    elim (is_or_not_true (marker_at b at 217)) [
+    elim (cases_Bool (marker_at b at 217)) [
       | inl t ↦ t
       | inr f ↦
           let none : fault_after comps tiles b parts at ≡ None = rw f at clear in

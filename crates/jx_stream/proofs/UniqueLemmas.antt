@@ -9,7 +9,6 @@ use Rattle.jx_marker.specs.declared.Siz.{Siz}
 use Rattle.jx_marker.specs.Segments.{spelling}
 use Rattle.jx_stream.specs.declared.faults.StreamFault.{StreamFault}
 use Rattle.jx_stream.specs.declared.faults.StreamFault.TheVariants as fault
-use Rattle.jx_stream.proofs.HeaderLemmas.{is_or_not_true}
 use Rattle.jx_stream.specs.declared.headers.HeaderKind.TheVariants.{Main}
 use Rattle.jx_stream.specs.declared.headers.Header.{Header}
 use Rattle.jx_stream.specs.declared.parts.Part.{Part}
@@ -29,6 +28,7 @@ use Rattle.jx_stream.proofs.OneLemmas.{stands_there, drop_on, header_read, heade
 use Rattle.jx_stream.proofs.PartsReadLemmas.{marker_is, parts_read}
 use Rattle.jx_stream.proofs.WholeLemmas.{whole_spelled}
 use Rattle.jx_marker.specs.Ranges.{AreBytes, SizInRange}
+use Rattle.std.proofs.lemmas.Bool.{cases_Bool}
 
 -- the main header, with a tile-part after it
 record MainRead (comps : ℕ) (b : List ℕ) (main : List Segment) (start : ℕ) : Type 0 where
@@ -169,7 +169,7 @@ planes_alone (Some planes) number place h = cc
 pub limits_alone : (siz : Siz) (main : List Segment) (comps : ℕ) (tiles : List Tile) (number place : ℕ) → option_or (tiles_fault siz) (planes_fault main comps tiles) ≡ Some (fault.Rule number place) → ⊥
 unfolding tiles_fault
 limits_alone siz main comps tiles number place =
-    elim (is_or_not_true (nat_lt 65535 (tile_number siz))) [
+    elim (cases_Bool (nat_lt 65535 (tile_number siz))) [
       | inl t ↦ rw t (λ h. cc)
       | inr f ↦ rw f (planes_alone (find (nat_lt 74) (flat_map (tile_planes main comps) tiles)) number place)
     ]

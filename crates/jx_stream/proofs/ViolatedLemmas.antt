@@ -24,13 +24,13 @@ use Rattle.jx_stream.specs.First.{tile_number, siz_of, after_siz, front_fault, t
 use Rattle.jx_stream.specs.Spells.{TilePart, all_bytes, part_bytes, part_of, placed, IsTilePart, first_sot, Spells}
 use Rattle.jx_stream.specs.FirstViolated.{main_bytes, front_bytes, header_bytes, IsMain, AreNamed, AreParts, sot_first, IsHeader, IsInSiz, IsInMain, IsAtFirstSot, IsAtPart, IsAtSot, IsInHeader, IsAtSod, IsAtEoc, IsShort, IsOver, IsFirst, IsWithin}
 use Rattle.jx_stream.proofs.FaultLemmas.{none_first, none_later}
-use Rattle.jx_stream.proofs.HeaderLemmas.{is_or_not_true}
 use Rattle.jx_stream.proofs.PartLemmas.{sot_stands, parts_stopped, parts_going, stop_at_eoc, goes_clear}
 use Rattle.jx_stream.proofs.SpellLemmas.{is_clear, begins_at, takes, header_spelled, header_ends, start_rules, sod_ends, part_written, goes_on_at}
 use Rattle.jx_stream.proofs.WholeLemmas.{FrontClear, front_is_clear, body_is_clear, front_spelled, MainSpelled, main_spelled, WholeSpelled, up_to_eoc, stream_shape, clear_spelled, whole_spelled}
 use Rattle.jx_stream.proofs.PartsReadLemmas.{sot_read, sot_size}
 use Rattle.jx_stream.proofs.UniqueLemmas.{is_read}
 use Rattle.jx_stream.proofs.FrontLemmas.{main_size, front_size, header_size, main_rest, front_rest, sot_rest, header_rest, told_is_first}
+use Rattle.std.proofs.lemmas.Bool.{cases_Bool}
 
 -- the first of two is the one or, where that is none, the other
 either_some : (x y : Option StreamFault) (f : StreamFault) → option_or x y ≡ Some f → (x ≡ Some f) ⊎ ((x ≡ None) × (y ≡ Some f))
@@ -89,7 +89,7 @@ unfolding longest_parts
 parts_named comps tiles b zero before at are = λ lacks. named_none comps tiles b before at
 parts_named comps tiles b (suc n) before at are =
     let P : Parts → Type 0 = λ x. marker_at b x.end 217 ≡ false → PartsNamed comps tiles b before at x in
-    elim (is_or_not_true (parts_stop comps tiles b before at)) [
+    elim (cases_Bool (parts_stop comps tiles b before at)) [
       | inl t ↦ subst P (sym (parts_stopped comps tiles b (suc n) before at t)) (λ lacks. named_none comps tiles b before at)
       | inr f ↦ subst P (sym (parts_going comps tiles b n before at f))
           (named_more comps tiles b n before at are (goes_on_at comps tiles b before at f) (goes_clear comps tiles b before at f)

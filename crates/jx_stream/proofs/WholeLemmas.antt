@@ -24,7 +24,8 @@ use Rattle.jx_stream.specs.Spells.{TilePart, all_bytes, part_bytes, placed, AreS
 use Rattle.jx_stream.specs.FirstViolated.{IsWhole}
 use Rattle.jx_stream.proofs.FaultLemmas.{none_first, none_later, broken_none, rule_none}
 use Rattle.jx_stream.proofs.FirstLemmas.{siz_stands}
-use Rattle.jx_stream.proofs.SpellLemmas.{header_spelled, parts_written, eoc_there, marker_there, begins_at, takes, not_false, header_ends}
+use Rattle.jx_stream.proofs.SpellLemmas.{header_spelled, parts_written, eoc_there, marker_there, begins_at, takes, header_ends}
+use Rattle.std.proofs.lemmas.Bool.{not-false}
 
 pub record FrontClear (b : List ℕ) : Type 0 where
   pub soc : marker_at b 0 79 ≡ true
@@ -39,8 +40,8 @@ front_is_clear b h =
     let rules = rule_at 2 (first_broken 1 (drop 2 b)) in
     let later = none_later soc (option_or siz rules) h in
     record {
-      soc = not_false (marker_at b 0 79) (broken_none 15 0 (not (marker_at b 0 79)) (none_first soc (option_or siz rules) h));
-      siz = not_false (marker_at b 2 81) (broken_none 16 2 (not (marker_at b 2 81)) (none_first siz rules later));
+      soc = not-false (marker_at b 0 79) (broken_none 15 0 (not (marker_at b 0 79)) (none_first soc (option_or siz rules) h));
+      siz = not-false (marker_at b 2 81) (broken_none 16 2 (not (marker_at b 2 81)) (none_first siz rules later));
       rules = rule_none 2 (first_broken 1 (drop 2 b)) (none_later siz rules later);
     }
 

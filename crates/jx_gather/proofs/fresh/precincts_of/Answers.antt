@@ -1,8 +1,8 @@
 use Rattle.std.proofs.Common.{sym, ◌∙◌, arith}
 use Rattle.jx_gather.specs.Cells.{fresh_component}
-use Rattle.jx_order.proofs.JoinedLemmas.{joined_none, makes_next}
 use Rattle.jx_gather.proofs.ListLemmas.{few_components}
 use Rattle.jx_gather.proofs.fresh.precincts_of.Goals as goal
+use Rattle.jx_base.proofs.Joined.{joined_none, makes_next}
 
 pub loop-comp-init : goal.loop-comp-init
 loop-comp-init c = c.new-list.ensures.items ∙ sym (joined_none (fresh_component c.args.stream.now c.args.geom.now) 0 0 (omega arith))

@@ -2,9 +2,9 @@ use Rattle.std.proofs.Common.{◌≡◌, ◌++◌, ◌∷◌, [], ap, ◌∙◌,
 use Rattle.jx_base.specs.declared.pieces.Block.{Block}
 use Rattle.jx_stream.specs.declared.Params.{Params}
 use Rattle.jx_gather.specs.Blocks.{one_block}
-use Rattle.jx_order.proofs.JoinedLemmas.{appends_none, appends_next}
 use Rattle.jx_gather.proofs.ListLemmas.{fresh_is}
 use Rattle.jx_gather.proofs.fresh.push_band.Goals as goal
+use Rattle.jx_base.proofs.Joined.{appends_none, appends_next}
 
 pub loop-index-init : goal.loop-index-init
 loop-index-init c =

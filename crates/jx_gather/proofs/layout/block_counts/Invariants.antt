@@ -1,7 +1,8 @@
 use Rattle.std.proofs.Common.{◌≡◌, ◌≤◌, ℕ, length, slice_index}
-use Rattle.jx_geom.specs.Counts.{sum_below, resolution_blocks}
+use Rattle.jx_geom.specs.Counts.{resolution_blocks}
 use Rattle.jx_geom.specs.Geometry.{rect_of_tile, shape_of}
 use Rattle.jx_gather.proofs.layout.block_counts.Given as goal
+use Rattle.jx_base.specs.Joined.{sum_below}
 
 abbrev pub invariant-loop-res : goal.invariant-loop-res
 invariant-loop-res l = record {

@@ -1,8 +1,8 @@
 use Rattle.std.proofs.Common.{◌∙◌, ap, sym, arith, ℕ}
-use Rattle.jx_geom.specs.Counts.{sum_below}
 use Rattle.jx_gather.specs.Totals.{tile_packets}
 use Rattle.jx_gather.proofs.TotalLemmas.{packets_are}
 use Rattle.jx_gather.proofs.totals.packet_total.Goals as goal
+use Rattle.jx_base.specs.Joined.{sum_below}
 
 pub returns : goal.returns
 returns c =

@@ -1,7 +1,7 @@
 use Rattle.std.proofs.Common.{◌≡◌, ◌*◌, ◌≤◌, ◌^◌}
-use Rattle.jx_geom.specs.Counts.{sum_below}
 use Rattle.jx_gather.specs.Totals.{tile_packets}
 use Rattle.jx_gather.proofs.totals.packet_total.Given as goal
+use Rattle.jx_base.specs.Joined.{sum_below}
 
 abbrev pub invariant-loop-tile : goal.invariant-loop-tile
 invariant-loop-tile l = record {

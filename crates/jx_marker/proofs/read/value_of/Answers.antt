@@ -1,7 +1,8 @@
 use Rattle.std.proofs.Common.{◌≡◌, arith}
 use Rattle.std.proofs.lemmas.Bool.Decides.{nat_tests}
-use Rattle.jx_marker.proofs.ClearLemmas.{clear_siz, clear_cod, clear_coc, clear_rgn, sot_left, not_equal}
+use Rattle.jx_marker.proofs.ClearLemmas.{clear_siz, clear_cod, clear_coc, clear_rgn, sot_left}
 use Rattle.jx_marker.proofs.read.value_of.Goals as goal
+use Rattle.std.proofs.lemmas.Bool.{ne_eqb}
 
 pub read_siz-requires : goal.read_siz-requires
 read_siz-requires c =
@@ -52,6 +53,6 @@ read_sot-requires c =
     (grind (arith, nat_tests, c.in_default)) (grind (arith, nat_tests, c.in_default)) (grind (arith, nat_tests, c.in_default))
     (grind (arith, nat_tests, c.in_default)) (grind (arith, nat_tests, c.in_default)) (grind (arith, nat_tests, c.in_default))
     (grind (arith, nat_tests, c.in_default)) (grind (arith, nat_tests, c.in_default)) (grind (arith, nat_tests, c.in_default))
-    (grind (arith, nat_tests, c.in_default)) (not_equal c.args.code 96 c.requires.not_ppm) (not_equal c.args.code 97 c.requires.not_ppt)
+    (grind (arith, nat_tests, c.in_default)) (ne_eqb c.args.code 96 c.requires.not_ppm) (ne_eqb c.args.code 97 c.requires.not_ppt)
     (grind (arith, nat_tests, c.in_default)) (grind (arith, nat_tests, c.in_default)) in
     omega (arith, c.requires.sot is)

@@ -1,7 +1,8 @@
 use Rattle.std.proofs.Common.{◌≡◌, arith, ◌∙◌, sym}
-use Rattle.jx_order.specs.Steps.{placed_all, placed_component, joined}
-use Rattle.jx_order.proofs.JoinedLemmas.{joined_none, makes_next, makes_all}
+use Rattle.jx_order.specs.Steps.{placed_all, placed_component}
 use Rattle.jx_order.proofs.placing.place_all.Goals as goal
+use Rattle.jx_base.specs.Joined.{joined}
+use Rattle.jx_base.proofs.Joined.{joined_none, makes_next, makes_all}
 
 pub loop-comp-init : goal.loop-comp-init
 loop-comp-init c =

@@ -1,6 +1,7 @@
 use Rattle.std.proofs.Common.{◌≡◌, ◌≤◌, max}
-use Rattle.jx_order.specs.Steps.{joined, placed_component}
+use Rattle.jx_order.specs.Steps.{placed_component}
 use Rattle.jx_order.proofs.placing.place_all.Given as goal
+use Rattle.jx_base.specs.Joined.{joined}
 
 abbrev pub invariant-loop-comp : goal.invariant-loop-comp
 invariant-loop-comp l = record {

@@ -1,7 +1,7 @@
 use Rattle.std.proofs.Common.{arith}
 use Rattle.jx_order.specs.Steps.{placed_resolution}
-use Rattle.jx_order.proofs.JoinedLemmas.{appends_none, appends_next}
 use Rattle.jx_order.proofs.placing.place_component.Goals as goal
+use Rattle.jx_base.proofs.Joined.{appends_none, appends_next}
 
 pub loop-res-init : goal.loop-res-init
 loop-res-init c = record {

@@ -1,6 +1,7 @@
 use Rattle.std.proofs.Common.{◌≡◌, ◌≤◌, ◌++◌, max}
-use Rattle.jx_order.specs.Steps.{joined, placed_resolution}
+use Rattle.jx_order.specs.Steps.{placed_resolution}
 use Rattle.jx_order.proofs.placing.place_component.Given as goal
+use Rattle.jx_base.specs.Joined.{joined}
 
 abbrev pub invariant-loop-res : goal.invariant-loop-res
 invariant-loop-res l = record {

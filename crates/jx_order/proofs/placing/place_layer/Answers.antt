@@ -1,8 +1,8 @@
 use Rattle.std.proofs.Common.{◌≡◌, ◌++◌, arith}
 use Rattle.std.proofs.lemmas.Grind.{common_steps}
 use Rattle.jx_order.specs.Steps.{placed_one}
-use Rattle.jx_order.proofs.JoinedLemmas.{appends_none, appends_next}
 use Rattle.jx_order.proofs.placing.place_layer.Goals as goal
+use Rattle.jx_base.proofs.Joined.{appends_none, appends_next}
 
 pub loop-precinct-init : goal.loop-precinct-init
 loop-precinct-init c =

@@ -3,8 +3,8 @@ use Rattle.jx_base.specs.Places.{length_of}
 use Rattle.jx_geom.specs.Geometry.{precincts_in}
 use Rattle.jx_order.proofs.PlacedLemmas.{resolution_none}
 use Rattle.jx_order.specs.Steps.{placed_layer}
-use Rattle.jx_order.proofs.JoinedLemmas.{appends_none, appends_next}
 use Rattle.jx_order.proofs.placing.place_resolution.Goals as goal
+use Rattle.jx_base.proofs.Joined.{appends_none, appends_next}
 
 pub loop-layer-init : goal.loop-layer-init
 loop-layer-init c = record {

@@ -1,6 +1,7 @@
 use Rattle.std.proofs.Common.{◌≡◌, ◌≤◌, ◌++◌, max}
-use Rattle.jx_order.specs.Steps.{joined, placed_layer}
+use Rattle.jx_order.specs.Steps.{placed_layer}
 use Rattle.jx_order.proofs.placing.place_resolution.Given as goal
+use Rattle.jx_base.specs.Joined.{joined}
 
 abbrev pub invariant-loop-layer : goal.invariant-loop-layer
 invariant-loop-layer l = record {

@@ -4,7 +4,7 @@ use Rattle.std.proofs.Math.Nat.{mul-le-mul_right}
 use Rattle.std.proofs.lemmas.Bool.{cases_lt}
 use Rattle.std.proofs.lemmas.Nat.{div_below, div-mul-add, mod-mul-add, div-add-mod'}
 use Rattle.jx_base.specs.declared.names.Rect.{Rect}
-use Rattle.jx_base.specs.Places.{InRect, length_of, size_of, column_at, row_at}
+use Rattle.jx_base.specs.Places.{InRect, length_of, size_of, column_at, row_at, number_at}
 
 pub factor_some : (n a b : ℕ) → n < a * b → 0 < a
 factor_some n a b h = elim (cases_lt 0 a) [
@@ -26,10 +26,6 @@ raster_in r n h = record {
   across = record { from = omega arith; below = omega (arith, column_below n (length_of r.x) (length_of r.y) h) };
   down = record { from = omega arith; below = omega (arith, row_below n (length_of r.x) (length_of r.y) h) };
 }
-
--- the number of a place
-abbrev pub number_at : Rect → ℕ → ℕ → ℕ
-number_at r x y = (y - r.y.low) * length_of r.x + (x - r.x.low)
 
 pub in_rows : (a b w h : ℕ) → a < h → b < w → a * w + b < w * h
 in_rows a b w h ha hb =

@@ -1,11 +1,11 @@
 -- Lists that are joined from those of a number and the next ones.
-use Rattle.std.proofs.Common.{◌≡◌, ℕ, zero, suc, ◌+◌, ◌-◌, ◌≤◌, ◌<◌, List, [], ◌++◌, inl, inr, ◌∙◌, ap, sym, subst, refl, arith, length, max, append_assoc, append-nil, get_or, length-append}
-use Rattle.std.proofs.Math.ListN.{get_or-append}
-use Rattle.std.proofs.Math.Seq.{get_or-append_right}
+use Rattle.std.proofs.Common.{◌≡◌, ℕ, zero, suc, ◌+◌, ◌-◌, ◌≤◌, ◌<◌, List, [], ◌++◌, inl, inr, ◌∙◌, ap, sym, subst, refl, add-one, arith, length, max, append_assoc, append-nil, length-append}
+use Rattle.std.specs.List.{All, AllPairs, Contains, slice_get}
 use Rattle.std.proofs.lemmas.Bool.{cases_lt}
-use Rattle.std.proofs.lemmas.List.Elements.{Contains-append_left, Contains-append_right, Contains-append_cases, Contains-get_or}
-use Rattle.std.specs.List.{AllPairs, Contains}
-use Rattle.jx_order.specs.Steps.{joined, joined_below}
+use Rattle.std.proofs.lemmas.List.Elements.{All-append, Contains-append_left, Contains-append_right, Contains-append_cases}
+use Rattle.jx_base.specs.Joined.{joined, joined_below, JoinedAt, sum_below}
+use Rattle.jx_base.proofs.Lists.{get_left, get_right, pairs_append}
+use Rattle.jx_base.proofs.Sums.{sum_below_more}
 
 pub joined_none : {X : Type 0} (f : ℕ → List X) (a b : ℕ) → b ≤ a → joined f a b ≡ []
 unfolding joined
@@ -80,13 +80,6 @@ below_from {X} f a (suc n) x i lt h = elim (cases_lt i n) [
       Contains-append_right (joined_below f a n) (f (a + n)) x (subst P e h)
 ]
 
--- x is in the list of a number from a on below b
-pub record JoinedAt {X : Type 0} (f : ℕ → List X) (a b : ℕ) (x : X) : Type 0 where
-  pub number : ℕ
-  pub from : a ≤ number
-  pub below : number < b
-  pub has : Contains (f number) x
-
 pub joined_has : {X : Type 0} (f : ℕ → List X) (a b : ℕ) (x : X) → Contains (joined f a b) x → JoinedAt f a b x
 unfolding joined
 joined_has f a b x h = let d = below_has f a (b - a) x h in record { number = a + d.0; from = omega arith; below = omega (arith, d.1); has = d.2 }
@@ -97,29 +90,6 @@ joined_from {X} f a b x h =
     let e : h.number ≡ a + (h.number - a) = omega (arith, h.from) in
     let P : ℕ → Type 0 = λ m. Contains (f m) x in
     below_from f a (b - a) x (h.number - a) (omega (arith, h.from, h.below)) (subst P e h.has)
-
--- two lists one after the other, of which each pair has a relation
-pub pairs_append : {X : Type 0} (R : X → X → Type 0) (xs ys : List X) → AllPairs R xs → AllPairs R ys
-    → ((x y : X) → Contains xs x → Contains ys y → R x y) → AllPairs R (xs ++ ys)
-pairs_append {X} R xs ys hx hy across i j d lt below = elim (cases_lt j (length xs)) [
-  | inl left ↦
-      let first : i < length xs = omega arith in
-      let e = get_or-append xs ys d i first in
-      let e2 = get_or-append xs ys d j left in
-      rw (e, e2) (hx i j d lt left)
-  | inr right ↦
-      let e2 : get_or (xs ++ ys) j d ≡ get_or ys (j - length xs) d = get_or-append_right xs ys j d right in
-      let inside : j - length xs < length ys = omega (arith, length-append xs ys) in
-      elim (cases_lt i (length xs)) [
-        | inl first ↦
-            let e = get_or-append xs ys d i first in
-            rw (e, e2) (across (get_or xs i d) (get_or ys (j - length xs) d) (Contains-get_or xs i d first) (Contains-get_or ys (j - length xs) d inside))
-        | inr second ↦
-            let e : get_or (xs ++ ys) i d ≡ get_or ys (i - length xs) d = get_or-append_right xs ys i d second in
-            let less : i - length xs < j - length xs = omega arith in
-            rw (e, e2) (hy (i - length xs) (j - length xs) d less inside)
-      ]
-]
 
 below_pairs : {X : Type 0} (R : X → X → Type 0) (f : ℕ → List X) (a n : ℕ) → ((i : ℕ) → i < n → AllPairs R (f (a + i)))
     → ((i j : ℕ) (x y : X) → i < j → j < n → Contains (f (a + i)) x → Contains (f (a + j)) y → R x y) → AllPairs R (joined_below f a n)
@@ -135,3 +105,62 @@ pub joined_pairs : {X : Type 0} (R : X → X → Type 0) (f : ℕ → List X) (a
 unfolding joined
 joined_pairs R f a b each across =
     below_pairs R f a (b - a) (λ i h. each (a + i)) (λ i j x y lt h hx hy. across (a + i) (a + j) x y (omega arith) hx hy)
+
+-- how long a joined list is, and the item of a list in it
+pub joined_length : {X : Type 0} (f : ℕ → List X) (count : ℕ → ℕ) (n : ℕ) → ((i : ℕ) → length (f i) ≡ count i)
+    → length (joined f 0 n) ≡ sum_below count n
+joined_length f count zero h = ap (λ xs. length xs) (joined_none f 0 0 (omega arith))
+joined_length {X} f count (suc n) h =
+    let before : length (joined f 0 n) ≡ sum_below count n = joined_length f count n h in
+    let next : joined f 0 (n + 1) ≡ joined f 0 n ++ f n = joined_next f 0 n (omega arith) in
+    let next' : joined f 0 (suc n) ≡ joined f 0 n ++ f n = rw add-one at next in
+    let e : length (joined f 0 (suc n)) ≡ length (joined f 0 n ++ f n) = ap (λ (xs : List X). length xs) next' in
+    omega (arith, length-append (joined f 0 n) (f n), h n)
+
+pub joined_at : {X : Type 0} (f : ℕ → List X) (count : ℕ → ℕ) (n i j : ℕ) → ((i : ℕ) → length (f i) ≡ count i)
+    → i < n → j < count i → slice_get (joined f 0 n) (sum_below count i + j) ≡ slice_get (f i) j
+joined_at f count zero i j h lt inside = absurd (omega arith)
+joined_at {X} f count (suc n) i j h lt inside =
+    let next : joined f 0 (n + 1) ≡ joined f 0 n ++ f n = joined_next f 0 n (omega arith) in
+    let next' : joined f 0 (suc n) ≡ joined f 0 n ++ f n = rw add-one at next in
+    let long : length (joined f 0 n) ≡ sum_below count n = joined_length f count n h in
+    let e : slice_get (joined f 0 (suc n)) (sum_below count i + j) ≡ slice_get (joined f 0 n ++ f n) (sum_below count i + j) =
+    ap (λ (xs : List X). slice_get xs (sum_below count i + j)) next' in
+    elim (cases_lt i n) [
+      | inl earlier ↦
+          let within : sum_below count i + j < length (joined f 0 n) = omega (arith, sum_below_more count i n earlier) in
+          e ∙ get_left (joined f 0 n) (f n) (sum_below count i + j) within ∙ joined_at f count n i j h earlier inside
+      | inr last ↦
+          let same : i ≡ n = omega arith in
+          let P : ℕ → Type 0 = λ m. slice_get (joined f 0 n ++ f n) (sum_below count m + j) ≡ slice_get (f m) j in
+          e ∙ subst P (sym same) (get_right (joined f 0 n) (f n) (sum_below count n + j) j (omega arith))
+    ]
+
+-- what holds of each item of each list, and lists that are the same under each number
+below_all : {X : Type 0} (P : X → Type 0) (f : ℕ → List X) (a n : ℕ) → ((i : ℕ) → i < n → All P (f (a + i))) → All P (joined_below f a n)
+below_all P f a zero each = λ k d lt. absurd (omega arith)
+below_all P f a (suc n) each = All-append P (joined_below f a n) (f (a + n)) (below_all P f a n (λ (i : ℕ) (lt : i < n). each i (omega arith))) (each n (omega arith))
+
+joined_all : {X : Type 0} (P : X → Type 0) (f : ℕ → List X) (n : ℕ) → ((i : ℕ) → i < n → All P (f i)) → All P (joined f 0 n)
+unfolding joined
+joined_all {X} P f n each = below_all P f 0 (n - 0) (λ (i : ℕ) (lt : i < n - 0).
+    (let e : i ≡ 0 + i = omega arith in
+    let Q : ℕ → Type 0 = λ (m : ℕ). All P (f m) in
+    subst Q e (each i (omega arith))))
+
+below_same : {X : Type 0} (f h : ℕ → List X) (a n : ℕ) → ((i : ℕ) → i < n → f (a + i) ≡ h (a + i)) → joined_below f a n ≡ joined_below h a n
+below_same f h a zero same = refl
+below_same {X} f h a (suc n) same =
+    let front : joined_below f a n ≡ joined_below h a n = below_same f h a n (λ i lt. same i (omega arith)) in
+    ap (λ (xs : List X). xs ++ f (a + n)) front ∙ ap (λ (xs : List X). joined_below h a n ++ xs) (same n (omega arith))
+
+pub joined_same : {X : Type 0} (f h : ℕ → List X) (n : ℕ) → ((i : ℕ) → i < n → f i ≡ h i) → joined f 0 n ≡ joined h 0 n
+unfolding joined
+joined_same {X} f h n same = below_same f h 0 (n - 0) (λ i lt.
+    (let e : i ≡ 0 + i = omega arith in
+    let P : ℕ → Type 0 = λ m. f m ≡ h m in
+    subst P e (same i (omega arith))))
+
+pub joined_one : {X : Type 0} (f : ℕ → List X) (n : ℕ) → n ≡ 1 → joined f 0 n ≡ f 0
+unfolding joined
+joined_one f n e = rw e refl
