@@ -1,6 +1,6 @@
 use Rattle.std.proofs.Common.{◌≡◌, ◌<◌, ℕ, length, get_or}
 use Rattle.jx_stream.specs.Params.{precinct_of}
-use Rattle.jx_stream.proofs.queries.precincts_of.Given as goal
+use Rattle.jx_stream.proofs.component.precincts_of.Given as goal
 
 abbrev pub invariant-loop-res : goal.invariant-loop-res
 invariant-loop-res l = record {
