@@ -24,7 +24,8 @@ use Rattle.jx_order.proofs.OrderLemmas.{order_to}
 use Rattle.jx_stream.specs.declared.Stream.{Stream}
 use Rattle.jx_stream.specs.First.{canvas_of, tile_number}
 use Rattle.jx_stream.specs.Params.{planes_at}
-use Rattle.jx_gather.specs.Shapes.{IsRead, geometry, shapes_of, layers_of, style_of, tile_at}
+use Rattle.jx_stream.specs.Read.{IsRead}
+use Rattle.jx_stream.specs.Shapes.{geometry, shapes_of, layers_of, style_of, tile_at}
 use Rattle.jx_gather.specs.Totals.{totals_fault}
 use Rattle.jx_gather.specs.Leaves.{leaves}
 use Rattle.jx_gather.specs.Cells.{HasPrecinct, precinct_number, leaf_number}

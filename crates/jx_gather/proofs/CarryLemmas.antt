@@ -12,7 +12,7 @@ use Rattle.jx_head.specs.declared.Part.{Part}
 use Rattle.jx_head.specs.Packet.{State}
 use Rattle.jx_order.specs.declared.names.PacketName.{PacketName}
 use Rattle.jx_stream.specs.declared.Stream.{Stream}
-use Rattle.jx_gather.specs.Shapes.{geometry}
+use Rattle.jx_stream.specs.Shapes.{geometry}
 use Rattle.jx_gather.specs.Leaves.{leaves}
 use Rattle.jx_gather.specs.Cells.{HasPrecinct, leaf_number}
 use Rattle.jx_gather.specs.Blocks.{Found, zero_in, founds_from, founds_in, own_founds}

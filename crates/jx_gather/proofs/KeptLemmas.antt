@@ -20,9 +20,10 @@ use Rattle.jx_order.specs.Steps.{name_of}
 use Rattle.jx_stream.specs.declared.Stream.{Stream}
 use Rattle.jx_stream.specs.First.{canvas_of, tile_number}
 use Rattle.jx_stream.specs.Params.{planes_at}
-use Rattle.jx_gather.specs.Shapes.{IsRead, geometry, shapes_of, layers_of, style_of}
+use Rattle.jx_stream.specs.Read.{IsRead}
+use Rattle.jx_stream.specs.Shapes.{geometry, shapes_of, layers_of, style_of}
 use Rattle.jx_gather.specs.Totals.{totals_fault, block_total}
-use Rattle.jx_gather.specs.InRange.{StreamInRange}
+use Rattle.jx_stream.specs.InRange.{StreamInRange}
 use Rattle.jx_gather.specs.Leaves.{leaves}
 use Rattle.jx_gather.specs.Cells.{HasPrecinct, leaf_number}
 use Rattle.jx_gather.specs.Blocks.{Found, founds_of, own_founds, pieces_in, passes_in, zero_from, block_with, block_of}
@@ -37,7 +38,7 @@ use Rattle.jx_gather.proofs.GrowLemmas.{pieces_sum}
 use Rattle.jx_gather.proofs.LaidBlocks.{Joins, layer_founds, own_joined_over, packet_named}
 use Rattle.jx_gather.proofs.LaidTiles.{laid_gathered}
 use Rattle.jx_gather.proofs.LeafLemmas.{LeafOf, block_leaf}
-use Rattle.jx_gather.proofs.RangeLemmas.{read_in_range}
+use Rattle.jx_stream.proofs.RangeLemmas.{read_in_range}
 use Rattle.jx_gather.proofs.ListLemmas.{few_components}
 use Rattle.jx_gather.proofs.TotalLemmas.{blocks_are, geometry_fits}
 use Rattle.jx_gather.proofs.TurnLemmas.{listed}

@@ -14,7 +14,7 @@ use Rattle.jx_order.specs.declared.names.PacketName.{PacketName}
 use Rattle.jx_order.specs.Packets.{IsPacket as IsNamed}
 use Rattle.jx_order.specs.Steps.{name_of}
 use Rattle.jx_stream.specs.declared.Stream.{Stream}
-use Rattle.jx_gather.specs.Shapes.{geometry, layers_of}
+use Rattle.jx_stream.specs.Shapes.{geometry, layers_of}
 use Rattle.jx_gather.specs.Leaves.{leaves}
 use Rattle.jx_gather.specs.Cells.{HasPrecinct, fresh_precinct, precinct_number, leaf_number}
 use Rattle.jx_gather.specs.Cuts.{number_of}

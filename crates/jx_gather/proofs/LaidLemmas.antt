@@ -13,7 +13,7 @@ use Rattle.jx_order.specs.Packets.{IsPacket as IsNamed}
 use Rattle.jx_order.specs.Steps.{name_of}
 use Rattle.jx_stream.specs.declared.Body.{Body}
 use Rattle.jx_stream.specs.declared.Stream.{Stream}
-use Rattle.jx_gather.specs.Shapes.{geometry, layers_of, tile_at}
+use Rattle.jx_stream.specs.Shapes.{geometry, layers_of, tile_at}
 use Rattle.jx_gather.specs.Cells.{HasPrecinct, fresh_precinct, precinct_number}
 use Rattle.jx_gather.specs.Data.{window, due, behind, begins_with}
 use Rattle.jx_gather.specs.Cuts.{Cut, Left, IsCut, IsTurn, AreCuts, names_of, number_of}

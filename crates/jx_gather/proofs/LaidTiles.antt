@@ -3,11 +3,11 @@ use Rattle.std.proofs.Common.{◌≡◌, ℕ, ◌<◌, ◌≤◌, ◌^◌, List,
 use Rattle.jx_order.specs.declared.names.PacketName.{PacketName}
 use Rattle.jx_stream.specs.declared.Stream.{Stream}
 use Rattle.jx_stream.specs.First.{tile_number}
-use Rattle.jx_gather.specs.Shapes.{IsRead}
+use Rattle.jx_stream.specs.Read.{IsRead}
 use Rattle.jx_gather.specs.Totals.{totals_fault}
 use Rattle.jx_gather.specs.Gathered.{IsWhole, IsCutUp, IsGathered}
 use Rattle.jx_gather.specs.Written.{Packets, IsLaid, cuts_at, laid_in, laid_blocks, packets_in}
-use Rattle.jx_gather.proofs.RangeLemmas.{read_in_range}
+use Rattle.jx_stream.proofs.RangeLemmas.{read_in_range}
 use Rattle.jx_gather.proofs.ReadyLemmas.{keeps, precincts}
 use Rattle.jx_gather.proofs.TurnLemmas.{listed}
 use Rattle.jx_gather.proofs.LaidLemmas.{cut_up}

@@ -15,11 +15,6 @@ pub mod TurnLemmas
 pub mod OnceLemmas
 pub mod TrackLemmas
 pub mod SoundLemmas
-pub mod SegmentLemmas
-pub mod PlaneLemmas
-pub mod ShapeLemmas
-pub mod EntryLemmas
-pub mod RangeLemmas
 pub mod TotalLemmas
 pub mod CoveredLemmas
 pub mod ReadyLemmas

@@ -5,16 +5,16 @@ use Rattle.std.specs.Option.{option_or}
 use Rattle.std.proofs.lemmas.Bool.{eq-eqb, and_cases, or_parts, ltb-false, both_ways, true≢false}
 use Rattle.jx_base.specs.Markers.{HasNoMarker}
 use Rattle.jx_head.specs.declared.Part.{Part}
-use Rattle.jx_gather.specs.declared.faults.GatherFault.{GatherFault}
-use Rattle.jx_gather.specs.Faults.{broken}
+use Rattle.jx_stream.specs.declared.faults.StreamFault.{StreamFault}
+use Rattle.jx_stream.specs.Faults.{broken}
 use Rattle.jx_gather.specs.Data.{front_length, parts_length, is_marked, first_mark, rule_30, marks_fault, body_fault}
 
 -- ---- faults one after another
-or_first : (a b : Option GatherFault) → option_or a b ≡ None → a ≡ None
+or_first : (a b : Option StreamFault) → option_or a b ≡ None → a ≡ None
 or_first None b h = refl
 or_first (Some f) b h = absurd cc
 
-or_later : (a b : Option GatherFault) → option_or a b ≡ None → b ≡ None
+or_later : (a b : Option StreamFault) → option_or a b ≡ None → b ≡ None
 or_later None b h = h
 or_later (Some f) b h = absurd cc
 

@@ -28,9 +28,11 @@ use Rattle.jx_order.proofs.RiseLemmas.{order_rises}
 use Rattle.jx_stream.specs.declared.Stream.{Stream}
 use Rattle.jx_stream.specs.First.{tile_number}
 use Rattle.jx_stream.specs.Params.{planes_at}
-use Rattle.jx_gather.specs.Shapes.{geometry, layers_of, style_of, tile_at, IsRead}
+use Rattle.jx_stream.specs.Shapes.{geometry, layers_of, style_of, tile_at}
+use Rattle.jx_stream.specs.Read.{IsRead}
 use Rattle.jx_gather.specs.Totals.{totals_fault}
-use Rattle.jx_gather.specs.InRange.{StreamInRange, DataInRange}
+use Rattle.jx_stream.specs.InRange.{StreamInRange}
+use Rattle.jx_gather.specs.InRange.{DataInRange}
 use Rattle.jx_gather.specs.Leaves.{leaves, leaves_in}
 use Rattle.jx_gather.specs.Cells.{HasPrecinct, cells_at, sizes_of, precinct_bands, fresh_precinct, precinct_number, name_from, leaf_name, leaf_number}
 use Rattle.jx_gather.specs.Cuts.{Cut, Left, AreCuts, number_of, names_of}
@@ -40,7 +42,7 @@ use Rattle.jx_gather.specs.Put.{put_all}
 use Rattle.jx_gather.proofs.NumberLemmas.{precinct_there, precinct_once}
 use Rattle.jx_gather.proofs.CellLemmas.{bands_of, name_here, name_later, leaf_there, leaf_is, number_once}
 use Rattle.jx_gather.proofs.BlockLemmas.{blocks_long, block_there, block_named, BlockAt}
-use Rattle.jx_gather.proofs.RangeLemmas.{read_in_range}
+use Rattle.jx_stream.proofs.RangeLemmas.{read_in_range}
 use Rattle.jx_gather.proofs.TotalLemmas.{geometry_fits}
 use Rattle.jx_gather.proofs.BodyLemmas.{read_data}
 use Rattle.jx_gather.proofs.PartLemmas.{known_in, planes_of}

@@ -13,7 +13,7 @@ use Rattle.jx_head.specs.Precinct.{all_blocks}
 use Rattle.jx_order.specs.declared.names.PacketName.{PacketName}
 use Rattle.jx_stream.specs.declared.Body.{Body}
 use Rattle.jx_stream.specs.declared.Stream.{Stream}
-use Rattle.jx_gather.specs.Shapes.{style_of}
+use Rattle.jx_stream.specs.Shapes.{style_of}
 use Rattle.jx_gather.specs.Leaves.{leaves}
 use Rattle.jx_gather.specs.Cells.{HasPrecinct, fresh_precinct, fresh_precincts, precinct_number, leaf_number}
 use Rattle.jx_gather.specs.Data.{window, due, behind, header_in, front_length, parts_length}

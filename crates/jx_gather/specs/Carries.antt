@@ -11,7 +11,7 @@ use Rattle.jx_order.specs.declared.names.PacketName.{PacketName}
 use Rattle.jx_order.specs.Packets.{IsPacket as IsNamed}
 use Rattle.jx_stream.specs.declared.Stream.{Stream}
 use Rattle.jx_stream.specs.First.{canvas_of}
-use Rattle.jx_gather.specs.Shapes.{geometry, shapes_of, layers_of}
+use Rattle.jx_stream.specs.Shapes.{geometry, shapes_of, layers_of}
 use Rattle.jx_gather.specs.Leaves.{leaves}
 use Rattle.jx_gather.specs.Cells.{leaf_number}
 use Rattle.jx_gather.specs.Blocks.{zero_in}

@@ -14,7 +14,7 @@ use Rattle.jx_head.specs.Packet.{State}
 use Rattle.jx_head.specs.Precinct.{fresh_state}
 use Rattle.jx_stream.specs.declared.Stream.{Stream}
 use Rattle.jx_stream.specs.Params.{planes_at}
-use Rattle.jx_gather.specs.Shapes.{style_of}
+use Rattle.jx_stream.specs.Shapes.{style_of}
 use Rattle.jx_base.specs.Joined.{joined, sum_below}
 use Rattle.jx_base.specs.Bands.{bands_at}
 

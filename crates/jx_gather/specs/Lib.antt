@@ -1,5 +1,4 @@
 pub mod Faults
-pub mod Shapes
 pub mod Totals
 pub mod Cells
 pub mod Leaves

@@ -5,17 +5,17 @@ ghost use Rattle.std.specs.List.{All};
 ghost use Rattle.jx_base.specs.declared.pieces.Block.{Block};
 ghost use Rattle.jx_base.specs.Sound.{IsSound};
 ghost use Rattle.jx_stream.specs.First.{tile_number};
-ghost use Rattle.jx_gather.specs.declared.faults.GatherFault.{GatherFault};
+ghost use Rattle.jx_stream.specs.declared.faults.StreamFault.{StreamFault};
 ghost use Rattle.jx_gather.specs.Faults.{HasCause, IsMemory, IsOnly};
-ghost use Rattle.jx_gather.specs.Shapes.{IsRead};
-ghost use Rattle.jx_gather.specs.InRange.{StreamInRange};
+ghost use Rattle.jx_stream.specs.Read.{IsRead};
+ghost use Rattle.jx_stream.specs.InRange.{StreamInRange};
 ghost use Rattle.jx_gather.specs.Totals.{totals_fault};
 ghost use Rattle.jx_gather.specs.BlockOf.{AreBlocksOf};
 ghost use Rattle.jx_gather.specs.Gathered.{AreTileBlocks, BreaksData, BreaksTile, IsBroken, IsGathered, IsWhole};
 ghost use Rattle.jx_gather.specs.Joined.{IsGatheredTo};
 ghost use Rattle.jx_gather.specs.WellFormed.{IsWellFormed};
 
-use crate::GatherFault;
+use crate::StreamFault;
 use crate::covered::check_covered;
 use crate::shapes::tile_count;
 use crate::tile_blocks::gather_tile;
@@ -37,7 +37,7 @@ fn gather_tiles<'a>(
     alloc: Global,
     bytes: &'a [u8],
     stream: &Stream,
-) -> Result<Vec<Block<'a>>, GatherFault>
+) -> Result<Vec<Block<'a>>, StreamFault>
     requires read { IsRead bytes.now stream.now }
     requires range { StreamInRange stream.now }
     requires fits { length bytes.now ≤ 2 ^ 28 }
@@ -63,7 +63,7 @@ fn gather_first<'a>(
     alloc: Global,
     bytes: &'a [u8],
     stream: &Stream,
-) -> Result<Vec<Block<'a>>, GatherFault>
+) -> Result<Vec<Block<'a>>, StreamFault>
     requires read { IsRead bytes.now stream.now }
     requires fits { length bytes.now ≤ 2 ^ 28 }
     ensures gathered { IfOk result (λ blocks. IsGathered bytes.entry.now stream.now blocks.items) }
@@ -92,7 +92,7 @@ pub fn gather<'a>(
     alloc: Global,
     bytes: &'a [u8],
     stream: &Stream,
-) -> Result<Vec<Block<'a>>, GatherFault>
+) -> Result<Vec<Block<'a>>, StreamFault>
     requires read { IsRead bytes.now stream.now }
     requires fits { length bytes.now ≤ 2 ^ 28 }
     // What is given are the blocks of these bytes, and no others are;
@@ -100,10 +100,10 @@ pub fn gather<'a>(
     ensures only { IfOk result (λ blocks. (others : List Block) → IsGathered bytes.entry.now stream.now others → blocks.items ≡ others) }
     // no rule is violated then, and no limit passed.
     ensures totals { OnOk result (totals_fault stream.now ≡ None) }
-    ensures unbroken { OnOk result ((first : GatherFault) → IsBroken bytes.entry.now stream.now first → ⊥) }
+    ensures unbroken { OnOk result ((first : StreamFault) → IsBroken bytes.entry.now stream.now first → ⊥) }
     // A rule or limit that is named is the first one violated or passed, and the only one;
     ensures broken { IfErr result (λ e. HasCause (IsBroken bytes.entry.now stream.now) e) }
-    ensures first { IfErr result (λ e. (first : GatherFault) → IsBroken bytes.entry.now stream.now first → IsOnly first e) }
+    ensures first { IfErr result (λ e. (first : StreamFault) → IsBroken bytes.entry.now stream.now first → IsOnly first e) }
     // where there are blocks, within the limits, only memory is wanting.
     ensures memory { IfErr result (λ e. (blocks : List Block) → totals_fault stream.now ≡ None → IsGathered bytes.entry.now stream.now blocks → IsMemory e) }
     ensures sound { IfOk result (λ blocks. All IsSound blocks.items) }

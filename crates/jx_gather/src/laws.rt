@@ -7,8 +7,8 @@ ghost use Rattle.jx_base.specs.Sound.{IsSound};
 ghost use Rattle.jx_order.specs.declared.names.PacketName.{PacketName};
 ghost use Rattle.jx_stream.specs.declared.Stream.{Stream};
 ghost use Rattle.jx_stream.specs.First.{tile_number};
-ghost use Rattle.jx_gather.specs.declared.faults.GatherFault.{GatherFault};
-ghost use Rattle.jx_gather.specs.Shapes.{IsRead};
+ghost use Rattle.jx_stream.specs.declared.faults.StreamFault.{StreamFault};
+ghost use Rattle.jx_stream.specs.Read.{IsRead};
 ghost use Rattle.jx_gather.specs.Totals.{totals_fault};
 ghost use Rattle.jx_gather.specs.Gathered.{IsBroken, IsCutUp, IsGathered, IsWhole};
 ghost use Rattle.jx_gather.specs.BlockOf.{AreBlocksOf};
@@ -24,12 +24,12 @@ pub fn one_gathering()
 
 /// At most one rule or limit is the first one that is violated or passed.
 pub fn one_violation()
-    ensures { (b : List ℕ) (s : Stream) (fault other : GatherFault) → IsRead b s → length b ≤ 2 ^ 28 → IsBroken b s fault → IsBroken b s other → fault ≡ other }
+    ensures { (b : List ℕ) (s : Stream) (fault other : StreamFault) → IsRead b s → length b ≤ 2 ^ 28 → IsBroken b s fault → IsBroken b s other → fault ≡ other }
 {}
 
 /// Where the blocks are there, no rule is violated.
 pub fn never_both()
-    ensures { (b : List ℕ) (s : Stream) (blocks : List Block) (fault : GatherFault) → IsRead b s → length b ≤ 2 ^ 28 → totals_fault s ≡ None
+    ensures { (b : List ℕ) (s : Stream) (blocks : List Block) (fault : StreamFault) → IsRead b s → length b ≤ 2 ^ 28 → totals_fault s ≡ None
         → IsGathered b s blocks → IsBroken b s fault → ⊥ }
 {}
 
