@@ -1,7 +1,7 @@
 use Rattle.std.proofs.Common.{◌≡◌, ◌≤◌, ◌+◌, length, take, vec_len, vec_capacity}
 use Rattle.std.specs.List.{sum}
 use Rattle.jx_store.specs.Shown.{sums_from}
-use Rattle.jx_store.proofs.kernel.running_sums.Given as goal
+use Rattle.jx_store.proofs.sums.running_sums.Given as goal
 
 abbrev pub invariant-loop-size : goal.invariant-loop-size
 invariant-loop-size l = record {

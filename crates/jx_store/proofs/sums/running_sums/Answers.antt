@@ -1,6 +1,6 @@
 use Rattle.std.proofs.Common.{ℕ, ◌+◌, ◌∷◌, [], ◌++◌, get_or, refl, arith, ap, sym, ◌∙◌}
 use Rattle.jx_store.proofs.Loads.{sums_grow, total_grow}
-use Rattle.jx_store.proofs.kernel.running_sums.Goals as goal
+use Rattle.jx_store.proofs.sums.running_sums.Goals as goal
 
 pub loop-size-preserved : goal.loop-size-preserved
 loop-size-preserved c =
