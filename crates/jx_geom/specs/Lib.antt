@@ -7,3 +7,6 @@ pub mod Sizes
 pub mod Counts
 pub mod Geometry
 pub mod Numbering
+pub mod Precincts
+pub mod Resolutions
+pub mod Same
