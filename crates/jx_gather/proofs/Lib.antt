@@ -26,3 +26,12 @@ pub mod ReadyLemmas
 pub mod TileLemmas
 pub mod LayoutLemmas
 pub mod ListLemmas
+pub mod FrontLemmas
+pub mod LaidLemmas
+pub mod LaidTiles
+pub mod LaidBlocks
+pub mod FewLemmas
+pub mod BlockOfLemmas
+pub mod LeafLemmas
+pub mod CarryLemmas
+pub mod KeptLemmas

@@ -51,7 +51,7 @@ follows byte (next ∷ rest) h e = by (and_cases (byte == 255) ((1 == suc (suc (
     by (inl f) = absurd (both_ways (byte == 255) f (eq-eqb byte 255 e))
     by (inr f) = ltb-false 143 next (or_parts (1 == suc (suc (length rest))) (nat_lt 143 next) f).1
 
-later_mark : (byte : ℕ) (rest : List ℕ) (i : ℕ) → is_marked (byte ∷ rest) (suc i) ≡ is_marked rest i
+pub later_mark : (byte : ℕ) (rest : List ℕ) (i : ℕ) → is_marked (byte ∷ rest) (suc i) ≡ is_marked rest i
 later_mark byte rest i =
     let e : suc i + 1 ≡ suc (i + 1) = omega arith in
     ap (λ (n : ℕ). (slice_index rest i == 255) && ((n == suc (length rest)) || nat_lt 143 (get_or (byte ∷ rest) n 0))) e

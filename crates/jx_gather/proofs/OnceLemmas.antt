@@ -1,6 +1,6 @@
 -- Tile data have one reading: they are cut into packets in one way, or break one rule first.
-use Rattle.std.proofs.Common.{◌≡◌, ℕ, zero, suc, ◌+◌, ◌<◌, Bool, true, false, List, [], ◌∷◌, ◌++◌, Some, None, Option, inl, inr, ◌⊎◌, ◌∙◌, ap, sym, subst, refl, arith, length, take, drop, set, append-nil, length-append}
-use Rattle.std.specs.Prelude.{◌-◌, slice_get}
+use Rattle.std.proofs.Common.{◌≡◌, ℕ, suc, ◌+◌, ◌<◌, Bool, true, false, List, [], ◌∷◌, ◌++◌, Some, None, Option, inl, inr, ◌⊎◌, ◌∙◌, ap, sym, subst, refl, arith, length, take, drop, set, append-nil, length-append}
+use Rattle.std.specs.Prelude.{slice_get}
 use Rattle.std.specs.Option.{option_or}
 use Rattle.std.proofs.lemmas.Bool.{cases_lt}
 use Rattle.jx_base.specs.declared.pieces.Block.{Block}
@@ -25,7 +25,6 @@ use Rattle.jx_gather.specs.Cuts.{Cut, IsCut, BreaksHeader, BreaksBody, Breaks, L
 use Rattle.jx_gather.specs.Blocks.{founds_of, tile_blocks}
 use Rattle.jx_gather.specs.Gathered.{IsListOf, IsWhole, IsCutUp, AreTileBlocks, IsGathered, IsUncovered, BreaksTile, BreaksData, IsBroken, start}
 use Rattle.jx_gather.proofs.TurnLemmas.{Precincts, Keeps, Listed, listed, AllKnown, AreInTurn, are_in_turn, known_there, has_precinct, due_named}
-use Rattle.jx_base.specs.Joined.{joined, joined_below}
 use Rattle.jx_base.proofs.Joined.{joined_same}
 use Rattle.jx_base.proofs.Lists.{some_none, none_some, some_same, head_same, tail_same}
 

@@ -1,9 +1,7 @@
 -- Lists of lists, and the planes of every band of a stream that was read.
-use Rattle.std.proofs.Common.{◌≡◌, ◌∙◌, ◌<◌, ◌≤◌, ◌+◌, ◌-◌, ℕ, Bool, false, arith, List, [], ◌∷◌, ◌++◌, length, get_or, refl, ap, subst, nat_lt, Option, Some, None, inl, inr}
+use Rattle.std.proofs.Common.{◌≡◌, ◌∙◌, ◌<◌, ◌≤◌, ℕ, false, arith, List, refl, subst, nat_lt, Option, Some, None}
 use Rattle.std.specs.List.{All, flat_map, find, range_with_len}
 use Rattle.std.proofs.lemmas.Bool.Decides.{nat_tests}
-use Rattle.std.proofs.lemmas.List.Elements.{All-nil, All-cons}
-use Rattle.std.proofs.lemmas.List.{get_or_append_left, get_or-append_right, length-append}
 use Rattle.std.proofs.lemmas.List.FromFn.{get_or-map-range_with_len, length-map-range_with_len, get_or-range_with_len, length-range_with_len}
 use Rattle.jx_base.specs.declared.names.Band.{Band}
 use Rattle.jx_base.specs.declared.names.Band.TheVariants.{LL, HL, LH, HH}
@@ -14,7 +12,6 @@ use Rattle.jx_geom.specs.Ranges.{HasBand}
 use Rattle.jx_stream.specs.declared.Tile.{Tile}
 use Rattle.jx_stream.specs.Params.{band_count, number_of, planes_of, quant_of, shape_of, shift_of, band_planes, tile_planes, limit_4_of, planes_fault}
 use Rattle.jx_base.proofs.Lists.{find_none, All-flat}
-use Rattle.std.proofs.lemmas.Bool.{cases_Bool}
 
 is_most : (n : ℕ) → nat_lt 74 n ≡ false → n ≤ 74
 is_most n h = grind (arith, nat_tests)

@@ -1,5 +1,5 @@
 -- Pieces put to their blocks one after another make the blocks that have all of them.
-use Rattle.std.proofs.Common.{◌≡◌, ℕ, zero, suc, ◌+◌, ◌<◌, ◌==◌, Bool, List, [], ◌∷◌, ◌++◌, length, set, filter, refl, sym, ap, ◌∙◌, subst, cond, arith, Some, inl, inr, ◌⊎◌, All, append_assoc, append-nil, length-set, Option, slice_get}
+use Rattle.std.proofs.Common.{◌≡◌, ℕ, suc, ◌+◌, ◌<◌, ◌==◌, Bool, List, [], ◌∷◌, ◌++◌, length, set, filter, refl, sym, ap, ◌∙◌, subst, cond, arith, Some, inl, inr, ◌⊎◌, All, append_assoc, append-nil, length-set, Option, slice_get}
 use Rattle.std.specs.List.{AllByRecursion}
 use Rattle.std.proofs.lemmas.Bool.{cases_eq, eq-eqb, ne_eqb, cond-false}
 use Rattle.std.proofs.lemmas.List.{map_push}

@@ -16,3 +16,6 @@ pub mod Reading
 pub mod Accepted
 pub mod Joined
 pub mod Covered
+pub mod Written
+pub mod BlockOf
+pub mod Carries

@@ -10,6 +10,7 @@ ghost use Rattle.jx_gather.specs.Faults.{HasCause, IsMemory, IsOnly};
 ghost use Rattle.jx_gather.specs.Shapes.{IsRead};
 ghost use Rattle.jx_gather.specs.InRange.{StreamInRange};
 ghost use Rattle.jx_gather.specs.Totals.{totals_fault};
+ghost use Rattle.jx_gather.specs.BlockOf.{AreBlocksOf};
 ghost use Rattle.jx_gather.specs.Gathered.{AreTileBlocks, BreaksData, BreaksTile, IsBroken, IsGathered, IsWhole};
 ghost use Rattle.jx_gather.specs.Joined.{IsGatheredTo};
 ghost use Rattle.jx_gather.specs.WellFormed.{IsWellFormed};
@@ -86,7 +87,7 @@ fn gather_first<'a>(
 /// `stream` is what `read_stream` gives for `bytes`, of which there are at most 2^28. Limits 5 and 6 come first, then rule 25,
 /// then, tile by tile and packet by packet, the rules 26 to 31. A block that no packet includes has no passes, and as many
 /// zero planes as planes (T.800, B.7 and B.9 to B.12).
-#[tactic(auto, using(crate::proofs::GatherLemmas::well_formed))]
+#[tactic(auto, using(crate::proofs::GatherLemmas::well_formed, crate::proofs::BlockOfLemmas::blocks_of_stream))]
 pub fn gather<'a>(
     alloc: Global,
     bytes: &'a [u8],
@@ -106,6 +107,9 @@ pub fn gather<'a>(
     // where there are blocks, within the limits, only memory is wanting.
     ensures memory { IfErr result (λ e. (blocks : List Block) → totals_fault stream.now ≡ None → IsGathered bytes.entry.now stream.now blocks → IsMemory e) }
     ensures sound { IfOk result (λ blocks. All IsSound blocks.items) }
+    // Each name of the stream has its block at its number, with the rect, planes and style that the headers say, and pieces in
+    // layers of its tile, of at most 164 passes in one layer.
+    ensures blocks { IfOk result (λ blocks. AreBlocksOf stream.now blocks.items) }
     ensures well_formed { OnOk result (IsWellFormed bytes.entry.now) }
 {
     match gather_first(alloc, bytes, stream) {

@@ -7,6 +7,7 @@ mod data;
 mod faults;
 mod fresh;
 mod gathering;
+pub mod laws;
 mod layout;
 mod packet;
 mod pieces;

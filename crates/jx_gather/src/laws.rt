@@ -1,0 +1,69 @@
+//! Laws of tile data. Each function's contract is a law over the definitions that `gather` cites, so its body is empty.
+
+ghost use Rattle.std.specs.Prelude.{◌≡◌, ◌≤◌, ◌<◌, ◌^◌, ℕ, List, None, length};
+ghost use Rattle.std.specs.List.{All};
+ghost use Rattle.jx_base.specs.declared.pieces.Block.{Block};
+ghost use Rattle.jx_base.specs.Sound.{IsSound};
+ghost use Rattle.jx_order.specs.declared.names.PacketName.{PacketName};
+ghost use Rattle.jx_stream.specs.declared.Stream.{Stream};
+ghost use Rattle.jx_stream.specs.First.{tile_number};
+ghost use Rattle.jx_gather.specs.declared.faults.GatherFault.{GatherFault};
+ghost use Rattle.jx_gather.specs.Shapes.{IsRead};
+ghost use Rattle.jx_gather.specs.Totals.{totals_fault};
+ghost use Rattle.jx_gather.specs.Gathered.{IsBroken, IsCutUp, IsGathered, IsWhole};
+ghost use Rattle.jx_gather.specs.BlockOf.{AreBlocksOf};
+ghost use Rattle.jx_gather.specs.Carries.{AllCarry};
+ghost use Rattle.jx_gather.specs.WellFormed.{IsWellFormed};
+ghost use Rattle.jx_gather.specs.Written.{IsLaid, Packets, cuts_at, laid_blocks, packets_in};
+
+/// Tile data have one reading: the blocks of a codestream are given by its bytes.
+pub fn one_gathering()
+    ensures { (b : List ℕ) (s : Stream) (blocks others : List Block) → IsRead b s → length b ≤ 2 ^ 28 → totals_fault s ≡ None
+        → IsGathered b s blocks → IsGathered b s others → blocks ≡ others }
+{}
+
+/// At most one rule or limit is the first one that is violated or passed.
+pub fn one_violation()
+    ensures { (b : List ℕ) (s : Stream) (fault other : GatherFault) → IsRead b s → length b ≤ 2 ^ 28 → IsBroken b s fault → IsBroken b s other → fault ≡ other }
+{}
+
+/// Where the blocks are there, no rule is violated.
+pub fn never_both()
+    ensures { (b : List ℕ) (s : Stream) (blocks : List Block) (fault : GatherFault) → IsRead b s → length b ≤ 2 ^ 28 → totals_fault s ≡ None
+        → IsGathered b s blocks → IsBroken b s fault → ⊥ }
+{}
+
+/// A file of which the blocks are there is well-formed.
+pub fn gathered_is_well_formed()
+    ensures { (b : List ℕ) (s : Stream) (blocks : List Block) → IsRead b s → IsGathered b s blocks → IsWellFormed b }
+{}
+
+/// What is known of the blocks of a codestream: each name has its block at its number, with the rect, planes and style that the
+/// headers say, and pieces in layers of its tile, of at most 164 passes in one layer; each can be recoded or kept.
+pub fn blocks_are_named()
+    ensures named { (b : List ℕ) (s : Stream) (blocks : List Block) → IsRead b s → length b ≤ 2 ^ 28 → totals_fault s ≡ None → IsGathered b s blocks → AreBlocksOf s blocks }
+    ensures sound { (b : List ℕ) (s : Stream) (blocks : List Block) → IsRead b s → length b ≤ 2 ^ 28 → totals_fault s ≡ None → IsGathered b s blocks → All IsSound blocks }
+{}
+
+/// A tile whose packets stand one after another in the order of its entries, cut into tile-parts between them, is cut up into
+/// just these packets: none of the rules 26 to 31 is violated (T.800, A.4.2, A.8, B.9 to B.12).
+pub fn laid_is_cut_up()
+    ensures { (b : List ℕ) (s : Stream) (t : ℕ) (packets : Packets) (groups : List (List PacketName)) → IsRead b s → length b ≤ 2 ^ 28 → totals_fault s ≡ None
+        → t < tile_number s.siz → IsWhole s t → IsLaid b s t packets groups → IsCutUp b s t (cuts_at packets (packets_in groups)) }
+{}
+
+/// A codestream of such tiles is gathered, with the blocks that its packets tell of.
+pub fn laid_is_gathered()
+    ensures { (b : List ℕ) (s : Stream) (packets : ℕ → Packets) (groups : ℕ → List (List PacketName)) → IsRead b s → length b ≤ 2 ^ 28 → totals_fault s ≡ None
+        → ((t : ℕ) → t < tile_number s.siz → IsWhole s t) → ((t : ℕ) → t < tile_number s.siz → IsLaid b s t (packets t) (groups t))
+        → IsGathered b s (laid_blocks s packets groups) }
+{}
+
+/// Where the packets carry the pieces of given blocks, which are blocks of the stream, the codestream is gathered with just
+/// these blocks, whatever the order of the packets is and wherever tile-parts are cut.
+pub fn carried_is_gathered()
+    ensures { (b : List ℕ) (s : Stream) (blocks : List Block) (packets : ℕ → Packets) (groups : ℕ → List (List PacketName)) → IsRead b s → length b ≤ 2 ^ 28 → totals_fault s ≡ None
+        → AreBlocksOf s blocks → All IsSound blocks
+        → ((t : ℕ) → t < tile_number s.siz → IsWhole s t) → ((t : ℕ) → t < tile_number s.siz → IsLaid b s t (packets t) (groups t))
+        → ((t : ℕ) → t < tile_number s.siz → AllCarry s t blocks (packets t)) → IsGathered b s blocks }
+{}
