@@ -1,0 +1,5 @@
+pub mod Asking
+pub mod Cells
+pub mod Labels
+pub mod Near
+pub mod Pass

@@ -1,0 +1,16 @@
+//! Coefficients of a code-block, the labels of their decisions, and the three coding passes of a plane
+//! (ITU-T T.800, Annex D), over whoever answers for the decisions.
+#![tactic(auto)]
+
+mod coef;
+mod grid;
+mod labels;
+mod near;
+mod question;
+mod source;
+
+pub use coef::Coef;
+pub use grid::Grid;
+pub use labels::{refinement_label, sign_label, significance_label};
+pub use question::{About, Plane, Question};
+pub use source::Source;
