@@ -21,6 +21,11 @@ with_coef g x y coef = record g { coefs = slice_set g.coefs (y * g.width + x) co
 abbrev pub significant : Coef → Bool
 significant c = not (c.bits == 0)
 
+-- what a code-block may measure (A.6.1)
+pub record HasSize (g : Cells) : Type 0 where
+  pub wide : g.width ≤ 1024
+  pub high : g.height ≤ 1024
+
 -- a place of a block
 pub record IsPlace (g : Cells) (x y : ℕ) : Type 0 where
   pub column : x < g.width

@@ -120,11 +120,13 @@ abbrev pub pass_at : ℕ → Plane → Cells → ℕ → ℕ → Asking Cells
 pass_at pass k g x y =
     if pass % 3 == 1 then significance_at k g x y else if pass % 3 == 2 then refinement_at k g x y else cleanup_at k g x y
 
+abbrev pub pass_at_nth : ℕ → Plane → Cells → ℕ → Asking Cells
+pass_at_nth pass k g n = pass_at pass k g (scan_column g.width g.height n) (scan_row g.width g.height n)
+
 -- the pass at so many places, from the place of number n on
 abbrev pub scanned : ℕ → Plane → ℕ → ℕ → Cells → Asking Cells
 scanned pass k zero n g = Told g
-scanned pass k (suc count) n g =
-    and_then (pass_at pass k g (scan_column g.width g.height n) (scan_row g.width g.height n)) (λ h. scanned pass k count (n + 1) h)
+scanned pass k (suc count) n g = and_then (pass_at_nth pass k g n) (λ h. scanned pass k count (n + 1) h)
 
 -- the plane of a pass: pass 0 is the cleanup pass of plane 0, and each further plane has three passes
 abbrev pub plane_of : Band → Bool → ℕ → ℕ → Plane

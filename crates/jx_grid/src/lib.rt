@@ -7,10 +7,14 @@ mod grid;
 mod labels;
 mod near;
 mod question;
+mod runs;
+mod scan;
 mod source;
+mod steps;
 
 pub use coef::Coef;
 pub use grid::Grid;
 pub use labels::{refinement_label, sign_label, significance_label};
 pub use question::{About, Plane, Question};
+pub use scan::{place, run_pass};
 pub use source::Source;
