@@ -1,10 +1,11 @@
 -- What is known of the coefficient at a place.
-use Rattle.std.proofs.Common.{◌≡◌, ◌<◌, ◌≤◌, ◌+◌, ◌-◌, ◌*◌, ◌^◌, ℕ, zero, suc, refl, arith, Bool, true, false, List, [], ◌∷◌, length, get_or, set, IsTrue}
+use Rattle.std.proofs.Common.{◌≡◌, ◌<◌, ◌≤◌, ◌+◌, ◌-◌, ◌*◌, ◌^◌, ℕ, zero, suc, refl, arith, Bool, true, false, List, [], ◌∷◌, length, get_or, set, IsTrue, replicate}
 use Rattle.std.specs.List.{All}
-use Rattle.std.proofs.lemmas.List.Elements.{All-set}
+use Rattle.std.proofs.lemmas.List.Elements.{All-set, All-replicate}
 use Rattle.jx_grid.specs.declared.coef.Coef.{Coef}
 use Rattle.jx_grid.specs.Cells.{Cells, IsWithin, AreWithin, zero_coef, coef_at, with_coef, IsKept}
 use Rattle.jx_grid.specs.declared.question.Plane.{Plane}
+use Rattle.jx_grid.specs.Reading.{zeros}
 use Rattle.jx_grid.specs.Pass.{IsScan, shift_of, with_bit, with_sign, changed}
 use Rattle.jx_grid.proofs.Weights.{zero_within, more_within, sign_within, fits_in}
 use Rattle.std.proofs.Math.Pow.{pow_mono}
@@ -38,3 +39,13 @@ sign_kept k g x y negative s h z =
 
 pub bit_fits : (k : Plane) (g : Cells) (x y : ℕ) → IsScan k → AreWithin k.planes (k.number + 1) g → (coef_at g x y).bits + 2 ^ shift_of k < 2 ^ 128
 bit_fits k g x y s h = fits_in k (k.number + 1) (coef_at g x y) s (within_at k.planes (k.number + 1) g x y h)
+
+-- zeros are within any bounds, and what is within bounds is within wider ones
+pub zeros_within : (planes most width height : ℕ) → AreWithin planes most (zeros width height)
+zeros_within planes most width height = All-replicate (IsWithin planes most) (height * width) zero_coef (zero_fits planes most)
+
+wider : (planes fewer more : ℕ) (c : Coef) → fewer ≤ more → IsWithin planes fewer c → IsWithin planes more c
+wider planes fewer more c l w = let d = w.decided in record { decided = omega arith; bits = w.bits }
+
+pub within_more : (planes fewer more : ℕ) (g : Cells) → fewer ≤ more → AreWithin planes fewer g → AreWithin planes more g
+within_more planes fewer more g l h = λ k d m. wider planes fewer more (get_or g.coefs k d) l (h k d m)

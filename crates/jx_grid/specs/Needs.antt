@@ -60,7 +60,7 @@ abbrev pub renewal : Coding → List MqGiven
 renewal c = if resets c.style then Renewed ∷ [] else []
 
 abbrev pub symbol_needs : Coding → Cells → ℕ → List MqGiven
-symbol_needs c g pass = if ends_by_symbol c pass then called_for (raw_pass c.style pass) g symbol_asked else []
+symbol_needs c g pass = if ends_by_symbol c.style pass then called_for (raw_pass c.style pass) g symbol_asked else []
 
 abbrev pub pass_needs : Coding → Cells → ℕ → Cells → List MqGiven
 pass_needs c g pass now =

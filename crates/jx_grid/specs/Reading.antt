@@ -51,6 +51,9 @@ pub record Coding : Type 0 where
   pub style : ℕ
   pub planes : ℕ
 
+abbrev pub coding_of : Band → ℕ → ℕ → Coding
+coding_of band style planes = record { band = band; style = style; planes = planes }
+
 -- after some passes: the coefficients, the coder, the segments that weren't begun, how many bytes of its segment were looked at
 -- by the end of each pass, and the first pass whose segmentation symbol is wrong
 pub record Decoding : Type 0 where
@@ -66,26 +69,26 @@ first_segment [] = []
 first_segment (segment ∷ rest) = segment
 
 -- a segment's first pass has a fresh coder, and keeps the contexts
-abbrev pub opened : Coding → ℕ → Decoding → Decoding
-opened c pass d =
-    if begins c.style pass
-    then record d { reading = fresh_reading (raw_pass c.style pass) (first_segment d.rest) d.reading.contexts; rest = drop 1 d.rest }
+abbrev pub opened : ℕ → ℕ → Decoding → Decoding
+opened style pass d =
+    if begins style pass
+    then record d { reading = fresh_reading (raw_pass style pass) (first_segment d.rest) d.reading.contexts; rest = drop 1 d.rest }
     else d
 
-abbrev pub renewed : Coding → Reading → Reading
-renewed c r = if resets c.style then record r { contexts = mq_fresh } else r
+abbrev pub renewed : ℕ → Reading → Reading
+renewed style r = if resets style then record r { contexts = mq_fresh } else r
 
 -- the pass's own decisions
 abbrev pub read_bits : Coding → ℕ → Decoding → Cells × Reading
-read_bits c pass d = told read_answer (pass_of c.band (is_causal c.style) c.planes pass d.cells) (renewed c d.reading)
+read_bits c pass d = told read_answer (pass_of c.band (is_causal c.style) c.planes pass d.cells) (renewed c.style d.reading)
 
 -- whether a segmentation symbol follows a pass
-abbrev pub ends_by_symbol : Coding → ℕ → Bool
-ends_by_symbol c pass = has_symbols c.style && pass % 3 == 0
+abbrev pub ends_by_symbol : ℕ → ℕ → Bool
+ends_by_symbol style pass = has_symbols style && pass % 3 == 0
 
 -- whether it is right, where there is one
-abbrev pub read_symbol : Coding → ℕ → Reading → Bool × Reading
-read_symbol c pass r = if ends_by_symbol c pass then told read_answer symbol_asked r else (true, r)
+abbrev pub read_symbol : ℕ → ℕ → Reading → Bool × Reading
+read_symbol style pass r = if ends_by_symbol style pass then told read_answer symbol_asked r else (true, r)
 
 abbrev pub first_wrong : Option ℕ → ℕ → Bool → Option ℕ
 first_wrong (Some earlier) pass right = Some earlier
@@ -95,7 +98,7 @@ first_wrong None pass right = if right then None else Some pass
 abbrev pub read_within : Coding → ℕ → Decoding → Decoding
 read_within c pass d =
     let bits = read_bits c pass d in
-    let symbol = read_symbol c pass bits.1 in
+    let symbol = read_symbol c.style pass bits.1 in
     record {
       cells = bits.0;
       reading = symbol.1;
@@ -105,7 +108,7 @@ read_within c pass d =
     }
 
 abbrev pub read_pass : Coding → ℕ → Decoding → Decoding
-read_pass c pass d = read_within c pass (opened c pass d)
+read_pass c pass d = read_within c pass (opened c.style pass d)
 
 -- so many passes, from one on
 unfoldable pub read_from : Coding → ℕ → ℕ → Decoding → Decoding

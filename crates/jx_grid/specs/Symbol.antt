@@ -8,7 +8,7 @@ abbrev pub symbol_bit : Bool → Question
 symbol_bit bit = record { label = 18; turned = false; shift = 0; about = Symbol bit }
 
 -- whether it is right
-abbrev pub symbol_asked : Asking Bool
+unfoldable pub symbol_asked : Asking Bool
 symbol_asked =
     Ask (symbol_bit true) (λ a. Ask (symbol_bit false) (λ b. Ask (symbol_bit true) (λ c. Ask (symbol_bit false) (λ d.
     Told (a && not b && c && not d)))))

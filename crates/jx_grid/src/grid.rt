@@ -63,6 +63,22 @@ impl Grid {
         self.coefs[index]
     }
 
+    /// What stands in column `x` and row `y`. Where there is no such place, this is whatever the list of
+    /// rows has at y·width + x, and zero past its end.
+    pub fn get(&self, x: u16, y: u16) -> Coef
+        ensures { result ≡ coef_at self.now x y }
+    {
+        let index = usize::from(y) * usize::from(self.width) + usize::from(x);
+        if index < self.coefs.len() {
+            return self.coefs[index];
+        }
+        Coef {
+            negative: false,
+            bits: 0,
+            planes: 0,
+        }
+    }
+
     /// Changes the coefficient in column `x` and row `y`, which are in the grid, and no other.
     pub fn set(&mut self, x: u16, y: u16, coef: Coef)
         requires column { x < self.old.width }

@@ -18,6 +18,7 @@ fn bit_of_symbol(bit: bool) -> Question
 }
 
 /// Whether a segmentation symbol is 1010 (T.800 D.5). After `NoMemory` the source is given up.
+#[tactic(auto, unfolding(crate::specs::Symbol::symbol_asked))]
 pub fn ask_symbol<S: Source>(source: &mut S) -> Result<bool, NoMemory>
     ensures symbol { IfOk result (λ right. right ≡ (told S.ask symbol_asked source.old).0) }
     ensures source { OnOk result (source.new ≡ (told S.ask symbol_asked source.old).1) }
