@@ -65,10 +65,10 @@ impl Grid {
 
     /// What stands in column `x` and row `y`. Where there is no such place, this is whatever the list of
     /// rows has at y·width + x, and zero past its end.
-    pub fn get(&self, x: u16, y: u16) -> Coef
+    pub fn get(&self, x: u16, y: u32) -> Coef
         ensures { result ≡ coef_at self.now x y }
     {
-        let index = usize::from(y) * usize::from(self.width) + usize::from(x);
+        let index = y as usize * usize::from(self.width) + usize::from(x);
         if index < self.coefs.len() {
             return self.coefs[index];
         }

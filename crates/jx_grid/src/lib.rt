@@ -3,6 +3,7 @@
 //! grid that calls for them.
 #![tactic(auto)]
 
+mod answers;
 mod coded;
 mod coef;
 mod grid;
@@ -15,6 +16,7 @@ mod source;
 mod steps;
 mod symbol;
 
+pub use answers::answer;
 pub use coded::{BadSymbol, Coded, Segments};
 pub use coef::Coef;
 pub use grid::Grid;

@@ -13,7 +13,8 @@ pub trait Source {
 
     /// Answers a question. After `NoMemory` the source is given up.
     fn ask(&mut self, question: Question) -> Result<bool, NoMemory>
-        requires { question.label < 19 }
+        requires label { question.label < 19 }
+        requires shift { question.shift < 128 }
         ensures answer { IfOk result (λ answer. answer ≡ (ask self.old question).0) }
         ensures after { OnOk result (self.new ≡ (ask self.old question).1) };
 }
