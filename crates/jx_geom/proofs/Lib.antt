@@ -3,6 +3,7 @@ pub mod EmptyLemmas
 pub mod LawLemmas
 pub mod LeafLemmas
 pub mod NumberLemmas
+pub mod NumberedLeaves
 pub mod PrecinctLemmas
 pub mod RectLemmas
 pub mod SameLemmas

@@ -5,18 +5,22 @@ use Rattle.jx_base.specs.declared.names.Rect.{Rect}
 use Rattle.jx_base.specs.Joined.{joined, sum_below}
 use Rattle.jx_geom.specs.declared.shape.CompShape.{CompShape}
 use Rattle.jx_geom.specs.declared.table.Resolution.{Resolution}
-use Rattle.jx_geom.specs.Resolutions.{one_behind, resolution_behind, resolutions_behind, resolution_at, component_resolutions, all_resolutions, one_place, place_of, all_places}
+use Rattle.jx_geom.specs.Resolutions.{one_behind, resolution_behind, resolutions_behind, resolution_at, component_resolutions, all_resolutions, resolutions_of, ResolutionBefore, one_place, place_of, all_places}
 use Rattle.jx_geom.specs.Rects.{component_rect}
 use Rattle.jx_base.specs.Places.{size_of}
-use Rattle.jx_base.proofs.Joined.{joined_at, joined_length}
+use Rattle.jx_base.proofs.Joined.{joined_at, joined_has, joined_length, joined_pairs}
+use Rattle.std.specs.List.{AllPairs, Contains}
+use Rattle.std.proofs.lemmas.Bool.{cases_lt}
+use Rattle.jx_geom.proofs.EmptyLemmas.{some_precinct}
 use Rattle.std.specs.List.{slice_get}
 use Rattle.std.proofs.lemmas.Bool.Decides.{nat_tests}
 use Rattle.jx_geom.specs.Counts.{precinct_count, blocks_before_band, resolution_blocks, component_blocks, component_precincts, tile_blocks, tile_precincts}
-use Rattle.jx_geom.specs.Geometry.{Geometry, no_shape, shape_of, rect_of_tile}
+use Rattle.jx_geom.specs.Geometry.{Geometry, GeometryInRange, HasResolution, no_shape, shape_of, rect_of_tile, precincts_in}
 use Rattle.jx_geom.specs.Numbering.{number_in_tile}
-use Rattle.jx_geom.specs.Precincts.{precinct_number}
+use Rattle.jx_geom.specs.Precincts.{HasPrecinct, precinct_number}
 use Rattle.jx_base.specs.declared.names.BlockName.{BlockName}
-use Rattle.jx_base.proofs.Lists.{some_same}
+use Rattle.jx_base.proofs.Lists.{contains_cons, contains_none, some_same}
+use Rattle.jx_base.proofs.Sums.{sum_below_grows}
 use Rattle.std.proofs.lemmas.Option.{get_or_from_slice_get, slice_get_within}
 
 -- one more component
@@ -142,3 +146,113 @@ pub at_blocks : (g : Geometry) (n : BlockName)
     ≡ number_in_tile g n
 unfolding resolution_at number_in_tile
 at_blocks g n = omega arith
+
+-- what stands before a resolution is within limit 5
+pub before_few : (g : Geometry) (c r : ℕ) → GeometryInRange g → HasResolution g c r → (resolution_at (rect_of_tile g) g.shapes c r).blocks_before ≤ 2 ^ 20
+unfolding resolution_at component_blocks
+before_few g c r h there =
+    let inner = sum_below_grows (resolution_blocks (rect_of_tile g) (shape_of g c)) r ((shape_of g c).levels + 1) (omega (arith, there.level)) in
+    let outer = sum_by_more_le (component_blocks (rect_of_tile g)) g.shapes c no_shape there.component in
+    omega (arith, inner, outer, h.limits.blocks)
+
+-- ---- what the list of resolutions has
+one_has : (x e : Resolution) → Contains (x ∷ []) e → x ≡ e
+one_has x e h = elim (contains_cons x [] e h) [ inl same ↦ same | inr none ↦ absurd (contains_none e none) ]
+
+none_behind : (tile : Rect) (s : CompShape) (c precincts blocks : ℕ) → size_of (component_rect tile s) ≡ 0 → resolutions_behind tile s c precincts blocks ≡ []
+unfolding resolutions_behind
+none_behind tile s c precincts blocks none = grind (arith, nat_tests)
+
+-- one of those of a component
+record IsBehind (tile : Rect) (s : CompShape) (c precincts blocks : ℕ) (e : Resolution) : Type 0 where
+  res : ℕ
+  level : res ≤ s.levels
+  is : e ≡ resolution_behind tile s c precincts blocks res
+
+behind_has : (tile : Rect) (s : CompShape) (c precincts blocks : ℕ) (e : Resolution) → Contains (resolutions_behind tile s c precincts blocks) e
+    → IsBehind tile s c precincts blocks e
+behind_has tile s c precincts blocks e h = elim (cases_lt 0 (size_of (component_rect tile s))) [
+  | inl some ↦
+      let C : List Resolution → Type 0 = λ xs. Contains xs e in
+      let j = joined_has (one_behind tile s c precincts blocks) 0 (s.levels + 1) e (subst C (some_resolutions tile s c precincts blocks some) h) in
+      record { res = j.number; level = omega (arith, j.below); is = sym (one_has (resolution_behind tile s c precincts blocks j.number) e j.has) }
+  | inr none ↦
+      let C : List Resolution → Type 0 = λ xs. Contains xs e in
+      absurd (contains_none e (subst C (none_behind tile s c precincts blocks (omega arith)) h))
+]
+
+pub record IsListed (g : Geometry) (e : Resolution) : Type 0 where
+  pub there : HasResolution g e.comp e.res
+  pub is : e ≡ resolution_at (rect_of_tile g) g.shapes e.comp e.res
+  pub precincts : e.precincts ≡ size_of (precincts_in g e.comp e.res)
+
+listed_at : (g : Geometry) (c r : ℕ) (e : Resolution) → c < length g.shapes → r ≤ (shape_of g c).levels → e ≡ resolution_at (rect_of_tile g) g.shapes c r → IsListed g e
+unfolding resolution_at
+listed_at g c r e lt le is =
+    let P : Resolution → Type 0 = λ x. IsListed g x in
+    subst P (sym is) (record { there = record { component = lt; level = le }; is = refl; precincts = refl })
+
+pub listed : (g : Geometry) (e : Resolution) → Contains (resolutions_of g) e → IsListed g e
+unfolding all_resolutions resolution_at
+listed g e h =
+    let j = joined_has (component_resolutions (rect_of_tile g) g.shapes) 0 (length g.shapes) e h in
+    let b = behind_has (rect_of_tile g) (shape_of g j.number) j.number (tile_precincts (rect_of_tile g) (take j.number g.shapes))
+    (tile_blocks (rect_of_tile g) (take j.number g.shapes)) e j.has in
+    listed_at g j.number b.res e j.below b.level b.is
+
+-- they stand in order
+behind_before : (tile : Rect) (s : CompShape) (c precincts blocks : ℕ) (i j : ℕ) (x y : Resolution) → i < j
+    → Contains (one_behind tile s c precincts blocks i) x → Contains (one_behind tile s c precincts blocks j) y → ResolutionBefore x y
+behind_before tile s c precincts blocks i j x y lt hx hy =
+    let ex : resolution_behind tile s c precincts blocks i ≡ x = one_has (resolution_behind tile s c precincts blocks i) x hx in
+    let ey : resolution_behind tile s c precincts blocks j ≡ y = one_has (resolution_behind tile s c precincts blocks j) y hy in
+    let P : Resolution → Type 0 = λ v. ResolutionBefore v (resolution_behind tile s c precincts blocks j) in
+    let Q : Resolution → Type 0 = λ w. ResolutionBefore x w in
+    subst Q ey (subst P ex (inr (refl, lt)))
+
+one_pairs : (x : Resolution) → AllPairs ResolutionBefore (x ∷ [])
+one_pairs x i j d lt below = absurd (omega arith)
+
+behind_pairs : (tile : Rect) (s : CompShape) (c precincts blocks : ℕ) → AllPairs ResolutionBefore (resolutions_behind tile s c precincts blocks)
+behind_pairs tile s c precincts blocks = elim (cases_lt 0 (size_of (component_rect tile s))) [
+  | inl some ↦
+      let P : List Resolution → Type 0 = λ xs. AllPairs ResolutionBefore xs in
+      subst P (sym (some_resolutions tile s c precincts blocks some)) (joined_pairs ResolutionBefore (one_behind tile s c precincts blocks) 0 (s.levels + 1)
+      (λ i. one_pairs (resolution_behind tile s c precincts blocks i)) (behind_before tile s c precincts blocks))
+  | inr none ↦
+      let P : List Resolution → Type 0 = λ xs. AllPairs ResolutionBefore xs in
+      let empty : List Resolution = [] in
+      subst P (sym (none_behind tile s c precincts blocks (omega arith))) (λ i j d lt below. absurd (omega arith))
+]
+
+components_before : (tile : Rect) (shapes : List CompShape) (i j : ℕ) (x y : Resolution) → i < j
+    → Contains (component_resolutions tile shapes i) x → Contains (component_resolutions tile shapes j) y → ResolutionBefore x y
+components_before tile shapes i j x y lt hx hy =
+    let bx = behind_has tile (get_or shapes i no_shape) i (tile_precincts tile (take i shapes)) (tile_blocks tile (take i shapes)) x hx in
+    let by' = behind_has tile (get_or shapes j no_shape) j (tile_precincts tile (take j shapes)) (tile_blocks tile (take j shapes)) y hy in
+    let ex : x.comp ≡ i = ap (λ (e : Resolution). e.comp) bx.is in
+    let ey : y.comp ≡ j = ap (λ (e : Resolution). e.comp) by'.is in
+    inl (omega arith)
+
+pub in_order : (tile : Rect) (shapes : List CompShape) → AllPairs ResolutionBefore (all_resolutions tile shapes)
+unfolding all_resolutions
+in_order tile shapes =
+    joined_pairs ResolutionBefore (component_resolutions tile shapes) 0 (length shapes)
+    (λ c. behind_pairs tile (get_or shapes c no_shape) c (tile_precincts tile (take c shapes)) (tile_blocks tile (take c shapes)))
+    (components_before tile shapes)
+
+-- that of each precinct is there
+pub precinct_listed : (g : Geometry) (c r k : ℕ) → HasPrecinct g c r k
+    → slice_get (resolutions_of g) (place_of (rect_of_tile g) g.shapes c + r) ≡ Some (resolution_at (rect_of_tile g) g.shapes c r)
+precinct_listed g c r k h =
+    resolution_there (rect_of_tile g) g.shapes c r h.resolution.component h.resolution.level (some_precinct (rect_of_tile g) (shape_of g c) r k h.precinct)
+
+pub has_listed : (g : Geometry) (c r k : ℕ) → HasPrecinct g c r k → Contains (resolutions_of g) (resolution_at (rect_of_tile g) g.shapes c r)
+has_listed g c r k h =
+    let at = precinct_listed g c r k h in
+    let e = resolution_at (rect_of_tile g) g.shapes c r in (
+      place_of (rect_of_tile g) g.shapes c + r,
+      slice_get_within (resolutions_of g) (place_of (rect_of_tile g) g.shapes c + r) (resolution_at (rect_of_tile g) g.shapes c r) at,
+      get_or_from_slice_get (resolutions_of g) (place_of (rect_of_tile g) g.shapes c + r) (resolution_at (rect_of_tile g) g.shapes c r)
+          (resolution_at (rect_of_tile g) g.shapes c r) at,
+    )

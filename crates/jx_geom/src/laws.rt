@@ -2,14 +2,16 @@
 //! is empty; blocks are numbered by the count of those before them. They run no code.
 
 ghost use Rattle.std.specs.Prelude.{◌≡◌, ◌≤◌, ◌<◌, ◌+◌, ◌-◌, ◌*◌, ◌^◌, ◌⊎◌, ◌↔◌, ℕ, List, max, slice_index_or};
+ghost use Rattle.std.specs.List.{AllPairs, Contains};
 ghost use Rattle.jx_base.specs.declared.names.Band.{Band};
 ghost use Rattle.jx_base.specs.declared.names.BlockName.{BlockName};
 ghost use Rattle.jx_base.specs.declared.names.Rect.{Rect};
-ghost use Rattle.jx_base.specs.Places.{ExactlyOne, InRect, column_at, row_at};
+ghost use Rattle.jx_base.specs.Places.{ExactlyOne, InRect, column_at, row_at, size_of};
 ghost use Rattle.jx_geom.specs.declared.shape.Canvas.{Canvas};
 ghost use Rattle.jx_geom.specs.declared.shape.CompShape.{CompShape};
+ghost use Rattle.jx_geom.specs.declared.table.Resolution.{Resolution};
 ghost use Rattle.jx_geom.specs.Counts.{block_count, precinct_count, tile_count, tile_precincts};
-ghost use Rattle.jx_geom.specs.Geometry.{Geometry, GeometryInRange, HasBlock, no_shape, rect_of_tile};
+ghost use Rattle.jx_geom.specs.Geometry.{Geometry, GeometryInRange, HasBlock, HasResolution, no_shape, precincts_in, rect_of_tile};
 ghost use Rattle.jx_geom.specs.Numbering.{ComesBefore, IsBlock, block_number, blocks_of_all, number_in_tile};
 ghost use Rattle.jx_geom.specs.Precincts.{
   HasPrecinct,
@@ -33,6 +35,7 @@ ghost use Rattle.jx_geom.specs.Rects.{
   resolution_rect,
   tile_rect,
 };
+ghost use Rattle.jx_geom.specs.Resolutions.{ResolutionBefore, resolution_at, resolutions_of};
 ghost use Rattle.jx_geom.specs.Same.{AllSameBlocks};
 ghost use Rattle.jx_geom.specs.Sets.{
   HasPlace,
@@ -110,6 +113,15 @@ pub fn precincts_are_numbered()
         → precinct_number g c r k < precinct_number g d q m }
     ensures taken { (g : Geometry) (n : ℕ) → n < tile_precincts (rect_of_tile g) g.shapes
         → (c : ℕ) × (r : ℕ) × (k : ℕ) × (HasPrecinct g c r k × (precinct_number g c r k ≡ n)) }
+{}
+
+/// The list of a tile's resolutions has them in order, each with what stands before it, and has that of each
+/// precinct.
+pub fn resolutions_are_listed()
+    ensures order { (g : Geometry) → AllPairs ResolutionBefore (resolutions_of g) }
+    ensures there { (g : Geometry) (e : Resolution) → Contains (resolutions_of g) e
+        → HasResolution g e.comp e.res × (e ≡ resolution_at (rect_of_tile g) g.shapes e.comp e.res) × (e.precincts ≡ size_of (precincts_in g e.comp e.res)) }
+    ensures every { (g : Geometry) (c r k : ℕ) → HasPrecinct g c r k → Contains (resolutions_of g) (resolution_at (rect_of_tile g) g.shapes c r) }
 {}
 
 /// Each leaf of a precinct is a block of its resolution, each block of a tile is a leaf of some precinct, and

@@ -4,6 +4,7 @@
 mod counts;
 mod exponents;
 pub mod laws;
+mod leaves;
 mod numbering;
 mod ranges;
 mod rects;
@@ -13,6 +14,7 @@ mod table;
 mod tile_geom;
 
 pub use counts::{count_blocks, count_in, count_precincts};
+pub use leaves::Leaves;
 pub use ranges::is_within_limits;
 pub use rects::{tile_of, tiles};
 pub use shape::{Canvas, CompShape};

@@ -131,6 +131,7 @@ impl TileGeom {
         requires res { HasResolution self.now comp res }
         requires some { 0 < size_of (component_rect (rect_of_tile self.now) (shape_of self.now comp)) }
         ensures value { result ≡ resolution_at (rect_of_tile self.now) self.now.shapes comp res }
+        ensures few { result.blocks_before ≤ 2 ^ 20 }
         ensures range { GeometryInRange self.now }
     {
         self.table.entry(comp, res)
