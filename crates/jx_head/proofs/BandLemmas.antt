@@ -19,7 +19,7 @@ use Rattle.jx_head.specs.Writable.{SameSize}
 use Rattle.jx_head.specs.declared.known.Known.{Known}
 use Rattle.jx_head.specs.Words.{pass_word, raise_word}
 use Rattle.jx_head.specs.Parts.{one_more, cut, width, AreParts, length_bits}
-use Rattle.jx_head.specs.Packet.{Cells, Values, Agree, Entry, nothing, contributes, block_at, block_after, unknown_block, told_bits, included_bits, most_passes, IsIncluded, asked, zero_questions, zero_bits, zero_after, zero_planes, first_bits, first_after, IsInclusion, entry_bits, cells_first, cells_included, entry_after, IsEntry, ReachesPlanes, PassesPlanes, Breaks, blocks_bits, blocks_after, AreEntries, parts_told, BandTold, IsBandTold, band_bits, band_after, bands_bits, bands_after, AreBandsTold, bands_parts, BandBreaks, BandStands, BandsBreak}
+use Rattle.jx_head.specs.Packet.{Cells, Values, Agree, Entry, nothing, contributes, block_at, block_after, unknown_block, told_bits, included_bits, most_passes, IsIncluded, asked, zero_questions, zero_bits, zero_after, zero_planes, first_bits, first_after, IsInclusion, entry_bits, cells_first, cells_included, entry_after, IsEntry, ReachesPlanes, PassesPlanes, Breaks, blocks_bits, blocks_after, AreEntries, parts_told, BandTold, IsBandTold, band_bits, band_after, bands_bits, bands_after, AreBandsTold, AgreeAfter, bands_parts, BandBreaks, BandStands, BandsBreak}
 use Rattle.jx_head.specs.Kept.{AreTrees, IsLeafOf, IsKnown, IsBand, IsSilent}
 use Rattle.jx_head.specs.Scan.{Found, or_bits, and_then, Asked, scan_first, Zeros, scan_zeros, scan_entry, Told, told_of, and_told, scan_included, scan_block, AllTold, after_told, and_parts, scan_blocks, scan_band, BandsRead, after_band, and_band, scan_bands}
 use Rattle.jx_head.proofs.AskLemmas.{asked_is, ask_past, after_leaf, after_agrees}
@@ -756,3 +756,21 @@ pub blocks_silent : (whole : Result AllTold HeadFault) (begun now : List Part) (
     IsSilent layer cells → and_parts begun whole ≡ and_parts now (scan_blocks style layer base left leaf cells bits) → BandSaid whole begun now cells bits
 blocks_silent whole begun now style layer base left leaf cells bits b le s h =
     blocks_said whole begun now style layer base 0 leaf cells bits refl (h ∙ ap (and_parts now) (silent_blocks style layer base left leaf cells bits b le s))
+
+-- ---- the values that are told agree with what is known afterwards
+blocks_agree : (v : Values) (style layer base stop leaf : ℕ) (cells : Cells) (es : List Entry) → AreTrees cells → Agree cells v → stop ≡ length cells.blocks →
+    AreEntries v style layer base stop leaf cells es → Agree (blocks_after v layer leaf cells es) v
+blocks_agree v style layer base stop leaf cells [] t a all are = a
+blocks_agree v style layer base stop leaf cells (e ∷ es) t a all are =
+    let lt : leaf < length cells.blocks = subst (λ (n : ℕ). leaf < n) all are.0 in
+    let k = entry_kept v style layer (base + leaf) leaf cells e t lt a are.1 in
+    blocks_agree v style layer base stop (leaf + 1) (entry_after v layer leaf cells e) es k.trees (entry_agrees v layer leaf cells e (block_of cells leaf t lt) a) (all ∙ sym k.long) are.2
+
+pub bands_agree : (style layer base : ℕ) (bands : List Cells) (tolds : List BandTold) → AreAllTrees bands → AreBandsTold style layer base bands tolds → AgreeAfter layer bands tolds
+bands_agree style layer base [] [] t are = tt
+bands_agree style layer base [] (told ∷ tolds) t are = absurd are
+bands_agree style layer base (cells ∷ bands) [] t are = absurd are
+bands_agree style layer base (cells ∷ bands) (told ∷ tolds) t are = (
+  blocks_agree told.values style layer base (length cells.blocks) 0 cells told.entries t.0 are.0.agree refl are.0.are,
+  bands_agree style layer (base + length cells.blocks) bands tolds t.1 are.1,
+)

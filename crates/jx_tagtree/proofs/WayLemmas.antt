@@ -74,12 +74,12 @@ fits_way wide high leaf levels s lt e =
     subst (λ (l : List Level). FitsWay l (leaf / wide) (leaf % wide)) (sym e) (record {
       few = few;
       fits = λ k k_lt. (
-        let long : length (nodes_over (levels_of wide high) (leaf / wide) (leaf % wide)) ≡ length (levels_of wide high) = nodes_long (levels_of wide high) (leaf / wide) (leaf % wide) in
-        let same : nodes_over (levels_of wide high) (leaf / wide) (leaf % wide) ≡ way wide high leaf = way_over wide high leaf s lt in
-        let w : IsWay (parent wide high) (root wide high) leaf (nodes_over (levels_of wide high) (leaf / wide) (leaf % wide)) =
-        subst (λ (l : List ℕ). IsWay (parent wide high) (root wide high) leaf l) (sym same) (way_is wide high leaf s lt) in
-        let le : get_or (nodes_over (levels_of wide high) (leaf / wide) (leaf % wide)) k 0 ≤ root wide high =
-        way_under (parent wide high) (root wide high) leaf (nodes_over (levels_of wide high) (leaf / wide) (leaf % wide)) w k (omega arith) in
-        let r : root wide high ≤ 20 * 2 ^ 20 = root-le wide high s in
-        omega arith);
+          let long : length (nodes_over (levels_of wide high) (leaf / wide) (leaf % wide)) ≡ length (levels_of wide high) = nodes_long (levels_of wide high) (leaf / wide) (leaf % wide) in
+          let same : nodes_over (levels_of wide high) (leaf / wide) (leaf % wide) ≡ way wide high leaf = way_over wide high leaf s lt in
+          let w : IsWay (parent wide high) (root wide high) leaf (nodes_over (levels_of wide high) (leaf / wide) (leaf % wide)) =
+          subst (λ (l : List ℕ). IsWay (parent wide high) (root wide high) leaf l) (sym same) (way_is wide high leaf s lt) in
+          let le : get_or (nodes_over (levels_of wide high) (leaf / wide) (leaf % wide)) k 0 ≤ root wide high =
+          way_under (parent wide high) (root wide high) leaf (nodes_over (levels_of wide high) (leaf / wide) (leaf % wide)) w k (omega arith) in
+          let r : root wide high ≤ 20 * 2 ^ 20 = root-le wide high s in
+          omega arith);
     })

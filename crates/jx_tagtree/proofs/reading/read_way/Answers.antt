@@ -59,8 +59,8 @@ returns-then-not-node-clause-ok c =
     way_stopped c.args.nodes.now.items c.args.leaf c.args.way.now c.requires c.args.threshold (to_come c.args.bits.now) (set c.loop-place.nodes.items c.at-at.result c.in-Ok.node)
     (max c.loop-place.above c.in-Ok.node.known) (c.loop-place.place - 1) (to_come c.read_node.new.bits) inside
     (way_more c.args.threshold c.args.nodes.now.items c.args.way.now c.loop-place.place c.at-at.result (to_come c.args.bits.now) c.loop-place.nodes.items
-          c.loop-place.above (to_come c.loop-place.bits) c.index.result.now c.in-Ok.node (to_come c.read_node.new.bits)
-          within some at_is (omega arith) c.index.ensures c.loop-place.invariant.read c.in-Ok.ensures.ok)
+    c.loop-place.above (to_come c.loop-place.bits) c.index.result.now c.in-Ok.node (to_come c.read_node.new.bits)
+    within some at_is (omega arith) c.index.ensures c.loop-place.invariant.read c.in-Ok.ensures.ok)
     (ap (λ (y : Node). y.settled) written ∙ not_true c.in-Ok.node.settled c.if-not-node.true)
 
 pub returns-then-not-node-clause-took : goal.returns-then-not-node-clause-took

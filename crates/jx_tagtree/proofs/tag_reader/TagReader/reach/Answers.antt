@@ -18,14 +18,14 @@ read_way-requires c = call_way c.self.inside.wide c.self.inside.high c.args.leaf
 pub invariant_of-self : goal.invariant_of-self
 invariant_of-self c = record {
   tree = call_part c.self.inside.wide c.self.inside.high c.args.leaf c.args.threshold c.self.inside.nodes.items c.self.invariant.tree c.args.self.now c.self.view_is c.requires
-    c.new-way.result c.new-way.ensures (to_come c.args.bits.now) c.read_way.new.nodes.items c.in-Err.ensures.part;
+      c.new-way.result c.new-way.ensures (to_come c.args.bits.now) c.read_way.new.nodes.items c.in-Err.ensures.part;
   levels_are = c.self.invariant.levels_are;
 }
 
 pub invariant_of-self-2 : goal.invariant_of-self-2
 invariant_of-self-2 c = record {
   tree = call_keeps c.self.inside.wide c.self.inside.high c.args.leaf c.args.threshold c.self.inside.nodes.items c.self.invariant.tree c.args.self.now c.self.view_is c.requires
-    c.new-way.result c.new-way.ensures (to_come c.args.bits.now) (to_come c.read_way.new.bits) c.read_way.new.nodes.items c.in-Ok.ensures.ok.known c.in-Ok.ensures.ok.read;
+      c.new-way.result c.new-way.ensures (to_come c.args.bits.now) (to_come c.read_way.new.bits) c.read_way.new.nodes.items c.in-Ok.ensures.ok.known c.in-Ok.ensures.ok.read;
   levels_are = c.self.invariant.levels_are;
 }
 
@@ -39,9 +39,9 @@ returns-clause-only c = λ values v rest stands. (
   c.in-Ok.below,
   refl,
   call_read c.self.inside.wide c.self.inside.high c.args.leaf c.args.threshold c.self.inside.nodes.items c.self.invariant.tree c.args.self.now c.self.view_is c.requires
-    c.new-way.result c.new-way.ensures c.args.bits.now c.read_way.new.bits c.read_way.new.nodes.items c.in-Ok.below c.in-Ok.ensures.ok c.in-Ok.ensures.took values
+      c.new-way.result c.new-way.ensures c.args.bits.now c.read_way.new.bits c.read_way.new.nodes.items c.in-Ok.below c.in-Ok.ensures.ok c.in-Ok.ensures.took values
       (call_only c.self.inside.wide c.self.inside.high c.args.leaf c.args.threshold c.self.inside.nodes.items c.self.invariant.tree c.args.self.now c.self.view_is c.requires
-    c.new-way.result c.new-way.ensures c.args.bits.now c.read_way.new.bits c.read_way.new.nodes.items c.in-Ok.ensures.ok.known c.in-Ok.ensures.ok.read values v rest stands),
+      c.new-way.result c.new-way.ensures c.args.bits.now c.read_way.new.bits c.read_way.new.nodes.items c.in-Ok.ensures.ok.known c.in-Ok.ensures.ok.read values v rest stands),
 )
 
 pub returns-clause-tree : goal.returns-clause-tree

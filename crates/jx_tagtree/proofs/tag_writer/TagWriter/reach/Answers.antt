@@ -15,14 +15,14 @@ pub invariant_of-self : goal.invariant_of-self
 invariant_of-self c = record {
   levels_are = c.self.invariant.levels_are;
   tree = told_keeps c.self.inside.wide c.self.inside.high c.args.leaf c.args.threshold c.self.inside.values.items c.self.inside.nodes.items c.self.invariant.tree c.args.self.now c.self.view_is
-    c.requires c.new-way.result c.new-way.ensures c.write_way.new.nodes.items c.in_err-write_way.ensures.long;
+      c.requires c.new-way.result c.new-way.ensures c.write_way.new.nodes.items c.in_err-write_way.ensures.long;
 }
 
 pub invariant_of-self-2 : goal.invariant_of-self-2
 invariant_of-self-2 c = record {
   levels_are = c.self.invariant.levels_are;
   tree = told_keeps c.self.inside.wide c.self.inside.high c.args.leaf c.args.threshold c.self.inside.values.items c.self.inside.nodes.items c.self.invariant.tree c.args.self.now c.self.view_is
-    c.requires c.new-way.result c.new-way.ensures c.write_way.new.nodes.items c.in_ok-write_way.ensures.long;
+      c.requires c.new-way.result c.new-way.ensures c.write_way.new.nodes.items c.in_ok-write_way.ensures.long;
 }
 
 pub returns-clause-bits : goal.returns-clause-bits
