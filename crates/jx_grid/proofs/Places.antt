@@ -1,5 +1,5 @@
 -- What is known of the coefficient at a place.
-use Rattle.std.proofs.Common.{◌≡◌, ◌<◌, ◌≤◌, ◌+◌, ◌-◌, ◌*◌, ◌^◌, ℕ, zero, suc, refl, arith, Bool, true, false, List, [], ◌∷◌, length, get_or, set, IsTrue, replicate}
+use Rattle.std.proofs.Common.{◌≡◌, ◌<◌, ◌≤◌, ◌+◌, ◌-◌, ◌*◌, ◌^◌, ℕ, zero, suc, refl, arith, Bool, true, false, List, [], ◌∷◌, get_or, IsTrue}
 use Rattle.std.specs.List.{All}
 use Rattle.std.proofs.lemmas.List.Elements.{All-set, All-replicate}
 use Rattle.jx_grid.specs.declared.coef.Coef.{Coef}
@@ -26,14 +26,14 @@ kept_with planes most g x y c h w =
     record { width = refl; height = refl; within = All-set (IsWithin planes most) g.coefs (y * g.width + x) c w h }
 
 pub bit_kept : (k : Plane) (g : Cells) (x y : ℕ) (bit : Bool) → IsScan k → AreWithin k.planes (k.number + 1) g
-  → (IsTrue bit → (coef_at g x y).planes ≤ k.number) → IsKept k.planes (k.number + 1) g (changed g x y (with_bit k bit))
+    → (IsTrue bit → (coef_at g x y).planes ≤ k.number) → IsKept k.planes (k.number + 1) g (changed g x y (with_bit k bit))
 bit_kept k g x y false s h u =
     kept_with k.planes (k.number + 1) g x y (with_bit k false (coef_at g x y)) h (zero_within k (coef_at g x y) s (within_at k.planes (k.number + 1) g x y h))
 bit_kept k g x y true s h u =
     kept_with k.planes (k.number + 1) g x y (with_bit k true (coef_at g x y)) h (more_within k (coef_at g x y) true s (u refl) (within_at k.planes (k.number + 1) g x y h))
 
 pub sign_kept : (k : Plane) (g : Cells) (x y : ℕ) (negative : Bool) → IsScan k → AreWithin k.planes (k.number + 1) g
-  → (coef_at g x y).bits ≡ 0 → IsKept k.planes (k.number + 1) g (changed g x y (with_sign k negative))
+    → (coef_at g x y).bits ≡ 0 → IsKept k.planes (k.number + 1) g (changed g x y (with_sign k negative))
 sign_kept k g x y negative s h z =
     kept_with k.planes (k.number + 1) g x y (with_sign k negative (coef_at g x y)) h (sign_within k (coef_at g x y) negative s z)
 

@@ -1,5 +1,5 @@
 -- The run mode of cleanup passes.
-use Rattle.std.proofs.Common.{◌≡◌, ◌<◌, ◌≤◌, ◌+◌, ◌-◌, ◌*◌, ◌%◌, ℕ, zero, suc, refl, arith, Bool, true, false, IsTrue, ◌==◌, ◌&&◌, not, nat_lt, nat_le}
+use Rattle.std.proofs.Common.{◌≡◌, ◌<◌, ◌+◌, ◌-◌, ◌%◌, ℕ, zero, suc, refl, arith, Bool, true, false, IsTrue, ◌==◌, ◌&&◌, not, nat_le}
 use Rattle.std.proofs.lemmas.Bool.Decides.{nat_tests}
 use Rattle.jx_grid.specs.declared.coef.Coef.{Coef}
 use Rattle.jx_grid.specs.declared.question.Plane.{Plane}
@@ -7,7 +7,7 @@ use Rattle.jx_grid.specs.Cells.{Cells, coef_at, significant}
 use Rattle.jx_grid.specs.Pass.{is_quiet, is_run, is_decided, label_at, zeroed, changed, with_bit}
 
 pub zeroed_more : (k : Plane) (count i : ℕ) (g : Cells) (x y : ℕ) → i < count
-  → zeroed k (count - i) g x (y + i) ≡ zeroed k (count - (i + 1)) (changed g x (y + i) (with_bit k false)) x (y + (i + 1))
+    → zeroed k (count - i) g x (y + i) ≡ zeroed k (count - (i + 1)) (changed g x (y + i) (with_bit k false)) x (y + (i + 1))
 zeroed_more k count i g x y h =
     let e : count - i ≡ suc (count - (i + 1)) = omega arith in
     let f : y + (i + 1) ≡ y + i + 1 = omega arith in
@@ -33,7 +33,7 @@ quiet_bits k g x y h =
     zero_bits c.bits (and_left a b (and_left (a && b) l h))
 
 at_number : (k : Plane) (g : Cells) (x y n : ℕ) → is_quiet k g x y ≡ true → is_quiet k g x (y + 1) ≡ true → is_quiet k g x (y + 2) ≡ true
-  → is_quiet k g x (y + 3) ≡ true → n < 4 → (coef_at g x (y + n)).bits ≡ 0
+    → is_quiet k g x (y + 3) ≡ true → n < 4 → (coef_at g x (y + n)).bits ≡ 0
 at_number k g x y zero a b c d l = let e : y + 0 ≡ y = omega arith in rw e (quiet_bits k g x y a)
 at_number k g x y (suc zero) a b c d l = quiet_bits k g x (y + 1) b
 at_number k g x y (suc (suc zero)) a b c d l = quiet_bits k g x (y + 2) c

@@ -1,11 +1,11 @@
 -- Bounds of a coefficient's bits.
-use Rattle.std.proofs.Common.{◌≡◌, ◌<◌, ◌≤◌, ◌+◌, ◌-◌, ◌*◌, ◌^◌, ℕ, zero, suc, refl, arith, Bool, true, false, sym, ◌==◌, not, lit<, ◌%◌, ◌∙◌}
+use Rattle.std.proofs.Common.{◌≡◌, ◌<◌, ◌≤◌, ◌+◌, ◌-◌, ◌*◌, ◌^◌, ℕ, suc, arith, Bool, true, false, lit<, ◌%◌, ◌∙◌}
 use Rattle.std.proofs.Math.Nat.{two-pow-succ, mod-eq_of_lt}
 use Rattle.std.proofs.Math.Pow.{pow_mono}
 use Rattle.jx_grid.specs.declared.coef.Coef.{Coef}
 use Rattle.jx_grid.specs.declared.question.Plane.{Plane}
-use Rattle.jx_grid.specs.Cells.{Cells, IsWithin, significant}
-use Rattle.jx_grid.specs.Pass.{IsScan, shift_of, is_decided, with_bit, with_sign}
+use Rattle.jx_grid.specs.Cells.{IsWithin}
+use Rattle.jx_grid.specs.Pass.{IsScan, shift_of, with_bit, with_sign}
 
 -- the weight of a plane and what is left below it
 half : (planes number : ℕ) → number < planes → 2 ^ (planes - 1 - number) + 2 ^ (planes - (number + 1)) ≡ 2 ^ (planes - number)

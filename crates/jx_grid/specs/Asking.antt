@@ -1,6 +1,6 @@
 -- Procedures that ask for decisions: which one is asked for next depends on what the earlier ones were. Whoever answers, a
 -- decoder that reads them or a grid that calls for them, is a state with a function that answers a question.
-use Rattle.std.specs.Prelude.{Bool, List, [], ◌∷◌}
+use Rattle.std.specs.Prelude.{Bool}
 use Rattle.jx_grid.specs.declared.question.Question.{Question}
 
 -- a value that is told, or a question with what follows either answer

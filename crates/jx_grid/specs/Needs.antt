@@ -1,5 +1,5 @@
 -- The decisions that coded passes need for a grid (ITU-T T.800, D.3), and their segments (D.4, D.6, C.2).
-use Rattle.std.specs.Prelude.{ℕ, zero, suc, ◌≡◌, ◌+◌, ◌/◌, ◌%◌, ◌^◌, ◌==◌, nat_lt, nat_le, Bool, true, false, ◌&&◌, ◌||◌, not, List, [], ◌∷◌, ◌++◌, map, if◌then◌else◌}
+use Rattle.std.specs.Prelude.{ℕ, zero, suc, ◌≡◌, ◌+◌, ◌/◌, ◌%◌, ◌^◌, ◌==◌, nat_lt, nat_le, Bool, true, false, ◌||◌, List, [], ◌∷◌, ◌++◌, if◌then◌else◌}
 use Rattle.jx_base.specs.MqTable.{MqContexts, mq_fresh}
 use Rattle.jx_base.specs.MqWriting.{MqGiven, Decided, Renewed, mq_write, mq_contexts_after, mq_bits}
 use Rattle.jx_base.specs.RawBits.{raw_write}
@@ -105,7 +105,7 @@ segments_from style pass x begun [] = []
 segments_from style pass x begun (given ∷ more) =
     if end_pass style pass || is_last more
     then segment_of (raw_pass style pass) x (begun ++ given)
-         ∷ segments_from style (pass + 1) (contexts_after (raw_pass style pass) x (begun ++ given)) [] more
+    ∷ segments_from style (pass + 1) (contexts_after (raw_pass style pass) x (begun ++ given)) [] more
     else segments_from style (pass + 1) x (begun ++ given) more
 
 -- the segments of the first passes of a block that is to become the grid

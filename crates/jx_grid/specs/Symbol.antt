@@ -1,5 +1,5 @@
 -- The segmentation symbol that ends a cleanup pass (ITU-T T.800, D.5): 1010 under the uniform label.
-use Rattle.std.specs.Prelude.{ℕ, Bool, true, false, ◌&&◌, not}
+use Rattle.std.specs.Prelude.{Bool, true, false, ◌&&◌, not}
 use Rattle.jx_grid.specs.declared.question.Question.{Question}
 use Rattle.jx_grid.specs.declared.question.About.TheVariants.{Symbol}
 use Rattle.jx_grid.specs.Asking.{Asking, Told, Ask}

@@ -75,8 +75,10 @@ fn lean(a: Coef, b: Coef) -> i8
     ensures from { negsuc 0 ≤ℤ result }
     ensures to { result ≤ℤ pos 1 }
 {
-    let positives = u8::from(a.is_significant() && !a.negative) + u8::from(b.is_significant() && !b.negative);
-    let negatives = u8::from(a.is_significant() && a.negative) + u8::from(b.is_significant() && b.negative);
+    let positives = u8::from(a.is_significant() && !a.negative)
+        + u8::from(b.is_significant() && !b.negative);
+    let negatives = u8::from(a.is_significant() && a.negative)
+        + u8::from(b.is_significant() && b.negative);
     if negatives < positives {
         return 1;
     }

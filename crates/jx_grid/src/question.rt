@@ -42,4 +42,3 @@ pub struct Question {
     /// What it says.
     pub about: About,
 }
-

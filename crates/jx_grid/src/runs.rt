@@ -49,7 +49,14 @@ fn zero_first(grid: &mut Grid, plane: Plane, x: u16, y: u16, count: u16)
 }
 
 /// Makes the named one of four quiet places significant, and those above it 0.
-fn decide_named<S: Source>(source: &mut S, grid: &mut Grid, plane: Plane, x: u16, y: u16, n: u16) -> Result<(), NoMemory>
+fn decide_named<S: Source>(
+    source: &mut S,
+    grid: &mut Grid,
+    plane: Plane,
+    x: u16,
+    y: u16,
+    n: u16,
+) -> Result<(), NoMemory>
     requires scan { IsScan plane }
     requires place { IsPlace grid.old x y }
     requires whole { y + 4 ≤ grid.old.height }
@@ -73,7 +80,13 @@ fn decide_named<S: Source>(source: &mut S, grid: &mut Grid, plane: Plane, x: u16
 }
 
 /// Asks which of four quiet places is the first with the bit 1.
-fn decide_place<S: Source>(source: &mut S, grid: &mut Grid, plane: Plane, x: u16, y: u16) -> Result<(), NoMemory>
+fn decide_place<S: Source>(
+    source: &mut S,
+    grid: &mut Grid,
+    plane: Plane,
+    x: u16,
+    y: u16,
+) -> Result<(), NoMemory>
     requires scan { IsScan plane }
     requires place { IsPlace grid.old x y }
     requires whole { y + 4 ≤ grid.old.height }
@@ -108,7 +121,13 @@ fn number(high: bool, low: bool) -> u16
 }
 
 /// The run mode.
-fn run<S: Source>(source: &mut S, grid: &mut Grid, plane: Plane, x: u16, y: u16) -> Result<(), NoMemory>
+fn run<S: Source>(
+    source: &mut S,
+    grid: &mut Grid,
+    plane: Plane,
+    x: u16,
+    y: u16,
+) -> Result<(), NoMemory>
     requires scan { IsScan plane }
     requires place { IsPlace grid.old x y }
     requires whole { y + 4 ≤ grid.old.height }
@@ -132,7 +151,13 @@ fn run<S: Source>(source: &mut S, grid: &mut Grid, plane: Plane, x: u16, y: u16)
 }
 
 /// A cleanup pass at a place (T.800 D.3.4).
-pub(crate) fn cleanup<S: Source>(source: &mut S, grid: &mut Grid, plane: Plane, x: u16, y: u16) -> Result<(), NoMemory>
+pub(crate) fn cleanup<S: Source>(
+    source: &mut S,
+    grid: &mut Grid,
+    plane: Plane,
+    x: u16,
+    y: u16,
+) -> Result<(), NoMemory>
     requires scan { IsScan plane }
     requires place { IsPlace grid.old x y }
     requires within { AreWithin plane.planes (plane.number + 1) grid.old }

@@ -28,7 +28,14 @@ pub fn place(width: u16, height: u16, n: u32) -> (u16, u16)
 }
 
 /// A pass at a place, by its number's kind.
-fn pass_at_place<S: Source>(source: &mut S, grid: &mut Grid, plane: Plane, pass: u16, x: u16, y: u16) -> Result<(), NoMemory>
+fn pass_at_place<S: Source>(
+    source: &mut S,
+    grid: &mut Grid,
+    plane: Plane,
+    pass: u16,
+    x: u16,
+    y: u16,
+) -> Result<(), NoMemory>
     requires scan { IsScan plane }
     requires place { IsPlace grid.old x y }
     requires within { AreWithin plane.planes (plane.number + 1) grid.old }
@@ -44,7 +51,13 @@ fn pass_at_place<S: Source>(source: &mut S, grid: &mut Grid, plane: Plane, pass:
 }
 
 /// A pass at the place of a number.
-fn pass_at_number<S: Source>(source: &mut S, grid: &mut Grid, plane: Plane, pass: u16, n: u32) -> Result<(), NoMemory>
+fn pass_at_number<S: Source>(
+    source: &mut S,
+    grid: &mut Grid,
+    plane: Plane,
+    pass: u16,
+    n: u32,
+) -> Result<(), NoMemory>
     requires scan { IsScan plane }
     requires size { HasSize grid.old }
     requires number { n < grid.old.width * grid.old.height }
@@ -62,7 +75,14 @@ fn pass_at_number<S: Source>(source: &mut S, grid: &mut Grid, plane: Plane, pass
 /// coefficients, of which no plane below the pass's was decided, are as the source's answers make
 /// them. After `NoMemory` they and the source are given up.
 #[tactic(auto, using(crate::proofs::Told::scanned_more), unfolding(crate::specs::Pass::pass_of))]
-pub fn run_pass<S: Source>(source: &mut S, grid: &mut Grid, band: Band, causal: bool, planes: u8, pass: u16) -> Result<(), NoMemory>
+pub fn run_pass<S: Source>(
+    source: &mut S,
+    grid: &mut Grid,
+    band: Band,
+    causal: bool,
+    planes: u8,
+    pass: u16,
+) -> Result<(), NoMemory>
     requires scan { IsScan (plane_of band causal planes pass) }
     requires size { HasSize grid.old }
     requires within { AreWithin planes ((pass + 2) / 3 + 1) grid.old }

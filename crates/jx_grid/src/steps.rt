@@ -50,7 +50,11 @@ pub(crate) fn put_bit(grid: &mut Grid, plane: Plane, x: u16, y: u16, bit: bool)
     ensures kept { IsKept plane.planes (plane.number + 1) grid.old grid.new }
 {
     let coef = grid.at(x, y);
-    let bits = if bit { coef.bits + weight(plane) } else { coef.bits };
+    let bits = if bit {
+        coef.bits + weight(plane)
+    } else {
+        coef.bits
+    };
     grid.set(
         x,
         y,
@@ -84,7 +88,13 @@ pub(crate) fn put_sign(grid: &mut Grid, plane: Plane, x: u16, y: u16, negative: 
 }
 
 /// Asks for the sign of a coefficient that becomes significant (T.800 D.3.2).
-fn decide_sign<S: Source>(source: &mut S, grid: &mut Grid, plane: Plane, x: u16, y: u16) -> Result<(), NoMemory>
+fn decide_sign<S: Source>(
+    source: &mut S,
+    grid: &mut Grid,
+    plane: Plane,
+    x: u16,
+    y: u16,
+) -> Result<(), NoMemory>
     requires scan { IsScan plane }
     requires place { IsPlace grid.old x y }
     requires within { AreWithin plane.planes (plane.number + 1) grid.old }
@@ -105,7 +115,13 @@ fn decide_sign<S: Source>(source: &mut S, grid: &mut Grid, plane: Plane, x: u16,
 }
 
 /// Asks for the bit of an insignificant coefficient, and at 1 for its sign (T.800 D.3.1).
-fn decide_bit<S: Source>(source: &mut S, grid: &mut Grid, plane: Plane, x: u16, y: u16) -> Result<(), NoMemory>
+fn decide_bit<S: Source>(
+    source: &mut S,
+    grid: &mut Grid,
+    plane: Plane,
+    x: u16,
+    y: u16,
+) -> Result<(), NoMemory>
     requires scan { IsScan plane }
     requires place { IsPlace grid.old x y }
     requires within { AreWithin plane.planes (plane.number + 1) grid.old }
@@ -128,7 +144,13 @@ fn decide_bit<S: Source>(source: &mut S, grid: &mut Grid, plane: Plane, x: u16, 
 }
 
 /// A significance pass at a place.
-pub(crate) fn significance<S: Source>(source: &mut S, grid: &mut Grid, plane: Plane, x: u16, y: u16) -> Result<(), NoMemory>
+pub(crate) fn significance<S: Source>(
+    source: &mut S,
+    grid: &mut Grid,
+    plane: Plane,
+    x: u16,
+    y: u16,
+) -> Result<(), NoMemory>
     requires scan { IsScan plane }
     requires place { IsPlace grid.old x y }
     requires within { AreWithin plane.planes (plane.number + 1) grid.old }
@@ -143,7 +165,13 @@ pub(crate) fn significance<S: Source>(source: &mut S, grid: &mut Grid, plane: Pl
 }
 
 /// A refinement pass at a place.
-pub(crate) fn refinement<S: Source>(source: &mut S, grid: &mut Grid, plane: Plane, x: u16, y: u16) -> Result<(), NoMemory>
+pub(crate) fn refinement<S: Source>(
+    source: &mut S,
+    grid: &mut Grid,
+    plane: Plane,
+    x: u16,
+    y: u16,
+) -> Result<(), NoMemory>
     requires scan { IsScan plane }
     requires place { IsPlace grid.old x y }
     requires within { AreWithin plane.planes (plane.number + 1) grid.old }
@@ -166,7 +194,13 @@ pub(crate) fn refinement<S: Source>(source: &mut S, grid: &mut Grid, plane: Plan
 }
 
 /// A cleanup pass at a place outside the run mode.
-pub(crate) fn usual<S: Source>(source: &mut S, grid: &mut Grid, plane: Plane, x: u16, y: u16) -> Result<(), NoMemory>
+pub(crate) fn usual<S: Source>(
+    source: &mut S,
+    grid: &mut Grid,
+    plane: Plane,
+    x: u16,
+    y: u16,
+) -> Result<(), NoMemory>
     requires scan { IsScan plane }
     requires place { IsPlace grid.old x y }
     requires within { AreWithin plane.planes (plane.number + 1) grid.old }

@@ -1,6 +1,6 @@
 use Rattle.std.proofs.Common.{◌≡◌, ◌+◌, arith, rules, sym, subst}
 use Rattle.std.proofs.lemmas.Grind.{common_steps}
-use Rattle.jx_grid.specs.Cells.{Cells, coef_at, IsKept}
+use Rattle.jx_grid.specs.Cells.{Cells, IsKept}
 use Rattle.jx_grid.specs.Pass.{with_bit, changed}
 use Rattle.jx_grid.proofs.Places.{bit_kept, bit_fits}
 use Rattle.jx_grid.proofs.steps.put_bit.Goals as goal

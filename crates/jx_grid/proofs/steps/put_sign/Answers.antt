@@ -1,8 +1,8 @@
 use Rattle.std.proofs.Common.{◌≡◌, ◌+◌, arith, sym, subst}
 use Rattle.std.proofs.lemmas.Grind.{common_steps}
-use Rattle.jx_grid.specs.Cells.{Cells, coef_at, IsKept}
+use Rattle.jx_grid.specs.Cells.{Cells, IsKept}
 use Rattle.jx_grid.specs.Pass.{with_sign, changed}
-use Rattle.jx_grid.proofs.Places.{sign_kept, bit_fits}
+use Rattle.jx_grid.proofs.Places.{sign_kept}
 use Rattle.jx_grid.proofs.steps.put_sign.Goals as goal
 
 pub returns-clause-kept : goal.returns-clause-kept
