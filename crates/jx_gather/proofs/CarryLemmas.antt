@@ -149,7 +149,7 @@ carried_founds s t blocks ps p j h has lt c =
     ap (own_founds (number j)) all
     ∙ own_over F (number j) count j
     (λ i below ne. own_none (number j) (number i) (zero_in k i) (carried s t blocks p i)
-        (λ (same : number i ≡ number j). ne (leaf_once g p.comp p.res p.precinct i p.comp p.res p.precinct j h has below has lt same).3))
+    (λ (same : number i ≡ number j). ne (leaf_once g p.comp p.res p.precinct i p.comp p.res p.precinct j h has below has lt same).3))
     (own_all (number j) (zero_in k j) (carried s t blocks p j)) lt
     ∙ told_alike (number j) (zero_in k j) (zero_of (block_in s t blocks p j)) (carried s t blocks p j) (c.zeros j lt)
 
@@ -159,15 +159,15 @@ abbrev pub AreRising : ℕ → ℕ → List PieceValue → Type 0
 AreRising low high [] = Unit {0}
 AreRising low high (q ∷ qs) = (low ≤ q.layer) × (q.layer < high) × AreRising q.layer high qs
 
-layer_here : (layer : ℕ) (q : PieceValue) (qs : List PieceValue) → q.layer ≡ layer → pieces_at layer (q ∷ qs) ≡ q ∷ pieces_at layer qs
+pub layer_here : (layer : ℕ) (q : PieceValue) (qs : List PieceValue) → q.layer ≡ layer → pieces_at layer (q ∷ qs) ≡ q ∷ pieces_at layer qs
 unfolding pieces_at
 layer_here layer q qs e = cond-true (q.layer == layer) (q ∷ filter (λ (x : PieceValue). x.layer == layer) qs) (filter (λ (x : PieceValue). x.layer == layer) qs) (eq-eqb q.layer layer e)
 
-layer_past : (layer : ℕ) (q : PieceValue) (qs : List PieceValue) → (q.layer ≡ layer → ⊥) → pieces_at layer (q ∷ qs) ≡ pieces_at layer qs
+pub layer_past : (layer : ℕ) (q : PieceValue) (qs : List PieceValue) → (q.layer ≡ layer → ⊥) → pieces_at layer (q ∷ qs) ≡ pieces_at layer qs
 unfolding pieces_at
 layer_past layer q qs ne = cond-false (q.layer == layer) (q ∷ filter (λ (x : PieceValue). x.layer == layer) qs) (filter (λ (x : PieceValue). x.layer == layer) qs) (ne_eqb q.layer layer ne)
 
-layer_nothing : (layer : ℕ) → pieces_at layer [] ≡ []
+pub layer_nothing : (layer : ℕ) → pieces_at layer [] ≡ []
 unfolding pieces_at
 layer_nothing layer = refl
 

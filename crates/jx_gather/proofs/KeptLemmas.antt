@@ -147,17 +147,17 @@ blocks_kept s blocks packets groups are sound kept =
     let laid : List Block = laid_blocks s packets groups in
     let long : length laid ≡ length blocks = laid_long s packets groups ∙ sym are.all in
     same_gets laid blocks long (λ i lt.
-        (let all : block_total s ≡ blocks_below (canvas_of s.siz) (shapes_of s) (tile_number s.siz) = blocks_are s in
-        let size : length laid ≡ block_total s = laid_long s packets groups in
-        let taken = block_number_taken (canvas_of s.siz) (shapes_of s) i (omega (arith, lt, size, all)) in
-        let n : BlockName = taken.0 in
-        let is : IsBlock (canvas_of s.siz) (shapes_of s) n = taken.1.0 in
-        let number : ℕ = block_number (canvas_of s.siz) (shapes_of s) n in
-        let same : number ≡ i = taken.1.1 in
-        let told : slice_get laid number ≡ Some (block_of s (geometry s n.tile) (founds_of (geometry s n.tile) (cuts_at (packets n.tile) (packets_in (groups n.tile)))) n) = laid_at s packets groups n is in
-        let given : Some (block_of s (geometry s n.tile) (founds_of (geometry s n.tile) (cuts_at (packets n.tile) (packets_in (groups n.tile)))) n) ≡ slice_get blocks number =
-        found_kept s n blocks (packets n.tile) (packets_in (groups n.tile)) (slice_get blocks number) (kept n.tile is.0) is.1 refl (are.each n is) (λ d found. sound_at blocks number d sound found) in
-        subst (λ (m : ℕ). slice_get laid m ≡ slice_get blocks m) same (told ∙ given)))
+    (let all : block_total s ≡ blocks_below (canvas_of s.siz) (shapes_of s) (tile_number s.siz) = blocks_are s in
+    let size : length laid ≡ block_total s = laid_long s packets groups in
+    let taken = block_number_taken (canvas_of s.siz) (shapes_of s) i (omega (arith, lt, size, all)) in
+    let n : BlockName = taken.0 in
+    let is : IsBlock (canvas_of s.siz) (shapes_of s) n = taken.1.0 in
+    let number : ℕ = block_number (canvas_of s.siz) (shapes_of s) n in
+    let same : number ≡ i = taken.1.1 in
+    let told : slice_get laid number ≡ Some (block_of s (geometry s n.tile) (founds_of (geometry s n.tile) (cuts_at (packets n.tile) (packets_in (groups n.tile)))) n) = laid_at s packets groups n is in
+    let given : Some (block_of s (geometry s n.tile) (founds_of (geometry s n.tile) (cuts_at (packets n.tile) (packets_in (groups n.tile)))) n) ≡ slice_get blocks number =
+    found_kept s n blocks (packets n.tile) (packets_in (groups n.tile)) (slice_get blocks number) (kept n.tile is.0) is.1 refl (are.each n is) (λ d found. sound_at blocks number d sound found) in
+    subst (λ (m : ℕ). slice_get laid m ≡ slice_get blocks m) same (told ∙ given)))
 
 pub carried_gathered : (b : List ℕ) (s : Stream) (blocks : List Block) (packets : ℕ → Packets) (groups : ℕ → List (List PacketName)) → IsRead b s → length b ≤ 2 ^ 28 → totals_fault s ≡ None
     → AreBlocksOf s blocks → All IsSound blocks

@@ -158,7 +158,7 @@ joined_here s t ps list done rest p c r k j m h has e le same sent again =
     let own = has_precinct (geometry s t) (layers_of s t) p (due_named (geometry s t) (layers_of s t) list done rest p h.listed e) in
     let is = precinct_once (geometry s t) p.comp p.res p.precinct c r k own has same in
     let P : ℕ → ℕ → ℕ → Type 0 = λ x y z. Sent (layers_of s t) x y z done m → Again s t ps (done ++ p ∷ []) rest x y z j
-        → own_founds (leaf_number (geometry s t) x y z j) (founds_of (geometry s t) (cuts_at ps (p ∷ rest))) ≡ joined (layer_founds (geometry s t) ps x y z j) m (layers_of s t) in
+    → own_founds (leaf_number (geometry s t) x y z j) (founds_of (geometry s t) (cuts_at ps (p ∷ rest))) ≡ joined (layer_founds (geometry s t) ps x y z j) m (layers_of s t) in
     subst (λ (x : ℕ). P c r x) is.2 (subst (λ (x : ℕ). P c x p.precinct) is.1 (subst (λ (x : ℕ). P x p.res p.precinct) is.0 (joined_own s t ps list done rest p j m h e le))) sent again
 
 joined_other : (s : Stream) (t : ℕ) (ps : Packets) (list done rest : List PacketName) (p : PacketName) (c r k j m : ℕ) → Joins s t ps list → HasPrecinct (geometry s t) c r k

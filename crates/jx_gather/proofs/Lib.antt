@@ -30,3 +30,5 @@ pub mod BlockOfLemmas
 pub mod LeafLemmas
 pub mod CarryLemmas
 pub mod KeptLemmas
+pub mod EitherLemmas
+pub mod PlannedLemmas

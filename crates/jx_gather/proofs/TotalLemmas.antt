@@ -73,9 +73,12 @@ tile_within s t range none inside =
       precincts = omega (arith, packets, packets_are s, all.packets, some_times (tile_precincts rect (shapes_of s t)) (layers_of s t) (range.some_layers t inside));
     }
 
+pub few_shapes : (s : Stream) (t : ℕ) → StreamInRange s → length (shapes_of s t) ≤ 2 ^ 14
+few_shapes s t range = omega (arith, shapes_length s t, range.few_comps)
+
 -- so the geometry of each tile is in range
 pub geometry_fits : (s : Stream) (t : ℕ) → StreamInRange s → totals_fault s ≡ None → t < tile_number s.siz → GeometryInRange (geometry s t)
-geometry_fits s t range none inside = record { canvas = range.canvas; tile = inside; shapes = range.shapes t inside; limits = tile_within s t range none inside }
+geometry_fits s t range none inside = record { canvas = range.canvas; tile = inside; few = few_shapes s t range; shapes = range.shapes t inside; limits = tile_within s t range none inside }
 
 -- the sums that the loops make
 

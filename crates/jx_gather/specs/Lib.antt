@@ -18,3 +18,5 @@ pub mod Covered
 pub mod Written
 pub mod BlockOf
 pub mod Carries
+pub mod Either
+pub mod Planned

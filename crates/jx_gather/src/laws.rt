@@ -1,6 +1,6 @@
 //! Laws of tile data. Each function's contract is a law over the definitions that `gather` cites, so its body is empty.
 
-ghost use Rattle.std.specs.Prelude.{◌≡◌, ◌≤◌, ◌<◌, ◌^◌, ℕ, List, None, length};
+ghost use Rattle.std.specs.Prelude.{◌≡◌, ◌⊎◌, ◌≤◌, ◌<◌, ◌^◌, ℕ, List, None, length};
 ghost use Rattle.std.specs.List.{All};
 ghost use Rattle.jx_base.specs.declared.pieces.Block.{Block};
 ghost use Rattle.jx_base.specs.Sound.{IsSound};
@@ -10,11 +10,13 @@ ghost use Rattle.jx_stream.specs.First.{tile_number};
 ghost use Rattle.jx_stream.specs.declared.faults.StreamFault.{StreamFault};
 ghost use Rattle.jx_stream.specs.Read.{IsRead};
 ghost use Rattle.jx_gather.specs.Totals.{totals_fault};
+ghost use Rattle.jx_gather.specs.Either.{HasBlocks, HasFault, HasList};
 ghost use Rattle.jx_gather.specs.Gathered.{IsBroken, IsCutUp, IsGathered, IsWhole};
 ghost use Rattle.jx_gather.specs.BlockOf.{AreBlocksOf};
 ghost use Rattle.jx_gather.specs.Carries.{AllCarry};
+ghost use Rattle.jx_gather.specs.Planned.{ArePlanned};
 ghost use Rattle.jx_gather.specs.WellFormed.{IsWellFormed};
-ghost use Rattle.jx_gather.specs.Written.{IsLaid, Packets, cuts_at, laid_blocks, packets_in};
+ghost use Rattle.jx_gather.specs.Written.{AreWritten, IsLaid, Packets, cuts_at, laid_blocks, packets_in};
 
 /// Tile data have one reading: the blocks of a codestream are given by its bytes.
 pub fn one_gathering()
@@ -31,6 +33,11 @@ pub fn one_violation()
 pub fn never_both()
     ensures { (b : List ℕ) (s : Stream) (blocks : List Block) (fault : StreamFault) → IsRead b s → length b ≤ 2 ^ 28 → totals_fault s ≡ None
         → IsGathered b s blocks → IsBroken b s fault → ⊥ }
+{}
+
+/// There are always blocks or a first violation, where each tile has a list of its packets in the order of its entries.
+pub fn one_of_both()
+    ensures { (b : List ℕ) (s : Stream) → IsRead b s → length b ≤ 2 ^ 28 → ((t : ℕ) → t < tile_number s.siz → HasList s t) → HasBlocks b s ⊎ HasFault b s }
 {}
 
 /// A file of which the blocks are there is well-formed.
@@ -66,4 +73,13 @@ pub fn carried_is_gathered()
         → AreBlocksOf s blocks → All IsSound blocks
         → ((t : ℕ) → t < tile_number s.siz → IsWhole s t) → ((t : ℕ) → t < tile_number s.siz → IsLaid b s t (packets t) (groups t))
         → ((t : ℕ) → t < tile_number s.siz → AllCarry s t blocks (packets t)) → IsGathered b s blocks }
+{}
+
+/// Packets of which each precinct's headers are written from the blocks, as `jx_head` writes them, and whose coded bytes are those of
+/// the blocks' pieces, are a chain in each precinct, and carry these pieces.
+pub fn planned_is_written()
+    ensures written { (b : List ℕ) (s : Stream) (t : ℕ) (blocks : List Block) (packets : Packets) → IsRead b s → totals_fault s ≡ None → t < tile_number s.siz
+        → All IsSound blocks → ArePlanned s t blocks packets → AreWritten s t packets }
+    ensures carries { (b : List ℕ) (s : Stream) (t : ℕ) (blocks : List Block) (packets : Packets) → IsRead b s → totals_fault s ≡ None → t < tile_number s.siz
+        → All IsSound blocks → ArePlanned s t blocks packets → AllCarry s t blocks packets }
 {}

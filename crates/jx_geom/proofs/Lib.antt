@@ -1,8 +1,14 @@
 pub mod CountLemmas
+pub mod EmptyLemmas
 pub mod LawLemmas
+pub mod LeafLemmas
 pub mod NumberLemmas
+pub mod NumberedLeaves
+pub mod PrecinctLemmas
 pub mod RectLemmas
+pub mod SameLemmas
 pub mod SetLemmas
 pub mod SizeLemmas
 pub mod SpanLemmas
+pub mod TableLemmas
 pub mod TileLemmas

@@ -120,7 +120,7 @@ block_number_grows c shapes a b ha hb before = elim before [
 ]
 
 -- each number below a sum up to n falls into one of its terms
-sum_below_split : (f : ℕ → ℕ) (n k : ℕ) → k < sum_below f n → (t : ℕ) × (m : ℕ) × ((t < n) × (m < f t) × (k ≡ sum_below f t + m))
+pub sum_below_split : (f : ℕ → ℕ) (n k : ℕ) → k < sum_below f n → (t : ℕ) × (m : ℕ) × ((t < n) × (m < f t) × (k ≡ sum_below f t + m))
 sum_below_split f zero k lt = absurd (omega arith)
 sum_below_split f (suc n) k lt = elim (cases_lt k (sum_below f n)) [
   | inl before ↦
@@ -130,7 +130,7 @@ sum_below_split f (suc n) k lt = elim (cases_lt k (sum_below f n)) [
 ]
 
 -- the component, the band and the place of a number
-component_split : (f : CompShape → ℕ) (xs : List CompShape) (k : ℕ) → k < sum_by f xs
+pub component_split : (f : CompShape → ℕ) (xs : List CompShape) (k : ℕ) → k < sum_by f xs
     → (c : ℕ) × (m : ℕ) × ((c < length xs) × (m < f (get_or xs c no_shape)) × (k ≡ sum_by f (take c xs) + m))
 component_split f xs k lt =
     let whole : sum_by f (take (length xs) xs) ≡ sum_by f xs = ap (λ ys. sum_by f ys) (take-length xs) in
@@ -161,7 +161,7 @@ band_split tile s r k lt = elim (cases_lt 0 r) [
 ]
 
 -- each number below the count of a tile's blocks is that of one of them
-tile_split : (g : Geometry) (k : ℕ) → k < tile_blocks (rect_of_tile g) g.shapes → (n : BlockName) × (HasBlock g n × (number_in_tile g n ≡ k))
+pub tile_split : (g : Geometry) (k : ℕ) → k < tile_blocks (rect_of_tile g) g.shapes → (n : BlockName) × (HasBlock g n × (number_in_tile g n ≡ k))
 unfolding number_in_tile component_blocks
 tile_split g k lt =
     let comp = component_split (component_blocks (rect_of_tile g)) g.shapes k lt in

@@ -42,10 +42,11 @@ pub record WithinLimits (c : Canvas) (t : ℕ) (shapes : List CompShape) : Type 
   pub blocks : tile_blocks (tile_rect c t) shapes ≤ 2 ^ 20
   pub precincts : tile_precincts (tile_rect c t) shapes ≤ 2 ^ 22
 
--- what every geometry keeps
+-- what every geometry keeps; Table A.9: at most 16,384 components
 pub record GeometryInRange (g : Geometry) : Type 0 where
   pub canvas : CanvasInRange g.canvas
   pub tile : g.tile < tile_count g.canvas
+  pub few : length g.shapes ≤ 2 ^ 14
   pub shapes : ShapesInRange g.shapes
   pub limits : WithinLimits g.canvas g.tile g.shapes
 

@@ -6,4 +6,8 @@ pub mod Sets
 pub mod Sizes
 pub mod Counts
 pub mod Geometry
+pub mod Leaves
 pub mod Numbering
+pub mod Precincts
+pub mod Resolutions
+pub mod Same

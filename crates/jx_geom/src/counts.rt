@@ -13,7 +13,7 @@ ghost use Rattle.jx_geom.specs.Counts.{
 ghost use Rattle.jx_geom.specs.Ranges.{CanvasInRange, ShapeInRange, HasBand};
 ghost use Rattle.jx_geom.specs.Rects.{tile_rect};
 
-use crate::rects::{blocks_of, precincts_of, tile_of};
+use crate::rects::{blocks_of, is_empty, precincts_of, tile_of};
 use crate::shape::{Canvas, CompShape};
 use jx_base::{Band, Rect};
 
@@ -38,7 +38,7 @@ fn count_band(tile: Rect, shape: &CompShape, res: u8, band: Band) -> u128
 }
 
 #[tactic(auto, unfolding(crate::specs::Counts::resolution_blocks))]
-fn count_resolution(tile: Rect, shape: &CompShape, res: u8) -> u128
+pub(crate) fn count_resolution(tile: Rect, shape: &CompShape, res: u8) -> u128
     requires shape { ShapeInRange shape.now }
     requires res { res ≤ shape.now.levels }
     ensures value { result ≡ resolution_blocks tile shape.now res }
@@ -52,8 +52,61 @@ fn count_resolution(tile: Rect, shape: &CompShape, res: u8) -> u128
     right + low + count_band(tile, shape, res, Band::HH)
 }
 
-/// How many code-blocks a component of a tile has, over all its bands (T.800, B.7).
+/// How many precincts a resolution has.
+pub(crate) fn count_precincts_at(tile: Rect, shape: &CompShape, res: u8) -> u128
+    requires shape { ShapeInRange shape.now }
+    requires res { res ≤ shape.now.levels }
+    ensures value { result ≡ precinct_count tile shape.now res }
+    ensures bound { result < 2 ^ 64 }
+{
+    count(precincts_of(tile, shape, res))
+}
+
+/// How many code-blocks a component has, over all bands, in a tile of these places.
 #[tactic(auto, using(jx_base::proofs::Sums::sum_below_next), unfolding(crate::specs::Counts::component_blocks))]
+fn count_all_blocks(tile: Rect, comp: &CompShape) -> u128
+    requires { ShapeInRange comp.now }
+    ensures value { result ≡ component_blocks tile comp.now }
+    ensures bound { result < 2 ^ 72 }
+{
+    let mut total = 0;
+    for res in 0..comp.levels + 1 {
+        total += count_resolution(tile, comp, res);
+    }
+    total
+}
+
+/// How many precincts, over all resolutions.
+#[tactic(auto, using(jx_base::proofs::Sums::sum_below_next), unfolding(crate::specs::Counts::component_precincts))]
+fn count_all_precincts(tile: Rect, comp: &CompShape) -> u128
+    requires { ShapeInRange comp.now }
+    ensures value { result ≡ component_precincts tile comp.now }
+    ensures bound { result < 2 ^ 72 }
+{
+    let mut total = 0;
+    for res in 0..comp.levels + 1 {
+        total += count_precincts_at(tile, comp, res);
+    }
+    total
+}
+
+/// How many code-blocks and precincts a component has in a tile of these places on the reference grid
+/// (T.800, B.6 and B.7); none where it has no sample there, which costs a few operations.
+#[tactic(auto, using(crate::proofs::EmptyLemmas::no_precincts, crate::proofs::EmptyLemmas::no_blocks))]
+pub fn count_in(tile: Rect, comp: &CompShape) -> (u128, u128)
+    requires { ShapeInRange comp.now }
+    ensures blocks { result.0 ≡ component_blocks tile comp.now }
+    ensures precincts { result.1 ≡ component_precincts tile comp.now }
+    ensures few_blocks { result.0 < 2 ^ 72 }
+    ensures few_precincts { result.1 < 2 ^ 72 }
+{
+    if is_empty(tile, comp) {
+        return (0, 0);
+    }
+    (count_all_blocks(tile, comp), count_all_precincts(tile, comp))
+}
+
+/// How many code-blocks a component of a tile has, over all its bands (T.800, B.7).
 pub fn count_blocks(canvas: &Canvas, tile: u16, comp: &CompShape) -> u128
     requires canvas { CanvasInRange canvas.now }
     requires tile { tile < tile_count canvas.now }
@@ -61,16 +114,10 @@ pub fn count_blocks(canvas: &Canvas, tile: u16, comp: &CompShape) -> u128
     ensures value { result ≡ component_blocks (tile_rect canvas.now tile) comp.now }
     ensures bound { result < 2 ^ 72 }
 {
-    let places = tile_of(canvas, tile);
-    let mut total = 0;
-    for res in 0..comp.levels + 1 {
-        total += count_resolution(places, comp, res);
-    }
-    total
+    count_in(tile_of(canvas, tile), comp).0
 }
 
 /// How many precincts a component of a tile has, over all its resolutions (T.800, B.6).
-#[tactic(auto, using(jx_base::proofs::Sums::sum_below_next), unfolding(crate::specs::Counts::component_precincts))]
 pub fn count_precincts(canvas: &Canvas, tile: u16, comp: &CompShape) -> u128
     requires canvas { CanvasInRange canvas.now }
     requires tile { tile < tile_count canvas.now }
@@ -78,10 +125,5 @@ pub fn count_precincts(canvas: &Canvas, tile: u16, comp: &CompShape) -> u128
     ensures value { result ≡ component_precincts (tile_rect canvas.now tile) comp.now }
     ensures bound { result < 2 ^ 72 }
 {
-    let places = tile_of(canvas, tile);
-    let mut total = 0;
-    for res in 0..comp.levels + 1 {
-        total += count(precincts_of(places, comp, res));
-    }
-    total
+    count_in(tile_of(canvas, tile), comp).1
 }

@@ -1,18 +1,31 @@
 //! Laws over the definitions: each place in one tile, one precinct and one block; nothing that is counted
 //! is empty; blocks are numbered by the count of those before them. They run no code.
 
-ghost use Rattle.std.specs.Prelude.{◌≡◌, ◌≤◌, ◌<◌, ◌+◌, ◌-◌, ◌*◌, ◌^◌, ◌⊎◌, ◌↔◌, ℕ, List, max};
+ghost use Rattle.std.specs.Prelude.{◌≡◌, ◌≤◌, ◌<◌, ◌+◌, ◌-◌, ◌*◌, ◌^◌, ◌⊎◌, ◌↔◌, ℕ, List, max, slice_index_or};
+ghost use Rattle.std.specs.List.{AllPairs, Contains};
 ghost use Rattle.jx_base.specs.declared.names.Band.{Band};
 ghost use Rattle.jx_base.specs.declared.names.BlockName.{BlockName};
 ghost use Rattle.jx_base.specs.declared.names.Rect.{Rect};
-ghost use Rattle.jx_base.specs.Places.{ExactlyOne, InRect, column_at, row_at};
+ghost use Rattle.jx_base.specs.Places.{ExactlyOne, InRect, column_at, row_at, size_of};
 ghost use Rattle.jx_geom.specs.declared.shape.Canvas.{Canvas};
 ghost use Rattle.jx_geom.specs.declared.shape.CompShape.{CompShape};
-ghost use Rattle.jx_geom.specs.Counts.{block_count, precinct_count, tile_count};
-ghost use Rattle.jx_geom.specs.Numbering.{ComesBefore, IsBlock, block_number, blocks_of_all};
+ghost use Rattle.jx_geom.specs.declared.table.Resolution.{Resolution};
+ghost use Rattle.jx_geom.specs.Counts.{block_count, precinct_count, tile_count, tile_precincts};
+ghost use Rattle.jx_geom.specs.Geometry.{Geometry, GeometryInRange, HasBlock, HasResolution, no_shape, precincts_in, rect_of_tile};
+ghost use Rattle.jx_geom.specs.Numbering.{ComesBefore, IsBlock, block_number, blocks_of_all, number_in_tile};
+ghost use Rattle.jx_geom.specs.Precincts.{
+  HasPrecinct,
+  IsLeaf,
+  PrecinctBefore,
+  leaf_name,
+  leaf_number,
+  leaves,
+  precinct_number,
+};
 ghost use Rattle.jx_geom.specs.Ranges.{CanvasInRange, HasBand, ShapeInRange, exponent_across, exponent_down};
 ghost use Rattle.jx_geom.specs.Rects.{
   block_cells,
+  block_rect,
   off_across,
   off_down,
   precinct_blocks,
@@ -22,6 +35,8 @@ ghost use Rattle.jx_geom.specs.Rects.{
   resolution_rect,
   tile_rect,
 };
+ghost use Rattle.jx_geom.specs.Resolutions.{ResolutionBefore, resolution_at, resolutions_of};
+ghost use Rattle.jx_geom.specs.Same.{AllSameBlocks};
 ghost use Rattle.jx_geom.specs.Sets.{
   HasPlace,
   InBand,
@@ -88,6 +103,52 @@ pub fn blocks_are_numbered()
     ensures later { (c : Canvas) (shapes : ℕ → List CompShape) (a b : BlockName) → IsBlock c shapes a → IsBlock c shapes b
         → (a.tile < b.tile) ⊎ ((a.tile ≡ b.tile) × ComesBefore a b) → block_number c shapes a < block_number c shapes b }
     ensures taken { (c : Canvas) (shapes : ℕ → List CompShape) (k : ℕ) → k < blocks_of_all c shapes → (n : BlockName) × (IsBlock c shapes n × (block_number c shapes n ≡ k)) }
+{}
+
+/// The number of a precinct is below the count of a tile's, is larger for a later precinct, and each number
+/// below the count is that of a precinct. So the precincts of a tile have the numbers from 0 on.
+pub fn precincts_are_numbered()
+    ensures below { (g : Geometry) (c r k : ℕ) → HasPrecinct g c r k → precinct_number g c r k < tile_precincts (rect_of_tile g) g.shapes }
+    ensures later { (g : Geometry) (c r k d q m : ℕ) → HasPrecinct g c r k → HasPrecinct g d q m → PrecinctBefore c r k d q m
+        → precinct_number g c r k < precinct_number g d q m }
+    ensures taken { (g : Geometry) (n : ℕ) → n < tile_precincts (rect_of_tile g) g.shapes
+        → (c : ℕ) × (r : ℕ) × (k : ℕ) × (HasPrecinct g c r k × (precinct_number g c r k ≡ n)) }
+{}
+
+/// The list of a tile's resolutions has them in order, each with what stands before it, and has that of each
+/// precinct.
+pub fn resolutions_are_listed()
+    ensures order { (g : Geometry) → AllPairs ResolutionBefore (resolutions_of g) }
+    ensures there { (g : Geometry) (e : Resolution) → Contains (resolutions_of g) e
+        → HasResolution g e.comp e.res × (e ≡ resolution_at (rect_of_tile g) g.shapes e.comp e.res) × (e.precincts ≡ size_of (precincts_in g e.comp e.res)) }
+    ensures every { (g : Geometry) (c r k : ℕ) → HasPrecinct g c r k → Contains (resolutions_of g) (resolution_at (rect_of_tile g) g.shapes c r) }
+{}
+
+/// Each leaf of a precinct is a block of its resolution, each block of a tile is a leaf of some precinct, and
+/// no block is two leaves. So the blocks of a tile are divided among its precincts.
+pub fn precincts_divide_the_blocks()
+    ensures there { (g : Geometry) (c r k j : ℕ) → GeometryInRange g → HasPrecinct g c r k → j < leaves g c r k
+        → HasBlock g (leaf_name g c r k j) × ((leaf_name g c r k j).comp ≡ c) × ((leaf_name g c r k j).res ≡ r) }
+    ensures taken { (g : Geometry) (n : BlockName) → GeometryInRange g → HasBlock g n → (k : ℕ) × (j : ℕ) × IsLeaf g k j n }
+    ensures once { (g : Geometry) (c r k j d q m i : ℕ) → GeometryInRange g → HasPrecinct g c r k → j < leaves g c r k
+        → HasPrecinct g d q m → i < leaves g d q m → leaf_number g c r k j ≡ leaf_number g d q m i
+        → (c ≡ d) × (r ≡ q) × (k ≡ m) × (j ≡ i) }
+{}
+
+/// Where shapes differ in their precincts alone, and the exponents of blocks stay, so do the names of the
+/// blocks, their places and their numbers.
+pub fn blocks_stay()
+    ensures there { (c : Canvas) (t : ℕ) (xs ys : List CompShape) (n : BlockName) → AllSameBlocks xs ys
+        → HasBlock (record { canvas = c; tile = t; shapes = xs }) n ↔ HasBlock (record { canvas = c; tile = t; shapes = ys }) n }
+    ensures places { (c : Canvas) (t : ℕ) (xs ys : List CompShape) (n : BlockName) → AllSameBlocks xs ys
+        → HasBlock (record { canvas = c; tile = t; shapes = xs }) n
+        → block_rect (tile_rect c t) (slice_index_or xs n.comp no_shape) n.res n.band n.index
+        ≡ block_rect (tile_rect c t) (slice_index_or ys n.comp no_shape) n.res n.band n.index }
+    ensures number { (c : Canvas) (t : ℕ) (xs ys : List CompShape) (n : BlockName) → AllSameBlocks xs ys
+        → HasBlock (record { canvas = c; tile = t; shapes = xs }) n
+        → number_in_tile (record { canvas = c; tile = t; shapes = xs }) n ≡ number_in_tile (record { canvas = c; tile = t; shapes = ys }) n }
+    ensures all { (c : Canvas) (xs ys : ℕ → List CompShape) (n : BlockName) → ((t : ℕ) → t < tile_count c → AllSameBlocks (xs t) (ys t))
+        → IsBlock c xs n → block_number c xs n ≡ block_number c ys n }
 {}
 
 /// A precinct stands at the later of the tile's first column and the one that the first place of its cell

@@ -4,16 +4,21 @@
 mod counts;
 mod exponents;
 pub mod laws;
+mod leaves;
+mod numbering;
 mod ranges;
 mod rects;
 mod shape;
 mod spans;
+mod table;
 mod tile_geom;
 
-pub use counts::{count_blocks, count_precincts};
+pub use counts::{count_blocks, count_in, count_precincts};
+pub use leaves::Leaves;
 pub use ranges::is_within_limits;
-pub use rects::tiles;
+pub use rects::{tile_of, tiles};
 pub use shape::{Canvas, CompShape};
+pub use table::Resolution;
 pub use tile_geom::TileGeom;
 
 #[cfg(test)]

@@ -5,7 +5,8 @@ ghost use Rattle.jx_geom.specs.Counts.{tile_count, tile_blocks, tile_precincts};
 ghost use Rattle.jx_geom.specs.Geometry.{ShapesInRange, WithinLimits};
 ghost use Rattle.jx_geom.specs.Ranges.{CanvasInRange, NumbersInRange, PrecinctsInRange, ShapeInRange};
 
-use crate::counts::{count_blocks, count_precincts};
+use crate::counts::count_in;
+use crate::rects::tile_of;
 use crate::shape::{Canvas, CompShape};
 
 impl Canvas {
@@ -64,11 +65,13 @@ pub fn is_within_limits(canvas: &Canvas, tile: u16, comps: &[CompShape]) -> bool
     requires comps { ShapesInRange comps.now }
     ensures { IsTrue result ↔ WithinLimits canvas.now tile comps.now }
 {
+    let places = tile_of(canvas, tile);
     let mut blocks: u128 = 0;
     let mut precincts: u128 = 0;
     for comp in comps {
-        blocks += count_blocks(canvas, tile, comp);
-        precincts += count_precincts(canvas, tile, comp);
+        let (own_blocks, own_precincts) = count_in(places, comp);
+        blocks += own_blocks;
+        precincts += own_precincts;
         if blocks > 1 << 20 || precincts > 1 << 22 {
             return false;
         }

@@ -1,6 +1,6 @@
 //! The rects of a tile, from its own rect on.
 
-ghost use Rattle.std.specs.Prelude.{◌≡◌, ◌≤◌, ◌<◌, ◌^◌, ◌*◌, ◌-◌};
+ghost use Rattle.std.specs.Prelude.{◌≡◌, ◌≤◌, ◌<◌, ◌^◌, ◌*◌, ◌-◌, ◌↔◌, IsTrue};
 ghost use Rattle.jx_base.specs.Places.{InSpan, column_at, row_at, size_of};
 ghost use Rattle.jx_geom.specs.Counts.{tile_count, precinct_count, block_count};
 ghost use Rattle.jx_geom.specs.Ranges.{CanvasInRange, ShapeInRange, HasBand};
@@ -52,9 +52,9 @@ fn down(canvas: &Canvas) -> u64
     count_tiles(canvas.y1, canvas.ty, canvas.th)
 }
 
-/// A tile's places on the reference grid.
+/// A tile's places on the reference grid (T.800, B.3).
 #[tactic(auto, using(jx_base::proofs::Raster::row_below), unfolding(crate::specs::Rects::tile_rect))]
-pub(crate) fn tile_of(canvas: &Canvas, tile: u16) -> Rect
+pub fn tile_of(canvas: &Canvas, tile: u16) -> Rect
     requires canvas { CanvasInRange canvas.now }
     requires tile { tile < tile_count canvas.now }
     ensures { result ≡ tile_rect canvas.now tile }
@@ -78,6 +78,15 @@ pub(crate) fn component_of(tile: Rect, shape: &CompShape) -> Rect
         x: every(tile.x, u64::from(shape.dx)),
         y: every(tile.y, u64::from(shape.dy)),
     }
+}
+
+/// Whether a tile-component has no place. The rows are looked at only where it has a column.
+#[tactic(auto, using(crate::proofs::EmptyLemmas::zero_left, crate::proofs::EmptyLemmas::zero_right, crate::proofs::EmptyLemmas::zero_factor), unfolding(crate::specs::Rects::component_rect))]
+pub(crate) fn is_empty(tile: Rect, shape: &CompShape) -> bool
+    requires { ShapeInRange shape.now }
+    ensures { IsTrue result ↔ (size_of (component_rect tile shape.now) ≡ 0) }
+{
+    every(tile.x, u64::from(shape.dx)).len() == 0 || every(tile.y, u64::from(shape.dy)).len() == 0
 }
 
 /// A resolution's places.

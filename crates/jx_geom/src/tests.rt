@@ -32,7 +32,8 @@ fn geometry(
     comps: &[CompShape],
 ) -> Result<TileGeom, Fail> {
     let sound = canvas.is_in_range() && u64::from(tile) < tiles(canvas) && are_in_range(comps);
-    if !sound || !is_within_limits(canvas, tile, comps) {
+    let few = comps.len() <= 16_384;
+    if !sound || !few || !is_within_limits(canvas, tile, comps) {
         return Err("out of range")?;
     }
     Ok(TileGeom::new(alloc, canvas, tile, comps)?)

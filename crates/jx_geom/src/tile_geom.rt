@@ -19,7 +19,8 @@ ghost use Rattle.jx_geom.specs.Geometry.{
   shape_of,
 };
 ghost use Rattle.jx_geom.specs.Ranges.{CanvasInRange, ShapeInRange, HasBand};
-ghost use Rattle.jx_geom.specs.Rects.{tile_rect, precinct_blocks, block_rect, block_across, block_down};
+ghost use Rattle.jx_geom.specs.Rects.{component_rect, tile_rect, precinct_blocks, block_rect, block_across, block_down};
+ghost use Rattle.jx_geom.specs.Resolutions.{all_places, all_resolutions, resolution_at, resolutions_of};
 ghost use Rattle.jx_geom.specs.Sets.{HasPlace, InBand, InBlock, InCell, InPart, InTile};
 ghost use Rattle.jx_geom.specs.Sizes.{BlockFits};
 
@@ -27,6 +28,7 @@ use crate::rects::{
     band_of, block_of, blocks_of, precinct_blocks_of, precincts_of, reference_of_precinct, tile_of,
 };
 use crate::shape::{Canvas, CompShape};
+use crate::table::{Resolution, Table, table_of};
 use jx_base::{Band, BlockName, NoMemory, Rect};
 use std::alloc::Global;
 use std::marker::Model;
@@ -38,6 +40,7 @@ pub struct TileGeom {
     tile: u16,
     places: Rect,
     shapes: Vec<CompShape>,
+    table: Table,
 }
 
 impl Model for TileGeom {
@@ -45,11 +48,11 @@ impl Model for TileGeom {
 
     ghost view = { λ t. record { canvas = t.canvas; tile = t.tile; shapes = t.shapes.items } };
 
-    ghost invariant = { λ t. GeometryInRange (record { canvas = t.canvas; tile = t.tile; shapes = t.shapes.items }) × (t.places ≡ tile_rect t.canvas t.tile) };
+    ghost invariant = { λ t. GeometryInRange (record { canvas = t.canvas; tile = t.tile; shapes = t.shapes.items }) × (t.places ≡ tile_rect t.canvas t.tile) × (t.table.places.items ≡ all_places t.places t.shapes.items) × (t.table.list.items ≡ all_resolutions t.places t.shapes.items) };
 }
 
 impl TileGeom {
-    /// The geometry of a tile with components of these shapes.
+    /// The geometry of a tile with components of these shapes, at most 16,384.
     pub fn new(
         alloc: Global,
         canvas: &Canvas,
@@ -58,16 +61,20 @@ impl TileGeom {
     ) -> Result<TileGeom, NoMemory>
         requires canvas { CanvasInRange canvas.now }
         requires tile { tile < tile_count canvas.now }
+        requires few { length comps.now ≤ 2 ^ 14 }
         requires comps { ShapesInRange comps.now }
         requires limits { WithinLimits canvas.now tile comps.now }
         ensures { IfOk result (λ g. g ≡ record { canvas = canvas.now; tile = tile; shapes = comps.now }) }
     {
+        let places = tile_of(canvas, tile);
+        let table = table_of(alloc, places, comps)?;
         let shapes = Vec::from_slice(alloc, comps)?;
         Ok(TileGeom {
             canvas: *canvas,
             tile,
-            places: tile_of(canvas, tile),
+            places,
             shapes,
+            table,
         })
     }
 
@@ -78,9 +85,10 @@ impl TileGeom {
         self.tile
     }
 
-    /// How many components the tile has.
+    /// How many components the tile has, at most 16,384.
     pub fn components(&self) -> usize
         ensures count { result ≡ length self.now.shapes }
+        ensures bound { result ≤ 2 ^ 14 }
         ensures range { GeometryInRange self.now }
     {
         self.shapes.len()
@@ -109,6 +117,24 @@ impl TileGeom {
         ensures bound { result ≤ 32 }
     {
         self.shape(comp).levels
+    }
+
+    /// The resolutions of the components that have a sample in the tile, by component, then by number.
+    pub fn resolutions(&self) -> &[Resolution]
+        ensures { result.now ≡ resolutions_of self.now }
+    {
+        &self.table.list
+    }
+
+    /// A resolution of a component that has a sample in the tile, with what stands before it.
+    pub(crate) fn resolution(&self, comp: u16, res: u8) -> Resolution
+        requires res { HasResolution self.now comp res }
+        requires some { 0 < size_of (component_rect (rect_of_tile self.now) (shape_of self.now comp)) }
+        ensures value { result ≡ resolution_at (rect_of_tile self.now) self.now.shapes comp res }
+        ensures few { result.blocks_before ≤ 2 ^ 20 }
+        ensures range { GeometryInRange self.now }
+    {
+        self.table.entry(comp, res)
     }
 
     /// The places of a band (T.800, B.5).

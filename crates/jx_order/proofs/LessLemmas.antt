@@ -1,7 +1,5 @@
 -- The order of keys.
-use Rattle.std.proofs.Common.{◌≡◌, ℕ, zero, suc, ◌+◌, ◌<◌, List, [], ◌∷◌, inl, inr, ◌∙◌, subst, add-one, arith, length, get_or}
-use Rattle.std.proofs.lemmas.Bool.{cases_lt}
-use Rattle.std.specs.List.{AllPairs}
+use Rattle.std.proofs.Common.{ℕ, List, [], ◌∷◌, inl, inr, ◌∙◌, arith}
 use Rattle.jx_order.specs.Orders.{IsLess}
 
 pub less_both : (xs ys : List ℕ) → IsLess xs ys → IsLess ys xs → ⊥

@@ -1,0 +1,27 @@
+use Rattle.std.proofs.Common.{◌≡◌, ◌+◌, ◌++◌, ◌∷◌, [], ℕ, List, arith, subst}
+use Rattle.jx_base.specs.Joined.{sum_below}
+use Rattle.jx_base.proofs.Joined.{appends_none, appends_next}
+use Rattle.jx_base.proofs.Sums.{sum_below_next}
+use Rattle.jx_geom.specs.Counts.{precinct_count, resolution_blocks}
+use Rattle.jx_geom.specs.Resolutions.{one_behind}
+use Rattle.jx_geom.proofs.TableLemmas.{one_is}
+use Rattle.jx_geom.proofs.table.push_resolutions.Goals as goal
+
+pub loop-res-init : goal.loop-res-init
+loop-res-init c = record {
+  list = appends_none c.args.list.now.items (one_behind c.args.tile c.args.shape.now c.args.comp c.args.before.precincts c.args.before.blocks) 0 0 (omega arith);
+  precincts = omega arith;
+  blocks = omega arith;
+}
+
+pub loop-res-preserved : goal.loop-res-preserved
+loop-res-preserved c =
+    let step = one_is c.args.tile c.args.shape.now c.args.comp c.args.before.precincts c.args.before.blocks c.loop-res.res c.loop-res.now.precincts c.loop-res.now.blocks
+    c.loop-res.list.items c.push_resolution.new.list.items c.loop-res.invariant.precincts c.loop-res.invariant.blocks c.in_ok-now.ensures.list in
+    record {
+      list = appends_next c.args.list.now.items c.loop-res.list.items c.push_resolution.new.list.items
+          (one_behind c.args.tile c.args.shape.now c.args.comp c.args.before.precincts c.args.before.blocks) 0 c.loop-res.res (omega arith)
+          c.loop-res.invariant.list step;
+      precincts = omega (arith, c.in_ok-now.ensures.precincts, c.loop-res.invariant.precincts, sum_below_next (precinct_count c.args.tile c.args.shape.now) c.loop-res.res);
+      blocks = omega (arith, c.in_ok-now.ensures.blocks, c.loop-res.invariant.blocks, sum_below_next (resolution_blocks c.args.tile c.args.shape.now) c.loop-res.res);
+    }
