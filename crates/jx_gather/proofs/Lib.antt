@@ -32,3 +32,7 @@ pub mod CarryLemmas
 pub mod KeptLemmas
 pub mod EitherLemmas
 pub mod PlannedLemmas
+pub mod LayersFew
+pub mod CutRuns
+pub mod FitLemmas
+pub mod PlanLemmas
