@@ -7,6 +7,7 @@
 
 mod files;
 mod memory;
+mod output;
 mod plan;
 mod real;
 mod refused;
