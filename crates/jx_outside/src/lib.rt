@@ -14,14 +14,16 @@ mod refused;
 mod sink;
 mod spoken;
 mod store;
+mod sure;
 
 pub use files::Files;
-pub use memory::{MemFiles, SureFiles};
+pub use memory::MemFiles;
 pub use plan::Call;
 pub use real::{StdFiles, StdSink};
 pub use refused::Refused;
 pub use sink::Sink;
 pub use spoken::{MemSink, SureSink};
+pub use sure::SureFiles;
 
 #[cfg(test)]
 mod tests;
