@@ -112,6 +112,7 @@ impl Files for MemFiles {
     fn open(&mut self, name: &str) -> Result<(), Refused>
         ensures ok { OnOk result (told self.new ≡ after_open name.now (told self.old)) }
         ensures there { OnOk result ((told self.old).holds name.now ≢ Some None) }
+        ensures missing { (told self.old).holds name.now ≡ Some None → result ≡ Err Refused.Failed }
         ensures err { OnErr result (told self.new ≡ told self.old) }
         ensures opens { Allows (λ _. ⊤) (λ _. ⊤) }
         ensures creates { Allows (λ _. ⊤) (λ _. ⊤) }
