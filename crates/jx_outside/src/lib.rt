@@ -26,4 +26,6 @@ pub use spoken::{MemSink, SureSink};
 pub use sure::SureFiles;
 
 #[cfg(test)]
+mod real_tests;
+#[cfg(test)]
 mod tests;

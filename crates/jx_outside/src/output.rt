@@ -43,10 +43,13 @@ fn followed<R: Disk + AllocGlobal>(rt: &R, name: &str) -> Result<PathBuf, Refuse
     for _ in 0..MOST_LINKS {
         match fs::read_link(rt, path.as_path()) {
             Ok(link) => path = path.with_file_name(rt.alloc(), link.as_str())?,
-            Err(error) if error.kind() == io::ErrorKind::OutOfMemory => {
-                return Err(Refused::NoMemory);
+            Err(error) => {
+                return match error.kind() {
+                    // it is no link, or nothing is there
+                    io::ErrorKind::InvalidInput | io::ErrorKind::NotFound => Ok(path),
+                    _ => Err(refused(error)),
+                };
             }
-            Err(_) => return Ok(path),
         }
     }
     Err(Refused::Failed)
@@ -106,6 +109,9 @@ impl Output {
         permissions: Option<Permissions>,
     ) -> Result<Output, Refused> {
         let target = followed(rt, name)?;
+        if target.file_name().is_none() || target.as_str().ends_with('/') {
+            return Err(Refused::Failed);
+        }
         let (name, file) = beside(rt, &target)?;
         if let Some(permissions) = permissions {
             if let Err(error) = file.set_permissions(permissions) {
