@@ -1,10 +1,9 @@
 ghost use Rattle.std.specs.Prelude.{None, ⊤, false, is_some, ◌≡◌, ◌≤◌};
 ghost use Rattle.jx_outside.specs.Causes.{Rose};
 
-use crate::output::Output;
+use crate::output::{Output, begin};
 use crate::{Files, Refused, Sink};
 use std::fs;
-use std::fs::File;
 use std::io::{Read, Write};
 use std::rt::Files as Disk;
 
@@ -14,15 +13,15 @@ use std::rt::Files as Disk;
 /// of an older file and with that one's permissions. Until then the older file stands, and a file
 /// that isn't finished is removed with this value. What is there and is no plain file (a device, a
 /// pipe) is written directly. A name that is a link stands for what the link names.
-pub struct StdFiles<R: Disk<File = File> + AllocGlobal + Drop> {
+pub struct StdFiles<R: Disk + AllocGlobal + Drop> {
     rt: R,
-    reading: Option<File>,
-    making: Option<Output>,
+    reading: Option<R::File>,
+    making: Option<Output<R::File>>,
     read_faults: u64,
     write_faults: u64,
 }
 
-impl<R: Disk<File = File> + AllocGlobal + Drop> Drop for StdFiles<R> {
+impl<R: Disk + AllocGlobal + Drop> Drop for StdFiles<R> {
     fn drop(self) {
         let StdFiles {
             rt,
@@ -37,7 +36,7 @@ impl<R: Disk<File = File> + AllocGlobal + Drop> Drop for StdFiles<R> {
     }
 }
 
-impl<R: Disk<File = File> + AllocGlobal + Drop> StdFiles<R> {
+impl<R: Disk + AllocGlobal + Drop> StdFiles<R> {
     /// Nothing opened or created yet, and no faults.
     pub fn new(rt: R) -> StdFiles<R>
         ensures reading { (⟦<StdFiles<R> as Files>⟧.meaning result).reading ≡ false }
@@ -75,7 +74,7 @@ impl<R: Disk<File = File> + AllocGlobal + Drop> StdFiles<R> {
     }
 }
 
-impl<R: Disk<File = File> + AllocGlobal + Drop> Files for StdFiles<R> {
+impl<R: Disk + AllocGlobal + Drop> Files for StdFiles<R> {
     ghost meaning = { λ s. record { holds = λ _. None; reading = is_some s.reading; left = None; making = is_some s.making; written = None } };
 
     ghost read_faults = { λ s. s.read_faults };
@@ -106,7 +105,7 @@ impl<R: Disk<File = File> + AllocGlobal + Drop> Files for StdFiles<R> {
     }
 
     fn create(&mut self, name: &str) -> Result<(), Refused> {
-        match Output::begin(&self.rt, name) {
+        match begin(&self.rt, name) {
             Ok(output) => {
                 if let Some(older) = self.making.replace(output) {
                     older.discard(&self.rt);
