@@ -47,11 +47,11 @@ clean_data input f clean short breaks =
     let broken : IsBroken input clean.stream f = subst (λ (s : Stream). IsBroken input s f) one breaks.broken in
     not_both input clean.stream clean.accepted.blocks f clean.accepted.read short clean.accepted.totals clean.accepted.gathered broken
 
-clean_rule : (input : List ℕ) (number place : ℕ) → IsClean input → length input ≤ most_bytes → Violates input number place → ⊥
+pub clean_rule : (input : List ℕ) (number place : ℕ) → IsClean input → length input ≤ most_bytes → Violates input number place → ⊥
 clean_rule input number place clean short (inl first) = clean_header input (header.Rule number place) clean first
 clean_rule input number place clean short (inr later) = clean_data input (tile.Rule number place) clean short later
 
-clean_limit : (input : List ℕ) (number found : ℕ) → IsClean input → length input ≤ most_bytes → PassesLimit input number found → ⊥
+pub clean_limit : (input : List ℕ) (number found : ℕ) → IsClean input → length input ≤ most_bytes → PassesLimit input number found → ⊥
 clean_limit input number found clean short (inl long) = omega (arith, long.0, short)
 clean_limit input number found clean short (inr later) = elim later.1 [
   | inl first ↦ clean_header input (header.Limit number found) clean first

@@ -42,3 +42,8 @@ pub fn clean_is_done_or_form()
         → ((s ≡ Status.Done) × IsSmall input) ⊎ ((s ≡ Status.Form) × (IsSmall input → ⊥)) }
     ensures small { (input : List ℕ) (s : Status) → IsSmall input → length input ≤ most_bytes → Verdict input s → s ≡ Status.Done }
 {}
+
+/// An input has at most one verdict.
+pub fn one_verdict()
+    ensures { (input : List ℕ) (s t : Status) → Verdict input s → Verdict input t → s ≡ t }
+{}
