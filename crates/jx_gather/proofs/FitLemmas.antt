@@ -40,7 +40,7 @@ use Rattle.jx_gather.proofs.CellLemmas.{pick, size_is, bands_of, cells_count, na
 use Rattle.jx_gather.proofs.CutRuns.{total, at_here, at_past}
 use Rattle.jx_gather.proofs.CarryLemmas.{layer_here, layer_past, layer_nothing}
 use Rattle.jx_gather.proofs.PlannedLemmas.{parts_of_pieces, leaves_long, sound_at}
-use Rattle.jx_gather.proofs.RangeLemmas.{read_in_range}
+use Rattle.jx_stream.proofs.RangeLemmas.{read_in_range}
 use Rattle.jx_gather.proofs.TotalLemmas.{geometry_fits}
 
 -- ---- the parts of a block

@@ -1,6 +1,6 @@
 use Rattle.jx_outside.specs.Stored.{meaning_of}
 use Rattle.jx_outside.proofs.ThereLemmas.{there_same, there_written}
-use Rattle.jx_outside.proofs.memory.SureFilesFiles.write.Goals as goal
+use Rattle.jx_outside.proofs.sure.SureFilesFiles.write.Goals as goal
 
 -- nothing changed
 pub returns-in_err-write-clause-opens : goal.returns-in_err-write-clause-opens

@@ -1,6 +1,6 @@
 use Rattle.jx_outside.specs.Stored.{meaning_of}
 use Rattle.jx_outside.proofs.ThereLemmas.{there_opened}
-use Rattle.jx_outside.proofs.memory.SureFilesFiles.open.Goals as goal
+use Rattle.jx_outside.proofs.sure.SureFilesFiles.open.Goals as goal
 
 -- what was there still is
 pub returns-clause-opens : goal.returns-clause-opens

@@ -1,6 +1,6 @@
 use Rattle.jx_outside.specs.Stored.{meaning_of}
 use Rattle.jx_outside.proofs.ThereLemmas.{there_put}
-use Rattle.jx_outside.proofs.memory.SureFiles.put.Goals as goal
+use Rattle.jx_outside.proofs.sure.SureFiles.put.Goals as goal
 
 -- what was put there is there
 pub returns-clause-there : goal.returns-clause-there

@@ -1,6 +1,6 @@
 use Rattle.jx_outside.specs.Stored.{meaning_of}
 use Rattle.jx_outside.proofs.ThereLemmas.{there_same, there_finished}
-use Rattle.jx_outside.proofs.memory.SureFilesFiles.finish.Goals as goal
+use Rattle.jx_outside.proofs.sure.SureFilesFiles.finish.Goals as goal
 
 -- nothing changed
 pub returns-in_err-finish-clause-opens : goal.returns-in_err-finish-clause-opens
