@@ -132,7 +132,7 @@ step_cells : (style : ℕ) (ends : Bool) (pass : ℕ) (p : Encoding) → (if end
 step_cells style true pass p = refl
 step_cells style false pass p = refl
 
-isnt_none : (n : ℕ) → (suc n == 0) ≡ false
+pub isnt_none : (n : ℕ) → (suc n == 0) ≡ false
 isnt_none n = grind (arith, nat_tests)
 
 pub last_is : (c : Coding) (g : Cells) (count pass : ℕ) (now : Cells) → is_last (needs_from c g count pass now) ≡ (count == 0)
