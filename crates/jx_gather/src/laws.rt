@@ -14,6 +14,7 @@ ghost use Rattle.jx_stream.specs.Shapes.{geometry, layers_of, style_of, tile_at}
 ghost use Rattle.jx_gather.specs.Totals.{totals_fault};
 ghost use Rattle.jx_gather.specs.Either.{HasBlocks, HasFault, HasList};
 ghost use Rattle.jx_gather.specs.Gathered.{IsBroken, IsCutUp, IsGathered, IsListOf, IsWhole};
+ghost use Rattle.jx_gather.specs.Another.{HaveSameBlocks};
 ghost use Rattle.jx_gather.specs.BlockOf.{AreBlocksOf};
 ghost use Rattle.jx_gather.specs.Cells.{HasPrecinct, precinct_bands};
 ghost use Rattle.jx_gather.specs.Carries.{AllCarry};
@@ -76,6 +77,12 @@ pub fn carried_is_gathered()
         → AreBlocksOf s blocks → All IsSound blocks
         → ((t : ℕ) → t < tile_number s.siz → IsWhole s t) → ((t : ℕ) → t < tile_number s.siz → IsLaid b s t (packets t) (groups t))
         → ((t : ℕ) → t < tile_number s.siz → AllCarry s t blocks (packets t)) → IsGathered b s blocks }
+{}
+
+/// The blocks of a stream are blocks of another that has the same, as where it sends packets in another order or has other precincts
+/// (`jx_geom` has the law for the shapes).
+pub fn blocks_of_another()
+    ensures { (s other : Stream) (blocks : List Block) → HaveSameBlocks s other → AreBlocksOf s blocks → AreBlocksOf other blocks }
 {}
 
 /// The blocks of a stream, sound ones, with their pieces fit the leaves of its precincts, as `jx_head` asks for them where it writes
