@@ -35,7 +35,7 @@ right_kept : (w : Option ℕ) (pass : ℕ) → first_wrong w pass true ≡ w
 right_kept (Some n) pass = refl
 right_kept None pass = refl
 
-abbrev tree_of : Coding → ℕ → Cells → Asking Cells
+abbrev pub tree_of : Coding → ℕ → Cells → Asking Cells
 tree_of c pass now = pass_of c.band (is_causal c.style) c.planes pass now
 
 -- a pass reads what the grid calls for
@@ -88,7 +88,7 @@ pass_read c g pass d e h =
       wrong = ap (λ (x : Decoding). x.wrong) f ∙ right_kept d.wrong pass;
     }
 
-opened_cells : (b : Bool) (style pass : ℕ) (d : Decoding) → (opened_if b style pass d).cells ≡ d.cells
+pub opened_cells : (b : Bool) (style pass : ℕ) (d : Decoding) → (opened_if b style pass d).cells ≡ d.cells
 opened_cells true style pass d = refl
 opened_cells false style pass d = refl
 
