@@ -22,7 +22,7 @@ use Rattle.jx_ring.specs.declared.view.Place.{Place}
 use Rattle.jx_ring.specs.declared.view.Place.TheVariants.{Full}
 use Rattle.jx_ring.specs.Claims.{kind_of, taken, claims_of, stretch, put}
 use Rattle.jx_ring.specs.Rule.{Phase, free, held, parked, leaving, up, odd, holder, home, face, before, claim_in, ClaimOk, InPhase, AtHome, Knows, IsSpent, Ring}
-use Rattle.jx_ring.specs.Told.{Seated, claim_out, commits_it, parks}
+use Rattle.jx_ring.specs.Told.{Seated, Fulfils, claim_out, commits_it, parks}
 use Rattle.jx_ring.proofs.Counts.{sum_set, put_here, put_else}
 use Rattle.jx_ring.proofs.Cells.{knows_stays, moved}
 use Rattle.jx_ring.proofs.Rolls.{roster_set, claims_with, one, odd_put, terms_put}
@@ -31,10 +31,6 @@ pub some_kind : {V : Type 0} (x : Named V) → 0 < kind_of x
 some_kind (Made v) = omega arith
 some_kind (Bad j) = omega arith
 some_kind (Short j) = omega arith
-
--- the entry of a claim
-abbrev pub Fulfils : {V : Type 0} → Taken → Taped (Named V) → Type 0
-Fulfils t e = (e.number ≡ t.number) × (e.worker ≡ t.worker) × (e.seen ≡ t.seen)
 
 module _ {V : Type 0} (p : Setup) (workers : ℕ) (Ok : ℕ → Named V → Type 0) where
   claim_fits : (d n k j : ℕ) (t : Taken) (c : Phase V) → c ≡ held j t → InPhase p Ok d n k c → (k < n) × ClaimOk p k t

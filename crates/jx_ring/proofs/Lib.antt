@@ -6,3 +6,4 @@ pub mod Claiming
 pub mod Committing
 pub mod Draining
 pub mod Seats
+pub mod Carrying

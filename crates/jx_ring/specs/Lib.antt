@@ -1,3 +1,4 @@
 pub mod Claims
 pub mod Rule
 pub mod Told
+pub mod Passes

@@ -36,6 +36,10 @@ begins v l = record v { drains = Some l }
 abbrev pub ends : RingView → RingView
 ends v = record v { drains = None; drained = v.drained + 1 }
 
+-- the entry of a claim
+abbrev pub Fulfils : {V : Type 0} → Taken → Taped (Named V) → Type 0
+Fulfils t e = (e.number ≡ t.number) × (e.worker ≡ t.worker) × (e.seen ≡ t.seen)
+
 module _ {V : Type 0} where
   -- the claim whose entry is in the slot taken last
   abbrev pub claim_out : List (ℕ × Place V) → List Taken

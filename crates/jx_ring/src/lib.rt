@@ -2,6 +2,8 @@
 //! one table, each by single atomic steps.
 #![tactic(auto)]
 
+mod claims;
+mod make;
 mod ring;
 mod rule;
 mod steps;

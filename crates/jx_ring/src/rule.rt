@@ -1,10 +1,10 @@
 //! The rule of the ring, and what each step tells. These types are for the proofs alone.
 ghost use Rattle.jx_store.specs.Valid.{IsOf};
-ghost use Rattle.jx_ring.specs.Rule.{Ring, first_view};
+ghost use Rattle.jx_ring.specs.Rule.{Ring, first_view, deals, dealt, joined, spent_view};
 ghost use Rattle.jx_ring.specs.Told.{saw_drained, saw_next, saw_word, won, parks, began, ended};
 
 use crate::view::{Place, RingView};
-use atomic_table::{Play, TableRule};
+use atomic_table::{Join, Play, Split, TableRule};
 use jx_store::{Bounds, Work};
 use std::marker::PhantomData;
 
@@ -80,4 +80,22 @@ pub struct End<V, N> {
 
 impl<V: Work, N: Bounds<V::Job>> Play<Place<V>, RingView> for End<V, N> {
     ghost then = { ended N.setup };
+}
+
+/// A split of a seat: the new one has the first of the worker numbers that it stands for.
+pub struct Deal;
+
+impl Split<RingView> for Deal {
+    ghost left = { deals };
+
+    ghost right = { dealt };
+}
+
+/// A join of two seats.
+pub struct Pair;
+
+impl Join<RingView> for Pair {
+    ghost both = { joined };
+
+    ghost spent = { spent_view };
 }

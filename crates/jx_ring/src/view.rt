@@ -1,10 +1,10 @@
 //! What lies in a slot of the ring, and what a pass knows.
 
 use atomic_table::Seat;
-use jx_store::Entry;
+use jx_store::{Bounds, Entry, Work};
 use std::alloc::Global;
 use std::collections::LinkedList;
-use std::marker::PhantomData;
+use std::marker::{Model, PhantomData};
 
 /// What lies in a slot at home: nothing, a committed entry, or the tape.
 #[derive(Drop)]
@@ -44,9 +44,29 @@ pub struct RingView {
     pub drains: Option<LinkedList<Taken>>,
 }
 
-/// A worker's pass to a `RingStore`. `N` names the store's bounds.
-pub struct Pass<V, N> {
+/// A worker's pass to a `RingStore`: its number, and in contracts the table that it belongs to, the
+/// claims that it committed, the one that it holds, and the greatest drained and next numbers that it
+/// saw. `N` names the store's bounds.
+pub struct Pass<V: Work, N: Bounds<V::Job>> {
     pub(crate) seat: Seat<Place<V>, RingView>,
     pub(crate) worker: u32,
     pub(crate) of: PhantomData<N>,
+}
+
+impl<V: Work, N: Bounds<V::Job>> Model for Pass<V, N> {
+    ghost use Rattle.std.specs.Prelude.{◌≡◌, ◌≤◌, ◌∷◌, [], None, All};
+    ghost use Rattle.jx_ring.specs.Passes.{PassView, out};
+
+    ghost Value = { PassView };
+
+    ghost view = { λ q. record { table = q.seat.table_id; worker = q.worker; claims = q.seat.me.0.done; holds = q.seat.me.0.holds; drained = q.seat.me.0.drained; next = q.seat.me.0.next } };
+
+    ghost invariant = { λ q. record {
+      own : q.seat.me.0.worker ≡ q.worker;
+      stands : q.seat.me.0.stands ≡ q.worker ∷ [];
+      idle : q.seat.me.0.drains ≡ None;
+      out : q.seat.me.1 ≡ out N.setup.window q.seat.me.0.holds;
+      mine : All (λ t. t.worker ≡ q.worker) q.seat.me.0.done;
+      low : N.setup.first ≤ q.seat.me.0.drained;
+    } };
 }
