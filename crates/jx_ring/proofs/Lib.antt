@@ -7,3 +7,7 @@ pub mod Committing
 pub mod Draining
 pub mod Seats
 pub mod Carrying
+pub mod Dealing
+pub mod Joining
+pub mod Closes
+pub mod Gathers

@@ -25,6 +25,7 @@ use Rattle.jx_ring.specs.declared.view.Place.{Place}
 use Rattle.jx_ring.specs.declared.view.Place.TheVariants.{Empty, Full, Tape}
 use Rattle.jx_ring.specs.Claims.{taken, claims_of, stretch, put}
 use Rattle.jx_ring.specs.Rule.{Phase, free, odd, before, claim_in, Cell, AtHome, TapeOk, Knows, Placed, IsSpent, draining, Roster, Ring, counting_down, first_view, deals, dealt, joined, spent_view}
+use Rattle.jx_ring.specs.Passes.{Blank, Row}
 use Rattle.jx_ring.proofs.Counts.{sum_set, sum_same}
 use Rattle.jx_ring.proofs.Cells.{looked}
 use Rattle.jx_ring.proofs.Rolls.{claims_with}
@@ -44,7 +45,7 @@ no_item x c = (let lt = c.1 in omega (arith, lt))
 all_none : {X : Type 0} (P : X → Type 0) → All P []
 all_none P k d lt = absurd (omega (arith, lt))
 
-first_nil : {X : Type 0} (xs ys : List X) → xs ++ ys ≡ [] → xs ≡ []
+pub first_nil : {X : Type 0} (xs ys : List X) → xs ++ ys ≡ [] → xs ≡ []
 first_nil [] ys e = refl
 first_nil (x ∷ xs) ys e = absurd (let l = ap length e in omega (arith, l))
 
@@ -105,6 +106,9 @@ module _ {V : Type 0} (p : Setup) (workers : ℕ) (Ok : ℕ → Named V → Type
         own : (j : ℕ) (x : RingView) → get_elem? (first_view p workers ∷ []) j ≡ some x → (x.stands ≡ [] → IsSpent x) × ((x.stands ≡ []) ⊎ Contains x.stands x.worker)
         own zero x at = subst (λ (y : RingView). (y.stands ≡ [] → IsSpent y) × ((y.stands ≡ []) ⊎ Contains y.stands y.worker)) (some-injective (first_view p workers) x at) ((λ _. (refl, refl, refl)), inr (ends_at_zero workers some_worker))
         own (suc j) x at = absurd (some-ne-none x (sym at))
+
+  pub opens : (ws : List ℕ) (xs : List (Place V)) → Blank p.first p.window ws → Row p.window (length p.sizes) xs → 0 < p.window → 0 < workers → Ring p workers Ok (opening ws xs (first_view p workers))
+  opens ws xs b r pos some_worker = starts ws xs r.tape.0 b.wide b.next b.drain b.zeros r.wide r.empty r.tape.1 r.tape.2 r.tape.3 pos some_worker
 
   -- a new seat with the first of the worker numbers, where that isn't the seat's own
   pub splits : (id k : ℕ) (v : RingView) (more : List ℕ) → v.stands ≡ k ∷ more → Contains more v.worker → Splits (Ring p workers Ok) id v (deals v) (dealt v)

@@ -2,3 +2,4 @@ pub mod Claims
 pub mod Rule
 pub mod Told
 pub mod Passes
+pub mod Closing

@@ -7,6 +7,7 @@ mod make;
 mod ring;
 mod rule;
 mod steps;
+mod tape;
 mod view;
 
 pub use ring::RingStore;

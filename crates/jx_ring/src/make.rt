@@ -68,11 +68,13 @@ impl<V: Work, N: Bounds<V::Job>> RingStore<V, N> {
         ensures workers { map (λ p. p.worker) result.items ≡ numbers 0 workers }
         ensures fresh { All (λ p. (p.table ≡ self.now.table.shared.table_id) × (p.holds ≡ None) × (p.claims ≡ []) × (p.drained ≡ N.setup.first) × (p.next ≡ N.setup.first)) result.items }
     {
-        for worker in (1..workers).rev() {
+        let mut left = workers;
+        while left > 1 {
+            left -= 1;
             let other = self.deal(&mut seat);
             passes.push_reserved(Pass {
                 seat: other,
-                worker,
+                worker: left,
                 of: PhantomData,
             });
         }

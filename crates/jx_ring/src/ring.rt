@@ -9,6 +9,7 @@ use std::alloc::Global;
 use std::marker::{Model, PhantomData};
 
 // The bounds of a store, which are those that its name says.
+#[derive(Drop)]
 pub(crate) struct Limits<V: Work, N: Bounds<V::Job>> {
     sums: Sums,
     of: PhantomData<(V, N)>,
@@ -45,6 +46,7 @@ impl<V: Work, N: Bounds<V::Job>> Limits<V, N> {
 
 /// A store that workers share, without a lock: numbers from a first one on are claimed in turn, values
 /// are committed under them in any order, and a tape takes them in sequence. `N` names its bounds.
+#[derive(Drop)]
 pub struct RingStore<V: Work, N: Bounds<V::Job>> {
     pub(crate) table: Table<Place<V>, RingView, (), Turns<V, N>, Global>,
     pub(crate) limits: Limits<V, N>,

@@ -47,6 +47,7 @@ pub struct RingView {
 /// A worker's pass to a `RingStore`: its number, and in contracts the table that it belongs to, the
 /// claims that it committed, the one that it holds, and the greatest drained and next numbers that it
 /// saw. `N` names the store's bounds.
+#[derive(Drop)]
 pub struct Pass<V: Work, N: Bounds<V::Job>> {
     pub(crate) seat: Seat<Place<V>, RingView>,
     pub(crate) worker: u32,
