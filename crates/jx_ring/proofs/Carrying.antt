@@ -42,9 +42,9 @@ module _ {V : Type 0} where
   -- an entry goes behind the tape
   pub longer_tape : (p : Setup) (Ok : ℕ → Named V → Type 0) (xs : List (Taped (Named V))) (e : Taped (Named V)) (k : ℕ) → TapeOk p Ok xs → EntryOk p Ok k e → length xs + p.first ≡ k → k < end_of p → TapeOk p Ok (xs ++ e ∷ [])
   longer_tape p Ok xs e k ok entry long below = record {
-      each = λ i x at. go i x at;
-      room = (let l = length-append xs (e ∷ []) in omega (arith, l, long, below));
-    }
+    each = λ i x at. go i x at;
+    room = (let l = length-append xs (e ∷ []) in omega (arith, l, long, below));
+  }
     where
       go : (i : ℕ) (x : Taped (Named V)) → get_elem? (xs ++ e ∷ []) i ≡ some x → EntryOk p Ok (p.first + i) x
       go i x at = ⊎_elim (ok.each i x) (λ (t : (i ≡ length xs) × (e ≡ x)). subst (λ (y : Taped (Named V)). EntryOk p Ok (p.first + i) y) t.1 (let at_k : k ≡ p.first + i = (let j = t.0 in omega (arith, j, long)) in subst (λ (n : ℕ). EntryOk p Ok n e) at_k entry)) (snoc_at xs e x i at)

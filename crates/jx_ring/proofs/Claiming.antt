@@ -52,9 +52,9 @@ module _ {V : Type 0} (p : Setup) (workers : ℕ) (Ok : ℕ → Named V → Type
 
   still_light : (d n seen : ℕ) → p.first ≤ seen → seen ≤ d → d ≤ n → Within p seen n → (n + 1 ≤ d + 1) ⊎ (load p d (n + 1) ≤ p.most)
   still_light d n seen low le dn within = elim within.2 [
-      | inl e ↦ inl (omega (arith, e))
-      | inr fits ↦ inr (let s = load_shorter p seen d (n + 1) low le (omega arith) in omega (arith, s, fits))
-    ]
+    | inl e ↦ inl (omega (arith, e))
+    | inr fits ↦ inr (let s = load_shorter p seen d (n + 1) low le (omega arith) in omega (arith, s, fits))
+  ]
 
   pub claimed : (s : State (Place V) RingView) (r : Ring p workers Ok s) (id : ℕ) (me : Seated V) → get_elem? s.views id ≡ some me.0 → ¬ (me.0.stands ≡ []) → me.0.holds ≡ None
       → p.first ≤ me.0.drained → Within p me.0.drained r.next → r.next < end_of p
@@ -77,32 +77,34 @@ module _ {V : Type 0} (p : Setup) (workers : ℕ) (Ok : ℕ → Named V → Type
         holds = λ x e. (let same = same_Some t x e in subst (λ (y : Taken). (d ≤ y.number) × (y.number < n + 1) × (put ph n c' y.number ≡ held id y)) same (mid, omega arith, put_here ph n c'));
         drains = base.drains;
         finished = base.finished;
-      } in
-      (at_home, record {
-        drained = d;
-        next = n + 1;
-        phase = put ph n c';
-        tape = r.tape;
-        placed = moved p Ok d n (n + 1) n 0 (n + 1) id ph r.tape c' s.words s.homes (set s.homes (n % W) none) s.views w P mid dw (length-set s.homes (n % W) none)
-          (get_or-set_same s.words 0 (n + 1) 0 (omega (arith, wide)))
-          (get_or-set_other s.words 0 1 (n + 1) 0 (λ e. omega arith) ∙ P.drain_is ∙ ap (λ (x : ℕ). 2 * d + x) (sym odd'))
-          (omega arith) (omega (arith, below)) (omega (arith, dw)) (still_light d n v.drained low seen mid within)
-          (λ q ne le. let z : ¬ (q ≡ n) = ne in omega (arith, le, z)) (λ q _ e. omega (arith, e)) (λ j _ ne. set_else s.homes (n % W) j none ne)
-          (record {
-            shows = get_or-set_other s.words 0 (n % W + 2) (n + 1) 0 (λ e. omega arith) ∙ cell.shows ∙ ap (face p n) is_free;
-            lies = set_here s.homes (n % W) none (omega (arith, slots, in_w));
-            phase = (omega arith, (refl, within, refl));
-          })
-          (P.kept.0, set_else s.homes (n % W) W none (λ e. omega (arith, in_w, e)) ∙ P.kept.1, subst (λ (x : ℕ). AtHome p x r.tape P.kept.0) (sym odd') P.kept.2)
-          (omega (arith, up0)) (λ j _ e. omega (arith, e, hold0)) knows;
-        listed = λ F. (
-          let sum = sum_set (λ (x : RingView). sum_by F (claims_of x)) s.views id v w at in let was = r.listed F in
-          let cv = claims_with F v.done v.holds in let hv = ap (λ (h : Option Taken). sum_by F (option_to_list h)) no_hold in let cw = claims_with F v.done (Some t) in let tw = one F t in
-          let more = stretch_more (λ k. F (claim_in (put ph n c' k))) d n mid in let last = ap (λ (x : Phase V). F (claim_in x)) (put_here ph n c') in
-          let else_ = terms_else F ph n c' d (n - d) (inr (let z : d + (n - d) ≤ n = omega (arith, mid) in z)) in
-          omega (arith, sum, was, cv, hv, cw, tw, more, last, else_));
-        roster = roster_set workers (odd (ph d)) (odd (put ph n c' d)) s.views id v w r.roster at refl refl (λ e. absurd (live e)) (omega (arith, odd'));
-      })
+      } in (
+        at_home,
+        record {
+          drained = d;
+          next = n + 1;
+          phase = put ph n c';
+          tape = r.tape;
+          placed = moved p Ok d n (n + 1) n 0 (n + 1) id ph r.tape c' s.words s.homes (set s.homes (n % W) none) s.views w P mid dw (length-set s.homes (n % W) none)
+              (get_or-set_same s.words 0 (n + 1) 0 (omega (arith, wide)))
+              (get_or-set_other s.words 0 1 (n + 1) 0 (λ e. omega arith) ∙ P.drain_is ∙ ap (λ (x : ℕ). 2 * d + x) (sym odd'))
+              (omega arith) (omega (arith, below)) (omega (arith, dw)) (still_light d n v.drained low seen mid within)
+              (λ q ne le. let z : ¬ (q ≡ n) = ne in omega (arith, le, z)) (λ q _ e. omega (arith, e)) (λ j _ ne. set_else s.homes (n % W) j none ne)
+              (record {
+                shows = get_or-set_other s.words 0 (n % W + 2) (n + 1) 0 (λ e. omega arith) ∙ cell.shows ∙ ap (face p n) is_free;
+                lies = set_here s.homes (n % W) none (omega (arith, slots, in_w));
+                phase = (omega arith, (refl, within, refl));
+              })
+              (P.kept.0, set_else s.homes (n % W) W none (λ e. omega (arith, in_w, e)) ∙ P.kept.1, subst (λ (x : ℕ). AtHome p x r.tape P.kept.0) (sym odd') P.kept.2)
+              (omega (arith, up0)) (λ j _ e. omega (arith, e, hold0)) knows;
+          listed = λ F. (
+              let sum = sum_set (λ (x : RingView). sum_by F (claims_of x)) s.views id v w at in let was = r.listed F in
+              let cv = claims_with F v.done v.holds in let hv = ap (λ (h : Option Taken). sum_by F (option_to_list h)) no_hold in let cw = claims_with F v.done (Some t) in let tw = one F t in
+              let more = stretch_more (λ k. F (claim_in (put ph n c' k))) d n mid in let last = ap (λ (x : Phase V). F (claim_in x)) (put_here ph n c') in
+              let else_ = terms_else F ph n c' d (n - d) (inr (let z : d + (n - d) ≤ n = omega (arith, mid) in z)) in
+              omega (arith, sum, was, cv, hv, cw, tw, more, last, else_));
+          roster = roster_set workers (odd (ph d)) (odd (put ph n c' d)) s.views id v w r.roster at refl refl (λ e. absurd (live e)) (omega (arith, odd'));
+        },
+      )
 
   -- an attempt: the next number is the seat's, or nothing changes
   pub tries : (slots id n : ℕ) (me : Seated V) → ¬ (me.0.stands ≡ []) → me.0.holds ≡ None → p.first ≤ me.0.drained → Within p me.0.drained n → n < end_of p
@@ -110,8 +112,8 @@ module _ {V : Type 0} (p : Setup) (workers : ℕ) (Ok : ℕ → Named V → Type
   tries slots id n me live no_hold low within below s r wide at lt =
       let x : ℕ = get_or s.words 0 0 in
       exchanged x n (n + 1) (λ y. (w : RingView) × (a : Act (Place V)) × Valid s.homes me.1 a × Ring p workers Ok (stepped s 0 y id me.1 w a) × won p (step slots 0 n (n + 1) none) me x (w, carried_after me.1 a))
-        (λ hit. let is : r.next ≡ n = sym r.placed.next_is ∙ hit in
-          let got = subst (λ (k : ℕ). Valid s.homes me.1 (takes (k % p.window) Empty) × Ring p workers Ok (stepped s 0 (k + 1) id me.1 (claims_it me.0 k) (takes (k % p.window) Empty))) is
-            (claimed s r id me at live no_hold low (subst (Within p me.0.drained) (sym is) within) (subst (λ (k : ℕ). k < end_of p) (sym is) below)) in
-          (claims_it me.0 n, takes (n % p.window) Empty, got.0, got.1, ((λ _. refl), (λ ne. absurd (ne hit)))))
-        (λ miss. (me.0, keeps, tt, stays p workers Ok s r 0 id me.1 me.0 at, ((λ e. absurd (miss e)), (λ _. refl))))
+      (λ hit. let is : r.next ≡ n = sym r.placed.next_is ∙ hit in
+      let got = subst (λ (k : ℕ). Valid s.homes me.1 (takes (k % p.window) Empty) × Ring p workers Ok (stepped s 0 (k + 1) id me.1 (claims_it me.0 k) (takes (k % p.window) Empty))) is
+      (claimed s r id me at live no_hold low (subst (Within p me.0.drained) (sym is) within) (subst (λ (k : ℕ). k < end_of p) (sym is) below)) in
+      (claims_it me.0 n, takes (n % p.window) Empty, got.0, got.1, ((λ _. refl), (λ ne. absurd (ne hit)))))
+      (λ miss. (me.0, keeps, tt, stays p workers Ok s r 0 id me.1 me.0 at, ((λ e. absurd (miss e)), (λ _. refl))))

@@ -54,10 +54,13 @@ module _ {V : Type 0} (p : Setup) (workers : ℕ) (Ok : ℕ → Named V → Type
         next = known.next;
         committed = λ q x. elim (known.committed q x) [
           | inl lt ↦ inl lt
-          | inr y ↦ inr (y.0, elim (cases_eq q k) [
-            | inl qk ↦ ap (λ (z : ℕ). up (put ph k c' z)) qk ∙ ap up (put_here ph k c')
-            | inr ne ↦ ap up (put_else ph k c' q ne) ∙ y.1
-          ])
+          | inr y ↦ inr (
+            y.0,
+            elim (cases_eq q k) [
+              | inl qk ↦ ap (λ (z : ℕ). up (put ph k c' z)) qk ∙ ap up (put_here ph k c')
+              | inr ne ↦ ap up (put_else ph k c' q ne) ∙ y.1
+            ],
+          )
         ];
         holds = λ x no. absurd (none-some x no);
         drains = λ l x. (let h = known.drains l x in (h.0, (h.1.0, put_else ph k c' d (λ dk'. let a = ap odd (sym (ap ph dk') ∙ h.1.1) in omega (arith, a, odd0)) ∙ h.1.1, h.1.2)));
@@ -69,23 +72,23 @@ module _ {V : Type 0} (p : Setup) (workers : ℕ) (Ok : ℕ → Named V → Type
         phase = put ph k c';
         tape = r.tape;
         placed = moved p Ok d n n k (k % W + 2) (k + 1) id ph r.tape c' s.words s.homes (set s.homes (k % W) (some (Full e))) s.views w P dk kw (length-set s.homes (k % W) (some (Full e)))
-          (get_or-set_other s.words (k % W + 2) 0 (k + 1) 0 (λ x. omega arith) ∙ P.next_is)
-          (get_or-set_other s.words (k % W + 2) 1 (k + 1) 0 (λ x. omega arith) ∙ P.drain_is ∙ ap (λ (x : ℕ). 2 * d + x) (sym odd'))
-          (omega arith) P.high near P.light (λ q _ le. le) (λ q far x. far (omega (arith, x))) (λ j _ ne. set_else s.homes (k % W) j (some (Full e)) ne)
-          (record {
-            shows = get_or-set_same s.words (k % W + 2) (k + 1) 0 (omega (arith, wide, in_w));
-            lies = set_here s.homes (k % W) (some (Full e)) (omega (arith, slots, in_w));
-            phase = (kn, record { number = same.0; within = subst (λ (x : ℕ). Within p x k) (sym same.2) claim.1; valid = valid });
-          })
-          (P.kept.0, set_else s.homes (k % W) W (some (Full e)) (λ x. omega (arith, in_w, x)) ∙ P.kept.1, subst (λ (x : ℕ). AtHome p x r.tape P.kept.0) (sym odd') P.kept.2)
-          (omega (arith, up0)) (λ j ne x. ne (omega (arith, x, held1))) knows;
+            (get_or-set_other s.words (k % W + 2) 0 (k + 1) 0 (λ x. omega arith) ∙ P.next_is)
+            (get_or-set_other s.words (k % W + 2) 1 (k + 1) 0 (λ x. omega arith) ∙ P.drain_is ∙ ap (λ (x : ℕ). 2 * d + x) (sym odd'))
+            (omega arith) P.high near P.light (λ q _ le. le) (λ q far x. far (omega (arith, x))) (λ j _ ne. set_else s.homes (k % W) j (some (Full e)) ne)
+            (record {
+              shows = get_or-set_same s.words (k % W + 2) (k + 1) 0 (omega (arith, wide, in_w));
+              lies = set_here s.homes (k % W) (some (Full e)) (omega (arith, slots, in_w));
+              phase = (kn, record { number = same.0; within = subst (λ (x : ℕ). Within p x k) (sym same.2) claim.1; valid = valid });
+            })
+            (P.kept.0, set_else s.homes (k % W) W (some (Full e)) (λ x. omega (arith, in_w, x)) ∙ P.kept.1, subst (λ (x : ℕ). AtHome p x r.tape P.kept.0) (sym odd') P.kept.2)
+            (omega (arith, up0)) (λ j ne x. ne (omega (arith, x, held1))) knows;
         listed = λ F. (
-          let sum = sum_set (λ (x : RingView). sum_by F (claims_of x)) s.views id v w at in let was = r.listed F in
-          let cv = claims_with F v.done v.holds in let hv = ap (λ (h : Option Taken). sum_by F (option_to_list h)) holds in let tv = one F t in
-          let cw = claims_with F (v.done ++ taken e ∷ []) None in let dw = sum_by-append F v.done (taken e ∷ []) in let tw = one F (taken e) in
-          let terms = terms_put F ph k c' d (n - d) dk (omega (arith, kn, mid)) in let old = ap (λ (x : Phase V). F (claim_in x)) is in
-          let nothing : sum_by F [] ≡ 0 = refl in
-          omega (arith, sum, was, cv, hv, tv, cw, dw, tw, terms, old, nothing));
+            let sum = sum_set (λ (x : RingView). sum_by F (claims_of x)) s.views id v w at in let was = r.listed F in
+            let cv = claims_with F v.done v.holds in let hv = ap (λ (h : Option Taken). sum_by F (option_to_list h)) holds in let tv = one F t in
+            let cw = claims_with F (v.done ++ taken e ∷ []) None in let dw = sum_by-append F v.done (taken e ∷ []) in let tw = one F (taken e) in
+            let terms = terms_put F ph k c' d (n - d) dk (omega (arith, kn, mid)) in let old = ap (λ (x : Phase V). F (claim_in x)) is in
+            let nothing : sum_by F [] ≡ 0 = refl in
+            omega (arith, sum, was, cv, hv, tv, cw, dw, tw, terms, old, nothing));
         roster = roster_set workers (odd (ph d)) (odd (put ph k c' d)) s.views id v w r.roster at refl refl (λ x. absurd (live x)) (omega (arith, odd'));
       }
 
@@ -98,8 +101,11 @@ module _ {V : Type 0} (p : Setup) (workers : ℕ) (Ok : ℕ → Named V → Type
       let list : claim_out me.1 ≡ taken e ∷ [] = ap claim_out out in
       let word : k % p.window + 2 ≡ t.number % p.window + 2 = ap (λ (z : ℕ). z % p.window + 2) number in
       let value : k + 1 ≡ t.number + 1 = ap (λ (z : ℕ). z + 1) number in
-      let kept = committed s r id me.0 t e at live holds same valid in
-      (w, gives, tt,
+      let kept = committed s r id me.0 t e at live holds same valid in (
+        w,
+        gives,
+        tt,
         subst (λ (y : ℕ × ℕ × List Taken × List (ℕ × Place V)). Ring p workers Ok (stepped s y.0 y.1 id y.3 (commits_it me.0 y.2) gives))
-          (λ z. (sym (place ∙ word) z, sym (what ∙ value) z, sym list z, sym out z)) kept,
-        refl)
+            (λ z. (sym (place ∙ word) z, sym (what ∙ value) z, sym list z, sym out z)) kept,
+        refl,
+      )

@@ -60,9 +60,9 @@ stretch_same g h a (suc n) same = (let below = stretch_same g h a n (λ k le lt.
 pub stretch_put : (g h : ℕ → ℕ) (a n k : ℕ) → a ≤ k → k < a + n → ((q : ℕ) → a ≤ q → q < a + n → q ≢ k → g q ≡ h q) → stretch g a n + h k ≡ stretch h a n + g k
 stretch_put g h a zero k le lt same = absurd (omega arith)
 stretch_put g h a (suc n) k le lt same = elim (cases_eq k (a + n)) [
-    | inl e ↦ (let below = stretch_same g h a n (λ q l u. same q l (omega arith) (λ is. omega arith)) in let gk = ap g e in let hk = ap h e in omega (arith, below, gk, hk))
-    | inr ne ↦ (let below = stretch_put g h a n k le (omega arith) (λ q l u. same q l (omega arith)) in let last = same (a + n) (omega arith) (omega arith) (λ is. ne (sym is)) in omega (arith, below, last))
-  ]
+  | inl e ↦ (let below = stretch_same g h a n (λ q l u. same q l (omega arith) (λ is. omega arith)) in let gk = ap g e in let hk = ap h e in omega (arith, below, gk, hk))
+  | inr ne ↦ (let below = stretch_put g h a n k le (omega arith) (λ q l u. same q l (omega arith)) in let last = same (a + n) (omega arith) (omega arith) (λ is. ne (sym is)) in omega (arith, below, last))
+]
 
 pub stretch_first : (g : ℕ → ℕ) (a n : ℕ) → stretch g a (suc n) ≡ g a + stretch g (suc a) n
 stretch_first g a zero = (let e = ap g (let z : a + 0 ≡ a = omega arith in z) in omega (arith, e))

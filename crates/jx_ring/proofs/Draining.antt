@@ -71,29 +71,38 @@ module _ {V : Type 0} (p : Setup) (workers : ℕ) (Ok : ℕ → Named V → Type
         holds = base.holds;
         drains = λ m q. (at_d, (e, here, sym (same_Some l m q) ∙ ap (λ (items : List (Taped (Named V))). map taken items ++ taken e ∷ []) home_is.2));
         finished = base.finished;
-      } in
-      (t, e, (head_home, set_else s.homes (d % W) W none (λ q. far (sym q)) ∙ tape_home), record {
-        drained = d;
-        next = n;
-        phase = put ph d c';
-        tape = r.tape;
-        placed = moved p Ok d n n d 1 (2 * d + 1) id ph r.tape c' s.words s.homes hs' s.views w P (omega arith) (omega (arith, pos)) (length-set hs W none ∙ length-set s.homes (d % W) none)
-          (get_or-set_other s.words 1 0 (2 * d + 1) 0 (λ q. omega arith) ∙ P.next_is)
-          (get_or-set_same s.words 1 (2 * d + 1) 0 (omega (arith, wide)) ∙ ap (λ (z : ℕ). 2 * d + z) (sym odd1))
-          (omega arith) high P.near P.light (λ q _ le. le) (λ q _ z. omega (arith, z)) (λ j lt ne. set_else hs W j none (λ q. omega (arith, lt, q)) ∙ set_else s.homes (d % W) j none ne)
-          (record {
-            shows = get_or-set_other s.words 1 (d % W + 2) (2 * d + 1) 0 (λ q. omega arith) ∙ cell.shows ∙ ap (face p d) is;
-            lies = set_else hs W (d % W) none far ∙ set_here s.homes (d % W) none (omega (arith, slots, in_w));
-            phase = (dn, entry, refl);
-          })
-          (none, set_here hs W none (let z = length-set s.homes (d % W) none in omega (arith, slots, z)), subst (λ (z : ℕ). AtHome p z r.tape none) (sym odd1) refl)
-          (omega (arith, up1)) (λ j _ q. omega (arith, q, hold0)) knows;
-        listed = λ F. (
-          let sum = sum_same (λ (y : RingView). sum_by F (claims_of y)) s.views id v w at refl in let was = r.listed F in
-          let terms = terms_put F ph d c' d (n - d) (omega arith) (omega (arith, dn)) in let old = ap (λ (y : Phase V). F (claim_in y)) is in
-          omega (arith, sum, was, terms, old));
-        roster = roster_set workers (odd (ph d)) (odd (put ph d c' d)) s.views id v w r.roster at refl refl (λ q. absurd (live q)) (let z = ap draining idle in omega (arith, odd0, odd1, z));
-      }, subst (TapeOk p Ok) (sym home_is.2) P.taped, entry, (let z = P.long in let y = ap length home_is.2 in omega (arith, z, y)), omega (arith, dn, high), home_is.3)
+      } in (
+        t,
+        e,
+        (head_home, set_else s.homes (d % W) W none (λ q. far (sym q)) ∙ tape_home),
+        record {
+          drained = d;
+          next = n;
+          phase = put ph d c';
+          tape = r.tape;
+          placed = moved p Ok d n n d 1 (2 * d + 1) id ph r.tape c' s.words s.homes hs' s.views w P (omega arith) (omega (arith, pos)) (length-set hs W none ∙ length-set s.homes (d % W) none)
+              (get_or-set_other s.words 1 0 (2 * d + 1) 0 (λ q. omega arith) ∙ P.next_is)
+              (get_or-set_same s.words 1 (2 * d + 1) 0 (omega (arith, wide)) ∙ ap (λ (z : ℕ). 2 * d + z) (sym odd1))
+              (omega arith) high P.near P.light (λ q _ le. le) (λ q _ z. omega (arith, z)) (λ j lt ne. set_else hs W j none (λ q. omega (arith, lt, q)) ∙ set_else s.homes (d % W) j none ne)
+              (record {
+                shows = get_or-set_other s.words 1 (d % W + 2) (2 * d + 1) 0 (λ q. omega arith) ∙ cell.shows ∙ ap (face p d) is;
+                lies = set_else hs W (d % W) none far ∙ set_here s.homes (d % W) none (omega (arith, slots, in_w));
+                phase = (dn, entry, refl);
+              })
+              (none, set_here hs W none (let z = length-set s.homes (d % W) none in omega (arith, slots, z)), subst (λ (z : ℕ). AtHome p z r.tape none) (sym odd1) refl)
+              (omega (arith, up1)) (λ j _ q. omega (arith, q, hold0)) knows;
+          listed = λ F. (
+              let sum = sum_same (λ (y : RingView). sum_by F (claims_of y)) s.views id v w at refl in let was = r.listed F in
+              let terms = terms_put F ph d c' d (n - d) (omega arith) (omega (arith, dn)) in let old = ap (λ (y : Phase V). F (claim_in y)) is in
+              omega (arith, sum, was, terms, old));
+          roster = roster_set workers (odd (ph d)) (odd (put ph d c' d)) s.views id v w r.roster at refl refl (λ q. absurd (live q)) (let z = ap draining idle in omega (arith, odd0, odd1, z));
+        },
+        subst (TapeOk p Ok) (sym home_is.2) P.taped,
+        entry,
+        (let z = P.long in let y = ap length home_is.2 in omega (arith, z, y)),
+        omega (arith, dn, high),
+        home_is.3,
+      )
 
   -- an attempt to begin
   pub tries_drain : (slots id : ℕ) (me : Seated V) → ¬ (me.0.stands ≡ []) → me.0.drains ≡ None → me.0.committed ≡ Some me.0.drained
@@ -101,13 +110,17 @@ module _ {V : Type 0} (p : Setup) (workers : ℕ) (Ok : ℕ → Named V → Type
   tries_drain slots id me live idle sure s r wide at lt =
       let x : ℕ = get_or s.words 1 0 in let k : ℕ = me.0.drained in
       exchanged x (2 * k) (2 * k + 1) (λ y. (w : RingView) × (a : Act (Place V)) × Valid s.homes me.1 a × Ring p workers Ok (stepped s 1 y id me.1 w a) × began p Ok (step slots 1 (2 * k) (2 * k + 1) none) me x (w, carried_after me.1 a))
-        (λ hit. let is = r.placed.drain_is in let bit = odd_bit (r.phase r.drained) in
-          let dk : r.drained ≡ k = omega (arith, is, bit, hit) in let odd0 : odd (r.phase r.drained) ≡ 0 = omega (arith, is, bit, hit) in
-          let seen : (k < r.next) × (up (r.phase k) ≡ 1) = elim ((r.placed.seats id me.0 at).committed k sure) [ inl less ↦ absurd (omega (arith, less, dk)) | inr y ↦ y ] in
-          let b = subst (Begun s id me) dk (begun s r id me at live idle (sym dk) (omega (arith, dk, seen.0)) (ap (λ (z : ℕ). up (r.phase z)) dk ∙ seen.1) odd0) in
-          (begins me.0 (map taken b.0.items ++ taken b.1 ∷ []), chain (takes (k % p.window) (Full b.1)) (takes p.window (Tape b.0)), b.2, b.3,
-            ((λ _. (b.0, b.1, refl, b.4, b.5, b.6, b.7, b.8)), (λ ne. absurd (ne hit)))))
-        (λ miss. (me.0, keeps, tt, stays p workers Ok s r 1 id me.1 me.0 at, ((λ e. absurd (miss e)), (λ _. refl))))
+      (λ hit. let is = r.placed.drain_is in let bit = odd_bit (r.phase r.drained) in
+      let dk : r.drained ≡ k = omega (arith, is, bit, hit) in let odd0 : odd (r.phase r.drained) ≡ 0 = omega (arith, is, bit, hit) in
+      let seen : (k < r.next) × (up (r.phase k) ≡ 1) = elim ((r.placed.seats id me.0 at).committed k sure) [ inl less ↦ absurd (omega (arith, less, dk)) | inr y ↦ y ] in
+      let b = subst (Begun s id me) dk (begun s r id me at live idle (sym dk) (omega (arith, dk, seen.0)) (ap (λ (z : ℕ). up (r.phase z)) dk ∙ seen.1) odd0) in (
+        begins me.0 (map taken b.0.items ++ taken b.1 ∷ []),
+        chain (takes (k % p.window) (Full b.1)) (takes p.window (Tape b.0)),
+        b.2,
+        b.3,
+        ((λ _. (b.0, b.1, refl, b.4, b.5, b.6, b.7, b.8)), (λ ne. absurd (ne hit))),
+      ))
+      (λ miss. (me.0, keeps, tt, stays p workers Ok s r 1 id me.1 me.0 at, ((λ e. absurd (miss e)), (λ _. refl))))
 
   calm : (d n k : ℕ) (c : Phase V) → k ≢ d → InPhase p Ok d n k c → odd c ≡ 0
   calm d n k free ne i = refl
@@ -130,8 +143,12 @@ module _ {V : Type 0} (p : Setup) (workers : ℕ) (Ok : ℕ → Named V → Type
         drained = (let z = i.drained in omega arith);
         next = i.next;
         committed = λ q e. elim (i.committed q e) [ inl lt ↦ inl (omega (arith, lt)) | inr y ↦ inr (y.0, ap up (same q y.0) ∙ y.1) ];
-        holds = λ t e. (let h = i.holds t e in ((let z = h.0 in
-          let ne : ¬ (t.number ≡ d) = λ q. (let a = ap odd (sym is ∙ ap ph (sym q) ∙ h.2) in omega (arith, a)) in omega (arith, z, ne)), h.1, same t.number h.1 ∙ h.2));
+        holds = λ t e. (let h = i.holds t e in (
+          (let z = h.0 in
+              let ne : ¬ (t.number ≡ d) = λ q. (let a = ap odd (sym is ∙ ap ph (sym q) ∙ h.2) in omega (arith, a)) in omega (arith, z, ne)),
+          h.1,
+          same t.number h.1 ∙ h.2,
+        ));
         drains = λ l e. (let h = i.drains l e in absurd (other (let a = ap holder (sym h.1.1 ∙ is) in omega (arith, a))));
         finished = i.finished;
       }
@@ -186,35 +203,39 @@ module _ {V : Type 0} (p : Setup) (workers : ℕ) (Ok : ℕ → Named V → Type
           cells = λ q dq qw. elim (cases_eq q (d + W)) [
             | inl z ↦ subst (λ (y : ℕ). Cell p Ok (d + 1) n (set s.words 1 (2 * d + 2)) hs' y (ph' y)) (sym z) (subst (Cell p Ok (d + 1) n (set s.words 1 (2 * d + 2)) hs' (d + W)) (sym last) new_cell)
             | inr ne ↦ (let c = P.cells q (omega (arith, dq)) (omega (arith, qw, ne)) in let qd : ¬ (q ≡ d) = (λ z. omega (arith, z, dq)) in let in_q = mod_below q W pos in
-              let apart_q = apart d W q d pos (omega (arith, dq)) (omega arith) (omega (arith, qw, ne)) (omega (arith, pos)) qd in
-              subst (Cell p Ok (d + 1) n (set s.words 1 (2 * d + 2)) hs' q) (sym (same q ne)) (record {
-                shows = old_word q ∙ c.shows;
-                lies = set_else hs (d % W) (q % W) (some Empty) apart_q ∙ set_else s.homes W (q % W) (some (Tape t)) (λ z. omega (arith, z, in_q)) ∙ c.lies;
-                phase = phase_on d n q (ph q) qd c.phase;
-              }))
+                let apart_q = apart d W q d pos (omega (arith, dq)) (omega arith) (omega (arith, qw, ne)) (omega (arith, pos)) qd in
+                subst (Cell p Ok (d + 1) n (set s.words 1 (2 * d + 2)) hs' q) (sym (same q ne)) (record {
+                  shows = old_word q ∙ c.shows;
+                  lies = set_else hs (d % W) (q % W) (some Empty) apart_q ∙ set_else s.homes W (q % W) (some (Tape t)) (λ z. omega (arith, z, in_q)) ∙ c.lies;
+                  phase = phase_on d n q (ph q) qd c.phase;
+                }))
           ];
           long = long';
           taped = ok;
           kept = (some (Tape t), set_else hs (d % W) W (some Empty) (λ q. far (sym q)) ∙ set_here s.homes W (some (Tape t)) (omega (arith, slots)), subst (λ (z : ℕ). AtHome p z t.items (some (Tape t))) (sym odd0) (t, refl, refl, room));
           seats = λ j x q. ⊎_elim
-            (λ (y : (j ≡ id) × (w ≡ x)). subst (λ (u : ℕ × RingView). Knows (d + 1) n ph' t.items u.0 u.1) (λ z. (sym y.0 z, y.1 z)) (record {
-              drained = omega (arith, at_d);
-              next = known.next;
-              committed = λ k z. elim (known.committed k z) [ inl lt ↦ inl (omega (arith, lt)) | inr u ↦ inr (u.0, ap up (same k (λ o. let a = u.0 in omega (arith, o, near, a))) ∙ u.1) ];
-              holds = λ u z. (let h = known.holds u z in ((let y0 = h.0 in
-                let ne : ¬ (u.number ≡ d) = λ o. (let a = ap odd (sym is ∙ ap ph (sym o) ∙ h.2) in omega (arith, a)) in omega (arith, y0, ne)), h.1, same u.number (λ o. let a = h.1 in omega (arith, o, near, a)) ∙ h.2));
-              drains = λ m z. absurd (none-some m z);
-              finished = known.finished;
-            }))
-            (λ (y : (j ≢ id) × (get_elem? s.views j ≡ some x)). knows_on d n j id ph r.tape t.items e x pos near is y.0 (P.seats j x y.1))
-            (at_set s.views id j w x q);
+              (λ (y : (j ≡ id) × (w ≡ x)). subst (λ (u : ℕ × RingView). Knows (d + 1) n ph' t.items u.0 u.1) (λ z. (sym y.0 z, y.1 z)) (record {
+                drained = omega (arith, at_d);
+                next = known.next;
+                committed = λ k z. elim (known.committed k z) [ inl lt ↦ inl (omega (arith, lt)) | inr u ↦ inr (u.0, ap up (same k (λ o. let a = u.0 in omega (arith, o, near, a))) ∙ u.1) ];
+                holds = λ u z. (let h = known.holds u z in (
+                  (let y0 = h.0 in
+                      let ne : ¬ (u.number ≡ d) = λ o. (let a = ap odd (sym is ∙ ap ph (sym o) ∙ h.2) in omega (arith, a)) in omega (arith, y0, ne)),
+                  h.1,
+                  same u.number (λ o. let a = h.1 in omega (arith, o, near, a)) ∙ h.2,
+                ));
+                drains = λ m z. absurd (none-some m z);
+                finished = known.finished;
+              }))
+              (λ (y : (j ≢ id) × (get_elem? s.views j ≡ some x)). knows_on d n j id ph r.tape t.items e x pos near is y.0 (P.seats j x y.1))
+              (at_set s.views id j w x q);
         };
         listed = λ F. (
-          let sum = sum_same (λ (y : RingView). sum_by F (claims_of y)) s.views id v w at refl in let was = r.listed F in
-          let grown = ap (sum_by F) (list ∙ l_is) in let push = sum_by_push F (map taken r.tape) (taken e) in
-          let less = stretch_less (λ k. F (claim_in (ph k))) d n dn in let head = ap (λ (y : Phase V). F (claim_in y)) is in
-          let else_ = terms_else F ph (d + W) free (d + 1) (n - (d + 1)) (inr (let z : d + 1 + (n - (d + 1)) ≤ d + W = omega (arith, dn, near) in z)) in
-          omega (arith, sum, was, grown, push, less, head, else_));
+            let sum = sum_same (λ (y : RingView). sum_by F (claims_of y)) s.views id v w at refl in let was = r.listed F in
+            let grown = ap (sum_by F) (list ∙ l_is) in let push = sum_by_push F (map taken r.tape) (taken e) in
+            let less = stretch_less (λ k. F (claim_in (ph k))) d n dn in let head = ap (λ (y : Phase V). F (claim_in y)) is in
+            let else_ = terms_else F ph (d + W) free (d + 1) (n - (d + 1)) (inr (let z : d + 1 + (n - (d + 1)) ≤ d + W = omega (arith, dn, near) in z)) in
+            omega (arith, sum, was, grown, push, less, head, else_));
         roster = roster_set workers (odd (ph d)) (odd (ph' (d + 1))) s.views id v w r.roster at refl refl (λ q. absurd (live q)) (let z = ap draining drains in let y = ap odd is in omega (arith, odd0, y, z));
       })
 
@@ -222,8 +243,11 @@ module _ {V : Type 0} (p : Setup) (workers : ℕ) (Ok : ℕ → Named V → Type
   pub ends_drain : (slots id x : ℕ) (me : Seated V) (t : Vec (Taped (Named V))) (more : List (ℕ × Place V)) → x ≡ 2 * me.0.drained + 2 → ¬ (me.0.stands ≡ []) → me.0.drains ≡ Some (map taken t.items)
       → TapeOk p Ok t.items → length p.sizes ≤ vec_capacity t → me.1 ≡ (p.window, Tape t) ∷ (me.0.drained % p.window, Empty) ∷ more
       → Allows (Ring p workers Ok) slots id me 1 (λ _. x) (λ _ m. ended p (step slots 1 x 0 none) me x m)
-  ends_drain slots id x me t more what live drains ok room out s r wide at lt =
-      (ends me.0, chain gives gives, (tt, tt),
-        subst (λ (y : ℕ × List (ℕ × Place V)). Ring p workers Ok (stepped s 1 y.0 id y.1 (ends me.0) (chain gives gives))) (λ z. (sym what z, sym out z))
-          (ended_at s r id me.0 t (map taken t.items) at live drains refl ok room),
-        refl)
+  ends_drain slots id x me t more what live drains ok room out s r wide at lt = (
+    ends me.0,
+    chain gives gives,
+    (tt, tt),
+    subst (λ (y : ℕ × List (ℕ × Place V)). Ring p workers Ok (stepped s 1 y.0 id y.1 (ends me.0) (chain gives gives))) (λ z. (sym what z, sym out z))
+        (ended_at s r id me.0 t (map taken t.items) at live drains refl ok room),
+    refl,
+  )

@@ -56,9 +56,9 @@ module _ {V : Type 0} (n : ℕ) (entry : ℕ → Taped (Named V)) (d : ℕ) wher
   pub found_stop : (i : ℕ) → d ≤ n → n ≤ d + i → found n entry d i ≡ found n entry d (n - d)
   found_stop zero low le = (let e : 0 ≡ n - d = omega (arith, low, le) in ap (found n entry d) e)
   found_stop (suc i) low le = elim (cases_lt (d + i) n) [
-      | inl lt ↦ (let e : suc i ≡ n - d = omega (arith, lt, le) in ap (found n entry d) e)
-      | inr more ↦ found_no_more i more ∙ found_stop i low more
-    ]
+    | inl lt ↦ (let e : suc i ≡ n - d = omega (arith, lt, le) in ap (found n entry d) e)
+    | inr more ↦ found_no_more i more ∙ found_stop i low more
+  ]
 
 module _ {V : Type 0} (p : Setup) (Ok : ℕ → Named V → Type 0) where
   gather : (claims : List Taken) (seen d : ℕ) (slots : List (Place V)) (x : Shut p Ok claims seen d slots) (m : ℕ) → d + m ≤ x.next
@@ -71,10 +71,11 @@ module _ {V : Type 0} (p : Setup) (Ok : ℕ → Named V → Type 0) where
       let lt : d + m < x.next = omega (arith, le) in let k : ℕ = d + m in let high = x.high in
       let below = gather claims seen d slots x m (omega (arith, le)) in let xs : List (Taped (Named V)) = x.tape.items ++ found x.next x.entry d m in
       let more : x.tape.items ++ found x.next x.entry d (suc m) ≡ xs ++ x.entry k ∷ [] = ap (λ (l : List (Taped (Named V))). x.tape.items ++ l) (found_more x.next x.entry d m lt) ∙ sym (append_assoc x.tape.items (found x.next x.entry d m) (x.entry k ∷ [])) in
-      let ok = (x.parked k (omega arith) lt).1 in
-      (subst (TapeOk p Ok) (sym more) (longer_tape p Ok xs (x.entry k) k below.0 ok below.1 (omega (arith, lt, high))),
+      let ok = (x.parked k (omega arith) lt).1 in (
+        subst (TapeOk p Ok) (sym more) (longer_tape p Ok xs (x.entry k) k below.0 ok below.1 (omega (arith, lt, high))),
         (let l = ap length more in let a = length-append xs (x.entry k ∷ []) in let b = below.1 in omega (arith, l, a, b)),
-        (λ F. let s = ap (λ (items : List (Taped (Named V))). sum_by F (map taken items)) more in let a = ap (sum_by F) (map-append taken xs (x.entry k ∷ [])) in let b = sum_by_push F (map taken xs) (taken (x.entry k)) in let c = below.2 F in omega (arith, s, a, b, c)))
+        (λ F. let s = ap (λ (items : List (Taped (Named V))). sum_by F (map taken items)) more in let a = ap (sum_by F) (map-append taken xs (x.entry k ∷ [])) in let b = sum_by_push F (map taken xs) (taken (x.entry k)) in let c = below.2 F in omega (arith, s, a, b, c)),
+      )
 
   -- all slots are read
   pub whole : (claims : List Taken) (seen d : ℕ) (slots : List (Place V)) (x : Shut p Ok claims seen d slots) (items : List (Taped (Named V))) → items ≡ x.tape.items ++ found x.next x.entry d p.window → IsWhole p Ok claims seen items
@@ -92,15 +93,15 @@ module _ {V : Type 0} (p : Setup) (Ok : ℕ → Named V → Type 0) where
   -- what lies in the slot of the next number
   pub full_here : (claims : List Taken) (seen d : ℕ) (slots : List (Place V)) (x : Shut p Ok claims seen d slots) (k : ℕ) (e : Taped (Named V)) → d ≤ k → k < d + p.window → get_elem? slots (k % p.window) ≡ some (Full e) → (k < x.next) × (e ≡ x.entry k)
   full_here claims seen d slots x k e low high at = elim (cases_lt k x.next) [
-      | inl lt ↦ (lt, entry_is e (x.entry k) (some-injective (Full e) (Full (x.entry k)) (sym at ∙ (x.parked k low lt).0)))
-      | inr le ↦ absurd (not_empty e (some-injective (Full e) Empty (sym at ∙ x.empty k le high)))
-    ]
+    | inl lt ↦ (lt, entry_is e (x.entry k) (some-injective (Full e) (Full (x.entry k)) (sym at ∙ (x.parked k low lt).0)))
+    | inr le ↦ absurd (not_empty e (some-injective (Full e) Empty (sym at ∙ x.empty k le high)))
+  ]
 
   pub empty_here : (claims : List Taken) (seen d : ℕ) (slots : List (Place V)) (x : Shut p Ok claims seen d slots) (k : ℕ) → d ≤ k → get_elem? slots (k % p.window) ≡ some Empty → x.next ≤ k
   empty_here claims seen d slots x k low at = elim (cases_lt k x.next) [
-      | inl lt ↦ absurd (not_empty (x.entry k) (some-injective (Full (x.entry k)) Empty (sym (x.parked k low lt).0 ∙ at)))
-      | inr le ↦ le
-    ]
+    | inl lt ↦ absurd (not_empty (x.entry k) (some-injective (Full (x.entry k)) Empty (sym (x.parked k low lt).0 ∙ at)))
+    | inr le ↦ le
+  ]
 
   pub step_full : (claims : List Taken) (seen d : ℕ) (slots : List (Place V)) (x : Shut p Ok claims seen d slots) (i : ℕ) (e : Taped (Named V)) (items items' : List (Taped (Named V))) → i < p.window
       → get_elem? slots ((d + i) % p.window) ≡ some (Full e) → items ≡ x.tape.items ++ found x.next x.entry d i → items' ≡ items ++ e ∷ [] → items' ≡ x.tape.items ++ found x.next x.entry d (i + 1)

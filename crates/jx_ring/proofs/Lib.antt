@@ -11,3 +11,4 @@ pub mod Dealing
 pub mod Joining
 pub mod Closes
 pub mod Gathers
+pub mod Ends

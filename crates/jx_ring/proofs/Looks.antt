@@ -43,15 +43,15 @@ module _ {V : Type 0} (p : Setup) (workers : ℕ) (Ok : ℕ → Named V → Type
   pub unmoved : (s : State (Place V) RingView) (r : Ring p workers Ok s) (i me : ℕ) (cs : List (ℕ × Place V)) (v w : RingView) → get_elem? s.views me ≡ some v → Alike v w
       → Knows r.drained r.next r.phase r.tape me w → Ring p workers Ok (stepped s i (get_or s.words i 0) me cs w keeps)
   unmoved s r i me cs v w at same mine = subst (λ (ws : List ℕ). Ring p workers Ok record { words = ws; homes = s.homes; views = set s.views me w }) (sym (set-get_or s.words i 0)) record {
-      drained = r.drained;
-      next = r.next;
-      phase = r.phase;
-      tape = r.tape;
-      placed = looked p Ok r.drained r.next me r.phase r.tape s.words s.homes s.views w r.placed mine;
-      listed = λ F. sum_same (λ (x : RingView). sum_by F (claims_of x)) s.views me v w at (let d = same.done in let h = same.holds in rw (d, h) refl) ∙ r.listed F;
-      roster = roster_set workers (odd (r.phase r.drained)) (odd (r.phase r.drained)) s.views me v w r.roster at same.stands same.worker
+    drained = r.drained;
+    next = r.next;
+    phase = r.phase;
+    tape = r.tape;
+    placed = looked p Ok r.drained r.next me r.phase r.tape s.words s.homes s.views w r.placed mine;
+    listed = λ F. sum_same (λ (x : RingView). sum_by F (claims_of x)) s.views me v w at (let d = same.done in let h = same.holds in rw (d, h) refl) ∙ r.listed F;
+    roster = roster_set workers (odd (r.phase r.drained)) (odd (r.phase r.drained)) s.views me v w r.roster at same.stands same.worker
         (λ e. let was = (r.roster.own me v at).0 (sym same.stands ∙ e) in (same.done ∙ was.0, same.holds ∙ was.1, same.drains ∙ was.2)) (ap (λ (x : Option (List Taken)). draining x + odd (r.phase r.drained)) same.drains);
-    }
+  }
 
   alike : (v : RingView) → Alike v v
   alike v = record { worker = refl; stands = refl; done = refl; holds = refl; drains = refl }
@@ -66,19 +66,25 @@ module _ {V : Type 0} (p : Setup) (workers : ℕ) (Ok : ℕ → Named V → Type
 
   pub looks_drained : (n id : ℕ) (me : Seated V) → Allows (Ring p workers Ok) n id me 1 (λ x. x) (λ r m. saw_drained p (step n 1 0 0 none) me r m)
   looks_drained n id me s r wide at lt =
-      let is = half s r in let k = r.placed.seats id me.0 at in let d : ℕ = get_or s.words 1 0 / 2 in
-      (sees_drained me.0 d, keeps, tt,
+      let is = half s r in let k = r.placed.seats id me.0 at in let d : ℕ = get_or s.words 1 0 / 2 in (
+        sees_drained me.0 d,
+        keeps,
+        tt,
         unmoved s r 1 id me.1 me.0 (sees_drained me.0 d) at (record { worker = refl; stands = refl; done = refl; holds = refl; drains = refl })
-          (record { drained = omega (arith, is); next = k.next; committed = k.committed; holds = k.holds; drains = λ l e. (is, (k.drains l e).1); finished = k.finished }),
-        (refl, (let a = k.drained in omega (arith, is, a)), (let a = r.placed.low in omega (arith, is, a)), (let a = r.placed.mid in let b = r.placed.high in omega (arith, is, a, b))))
+            (record { drained = omega (arith, is); next = k.next; committed = k.committed; holds = k.holds; drains = λ l e. (is, (k.drains l e).1); finished = k.finished }),
+        (refl, (let a = k.drained in omega (arith, is, a)), (let a = r.placed.low in omega (arith, is, a)), (let a = r.placed.mid in let b = r.placed.high in omega (arith, is, a, b))),
+      )
 
   pub looks_next : (n id : ℕ) (me : Seated V) → Allows (Ring p workers Ok) n id me 0 (λ x. x) (λ r m. saw_next p (step n 0 0 0 none) me r m)
   looks_next n id me s r wide at lt =
-      let is = r.placed.next_is in let k = r.placed.seats id me.0 at in let x : ℕ = get_or s.words 0 0 in
-      (sees_next me.0 x, keeps, tt,
+      let is = r.placed.next_is in let k = r.placed.seats id me.0 at in let x : ℕ = get_or s.words 0 0 in (
+        sees_next me.0 x,
+        keeps,
+        tt,
         unmoved s r 0 id me.1 me.0 (sees_next me.0 x) at (record { worker = refl; stands = refl; done = refl; holds = refl; drains = refl })
-          (record { drained = k.drained; next = omega (arith, is); committed = k.committed; holds = k.holds; drains = k.drains; finished = k.finished }),
-        (refl, (let a = k.next in omega (arith, is, a)), (let a = k.drained in let b = r.placed.mid in omega (arith, is, a, b)), (let a = r.placed.high in omega (arith, is, a))))
+            (record { drained = k.drained; next = omega (arith, is); committed = k.committed; holds = k.holds; drains = k.drains; finished = k.finished }),
+        (refl, (let a = k.next in omega (arith, is, a)), (let a = k.drained in let b = r.placed.mid in omega (arith, is, a, b)), (let a = r.placed.high in omega (arith, is, a))),
+      )
 
   shows_up : (d n k : ℕ) (c : Phase V) → 0 < p.window → face p k c ≡ k + 1 → InPhase p Ok d n k c → (k < n) × (up c ≡ 1)
   shows_up d n k free pos e i = (let b = before_low p k pos in absurd (omega (arith, b, e)))
@@ -91,17 +97,20 @@ module _ {V : Type 0} (p : Setup) (workers : ℕ) (Ok : ℕ → Named V → Type
       let k = r.placed.seats id me.0 at in let x : ℕ = get_or s.words i 0 in let d : ℕ = me.0.drained in
       elim (cases_eq x (d + 1)) [
         | inl is ↦ (
-          let w : RingView = sees_committed me.0 in
-          let seen : (q : ℕ) → w.committed ≡ Some q → (q < r.drained) ⊎ ((q < r.next) × (up (r.phase q) ≡ 1)) = λ q e.
+            let w : RingView = sees_committed me.0 in
+            let seen : (q : ℕ) → w.committed ≡ Some q → (q < r.drained) ⊎ ((q < r.next) × (up (r.phase q) ≡ 1)) = λ q e.
             let dq = same_Some d q e in subst (λ (z : ℕ). (z < r.drained) ⊎ ((z < r.next) × (up (r.phase z) ≡ 1))) dq (
-              elim (cases_lt d r.drained) [
-                | inl less ↦ inl less
-                | inr more ↦ inr (let here = k.drained in let cell = r.placed.cells d (omega (arith, here, more)) (let s0 = r.placed.some_slot in omega (arith, here, s0)) in
+            elim (cases_lt d r.drained) [
+              | inl less ↦ inl less
+              | inr more ↦ inr (let here = k.drained in let cell = r.placed.cells d (omega (arith, here, more)) (let s0 = r.placed.some_slot in omega (arith, here, s0)) in
                   shows_up r.drained r.next d (r.phase d) r.placed.some_slot (sym cell.shows ∙ ap (λ (z : ℕ). get_or s.words z 0) (sym place) ∙ is) cell.phase)
-              ]) in
-          (w, keeps, tt,
-            unmoved s r i id me.1 me.0 w at (record { worker = refl; stands = refl; done = refl; holds = refl; drains = refl })
-              (record { drained = k.drained; next = k.next; committed = seen; holds = k.holds; drains = k.drains; finished = k.finished }),
-            ((λ _. refl), (λ ne. absurd (ne is)))))
+            ]) in (
+              w,
+              keeps,
+              tt,
+              unmoved s r i id me.1 me.0 w at (record { worker = refl; stands = refl; done = refl; holds = refl; drains = refl })
+                  (record { drained = k.drained; next = k.next; committed = seen; holds = k.holds; drains = k.drains; finished = k.finished }),
+              ((λ _. refl), (λ ne. absurd (ne is))),
+            ))
         | inr ne ↦ (me.0, keeps, tt, stays s r i id me.1 me.0 at, ((λ e. absurd (ne e)), (λ _. refl)))
       ]

@@ -16,14 +16,14 @@ use Rattle.jx_ring.proofs.Counts.{sum_set, sum_same, put_here, put_else, stretch
 pub roster_set : (workers o o' : ℕ) (vs : List RingView) (me : ℕ) (v w : RingView) → Roster workers o vs → get_elem? vs me ≡ some v → w.stands ≡ v.stands → w.worker ≡ v.worker
     → (w.stands ≡ [] → IsSpent w) → draining w.drains + o ≡ draining v.drains + o' → Roster workers o' (set vs me w)
 roster_set workers o o' vs me v w r at same own spent count = record {
-    stand = λ F. sum_same (λ (x : RingView). sum_by F x.stands) vs me v w at (ap (sum_by F) same) ∙ r.stand F;
-    own = λ j x e. ⊎_elim
+  stand = λ F. sum_same (λ (x : RingView). sum_by F x.stands) vs me v w at (ap (sum_by F) same) ∙ r.stand F;
+  own = λ j x e. ⊎_elim
       (λ (t : (j ≡ me) × (w ≡ x)). subst (λ (y : RingView). (y.stands ≡ [] → IsSpent y) × ((y.stands ≡ []) ⊎ Contains y.stands y.worker)) t.1
-        (spent, elim ((r.own me v at).1) [ inl none ↦ inl (same ∙ none) | inr is ↦ inr (subst (λ (l : List ℕ). Contains l w.worker) (sym same) (subst (λ (k : ℕ). Contains v.stands k) (sym own) is)) ]))
+      (spent, elim ((r.own me v at).1) [ inl none ↦ inl (same ∙ none) | inr is ↦ inr (subst (λ (l : List ℕ). Contains l w.worker) (sym same) (subst (λ (k : ℕ). Contains v.stands k) (sym own) is)) ]))
       (λ (t : (j ≢ me) × (get_elem? vs j ≡ some x)). r.own j x t.1)
       (at_set vs me j w x e);
-    drainers = (let s = sum_set (λ (x : RingView). draining x.drains) vs me v w at in let was = r.drainers in omega (arith, s, was, count));
-  }
+  drainers = (let s = sum_set (λ (x : RingView). draining x.drains) vs me v w at in let was = r.drainers in omega (arith, s, was, count));
+}
 
 pub claims_with : (F : Taken → ℕ) (l : List Taken) (h : Option Taken) → sum_by F (l ++ option_to_list h) ≡ sum_by F l + sum_by F (option_to_list h)
 claims_with F l h = sum_by-append F l (option_to_list h)
@@ -34,9 +34,9 @@ one F t = (let c = sum_by-cons F t [] in omega (arith, c))
 module _ {V : Type 0} where
   pub odd_put : (ph : ℕ → Phase V) (k : ℕ) (c : Phase V) (d : ℕ) → odd c ≡ odd (ph k) → odd (put ph k c d) ≡ odd (ph d)
   odd_put ph k c d same = elim (cases_eq d k) [
-      | inl e ↦ ap (λ (z : ℕ). odd (put ph k c z)) e ∙ ap odd (put_here ph k c) ∙ same ∙ sym (ap (λ (z : ℕ). odd (ph z)) e)
-      | inr ne ↦ ap odd (put_else ph k c d ne)
-    ]
+    | inl e ↦ ap (λ (z : ℕ). odd (put ph k c z)) e ∙ ap odd (put_here ph k c) ∙ same ∙ sym (ap (λ (z : ℕ). odd (ph z)) e)
+    | inr ne ↦ ap odd (put_else ph k c d ne)
+  ]
 
   -- the terms of a stretch, where one number moves
   pub terms_put : (F : Taken → ℕ) (ph : ℕ → Phase V) (k : ℕ) (c : Phase V) (a n : ℕ) → a ≤ k → k < a + n

@@ -83,29 +83,29 @@ module _ {V : Type 0} (p : Setup) (workers : ℕ) (Ok : ℕ → Named V → Type
           seats = λ j x at. go j x at;
         };
         listed = λ F. (
-          let c = sum_by-cons (λ (x : RingView). sum_by F (claims_of x)) v [] in
-          let z = ap (stretch (λ k. F (claim_in {V = V} free)) f) (let q : f - f ≡ 0 = omega arith in q) in omega (arith, c, z));
+            let c = sum_by-cons (λ (x : RingView). sum_by F (claims_of x)) v [] in
+            let z = ap (stretch (λ k. F (claim_in {V = V} free)) f) (let q : f - f ≡ 0 = omega arith in q) in omega (arith, c, z));
         roster = record {
           stand = λ F. (let c = sum_by-cons (λ (x : RingView). sum_by F x.stands) v [] in let d = counts_down F workers in omega (arith, c, d));
           own = λ j x at. own j x at;
           drainers = refl;
         };
       }
-      where
-        go : (j : ℕ) (x : RingView) → get_elem? (first_view p workers ∷ []) j ≡ some x → Knows {V = V} p.first p.first (λ k. free) [] j x
-        go zero x at = subst (Knows {V = V} p.first p.first (λ k. free) [] zero) (some-injective (first_view p workers) x at) (record {
-            drained = omega arith;
-            next = omega arith;
-            committed = λ k e. absurd (none-some k e);
-            holds = λ k e. absurd (none-some k e);
-            drains = λ k e. absurd (none-some k e);
-            finished = all_none (λ (t : Taken). 0 < t.kind);
-          })
-        go (suc j) x at = absurd (some-ne-none x (sym at))
+    where
+      go : (j : ℕ) (x : RingView) → get_elem? (first_view p workers ∷ []) j ≡ some x → Knows {V = V} p.first p.first (λ k. free) [] j x
+      go zero x at = subst (Knows {V = V} p.first p.first (λ k. free) [] zero) (some-injective (first_view p workers) x at) (record {
+        drained = omega arith;
+        next = omega arith;
+        committed = λ k e. absurd (none-some k e);
+        holds = λ k e. absurd (none-some k e);
+        drains = λ k e. absurd (none-some k e);
+        finished = all_none (λ (t : Taken). 0 < t.kind);
+      })
+      go (suc j) x at = absurd (some-ne-none x (sym at))
 
-        own : (j : ℕ) (x : RingView) → get_elem? (first_view p workers ∷ []) j ≡ some x → (x.stands ≡ [] → IsSpent x) × ((x.stands ≡ []) ⊎ Contains x.stands x.worker)
-        own zero x at = subst (λ (y : RingView). (y.stands ≡ [] → IsSpent y) × ((y.stands ≡ []) ⊎ Contains y.stands y.worker)) (some-injective (first_view p workers) x at) ((λ _. (refl, refl, refl)), inr (ends_at_zero workers some_worker))
-        own (suc j) x at = absurd (some-ne-none x (sym at))
+      own : (j : ℕ) (x : RingView) → get_elem? (first_view p workers ∷ []) j ≡ some x → (x.stands ≡ [] → IsSpent x) × ((x.stands ≡ []) ⊎ Contains x.stands x.worker)
+      own zero x at = subst (λ (y : RingView). (y.stands ≡ [] → IsSpent y) × ((y.stands ≡ []) ⊎ Contains y.stands y.worker)) (some-injective (first_view p workers) x at) ((λ _. (refl, refl, refl)), inr (ends_at_zero workers some_worker))
+      own (suc j) x at = absurd (some-ne-none x (sym at))
 
   pub opens : (ws : List ℕ) (xs : List (Place V)) → Blank p.first p.window ws → Row p.window (length p.sizes) xs → 0 < p.window → 0 < workers → Ring p workers Ok (opening ws xs (first_view p workers))
   opens ws xs b r pos some_worker = starts ws xs r.tape.0 b.wide b.next b.drain b.zeros r.wide r.empty r.tape.1 r.tape.2 r.tape.3 pos some_worker
@@ -142,22 +142,22 @@ module _ {V : Type 0} (p : Setup) (workers : ℕ) (Ok : ℕ → Named V → Type
           seats = λ j x e. ⊎_elim (λ (y : get_elem? (set s.views id left) j ≡ some x). Q.seats j x y) (λ (y : right ≡ x). subst (Knows d n ph r.tape j) y (fresh j)) (at_snoc (set s.views id left) right x j e);
         };
         listed = λ F. (
-          let q = sum_by_push (λ (x : RingView). sum_by F (claims_of x)) (set s.views id left) right in let same = sum_same (λ (x : RingView). sum_by F (claims_of x)) s.views id v left at refl in
-          let was = r.listed F in omega (arith, q, same, was));
+            let q = sum_by_push (λ (x : RingView). sum_by F (claims_of x)) (set s.views id left) right in let same = sum_same (λ (x : RingView). sum_by F (claims_of x)) s.views id v left at refl in
+            let was = r.listed F in omega (arith, q, same, was));
         roster = record {
           stand = λ F. (
-            let q = sum_by_push (λ (x : RingView). sum_by F x.stands) (set s.views id left) right in let one = sum_set (λ (x : RingView). sum_by F x.stands) s.views id v left at in
-            let was = r.roster.stand F in let a = ap (sum_by F) list in let b = ap (sum_by F) rest_is in let c = ap (sum_by F) one_is in
-            let e = sum_by-cons F k more in let f = sum_by-cons F k [] in omega (arith, q, one, was, a, b, c, e, f));
+              let q = sum_by_push (λ (x : RingView). sum_by F x.stands) (set s.views id left) right in let one = sum_set (λ (x : RingView). sum_by F x.stands) s.views id v left at in
+              let was = r.roster.stand F in let a = ap (sum_by F) list in let b = ap (sum_by F) rest_is in let c = ap (sum_by F) one_is in
+              let e = sum_by-cons F k more in let f = sum_by-cons F k [] in omega (arith, q, one, was, a, b, c, e, f));
           own = λ j x e. ⊎_elim
-            (λ (y : get_elem? (set s.views id left) j ≡ some x). ⊎_elim
+              (λ (y : get_elem? (set s.views id left) j ≡ some x). ⊎_elim
               (λ (z : (j ≡ id) × (left ≡ x)). subst (λ (u : RingView). (u.stands ≡ [] → IsSpent u) × ((u.stands ≡ []) ⊎ Contains u.stands u.worker)) z.1
-                ((λ no. absurd (no_item v.worker (subst (λ (l : List ℕ). Contains l v.worker) (sym rest_is ∙ no) own))), inr (subst (λ (l : List ℕ). Contains l v.worker) (sym rest_is) own)))
+              ((λ no. absurd (no_item v.worker (subst (λ (l : List ℕ). Contains l v.worker) (sym rest_is ∙ no) own))), inr (subst (λ (l : List ℕ). Contains l v.worker) (sym rest_is) own)))
               (λ (z : (j ≢ id) × (get_elem? s.views j ≡ some x)). r.roster.own j x z.1)
               (at_set s.views id j left x y))
-            (λ (y : right ≡ x). subst (λ (u : RingView). (u.stands ≡ [] → IsSpent u) × ((u.stands ≡ []) ⊎ Contains u.stands u.worker)) y
+              (λ (y : right ≡ x). subst (λ (u : RingView). (u.stands ≡ [] → IsSpent u) × ((u.stands ≡ []) ⊎ Contains u.stands u.worker)) y
               ((λ no. absurd (let l = ap length (sym one_is ∙ no) in omega (arith, l))), inr (subst (λ (l : List ℕ). Contains l right.worker) (sym one_is) (0, omega arith, sym me_is))))
-            (at_snoc (set s.views id left) right x j e);
+              (at_snoc (set s.views id left) right x j e);
           drainers = (let q = sum_by_push (λ (x : RingView). draining x.drains) (set s.views id left) right in let same = sum_same (λ (x : RingView). draining x.drains) s.views id v left at refl in let was = r.roster.drainers in omega (arith, q, same, was));
         };
       }
@@ -186,24 +186,24 @@ module _ {V : Type 0} (p : Setup) (workers : ℕ) (Ok : ℕ → Named V → Type
         tape = r.tape;
         placed = looked p Ok d n other ph r.tape s.words s.homes vs spent_view (looked p Ok d n id ph r.tape s.words s.homes s.views both P mine) gone;
         listed = λ F. (
-          let a = sum_set (λ (x : RingView). sum_by F (claims_of x)) s.views id v both at in let b = sum_set (λ (x : RingView). sum_by F (claims_of x)) vs other w spent_view at' in let was = r.listed F in
-          let cv = claims_with F v.done v.holds in let ev = ap (λ (h : Option Taken). sum_by F (option_to_list h)) hv in let cw = claims_with F w.done w.holds in let ew = ap (λ (h : Option Taken). sum_by F (option_to_list h)) hw in
-          let cb = claims_with F (v.done ++ w.done) None in let e = sum_by-append F v.done w.done in
-          omega (arith, a, b, was, cv, ev, cw, ew, cb, e));
+            let a = sum_set (λ (x : RingView). sum_by F (claims_of x)) s.views id v both at in let b = sum_set (λ (x : RingView). sum_by F (claims_of x)) vs other w spent_view at' in let was = r.listed F in
+            let cv = claims_with F v.done v.holds in let ev = ap (λ (h : Option Taken). sum_by F (option_to_list h)) hv in let cw = claims_with F w.done w.holds in let ew = ap (λ (h : Option Taken). sum_by F (option_to_list h)) hw in
+            let cb = claims_with F (v.done ++ w.done) None in let e = sum_by-append F v.done w.done in
+            omega (arith, a, b, was, cv, ev, cw, ew, cb, e));
         roster = record {
           stand = λ F. (
-            let a = sum_set (λ (x : RingView). sum_by F x.stands) s.views id v both at in let b = sum_set (λ (x : RingView). sum_by F x.stands) vs other w spent_view at' in
-            let was = r.roster.stand F in let e = sum_by-append F v.stands w.stands in omega (arith, a, b, was, e));
+              let a = sum_set (λ (x : RingView). sum_by F x.stands) s.views id v both at in let b = sum_set (λ (x : RingView). sum_by F x.stands) vs other w spent_view at' in
+              let was = r.roster.stand F in let e = sum_by-append F v.stands w.stands in omega (arith, a, b, was, e));
           own = λ j x e. ⊎_elim
-            (λ (y : (j ≡ other) × (spent_view ≡ x)). subst (λ (u : RingView). (u.stands ≡ [] → IsSpent u) × ((u.stands ≡ []) ⊎ Contains u.stands u.worker)) y.1 ((λ _. (refl, refl, refl)), inl refl))
-            (λ (y : (j ≢ other) × (get_elem? vs j ≡ some x)). ⊎_elim
+              (λ (y : (j ≡ other) × (spent_view ≡ x)). subst (λ (u : RingView). (u.stands ≡ [] → IsSpent u) × ((u.stands ≡ []) ⊎ Contains u.stands u.worker)) y.1 ((λ _. (refl, refl, refl)), inl refl))
+              (λ (y : (j ≢ other) × (get_elem? vs j ≡ some x)). ⊎_elim
               (λ (z : (j ≡ id) × (both ≡ x)). subst (λ (u : RingView). (u.stands ≡ [] → IsSpent u) × ((u.stands ≡ []) ⊎ Contains u.stands u.worker)) z.1
-                ((λ no. absurd (live (first_nil v.stands w.stands no))), ⊎_elim (λ (no : v.stands ≡ []). absurd (live no)) (λ (has : Contains v.stands v.worker). inr (Contains-append_left v.stands w.stands v.worker has)) ((r.roster.own id v at).1)))
+              ((λ no. absurd (live (first_nil v.stands w.stands no))), ⊎_elim (λ (no : v.stands ≡ []). absurd (live no)) (λ (has : Contains v.stands v.worker). inr (Contains-append_left v.stands w.stands v.worker has)) ((r.roster.own id v at).1)))
               (λ (z : (j ≢ id) × (get_elem? s.views j ≡ some x)). r.roster.own j x z.1)
               (at_set s.views id j both x y.1))
-            (at_set vs other j spent_view x e);
+              (at_set vs other j spent_view x e);
           drainers = (
-            let a = sum_set (λ (x : RingView). draining x.drains) s.views id v both at in let b = sum_set (λ (x : RingView). draining x.drains) vs other w spent_view at' in
-            let was = r.roster.drainers in let ev = ap draining dv in let ew = ap draining dw in omega (arith, a, b, was, ev, ew));
+              let a = sum_set (λ (x : RingView). draining x.drains) s.views id v both at in let b = sum_set (λ (x : RingView). draining x.drains) vs other w spent_view at' in
+              let was = r.roster.drainers in let ev = ap draining dv in let ew = ap draining dw in omega (arith, a, b, was, ev, ew));
         };
       }

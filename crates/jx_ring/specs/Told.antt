@@ -73,7 +73,7 @@ module _ {V : Type 0} where
     abbrev pub began : (ℕ → Named V → Type 0) → Step (Place V) → Seated V → ℕ → Seated V → Type 0
     began Ok st m r m' =
         (r ≡ st.first → (t : _) × (e : Taped (Named V)) × (m' ≡ (begins m.0 (map taken t.items ++ taken e ∷ []), (p.window, Tape t) ∷ (m.0.drained % p.window, Full e) ∷ m.1))
-          × TapeOk p Ok t.items × EntryOk p Ok m.0.drained e × (length t.items + p.first ≡ m.0.drained) × (m.0.drained < end_of p) × (length p.sizes ≤ vec_capacity t))
+        × TapeOk p Ok t.items × EntryOk p Ok m.0.drained e × (length t.items + p.first ≡ m.0.drained) × (m.0.drained < end_of p) × (length p.sizes ≤ vec_capacity t))
         × (r ≢ st.first → m' ≡ m)
 
     -- both are home again

@@ -112,11 +112,7 @@ impl<V: Work, N: Bounds<V::Job>> RingStore<V, N> {
     }
 
     // A join of two seats.
-    pub(crate) fn join(
-        &self,
-        seat: &mut Seat<Place<V>, RingView>,
-        other: Seat<Place<V>, RingView>,
-    )
+    pub(crate) fn join(&self, seat: &mut Seat<Place<V>, RingView>, other: Seat<Place<V>, RingView>)
         requires table { (seat.old.table_id ≡ self.now.table.shared.table_id) × (other.table_id ≡ self.now.table.shared.table_id) }
         requires free { (seat.old.me.0.stands ≢ []) × (seat.old.me.0.holds ≡ None) × (other.me.0.holds ≡ None) × (seat.old.me.0.drains ≡ None) × (other.me.0.drains ≡ None) × (other.me.1 ≡ []) }
         ensures { IsSameSeat seat.old seat.new × (seat.new.me ≡ (joined seat.old.me.0 other.me.0, seat.old.me.1)) }

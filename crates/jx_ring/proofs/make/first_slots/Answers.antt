@@ -13,9 +13,9 @@ more xs n x long all j lt = at_longer xs (x ∷ []) j Empty (all j lt)
 
 one_more : {V : Type 0} (xs : List (Place V)) (n : ℕ) → length xs ≡ n → ((j : ℕ) → j < n → get_elem? xs j ≡ some Empty) → (j : ℕ) → j < n + 1 → get_elem? (xs ++ Empty ∷ []) j ≡ some Empty
 one_more xs n long all j lt = elim (cases_lt j n) [
-    | inl below ↦ more xs n Empty long all j below
-    | inr at ↦ (let e : n ≡ j = omega arith in at_last xs Empty j (long ∙ e))
-  ]
+  | inl below ↦ more xs n Empty long all j below
+  | inr at ↦ (let e : n ≡ j = omega arith in at_last xs Empty j (long ∙ e))
+]
 
 pub loop-preserved : goal.loop-preserved
 loop-preserved g c =

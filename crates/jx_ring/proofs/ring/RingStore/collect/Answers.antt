@@ -22,7 +22,7 @@ pub push_reserved-requires : goal.push_reserved-requires
 push_reserved-requires g c =
     let i = c.loop-i.invariant in let sh = c.requires.shut in let window = c.requires.sizes.3 in let lt = c.loop-i-test.true in let xs = slots_items c.args.closed.slots in
     let at : At xs c.args.drained c.loop-i.i g.N.Bounds.setup.window (Full c.in-Full.entry) =
-      subst (λ (y : List (Place g.row.V.Denot) × ℕ). At y.0 c.args.drained c.loop-i.i y.1 (Full c.in-Full.entry)) (λ z. (i.same z, window z)) (c.take-in-loop-i.ensures.value ∙ ap some c.in-Full.is) in
+    subst (λ (y : List (Place g.row.V.Denot) × ℕ). At y.0 c.args.drained c.loop-i.i y.1 (Full c.in-Full.entry)) (λ z. (i.same z, window z)) (c.take-in-loop-i.ensures.value ∙ ap some c.in-Full.is) in
     let r = room_left _ _ sh.0 sh.1 c.args.drained xs sh.2 c.loop-i.i c.in-Full.entry c.loop-i.tape.items (omega (arith, lt, window)) at (i.got sh.0 sh.1 sh.2) in
     let long = c.loop-i.tape.ok.0 in let room = i.room in omega (arith, r, long, room)
 
@@ -38,11 +38,11 @@ loop-i-preserved g c =
       same = others.0 ∙ i.same;
       got = λ claims seen x. elim c.match-take-2.branch [
         | in-Full w ↦ step_full _ _ claims seen d xs x n w.in-Full.entry c.loop-i.tape.items c.match-take-2.tape.items (omega (arith, lt, window))
-          (subst (λ (y : List (Place g.row.V.Denot) × ℕ). At y.0 d n y.1 (Full w.in-Full.entry)) (λ z. (i.same z, window z)) (c.take-in-loop-i.ensures.value ∙ ap some w.in-Full.is))
-          (i.got claims seen x) (ap (λ (t : Vec (Taped (Named g.row.V.Denot))). t.items) w.tape-is ∙ w.push_reserved.ensures.items)
+            (subst (λ (y : List (Place g.row.V.Denot) × ℕ). At y.0 d n y.1 (Full w.in-Full.entry)) (λ z. (i.same z, window z)) (c.take-in-loop-i.ensures.value ∙ ap some w.in-Full.is))
+            (i.got claims seen x) (ap (λ (t : Vec (Taped (Named g.row.V.Denot))). t.items) w.tape-is ∙ w.push_reserved.ensures.items)
         | in-Empty w ↦ step_empty _ _ claims seen d xs x n c.loop-i.tape.items c.match-take-2.tape.items
-          (subst (λ (y : List (Place g.row.V.Denot) × ℕ). At y.0 d n y.1 Empty) (λ z. (i.same z, window z)) (c.take-in-loop-i.ensures.value ∙ ap some w.in-Empty.is))
-          (i.got claims seen x) (ap (λ (t : Vec (Taped (Named g.row.V.Denot))). t.items) w.tape-is)
+            (subst (λ (y : List (Place g.row.V.Denot) × ℕ). At y.0 d n y.1 Empty) (λ z. (i.same z, window z)) (c.take-in-loop-i.ensures.value ∙ ap some w.in-Empty.is))
+            (i.got claims seen x) (ap (λ (t : Vec (Taped (Named g.row.V.Denot))). t.items) w.tape-is)
       ];
       room = elim c.match-take-2.branch [
         | in-Full w ↦ (let a = ap (λ (t : Vec (Taped (Named g.row.V.Denot))). vec_capacity t) w.tape-is in let b = w.push_reserved.ensures.capacity in let r = i.room in omega (arith, a, b, r))
@@ -54,7 +54,7 @@ loop-i-preserved g c =
         | inr ne ↦ still_clear fs place (k % W) (i.taken k low (omega (arith, high, ne)))
       ]);
       left = λ k low high. subst (λ (l : List Bool). get_or l (k % W) false ≡ true) (sym after)
-        (get_or-set_other fs place (k % W) false false (apart d W k (d + n) pos (omega (arith, low)) (omega arith) high (omega (arith, lt)) (λ e. omega (arith, e, low))) ∙ i.left k (omega (arith, low)) high);
+          (get_or-set_other fs place (k % W) false false (apart d W k (d + n) pos (omega (arith, low)) (omega arith) high (omega (arith, lt)) (λ e. omega (arith, e, low))) ∙ i.left k (omega (arith, low)) high);
     }
 
 pub free-requires : goal.free-requires

@@ -21,10 +21,18 @@ park-requires-clause-held g c =
     let me = c.exchange.ensures.3 in
     let e : Taped (Named g.row.V.Denot) = record { number = c.spend-number.result.0; worker = c.pass.inside.worker; seen = c.spend-number.result.1; named = c.args.value } in
     let place = c.place-place.ensures.is.0 ∙ ap (λ (z : ℕ). z % W) number in
-    let slots = ap (λ m. m.1) me in
-    ((λ none. let a = ap (λ m. m.0.stands) me ∙ i.stands in let l = ap length (sym a ∙ none) in omega (arith, l)),
-      (claim_by now.worker c.args.claim.number c.args.claim.seen 0, e, ap (λ m. m.0.holds) me ∙ held, number, (number, worker, seen), c.requires.value,
-        slots ∙ (λ z. (place z, Full e) ∷ sym (ap rest slots) z)))
+    let slots = ap (λ m. m.1) me in (
+      (λ none. let a = ap (λ m. m.0.stands) me ∙ i.stands in let l = ap length (sym a ∙ none) in omega (arith, l)),
+      (
+        claim_by now.worker c.args.claim.number c.args.claim.seen 0,
+        e,
+        ap (λ m. m.0.holds) me ∙ held,
+        number,
+        (number, worker, seen),
+        c.requires.value,
+        slots ∙ (λ z. (place z, Full e) ∷ sym (ap rest slots) z),
+      ),
+    )
 
 pub invariant_of-pass : goal.invariant_of-pass
 invariant_of-pass g c =

@@ -36,7 +36,7 @@ loop-left-preserved g c =
       room = (let a = p.capacity in let b = i.room in omega (arith, a, b));
       names = ap (λ (l : List PassView). reverse (map (λ (q : PassView). q.worker) l)) p.items ∙ dealt_one (λ (q : PassView). q.worker) c.loop-left.passes.items _ n c.args.workers more high refl i.names;
       fresh = subst (All (Fresh c.args.self.now.table.shared.table_id g.N.Bounds.setup.first)) (sym p.items)
-        (All-push (Fresh c.args.self.now.table.shared.table_id g.N.Bounds.setup.first) c.loop-left.passes.items _ i.fresh (o.new.0 ∙ i.table, ap (λ m. m.0.holds) new, ap (λ m. m.0.done) new, ap (λ m. m.0.drained) new, ap (λ m. m.0.next) new));
+          (All-push (Fresh c.args.self.now.table.shared.table_id g.N.Bounds.setup.first) c.loop-left.passes.items _ i.fresh (o.new.0 ∙ i.table, ap (λ m. m.0.holds) new, ap (λ m. m.0.done) new, ap (λ m. m.0.drained) new, ap (λ m. m.0.next) new));
     }
 
 pub returns-clause-workers : goal.returns-clause-workers
@@ -50,5 +50,5 @@ pub returns-clause-fresh : goal.returns-clause-fresh
 returns-clause-fresh g c =
     let i = c.loop-left.invariant in let p = c.push_reserved-2.ensures in
     All-permutation (Fresh c.args.self.now.table.shared.table_id g.N.Bounds.setup.first) c.push_reserved-2.new.self.items c.reverse.new.self.items c.reverse.ensures.permutation
-      (subst (All (Fresh c.args.self.now.table.shared.table_id g.N.Bounds.setup.first)) (sym p.items)
-        (All-push (Fresh c.args.self.now.table.shared.table_id g.N.Bounds.setup.first) c.loop-left.passes.items _ i.fresh (i.table, ap (λ m. m.0.holds) i.seat, ap (λ m. m.0.done) i.seat, ap (λ m. m.0.drained) i.seat, ap (λ m. m.0.next) i.seat)))
+    (subst (All (Fresh c.args.self.now.table.shared.table_id g.N.Bounds.setup.first)) (sym p.items)
+    (All-push (Fresh c.args.self.now.table.shared.table_id g.N.Bounds.setup.first) c.loop-left.passes.items _ i.fresh (i.table, ap (λ m. m.0.holds) i.seat, ap (λ m. m.0.done) i.seat, ap (λ m. m.0.drained) i.seat, ap (λ m. m.0.next) i.seat)))

@@ -38,7 +38,13 @@ end-requires-clause-drains g c =
     let u = m.0 in let same = c.carry.ensures.seat.1 in let view = ap (λ x. x.0) b.2 in
     let stands = ap (λ (v : RingView). v.stands) same ∙ ap (λ (v : RingView). v.stands) view ∙ ap (λ x. x.0.stands) seen in
     let drains = ap (λ (v : RingView). v.drains) same ∙ ap (λ (v : RingView). v.drains) view in
-    let list = sym (map-append taken t.items (e ∷ [])) ∙ ap (map taken) (sym m.2) in
-    ((λ none. c.requires.free.0 (sym stands ∙ none)),
-      (u, drains ∙ ap (λ (l : List Taken). Some l) list, subst (TapeOk g.N.Bounds.setup (IsOf g.V.Work.number g.V.Work.job g.V.Work.bad g.N.Bounds.setup.first g.N.Bounds.jobs)) (sym m.2) (longer_tape _ _ t.items e _ b.3 b.4 b.5 b.6),
-        (let cap = m.3 in let room = b.7 in omega (arith, cap, room)), m.1 ∙ (λ i. (w i, Tape u) ∷ (h i, Empty) ∷ [])))
+    let list = sym (map-append taken t.items (e ∷ [])) ∙ ap (map taken) (sym m.2) in (
+      (λ none. c.requires.free.0 (sym stands ∙ none)),
+      (
+        u,
+        drains ∙ ap (λ (l : List Taken). Some l) list,
+        subst (TapeOk g.N.Bounds.setup (IsOf g.V.Work.number g.V.Work.job g.V.Work.bad g.N.Bounds.setup.first g.N.Bounds.jobs)) (sym m.2) (longer_tape _ _ t.items e _ b.3 b.4 b.5 b.6),
+        (let cap = m.3 in let room = b.7 in omega (arith, cap, room)),
+        m.1 ∙ (λ i. (w i, Tape u) ∷ (h i, Empty) ∷ []),
+      ),
+    )

@@ -35,6 +35,10 @@ loop-pass-preserved g c =
       table = c.join.ensures.0.0 ∙ i.table;
       live = λ none. i.live (first_nil v.stands w.stands (sym (ap (λ m. m.0.stands) me) ∙ none));
       out = ap (λ m. m.1) me ∙ i.out;
-      some = (x ∷ ds, whole, subst (IsLast (x ∷ ds)) (sym (ap (λ m. m.0) me))
-        (last_more x ds v w c.pass.inside.worker last inv.stands (ap (λ (q : PassView). q.claims) view) (omega (arith, next)) (subst (λ (q : PassView). All (λ (t : Taken). t.worker ≡ q.worker) q.claims) view inv.mine)));
+      some = (
+        x ∷ ds,
+        whole,
+        subst (IsLast (x ∷ ds)) (sym (ap (λ m. m.0) me))
+            (last_more x ds v w c.pass.inside.worker last inv.stands (ap (λ (q : PassView). q.claims) view) (omega (arith, next)) (subst (λ (q : PassView). All (λ (t : Taken). t.worker ≡ q.worker) q.claims) view inv.mine)),
+      );
     }
