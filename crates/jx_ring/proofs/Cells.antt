@@ -1,7 +1,5 @@
 -- What stays of the ring's rule when one number and one seat move.
-use Rattle.std.proofs.Common.{◌≡◌, ◌≢◌, ℕ, zero, suc, ◌+◌, ◌-◌, ◌*◌, ◌%◌, ◌<◌, ◌≤◌, ◌⊎◌, List, [], ◌∷◌, ◌++◌, map, length, get_or, set, refl, sym, ap, subst, ◌∙◌, inl, inr, ⊎_elim, arith, length-set, get_or-set_other}
-use Rattle.std.specs.Prelude.{Option, Some, None}
-use Rattle.std.specs.List.{sum_by}
+use Rattle.std.proofs.Common.{◌≡◌, ◌≢◌, ℕ, suc, ◌+◌, ◌*◌, ◌%◌, ◌<◌, ◌≤◌, ◌⊎◌, List, length, get_or, set, refl, sym, ap, subst, ◌∙◌, inl, inr, ⊎_elim, arith, length-set, get_or-set_other}
 use Rattle.std.proofs.lemmas.Bool.{cases_eq}
 use Rattle.std.proofs.lemmas.Nat.{mod_below}
 use mathlib.Core.Option as maybe
@@ -12,11 +10,10 @@ use Rattle.jx_store.specs.declared.event.Taped.{Taped}
 use Rattle.jx_store.specs.declared.work.Named.{Named}
 use Rattle.jx_store.specs.Setup.{Setup, load, end_of}
 use Rattle.jx_store.proofs.Windows.{apart}
-use Rattle.jx_ring.specs.declared.view.Taken.{Taken}
 use Rattle.jx_ring.specs.declared.view.RingView.{RingView}
 use Rattle.jx_ring.specs.declared.view.Place.{Place}
-use Rattle.jx_ring.specs.Claims.{taken, claims_of, put}
-use Rattle.jx_ring.specs.Rule.{Phase, free, held, parked, leaving, up, odd, holder, home, face, InPhase, Cell, AtHome, Knows, Placed}
+use Rattle.jx_ring.specs.Claims.{put}
+use Rattle.jx_ring.specs.Rule.{Phase, free, held, parked, leaving, up, odd, holder, InPhase, Cell, AtHome, Knows, Placed}
 use Rattle.jx_ring.proofs.Counts.{put_here, put_else}
 
 pub at_most_one : {V : Type 0} (c : Phase V) → up c ≤ 1

@@ -1,17 +1,14 @@
 -- A claim keeps the rule.
-use Rattle.std.proofs.Common.{◌≡◌, ◌≢◌, ℕ, zero, suc, ◌+◌, ◌-◌, ◌*◌, ◌%◌, ◌<◌, ◌≤◌, ◌⊎◌, eqb, List, [], ◌∷◌, ◌++◌, map, length, get_or, set, refl, sym, ap, subst, ◌∙◌, inl, inr, arith, length-set, get_or-set_other, get_or-set_same}
+use Rattle.std.proofs.Common.{◌≡◌, ℕ, zero, suc, ◌+◌, ◌-◌, ◌*◌, ◌%◌, ◌<◌, ◌≤◌, ◌⊎◌, eqb, [], get_or, set, refl, sym, ap, subst, ◌∙◌, inl, inr, arith, length-set, get_or-set_other, get_or-set_same}
 use Rattle.std.specs.Prelude.{Option, Some, None, option_to_list}
 use Rattle.std.specs.List.{sum_by}
-use Rattle.std.proofs.lemmas.Bool.{cases_eq}
 use Rattle.std.proofs.lemmas.Nat.{mod_below}
-use Rattle.std.proofs.lemmas.Option.{same_Some, none-some}
-use mathlib.Core.Option as maybe
+use Rattle.std.proofs.lemmas.Option.{same_Some}
 use mathlib.Core.Option.{some, none}
 use lib.ListN.{get_elem?}
 use prog.Atomic.{either}
-use Rattle.atomic_table.specs.Table.{State, Me, Allows, Valid, Act, takes, carried_after, keeps, step, stepped}
+use Rattle.atomic_table.specs.Table.{State, Allows, Valid, Act, takes, carried_after, keeps, step, stepped}
 use Rattle.atomic_table.proofs.Lists.{set_here, set_else, exchanged}
-use Rattle.jx_store.specs.declared.event.Taped.{Taped}
 use Rattle.jx_store.specs.declared.work.Named.{Named}
 use Rattle.jx_store.specs.Setup.{Setup, load, end_of, Within}
 use Rattle.jx_store.proofs.Loads.{load_rest}
@@ -19,10 +16,10 @@ use Rattle.jx_ring.specs.declared.view.Taken.{Taken}
 use Rattle.jx_ring.specs.declared.view.RingView.{RingView}
 use Rattle.jx_ring.specs.declared.view.Place.{Place}
 use Rattle.jx_ring.specs.declared.view.Place.TheVariants.{Empty}
-use Rattle.jx_ring.specs.Claims.{taken, claims_of, stretch, put}
-use Rattle.jx_ring.specs.Rule.{Phase, free, held, parked, leaving, up, odd, holder, home, face, before, claim_in, InPhase, AtHome, Knows, IsSpent, Ring}
+use Rattle.jx_ring.specs.Claims.{claims_of, put}
+use Rattle.jx_ring.specs.Rule.{Phase, free, held, parked, leaving, up, odd, holder, home, face, claim_in, InPhase, AtHome, Knows, Ring}
 use Rattle.jx_ring.specs.Told.{Seated, claims_it, won}
-use Rattle.jx_ring.proofs.Counts.{sum_set, put_here, put_else, stretch_more}
+use Rattle.jx_ring.proofs.Counts.{sum_set, put_here, stretch_more}
 use Rattle.jx_ring.proofs.Cells.{knows_stays, moved}
 use Rattle.jx_ring.proofs.Rolls.{roster_set, claims_with, one, odd_put, terms_else}
 use Rattle.jx_ring.proofs.Looks.{stays}

@@ -1,17 +1,17 @@
 -- What stands in a table that is closed with the one seat that stands for all workers.
-use Rattle.std.proofs.Common.{◌≡◌, ◌≢◌, ℕ, zero, suc, ◌+◌, ◌-◌, ◌*◌, ◌%◌, ◌/◌, ◌<◌, ◌≤◌, ◌⊎◌, eqb, cond, List, [], ◌∷◌, ◌++◌, map, length, get_or, All, refl, sym, ap, subst, ◌∙◌, inl, inr, arith, eq-eqb, ne_eqb}
-use Rattle.std.specs.Prelude.{Option, Some, None, option_to_list, vec_capacity}
+use Rattle.std.proofs.Common.{◌≡◌, ◌≢◌, ℕ, zero, suc, ◌+◌, ◌-◌, ◌%◌, ◌<◌, ◌≤◌, ◌⊎◌, eqb, cond, List, [], ◌∷◌, map, length, All, refl, sym, ap, subst, ◌∙◌, inl, inr, arith, eq-eqb, ne_eqb}
+use Rattle.std.specs.Prelude.{Option, None, option_to_list}
 use Rattle.std.specs.Global.{Vec}
 use Rattle.std.specs.List.{sum_by}
 use Rattle.std.proofs.lemmas.Bool.{cases_eq, cases_lt}
-use Rattle.std.proofs.lemmas.List.{map-append, length-append}
-use Rattle.std.proofs.lemmas.List.Sums.{sum_by-cons, sum_by_push}
-use mathlib.Core.Option.{some, none}
+use Rattle.std.proofs.lemmas.List.{length-append}
+use Rattle.std.proofs.lemmas.List.Sums.{sum_by-cons}
+use mathlib.Core.Option.{some}
 use lib.ListN.{get_elem?}
-use Rattle.atomic_table.specs.Table.{State, Final, Seen}
+use Rattle.atomic_table.specs.Table.{State}
 use Rattle.jx_store.specs.declared.event.Taped.{Taped}
 use Rattle.jx_store.specs.declared.work.Named.{Named}
-use Rattle.jx_store.specs.Setup.{Setup, end_of}
+use Rattle.jx_store.specs.Setup.{Setup}
 use Rattle.jx_store.specs.Order.{numbers}
 use Rattle.jx_ring.specs.declared.view.Taken.{Taken}
 use Rattle.jx_ring.specs.declared.view.RingView.{RingView}
@@ -21,8 +21,7 @@ use Rattle.jx_ring.specs.Claims.{taken, claims_of, stretch}
 use Rattle.jx_ring.specs.Rule.{Phase, free, held, parked, leaving, odd, home, claim_in, EntryOk, TapeOk, InPhase, AtHome, IsSpent, draining, Ring}
 use Rattle.jx_ring.specs.Closing.{Shut}
 use Rattle.jx_ring.proofs.Counts.{sum_rest, sum_alone, stretch_same}
-use Rattle.jx_ring.proofs.Rolls.{claims_with, one}
-use Rattle.jx_ring.proofs.Looks.{half}
+use Rattle.jx_ring.proofs.Rolls.{claims_with}
 
 -- 1 for a claim that isn't committed
 abbrev open_claim : Taken → ℕ

@@ -1,30 +1,29 @@
 -- A commit keeps the rule.
-use Rattle.std.proofs.Common.{◌≡◌, ◌≢◌, ℕ, zero, suc, ◌+◌, ◌-◌, ◌*◌, ◌%◌, ◌<◌, ◌≤◌, ◌⊎◌, List, [], ◌∷◌, ◌++◌, map, length, get_or, set, refl, sym, ap, subst, ◌∙◌, inl, inr, arith, length-set, get_or-set_other, get_or-set_same, All}
+use Rattle.std.proofs.Common.{◌≡◌, ℕ, suc, ◌+◌, ◌-◌, ◌*◌, ◌%◌, ◌<◌, List, [], ◌∷◌, ◌++◌, set, refl, sym, ap, subst, ◌∙◌, inl, inr, arith, length-set, get_or-set_other, get_or-set_same}
 use Rattle.std.specs.Prelude.{Option, Some, None, option_to_list}
 use Rattle.std.specs.List.{sum_by}
 use Rattle.std.proofs.lemmas.Bool.{cases_eq}
 use Rattle.std.proofs.lemmas.Nat.{mod_below}
-use Rattle.std.proofs.lemmas.Option.{same_Some, none-some}
+use Rattle.std.proofs.lemmas.Option.{none-some}
 use Rattle.std.proofs.lemmas.List.Sums.{sum_by-append}
 use Rattle.std.proofs.lemmas.List.Elements.{All-push}
-use mathlib.Core.Option as maybe
 use mathlib.Core.Option.{some, none}
 use lib.ListN.{get_elem?}
-use Rattle.atomic_table.specs.Table.{State, Me, Allows, Valid, Act, gives, carried_after, rest, step, stepped}
+use Rattle.atomic_table.specs.Table.{State, Allows, gives, step, stepped}
 use Rattle.atomic_table.proofs.Lists.{set_here, set_else}
 use Rattle.jx_store.specs.declared.event.Taped.{Taped}
 use Rattle.jx_store.specs.declared.work.Named.{Named}
 use Rattle.jx_store.specs.declared.work.Named.TheVariants.{Made, Bad, Short}
-use Rattle.jx_store.specs.Setup.{Setup, load, end_of, Within}
+use Rattle.jx_store.specs.Setup.{Setup, Within}
 use Rattle.jx_ring.specs.declared.view.Taken.{Taken}
 use Rattle.jx_ring.specs.declared.view.RingView.{RingView}
 use Rattle.jx_ring.specs.declared.view.Place.{Place}
 use Rattle.jx_ring.specs.declared.view.Place.TheVariants.{Full}
-use Rattle.jx_ring.specs.Claims.{kind_of, taken, claims_of, stretch, put}
-use Rattle.jx_ring.specs.Rule.{Phase, free, held, parked, leaving, up, odd, holder, home, face, before, claim_in, ClaimOk, InPhase, AtHome, Knows, IsSpent, Ring}
+use Rattle.jx_ring.specs.Claims.{kind_of, taken, claims_of, put}
+use Rattle.jx_ring.specs.Rule.{Phase, held, parked, up, odd, holder, claim_in, ClaimOk, InPhase, AtHome, Knows, Ring}
 use Rattle.jx_ring.specs.Told.{Seated, Fulfils, claim_out, commits_it, parks}
 use Rattle.jx_ring.proofs.Counts.{sum_set, put_here, put_else}
-use Rattle.jx_ring.proofs.Cells.{knows_stays, moved}
+use Rattle.jx_ring.proofs.Cells.{moved}
 use Rattle.jx_ring.proofs.Rolls.{roster_set, claims_with, one, odd_put, terms_put}
 
 pub some_kind : {V : Type 0} (x : Named V) → 0 < kind_of x

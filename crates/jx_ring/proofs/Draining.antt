@@ -1,36 +1,35 @@
 -- The beginning and the end of a drain keep the rule.
-use Rattle.std.proofs.Common.{◌≡◌, ◌≢◌, ℕ, zero, suc, ◌+◌, ◌-◌, ◌*◌, ◌%◌, ◌<◌, ◌≤◌, ◌⊎◌, eqb, nat_le, cond, true, List, [], ◌∷◌, ◌++◌, map, length, get_or, set, refl, sym, ap, subst, ◌∙◌, inl, inr, ⊎_elim, arith, length-set, get_or-set_other, get_or-set_same}
-use Rattle.std.specs.Prelude.{Option, Some, None, option_to_list, vec_capacity}
+use Rattle.std.proofs.Common.{◌≡◌, ◌≢◌, ℕ, ◌+◌, ◌-◌, ◌*◌, ◌%◌, ◌<◌, ◌≤◌, eqb, List, [], ◌∷◌, ◌++◌, map, length, get_or, set, refl, sym, ap, subst, ◌∙◌, inl, inr, ⊎_elim, arith, length-set, get_or-set_other, get_or-set_same}
+use Rattle.std.specs.Prelude.{Some, None, vec_capacity}
 use Rattle.std.specs.Global.{Vec}
 use Rattle.std.specs.List.{sum_by}
-use Rattle.std.proofs.lemmas.Bool.{cases_eq, cases_lt}
+use Rattle.std.proofs.lemmas.Bool.{cases_eq}
 use Rattle.std.proofs.lemmas.Bool.Decides.{nat_tests}
 use Rattle.std.proofs.lemmas.Nat.{mod_below}
 use Rattle.std.proofs.lemmas.Option.{same_Some, none-some}
 use Rattle.std.proofs.lemmas.List.{length-map, length-append}
 use Rattle.std.proofs.lemmas.List.Sums.{sum_by_push}
-use mathlib.Core.Option as maybe
 use mathlib.Core.Option.{some, none}
 use native.Mathlib.Nat.{add-mod_right}
 use lib.ListN.{get_elem?}
 use prog.Atomic.{either}
-use Rattle.atomic_table.specs.Table.{State, Me, Allows, Valid, Act, takes, gives, chain, keeps, carried_after, rest, step, stepped}
+use Rattle.atomic_table.specs.Table.{State, Allows, Valid, Act, takes, gives, chain, keeps, carried_after, step, stepped}
 use Rattle.atomic_table.proofs.Lists.{at_set, set_here, set_else, exchanged}
 use Rattle.jx_store.specs.declared.event.Taped.{Taped}
 use Rattle.jx_store.specs.declared.work.Named.{Named}
-use Rattle.jx_store.specs.Setup.{Setup, load, end_of, Within}
+use Rattle.jx_store.specs.Setup.{Setup, end_of}
 use Rattle.jx_store.proofs.Loads.{load_rest}
 use Rattle.jx_store.proofs.Windows.{apart}
 use Rattle.jx_ring.specs.declared.view.Taken.{Taken}
 use Rattle.jx_ring.specs.declared.view.RingView.{RingView}
 use Rattle.jx_ring.specs.declared.view.Place.{Place}
 use Rattle.jx_ring.specs.declared.view.Place.TheVariants.{Empty, Full, Tape}
-use Rattle.jx_ring.specs.Claims.{taken, claims_of, stretch, put}
-use Rattle.jx_ring.specs.Rule.{Phase, free, held, parked, leaving, up, odd, holder, home, face, before, claim_in, EntryOk, TapeOk, InPhase, Cell, AtHome, Knows, Placed, IsSpent, draining, Ring}
+use Rattle.jx_ring.specs.Claims.{taken, claims_of, put}
+use Rattle.jx_ring.specs.Rule.{Phase, free, held, parked, leaving, up, odd, holder, home, face, before, claim_in, EntryOk, TapeOk, InPhase, Cell, AtHome, Knows, draining, Ring}
 use Rattle.jx_ring.specs.Told.{Seated, begins, ends, began, ended}
 use Rattle.jx_ring.proofs.Counts.{sum_same, put_here, put_else, stretch_less}
 use Rattle.jx_ring.proofs.Cells.{Homes, knows_stays, moved}
-use Rattle.jx_ring.proofs.Rolls.{roster_set, claims_with, one, odd_put, terms_put, terms_else}
+use Rattle.jx_ring.proofs.Rolls.{roster_set, terms_put, terms_else}
 use Rattle.jx_ring.proofs.Looks.{odd_bit, stays}
 
 module _ {V : Type 0} (p : Setup) (workers : ℕ) (Ok : ℕ → Named V → Type 0) where

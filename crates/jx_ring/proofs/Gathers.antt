@@ -1,7 +1,5 @@
 -- The tape, and behind it the entries out of the slots.
-use Rattle.std.proofs.Common.{◌≡◌, ◌≢◌, ℕ, zero, suc, ◌+◌, ◌-◌, ◌*◌, ◌/◌, ◌%◌, ◌<◌, ◌≤◌, ◌⊎◌, nat_lt, cond, Bool, true, false, List, [], ◌∷◌, ◌++◌, map, length, get_or, set, refl, sym, ap, subst, ◌∙◌, inl, inr, arith, append_assoc, append-nil, get_or-set_other, get_or-set_same}
-use Rattle.std.specs.Prelude.{Option, Some, None, vec_capacity}
-use Rattle.std.specs.Global.{Vec}
+use Rattle.std.proofs.Common.{◌≡◌, ◌≢◌, ℕ, zero, suc, ◌+◌, ◌-◌, ◌*◌, ◌/◌, ◌%◌, ◌<◌, ◌≤◌, nat_lt, cond, Bool, true, false, List, [], ◌∷◌, ◌++◌, map, length, get_or, set, refl, sym, ap, subst, ◌∙◌, inl, inr, arith, append_assoc, append-nil, get_or-set_other}
 use Rattle.std.specs.List.{sum_by}
 use Rattle.std.proofs.Math.Nat.{mul-add, mul-add-mod_self_left, mod-eq_of_lt, div-add-mod}
 use Rattle.std.proofs.lemmas.Bool.{cases_eq, cases_lt}
@@ -13,12 +11,12 @@ use mathlib.Core.Option.{some, some-injective}
 use lib.ListN.{get_elem?}
 use Rattle.jx_store.specs.declared.event.Taped.{Taped}
 use Rattle.jx_store.specs.declared.work.Named.{Named}
-use Rattle.jx_store.specs.Setup.{Setup, end_of}
+use Rattle.jx_store.specs.Setup.{Setup}
 use Rattle.jx_ring.specs.declared.view.Taken.{Taken}
 use Rattle.jx_ring.specs.declared.view.Place.{Place}
 use Rattle.jx_ring.specs.declared.view.Place.TheVariants.{Empty, Full, Tape}
 use Rattle.jx_ring.specs.Claims.{taken, stretch}
-use Rattle.jx_ring.specs.Rule.{EntryOk, TapeOk}
+use Rattle.jx_ring.specs.Rule.{TapeOk}
 use Rattle.jx_ring.specs.Closing.{IsWhole, Shut, found}
 use Rattle.jx_ring.proofs.Carrying.{longer_tape}
 

@@ -1,6 +1,6 @@
 -- Loads keep the rule, and tell what they found.
-use Rattle.std.proofs.Common.{◌≡◌, ◌≢◌, ℕ, zero, suc, ◌+◌, ◌-◌, ◌*◌, ◌/◌, ◌%◌, ◌<◌, ◌≤◌, ◌⊎◌, List, [], ◌∷◌, ◌++◌, map, length, get_or, set, refl, sym, ap, subst, ◌∙◌, inl, inr, arith, nat_le, cond}
-use Rattle.std.specs.Prelude.{Option, Some, None}
+use Rattle.std.proofs.Common.{◌≡◌, ℕ, ◌+◌, ◌/◌, ◌%◌, ◌<◌, ◌≤◌, ◌⊎◌, List, get_or, set, refl, sym, ap, subst, ◌∙◌, inl, inr, arith}
+use Rattle.std.specs.Prelude.{Option, Some}
 use Rattle.std.specs.List.{sum_by}
 use Rattle.std.proofs.lemmas.Bool.{cases_eq, cases_lt}
 use Rattle.std.proofs.lemmas.Bool.Decides.{nat_tests}
@@ -8,15 +8,14 @@ use Rattle.std.proofs.lemmas.Option.{same_Some}
 use mathlib.Core.Option.{some, none}
 use lib.ListN.{get_elem?}
 use lib.Seq.{set-get_or}
-use Rattle.atomic_table.specs.Table.{State, Me, Allows, keeps, step, stepped}
-use Rattle.jx_store.specs.declared.event.Taped.{Taped}
+use Rattle.atomic_table.specs.Table.{State, Allows, keeps, step, stepped}
 use Rattle.jx_store.specs.declared.work.Named.{Named}
-use Rattle.jx_store.specs.Setup.{Setup, end_of}
+use Rattle.jx_store.specs.Setup.{Setup}
 use Rattle.jx_ring.specs.declared.view.Taken.{Taken}
 use Rattle.jx_ring.specs.declared.view.RingView.{RingView}
 use Rattle.jx_ring.specs.declared.view.Place.{Place}
 use Rattle.jx_ring.specs.Claims.{claims_of}
-use Rattle.jx_ring.specs.Rule.{Phase, free, held, parked, leaving, up, odd, before, face, InPhase, Knows, IsSpent, draining, Ring}
+use Rattle.jx_ring.specs.Rule.{Phase, free, held, parked, leaving, up, odd, before, face, InPhase, Knows, draining, Ring}
 use Rattle.jx_ring.specs.Told.{Seated, sees_drained, sees_next, sees_committed, saw_drained, saw_next, saw_word}
 use Rattle.jx_ring.proofs.Counts.{sum_same}
 use Rattle.jx_ring.proofs.Cells.{looked}

@@ -1,16 +1,16 @@
 -- What stays of the lists of claims and of worker numbers when one view changes.
-use Rattle.std.proofs.Common.{◌≡◌, ◌≢◌, ℕ, zero, suc, ◌+◌, ◌-◌, ◌<◌, ◌≤◌, ◌⊎◌, List, [], ◌∷◌, ◌++◌, map, set, refl, sym, ap, subst, ◌∙◌, inl, inr, ⊎_elim, arith}
-use Rattle.std.specs.Prelude.{Option, Some, None, Contains, option_to_list}
+use Rattle.std.proofs.Common.{◌≡◌, ◌≢◌, ℕ, ◌+◌, ◌<◌, ◌≤◌, ◌⊎◌, List, [], ◌∷◌, ◌++◌, set, sym, ap, subst, ◌∙◌, inl, inr, ⊎_elim, arith}
+use Rattle.std.specs.Prelude.{Option, Contains, option_to_list}
 use Rattle.std.specs.List.{sum_by}
 use Rattle.std.proofs.lemmas.Bool.{cases_eq}
 use Rattle.std.proofs.lemmas.List.Sums.{sum_by-cons, sum_by-append}
-use mathlib.Core.Option.{some, some-injective}
+use mathlib.Core.Option.{some}
 use lib.ListN.{get_elem?}
 use Rattle.atomic_table.proofs.Lists.{at_set}
 use Rattle.jx_ring.specs.declared.view.Taken.{Taken}
 use Rattle.jx_ring.specs.declared.view.RingView.{RingView}
-use Rattle.jx_ring.specs.Claims.{claims_of, stretch, put}
-use Rattle.jx_ring.specs.Rule.{Phase, up, odd, claim_in, IsSpent, draining, Roster}
+use Rattle.jx_ring.specs.Claims.{stretch, put}
+use Rattle.jx_ring.specs.Rule.{Phase, odd, claim_in, IsSpent, draining, Roster}
 use Rattle.jx_ring.proofs.Counts.{sum_set, sum_same, put_here, put_else, stretch_put, stretch_same}
 
 pub roster_set : (workers o o' : ℕ) (vs : List RingView) (me : ℕ) (v w : RingView) → Roster workers o vs → get_elem? vs me ≡ some v → w.stands ≡ v.stands → w.worker ≡ v.worker

@@ -1,30 +1,28 @@
 -- The first view, the split of a seat and the join of two keep the rule.
-use Rattle.std.proofs.Common.{◌≡◌, ◌≢◌, ℕ, zero, suc, ◌+◌, ◌-◌, ◌*◌, ◌%◌, ◌<◌, ◌≤◌, ◌⊎◌, max, nat_le, cond, All, List, [], ◌∷◌, ◌++◌, map, length, get_or, take, drop, set, refl, sym, ap, subst, ◌∙◌, inl, inr, ⊎_elim, arith, length-set}
-use Rattle.std.specs.Prelude.{Option, Some, None, Contains, option_to_list, vec_capacity}
+use Rattle.std.proofs.Common.{◌≡◌, ◌≢◌, ℕ, zero, suc, ◌+◌, ◌-◌, ◌*◌, ◌%◌, ◌<◌, ◌≤◌, ◌⊎◌, All, List, [], ◌∷◌, ◌++◌, length, get_or, take, drop, set, refl, sym, ap, subst, ◌∙◌, inl, inr, ⊎_elim, arith}
+use Rattle.std.specs.Prelude.{Option, None, Contains, option_to_list, vec_capacity}
 use Rattle.std.specs.Global.{Vec}
 use Rattle.std.specs.List.{sum_by}
-use Rattle.std.proofs.lemmas.Bool.{cases_eq, cases_lt}
 use Rattle.std.proofs.lemmas.Bool.Decides.{nat_tests}
 use Rattle.std.proofs.lemmas.Nat.{mod_below}
-use Rattle.std.proofs.lemmas.Option.{same_Some, none-some}
+use Rattle.std.proofs.lemmas.Option.{none-some}
 use Rattle.std.proofs.lemmas.List.{length-map}
 use Rattle.std.proofs.lemmas.List.Sums.{sum_by-cons, sum_by-append, sum_by_push}
 use Rattle.std.proofs.lemmas.List.Elements.{All-append, Contains-append_left}
-use mathlib.Core.Option as maybe
-use mathlib.Core.Option.{some, none, some-injective, some-ne-none}
+use mathlib.Core.Option.{some, some-injective, some-ne-none}
 use lib.ListN.{get_elem?}
-use Rattle.atomic_table.specs.Table.{State, Splits, Joins, opening}
+use Rattle.atomic_table.specs.Table.{Splits, Joins, opening}
 use Rattle.atomic_table.proofs.Lists.{at_set, at_snoc, at_map}
 use Rattle.jx_store.specs.declared.event.Taped.{Taped}
 use Rattle.jx_store.specs.declared.work.Named.{Named}
-use Rattle.jx_store.specs.Setup.{Setup, load, end_of}
+use Rattle.jx_store.specs.Setup.{Setup}
 use Rattle.jx_store.specs.Order.{numbers}
 use Rattle.jx_ring.specs.declared.view.Taken.{Taken}
 use Rattle.jx_ring.specs.declared.view.RingView.{RingView}
 use Rattle.jx_ring.specs.declared.view.Place.{Place}
-use Rattle.jx_ring.specs.declared.view.Place.TheVariants.{Empty, Full, Tape}
-use Rattle.jx_ring.specs.Claims.{taken, claims_of, stretch, put}
-use Rattle.jx_ring.specs.Rule.{Phase, free, odd, before, claim_in, Cell, AtHome, TapeOk, Knows, Placed, IsSpent, draining, Roster, Ring, counting_down, first_view, deals, dealt, joined, spent_view}
+use Rattle.jx_ring.specs.declared.view.Place.TheVariants.{Empty, Tape}
+use Rattle.jx_ring.specs.Claims.{claims_of, stretch}
+use Rattle.jx_ring.specs.Rule.{Phase, free, before, claim_in, Knows, IsSpent, draining, Ring, counting_down, first_view, deals, dealt, joined, spent_view}
 use Rattle.jx_ring.specs.Passes.{Blank, Row}
 use Rattle.jx_ring.proofs.Counts.{sum_set, sum_same}
 use Rattle.jx_ring.proofs.Cells.{looked}

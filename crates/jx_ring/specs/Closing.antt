@@ -1,5 +1,5 @@
 -- What is left in a closed table, and the tape made of it.
-use Rattle.std.specs.Prelude.{◌≡◌, ℕ, zero, suc, ◌+◌, ◌-◌, ◌%◌, ◌<◌, ◌≤◌, nat_lt, cond, ◌⊎◌, List, [], ◌∷◌, ◌++◌, map, length, All, Option, Some, None, vec_capacity}
+use Rattle.std.specs.Prelude.{◌≡◌, ℕ, zero, suc, ◌+◌, ◌-◌, ◌%◌, ◌<◌, ◌≤◌, nat_lt, cond, List, [], ◌∷◌, ◌++◌, map, length, All, None, vec_capacity}
 use Rattle.std.specs.List.{sum_by}
 use Rattle.std.specs.Global.{Vec}
 use mathlib.Core.Option.{some}

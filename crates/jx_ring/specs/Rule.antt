@@ -2,7 +2,7 @@
 -- next number, word 1 twice the drained number, plus 1 while a drain is under way, and word
 -- k % window + 2 one more than the number last committed in the slot of k. Slot k % window is that of
 -- k, and slot `window` that of the tape.
-use Rattle.std.specs.Prelude.{◌≡◌, ℕ, zero, suc, ◌+◌, ◌-◌, ◌*◌, ◌%◌, ◌<◌, ◌≤◌, nat_le, cond, ◌⊎◌, List, [], ◌∷◌, ◌++◌, map, length, option_to_list, Option, Some, None, All, Contains, slice_index_or, vec_capacity, take, drop, max}
+use Rattle.std.specs.Prelude.{◌≡◌, ℕ, zero, suc, ◌+◌, ◌-◌, ◌*◌, ◌%◌, ◌<◌, ◌≤◌, nat_le, cond, ◌⊎◌, List, [], ◌∷◌, ◌++◌, map, length, Option, Some, None, All, Contains, slice_index_or, vec_capacity, take, drop, max}
 use Rattle.std.specs.List.{sum_by}
 use mathlib.Core.Option as maybe
 use mathlib.Core.Option.{some, none}

@@ -1,4 +1,4 @@
-use Rattle.std.proofs.Common.{◌≡◌, ℕ, ◌+◌, ◌*◌, ◌<◌, ◌≤◌, get_or, vec_len, vec_capacity}
+use Rattle.std.proofs.Common.{◌≡◌, ℕ, ◌+◌, ◌*◌, ◌≤◌, get_or, vec_len, vec_capacity}
 use Rattle.jx_ring.proofs.make.first_words.Given as goal
 
 abbrev pub invariant-loop : goal.invariant-loop

@@ -1,9 +1,6 @@
-use Rattle.std.proofs.Common.{◌≡◌, ℕ, List, [], ◌∷◌, ◌++◌, refl, ap, sym, ◌∙◌}
+use Rattle.std.proofs.Common.{◌≡◌, ℕ, List, [], ◌∷◌, ◌++◌, ap, sym, ◌∙◌}
 use Rattle.std.specs.Prelude.{vec_capacity}
-use Rattle.std.specs.Global.{Vec}
 use Rattle.atomic_table.specs.Table.{rest, turned}
-use Rattle.jx_store.specs.declared.event.Taped.{Taped}
-use Rattle.jx_store.specs.declared.work.Named.{Named}
 use Rattle.jx_ring.specs.declared.view.Place.{Place}
 use Rattle.jx_ring.specs.declared.view.Place.TheVariants.{Empty, Full, Tape}
 use Rattle.jx_ring.proofs.Carrying.{first_of, one_tape, one_entry}

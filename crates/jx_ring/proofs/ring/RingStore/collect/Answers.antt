@@ -1,7 +1,7 @@
-use Rattle.std.proofs.Common.{◌≡◌, ◌≢◌, ℕ, ◌+◌, ◌%◌, ◌<◌, ◌≤◌, Bool, true, false, List, [], ◌∷◌, ◌++◌, length, get_or, set, refl, inl, inr, ap, sym, subst, ◌∙◌, arith, get_or-set_other}
+use Rattle.std.proofs.Common.{◌≡◌, ℕ, ◌+◌, ◌%◌, Bool, true, false, List, ◌++◌, get_or, set, inl, inr, ap, sym, subst, ◌∙◌, arith, get_or-set_other}
 use Rattle.std.specs.Prelude.{vec_capacity}
 use Rattle.std.specs.Global.{Vec}
-use Rattle.std.specs.Mem.Slots.{slots_items, slots_len, slots_filled}
+use Rattle.std.specs.Mem.Slots.{slots_items, slots_filled}
 use Rattle.std.proofs.lemmas.Bool.{cases_eq, cases_lt}
 use mathlib.Core.Option.{some}
 use lib.ListN.{get_elem?}
@@ -10,7 +10,7 @@ use Rattle.jx_store.specs.declared.event.Taped.{Taped}
 use Rattle.jx_store.specs.declared.work.Named.{Named}
 use Rattle.jx_ring.specs.declared.view.Place.{Place}
 use Rattle.jx_ring.specs.declared.view.Place.TheVariants.{Empty, Full}
-use Rattle.jx_ring.specs.Closing.{Shut, found}
+use Rattle.jx_ring.specs.Closing.{found}
 use Rattle.jx_ring.proofs.Gathers.{step_full, step_empty, room_left, whole, cleared, still_clear, some_number}
 use Rattle.jx_ring.proofs.ring.RingStore.collect.Goals as goal
 use Rattle.jx_ring.proofs.ring.RingStore.collect.Goals.{in-Full, in-Empty}

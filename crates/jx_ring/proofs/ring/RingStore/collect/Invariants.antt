@@ -3,8 +3,6 @@ use Rattle.std.specs.Mem.Slots.{slots_items, slots_len, slots_filled}
 use Rattle.jx_store.specs.Valid.{IsOf}
 use Rattle.jx_ring.specs.declared.view.Taken.{Taken}
 use Rattle.jx_ring.specs.Closing.{Shut, found}
-use Rattle.jx_ring.proofs.Closes
-use Rattle.jx_ring.proofs.Gathers
 use Rattle.jx_ring.proofs.ring.RingStore.collect.Given as goal
 
 abbrev pub invariant-loop-i : goal.invariant-loop-i

@@ -1,13 +1,10 @@
-use Rattle.std.proofs.Common.{◌≡◌, ℕ, ◌+◌, ◌%◌, ◌≤◌, List, [], ◌∷◌, ◌++◌, length, All, refl, ap, sym, subst, ◌∙◌, arith}
-use Rattle.std.specs.Prelude.{Option, Some, None}
+use Rattle.std.proofs.Common.{◌≡◌, ℕ, ◌%◌, ◌≤◌, [], ◌∷◌, length, All, refl, ap, sym, subst, ◌∙◌, arith}
 use Rattle.std.proofs.lemmas.List.Elements.{All-push}
 use Rattle.atomic_table.specs.Table.{rest}
 use Rattle.jx_store.specs.declared.event.Taped.{Taped}
 use Rattle.jx_store.specs.declared.work.Named.{Named}
 use Rattle.jx_ring.specs.declared.view.Taken.{Taken}
-use Rattle.jx_ring.specs.declared.view.RingView.{RingView}
-use Rattle.jx_ring.specs.declared.view.Place.{Place}
-use Rattle.jx_ring.specs.declared.view.Place.TheVariants.{Empty, Full}
+use Rattle.jx_ring.specs.declared.view.Place.TheVariants.{Full}
 use Rattle.jx_ring.specs.Claims.{taken}
 use Rattle.jx_ring.specs.Told.{claim_out, commits_it}
 use Rattle.jx_ring.specs.Passes.{PassView, claim_by, out}

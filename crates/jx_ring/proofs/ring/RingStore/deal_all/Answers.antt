@@ -1,14 +1,12 @@
-use Rattle.std.proofs.Common.{◌≡◌, ℕ, ◌+◌, ◌-◌, ◌<◌, ◌≤◌, List, [], ◌∷◌, ◌++◌, length, get_or, drop, map, reverse, All, refl, ap, sym, subst, ◌∙◌, arith}
-use Rattle.std.specs.Prelude.{Option, None, Contains}
+use Rattle.std.proofs.Common.{◌≡◌, ℕ, ◌-◌, List, [], drop, map, reverse, All, refl, ap, sym, subst, ◌∙◌, arith}
+use Rattle.std.specs.Prelude.{None, Contains}
 use Rattle.std.proofs.lemmas.List.Elements.{All-push}
 use Rattle.std.proofs.lemmas.List.Sorted.{All-permutation}
 use Rattle.atomic_table.specs.Seated.{TableId}
 use Rattle.jx_store.specs.Order.{numbers}
 use Rattle.jx_ring.specs.declared.view.RingView.{RingView}
-use Rattle.jx_ring.specs.declared.view.Place.{Place}
 use Rattle.jx_ring.specs.Passes.{PassView}
 use Rattle.jx_ring.specs.Rule.{first_view, counting_down, deals, dealt}
-use Rattle.jx_ring.specs.Told.{Seated}
 use Rattle.jx_ring.proofs.Dealing.{count_step, dealt_one, dealt_all}
 use Rattle.jx_ring.proofs.Seats.{ends_at_zero}
 use Rattle.jx_ring.proofs.ring.RingStore.deal_all.Goals as goal

@@ -1,4 +1,4 @@
-use Rattle.std.proofs.Common.{◌≡◌, ℕ, ◌+◌, ◌-◌, ◌<◌, ◌≤◌, [], map, reverse, All, vec_len, vec_capacity}
+use Rattle.std.proofs.Common.{◌≡◌, ◌+◌, ◌-◌, ◌<◌, ◌≤◌, [], map, reverse, All, vec_len, vec_capacity}
 use Rattle.std.specs.Prelude.{None}
 use Rattle.jx_store.specs.Order.{numbers}
 use Rattle.jx_ring.specs.Passes.{PassView}

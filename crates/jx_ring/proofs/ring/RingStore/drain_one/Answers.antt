@@ -1,15 +1,12 @@
-use Rattle.std.proofs.Common.{◌≡◌, ℕ, ◌+◌, ◌%◌, List, [], ◌∷◌, ◌++◌, map, length, refl, ap, sym, subst, ◌∙◌, arith}
-use Rattle.std.specs.Prelude.{Option, Some, vec_capacity}
+use Rattle.std.proofs.Common.{ℕ, ◌+◌, ◌%◌, List, [], ◌∷◌, map, ap, sym, subst, ◌∙◌, arith}
+use Rattle.std.specs.Prelude.{Some}
 use Rattle.std.proofs.lemmas.List.{map-append}
-use Rattle.jx_store.specs.declared.event.Taped.{Taped}
-use Rattle.jx_store.specs.declared.work.Named.{Named}
 use Rattle.jx_store.specs.Valid.{IsOf}
 use Rattle.jx_ring.specs.declared.view.Taken.{Taken}
 use Rattle.jx_ring.specs.declared.view.RingView.{RingView}
-use Rattle.jx_ring.specs.declared.view.Place.{Place}
 use Rattle.jx_ring.specs.declared.view.Place.TheVariants.{Empty, Full, Tape}
 use Rattle.jx_ring.specs.Claims.{taken}
-use Rattle.jx_ring.specs.Rule.{EntryOk, TapeOk}
+use Rattle.jx_ring.specs.Rule.{TapeOk}
 use Rattle.jx_ring.proofs.Carrying.{longer_tape}
 use Rattle.jx_ring.proofs.ring.RingStore.drain_one.Goals as goal
 

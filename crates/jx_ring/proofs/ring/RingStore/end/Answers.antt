@@ -1,5 +1,5 @@
 use Rattle.std.proofs.Common.{ℕ, ◌+◌, ◌*◌, ◌%◌, ◌∷◌, [], arith, ap, ◌∙◌}
-use Rattle.jx_ring.specs.declared.view.Place.TheVariants.{Empty, Full, Tape}
+use Rattle.jx_ring.specs.declared.view.Place.TheVariants.{Empty, Tape}
 use Rattle.jx_ring.proofs.Draining.{ends_drain}
 use Rattle.jx_ring.proofs.ring.RingStore.end.Goals as goal
 

@@ -1,5 +1,4 @@
-use Rattle.std.proofs.Common.{◌≡◌, ℕ, ◌/◌, ◌≤◌, List, length, refl, ap, sym, ◌∙◌, arith}
-use Rattle.std.specs.Mem.Slots.{slots_items}
+use Rattle.std.proofs.Common.{sym, ◌∙◌}
 use Rattle.jx_ring.proofs.Ends.{lasts, says}
 use Rattle.jx_ring.proofs.ring.RingStore.into_tape.Goals as goal
 

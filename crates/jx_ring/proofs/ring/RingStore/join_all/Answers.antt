@@ -1,12 +1,9 @@
-use Rattle.std.proofs.Common.{◌≡◌, ℕ, ◌≤◌, List, [], ◌∷◌, ◌++◌, All, refl, ap, sym, subst, ◌∙◌, arith, append_assoc}
-use Rattle.std.specs.Prelude.{Option, None}
-use Rattle.atomic_table.specs.Seated.{TableId}
+use Rattle.std.proofs.Common.{◌≡◌, List, [], ◌∷◌, ◌++◌, All, ap, sym, subst, ◌∙◌, arith, append_assoc}
+use Rattle.std.specs.Prelude.{None}
 use Rattle.jx_ring.specs.declared.view.Taken.{Taken}
-use Rattle.jx_ring.specs.declared.view.RingView.{RingView}
-use Rattle.jx_ring.specs.declared.view.Place.{Place}
 use Rattle.jx_ring.specs.Passes.{PassView, out}
 use Rattle.jx_ring.specs.Closing.{IsLast}
-use Rattle.jx_ring.proofs.Joining.{all_mid, last_one, last_more}
+use Rattle.jx_ring.proofs.Joining.{all_mid, last_more}
 use Rattle.jx_ring.proofs.Seats.{first_nil}
 use Rattle.jx_ring.proofs.ring.RingStore.join_all.Goals as goal
 

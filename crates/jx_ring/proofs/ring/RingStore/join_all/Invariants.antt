@@ -1,5 +1,5 @@
-use Rattle.std.proofs.Common.{◌≡◌, ◌≤◌, List, ◌++◌, All}
-use Rattle.std.specs.Prelude.{None, []}
+use Rattle.std.proofs.Common.{◌≡◌, List, ◌++◌}
+use Rattle.std.specs.Prelude.{[]}
 use Rattle.jx_ring.specs.Passes.{PassView}
 use Rattle.jx_ring.specs.Closing.{IsLast}
 use Rattle.jx_ring.proofs.ring.RingStore.join_all.Given as goal

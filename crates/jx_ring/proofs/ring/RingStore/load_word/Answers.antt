@@ -1,5 +1,4 @@
-use Rattle.std.proofs.Common.{ℕ, ◌+◌, ◌%◌, arith, refl, ap, ◌∙◌}
-use Rattle.jx_store.specs.Setup.{Setup}
+use Rattle.std.proofs.Common.{ℕ, ◌+◌, ◌%◌, arith, ap, ◌∙◌}
 use Rattle.jx_ring.proofs.Looks.{looks_word}
 use Rattle.jx_ring.proofs.ring.RingStore.load_word.Goals as goal
 

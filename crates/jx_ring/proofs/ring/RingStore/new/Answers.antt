@@ -1,4 +1,4 @@
-use Rattle.std.proofs.Common.{◌≡◌, ℕ, ◌<◌, List, length, ap, sym, subst, ◌∙◌}
+use Rattle.std.proofs.Common.{ℕ, ◌<◌, List, length, sym, subst}
 use Rattle.jx_store.specs.Setup.{Setup}
 use Rattle.jx_ring.specs.Passes.{Blank, Row}
 use Rattle.jx_ring.proofs.Seats.{opens}

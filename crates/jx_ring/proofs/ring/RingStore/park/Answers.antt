@@ -1,4 +1,4 @@
-use Rattle.std.proofs.Common.{ℕ, ◌+◌, arith, refl, ap, ◌∙◌}
+use Rattle.std.proofs.Common.{ℕ, ◌+◌, arith, refl, ap}
 use Rattle.jx_ring.proofs.Committing.{commits}
 use Rattle.jx_ring.proofs.ring.RingStore.park.Goals as goal
 
