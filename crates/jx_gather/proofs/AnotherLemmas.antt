@@ -8,7 +8,7 @@ use Rattle.jx_base.specs.Pieces.{PieceValue}
 use Rattle.jx_geom.specs.Numbering.{block_number}
 use Rattle.jx_stream.specs.declared.Stream.{Stream}
 use Rattle.jx_stream.specs.First.{canvas_of}
-use Rattle.jx_gather.specs.Shapes.{shapes_of, layers_of}
+use Rattle.jx_stream.specs.Shapes.{shapes_of, layers_of}
 use Rattle.jx_gather.specs.BlockOf.{IsBlockOf, IsFoundOf, AreBlocksOf}
 use Rattle.jx_gather.specs.Another.{HasSameBlock, HaveSameBlocks}
 

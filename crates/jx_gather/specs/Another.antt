@@ -8,7 +8,7 @@ use Rattle.jx_geom.specs.Numbering.{IsBlock, block_number}
 use Rattle.jx_stream.specs.declared.Stream.{Stream}
 use Rattle.jx_stream.specs.First.{canvas_of}
 use Rattle.jx_stream.specs.Params.{planes_at}
-use Rattle.jx_gather.specs.Shapes.{geometry, shapes_of, layers_of, style_of}
+use Rattle.jx_stream.specs.Shapes.{geometry, shapes_of, layers_of, style_of}
 use Rattle.jx_gather.specs.Totals.{block_total}
 
 abbrev pub rect_in : Stream → BlockName → Rect

@@ -8,7 +8,7 @@ use Rattle.jx_grid.specs.declared.question.Plane.{Plane}
 use Rattle.jx_grid.specs.Cells.{Cells, zero_coef}
 use Rattle.jx_grid.specs.Asking.{Asking, Told, told}
 use Rattle.jx_grid.specs.Pass.{IsScan, scan_column, scan_row, significance_at, refinement_at, cleanup_at, pass_at, pass_at_nth, scanned, plane_of, pass_of}
-use Rattle.jx_grid.specs.Segments.{is_causal, begins}
+use Rattle.jx_grid.specs.Segments.{begins}
 use Rattle.jx_grid.specs.Reading.{Reading, Coding, Decoding, opened, renewed, read_answer, read_pass, read_from, zeros, at_start, decoded}
 use Rattle.jx_grid.specs.Needs.{followed, followed_pass, followed_from}
 use Rattle.jx_passenc.specs.Alike.{HasPasses, AreAlike}
@@ -19,6 +19,7 @@ use Rattle.jx_passenc.proofs.LeafLemmas.{IsBack, Back, back_told, back_then, lea
 use Rattle.jx_passenc.proofs.StepLemmas.{if_back, PassBack, significance_back, refinement_back}
 use Rattle.jx_passenc.proofs.RunBackLemmas.{cleanup_back}
 use Rattle.jx_passenc.proofs.BackLemmas.{tree_of, opened_cells}
+use Rattle.jx_base.specs.Passes.{is_causal}
 
 place_back : (pass : ℕ) (k : Plane) (m : Cells) (x y : ℕ) → IsScan k → IsIn m x y → AreClean k.planes (k.number + 1) m → PassBack k m (pass_at pass k m x y)
 place_back pass k m x y s i a =

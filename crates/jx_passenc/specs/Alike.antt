@@ -1,7 +1,7 @@
 -- What two styles must share so that the passes of one make what those of the other made.
 use Rattle.std.specs.Prelude.{ℕ, ◌≡◌, ◌≤◌, ◌-◌, ◌*◌}
-use Rattle.jx_grid.specs.Segments.{is_causal}
 use Rattle.jx_grid.specs.Reading.{Coding}
+use Rattle.jx_base.specs.Passes.{is_causal}
 
 -- how many passes coded planes can have (D.3)
 pub record HasPasses (c : Coding) (passes : ℕ) : Type 0 where
