@@ -1,5 +1,5 @@
 -- Segments without where their bytes lie in memory, and the style bits that decide how passes are coded (ITU-T T.800, table A.19).
-use Rattle.std.specs.Prelude.{ℕ, ◌-◌, ◌/◌, ◌%◌, ◌==◌, Bool, ◌||◌, List}
+use Rattle.std.specs.Prelude.{ℕ, ◌-◌, ◌==◌, Bool, ◌||◌, List}
 use Rattle.std.specs.Borrow.{Bor}
 use Rattle.jx_base.specs.Passes.{end_pass}
 
