@@ -17,7 +17,8 @@ use Rattle.jx_gather.specs.Leaves.{leaves}
 use Rattle.jx_gather.specs.Cells.{HasPrecinct, leaf_number}
 use Rattle.jx_gather.specs.Blocks.{Found, zero_in, founds_from, founds_in, own_founds}
 use Rattle.jx_gather.specs.Written.{Packets, next_layer, cut_at}
-use Rattle.jx_gather.specs.Carries.{pieces_at, pieces_of, zero_of, block_in, carried, part_of, bytes_of, Carries}
+use Rattle.jx_gather.specs.BlockOf.{pieces_at}
+use Rattle.jx_gather.specs.Carries.{pieces_of, zero_of, block_in, carried, part_of, bytes_of, Carries}
 use Rattle.jx_gather.proofs.CellLemmas.{leaf_once}
 use Rattle.jx_gather.proofs.FewLemmas.{own_here, own_past, own_nothing}
 use Rattle.jx_gather.proofs.TrackLemmas.{own_joined}

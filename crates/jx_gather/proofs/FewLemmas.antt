@@ -119,7 +119,7 @@ pub own_nothing : (number : ℕ) → own_founds number [] ≡ []
 unfolding own_founds
 own_nothing number = refl
 
-abbrev found_from : Geometry → PacketName → State → List ℕ → Part → Found
+abbrev pub found_from : Geometry → PacketName → State → List ℕ → Part → Found
 found_from g p k bytes q = record {
   number = leaf_number g p.comp p.res p.precinct q.block;
   zero = zero_in k q.block;

@@ -28,9 +28,9 @@ use Rattle.jx_gather.specs.Leaves.{leaves}
 use Rattle.jx_gather.specs.Cells.{HasPrecinct, leaf_number}
 use Rattle.jx_gather.specs.Blocks.{Found, founds_of, own_founds, pieces_in, passes_in, zero_from, block_with, block_of}
 use Rattle.jx_gather.specs.Gathered.{IsWhole, IsGathered}
-use Rattle.jx_gather.specs.BlockOf.{IsBlockOf, IsFoundOf, AreBlocksOf}
+use Rattle.jx_gather.specs.BlockOf.{pieces_at, IsBlockOf, IsFoundOf, AreBlocksOf}
 use Rattle.jx_gather.specs.Written.{Packets, IsLaid, cuts_at, laid_in, laid_blocks, packets_in}
-use Rattle.jx_gather.specs.Carries.{pieces_at, pieces_of, zero_of, AllCarry}
+use Rattle.jx_gather.specs.Carries.{pieces_of, zero_of, AllCarry}
 use Rattle.jx_gather.proofs.BlockLemmas.{blocks_long, block_there}
 use Rattle.jx_gather.proofs.BlockOfLemmas.{count_of}
 use Rattle.jx_gather.proofs.CarryLemmas.{found_at, carried_founds, AreRising, over_layers, same_from}

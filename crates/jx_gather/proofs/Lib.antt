@@ -32,3 +32,10 @@ pub mod CarryLemmas
 pub mod KeptLemmas
 pub mod EitherLemmas
 pub mod PlannedLemmas
+pub mod LayersFew
+pub mod CutRuns
+pub mod FitLemmas
+pub mod PlanLemmas
+pub mod CoverEither
+pub mod PartCuts
+pub mod AnotherLemmas

@@ -42,7 +42,8 @@ use Rattle.jx_gather.specs.Cells.{HasPrecinct, leaf_number, precinct_bands}
 use Rattle.jx_gather.specs.Data.{parts_length}
 use Rattle.jx_gather.specs.Blocks.{told_zero, zero_in}
 use Rattle.jx_gather.specs.Written.{Written, Packets, next_layer, AreClear, IsWritten, AreWritten}
-use Rattle.jx_gather.specs.Carries.{pieces_at, pieces_of, block_in, carried, part_of, parts_of, bytes_of, Carries, AllCarry}
+use Rattle.jx_gather.specs.BlockOf.{pieces_at}
+use Rattle.jx_gather.specs.Carries.{pieces_of, block_in, carried, part_of, parts_of, bytes_of, Carries, AllCarry}
 use Rattle.jx_gather.specs.Planned.{part_in, leaf_in, leaves_in, IsPlanned, ArePlanned}
 use Rattle.jx_gather.proofs.FreshLemmas.{fresh_in_range}
 use Rattle.jx_gather.proofs.CarryLemmas.{layer_here, layer_past, layer_nothing}
@@ -58,7 +59,7 @@ in_here layer p ps e = cond-true (p.0 == layer) (p.1 ∷ parts_in layer ps) (par
 in_past : (layer : ℕ) (p : ℕ × Part) (ps : List (ℕ × Part)) → (p.0 ≡ layer → ⊥) → parts_in layer (p ∷ ps) ≡ parts_in layer ps
 in_past layer p ps ne = cond-false (p.0 == layer) (p.1 ∷ parts_in layer ps) (parts_in layer ps) (ne_eqb p.0 layer ne)
 
-parts_of_pieces : (layer j : ℕ) (qs : List PieceValue) → parts_in layer (map (part_in j) qs) ≡ map (part_of j) (pieces_at layer qs)
+pub parts_of_pieces : (layer j : ℕ) (qs : List PieceValue) → parts_in layer (map (part_in j) qs) ≡ map (part_of j) (pieces_at layer qs)
 parts_of_pieces layer j [] = sym (ap (map (part_of j)) (layer_nothing layer))
 parts_of_pieces layer j (q ∷ qs) = elim (cases_eq q.layer layer) [
   | inl e ↦
@@ -155,7 +156,7 @@ block_unmarked : (o : Option Block) → ((d : Block) → o ≡ Some d → IsSoun
 block_unmarked None sound = tt
 block_unmarked (Some d) sound = let is : IsSound d = sound d refl in pieces_unmarked d.style.bits 0 0 d.passes d.pieces is.pieces
 
-sound_at : (blocks : List Block) (i : ℕ) (d : Block) → All IsSound blocks → slice_get blocks i ≡ Some d → IsSound d
+pub sound_at : (blocks : List Block) (i : ℕ) (d : Block) → All IsSound blocks → slice_get blocks i ≡ Some d → IsSound d
 sound_at blocks i d all found = subst (λ (x : Block). IsSound x) (get_or_from_slice_get blocks i d d found) (all i d (slice_get_within blocks i d found))
 
 carried_unmarked : (s : Stream) (t : ℕ) (blocks : List Block) (p : PacketName) (j : ℕ) → All IsSound blocks → AreUnmarked (carried s t blocks p j)
@@ -210,7 +211,7 @@ state_zero layers style l bands lvs j range fit types lt inside some =
     ap told_zero told.told.zero ∙ ap (λ (n : ℕ). told_zero (zero_told n leaf.zero leaf.parts)) at ∙ zero_known layers told.block l leaf.zero leaf.parts told.runs some
 
 -- ---- the leaves of a precinct
-leaves_long : (s : Stream) (t : ℕ) (blocks : List Block) (c r k : ℕ) → length (leaves_in s t blocks c r k) ≡ leaves (geometry s t) c r k
+pub leaves_long : (s : Stream) (t : ℕ) (blocks : List Block) (c r k : ℕ) → length (leaves_in s t blocks c r k) ≡ leaves (geometry s t) c r k
 unfolding leaves_in
 leaves_long s t blocks c r k =
     length-map (range_with_len 0 (leaves (geometry s t) c r k)) (leaf_in s t blocks c r k) ∙ length-range_with_len 0 (leaves (geometry s t) c r k)
@@ -224,9 +225,14 @@ none_of : (j : ℕ) (qs : List PieceValue) → map (part_of j) qs ≡ [] → qs 
 none_of j [] e = refl
 none_of j (q ∷ qs) e = absurd (cc)
 
+-- the leaves of each precinct fit
+abbrev pub PrecinctsFit : Stream → ℕ → List Block → Type 0
+PrecinctsFit s t blocks = (c r k : ℕ) → HasPrecinct (geometry s t) c r k
+    → LeavesFit (style_of s t c) (layers_of s t) (precinct_bands s (geometry s t) c r k) (leaves_in s t blocks c r k) × InTypes (layers_of s t) (leaves_in s t blocks c r k)
+
 -- ---- a packet
 module _ (s : Stream) (t : ℕ) (blocks : List Block) (ps : Packets) (range : StreamInRange s) (limits : GeometryInRange (geometry s t)) (inside : t < tile_number s.siz) (sound : All IsSound blocks)
-    (planned : ArePlanned s t blocks ps) where
+    (planned : ArePlanned s t blocks ps) (fits : PrecinctsFit s t blocks) where
   cells_range : (c r k : ℕ) → HasPrecinct (geometry s t) c r k → CellsInRange (precinct_bands s (geometry s t) c r k)
   cells_range c r k has = fresh_in_range s (geometry s t) c r k range limits inside refl has
 
@@ -244,7 +250,7 @@ module _ (s : Stream) (t : ℕ) (blocks : List Block) (ps : Packets) (range : St
             let own : parts_in p.layer (leaf_at lvs j).parts ≡ map (part_of j) (carried s t blocks p j) =
             ap (λ (x : Leafed). parts_in p.layer x.parts) leaf ∙ parts_of_pieces p.layer j (pieces_of (block_in s t blocks p j)) in
             ap (λ (x : State). zero_in x j) (plan.before (p.layer + 1) (let lt' = is.layer in omega arith))
-            ∙ state_zero (layers_of s t) (style_of s t p.comp) p.layer (precinct_bands s (geometry s t) p.comp p.res p.precinct) lvs j (cells_range p.comp p.res p.precinct has) plan.fit plan.types is.layer (omega arith)
+            ∙ state_zero (layers_of s t) (style_of s t p.comp) p.layer (precinct_bands s (geometry s t) p.comp p.res p.precinct) lvs j (cells_range p.comp p.res p.precinct has) (fits p.comp p.res p.precinct has).0 (fits p.comp p.res p.precinct has).1 is.layer (omega arith)
             (λ none. some (none_of j (carried s t blocks p j) (sym own ∙ none)))
             ∙ ap (λ (x : Leafed). x.zero) leaf);
       }
@@ -264,7 +270,7 @@ module _ (s : Stream) (t : ℕ) (blocks : List Block) (ps : Packets) (range : St
       let all : Fills x.parts x.bytes = subst (λ (qs : List Part). Fills qs x.bytes) (sym carries.parts) (subst (Fills (joined (parts_of s t blocks p) 0 n)) (sym carries.bytes) fills) in
       record {
         header = λ rest.
-            (let stands = (written_is_read layers style p.layer bands lvs rest (cells_range p.comp p.res p.precinct has) plan.fit plan.types is.layer).stands in
+            (let stands = (written_is_read layers style p.layer bands lvs rest (cells_range p.comp p.res p.precinct has) (fits p.comp p.res p.precinct has).0 (fits p.comp p.res p.precinct has).1 is.layer).stands in
             let H : List ℕ → Type 0 = λ h. IsPacket (h ++ rest) (ps.before p) x.parts (length h) (ps.before (next_layer p)) in
             let A : State → Type 0 = λ k. IsPacket (header_at layers style bands lvs p.layer ++ rest) k (parts_at p.layer lvs) (length (header_at layers style bands lvs p.layer)) (state_at layers style bands lvs (p.layer + 1)) in
             let B : List Part → Type 0 = λ qs. IsPacket (header_at layers style bands lvs p.layer ++ rest) (ps.before p) qs (length (header_at layers style bands lvs p.layer)) (state_at layers style bands lvs (p.layer + 1)) in
@@ -286,8 +292,8 @@ module _ (s : Stream) (t : ℕ) (blocks : List Block) (ps : Packets) (range : St
     planned_carries,
   )
 
-pub planned_laid : (b : List ℕ) (s : Stream) (t : ℕ) (blocks : List Block) (ps : Packets) → IsRead b s → totals_fault s ≡ None → t < tile_number s.siz → All IsSound blocks → ArePlanned s t blocks ps
+pub planned_laid : (b : List ℕ) (s : Stream) (t : ℕ) (blocks : List Block) (ps : Packets) → IsRead b s → totals_fault s ≡ None → t < tile_number s.siz → All IsSound blocks → PrecinctsFit s t blocks → ArePlanned s t blocks ps
     → AreWritten s t ps × AllCarry s t blocks ps
-planned_laid b s t blocks ps read none inside sound planned =
+planned_laid b s t blocks ps read none inside sound fits planned =
     let range : StreamInRange s = read_in_range b s read in
-    planned_all s t blocks ps range (geometry_fits s t range none inside) inside sound planned
+    planned_all s t blocks ps range (geometry_fits s t range none inside) inside sound planned fits

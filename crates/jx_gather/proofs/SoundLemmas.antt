@@ -54,7 +54,7 @@ use Rattle.jx_base.proofs.Lists.{contains_head, contains_tail, pairs_tail, pairs
 use Rattle.jx_base.specs.Bands.{bands_at}
 
 -- ---- a precinct before its first packet
-fresh_unknown : (bs : List BandCells) (j : ℕ) → get_or (all_blocks (fresh_bands bs)) j unknown_block ≡ unknown_block
+pub fresh_unknown : (bs : List BandCells) (j : ℕ) → get_or (all_blocks (fresh_bands bs)) j unknown_block ≡ unknown_block
 fresh_unknown [] j = refl
 fresh_unknown (b ∷ bs) j = by (b.wide == 0) (λ (i : ℕ). fresh_unknown bs i)
   where

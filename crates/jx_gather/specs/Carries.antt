@@ -1,7 +1,7 @@
 -- Packets that carry the pieces of given blocks: those of the blocks of their precinct in their layer, block by block, and their
 -- bytes joined (ITU-T T.800, B.9 and B.10).
-use Rattle.std.specs.Prelude.{◌≡◌, ◌+◌, ◌<◌, ◌==◌, ℕ, List, [], length, map, slice_get, Option, Some, None}
-use Rattle.std.specs.List.{filter, flat_map}
+use Rattle.std.specs.Prelude.{◌≡◌, ◌+◌, ◌<◌, ℕ, List, [], length, map, slice_get, Option, Some, None}
+use Rattle.std.specs.List.{flat_map}
 use Rattle.jx_base.specs.declared.pieces.Block.{Block}
 use Rattle.jx_base.specs.Joined.{joined}
 use Rattle.jx_base.specs.Pieces.{PieceValue}
@@ -15,11 +15,8 @@ use Rattle.jx_stream.specs.Shapes.{geometry, shapes_of, layers_of}
 use Rattle.jx_gather.specs.Leaves.{leaves}
 use Rattle.jx_gather.specs.Cells.{leaf_number}
 use Rattle.jx_gather.specs.Blocks.{zero_in}
+use Rattle.jx_gather.specs.BlockOf.{pieces_at}
 use Rattle.jx_gather.specs.Written.{Packets, next_layer}
-
--- pieces of a layer
-unfoldable pub pieces_at : ℕ → List PieceValue → List PieceValue
-pieces_at layer pieces = filter (λ (p : PieceValue). p.layer == layer) pieces
 
 abbrev pub pieces_of : Option Block → List PieceValue
 pieces_of None = []

@@ -7,7 +7,7 @@ use Rattle.jx_base.specs.Joined.{joined}
 use Rattle.jx_base.specs.Pieces.{PieceValue}
 use Rattle.jx_head.specs.declared.Part.{Part}
 use Rattle.jx_head.specs.Written.{Leafed, state_at}
-use Rattle.jx_head.specs.LeavesFit.{LeavesFit, InTypes, header_at, parts_at}
+use Rattle.jx_head.specs.LeavesFit.{header_at, parts_at}
 use Rattle.jx_order.specs.Steps.{name_of}
 use Rattle.jx_stream.specs.declared.Stream.{Stream}
 use Rattle.jx_stream.specs.Shapes.{geometry, layers_of, style_of}
@@ -30,10 +30,9 @@ leaf_in s t blocks c r k j = leaf_from j (block_in s t blocks (name_of 0 r c k) 
 unfoldable pub leaves_in : Stream → ℕ → List Block → ℕ → ℕ → ℕ → List Leafed
 leaves_in s t blocks c r k = map (leaf_in s t blocks c r k) (range_with_len 0 (leaves (geometry s t) c r k))
 
--- one precinct of a tile is written from the blocks
+-- one precinct of a tile is written from the blocks: in each layer the state before its packet, its header, of what parts the header
+-- tells, and the coded bytes
 pub record IsPlanned (s : Stream) (t : ℕ) (blocks : List Block) (ps : Packets) (c r k : ℕ) : Type 0 where
-  pub fit : LeavesFit (style_of s t c) (layers_of s t) (precinct_bands s (geometry s t) c r k) (leaves_in s t blocks c r k)
-  pub types : InTypes (layers_of s t) (leaves_in s t blocks c r k)
   pub before : (l : ℕ) → l ≤ layers_of s t
       → ps.before (name_of l r c k) ≡ state_at (layers_of s t) (style_of s t c) (precinct_bands s (geometry s t) c r k) (leaves_in s t blocks c r k) l
   pub headers : (l : ℕ) → l < layers_of s t

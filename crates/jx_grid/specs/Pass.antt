@@ -67,7 +67,8 @@ bit_of k g x y =
     Ask (question k (label_at k g x y) false (Bit x y)) (λ bit. if bit then sign_of k g x y else Told (changed g x y (with_bit k false)))
 
 abbrev pub significance_at : Plane → Cells → ℕ → ℕ → Asking Cells
-significance_at k g x y = if significant (coef_at g x y) || label_at k g x y == 0 then Told g else bit_of k g x y
+significance_at k g x y =
+    if significant (coef_at g x y) || is_decided k (coef_at g x y) || label_at k g x y == 0 then Told g else bit_of k g x y
 
 -- D.3.3
 abbrev pub refinement_label_at : Plane → Cells → ℕ → ℕ → ℕ

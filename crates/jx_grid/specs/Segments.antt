@@ -6,18 +6,6 @@ use Rattle.jx_base.specs.Passes.{end_pass}
 abbrev pub bytes_of : Bor (List ℕ) → List ℕ
 bytes_of s = s.now
 
--- style bit 1: contexts start anew at each pass
-abbrev pub resets : ℕ → Bool
-resets style = style / 2 % 2 == 1
-
--- style bit 3: vertically causal contexts
-abbrev pub is_causal : ℕ → Bool
-is_causal style = style / 8 % 2 == 1
-
--- style bit 5: segmentation symbols
-abbrev pub has_symbols : ℕ → Bool
-has_symbols style = style / 32 % 2 == 1
-
 -- the first pass of a segment
 abbrev pub begins : ℕ → ℕ → Bool
 begins style pass = pass == 0 || end_pass style (pass - 1)

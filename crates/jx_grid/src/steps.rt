@@ -158,7 +158,8 @@ pub(crate) fn significance<S: Source>(
     ensures source { OnOk result (source.new ≡ (told S.ask (significance_at plane grid.old x y) source.old).1) }
     ensures kept { IsKept plane.planes (plane.number + 1) grid.old grid.new }
 {
-    if grid.at(x, y).is_significant() || label(grid, plane, x, y) == 0 {
+    let coef = grid.at(x, y);
+    if coef.is_significant() || is_done(plane, coef) || label(grid, plane, x, y) == 0 {
         return Ok(());
     }
     decide_bit(source, grid, plane, x, y)

@@ -1,9 +1,10 @@
 ghost use Rattle.std.specs.Prelude.{◌≡◌, ◌+◌, ◌++◌, ◌∷◌, [], ◌/◌, ◌%◌, ◌^◌, ◌==◌, ◌&&◌, ◌<◌, ℕ, length, drop, All, OnOk, IfOk};
 ghost use Rattle.jx_grid.specs.Cells.{Cells, HasSize, AreWithin, IsKept};
 ghost use Rattle.jx_grid.specs.Pass.{IsScan, plane_of};
-ghost use Rattle.jx_grid.specs.Segments.{is_causal, has_symbols, begins};
+ghost use Rattle.jx_grid.specs.Segments.{begins};
 ghost use Rattle.jx_grid.specs.Reading.{Decoding, coding_of, first_segment, opened, read_bits, read_symbol, looked_of, read_within, read_pass, first_wrong};
 ghost use Rattle.jx_passdec.specs.Short.{AreShort, with_bits};
+ghost use Rattle.jx_base.specs.Passes.{is_causal, has_symbols};
 
 use crate::reader::Reader;
 use jx_base::{Band, NoMemory, Style, ends_segment, is_raw};
@@ -42,7 +43,7 @@ fn begins_segment(style: Style, pass: u16) -> bool
 fn has_symbol(style: Style, pass: u16) -> bool
     ensures { result ≡ has_symbols style.bits && pass % 3 == 0 }
 {
-    style.bits / 32 % 2 == 1 && pass % 3 == 0
+    style.segmentation() && pass % 3 == 0
 }
 
 impl<'a> Decoder<'a> {
@@ -110,10 +111,10 @@ impl<'a> Decoder<'a> {
         ensures decoding { OnOk result (self.new ≡ with_bits self.old (read_bits (coding_of band style.bits planes) pass self.old)) }
         ensures kept { OnOk result (IsKept planes ((pass + 2) / 3 + 1) self.old.cells self.new.cells) }
     {
-        if style.bits / 2 % 2 == 1 {
+        if style.reset() {
             self.reader.renew();
         }
-        let causal = style.bits / 8 % 2 == 1;
+        let causal = style.causal();
         run_pass(&mut self.reader, &mut self.grid, band, causal, planes, pass)
     }
 

@@ -3,6 +3,7 @@
 
 mod encode;
 mod encoder;
+pub mod laws;
 mod writer;
 
 pub use encode::encode_passes;

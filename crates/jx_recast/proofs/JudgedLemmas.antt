@@ -48,11 +48,11 @@ clean_data laws input f clean short breaks =
     let broken : IsBroken input clean.stream f = subst (λ (s : Stream). IsBroken input s f) one breaks.broken in
     laws.gathered input clean.stream clean.accepted.blocks f clean.accepted.read short clean.accepted.totals clean.accepted.gathered broken
 
-clean_rule : Laws → (input : List ℕ) (number place : ℕ) → IsClean input → length input ≤ most_bytes → Violates input number place → ⊥
+pub clean_rule : Laws → (input : List ℕ) (number place : ℕ) → IsClean input → length input ≤ most_bytes → Violates input number place → ⊥
 clean_rule laws input number place clean short (inl first) = clean_header laws input (fault.Rule number place) clean first
 clean_rule laws input number place clean short (inr later) = clean_data laws input (fault.Rule number place) clean short later
 
-clean_limit : Laws → (input : List ℕ) (number found : ℕ) → IsClean input → length input ≤ most_bytes → PassesLimit input number found → ⊥
+pub clean_limit : Laws → (input : List ℕ) (number found : ℕ) → IsClean input → length input ≤ most_bytes → PassesLimit input number found → ⊥
 clean_limit laws input number found clean short (inl long) = omega (arith, long.0, short)
 clean_limit laws input number found clean short (inr later) = elim later.1 [
   | inl first ↦ clean_header laws input (fault.Limit number found) clean first

@@ -10,8 +10,8 @@ ghost use Rattle.jx_recast.specs.Small.{AreInRange, IsSmall, Spells, headers_at,
 ghost use Rattle.jx_stream.specs.First.{stream_in};
 ghost use Rattle.jx_gather.specs.Accepted.{IsAccepted};
 
-use jx_gather::laws::never_both;
-use jx_stream::laws::{one_stream, violated_or_spelled};
+use jx_gather::laws::{never_both, one_violation};
+use jx_stream::laws::{one_first, one_stream, violated_or_spelled};
 
 /// The bytes of a codestream of this form tell its headers and its packet.
 pub fn one_reading()
@@ -47,5 +47,16 @@ pub fn clean_is_done_or_form()
 {
     one_stream();
     violated_or_spelled();
+    never_both();
+}
+
+/// An input has at most one verdict.
+pub fn one_verdict()
+    ensures { (input : List ℕ) (s t : Status) → Verdict input s → Verdict input t → s ≡ t }
+{
+    one_stream();
+    one_first();
+    violated_or_spelled();
+    one_violation();
     never_both();
 }

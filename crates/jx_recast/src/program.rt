@@ -1,4 +1,4 @@
-ghost use Rattle.std.specs.Prelude.{◌≡◌, ◌≤◌, ◌⊎◌, ℕ, List, [], true, false, Some, None, length, map, take, IfOk, IfErr, OnOk, OnErr, IfSome, IsTrue, string_bytes};
+ghost use Rattle.std.specs.Prelude.{◌≡◌, ◌≤◌, ◌<◌, ◌⊎◌, ℕ, List, [], true, false, Some, None, length, map, take, IfOk, IfErr, OnOk, OnErr, IfSome, IsTrue, string_bytes};
 ghost use Rattle.jx_outside.specs.Causes.{HasCause, Rose};
 ghost use Rattle.jx_outside.specs.Device.{Allows, joined};
 ghost use Rattle.jx_stream.specs.Read.{IsRead};
@@ -217,6 +217,8 @@ pub fn run<F: Files, S: Sink>(alloc: Global, words: &[String], files: &mut F, sa
     ensures read { result.status ≡ Status.ReadFault → Rose (F.read_faults files.old) (F.read_faults files.new) }
     ensures write { result.status ≡ Status.WriteFault
         → Rose (F.write_faults files.old) (F.write_faults files.new) ⊎ Rose (S.faults say.old) (S.faults say.new) }
+    // a line that couldn't be said
+    ensures unsaid { S.faults say.old < S.faults say.new → result.status ≡ Status.WriteFault }
     // where no count of faults rose
     ensures complete { (Rose (F.read_faults files.old) (F.read_faults files.new) → ⊥)
         → (Rose (F.write_faults files.old) (F.write_faults files.new) → ⊥)
