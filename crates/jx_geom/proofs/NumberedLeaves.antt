@@ -186,7 +186,7 @@ made_part g c r k b before cells all p h there ec ea =
     → p.first ≡ before + number_at y (cells_at g c r k b).x.low (cells_at g c r k b).y.low
     → (j : ℕ) → j < size_of (cells_at g c r k b) → part_at p j ≡ before + leaf_index g c r k b j in
     subst P (sym ec) (subst Q (sym ea) (λ some wide stride first j lt.
-        part_index (cells_at g c r k b) (blocks_in g c r b) p before j (corner_in g c r k b h there some) lt wide stride first))
+    part_index (cells_at g c r k b) (blocks_in g c r b) p before j (corner_in g c r k b h there some) lt wide stride first))
 
 pub corner_of : (g : Geometry) (c r k : ℕ) (b : Band) (cells all : Rect) → GeometryInRange g → HasPrecinct g c r k
     → cells ≡ cells_at g c r k b → all ≡ blocks_in g c r b → 0 < size_of cells → InRect all cells.x.low cells.y.low
