@@ -12,7 +12,7 @@ use Rattle.jx_geom.specs.declared.shape.CompShape.{CompShape}
 use Rattle.jx_geom.specs.Rects.{tile_rect}
 use Rattle.jx_geom.specs.Counts.{block_count, blocks_before_band, tile_count}
 use Rattle.jx_geom.specs.Counts.{resolution_blocks as count_in_resolution, component_blocks as count_in_component, tile_blocks as count_in_tile}
-use Rattle.jx_geom.specs.Geometry.{Geometry, GeometryInRange, HasBlock, shape_of, rect_of_tile, blocks_in}
+use Rattle.jx_geom.specs.Geometry.{Geometry, GeometryInRange, HasBlock, shape_of, rect_of_tile, blocks_in, no_shape}
 use Rattle.jx_geom.specs.Numbering.{number_in_tile, number_in_component, geometry_of, blocks_below, block_number}
 use Rattle.jx_geom.specs.Ranges.{HasBand}
 use Rattle.jx_geom.proofs.CountLemmas.{resolution_low, resolution_high, band_within}

@@ -14,7 +14,8 @@ use Rattle.jx_stream.specs.declared.Tile.{Tile}
 use Rattle.jx_stream.specs.Tiles.{tile_of, tiles_of}
 use Rattle.jx_stream.specs.First.{tile_number}
 use Rattle.jx_stream.specs.Spells.{TilePart, all_bytes, head_bytes, part_bytes, part_of, placed, first_sot, Spells}
-use Rattle.jx_gather.specs.Shapes.{no_tile, tile_at, IsRead}
+use Rattle.jx_stream.specs.Shapes.{no_tile, tile_at}
+use Rattle.jx_stream.specs.Read.{IsRead}
 use Rattle.jx_gather.specs.InRange.{DataInRange}
 
 -- what stands between the front and the rest of a file

@@ -6,15 +6,15 @@ use Rattle.jx_order.specs.Packets.{HasUncovered}
 use Rattle.jx_stream.specs.declared.Tile.{Tile}
 use Rattle.jx_stream.specs.declared.Stream.{Stream}
 use Rattle.jx_stream.specs.First.{tile_number}
-use Rattle.jx_gather.specs.declared.faults.GatherFault.{GatherFault}
-use Rattle.jx_gather.specs.declared.faults.GatherFault.TheVariants as fault
+use Rattle.jx_stream.specs.declared.faults.StreamFault.{StreamFault}
+use Rattle.jx_stream.specs.declared.faults.StreamFault.TheVariants as fault
 use Rattle.jx_gather.specs.Faults.{HasCause}
-use Rattle.jx_gather.specs.Shapes.{geometry, layers_of, tile_at}
+use Rattle.jx_stream.specs.Shapes.{geometry, layers_of, tile_at}
 use Rattle.jx_gather.specs.Gathered.{IsWhole, IsUncovered}
 use Rattle.jx_gather.specs.Covered.{LacksPacket}
 
 -- in the lowest tile of which some packet isn't covered
-pub uncovered_first : (s : Stream) (t : ℕ) (f : GatherFault) → t < tile_number s.siz → ((k : ℕ) → k < t → IsWhole s k) → HasCause (LacksPacket s t) f → HasCause (IsUncovered s) f
+pub uncovered_first : (s : Stream) (t : ℕ) (f : StreamFault) → t < tile_number s.siz → ((k : ℕ) → k < t → IsWhole s k) → HasCause (LacksPacket s t) f → HasCause (IsUncovered s) f
 uncovered_first s t (fault.Rule number place) inside before h = record { tile = t; inside = inside; some = h.some; lowest = before; fault_is = h.fault_is }
 uncovered_first s t (fault.Limit number found) inside before h = record { tile = t; inside = inside; some = h.some; lowest = before; fault_is = h.fault_is }
 uncovered_first s t fault.NoMemory inside before h = tt

@@ -1,5 +1,5 @@
 -- The first mark in a piece, looked for from one place on.
-use Rattle.std.proofs.Common.{◌≡◌, ℕ, ◌+◌, ◌-◌, ◌<◌, ◌≤◌, suc, true, false, List, ◌∷◌, Some, None, refl, arith}
+use Rattle.std.proofs.Common.{◌≡◌, ℕ, ◌+◌, ◌-◌, ◌<◌, ◌≤◌, true, false, List, Some, None, refl, arith}
 use Rattle.std.specs.List.{find, range_with_len}
 use Rattle.jx_gather.specs.Data.{is_marked}
 use Rattle.jx_base.proofs.Lists.{range_next}

@@ -17,8 +17,8 @@ use Rattle.jx_head.proofs.FreshLemmas.{fresh_state_is}
 use Rattle.jx_stream.specs.declared.Stream.{Stream}
 use Rattle.jx_stream.specs.First.{tile_number}
 use Rattle.jx_stream.specs.Params.{planes_at}
-use Rattle.jx_gather.specs.Shapes.{geometry, style_of}
-use Rattle.jx_gather.specs.InRange.{StreamInRange}
+use Rattle.jx_stream.specs.Shapes.{geometry, style_of}
+use Rattle.jx_stream.specs.InRange.{StreamInRange}
 use Rattle.jx_gather.specs.Cells.{HasPrecinct, cells_at, sizes_of, precinct_bands, fresh_precinct}
 use Rattle.jx_gather.specs.Leaves.{leaves, leaves_in}
 use Rattle.jx_gather.proofs.BlockLemmas.{bands_low, bands_high}

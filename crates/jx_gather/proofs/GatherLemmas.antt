@@ -8,11 +8,11 @@ use Rattle.jx_base.specs.Sound.{IsSound}
 use Rattle.jx_gather.proofs.SoundLemmas.{sound_blocks}
 use Rattle.jx_stream.specs.declared.Stream.{Stream}
 use Rattle.jx_stream.specs.First.{tile_number}
-use Rattle.jx_gather.specs.declared.faults.GatherFault.{GatherFault}
+use Rattle.jx_stream.specs.declared.faults.StreamFault.{StreamFault}
 use Rattle.jx_gather.specs.Totals.{totals_fault}
-use Rattle.jx_gather.specs.declared.faults.GatherFault.TheVariants as fault
+use Rattle.jx_stream.specs.declared.faults.StreamFault.TheVariants as fault
 use Rattle.jx_gather.specs.Faults.{HasCause}
-use Rattle.jx_gather.specs.Shapes.{IsRead}
+use Rattle.jx_stream.specs.Read.{IsRead}
 use Rattle.jx_gather.specs.WellFormed.{IsWellFormed}
 use Rattle.jx_gather.specs.Gathered.{IsWhole, AreTileBlocks, IsGathered, IsUncovered, BreaksTile, BreaksData, IsBroken}
 use Rattle.jx_gather.specs.Joined.{IsGatheredTo, with_tile}
@@ -51,7 +51,7 @@ pub gathered_all : (b : List ℕ) (s : Stream) (blocks : List Block) → ((t : �
     → IsGatheredTo b s (tile_number s.siz) blocks → IsGathered b s blocks
 gathered_all b s blocks whole done = record { whole = whole; tiles = done.tiles; are = done.are; blocks_are = done.blocks_are }
 
-pub tile_refused : (b : List ℕ) (s : Stream) (t : ℕ) (blocks : List Block) (f : GatherFault) → ((t : ℕ) → t < tile_number s.siz → IsWhole s t) → t < tile_number s.siz
+pub tile_refused : (b : List ℕ) (s : Stream) (t : ℕ) (blocks : List Block) (f : StreamFault) → ((t : ℕ) → t < tile_number s.siz → IsWhole s t) → t < tile_number s.siz
     → IsGatheredTo b s t blocks → BreaksTile b s t f → BreaksData b s f
 tile_refused b s t blocks f whole below done breaks = record {
   whole = whole;
@@ -62,23 +62,23 @@ tile_refused b s t blocks f whole below done breaks = record {
 }
 
 -- a refusal of a tile is one of the codestream
-pub cause_of_tile : (b : List ℕ) (s : Stream) (t : ℕ) (blocks : List Block) (e : GatherFault) → ((t : ℕ) → t < tile_number s.siz → IsWhole s t) → t < tile_number s.siz
+pub cause_of_tile : (b : List ℕ) (s : Stream) (t : ℕ) (blocks : List Block) (e : StreamFault) → ((t : ℕ) → t < tile_number s.siz → IsWhole s t) → t < tile_number s.siz
     → IsGatheredTo b s t blocks → HasCause (BreaksTile b s t) e → HasCause (BreaksData b s) e
 cause_of_tile b s t blocks (fault.Rule number place) whole below done breaks = tile_refused b s t blocks (fault.Rule number place) whole below done breaks
 cause_of_tile b s t blocks (fault.Limit number found) whole below done breaks = tile_refused b s t blocks (fault.Limit number found) whole below done breaks
 cause_of_tile b s t blocks fault.NoMemory whole below done breaks = tt
 
-pub cause_of_data : (b : List ℕ) (s : Stream) (e : GatherFault) → totals_fault s ≡ None → HasCause (BreaksData b s) e → HasCause (IsBroken b s) e
+pub cause_of_data : (b : List ℕ) (s : Stream) (e : StreamFault) → totals_fault s ≡ None → HasCause (BreaksData b s) e → HasCause (IsBroken b s) e
 cause_of_data b s (fault.Rule number place) none breaks = inr (none, inr breaks)
 cause_of_data b s (fault.Limit number found) none breaks = inr (none, inr breaks)
 cause_of_data b s fault.NoMemory none breaks = tt
 
-pub cause_of_cover : (b : List ℕ) (s : Stream) (e : GatherFault) → totals_fault s ≡ None → HasCause (IsUncovered s) e → HasCause (IsBroken b s) e
+pub cause_of_cover : (b : List ℕ) (s : Stream) (e : StreamFault) → totals_fault s ≡ None → HasCause (IsUncovered s) e → HasCause (IsBroken b s) e
 cause_of_cover b s (fault.Rule number place) none breaks = inr (none, inl breaks)
 cause_of_cover b s (fault.Limit number found) none breaks = inr (none, inl breaks)
 cause_of_cover b s fault.NoMemory none breaks = tt
 
-pub cause_of_totals : (b : List ℕ) (s : Stream) (e : GatherFault) → HasCause (λ f. totals_fault s ≡ Some f) e → HasCause (IsBroken b s) e
+pub cause_of_totals : (b : List ℕ) (s : Stream) (e : StreamFault) → HasCause (λ f. totals_fault s ≡ Some f) e → HasCause (IsBroken b s) e
 cause_of_totals b s (fault.Rule number place) h = inl h
 cause_of_totals b s (fault.Limit number found) h = inl h
 cause_of_totals b s fault.NoMemory h = tt

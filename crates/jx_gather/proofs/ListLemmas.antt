@@ -15,14 +15,14 @@ use Rattle.jx_stream.specs.declared.Stream.{Stream}
 use Rattle.jx_stream.specs.Params.{planes_at}
 use Rattle.jx_gather.specs.Blocks.{Found, own_founds, block_of, band_blocks, resolution_blocks}
 use Rattle.jx_gather.specs.Cells.{cells_at, sizes_of, precinct_bands, fresh_precinct}
-use Rattle.jx_gather.specs.InRange.{StreamInRange}
-use Rattle.jx_gather.specs.Shapes.{geometry, shapes_of, style_of}
+use Rattle.jx_stream.specs.InRange.{StreamInRange}
+use Rattle.jx_stream.specs.Shapes.{geometry, shapes_of, shapes_in, style_of}
 use Rattle.jx_gather.proofs.BlockLemmas.{bands_low, bands_high, blocks_low, blocks_high}
 use Rattle.jx_gather.proofs.CellLemmas.{bands_of}
 
 -- a tile has as many components as the picture
 pub few_components : (s : Stream) (g : Geometry) → StreamInRange s → g ≡ geometry s g.tile → length g.shapes ≤ 16384
-unfolding shapes_of
+unfolding shapes_in
 few_components s g h e =
     let P : Geometry → Type 0 = λ x. length x.shapes ≤ 16384 in
     let long : length (shapes_of s g.tile) ≡ length s.siz.comps =

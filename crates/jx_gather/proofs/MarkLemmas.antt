@@ -5,16 +5,16 @@ use Rattle.std.specs.Option.{option_or}
 use Rattle.std.proofs.lemmas.Bool.{eq-eqb, and_cases, or_parts, ltb-false, both_ways, true≢false}
 use Rattle.jx_base.specs.Markers.{HasNoMarker}
 use Rattle.jx_head.specs.declared.Part.{Part}
-use Rattle.jx_gather.specs.declared.faults.GatherFault.{GatherFault}
-use Rattle.jx_gather.specs.Faults.{broken}
+use Rattle.jx_stream.specs.declared.faults.StreamFault.{StreamFault}
+use Rattle.jx_stream.specs.Faults.{broken}
 use Rattle.jx_gather.specs.Data.{front_length, parts_length, is_marked, first_mark, rule_30, marks_fault, body_fault}
 
 -- ---- faults one after another
-or_first : (a b : Option GatherFault) → option_or a b ≡ None → a ≡ None
+or_first : (a b : Option StreamFault) → option_or a b ≡ None → a ≡ None
 or_first None b h = refl
 or_first (Some f) b h = absurd cc
 
-or_later : (a b : Option GatherFault) → option_or a b ≡ None → b ≡ None
+or_later : (a b : Option StreamFault) → option_or a b ≡ None → b ≡ None
 or_later None b h = h
 or_later (Some f) b h = absurd cc
 
@@ -51,7 +51,7 @@ follows byte (next ∷ rest) h e = by (and_cases (byte == 255) ((1 == suc (suc (
     by (inl f) = absurd (both_ways (byte == 255) f (eq-eqb byte 255 e))
     by (inr f) = ltb-false 143 next (or_parts (1 == suc (suc (length rest))) (nat_lt 143 next) f).1
 
-later_mark : (byte : ℕ) (rest : List ℕ) (i : ℕ) → is_marked (byte ∷ rest) (suc i) ≡ is_marked rest i
+pub later_mark : (byte : ℕ) (rest : List ℕ) (i : ℕ) → is_marked (byte ∷ rest) (suc i) ≡ is_marked rest i
 later_mark byte rest i =
     let e : suc i + 1 ≡ suc (i + 1) = omega arith in
     ap (λ (n : ℕ). (slice_index rest i == 255) && ((n == suc (length rest)) || nat_lt 143 (get_or (byte ∷ rest) n 0))) e

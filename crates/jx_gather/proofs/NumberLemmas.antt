@@ -1,17 +1,13 @@
 -- Where a list joined from lists of known lengths has its items, and the number of a precinct.
-use Rattle.std.proofs.Common.{◌≡◌, ℕ, zero, suc, ◌+◌, ◌≤◌, ◌<◌, List, [], ◌∷◌, ◌++◌, length, take, get_or, sum_by, Some, inl, inr, ◌∙◌, ap, sym, subst, refl, arith, add-one, length-append}
+use Rattle.std.proofs.Common.{◌≡◌, ℕ, zero, suc, ◌+◌, ◌≤◌, ◌<◌, length, Some, ◌∙◌, ap, sym, subst, refl, arith}
 use Rattle.std.specs.List.{slice_get}
-use Rattle.std.proofs.Math.Seq.{take-length}
-use Rattle.std.proofs.lemmas.Bool.{cases_lt}
-use Rattle.std.proofs.lemmas.List.Sums.{sum_by_more}
 use Rattle.jx_base.specs.Places.{size_of}
-use Rattle.jx_geom.specs.declared.shape.CompShape.{CompShape}
 use Rattle.jx_geom.specs.Counts.{precinct_count, component_precincts, tile_precincts}
 use Rattle.jx_geom.specs.Geometry.{Geometry, no_shape, shape_of, rect_of_tile, precincts_in}
 use Rattle.jx_stream.specs.declared.Stream.{Stream}
 use Rattle.jx_gather.specs.Cells.{HasPrecinct, one_precinct, fresh_precinct, fresh_resolution, fresh_component, fresh_precincts, precinct_number}
 use Rattle.jx_base.specs.Joined.{joined, sum_below}
-use Rattle.jx_base.proofs.Joined.{joined_none, joined_next, joined_length, joined_at}
+use Rattle.jx_base.proofs.Joined.{joined_length, joined_at}
 use Rattle.jx_base.proofs.Sums.{sum_below_more, sum_once, front_sum, whole_sum}
 
 one_long : (s : Stream) (g : Geometry) (c r n : ℕ) → sum_below (λ i. length (one_precinct s g c r i)) n ≡ n

@@ -1,6 +1,6 @@
 -- Tile data have one reading: they are cut into packets in one way, or break one rule first.
-use Rattle.std.proofs.Common.{◌≡◌, ℕ, zero, suc, ◌+◌, ◌<◌, Bool, true, false, List, [], ◌∷◌, ◌++◌, Some, None, Option, inl, inr, ◌⊎◌, ◌∙◌, ap, sym, subst, refl, arith, length, take, drop, set, append-nil, length-append}
-use Rattle.std.specs.Prelude.{◌-◌, slice_get}
+use Rattle.std.proofs.Common.{◌≡◌, ℕ, suc, ◌+◌, ◌<◌, Bool, true, false, List, [], ◌∷◌, ◌++◌, Some, None, Option, inl, inr, ◌⊎◌, ◌∙◌, ap, sym, subst, refl, arith, length, take, drop, set, append-nil, length-append}
+use Rattle.std.specs.Prelude.{slice_get}
 use Rattle.std.specs.Option.{option_or}
 use Rattle.std.proofs.lemmas.Bool.{cases_lt}
 use Rattle.jx_base.specs.declared.pieces.Block.{Block}
@@ -15,46 +15,45 @@ use Rattle.jx_order.proofs.OrderLemmas.{one_order}
 use Rattle.jx_stream.specs.declared.Body.{Body}
 use Rattle.jx_stream.specs.declared.Stream.{Stream}
 use Rattle.jx_stream.specs.First.{tile_number}
-use Rattle.jx_gather.specs.declared.faults.GatherFault.{GatherFault}
-use Rattle.jx_gather.specs.declared.faults.GatherFault.TheVariants as fault
-use Rattle.jx_gather.specs.Faults.{broken}
-use Rattle.jx_gather.specs.Shapes.{geometry, layers_of, tile_at}
+use Rattle.jx_stream.specs.declared.faults.StreamFault.{StreamFault}
+use Rattle.jx_stream.specs.declared.faults.StreamFault.TheVariants as fault
+use Rattle.jx_stream.specs.Faults.{broken}
+use Rattle.jx_stream.specs.Shapes.{geometry, layers_of, tile_at}
 use Rattle.jx_gather.specs.Totals.{totals_fault}
 use Rattle.jx_gather.specs.Data.{window, due, behind, end_of_data, sop_fault, header_in, first_mark, rule_30, marks_fault, body_fault, front_length, parts_length}
 use Rattle.jx_gather.specs.Cuts.{Cut, IsCut, BreaksHeader, BreaksBody, Breaks, Left, IsTurn, AreCuts, names_of, number_of, BreaksDue, IsLeftOver, Stops}
 use Rattle.jx_gather.specs.Blocks.{founds_of, tile_blocks}
 use Rattle.jx_gather.specs.Gathered.{IsListOf, IsWhole, IsCutUp, AreTileBlocks, IsGathered, IsUncovered, BreaksTile, BreaksData, IsBroken, start}
 use Rattle.jx_gather.proofs.TurnLemmas.{Precincts, Keeps, Listed, listed, AllKnown, AreInTurn, are_in_turn, known_there, has_precinct, due_named}
-use Rattle.jx_base.specs.Joined.{joined, joined_below}
 use Rattle.jx_base.proofs.Joined.{joined_same}
 use Rattle.jx_base.proofs.Lists.{some_none, none_some, some_same, head_same, tail_same}
 
 -- ---- where a test is violated is no matter of the place
-both_clear : (m n a b : ℕ) (x y : Bool) (f : GatherFault) → option_or (broken m a x) (broken n a y) ≡ Some f → option_or (broken m b x) (broken n b y) ≡ None → ⊥
+both_clear : (m n a b : ℕ) (x y : Bool) (f : StreamFault) → option_or (broken m a x) (broken n a y) ≡ Some f → option_or (broken m b x) (broken n b y) ≡ None → ⊥
 both_clear m n a b true y f h k = some_none (fault.Rule m b) k
 both_clear m n a b false true f h k = some_none (fault.Rule n b) k
 both_clear m n a b false false f h k = none_some f h
 
-pub sop_clear : (w : List ℕ) (a b number : ℕ) (f : GatherFault) → sop_fault w a number ≡ Some f → sop_fault w b number ≡ None → ⊥
+pub sop_clear : (w : List ℕ) (a b number : ℕ) (f : StreamFault) → sop_fault w a number ≡ Some f → sop_fault w b number ≡ None → ⊥
 unfolding sop_fault
 sop_clear w a b number f h k = both_clear 26 29 a b _ _ f h k
 
-marks_clear : (a b : ℕ) (bytes : List ℕ) (parts : List Part) (f : GatherFault) → marks_fault a bytes parts ≡ Some f → marks_fault b bytes parts ≡ None → ⊥
+marks_clear : (a b : ℕ) (bytes : List ℕ) (parts : List Part) (f : StreamFault) → marks_fault a bytes parts ≡ Some f → marks_fault b bytes parts ≡ None → ⊥
 marks_clear a b bytes [] f h k = none_some f h
 marks_clear a b bytes (p ∷ parts) f h k =
     by (first_mark (take p.length bytes)) (marks_fault (a + p.length) (drop p.length bytes) parts) (marks_fault (b + p.length) (drop p.length bytes) parts)
     (marks_clear (a + p.length) (b + p.length) (drop p.length bytes) parts f) h k
   where
-    by : (m : Option ℕ) (x y : Option GatherFault) → (x ≡ Some f → y ≡ None → ⊥) → option_or (rule_30 a m) x ≡ Some f → option_or (rule_30 b m) y ≡ None → ⊥
+    by : (m : Option ℕ) (x y : Option StreamFault) → (x ≡ Some f → y ≡ None → ⊥) → option_or (rule_30 a m) x ≡ Some f → option_or (rule_30 b m) y ≡ None → ⊥
     by None x y rest h k = rest h k
     by (Some i) x y rest h k = some_none (fault.Rule 30 (b + i)) k
 
-first_clear : (m a b : ℕ) (v : Bool) (x y : Option GatherFault) (f : GatherFault) → (x ≡ Some f → y ≡ None → ⊥)
+first_clear : (m a b : ℕ) (v : Bool) (x y : Option StreamFault) (f : StreamFault) → (x ≡ Some f → y ≡ None → ⊥)
     → option_or (broken m a v) x ≡ Some f → option_or (broken m b v) y ≡ None → ⊥
 first_clear m a b true x y f rest h k = some_none (fault.Rule m b) k
 first_clear m a b false x y f rest h k = rest h k
 
-pub body_clear : (w : List ℕ) (a b used : ℕ) (parts : List Part) (f : GatherFault) → body_fault w a used parts ≡ Some f → body_fault w b used parts ≡ None → ⊥
+pub body_clear : (w : List ℕ) (a b used : ℕ) (parts : List Part) (f : StreamFault) → body_fault w a used parts ≡ Some f → body_fault w b used parts ≡ None → ⊥
 unfolding body_fault
 body_clear w a b used parts f h k =
     first_clear 28 a b _ (marks_fault (a + front_length w used) (drop (front_length w used) w) parts) (marks_fault (b + front_length w used) (drop (front_length w used) w) parts) f
@@ -83,7 +82,7 @@ cut_once w number k c d is en x y =
     same_cut c d en ec eu ep eb one.after_is
 
 -- a rule is violated in it, or it is cut off
-pub breaks_not_cut : (w : List ℕ) (at number : ℕ) (k : State) (f : GatherFault) (c : Cut) → IsState k → Breaks w at number k f → IsCut w number k c → ⊥
+pub breaks_not_cut : (w : List ℕ) (at number : ℕ) (k : State) (f : StreamFault) (c : Cut) → IsState k → Breaks w at number k f → IsCut w number k c → ⊥
 breaks_not_cut w at number k f c is x cut = elim x [
   | inl sop ↦ sop_clear w at 0 number f sop cut.sop
   | inr rest ↦ elim rest.1 [
@@ -100,26 +99,26 @@ breaks_not_cut w at number k f c is x cut = elim x [
 ]
 
 -- and it is one rule
-header_breaks_once : (h : List ℕ) (at : ℕ) (k : State) (f g : GatherFault) → BreaksHeader h at k f → BreaksHeader h at k g → f ≡ g
+header_breaks_once : (h : List ℕ) (at : ℕ) (k : State) (f g : StreamFault) → BreaksHeader h at k f → BreaksHeader h at k g → f ≡ g
 header_breaks_once h at k f g x y = elim x [
   | inl p ↦ elim y [ inl q ↦ p.1 ∙ sym q.1 | inr q ↦ absurd (q.0 p.0) ]
   | inr p ↦ elim y [ inl q ↦ absurd (p.0 q.0) | inr q ↦ p.2 ∙ sym q.2 ]
 ]
 
-header_or_body : (w : List ℕ) (at : ℕ) (k : State) (f g : GatherFault) → IsState k → BreaksHeader (header_in w) at k f → BreaksBody w at k g → ⊥
+header_or_body : (w : List ℕ) (at : ℕ) (k : State) (f g : StreamFault) → IsState k → BreaksHeader (header_in w) at k f → BreaksBody w at k g → ⊥
 header_or_body w at k f g is x y = elim x [
   | inl p ↦ planes_or_packet (header_in w) k y.parts y.used y.after is.bands p.0 y.header
   | inr p ↦ p.1 y.parts y.used y.after y.header
 ]
 
-body_breaks_once : (w : List ℕ) (at : ℕ) (k : State) (f g : GatherFault) → IsState k → BreaksBody w at k f → BreaksBody w at k g → f ≡ g
+body_breaks_once : (w : List ℕ) (at : ℕ) (k : State) (f g : StreamFault) → IsState k → BreaksBody w at k f → BreaksBody w at k g → f ≡ g
 body_breaks_once w at k f g is x y =
     let one = one_header (header_in w) k x.parts y.parts x.used y.used x.after y.after is.bands x.header y.header in
     let P : ℕ → Type 0 = λ u. body_fault w at u x.parts ≡ Some f in
     let Q : List Part → Type 0 = λ ps. body_fault w at y.used ps ≡ Some f in
     some_same f g (sym (subst Q one.parts_are (subst P one.used_is x.body)) ∙ y.body)
 
-pub breaks_once : (w : List ℕ) (at number : ℕ) (k : State) (f g : GatherFault) → IsState k → Breaks w at number k f → Breaks w at number k g → f ≡ g
+pub breaks_once : (w : List ℕ) (at number : ℕ) (k : State) (f g : StreamFault) → IsState k → Breaks w at number k f → Breaks w at number k g → f ≡ g
 breaks_once w at number k f g is x y = elim x [
   | inl p ↦ elim y [ inl q ↦ some_same f g (sym p ∙ q) | inr q ↦ absurd (some_none f (sym p ∙ q.0)) ]
   | inr p ↦ elim y [
@@ -168,7 +167,7 @@ turn_once b g number old c d new other en t is u =
 abbrev pub IsSure : Geometry → Left → PacketName → Type 0
 IsSure g left p = (state : State) → slice_get left.states (number_of g p) ≡ Some state → IsState state
 
-pub due_once : (b : List ℕ) (g : Geometry) (number : ℕ) (left : Left) (p : PacketName) (f h : GatherFault) → IsSure g left p
+pub due_once : (b : List ℕ) (g : Geometry) (number : ℕ) (left : Left) (p : PacketName) (f h : StreamFault) → IsSure g left p
     → BreaksDue b g number left p f → BreaksDue b g number left p h → f ≡ h
 due_once b g number left p f h sure x y =
     let both : x.body ∷ x.later ≡ y.body ∷ y.later = sym x.due_is ∙ y.due_is in
@@ -178,7 +177,7 @@ due_once b g number left p f h sure x y =
     let Q : State → Type 0 = λ w. Breaks (window b x.body) x.body.at number w h in
     breaks_once (window b x.body) x.body.at number x.state f h (sure x.state x.known) x.breaks (subst Q state (subst P body y.breaks))
 
-pub due_no_turn : (b : List ℕ) (g : Geometry) (number : ℕ) (left : Left) (f : GatherFault) (c : Cut) (new : Left) → IsSure g left c.name
+pub due_no_turn : (b : List ℕ) (g : Geometry) (number : ℕ) (left : Left) (f : StreamFault) (c : Cut) (new : Left) → IsSure g left c.name
     → BreaksDue b g number left c.name f → IsTurn b g number left c new → ⊥
 due_no_turn b g number left f c new sure x t =
     let both : x.body ∷ x.later ≡ t.body ∷ t.later = sym x.due_is ∙ t.due_is in
@@ -189,7 +188,7 @@ due_no_turn b g number left f c new sure x t =
     breaks_not_cut (window b t.body) t.body.at number t.state f c (sure t.state t.known) (subst Q state (subst P body x.breaks)) t.cut
 
 -- where reading stops before a packet, the packet isn't cut off
-pub stops_no_turn : (b : List ℕ) (g : Geometry) (end number : ℕ) (left : Left) (rest : List PacketName) (f : GatherFault) (c : Cut) (new : Left) → IsSure g left c.name
+pub stops_no_turn : (b : List ℕ) (g : Geometry) (end number : ℕ) (left : Left) (rest : List PacketName) (f : StreamFault) (c : Cut) (new : Left) → IsSure g left c.name
     → Stops b g end number left (c.name ∷ rest) f → IsTurn b g number left c new → ⊥
 stops_no_turn b g end number left rest f c new sure x t = elim x [
   | inl gone ↦ some_due t.body t.later (sym t.due_is ∙ gone.0)
@@ -201,12 +200,12 @@ abbrev pub AreSure : Geometry → Left → List PacketName → Type 0
 AreSure g left [] = Unit {0}
 AreSure g left (p ∷ rest) = IsSure g left p
 
-left_over_once : (left : Left) (f h : GatherFault) → IsLeftOver left f → IsLeftOver left h → f ≡ h
+left_over_once : (left : Left) (f h : StreamFault) → IsLeftOver left f → IsLeftOver left h → f ≡ h
 left_over_once left f h x y =
     let body : x.body ≡ y.body = first_due x.body y.body x.later y.later (sym x.due_is ∙ y.due_is) in
     x.fault_is ∙ ap (λ (w : Body). fault.Rule 31 w.at) body ∙ sym y.fault_is
 
-pub stops_once : (b : List ℕ) (g : Geometry) (end number : ℕ) (left : Left) (rest : List PacketName) (f h : GatherFault) → AreSure g left rest
+pub stops_once : (b : List ℕ) (g : Geometry) (end number : ℕ) (left : Left) (rest : List PacketName) (f h : StreamFault) → AreSure g left rest
     → Stops b g end number left rest f → Stops b g end number left rest h → f ≡ h
 stops_once b g end number left [] f h sure x y = left_over_once left f h x y
 stops_once b g end number left (p ∷ rest) f h sure x y = elim x [
@@ -303,7 +302,7 @@ one_cut_up b s t cuts others r x y =
     sym (go.is ∙ ap (λ (l : List Cut). cuts ++ l) (unnamed go.more go.names) ∙ append-nil cuts)
 
 -- or not at all, where a rule is violated
-stops_not_up : (b : List ℕ) (s : Stream) (g : Geometry) (last number count : ℕ) (left end : Left) (rest : List PacketName) (f : GatherFault) (more : List Cut) → AreSure g left rest
+stops_not_up : (b : List ℕ) (s : Stream) (g : Geometry) (last number count : ℕ) (left end : Left) (rest : List PacketName) (f : StreamFault) (more : List Cut) → AreSure g left rest
     → Stops b g last number left rest f → number ≡ count → names_of more ≡ rest → AreCuts b g count left more end → due end.bodies ≡ [] → ⊥
 stops_not_up b s g last number count left end [] f [] sure stops same names are up =
     some_due stops.body stops.later (sym stops.due_is ∙ ap (λ (l : Left). due l.bodies) are ∙ up)
@@ -316,7 +315,7 @@ stops_not_up b s g last number count left end (p ∷ rest) f (c ∷ more) sure s
     let T : ℕ → Type 0 = λ n. IsTurn b g n left c are.0 in
     stops_no_turn b g last number left rest f c are.0 (subst P en sure) (subst Q en stops) (subst T (sym same) are.1)
 
-pub up_or_broken : (b : List ℕ) (s : Stream) (t : ℕ) (cuts : List Cut) (f : GatherFault) → IsReady b s t → IsCutUp b s t cuts → BreaksTile b s t f → ⊥
+pub up_or_broken : (b : List ℕ) (s : Stream) (t : ℕ) (cuts : List Cut) (f : StreamFault) → IsReady b s t → IsCutUp b s t cuts → BreaksTile b s t f → ⊥
 up_or_broken b s t cuts f r up x =
     let from = begins b s t x.cuts x.rest x.left r x.order x.are in
     let names : names_of cuts ≡ names_of x.cuts ++ x.rest = one_list s t (names_of cuts) (names_of x.cuts ++ x.rest) up.order x.order in
@@ -342,7 +341,7 @@ fronts (x ∷ xs) (y ∷ ys) us vs e =
     ]
 
 -- where reading stops, and where it stops later
-stops_again : (b : List ℕ) (s : Stream) (g : Geometry) (last number count : ℕ) (left other : Left) (rest mid others : List PacketName) (f h : GatherFault) (more : List Cut)
+stops_again : (b : List ℕ) (s : Stream) (g : Geometry) (last number count : ℕ) (left other : Left) (rest mid others : List PacketName) (f h : StreamFault) (more : List Cut)
     → AreSure g left rest → Stops b g last number left rest f → number ≡ count → rest ≡ mid ++ others → names_of more ≡ mid → AreCuts b g count left more other
     → Stops b g last (count + length more) other others h → f ≡ h
 stops_again b s g last number count left other rest [] others f h [] sure stops same eq names are again =
@@ -361,7 +360,7 @@ stops_again b s g last number count left other rest (p ∷ mid) others f h (c �
     let T : ℕ → Type 0 = λ n. IsTurn b g n left c are.0 in
     absurd (stops_no_turn b g last number left (mid ++ others) f c are.0 (subst P first sure) (subst Q first stops) (subst T (sym same) are.1))
 
-broken_ahead : (b : List ℕ) (s : Stream) (t : ℕ) (f h : GatherFault) → IsReady b s t → (x : BreaksTile b s t f) → (y : BreaksTile b s t h)
+broken_ahead : (b : List ℕ) (s : Stream) (t : ℕ) (f h : StreamFault) → IsReady b s t → (x : BreaksTile b s t f) → (y : BreaksTile b s t h)
     → Begun (names_of x.cuts) (names_of y.cuts) x.rest y.rest → f ≡ h
 broken_ahead b s t f h r x y ahead =
     let from = begins b s t x.cuts x.rest x.left r x.order x.are in
@@ -372,7 +371,7 @@ broken_ahead b s t f h r x y ahead =
     stops_again b s (geometry s t) (end_of_data (tile_at s t).bodies) (length x.cuts) (0 + length x.cuts) x.left y.left x.rest ahead.mid y.rest f h go.more
     from.sure x.stops count ahead.rest go.names go.on (subst N all y.stops)
 
-pub tile_broken_once : (b : List ℕ) (s : Stream) (t : ℕ) (f h : GatherFault) → IsReady b s t → BreaksTile b s t f → BreaksTile b s t h → f ≡ h
+pub tile_broken_once : (b : List ℕ) (s : Stream) (t : ℕ) (f h : StreamFault) → IsReady b s t → BreaksTile b s t f → BreaksTile b s t h → f ≡ h
 tile_broken_once b s t f h r x y =
     elim (fronts (names_of x.cuts) (names_of y.cuts) x.rest y.rest (one_list s t (names_of x.cuts ++ x.rest) (names_of y.cuts ++ y.rest) x.order y.order)) [
       | inl ahead ↦ broken_ahead b s t f h r x y ahead
@@ -405,7 +404,7 @@ pub whole_or_uncovered : (s : Stream) (t : ℕ) → IsWhole s t → HasUncovered
 whole_or_uncovered s t whole some = some.2 (whole some.0 some.1)
 
 -- the first violation is one
-uncovered_once : (s : Stream) (f h : GatherFault) → IsUncovered s f → IsUncovered s h → f ≡ h
+uncovered_once : (s : Stream) (f h : StreamFault) → IsUncovered s f → IsUncovered s h → f ≡ h
 uncovered_once s f h x y = elim (cases_lt x.tile y.tile) [
   | inl lt ↦ absurd (whole_or_uncovered s x.tile (y.lowest x.tile lt) x.some)
   | inr le ↦ elim (cases_lt y.tile x.tile) [
@@ -416,7 +415,7 @@ uncovered_once s f h x y = elim (cases_lt x.tile y.tile) [
   ]
 ]
 
-data_once : (b : List ℕ) (s : Stream) (f h : GatherFault) → Ready b s → BreaksData b s f → BreaksData b s h → f ≡ h
+data_once : (b : List ℕ) (s : Stream) (f h : StreamFault) → Ready b s → BreaksData b s f → BreaksData b s h → f ≡ h
 data_once b s f h r x y = elim (cases_lt x.tile y.tile) [
   | inl lt ↦
       let up = y.before x.tile lt in
@@ -432,7 +431,7 @@ data_once b s f h r x y = elim (cases_lt x.tile y.tile) [
   ]
 ]
 
-pub broken_once : (b : List ℕ) (s : Stream) (f h : GatherFault) → (totals_fault s ≡ None → Ready b s) → IsBroken b s f → IsBroken b s h → f ≡ h
+pub broken_once : (b : List ℕ) (s : Stream) (f h : StreamFault) → (totals_fault s ≡ None → Ready b s) → IsBroken b s f → IsBroken b s h → f ≡ h
 broken_once b s f h r x y = elim x [
   | inl p ↦ elim y [ inl q ↦ some_same f h (sym p ∙ q) | inr q ↦ absurd (some_none f (sym p ∙ q.0)) ]
   | inr p ↦ elim y [
@@ -445,7 +444,7 @@ broken_once b s f h r x y = elim x [
 ]
 
 -- where no limit is passed, there are blocks or a violated rule, and not both
-pub not_both : (b : List ℕ) (s : Stream) (blocks : List Block) (f : GatherFault) → Ready b s → totals_fault s ≡ None → IsGathered b s blocks → IsBroken b s f → ⊥
+pub not_both : (b : List ℕ) (s : Stream) (blocks : List Block) (f : StreamFault) → Ready b s → totals_fault s ≡ None → IsGathered b s blocks → IsBroken b s f → ⊥
 not_both b s blocks f r none x y = elim y [
   | inl p ↦ some_none f (sym p ∙ none)
   | inr p ↦ elim p.1 [

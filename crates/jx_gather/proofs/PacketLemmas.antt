@@ -5,13 +5,14 @@ use Rattle.jx_tagtree.specs.Header.{bits_of}
 use Rattle.jx_tagtree.proofs.LawLemmas.{ends_at}
 use Rattle.jx_head.specs.declared.Part.{Part}
 use Rattle.jx_head.specs.Packet.{State, IsPacket, header_bits}
-use Rattle.jx_gather.specs.declared.faults.GatherFault.{GatherFault}
-use Rattle.jx_gather.specs.declared.faults.GatherFault.TheVariants as fault
-use Rattle.jx_gather.specs.Faults.{HasCause, broken}
+use Rattle.jx_stream.specs.declared.faults.StreamFault.{StreamFault}
+use Rattle.jx_stream.specs.declared.faults.StreamFault.TheVariants as fault
+use Rattle.jx_stream.specs.Faults.{broken}
+use Rattle.jx_gather.specs.Faults.{HasCause}
 use Rattle.jx_gather.specs.Data.{sop_fault, header_in, front_length, parts_length, first_mark, rule_30, marks_fault, body_fault}
 use Rattle.jx_gather.specs.Cuts.{Cut, IsCut, Breaks, BreaksHeader}
 
-pub cause_on : (P Q : GatherFault → Type 0) (e : GatherFault) → ((f : GatherFault) → P f → Q f) → HasCause P e → HasCause Q e
+pub cause_on : (P Q : StreamFault → Type 0) (e : StreamFault) → ((f : StreamFault) → P f → Q f) → HasCause P e → HasCause Q e
 cause_on P Q (fault.Rule number place) on h = on (fault.Rule number place) h
 cause_on P Q (fault.Limit number found) on h = on (fault.Limit number found) h
 cause_on P Q fault.NoMemory on h = tt
@@ -27,15 +28,15 @@ broken_none : (rule at : ℕ) (b : Bool) → broken rule at b ≡ None → broke
 broken_none rule at true h = absurd (cc)
 broken_none rule at false h = refl
 
-none_first : (first later : Option GatherFault) → option_or first later ≡ None → first ≡ None
+none_first : (first later : Option StreamFault) → option_or first later ≡ None → first ≡ None
 none_first None later h = refl
 none_first (Some f) later h = absurd (cc)
 
-none_later : (first later : Option GatherFault) → option_or first later ≡ None → later ≡ None
+none_later : (first later : Option StreamFault) → option_or first later ≡ None → later ≡ None
 none_later None later h = h
 none_later (Some f) later h = absurd (cc)
 
-none_of_both : (first later : Option GatherFault) → first ≡ None → later ≡ None → option_or first later ≡ None
+none_of_both : (first later : Option StreamFault) → first ≡ None → later ≡ None → option_or first later ≡ None
 none_of_both first later a b = rw a b
 
 mark_none : (at : ℕ) (mark : Option ℕ) → rule_30 at mark ≡ None → mark ≡ None
@@ -68,13 +69,13 @@ cut_made w at number k c sop header body count bytes = record {
   bytes_are = bytes;
 }
 
-pub head_breaks : (w h : List ℕ) (at number : ℕ) (k : State) (e : GatherFault) → sop_fault w at number ≡ None → h ≡ header_in w
+pub head_breaks : (w h : List ℕ) (at number : ℕ) (k : State) (e : StreamFault) → sop_fault w at number ≡ None → h ≡ header_in w
     → HasCause (BreaksHeader h at k) e → HasCause (Breaks w at number k) e
 head_breaks w h at number k e sop same breaks =
     let P : List ℕ → Type 0 = λ h. HasCause (BreaksHeader h at k) e in
     cause_on (BreaksHeader (header_in w) at k) (Breaks w at number k) e (λ f b. inr (sop, inl b)) (subst P same breaks)
 
-pub body_breaks : (w h : List ℕ) (at number : ℕ) (k : State) (parts : List Part) (used : ℕ) (after : State) (e : GatherFault) → sop_fault w at number ≡ None → h ≡ header_in w
+pub body_breaks : (w h : List ℕ) (at number : ℕ) (k : State) (parts : List Part) (used : ℕ) (after : State) (e : StreamFault) → sop_fault w at number ≡ None → h ≡ header_in w
     → IsPacket h k parts used after → HasCause (λ f. body_fault w at used parts ≡ Some f) e → HasCause (Breaks w at number k) e
 body_breaks w h at number k parts used after e sop same packet breaks =
     let P : List ℕ → Type 0 = λ h. IsPacket h k parts used after in

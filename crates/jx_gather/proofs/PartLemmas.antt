@@ -66,7 +66,7 @@ goes_same style planes planes' own own' old old' new new' p o e f g =
 
 -- ---- the passes of a part
 -- runs of passes, each of some passes and in one segment
-abbrev AreRuns : ℕ → ℕ → ℕ → List ℕ → Type 0
+abbrev pub AreRuns : ℕ → ℕ → ℕ → List ℕ → Type 0
 AreRuns style first last [] = first ≡ last
 AreRuns style first last (run ∷ runs) = (1 ≤ run) × IsInOneSegment style first run × AreRuns style (first + run) last runs
 
@@ -86,7 +86,7 @@ more_runs style first last (run ∷ runs) e r =
     let same : first + 1 + run ≡ first + suc run = omega arith in
     (omega arith, more_run style first run e r.1, subst (λ (n : ℕ). AreRuns style n last runs) same r.2)
 
-cut_runs : (style first n : ℕ) → AreRuns style first (first + n) (cut style first n)
+pub cut_runs : (style first n : ℕ) → AreRuns style first (first + n) (cut style first n)
 cut_runs style first zero = omega arith
 cut_runs style first (suc n) = by (end_pass style first) refl
     (let same : first + 1 + n ≡ first + suc n = omega arith in subst (λ (m : ℕ). AreRuns style (first + 1) m (cut style (first + 1) n)) same (cut_runs style (first + 1) n))
@@ -96,7 +96,7 @@ cut_runs style first (suc n) = by (end_pass style first) refl
     by true e r = (omega arith, one_run style first, r)
     by false e r = more_runs style first (first + suc n) (cut style (first + 1) n) e r
 
-steps_from : (style lblock block first last : ℕ) (runs : List ℕ) (ps : List Part) → AreParts lblock block first runs ps → AreRuns style first last runs → AreSteps style first last ps
+pub steps_from : (style lblock block first last : ℕ) (runs : List ℕ) (ps : List Part) → AreParts lblock block first runs ps → AreRuns style first last runs → AreSteps style first last ps
 steps_from style lblock block first last [] [] a r = r
 steps_from style lblock block first last [] (p ∷ ps) a r = absurd a
 steps_from style lblock block first last (run ∷ runs) [] a r = absurd a
@@ -118,7 +118,7 @@ pub record IsWithin (low high : ℕ) (p : Part) : Type 0 where
   pub below : p.block < high
   pub some : 1 ≤ p.passes
 
-abbrev AreWithin : ℕ → ℕ → List Part → Type 0
+abbrev pub AreWithin : ℕ → ℕ → List Part → Type 0
 AreWithin low high [] = Unit {0}
 AreWithin low high (p ∷ ps) = IsWithin low high p × AreWithin low high ps
 
@@ -133,7 +133,7 @@ within_wider low high low' high' (p ∷ ps) l h a =
     let y : p.block < high = a.0.below in
     (record { above = omega arith; below = omega arith; some = a.0.some }, within_wider low high low' high' ps l h a.1)
 
-own_none : (low high j : ℕ) (ps : List Part) → AreWithin low high ps → (j < low) ⊎ (high ≤ j) → own_parts j ps ≡ []
+pub own_none : (low high j : ℕ) (ps : List Part) → AreWithin low high ps → (j < low) ⊎ (high ≤ j) → own_parts j ps ≡ []
 own_none low high j [] a out = refl
 own_none low high j (p ∷ ps) a out =
     let other : p.block ≡ j → ⊥ = (λ (e : p.block ≡ j). apart e out) in
@@ -147,10 +147,10 @@ own_append : (j : ℕ) (ps qs : List Part) → own_parts j (ps ++ qs) ≡ own_pa
 own_append j ps qs = filter-append (λ (p : Part). p.block == j) ps qs
 
 -- where the one list or the other has none of a block
-own_left : (j : ℕ) (ps qs : List Part) → own_parts j qs ≡ [] → own_parts j ps ≡ own_parts j (ps ++ qs)
+pub own_left : (j : ℕ) (ps qs : List Part) → own_parts j qs ≡ [] → own_parts j ps ≡ own_parts j (ps ++ qs)
 own_left j ps qs e = sym (own_append j ps qs ∙ ap (λ (l : List Part). own_parts j ps ++ l) e ∙ append-nil (own_parts j ps))
 
-own_right : (j : ℕ) (ps qs : List Part) → own_parts j ps ≡ [] → own_parts j qs ≡ own_parts j (ps ++ qs)
+pub own_right : (j : ℕ) (ps qs : List Part) → own_parts j ps ≡ [] → own_parts j qs ≡ own_parts j (ps ++ qs)
 own_right j ps qs e = sym (own_append j ps qs ∙ ap (λ (l : List Part). l ++ own_parts j qs) e)
 
 parts_within : (style lblock block first last : ℕ) (runs : List ℕ) (ps : List Part) → AreParts lblock block first runs ps → AreRuns style first last runs → AreWithin block (block + 1) ps
@@ -172,7 +172,7 @@ own_all block (p ∷ ps) a =
     cond-true (p.block == block) (p ∷ own_parts block ps) (own_parts block ps) (eq-eqb p.block block same) ∙ ap (λ (l : List Part). p ∷ l) (own_all block ps a.1)
 
 -- ---- one block
-entry_within : (v : Values) (style layer block leaf : ℕ) (cells : Cells) (e : Entry) → IsEntry v style layer block leaf cells e → AreWithin block (block + 1) e.parts
+pub entry_within : (v : Values) (style layer block leaf : ℕ) (cells : Cells) (e : Entry) → IsEntry v style layer block leaf cells e → AreWithin block (block + 1) e.parts
 entry_within v style layer block leaf cells e is = by (contributes e) is.told
   where
     by : (c : Bool) → MatchBool c (IsIncluded style block cells.planes (zero_planes (block_at cells leaf).zero v.zeros leaf) (block_at cells leaf) e) (e ≡ nothing) → AreWithin block (block + 1) e.parts
@@ -227,7 +227,7 @@ blocks_size v layer leaf cells (e ∷ es) =
     let r : SameCells (blocks_after v layer (leaf + 1) (entry_after v layer leaf cells e) es) (entry_after v layer leaf cells e) = blocks_size v layer (leaf + 1) (entry_after v layer leaf cells e) es in
     record { long = r.long ∙ s.long; planes = r.planes ∙ s.planes }
 
-blocks_within : (v : Values) (style layer base stop leaf : ℕ) (cells : Cells) (es : List Entry) → AreEntries v style layer base stop leaf cells es → AreWithin (base + leaf) (base + stop) (parts_told es)
+pub blocks_within : (v : Values) (style layer base stop leaf : ℕ) (cells : Cells) (es : List Entry) → AreEntries v style layer base stop leaf cells es → AreWithin (base + leaf) (base + stop) (parts_told es)
 blocks_within v style layer base stop leaf cells [] are = tt
 blocks_within v style layer base stop leaf cells (e ∷ es) are =
     let lt : leaf < stop = are.0 in
@@ -290,7 +290,7 @@ blocks_band v style layer base stop leaf cells (e ∷ es) b all a are few =
     blocks_band v style layer base stop (leaf + 1) next es k.0 (all ∙ sym k.1) (entry_agrees v layer leaf cells e leafed a) are.2 (omega arith)
 
 -- ---- the bands of a precinct
-bands_within : (style layer base : ℕ) (bands : List Cells) (tolds : List BandTold) → AreBandsTold style layer base bands tolds → AreWithin base (base + length (all_blocks bands)) (bands_parts tolds)
+pub bands_within : (style layer base : ℕ) (bands : List Cells) (tolds : List BandTold) → AreBandsTold style layer base bands tolds → AreWithin base (base + length (all_blocks bands)) (bands_parts tolds)
 bands_within style layer base [] [] are = tt
 bands_within style layer base [] (told ∷ tolds) are = absurd are
 bands_within style layer base (cells ∷ bands) [] are = absurd are
@@ -396,7 +396,7 @@ parts_in high [] a i d lt = absurd (omega arith)
 parts_in high (p ∷ ps) a zero d lt = record { inside = a.0.below; some = a.0.some }
 parts_in high (p ∷ ps) a (suc i) d lt = parts_in high ps a.1 i d (omega arith)
 
-header_within : (k : State) (h : Header) (c : Bool) → MatchBool c (AreBandsTold k.style k.layer 0 k.bands h.tolds) (h.tolds ≡ []) → AreWithin 0 (length (all_blocks k.bands)) (cond c (bands_parts h.tolds) [])
+pub header_within : (k : State) (h : Header) (c : Bool) → MatchBool c (AreBandsTold k.style k.layer 0 k.bands h.tolds) (h.tolds ≡ []) → AreWithin 0 (length (all_blocks k.bands)) (cond c (bands_parts h.tolds) [])
 header_within k h true is = subst (λ (n : ℕ). AreWithin 0 n (bands_parts h.tolds)) (let e : 0 + length (all_blocks k.bands) ≡ length (all_blocks k.bands) = omega arith in e) (bands_within k.style k.layer 0 k.bands h.tolds is)
 header_within k h false is = tt
 

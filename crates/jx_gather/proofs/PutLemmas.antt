@@ -1,5 +1,5 @@
 -- Pieces put to their blocks one after another make the blocks that have all of them.
-use Rattle.std.proofs.Common.{◌≡◌, ℕ, zero, suc, ◌+◌, ◌<◌, ◌==◌, Bool, List, [], ◌∷◌, ◌++◌, length, set, filter, refl, sym, ap, ◌∙◌, subst, cond, arith, Some, inl, inr, ◌⊎◌, All, append_assoc, append-nil, length-set, Option, slice_get}
+use Rattle.std.proofs.Common.{◌≡◌, ℕ, suc, ◌+◌, ◌<◌, ◌==◌, Bool, List, [], ◌∷◌, ◌++◌, length, set, filter, refl, sym, ap, ◌∙◌, subst, cond, arith, Some, inl, inr, ◌⊎◌, All, append_assoc, append-nil, length-set, Option, slice_get}
 use Rattle.std.specs.List.{AllByRecursion}
 use Rattle.std.proofs.lemmas.Bool.{cases_eq, eq-eqb, ne_eqb, cond-false}
 use Rattle.std.proofs.lemmas.List.{map_push}
@@ -14,7 +14,7 @@ use Rattle.jx_geom.specs.Geometry.{Geometry, HasBlock, shape_of, rect_of_tile}
 use Rattle.jx_geom.specs.Numbering.{number_in_tile}
 use Rattle.jx_stream.specs.declared.Stream.{Stream}
 use Rattle.jx_stream.specs.Params.{planes_at}
-use Rattle.jx_gather.specs.Shapes.{style_of}
+use Rattle.jx_stream.specs.Shapes.{style_of}
 use Rattle.jx_gather.specs.Blocks.{Found, own_founds, pieces_in, passes_in, zero_from, block_with, block_of, tile_blocks}
 use Rattle.jx_gather.specs.Put.{put_to, put_at, put_one, put_all}
 use Rattle.jx_base.proofs.Lists.{get-set_same, get-set_other, same_gets}

@@ -4,14 +4,15 @@ use Rattle.jx_base.specs.declared.pieces.Block.{Block}
 use Rattle.jx_geom.specs.Geometry.{GeometryInRange}
 use Rattle.jx_stream.specs.declared.Stream.{Stream}
 use Rattle.jx_stream.specs.First.{tile_number}
-use Rattle.jx_gather.specs.declared.faults.GatherFault.{GatherFault}
-use Rattle.jx_gather.specs.Shapes.{IsRead, geometry}
-use Rattle.jx_gather.specs.InRange.{StreamInRange}
+use Rattle.jx_stream.specs.declared.faults.StreamFault.{StreamFault}
+use Rattle.jx_stream.specs.Read.{IsRead}
+use Rattle.jx_stream.specs.Shapes.{geometry}
+use Rattle.jx_stream.specs.InRange.{StreamInRange}
 use Rattle.jx_gather.specs.Totals.{totals_fault}
-use Rattle.jx_gather.specs.declared.faults.GatherFault.TheVariants as fault
+use Rattle.jx_stream.specs.declared.faults.StreamFault.TheVariants as fault
 use Rattle.jx_gather.specs.Faults.{HasCause, IsMemory, IsOnly}
 use Rattle.jx_gather.specs.Gathered.{IsGathered, IsBroken}
-use Rattle.jx_gather.proofs.RangeLemmas.{read_in_range}
+use Rattle.jx_stream.proofs.RangeLemmas.{read_in_range}
 use Rattle.jx_gather.proofs.TotalLemmas.{geometry_fits}
 use Rattle.jx_gather.proofs.NumberLemmas.{precinct_there, precinct_once}
 use Rattle.jx_gather.proofs.FreshLemmas.{fresh_is_state}
@@ -45,21 +46,21 @@ ready b s read few none = record {
 pub one_gathering : (b : List ℕ) (s : Stream) (xs ys : List Block) → IsRead b s → length b ≤ 2 ^ 28 → totals_fault s ≡ None → IsGathered b s xs → IsGathered b s ys → xs ≡ ys
 one_gathering b s xs ys read few none x y = once.one_gathering b s xs ys (ready b s read few none) x y
 
-pub broken_once : (b : List ℕ) (s : Stream) (f h : GatherFault) → IsRead b s → length b ≤ 2 ^ 28 → IsBroken b s f → IsBroken b s h → f ≡ h
+pub broken_once : (b : List ℕ) (s : Stream) (f h : StreamFault) → IsRead b s → length b ≤ 2 ^ 28 → IsBroken b s f → IsBroken b s h → f ≡ h
 broken_once b s f h read few x y = once.broken_once b s f h (ready b s read few) x y
 
-pub not_both : (b : List ℕ) (s : Stream) (blocks : List Block) (f : GatherFault) → IsRead b s → length b ≤ 2 ^ 28 → totals_fault s ≡ None
+pub not_both : (b : List ℕ) (s : Stream) (blocks : List Block) (f : StreamFault) → IsRead b s → length b ≤ 2 ^ 28 → totals_fault s ≡ None
     → IsGathered b s blocks → IsBroken b s f → ⊥
 not_both b s blocks f read few none x y = once.not_both b s blocks f (ready b s read few none) none x y
 
 -- a refusal beside blocks that are there
-pub only_memory : (b : List ℕ) (s : Stream) (blocks : List Block) (e : GatherFault) → once.Ready b s → totals_fault s ≡ None → IsGathered b s blocks → HasCause (IsBroken b s) e → IsMemory e
+pub only_memory : (b : List ℕ) (s : Stream) (blocks : List Block) (e : StreamFault) → once.Ready b s → totals_fault s ≡ None → IsGathered b s blocks → HasCause (IsBroken b s) e → IsMemory e
 only_memory b s blocks (fault.Rule number place) r none given broken = once.not_both b s blocks (fault.Rule number place) r none given broken
 only_memory b s blocks (fault.Limit number found) r none given broken = once.not_both b s blocks (fault.Limit number found) r none given broken
 only_memory b s blocks fault.NoMemory r none given broken = tt
 
 -- a refusal beside the first violation
-pub only_first : (b : List ℕ) (s : Stream) (first e : GatherFault) → (totals_fault s ≡ None → once.Ready b s) → IsBroken b s first → HasCause (IsBroken b s) e → IsOnly first e
+pub only_first : (b : List ℕ) (s : Stream) (first e : StreamFault) → (totals_fault s ≡ None → once.Ready b s) → IsBroken b s first → HasCause (IsBroken b s) e → IsOnly first e
 only_first b s first (fault.Rule number place) r is broken = once.broken_once b s first (fault.Rule number place) r is broken
 only_first b s first (fault.Limit number found) r is broken = once.broken_once b s first (fault.Limit number found) r is broken
 only_first b s first fault.NoMemory r is broken = tt

@@ -28,9 +28,11 @@ use Rattle.jx_order.proofs.RiseLemmas.{order_rises}
 use Rattle.jx_stream.specs.declared.Stream.{Stream}
 use Rattle.jx_stream.specs.First.{tile_number}
 use Rattle.jx_stream.specs.Params.{planes_at}
-use Rattle.jx_gather.specs.Shapes.{geometry, layers_of, style_of, tile_at, IsRead}
+use Rattle.jx_stream.specs.Shapes.{geometry, layers_of, style_of, tile_at}
+use Rattle.jx_stream.specs.Read.{IsRead}
 use Rattle.jx_gather.specs.Totals.{totals_fault}
-use Rattle.jx_gather.specs.InRange.{StreamInRange, DataInRange}
+use Rattle.jx_stream.specs.InRange.{StreamInRange}
+use Rattle.jx_gather.specs.InRange.{DataInRange}
 use Rattle.jx_gather.specs.Leaves.{leaves, leaves_in}
 use Rattle.jx_gather.specs.Cells.{HasPrecinct, cells_at, sizes_of, precinct_bands, fresh_precinct, precinct_number, name_from, leaf_name, leaf_number}
 use Rattle.jx_gather.specs.Cuts.{Cut, Left, AreCuts, number_of, names_of}
@@ -40,7 +42,7 @@ use Rattle.jx_gather.specs.Put.{put_all}
 use Rattle.jx_gather.proofs.NumberLemmas.{precinct_there, precinct_once}
 use Rattle.jx_gather.proofs.CellLemmas.{bands_of, name_here, name_later, leaf_there, leaf_is, number_once}
 use Rattle.jx_gather.proofs.BlockLemmas.{blocks_long, block_there, block_named, BlockAt}
-use Rattle.jx_gather.proofs.RangeLemmas.{read_in_range}
+use Rattle.jx_stream.proofs.RangeLemmas.{read_in_range}
 use Rattle.jx_gather.proofs.TotalLemmas.{geometry_fits}
 use Rattle.jx_gather.proofs.BodyLemmas.{read_data}
 use Rattle.jx_gather.proofs.PartLemmas.{known_in, planes_of}
@@ -49,11 +51,10 @@ use Rattle.jx_gather.proofs.GrowLemmas.{Gained, Grows, pieces_sum, bytes_own}
 use Rattle.jx_gather.proofs.TrackLemmas.{AreThere, Rise, AreAbove, Tracked, FromLeaf, AreFromLeaves, start_follow, track, founds_leaves, together, cuts_take}
 use Rattle.jx_base.specs.Joined.{joined, joined_below}
 use Rattle.jx_base.proofs.Lists.{contains_head, contains_tail, pairs_tail, pairs_head}
-use Rattle.jx_base.proofs.Joined.{joined_all}
 use Rattle.jx_base.specs.Bands.{bands_at}
 
 -- ---- a precinct before its first packet
-fresh_unknown : (bs : List BandCells) (j : ℕ) → get_or (all_blocks (fresh_bands bs)) j unknown_block ≡ unknown_block
+pub fresh_unknown : (bs : List BandCells) (j : ℕ) → get_or (all_blocks (fresh_bands bs)) j unknown_block ≡ unknown_block
 fresh_unknown [] j = refl
 fresh_unknown (b ∷ bs) j = by (b.wide == 0) (λ (i : ℕ). fresh_unknown bs i)
   where
@@ -205,11 +206,11 @@ pub begun_leaves : (b : List ℕ) (s : Stream) (t : ℕ) (cuts : List Cut) (left
 begun_leaves b s t cuts left h = founds_leaves b s (geometry s t) 0 cuts (start s t) left h.there (start_follow s (geometry s t)) h.are
 
 -- ---- one block
-record OfNumber (g : Geometry) (i : ℕ) (f : Found) : Type 0 where
-  leaf : FromLeaf g f
-  number : f.number ≡ i
+pub record OfNumber (g : Geometry) (i : ℕ) (f : Found) : Type 0 where
+  pub leaf : FromLeaf g f
+  pub number : f.number ≡ i
 
-own_have : (g : Geometry) (i : ℕ) (founds : List Found) → AreFromLeaves g founds → AllByRecursion (OfNumber g i) (own_founds i founds)
+pub own_have : (g : Geometry) (i : ℕ) (founds : List Found) → AreFromLeaves g founds → AllByRecursion (OfNumber g i) (own_founds i founds)
 unfolding own_founds
 own_have g i [] all = tt
 own_have g i (f ∷ founds) all = by (f.number == i) refl (own_have g i founds all.1)
@@ -369,6 +370,18 @@ pub sound_blocks : (b : List ℕ) (s : Stream) (t : ℕ) (cuts : List Cut) → I
     All IsSound (tile_blocks s (geometry s t) (founds_of (geometry s t) cuts))
 sound_blocks b s t cuts read short tile totals up =
     sound_cuts b s t cuts up.end (read_begun b s t cuts [] up.end read short tile totals (subst (λ (l : List PacketName). IsListOf s t l) (sym (append-nil (names_of cuts))) up.order) up.are)
+
+-- what holds of each item of each list
+below_all : {X : Type 0} (P : X → Type 0) (f : ℕ → List X) (a n : ℕ) → ((i : ℕ) → i < n → All P (f (a + i))) → All P (joined_below f a n)
+below_all P f a zero each = λ k d lt. absurd (omega arith)
+below_all P f a (suc n) each = All-append P (joined_below f a n) (f (a + n)) (below_all P f a n (λ (i : ℕ) (lt : i < n). each i (omega arith))) (each n (omega arith))
+
+joined_all : {X : Type 0} (P : X → Type 0) (f : ℕ → List X) (n : ℕ) → ((i : ℕ) → i < n → All P (f i)) → All P (joined f 0 n)
+unfolding joined
+joined_all {X} P f n each = below_all P f 0 (n - 0) (λ (i : ℕ) (lt : i < n - 0).
+    (let e : i ≡ 0 + i = omega arith in
+    let Q : ℕ → Type 0 = λ (m : ℕ). All P (f m) in
+    subst Q e (each i (omega arith))))
 
 pub sound_gathered : (b : List ℕ) (s : Stream) (blocks : List Block) → IsRead b s → length b ≤ 2 ^ 28 → totals_fault s ≡ None → IsGathered b s blocks → All IsSound blocks
 sound_gathered b s blocks read short totals g =

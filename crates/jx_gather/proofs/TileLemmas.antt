@@ -14,11 +14,11 @@ use Rattle.jx_head.specs.Precinct.{IsState, all_blocks}
 use Rattle.jx_order.specs.declared.names.PacketName.{PacketName}
 use Rattle.jx_stream.specs.declared.Body.{Body}
 use Rattle.jx_stream.specs.declared.Stream.{Stream}
-use Rattle.jx_gather.specs.declared.faults.GatherFault.{GatherFault}
-use Rattle.jx_gather.specs.declared.faults.GatherFault.TheVariants as fault
+use Rattle.jx_stream.specs.declared.faults.StreamFault.{StreamFault}
+use Rattle.jx_stream.specs.declared.faults.StreamFault.TheVariants as fault
 use Rattle.jx_gather.specs.declared.packet.Packet.{Packet}
 use Rattle.jx_gather.specs.Faults.{HasCause}
-use Rattle.jx_gather.specs.Shapes.{geometry, layers_of, tile_at}
+use Rattle.jx_stream.specs.Shapes.{geometry, layers_of, tile_at}
 use Rattle.jx_gather.specs.Cells.{HasPrecinct, leaf_number}
 use Rattle.jx_gather.specs.Leaves.{leaves}
 use Rattle.jx_gather.specs.Data.{window, due, behind, end_of_data, header_in}
@@ -160,11 +160,11 @@ ready_at b s g list number left blocks d states n task lt front es en =
     subst G (sym task.geometry_is) (subst N (sym same) (subst S (sym es) (ready b s g list number left blocks d task lt front)))
 
 -- ---- what is violated
-cause_rule : (P : GatherFault → Type 0) (n at : ℕ) (e : GatherFault) → e ≡ fault.Rule n at → P (fault.Rule n at) → HasCause P e
-cause_rule P n at e same h = let H : GatherFault → Type 0 = λ x. HasCause P x in subst H (sym same) h
+cause_rule : (P : StreamFault → Type 0) (n at : ℕ) (e : StreamFault) → e ≡ fault.Rule n at → P (fault.Rule n at) → HasCause P e
+cause_rule P n at e same h = let H : StreamFault → Type 0 = λ x. HasCause P x in subst H (sym same) h
 
 -- no byte is left for a packet
-pub none_due : (b : List ℕ) (s : Stream) (g : Geometry) (list : List PacketName) (number : ℕ) (left : Left) (blocks : List Block) (end : ℕ) (e : GatherFault) → IsTask b s g list → number < length list
+pub none_due : (b : List ℕ) (s : Stream) (g : Geometry) (list : List PacketName) (number : ℕ) (left : Left) (blocks : List Block) (end : ℕ) (e : StreamFault) → IsTask b s g list → number < length list
     → IsFront b s g.tile (take number list) left blocks → due left.bodies ≡ [] → end ≡ end_of_data (tile_at s g.tile).bodies → e ≡ fault.Rule 26 end → HasCause (BreaksTile b s g.tile) e
 none_due b s g list number left blocks end e task lt front none end_is same =
     let d : PacketName = record { layer = 0; res = 0; comp = 0; precinct = 0 } in
@@ -179,7 +179,7 @@ none_due b s g list number left blocks end e task lt front none end_is same =
     })
 
 -- a byte is left behind all packets
-pub left_over : (b : List ℕ) (s : Stream) (g : Geometry) (list : List PacketName) (number : ℕ) (left : Left) (blocks : List Block) (body : Body) (later : List Body) (e : GatherFault) → IsTask b s g list → length list ≤ number
+pub left_over : (b : List ℕ) (s : Stream) (g : Geometry) (list : List PacketName) (number : ℕ) (left : Left) (blocks : List Block) (body : Body) (later : List Body) (e : StreamFault) → IsTask b s g list → length list ≤ number
     → IsFront b s g.tile (take number list) left blocks → due left.bodies ≡ body ∷ later → e ≡ fault.Rule 31 body.at → HasCause (BreaksTile b s g.tile) e
 left_over b s g list number left blocks body later e task ge front due_is same =
     let L : List PacketName → Type 0 = λ xs. IsListOf s g.tile xs in
@@ -193,7 +193,7 @@ left_over b s g list number left blocks body later e task ge front due_is same =
     })
 
 -- a rule is violated in the packet that is due
-pub due_breaks : (b : List ℕ) (s : Stream) (g : Geometry) (list : List PacketName) (number : ℕ) (left : Left) (blocks : List Block) (d : PacketName) (body : Body) (later : List Body) (w : List ℕ) (states : List State) (n : ℕ) (e : GatherFault)
+pub due_breaks : (b : List ℕ) (s : Stream) (g : Geometry) (list : List PacketName) (number : ℕ) (left : Left) (blocks : List Block) (d : PacketName) (body : Body) (later : List Body) (w : List ℕ) (states : List State) (n : ℕ) (e : StreamFault)
     → IsTask b s g list → number < length list → IsFront b s g.tile (take number list) left blocks → due left.bodies ≡ body ∷ later → w ≡ window b body → states ≡ left.states
     → n ≡ number_of g (get_or list number d) → n < length states → HasCause (Breaks w body.at number (state_at states n)) e → HasCause (BreaksTile b s g.tile) e
 due_breaks b s g list number left blocks d body later w states n e task lt front due_is window_is es en there breaks =
@@ -203,8 +203,8 @@ due_breaks b s g list number left blocks d body later w states n e task lt front
     let long : length front.cuts ≡ number = done_long list front.cuts number front.names (omega arith) in
     let found : slice_get front.mid.states (number_of (geometry s g.tile) p) ≡ Some (state_at states n) =
     ap (λ (xs : List State). slice_get xs (number_of (geometry s g.tile) p)) (front.states_are ∙ sym es) ∙ ap (λ (m : ℕ). slice_get states m) (sym same) ∙ slice_get-get_or states n no_state there in
-    let W : GatherFault → List ℕ → Type 0 = λ f x. Breaks x body.at number (state_at states n) f in
-    let M : GatherFault → ℕ → Type 0 = λ f m. Breaks (window b body) body.at m (state_at states n) f in
+    let W : StreamFault → List ℕ → Type 0 = λ f x. Breaks x body.at number (state_at states n) f in
+    let M : StreamFault → ℕ → Type 0 = λ f m. Breaks (window b body) body.at m (state_at states n) f in
     cause_on (Breaks w body.at number (state_at states n)) (BreaksTile b s g.tile) e (λ f h. record {
       cuts = front.cuts;
       rest = p ∷ drop (number + 1) list;

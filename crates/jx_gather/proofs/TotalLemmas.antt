@@ -13,12 +13,12 @@ use Rattle.jx_geom.specs.Numbering.{blocks_below}
 use Rattle.jx_geom.specs.Geometry.{no_shape, WithinLimits, GeometryInRange}
 use Rattle.jx_stream.specs.declared.Stream.{Stream}
 use Rattle.jx_stream.specs.First.{canvas_of, tile_number}
-use Rattle.jx_gather.specs.declared.faults.GatherFault.{GatherFault}
+use Rattle.jx_stream.specs.declared.faults.StreamFault.{StreamFault}
 use Rattle.jx_gather.specs.Faults.{passed}
-use Rattle.jx_gather.specs.Shapes.{shapes_of, shape_in, geometry, layers_of}
-use Rattle.jx_gather.specs.InRange.{StreamInRange}
+use Rattle.jx_stream.specs.Shapes.{shapes_of, shapes_in, shape_in, geometry, layers_of}
+use Rattle.jx_stream.specs.InRange.{StreamInRange}
 use Rattle.jx_gather.specs.Totals.{block_total, tile_packets, packet_total, totals_fault}
-use Rattle.jx_gather.proofs.RangeLemmas.{shapes_length, shapes_at}
+use Rattle.jx_stream.proofs.RangeLemmas.{shapes_length, shapes_at}
 use Rattle.jx_base.specs.Joined.{sum_below}
 use Rattle.jx_base.proofs.Sums.{sum_below_more}
 
@@ -29,7 +29,7 @@ shape_ranges s t c range inside within =
 
 -- the shapes as the loops make them
 pub shapes_are : (s : Stream) (t : ℕ) → shapes_of s t ≡ map (shape_in s t) (range_with_len 0 (length s.siz.comps))
-unfolding shapes_of
+unfolding shapes_in
 shapes_are s t = refl
 
 pub blocks_are : (s : Stream) → block_total s ≡ blocks_below (canvas_of s.siz) (shapes_of s) (tile_number s.siz)
@@ -49,7 +49,7 @@ record WithinTotals (s : Stream) : Type 0 where
 not_passed : (number found most : ℕ) → passed number found (nat_lt most found) ≡ None → found ≤ most
 not_passed number found most h = grind (arith, nat_tests)
 
-first_none : (first later : Option GatherFault) → option_or first later ≡ None → (first ≡ None) × (later ≡ None)
+first_none : (first later : Option StreamFault) → option_or first later ≡ None → (first ≡ None) × (later ≡ None)
 first_none None later h = (refl, h)
 first_none (Some f) later h = absurd (cc)
 

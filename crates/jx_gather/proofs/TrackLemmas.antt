@@ -13,7 +13,7 @@ use Rattle.jx_head.specs.Precinct.{all_blocks}
 use Rattle.jx_order.specs.declared.names.PacketName.{PacketName}
 use Rattle.jx_stream.specs.declared.Body.{Body}
 use Rattle.jx_stream.specs.declared.Stream.{Stream}
-use Rattle.jx_gather.specs.Shapes.{style_of}
+use Rattle.jx_stream.specs.Shapes.{style_of}
 use Rattle.jx_gather.specs.Leaves.{leaves}
 use Rattle.jx_gather.specs.Cells.{HasPrecinct, fresh_precinct, fresh_precincts, precinct_number, leaf_number}
 use Rattle.jx_gather.specs.Data.{window, due, behind, header_in, front_length, parts_length}
@@ -56,7 +56,7 @@ start_follow s g c r k there = record {
   is = record { style = refl; count = leaf_count s g c r k; planes = λ j. refl };
 }
 
-follows_on : (s : Stream) (g : Geometry) (c r k : ℕ) (old after : State) → Kept after old → Follows s g c r k old → Follows s g c r k after
+pub follows_on : (s : Stream) (g : Geometry) (c r k : ℕ) (old after : State) → Kept after old → Follows s g c r k old → Follows s g c r k after
 follows_on s g c r k old after kept f = record {
   style = kept.style ∙ f.style;
   count = kept.blocks ∙ f.count;
@@ -80,7 +80,7 @@ other_after b g number old c new i t ne =
 turn_kept : (b : List ℕ) (g : Geometry) (number : ℕ) (old : Left) (c : Cut) (new : Left) → (t : IsTurn b g number old c new) → Kept c.after t.state
 turn_kept b g number old c new t = packet_kept (header_in (window b t.body)) t.state c.parts c.used c.after t.cut.header
 
-turn_follows : (b : List ℕ) (s : Stream) (g : Geometry) (number : ℕ) (old : Left) (c : Cut) (new : Left) → AllFollow s g old.states → IsTurn b g number old c new → AllFollow s g new.states
+pub turn_follows : (b : List ℕ) (s : Stream) (g : Geometry) (number : ℕ) (old : Left) (c : Cut) (new : Left) → AllFollow s g old.states → IsTurn b g number old c new → AllFollow s g new.states
 turn_follows b s g number old c new all t d r k there = by (cases_eq (number_of g c.name) (precinct_number g d r k)) (all d r k there)
   where
     by : (number_of g c.name ≡ precinct_number g d r k) ⊎ (number_of g c.name ≡ precinct_number g d r k → ⊥) → FollowsAt s g d r k old.states → FollowsAt s g d r k new.states
@@ -100,14 +100,14 @@ own_follows b s g number old c new all there t =
     subst (λ (x : State). Follows s g c.name.comp c.name.res c.name.precinct x) (same_Some f.state t.state (sym f.known ∙ t.known)) f.is
 
 -- the blocks of its parts are there
-abbrev AreInside : ℕ → List Part → Type 0
+abbrev pub AreInside : ℕ → List Part → Type 0
 AreInside count parts = AllByRecursion (λ (q : Part). q.block < count) parts
 
-inside_from : (count : ℕ) (parts : List Part) → AllByRecursion (PartIn count) parts → AreInside count parts
+pub inside_from : (count : ℕ) (parts : List Part) → AllByRecursion (PartIn count) parts → AreInside count parts
 inside_from count [] all = tt
 inside_from count (q ∷ parts) all = (all.0.inside, inside_from count parts all.1)
 
-turn_inside : (b : List ℕ) (s : Stream) (g : Geometry) (number : ℕ) (old : Left) (c : Cut) (new : Left) → AllFollow s g old.states → HasPrecinct g c.name.comp c.name.res c.name.precinct →
+pub turn_inside : (b : List ℕ) (s : Stream) (g : Geometry) (number : ℕ) (old : Left) (c : Cut) (new : Left) → AllFollow s g old.states → HasPrecinct g c.name.comp c.name.res c.name.precinct →
     IsTurn b g number old c new → AreInside (leaves g c.name.comp c.name.res c.name.precinct) c.parts
 turn_inside b s g number old c new all there t =
     let f = own_follows b s g number old c new all there t in
@@ -116,7 +116,7 @@ turn_inside b s g number old c new all there t =
     (recursion_from_All (PartIn (length (all_blocks t.state.bands))) c.parts (part_inside (header_in (window b t.body)) t.state c.parts c.used c.after t.cut.header)))
 
 -- ---- the pieces of a turn
-parts_apart : (g : Geometry) (p : PacketName) (j : ℕ) (parts : List Part) → GeometryInRange g → HasPrecinct g p.comp p.res p.precinct → j < leaves g p.comp p.res p.precinct →
+pub parts_apart : (g : Geometry) (p : PacketName) (j : ℕ) (parts : List Part) → GeometryInRange g → HasPrecinct g p.comp p.res p.precinct → j < leaves g p.comp p.res p.precinct →
     AreInside (leaves g p.comp p.res p.precinct) parts → Apart g p (leaf_number g p.comp p.res p.precinct j) j parts
 parts_apart g p j [] h there lt all = tt
 parts_apart g p j (q ∷ parts) h there lt all = (
@@ -125,7 +125,7 @@ parts_apart g p j (q ∷ parts) h there lt all = (
   parts_apart g p j parts h there lt all.1,
 )
 
-parts_elsewhere : (g : Geometry) (p : PacketName) (c r k j : ℕ) (parts : List Part) → GeometryInRange g → HasPrecinct g p.comp p.res p.precinct → HasPrecinct g c r k → j < leaves g c r k →
+pub parts_elsewhere : (g : Geometry) (p : PacketName) (c r k j : ℕ) (parts : List Part) → GeometryInRange g → HasPrecinct g p.comp p.res p.precinct → HasPrecinct g c r k → j < leaves g c r k →
     (number_of g p ≡ precinct_number g c r k → ⊥) → AreInside (leaves g p.comp p.res p.precinct) parts → Elsewhere g p (leaf_number g c r k j) parts
 parts_elsewhere g p c r k j [] h there has lt ne all = tt
 parts_elsewhere g p c r k j (q ∷ parts) h there has lt ne all = (
@@ -164,18 +164,18 @@ pub founds_cons : (g : Geometry) (c : Cut) (cuts : List Cut) → founds_of g (c 
 unfolding founds_of
 founds_cons g c cuts = refl
 
-founds_nil : (g : Geometry) → founds_of g [] ≡ []
+pub founds_nil : (g : Geometry) → founds_of g [] ≡ []
 unfolding founds_of
 founds_nil g = refl
 
-own_joined : (number : ℕ) (fs gs : List Found) → own_founds number (fs ++ gs) ≡ own_founds number fs ++ own_founds number gs
+pub own_joined : (number : ℕ) (fs gs : List Found) → own_founds number (fs ++ gs) ≡ own_founds number fs ++ own_founds number gs
 unfolding own_founds
 own_joined number fs gs = filter-append (λ (f : Found). f.number == number) fs gs
 
-own_cons : (number : ℕ) (g : Geometry) (c : Cut) (cuts : List Cut) → own_founds number (founds_of g (c ∷ cuts)) ≡ own_founds number (founds_in g c) ++ own_founds number (founds_of g cuts)
+pub own_cons : (number : ℕ) (g : Geometry) (c : Cut) (cuts : List Cut) → own_founds number (founds_of g (c ∷ cuts)) ≡ own_founds number (founds_in g c) ++ own_founds number (founds_of g cuts)
 own_cons number g c cuts = ap (own_founds number) (founds_cons g c cuts) ∙ own_joined number (founds_in g c) (founds_of g cuts)
 
-own_nil : (number : ℕ) (g : Geometry) → own_founds number (founds_of g []) ≡ []
+pub own_nil : (number : ℕ) (g : Geometry) → own_founds number (founds_of g []) ≡ []
 unfolding own_founds founds_of
 own_nil number g = refl
 

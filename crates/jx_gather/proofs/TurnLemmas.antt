@@ -1,5 +1,5 @@
 -- Packets in their turn: when a packet is due, its precinct's state is at its layer.
-use Rattle.std.proofs.Common.{◌≡◌, ℕ, ◌+◌, ◌<◌, ◌≤◌, List, [], ◌∷◌, ◌++◌, Some, inl, inr, ◌∙◌, ap, sym, subst, refl, arith, length, set, take, drop, append_assoc, append-nil, length-drop, length-take}
+use Rattle.std.proofs.Common.{◌≡◌, ℕ, ◌+◌, ◌<◌, ◌≤◌, List, [], ◌∷◌, ◌++◌, Some, inl, inr, ◌∙◌, ap, sym, subst, refl, arith, length, set, take, drop, append-nil, length-drop, length-take}
 use Rattle.std.specs.Prelude.{◌↔◌, slice_get}
 use Rattle.std.specs.List.{AllPairs, Contains}
 use Rattle.std.proofs.lemmas.Bool.{cases_lt, cases_eq}
@@ -16,12 +16,12 @@ use Rattle.jx_order.proofs.OrderLemmas.{order_to, order_from}
 use Rattle.jx_order.proofs.RiseLemmas.{order_rises}
 use Rattle.jx_stream.specs.declared.Body.{Body}
 use Rattle.jx_stream.specs.declared.Stream.{Stream}
-use Rattle.jx_gather.specs.Shapes.{geometry, layers_of, tile_at, style_of}
+use Rattle.jx_stream.specs.Shapes.{geometry, layers_of, tile_at, style_of}
 use Rattle.jx_gather.specs.Cells.{HasPrecinct, fresh_precinct, fresh_precincts, precinct_number}
 use Rattle.jx_gather.specs.Data.{window, header_in, sop_length}
 use Rattle.jx_gather.specs.Cuts.{Cut, Left, IsTurn, AreCuts, names_of, number_of}
 use Rattle.jx_gather.specs.Gathered.{IsListOf, IsWhole, start}
-use Rattle.jx_base.proofs.Lists.{contains_cons, contains_head, contains_none, pairs_tail, pairs_head, pairs_across, pairs_back, push_on, get-set_same, get-set_other}
+use Rattle.jx_base.proofs.Lists.{contains_cons, contains_head, contains_none, pairs_head, pairs_across, pairs_back, push_on, get-set_same, get-set_other}
 
 -- ---- what is cited of a tile's precincts and of their states
 pub record Precincts (s : Stream) (g : Geometry) : Type 0 where
@@ -88,7 +88,7 @@ due_named g layers list done rest p h e =
     (h.every p).0 (subst P (sym e) (Contains-append_right done (p ∷ rest) p (contains_head p rest)))
 
 -- a lower layer was read before
-lower_done : (g : Geometry) (layers : ℕ) (list done rest : List PacketName) (p : PacketName) (l : ℕ) → Listed g layers list → list ≡ done ++ (p ∷ rest)
+pub lower_done : (g : Geometry) (layers : ℕ) (list done rest : List PacketName) (p : PacketName) (l : ℕ) → Listed g layers list → list ≡ done ++ (p ∷ rest)
     → l < p.layer → Contains done (name_of l p.res p.comp p.precinct)
 lower_done g layers list done rest p l h e lt =
     let is = due_named g layers list done rest p h e in
@@ -111,7 +111,7 @@ lower_done g layers list done rest p l h e lt =
     ]
 
 -- and the packet's own was not
-own_new : (g : Geometry) (layers : ℕ) (list done rest : List PacketName) (p : PacketName) → Listed g layers list → list ≡ done ++ (p ∷ rest) → Contains done p → ⊥
+pub own_new : (g : Geometry) (layers : ℕ) (list done rest : List PacketName) (p : PacketName) → Listed g layers list → list ≡ done ++ (p ∷ rest) → Contains done p → ⊥
 own_new g layers list done rest p h e c =
     let R : PacketName → PacketName → Type 0 = λ a b. (SamePrecinct a b → a.layer < b.layer) in
     let A : List PacketName → Type 0 = λ xs. AllPairs R xs in

@@ -15,7 +15,7 @@ use Rattle.jx_head.specs.Precinct.{all_blocks}
 use Rattle.jx_order.specs.declared.names.PacketName.{PacketName}
 use Rattle.jx_stream.specs.declared.Stream.{Stream}
 use Rattle.jx_stream.specs.Params.{planes_at}
-use Rattle.jx_gather.specs.Shapes.{style_of}
+use Rattle.jx_stream.specs.Shapes.{style_of}
 use Rattle.jx_gather.specs.Cells.{leaf_number}
 use Rattle.jx_gather.specs.Cuts.{Cut}
 use Rattle.jx_base.specs.Joined.{joined}

@@ -1,8 +1,8 @@
 -- The code-blocks of a precinct, their numbers, and the precincts of a tile one after another (ITU-T T.800, B.6, B.7 and B.9).
-use Rattle.std.specs.Prelude.{◌<◌, ℕ, ◌+◌, ◌-◌, ◌*◌, ◌==◌, nat_lt, List, [], ◌∷◌, length, map, take, if◌then◌else◌}
+use Rattle.std.specs.Prelude.{◌<◌, ℕ, ◌+◌, ◌-◌, ◌==◌, nat_lt, List, [], ◌∷◌, length, map, take, if◌then◌else◌}
 use Rattle.jx_base.specs.declared.names.Rect.{Rect}
 use Rattle.jx_base.specs.declared.names.Band.{Band}
-use Rattle.jx_base.specs.declared.names.Band.TheVariants.{LL, HL, LH, HH}
+use Rattle.jx_base.specs.declared.names.Band.TheVariants.{LL}
 use Rattle.jx_base.specs.declared.names.BlockName.{BlockName}
 use Rattle.jx_base.specs.Places.{length_of, size_of, column_at, row_at, number_at}
 use Rattle.jx_geom.specs.Rects.{precinct_blocks}
@@ -14,7 +14,7 @@ use Rattle.jx_head.specs.Packet.{State}
 use Rattle.jx_head.specs.Precinct.{fresh_state}
 use Rattle.jx_stream.specs.declared.Stream.{Stream}
 use Rattle.jx_stream.specs.Params.{planes_at}
-use Rattle.jx_gather.specs.Shapes.{style_of}
+use Rattle.jx_stream.specs.Shapes.{style_of}
 use Rattle.jx_base.specs.Joined.{joined, sum_below}
 use Rattle.jx_base.specs.Bands.{bands_at}
 

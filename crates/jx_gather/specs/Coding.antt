@@ -4,7 +4,7 @@ use Rattle.jx_base.specs.declared.names.Band.TheVariants.{LL, HL, LH, HH}
 use Rattle.jx_stream.specs.declared.Stream.{Stream}
 use Rattle.jx_stream.specs.Params.{planes_at}
 use Rattle.jx_gather.specs.declared.fresh.Coding.{Coding}
-use Rattle.jx_gather.specs.Shapes.{style_of}
+use Rattle.jx_stream.specs.Shapes.{style_of}
 
 -- the style, and the planes of each of its bands
 pub record IsCoding (s : Stream) (t c r : ℕ) (coding : Coding) : Type 0 where

@@ -2,11 +2,11 @@
 use Rattle.std.specs.Prelude.{◌≡◌, ℕ}
 use Rattle.jx_order.specs.Packets.{HasUncovered}
 use Rattle.jx_stream.specs.declared.Stream.{Stream}
-use Rattle.jx_gather.specs.declared.faults.GatherFault.{GatherFault}
-use Rattle.jx_gather.specs.declared.faults.GatherFault.TheVariants as fault
-use Rattle.jx_gather.specs.Shapes.{geometry, layers_of, tile_at}
+use Rattle.jx_stream.specs.declared.faults.StreamFault.{StreamFault}
+use Rattle.jx_stream.specs.declared.faults.StreamFault.TheVariants as fault
+use Rattle.jx_stream.specs.Shapes.{geometry, layers_of, tile_at}
 
 -- some packet of the tile is covered by no entry: the rule at its first SOT
-pub record LacksPacket (s : Stream) (t : ℕ) (f : GatherFault) : Type 0 where
+pub record LacksPacket (s : Stream) (t : ℕ) (f : StreamFault) : Type 0 where
   pub some : HasUncovered (geometry s t) (layers_of s t) (tile_at s t).progressions
   pub fault_is : f ≡ fault.Rule 25 (tile_at s t).place

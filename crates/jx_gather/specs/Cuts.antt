@@ -5,8 +5,8 @@ use Rattle.jx_head.specs.declared.Part.{Part}
 use Rattle.jx_head.specs.Packet.{State, IsPacket, BreaksPlanes}
 use Rattle.jx_order.specs.declared.names.PacketName.{PacketName}
 use Rattle.jx_stream.specs.declared.Body.{Body}
-use Rattle.jx_gather.specs.declared.faults.GatherFault.{GatherFault}
-use Rattle.jx_gather.specs.declared.faults.GatherFault.TheVariants as fault
+use Rattle.jx_stream.specs.declared.faults.StreamFault.{StreamFault}
+use Rattle.jx_stream.specs.declared.faults.StreamFault.TheVariants as fault
 use Rattle.jx_gather.specs.Data.{window, due, behind, sop_fault, header_in, front_length, parts_length, body_fault}
 use Rattle.jx_gather.specs.Cells.{precinct_number}
 
@@ -32,13 +32,13 @@ pub record IsCut (w : List ℕ) (number : ℕ) (k : State) (c : Cut) : Type 0 wh
   pub bytes_are : c.bytes ≡ take (parts_length c.parts) (drop (front_length w c.used) w)
 
 -- the header is none: rule 27, else rule 26, at the packet's first byte
-abbrev pub BreaksHeader : List ℕ → ℕ → State → GatherFault → Type 0
+abbrev pub BreaksHeader : List ℕ → ℕ → State → StreamFault → Type 0
 BreaksHeader h at k f =
     (BreaksPlanes h k × (f ≡ fault.Rule 27 at))
     ⊎ ((BreaksPlanes h k → ⊥) × ((parts : List Part) (used : ℕ) (after : State) → IsPacket h k parts used after → ⊥) × (f ≡ fault.Rule 26 at))
 
 -- the coded bytes of a packet that has a header
-pub record BreaksBody (w : List ℕ) (at : ℕ) (k : State) (f : GatherFault) : Type 0 where
+pub record BreaksBody (w : List ℕ) (at : ℕ) (k : State) (f : StreamFault) : Type 0 where
   pub parts : List Part
   pub used : ℕ
   pub after : State
@@ -46,7 +46,7 @@ pub record BreaksBody (w : List ℕ) (at : ℕ) (k : State) (f : GatherFault) : 
   pub body : body_fault w at used parts ≡ Some f
 
 -- what is violated first in the packet that begins at a place
-abbrev pub Breaks : List ℕ → ℕ → ℕ → State → GatherFault → Type 0
+abbrev pub Breaks : List ℕ → ℕ → ℕ → State → StreamFault → Type 0
 Breaks w at number k f =
     (sop_fault w at number ≡ Some f)
     ⊎ ((sop_fault w at number ≡ None) × (BreaksHeader (header_in w) at k f ⊎ BreaksBody w at k f))
@@ -78,7 +78,7 @@ abbrev pub names_of : List Cut → List PacketName
 names_of cuts = map (λ (c : Cut). c.name) cuts
 
 -- a packet is due, and no byte of the tile is left, or a rule is violated in it
-pub record BreaksDue (b : List ℕ) (g : Geometry) (number : ℕ) (left : Left) (p : PacketName) (f : GatherFault) : Type 0 where
+pub record BreaksDue (b : List ℕ) (g : Geometry) (number : ℕ) (left : Left) (p : PacketName) (f : StreamFault) : Type 0 where
   pub body : Body
   pub later : List Body
   pub due_is : due left.bodies ≡ body ∷ later
@@ -87,13 +87,13 @@ pub record BreaksDue (b : List ℕ) (g : Geometry) (number : ℕ) (left : Left) 
   pub breaks : Breaks (window b body) body.at number state f
 
 -- rule 31: all packets were read, and a byte is left
-pub record IsLeftOver (left : Left) (f : GatherFault) : Type 0 where
+pub record IsLeftOver (left : Left) (f : StreamFault) : Type 0 where
   pub body : Body
   pub later : List Body
   pub due_is : due left.bodies ≡ body ∷ later
   pub fault_is : f ≡ fault.Rule 31 body.at
 
 -- what is violated where these packets are still to come, in a tile whose data end at a place
-abbrev pub Stops : List ℕ → Geometry → ℕ → ℕ → Left → List PacketName → GatherFault → Type 0
+abbrev pub Stops : List ℕ → Geometry → ℕ → ℕ → Left → List PacketName → StreamFault → Type 0
 Stops b g end number left [] f = IsLeftOver left f
 Stops b g end number left (p ∷ rest) f = ((due left.bodies ≡ []) × (f ≡ fault.Rule 26 end)) ⊎ BreaksDue b g number left p f

@@ -4,9 +4,9 @@ use Rattle.std.specs.List.{range_with_len}
 use Rattle.std.specs.Option.{option_or}
 use Rattle.jx_head.specs.declared.Part.{Part}
 use Rattle.jx_stream.specs.declared.Body.{Body}
-use Rattle.jx_gather.specs.declared.faults.GatherFault.{GatherFault}
-use Rattle.jx_gather.specs.declared.faults.GatherFault.TheVariants as fault
-use Rattle.jx_gather.specs.Faults.{broken}
+use Rattle.jx_stream.specs.declared.faults.StreamFault.{StreamFault}
+use Rattle.jx_stream.specs.declared.faults.StreamFault.TheVariants as fault
+use Rattle.jx_stream.specs.Faults.{broken}
 
 -- the bytes of data that are left of a tile-part
 abbrev pub window : List ℕ → Body → List ℕ
@@ -40,7 +40,7 @@ abbrev pub has_sop : List ℕ → Bool
 has_sop w = begins_with w 145
 
 -- rule 26 for a SOP that is cut short, then rule 29: its length isn't 4, or its number isn't the packet's modulo 65,536
-unfoldable pub sop_fault : List ℕ → ℕ → ℕ → Option GatherFault
+unfoldable pub sop_fault : List ℕ → ℕ → ℕ → Option StreamFault
 sop_fault w at number = option_or (broken 26 at (has_sop w && nat_lt (length w) 6))
     (broken 29 at (has_sop w && (not (number_at w 2 == 4) || not (number_at w 4 == number % 65536))))
 
@@ -71,17 +71,17 @@ is_marked bytes i = (slice_index bytes i == 255) && ((i + 1 == length bytes) || 
 unfoldable pub first_mark : List ℕ → Option ℕ
 first_mark bytes = find (is_marked bytes) (range_with_len 0 (length bytes))
 
-abbrev pub rule_30 : ℕ → Option ℕ → Option GatherFault
+abbrev pub rule_30 : ℕ → Option ℕ → Option StreamFault
 rule_30 at None = None
 rule_30 at (Some i) = Some (fault.Rule 30 (at + i))
 
 -- rule 30, in pieces one after another from a place on
-abbrev pub marks_fault : ℕ → List ℕ → List Part → Option GatherFault
+abbrev pub marks_fault : ℕ → List ℕ → List Part → Option StreamFault
 marks_fault at bytes [] = None
 marks_fault at bytes (p ∷ parts) = option_or (rule_30 at (first_mark (take p.length bytes))) (marks_fault (at + p.length) (drop p.length bytes) parts)
 
 -- rule 28: the lengths pass the tile-part's end; then rule 30
-unfoldable pub body_fault : List ℕ → ℕ → ℕ → List Part → Option GatherFault
+unfoldable pub body_fault : List ℕ → ℕ → ℕ → List Part → Option StreamFault
 body_fault w at used parts =
     option_or (broken 28 at (nat_lt (length w) (front_length w used + parts_length parts)))
     (marks_fault (at + front_length w used) (drop (front_length w used) w) parts)

@@ -5,9 +5,9 @@ use Rattle.jx_order.specs.declared.names.PacketName.{PacketName}
 use Rattle.jx_order.specs.Packets.{IsOrder, AreCovered, HasUncovered}
 use Rattle.jx_stream.specs.declared.Stream.{Stream}
 use Rattle.jx_stream.specs.First.{tile_number}
-use Rattle.jx_gather.specs.declared.faults.GatherFault.{GatherFault}
-use Rattle.jx_gather.specs.declared.faults.GatherFault.TheVariants as fault
-use Rattle.jx_gather.specs.Shapes.{geometry, layers_of, tile_at}
+use Rattle.jx_stream.specs.declared.faults.StreamFault.{StreamFault}
+use Rattle.jx_stream.specs.declared.faults.StreamFault.TheVariants as fault
+use Rattle.jx_stream.specs.Shapes.{geometry, layers_of, tile_at}
 use Rattle.jx_gather.specs.Totals.{totals_fault}
 use Rattle.jx_gather.specs.Cells.{fresh_precincts}
 use Rattle.jx_gather.specs.Data.{due, end_of_data}
@@ -45,7 +45,7 @@ pub record IsGathered (b : List ℕ) (s : Stream) (blocks : List Block) : Type 0
   pub blocks_are : blocks ≡ joined tiles 0 (tile_number s.siz)
 
 -- rule 25: the lowest tile of which some packet is covered by no entry
-pub record IsUncovered (s : Stream) (f : GatherFault) : Type 0 where
+pub record IsUncovered (s : Stream) (f : StreamFault) : Type 0 where
   pub tile : ℕ
   pub inside : tile < tile_number s.siz
   pub some : HasUncovered (geometry s tile) (layers_of s tile) (tile_at s tile).progressions
@@ -53,7 +53,7 @@ pub record IsUncovered (s : Stream) (f : GatherFault) : Type 0 where
   pub fault_is : f ≡ fault.Rule 25 (tile_at s tile).place
 
 -- a tile's data are cut up to a packet in which a rule is violated, or a byte is left
-pub record BreaksTile (b : List ℕ) (s : Stream) (t : ℕ) (f : GatherFault) : Type 0 where
+pub record BreaksTile (b : List ℕ) (s : Stream) (t : ℕ) (f : StreamFault) : Type 0 where
   pub cuts : List Cut
   pub rest : List PacketName
   pub order : IsListOf s t (names_of cuts ++ rest)
@@ -62,7 +62,7 @@ pub record BreaksTile (b : List ℕ) (s : Stream) (t : ℕ) (f : GatherFault) : 
   pub stops : Stops b (geometry s t) (end_of_data (tile_at s t).bodies) (length cuts) left rest f
 
 -- rules 26 to 31: in the lowest tile
-pub record BreaksData (b : List ℕ) (s : Stream) (f : GatherFault) : Type 0 where
+pub record BreaksData (b : List ℕ) (s : Stream) (f : StreamFault) : Type 0 where
   pub whole : (t : ℕ) → t < tile_number s.siz → IsWhole s t
   pub tile : ℕ
   pub inside : tile < tile_number s.siz
@@ -70,5 +70,5 @@ pub record BreaksData (b : List ℕ) (s : Stream) (f : GatherFault) : Type 0 whe
   pub breaks : BreaksTile b s tile f
 
 -- limits 5 and 6, then rule 25, then rules 26 to 31
-abbrev pub IsBroken : List ℕ → Stream → GatherFault → Type 0
+abbrev pub IsBroken : List ℕ → Stream → StreamFault → Type 0
 IsBroken b s f = (totals_fault s ≡ Some f) ⊎ ((totals_fault s ≡ None) × (IsUncovered s f ⊎ BreaksData b s f))

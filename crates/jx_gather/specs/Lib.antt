@@ -1,5 +1,4 @@
 pub mod Faults
-pub mod Shapes
 pub mod Totals
 pub mod Cells
 pub mod Leaves
@@ -16,3 +15,9 @@ pub mod Reading
 pub mod Accepted
 pub mod Joined
 pub mod Covered
+pub mod Written
+pub mod BlockOf
+pub mod Carries
+pub mod Either
+pub mod Planned
+pub mod Another

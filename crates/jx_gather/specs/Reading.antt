@@ -11,11 +11,12 @@ use Rattle.jx_stream.specs.declared.Stream.{Stream}
 use Rattle.jx_stream.specs.First.{tile_number}
 use Rattle.jx_gather.specs.declared.packet.Packet.{Packet}
 use Rattle.jx_gather.specs.Cells.{leaf_number}
-use Rattle.jx_gather.specs.Shapes.{geometry, tile_at}
+use Rattle.jx_stream.specs.Shapes.{geometry, tile_at}
 use Rattle.jx_gather.specs.Data.{due}
 use Rattle.jx_gather.specs.Cuts.{Cut, Left, AreCuts, names_of}
 use Rattle.jx_gather.specs.Gathered.{IsListOf, IsWhole, start}
-use Rattle.jx_gather.specs.InRange.{StreamInRange, DataInRange}
+use Rattle.jx_stream.specs.InRange.{StreamInRange}
+use Rattle.jx_gather.specs.InRange.{DataInRange}
 use Rattle.jx_gather.specs.Totals.{totals_fault}
 use Rattle.jx_gather.specs.Blocks.{Found, zero_in, founds_of, tile_blocks}
 use Rattle.jx_gather.specs.Put.{put_all}

@@ -6,9 +6,9 @@ use Rattle.jx_geom.specs.Counts.{tile_precincts}
 use Rattle.jx_geom.specs.Numbering.{blocks_of_all}
 use Rattle.jx_stream.specs.declared.Stream.{Stream}
 use Rattle.jx_stream.specs.First.{canvas_of, tile_number}
-use Rattle.jx_gather.specs.declared.faults.GatherFault.{GatherFault}
+use Rattle.jx_stream.specs.declared.faults.StreamFault.{StreamFault}
 use Rattle.jx_gather.specs.Faults.{passed}
-use Rattle.jx_gather.specs.Shapes.{shapes_of, layers_of}
+use Rattle.jx_stream.specs.Shapes.{shapes_of, layers_of}
 use Rattle.jx_base.specs.Joined.{sum_below}
 
 -- B.7: every cell of a band that isn't empty is a block
@@ -23,5 +23,5 @@ unfoldable pub packet_total : Stream → ℕ
 packet_total s = sum_below (tile_packets s) (tile_number s.siz)
 
 -- limit 5, then limit 6
-unfoldable pub totals_fault : Stream → Option GatherFault
+unfoldable pub totals_fault : Stream → Option StreamFault
 totals_fault s = option_or (passed 5 (block_total s) (nat_lt (2 ^ 20) (block_total s))) (passed 6 (packet_total s) (nat_lt (2 ^ 22) (packet_total s)))

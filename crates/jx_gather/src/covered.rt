@@ -6,13 +6,13 @@ ghost use Rattle.jx_order.specs.declared.names.PacketName.{PacketName};
 ghost use Rattle.jx_order.specs.Packets.{HasUncovered, IsPacket};
 ghost use Rattle.jx_stream.specs.First.{tile_number};
 ghost use Rattle.jx_gather.specs.Faults.{HasCause};
-ghost use Rattle.jx_gather.specs.InRange.{StreamInRange};
-ghost use Rattle.jx_gather.specs.Shapes.{geometry, layers_of, tile_at};
+ghost use Rattle.jx_stream.specs.InRange.{StreamInRange};
+ghost use Rattle.jx_stream.specs.Shapes.{geometry, layers_of, tile_at};
 ghost use Rattle.jx_gather.specs.Totals.{totals_fault};
 ghost use Rattle.jx_gather.specs.Gathered.{IsListOf, IsUncovered, IsWhole};
 ghost use Rattle.jx_gather.specs.Covered.{LacksPacket};
 
-use crate::faults::GatherFault;
+use crate::StreamFault;
 use crate::shapes::{geometry_of, tile_at, tile_count};
 use jx_geom::TileGeom;
 use jx_order::{OrderFault, PacketName, packets};
@@ -25,7 +25,7 @@ pub(crate) fn list_of(
     alloc: Global,
     stream: &Stream,
     geom: &TileGeom,
-) -> Result<Vec<PacketName>, GatherFault>
+) -> Result<Vec<PacketName>, StreamFault>
     requires range { StreamInRange stream.now }
     requires tile { geom.now.tile < tile_number stream.now.siz }
     requires geometry { geom.now ≡ geometry stream.now geom.now.tile }
@@ -39,16 +39,16 @@ pub(crate) fn list_of(
     let layers = stream.params(geom.number(), 0).layers;
     match packets(alloc, geom, layers, tile.progressions.as_slice()) {
         Ok(list) => Ok(list),
-        Err(OrderFault::Uncovered) => Err(GatherFault::Rule {
+        Err(OrderFault::Uncovered) => Err(StreamFault::Rule {
             number: 25,
             place: tile.place,
         }),
-        Err(OrderFault::NoMemory) => Err(GatherFault::NoMemory),
+        Err(OrderFault::NoMemory) => Err(StreamFault::NoMemory),
     }
 }
 
 /// Whether the packets of each tile are covered: rule 25 in the lowest tile where one isn't.
-pub(crate) fn check_covered(alloc: Global, stream: &Stream) -> Result<(), GatherFault>
+pub(crate) fn check_covered(alloc: Global, stream: &Stream) -> Result<(), StreamFault>
     requires range { StreamInRange stream.now }
     requires totals { totals_fault stream.now ≡ None }
     ensures whole { OnOk result ((t : ℕ) → t < tile_number stream.now.siz → IsWhole stream.now t) }

@@ -4,7 +4,7 @@ ghost use Rattle.std.specs.Prelude.{◌≡◌, ◌≤◌, ◌<◌, ◌+◌, ◌^
 ghost use Rattle.jx_gather.specs.Faults.{Answers};
 ghost use Rattle.jx_gather.specs.Data.{begins_with, number_at, sop_fault, sop_length, eph_length, header_in, front_length, parts_length, is_marked, first_mark, marks_fault, body_fault};
 
-use crate::GatherFault;
+use crate::StreamFault;
 use jx_head::Part;
 
 /// The second byte of SOP.
@@ -13,11 +13,11 @@ const SOP: u8 = 145;
 const EPH: u8 = 146;
 
 /// The refusal of a rule that is violated at a place.
-pub(crate) fn violated(number: u8, at: usize) -> GatherFault
+pub(crate) fn violated(number: u8, at: usize) -> StreamFault
     requires { at < 2 ^ 32 }
-    ensures { result ≡ GatherFault.Rule number at }
+    ensures { result ≡ StreamFault.Rule number at }
 {
-    GatherFault::Rule {
+    StreamFault::Rule {
         number,
         place: at as u32,
     }
@@ -42,7 +42,7 @@ fn number_at(bytes: &[u8], at: usize) -> usize
 /// The length of a SOP in front of the packet of this number in its tile, 0 where none stands there. One
 /// that is cut short violates rule 26, and one of another length or number rule 29.
 #[tactic(auto, unfolding(crate::specs::Data::sop_fault))]
-pub(crate) fn read_sop(bytes: &[u8], at: usize, number: usize) -> Result<usize, GatherFault>
+pub(crate) fn read_sop(bytes: &[u8], at: usize, number: usize) -> Result<usize, StreamFault>
     requires { at < 2 ^ 32 }
     ensures { Answers result (sop_fault bytes.now at number) (λ n. (n ≡ sop_length bytes.now) × (n ≤ length bytes.now)) }
 {
@@ -116,7 +116,7 @@ fn first_mark(bytes: &[u8]) -> Option<usize>
 }
 
 /// Finds rule 30 in pieces that stand one after another from a place on.
-fn check_marks(bytes: &[u8], at: usize, parts: &[Part]) -> Result<(), GatherFault>
+fn check_marks(bytes: &[u8], at: usize, parts: &[Part]) -> Result<(), StreamFault>
     requires within { parts_length parts.now ≤ length bytes.now }
     requires fits { at + length bytes.now < 2 ^ 32 }
     ensures { Answers result (marks_fault at bytes.now parts.now) (λ _. Unit {0}) }
@@ -143,7 +143,7 @@ pub(crate) fn check_body(
     sop: usize,
     used: usize,
     parts: &[Part],
-) -> Result<(usize, usize), GatherFault>
+) -> Result<(usize, usize), StreamFault>
     requires sop { sop ≡ sop_length bytes.now }
     requires within { sop + used ≤ length bytes.now }
     requires fits { at + length bytes.now < 2 ^ 32 }

@@ -9,8 +9,8 @@ ghost use Rattle.jx_stream.specs.First.{tile_number};
 ghost use Rattle.jx_gather.specs.Blocks.{band_blocks, component_blocks, resolution_blocks, tile_blocks};
 ghost use Rattle.jx_gather.specs.Cells.{HasPrecinct, cells_at, fresh_component, fresh_precinct, fresh_precincts, fresh_resolution, sizes_of};
 ghost use Rattle.jx_gather.specs.Coding.{IsCoding};
-ghost use Rattle.jx_gather.specs.InRange.{StreamInRange};
-ghost use Rattle.jx_gather.specs.Shapes.{geometry};
+ghost use Rattle.jx_stream.specs.InRange.{StreamInRange};
+ghost use Rattle.jx_stream.specs.Shapes.{geometry};
 
 use crate::layout::band_count;
 use jx_base::{Band, Block, BlockName, NoMemory, Pieces, Style};

@@ -5,16 +5,17 @@ ghost use Rattle.std.specs.List.{All};
 ghost use Rattle.jx_base.specs.declared.pieces.Block.{Block};
 ghost use Rattle.jx_base.specs.Sound.{IsSound};
 ghost use Rattle.jx_stream.specs.First.{tile_number};
-ghost use Rattle.jx_gather.specs.declared.faults.GatherFault.{GatherFault};
+ghost use Rattle.jx_stream.specs.declared.faults.StreamFault.{StreamFault};
 ghost use Rattle.jx_gather.specs.Faults.{HasCause, IsMemory, IsOnly};
-ghost use Rattle.jx_gather.specs.Shapes.{IsRead};
-ghost use Rattle.jx_gather.specs.InRange.{StreamInRange};
+ghost use Rattle.jx_stream.specs.Read.{IsRead};
+ghost use Rattle.jx_stream.specs.InRange.{StreamInRange};
 ghost use Rattle.jx_gather.specs.Totals.{totals_fault};
+ghost use Rattle.jx_gather.specs.BlockOf.{AreBlocksOf};
 ghost use Rattle.jx_gather.specs.Gathered.{AreTileBlocks, BreaksData, BreaksTile, IsBroken, IsGathered, IsWhole};
 ghost use Rattle.jx_gather.specs.Joined.{IsGatheredTo};
 ghost use Rattle.jx_gather.specs.WellFormed.{IsWellFormed};
 
-use crate::GatherFault;
+use crate::StreamFault;
 use crate::covered::check_covered;
 use crate::shapes::tile_count;
 use crate::tile_blocks::gather_tile;
@@ -36,7 +37,7 @@ fn gather_tiles<'a>(
     alloc: Global,
     bytes: &'a [u8],
     stream: &Stream,
-) -> Result<Vec<Block<'a>>, GatherFault>
+) -> Result<Vec<Block<'a>>, StreamFault>
     requires read { IsRead bytes.now stream.now }
     requires range { StreamInRange stream.now }
     requires fits { length bytes.now ≤ 2 ^ 28 }
@@ -62,7 +63,7 @@ fn gather_first<'a>(
     alloc: Global,
     bytes: &'a [u8],
     stream: &Stream,
-) -> Result<Vec<Block<'a>>, GatherFault>
+) -> Result<Vec<Block<'a>>, StreamFault>
     requires read { IsRead bytes.now stream.now }
     requires fits { length bytes.now ≤ 2 ^ 28 }
     ensures gathered { IfOk result (λ blocks. IsGathered bytes.entry.now stream.now blocks.items) }
@@ -86,12 +87,12 @@ fn gather_first<'a>(
 /// `stream` is what `read_stream` gives for `bytes`, of which there are at most 2^28. Limits 5 and 6 come first, then rule 25,
 /// then, tile by tile and packet by packet, the rules 26 to 31. A block that no packet includes has no passes, and as many
 /// zero planes as planes (T.800, B.7 and B.9 to B.12).
-#[tactic(auto, using(crate::proofs::GatherLemmas::well_formed))]
+#[tactic(auto, using(crate::proofs::GatherLemmas::well_formed, crate::proofs::BlockOfLemmas::blocks_of_stream))]
 pub fn gather<'a>(
     alloc: Global,
     bytes: &'a [u8],
     stream: &Stream,
-) -> Result<Vec<Block<'a>>, GatherFault>
+) -> Result<Vec<Block<'a>>, StreamFault>
     requires read { IsRead bytes.now stream.now }
     requires fits { length bytes.now ≤ 2 ^ 28 }
     // What is given are the blocks of these bytes, and no others are;
@@ -99,13 +100,16 @@ pub fn gather<'a>(
     ensures only { IfOk result (λ blocks. (others : List Block) → IsGathered bytes.entry.now stream.now others → blocks.items ≡ others) }
     // no rule is violated then, and no limit passed.
     ensures totals { OnOk result (totals_fault stream.now ≡ None) }
-    ensures unbroken { OnOk result ((first : GatherFault) → IsBroken bytes.entry.now stream.now first → ⊥) }
+    ensures unbroken { OnOk result ((first : StreamFault) → IsBroken bytes.entry.now stream.now first → ⊥) }
     // A rule or limit that is named is the first one violated or passed, and the only one;
     ensures broken { IfErr result (λ e. HasCause (IsBroken bytes.entry.now stream.now) e) }
-    ensures first { IfErr result (λ e. (first : GatherFault) → IsBroken bytes.entry.now stream.now first → IsOnly first e) }
+    ensures first { IfErr result (λ e. (first : StreamFault) → IsBroken bytes.entry.now stream.now first → IsOnly first e) }
     // where there are blocks, within the limits, only memory is wanting.
     ensures memory { IfErr result (λ e. (blocks : List Block) → totals_fault stream.now ≡ None → IsGathered bytes.entry.now stream.now blocks → IsMemory e) }
     ensures sound { IfOk result (λ blocks. All IsSound blocks.items) }
+    // Each name of the stream has its block at its number, with the rect, planes and style that the headers say, and pieces in
+    // layers of its tile, of at most 164 passes in one layer.
+    ensures blocks { IfOk result (λ blocks. AreBlocksOf stream.now blocks.items) }
     ensures well_formed { OnOk result (IsWellFormed bytes.entry.now) }
 {
     match gather_first(alloc, bytes, stream) {

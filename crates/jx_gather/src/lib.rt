@@ -4,9 +4,9 @@
 
 mod covered;
 mod data;
-mod faults;
 mod fresh;
 mod gathering;
+pub mod laws;
 mod layout;
 mod packet;
 mod pieces;
@@ -16,9 +16,9 @@ mod tile;
 mod tile_blocks;
 mod totals;
 
-pub use faults::GatherFault;
 pub use gathering::gather;
 pub use jx_base::{Block, Piece, Pieces};
+pub use jx_stream::StreamFault;
 
 #[cfg(test)]
 mod tests;

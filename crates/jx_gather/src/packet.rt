@@ -7,7 +7,7 @@ ghost use Rattle.jx_gather.specs.Faults.{HasCause};
 ghost use Rattle.jx_gather.specs.Cuts.{IsCut, Breaks, BreaksHeader};
 ghost use Rattle.jx_gather.specs.Reading.{cut_of};
 
-use crate::GatherFault;
+use crate::StreamFault;
 use crate::data::{check_body, read_sop, violated};
 use jx_head::{HeadFault, Part, Precinct};
 use jx_order::PacketName;
@@ -31,7 +31,7 @@ fn read_head(
     layer: u16,
     bytes: &[u8],
     at: usize,
-) -> Result<(Vec<Part>, usize), GatherFault>
+) -> Result<(Vec<Part>, usize), StreamFault>
     requires state { IsState precinct.old }
     requires layer { precinct.old.layer ≡ layer }
     requires place { at < 2 ^ 32 }
@@ -44,7 +44,7 @@ fn read_head(
         Ok(read) => Ok(read),
         Err(HeadFault::Bits) => Err(violated(26, at)),
         Err(HeadFault::Planes) => Err(violated(27, at)),
-        Err(HeadFault::NoMemory) => Err(GatherFault::NoMemory),
+        Err(HeadFault::NoMemory) => Err(StreamFault::NoMemory),
     }
 }
 
@@ -56,7 +56,7 @@ pub(crate) fn read_packet<'a>(
     number: usize,
     window: &'a [u8],
     at: usize,
-) -> Result<Packet<'a>, GatherFault>
+) -> Result<Packet<'a>, StreamFault>
     requires state { IsState precinct.old }
     requires layer { precinct.old.layer ≡ name.layer }
     requires fits { at + length window.now < 2 ^ 32 }

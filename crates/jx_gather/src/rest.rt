@@ -7,7 +7,7 @@ ghost use Rattle.jx_gather.specs.Data.{behind, due};
 ghost use Rattle.jx_gather.specs.Cuts.{IsCut, Breaks};
 ghost use Rattle.jx_gather.specs.Reading.{cut_of, state_at};
 
-use crate::GatherFault;
+use crate::StreamFault;
 use crate::packet::{Packet, read_packet};
 use jx_head::Precinct;
 use jx_order::PacketName;
@@ -85,7 +85,7 @@ impl<'s> Rest<'s> {
         number: usize,
         window: &'a [u8],
         at: usize,
-    ) -> Result<Packet<'a>, GatherFault>
+    ) -> Result<Packet<'a>, StreamFault>
         requires there { precinct < length self.old.states }
         requires state { IsState (state_at self.old.states precinct) }
         requires layer { (state_at self.old.states precinct).layer ≡ name.layer }

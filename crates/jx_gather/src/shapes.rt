@@ -2,8 +2,8 @@
 
 ghost use Rattle.std.specs.Prelude.{◌≡◌, ◌<◌, IfOk, None, length};
 ghost use Rattle.jx_stream.specs.First.{canvas_of, tile_number};
-ghost use Rattle.jx_gather.specs.InRange.{StreamInRange};
-ghost use Rattle.jx_gather.specs.Shapes.{geometry, shape_in, shapes_of, size_of, tile_at};
+ghost use Rattle.jx_stream.specs.InRange.{StreamInRange};
+ghost use Rattle.jx_stream.specs.Shapes.{geometry, shape_in, shapes_of, size_of, tile_at};
 ghost use Rattle.jx_gather.specs.Totals.{totals_fault};
 
 use jx_base::NoMemory;

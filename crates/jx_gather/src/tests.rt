@@ -65,17 +65,16 @@ fn edited(alloc: Global, from: usize, to: usize, text: &str) -> Result<Vec<u8>, 
 }
 
 // What is said of a fault: the rule and its place, or 100 and more for a limit with what was counted.
-fn told(fault: GatherFault) -> (u8, u128) {
+fn told(fault: StreamFault) -> (u8, u128) {
     match fault {
-        GatherFault::Rule { number, place } => (number, u128::from(place)),
-        GatherFault::Limit { number, found } => (number.wrapping_add(100), found),
-        GatherFault::NoMemory => (255, 0),
+        StreamFault::Rule { number, place } => (number, u128::from(place)),
+        StreamFault::Limit { number, found } => (number.wrapping_add(100), found),
+        StreamFault::NoMemory => (255, 0),
     }
 }
 
 // The blocks of a file, each as its planes, zero planes, passes, pieces and bytes; what is said of a fault; or 200 where its
 // headers are refused.
-#[tactic(auto, using(crate::proofs::RangeLemmas::is_read))]
 fn blocks_of(
     alloc: Global,
     bytes: &[u8],

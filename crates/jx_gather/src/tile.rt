@@ -3,15 +3,16 @@
 ghost use Rattle.std.specs.Prelude.{◌≡◌, ◌≤◌, ◌<◌, ◌+◌, ◌^◌, None, List, [], length, take, IfErr, OnOk};
 ghost use Rattle.jx_stream.specs.First.{tile_number};
 ghost use Rattle.jx_gather.specs.Faults.{HasCause};
-ghost use Rattle.jx_gather.specs.Shapes.{geometry, tile_at};
+ghost use Rattle.jx_stream.specs.Shapes.{geometry, tile_at};
 ghost use Rattle.jx_gather.specs.Totals.{totals_fault};
 ghost use Rattle.jx_gather.specs.Data.{window, end_of_data};
 ghost use Rattle.jx_gather.specs.Blocks.{tile_blocks};
 ghost use Rattle.jx_gather.specs.Gathered.{AreTileBlocks, BreaksTile, IsListOf, IsWhole};
-ghost use Rattle.jx_gather.specs.InRange.{DataInRange, StreamInRange};
+ghost use Rattle.jx_gather.specs.InRange.{DataInRange};
+ghost use Rattle.jx_stream.specs.InRange.{StreamInRange};
 ghost use Rattle.jx_gather.specs.Reading.{AreInside, IsFront, IsTask};
 
-use crate::GatherFault;
+use crate::StreamFault;
 use crate::data::violated;
 use crate::fresh::precincts_of;
 use crate::layout::Layout;
@@ -68,7 +69,7 @@ impl<'t, 'a> Source<'t, 'a> {
         number: usize,
         rest: &mut Rest<'_>,
         blocks: &mut Vec<Block<'a>>,
-    ) -> Result<(), GatherFault>
+    ) -> Result<(), StreamFault>
         requires task { IsTask self.now.bytes.now self.now.stream.now self.now.layout self.now.list.now }
         requires end { self.now.end ≡ end_of_data (tile_at self.now.stream.now self.now.layout.tile).bodies }
         requires number { number < length self.now.list.now }
@@ -91,12 +92,12 @@ impl<'t, 'a> Source<'t, 'a> {
         rest.pass(body, packet.count);
         match put_pieces(blocks, &self.layout, rest.precinct(precinct), name, &packet) {
             Ok(()) => Ok(()),
-            Err(_) => Err(GatherFault::NoMemory),
+            Err(_) => Err(StreamFault::NoMemory),
         }
     }
 
     /// Reads all of the list's packets, behind which no byte of the tile is left.
-    fn read_all(&self, rest: &mut Rest<'_>, blocks: &mut Vec<Block<'a>>) -> Result<(), GatherFault>
+    fn read_all(&self, rest: &mut Rest<'_>, blocks: &mut Vec<Block<'a>>) -> Result<(), StreamFault>
         requires task { IsTask self.now.bytes.now self.now.stream.now self.now.layout self.now.list.now }
         requires end { self.now.end ≡ end_of_data (tile_at self.now.stream.now self.now.layout.tile).bodies }
         requires front { IsFront self.now.bytes.now self.now.stream.now self.now.layout.tile (take 0 self.now.list.now) rest.old blocks.old.items }
@@ -126,7 +127,7 @@ pub(crate) fn read_tile<'a>(
     geom: &TileGeom,
     list: &[PacketName],
     blocks: &mut Vec<Block<'a>>,
-) -> Result<(), GatherFault>
+) -> Result<(), StreamFault>
     requires fits { length bytes.now ≤ 2 ^ 28 }
     requires range { StreamInRange stream.now }
     requires totals { totals_fault stream.now ≡ None }

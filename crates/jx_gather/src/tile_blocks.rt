@@ -5,12 +5,12 @@ ghost use Rattle.std.specs.List.{All};
 ghost use Rattle.jx_base.specs.Sound.{IsSound};
 ghost use Rattle.jx_stream.specs.First.{tile_number};
 ghost use Rattle.jx_gather.specs.Faults.{HasCause};
-ghost use Rattle.jx_gather.specs.Shapes.{IsRead};
-ghost use Rattle.jx_gather.specs.InRange.{StreamInRange};
+ghost use Rattle.jx_stream.specs.Read.{IsRead};
+ghost use Rattle.jx_stream.specs.InRange.{StreamInRange};
 ghost use Rattle.jx_gather.specs.Totals.{totals_fault};
 ghost use Rattle.jx_gather.specs.Gathered.{AreTileBlocks, BreaksTile, IsWhole};
 
-use crate::GatherFault;
+use crate::StreamFault;
 use crate::covered::list_of;
 use crate::fresh::blocks_of;
 use crate::shapes::geometry_of;
@@ -25,7 +25,7 @@ pub(crate) fn gather_tile<'a>(
     bytes: &'a [u8],
     stream: &Stream,
     tile: u16,
-) -> Result<Vec<Block<'a>>, GatherFault>
+) -> Result<Vec<Block<'a>>, StreamFault>
     requires read { IsRead bytes.now stream.now }
     requires range { StreamInRange stream.now }
     requires fits { length bytes.now ≤ 2 ^ 28 }

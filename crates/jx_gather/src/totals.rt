@@ -5,11 +5,11 @@ ghost use Rattle.jx_geom.specs.Counts.{tile_blocks, tile_precincts};
 ghost use Rattle.jx_geom.specs.Rects.{tile_rect};
 ghost use Rattle.jx_stream.specs.First.{canvas_of, tile_number};
 ghost use Rattle.jx_gather.specs.Faults.{Answers};
-ghost use Rattle.jx_gather.specs.InRange.{StreamInRange};
-ghost use Rattle.jx_gather.specs.Shapes.{shapes_of};
+ghost use Rattle.jx_stream.specs.InRange.{StreamInRange};
+ghost use Rattle.jx_stream.specs.Shapes.{shapes_of};
 ghost use Rattle.jx_gather.specs.Totals.{block_total, packet_total, tile_packets, totals_fault};
 
-use crate::faults::GatherFault;
+use crate::StreamFault;
 use crate::shapes::{canvas_of, comp_count, shape_in, tile_count};
 use jx_geom::{count_blocks, count_precincts};
 use jx_stream::Stream;
@@ -80,20 +80,20 @@ fn packet_total(stream: &Stream) -> u128
 
 /// Limit 5, over 2^20 code-blocks, then limit 6, over 2^22 packets, in all tiles together.
 #[tactic(auto, unfolding(crate::specs::Totals::totals_fault))]
-pub(crate) fn check_totals(stream: &Stream) -> Result<(), GatherFault>
+pub(crate) fn check_totals(stream: &Stream) -> Result<(), StreamFault>
     requires { StreamInRange stream.now }
     ensures { Answers result (totals_fault stream.now) (λ _. Unit {0}) }
 {
     let blocks = block_total(stream);
     if blocks > 1 << 20 {
-        return Err(GatherFault::Limit {
+        return Err(StreamFault::Limit {
             number: 5,
             found: blocks,
         });
     }
     let packets = packet_total(stream);
     if packets > 1 << 22 {
-        return Err(GatherFault::Limit {
+        return Err(StreamFault::Limit {
             number: 6,
             found: packets,
         });

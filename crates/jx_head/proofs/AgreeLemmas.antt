@@ -478,9 +478,9 @@ written_is_read layers style layer bands leaves rest r f t lt =
     }
 
 -- the next header of a precinct that is written
-pub plan_is_read : (p new : Plan) (layer : ℕ) (headers : List (List ℕ)) (rest : List ℕ) → IsPlan p.layers p.style p.bands p.leaves headers → LeavesFit p.style p.layers p.bands p.leaves → p.next ≡ layer → layer < p.layers →
+pub plan_is_read : (p new : Plan) (layer : ℕ) (bytes places rest : List ℕ) → IsPlan p.layers p.style p.bands p.leaves bytes places → LeavesFit p.style p.layers p.bands p.leaves → p.next ≡ layer → layer < p.layers →
     new ≡ record p { next = p.next + 1 } → IsOneReading (next_header p ++ rest) (state_of p) (parts_at layer p.leaves) (length (next_header p)) (state_of new)
-plan_is_read p new layer headers rest is fit next lt after =
+plan_is_read p new layer bytes places rest is fit next lt after =
     let r = written_is_read p.layers p.style p.next p.bands p.leaves rest is.cells fit is.types (omega arith) in
     subst (λ (q : Plan). IsOneReading (next_header p ++ rest) (state_of p) (parts_at layer p.leaves) (length (next_header p)) (state_of q)) (sym after)
     (subst (λ (n : ℕ). IsOneReading (next_header p ++ rest) (state_of p) (parts_at n p.leaves) (length (next_header p)) (state_at p.layers p.style p.bands p.leaves (p.next + 1))) next r)

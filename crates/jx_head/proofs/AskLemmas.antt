@@ -1,5 +1,5 @@
 -- Queries of tag trees, read without their values.
-use Rattle.std.proofs.Common.{◌≡◌, ℕ, zero, suc, ◌+◌, ◌-◌, ◌<◌, ◌≤◌, min, nat_lt, Bool, true, false, ◌&&◌, List, [], ◌∷◌, ◌++◌, length, refl, sym, ap, ◌∙◌, subst, cond, arith, append_assoc, length-append, Some, None, Ok, Err, Result, ◌⊎◌}
+use Rattle.std.proofs.Common.{◌≡◌, ℕ, zero, suc, ◌+◌, ◌-◌, ◌<◌, ◌≤◌, min, nat_lt, Bool, true, false, ◌&&◌, List, [], ◌∷◌, ◌++◌, length, refl, sym, ap, ◌∙◌, subst, cond, arith, append_assoc, length-append, Some, None, Ok, Err, Result}
 use Rattle.std.specs.Prelude.{Option, option_map, option_and_then}
 use Rattle.std.proofs.lemmas.Bool.Decides.{nat_tests}
 use Rattle.std.proofs.lemmas.List.{append-nil}
@@ -7,12 +7,12 @@ use Rattle.jx_tagtree.specs.declared.BitFault.{BitFault}
 use Rattle.jx_tagtree.specs.declared.node.Node.{Node}
 use Rattle.jx_tagtree.specs.Header.{Reading, to_come, advance, Took}
 use Rattle.jx_tagtree.specs.Shape.{root, parent, way}
-use Rattle.jx_tagtree.specs.TagTree.{Tree, node_at, Agree, ValuesOf, IsTree, query, tree_after, HasRead}
+use Rattle.jx_tagtree.specs.TagTree.{Tree, node_at, Agree, ValuesOf, IsTree, query, tree_after, is_past, HasRead, HasNothing}
 use Rattle.jx_tagtree.specs.Scan.{Scanned, scan_way}
 use Rattle.jx_tagtree.specs.Questions.{all_bits, after_all}
 use Rattle.jx_tagtree.proofs.WayLemmas.{IsWay, way_is}
-use Rattle.jx_tagtree.proofs.TagLemmas.{After, scan_sound, scan_read, IsRead, scan_only, answer_is, scanned_of, WasRead}
-use Rattle.jx_tagtree.proofs.QuestionLemmas.{known_values, after_tree, after_values}
+use Rattle.jx_tagtree.proofs.TagLemmas.{After, scan_sound, scan_read, IsRead, scan_only, read_below, answer_is, scanned_of, WasRead}
+use Rattle.jx_tagtree.proofs.QuestionLemmas.{known_values, after_tree, after_values, past_nothing}
 use Rattle.jx_head.specs.Packet.{asked}
 use Rattle.jx_head.specs.Scan.{Asked, asked_of, ask, Zeros, scan_more_zeros}
 use Rattle.jx_head.specs.Frame.{Frame, frame}
@@ -36,13 +36,12 @@ module _ (tree : Tree) (leaf t : ℕ) (l : IsLeafOf tree leaf) where
   long : root tree.wide tree.high < length tree.nodes
   long = let e : length tree.nodes ≡ root tree.wide tree.high + 1 = l.is.nodes in omega arith
 
-  below_of : (values : ℕ → ℕ) (bits : List Bool) (s : Scanned) → scan_way t tree.nodes (way tree.wide tree.high leaf) bits ≡ Some s → Agree values s.nodes →
+  below_of : (values : ℕ → ℕ) (bits : List Bool) (s : Scanned) → scan_way t tree.nodes (way tree.wide tree.high leaf) bits ≡ Some s → Agree values s.nodes → s.known ≤ values leaf →
       ((node_at s.nodes leaf).settled && nat_lt s.known t) ≡ nat_lt (values leaf) t
-  below_of values bits s h agree =
+  below_of values bits s h agree le =
       let a : After (parent tree.wide tree.high) (root tree.wide tree.high) t tree.nodes leaf s =
       scan_sound (parent tree.wide tree.high) (root tree.wide tree.high) t tree.nodes bits leaf (way tree.wide tree.high leaf) ways long l.is.sound s h in
-      ap (λ (k : ℕ). (node_at s.nodes leaf).settled && nat_lt k t) a.known_is
-      ∙ answer_is t (node_at s.nodes leaf) (values leaf) (agree leaf) (subst (λ (k : ℕ). ((node_at s.nodes leaf).settled ≡ true) ⊎ (t ≤ k)) a.known_is a.ended)
+      answer_is t (node_at s.nodes leaf) s.known (values leaf) (agree leaf) le a.known_is a.ended
 
   pub ask_made : (values : ℕ → ℕ) (rest : List Bool) → ValuesOf tree values →
       ask tree leaf t ((query values tree leaf t).bits ++ rest) ≡ Some (asked_is (nat_lt (values leaf) t) (tree_after values tree leaf t) rest)
@@ -53,7 +52,7 @@ module _ (tree : Tree) (leaf t : ℕ) (l : IsLeafOf tree leaf) where
       scan_only (parent tree.wide tree.high) (root tree.wide tree.high) t tree.nodes leaf (way tree.wide tree.high leaf) ways long values v.are v.agree bits rest refl in
       ap (option_map (asked_of tree leaf t)) i.reads
       ∙ ap (λ (b : Bool). Some (asked_is b (tree_after values tree leaf t) rest))
-      (below_of values bits (scanned_of (query values tree leaf t).nodes (query values tree leaf t).known rest) i.reads i.agree)
+      (below_of values bits (scanned_of (query values tree leaf t).nodes (query values tree leaf t).known rest) i.reads i.agree i.below)
 
   by_scan : (values : ℕ → ℕ) (bits : List Bool) (a : Asked) (o : Option Scanned) → scan_way t tree.nodes (way tree.wide tree.high leaf) bits ≡ o →
       option_map (asked_of tree leaf t) o ≡ Some a → ValuesOf a.tree values → AskRead values tree leaf t bits a
@@ -66,7 +65,8 @@ module _ (tree : Tree) (leaf t : ℕ) (l : IsLeafOf tree leaf) where
       subst (λ (x : Asked). AskRead values tree leaf t bits x) is (record {
         before = record { are = v'.are; agree = w.before };
         bits_are = w.bits_are;
-        below_is = below_of values bits s eq v'.agree;
+        below_is = below_of values bits s eq v'.agree
+            (read_below (parent tree.wide tree.high) (root tree.wide tree.high) t tree.nodes bits leaf (way tree.wide tree.high leaf) ways long l.is.sound s eq values v'.are v'.agree);
         tree_is = ap (λ (ns : List Node). let r : Tree = record { wide = tree.wide; high = tree.high; nodes = ns } in r) w.nodes_are;
       })
 
@@ -93,6 +93,16 @@ module _ (tree : Tree) (leaf t : ℕ) (l : IsLeafOf tree leaf) where
 
   pub after_agrees : (values : ℕ → ℕ) → ValuesOf tree values → ValuesOf (tree_after values tree leaf t) values
   after_agrees values v = after_values tree leaf t l.shape l.is l.inside values v
+
+-- past what is known of the root nothing is asked
+pub ask_past : (tree : Tree) (leaf t : ℕ) (bits : List Bool) → IsLeafOf tree leaf → is_past tree t ≡ true → ask tree leaf t bits ≡ Some (asked_is false tree bits)
+ask_past tree leaf t bits l past =
+    let some = known_values tree l.is in
+    let n : HasNothing tree some.0 leaf t = past_nothing tree some.0 leaf t l.shape l.is l.inside some.1 past in
+    ap (λ (b : List Bool). ask tree leaf t (b ++ bits)) (sym n.bits)
+    ∙ ask_made tree leaf t l some.0 bits some.1
+    ∙ ap (λ (b : Bool). Some (asked_is b (tree_after some.0 tree leaf t) bits)) n.answer
+    ∙ ap (λ (x : Tree). Some (asked_is false x bits)) n.after
 
 -- what `reach` says is what is asked
 pub reach_ok : (tree new : Tree) (leaf t : ℕ) (from to : Reading) (below : Bool) → IsLeafOf tree leaf → IsTree new →

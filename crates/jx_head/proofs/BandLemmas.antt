@@ -19,10 +19,10 @@ use Rattle.jx_head.specs.Writable.{SameSize}
 use Rattle.jx_head.specs.declared.known.Known.{Known}
 use Rattle.jx_head.specs.Words.{pass_word, raise_word}
 use Rattle.jx_head.specs.Parts.{one_more, cut, width, AreParts, length_bits}
-use Rattle.jx_head.specs.Packet.{Cells, Values, Agree, Entry, nothing, contributes, block_at, block_after, unknown_block, told_bits, included_bits, most_passes, IsIncluded, asked, zero_questions, zero_bits, zero_after, zero_planes, first_bits, first_after, IsInclusion, entry_bits, cells_first, cells_included, entry_after, IsEntry, ReachesPlanes, PassesPlanes, Breaks, blocks_bits, blocks_after, AreEntries, parts_told, BandTold, IsBandTold, band_bits, band_after, bands_bits, bands_after, AreBandsTold, bands_parts, BandBreaks, BandStands, BandsBreak}
-use Rattle.jx_head.specs.Kept.{AreTrees, IsLeafOf, IsKnown, IsBand}
+use Rattle.jx_head.specs.Packet.{Cells, Values, Agree, Entry, nothing, contributes, block_at, block_after, unknown_block, told_bits, included_bits, most_passes, IsIncluded, asked, zero_questions, zero_bits, zero_after, zero_planes, first_bits, first_after, IsInclusion, entry_bits, cells_first, cells_included, entry_after, IsEntry, ReachesPlanes, PassesPlanes, Breaks, blocks_bits, blocks_after, AreEntries, parts_told, BandTold, IsBandTold, band_bits, band_after, bands_bits, bands_after, AreBandsTold, AgreeAfter, bands_parts, BandBreaks, BandStands, BandsBreak}
+use Rattle.jx_head.specs.Kept.{AreTrees, IsLeafOf, IsKnown, IsBand, IsSilent}
 use Rattle.jx_head.specs.Scan.{Found, or_bits, and_then, Asked, scan_first, Zeros, scan_zeros, scan_entry, Told, told_of, and_told, scan_included, scan_block, AllTold, after_told, and_parts, scan_blocks, scan_band, BandsRead, after_band, and_band, scan_bands}
-use Rattle.jx_head.proofs.AskLemmas.{after_leaf, after_agrees}
+use Rattle.jx_head.proofs.AskLemmas.{asked_is, ask_past, after_leaf, after_agrees}
 use Rattle.jx_head.proofs.BlockLemmas.{IsBlockOf, told_is, on_zeros, on_first, first_leaf, first_agrees, zero_leaf, zero_read, below_counted, reaches_counted, counted, entry_breaks, TooMany, block_made, block_over, BlockRead, block_read, FirstRead, first_read, le-is, lt-is}
 
 -- ---- trees stay trees
@@ -730,3 +730,47 @@ blocks_said whole begun now style layer base (suc left) leaf cells bits none h =
 
 pub block_is : (blocks : List Known) (leaf : ℕ) (k : Known) → leaf < length blocks → k ≡ get_or blocks leaf k → get_or blocks leaf unknown_block ≡ k
 block_is blocks leaf k lt e = get_or_default blocks leaf unknown_block k lt ∙ sym e
+
+-- ---- blocks of which no header has a bit
+abbrev asked_block : ℕ → ℕ → ℕ → Cells → Asked → Result Told HeadFault
+asked_block style block leaf cells a =
+    cond a.below (scan_included style block leaf (record cells { first = a.tree }) a.rest) (Ok (told_is nothing (record cells { first = a.tree }) a.rest))
+
+silent_block : (style layer block leaf : ℕ) (cells : Cells) (bits : List Bool) → IsBand cells → leaf < length cells.blocks → IsSilent layer cells →
+    scan_block style layer block leaf cells bits ≡ Ok (told_is nothing cells bits)
+silent_block style layer block leaf cells bits b lt s =
+    let l : IsLeafOf cells.first leaf = (block_of cells leaf b.trees lt).in_first in
+    let first : scan_first (block_at cells leaf).zero cells.first leaf layer bits ≡ Some (asked_is false cells.first bits) =
+    ap (λ (z : Option ℕ). scan_first z cells.first leaf layer bits) (s.none leaf) ∙ ask_past cells.first leaf (layer + 1) bits l s.past in
+    ap (λ (o : Option Asked). and_then (or_bits o) (asked_block style block leaf cells)) first
+
+pub silent_blocks : (style layer base more leaf : ℕ) (cells : Cells) (bits : List Bool) → IsBand cells → leaf + more ≤ length cells.blocks → IsSilent layer cells →
+    scan_blocks style layer base more leaf cells bits ≡ Ok (all_is [] cells bits)
+silent_blocks style layer base zero leaf cells bits b le s = refl
+silent_blocks style layer base (suc more) leaf cells bits b le s =
+    ap (λ (r : Result Told HeadFault). and_then r (on_block style layer base more leaf)) (silent_block style layer (base + leaf) leaf cells bits b (omega arith) s)
+    ∙ ap (and_parts []) (silent_blocks style layer base more (leaf + 1) cells bits b (omega arith) s)
+
+-- the rest of a band is silent
+pub blocks_silent : (whole : Result AllTold HeadFault) (begun now : List Part) (style layer base left leaf : ℕ) (cells : Cells) (bits : List Bool) → IsBand cells → leaf + left ≤ length cells.blocks →
+    IsSilent layer cells → and_parts begun whole ≡ and_parts now (scan_blocks style layer base left leaf cells bits) → BandSaid whole begun now cells bits
+blocks_silent whole begun now style layer base left leaf cells bits b le s h =
+    blocks_said whole begun now style layer base 0 leaf cells bits refl (h ∙ ap (and_parts now) (silent_blocks style layer base left leaf cells bits b le s))
+
+-- ---- the values that are told agree with what is known afterwards
+blocks_agree : (v : Values) (style layer base stop leaf : ℕ) (cells : Cells) (es : List Entry) → AreTrees cells → Agree cells v → stop ≡ length cells.blocks →
+    AreEntries v style layer base stop leaf cells es → Agree (blocks_after v layer leaf cells es) v
+blocks_agree v style layer base stop leaf cells [] t a all are = a
+blocks_agree v style layer base stop leaf cells (e ∷ es) t a all are =
+    let lt : leaf < length cells.blocks = subst (λ (n : ℕ). leaf < n) all are.0 in
+    let k = entry_kept v style layer (base + leaf) leaf cells e t lt a are.1 in
+    blocks_agree v style layer base stop (leaf + 1) (entry_after v layer leaf cells e) es k.trees (entry_agrees v layer leaf cells e (block_of cells leaf t lt) a) (all ∙ sym k.long) are.2
+
+pub bands_agree : (style layer base : ℕ) (bands : List Cells) (tolds : List BandTold) → AreAllTrees bands → AreBandsTold style layer base bands tolds → AgreeAfter layer bands tolds
+bands_agree style layer base [] [] t are = tt
+bands_agree style layer base [] (told ∷ tolds) t are = absurd are
+bands_agree style layer base (cells ∷ bands) [] t are = absurd are
+bands_agree style layer base (cells ∷ bands) (told ∷ tolds) t are = (
+  blocks_agree told.values style layer base (length cells.blocks) 0 cells told.entries t.0 are.0.agree refl are.0.are,
+  bands_agree style layer (base + length cells.blocks) bands tolds t.1 are.1,
+)

@@ -10,3 +10,4 @@ pub mod WriteLemmas
 pub mod PlanLemmas
 pub mod LayerLemmas
 pub mod AgreeLemmas
+pub mod CursorLemmas

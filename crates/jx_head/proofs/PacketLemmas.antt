@@ -11,12 +11,14 @@ use Rattle.jx_tagtree.proofs.HeaderLemmas.{length-low_bits, room-le}
 use Rattle.jx_head.specs.declared.Part.{Part}
 use Rattle.jx_head.specs.declared.HeadFault.{HeadFault}
 use Rattle.jx_head.specs.declared.HeadFault.TheVariants.{Bits, Planes, NoMemory}
-use Rattle.jx_head.specs.Packet.{Cells, State, AreBandsTold, bands_bits, bands_after, bands_parts, Header, header_bits, header_after, header_parts, IsToldOf, IsPacket, BreaksPlanes, OneHeader}
+use Rattle.jx_head.specs.Packet.{Cells, State, AreBandsTold, bands_bits, bands_after, bands_parts, Header, header_bits, header_after, header_parts, IsToldOf, AgreeAfter, IsPacket, BreaksPlanes, OneHeader}
+use Rattle.jx_head.specs.Precinct.{IsState}
+use Rattle.jx_head.specs.ReadBack.{IsOneReading}
 use Rattle.jx_head.specs.Kept.{AreBands}
 use Rattle.jx_head.specs.Frame.{Frame, frame}
 use Rattle.jx_head.specs.Scan.{and_then, BandsRead, scan_bands, HeaderRead, header_of, scan_header}
 use Rattle.jx_head.specs.Said.{HasCause, Refuses, OnlyMemory, OnlyPlanes, HeaderSaid}
-use Rattle.jx_head.proofs.BandLemmas.{AreAllTrees, bands_is, bands_made, bands_over, bands_read, bands_breaks}
+use Rattle.jx_head.proofs.BandLemmas.{AreAllTrees, bands_is, bands_made, bands_over, bands_read, bands_breaks, bands_agree}
 
 -- ---- a reader of a header's bytes
 -- bytes have at most eight times as many bits
@@ -233,3 +235,20 @@ one_header bytes k parts others used ends after others_after b p q =
 -- where a block breaks its planes, no header stands
 pub planes_or_packet : (bytes : List ℕ) (k : State) (parts : List Part) (used : ℕ) (after : State) → AreBands k.bands → BreaksPlanes bytes k → IsPacket bytes k parts used after → ⊥
 planes_or_packet bytes k parts used after b x p = packet_none bytes k Planes parts after used b (header_over bytes k b x) p
+
+-- what is written has one reading
+pub written_one : (k : State) (h : Header) (rest : List ℕ) → IsState k → IsToldOf k h →
+    IsOneReading (bytes_of (header_bits k h) ++ rest) k (header_parts h) (length (bytes_of (header_bits k h))) (header_after k h)
+written_one k h rest is told =
+    let stands = stands_there k h rest told in
+    record {
+      stands = stands;
+      only = λ others ends others_after p.
+          one_header (bytes_of (header_bits k h) ++ rest) k others (header_parts h) ends (length (bytes_of (header_bits k h))) others_after (header_after k h) is.bands p stands;
+    }
+
+-- the values agree with the state after
+pub header_agrees_after : (k : State) (h : Header) → IsState k → IsToldOf k h → h.some ≡ true → AgreeAfter k.layer k.bands h.tolds
+header_agrees_after k h is told some =
+    bands_agree k.style k.layer 0 k.bands h.tolds (all_trees k.bands is.bands)
+    (subst (λ (b : Bool). MatchBool b (AreBandsTold k.style k.layer 0 k.bands h.tolds) (h.tolds ≡ [])) some told)

@@ -1,6 +1,8 @@
 -- The bands of a precinct that is written.
-use Rattle.std.proofs.Common.{◌≡◌, ℕ, zero, suc, ◌+◌, ◌-◌, ◌*◌, ◌^◌, ◌<◌, ◌≤◌, ◌==◌, nat_le, min, Bool, true, false, List, [], ◌∷◌, ◌++◌, length, take, drop, map, get_or, set, refl, sym, ap, ◌∙◌, subst, cond, arith, append_assoc, length-set, length-append, length-drop, length-take, Vec, Global, inl, inr}
-use Rattle.std.proofs.lemmas.List.{append-nil, take_all, drop_all, take-map, drop-map, length-replicate, get_or_default}
+use Rattle.std.proofs.Common.{◌≡◌, ℕ, zero, suc, ◌+◌, ◌-◌, ◌*◌, ◌^◌, ◌<◌, ◌≤◌, ◌==◌, nat_le, min, Bool, true, false, List, [], ◌∷◌, ◌++◌, length, take, drop, map, replicate, get_or, set, refl, sym, ap, ◌∙◌, subst, cond, arith, append_assoc, length-set, length-append, length-drop, length-take, inl, inr}
+use Rattle.std.proofs.lemmas.List.{append-nil, take_all, drop_all, take-map, drop-map, length-replicate, get_or_default, get_or-replicate, get_or_past, drop-append-le, take-append-le}
+use Rattle.std.proofs.Math.Seq.{drop-append_seam, get_or-append_seam}
+use Rattle.std.proofs.Math.ListN.{get_or-append}
 use Rattle.std.proofs.lemmas.Bool.Decides.{nat_tests}
 use Rattle.std.proofs.lemmas.Bool.{cases_lt}
 use Rattle.jx_tagtree.specs.Header.{bytes_of}
@@ -13,10 +15,11 @@ use Rattle.jx_head.specs.Leafs.{leaf_of}
 use Rattle.jx_head.specs.Packet.{Cells, BandTold, band_bits, bands_bits, bands_after, blocks_bits, blocks_after, most_passes, unknown_block}
 use Rattle.jx_head.specs.Written.{Leafed, Writes, entries_written, cells_of, values_of, first_leaves, zero_leaf, zero_leaves, parts_in, passes_of, some_in, bands_written, state_at}
 use Rattle.jx_head.specs.Precinct.{cells_in, CellsInRange, IsBandCells, AreBandCells, fresh_cells, fresh_bands}
-use Rattle.jx_head.specs.LeavesFit.{LeavesFit, LeavesInRange, FitsLeaf, FitBand, FitBands, fresh_writes, header_at, AreHeaders}
+use Rattle.jx_head.specs.LeavesFit.{LeavesFit, LeavesInRange, FitsLeaf, FitBand, FitBands, fresh_writes, header_at, IsCutOut, AreHeaders}
+use Rattle.jx_head.proofs.CursorLemmas.{cursor_more}
 use Rattle.jx_head.proofs.FreshLemmas.{some_cells, unknown_at}
 use Rattle.jx_head.proofs.WriteLemmas.{due_split}
-use Rattle.jx_head.specs.Writable.{IsDue, IsWrites, BandsDone, AreDue, tolds_of, head_of, heads_of, AreFirst, AllFew, HeaderDone, AreMade, leaf_at, all_passes, passes_from}
+use Rattle.jx_head.specs.Writable.{IsDue, IsWrites, BandsDone, AreDue, tolds_of, head_of, heads_of, AreFirst, AllFew, AllBytes, HeaderDone, AreMade, leaf_at, all_passes, passes_from}
 
 -- ---- a list at a place
 pub record Place (A : Type 0) (xs : List A) (at : ℕ) (y x : A) : Type 0 where
@@ -167,36 +170,44 @@ few_at layer i [] x f lt e = absurd (omega arith)
 few_at layer zero (l ∷ ls) x f lt e =
     subst (λ (y : Leaf). passes_of (parts_in layer y.parts.items) < 2 ^ 16) (sym e)
     (let le : passes_of (parts_in layer l.parts.items) ≤ all_passes l.parts.items = in_le layer l.parts.items in let s : all_passes l.parts.items < 2 ^ 16 = f.0 in omega arith)
-few_at layer (suc i) (l ∷ ls) x f lt e = few_at layer i ls x f.2 (omega arith) e
+few_at layer (suc i) (l ∷ ls) x f lt e = few_at layer i ls x f.1 (omega arith) e
 
 few_split : (n : ℕ) (leaves : List Leafed) → AllFew (take n leaves) → AllFew (drop n leaves) → AllFew leaves
 few_split zero leaves a b = b
 few_split (suc n) [] a b = tt
-few_split (suc n) (l ∷ ls) a b = (a.0, a.1, few_split n ls a.2 b)
+few_split (suc n) (l ∷ ls) a b = (a.0, few_split n ls a.1 b)
 
 pub few_take : (n : ℕ) (leaves : List Leafed) → AllFew leaves → AllFew (take n leaves)
 few_take zero leaves f = tt
 few_take (suc n) [] f = tt
-few_take (suc n) (l ∷ ls) f = (f.0, f.1, few_take n ls f.2)
+few_take (suc n) (l ∷ ls) f = (f.0, few_take n ls f.1)
 
 pub few_drop : (n : ℕ) (leaves : List Leafed) → AllFew leaves → AllFew (drop n leaves)
 few_drop zero leaves f = f
 few_drop (suc n) [] f = tt
-few_drop (suc n) (l ∷ ls) f = few_drop n ls f.2
+few_drop (suc n) (l ∷ ls) f = few_drop n ls f.1
+
+bytes_take : (n : ℕ) (leaves : List Leafed) → AllBytes leaves → AllBytes (take n leaves)
+bytes_take zero leaves f = tt
+bytes_take (suc n) [] f = tt
+bytes_take (suc n) (l ∷ ls) f = (f.0, bytes_take n ls f.1)
+
+bytes_drop : (n : ℕ) (leaves : List Leafed) → AllBytes leaves → AllBytes (drop n leaves)
+bytes_drop zero leaves f = f
+bytes_drop (suc n) [] f = tt
+bytes_drop (suc n) (l ∷ ls) f = bytes_drop n ls f.1
 
 fit_leaf : (style layers planes block z : ℕ) (parts : List (ℕ × Part)) → planes ≤ 255 → FitsLeaf style layers planes block (record { zero = z; parts = parts }) parts →
-    (all_passes parts < 2 ^ 16) × (zero_leaf 0 z parts < 2 ^ 8)
-fit_leaf style layers planes block z [] le f = (omega arith, omega arith)
+    all_passes parts < 2 ^ 16
+fit_leaf style layers planes block z [] le f = omega arith
 fit_leaf style layers planes block z (p ∷ ps) le f =
     let a : all_passes (p ∷ ps) ≤ most_passes planes z = f.few in
-    let b : z < planes = f.zero_planes in
-    (omega arith, omega arith)
+    omega arith
 
 fit_band : (style layers planes block : ℕ) (leaves : List Leafed) → planes ≤ 255 → FitBand style layers planes block leaves → AllFew leaves
 fit_band style layers planes block [] le f = tt
 fit_band style layers planes block (l ∷ ls) le f =
-    let s = fit_leaf style layers planes block l.zero l.parts le f.0 in
-    (s.0, s.1, fit_band style layers planes (block + 1) ls le f.1)
+    (fit_leaf style layers planes block l.zero l.parts le f.0, fit_band style layers planes (block + 1) ls le f.1)
 
 pub fit_few : (style layers base : ℕ) (bands : List BandCells) (leaves : List Leafed) → AreBandCells bands → length leaves ≡ cells_in bands → FitBands style layers base bands leaves → AllFew leaves
 fit_few style layers base [] [] a e f = tt
@@ -207,32 +218,46 @@ fit_few style layers base (b ∷ bs) leaves a e f =
     few_split n leaves (fit_band style layers b.planes base (take n leaves) a.0.planes f.0) (fit_few style layers (base + n) bs (drop n leaves) a.1 (omega arith) f.1)
 
 -- ---- bands that are made
-zeros_fit : (planes i : ℕ) (leaves : List Leafed) → planes ≤ 255 → AllFew leaves → get_or (zero_leaves planes leaves) i 0 < 2 ^ 32
+zeros_fit : (planes i : ℕ) (leaves : List Leafed) → planes ≤ 255 → AllBytes leaves → get_or (zero_leaves planes leaves) i 0 < 2 ^ 32
 zeros_fit planes i [] le f = omega arith
-zeros_fit planes zero (l ∷ ls) le f = by l.parts f.1
+zeros_fit planes zero (l ∷ ls) le f = by l.parts f.0
   where
-    by : (parts : List (ℕ × Part)) → zero_leaf 0 l.zero parts < 2 ^ 8 → zero_leaf planes l.zero parts < 2 ^ 32
+    by : (parts : List (ℕ × Part)) → l.zero < 2 ^ 8 → zero_leaf planes l.zero parts < 2 ^ 32
     by [] lt = omega arith
     by (p ∷ ps) lt = omega arith
-zeros_fit planes (suc i) (l ∷ ls) le f = zeros_fit planes i ls le f.2
+zeros_fit planes (suc i) (l ∷ ls) le f = zeros_fit planes i ls le f.1
 
 few_leaf : (i : ℕ) (leaves : List Leafed) → AllFew leaves → all_passes (leaf_at leaves i).parts < 2 ^ 16
 few_leaf i [] f = omega arith
 few_leaf zero (l ∷ ls) f = f.0
-few_leaf (suc i) (l ∷ ls) f = few_leaf i ls f.2
+few_leaf (suc i) (l ∷ ls) f = few_leaf i ls f.1
 
-fresh_due : (layers : ℕ) (b : BandCells) (leaves : List Leafed) → IsBandCells b → 0 < b.wide → b.wide * b.high ≤ 2 ^ 20 → length leaves ≡ b.wide * b.high → AllFew leaves → IsWrites 0 leaves (fresh_writes layers b leaves)
-fresh_due layers b leaves is lt few all f = record {
+zero_at : (n i : ℕ) → ◌≡◌ {A = ℕ} (get_or (replicate n 0) i 0) 0
+zero_at n i = elim (cases_lt i n) [
+  | inl lt ↦ get_or-replicate n i 0 0 lt
+  | inr ge ↦ past ge
+]
+  where
+    zeros : List ℕ
+    zeros = replicate n 0
+
+    past : n ≤ i → get_or zeros i 0 ≡ 0
+    past ge = let e : length zeros ≡ n = length-replicate n 0 in get_or_past zeros i 0 (omega arith)
+
+fresh_due : (layers : ℕ) (b : BandCells) (leaves : List Leafed) → IsBandCells b → 0 < b.wide → b.wide * b.high ≤ 2 ^ 20 → length leaves ≡ b.wide * b.high → AllFew leaves → AllBytes leaves → IsWrites 0 leaves (fresh_writes layers b leaves)
+fresh_due layers b leaves is lt few all f bytes = record {
   are = record {
     shape = record { some = some_cells b is lt; few = few };
     wide = refl;
     high = refl;
     long = length-replicate (b.wide * b.high) unknown_block;
     all = all ∙ sym (length-replicate (b.wide * b.high) unknown_block);
+    cursors = length-replicate (b.wide * b.high) 0 ∙ sym (length-replicate (b.wide * b.high) unknown_block);
     zeros_are = refl;
-    fit = λ i. zeros_fit b.planes i leaves is.planes f;
+    fit = λ i. zeros_fit b.planes i leaves is.planes bytes;
   };
-  due = λ i. subst (λ (k : Known). IsDue 0 k (leaf_at leaves i)) (sym (unknown_at (b.wide * b.high) i)) (record { few = (let s : all_passes (leaf_at leaves i).parts < 2 ^ 16 = few_leaf i leaves f in let e : passes_from 0 (leaf_at leaves i).parts ≡ all_passes (leaf_at leaves i).parts = from_first (leaf_at leaves i).parts in omega arith); lblock = omega arith });
+  due = λ i. subst (λ (k : Known). IsDue 0 k (get_or (replicate (b.wide * b.high) 0) i 0) (leaf_at leaves i)) (sym (unknown_at (b.wide * b.high) i))
+      (subst (λ (c : ℕ). IsDue 0 unknown_block c (leaf_at leaves i)) (sym (zero_at (b.wide * b.high) i)) (record { cursor_is = tt; few = (let s : all_passes (leaf_at leaves i).parts < 2 ^ 16 = few_leaf i leaves f in let e : passes_from 0 (leaf_at leaves i).parts ≡ all_passes (leaf_at leaves i).parts = from_first (leaf_at leaves i).parts in omega arith); lblock = omega arith }));
 }
 
 pub record Making (layers at base : ℕ) (bands : List BandCells) (leaves : List Leafed) (made : List Writes) : Type 0 where
@@ -281,10 +306,10 @@ making_skip layers at base bands leaves made d m lt none =
     }
 
 pub making_next : (layers at base : ℕ) (bands : List BandCells) (leaves : List Leafed) (made : List Writes) (y : Writes) (d : BandCells) → Making layers at base bands leaves made → at < length bands → IsBandCells (get_or bands at d) →
-    0 < (get_or bands at d).wide → (get_or bands at d).wide * (get_or bands at d).high ≤ 2 ^ 20 → AllFew leaves →
+    0 < (get_or bands at d).wide → (get_or bands at d).wide * (get_or bands at d).high ≤ 2 ^ 20 → AllFew leaves → AllBytes leaves →
     y ≡ fresh_writes layers (get_or bands at d) (take ((get_or bands at d).wide * (get_or bands at d).high) (drop base leaves)) →
     Making layers (at + 1) (base + (get_or bands at d).wide * (get_or bands at d).high) bands leaves (made ++ y ∷ [])
-making_next layers at base bands leaves made y d m lt ok some few f y_is =
+making_next layers at base bands leaves made y d m lt ok some few f bytes y_is =
     let b = get_or bands at d in
     let n = b.wide * b.high in
     let mine = take n (drop base leaves) in
@@ -298,7 +323,7 @@ making_next layers at base bands leaves made y d m lt ok some few f y_is =
     let dl : length (drop base leaves) ≡ length leaves - base = length-drop base leaves in
     let tl : length mine ≡ min n (length (drop base leaves)) = length-take n (drop base leaves) in
     let all : length mine ≡ n = omega arith in
-    let due : IsWrites 0 mine z = fresh_due layers b mine ok some few all (few_take n (drop base leaves) (few_drop base leaves f)) in
+    let due : IsWrites 0 mine z = fresh_due layers b mine ok some few all (few_take n (drop base leaves) (few_drop base leaves f)) (bytes_take n (drop base leaves) (bytes_drop base leaves bytes)) in
     let part : take (length z.blocks) (drop (blocks_of made) leaves) ≡ mine = ap (λ (k : ℕ). take k (drop (blocks_of made) leaves)) blocks ∙ ap (λ (k : ℕ). take n (drop k leaves)) (sym is) in
     let m' : Making layers (at + 1) (base + n) bands leaves (made ++ z ∷ []) = record {
       cells = ap (λ (q : List Cells). q ++ fresh_bands (drop (at + 1) bands)) (map_snoc made z) ∙ append_assoc (map cells_of made) (cells_of z ∷ []) (fresh_bands (drop (at + 1) bands))
@@ -318,16 +343,16 @@ making_end layers at base bands leaves made ge m = record {
 }
 
 -- ---- a layer in which no block contributes
-due_less : (layer : ℕ) (known : Known) (leaf : Leafed) → IsDue layer known leaf → IsDue (layer + 1) known leaf
-due_less layer known leaf d =
+due_less : (layer : ℕ) (known : Known) (c : ℕ) (leaf : Leafed) → IsDue layer known c leaf → IsDue (layer + 1) known c leaf
+due_less layer known c leaf d =
     let s : passes_from layer leaf.parts ≡ passes_of (parts_in layer leaf.parts) + passes_from (layer + 1) leaf.parts = due_split layer leaf.parts in
     let f : known.passes + passes_from layer leaf.parts < 2 ^ 16 = d.few in
-    record { few = omega arith; lblock = d.lblock }
+    record { cursor_is = cursor_more layer c leaf.parts d.cursor_is; few = omega arith; lblock = d.lblock }
 
 pub due_empty : (layer : ℕ) (ws : List Writes) (leaves : List Leafed) → AreDue layer ws leaves → AreDue (layer + 1) ws leaves
 due_empty layer [] leaves d = tt
 due_empty layer (w ∷ ws) leaves d =
-    (record { are = d.0.are; due = λ i. due_less layer (get_or w.blocks i unknown_block) (leaf_at (take (length w.blocks) leaves) i) (d.0.due i) }, due_empty layer ws (drop (length w.blocks) leaves) d.1)
+    (record { are = d.0.are; due = λ i. due_less layer (get_or w.blocks i unknown_block) (get_or w.cursors i 0) (leaf_at (take (length w.blocks) leaves) i) (d.0.due i) }, due_empty layer ws (drop (length w.blocks) leaves) d.1)
 
 pub header_empty : (layer : ℕ) (leaves : List Leafed) (ws : List Writes) (bits : List Bool) (bytes : List ℕ) → AreDue layer ws leaves → some_in layer leaves ≡ false → bits ≡ false ∷ [] → bytes ≡ bytes_of bits → HeaderDone layer leaves ws ws bytes
 header_empty layer leaves ws bits bytes d none is e = record {
@@ -366,42 +391,64 @@ pub state_is : (layers style : ℕ) (bands : List BandCells) (leaves : List Leaf
 state_is layers style bands leaves zero = (refl, refl)
 state_is layers style bands leaves (suc layer) = let i = state_is layers style bands leaves layer in (i.0, (let e : (state_at layers style bands leaves layer).layer ≡ layer = i.1 in omega arith))
 
-pub record LayersLoop (layers style layer : ℕ) (bands : List BandCells) (leaves : List Leafed) (ws : List Writes) (headers : List (List ℕ)) : Type 0 where
+pub record LayersLoop (layers style layer : ℕ) (bands : List BandCells) (leaves : List Leafed) (ws : List Writes) (bytes places : List ℕ) : Type 0 where
   pub cells : map cells_of ws ≡ (state_at layers style bands leaves layer).bands
   pub due : AreDue layer ws leaves
   pub first : AreFirst layers (heads_of ws) leaves
-  pub headers_are : AreHeaders layers style bands leaves layer headers
+  pub headers_are : AreHeaders layers style bands leaves layer bytes places
 
-pub layers_start : (layers style : ℕ) (bands : List BandCells) (leaves : List Leafed) (ws : List Writes) → AreMade layers bands leaves ws → LayersLoop layers style 0 bands leaves ws []
-layers_start layers style bands leaves ws m = record { cells = m.cells; due = m.due; first = m.first; headers_are = record { long = refl; each = λ k lt. absurd (omega arith) } }
+pub layers_start : (layers style : ℕ) (bands : List BandCells) (leaves : List Leafed) (ws : List Writes) → AreMade layers bands leaves ws → LayersLoop layers style 0 bands leaves ws [] (0 ∷ [])
+layers_start layers style bands leaves ws m = record { cells = m.cells; due = m.due; first = m.first; headers_are = record { long = refl; last = refl; each = λ k lt. absurd (omega arith) } }
 
-at_left : (hs : List (List ℕ)) (b : List ℕ) (k : ℕ) → k < length hs → get_or (hs ++ b ∷ []) k [] ≡ get_or hs k []
-at_left [] b k lt = absurd (omega arith)
-at_left (h ∷ hs) b zero lt = refl
-at_left (h ∷ hs) b (suc k) lt = at_left hs b k (omega arith)
-
-at_push : (hs : List (List ℕ)) (b : List ℕ) → get_or (hs ++ b ∷ []) (length hs) [] ≡ b
-at_push [] b = refl
-at_push (h ∷ hs) b = at_push hs b
-
-headers_push : (layers style layer : ℕ) (bands : List BandCells) (leaves : List Leafed) (headers : List (List ℕ)) (bytes : List ℕ) → AreHeaders layers style bands leaves layer headers → bytes ≡ header_at layers style bands leaves layer →
-    AreHeaders layers style bands leaves (layer + 1) (headers ++ bytes ∷ [])
-headers_push layers style layer bands leaves headers bytes a e =
-    let long : length headers ≡ layer = a.long in
+more_behind : (bytes more : List ℕ) (start stop : ℕ) (header : List ℕ) → IsCutOut bytes start stop header → IsCutOut (bytes ++ more) start stop header
+more_behind bytes more start stop header c =
+    let ordered : start ≤ stop = c.ordered in
+    let within : stop ≤ length bytes = c.within in
+    let long : length (bytes ++ more) ≡ length bytes + length more = length-append bytes more in
+    let left : length (drop start bytes) ≡ length bytes - start = length-drop start bytes in
     record {
-      long = length-append headers (bytes ∷ []) ∙ (let s : length headers + 1 ≡ layer + 1 = omega arith in s);
+      ordered = ordered;
+      within = omega arith;
+      is = ap (take (stop - start)) (drop-append-le start bytes more (omega arith)) ∙ take-append-le (stop - start) (drop start bytes) more (omega arith) ∙ c.is;
+    }
+
+last_behind : (bytes header : List ℕ) → IsCutOut (bytes ++ header) (length bytes) (length (bytes ++ header)) header
+last_behind bytes header =
+    let long : length (bytes ++ header) ≡ length bytes + length header = length-append bytes header in
+    let size : length (bytes ++ header) - length bytes ≡ length header = omega arith in
+    record {
+      ordered = omega arith;
+      within = omega arith;
+      is = ap (take (length (bytes ++ header) - length bytes)) (drop-append_seam bytes header) ∙ ap (λ (k : ℕ). take k header) size ∙ take_all (length header) header (omega arith);
+    }
+
+headers_push : (layers style layer : ℕ) (bands : List BandCells) (leaves : List Leafed) (bytes places header : List ℕ) → AreHeaders layers style bands leaves layer bytes places → header ≡ header_at layers style bands leaves layer →
+    AreHeaders layers style bands leaves (layer + 1) (bytes ++ header) (places ++ length (bytes ++ header) ∷ [])
+headers_push layers style layer bands leaves bytes places header a e =
+    let end = length (bytes ++ header) in
+    let long : length places ≡ layer + 1 = a.long in
+    let kept : (k : ℕ) → k < layer + 1 → get_or (places ++ end ∷ []) k 0 ≡ get_or places k 0 = λ (k : ℕ) (lt : k < layer + 1). get_or-append places (end ∷ []) 0 k (omega arith) in
+    let new : get_or (places ++ end ∷ []) (layer + 1) 0 ≡ end = ap (λ (k : ℕ). get_or (places ++ end ∷ []) k 0) (sym long) ∙ get_or-append_seam places end [] 0 in
+    record {
+      long = length-append places (end ∷ []) ∙ (let s : length places + 1 ≡ layer + 1 + 1 = omega arith in s);
+      last = new;
       each = λ k lt. elim (cases_lt k layer) [
-        | inl below ↦ at_left headers bytes k (omega arith) ∙ a.each k below
+        | inl below ↦
+            subst (λ (i : ℕ). IsCutOut (bytes ++ header) i (get_or (places ++ end ∷ []) (k + 1) 0) (header_at layers style bands leaves k)) (sym (kept k (omega arith)))
+            (subst (λ (j : ℕ). IsCutOut (bytes ++ header) (get_or places k 0) j (header_at layers style bands leaves k)) (sym (kept (k + 1) (omega arith)))
+            (more_behind bytes header (get_or places k 0) (get_or places (k + 1) 0) (header_at layers style bands leaves k) (a.each k below)))
         | inr ge ↦
-            (let k_is : k ≡ length headers = omega arith in
-            let k_is' : layer ≡ k = omega arith in
-            ap (λ (n : ℕ). get_or (headers ++ bytes ∷ []) n []) k_is ∙ at_push headers bytes ∙ e ∙ ap (header_at layers style bands leaves) k_is')
+            (let k_is : layer ≡ k = omega arith in
+            subst (λ (i : ℕ). IsCutOut (bytes ++ header) (get_or (places ++ end ∷ []) i 0) (get_or (places ++ end ∷ []) (i + 1) 0) (header_at layers style bands leaves i)) k_is
+            (subst (λ (i : ℕ). IsCutOut (bytes ++ header) i (get_or (places ++ end ∷ []) (layer + 1) 0) (header_at layers style bands leaves layer)) (sym (kept layer (omega arith) ∙ a.last))
+            (subst (λ (j : ℕ). IsCutOut (bytes ++ header) (length bytes) j (header_at layers style bands leaves layer)) (sym new)
+            (subst (λ (h : List ℕ). IsCutOut (bytes ++ header) (length bytes) end h) e (last_behind bytes header)))))
       ];
     }
 
-pub layers_next : (layers style layer : ℕ) (bands : List BandCells) (leaves : List Leafed) (ws new : List Writes) (headers after : List (List ℕ)) (bytes : List ℕ) → LayersLoop layers style layer bands leaves ws headers →
-    HeaderDone layer leaves ws new bytes → after ≡ headers ++ bytes ∷ [] → LayersLoop layers style (layer + 1) bands leaves new after
-layers_next layers style layer bands leaves ws new headers after bytes l d e =
+pub layers_next : (layers style layer : ℕ) (bands : List BandCells) (leaves : List Leafed) (ws new : List Writes) (headers places after ends bytes : List ℕ) → LayersLoop layers style layer bands leaves ws headers places →
+    HeaderDone layer leaves ws new bytes → after ≡ headers ++ bytes → ends ≡ places ++ length after ∷ [] → LayersLoop layers style (layer + 1) bands leaves new after ends
+layers_next layers style layer bands leaves ws new headers places after ends bytes l d e f =
     let k = state_at layers style bands leaves layer in
     let s = state_is layers style bands leaves layer in
     let told = tolds_written layers layer ws leaves l.due l.first in
@@ -426,20 +473,14 @@ layers_next layers style layer bands leaves ws new headers after bytes l d e =
       cells = cells ∙ ap (λ (n : ℕ). (state_at layers style bands leaves n).bands) n_is;
       due = d.due;
       first = subst (λ (h : List (List ℕ × ℕ)). AreFirst layers h leaves) (sym d.heads) l.first;
-      headers_are = subst (λ (hs : List (List ℕ)). AreHeaders layers style bands leaves (layer + 1) hs) (sym e) (headers_push layers style layer bands leaves headers bytes l.headers_are header);
+      headers_are = subst (λ (ps : List ℕ). AreHeaders layers style bands leaves (layer + 1) after ps) (sym f)
+          (subst (λ (hs : List ℕ). AreHeaders layers style bands leaves (layer + 1) hs (places ++ length hs ∷ [])) (sym e) (headers_push layers style layer bands leaves headers places bytes l.headers_are header));
     }
 
 -- ---- calls
 pub one_empty : (layer : ℕ) (leaves : List Leafed) (ws : List Writes) (start bits : List Bool) (contributes : Bool) → AreDue layer ws leaves → contributes ≡ some_in layer leaves → contributes ≡ false → start ≡ [] → bits ≡ start ++ false ∷ [] →
     (bytes : List ℕ) → bytes ≡ bytes_of bits → HeaderDone layer leaves ws ws bytes
 one_empty layer leaves ws start bits contributes d is none e f bytes g = header_empty layer leaves ws bits bytes d (sym is ∙ none) (f ∙ ap (λ (l : List Bool). l ++ false ∷ []) e) g
-
-map_push : {A B : Type 0} (f : A → B) (xs : List A) (y : A) → map f (xs ++ y ∷ []) ≡ map f xs ++ f y ∷ []
-map_push f [] y = refl
-map_push f (x ∷ xs) y = ap (λ l. f x ∷ l) (map_push f xs y)
-
-pub bytes_push : (headers new : List (Vec ℕ Global)) (v : Vec ℕ Global) → new ≡ headers ++ v ∷ [] → map (λ (x : Vec ℕ Global). x.items) new ≡ map (λ (x : Vec ℕ Global). x.items) headers ++ v.items ∷ []
-bytes_push headers new v e = ap (map (λ (x : Vec ℕ Global). x.items)) e ∙ map_push (λ (x : Vec ℕ Global). x.items) headers v
 
 -- leaves that fit are in range
 pub fit_range : (style layers : ℕ) (bands : List BandCells) (leaves : List Leafed) → CellsInRange bands → LeavesFit style layers bands leaves → LeavesInRange bands leaves

@@ -1,5 +1,5 @@
 -- Headers that are written.
-use Rattle.std.proofs.Common.{◌≡◌, ◌≢◌, ℕ, zero, suc, ◌+◌, ◌*◌, ◌^◌, ◌<◌, ◌≤◌, ◌==◌, nat_le, Bool, true, false, List, [], ◌∷◌, ◌++◌, length, drop, map, get_or, set, refl, sym, ap, ◌∙◌, subst, cond, arith, append_assoc, get_or-set_same, get_or-set_other, inl, inr, ◌⊎◌}
+use Rattle.std.proofs.Common.{◌≡◌, ◌≢◌, ℕ, zero, suc, ◌+◌, ◌*◌, ◌^◌, ◌<◌, ◌≤◌, ◌==◌, nat_le, Bool, true, false, List, [], ◌∷◌, ◌++◌, length, drop, map, get_or, set, refl, sym, ap, ◌∙◌, subst, cond, arith, append_assoc, get_or-set_same, get_or-set_other, length-set, inl, inr, ◌⊎◌}
 use Rattle.std.proofs.lemmas.Bool.Decides.{nat_tests}
 use Rattle.std.proofs.lemmas.Bool.{cases_lt}
 use Rattle.std.proofs.lemmas.List.{get_or-map, length-map, get_or_past, append-nil}
@@ -13,7 +13,7 @@ use Rattle.jx_head.specs.Words.{size}
 use Rattle.jx_head.specs.Packet.{Cells, Values, Entry, contributes, unknown_block, block_at, block_after, zero_planes, cells_first, cells_included, entry_bits, entry_after, blocks_bits, blocks_after}
 use Rattle.jx_head.specs.Written.{Leafed, Writes, zero_leaf, zero_leaves, parts_in, passes_of, raise_of, entry_written, entries_written, least_of, cells_of, values_of}
 use Rattle.jx_head.specs.Leafs.{leaf_of}
-use Rattle.jx_head.specs.Writable.{no_leaf, leaf_at, passes_from, IsDue, AreWrites, IsWrites, IsPartly, SameSize}
+use Rattle.jx_head.specs.Writable.{no_leaf, leaf_at, passes_from, IsCursor, IsDue, AreWrites, IsWrites, IsPartly, SameSize}
 use Rattle.jx_head.proofs.BandLemmas.{entry_size, same_or}
 use Rattle.jx_head.proofs.PutLemmas.{same_least, size_le}
 
@@ -136,13 +136,14 @@ same_values w old first zeros s =
     ap (λ (f : ℕ → ℕ). let v : Values = record { first = f; zeros = least_of w.zeros } in v) (same_least w.first old.first first s.wide s.high)
     ∙ ap (λ (f : ℕ → ℕ). let v : Values = record { first = least_of old.first; zeros = f } in v) (same_least w.zeros old.zeros zeros s.zeros_wide s.zeros_high)
 
-pub still_writes : (leaves : List Leafed) (w old : Writes) → w.first.leaves ≡ old.first.leaves → w.zeros.leaves ≡ old.zeros.leaves → SameSize (cells_of w) (cells_of old) → AreWrites leaves old → AreWrites leaves w
-still_writes leaves w old first zeros s a = record {
+pub still_writes : (leaves : List Leafed) (w old : Writes) → w.first.leaves ≡ old.first.leaves → w.zeros.leaves ≡ old.zeros.leaves → SameSize (cells_of w) (cells_of old) → length w.cursors ≡ length old.cursors → AreWrites leaves old → AreWrites leaves w
+still_writes leaves w old first zeros s cursors a = record {
   shape = subst (λ (n : ℕ). IsShape n w.zeros.tree.high) (sym s.zeros_wide) (subst (λ (n : ℕ). IsShape old.zeros.tree.wide n) (sym s.zeros_high) a.shape);
   wide = s.wide ∙ a.wide ∙ sym s.zeros_wide;
   high = s.high ∙ a.high ∙ sym s.zeros_high;
   long = s.long ∙ a.long ∙ ap (λ (n : ℕ). n * old.zeros.tree.high) (sym s.zeros_wide) ∙ ap (λ (n : ℕ). w.zeros.tree.wide * n) (sym s.zeros_high);
   all = a.all ∙ sym s.long;
+  cursors = cursors ∙ a.cursors ∙ sym s.long;
   zeros_are = zeros ∙ a.zeros_are ∙ ap (λ (n : ℕ). zero_leaves n leaves) (sym s.planes);
   fit = subst (λ (n : ℕ). (i : ℕ) → get_or (zero_leaves n leaves) i 0 < 2 ^ 32) (sym s.planes) a.fit;
 }
@@ -151,15 +152,15 @@ pub raise_few : (lblock : ℕ) (parts : List Part) → lblock ≤ 32 → lblock 
 raise_few lblock [] le = omega arith
 raise_few lblock (p ∷ ps) le = let i : lblock + raise_of lblock ps ≤ 32 = raise_few lblock ps le in let s : size p.length ≤ 32 = size_le p.length in omega arith
 
-due_here : (v : Values) (layer i : ℕ) (cells : Cells) (leaves : List Leafed) → i < length cells.blocks → IsDue layer (block_at cells i) (leaf_at leaves i) →
-    IsDue (layer + 1) (block_at (entry_after v layer i cells (entry_written layer (block_at cells i) (leaf_at leaves i))) i) (leaf_at leaves i)
-due_here v layer i cells leaves lt d = by (contributes e) refl
+due_here : (v : Values) (layer i c m : ℕ) (cells : Cells) (leaves : List Leafed) → i < length cells.blocks → IsDue layer (block_at cells i) c (leaf_at leaves i) → IsCursor (layer + 1) m (leaf_at leaves i).parts →
+    IsDue (layer + 1) (block_at (entry_after v layer i cells (entry_written layer (block_at cells i) (leaf_at leaves i))) i) m (leaf_at leaves i)
+due_here v layer i c m cells leaves lt d moved = by (contributes e) refl
   where
     e : Entry
     e = entry_written layer (block_at cells i) (leaf_at leaves i)
 
     by : (c : Bool) → contributes (entry_written layer (block_at cells i) (leaf_at leaves i)) ≡ c →
-        IsDue (layer + 1) (block_at (cond c (cells_included v i (cells_first v layer i cells) (entry_written layer (block_at cells i) (leaf_at leaves i))) (cells_first v layer i cells)) i) (leaf_at leaves i)
+        IsDue (layer + 1) (block_at (cond c (cells_included v i (cells_first v layer i cells) (entry_written layer (block_at cells i) (leaf_at leaves i))) (cells_first v layer i cells)) i) m (leaf_at leaves i)
     by c is =
         let split : passes_from layer (leaf_at leaves i).parts ≡ passes_of (parts_in layer (leaf_at leaves i).parts) + passes_from (layer + 1) (leaf_at leaves i).parts = due_split layer (leaf_at leaves i).parts in
         let few : (block_at cells i).passes + passes_from layer (leaf_at leaves i).parts < 2 ^ 16 = d.few in
@@ -169,12 +170,12 @@ due_here v layer i cells leaves lt d = by (contributes e) refl
       where
         two : (c : Bool) → passes_from layer (leaf_at leaves i).parts ≡ passes_of (parts_in layer (leaf_at leaves i).parts) + passes_from (layer + 1) (leaf_at leaves i).parts →
             (block_at cells i).passes + passes_from layer (leaf_at leaves i).parts < 2 ^ 16 → (block_at cells i).lblock + raise_of (block_at cells i).lblock (parts_in layer (leaf_at leaves i).parts) ≤ 32 →
-            IsDue (layer + 1) (block_at (cond c (cells_included v i (cells_first v layer i cells) (entry_written layer (block_at cells i) (leaf_at leaves i))) (cells_first v layer i cells)) i) (leaf_at leaves i)
+            IsDue (layer + 1) (block_at (cond c (cells_included v i (cells_first v layer i cells) (entry_written layer (block_at cells i) (leaf_at leaves i))) (cells_first v layer i cells)) i) m (leaf_at leaves i)
         two true split few r =
             let known = block_at cells i in
             let after = block_after known (zero_planes known.zero v.zeros i) (entry_written layer known (leaf_at leaves i)) in
-            subst (λ (k : Known). IsDue (layer + 1) k (leaf_at leaves i)) (sym (get_or-set_same cells.blocks i after unknown_block lt)) (record { few = omega arith; lblock = r })
-        two false split few r = record { few = omega arith; lblock = omega arith }
+            subst (λ (k : Known). IsDue (layer + 1) k m (leaf_at leaves i)) (sym (get_or-set_same cells.blocks i after unknown_block lt)) (record { cursor_is = moved; few = omega arith; lblock = r })
+        two false split few r = record { cursor_is = moved; few = omega arith; lblock = omega arith }
 
 pub other_same : (v : Values) (layer i j : ℕ) (cells : Cells) (e : Entry) → j ≢ i → block_at (entry_after v layer i cells e) j ≡ block_at cells j
 other_same v layer i j cells e ne = by (contributes e)
@@ -183,21 +184,29 @@ other_same v layer i j cells e ne = by (contributes e)
     by true = get_or-set_other cells.blocks i j (block_after (block_at cells i) (zero_planes (block_at cells i).zero v.zeros i) e) unknown_block ne
     by false = refl
 
-pub partly_next : (v : Values) (layer i : ℕ) (leaves : List Leafed) (w new : Writes) → i < length w.blocks → IsPartly layer i leaves w →
+pub partly_next : (v : Values) (layer i m : ℕ) (leaves : List Leafed) (w new : Writes) → i < length w.blocks → IsPartly layer i leaves w →
     new.first.leaves ≡ w.first.leaves → new.zeros.leaves ≡ w.zeros.leaves → cells_of new ≡ entry_after v layer i (cells_of w) (entry_written layer (block_at (cells_of w) i) (leaf_at leaves i)) →
-    IsPartly layer (i + 1) leaves new
-partly_next v layer i leaves w new lt p first zeros is =
+    new.cursors ≡ set w.cursors i m → IsCursor (layer + 1) m (leaf_at leaves i).parts → IsPartly layer (i + 1) leaves new
+partly_next v layer i m leaves w new lt p first zeros is cursors moved =
     let e = entry_written layer (block_at (cells_of w) i) (leaf_at leaves i) in
     let size : SameSize (cells_of new) (cells_of w) = subst (λ (c : Cells). SameSize c (cells_of w)) (sym is) (entry_size v layer i (cells_of w) e) in
     let at : (j : ℕ) → get_or new.blocks j unknown_block ≡ block_at (entry_after v layer i (cells_of w) e) j = λ (j : ℕ). ap (λ (c : Cells). block_at c j) is in
+    let long : length new.cursors ≡ length w.cursors = ap (λ (l : List ℕ). length l) cursors ∙ length-set w.cursors i m in
+    let inside : i < length w.cursors = (let l : length w.cursors ≡ length w.blocks = p.are.cursors in omega arith) in
+    let here : get_or new.cursors i 0 ≡ m = ap (λ (l : List ℕ). get_or l i 0) cursors ∙ get_or-set_same w.cursors i m 0 inside in
+    let other : (j : ℕ) → j ≢ i → get_or new.cursors j 0 ≡ get_or w.cursors j 0 = λ (j : ℕ) (ne : j ≢ i). ap (λ (l : List ℕ). get_or l j 0) cursors ∙ get_or-set_other w.cursors i j m 0 ne in
     record {
-      are = still_writes leaves new w first zeros size p.are;
+      are = still_writes leaves new w first zeros size long p.are;
       done = λ j lt'. elim (same_or j i) [
-        | inl e' ↦ subst (λ (n : ℕ). IsDue (layer + 1) (get_or new.blocks n unknown_block) (leaf_at leaves n)) (sym e')
-            (subst (λ (k : Known). IsDue (layer + 1) k (leaf_at leaves i)) (sym (at i)) (due_here v layer i (cells_of w) leaves lt (p.due i (omega arith))))
-        | inr ne ↦ subst (λ (k : Known). IsDue (layer + 1) k (leaf_at leaves j)) (sym (at j ∙ other_same v layer i j (cells_of w) e ne)) (p.done j (below j i lt' ne))
+        | inl e' ↦ subst (λ (n : ℕ). IsDue (layer + 1) (get_or new.blocks n unknown_block) (get_or new.cursors n 0) (leaf_at leaves n)) (sym e')
+            (subst (λ (k : Known). IsDue (layer + 1) k (get_or new.cursors i 0) (leaf_at leaves i)) (sym (at i))
+            (subst (λ (k : ℕ). IsDue (layer + 1) (block_at (entry_after v layer i (cells_of w) e) i) k (leaf_at leaves i)) (sym here)
+            (due_here v layer i (get_or w.cursors i 0) m (cells_of w) leaves lt (p.due i (omega arith)) moved)))
+        | inr ne ↦ subst (λ (k : Known). IsDue (layer + 1) k (get_or new.cursors j 0) (leaf_at leaves j)) (sym (at j ∙ other_same v layer i j (cells_of w) e ne))
+            (subst (λ (k : ℕ). IsDue (layer + 1) (block_at (cells_of w) j) k (leaf_at leaves j)) (sym (other j ne)) (p.done j (below j i lt' ne)))
       ];
-      due = λ j ge. subst (λ (k : Known). IsDue layer k (leaf_at leaves j)) (sym (at j ∙ other_same v layer i j (cells_of w) e (above j i ge))) (p.due j (omega arith));
+      due = λ j ge. subst (λ (k : Known). IsDue layer k (get_or new.cursors j 0) (leaf_at leaves j)) (sym (at j ∙ other_same v layer i j (cells_of w) e (above j i ge)))
+          (subst (λ (k : ℕ). IsDue layer (block_at (cells_of w) j) k (leaf_at leaves j)) (sym (other j (above j i ge))) (p.due j (omega arith)));
     }
   where
     below : (j i : ℕ) → j < i + 1 → j ≢ i → j < i
@@ -227,14 +236,16 @@ partly_end layer at leaves w ge p = record {
   ];
 }
   where
-    none : (j : ℕ) → at ≤ j → IsDue (layer + 1) (get_or w.blocks j unknown_block) (leaf_at leaves j)
+    none : (j : ℕ) → at ≤ j → IsDue (layer + 1) (get_or w.blocks j unknown_block) (get_or w.cursors j 0) (leaf_at leaves j)
     none j past =
         let le : length leaves ≤ j = omega arith in
         let all : length leaves ≡ length w.blocks = p.are.all in
         let le' : length w.blocks ≤ j = omega arith in
         let l : leaf_at leaves j ≡ no_leaf = get_or_past leaves j no_leaf le in
         let b : get_or w.blocks j unknown_block ≡ unknown_block = get_or_past w.blocks j unknown_block le' in
-        subst (λ (x : Leafed). IsDue (layer + 1) (get_or w.blocks j unknown_block) x) (sym l) (subst (λ (k : Known). IsDue (layer + 1) k no_leaf) (sym b) (record { few = omega arith; lblock = omega arith }))
+        let c : get_or w.cursors j 0 ≡ 0 = get_or_past w.cursors j 0 (let n : length w.cursors ≡ length w.blocks = p.are.cursors in omega arith) in
+        subst (λ (x : Leafed). IsDue (layer + 1) (get_or w.blocks j unknown_block) (get_or w.cursors j 0) x) (sym l) (subst (λ (k : Known). IsDue (layer + 1) k (get_or w.cursors j 0) no_leaf) (sym b)
+        (subst (λ (k : ℕ). IsDue (layer + 1) unknown_block k no_leaf) (sym c) (record { cursor_is = tt; few = omega arith; lblock = omega arith })))
 
 -- ---- a call that writes a block
 -- what stands in the loop over a band's blocks
@@ -251,11 +262,11 @@ loop_start layer leaves w bits i = record { partly = partly_start layer leaves w
 pub loop_values : (layer at : ℕ) (leaves : List Leafed) (start w : Writes) (begun bits : List Bool) → Loop layer at leaves start w begun bits → values_of w ≡ values_of start
 loop_values layer at leaves start w begun bits l = same_values w start l.first l.zeros l.size
 
-pub loop_next : (layer at : ℕ) (leaves : List Leafed) (start w new : Writes) (begun bits next : List Bool) (x : Leafed) → Loop layer at leaves start w begun bits → at < length leaves → leaf_at leaves at ≡ x →
+loop_next : (layer at m : ℕ) (leaves : List Leafed) (start w new : Writes) (begun bits next : List Bool) (x : Leafed) → Loop layer at leaves start w begun bits → at < length leaves → leaf_at leaves at ≡ x →
     next ≡ bits ++ entry_bits (values_of w) layer at (cells_of w) (entry_written layer (block_at (cells_of w) at) x) →
     cells_of new ≡ entry_after (values_of w) layer at (cells_of w) (entry_written layer (block_at (cells_of w) at) x) →
-    new.first.leaves ≡ w.first.leaves → new.zeros.leaves ≡ w.zeros.leaves → Loop layer (at + 1) leaves start new begun next
-loop_next layer at leaves start w new begun bits next x l lt x_is is is_after first zeros =
+    new.first.leaves ≡ w.first.leaves → new.zeros.leaves ≡ w.zeros.leaves → new.cursors ≡ set w.cursors at m → IsCursor (layer + 1) m x.parts → Loop layer (at + 1) leaves start new begun next
+loop_next layer at m leaves start w new begun bits next x l lt x_is is is_after first zeros cursors moved =
     let all : length leaves ≡ length w.blocks = l.partly.are.all in
     let inside : at < length w.blocks = omega arith in
     let v = loop_values layer at leaves start w begun bits l in
@@ -265,7 +276,7 @@ loop_next layer at leaves start w new begun bits next x l lt x_is is is_after fi
     let after' : cells_of new ≡ entry_after (values_of start) layer at (cells_of w) (e (leaf_at leaves at)) =
     is_after ∙ ap (λ (y : Leafed). entry_after (values_of w) layer at (cells_of w) (e y)) (sym x_is) ∙ ap (λ (u : Values). entry_after u layer at (cells_of w) (e (leaf_at leaves at))) v in
     record {
-      partly = partly_next (values_of start) layer at leaves w new inside l.partly first zeros after';
+      partly = partly_next (values_of start) layer at m leaves w new inside l.partly first zeros after' cursors (subst (λ (y : Leafed). IsCursor (layer + 1) m y.parts) (sym x_is) moved);
       writing = writing_next (values_of start) layer at (cells_of w) (cells_of new) leaves bits next begun (cells_of start) inside all l.writing is' after';
       first = first ∙ l.first;
       zeros = zeros ∙ l.zeros;
@@ -313,3 +324,39 @@ loop_calls layer at leaves w x p lt is =
           omega arith);
       lblock = (p.due at (omega arith)).lblock;
     })
+
+-- ---- a call that writes the parts of a block from its cursor on
+abbrev pub with_cursors : Writes → List ℕ → Writes
+with_cursors w cs = record w { cursors = cs }
+
+abbrev pub run_of : ℕ → List (ℕ × Part) → Leafed
+run_of z parts = record { zero = z; parts = parts }
+
+abbrev entry_with : Known → List Part → Entry
+entry_with known ps = record { passes = passes_of ps; raise = raise_of known.lblock ps; parts = ps }
+
+pub run_calls : (layer at : ℕ) (leaves : List Leafed) (w mid : Writes) (x : Leafed) (parts : List (ℕ × Part)) (cs : List ℕ) → IsPartly layer at leaves w → at < length leaves → leaf_at leaves at ≡ x →
+    mid ≡ with_cursors w cs → parts_in layer parts ≡ parts_in layer x.parts → CallsBlock layer at (run_of x.zero parts) mid
+run_calls layer at leaves w mid x parts cs p lt is mid_is same =
+    let c : CallsBlock layer at x w = loop_calls layer at leaves w x p lt is in
+    subst (λ (m : Writes). CallsBlock layer at (run_of x.zero parts) m) (sym mid_is) (record {
+      inside = c.inside;
+      first = c.first;
+      zeros = c.zeros;
+      zero = λ ge. c.zero (subst (λ (l : List Part). 1 ≤ passes_of l) same ge);
+      few = subst (λ (l : List Part). (block_at (cells_of w) at).passes + passes_of l < 2 ^ 16) (sym same) c.few;
+      lblock = c.lblock;
+    })
+
+pub loop_run : (layer at m : ℕ) (leaves : List Leafed) (start w mid new : Writes) (begun bits next : List Bool) (x : Leafed) (parts : List (ℕ × Part)) → Loop layer at leaves start w begun bits → at < length leaves →
+    leaf_at leaves at ≡ x → mid ≡ with_cursors w (set w.cursors at m) → IsCursor (layer + 1) m x.parts → parts_in layer parts ≡ parts_in layer x.parts →
+    next ≡ bits ++ entry_bits (values_of mid) layer at (cells_of mid) (entry_written layer (block_at (cells_of mid) at) (run_of x.zero parts)) →
+    cells_of new ≡ entry_after (values_of mid) layer at (cells_of mid) (entry_written layer (block_at (cells_of mid) at) (run_of x.zero parts)) →
+    new.first.leaves ≡ mid.first.leaves → new.zeros.leaves ≡ mid.zeros.leaves → new.cursors ≡ mid.cursors → Loop layer (at + 1) leaves start new begun next
+loop_run layer at m leaves start w mid new begun bits next x parts l lt is mid_is moved same next_is after_is first zeros cursors =
+    loop_next layer at m leaves start w new begun bits next x l lt is
+    (next_is ∙ ap (λ (y : Writes). bits ++ entry_bits (values_of y) layer at (cells_of y) (entry_written layer (block_at (cells_of y) at) (run_of x.zero parts))) mid_is
+    ∙ ap (λ (ps : List Part). bits ++ entry_bits (values_of w) layer at (cells_of w) (entry_with (block_at (cells_of w) at) ps)) same)
+    (after_is ∙ ap (λ (y : Writes). entry_after (values_of y) layer at (cells_of y) (entry_written layer (block_at (cells_of y) at) (run_of x.zero parts))) mid_is
+    ∙ ap (λ (ps : List Part). entry_after (values_of w) layer at (cells_of w) (entry_with (block_at (cells_of w) at) ps)) same)
+    (first ∙ ap (λ (y : Writes). y.first.leaves) mid_is) (zeros ∙ ap (λ (y : Writes). y.zeros.leaves) mid_is) (cursors ∙ ap (λ (y : Writes). y.cursors) mid_is) moved

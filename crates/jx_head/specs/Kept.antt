@@ -1,9 +1,9 @@
 -- What is true of what is known.
-use Rattle.std.specs.Prelude.{◌≡◌, ℕ, ◌*◌, ◌≤◌, ◌<◌, ◌^◌, length, List, [], ◌∷◌}
+use Rattle.std.specs.Prelude.{◌≡◌, ℕ, ◌*◌, ◌≤◌, ◌<◌, ◌^◌, ◌+◌, true, length, slice_index_or, None, List, [], ◌∷◌}
 use Rattle.jx_tagtree.specs.Shape.{IsShape}
-use Rattle.jx_tagtree.specs.TagTree.{Tree, IsTree}
+use Rattle.jx_tagtree.specs.TagTree.{Tree, IsTree, is_past}
 use Rattle.jx_head.specs.declared.known.Known.{Known}
-use Rattle.jx_head.specs.Packet.{Cells, block_at}
+use Rattle.jx_head.specs.Packet.{Cells, block_at, unknown_block}
 
 -- a tag tree, and one of its leaves
 pub record IsLeafOf (tree : Tree) (leaf : ℕ) : Type 0 where
@@ -19,6 +19,16 @@ pub record AreTrees (cells : Cells) : Type 0 where
   pub first_is : IsTree cells.first
   pub zeros_is : IsTree cells.zeros
   pub long : length cells.blocks ≡ cells.first.wide * cells.first.high
+
+-- blocks of which none was included
+abbrev pub NoneIncluded : List Known → Type 0
+NoneIncluded blocks = (leaf : ℕ) → (slice_index_or blocks leaf unknown_block).zero ≡ None
+
+-- A band of which no block was included, and of which what is known says that none is at this layer: a header has no bits
+-- of it.
+pub record IsSilent (layer : ℕ) (cells : Cells) : Type 0 where
+  pub none : NoneIncluded cells.blocks
+  pub past : is_past cells.first (layer + 1) ≡ true
 
 -- a block's passes are those of at most 255 planes; its lengths' bits stood in bytes that a slice can have
 pub record IsKnown (known : Known) : Type 0 where

@@ -1,5 +1,5 @@
 -- The leaves that a precinct may be written with.
-use Rattle.std.specs.Prelude.{◌≡◌, ℕ, ◌+◌, ◌*◌, ◌^◌, ◌<◌, ◌≤◌, nat_lt, List, [], ◌∷◌, ◌++◌, length, map, take, drop, replicate, slice_index_or, if◌then◌else◌}
+use Rattle.std.specs.Prelude.{◌≡◌, ℕ, ◌+◌, ◌-◌, ◌*◌, ◌^◌, ◌<◌, ◌≤◌, nat_lt, List, [], ◌∷◌, ◌++◌, length, map, take, drop, replicate, slice_index_or, if◌then◌else◌}
 use Rattle.jx_tagtree.specs.Header.{bytes_of}
 use Rattle.jx_tagtree.specs.Leaves.{untold}
 use Rattle.jx_head.specs.declared.Part.{Part}
@@ -64,6 +64,7 @@ fresh_writes layers b leaves = record {
   zeros = untold b.wide b.high (zero_leaves b.planes leaves);
   planes = b.planes;
   blocks = replicate (b.wide * b.high) unknown_block;
+  cursors = replicate (b.wide * b.high) 0;
 }
 
 -- the one header of a layer
@@ -71,10 +72,17 @@ abbrev pub header_at : ℕ → ℕ → List BandCells → List Leafed → ℕ �
 header_at layers style bands leaves layer =
     bytes_of (header_bits (state_at layers style bands leaves layer) (header_written layers (state_at layers style bands leaves layer) leaves))
 
--- the headers of all layers are kept
-pub record AreHeaders (layers style : ℕ) (bands : List BandCells) (leaves : List Leafed) (count : ℕ) (headers : List (List ℕ)) : Type 0 where
-  pub long : length headers ≡ count
-  pub each : (layer : ℕ) → layer < count → slice_index_or headers layer [] ≡ header_at layers style bands leaves layer
+-- bytes from one place up to another
+pub record IsCutOut (bytes : List ℕ) (start stop : ℕ) (header : List ℕ) : Type 0 where
+  pub ordered : start ≤ stop
+  pub within : stop ≤ length bytes
+  pub is : take (stop - start) (drop start bytes) ≡ header
+
+-- the headers of the first layers are kept one behind another, with the places where each begins and the last ends
+pub record AreHeaders (layers style : ℕ) (bands : List BandCells) (leaves : List Leafed) (count : ℕ) (bytes places : List ℕ) : Type 0 where
+  pub long : length places ≡ count + 1
+  pub last : slice_index_or places count 0 ≡ length bytes
+  pub each : (layer : ℕ) → layer < count → IsCutOut bytes (slice_index_or places layer 0) (slice_index_or places (layer + 1) 0) (header_at layers style bands leaves layer)
 
 -- lengths of 32 bits
 abbrev pub AreShort : List Part → Type 0
@@ -106,7 +114,7 @@ pub record InTypes (layers : ℕ) (leaves : List Leafed) : Type 0 where
   pub short : AllShort leaves
 
 -- a precinct that is written, with the headers of all its layers
-pub record IsPlan (layers style : ℕ) (bands : List BandCells) (leaves : List Leafed) (headers : List (List ℕ)) : Type 0 where
+pub record IsPlan (layers style : ℕ) (bands : List BandCells) (leaves : List Leafed) (bytes places : List ℕ) : Type 0 where
   pub cells : CellsInRange bands
   pub types : InTypes layers leaves
-  pub are : AreHeaders layers style bands leaves layers headers
+  pub are : AreHeaders layers style bands leaves layers bytes places

@@ -222,6 +222,12 @@ AreBandsTold style layer base (cells ∷ bands) [] = ⊥
 AreBandsTold style layer base (cells ∷ bands) (told ∷ tolds) =
     IsBandTold style layer base cells told × AreBandsTold style layer (base + length cells.blocks) bands tolds
 
+-- the values that are told of bands agree with what is known of each afterwards
+abbrev pub AgreeAfter : ℕ → List Cells → List BandTold → Type 0
+AgreeAfter layer [] tolds = Unit {0}
+AgreeAfter layer (cells ∷ bands) [] = Unit {0}
+AgreeAfter layer (cells ∷ bands) (told ∷ tolds) = Agree (band_after layer cells told) told.values × AgreeAfter layer bands tolds
+
 abbrev pub bands_parts : List BandTold → List Part
 bands_parts [] = []
 bands_parts (told ∷ tolds) = parts_told told.entries ++ bands_parts tolds

@@ -1,5 +1,5 @@
 -- What is true of a precinct that is written.
-use Rattle.std.specs.Prelude.{◌≡◌, ℕ, ◌+◌, ◌*◌, ◌^◌, ◌<◌, ◌≤◌, nat_le, Bool, true, false, ◌++◌, List, [], ◌∷◌, length, map, take, drop, slice_index, slice_index_or, if◌then◌else◌}
+use Rattle.std.specs.Prelude.{◌≡◌, ℕ, zero, suc, ◌+◌, ◌*◌, ◌^◌, ◌<◌, ◌≤◌, nat_le, Bool, true, false, ◌++◌, List, [], ◌∷◌, length, map, take, drop, slice_index, slice_index_or, if◌then◌else◌}
 use Rattle.jx_tagtree.specs.Shape.{IsShape}
 use Rattle.jx_tagtree.specs.Header.{bytes_of}
 use Rattle.jx_head.specs.Precinct.{fresh_bands}
@@ -7,7 +7,7 @@ use Rattle.jx_head.specs.declared.BandCells.{BandCells}
 use Rattle.jx_head.specs.declared.Part.{Part}
 use Rattle.jx_head.specs.declared.known.Known.{Known}
 use Rattle.jx_head.specs.Packet.{Cells, BandTold, bands_bits, bands_after, unknown_block}
-use Rattle.jx_head.specs.Written.{Leafed, Writes, cells_of, values_of, entries_written, first_leaves, zero_leaf, zero_leaves, some_in}
+use Rattle.jx_head.specs.Written.{Leafed, Writes, cells_of, values_of, entries_written, first_leaves, zero_leaves, some_in}
 
 abbrev pub no_leaf : Leafed
 no_leaf = record { zero = 0; parts = [] }
@@ -20,8 +20,25 @@ abbrev pub passes_from : ℕ → List (ℕ × Part) → ℕ
 passes_from layer [] = 0
 passes_from layer (p ∷ ps) = if nat_le layer p.0 then p.1.passes + passes_from layer ps else passes_from layer ps
 
+-- the parts before a cursor are of layers before one
+abbrev pub IsCursor : ℕ → ℕ → List (ℕ × Part) → Type 0
+IsCursor layer zero parts = Unit {0}
+IsCursor layer (suc cursor) [] = ⊥
+IsCursor layer (suc cursor) (p ∷ ps) = (p.0 < layer) × IsCursor layer cursor ps
+
+-- layers that don't fall
+abbrev pub IsRising : ℕ → List (ℕ × Part) → Type 0
+IsRising layer [] = Unit {0}
+IsRising layer (p ∷ ps) = (layer ≤ p.0) × IsRising p.0 ps
+
+-- the layers of no block's parts fall
+abbrev pub AreRising : List Leafed → Type 0
+AreRising [] = Unit {0}
+AreRising (l ∷ ls) = IsRising 0 l.parts × AreRising ls
+
 -- a block of which this layer and the later ones are to be written
-pub record IsDue (layer : ℕ) (known : Known) (leaf : Leafed) : Type 0 where
+pub record IsDue (layer : ℕ) (known : Known) (cursor : ℕ) (leaf : Leafed) : Type 0 where
+  pub cursor_is : IsCursor layer cursor leaf.parts
   pub few : known.passes + passes_from layer leaf.parts < 2 ^ 16
   pub lblock : known.lblock ≤ 32
 
@@ -32,18 +49,19 @@ pub record AreWrites (leaves : List Leafed) (w : Writes) : Type 0 where
   pub high : w.first.tree.high ≡ w.zeros.tree.high
   pub long : length w.blocks ≡ w.zeros.tree.wide * w.zeros.tree.high
   pub all : length leaves ≡ length w.blocks
+  pub cursors : length w.cursors ≡ length w.blocks
   pub zeros_are : w.zeros.leaves ≡ zero_leaves w.planes leaves
   pub fit : (i : ℕ) → slice_index (zero_leaves w.planes leaves) i < 2 ^ 32
 
 pub record IsWrites (layer : ℕ) (leaves : List Leafed) (w : Writes) : Type 0 where
   pub are : AreWrites leaves w
-  pub due : (i : ℕ) → IsDue layer (slice_index_or w.blocks i unknown_block) (leaf_at leaves i)
+  pub due : (i : ℕ) → IsDue layer (slice_index_or w.blocks i unknown_block) (slice_index_or w.cursors i 0) (leaf_at leaves i)
 
 -- the first blocks of which this layer was written
 pub record IsPartly (layer at : ℕ) (leaves : List Leafed) (w : Writes) : Type 0 where
   pub are : AreWrites leaves w
-  pub done : (i : ℕ) → i < at → IsDue (layer + 1) (slice_index_or w.blocks i unknown_block) (leaf_at leaves i)
-  pub due : (i : ℕ) → at ≤ i → IsDue layer (slice_index_or w.blocks i unknown_block) (leaf_at leaves i)
+  pub done : (i : ℕ) → i < at → IsDue (layer + 1) (slice_index_or w.blocks i unknown_block) (slice_index_or w.cursors i 0) (leaf_at leaves i)
+  pub due : (i : ℕ) → at ≤ i → IsDue layer (slice_index_or w.blocks i unknown_block) (slice_index_or w.cursors i 0) (leaf_at leaves i)
 
 -- a band keeps its sizes
 pub record SameSize (new old : Cells) : Type 0 where
@@ -89,10 +107,15 @@ abbrev pub all_passes : List (ℕ × Part) → ℕ
 all_passes [] = 0
 all_passes (p ∷ ps) = p.1.passes + all_passes ps
 
--- each block has few passes, and zero planes of a byte
+-- each block has few passes
 abbrev pub AllFew : List Leafed → Type 0
 AllFew [] = Unit {0}
-AllFew (l ∷ ls) = (all_passes l.parts < 2 ^ 16) × (zero_leaf 0 l.zero l.parts < 2 ^ 8) × AllFew ls
+AllFew (l ∷ ls) = (all_passes l.parts < 2 ^ 16) × AllFew ls
+
+-- each block's zero planes are a byte, as their type says
+abbrev pub AllBytes : List Leafed → Type 0
+AllBytes [] = Unit {0}
+AllBytes (l ∷ ls) = (l.zero < 2 ^ 8) × AllBytes ls
 
 -- when the header of a layer was written
 pub record HeaderDone (layer : ℕ) (leaves : List Leafed) (start ws : List Writes) (bytes : List ℕ) : Type 0 where

@@ -71,12 +71,13 @@ bands_written layers layer [] leaves = []
 bands_written layers layer (cells ∷ bands) leaves =
     band_written layers layer cells (take (length cells.blocks) leaves) ∷ bands_written layers layer bands (drop (length cells.blocks) leaves)
 
--- what a band's writer holds
+-- what a band's writer holds, with the first part of each block that is still to be written
 pub record Writes : Type 0 where
   pub first : Written
   pub zeros : Written
   pub planes : ℕ
   pub blocks : List Known
+  pub cursors : List ℕ
 
 -- the values of a tag tree that is written
 abbrev pub least_of : Written → ℕ → ℕ

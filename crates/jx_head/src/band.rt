@@ -1,9 +1,9 @@
-ghost use Rattle.std.specs.Prelude.{◌≡◌, ◌<◌, ◌≤◌, ◌+◌, ◌-◌, ◌^◌, length, IfOk, IfErr, OnOk};
+ghost use Rattle.std.specs.Prelude.{◌≡◌, ◌<◌, ◌≤◌, ◌+◌, ◌-◌, ◌^◌, true, length, IfOk, IfErr, OnOk};
 ghost use Rattle.jx_tagtree.specs.Header.{to_come};
 ghost use Rattle.jx_head.specs.Packet.{Cells, most_passes};
 ghost use Rattle.jx_head.specs.Scan.{scan_entry, scan_included, scan_block, scan_band};
 ghost use Rattle.jx_head.specs.Frame.{frame};
-ghost use Rattle.jx_head.specs.Kept.{IsKnown, IsBand};
+ghost use Rattle.jx_head.specs.Kept.{IsKnown, IsBand, IsSilent};
 ghost use Rattle.jx_head.specs.Said.{Refuses, EntrySaid, BlockSaid, BandSaid};
 
 use crate::parts::read_parts;
@@ -23,14 +23,20 @@ pub(crate) struct Band {
     pub(crate) zeros: TagReader,
     pub(crate) planes: u32,
     pub(crate) blocks: Vec<Known>,
+    /// Whether some block was included.
+    pub(crate) included: bool,
 }
 
 impl Model for Band {
+    ghost use Rattle.std.specs.Prelude.{◌≡◌, false};
     ghost use Rattle.jx_head.specs.Packet.{Cells};
+    ghost use Rattle.jx_head.specs.Kept.{NoneIncluded};
 
     ghost Value = { Cells };
 
     ghost view = { λ b. record { first = b.first; zeros = b.zeros; planes = b.planes; blocks = b.blocks.items } };
+
+    ghost invariant = { λ b. b.included ≡ false → NoneIncluded b.blocks.items };
 }
 
 /// The most passes that a block of so many planes may have.
@@ -109,6 +115,7 @@ fn read_included(
     }
     match read_entry(style, block, band.planes, zero, known, bits, parts) {
         Ok(after) => {
+            band.included = true;
             band.blocks[leaf as usize] = after;
             Ok(())
         }
@@ -141,6 +148,14 @@ pub(crate) fn read_block(
     }
 }
 
+/// Whether a header of a layer has no bit of any of a band's blocks from here on, as none was included and
+/// what is known of the root says that none is now.
+fn is_silent(band: &Band, layer: u16) -> bool
+    ensures { result ≡ true → IsSilent layer band.now }
+{
+    !band.included && band.first.is_past(u32::from(layer) + 1)
+}
+
 /// Reads what a header of a layer has of a band, whose first block has the number `base`, and appends
 /// the parts.
 pub(crate) fn read_band(
@@ -162,6 +177,9 @@ pub(crate) fn read_band(
 {
     let count = band.blocks.len() as u32;
     for leaf in 0..count {
+        if is_silent(band, layer) {
+            return Ok(());
+        }
         match read_block(band, style, layer, base + leaf, leaf, bits, parts) {
             Ok(()) => {}
             Err(fault) => return Err(fault),

@@ -1,9 +1,9 @@
-ghost use Rattle.std.specs.Prelude.{◌≡◌, ◌<◌, ◌≤◌, ◌+◌, ◌*◌, ◌^◌, ◌++◌, length, map, IfOk, OnOk, slice_index};
+ghost use Rattle.std.specs.Prelude.{◌≡◌, ◌<◌, ◌≤◌, ◌+◌, ◌*◌, ◌^◌, ◌++◌, ◌-◌, [], true, length, take, drop, map, ℕ, IfOk, OnOk, slice_index, slice_index_or, slice_set};
 ghost use Rattle.jx_tagtree.specs.Questions.{all_bits, after_all};
 ghost use Rattle.jx_head.specs.Packet.{Entry, asked, block_at, first_bits, first_after, zero_bits, zero_after, told_bits, block_after, entry_bits, entry_after, blocks_bits, blocks_after};
 ghost use Rattle.jx_head.specs.Written.{parts_in, passes_of, raise_of, entry_written, entries_written, Writes, least_of, cells_of, values_of};
 ghost use Rattle.jx_head.specs.Leafs.{leaf_of};
-ghost use Rattle.jx_head.specs.Writable.{IsWrites, SameSize};
+ghost use Rattle.jx_head.specs.Writable.{IsWrites, SameSize, IsCursor, IsRising, AreRising};
 
 use crate::put::{passes_in, put_lengths, put_passes, put_raise, raise_in};
 use crate::{Known, Leaf, Part};
@@ -20,6 +20,8 @@ pub(crate) struct BandOut {
     pub(crate) zeros: TagWriter,
     pub(crate) planes: u32,
     pub(crate) blocks: Vec<Known>,
+    /// For each block its first part that isn't behind, where parts stand in the order of layers.
+    pub(crate) cursors: Vec<usize>,
 }
 
 impl Model for BandOut {
@@ -27,7 +29,7 @@ impl Model for BandOut {
 
     ghost Value = { Writes };
 
-    ghost view = { λ b. record { first = b.first; zeros = b.zeros; planes = b.planes; blocks = b.blocks.items } };
+    ghost view = { λ b. record { first = b.first; zeros = b.zeros; planes = b.planes; blocks = b.blocks.items; cursors = b.cursors.items } };
 }
 
 /// Writes whether a packet of a layer includes a block (T.800 B.10.4).
@@ -116,42 +118,81 @@ fn write_entry(
     })
 }
 
-/// Writes what a layer's packet has of a block.
+/// Writes what a layer's packet has of a block, whose zero planes and parts are these.
 pub(crate) fn write_block(
     band: &mut BandOut,
     leaf: u32,
     layer: u16,
-    of: &Leaf,
+    zero: u8,
+    parts: &[(u16, Part)],
     bits: &mut BitWriter,
 ) -> Result<(), NoMemory>
     requires inside { leaf < length band.old.blocks }
     requires first { leaf < band.old.first.tree.wide * band.old.first.tree.high }
     requires zeros { leaf < band.old.zeros.tree.wide * band.old.zeros.tree.high }
-    requires zero { 1 ≤ passes_of (parts_in layer (leaf_of of.now).parts) → least_of band.old.zeros leaf ≡ of.now.zero }
-    requires few { (block_at (cells_of band.old) leaf).passes + passes_of (parts_in layer (leaf_of of.now).parts) < 2 ^ 16 }
+    requires zero { 1 ≤ passes_of (parts_in layer parts.now) → least_of band.old.zeros leaf ≡ zero }
+    requires few { (block_at (cells_of band.old) leaf).passes + passes_of (parts_in layer parts.now) < 2 ^ 16 }
     requires lblock { (block_at (cells_of band.old) leaf).lblock ≤ 32 }
-    ensures bits { OnOk result (bits.new ≡ bits.old ++ entry_bits (values_of band.old) layer leaf (cells_of band.old) (entry_written layer (block_at (cells_of band.old) leaf) (leaf_of of.now))) }
-    ensures after { OnOk result (cells_of band.new ≡ entry_after (values_of band.old) layer leaf (cells_of band.old) (entry_written layer (block_at (cells_of band.old) leaf) (leaf_of of.now))) }
+    ensures bits { OnOk result (bits.new ≡ bits.old ++ entry_bits (values_of band.old) layer leaf (cells_of band.old) (entry_written layer (block_at (cells_of band.old) leaf) (record { zero = zero; parts = parts.now }))) }
+    ensures after { OnOk result (cells_of band.new ≡ entry_after (values_of band.old) layer leaf (cells_of band.old) (entry_written layer (block_at (cells_of band.old) leaf) (record { zero = zero; parts = parts.now }))) }
     ensures first { OnOk result (band.new.first.leaves ≡ band.old.first.leaves) }
     ensures zeros { OnOk result (band.new.zeros.leaves ≡ band.old.zeros.leaves) }
+    ensures cursors { OnOk result (band.new.cursors ≡ band.old.cursors) }
 {
     let known = band.blocks[leaf as usize];
-    let passes = passes_in(&of.parts, layer);
+    let passes = passes_in(parts, layer);
     write_inclusion(&mut band.first, known.zero, leaf, layer, passes > 0, bits)?;
     if passes == 0 {
         return Ok(());
     }
-    write_zero(
-        &mut band.zeros,
-        known.zero,
-        of.zero,
-        leaf,
-        band.planes,
-        bits,
-    )?;
-    let zero = known.zero.unwrap_or(of.zero);
-    band.blocks[leaf as usize] = write_entry(known, zero, passes, &of.parts, layer, bits)?;
+    write_zero(&mut band.zeros, known.zero, zero, leaf, band.planes, bits)?;
+    let zero = known.zero.unwrap_or(zero);
+    band.blocks[leaf as usize] = write_entry(known, zero, passes, parts, layer, bits)?;
     Ok(())
+}
+
+/// Where the parts of a block begin and end among which those of a layer are, and puts the block's cursor
+/// behind them. `rising` says that the parts stand in the order of their layers; else all are looked at.
+fn next_run(
+    band: &mut BandOut,
+    leaf: u32,
+    parts: &[(u16, Part)],
+    layer: u16,
+    rising: bool,
+) -> (usize, usize)
+    requires inside { leaf < length band.old.cursors }
+    requires cursor { IsCursor layer (slice_index_or band.old.cursors leaf 0) parts.now }
+    requires rising { rising ≡ true → IsRising 0 parts.now }
+    ensures ordered { result.0 ≤ result.1 }
+    ensures within { result.1 ≤ length parts.now }
+    ensures run { parts_in layer (take (result.1 - result.0) (drop result.0 parts.now)) ≡ parts_in layer parts.now }
+    ensures moved { (cursor : ℕ) × IsCursor (layer + 1) cursor parts.now × (band.new ≡ record band.old { cursors = slice_set band.old.cursors leaf cursor }) }
+{
+    let start = band.cursors[leaf as usize];
+    let end = run_end(parts, start, layer, rising);
+    if rising {
+        band.cursors[leaf as usize] = end;
+    }
+    (start, end)
+}
+
+/// The end of the parts, from a cursor on, behind which none is of a layer.
+fn run_end(parts: &[(u16, Part)], start: usize, layer: u16, rising: bool) -> usize
+    requires cursor { IsCursor layer start parts.now }
+    requires rising { rising ≡ true → IsRising 0 parts.now }
+    ensures ordered { start ≤ result }
+    ensures within { result ≤ length parts.now }
+    ensures none { parts_in layer (drop result parts.now) ≡ [] }
+    ensures cursor { rising ≡ true → IsCursor (layer + 1) result parts.now }
+{
+    if !rising {
+        return parts.len();
+    }
+    let mut end = start;
+    while end < parts.len() && parts[end].0 <= layer {
+        end += 1;
+    }
+    end
 }
 
 /// Writes what a layer's packet has of a band.
@@ -159,9 +200,11 @@ pub(crate) fn write_band(
     band: &mut BandOut,
     layer: u16,
     leaves: &[Leaf],
+    rising: bool,
     bits: &mut BitWriter,
 ) -> Result<(), NoMemory>
-    requires { IsWrites layer (map leaf_of leaves.now) band.old }
+    requires writes { IsWrites layer (map leaf_of leaves.now) band.old }
+    requires rising { rising ≡ true → AreRising (map leaf_of leaves.now) }
     ensures bits { OnOk result (bits.new ≡ bits.old ++ blocks_bits (values_of band.old) layer 0 (cells_of band.old) (entries_written layer band.old.blocks (map leaf_of leaves.now))) }
     ensures after { OnOk result (cells_of band.new ≡ blocks_after (values_of band.old) layer 0 (cells_of band.old) (entries_written layer band.old.blocks (map leaf_of leaves.now))) }
     ensures values { OnOk result (values_of band.new ≡ values_of band.old) }
@@ -171,7 +214,9 @@ pub(crate) fn write_band(
 {
     let count = leaves.len() as u32;
     for leaf in 0..count {
-        write_block(band, leaf, layer, &leaves[leaf as usize], bits)?;
+        let of = &leaves[leaf as usize];
+        let (start, end) = next_run(band, leaf, &of.parts, layer, rising);
+        write_block(band, leaf, layer, of.zero, &of.parts[start..end], bits)?;
     }
     Ok(())
 }

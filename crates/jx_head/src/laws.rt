@@ -1,10 +1,10 @@
 //! Laws of packet headers. Each function's contract is a law over the definitions that the other
 //! contracts cite, so its body is empty.
-ghost use Rattle.std.specs.Prelude.{◌≡◌, ◌++◌, ◌+◌, ◌≤◌, ◌<◌, List, ℕ, Bool, length};
+ghost use Rattle.std.specs.Prelude.{◌≡◌, ◌++◌, ◌+◌, ◌≤◌, ◌<◌, List, ℕ, Bool, true, length};
 ghost use Rattle.jx_tagtree.specs.Header.{bytes_of};
 ghost use Rattle.jx_head.specs.declared.Part.{Part};
 ghost use Rattle.jx_head.specs.Words.{IsCount, pass_word, OneWord};
-ghost use Rattle.jx_head.specs.Packet.{State, Header, header_bits, header_after, header_parts, IsToldOf, IsPacket, BreaksPlanes, OneHeader};
+ghost use Rattle.jx_head.specs.Packet.{State, Header, header_bits, header_after, header_parts, IsToldOf, AgreeAfter, IsPacket, BreaksPlanes, OneHeader};
 ghost use Rattle.jx_head.specs.declared.BandCells.{BandCells};
 ghost use Rattle.jx_head.specs.Precinct.{CellsInRange, IsState};
 ghost use Rattle.jx_head.specs.Written.{Leafed, raise_of, header_written, state_at};
@@ -29,12 +29,17 @@ pub fn written_stands()
         IsPacket (bytes_of (header_bits k h) ++ rest) k (header_parts h) (length (bytes_of (header_bits k h))) (header_after k h) }
 {}
 
-/// The header that is written for some leaves from a state with which they agree has one reading from that
-/// state, whatever follows it: its parts, the state after it, and its length.
+/// A header that is written with the bits of what it tells has one reading, whatever follows it: its parts,
+/// the state after it, and its length.
 pub fn written_read_back()
-    ensures { (layers : ℕ) (k : State) (leaves : List Leafed) (rest : List ℕ) (parts : List Part) (used : ℕ) (after : State) → IsState k → IsToldOf k (header_written layers k leaves) →
-        IsPacket (bytes_of (header_bits k (header_written layers k leaves)) ++ rest) k parts used after →
-        OneHeader parts (header_parts (header_written layers k leaves)) after (header_after k (header_written layers k leaves)) used (length (bytes_of (header_bits k (header_written layers k leaves)))) }
+    ensures { (k : State) (h : Header) (rest : List ℕ) → IsState k → IsToldOf k h →
+        IsOneReading (bytes_of (header_bits k h) ++ rest) k (header_parts h) (length (bytes_of (header_bits k h))) (header_after k h) }
+{}
+
+/// The values of the tag trees' nodes that a header tells agree with the state after it, as they do with the
+/// state before.
+pub fn values_agree_after()
+    ensures { (k : State) (h : Header) → IsState k → IsToldOf k h → h.some ≡ true → AgreeAfter k.layer k.bands h.tolds }
 {}
 
 /// What is written of leaves that fit agrees with the state before it, which is that of a precinct that may

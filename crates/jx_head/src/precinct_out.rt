@@ -1,13 +1,12 @@
-ghost use Rattle.std.specs.Prelude.{◌≡◌, ◌<◌, ◌≤◌, ◌+◌, ◌*◌, ◌^◌, ◌++◌, map, List, ℕ, length, vec_len, vec_capacity, IfOk, OnOk, OnErr};
+ghost use Rattle.std.specs.Prelude.{◌≡◌, ◌<◌, ◌≤◌, ◌+◌, ◌*◌, ◌^◌, ◌++◌, ◌||◌, nat_lt, false, true, slice_index_or, map, List, ℕ, length, vec_len, vec_capacity, IfOk, OnOk, OnErr};
 ghost use Rattle.jx_head.specs.Precinct.{IsBandCells, CellsInRange, cells_in};
-ghost use Rattle.jx_head.specs.Written.{first_leaves, zero_leaves, some_in, next_header, state_of};
+ghost use Rattle.jx_head.specs.Written.{first_leaves, zero_leaves, parts_in, passes_of, some_in, next_header, state_of};
 ghost use Rattle.jx_head.specs.Leafs.{leaf_of};
-ghost use Rattle.jx_head.specs.Writable.{AreDue, BandsDone, AllFew, HeaderDone, AreMade};
+ghost use Rattle.jx_head.specs.Writable.{AreDue, BandsDone, AllFew, AllBytes, HeaderDone, AreMade, IsRising, AreRising};
 ghost use Rattle.jx_head.specs.LeavesFit.{LeavesFit, LeavesInRange, fresh_writes, parts_at, HasShort, AllShort};
 ghost use Rattle.jx_head.specs.ReadBack.{IsOneReading};
 
 use crate::band_out::{BandOut, write_band};
-use crate::put::passes_in;
 use crate::{BandCells, Known, Leaf, Part};
 use jx_base::{NoMemory, Style};
 use jx_tagtree::{BitWriter, TagWriter};
@@ -19,16 +18,18 @@ fn write_bands(
     bands: &mut Vec<BandOut>,
     layer: u16,
     leaves: &[Leaf],
+    rising: bool,
     bits: &mut BitWriter,
 ) -> Result<(), NoMemory>
-    requires { AreDue layer bands.old.items (map leaf_of leaves.now) }
+    requires due { AreDue layer bands.old.items (map leaf_of leaves.now) }
+    requires rising { rising ≡ true → AreRising (map leaf_of leaves.now) }
     ensures { OnOk result (BandsDone layer (map leaf_of leaves.now) bands.old.items bands.new.items bits.old bits.new) }
 {
     let mut base = 0;
     for at in 0..bands.len() {
         let band = &mut bands[at];
         let count = band.blocks.len();
-        write_band(band, layer, &leaves[base..base + count], bits)?;
+        write_band(band, layer, &leaves[base..base + count], rising, bits)?;
         base += count;
     }
     Ok(())
@@ -89,20 +90,60 @@ fn fresh_band(
         zeros: TagWriter::new(alloc, cells.wide, cells.high, &zeros)?,
         planes: cells.planes,
         blocks: vec![in alloc; unknown; count]?,
+        cursors: vec![in alloc; 0; count]?,
     })
 }
 
-/// Whether some block contributes to a layer's packet.
-fn some_contributes(layer: u16, leaves: &[Leaf]) -> bool
-    requires { AllFew (map leaf_of leaves.now) }
-    ensures { result ≡ some_in layer (map leaf_of leaves.now) }
+/// Notes the layers to which a block contributes.
+fn note_layers(some: &mut Vec<bool>, parts: &[(u16, Part)])
+    ensures long { length some.new.items ≡ length some.old.items }
+    ensures each { (layer : ℕ) → layer < length some.old.items →
+        slice_index_or some.new.items layer false ≡ (slice_index_or some.old.items layer false || nat_lt 0 (passes_of (parts_in layer parts.now))) }
 {
-    for leaf in leaves {
-        if passes_in(&leaf.parts, layer) > 0 {
-            return true;
+    for (layer, part) in parts {
+        let at = usize::from(*layer);
+        if part.passes > 0 && at < some.len() {
+            some[at] = true;
         }
     }
-    false
+}
+
+/// For each layer, whether some block contributes to its packet.
+fn contributing(alloc: Global, layers: u16, leaves: &[Leaf]) -> Result<Vec<bool>, NoMemory>
+    ensures long { IfOk result (λ some. length some.items ≡ layers) }
+    ensures each { IfOk result (λ some. (layer : ℕ) → layer < layers → slice_index_or some.items layer false ≡ some_in layer (map leaf_of leaves.now)) }
+{
+    let mut some = vec![in alloc; false; usize::from(layers)]?;
+    for leaf in leaves {
+        note_layers(&mut some, &leaf.parts);
+    }
+    Ok(some)
+}
+
+/// Whether parts stand in the order of their layers.
+fn is_rising(parts: &[(u16, Part)]) -> bool
+    ensures { result ≡ true → IsRising 0 parts.now }
+{
+    let mut last = 0;
+    for (layer, _) in parts {
+        if *layer < last {
+            return false;
+        }
+        last = *layer;
+    }
+    true
+}
+
+/// Whether the parts of each block do.
+fn are_rising(leaves: &[Leaf]) -> bool
+    ensures { result ≡ true → AreRising (map leaf_of leaves.now) }
+{
+    for leaf in leaves {
+        if !is_rising(&leaf.parts) {
+            return false;
+        }
+    }
+    true
 }
 
 /// The bands of which no packet was written.
@@ -115,6 +156,7 @@ fn fresh_bands_out(
     requires bands { CellsInRange bands.now }
     requires all { length leaves.now ≡ cells_in bands.now }
     requires few { AllFew (map leaf_of leaves.now) }
+    requires bytes { AllBytes (map leaf_of leaves.now) }
     ensures { IfOk result (λ made. AreMade layers bands.now (map leaf_of leaves.now) made.items) }
 {
     let mut made = Vec::new(alloc);
@@ -131,24 +173,27 @@ fn fresh_bands_out(
     Ok(made)
 }
 
-/// Writes the header of a layer's packet.
+/// Writes the header of a layer's packet, to which some block contributes or none.
 fn one_header(
     alloc: Global,
     bands: &mut Vec<BandOut>,
     layer: u16,
     leaves: &[Leaf],
+    rising: bool,
+    some: bool,
 ) -> Result<Vec<u8>, NoMemory>
     requires due { AreDue layer bands.old.items (map leaf_of leaves.now) }
-    requires few { AllFew (map leaf_of leaves.now) }
+    requires rising { rising ≡ true → AreRising (map leaf_of leaves.now) }
+    requires some { some ≡ some_in layer (map leaf_of leaves.now) }
     ensures { IfOk result (λ bytes. HeaderDone layer (map leaf_of leaves.now) bands.old.items bands.new.items bytes.items) }
 {
     let mut bits = BitWriter::new(alloc);
-    if !some_contributes(layer, leaves) {
+    if !some {
         bits.bit(false)?;
         return bits.finish();
     }
     bits.bit(true)?;
-    write_bands(bands, layer, leaves, &mut bits)?;
+    write_bands(bands, layer, leaves, rising, &mut bits)?;
     bits.finish()
 }
 
@@ -166,11 +211,18 @@ fn lengths_are_short(parts: &[(u16, Part)])
     }
 }
 
-/// Says so of all blocks' lengths.
-fn all_are_short(leaves: &[Leaf])
-    ensures { AllShort (map leaf_of leaves.now) }
+/// Zero planes are a byte, as their type says.
+fn is_byte(zero: u8)
+    ensures { zero < 2 ^ 8 }
+{}
+
+/// Says so of all blocks.
+fn ranges_of_types(leaves: &[Leaf])
+    ensures short { AllShort (map leaf_of leaves.now) }
+    ensures bytes { AllBytes (map leaf_of leaves.now) }
 {
     for leaf in leaves {
+        is_byte(leaf.zero);
         lengths_are_short(&leaf.parts);
     }
 }
@@ -185,8 +237,10 @@ pub struct PrecinctOut {
     next: u32,
     bands: Vec<BandCells>,
     leaves: Vec<Leaf>,
-    /// The headers of all layers.
-    headers: Vec<Vec<u8>>,
+    /// The headers of all layers, one behind another.
+    headers: Vec<u8>,
+    /// Where each begins, and where the last ends.
+    places: Vec<usize>,
 }
 
 impl Model for PrecinctOut {
@@ -199,7 +253,7 @@ impl Model for PrecinctOut {
 
     ghost view = { λ p. record { style = p.style.bits; layers = p.layers; next = p.next; bands = p.bands.items; leaves = map leaf_of p.leaves.items } };
 
-    ghost invariant = { λ p. IsPlan p.layers p.style.bits p.bands.items (map leaf_of p.leaves.items) (map (λ v. v.items) p.headers.items) };
+    ghost invariant = { λ p. IsPlan p.layers p.style.bits p.bands.items (map leaf_of p.leaves.items) p.headers.items p.places.items };
 }
 
 impl PrecinctOut {
@@ -217,11 +271,18 @@ impl PrecinctOut {
         ensures { IfOk result (λ p. p ≡ record { style = style.bits; layers = layers; next = 0; bands = bands.now; leaves = map leaf_of leaves.items }) }
     {
         // Only proofs rest on it: it does no work.
-        all_are_short(&leaves);
+        ranges_of_types(&leaves);
         let mut made = fresh_bands_out(alloc, bands, layers, &leaves)?;
+        let rising = are_rising(&leaves);
+        let some = contributing(alloc, layers, &leaves)?;
         let mut headers = Vec::new(alloc);
+        let mut places = Vec::new(alloc);
+        places.push(0)?;
         for layer in 0..layers {
-            headers.push(one_header(alloc, &mut made, layer, &leaves)?)?;
+            let here = some[layer as usize];
+            let header = one_header(alloc, &mut made, layer, &leaves, rising, here)?;
+            headers.extend_from_slice(&header)?;
+            places.push(headers.len())?;
         }
         Ok(PrecinctOut {
             style,
@@ -230,6 +291,7 @@ impl PrecinctOut {
             bands: Vec::from_slice(alloc, bands)?,
             leaves,
             headers,
+            places,
         })
     }
 
@@ -245,7 +307,9 @@ impl PrecinctOut {
             IsOneReading (next_header self.old ++ rest) (state_of self.old) (parts_at layer self.old.leaves) (length (next_header self.old)) (state_of self.new)) }
         ensures room { OnErr result (vec_capacity out.old < vec_len out.old + length (next_header self.old)) }
     {
-        out.extend_from_slice(&self.headers[layer as usize])?;
+        let start = self.places[layer as usize];
+        let end = self.places[layer as usize + 1];
+        out.extend_from_slice(&self.headers[start..end])?;
         self.next += 1;
         Ok(())
     }

@@ -16,14 +16,14 @@ fn few(leaves: &[Leaf]) -> bool
     ensures { IsTrue result → AllFew (map leaf_of leaves.now) }
 {
     for leaf in leaves {
-        if !few_passes(leaf.zero, &leaf.parts) {
+        if !few_passes(&leaf.parts) {
             return false;
         }
     }
     true
 }
 
-fn few_passes(_zero: u8, parts: &[(u16, Part)]) -> bool
+fn few_passes(parts: &[(u16, Part)]) -> bool
     ensures { IsTrue result → all_passes parts.now < 2 ^ 16 }
 {
     let mut passes: u32 = 0;
@@ -313,6 +313,46 @@ fn refusals(rt: HostRuntime) -> Result<(), Fail> {
             Err(HeadFault::Bits)
         );
     }
+    Ok(())
+}
+
+/// Two packets that include no block, and a third that includes the first of two.
+#[test]
+fn packets_that_include_nothing(rt: HostRuntime) -> Result<(), Fail> {
+    let two = BandCells {
+        wide: 2,
+        high: 1,
+        planes: 9,
+    };
+    let bands = [two];
+    assert!(rt; in_range(&bands));
+    let mut precinct = Precinct::new(rt.alloc(), &bands, PLAIN)?;
+    assert_eq!(rt; precinct.read_header(0, &[0x80])?.1, 1);
+    assert_eq!(rt; precinct.read_header(1, &[0x80])?.1, 1);
+    let (parts, used) = precinct.read_header(2, &[0xf8, 0x00])?;
+    assert_eq!(rt; parts.as_slice(), [part(0, 0, 1, 0)].as_slice());
+    assert_eq!(rt; used, 2);
+    Ok(())
+}
+
+/// A second packet has one pass more than the one plane allows.
+#[test]
+fn too_many_passes_later(rt: HostRuntime) -> Result<(), Fail> {
+    let thin = BandCells {
+        wide: 1,
+        high: 1,
+        planes: 1,
+    };
+    let bands = [thin];
+    assert!(rt; in_range(&bands));
+    let mut precinct = Precinct::new(rt.alloc(), &bands, PLAIN)?;
+    let (parts, used) = precinct.read_header(0, &[0xe0])?;
+    assert_eq!(rt; parts.as_slice(), [part(0, 0, 1, 0)].as_slice());
+    assert_eq!(rt; used, 1);
+    assert_eq!(rt;
+        precinct.read_header(1, &[0xc0]).err(),
+        Some(HeadFault::Planes)
+    );
     Ok(())
 }
 

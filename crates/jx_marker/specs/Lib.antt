@@ -1,3 +1,4 @@
+pub mod Codes
 pub mod Markers
 pub mod Values
 pub mod Segments

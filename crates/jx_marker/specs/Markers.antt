@@ -1,14 +1,15 @@
 -- The markers by their second byte, the first being FF (T.800, Table A.2).
 use Rattle.std.specs.Prelude.{ℕ, ◌+◌, ◌*◌, ◌%◌, ◌==◌, ◌&&◌, ◌||◌, nat_lt, nat_le, Bool, [], ◌∷◌, if◌then◌else◌}
 use Rattle.std.specs.List.{list_any}
+use Rattle.jx_marker.specs.Codes.{SOC, SIZ, COD, COC, TLM, PLM, PLT, QCD, QCC, RGN, POC, PPM, PPT, CRG, COM, SOT, SOD, EOC}
 
 -- SIZ, COD, COC, TLM, PLM, PLT, QCD, QCC, RGN, POC, PPM, PPT, CRG, COM, SOT: a length follows
 abbrev pub has_length : ℕ → Bool
-has_length code = list_any (λ marker. code == marker) (81 ∷ 82 ∷ 83 ∷ 85 ∷ 87 ∷ 88 ∷ 92 ∷ 93 ∷ 94 ∷ 95 ∷ 96 ∷ 97 ∷ 99 ∷ 100 ∷ 144 ∷ [])
+has_length code = list_any (λ marker. code == marker) (SIZ ∷ COD ∷ COC ∷ TLM ∷ PLM ∷ PLT ∷ QCD ∷ QCC ∷ RGN ∷ POC ∷ PPM ∷ PPT ∷ CRG ∷ COM ∷ SOT ∷ [])
 
 -- SOC, SOD, EOC, and FF30 to FF3F, which no reader needs: no length follows
 abbrev pub stands_alone : ℕ → Bool
-stands_alone code = list_any (λ marker. code == marker) (79 ∷ 147 ∷ 217 ∷ []) || (nat_le 48 code && nat_le code 63)
+stands_alone code = list_any (λ marker. code == marker) (SOC ∷ SOD ∷ EOC ∷ []) || (nat_le 48 code && nat_le code 63)
 
 -- the bytes of a component's index: two where the picture has 257 components or more (A.6.2)
 abbrev pub index_size : ℕ → ℕ

@@ -10,6 +10,7 @@ use Rattle.jx_marker.specs.declared.Progression.{Progression}
 use Rattle.jx_marker.specs.Markers.{has_length, stands_alone, index_size, entry_size, progression_size}
 use Rattle.jx_marker.specs.Values.{siz_at, poc_at, index_at}
 use Rattle.jx_marker.specs.Segments.{code_at, length_at, body_at}
+use Rattle.jx_marker.specs.Codes.{SIZ, COD, COC, TLM, PLM, PLT, QCD, QCC, RGN, POC}
 
 -- rule 2: two bytes that are no marker (Table A.2), or SOP or EPH, which stand in tile data alone (A.8)
 unfoldable pub breaks_2 : List ℕ → Bool
@@ -23,13 +24,13 @@ breaks_14 bytes = nat_le 2 (length bytes) && ((code_at bytes == 96) || (code_at 
 -- QCD, QCC and RGN, and one entry in POC
 abbrev pub least_length : ℕ → ℕ → ℕ
 least_length comps code =
-    if code == 81 then 38
-    else if code == 82 then 8
-    else if code == 83 then 4 + index_size comps
-    else if code == 92 then 3
-    else if code == 93 then 3 + index_size comps
-    else if code == 94 then 3 + index_size comps
-    else if code == 95 then 2 + progression_size comps
+    if code == SIZ then 38
+    else if code == COD then 8
+    else if code == COC then 4 + index_size comps
+    else if code == QCD then 3
+    else if code == QCC then 3 + index_size comps
+    else if code == RGN then 3 + index_size comps
+    else if code == POC then 2 + progression_size comps
     else 2
 
 -- rule 1: no room for a marker or a length, or a length that is too short, past the end, or not the one of SOT
@@ -44,7 +45,7 @@ breaks_1 comps bytes = nat_lt (length bytes) 2
 
 -- rule 3: the length of SIZ isn't that of its components (A.5.1)
 unfoldable pub breaks_3 : ℕ → List ℕ → Bool
-breaks_3 code body = (code == 81) && not (2 + length body == 38 + 3 * big_from 34 2 body)
+breaks_3 code body = (code == SIZ) && not (2 + length body == 38 + 3 * big_from 34 2 body)
 
 -- one axis: the canvas isn't empty, and the first tile meets it (B.2, B.3)
 abbrev pub axis_fits : ℕ → ℕ → ℕ → ℕ → Bool
@@ -61,15 +62,15 @@ siz_fits siz = nat_lt 0 (length siz.comps) && (nat_le (length siz.comps) 16384
 
 -- rule 4: the number of components, a depth, a subsampling factor, or the canvas and its tiles
 unfoldable pub breaks_4 : ℕ → List ℕ → Bool
-breaks_4 code body = (code == 81) && not (siz_fits (siz_at body))
+breaks_4 code body = (code == SIZ) && not (siz_fits (siz_at body))
 
 -- rule 5: Rsiz asks for Part 2 or Part 15 (bits 15 and 14; Table A.10)
 unfoldable pub breaks_5 : ℕ → List ℕ → Bool
-breaks_5 code body = (code == 81) && nat_le (2 ^ 14) (siz_at body).rsiz
+breaks_5 code body = (code == SIZ) && nat_le (2 ^ 14) (siz_at body).rsiz
 
 -- where the number of levels stands in COD and in COC
 abbrev pub shape_place : ℕ → ℕ → ℕ
-shape_place comps code = if code == 82 then 5 else 1 + index_size comps
+shape_place comps code = if code == COD then 5 else 1 + index_size comps
 
 -- from the number of levels on: the length, by the flags' bit 0, and the ranges (Table A.15)
 abbrev pub shape_fits : ℕ → ℕ → List ℕ → Bool
@@ -84,11 +85,11 @@ cod_fits body = nat_lt (slice_index body 0) 8 && (nat_le (slice_index body 1) 4 
 -- rule 6: the length of COD or COC isn't that of its fields, or a field is out of its range (A.6.1, A.6.2)
 unfoldable pub breaks_6 : ℕ → ℕ → List ℕ → Bool
 breaks_6 comps code body =
-    ((code == 82) && not (cod_fits body && shape_fits (slice_index body 0) 5 body))
-    || ((code == 83) && not (nat_lt (slice_index body (index_size comps)) 2 && shape_fits (slice_index body (index_size comps)) (1 + index_size comps) body))
+    ((code == COD) && not (cod_fits body && shape_fits (slice_index body 0) 5 body))
+    || ((code == COC) && not (nat_lt (slice_index body (index_size comps)) 2 && shape_fits (slice_index body (index_size comps)) (1 + index_size comps) body))
 
 abbrev pub is_coding : ℕ → Bool
-is_coding code = (code == 82) || (code == 83)
+is_coding code = (code == COD) || (code == COC)
 
 -- rule 7: bit 6 or 7 of the code-block style (Table A.19)
 unfoldable pub breaks_7 : ℕ → ℕ → List ℕ → Bool
@@ -109,11 +110,11 @@ quant_fits at body = nat_le (slice_index body at % 32) 2
 
 -- rule 9: a quantization style over 2, no whole entry, or half an entry (A.6.4, A.6.5)
 unfoldable pub breaks_9 : ℕ → ℕ → List ℕ → Bool
-breaks_9 comps code body = ((code == 92) && not (quant_fits 0 body)) || ((code == 93) && not (quant_fits (index_size comps) body))
+breaks_9 comps code body = ((code == QCD) && not (quant_fits 0 body)) || ((code == QCC) && not (quant_fits (index_size comps) body))
 
 -- rule 10: RGN's length isn't that of its fields, or Srgn isn't 0 (A.6.3)
 unfoldable pub breaks_10 : ℕ → ℕ → List ℕ → Bool
-breaks_10 comps code body = (code == 94) && not ((length body == index_size comps + 2) && (slice_index body (index_size comps) == 0))
+breaks_10 comps code body = (code == RGN) && not ((length body == index_size comps + 2) && (slice_index body (index_size comps) == 0))
 
 -- an entry of POC that names some resolutions, components and layers, and one of the five orders
 abbrev pub progression_fits : Progression → Bool
@@ -121,15 +122,15 @@ progression_fits entry = nat_lt entry.rs entry.re && (((entry.ce == 0) || nat_lt
 
 -- rule 11: POC isn't whole entries, or one of them is out of range (A.6.6)
 unfoldable pub breaks_11 : ℕ → ℕ → List ℕ → Bool
-breaks_11 comps code body = (code == 95) && not ((length body % progression_size comps == 0) && list_all progression_fits (poc_at comps body))
+breaks_11 comps code body = (code == POC) && not ((length body % progression_size comps == 0) && list_all progression_fits (poc_at comps body))
 
 -- rule 12: a component's index isn't below the number of components (A.6.2, A.6.3, A.6.5)
 unfoldable pub breaks_12 : ℕ → ℕ → List ℕ → Bool
-breaks_12 comps code body = ((code == 83) || ((code == 93) || (code == 94))) && nat_le comps (index_at comps 0 body)
+breaks_12 comps code body = ((code == COC) || ((code == QCC) || (code == RGN))) && nat_le comps (index_at comps 0 body)
 
 -- rule 13: PLT or PLM is shorter than 3, or TLM than 4 (A.7.1 to A.7.3)
 unfoldable pub breaks_13 : ℕ → List ℕ → Bool
-breaks_13 code body = (((code == 87) || (code == 88)) && nat_lt (2 + length body) 3) || ((code == 85) && nat_lt (2 + length body) 4)
+breaks_13 code body = (((code == PLM) || (code == PLT)) && nat_lt (2 + length body) 3) || ((code == TLM) && nat_lt (2 + length body) 4)
 
 -- the number of the first test that is true
 abbrev pub first_true : List (ℕ × Bool) → Option ℕ

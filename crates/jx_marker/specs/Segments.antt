@@ -5,6 +5,7 @@ use Rattle.jx_marker.specs.declared.Segment.{Segment}
 use Rattle.jx_marker.specs.declared.Segment.TheVariants as segment
 use Rattle.jx_marker.specs.Markers.{has_length, index_size}
 use Rattle.jx_marker.specs.Values.{siz_bytes, siz_at, shape_bytes, shape_at, precinct_bit, cod_bytes, cod_at, index_bytes, index_at, quant_bytes, quant_at, poc_bytes, poc_at, sot_bytes, sot_at}
+use Rattle.jx_marker.specs.Codes.{SOC, SIZ, COD, COC, TLM, PLM, PLT, QCD, QCC, RGN, POC, CRG, COM, SOT, SOD, EOC}
 
 -- a marker alone
 abbrev pub marker : ℕ → List ℕ
@@ -16,22 +17,22 @@ with_length code body = 255 ∷ code ∷ (big_bytes 2 (2 + length body) ++ body)
 
 -- the bytes of a segment in a picture of so many components
 abbrev pub spelling : ℕ → Segment → List ℕ
-spelling comps segment.Soc = marker 79
-spelling comps (segment.Siz siz) = with_length 81 (siz_bytes siz)
-spelling comps (segment.Cod cod) = with_length 82 (cod_bytes cod)
-spelling comps (segment.Coc comp shape) = with_length 83 (index_bytes comps comp ++ precinct_bit shape ∷ shape_bytes shape)
-spelling comps (segment.Qcd quant) = with_length 92 (quant_bytes quant)
-spelling comps (segment.Qcc comp quant) = with_length 93 (index_bytes comps comp ++ quant_bytes quant)
-spelling comps (segment.Rgn comp shift) = with_length 94 (index_bytes comps comp ++ 0 ∷ shift ∷ [])
-spelling comps (segment.Poc entries) = with_length 95 (poc_bytes comps entries)
-spelling comps (segment.Crg bytes) = with_length 99 bytes
-spelling comps (segment.Com bytes) = with_length 100 bytes
-spelling comps (segment.Plt bytes) = with_length 88 bytes
-spelling comps (segment.Plm bytes) = with_length 87 bytes
-spelling comps (segment.Tlm bytes) = with_length 85 bytes
-spelling comps (segment.Sot sot) = with_length 144 (sot_bytes sot)
-spelling comps segment.Sod = marker 147
-spelling comps segment.Eoc = marker 217
+spelling comps segment.Soc = marker SOC
+spelling comps (segment.Siz siz) = with_length SIZ (siz_bytes siz)
+spelling comps (segment.Cod cod) = with_length COD (cod_bytes cod)
+spelling comps (segment.Coc comp shape) = with_length COC (index_bytes comps comp ++ precinct_bit shape ∷ shape_bytes shape)
+spelling comps (segment.Qcd quant) = with_length QCD (quant_bytes quant)
+spelling comps (segment.Qcc comp quant) = with_length QCC (index_bytes comps comp ++ quant_bytes quant)
+spelling comps (segment.Rgn comp shift) = with_length RGN (index_bytes comps comp ++ 0 ∷ shift ∷ [])
+spelling comps (segment.Poc entries) = with_length POC (poc_bytes comps entries)
+spelling comps (segment.Crg bytes) = with_length CRG bytes
+spelling comps (segment.Com bytes) = with_length COM bytes
+spelling comps (segment.Plt bytes) = with_length PLT bytes
+spelling comps (segment.Plm bytes) = with_length PLM bytes
+spelling comps (segment.Tlm bytes) = with_length TLM bytes
+spelling comps (segment.Sot sot) = with_length SOT (sot_bytes sot)
+spelling comps segment.Sod = marker SOD
+spelling comps segment.Eoc = marker EOC
 spelling comps (segment.Skipped code) = marker code
 
 -- the second byte of the marker at the front
@@ -53,26 +54,26 @@ size_at bytes = if has_length (code_at bytes) then 2 + length_at bytes else 2
 -- the segment of this marker whose length is followed by these bytes
 abbrev pub value_of : ℕ → ℕ → List ℕ → Segment
 value_of comps code body =
-    if code == 81 then segment.Siz (siz_at body)
-    else if code == 82 then segment.Cod (cod_at body)
-    else if code == 83 then segment.Coc (index_at comps 0 body) (shape_at (1 + index_size comps) body)
-    else if code == 92 then segment.Qcd (quant_at 0 body)
-    else if code == 93 then segment.Qcc (index_at comps 0 body) (quant_at (index_size comps) body)
-    else if code == 94 then segment.Rgn (index_at comps 0 body) (slice_index body (1 + index_size comps))
-    else if code == 95 then segment.Poc (poc_at comps body)
-    else if code == 99 then segment.Crg body
-    else if code == 100 then segment.Com body
-    else if code == 88 then segment.Plt body
-    else if code == 87 then segment.Plm body
-    else if code == 85 then segment.Tlm body
+    if code == SIZ then segment.Siz (siz_at body)
+    else if code == COD then segment.Cod (cod_at body)
+    else if code == COC then segment.Coc (index_at comps 0 body) (shape_at (1 + index_size comps) body)
+    else if code == QCD then segment.Qcd (quant_at 0 body)
+    else if code == QCC then segment.Qcc (index_at comps 0 body) (quant_at (index_size comps) body)
+    else if code == RGN then segment.Rgn (index_at comps 0 body) (slice_index body (1 + index_size comps))
+    else if code == POC then segment.Poc (poc_at comps body)
+    else if code == CRG then segment.Crg body
+    else if code == COM then segment.Com body
+    else if code == PLT then segment.Plt body
+    else if code == PLM then segment.Plm body
+    else if code == TLM then segment.Tlm body
     else segment.Sot (sot_at body)
 
 -- the segment of a marker without a length
 abbrev pub alone : ℕ → Segment
 alone code =
-    if code == 79 then segment.Soc
-    else if code == 147 then segment.Sod
-    else if code == 217 then segment.Eoc
+    if code == SOC then segment.Soc
+    else if code == SOD then segment.Sod
+    else if code == EOC then segment.Eoc
     else segment.Skipped code
 
 -- the segment that stands at the front of these bytes, where no rule is violated there

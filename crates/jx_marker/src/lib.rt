@@ -1,11 +1,14 @@
 //! Marker segments of a JPEG 2000 codestream (ITU-T T.800, Annex A), read and written exactly.
 #![tactic(auto)]
 
+pub mod codes;
+mod copies;
 mod fields;
 pub mod laws;
 mod lists;
 mod markers;
 mod numbers;
+mod packets;
 mod put;
 mod read;
 mod rules;
@@ -13,6 +16,7 @@ mod rules;
 mod tests;
 
 pub use lists::{Bytes, CompSizes, Numbers, Progressions};
+pub use packets::{eph, sop};
 pub use put::put_segment;
 pub use read::read_segment;
 

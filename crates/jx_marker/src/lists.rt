@@ -1,6 +1,7 @@
-ghost use Rattle.std.specs.Prelude.{◌≡◌, length};
+ghost use Rattle.std.specs.Prelude.{◌≡◌, IfOk, length};
 
 use crate::{CompSize, Progression};
+use jx_base::NoMemory;
 use std::marker::Model;
 
 /// Bytes of a segment, which contracts see as a list.
@@ -30,6 +31,15 @@ impl Bytes {
         ensures { result.now ≡ self.now }
     {
         &self.items
+    }
+
+    /// The same items again, in memory of their own.
+    pub fn copy(&self) -> Result<Self, NoMemory>
+        ensures { IfOk result (λ copy. copy ≡ self.now) }
+    {
+        Ok(Bytes {
+            items: self.items.clone()?,
+        })
     }
 
     /// The items as the `Vec` that they came in.
@@ -68,6 +78,15 @@ impl Numbers {
         ensures { result.now ≡ self.now }
     {
         &self.items
+    }
+
+    /// The same items again, in memory of their own.
+    pub fn copy(&self) -> Result<Self, NoMemory>
+        ensures { IfOk result (λ copy. copy ≡ self.now) }
+    {
+        Ok(Numbers {
+            items: self.items.clone()?,
+        })
     }
 
     /// The items as the `Vec` that they came in.
@@ -109,6 +128,15 @@ impl CompSizes {
         &self.items
     }
 
+    /// The same items again, in memory of their own.
+    pub fn copy(&self) -> Result<Self, NoMemory>
+        ensures { IfOk result (λ copy. copy ≡ self.now) }
+    {
+        Ok(CompSizes {
+            items: self.items.clone()?,
+        })
+    }
+
     /// The items as the `Vec` that they came in.
     pub fn into_vec(self) -> Vec<CompSize>
         ensures { result.items ≡ self }
@@ -146,6 +174,15 @@ impl Progressions {
         ensures { result.now ≡ self.now }
     {
         &self.items
+    }
+
+    /// The same items again, in memory of their own.
+    pub fn copy(&self) -> Result<Self, NoMemory>
+        ensures { IfOk result (λ copy. copy ≡ self.now) }
+    {
+        Ok(Progressions {
+            items: self.items.clone()?,
+        })
     }
 
     /// The items as the `Vec` that they came in.

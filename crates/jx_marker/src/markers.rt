@@ -1,42 +1,9 @@
 ghost use Rattle.std.specs.Prelude.{◌≡◌, ◌≤◌};
 ghost use Rattle.jx_marker.specs.Markers.{has_length, stands_alone, index_size, entry_size, progression_size};
 
-/// The markers' second bytes (T.800, Table A.2).
-pub const SOC: u8 = 0x4F;
-
-pub const SIZ: u8 = 0x51;
-
-pub const COD: u8 = 0x52;
-
-pub const COC: u8 = 0x53;
-
-pub const TLM: u8 = 0x55;
-
-pub const PLM: u8 = 0x57;
-
-pub const PLT: u8 = 0x58;
-
-pub const QCD: u8 = 0x5C;
-
-pub const QCC: u8 = 0x5D;
-
-pub const RGN: u8 = 0x5E;
-
-pub const POC: u8 = 0x5F;
-
-pub const PPM: u8 = 0x60;
-
-pub const PPT: u8 = 0x61;
-
-pub const CRG: u8 = 0x63;
-
-pub const COM: u8 = 0x64;
-
-pub const SOT: u8 = 0x90;
-
-pub const SOD: u8 = 0x93;
-
-pub const EOC: u8 = 0xD9;
+use crate::codes::{
+    COC, COD, COM, CRG, EOC, PLM, PLT, POC, PPM, PPT, QCC, QCD, RGN, SIZ, SOC, SOD, SOT, TLM,
+};
 
 /// Whether a length follows this marker.
 pub fn has_length(code: u8) -> bool

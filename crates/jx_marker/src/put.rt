@@ -5,11 +5,12 @@ ghost use Rattle.jx_marker.specs.Markers.{index_size, entry_size};
 ghost use Rattle.jx_marker.specs.Values.{siz_bytes, canvas_bytes, comp_size_bytes, shape_bytes, precinct_bit, scod, cod_bytes, index_bytes, quant_bytes, progression_bytes, poc_bytes, sot_bytes};
 ghost use Rattle.jx_marker.specs.Segments.{spelling, with_length};
 ghost use Rattle.jx_marker.specs.Ranges.{InRange, SizInRange, ShapeInRange, CodInRange, CocInRange, QuantInRange, QccInRange, RgnInRange, ProgressionInRange, PocInRange, BytesInRange, SotInRange};
+ghost use Rattle.jx_marker.specs.Codes.{SIZ, COD, QCD, POC, SOT};
 
-use crate::markers::{
-    COC, COD, COM, CRG, EOC, PLM, PLT, POC, QCC, QCD, RGN, SIZ, SOC, SOD, SOT, TLM, entry_size,
-    index_size, progression_size,
+use crate::codes::{
+    COC, COD, COM, CRG, EOC, PLM, PLT, POC, QCC, QCD, RGN, SIZ, SOC, SOD, SOT, TLM,
 };
+use crate::markers::{entry_size, index_size, progression_size};
 use crate::numbers::{put_narrow, put_u16, put_u32};
 use crate::{Cod, CompSize, Progression, Quant, Segment, Shape, Siz, Sot};
 use jx_base::NoMemory;
@@ -71,7 +72,7 @@ fn put_siz_body(out: &mut Vec<u8>, siz: &Siz) -> Result<(), AllocError>
 #[tactic(auto, using(crate::proofs::PutLemmas::fronted, crate::proofs::PutLemmas::length_siz, crate::proofs::PutLemmas::most_comps))]
 fn put_siz(out: &mut Vec<u8>, siz: &Siz) -> Result<(), AllocError>
     requires { SizInRange siz.now }
-    ensures ok { OnOk result (out.new.items ≡ out.old.items ++ with_length 81 (siz_bytes siz.now)) }
+    ensures ok { OnOk result (out.new.items ≡ out.old.items ++ with_length SIZ (siz_bytes siz.now)) }
     ensures front { take (length out.old.items) out.new.items ≡ out.old.items }
 {
     put_front(out, SIZ, 36 + 3 * siz.comps.as_slice().len())?;
@@ -125,7 +126,7 @@ fn put_cod_body(out: &mut Vec<u8>, cod: &Cod) -> Result<(), AllocError>
 #[tactic(auto, using(crate::proofs::PutLemmas::fronted, crate::proofs::PutLemmas::length_cod))]
 fn put_cod(out: &mut Vec<u8>, cod: &Cod) -> Result<(), AllocError>
     requires { CodInRange cod.now }
-    ensures ok { OnOk result (out.new.items ≡ out.old.items ++ with_length 82 (cod_bytes cod.now)) }
+    ensures ok { OnOk result (out.new.items ≡ out.old.items ++ with_length COD (cod_bytes cod.now)) }
     ensures front { take (length out.old.items) out.new.items ≡ out.old.items }
 {
     put_front(out, COD, 10 + cod.shape.precincts.as_slice().len())?;
@@ -170,7 +171,7 @@ fn put_quant(out: &mut Vec<u8>, quant: &Quant) -> Result<(), AllocError>
 #[tactic(auto, using(crate::proofs::PutLemmas::fronted, crate::proofs::PutLemmas::length_quant))]
 fn put_qcd(out: &mut Vec<u8>, quant: &Quant) -> Result<(), AllocError>
     requires { QuantInRange quant.now 0 }
-    ensures ok { OnOk result (out.new.items ≡ out.old.items ++ with_length 92 (quant_bytes quant.now)) }
+    ensures ok { OnOk result (out.new.items ≡ out.old.items ++ with_length QCD (quant_bytes quant.now)) }
     ensures front { take (length out.old.items) out.new.items ≡ out.old.items }
 {
     put_front(
@@ -249,7 +250,7 @@ fn put_progressions(
 #[tactic(auto, using(crate::proofs::PutLemmas::fronted, crate::proofs::PutLemmas::length_poc))]
 fn put_poc(out: &mut Vec<u8>, comps: u16, entries: &[Progression]) -> Result<(), AllocError>
     requires { PocInRange comps entries.now }
-    ensures ok { OnOk result (out.new.items ≡ out.old.items ++ with_length 95 (poc_bytes comps entries.now)) }
+    ensures ok { OnOk result (out.new.items ≡ out.old.items ++ with_length POC (poc_bytes comps entries.now)) }
     ensures front { take (length out.old.items) out.new.items ≡ out.old.items }
 {
     put_front(out, POC, entries.len() * progression_size(comps))?;
@@ -267,7 +268,7 @@ fn put_bytes(out: &mut Vec<u8>, code: u8, bytes: &[u8]) -> Result<(), AllocError
 }
 
 fn put_sot(out: &mut Vec<u8>, sot: Sot) -> Result<(), AllocError>
-    ensures ok { OnOk result (out.new.items ≡ out.old.items ++ with_length 144 (sot_bytes sot)) }
+    ensures ok { OnOk result (out.new.items ≡ out.old.items ++ with_length SOT (sot_bytes sot)) }
     ensures front { take (length out.old.items) out.new.items ≡ out.old.items }
 {
     put_front(out, SOT, 8)?;

@@ -5,12 +5,11 @@ ghost use Rattle.jx_marker.specs.Segments.{spelling, segment_at, size_at, value_
 ghost use Rattle.jx_marker.specs.Rules.{first_broken, first_true, rules_inside, least_length};
 ghost use Rattle.jx_marker.specs.Ranges.{InRange};
 ghost use Rattle.jx_marker.specs.Laws.{StandsAt, BeginsWith};
+ghost use Rattle.jx_marker.specs.Codes.{SOT};
 
+use crate::codes::{COC, COD, COM, CRG, EOC, PLM, PLT, POC, QCC, QCD, RGN, SIZ, SOC, SOD, TLM};
 use crate::fields::{bytes_of, read_cod, read_poc, read_quant, read_shape, read_siz, read_sot};
-use crate::markers::{
-    COC, COD, COM, CRG, EOC, PLM, PLT, POC, QCC, QCD, RGN, SIZ, SOC, SOD, TLM, has_length,
-    index_size,
-};
+use crate::markers::{has_length, index_size};
 use crate::numbers::{narrow_at, u16_at};
 use crate::rules::{body_of, first_broken};
 use crate::{Rule, Segment};
@@ -19,7 +18,7 @@ use std::alloc::{AllocError, Global};
 fn value_of(alloc: Global, comps: u16, code: u8, body: &[u8]) -> Result<Segment, AllocError>
     requires room { least_length comps code ≤ 2 + length body.now }
     requires rules { first_true (rules_inside comps code body.now) ≡ None }
-    requires sot { code ≡ 144 → length body.now ≡ 8 }
+    requires sot { code ≡ SOT → length body.now ≡ 8 }
     requires marker { has_length code ≡ true }
     requires not_ppm { code ≢ 96 }
     requires not_ppt { code ≢ 97 }

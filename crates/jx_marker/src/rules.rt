@@ -5,12 +5,11 @@ ghost use Rattle.jx_marker.specs.Markers.{has_length, stands_alone, index_size, 
 ghost use Rattle.jx_marker.specs.Values.{values_from, comp_size_at, siz_at, progression_at, poc_at, index_at};
 ghost use Rattle.jx_marker.specs.Segments.{code_at, length_at, body_at};
 ghost use Rattle.jx_marker.specs.Rules.{breaks_1, breaks_2, breaks_3, breaks_4, breaks_5, breaks_6, breaks_7, breaks_8, breaks_9, breaks_10, breaks_11, breaks_12, breaks_13, breaks_14, least_length, axis_fits, comp_size_fits, siz_fits, shape_fits, shape_place, cod_fits, has_zero_exponent, quant_fits, progression_fits, first_true, rules_inside, first_broken};
+ghost use Rattle.jx_marker.specs.Codes.{SIZ, COD, COC, QCD, QCC, RGN, POC};
 
+use crate::codes::{COC, COD, PLM, PLT, POC, PPM, PPT, QCC, QCD, RGN, SIZ, SOT, TLM};
 use crate::fields::{comp_size_at, progression_at};
-use crate::markers::{
-    COC, COD, PLM, PLT, POC, PPM, PPT, QCC, QCD, RGN, SIZ, SOT, TLM, entry_size, has_length,
-    index_size, progression_size, stands_alone,
-};
+use crate::markers::{entry_size, has_length, index_size, progression_size, stands_alone};
 use crate::numbers::{narrow_at, u16_at, u32_at};
 use crate::{CompSize, Progression};
 
@@ -67,7 +66,7 @@ fn breaks_length(comps: u16, bytes: &[u8]) -> bool
 #[tactic(auto, unfolding(crate::specs::Rules::breaks_3))]
 fn breaks_component_count(body: &[u8]) -> bool
     requires { 36 ≤ length body.now }
-    ensures value { result ≡ breaks_3 81 body.now }
+    ensures value { result ≡ breaks_3 SIZ body.now }
     ensures whole { result ≡ false → 36 + 3 * big_from 34 2 body.now ≤ length body.now }
 {
     2 + body.len() != 38 + 3 * usize::from(u16_at(body, 34))
@@ -120,7 +119,7 @@ fn comp_sizes_fit(body: &[u8], count: u16) -> bool
 #[tactic(auto, using(crate::proofs::ValueLemmas::length_values), unfolding(crate::specs::Rules::breaks_4))]
 fn breaks_canvas(body: &[u8]) -> bool
     requires { 36 + 3 * big_from 34 2 body.now ≤ length body.now }
-    ensures { result ≡ breaks_4 81 body.now }
+    ensures { result ≡ breaks_4 SIZ body.now }
 {
     let count = u16_at(body, 34);
     if count == 0 || count > 16384 {
@@ -139,14 +138,14 @@ fn breaks_canvas(body: &[u8]) -> bool
 #[tactic(auto, unfolding(crate::specs::Rules::breaks_5))]
 fn breaks_capabilities(body: &[u8]) -> bool
     requires { 36 ≤ length body.now }
-    ensures { result ≡ breaks_5 81 body.now }
+    ensures { result ≡ breaks_5 SIZ body.now }
 {
     u16_at(body, 0) >= 0x4000
 }
 
 fn siz_rule(body: &[u8]) -> Option<u8>
     requires { 36 ≤ length body.now }
-    ensures { result ≡ first_true ((3, breaks_3 81 body.now) ∷ (4, breaks_4 81 body.now) ∷ (5, breaks_5 81 body.now) ∷ []) }
+    ensures { result ≡ first_true ((3, breaks_3 SIZ body.now) ∷ (4, breaks_4 SIZ body.now) ∷ (5, breaks_5 SIZ body.now) ∷ []) }
 {
     if breaks_component_count(body) {
         return Some(3);
@@ -197,7 +196,7 @@ fn has_zero_exponent(sizes: u8) -> bool
 #[tactic(auto, unfolding(crate::specs::Rules::breaks_6))]
 fn breaks_default_coding(comps: u16, body: &[u8]) -> bool
     requires { 6 ≤ length body.now }
-    ensures { result ≡ breaks_6 comps 82 body.now }
+    ensures { result ≡ breaks_6 comps COD body.now }
 {
     !(cod_fits(body) && shape_fits(body[0], 5, body))
 }
@@ -206,7 +205,7 @@ fn breaks_default_coding(comps: u16, body: &[u8]) -> bool
 #[tactic(auto, unfolding(crate::specs::Rules::breaks_6))]
 fn breaks_component_coding(comps: u16, body: &[u8]) -> bool
     requires { 2 + index_size comps ≤ length body.now }
-    ensures { result ≡ breaks_6 comps 83 body.now }
+    ensures { result ≡ breaks_6 comps COC body.now }
 {
     let flags = body[index_size(comps)];
     !(flags < 2 && shape_fits(flags, 1 + index_size(comps), body))
@@ -241,7 +240,7 @@ fn breaks_index(comps: u16, body: &[u8]) -> bool
 #[tactic(auto, unfolding(crate::specs::Rules::breaks_6, crate::specs::Rules::breaks_7, crate::specs::Rules::breaks_8))]
 fn cod_rule(comps: u16, body: &[u8]) -> Option<u8>
     requires { 6 ≤ length body.now }
-    ensures { result ≡ first_true ((6, breaks_6 comps 82 body.now) ∷ (7, breaks_7 comps 82 body.now) ∷ (8, breaks_8 comps 82 body.now) ∷ []) }
+    ensures { result ≡ first_true ((6, breaks_6 comps COD body.now) ∷ (7, breaks_7 comps COD body.now) ∷ (8, breaks_8 comps COD body.now) ∷ []) }
 {
     if breaks_default_coding(comps, body) {
         return Some(6);
@@ -258,7 +257,7 @@ fn cod_rule(comps: u16, body: &[u8]) -> Option<u8>
 #[tactic(auto, unfolding(crate::specs::Rules::breaks_6, crate::specs::Rules::breaks_7, crate::specs::Rules::breaks_8, crate::specs::Rules::breaks_12))]
 fn coc_rule(comps: u16, body: &[u8]) -> Option<u8>
     requires { 2 + index_size comps ≤ length body.now }
-    ensures { result ≡ first_true ((6, breaks_6 comps 83 body.now) ∷ (7, breaks_7 comps 83 body.now) ∷ (8, breaks_8 comps 83 body.now) ∷ (12, breaks_12 comps 83 body.now) ∷ []) }
+    ensures { result ≡ first_true ((6, breaks_6 comps COC body.now) ∷ (7, breaks_7 comps COC body.now) ∷ (8, breaks_8 comps COC body.now) ∷ (12, breaks_12 comps COC body.now) ∷ []) }
 {
     if breaks_component_coding(comps, body) {
         return Some(6);
@@ -290,7 +289,7 @@ fn quant_fits(at: usize, body: &[u8]) -> bool
 #[tactic(auto, unfolding(crate::specs::Rules::breaks_9))]
 fn qcd_rule(comps: u16, body: &[u8]) -> Option<u8>
     requires { 1 ≤ length body.now }
-    ensures { result ≡ first_true ((9, breaks_9 comps 92 body.now) ∷ []) }
+    ensures { result ≡ first_true ((9, breaks_9 comps QCD body.now) ∷ []) }
 {
     if quant_fits(0, body) { None } else { Some(9) }
 }
@@ -298,7 +297,7 @@ fn qcd_rule(comps: u16, body: &[u8]) -> Option<u8>
 #[tactic(auto, unfolding(crate::specs::Rules::breaks_9, crate::specs::Rules::breaks_12))]
 fn qcc_rule(comps: u16, body: &[u8]) -> Option<u8>
     requires { 1 + index_size comps ≤ length body.now }
-    ensures { result ≡ first_true ((9, breaks_9 comps 93 body.now) ∷ (12, breaks_12 comps 93 body.now) ∷ []) }
+    ensures { result ≡ first_true ((9, breaks_9 comps QCC body.now) ∷ (12, breaks_12 comps QCC body.now) ∷ []) }
 {
     if !quant_fits(index_size(comps), body) {
         return Some(9);
@@ -312,7 +311,7 @@ fn qcc_rule(comps: u16, body: &[u8]) -> Option<u8>
 #[tactic(auto, unfolding(crate::specs::Rules::breaks_10, crate::specs::Rules::breaks_12))]
 fn rgn_rule(comps: u16, body: &[u8]) -> Option<u8>
     requires { 1 + index_size comps ≤ length body.now }
-    ensures { result ≡ first_true ((10, breaks_10 comps 94 body.now) ∷ (12, breaks_12 comps 94 body.now) ∷ []) }
+    ensures { result ≡ first_true ((10, breaks_10 comps RGN body.now) ∷ (12, breaks_12 comps RGN body.now) ∷ []) }
 {
     let at = index_size(comps);
     if !(body.len() == at + 2 && body[at] == 0) {
@@ -351,7 +350,7 @@ fn progressions_fit(comps: u16, body: &[u8], count: usize) -> bool
 
 #[tactic(auto, unfolding(crate::specs::Rules::breaks_11))]
 fn poc_rule(comps: u16, body: &[u8]) -> Option<u8>
-    ensures { result ≡ first_true ((11, breaks_11 comps 95 body.now) ∷ []) }
+    ensures { result ≡ first_true ((11, breaks_11 comps POC body.now) ∷ []) }
 {
     let size = progression_size(comps);
     if body.len() % size != 0 {

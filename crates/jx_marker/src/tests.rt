@@ -39,7 +39,21 @@ fn bytes_of(alloc: Global, text: &str) -> Result<Vec<u8>, AllocError> {
     Ok(bytes)
 }
 
+// Whether a segment and its copy are put as these bytes.
 fn put_back(alloc: Global, segment: &Segment, comps: u16, want: &[u8]) -> u8
+    requires { InRange comps segment.now }
+{
+    let first = put_one(alloc, segment, comps, want);
+    if first != 0 {
+        return first;
+    }
+    match segment.copy() {
+        Ok(copy) => put_one(alloc, &copy, comps, want),
+        Err(_) => NO_MEMORY,
+    }
+}
+
+fn put_one(alloc: Global, segment: &Segment, comps: u16, want: &[u8]) -> u8
     requires { InRange comps segment.now }
 {
     let mut out = Vec::new(alloc);

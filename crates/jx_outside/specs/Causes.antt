@@ -1,5 +1,5 @@
 -- Counts of faults, which are numbers of 64 bits that stand still at their end.
-use Rattle.std.specs.Prelude.{ℕ, ◌+◌, ◌-◌, ◌^◌, ◌≤◌, min, Result, IsErrOf}
+use Rattle.std.specs.Prelude.{ℕ, ◌+◌, ◌-◌, ◌^◌, ◌≤◌, ◌<◌, min, Result, IsErrOf}
 use Rattle.jx_outside.specs.declared.refused.Refused.{Refused}
 use Rattle.jx_outside.specs.declared.refused.Refused.TheVariants.{Failed}
 
@@ -7,7 +7,8 @@ use Rattle.jx_outside.specs.declared.refused.Refused.TheVariants.{Failed}
 abbrev pub Rose : ℕ → ℕ → Type 0
 Rose before now = min (before + 1) (2 ^ 64 - 1) ≤ now
 
--- the count hasn't fallen, and `Failed` comes only where it rose
+-- the count hasn't fallen, and `Failed` comes exactly where it rose
 pub record HasCause {T : Type 0} (before now : ℕ) (result : Result T Refused) : Type 0 where
   pub later : before ≤ now
   pub failed : IsErrOf result Failed → Rose before now
+  pub rose : before < now → IsErrOf result Failed

@@ -6,9 +6,10 @@ use crate::Refused;
 
 /// A device with files, of which one is read and one is made at a time.
 ///
-/// Every call is refused with `Failed` only where its own count of faults rose in that call, and
-/// leaves the other count as it was. A refused call leaves all else as before. What a call may be
-/// asked for, it may be asked for after every other call.
+/// Every call is refused with `Failed` exactly where its own count of faults rose in that call (a
+/// count of 64 bits that stands still at its end), and leaves the other count as it was. A refused
+/// call leaves all else as before. What a call may be asked for, it may be asked for after every
+/// other call.
 pub trait Files {
     /// What the device holds, reads and makes, as far as it is told.
     ghost meaning: { Self → Meaning };

@@ -7,20 +7,25 @@
 
 mod files;
 mod memory;
+mod output;
 mod plan;
 mod real;
 mod refused;
 mod sink;
 mod spoken;
 mod store;
+mod sure;
 
 pub use files::Files;
-pub use memory::{MemFiles, SureFiles};
+pub use memory::MemFiles;
 pub use plan::Call;
 pub use real::{StdFiles, StdSink};
 pub use refused::Refused;
 pub use sink::Sink;
 pub use spoken::{MemSink, SureSink};
+pub use sure::SureFiles;
 
+#[cfg(test)]
+mod real_tests;
 #[cfg(test)]
 mod tests;

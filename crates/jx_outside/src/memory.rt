@@ -1,8 +1,8 @@
-ghost use Rattle.std.specs.Prelude.{Err, ◌≡◌, ◌++◌, ◌≤◌, [], ◌∷◌, ⊤, Some, None, OnOk, OnErr};
+ghost use Rattle.std.specs.Prelude.{Err, ◌≡◌, ◌≢◌, ◌++◌, ◌≤◌, ◌<◌, [], ◌∷◌, ⊤, Some, None, length, take, IfOk, IfSome, OnOk, OnErr};
 ghost use Rattle.std.specs.Option.{option_map};
-ghost use Rattle.jx_outside.specs.Device.{IsThere, after_put};
+ghost use Rattle.jx_outside.specs.Device.{Allows, Takes, after_create, after_finish, after_open, after_put, after_read, after_write};
 ghost use Rattle.jx_outside.specs.Stored.{empty, meaning_of};
-ghost use Rattle.jx_outside.specs.Causes.{Rose};
+ghost use Rattle.jx_outside.specs.Causes.{HasCause, Rose};
 
 use crate::plan::Plan;
 use crate::store::Store;
@@ -97,6 +97,8 @@ impl MemFiles {
 }
 
 impl Files for MemFiles {
+    ghost use Rattle.jx_outside.specs.MemPlan.{Shows, told};
+
     ghost meaning = { λ m. meaning_of m.store };
 
     ghost read_faults = { λ m. m.read_faults };
@@ -107,7 +109,17 @@ impl Files for MemFiles {
 
     ghost can_create = { λ m name. ⊤ };
 
-    fn open(&mut self, name: &str) -> Result<(), Refused> {
+    fn open(&mut self, name: &str) -> Result<(), Refused>
+        ensures ok { OnOk result (told self.new ≡ after_open name.now (told self.old)) }
+        ensures there { OnOk result ((told self.old).holds name.now ≢ Some None) }
+        ensures missing { (told self.old).holds name.now ≡ Some None → result ≡ Err Refused.Failed }
+        ensures err { OnErr result (told self.new ≡ told self.old) }
+        ensures opens { Allows (λ _. ⊤) (λ _. ⊤) }
+        ensures creates { Allows (λ _. ⊤) (λ _. ⊤) }
+        ensures cause { HasCause self.old.read_faults self.new.read_faults result }
+        ensures other { self.new.write_faults ≡ self.old.write_faults }
+        ensures plan { Shows self.old self.new Call.Open ((told self.old).holds name.now ≡ Some None) result }
+    {
         if self.plan.fails(Call::Open) {
             return Err(self.read_fault());
         }
@@ -120,14 +132,32 @@ impl Files for MemFiles {
         }
     }
 
-    fn read(&mut self, into: &mut [u8]) -> Result<usize, Refused> {
+    fn read(&mut self, into: &mut [u8]) -> Result<usize, Refused>
+        ensures ok { IfOk result (λ n. told self.new ≡ after_read n (told self.old)) }
+        ensures room { IfOk result (λ n. n ≤ length into.new) }
+        ensures takes { IfOk result (λ n. IfSome (told self.old).left (λ left. Takes left n (length into.new) into.new)) }
+        ensures err { OnErr result (told self.new ≡ told self.old) }
+        ensures opens { Allows (λ _. ⊤) (λ _. ⊤) }
+        ensures creates { Allows (λ _. ⊤) (λ _. ⊤) }
+        ensures cause { HasCause self.old.read_faults self.new.read_faults result }
+        ensures other { self.new.write_faults ≡ self.old.write_faults }
+        ensures plan { Shows self.old self.new Call.Read ⊥ result }
+    {
         if self.plan.fails(Call::Read) {
             return Err(self.read_fault());
         }
         Ok(self.store.read(into))
     }
 
-    fn create(&mut self, name: &str) -> Result<(), Refused> {
+    fn create(&mut self, name: &str) -> Result<(), Refused>
+        ensures ok { OnOk result (told self.new ≡ after_create name.now (told self.old)) }
+        ensures err { OnErr result (told self.new ≡ told self.old) }
+        ensures opens { Allows (λ _. ⊤) (λ _. ⊤) }
+        ensures creates { Allows (λ _. ⊤) (λ _. ⊤) }
+        ensures cause { HasCause self.old.write_faults self.new.write_faults result }
+        ensures other { self.new.read_faults ≡ self.old.read_faults }
+        ensures plan { Shows self.old self.new Call.Create ⊥ result }
+    {
         if self.plan.fails(Call::Create) {
             return Err(self.write_fault());
         }
@@ -135,7 +165,17 @@ impl Files for MemFiles {
         Ok(())
     }
 
-    fn write(&mut self, from: &[u8]) -> Result<usize, Refused> {
+    fn write(&mut self, from: &[u8]) -> Result<usize, Refused>
+        ensures ok { IfOk result (λ n. told self.new ≡ after_write (take n from.now) (told self.old)) }
+        ensures room { IfOk result (λ n. n ≤ length from.now) }
+        ensures some { IfOk result (λ n. 0 < length from.now → 0 < n) }
+        ensures err { OnErr result (told self.new ≡ told self.old) }
+        ensures opens { Allows (λ _. ⊤) (λ _. ⊤) }
+        ensures creates { Allows (λ _. ⊤) (λ _. ⊤) }
+        ensures cause { HasCause self.old.write_faults self.new.write_faults result }
+        ensures other { self.new.read_faults ≡ self.old.read_faults }
+        ensures plan { Shows self.old self.new Call.Write ⊥ result }
+    {
         if self.plan.fails(Call::Write) {
             return Err(self.write_fault());
         }
@@ -143,89 +183,18 @@ impl Files for MemFiles {
         Ok(from.len())
     }
 
-    fn finish(&mut self) -> Result<(), Refused> {
+    fn finish(&mut self) -> Result<(), Refused>
+        ensures ok { OnOk result (told self.new ≡ after_finish (told self.old)) }
+        ensures err { OnErr result (told self.new ≡ told self.old) }
+        ensures opens { Allows (λ _. ⊤) (λ _. ⊤) }
+        ensures creates { Allows (λ _. ⊤) (λ _. ⊤) }
+        ensures cause { HasCause self.old.write_faults self.new.write_faults result }
+        ensures other { self.new.read_faults ≡ self.old.read_faults }
+        ensures plan { Shows self.old self.new Call.Finish ⊥ result }
+    {
         if self.plan.fails(Call::Finish) {
             return Err(self.write_fault());
         }
-        self.store.finish()?;
-        Ok(())
-    }
-}
-
-/// Files in memory whose only refusal is want of memory. All is told. `open` may be asked for the
-/// names that are there.
-#[derive(Drop)]
-pub struct SureFiles {
-    store: Store,
-}
-
-impl SureFiles {
-    /// No files.
-    pub fn new(alloc: Global) -> SureFiles
-        ensures { ⟦<SureFiles as Files>⟧.meaning result ≡ empty }
-    {
-        SureFiles {
-            store: Store::new(alloc),
-        }
-    }
-
-    /// Puts a file there, in place of any of that name. It may then be opened.
-    pub fn put(&mut self, name: &str, bytes: &[u8]) -> Result<(), Refused>
-        ensures ok { OnOk result (⟦<SureFiles as Files>⟧.meaning self.new
-            ≡ after_put name.now bytes.now (⟦<SureFiles as Files>⟧.meaning self.old)) }
-        ensures err { OnErr result (⟦<SureFiles as Files>⟧.meaning self.new ≡ ⟦<SureFiles as Files>⟧.meaning self.old) }
-        ensures there { OnOk result (⟦<SureFiles as Files>⟧.can_open self.new name.now) }
-        ensures cause { OnErr result (result ≡ Err Refused.NoMemory) }
-    {
-        self.store.put(name, bytes)?;
-        Ok(())
-    }
-
-    /// The name and bytes of the file that was created last, or none where none was created.
-    pub fn made(&self) -> Option<(&str, &[u8])>
-        ensures { Some (option_map (λ m. record { name = m.0.now; bytes = m.1.now }) result)
-            ≡ (⟦<SureFiles as Files>⟧.meaning self.now).written }
-    {
-        self.store.made()
-    }
-}
-
-impl Files for SureFiles {
-    ghost meaning = { λ m. meaning_of m.store };
-
-    ghost read_faults = { λ m. 0 };
-
-    ghost write_faults = { λ m. 0 };
-
-    ghost can_open = { λ m. IsThere (meaning_of m.store) };
-
-    ghost can_create = { λ m name. ⊤ };
-
-    fn open(&mut self, name: &str) -> Result<(), Refused> {
-        match self.store.bytes_of(name)? {
-            None => unreachable!(),
-            Some(bytes) => {
-                self.store.open(name, bytes);
-                Ok(())
-            }
-        }
-    }
-
-    fn read(&mut self, into: &mut [u8]) -> Result<usize, Refused> {
-        Ok(self.store.read(into))
-    }
-
-    fn create(&mut self, name: &str) -> Result<(), Refused> {
-        self.store.create(name)?;
-        Ok(())
-    }
-
-    fn write(&mut self, from: &[u8]) -> Result<usize, Refused> {
-        self.store.write(from)?;
-        Ok(from.len())
-    }
-
-    fn finish(&mut self) -> Result<(), Refused> {
         self.store.finish()?;
         Ok(())
     }

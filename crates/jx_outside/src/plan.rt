@@ -1,5 +1,5 @@
-ghost use Rattle.std.specs.Prelude.{◌≡◌, ◌↔◌, IsTrue, OnOk, OnErr, [], ◌∷◌, ◌++◌, Contains, slice_set};
-ghost use Rattle.jx_outside.specs.Planned.{kind_of, next_of};
+ghost use Rattle.std.specs.Prelude.{◌≡◌, ◌↔◌, IsTrue, OnOk, OnErr, [], ◌∷◌, ◌++◌, Contains};
+ghost use Rattle.jx_outside.specs.Planned.{Counts, next_of};
 
 use std::alloc::{AllocError, Global};
 
@@ -50,8 +50,7 @@ impl Plan {
     /// Counts this call, and tells whether it is to fail.
     pub fn fails(&mut self, call: Call) -> bool
         ensures fails { IsTrue result ↔ Contains self.old.faults.items (record { call = call; nth = next_of self.old call }) }
-        ensures counted { self.new.made ≡ slice_set self.old.made (kind_of call) (next_of self.old call) }
-        ensures same { self.new.faults.items ≡ self.old.faults.items }
+        ensures counts { Counts self.old self.new call }
     {
         let kind = call as usize;
         let nth = self.made[kind].saturating_add(1);

@@ -1,22 +1,42 @@
 ghost use Rattle.std.specs.Prelude.{None, ⊤, false, is_some, ◌≡◌, ◌≤◌};
 ghost use Rattle.jx_outside.specs.Causes.{Rose};
 
+use crate::output::{Output, begin};
 use crate::{Files, Refused, Sink};
 use std::fs;
 use std::io::{Read, Write};
 use std::rt::Files as Disk;
 
 /// The files of the system. What they hold isn't told, so every name may be asked for.
-#[derive(Drop)]
-pub struct StdFiles<R: Disk + Drop> {
+///
+/// A plain file is made beside its name and takes it at `finish`, when it is on its disk, in place
+/// of an older file and with that one's permissions. Until then the older file stands, and a file
+/// that isn't finished is removed with this value. What is there and is no plain file (a device, a
+/// pipe) is written directly. A name that is a link stands for what the link names.
+pub struct StdFiles<R: Disk + AllocGlobal + Drop> {
     rt: R,
     reading: Option<R::File>,
-    making: Option<R::File>,
+    making: Option<Output<R::File>>,
     read_faults: u64,
     write_faults: u64,
 }
 
-impl<R: Disk + Drop> StdFiles<R> {
+impl<R: Disk + AllocGlobal + Drop> Drop for StdFiles<R> {
+    fn drop(self) {
+        let StdFiles {
+            rt,
+            reading: _,
+            making,
+            read_faults: _,
+            write_faults: _,
+        } = self;
+        if let Some(output) = making {
+            output.discard(&rt);
+        }
+    }
+}
+
+impl<R: Disk + AllocGlobal + Drop> StdFiles<R> {
     /// Nothing opened or created yet, and no faults.
     pub fn new(rt: R) -> StdFiles<R>
         ensures reading { (⟦<StdFiles<R> as Files>⟧.meaning result).reading ≡ false }
@@ -54,7 +74,7 @@ impl<R: Disk + Drop> StdFiles<R> {
     }
 }
 
-impl<R: Disk + Drop> Files for StdFiles<R> {
+impl<R: Disk + AllocGlobal + Drop> Files for StdFiles<R> {
     ghost meaning = { λ s. record { holds = λ _. None; reading = is_some s.reading; left = None; making = is_some s.making; written = None } };
 
     ghost read_faults = { λ s. s.read_faults };
@@ -85,29 +105,30 @@ impl<R: Disk + Drop> Files for StdFiles<R> {
     }
 
     fn create(&mut self, name: &str) -> Result<(), Refused> {
-        match fs::create(&self.rt, name) {
-            Ok(file) => {
-                self.making = Some(file);
+        match begin(&self.rt, name) {
+            Ok(output) => {
+                if let Some(older) = self.making.replace(output) {
+                    older.discard(&self.rt);
+                }
                 Ok(())
             }
-            Err(_) => Err(self.write_fault()),
+            Err(Refused::Failed) => Err(self.write_fault()),
+            Err(Refused::NoMemory) => Err(Refused::NoMemory),
         }
     }
 
     fn write(&mut self, from: &[u8]) -> Result<usize, Refused> {
-        if let Some(file) = &mut self.making {
-            if let Ok(count) = file.write(from) {
-                if count > 0 || from.is_empty() {
-                    return Ok(count);
-                }
+        if let Some(output) = &mut self.making {
+            if let Some(count) = output.write(from) {
+                return Ok(count);
             }
         }
         Err(self.write_fault())
     }
 
     fn finish(&mut self) -> Result<(), Refused> {
-        if let Some(file) = &mut self.making {
-            if file.flush().is_err() {
+        if let Some(output) = &mut self.making {
+            if output.finish(&self.rt).is_err() {
                 return Err(self.write_fault());
             }
         }

@@ -8,7 +8,7 @@ use std::alloc::{AllocError, AllocFailed};
 pub enum Refused {
     /// The device failed, and the count of its faults shows it.
     Failed,
-    /// A device that keeps its bytes in memory found none.
+    /// Memory was refused, for what the device keeps of bytes and names.
     NoMemory,
 }
 

@@ -12,8 +12,8 @@ pub trait Sink {
     /// The faults of `say`. It never falls.
     ghost faults: { Self → ℕ };
 
-    /// Appends the whole text, or is refused and appends nothing. It answers `Failed` only where
-    /// the count of faults rose in this call.
+    /// Appends the whole text, or is refused and appends nothing. It answers `Failed` exactly where
+    /// the count of faults rose in this call (a count of 64 bits that stands still at its end).
     fn say(&mut self, text: &str) -> Result<(), Refused>
         ensures ok { OnOk result (said self.new ≡ option_map (λ t. t ++ text.now) (said self.old)) }
         ensures err { OnErr result (said self.new ≡ said self.old) }

@@ -1,4 +1,5 @@
 ghost use Rattle.std.specs.Prelude.{Err, ◌≡◌, ◌++◌, [], ◌∷◌, List, ℕ, Some, OnOk, OnErr, string_bytes};
+ghost use Rattle.jx_outside.specs.Causes.{HasCause};
 
 use crate::{Refused, Sink};
 use std::alloc::Global;
@@ -52,11 +53,18 @@ impl MemSink {
 }
 
 impl Sink for MemSink {
+    ghost use Rattle.jx_outside.specs.SinkPlan.{ShowsSay};
+
     ghost said = { λ s. Some (string_bytes s.text) };
 
     ghost faults = { λ s. s.faults };
 
-    fn say(&mut self, text: &str) -> Result<(), Refused> {
+    fn say(&mut self, text: &str) -> Result<(), Refused>
+        ensures ok { OnOk result (string_bytes self.new.text ≡ string_bytes self.old.text ++ text.now) }
+        ensures err { OnErr result (string_bytes self.new.text ≡ string_bytes self.old.text) }
+        ensures cause { HasCause self.old.faults self.new.faults result }
+        ensures plan { ShowsSay self.old self.new result }
+    {
         self.calls = self.calls.saturating_add(1);
         if self.plan.contains(&self.calls) {
             self.faults = self.faults.saturating_add(1);

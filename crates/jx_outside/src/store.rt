@@ -1,4 +1,4 @@
-ghost use Rattle.std.specs.Prelude.{◌≡◌, ◌≤◌, ℕ, List, Some, None, false, length, take, drop, min, IfOk, IfSome, OnOk, OnErr, []};
+ghost use Rattle.std.specs.Prelude.{◌≡◌, ◌≢◌, ◌≤◌, ℕ, List, Some, None, false, length, take, drop, min, IfOk, IfSome, OnOk, OnErr, []};
 ghost use Rattle.std.specs.Option.{option_map};
 ghost use Rattle.jx_outside.specs.Device.{Takes, after_create, after_finish, after_open, after_put, after_read, after_write};
 ghost use Rattle.jx_outside.specs.Stored.{empty, found, meaning_of};
@@ -26,7 +26,8 @@ pub struct Store {
 }
 
 fn copy_of(alloc: Global, stored: &[StoredFile], name: &str) -> Result<Option<Vec<u8>>, AllocError>
-    ensures { IfOk result (λ bytes. option_map (λ v. v.items) bytes ≡ found stored.now name.now) }
+    ensures found { IfOk result (λ bytes. option_map (λ v. v.items) bytes ≡ found stored.now name.now) }
+    ensures none { OnErr result (found stored.now name.now ≢ None) }
 {
     for file in stored {
         if name == file.name.as_str() {
@@ -74,7 +75,8 @@ impl Store {
 
     /// A copy of the bytes under this name.
     pub fn bytes_of(&self, name: &str) -> Result<Option<Vec<u8>>, AllocError>
-        ensures { IfOk result (λ bytes. Some (option_map (λ v. v.items) bytes) ≡ (meaning_of self.now).holds name.now) }
+        ensures found { IfOk result (λ bytes. Some (option_map (λ v. v.items) bytes) ≡ (meaning_of self.now).holds name.now) }
+        ensures none { OnErr result ((meaning_of self.now).holds name.now ≢ Some None) }
     {
         copy_of(self.alloc, &self.stored, name)
     }

@@ -20,10 +20,11 @@ use Rattle.jx_order.specs.Packets.{IsOrder, AreCovered}
 use Rattle.jx_stream.specs.declared.Stream.{Stream}
 use Rattle.jx_stream.specs.Tiles.{entry_of}
 use Rattle.jx_stream.specs.First.{canvas_of, tile_number, stream_in}
-use Rattle.jx_stream.proofs.FirstLemmas.{canvas_fits}
+use Rattle.jx_stream.proofs.ShapeLemmas.{siz_is}
 use Rattle.jx_stream.proofs.UniqueLemmas.{is_read}
 use Rattle.jx_recast.specs.declared.small.Headers.{Headers}
-use Rattle.jx_gather.specs.Shapes.{IsRead, shapes_of, geometry}
+use Rattle.jx_stream.specs.Read.{IsRead}
+use Rattle.jx_stream.specs.Shapes.{shapes_of, shapes_in, geometry}
 use Rattle.jx_gather.specs.Totals.{block_total, packet_total, totals_fault}
 use Rattle.jx_gather.specs.Cells.{fresh_precinct, fresh_precincts, fresh_component, fresh_resolution, one_precinct, precinct_number}
 use Rattle.jx_gather.specs.Data.{due, sop_fault, header_in, front_length, body_fault}
@@ -120,7 +121,7 @@ module _ (siz : Siz) (cod : Cod) (quant : Quant) (place at size : ℕ) (range : 
 
   is_one : IsOneTile (canvas_of siz) cod.shape.xcb cod.shape.ycb
   is_one = record {
-    range = canvas_fits siz range.fits;
+    range = (siz_is siz range.fits).canvas;
     across = block.across;
     down = block.down;
     wide = block.wide;
@@ -130,7 +131,7 @@ module _ (siz : Siz) (cod : Cod) (quant : Quant) (place at size : ℕ) (range : 
   }
 
   shapes_are : shapes_of s 0 ≡ one_shape cod.shape.xcb cod.shape.ycb ∷ []
-  unfolding shapes_of
+  unfolding shapes_in
   shapes_are = rw (block.comps, block.step_across, block.step_down, block.levels, block.precincts) refl
 
   geometry_with : List CompShape → Geometry

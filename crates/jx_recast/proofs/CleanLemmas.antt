@@ -18,9 +18,9 @@ use Rattle.jx_stream.specs.Tiles.{entry_of, tile_of}
 use Rattle.jx_stream.specs.Params.{planes_of, planes_fault, tile_has_too_few, tile_planes}
 use Rattle.jx_stream.specs.First.{tile_number, tiles_fault}
 use Rattle.jx_stream.specs.Spells.{TilePart, all_bytes, head_bytes, file_bytes, placed, first_sot, Spells}
-use Rattle.jx_stream.proofs.FirstLemmas.{canvas_fits}
+use Rattle.jx_stream.proofs.ShapeLemmas.{siz_is}
 use Rattle.jx_stream.proofs.OneLemmas.{drop_on}
-use Rattle.jx_gather.specs.Shapes.{no_size}
+use Rattle.jx_stream.specs.Shapes.{no_size}
 use Rattle.jx_recast.specs.declared.small.Headers.{Headers}
 use Rattle.jx_recast.specs.Small.{AreInRange, is_one_of_each, is_one_component, is_one_tile, is_one_packet, is_one_block, is_one_step, is_one_part, spelled, with_sop, has_grid_sampling}
 use Rattle.jx_recast.proofs.OneTileLemmas.{one_along}
@@ -121,7 +121,7 @@ is_single h single =
 
 pub one_tile : (siz : Siz) → SizInRange siz → siz.x1 ≤ siz.tx + siz.tw → siz.y1 ≤ siz.ty + siz.th → tile_number siz ≡ 1
 one_tile siz range across down =
-    let fits = canvas_fits siz range.fits in
+    let fits = (siz_is siz range.fits).canvas in
     rw (one_along siz.x1 siz.x0 siz.tw siz.tx fits.wide fits.offset_across fits.some_across across, one_along siz.y1 siz.y0 siz.th siz.ty fits.high fits.offset_down fits.some_down down) refl
 
 one_tile_clear : (siz : Siz) → tile_number siz ≡ 1 → tiles_fault siz ≡ None

@@ -6,3 +6,5 @@ pub mod CleanLemmas
 pub mod OneListLemmas
 pub mod AcceptLemmas
 pub mod JudgedLemmas
+pub mod SaidLemmas
+pub mod OneVerdictLemmas

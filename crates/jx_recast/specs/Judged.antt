@@ -1,28 +1,26 @@
 -- What an input violates or passes first after limit 1: in its headers, else in its tile data (T.800, A and B).
 use Rattle.std.specs.Prelude.{◌⊎◌, ℕ, List}
 use Rattle.jx_stream.specs.declared.faults.StreamFault.{StreamFault}
-use Rattle.jx_stream.specs.declared.faults.StreamFault.TheVariants as header
+use Rattle.jx_stream.specs.declared.faults.StreamFault.TheVariants as fault
 use Rattle.jx_stream.specs.declared.Stream.{Stream}
 use Rattle.jx_stream.specs.FirstViolated.{IsFirst}
-use Rattle.jx_gather.specs.declared.faults.GatherFault.{GatherFault}
-use Rattle.jx_gather.specs.declared.faults.GatherFault.TheVariants as tile
-use Rattle.jx_gather.specs.Shapes.{IsRead}
+use Rattle.jx_stream.specs.Read.{IsRead}
 use Rattle.jx_gather.specs.Gathered.{IsBroken}
 use Rattle.jx_gather.specs.Accepted.{IsAccepted}
 
 -- the input spells a stream within the limits 3 and 4, and this is first in its tile data
-pub record BreaksTiles (input : List ℕ) (f : GatherFault) : Type 0 where
+pub record BreaksTiles (input : List ℕ) (f : StreamFault) : Type 0 where
   pub stream : Stream
   pub read : IsRead input stream
   pub broken : IsBroken input stream f
 
 -- the first rule that is violated, and its place
 abbrev pub Violates : List ℕ → ℕ → ℕ → Type 0
-Violates input number place = IsFirst input (header.Rule number place) ⊎ BreaksTiles input (tile.Rule number place)
+Violates input number place = IsFirst input (fault.Rule number place) ⊎ BreaksTiles input (fault.Rule number place)
 
 -- the limit that is passed first, and what was counted
 abbrev pub Passes : List ℕ → ℕ → ℕ → Type 0
-Passes input number found = IsFirst input (header.Limit number found) ⊎ BreaksTiles input (tile.Limit number found)
+Passes input number found = IsFirst input (fault.Limit number found) ⊎ BreaksTiles input (fault.Limit number found)
 
 -- no rule is violated, and no limit passed: the input is a well-formed codestream within the limits
 pub record IsClean (input : List ℕ) : Type 0 where
@@ -31,12 +29,6 @@ pub record IsClean (input : List ℕ) : Type 0 where
 
 -- why an input is refused; want of memory is free
 abbrev pub IsInputCause : List ℕ → StreamFault → Type 0
-IsInputCause input (header.Rule number place) = Violates input number place
-IsInputCause input (header.Limit number found) = Passes input number found
-IsInputCause input header.NoMemory = Unit {0}
-
--- a refusal of tile data, as one of the headers
-abbrev pub header_fault : GatherFault → StreamFault
-header_fault (tile.Rule number place) = header.Rule number place
-header_fault (tile.Limit number found) = header.Limit number found
-header_fault tile.NoMemory = header.NoMemory
+IsInputCause input (fault.Rule number place) = Violates input number place
+IsInputCause input (fault.Limit number found) = Passes input number found
+IsInputCause input fault.NoMemory = Unit {0}

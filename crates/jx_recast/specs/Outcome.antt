@@ -149,9 +149,10 @@ pub record EndsFiles (request : Request) (s : Status) (blocks bytes : ℕ) (old 
   pub files : EndsOn request input s blocks old new
   pub length_told : s ≡ status.Done → bytes ≡ length (output input)
 
--- the status after a line was said: the same, or a fault of the sink, or want of memory
+-- the status after a line was said: the same where it was said; a write fault exactly where the sink's count rose; and
+-- else want of memory
 abbrev pub EndsAs : Status → List ℕ → Status → Option (List ℕ) → Option (List ℕ) → ℕ → ℕ → Type 0
 EndsAs s line late before now fault_before fault_now =
-    ((late ≡ s) × Says s line before now)
+    ((late ≡ s) × Says s line before now × (fault_now ≡ fault_before))
     ⊎ (((late ≡ status.WriteFault) × (now ≡ before) × Rose fault_before fault_now)
-    ⊎ ((late ≡ status.NoMemory) × (now ≡ before)))
+    ⊎ ((late ≡ status.NoMemory) × (now ≡ before) × (fault_now ≡ fault_before)))

@@ -1,5 +1,5 @@
-//! Laws over the definitions of the smallest codestreams and their outputs. The functions do nothing:
-//! their contracts carry the laws.
+//! Laws over the definitions of the smallest codestreams and their outputs. The functions do nothing but
+//! cite the laws of the crates below: their contracts carry the laws.
 ghost use Rattle.std.specs.Prelude.{◌≡◌, ◌≤◌, ◌⊎◌, ◌∷◌, [], ℕ, List, length};
 ghost use Rattle.jx_recast.specs.declared.small.Headers.{Headers};
 ghost use Rattle.jx_recast.specs.declared.status.Status.{Status};
@@ -9,6 +9,9 @@ ghost use Rattle.jx_recast.specs.Outcome.{Verdict, most_bytes};
 ghost use Rattle.jx_recast.specs.Small.{AreInRange, IsSmall, Spells, headers_at, marked_packet, output, packet_at, spelled, with_sop};
 ghost use Rattle.jx_stream.specs.First.{stream_in};
 ghost use Rattle.jx_gather.specs.Accepted.{IsAccepted};
+
+use jx_gather::laws::{never_both, one_violation};
+use jx_stream::laws::{one_first, one_stream, violated_or_spelled};
 
 /// The bytes of a codestream of this form tell its headers and its packet.
 pub fn one_reading()
@@ -41,4 +44,19 @@ pub fn clean_is_done_or_form()
     ensures clean { (input : List ℕ) (s : Status) → IsClean input → length input ≤ most_bytes → Verdict input s
         → ((s ≡ Status.Done) × IsSmall input) ⊎ ((s ≡ Status.Form) × (IsSmall input → ⊥)) }
     ensures small { (input : List ℕ) (s : Status) → IsSmall input → length input ≤ most_bytes → Verdict input s → s ≡ Status.Done }
-{}
+{
+    one_stream();
+    violated_or_spelled();
+    never_both();
+}
+
+/// An input has at most one verdict.
+pub fn one_verdict()
+    ensures { (input : List ℕ) (s t : Status) → Verdict input s → Verdict input t → s ≡ t }
+{
+    one_stream();
+    one_first();
+    violated_or_spelled();
+    one_violation();
+    never_both();
+}

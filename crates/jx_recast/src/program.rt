@@ -1,8 +1,8 @@
-ghost use Rattle.std.specs.Prelude.{◌≡◌, ◌≤◌, ◌⊎◌, ℕ, List, [], true, false, Some, None, length, map, take, IfOk, IfErr, OnOk, OnErr, IfSome, IsTrue, string_bytes};
+ghost use Rattle.std.specs.Prelude.{◌≡◌, ◌≤◌, ◌<◌, ◌⊎◌, ℕ, List, [], true, false, Some, None, length, map, take, IfOk, IfErr, OnOk, OnErr, IfSome, IsTrue, string_bytes};
 ghost use Rattle.jx_outside.specs.Causes.{HasCause, Rose};
 ghost use Rattle.jx_outside.specs.Device.{Allows, joined};
-ghost use Rattle.jx_gather.specs.Shapes.{IsRead};
-ghost use Rattle.jx_recast.specs.Judged.{IsClean, IsInputCause, header_fault};
+ghost use Rattle.jx_stream.specs.Read.{IsRead};
+ghost use Rattle.jx_recast.specs.Judged.{IsClean, IsInputCause};
 ghost use Rattle.jx_recast.specs.Small.{output};
 ghost use Rattle.jx_recast.specs.Words.{is_good, request_of};
 ghost use Rattle.jx_recast.specs.Outcome.{EndsAs, EndsFiles, IsBegun, IsMade, IsUntouched, IsVerdict, Leaves, Outcome, Verdict, line_of, most_bytes};
@@ -13,7 +13,7 @@ use crate::small::{Output, rewritten};
 use crate::words::is_good;
 use crate::{Report, Status};
 use jx_base::NoMemory;
-use jx_gather::{GatherFault, gather};
+use jx_gather::gather;
 use jx_outside::{Files, Refused, Sink};
 use jx_stream::{Stream, StreamFault, read_stream};
 use std::alloc::Global;
@@ -101,17 +101,6 @@ fn rewrite<F: Files>(alloc: Global, files: &mut F, input: &[u8], to: &str) -> En
     }
 }
 
-/// A refusal of tile data, as one of the headers.
-fn header_fault(fault: GatherFault) -> StreamFault
-    ensures { result ≡ header_fault fault }
-{
-    match fault {
-        GatherFault::Rule { number, place } => StreamFault::Rule { number, place },
-        GatherFault::Limit { number, found } => StreamFault::Limit { number, found },
-        GatherFault::NoMemory => StreamFault::NoMemory,
-    }
-}
-
 /// What is first violated or passed in the tile data of a stream.
 fn tile_fault(alloc: Global, input: &[u8], stream: &Stream) -> Result<(), StreamFault>
     requires within { length input.now ≤ most_bytes }
@@ -121,12 +110,11 @@ fn tile_fault(alloc: Global, input: &[u8], stream: &Stream) -> Result<(), Stream
 {
     match gather(alloc, input, stream) {
         Ok(_blocks) => Ok(()),
-        Err(fault) => Err(header_fault(fault)),
+        Err(broken) => Err(broken),
     }
 }
 
 /// What is first violated or passed in the headers, else in the tile data.
-#[tactic(auto, using(jx_gather::proofs::RangeLemmas::is_read))]
 fn input_fault(alloc: Global, input: &[u8]) -> Result<(), StreamFault>
     requires { length input.now ≤ most_bytes }
     ensures ok { OnOk result (IsClean input.now) }
@@ -229,6 +217,8 @@ pub fn run<F: Files, S: Sink>(alloc: Global, words: &[String], files: &mut F, sa
     ensures read { result.status ≡ Status.ReadFault → Rose (F.read_faults files.old) (F.read_faults files.new) }
     ensures write { result.status ≡ Status.WriteFault
         → Rose (F.write_faults files.old) (F.write_faults files.new) ⊎ Rose (S.faults say.old) (S.faults say.new) }
+    // a line that couldn't be said
+    ensures unsaid { S.faults say.old < S.faults say.new → result.status ≡ Status.WriteFault }
     // where no count of faults rose
     ensures complete { (Rose (F.read_faults files.old) (F.read_faults files.new) → ⊥)
         → (Rose (F.write_faults files.old) (F.write_faults files.new) → ⊥)

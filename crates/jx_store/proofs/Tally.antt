@@ -189,7 +189,7 @@ module _ {V : Type 0} where
         → (c.drained < c.next) × ((drain_by (state_of c) p).0.drained ≡ c.drained + 1) × ((drain_by (state_of c) p).0.next ≡ c.next)
     by_parked None is r = absurd (cc)
     by_parked (Some d) is r = (
-      elim (cases_lt c.drained c.next) [ inl lt ↦ lt | inr le ↦ absurd (not_both ((state_of c).parked c.drained) d (ap parked_in (slot_out c.drained c.next c.window c.slots c.drained (inr le))) is) ],
+      elim (cases_lt c.drained c.next) [ inl lt ↦ lt | inr le ↦ absurd (not_both ((state_of c).parked c.drained) d (ap parked_in (slot_out c.drained c.next c.setup.window c.slots c.drained (inr le))) is) ],
       refl,
       refl,
     )

@@ -1,11 +1,11 @@
 -- The store machine: a state with two maps and a tape, and what each event does to it.
-use Rattle.std.specs.Prelude.{ℕ, ◌+◌, ◌-◌, ◌==◌, nat_lt, Bool, cond, ◌&&◌, ◌||◌, List, [], ◌∷◌, ◌++◌, length, Option, Some, None}
+use Rattle.std.specs.Prelude.{ℕ, ◌+◌, ◌-◌, ◌==◌, nat_lt, Bool, cond, ◌&&◌, ◌||◌, List, [], ◌∷◌, ◌++◌, Option, Some, None}
 use Rattle.jx_store.specs.declared.event.Event.{Event}
 use Rattle.jx_store.specs.declared.event.Event.TheVariants.{Claim, Commit, Drain}
 use Rattle.jx_store.specs.declared.event.Reply.{Reply}
 use Rattle.jx_store.specs.declared.event.Reply.TheVariants.{Claimed, Full, AllClaimed, Committed, Foreign, Drained, Nothing}
 use Rattle.jx_store.specs.declared.event.Taped.{Taped}
-use Rattle.jx_store.specs.Setup.{Setup, load}
+use Rattle.jx_store.specs.Setup.{Setup, end_of, is_over}
 
 -- who claimed a number, and the first number that was not drained then
 pub record Claimant : Type 0 where
@@ -36,11 +36,11 @@ module _ {V : Type 0} where
 
   -- the first number after all
   abbrev pub end : State V → ℕ
-  end s = s.setup.first + length s.setup.sizes
+  end s = end_of s.setup
 
   -- the numbers claimed and not drained fill the window, or with the next one they would pass `most`
   abbrev pub is_full : State V → Bool
-  is_full s = (s.next - s.drained == s.setup.window) || (nat_lt s.drained s.next && nat_lt s.setup.most (load s.setup s.drained (s.next + 1)))
+  is_full s = (s.next - s.drained == s.setup.window) || (nat_lt s.drained s.next && is_over s.setup s.drained s.next)
 
   abbrev pub claimed : State V → ℕ → State V
   claimed s w = record s { next = s.next + 1; held = put s.held s.next (Some (record { worker = w; seen = s.drained })) }

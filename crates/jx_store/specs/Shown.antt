@@ -22,10 +22,7 @@ items_of [] = []
 items_of (a ∷ xs) = gaps_from a xs
 
 pub record Shown (V : Type 0) : Type 0 where
-  pub first : ℕ
-  pub window : ℕ
-  pub most : ℕ
-  pub sums : List ℕ
+  pub setup : Setup
   pub next : ℕ
   pub drained : ℕ
   pub slots : List (Slot V)
@@ -48,15 +45,12 @@ module _ {V : Type 0} where
   abbrev pub slot_of : ℕ → ℕ → ℕ → List (Slot V) → ℕ → Option (Slot V)
   slot_of drained next window slots k = cond (nat_le drained k && nat_lt k next) (slice_get slots (k % window)) None
 
-  abbrev pub setup_of : Shown V → Setup
-  setup_of c = record { first = c.first; sizes = items_of c.sums; window = c.window; most = c.most }
-
   abbrev pub state_of : Shown V → State V
   state_of c = record {
-    setup = setup_of c;
+    setup = c.setup;
     next = c.next;
     drained = c.drained;
-    held = λ k. held_in (slot_of c.drained c.next c.window c.slots k);
-    parked = λ k. parked_in (slot_of c.drained c.next c.window c.slots k);
+    held = λ k. held_in (slot_of c.drained c.next c.setup.window c.slots k);
+    parked = λ k. parked_in (slot_of c.drained c.next c.setup.window c.slots k);
     tape = c.tape;
   }

@@ -1,12 +1,12 @@
 //! The core: a window of slots and a tape.
 ghost use Rattle.std.specs.Prelude.{◌≡◌, ◌<◌, ◌≤◌, ◌+◌, ◌^◌, IfOk, length};
 ghost use Rattle.std.specs.List.{sum};
-ghost use Rattle.jx_store.specs.Setup.{load};
 ghost use Rattle.jx_store.specs.Machine.{start, end, does, is_full};
-ghost use Rattle.jx_store.specs.Shown.{setup_of, state_of, sums_from};
+ghost use Rattle.jx_store.specs.Shown.{state_of};
 ghost use Rattle.jx_store.specs.declared.event.Event.TheVariants.{Claim, Commit, Drain};
 
 use crate::event::{Event, Reply, Slot, Taped};
+use crate::sums::Sums;
 use jx_base::NoMemory;
 use std::alloc::Global;
 use std::marker::Model;
@@ -16,37 +16,32 @@ use std::mem;
 /// size. Number k has its place at k modulo the window. A call of `step` takes no memory.
 #[derive(Drop)]
 pub struct Core<V> {
-    first: u32,
-    count: u32,
-    window: u32,
-    most: u32,
+    sums: Sums,
     next: u32,
     drained: u32,
-    sums: Vec<u32>,
     slots: Vec<Slot<V>>,
     tape: Vec<Taped<V>>,
 }
 
 impl<V> Model for Core<V> {
     ghost use Rattle.std.specs.Prelude.{◌≡◌, ◌<◌, ◌≤◌, ◌+◌, ◌^◌, length, vec_len, vec_capacity};
-    ghost use Rattle.jx_store.specs.Shown.{Shown, items_of, sums_from};
+    ghost use Rattle.jx_store.specs.Setup.{end_of};
+    ghost use Rattle.jx_store.specs.Shown.{Shown};
 
     ghost Value = { Shown V };
 
-    ghost view = { λ c. record { first = c.first; window = c.window; most = c.most; sums = c.sums.items; next = c.next; drained = c.drained; slots = c.slots.items; tape = c.tape.items } };
+    ghost view = { λ c. record { setup = c.sums; next = c.next; drained = c.drained; slots = c.slots.items; tape = c.tape.items } };
 
     ghost invariant = { λ c. record {
-      window : (0 < c.window) × (c.window ≤ 1024);
-      slots : vec_len c.slots ≡ c.window;
-      range : c.first + c.count ≤ 2 ^ 20;
-      count : length (items_of c.sums.items) ≡ c.count;
-      sums : c.sums.items ≡ sums_from 0 (items_of c.sums.items);
-      low : c.first ≤ c.drained;
+      window : 0 < c.sums.window;
+      slots : vec_len c.slots ≡ c.sums.window;
+      range : end_of c.sums ≤ 2 ^ 20;
+      low : c.sums.first ≤ c.drained;
       mid : c.drained ≤ c.next;
-      high : c.next ≤ c.first + c.count;
-      near : c.next ≤ c.drained + c.window;
-      tape : vec_len c.tape + c.first ≡ c.drained;
-      room : c.count ≤ vec_capacity c.tape;
+      high : c.next ≤ end_of c.sums;
+      near : c.next ≤ c.drained + c.sums.window;
+      tape : vec_len c.tape + c.sums.first ≡ c.drained;
+      room : length c.sums.sizes ≤ vec_capacity c.tape;
     } };
 }
 
@@ -67,36 +62,17 @@ impl<V: Drop> Core<V> {
         requires most { (0 < most) × (most ≤ 2 ^ 28) }
         ensures { IfOk result (λ c. state_of c ≡ start (record { first = first; sizes = sizes.now; window = window; most = most })) }
     {
-        let sums = running_sums(alloc, sizes)?;
+        let sums = Sums::new(alloc, first, sizes, window, most)?;
         let slots = empty_slots(alloc, window)?;
         let tape = Vec::with_capacity(alloc, sizes.len())?;
         Ok(Core {
-            first,
-            count: sizes.len() as u32,
-            window,
-            most,
+            sums,
             next: first,
             drained: first,
-            sums,
             slots,
             tape,
         })
     }
-}
-
-// The sums of the first sizes, from none to all.
-fn running_sums(alloc: Global, sizes: &[u32]) -> Result<Vec<u32>, NoMemory>
-    requires { (sum sizes.now ≤ 2 ^ 28) × (length sizes.now ≤ 2 ^ 20) }
-    ensures { IfOk result (λ v. v.items ≡ sums_from 0 sizes.now) }
-{
-    let mut sums = Vec::with_capacity(alloc, sizes.len() + 1)?;
-    let mut total = 0;
-    sums.push_reserved(total);
-    for size in sizes {
-        total += *size;
-        sums.push_reserved(total);
-    }
-    Ok(sums)
 }
 
 fn empty_slots<V: Drop>(alloc: Global, window: u32) -> Result<Vec<Slot<V>>, NoMemory>
@@ -110,19 +86,11 @@ fn empty_slots<V: Drop>(alloc: Global, window: u32) -> Result<Vec<Slot<V>>, NoMe
 }
 
 impl<V: Drop> Core<V> {
-    // The sum of the sizes of the numbers `from` to `to - 1`.
-    fn load(&self, from: u32, to: u32) -> u32
-        requires { (self.now.first ≤ from) × (from ≤ to) × (to ≤ end (state_of self.now)) }
-        ensures { result ≡ load (setup_of self.now) from to }
-    {
-        self.sums[(to - self.first) as usize] - self.sums[(from - self.first) as usize]
-    }
-
     fn claim(&mut self, worker: u32) -> Reply
         ensures state { state_of self.new ≡ (does (state_of self.old) (Claim worker)).0 }
         ensures reply { result ≡ (does (state_of self.old) (Claim worker)).1 }
     {
-        if self.next == self.first + self.count {
+        if self.next == self.sums.end() {
             return Reply::AllClaimed;
         }
         if self.is_full() {
@@ -133,7 +101,7 @@ impl<V: Drop> Core<V> {
         }
         let number = self.next;
         let seen = self.drained;
-        let place = (number % self.window) as usize;
+        let place = (number % self.sums.window()) as usize;
         self.slots[place] = Slot::Held { worker, seen };
         self.next += 1;
         Reply::Claimed { number, seen }
@@ -144,10 +112,10 @@ impl<V: Drop> Core<V> {
         requires { self.now.next < end (state_of self.now) }
         ensures { result ≡ is_full (state_of self.now) }
     {
-        if self.next - self.drained == self.window {
+        if self.next - self.drained == self.sums.window() {
             return true;
         }
-        self.drained < self.next && self.load(self.drained, self.next + 1) > self.most
+        self.drained < self.next && self.sums.is_over(self.drained, self.next)
     }
 
     fn commit(&mut self, worker: u32, number: u32, value: V) -> Reply
@@ -157,7 +125,7 @@ impl<V: Drop> Core<V> {
         if number < self.drained || number >= self.next {
             return Reply::Foreign;
         }
-        let place = (number % self.window) as usize;
+        let place = (number % self.sums.window()) as usize;
         let Slot::Held {
             worker: holder,
             seen,
@@ -184,7 +152,7 @@ impl<V: Drop> Core<V> {
             return Reply::Nothing;
         }
         let number = self.drained;
-        let head = (number % self.window) as usize;
+        let head = (number % self.sums.window()) as usize;
         let Slot::Parked { .. } = self.slots[head] else {
             return Reply::Nothing;
         };
@@ -234,13 +202,9 @@ impl<V: Drop> Core<V> {
         ensures { result.items ≡ self.tape }
     {
         let Core {
-            first: _,
-            count: _,
-            window: _,
-            most: _,
+            sums: _,
             next: _,
             drained: _,
-            sums: _,
             slots: _,
             tape,
         } = self;

@@ -10,6 +10,7 @@ mod laws;
 mod locked;
 mod pass;
 mod store;
+mod sums;
 mod work;
 
 pub use claim::{Claim, ClaimAnswer};
@@ -20,6 +21,7 @@ pub use laws::events_keep_order;
 pub use locked::Locked;
 pub use pass::Pass;
 pub use store::{Blanks, LockStore};
+pub use sums::Sums;
 pub use work::{Bounds, Entry, Named, Work};
 
 #[cfg(test)]

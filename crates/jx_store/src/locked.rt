@@ -73,7 +73,7 @@ impl<V: Work, N: Bounds<V::Job>, A: Ledger, B: Ledger, C: Ledger, D: Ledger> Mod
       all_claimed : h.alls ≡ h.all_claimed.total;
       committed : h.commits ≡ h.committed.total;
       recorded : Recorded N.setup (shown h.history) (state_of h.core);
-      long : length h.history.steps.items + h.core.first ≡ h.claims + h.commits + h.core.drained;
+      long : length h.history.steps.items + h.core.setup.first ≡ h.claims + h.commits + h.core.drained;
       claims_are : count_claims (shown h.history) ≡ h.claims;
       fulls_are : count_full (shown h.history) ≡ h.fulls;
       alls_are : count_all (shown h.history) ≡ h.alls;

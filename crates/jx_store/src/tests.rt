@@ -5,7 +5,8 @@ ghost use Rattle.std.specs.List.{sum};
 ghost use Rattle.jx_store.specs.Valid.{IsOf};
 
 use crate::{
-    Blanks, Bounds, Claim, ClaimAnswer, Core, Entry, Event, LockStore, Named, Pass, Reply, Work,
+    Blanks, Bounds, Claim, ClaimAnswer, Core, Entry, Event, LockStore, Named, Pass, Reply, Sums,
+    Work,
 };
 use jx_base::NoMemory;
 use std::alloc::Global;
@@ -41,6 +42,21 @@ fn commit_by(worker: u32, number: u32, value: u8) -> Event<u8> {
         number,
         value,
     }
+}
+
+#[test]
+fn sums_answer_what_a_store_asks(rt: HostRuntime) -> Result<(), Fail> {
+    let sums = Sums::new(rt.alloc(), 3, &[5, 0, 20], 2, 10)?;
+    assert_eq!(rt; (sums.first(), sums.end(), sums.window()), (3, 6, 2));
+    assert_eq!(rt;
+        (sums.load(3, 5), sums.load(3, 6), sums.load(5, 5)),
+        (5, 25, 0)
+    );
+    assert_eq!(rt;
+        (sums.is_over(3, 4), sums.is_over(3, 5), sums.is_over(4, 4)),
+        (false, true, false)
+    );
+    Ok(())
 }
 
 #[test]

@@ -1,8 +1,7 @@
 -- The first violation of a file, by what was read before it.
-use Rattle.std.proofs.Common.{◌≡◌, ◌∙◌, ◌<◌, ◌≤◌, ◌+◌, ◌==◌, ◌||◌, ◌&&◌, ℕ, Bool, true, false, not, nat_lt, nat_le, arith, List, [], ◌∷◌, length, drop, map, get_or, refl, sym, ap, Some, None, Result, Err}
-use Rattle.std.specs.List.{list_any, list_all, range_with_len}
+use Rattle.std.proofs.Common.{◌≡◌, ◌∙◌, ◌<◌, ◌==◌, ◌||◌, ◌&&◌, ℕ, Bool, true, false, not, arith, List, [], ◌∷◌, length, drop, map, get_or, refl, sym, ap, Some, None, Result, Err}
+use Rattle.std.specs.List.{list_any, range_with_len}
 use Rattle.std.specs.Option.{option_or}
-use Rattle.std.proofs.lemmas.Bool.Decides.{nat_tests}
 use Rattle.std.proofs.lemmas.List.{get_or-drop}
 use Rattle.std.proofs.lemmas.List.FromFn.{fill_by_all}
 use Rattle.jx_marker.specs.declared.Segment.{Segment}
@@ -10,9 +9,8 @@ use Rattle.jx_marker.specs.declared.Segment.TheVariants as segment
 use Rattle.jx_marker.specs.declared.Siz.{Siz}
 use Rattle.jx_marker.specs.declared.Rule.{Rule}
 use Rattle.jx_marker.specs.declared.Rule.TheVariants as rule
-use Rattle.jx_marker.specs.Rules.{first_broken, siz_fits, axis_fits, comp_size_fits}
+use Rattle.jx_marker.specs.Rules.{first_broken}
 use Rattle.jx_marker.specs.Segments.{segment_at}
-use Rattle.jx_geom.specs.Ranges.{CanvasInRange}
 use Rattle.jx_stream.specs.declared.faults.StreamFault.{StreamFault}
 use Rattle.jx_stream.specs.declared.faults.StreamFault.TheVariants as fault
 use Rattle.jx_stream.specs.declared.headers.Header.{Header}
@@ -25,9 +23,9 @@ use Rattle.jx_stream.specs.Headers.{header_fault, slot_count, Marks}
 use Rattle.jx_stream.specs.Parts.{marker_at, parts_of, parts_fault, parts_from, Tracks}
 use Rattle.jx_stream.specs.Tiles.{tiles_of}
 use Rattle.jx_stream.specs.Params.{entries_fault, planes_fault}
-use Rattle.jx_stream.specs.First.{canvas_of, tile_number, siz_of, after_siz, front_fault, tiles_fault, lacks_default, main_header, main_fault, parts_after, lacks_part, body_fault, stream_from, stream_in, parameters_fault, later_fault, first_fault}
+use Rattle.jx_stream.specs.First.{tile_number, siz_of, after_siz, front_fault, tiles_fault, lacks_default, main_header, main_fault, parts_after, lacks_part, body_fault, stream_from, stream_in, parameters_fault, later_fault, first_fault}
 use Rattle.jx_stream.proofs.FaultLemmas.{cause_first, cause_later, cause_same, none_of_both, broken_true, broken_false}
-use Rattle.std.proofs.lemmas.Bool.{and_parts, eqb-true, ltb-true, leb-true}
+use Rattle.std.proofs.lemmas.Bool.{and_parts, eqb-true}
 
 -- SOC and SIZ
 
@@ -53,52 +51,6 @@ front_cause b rule.NoMemory x soc siz is h = tt
 pub front_clear : (b : List ℕ) → marker_at b 0 79 ≡ true → marker_at b 2 81 ≡ true → first_broken 1 (drop 2 b) ≡ None → front_fault b ≡ None
 unfolding front_fault
 front_clear b soc siz h = rw (soc, siz, h) refl
-
--- the canvas of a SIZ in its ranges
-
-record OnAxis (end begin tile first : ℕ) : Type 0 where
-  pub some : 0 < tile
-  pub from : first ≤ begin
-  pub before : begin < end
-  pub reaches : begin < first + tile
-
-on_axis : (end begin tile first : ℕ) → axis_fits end begin tile first ≡ true → OnAxis end begin tile first
-on_axis end begin tile first h =
-    let one = and_parts (nat_lt 0 tile) (nat_le first begin && (nat_lt begin end && nat_lt begin (first + tile))) h in
-    let two = and_parts (nat_le first begin) (nat_lt begin end && nat_lt begin (first + tile)) one.1 in
-    let three = and_parts (nat_lt begin end) (nat_lt begin (first + tile)) two.1 in
-    record { some = ltb-true 0 tile one.0; from = leb-true first begin two.0; before = ltb-true begin end three.0; reaches = ltb-true begin (first + tile) three.1 }
-
-record SizFits (siz : Siz) : Type 0 where
-  pub comps : length siz.comps ≤ 16384
-  pub across : OnAxis siz.x1 siz.x0 siz.tw siz.tx
-  pub down : OnAxis siz.y1 siz.y0 siz.th siz.ty
-
-fits_of : (siz : Siz) → siz_fits siz ≡ true → SizFits siz
-fits_of siz h =
-    let across = axis_fits siz.x1 siz.x0 siz.tw siz.tx in
-    let down = axis_fits siz.y1 siz.y0 siz.th siz.ty in
-    let each = list_all comp_size_fits siz.comps in
-    let one = and_parts (nat_lt 0 (length siz.comps)) (nat_le (length siz.comps) 16384 && (across && (down && each))) h in
-    let two = and_parts (nat_le (length siz.comps) 16384) (across && (down && each)) one.1 in
-    let three = and_parts across (down && each) two.1 in
-    let four = and_parts down each three.1 in
-    record { comps = leb-true (length siz.comps) 16384 two.0; across = on_axis siz.x1 siz.x0 siz.tw siz.tx three.0; down = on_axis siz.y1 siz.y0 siz.th siz.ty four.0 }
-
-pub comps_fit : (siz : Siz) → siz_fits siz ≡ true → length siz.comps ≤ 16384
-comps_fit siz h = (fits_of siz h).comps
-
-pub canvas_fits : (siz : Siz) → siz_fits siz ≡ true → CanvasInRange (canvas_of siz)
-canvas_fits siz h = let fits = fits_of siz h in record {
-  wide = fits.across.some;
-  offset_across = fits.across.from;
-  some_across = fits.across.before;
-  first_across = fits.across.reaches;
-  high = fits.down.some;
-  offset_down = fits.down.from;
-  some_down = fits.down.before;
-  first_down = fits.down.reaches;
-}
 
 -- the main header
 

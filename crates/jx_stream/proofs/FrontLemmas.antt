@@ -22,8 +22,9 @@ use Rattle.jx_stream.specs.Parts.{marker_at, sot_in, after_sot, kind_of, comes_o
 use Rattle.jx_stream.specs.Tiles.{tiles_of}
 use Rattle.jx_stream.specs.Params.{entries_fault, planes_fault}
 use Rattle.jx_stream.specs.First.{tile_number, siz_of, after_siz, front_fault, tiles_fault, lacks_default, main_header, main_fault, parts_after, lacks_part, body_fault, stream_from, parameters_fault, later_fault, first_fault}
-use Rattle.jx_stream.specs.Spells.{TilePart, all_bytes, head_bytes, part_bytes, part_of, placed, AreSegments, AreTileParts, first_sot, Spells}
-use Rattle.jx_stream.specs.FirstViolated.{main_bytes, front_bytes, sot_bytes, header_bytes, AreNamed, AreParts, IsHeader, IsWhole, IsInSiz, IsInMain, IsAtFirstSot, IsAtPart, IsAtSot, IsInHeader, IsAtSod, IsAtEoc, IsShort, IsOver, IsFirst, IsWithin}
+use Rattle.jx_stream.specs.Spells.{TilePart, all_bytes, head_bytes, part_bytes, part_of, placed, AreSegments, AreTileParts, first_sot}
+use Rattle.jx_stream.specs.Read.{IsRead}
+use Rattle.jx_stream.specs.FirstViolated.{main_bytes, front_bytes, sot_bytes, header_bytes, AreNamed, AreParts, IsHeader, IsWhole, IsInSiz, IsInMain, IsAtFirstSot, IsAtPart, IsAtSot, IsInHeader, IsAtSod, IsAtEoc, IsShort, IsOver, IsFirst}
 use Rattle.jx_stream.proofs.FaultLemmas.{none_of_both, broken_false}
 use Rattle.jx_stream.proofs.HeaderLemmas.{stops_at_fault, stopped_fault}
 use Rattle.jx_stream.proofs.PartLemmas.{or_is_true, parts_on, go_on, stop_at_fault, fault_at_end}
@@ -463,6 +464,6 @@ fault_of_some e g h = cc
 pub one_first : (b : List ℕ) (f g : StreamFault) → IsFirst b f → IsFirst b g → f ≡ g
 one_first b f g one other = fault_of_some f g (sym (told_is_first b f one) ∙ told_is_first b g other)
 
-pub never_both : (b : List ℕ) (f : StreamFault) (s : Stream) → IsFirst b f → Spells b s → IsWithin s → ⊥
-never_both b f s first spells within =
-    let e : None ≡ Some f = sym (clear_limits b s spells within.few within.planes) ∙ told_is_first b f first in cc
+pub never_both : (b : List ℕ) (f : StreamFault) (s : Stream) → IsFirst b f → IsRead b s → ⊥
+never_both b f s first read =
+    let e : None ≡ Some f = sym (clear_limits b s read) ∙ told_is_first b f first in cc

@@ -12,3 +12,12 @@ pub mod PartsReadLemmas
 pub mod UniqueLemmas
 pub mod FrontLemmas
 pub mod ViolatedLemmas
+pub mod SegmentLemmas
+pub mod ShapeLemmas
+pub mod PlaneLemmas
+pub mod EntryLemmas
+pub mod RangeLemmas
+pub mod BareLemmas
+pub mod ViewLemmas
+pub mod KindLemmas
+pub mod BandLemmas

@@ -1,5 +1,5 @@
 -- What bytes spell is what is read from them.
-use Rattle.std.proofs.Common.{◌≡◌, ◌∙◌, ◌<◌, ◌≤◌, ◌+◌, ℕ, true, false, arith, List, [], ◌∷◌, ◌++◌, length, drop, refl, sym, ap, subst, None, ◌⊎◌, inl, inr, add-zero}
+use Rattle.std.proofs.Common.{◌≡◌, ◌∙◌, ◌<◌, ◌+◌, ℕ, true, false, arith, List, [], ◌∷◌, ◌++◌, length, drop, refl, sym, ap, subst, None, inl, inr, add-zero}
 use Rattle.std.proofs.lemmas.List.{append-nil, append_assoc, drop-drop, drop_at, length-append}
 use Rattle.jx_marker.specs.declared.Segment.{Segment}
 use Rattle.jx_marker.specs.Segments.{spelling, segment_at, size_at}

@@ -1,5 +1,5 @@
 -- The stream that a file spells is the one that stands in it, and no rule is violated.
-use Rattle.std.proofs.Common.{◌≡◌, ◌∙◌, ◌<◌, ◌+◌, ℕ, true, false, arith, List, [], ◌∷◌, ◌++◌, length, drop, refl, sym, ap, subst, Option, Some, None, cond, nat_lt, inl, inr, Result, Err}
+use Rattle.std.proofs.Common.{◌≡◌, ◌∙◌, ◌<◌, ◌+◌, ℕ, true, false, arith, List, [], ◌∷◌, ◌++◌, length, drop, refl, sym, ap, subst, Option, Some, None, cond, nat_lt, ◌⊎◌, inl, inr, Result, Ok, Err}
 use Rattle.std.specs.List.{flat_map, find}
 use Rattle.std.specs.Option.{option_or}
 use Rattle.std.proofs.lemmas.List.{append_assoc}
@@ -14,14 +14,15 @@ use Rattle.jx_stream.specs.declared.headers.Header.{Header}
 use Rattle.jx_stream.specs.declared.parts.Part.{Part}
 use Rattle.jx_stream.specs.declared.Stream.{Stream}
 use Rattle.jx_stream.specs.declared.Tile.{Tile}
-use Rattle.jx_stream.specs.Faults.{broken, IsCause}
+use Rattle.jx_stream.specs.Faults.{broken, IsCause, Answers}
 use Rattle.jx_stream.specs.Headers.{header_at, header_fault}
 use Rattle.jx_stream.specs.Parts.{marker_at, Parts, parts_from, parts_fault, fault_after}
 use Rattle.jx_stream.specs.Tiles.{tiles_of}
 use Rattle.jx_stream.specs.Params.{tile_has_too_few, tile_planes, rule_9_of, limit_4_of, planes_fault}
 use Rattle.jx_stream.specs.First.{tile_number, siz_of, after_siz, front_fault, tiles_fault, lacks_default, main_header, main_fault, parts_after, lacks_part, body_fault, stream_from, stream_in, parameters_fault, later_fault, first_fault}
 use Rattle.jx_stream.specs.Spells.{TilePart, all_bytes, part_bytes, placed, AreSegments, AreTileParts, first_sot, Spells}
-use Rattle.jx_stream.proofs.FaultLemmas.{none_of_both, broken_false}
+use Rattle.jx_stream.specs.Read.{IsRead}
+use Rattle.jx_stream.proofs.FaultLemmas.{none_of_both, none_first, none_later, broken_false}
 use Rattle.jx_stream.proofs.FirstLemmas.{siz_stands, front_clear}
 use Rattle.jx_stream.proofs.SpellLemmas.{regroup}
 use Rattle.jx_stream.proofs.OneLemmas.{stands_there, drop_on, header_read, header_clear}
@@ -114,7 +115,7 @@ front_read b siz later range h =
     }
 
 -- what is spelled is read, and the first violation is a limit or none
-pub record IsRead (b : List ℕ) (s : Stream) : Type 0 where
+pub record IsTold (b : List ℕ) (s : Stream) : Type 0 where
   pub stream : s ≡ stream_in b
   pub first : first_fault b ≡ option_or (tiles_fault s.siz) (planes_fault s.main (length s.siz.comps) s.tiles)
 
@@ -135,7 +136,7 @@ pub stream_made : (siz : Siz) (b : List ℕ) (start : ℕ) (main : List Segment)
 unfolding stream_from
 stream_made siz b start main all tiles of parts made = rw (of, parts, made) refl
 
-pub is_read : (b : List ℕ) (s : Stream) → Spells b s → IsRead b s
+pub is_read : (b : List ℕ) (s : Stream) → Spells b s → IsTold b s
 is_read b s spells =
     let comps = length s.siz.comps in
     let tiles = tile_number s.siz in
@@ -158,8 +159,18 @@ pub only_one : (b : List ℕ) (one other : Stream) → Spells b one → Spells b
 only_one b one other spells spells_other = (is_read b one spells).stream ∙ sym (is_read b other spells_other).stream
 
 -- the stream that is spelled, of which no limit is passed
-pub clear_limits : (b : List ℕ) (s : Stream) → Spells b s → tiles_fault s.siz ≡ None → planes_fault s.main (length s.siz.comps) s.tiles ≡ None → first_fault b ≡ None
-clear_limits b s spells tiles planes = (is_read b s spells).first ∙ none_of_both (tiles_fault s.siz) (planes_fault s.main (length s.siz.comps) s.tiles) tiles planes
+pub clear_limits : (b : List ℕ) (s : Stream) → IsRead b s → first_fault b ≡ None
+clear_limits b s read = (is_read b s read.spelled).first ∙ none_of_both (tiles_fault s.siz) (planes_fault s.main (length s.siz.comps) s.tiles) read.tiles read.planes
+
+-- where a file violates no rule up to 24 and passes no limit up to 4
+pub within_limits : (b : List ℕ) (s : Stream) → first_fault b ≡ None → Spells b s → IsRead b s
+within_limits b s clear spells =
+    let none = sym (is_read b s spells).first ∙ clear in
+    record {
+      spelled = spells;
+      tiles = none_first (tiles_fault s.siz) (planes_fault s.main (length s.siz.comps) s.tiles) none;
+      planes = none_later (tiles_fault s.siz) (planes_fault s.main (length s.siz.comps) s.tiles) none;
+    }
 
 planes_alone : (found : Option ℕ) (number place : ℕ) → limit_4_of found ≡ Some (fault.Rule number place) → ⊥
 planes_alone None number place h = cc
@@ -183,8 +194,19 @@ rule_unspelled b s number place h spells = limits_alone s.siz s.main (length s.s
 pub read_only : (b : List ℕ) (s : Stream) → s ≡ stream_in b → (other : Stream) → Spells b other → other ≡ s
 read_only b s is other spells = (is_read b other spells).stream ∙ sym is
 
-pub read_spelled : (b : List ℕ) (s : Stream) → AreBytes b → first_fault b ≡ None → s ≡ stream_in b → Spells b s
-read_spelled b s are clear is = subst (λ (x : Stream). Spells b x) (sym is) (whole_spelled b are clear)
+pub read_spelled : (b : List ℕ) (s : Stream) → AreBytes b → first_fault b ≡ None → s ≡ stream_in b → IsRead b s
+read_spelled b s are clear is = within_limits b s clear (subst (λ (x : Stream). Spells b x) (sym is) (whole_spelled b are clear))
+
+-- a stream that is spelled within the limits is read, but for want of memory
+
+no_cause : (e : StreamFault) (first : Option StreamFault) → first ≡ None → IsCause e first → e ≡ fault.NoMemory
+no_cause (fault.Rule number place) first none cause = let wrong : None ≡ Some (fault.Rule number place) = sym none ∙ cause in absurd (cc)
+no_cause (fault.Limit number found) first none cause = let wrong : None ≡ Some (fault.Limit number found) = sym none ∙ cause in absurd (cc)
+no_cause fault.NoMemory first none cause = refl
+
+pub answer_read : (b : List ℕ) (r : Result Stream StreamFault) → Answers r (first_fault b) (λ s. s ≡ stream_in b) → (s : Stream) → IsRead b s → (r ≡ Ok s) ⊎ (r ≡ Err fault.NoMemory)
+answer_read b (Ok x) answer s read = inl (ap (λ (y : Stream). Ok y) (answer.1 ∙ sym (is_read b s read.spelled).stream))
+answer_read b (Err e) answer s read = inr (ap (λ (y : StreamFault). Err y) (no_cause e (first_fault b) (clear_limits b s read) answer))
 
 same_fault : (e other : StreamFault) {X : Type 0} (r : Result X StreamFault) → r ≡ Err e → r ≡ Err other → e ≡ other
 same_fault e other r one two = let p : Err e ≡ Err other = sym one ∙ two in cc

@@ -21,14 +21,14 @@ use Rattle.jx_stream.specs.Parts.{marker_at, sot_in, after_sot, kind_of, comes_o
 use Rattle.jx_stream.specs.Tiles.{tiles_of}
 use Rattle.jx_stream.specs.Params.{entries_fault, planes_fault}
 use Rattle.jx_stream.specs.First.{tile_number, siz_of, after_siz, front_fault, tiles_fault, lacks_default, main_header, main_fault, parts_after, lacks_part, body_fault, stream_in, parameters_fault, later_fault, first_fault}
-use Rattle.jx_stream.specs.Spells.{TilePart, all_bytes, part_bytes, part_of, placed, IsTilePart, first_sot, Spells}
-use Rattle.jx_stream.specs.FirstViolated.{main_bytes, front_bytes, header_bytes, IsMain, AreNamed, AreParts, sot_first, IsHeader, IsInSiz, IsInMain, IsAtFirstSot, IsAtPart, IsAtSot, IsInHeader, IsAtSod, IsAtEoc, IsShort, IsOver, IsFirst, IsWithin}
-use Rattle.jx_stream.proofs.FaultLemmas.{none_first, none_later}
+use Rattle.jx_stream.specs.Spells.{TilePart, all_bytes, part_bytes, part_of, placed, IsTilePart, first_sot}
+use Rattle.jx_stream.specs.Read.{IsRead}
+use Rattle.jx_stream.specs.FirstViolated.{main_bytes, front_bytes, header_bytes, IsMain, AreNamed, AreParts, sot_first, IsHeader, IsInSiz, IsInMain, IsAtFirstSot, IsAtPart, IsAtSot, IsInHeader, IsAtSod, IsAtEoc, IsShort, IsOver, IsFirst}
 use Rattle.jx_stream.proofs.PartLemmas.{sot_stands, parts_stopped, parts_going, stop_at_eoc, goes_clear}
 use Rattle.jx_stream.proofs.SpellLemmas.{is_clear, begins_at, takes, header_spelled, header_ends, start_rules, sod_ends, part_written, goes_on_at}
-use Rattle.jx_stream.proofs.WholeLemmas.{FrontClear, front_is_clear, body_is_clear, front_spelled, MainSpelled, main_spelled, WholeSpelled, up_to_eoc, stream_shape, clear_spelled, whole_spelled}
+use Rattle.jx_stream.proofs.WholeLemmas.{FrontClear, front_is_clear, body_is_clear, front_spelled, MainSpelled, main_spelled, WholeSpelled, up_to_eoc, stream_shape, clear_spelled}
 use Rattle.jx_stream.proofs.PartsReadLemmas.{sot_read, sot_size}
-use Rattle.jx_stream.proofs.UniqueLemmas.{is_read}
+use Rattle.jx_stream.proofs.UniqueLemmas.{read_spelled}
 use Rattle.jx_stream.proofs.FrontLemmas.{main_size, front_size, header_size, main_rest, front_rest, sot_rest, header_rest, told_is_first}
 use Rattle.std.proofs.lemmas.Bool.{cases_Bool}
 
@@ -540,23 +540,11 @@ one_or_none : (x : Option StreamFault) → ((f : StreamFault) × (x ≡ Some f))
 one_or_none None = inr refl
 one_or_none (Some f) = inl (f, refl)
 
-within_there : (b : List ℕ) → AreBytes b → first_fault b ≡ None → Spells b (stream_in b) × IsWithin (stream_in b)
-within_there b are h =
-    let s = stream_in b in
-    let spelled = whole_spelled b are h in
-    let none : option_or (tiles_fault s.siz) (planes_fault s.main (length s.siz.comps) s.tiles) ≡ None = sym (is_read b s spelled).first ∙ h in (
-      spelled,
-      record {
-        few = none_first (tiles_fault s.siz) (planes_fault s.main (length s.siz.comps) s.tiles) none;
-        planes = none_later (tiles_fault s.siz) (planes_fault s.main (length s.siz.comps) s.tiles) none;
-      },
-    )
-
-pub either_way : (b : List ℕ) → AreBytes b → ((f : StreamFault) × IsFirst b f) ⊎ ((s : Stream) × (Spells b s × IsWithin s))
+pub either_way : (b : List ℕ) → AreBytes b → ((f : StreamFault) × IsFirst b f) ⊎ ((s : Stream) × IsRead b s)
 either_way b are =
     elim (one_or_none (first_fault b)) [
       | inl some ↦ inl (some.0, first_is_told b some.0 are some.1)
-      | inr none ↦ inr (stream_in b, within_there b are none)
+      | inr none ↦ inr (stream_in b, read_spelled b (stream_in b) are none refl)
     ]
 
 -- what an answer of reading says

@@ -194,8 +194,3 @@ IsFirst b f =
     ⊎ (IsAtEoc b f
     ⊎ (IsShort b f
     ⊎ IsOver b f)))))))))
-
--- a stream that passes none of the limits 3 and 4
-pub record IsWithin (s : Stream) : Type 0 where
-  pub few : tiles_fault s.siz ≡ None
-  pub planes : planes_fault s.main (length s.siz.comps) s.tiles ≡ None

@@ -15,6 +15,7 @@ use Rattle.jx_stream.specs.declared.Params.{Params}
 use Rattle.jx_stream.specs.declared.faults.StreamFault.{StreamFault}
 use Rattle.jx_stream.specs.declared.faults.StreamFault.TheVariants as fault
 use Rattle.jx_stream.specs.Tiles.{in_slot}
+use Rattle.jx_stream.specs.TileHeaders.{TileHeaders}
 
 -- what a segment says of coding, quantization and the region's shift
 abbrev pub shape_in : Option Segment → Option Shape
@@ -103,14 +104,19 @@ abbrev pub band_planes : Option Quant → Option Shape → ℕ → List ℕ
 band_planes (Some quant) (Some shape) shift = map (planes_of quant shape.levels shift) (range_with_len 0 (band_count shape.levels))
 band_planes _ _ shift = []
 
--- some component of the tile has too few entries
-unfoldable pub tile_has_too_few : List Segment → ℕ → Tile → Bool
-tile_has_too_few main comps tile = list_any (λ (comp : ℕ). has_too_few (quant_of tile.header main comp) (shape_of tile.header main comp)) (range_with_len 0 comps)
+-- some component of a tile with this header has too few entries
+abbrev pub header_has_too_few : List Segment → ℕ → List Segment → Bool
+header_has_too_few main comps own = list_any (λ (comp : ℕ). has_too_few (quant_of own main comp) (shape_of own main comp)) (range_with_len 0 comps)
 
--- the planes of all bands of a tile
+unfoldable pub tile_has_too_few : List Segment → ℕ → Tile → Bool
+tile_has_too_few main comps tile = header_has_too_few main comps tile.header
+
+-- the planes of all bands of a tile with this header
+abbrev pub header_planes : List Segment → ℕ → List Segment → List ℕ
+header_planes main comps own = flat_map (λ (comp : ℕ). band_planes (quant_of own main comp) (shape_of own main comp) (shift_of own main comp)) (range_with_len 0 comps)
+
 unfoldable pub tile_planes : List Segment → ℕ → Tile → List ℕ
-tile_planes main comps tile =
-    flat_map (λ (comp : ℕ). band_planes (quant_of tile.header main comp) (shape_of tile.header main comp) (shift_of tile.header main comp)) (range_with_len 0 comps)
+tile_planes main comps tile = header_planes main comps tile.header
 
 -- rule 9 after EOC, at the first SOT of the lowest tile
 abbrev pub rule_9_of : Option Tile → Option StreamFault
@@ -128,7 +134,7 @@ limit_4_of (Some planes) = Some (fault.Limit 4 planes)
 abbrev pub planes_fault : List Segment → ℕ → List Tile → Option StreamFault
 planes_fault main comps tiles = limit_4_of (find (nat_lt 74) (flat_map (tile_planes main comps) tiles))
 
--- all parameters of a tile-component, of these headers
+-- all parameters of a tile-component
 
 abbrev pub shape_or : Option Shape → Shape
 shape_or (Some shape) = shape
@@ -167,6 +173,33 @@ params_from shape cod quant shift = record {
   shift = shift;
 }
 
+-- those that a tile's header and the main header give
+abbrev pub params_by : List Segment → List Segment → ℕ → Params
+params_by tile main comp = params_from (shape_or (shape_of tile main comp)) (cod_or (cod_of tile main)) (quant_or (quant_of tile main comp)) (shift_of tile main comp)
+
+-- the exponent and the mantissa of a band's step
+abbrev pub step_by : List Segment → List Segment → ℕ → ℕ → Band → ℕ × ℕ
+step_by tile main comp res band = (
+  exponent_of (quant_or (quant_of tile main comp)) (shape_or (shape_of tile main comp)).levels (number_of res band),
+  mantissa_of (quant_or (quant_of tile main comp)) (number_of res band),
+)
+
+-- the planes of a band
+abbrev pub planes_by : List Segment → List Segment → ℕ → ℕ → Band → ℕ
+planes_by tile main comp res band =
+    planes_of (quant_or (quant_of tile main comp)) (shape_or (shape_of tile main comp)).levels (shift_of tile main comp) (number_of res band)
+
+-- the same of these headers
+
+abbrev pub params_in : TileHeaders → ℕ → Params
+params_in h comp = params_by h.own h.main comp
+
+abbrev pub step_in : TileHeaders → ℕ → ℕ → Band → ℕ × ℕ
+step_in h comp res band = step_by h.own h.main comp res band
+
+abbrev pub planes_in : TileHeaders → ℕ → ℕ → Band → ℕ
+planes_in h comp res band = planes_by h.own h.main comp res band
+
 -- the header of a tile
 abbrev pub header_in : Option Tile → List Segment
 header_in None = []
@@ -174,6 +207,9 @@ header_in (Some tile) = tile.header
 
 abbrev pub header_of : Stream → ℕ → List Segment
 header_of s tile = header_in (slice_get s.tiles tile)
+
+abbrev pub headers_at : Stream → ℕ → TileHeaders
+headers_at s tile = record { siz = s.siz; main = s.main; own = header_of s tile }
 
 -- the shape and the quantization of a component of a tile of a stream
 abbrev pub shape_at : Stream → ℕ → ℕ → Option Shape
@@ -185,17 +221,12 @@ quant_at s tile comp = quant_of (header_of s tile) s.main comp
 abbrev pub shift_at : Stream → ℕ → ℕ → ℕ
 shift_at s tile comp = shift_of (header_of s tile) s.main comp
 
+-- its parameters, a band's step and its planes
 abbrev pub params_of : Stream → ℕ → ℕ → Params
-params_of s tile comp = params_from (shape_or (shape_at s tile comp)) (cod_or (cod_of (header_of s tile) s.main)) (quant_or (quant_at s tile comp)) (shift_at s tile comp)
+params_of s tile comp = params_in (headers_at s tile) comp
 
--- the exponent and the mantissa of a band's step
 abbrev pub step_of : Stream → ℕ → ℕ → ℕ → Band → ℕ × ℕ
-step_of s tile comp res band = (
-  exponent_of (quant_or (quant_at s tile comp)) (shape_or (shape_at s tile comp)).levels (number_of res band),
-  mantissa_of (quant_or (quant_at s tile comp)) (number_of res band),
-)
+step_of s tile comp res band = step_in (headers_at s tile) comp res band
 
--- the planes of a band
 abbrev pub planes_at : Stream → ℕ → ℕ → ℕ → Band → ℕ
-planes_at s tile comp res band =
-    planes_of (quant_or (quant_at s tile comp)) (shape_or (shape_at s tile comp)).levels (shift_at s tile comp) (number_of res band)
+planes_at s tile comp res band = planes_in (headers_at s tile) comp res band

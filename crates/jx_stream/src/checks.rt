@@ -1,94 +1,18 @@
-//! What is tested once all tile-parts were read.
+//! What is tested once all tile-parts were read. Tiles whose headers give no parameter are tested once for all.
 
-ghost use Rattle.std.specs.Prelude.{◌≡◌, ◌≤◌, ◌<◌, ◌+◌, ◌-◌, ◌*◌, ◌^◌, nat_lt, length, map, IfOk, MatchOption, Some, None, ℕ, slice_index};
+ghost use Rattle.std.specs.Prelude.{◌≡◌, ◌≤◌, ◌<◌, ◌+◌, ◌-◌, ◌*◌, ◌^◌, nat_lt, length, map, IfOk, ℕ, []};
 ghost use Rattle.std.specs.List.{find, flat_map, list_any, range_with_len};
-ghost use Rattle.std.specs.Option.{option_or};
 ghost use Rattle.jx_stream.specs.Faults.{Answers};
-ghost use Rattle.jx_stream.specs.Headers.{slot_count};
-ghost use Rattle.jx_stream.specs.Params.{chosen, shift_in, band_count, shape_of, quant_of, shift_of, has_too_few, level_of, exponent_of, planes_of, band_planes, tile_has_too_few, tile_planes, entries_fault, planes_fault};
+ghost use Rattle.jx_stream.specs.Params.{band_count, band_planes, entries_fault, has_too_few, header_has_too_few, header_planes, planes_fault, planes_of, quant_of, shape_of, shift_of};
 
-use crate::index::{Index, index_of};
+use crate::index::Index;
+use crate::precedence::{quant_of, shape_of, shift_of};
 use crate::steps::planes_of;
 use crate::{StreamFault, Tile};
-use jx_marker::{Quant, Segment, Shape};
-use std::alloc::Global;
+use jx_marker::{Quant, Segment};
+use std::alloc::{AllocError, Global};
 
-/// The first that is there of the tile's own segment, its default, the main header's own, the main default.
-fn chosen<'a>(
-    tile: &'a Index<'a>,
-    main: &'a Index<'a>,
-    own: usize,
-    default: usize,
-) -> Option<&'a Segment>
-    requires tile_own { own < length tile.now.table.items }
-    requires tile_default { default < length tile.now.table.items }
-    requires main_own { own < length main.now.table.items }
-    requires main_default { default < length main.now.table.items }
-    ensures { MatchOption result (chosen own default tile.now.segments.now main.now.segments.now ≡ None) (λ segment. chosen own default tile.now.segments.now main.now.segments.now ≡ Some segment.now) }
-{
-    if let Some(segment) = tile.in_slot(own) {
-        return Some(segment);
-    }
-    if let Some(segment) = tile.in_slot(default) {
-        return Some(segment);
-    }
-    if let Some(segment) = main.in_slot(own) {
-        return Some(segment);
-    }
-    main.in_slot(default)
-}
-
-/// Two headers of a picture with so many components.
-fn shape_of<'a>(tile: &'a Index<'a>, main: &'a Index<'a>, comp: usize) -> Option<&'a Shape>
-    requires tile { 7 + 3 * comp < length tile.now.table.items }
-    requires main { 7 + 3 * comp < length main.now.table.items }
-    ensures { MatchOption result (shape_of tile.now.segments.now main.now.segments.now comp ≡ None) (λ shape. shape_of tile.now.segments.now main.now.segments.now comp ≡ Some shape.now) }
-{
-    match chosen(tile, main, 5 + 3 * comp, 1) {
-        Some(Segment::Cod(cod)) => Some(&cod.shape),
-        Some(Segment::Coc { shape, .. }) => Some(shape),
-        _ => None,
-    }
-}
-
-fn quant_of<'a>(tile: &'a Index<'a>, main: &'a Index<'a>, comp: usize) -> Option<&'a Quant>
-    requires tile { 7 + 3 * comp < length tile.now.table.items }
-    requires main { 7 + 3 * comp < length main.now.table.items }
-    ensures { MatchOption result (quant_of tile.now.segments.now main.now.segments.now comp ≡ None) (λ quant. quant_of tile.now.segments.now main.now.segments.now comp ≡ Some quant.now) }
-{
-    match chosen(tile, main, 6 + 3 * comp, 2) {
-        Some(Segment::Qcd(quant)) => Some(quant),
-        Some(Segment::Qcc { quant, .. }) => Some(quant),
-        _ => None,
-    }
-}
-
-fn shift_of(tile: &Index, main: &Index, comp: usize) -> u8
-    requires tile { 7 + 3 * comp < length tile.now.table.items }
-    requires main { 7 + 3 * comp < length main.now.table.items }
-    ensures { result ≡ shift_of tile.now.segments.now main.now.segments.now comp }
-{
-    if let Some(segment) = tile.in_slot(7 + 3 * comp) {
-        return shift_in(segment);
-    }
-    match main.in_slot(7 + 3 * comp) {
-        Some(segment) => shift_in(segment),
-        None => 0,
-    }
-}
-
-fn shift_in(segment: &Segment) -> u8
-    ensures { result ≡ shift_in (Some segment.now) }
-{
-    match segment {
-        Segment::Rgn { shift, .. } => *shift,
-        _ => 0,
-    }
-}
-
-fn comp_has_too_few(tile: &Index, main: &Index, comp: usize) -> bool
-    requires tile { 7 + 3 * comp < length tile.now.table.items }
-    requires main { 7 + 3 * comp < length main.now.table.items }
+fn comp_has_too_few(tile: &Index, main: &Index, comp: u16) -> bool
     ensures { result ≡ has_too_few (quant_of tile.now.segments.now main.now.segments.now comp) (shape_of tile.now.segments.now main.now.segments.now comp) }
 {
     let Some(quant) = quant_of(tile, main, comp) else {
@@ -102,9 +26,7 @@ fn comp_has_too_few(tile: &Index, main: &Index, comp: usize) -> bool
 }
 
 /// The planes of the component's first band that has too many.
-fn comp_over(tile: &Index, main: &Index, comp: usize) -> Option<u32>
-    requires tile { 7 + 3 * comp < length tile.now.table.items }
-    requires main { 7 + 3 * comp < length main.now.table.items }
+fn comp_over(tile: &Index, main: &Index, comp: u16) -> Option<u32>
     ensures { result ≡ find (nat_lt 74) (band_planes (quant_of tile.now.segments.now main.now.segments.now comp) (shape_of tile.now.segments.now main.now.segments.now comp) (shift_of tile.now.segments.now main.now.segments.now comp)) }
 {
     let Some(quant) = quant_of(tile, main, comp) else {
@@ -130,11 +52,9 @@ fn first_over(quant: &Quant, levels: u8, shift: u8) -> Option<u32>
 }
 
 fn has_too_few(tile: &Index, main: &Index, comps: u16) -> bool
-    requires tile { length tile.now.table.items ≡ slot_count comps }
-    requires main { length main.now.table.items ≡ slot_count comps }
-    ensures { result ≡ list_any (λ comp. has_too_few (quant_of tile.now.segments.now main.now.segments.now comp) (shape_of tile.now.segments.now main.now.segments.now comp)) (range_with_len 0 comps) }
+    ensures { result ≡ header_has_too_few main.now.segments.now comps tile.now.segments.now }
 {
-    for comp in 0..usize::from(comps) {
+    for comp in 0..comps {
         if comp_has_too_few(tile, main, comp) {
             return true;
         }
@@ -143,17 +63,35 @@ fn has_too_few(tile: &Index, main: &Index, comps: u16) -> bool
 }
 
 fn tile_over(tile: &Index, main: &Index, comps: u16) -> Option<u32>
-    requires tile { length tile.now.table.items ≡ slot_count comps }
-    requires main { length main.now.table.items ≡ slot_count comps }
-    ensures { result ≡ find (nat_lt 74) (flat_map (λ comp. band_planes (quant_of tile.now.segments.now main.now.segments.now comp) (shape_of tile.now.segments.now main.now.segments.now comp) (shift_of tile.now.segments.now main.now.segments.now comp)) (range_with_len 0 comps)) }
+    ensures { result ≡ find (nat_lt 74) (header_planes main.now.segments.now comps tile.now.segments.now) }
 {
-    for comp in 0..usize::from(comps) {
+    for comp in 0..comps {
         let over = comp_over(tile, main, comp);
         if over.is_some() {
             return over;
         }
     }
     None
+}
+
+/// Whether some component of a tile with this header has too few entries. `bare` says it of a tile whose header gives
+/// no parameter.
+#[tactic(auto, using(crate::proofs::BareLemmas::bare_too_few))]
+fn is_short(
+    alloc: Global,
+    main: &Index,
+    comps: u16,
+    header: &[Segment],
+    bare: bool,
+) -> Result<bool, AllocError>
+    requires { bare ≡ header_has_too_few main.now.segments.now comps [] }
+    ensures { IfOk result (λ short. short ≡ header_has_too_few main.now.segments.now comps header.now) }
+{
+    let own = Index::new(alloc, header, comps)?;
+    if own.bare {
+        return Ok(bare);
+    }
+    Ok(has_too_few(&own, main, comps))
 }
 
 /// Whether each component of each tile has quantization entries for its bands.
@@ -164,12 +102,11 @@ pub fn check_entries(
     comps: u16,
     tiles: &[Tile],
 ) -> Result<(), StreamFault>
-    requires { length main.now.table.items ≡ slot_count comps }
     ensures { Answers result (entries_fault main.now.segments.now comps tiles.now) (λ _. Unit {0}) }
 {
+    let bare = has_too_few(&Index::listed(&[]), main, comps);
     for tile in tiles {
-        let index = index_of(alloc, tile.header.as_slice(), comps)?;
-        if has_too_few(&index, main, comps) {
+        if is_short(alloc, main, comps, tile.header.as_slice(), bare)? {
             return Err(StreamFault::Rule {
                 number: 9,
                 place: tile.place,
@@ -177,6 +114,26 @@ pub fn check_entries(
         }
     }
     Ok(())
+}
+
+/// The first number over 74 of the planes of a tile with this header. `bare_over` is that of a tile whose header gives no
+/// parameter.
+#[tactic(auto, using(crate::proofs::BareLemmas::bare_over))]
+fn over_of(
+    alloc: Global,
+    main: &Index,
+    comps: u16,
+    header: &[Segment],
+    bare_over: Option<u32>,
+) -> Result<Option<u32>, AllocError>
+    requires { bare_over ≡ find (nat_lt 74) (header_planes main.now.segments.now comps []) }
+    ensures { IfOk result (λ over. over ≡ find (nat_lt 74) (header_planes main.now.segments.now comps header.now)) }
+{
+    let own = Index::new(alloc, header, comps)?;
+    if own.bare {
+        return Ok(bare_over);
+    }
+    Ok(tile_over(&own, main, comps))
 }
 
 /// Whether no band has more than 74 planes.
@@ -187,12 +144,11 @@ pub fn check_planes(
     comps: u16,
     tiles: &[Tile],
 ) -> Result<(), StreamFault>
-    requires { length main.now.table.items ≡ slot_count comps }
     ensures { Answers result (planes_fault main.now.segments.now comps tiles.now) (λ _. Unit {0}) }
 {
+    let bare_over = tile_over(&Index::listed(&[]), main, comps);
     for tile in tiles {
-        let index = index_of(alloc, tile.header.as_slice(), comps)?;
-        if let Some(planes) = tile_over(&index, main, comps) {
+        if let Some(planes) = over_of(alloc, main, comps, tile.header.as_slice(), bare_over)? {
             return Err(StreamFault::Limit {
                 number: 4,
                 found: u128::from(planes),

@@ -2,24 +2,28 @@
 #![tactic(auto)]
 
 mod checks;
+mod component;
 mod faults;
 mod headers;
 mod index;
 pub mod laws;
 mod lists;
 mod parts;
+mod precedence;
 mod queries;
 mod reading;
 mod steps;
 #[cfg(test)]
 mod tests;
 mod tiles;
+mod view;
 
 pub use faults::StreamFault;
 use jx_base::Style;
-use jx_marker::{Progressions, Siz};
-pub use lists::{Bodies, Segments, Tiles};
+use jx_marker::Siz;
+pub use lists::{Bodies, Entries, Segments, Tiles};
 pub use reading::read_stream;
+pub use view::{MainView, TileView};
 
 /// The data of one tile-part: where it stands in the file.
 #[derive(Clone, Copy, Debug, PartialEq, Eq)]
@@ -40,7 +44,7 @@ pub struct Tile {
     /// The COM segments of its later tile-parts.
     pub notes: Segments,
     /// The entries by which its packets are ordered.
-    pub progressions: Progressions,
+    pub progressions: Entries,
     /// The data of its tile-parts in their order.
     pub bodies: Bodies,
 }

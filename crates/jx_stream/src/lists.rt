@@ -1,8 +1,10 @@
-ghost use Rattle.std.specs.Prelude.{◌≡◌};
+ghost use Rattle.std.specs.Prelude.{◌≡◌, IfOk};
 
 use crate::{Body, Tile};
-use jx_marker::Segment;
+use jx_marker::{Progression, Segment};
+use std::alloc::{AllocError, Global};
 use std::marker::Model;
+use std::sync::ArcSlice;
 
 /// Segments, which contracts see as a list.
 #[derive(Drop)]
@@ -118,5 +120,46 @@ impl Tiles {
     {
         let Tiles { items } = self;
         items
+    }
+}
+
+/// Progression entries, which contracts see as a list. Tiles may share them.
+#[derive(Drop)]
+pub struct Entries {
+    items: ArcSlice<Progression, Global>,
+}
+
+impl Model for Entries {
+    ghost use Rattle.std.specs.Prelude.{List};
+    ghost use Rattle.std.specs.Arc.{arc_slice_items};
+    ghost use Rattle.jx_marker.specs.declared.Progression.{Progression};
+
+    ghost Value = { List Progression };
+
+    ghost view = { λ list. arc_slice_items list.items };
+}
+
+impl Entries {
+    /// The list of these entries.
+    pub fn new(items: Vec<Progression>) -> Result<Self, AllocError>
+        ensures { IfOk result (λ list. list ≡ items.items) }
+    {
+        let items = ArcSlice::from_vec(items)?;
+        Ok(Entries { items })
+    }
+
+    /// The same list once more, without a copy of its entries.
+    pub fn share(&self) -> Result<Self, AllocError>
+        ensures { IfOk result (λ list. list ≡ self.now) }
+    {
+        let items = self.items.clone()?;
+        Ok(Entries { items })
+    }
+
+    /// The entries.
+    pub fn as_slice(&self) -> &[Progression]
+        ensures { result.now ≡ self.now }
+    {
+        self.items.as_slice()
     }
 }

@@ -1,4 +1,4 @@
-ghost use Rattle.std.specs.Prelude.{◌≡◌, ◌⊎◌, ◌≤◌, ◌<◌, ◌+◌, ◌-◌, ◌*◌, ◌^◌, ◌==◌, ◌&&◌, not, nat_lt, length, drop, slice_index, IfOk, Err, ℕ, [], true};
+ghost use Rattle.std.specs.Prelude.{◌≡◌, ◌⊎◌, ◌≤◌, ◌<◌, ◌+◌, ◌-◌, ◌*◌, ◌^◌, ◌==◌, ◌&&◌, not, nat_lt, length, drop, slice_index, IfOk, Ok, Err, ℕ, [], true};
 ghost use Rattle.std.specs.List.{All, list_any};
 ghost use Rattle.std.specs.Option.{option_or};
 ghost use Rattle.jx_marker.specs.Rules.{siz_fits};
@@ -8,6 +8,7 @@ ghost use Rattle.jx_stream.specs.declared.Stream.{Stream};
 ghost use Rattle.jx_stream.specs.declared.faults.StreamFault.{StreamFault};
 ghost use Rattle.jx_stream.specs.Faults.{Answers};
 ghost use Rattle.jx_stream.specs.Spells.{Spells};
+ghost use Rattle.jx_stream.specs.Read.{IsRead};
 ghost use Rattle.jx_stream.specs.FirstViolated.{IsFirst};
 ghost use Rattle.jx_stream.specs.Headers.{slot_count};
 ghost use Rattle.jx_stream.specs.Parts.{Tracks, end_of_part};
@@ -16,7 +17,7 @@ ghost use Rattle.jx_stream.specs.First.{canvas_of, tile_number, siz_of, after_si
 
 use crate::checks::{check_entries, check_planes};
 use crate::headers::{Header, HeaderKind, fault_of, read_header, violated};
-use crate::index::index_of;
+use crate::index::Index;
 use crate::parts::{Part, has_marker, read_parts};
 use crate::tiles::tiles_of;
 use crate::{Segments, Stream, StreamFault, Tile, Tiles};
@@ -32,7 +33,7 @@ const SIZ: u8 = 81;
 const TILES: u64 = 65_535;
 
 /// The canvas and the tiles of a SIZ.
-fn canvas_of(siz: &Siz) -> Canvas
+pub fn canvas_of(siz: &Siz) -> Canvas
     ensures { result ≡ canvas_of siz.now }
 {
     Canvas {
@@ -195,7 +196,7 @@ fn check_tiles(
     requires { length main.now < 2 ^ 63 }
     ensures { Answers result (option_or (entries_fault main.now comps tiles.now) (planes_fault main.now comps tiles.now)) (λ _. Unit {0}) }
 {
-    let index = index_of(alloc, main, comps)?;
+    let index = Index::new(alloc, main, comps)?;
     check_entries(alloc, &index, comps, tiles)?;
     check_planes(alloc, &index, comps, tiles)
 }
@@ -238,9 +239,11 @@ fn read_rest(alloc: Global, bytes: &[u8], siz: Siz, start: usize) -> Result<Stre
 pub fn read_stream(alloc: Global, bytes: &[u8]) -> Result<Stream, StreamFault>
     requires { length bytes.now ≤ 2 ^ 28 }
     ensures exact { Answers result (first_fault bytes.now) (λ stream. stream ≡ stream_in bytes.now) }
-    // What is read is spelled, and nothing else is.
-    ensures spelled { IfOk result (λ stream. Spells bytes.now stream) }
+    // What is read is spelled, within the limits, and nothing else is spelled.
+    ensures read { IfOk result (λ stream. IsRead bytes.now stream) }
     ensures only { IfOk result (λ stream. (other : Stream) → Spells bytes.now other → other ≡ stream) }
+    // Where a stream is spelled, within the limits, only memory is wanting.
+    ensures memory { (stream : Stream) → IsRead bytes.now stream → (result ≡ Ok stream) ⊎ (result ≡ Err StreamFault.NoMemory) }
     // Where a rule is violated nothing is spelled.
     ensures unspelled { (number place : ℕ) (stream : Stream) → result ≡ Err (StreamFault.Rule number place) → Spells bytes.now stream → ⊥ }
     // The rule or limit of a refusal is the first one, and no other is.

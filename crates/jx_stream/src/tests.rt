@@ -1,9 +1,13 @@
 //! Worked files: one for each rule, the cuts of the smallest one, parameters by precedence, tile-parts of two
 //! tiles.
 
+mod rows;
+mod views;
+
 use super::*;
 use jx_base::Band;
 use jx_marker::Segment;
+use rows::{KINDS, ROWS};
 use std::alloc::{AllocError, Global};
 use std::process::Abort;
 use std::test::Fail;
@@ -82,55 +86,8 @@ fn answer(alloc: Global, bytes: &[u8]) -> (u8, u128) {
     }
 }
 
-// The edit: the first byte replaced, the one after the last, and what stands there in `_` for spaces.
-const ROWS: &str = "
-60 82 - 1 59
-45 47 FF50 2 45
-4 6 002A 3 2
-8 12 00000000 4 2
-6 8 4000 5 2
-51 53 0000 6 45
-57 58 40 7 45
-45 59 FF52000E01000001000104040001_7707 8 45
-63 64 43 9 59
-54 55 01 9 65
-54 55 20 9 65
-65 65 FF5E0005000100 10 65
-65 65 FF5F0009_00000001010105 11 65
-65 65 FF5D0005054040 12 65
-77 77 FF580002 13 77
-45 47 FF60 14 45
-0 82 - 15 0
-2 4 FF52 16 2
-59 65 - 17 59
-59 59 FF52000C00000001000004040001 18 59
-77 77 FF52000C00000001000004040001_FF52000C00000001000004040001 18 91
-45 47 FF4F 19 45
-77 77 FF630002 19 77
-45 45 FF51002900000000000100000001000000000000000000000001000000010000000000000000000107_0101 19 45
-69 71 0001 20 65
-75 76 01 21 65
-76 77 00 0 0
-71 75 00000012 22 65
-71 75 0000000D 22 65
-71 75 0000000E 23 79
-71 75 FFFFFFFF 22 65
-71 75 00000000 0 0
-80 82 - 23 80
-80 82 FFD8 23 80
-8 12 00000002 24 80
-4 6 FFFF 1 2
-8 12 00010000 103 65536
-8 12 FFFFFFFF 103 4294967295
-8 16 FFFFFFFFFFFFFFFF 103 18446744065119617025
-63 65 E0F8_FF5E0005000026 104 75
-63 65 E0F8_FF5E0005000025 0 0
-";
-
-#[test]
-fn rules_and_limits(rt: HostRuntime) -> Result<(), Fail> {
-    let alloc = rt.alloc();
-    for line in ROWS.lines() {
+fn rows_hold(rt: &impl Abort, alloc: Global, rows: &str) -> Result<(), Fail> {
+    for line in rows.lines() {
         let mut words = line.split_whitespace();
         let Some(from) = words.next() else { continue };
         let to = words.next().ok_or("end")?.parse::<usize>()?;
@@ -141,6 +98,16 @@ fn rules_and_limits(rt: HostRuntime) -> Result<(), Fail> {
         assert_eq!(rt; answer(alloc, &file), (number, place), "{line}");
     }
     Ok(())
+}
+
+#[test]
+fn rules_and_limits(rt: HostRuntime) -> Result<(), Fail> {
+    rows_hold(&rt, rt.alloc(), ROWS)
+}
+
+#[test]
+fn kinds_in_headers(rt: HostRuntime) -> Result<(), Fail> {
+    rows_hold(&rt, rt.alloc(), KINDS)
 }
 
 #[test]

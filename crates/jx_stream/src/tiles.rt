@@ -11,9 +11,8 @@ ghost use Rattle.jx_stream.specs.Parts.{parts_of};
 
 use crate::headers::slot_of;
 use crate::parts::Part;
-use crate::{Bodies, Body, Segments, StreamFault, Tile};
-use jx_base::NoMemory;
-use jx_marker::{Progression, Progressions, Segment};
+use crate::{Bodies, Body, Entries, Segments, Tile};
+use jx_marker::{Progression, Segment};
 use std::alloc::{AllocError, Global};
 
 /// A tile whose tile-parts are being collected.
@@ -140,14 +139,14 @@ fn cod_entry(segments: &[Segment]) -> Option<Progression>
     }
 }
 
-fn one_entry(alloc: Global, entry: Option<Progression>) -> Result<Vec<Progression>, AllocError>
-    ensures { IfOk result (λ entries. entries.items ≡ option_to_list entry) }
+fn one_entry(alloc: Global, entry: Option<Progression>) -> Result<Entries, AllocError>
+    ensures { IfOk result (λ entries. entries ≡ option_to_list entry) }
 {
     let mut entries = Vec::new(alloc);
     if let Some(entry) = entry {
         entries.push(entry)?;
     }
-    Ok(entries)
+    Entries::new(entries)
 }
 
 /// The tile's own entries, else those of the main header, else the one of its COD, else the main COD's.
@@ -155,34 +154,29 @@ fn progressions(
     alloc: Global,
     header: &[Segment],
     own: Vec<Progression>,
-    main: &[Progression],
-    default: Option<Progression>,
-) -> Result<Vec<Progression>, AllocError>
-    ensures { IfOk result (λ entries. entries.items ≡ or_list own.items (or_list main.now (or_list (entry_in (in_slot 1 header.now)) (option_to_list default)))) }
+    main: &Entries,
+    default: &Entries,
+) -> Result<Entries, AllocError>
+    ensures { IfOk result (λ entries. entries ≡ or_list own.items (or_list main.now (or_list (entry_in (in_slot 1 header.now)) default.now))) }
 {
     if !own.is_empty() {
-        return Ok(own);
+        return Entries::new(own);
     }
-    if !main.is_empty() {
-        return Vec::from_slice(alloc, main);
+    if !main.as_slice().is_empty() {
+        return main.share();
     }
     let entry = cod_entry(header);
     if entry.is_some() {
         return one_entry(alloc, entry);
     }
-    one_entry(alloc, default)
+    default.share()
 }
 
 impl Draft {
     /// The tile, with the main header's entries and the one of the main COD.
-    fn finish(
-        self,
-        alloc: Global,
-        main: &[Progression],
-        default: Option<Progression>,
-    ) -> Result<Tile, AllocError>
+    fn finish(self, alloc: Global, main: &Entries, default: &Entries) -> Result<Tile, AllocError>
         ensures { IfOk result (λ tile. (own : List Part) (segments : List Segment) → Collects own self → main.now ≡ joined segments
-            → option_to_list default ≡ entry_in (in_slot 1 segments) → tile ≡ tile_from segments own) }
+            → default.now ≡ entry_in (in_slot 1 segments) → tile ≡ tile_from segments own) }
     {
         let Draft {
             place,
@@ -196,10 +190,19 @@ impl Draft {
             place,
             header: Segments::new(header),
             notes: Segments::new(notes),
-            progressions: Progressions::new(progressions),
+            progressions,
             bodies: Bodies::new(bodies),
         })
     }
+}
+
+/// The entries of the main header.
+fn main_entries(alloc: Global, main: &[Segment]) -> Result<Entries, AllocError>
+    ensures { IfOk result (λ entries. entries ≡ joined main.now) }
+{
+    let mut entries = Vec::new(alloc);
+    push_entries(main, &mut entries)?;
+    Entries::new(entries)
 }
 
 fn finish_drafts(
@@ -211,12 +214,11 @@ fn finish_drafts(
     ensures each { IfOk result (λ tiles. (tile : ℕ) (other : Draft) (another : Tile) (own : List Part) → tile < length drafts.items
         → Collects own (slice_index_or drafts.items tile other) → slice_index_or tiles.items tile another ≡ tile_from main.now own) }
 {
-    let mut entries = Vec::new(alloc);
-    push_entries(main, &mut entries)?;
-    let default = cod_entry(main);
+    let entries = main_entries(alloc, main)?;
+    let default = one_entry(alloc, cod_entry(main))?;
     let mut tiles = Vec::new(alloc);
     for draft in drafts {
-        let tile = draft.finish(alloc, &entries, default)?;
+        let tile = draft.finish(alloc, &entries, &default)?;
         tiles.push(tile)?;
     }
     Ok(tiles)

@@ -25,32 +25,36 @@ way_here way place le some =
 abbrev walk_of : List Node → ℕ → List Bool → Walk
 walk_of nodes known bits = record { nodes = nodes; known = known; bits = bits }
 
+-- what a node's query makes of a walk
+abbrev stepped : ℕ → ℕ → Node → ℕ → ℕ → List Node → List Bool → Walk
+stepped at t node known value nodes bits =
+    walk_of (set nodes at (node_after node (max node.known known) value t)) (max known (node_after node (max node.known known) value t).known) (bits ++ node_bits node (max node.known known) value t)
+
 -- a node more of a way
 pub told_more : (values : ℕ → ℕ) (t : ℕ) (begin : List Node) (way : List ℕ) (place at : ℕ) (nodes : List Node) (above : ℕ) (node after : Node) (value : ℕ) →
     place ≤ length way → 0 < place → at ≡ get_or way (place - 1) 0 → at < length nodes → node ≡ get_or nodes at node → value ≡ values at →
     nodes ≡ (walk values t begin (drop place way)).nodes → above ≡ (walk values t begin (drop place way)).known →
     after ≡ node_after node (max node.known above) value t →
-    walk values t begin (drop (place - 1) way) ≡ walk_of (set nodes at after) after.known ((walk values t begin (drop place way)).bits ++ node_bits node (max node.known above) value t)
+    walk values t begin (drop (place - 1) way) ≡ walk_of (set nodes at after) (max above after.known) ((walk values t begin (drop place way)).bits ++ node_bits node (max node.known above) value t)
 told_more values t begin way place at nodes above node after value le some here lt read value_is nodes_are above_is after_is =
     let w : Walk = walk values t begin (drop place way) in
     let node_is : node_at nodes at ≡ node = get_or_default nodes at unknown node lt ∙ sym read in
     let node_is' : node_at w.nodes at ≡ node = ap (λ (l : List Node). node_at l at) (sym nodes_are) ∙ node_is in
     ap (walk values t begin) (way_here way place le some)
     ∙ ap (λ (n : ℕ). step values t n w) (sym here)
-    ∙ ap (λ (y : Node). walk_of (set w.nodes at (node_after y (max y.known w.known) (values at) t)) (node_after y (max y.known w.known) (values at) t).known (w.bits ++ node_bits y (max y.known w.known) (values at) t)) node_is'
-    ∙ ap (λ (k : ℕ). walk_of (set w.nodes at (node_after node (max node.known k) (values at) t)) (node_after node (max node.known k) (values at) t).known (w.bits ++ node_bits node (max node.known k) (values at) t)) (sym above_is)
-    ∙ ap (λ (m : ℕ). walk_of (set w.nodes at (node_after node (max node.known above) m t)) (node_after node (max node.known above) m t).known (w.bits ++ node_bits node (max node.known above) m t)) (sym value_is)
-    ∙ ap (λ (y : Node). walk_of (set w.nodes at y) y.known (w.bits ++ node_bits node (max node.known above) value t)) (sym after_is)
-    ∙ ap (λ (l : List Node). walk_of (set l at after) after.known (w.bits ++ node_bits node (max node.known above) value t)) (sym nodes_are)
+    ∙ ap (λ (y : Node). stepped at t y w.known (values at) w.nodes w.bits) node_is'
+    ∙ ap (λ (k : ℕ). stepped at t node k (values at) w.nodes w.bits) (sym above_is)
+    ∙ ap (λ (m : ℕ). stepped at t node above m w.nodes w.bits) (sym value_is)
+    ∙ ap (λ (y : Node). walk_of (set w.nodes at y) (max above y.known) (w.bits ++ node_bits node (max node.known above) value t)) (sym after_is)
+    ∙ ap (λ (l : List Node). walk_of (set l at after) (max above after.known) (w.bits ++ node_bits node (max node.known above) value t)) (sym nodes_are)
 
 -- the values of other nodes don't matter
 pub walk-same : (f g : ℕ → ℕ) (t : ℕ) (nodes : List Node) (way : List ℕ) → ((k : ℕ) → k < length way → f (get_or way k 0) ≡ g (get_or way k 0)) → walk f t nodes way ≡ walk g t nodes way
 walk-same f g t nodes [] same = refl
 walk-same f g t nodes (n ∷ over) same =
     let w : Walk = walk f t nodes over in
-    let node : Node = node_at w.nodes n in
     let here : f n ≡ g n = same 0 (omega arith) in
-    ap (λ (m : ℕ). walk_of (set w.nodes n (node_after node (max node.known w.known) m t)) (node_after node (max node.known w.known) m t).known (w.bits ++ node_bits node (max node.known w.known) m t)) here
+    ap (λ (m : ℕ). stepped n t (node_at w.nodes n) w.known m w.nodes w.bits) here
     ∙ ap (step g t n) (walk-same f g t nodes over (λ k lt. same (suc k) (omega arith)))
 
 -- ---- which leaves are under a node

@@ -1,15 +1,16 @@
 -- Laws of queries.
-use Rattle.std.proofs.Common.{◌≡◌, ◌&&◌, ℕ, zero, suc, ◌+◌, ◌*◌, ◌<◌, ◌≤◌, max, nat_lt, Bool, true, false, List, [], ◌∷◌, ◌++◌, length, get_or, map, replicate, refl, sym, ap, ◌∙◌, subst, cond, arith, append_assoc, Some, ◌⊎◌, inl, inr}
+use Rattle.std.proofs.Common.{◌≡◌, ◌&&◌, ℕ, zero, suc, ◌+◌, ◌*◌, ◌<◌, ◌≤◌, max, nat_lt, nat_le, not, Bool, true, false, List, [], ◌∷◌, ◌++◌, length, get_or, map, replicate, refl, sym, ap, ◌∙◌, subst, cond, arith, append_assoc, Some, ◌⊎◌, inl, inr}
 use Rattle.std.proofs.lemmas.List.{append_cancel_right, length-replicate, get_or-replicate, get_or_past}
 use Rattle.std.proofs.lemmas.Bool.{cases_lt}
+use Rattle.std.proofs.lemmas.Bool.Decides.{nat_tests}
 use Rattle.jx_tagtree.specs.declared.node.Node.{Node}
 use Rattle.jx_tagtree.specs.Shape.{IsShape, root, parent, way}
-use Rattle.jx_tagtree.specs.TagTree.{unknown, node_at, IsValueOf, Tree, query, tree_after, fresh, AreValues, ValuesOf, IsTree}
+use Rattle.jx_tagtree.specs.TagTree.{unknown, node_at, IsValueOf, Tree, query, tree_after, fresh, AreValues, ValuesOf, IsTree, Walk, walk, step, is_past, HasNothing}
 use Rattle.jx_tagtree.specs.Scan.{Scanned, scan_way}
 use Rattle.jx_tagtree.specs.Leaves.{least_leaf, AreLeaves}
 use Rattle.jx_tagtree.specs.Questions.{Question, all_bits, after_all, answers, AreAtLeaves, OneReading, AreReadBack}
-use Rattle.jx_tagtree.proofs.WayLemmas.{IsWay, way_is}
-use Rattle.jx_tagtree.proofs.TagLemmas.{After, scan_sound, IsRead, scan_only, answer_is, scanned_of}
+use Rattle.jx_tagtree.proofs.WayLemmas.{IsWay, at_top, under, way_is}
+use Rattle.jx_tagtree.proofs.TagLemmas.{Sound, Rising, After, scan_sound, IsRead, scan_only, answer_is, scanned_of, unsettled_under, walk_at, walked, stepped_is}
 use Rattle.jx_tagtree.proofs.LeafLemmas.{least_are_values, least_of_leaf}
 
 -- ---- nothing known
@@ -123,9 +124,8 @@ module _ (tree : Tree) (leaf t : ℕ) (shape : IsShape tree.wide tree.high) (is 
       ((node_at (query values tree leaf t).nodes leaf).settled && nat_lt (query values tree leaf t).known t) ≡ nat_lt (values leaf) t
   answer_of values v =
       let a = after values v in
-      ap (λ (k : ℕ). (node_at (query values tree leaf t).nodes leaf).settled && nat_lt k t) a.known_is
-      ∙ answer_is t (node_at (query values tree leaf t).nodes leaf) (values leaf) ((reads values v []).agree leaf)
-      (subst (λ (k : ℕ). ((node_at (query values tree leaf t).nodes leaf).settled ≡ true) ⊎ (t ≤ k)) a.known_is a.ended)
+      let r = reads values v [] in
+      answer_is t (node_at (query values tree leaf t).nodes leaf) (query values tree leaf t).known (values leaf) (r.agree leaf) r.below a.known_is a.ended
 
   -- two readings are one
   pub one_query : (values others : ℕ → ℕ) → ValuesOf tree values → ValuesOf tree others → (rest behind : List Bool) →
@@ -149,6 +149,68 @@ module _ (tree : Tree) (leaf t : ℕ) (shape : IsShape tree.wide tree.high) (is 
         ap (λ (l : List Node). let r : Tree = record { wide = tree.wide; high = tree.high; nodes = l } in r) nodes,
         rests,
       )
+
+-- ---- a query past the root
+record Nothing (values : ℕ → ℕ) (t : ℕ) (nodes : List Node) (n : ℕ) (ways : List ℕ) : Type 0 where
+  bits : (walk values t nodes ways).bits ≡ []
+  nodes_are : (walk values t nodes ways).nodes ≡ nodes
+  reached : t ≤ (walk values t nodes ways).known
+  closed : (node_at nodes n).settled ≡ false
+  least : t ≤ values n
+
+past_way : (up : ℕ → ℕ) (top t : ℕ) (values : ℕ → ℕ) (nodes : List Node) (n : ℕ) (ways : List ℕ) → IsWay up top n ways → Sound up top nodes → Rising up top values → t ≤ values top →
+    (node_at nodes top).settled ≡ false → t ≤ (node_at nodes top).known → Nothing values t nodes n ways
+past_way up top t values nodes _ _ at_top sound rising least unsettled reached =
+    let s = stepped_is values t top nodes 0 unsettled (omega arith) in
+    record {
+      bits = ap (λ (w : Walk). w.bits) s;
+      nodes_are = ap (λ (w : Walk). w.nodes) s;
+      reached = (let e : (walk values t nodes (top ∷ [])).known ≡ max 0 (node_at nodes top).known = ap (λ (w : Walk). w.known) s in omega arith);
+      closed = unsettled;
+      least = least;
+    }
+past_way up top t values nodes _ _ (under {n} {over} lt w) sound rising least unsettled reached =
+    let above : Nothing values t nodes (up n) over = past_way up top t values nodes (up n) over w sound rising least unsettled reached in
+    let known : ℕ = (walk values t nodes over).known in
+    let here : (node_at nodes n).settled ≡ false = unsettled_under up top nodes n sound lt above.closed in
+    let le : t ≤ known = above.reached in
+    let is : walk values t nodes over ≡ walked nodes known = ap (λ (l : List Node). walk_at l known (walk values t nodes over).bits) above.nodes_are ∙ ap (walk_at nodes known) above.bits in
+    let s = ap (step values t n) is ∙ stepped_is values t n nodes known here (omega arith) in
+    let rise : values (up n) ≤ values n = rising n lt in
+    let least' : t ≤ values (up n) = above.least in
+    record {
+      bits = ap (λ (w : Walk). w.bits) s;
+      nodes_are = ap (λ (w : Walk). w.nodes) s;
+      reached = (let e : (walk values t nodes (n ∷ over)).known ≡ max known (node_at nodes n).known = ap (λ (w : Walk). w.known) s in omega arith);
+      closed = here;
+      least = omega arith;
+    }
+
+pub past_nothing : (tree : Tree) (values : ℕ → ℕ) (leaf t : ℕ) → IsShape tree.wide tree.high → IsTree tree → leaf < tree.wide * tree.high →
+    ValuesOf tree values → is_past tree t ≡ true → HasNothing tree values leaf t
+past_nothing tree values leaf t shape is inside v past =
+    let top : Node = node_at tree.nodes (root tree.wide tree.high) in
+    let two = both_true (not top.settled) (nat_le t top.known) past in
+    let unsettled : top.settled ≡ false = not_true top.settled two.0 in
+    let reached : t ≤ top.known = (let e : nat_le t top.known ≡ true = two.1 in grind (arith, nat_tests)) in
+    let fits : IsValueOf top (values (root tree.wide tree.high)) = v.agree (root tree.wide tree.high) in
+    let least : t ≤ values (root tree.wide tree.high) = (let k : top.known ≤ values (root tree.wide tree.high) = fits.known in omega arith) in
+    let n : Nothing values t tree.nodes leaf (way tree.wide tree.high leaf) =
+    past_way (parent tree.wide tree.high) (root tree.wide tree.high) t values tree.nodes leaf (way tree.wide tree.high leaf) (way_is tree.wide tree.high leaf shape inside) is.sound v.are least unsettled reached in
+    let low : t ≤ values leaf = n.least in
+    record {
+      bits = n.bits;
+      after = ap (λ (l : List Node). let r : Tree = record { wide = tree.wide; high = tree.high; nodes = l } in r) n.nodes_are;
+      answer = (let no : nat_lt (values leaf) t ≡ false = grind (arith, nat_tests) in no);
+    }
+  where
+    both_true : (a b : Bool) → (a && b) ≡ true → (a ≡ true) × (b ≡ true)
+    both_true true b h = (refl, h)
+    both_true false b h = absurd (let x : false ≡ true = h in cc)
+
+    not_true : (a : Bool) → not a ≡ true → a ≡ false
+    not_true true h = absurd (let x : false ≡ true = h in cc)
+    not_true false h = refl
 
 -- ---- some queries
 pub all_one : (tree : Tree) (values others : ℕ → ℕ) (qs : List Question) (rest behind : List Bool) → IsShape tree.wide tree.high → IsTree tree →

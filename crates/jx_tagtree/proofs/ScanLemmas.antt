@@ -1,5 +1,5 @@
 -- Bits that are given one by one.
-use Rattle.std.proofs.Common.{◌≡◌, ℕ, zero, suc, ◌+◌, ◌-◌, ◌<◌, ◌≤◌, Bool, false, List, [], ◌∷◌, ◌++◌, length, refl, sym, ap, ◌∙◌, arith, append_assoc, length-append, Some, None}
+use Rattle.std.proofs.Common.{◌≡◌, ℕ, zero, suc, ◌+◌, ◌-◌, ◌<◌, ◌≤◌, max, Bool, false, List, [], ◌∷◌, ◌++◌, length, refl, sym, ap, ◌∙◌, arith, append_assoc, length-append, Some, None}
 use Rattle.std.specs.Prelude.{Option, option_map}
 use Rattle.jx_tagtree.specs.Header.{Took, Reading, to_come, advance}
 use Rattle.std.specs.Prelude.{option_and_then}
@@ -61,20 +61,20 @@ at_node node rest = record { node = node; rest = rest }
 one_more : (t : ℕ) (begin : List Node) (way : List ℕ) (place at : ℕ) (bits : List Bool) (nodes : List Node) (above : ℕ) (rest : List Bool) (node : Node) (f : Option Found) →
     place ≤ length way → 0 < place → at ≡ get_or way (place - 1) 0 → at < length nodes → node ≡ get_or nodes at node →
     scan_way t begin (drop place way) bits ≡ Some (at_place nodes above rest) → scan_one t node above rest ≡ f →
-    scan_way t begin (drop (place - 1) way) bits ≡ option_map (scanned at nodes) f
+    scan_way t begin (drop (place - 1) way) bits ≡ option_map (scanned at (at_place nodes above rest)) f
 one_more t begin way place at bits nodes above rest node f le some here lt read before scan =
     let node_is : node_at nodes at ≡ node = get_or_default nodes at unknown node lt ∙ sym read in
     ap (λ (w : List ℕ). scan_way t begin w bits) (way_at way place le some)
     ∙ ap (λ (n : ℕ). option_and_then (scan_node t n) (scan_way t begin (drop place way) bits)) (sym here)
     ∙ ap (option_and_then (scan_node t at)) before
-    ∙ ap (λ (y : Node). option_map (scanned at nodes) (scan_one t y above rest)) node_is
-    ∙ ap (option_map (scanned at nodes)) scan
+    ∙ ap (λ (y : Node). option_map (scanned at (at_place nodes above rest)) (scan_one t y above rest)) node_is
+    ∙ ap (option_map (scanned at (at_place nodes above rest))) scan
 
 -- a node more is read
 pub way_more : (t : ℕ) (begin : List Node) (way : List ℕ) (place at : ℕ) (bits : List Bool) (nodes : List Node) (above : ℕ) (rest : List Bool) (node after : Node) (behind : List Bool) →
     place ≤ length way → 0 < place → at ≡ get_or way (place - 1) 0 → at < length nodes → node ≡ get_or nodes at node →
     scan_way t begin (drop place way) bits ≡ Some (at_place nodes above rest) → scan_one t node above rest ≡ Some (at_node after behind) →
-    scan_way t begin (drop (place - 1) way) bits ≡ Some (at_place (set nodes at after) after.known behind)
+    scan_way t begin (drop (place - 1) way) bits ≡ Some (at_place (set nodes at after) (max above after.known) behind)
 way_more t begin way place at bits nodes above rest node after behind le some here lt read before scan =
     one_more t begin way place at bits nodes above rest node (Some (at_node after behind)) le some here lt read before scan
 

@@ -1,11 +1,11 @@
 -- Levels and ways of tag trees.
-use Rattle.std.proofs.Common.{◌≡◌, ℕ, zero, suc, ◌+◌, ◌-◌, ◌*◌, ◌/◌, ◌%◌, ◌^◌, ◌<◌, ◌≤◌, Bool, true, false, List, [], ◌∷◌, ◌++◌, length, refl, sym, ap, ◌∙◌, subst, cond, arith, append_assoc}
+use Rattle.std.proofs.Common.{◌≡◌, ℕ, zero, suc, ◌+◌, ◌-◌, ◌*◌, ◌/◌, ◌%◌, ◌^◌, ◌<◌, ◌≤◌, Bool, true, false, List, [], ◌∷◌, ◌++◌, length, get_or, refl, sym, ap, ◌∙◌, subst, cond, arith, append_assoc}
 use Rattle.std.proofs.lemmas.List.{length_push}
-use Rattle.std.proofs.lemmas.Nat.{div_below, mod_below, mul-le, mul-add-lt}
-use Rattle.std.proofs.Math.Nat.{two-pow-succ}
+use Rattle.std.proofs.lemmas.Nat.{div_below, mod_below, mul-le, mul-add-lt, div-mul-add, mod-mul-add, div-add-mod'}
+use Rattle.std.proofs.Math.Nat.{two-pow-succ, div-one, div-div-eq-div-mul}
 use Rattle.std.proofs.lemmas.Bool.Decides.{nat_tests}
 use Rattle.jx_tagtree.specs.declared.shape.Level.{Level}
-use Rattle.jx_tagtree.specs.Shape.{IsShape, base, is_root, over, parent_at, root_from, root, way_from, way, IsLevel, InLevel}
+use Rattle.jx_tagtree.specs.Shape.{IsShape, base, is_root, over, parent_at, root_from, root, way_from, way, levels_from, levels_of, node_in, nodes_over, FitsWay, IsLevel, InLevel}
 
 pos_left : (a b : ℕ) → 1 ≤ a * b → 1 ≤ a
 pos_left zero b h = let e : 0 * b ≡ 0 = omega arith in omega arith
@@ -92,17 +92,6 @@ InLevel-parent n l node s i =
     mul-add-lt ((node - l.first) / l.wide / 2) ((l.wide + 1) / 2) ((node - l.first) % l.wide / 2) ((l.high + 1) / 2) half_row half_column in
     record { first = omega arith; last = omega arith }
 
-pub parent_fits : (n : ℕ) (l : Level) (node : ℕ) → IsLevel n l → InLevel l node → parent_at l node < 2 ^ 32
-parent_fits n l node s i =
-    let first : l.first ≤ (20 - n) * 2 ^ 20 = s.first in
-    let few : l.wide * l.high ≤ 2 ^ 20 = s.few in
-    let up : InLevel (over l) (parent_at l node) = InLevel-parent n l node s i in
-    let last : parent_at l node < (over l).first + (over l).wide * (over l).high = up.last in
-    let less : (l.wide + 1) / 2 * ((l.high + 1) / 2) ≤ l.wide * l.high = mul-le ((l.wide + 1) / 2) ((l.high + 1) / 2) l.wide l.high (half_less l.wide s.some_wide) (half_less l.high s.some_high) in
-    let small : 20 - n ≤ 20 = omega arith in
-    let bound : (20 - n) * 2 ^ 20 ≤ 20 * 2 ^ 20 = mul-le (20 - n) (2 ^ 20) 20 (2 ^ 20) small (omega arith) in
-    omega arith
-
 -- ---- the loops over levels
 pub not_top : (l : Level) (n : ℕ) → IsLevel n l → is_root l ≡ false → (m : ℕ) × (n ≡ suc m)
 not_top l zero s top = absurd (let t : is_root l ≡ true = root_at_zero l s in cc)
@@ -132,39 +121,122 @@ way_end (suc n) l node top = ap (λ (b : Bool). cond b (node ∷ []) (node ∷ w
 pub way_next : (n : ℕ) (l : Level) (node : ℕ) → is_root l ≡ false → way_from (suc n) l node ≡ node ∷ way_from n (over l) (parent_at l node)
 way_next n l node top = ap (λ (b : Bool). cond b (node ∷ []) (node ∷ way_from n (over l) (parent_at l node))) top
 
--- what stays true of the levels of a way, with the nodes so far
-pub record Climbs (whole nodes : List ℕ) (level : Level) (node : ℕ) : Type 0 where
-  pub some : length nodes ≤ 20
-  pub is_level : IsLevel (20 - length nodes) level
-  pub inside : InLevel level node
-  pub is_way : nodes ++ way_from (20 - length nodes) level node ≡ whole
+-- what stays true of the levels so far and the next one
+pub record Stacks (whole levels : List Level) (level : Level) : Type 0 where
+  pub some : length levels ≤ 20
+  pub is_level : IsLevel (20 - length levels) level
+  pub are : levels ++ levels_from (20 - length levels) level ≡ whole
 
-pub climb_begin : (wide high leaf : ℕ) → IsShape wide high → leaf < wide * high → Climbs (way wide high leaf) [] (base wide high) leaf
-climb_begin wide high leaf s h = record { some = omega arith; is_level = IsLevel-base wide high s; inside = InLevel-base wide high leaf h; is_way = way_begin wide high leaf }
+pub stack_begin : (wide high : ℕ) → IsShape wide high → Stacks (levels_of wide high) [] (base wide high)
+unfolding levels_of
+stack_begin wide high s = record { some = omega arith; is_level = IsLevel-base wide high s; are = refl }
 
-pub climb_next : (whole nodes : List ℕ) (l : Level) (node : ℕ) → Climbs whole nodes l node → is_root l ≡ false →
-    (length nodes < 20) × Climbs whole (nodes ++ node ∷ []) (over l) (parent_at l node)
-climb_next whole nodes l node c top =
-    let m = not_top l (20 - length nodes) c.is_level top in
-    let left : 20 - length nodes ≡ suc m.0 = m.1 in
-    let lt : length nodes < 20 = omega arith in
-    let long : length (nodes ++ node ∷ []) ≡ length nodes + 1 = length_push nodes node in
-    let left' : m.0 ≡ 20 - length (nodes ++ node ∷ []) = omega arith in
+levels_next : (n : ℕ) (l : Level) → is_root l ≡ false → levels_from (suc n) l ≡ l ∷ levels_from n (over l)
+levels_next n l top = ap (λ (b : Bool). cond b (l ∷ []) (l ∷ levels_from n (over l))) top
+
+levels_end : (n : ℕ) (l : Level) → is_root l ≡ true → levels_from n l ≡ l ∷ []
+levels_end zero l top = refl
+levels_end (suc n) l top = ap (λ (b : Bool). cond b (l ∷ []) (l ∷ levels_from n (over l))) top
+
+pub stack_next : (whole levels : List Level) (l : Level) → Stacks whole levels l → is_root l ≡ false →
+    (length levels < 20) × Stacks whole (levels ++ l ∷ []) (over l)
+stack_next whole levels l c top =
+    let m = not_top l (20 - length levels) c.is_level top in
+    let left : 20 - length levels ≡ suc m.0 = m.1 in
+    let lt : length levels < 20 = omega arith in
+    let long : length (levels ++ l ∷ []) ≡ length levels + 1 = length_push levels l in
+    let left' : m.0 ≡ 20 - length (levels ++ l ∷ []) = omega arith in
     let here : IsLevel (suc m.0) l = subst (λ (k : ℕ). IsLevel k l) left c.is_level in (
       lt,
       record {
         some = omega arith;
         is_level = subst (λ (k : ℕ). IsLevel k (over l)) left' (IsLevel-over m.0 l here);
-        inside = InLevel-parent (suc m.0) l node here c.inside;
-        is_way = ap (λ (k : ℕ). nodes ++ node ∷ [] ++ way_from k (over l) (parent_at l node)) (sym left')
-            ∙ append_assoc nodes (node ∷ []) (way_from m.0 (over l) (parent_at l node))
-            ∙ ap (λ (w : List ℕ). nodes ++ w) (sym (way_next m.0 l node top))
-            ∙ ap (λ (k : ℕ). nodes ++ way_from k l node) (sym left) ∙ c.is_way;
+        are = ap (λ (k : ℕ). levels ++ l ∷ [] ++ levels_from k (over l)) (sym left')
+            ∙ append_assoc levels (l ∷ []) (levels_from m.0 (over l))
+            ∙ ap (λ (w : List Level). levels ++ w) (sym (levels_next m.0 l top))
+            ∙ ap (λ (k : ℕ). levels ++ levels_from k l) (sym left) ∙ c.are;
       },
     )
 
-pub climb_end : (whole nodes : List ℕ) (l : Level) (node : ℕ) → Climbs whole nodes l node → is_root l ≡ true → nodes ++ node ∷ [] ≡ whole
-climb_end whole nodes l node c top = ap (λ (w : List ℕ). nodes ++ w) (sym (way_end (20 - length nodes) l node top)) ∙ c.is_way
+pub stack_end : (whole levels : List Level) (l : Level) → Stacks whole levels l → is_root l ≡ true → levels ++ l ∷ [] ≡ whole
+stack_end whole levels l c top = ap (λ (w : List Level). levels ++ w) (sym (levels_end (20 - length levels) l top)) ∙ c.are
+
+-- ---- the nodes of a way stand over the leaf's place
+parent_in : (l : Level) (down across : ℕ) → across < l.wide → parent_at l (node_in l down across) ≡ node_in (over l) (down / 2) (across / 2)
+parent_in l down across lt =
+    let place : node_in l down across - l.first ≡ down * l.wide + across = omega arith in
+    let row : (node_in l down across - l.first) / l.wide ≡ down = ap (λ (p : ℕ). p / l.wide) place ∙ div-mul-add down l.wide across lt in
+    let column : (node_in l down across - l.first) % l.wide ≡ across = ap (λ (p : ℕ). p % l.wide) place ∙ mod-mul-add down l.wide across lt in
+    ap (λ (r : ℕ). (over l).first + r / 2 * (over l).wide + (node_in l down across - l.first) % l.wide / 2) row
+    ∙ ap (λ (c : ℕ). (over l).first + down / 2 * (over l).wide + c / 2) column
+
+way_nodes : (n : ℕ) (l : Level) (down across : ℕ) → across < l.wide → way_from n l (node_in l down across) ≡ nodes_over (levels_from n l) down across
+way_nodes zero l down across lt = refl
+way_nodes (suc n) l down across lt = by (is_root l)
+    (ap (way_from n (over l)) (parent_in l down across lt) ∙ way_nodes n (over l) (down / 2) (across / 2) (omega arith))
+  where
+    by : (b : Bool) → way_from n (over l) (parent_at l (node_in l down across)) ≡ nodes_over (levels_from n (over l)) (down / 2) (across / 2) →
+        cond b (node_in l down across ∷ []) (node_in l down across ∷ way_from n (over l) (parent_at l (node_in l down across))) ≡ nodes_over (cond b (l ∷ []) (l ∷ levels_from n (over l))) down across
+    by true again = refl
+    by false again = ap (λ (w : List ℕ). node_in l down across ∷ w) again
+
+levels_few : (n : ℕ) (l : Level) → length (levels_from n l) ≤ n + 1
+levels_few zero l = omega arith
+levels_few (suc n) l = by (is_root l) (levels_few n (over l))
+  where
+    by : (b : Bool) → length (levels_from n (over l)) ≤ n + 1 → length (cond b (l ∷ []) (l ∷ levels_from n (over l))) ≤ suc n + 1
+    by true h = omega arith
+    by false h = omega arith
+
+-- a level, where there is none
+abbrev pub no_level : Level
+no_level = record { first = 0; wide = 0; high = 0 }
+
+pub nodes_long : (levels : List Level) (down across : ℕ) → length (nodes_over levels down across) ≡ length levels
+nodes_long [] down across = refl
+nodes_long (l ∷ levels) down across = ap suc (nodes_long levels (down / 2) (across / 2))
+
+-- each of them by itself
+pub nodes_at : (levels : List Level) (k down across : ℕ) → k < length levels → get_or (nodes_over levels down across) k 0 ≡ node_in (get_or levels k no_level) (down / 2 ^ k) (across / 2 ^ k)
+nodes_at [] k down across lt = absurd (omega arith)
+nodes_at (l ∷ levels) zero down across lt = ap (λ (d : ℕ). l.first + d * l.wide + across) (sym (div-one down)) ∙ ap (λ (c : ℕ). l.first + down / 1 * l.wide + c) (sym (div-one across))
+nodes_at (l ∷ levels) (suc k) down across lt =
+    nodes_at levels k (down / 2) (across / 2) (omega arith)
+    ∙ ap (λ (d : ℕ). node_in (get_or levels k no_level) d (across / 2 / 2 ^ k)) (halved down)
+    ∙ ap (λ (c : ℕ). node_in (get_or levels k no_level) (down / 2 ^ suc k) c) (halved across)
+  where
+    halved : (n : ℕ) → n / 2 / 2 ^ k ≡ n / 2 ^ suc k
+    halved n = div-div-eq-div-mul n 2 (2 ^ k) ∙ ap (λ (d : ℕ). n / d) (let e : 2 ^ suc k ≡ 2 ^ k + 2 ^ k = two-pow-succ k in let f : 2 * 2 ^ k ≡ 2 ^ suc k = omega arith in f)
+
+-- where a way is asked for a node
+module _ (levels : List Level) (down across : ℕ) (now : List ℕ) (view : nodes_over levels down across ≡ now) (k : ℕ) (lt : k < length now) where
+  pub at_inside : k < length levels
+  at_inside =
+      let e : length (nodes_over levels down across) ≡ length now = ap (λ (l : List ℕ). length l) view in
+      let f : length (nodes_over levels down across) ≡ length levels = nodes_long levels down across in
+      omega arith
+
+  pub at_few : FitsWay levels down across → k < 32
+  at_few f = let few : length levels ≤ 21 = f.few in let i : k < length levels = at_inside in omega arith
+
+  pub at_is : node_in (get_or levels k no_level) (down / 2 ^ k) (across / 2 ^ k) ≡ get_or now k 0
+  at_is = sym (nodes_at levels k down across at_inside) ∙ ap (λ (l : List ℕ). get_or l k 0) view
+
+  pub at_fits : FitsWay levels down across → node_in (get_or levels k no_level) (down / 2 ^ k) (across / 2 ^ k) < 2 ^ 32
+  at_fits f = subst (λ (n : ℕ). n < 2 ^ 32) (nodes_at levels k down across at_inside) (f.fits k at_inside)
+
+pub way_over : (wide high leaf : ℕ) → IsShape wide high → leaf < wide * high → nodes_over (levels_of wide high) (leaf / wide) (leaf % wide) ≡ way wide high leaf
+unfolding levels_of way
+way_over wide high leaf s lt =
+    let some : 1 ≤ wide * high = s.some in
+    let w : 0 < wide = pos_left wide high some in
+    let back : leaf / wide * wide + leaf % wide ≡ leaf = div-add-mod' leaf wide in
+    let at : node_in (base wide high) (leaf / wide) (leaf % wide) ≡ leaf = omega arith in
+    sym (way_nodes 20 (base wide high) (leaf / wide) (leaf % wide) (mod_below leaf wide w)) ∙ ap (way_from 20 (base wide high)) at
+
+pub table_few : (wide high : ℕ) → length (levels_of wide high) ≤ 21
+unfolding levels_of
+table_few wide high = levels_few 20 (base wide high)
 
 -- what stays true of the levels up to the root, after some of them
 pub record Rises (top counter : ℕ) (level : Level) : Type 0 where

@@ -1,16 +1,24 @@
 -- What a query reads, against the values of the nodes.
-use Rattle.std.proofs.Common.{◌&&◌, ◌≡◌, ◌≢◌, ℕ, zero, suc, ◌+◌, ◌-◌, ◌*◌, ◌<◌, ◌≤◌, min, max, nat_lt, Bool, true, false, List, [], ◌∷◌, ◌++◌, length, get_or, set, drop, replicate, refl, sym, ap, ◌∙◌, subst, cond, arith, append_assoc, Some, None, ◌⊎◌, inl, inr}
+use Rattle.std.proofs.Common.{◌&&◌, ◌||◌, ◌≡◌, ◌≢◌, ℕ, zero, suc, ◌+◌, ◌-◌, ◌*◌, ◌<◌, ◌≤◌, min, max, nat_lt, nat_le, not, Bool, true, false, List, [], ◌∷◌, ◌++◌, length, get_or, set, drop, replicate, refl, sym, ap, ◌∙◌, subst, cond, arith, append_assoc, Some, None, ◌⊎◌, inl, inr}
 use Rattle.std.specs.Prelude.{Option, option_map, option_and_then}
-use Rattle.std.proofs.lemmas.List.{get_or-set_same, get_or-set_other, length-set, append_cancel_right, get_or_default}
+use Rattle.std.proofs.lemmas.List.{get_or-set_same, get_or-set_other, set-get_or, length-set, append_cancel_right}
 use Rattle.std.proofs.lemmas.Bool.Decides.{nat_tests}
 use Rattle.std.proofs.lemmas.Bool.{cases_eq, cases_lt}
 use Rattle.jx_tagtree.specs.declared.node.Node.{Node}
-use Rattle.jx_tagtree.specs.TagTree.{unknown, node_at, node_bits, node_after, Walk, walk, IsValueOf, Agree, Tree, query, ValuesOf, HasRead}
-use Rattle.jx_tagtree.specs.Scan.{Zeros, scan, more_zeros, Found, found, scan_one, Scanned, scanned, scan_node, scan_way, PartRead}
-use Rattle.jx_tagtree.specs.Kept.{KeepsTree}
+use Rattle.jx_tagtree.specs.TagTree.{unknown, node_at, is_told, node_bits, node_after, Walk, step, walk, IsValueOf, Agree, Tree, query, ValuesOf, HasRead}
+use Rattle.jx_tagtree.specs.Scan.{Zeros, scan, more_zeros, Found, found, scan_one, Scanned, scanned, scan_node, scan_way, PartRead, WayRead}
+use Rattle.jx_tagtree.specs.Kept.{KeepsTree, IsWayIn}
 use Rattle.jx_tagtree.specs.Header.{Took, Reading, to_come, advance}
 use Rattle.jx_tagtree.specs.Shape.{root, parent, way}
 use Rattle.jx_tagtree.proofs.WayLemmas.{IsWay, at_top, under, way_is}
+
+pub not_false : (b : Bool) → not b ≡ false → b ≡ true
+not_false true h = refl
+not_false false h = absurd (let x : true ≡ false = h in cc)
+
+pub not_true : (b : Bool) → not b ≡ true → b ≡ false
+not_true true h = absurd (let x : false ≡ true = h in cc)
+not_true false h = refl
 
 -- ---- the bits of one node
 ones : Bool → List Bool
@@ -80,24 +88,17 @@ zeros_are t start m zeros false le exact short full =
     ((let no : nat_lt m t ≡ false = grind (arith, nat_tests) in sym no), omega arith, omega arith)
 
 -- what a node's value says of what was read at it
-one_read_at : (t k : ℕ) (s : Bool) (above : ℕ) (bits : List Bool) (f : Found) (m : ℕ) → scan_one t (node_of k s) above bits ≡ Some f → IsValueOf f.node m → (s ≡ true → above ≤ k) →
+one_read_at : (t k : ℕ) (s : Bool) (above : ℕ) (bits : List Bool) (f : Found) (m : ℕ) → scan_one t (node_of k s) above bits ≡ Some f → IsValueOf f.node m →
     IsValueOf (node_of k s) m × (f.node ≡ node_after (node_of k s) (max k above) m t) × (bits ≡ node_bits (node_of k s) (max k above) m t ++ f.rest)
-one_read_at t k true above bits f m h fits ge =
-    let le : above ≤ k = ge refl in
-    let is : f ≡ found_of (node_of (max k above) true) bits = cc in
-    let fits' : IsValueOf (node_of (max k above) true) m = subst (λ (g : Found). IsValueOf g.node m) is fits in
-    let e : max k above ≡ m = fits'.settled refl in
-    let same : max k above ≡ max (max k above) (min m t) = omega arith in (
-      record { known = omega arith; settled = λ x. omega arith },
-      ap (λ (g : Found). g.node) is ∙ ap (λ (n : ℕ). node_of n true) same,
-      sym (ap (λ (g : Found). g.rest) is),
-    )
-one_read_at t k false above bits f m h fits ge = by (scan (t - max k above) bits) (λ z e. scan_ok (t - max k above) bits z e) h
+one_read_at t k true above bits f m h fits =
+    let is : f ≡ found_of (node_of k true) bits = cc in
+    (subst (λ (g : Found). IsValueOf g.node m) is fits, ap (λ (g : Found). g.node) is, sym (ap (λ (g : Found). g.rest) is))
+one_read_at t k false above bits f m h fits = past (nat_le t (max k above)) h
   where
     by : (o : Option Zeros) →
         ((z : Zeros) → o ≡ Some z → (bits ≡ replicate z.zeros false ++ cond z.one (true ∷ []) [] ++ z.rest) × (z.one ≡ true → z.zeros < t - max k above) × (z.one ≡ false → z.zeros ≡ t - max k above)) →
         option_map (found (max k above)) o ≡ Some f →
-        IsValueOf (node_of k false) m × (f.node ≡ node_after (node_of k false) (max k above) m t) × (bits ≡ node_bits (node_of k false) (max k above) m t ++ f.rest)
+        IsValueOf (node_of k false) m × (f.node ≡ node_of (max (max k above) (min m t)) (nat_lt m t)) × (bits ≡ replicate (min m t - max k above) false ++ cond (nat_lt m t) (true ∷ []) [] ++ f.rest)
     by None r e = absurd cc
     by (Some z) r e =
         let is : f ≡ found (max k above) z = cc in
@@ -112,21 +113,25 @@ one_read_at t k false above bits f m h fits ge = by (scan (t - max k above) bits
               ∙ ap (λ (l : List Bool). replicate (min m t - max k above) false ++ cond (nat_lt m t) (true ∷ []) [] ++ l) (sym (ap (λ (g : Found). g.rest) is)),
         )
 
-one_read : (t : ℕ) (node : Node) (above : ℕ) (bits : List Bool) (f : Found) (m : ℕ) → scan_one t node above bits ≡ Some f → IsValueOf f.node m → (node.settled ≡ true → above ≤ node.known) →
+    past : (b : Bool) → cond b (Some (found_of (node_of k false) bits)) (option_map (found (max k above)) (scan (t - max k above) bits)) ≡ Some f →
+        IsValueOf (node_of k false) m × (f.node ≡ cond b (node_of k false) (node_of (max (max k above) (min m t)) (nat_lt m t)))
+        × (bits ≡ cond b [] (replicate (min m t - max k above) false ++ cond (nat_lt m t) (true ∷ []) []) ++ f.rest)
+    past true e =
+        let is : f ≡ found_of (node_of k false) bits = cc in
+        (subst (λ (g : Found). IsValueOf g.node m) is fits, ap (λ (g : Found). g.node) is, sym (ap (λ (g : Found). g.rest) is))
+    past false e =
+        by (scan (t - max k above) bits) (λ z eq. scan_ok (t - max k above) bits z eq) e
+
+one_read : (t : ℕ) (node : Node) (above : ℕ) (bits : List Bool) (f : Found) (m : ℕ) → scan_one t node above bits ≡ Some f → IsValueOf f.node m →
     IsValueOf node m × (f.node ≡ node_after node (max node.known above) m t) × (bits ≡ node_bits node (max node.known above) m t ++ f.rest)
-one_read t node above bits f m h fits ge = one_read_at t node.known node.settled above bits f m h fits ge
+one_read t node above bits f m h fits = one_read_at t node.known node.settled above bits f m h fits
 
 -- the bits of a value are read as that value's
 one_only_at : (t k : ℕ) (s : Bool) (above : ℕ) (rest : List Bool) (m : ℕ) → IsValueOf (node_of k s) m → above ≤ m →
     (scan_one t (node_of k s) above (node_bits (node_of k s) (max k above) m t ++ rest) ≡ Some (found_of (node_after (node_of k s) (max k above) m t) rest))
     × IsValueOf (node_after (node_of k s) (max k above) m t) m
-one_only_at t k true above rest m fits le =
-    let e : k ≡ m = fits.settled refl in
-    let same : max k above ≡ max (max k above) (min m t) = omega arith in (
-      ap (λ (n : ℕ). Some (found_of (node_of n true) rest)) same,
-      record { known = omega arith; settled = λ x. omega arith },
-    )
-one_only_at t k false above rest m fits le = by (nat_lt m t) refl
+one_only_at t k true above rest m fits le = (refl, fits)
+one_only_at t k false above rest m fits le = past (nat_le t (max k above)) refl
   where
     by : (b : Bool) → nat_lt m t ≡ b →
         (option_map (found (max k above)) (scan (t - max k above) (replicate (min m t - max k above) false ++ cond b (true ∷ []) [] ++ rest)) ≡ Some (found_of (node_of (max (max k above) (min m t)) b) rest))
@@ -151,38 +156,56 @@ one_only_at t k false above rest m fits le = by (nat_lt m t) refl
           record { known = omega arith; settled = λ x. absurd cc },
         )
 
+    past : (b : Bool) → nat_le t (max k above) ≡ b →
+        (cond b (Some (found_of (node_of k false) (cond b [] (replicate (min m t - max k above) false ++ cond (nat_lt m t) (true ∷ []) []) ++ rest)))
+        (option_map (found (max k above)) (scan (t - max k above) (cond b [] (replicate (min m t - max k above) false ++ cond (nat_lt m t) (true ∷ []) []) ++ rest)))
+        ≡ Some (found_of (cond b (node_of k false) (node_of (max (max k above) (min m t)) (nat_lt m t))) rest))
+        × IsValueOf (cond b (node_of k false) (node_of (max (max k above) (min m t)) (nat_lt m t))) m
+    past true e = (refl, fits)
+    past false e =
+        by (nat_lt m t) refl
+
 one_only : (t : ℕ) (node : Node) (above : ℕ) (rest : List Bool) (m : ℕ) → IsValueOf node m → above ≤ m →
     (scan_one t node above (node_bits node (max node.known above) m t ++ rest) ≡ Some (found_of (node_after node (max node.known above) m t) rest))
     × IsValueOf (node_after node (max node.known above) m t) m
 one_only t node above rest m fits le = one_only_at t node.known node.settled above rest m fits le
 
--- what is known after a node's bits, whatever its value
-one_sound_at : (t k : ℕ) (s : Bool) (above : ℕ) (bits : List Bool) (f : Found) → scan_one t (node_of k s) above bits ≡ Some f →
-    ((f.node.settled ≡ true) ⊎ (t ≤ f.node.known)) × (above ≤ f.node.known) × (f.node.settled ≡ true → (s ≡ true) ⊎ (above < t)) × (s ≡ true → above ≤ k → f.node ≡ node_of k s)
+-- What is known after a node's bits, whatever its value: it is settled or reaches the threshold, a node is settled only
+-- above what its parent is at least, and a settled node stays as it was.
+abbrev IsAfter : ℕ → Bool → Node → ℕ → Node → Type 0
+IsAfter t s before above after =
+    ((after.settled ≡ true) ⊎ (t ≤ max above after.known)) × (after.settled ≡ true → (s ≡ true) ⊎ ((above < t) × (above ≤ after.known))) × (s ≡ true → after ≡ before)
+
+one_sound_at : (t k : ℕ) (s : Bool) (above : ℕ) (bits : List Bool) (f : Found) → scan_one t (node_of k s) above bits ≡ Some f → IsAfter t s (node_of k s) above f.node
 one_sound_at t k true above bits f h =
-    let is : f ≡ found_of (node_of (max k above) true) bits = cc in
-    subst (λ (g : Found). ((g.node.settled ≡ true) ⊎ (t ≤ g.node.known)) × (above ≤ g.node.known) × (g.node.settled ≡ true → (true ≡ true) ⊎ (above < t)) × (true ≡ true → above ≤ k → g.node ≡ node_of k true)) (sym is)
-    (inl refl, omega arith, (λ x. inl refl), (λ x le. let e : max k above ≡ k = omega arith in ap (λ (n : ℕ). node_of n true) e))
-one_sound_at t k false above bits f h = by (scan (t - max k above) bits) (λ z e. scan_ok (t - max k above) bits z e) h
+    let is : f ≡ found_of (node_of k true) bits = cc in
+    subst (λ (g : Found). IsAfter t true (node_of k true) above g.node) (sym is) (inl refl, (λ x. inl refl), (λ x. refl))
+one_sound_at t k false above bits f h = past (nat_le t (max k above)) refl h
   where
+    ended : (z : Zeros) (b : Bool) → z.one ≡ b → (z.one ≡ false → z.zeros ≡ t - max k above) → (z.one ≡ true) ⊎ (t ≤ max above (max k above + z.zeros))
+    ended z true e full = inl e
+    ended z false e full = let all : z.zeros ≡ t - max k above = full e in inr (omega arith)
+
     by : (o : Option Zeros) →
         ((z : Zeros) → o ≡ Some z → (bits ≡ replicate z.zeros false ++ cond z.one (true ∷ []) [] ++ z.rest) × (z.one ≡ true → z.zeros < t - max k above) × (z.one ≡ false → z.zeros ≡ t - max k above)) →
-        option_map (found (max k above)) o ≡ Some f →
-        ((f.node.settled ≡ true) ⊎ (t ≤ f.node.known)) × (above ≤ f.node.known) × (f.node.settled ≡ true → (false ≡ true) ⊎ (above < t)) × (false ≡ true → above ≤ k → f.node ≡ node_of k false)
+        option_map (found (max k above)) o ≡ Some f → IsAfter t false (node_of k false) above f.node
     by None r e = absurd cc
     by (Some z) r e =
         let is : f ≡ found (max k above) z = cc in
         let q = r z refl in
         let short : z.one ≡ true → z.zeros < t - max k above = q.1 in
-        subst (λ (g : Found). ((g.node.settled ≡ true) ⊎ (t ≤ g.node.known)) × (above ≤ g.node.known) × (g.node.settled ≡ true → (false ≡ true) ⊎ (above < t)) × (false ≡ true → above ≤ k → g.node ≡ node_of k false)) (sym is)
-        (ended z.one refl q.2, omega arith, (λ x. let lt : z.zeros < t - max k above = short x in inr (omega arith)), (λ x le. absurd cc))
-      where
-        ended : (b : Bool) → z.one ≡ b → (z.one ≡ false → z.zeros ≡ t - max k above) → (z.one ≡ true) ⊎ (t ≤ max k above + z.zeros)
-        ended true e full = inl e
-        ended false e full = let all : z.zeros ≡ t - max k above = full e in inr (omega arith)
+        subst (λ (g : Found). IsAfter t false (node_of k false) above g.node) (sym is)
+        (ended z z.one refl q.2, (λ x. let lt : z.zeros < t - max k above = short x in inr (omega arith, omega arith)), (λ x. absurd cc))
 
-one_sound : (t : ℕ) (node : Node) (above : ℕ) (bits : List Bool) (f : Found) → scan_one t node above bits ≡ Some f →
-    ((f.node.settled ≡ true) ⊎ (t ≤ f.node.known)) × (above ≤ f.node.known) × (f.node.settled ≡ true → (node.settled ≡ true) ⊎ (above < t)) × (node.settled ≡ true → above ≤ node.known → f.node ≡ node)
+    past : (b : Bool) → nat_le t (max k above) ≡ b → cond b (Some (found_of (node_of k false) bits)) (option_map (found (max k above)) (scan (t - max k above) bits)) ≡ Some f →
+        IsAfter t false (node_of k false) above f.node
+    past true here e =
+        let is : f ≡ found_of (node_of k false) bits = cc in
+        let le : t ≤ max k above = grind (arith, nat_tests) in
+        subst (λ (g : Found). IsAfter t false (node_of k false) above g.node) (sym is) (inr (omega arith), (λ x. absurd cc), (λ x. absurd cc))
+    past false here e = by (scan (t - max k above) bits) (λ z eq. scan_ok (t - max k above) bits z eq) e
+
+one_sound : (t : ℕ) (node : Node) (above : ℕ) (bits : List Bool) (f : Found) → scan_one t node above bits ≡ Some f → IsAfter t node.settled node above f.node
 one_sound t node above bits f h = one_sound_at t node.known node.settled above bits f h
 
 -- ---- a whole way
@@ -195,7 +218,7 @@ abbrev pub Rising : (ℕ → ℕ) → ℕ → (ℕ → ℕ) → Type 0
 Rising up top values = (q : ℕ) → q < top → values (up q) ≤ values q
 
 -- a node that is written, and the others
-at_same : (nodes : List Node) (n : ℕ) (x : Node) → n < length nodes → node_at (set nodes n x) n ≡ x
+pub at_same : (nodes : List Node) (n : ℕ) (x : Node) → n < length nodes → node_at (set nodes n x) n ≡ x
 at_same nodes n x lt = get_or-set_same nodes n x unknown lt
 
 at_other : (nodes : List Node) (n q : ℕ) (x : Node) → q ≢ n → node_at (set nodes n x) q ≡ node_at nodes q
@@ -267,13 +290,13 @@ sound_step up top nodes n x lt sound settled fresh q q_lt q_settled =
 pub record After (up : ℕ → ℕ) (top t : ℕ) (nodes : List Node) (n : ℕ) (r : Scanned) : Type 0 where
   pub long : length r.nodes ≡ length nodes
   pub sound : Sound up top r.nodes
-  pub known_is : r.known ≡ (node_at r.nodes n).known
+  pub known_is : (node_at r.nodes n).settled ≡ true → r.known ≡ (node_at r.nodes n).known
   pub ended : ((node_at r.nodes n).settled ≡ true) ⊎ (t ≤ r.known)
 
 -- after the bits of a node
 after_step : (up : ℕ → ℕ) (top t : ℕ) (nodes : List Node) (n : ℕ) (above : Scanned) (r : Scanned) →
     top < length nodes → n ≤ top → length above.nodes ≡ length nodes → Sound up top above.nodes →
-    (n < top → (above.known ≡ (node_at above.nodes (up n)).known) × (((node_at above.nodes (up n)).settled ≡ true) ⊎ (t ≤ above.known))) →
+    (n < top → ((node_at above.nodes (up n)).settled ≡ true → above.known ≡ (node_at above.nodes (up n)).known) × (((node_at above.nodes (up n)).settled ≡ true) ⊎ (t ≤ above.known))) →
     (top ≤ n → above.known ≡ 0) →
     scan_node t n above ≡ Some r → After up top t nodes n r
 after_step up top t nodes n above r long le same sound parent_is root_is h =
@@ -283,30 +306,45 @@ after_step up top t nodes n above r long le same sound parent_is root_is h =
     lt = omega arith
 
     by : (o : Option Found) →
-        ((f : Found) → o ≡ Some f → ((f.node.settled ≡ true) ⊎ (t ≤ f.node.known)) × (above.known ≤ f.node.known) × (f.node.settled ≡ true → ((node_at above.nodes n).settled ≡ true) ⊎ (above.known < t))
-        × ((node_at above.nodes n).settled ≡ true → above.known ≤ (node_at above.nodes n).known → f.node ≡ node_at above.nodes n)) →
-        option_map (scanned n above.nodes) o ≡ Some r → After up top t nodes n r
+        ((f : Found) → o ≡ Some f → IsAfter t (node_at above.nodes n).settled (node_at above.nodes n) above.known f.node) →
+        option_map (scanned n above) o ≡ Some r → After up top t nodes n r
     by None facts e = absurd cc
     by (Some f) facts e =
         let q = facts f refl in
-        let is : r ≡ scanned n above.nodes f = cc in
+        let is : r ≡ scanned n above f = cc in
         let here : node_at (set above.nodes n f.node) n ≡ f.node = at_same above.nodes n f.node lt in
         subst (λ (s : Scanned). After up top t nodes n s) (sym is) (record {
           long = length-set above.nodes n f.node ∙ same;
-          sound = sound_step up top above.nodes n f.node lt sound (λ settled. q.3 settled (before settled (cases_lt n top))) (λ n_lt settled. above_it n_lt (parent_is n_lt) q.1 (q.2 settled));
-          known_is = sym (ap (λ (y : Node). y.known) here);
-          ended = subst (λ (y : Node). (y.settled ≡ true) ⊎ (t ≤ f.node.known)) (sym here) q.0;
+          sound = sound_step up top above.nodes n f.node lt sound q.2 (λ n_lt settled. above_it q.2 n_lt (parent_is n_lt) (q.1 settled));
+          known_is = subst (λ (y : Node). y.settled ≡ true → max above.known f.node.known ≡ y.known) (sym here)
+              (λ settled. let l : above.known ≤ f.node.known = before q.2 (q.1 settled) (cases_lt n top) in omega arith);
+          ended = subst (λ (y : Node). (y.settled ≡ true) ⊎ (t ≤ max above.known f.node.known)) (sym here) q.0;
         })
       where
-        before : (node_at above.nodes n).settled ≡ true → (n < top) ⊎ (top ≤ n) → above.known ≤ (node_at above.nodes n).known
-        before settled (inl n_lt) = let s = sound n n_lt settled in let e : above.known ≡ (node_at above.nodes (up n)).known = (parent_is n_lt).0 in let l : (node_at above.nodes (up n)).known ≤ (node_at above.nodes n).known = s.1 in omega arith
-        before settled (inr ge) = let e : above.known ≡ 0 = root_is ge in omega arith
+        before : ((node_at above.nodes n).settled ≡ true → f.node ≡ node_at above.nodes n) →
+            ((node_at above.nodes n).settled ≡ true) ⊎ ((above.known < t) × (above.known ≤ f.node.known)) → (n < top) ⊎ (top ≤ n) → above.known ≤ f.node.known
+        before kept (inl settled) (inl n_lt) =
+            let s = sound n n_lt settled in
+            let e : above.known ≡ (node_at above.nodes (up n)).known = (parent_is n_lt).0 s.0 in
+            let l : (node_at above.nodes (up n)).known ≤ (node_at above.nodes n).known = s.1 in
+            let g : above.known ≤ (node_at above.nodes n).known = omega arith in
+            subst (λ (y : Node). above.known ≤ y.known) (sym (kept settled)) g
+        before kept (inr fresh) at = fresh.1
+        before kept settled (inr ge) = let e : above.known ≡ 0 = root_is ge in omega arith
 
-        above_it : n < top → (above.known ≡ (node_at above.nodes (up n)).known) × (((node_at above.nodes (up n)).settled ≡ true) ⊎ (t ≤ above.known)) → above.known ≤ f.node.known →
-            ((node_at above.nodes n).settled ≡ true) ⊎ (above.known < t) → ((node_at above.nodes (up n)).settled ≡ true) × ((node_at above.nodes (up n)).known ≤ f.node.known)
-        above_it n_lt p le_known (inl settled) = let s = sound n n_lt settled in let e : above.known ≡ (node_at above.nodes (up n)).known = p.0 in (s.0, omega arith)
-        above_it n_lt p le_known (inr below) = let e : above.known ≡ (node_at above.nodes (up n)).known = p.0 in
-            (elim p.1 [ inl settled ↦ settled | inr ge ↦ absurd (omega arith) ], omega arith)
+        above_it : ((node_at above.nodes n).settled ≡ true → f.node ≡ node_at above.nodes n) → n < top →
+            ((node_at above.nodes (up n)).settled ≡ true → above.known ≡ (node_at above.nodes (up n)).known) × (((node_at above.nodes (up n)).settled ≡ true) ⊎ (t ≤ above.known)) →
+            ((node_at above.nodes n).settled ≡ true) ⊎ ((above.known < t) × (above.known ≤ f.node.known)) →
+            ((node_at above.nodes (up n)).settled ≡ true) × ((node_at above.nodes (up n)).known ≤ f.node.known)
+        above_it kept n_lt p (inl settled) =
+            let s = sound n n_lt settled in
+            (s.0, subst (λ (y : Node). (node_at above.nodes (up n)).known ≤ y.known) (sym (kept settled)) s.1)
+        above_it kept n_lt p (inr fresh) =
+            let below : above.known < t = fresh.0 in
+            let is : (node_at above.nodes (up n)).settled ≡ true = elim p.1 [ inl settled ↦ settled | inr ge ↦ absurd (omega arith) ] in
+            let e : above.known ≡ (node_at above.nodes (up n)).known = p.0 is in
+            let le : above.known ≤ f.node.known = fresh.1 in
+            (is, omega arith)
 
 pub way_le : (up : ℕ → ℕ) (top n : ℕ) (ways : List ℕ) → IsWay up top n ways → n ≤ top
 way_le up top n ways at_top = omega arith
@@ -338,17 +376,16 @@ pub record WasRead (values : ℕ → ℕ) (t : ℕ) (nodes : List Node) (ways : 
 
 -- at one node
 read_step : (values : ℕ → ℕ) (t : ℕ) (nodes : List Node) (n : ℕ) (over : List ℕ) (bits : List Bool) (a r : Scanned) → n < length a.nodes →
-    ((node_at a.nodes n).settled ≡ true → a.known ≤ (node_at a.nodes n).known) →
     (Agree values a.nodes → WasRead values t nodes over bits a) → scan_node t n a ≡ Some r → Agree values r.nodes → WasRead values t nodes (n ∷ over) bits r
-read_step values t nodes n over bits a r lt ge again h agree = by (scan_one t (node_at a.nodes n) a.known a.rest) refl h
+read_step values t nodes n over bits a r lt again h agree = by (scan_one t (node_at a.nodes n) a.known a.rest) refl h
   where
-    by : (o : Option Found) → scan_one t (node_at a.nodes n) a.known a.rest ≡ o → option_map (scanned n a.nodes) o ≡ Some r → WasRead values t nodes (n ∷ over) bits r
+    by : (o : Option Found) → scan_one t (node_at a.nodes n) a.known a.rest ≡ o → option_map (scanned n a) o ≡ Some r → WasRead values t nodes (n ∷ over) bits r
     by None eq e = absurd cc
     by (Some f) eq e =
-        let is : r ≡ scanned n a.nodes f = cc in
+        let is : r ≡ scanned n a f = cc in
         let agree' : Agree values (set a.nodes n f.node) = subst (λ (s : Scanned). Agree values s.nodes) is agree in
         let fits : IsValueOf f.node (values n) = subst (λ (y : Node). IsValueOf y (values n)) (at_same a.nodes n f.node lt) (agree' n) in
-        let one = one_read t (node_at a.nodes n) a.known a.rest f (values n) eq fits ge in
+        let one = one_read t (node_at a.nodes n) a.known a.rest f (values n) eq fits in
         let w : WasRead values t nodes over bits a = again (kept_before (λ q y. IsValueOf y (values q)) a.nodes n f.node one.0 agree') in
         let above : Walk = walk values t nodes over in
         let node_is : node_at a.nodes n ≡ node_at above.nodes n = ap (λ (l : List Node). node_at l n) w.nodes_are in
@@ -363,7 +400,7 @@ read_step values t nodes n over bits a r lt ge again h agree = by (scan_one t (n
         subst (λ (s : Scanned). WasRead values t nodes (n ∷ over) bits s) (sym is) (record {
           before = w.before;
           nodes_are = ap (λ (l : List Node). set l n f.node) w.nodes_are ∙ ap (λ (y : Node). set above.nodes n y) after_is;
-          known_is = ap (λ (y : Node). y.known) after_is;
+          known_is = ap (λ (y : Node). max a.known y.known) after_is ∙ ap (λ (k : ℕ). max k (node_after (node_at above.nodes n) (max (node_at above.nodes n).known above.known) (values n) t).known) w.known_is;
           bits_are = w.bits_are ∙ ap (λ (l : List Bool). above.bits ++ l) bits_is
               ∙ sym (append_assoc above.bits (node_bits (node_at above.nodes n) (max (node_at above.nodes n).known above.known) (values n) t) f.rest);
         })
@@ -371,15 +408,13 @@ read_step values t nodes n over bits a r lt ge again h agree = by (scan_one t (n
 pub scan_read : (up : ℕ → ℕ) (top t : ℕ) (nodes : List Node) (bits : List Bool) (n : ℕ) (ways : List ℕ) → IsWay up top n ways → top < length nodes → Sound up top nodes →
     (r : Scanned) → scan_way t nodes ways bits ≡ Some r → (values : ℕ → ℕ) → Agree values r.nodes → WasRead values t nodes ways bits r
 scan_read up top t nodes bits n ways at_top long sound r h values agree =
-    read_step values t nodes top [] bits (scanned_of nodes 0 bits) r long (λ s. omega arith)
+    read_step values t nodes top [] bits (scanned_of nodes 0 bits) r long
     (λ ag. record { before = ag; nodes_are = refl; known_is = refl; bits_are = refl }) h agree
 scan_read up top t nodes bits _ _ (under {n} {over} lt w) long sound r h values agree =
     let s = split_way t n (scan_way t nodes over bits) r h in
     let a : After up top t nodes (up n) s.0 = scan_sound up top t nodes bits (up n) over w long sound s.0 s.1 in
-    let known_is : s.0.known ≡ (node_at s.0.nodes (up n)).known = a.known_is in
     let same : length s.0.nodes ≡ length nodes = a.long in
     read_step values t nodes n over bits s.0 r (omega arith)
-    (λ settled. let q = a.sound n lt settled in let le : (node_at s.0.nodes (up n)).known ≤ (node_at s.0.nodes n).known = q.1 in omega arith)
     (λ ag. scan_read up top t nodes bits (up n) over w long sound s.0 s.1 values ag) s.2 agree
 
 -- the bits of values that agree with what is known are read as those of these values
@@ -400,9 +435,9 @@ only_step values t nodes n over bits rest lt le agree long h =
     let one = one_only t node above.known rest (values n) (agree n) le in
     let lt' : n < length above.nodes = omega arith in
     record {
-      reads = ap (option_and_then (scan_node t n)) h ∙ ap (option_map (scanned n above.nodes)) one.0;
+      reads = ap (option_and_then (scan_node t n)) h ∙ ap (option_map (scanned n (scanned_of above.nodes above.known []))) one.0;
       agree = kept (λ q y. IsValueOf y (values q)) above.nodes n (node_after node (max node.known above.known) (values n) t) lt' one.1 agree;
-      below = one.1.known;
+      below = (let l : (node_after node (max node.known above.known) (values n) t).known ≤ values n = one.1.known in omega arith);
       long = length-set above.nodes n (node_after node (max node.known above.known) (values n) t) ∙ long;
     }
 
@@ -418,15 +453,102 @@ scan_only up top t nodes _ _ (under {n} {over} lt w) long values rising agree bi
     let rise : values (up n) ≤ values n = rising n lt in
     only_step values t nodes n over bits rest (omega arith) (omega arith) i.agree i.long i.reads
 
+-- what the last node of a way is at least isn't more than its value
+pub read_below : (up : ℕ → ℕ) (top t : ℕ) (nodes : List Node) (bits : List Bool) (n : ℕ) (ways : List ℕ) → IsWay up top n ways → top < length nodes → Sound up top nodes →
+    (r : Scanned) → scan_way t nodes ways bits ≡ Some r → (values : ℕ → ℕ) → Rising up top values → Agree values r.nodes → r.known ≤ values n
+read_below up top t nodes bits n ways w long sound r h values rising agree =
+    let s : WasRead values t nodes ways bits r = scan_read up top t nodes bits n ways w long sound r h values agree in
+    let i : IsRead values t nodes n ways bits r.rest = scan_only up top t nodes n ways w long values rising s.before bits r.rest s.bits_are in
+    let same : r.known ≡ (walk values t nodes ways).known = s.known_is in
+    let le : (walk values t nodes ways).known ≤ values n = i.below in
+    omega arith
+
 -- whether a value is below the threshold, as what is known of it says
-pub answer_is : (t : ℕ) (node : Node) (m : ℕ) → IsValueOf node m → (node.settled ≡ true) ⊎ (t ≤ node.known) → (node.settled && nat_lt node.known t) ≡ nat_lt m t
-answer_is t node m fits ended = by node.settled refl
+pub answer_is : (t : ℕ) (node : Node) (known m : ℕ) → IsValueOf node m → known ≤ m → (node.settled ≡ true → known ≡ node.known) → (node.settled ≡ true) ⊎ (t ≤ known) →
+    (node.settled && nat_lt known t) ≡ nat_lt m t
+answer_is t node known m fits le known_is ended = by node.settled refl
   where
-    by : (b : Bool) → node.settled ≡ b → (b && nat_lt node.known t) ≡ nat_lt m t
-    by true e = ap (λ (k : ℕ). nat_lt k t) (fits.settled e)
-    by false e = let le : node.known ≤ m = fits.known in
-        let ge : t ≤ node.known = elim ended [ inl s ↦ absurd cc | inr ge ↦ ge ] in
+    by : (b : Bool) → node.settled ≡ b → (b && nat_lt known t) ≡ nat_lt m t
+    by true e = ap (λ (k : ℕ). nat_lt k t) (known_is e ∙ fits.settled e)
+    by false e =
+        let ge : t ≤ known = elim ended [ inl s ↦ absurd cc | inr ge ↦ ge ] in
         let no : nat_lt m t ≡ false = grind (arith, nat_tests) in sym no
+
+-- ---- below a node that isn't settled nothing is read
+quiet : (t n : ℕ) (nodes : List Node) (known : ℕ) (rest : List Bool) → (node_at nodes n).settled ≡ false → t ≤ known →
+    scan_node t n (record { nodes = nodes; known = known; rest = rest }) ≡ Some (record { nodes = nodes; known = max known (node_at nodes n).known; rest = rest })
+quiet t n nodes known rest unsettled le =
+    let node : Node = node_at nodes n in
+    let a : Scanned = record { nodes = nodes; known = known; rest = rest } in
+    let past : nat_le t (max node.known known) ≡ true = grind (arith, nat_tests) in
+    ap (λ (b : Bool). option_map (scanned n a) (cond (b || nat_le t (max node.known known)) (Some (found_of node rest)) (option_map (found (max node.known known)) (scan (t - max node.known known) rest)))) unsettled
+    ∙ ap (λ (b : Bool). option_map (scanned n a) (cond b (Some (found_of node rest)) (option_map (found (max node.known known)) (scan (t - max node.known known) rest)))) past
+    ∙ ap (λ (l : List Node). let s : Scanned = record { nodes = l; known = max known node.known; rest = rest } in Some s) (set-get_or nodes n unknown)
+
+-- the same of a walk
+abbrev pub walk_at : List Node → ℕ → List Bool → Walk
+walk_at nodes known bits = record { nodes = nodes; known = known; bits = bits }
+
+abbrev pub walked : List Node → ℕ → Walk
+walked nodes known = walk_at nodes known []
+
+abbrev pub told_node : Bool → Node → ℕ → ℕ → ℕ → Node
+told_node b node start m t = cond b node (record { known = max start (min m t); settled = nat_lt m t })
+
+abbrev pub told_bits : Bool → ℕ → ℕ → ℕ → List Bool
+told_bits b start m t = cond b [] (replicate (min m t - start) false ++ cond (nat_lt m t) (true ∷ []) [])
+
+-- at a node that isn't settled, under what reaches the threshold
+pub stepped_is : (values : ℕ → ℕ) (t n : ℕ) (nodes : List Node) (known : ℕ) → (node_at nodes n).settled ≡ false → t ≤ max (node_at nodes n).known known →
+    step values t n (walked nodes known) ≡ walked nodes (max known (node_at nodes n).known)
+stepped_is values t n nodes known unsettled le =
+    let node : Node = node_at nodes n in
+    let start : ℕ = max node.known known in
+    let past : is_told node start t ≡ true = (let le' : nat_le t start ≡ true = grind (arith, nat_tests) in ap (λ (b : Bool). b || nat_le t start) unsettled ∙ le') in
+    ap (λ (b : Bool). walk_at (set nodes n (told_node b node start (values n) t)) (max known (told_node b node start (values n) t).known) (told_bits b start (values n) t)) past
+    ∙ ap (λ (l : List Node). walked l (max known node.known)) (set-get_or nodes n unknown)
+
+-- a node under one that isn't settled isn't either
+pub unsettled_under : (up : ℕ → ℕ) (top : ℕ) (nodes : List Node) (n : ℕ) → Sound up top nodes → n < top → (node_at nodes (up n)).settled ≡ false → (node_at nodes n).settled ≡ false
+unsettled_under up top nodes n sound lt unsettled = by (node_at nodes n).settled refl
+  where
+    by : (b : Bool) → (node_at nodes n).settled ≡ b → b ≡ false
+    by false e = refl
+    by true e = absurd (let s = sound n lt e in let x : true ≡ false = sym s.0 ∙ unsettled in cc)
+
+-- a way of which a part was read, up to a node that isn't settled
+pub record Stopped (t : ℕ) (nodes : List Node) (n : ℕ) (ways : List ℕ) (bits : List Bool) (a : Scanned) : Type 0 where
+  pub known : ℕ
+  pub read : scan_way t nodes ways bits ≡ Some (scanned_of a.nodes known a.rest)
+  pub reached : t ≤ known
+  pub unsettled : (node_at a.nodes n).settled ≡ false
+
+stopped_here : (up : ℕ → ℕ) (top t : ℕ) (nodes : List Node) (bits : List Bool) (n : ℕ) (ways : List ℕ) → IsWay up top n ways → top < length nodes → Sound up top nodes →
+    (a : Scanned) → scan_way t nodes ways bits ≡ Some a → (node_at a.nodes n).settled ≡ false → Stopped t nodes n ways bits a
+stopped_here up top t nodes bits n ways w long sound a h unsettled =
+    let f : After up top t nodes n a = scan_sound up top t nodes bits n ways w long sound a h in
+    record { known = a.known; read = h; reached = elim f.ended [ inl s ↦ absurd (let x : true ≡ false = sym s ∙ unsettled in cc) | inr le ↦ le ]; unsettled = unsettled }
+
+pub stops : (up : ℕ → ℕ) (top t : ℕ) (nodes : List Node) (bits : List Bool) (n : ℕ) (ways : List ℕ) → IsWay up top n ways → top < length nodes → Sound up top nodes →
+    (k : ℕ) → k < length ways → (a : Scanned) → scan_way t nodes (drop k ways) bits ≡ Some a → (node_at a.nodes (get_or ways k 0)).settled ≡ false → Stopped t nodes n ways bits a
+stops up top t nodes bits _ _ at_top long sound zero lt a h unsettled = stopped_here up top t nodes bits top (top ∷ []) at_top long sound a h unsettled
+stops up top t nodes bits _ _ at_top long sound (suc k) lt a h unsettled = absurd (omega arith)
+stops up top t nodes bits _ _ (under {n} {over} n_lt w) long sound zero lt a h unsettled = stopped_here up top t nodes bits n (n ∷ over) (under n_lt w) long sound a h unsettled
+stops up top t nodes bits _ _ (under {n} {over} n_lt w) long sound (suc k) lt a h unsettled =
+    let s : Stopped t nodes (up n) over bits a = stops up top t nodes bits (up n) over w long sound k (omega arith) a h unsettled in
+    let f : After up top t nodes (up n) (scanned_of a.nodes s.known a.rest) = scan_sound up top t nodes bits (up n) over w long sound (scanned_of a.nodes s.known a.rest) s.read in
+    let here : (node_at a.nodes n).settled ≡ false = unsettled_under up top a.nodes n f.sound n_lt s.unsettled in
+    let reached : t ≤ s.known = s.reached in
+    record {
+      known = max s.known (node_at a.nodes n).known;
+      read = ap (option_and_then (scan_node t n)) s.read ∙ quiet t n a.nodes s.known a.rest here reached;
+      reached = omega arith;
+      unsettled = here;
+    }
+
+pub way_head : (up : ℕ → ℕ) (top n : ℕ) (ways : List ℕ) → IsWay up top n ways → (get_or ways 0 0 ≡ n) × (0 < length ways)
+way_head up top _ _ at_top = (refl, omega arith)
+way_head up top _ _ (under {n} {over} lt w) = (refl, omega arith)
 
 -- ---- a query in a tree
 -- the upper part of a way keeps what can be known
@@ -458,10 +580,6 @@ module _ (wide high leaf t : ℕ) (inside : leaf < wide * high) (nodes : List No
   in_range k lt = let le : get_or (way wide high leaf) k 0 ≤ root wide high = way_below (parent wide high) (root wide high) leaf (way wide high leaf) here k lt in
       let e : length nodes ≡ root wide high + 1 = keeps.long in omega arith
 
-  pub leaf_in_range : leaf < length nodes
-  leaf_in_range = let le : leaf ≤ root wide high = way_le (parent wide high) (root wide high) leaf (way wide high leaf) here in
-      let e : length nodes ≡ root wide high + 1 = keeps.long in omega arith
-
   pub part_keeps : (bits : List Bool) (new : List Node) → PartRead t nodes (way wide high leaf) bits new → KeepsTree wide high new
   part_keeps bits new p =
       let s = part_sound (parent wide high) (root wide high) t nodes bits leaf (way wide high leaf) here long_enough keeps.sound p.place (scanned_of new p.known p.rest) p.read in
@@ -484,8 +602,9 @@ module _ (wide high leaf t : ℕ) (inside : leaf < wide * high) (nodes : List No
         before = record { are = v.are; agree = w.before };
         bits = w.bits_are;
         place = took.2 ∙ ap (λ (l : List Bool). advance from (length l)) given;
-        answer = ap (λ (k : ℕ). (node_at new leaf).settled && nat_lt k t) a.known_is
-            ∙ answer_is t (node_at new leaf) (values leaf) (v.agree leaf) (subst (λ (k : ℕ). ((node_at new leaf).settled ≡ true) ⊎ (t ≤ k)) a.known_is a.ended);
+        answer = answer_is t (node_at new leaf) known (values leaf) (v.agree leaf)
+            (read_below (parent wide high) (root wide high) t nodes (to_come from) leaf (way wide high leaf) here long_enough keeps.sound (scanned_of new known (to_come to)) h values v.are v.agree)
+            a.known_is a.ended;
         after = ap (λ (l : List Node). tree_of wide high l) w.nodes_are;
         still = v;
       }
@@ -517,8 +636,8 @@ module _ (wide high leaf t : ℕ) (nodes : List Node) (keeps : KeepsTree wide hi
   in_tree : leaf < wide * high
   in_tree = subst (λ (s : Tree). leaf < s.wide * s.high) (sym view) inside
 
-  pub call_range : (k : ℕ) → k < length ways → get_or ways k 0 < length nodes
-  call_range = subst (λ (w : List ℕ). (k : ℕ) → k < length w → get_or w k 0 < length nodes) (sym ways_are) (in_range wide high leaf t in_tree nodes keeps)
+  pub call_way : IsWayIn nodes leaf ways
+  call_way = record { wide = wide; high = high; tree = keeps; inside = in_tree; is = ways_are }
 
   pub call_part : (bits : List Bool) (new : List Node) → PartRead t nodes ways bits new → KeepsTree wide high new
   call_part bits new p = part_keeps wide high leaf t in_tree nodes keeps bits new (subst (λ (w : List ℕ). PartRead t nodes w bits new) ways_are p)
@@ -526,18 +645,12 @@ module _ (wide high leaf t : ℕ) (nodes : List Node) (keeps : KeepsTree wide hi
   pub call_keeps : (bits rest : List Bool) (new : List Node) (known : ℕ) → scan_way t nodes ways bits ≡ Some (scanned_of new known rest) → KeepsTree wide high new
   call_keeps bits rest new known h = read_keeps wide high leaf t in_tree nodes keeps bits rest new known (subst (λ (w : List ℕ). scan_way t nodes w bits ≡ Some (scanned_of new known rest)) ways_are h)
 
-  pub call_leaf : (bits rest : List Bool) (new : List Node) (known : ℕ) → scan_way t nodes ways bits ≡ Some (scanned_of new known rest) → leaf < length new
-  call_leaf bits rest new known h = leaf_in_range wide high leaf t in_tree new (call_keeps bits rest new known h)
-
-  pub call_read : (from to : Reading) (new : List Node) (known : ℕ) (node : Node) (below : Bool) → scan_way t nodes ways (to_come from) ≡ Some (scanned_of new known (to_come to)) → Took from to →
-      node ≡ get_or new leaf node → below ≡ (node.settled && nat_lt known t) →
+  pub call_read : (from to : Reading) (new : List Node) (below : Bool) → WayRead t nodes leaf ways (to_come from) below new (to_come to) → Took from to →
       (values : ℕ → ℕ) → ValuesOf (tree_of wide high new) values → HasRead values leaf t below tree from (tree_of wide high new) to
-  call_read from to new known node below h took read answer values v =
-      let lt : leaf < length new = call_leaf (to_come from) (to_come to) new known h in
-      let node_is : node_at new leaf ≡ node = get_or_default new leaf unknown node lt ∙ sym read in
-      let r = reach_read wide high leaf t in_tree nodes keeps from to new known (subst (λ (w : List ℕ). scan_way t nodes w (to_come from) ≡ Some (scanned_of new known (to_come to))) ways_are h) took values v in
+  call_read from to new below h took values v =
+      let r = reach_read wide high leaf t in_tree nodes keeps from to new h.known (subst (λ (w : List ℕ). scan_way t nodes w (to_come from) ≡ Some (scanned_of new h.known (to_come to))) ways_are h.read) took values v in
       let r' : HasRead values leaf t below (tree_of wide high nodes) from (tree_of wide high new) to =
-      subst (λ (b : Bool). HasRead values leaf t b (tree_of wide high nodes) from (tree_of wide high new) to) (ap (λ (y : Node). y.settled && nat_lt known t) node_is ∙ sym answer) r in
+      subst (λ (b : Bool). HasRead values leaf t b (tree_of wide high nodes) from (tree_of wide high new) to) (sym h.answer) r in
       subst (λ (s : Tree). HasRead values leaf t below s from (tree_of wide high new) to) view r'
 
   pub call_only : (from to : Reading) (new : List Node) (known : ℕ) → scan_way t nodes ways (to_come from) ≡ Some (scanned_of new known (to_come to)) →
@@ -551,3 +664,42 @@ module _ (wide high leaf t : ℕ) (nodes : List Node) (keeps : KeepsTree wide hi
   call_none from h values v rest stands =
       reach_none wide high leaf t in_tree nodes keeps from (subst (λ (w : List ℕ). scan_way t nodes w (to_come from) ≡ None) ways_are h)
       values (subst (λ (s : Tree). ValuesOf s values) (sym view) v) rest (subst (λ (s : Tree). to_come from ≡ (query values s leaf t).bits ++ rest) (sym view) stands)
+
+-- ---- a way in a tag tree's nodes
+module _ (nodes : List Node) (leaf : ℕ) (ways : List ℕ) (w : IsWayIn nodes leaf ways) where
+  way_there : IsWay (parent w.wide w.high) (root w.wide w.high) leaf ways
+  way_there = subst (λ (ws : List ℕ). IsWay (parent w.wide w.high) (root w.wide w.high) leaf ws) (sym w.is) (way_is w.wide w.high leaf w.tree.shape w.inside)
+
+  long_there : root w.wide w.high < length nodes
+  long_there = let e : length nodes ≡ root w.wide w.high + 1 = w.tree.long in omega arith
+
+  pub way_range : (k : ℕ) → k < length ways → get_or ways k 0 < length nodes
+  way_range k lt = let le : get_or ways k 0 ≤ root w.wide w.high = way_below (parent w.wide w.high) (root w.wide w.high) leaf ways way_there k lt in
+      let e : length nodes ≡ root w.wide w.high + 1 = w.tree.long in omega arith
+
+  -- all its nodes were read
+  pub way_whole : (t : ℕ) (bits : List Bool) (new : List Node) (above place : ℕ) (rest : List Bool) → place ≡ 0 →
+      scan_way t nodes (drop place ways) bits ≡ Some (scanned_of new above rest) → (place < length ways → (node_at new (get_or ways place 0)).settled ≡ true) → (below : Bool) → below ≡ nat_lt above t →
+      WayRead t nodes leaf ways bits below new rest
+  way_whole t bits new above place rest none read settled below is =
+      let head = way_head (parent w.wide w.high) (root w.wide w.high) leaf ways way_there in
+      let some : 0 < length ways = head.1 in
+      let s : (node_at new (get_or ways place 0)).settled ≡ true = settled (omega arith) in
+      let s' : (node_at new leaf).settled ≡ true = ap (λ (n : ℕ). (node_at new n).settled) (sym (ap (λ (k : ℕ). get_or ways k 0) none ∙ head.0)) ∙ s in
+      record {
+        known = above;
+        read = subst (λ (k : ℕ). scan_way t nodes (drop k ways) bits ≡ Some (scanned_of new above rest)) none read;
+        answer = is ∙ ap (λ (b : Bool). b && nat_lt above t) (sym s');
+      }
+
+  -- its nodes were read up to one that isn't settled
+  pub way_stopped : (t : ℕ) (bits : List Bool) (new : List Node) (above place : ℕ) (rest : List Bool) → place < length ways →
+      scan_way t nodes (drop place ways) bits ≡ Some (scanned_of new above rest) → (node_at new (get_or ways place 0)).settled ≡ false → WayRead t nodes leaf ways bits false new rest
+  way_stopped t bits new above place rest lt read unsettled =
+      let s : Stopped t nodes leaf ways bits (scanned_of new above rest) =
+      stops (parent w.wide w.high) (root w.wide w.high) t nodes bits leaf ways way_there long_there w.tree.sound place lt (scanned_of new above rest) read unsettled in
+      record {
+        known = s.known;
+        read = s.read;
+        answer = ap (λ (b : Bool). b && nat_lt s.known t) (sym s.unsettled);
+      }

@@ -1,7 +1,8 @@
 -- What is true of a written tag tree's fields.
 use Rattle.std.specs.Prelude.{◌≡◌, ℕ, ◌+◌, ◌*◌, ◌≤◌, List, length, take, slice_index}
 use Rattle.jx_tagtree.specs.declared.node.Node.{Node}
-use Rattle.jx_tagtree.specs.Shape.{IsShape, root}
+use Rattle.jx_tagtree.specs.declared.shape.Level.{Level}
+use Rattle.jx_tagtree.specs.Shape.{IsShape, root, levels_of}
 use Rattle.jx_tagtree.specs.Leaves.{least_leaf}
 
 -- the leaves, which are the first of the nodes
@@ -17,3 +18,8 @@ pub record KeepsLeaves (wide high : ℕ) (values : List ℕ) (nodes : List Node)
   pub shape : IsShape wide high
   pub long : length nodes ≡ root wide high + 1
   pub are_values : AreNodeValues wide high (leaves_in wide high values) values
+
+-- with the table of its levels
+pub record KeepsWriter (wide high : ℕ) (levels : List Level) (values : List ℕ) (nodes : List Node) : Type 0 where
+  pub tree : KeepsLeaves wide high values nodes
+  pub levels_are : levels ≡ levels_of wide high

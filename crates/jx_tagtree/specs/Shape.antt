@@ -1,6 +1,6 @@
 -- The nodes of a tag tree (ITU-T T.800, B.10.2). They are numbered from the leaves' level up to the root, in raster order
 -- within a level. Each level is half as wide and high as the one below, rounded up.
-use Rattle.std.specs.Prelude.{ℕ, zero, suc, ◌+◌, ◌-◌, ◌*◌, ◌/◌, ◌%◌, ◌^◌, ◌<◌, ◌≤◌, nat_lt, nat_le, Bool, ◌&&◌, List, [], ◌∷◌, if◌then◌else◌}
+use Rattle.std.specs.Prelude.{ℕ, zero, suc, ◌+◌, ◌-◌, ◌*◌, ◌/◌, ◌%◌, ◌^◌, ◌<◌, ◌≤◌, nat_lt, nat_le, Bool, ◌&&◌, List, [], ◌∷◌, length, slice_index, if◌then◌else◌}
 use Rattle.jx_tagtree.specs.declared.shape.Level.{Level}
 
 -- the sizes that a tag tree may have, in leaves
@@ -49,6 +49,28 @@ way_from (suc n) level node = if is_root level then node ∷ [] else node ∷ wa
 -- the way from a leaf to the root: the leaf first, and behind each node its parent
 unfoldable pub way : ℕ → ℕ → ℕ → List ℕ
 way wide high leaf = way_from 20 (base wide high) leaf
+
+-- the levels from one up to the root's, of which at most n are above it
+abbrev pub levels_from : ℕ → Level → List Level
+levels_from zero level = level ∷ []
+levels_from (suc n) level = if is_root level then level ∷ [] else level ∷ levels_from n (over level)
+
+unfoldable pub levels_of : ℕ → ℕ → List Level
+levels_of wide high = levels_from 20 (base wide high)
+
+-- the node of a level that stands down and across from the level's first
+abbrev pub node_in : Level → ℕ → ℕ → ℕ
+node_in level down across = level.first + down * level.wide + across
+
+-- that node and those over it: the place is halved with each level
+abbrev pub nodes_over : List Level → ℕ → ℕ → List ℕ
+nodes_over [] down across = []
+nodes_over (level ∷ levels) down across = node_in level down across ∷ nodes_over levels (down / 2) (across / 2)
+
+-- what is true of the fields of a way
+pub record FitsWay (levels : List Level) (down across : ℕ) : Type 0 where
+  pub few : length levels ≤ 21
+  pub fits : (k : ℕ) → k < length levels → slice_index (nodes_over levels down across) k < 2 ^ 32
 
 -- a level with at most n above it
 pub record IsLevel (n : ℕ) (level : Level) : Type 0 where

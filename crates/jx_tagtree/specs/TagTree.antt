@@ -1,6 +1,6 @@
 -- Tag trees (ITU-T T.800, B.10.2): what a query at a leaf reads or writes, from the values of the nodes and from what is
 -- known of them.
-use Rattle.std.specs.Prelude.{◌≡◌, ℕ, ◌+◌, ◌-◌, ◌<◌, ◌≤◌, min, max, nat_lt, Bool, true, false, ◌||◌, List, [], ◌∷◌, ◌++◌, length, replicate, slice_set, slice_index_or, if◌then◌else◌}
+use Rattle.std.specs.Prelude.{◌≡◌, ℕ, ◌+◌, ◌-◌, ◌<◌, ◌≤◌, min, max, nat_lt, nat_le, Bool, true, false, not, ◌&&◌, ◌||◌, List, [], ◌∷◌, ◌++◌, length, replicate, slice_set, slice_index_or, if◌then◌else◌}
 use Rattle.jx_tagtree.specs.declared.node.Node.{Node}
 use Rattle.jx_tagtree.specs.Header.{Reading, to_come, advance}
 use Rattle.jx_tagtree.specs.Shape.{root, parent, way}
@@ -22,17 +22,22 @@ fresh wide high = record { wide = wide; high = high; nodes = replicate (root wid
 abbrev pub node_at : List Node → ℕ → Node
 node_at nodes n = slice_index_or nodes n unknown
 
+-- a node has no bits at a threshold where it is settled, or where the start reaches the threshold
+abbrev pub is_told : Node → ℕ → ℕ → Bool
+is_told node start threshold = node.settled || nat_le threshold start
+
 -- The bits of one node of value m at a threshold, from a start: as many zeros as the value or the threshold is above the
--- start, then a 1 where the value is below the threshold. A settled node has none.
+-- start, then a 1 where the value is below the threshold.
 abbrev pub node_bits : Node → ℕ → ℕ → ℕ → List Bool
 node_bits node start m threshold =
-    if node.settled then [] else replicate (min m threshold - start) false ++ (if nat_lt m threshold then true ∷ [] else [])
+    if is_told node start threshold then [] else replicate (min m threshold - start) false ++ (if nat_lt m threshold then true ∷ [] else [])
 
--- what is known of it afterwards
+-- what is known of it afterwards: a node without bits stays as it was
 abbrev pub node_after : Node → ℕ → ℕ → ℕ → Node
-node_after node start m threshold = record { known = max start (min m threshold); settled = node.settled || nat_lt m threshold }
+node_after node start m threshold =
+    if is_told node start threshold then node else record { known = max start (min m threshold); settled = nat_lt m threshold }
 
--- what a query has done: what is known of the nodes, and of the last of its way, and the bits
+-- what a query has done: what is known of the nodes, what the last of its way is at least by all of them, and the bits
 pub record Walk : Type 0 where
   pub nodes : List Node
   pub known : ℕ
@@ -46,7 +51,7 @@ step values threshold n above =
     let after = node_after node start (values n) threshold in
     record {
       nodes = slice_set above.nodes n after;
-      known = after.known;
+      known = max above.known after.known;
       bits = above.bits ++ node_bits node start (values n) threshold;
     }
 
@@ -62,6 +67,12 @@ query values tree leaf threshold = walk values threshold tree.nodes (way tree.wi
 -- the tree after it
 abbrev pub tree_after : (ℕ → ℕ) → Tree → ℕ → ℕ → Tree
 tree_after values tree leaf threshold = record tree { nodes = (query values tree leaf threshold).nodes }
+
+-- What is known of the root reaches a threshold, and it isn't settled: then no query with this threshold has bits.
+abbrev pub is_past : Tree → ℕ → Bool
+is_past tree threshold =
+    let top = node_at tree.nodes (root tree.wide tree.high) in
+    not top.settled && nat_le threshold top.known
 
 -- values of the nodes, each at least its parent's
 abbrev pub AreValues : ℕ → ℕ → (ℕ → ℕ) → Type 0
@@ -100,3 +111,9 @@ pub record HasRead (values : ℕ → ℕ) (leaf threshold : ℕ) (below : Bool) 
   pub answer : below ≡ nat_lt (values leaf) threshold
   pub after : new ≡ tree_after values old leaf threshold
   pub still : ValuesOf new values
+
+-- A query that has no bits: it tells nothing, and the value isn't below the threshold.
+pub record HasNothing (tree : Tree) (values : ℕ → ℕ) (leaf threshold : ℕ) : Type 0 where
+  pub bits : (query values tree leaf threshold).bits ≡ []
+  pub after : tree_after values tree leaf threshold ≡ tree
+  pub answer : nat_lt (values leaf) threshold ≡ false

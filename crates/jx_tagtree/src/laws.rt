@@ -1,9 +1,9 @@
 //! Laws of header bits and tag trees. Each function's contract is a law over the definitions that the
 //! other contracts cite, so its body is empty.
-ghost use Rattle.std.specs.Prelude.{◌≡◌, ◌*◌, ◌<◌, ◌≤◌, ◌++◌, Bool, List, ℕ, length, slice_index, Ok};
+ghost use Rattle.std.specs.Prelude.{◌≡◌, ◌*◌, ◌<◌, ◌≤◌, ◌++◌, Bool, List, ℕ, length, slice_index, true, Ok};
 ghost use Rattle.jx_tagtree.specs.Header.{IsHeader, StuffedAfterFf, ReadsBack, EndsAt, bits_of, bytes_of, end_after};
 ghost use Rattle.jx_tagtree.specs.Shape.{IsShape, root};
-ghost use Rattle.jx_tagtree.specs.TagTree.{Tree, fresh, tree_after, AreValues, ValuesOf, IsTree};
+ghost use Rattle.jx_tagtree.specs.TagTree.{Tree, fresh, tree_after, is_past, AreValues, ValuesOf, IsTree, HasNothing};
 ghost use Rattle.jx_tagtree.specs.Leaves.{least_leaf, AreLeaves, IsLeast};
 ghost use Rattle.jx_tagtree.specs.Questions.{Question, all_bits, AreAtLeaves, OneReading, AreReadBack};
 
@@ -21,9 +21,10 @@ pub fn header_read_back()
 {}
 
 /// What `finish` answers: the bytes of a header have the bits that were taken and behind them only
-/// filling, no stuffed bit is 1, and the last byte isn't FF.
+/// filling, no stuffed bit is 1, and the last byte isn't FF. They end at one place alone.
 pub fn header_ends()
-    ensures { (bytes : List ℕ) (n used : ℕ) → n ≤ length (bits_of bytes).bits → end_after bytes n ≡ Ok used → EndsAt bytes n used }
+    ensures ends { (bytes : List ℕ) (n used : ℕ) → n ≤ length (bits_of bytes).bits → end_after bytes n ≡ Ok used → EndsAt bytes n used }
+    ensures only { (bytes : List ℕ) (n used : ℕ) → n ≤ length (bits_of bytes).bits → EndsAt bytes n used → end_after bytes n ≡ Ok used }
 {}
 
 /// A node's value is the least leaf under it, so a leaf's is the leaf, and each is at least its parent's.
@@ -39,6 +40,13 @@ pub fn values_of_leaves()
 pub fn nothing_known()
     ensures tree { (wide high : ℕ) → IsShape wide high → IsTree (fresh wide high) }
     ensures values { (wide high : ℕ) (values : ℕ → ℕ) → IsShape wide high → AreValues wide high values → ValuesOf (fresh wide high) values }
+{}
+
+/// Where what is known of the root reaches a threshold, a query with it at any leaf has no bits, tells
+/// nothing, and no leaf's value is below it.
+pub fn past_reads_nothing()
+    ensures { (tree : Tree) (values : ℕ → ℕ) (leaf threshold : ℕ) → IsShape tree.wide tree.high → IsTree tree → leaf < tree.wide * tree.high →
+        ValuesOf tree values → is_past tree threshold ≡ true → HasNothing tree values leaf threshold }
 {}
 
 /// What is known of a tree is that of some values.

@@ -1,6 +1,7 @@
 ghost use Rattle.std.specs.Prelude.{◌≡◌, ◌+◌, ◌-◌, ◌<◌, ◌≤◌, ◌++◌, max, Some, None, IfOk, IfErr, length, slice_index, ℕ};
 ghost use Rattle.jx_tagtree.specs.Header.{Took, to_come, fault_of, exhausted};
-ghost use Rattle.jx_tagtree.specs.Scan.{scan, scan_one, scan_way, Zeros, Found, Scanned, PartRead};
+ghost use Rattle.jx_tagtree.specs.Scan.{scan, scan_one, scan_way, Zeros, Found, Scanned, PartRead, WayRead};
+ghost use Rattle.jx_tagtree.specs.Kept.{IsWayIn};
 
 use crate::node::Node;
 use crate::shape::Way;
@@ -43,24 +44,23 @@ pub(crate) fn read_node(
     ensures given { IfErr result (λ _. bits.new ≡ exhausted bits.old) }
 {
     let start = node.known.max(above);
-    if node.settled {
-        return Ok(Node {
-            known: start,
-            settled: true,
-        });
+    if node.settled || threshold <= start {
+        return Ok(node);
     }
     read_zeros(start, threshold, bits)
 }
 
-/// Reads the bits of a way, from the root down to the leaf, and gives what is known of the leaf.
+/// Reads the bits of a way from the root down, and says whether its leaf's value is below the threshold.
+/// It ends at the first node whose value isn't: no node under it has bits.
 pub(crate) fn read_way(
     nodes: &mut Vec<Node>,
-    way: &Way,
+    leaf: u32,
+    way: &Way<'_>,
     threshold: u32,
     bits: &mut BitReader<'_>,
-) -> Result<u32, BitFault>
-    requires { (k : ℕ) → k < length way.now → slice_index way.now k < length nodes.old.items }
-    ensures ok { IfOk result (λ known. scan_way threshold nodes.old.items way.now (to_come bits.old) ≡ Some (record { nodes = nodes.new.items; known = known; rest = to_come bits.new })) }
+) -> Result<bool, BitFault>
+    requires { IsWayIn nodes.old.items leaf way.now }
+    ensures ok { IfOk result (λ below. WayRead threshold nodes.old.items leaf way.now (to_come bits.old) below nodes.new.items (to_come bits.new)) }
     ensures took { IfOk result (λ _. Took bits.old bits.new) }
     ensures err { IfErr result (λ e. (scan_way threshold nodes.old.items way.now (to_come bits.old) ≡ None) × (e ≡ fault_of bits.old)) }
     ensures given { IfErr result (λ _. bits.new ≡ exhausted bits.old) }
@@ -73,11 +73,14 @@ pub(crate) fn read_way(
         let at = way.at(place) as usize;
         match read_node(nodes[at], above, threshold, bits) {
             Ok(node) => {
-                above = node.known;
                 nodes[at] = node;
+                if !node.settled {
+                    return Ok(false);
+                }
+                above = above.max(node.known);
             }
             Err(fault) => return Err(fault),
         }
     }
-    Ok(above)
+    Ok(above < threshold)
 }

@@ -1,6 +1,8 @@
-ghost use Rattle.std.specs.Prelude.{◌≡◌, ℕ, ◌+◌, ◌-◌, ◌*◌, ◌/◌, ◌^◌, ◌<◌, ◌≤◌, ◌↔◌, List, [], ◌∷◌, ◌++◌, length, slice_index, IsTrue};
-ghost use Rattle.jx_tagtree.specs.Shape.{IsShape, IsLevel, InLevel, is_root, over, parent_at, way, root};
+ghost use Rattle.std.specs.Prelude.{◌≡◌, ℕ, ◌+◌, ◌-◌, ◌*◌, ◌/◌, ◌^◌, ◌<◌, ◌≤◌, ◌↔◌, List, [], ◌∷◌, ◌++◌, length, slice_index, IsTrue, IfOk};
+ghost use Rattle.jx_tagtree.specs.Shape.{IsShape, IsLevel, is_root, over, levels_of, node_in, way, root};
 
+use jx_base::NoMemory;
+use std::alloc::Global;
 use std::marker::Model;
 
 /// A level of a tag tree: the number of its first node, and how many nodes it is wide and high.
@@ -33,58 +35,65 @@ fn next(level: Level) -> Level
     }
 }
 
-/// The parent of a node of the level.
-fn node_over(level: Level, above: Level, node: u32) -> u32
-    requires above { above ≡ over level }
-    requires wide { 1 ≤ level.wide }
-    requires within { InLevel level node }
-    requires fits { parent_at level node < 2 ^ 32 }
-    ensures { result ≡ parent_at level node }
+/// The levels of a tag tree, from that of the leaves up to that of the root: at most 21.
+pub(crate) fn table(alloc: Global, wide: u32, high: u32) -> Result<Vec<Level>, NoMemory>
+    requires { IsShape wide high }
+    ensures { IfOk result (λ levels. levels.items ≡ levels_of wide high) }
 {
-    let place = node - level.first;
-    above.first + place / level.wide / 2 * above.wide + place % level.wide / 2
+    let mut levels = Vec::new(alloc);
+    let mut level = Level {
+        first: 0,
+        wide,
+        high,
+    };
+    while !is_top(level) {
+        levels.push(level)?;
+        level = next(level);
+    }
+    levels.push(level)?;
+    Ok(levels)
 }
 
-/// The nodes from a leaf to the root: at most 21.
+/// The nodes from a leaf to the root, which stand over the leaf's place. None is kept: each is computed
+/// where it is asked for.
 #[derive(Drop)]
-pub(crate) struct Way {
-    nodes: [u32; 21],
-    len: usize,
+pub(crate) struct Way<'a> {
+    levels: &'a [Level],
+    down: u32,
+    across: u32,
 }
 
-impl Model for Way {
-    ghost use Rattle.std.specs.Prelude.{ℕ, List, take, ◌≤◌};
+impl<'a> Model for Way<'a> {
+    ghost use Rattle.std.specs.Prelude.{ℕ, List};
+    ghost use Rattle.jx_tagtree.specs.Shape.{nodes_over, FitsWay};
 
     ghost Value = { List ℕ };
 
-    ghost view = { λ w. take w.len w.nodes };
+    ghost view = { λ w. nodes_over w.levels.now w.down w.across };
 
-    ghost invariant = { λ w. w.len ≤ 21 };
+    ghost invariant = { λ w. FitsWay w.levels.now w.down w.across };
 }
 
-impl Way {
-    fn new() -> Way
-        ensures { result ≡ [] }
+impl<'a> Way<'a> {
+    /// The way from a leaf to the root, in a tag tree of these levels.
+    pub(crate) fn new(levels: &'a [Level], wide: u32, high: u32, leaf: u32) -> Way<'a>
+        requires shape { IsShape wide high }
+        requires levels { levels.now ≡ levels_of wide high }
+        requires leaf { leaf < wide * high }
+        ensures { result ≡ way wide high leaf }
     {
         Way {
-            nodes: [0; 21],
-            len: 0,
+            levels,
+            down: leaf / wide,
+            across: leaf % wide,
         }
-    }
-
-    fn push(&mut self, node: u32)
-        requires { length self.old < 21 }
-        ensures { self.new ≡ self.old ++ node ∷ [] }
-    {
-        self.nodes[self.len] = node;
-        self.len += 1;
     }
 
     /// How many nodes it has.
     pub(crate) fn len(&self) -> usize
         ensures { result ≡ length self.now }
     {
-        self.len
+        self.levels.len()
     }
 
     /// The node at a place, 0 for the leaf.
@@ -92,32 +101,29 @@ impl Way {
         requires { place < length self.now }
         ensures { result ≡ slice_index self.now place }
     {
-        let nodes = &self.nodes;
-        nodes[place]
+        let levels = self.levels;
+        node_of(
+            levels[place],
+            halved(self.down, place),
+            halved(self.across, place),
+        )
     }
 }
 
-/// The way from a leaf to the root.
-pub(crate) fn way_of(wide: u32, high: u32, leaf: u32) -> Way
-    requires shape { IsShape wide high }
-    requires leaf { leaf < wide * high }
-    ensures { result ≡ way wide high leaf }
+/// The node of a level that stands down and across from the level's first.
+fn node_of(level: Level, down: u32, across: u32) -> u32
+    requires { node_in level down across < 2 ^ 32 }
+    ensures { result ≡ node_in level down across }
 {
-    let mut nodes = Way::new();
-    let mut level = Level {
-        first: 0,
-        wide,
-        high,
-    };
-    let mut node = leaf;
-    while !is_top(level) {
-        nodes.push(node);
-        let above = next(level);
-        node = node_over(level, above, node);
-        level = above;
-    }
-    nodes.push(node);
-    nodes
+    level.first + down * level.wide + across
+}
+
+/// A number that is halved so many times.
+fn halved(number: u32, times: usize) -> u32
+    requires { times < 32 }
+    ensures { result ≡ number / 2 ^ times }
+{
+    number >> times
 }
 
 /// How many nodes a tag tree has.

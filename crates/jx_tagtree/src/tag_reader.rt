@@ -1,11 +1,11 @@
-ghost use Rattle.std.specs.Prelude.{◌≡◌, ◌*◌, ◌<◌, ◌≤◌, ◌++◌, ℕ, Bool, List, length, ◌&&◌, nat_lt, Ok, OnOk, IfOk, IfErr};
+ghost use Rattle.std.specs.Prelude.{◌≡◌, ◌*◌, ◌<◌, ◌≤◌, ◌++◌, ℕ, Bool, List, length, Ok, OnOk, IfOk, IfErr};
 ghost use Rattle.jx_tagtree.specs.Header.{Took, to_come, fault_of, exhausted};
 ghost use Rattle.jx_tagtree.specs.Shape.{IsShape};
-ghost use Rattle.jx_tagtree.specs.TagTree.{Tree, fresh, query, ValuesOf, IsTree, HasRead};
+ghost use Rattle.jx_tagtree.specs.TagTree.{Tree, fresh, query, is_past, ValuesOf, IsTree, HasRead};
 
 use crate::node::{Node, unknown_nodes};
 use crate::reading::read_way;
-use crate::shape::{count_nodes, way_of};
+use crate::shape::{Level, Way, count_nodes, table};
 use crate::{BitFault, BitReader};
 use jx_base::NoMemory;
 use std::alloc::Global;
@@ -16,6 +16,7 @@ use std::marker::Model;
 pub struct TagReader {
     wide: u32,
     high: u32,
+    levels: Vec<Level>,
     nodes: Vec<Node>,
 }
 
@@ -23,13 +24,13 @@ impl Model for TagReader {
     ghost use Rattle.std.specs.Prelude.{◌≡◌, ◌+◌, length};
     ghost use Rattle.jx_tagtree.specs.Shape.{IsShape, root};
     ghost use Rattle.jx_tagtree.specs.TagTree.{Tree, IsSound};
-    ghost use Rattle.jx_tagtree.specs.Kept.{KeepsTree};
+    ghost use Rattle.jx_tagtree.specs.Kept.{KeepsReader};
 
     ghost Value = { Tree };
 
     ghost view = { λ t. record { wide = t.wide; high = t.high; nodes = t.nodes.items } };
 
-    ghost invariant = { λ t. KeepsTree t.wide t.high t.nodes.items };
+    ghost invariant = { λ t. KeepsReader t.wide t.high t.levels.items t.nodes.items };
 }
 
 impl TagReader {
@@ -38,8 +39,14 @@ impl TagReader {
         requires { IsShape wide high }
         ensures fresh { IfOk result (λ tree. tree ≡ fresh wide high) }
     {
+        let levels = table(alloc, wide, high)?;
         let nodes = unknown_nodes(alloc, count_nodes(wide, high))?;
-        Ok(TagReader { wide, high, nodes })
+        Ok(TagReader {
+            wide,
+            high,
+            levels,
+            nodes,
+        })
     }
 
     /// Whether the value of a leaf is below a threshold. It reads the bits of this query and no others.
@@ -64,19 +71,20 @@ impl TagReader {
         ensures tree { OnOk result (IsTree self.new) }
         ensures fault { IfErr result (λ e. (e ≡ fault_of bits.old) × (bits.new ≡ exhausted bits.old)) }
     {
-        let way = way_of(self.wide, self.high, leaf);
-        let known = match read_way(&mut self.nodes, &way, threshold, bits) {
-            Ok(known) => known,
+        let way = Way::new(&self.levels, self.wide, self.high, leaf);
+        let below = match read_way(&mut self.nodes, leaf, &way, threshold, bits) {
+            Ok(below) => below,
             Err(fault) => return Err(fault),
         };
-        let settled = self.nodes[leaf as usize].settled;
-        Ok(is_below(settled, known, threshold))
+        Ok(below)
     }
-}
 
-/// Whether a leaf's value is below a threshold that was reached.
-fn is_below(settled: bool, known: u32, threshold: u32) -> bool
-    ensures { result ≡ (settled && nat_lt known threshold) }
-{
-    settled && known < threshold
+    /// Whether no leaf's value is below a threshold by what is known of the root: then no query with this
+    /// threshold reads a bit.
+    pub fn is_past(&self, threshold: u32) -> bool
+        ensures { result ≡ is_past self.now threshold }
+    {
+        let root = self.nodes[self.nodes.len() - 1];
+        !root.settled && threshold <= root.known
+    }
 }

@@ -1,11 +1,11 @@
 ghost use Rattle.std.specs.Prelude.{◌≡◌, ◌*◌, ◌<◌, ◌≤◌, ◌++◌, ◌-◌, ◌^◌, replicate, length, OnOk, IfOk};
-ghost use Rattle.jx_tagtree.specs.Shape.{IsShape};
+ghost use Rattle.jx_tagtree.specs.Shape.{IsShape, levels_of};
 ghost use Rattle.jx_tagtree.specs.Leaves.{Written, untold, told, told_after};
 ghost use Rattle.jx_tagtree.specs.KeptLeaves.{AreNodeValues};
 
 use crate::BitWriter;
 use crate::node::{Node, unknown_nodes};
-use crate::shape::{count_nodes, way_of};
+use crate::shape::{Level, Way, count_nodes, table};
 use crate::writing::{lower, write_way};
 use jx_base::NoMemory;
 use std::alloc::Global;
@@ -16,6 +16,7 @@ use std::marker::Model;
 pub struct TagWriter {
     wide: u32,
     high: u32,
+    levels: Vec<Level>,
     /// The values of the nodes, of which the first are the leaves.
     values: Vec<u32>,
     nodes: Vec<Node>,
@@ -23,13 +24,13 @@ pub struct TagWriter {
 
 impl Model for TagWriter {
     ghost use Rattle.jx_tagtree.specs.Leaves.{Written};
-    ghost use Rattle.jx_tagtree.specs.KeptLeaves.{leaves_in, KeepsLeaves};
+    ghost use Rattle.jx_tagtree.specs.KeptLeaves.{leaves_in, KeepsWriter};
 
     ghost Value = { Written };
 
     ghost view = { λ t. record { leaves = leaves_in t.wide t.high t.values.items; tree = record { wide = t.wide; high = t.high; nodes = t.nodes.items } } };
 
-    ghost invariant = { λ t. KeepsLeaves t.wide t.high t.values.items t.nodes.items };
+    ghost invariant = { λ t. KeepsWriter t.wide t.high t.levels.items t.values.items t.nodes.items };
 }
 
 impl TagWriter {
@@ -39,11 +40,13 @@ impl TagWriter {
         requires leaves { length leaves.now ≡ wide * high }
         ensures { IfOk result (λ tree. tree ≡ untold wide high leaves.now) }
     {
-        let values = node_values(alloc, wide, high, leaves)?;
+        let levels = table(alloc, wide, high)?;
+        let values = node_values(alloc, &levels, wide, high, leaves)?;
         let nodes = unknown_nodes(alloc, count_nodes(wide, high))?;
         Ok(TagWriter {
             wide,
             high,
+            levels,
             values,
             nodes,
         })
@@ -56,15 +59,22 @@ impl TagWriter {
         ensures bits { OnOk result (bits.new ≡ bits.old ++ (told self.old leaf threshold).bits) }
         ensures after { OnOk result (self.new ≡ told_after self.old leaf threshold) }
     {
-        let way = way_of(self.wide, self.high, leaf);
+        let way = Way::new(&self.levels, self.wide, self.high, leaf);
         write_way(&mut self.nodes, &self.values, &way, threshold, bits)?;
         Ok(())
     }
 }
 
 /// The values of the nodes over some leaves.
-fn node_values(alloc: Global, wide: u32, high: u32, leaves: &[u32]) -> Result<Vec<u32>, NoMemory>
+fn node_values(
+    alloc: Global,
+    levels: &[Level],
+    wide: u32,
+    high: u32,
+    leaves: &[u32],
+) -> Result<Vec<u32>, NoMemory>
     requires shape { IsShape wide high }
+    requires levels { levels.now ≡ levels_of wide high }
     requires leaves { length leaves.now ≡ wide * high }
     ensures { IfOk result (λ values. AreNodeValues wide high leaves.now values.items) }
 {
@@ -72,7 +82,7 @@ fn node_values(alloc: Global, wide: u32, high: u32, leaves: &[u32]) -> Result<Ve
     for leaf in 0..wide * high {
         lower(
             &mut values,
-            &way_of(wide, high, leaf),
+            &Way::new(levels, wide, high, leaf),
             leaves[leaf as usize],
         );
     }

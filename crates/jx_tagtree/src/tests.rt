@@ -181,3 +181,18 @@ fn a_large_tree(rt: HostRuntime) -> Result<(), Fail> {
         &[0b0111_1111, 0b1111_0000],
     )
 }
+
+#[test]
+fn a_high_tree(rt: HostRuntime) -> Result<(), Fail> {
+    let leaves = vec![in rt.alloc(); 1; 2048]?;
+    assert_eq!(rt; leaves.len(), 2048);
+    both_ways(
+        &rt,
+        rt.alloc(),
+        1,
+        2048,
+        &leaves,
+        &[(2047, 2)],
+        &[0b0111_1111, 0b1111_1000],
+    )
+}

@@ -39,17 +39,13 @@ fn write_node(
     ensures bits { OnOk result (bits.new ≡ bits.old ++ node_bits node (max node.known above) value threshold) }
 {
     let start = node.known.max(above);
-    let known = start.max(value.min(threshold));
-    if node.settled {
-        return Ok(Node {
-            known,
-            settled: true,
-        });
+    if node.settled || threshold <= start {
+        return Ok(node);
     }
     write_zeros(start, value.min(threshold), bits)?;
     write_one(value, threshold, bits)?;
     Ok(Node {
-        known,
+        known: start.max(value.min(threshold)),
         settled: value < threshold,
     })
 }
@@ -58,7 +54,7 @@ fn write_node(
 pub(crate) fn write_way(
     nodes: &mut Vec<Node>,
     values: &[u32],
-    way: &Way,
+    way: &Way<'_>,
     threshold: u32,
     bits: &mut BitWriter,
 ) -> Result<(), NoMemory>
@@ -74,14 +70,14 @@ pub(crate) fn write_way(
         place -= 1;
         let at = way.at(place) as usize;
         let node = write_node(nodes[at], above, values[at], threshold, bits)?;
-        above = node.known;
+        above = above.max(node.known);
         nodes[at] = node;
     }
     Ok(())
 }
 
 /// Lowers the values of a way's nodes to a leaf's.
-pub(crate) fn lower(values: &mut Vec<u32>, way: &Way, leaf: u32)
+pub(crate) fn lower(values: &mut Vec<u32>, way: &Way<'_>, leaf: u32)
     requires { (k : ℕ) → k < length way.now → slice_index way.now k < length values.old.items }
     ensures long { length values.new.items ≡ length values.old.items }
     ensures each { (n : ℕ) → n < length values.old.items → slice_index values.new.items n

@@ -3,7 +3,7 @@ use Rattle.std.specs.List.{All}
 use Rattle.jx_marker.specs.declared.Progression.{Progression}
 use Rattle.jx_stream.specs.declared.Tile.{Tile}
 use Rattle.jx_stream.specs.declared.Params.{Params}
-use Rattle.jx_gather.specs.Shapes.{layers_of, tile_at}
+use Rattle.jx_stream.specs.Shapes.{layers_of, tile_at}
 use Rattle.jx_gather.proofs.CoveredLemmas.{lacks_here}
 use Rattle.jx_gather.proofs.covered.list_of.Goals as goal
 

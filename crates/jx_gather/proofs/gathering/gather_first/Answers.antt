@@ -1,4 +1,4 @@
-use Rattle.jx_gather.proofs.RangeLemmas.{read_in_range}
+use Rattle.jx_stream.proofs.RangeLemmas.{read_in_range}
 use Rattle.jx_gather.proofs.gathering.gather_first.Goals as goal
 
 pub check_totals-requires : goal.check_totals-requires

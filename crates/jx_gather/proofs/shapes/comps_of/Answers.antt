@@ -2,7 +2,7 @@ use Rattle.std.proofs.Common.{◌≡◌, ◌∙◌, ◌+◌, ◌++◌, ◌∷◌
 use Rattle.std.specs.List.{range_with_len}
 use Rattle.std.proofs.lemmas.List.FromFn.{map-range_with_len_more}
 use Rattle.jx_geom.specs.declared.shape.CompShape.{CompShape}
-use Rattle.jx_gather.specs.Shapes.{shape_in}
+use Rattle.jx_stream.specs.Shapes.{shape_in}
 use Rattle.jx_gather.proofs.TotalLemmas.{shapes_are}
 use Rattle.jx_gather.proofs.shapes.comps_of.Goals as goal
 

@@ -2,7 +2,7 @@ use Rattle.std.proofs.Common.{◌∙◌, ◌≤◌, ◌^◌, List, length, subst
 use Rattle.jx_geom.specs.declared.shape.Canvas.{Canvas}
 use Rattle.jx_geom.specs.declared.shape.CompShape.{CompShape}
 use Rattle.jx_geom.specs.Geometry.{WithinLimits}
-use Rattle.jx_gather.specs.Shapes.{shapes_of}
+use Rattle.jx_stream.specs.Shapes.{shapes_of}
 use Rattle.jx_gather.proofs.TotalLemmas.{few_shapes, tile_within}
 use Rattle.jx_gather.proofs.shapes.geometry_of.Goals as goal
 

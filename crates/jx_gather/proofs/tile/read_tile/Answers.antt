@@ -2,7 +2,7 @@ use Rattle.std.proofs.Common.{ℕ, List, [], ◌∷◌, ap, sym, ◌∙◌, subs
 use Rattle.jx_geom.specs.Geometry.{Geometry}
 use Rattle.jx_stream.specs.declared.Body.{Body}
 use Rattle.jx_stream.specs.declared.Tile.{Tile}
-use Rattle.jx_gather.specs.Shapes.{tile_at}
+use Rattle.jx_stream.specs.Shapes.{tile_at}
 use Rattle.jx_gather.specs.Cells.{fresh_precincts}
 use Rattle.jx_gather.specs.Data.{due}
 use Rattle.jx_gather.specs.Reading.{IsFront, IsTask}

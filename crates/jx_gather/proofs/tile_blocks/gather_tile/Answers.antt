@@ -1,6 +1,6 @@
 use Rattle.std.proofs.Common.{sym, subst}
 use Rattle.jx_geom.specs.Geometry.{Geometry}
-use Rattle.jx_gather.specs.Shapes.{tile_at}
+use Rattle.jx_stream.specs.Shapes.{tile_at}
 use Rattle.jx_gather.specs.InRange.{DataInRange}
 use Rattle.jx_gather.specs.Gathered.{AreTileBlocks}
 use Rattle.jx_gather.proofs.BodyLemmas.{read_data}

@@ -1,7 +1,7 @@
 use Rattle.std.proofs.Common.{◌∙◌, ap, sym, arith, ℕ}
 use Rattle.jx_geom.specs.Numbering.{blocks_below}
 use Rattle.jx_stream.specs.First.{canvas_of}
-use Rattle.jx_gather.specs.Shapes.{shapes_of}
+use Rattle.jx_stream.specs.Shapes.{shapes_of}
 use Rattle.jx_gather.proofs.TotalLemmas.{blocks_are}
 use Rattle.jx_gather.proofs.totals.block_total.Goals as goal
 

@@ -1,7 +1,7 @@
 use Rattle.std.proofs.Common.{◌≡◌, ◌*◌, ◌≤◌, ◌^◌}
 use Rattle.jx_geom.specs.Numbering.{blocks_below}
 use Rattle.jx_stream.specs.First.{canvas_of}
-use Rattle.jx_gather.specs.Shapes.{shapes_of}
+use Rattle.jx_stream.specs.Shapes.{shapes_of}
 use Rattle.jx_gather.proofs.totals.block_total.Given as goal
 
 abbrev pub invariant-loop-tile : goal.invariant-loop-tile

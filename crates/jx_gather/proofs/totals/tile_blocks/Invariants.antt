@@ -2,7 +2,7 @@ use Rattle.std.proofs.Common.{◌≡◌, ◌*◌, ◌≤◌, ◌^◌, map, sum_b
 use Rattle.std.specs.List.{range_with_len}
 use Rattle.jx_geom.specs.Counts.{component_blocks}
 use Rattle.jx_geom.specs.Rects.{tile_rect}
-use Rattle.jx_gather.specs.Shapes.{shape_in}
+use Rattle.jx_stream.specs.Shapes.{shape_in}
 use Rattle.jx_gather.proofs.totals.tile_blocks.Given as goal
 
 abbrev pub invariant-loop-comp : goal.invariant-loop-comp

@@ -4,7 +4,7 @@ use Rattle.jx_geom.specs.declared.shape.CompShape.{CompShape}
 use Rattle.jx_geom.specs.Counts.{component_precincts, tile_precincts}
 use Rattle.jx_geom.specs.Ranges.{ShapeInRange}
 use Rattle.jx_geom.specs.Rects.{tile_rect}
-use Rattle.jx_gather.specs.Shapes.{shape_in, shapes_of}
+use Rattle.jx_stream.specs.Shapes.{shape_in, shapes_of}
 use Rattle.jx_gather.proofs.TotalLemmas.{shape_ranges, sum_more, sum_all}
 use Rattle.std.proofs.Common.{sym, subst}
 use Rattle.jx_gather.proofs.totals.tile_precincts.Goals as goal

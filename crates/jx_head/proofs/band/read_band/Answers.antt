@@ -5,7 +5,7 @@ use Rattle.jx_head.specs.Packet.{Cells}
 use Rattle.jx_head.specs.Scan.{scan_blocks, scan_band, and_parts}
 use Rattle.jx_head.proofs.AskLemmas.{few_left}
 use Rattle.jx_head.proofs.BlockLemmas.{told_is}
-use Rattle.jx_head.proofs.BandLemmas.{blocks_step, blocks_refuse, blocks_said, block_band}
+use Rattle.jx_head.proofs.BandLemmas.{blocks_step, blocks_refuse, blocks_said, blocks_silent, block_band}
 use Rattle.jx_head.proofs.band.read_band.Goals as goal
 
 pub returns-in-Err-clause-err : goal.returns-in-Err-clause-err
@@ -35,6 +35,15 @@ loop-leaf-preserved c =
       kept.0,
       kept.1 ∙ long,
     )
+
+pub returns-then-is_silent-clause-ok : goal.returns-then-is_silent-clause-ok
+unfolding scan_band
+returns-then-is_silent-clause-ok c =
+    let view : length c.band.inside.blocks.items ≡ length c.args.band.now.blocks = ap (λ (x : Cells). length x.blocks) c.band.view_is in
+    let long : length c.loop-leaf.band.blocks ≡ length c.args.band.now.blocks = c.loop-leaf.invariant.3 in
+    blocks_silent (scan_blocks c.args.style.bits c.args.layer c.args.base (length c.args.band.now.blocks) 0 c.args.band.now (to_come c.args.bits.now)) c.args.parts.now.items c.loop-leaf.parts.items
+    c.args.style.bits c.args.layer c.args.base (c.len-count.result - c.loop-leaf.leaf) c.loop-leaf.leaf c.loop-leaf.band (to_come c.loop-leaf.bits) c.loop-leaf.invariant.2
+    (omega (arith, c.len-count.ensures, c.band.inside.blocks.ok.0)) (c.is_silent.ensures c.if-is_silent.true) c.loop-leaf.invariant.0
 
 pub returns-clause-ok : goal.returns-clause-ok
 unfolding scan_band

@@ -6,9 +6,9 @@ use Rattle.jx_head.specs.Writable.{HeaderDone}
 use Rattle.jx_head.proofs.PlanLemmas.{one_empty}
 use Rattle.jx_head.proofs.precinct_out.one_header.Goals as goal
 
-pub returns-then-not-some_contributes : goal.returns-then-not-some_contributes
-returns-then-not-some_contributes c =
+pub returns-then-not-some : goal.returns-then-not-some
+returns-then-not-some c =
     IfOk-weaker c.finish.result (λ (b : Vec ℕ Global). b.items ≡ bytes_of c.bit.new.self) (λ (b : Vec ℕ Global). HeaderDone c.args.layer (map leaf_of c.args.leaves.now) c.args.bands.now.items c.args.bands.now.items b.items)
-    (λ (b : Vec ℕ Global) (e : b.items ≡ bytes_of c.bit.new.self). one_empty c.args.layer (map leaf_of c.args.leaves.now) c.args.bands.now.items c.new-bits.result c.bit.new.self c.some_contributes.result
-    c.requires.due c.some_contributes.ensures c.if-not-some_contributes.true c.new-bits.ensures c.in_ok-bit.ensures.ok b.items e)
+    (λ (b : Vec ℕ Global) (e : b.items ≡ bytes_of c.bit.new.self). one_empty c.args.layer (map leaf_of c.args.leaves.now) c.args.bands.now.items c.new-bits.result c.bit.new.self c.args.some
+    c.requires.due c.requires.some c.if-not-some.true c.new-bits.ensures c.in_ok-bit.ensures.ok b.items e)
     c.finish.ensures

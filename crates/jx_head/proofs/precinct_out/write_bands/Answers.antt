@@ -1,16 +1,17 @@
-use Rattle.std.proofs.Common.{◌≡◌, ◌<◌, ◌+◌, ◌-◌, ◌++◌, ◌∙◌, List, map, length, sym, ap, subst, arith}
+use Rattle.std.proofs.Common.{◌≡◌, ◌<◌, ◌+◌, ◌-◌, ◌++◌, ◌∙◌, List, map, drop, length, refl, sym, ap, subst, arith}
 use Rattle.jx_head.specs.Packet.{blocks_bits, blocks_after}
 use Rattle.jx_head.specs.Written.{Leafed, Writes, cells_of, values_of, entries_written}
 use Rattle.jx_head.specs.Leafs.{leaf_of}
-use Rattle.jx_head.specs.Writable.{IsWrites}
+use Rattle.jx_head.specs.Writable.{IsWrites, AreRising}
+use Rattle.jx_head.proofs.CursorLemmas.{rising_take, rising_drop}
 use Rattle.jx_head.proofs.PlanLemmas.{bands_start, bands_due, bands_next, part_leaves}
 use Rattle.jx_head.proofs.precinct_out.write_bands.Goals as goal
 
 pub loop-at-init : goal.loop-at-init
-loop-at-init c = bands_start c.args.layer (map leaf_of c.args.leaves.now) c.args.bands.now.items c.args.bits.now c.requires
+loop-at-init c = bands_start c.args.layer (map leaf_of c.args.leaves.now) c.args.bands.now.items c.args.bits.now c.requires.due
 
-pub write_band-requires : goal.write_band-requires
-write_band-requires c =
+pub write_band-requires-clause-writes : goal.write_band-requires-clause-writes
+write_band-requires-clause-writes c =
     let x = c.index_mut-band.result.now in
     let leaves = map leaf_of c.args.leaves.now in
     let inside : c.loop-at.at < length c.loop-at.bands.items = omega (arith, c.loop-at.bands.ok.0) in
@@ -18,6 +19,11 @@ write_band-requires c =
     let count : c.loop-at.base + c.len-count.result - c.loop-at.base ≡ length x.blocks = omega (arith, c.len-count.ensures, c.band.inside.blocks.ok.0) in
     let d = bands_due c.args.layer c.loop-at.at c.loop-at.base leaves c.args.bands.now.items c.loop-at.bands.items c.args.bits.now c.loop-at.bits x c.loop-at.invariant inside c.index_mut-band.ensures.value in
     subst (λ (l : List Leafed). IsWrites c.args.layer l x) (sym (part_leaves c.args.leaves.now c.loop-at.base (length x.blocks) (c.loop-at.base + c.len-count.result - c.loop-at.base) count)) d
+
+pub write_band-requires-clause-rising : goal.write_band-requires-clause-rising
+write_band-requires-clause-rising c = λ r.
+    (let n = c.loop-at.base + c.len-count.result - c.loop-at.base in
+    subst AreRising (sym (part_leaves c.args.leaves.now c.loop-at.base n n refl)) (rising_take n (drop c.loop-at.base (map leaf_of c.args.leaves.now)) (rising_drop c.loop-at.base (map leaf_of c.args.leaves.now) (c.requires.rising r))))
 
 pub loop-at-preserved : goal.loop-at-preserved
 loop-at-preserved c =

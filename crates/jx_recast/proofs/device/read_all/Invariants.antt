@@ -10,7 +10,7 @@ invariant-loop-piece g l = record {
   reading : IsTrue (g.F.Files.meaning l.files).reading;
   fits : vec_len l.bytes ≤ 268435457;
   creates : Allows (g.F.Files.can_create l.initial.files) (g.F.Files.can_create l.files);
-  later : g.F.Files.read_faults l.initial.files ≤ g.F.Files.read_faults l.files;
+  unrisen : g.F.Files.read_faults l.files ≡ g.F.Files.read_faults l.initial.files;
   other : g.F.Files.write_faults l.files ≡ g.F.Files.write_faults l.initial.files;
 }
 

@@ -1,4 +1,4 @@
-use Rattle.std.proofs.Common.{◌≡◌, ◌≤◌, length, IsTrue}
+use Rattle.std.proofs.Common.{◌≡◌, length, IsTrue}
 use Rattle.jx_recast.specs.Progress.{HasWritten}
 use Rattle.jx_recast.proofs.device.write_all.Given as goal
 
@@ -6,7 +6,7 @@ abbrev pub invariant-loop-rest : goal.invariant-loop-rest
 invariant-loop-rest g l = record {
   so_far : HasWritten (g.F.Files.meaning l.initial.files) (g.F.Files.meaning l.files) l.bytes l.rest;
   making : IsTrue (g.F.Files.meaning l.files).making;
-  later : g.F.Files.write_faults l.initial.files ≤ g.F.Files.write_faults l.files;
+  same : g.F.Files.write_faults l.files ≡ g.F.Files.write_faults l.initial.files;
   other : g.F.Files.read_faults l.files ≡ g.F.Files.read_faults l.initial.files;
 }
 

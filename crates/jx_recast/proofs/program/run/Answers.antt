@@ -2,6 +2,7 @@ use Rattle.std.proofs.Common.{ap, string_bytes, map}
 use Rattle.jx_recast.specs.declared.program.Ending.{Ending}
 use Rattle.jx_recast.specs.Words.{request_of}
 use Rattle.jx_recast.proofs.OutcomeLemmas.{ends_said, words_said}
+use Rattle.jx_recast.proofs.SaidLemmas.{unsaid}
 use Rattle.jx_recast.proofs.program.run.Goals as goal
 
 pub returns-clause-outcome : goal.returns-clause-outcome
@@ -12,3 +13,6 @@ returns-clause-outcome g c = record {
       (ap (λ (e : Ending). e.status) (c.judge-ending.ensures.bad is).0) (ap (λ (e : Ending). e.blocks) (c.judge-ending.ensures.bad is).0)
       (c.judge-ending.ensures.bad is).1 c.say_ending-status.ensures;
 }
+
+pub returns-clause-unsaid : goal.returns-clause-unsaid
+returns-clause-unsaid g c = unsaid c.judge-ending.result.status c.say_ending-status.result _ _ _ _ _ c.say_ending-status.ensures

@@ -5,4 +5,4 @@ pub returns-in-Ok-clause-ok : goal.returns-in-Ok-clause-ok
 returns-in-Ok-clause-ok c = clean_from c.args.input.now c.args.stream.now c.in-Ok._blocks.items c.requires.read c.in-Ok.ensures.totals c.in-Ok.ensures.gathered
 
 pub returns-in-Err-clause-err : goal.returns-in-Err-clause-err
-returns-in-Err-clause-err c = rw c.header_fault.ensures (tile_cause c.args.input.now c.args.stream.now c.in-Err.fault c.requires.read c.in-Err.ensures.broken)
+returns-in-Err-clause-err c = tile_cause c.args.input.now c.args.stream.now c.in-Err.broken c.requires.read c.in-Err.ensures.broken

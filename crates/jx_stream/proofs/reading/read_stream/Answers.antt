@@ -4,7 +4,7 @@ use Rattle.jx_marker.proofs.ReadLemmas.{bytes_are}
 use Rattle.jx_stream.proofs.FirstLemmas.{first_front, first_later, first_clear}
 use Rattle.jx_stream.specs.First.{stream_in}
 use Rattle.jx_stream.specs.declared.Stream.{Stream}
-use Rattle.jx_stream.proofs.UniqueLemmas.{read_only, read_spelled, refused_by}
+use Rattle.jx_stream.proofs.UniqueLemmas.{read_only, read_spelled, refused_by, answer_read}
 use Rattle.jx_stream.proofs.ViolatedLemmas.{answer_first, answer_only}
 use Rattle.jx_stream.proofs.reading.read_stream.Goals as goal
 
@@ -33,8 +33,8 @@ pub returns-clause-exact : goal.returns-clause-exact
 returns-clause-exact c =
     first_clear c.args.bytes.now c.in_ok-siz.siz c.in_ok-siz.start c.in_ok-stream.stream c.in_ok-siz.ensures.answer.0 c.in_ok-siz.ensures.answer.1.0 c.in_ok-siz.ensures.answer.1.1 c.in_ok-stream.ensures.0 c.in_ok-stream.ensures.1
 
-pub returns-clause-spelled : goal.returns-clause-spelled
-returns-clause-spelled c =
+pub returns-clause-read : goal.returns-clause-read
+returns-clause-read c =
     let p = first_clear c.args.bytes.now c.in_ok-siz.siz c.in_ok-siz.start c.in_ok-stream.stream c.in_ok-siz.ensures.answer.0 c.in_ok-siz.ensures.answer.1.0 c.in_ok-siz.ensures.answer.1.1 c.in_ok-stream.ensures.0 c.in_ok-stream.ensures.1 in
     read_spelled c.args.bytes.now c.in_ok-stream.stream (bytes_are c.args.bytes.now (λ i. omega (arith, c.type_inv.bytes i))) p.0 p.1
 
@@ -63,3 +63,12 @@ returns-in_err-stream-clause-first_only c =
 pub returns-clause-first_only : goal.returns-clause-first_only
 returns-clause-first_only c =
     answer_only c.args.bytes.now (Ok c.in_ok-stream.stream) (λ (s : Stream). s ≡ stream_in c.args.bytes.now) (returns-clause-exact c)
+
+pub returns-in_err-siz-clause-memory : goal.returns-in_err-siz-clause-memory
+returns-in_err-siz-clause-memory c = answer_read c.args.bytes.now c.from_residual.result (returns-in_err-siz-clause-exact c)
+
+pub returns-in_err-stream-clause-memory : goal.returns-in_err-stream-clause-memory
+returns-in_err-stream-clause-memory c = answer_read c.args.bytes.now c.from_residual-in_err-stream.result (returns-in_err-stream-clause-exact c)
+
+pub returns-clause-memory : goal.returns-clause-memory
+returns-clause-memory c = answer_read c.args.bytes.now (Ok c.in_ok-stream.stream) (returns-clause-exact c)

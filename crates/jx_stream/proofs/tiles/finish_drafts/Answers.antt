@@ -1,7 +1,5 @@
-use Rattle.std.proofs.Common.{◌∙◌, ◌∷◌, [], ◌++◌, length, arith, ap, List}
+use Rattle.std.proofs.Common.{◌∙◌, ◌∷◌, [], length, arith, ap, List}
 use Rattle.std.proofs.lemmas.List.{length-append}
-use Rattle.jx_marker.specs.declared.Progression.{Progression}
-use Rattle.jx_stream.specs.Tiles.{joined}
 use Rattle.jx_stream.specs.declared.Tile.{Tile}
 use Rattle.jx_stream.proofs.TileLemmas.{finishes_more}
 use Rattle.jx_stream.proofs.tiles.finish_drafts.Goals as goal
@@ -11,5 +9,5 @@ loop-draft-preserved c =
     record {
       count = omega (arith, ap (λ (x : List Tile). length x) c.in_ok-push.ensures.items, length-append c.loop-draft.tiles.items (c.in_ok-tile.tile ∷ []), length-append c.loop-draft.yielded (c.in-Some.draft ∷ []), c.loop-draft.invariant.count);
       each = finishes_more c.args.main.now c.loop-draft.yielded c.loop-draft.tiles.items c.push.new.self.items c.in-Some.draft c.in_ok-tile.tile c.loop-draft.invariant.count c.in_ok-push.ensures.items c.loop-draft.invariant.each
-          (λ own collects. c.in_ok-tile.ensures own c.args.main.now collects (c.deref.ensures.value ∙ c.in_ok-push_entries.ensures ∙ ap (λ (x : List Progression). x ++ joined c.args.main.now) c.new-entries.ensures.items) c.cod_entry-default.ensures);
+          (λ own collects. c.in_ok-tile.ensures own c.args.main.now collects c.in_ok-entries.ensures (c.in_ok-default.ensures ∙ c.cod_entry.ensures));
     }

@@ -6,7 +6,7 @@ pub loop-leaf-init : goal.loop-leaf-init
 loop-leaf-init c = all_highest c.args.wide c.args.high c.args.leaves.now c.count_nodes.result c.in_ok-values.values.items c.count_nodes.ensures c.in_ok-values.ensures
 
 pub lower-requires : goal.lower-requires
-lower-requires c = way_range c.args.wide c.args.high c.loop-leaf.leaf c.way_of.result c.loop-leaf.values.items c.requires.shape c.loop-leaf-test.true c.way_of.ensures c.loop-leaf.invariant.long
+lower-requires c = way_range c.args.wide c.args.high c.loop-leaf.leaf c.new.result c.loop-leaf.values.items c.requires.shape c.loop-leaf-test.true c.new.ensures c.loop-leaf.invariant.long
 
 pub returns : goal.returns
 returns c =

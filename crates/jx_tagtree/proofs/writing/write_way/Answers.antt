@@ -22,7 +22,7 @@ loop-place-preserved c =
       within = omega arith;
       long = length-set c.loop-place.nodes.items c.at-at.result c.in_ok-node.node ∙ long;
       nodes = ap (λ (w : Walk). w.nodes) (sym more);
-      known = ap (λ (w : Walk). w.known) (sym more);
+      known = rw c.max-above.ensures (ap (λ (w : Walk). w.known) (sym more));
       bits = c.in_ok-node.ensures.bits ∙ ap (λ (l : List Bool). l ++ own) c.loop-place.invariant.bits ∙ append_assoc c.args.bits.now before.bits own
           ∙ ap (λ (w : Walk). c.args.bits.now ++ w.bits) (sym more);
     }

@@ -3,7 +3,7 @@ use Rattle.std.proofs.lemmas.List.Elements.{All-head}
 use Rattle.jx_head.specs.Packet.{State}
 use Rattle.jx_order.specs.declared.names.PacketName.{PacketName}
 use Rattle.jx_stream.specs.declared.Body.{Body}
-use Rattle.jx_gather.specs.Shapes.{tile_at}
+use Rattle.jx_stream.specs.Shapes.{tile_at}
 use Rattle.jx_gather.specs.Data.{behind}
 use Rattle.jx_gather.specs.Cuts.{number_of}
 use Rattle.jx_gather.specs.Reading.{state_at}

@@ -1,9 +1,10 @@
-use Rattle.std.proofs.Common.{◌≡◌, ◌%◌, ◌<◌, ◌≤◌, arith, refl, ap, sym, ◌∙◌}
+use Rattle.std.proofs.Common.{◌≡◌, ℕ, ◌%◌, ◌<◌, ◌≤◌, get_or, set, subst, arith, refl, ap, sym, ◌∙◌}
 use Rattle.std.specs.Prelude.{Some, slice_get}
 use Rattle.std.proofs.lemmas.Option.{slice_get_read}
 use Rattle.std.proofs.lemmas.Nat.{mod_below}
-use Rattle.jx_store.specs.declared.event.Slot.TheVariants.{Held}
-use Rattle.jx_store.specs.Shown.{held_in}
+use Rattle.jx_store.specs.declared.event.Slot.TheVariants.{Held, Parked}
+use Rattle.jx_store.specs.Shown.{Shown, held_in, state_of}
+use Rattle.jx_store.specs.Machine.{State}
 use Rattle.jx_store.proofs.Changes.{commits, does_commit}
 use Rattle.jx_store.proofs.Windows.{slot_in}
 use Rattle.jx_store.proofs.kernel.Core.commit.Goals as goal
@@ -14,11 +15,14 @@ returns g c =
     let low : f.drained ≤ k = omega arith in
     let high : k < f.next = omega arith in
     let long = f.slots.ok.0 in
-    let read = slice_get_read f.slots.items f.slots.len (k % f.window) c.index.result.now long (omega (arith, mod_below k f.window)) c.index.ensures in
-    let at : slice_get f.slots.items (k % f.window) ≡ Some (Held w seen) = read ∙ ap (λ x. Some x) (c.in-Held.is ∙ ap (λ x. Held x seen) c.if-holder-worker.false) in
-    let held = ap held_in (slot_in f.drained f.next f.window f.slots.items k low high ∙ at) in
+    let in_place = c.window.ensures.is in
+    let read = slice_get_read f.slots.items f.slots.len (k % f.sums.window) c.index.result.now long (omega (arith, mod_below k f.sums.window)) (subst (λ (w : ℕ). c.index.result.now ≡ get_or f.slots.items (k % w) c.index.result.now) in_place c.index.ensures) in
+    let at : slice_get f.slots.items (k % f.sums.window) ≡ Some (Held w seen) = read ∙ ap (λ x. Some x) (c.in-Held.is ∙ ap (λ x. Held x seen) c.if-holder-worker.false) in
+    let held = ap held_in (slot_in f.drained f.next f.sums.window f.slots.items k low high ∙ at) in
     let does = does_commit _ w k c.args.value (record { worker = w; seen = seen }) held refl in
+    let v : Shown g.row.V.Denot = record { setup = f.sums; next = f.next; drained = f.drained; slots = f.slots.items; tape = f.tape.items } in
+    let after : ℕ → State g.row.V.Denot = λ m. state_of (record v { slots = set f.slots.items (k % m) (Parked w seen c.args.value) }) in
     rw (← c.self.view_is) record {
-      state = commits _ w k seen c.args.value (record { some = omega arith; slots = sym long ∙ i.slots; mid = i.mid; near = i.near }) low high at ∙ sym (ap (λ r. r.0) does);
+      state = ap after in_place ∙ commits _ w k seen c.args.value (record { some = omega arith; slots = sym long ∙ i.slots; mid = i.mid; near = i.near }) low high at ∙ sym (ap (λ r. r.0) does);
       reply = sym (ap (λ r. r.1) does);
     }

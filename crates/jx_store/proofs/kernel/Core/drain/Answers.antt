@@ -1,4 +1,4 @@
-use Rattle.std.proofs.Common.{◌≡◌, List, set, ◌+◌, ◌%◌, ◌<◌, arith, ap, sym, ◌∙◌}
+use Rattle.std.proofs.Common.{◌≡◌, ℕ, List, set, get_or, subst, ◌+◌, ◌%◌, ◌<◌, arith, ap, sym, ◌∙◌}
 use Rattle.std.specs.Prelude.{Some, slice_get}
 use Rattle.std.proofs.lemmas.Option.{slice_get_read}
 use Rattle.std.proofs.lemmas.Nat.{mod_below}
@@ -13,13 +13,14 @@ use Rattle.jx_store.proofs.kernel.Core.drain.Goals as goal
 pub returns : goal.returns
 returns g c =
     let f = c.self.inside in let i = c.self.invariant in let t = c.in-Parked-replace in
-    let v : Shown g.row.V.Denot = record { first = f.first; window = f.window; most = f.most; sums = f.sums.items; next = f.next; drained = f.drained; slots = f.slots.items; tape = f.tape.items } in
+    let v : Shown g.row.V.Denot = record { setup = f.sums; next = f.next; drained = f.drained; slots = f.slots.items; tape = f.tape.items } in
     let some : f.drained < f.next = omega arith in
-    let read = slice_get_read f.slots.items f.slots.len (f.drained % f.window) c.index_mut.result.now f.slots.ok.0 (omega (arith, mod_below f.drained f.window)) c.index_mut.ensures.value in
-    let at : slice_get f.slots.items (f.drained % f.window) ≡ Some (Parked t.worker t.seen t.value) = read ∙ ap (λ x. Some x) (sym c.replace.ensures.value ∙ t.is) in
+    let in_place = c.window.ensures.is in
+    let read = slice_get_read f.slots.items f.slots.len (f.drained % f.sums.window) c.index_mut.result.now f.slots.ok.0 (omega (arith, mod_below f.drained f.sums.window)) (subst (λ (w : ℕ). c.index_mut.result.now ≡ get_or f.slots.items (f.drained % w) c.index_mut.result.now) in_place c.index_mut.ensures.value) in
+    let at : slice_get f.slots.items (f.drained % f.sums.window) ≡ Some (Parked t.worker t.seen t.value) = read ∙ ap (λ x. Some x) (sym c.replace.ensures.value ∙ t.is) in
     let does = drain_does v t.worker t.seen t.value (record { some = omega arith; slots = sym f.slots.ok.0 ∙ i.slots; mid = i.mid; near = i.near }) some at in
-    let after : (x : Slot g.row.V.Denot) (tape : List (Taped g.row.V.Denot)) → State g.row.V.Denot = λ x tape. state_of (record v { drained = f.drained + 1; slots = set f.slots.items (f.drained % f.window) x; tape = tape }) in
+    let after : (w : ℕ) (x : Slot g.row.V.Denot) (tape : List (Taped g.row.V.Denot)) → State g.row.V.Denot = λ w x tape. state_of (record v { drained = f.drained + 1; slots = set f.slots.items (f.drained % w) x; tape = tape }) in
     rw (← c.self.view_is) record {
-      state = ap (λ (x : Slot g.row.V.Denot). after x c.push_reserved.new.self.items) c.replace.ensures.after ∙ ap (after Empty) c.push_reserved.ensures.items ∙ sym (ap (λ r. r.0) does);
+      state = ap (λ (w : ℕ). after w c.replace.new.dest c.push_reserved.new.self.items) in_place ∙ ap (λ (x : Slot g.row.V.Denot). after f.sums.window x c.push_reserved.new.self.items) c.replace.ensures.after ∙ ap (after f.sums.window Empty) c.push_reserved.ensures.items ∙ sym (ap (λ r. r.0) does);
       reply = sym (ap (λ r. r.1) does);
     }

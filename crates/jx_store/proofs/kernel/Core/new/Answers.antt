@@ -1,33 +1,30 @@
-use Rattle.std.proofs.Common.{ℕ, List, length, arith, ap, sym, ◌∙◌}
+use Rattle.std.proofs.Common.{List, length, arith, ap, sym, ◌∙◌}
 use Rattle.jx_store.specs.declared.event.Taped.{Taped}
-use Rattle.jx_store.specs.Shown.{state_of, items_of, sums_from}
-use Rattle.jx_store.specs.Machine.{State, start}
-use Rattle.jx_store.proofs.Loads.{items_of_sums}
+use Rattle.jx_store.specs.Setup.{Setup}
+use Rattle.jx_store.specs.Shown.{state_of}
+use Rattle.jx_store.specs.Machine.{State}
 use Rattle.jx_store.proofs.Changes.{fresh}
 use Rattle.jx_store.proofs.kernel.Core.new.Goals as goal
 
 pub invariant_of-result : goal.invariant_of-result
 invariant_of-result g c =
-    let r = c.requires in let items = ap items_of c.in_ok-sums.ensures ∙ items_of_sums 0 c.args.sizes.now in
+    let r = c.requires in let e = c.in_ok-sums.ensures in let a = c.args in
+    let first = ap (λ (p : Setup). p.first) e in let sizes = ap (λ (p : Setup). length p.sizes) e in let window = ap (λ (p : Setup). p.window) e in
     let t = c.in_ok-tape.ensures.len in let cap = c.in_ok-tape.ensures.capacity in let sl = c.in_ok-slots.ensures in let ok = c.in_ok-slots.slots.ok.0 in
     record {
-      window = r.window;
-      slots = ok ∙ sl;
-      range = r.count.1;
-      count = ap length items;
-      sums = c.in_ok-sums.ensures ∙ ap (sums_from 0) (sym items);
-      low = omega arith;
+      window = (let w = r.window in omega (arith, window, w));
+      slots = ok ∙ sl ∙ sym window;
+      range = (let n = r.count in omega (arith, first, sizes, n));
+      low = omega (arith, first);
       mid = omega arith;
-      high = omega arith;
+      high = omega (arith, first);
       near = omega arith;
-      tape = omega (arith, t);
-      room = omega (arith, cap);
+      tape = omega (arith, t, first);
+      room = omega (arith, cap, sizes);
     }
 
 pub returns : goal.returns
 returns g c =
-    let items = ap items_of c.in_ok-sums.ensures ∙ items_of_sums 0 c.args.sizes.now in
-    let a = c.args in
-    let made : List (Taped g.row.V.Denot) → State g.row.V.Denot = λ tape. state_of (record { first = a.first; window = a.window; most = a.most; sums = c.in_ok-sums.sums.items; next = a.first; drained = a.first; slots = c.in_ok-slots.slots.items; tape = tape }) in
-    ap made c.in_ok-tape.ensures.items ∙ fresh a.first a.window a.most c.in_ok-sums.sums.items c.in_ok-slots.slots.items
-    ∙ ap (λ (sizes : List ℕ). start (record { first = a.first; sizes = sizes; window = a.window; most = a.most })) items
+    let a = c.args in let p : Setup = record { first = a.first; sizes = a.sizes.now; window = a.window; most = a.most } in
+    let made : Setup → List (Taped g.row.V.Denot) → State g.row.V.Denot = λ q tape. state_of (record { setup = q; next = a.first; drained = a.first; slots = c.in_ok-slots.slots.items; tape = tape }) in
+    ap (λ (q : Setup). made q c.in_ok-tape.tape.items) c.in_ok-sums.ensures ∙ ap (made p) c.in_ok-tape.ensures.items ∙ fresh p c.in_ok-slots.slots.items

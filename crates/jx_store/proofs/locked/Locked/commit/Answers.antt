@@ -37,7 +37,7 @@ settle-requires g c =
     let w = c.pass.inside.worker in let number = c.args.number in let value = c.args.value in
     let k = kept_same _ _ _ _ t c.step.ensures.state (kept_commit _ _ _ s w number value i.kept r) in
     let was = was_committed s w number value r in
-    let first : c.step.new.self.first ≡ c.self.inside.core.first = ap (λ (u : State V). u.setup.first) (c.step.ensures.state ∙ was.3) in
+    let first : c.step.new.self.setup.first ≡ c.self.inside.core.setup.first = ap (λ (u : State V). u.setup.first) (c.step.ensures.state ∙ was.3) in
     let drained : c.step.new.self.drained ≡ c.self.inside.core.drained = ap (λ (u : State V). u.drained) (c.step.ensures.state ∙ was.3) in
     let o = k.order.1 in let mid = o.mid in let high = o.high in let low = o.low in
     let a = k.claims_is in let b = k.commits_is in let sz = ap (λ (p : Setup). length p.sizes) k.setup_is in
@@ -60,7 +60,7 @@ invariant_of-self g c =
     let counts = counts_drains t (shown c.tell.new.self) z.0 in
     let kinds = kinds_drains t (shown c.tell.new.self) z.0 in
     let was = was_committed s w number value r in
-    let first : c.step.new.self.first ≡ c.self.inside.core.first = ap (λ (u : State (Named g.row.V.Denot)). u.setup.first) (c.step.ensures.state ∙ was.3) in
+    let first : c.step.new.self.setup.first ≡ c.self.inside.core.setup.first = ap (λ (u : State (Named g.row.V.Denot)). u.setup.first) (c.step.ensures.state ∙ was.3) in
     let drained : c.step.new.self.drained ≡ c.self.inside.core.drained = ap (λ (u : State (Named g.row.V.Denot)). u.drained) (c.step.ensures.state ∙ was.3) in
     let grown = ap (λ (n : Notes). length n.steps) told ∙ length_tells (shown c.self.inside.history) (Commits w number) in
     record {

@@ -1,0 +1,9 @@
+pub mod Asking
+pub mod Cells
+pub mod Labels
+pub mod Near
+pub mod Needs
+pub mod Pass
+pub mod Reading
+pub mod Segments
+pub mod Symbol

@@ -1,0 +1,9 @@
+//! Decoding of coded passes into coefficients (ITU-T T.800, Annex D), over a plain grid.
+#![tactic(auto)]
+
+mod decode;
+mod decoder;
+mod reader;
+
+pub use decode::{Decoded, decode_passes, sound};
+pub use jx_grid::{BadSymbol, Coded, Coef, Grid, Segments};
