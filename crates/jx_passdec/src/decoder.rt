@@ -79,8 +79,7 @@ impl<'a> Decoder<'a> {
     /// Whether the segmentation symbol after a pass is right, where there is one.
     fn symbol(&mut self, style: Style, pass: u16) -> Result<bool, NoMemory>
         ensures right { IfOk result (λ right. right ≡ (read_symbol style.bits pass self.old.reading).0) }
-        ensures decoding { 
-            OnOk result (self.new ≡ record self.old { reading = (read_symbol style.bits pass self.old.reading).1 }) }
+        ensures decoding { OnOk result (self.new ≡ record self.old { reading = (read_symbol style.bits pass self.old.reading).1 }) }
         ensures kept { self.new.cells ≡ self.old.cells }
     {
         if !has_symbol(style, pass) {
@@ -92,8 +91,8 @@ impl<'a> Decoder<'a> {
     /// Notes what was looked at by the end of a pass, and whether its symbol is wrong.
     fn note(&mut self, pass: u16, right: bool) -> Result<(), NoMemory>
         ensures decoding { OnOk result (self.new ≡ record self.old {
-            looked = self.old.looked ++ looked_of self.old.reading ∷ [];
-            wrong = first_wrong self.old.wrong pass right;
+          looked = self.old.looked ++ looked_of self.old.reading ∷ [];
+          wrong = first_wrong self.old.wrong pass right;
         }) }
     {
         self.looked.push(self.reader.looked())?;
@@ -119,7 +118,13 @@ impl<'a> Decoder<'a> {
     }
 
     /// A pass within its segment.
-    fn pass_within(&mut self, band: Band, style: Style, planes: u8, pass: u16) -> Result<(), NoMemory>
+    fn pass_within(
+        &mut self,
+        band: Band,
+        style: Style,
+        planes: u8,
+        pass: u16,
+    ) -> Result<(), NoMemory>
         requires scan { IsScan (plane_of band (is_causal style.bits) planes pass) }
         requires size { HasSize self.old.cells }
         requires within { AreWithin planes ((pass + 2) / 3 + 1) self.old.cells }
