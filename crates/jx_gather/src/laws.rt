@@ -50,7 +50,8 @@ pub fn gathered_is_well_formed()
 {}
 
 /// What is known of the blocks of a codestream: each name has its block at its number, with the rect, planes and style that the
-/// headers say, and pieces in layers of its tile, of at most 164 passes in one layer; each can be recoded or kept.
+/// headers say, and pieces in layers of its tile, in one layer of at most 164 passes and cut at the ends of segments; each block can
+/// be recoded or kept.
 pub fn blocks_are_named()
     ensures named { (b : List ℕ) (s : Stream) (blocks : List Block) → IsRead b s → length b ≤ 2 ^ 28 → totals_fault s ≡ None → IsGathered b s blocks → AreBlocksOf s blocks }
     ensures sound { (b : List ℕ) (s : Stream) (blocks : List Block) → IsRead b s → length b ≤ 2 ^ 28 → totals_fault s ≡ None → IsGathered b s blocks → All IsSound blocks }
