@@ -1,4 +1,5 @@
 pub mod BackLemmas
+pub mod CoverLemmas
 pub mod FrontLemmas
 pub mod GivesLemmas
 pub mod GridLemmas
@@ -10,5 +11,6 @@ pub mod ReadyLemmas
 pub mod RunBackLemmas
 pub mod SegmentLemmas
 pub mod ShortLemmas
+pub mod StayLemmas
 pub mod StepLemmas
 pub mod WroteLemmas
