@@ -20,7 +20,7 @@ use Rattle.jx_passenc.proofs.StepLemmas.{if_back, PassBack, significance_back, r
 use Rattle.jx_passenc.proofs.RunBackLemmas.{cleanup_back}
 use Rattle.jx_passenc.proofs.BackLemmas.{tree_of, opened_cells}
 
-place_back : (pass : ℕ) (k : Plane) (m : Cells) (x y : ℕ) → IsScan k → IsIn m x y → AreClean k.planes (k.number + 1) m → PassBack k m (pass_at pass k m x y)
+pub place_back : (pass : ℕ) (k : Plane) (m : Cells) (x y : ℕ) → IsScan k → IsIn m x y → AreClean k.planes (k.number + 1) m → PassBack k m (pass_at pass k m x y)
 place_back pass k m x y s i a =
     if_back k.planes (k.number + 1) m (pass % 3 == 1) (significance_at k m x y) (if pass % 3 == 2 then refinement_at k m x y else cleanup_at k m x y)
     (λ e. significance_back k m x y s i a)
