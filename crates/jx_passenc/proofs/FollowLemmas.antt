@@ -114,7 +114,7 @@ usual_stays k m g x y s i d =
     (λ e. bit_stays k m g x y s i d (no_bits c.bits (or_false (significant c) (is_decided k c) e))
       (no_less k.number c.planes (or_right (significant c) (is_decided k c) e)))
 
-some_bits : (n : ℕ) → not (n == 0) ≡ true → n ≢ 0
+pub some_bits : (n : ℕ) → not (n == 0) ≡ true → n ≢ 0
 some_bits n h = grind (arith, nat_tests)
 
 refinement_stays : (k : Plane) (m g : Cells) (x y : ℕ) → IsScan k → IsIn m x y → AreDue k m g → Stays k g (refinement_at k m x y)

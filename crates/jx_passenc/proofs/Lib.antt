@@ -1,5 +1,6 @@
 pub mod BackLemmas
 pub mod CoverLemmas
+pub mod DoneLemmas
 pub mod FollowLemmas
 pub mod FrontLemmas
 pub mod GivesLemmas

@@ -44,7 +44,7 @@ pub record IsRun (k : Plane) (g : Cells) (x y : ℕ) : Type 0 where
   pub rows : y + 4 ≤ g.height
   pub left : AreLeft k g x y
 
-low_enough : (a b : ℕ) → nat_le a b ≡ true → a ≤ b
+pub low_enough : (a b : ℕ) → nat_le a b ≡ true → a ≤ b
 low_enough a b h = grind (arith, nat_tests)
 
 pub is_one : (k : Plane) (g : Cells) (x y : ℕ) → is_run k g x y ≡ true → IsRun k g x y
@@ -65,11 +65,11 @@ is_one k g x y h =
     }
 
 -- rows that are decided to be 0
-record AreZeroed (k : Plane) (count : ℕ) (g : Cells) (x y : ℕ) : Type 0 where
+pub record AreZeroed (k : Plane) (count : ℕ) (g : Cells) (x y : ℕ) : Type 0 where
   pub front : IsFront k.planes g (zeroed k count g x y)
   pub clean : AreClean k.planes (k.number + 1) (zeroed k count g x y)
 
-zero_rows : (k : Plane) (count : ℕ) (g : Cells) (x y : ℕ) → AreClean k.planes (k.number + 1) g → x < g.width → y + count ≤ g.height → AreZeroed k count g x y
+pub zero_rows : (k : Plane) (count : ℕ) (g : Cells) (x y : ℕ) → AreClean k.planes (k.number + 1) g → x < g.width → y + count ≤ g.height → AreZeroed k count g x y
 zero_rows k zero g x y a p q = record { front = front_same k.planes g; clean = a }
 zero_rows k (suc n) g x y a p q =
     let c : Coef = coef_at g x y in
@@ -136,13 +136,13 @@ first_is g s x y (suc (suc (suc zero))) l h t =
     rw (a, h 1 (omega arith), h 2 (omega arith), t) refl
 first_is g s x y (suc (suc (suc (suc n)))) l h t = absurd (omega arith)
 
-record IsNumber (h l : Bool) : Type 0 where
+pub record IsNumber (h l : Bool) : Type 0 where
   pub few : number_in_run h l < 4
   pub any : nat_lt (number_in_run h l) 4 ≡ true
   pub high : nat_le 2 (number_in_run h l) ≡ h
   pub low : (number_in_run h l % 2 == 1) ≡ l
 
-number_is : (h l : Bool) → IsNumber h l
+pub number_is : (h l : Bool) → IsNumber h l
 number_is true true = record { few = lit< tt; any = refl; high = refl; low = refl }
 number_is true false = record { few = lit< tt; any = refl; high = refl; low = refl }
 number_is false true = record { few = lit< tt; any = refl; high = refl; low = refl }
@@ -167,7 +167,7 @@ record AreSeen (k : Plane) (m : Cells) (x y n : ℕ) (negative : Bool) (g : Cell
   pub first : first_of_four g (shift_of k) x y ≡ n
   pub sign : (coef_at g x (y + n)).negative ≡ negative
 
-abbrev named_cells : Plane → Cells → ℕ → ℕ → ℕ → Bool → Cells
+abbrev pub named_cells : Plane → Cells → ℕ → ℕ → ℕ → Bool → Cells
 named_cells k m x y n negative = zeroed k n (changed m x (y + n) (with_sign k negative)) x y
 
 record AreNamed (k : Plane) (m : Cells) (x y n : ℕ) (negative : Bool) : Type 0 where
