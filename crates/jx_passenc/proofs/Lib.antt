@@ -8,6 +8,7 @@ pub mod GridLemmas
 pub mod KindLemmas
 pub mod LeafLemmas
 pub mod PassBackLemmas
+pub mod PhaseLemmas
 pub mod PowerLemmas
 pub mod ReadyLemmas
 pub mod RunBackLemmas
