@@ -16,4 +16,5 @@ pub mod SegmentLemmas
 pub mod ShortLemmas
 pub mod StayLemmas
 pub mod StepLemmas
+pub mod WholeLemmas
 pub mod WroteLemmas

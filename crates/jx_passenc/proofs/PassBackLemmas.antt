@@ -63,7 +63,7 @@ wider planes fewer more c l h = let d = h.decided in record { decided = omega ar
 pub clean_more : (planes fewer more : ℕ) (g : Cells) → fewer ≤ more → AreClean planes fewer g → AreClean planes more g
 clean_more planes fewer more g l a = record { whole = a.whole; at = λ i. wider planes fewer more (get_or g.coefs i zero_coef) l (a.at i) }
 
-one_scan : (c : Coding) (pass passes : ℕ) → HasPasses c passes → pass < passes → IsScan (plane_of c.band (is_causal c.style) c.planes pass)
+pub one_scan : (c : Coding) (pass passes : ℕ) → HasPasses c passes → pass < passes → IsScan (plane_of c.band (is_causal c.style) c.planes pass)
 one_scan c pass passes h l = let f = h.few in let s = h.some in record { number = omega arith; most = h.most }
 
 -- passes that are read
@@ -94,7 +94,7 @@ passes_back c passes (suc count) pass d h l a =
           ap (λ (x : Cells). followed_from c g count (pass + 1) x) (b.follows g (front_next c.planes after.cells end g r.front f)) ∙ r.follows g f;
     }
 
-zero_at : (n i : ℕ) → get_or (replicate n zero_coef) i zero_coef ≡ zero_coef
+pub zero_at : (n i : ℕ) → get_or (replicate n zero_coef) i zero_coef ≡ zero_coef
 zero_at zero i = refl
 zero_at (suc n) zero = refl
 zero_at (suc n) (suc i) = zero_at n i

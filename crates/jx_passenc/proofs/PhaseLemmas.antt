@@ -39,11 +39,11 @@ pub record IsAt (k : Plane) (w h : ℕ) (m : Cells) : Type 0 where
   pub least : (i : ℕ) → i < length m.coefs → k.number ≤ (get_or m.coefs i zero_coef).planes
   pub neat : AreNeat m
 
-same_length : (planes most more : ℕ) (m v : Cells) → AreClean planes most m → AreClean planes more v → IsFront planes m v → length v.coefs ≡ length m.coefs
+pub same_length : (planes most more : ℕ) (m v : Cells) → AreClean planes most m → AreClean planes more v → IsFront planes m v → length v.coefs ≡ length m.coefs
 same_length planes most more m v a b f =
     b.whole.size ∙ (ap (λ (n : ℕ). n * v.width) f.height ∙ (ap (λ (n : ℕ). m.height * n) f.width ∙ sym a.whole.size))
 
-at_next : (k : Plane) (w h : ℕ) (m v : Cells) (t : Asking Cells) → IsAt k w h m → IsBack k.planes (k.number + 1) m t v → AreNeat v → IsAt k w h v
+pub at_next : (k : Plane) (w h : ℕ) (m v : Cells) (t : Asking Cells) → IsAt k w h m → IsBack k.planes (k.number + 1) m t v → AreNeat v → IsAt k w h v
 at_next k w h m v t a b n =
     let e = same_length k.planes (k.number + 1) (k.number + 1) m v a.clean b.clean b.front in
     record {
@@ -95,7 +95,7 @@ fold_leaves pass k w h I R step (suc count) n m i f l =
           (omega arith)))
       (step m n i (omega arith)))
 
-in_place : (w h n : ℕ) (m : Cells) → m.width ≡ w → m.height ≡ h → n < w * h → IsIn m (scan_column m.width m.height n) (scan_row m.width m.height n)
+pub in_place : (w h n : ℕ) (m : Cells) → m.width ≡ w → m.height ≡ h → n < w * h → IsIn m (scan_column m.width m.height n) (scan_row m.width m.height n)
 in_place w h n m e f l =
     let p : n < m.width * m.height = rw (e, f) l in
     record { column = column_inside m.width m.height n p; row = row_inside m.width m.height n p }
@@ -111,7 +111,7 @@ index_there k w h j m a l =
     omega arith
 
 -- one place: the grid stays within its plane
-at_step : (pass : ℕ) (k : Plane) (w h n : ℕ) (m : Cells) → IsScan k → IsAt k w h m → n < w * h
+pub at_step : (pass : ℕ) (k : Plane) (w h n : ℕ) (m : Cells) → IsScan k → IsAt k w h m → n < w * h
   → AllLeaves (pass_at_nth pass k m n) (λ v. IsBack k.planes (k.number + 1) m (pass_at_nth pass k m n) v × AreNeat v)
 at_step pass k w h n m s a l =
     let x : ℕ = scan_column m.width m.height n in
@@ -152,11 +152,11 @@ AllSettled k m = (i : ℕ) → i < length m.coefs → IsSettled k m i
 abbrev pub AllDone : Plane → Cells → Type 0
 AllDone k m = (i : ℕ) → i < length m.coefs → IsDone k m i
 
-size_is : (k : Plane) (w h : ℕ) (m : Cells) → IsAt k w h m → length m.coefs ≡ h * w
+pub size_is : (k : Plane) (w h : ℕ) (m : Cells) → IsAt k w h m → length m.coefs ≡ h * w
 size_is k w h m a = a.clean.whole.size ∙ (ap (λ (n : ℕ). n * m.width) a.height ∙ ap (λ (n : ℕ). h * n) a.width)
 
 -- any pass
-any_pass : (pass : ℕ) (k : Plane) (w h : ℕ) (m : Cells) → IsScan k → IsAt k w h m → AllLeaves (scanned pass k (w * h) 0 m) (IsAt k w h)
+pub any_pass : (pass : ℕ) (k : Plane) (w h : ℕ) (m : Cells) → IsScan k → IsAt k w h m → AllLeaves (scanned pass k (w * h) 0 m) (IsAt k w h)
 any_pass pass k w h m s a =
     let I : Cells → Type 0 = λ v. IsAt k w h v in
     let R : Cells → ℕ → Type 0 = λ v i. Unit {0} in
@@ -168,7 +168,7 @@ any_pass pass k w h m s a =
       (w * h) 0 m a (λ j q. tt) (omega arith))
 
 -- a refinement pass settles all places
-refinement_pass : (pass : ℕ) (k : Plane) (w h : ℕ) (m : Cells) → (pass % 3 == 1) ≡ false → (pass % 3 == 2) ≡ true → IsScan k → IsAt k w h m
+pub refinement_pass : (pass : ℕ) (k : Plane) (w h : ℕ) (m : Cells) → (pass % 3 == 1) ≡ false → (pass % 3 == 2) ≡ true → IsScan k → IsAt k w h m
   → AllLeaves (scanned pass k (w * h) 0 m) (λ v. IsAt k w h v × AllSettled k v)
 refinement_pass pass k w h m e f s a =
     let I : Cells → Type 0 = λ v. IsAt k w h v in
@@ -190,7 +190,7 @@ refinement_pass pass k w h m e f s a =
       (w * h) 0 m a (λ j q. absurd (omega arith)) (omega arith))
 
 -- a cleanup pass decides all places, where those that are significant were decided
-cleanup_pass : (pass : ℕ) (k : Plane) (w h : ℕ) (m : Cells) → (pass % 3 == 1) ≡ false → (pass % 3 == 2) ≡ false → IsScan k → IsAt k w h m → AllSettled k m
+pub cleanup_pass : (pass : ℕ) (k : Plane) (w h : ℕ) (m : Cells) → (pass % 3 == 1) ≡ false → (pass % 3 == 2) ≡ false → IsScan k → IsAt k w h m → AllSettled k m
   → AllLeaves (scanned pass k (w * h) 0 m) (λ v. IsAt k w h v × AllDone k v)
 cleanup_pass pass k w h m e f s a z =
     let I : Cells → Type 0 = λ v. IsAt k w h v × AllSettled k v in
