@@ -10,12 +10,12 @@ use Rattle.jx_grid.specs.Pass.{IsScan, scan_column, scan_row, pass_at_nth, scann
 use Rattle.jx_grid.specs.Segments.{is_causal, begins}
 use Rattle.jx_grid.specs.Reading.{Reading, Coding, Decoding, opened, renewed, read_answer, read_pass, read_from, zeros, at_start, decoded}
 use Rattle.jx_grid.specs.Needs.{followed, followed_pass, followed_from}
-use Rattle.jx_passenc.specs.Alike.{HasPasses}
+use Rattle.jx_passenc.specs.Alike.{HasPasses, AreOfOneBlock}
 use Rattle.jx_passenc.proofs.PowerLemmas.{multiple}
 use Rattle.jx_passenc.proofs.FrontLemmas.{IsBefore, IsClean}
 use Rattle.jx_passenc.proofs.GridLemmas.{IsFront, AreClean}
 use Rattle.jx_passenc.proofs.LeafLemmas.{AllLeaves, leaves_told, leaves_more, followed_then, IsBack}
-use Rattle.jx_passenc.proofs.PassBackLemmas.{clean_more, one_scan, zeros_clean, zero_at}
+use Rattle.jx_passenc.proofs.PassBackLemmas.{clean_more, one_scan, zeros_clean, zero_at, passes_back, read_join}
 use Rattle.jx_passenc.proofs.BackLemmas.{tree_of, opened_cells}
 use Rattle.jx_passenc.proofs.DoneLemmas.{IsDone, IsSettled, AreNeat}
 use Rattle.jx_passenc.proofs.FollowLemmas.{AreDue, place_stays}
@@ -261,3 +261,58 @@ one_end c d w h pass u v g e r p q f j =
         let b = q.here.least i (omega arith) in
         one_coef c.planes ((pass + 1) / 3 + 1) (get_or u.coefs i zero_coef) (get_or v.coefs i zero_coef) (get_or g.coefs i zero_coef)
           (p.clean.at i) (cv.at i) (omega arith) (omega arith) (f.at i) (fv.at i) (p.here.neat i) (q.here.neat i)))
+
+-- what more passes make of a block
+fronts : (width height : ℕ) (c : Coding) (segments : List (List ℕ)) (passes first : ℕ) → first ≤ passes → HasPasses c passes
+  → IsFront c.planes (decoded width height c segments first).cells (decoded width height c segments passes).cells
+unfolding decoded
+fronts width height c segments passes first l h =
+    let start : Decoding = at_start width height segments in
+    let v : Decoding = read_from c first 0 start in
+    let w : Decoding = read_from c passes 0 start in
+    let a = passes_back c passes first 0 start h (omega arith) (zeros_clean c.planes ((0 + 1) / 3 + 1) width height) in
+    let b = passes_back c passes (passes - first) (0 + first) v h (omega arith) (clean_more c.planes ((0 + first + 1) / 3 + 1) ((0 + first + 1) / 3 + 1) v.cells (omega arith) a.clean) in
+    let k : first + (passes - first) ≡ passes = omega arith in
+    let j : w ≡ read_from c (passes - first) (0 + first) v = ap (λ (n : ℕ). read_from c n 0 start) (sym k) ∙ read_join c first (passes - first) 0 start in
+    subst (λ (x : Decoding). IsFront c.planes v.cells x.cells) (sym j) b.front
+
+phase_decoded : (width height : ℕ) (c : Coding) (segments : List (List ℕ)) (passes first : ℕ) → first ≤ passes → HasPasses c passes
+  → Phase c width height (0 + first) (decoded width height c segments first).cells
+unfolding decoded
+phase_decoded width height c segments passes first l h =
+    phase_read c width height passes first 0 (at_start width height segments) h (omega arith) (zeros_at c width height)
+
+none_read : (width height : ℕ) (c : Coding) (segments : List (List ℕ)) → (decoded width height c segments 0).cells ≡ zeros width height
+unfolding decoded read_from
+none_read width height c segments = refl
+
+-- in any style, the first passes make what they made, where they end with a plane and all passes do
+pub record IsMadeAgain (width height : ℕ) (c d : Coding) (segments : List (List ℕ)) (passes first : ℕ) : Type 0 where
+  pub width_is : (decoded width height c segments passes).cells.width ≡ width
+  pub height_is : (decoded width height c segments passes).cells.height ≡ height
+  pub cells : followed_from d (decoded width height c segments passes).cells first 0 (zeros width height) ≡ (decoded width height c segments first).cells
+
+pub made_again : (width height : ℕ) (c d : Coding) (segments : List (List ℕ)) (passes first : ℕ) → first ≤ passes → passes % 3 ≡ 1 → first % 3 ≡ 1
+  → HasPasses c passes → AreOfOneBlock c d → IsMadeAgain width height c d segments passes first
+made_again width height c d segments passes first l r t h e =
+    let g : Cells = (decoded width height c segments passes).cells in
+    let u : Cells = (decoded width height c segments first).cells in
+    let k = h.some in
+    let m = h.most in
+    let n = h.few in
+    let q = e.planes in
+    let hd : HasPasses d passes = record { some = omega arith; most = omega arith; few = omega arith } in
+    let p = phase_decoded width height c segments passes first l h in
+    let w = phase_decoded width height c segments passes passes (omega arith) h in
+    let size = size_is (plane_at c (0 + passes)) width height g w.here in
+    let z0 : IsFront c.planes (zeros width height) g =
+        subst (λ (x : Cells). IsFront c.planes x g) (none_read width height c segments) (fronts width height c segments passes 0 (omega arith) h) in
+    let z : IsFront d.planes (zeros width height) g = subst (λ (x : ℕ). IsFront x (zeros width height) g) (sym q) z0 in
+    let v = phase_follow d width height passes first 0 ((passes + 2) / 3) (zeros width height) g hd (omega arith) (omega arith)
+        (λ i b. let y = w.here.least i (omega arith) in omega arith) (record { phase = zeros_at d width height; front = z }) in
+    record {
+      width_is = w.here.width;
+      height_is = w.here.height;
+      cells = sym (one_end c d width height (0 + first) u (followed_from d g first 0 (zeros width height)) g q (omega arith) p v.phase
+        (fronts width height c segments passes first l h) v.front);
+    }
