@@ -1,7 +1,7 @@
 -- Each place of a block is scanned.
-use Rattle.std.proofs.Common.{◌≡◌, ◌<◌, ◌≤◌, ◌+◌, ◌-◌, ◌*◌, ◌/◌, ◌%◌, ℕ, zero, suc, min, refl, sym, ap, ◌∙◌, arith, subst}
+use Rattle.std.proofs.Common.{◌≡◌, ◌<◌, ◌+◌, ◌-◌, ◌*◌, ◌/◌, ◌%◌, ℕ, min, ap, ◌∙◌, arith}
 use Rattle.std.proofs.lemmas.Nat.{div-mul-add, mod-mul-add, div-add-mod'}
-use Rattle.std.proofs.Math.Nat.{mul-le-mul_right, mul-le-mul_left, mod-lt}
+use Rattle.std.proofs.Math.Nat.{mul-le-mul_right, mul-le-mul_left}
 use Rattle.jx_grid.specs.Pass.{stripe_rows, scan_column, scan_row}
 
 -- the number of a place
@@ -69,7 +69,7 @@ scanned_once w h x y p q =
       below = below_all w h x y p q;
       column = ap (λ (z : ℕ). z / stripe_rows w h n) b ∙ (ap (λ (z : ℕ). in_stripe_of h x y / z) a ∙ div-mul-add x r (y % 4) t);
       row = ap (λ (z : ℕ). z * 4 + n % (4 * w) % stripe_rows w h n) c
-        ∙ (ap (λ (z : ℕ). y / 4 * 4 + z % stripe_rows w h n) b
-        ∙ (ap (λ (z : ℕ). y / 4 * 4 + in_stripe_of h x y % z) a
-        ∙ (ap (λ (z : ℕ). y / 4 * 4 + z) (mod-mul-add x r (y % 4) t) ∙ div-add-mod' y 4)));
+          ∙ (ap (λ (z : ℕ). y / 4 * 4 + z % stripe_rows w h n) b
+          ∙ (ap (λ (z : ℕ). y / 4 * 4 + in_stripe_of h x y % z) a
+          ∙ (ap (λ (z : ℕ). y / 4 * 4 + z) (mod-mul-add x r (y % 4) t) ∙ div-add-mod' y 4)));
     }

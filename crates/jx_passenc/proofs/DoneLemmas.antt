@@ -1,7 +1,7 @@
 -- What passes have done at a place.
-use Rattle.std.proofs.Common.{◌≡◌, ◌≢◌, ◌<◌, ◌≤◌, ◌+◌, ◌-◌, ◌*◌, ◌/◌, ◌%◌, ◌^◌, ◌==◌, nat_lt, nat_le, ℕ, zero, suc, Bool, true, false, not, ◌&&◌, ◌||◌, List, length, get_or, set, refl, sym, ap, ◌∙◌, arith, subst, inl, inr, lit<, if◌then◌else◌}
+use Rattle.std.proofs.Common.{◌≡◌, ◌≢◌, ◌<◌, ◌≤◌, ◌+◌, ◌-◌, ◌*◌, ◌%◌, ◌^◌, ◌==◌, nat_lt, ℕ, zero, suc, Bool, true, false, not, ◌&&◌, ◌||◌, get_or, refl, sym, ap, ◌∙◌, arith, subst, inl, inr, if◌then◌else◌}
 use Rattle.std.proofs.lemmas.Bool.Decides.{nat_tests}
-use Rattle.std.proofs.lemmas.Bool.{cases_eq, cases_lt}
+use Rattle.std.proofs.lemmas.Bool.{cases_lt}
 use Rattle.std.proofs.lemmas.Nat.{pow_pos}
 use Rattle.jx_grid.specs.declared.coef.Coef.{Coef}
 use Rattle.jx_grid.specs.declared.question.Plane.{Plane}
@@ -12,8 +12,8 @@ use Rattle.jx_passenc.proofs.PowerLemmas.{multiple}
 use Rattle.jx_passenc.proofs.FrontLemmas.{IsBefore, IsClean, zero_clean, sign_clean}
 use Rattle.jx_passenc.proofs.GridLemmas.{IsFront, AreClean, IsIn, IsWhole, here_with, with_clean, set_at, index_in}
 use Rattle.jx_passenc.proofs.LeafLemmas.{AllLeaves}
-use Rattle.jx_passenc.proofs.StepLemmas.{not_true, no_bits, no_less, clean_at}
-use Rattle.jx_passenc.proofs.RunBackLemmas.{IsRun, IsLeft, is_one, zero_rows, low_enough, number_is, named_cells}
+use Rattle.jx_passenc.proofs.StepLemmas.{no_bits, clean_at}
+use Rattle.jx_passenc.proofs.RunBackLemmas.{IsRun, is_one, zero_rows, number_is, named_cells}
 use Rattle.jx_passenc.proofs.ReadyLemmas.{which}
 
 -- the coefficient of a number was decided in the plane; it was, if it is significant
@@ -57,12 +57,12 @@ refinement_settles k m x y w i =
     leaves_if (significant c && not (is_decided k c)) _ (Told m) (λ v. IsSettled k v (place_of m x y))
     (λ e. λ b. λ n. done_with k m x y (with_bit k b c) w i (planes_of k b c))
     (λ e. λ n. elim (which (is_decided k c)) [
-        inl d ↦ greater k.number c.planes d
+      | inl d ↦ greater k.number c.planes d
       | inr d ↦ absurd (n (no_bits_of c.bits (and_false (significant c) (not (is_decided k c)) e (not_false (is_decided k c) d))))
-      ])
+    ])
 
 bit_done : (k : Plane) (m : Cells) (x y : ℕ) → IsWhole m → IsIn m x y → (b : Bool)
-  → AllLeaves (if b then sign_of k m x y else Told (changed m x y (with_bit k false))) (λ v. IsDone k v (place_of m x y))
+    → AllLeaves (if b then sign_of k m x y else Told (changed m x y (with_bit k false))) (λ v. IsDone k v (place_of m x y))
 bit_done k m x y w i true = λ n. done_with k m x y (with_sign k n (coef_at m x y)) w i refl
 bit_done k m x y w i false = done_with k m x y (with_bit k false (coef_at m x y)) w i refl
 
@@ -78,9 +78,9 @@ usual_done k m x y w i s =
     let c : Coef = coef_at m x y in
     leaves_if (significant c || is_decided k c) (Told m) (bit_of k m x y) (λ v. IsDone k v (place_of m x y))
     (λ e. elim (which (is_decided k c)) [
-        inl d ↦ greater k.number c.planes d
+      | inl d ↦ greater k.number c.planes d
       | inr d ↦ s (some_of c.bits (or_cases (significant c) (is_decided k c) e d))
-      ])
+    ])
     (λ e. λ b. bit_done k m x y w i b)
 
 -- a column whose first place was decided
@@ -96,7 +96,7 @@ rows_done k n m x y a p q =
     done_front k h (zeroed k n h x (y + 1)) (place_of m x y) z.front (done_with k m x y (with_bit k false c) a.whole i refl)
 
 named_done : (k : Plane) (m : Cells) (x y n : ℕ) (negative : Bool) → IsScan k → AreClean k.planes (k.number + 1) m → x < m.width → IsRun k m x y → n < 4
-  → IsDone k (named_cells k m x y n negative) (place_of m x y)
+    → IsDone k (named_cells k m x y n negative) (place_of m x y)
 named_done k m x y zero negative s a p r l =
     let e : y + 0 ≡ y = omega arith in
     let rows = r.rows in
@@ -113,12 +113,12 @@ named_done k m x y (suc n) negative s a p r l =
     rows_done k n q x y b p (omega arith)
 
 run_done_at : (k : Plane) (m : Cells) (x y : ℕ) → IsScan k → AreClean k.planes (k.number + 1) m → x < m.width → IsRun k m x y → (any : Bool)
-  → AllLeaves (if any then place_at k m x y else Told (zeroed k 4 m x y)) (λ v. IsDone k v (place_of m x y))
+    → AllLeaves (if any then place_at k m x y else Told (zeroed k 4 m x y)) (λ v. IsDone k v (place_of m x y))
 run_done_at k m x y s a p r true = λ h. λ l. λ n. let d = number_is h l in named_done k m x y (number_in_run h l) n s a p r d.few
 run_done_at k m x y s a p r false = rows_done k 3 m x y a p r.rows
 
 pub cleanup_done : (k : Plane) (m : Cells) (x y : ℕ) → IsScan k → IsIn m x y → AreClean k.planes (k.number + 1) m → IsSettled k m (place_of m x y)
-  → AllLeaves (cleanup_at k m x y) (λ v. IsDone k v (place_of m x y))
+    → AllLeaves (cleanup_at k m x y) (λ v. IsDone k v (place_of m x y))
 cleanup_done k m x y s i a t =
     leaves_if (is_run k m x y) (run_at k m x y) (usual_at k m x y) (λ v. IsDone k v (place_of m x y))
     (λ e. λ b. run_done_at k m x y s a i.column (is_one k m x y e) b)
@@ -126,18 +126,18 @@ cleanup_done k m x y s i a t =
 
 -- what was settled stays so
 pub settled_coef : (k : Plane) (a b : Coef) → IsBefore k.planes a b → IsClean k.planes (k.number + 1) a → IsClean k.planes (k.number + 1) b → k.number ≤ a.planes
-  → (a.bits ≢ 0 → k.number + 1 ≤ a.planes) → b.bits ≢ 0 → k.number + 1 ≤ b.planes
+    → (a.bits ≢ 0 → k.number + 1 ≤ a.planes) → b.bits ≢ 0 → k.number + 1 ≤ b.planes
 settled_coef k a b f ca cb l h n =
     elim (cases_lt k.number b.planes) [
-      inl p ↦ omega arith
-    | inr p ↦ (
-        let d = f.decided in
-        let e : b.planes ≡ a.planes = omega arith in
-        let z : b.bits % 2 ^ (k.planes - a.planes) ≡ 0 = subst (λ (s : ℕ). b.bits % 2 ^ (k.planes - s) ≡ 0) e cb.low in
-        let u : b.bits ≡ a.bits =
+      | inl p ↦ omega arith
+      | inr p ↦ (
+          let d = f.decided in
+          let e : b.planes ≡ a.planes = omega arith in
+          let z : b.bits % 2 ^ (k.planes - a.planes) ≡ 0 = subst (λ (s : ℕ). b.bits % 2 ^ (k.planes - s) ≡ 0) e cb.low in
+          let u : b.bits ≡ a.bits =
           multiple b.bits (k.planes - a.planes) z ∙ (ap (λ (q : ℕ). q * 2 ^ (k.planes - a.planes)) f.bits ∙ sym (multiple a.bits (k.planes - a.planes) ca.low)) in
-        let t = h (λ w. n (u ∙ w)) in
-        omega arith)
+          let t = h (λ w. n (u ∙ w)) in
+          omega arith)
     ]
 
 -- a coefficient whose bits are all 0 isn't negative
@@ -158,7 +158,7 @@ neat_sign : (k : Plane) (n : Bool) (c : Coef) → IsNeatCoef (with_sign k n c)
 neat_sign k n c = λ z. let p = pow_pos (shift_of k) in absurd (omega arith)
 
 bit_neat : (k : Plane) (m : Cells) (x y : ℕ) → IsWhole m → IsIn m x y → AreNeat m → (b : Bool)
-  → AllLeaves (if b then sign_of k m x y else Told (changed m x y (with_bit k false))) AreNeat
+    → AllLeaves (if b then sign_of k m x y else Told (changed m x y (with_bit k false))) AreNeat
 bit_neat k m x y w i n true = λ s. neat_with m x y (with_sign k s (coef_at m x y)) w i n (neat_sign k s (coef_at m x y))
 bit_neat k m x y w i n false = neat_with m x y (with_bit k false (coef_at m x y)) w i n (neat_more k false (coef_at m x y) (n (y * m.width + x)))
 
@@ -171,7 +171,7 @@ rows_neat k (suc count) m x y a p q n =
     (neat_with m x y (with_bit k false c) a.whole i n (neat_more k false c (n (y * m.width + x))))
 
 run_neat_at : (k : Plane) (m : Cells) (x y : ℕ) → IsScan k → AreClean k.planes (k.number + 1) m → x < m.width → IsRun k m x y → AreNeat m → (any : Bool)
-  → AllLeaves (if any then place_at k m x y else Told (zeroed k 4 m x y)) AreNeat
+    → AllLeaves (if any then place_at k m x y else Told (zeroed k 4 m x y)) AreNeat
 run_neat_at k m x y s a p r n true = λ h. λ l. λ v.
     let d = number_is h l in
     let f = d.few in
@@ -191,8 +191,8 @@ place_neat pass k m x y s i a n =
     leaves_if (pass % 3 == 1) (significance_at k m x y) (if pass % 3 == 2 then refinement_at k m x y else cleanup_at k m x y) AreNeat
     (λ e. leaves_if (significant c || is_decided k c || label_at k m x y == 0) (Told m) (bit_of k m x y) AreNeat (λ f. n) (λ f. λ b. bit_neat k m x y a.whole i n b))
     (λ e. leaves_if (pass % 3 == 2) (refinement_at k m x y) (cleanup_at k m x y) AreNeat
-      (λ f. leaves_if (significant c && not (is_decided k c)) _ (Told m) AreNeat
-        (λ g. λ b. neat_with m x y (with_bit k b c) a.whole i n (neat_more k b c (n (y * m.width + x)))) (λ g. n))
-      (λ f. leaves_if (is_run k m x y) (run_at k m x y) (usual_at k m x y) AreNeat
-        (λ g. λ b. run_neat_at k m x y s a i.column (is_one k m x y g) n b)
-        (λ g. leaves_if (significant c || is_decided k c) (Told m) (bit_of k m x y) AreNeat (λ h. n) (λ h. λ b. bit_neat k m x y a.whole i n b))))
+    (λ f. leaves_if (significant c && not (is_decided k c)) _ (Told m) AreNeat
+    (λ g. λ b. neat_with m x y (with_bit k b c) a.whole i n (neat_more k b c (n (y * m.width + x)))) (λ g. n))
+    (λ f. leaves_if (is_run k m x y) (run_at k m x y) (usual_at k m x y) AreNeat
+    (λ g. λ b. run_neat_at k m x y s a i.column (is_one k m x y g) n b)
+    (λ g. leaves_if (significant c || is_decided k c) (Told m) (bit_of k m x y) AreNeat (λ h. n) (λ h. λ b. bit_neat k m x y a.whole i n b))))

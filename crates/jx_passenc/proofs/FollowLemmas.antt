@@ -1,5 +1,5 @@
 -- What a grid's answers make of another grid may still become it.
-use Rattle.std.proofs.Common.{◌≡◌, ◌≢◌, ◌<◌, ◌≤◌, ◌+◌, ◌-◌, ◌*◌, ◌/◌, ◌%◌, ◌^◌, ◌==◌, nat_lt, nat_le, ℕ, zero, suc, Bool, true, false, not, ◌&&◌, ◌||◌, List, length, get_or, set, refl, sym, ap, ◌∙◌, arith, subst, inl, inr, lit≤, if◌then◌else◌}
+use Rattle.std.proofs.Common.{◌≡◌, ◌≢◌, ◌<◌, ◌≤◌, ◌+◌, ◌*◌, ◌%◌, ◌==◌, nat_lt, nat_le, ℕ, zero, suc, Bool, true, false, not, ◌&&◌, ◌||◌, List, length, get_or, set, refl, sym, ap, arith, subst, inl, inr, lit≤, if◌then◌else◌}
 use Rattle.std.proofs.lemmas.Bool.Decides.{nat_tests}
 use Rattle.std.proofs.lemmas.Bool.{cases_eq}
 use Rattle.std.proofs.lemmas.List.{get_or-set_same, get_or-set_other, length-set}
@@ -38,18 +38,18 @@ due_at k m g x y i d u =
     }
 
 set_stays : (planes : ℕ) (xs ys : List Coef) (i : ℕ) (c : Coef) → IsBefore planes c (get_or ys i zero_coef) → i < length xs
-  → ((j : ℕ) → IsBefore planes (get_or xs j zero_coef) (get_or ys j zero_coef)) → (j : ℕ) → IsBefore planes (get_or (set xs i c) j zero_coef) (get_or ys j zero_coef)
+    → ((j : ℕ) → IsBefore planes (get_or xs j zero_coef) (get_or ys j zero_coef)) → (j : ℕ) → IsBefore planes (get_or (set xs i c) j zero_coef) (get_or ys j zero_coef)
 set_stays planes xs ys i c h l f j =
     let P : ℕ → Type 0 = λ n. IsBefore planes (get_or (set xs i c) n zero_coef) (get_or ys n zero_coef) in
     let Q : Coef → Type 0 = λ d. IsBefore planes d (get_or ys i zero_coef) in
     let R : Coef → Type 0 = λ d. IsBefore planes d (get_or ys j zero_coef) in
     elim (cases_eq j i) [
-      inl e ↦ subst P (sym e) (subst Q (sym (get_or-set_same xs i c zero_coef l)) h)
-    | inr e ↦ subst R (sym (get_or-set_other xs i j c zero_coef e)) (f j)
+      | inl e ↦ subst P (sym e) (subst Q (sym (get_or-set_same xs i c zero_coef l)) h)
+      | inr e ↦ subst R (sym (get_or-set_other xs i j c zero_coef e)) (f j)
     ]
 
 with_stays : (planes : ℕ) (m g : Cells) (x y : ℕ) (c : Coef) → IsWhole m → IsIn m x y → IsFront planes m g → IsBefore planes c (coef_at g x y)
-  → IsFront planes (with_coef m x y c) g
+    → IsFront planes (with_coef m x y c) g
 with_stays planes m g x y c w i f h =
     let P : ℕ → Type 0 = λ n. IsBefore planes c (get_or g.coefs (y * n + x) zero_coef) in
     record {
@@ -59,17 +59,17 @@ with_stays planes m g x y c w i f h =
     }
 
 set_least : (n : ℕ) (xs : List Coef) (i : ℕ) (c : Coef) → n ≤ c.planes → i < length xs → ((j : ℕ) → j < length xs → n ≤ (get_or xs j zero_coef).planes)
-  → (j : ℕ) → j < length xs → n ≤ (get_or (set xs i c) j zero_coef).planes
+    → (j : ℕ) → j < length xs → n ≤ (get_or (set xs i c) j zero_coef).planes
 set_least n xs i c h l f j b =
     let P : ℕ → Type 0 = λ v. n ≤ (get_or (set xs i c) v zero_coef).planes in
     let Q : Coef → Type 0 = λ d. n ≤ d.planes in
     elim (cases_eq j i) [
-      inl e ↦ subst P (sym e) (subst Q (sym (get_or-set_same xs i c zero_coef l)) h)
-    | inr e ↦ subst Q (sym (get_or-set_other xs i j c zero_coef e)) (f j b)
+      | inl e ↦ subst P (sym e) (subst Q (sym (get_or-set_same xs i c zero_coef l)) h)
+      | inr e ↦ subst Q (sym (get_or-set_other xs i j c zero_coef e)) (f j b)
     ]
 
 due_with : (k : Plane) (m g : Cells) (x y : ℕ) (c : Coef) → IsIn m x y → AreDue k m g → IsBefore k.planes c (coef_at g x y)
-  → IsClean k.planes (k.number + 1) c → k.number ≤ c.planes → AreDue k (with_coef m x y c) g
+    → IsClean k.planes (k.number + 1) c → k.number ≤ c.planes → AreDue k (with_coef m x y c) g
 due_with k m g x y c i d b h n =
     let j : ℕ = y * m.width + x in
     let l = index_in m x y d.clean.whole i in
@@ -90,7 +90,7 @@ stays_if k g true t u p q = p refl
 stays_if k g false t u p q = q refl
 
 bit_stays : (k : Plane) (m g : Cells) (x y : ℕ) → IsScan k → IsIn m x y → AreDue k m g → (coef_at m x y).bits ≡ 0 → (coef_at m x y).planes ≤ k.number
-  → Stays k g (bit_of k m x y)
+    → Stays k g (bit_of k m x y)
 bit_stays k m g x y s i d z u =
     let c : Coef = coef_at m x y in
     let h = due_at k m g x y i d u in
@@ -105,14 +105,14 @@ significance_stays k m g x y s i d =
     let l : Bool = label_at k m x y == 0 in
     stays_if k g (p || l) (Told m) (bit_of k m x y) (λ e. d.front)
     (λ e. bit_stays k m g x y s i d (no_bits c.bits (or_false (significant c) (is_decided k c) (or_false p l e)))
-      (no_less k.number c.planes (or_right (significant c) (is_decided k c) (or_false p l e))))
+    (no_less k.number c.planes (or_right (significant c) (is_decided k c) (or_false p l e))))
 
 usual_stays : (k : Plane) (m g : Cells) (x y : ℕ) → IsScan k → IsIn m x y → AreDue k m g → Stays k g (usual_at k m x y)
 usual_stays k m g x y s i d =
     let c : Coef = coef_at m x y in
     stays_if k g (significant c || is_decided k c) (Told m) (bit_of k m x y) (λ e. d.front)
     (λ e. bit_stays k m g x y s i d (no_bits c.bits (or_false (significant c) (is_decided k c) e))
-      (no_less k.number c.planes (or_right (significant c) (is_decided k c) e)))
+    (no_less k.number c.planes (or_right (significant c) (is_decided k c) e)))
 
 pub some_bits : (n : ℕ) → not (n == 0) ≡ true → n ≢ 0
 some_bits n h = grind (arith, nat_tests)
@@ -122,9 +122,9 @@ refinement_stays k m g x y s i d =
     let c : Coef = coef_at m x y in
     stays_if k g (significant c && not (is_decided k c)) _ (Told m)
     (λ e.
-      let u = no_less k.number c.planes (not_true (is_decided k c) (and_right (significant c) (not (is_decided k c)) e)) in
-      with_stays k.planes m g x y (with_bit k (bit_at_place g (shift_of k) x y) c) d.clean.whole i d.front
-        (more_stays k (bit_at_place g (shift_of k) x y) c (coef_at g x y) s (due_at k m g x y i d u) (some_bits c.bits (and_left (significant c) (not (is_decided k c)) e)) refl))
+    let u = no_less k.number c.planes (not_true (is_decided k c) (and_right (significant c) (not (is_decided k c)) e)) in
+    with_stays k.planes m g x y (with_bit k (bit_at_place g (shift_of k) x y) c) d.clean.whole i d.front
+    (more_stays k (bit_at_place g (shift_of k) x y) c (coef_at g x y) s (due_at k m g x y i d u) (some_bits c.bits (and_left (significant c) (not (is_decided k c)) e)) refl))
     (λ e. d.front)
 
 -- the first of four that has the bit
@@ -142,14 +142,14 @@ none_below2 g s x y (suc zero) l p q = q
 none_below2 g s x y (suc (suc i)) l p q = absurd (omega arith)
 
 none_below3 : (g : Cells) (s x y i : ℕ) → i < 3 → bit_at_place g s x (y + 0) ≡ false → bit_at_place g s x (y + 1) ≡ false → bit_at_place g s x (y + 2) ≡ false
-  → bit_at_place g s x (y + i) ≡ false
+    → bit_at_place g s x (y + i) ≡ false
 none_below3 g s x y zero l p q r = p
 none_below3 g s x y (suc zero) l p q r = q
 none_below3 g s x y (suc (suc zero)) l p q r = r
 none_below3 g s x y (suc (suc (suc i))) l p q r = absurd (omega arith)
 
 none_below4 : (g : Cells) (s x y i : ℕ) → i < 4 → bit_at_place g s x (y + 0) ≡ false → bit_at_place g s x (y + 1) ≡ false → bit_at_place g s x (y + 2) ≡ false
-  → bit_at_place g s x (y + 3) ≡ false → bit_at_place g s x (y + i) ≡ false
+    → bit_at_place g s x (y + 3) ≡ false → bit_at_place g s x (y + i) ≡ false
 none_below4 g s x y zero l p q r t = p
 none_below4 g s x y (suc zero) l p q r t = q
 none_below4 g s x y (suc (suc zero)) l p q r t = r
@@ -157,7 +157,7 @@ none_below4 g s x y (suc (suc (suc zero))) l p q r t = t
 none_below4 g s x y (suc (suc (suc (suc i)))) l p q r t = absurd (omega arith)
 
 first_by : (g : Cells) (s x y : ℕ) (a b c d : Bool) → bit_at_place g s x (y + 0) ≡ a → bit_at_place g s x (y + 1) ≡ b → bit_at_place g s x (y + 2) ≡ c → bit_at_place g s x (y + 3) ≡ d
-  → IsFirst g s x y (if a then 0 else if b then 1 else if c then 2 else if d then 3 else 4)
+    → IsFirst g s x y (if a then 0 else if b then 1 else if c then 2 else if d then 3 else 4)
 first_by g s x y true b c d p q r t = record { off = λ i l. absurd (omega arith); on = λ l. p }
 first_by g s x y false true c d p q r t = record { off = λ i l. none_below1 g s x y i l p; on = λ l. q }
 first_by g s x y false false true d p q r t = record { off = λ i l. none_below2 g s x y i l p q; on = λ l. r }
@@ -182,8 +182,8 @@ next_row y j = omega arith
 
 -- rows that the grid has 0 in
 rows_stay : (k : Plane) (count : ℕ) (m g : Cells) (x y : ℕ) → IsScan k → x < m.width → y + count ≤ m.height → AreDue k m g
-  → ((i : ℕ) → i < count → IsLeft k (coef_at m x (y + i))) → ((i : ℕ) → i < count → bit_at_place g (shift_of k) x (y + i) ≡ false)
-  → IsFront k.planes (zeroed k count m x y) g
+    → ((i : ℕ) → i < count → IsLeft k (coef_at m x (y + i))) → ((i : ℕ) → i < count → bit_at_place g (shift_of k) x (y + i) ≡ false)
+    → IsFront k.planes (zeroed k count m x y) g
 rows_stay k zero m g x y s p q d l b = d.front
 rows_stay k (suc n) m g x y s p q d l b =
     let c : Coef = coef_at m x y in
@@ -193,14 +193,14 @@ rows_stay k (suc n) m g x y s p q d l b =
     let o : bit_at_place g (shift_of k) x y ≡ false = subst (λ (r : ℕ). bit_at_place g (shift_of k) x r ≡ false) e (b 0 (omega arith)) in
     let h : Cells = changed m x y (with_bit k false) in
     let w = due_with k m g x y (with_bit k false c) i d (zero_stays k c (coef_at g x y) s (due_at k m g x y i d t.planes) t.bits o)
-        (zero_clean k c (clean_at k m x y d.clean)) (omega arith) in
+    (zero_clean k c (clean_at k m x y d.clean)) (omega arith) in
     rows_stay k n h g x (y + 1) s p (omega arith) w
     (λ j v. left_same k (coef_at m x (y + 1 + j)) (coef_at h x (y + 1 + j)) (below_with m x y (y + 1 + j) (with_bit k false c) (omega arith) (omega arith))
-      (subst (λ (r : ℕ). IsLeft k (coef_at m x r)) (next_row y j) (l (suc j) (omega arith))))
+    (subst (λ (r : ℕ). IsLeft k (coef_at m x r)) (next_row y j) (l (suc j) (omega arith))))
     (λ j v. subst (λ (r : ℕ). bit_at_place g (shift_of k) x r ≡ false) (next_row y j) (b (suc j) (omega arith)))
 
 named_stays : (k : Plane) (m g : Cells) (x y n : ℕ) → IsScan k → x < m.width → AreDue k m g → IsRun k m x y → n < 4 → IsFirst g (shift_of k) x y n
-  → Stays k g (named_at k m x y n)
+    → Stays k g (named_at k m x y n)
 named_stays k m g x y n s p d r l f =
     let c : Coef = coef_at m x (y + n) in
     let negative : Bool = (coef_at g x (y + n)).negative in
@@ -209,7 +209,7 @@ named_stays k m g x y n s p d r l f =
     let t = r.left n l in
     let q : Cells = changed m x (y + n) (with_sign k negative) in
     let w : AreDue k q g = due_with k m g x (y + n) (with_sign k negative c) i d (sign_stays k c (coef_at g x (y + n)) s (due_at k m g x (y + n) i d t.planes) (f.on l))
-        (sign_clean k negative c s t.planes (clean_at k m x (y + n) d.clean)) (omega arith) in
+    (sign_clean k negative c s t.planes (clean_at k m x (y + n) d.clean)) (omega arith) in
     rows_stay k n q g x y s p (omega arith) w
     (λ j v. left_same k (coef_at m x (y + j)) (coef_at q x (y + j)) (above_with m x (y + n) (y + j) (with_sign k negative c) (omega arith) (omega arith)) (r.left j (omega arith)))
     f.off
@@ -233,12 +233,12 @@ run_stays k m g x y s p d r =
     let h = first_facts g (shift_of k) x y in
     stays_if k g (nat_lt f 4) (place_at k m x y) (Told (zeroed k 4 m x y))
     (λ e.
-      let l = four_or_less f e in
-      let P : ℕ → Type 0 = λ n. Stays k g (named_at k m x y n) in
-      subst P (sym (number_of_first f l)) (named_stays k m g x y f s p d r l h))
+    let l = four_or_less f e in
+    let P : ℕ → Type 0 = λ n. Stays k g (named_at k m x y n) in
+    subst P (sym (number_of_first f l)) (named_stays k m g x y f s p d r l h))
     (λ e.
-      let q = not_less f e (first_most (bit_at_place g (shift_of k) x y) (bit_at_place g (shift_of k) x (y + 1)) (bit_at_place g (shift_of k) x (y + 2)) (bit_at_place g (shift_of k) x (y + 3))) in
-      rows_stay k 4 m g x y s p r.rows d r.left (λ i v. h.off i (omega arith)))
+    let q = not_less f e (first_most (bit_at_place g (shift_of k) x y) (bit_at_place g (shift_of k) x (y + 1)) (bit_at_place g (shift_of k) x (y + 2)) (bit_at_place g (shift_of k) x (y + 3))) in
+    rows_stay k 4 m g x y s p r.rows d r.left (λ i v. h.off i (omega arith)))
 
 cleanup_stays : (k : Plane) (m g : Cells) (x y : ℕ) → IsScan k → IsIn m x y → AreDue k m g → Stays k g (cleanup_at k m x y)
 cleanup_stays k m g x y s i d =

@@ -1,5 +1,5 @@
 -- What a grid's answers make of a coefficient may still become the grid's.
-use Rattle.std.proofs.Common.{◌≡◌, ◌≢◌, ◌<◌, ◌≤◌, ◌+◌, ◌-◌, ◌*◌, ◌/◌, ◌%◌, ◌^◌, ◌==◌, ℕ, zero, suc, Bool, true, false, refl, sym, ap, ◌∙◌, arith, subst, if◌then◌else◌}
+use Rattle.std.proofs.Common.{◌≡◌, ◌≢◌, ◌≤◌, ◌+◌, ◌-◌, ◌*◌, ◌/◌, ◌%◌, ◌^◌, ◌==◌, ℕ, suc, Bool, true, false, refl, sym, ap, ◌∙◌, arith, subst}
 use Rattle.std.proofs.lemmas.Bool.Decides.{nat_tests}
 use Rattle.std.proofs.lemmas.Nat.{pow_pos, div-mul-add}
 use Rattle.std.proofs.Math.Nat.{zero-div, two-pow-succ}
@@ -7,7 +7,7 @@ use Rattle.jx_grid.specs.declared.coef.Coef.{Coef}
 use Rattle.jx_grid.specs.declared.question.Plane.{Plane}
 use Rattle.jx_grid.specs.Pass.{IsScan, shift_of, with_bit, with_sign}
 use Rattle.jx_passenc.proofs.PowerLemmas.{div_longer, multiple}
-use Rattle.jx_passenc.proofs.FrontLemmas.{IsBefore, IsClean, bit_in, low_of}
+use Rattle.jx_passenc.proofs.FrontLemmas.{IsBefore, bit_in, low_of}
 
 half_of : (g s : ℕ) → g / 2 ^ suc s ≡ g / 2 ^ s / 2
 half_of g s =

@@ -1,5 +1,5 @@
 -- Whole planes: where a grid answers that was decided in them all, the passes of any style make it.
-use Rattle.std.proofs.Common.{◌≡◌, ◌≢◌, ◌<◌, ◌≤◌, ◌+◌, ◌-◌, ◌*◌, ◌/◌, ◌%◌, ◌^◌, ◌==◌, ℕ, zero, suc, Bool, true, false, List, [], ◌∷◌, length, get_or, replicate, refl, sym, ap, ◌∙◌, arith, subst, inl, inr}
+use Rattle.std.proofs.Common.{◌≡◌, ◌≢◌, ◌<◌, ◌≤◌, ◌+◌, ◌-◌, ◌*◌, ◌/◌, ◌%◌, ◌^◌, ◌==◌, ℕ, zero, suc, Bool, true, false, List, [], ◌∷◌, length, get_or, refl, sym, ap, ◌∙◌, arith, subst, inl, inr}
 use Rattle.std.proofs.lemmas.Bool.Decides.{nat_tests}
 use Rattle.std.proofs.lemmas.Bool.{cases_eq}
 use Rattle.jx_grid.specs.declared.coef.Coef.{Coef}
@@ -17,7 +17,7 @@ use Rattle.jx_passenc.proofs.GridLemmas.{IsFront, AreClean}
 use Rattle.jx_passenc.proofs.LeafLemmas.{AllLeaves, leaves_told, leaves_more, followed_then, IsBack}
 use Rattle.jx_passenc.proofs.PassBackLemmas.{clean_more, one_scan, zeros_clean, zero_at, passes_back, read_join}
 use Rattle.jx_passenc.proofs.BackLemmas.{tree_of, opened_cells}
-use Rattle.jx_passenc.proofs.DoneLemmas.{IsDone, IsSettled, AreNeat}
+use Rattle.jx_passenc.proofs.DoneLemmas.{AreNeat}
 use Rattle.jx_passenc.proofs.FollowLemmas.{AreDue, place_stays}
 use Rattle.jx_passenc.proofs.PhaseLemmas.{IsAt, at_next, at_step, same_length, in_place, leaves_followed, AllSettled, AllDone, any_pass, refinement_pass, cleanup_pass, size_is}
 use Rattle.jx_passenc.proofs.ReadyLemmas.{which}
@@ -34,7 +34,7 @@ due_next k m v g t d b f =
 
 -- a pass where the grid answers
 scanned_stays : (pass : ℕ) (k : Plane) (w h count n : ℕ) (m g : Cells) → IsScan k → IsAt k w h m → AreDue k m g → n + count ≤ w * h
-  → IsFront k.planes (followed g (scanned pass k count n m)) g
+    → IsFront k.planes (followed g (scanned pass k count n m)) g
 scanned_stays pass k w h zero n m g s a d l = d.front
 scanned_stays pass k w h (suc count) n m g s a d l =
     let x : ℕ = scan_column m.width m.height n in
@@ -62,7 +62,7 @@ tree_is c w h pass m e f =
     ap (λ (n : ℕ). scanned pass (plane_at c pass) (n * h) 0 m) (sym e) ∙ ap (λ (n : ℕ). scanned pass (plane_at c pass) (m.width * n) 0 m) (sym f)
 
 later : (c : Coding) (w h pass : ℕ) (v : Cells) → IsAt (plane_at c pass) w h v → ((i : ℕ) → i < length v.coefs → (pass + 1 + 2) / 3 ≤ (get_or v.coefs i zero_coef).planes)
-  → IsAt (plane_at c (pass + 1)) w h v
+    → IsAt (plane_at c (pass + 1)) w h v
 later c w h pass v a f = record {
   width = a.width;
   height = a.height;
@@ -98,8 +98,8 @@ phase_next c w h pass m s p =
     let t : Asking Cells = scanned pass k (w * h) 0 m in
     let Q : Cells → Type 0 = Phase c w h (pass + 1) in
     let go : AllLeaves t Q =
-      elim (which (pass % 3 == 1)) [
-        inl e ↦ (
+    elim (which (pass % 3 == 1)) [
+      | inl e ↦ (
           let r = is_test (pass % 3) 1 e in
           leaves_more t (IsAt k w h) Q
           (λ v a. record {
@@ -109,7 +109,7 @@ phase_next c w h pass m s p =
           })
           (any_pass pass k w h m s p.here))
       | inr e ↦ elim (which (pass % 3 == 2)) [
-          inl f ↦ (
+        | inl f ↦ (
             let r = is_test (pass % 3) 2 f in
             let n : (pass + 2) / 3 ≡ (pass + 1 + 2) / 3 = omega arith in
             leaves_more t (λ v. IsAt k w h v × AllSettled k v) Q
@@ -128,13 +128,13 @@ phase_next c w h pass m s p =
               settled = λ z. absurd (not_test ((pass + 1) % 3) 0 (omega arith) z);
             })
             (cleanup_pass pass k w h m e f s p.here (p.settled (as_test (pass % 3) 0 r))))
-        ]
-      ] in
+      ]
+    ] in
     subst (λ (x : Asking Cells). AllLeaves x Q) (tree_is c w h pass m p.here.width p.here.height) go
 
 -- passes that are read
 pub phase_read : (c : Coding) (w h passes count pass : ℕ) (d : Decoding) → HasPasses c passes → pass + count ≤ passes → Phase c w h pass d.cells
-  → Phase c w h (pass + count) (read_from c count pass d).cells
+    → Phase c w h (pass + count) (read_from c count pass d).cells
 unfolding read_from
 phase_read c w h passes zero pass d b l p =
     let e : pass ≡ pass + 0 = omega arith in
@@ -156,8 +156,8 @@ pub record IsReached (c : Coding) (w h pass : ℕ) (v g : Cells) : Type 0 where
   pub front : IsFront c.planes v g
 
 pub phase_follow : (c : Coding) (w h passes count pass most : ℕ) (now g : Cells) → HasPasses c passes → pass + count ≤ passes → (pass + count + 1) / 3 + 1 ≤ most
-  → ((i : ℕ) → i < h * w → most ≤ (get_or g.coefs i zero_coef).planes) → IsReached c w h pass now g
-  → IsReached c w h (pass + count) (followed_from c g count pass now) g
+    → ((i : ℕ) → i < h * w → most ≤ (get_or g.coefs i zero_coef).planes) → IsReached c w h pass now g
+    → IsReached c w h (pass + count) (followed_from c g count pass now) g
 unfolding followed_from
 phase_follow c w h passes zero pass most now g b l q f r =
     let e : pass ≡ pass + 0 = omega arith in
@@ -175,7 +175,7 @@ phase_follow c w h passes (suc count) pass most now g b l q f r =
       more = λ i u. let m = f i (omega arith) in omega arith;
     } in
     let front : IsFront c.planes v g = subst (λ (t : Asking Cells). IsFront c.planes (followed g t) g) (tree_is c w h pass now r.phase.here.width r.phase.here.height)
-      (scanned_stays pass k w h (w * h) 0 now g s r.phase.here d (omega arith)) in
+    (scanned_stays pass k w h (w * h) 0 now g s r.phase.here d (omega arith)) in
     let e : pass + 1 + count ≡ pass + suc count = omega arith in
     subst (λ (n : ℕ). IsReached c w h n (followed_from c g count (pass + 1) v) g) e
     (phase_follow c w h passes count (pass + 1) most v g b (omega arith) (omega arith) f (record { phase = p; front = front }))
@@ -209,7 +209,7 @@ shown_by : (n e : ℕ) → n % 2 ^ e ≡ 0 → n ≢ 0 → n / 2 ^ e ≢ 0
 shown_by n e z h q = h (multiple n e z ∙ (ap (λ (x : ℕ). x * 2 ^ e) q ∙ zero_product (2 ^ e)))
 
 one_coef : (planes most : ℕ) (a b g : Coef) → IsClean planes most a → IsClean planes most b → most ≤ a.planes → most ≤ b.planes → IsBefore planes a g → IsBefore planes b g
-  → (a.bits ≡ 0 → a.negative ≡ false) → (b.bits ≡ 0 → b.negative ≡ false) → a ≡ b
+    → (a.bits ≡ 0 → a.negative ≡ false) → (b.bits ≡ 0 → b.negative ≡ false) → a ≡ b
 one_coef planes most a b g ca cb la lb fa fb na nb =
     let da = ca.decided in
     let db = cb.decided in
@@ -220,11 +220,11 @@ one_coef planes most a b g ca cb la lb fa fb na nb =
     let q : a.bits ≡ b.bits = multiple a.bits s ca.low ∙ (ap (λ (n : ℕ). n * 2 ^ s) (sym fa.bits ∙ tb) ∙ sym (multiple b.bits s zb)) in
     coef_same a b
     (elim (cases_eq a.bits 0) [
-      inl z ↦ na z ∙ sym (nb (sym q ∙ z))
-    | inr n ↦ (
-        let u = shown_by a.bits s ca.low n in
-        let v : b.bits / 2 ^ (planes - b.planes) ≢ 0 = shown_by b.bits (planes - b.planes) cb.low (λ w. n (q ∙ w)) in
-        sym (fa.sign u) ∙ fb.sign v)
+      | inl z ↦ na z ∙ sym (nb (sym q ∙ z))
+      | inr n ↦ (
+          let u = shown_by a.bits s ca.low n in
+          let v : b.bits / 2 ^ (planes - b.planes) ≢ 0 = shown_by b.bits (planes - b.planes) cb.low (λ w. n (q ∙ w)) in
+          sym (fa.sign u) ∙ fb.sign v)
     ])
     q (sym e)
 
@@ -246,7 +246,7 @@ cells_same a b w h c =
 
 -- after a whole number of planes two grids that may become one are the same
 one_end : (c d : Coding) (w h pass : ℕ) (u v g : Cells) → d.planes ≡ c.planes → pass % 3 ≡ 1 → Phase c w h pass u → Phase d w h pass v
-  → IsFront c.planes u g → IsFront d.planes v g → u ≡ v
+    → IsFront c.planes u g → IsFront d.planes v g → u ≡ v
 one_end c d w h pass u v g e r p q f j =
     let zu = size_is (plane_at c pass) w h u p.here in
     let zv = size_is (plane_at d pass) w h v q.here in
@@ -256,15 +256,15 @@ one_end c d w h pass u v g e r p q f j =
     let fv : IsFront c.planes v g = subst (λ (x : ℕ). IsFront x v g) e j in
     cells_same u v (p.here.width ∙ sym q.here.width) (p.here.height ∙ sym q.here.height)
     (list_same u.coefs v.coefs (zu ∙ sym zv)
-      (λ i l.
-        let a = p.here.least i l in
-        let b = q.here.least i (omega arith) in
-        one_coef c.planes ((pass + 1) / 3 + 1) (get_or u.coefs i zero_coef) (get_or v.coefs i zero_coef) (get_or g.coefs i zero_coef)
-          (p.clean.at i) (cv.at i) (omega arith) (omega arith) (f.at i) (fv.at i) (p.here.neat i) (q.here.neat i)))
+    (λ i l.
+    let a = p.here.least i l in
+    let b = q.here.least i (omega arith) in
+    one_coef c.planes ((pass + 1) / 3 + 1) (get_or u.coefs i zero_coef) (get_or v.coefs i zero_coef) (get_or g.coefs i zero_coef)
+    (p.clean.at i) (cv.at i) (omega arith) (omega arith) (f.at i) (fv.at i) (p.here.neat i) (q.here.neat i)))
 
 -- what more passes make of a block
 fronts : (width height : ℕ) (c : Coding) (segments : List (List ℕ)) (passes first : ℕ) → first ≤ passes → HasPasses c passes
-  → IsFront c.planes (decoded width height c segments first).cells (decoded width height c segments passes).cells
+    → IsFront c.planes (decoded width height c segments first).cells (decoded width height c segments passes).cells
 unfolding decoded
 fronts width height c segments passes first l h =
     let start : Decoding = at_start width height segments in
@@ -277,7 +277,7 @@ fronts width height c segments passes first l h =
     subst (λ (x : Decoding). IsFront c.planes v.cells x.cells) (sym j) b.front
 
 phase_decoded : (width height : ℕ) (c : Coding) (segments : List (List ℕ)) (passes first : ℕ) → first ≤ passes → HasPasses c passes
-  → Phase c width height (0 + first) (decoded width height c segments first).cells
+    → Phase c width height (0 + first) (decoded width height c segments first).cells
 unfolding decoded
 phase_decoded width height c segments passes first l h =
     phase_read c width height passes first 0 (at_start width height segments) h (omega arith) (zeros_at c width height)
@@ -293,7 +293,7 @@ pub record IsMadeAgain (width height : ℕ) (c d : Coding) (segments : List (Lis
   pub cells : followed_from d (decoded width height c segments passes).cells first 0 (zeros width height) ≡ (decoded width height c segments first).cells
 
 pub made_again : (width height : ℕ) (c d : Coding) (segments : List (List ℕ)) (passes first : ℕ) → first ≤ passes → passes % 3 ≡ 1 → first % 3 ≡ 1
-  → HasPasses c passes → AreOfOneBlock c d → IsMadeAgain width height c d segments passes first
+    → HasPasses c passes → AreOfOneBlock c d → IsMadeAgain width height c d segments passes first
 made_again width height c d segments passes first l r t h e =
     let g : Cells = (decoded width height c segments passes).cells in
     let u : Cells = (decoded width height c segments first).cells in
@@ -306,13 +306,13 @@ made_again width height c d segments passes first l r t h e =
     let w = phase_decoded width height c segments passes passes (omega arith) h in
     let size = size_is (plane_at c (0 + passes)) width height g w.here in
     let z0 : IsFront c.planes (zeros width height) g =
-        subst (λ (x : Cells). IsFront c.planes x g) (none_read width height c segments) (fronts width height c segments passes 0 (omega arith) h) in
+    subst (λ (x : Cells). IsFront c.planes x g) (none_read width height c segments) (fronts width height c segments passes 0 (omega arith) h) in
     let z : IsFront d.planes (zeros width height) g = subst (λ (x : ℕ). IsFront x (zeros width height) g) (sym q) z0 in
     let v = phase_follow d width height passes first 0 ((passes + 2) / 3) (zeros width height) g hd (omega arith) (omega arith)
-        (λ i b. let y = w.here.least i (omega arith) in omega arith) (record { phase = zeros_at d width height; front = z }) in
+    (λ i b. let y = w.here.least i (omega arith) in omega arith) (record { phase = zeros_at d width height; front = z }) in
     record {
       width_is = w.here.width;
       height_is = w.here.height;
       cells = sym (one_end c d width height (0 + first) u (followed_from d g first 0 (zeros width height)) g q (omega arith) p v.phase
-        (fronts width height c segments passes first l h) v.front);
+          (fronts width height c segments passes first l h) v.front);
     }

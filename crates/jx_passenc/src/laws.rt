@@ -64,7 +64,7 @@ pub fn recoding_keeps_whole_planes()
     ensures { (width : ℕ) → (height : ℕ) → (c : Coding) → (d : Coding) → (segments : List (List ℕ)) → (passes : ℕ) → (first : ℕ) →
         first ≤ passes → EndsPlane passes → EndsPlane first → HasPasses c passes → AreOfOneBlock c d →
         (decoded width height d (written d (decoded width height c segments passes).cells passes) first).cells
-            ≡ (decoded width height c segments first).cells }
+        ≡ (decoded width height c segments first).cells }
 {
     written_is_read_back();
     decoded_fits();
