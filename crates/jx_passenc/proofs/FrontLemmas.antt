@@ -59,7 +59,7 @@ sign_before k negative c s u h z =
       sign = λ m. absurd (m (ap (λ (x : ℕ). x / 2 ^ (k.planes - c.planes)) z ∙ zero-div (2 ^ (k.planes - c.planes))));
     }
 
-low_of : (planes number : ℕ) → planes - (number + 1) ≡ planes - 1 - number
+pub low_of : (planes number : ℕ) → planes - (number + 1) ≡ planes - 1 - number
 low_of planes number = omega arith
 
 pub zero_clean : (k : Plane) (c : Coef) → IsClean k.planes (k.number + 1) c → IsClean k.planes (k.number + 1) (with_bit k false c)

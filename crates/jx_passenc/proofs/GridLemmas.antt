@@ -45,7 +45,7 @@ index_in g x y s i =
     omega arith
 
 -- a change of one place
-set_at : (P : Coef → Type 0) (xs : List Coef) (i : ℕ) (c : Coef) → P c → ((j : ℕ) → P (get_or xs j zero_coef)) → i < length xs
+pub set_at : (P : Coef → Type 0) (xs : List Coef) (i : ℕ) (c : Coef) → P c → ((j : ℕ) → P (get_or xs j zero_coef)) → i < length xs
     → (j : ℕ) → P (get_or (set xs i c) j zero_coef)
 set_at P xs i c here others l j =
     elim (cases_eq j i) [

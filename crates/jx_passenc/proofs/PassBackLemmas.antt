@@ -21,7 +21,7 @@ use Rattle.jx_passenc.proofs.RunBackLemmas.{cleanup_back}
 use Rattle.jx_passenc.proofs.BackLemmas.{tree_of, opened_cells}
 use Rattle.jx_base.specs.Passes.{is_causal}
 
-place_back : (pass : ℕ) (k : Plane) (m : Cells) (x y : ℕ) → IsScan k → IsIn m x y → AreClean k.planes (k.number + 1) m → PassBack k m (pass_at pass k m x y)
+pub place_back : (pass : ℕ) (k : Plane) (m : Cells) (x y : ℕ) → IsScan k → IsIn m x y → AreClean k.planes (k.number + 1) m → PassBack k m (pass_at pass k m x y)
 place_back pass k m x y s i a =
     if_back k.planes (k.number + 1) m (pass % 3 == 1) (significance_at k m x y) (if pass % 3 == 2 then refinement_at k m x y else cleanup_at k m x y)
     (λ e. significance_back k m x y s i a)
@@ -64,7 +64,7 @@ wider planes fewer more c l h = let d = h.decided in record { decided = omega ar
 pub clean_more : (planes fewer more : ℕ) (g : Cells) → fewer ≤ more → AreClean planes fewer g → AreClean planes more g
 clean_more planes fewer more g l a = record { whole = a.whole; at = λ i. wider planes fewer more (get_or g.coefs i zero_coef) l (a.at i) }
 
-one_scan : (c : Coding) (pass passes : ℕ) → HasPasses c passes → pass < passes → IsScan (plane_of c.band (is_causal c.style) c.planes pass)
+pub one_scan : (c : Coding) (pass passes : ℕ) → HasPasses c passes → pass < passes → IsScan (plane_of c.band (is_causal c.style) c.planes pass)
 one_scan c pass passes h l = let f = h.few in let s = h.some in record { number = omega arith; most = h.most }
 
 -- passes that are read
@@ -95,7 +95,7 @@ passes_back c passes (suc count) pass d h l a =
           ap (λ (x : Cells). followed_from c g count (pass + 1) x) (b.follows g (front_next c.planes after.cells end g r.front f)) ∙ r.follows g f;
     }
 
-zero_at : (n i : ℕ) → get_or (replicate n zero_coef) i zero_coef ≡ zero_coef
+pub zero_at : (n i : ℕ) → get_or (replicate n zero_coef) i zero_coef ≡ zero_coef
 zero_at zero i = refl
 zero_at (suc n) zero = refl
 zero_at (suc n) (suc i) = zero_at n i

@@ -26,7 +26,7 @@ pub record Started (style pass : ℕ) (x : MqContexts) (begun : List MqGiven) (p
   pub gives : Gives (fresh_reading (raw_pass style pass) (first_segment segments) x) begun
   pub ready : Ready style pass passes (read_all (fresh_reading (raw_pass style pass) (first_segment segments) x) begun) (drop 1 segments)
 
-which : (b : Bool) → (b ≡ true) ⊎ (b ≡ false)
+pub which : (b : Bool) → (b ≡ true) ⊎ (b ≡ false)
 which true = inl refl
 which false = inr refl
 

@@ -13,7 +13,7 @@ use Rattle.jx_passenc.proofs.LeafLemmas.{AllLeaves, IsBack}
 use Rattle.jx_passenc.proofs.StepLemmas.{and_left, and_right, not_true, no_bits, no_less, clean_at, if_back, PassBack, usual_back}
 
 -- a coefficient that is left to the cleanup pass and insignificant
-record IsLeft (k : Plane) (c : Coef) : Type 0 where
+pub record IsLeft (k : Plane) (c : Coef) : Type 0 where
   pub bits : c.bits ≡ 0
   pub planes : c.planes ≤ k.number
 
@@ -29,7 +29,7 @@ quiet_left k g x y h =
     }
 
 -- the four places of a run
-abbrev AreLeft : Plane → Cells → ℕ → ℕ → Type 0
+abbrev pub AreLeft : Plane → Cells → ℕ → ℕ → Type 0
 AreLeft k g x y = (n : ℕ) → n < 4 → IsLeft k (coef_at g x (y + n))
 
 left_at : (k : Plane) (g : Cells) (x y n : ℕ) → is_quiet k g x y ≡ true → is_quiet k g x (y + 1) ≡ true → is_quiet k g x (y + 2) ≡ true
@@ -40,14 +40,14 @@ left_at k g x y (suc (suc zero)) a b c d l = quiet_left k g x (y + 2) c
 left_at k g x y (suc (suc (suc zero))) a b c d l = quiet_left k g x (y + 3) d
 left_at k g x y (suc (suc (suc (suc n)))) a b c d l = absurd (omega arith)
 
-record IsRun (k : Plane) (g : Cells) (x y : ℕ) : Type 0 where
+pub record IsRun (k : Plane) (g : Cells) (x y : ℕ) : Type 0 where
   pub rows : y + 4 ≤ g.height
   pub left : AreLeft k g x y
 
-low_enough : (a b : ℕ) → nat_le a b ≡ true → a ≤ b
+pub low_enough : (a b : ℕ) → nat_le a b ≡ true → a ≤ b
 low_enough a b h = grind (arith, nat_tests)
 
-is_one : (k : Plane) (g : Cells) (x y : ℕ) → is_run k g x y ≡ true → IsRun k g x y
+pub is_one : (k : Plane) (g : Cells) (x y : ℕ) → is_run k g x y ≡ true → IsRun k g x y
 is_one k g x y h =
     let t : Bool = y % 4 == 0 in
     let w : Bool = nat_le (y + 4) g.height in
@@ -65,11 +65,11 @@ is_one k g x y h =
     }
 
 -- rows that are decided to be 0
-record AreZeroed (k : Plane) (count : ℕ) (g : Cells) (x y : ℕ) : Type 0 where
+pub record AreZeroed (k : Plane) (count : ℕ) (g : Cells) (x y : ℕ) : Type 0 where
   pub front : IsFront k.planes g (zeroed k count g x y)
   pub clean : AreClean k.planes (k.number + 1) (zeroed k count g x y)
 
-zero_rows : (k : Plane) (count : ℕ) (g : Cells) (x y : ℕ) → AreClean k.planes (k.number + 1) g → x < g.width → y + count ≤ g.height → AreZeroed k count g x y
+pub zero_rows : (k : Plane) (count : ℕ) (g : Cells) (x y : ℕ) → AreClean k.planes (k.number + 1) g → x < g.width → y + count ≤ g.height → AreZeroed k count g x y
 zero_rows k zero g x y a p q = record { front = front_same k.planes g; clean = a }
 zero_rows k (suc n) g x y a p q =
     let c : Coef = coef_at g x y in
@@ -81,7 +81,7 @@ zero_rows k (suc n) g x y a p q =
       clean = r.clean;
     }
 
-left_same : (k : Plane) (c d : Coef) → d ≡ c → IsLeft k c → IsLeft k d
+pub left_same : (k : Plane) (c d : Coef) → d ≡ c → IsLeft k c → IsLeft k d
 left_same k c d e h = subst (λ (x : Coef). IsLeft k x) (sym e) h
 
 zero_seen : (k : Plane) (count i : ℕ) (g : Cells) (x y : ℕ) (h : Cells) → IsScan k → AreClean k.planes (k.number + 1) g → x < g.width → y + count ≤ g.height
@@ -136,13 +136,13 @@ first_is g s x y (suc (suc (suc zero))) l h t =
     rw (a, h 1 (omega arith), h 2 (omega arith), t) refl
 first_is g s x y (suc (suc (suc (suc n)))) l h t = absurd (omega arith)
 
-record IsNumber (h l : Bool) : Type 0 where
+pub record IsNumber (h l : Bool) : Type 0 where
   pub few : number_in_run h l < 4
   pub any : nat_lt (number_in_run h l) 4 ≡ true
   pub high : nat_le 2 (number_in_run h l) ≡ h
   pub low : (number_in_run h l % 2 == 1) ≡ l
 
-number_is : (h l : Bool) → IsNumber h l
+pub number_is : (h l : Bool) → IsNumber h l
 number_is true true = record { few = lit< tt; any = refl; high = refl; low = refl }
 number_is true false = record { few = lit< tt; any = refl; high = refl; low = refl }
 number_is false true = record { few = lit< tt; any = refl; high = refl; low = refl }
@@ -167,7 +167,7 @@ record AreSeen (k : Plane) (m : Cells) (x y n : ℕ) (negative : Bool) (g : Cell
   pub first : first_of_four g (shift_of k) x y ≡ n
   pub sign : (coef_at g x (y + n)).negative ≡ negative
 
-abbrev named_cells : Plane → Cells → ℕ → ℕ → ℕ → Bool → Cells
+abbrev pub named_cells : Plane → Cells → ℕ → ℕ → ℕ → Bool → Cells
 named_cells k m x y n negative = zeroed k n (changed m x (y + n) (with_sign k negative)) x y
 
 record AreNamed (k : Plane) (m : Cells) (x y n : ℕ) (negative : Bool) : Type 0 where

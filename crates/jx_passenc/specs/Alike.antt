@@ -1,5 +1,5 @@
 -- What two styles must share so that the passes of one make what those of the other made.
-use Rattle.std.specs.Prelude.{ℕ, ◌≡◌, ◌≤◌, ◌-◌, ◌*◌}
+use Rattle.std.specs.Prelude.{ℕ, ◌≡◌, ◌≤◌, ◌-◌, ◌*◌, ◌%◌}
 use Rattle.jx_grid.specs.Reading.{Coding}
 use Rattle.jx_base.specs.Passes.{is_causal}
 
@@ -14,3 +14,12 @@ pub record AreAlike (c d : Coding) : Type 0 where
   pub band : d.band ≡ c.band
   pub causal : is_causal d.style ≡ is_causal c.style
   pub planes : d.planes ≡ c.planes
+
+-- one block, in any two styles
+pub record AreOfOneBlock (c d : Coding) : Type 0 where
+  pub band : d.band ≡ c.band
+  pub planes : d.planes ≡ c.planes
+
+-- so many passes end with a plane (D.3)
+abbrev pub EndsPlane : ℕ → Type 0
+EndsPlane passes = passes % 3 ≡ 1

@@ -4,7 +4,7 @@ ghost use Rattle.std.specs.Prelude.{◌≡◌, ◌≤◌, ℕ, List, None};
 ghost use Rattle.jx_grid.specs.Cells.{Cells};
 ghost use Rattle.jx_grid.specs.Reading.{Coding, zeros, decoded};
 ghost use Rattle.jx_grid.specs.Needs.{followed_from, written, Fits};
-ghost use Rattle.jx_passenc.specs.Alike.{HasPasses, AreAlike};
+ghost use Rattle.jx_passenc.specs.Alike.{HasPasses, AreAlike, AreOfOneBlock, EndsPlane};
 
 /// The segments that are written for a grid are read back: the first passes of them give what the
 /// grid calls for in these passes, every segmentation symbol is right, and where the grid fits the
@@ -46,4 +46,27 @@ pub fn recoding_keeps_coefficients()
 {
     written_is_read_back();
     decoded_fits();
+}
+
+/// Coefficients that were decoded by passes which end with a plane fit the same passes in every
+/// style, whatever its causal bit: where they answer, the first passes make again what was decoded in
+/// these, where these end with a plane too.
+pub fn whole_planes_fit()
+    ensures first { (width : ℕ) → (height : ℕ) → (c : Coding) → (d : Coding) → (segments : List (List ℕ)) → (passes : ℕ) → (first : ℕ) →
+        first ≤ passes → EndsPlane passes → EndsPlane first → HasPasses c passes → AreOfOneBlock c d →
+        followed_from d (decoded width height c segments passes).cells first 0 (zeros width height) ≡ (decoded width height c segments first).cells }
+    ensures fits { (width : ℕ) → (height : ℕ) → (c : Coding) → (d : Coding) → (segments : List (List ℕ)) → (passes : ℕ) →
+        EndsPlane passes → HasPasses c passes → AreOfOneBlock c d → Fits d (decoded width height c segments passes).cells passes }
+{}
+
+/// Recoding whole planes keeps each coefficient in every style.
+pub fn recoding_keeps_whole_planes()
+    ensures { (width : ℕ) → (height : ℕ) → (c : Coding) → (d : Coding) → (segments : List (List ℕ)) → (passes : ℕ) → (first : ℕ) →
+        first ≤ passes → EndsPlane passes → EndsPlane first → HasPasses c passes → AreOfOneBlock c d →
+        (decoded width height d (written d (decoded width height c segments passes).cells passes) first).cells
+        ≡ (decoded width height c segments first).cells }
+{
+    written_is_read_back();
+    decoded_fits();
+    whole_planes_fit();
 }
