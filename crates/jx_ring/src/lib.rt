@@ -13,3 +13,6 @@ mod view;
 pub use ring::RingStore;
 pub use rule::Turns;
 pub use view::{Pass, Place, RingView, Taken};
+
+#[cfg(test)]
+mod tests;
