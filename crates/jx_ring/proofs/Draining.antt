@@ -157,11 +157,12 @@ module _ {V : Type 0} (p : Setup) (workers : ℕ) (Ok : ℕ → Named V → Type
 
   pub ended_at : (s : State (Place V) RingView) (r : Ring p workers Ok s) (id : ℕ) (v : RingView) (t : Vec (Taped (Named V))) (l : List Taken) → get_elem? s.views id ≡ some v → ¬ (v.stands ≡ []) → v.drains ≡ Some l
       → map taken t.items ≡ l → TapeOk p Ok t.items → length p.sizes ≤ vec_capacity t
-      → Ring p workers Ok record { words = set s.words 1 (2 * v.drained + 2); homes = set (set s.homes p.window (some (Tape t))) (v.drained % p.window) (some Empty); views = set s.views id (ends v) }
+      → (q : Ring p workers Ok record { words = set s.words 1 (2 * v.drained + 2); homes = set (set s.homes p.window (some (Tape t))) (v.drained % p.window) (some Empty); views = set s.views id (ends v) })
+      × (q.drained ≡ r.drained + 1) × (q.next ≡ r.next) × (q.phase ≡ put r.phase (r.drained + p.window) free) × (q.tape ≡ t.items)
   ended_at s r id v t l at live drains list ok room =
       let P = r.placed in let d : ℕ = r.drained in let n : ℕ = r.next in let ph : ℕ → Phase V = r.phase in let W : ℕ = p.window in
       let known = P.seats id v at in let mine = known.drains l drains in let at_d : v.drained ≡ d = mine.0 in let e : Taped (Named V) = mine.1.0 in let is : ph d ≡ leaving id e = mine.1.1 in let l_is = mine.1.2 in
-      subst (λ (k : ℕ). Ring p workers Ok record { words = set s.words 1 (2 * k + 2); homes = set (set s.homes W (some (Tape t))) (k % W) (some Empty); views = set s.views id (ends v) }) (sym at_d) (
+      subst (λ (k : ℕ). (q : Ring p workers Ok record { words = set s.words 1 (2 * k + 2); homes = set (set s.homes W (some (Tape t))) (k % W) (some Empty); views = set s.views id (ends v) }) × (q.drained ≡ r.drained + 1) × (q.next ≡ r.next) × (q.phase ≡ put r.phase (r.drained + p.window) free) × (q.tape ≡ t.items)) (sym at_d) (
       let w : RingView = ends v in let ph' : ℕ → Phase V = put ph (d + W) free in
       let pos = P.some_slot in let wide = P.wide in let slots = P.slots in let mid = P.mid in let high = P.high in let near = P.near in let low = P.low in
       let cell = P.cells d (omega arith) (omega (arith, pos)) in let in_w = mod_below d W pos in
@@ -183,7 +184,7 @@ module _ {V : Type 0} (p : Setup) (workers : ℕ) (Ok : ℕ → Named V → Type
         lies = ap (get_elem? hs') slot ∙ set_here hs (d % W) (some Empty) (omega (arith, slots, in_w, long_hs));
         phase = near;
       } in
-      record {
+      (record {
         drained = d + 1;
         next = n;
         phase = ph';
@@ -236,7 +237,7 @@ module _ {V : Type 0} (p : Setup) (workers : ℕ) (Ok : ℕ → Named V → Type
             let else_ = terms_else F ph (d + W) free (d + 1) (n - (d + 1)) (inr (let z : d + 1 + (n - (d + 1)) ≤ d + W = omega (arith, dn, near) in z)) in
             omega (arith, sum, was, grown, push, less, head, else_));
         roster = roster_set workers (odd (ph d)) (odd (ph' (d + 1))) s.views id v w r.roster at refl refl (λ q. absurd (live q)) (let z = ap draining drains in let y = ap odd is in omega (arith, odd0, y, z));
-      })
+      }, refl, refl, refl, refl))
 
   -- the store of the even value, which gives the tape and the head's slot home
   pub ends_drain : (slots id x : ℕ) (me : Seated V) (t : Vec (Taped (Named V))) (more : List (ℕ × Place V)) → x ≡ 2 * me.0.drained + 2 → ¬ (me.0.stands ≡ []) → me.0.drains ≡ Some (map taken t.items)
@@ -247,6 +248,6 @@ module _ {V : Type 0} (p : Setup) (workers : ℕ) (Ok : ℕ → Named V → Type
     chain gives gives,
     (tt, tt),
     subst (λ (y : ℕ × List (ℕ × Place V)). Ring p workers Ok (stepped s 1 y.0 id y.1 (ends me.0) (chain gives gives))) (λ z. (sym what z, sym out z))
-        (ended_at s r id me.0 t (map taken t.items) at live drains refl ok room),
+        (ended_at s r id me.0 t (map taken t.items) at live drains refl ok room).0,
     refl,
   )

@@ -1,4 +1,0 @@
-use Rattle.jx_ring.proofs.tests.by_threads.Given as goal
-
-abbrev pub ghosts-shared-N-Bounds : goal.ghosts-shared-N-Bounds
-ghosts-shared-N-Bounds g a = record { setup = record { first = 0; sizes = a.sizes.now; window = a.limits.0; most = a.limits.1 }; workers = a.limits.2; jobs = a.jobs.now }
