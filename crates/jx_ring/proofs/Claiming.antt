@@ -72,7 +72,7 @@ module _ {V : Type 0} (p : Setup) (workers : ℕ) (Ok : ℕ → Named V → Type
         drained = base.drained;
         next = omega arith;
         committed = base.committed;
-        holds = λ x e. (let same = same_Some t x e in subst (λ (y : Taken). (d ≤ y.number) × (y.number < n + 1) × (put ph n c' y.number ≡ held id y)) same (mid, omega arith, put_here ph n c'));
+        holds = λ x e. (let same = same_Some t x e in subst (λ (y : Taken). (d ≤ y.number) × (y.number < n + 1) × (put ph n c' y.number ≡ held id y) × (y.worker ≡ v.worker)) same (mid, omega arith, put_here ph n c', refl));
         drains = base.drains;
         finished = base.finished;
       } in (

@@ -147,6 +147,7 @@ module _ {V : Type 0} (p : Setup) (workers : ℕ) (Ok : ℕ → Named V → Type
               let ne : ¬ (t.number ≡ d) = λ q. (let a = ap odd (sym is ∙ ap ph (sym q) ∙ h.2) in omega (arith, a)) in omega (arith, z, ne)),
           h.1,
           same t.number h.1 ∙ h.2,
+          h.3,
         ));
         drains = λ l e. (let h = i.drains l e in absurd (other (let a = ap holder (sym h.1.1 ∙ is) in omega (arith, a))));
         finished = i.finished;
@@ -223,6 +224,7 @@ module _ {V : Type 0} (p : Setup) (workers : ℕ) (Ok : ℕ → Named V → Type
                       let ne : ¬ (u.number ≡ d) = λ o. (let a = ap odd (sym is ∙ ap ph (sym o) ∙ h.2) in omega (arith, a)) in omega (arith, y0, ne)),
                   h.1,
                   same u.number (λ o. let a = h.1 in omega (arith, o, near, a)) ∙ h.2,
+                  h.3,
                 ));
                 drains = λ m z. absurd (none-some m z);
                 finished = known.finished;
