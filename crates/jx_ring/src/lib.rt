@@ -16,3 +16,5 @@ pub use ring::RingStore;
 pub use rule::Turns;
 pub use view::{Pass, Place, RingView, Taken};
 
+#[cfg(test)]
+mod tests;
