@@ -1,16 +1,15 @@
 -- Each step of the ring that changes what it shows is an event of the store machine.
-use Rattle.std.proofs.Common.{◌≡◌, ◌≢◌, ℕ, zero, suc, ◌+◌, ◌-◌, ◌%◌, ◌<◌, ◌≤◌, ◌⊎◌, ◌==◌, nat_le, nat_lt, Bool, true, false, cond, ◌&&◌, ◌||◌, List, [], ◌∷◌, ◌++◌, map, refl, sym, ap, subst, ◌∙◌, inl, inr, arith}
+use Rattle.std.proofs.Common.{◌≡◌, ℕ, ◌+◌, ◌-◌, ◌<◌, ◌≤◌, ◌⊎◌, ◌==◌, nat_le, nat_lt, Bool, true, false, cond, ◌&&◌, ◌||◌, List, [], ◌∷◌, ◌++◌, map, refl, sym, ap, ◌∙◌, inl, inr, arith}
 use Rattle.std.specs.Prelude.{Option, Some, None, option_map}
 use Rattle.std.proofs.Math.Path.{fun_ext}
 use Rattle.std.proofs.lemmas.Bool.{cases_eq, cases_lt}
 use Rattle.std.proofs.lemmas.Bool.Decides.{nat_tests}
 use Rattle.jx_store.specs.declared.event.Event.TheVariants.{Claim, Commit, Drain}
-use Rattle.jx_store.specs.declared.event.Reply.{Reply}
 use Rattle.jx_store.specs.declared.event.Reply.TheVariants.{Claimed, Committed, Drained}
 use Rattle.jx_store.specs.declared.event.Taped.{Taped}
 use Rattle.jx_store.specs.declared.work.Named.{Named}
 use Rattle.jx_store.specs.Setup.{Setup, load, end_of, Within}
-use Rattle.jx_store.specs.Machine.{Claimant, Done, State as Store, put as sets, is_full, claimed, committed, drained_one, does}
+use Rattle.jx_store.specs.Machine.{Claimant, Done, State as Store, put as sets, is_full, does}
 use Rattle.jx_store.proofs.Changes.{does_claim, does_commit, does_drain}
 use Rattle.jx_ring.specs.declared.view.Taken.{Taken}
 use Rattle.jx_ring.specs.Claims.{put}

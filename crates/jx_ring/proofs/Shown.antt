@@ -1,24 +1,18 @@
 -- The state that a ring shows after each of its events, and how often a number stands in the lists.
-use Rattle.std.proofs.Common.{◌≡◌, ◌≢◌, ℕ, zero, suc, ◌+◌, ◌-◌, ◌*◌, ◌%◌, ◌<◌, ◌≤◌, ◌⊎◌, ◌==◌, nat_le, nat_lt, Bool, true, false, cond, ◌&&◌, List, [], ◌∷◌, ◌++◌, map, length, refl, sym, ap, subst, ◌∙◌, inl, inr, arith}
-use Rattle.std.specs.Prelude.{Option, Some, None}
+use Rattle.std.proofs.Common.{◌≡◌, ℕ, zero, suc, ◌+◌, ◌-◌, ◌<◌, ◌≤◌, ◌==◌, nat_le, nat_lt, cond, ◌&&◌, List, [], ◌∷◌, map, length, refl, ap, subst, ◌∙◌, inl, inr, arith}
 use Rattle.std.specs.List.{sum_by}
 use Rattle.std.proofs.lemmas.Bool.{cases_lt}
 use Rattle.std.proofs.lemmas.Bool.Decides.{nat_tests}
 use Rattle.std.proofs.lemmas.List.Sums.{sum_by-cons}
 use mathlib.Core.Option.{some}
 use lib.ListN.{get_elem?}
-use Rattle.atomic_table.specs.Table.{State}
-use Rattle.jx_store.specs.declared.event.Event.TheVariants.{Claim, Commit, Drain}
 use Rattle.jx_store.specs.declared.event.Taped.{Taped}
 use Rattle.jx_store.specs.declared.work.Named.{Named}
-use Rattle.jx_store.specs.Setup.{Setup, end_of}
-use Rattle.jx_store.specs.Machine.{State as Store, does}
+use Rattle.jx_store.specs.Setup.{Setup}
 use Rattle.jx_ring.specs.declared.view.Taken.{Taken}
-use Rattle.jx_ring.specs.declared.view.RingView.{RingView}
-use Rattle.jx_ring.specs.declared.view.Place.{Place}
-use Rattle.jx_ring.specs.Claims.{claims_of, taken, stretch, put}
-use Rattle.jx_ring.specs.Rule.{Phase, free, held, parked, leaving, claim_in, EntryOk, TapeOk, InPhase, Ring}
-use Rattle.jx_ring.specs.Shows.{shown, shows, but_seen}
+use Rattle.jx_ring.specs.Claims.{taken, stretch, put}
+use Rattle.jx_ring.specs.Rule.{Phase, free, held, parked, leaving, claim_in, InPhase}
+use Rattle.jx_ring.specs.Shows.{shown, but_seen}
 use Rattle.jx_ring.specs.Laws.{is_number, ClaimsStandOnce, ClaimIsEvent, CommitIsEvent, DrainIsEvent}
 use Rattle.jx_ring.proofs.Counts.{stretch_same, stretch_first}
 use Rattle.jx_ring.proofs.Claiming.{mine}

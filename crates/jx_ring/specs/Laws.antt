@@ -1,5 +1,5 @@
 -- What the rule says of claims, and of the store machine.
-use Rattle.std.specs.Prelude.{◌≡◌, ◌≢◌, ℕ, ◌+◌, ◌*◌, ◌%◌, ◌<◌, ◌≤◌, nat_le, nat_lt, ◌==◌, ◌&&◌, cond, List, [], ◌∷◌, ◌++◌, map, length, Option, Some, None, slice_set, vec_capacity}
+use Rattle.std.specs.Prelude.{◌≡◌, ◌≢◌, ℕ, ◌+◌, ◌*◌, ◌%◌, ◌<◌, ◌≤◌, nat_le, nat_lt, ◌==◌, ◌&&◌, cond, List, [], ◌∷◌, ◌++◌, map, length, Some, None, slice_set, vec_capacity}
 use Rattle.std.specs.List.{sum_by}
 use Rattle.std.specs.Global.{Vec}
 use mathlib.Core.Option.{some}

@@ -1,23 +1,13 @@
 -- What a ring shows of the store machine.
-use Rattle.std.specs.Prelude.{◌≡◌, ◌≢◌, ℕ, ◌+◌, ◌%◌, ◌<◌, ◌≤◌, nat_le, nat_lt, ◌==◌, ◌&&◌, cond, List, [], ◌∷◌, map, Option, Some, None, option_map}
-use Rattle.std.specs.List.{sum_by}
-use mathlib.Core.Option as maybe
-use mathlib.Core.Option.{some}
-use lib.ListN.{get_elem?}
-use Rattle.atomic_table.specs.Table.{State, takes, stepped}
-use Rattle.jx_store.specs.declared.event.Event.TheVariants.{Claim, Commit, Drain}
-use Rattle.jx_store.specs.declared.event.Reply.TheVariants.{Claimed, Committed, Drained}
+use Rattle.std.specs.Prelude.{ℕ, nat_le, nat_lt, ◌&&◌, cond, List, map, Option, Some, None, option_map}
+use Rattle.atomic_table.specs.Table.{State}
 use Rattle.jx_store.specs.declared.event.Taped.{Taped}
 use Rattle.jx_store.specs.declared.work.Named.{Named}
-use Rattle.jx_store.specs.Setup.{Setup, end_of, Within}
-use Rattle.jx_store.specs.Machine.{Claimant, Done, State as Store, does}
-use Rattle.jx_ring.specs.declared.view.Taken.{Taken}
+use Rattle.jx_store.specs.Setup.{Setup}
+use Rattle.jx_store.specs.Machine.{Claimant, Done, State as Store}
 use Rattle.jx_ring.specs.declared.view.RingView.{RingView}
 use Rattle.jx_ring.specs.declared.view.Place.{Place}
-use Rattle.jx_ring.specs.declared.view.Place.TheVariants.{Empty, Full, Tape}
-use Rattle.jx_ring.specs.Claims.{claims_of, taken}
-use Rattle.jx_ring.specs.Rule.{Phase, free, held, parked, leaving, TapeOk, Ring}
-use Rattle.jx_ring.specs.Told.{claims_it, commits_it, ends, Fulfils}
+use Rattle.jx_ring.specs.Rule.{Phase, free, held, parked, leaving, Ring}
 
 -- a claimant but for `seen`
 abbrev pub unseen : Claimant → Claimant
