@@ -55,7 +55,7 @@ module _ {V : Type 0} (p : Setup) (Ok : ℕ → Named V → Type 0) where
         ],
       )
     ];
-    holds = λ t e. (let h = i.holds t e in (h.0, (let l = h.1 in omega arith), put_else ph k c' t.number (λ is. loose (sym (ap (λ (z : ℕ). holder (ph z)) is) ∙ ap holder h.2)) ∙ h.2));
+    holds = λ t e. (let h = i.holds t e in (h.0, (let l = h.1 in omega arith), put_else ph k c' t.number (λ is. loose (sym (ap (λ (z : ℕ). holder (ph z)) is) ∙ ap holder h.2)) ∙ h.2, h.3));
     drains = λ l e. (let h = i.drains l e in (h.0, (h.1.0, put_else ph k c' d (λ is. loose (sym (ap (λ (z : ℕ). holder (ph z)) is) ∙ ap holder h.1.1)) ∙ h.1.1, h.1.2)));
     finished = i.finished;
   }

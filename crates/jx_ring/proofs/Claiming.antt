@@ -44,7 +44,7 @@ module _ {V : Type 0} (p : Setup) (workers : ℕ) (Ok : ℕ → Named V → Type
   fresh d n (leaving j e) i = (let l = i.0 in absurd (omega arith))
 
   -- the claim of the next number by a seat that saw the numbers below v.drained drained
-  abbrev mine : RingView → ℕ → Taken
+  abbrev pub mine : RingView → ℕ → Taken
   mine v n = record { number = n; worker = v.worker; seen = v.drained; kind = 0 }
 
   still_light : (d n seen : ℕ) → p.first ≤ seen → seen ≤ d → d ≤ n → Within p seen n → (n + 1 ≤ d + 1) ⊎ (load p d (n + 1) ≤ p.most)
@@ -55,7 +55,8 @@ module _ {V : Type 0} (p : Setup) (workers : ℕ) (Ok : ℕ → Named V → Type
 
   pub claimed : (s : State (Place V) RingView) (r : Ring p workers Ok s) (id : ℕ) (me : Seated V) → get_elem? s.views id ≡ some me.0 → ¬ (me.0.stands ≡ []) → me.0.holds ≡ None
       → p.first ≤ me.0.drained → Within p me.0.drained r.next → r.next < end_of p
-      → Valid s.homes me.1 (takes (r.next % p.window) Empty) × Ring p workers Ok (stepped s 0 (r.next + 1) id me.1 (claims_it me.0 r.next) (takes (r.next % p.window) Empty))
+      → Valid s.homes me.1 (takes (r.next % p.window) Empty) × (q : Ring p workers Ok (stepped s 0 (r.next + 1) id me.1 (claims_it me.0 r.next) (takes (r.next % p.window) Empty)))
+      × (q.drained ≡ r.drained) × (q.next ≡ r.next + 1) × (q.phase ≡ put r.phase r.next (held id (mine me.0 r.next))) × (q.tape ≡ r.tape)
   claimed s r id me at live no_hold low within below =
       let P = r.placed in let d : ℕ = r.drained in let n : ℕ = r.next in let ph : ℕ → Phase V = r.phase in let v : RingView = me.0 in let W : ℕ = p.window in
       let t : Taken = mine v n in let w : RingView = claims_it v n in let c' : Phase V = held id t in
@@ -71,7 +72,7 @@ module _ {V : Type 0} (p : Setup) (workers : ℕ) (Ok : ℕ → Named V → Type
         drained = base.drained;
         next = omega arith;
         committed = base.committed;
-        holds = λ x e. (let same = same_Some t x e in subst (λ (y : Taken). (d ≤ y.number) × (y.number < n + 1) × (put ph n c' y.number ≡ held id y)) same (mid, omega arith, put_here ph n c'));
+        holds = λ x e. (let same = same_Some t x e in subst (λ (y : Taken). (d ≤ y.number) × (y.number < n + 1) × (put ph n c' y.number ≡ held id y) × (y.worker ≡ v.worker)) same (mid, omega arith, put_here ph n c', refl));
         drains = base.drains;
         finished = base.finished;
       } in (
@@ -101,6 +102,10 @@ module _ {V : Type 0} (p : Setup) (workers : ℕ) (Ok : ℕ → Named V → Type
               omega (arith, sum, was, cv, hv, cw, tw, more, last, else_));
           roster = roster_set workers (odd (ph d)) (odd (put ph n c' d)) s.views id v w r.roster at refl refl (λ e. absurd (live e)) (omega (arith, odd'));
         },
+        refl,
+        refl,
+        refl,
+        refl,
       )
 
   -- an attempt: the next number is the seat's, or nothing changes
@@ -110,7 +115,7 @@ module _ {V : Type 0} (p : Setup) (workers : ℕ) (Ok : ℕ → Named V → Type
       let x : ℕ = get_or s.words 0 0 in
       exchanged x n (n + 1) (λ y. (w : RingView) × (a : Act (Place V)) × Valid s.homes me.1 a × Ring p workers Ok (stepped s 0 y id me.1 w a) × won p (step slots 0 n (n + 1) none) me x (w, carried_after me.1 a))
       (λ hit. let is : r.next ≡ n = sym r.placed.next_is ∙ hit in
-      let got = subst (λ (k : ℕ). Valid s.homes me.1 (takes (k % p.window) Empty) × Ring p workers Ok (stepped s 0 (k + 1) id me.1 (claims_it me.0 k) (takes (k % p.window) Empty))) is
-      (claimed s r id me at live no_hold low (subst (Within p me.0.drained) (sym is) within) (subst (λ (k : ℕ). k < end_of p) (sym is) below)) in
+      let won_it = claimed s r id me at live no_hold low (subst (Within p me.0.drained) (sym is) within) (subst (λ (k : ℕ). k < end_of p) (sym is) below) in
+      let got = subst (λ (k : ℕ). Valid s.homes me.1 (takes (k % p.window) Empty) × Ring p workers Ok (stepped s 0 (k + 1) id me.1 (claims_it me.0 k) (takes (k % p.window) Empty))) is (won_it.0, won_it.1) in
       (claims_it me.0 n, takes (n % p.window) Empty, got.0, got.1, ((λ _. refl), (λ ne. absurd (ne hit)))))
       (λ miss. (me.0, keeps, tt, stays p workers Ok s r 0 id me.1 me.0 at, ((λ e. absurd (miss e)), (λ _. refl))))

@@ -37,7 +37,8 @@ module _ {V : Type 0} (p : Setup) (workers : ℕ) (Ok : ℕ → Named V → Type
 
   pub committed : (s : State (Place V) RingView) (r : Ring p workers Ok s) (id : ℕ) (v : RingView) (t : Taken) (e : Taped (Named V)) → get_elem? s.views id ≡ some v → ¬ (v.stands ≡ []) → v.holds ≡ Some t
       → Fulfils t e → Ok t.number e.named
-      → Ring p workers Ok record { words = set s.words (t.number % p.window + 2) (t.number + 1); homes = set s.homes (t.number % p.window) (some (Full e)); views = set s.views id (commits_it v (taken e ∷ [])) }
+      → (q : Ring p workers Ok record { words = set s.words (t.number % p.window + 2) (t.number + 1); homes = set s.homes (t.number % p.window) (some (Full e)); views = set s.views id (commits_it v (taken e ∷ [])) })
+      × (q.drained ≡ r.drained) × (q.next ≡ r.next) × (q.phase ≡ put r.phase t.number (parked e)) × (q.tape ≡ r.tape)
   committed s r id v t e at live holds same valid =
       let P = r.placed in let d : ℕ = r.drained in let n : ℕ = r.next in let ph : ℕ → Phase V = r.phase in let W : ℕ = p.window in let k : ℕ = t.number in
       let w : RingView = commits_it v (taken e ∷ []) in let c' : Phase V = parked e in
@@ -64,32 +65,37 @@ module _ {V : Type 0} (p : Setup) (workers : ℕ) (Ok : ℕ → Named V → Type
         holds = λ x no. absurd (none-some x no);
         drains = λ l x. (let h = known.drains l x in (h.0, (h.1.0, put_else ph k c' d (λ dk'. let a = ap odd (sym (ap ph dk') ∙ h.1.1) in omega (arith, a, odd0)) ∙ h.1.1, h.1.2)));
         finished = All-push (λ (x : Taken). 0 < x.kind) v.done (taken e) known.finished (some_kind e.named);
-      } in
-      record {
-        drained = d;
-        next = n;
-        phase = put ph k c';
-        tape = r.tape;
-        placed = moved p Ok d n n k (k % W + 2) (k + 1) id ph r.tape c' s.words s.homes (set s.homes (k % W) (some (Full e))) s.views w P dk kw (length-set s.homes (k % W) (some (Full e)))
-            (get_or-set_other s.words (k % W + 2) 0 (k + 1) 0 (λ x. omega arith) ∙ P.next_is)
-            (get_or-set_other s.words (k % W + 2) 1 (k + 1) 0 (λ x. omega arith) ∙ P.drain_is ∙ ap (λ (x : ℕ). 2 * d + x) (sym odd'))
-            (omega arith) P.high near P.light (λ q _ le. le) (λ q far x. far (omega (arith, x))) (λ j _ ne. set_else s.homes (k % W) j (some (Full e)) ne)
-            (record {
-              shows = get_or-set_same s.words (k % W + 2) (k + 1) 0 (omega (arith, wide, in_w));
-              lies = set_here s.homes (k % W) (some (Full e)) (omega (arith, slots, in_w));
-              phase = (kn, record { number = same.0; within = subst (λ (x : ℕ). Within p x k) (sym same.2) claim.1; valid = valid });
-            })
-            (P.kept.0, set_else s.homes (k % W) W (some (Full e)) (λ x. omega (arith, in_w, x)) ∙ P.kept.1, subst (λ (x : ℕ). AtHome p x r.tape P.kept.0) (sym odd') P.kept.2)
-            (omega (arith, up0)) (λ j ne x. ne (omega (arith, x, held1))) knows;
-        listed = λ F. (
-            let sum = sum_set (λ (x : RingView). sum_by F (claims_of x)) s.views id v w at in let was = r.listed F in
-            let cv = claims_with F v.done v.holds in let hv = ap (λ (h : Option Taken). sum_by F (option_to_list h)) holds in let tv = one F t in
-            let cw = claims_with F (v.done ++ taken e ∷ []) None in let dw = sum_by-append F v.done (taken e ∷ []) in let tw = one F (taken e) in
-            let terms = terms_put F ph k c' d (n - d) dk (omega (arith, kn, mid)) in let old = ap (λ (x : Phase V). F (claim_in x)) is in
-            let nothing : sum_by F [] ≡ 0 = refl in
-            omega (arith, sum, was, cv, hv, tv, cw, dw, tw, terms, old, nothing));
-        roster = roster_set workers (odd (ph d)) (odd (put ph k c' d)) s.views id v w r.roster at refl refl (λ x. absurd (live x)) (omega (arith, odd'));
-      }
+      } in (
+        record {
+          drained = d;
+          next = n;
+          phase = put ph k c';
+          tape = r.tape;
+          placed = moved p Ok d n n k (k % W + 2) (k + 1) id ph r.tape c' s.words s.homes (set s.homes (k % W) (some (Full e))) s.views w P dk kw (length-set s.homes (k % W) (some (Full e)))
+              (get_or-set_other s.words (k % W + 2) 0 (k + 1) 0 (λ x. omega arith) ∙ P.next_is)
+              (get_or-set_other s.words (k % W + 2) 1 (k + 1) 0 (λ x. omega arith) ∙ P.drain_is ∙ ap (λ (x : ℕ). 2 * d + x) (sym odd'))
+              (omega arith) P.high near P.light (λ q _ le. le) (λ q far x. far (omega (arith, x))) (λ j _ ne. set_else s.homes (k % W) j (some (Full e)) ne)
+              (record {
+                shows = get_or-set_same s.words (k % W + 2) (k + 1) 0 (omega (arith, wide, in_w));
+                lies = set_here s.homes (k % W) (some (Full e)) (omega (arith, slots, in_w));
+                phase = (kn, record { number = same.0; within = subst (λ (x : ℕ). Within p x k) (sym same.2) claim.1; valid = valid });
+              })
+              (P.kept.0, set_else s.homes (k % W) W (some (Full e)) (λ x. omega (arith, in_w, x)) ∙ P.kept.1, subst (λ (x : ℕ). AtHome p x r.tape P.kept.0) (sym odd') P.kept.2)
+              (omega (arith, up0)) (λ j ne x. ne (omega (arith, x, held1))) knows;
+          listed = λ F. (
+              let sum = sum_set (λ (x : RingView). sum_by F (claims_of x)) s.views id v w at in let was = r.listed F in
+              let cv = claims_with F v.done v.holds in let hv = ap (λ (h : Option Taken). sum_by F (option_to_list h)) holds in let tv = one F t in
+              let cw = claims_with F (v.done ++ taken e ∷ []) None in let dw = sum_by-append F v.done (taken e ∷ []) in let tw = one F (taken e) in
+              let terms = terms_put F ph k c' d (n - d) dk (omega (arith, kn, mid)) in let old = ap (λ (x : Phase V). F (claim_in x)) is in
+              let nothing : sum_by F [] ≡ 0 = refl in
+              omega (arith, sum, was, cv, hv, tv, cw, dw, tw, terms, old, nothing));
+          roster = roster_set workers (odd (ph d)) (odd (put ph k c' d)) s.views id v w r.roster at refl refl (λ x. absurd (live x)) (omega (arith, odd'));
+        },
+        refl,
+        refl,
+        refl,
+        refl,
+      )
 
   -- the store into the word of the number that the seat holds, which gives its slot home with the entry
   pub commits : (slots id i x k : ℕ) (me : Seated V) (t : Taken) (e : Taped (Named V)) (more : List (ℕ × Place V)) → i ≡ k % p.window + 2 → x ≡ k + 1 → k ≡ t.number
@@ -100,7 +106,7 @@ module _ {V : Type 0} (p : Setup) (workers : ℕ) (Ok : ℕ → Named V → Type
       let list : claim_out me.1 ≡ taken e ∷ [] = ap claim_out out in
       let word : k % p.window + 2 ≡ t.number % p.window + 2 = ap (λ (z : ℕ). z % p.window + 2) number in
       let value : k + 1 ≡ t.number + 1 = ap (λ (z : ℕ). z + 1) number in
-      let kept = committed s r id me.0 t e at live holds same valid in (
+      let kept = (committed s r id me.0 t e at live holds same valid).0 in (
         w,
         gives,
         tt,

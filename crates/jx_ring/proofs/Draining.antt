@@ -147,6 +147,7 @@ module _ {V : Type 0} (p : Setup) (workers : ℕ) (Ok : ℕ → Named V → Type
               let ne : ¬ (t.number ≡ d) = λ q. (let a = ap odd (sym is ∙ ap ph (sym q) ∙ h.2) in omega (arith, a)) in omega (arith, z, ne)),
           h.1,
           same t.number h.1 ∙ h.2,
+          h.3,
         ));
         drains = λ l e. (let h = i.drains l e in absurd (other (let a = ap holder (sym h.1.1 ∙ is) in omega (arith, a))));
         finished = i.finished;
@@ -157,11 +158,12 @@ module _ {V : Type 0} (p : Setup) (workers : ℕ) (Ok : ℕ → Named V → Type
 
   pub ended_at : (s : State (Place V) RingView) (r : Ring p workers Ok s) (id : ℕ) (v : RingView) (t : Vec (Taped (Named V))) (l : List Taken) → get_elem? s.views id ≡ some v → ¬ (v.stands ≡ []) → v.drains ≡ Some l
       → map taken t.items ≡ l → TapeOk p Ok t.items → length p.sizes ≤ vec_capacity t
-      → Ring p workers Ok record { words = set s.words 1 (2 * v.drained + 2); homes = set (set s.homes p.window (some (Tape t))) (v.drained % p.window) (some Empty); views = set s.views id (ends v) }
+      → (q : Ring p workers Ok record { words = set s.words 1 (2 * v.drained + 2); homes = set (set s.homes p.window (some (Tape t))) (v.drained % p.window) (some Empty); views = set s.views id (ends v) })
+      × (q.drained ≡ r.drained + 1) × (q.next ≡ r.next) × (q.phase ≡ put r.phase (r.drained + p.window) free) × (q.tape ≡ t.items)
   ended_at s r id v t l at live drains list ok room =
       let P = r.placed in let d : ℕ = r.drained in let n : ℕ = r.next in let ph : ℕ → Phase V = r.phase in let W : ℕ = p.window in
       let known = P.seats id v at in let mine = known.drains l drains in let at_d : v.drained ≡ d = mine.0 in let e : Taped (Named V) = mine.1.0 in let is : ph d ≡ leaving id e = mine.1.1 in let l_is = mine.1.2 in
-      subst (λ (k : ℕ). Ring p workers Ok record { words = set s.words 1 (2 * k + 2); homes = set (set s.homes W (some (Tape t))) (k % W) (some Empty); views = set s.views id (ends v) }) (sym at_d) (
+      subst (λ (k : ℕ). (q : Ring p workers Ok record { words = set s.words 1 (2 * k + 2); homes = set (set s.homes W (some (Tape t))) (k % W) (some Empty); views = set s.views id (ends v) }) × (q.drained ≡ r.drained + 1) × (q.next ≡ r.next) × (q.phase ≡ put r.phase (r.drained + p.window) free) × (q.tape ≡ t.items)) (sym at_d) (
       let w : RingView = ends v in let ph' : ℕ → Phase V = put ph (d + W) free in
       let pos = P.some_slot in let wide = P.wide in let slots = P.slots in let mid = P.mid in let high = P.high in let near = P.near in let low = P.low in
       let cell = P.cells d (omega arith) (omega (arith, pos)) in let in_w = mod_below d W pos in
@@ -182,61 +184,67 @@ module _ {V : Type 0} (p : Setup) (workers : ℕ) (Ok : ℕ → Named V → Type
         shows = old_word (d + W) ∙ ap (λ (z : ℕ). get_or s.words (z + 2) 0) slot ∙ cell.shows ∙ ap (face p d) is ∙ sym (wrapped d low pos);
         lies = ap (get_elem? hs') slot ∙ set_here hs (d % W) (some Empty) (omega (arith, slots, in_w, long_hs));
         phase = near;
-      } in
-      record {
-        drained = d + 1;
-        next = n;
-        phase = ph';
-        tape = t.items;
-        placed = record {
-          wide = length-set s.words 1 (2 * d + 2) ∙ wide;
-          slots = length-set hs (d % W) (some Empty) ∙ long_hs ∙ slots;
-          some_slot = pos;
-          next_is = get_or-set_other s.words 1 0 (2 * d + 2) 0 (λ q. omega arith) ∙ P.next_is;
-          drain_is = (let a = get_or-set_same s.words 1 (2 * d + 2) 0 (omega (arith, wide)) in omega (arith, a, odd0));
-          low = omega (arith, low);
-          mid = omega (arith, dn);
-          high = high;
-          near = omega (arith, near);
-          light = elim P.light [ inl le ↦ inl (omega (arith, le)) | inr fits ↦ inr (let z = load_rest p d n low dn in omega (arith, z, fits)) ];
-          cells = λ q dq qw. elim (cases_eq q (d + W)) [
-            | inl z ↦ subst (λ (y : ℕ). Cell p Ok (d + 1) n (set s.words 1 (2 * d + 2)) hs' y (ph' y)) (sym z) (subst (Cell p Ok (d + 1) n (set s.words 1 (2 * d + 2)) hs' (d + W)) (sym last) new_cell)
-            | inr ne ↦ (let c = P.cells q (omega (arith, dq)) (omega (arith, qw, ne)) in let qd : ¬ (q ≡ d) = (λ z. omega (arith, z, dq)) in let in_q = mod_below q W pos in
-                let apart_q = apart d W q d pos (omega (arith, dq)) (omega arith) (omega (arith, qw, ne)) (omega (arith, pos)) qd in
-                subst (Cell p Ok (d + 1) n (set s.words 1 (2 * d + 2)) hs' q) (sym (same q ne)) (record {
-                  shows = old_word q ∙ c.shows;
-                  lies = set_else hs (d % W) (q % W) (some Empty) apart_q ∙ set_else s.homes W (q % W) (some (Tape t)) (λ z. omega (arith, z, in_q)) ∙ c.lies;
-                  phase = phase_on d n q (ph q) qd c.phase;
+      } in (
+        record {
+          drained = d + 1;
+          next = n;
+          phase = ph';
+          tape = t.items;
+          placed = record {
+            wide = length-set s.words 1 (2 * d + 2) ∙ wide;
+            slots = length-set hs (d % W) (some Empty) ∙ long_hs ∙ slots;
+            some_slot = pos;
+            next_is = get_or-set_other s.words 1 0 (2 * d + 2) 0 (λ q. omega arith) ∙ P.next_is;
+            drain_is = (let a = get_or-set_same s.words 1 (2 * d + 2) 0 (omega (arith, wide)) in omega (arith, a, odd0));
+            low = omega (arith, low);
+            mid = omega (arith, dn);
+            high = high;
+            near = omega (arith, near);
+            light = elim P.light [ inl le ↦ inl (omega (arith, le)) | inr fits ↦ inr (let z = load_rest p d n low dn in omega (arith, z, fits)) ];
+            cells = λ q dq qw. elim (cases_eq q (d + W)) [
+              | inl z ↦ subst (λ (y : ℕ). Cell p Ok (d + 1) n (set s.words 1 (2 * d + 2)) hs' y (ph' y)) (sym z) (subst (Cell p Ok (d + 1) n (set s.words 1 (2 * d + 2)) hs' (d + W)) (sym last) new_cell)
+              | inr ne ↦ (let c = P.cells q (omega (arith, dq)) (omega (arith, qw, ne)) in let qd : ¬ (q ≡ d) = (λ z. omega (arith, z, dq)) in let in_q = mod_below q W pos in
+                  let apart_q = apart d W q d pos (omega (arith, dq)) (omega arith) (omega (arith, qw, ne)) (omega (arith, pos)) qd in
+                  subst (Cell p Ok (d + 1) n (set s.words 1 (2 * d + 2)) hs' q) (sym (same q ne)) (record {
+                    shows = old_word q ∙ c.shows;
+                    lies = set_else hs (d % W) (q % W) (some Empty) apart_q ∙ set_else s.homes W (q % W) (some (Tape t)) (λ z. omega (arith, z, in_q)) ∙ c.lies;
+                    phase = phase_on d n q (ph q) qd c.phase;
+                  }))
+            ];
+            long = long';
+            taped = ok;
+            kept = (some (Tape t), set_else hs (d % W) W (some Empty) (λ q. far (sym q)) ∙ set_here s.homes W (some (Tape t)) (omega (arith, slots)), subst (λ (z : ℕ). AtHome p z t.items (some (Tape t))) (sym odd0) (t, refl, refl, room));
+            seats = λ j x q. ⊎_elim
+                (λ (y : (j ≡ id) × (w ≡ x)). subst (λ (u : ℕ × RingView). Knows (d + 1) n ph' t.items u.0 u.1) (λ z. (sym y.0 z, y.1 z)) (record {
+                  drained = omega (arith, at_d);
+                  next = known.next;
+                  committed = λ k z. elim (known.committed k z) [ inl lt ↦ inl (omega (arith, lt)) | inr u ↦ inr (u.0, ap up (same k (λ o. let a = u.0 in omega (arith, o, near, a))) ∙ u.1) ];
+                  holds = λ u z. (let h = known.holds u z in (
+                    (let y0 = h.0 in
+                        let ne : ¬ (u.number ≡ d) = λ o. (let a = ap odd (sym is ∙ ap ph (sym o) ∙ h.2) in omega (arith, a)) in omega (arith, y0, ne)),
+                    h.1,
+                    same u.number (λ o. let a = h.1 in omega (arith, o, near, a)) ∙ h.2,
+                    h.3,
+                  ));
+                  drains = λ m z. absurd (none-some m z);
+                  finished = known.finished;
                 }))
-          ];
-          long = long';
-          taped = ok;
-          kept = (some (Tape t), set_else hs (d % W) W (some Empty) (λ q. far (sym q)) ∙ set_here s.homes W (some (Tape t)) (omega (arith, slots)), subst (λ (z : ℕ). AtHome p z t.items (some (Tape t))) (sym odd0) (t, refl, refl, room));
-          seats = λ j x q. ⊎_elim
-              (λ (y : (j ≡ id) × (w ≡ x)). subst (λ (u : ℕ × RingView). Knows (d + 1) n ph' t.items u.0 u.1) (λ z. (sym y.0 z, y.1 z)) (record {
-                drained = omega (arith, at_d);
-                next = known.next;
-                committed = λ k z. elim (known.committed k z) [ inl lt ↦ inl (omega (arith, lt)) | inr u ↦ inr (u.0, ap up (same k (λ o. let a = u.0 in omega (arith, o, near, a))) ∙ u.1) ];
-                holds = λ u z. (let h = known.holds u z in (
-                  (let y0 = h.0 in
-                      let ne : ¬ (u.number ≡ d) = λ o. (let a = ap odd (sym is ∙ ap ph (sym o) ∙ h.2) in omega (arith, a)) in omega (arith, y0, ne)),
-                  h.1,
-                  same u.number (λ o. let a = h.1 in omega (arith, o, near, a)) ∙ h.2,
-                ));
-                drains = λ m z. absurd (none-some m z);
-                finished = known.finished;
-              }))
-              (λ (y : (j ≢ id) × (get_elem? s.views j ≡ some x)). knows_on d n j id ph r.tape t.items e x pos near is y.0 (P.seats j x y.1))
-              (at_set s.views id j w x q);
-        };
-        listed = λ F. (
-            let sum = sum_same (λ (y : RingView). sum_by F (claims_of y)) s.views id v w at refl in let was = r.listed F in
-            let grown = ap (sum_by F) (list ∙ l_is) in let push = sum_by_push F (map taken r.tape) (taken e) in
-            let less = stretch_less (λ k. F (claim_in (ph k))) d n dn in let head = ap (λ (y : Phase V). F (claim_in y)) is in
-            let else_ = terms_else F ph (d + W) free (d + 1) (n - (d + 1)) (inr (let z : d + 1 + (n - (d + 1)) ≤ d + W = omega (arith, dn, near) in z)) in
-            omega (arith, sum, was, grown, push, less, head, else_));
-        roster = roster_set workers (odd (ph d)) (odd (ph' (d + 1))) s.views id v w r.roster at refl refl (λ q. absurd (live q)) (let z = ap draining drains in let y = ap odd is in omega (arith, odd0, y, z));
-      })
+                (λ (y : (j ≢ id) × (get_elem? s.views j ≡ some x)). knows_on d n j id ph r.tape t.items e x pos near is y.0 (P.seats j x y.1))
+                (at_set s.views id j w x q);
+          };
+          listed = λ F. (
+              let sum = sum_same (λ (y : RingView). sum_by F (claims_of y)) s.views id v w at refl in let was = r.listed F in
+              let grown = ap (sum_by F) (list ∙ l_is) in let push = sum_by_push F (map taken r.tape) (taken e) in
+              let less = stretch_less (λ k. F (claim_in (ph k))) d n dn in let head = ap (λ (y : Phase V). F (claim_in y)) is in
+              let else_ = terms_else F ph (d + W) free (d + 1) (n - (d + 1)) (inr (let z : d + 1 + (n - (d + 1)) ≤ d + W = omega (arith, dn, near) in z)) in
+              omega (arith, sum, was, grown, push, less, head, else_));
+          roster = roster_set workers (odd (ph d)) (odd (ph' (d + 1))) s.views id v w r.roster at refl refl (λ q. absurd (live q)) (let z = ap draining drains in let y = ap odd is in omega (arith, odd0, y, z));
+        },
+        refl,
+        refl,
+        refl,
+        refl,
+      ))
 
   -- the store of the even value, which gives the tape and the head's slot home
   pub ends_drain : (slots id x : ℕ) (me : Seated V) (t : Vec (Taped (Named V))) (more : List (ℕ × Place V)) → x ≡ 2 * me.0.drained + 2 → ¬ (me.0.stands ≡ []) → me.0.drains ≡ Some (map taken t.items)
@@ -247,6 +255,6 @@ module _ {V : Type 0} (p : Setup) (workers : ℕ) (Ok : ℕ → Named V → Type
     chain gives gives,
     (tt, tt),
     subst (λ (y : ℕ × List (ℕ × Place V)). Ring p workers Ok (stepped s 1 y.0 id y.1 (ends me.0) (chain gives gives))) (λ z. (sym what z, sym out z))
-        (ended_at s r id me.0 t (map taken t.items) at live drains refl ok room),
+        (ended_at s r id me.0 t (map taken t.items) at live drains refl ok room).0,
     refl,
   )

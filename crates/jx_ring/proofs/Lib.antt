@@ -12,3 +12,5 @@ pub mod Joining
 pub mod Closes
 pub mod Gathers
 pub mod Ends
+pub mod Events
+pub mod Shown

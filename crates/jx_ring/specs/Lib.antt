@@ -3,3 +3,5 @@ pub mod Rule
 pub mod Told
 pub mod Passes
 pub mod Closing
+pub mod Shows
+pub mod Laws

@@ -110,7 +110,7 @@ module _ {V : Type 0} (d n : ℕ) (ph : ℕ → Phase V) (tape : List (Taped (Na
     pub drained : v.drained ≤ d
     pub next : v.next ≤ n
     pub committed : (k : ℕ) → v.committed ≡ Some k → (k < d) ⊎ ((k < n) × (up (ph k) ≡ 1))
-    pub holds : (t : Taken) → v.holds ≡ Some t → (d ≤ t.number) × (t.number < n) × (ph t.number ≡ held j t)
+    pub holds : (t : Taken) → v.holds ≡ Some t → (d ≤ t.number) × (t.number < n) × (ph t.number ≡ held j t) × (t.worker ≡ v.worker)
     pub drains : (l : List Taken) → v.drains ≡ Some l → (v.drained ≡ d) × ((e : Taped (Named V)) × (ph d ≡ leaving j e) × (l ≡ map taken tape ++ taken e ∷ []))
     pub finished : All (λ t. 0 < t.kind) v.done
 

@@ -3,6 +3,7 @@
 #![tactic(auto)]
 
 mod claims;
+mod laws;
 mod make;
 mod ring;
 mod rule;
@@ -10,6 +11,10 @@ mod steps;
 mod tape;
 mod view;
 
+pub use laws::{claims_stand_once, steps_are_events};
 pub use ring::RingStore;
 pub use rule::Turns;
 pub use view::{Pass, Place, RingView, Taken};
+
+#[cfg(test)]
+mod tests;

@@ -1,5 +1,5 @@
 //! How a store is made, with a pass for each worker.
-ghost use Rattle.std.specs.Prelude.{◌≡◌, ◌≢◌, ℕ, ◌+◌, ◌*◌, ◌^◌, ◌<◌, ◌≤◌, All, IfOk, None, Some, [], ◌∷◌, map, length, slice_get, slice_index_or, vec_capacity};
+ghost use Rattle.std.specs.Prelude.{◌≡◌, ◌≢◌, ℕ, ◌+◌, ◌*◌, ◌^◌, ◌<◌, ◌≤◌, All, IfOk, None, Some, [], ◌∷◌, map, length, slice_get, slice_index_or, vec_len, vec_capacity};
 ghost use Rattle.std.specs.Global.{Vec};
 ghost use Rattle.std.specs.List.{sum};
 ghost use Rattle.jx_store.specs.declared.event.Taped.{Taped};
@@ -37,6 +37,7 @@ impl<V: Work, N: Bounds<V::Job>> RingStore<V, N> {
         requires window { (0 < window) × (window ≤ 1024) }
         requires most { (0 < most) × (most ≤ 2 ^ 28) }
         requires workers { (0 < workers) × (workers ≤ 64) }
+        ensures count { IfOk result (λ r. vec_len r.1 ≡ workers) }
         ensures workers { IfOk result (λ r. map (λ p. p.worker) r.1.items ≡ numbers 0 workers) }
         ensures fresh { IfOk result (λ r. All (λ p. (p.table ≡ r.0.table.shared.table_id) × (p.holds ≡ None) × (p.claims ≡ []) × (p.drained ≡ first) × (p.next ≡ first)) r.1.items) }
     {
@@ -65,6 +66,7 @@ impl<V: Work, N: Bounds<V::Job>> RingStore<V, N> {
         requires table { (seat.table_id ≡ self.now.table.shared.table_id) × (0 < workers) }
         requires seat { seat.me ≡ (first_view N.setup workers, []) }
         requires room { (passes.items ≡ []) × (workers ≤ vec_capacity passes) }
+        ensures count { vec_len result ≡ workers }
         ensures workers { map (λ p. p.worker) result.items ≡ numbers 0 workers }
         ensures fresh { All (λ p. (p.table ≡ self.now.table.shared.table_id) × (p.holds ≡ None) × (p.claims ≡ []) × (p.drained ≡ N.setup.first) × (p.next ≡ N.setup.first)) result.items }
     {

@@ -7,12 +7,13 @@ use atomic_table::Table;
 use jx_store::{Bounds, Sums, Work};
 use std::alloc::Global;
 use std::marker::{Model, PhantomData};
+use std::sync::Mutex;
 
 // The bounds of a store, which are those that its name says.
 #[derive(Drop)]
 pub(crate) struct Limits<V: Work, N: Bounds<V::Job>> {
     sums: Sums,
-    of: PhantomData<(V, N)>,
+    of: PhantomData<(Mutex<V>, N)>,
 }
 
 impl<V: Work, N: Bounds<V::Job>> Model for Limits<V, N> {

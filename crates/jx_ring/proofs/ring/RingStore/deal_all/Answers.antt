@@ -50,3 +50,8 @@ returns-clause-fresh g c =
     All-permutation (Fresh c.args.self.now.table.shared.table_id g.N.Bounds.setup.first) c.push_reserved-2.new.self.items c.reverse.new.self.items c.reverse.ensures.permutation
     (subst (All (Fresh c.args.self.now.table.shared.table_id g.N.Bounds.setup.first)) (sym p.items)
     (All-push (Fresh c.args.self.now.table.shared.table_id g.N.Bounds.setup.first) c.loop-left.passes.items _ i.fresh (i.table, ap (λ m. m.0.holds) i.seat, ap (λ m. m.0.done) i.seat, ap (λ m. m.0.drained) i.seat, ap (λ m. m.0.next) i.seat)))
+
+pub returns-clause-count : goal.returns-clause-count
+returns-clause-count g c =
+    let i = c.loop-left.invariant in let no_more = c.loop-left-test.false in let low = i.left.0 in let long = i.long in let p = c.push_reserved-2.ensures.len in let r = c.reverse.ensures.len in
+    omega (arith, no_more, low, long, p, r)

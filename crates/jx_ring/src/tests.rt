@@ -1,0 +1,636 @@
+//! Worked runs through the passes of a ring, and threads on one ring.
+
+ghost use Rattle.std.specs.Prelude.{ℕ, List, ◌≡◌, ◌<◌, ◌≤◌, ◌+◌, ◌^◌, All, IfOk, None, Some, [], ◌∷◌, false, length, vec_len};
+ghost use Rattle.std.specs.List.{sum};
+ghost use Rattle.jx_store.specs.Valid.{IsOf};
+ghost use Rattle.jx_store.specs.Setup.{end_of};
+ghost use Rattle.jx_ring.specs.Passes.{claim_by};
+
+use crate::{Pass, RingStore};
+use jx_base::NoMemory;
+use jx_store::{Bounds, Claim, ClaimAnswer, Entry, Named, Work};
+use std::alloc::Global;
+use std::marker::Brand;
+use std::process::Abort;
+use std::sync::Wait;
+use std::sync::atomic::AtomicU64;
+use std::sync::atomic::Ordering::SeqCst;
+use std::test::Fail;
+use std::thread;
+use std::thread::Threads;
+
+#[derive(Drop)]
+struct Text<'a> {
+    number: u32,
+    letters: &'a [u8],
+}
+
+// A value that refers to its job, which has a lifetime of its own.
+#[derive(Drop)]
+struct Counted<'a> {
+    job: &'a Text<'a>,
+    letters: usize,
+}
+
+impl<'a> Work for Counted<'a> {
+    type Job = Text<'a>;
+
+    ghost job = { λ c. c.job.now };
+
+    ghost bad = { λ j. false };
+
+    ghost number = { λ c. c.job.now.number };
+
+    fn number(&self) -> u32 {
+        self.job.number
+    }
+}
+
+// What makes the value of a number.
+trait Maker<V: Work> {
+    ghost first: { Self → ℕ };
+
+    ghost jobs: { Self → List V.Job };
+
+    fn make(&self, number: u32) -> Named<V>
+        ensures { IsOf V.number V.job V.bad (first self.now) (jobs self.now) number result };
+}
+
+#[derive(Drop)]
+struct Counter<'a> {
+    first: u32,
+    jobs: &'a [Text<'a>],
+}
+
+impl<'a> Maker<Counted<'a>> for Counter<'a> {
+    ghost first = { λ m. m.first };
+
+    ghost jobs = { λ m. m.jobs.now };
+
+    fn make(&self, number: u32) -> Named<Counted<'a>> {
+        if number < self.first {
+            return Named::Short(number);
+        }
+        match self.jobs.get((number - self.first) as usize) {
+            Some(job) if job.number == number => Named::Made(Counted {
+                job,
+                letters: job.letters.len(),
+            }),
+            _ => Named::Short(number),
+        }
+    }
+}
+
+// What an entry shows.
+#[derive(Clone, Copy, PartialEq, Debug)]
+struct Line {
+    number: u32,
+    worker: u32,
+    seen: u32,
+    made: bool,
+}
+
+fn written(number: u32, worker: u32, seen: u32, made: bool) -> Line {
+    Line {
+        number,
+        worker,
+        seen,
+        made,
+    }
+}
+
+fn lines<V: Work>(alloc: Global, tape: Vec<Entry<V>>) -> Result<Vec<Line>, NoMemory> {
+    let mut out = Vec::new(alloc);
+    for entry in &tape {
+        let made = match &entry.named {
+            Named::Made(value) => value.number() == entry.number,
+            Named::Bad(_) | Named::Short(_) => false,
+        };
+        out.push(written(entry.number, entry.worker, entry.seen, made))?;
+    }
+    Ok(out)
+}
+
+// Claims this number, told `seen`.
+fn claims<V: Work, N: Bounds<V::Job>, R: Wait + Abort>(
+    rt: &R,
+    store: &RingStore<V, N>,
+    pass: &mut Pass<V, N>,
+    want: u32,
+    seen: u32,
+) -> Claim
+    requires { (pass.old.table ≡ store.now.table.shared.table_id) × (pass.old.holds ≡ None) }
+    ensures { (result.number ≡ want) × (pass.new.table ≡ pass.old.table) × (pass.new.worker ≡ pass.old.worker) × (pass.new.holds ≡ Some (claim_by pass.old.worker result.number result.seen 0)) }
+{
+    match store.claim(rt, pass) {
+        ClaimAnswer::Claim(claim) => {
+            assert_eq!(rt; claim.number(), want);
+            assert_eq!(rt; claim.seen(), seen);
+            claim
+        }
+        ClaimAnswer::Full {
+            next: _,
+            drained: _,
+        } => panic!(rt; "a window is full"),
+        ClaimAnswer::AllClaimed => panic!(rt; "all are claimed"),
+    }
+}
+
+// Is refused a number: a window is full.
+fn is_full<V: Work, N: Bounds<V::Job>, R: Wait + Abort>(
+    rt: &R,
+    store: &RingStore<V, N>,
+    pass: &mut Pass<V, N>,
+    want: (u32, u32),
+)
+    requires { (pass.old.table ≡ store.now.table.shared.table_id) × (pass.old.holds ≡ None) }
+    ensures { (pass.new.table ≡ pass.old.table) × (pass.new.worker ≡ pass.old.worker) × (pass.new.holds ≡ None) }
+{
+    match store.claim(rt, pass) {
+        ClaimAnswer::Claim(claim) => {
+            let (number, _) = claim.spend();
+            panic!(rt; "{number} is claimed")
+        }
+        ClaimAnswer::Full { next, drained } => assert_eq!(rt; (next, drained), want),
+        ClaimAnswer::AllClaimed => panic!(rt; "all are claimed"),
+    }
+}
+
+// Is refused a number: all are claimed.
+fn is_last<V: Work, N: Bounds<V::Job>, R: Wait + Abort>(
+    rt: &R,
+    store: &RingStore<V, N>,
+    pass: &mut Pass<V, N>,
+)
+    requires { (pass.old.table ≡ store.now.table.shared.table_id) × (pass.old.holds ≡ None) }
+    ensures { (pass.new.table ≡ pass.old.table) × (pass.new.worker ≡ pass.old.worker) × (pass.new.holds ≡ None) }
+{
+    match store.claim(rt, pass) {
+        ClaimAnswer::Claim(claim) => {
+            let (number, _) = claim.spend();
+            panic!(rt; "{number} is claimed")
+        }
+        ClaimAnswer::Full {
+            next: _,
+            drained: _,
+        } => panic!(rt; "a window is full"),
+        ClaimAnswer::AllClaimed => {}
+    }
+}
+
+// Commits this, and holds nothing more.
+fn commits<V: Work, N: Bounds<V::Job>, R: Wait>(
+    rt: &R,
+    store: &RingStore<V, N>,
+    pass: &mut Pass<V, N>,
+    claim: Claim,
+    named: Named<V>,
+)
+    requires held { (pass.old.table ≡ store.now.table.shared.table_id) × (pass.old.holds ≡ Some (claim_by pass.old.worker claim.number claim.seen 0)) }
+    requires value { IsOf V.number V.job V.bad N.setup.first N.jobs claim.number named }
+    ensures { (pass.new.table ≡ pass.old.table) × (pass.new.worker ≡ pass.old.worker) × (pass.new.holds ≡ None) }
+{
+    store.commit(rt, pass, claim, named);
+}
+
+// The tape of a store with these three passes.
+fn tape<V: Work, N: Bounds<V::Job>>(
+    alloc: Global,
+    store: RingStore<V, N>,
+    first: Pass<V, N>,
+    second: Pass<V, N>,
+    third: Pass<V, N>,
+) -> Result<Vec<Line>, NoMemory>
+    requires all { (N.workers ≡ 3) × (first.table ≡ store.table.shared.table_id) × (second.table ≡ store.table.shared.table_id) × (third.table ≡ store.table.shared.table_id) }
+    requires none { (first.holds ≡ None) × (second.holds ≡ None) × (third.holds ≡ None) }
+{
+    let mut passes = Vec::with_capacity(alloc, 3)?;
+    passes.push_reserved(first);
+    passes.push_reserved(second);
+    passes.push_reserved(third);
+    lines(alloc, store.into_tape(passes))
+}
+
+// The passes of a new store of three workers.
+fn three<V: Work, N: Bounds<V::Job>>(
+    store: &RingStore<V, N>,
+    passes: Vec<Pass<V, N>>,
+) -> (Pass<V, N>, Pass<V, N>, Pass<V, N>)
+    requires count { vec_len passes ≡ 3 }
+    requires fresh { All (λ p. (p.table ≡ store.now.table.shared.table_id) × (p.holds ≡ None)) passes.items }
+    ensures first { (result.0.table ≡ store.now.table.shared.table_id) × (result.0.holds ≡ None) }
+    ensures second { (result.1.table ≡ store.now.table.shared.table_id) × (result.1.holds ≡ None) }
+    ensures third { (result.2.table ≡ store.now.table.shared.table_id) × (result.2.holds ≡ None) }
+{
+    let _store = store;
+    let mut passes = passes;
+    let Some(third) = passes.pop() else {
+        unreachable!()
+    };
+    let Some(second) = passes.pop() else {
+        unreachable!()
+    };
+    let Some(first) = passes.pop() else {
+        unreachable!()
+    };
+    (first, second, third)
+}
+
+// Three workers, of which the second commits before the first, on a window of two.
+fn narrow<V: Work, N: Bounds<V::Job>, R: Wait + Abort, M: Maker<V>>(
+    rt: &R,
+    alloc: Global,
+    jobs: &[V::Job],
+    maker: &M,
+) -> Result<Vec<Line>, NoMemory>
+    requires bounds { (N.setup ≡ record { first = 0; sizes = 0 ∷ 0 ∷ 0 ∷ []; window = 2; most = 1 }) × (N.workers ≡ 3) × (N.jobs ≡ jobs.now) }
+    requires jobs { (length jobs.now ≡ 3) × (M.jobs maker.now ≡ jobs.now) × (M.first maker.now ≡ 0) }
+{
+    let (store, passes) = RingStore::<V, N>::new(alloc, jobs, &[0, 0, 0], 0, 2, 1, 3)?;
+    let (mut first, mut second, mut third) = three(&store, passes);
+    let zero = claims(rt, &store, &mut first, 0, 0);
+    let one = claims(rt, &store, &mut second, 1, 0);
+    is_full(rt, &store, &mut third, (2, 0));
+    commits(rt, &store, &mut second, one, maker.make(1));
+    commits(rt, &store, &mut first, zero, maker.make(0));
+    let two = claims(rt, &store, &mut first, 2, 1);
+    is_last(rt, &store, &mut third);
+    commits(rt, &store, &mut first, two, maker.make(2));
+    tape(alloc, store, first, second, third)
+}
+
+// Three workers, of which the last commits first and the second finds no memory.
+fn short<V: Work, N: Bounds<V::Job>, R: Wait + Abort, M: Maker<V>>(
+    rt: &R,
+    alloc: Global,
+    jobs: &[V::Job],
+    maker: &M,
+) -> Result<Vec<Line>, NoMemory>
+    requires bounds { (N.setup ≡ record { first = 0; sizes = 0 ∷ 0 ∷ 0 ∷ []; window = 3; most = 1 }) × (N.workers ≡ 3) × (N.jobs ≡ jobs.now) }
+    requires jobs { (length jobs.now ≡ 3) × (M.jobs maker.now ≡ jobs.now) × (M.first maker.now ≡ 0) }
+{
+    let (store, passes) = RingStore::<V, N>::new(alloc, jobs, &[0, 0, 0], 0, 3, 1, 3)?;
+    let (mut first, mut second, mut third) = three(&store, passes);
+    let zero = claims(rt, &store, &mut first, 0, 0);
+    let one = claims(rt, &store, &mut second, 1, 0);
+    let two = claims(rt, &store, &mut third, 2, 0);
+    commits(rt, &store, &mut third, two, maker.make(2));
+    commits(rt, &store, &mut first, zero, maker.make(0));
+    commits(rt, &store, &mut second, one, Named::Short(1));
+    tape(alloc, store, first, second, third)
+}
+
+// Sizes below, at and above `most`, from a first number on.
+fn heavy<V: Work, N: Bounds<V::Job>, R: Wait + Abort, M: Maker<V>>(
+    rt: &R,
+    alloc: Global,
+    jobs: &[V::Job],
+    maker: &M,
+) -> Result<Vec<Line>, NoMemory>
+    requires bounds { (N.setup ≡ record { first = 7; sizes = 5 ∷ 5 ∷ 6 ∷ []; window = 2; most = 10 }) × (N.workers ≡ 3) × (N.jobs ≡ jobs.now) }
+    requires jobs { (length jobs.now ≡ 3) × (M.jobs maker.now ≡ jobs.now) × (M.first maker.now ≡ 7) }
+{
+    let (store, passes) = RingStore::<V, N>::new(alloc, jobs, &[5, 5, 6], 7, 2, 10, 3)?;
+    let (mut first, mut second, mut third) = three(&store, passes);
+    let zero = claims(rt, &store, &mut first, 7, 7);
+    let one = claims(rt, &store, &mut second, 8, 7);
+    commits(rt, &store, &mut first, zero, maker.make(7));
+    is_full(rt, &store, &mut third, (9, 8));
+    commits(rt, &store, &mut second, one, maker.make(8));
+    let two = claims(rt, &store, &mut third, 9, 9);
+    commits(rt, &store, &mut third, two, maker.make(9));
+    tape(alloc, store, first, second, third)
+}
+
+// A window of one.
+fn single<V: Work, N: Bounds<V::Job>, R: Wait + Abort, M: Maker<V>>(
+    rt: &R,
+    alloc: Global,
+    jobs: &[V::Job],
+    maker: &M,
+) -> Result<Vec<Line>, NoMemory>
+    requires bounds { (N.setup ≡ record { first = 7; sizes = 9 ∷ 0 ∷ 9 ∷ []; window = 1; most = 1 }) × (N.workers ≡ 3) × (N.jobs ≡ jobs.now) }
+    requires jobs { (length jobs.now ≡ 3) × (M.jobs maker.now ≡ jobs.now) × (M.first maker.now ≡ 7) }
+{
+    let (store, passes) = RingStore::<V, N>::new(alloc, jobs, &[9, 0, 9], 7, 1, 1, 3)?;
+    let (mut first, mut second, third) = three(&store, passes);
+    let zero = claims(rt, &store, &mut first, 7, 7);
+    is_full(rt, &store, &mut second, (8, 7));
+    commits(rt, &store, &mut first, zero, maker.make(7));
+    let one = claims(rt, &store, &mut second, 8, 8);
+    commits(rt, &store, &mut second, one, maker.make(8));
+    tape(alloc, store, first, second, third)
+}
+
+type Runs = (Vec<Line>, Vec<Line>);
+
+fn from_nothing<'a, R: Wait + Abort>(
+    rt: &R,
+    alloc: Global,
+    jobs: &'a [Text<'a>],
+) -> Result<Runs, NoMemory>
+    requires { length jobs.now ≡ 3 }
+{
+    let maker = Counter { first: 0, jobs };
+    let one = narrow::<Counted<'a>, Brand, R, Counter<'a>>(rt, alloc, jobs, &maker)?;
+    let other = short::<Counted<'a>, Brand, R, Counter<'a>>(rt, alloc, jobs, &maker)?;
+    Ok((one, other))
+}
+
+fn from_seven<'a, R: Wait + Abort>(
+    rt: &R,
+    alloc: Global,
+    jobs: &'a [Text<'a>],
+) -> Result<Runs, NoMemory>
+    requires { length jobs.now ≡ 3 }
+{
+    let maker = Counter { first: 7, jobs };
+    let one = heavy::<Counted<'a>, Brand, R, Counter<'a>>(rt, alloc, jobs, &maker)?;
+    let other = single::<Counted<'a>, Brand, R, Counter<'a>>(rt, alloc, jobs, &maker)?;
+    Ok((one, other))
+}
+
+fn make_text<'a>(number: u32) -> Text<'a> {
+    Text {
+        number,
+        letters: b"ab",
+    }
+}
+
+#[test]
+fn three_passes_share_a_ring(rt: HostRuntime) -> Result<(), Fail> {
+    let low = [make_text(0), make_text(1), make_text(2)];
+    let runs = from_nothing(&rt, rt.alloc(), &low)?;
+    let narrow = [
+        written(0, 0, 0, true),
+        written(1, 1, 0, true),
+        written(2, 0, 1, true),
+    ];
+    let short = [
+        written(0, 0, 0, true),
+        written(1, 1, 0, false),
+        written(2, 2, 0, true),
+    ];
+    assert!(rt; runs.0.as_slice() == narrow.as_slice());
+    assert!(rt; runs.1.as_slice() == short.as_slice());
+    let high = [make_text(7), make_text(8), make_text(9)];
+    let runs = from_seven(&rt, rt.alloc(), &high)?;
+    let heavy = [
+        written(7, 0, 7, true),
+        written(8, 1, 7, true),
+        written(9, 2, 9, true),
+    ];
+    let single = [written(7, 0, 7, true), written(8, 1, 8, true)];
+    assert!(rt; runs.0.as_slice() == heavy.as_slice());
+    assert!(rt; runs.1.as_slice() == single.as_slice());
+    Ok(())
+}
+
+// A value that is its number.
+#[derive(Drop)]
+struct Plain {
+    number: u32,
+}
+
+impl Work for Plain {
+    type Job = u32;
+
+    ghost job = { λ p. p.number };
+
+    ghost bad = { λ j. false };
+
+    ghost number = { λ p. p.number };
+
+    fn number(&self) -> u32 {
+        self.number
+    }
+}
+
+// Makes plain values. The numbers below `holding` are made only once those of the two masks were
+// begun and made, or once a limit is reached.
+#[derive(Drop)]
+struct Gated<'j> {
+    jobs: &'j [u32],
+    holding: u32,
+    want_begun: u64,
+    want_made: u64,
+    limit: u32,
+    begun: AtomicU64,
+    made: AtomicU64,
+    reached: AtomicU64,
+}
+
+impl<'j> Gated<'j> {
+    fn new(jobs: &'j [u32], holding: u32, want_begun: u64, want_made: u64, limit: u32) -> Gated<'j>
+        ensures { result.jobs.now ≡ jobs.now }
+    {
+        Gated {
+            jobs,
+            holding,
+            want_begun,
+            want_made,
+            limit,
+            begun: AtomicU64::new(0),
+            made: AtomicU64::new(0),
+            reached: AtomicU64::new(0),
+        }
+    }
+
+    fn may_go(&self) -> bool {
+        self.begun.load(SeqCst) & self.want_begun == self.want_begun
+            && self.made.load(SeqCst) & self.want_made == self.want_made
+    }
+
+    fn wait(&self, number: u32) {
+        let bit = 1 << (number % 64);
+        self.begun.fetch_or(bit, SeqCst);
+        if number < self.holding {
+            for _ in 0..self.limit {
+                if self.may_go() {
+                    break;
+                }
+                thread::yield_now();
+            }
+            if !self.may_go() {
+                self.reached.store(1, SeqCst);
+            }
+        }
+        self.made.fetch_or(bit, SeqCst);
+    }
+}
+
+impl<'j> Maker<Plain> for Gated<'j> {
+    ghost first = { λ m. 0 };
+
+    ghost jobs = { λ m. m.jobs.now };
+
+    fn make(&self, number: u32) -> Named<Plain> {
+        self.wait(number);
+        match self.jobs.get(number as usize) {
+            Some(&job) if job == number => Named::Made(Plain { number }),
+            _ => Named::Short(number),
+        }
+    }
+}
+
+// Claims and commits until all are claimed.
+fn work<V: Work, N: Bounds<V::Job>, R: Wait, M: Maker<V>>(
+    rt: &R,
+    store: &RingStore<V, N>,
+    pass: &mut Pass<V, N>,
+    maker: &M,
+)
+    requires named { (M.first maker.now ≡ N.setup.first) × (M.jobs maker.now ≡ N.jobs) }
+    requires free { (pass.old.table ≡ store.now.table.shared.table_id) × (pass.old.holds ≡ None) }
+    ensures { (pass.new.table ≡ pass.old.table) × (pass.new.holds ≡ None) × (pass.new.next ≡ end_of N.setup) }
+{
+    for _ in rt.forever() {
+        match store.claim(rt, pass) {
+            ClaimAnswer::Claim(claim) => {
+                let named = maker.make(claim.number());
+                store.commit(rt, pass, claim, named);
+            }
+            ClaimAnswer::Full {
+                next: _,
+                drained: _,
+            } => {}
+            ClaimAnswer::AllClaimed => return,
+        }
+    }
+    unreachable!()
+}
+
+// A worker for each pass.
+fn all_work<
+    V: Work + Send,
+    N: Bounds<V::Job> + Send + Sync,
+    R: Threads + Wait + Sync,
+    M: Maker<V> + Sync,
+>(rt: &R, store: &RingStore<V, N>, passes: &mut [Pass<V, N>], maker: &M)
+    requires some { 0 < length passes.old }
+    requires named { (M.first maker.now ≡ N.setup.first) × (M.jobs maker.now ≡ N.jobs) }
+    requires free { All (λ p. (p.table ≡ store.now.table.shared.table_id) × (p.holds ≡ None)) passes.old }
+    ensures { All (λ p. (p.table ≡ store.now.table.shared.table_id) × (p.holds ≡ None)) passes.new }
+{
+    let threads = passes.len();
+    thread::for_each_mut(
+        rt,
+        passes,
+        threads,
+        &|_, pass: &mut Pass<V, N>|
+            requires { (pass.old.table ≡ store.now.table.shared.table_id) × (pass.old.holds ≡ None) × (M.first maker.now ≡ N.setup.first) × (M.jobs maker.now ≡ N.jobs) }
+            ensures { (pass.new.table ≡ pass.old.table) × (pass.new.holds ≡ None) }
+        { work(rt, store, pass, maker) },
+    );
+}
+
+fn shared<
+    V: Work + Send,
+    N: Bounds<V::Job> + Send + Sync,
+    R: Threads + Wait + Sync,
+    M: Maker<V> + Sync,
+>(
+    rt: &R,
+    alloc: Global,
+    jobs: &[V::Job],
+    sizes: &[u32],
+    limits: (u32, u32, u32),
+    maker: &M,
+) -> Result<Vec<Line>, NoMemory>
+    requires bounds { (N.setup ≡ record { first = 0; sizes = sizes.now; window = limits.0; most = limits.1 }) × (N.workers ≡ limits.2) × (N.jobs ≡ jobs.now) }
+    requires jobs { (0 < length jobs.now) × (length jobs.now ≤ 2 ^ 20) × (length jobs.now ≡ length sizes.now) × (M.jobs maker.now ≡ jobs.now) × (M.first maker.now ≡ 0) }
+    requires sizes { sum sizes.now ≤ 2 ^ 28 }
+    requires limits { (0 < limits.0) × (limits.0 ≤ 1024) × (0 < limits.1) × (limits.1 ≤ 2 ^ 28) × (0 < limits.2) × (limits.2 ≤ 64) }
+{
+    let (window, most, workers) = limits;
+    let (store, mut passes) = RingStore::<V, N>::new(alloc, jobs, sizes, 0, window, most, workers)?;
+    all_work(rt, &store, passes.as_mut_slice(), maker);
+    lines(alloc, store.into_tape(passes))
+}
+
+// A window, `most` and a number of workers.
+fn by_threads<'j, R: Threads + Wait + Sync>(
+    rt: &R,
+    alloc: Global,
+    jobs: &'j [u32],
+    sizes: &[u32],
+    limits: (u32, u32, u32),
+    maker: &Gated<'j>,
+) -> Result<Vec<Line>, NoMemory>
+    requires jobs { (0 < length jobs.now) × (length jobs.now ≤ 2 ^ 20) × (length jobs.now ≡ length sizes.now) × (maker.now.jobs.now ≡ jobs.now) }
+    requires sizes { sum sizes.now ≤ 2 ^ 28 }
+    requires limits { (0 < limits.0) × (limits.0 ≤ 1024) × (0 < limits.1) × (limits.1 ≤ 2 ^ 28) × (0 < limits.2) × (limits.2 ≤ 64) }
+{
+    shared::<Plain, Brand, R, Gated<'j>>(rt, alloc, jobs, sizes, limits, maker)
+}
+
+// The numbers, each of a size from 0 to 7.
+fn many(alloc: Global) -> Result<(Vec<u32>, Vec<u32>), NoMemory>
+    ensures { IfOk result (λ v. (length v.0.items ≡ 20000) × (length v.1.items ≡ 20000) × (sum v.1.items ≤ 2 ^ 28)) }
+{
+    let mut numbers = Vec::with_capacity(alloc, 20000)?;
+    let mut sizes = Vec::with_capacity(alloc, 20000)?;
+    for number in 0..20000 {
+        numbers.push_reserved(number);
+        sizes.push_reserved(number * 7919 % 8);
+    }
+    Ok((numbers, sizes))
+}
+
+#[test]
+fn four_threads_fill_the_tape(rt: HostRuntime) -> Result<(), Fail> {
+    let (jobs, sizes) = many(rt.alloc())?;
+    let maker = Gated::new(jobs.as_slice(), 0, 0, 0, 0);
+    let limits = (3, 10, 4);
+    let lines = by_threads(
+        &rt,
+        rt.alloc(),
+        jobs.as_slice(),
+        sizes.as_slice(),
+        limits,
+        &maker,
+    )?;
+    assert_eq!(rt; lines.len(), 20000);
+    let mut others = 0_u32;
+    for (place, line) in lines.iter().enumerate() {
+        assert!(rt; line.number as usize == place && line.made && line.worker < 4);
+        assert!(rt; line.seen <= line.number && line.number - line.seen < 3);
+        if line.worker != 0 {
+            others = 1;
+        }
+    }
+    assert_eq!(rt; others, 1);
+    Ok(())
+}
+
+#[test]
+fn gates_open_or_hold(rt: HostRuntime) -> Result<(), Fail> {
+    let jobs = [0, 1, 2, 3, 4, 5, 6, 7];
+    let sizes = [1, 1, 1, 1, 1, 1, 1, 1];
+    let alloc = rt.alloc();
+    // Two workers are really at work at once.
+    let both = Gated::new(&jobs, 2, 3, 0, 10_000_000);
+    let lines = by_threads(&rt, alloc, &jobs, &sizes, (8, 8, 2), &both)?;
+    assert!(rt; lines.len() == 8 && lines[0].worker != lines[1].worker);
+    assert_eq!(rt; both.reached.load(SeqCst), 0);
+    // One that is stalled holds back nobody inside the window.
+    let stalled = Gated::new(&jobs, 1, 0, 254, 10_000_000);
+    let lines = by_threads(&rt, alloc, &jobs, &sizes, (8, 8, 2), &stalled)?;
+    assert!(rt; lines.len() == 8);
+    assert_eq!(rt; stalled.reached.load(SeqCst), 0);
+    for line in lines.iter().skip(1) {
+        assert!(rt; line.seen == 0 && line.worker != lines[0].worker);
+    }
+    // As many workers, and a window as wide, as there may be.
+    let open = Gated::new(&jobs, 0, 0, 0, 0);
+    let lines = by_threads(&rt, alloc, &jobs, &sizes, (1024, 8, 64), &open)?;
+    assert!(rt; lines.len() == 8);
+    // A window of one, and `most` of 1, hold back.
+    for limits in [(1, 8, 2), (2, 1, 2)] {
+        let held = Gated::new(&jobs, 1, 2, 0, 2_000);
+        let lines = by_threads(&rt, alloc, &jobs, &sizes, limits, &held)?;
+        assert!(rt; lines.len() == 8 && lines[1].seen == 1);
+        assert_eq!(rt; held.reached.load(SeqCst), 1);
+    }
+    Ok(())
+}
