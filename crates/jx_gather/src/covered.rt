@@ -16,7 +16,7 @@ use crate::StreamFault;
 use crate::shapes::{geometry_of, tile_at, tile_count};
 use jx_geom::TileGeom;
 use jx_order::{OrderFault, PacketName, packets};
-use jx_stream::Stream;
+use jx_stream::{MainView, Stream};
 use std::alloc::Global;
 
 /// The packets of a tile in the order in which they are sent (ITU-T T.800, B.12); rule 25 at the tile's first SOT where
@@ -48,14 +48,19 @@ pub(crate) fn list_of(
 }
 
 /// Whether the packets of each tile are covered: rule 25 in the lowest tile where one isn't.
-pub(crate) fn check_covered(alloc: Global, stream: &Stream) -> Result<(), StreamFault>
+pub(crate) fn check_covered(
+    alloc: Global,
+    stream: &Stream,
+    main: &MainView<'_>,
+) -> Result<(), StreamFault>
+    requires main { main.now ≡ record { siz = stream.now.siz; main = stream.now.main } }
     requires range { StreamInRange stream.now }
     requires totals { totals_fault stream.now ≡ None }
     ensures whole { OnOk result ((t : ℕ) → t < tile_number stream.now.siz → IsWhole stream.now t) }
     ensures uncovered { IfErr result (λ fault. HasCause (IsUncovered stream.now) fault) }
 {
     for tile in 0..tile_count(stream) {
-        let geom = geometry_of(alloc, stream, tile)?;
+        let geom = geometry_of(alloc, stream, main, tile)?;
         list_of(alloc, stream, &geom)?;
     }
     Ok(())
