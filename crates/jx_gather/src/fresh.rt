@@ -10,13 +10,14 @@ ghost use Rattle.jx_gather.specs.Blocks.{band_blocks, component_blocks, resoluti
 ghost use Rattle.jx_gather.specs.Cells.{HasPrecinct, cells_at, fresh_component, fresh_precinct, fresh_precincts, fresh_resolution, sizes_of};
 ghost use Rattle.jx_gather.specs.Coding.{IsCoding};
 ghost use Rattle.jx_stream.specs.InRange.{StreamInRange};
+ghost use Rattle.jx_stream.specs.Params.{headers_at};
 ghost use Rattle.jx_stream.specs.Shapes.{geometry};
 
 use crate::layout::band_count;
 use jx_base::{Band, Block, BlockName, NoMemory, Pieces, Style};
 use jx_geom::TileGeom;
 use jx_head::{BandCells, Precinct};
-use jx_stream::Stream;
+use jx_stream::{Stream, TileView};
 use std::alloc::Global;
 
 /// How the code-blocks of a resolution are coded.
@@ -27,18 +28,18 @@ struct Coding {
     planes: [u32; 3],
 }
 
-fn coding_of(stream: &Stream, tile: u16, comp: u16, res: u8) -> Coding
-    ensures { IsCoding stream.now tile comp res result }
+fn coding_of(view: &TileView<'_>, comp: u16, res: u8) -> Coding
+    ensures { IsCoding view.now comp res result }
 {
-    let style = stream.params(tile, comp).style;
+    let style = view.style(comp);
     if res == 0 {
-        let planes = [stream.planes(tile, comp, res, Band::LL), 0, 0];
+        let planes = [view.planes(comp, res, Band::LL), 0, 0];
         return Coding { style, planes };
     }
     let planes = [
-        stream.planes(tile, comp, res, Band::HL),
-        stream.planes(tile, comp, res, Band::LH),
-        stream.planes(tile, comp, res, Band::HH),
+        view.planes(comp, res, Band::HL),
+        view.planes(comp, res, Band::LH),
+        view.planes(comp, res, Band::HH),
     ];
     Coding { style, planes }
 }
@@ -84,7 +85,7 @@ fn fresh_precinct(
     requires geometry { geom.now ≡ geometry stream.now geom.now.tile }
     requires limits { GeometryInRange geom.now }
     requires precinct { HasPrecinct geom.now comp res precinct }
-    requires coding { IsCoding stream.now geom.now.tile comp res coding }
+    requires coding { IsCoding (headers_at stream.now geom.now.tile) comp res coding }
     ensures { IfOk result (λ p. p ≡ fresh_precinct stream.now geom.now comp res precinct) }
 {
     let [first, second, third] = coding.planes;
@@ -105,11 +106,13 @@ fn fresh_precinct(
 fn push_resolution(
     alloc: Global,
     stream: &Stream,
+    view: &TileView<'_>,
     geom: &TileGeom,
     comp: u16,
     res: u8,
     list: &mut Vec<Precinct>,
 ) -> Result<(), NoMemory>
+    requires view { view.now ≡ headers_at stream.now geom.now.tile }
     requires range { StreamInRange stream.now }
     requires tile { geom.now.tile < tile_number stream.now.siz }
     requires geometry { geom.now ≡ geometry stream.now geom.now.tile }
@@ -117,7 +120,7 @@ fn push_resolution(
     requires res { HasResolution geom.now comp res }
     ensures { OnOk result (list.new.items ≡ list.old.items ++ fresh_resolution stream.now geom.now comp res) }
 {
-    let coding = coding_of(stream, geom.number(), comp, res);
+    let coding = coding_of(view, comp, res);
     let (columns, rows) = geom.precincts(comp, res);
     for precinct in 0..columns * rows {
         list.push(fresh_precinct(alloc, stream, geom, comp, res, precinct, coding)?)?;
@@ -130,10 +133,12 @@ fn push_resolution(
 fn push_component(
     alloc: Global,
     stream: &Stream,
+    view: &TileView<'_>,
     geom: &TileGeom,
     comp: u16,
     list: &mut Vec<Precinct>,
 ) -> Result<(), NoMemory>
+    requires view { view.now ≡ headers_at stream.now geom.now.tile }
     requires range { StreamInRange stream.now }
     requires tile { geom.now.tile < tile_number stream.now.siz }
     requires geometry { geom.now ≡ geometry stream.now geom.now.tile }
@@ -142,7 +147,7 @@ fn push_component(
     ensures { OnOk result (list.new.items ≡ list.old.items ++ fresh_component stream.now geom.now comp) }
 {
     for res in 0..geom.levels(comp) + 1 {
-        push_resolution(alloc, stream, geom, comp, res, list)?;
+        push_resolution(alloc, stream, view, geom, comp, res, list)?;
     }
     Ok(())
 }
@@ -152,8 +157,10 @@ fn push_component(
 pub(crate) fn precincts_of(
     alloc: Global,
     stream: &Stream,
+    view: &TileView<'_>,
     geom: &TileGeom,
 ) -> Result<Vec<Precinct>, NoMemory>
+    requires view { view.now ≡ headers_at stream.now geom.now.tile }
     requires range { StreamInRange stream.now }
     requires tile { geom.now.tile < tile_number stream.now.siz }
     requires geometry { geom.now ≡ geometry stream.now geom.now.tile }
@@ -161,7 +168,7 @@ pub(crate) fn precincts_of(
 {
     let mut list = Vec::new(alloc);
     for comp in 0..geom.components() {
-        push_component(alloc, stream, geom, comp as u16, &mut list)?;
+        push_component(alloc, stream, view, geom, comp as u16, &mut list)?;
     }
     Ok(list)
 }
@@ -201,12 +208,14 @@ fn fresh_block<'a>(
 fn push_band<'a>(
     alloc: Global,
     stream: &Stream,
+    view: &TileView<'_>,
     geom: &TileGeom,
     comp: u16,
     res: u8,
     band: Band,
     list: &mut Vec<Block<'a>>,
 ) -> Result<(), NoMemory>
+    requires view { view.now ≡ headers_at stream.now geom.now.tile }
     requires range { StreamInRange stream.now }
     requires tile { geom.now.tile < tile_number stream.now.siz }
     requires geometry { geom.now ≡ geometry stream.now geom.now.tile }
@@ -215,8 +224,8 @@ fn push_band<'a>(
     ensures { OnOk result (list.new.items ≡ list.old.items ++ band_blocks stream.now geom.now [] comp res band) }
 {
     let tile = geom.number();
-    let style = stream.params(tile, comp).style;
-    let planes = stream.planes(tile, comp, res, band) as u8;
+    let style = view.style(comp);
+    let planes = view.planes(comp, res, band) as u8;
     for index in 0..band_count(geom, comp, res, band) {
         let name = BlockName {
             tile,
@@ -234,11 +243,13 @@ fn push_band<'a>(
 fn push_bands<'a>(
     alloc: Global,
     stream: &Stream,
+    view: &TileView<'_>,
     geom: &TileGeom,
     comp: u16,
     res: u8,
     list: &mut Vec<Block<'a>>,
 ) -> Result<(), NoMemory>
+    requires view { view.now ≡ headers_at stream.now geom.now.tile }
     requires range { StreamInRange stream.now }
     requires tile { geom.now.tile < tile_number stream.now.siz }
     requires geometry { geom.now ≡ geometry stream.now geom.now.tile }
@@ -246,11 +257,11 @@ fn push_bands<'a>(
     ensures { OnOk result (list.new.items ≡ list.old.items ++ resolution_blocks stream.now geom.now [] comp res) }
 {
     if res == 0 {
-        return push_band(alloc, stream, geom, comp, res, Band::LL, list);
+        return push_band(alloc, stream, view, geom, comp, res, Band::LL, list);
     }
-    push_band(alloc, stream, geom, comp, res, Band::HL, list)?;
-    push_band(alloc, stream, geom, comp, res, Band::LH, list)?;
-    push_band(alloc, stream, geom, comp, res, Band::HH, list)
+    push_band(alloc, stream, view, geom, comp, res, Band::HL, list)?;
+    push_band(alloc, stream, view, geom, comp, res, Band::LH, list)?;
+    push_band(alloc, stream, view, geom, comp, res, Band::HH, list)
 }
 
 /// Appends the code-blocks of a component.
@@ -258,10 +269,12 @@ fn push_bands<'a>(
 fn push_blocks<'a>(
     alloc: Global,
     stream: &Stream,
+    view: &TileView<'_>,
     geom: &TileGeom,
     comp: u16,
     list: &mut Vec<Block<'a>>,
 ) -> Result<(), NoMemory>
+    requires view { view.now ≡ headers_at stream.now geom.now.tile }
     requires range { StreamInRange stream.now }
     requires tile { geom.now.tile < tile_number stream.now.siz }
     requires geometry { geom.now ≡ geometry stream.now geom.now.tile }
@@ -269,7 +282,7 @@ fn push_blocks<'a>(
     ensures { OnOk result (list.new.items ≡ list.old.items ++ component_blocks stream.now geom.now [] comp) }
 {
     for res in 0..geom.levels(comp) + 1 {
-        push_bands(alloc, stream, geom, comp, res, list)?;
+        push_bands(alloc, stream, view, geom, comp, res, list)?;
     }
     Ok(())
 }
@@ -279,8 +292,10 @@ fn push_blocks<'a>(
 pub(crate) fn blocks_of<'a>(
     alloc: Global,
     stream: &Stream,
+    view: &TileView<'_>,
     geom: &TileGeom,
 ) -> Result<Vec<Block<'a>>, NoMemory>
+    requires view { view.now ≡ headers_at stream.now geom.now.tile }
     requires range { StreamInRange stream.now }
     requires tile { geom.now.tile < tile_number stream.now.siz }
     requires geometry { geom.now ≡ geometry stream.now geom.now.tile }
@@ -288,7 +303,7 @@ pub(crate) fn blocks_of<'a>(
 {
     let mut list = Vec::new(alloc);
     for comp in 0..geom.components() {
-        push_blocks(alloc, stream, geom, comp as u16, &mut list)?;
+        push_blocks(alloc, stream, view, geom, comp as u16, &mut list)?;
     }
     Ok(list)
 }

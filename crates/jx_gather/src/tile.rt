@@ -3,6 +3,7 @@
 ghost use Rattle.std.specs.Prelude.{◌≡◌, ◌≤◌, ◌<◌, ◌+◌, ◌^◌, None, List, [], length, take, IfErr, OnOk};
 ghost use Rattle.jx_stream.specs.First.{tile_number};
 ghost use Rattle.jx_gather.specs.Faults.{HasCause};
+ghost use Rattle.jx_stream.specs.Params.{headers_at};
 ghost use Rattle.jx_stream.specs.Shapes.{geometry, tile_at};
 ghost use Rattle.jx_gather.specs.Totals.{totals_fault};
 ghost use Rattle.jx_gather.specs.Data.{window, end_of_data};
@@ -22,7 +23,7 @@ use crate::shapes::tile_at;
 use jx_base::Block;
 use jx_geom::TileGeom;
 use jx_order::PacketName;
-use jx_stream::{Body, Stream};
+use jx_stream::{Body, Stream, TileView};
 use std::alloc::Global;
 
 /// What the packets of a tile are read by.
@@ -124,11 +125,13 @@ pub(crate) fn read_tile<'a>(
     alloc: Global,
     bytes: &'a [u8],
     stream: &Stream,
+    view: &TileView<'_>,
     geom: &TileGeom,
     list: &[PacketName],
     blocks: &mut Vec<Block<'a>>,
 ) -> Result<(), StreamFault>
     requires fits { length bytes.now ≤ 2 ^ 28 }
+    requires view { view.now ≡ headers_at stream.now geom.now.tile }
     requires range { StreamInRange stream.now }
     requires totals { totals_fault stream.now ≡ None }
     requires tile { geom.now.tile < tile_number stream.now.siz }
@@ -140,7 +143,7 @@ pub(crate) fn read_tile<'a>(
     ensures ok { OnOk result (AreTileBlocks bytes.now stream.now geom.now.tile blocks.new.items) }
     ensures err { IfErr result (λ e. HasCause (BreaksTile bytes.now stream.now geom.now.tile) e) }
 {
-    let precincts = precincts_of(alloc, stream, geom)?;
+    let precincts = precincts_of(alloc, stream, view, geom)?;
     let layout = Layout::new(alloc, geom)?;
     let bodies = tile_at(stream, geom.number()).bodies.as_slice();
     let source = Source {

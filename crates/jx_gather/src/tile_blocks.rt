@@ -39,12 +39,13 @@ pub(crate) fn gather_tile<'a>(
     ensures broken { IfErr result (λ e. HasCause (BreaksTile bytes.entry.now stream.now tile) e) }
 {
     let geom = geometry_of(alloc, stream, main, tile)?;
+    let view = stream.tile_view(alloc, main, tile)?;
     let list = match list_of(alloc, stream, &geom) {
         Ok(list) => list,
         Err(fault) => return Err(fault),
     };
-    let mut blocks = blocks_of(alloc, stream, &geom)?;
-    match read_tile(alloc, bytes, stream, &geom, &list, &mut blocks) {
+    let mut blocks = blocks_of(alloc, stream, &view, &geom)?;
+    match read_tile(alloc, bytes, stream, &view, &geom, &list, &mut blocks) {
         Ok(()) => Ok(blocks),
         Err(fault) => Err(fault),
     }
