@@ -36,3 +36,4 @@ pub mod LayersFew
 pub mod CutRuns
 pub mod FitLemmas
 pub mod PlanLemmas
+pub mod ListedLemmas

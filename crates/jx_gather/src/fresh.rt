@@ -6,8 +6,8 @@ ghost use Rattle.jx_geom.specs.Geometry.{GeometryInRange, HasBlock, HasResolutio
 ghost use Rattle.jx_geom.specs.Ranges.{HasBand};
 ghost use Rattle.jx_geom.specs.Rects.{block_rect};
 ghost use Rattle.jx_stream.specs.First.{tile_number};
-ghost use Rattle.jx_gather.specs.Blocks.{band_blocks, component_blocks, resolution_blocks, tile_blocks};
-ghost use Rattle.jx_gather.specs.Cells.{HasPrecinct, cells_at, fresh_component, fresh_precinct, fresh_precincts, fresh_resolution, sizes_of};
+ghost use Rattle.jx_gather.specs.Blocks.{band_blocks, resolution_blocks, tile_blocks};
+ghost use Rattle.jx_gather.specs.Cells.{HasPrecinct, cells_at, fresh_precinct, fresh_precincts, fresh_resolution, sizes_of};
 ghost use Rattle.jx_gather.specs.Coding.{IsCoding};
 ghost use Rattle.jx_stream.specs.InRange.{StreamInRange};
 ghost use Rattle.jx_stream.specs.Params.{headers_at};
@@ -128,32 +128,7 @@ fn push_resolution(
     Ok(())
 }
 
-/// Appends the precincts of a component.
-#[tactic(auto, using(jx_base::proofs::Joined::joined_none, jx_base::proofs::Joined::joined_next), unfolding(crate::specs::Cells::fresh_component))]
-fn push_component(
-    alloc: Global,
-    stream: &Stream,
-    view: &TileView<'_>,
-    geom: &TileGeom,
-    comp: u16,
-    list: &mut Vec<Precinct>,
-) -> Result<(), NoMemory>
-    requires view { view.now ≡ headers_at stream.now geom.now.tile }
-    requires range { StreamInRange stream.now }
-    requires tile { geom.now.tile < tile_number stream.now.siz }
-    requires geometry { geom.now ≡ geometry stream.now geom.now.tile }
-    requires limits { GeometryInRange geom.now }
-    requires comp { comp < length geom.now.shapes }
-    ensures { OnOk result (list.new.items ≡ list.old.items ++ fresh_component stream.now geom.now comp) }
-{
-    for res in 0..geom.levels(comp) + 1 {
-        push_resolution(alloc, stream, view, geom, comp, res, list)?;
-    }
-    Ok(())
-}
-
-/// The precincts of a tile by component, resolution and number.
-#[tactic(auto, using(jx_base::proofs::Joined::joined_none, jx_base::proofs::Joined::joined_next), unfolding(crate::specs::Cells::fresh_precincts))]
+/// The precincts of a tile by component, resolution and number. A component without a sample in the tile costs nothing.
 pub(crate) fn precincts_of(
     alloc: Global,
     stream: &Stream,
@@ -166,9 +141,10 @@ pub(crate) fn precincts_of(
     requires geometry { geom.now ≡ geometry stream.now geom.now.tile }
     ensures { IfOk result (λ list. list.items ≡ fresh_precincts stream.now geom.now) }
 {
+    let rows = geom.resolutions();
     let mut list = Vec::new(alloc);
-    for comp in 0..geom.components() {
-        push_component(alloc, stream, view, geom, comp as u16, &mut list)?;
+    for row in rows {
+        push_resolution(alloc, stream, view, geom, row.comp, row.res, &mut list)?;
     }
     Ok(list)
 }
@@ -264,31 +240,7 @@ fn push_bands<'a>(
     push_band(alloc, stream, view, geom, comp, res, Band::HH, list)
 }
 
-/// Appends the code-blocks of a component.
-#[tactic(auto, using(jx_base::proofs::Joined::joined_none, jx_base::proofs::Joined::joined_next), unfolding(crate::specs::Blocks::component_blocks))]
-fn push_blocks<'a>(
-    alloc: Global,
-    stream: &Stream,
-    view: &TileView<'_>,
-    geom: &TileGeom,
-    comp: u16,
-    list: &mut Vec<Block<'a>>,
-) -> Result<(), NoMemory>
-    requires view { view.now ≡ headers_at stream.now geom.now.tile }
-    requires range { StreamInRange stream.now }
-    requires tile { geom.now.tile < tile_number stream.now.siz }
-    requires geometry { geom.now ≡ geometry stream.now geom.now.tile }
-    requires comp { comp < length geom.now.shapes }
-    ensures { OnOk result (list.new.items ≡ list.old.items ++ component_blocks stream.now geom.now [] comp) }
-{
-    for res in 0..geom.levels(comp) + 1 {
-        push_bands(alloc, stream, view, geom, comp, res, list)?;
-    }
-    Ok(())
-}
-
-/// The code-blocks of a tile in the order of their numbers.
-#[tactic(auto, using(jx_base::proofs::Joined::joined_none, jx_base::proofs::Joined::joined_next), unfolding(crate::specs::Blocks::tile_blocks))]
+/// The code-blocks of a tile in the order of their numbers. A component without a sample in the tile costs nothing.
 pub(crate) fn blocks_of<'a>(
     alloc: Global,
     stream: &Stream,
@@ -301,9 +253,10 @@ pub(crate) fn blocks_of<'a>(
     requires geometry { geom.now ≡ geometry stream.now geom.now.tile }
     ensures { IfOk result (λ list. list.items ≡ tile_blocks stream.now geom.now []) }
 {
+    let rows = geom.resolutions();
     let mut list = Vec::new(alloc);
-    for comp in 0..geom.components() {
-        push_blocks(alloc, stream, view, geom, comp as u16, &mut list)?;
+    for row in rows {
+        push_bands(alloc, stream, view, geom, row.comp, row.res, &mut list)?;
     }
     Ok(list)
 }
