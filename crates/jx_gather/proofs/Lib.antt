@@ -19,7 +19,6 @@ pub mod TotalLemmas
 pub mod CoveredLemmas
 pub mod ReadyLemmas
 pub mod TileLemmas
-pub mod LayoutLemmas
 pub mod ListLemmas
 pub mod FrontLemmas
 pub mod LaidLemmas

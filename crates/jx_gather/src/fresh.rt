@@ -2,18 +2,18 @@
 
 ghost use Rattle.std.specs.Prelude.{◌≡◌, ◌<◌, ◌≤◌, ◌++◌, [], length, IfOk, OnOk};
 ghost use Rattle.jx_base.specs.Places.{size_of};
-ghost use Rattle.jx_geom.specs.Geometry.{GeometryInRange, HasBlock, HasResolution, precincts_in, rect_of_tile, shape_of};
+ghost use Rattle.jx_geom.specs.Geometry.{GeometryInRange, HasBlock, HasResolution, blocks_in, precincts_in, rect_of_tile, shape_of};
 ghost use Rattle.jx_geom.specs.Ranges.{HasBand};
 ghost use Rattle.jx_geom.specs.Rects.{block_rect};
 ghost use Rattle.jx_stream.specs.First.{tile_number};
 ghost use Rattle.jx_gather.specs.Blocks.{band_blocks, resolution_blocks, tile_blocks};
-ghost use Rattle.jx_gather.specs.Cells.{HasPrecinct, cells_at, fresh_precinct, fresh_precincts, fresh_resolution, sizes_of};
+ghost use Rattle.jx_gather.specs.Cells.{fresh_precinct, fresh_precincts, fresh_resolution, sizes_of};
+ghost use Rattle.jx_geom.specs.Precincts.{HasPrecinct, cells_at};
 ghost use Rattle.jx_gather.specs.Coding.{IsCoding};
 ghost use Rattle.jx_stream.specs.InRange.{StreamInRange};
 ghost use Rattle.jx_stream.specs.Params.{headers_at};
 ghost use Rattle.jx_stream.specs.Shapes.{geometry};
 
-use crate::layout::band_count;
 use jx_base::{Band, Block, BlockName, NoMemory, Pieces, Style};
 use jx_geom::TileGeom;
 use jx_head::{BandCells, Precinct};
@@ -177,6 +177,15 @@ fn fresh_block<'a>(
         style: bits,
         pieces: Pieces::new(alloc),
     }
+}
+
+/// How many code-blocks a band has.
+fn band_count(geom: &TileGeom, comp: u16, res: u8, band: Band) -> u32
+    requires res { HasResolution geom.now comp res }
+    requires band { HasBand res band }
+    ensures { result ≡ size_of (blocks_in geom.now comp res band) }
+{
+    geom.cells(comp, res, band).area() as u32
 }
 
 /// Appends the code-blocks of a band.
