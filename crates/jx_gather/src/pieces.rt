@@ -5,8 +5,7 @@ ghost use Rattle.std.specs.List.{All};
 ghost use Rattle.jx_base.specs.Pieces.{value_of};
 ghost use Rattle.jx_geom.specs.Leaves.{AreLeaves};
 ghost use Rattle.jx_head.specs.Precinct.{all_blocks};
-ghost use Rattle.jx_geom.specs.Precincts.{HasPrecinct};
-ghost use Rattle.jx_geom.specs.Precincts.{leaves};
+ghost use Rattle.jx_geom.specs.Precincts.{HasPrecinct, leaf_number, leaves};
 ghost use Rattle.jx_gather.specs.Data.{parts_length};
 ghost use Rattle.jx_gather.specs.Blocks.{founds_from, zero_in};
 ghost use Rattle.jx_gather.specs.Put.{put_to, put_one, put_all};
@@ -56,6 +55,15 @@ fn zero_of(precinct: &Precinct, block: u32) -> u8
     }
 }
 
+/// The number among those of the tile of a code-block of a packet's precinct.
+fn leaf_number(geom: &TileGeom, all: &Leaves, name: PacketName, block: u32) -> usize
+    requires all { AreLeaves geom.now name.comp name.res name.precinct all.now }
+    requires block { block < leaves geom.now name.comp name.res name.precinct }
+    ensures { result ≡ leaf_number geom.now name.comp name.res name.precinct block }
+{
+    all.number(block)
+}
+
 /// Puts the bytes of a part to its block.
 fn put_part<'a>(
     blocks: &mut Vec<Block<'a>>,
@@ -81,7 +89,12 @@ fn put_part<'a>(
         bytes,
     };
     let zero = zero_of(precinct, part.block);
-    put_at(blocks, all.number(part.block), zero, piece)
+    put_at(
+        blocks,
+        leaf_number(geom, all, name, part.block),
+        zero,
+        piece,
+    )
 }
 
 /// Puts the pieces of a packet to their blocks. The precinct is the packet's, after its header was read.
