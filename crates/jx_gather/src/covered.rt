@@ -7,6 +7,7 @@ ghost use Rattle.jx_order.specs.Packets.{HasUncovered, IsPacket};
 ghost use Rattle.jx_stream.specs.First.{tile_number};
 ghost use Rattle.jx_gather.specs.Faults.{HasCause};
 ghost use Rattle.jx_stream.specs.InRange.{StreamInRange};
+ghost use Rattle.jx_stream.specs.Params.{headers_at};
 ghost use Rattle.jx_stream.specs.Shapes.{geometry, layers_of, tile_at};
 ghost use Rattle.jx_gather.specs.Totals.{totals_fault};
 ghost use Rattle.jx_gather.specs.Gathered.{IsListOf, IsUncovered, IsWhole};
@@ -16,7 +17,7 @@ use crate::StreamFault;
 use crate::shapes::{geometry_of, tile_at, tile_count};
 use jx_geom::TileGeom;
 use jx_order::{OrderFault, PacketName, packets};
-use jx_stream::{MainView, Stream};
+use jx_stream::{MainView, Stream, TileView};
 use std::alloc::Global;
 
 /// The packets of a tile in the order in which they are sent (ITU-T T.800, B.12); rule 25 at the tile's first SOT where
@@ -24,8 +25,10 @@ use std::alloc::Global;
 pub(crate) fn list_of(
     alloc: Global,
     stream: &Stream,
+    view: &TileView<'_>,
     geom: &TileGeom,
 ) -> Result<Vec<PacketName>, StreamFault>
+    requires view { view.now ≡ headers_at stream.now geom.now.tile }
     requires range { StreamInRange stream.now }
     requires tile { geom.now.tile < tile_number stream.now.siz }
     requires geometry { geom.now ≡ geometry stream.now geom.now.tile }
@@ -36,8 +39,7 @@ pub(crate) fn list_of(
     ensures uncovered { IfErr result (λ fault. HasCause (LacksPacket stream.now geom.now.tile) fault) }
 {
     let tile = tile_at(stream, geom.number());
-    let layers = stream.params(geom.number(), 0).layers;
-    match packets(alloc, geom, layers, tile.progressions.as_slice()) {
+    match packets(alloc, geom, view.layers(), tile.progressions.as_slice()) {
         Ok(list) => Ok(list),
         Err(OrderFault::Uncovered) => Err(StreamFault::Rule {
             number: 25,
@@ -60,8 +62,9 @@ pub(crate) fn check_covered(
     ensures uncovered { IfErr result (λ fault. HasCause (IsUncovered stream.now) fault) }
 {
     for tile in 0..tile_count(stream) {
-        let geom = geometry_of(alloc, stream, main, tile)?;
-        list_of(alloc, stream, &geom)?;
+        let view = stream.tile_view(alloc, main, tile)?;
+        let geom = geometry_of(alloc, stream, &view, tile)?;
+        list_of(alloc, stream, &view, &geom)?;
     }
     Ok(())
 }

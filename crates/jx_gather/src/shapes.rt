@@ -3,12 +3,13 @@
 ghost use Rattle.std.specs.Prelude.{◌≡◌, ◌<◌, IfOk, None, length};
 ghost use Rattle.jx_stream.specs.First.{tile_number};
 ghost use Rattle.jx_stream.specs.InRange.{StreamInRange};
+ghost use Rattle.jx_stream.specs.Params.{headers_at};
 ghost use Rattle.jx_stream.specs.Shapes.{geometry, tile_at};
 ghost use Rattle.jx_gather.specs.Totals.{totals_fault};
 
 use jx_base::NoMemory;
 use jx_geom::TileGeom;
-use jx_stream::{MainView, Stream, Tile};
+use jx_stream::{Stream, Tile, TileView};
 use std::alloc::Global;
 
 /// How many tiles the picture has, at most 65,535.
@@ -31,15 +32,14 @@ pub(crate) fn tile_at(stream: &Stream, tile: u16) -> &Tile
 pub(crate) fn geometry_of(
     alloc: Global,
     stream: &Stream,
-    main: &MainView<'_>,
+    view: &TileView<'_>,
     tile: u16,
 ) -> Result<TileGeom, NoMemory>
-    requires main { main.now ≡ record { siz = stream.now.siz; main = stream.now.main } }
+    requires view { view.now ≡ headers_at stream.now tile }
     requires range { StreamInRange stream.now }
     requires tile { tile < tile_number stream.now.siz }
     requires totals { totals_fault stream.now ≡ None }
     ensures { IfOk result (λ geom. geom ≡ geometry stream.now tile) }
 {
-    let view = stream.tile_view(alloc, main, tile)?;
     TileGeom::new(alloc, &view.canvas(), tile, view.shapes())
 }

@@ -38,9 +38,9 @@ pub(crate) fn gather_tile<'a>(
     ensures sound { IfOk result (λ blocks. All IsSound blocks.items) }
     ensures broken { IfErr result (λ e. HasCause (BreaksTile bytes.entry.now stream.now tile) e) }
 {
-    let geom = geometry_of(alloc, stream, main, tile)?;
     let view = stream.tile_view(alloc, main, tile)?;
-    let list = match list_of(alloc, stream, &geom) {
+    let geom = geometry_of(alloc, stream, &view, tile)?;
+    let list = match list_of(alloc, stream, &view, &geom) {
         Ok(list) => list,
         Err(fault) => return Err(fault),
     };

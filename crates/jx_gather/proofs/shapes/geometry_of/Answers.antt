@@ -11,8 +11,8 @@ use Rattle.jx_gather.proofs.shapes.geometry_of.Goals as goal
 pub new-requires-clause-limits : goal.new-requires-clause-limits
 new-requires-clause-limits c =
     let s = c.args.stream.now in
-    let shapes = c.shapes.ensures.value ∙ ap shapes_in c.in_ok-view.ensures in
-    let canvas = c.canvas.ensures.value ∙ ap (λ (h : TileHeaders). canvas_of h.siz) c.in_ok-view.ensures in
+    let shapes = c.shapes.ensures.value ∙ ap shapes_in c.requires.view in
+    let canvas = c.canvas.ensures.value ∙ ap (λ (h : TileHeaders). canvas_of h.siz) c.requires.view in
     let P : Canvas → Type 0 = λ x. WithinLimits x c.args.tile (shapes_of s c.args.tile) in
     let Q : List CompShape → Type 0 = λ x. WithinLimits c.canvas.result c.args.tile x in
     subst Q (sym shapes) (subst P (sym canvas) (tile_within s c.args.tile c.requires.range c.requires.totals c.requires.tile))
@@ -20,4 +20,4 @@ new-requires-clause-limits c =
 pub new-requires-clause-few : goal.new-requires-clause-few
 new-requires-clause-few c =
     let P : List CompShape → Type 0 = λ x. length x ≤ 2 ^ 14 in
-    subst P (sym (c.shapes.ensures.value ∙ ap shapes_in c.in_ok-view.ensures)) (few_shapes c.args.stream.now c.args.tile c.requires.range)
+    subst P (sym (c.shapes.ensures.value ∙ ap shapes_in c.requires.view)) (few_shapes c.args.stream.now c.args.tile c.requires.range)
