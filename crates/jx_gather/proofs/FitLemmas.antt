@@ -207,17 +207,18 @@ fit_bands s g style layers c r k base (b ∷ bands) leaf each =
     let taken : take n (map leaf (range_with_len base (size + rest))) ≡ front = ap (take n) all ∙ ap (λ (m : ℕ). take m (front ++ back)) long ∙ take-append_seam front back in
     let left : drop n (map leaf (range_with_len base (size + rest))) ≡ back = ap (drop n) all ∙ ap (λ (m : ℕ). drop m (front ++ back)) long ∙ drop-append_seam front back in
     let own : FitBand style layers planes base front = fit_band style layers planes base size leaf (λ i lt.
-        subst (λ (x : BlockName). FitsLeaf style layers (planes_at s g.tile c r x.band) (base + i) (leaf (base + i)) (leaf (base + i)).parts) (name_here g c r k b bands i lt) (each i (omega arith))) in
+    subst (λ (x : BlockName). FitsLeaf style layers (planes_at s g.tile c r x.band) (base + i) (leaf (base + i)) (leaf (base + i)).parts) (name_here g c r k b bands i lt) (each i (omega arith))) in
     let later : FitBands style layers (base + size) (bands_of s g c r k bands) back = fit_bands s g style layers c r k (base + size) bands leaf (λ i lt.
-        (let place : base + (size + i) ≡ base + size + i = omega arith in
-        let step : size + i - size ≡ i = omega arith in
-        let F : BlockName → ℕ → Type 0 = λ x m. FitsLeaf style layers (planes_at s g.tile c r x.band) m (leaf m) (leaf m).parts in
-        subst (λ (m : ℕ). F (name_from g c r k bands i) m) place
-        (subst (λ (x : BlockName). F x (base + (size + i))) (name_later g c r k b bands (size + i) (omega arith) ∙ ap (name_from g c r k bands) step) (each (size + i) (omega arith))))) in
+    (let place : base + (size + i) ≡ base + size + i = omega arith in
+    let step : size + i - size ≡ i = omega arith in
+    let F : BlockName → ℕ → Type 0 = λ x m. FitsLeaf style layers (planes_at s g.tile c r x.band) m (leaf m) (leaf m).parts in
+    subst (λ (m : ℕ). F (name_from g c r k bands i) m) place
+    (subst (λ (x : BlockName). F x (base + (size + i))) (name_later g c r k b bands (size + i) (omega arith) ∙ ap (name_from g c r k bands) step) (each (size + i) (omega arith))))) in
     let P : ℕ → List Leafed → Type 0 = λ p l. FitBand style layers p base l in
-    let Q : ℕ → List Leafed → Type 0 = λ m l. FitBands style layers (base + m) (bands_of s g c r k bands) l in
-    (subst (λ (p : ℕ). P p (take n (map leaf (range_with_len base (size + rest))))) (sym (planes_is cells planes)) (subst (P planes) (sym taken) own),
-    subst (λ (m : ℕ). Q m (drop n (map leaf (range_with_len base (size + rest))))) (sym n_is) (subst (Q size) (sym left) later))
+    let Q : ℕ → List Leafed → Type 0 = λ m l. FitBands style layers (base + m) (bands_of s g c r k bands) l in (
+      subst (λ (p : ℕ). P p (take n (map leaf (range_with_len base (size + rest))))) (sym (planes_is cells planes)) (subst (P planes) (sym taken) own),
+      subst (λ (m : ℕ). Q m (drop n (map leaf (range_with_len base (size + rest))))) (sym n_is) (subst (Q size) (sym left) later),
+    )
 
 short_range : (a n : ℕ) (leaf : ℕ → Leafed) → ((i : ℕ) → i < n → HasShort (leaf (a + i)).parts) → AllShort (map leaf (range_with_len a n))
 short_range a zero leaf each = tt

@@ -36,3 +36,6 @@ pub mod CutRuns
 pub mod FitLemmas
 pub mod PlanLemmas
 pub mod ListedLemmas
+pub mod CoverEither
+pub mod PartCuts
+pub mod AnotherLemmas

@@ -94,7 +94,7 @@ pub lower_done : (g : Geometry) (layers : ℕ) (list done rest : List PacketName
 lower_done g layers list done rest p l h e lt =
     let is = due_named g layers list done rest p h e in
     let q : PacketName = name_of l p.res p.comp p.precinct in
-    let named : IsNamed g layers q = record { layer = omega (arith, is.layer); named = is.named; resolution = is.resolution; precinct = is.precinct } in
+    let named : IsNamed g layers q = record { layer = omega (arith, is.layer); resolution = is.resolution; precinct = is.precinct } in
     let C : List PacketName → Type 0 = λ xs. Contains xs q in
     let R : PacketName → PacketName → Type 0 = λ a b. (SamePrecinct a b → a.layer < b.layer) in
     let A : List PacketName → Type 0 = λ xs. AllPairs R xs in

@@ -1,6 +1,6 @@
 -- What holds of the blocks that are gathered: there is one for each name, at its number, with the rect, the planes and the
--- style that the headers say; its pieces lie in layers of its tile, and in one layer it has at most 164 passes; without pieces
--- all its planes are zero planes (ITU-T T.800, B.7, B.10 and Table B.4).
+-- style that the headers say; its pieces lie in layers of its tile; in one layer it has at most 164 passes, cut at the ends of
+-- segments; without pieces all its planes are zero planes (ITU-T T.800, B.7, B.10 and Table B.4).
 use Rattle.std.specs.Prelude.{◌≡◌, ◌+◌, ◌<◌, ◌≤◌, ◌==◌, nat_lt, ℕ, List, [], ◌∷◌, length, map, slice_get, Option, Some, None, if◌then◌else◌}
 use Rattle.std.specs.List.{All, filter}
 use Rattle.jx_base.specs.declared.names.BlockName.{BlockName}
@@ -30,7 +30,7 @@ passes_below layer (p ∷ pieces) = if nat_lt p.layer layer then p.passes + pass
 unfoldable pub pieces_at : ℕ → List PieceValue → List PieceValue
 pieces_at layer pieces = filter (λ (p : PieceValue). p.layer == layer) pieces
 
--- in each layer there is a piece for each segment, or part of one, that the passes from there on reach into
+-- in each layer the passes are cut into pieces exactly after each pass that ends a segment (B.10.7)
 abbrev pub AreCutAtEnds : ℕ → List PieceValue → Type 0
 AreCutAtEnds style pieces = (layer : ℕ) → map (λ (p : PieceValue). p.passes) (pieces_at layer pieces) ≡ cut style (passes_below layer pieces) (passes_at layer pieces)
 

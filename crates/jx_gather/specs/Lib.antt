@@ -18,3 +18,4 @@ pub mod BlockOf
 pub mod Carries
 pub mod Either
 pub mod Planned
+pub mod Another

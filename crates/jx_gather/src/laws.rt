@@ -14,6 +14,7 @@ ghost use Rattle.jx_stream.specs.Shapes.{geometry, layers_of, style_of, tile_at}
 ghost use Rattle.jx_gather.specs.Totals.{totals_fault};
 ghost use Rattle.jx_gather.specs.Either.{HasBlocks, HasFault, HasList};
 ghost use Rattle.jx_gather.specs.Gathered.{IsBroken, IsCutUp, IsGathered, IsListOf, IsWhole};
+ghost use Rattle.jx_gather.specs.Another.{HaveSameBlocks};
 ghost use Rattle.jx_gather.specs.BlockOf.{AreBlocksOf};
 ghost use Rattle.jx_gather.specs.Cells.{precinct_bands};
 ghost use Rattle.jx_geom.specs.Precincts.{HasPrecinct};
@@ -50,7 +51,8 @@ pub fn gathered_is_well_formed()
 {}
 
 /// What is known of the blocks of a codestream: each name has its block at its number, with the rect, planes and style that the
-/// headers say, and pieces in layers of its tile, of at most 164 passes in one layer; each can be recoded or kept.
+/// headers say, and pieces in layers of its tile, in one layer of at most 164 passes and cut at the ends of segments; each block can
+/// be recoded or kept.
 pub fn blocks_are_named()
     ensures named { (b : List ℕ) (s : Stream) (blocks : List Block) → IsRead b s → length b ≤ 2 ^ 28 → totals_fault s ≡ None → IsGathered b s blocks → AreBlocksOf s blocks }
     ensures sound { (b : List ℕ) (s : Stream) (blocks : List Block) → IsRead b s → length b ≤ 2 ^ 28 → totals_fault s ≡ None → IsGathered b s blocks → All IsSound blocks }
@@ -77,6 +79,12 @@ pub fn carried_is_gathered()
         → AreBlocksOf s blocks → All IsSound blocks
         → ((t : ℕ) → t < tile_number s.siz → IsWhole s t) → ((t : ℕ) → t < tile_number s.siz → IsLaid b s t (packets t) (groups t))
         → ((t : ℕ) → t < tile_number s.siz → AllCarry s t blocks (packets t)) → IsGathered b s blocks }
+{}
+
+/// The blocks of a stream are blocks of another that has the same, as where it sends packets in another order or has other precincts
+/// (`jx_geom` has the law for the shapes).
+pub fn blocks_of_another()
+    ensures { (s other : Stream) (blocks : List Block) → HaveSameBlocks s other → AreBlocksOf s blocks → AreBlocksOf other blocks }
 {}
 
 /// The blocks of a stream, sound ones, with their pieces fit the leaves of its precincts, as `jx_head` asks for them where it writes

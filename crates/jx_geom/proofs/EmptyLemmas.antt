@@ -1,5 +1,5 @@
 -- A tile-component that has no place has no precinct and no code-block.
-use Rattle.std.proofs.Common.{◌≡◌, ℕ, zero, suc, ◌+◌, ◌-◌, ◌*◌, ◌^◌, ◌≤◌, ◌<◌, ◌⊎◌, inl, inr, ap, arith, refl}
+use Rattle.std.proofs.Common.{◌≡◌, ℕ, zero, suc, ◌+◌, ◌-◌, ◌*◌, ◌^◌, ◌≤◌, ◌<◌, ◌⊎◌, inl, inr, arith, refl}
 use Rattle.std.proofs.Math.Nat.{one-le-mul}
 use Rattle.std.proofs.lemmas.Bool.{cases_eq, cases_lt}
 use Rattle.std.proofs.lemmas.Nat.{pow_pos}
@@ -8,11 +8,10 @@ use Rattle.jx_base.specs.declared.names.Span.{Span}
 use Rattle.jx_base.specs.declared.names.Band.{Band}
 use Rattle.jx_base.specs.declared.names.Band.TheVariants.{LL, HL, LH, HH}
 use Rattle.jx_base.specs.Joined.{sum_below}
-use Rattle.jx_base.specs.Numbers.{ceil_of}
 use Rattle.jx_base.specs.Places.{length_of, size_of}
 use Rattle.jx_base.proofs.Ceilings.{ceil_grows}
 use Rattle.jx_geom.specs.declared.shape.CompShape.{CompShape}
-use Rattle.jx_geom.specs.Ranges.{HasBand, exponent_across, exponent_down}
+use Rattle.jx_geom.specs.Ranges.{exponent_across, exponent_down}
 use Rattle.jx_geom.specs.Spans.{scaled, band_span, cells}
 use Rattle.jx_geom.specs.Rects.{component_rect, resolution_rect, band_rect, band_level, off_across, off_down, block_across, block_down, precinct_cells, block_cells}
 use Rattle.jx_geom.specs.Counts.{precinct_count, block_count, resolution_blocks, component_blocks, component_precincts}

@@ -1,5 +1,5 @@
 -- The numbers of a precinct's blocks by a first number and a step for each band.
-use Rattle.std.proofs.Common.{◌≡◌, ℕ, ◌+◌, ◌-◌, ◌*◌, ◌/◌, ◌%◌, ◌^◌, ◌≤◌, ◌<◌, List, [], ◌∷◌, max, inl, inr, ◌∙◌, ap, sym, subst, refl, arith}
+use Rattle.std.proofs.Common.{◌≡◌, ℕ, ◌+◌, ◌-◌, ◌*◌, ◌/◌, ◌%◌, ◌≤◌, ◌<◌, List, [], ◌∷◌, max, inl, inr, ◌∙◌, ap, sym, subst, arith}
 use Rattle.std.proofs.lemmas.Bool.{cases_lt}
 use Rattle.std.proofs.lemmas.Bool.Decides.{nat_tests}
 use Rattle.jx_base.specs.declared.names.Band.{Band}
@@ -12,13 +12,12 @@ use Rattle.jx_geom.specs.declared.leaves.Leaves.{Leaves}
 use Rattle.jx_geom.specs.declared.leaves.Part.{Part}
 use Rattle.jx_geom.specs.Counts.{blocks_before_band}
 use Rattle.jx_geom.specs.Geometry.{Geometry, GeometryInRange, shape_of, rect_of_tile, blocks_in}
-use Rattle.jx_geom.specs.Leaves.{AreLeaves, count_of, leaf_at, part_at}
-use Rattle.jx_geom.specs.Numbering.{number_in_tile}
+use Rattle.jx_geom.specs.Leaves.{AreLeaves, leaf_at, part_at}
 use Rattle.jx_geom.specs.Precincts.{HasPrecinct, cells_at, leaves, leaf_index, leaf_name, leaf_number, name_from}
 use Rattle.jx_geom.specs.Resolutions.{resolution_at}
 use Rattle.jx_geom.proofs.LeafLemmas.{bands_low, bands_high, named, name_here, name_later, leaf_of, leaf_is, leaves_low, leaves_high, cell_in_band}
 use Rattle.jx_geom.proofs.TableLemmas.{at_blocks}
-use Rattle.jx_base.proofs.Raster.{raster_in, factor_some}
+use Rattle.jx_base.proofs.Raster.{factor_some}
 
 abbrev number_in_resolution : Geometry → BlockName → ℕ
 number_in_resolution g n = blocks_before_band (rect_of_tile g) (shape_of g n.comp) n.res n.band + n.index
@@ -187,7 +186,7 @@ made_part g c r k b before cells all p h there ec ea =
     → p.first ≡ before + number_at y (cells_at g c r k b).x.low (cells_at g c r k b).y.low
     → (j : ℕ) → j < size_of (cells_at g c r k b) → part_at p j ≡ before + leaf_index g c r k b j in
     subst P (sym ec) (subst Q (sym ea) (λ some wide stride first j lt.
-        part_index (cells_at g c r k b) (blocks_in g c r b) p before j (corner_in g c r k b h there some) lt wide stride first))
+    part_index (cells_at g c r k b) (blocks_in g c r b) p before j (corner_in g c r k b h there some) lt wide stride first))
 
 pub corner_of : (g : Geometry) (c r k : ℕ) (b : Band) (cells all : Rect) → GeometryInRange g → HasPrecinct g c r k
     → cells ≡ cells_at g c r k b → all ≡ blocks_in g c r b → 0 < size_of cells → InRect all cells.x.low cells.y.low

@@ -103,7 +103,10 @@ pub fn count_in(tile: Rect, comp: &CompShape) -> (u128, u128)
     if is_empty(tile, comp) {
         return (0, 0);
     }
-    (count_all_blocks(tile, comp), count_all_precincts(tile, comp))
+    (
+        count_all_blocks(tile, comp),
+        count_all_precincts(tile, comp),
+    )
 }
 
 /// How many code-blocks a component of a tile has, over all its bands (T.800, B.7).

@@ -76,14 +76,7 @@ impl Leaves {
 }
 
 /// The blocks of a precinct in a band of which so many blocks of the tile come before.
-fn part_of(
-    geom: &TileGeom,
-    comp: u16,
-    res: u8,
-    band: Band,
-    precinct: u32,
-    before: u32,
-) -> Part
+fn part_of(geom: &TileGeom, comp: u16, res: u8, band: Band, precinct: u32, before: u32) -> Part
     requires range { GeometryInRange geom.now }
     requires precinct { HasPrecinct geom.now comp res precinct }
     requires band { HasBand res band }

@@ -140,11 +140,7 @@ impl Table {
 
 /// The resolutions of a tile with components of these shapes.
 #[tactic(auto, using(jx_base::proofs::Joined::joined_none, jx_base::proofs::Joined::joined_next, crate::proofs::TableLemmas::precincts_more, crate::proofs::TableLemmas::blocks_more, crate::proofs::TableLemmas::precincts_room, crate::proofs::TableLemmas::blocks_room), unfolding(crate::specs::Resolutions::all_places, crate::specs::Resolutions::all_resolutions))]
-pub(crate) fn table_of(
-    alloc: Global,
-    tile: Rect,
-    comps: &[CompShape],
-) -> Result<Table, NoMemory>
+pub(crate) fn table_of(alloc: Global, tile: Rect, comps: &[CompShape]) -> Result<Table, NoMemory>
     requires few { length comps.now ≤ 2 ^ 14 }
     requires comps { ShapesInRange comps.now }
     requires blocks { tile_blocks tile comps.now ≤ 2 ^ 20 }

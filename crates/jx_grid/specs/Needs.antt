@@ -3,7 +3,7 @@ use Rattle.std.specs.Prelude.{ℕ, zero, suc, ◌≡◌, ◌+◌, ◌/◌, ◌%�
 use Rattle.jx_base.specs.MqTable.{MqContexts, mq_fresh}
 use Rattle.jx_base.specs.MqWriting.{MqGiven, Decided, Renewed, mq_write, mq_contexts_after, mq_bits}
 use Rattle.jx_base.specs.RawBits.{raw_write}
-use Rattle.jx_base.specs.Passes.{raw_pass, end_pass}
+use Rattle.jx_base.specs.Passes.{raw_pass, end_pass, resets, is_causal}
 use Rattle.jx_grid.specs.declared.question.Question.{Question}
 use Rattle.jx_grid.specs.declared.question.About.{About}
 use Rattle.jx_grid.specs.declared.question.About.TheVariants.{Bit, Sign, Run, High, Low, Symbol}
@@ -11,7 +11,6 @@ use Rattle.jx_grid.specs.Cells.{Cells, coef_at}
 use Rattle.jx_grid.specs.Asking.{Asking, Told, Ask}
 use Rattle.jx_grid.specs.Pass.{pass_of}
 use Rattle.jx_grid.specs.Symbol.{symbol_asked}
-use Rattle.jx_grid.specs.Segments.{resets, is_causal}
 use Rattle.jx_grid.specs.Reading.{Coding, turned_over, ends_by_symbol, zeros}
 
 -- the bit of weight 2 to a power at a place

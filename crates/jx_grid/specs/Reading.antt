@@ -4,13 +4,13 @@ use Rattle.jx_base.specs.declared.names.Band.{Band}
 use Rattle.jx_base.specs.MqTable.{MqContexts, mq_fresh, mq_row_of}
 use Rattle.jx_base.specs.MqReading.{MqReader, mq_reader, mq_bit, mq_after, mq_read}
 use Rattle.jx_base.specs.RawBits.{raw_bits, raw_looked}
-use Rattle.jx_base.specs.Passes.{raw_pass}
+use Rattle.jx_base.specs.Passes.{raw_pass, resets, is_causal, has_symbols}
 use Rattle.jx_grid.specs.declared.question.Question.{Question}
 use Rattle.jx_grid.specs.Cells.{Cells, zero_coef}
 use Rattle.jx_grid.specs.Asking.{told}
 use Rattle.jx_grid.specs.Pass.{pass_of}
 use Rattle.jx_grid.specs.Symbol.{symbol_asked}
-use Rattle.jx_grid.specs.Segments.{resets, is_causal, has_symbols, begins}
+use Rattle.jx_grid.specs.Segments.{begins}
 
 -- A coder within a segment: its bytes, whether it is raw, the arithmetic decoder's registers, the raw bits that weren't read,
 -- and the contexts

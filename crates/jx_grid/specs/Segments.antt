@@ -1,22 +1,10 @@
 -- Segments without where their bytes lie in memory, and the style bits that decide how passes are coded (ITU-T T.800, table A.19).
-use Rattle.std.specs.Prelude.{ℕ, ◌-◌, ◌/◌, ◌%◌, ◌==◌, Bool, ◌||◌, List}
+use Rattle.std.specs.Prelude.{ℕ, ◌-◌, ◌==◌, Bool, ◌||◌, List}
 use Rattle.std.specs.Borrow.{Bor}
 use Rattle.jx_base.specs.Passes.{end_pass}
 
 abbrev pub bytes_of : Bor (List ℕ) → List ℕ
 bytes_of s = s.now
-
--- style bit 1: contexts start anew at each pass
-abbrev pub resets : ℕ → Bool
-resets style = style / 2 % 2 == 1
-
--- style bit 3: vertically causal contexts
-abbrev pub is_causal : ℕ → Bool
-is_causal style = style / 8 % 2 == 1
-
--- style bit 5: segmentation symbols
-abbrev pub has_symbols : ℕ → Bool
-has_symbols style = style / 32 % 2 == 1
 
 -- the first pass of a segment
 abbrev pub begins : ℕ → ℕ → Bool

@@ -19,7 +19,7 @@ use Rattle.jx_head.specs.LeavesFit.{LeavesFit, LeavesInRange, FitsLeaf, FitBand,
 use Rattle.jx_head.proofs.CursorLemmas.{cursor_more}
 use Rattle.jx_head.proofs.FreshLemmas.{some_cells, unknown_at}
 use Rattle.jx_head.proofs.WriteLemmas.{due_split}
-use Rattle.jx_head.specs.Writable.{IsDue, IsWrites, BandsDone, AreDue, tolds_of, head_of, heads_of, AreFirst, AllFew, HeaderDone, AreMade, leaf_at, all_passes, passes_from}
+use Rattle.jx_head.specs.Writable.{IsDue, IsWrites, BandsDone, AreDue, tolds_of, head_of, heads_of, AreFirst, AllFew, AllBytes, HeaderDone, AreMade, leaf_at, all_passes, passes_from}
 
 -- ---- a list at a place
 pub record Place (A : Type 0) (xs : List A) (at : ℕ) (y x : A) : Type 0 where
@@ -170,36 +170,44 @@ few_at layer i [] x f lt e = absurd (omega arith)
 few_at layer zero (l ∷ ls) x f lt e =
     subst (λ (y : Leaf). passes_of (parts_in layer y.parts.items) < 2 ^ 16) (sym e)
     (let le : passes_of (parts_in layer l.parts.items) ≤ all_passes l.parts.items = in_le layer l.parts.items in let s : all_passes l.parts.items < 2 ^ 16 = f.0 in omega arith)
-few_at layer (suc i) (l ∷ ls) x f lt e = few_at layer i ls x f.2 (omega arith) e
+few_at layer (suc i) (l ∷ ls) x f lt e = few_at layer i ls x f.1 (omega arith) e
 
 few_split : (n : ℕ) (leaves : List Leafed) → AllFew (take n leaves) → AllFew (drop n leaves) → AllFew leaves
 few_split zero leaves a b = b
 few_split (suc n) [] a b = tt
-few_split (suc n) (l ∷ ls) a b = (a.0, a.1, few_split n ls a.2 b)
+few_split (suc n) (l ∷ ls) a b = (a.0, few_split n ls a.1 b)
 
 pub few_take : (n : ℕ) (leaves : List Leafed) → AllFew leaves → AllFew (take n leaves)
 few_take zero leaves f = tt
 few_take (suc n) [] f = tt
-few_take (suc n) (l ∷ ls) f = (f.0, f.1, few_take n ls f.2)
+few_take (suc n) (l ∷ ls) f = (f.0, few_take n ls f.1)
 
 pub few_drop : (n : ℕ) (leaves : List Leafed) → AllFew leaves → AllFew (drop n leaves)
 few_drop zero leaves f = f
 few_drop (suc n) [] f = tt
-few_drop (suc n) (l ∷ ls) f = few_drop n ls f.2
+few_drop (suc n) (l ∷ ls) f = few_drop n ls f.1
+
+bytes_take : (n : ℕ) (leaves : List Leafed) → AllBytes leaves → AllBytes (take n leaves)
+bytes_take zero leaves f = tt
+bytes_take (suc n) [] f = tt
+bytes_take (suc n) (l ∷ ls) f = (f.0, bytes_take n ls f.1)
+
+bytes_drop : (n : ℕ) (leaves : List Leafed) → AllBytes leaves → AllBytes (drop n leaves)
+bytes_drop zero leaves f = f
+bytes_drop (suc n) [] f = tt
+bytes_drop (suc n) (l ∷ ls) f = bytes_drop n ls f.1
 
 fit_leaf : (style layers planes block z : ℕ) (parts : List (ℕ × Part)) → planes ≤ 255 → FitsLeaf style layers planes block (record { zero = z; parts = parts }) parts →
-    (all_passes parts < 2 ^ 16) × (zero_leaf 0 z parts < 2 ^ 8)
-fit_leaf style layers planes block z [] le f = (omega arith, omega arith)
+    all_passes parts < 2 ^ 16
+fit_leaf style layers planes block z [] le f = omega arith
 fit_leaf style layers planes block z (p ∷ ps) le f =
     let a : all_passes (p ∷ ps) ≤ most_passes planes z = f.few in
-    let b : z < planes = f.zero_planes in
-    (omega arith, omega arith)
+    omega arith
 
 fit_band : (style layers planes block : ℕ) (leaves : List Leafed) → planes ≤ 255 → FitBand style layers planes block leaves → AllFew leaves
 fit_band style layers planes block [] le f = tt
 fit_band style layers planes block (l ∷ ls) le f =
-    let s = fit_leaf style layers planes block l.zero l.parts le f.0 in
-    (s.0, s.1, fit_band style layers planes (block + 1) ls le f.1)
+    (fit_leaf style layers planes block l.zero l.parts le f.0, fit_band style layers planes (block + 1) ls le f.1)
 
 pub fit_few : (style layers base : ℕ) (bands : List BandCells) (leaves : List Leafed) → AreBandCells bands → length leaves ≡ cells_in bands → FitBands style layers base bands leaves → AllFew leaves
 fit_few style layers base [] [] a e f = tt
@@ -210,19 +218,19 @@ fit_few style layers base (b ∷ bs) leaves a e f =
     few_split n leaves (fit_band style layers b.planes base (take n leaves) a.0.planes f.0) (fit_few style layers (base + n) bs (drop n leaves) a.1 (omega arith) f.1)
 
 -- ---- bands that are made
-zeros_fit : (planes i : ℕ) (leaves : List Leafed) → planes ≤ 255 → AllFew leaves → get_or (zero_leaves planes leaves) i 0 < 2 ^ 32
+zeros_fit : (planes i : ℕ) (leaves : List Leafed) → planes ≤ 255 → AllBytes leaves → get_or (zero_leaves planes leaves) i 0 < 2 ^ 32
 zeros_fit planes i [] le f = omega arith
-zeros_fit planes zero (l ∷ ls) le f = by l.parts f.1
+zeros_fit planes zero (l ∷ ls) le f = by l.parts f.0
   where
-    by : (parts : List (ℕ × Part)) → zero_leaf 0 l.zero parts < 2 ^ 8 → zero_leaf planes l.zero parts < 2 ^ 32
+    by : (parts : List (ℕ × Part)) → l.zero < 2 ^ 8 → zero_leaf planes l.zero parts < 2 ^ 32
     by [] lt = omega arith
     by (p ∷ ps) lt = omega arith
-zeros_fit planes (suc i) (l ∷ ls) le f = zeros_fit planes i ls le f.2
+zeros_fit planes (suc i) (l ∷ ls) le f = zeros_fit planes i ls le f.1
 
 few_leaf : (i : ℕ) (leaves : List Leafed) → AllFew leaves → all_passes (leaf_at leaves i).parts < 2 ^ 16
 few_leaf i [] f = omega arith
 few_leaf zero (l ∷ ls) f = f.0
-few_leaf (suc i) (l ∷ ls) f = few_leaf i ls f.2
+few_leaf (suc i) (l ∷ ls) f = few_leaf i ls f.1
 
 zero_at : (n i : ℕ) → ◌≡◌ {A = ℕ} (get_or (replicate n 0) i 0) 0
 zero_at n i = elim (cases_lt i n) [
@@ -236,8 +244,8 @@ zero_at n i = elim (cases_lt i n) [
     past : n ≤ i → get_or zeros i 0 ≡ 0
     past ge = let e : length zeros ≡ n = length-replicate n 0 in get_or_past zeros i 0 (omega arith)
 
-fresh_due : (layers : ℕ) (b : BandCells) (leaves : List Leafed) → IsBandCells b → 0 < b.wide → b.wide * b.high ≤ 2 ^ 20 → length leaves ≡ b.wide * b.high → AllFew leaves → IsWrites 0 leaves (fresh_writes layers b leaves)
-fresh_due layers b leaves is lt few all f = record {
+fresh_due : (layers : ℕ) (b : BandCells) (leaves : List Leafed) → IsBandCells b → 0 < b.wide → b.wide * b.high ≤ 2 ^ 20 → length leaves ≡ b.wide * b.high → AllFew leaves → AllBytes leaves → IsWrites 0 leaves (fresh_writes layers b leaves)
+fresh_due layers b leaves is lt few all f bytes = record {
   are = record {
     shape = record { some = some_cells b is lt; few = few };
     wide = refl;
@@ -246,7 +254,7 @@ fresh_due layers b leaves is lt few all f = record {
     all = all ∙ sym (length-replicate (b.wide * b.high) unknown_block);
     cursors = length-replicate (b.wide * b.high) 0 ∙ sym (length-replicate (b.wide * b.high) unknown_block);
     zeros_are = refl;
-    fit = λ i. zeros_fit b.planes i leaves is.planes f;
+    fit = λ i. zeros_fit b.planes i leaves is.planes bytes;
   };
   due = λ i. subst (λ (k : Known). IsDue 0 k (get_or (replicate (b.wide * b.high) 0) i 0) (leaf_at leaves i)) (sym (unknown_at (b.wide * b.high) i))
       (subst (λ (c : ℕ). IsDue 0 unknown_block c (leaf_at leaves i)) (sym (zero_at (b.wide * b.high) i)) (record { cursor_is = tt; few = (let s : all_passes (leaf_at leaves i).parts < 2 ^ 16 = few_leaf i leaves f in let e : passes_from 0 (leaf_at leaves i).parts ≡ all_passes (leaf_at leaves i).parts = from_first (leaf_at leaves i).parts in omega arith); lblock = omega arith }));
@@ -298,10 +306,10 @@ making_skip layers at base bands leaves made d m lt none =
     }
 
 pub making_next : (layers at base : ℕ) (bands : List BandCells) (leaves : List Leafed) (made : List Writes) (y : Writes) (d : BandCells) → Making layers at base bands leaves made → at < length bands → IsBandCells (get_or bands at d) →
-    0 < (get_or bands at d).wide → (get_or bands at d).wide * (get_or bands at d).high ≤ 2 ^ 20 → AllFew leaves →
+    0 < (get_or bands at d).wide → (get_or bands at d).wide * (get_or bands at d).high ≤ 2 ^ 20 → AllFew leaves → AllBytes leaves →
     y ≡ fresh_writes layers (get_or bands at d) (take ((get_or bands at d).wide * (get_or bands at d).high) (drop base leaves)) →
     Making layers (at + 1) (base + (get_or bands at d).wide * (get_or bands at d).high) bands leaves (made ++ y ∷ [])
-making_next layers at base bands leaves made y d m lt ok some few f y_is =
+making_next layers at base bands leaves made y d m lt ok some few f bytes y_is =
     let b = get_or bands at d in
     let n = b.wide * b.high in
     let mine = take n (drop base leaves) in
@@ -315,7 +323,7 @@ making_next layers at base bands leaves made y d m lt ok some few f y_is =
     let dl : length (drop base leaves) ≡ length leaves - base = length-drop base leaves in
     let tl : length mine ≡ min n (length (drop base leaves)) = length-take n (drop base leaves) in
     let all : length mine ≡ n = omega arith in
-    let due : IsWrites 0 mine z = fresh_due layers b mine ok some few all (few_take n (drop base leaves) (few_drop base leaves f)) in
+    let due : IsWrites 0 mine z = fresh_due layers b mine ok some few all (few_take n (drop base leaves) (few_drop base leaves f)) (bytes_take n (drop base leaves) (bytes_drop base leaves bytes)) in
     let part : take (length z.blocks) (drop (blocks_of made) leaves) ≡ mine = ap (λ (k : ℕ). take k (drop (blocks_of made) leaves)) blocks ∙ ap (λ (k : ℕ). take n (drop k leaves)) (sym is) in
     let m' : Making layers (at + 1) (base + n) bands leaves (made ++ z ∷ []) = record {
       cells = ap (λ (q : List Cells). q ++ fresh_bands (drop (at + 1) bands)) (map_snoc made z) ∙ append_assoc (map cells_of made) (cells_of z ∷ []) (fresh_bands (drop (at + 1) bands))

@@ -7,7 +7,7 @@ use Rattle.jx_head.specs.declared.BandCells.{BandCells}
 use Rattle.jx_head.specs.declared.Part.{Part}
 use Rattle.jx_head.specs.declared.known.Known.{Known}
 use Rattle.jx_head.specs.Packet.{Cells, BandTold, bands_bits, bands_after, unknown_block}
-use Rattle.jx_head.specs.Written.{Leafed, Writes, cells_of, values_of, entries_written, first_leaves, zero_leaf, zero_leaves, some_in}
+use Rattle.jx_head.specs.Written.{Leafed, Writes, cells_of, values_of, entries_written, first_leaves, zero_leaves, some_in}
 
 abbrev pub no_leaf : Leafed
 no_leaf = record { zero = 0; parts = [] }
@@ -107,10 +107,15 @@ abbrev pub all_passes : List (ℕ × Part) → ℕ
 all_passes [] = 0
 all_passes (p ∷ ps) = p.1.passes + all_passes ps
 
--- each block has few passes, and zero planes of a byte
+-- each block has few passes
 abbrev pub AllFew : List Leafed → Type 0
 AllFew [] = Unit {0}
-AllFew (l ∷ ls) = (all_passes l.parts < 2 ^ 16) × (zero_leaf 0 l.zero l.parts < 2 ^ 8) × AllFew ls
+AllFew (l ∷ ls) = (all_passes l.parts < 2 ^ 16) × AllFew ls
+
+-- each block's zero planes are a byte, as their type says
+abbrev pub AllBytes : List Leafed → Type 0
+AllBytes [] = Unit {0}
+AllBytes (l ∷ ls) = (l.zero < 2 ^ 8) × AllBytes ls
 
 -- when the header of a layer was written
 pub record HeaderDone (layer : ℕ) (leaves : List Leafed) (start ws : List Writes) (bytes : List ℕ) : Type 0 where

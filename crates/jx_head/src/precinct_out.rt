@@ -2,7 +2,7 @@ ghost use Rattle.std.specs.Prelude.{◌≡◌, ◌<◌, ◌≤◌, ◌+◌, ◌*
 ghost use Rattle.jx_head.specs.Precinct.{IsBandCells, CellsInRange, cells_in};
 ghost use Rattle.jx_head.specs.Written.{first_leaves, zero_leaves, parts_in, passes_of, some_in, next_header, state_of};
 ghost use Rattle.jx_head.specs.Leafs.{leaf_of};
-ghost use Rattle.jx_head.specs.Writable.{AreDue, BandsDone, AllFew, HeaderDone, AreMade, IsRising, AreRising};
+ghost use Rattle.jx_head.specs.Writable.{AreDue, BandsDone, AllFew, AllBytes, HeaderDone, AreMade, IsRising, AreRising};
 ghost use Rattle.jx_head.specs.LeavesFit.{LeavesFit, LeavesInRange, fresh_writes, parts_at, HasShort, AllShort};
 ghost use Rattle.jx_head.specs.ReadBack.{IsOneReading};
 
@@ -156,6 +156,7 @@ fn fresh_bands_out(
     requires bands { CellsInRange bands.now }
     requires all { length leaves.now ≡ cells_in bands.now }
     requires few { AllFew (map leaf_of leaves.now) }
+    requires bytes { AllBytes (map leaf_of leaves.now) }
     ensures { IfOk result (λ made. AreMade layers bands.now (map leaf_of leaves.now) made.items) }
 {
     let mut made = Vec::new(alloc);
@@ -210,11 +211,18 @@ fn lengths_are_short(parts: &[(u16, Part)])
     }
 }
 
-/// Says so of all blocks' lengths.
-fn all_are_short(leaves: &[Leaf])
-    ensures { AllShort (map leaf_of leaves.now) }
+/// Zero planes are a byte, as their type says.
+fn is_byte(zero: u8)
+    ensures { zero < 2 ^ 8 }
+{}
+
+/// Says so of all blocks.
+fn ranges_of_types(leaves: &[Leaf])
+    ensures short { AllShort (map leaf_of leaves.now) }
+    ensures bytes { AllBytes (map leaf_of leaves.now) }
 {
     for leaf in leaves {
+        is_byte(leaf.zero);
         lengths_are_short(&leaf.parts);
     }
 }
@@ -263,7 +271,7 @@ impl PrecinctOut {
         ensures { IfOk result (λ p. p ≡ record { style = style.bits; layers = layers; next = 0; bands = bands.now; leaves = map leaf_of leaves.items }) }
     {
         // Only proofs rest on it: it does no work.
-        all_are_short(&leaves);
+        ranges_of_types(&leaves);
         let mut made = fresh_bands_out(alloc, bands, layers, &leaves)?;
         let rising = are_rising(&leaves);
         let some = contributing(alloc, layers, &leaves)?;

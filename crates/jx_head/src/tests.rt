@@ -16,14 +16,14 @@ fn few(leaves: &[Leaf]) -> bool
     ensures { IsTrue result → AllFew (map leaf_of leaves.now) }
 {
     for leaf in leaves {
-        if !few_passes(leaf.zero, &leaf.parts) {
+        if !few_passes(&leaf.parts) {
             return false;
         }
     }
     true
 }
 
-fn few_passes(_zero: u8, parts: &[(u16, Part)]) -> bool
+fn few_passes(parts: &[(u16, Part)]) -> bool
     ensures { IsTrue result → all_passes parts.now < 2 ^ 16 }
 {
     let mut passes: u32 = 0;

@@ -1,5 +1,5 @@
 -- A key tells packets apart: where two precincts of a resolution stand in one place, they are one.
-use Rattle.std.proofs.Common.{◌≡◌, ℕ, ◌+◌, ◌-◌, ◌*◌, ◌/◌, ◌^◌, ◌≤◌, ◌<◌, List, [], ◌∷◌, inl, inr, ◌⊎◌, sym, subst, refl, arith, Ordering, nat_cmp, is_lt, false}
+use Rattle.std.proofs.Common.{◌≡◌, ℕ, ◌+◌, ◌-◌, ◌*◌, ◌/◌, ◌^◌, ◌≤◌, ◌<◌, List, [], ◌∷◌, inl, inr, ◌⊎◌, sym, subst, arith, Ordering, nat_cmp, is_lt, false}
 use Rattle.std.specs.Ordering.{ordering_then}
 use Rattle.std.proofs.Math.Nat.{mul-le-mul_right, lt-div-mul-add, one-le-mul}
 use Rattle.std.proofs.lemmas.Nat.{pow_pos}
@@ -16,14 +16,10 @@ use Rattle.jx_geom.specs.Spans.{scaled, cells, reference_of}
 use Rattle.jx_geom.specs.Rects.{component_rect, resolution_rect, precinct_cells, precinct_column_point, precinct_row_point}
 use Rattle.jx_geom.specs.Geometry.{Geometry, GeometryInRange, HasResolution, precincts_in, reference_across, reference_down, rect_of_tile, shape_of}
 use Rattle.jx_geom.proofs.SpanLemmas.{cells_low, reference_latest}
-use Rattle.jx_order.specs.declared.keys.Placed.{Placed}
+use Rattle.jx_order.specs.declared.groups.Group.{Group}
 use Rattle.jx_order.specs.declared.names.PacketName.{PacketName}
-use Rattle.jx_order.specs.declared.names.Order.{Order}
-use Rattle.jx_order.specs.declared.names.Order.TheVariants.{Lrcp, Rlcp, Rpcl, Pcrl, Cprl}
-use Rattle.jx_order.specs.Orders.{IsLess, ComesBefore, across_of, down_of}
+use Rattle.jx_order.specs.Orders.{IsLess, across_of, down_of}
 use Rattle.jx_order.specs.Packets.{IsPacket}
-use Rattle.jx_order.specs.Steps.{placed_of}
-use Rattle.jx_order.proofs.OrderLemmas.{same_fields}
 use Rattle.jx_base.proofs.Raster.{raster_in, raster_one}
 
 -- a later cell begins past the start of what is scaled
@@ -102,7 +98,7 @@ one_place g c r m n range h hm hn across down =
     (row_one (rect_of_tile g) (shape_of g c) r (row_at (precincts_in g c r) m) (row_at (precincts_in g c r) n) s im.down in_n.down down)
 
 -- the same with names of the component and resolution that are equal
-same_place : (g : Geometry) (layers : ℕ) (p q : PacketName) → GeometryInRange g → IsPacket g layers p → IsPacket g layers q
+pub same_place : (g : Geometry) (layers : ℕ) (p q : PacketName) → GeometryInRange g → IsPacket g layers p → IsPacket g layers q
     → p.comp ≡ q.comp → p.res ≡ q.res → across_of g p ≡ across_of g q → down_of g p ≡ down_of g q → p.precinct ≡ q.precinct
 same_place g layers p q range hp hq ec er across down =
     let A : ℕ → ℕ → Type 0 = λ c r. reference_across g p.comp p.res p.precinct ≡ reference_across g c r q.precinct in
@@ -114,101 +110,33 @@ same_place g layers p q range hp hq ec er across down =
     subst R (sym er) (subst Q (sym ec) h)) in
     one_place g p.comp p.res p.precinct q.precinct range hp.resolution hp.precinct (move K hq.precinct) (move A across) (move D down)
 
--- ---- the numbers before a name
-abbrev pub numbers : Placed → List ℕ
-numbers q = q.first ∷ q.second ∷ q.third ∷ q.fourth ∷ q.fifth ∷ []
-
-record Same (a b : Placed) : Type 0 where
-  pub first : a.first ≡ b.first
-  pub second : a.second ≡ b.second
-  pub third : a.third ≡ b.third
-  pub fourth : a.fourth ≡ b.fourth
-  pub fifth : a.fifth ≡ b.fifth
-
-same_numbers : (a b : Placed) → numbers a ≡ numbers b → Same a b
-same_numbers a b e = record { first = cc; second = cc; third = cc; fourth = cc; fifth = cc }
-
-name_from : (g : Geometry) (layers : ℕ) (o : Order) (p q : PacketName) → GeometryInRange g → IsPacket g layers p → IsPacket g layers q
-    → Same (placed_of g o p) (placed_of g o q) → p ≡ q
-name_from g layers Lrcp p q range hp hq e = same_fields p q e.first e.second e.third e.fourth
-name_from g layers Rlcp p q range hp hq e = same_fields p q e.second e.first e.third e.fourth
-name_from g layers Rpcl p q range hp hq e =
-    same_fields p q e.fifth e.first e.fourth (same_place g layers p q range hp hq e.fourth e.first e.third e.second)
-name_from g layers Pcrl p q range hp hq e =
-    same_fields p q e.fifth e.fourth e.third (same_place g layers p q range hp hq e.third e.fourth e.second e.first)
-name_from g layers Cprl p q range hp hq e =
-    same_fields p q e.fifth e.fourth e.first (same_place g layers p q range hp hq e.first e.fourth e.third e.second)
-
-pub one_name : (g : Geometry) (layers : ℕ) (o : Order) (p q : PacketName) → GeometryInRange g → IsPacket g layers p → IsPacket g layers q
-    → numbers (placed_of g o p) ≡ numbers (placed_of g o q) → p ≡ q
-one_name g layers o p q range hp hq e = name_from g layers o p q range hp hq (same_numbers (placed_of g o p) (placed_of g o q) e)
-
--- a last 0 changes no order
-drop_zero : (a b c d e f g h : ℕ) → IsLess (a ∷ b ∷ c ∷ d ∷ 0 ∷ []) (e ∷ f ∷ g ∷ h ∷ 0 ∷ []) → IsLess (a ∷ b ∷ c ∷ d ∷ []) (e ∷ f ∷ g ∷ h ∷ [])
-drop_zero a b c d e f g h less = elim less [
-  | inl lt ↦ inl lt
-  | inr one ↦ inr (
-    one.0,
-    elim one.1 [
-      | inl lt ↦ inl lt
-      | inr two ↦ inr (
-        two.0,
-        elim two.1 [
-          | inl lt ↦ inl lt
-          | inr three ↦ inr (
-            three.0,
-            elim three.1 [
-              | inl lt ↦ inl lt
-              | inr four ↦ elim four.1 [ inl zero_less ↦ absurd (omega (arith, zero_less)) | inr five ↦ absurd five.1 ]
-            ],
-          )
-        ],
-      )
-    ],
-  )
-]
-
-pub before_from : (g : Geometry) (o : Order) (p q : PacketName) → IsLess (numbers (placed_of g o p)) (numbers (placed_of g o q)) → ComesBefore g o p q
-before_from g Lrcp p q h = drop_zero p.layer p.res p.comp p.precinct q.layer q.res q.comp q.precinct h
-before_from g Rlcp p q h = drop_zero p.res p.layer p.comp p.precinct q.res q.layer q.comp q.precinct h
-before_from g Rpcl p q h = h
-before_from g Pcrl p q h = h
-before_from g Cprl p q h = h
-
-pub name_is : (g : Geometry) (o : Order) (p : PacketName) → (placed_of g o p).name ≡ p
-name_is g Lrcp p = refl
-name_is g Rlcp p = refl
-name_is g Rpcl p = refl
-name_is g Pcrl p = refl
-name_is g Cprl p = refl
+-- ---- the numbers that a group is sorted by
+abbrev pub heads : Group → List ℕ
+heads q = q.first ∷ q.second ∷ q.third ∷ q.fourth ∷ []
 
 -- ---- what a comparison field by field says
 pub then_not_lt : (a b : ℕ) (p : Ordering) → is_lt (ordering_then (nat_cmp a b) p) ≡ false → (b < a) ⊎ ((a ≡ b) × (is_lt p ≡ false))
 then_not_lt a b p h = grind (arith, nat_tests)
 
 -- b isn't before a
-pub not_before : (a b : Placed) (p : Ordering)
+pub not_before : (a b : Group) (p : Ordering)
     → is_lt (ordering_then (nat_cmp b.first a.first) (ordering_then (nat_cmp b.second a.second) (ordering_then (nat_cmp b.third a.third)
-    (ordering_then (nat_cmp b.fourth a.fourth) (ordering_then (nat_cmp b.fifth a.fifth) p))))) ≡ false
-    → IsLess (numbers a) (numbers b) ⊎ (numbers a ≡ numbers b)
+    (ordering_then (nat_cmp b.fourth a.fourth) p)))) ≡ false
+    → IsLess (heads a) (heads b) ⊎ (heads a ≡ heads b)
 not_before a b p h = elim (then_not_lt b.first a.first _ h) [
   | inl lt ↦ inl (inl lt)
   | inr one ↦ elim (then_not_lt b.second a.second _ one.1) [
     | inl lt ↦ inl (inr (sym one.0, inl lt))
     | inr two ↦ elim (then_not_lt b.third a.third _ two.1) [
       | inl lt ↦ inl (inr (sym one.0, inr (sym two.0, inl lt)))
-      | inr three ↦ elim (then_not_lt b.fourth a.fourth _ three.1) [
+      | inr three ↦ elim (then_not_lt b.fourth a.fourth p three.1) [
         | inl lt ↦ inl (inr (sym one.0, inr (sym two.0, inr (sym three.0, inl lt))))
-        | inr four ↦ elim (then_not_lt b.fifth a.fifth p four.1) [
-          | inl lt ↦ inl (inr (sym one.0, inr (sym two.0, inr (sym three.0, inr (sym four.0, inl lt)))))
-          | inr five ↦
-              let e1 : a.first ≡ b.first = sym one.0 in
-              let e2 : a.second ≡ b.second = sym two.0 in
-              let e3 : a.third ≡ b.third = sym three.0 in
-              let e4 : a.fourth ≡ b.fourth = sym four.0 in
-              let e5 : a.fifth ≡ b.fifth = sym five.0 in
-              inr (cc)
-        ]
+        | inr four ↦
+            let e1 : a.first ≡ b.first = sym one.0 in
+            let e2 : a.second ≡ b.second = sym two.0 in
+            let e3 : a.third ≡ b.third = sym three.0 in
+            let e4 : a.fourth ≡ b.fourth = sym four.0 in
+            inr (cc)
       ]
     ]
   ]

@@ -1,6 +1,11 @@
+pub mod ExistLemmas
 pub mod LessLemmas
+pub mod LoopLemmas
 pub mod OrderLemmas
 pub mod KeyLemmas
-pub mod PlacedLemmas
+pub mod RowLemmas
+pub mod GroupLemmas
+pub mod SortLemmas
 pub mod TableLemmas
+pub mod CoveredLemmas
 pub mod RiseLemmas

@@ -1,5 +1,5 @@
 -- The packets of a tile, those that a progression entry covers, and the order of all.
-use Rattle.std.specs.Prelude.{ℕ, zero, suc, ◌<◌, ◌≤◌, ◌≡◌, ◌^◌, ◌⊎◌, ◌↔◌, List, [], length, take, drop, slice_index_or}
+use Rattle.std.specs.Prelude.{ℕ, zero, suc, ◌<◌, ◌≤◌, ◌≡◌, ◌⊎◌, ◌↔◌, List, [], length, take, drop, slice_index_or}
 use Rattle.std.specs.List.{AllPairs, Contains}
 use Rattle.jx_base.specs.Places.{size_of}
 use Rattle.jx_geom.specs.Geometry.{Geometry, HasResolution, precincts_in}
@@ -7,10 +7,9 @@ use Rattle.jx_marker.specs.declared.Progression.{Progression}
 use Rattle.jx_order.specs.declared.names.PacketName.{PacketName}
 use Rattle.jx_order.specs.Orders.{ComesBefore, order_of}
 
--- B.9: a packet of a tile of so many layers; a component's number has 16 bits (Csiz)
+-- B.9: a packet of a tile of so many layers
 pub record IsPacket (g : Geometry) (layers : ℕ) (p : PacketName) : Type 0 where
   pub layer : p.layer < layers
-  pub named : p.comp < 2 ^ 16
   pub resolution : HasResolution g p.comp p.res
   pub precinct : p.precinct < size_of (precincts_in g p.comp p.res)
 

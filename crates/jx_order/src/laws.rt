@@ -1,7 +1,7 @@
 //! Laws over the definitions. They run no code.
 
 ghost use Rattle.std.specs.Prelude.{◌≡◌, ℕ, List};
-ghost use Rattle.jx_geom.specs.Geometry.{Geometry};
+ghost use Rattle.jx_geom.specs.Geometry.{Geometry, GeometryInRange};
 ghost use Rattle.jx_marker.specs.declared.Progression.{Progression};
 ghost use Rattle.jx_order.specs.declared.names.PacketName.{PacketName};
 ghost use Rattle.jx_order.specs.Packets.{IsOrder, LayersRise};
@@ -10,6 +10,12 @@ ghost use Rattle.jx_order.specs.Packets.{IsOrder, LayersRise};
 pub fn orders_are_one()
     ensures { (g : Geometry) (layers : ℕ) (entries : List Progression) (n : ℕ) (a b : List PacketName)
         → IsOrder g layers entries n a → IsOrder g layers entries n b → a ≡ b }
+{}
+
+/// Each geometry in its ranges has one, whatever the entries.
+pub fn orders_exist()
+    ensures { (g : Geometry) (layers : ℕ) (entries : List Progression) (n : ℕ) → GeometryInRange g
+        → (list : List PacketName) × IsOrder g layers entries n list }
 {}
 
 /// In a tile's list the packets of a precinct stand in the order of their layers, lowest first.

@@ -1,15 +1,15 @@
 //! Packet orders: the packets of a tile in the order in which they are sent (T.800, A.6.6 and B.12).
 #![tactic(auto)]
 
-mod ends;
-mod keys;
+mod covered;
+mod entry;
+mod groups;
 pub mod laws;
 mod listing;
-mod missing;
 mod names;
-mod placing;
-mod sent;
+mod rows;
 
+pub use covered::are_covered;
 pub use listing::packets;
 pub use names::{Order, OrderFault, PacketName};
 

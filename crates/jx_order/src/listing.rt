@@ -1,17 +1,17 @@
 //! The list of a tile's packets.
 
-ghost use Rattle.std.specs.Prelude.{◌≡◌, ◌≢◌, ◌≤◌, ◌↔◌, ◌++◌, ℕ, IfOk, OnOk, length, slice_index};
+ghost use Rattle.std.specs.Prelude.{◌≡◌, ◌≢◌, ◌≤◌, ◌↔◌, ℕ, IfOk, OnOk, length, slice_index};
 ghost use Rattle.std.specs.List.{All, AllPairs, Contains};
 ghost use Rattle.jx_order.specs.declared.names.PacketName.{PacketName};
 ghost use Rattle.jx_order.specs.Packets.{AreCovered, HasUncovered, IsOrder, IsPacket};
-ghost use Rattle.jx_order.specs.Steps.{HasPlaces, IsListed, IsTable};
+ghost use Rattle.jx_order.specs.Steps.{HasPlaces};
 
-use crate::missing::first_missing;
+use crate::covered::are_covered;
+use crate::entry::push_entry;
 use crate::names::{OrderFault, PacketName};
-use crate::placing::list_entry;
-use crate::sent::{mark, none_sent};
+use crate::rows::{mark, none_sent};
 use jx_base::NoMemory;
-use jx_geom::TileGeom;
+use jx_geom::{Resolution, TileGeom};
 use jx_marker::Progression;
 use std::alloc::Global;
 
@@ -19,7 +19,7 @@ use std::alloc::Global;
 /// progression entry sends those that it covers and that no entry before it sent, sorted by the key of its
 /// order, a number from 0 to 4; its ends are cut down to what is there (A.6.6). `Uncovered` comes exactly
 /// where some packet of the tile is in no entry. The time grows with the packets, and with the entries
-/// times the resolutions that they cover.
+/// times the resolutions of the components that have a sample.
 pub fn packets(
     alloc: Global,
     geom: &TileGeom,
@@ -33,32 +33,40 @@ pub fn packets(
     ensures once { IfOk result (λ list. AllPairs (λ p q. p ≢ q) list.items) }
     ensures uncovered { result ≡ Err OrderFault.Uncovered → HasUncovered geom.now layers entries.now }
 {
-    let mut sent = none_sent(alloc, geom)?;
-    list_covered(alloc, geom, layers, entries, &mut sent)
+    if !are_covered(geom, layers, entries) {
+        return Err(OrderFault::Uncovered);
+    }
+    Ok(list_covered(alloc, geom, layers, entries)?)
 }
 
-/// The same, with a table that says that nothing was sent.
+/// The list of a tile of which each packet is covered.
 fn list_covered(
     alloc: Global,
     geom: &TileGeom,
     layers: u16,
     entries: &[Progression],
-    sent: &mut [u16],
-) -> Result<Vec<PacketName>, OrderFault>
+) -> Result<Vec<PacketName>, NoMemory>
     requires entries { All (λ e. e.order ≤ 4) entries.now }
-    requires places { HasPlaces geom.now sent.old }
-    requires none { (i : ℕ) → slice_index sent.old i ≡ 0 }
-    ensures listed { IfOk result (λ list. IsListed geom.now layers entries.now list.items) }
-    ensures uncovered { result ≡ Err OrderFault.Uncovered → HasUncovered geom.now layers entries.now }
+    requires whole { AreCovered geom.now layers entries.now }
+    ensures order { IfOk result (λ list. IsOrder geom.now layers entries.now (length entries.now) list.items) }
+    ensures every { IfOk result (λ list. (p : PacketName) → Contains list.items p ↔ IsPacket geom.now layers p) }
+    ensures once { IfOk result (λ list. AllPairs (λ p q. p ≢ q) list.items) }
 {
-    let list = list_all(alloc, geom, layers, entries, sent)?;
-    match first_missing(geom, layers, sent) {
-        Some(_) => Err(OrderFault::Uncovered),
-        None => Ok(list),
-    }
+    let mut sent = none_sent(alloc, geom)?;
+    let list = list_all(alloc, geom, layers, entries, &mut sent)?;
+    Ok(list)
 }
 
-/// The lists of the entries joined.
+/// How many packets a tile has, at most the largest number of its type.
+fn count(rows: &[Resolution], layers: u16) -> usize {
+    let mut precincts: usize = 0;
+    for row in rows {
+        precincts = precincts.saturating_add(row.precincts as usize);
+    }
+    precincts.saturating_mul(usize::from(layers))
+}
+
+/// The lists of the entries joined, with a table that says that nothing was sent. Room is taken once.
 fn list_all(
     alloc: Global,
     geom: &TileGeom,
@@ -69,21 +77,12 @@ fn list_all(
     requires entries { All (λ e. e.order ≤ 4) entries.now }
     requires places { HasPlaces geom.now sent.old }
     requires none { (i : ℕ) → slice_index sent.old i ≡ 0 }
-    ensures order { IfOk result (λ list. IsOrder geom.now layers entries.now (length entries.now) list.items) }
-    ensures table { IfOk result (λ list. IsTable geom.now layers list.items sent.new) }
+    ensures { IfOk result (λ list. IsOrder geom.now layers entries.now (length entries.now) list.items) }
 {
-    let mut list = Vec::new(alloc);
+    let mut list = Vec::with_capacity(alloc, count(geom.resolutions(), layers))?;
     for entry in entries {
-        let next = list_entry(alloc, geom, layers, *entry, sent)?;
+        push_entry(alloc, geom, layers, *entry, sent, &mut list)?;
         mark(geom, layers, *entry, sent);
-        append(&mut list, &next)?;
     }
     Ok(list)
-}
-
-/// Appends a list.
-fn append(list: &mut Vec<PacketName>, next: &[PacketName]) -> Result<(), NoMemory>
-    ensures { OnOk result (list.new.items ≡ list.old.items ++ next.now) }
-{
-    Ok(list.extend_from_slice(next)?)
 }

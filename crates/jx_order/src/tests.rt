@@ -347,10 +347,13 @@ fn many_packets(rt: HostRuntime) -> Result<(), Fail> {
     let mut precincts = WHOLE;
     precincts[0] = 0;
     let geom = geometry(rt.alloc(), &square(256), 0, &[shape(1, 0, precincts)])?;
-    match list(rt.alloc(), &geom, 4, &[all(3)])? {
+    // The second entry begins behind a long list.
+    match list(rt.alloc(), &geom, 4, &[entry(3, 3, 33, 0), all(0)])? {
         Ok(names) => {
             assert_eq!(rt; names.len(), 262_144);
             assert_eq!(rt; names[0], name(0, 0, 0, 0));
+            assert_eq!(rt; names[196_607], name(2, 0, 0, 65_535));
+            assert_eq!(rt; names[196_608], name(3, 0, 0, 0));
             assert_eq!(rt; names[262_143], name(3, 0, 0, 65_535));
         }
         Err(_) => assert!(&rt; false, "uncovered"),
@@ -371,8 +374,9 @@ fn many_empty_resolutions(rt: HostRuntime) -> Result<(), Fail> {
         tx: 0,
         ty: 0,
     };
-    let comps = vec![in rt.alloc(); shape(255, 32, WHOLE); 2000]?;
+    let comps = vec![in rt.alloc(); shape(255, 32, WHOLE); 16_384]?;
     let geom = geometry(rt.alloc(), &canvas, 0, &comps)?;
-    expect_list(&rt, &list(rt.alloc(), &geom, u16::MAX, &[all(1)])?, &[]);
+    let entries = vec![in rt.alloc(); entry(1, 1, 33, 16_384); 728]?;
+    expect_list(&rt, &list(rt.alloc(), &geom, u16::MAX, &entries)?, &[]);
     Ok(())
 }

@@ -1,6 +1,7 @@
 -- The first bit that is left, or 1.
-use Rattle.std.proofs.Common.{◌≡◌, ◌+◌, ◌-◌, ◌<◌, ◌≤◌, ◌^◌, ◌==◌, ℕ, suc, Bool, true, false, List, [], ◌∷◌, length, refl, ap, arith, map, drop, zero, Bor, lit<, get_or, if◌then◌else◌}
+use Rattle.std.proofs.Common.{◌≡◌, ◌+◌, ◌-◌, ◌<◌, ◌≤◌, ◌^◌, ◌==◌, ℕ, suc, Bool, true, false, List, [], ◌∷◌, ◌++◌, length, refl, ap, arith, map, drop, zero, Bor, lit<, get_or, if◌then◌else◌}
 use Rattle.std.proofs.lemmas.List.{drop_all}
+use Rattle.std.proofs.lemmas.List.Elements.{All-cons, All-nil}
 use Rattle.jx_grid.specs.Segments.{bytes_of}
 use Rattle.jx_grid.specs.Reading.{first_segment}
 use Rattle.jx_passdec.specs.Short.{AreShort}
@@ -23,7 +24,7 @@ looked_short segment other n e h = let a = looked_most 0 segment n in let b = ap
 
 -- the first segment from a place on, and those after it
 pub first_there : (segments : List (Bor (List ℕ))) (i : ℕ) (d : Bor (List ℕ)) → i < length segments
-  → first_segment (map bytes_of (drop i segments)) ≡ (get_or segments i d).now
+    → first_segment (map bytes_of (drop i segments)) ≡ (get_or segments i d).now
 first_there [] i d h = absurd (omega arith)
 first_there (s ∷ rest) zero d h = refl
 first_there (s ∷ rest) (suc i) d h = first_there rest i d (omega arith)
@@ -40,3 +41,6 @@ none_there segments i h = rw (drop_all i segments h) refl
 pub short_first : (segments : List (List ℕ)) → AreShort segments → length (first_segment segments) < 2 ^ 32
 short_first [] h = lit< tt
 short_first (s ∷ rest) h = h 0 s (omega arith)
+
+pub one_short : (s : List ℕ) → length s < 2 ^ 32 → AreShort ([] ++ s ∷ [])
+one_short s h = All-cons (λ (t : List ℕ). length t < 2 ^ 32) s [] h (All-nil (λ (t : List ℕ). length t < 2 ^ 32))

@@ -23,7 +23,12 @@ pub struct Decoded {
 }
 
 /// A block of which no pass was decoded.
-fn start<'a>(alloc: Global, width: u16, height: u16, segments: &'a [&'a [u8]]) -> Result<Decoder<'a>, NoMemory>
+fn start<'a>(
+    alloc: Global,
+    width: u16,
+    height: u16,
+    segments: &'a [&'a [u8]],
+) -> Result<Decoder<'a>, NoMemory>
     ensures decoding { IfOk result (λ d. d ≡ at_start width height (map bytes_of segments.entry.now)) }
 {
     Ok(Decoder {
@@ -58,7 +63,12 @@ fn run<'a>(decoder: &mut Decoder<'a>, coded: &Coded) -> Result<(), NoMemory>
 /// The coefficients of a block of at most 1,024 by 1,024 places, from its coded passes (T.800, Annex
 /// D). Each segment has fewer than 2^32 bytes; one that isn't there is taken as one of no bytes.
 #[tactic(auto, unfolding(jx_grid::specs::Reading::decoded), using(jx_grid::proofs::Places::zeros_within))]
-pub fn decode_passes(alloc: Global, width: u16, height: u16, coded: &Coded) -> Result<Decoded, NoMemory>
+pub fn decode_passes(
+    alloc: Global,
+    width: u16,
+    height: u16,
+    coded: &Coded,
+) -> Result<Decoded, NoMemory>
     requires wide { width ≤ 1024 }
     requires high { height ≤ 1024 }
     requires some { 1 ≤ coded.now.planes }

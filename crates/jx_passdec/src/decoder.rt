@@ -1,9 +1,10 @@
 ghost use Rattle.std.specs.Prelude.{◌≡◌, ◌+◌, ◌++◌, ◌∷◌, [], ◌/◌, ◌%◌, ◌^◌, ◌==◌, ◌&&◌, ◌<◌, ℕ, length, drop, All, OnOk, IfOk};
 ghost use Rattle.jx_grid.specs.Cells.{Cells, HasSize, AreWithin, IsKept};
 ghost use Rattle.jx_grid.specs.Pass.{IsScan, plane_of};
-ghost use Rattle.jx_grid.specs.Segments.{is_causal, has_symbols, begins};
+ghost use Rattle.jx_grid.specs.Segments.{begins};
 ghost use Rattle.jx_grid.specs.Reading.{Decoding, coding_of, first_segment, opened, read_bits, read_symbol, looked_of, read_within, read_pass, first_wrong};
 ghost use Rattle.jx_passdec.specs.Short.{AreShort, with_bits};
+ghost use Rattle.jx_base.specs.Passes.{is_causal, has_symbols};
 
 use crate::reader::Reader;
 use jx_base::{Band, NoMemory, Style, ends_segment, is_raw};
@@ -42,7 +43,7 @@ fn begins_segment(style: Style, pass: u16) -> bool
 fn has_symbol(style: Style, pass: u16) -> bool
     ensures { result ≡ has_symbols style.bits && pass % 3 == 0 }
 {
-    style.bits / 32 % 2 == 1 && pass % 3 == 0
+    style.segmentation() && pass % 3 == 0
 }
 
 impl<'a> Decoder<'a> {
@@ -78,8 +79,7 @@ impl<'a> Decoder<'a> {
     /// Whether the segmentation symbol after a pass is right, where there is one.
     fn symbol(&mut self, style: Style, pass: u16) -> Result<bool, NoMemory>
         ensures right { IfOk result (λ right. right ≡ (read_symbol style.bits pass self.old.reading).0) }
-        ensures decoding { 
-            OnOk result (self.new ≡ record self.old { reading = (read_symbol style.bits pass self.old.reading).1 }) }
+        ensures decoding { OnOk result (self.new ≡ record self.old { reading = (read_symbol style.bits pass self.old.reading).1 }) }
         ensures kept { self.new.cells ≡ self.old.cells }
     {
         if !has_symbol(style, pass) {
@@ -91,8 +91,8 @@ impl<'a> Decoder<'a> {
     /// Notes what was looked at by the end of a pass, and whether its symbol is wrong.
     fn note(&mut self, pass: u16, right: bool) -> Result<(), NoMemory>
         ensures decoding { OnOk result (self.new ≡ record self.old {
-            looked = self.old.looked ++ looked_of self.old.reading ∷ [];
-            wrong = first_wrong self.old.wrong pass right;
+          looked = self.old.looked ++ looked_of self.old.reading ∷ [];
+          wrong = first_wrong self.old.wrong pass right;
         }) }
     {
         self.looked.push(self.reader.looked())?;
@@ -110,15 +110,21 @@ impl<'a> Decoder<'a> {
         ensures decoding { OnOk result (self.new ≡ with_bits self.old (read_bits (coding_of band style.bits planes) pass self.old)) }
         ensures kept { OnOk result (IsKept planes ((pass + 2) / 3 + 1) self.old.cells self.new.cells) }
     {
-        if style.bits / 2 % 2 == 1 {
+        if style.reset() {
             self.reader.renew();
         }
-        let causal = style.bits / 8 % 2 == 1;
+        let causal = style.causal();
         run_pass(&mut self.reader, &mut self.grid, band, causal, planes, pass)
     }
 
     /// A pass within its segment.
-    fn pass_within(&mut self, band: Band, style: Style, planes: u8, pass: u16) -> Result<(), NoMemory>
+    fn pass_within(
+        &mut self,
+        band: Band,
+        style: Style,
+        planes: u8,
+        pass: u16,
+    ) -> Result<(), NoMemory>
         requires scan { IsScan (plane_of band (is_causal style.bits) planes pass) }
         requires size { HasSize self.old.cells }
         requires within { AreWithin planes ((pass + 2) / 3 + 1) self.old.cells }

@@ -4,12 +4,12 @@ use Rattle.std.proofs.lemmas.List.{append-nil}
 use Rattle.std.specs.Bool.{MatchBool}
 use Rattle.jx_base.specs.MqTable.{MqContexts, mq_fresh}
 use Rattle.jx_base.specs.MqWriting.{MqGiven, Decided, Renewed}
-use Rattle.jx_base.specs.Passes.{raw_pass, end_pass}
+use Rattle.jx_base.specs.Passes.{raw_pass, end_pass, resets, is_causal}
 use Rattle.jx_grid.specs.Cells.{Cells}
 use Rattle.jx_grid.specs.Asking.{Asking, told}
 use Rattle.jx_grid.specs.Pass.{pass_of}
 use Rattle.jx_grid.specs.Symbol.{symbol_asked}
-use Rattle.jx_grid.specs.Segments.{resets, is_causal, begins}
+use Rattle.jx_grid.specs.Segments.{begins}
 use Rattle.jx_grid.specs.Reading.{Reading, Coding, Decoding, fresh_reading, first_segment, opened, renewed, read_answer, read_bits, read_symbol, read_within, read_pass, read_from, first_wrong, ends_by_symbol, looked_of, zeros, at_start, decoded}
 use Rattle.jx_grid.specs.Needs.{followed, called_for, followed_pass, followed_from, renewal, symbol_needs, pass_needs, needs_from, needs, segments_from, written, is_last}
 use Rattle.jx_passenc.proofs.GivesLemmas.{read_all, Gives, read_all_more, read_all_raw, gives_first, gives_more, AreInverse, told_follows}
@@ -35,7 +35,7 @@ right_kept : (w : Option ℕ) (pass : ℕ) → first_wrong w pass true ≡ w
 right_kept (Some n) pass = refl
 right_kept None pass = refl
 
-abbrev tree_of : Coding → ℕ → Cells → Asking Cells
+abbrev pub tree_of : Coding → ℕ → Cells → Asking Cells
 tree_of c pass now = pass_of c.band (is_causal c.style) c.planes pass now
 
 -- a pass reads what the grid calls for
@@ -88,7 +88,7 @@ pass_read c g pass d e h =
       wrong = ap (λ (x : Decoding). x.wrong) f ∙ right_kept d.wrong pass;
     }
 
-opened_cells : (b : Bool) (style pass : ℕ) (d : Decoding) → (opened_if b style pass d).cells ≡ d.cells
+pub opened_cells : (b : Bool) (style pass : ℕ) (d : Decoding) → (opened_if b style pass d).cells ≡ d.cells
 opened_cells true style pass d = refl
 opened_cells false style pass d = refl
 

@@ -1,6 +1,13 @@
 pub mod BackLemmas
+pub mod FrontLemmas
 pub mod GivesLemmas
+pub mod GridLemmas
 pub mod KindLemmas
+pub mod LeafLemmas
+pub mod PassBackLemmas
+pub mod PowerLemmas
 pub mod ReadyLemmas
+pub mod RunBackLemmas
 pub mod SegmentLemmas
+pub mod StepLemmas
 pub mod WroteLemmas

@@ -5,12 +5,12 @@ use Rattle.std.proofs.lemmas.List.{append-nil}
 use Rattle.std.specs.Bool.{MatchBool}
 use Rattle.jx_base.specs.MqTable.{MqContexts, mq_fresh}
 use Rattle.jx_base.specs.MqWriting.{MqGiven, Decided, Renewed}
-use Rattle.jx_base.specs.Passes.{raw_pass, end_pass}
+use Rattle.jx_base.specs.Passes.{raw_pass, end_pass, resets, is_causal}
 use Rattle.jx_grid.specs.Cells.{Cells}
 use Rattle.jx_grid.specs.Asking.{Asking, told}
 use Rattle.jx_grid.specs.Pass.{pass_of}
 use Rattle.jx_grid.specs.Symbol.{symbol_asked}
-use Rattle.jx_grid.specs.Segments.{resets, is_causal, begins}
+use Rattle.jx_grid.specs.Segments.{begins}
 use Rattle.jx_grid.specs.Reading.{Reading, Coding, Decoding, fresh_reading, first_segment, opened, renewed, read_answer, read_bits, read_symbol, read_within, read_pass, read_from, first_wrong, ends_by_symbol, looked_of}
 use Rattle.jx_grid.specs.Needs.{followed, called_for, followed_pass, followed_from, renewal, symbol_needs, pass_needs, needs_from, segment_of, contexts_after, segments_from, is_last}
 use Rattle.jx_passenc.proofs.KindLemmas.{same_kind}

@@ -1,2 +1,3 @@
+pub mod Alike
 pub mod Encoding
 pub mod Writing

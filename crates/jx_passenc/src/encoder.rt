@@ -1,8 +1,7 @@
 ghost use Rattle.std.specs.Prelude.{◌≡◌, ◌+◌, ◌-◌, ◌/◌, ◌<◌, ◌≤◌, ◌++◌, ◌∷◌, [], ◌||◌, ℕ, Bool, List, if◌then◌else◌, OnOk};
-ghost use Rattle.jx_base.specs.Passes.{raw_pass, end_pass};
+ghost use Rattle.jx_base.specs.Passes.{raw_pass, end_pass, is_causal};
 ghost use Rattle.jx_grid.specs.Cells.{Cells, HasSize, AreWithin, IsKept};
 ghost use Rattle.jx_grid.specs.Pass.{IsScan, plane_of};
-ghost use Rattle.jx_grid.specs.Segments.{is_causal};
 ghost use Rattle.jx_grid.specs.Reading.{coding_of};
 ghost use Rattle.jx_grid.specs.Needs.{pass_needs, followed_pass};
 ghost use Rattle.jx_passenc.specs.Writing.{Writing, wrote, fresh_writing, segment_by};
@@ -41,10 +40,10 @@ impl<'a> Encoder<'a> {
         ensures encoding { OnOk result (self.new ≡ after_bits (coding_of band style.bits planes) pass self.old) }
         ensures kept { OnOk result (IsKept planes ((pass + 2) / 3 + 1) self.old.cells self.new.cells) }
     {
-        if style.bits / 2 % 2 == 1 {
+        if style.reset() {
             self.writer.renew();
         }
-        let causal = style.bits / 8 % 2 == 1;
+        let causal = style.causal();
         run_pass(&mut self.writer, &mut self.grid, band, causal, planes, pass)
     }
 
@@ -53,7 +52,7 @@ impl<'a> Encoder<'a> {
         ensures encoding { OnOk result (self.new ≡ after_symbol style.bits pass self.old) }
         ensures cells { self.new.cells ≡ self.old.cells }
     {
-        if style.bits / 32 % 2 == 1 && pass % 3 == 0 {
+        if style.segmentation() && pass % 3 == 0 {
             ask_symbol(&mut self.writer)?;
         }
         Ok(())

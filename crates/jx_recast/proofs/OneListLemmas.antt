@@ -48,7 +48,6 @@ module _ {c : Canvas} {xcb ycb : ℕ} (is : IsOneTile c xcb ycb) (cod : Cod) (la
   is_first : IsPacket g cod.layers first_packet
   is_first = record {
     layer = omega arith;
-    named = omega arith;
     resolution = record { component = omega arith; level = omega arith };
     precinct = subst (λ (n : ℕ). 0 < n) (sym one_in) (omega arith);
   }

@@ -161,7 +161,7 @@ give_none bytes used last none e s0 z h =
     )
 
 -- the bits up to one of a byte's are those of that byte and the ones before it
-bytes_for-cut : (before : ℕ) (xs : List ℕ) (b : ℕ) (ys : List ℕ) (n : ℕ) → (bits_after before (xs ++ b ∷ [])).fault ≡ Ended →
+pub bytes_for-cut : (before : ℕ) (xs : List ℕ) (b : ℕ) (ys : List ℕ) (n : ℕ) → (bits_after before (xs ++ b ∷ [])).fault ≡ Ended →
     length (bits_after before xs).bits < n → n ≤ length (bits_after before (xs ++ b ∷ [])).bits → bytes_for before (xs ++ b ∷ ys) n ≡ length xs + 1
 bytes_for-cut before xs b ys zero clean some few = absurd (omega arith)
 bytes_for-cut before [] b ys (suc m) clean some few =

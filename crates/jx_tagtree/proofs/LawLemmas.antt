@@ -1,15 +1,16 @@
 -- Laws of written headers.
-use Rattle.std.proofs.Common.{◌≡◌, ◌≢◌, ℕ, zero, suc, ◌+◌, ◌-◌, ◌*◌, ◌/◌, ◌%◌, ◌^◌, ◌<◌, ◌≤◌, ◌==◌, nat_le, Bool, true, false, List, [], ◌∷◌, ◌++◌, length, take, drop, get_or, replicate, refl, sym, ap, ◌∙◌, subst, cond, arith, append_assoc, length-append, length-drop, Ok, Err, Result, nat_lt}
-use Rattle.std.proofs.lemmas.List.{append-nil, take_all, drop_all, take-append-drop, take-append-le}
+use Rattle.std.proofs.Common.{◌≡◌, ◌≢◌, ℕ, zero, suc, ◌+◌, ◌-◌, ◌*◌, ◌/◌, ◌%◌, ◌^◌, ◌<◌, ◌≤◌, ◌==◌, nat_le, Bool, true, false, List, [], ◌∷◌, ◌++◌, length, take, drop, get_or, replicate, refl, sym, ap, ◌∙◌, subst, cond, arith, append_assoc, length-append, length-drop, Ok, Err, Result, nat_lt, ◌&&◌, inl, inr}
+use Rattle.std.proofs.lemmas.List.{append-nil, take_all, drop_all, drop_more, take-append-drop, take-append-le, length-take-le}
 use Rattle.std.proofs.Math.Seq.{take-append-add}
 use Rattle.std.proofs.lemmas.Nat.{pow_pos, shr_high}
 use Rattle.std.proofs.lemmas.Nat.Bits.{bit_at_cat_low}
 use Rattle.std.proofs.Math.Nat.{two-pow-succ}
 use Rattle.std.proofs.lemmas.Bool.Decides.{nat_tests}
+use Rattle.std.proofs.lemmas.Bool.{cases_eq, cases_lt}
 use Rattle.jx_tagtree.specs.declared.BitFault.{BitFault}
 use Rattle.jx_tagtree.specs.declared.BitFault.TheVariants.{Ended, Stuffed}
 use Rattle.jx_tagtree.specs.Header.{Bits, room, is_stuffed, low_bits, before_all, none_after_stuffed, bits_after, bits_of, last_after, number_of, bytes_from, bytes_of, bytes_for, end_after, past_last_ff, IsWritten, ReadsBack, EndsAt}
-use Rattle.jx_tagtree.proofs.HeaderLemmas.{length-low_bits, clean_first, bits_after-append, bits_after-push, last_after-append, room-le, take-push}
+use Rattle.jx_tagtree.proofs.HeaderLemmas.{length-low_bits, clean_first, bits_after-append, bits_after-push, bytes_for-cut, last_after-append, room-le, take-push}
 use Rattle.jx_tagtree.proofs.WriterLemmas.{not_stuffed, room-pos}
 
 -- a number of n bits is below 2 to n
@@ -303,6 +304,14 @@ past_ok u used (b ∷ rest) h = by (nat_le 128 b) refl h
     by true e k = absurd cc
     by false e k = (b, rest, refl, e, (let same : used ≡ u + 1 = cc in same))
 
+-- how much filling there may be
+few_here : (k : ℕ) (b : Bool) → k < 8 → k < cond b 15 8
+few_here k true lt = omega arith
+few_here k false lt = lt
+
+few_past : (k last : ℕ) → k < 15 → last ≡ 255 → k < cond (last == 255) 15 8
+few_past k last lt e = let is : (last == 255) ≡ true = grind (arith, nat_tests) in subst (λ (b : Bool). k < cond b 15 8) (sym is) lt
+
 -- behind a last FF one more byte
 ends_past : (bytes : List ℕ) (n u b : ℕ) (rest : List ℕ) → Cut 0 bytes n u → last_after 0 (take u bytes) ≡ 255 → drop u bytes ≡ b ∷ rest → nat_le 128 b ≡ false → EndsAt bytes n (u + 1)
 ends_past bytes n u b rest c is cut plain =
@@ -317,7 +326,8 @@ ends_past bytes n u b rest c is cut plain =
     record {
       within = omega (arith, length-drop u bytes);
       filling = c.filling ++ low_bits (room (last_after 0 (take u bytes))) b;
-      few = omega (arith, length-append c.filling (low_bits (room (last_after 0 (take u bytes))) b));
+      few = few_past (length (c.filling ++ low_bits (room (last_after 0 (take u bytes))) b)) (last_after 0 (take (u + 1 - 1) bytes))
+          (omega (arith, length-append c.filling (low_bits (room (last_after 0 (take u bytes))) b))) (ap (λ (k : ℕ). last_after 0 (take k bytes)) (let e : u + 1 - 1 ≡ u = omega arith in e) ∙ is);
       are_bits = ap (λ (r : Bits). r.bits) pushed ∙ ap (λ (l : List Bool). l ++ low_bits (room (last_after 0 (take u bytes))) b) c.are_bits
           ∙ append_assoc (take n (bits_of bytes).bits) c.filling (low_bits (room (last_after 0 (take u bytes))) b);
       clean = ap (λ (r : Bits). r.fault) pushed;
@@ -337,4 +347,148 @@ ends_at bytes n used enough h = by (last_after 0 (take (bytes_for 0 bytes n) byt
         let other : last_after 0 (take (bytes_for 0 bytes n) bytes) ≢ 255 = grind (arith, nat_tests) in
         let c = cut_at 0 bytes n enough in
         let few : length c.filling < 8 = c.few in
-        subst (λ (m : ℕ). EndsAt bytes n m) same (record { within = c.within; filling = c.filling; few = omega arith; are_bits = c.are_bits; clean = c.clean; last = other })
+        subst (λ (m : ℕ). EndsAt bytes n m) same (record { within = c.within; filling = c.filling; few = few_here (length c.filling) (last_after 0 (take (bytes_for 0 bytes n - 1) bytes) == 255) few; are_bits = c.are_bits; clean = c.clean; last = other })
+
+-- ---- no other place is the end
+-- without a stuffed 1 among some bytes, there is none among those before the last, and the last's is 0
+clean_last : (before : ℕ) (xs : List ℕ) (b : ℕ) → (bits_after before (xs ++ b ∷ [])).fault ≡ Ended → ((bits_after before xs).fault ≡ Ended) × (is_stuffed (last_after before xs) b ≡ false)
+clean_last before [] b h = (refl, (clean_first before b [] h).0)
+clean_last before (x ∷ xs) b h =
+    let f = clean_first before x (xs ++ b ∷ []) h in
+    let rest_clean : (bits_after x (xs ++ b ∷ [])).fault ≡ Ended = sym (ap (λ (r : Bits). r.fault) f.1) ∙ h in
+    let again = clean_last x xs b rest_clean in
+    (ap (λ (s : Bool). (cond s none_after_stuffed (before_all (low_bits (room before) x) (bits_after x xs))).fault) f.0 ∙ again.0, again.1)
+
+-- the last of some bytes, and those before it
+record LastByte (bytes : List ℕ) (u : ℕ) : Type 0 where
+  byte : ℕ
+  behind : List ℕ
+  cut : drop u bytes ≡ byte ∷ behind
+  whole : bytes ≡ take u bytes ++ byte ∷ behind
+  more : take (u + 1) bytes ≡ take u bytes ++ byte ∷ []
+  clean : (bits_of (take u bytes)).fault ≡ Ended
+  plain : is_stuffed (last_after 0 (take u bytes)) byte ≡ false
+  count : length (bits_of (take (u + 1) bytes)).bits ≡ length (bits_of (take u bytes)).bits + room (last_after 0 (take u bytes))
+  front : length (take u bytes) ≡ u
+
+last_byte : (bytes : List ℕ) (u : ℕ) → u + 1 ≤ length bytes → (bits_of (take (u + 1) bytes)).fault ≡ Ended → LastByte bytes u
+last_byte bytes u within clean =
+    let lt : u < length bytes = omega arith in
+    let b = get_or bytes u 0 in
+    let cut : drop u bytes ≡ b ∷ drop (u + 1) bytes = drop_more bytes u 0 lt in
+    let more : take (u + 1) bytes ≡ take u bytes ++ b ∷ [] = take-push u bytes b (drop (u + 1) bytes) cut in
+    let c = clean_last 0 (take u bytes) b (ap (λ (l : List ℕ). (bits_of l).fault) (sym more) ∙ clean) in
+    record {
+      byte = b;
+      behind = drop (u + 1) bytes;
+      cut = cut;
+      whole = sym (take-append-drop u bytes) ∙ ap (λ (l : List ℕ). take u bytes ++ l) cut;
+      more = more;
+      clean = c.0;
+      plain = c.1;
+      count = ap (λ (l : List ℕ). length (bits_of l).bits) more ∙ ap (λ (r : Bits). length r.bits) (bits_after-push 0 (take u bytes) b c.0 c.1)
+          ∙ length-append (bits_of (take u bytes)).bits (low_bits (room (last_after 0 (take u bytes))) b)
+          ∙ ap (λ (k : ℕ). length (bits_of (take u bytes)).bits + k) (length-low_bits (room (last_after 0 (take u bytes))) b);
+      front = length-take-le u bytes (omega arith);
+    }
+
+-- the byte that has the last of n bits
+has_last : (bytes : List ℕ) (u n : ℕ) → u + 1 ≤ length bytes → (bits_of (take (u + 1) bytes)).fault ≡ Ended → length (bits_of (take u bytes)).bits < n → n ≤ length (bits_of (take (u + 1) bytes)).bits →
+    bytes_for 0 bytes n ≡ u + 1
+has_last bytes u n within clean some few =
+    let l = last_byte bytes u within clean in
+    ap (λ (b : List ℕ). bytes_for 0 b n) l.whole
+    ∙ bytes_for-cut 0 (take u bytes) l.byte l.behind n (ap (λ (b : List ℕ). (bits_of b).fault) (sym l.more) ∙ clean) some (subst (λ (b : List ℕ). n ≤ length (bits_of b).bits) l.more few)
+    ∙ ap (λ (k : ℕ). k + 1) l.front
+
+room_ff : (last : ℕ) → last ≡ 255 → room last ≡ 7
+room_ff last e = grind (arith, nat_tests)
+
+room_other : (last : ℕ) → last ≢ 255 → room last ≡ 8
+room_other last ne = grind (arith, nat_tests)
+
+-- where a byte may be FF, the one before it isn't
+before_ff : (last b : ℕ) → is_stuffed last b ≡ false → b ≡ 255 → last ≢ 255
+before_ff last b plain e is = absurd (let a : (last == 255) ≡ true = grind (arith, nat_tests) in let c : nat_le 128 b ≡ true = grind (arith, nat_tests) in let x : true ≡ false = sym (ap (λ (y : Bool). y && nat_le 128 b) a ∙ c) ∙ plain in cc)
+
+after_ff : (last b : ℕ) → is_stuffed last b ≡ false → last ≡ 255 → nat_le 128 b ≡ false
+after_ff last b plain e = let a : (last == 255) ≡ true = grind (arith, nat_tests) in sym (ap (λ (y : Bool). y && nat_le 128 b) a) ∙ plain
+
+pub ends_only : (bytes : List ℕ) (n used : ℕ) → n ≤ length (bits_of bytes).bits → EndsAt bytes n used → end_after bytes n ≡ Ok used
+ends_only bytes n zero enough e =
+    let none : length (take n (bits_of bytes).bits ++ e.filling) ≡ 0 = ap (λ (l : List Bool). length l) (sym e.are_bits) in
+    let long : length (take n (bits_of bytes).bits ++ e.filling) ≡ length (take n (bits_of bytes).bits) + length e.filling = length-append (take n (bits_of bytes).bits) e.filling in
+    let size : length (take n (bits_of bytes).bits) ≡ n = length-take-le n (bits_of bytes).bits enough in
+    let zero_bits : n ≡ 0 = omega arith in
+    ap (end_after bytes) zero_bits
+ends_only bytes n (suc u) enough e =
+    elim (cases_lt (length (bits_of (take u bytes)).bits) n) [
+      | inl lt ↦ here lt
+      | inr ge ↦ elim (cases_eq (last_after 0 (take u bytes)) 255) [ inl is ↦ past is ge | inr ne ↦ absurd (none ne ge) ]
+    ]
+  where
+    add : suc u ≡ u + 1
+    add = omega arith
+
+    within : u + 1 ≤ length bytes
+    within = subst (λ (k : ℕ). k ≤ length bytes) add e.within
+
+    clean : (bits_of (take (u + 1) bytes)).fault ≡ Ended
+    clean = ap (λ (k : ℕ). (bits_of (take k bytes)).fault) (sym add) ∙ e.clean
+
+    l : LastByte bytes u
+    l = last_byte bytes u within clean
+
+    all : length (bits_of (take (u + 1) bytes)).bits ≡ n + length e.filling
+    all = ap (λ (k : ℕ). length (bits_of (take k bytes)).bits) (sym add) ∙ ap (λ (bs : List Bool). length bs) e.are_bits
+        ∙ length-append (take n (bits_of bytes).bits) e.filling ∙ ap (λ (k : ℕ). k + length e.filling) (length-take-le n (bits_of bytes).bits enough)
+
+    few : length e.filling < cond (last_after 0 (take u bytes) == 255) 15 8
+    few = subst (λ (k : ℕ). length e.filling < cond (last_after 0 (take k bytes) == 255) 15 8) (let s : suc u - 1 ≡ u = omega arith in s) e.few
+
+    other : last_after 0 (take (u + 1) bytes) ≢ 255
+    other = subst (λ (k : ℕ). last_after 0 (take k bytes) ≢ 255) add e.last
+
+    here : length (bits_of (take u bytes)).bits < n → end_after bytes n ≡ Ok (suc u)
+    here lt =
+        let le : n ≤ length (bits_of (take (u + 1) bytes)).bits = (let a : length (bits_of (take (u + 1) bytes)).bits ≡ n + length e.filling = all in omega arith) in
+        let at : bytes_for 0 bytes n ≡ u + 1 = has_last bytes u n within clean lt le in
+        let no : (last_after 0 (take (u + 1) bytes) == 255) ≡ false = (let o : last_after 0 (take (u + 1) bytes) ≢ 255 = other in grind (arith, nat_tests)) in
+        ap (λ (k : ℕ). cond (last_after 0 (take k bytes) == 255) (past_last_ff k (drop k bytes)) (Ok k)) at
+        ∙ ap (λ (b : Bool). cond b (past_last_ff (u + 1) (drop (u + 1) bytes)) (Ok (u + 1))) no ∙ ap Ok (sym add)
+
+    none : last_after 0 (take u bytes) ≢ 255 → n ≤ length (bits_of (take u bytes)).bits → ⊥
+    none ne ge =
+        let no : (last_after 0 (take u bytes) == 255) ≡ false = grind (arith, nat_tests) in
+        let f : length e.filling < 8 = subst (λ (b : Bool). length e.filling < cond b 15 8) no few in
+        let a : length (bits_of (take (u + 1) bytes)).bits ≡ n + length e.filling = all in
+        let c : length (bits_of (take (u + 1) bytes)).bits ≡ length (bits_of (take u bytes)).bits + room (last_after 0 (take u bytes)) = l.count in
+        let r : room (last_after 0 (take u bytes)) ≡ 8 = room_other (last_after 0 (take u bytes)) ne in
+        omega arith
+
+    past : last_after 0 (take u bytes) ≡ 255 → n ≤ length (bits_of (take u bytes)).bits → end_after bytes n ≡ Ok (suc u)
+    past is ge = by u refl
+      where
+        by : (w : ℕ) → u ≡ w → end_after bytes n ≡ Ok (suc u)
+        by zero z = absurd (let x : last_after 0 (take 0 bytes) ≡ 255 = subst (λ (k : ℕ). last_after 0 (take k bytes) ≡ 255) z is in let y : 0 ≡ 255 = x in omega arith)
+        by (suc w) z =
+            let at_w : u ≡ w + 1 = omega arith in
+            let clean_w : (bits_of (take (w + 1) bytes)).fault ≡ Ended = subst (λ (k : ℕ). (bits_of (take k bytes)).fault ≡ Ended) at_w l.clean in
+            let within_w : w + 1 ≤ length bytes = (let i : u + 1 ≤ length bytes = within in omega arith) in
+            let m : LastByte bytes w = last_byte bytes w within_w clean_w in
+            let ff : m.byte ≡ 255 = sym (last_after-append 0 (take w bytes) m.byte) ∙ ap (last_after 0) (sym m.more) ∙ ap (λ (k : ℕ). last_after 0 (take k bytes)) (sym at_w) ∙ is in
+            let r : room (last_after 0 (take w bytes)) ≡ 8 = room_other (last_after 0 (take w bytes)) (before_ff (last_after 0 (take w bytes)) m.byte m.plain ff) in
+            let yes : (last_after 0 (take u bytes) == 255) ≡ true = grind (arith, nat_tests) in
+            let f : length e.filling < 15 = subst (λ (b : Bool). length e.filling < cond b 15 8) yes few in
+            let a : length (bits_of (take (u + 1) bytes)).bits ≡ n + length e.filling = all in
+            let c : length (bits_of (take (u + 1) bytes)).bits ≡ length (bits_of (take u bytes)).bits + room (last_after 0 (take u bytes)) = l.count in
+            let s : room (last_after 0 (take u bytes)) ≡ 7 = room_ff (last_after 0 (take u bytes)) is in
+            let c' : length (bits_of (take (w + 1) bytes)).bits ≡ length (bits_of (take w bytes)).bits + room (last_after 0 (take w bytes)) = m.count in
+            let same : length (bits_of (take u bytes)).bits ≡ length (bits_of (take (w + 1) bytes)).bits = ap (λ (k : ℕ). length (bits_of (take k bytes)).bits) at_w in
+            let at : bytes_for 0 bytes n ≡ w + 1 = has_last bytes w n within_w clean_w (omega arith) (omega arith) in
+            let at' : bytes_for 0 bytes n ≡ u = omega arith in
+            ap (λ (k : ℕ). cond (last_after 0 (take k bytes) == 255) (past_last_ff k (drop k bytes)) (Ok k)) at'
+            ∙ ap (λ (b : Bool). cond b (past_last_ff u (drop u bytes)) (Ok u)) yes
+            ∙ ap (past_last_ff u) l.cut
+            ∙ ap (λ (b : Bool). cond b (Err Stuffed) (Ok (u + 1))) (after_ff (last_after 0 (take u bytes)) l.byte l.plain is)
+            ∙ ap Ok (sym add)

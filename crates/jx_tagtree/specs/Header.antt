@@ -148,11 +148,12 @@ pub record ReadsBack (bits : List Bool) (rest : List ℕ) : Type 0 where
   pub end : end_after (bytes_of bits ++ rest) (length bits) ≡ Ok (length (bytes_of bits))
 
 -- Where a header of the first n bits ends: the bytes up to there have these bits and then only filling, fewer than eight
--- bits in the last byte and seven where another must follow it; no stuffed bit is 1, and the last byte isn't FF.
+-- bits, and where the byte before the last is FF, which asks for one more, fewer than fifteen; no stuffed bit is 1, and the
+-- last byte isn't FF.
 pub record EndsAt (bytes : List ℕ) (n used : ℕ) : Type 0 where
   pub within : used ≤ length bytes
   pub filling : List Bool
-  pub few : length filling < 15
+  pub few : length filling < (if last_after 0 (take (used - 1) bytes) == 255 then 15 else 8)
   pub are_bits : (bits_of (take used bytes)).bits ≡ take n (bits_of bytes).bits ++ filling
   pub clean : (bits_of (take used bytes)).fault ≡ Ended
   pub last : last_after 0 (take used bytes) ≢ 255

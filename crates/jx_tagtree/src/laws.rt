@@ -21,9 +21,10 @@ pub fn header_read_back()
 {}
 
 /// What `finish` answers: the bytes of a header have the bits that were taken and behind them only
-/// filling, no stuffed bit is 1, and the last byte isn't FF.
+/// filling, no stuffed bit is 1, and the last byte isn't FF. They end at one place alone.
 pub fn header_ends()
-    ensures { (bytes : List ℕ) (n used : ℕ) → n ≤ length (bits_of bytes).bits → end_after bytes n ≡ Ok used → EndsAt bytes n used }
+    ensures ends { (bytes : List ℕ) (n used : ℕ) → n ≤ length (bits_of bytes).bits → end_after bytes n ≡ Ok used → EndsAt bytes n used }
+    ensures only { (bytes : List ℕ) (n used : ℕ) → n ≤ length (bits_of bytes).bits → EndsAt bytes n used → end_after bytes n ≡ Ok used }
 {}
 
 /// A node's value is the least leaf under it, so a leaf's is the leaf, and each is at least its parent's.

@@ -1,9 +1,17 @@
--- How the process ends: with the number of the status of a run.
-use Rattle.std.specs.Prelude.{◌≡◌, ℕ, List, Option}
+-- How the process ends: with the number of the status of a run over its words.
+use Rattle.std.specs.Prelude.{◌≡◌, ℕ, List, [], map, Option, Result, Ok, Err, string_bytes}
+use Rattle.std.specs.declared.string.String.{String}
+use Rattle.std.specs.declared.vec.IntoIter.{IntoIter}
+use Rattle.std.specs.Vec.Iter.{into_iter_items}
 use Rattle.jx_outside.specs.Device.{Meaning}
 use Rattle.jx_recast.specs.declared.status.Status.{Status}
 use Rattle.jx_recast.specs.Words.{Text}
 use Rattle.jx_recast.specs.Outcome.{Outcome, number_of}
+
+-- the words that the system gives: all of them, in their order; none where one is no text
+abbrev pub words_in : {A Z E : Type 0} → Result (IntoIter (String A) Z) E → List Text
+words_in (Ok args) = map string_bytes (into_iter_items args)
+words_in (Err error) = []
 
 -- the number is that of a status with which a run over these words ends
 pub record IsEnded (words : List Text) (number : ℕ) (old new : Meaning) (before now : Option (List ℕ)) : Type 0 where

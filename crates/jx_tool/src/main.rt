@@ -1,28 +1,41 @@
 //! `jx`, the transcoder: real files, standard output, and the status that the process ends with.
 #![tactic(auto)]
 
-ghost use Rattle.std.specs.Prelude.{◌≡◌, true, map, string_bytes, IfErr};
+ghost use Rattle.std.specs.Prelude.{◌≡◌, ◌≢◌, true, map, string_bytes, IfErr, IfOk, IsOk};
+ghost use Rattle.std.specs.Process.{exit_status};
+ghost use Rattle.std.specs.IoError.{error_kind};
+ghost use Rattle.std.specs.Vec.Iter.{into_iter_items};
 ghost use Rattle.jx_recast.specs.Words.{is_good, request_of};
-ghost use Rattle.jx_tool.specs.Ended.{IsEnded};
+ghost use Rattle.jx_tool.specs.Ended.{IsEnded, words_in};
 
 use jx_outside::{Files, Sink, StdFiles, StdSink};
 use jx_recast::{Status, run};
-use std::alloc::Global;
+use std::alloc::{AllocError, Global};
 use std::env::Args;
+use std::io::ErrorKind;
 use std::process::ExitCode;
 use std::{env, io};
 
-/// The words of the command line. A word that is no text makes none of them good.
+fn collected(alloc: Global, args: Args) -> Result<Vec<String>, AllocError>
+    ensures { IfOk result (λ words. words.items ≡ into_iter_items args) }
+{
+    args.collect::<Vec<String>>(alloc)
+}
+
+/// The words of the command line, all of them in their order. Where one is no text there are none,
+/// which is no command.
 fn words_of(alloc: Global, args: io::Result<Args>) -> Result<Vec<String>, Status>
-    ensures { IfErr result (λ status. status ≡ Status.NoMemory) }
+    ensures words { IfOk result (λ words. map string_bytes words.items ≡ words_in args) }
+    ensures faulty { IfErr args (λ e. error_kind e ≢ ErrorKind.OutOfMemory → IsOk result) }
+    ensures err { IfErr result (λ status. status ≡ Status.NoMemory) }
 {
     match args {
-        Ok(args) => match args.collect::<Vec<String>>(alloc) {
+        Ok(args) => match collected(alloc, args) {
             Ok(words) => Ok(words),
             Err(_) => Err(Status::NoMemory),
         },
         Err(error) => {
-            if error.kind() == io::ErrorKind::OutOfMemory {
+            if error.kind() == ErrorKind::OutOfMemory {
                 return Err(Status::NoMemory);
             }
             Ok(Vec::new(alloc))
@@ -30,23 +43,28 @@ fn words_of(alloc: Global, args: io::Result<Args>) -> Result<Vec<String>, Status
     }
 }
 
-/// Runs on these words; the number with which the process ends.
-fn end_of<F: Files, S: Sink>(alloc: Global, words: &[String], files: &mut F, say: &mut S) -> u8
-    requires opens { is_good (map string_bytes words.now) ≡ true → F.can_open files.old (request_of (map string_bytes words.now)).from }
-    requires creates { is_good (map string_bytes words.now) ≡ true → F.can_create files.old (request_of (map string_bytes words.now)).to }
-    ensures { IsEnded (map string_bytes words.now) result (F.meaning files.old) (F.meaning files.new) (S.said say.old) (S.said say.new) }
+/// Runs on the words of the command line: what the process ends with.
+fn end_of<F: Files, S: Sink>(
+    alloc: Global,
+    args: io::Result<Args>,
+    files: &mut F,
+    say: &mut S,
+) -> ExitCode
+    requires opens { is_good (words_in args) ≡ true → F.can_open files.old (request_of (words_in args)).from }
+    requires creates { is_good (words_in args) ≡ true → F.can_create files.old (request_of (words_in args)).to }
+    ensures { IsEnded (words_in args) (exit_status result) (F.meaning files.old) (F.meaning files.new) (S.said say.old) (S.said say.new) }
 {
-    let report = run(alloc, words, files, say);
-    report.status.number()
+    match words_of(alloc, args) {
+        Ok(words) => ExitCode::from(run(alloc, &words, files, say).status.number()),
+        Err(status) => ExitCode::from(status.number()),
+    }
 }
 
 fn main(rt: HostRuntime) -> ExitCode {
-    let alloc = rt.alloc();
-    let words = match words_of(alloc, env::args(&rt)) {
-        Ok(words) => words,
-        Err(status) => return ExitCode::from(status.number()),
-    };
     let mut files = StdFiles::new(&rt);
     let mut say = StdSink::new(&rt);
-    ExitCode::from(end_of(alloc, &words, &mut files, &mut say))
+    end_of(rt.alloc(), env::args(&rt), &mut files, &mut say)
 }
+
+#[cfg(test)]
+mod tests;

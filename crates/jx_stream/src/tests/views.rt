@@ -60,10 +60,7 @@ fn defaults_of_a_tile(rt: HostRuntime) -> Result<(), Fail> {
     let second = stream.tile_view(alloc, &main, 1)?;
     assert_eq!(rt; first_band(&first), (1, 0, 1, 0, 11, 10));
     assert_eq!(rt; first_band(&second), (2, 3, 9, 0, 10, 9));
-    assert_eq!(rt;
-        (first.comps(), first.canvas().x1, first.shapes().len()),
-        (1, 2, 1)
-    );
+    assert_eq!(rt; (first.comps(), first.canvas().x1, first.shapes().len()), (1, 2, 1));
     Ok(())
 }
 
@@ -71,9 +68,46 @@ fn defaults_of_a_tile(rt: HostRuntime) -> Result<(), Fail> {
 #[test]
 fn shift_alone(rt: HostRuntime) -> Result<(), Fail> {
     let alloc = rt.alloc();
-    let main =
-        "0001 07 01 01 FF52 000C 00 00 0001 00 00 04 04 00 01 FF5C 0004 00 00 FF5E 0005 00 00 05";
+    let main = "0001 07 01 01 FF52 000C 00 00 0001 00 00 04 04 00 01 FF5C 0004 00 00 FF5E 0005 00 00 05";
     let stream = stream_of(&rt, alloc, &[SIZ, main, PART, EOC])?;
     assert_eq!(rt; first_band_of(&stream, 0), (0, 0, 1, 5, 5, 0));
+    Ok(())
+}
+
+// A COC for each of 16,384 components.
+#[test]
+fn many_components(rt: HostRuntime) -> Result<(), Fail> {
+    let alloc = rt.alloc();
+    let mut file = file_of(
+        alloc,
+        &["FF4F FF51 C026 0000 00000001 00000001 00000000 00000000 00000001 00000001 00000000 00000000 4000"],
+    )?;
+    push_times("07 01 01", 16_384, &mut file)?;
+    push_hex(CODING, &mut file)?;
+    for comp in 0..16_384_u16 {
+        push_hex("FF53 000A", &mut file)?;
+        file.extend_from_slice(&comp.to_be_bytes())?;
+        push_hex("00 00 04 04 00 01", &mut file)?;
+    }
+    push_hex("FF90 000A 0000 0000000E 00 01 FF93 FFD9", &mut file)?;
+    assert_eq!(rt; answer(alloc, &file), (0, 0));
+    Ok(())
+}
+
+// As many tiles as there may be, each with an empty tile-part.
+#[test]
+fn many_tiles(rt: HostRuntime) -> Result<(), Fail> {
+    let alloc = rt.alloc();
+    let mut file = file_of(
+        alloc,
+        &["FF4F FF51 0029 0000 0000FFFF 00000001 00000000 00000000 00000001 00000001 00000000 00000000", MAIN],
+    )?;
+    for tile in 0..65_535_u16 {
+        push_hex("FF90 000A", &mut file)?;
+        file.extend_from_slice(&tile.to_be_bytes())?;
+        push_hex("0000000E 00 01 FF93", &mut file)?;
+    }
+    push_hex(EOC, &mut file)?;
+    assert_eq!(rt; answer(alloc, &file), (0, 0));
     Ok(())
 }

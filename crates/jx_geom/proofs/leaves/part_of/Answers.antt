@@ -1,4 +1,4 @@
-use Rattle.std.proofs.Common.{◌≡◌, ◌+◌, ◌<◌, arith, refl}
+use Rattle.std.proofs.Common.{◌+◌, ◌<◌, arith}
 use Rattle.jx_base.specs.Places.{size_of}
 use Rattle.jx_geom.proofs.NumberedLeaves.{corner_of, made_part}
 use Rattle.jx_geom.proofs.leaves.part_of.Goals as goal

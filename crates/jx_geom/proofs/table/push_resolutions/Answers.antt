@@ -1,5 +1,4 @@
-use Rattle.std.proofs.Common.{◌≡◌, ◌+◌, ◌++◌, ◌∷◌, [], ℕ, List, arith, subst}
-use Rattle.jx_base.specs.Joined.{sum_below}
+use Rattle.std.proofs.Common.{arith}
 use Rattle.jx_base.proofs.Joined.{appends_none, appends_next}
 use Rattle.jx_base.proofs.Sums.{sum_below_next}
 use Rattle.jx_geom.specs.Counts.{precinct_count, resolution_blocks}

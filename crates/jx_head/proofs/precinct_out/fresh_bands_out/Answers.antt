@@ -31,4 +31,4 @@ loop-cells-preserved c =
     c.in_ok-fresh_band.ensures ∙ ap (λ (l : List Leafed). fresh_writes c.args.layers b l) (part_leaves c.args.leaves.now c.loop-cells.base n (c.loop-cells.base + n - c.loop-cells.base) same) in
     subst (λ (ws : List Writes). Making c.args.layers (c.loop-cells.cells-index + 1) (c.loop-cells.base + n) c.args.bands.now (map leaf_of c.args.leaves.now) ws) (sym c.in_ok-push.ensures.items)
     (making_next c.args.layers c.loop-cells.cells-index c.loop-cells.base c.args.bands.now (map leaf_of c.args.leaves.now) c.loop-cells.made.items c.in_ok-fresh_band.field-0 d c.loop-cells.invariant inside
-    (cells_at c.args.bands.now c.loop-cells.cells-index d c.requires.bands.each inside) some few c.requires.few y_is)
+    (cells_at c.args.bands.now c.loop-cells.cells-index d c.requires.bands.each inside) some few c.requires.few c.requires.bytes y_is)

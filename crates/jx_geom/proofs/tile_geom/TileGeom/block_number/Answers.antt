@@ -1,7 +1,6 @@
-use Rattle.std.proofs.Common.{◌≡◌, ◌+◌, ◌∙◌, ap, arith}
+use Rattle.std.proofs.Common.{ap, arith}
 use Rattle.jx_geom.specs.declared.table.Resolution.{Resolution}
 use Rattle.jx_geom.specs.Geometry.{rect_of_tile, shape_of}
-use Rattle.jx_geom.specs.Numbering.{number_in_tile}
 use Rattle.jx_geom.proofs.EmptyLemmas.{some_block}
 use Rattle.jx_geom.proofs.NumberLemmas.{number_in_tile_below}
 use Rattle.jx_geom.proofs.TableLemmas.{at_blocks}

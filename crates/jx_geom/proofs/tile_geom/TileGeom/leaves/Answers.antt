@@ -4,7 +4,7 @@ use Rattle.jx_base.specs.Places.{size_of}
 use Rattle.jx_geom.specs.declared.table.Resolution.{Resolution}
 use Rattle.jx_geom.specs.Geometry.{blocks_in, rect_of_tile, shape_of}
 use Rattle.jx_geom.proofs.EmptyLemmas.{some_precinct}
-use Rattle.jx_geom.proofs.NumberedLeaves.{AreParts, IsPart, before_of, low_leaves, high_leaves}
+use Rattle.jx_geom.proofs.NumberedLeaves.{IsPart, before_of, low_leaves, high_leaves}
 use Rattle.jx_geom.proofs.tile_geom.TileGeom.leaves.Goals as goal
 
 pub resolution-before-requires-clause-some : goal.resolution-before-requires-clause-some

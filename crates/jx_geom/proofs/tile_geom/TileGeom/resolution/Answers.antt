@@ -1,5 +1,4 @@
-use Rattle.std.proofs.Common.{◌≡◌, ◌∙◌, ap, arith, sym, subst}
-use Rattle.jx_base.specs.declared.names.Rect.{Rect}
+use Rattle.std.proofs.Common.{◌∙◌, ap, sym, subst}
 use Rattle.jx_geom.specs.declared.table.Resolution.{Resolution}
 use Rattle.std.proofs.Common.{◌≤◌, ◌^◌}
 use Rattle.jx_geom.specs.Geometry.{Geometry, GeometryInRange, rect_of_tile}

@@ -3,7 +3,7 @@ use Rattle.jx_head.specs.declared.BandCells.{BandCells}
 use Rattle.jx_head.specs.declared.Leaf.{Leaf}
 use Rattle.jx_head.specs.Leafs.{leaf_of}
 use Rattle.jx_head.specs.Written.{some_in}
-use Rattle.jx_head.specs.Writable.{AllFew, HeaderDone, AreMade, AreRising}
+use Rattle.jx_head.specs.Writable.{AllFew, AllBytes, HeaderDone, AreMade, AreRising}
 use Rattle.jx_head.specs.LeavesFit.{AllShort, IsPlan, AreHeaders}
 use Rattle.jx_head.proofs.CursorLemmas.{noted_here}
 use Rattle.jx_head.proofs.PlanLemmas.{LayersLoop, layers_start, layers_next}
@@ -12,6 +12,10 @@ use Rattle.jx_head.proofs.precinct_out.PrecinctOut.new.Goals as goal
 pub fresh_bands_out-requires-clause-few : goal.fresh_bands_out-requires-clause-few
 fresh_bands_out-requires-clause-few c =
     subst (λ (l : List Leaf). AllFew (map leaf_of l)) (sym c.deref-2.ensures.value) c.requires.leaves.few
+
+pub fresh_bands_out-requires-clause-bytes : goal.fresh_bands_out-requires-clause-bytes
+fresh_bands_out-requires-clause-bytes c =
+    subst (λ (l : List Leaf). AllBytes (map leaf_of l)) (c.deref.ensures.value ∙ sym c.deref-2.ensures.value) c.ranges_of_types.ensures.bytes
 
 pub one_header-requires-clause-some : goal.one_header-requires-clause-some
 one_header-requires-clause-some c =
@@ -49,6 +53,6 @@ invariant_of-result c =
     subst (λ (bands : List BandCells). IsPlan c.args.layers c.args.style.bits bands (map leaf_of c.args.leaves.items) c.loop-layer.headers.items c.loop-layer.places.items) (sym c.in_ok-from_slice.ensures.items)
     (record {
       cells = c.requires.bands;
-      types = record { few = c.ranges.layers.fits; short = subst (λ (l : List Leaf). AllShort (map leaf_of l)) c.deref.ensures.value c.all_are_short.ensures };
+      types = record { few = c.ranges.layers.fits; short = subst (λ (l : List Leaf). AllShort (map leaf_of l)) c.deref.ensures.value c.ranges_of_types.ensures.short };
       are = subst (λ (n : ℕ). AreHeaders c.args.layers c.args.style.bits c.args.bands.now (map leaf_of c.args.leaves.items) n c.loop-layer.headers.items c.loop-layer.places.items) last c.loop-layer.invariant.headers_are;
     })

@@ -1,7 +1,0 @@
-use Rattle.std.proofs.Common.{drop, map}
-use Rattle.jx_head.specs.Leafs.{leaf_of}
-use Rattle.jx_head.specs.LeavesFit.{AllShort}
-use Rattle.jx_head.proofs.precinct_out.all_are_short.Given as goal
-
-abbrev pub invariant-loop-leaf : goal.invariant-loop-leaf
-invariant-loop-leaf l = AllShort (map leaf_of (drop l.leaf-index l.leaves)) → AllShort (map leaf_of l.leaves)

@@ -1,0 +1,10 @@
+use Rattle.std.proofs.Common.{◌≡◌, ◌≤◌, ◌++◌, max}
+use Rattle.jx_base.specs.Joined.{joined}
+use Rattle.jx_order.specs.Steps.{one_layer}
+use Rattle.jx_order.proofs.entry.push_precinct.Given as goal
+
+abbrev pub invariant-loop-layer : goal.invariant-loop-layer
+invariant-loop-layer l = record {
+  items : l.list.items ≡ l.initial.list.items ++ joined (one_layer l.row l.precinct) l.from l.layer;
+  until : l.layer ≤ max l.from l.to;
+}

@@ -1,0 +1,14 @@
+pub mod Counts
+pub mod Cells
+pub mod Rolls
+pub mod Looks
+pub mod Claiming
+pub mod Committing
+pub mod Draining
+pub mod Seats
+pub mod Carrying
+pub mod Dealing
+pub mod Joining
+pub mod Closes
+pub mod Gathers
+pub mod Ends

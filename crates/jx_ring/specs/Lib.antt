@@ -1,0 +1,5 @@
+pub mod Claims
+pub mod Rule
+pub mod Told
+pub mod Passes
+pub mod Closing

@@ -1,0 +1,31 @@
+use super::*;
+use jx_outside::{MemFiles, MemSink};
+use std::test::Fail;
+
+#[test]
+fn other_ends_than_zero(rt: HostRuntime) -> Result<(), Fail> {
+    let alloc = rt.alloc();
+    let mut files = MemFiles::new(alloc);
+    let mut say = MemSink::new(alloc);
+    let mut words = Vec::new(alloc);
+    for word in ["jx", "transcode", "in", "out"] {
+        words.push(String::from_str(alloc, word)?)?;
+    }
+    let end = end_of(alloc, Ok(words.into_iter()), &mut files, &mut say);
+    assert_eq!(rt; end, ExitCode::from(2));
+    let mut words = Vec::new(alloc);
+    for word in ["jx", "transcode", "in", "out", "--sop"] {
+        words.push(String::from_str(alloc, word)?)?;
+    }
+    let end = end_of(alloc, Ok(words.into_iter()), &mut files, &mut say);
+    assert_eq!(rt; end, ExitCode::from(7));
+    let end = end_of(
+        alloc,
+        Err(ErrorKind::InvalidData.into()),
+        &mut files,
+        &mut say,
+    );
+    assert_eq!(rt; end, ExitCode::from(2));
+    assert_eq!(rt; say.said(), "words\nread fault\nwords\n");
+    Ok(())
+}
