@@ -16,7 +16,7 @@ ghost use Rattle.jx_gather.specs.Covered.{LacksPacket};
 use crate::StreamFault;
 use crate::shapes::{geometry_of, tile_at, tile_count};
 use jx_geom::TileGeom;
-use jx_order::{OrderFault, PacketName, packets};
+use jx_order::{OrderFault, PacketName, are_covered, packets};
 use jx_stream::{MainView, Stream, TileView};
 use std::alloc::Global;
 
@@ -49,6 +49,32 @@ pub(crate) fn list_of(
     }
 }
 
+/// Whether the packets of a tile are covered: rule 25 at its first SOT where one isn't.
+fn check_tile(
+    alloc: Global,
+    stream: &Stream,
+    main: &MainView<'_>,
+    tile: u16,
+) -> Result<(), StreamFault>
+    requires main { main.now ≡ record { siz = stream.now.siz; main = stream.now.main } }
+    requires range { StreamInRange stream.now }
+    requires totals { totals_fault stream.now ≡ None }
+    requires tile { tile < tile_number stream.now.siz }
+    ensures whole { OnOk result (IsWhole stream.now tile) }
+    ensures uncovered { IfErr result (λ fault. HasCause (LacksPacket stream.now tile) fault) }
+{
+    let view = stream.tile_view(alloc, main, tile)?;
+    let geom = geometry_of(alloc, stream, &view, tile)?;
+    let sent = tile_at(stream, tile);
+    if are_covered(&geom, view.layers(), sent.progressions.as_slice()) {
+        return Ok(());
+    }
+    Err(StreamFault::Rule {
+        number: 25,
+        place: sent.place,
+    })
+}
+
 /// Whether the packets of each tile are covered: rule 25 in the lowest tile where one isn't.
 pub(crate) fn check_covered(
     alloc: Global,
@@ -62,9 +88,7 @@ pub(crate) fn check_covered(
     ensures uncovered { IfErr result (λ fault. HasCause (IsUncovered stream.now) fault) }
 {
     for tile in 0..tile_count(stream) {
-        let view = stream.tile_view(alloc, main, tile)?;
-        let geom = geometry_of(alloc, stream, &view, tile)?;
-        list_of(alloc, stream, &view, &geom)?;
+        check_tile(alloc, stream, main, tile)?;
     }
     Ok(())
 }
