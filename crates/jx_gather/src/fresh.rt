@@ -139,6 +139,7 @@ pub(crate) fn precincts_of(
     requires range { StreamInRange stream.now }
     requires tile { geom.now.tile < tile_number stream.now.siz }
     requires geometry { geom.now ≡ geometry stream.now geom.now.tile }
+    requires limits { GeometryInRange geom.now }
     ensures { IfOk result (λ list. list.items ≡ fresh_precincts stream.now geom.now) }
 {
     let rows = geom.resolutions();

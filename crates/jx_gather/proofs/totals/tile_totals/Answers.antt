@@ -1,4 +1,4 @@
-use Rattle.std.proofs.Common.{◌∙◌, ◌≤◌, ◌*◌, ◌^◌, ℕ, List, length, ap, subst, sym}
+use Rattle.std.proofs.Common.{◌≡◌, ◌∙◌, ◌≤◌, ◌*◌, ◌^◌, ℕ, List, length, ap, subst, sym, arith}
 use Rattle.jx_base.specs.declared.names.Rect.{Rect}
 use Rattle.jx_geom.specs.declared.shape.Canvas.{Canvas}
 use Rattle.jx_geom.specs.declared.shape.CompShape.{CompShape}
@@ -34,5 +34,6 @@ returns-clause-packets c =
     ∙ ap (λ (xs : List CompShape). tile_precincts c.tile_of.result xs) shapes
     ∙ ap (λ (r : Rect). tile_precincts r (shapes_of s c.args.tile)) c.tile_of.ensures
     ∙ ap (λ (x : Canvas). tile_precincts (tile_rect x c.args.tile) (shapes_of s c.args.tile)) canvas in
-    let layers = c.layers.ensures.value ∙ ap layers_in c.in_ok-view.ensures in
-    ap (λ (n : ℕ). n * c.layers.result) precincts ∙ ap (λ (n : ℕ). tile_precincts (tile_rect (canvas_of s.siz) c.args.tile) (shapes_of s c.args.tile) * n) layers
+    let same : c.from-layers.result ≡ c.layers.result = omega (arith, c.from-layers.ensures) in
+    let layers = same ∙ c.layers.ensures.value ∙ ap layers_in c.in_ok-view.ensures in
+    ap (λ (n : ℕ). n * c.from-layers.result) precincts ∙ ap (λ (n : ℕ). tile_precincts (tile_rect (canvas_of s.siz) c.args.tile) (shapes_of s c.args.tile) * n) layers
