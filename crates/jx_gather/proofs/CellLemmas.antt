@@ -1,29 +1,19 @@
 -- The blocks of a precinct: how many there are, and that each block of a tile is one of one precinct alone.
-use Rattle.std.proofs.Common.{◌≡◌, ℕ, ◌+◌, ◌-◌, ◌*◌, ◌≤◌, ◌<◌, ◌==◌, Bool, true, false, cond, List, [], ◌∷◌, length, map, replicate, inl, inr, ◌∙◌, ap, sym, subst, refl, arith, length-append}
-use Rattle.std.proofs.lemmas.Bool.{cases_lt}
+use Rattle.std.proofs.Common.{◌≡◌, ℕ, ◌+◌, ◌*◌, ◌==◌, Bool, true, false, cond, List, [], ◌∷◌, length, map, replicate, ◌∙◌, ap, refl, arith, length-append}
 use Rattle.std.proofs.lemmas.Bool.Decides.{nat_tests}
 use Rattle.std.proofs.lemmas.List.{length-replicate}
 use Rattle.jx_base.specs.declared.names.Band.{Band}
-use Rattle.jx_base.specs.declared.names.Band.TheVariants.{LL, HL, LH, HH}
-use Rattle.jx_base.specs.declared.names.BlockName.{BlockName}
 use Rattle.jx_base.specs.declared.names.Rect.{Rect}
-use Rattle.jx_base.specs.Places.{InRect, length_of, size_of, column_at, row_at}
-use Rattle.jx_geom.specs.Counts.{tile_blocks as count_in_tile}
-use Rattle.jx_geom.specs.Geometry.{Geometry, GeometryInRange, HasBlock, shape_of, rect_of_tile, blocks_in}
-use Rattle.jx_geom.specs.Numbering.{band_place, number_in_tile}
-use Rattle.jx_geom.specs.Ranges.{HasBand}
-use Rattle.jx_geom.proofs.LawLemmas.{precinct_blocks_to, block_cell_from, block_in_one_precinct}
-use Rattle.jx_geom.proofs.NumberLemmas.{number_in_tile_below, number_in_tile_grows}
+use Rattle.jx_base.specs.Places.{length_of, size_of}
+use Rattle.jx_geom.specs.Geometry.{Geometry}
 use Rattle.jx_head.specs.declared.BandCells.{BandCells}
 use Rattle.jx_head.specs.Packet.{unknown_block}
 use Rattle.jx_head.specs.Precinct.{cells_in, fresh_bands, fresh_cells, all_blocks}
 use Rattle.jx_stream.specs.declared.Stream.{Stream}
 use Rattle.jx_stream.specs.Params.{planes_at}
 use Rattle.jx_gather.specs.Cells.{sizes_of, precinct_bands, fresh_precinct}
-use Rattle.jx_geom.specs.Precincts.{HasPrecinct, cells_at, leaf_index, name_from, leaf_name, leaf_number}
+use Rattle.jx_geom.specs.Precincts.{cells_at}
 use Rattle.jx_geom.specs.Precincts.{leaves, leaves_in}
-use Rattle.jx_gather.proofs.BlockLemmas.{bands_low, bands_high}
-use Rattle.jx_base.proofs.Raster.{raster_in, number_below, number_column, number_row, raster_one}
 use Rattle.jx_base.specs.Bands.{bands_at}
 
 -- how many blocks a band of a precinct has

@@ -95,7 +95,7 @@ layer_or : (g : Geometry) (layers : ℕ) (entries : List Progression) (c r k l :
     → CoveredAt g layers entries c r k l ⊎ HasUncovered g layers entries
 layer_or g layers entries c r k l few hc hr hk hl = elim (covered_or entries (name_of l r c k)) [
   | inl is ↦ inl (λ named. is)
-  | inr fails ↦ inr (name_of l r c k, record { layer = hl; named = omega arith; resolution = record { component = hc; level = omega arith }; precinct = hk }, fails)
+  | inr fails ↦ inr (name_of l r c k, record { layer = hl; resolution = record { component = hc; level = omega arith }; precinct = hk }, fails)
 ]
 
 pub cover_or : (g : Geometry) (layers : ℕ) (entries : List Progression) → length g.shapes ≤ 2 ^ 16 → AreCovered g layers entries ⊎ HasUncovered g layers entries

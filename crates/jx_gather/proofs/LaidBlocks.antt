@@ -47,7 +47,7 @@ joined_first f a b lt =
 pub packet_named : (s : Stream) (t : ℕ) (c r k l : ℕ) → length (geometry s t).shapes ≤ 16384 → HasPrecinct (geometry s t) c r k → l < layers_of s t → IsNamed (geometry s t) (layers_of s t) (name_of l r c k)
 packet_named s t c r k l few has lt =
     let below : c < length (geometry s t).shapes = has.resolution.component in
-    record { layer = lt; named = omega arith; resolution = has.resolution; precinct = has.precinct }
+    record { layer = lt; resolution = has.resolution; precinct = has.precinct }
 
 pub chain_follows : (s : Stream) (t : ℕ) (ps : Packets) (c r k l : ℕ) → AreWritten s t ps → length (geometry s t).shapes ≤ 16384 → HasPrecinct (geometry s t) c r k → l ≤ layers_of s t
     → Follows s (geometry s t) c r k (ps.before (name_of l r c k))

@@ -1,5 +1,5 @@
 -- The fresh precincts and the blocks of a tile by the list of its resolutions, in which a component without a sample has none.
-use Rattle.std.proofs.Common.{◌≡◌, ℕ, zero, suc, ◌+◌, ◌-◌, ◌≤◌, ◌<◌, List, [], ◌∷◌, ◌++◌, length, take, get_or, inl, inr, ◌∙◌, ap, sym, subst, refl, arith, append-nil}
+use Rattle.std.proofs.Common.{◌≡◌, ℕ, zero, suc, ◌+◌, ◌-◌, ◌<◌, List, [], ◌∷◌, ◌++◌, length, take, get_or, inl, inr, ◌∙◌, ap, sym, subst, refl, arith, append-nil}
 use Rattle.std.specs.List.{flat_map, Contains}
 use Rattle.std.proofs.Math.Seq.{take-length}
 use Rattle.std.proofs.lemmas.Bool.{cases_lt}

@@ -1,5 +1,5 @@
 -- A precinct of which no packet was read stands at its number.
-use Rattle.std.proofs.Common.{◌≡◌, ℕ, zero, suc, ◌+◌, ◌≤◌, ◌<◌, length, Some, ◌∙◌, ap, sym, subst, refl, arith}
+use Rattle.std.proofs.Common.{◌≡◌, ℕ, zero, suc, ◌+◌, ◌<◌, length, Some, ◌∙◌, ap, sym, refl, arith}
 use Rattle.std.specs.List.{slice_get}
 use Rattle.jx_base.specs.Places.{size_of}
 use Rattle.jx_geom.specs.Counts.{precinct_count, component_precincts, tile_precincts}

@@ -1,24 +1,20 @@
 -- Totals over the tiles and components of a stream in range, and what the limits on them say of one tile.
-use Rattle.std.proofs.Common.{◌≡◌, ◌∙◌, ◌<◌, ◌≤◌, ◌+◌, ◌*◌, ◌^◌, ℕ, arith, length, map, refl, sym, ap, subst, nat_lt, Option, Some, None}
+use Rattle.std.proofs.Common.{◌≡◌, ◌<◌, ◌≤◌, ◌*◌, ◌^◌, ℕ, arith, length, refl, nat_lt, Option, Some, None}
 use Rattle.std.specs.Option.{option_or}
-use Rattle.std.specs.List.{range_with_len, sum_by}
 use Rattle.std.proofs.lemmas.Bool.Decides.{nat_tests}
-use Rattle.std.proofs.lemmas.List.FromFn.{sum_by-map-range_with_len_more}
 use Rattle.jx_base.specs.declared.names.Rect.{Rect}
-use Rattle.jx_geom.specs.declared.shape.CompShape.{CompShape}
-use Rattle.jx_geom.specs.Ranges.{ShapeInRange}
 use Rattle.jx_geom.specs.Rects.{tile_rect}
 use Rattle.jx_geom.specs.Counts.{tile_blocks, tile_precincts}
 use Rattle.jx_geom.specs.Numbering.{blocks_below}
-use Rattle.jx_geom.specs.Geometry.{no_shape, WithinLimits, GeometryInRange}
+use Rattle.jx_geom.specs.Geometry.{WithinLimits, GeometryInRange}
 use Rattle.jx_stream.specs.declared.Stream.{Stream}
 use Rattle.jx_stream.specs.First.{canvas_of, tile_number}
 use Rattle.jx_stream.specs.declared.faults.StreamFault.{StreamFault}
 use Rattle.jx_gather.specs.Faults.{passed}
-use Rattle.jx_stream.specs.Shapes.{shapes_of, shapes_in, shape_in, geometry, layers_of}
+use Rattle.jx_stream.specs.Shapes.{shapes_of, geometry, layers_of}
 use Rattle.jx_stream.specs.InRange.{StreamInRange}
 use Rattle.jx_gather.specs.Totals.{block_total, tile_packets, packet_total, totals_fault}
-use Rattle.jx_stream.proofs.RangeLemmas.{shapes_length, shapes_at}
+use Rattle.jx_stream.proofs.RangeLemmas.{shapes_length}
 use Rattle.jx_base.specs.Joined.{sum_below}
 use Rattle.jx_base.proofs.Sums.{sum_below_more}
 

@@ -1,17 +1,16 @@
-use Rattle.std.proofs.Common.{ℕ, List, [], ◌∷◌, ap, sym, ◌∙◌, subst}
+use Rattle.std.proofs.Common.{ℕ, List, ◌∷◌, ap, sym, ◌∙◌, subst}
 use Rattle.jx_geom.specs.Geometry.{Geometry, GeometryInRange}
 use Rattle.jx_stream.specs.declared.Body.{Body}
 use Rattle.jx_stream.specs.declared.Tile.{Tile}
 use Rattle.jx_stream.specs.Shapes.{tile_at}
 use Rattle.jx_gather.specs.Cells.{fresh_precincts}
 use Rattle.jx_gather.specs.Data.{due}
-use Rattle.jx_gather.specs.Reading.{IsFront, IsTask}
 use Rattle.jx_gather.proofs.TileLemmas.{first_front, first_inside}
 use Rattle.jx_gather.proofs.TotalLemmas.{geometry_fits}
 use Rattle.jx_gather.proofs.tile.read_tile.Goals as goal
 
-pub precincts_of-precincts-requires-clause-limits : goal.precincts_of-precincts-requires-clause-limits
-precincts_of-precincts-requires-clause-limits c =
+pub precincts_of-requires-clause-limits : goal.precincts_of-requires-clause-limits
+precincts_of-requires-clause-limits c =
     let P : Geometry → Type 0 = λ g. GeometryInRange g in
     subst P (sym c.requires.geometry) (geometry_fits c.args.stream.now c.args.geom.now.tile c.requires.range c.requires.totals c.requires.tile)
 
