@@ -1,19 +1,19 @@
 -- Passes that are read from written segments make what the grid makes.
-use Rattle.std.proofs.Common.{◌≡◌, ◌≤◌, ◌+◌, ◌-◌, ◌==◌, ◌%◌, ℕ, zero, suc, Bool, true, false, ◌||◌, ◌&&◌, not, List, [], ◌∷◌, ◌++◌, drop, refl, sym, ap, subst, ◌∙◌, arith, if◌then◌else◌, Option, Some, None}
+use Rattle.std.proofs.Common.{◌≡◌, ◌≤◌, ◌+◌, ℕ, zero, suc, Bool, true, false, ◌||◌, List, [], ◌∷◌, ◌++◌, refl, sym, ap, subst, ◌∙◌, arith, if◌then◌else◌, Option, Some, None}
 use Rattle.std.proofs.lemmas.List.{append-nil}
 use Rattle.std.specs.Bool.{MatchBool}
-use Rattle.jx_base.specs.MqTable.{MqContexts, mq_fresh}
-use Rattle.jx_base.specs.MqWriting.{MqGiven, Decided, Renewed}
+use Rattle.jx_base.specs.MqTable.{mq_fresh}
+use Rattle.jx_base.specs.MqWriting.{MqGiven, Renewed}
 use Rattle.jx_base.specs.Passes.{raw_pass, end_pass, resets, is_causal}
 use Rattle.jx_grid.specs.Cells.{Cells}
 use Rattle.jx_grid.specs.Asking.{Asking, told}
 use Rattle.jx_grid.specs.Pass.{pass_of}
 use Rattle.jx_grid.specs.Symbol.{symbol_asked}
 use Rattle.jx_grid.specs.Segments.{begins}
-use Rattle.jx_grid.specs.Reading.{Reading, Coding, Decoding, fresh_reading, first_segment, opened, renewed, read_answer, read_bits, read_symbol, read_within, read_pass, read_from, first_wrong, ends_by_symbol, looked_of, zeros, at_start, decoded}
-use Rattle.jx_grid.specs.Needs.{followed, called_for, followed_pass, followed_from, renewal, symbol_needs, pass_needs, needs_from, needs, segments_from, written, is_last}
-use Rattle.jx_passenc.proofs.GivesLemmas.{read_all, Gives, read_all_more, read_all_raw, gives_first, gives_more, AreInverse, told_follows}
-use Rattle.jx_passenc.proofs.ReadyLemmas.{Ready, Started, started, next_if, begins_next, opened_if}
+use Rattle.jx_grid.specs.Reading.{Reading, Coding, Decoding, opened, read_answer, read_bits, read_symbol, read_within, read_pass, read_from, first_wrong, ends_by_symbol, looked_of, zeros, at_start}
+use Rattle.jx_grid.specs.Needs.{followed, called_for, followed_pass, followed_from, renewal, symbol_needs, pass_needs, needs_from, segments_from, written, is_last}
+use Rattle.jx_passenc.proofs.GivesLemmas.{read_all, Gives, read_all_more, read_all_raw, gives_more, AreInverse, told_follows}
+use Rattle.jx_passenc.proofs.ReadyLemmas.{Ready, started, next_if, begins_next, opened_if}
 
 renewed_read : (b : Bool) (r : Reading) → (if b then record r { contexts = mq_fresh } else r) ≡ read_all r (if b then Renewed ∷ [] else [])
 renewed_read true r = refl
@@ -24,7 +24,7 @@ unfolding symbol_asked
 symbol_right g = refl
 
 symbol_read : (here raw : Bool) (g : Cells) (r : Reading) → r.raw ≡ raw → Gives r (if here then called_for raw g symbol_asked else [])
-  → (if here then told read_answer symbol_asked r else (true, r)) ≡ (true, read_all r (if here then called_for raw g symbol_asked else []))
+    → (if here then told read_answer symbol_asked r else (true, r)) ≡ (true, read_all r (if here then called_for raw g symbol_asked else []))
 symbol_read true raw g r e h =
     let given : List MqGiven = called_for raw g symbol_asked in
     let P : List MqGiven → Type 0 = λ l. Gives r l in
@@ -46,8 +46,8 @@ pub record IsReadPass (c : Coding) (g : Cells) (pass : ℕ) (before after : Deco
   pub wrong : after.wrong ≡ before.wrong
 
 bits_read : (c : Coding) (g : Cells) (pass : ℕ) (d : Decoding) (more : List MqGiven) → d.reading.raw ≡ raw_pass c.style pass
-  → Gives (read_all d.reading (renewal c)) (called_for (raw_pass c.style pass) g (tree_of c pass d.cells) ++ more)
-  → read_bits c pass d ≡ (followed_pass c g pass d.cells, read_all (read_all d.reading (renewal c)) (called_for (raw_pass c.style pass) g (tree_of c pass d.cells)))
+    → Gives (read_all d.reading (renewal c)) (called_for (raw_pass c.style pass) g (tree_of c pass d.cells) ++ more)
+    → read_bits c pass d ≡ (followed_pass c g pass d.cells, read_all (read_all d.reading (renewal c)) (called_for (raw_pass c.style pass) g (tree_of c pass d.cells)))
 bits_read c g pass d more e h =
     ap (λ (r : Reading). told read_answer (tree_of c pass d.cells) r) (renewed_read (resets c.style) d.reading)
     ∙ told_follows (tree_of c pass d.cells) g (raw_pass c.style pass) (read_all d.reading (renewal c)) more (read_all_raw (renewal c) d.reading ∙ e) h
@@ -65,7 +65,7 @@ abbrev within_of : ℕ → ℕ → Decoding → Cells × Reading → Decoding
 within_of style pass d bits = within_by pass d bits.0 (read_symbol style pass bits.1)
 
 pub pass_read : (c : Coding) (g : Cells) (pass : ℕ) (d : Decoding) → d.reading.raw ≡ raw_pass c.style pass
-  → Gives d.reading (pass_needs c g pass d.cells) → IsReadPass c g pass d (read_within c pass d)
+    → Gives d.reading (pass_needs c g pass d.cells) → IsReadPass c g pass d (read_within c pass d)
 pass_read c g pass d e h =
     let raw : Bool = raw_pass c.style pass in
     let ren : List MqGiven = renewal c in
@@ -80,7 +80,7 @@ pass_read c g pass d e h =
     let W = λ (b : Cells × Reading). within_of c.style pass d b in
     let V = λ (s : Bool × Reading). within_by pass d now s in
     let f : read_within c pass d ≡ within_by pass d now (true, read_all r2 symbol) =
-        ap W (bits_read c g pass d symbol e h1) ∙ ap V (symbol_read (ends_by_symbol c.style pass) raw g r2 k h2) in
+    ap W (bits_read c g pass d symbol e h1) ∙ ap V (symbol_read (ends_by_symbol c.style pass) raw g r2 k h2) in
     record {
       cells = ap (λ (x : Decoding). x.cells) f;
       reading = ap (λ (x : Decoding). x.reading) f ∙ sym (read_all_more ren (own ++ symbol) d.reading ∙ read_all_more own symbol r1);
@@ -106,11 +106,11 @@ ReadyAt c g left pass d = Ready c.style pass (needs_from c g left pass d.cells) 
 
 -- the next pass is ready after one that was read
 ready_next : AreInverse → (c : Coding) (g : Cells) (left pass : ℕ) (d after : Decoding)
-  → IsReadPass c g pass d after
-  → MatchBool (end_pass c.style pass || is_last (needs_from c g left (pass + 1) (followed_pass c g pass d.cells)))
-      (d.rest ≡ segments_from c.style (pass + 1) (read_all d.reading (pass_needs c g pass d.cells)).contexts [] (needs_from c g left (pass + 1) (followed_pass c g pass d.cells)))
-      (Ready c.style (pass + 1) (needs_from c g left (pass + 1) (followed_pass c g pass d.cells)) (read_all d.reading (pass_needs c g pass d.cells)) d.rest)
-  → ReadyAt c g left (pass + 1) after
+    → IsReadPass c g pass d after
+    → MatchBool (end_pass c.style pass || is_last (needs_from c g left (pass + 1) (followed_pass c g pass d.cells)))
+    (d.rest ≡ segments_from c.style (pass + 1) (read_all d.reading (pass_needs c g pass d.cells)).contexts [] (needs_from c g left (pass + 1) (followed_pass c g pass d.cells)))
+    (Ready c.style (pass + 1) (needs_from c g left (pass + 1) (followed_pass c g pass d.cells)) (read_all d.reading (pass_needs c g pass d.cells)) d.rest)
+    → ReadyAt c g left (pass + 1) after
 unfolding needs_from
 ready_next i c g zero pass d after p h = tt
 ready_next i c g (suc left) pass d after p h =
@@ -138,8 +138,8 @@ reads_back i c g (suc count) (suc left) pass d l h =
     let G : Cells → Type 0 = λ x. Gives o.reading (T x) in
     let p0 : IsReadPass c g pass o (read_within c pass o) = pass_read c g pass o h.0 (subst G (sym oc) h.1) in
     let M : Cells → Type 0 = λ x. MatchBool (end_pass c.style pass || is_last (needs_from c g left (pass + 1) (followed_pass c g pass x)))
-      (o.rest ≡ segments_from c.style (pass + 1) (read_all o.reading (pass_needs c g pass x)).contexts [] (needs_from c g left (pass + 1) (followed_pass c g pass x)))
-      (Ready c.style (pass + 1) (needs_from c g left (pass + 1) (followed_pass c g pass x)) (read_all o.reading (pass_needs c g pass x)) o.rest) in
+    (o.rest ≡ segments_from c.style (pass + 1) (read_all o.reading (pass_needs c g pass x)).contexts [] (needs_from c g left (pass + 1) (followed_pass c g pass x)))
+    (Ready c.style (pass + 1) (needs_from c g left (pass + 1) (followed_pass c g pass x)) (read_all o.reading (pass_needs c g pass x)) o.rest) in
     let after : Decoding = read_pass c pass d in
     let n : ReadyAt c g left (pass + 1) after = ready_next i c g left pass o after p0 (subst M (sym oc) h.2) in
     let r = reads_back i c g count left (pass + 1) after (omega arith) n in
@@ -150,12 +150,12 @@ reads_back i c g (suc count) (suc left) pass d l h =
 
 -- at the start the passes are ready
 first_ready : AreInverse → (c : Coding) (g : Cells) (passes width height : ℕ)
-  → ReadyAt c g passes 0 (at_start width height (segments_from c.style 0 mq_fresh [] (needs_from c g passes 0 (zeros width height))))
+    → ReadyAt c g passes 0 (at_start width height (segments_from c.style 0 mq_fresh [] (needs_from c g passes 0 (zeros width height))))
 unfolding needs_from
 first_ready i c g zero width height = tt
 first_ready i c g (suc passes) width height =
     (started i c.style (pass_needs c g 0 (zeros width height)) (needs_from c g passes (0 + 1) (followed_pass c g 0 (zeros width height))) 0 mq_fresh []).ready
 
 pub all_read : AreInverse → (c : Coding) (g : Cells) (passes count : ℕ) → count ≤ passes
-  → IsRead c g count 0 (at_start g.width g.height (written c g passes))
+    → IsRead c g count 0 (at_start g.width g.height (written c g passes))
 all_read i c g passes count l = reads_back i c g count passes 0 (at_start g.width g.height (written c g passes)) l (first_ready i c g passes g.width g.height)

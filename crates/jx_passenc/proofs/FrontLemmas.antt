@@ -1,13 +1,9 @@
 -- Coefficients that others may become: their decided bits and signs stay.
-use Rattle.std.proofs.Common.{◌≡◌, ◌≢◌, ◌<◌, ◌≤◌, ◌+◌, ◌-◌, ◌*◌, ◌/◌, ◌%◌, ◌^◌, ◌==◌, ℕ, zero, suc, Bool, true, false, List, length, get_or, set, refl, sym, ap, ◌∙◌, arith, subst, inl, inr}
-use Rattle.std.proofs.lemmas.Bool.{cases_eq}
-use Rattle.std.proofs.lemmas.List.{get_or-set_same, get_or-set_other, length-set}
-use Rattle.std.proofs.Math.Nat.{zero-div, mul-le-mul_right}
+use Rattle.std.proofs.Common.{◌≡◌, ◌≢◌, ◌≤◌, ◌+◌, ◌-◌, ◌/◌, ◌%◌, ◌^◌, ◌==◌, ℕ, Bool, true, false, refl, sym, ap, ◌∙◌, arith, subst}
+use Rattle.std.proofs.Math.Nat.{zero-div}
 use Rattle.jx_grid.specs.declared.coef.Coef.{Coef}
 use Rattle.jx_grid.specs.declared.question.Plane.{Plane}
-use Rattle.jx_grid.specs.Cells.{Cells, zero_coef, coef_at, with_coef}
-use Rattle.jx_grid.specs.Pass.{IsScan, shift_of, with_bit, with_sign, changed}
-use Rattle.jx_grid.specs.Needs.{bit_at_place}
+use Rattle.jx_grid.specs.Pass.{IsScan, shift_of, with_bit, with_sign}
 use Rattle.jx_passenc.proofs.PowerLemmas.{div_longer, zeros_less, bit_off, bit_on, above_same, zeros_kept}
 
 -- the decided bits of a are those of b, and so is its sign where they show it
@@ -35,7 +31,7 @@ before_next planes a b c p q =
     let f = q.decided in
     let l : t ≤ s = omega arith in
     let k : c.bits / 2 ^ s ≡ b.bits / 2 ^ s =
-        div_longer c.bits t s l ∙ (ap (λ (x : ℕ). x / 2 ^ (s - t)) q.bits ∙ sym (div_longer b.bits t s l)) in
+    div_longer c.bits t s l ∙ (ap (λ (x : ℕ). x / 2 ^ (s - t)) q.bits ∙ sym (div_longer b.bits t s l)) in
     record {
       decided = omega arith;
       bits = k ∙ p.bits;
@@ -47,14 +43,14 @@ pub zero_before : (k : Plane) (c : Coef) → IsClean k.planes (k.number + 1) c �
 zero_before k c h = record { decided = h.decided; bits = refl; sign = λ n. refl }
 
 pub more_before : (k : Plane) (bit : Bool) (c : Coef) → IsScan k → c.planes ≤ k.number → IsClean k.planes (k.number + 1) c
-  → IsBefore k.planes c (with_bit k bit c)
+    → IsBefore k.planes c (with_bit k bit c)
 more_before k false c s u h = zero_before k c h
 more_before k true c s u h =
     let n = s.number in
     record { decided = omega arith; bits = above_same c.bits (shift_of k) (k.planes - c.planes) (omega arith) h.low; sign = λ n. refl }
 
 pub sign_before : (k : Plane) (negative : Bool) (c : Coef) → IsScan k → c.planes ≤ k.number → IsClean k.planes (k.number + 1) c → c.bits ≡ 0
-  → IsBefore k.planes c (with_sign k negative c)
+    → IsBefore k.planes c (with_sign k negative c)
 sign_before k negative c s u h z =
     let n = s.number in
     record {
@@ -72,18 +68,18 @@ zero_clean k c h =
     record { decided = omega arith; low = zeros_less c.bits (k.planes - (k.number + 1)) (k.planes - c.planes) (omega arith) h.low }
 
 added_clean : (k : Plane) (c : Coef) → IsScan k → c.planes ≤ k.number → IsClean k.planes (k.number + 1) c
-  → (c.bits + 2 ^ shift_of k) % 2 ^ (k.planes - (k.number + 1)) ≡ 0
+    → (c.bits + 2 ^ shift_of k) % 2 ^ (k.planes - (k.number + 1)) ≡ 0
 added_clean k c s u h =
     let n = s.number in
     rw (low_of k.planes k.number) (zeros_kept c.bits (shift_of k) (k.planes - c.planes) (omega arith) h.low)
 
 pub more_clean : (k : Plane) (bit : Bool) (c : Coef) → IsScan k → c.planes ≤ k.number → IsClean k.planes (k.number + 1) c
-  → IsClean k.planes (k.number + 1) (with_bit k bit c)
+    → IsClean k.planes (k.number + 1) (with_bit k bit c)
 more_clean k false c s u h = zero_clean k c h
 more_clean k true c s u h = record { decided = omega arith; low = added_clean k c s u h }
 
 pub sign_clean : (k : Plane) (negative : Bool) (c : Coef) → IsScan k → c.planes ≤ k.number → IsClean k.planes (k.number + 1) c
-  → IsClean k.planes (k.number + 1) (with_sign k negative c)
+    → IsClean k.planes (k.number + 1) (with_sign k negative c)
 sign_clean k negative c s u h = record { decided = omega arith; low = added_clean k c s u h }
 
 -- the bit of the plane, where it was decided
@@ -96,7 +92,7 @@ bit_seen k c b bits h e =
     ap (λ (x : ℕ). x % 2 == 1) (subst (λ (s : ℕ). b.bits / 2 ^ s ≡ c.bits / 2 ^ s) f h.bits)
 
 pub more_seen : (k : Plane) (bit : Bool) (c b : Coef) → IsScan k → c.planes ≤ k.number → IsClean k.planes (k.number + 1) c
-  → IsBefore k.planes (with_bit k bit c) b → bit_in (shift_of k) b ≡ bit
+    → IsBefore k.planes (with_bit k bit c) b → bit_in (shift_of k) b ≡ bit
 more_seen k false c b s u h p =
     let n = s.number in
     bit_seen k (with_bit k false c) b 0 p refl ∙ bit_off c.bits (shift_of k) (k.planes - c.planes) (omega arith) h.low
@@ -105,7 +101,7 @@ more_seen k true c b s u h p =
     bit_seen k (with_bit k true c) b 0 p refl ∙ bit_on c.bits (shift_of k) (k.planes - c.planes) (omega arith) h.low
 
 pub sign_bit_seen : (k : Plane) (negative : Bool) (c b : Coef) → IsScan k → c.planes ≤ k.number → IsClean k.planes (k.number + 1) c
-  → IsBefore k.planes (with_sign k negative c) b → bit_in (shift_of k) b ≡ true
+    → IsBefore k.planes (with_sign k negative c) b → bit_in (shift_of k) b ≡ true
 sign_bit_seen k negative c b s u h p =
     let n = s.number in
     bit_seen k (with_sign k negative c) b 0 p refl ∙ bit_on c.bits (shift_of k) (k.planes - c.planes) (omega arith) h.low
@@ -117,7 +113,7 @@ isnt : (n : ℕ) → (n % 2 == 1) ≡ true → n ≢ 0
 isnt n h e = cc_zero (sym h ∙ ap (λ (x : ℕ). x % 2 == 1) e)
 
 pub sign_seen : (k : Plane) (negative : Bool) (c b : Coef) → IsScan k → c.planes ≤ k.number → IsClean k.planes (k.number + 1) c
-  → IsBefore k.planes (with_sign k negative c) b → b.negative ≡ negative
+    → IsBefore k.planes (with_sign k negative c) b → b.negative ≡ negative
 sign_seen k negative c b s u h p =
     let n = s.number in
     let on = bit_on c.bits (shift_of k) (k.planes - c.planes) (omega arith) h.low in

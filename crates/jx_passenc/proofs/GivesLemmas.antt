@@ -1,7 +1,7 @@
 -- What a reader gives of a written segment.
-use Rattle.std.proofs.Common.{◌≡◌, ◌≤◌, ◌+◌, ◌-◌, ◌==◌, ℕ, zero, suc, Bool, true, false, ◌&&◌, not, List, [], ◌∷◌, ◌++◌, length, take, drop, get_or, replicate, refl, sym, ap, ◌∙◌, arith, if◌then◌else◌}
+use Rattle.std.proofs.Common.{◌≡◌, ◌≤◌, ℕ, zero, suc, Bool, true, false, ◌&&◌, not, List, [], ◌∷◌, ◌++◌, length, take, drop, replicate, refl, ap, ◌∙◌, arith, if◌then◌else◌}
 use Rattle.jx_base.specs.MqTable.{MqContexts, mq_fresh, mq_row_of}
-use Rattle.jx_base.specs.MqReading.{MqReader, MqAsked, Under, Anew, mq_reader, mq_bit, mq_after, mq_read, mq_decisions_from, mq_decisions}
+use Rattle.jx_base.specs.MqReading.{MqReader, mq_reader, mq_bit, mq_after, mq_read, mq_decisions_from, mq_decisions}
 use Rattle.jx_base.specs.MqWriting.{MqGiven, Decided, Renewed, mq_write, mq_contexts_after, mq_asked, mq_bits}
 use Rattle.jx_base.specs.RawBits.{raw_bits, raw_read, raw_write}
 use Rattle.jx_grid.specs.declared.question.Question.{Question}
@@ -41,7 +41,7 @@ abbrev pub at_reading : List ℕ → Bool → MqReader → List Bool → MqConte
 at_reading s raw mq left x = record { segment = s; raw = raw; mq = mq; left = left; contexts = x }
 
 after_raw : (raw : Bool) (s : List ℕ) (mq : MqReader) (left : List Bool) (x : MqContexts) (label : ℕ)
-  → (after_bit (at_reading s raw mq left x) label).raw ≡ raw
+    → (after_bit (at_reading s raw mq left x) label).raw ≡ raw
 after_raw true s mq left x label = refl
 after_raw false s mq left x label = refl
 
@@ -58,24 +58,25 @@ rest_same a b p q h = cc
 
 -- an arithmetic decoder that gives the bits of a list
 mq_gives : (given : List MqGiven) (s : List ℕ) (r : MqReader) (left : List Bool) (x : MqContexts)
-  → (mq_decisions_from s r x (mq_asked given)).bits ≡ mq_bits given → Gives (at_reading s false r left x) given
+    → (mq_decisions_from s r x (mq_asked given)).bits ≡ mq_bits given → Gives (at_reading s false r left x) given
 mq_gives [] s r left x h = tt
 mq_gives (Decided label bit ∷ given) s r left x h =
-    let rest = (mq_decisions_from s (mq_read s r (mq_row_of x label).qe) (mq_after r x label) (mq_asked given)).bits in
-    (first_same (mq_bit r x label) bit rest (mq_bits given) h,
-     mq_gives given s (mq_read s r (mq_row_of x label).qe) left (mq_after r x label) (rest_same (mq_bit r x label) bit rest (mq_bits given) h))
+    let rest = (mq_decisions_from s (mq_read s r (mq_row_of x label).qe) (mq_after r x label) (mq_asked given)).bits in (
+      first_same (mq_bit r x label) bit rest (mq_bits given) h,
+      mq_gives given s (mq_read s r (mq_row_of x label).qe) left (mq_after r x label) (rest_same (mq_bit r x label) bit rest (mq_bits given) h),
+    )
 mq_gives (Renewed ∷ given) s r left x h = mq_gives given s r left mq_fresh h
 
 mq_contexts : (given : List MqGiven) (s : List ℕ) (r : MqReader) (left : List Bool) (x : MqContexts)
-  → (read_all (at_reading s false r left x) given).contexts ≡ (mq_decisions_from s r x (mq_asked given)).contexts
+    → (read_all (at_reading s false r left x) given).contexts ≡ (mq_decisions_from s r x (mq_asked given)).contexts
 mq_contexts [] s r left x = refl
 mq_contexts (Decided label bit ∷ given) s r left x = mq_contexts given s (mq_read s r (mq_row_of x label).qe) left (mq_after r x label)
 mq_contexts (Renewed ∷ given) s r left x = mq_contexts given s r left mq_fresh
 
 -- raw bits, with ones after them
 raw_gives : (given : List MqGiven) (s : List ℕ) (mq : MqReader) (left : List Bool) (x : MqContexts) (ones : ℕ)
-  → length (mq_bits given) ≤ ones → take (length (mq_bits given)) (left ++ replicate ones true) ≡ mq_bits given
-  → Gives (at_reading s true mq left x) given
+    → length (mq_bits given) ≤ ones → take (length (mq_bits given)) (left ++ replicate ones true) ≡ mq_bits given
+    → Gives (at_reading s true mq left x) given
 raw_gives [] s mq left x ones l h = tt
 raw_gives (Decided label bit ∷ given) s mq [] x zero l h = absurd (omega arith)
 raw_gives (Decided label bit ∷ given) s mq [] x (suc ones) l h =
@@ -87,7 +88,7 @@ raw_gives (Decided label bit ∷ given) s mq (b ∷ left) x ones l h =
 raw_gives (Renewed ∷ given) s mq left x ones l h = raw_gives given s mq left mq_fresh ones l h
 
 raw_contexts : (given : List MqGiven) (s : List ℕ) (mq : MqReader) (left : List Bool) (x : MqContexts)
-  → (read_all (at_reading s true mq left x) given).contexts ≡ renewed_by x given
+    → (read_all (at_reading s true mq left x) given).contexts ≡ renewed_by x given
 raw_contexts [] s mq left x = refl
 raw_contexts (Decided label bit ∷ given) s mq left x = raw_contexts given s mq (drop 1 left) x
 raw_contexts (Renewed ∷ given) s mq left x = raw_contexts given s mq left mq_fresh
@@ -105,7 +106,7 @@ segment_gives i true x given =
 segment_gives i false x given = mq_gives given (mq_write x given) (mq_reader (mq_write x given)) (raw_bits (mq_write x given)) x (i.bits x given)
 
 pub segment_contexts : AreInverse → (raw : Bool) (x : MqContexts) (given : List MqGiven)
-  → (read_all (fresh_reading raw (segment_of raw x given) x) given).contexts ≡ contexts_after raw x given
+    → (read_all (fresh_reading raw (segment_of raw x given) x) given).contexts ≡ contexts_after raw x given
 segment_contexts i true x given =
     raw_contexts given (raw_write (mq_bits given)) (mq_reader (raw_write (mq_bits given))) (raw_bits (raw_write (mq_bits given))) x
 segment_contexts i false x given =
@@ -122,12 +123,12 @@ turned_back raw q b = twice (not raw && q.turned) b
 
 -- a procedure that is told the decisions that a grid is asked for ends as it does where the grid answers
 pub told_follows : {A : Type 0} (t : Asking A) (g : Cells) (raw : Bool) (r : Reading) (more : List MqGiven) → r.raw ≡ raw
-  → Gives r (called_for raw g t ++ more) → told read_answer t r ≡ (followed g t, read_all r (called_for raw g t))
+    → Gives r (called_for raw g t ++ more) → told read_answer t r ≡ (followed g t, read_all r (called_for raw g t))
 told_follows (Told a) g raw r more e h = refl
 told_follows (Ask q k) g raw r more e h =
     let b : Bool = answer_of g q in
     let s : Reading = after_bit r q.label in
     let f : turned_over r.raw q (coded_bit r q.label) ≡ b =
-        ap (λ (c : Bool). turned_over r.raw q c) h.0 ∙ (ap (λ (d : Bool). turned_over d q (turned_over raw q b)) e ∙ turned_back raw q b) in
+    ap (λ (c : Bool). turned_over r.raw q c) h.0 ∙ (ap (λ (d : Bool). turned_over d q (turned_over raw q b)) e ∙ turned_back raw q b) in
     ap (λ (c : Bool). told read_answer (k c) s) f
     ∙ told_follows (k b) g raw s more (after_raw r.raw r.segment r.mq r.left r.contexts q.label ∙ e) h.1

@@ -1,12 +1,10 @@
 -- Grids that others may become.
-use Rattle.std.proofs.Common.{◌≡◌, ◌≢◌, ◌<◌, ◌≤◌, ◌+◌, ◌-◌, ◌*◌, ◌/◌, ◌%◌, ◌^◌, ◌==◌, ℕ, zero, suc, Bool, true, false, List, length, get_or, set, refl, sym, ap, ◌∙◌, arith, subst, inl, inr}
+use Rattle.std.proofs.Common.{◌≡◌, ◌≢◌, ◌<◌, ◌+◌, ◌*◌, ℕ, List, length, get_or, set, refl, sym, ap, ◌∙◌, arith, subst, inl, inr}
 use Rattle.std.proofs.lemmas.Bool.{cases_eq}
 use Rattle.std.proofs.lemmas.List.{get_or-set_same, get_or-set_other, length-set}
 use Rattle.std.proofs.Math.Nat.{mul-le-mul_right}
 use Rattle.jx_grid.specs.declared.coef.Coef.{Coef}
-use Rattle.jx_grid.specs.declared.question.Plane.{Plane}
 use Rattle.jx_grid.specs.Cells.{Cells, zero_coef, coef_at, with_coef}
-use Rattle.jx_grid.specs.Pass.{IsScan, shift_of, with_bit, with_sign, changed}
 use Rattle.jx_passenc.proofs.FrontLemmas.{IsBefore, IsClean, before_same, before_next}
 
 -- a grid with all its rows
@@ -48,31 +46,31 @@ index_in g x y s i =
 
 -- a change of one place
 set_at : (P : Coef → Type 0) (xs : List Coef) (i : ℕ) (c : Coef) → P c → ((j : ℕ) → P (get_or xs j zero_coef)) → i < length xs
-  → (j : ℕ) → P (get_or (set xs i c) j zero_coef)
+    → (j : ℕ) → P (get_or (set xs i c) j zero_coef)
 set_at P xs i c here others l j =
     elim (cases_eq j i) [
-      inl e ↦ subst P (sym (ap (λ (n : ℕ). get_or (set xs i c) n zero_coef) e ∙ get_or-set_same xs i c zero_coef l)) here
-    | inr e ↦ subst P (sym (get_or-set_other xs i j c zero_coef e)) (others j)
+      | inl e ↦ subst P (sym (ap (λ (n : ℕ). get_or (set xs i c) n zero_coef) e ∙ get_or-set_same xs i c zero_coef l)) here
+      | inr e ↦ subst P (sym (get_or-set_other xs i j c zero_coef e)) (others j)
     ]
 
 set_front : (planes : ℕ) (xs : List Coef) (i : ℕ) (c : Coef) → IsBefore planes (get_or xs i zero_coef) c → i < length xs
-  → (j : ℕ) → IsBefore planes (get_or xs j zero_coef) (get_or (set xs i c) j zero_coef)
+    → (j : ℕ) → IsBefore planes (get_or xs j zero_coef) (get_or (set xs i c) j zero_coef)
 set_front planes xs i c h l j =
     let P : ℕ → Type 0 = λ n. IsBefore planes (get_or xs n zero_coef) (get_or (set xs i c) n zero_coef) in
     let Q : Coef → Type 0 = λ d. IsBefore planes (get_or xs i zero_coef) d in
     let R : Coef → Type 0 = λ d. IsBefore planes (get_or xs j zero_coef) d in
     elim (cases_eq j i) [
-      inl e ↦ subst P (sym e) (subst Q (sym (get_or-set_same xs i c zero_coef l)) h)
-    | inr e ↦ subst R (sym (get_or-set_other xs i j c zero_coef e)) (before_same planes (get_or xs j zero_coef))
+      | inl e ↦ subst P (sym e) (subst Q (sym (get_or-set_same xs i c zero_coef l)) h)
+      | inr e ↦ subst R (sym (get_or-set_other xs i j c zero_coef e)) (before_same planes (get_or xs j zero_coef))
     ]
 
 pub with_front : (planes : ℕ) (g : Cells) (x y : ℕ) (c : Coef) → IsWhole g → IsIn g x y → IsBefore planes (coef_at g x y) c
-  → IsFront planes g (with_coef g x y c)
+    → IsFront planes g (with_coef g x y c)
 with_front planes g x y c s i h =
     record { width = refl; height = refl; at = set_front planes g.coefs (y * g.width + x) c h (index_in g x y s i) }
 
 pub with_clean : (planes most : ℕ) (g : Cells) (x y : ℕ) (c : Coef) → IsIn g x y → AreClean planes most g → IsClean planes most c
-  → AreClean planes most (with_coef g x y c)
+    → AreClean planes most (with_coef g x y c)
 with_clean planes most g x y c i a h = record {
   whole = record { size = length-set g.coefs (y * g.width + x) c ∙ a.whole.size };
   at = set_at (λ (d : Coef). IsClean planes most d) g.coefs (y * g.width + x) c h a.at (index_in g x y a.whole i);
@@ -94,7 +92,7 @@ above_with g x r q c p l =
 
 -- what a grid shows of a place that was changed
 pub seen_at : (planes : ℕ) (g : Cells) (x y : ℕ) (c : Coef) (h : Cells) → IsWhole g → IsIn g x y → IsFront planes (with_coef g x y c) h
-  → IsBefore planes c (coef_at h x y)
+    → IsBefore planes c (coef_at h x y)
 seen_at planes g x y c h s i f =
     let P : Coef → Type 0 = λ d. IsBefore planes d (get_or h.coefs (y * g.width + x) zero_coef) in
     let Q : ℕ → Type 0 = λ w. IsBefore planes c (get_or h.coefs (y * w + x) zero_coef) in

@@ -1,5 +1,5 @@
 -- What holds wherever a procedure ends.
-use Rattle.std.proofs.Common.{◌≡◌, ℕ, Bool, true, false, refl, sym, ap, ◌∙◌, subst}
+use Rattle.std.proofs.Common.{◌≡◌, ℕ, Bool, refl, ap, ◌∙◌}
 use Rattle.jx_grid.specs.declared.question.Question.{Question}
 use Rattle.jx_grid.specs.Cells.{Cells}
 use Rattle.jx_grid.specs.Asking.{Asking, Told, Ask, and_then, told}
@@ -39,16 +39,16 @@ pub back_told : (planes most : ℕ) (m : Cells) → AreClean planes most m → B
 back_told planes most m c = record { front = front_same planes m; clean = c; follows = λ g h. refl }
 
 pub back_then : (planes most : ℕ) (m : Cells) (t : Asking Cells) (f : Cells → Asking Cells) → Back planes most m t
-  → ((v : Cells) → IsBack planes most m t v → Back planes most v (f v)) → Back planes most m (and_then t f)
+    → ((v : Cells) → IsBack planes most m t v → Back planes most v (f v)) → Back planes most m (and_then t f)
 back_then planes most m t f h k =
     let Q : Cells → Type 0 = λ v. AllLeaves (f v) (IsBack planes most m (and_then t f)) in
     leaves_then t f (IsBack planes most m (and_then t f))
     (leaves_more t (IsBack planes most m t) Q
-      (λ v a. leaves_more (f v) (IsBack planes most v (f v)) (IsBack planes most m (and_then t f))
-        (λ w b. record {
-          front = front_next planes m v w a.front b.front;
-          clean = b.clean;
-          follows = λ g e. followed_then g t f ∙ (ap (λ (x : Cells). followed g (f x)) (a.follows g (front_next planes v w g b.front e)) ∙ b.follows g e);
-        })
-        (k v a))
-      h)
+    (λ v a. leaves_more (f v) (IsBack planes most v (f v)) (IsBack planes most m (and_then t f))
+    (λ w b. record {
+      front = front_next planes m v w a.front b.front;
+      clean = b.clean;
+      follows = λ g e. followed_then g t f ∙ (ap (λ (x : Cells). followed g (f x)) (a.follows g (front_next planes v w g b.front e)) ∙ b.follows g e);
+    })
+    (k v a))
+    h)

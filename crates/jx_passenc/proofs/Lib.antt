@@ -9,5 +9,6 @@ pub mod PowerLemmas
 pub mod ReadyLemmas
 pub mod RunBackLemmas
 pub mod SegmentLemmas
+pub mod ShortLemmas
 pub mod StepLemmas
 pub mod WroteLemmas

@@ -1,12 +1,12 @@
 -- Passes go the same way again where a grid answers that their result may become.
-use Rattle.std.proofs.Common.{◌≡◌, ◌<◌, ◌≤◌, ◌+◌, ◌-◌, ◌*◌, ◌/◌, ◌%◌, ◌^◌, ◌==◌, ℕ, zero, suc, Bool, true, false, List, length, get_or, replicate, refl, sym, ap, ◌∙◌, arith, subst, if◌then◌else◌}
+use Rattle.std.proofs.Common.{◌≡◌, ◌<◌, ◌≤◌, ◌+◌, ◌-◌, ◌*◌, ◌/◌, ◌%◌, ◌^◌, ◌==◌, ℕ, zero, suc, Bool, List, get_or, replicate, refl, sym, ap, ◌∙◌, arith, subst, if◌then◌else◌}
 use Rattle.std.proofs.lemmas.List.{length-replicate}
 use Rattle.std.proofs.Math.Nat.{zero-mod}
 use Rattle.jx_base.specs.declared.names.Band.{Band}
 use Rattle.jx_grid.specs.declared.coef.Coef.{Coef}
 use Rattle.jx_grid.specs.declared.question.Plane.{Plane}
 use Rattle.jx_grid.specs.Cells.{Cells, zero_coef}
-use Rattle.jx_grid.specs.Asking.{Asking, Told, told}
+use Rattle.jx_grid.specs.Asking.{told}
 use Rattle.jx_grid.specs.Pass.{IsScan, scan_column, scan_row, significance_at, refinement_at, cleanup_at, pass_at, pass_at_nth, scanned, plane_of, pass_of}
 use Rattle.jx_grid.specs.Segments.{begins}
 use Rattle.jx_grid.specs.Reading.{Reading, Coding, Decoding, opened, renewed, read_answer, read_pass, read_from, zeros, at_start, decoded}
@@ -26,31 +26,31 @@ place_back pass k m x y s i a =
     if_back k.planes (k.number + 1) m (pass % 3 == 1) (significance_at k m x y) (if pass % 3 == 2 then refinement_at k m x y else cleanup_at k m x y)
     (λ e. significance_back k m x y s i a)
     (λ e. if_back k.planes (k.number + 1) m (pass % 3 == 2) (refinement_at k m x y) (cleanup_at k m x y)
-      (λ f. refinement_back k m x y s i a) (λ f. cleanup_back k m x y s i a))
+    (λ f. refinement_back k m x y s i a) (λ f. cleanup_back k m x y s i a))
 
 room : (vw vh w h n count : ℕ) → vw ≡ w → vh ≡ h → n + suc count ≤ w * h → n + 1 + count ≤ vw * vh
 room vw vh w h n count e f l = rw (e, f) (omega arith)
 
 scanned_back : (pass : ℕ) (k : Plane) (count n : ℕ) (m : Cells) → IsScan k → AreClean k.planes (k.number + 1) m → n + count ≤ m.width * m.height
-  → PassBack k m (scanned pass k count n m)
+    → PassBack k m (scanned pass k count n m)
 scanned_back pass k zero n m s a l = back_told k.planes (k.number + 1) m a
 scanned_back pass k (suc count) n m s a l =
     let p : n < m.width * m.height = omega arith in
     let i : IsIn m (scan_column m.width m.height n) (scan_row m.width m.height n) =
-        record { column = column_inside m.width m.height n p; row = row_inside m.width m.height n p } in
+    record { column = column_inside m.width m.height n p; row = row_inside m.width m.height n p } in
     back_then k.planes (k.number + 1) m (pass_at_nth pass k m n) (λ h. scanned pass k count (n + 1) h)
     (place_back pass k m (scan_column m.width m.height n) (scan_row m.width m.height n) s i a)
     (λ v b. scanned_back pass k count (n + 1) v s b.clean (room v.width v.height m.width m.height n count b.front.width b.front.height l))
 
 -- what a pass of some coding may end in
 pub pass_back : (c : Coding) (pass : ℕ) (m : Cells) → IsScan (plane_of c.band (is_causal c.style) c.planes pass) → AreClean c.planes ((pass + 2) / 3 + 1) m
-  → Back c.planes ((pass + 2) / 3 + 1) m (tree_of c pass m)
+    → Back c.planes ((pass + 2) / 3 + 1) m (tree_of c pass m)
 unfolding pass_of
 pass_back c pass m s a = scanned_back pass (plane_of c.band (is_causal c.style) c.planes pass) (m.width * m.height) 0 m s a (omega arith)
 
 -- a pass that is read
 read_back_pass : (c : Coding) (pass : ℕ) (d : Decoding) → IsScan (plane_of c.band (is_causal c.style) c.planes pass) → AreClean c.planes ((pass + 2) / 3 + 1) d.cells
-  → IsBack c.planes ((pass + 2) / 3 + 1) d.cells (tree_of c pass d.cells) (read_pass c pass d).cells
+    → IsBack c.planes ((pass + 2) / 3 + 1) d.cells (tree_of c pass d.cells) (read_pass c pass d).cells
 read_back_pass c pass d s a =
     let o : Decoding = opened c.style pass d in
     let e : o.cells ≡ d.cells = opened_cells (begins c.style pass) c.style pass d in
@@ -74,7 +74,7 @@ pub record IsFollowed (c : Coding) (count pass : ℕ) (d : Decoding) : Type 0 wh
   pub follows : (g : Cells) → IsFront c.planes (read_from c count pass d).cells g → followed_from c g count pass d.cells ≡ (read_from c count pass d).cells
 
 pub passes_back : (c : Coding) (passes count pass : ℕ) (d : Decoding) → HasPasses c passes → pass + count ≤ passes → AreClean c.planes ((pass + 1) / 3 + 1) d.cells
-  → IsFollowed c count pass d
+    → IsFollowed c count pass d
 unfolding read_from followed_from
 passes_back c passes zero pass d h l a = record {
   front = front_same c.planes d.cells;
@@ -86,13 +86,13 @@ passes_back c passes (suc count) pass d h l a =
     let after : Decoding = read_pass c pass d in
     let b = read_back_pass c pass d s (clean_more c.planes ((pass + 1) / 3 + 1) ((pass + 2) / 3 + 1) d.cells (omega arith) a) in
     let r = passes_back c passes count (pass + 1) after h (omega arith)
-        (clean_more c.planes ((pass + 2) / 3 + 1) ((pass + 1 + 1) / 3 + 1) after.cells (omega arith) b.clean) in
+    (clean_more c.planes ((pass + 2) / 3 + 1) ((pass + 1 + 1) / 3 + 1) after.cells (omega arith) b.clean) in
     let end : Cells = (read_from c count (pass + 1) after).cells in
     record {
       front = front_next c.planes d.cells after.cells end b.front r.front;
       clean = clean_more c.planes ((pass + 1 + count + 1) / 3 + 1) ((pass + suc count + 1) / 3 + 1) end (omega arith) r.clean;
       follows = λ g f.
-        ap (λ (x : Cells). followed_from c g count (pass + 1) x) (b.follows g (front_next c.planes after.cells end g r.front f)) ∙ r.follows g f;
+          ap (λ (x : Cells). followed_from c g count (pass + 1) x) (b.follows g (front_next c.planes after.cells end g r.front f)) ∙ r.follows g f;
     }
 
 zero_at : (n i : ℕ) → get_or (replicate n zero_coef) i zero_coef ≡ zero_coef
@@ -137,7 +137,7 @@ pub record IsRefollowed (width height : ℕ) (c d : Coding) (segments : List (Li
   pub cells : followed_from d (decoded width height c segments passes).cells first 0 (zeros width height) ≡ (decoded width height c segments first).cells
 
 pub refollowed : (width height : ℕ) (c d : Coding) (segments : List (List ℕ)) (passes first : ℕ) → first ≤ passes → HasPasses c passes → AreAlike c d
-  → IsRefollowed width height c d segments passes first
+    → IsRefollowed width height c d segments passes first
 unfolding decoded
 refollowed width height c d segments passes first l h e =
     let start : Decoding = at_start width height segments in

@@ -1,7 +1,7 @@
 -- Numbers by powers of two.
-use Rattle.std.proofs.Common.{◌≡◌, ◌<◌, ◌≤◌, ◌+◌, ◌-◌, ◌*◌, ◌/◌, ◌%◌, ◌^◌, ◌==◌, ℕ, zero, suc, Bool, true, false, refl, sym, ap, ◌∙◌, arith, subst}
-use Rattle.std.proofs.lemmas.Nat.{pow_pos, pow-add, div-mul-add, mod-mul-add, div-add-mod'}
-use Rattle.std.proofs.Math.Nat.{div-div-eq-div-mul, zero-div, mul-mod_left, two-pow-succ, add-mul-mod_self_right, mod-lt, mul-div_cancel}
+use Rattle.std.proofs.Common.{◌≡◌, ◌<◌, ◌≤◌, ◌+◌, ◌-◌, ◌*◌, ◌/◌, ◌%◌, ◌^◌, ◌==◌, ℕ, suc, true, false, refl, sym, ap, ◌∙◌, arith, subst}
+use Rattle.std.proofs.lemmas.Nat.{pow_pos, pow-add, div-mul-add, div-add-mod'}
+use Rattle.std.proofs.Math.Nat.{div-div-eq-div-mul, mul-mod_left, two-pow-succ}
 use Rattle.std.proofs.Math.Pow.{pow_mono}
 
 -- a longer power

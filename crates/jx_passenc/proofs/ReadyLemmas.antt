@@ -1,21 +1,15 @@
 -- Written segments are read back pass by pass.
-use Rattle.std.proofs.Common.{◌≡◌, ◌≤◌, ◌+◌, ◌-◌, ◌==◌, ◌%◌, ℕ, zero, suc, Bool, true, false, ◌||◌, ◌&&◌, not, List, [], ◌∷◌, ◌++◌, drop, refl, sym, ap, subst, ◌∙◌, arith, inl, inr, ◌⊎◌, if◌then◌else◌, Option, Some, None}
-use Rattle.std.proofs.lemmas.Bool.Decides.{nat_tests}
-use Rattle.std.proofs.lemmas.List.{append-nil}
+use Rattle.std.proofs.Common.{◌≡◌, ◌+◌, ◌-◌, ◌==◌, ℕ, suc, Bool, true, false, ◌||◌, List, [], ◌∷◌, ◌++◌, drop, refl, sym, ap, subst, ◌∙◌, arith, inl, inr, ◌⊎◌, if◌then◌else◌}
 use Rattle.std.specs.Bool.{MatchBool}
-use Rattle.jx_base.specs.MqTable.{MqContexts, mq_fresh}
-use Rattle.jx_base.specs.MqWriting.{MqGiven, Decided, Renewed}
-use Rattle.jx_base.specs.Passes.{raw_pass, end_pass, resets, is_causal}
-use Rattle.jx_grid.specs.Cells.{Cells}
-use Rattle.jx_grid.specs.Asking.{Asking, told}
-use Rattle.jx_grid.specs.Pass.{pass_of}
-use Rattle.jx_grid.specs.Symbol.{symbol_asked}
+use Rattle.jx_base.specs.MqTable.{MqContexts}
+use Rattle.jx_base.specs.MqWriting.{MqGiven}
+use Rattle.jx_base.specs.Passes.{raw_pass, end_pass}
 use Rattle.jx_grid.specs.Segments.{begins}
-use Rattle.jx_grid.specs.Reading.{Reading, Coding, Decoding, fresh_reading, first_segment, opened, renewed, read_answer, read_bits, read_symbol, read_within, read_pass, read_from, first_wrong, ends_by_symbol, looked_of}
-use Rattle.jx_grid.specs.Needs.{followed, called_for, followed_pass, followed_from, renewal, symbol_needs, pass_needs, needs_from, segment_of, contexts_after, segments_from, is_last}
+use Rattle.jx_grid.specs.Reading.{Reading, Decoding, fresh_reading, first_segment}
+use Rattle.jx_grid.specs.Needs.{segment_of, contexts_after, segments_from, is_last}
 use Rattle.jx_passenc.proofs.KindLemmas.{same_kind}
 use Rattle.jx_passenc.proofs.WroteLemmas.{or_false, isnt_none}
-use Rattle.jx_passenc.proofs.GivesLemmas.{read_all, Gives, read_all_more, read_all_raw, gives_first, gives_more, AreInverse, segment_gives, segment_contexts, told_follows}
+use Rattle.jx_passenc.proofs.GivesLemmas.{read_all, Gives, read_all_more, read_all_raw, gives_first, gives_more, AreInverse, segment_gives, segment_contexts}
 
 -- a reader within a segment gives the decisions of passes to come: those of this segment itself, the others from the segments
 -- that are left
@@ -24,8 +18,8 @@ Ready style pass [] r rest = Unit {0}
 Ready style pass (given ∷ more) r rest =
     (r.raw ≡ raw_pass style pass) × Gives r given ×
     MatchBool (end_pass style pass || is_last more)
-      (rest ≡ segments_from style (pass + 1) (read_all r given).contexts [] more)
-      (Ready style (pass + 1) more (read_all r given) rest)
+    (rest ≡ segments_from style (pass + 1) (read_all r given).contexts [] more)
+    (Ready style (pass + 1) more (read_all r given) rest)
 
 -- the same of a segment that was begun with some decisions, and of a fresh reader of it
 pub record Started (style pass : ℕ) (x : MqContexts) (begun : List MqGiven) (passes : List (List MqGiven)) (segments : List (List ℕ)) : Type 0 where
@@ -51,12 +45,12 @@ pub record StartedIf (ends : Bool) (style pass : ℕ) (x : MqContexts) (begun gi
   pub raw : (read_all (fresh_reading (raw_pass style pass) (first_segment segments) x) begun).raw ≡ raw_pass style pass
   pub here : Gives (read_all (fresh_reading (raw_pass style pass) (first_segment segments) x) begun) given
   pub after : MatchBool ends
-    (drop 1 segments ≡ segments_from style (pass + 1)
+      (drop 1 segments ≡ segments_from style (pass + 1)
       (read_all (read_all (fresh_reading (raw_pass style pass) (first_segment segments) x) begun) given).contexts [] more)
-    (Ready style (pass + 1) more (read_all (read_all (fresh_reading (raw_pass style pass) (first_segment segments) x) begun) given) (drop 1 segments))
+      (Ready style (pass + 1) more (read_all (read_all (fresh_reading (raw_pass style pass) (first_segment segments) x) begun) given) (drop 1 segments))
 
 started_end : AreInverse → (style pass : ℕ) (x : MqContexts) (begun given : List MqGiven) (more : List (List MqGiven))
-  → StartedIf true style pass x begun given more (segments_if true style pass x (begun ++ given) more)
+    → StartedIf true style pass x begun given more (segments_if true style pass x (begun ++ given) more)
 started_end i style pass x begun given more =
     let raw : Bool = raw_pass style pass in
     let all : List MqGiven = begun ++ given in
@@ -75,8 +69,8 @@ abbrev fresh_at : Bool → List (List ℕ) → MqContexts → Reading
 fresh_at raw segments x = fresh_reading raw (first_segment segments) x
 
 started_on : (style pass : ℕ) (x : MqContexts) (begun given : List MqGiven) (more : List (List MqGiven)) → end_pass style pass ≡ false
-  → Started style (pass + 1) x (begun ++ given) more (segments_from style (pass + 1) x (begun ++ given) more)
-  → StartedIf false style pass x begun given more (segments_if false style pass x (begun ++ given) more)
+    → Started style (pass + 1) x (begun ++ given) more (segments_from style (pass + 1) x (begun ++ given) more)
+    → StartedIf false style pass x begun given more (segments_if false style pass x (begun ++ given) more)
 started_on style pass x begun given more e s =
     let segments : List (List ℕ) = segments_from style (pass + 1) x (begun ++ given) more in
     let k : raw_pass style (pass + 1) ≡ raw_pass style pass = same_kind style pass e in
@@ -93,9 +87,9 @@ started_on style pass x begun given more e s =
     }
 
 joined_up : (style pass : ℕ) (x : MqContexts) (begun given : List MqGiven) (more : List (List MqGiven)) (ends : Bool)
-  → end_pass style pass || is_last more ≡ ends
-  → StartedIf ends style pass x begun given more (segments_if ends style pass x (begun ++ given) more)
-  → Started style pass x begun (given ∷ more) (segments_from style pass x begun (given ∷ more))
+    → end_pass style pass || is_last more ≡ ends
+    → StartedIf ends style pass x begun given more (segments_if ends style pass x (begun ++ given) more)
+    → Started style pass x begun (given ∷ more) (segments_from style pass x begun (given ∷ more))
 unfolding segments_from
 joined_up style pass x begun given more ends e s =
     let P : Bool → Type 0 = λ b. StartedIf b style pass x begun given more (segments_if b style pass x (begun ++ given) more) in
@@ -103,14 +97,14 @@ joined_up style pass x begun given more ends e s =
     record { gives = t.gives; ready = (t.raw, t.here, t.after) }
 
 pub started : AreInverse → (style : ℕ) (given : List MqGiven) (more : List (List MqGiven)) (pass : ℕ) (x : MqContexts) (begun : List MqGiven)
-  → Started style pass x begun (given ∷ more) (segments_from style pass x begun (given ∷ more))
+    → Started style pass x begun (given ∷ more) (segments_from style pass x begun (given ∷ more))
 started i style given [] pass x begun =
     joined_up style pass x begun given [] true (or_last (end_pass style pass)) (started_end i style pass x begun given [])
 started i style given (next ∷ more) pass x begun =
     elim (which (end_pass style pass || false)) [
-      inl e ↦ joined_up style pass x begun given (next ∷ more) true e (started_end i style pass x begun given (next ∷ more))
-    | inr e ↦ joined_up style pass x begun given (next ∷ more) false e
-        (started_on style pass x begun given (next ∷ more) (or_false (end_pass style pass) false e) (started i style next more (pass + 1) x (begun ++ given)))
+      | inl e ↦ joined_up style pass x begun given (next ∷ more) true e (started_end i style pass x begun given (next ∷ more))
+      | inr e ↦ joined_up style pass x begun given (next ∷ more) false e
+          (started_on style pass x begun given (next ∷ more) (or_false (end_pass style pass) false e) (started i style next more (pass + 1) x (begun ++ given)))
     ]
 
 -- the reader at the start of the next pass
@@ -119,8 +113,8 @@ opened_if here style pass d =
     if here then record d { reading = fresh_reading (raw_pass style pass) (first_segment d.rest) d.reading.contexts; rest = drop 1 d.rest } else d
 
 pub next_if : AreInverse → (ends : Bool) (style pass : ℕ) (given : List MqGiven) (more : List (List MqGiven)) (d : Decoding)
-  → MatchBool (ends || false) (d.rest ≡ segments_from style (pass + 1) d.reading.contexts [] (given ∷ more)) (Ready style (pass + 1) (given ∷ more) d.reading d.rest)
-  → Ready style (pass + 1) (given ∷ more) (opened_if ends style (pass + 1) d).reading (opened_if ends style (pass + 1) d).rest
+    → MatchBool (ends || false) (d.rest ≡ segments_from style (pass + 1) d.reading.contexts [] (given ∷ more)) (Ready style (pass + 1) (given ∷ more) d.reading d.rest)
+    → Ready style (pass + 1) (given ∷ more) (opened_if ends style (pass + 1) d).reading (opened_if ends style (pass + 1) d).rest
 next_if i true style pass given more d h =
     let x : MqContexts = d.reading.contexts in
     let P : List (List ℕ) → Type 0 = λ s. Ready style (pass + 1) (given ∷ more) (fresh_reading (raw_pass style (pass + 1)) (first_segment s) x) (drop 1 s) in

@@ -1,15 +1,15 @@
 -- The run mode goes the same way again where a grid answers that its result may become.
-use Rattle.std.proofs.Common.{◌≡◌, ◌≢◌, ◌<◌, ◌≤◌, ◌+◌, ◌-◌, ◌*◌, ◌/◌, ◌%◌, ◌^◌, ◌==◌, nat_lt, nat_le, ℕ, zero, suc, Bool, true, false, not, ◌&&◌, ◌||◌, refl, sym, ap, ◌∙◌, arith, subst, lit<, if◌then◌else◌}
+use Rattle.std.proofs.Common.{◌≡◌, ◌<◌, ◌≤◌, ◌+◌, ◌%◌, ◌==◌, nat_lt, nat_le, ℕ, zero, suc, Bool, true, false, not, ◌&&◌, refl, sym, ap, ◌∙◌, arith, subst, lit<, if◌then◌else◌}
 use Rattle.std.proofs.lemmas.Bool.Decides.{nat_tests}
 use Rattle.jx_grid.specs.declared.coef.Coef.{Coef}
 use Rattle.jx_grid.specs.declared.question.Plane.{Plane}
-use Rattle.jx_grid.specs.Cells.{Cells, zero_coef, coef_at, with_coef, significant}
-use Rattle.jx_grid.specs.Asking.{Asking, Told, Ask}
+use Rattle.jx_grid.specs.Cells.{Cells, coef_at, significant}
+use Rattle.jx_grid.specs.Asking.{Told}
 use Rattle.jx_grid.specs.Pass.{IsScan, shift_of, is_decided, with_bit, with_sign, changed, label_at, is_quiet, is_run, zeroed, number_in_run, named_at, place_at, run_at, usual_at, cleanup_at}
 use Rattle.jx_grid.specs.Needs.{bit_at_place, first_of_four, followed}
-use Rattle.jx_passenc.proofs.FrontLemmas.{IsBefore, IsClean, zero_before, sign_before, zero_clean, sign_clean, more_seen, sign_bit_seen, sign_seen}
+use Rattle.jx_passenc.proofs.FrontLemmas.{zero_before, sign_before, zero_clean, sign_clean, more_seen, sign_bit_seen, sign_seen}
 use Rattle.jx_passenc.proofs.GridLemmas.{IsFront, AreClean, IsIn, front_same, front_next, with_front, with_clean, seen_at, below_with, above_with}
-use Rattle.jx_passenc.proofs.LeafLemmas.{AllLeaves, IsBack, Back}
+use Rattle.jx_passenc.proofs.LeafLemmas.{AllLeaves, IsBack}
 use Rattle.jx_passenc.proofs.StepLemmas.{and_left, and_right, not_true, no_bits, no_less, clean_at, if_back, PassBack, usual_back}
 
 -- a coefficient that is left to the cleanup pass and insignificant
@@ -33,7 +33,7 @@ abbrev AreLeft : Plane → Cells → ℕ → ℕ → Type 0
 AreLeft k g x y = (n : ℕ) → n < 4 → IsLeft k (coef_at g x (y + n))
 
 left_at : (k : Plane) (g : Cells) (x y n : ℕ) → is_quiet k g x y ≡ true → is_quiet k g x (y + 1) ≡ true → is_quiet k g x (y + 2) ≡ true
-  → is_quiet k g x (y + 3) ≡ true → n < 4 → IsLeft k (coef_at g x (y + n))
+    → is_quiet k g x (y + 3) ≡ true → n < 4 → IsLeft k (coef_at g x (y + n))
 left_at k g x y zero a b c d l = let e : y + 0 ≡ y = omega arith in subst (λ (r : ℕ). IsLeft k (coef_at g x r)) (sym e) (quiet_left k g x y a)
 left_at k g x y (suc zero) a b c d l = quiet_left k g x (y + 1) b
 left_at k g x y (suc (suc zero)) a b c d l = quiet_left k g x (y + 2) c
@@ -85,7 +85,7 @@ left_same : (k : Plane) (c d : Coef) → d ≡ c → IsLeft k c → IsLeft k d
 left_same k c d e h = subst (λ (x : Coef). IsLeft k x) (sym e) h
 
 zero_seen : (k : Plane) (count i : ℕ) (g : Cells) (x y : ℕ) (h : Cells) → IsScan k → AreClean k.planes (k.number + 1) g → x < g.width → y + count ≤ g.height
-  → i < count → IsLeft k (coef_at g x (y + i)) → IsFront k.planes (zeroed k count g x y) h → bit_at_place h (shift_of k) x (y + i) ≡ false
+    → i < count → IsLeft k (coef_at g x (y + i)) → IsFront k.planes (zeroed k count g x y) h → bit_at_place h (shift_of k) x (y + i) ≡ false
 zero_seen k zero i g x y h s a p q l t f = absurd (omega arith)
 zero_seen k (suc n) zero g x y h s a p q l t f =
     let c : Coef = coef_at g x y in
@@ -106,7 +106,7 @@ zero_seen k (suc n) (suc i) g x y h s a p q l t f =
     let b = with_clean k.planes (k.number + 1) g x y (with_bit k false c) j a (zero_clean k c cl) in
     let u : IsLeft k (coef_at g x (y + 1 + i)) = subst (λ (z : ℕ). IsLeft k (coef_at g x z)) e t in
     let v : IsLeft k (coef_at m x (y + 1 + i)) =
-        left_same k (coef_at g x (y + 1 + i)) (coef_at m x (y + 1 + i)) (below_with g x y (y + 1 + i) (with_bit k false c) (omega arith) (omega arith)) u in
+    left_same k (coef_at g x (y + 1 + i)) (coef_at m x (y + 1 + i)) (below_with g x y (y + 1 + i) (with_bit k false c) (omega arith) (omega arith)) u in
     subst (λ (z : ℕ). bit_at_place h (shift_of k) x z ≡ false) (sym e) (zero_seen k n i m x (y + 1) h s b p (omega arith) (omega arith) v f)
 
 -- the first of four
@@ -117,7 +117,7 @@ first_none g s x y h =
     rw (a, h 1 (omega arith), h 2 (omega arith), h 3 (omega arith)) refl
 
 first_is : (g : Cells) (s x y n : ℕ) → n < 4 → ((i : ℕ) → i < n → bit_at_place g s x (y + i) ≡ false) → bit_at_place g s x (y + n) ≡ true
-  → first_of_four g s x y ≡ n
+    → first_of_four g s x y ≡ n
 first_is g s x y zero l h t =
     let e : y + 0 ≡ y = omega arith in
     let a : bit_at_place g s x y ≡ true = subst (λ (z : ℕ). bit_at_place g s x z ≡ true) e t in
@@ -150,8 +150,8 @@ number_is false false = record { few = lit< tt; any = refl; high = refl; low = r
 
 -- a grid that answers for the named place goes to it
 named_follows : (k : Plane) (m : Cells) (x y : ℕ) (h l n : Bool) (g : Cells) → first_of_four g (shift_of k) x y ≡ number_in_run h l
-  → (coef_at g x (y + number_in_run h l)).negative ≡ n
-  → followed g (run_at k m x y) ≡ zeroed k (number_in_run h l) (changed m x (y + number_in_run h l) (with_sign k n)) x y
+    → (coef_at g x (y + number_in_run h l)).negative ≡ n
+    → followed g (run_at k m x y) ≡ zeroed k (number_in_run h l) (changed m x (y + number_in_run h l) (with_sign k n)) x y
 named_follows k m x y h l n g e t =
     let f : ℕ = first_of_four g (shift_of k) x y in
     let d = number_is h l in
@@ -176,7 +176,7 @@ record AreNamed (k : Plane) (m : Cells) (x y n : ℕ) (negative : Bool) : Type 0
   pub seen : (g : Cells) → IsFront k.planes (named_cells k m x y n negative) g → AreSeen k m x y n negative g
 
 named_is : (k : Plane) (m : Cells) (x y n : ℕ) (negative : Bool) → IsScan k → AreClean k.planes (k.number + 1) m → x < m.width → IsRun k m x y → n < 4
-  → AreNamed k m x y n negative
+    → AreNamed k m x y n negative
 named_is k m x y n negative s a p r l =
     let c : Coef = coef_at m x (y + n) in
     let rows = r.rows in
@@ -191,19 +191,19 @@ named_is k m x y n negative s a p r l =
       front = front_next k.planes m q (named_cells k m x y n negative) f z.front;
       clean = z.clean;
       seen = λ g h.
-        let w = seen_at k.planes m x (y + n) (with_sign k negative c) g a.whole i (front_next k.planes q (named_cells k m x y n negative) g z.front h) in
-        record {
-          first = first_is g (shift_of k) x y n l
-            (λ j o. zero_seen k n j q x y g s b p (omega arith) o
-              (left_same k (coef_at m x (y + j)) (coef_at q x (y + j)) (above_with m x (y + n) (y + j) (with_sign k negative c) (omega arith) (omega arith)) (r.left j (omega arith))) h)
-            (sign_bit_seen k negative c (coef_at g x (y + n)) s t.planes cl w);
-          sign = sign_seen k negative c (coef_at g x (y + n)) s t.planes cl w;
-        };
+          let w = seen_at k.planes m x (y + n) (with_sign k negative c) g a.whole i (front_next k.planes q (named_cells k m x y n negative) g z.front h) in
+          record {
+            first = first_is g (shift_of k) x y n l
+                (λ j o. zero_seen k n j q x y g s b p (omega arith) o
+                (left_same k (coef_at m x (y + j)) (coef_at q x (y + j)) (above_with m x (y + n) (y + j) (with_sign k negative c) (omega arith) (omega arith)) (r.left j (omega arith))) h)
+                (sign_bit_seen k negative c (coef_at g x (y + n)) s t.planes cl w);
+            sign = sign_seen k negative c (coef_at g x (y + n)) s t.planes cl w;
+          };
     }
 
 -- the leaves of the run mode
 run_back_at : (k : Plane) (m : Cells) (x y : ℕ) → IsScan k → AreClean k.planes (k.number + 1) m → x < m.width → IsRun k m x y → (any : Bool)
-  → AllLeaves (if any then place_at k m x y else Told (zeroed k 4 m x y)) (IsBack k.planes (k.number + 1) m (run_at k m x y))
+    → AllLeaves (if any then place_at k m x y else Told (zeroed k 4 m x y)) (IsBack k.planes (k.number + 1) m (run_at k m x y))
 run_back_at k m x y s a p r true = λ h. λ l. λ n.
     let d = number_is h l in
     let w = named_is k m x y (number_in_run h l) n s a p r d.few in
@@ -218,8 +218,8 @@ run_back_at k m x y s a p r false =
       front = z.front;
       clean = z.clean;
       follows = λ g f.
-        ap (λ (b : ℕ). followed g (if nat_lt b 4 then place_at k m x y else Told (zeroed k 4 m x y)))
-        (first_none g (shift_of k) x y (λ i l. zero_seen k 4 i m x y g s a p r.rows l (r.left i l) f));
+          ap (λ (b : ℕ). followed g (if nat_lt b 4 then place_at k m x y else Told (zeroed k 4 m x y)))
+          (first_none g (shift_of k) x y (λ i l. zero_seen k 4 i m x y g s a p r.rows l (r.left i l) f));
     }
 
 pub cleanup_back : (k : Plane) (m : Cells) (x y : ℕ) → IsScan k → IsIn m x y → AreClean k.planes (k.number + 1) m → PassBack k m (cleanup_at k m x y)

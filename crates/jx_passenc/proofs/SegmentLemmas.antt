@@ -2,23 +2,22 @@
 use Rattle.std.proofs.Common.{◌≡◌, ◌+◌, ℕ, Bool, true, false, ◌||◌, List, [], ◌∷◌, ◌++◌, refl, sym, ap, ◌∙◌, append_assoc, if◌then◌else◌}
 use Rattle.std.proofs.lemmas.List.{append-nil}
 use Rattle.jx_base.specs.MqTable.{MqContexts, mq_fresh}
-use Rattle.jx_base.specs.MqWriting.{MqWriter, MqGiven, Decided, Renewed, mq_writer, mq_wrote, mq_after_bit, mq_segment, mq_written_from, mq_write, mq_bits, mq_contexts_after}
-use Rattle.jx_base.specs.RawBits.{raw_write}
+use Rattle.jx_base.specs.MqWriting.{MqWriter, MqGiven, Decided, Renewed, mq_writer, mq_wrote, mq_after_bit, mq_written_from, mq_bits}
 use Rattle.jx_base.specs.Passes.{raw_pass, end_pass}
 use Rattle.jx_grid.specs.Cells.{Cells}
 use Rattle.jx_grid.specs.Needs.{segment_of, renewed_by, contexts_after, segments_from, is_last}
-use Rattle.jx_passenc.specs.Writing.{Writing, wrote, after_coded, fresh_writing, segment_by, finished_from}
+use Rattle.jx_passenc.specs.Writing.{Writing, wrote, fresh_writing, segment_by, finished_from}
 use Rattle.jx_passenc.proofs.KindLemmas.{same_kind}
 use Rattle.jx_passenc.proofs.WroteLemmas.{made, wrote_more, wrote_target, or_false}
 
 wrote_mq : (given : List MqGiven) (g : Cells) (mq : MqWriter) (bits : List Bool) (x : MqContexts)
-  → wrote (made g false mq bits x) given ≡ made g false (mq_written_from mq x given).writer bits (mq_written_from mq x given).contexts
+    → wrote (made g false mq bits x) given ≡ made g false (mq_written_from mq x given).writer bits (mq_written_from mq x given).contexts
 wrote_mq [] g mq bits x = refl
 wrote_mq (Decided label bit ∷ given) g mq bits x = wrote_mq given g (mq_wrote mq x label bit) bits (mq_after_bit mq x label bit)
 wrote_mq (Renewed ∷ given) g mq bits x = wrote_mq given g mq bits mq_fresh
 
 wrote_bits : (given : List MqGiven) (g : Cells) (mq : MqWriter) (bits : List Bool) (x : MqContexts)
-  → wrote (made g true mq bits x) given ≡ made g true mq (bits ++ mq_bits given) (renewed_by x given)
+    → wrote (made g true mq bits x) given ≡ made g true mq (bits ++ mq_bits given) (renewed_by x given)
 wrote_bits [] g mq bits x = ap (λ (b : List Bool). made g true mq b x) (sym (append-nil bits))
 wrote_bits (Decided label bit ∷ given) g mq bits x =
     wrote_bits given g mq (bits ++ bit ∷ []) x
@@ -38,7 +37,7 @@ either true p q r s e f = e
 either false p q r s e f = f refl
 
 kind_goes_on : (style pass : ℕ) (g : Cells) (x : MqContexts) (last : Bool) → end_pass style pass || last ≡ false
-  → fresh_writing g (raw_pass style (pass + 1)) x ≡ fresh_writing g (raw_pass style pass) x
+    → fresh_writing g (raw_pass style (pass + 1)) x ≡ fresh_writing g (raw_pass style pass) x
 kind_goes_on style pass g x last h = ap (λ (raw : Bool). fresh_writing g raw x) (same_kind style pass (or_false (end_pass style pass) last h))
 
 wrote_target_fresh : (raw : Bool) (g : Cells) (x : MqContexts) (given : List MqGiven) → (wrote (fresh_writing g raw x) given).target ≡ g
@@ -46,7 +45,7 @@ wrote_target_fresh raw g x given = wrote_target given (fresh_writing g raw x)
 
 -- what is to come of passes, of which the first one's segment was begun, is what the encoder makes of it
 pub segments_finished : (style : ℕ) (g : Cells) (passes : List (List MqGiven)) (pass : ℕ) (x : MqContexts) (begun : List MqGiven)
-  → segments_from style pass x begun passes ≡ finished_from style pass (wrote (fresh_writing g (raw_pass style pass) x) begun) passes
+    → segments_from style pass x begun passes ≡ finished_from style pass (wrote (fresh_writing g (raw_pass style pass) x) begun) passes
 unfolding segments_from finished_from
 segments_finished style g [] pass x begun = refl
 segments_finished style g (given ∷ more) pass x begun =
@@ -64,5 +63,5 @@ segments_finished style g (given ∷ more) pass x begun =
     let J = λ (u : Writing). finished_from style (pass + 1) u more in
     either (end_pass style pass || last) _ _ _ _
     (ap (λ (r : List (List ℕ)). segment_of raw x all ∷ r) (segments_finished style g more (pass + 1) (contexts_after raw x all) [])
-     ∙ (ap T (sym (wrote_target_fresh raw g x all)) ∙ (ap R (segment_is raw g x all) ∙ (ap Q (contexts_is raw g x all) ∙ ap S e))))
+    ∙ (ap T (sym (wrote_target_fresh raw g x all)) ∙ (ap R (segment_is raw g x all) ∙ (ap Q (contexts_is raw g x all) ∙ ap S e))))
     (λ h. segments_finished style g more (pass + 1) x all ∙ (ap I (kind_goes_on style pass g x last h) ∙ ap J e))

@@ -14,7 +14,14 @@ use std::alloc::Global;
 
 /// Codes the passes of a block.
 #[tactic(auto, using(crate::proofs::WroteLemmas::step_more, crate::proofs::WroteLemmas::step_end, crate::proofs::WroteLemmas::step_kind, crate::proofs::WroteLemmas::step_target, jx_grid::proofs::Places::within_more))]
-fn run<'a>(encoder: &mut Encoder<'a>, alloc: Global, band: Band, style: Style, planes: u8, passes: u16) -> Result<(), NoMemory>
+fn run<'a>(
+    encoder: &mut Encoder<'a>,
+    alloc: Global,
+    band: Band,
+    style: Style,
+    planes: u8,
+    passes: u16,
+) -> Result<(), NoMemory>
     requires some { 1 ≤ planes }
     requires planes { planes ≤ 74 }
     requires passes { passes ≤ 3 * planes - 2 }
@@ -35,7 +42,14 @@ fn run<'a>(encoder: &mut Encoder<'a>, alloc: Global, band: Band, style: Style, p
 /// 3·planes − 2 passes. The segments are those of the decisions that the grid calls for; the grid is
 /// one that such passes decode to where it fits them.
 #[tactic(auto, using(crate::proofs::SegmentLemmas::segments_finished, jx_grid::proofs::Places::zeros_within))]
-pub fn encode_passes(alloc: Global, grid: &Grid, band: Band, style: Style, planes: u8, passes: u16) -> Result<Vec<Vec<u8>>, NoMemory>
+pub fn encode_passes(
+    alloc: Global,
+    grid: &Grid,
+    band: Band,
+    style: Style,
+    planes: u8,
+    passes: u16,
+) -> Result<Vec<Vec<u8>>, NoMemory>
     requires some { 1 ≤ planes }
     requires planes { planes ≤ 74 }
     requires passes { passes ≤ 3 * planes - 2 }

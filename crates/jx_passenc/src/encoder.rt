@@ -70,7 +70,13 @@ impl<'a> Encoder<'a> {
     }
 
     /// A pass with its symbol.
-    fn pass_within(&mut self, band: Band, style: Style, planes: u8, pass: u16) -> Result<(), NoMemory>
+    fn pass_within(
+        &mut self,
+        band: Band,
+        style: Style,
+        planes: u8,
+        pass: u16,
+    ) -> Result<(), NoMemory>
         requires scan { IsScan (plane_of band (is_causal style.bits) planes pass) }
         requires size { HasSize self.old.cells }
         requires within { AreWithin planes ((pass + 2) / 3 + 1) self.old.cells }
@@ -84,7 +90,15 @@ impl<'a> Encoder<'a> {
     }
 
     /// The next pass of the block, which may be the last.
-    pub fn pass(&mut self, alloc: Global, band: Band, style: Style, planes: u8, pass: u16, last: bool) -> Result<(), NoMemory>
+    pub fn pass(
+        &mut self,
+        alloc: Global,
+        band: Band,
+        style: Style,
+        planes: u8,
+        pass: u16,
+        last: bool,
+    ) -> Result<(), NoMemory>
         requires few { pass < 65535 }
         requires scan { IsScan (plane_of band (is_causal style.bits) planes pass) }
         requires size { HasSize self.old.cells }

@@ -39,7 +39,7 @@ pub fn recoding_keeps_coefficients()
     ensures first { (width : ℕ) → (height : ℕ) → (c : Coding) → (d : Coding) → (segments : List (List ℕ)) → (passes : ℕ) → (first : ℕ) →
         first ≤ passes → HasPasses c passes → AreAlike c d →
         (decoded width height d (written d (decoded width height c segments passes).cells passes) first).cells
-            ≡ (decoded width height c segments first).cells }
+        ≡ (decoded width height c segments first).cells }
     ensures right { (width : ℕ) → (height : ℕ) → (c : Coding) → (d : Coding) → (segments : List (List ℕ)) → (passes : ℕ) → (first : ℕ) →
         first ≤ passes → HasPasses c passes → AreAlike c d →
         (decoded width height d (written d (decoded width height c segments passes).cells passes) first).wrong ≡ None }

@@ -60,7 +60,10 @@ fn defaults_of_a_tile(rt: HostRuntime) -> Result<(), Fail> {
     let second = stream.tile_view(alloc, &main, 1)?;
     assert_eq!(rt; first_band(&first), (1, 0, 1, 0, 11, 10));
     assert_eq!(rt; first_band(&second), (2, 3, 9, 0, 10, 9));
-    assert_eq!(rt; (first.comps(), first.canvas().x1, first.shapes().len()), (1, 2, 1));
+    assert_eq!(rt;
+        (first.comps(), first.canvas().x1, first.shapes().len()),
+        (1, 2, 1)
+    );
     Ok(())
 }
 
@@ -68,7 +71,8 @@ fn defaults_of_a_tile(rt: HostRuntime) -> Result<(), Fail> {
 #[test]
 fn shift_alone(rt: HostRuntime) -> Result<(), Fail> {
     let alloc = rt.alloc();
-    let main = "0001 07 01 01 FF52 000C 00 00 0001 00 00 04 04 00 01 FF5C 0004 00 00 FF5E 0005 00 00 05";
+    let main =
+        "0001 07 01 01 FF52 000C 00 00 0001 00 00 04 04 00 01 FF5C 0004 00 00 FF5E 0005 00 00 05";
     let stream = stream_of(&rt, alloc, &[SIZ, main, PART, EOC])?;
     assert_eq!(rt; first_band_of(&stream, 0), (0, 0, 1, 5, 5, 0));
     Ok(())
@@ -80,7 +84,9 @@ fn many_components(rt: HostRuntime) -> Result<(), Fail> {
     let alloc = rt.alloc();
     let mut file = file_of(
         alloc,
-        &["FF4F FF51 C026 0000 00000001 00000001 00000000 00000000 00000001 00000001 00000000 00000000 4000"],
+        &[
+            "FF4F FF51 C026 0000 00000001 00000001 00000000 00000000 00000001 00000001 00000000 00000000 4000",
+        ],
     )?;
     push_times("07 01 01", 16_384, &mut file)?;
     push_hex(CODING, &mut file)?;
@@ -100,7 +106,10 @@ fn many_tiles(rt: HostRuntime) -> Result<(), Fail> {
     let alloc = rt.alloc();
     let mut file = file_of(
         alloc,
-        &["FF4F FF51 0029 0000 0000FFFF 00000001 00000000 00000000 00000001 00000001 00000000 00000000", MAIN],
+        &[
+            "FF4F FF51 0029 0000 0000FFFF 00000001 00000000 00000000 00000001 00000001 00000000 00000000",
+            MAIN,
+        ],
     )?;
     for tile in 0..65_535_u16 {
         push_hex("FF90 000A", &mut file)?;

@@ -1,4 +1,4 @@
-use Rattle.std.proofs.Common.{◌≡◌, ◌-◌, ◌+◌, ◌/◌, ◌++◌, ◌==◌, ◌∙◌, ap, sym, arith, Bool, ℕ}
+use Rattle.std.proofs.Common.{◌-◌, ◌+◌, ◌/◌, ◌++◌, ◌==◌, ◌∙◌, ap, sym, arith, Bool, ℕ}
 use Rattle.jx_grid.specs.Cells.{Cells}
 use Rattle.jx_grid.specs.Reading.{Coding, coding_of}
 use Rattle.jx_grid.specs.Needs.{needs_from}

@@ -10,7 +10,7 @@ abbrev pub invariant-loop-pass : goal.invariant-loop-pass
 invariant-loop-pass l = record {
   so_far : l.encoder.done ++ finished_from l.style.bits l.pass l.encoder.writing
       (needs_from (coding_of l.band l.style.bits l.planes) l.initial.encoder.writing.target (l.passes - l.pass) l.pass l.encoder.cells)
-    ≡ l.initial.encoder.done ++ finished_from l.style.bits 0 l.initial.encoder.writing
+      ≡ l.initial.encoder.done ++ finished_from l.style.bits 0 l.initial.encoder.writing
       (needs_from (coding_of l.band l.style.bits l.planes) l.initial.encoder.writing.target l.passes 0 l.initial.encoder.cells);
   target : l.encoder.writing.target ≡ l.initial.encoder.writing.target;
   kind : l.encoder.writing.raw ≡ raw_pass l.style.bits l.pass;

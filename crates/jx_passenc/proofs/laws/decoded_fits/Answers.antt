@@ -1,4 +1,4 @@
-use Rattle.std.proofs.Common.{◌≡◌, ◌≤◌, ◌∙◌, ap, arith, ℕ, refl}
+use Rattle.std.proofs.Common.{◌∙◌, ap, arith, ℕ, refl}
 use Rattle.jx_grid.specs.Cells.{Cells}
 use Rattle.jx_grid.specs.Reading.{zeros, decoded}
 use Rattle.jx_grid.specs.Needs.{followed_from}
@@ -19,5 +19,5 @@ returns-clause-fits k width height c d segments passes h e =
     let g : Cells = (decoded width height c segments passes).cells in
     record {
       is = ap (λ (w : ℕ). followed_from d g passes 0 (zeros w g.height)) r.width_is
-        ∙ (ap (λ (v : ℕ). followed_from d g passes 0 (zeros width v)) r.height_is ∙ r.cells);
+          ∙ (ap (λ (v : ℕ). followed_from d g passes 0 (zeros width v)) r.height_is ∙ r.cells);
     }

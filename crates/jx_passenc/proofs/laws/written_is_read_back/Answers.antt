@@ -1,4 +1,4 @@
-use Rattle.std.proofs.Common.{◌∙◌, ◌≤◌, arith}
+use Rattle.std.proofs.Common.{◌∙◌, arith}
 use Rattle.jx_grid.specs.Reading.{decoded}
 use Rattle.jx_passenc.proofs.GivesLemmas.{AreInverse}
 use Rattle.jx_passenc.proofs.BackLemmas.{all_read}

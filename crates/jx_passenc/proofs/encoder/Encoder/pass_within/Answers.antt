@@ -1,4 +1,4 @@
-use Rattle.std.proofs.Common.{◌≡◌, ◌∙◌, ap}
+use Rattle.std.proofs.Common.{◌∙◌, ap}
 use Rattle.jx_grid.specs.Reading.{coding_of}
 use Rattle.jx_passenc.specs.Encoding.{Encoding, after_symbol}
 use Rattle.jx_passenc.proofs.WroteLemmas.{pass_wrote}
