@@ -24,7 +24,8 @@ use Rattle.jx_stream.specs.Params.{planes_at}
 use Rattle.jx_stream.specs.Read.{IsRead}
 use Rattle.jx_stream.specs.Shapes.{geometry, shapes_of, layers_of, style_of, tile_at}
 use Rattle.jx_gather.specs.Totals.{totals_fault}
-use Rattle.jx_gather.specs.Cells.{fresh_precinct, precinct_bands, leaf_number}
+use Rattle.jx_gather.specs.Cells.{fresh_precinct, precinct_bands}
+use Rattle.jx_geom.specs.Precincts.{leaf_number}
 use Rattle.jx_gather.specs.Cuts.{Cut, Left, names_of}
 use Rattle.jx_gather.specs.Blocks.{Found, founds_of, own_founds, pieces_in, zero_from, block_of}
 use Rattle.jx_gather.specs.Gathered.{IsListOf, IsCutUp, AreTileBlocks, IsGathered, start}

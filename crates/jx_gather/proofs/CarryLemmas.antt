@@ -13,13 +13,13 @@ use Rattle.jx_head.specs.Packet.{State}
 use Rattle.jx_order.specs.declared.names.PacketName.{PacketName}
 use Rattle.jx_stream.specs.declared.Stream.{Stream}
 use Rattle.jx_stream.specs.Shapes.{geometry}
-use Rattle.jx_gather.specs.Leaves.{leaves}
-use Rattle.jx_gather.specs.Cells.{HasPrecinct, leaf_number}
+use Rattle.jx_geom.specs.Precincts.{leaves}
+use Rattle.jx_geom.specs.Precincts.{HasPrecinct, leaf_number}
 use Rattle.jx_gather.specs.Blocks.{Found, zero_in, founds_from, founds_in, own_founds}
 use Rattle.jx_gather.specs.Written.{Packets, next_layer, cut_at}
 use Rattle.jx_gather.specs.BlockOf.{pieces_at}
 use Rattle.jx_gather.specs.Carries.{pieces_of, zero_of, block_in, carried, part_of, bytes_of, Carries}
-use Rattle.jx_gather.proofs.CellLemmas.{leaf_once}
+use Rattle.jx_geom.proofs.LeafLemmas.{leaf_once}
 use Rattle.jx_gather.proofs.FewLemmas.{own_here, own_past, own_nothing}
 use Rattle.jx_gather.proofs.TrackLemmas.{own_joined}
 use Rattle.jx_gather.proofs.LaidBlocks.{joined_first}

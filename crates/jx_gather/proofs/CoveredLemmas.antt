@@ -2,7 +2,7 @@
 use Rattle.std.proofs.Common.{◌≡◌, ◌∙◌, ◌<◌, ℕ, List, ap, subst}
 use Rattle.jx_geom.specs.Geometry.{Geometry}
 use Rattle.jx_marker.specs.declared.Progression.{Progression}
-use Rattle.jx_order.specs.Packets.{HasUncovered}
+use Rattle.jx_order.specs.Packets.{AreCovered, HasUncovered}
 use Rattle.jx_stream.specs.declared.Tile.{Tile}
 use Rattle.jx_stream.specs.declared.Stream.{Stream}
 use Rattle.jx_stream.specs.First.{tile_number}
@@ -30,3 +30,23 @@ lacks_here s g layers entries tile is many at sent h =
       some = subst P is (subst Q many (subst R (sent ∙ ap (λ (x : Tile). x.progressions) at) h));
       fault_is = ap (λ (x : Tile). fault.Rule 25 x.place) at;
     }
+
+-- the same of a tile by its number
+pub lacks_of : (s : Stream) (t : ℕ) (g : Geometry) (layers : ℕ) (entries : List Progression) (tile : Tile) → g ≡ geometry s t → layers ≡ layers_of s t → tile ≡ tile_at s t
+    → entries ≡ tile.progressions → HasUncovered g layers entries → LacksPacket s t (fault.Rule 25 tile.place)
+lacks_of s t g layers entries tile is many at sent h =
+    let P : Geometry → Type 0 = λ x. HasUncovered x (layers_of s t) (tile_at s t).progressions in
+    let Q : ℕ → Type 0 = λ n. HasUncovered g n (tile_at s t).progressions in
+    let R : List Progression → Type 0 = λ x. HasUncovered g layers x in
+    record {
+      some = subst P is (subst Q many (subst R (sent ∙ ap (λ (x : Tile). x.progressions) at) h));
+      fault_is = ap (λ (x : Tile). fault.Rule 25 x.place) at;
+    }
+
+pub whole_of : (s : Stream) (t : ℕ) (g : Geometry) (layers : ℕ) (entries : List Progression) (tile : Tile) → g ≡ geometry s t → layers ≡ layers_of s t → tile ≡ tile_at s t
+    → entries ≡ tile.progressions → AreCovered g layers entries → IsWhole s t
+whole_of s t g layers entries tile is many at sent h =
+    let P : Geometry → Type 0 = λ x. AreCovered x (layers_of s t) (tile_at s t).progressions in
+    let Q : ℕ → Type 0 = λ n. AreCovered g n (tile_at s t).progressions in
+    let R : List Progression → Type 0 = λ x. AreCovered g layers x in
+    subst P is (subst Q many (subst R (sent ∙ ap (λ (x : Tile). x.progressions) at) h))

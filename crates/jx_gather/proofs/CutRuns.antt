@@ -16,13 +16,13 @@ use Rattle.jx_head.specs.Precinct.{all_blocks}
 use Rattle.jx_order.specs.declared.names.PacketName.{PacketName}
 use Rattle.jx_stream.specs.declared.Stream.{Stream}
 use Rattle.jx_stream.specs.Shapes.{style_of}
-use Rattle.jx_gather.specs.Leaves.{leaves}
-use Rattle.jx_gather.specs.Cells.{HasPrecinct, precinct_number, leaf_number}
+use Rattle.jx_geom.specs.Precincts.{leaves}
+use Rattle.jx_geom.specs.Precincts.{HasPrecinct, precinct_number, leaf_number}
 use Rattle.jx_gather.specs.Data.{window, header_in}
 use Rattle.jx_gather.specs.Cuts.{Cut, Left, IsTurn, number_of}
 use Rattle.jx_gather.specs.Blocks.{Found, founds_from, founds_in, founds_of, own_founds, pieces_in}
 use Rattle.jx_gather.specs.BlockOf.{passes_at, passes_below, pieces_at}
-use Rattle.jx_gather.proofs.NumberLemmas.{precinct_once}
+use Rattle.jx_geom.proofs.PrecinctLemmas.{precinct_once}
 use Rattle.jx_gather.proofs.PartLemmas.{own_parts, known_in, packet_goes}
 use Rattle.jx_gather.proofs.GrowLemmas.{Apart, own_elsewhere}
 use Rattle.jx_gather.proofs.FewLemmas.{found_from, founds_layer, own_here, own_past, own_nothing}

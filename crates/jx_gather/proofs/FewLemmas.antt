@@ -10,7 +10,7 @@ use Rattle.jx_head.specs.Written.{passes_of}
 use Rattle.jx_head.specs.Packet.{Cells, State, Values, Entry, nothing, contributes, block_at, IsIncluded, zero_planes, entry_after, IsEntry, AreEntries, parts_told, BandTold, AreBandsTold, bands_parts, Header, IsPacket}
 use Rattle.jx_head.specs.Precinct.{all_blocks}
 use Rattle.jx_order.specs.declared.names.PacketName.{PacketName}
-use Rattle.jx_gather.specs.Cells.{leaf_number}
+use Rattle.jx_geom.specs.Precincts.{leaf_number}
 use Rattle.jx_gather.specs.Blocks.{Found, zero_in, founds_from, own_founds, pieces_in}
 use Rattle.jx_gather.specs.BlockOf.{passes_at}
 use Rattle.jx_gather.proofs.PartLemmas.{own_parts, AreSteps, AreWithin, steps_from, cut_runs, own_none, own_left, own_right, entry_within, blocks_within, bands_within}

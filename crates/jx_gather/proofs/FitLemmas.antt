@@ -31,12 +31,14 @@ use Rattle.jx_stream.specs.Read.{IsRead}
 use Rattle.jx_stream.specs.Shapes.{geometry, shapes_of, layers_of, style_of}
 use Rattle.jx_gather.specs.Totals.{totals_fault}
 use Rattle.jx_stream.specs.InRange.{StreamInRange}
-use Rattle.jx_gather.specs.Leaves.{leaves, leaves_in as count_in}
-use Rattle.jx_gather.specs.Cells.{HasPrecinct, cells_at, sizes_of, precinct_bands, name_from, leaf_name, leaf_number}
+use Rattle.jx_geom.specs.Precincts.{leaves, leaves_in as count_in}
+use Rattle.jx_gather.specs.Cells.{sizes_of, precinct_bands}
+use Rattle.jx_geom.specs.Precincts.{HasPrecinct, cells_at, name_from, leaf_name, leaf_number}
 use Rattle.jx_gather.specs.BlockOf.{passes_at, passes_below, pieces_at, AreCutAtEnds, IsFoundOf, AreBlocksOf}
 use Rattle.jx_gather.specs.Carries.{block_in, part_of}
 use Rattle.jx_gather.specs.Planned.{part_in, leaf_from, leaf_in, leaves_in}
-use Rattle.jx_gather.proofs.CellLemmas.{pick, size_is, bands_of, cells_count, name_here, name_later, leaf_of, leaf_is, leaf_there}
+use Rattle.jx_gather.proofs.CellLemmas.{pick, size_is, bands_of, cells_count}
+use Rattle.jx_geom.proofs.LeafLemmas.{name_here, name_later, leaf_of, leaf_is, leaf_there}
 use Rattle.jx_gather.proofs.CutRuns.{total, at_here, at_past}
 use Rattle.jx_gather.proofs.CarryLemmas.{layer_here, layer_past, layer_nothing}
 use Rattle.jx_gather.proofs.PlannedLemmas.{parts_of_pieces, leaves_long, sound_at}

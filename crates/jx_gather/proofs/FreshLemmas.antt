@@ -19,10 +19,12 @@ use Rattle.jx_stream.specs.First.{tile_number}
 use Rattle.jx_stream.specs.Params.{planes_at}
 use Rattle.jx_stream.specs.Shapes.{geometry, style_of}
 use Rattle.jx_stream.specs.InRange.{StreamInRange}
-use Rattle.jx_gather.specs.Cells.{HasPrecinct, cells_at, sizes_of, precinct_bands, fresh_precinct}
-use Rattle.jx_gather.specs.Leaves.{leaves, leaves_in}
+use Rattle.jx_gather.specs.Cells.{sizes_of, precinct_bands, fresh_precinct}
+use Rattle.jx_geom.specs.Precincts.{HasPrecinct, cells_at}
+use Rattle.jx_geom.specs.Precincts.{leaves, leaves_in}
 use Rattle.jx_gather.proofs.BlockLemmas.{bands_low, bands_high}
-use Rattle.jx_gather.proofs.CellLemmas.{Have, bands_have, bands_of, pick, cell_in_band, cells_count}
+use Rattle.jx_gather.proofs.CellLemmas.{bands_of, pick, cells_count}
+use Rattle.jx_geom.proofs.LeafLemmas.{Have, bands_have, cell_in_band}
 use Rattle.jx_base.proofs.Sums.{sum_below_more}
 use Rattle.jx_base.proofs.Raster.{factor_some}
 use Rattle.jx_base.specs.Bands.{bands_at}

@@ -12,7 +12,7 @@ use Rattle.jx_head.specs.declared.Part.{Part}
 use Rattle.jx_head.specs.declared.known.Known.{Known}
 use Rattle.jx_head.specs.Packet.{State, most_passes}
 use Rattle.jx_order.specs.declared.names.PacketName.{PacketName}
-use Rattle.jx_gather.specs.Cells.{leaf_number}
+use Rattle.jx_geom.specs.Precincts.{leaf_number}
 use Rattle.jx_gather.specs.Data.{parts_length, marks_fault}
 use Rattle.jx_gather.specs.Blocks.{Found, zero_in, founds_from, own_founds, pieces_in, passes_in, zero_from}
 use Rattle.jx_gather.proofs.PartLemmas.{own_parts, AreSteps, Goes}

@@ -24,8 +24,8 @@ use Rattle.jx_stream.specs.Read.{IsRead}
 use Rattle.jx_stream.specs.Shapes.{geometry, shapes_of, layers_of, style_of}
 use Rattle.jx_gather.specs.Totals.{totals_fault, block_total}
 use Rattle.jx_stream.specs.InRange.{StreamInRange}
-use Rattle.jx_gather.specs.Leaves.{leaves}
-use Rattle.jx_gather.specs.Cells.{HasPrecinct, leaf_number}
+use Rattle.jx_geom.specs.Precincts.{leaves}
+use Rattle.jx_geom.specs.Precincts.{HasPrecinct, leaf_number}
 use Rattle.jx_gather.specs.Blocks.{Found, founds_of, own_founds, pieces_in, passes_in, zero_from, block_with, block_of}
 use Rattle.jx_gather.specs.Gathered.{IsWhole, IsGathered}
 use Rattle.jx_gather.specs.BlockOf.{pieces_at, IsBlockOf, IsFoundOf, AreBlocksOf}

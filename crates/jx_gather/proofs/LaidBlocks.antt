@@ -15,12 +15,13 @@ use Rattle.jx_order.specs.Packets.{IsPacket as IsNamed}
 use Rattle.jx_order.specs.Steps.{name_of}
 use Rattle.jx_stream.specs.declared.Stream.{Stream}
 use Rattle.jx_stream.specs.Shapes.{geometry, layers_of}
-use Rattle.jx_gather.specs.Leaves.{leaves}
-use Rattle.jx_gather.specs.Cells.{HasPrecinct, fresh_precinct, precinct_number, leaf_number}
+use Rattle.jx_geom.specs.Precincts.{leaves}
+use Rattle.jx_gather.specs.Cells.{fresh_precinct}
+use Rattle.jx_geom.specs.Precincts.{HasPrecinct, precinct_number, leaf_number}
 use Rattle.jx_gather.specs.Cuts.{number_of}
 use Rattle.jx_gather.specs.Blocks.{Found, founds_in, founds_of, own_founds}
 use Rattle.jx_gather.specs.Written.{Written, Packets, next_layer, IsWritten, AreWritten, cut_at, cuts_at}
-use Rattle.jx_gather.proofs.NumberLemmas.{precinct_once}
+use Rattle.jx_geom.proofs.PrecinctLemmas.{precinct_once}
 use Rattle.jx_gather.proofs.CellLemmas.{leaf_count}
 use Rattle.jx_gather.proofs.PartLemmas.{PartIn, part_inside, packet_kept}
 use Rattle.jx_gather.proofs.GrowLemmas.{own_elsewhere}

@@ -14,7 +14,8 @@ use Rattle.jx_order.specs.Steps.{name_of}
 use Rattle.jx_stream.specs.declared.Body.{Body}
 use Rattle.jx_stream.specs.declared.Stream.{Stream}
 use Rattle.jx_stream.specs.Shapes.{geometry, layers_of, tile_at}
-use Rattle.jx_gather.specs.Cells.{HasPrecinct, fresh_precinct, precinct_number}
+use Rattle.jx_gather.specs.Cells.{fresh_precinct}
+use Rattle.jx_geom.specs.Precincts.{HasPrecinct, precinct_number}
 use Rattle.jx_gather.specs.Data.{window, due, behind, begins_with}
 use Rattle.jx_gather.specs.Cuts.{Cut, Left, IsCut, IsTurn, AreCuts, names_of, number_of}
 use Rattle.jx_gather.specs.Gathered.{IsCutUp, IsListOf, start}

@@ -11,13 +11,13 @@ use Rattle.jx_head.specs.declared.Part.{Part}
 use Rattle.jx_head.specs.Written.{passes_of}
 use Rattle.jx_order.specs.declared.names.PacketName.{PacketName}
 use Rattle.jx_stream.specs.declared.Stream.{Stream}
-use Rattle.jx_gather.specs.Leaves.{leaves}
-use Rattle.jx_gather.specs.Cells.{HasPrecinct, precinct_number, leaf_number}
+use Rattle.jx_geom.specs.Precincts.{leaves}
+use Rattle.jx_geom.specs.Precincts.{HasPrecinct, precinct_number, leaf_number}
 use Rattle.jx_gather.specs.Data.{window, header_in}
 use Rattle.jx_gather.specs.Cuts.{Cut, Left, IsTurn, AreCuts, names_of, number_of}
 use Rattle.jx_gather.specs.Blocks.{Found, founds_from, founds_in, founds_of, own_founds, pieces_in}
 use Rattle.jx_gather.specs.BlockOf.{passes_at}
-use Rattle.jx_gather.proofs.NumberLemmas.{precinct_once}
+use Rattle.jx_geom.proofs.PrecinctLemmas.{precinct_once}
 use Rattle.jx_gather.proofs.PartLemmas.{own_parts}
 use Rattle.jx_gather.proofs.GrowLemmas.{own_elsewhere}
 use Rattle.jx_gather.proofs.FewLemmas.{packet_few, founds_few, founds_layer, passes_join, passes_none, own_here, own_past, own_nothing}

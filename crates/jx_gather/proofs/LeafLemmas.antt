@@ -11,10 +11,10 @@ use Rattle.jx_geom.specs.Ranges.{HasBand}
 use Rattle.jx_geom.specs.Geometry.{Geometry, GeometryInRange, HasBlock, shape_of, rect_of_tile, blocks_in}
 use Rattle.jx_geom.specs.Numbering.{number_in_tile}
 use Rattle.jx_geom.proofs.LawLemmas.{block_in_one_precinct}
-use Rattle.jx_gather.specs.Leaves.{leaves, leaves_in}
-use Rattle.jx_gather.specs.Cells.{HasPrecinct, cells_at, leaf_index, name_from, leaf_name, leaf_number}
+use Rattle.jx_geom.specs.Precincts.{leaves, leaves_in}
+use Rattle.jx_geom.specs.Precincts.{HasPrecinct, cells_at, leaf_index, name_from, leaf_name, leaf_number}
 use Rattle.jx_gather.proofs.BlockLemmas.{bands_low, bands_high}
-use Rattle.jx_gather.proofs.CellLemmas.{named, name_here, name_later, leaf_is}
+use Rattle.jx_geom.proofs.LeafLemmas.{named, name_here, name_later, leaf_is}
 
 -- a band is one of these
 abbrev IsIn : Band → List Band → Type 0

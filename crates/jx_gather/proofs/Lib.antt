@@ -19,7 +19,6 @@ pub mod TotalLemmas
 pub mod CoveredLemmas
 pub mod ReadyLemmas
 pub mod TileLemmas
-pub mod LayoutLemmas
 pub mod ListLemmas
 pub mod FrontLemmas
 pub mod LaidLemmas
@@ -36,6 +35,7 @@ pub mod LayersFew
 pub mod CutRuns
 pub mod FitLemmas
 pub mod PlanLemmas
+pub mod ListedLemmas
 pub mod CoverEither
 pub mod PartCuts
 pub mod AnotherLemmas

@@ -14,7 +14,8 @@ use Rattle.jx_head.specs.Precinct.{fresh_state}
 use Rattle.jx_stream.specs.declared.Stream.{Stream}
 use Rattle.jx_stream.specs.Params.{planes_at}
 use Rattle.jx_gather.specs.Blocks.{Found, own_founds, block_of, band_blocks, resolution_blocks}
-use Rattle.jx_gather.specs.Cells.{cells_at, sizes_of, precinct_bands, fresh_precinct}
+use Rattle.jx_gather.specs.Cells.{sizes_of, precinct_bands, fresh_precinct}
+use Rattle.jx_geom.specs.Precincts.{cells_at}
 use Rattle.jx_stream.specs.InRange.{StreamInRange}
 use Rattle.jx_stream.specs.Shapes.{geometry, shapes_of, shapes_in, style_of}
 use Rattle.jx_gather.proofs.BlockLemmas.{bands_low, bands_high, blocks_low, blocks_high}

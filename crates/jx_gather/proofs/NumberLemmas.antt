@@ -1,14 +1,16 @@
--- Where a list joined from lists of known lengths has its items, and the number of a precinct.
-use Rattle.std.proofs.Common.{◌≡◌, ℕ, zero, suc, ◌+◌, ◌≤◌, ◌<◌, length, Some, ◌∙◌, ap, sym, subst, refl, arith}
+-- A precinct of which no packet was read stands at its number.
+use Rattle.std.proofs.Common.{◌≡◌, ℕ, zero, suc, ◌+◌, ◌<◌, length, Some, ◌∙◌, ap, sym, refl, arith}
 use Rattle.std.specs.List.{slice_get}
 use Rattle.jx_base.specs.Places.{size_of}
 use Rattle.jx_geom.specs.Counts.{precinct_count, component_precincts, tile_precincts}
 use Rattle.jx_geom.specs.Geometry.{Geometry, no_shape, shape_of, rect_of_tile, precincts_in}
 use Rattle.jx_stream.specs.declared.Stream.{Stream}
-use Rattle.jx_gather.specs.Cells.{HasPrecinct, one_precinct, fresh_precinct, fresh_resolution, fresh_component, fresh_precincts, precinct_number}
+use Rattle.jx_gather.specs.Cells.{one_precinct, fresh_precinct, fresh_resolution, fresh_component, fresh_precincts}
+use Rattle.jx_geom.specs.Precincts.{HasPrecinct, precinct_number}
+use Rattle.jx_geom.proofs.PrecinctLemmas.{precinct_number_is}
 use Rattle.jx_base.specs.Joined.{joined, sum_below}
 use Rattle.jx_base.proofs.Joined.{joined_length, joined_at}
-use Rattle.jx_base.proofs.Sums.{sum_below_more, sum_once, front_sum, whole_sum}
+use Rattle.jx_base.proofs.Sums.{sum_below_more, whole_sum}
 
 one_long : (s : Stream) (g : Geometry) (c r n : ℕ) → sum_below (λ i. length (one_precinct s g c r i)) n ≡ n
 one_long s g c r zero = refl
@@ -31,30 +33,12 @@ precincts_long s g =
     joined_length (fresh_component s g) (λ c. component_precincts (rect_of_tile g) (shape_of g c)) (length g.shapes) (component_long s g)
     ∙ sym (whole_sum (component_precincts (rect_of_tile g)) g.shapes no_shape)
 
--- the number of a precinct as sums of terms by place
-pub precinct_number_is : (g : Geometry) (c r k : ℕ) → c ≤ length g.shapes
-    → precinct_number g c r k
-    ≡ sum_below (λ c. component_precincts (rect_of_tile g) (shape_of g c)) c + (sum_below (precinct_count (rect_of_tile g) (shape_of g c)) r + k)
-unfolding precinct_number
-precinct_number_is g c r k le = omega (arith, front_sum (component_precincts (rect_of_tile g)) g.shapes no_shape c le)
-
 -- within its component
 precinct_within : (g : Geometry) (c r k : ℕ) → HasPrecinct g c r k
     → sum_below (precinct_count (rect_of_tile g) (shape_of g c)) r + k < component_precincts (rect_of_tile g) (shape_of g c)
 unfolding component_precincts
 precinct_within g c r k h =
     omega (arith, sum_below_more (precinct_count (rect_of_tile g) (shape_of g c)) r ((shape_of g c).levels + 1) (omega (arith, h.resolution.level)), h.precinct)
-
-pub precinct_below : (g : Geometry) (c r k : ℕ) → HasPrecinct g c r k → precinct_number g c r k < tile_precincts (rect_of_tile g) g.shapes
-precinct_below g c r k h =
-    let more = sum_below_more (λ c. component_precincts (rect_of_tile g) (shape_of g c)) c (length g.shapes) h.resolution.component in
-    omega (
-      arith,
-      precinct_number_is g c r k (omega (arith, h.resolution.component)),
-      precinct_within g c r k h,
-      more,
-      whole_sum (component_precincts (rect_of_tile g)) g.shapes no_shape,
-    )
 
 in_resolution : (s : Stream) (g : Geometry) (c r k : ℕ) → k < size_of (precincts_in g c r) → slice_get (fresh_resolution s g c r) k ≡ Some (fresh_precinct s g c r k)
 unfolding fresh_resolution
@@ -80,22 +64,3 @@ precinct_there s g c r k h =
     ∙ joined_at (fresh_component s g) (λ c. component_precincts (rect_of_tile g) (shape_of g c)) (length g.shapes) c
     (sum_below (precinct_count (rect_of_tile g) (shape_of g c)) r + k) (component_long s g) h.resolution.component (precinct_within g c r k h)
     ∙ in_component s g c r k h
-
--- no two precincts of a tile have one number
-once_in_component : (g : Geometry) (c r k r' k' : ℕ) → HasPrecinct g c r k → HasPrecinct g c r' k'
-    → sum_below (precinct_count (rect_of_tile g) (shape_of g c)) r + k ≡ sum_below (precinct_count (rect_of_tile g) (shape_of g c)) r' + k' → (r ≡ r') × (k ≡ k')
-once_in_component g c r k r' k' h h' e = sum_once (precinct_count (rect_of_tile g) (shape_of g c)) r r' k k' h.precinct h'.precinct e
-
-pub precinct_once : (g : Geometry) (c r k c' r' k' : ℕ) → HasPrecinct g c r k → HasPrecinct g c' r' k'
-    → precinct_number g c r k ≡ precinct_number g c' r' k' → (c ≡ c') × (r ≡ r') × (k ≡ k')
-precinct_once g c r k c' r' k' h h' e =
-    let first = precinct_number_is g c r k (omega (arith, h.resolution.component)) in
-    let second = precinct_number_is g c' r' k' (omega (arith, h'.resolution.component)) in
-    let comp = sum_once (λ c. component_precincts (rect_of_tile g) (shape_of g c)) c c'
-    (sum_below (precinct_count (rect_of_tile g) (shape_of g c)) r + k) (sum_below (precinct_count (rect_of_tile g) (shape_of g c')) r' + k')
-    (precinct_within g c r k h) (precinct_within g c' r' k' h') (sym first ∙ e ∙ second) in
-    let P : ℕ → Type 0 = λ n. HasPrecinct g n r' k'
-    → sum_below (precinct_count (rect_of_tile g) (shape_of g c)) r + k ≡ sum_below (precinct_count (rect_of_tile g) (shape_of g n)) r' + k'
-    → (r ≡ r') × (k ≡ k') in
-    let inner = subst P comp.0 (once_in_component g c r k r' k' h) h' comp.1 in
-    (comp.0, inner.0, inner.1)

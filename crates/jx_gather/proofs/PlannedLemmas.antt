@@ -37,8 +37,9 @@ use Rattle.jx_stream.specs.Read.{IsRead}
 use Rattle.jx_stream.specs.Shapes.{geometry, shapes_of, layers_of, style_of}
 use Rattle.jx_gather.specs.Totals.{totals_fault}
 use Rattle.jx_stream.specs.InRange.{StreamInRange}
-use Rattle.jx_gather.specs.Leaves.{leaves}
-use Rattle.jx_gather.specs.Cells.{HasPrecinct, leaf_number, precinct_bands}
+use Rattle.jx_geom.specs.Precincts.{leaves}
+use Rattle.jx_gather.specs.Cells.{precinct_bands}
+use Rattle.jx_geom.specs.Precincts.{HasPrecinct, leaf_number}
 use Rattle.jx_gather.specs.Data.{parts_length}
 use Rattle.jx_gather.specs.Blocks.{told_zero, zero_in}
 use Rattle.jx_gather.specs.Written.{Written, Packets, next_layer, AreClear, IsWritten, AreWritten}

@@ -14,7 +14,8 @@ use Rattle.jx_gather.specs.Faults.{HasCause, IsMemory, IsOnly}
 use Rattle.jx_gather.specs.Gathered.{IsGathered, IsBroken}
 use Rattle.jx_stream.proofs.RangeLemmas.{read_in_range}
 use Rattle.jx_gather.proofs.TotalLemmas.{geometry_fits}
-use Rattle.jx_gather.proofs.NumberLemmas.{precinct_there, precinct_once}
+use Rattle.jx_gather.proofs.NumberLemmas.{precinct_there}
+use Rattle.jx_geom.proofs.PrecinctLemmas.{precinct_once}
 use Rattle.jx_gather.proofs.FreshLemmas.{fresh_is_state}
 use Rattle.jx_gather.proofs.PartLemmas.{packet_kept, state_kept}
 use Rattle.jx_gather.proofs.TurnLemmas.{Precincts, Keeps}

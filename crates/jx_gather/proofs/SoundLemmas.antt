@@ -33,14 +33,17 @@ use Rattle.jx_stream.specs.Read.{IsRead}
 use Rattle.jx_gather.specs.Totals.{totals_fault}
 use Rattle.jx_stream.specs.InRange.{StreamInRange}
 use Rattle.jx_gather.specs.InRange.{DataInRange}
-use Rattle.jx_gather.specs.Leaves.{leaves, leaves_in}
-use Rattle.jx_gather.specs.Cells.{HasPrecinct, cells_at, sizes_of, precinct_bands, fresh_precinct, precinct_number, name_from, leaf_name, leaf_number}
+use Rattle.jx_geom.specs.Precincts.{leaves, leaves_in}
+use Rattle.jx_gather.specs.Cells.{sizes_of, precinct_bands, fresh_precinct}
+use Rattle.jx_geom.specs.Precincts.{HasPrecinct, cells_at, precinct_number, name_from, leaf_name, leaf_number}
 use Rattle.jx_gather.specs.Cuts.{Cut, Left, AreCuts, number_of, names_of}
 use Rattle.jx_gather.specs.Blocks.{Found, founds_of, own_founds, pieces_in, passes_in, zero_from, block_with, block_of, tile_blocks}
 use Rattle.jx_gather.specs.Gathered.{IsListOf, IsCutUp, IsGathered, start}
 use Rattle.jx_gather.specs.Put.{put_all}
-use Rattle.jx_gather.proofs.NumberLemmas.{precinct_there, precinct_once}
-use Rattle.jx_gather.proofs.CellLemmas.{bands_of, name_here, name_later, leaf_there, leaf_is, number_once}
+use Rattle.jx_gather.proofs.NumberLemmas.{precinct_there}
+use Rattle.jx_geom.proofs.PrecinctLemmas.{precinct_once}
+use Rattle.jx_gather.proofs.CellLemmas.{bands_of}
+use Rattle.jx_geom.proofs.LeafLemmas.{name_here, name_later, leaf_there, leaf_is, number_once}
 use Rattle.jx_gather.proofs.BlockLemmas.{blocks_long, block_there, block_named, BlockAt}
 use Rattle.jx_stream.proofs.RangeLemmas.{read_in_range}
 use Rattle.jx_gather.proofs.TotalLemmas.{geometry_fits}

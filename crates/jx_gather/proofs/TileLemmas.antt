@@ -19,8 +19,8 @@ use Rattle.jx_stream.specs.declared.faults.StreamFault.TheVariants as fault
 use Rattle.jx_gather.specs.declared.packet.Packet.{Packet}
 use Rattle.jx_gather.specs.Faults.{HasCause}
 use Rattle.jx_stream.specs.Shapes.{geometry, layers_of, tile_at}
-use Rattle.jx_gather.specs.Cells.{HasPrecinct, leaf_number}
-use Rattle.jx_gather.specs.Leaves.{leaves}
+use Rattle.jx_geom.specs.Precincts.{HasPrecinct, leaf_number}
+use Rattle.jx_geom.specs.Precincts.{leaves}
 use Rattle.jx_gather.specs.Data.{window, due, behind, end_of_data, header_in}
 use Rattle.jx_gather.specs.Cuts.{Cut, Left, IsCut, IsTurn, AreCuts, names_of, number_of, Breaks}
 use Rattle.jx_gather.specs.Blocks.{Found, founds_from, founds_in, founds_of, tile_blocks}
@@ -28,7 +28,8 @@ use Rattle.jx_gather.specs.Put.{put_one, put_all}
 use Rattle.jx_gather.specs.Gathered.{IsListOf, AreTileBlocks, BreaksTile, start}
 use Rattle.jx_gather.specs.Reading.{cut_of, CanPut, state_at, no_state, AreInside, IsFront, IsTask}
 use Rattle.jx_gather.proofs.TotalLemmas.{geometry_fits}
-use Rattle.jx_gather.proofs.CellLemmas.{leaf_count, leaf_below}
+use Rattle.jx_gather.proofs.CellLemmas.{leaf_count}
+use Rattle.jx_geom.proofs.LeafLemmas.{leaf_below}
 use Rattle.jx_gather.proofs.BlockLemmas.{blocks_long}
 use Rattle.jx_gather.proofs.PartLemmas.{PartIn, part_inside, packet_kept}
 use Rattle.jx_gather.proofs.TurnLemmas.{Precincts, Keeps, Listed, Known, listed, due_named, has_precinct, known_there, layer_is}

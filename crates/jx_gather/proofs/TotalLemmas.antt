@@ -1,36 +1,22 @@
 -- Totals over the tiles and components of a stream in range, and what the limits on them say of one tile.
-use Rattle.std.proofs.Common.{◌≡◌, ◌∙◌, ◌<◌, ◌≤◌, ◌+◌, ◌*◌, ◌^◌, ℕ, arith, length, map, refl, sym, ap, subst, nat_lt, Option, Some, None}
+use Rattle.std.proofs.Common.{◌≡◌, ◌<◌, ◌≤◌, ◌*◌, ◌^◌, ℕ, arith, length, refl, nat_lt, Option, Some, None}
 use Rattle.std.specs.Option.{option_or}
-use Rattle.std.specs.List.{range_with_len, sum_by}
 use Rattle.std.proofs.lemmas.Bool.Decides.{nat_tests}
-use Rattle.std.proofs.lemmas.List.FromFn.{sum_by-map-range_with_len_more}
 use Rattle.jx_base.specs.declared.names.Rect.{Rect}
-use Rattle.jx_geom.specs.declared.shape.CompShape.{CompShape}
-use Rattle.jx_geom.specs.Ranges.{ShapeInRange}
 use Rattle.jx_geom.specs.Rects.{tile_rect}
 use Rattle.jx_geom.specs.Counts.{tile_blocks, tile_precincts}
 use Rattle.jx_geom.specs.Numbering.{blocks_below}
-use Rattle.jx_geom.specs.Geometry.{no_shape, WithinLimits, GeometryInRange}
+use Rattle.jx_geom.specs.Geometry.{WithinLimits, GeometryInRange}
 use Rattle.jx_stream.specs.declared.Stream.{Stream}
 use Rattle.jx_stream.specs.First.{canvas_of, tile_number}
 use Rattle.jx_stream.specs.declared.faults.StreamFault.{StreamFault}
 use Rattle.jx_gather.specs.Faults.{passed}
-use Rattle.jx_stream.specs.Shapes.{shapes_of, shapes_in, shape_in, geometry, layers_of}
+use Rattle.jx_stream.specs.Shapes.{shapes_of, geometry, layers_of}
 use Rattle.jx_stream.specs.InRange.{StreamInRange}
 use Rattle.jx_gather.specs.Totals.{block_total, tile_packets, packet_total, totals_fault}
-use Rattle.jx_stream.proofs.RangeLemmas.{shapes_length, shapes_at}
+use Rattle.jx_stream.proofs.RangeLemmas.{shapes_length}
 use Rattle.jx_base.specs.Joined.{sum_below}
 use Rattle.jx_base.proofs.Sums.{sum_below_more}
-
-pub shape_ranges : (s : Stream) (t c : ℕ) → StreamInRange s → t < tile_number s.siz → c < length s.siz.comps → ShapeInRange (shape_in s t c)
-shape_ranges s t c range inside within =
-    let near : c < length (shapes_of s t) = omega (arith, shapes_length s t) in
-    subst (λ (x : CompShape). ShapeInRange x) (shapes_at s t c no_shape within) (range.shapes t inside c near)
-
--- the shapes as the loops make them
-pub shapes_are : (s : Stream) (t : ℕ) → shapes_of s t ≡ map (shape_in s t) (range_with_len 0 (length s.siz.comps))
-unfolding shapes_in
-shapes_are s t = refl
 
 pub blocks_are : (s : Stream) → block_total s ≡ blocks_below (canvas_of s.siz) (shapes_of s) (tile_number s.siz)
 unfolding block_total
@@ -79,12 +65,3 @@ few_shapes s t range = omega (arith, shapes_length s t, range.few_comps)
 -- so the geometry of each tile is in range
 pub geometry_fits : (s : Stream) (t : ℕ) → StreamInRange s → totals_fault s ≡ None → t < tile_number s.siz → GeometryInRange (geometry s t)
 geometry_fits s t range none inside = record { canvas = range.canvas; tile = inside; few = few_shapes s t range; shapes = range.shapes t inside; limits = tile_within s t range none inside }
-
--- the sums that the loops make
-
-pub sum_more : (f : CompShape → ℕ) (g : ℕ → CompShape) (total more n : ℕ) (shape : CompShape) → total ≡ sum_by f (map g (range_with_len 0 n)) → more ≡ f shape → shape ≡ g n
-    → total + more ≡ sum_by f (map g (range_with_len 0 (n + 1)))
-sum_more f g total more n shape before now is = omega (arith, before, now, ap f is, sum_by-map-range_with_len_more f g 0 n n (omega arith))
-
-pub sum_all : (f : CompShape → ℕ) (s : Stream) (t total n : ℕ) → n ≡ length s.siz.comps → total ≡ sum_by f (map (shape_in s t) (range_with_len 0 n)) → total ≡ sum_by f (shapes_of s t)
-sum_all f s t total n all h = h ∙ ap (λ (m : ℕ). sum_by f (map (shape_in s t) (range_with_len 0 m))) all ∙ ap (sum_by f) (sym (shapes_are s t))

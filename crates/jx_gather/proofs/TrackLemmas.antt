@@ -14,13 +14,16 @@ use Rattle.jx_order.specs.declared.names.PacketName.{PacketName}
 use Rattle.jx_stream.specs.declared.Body.{Body}
 use Rattle.jx_stream.specs.declared.Stream.{Stream}
 use Rattle.jx_stream.specs.Shapes.{style_of}
-use Rattle.jx_gather.specs.Leaves.{leaves}
-use Rattle.jx_gather.specs.Cells.{HasPrecinct, fresh_precinct, fresh_precincts, precinct_number, leaf_number}
+use Rattle.jx_geom.specs.Precincts.{leaves}
+use Rattle.jx_gather.specs.Cells.{fresh_precinct, fresh_precincts}
+use Rattle.jx_geom.specs.Precincts.{HasPrecinct, precinct_number, leaf_number}
 use Rattle.jx_gather.specs.Data.{window, due, behind, header_in, front_length, parts_length}
 use Rattle.jx_gather.specs.Cuts.{Cut, Left, IsTurn, AreCuts, number_of}
 use Rattle.jx_gather.specs.Blocks.{Found, told_zero, founds_from, founds_in, founds_of, own_founds, pieces_in}
-use Rattle.jx_gather.proofs.NumberLemmas.{precinct_there, precinct_once}
-use Rattle.jx_gather.proofs.CellLemmas.{leaf_count, leaf_once}
+use Rattle.jx_gather.proofs.NumberLemmas.{precinct_there}
+use Rattle.jx_geom.proofs.PrecinctLemmas.{precinct_once}
+use Rattle.jx_gather.proofs.CellLemmas.{leaf_count}
+use Rattle.jx_geom.proofs.LeafLemmas.{leaf_once}
 use Rattle.jx_gather.proofs.PartLemmas.{own_parts, known_in, planes_of, Goes, PartIn, Kept, part_inside, packet_goes, packet_kept}
 use Rattle.jx_gather.proofs.MarkLemmas.{body_fits, body_marks}
 use Rattle.jx_gather.proofs.GrowLemmas.{Apart, Elsewhere, own_elsewhere, Grows, HaveTop, packet_grows, grows_lower, grows_join, bytes_join, bytes_from}

@@ -16,7 +16,7 @@ use Rattle.jx_order.specs.declared.names.PacketName.{PacketName}
 use Rattle.jx_stream.specs.declared.Stream.{Stream}
 use Rattle.jx_stream.specs.Params.{planes_at}
 use Rattle.jx_stream.specs.Shapes.{style_of}
-use Rattle.jx_gather.specs.Cells.{leaf_number}
+use Rattle.jx_geom.specs.Precincts.{leaf_number}
 use Rattle.jx_gather.specs.Cuts.{Cut}
 use Rattle.jx_base.specs.Joined.{joined}
 use Rattle.jx_base.specs.Bands.{bands_at}

@@ -12,8 +12,8 @@ use Rattle.jx_order.specs.Packets.{IsPacket as IsNamed}
 use Rattle.jx_stream.specs.declared.Stream.{Stream}
 use Rattle.jx_stream.specs.First.{canvas_of}
 use Rattle.jx_stream.specs.Shapes.{geometry, shapes_of, layers_of}
-use Rattle.jx_gather.specs.Leaves.{leaves}
-use Rattle.jx_gather.specs.Cells.{leaf_number}
+use Rattle.jx_geom.specs.Precincts.{leaves}
+use Rattle.jx_geom.specs.Precincts.{leaf_number}
 use Rattle.jx_gather.specs.Blocks.{zero_in}
 use Rattle.jx_gather.specs.BlockOf.{pieces_at}
 use Rattle.jx_gather.specs.Written.{Packets, next_layer}

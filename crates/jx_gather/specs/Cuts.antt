@@ -8,7 +8,7 @@ use Rattle.jx_stream.specs.declared.Body.{Body}
 use Rattle.jx_stream.specs.declared.faults.StreamFault.{StreamFault}
 use Rattle.jx_stream.specs.declared.faults.StreamFault.TheVariants as fault
 use Rattle.jx_gather.specs.Data.{window, due, behind, sop_fault, header_in, front_length, parts_length, body_fault}
-use Rattle.jx_gather.specs.Cells.{precinct_number}
+use Rattle.jx_geom.specs.Precincts.{precinct_number}
 
 -- a packet that was cut off: its name, its bytes, those of its header, its parts and their coded bytes, and the state of its
 -- precinct after it

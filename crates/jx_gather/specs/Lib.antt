@@ -1,8 +1,6 @@
 pub mod Faults
 pub mod Totals
 pub mod Cells
-pub mod Leaves
-pub mod Layout
 pub mod Coding
 pub mod Data
 pub mod Cuts

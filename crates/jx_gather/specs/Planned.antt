@@ -11,8 +11,9 @@ use Rattle.jx_head.specs.LeavesFit.{header_at, parts_at}
 use Rattle.jx_order.specs.Steps.{name_of}
 use Rattle.jx_stream.specs.declared.Stream.{Stream}
 use Rattle.jx_stream.specs.Shapes.{geometry, layers_of, style_of}
-use Rattle.jx_gather.specs.Leaves.{leaves}
-use Rattle.jx_gather.specs.Cells.{HasPrecinct, precinct_bands}
+use Rattle.jx_geom.specs.Precincts.{leaves}
+use Rattle.jx_gather.specs.Cells.{precinct_bands}
+use Rattle.jx_geom.specs.Precincts.{HasPrecinct}
 use Rattle.jx_gather.specs.Written.{Packets}
 use Rattle.jx_gather.specs.Carries.{pieces_of, zero_of, block_in, part_of, bytes_of}
 

@@ -10,7 +10,7 @@ use Rattle.jx_stream.specs.declared.Body.{Body}
 use Rattle.jx_stream.specs.declared.Stream.{Stream}
 use Rattle.jx_stream.specs.First.{tile_number}
 use Rattle.jx_gather.specs.declared.packet.Packet.{Packet}
-use Rattle.jx_gather.specs.Cells.{leaf_number}
+use Rattle.jx_geom.specs.Precincts.{leaf_number}
 use Rattle.jx_stream.specs.Shapes.{geometry, tile_at}
 use Rattle.jx_gather.specs.Data.{due}
 use Rattle.jx_gather.specs.Cuts.{Cut, Left, AreCuts, names_of}

@@ -14,7 +14,8 @@ use Rattle.jx_stream.specs.declared.Body.{Body}
 use Rattle.jx_stream.specs.declared.Stream.{Stream}
 use Rattle.jx_stream.specs.First.{tile_number}
 use Rattle.jx_stream.specs.Shapes.{geometry, layers_of, tile_at}
-use Rattle.jx_gather.specs.Cells.{HasPrecinct, fresh_precinct}
+use Rattle.jx_gather.specs.Cells.{fresh_precinct}
+use Rattle.jx_geom.specs.Precincts.{HasPrecinct}
 use Rattle.jx_gather.specs.Data.{window, parts_length}
 use Rattle.jx_gather.specs.Cuts.{Cut}
 use Rattle.jx_gather.specs.Blocks.{founds_of, tile_blocks}

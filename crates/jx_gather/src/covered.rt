@@ -7,6 +7,7 @@ ghost use Rattle.jx_order.specs.Packets.{HasUncovered, IsPacket};
 ghost use Rattle.jx_stream.specs.First.{tile_number};
 ghost use Rattle.jx_gather.specs.Faults.{HasCause};
 ghost use Rattle.jx_stream.specs.InRange.{StreamInRange};
+ghost use Rattle.jx_stream.specs.Params.{headers_at};
 ghost use Rattle.jx_stream.specs.Shapes.{geometry, layers_of, tile_at};
 ghost use Rattle.jx_gather.specs.Totals.{totals_fault};
 ghost use Rattle.jx_gather.specs.Gathered.{IsListOf, IsUncovered, IsWhole};
@@ -15,8 +16,8 @@ ghost use Rattle.jx_gather.specs.Covered.{LacksPacket};
 use crate::StreamFault;
 use crate::shapes::{geometry_of, tile_at, tile_count};
 use jx_geom::TileGeom;
-use jx_order::{OrderFault, PacketName, packets};
-use jx_stream::Stream;
+use jx_order::{OrderFault, PacketName, are_covered, packets};
+use jx_stream::{MainView, Stream, TileView};
 use std::alloc::Global;
 
 /// The packets of a tile in the order in which they are sent (ITU-T T.800, B.12); rule 25 at the tile's first SOT where
@@ -24,8 +25,10 @@ use std::alloc::Global;
 pub(crate) fn list_of(
     alloc: Global,
     stream: &Stream,
+    view: &TileView<'_>,
     geom: &TileGeom,
 ) -> Result<Vec<PacketName>, StreamFault>
+    requires view { view.now ≡ headers_at stream.now geom.now.tile }
     requires range { StreamInRange stream.now }
     requires tile { geom.now.tile < tile_number stream.now.siz }
     requires geometry { geom.now ≡ geometry stream.now geom.now.tile }
@@ -36,8 +39,7 @@ pub(crate) fn list_of(
     ensures uncovered { IfErr result (λ fault. HasCause (LacksPacket stream.now geom.now.tile) fault) }
 {
     let tile = tile_at(stream, geom.number());
-    let layers = stream.params(geom.number(), 0).layers;
-    match packets(alloc, geom, layers, tile.progressions.as_slice()) {
+    match packets(alloc, geom, view.layers(), tile.progressions.as_slice()) {
         Ok(list) => Ok(list),
         Err(OrderFault::Uncovered) => Err(StreamFault::Rule {
             number: 25,
@@ -47,16 +49,46 @@ pub(crate) fn list_of(
     }
 }
 
+/// Whether the packets of a tile are covered: rule 25 at its first SOT where one isn't.
+fn check_tile(
+    alloc: Global,
+    stream: &Stream,
+    main: &MainView<'_>,
+    tile: u16,
+) -> Result<(), StreamFault>
+    requires main { main.now ≡ record { siz = stream.now.siz; main = stream.now.main } }
+    requires range { StreamInRange stream.now }
+    requires totals { totals_fault stream.now ≡ None }
+    requires tile { tile < tile_number stream.now.siz }
+    ensures whole { OnOk result (IsWhole stream.now tile) }
+    ensures uncovered { IfErr result (λ fault. HasCause (LacksPacket stream.now tile) fault) }
+{
+    let view = stream.tile_view(alloc, main, tile)?;
+    let geom = geometry_of(alloc, stream, &view, tile)?;
+    let sent = tile_at(stream, tile);
+    if are_covered(&geom, view.layers(), sent.progressions.as_slice()) {
+        return Ok(());
+    }
+    Err(StreamFault::Rule {
+        number: 25,
+        place: sent.place,
+    })
+}
+
 /// Whether the packets of each tile are covered: rule 25 in the lowest tile where one isn't.
-pub(crate) fn check_covered(alloc: Global, stream: &Stream) -> Result<(), StreamFault>
+pub(crate) fn check_covered(
+    alloc: Global,
+    stream: &Stream,
+    main: &MainView<'_>,
+) -> Result<(), StreamFault>
+    requires main { main.now ≡ record { siz = stream.now.siz; main = stream.now.main } }
     requires range { StreamInRange stream.now }
     requires totals { totals_fault stream.now ≡ None }
     ensures whole { OnOk result ((t : ℕ) → t < tile_number stream.now.siz → IsWhole stream.now t) }
     ensures uncovered { IfErr result (λ fault. HasCause (IsUncovered stream.now) fault) }
 {
     for tile in 0..tile_count(stream) {
-        let geom = geometry_of(alloc, stream, tile)?;
-        list_of(alloc, stream, &geom)?;
+        check_tile(alloc, stream, main, tile)?;
     }
     Ok(())
 }

@@ -2,21 +2,22 @@
 
 ghost use Rattle.std.specs.Prelude.{◌≡◌, ◌<◌, ◌≤◌, ◌++◌, [], length, IfOk, OnOk};
 ghost use Rattle.jx_base.specs.Places.{size_of};
-ghost use Rattle.jx_geom.specs.Geometry.{GeometryInRange, HasBlock, HasResolution, precincts_in, rect_of_tile, shape_of};
+ghost use Rattle.jx_geom.specs.Geometry.{GeometryInRange, HasBlock, HasResolution, blocks_in, precincts_in, rect_of_tile, shape_of};
 ghost use Rattle.jx_geom.specs.Ranges.{HasBand};
 ghost use Rattle.jx_geom.specs.Rects.{block_rect};
 ghost use Rattle.jx_stream.specs.First.{tile_number};
-ghost use Rattle.jx_gather.specs.Blocks.{band_blocks, component_blocks, resolution_blocks, tile_blocks};
-ghost use Rattle.jx_gather.specs.Cells.{HasPrecinct, cells_at, fresh_component, fresh_precinct, fresh_precincts, fresh_resolution, sizes_of};
+ghost use Rattle.jx_gather.specs.Blocks.{band_blocks, resolution_blocks, tile_blocks};
+ghost use Rattle.jx_gather.specs.Cells.{fresh_precinct, fresh_precincts, fresh_resolution, sizes_of};
+ghost use Rattle.jx_geom.specs.Precincts.{HasPrecinct, cells_at};
 ghost use Rattle.jx_gather.specs.Coding.{IsCoding};
 ghost use Rattle.jx_stream.specs.InRange.{StreamInRange};
+ghost use Rattle.jx_stream.specs.Params.{headers_at};
 ghost use Rattle.jx_stream.specs.Shapes.{geometry};
 
-use crate::layout::band_count;
 use jx_base::{Band, Block, BlockName, NoMemory, Pieces, Style};
 use jx_geom::TileGeom;
 use jx_head::{BandCells, Precinct};
-use jx_stream::Stream;
+use jx_stream::{Stream, TileView};
 use std::alloc::Global;
 
 /// How the code-blocks of a resolution are coded.
@@ -27,18 +28,18 @@ struct Coding {
     planes: [u32; 3],
 }
 
-fn coding_of(stream: &Stream, tile: u16, comp: u16, res: u8) -> Coding
-    ensures { IsCoding stream.now tile comp res result }
+fn coding_of(view: &TileView<'_>, comp: u16, res: u8) -> Coding
+    ensures { IsCoding view.now comp res result }
 {
-    let style = stream.params(tile, comp).style;
+    let style = view.style(comp);
     if res == 0 {
-        let planes = [stream.planes(tile, comp, res, Band::LL), 0, 0];
+        let planes = [view.planes(comp, res, Band::LL), 0, 0];
         return Coding { style, planes };
     }
     let planes = [
-        stream.planes(tile, comp, res, Band::HL),
-        stream.planes(tile, comp, res, Band::LH),
-        stream.planes(tile, comp, res, Band::HH),
+        view.planes(comp, res, Band::HL),
+        view.planes(comp, res, Band::LH),
+        view.planes(comp, res, Band::HH),
     ];
     Coding { style, planes }
 }
@@ -84,7 +85,7 @@ fn fresh_precinct(
     requires geometry { geom.now ≡ geometry stream.now geom.now.tile }
     requires limits { GeometryInRange geom.now }
     requires precinct { HasPrecinct geom.now comp res precinct }
-    requires coding { IsCoding stream.now geom.now.tile comp res coding }
+    requires coding { IsCoding (headers_at stream.now geom.now.tile) comp res coding }
     ensures { IfOk result (λ p. p ≡ fresh_precinct stream.now geom.now comp res precinct) }
 {
     let [first, second, third] = coding.planes;
@@ -105,11 +106,13 @@ fn fresh_precinct(
 fn push_resolution(
     alloc: Global,
     stream: &Stream,
+    view: &TileView<'_>,
     geom: &TileGeom,
     comp: u16,
     res: u8,
     list: &mut Vec<Precinct>,
 ) -> Result<(), NoMemory>
+    requires view { view.now ≡ headers_at stream.now geom.now.tile }
     requires range { StreamInRange stream.now }
     requires tile { geom.now.tile < tile_number stream.now.siz }
     requires geometry { geom.now ≡ geometry stream.now geom.now.tile }
@@ -117,7 +120,7 @@ fn push_resolution(
     requires res { HasResolution geom.now comp res }
     ensures { OnOk result (list.new.items ≡ list.old.items ++ fresh_resolution stream.now geom.now comp res) }
 {
-    let coding = coding_of(stream, geom.number(), comp, res);
+    let coding = coding_of(view, comp, res);
     let (columns, rows) = geom.precincts(comp, res);
     for precinct in 0..columns * rows {
         list.push(fresh_precinct(alloc, stream, geom, comp, res, precinct, coding)?)?;
@@ -125,43 +128,24 @@ fn push_resolution(
     Ok(())
 }
 
-/// Appends the precincts of a component.
-#[tactic(auto, using(jx_base::proofs::Joined::joined_none, jx_base::proofs::Joined::joined_next), unfolding(crate::specs::Cells::fresh_component))]
-fn push_component(
+/// The precincts of a tile by component, resolution and number. A component without a sample in the tile costs nothing.
+pub(crate) fn precincts_of(
     alloc: Global,
     stream: &Stream,
+    view: &TileView<'_>,
     geom: &TileGeom,
-    comp: u16,
-    list: &mut Vec<Precinct>,
-) -> Result<(), NoMemory>
+) -> Result<Vec<Precinct>, NoMemory>
+    requires view { view.now ≡ headers_at stream.now geom.now.tile }
     requires range { StreamInRange stream.now }
     requires tile { geom.now.tile < tile_number stream.now.siz }
     requires geometry { geom.now ≡ geometry stream.now geom.now.tile }
     requires limits { GeometryInRange geom.now }
-    requires comp { comp < length geom.now.shapes }
-    ensures { OnOk result (list.new.items ≡ list.old.items ++ fresh_component stream.now geom.now comp) }
-{
-    for res in 0..geom.levels(comp) + 1 {
-        push_resolution(alloc, stream, geom, comp, res, list)?;
-    }
-    Ok(())
-}
-
-/// The precincts of a tile by component, resolution and number.
-#[tactic(auto, using(jx_base::proofs::Joined::joined_none, jx_base::proofs::Joined::joined_next), unfolding(crate::specs::Cells::fresh_precincts))]
-pub(crate) fn precincts_of(
-    alloc: Global,
-    stream: &Stream,
-    geom: &TileGeom,
-) -> Result<Vec<Precinct>, NoMemory>
-    requires range { StreamInRange stream.now }
-    requires tile { geom.now.tile < tile_number stream.now.siz }
-    requires geometry { geom.now ≡ geometry stream.now geom.now.tile }
     ensures { IfOk result (λ list. list.items ≡ fresh_precincts stream.now geom.now) }
 {
+    let rows = geom.resolutions();
     let mut list = Vec::new(alloc);
-    for comp in 0..geom.components() {
-        push_component(alloc, stream, geom, comp as u16, &mut list)?;
+    for row in rows {
+        push_resolution(alloc, stream, view, geom, row.comp, row.res, &mut list)?;
     }
     Ok(list)
 }
@@ -196,17 +180,28 @@ fn fresh_block<'a>(
     }
 }
 
+/// How many code-blocks a band has.
+fn band_count(geom: &TileGeom, comp: u16, res: u8, band: Band) -> u32
+    requires res { HasResolution geom.now comp res }
+    requires band { HasBand res band }
+    ensures { result ≡ size_of (blocks_in geom.now comp res band) }
+{
+    geom.cells(comp, res, band).area() as u32
+}
+
 /// Appends the code-blocks of a band.
 #[tactic(auto, using(jx_base::proofs::Joined::joined_none, jx_base::proofs::Joined::joined_next), unfolding(crate::specs::Blocks::band_blocks))]
 fn push_band<'a>(
     alloc: Global,
     stream: &Stream,
+    view: &TileView<'_>,
     geom: &TileGeom,
     comp: u16,
     res: u8,
     band: Band,
     list: &mut Vec<Block<'a>>,
 ) -> Result<(), NoMemory>
+    requires view { view.now ≡ headers_at stream.now geom.now.tile }
     requires range { StreamInRange stream.now }
     requires tile { geom.now.tile < tile_number stream.now.siz }
     requires geometry { geom.now ≡ geometry stream.now geom.now.tile }
@@ -215,8 +210,8 @@ fn push_band<'a>(
     ensures { OnOk result (list.new.items ≡ list.old.items ++ band_blocks stream.now geom.now [] comp res band) }
 {
     let tile = geom.number();
-    let style = stream.params(tile, comp).style;
-    let planes = stream.planes(tile, comp, res, band) as u8;
+    let style = view.style(comp);
+    let planes = view.planes(comp, res, band) as u8;
     for index in 0..band_count(geom, comp, res, band) {
         let name = BlockName {
             tile,
@@ -234,11 +229,13 @@ fn push_band<'a>(
 fn push_bands<'a>(
     alloc: Global,
     stream: &Stream,
+    view: &TileView<'_>,
     geom: &TileGeom,
     comp: u16,
     res: u8,
     list: &mut Vec<Block<'a>>,
 ) -> Result<(), NoMemory>
+    requires view { view.now ≡ headers_at stream.now geom.now.tile }
     requires range { StreamInRange stream.now }
     requires tile { geom.now.tile < tile_number stream.now.siz }
     requires geometry { geom.now ≡ geometry stream.now geom.now.tile }
@@ -246,49 +243,30 @@ fn push_bands<'a>(
     ensures { OnOk result (list.new.items ≡ list.old.items ++ resolution_blocks stream.now geom.now [] comp res) }
 {
     if res == 0 {
-        return push_band(alloc, stream, geom, comp, res, Band::LL, list);
+        return push_band(alloc, stream, view, geom, comp, res, Band::LL, list);
     }
-    push_band(alloc, stream, geom, comp, res, Band::HL, list)?;
-    push_band(alloc, stream, geom, comp, res, Band::LH, list)?;
-    push_band(alloc, stream, geom, comp, res, Band::HH, list)
+    push_band(alloc, stream, view, geom, comp, res, Band::HL, list)?;
+    push_band(alloc, stream, view, geom, comp, res, Band::LH, list)?;
+    push_band(alloc, stream, view, geom, comp, res, Band::HH, list)
 }
 
-/// Appends the code-blocks of a component.
-#[tactic(auto, using(jx_base::proofs::Joined::joined_none, jx_base::proofs::Joined::joined_next), unfolding(crate::specs::Blocks::component_blocks))]
-fn push_blocks<'a>(
-    alloc: Global,
-    stream: &Stream,
-    geom: &TileGeom,
-    comp: u16,
-    list: &mut Vec<Block<'a>>,
-) -> Result<(), NoMemory>
-    requires range { StreamInRange stream.now }
-    requires tile { geom.now.tile < tile_number stream.now.siz }
-    requires geometry { geom.now ≡ geometry stream.now geom.now.tile }
-    requires comp { comp < length geom.now.shapes }
-    ensures { OnOk result (list.new.items ≡ list.old.items ++ component_blocks stream.now geom.now [] comp) }
-{
-    for res in 0..geom.levels(comp) + 1 {
-        push_bands(alloc, stream, geom, comp, res, list)?;
-    }
-    Ok(())
-}
-
-/// The code-blocks of a tile in the order of their numbers.
-#[tactic(auto, using(jx_base::proofs::Joined::joined_none, jx_base::proofs::Joined::joined_next), unfolding(crate::specs::Blocks::tile_blocks))]
+/// The code-blocks of a tile in the order of their numbers. A component without a sample in the tile costs nothing.
 pub(crate) fn blocks_of<'a>(
     alloc: Global,
     stream: &Stream,
+    view: &TileView<'_>,
     geom: &TileGeom,
 ) -> Result<Vec<Block<'a>>, NoMemory>
+    requires view { view.now ≡ headers_at stream.now geom.now.tile }
     requires range { StreamInRange stream.now }
     requires tile { geom.now.tile < tile_number stream.now.siz }
     requires geometry { geom.now ≡ geometry stream.now geom.now.tile }
     ensures { IfOk result (λ list. list.items ≡ tile_blocks stream.now geom.now []) }
 {
+    let rows = geom.resolutions();
     let mut list = Vec::new(alloc);
-    for comp in 0..geom.components() {
-        push_blocks(alloc, stream, geom, comp as u16, &mut list)?;
+    for row in rows {
+        push_bands(alloc, stream, view, geom, row.comp, row.res, &mut list)?;
     }
     Ok(list)
 }

@@ -21,7 +21,7 @@ use crate::shapes::tile_count;
 use crate::tile_blocks::gather_tile;
 use crate::totals::check_totals;
 use jx_base::{Block, NoMemory};
-use jx_stream::Stream;
+use jx_stream::{MainView, Stream};
 use std::alloc::Global;
 
 /// Moves the blocks of a tile behind those of the tiles before it.
@@ -37,7 +37,9 @@ fn gather_tiles<'a>(
     alloc: Global,
     bytes: &'a [u8],
     stream: &Stream,
+    main: &MainView<'_>,
 ) -> Result<Vec<Block<'a>>, StreamFault>
+    requires main { main.now ≡ record { siz = stream.now.siz; main = stream.now.main } }
     requires read { IsRead bytes.now stream.now }
     requires range { StreamInRange stream.now }
     requires fits { length bytes.now ≤ 2 ^ 28 }
@@ -49,7 +51,7 @@ fn gather_tiles<'a>(
 {
     let mut blocks = Vec::new(alloc);
     for tile in 0..tile_count(stream) {
-        match gather_tile(alloc, bytes, stream, tile) {
+        match gather_tile(alloc, bytes, stream, main, tile) {
             Ok(next) => append(&mut blocks, next)?,
             Err(fault) => return Err(fault),
         }
@@ -71,15 +73,19 @@ fn gather_first<'a>(
     ensures sound { IfOk result (λ blocks. All IsSound blocks.items) }
     ensures broken { IfErr result (λ e. HasCause (IsBroken bytes.entry.now stream.now) e) }
 {
-    match check_totals(stream) {
+    let main = match stream.main_view(alloc) {
+        Ok(main) => main,
+        Err(_) => return Err(StreamFault::NoMemory),
+    };
+    match check_totals(alloc, stream, &main) {
         Ok(()) => {}
         Err(fault) => return Err(fault),
     }
-    match check_covered(alloc, stream) {
+    match check_covered(alloc, stream, &main) {
         Ok(()) => {}
         Err(fault) => return Err(fault),
     }
-    gather_tiles(alloc, bytes, stream)
+    gather_tiles(alloc, bytes, stream, &main)
 }
 
 /// The code-blocks of a codestream, in the order of their numbers, each with its pieces as slices of the file.

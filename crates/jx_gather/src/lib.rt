@@ -7,7 +7,6 @@ mod data;
 mod fresh;
 mod gathering;
 pub mod laws;
-mod layout;
 mod packet;
 mod pieces;
 mod rest;

@@ -3,17 +3,17 @@
 ghost use Rattle.std.specs.Prelude.{◌≡◌, ◌≤◌, ◌<◌, ◌+◌, ◌^◌, length, OnOk, slice_get};
 ghost use Rattle.std.specs.List.{All};
 ghost use Rattle.jx_base.specs.Pieces.{value_of};
+ghost use Rattle.jx_geom.specs.Leaves.{AreLeaves};
 ghost use Rattle.jx_head.specs.Precinct.{all_blocks};
-ghost use Rattle.jx_gather.specs.Cells.{HasPrecinct};
-ghost use Rattle.jx_gather.specs.Leaves.{leaves};
+ghost use Rattle.jx_geom.specs.Precincts.{HasPrecinct, leaf_number, leaves};
 ghost use Rattle.jx_gather.specs.Data.{parts_length};
 ghost use Rattle.jx_gather.specs.Blocks.{founds_from, zero_in};
 ghost use Rattle.jx_gather.specs.Put.{put_to, put_one, put_all};
 ghost use Rattle.jx_gather.specs.Reading.{CanPut, HasRoom, found_of};
 
-use crate::layout::Layout;
 use crate::packet::Packet;
 use jx_base::{Block, NoMemory, Piece};
+use jx_geom::{Leaves, TileGeom};
 use jx_head::{Part, Precinct};
 use jx_order::PacketName;
 
@@ -55,21 +55,32 @@ fn zero_of(precinct: &Precinct, block: u32) -> u8
     }
 }
 
+/// The number among those of the tile of a code-block of a packet's precinct.
+fn leaf_number(geom: &TileGeom, all: &Leaves, name: PacketName, block: u32) -> usize
+    requires all { AreLeaves geom.now name.comp name.res name.precinct all.now }
+    requires block { block < leaves geom.now name.comp name.res name.precinct }
+    ensures { result ≡ leaf_number geom.now name.comp name.res name.precinct block }
+{
+    all.number(block)
+}
+
 /// Puts the bytes of a part to its block.
 fn put_part<'a>(
     blocks: &mut Vec<Block<'a>>,
-    layout: &Layout<'_>,
+    geom: &TileGeom,
+    all: &Leaves,
     precinct: &Precinct,
     name: PacketName,
     part: Part,
     bytes: &'a [u8],
 ) -> Result<(), NoMemory>
-    requires precinct { HasPrecinct layout.now name.comp name.res name.precinct }
-    requires leaves { length (all_blocks precinct.now.bands) ≡ leaves layout.now name.comp name.res name.precinct }
+    requires precinct { HasPrecinct geom.now name.comp name.res name.precinct }
+    requires leaves { length (all_blocks precinct.now.bands) ≡ leaves geom.now name.comp name.res name.precinct }
+    requires all { AreLeaves geom.now name.comp name.res name.precinct all.now }
     requires block { part.block < length (all_blocks precinct.now.bands) }
-    requires there { (found_of layout.now name precinct.now part bytes.now).number < length blocks.old.items }
-    requires few { HasRoom (slice_get blocks.old.items (found_of layout.now name precinct.now part bytes.now).number) part.passes }
-    ensures { OnOk result (blocks.new.items ≡ put_one blocks.old.items (found_of layout.now name precinct.now part bytes.now)) }
+    requires there { (found_of geom.now name precinct.now part bytes.now).number < length blocks.old.items }
+    requires few { HasRoom (slice_get blocks.old.items (found_of geom.now name precinct.now part bytes.now).number) part.passes }
+    ensures { OnOk result (blocks.new.items ≡ put_one blocks.old.items (found_of geom.now name precinct.now part bytes.now)) }
 {
     let piece = Piece {
         layer: name.layer,
@@ -78,28 +89,34 @@ fn put_part<'a>(
         bytes,
     };
     let zero = zero_of(precinct, part.block);
-    put_at(blocks, layout.leaf(&name, part.block), zero, piece)
+    put_at(
+        blocks,
+        leaf_number(geom, all, name, part.block),
+        zero,
+        piece,
+    )
 }
 
 /// Puts the pieces of a packet to their blocks. The precinct is the packet's, after its header was read.
 pub(crate) fn put_pieces<'a>(
     blocks: &mut Vec<Block<'a>>,
-    layout: &Layout<'_>,
+    geom: &TileGeom,
     precinct: &Precinct,
     name: PacketName,
     packet: &Packet<'a>,
 ) -> Result<(), NoMemory>
-    requires precinct { HasPrecinct layout.now name.comp name.res name.precinct }
-    requires leaves { length (all_blocks precinct.now.bands) ≡ leaves layout.now name.comp name.res name.precinct }
+    requires precinct { HasPrecinct geom.now name.comp name.res name.precinct }
+    requires leaves { length (all_blocks precinct.now.bands) ≡ leaves geom.now name.comp name.res name.precinct }
     requires parts { All (λ p. p.block < length (all_blocks precinct.now.bands)) packet.now.parts.items }
     requires bytes { parts_length packet.now.parts.items ≤ length packet.now.bytes.now }
-    requires can { CanPut blocks.old.items (founds_from layout.now name precinct.now packet.now.bytes.now packet.now.parts.items) }
-    ensures { OnOk result (blocks.new.items ≡ put_all blocks.old.items (founds_from layout.now name precinct.now packet.now.bytes.now packet.now.parts.items)) }
+    requires can { CanPut blocks.old.items (founds_from geom.now name precinct.now packet.now.bytes.now packet.now.parts.items) }
+    ensures { OnOk result (blocks.new.items ≡ put_all blocks.old.items (founds_from geom.now name precinct.now packet.now.bytes.now packet.now.parts.items)) }
 {
+    let all = geom.leaves(name.comp, name.res, name.precinct);
     let mut rest = packet.bytes;
     for part in &packet.parts {
         let (bytes, behind) = rest.split_at(part.length as usize);
-        put_part(blocks, layout, precinct, name, *part, bytes)?;
+        put_part(blocks, geom, &all, precinct, name, *part, bytes)?;
         rest = behind;
     }
     Ok(())

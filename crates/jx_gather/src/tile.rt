@@ -3,6 +3,7 @@
 ghost use Rattle.std.specs.Prelude.{◌≡◌, ◌≤◌, ◌<◌, ◌+◌, ◌^◌, None, List, [], length, take, IfErr, OnOk};
 ghost use Rattle.jx_stream.specs.First.{tile_number};
 ghost use Rattle.jx_gather.specs.Faults.{HasCause};
+ghost use Rattle.jx_stream.specs.Params.{headers_at};
 ghost use Rattle.jx_stream.specs.Shapes.{geometry, tile_at};
 ghost use Rattle.jx_gather.specs.Totals.{totals_fault};
 ghost use Rattle.jx_gather.specs.Data.{window, end_of_data};
@@ -15,14 +16,13 @@ ghost use Rattle.jx_gather.specs.Reading.{AreInside, IsFront, IsTask};
 use crate::StreamFault;
 use crate::data::violated;
 use crate::fresh::precincts_of;
-use crate::layout::Layout;
 use crate::pieces::put_pieces;
 use crate::rest::Rest;
 use crate::shapes::tile_at;
 use jx_base::Block;
 use jx_geom::TileGeom;
 use jx_order::PacketName;
-use jx_stream::{Body, Stream};
+use jx_stream::{Body, Stream, TileView};
 use std::alloc::Global;
 
 /// What the packets of a tile are read by.
@@ -32,8 +32,8 @@ struct Source<'t, 'a> {
     bytes: &'a [u8],
     /// What its headers say.
     stream: &'t Stream,
-    /// The numbers of the tile's precincts and blocks.
-    layout: Layout<'t>,
+    /// The tile's geometry, which numbers its precincts and blocks.
+    geom: &'t TileGeom,
     /// The tile's packets in their order.
     list: &'t [PacketName],
     /// Where the tile's last tile-part ends.
@@ -70,27 +70,27 @@ impl<'t, 'a> Source<'t, 'a> {
         rest: &mut Rest<'_>,
         blocks: &mut Vec<Block<'a>>,
     ) -> Result<(), StreamFault>
-        requires task { IsTask self.now.bytes.now self.now.stream.now self.now.layout self.now.list.now }
-        requires end { self.now.end ≡ end_of_data (tile_at self.now.stream.now self.now.layout.tile).bodies }
+        requires task { IsTask self.now.bytes.now self.now.stream.now self.now.geom.now self.now.list.now }
+        requires end { self.now.end ≡ end_of_data (tile_at self.now.stream.now self.now.geom.now.tile).bodies }
         requires number { number < length self.now.list.now }
-        requires front { IsFront self.now.bytes.now self.now.stream.now self.now.layout.tile (take number self.now.list.now) rest.old blocks.old.items }
+        requires front { IsFront self.now.bytes.now self.now.stream.now self.now.geom.now.tile (take number self.now.list.now) rest.old blocks.old.items }
         requires inside { AreInside self.now.bytes.now rest.old.bodies }
-        ensures front { OnOk result (IsFront self.now.bytes.now self.now.stream.now self.now.layout.tile (take (number + 1) self.now.list.now) rest.new blocks.new.items) }
+        ensures front { OnOk result (IsFront self.now.bytes.now self.now.stream.now self.now.geom.now.tile (take (number + 1) self.now.list.now) rest.new blocks.new.items) }
         ensures inside { OnOk result (AreInside self.now.bytes.now rest.new.bodies) }
-        ensures err { IfErr result (λ e. HasCause (BreaksTile self.now.bytes.now self.now.stream.now self.now.layout.tile) e) }
+        ensures err { IfErr result (λ e. HasCause (BreaksTile self.now.bytes.now self.now.stream.now self.now.geom.now.tile) e) }
     {
         let name = self.list[number];
         let Some(body) = rest.due() else {
             return Err(violated(26, self.end));
         };
-        let precinct = self.layout.precinct(&name);
+        let precinct = self.geom.precinct_number(name.comp, name.res, name.precinct) as usize;
         let window = window_of(self.bytes, body);
         let packet = match rest.read(precinct, name, number, window, body.at as usize) {
             Ok(packet) => packet,
             Err(fault) => return Err(fault),
         };
         rest.pass(body, packet.count);
-        match put_pieces(blocks, &self.layout, rest.precinct(precinct), name, &packet) {
+        match put_pieces(blocks, self.geom, rest.precinct(precinct), name, &packet) {
             Ok(()) => Ok(()),
             Err(_) => Err(StreamFault::NoMemory),
         }
@@ -98,12 +98,12 @@ impl<'t, 'a> Source<'t, 'a> {
 
     /// Reads all of the list's packets, behind which no byte of the tile is left.
     fn read_all(&self, rest: &mut Rest<'_>, blocks: &mut Vec<Block<'a>>) -> Result<(), StreamFault>
-        requires task { IsTask self.now.bytes.now self.now.stream.now self.now.layout self.now.list.now }
-        requires end { self.now.end ≡ end_of_data (tile_at self.now.stream.now self.now.layout.tile).bodies }
-        requires front { IsFront self.now.bytes.now self.now.stream.now self.now.layout.tile (take 0 self.now.list.now) rest.old blocks.old.items }
+        requires task { IsTask self.now.bytes.now self.now.stream.now self.now.geom.now self.now.list.now }
+        requires end { self.now.end ≡ end_of_data (tile_at self.now.stream.now self.now.geom.now.tile).bodies }
+        requires front { IsFront self.now.bytes.now self.now.stream.now self.now.geom.now.tile (take 0 self.now.list.now) rest.old blocks.old.items }
         requires inside { AreInside self.now.bytes.now rest.old.bodies }
-        ensures ok { OnOk result (AreTileBlocks self.now.bytes.now self.now.stream.now self.now.layout.tile blocks.new.items) }
-        ensures err { IfErr result (λ e. HasCause (BreaksTile self.now.bytes.now self.now.stream.now self.now.layout.tile) e) }
+        ensures ok { OnOk result (AreTileBlocks self.now.bytes.now self.now.stream.now self.now.geom.now.tile blocks.new.items) }
+        ensures err { IfErr result (λ e. HasCause (BreaksTile self.now.bytes.now self.now.stream.now self.now.geom.now.tile) e) }
     {
         for number in 0..self.list.len() {
             match self.read_next(number, rest, blocks) {
@@ -124,11 +124,13 @@ pub(crate) fn read_tile<'a>(
     alloc: Global,
     bytes: &'a [u8],
     stream: &Stream,
+    view: &TileView<'_>,
     geom: &TileGeom,
     list: &[PacketName],
     blocks: &mut Vec<Block<'a>>,
 ) -> Result<(), StreamFault>
     requires fits { length bytes.now ≤ 2 ^ 28 }
+    requires view { view.now ≡ headers_at stream.now geom.now.tile }
     requires range { StreamInRange stream.now }
     requires totals { totals_fault stream.now ≡ None }
     requires tile { geom.now.tile < tile_number stream.now.siz }
@@ -140,13 +142,12 @@ pub(crate) fn read_tile<'a>(
     ensures ok { OnOk result (AreTileBlocks bytes.now stream.now geom.now.tile blocks.new.items) }
     ensures err { IfErr result (λ e. HasCause (BreaksTile bytes.now stream.now geom.now.tile) e) }
 {
-    let precincts = precincts_of(alloc, stream, geom)?;
-    let layout = Layout::new(alloc, geom)?;
+    let precincts = precincts_of(alloc, stream, view, geom)?;
     let bodies = tile_at(stream, geom.number()).bodies.as_slice();
     let source = Source {
         bytes,
         stream,
-        layout,
+        geom,
         list,
         end: end_of_data(bodies),
     };

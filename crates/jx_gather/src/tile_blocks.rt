@@ -16,7 +16,7 @@ use crate::fresh::blocks_of;
 use crate::shapes::geometry_of;
 use crate::tile::read_tile;
 use jx_base::Block;
-use jx_stream::Stream;
+use jx_stream::{MainView, Stream};
 use std::alloc::Global;
 
 /// The blocks of a tile whose packets are covered by its progression entries.
@@ -24,8 +24,10 @@ pub(crate) fn gather_tile<'a>(
     alloc: Global,
     bytes: &'a [u8],
     stream: &Stream,
+    main: &MainView<'_>,
     tile: u16,
 ) -> Result<Vec<Block<'a>>, StreamFault>
+    requires main { main.now ≡ record { siz = stream.now.siz; main = stream.now.main } }
     requires read { IsRead bytes.now stream.now }
     requires range { StreamInRange stream.now }
     requires fits { length bytes.now ≤ 2 ^ 28 }
@@ -36,13 +38,14 @@ pub(crate) fn gather_tile<'a>(
     ensures sound { IfOk result (λ blocks. All IsSound blocks.items) }
     ensures broken { IfErr result (λ e. HasCause (BreaksTile bytes.entry.now stream.now tile) e) }
 {
-    let geom = geometry_of(alloc, stream, tile)?;
-    let list = match list_of(alloc, stream, &geom) {
+    let view = stream.tile_view(alloc, main, tile)?;
+    let geom = geometry_of(alloc, stream, &view, tile)?;
+    let list = match list_of(alloc, stream, &view, &geom) {
         Ok(list) => list,
         Err(fault) => return Err(fault),
     };
-    let mut blocks = blocks_of(alloc, stream, &geom)?;
-    match read_tile(alloc, bytes, stream, &geom, &list, &mut blocks) {
+    let mut blocks = blocks_of(alloc, stream, &view, &geom)?;
+    match read_tile(alloc, bytes, stream, &view, &geom, &list, &mut blocks) {
         Ok(()) => Ok(blocks),
         Err(fault) => Err(fault),
     }

@@ -1,7 +1,8 @@
 //! How many code-blocks and packets there are, and the limits 5 and 6.
 
-ghost use Rattle.std.specs.Prelude.{◌≡◌, ◌<◌, ◌^◌};
+ghost use Rattle.std.specs.Prelude.{◌≡◌, ◌≤◌, ◌<◌, ◌^◌, IfOk, length};
 ghost use Rattle.jx_geom.specs.Counts.{tile_blocks, tile_precincts};
+ghost use Rattle.jx_geom.specs.Geometry.{ShapesInRange};
 ghost use Rattle.jx_geom.specs.Rects.{tile_rect};
 ghost use Rattle.jx_stream.specs.First.{canvas_of, tile_number};
 ghost use Rattle.jx_gather.specs.Faults.{Answers};
@@ -10,88 +11,95 @@ ghost use Rattle.jx_stream.specs.Shapes.{shapes_of};
 ghost use Rattle.jx_gather.specs.Totals.{block_total, packet_total, tile_packets, totals_fault};
 
 use crate::StreamFault;
-use crate::shapes::{canvas_of, comp_count, shape_in, tile_count};
-use jx_geom::{count_blocks, count_precincts};
-use jx_stream::Stream;
+use crate::shapes::tile_count;
+use jx_base::{NoMemory, Rect};
+use jx_geom::{CompShape, count_in, tile_of};
+use jx_stream::{MainView, Stream};
+use std::alloc::Global;
 
-/// The code-blocks of a tile (ITU-T T.800, B.7).
-fn tile_blocks(stream: &Stream, tile: u16) -> u128
-    requires range { StreamInRange stream.now }
-    requires tile { tile < tile_number stream.now.siz }
-    ensures value { result ≡ tile_blocks (tile_rect (canvas_of stream.now.siz) tile) (shapes_of stream.now tile) }
-    ensures bound { result < 2 ^ 87 }
+/// The code-blocks and the precincts of a tile of these places (ITU-T T.800, B.6 and B.7).
+#[tactic(auto, using(jx_geom::proofs::TableLemmas::precincts_more, jx_geom::proofs::TableLemmas::blocks_more))]
+fn count_tile(places: Rect, shapes: &[CompShape]) -> (u128, u128)
+    requires few { length shapes.now ≤ 2 ^ 14 }
+    requires range { ShapesInRange shapes.now }
+    ensures blocks { result.0 ≡ tile_blocks places shapes.now }
+    ensures precincts { result.1 ≡ tile_precincts places shapes.now }
+    ensures few_blocks { result.0 < 2 ^ 87 }
+    ensures few_precincts { result.1 < 2 ^ 87 }
 {
-    let canvas = canvas_of(&stream.siz);
-    let mut total = 0;
-    for comp in 0..comp_count(stream) {
-        total += count_blocks(&canvas, tile, &shape_in(stream, tile, comp));
+    let mut blocks = 0;
+    let mut precincts = 0;
+    for comp in 0..shapes.len() {
+        let counts = count_in(places, &shapes[comp]);
+        blocks += counts.0;
+        precincts += counts.1;
     }
-    total
+    (blocks, precincts)
 }
 
-/// The precincts of a tile (ITU-T T.800, B.6).
-fn tile_precincts(stream: &Stream, tile: u16) -> u128
+/// The code-blocks and the packets of a tile of a stream, one packet for each precinct and layer (ITU-T T.800, B.9).
+fn tile_totals(
+    alloc: Global,
+    stream: &Stream,
+    main: &MainView<'_>,
+    tile: u16,
+) -> Result<(u128, u128), NoMemory>
+    requires main { main.now ≡ record { siz = stream.now.siz; main = stream.now.main } }
     requires range { StreamInRange stream.now }
     requires tile { tile < tile_number stream.now.siz }
-    ensures value { result ≡ tile_precincts (tile_rect (canvas_of stream.now.siz) tile) (shapes_of stream.now tile) }
-    ensures bound { result < 2 ^ 87 }
+    ensures blocks { IfOk result (λ r. r.0 ≡ tile_blocks (tile_rect (canvas_of stream.now.siz) tile) (shapes_of stream.now tile)) }
+    ensures packets { IfOk result (λ r. r.1 ≡ tile_packets stream.now tile) }
+    ensures few_blocks { IfOk result (λ r. r.0 < 2 ^ 87) }
+    ensures few_packets { IfOk result (λ r. r.1 < 2 ^ 103) }
 {
-    let canvas = canvas_of(&stream.siz);
-    let mut total = 0;
-    for comp in 0..comp_count(stream) {
-        total += count_precincts(&canvas, tile, &shape_in(stream, tile, comp));
-    }
-    total
+    let view = stream.tile_view(alloc, main, tile)?;
+    let counts = count_tile(tile_of(&view.canvas(), tile), view.shapes());
+    let layers = u128::from(view.layers());
+    Ok((counts.0, counts.1 * layers))
 }
 
-/// The packets of a tile: one for each precinct and layer (ITU-T T.800, B.9).
-fn tile_packets(stream: &Stream, tile: u16) -> u128
+/// The code-blocks and the packets of all tiles.
+fn all_totals(
+    alloc: Global,
+    stream: &Stream,
+    main: &MainView<'_>,
+) -> Result<(u128, u128), NoMemory>
+    requires main { main.now ≡ record { siz = stream.now.siz; main = stream.now.main } }
     requires range { StreamInRange stream.now }
-    requires tile { tile < tile_number stream.now.siz }
-    ensures value { result ≡ tile_packets stream.now tile }
-    ensures bound { result < 2 ^ 103 }
+    ensures blocks { IfOk result (λ r. r.0 ≡ block_total stream.now) }
+    ensures packets { IfOk result (λ r. r.1 ≡ packet_total stream.now) }
 {
-    tile_precincts(stream, tile) * u128::from(stream.params(tile, 0).layers)
-}
-
-/// The code-blocks of all tiles.
-fn block_total(stream: &Stream) -> u128
-    requires { StreamInRange stream.now }
-    ensures { result ≡ block_total stream.now }
-{
-    let mut total = 0;
+    let mut blocks = 0;
+    let mut packets = 0;
     for tile in 0..tile_count(stream) {
-        total += tile_blocks(stream, tile);
+        let totals = tile_totals(alloc, stream, main, tile)?;
+        blocks += totals.0;
+        packets += totals.1;
     }
-    total
-}
-
-/// The packets of all tiles.
-fn packet_total(stream: &Stream) -> u128
-    requires { StreamInRange stream.now }
-    ensures { result ≡ packet_total stream.now }
-{
-    let mut total = 0;
-    for tile in 0..tile_count(stream) {
-        total += tile_packets(stream, tile);
-    }
-    total
+    Ok((blocks, packets))
 }
 
 /// Limit 5, over 2^20 code-blocks, then limit 6, over 2^22 packets, in all tiles together.
 #[tactic(auto, unfolding(crate::specs::Totals::totals_fault))]
-pub(crate) fn check_totals(stream: &Stream) -> Result<(), StreamFault>
-    requires { StreamInRange stream.now }
+pub(crate) fn check_totals(
+    alloc: Global,
+    stream: &Stream,
+    main: &MainView<'_>,
+) -> Result<(), StreamFault>
+    requires main { main.now ≡ record { siz = stream.now.siz; main = stream.now.main } }
+    requires range { StreamInRange stream.now }
     ensures { Answers result (totals_fault stream.now) (λ _. Unit {0}) }
 {
-    let blocks = block_total(stream);
+    let (blocks, packets) = match all_totals(alloc, stream, main) {
+        Ok(totals) => totals,
+        Err(_) => return Err(StreamFault::NoMemory),
+    };
     if blocks > 1 << 20 {
         return Err(StreamFault::Limit {
             number: 5,
             found: blocks,
         });
     }
-    let packets = packet_total(stream);
     if packets > 1 << 22 {
         return Err(StreamFault::Limit {
             number: 6,

@@ -26,7 +26,8 @@ use Rattle.jx_recast.specs.declared.small.Headers.{Headers}
 use Rattle.jx_stream.specs.Read.{IsRead}
 use Rattle.jx_stream.specs.Shapes.{shapes_of, shapes_in, geometry}
 use Rattle.jx_gather.specs.Totals.{block_total, packet_total, totals_fault}
-use Rattle.jx_gather.specs.Cells.{fresh_precinct, fresh_precincts, fresh_component, fresh_resolution, one_precinct, precinct_number}
+use Rattle.jx_gather.specs.Cells.{fresh_precinct, fresh_precincts, fresh_component, fresh_resolution, one_precinct}
+use Rattle.jx_geom.specs.Precincts.{precinct_number}
 use Rattle.jx_gather.specs.Data.{due, sop_fault, header_in, front_length, body_fault}
 use Rattle.jx_gather.specs.Cuts.{Cut, IsCut, Left, number_of}
 use Rattle.jx_gather.specs.Blocks.{founds_of, own_founds, block_of, one_block, band_blocks, resolution_blocks, component_blocks, tile_blocks}

@@ -2,8 +2,7 @@ use Rattle.std.proofs.Common.{◌∙◌, ◌≤◌, ap, sym, subst, List, Err}
 use Rattle.std.specs.List.{All}
 use Rattle.jx_marker.specs.declared.Progression.{Progression}
 use Rattle.jx_stream.specs.declared.Tile.{Tile}
-use Rattle.jx_stream.specs.declared.Params.{Params}
-use Rattle.jx_stream.specs.Shapes.{layers_of, tile_at}
+use Rattle.jx_stream.specs.Shapes.{layers_in, tile_at}
 use Rattle.jx_gather.proofs.CoveredLemmas.{lacks_here}
 use Rattle.jx_gather.proofs.covered.list_of.Goals as goal
 
@@ -17,6 +16,6 @@ packets-requires c =
 pub returns-in-Err-Uncovered-clause-uncovered : goal.returns-in-Err-Uncovered-clause-uncovered
 returns-in-Err-Uncovered-clause-uncovered c =
     let s = c.args.stream.now in
-    lacks_here s c.args.geom.now c.params-layers.result.layers c.as_slice.result.now c.tile_at-tile.result.now c.requires.geometry
-    (ap (λ (x : Params). x.layers) c.params-layers.ensures ∙ ap (layers_of s) c.number-2.ensures) (c.tile_at-tile.ensures ∙ ap (tile_at s) c.number.ensures) c.as_slice.ensures
+    lacks_here s c.args.geom.now c.layers.result c.as_slice.result.now c.tile_at-tile.result.now c.requires.geometry
+    (c.layers.ensures.value ∙ ap layers_in c.requires.view) (c.tile_at-tile.ensures ∙ ap (tile_at s) c.number.ensures) c.as_slice.ensures
     (c.in-Err-Uncovered.ensures.uncovered (ap Err c.in-Err-Uncovered.field-0-is))

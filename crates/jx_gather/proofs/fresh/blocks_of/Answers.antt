@@ -1,17 +1,24 @@
-use Rattle.std.proofs.Common.{[], sym, ◌∙◌, arith}
-use Rattle.jx_gather.specs.Blocks.{component_blocks}
-use Rattle.jx_gather.proofs.ListLemmas.{few_components}
+use Rattle.std.proofs.Common.{◌∙◌, arith, []}
+use Rattle.jx_geom.specs.declared.table.Resolution.{Resolution}
+use Rattle.jx_gather.specs.Blocks.{resolution_blocks}
+use Rattle.jx_gather.proofs.ListedLemmas.{blocks_listed, row_there, rows_all, rows_next}
 use Rattle.jx_gather.proofs.fresh.blocks_of.Goals as goal
-use Rattle.jx_base.proofs.Joined.{joined_none, makes_next}
 
-pub loop-comp-init : goal.loop-comp-init
-loop-comp-init c = c.new-list.ensures.items ∙ sym (joined_none (component_blocks c.args.stream.now c.args.geom.now []) 0 0 (omega arith))
+none : Resolution
+none = record { comp = 0; res = 0; precincts = 0; precincts_before = 0; blocks_before = 0 }
 
-pub overflow_cast-comp : goal.overflow_cast-comp
-overflow_cast-comp c =
-    omega (arith, c.components-comp-end.ensures.count, few_components c.args.stream.now c.args.geom.now c.requires.range c.requires.geometry)
+pub push_bands-requires-clause-res : goal.push_bands-requires-clause-res
+unfolding none
+push_bands-requires-clause-res c =
+    row_there c.args.geom.now c.resolutions-rows.result.now c.loop-row.row-index none c.resolutions-rows.ensures c.loop-row-test.true
 
-pub loop-comp-preserved : goal.loop-comp-preserved
-loop-comp-preserved c =
-    makes_next c.loop-comp.list.items c.push_blocks.new.list.items (component_blocks c.args.stream.now c.args.geom.now []) 0 c.loop-comp.comp (omega arith)
-    c.loop-comp.invariant c.in_ok-push_blocks.ensures
+pub loop-row-preserved : goal.loop-row-preserved
+unfolding none
+loop-row-preserved c =
+    rows_next (resolution_blocks c.args.stream.now c.args.geom.now []) c.resolutions-rows.result.now c.loop-row.row-index none c.loop-row.list.items c.push_bands.new.list.items
+    c.loop-row-test.true c.loop-row.invariant c.in_ok-push_bands.ensures
+
+pub returns : goal.returns
+returns c =
+    rows_all (resolution_blocks c.args.stream.now c.args.geom.now []) c.args.geom.now c.resolutions-rows.result.now c.loop-row.row-index c.loop-row.list.items (omega arith)
+    c.resolutions-rows.ensures c.loop-row.invariant ∙ blocks_listed c.args.stream.now c.args.geom.now

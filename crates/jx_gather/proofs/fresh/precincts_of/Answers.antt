@@ -1,17 +1,24 @@
-use Rattle.std.proofs.Common.{sym, ◌∙◌, arith}
-use Rattle.jx_gather.specs.Cells.{fresh_component}
-use Rattle.jx_gather.proofs.ListLemmas.{few_components}
+use Rattle.std.proofs.Common.{◌∙◌, arith}
+use Rattle.jx_geom.specs.declared.table.Resolution.{Resolution}
+use Rattle.jx_gather.specs.Cells.{fresh_resolution}
+use Rattle.jx_gather.proofs.ListedLemmas.{precincts_listed, row_there, rows_all, rows_next}
 use Rattle.jx_gather.proofs.fresh.precincts_of.Goals as goal
-use Rattle.jx_base.proofs.Joined.{joined_none, makes_next}
 
-pub loop-comp-init : goal.loop-comp-init
-loop-comp-init c = c.new-list.ensures.items ∙ sym (joined_none (fresh_component c.args.stream.now c.args.geom.now) 0 0 (omega arith))
+none : Resolution
+none = record { comp = 0; res = 0; precincts = 0; precincts_before = 0; blocks_before = 0 }
 
-pub overflow_cast-comp : goal.overflow_cast-comp
-overflow_cast-comp c =
-    omega (arith, c.components-comp-end.ensures.count, few_components c.args.stream.now c.args.geom.now c.requires.range c.requires.geometry)
+pub push_resolution-requires-clause-res : goal.push_resolution-requires-clause-res
+unfolding none
+push_resolution-requires-clause-res c =
+    row_there c.args.geom.now c.resolutions-rows.result.now c.loop-row.row-index none c.resolutions-rows.ensures c.loop-row-test.true
 
-pub loop-comp-preserved : goal.loop-comp-preserved
-loop-comp-preserved c =
-    makes_next c.loop-comp.list.items c.push_component.new.list.items (fresh_component c.args.stream.now c.args.geom.now) 0 c.loop-comp.comp (omega arith)
-    c.loop-comp.invariant c.in_ok-push_component.ensures
+pub loop-row-preserved : goal.loop-row-preserved
+unfolding none
+loop-row-preserved c =
+    rows_next (fresh_resolution c.args.stream.now c.args.geom.now) c.resolutions-rows.result.now c.loop-row.row-index none c.loop-row.list.items c.push_resolution.new.list.items
+    c.loop-row-test.true c.loop-row.invariant c.in_ok-push_resolution.ensures
+
+pub returns : goal.returns
+returns c =
+    rows_all (fresh_resolution c.args.stream.now c.args.geom.now) c.args.geom.now c.resolutions-rows.result.now c.loop-row.row-index c.loop-row.list.items (omega arith)
+    c.resolutions-rows.ensures c.loop-row.invariant ∙ precincts_listed c.args.stream.now c.args.geom.now

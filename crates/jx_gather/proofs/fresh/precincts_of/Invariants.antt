@@ -1,7 +1,8 @@
-use Rattle.std.proofs.Common.{◌≡◌}
-use Rattle.jx_gather.specs.Cells.{fresh_component}
+use Rattle.std.proofs.Common.{◌≡◌, take}
+use Rattle.std.specs.List.{flat_map}
+use Rattle.jx_gather.specs.Cells.{fresh_resolution}
+use Rattle.jx_gather.proofs.ListedLemmas.{by_resolution}
 use Rattle.jx_gather.proofs.fresh.precincts_of.Given as goal
-use Rattle.jx_base.specs.Joined.{joined}
 
-abbrev pub invariant-loop-comp : goal.invariant-loop-comp
-invariant-loop-comp l = l.list.items ≡ joined (fresh_component l.stream l.geom) 0 l.comp
+abbrev pub invariant-loop-row : goal.invariant-loop-row
+invariant-loop-row l = l.list.items ≡ flat_map (by_resolution (fresh_resolution l.stream l.geom)) (take l.row-index l.rows)

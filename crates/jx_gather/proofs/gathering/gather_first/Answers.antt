@@ -1,8 +1,11 @@
 use Rattle.jx_stream.proofs.RangeLemmas.{read_in_range}
 use Rattle.jx_gather.proofs.gathering.gather_first.Goals as goal
 
-pub check_totals-requires : goal.check_totals-requires
-check_totals-requires c = read_in_range c.args.bytes.now c.args.stream.now c.requires.read
+pub main_view-requires : goal.main_view-requires
+main_view-requires c = read_in_range c.args.bytes.now c.args.stream.now c.requires.read
+
+pub check_totals-requires-clause-range : goal.check_totals-requires-clause-range
+check_totals-requires-clause-range c = read_in_range c.args.bytes.now c.args.stream.now c.requires.read
 
 pub check_covered-requires-clause-range : goal.check_covered-requires-clause-range
 check_covered-requires-clause-range c = read_in_range c.args.bytes.now c.args.stream.now c.requires.read

@@ -45,7 +45,7 @@ put_part-requires-clause-there c =
     let part : Part = get_or c.deref-part-items.result.now i none in
     let is = part_is c.deref-part-items.result.now parts i c.deref-part-items.ensures.value in
     let lt = part_there c.deref-part-items.result.now parts i c.deref-part-items.ensures.value c.loop-part-test.true in
-    can_there c.loop-part.blocks.items _ _ (first_can c.args.layout.now c.args.name c.args.precinct.now c.loop-part.blocks.items c.loop-part.rest.now parts i part lt is c.loop-part.invariant.can)
+    can_there c.loop-part.blocks.items _ _ (first_can c.args.geom.now c.args.name c.args.precinct.now c.loop-part.blocks.items c.loop-part.rest.now parts i part lt is c.loop-part.invariant.can)
 
 pub put_part-requires-clause-few : goal.put_part-requires-clause-few
 unfolding none
@@ -55,12 +55,12 @@ put_part-requires-clause-few c =
     let part : Part = get_or c.deref-part-items.result.now i none in
     let is = part_is c.deref-part-items.result.now parts i c.deref-part-items.ensures.value in
     let lt = part_there c.deref-part-items.result.now parts i c.deref-part-items.ensures.value c.loop-part-test.true in
-    can_room c.loop-part.blocks.items _ _ (first_can c.args.layout.now c.args.name c.args.precinct.now c.loop-part.blocks.items c.loop-part.rest.now parts i part lt is c.loop-part.invariant.can)
+    can_room c.loop-part.blocks.items _ _ (first_can c.args.geom.now c.args.name c.args.precinct.now c.loop-part.blocks.items c.loop-part.rest.now parts i part lt is c.loop-part.invariant.can)
 
 pub loop-part-preserved : goal.loop-part-preserved
 unfolding none
 loop-part-preserved c =
-    let g = c.args.layout.now in
+    let g = c.args.geom.now in
     let k = c.args.precinct.now in
     let parts = c.args.packet.now.parts.items in
     let i = c.loop-part.part-index in

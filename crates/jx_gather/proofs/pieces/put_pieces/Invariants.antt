@@ -7,8 +7,8 @@ use Rattle.jx_gather.proofs.pieces.put_pieces.Given as goal
 
 abbrev pub invariant-loop-part : goal.invariant-loop-part
 invariant-loop-part l = record {
-  same : put_all l.blocks.items (founds_from l.layout l.name l.precinct l.rest (drop l.part-index l.packet.parts.items))
-      ≡ put_all l.fn.blocks.items (founds_from l.layout l.name l.precinct l.packet.bytes.now l.packet.parts.items);
-  can : CanPut l.blocks.items (founds_from l.layout l.name l.precinct l.rest (drop l.part-index l.packet.parts.items));
+  same : put_all l.blocks.items (founds_from l.geom l.name l.precinct l.rest (drop l.part-index l.packet.parts.items))
+      ≡ put_all l.fn.blocks.items (founds_from l.geom l.name l.precinct l.packet.bytes.now l.packet.parts.items);
+  can : CanPut l.blocks.items (founds_from l.geom l.name l.precinct l.rest (drop l.part-index l.packet.parts.items));
   bytes : parts_length (drop l.part-index l.packet.parts.items) ≤ length l.rest;
 }
