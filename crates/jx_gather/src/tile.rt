@@ -83,7 +83,9 @@ impl<'t, 'a> Source<'t, 'a> {
         let Some(body) = rest.due() else {
             return Err(violated(26, self.end));
         };
-        let precinct = self.geom.precinct_number(name.comp, name.res, name.precinct) as usize;
+        let precinct = self
+            .geom
+            .precinct_number(name.comp, name.res, name.precinct) as usize;
         let window = window_of(self.bytes, body);
         let packet = match rest.read(precinct, name, number, window, body.at as usize) {
             Ok(packet) => packet,

@@ -59,11 +59,7 @@ fn tile_totals(
 }
 
 /// The code-blocks and the packets of all tiles.
-fn all_totals(
-    alloc: Global,
-    stream: &Stream,
-    main: &MainView<'_>,
-) -> Result<(u128, u128), NoMemory>
+fn all_totals(alloc: Global, stream: &Stream, main: &MainView<'_>) -> Result<(u128, u128), NoMemory>
     requires main { main.now ≡ record { siz = stream.now.siz; main = stream.now.main } }
     requires range { StreamInRange stream.now }
     ensures blocks { IfOk result (λ r. r.0 ≡ block_total stream.now) }

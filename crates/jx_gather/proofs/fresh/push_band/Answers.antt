@@ -17,8 +17,12 @@ pub overflow_cast-planes : goal.overflow_cast-planes
 overflow_cast-planes c =
     let s = c.args.stream.now in
     let there = subst (λ (g : Geometry). HasResolution g c.args.comp c.args.res) c.requires.geometry c.requires.res in
-    omega (arith, c.planes-planes.ensures.value, ap (λ (h : TileHeaders). planes_in h c.args.comp c.args.res c.args.band) c.requires.view,
-    c.requires.range.planes c.args.geom.now.tile c.args.comp c.args.res c.args.band c.requires.tile there c.requires.band)
+    omega (
+      arith,
+      c.planes-planes.ensures.value,
+      ap (λ (h : TileHeaders). planes_in h c.args.comp c.args.res c.args.band) c.requires.view,
+      c.requires.range.planes c.args.geom.now.tile c.args.comp c.args.res c.args.band c.requires.tile there c.requires.band,
+    )
 
 pub loop-index-preserved : goal.loop-index-preserved
 loop-index-preserved c =
