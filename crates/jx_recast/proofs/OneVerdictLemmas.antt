@@ -1,5 +1,5 @@
 -- An input has at most one verdict.
-use Rattle.std.proofs.Common.{◌≡◌, ◌⊎◌, ◌≤◌, ◌∙◌, inl, inr, refl, sym, subst, ap, arith, List, ℕ, length}
+use Rattle.std.proofs.Common.{◌≡◌, ◌⊎◌, ◌≤◌, inl, inr, refl, subst, ap, arith, List, ℕ, length}
 use Rattle.jx_stream.specs.declared.faults.StreamFault.{StreamFault}
 use Rattle.jx_stream.specs.declared.faults.StreamFault.TheVariants as fault
 use Rattle.jx_stream.specs.declared.Stream.{Stream}
