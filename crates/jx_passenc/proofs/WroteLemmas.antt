@@ -4,7 +4,7 @@ use Rattle.std.proofs.lemmas.Bool.Decides.{nat_tests}
 use Rattle.std.proofs.lemmas.List.{append-nil}
 use Rattle.jx_base.specs.MqTable.{MqContexts, mq_fresh}
 use Rattle.jx_base.specs.MqWriting.{MqWriter, MqGiven, Decided, Renewed, mq_wrote, mq_after_bit}
-use Rattle.jx_base.specs.Passes.{raw_pass, end_pass}
+use Rattle.jx_base.specs.Passes.{raw_pass, end_pass, resets, is_causal}
 use Rattle.jx_grid.specs.Cells.{Cells}
 use Rattle.jx_grid.specs.Asking.{Asking, Told, Ask, told}
 use Rattle.jx_grid.specs.Pass.{pass_of}
