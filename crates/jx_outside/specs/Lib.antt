@@ -4,3 +4,4 @@ pub mod Stored
 pub mod Planned
 pub mod MemPlan
 pub mod SinkPlan
+pub mod Drafts

@@ -1,4 +1,6 @@
-ghost use Rattle.std.specs.Prelude.{◌≤◌, ◌<◌, length, IfSome};
+ghost use Rattle.std.specs.Prelude.{◌≡◌, ◌≤◌, ◌<◌, length, None, IfOk, IfSome, OnErr, OnOk};
+ghost use Rattle.std.specs.Path.{path_buf_bytes};
+ghost use Rattle.jx_outside.specs.Drafts.{IsBeside, IsDraftFor, IsLed};
 
 use crate::Refused;
 use std::fs::{File, OpenFile, OpenOptions, Permissions};
@@ -22,7 +24,7 @@ struct Draft {
 /// The file of the system that is made: a draft beside its name until it is finished, or that
 /// which stands under the name where it is no plain file.
 #[derive(Drop)]
-pub struct Output<F: Drop> {
+pub(crate) struct Output<F: Drop> {
     file: F,
     draft: Option<Draft>,
 }
@@ -36,7 +38,9 @@ fn refused(error: io::Error) -> Refused {
 }
 
 /// Where the links end that stand under a name. Nothing need be there.
-fn followed<R: Disk + AllocGlobal>(rt: &R, name: &str) -> Result<PathBuf, Refused> {
+fn followed<R: Disk + AllocGlobal>(rt: &R, name: &str) -> Result<PathBuf, Refused>
+    ensures { IfOk result (λ path. IsLed name.now (path_buf_bytes path)) }
+{
     let mut path = PathBuf::from_str(rt.alloc(), name)?;
     for _ in 0..MOST_LINKS {
         match fs::read_link(rt, path.as_path()) {
@@ -54,7 +58,9 @@ fn followed<R: Disk + AllocGlobal>(rt: &R, name: &str) -> Result<PathBuf, Refuse
 }
 
 /// A new file beside this one, with its name.
-fn beside<R: Disk + AllocGlobal>(rt: &R, target: &PathBuf) -> Result<(PathBuf, R::File), Refused> {
+fn beside<R: Disk + AllocGlobal>(rt: &R, target: &PathBuf) -> Result<(PathBuf, R::File), Refused>
+    ensures { IfOk result (λ made. IsBeside (path_buf_bytes made.0) (path_buf_bytes target.now)) }
+{
     for number in 0..MOST_DRAFTS {
         let text = format!(in rt.alloc(); ".jx-{number}.tmp")?;
         let name = target.with_file_name(rt.alloc(), text.as_str())?;
@@ -72,7 +78,9 @@ fn begin_draft<R: Disk + AllocGlobal>(
     rt: &R,
     name: &str,
     permissions: Option<Permissions>,
-) -> Result<Output<R::File>, Refused> {
+) -> Result<Output<R::File>, Refused>
+    ensures { IfOk result (λ output. IfSome output.draft (λ draft. IsDraftFor name.now (path_buf_bytes draft.name) (path_buf_bytes draft.target))) }
+{
     let target = followed(rt, name)?;
     if target.file_name().is_none() || target.as_str().ends_with('/') {
         return Err(Refused::Failed);
@@ -95,7 +103,9 @@ fn over<R: Disk + AllocGlobal>(
     rt: &R,
     name: &str,
     file: R::File,
-) -> Result<Output<R::File>, Refused> {
+) -> Result<Output<R::File>, Refused>
+    ensures { IfOk result (λ output. IfSome output.draft (λ draft. IsDraftFor name.now (path_buf_bytes draft.name) (path_buf_bytes draft.target))) }
+{
     match file.metadata() {
         Err(error) => Err(refused(error)),
         Ok(there) if there.is_file() => begin_draft(rt, name, Some(there.permissions())),
@@ -104,8 +114,11 @@ fn over<R: Disk + AllocGlobal>(
 }
 
 /// Begins a file of this name. A plain file that is there stays as it is until `finish`. What is
-/// there and is no plain file is written from now on.
-pub fn begin<R: Disk + AllocGlobal>(rt: &R, name: &str) -> Result<Output<R::File>, Refused> {
+/// there and is no plain file is written from now on. A draft stands under a name of its own, in
+/// the folder of the file that the name stands for, which it is to replace.
+pub(crate) fn begin<R: Disk + AllocGlobal>(rt: &R, name: &str) -> Result<Output<R::File>, Refused>
+    ensures { IfOk result (λ output. IfSome output.draft (λ draft. IsDraftFor name.now (path_buf_bytes draft.name) (path_buf_bytes draft.target))) }
+{
     match OpenOptions::new().write(true).open(rt, name) {
         Ok(file) => over(rt, name, file),
         Err(error) if error.kind() == io::ErrorKind::NotFound => begin_draft(rt, name, None),
@@ -116,7 +129,7 @@ pub fn begin<R: Disk + AllocGlobal>(rt: &R, name: &str) -> Result<Output<R::File
 impl<F: Write + OpenFile + Drop> Output<F> {
     /// Appends the first of these bytes: how many, at least one where there is one; or none where it
     /// took nothing of them.
-    pub fn write(&mut self, from: &[u8]) -> Option<usize>
+    pub(crate) fn write(&mut self, from: &[u8]) -> Option<usize>
         ensures room { IfSome result (λ n. n ≤ length from.now) }
         ensures some { IfSome result (λ n. 0 < length from.now → 0 < n) }
     {
@@ -128,8 +141,12 @@ impl<F: Write + OpenFile + Drop> Output<F> {
         None
     }
 
-    /// Brings the file to its disk; a draft then takes its name, in place of what had it.
-    pub fn finish<R: Disk>(&mut self, rt: &R) -> io::Result<()> {
+    /// Brings the file to its disk; a draft then takes its name, in place of what had it, and is a
+    /// draft no longer. After a failure all is as before.
+    pub(crate) fn finish<R: Disk>(&mut self, rt: &R) -> io::Result<()>
+        ensures ok { OnOk result (self.new ≡ record self.old { draft = None }) }
+        ensures err { OnErr result (self.new ≡ self.old) }
+    {
         self.bring()?;
         if let Some(draft) = &self.draft {
             fs::rename(rt, draft.name.as_path(), draft.target.as_path())?;
@@ -148,10 +165,11 @@ impl<F: Write + OpenFile + Drop> Output<F> {
         }
     }
 
-    /// Removes a draft that has no name yet.
-    pub fn discard<R: Disk>(self, rt: &R) {
-        let Output { file: _, draft } = self;
-        if let Some(draft) = draft {
+    /// Removes a draft that hasn't taken its name yet. None is left then.
+    pub(crate) fn discard<R: Disk>(&mut self, rt: &R)
+        ensures { self.new ≡ record self.old { draft = None } }
+    {
+        if let Some(draft) = self.draft.take() {
             let _ = fs::remove_file(rt, draft.name.as_path());
         }
     }

@@ -30,7 +30,7 @@ impl<R: Disk + AllocGlobal + Drop> Drop for StdFiles<R> {
             read_faults: _,
             write_faults: _,
         } = self;
-        if let Some(output) = making {
+        if let Some(mut output) = making {
             output.discard(&rt);
         }
     }
@@ -107,7 +107,7 @@ impl<R: Disk + AllocGlobal + Drop> Files for StdFiles<R> {
     fn create(&mut self, name: &str) -> Result<(), Refused> {
         match begin(&self.rt, name) {
             Ok(output) => {
-                if let Some(older) = self.making.replace(output) {
+                if let Some(mut older) = self.making.replace(output) {
                     older.discard(&self.rt);
                 }
                 Ok(())
