@@ -1,8 +1,7 @@
 -- The blocks of a tile stand at their numbers.
-use Rattle.std.proofs.Common.{◌≡◌, ℕ, zero, suc, ◌+◌, ◌≤◌, ◌<◌, List, [], ◌∷◌, ◌++◌, length, Some, inl, inr, ◌∙◌, ap, sym, subst, refl, arith, length-append, append-nil}
+use Rattle.std.proofs.Common.{◌≡◌, ℕ, zero, suc, ◌+◌, ◌≤◌, ◌<◌, List, ◌++◌, length, Some, inl, inr, ◌∙◌, ap, sym, subst, refl, arith, length-append, append-nil}
 use Rattle.std.specs.List.{slice_get, flat_map}
 use Rattle.std.proofs.lemmas.Bool.{cases_lt}
-use Rattle.std.proofs.lemmas.Bool.Decides.{nat_tests}
 use Rattle.jx_base.specs.declared.names.Band.{Band}
 use Rattle.jx_base.specs.declared.names.Band.TheVariants.{LL, HL, LH, HH}
 use Rattle.jx_base.specs.declared.names.BlockName.{BlockName}
@@ -16,6 +15,7 @@ use Rattle.jx_geom.specs.Geometry.{Geometry, GeometryInRange, HasBlock, shape_of
 use Rattle.jx_geom.specs.Numbering.{number_in_tile, number_in_component, geometry_of, blocks_below, block_number}
 use Rattle.jx_geom.specs.Ranges.{HasBand}
 use Rattle.jx_geom.proofs.CountLemmas.{resolution_low, resolution_high, band_within}
+use Rattle.jx_geom.proofs.LeafLemmas.{bands_low, bands_high}
 use Rattle.jx_geom.proofs.NumberLemmas.{number_in_tile_below, block_number_taken}
 use Rattle.jx_stream.specs.declared.Stream.{Stream}
 use Rattle.jx_gather.specs.Blocks.{Found, block_of, one_block, band_blocks, resolution_blocks, component_blocks, tile_blocks}
@@ -23,14 +23,6 @@ use Rattle.jx_base.specs.Joined.{joined, sum_below}
 use Rattle.jx_base.proofs.Sums.{sum_below_more, sum_once, front_sum, whole_sum}
 use Rattle.jx_base.proofs.Lists.{get_left, get_right}
 use Rattle.jx_base.proofs.Joined.{joined_length, joined_at}
-use Rattle.jx_base.specs.Bands.{bands_at}
-
--- the bands of a resolution
-pub bands_low : (r : ℕ) → r ≡ 0 → bands_at r ≡ LL ∷ []
-bands_low r e = grind (arith, nat_tests)
-
-pub bands_high : (r : ℕ) → 0 < r → bands_at r ≡ HL ∷ LH ∷ HH ∷ []
-bands_high r some = grind (arith, nat_tests)
 
 abbrev named : Geometry → ℕ → ℕ → Band → ℕ → BlockName
 named g c r b i = record { tile = g.tile; comp = c; res = r; band = b; index = i }

@@ -8,7 +8,7 @@ use Rattle.jx_base.specs.Joined.{joined}
 use Rattle.jx_base.proofs.Lists.{push_on}
 use Rattle.jx_tagtree.specs.declared.BitFault.{BitFault}
 use Rattle.jx_tagtree.specs.Header.{bits_of, end_after, Reading, start_of}
-use Rattle.jx_geom.specs.Geometry.{Geometry}
+use Rattle.jx_geom.specs.Geometry.{Geometry, GeometryInRange}
 use Rattle.jx_head.specs.declared.Part.{Part}
 use Rattle.jx_head.specs.declared.HeadFault.{HeadFault}
 use Rattle.jx_head.specs.declared.HeadFault.TheVariants as head
@@ -17,8 +17,9 @@ use Rattle.jx_head.specs.Kept.{AreBands}
 use Rattle.jx_head.specs.Frame.{frame}
 use Rattle.jx_head.specs.Scan.{HeaderRead, scan_header}
 use Rattle.jx_head.proofs.PacketLemmas.{HeaderGo, header_read, header_over, header_breaks, packet_none, packet_ok, end_cause, WasRead}
+use Rattle.jx_marker.specs.declared.Progression.{Progression}
 use Rattle.jx_order.specs.declared.names.PacketName.{PacketName}
-use Rattle.jx_order.specs.Packets.{HasUncovered}
+use Rattle.jx_order.specs.Packets.{HasUncovered, IsOrder}
 use Rattle.jx_stream.specs.declared.Body.{Body}
 use Rattle.jx_stream.specs.declared.Stream.{Stream}
 use Rattle.jx_stream.specs.First.{tile_number}
@@ -31,7 +32,7 @@ use Rattle.jx_gather.specs.Data.{window, due, behind, end_of_data, sop_fault, he
 use Rattle.jx_gather.specs.Cuts.{Cut, Left, IsCut, BreaksHeader, Breaks, IsTurn, AreCuts, names_of, number_of, Stops}
 use Rattle.jx_gather.specs.Blocks.{founds_of, tile_blocks}
 use Rattle.jx_gather.specs.Gathered.{IsListOf, IsWhole, IsCutUp, AreTileBlocks, BreaksTile, start}
-use Rattle.jx_gather.specs.Either.{HasList, HasBlocks, HasFault}
+use Rattle.jx_gather.specs.Either.{HasBlocks, HasFault}
 use Rattle.jx_stream.specs.InRange.{StreamInRange}
 use Rattle.jx_stream.proofs.RangeLemmas.{read_in_range}
 use Rattle.jx_gather.proofs.ListLemmas.{few_components}
@@ -40,6 +41,7 @@ use Rattle.jx_gather.proofs.TileLemmas.{cuts_on}
 use Rattle.jx_gather.proofs.TurnLemmas.{Precincts, Keeps, Listed, Known, listed, known_there, has_precinct, due_named}
 use Rattle.jx_gather.proofs.OnceLemmas.{Ready}
 use Rattle.jx_gather.proofs.ReadyLemmas.{ready}
+use Rattle.jx_gather.proofs.TotalLemmas.{geometry_fits}
 use Rattle.jx_gather.proofs.CoverEither.{search_first, cover_or}
 
 -- ---- a header
@@ -193,7 +195,7 @@ tile_from b s t list (p ∷ rest) cuts left r e are =
     let k : Known s g layers (names_of cuts) left.states p.comp p.res p.precinct =
     all p.comp p.res p.precinct (has_precinct g layers p (due_named g layers list (names_of cuts) rest p r.listed e)) in
     let count : 0 + length cuts ≡ length cuts = omega arith in
-    elim (turn_by b g (end_of_data (tile_at s t).bodies) (0 + length cuts) left p rest k.state k.is.bands k.known (due left.bodies) refl) [
+    elim (turn_by b g (end_of_data (tile_at s t).bodies) (0 + length cuts) left p rest k.state k.is.bands k.turned.known (due left.bodies) refl) [
       | inl turn ↦
           let c : Cut = turn.0 in
           let next : list ≡ names_of (cuts ++ c ∷ []) ++ rest =
@@ -239,6 +241,9 @@ tiles_or b s (suc n) each = elim (tiles_or b s n (λ t lt. each t (omega arith))
 ]
 
 -- ---- a codestream
+abbrev HasList : Stream → ℕ → Type 0
+HasList s t = (list : List PacketName) × IsListOf s t list
+
 abbrev DataOr : List ℕ → Stream → Type 0
 DataOr b s = HasBlocks b s ⊎ HasFault b s
 
@@ -296,9 +301,21 @@ cover_first b s r range none lists =
       )
     ]
 
-totals_by : (b : List ℕ) (s : Stream) (o : Option StreamFault) → totals_fault s ≡ o → IsRead b s → length b ≤ 2 ^ 28 → ((t : ℕ) → t < tile_number s.siz → HasList s t) → DataOr b s
-totals_by b s (Some f) e read few lists = inr (f, inl e)
-totals_by b s None e read few lists = cover_first b s (ready b s read few e) (read_in_range b s read) e lists
+-- what is cited of jx_order
+pub record OrdersExist : Type 0 where
+  pub exist : (g : Geometry) (layers : ℕ) (entries : List Progression) (n : ℕ) → GeometryInRange g → (list : List PacketName) × IsOrder g layers entries n list
 
-pub one_of_both : (b : List ℕ) (s : Stream) → IsRead b s → length b ≤ 2 ^ 28 → ((t : ℕ) → t < tile_number s.siz → HasList s t) → HasBlocks b s ⊎ HasFault b s
-one_of_both b s read few lists = totals_by b s (totals_fault s) refl read few lists
+-- so each tile has a list of its packets
+lists : OrdersExist → (s : Stream) (t : ℕ) → StreamInRange s → totals_fault s ≡ None → t < tile_number s.siz → HasList s t
+lists orders s t range none inside =
+    let entries : List Progression = (tile_at s t).progressions in
+    orders.exist (geometry s t) (layers_of s t) entries (length entries) (geometry_fits s t range none inside)
+
+totals_by : OrdersExist → (b : List ℕ) (s : Stream) (o : Option StreamFault) → totals_fault s ≡ o → IsRead b s → length b < 2 ^ 64 → DataOr b s
+totals_by orders b s (Some f) e read few = inr (f, inl e)
+totals_by orders b s None e read few =
+    let range : StreamInRange s = read_in_range b s read in
+    cover_first b s (ready b s read few e) range e (λ t inside. lists orders s t range e inside)
+
+pub one_of_both : OrdersExist → (b : List ℕ) (s : Stream) → IsRead b s → length b < 2 ^ 64 → HasBlocks b s ⊎ HasFault b s
+one_of_both orders b s read few = totals_by orders b s (totals_fault s) refl read few

@@ -1,5 +1,5 @@
 -- A codestream whose packets carry the pieces of given blocks is gathered with just these blocks.
-use Rattle.std.proofs.Common.{◌≡◌, ℕ, ◌+◌, ◌<◌, ◌≤◌, ◌^◌, List, [], ◌∷◌, length, map, refl, sym, ap, ◌∙◌, subst, arith, Some, None, Option, All}
+use Rattle.std.proofs.Common.{◌≡◌, ℕ, ◌+◌, ◌<◌, ◌≤◌, List, [], ◌∷◌, length, map, refl, sym, ap, ◌∙◌, subst, arith, Some, None, Option, All}
 use Rattle.std.specs.Prelude.{slice_get}
 use Rattle.std.specs.List.{AllByRecursion}
 use Rattle.std.proofs.lemmas.List.Elements.{recursion_from_All}
@@ -159,11 +159,11 @@ blocks_kept s blocks packets groups are sound kept =
     found_kept s n blocks (packets n.tile) (packets_in (groups n.tile)) (slice_get blocks number) (kept n.tile is.0) is.1 refl (are.each n is) (λ d found. sound_at blocks number d sound found) in
     subst (λ (m : ℕ). slice_get laid m ≡ slice_get blocks m) same (told ∙ given)))
 
-pub carried_gathered : (b : List ℕ) (s : Stream) (blocks : List Block) (packets : ℕ → Packets) (groups : ℕ → List (List PacketName)) → IsRead b s → length b ≤ 2 ^ 28 → totals_fault s ≡ None
+pub carried_gathered : (b : List ℕ) (s : Stream) (blocks : List Block) (packets : ℕ → Packets) (groups : ℕ → List (List PacketName)) → IsRead b s → totals_fault s ≡ None
     → AreBlocksOf s blocks → All IsSound blocks
     → ((t : ℕ) → t < tile_number s.siz → IsWhole s t) → ((t : ℕ) → t < tile_number s.siz → IsLaid b s t (packets t) (groups t)) → ((t : ℕ) → t < tile_number s.siz → AllCarry s t blocks (packets t))
     → IsGathered b s blocks
-carried_gathered b s blocks packets groups read few none are sound whole laid carry =
+carried_gathered b s blocks packets groups read none are sound whole laid carry =
     let range : StreamInRange s = read_in_range b s read in
     let kept : (t : ℕ) → t < tile_number s.siz → Kept s t blocks (packets t) (packets_in (groups t)) = λ t inside. (record {
       joins = record {
@@ -174,4 +174,4 @@ carried_gathered b s blocks packets groups read few none are sound whole laid ca
       };
       carry = carry t inside;
     }) in
-    subst (IsGathered b s) (blocks_kept s blocks packets groups are sound kept) (laid_gathered b s packets groups read few none whole laid)
+    subst (IsGathered b s) (blocks_kept s blocks packets groups are sound kept) (laid_gathered b s packets groups read none whole laid)

@@ -1,10 +1,8 @@
 -- Packets that were written one after another are cut off as they were written, in whatever order and tile-parts they stand.
-use Rattle.std.proofs.Common.{◌≡◌, ℕ, suc, ◌+◌, ◌-◌, ◌<◌, ◌≤◌, ◌==◌, Bool, true, false, List, [], ◌∷◌, ◌++◌, length, take, drop, set, refl, sym, ap, ◌∙◌, subst, cond, arith, Some, inl, inr, append_assoc, length-append}
+use Rattle.std.proofs.Common.{◌≡◌, ℕ, suc, ◌+◌, ◌-◌, ◌<◌, ◌≤◌, ◌==◌, Bool, true, false, List, [], ◌∷◌, ◌++◌, length, take, drop, set, refl, sym, ap, ◌∙◌, subst, cond, arith, Some, append_assoc, length-append}
 use Rattle.std.specs.Prelude.{slice_get}
-use Rattle.std.proofs.lemmas.Bool.{cases_eq}
 use Rattle.std.proofs.lemmas.Bool.Decides.{nat_tests}
 use Rattle.std.proofs.lemmas.List.{drop-drop, drop-take}
-use Rattle.std.proofs.lemmas.Option.{slice_get_within}
 use Rattle.std.proofs.Math.Seq.{drop-append_seam}
 use Rattle.jx_geom.specs.Geometry.{Geometry}
 use Rattle.jx_head.specs.Packet.{State}
@@ -15,14 +13,14 @@ use Rattle.jx_stream.specs.declared.Body.{Body}
 use Rattle.jx_stream.specs.declared.Stream.{Stream}
 use Rattle.jx_stream.specs.Shapes.{geometry, layers_of, tile_at}
 use Rattle.jx_gather.specs.Cells.{fresh_precinct}
-use Rattle.jx_geom.specs.Precincts.{HasPrecinct, precinct_number}
+use Rattle.jx_geom.specs.Precincts.{HasPrecinct}
 use Rattle.jx_gather.specs.Data.{window, due, behind, begins_with}
 use Rattle.jx_gather.specs.Cuts.{Cut, Left, IsCut, IsTurn, AreCuts, names_of, number_of}
 use Rattle.jx_gather.specs.Gathered.{IsCutUp, IsListOf, start}
 use Rattle.jx_gather.specs.Written.{Written, Packets, packet_bytes, sop_bytes, eph_bytes, next_layer, IsWritten, AreWritten, bytes_from, AreFilled, IsLaid, cut_at, cuts_at, packets_in}
 use Rattle.jx_gather.proofs.FrontLemmas.{StartsClear, header_starts, header_no_mark, cut_stands, packet_size, packet_some}
-use Rattle.jx_gather.proofs.TurnLemmas.{Precincts, Keeps, Listed, Known, AllKnown, start_known, has_precinct, due_named, layer_is, layer_after, turn_known}
-use Rattle.jx_base.proofs.Lists.{some_same, push_on, get-set_same, get-set_other}
+use Rattle.jx_gather.proofs.TurnLemmas.{Precincts, Listed, Turned, start_turned, own_turned, other_turned, each_precinct, has_precinct, due_named, layer_is, layer_after}
+use Rattle.jx_base.proofs.Lists.{push_on}
 
 -- ---- bytes
 -- what follows a packet is no EPH
@@ -58,26 +56,25 @@ due_some : (body : Body) (bodies : List Body) → 0 < body.length → due (body 
 due_some body bodies h = let test : (body.length == 0) ≡ false = grind (arith, nat_tests) in ap (λ (c : Bool). cond c (due bodies) (body ∷ bodies)) test
 
 -- ---- the state of a precinct is that which its own packets lead to
-record Held (g : Geometry) (ps : Packets) (states : List State) (c r k : ℕ) : Type 0 where
+record Held (g : Geometry) (ps : Packets) (layers : ℕ) (done : List PacketName) (states : List State) (c r k : ℕ) : Type 0 where
   pub state : State
-  pub known : slice_get states (precinct_number g c r k) ≡ Some state
+  pub turned : Turned g layers done states c r k state
   pub led : state ≡ ps.before (name_of state.layer r c k)
 
-record Stands (s : Stream) (t : ℕ) (ps : Packets) (done : List PacketName) (states : List State) : Type 0 where
-  pub known : AllKnown s (geometry s t) (layers_of s t) done states
-  pub held : (c r k : ℕ) → HasPrecinct (geometry s t) c r k → Held (geometry s t) ps states c r k
+abbrev Stands : Stream → ℕ → Packets → List PacketName → List State → Type 0
+Stands s t ps done states = (c r k : ℕ) → HasPrecinct (geometry s t) c r k → Held (geometry s t) ps (layers_of s t) done states c r k
 
 -- what a tile is laid out by
-record Layed (b : List ℕ) (s : Stream) (t : ℕ) (ps : Packets) (list : List PacketName) : Type 0 where
+record Layed (s : Stream) (t : ℕ) (ps : Packets) (list : List PacketName) : Type 0 where
   pub places : Precincts s (geometry s t)
-  pub keeps : Keeps b
   pub listed : Listed (geometry s t) (layers_of s t) list
   pub written : AreWritten s t ps
 
-start_stands : (b : List ℕ) (s : Stream) (t : ℕ) (ps : Packets) (list : List PacketName) → Layed b s t ps list → Stands s t ps [] (start s t).states
-start_stands b s t ps list l = record {
-  known = start_known s t (layers_of s t) l.places;
-  held = λ c r k has. record { state = fresh_precinct s (geometry s t) c r k; known = l.places.there c r k has; led = sym (l.written.first c r k has) };
+start_stands : (s : Stream) (t : ℕ) (ps : Packets) (list : List PacketName) → Layed s t ps list → Stands s t ps [] (start s t).states
+start_stands s t ps list l c r k has = record {
+  state = fresh_precinct s (geometry s t) c r k;
+  turned = start_turned s t (layers_of s t) c r k l.places has;
+  led = sym (l.written.first c r k has);
 }
 
 -- the packet that is due
@@ -88,23 +85,21 @@ record Due (s : Stream) (t : ℕ) (ps : Packets) (states : List State) (p : Pack
   pub known : slice_get states (number_of (geometry s t) p) ≡ Some (ps.before p)
   pub layer : (ps.before p).layer ≡ p.layer
 
-due_is : (b : List ℕ) (s : Stream) (t : ℕ) (ps : Packets) (list done rest : List PacketName) (p : PacketName) (states : List State) → Layed b s t ps list → list ≡ done ++ (p ∷ rest)
+due_is : (s : Stream) (t : ℕ) (ps : Packets) (list done rest : List PacketName) (p : PacketName) (states : List State) → Layed s t ps list → list ≡ done ++ (p ∷ rest)
     → Stands s t ps done states → Due s t ps states p
-due_is b s t ps list done rest p states l e st =
+due_is s t ps list done rest p states l e st =
     let g : Geometry = geometry s t in
     let layers : ℕ = layers_of s t in
     let named : IsNamed g layers p = due_named g layers list done rest p l.listed e in
     let own : HasPrecinct g p.comp p.res p.precinct = has_precinct g layers p named in
-    let k : Known s g layers done states p.comp p.res p.precinct = st.known p.comp p.res p.precinct own in
-    let h : Held g ps states p.comp p.res p.precinct = st.held p.comp p.res p.precinct own in
-    let same : h.state ≡ k.state = some_same h.state k.state (sym h.known ∙ k.known) in
-    let layer : h.state.layer ≡ p.layer = ap (λ (x : State). x.layer) same ∙ layer_is s g layers list done rest p states l.listed e k in
+    let h : Held g ps layers done states p.comp p.res p.precinct = st p.comp p.res p.precinct own in
+    let layer : h.state.layer ≡ p.layer = layer_is g layers list done rest p states h.state l.listed e h.turned in
     let state : h.state ≡ ps.before p = h.led ∙ ap (λ (n : ℕ). ps.before (name_of n p.res p.comp p.precinct)) layer in
     record {
       named = named;
       own = own;
       is = l.written.each p named;
-      known = h.known ∙ ap (λ (x : State). Some x) state;
+      known = h.turned.known ∙ ap (λ (x : State). Some x) state;
       layer = sym (ap (λ (x : State). x.layer) state) ∙ layer;
     }
 
@@ -126,39 +121,35 @@ turn_made b s t ps p number old body later rest d first is none = record {
   new_is = refl;
 }
 
-own_held : (s : Stream) (t : ℕ) (ps : Packets) (p : PacketName) (states : List State) → Due s t ps states p
-    → Held (geometry s t) ps (set states (number_of (geometry s t) p) (ps.before (next_layer p))) p.comp p.res p.precinct
-own_held s t ps p states d =
+-- and what stands afterwards
+own_held : (b : List ℕ) (s : Stream) (t : ℕ) (ps : Packets) (list done rest : List PacketName) (p : PacketName) (number : ℕ) (old new : Left) → Layed s t ps list → list ≡ done ++ (p ∷ rest)
+    → Stands s t ps done old.states → Due s t ps old.states p → IsTurn b (geometry s t) number old (cut_at ps p) new
+    → Held (geometry s t) ps (layers_of s t) (done ++ p ∷ []) new.states p.comp p.res p.precinct
+own_held b s t ps list done rest p number old new l e st d turn =
     let g : Geometry = geometry s t in
+    let layers : ℕ = layers_of s t in
+    let was : Held g ps layers done old.states p.comp p.res p.precinct = st p.comp p.res p.precinct d.own in
     let after : State = ps.before (next_layer p) in
     let layer : after.layer ≡ (ps.before p).layer + 1 = layer_after ((ps.written p).header ++ []) (ps.before p) (ps.written p).parts (length (ps.written p).header) after (d.is.header []) in
-    let next : p.layer + 1 ≡ after.layer = (let was = d.layer in omega arith) in
+    let next : p.layer + 1 ≡ after.layer = (let at = d.layer in omega arith) in
     record {
       state = after;
-      known = get-set_same states (number_of g p) after (slice_get_within states (number_of g p) (ps.before p) d.known);
+      turned = own_turned b g layers list done rest number old (cut_at ps p) new was.state l.listed e was.turned turn;
       led = ap (λ (n : ℕ). ps.before (name_of n p.res p.comp p.precinct)) next;
     }
 
-all_held : (b : List ℕ) (s : Stream) (t : ℕ) (ps : Packets) (list done : List PacketName) (p : PacketName) (states : List State) → Layed b s t ps list → Stands s t ps done states → Due s t ps states p
-    → (c r k : ℕ) → HasPrecinct (geometry s t) c r k → Held (geometry s t) ps (set states (number_of (geometry s t) p) (ps.before (next_layer p))) c r k
-all_held b s t ps list done p states l st d c r k has =
+all_held : (b : List ℕ) (s : Stream) (t : ℕ) (ps : Packets) (list done rest : List PacketName) (p : PacketName) (number : ℕ) (old new : Left) → Layed s t ps list → list ≡ done ++ (p ∷ rest)
+    → Stands s t ps done old.states → Due s t ps old.states p → IsTurn b (geometry s t) number old (cut_at ps p) new → Stands s t ps (done ++ p ∷ []) new.states
+all_held b s t ps list done rest p number old new l e st d turn =
     let g : Geometry = geometry s t in
-    let new : List State = set states (number_of g p) (ps.before (next_layer p)) in
-    elim (cases_eq (number_of g p) (precinct_number g c r k)) [
-      | inl same ↦
-          let is = l.places.once p.comp p.res p.precinct c r k d.own has same in
-          let A : ℕ → Type 0 = λ x. Held g ps new x p.res p.precinct in
-          let B : ℕ → Type 0 = λ x. Held g ps new c x p.precinct in
-          let C : ℕ → Type 0 = λ x. Held g ps new c r x in
-          subst C is.2 (subst B is.1 (subst A is.0 (own_held s t ps p states d)))
-      | inr other ↦
-          let was : Held g ps states c r k = st.held c r k has in
-          record {
-            state = was.state;
-            known = get-set_other states (number_of g p) (precinct_number g c r k) (ps.before (next_layer p)) (λ (x : precinct_number g c r k ≡ number_of g p). other (sym x)) ∙ was.known;
-            led = was.led;
-          }
-    ]
+    let layers : ℕ = layers_of s t in
+    each_precinct s g layers p (λ c r k. Held g ps layers (done ++ p ∷ []) new.states c r k) l.places d.named
+    (own_held b s t ps list done rest p number old new l e st d turn)
+    (λ c r k has other. (let was = st c r k has in record {
+      state = was.state;
+      turned = other_turned b g layers done number old (cut_at ps p) new c r k was.state other turn was.turned;
+      led = was.led;
+    }))
 
 -- ---- packets one after another
 record Ends (b : List ℕ) (g : Geometry) (number : ℕ) (old : Left) (cuts : List Cut) : Type 0 where
@@ -175,7 +166,7 @@ fills_none : (b : List ℕ) (s : Stream) (t : ℕ) (ps : Packets) (list : List P
 fills_none b s t ps list number [] done old first filled e st = record { end = old; are = refl; none = first }
 fills_none b s t ps list number (body ∷ bodies) done old first filled e st = absurd filled
 
-fills_part : (b : List ℕ) (s : Stream) (t : ℕ) (ps : Packets) (list : List PacketName) (names : List PacketName) (groups : List (List PacketName)) → Layed b s t ps list → Fills b s t ps list groups
+fills_part : (b : List ℕ) (s : Stream) (t : ℕ) (ps : Packets) (list : List PacketName) (names : List PacketName) (groups : List (List PacketName)) → Layed s t ps list → Fills b s t ps list groups
     → Fills b s t ps list (names ∷ groups)
 fills_part b s t ps list names groups l again number [] done old first filled e st = absurd filled
 fills_part b s t ps list [] groups l again number (body ∷ bodies) done old first filled e st =
@@ -184,7 +175,7 @@ fills_part b s t ps list [] groups l again number (body ∷ bodies) done old fir
 fills_part b s t ps list (p ∷ names) groups l again number (body ∷ bodies) done old first filled e st =
     let g : Geometry = geometry s t in
     let later : List PacketName = names ++ packets_in groups in
-    let d : Due s t ps old.states p = due_is b s t ps list done later p old.states l e st in
+    let d : Due s t ps old.states p = due_is s t ps list done later p old.states l e st in
     let x : Written = ps.written p in
     let rest : List ℕ = bytes_from ps (number + 1) names in
     let count : ℕ = (cut_at ps p).count in
@@ -202,16 +193,13 @@ fills_part b s t ps list (p ∷ names) groups l again number (body ∷ bodies) d
     subst (λ (n : ℕ). window b (behind body n) ≡ rest) size (window_behind b body (packet_bytes number x) rest filled.0 (omega arith)) in
     let short : body.length - count ≡ length rest = omega arith in
     let same : number + suc (length names) ≡ number + 1 + length names = omega arith in
-    let still : Stands s t ps (done ++ p ∷ []) next.states = record {
-      known = turn_known b s g (layers_of s t) list done later number old (cut_at ps p) next l.places l.keeps l.listed e st.known turn;
-      held = all_held b s t ps list done p old.states l st d;
-    } in
+    let still : Stands s t ps (done ++ p ∷ []) next.states = all_held b s t ps list done later p number old next l e st d turn in
     let end : Ends b g (number + 1) next (cuts_at ps later) =
     fills_part b s t ps list names groups l again (number + 1) (behind body count ∷ bodies) (done ++ p ∷ []) next refl
     (left, short, subst (λ (n : ℕ). AreFilled b ps n bodies groups) same filled.2) on still in
     record { end = end.end; are = (next, turn, end.are); none = end.none }
 
-fills : (b : List ℕ) (s : Stream) (t : ℕ) (ps : Packets) (list : List PacketName) (groups : List (List PacketName)) → Layed b s t ps list → Fills b s t ps list groups
+fills : (b : List ℕ) (s : Stream) (t : ℕ) (ps : Packets) (list : List PacketName) (groups : List (List PacketName)) → Layed s t ps list → Fills b s t ps list groups
 fills b s t ps list [] l = fills_none b s t ps list
 fills b s t ps list (names ∷ groups) l = fills_part b s t ps list names groups l (fills b s t ps list groups l)
 
@@ -220,11 +208,11 @@ pub names_at : (ps : Packets) (list : List PacketName) → names_of (cuts_at ps 
 names_at ps [] = refl
 names_at ps (p ∷ list) = ap (λ (xs : List PacketName). p ∷ xs) (names_at ps list)
 
-pub cut_up : (b : List ℕ) (s : Stream) (t : ℕ) (ps : Packets) (groups : List (List PacketName)) → Precincts s (geometry s t) → Keeps b
+pub cut_up : (b : List ℕ) (s : Stream) (t : ℕ) (ps : Packets) (groups : List (List PacketName)) → Precincts s (geometry s t)
     → Listed (geometry s t) (layers_of s t) (packets_in groups) → IsLaid b s t ps groups → IsCutUp b s t (cuts_at ps (packets_in groups))
-cut_up b s t ps groups places keeps listed laid =
-    let l : Layed b s t ps (packets_in groups) = record { places = places; keeps = keeps; listed = listed; written = laid.written } in
-    let ends = fills b s t ps (packets_in groups) groups l 0 (tile_at s t).bodies [] (start s t) refl laid.filled refl (start_stands b s t ps (packets_in groups) l) in
+cut_up b s t ps groups places listed laid =
+    let l : Layed s t ps (packets_in groups) = record { places = places; listed = listed; written = laid.written } in
+    let ends = fills b s t ps (packets_in groups) groups l 0 (tile_at s t).bodies [] (start s t) refl laid.filled refl (start_stands s t ps (packets_in groups) l) in
     record {
       order = subst (IsListOf s t) (sym (names_at ps (packets_in groups))) laid.order;
       end = ends.end;

@@ -18,7 +18,8 @@ use Rattle.jx_gather.specs.Cells.{sizes_of, precinct_bands, fresh_precinct}
 use Rattle.jx_geom.specs.Precincts.{cells_at}
 use Rattle.jx_stream.specs.InRange.{StreamInRange}
 use Rattle.jx_stream.specs.Shapes.{geometry, shapes_of, shapes_in, style_of}
-use Rattle.jx_gather.proofs.BlockLemmas.{bands_low, bands_high, blocks_low, blocks_high}
+use Rattle.jx_geom.proofs.LeafLemmas.{bands_low, bands_high}
+use Rattle.jx_gather.proofs.BlockLemmas.{blocks_low, blocks_high}
 use Rattle.jx_gather.proofs.CellLemmas.{bands_of}
 
 -- a tile has as many components as the picture

@@ -271,7 +271,7 @@ sure_rest : (s : Stream) (g : Geometry) (layers : ℕ) (list done rest : List Pa
 sure_rest s g layers list done [] left h e all = tt
 sure_rest s g layers list done (p ∷ rest) left h e all = λ state found.
     let k = all p.comp p.res p.precinct (has_precinct g layers p (due_named g layers list done rest p h e)) in
-    let same : k.state ≡ state = some_same k.state state (sym k.known ∙ found) in
+    let same : k.state ≡ state = some_same k.state state (sym k.turned.known ∙ found) in
     let I : State → Type 0 = λ x. IsState x in
     subst I same k.is
 

@@ -1,5 +1,5 @@
 -- A codestream whose packets are written from blocks is gathered with these blocks.
-use Rattle.std.proofs.Common.{◌≡◌, ℕ, ◌<◌, ◌≤◌, ◌^◌, List, None, All, length}
+use Rattle.std.proofs.Common.{◌≡◌, ℕ, ◌<◌, List, None, All}
 use Rattle.jx_base.specs.declared.pieces.Block.{Block}
 use Rattle.jx_base.specs.Sound.{IsSound}
 use Rattle.jx_order.specs.declared.names.PacketName.{PacketName}
@@ -22,10 +22,10 @@ pub planned_written : (b : List ℕ) (s : Stream) (t : ℕ) (blocks : List Block
 planned_written b s t blocks ps read none inside are sound planned =
     planned_laid b s t blocks ps read none inside sound (λ c r k has. blocks_fit b s t blocks c r k read none inside are sound has) planned
 
-pub planned_gathered : (b : List ℕ) (s : Stream) (blocks : List Block) (packets : ℕ → Packets) (groups : ℕ → List (List PacketName)) → IsRead b s → length b ≤ 2 ^ 28 → totals_fault s ≡ None
+pub planned_gathered : (b : List ℕ) (s : Stream) (blocks : List Block) (packets : ℕ → Packets) (groups : ℕ → List (List PacketName)) → IsRead b s → totals_fault s ≡ None
     → AreBlocksOf s blocks → All IsSound blocks → ((t : ℕ) → t < tile_number s.siz → IsWhole s t) → ((t : ℕ) → t < tile_number s.siz → IsListOf s t (packets_in (groups t)))
     → ((t : ℕ) → t < tile_number s.siz → AreFilled b (packets t) 0 (tile_at s t).bodies (groups t)) → ((t : ℕ) → t < tile_number s.siz → ArePlanned s t blocks (packets t)) → IsGathered b s blocks
-planned_gathered b s blocks packets groups read few none are sound whole order filled planned =
-    carried_gathered b s blocks packets groups read few none are sound whole
+planned_gathered b s blocks packets groups read none are sound whole order filled planned =
+    carried_gathered b s blocks packets groups read none are sound whole
     (λ t inside. (record { order = order t inside; written = (planned_written b s t blocks (packets t) read none inside are sound (planned t inside)).0; filled = filled t inside }))
     (λ t inside. (planned_written b s t blocks (packets t) read none inside are sound (planned t inside)).1)

@@ -1,5 +1,5 @@
 -- A stream that was read, within the limits 5 and 6, is ready: its precincts are told apart, and headers keep their states.
-use Rattle.std.proofs.Common.{◌≡◌, ℕ, ◌<◌, ◌≤◌, ◌^◌, List, None, refl, arith, length}
+use Rattle.std.proofs.Common.{◌≡◌, ℕ, ◌<◌, ◌^◌, List, None, refl, arith, length}
 use Rattle.jx_base.specs.declared.pieces.Block.{Block}
 use Rattle.jx_geom.specs.Geometry.{GeometryInRange}
 use Rattle.jx_stream.specs.declared.Stream.{Stream}
@@ -21,7 +21,7 @@ use Rattle.jx_gather.proofs.PartLemmas.{packet_kept, state_kept}
 use Rattle.jx_gather.proofs.TurnLemmas.{Precincts, Keeps}
 use Rattle.jx_gather.proofs.OnceLemmas as once
 
-pub keeps : (b : List ℕ) → length b ≤ 2 ^ 28 → Keeps b
+pub keeps : (b : List ℕ) → length b < 2 ^ 64 → Keeps b
 keeps b few = record {
   kept = λ h k parts used after short is p.
       (let same = packet_kept h k parts used after p in
@@ -37,20 +37,20 @@ precincts s t range none inside =
       states = λ c r k has. fresh_is_state s (geometry s t) c r k range g inside refl has;
     }
 
-pub ready : (b : List ℕ) (s : Stream) → IsRead b s → length b ≤ 2 ^ 28 → totals_fault s ≡ None → once.Ready b s
+pub ready : (b : List ℕ) (s : Stream) → IsRead b s → length b < 2 ^ 64 → totals_fault s ≡ None → once.Ready b s
 ready b s read few none = record {
   keeps = keeps b few;
   places = λ t inside. precincts s t (read_in_range b s read) none inside;
 }
 
 -- tile data have one reading
-pub one_gathering : (b : List ℕ) (s : Stream) (xs ys : List Block) → IsRead b s → length b ≤ 2 ^ 28 → totals_fault s ≡ None → IsGathered b s xs → IsGathered b s ys → xs ≡ ys
+pub one_gathering : (b : List ℕ) (s : Stream) (xs ys : List Block) → IsRead b s → length b < 2 ^ 64 → totals_fault s ≡ None → IsGathered b s xs → IsGathered b s ys → xs ≡ ys
 one_gathering b s xs ys read few none x y = once.one_gathering b s xs ys (ready b s read few none) x y
 
-pub broken_once : (b : List ℕ) (s : Stream) (f h : StreamFault) → IsRead b s → length b ≤ 2 ^ 28 → IsBroken b s f → IsBroken b s h → f ≡ h
+pub broken_once : (b : List ℕ) (s : Stream) (f h : StreamFault) → IsRead b s → length b < 2 ^ 64 → IsBroken b s f → IsBroken b s h → f ≡ h
 broken_once b s f h read few x y = once.broken_once b s f h (ready b s read few) x y
 
-pub not_both : (b : List ℕ) (s : Stream) (blocks : List Block) (f : StreamFault) → IsRead b s → length b ≤ 2 ^ 28 → totals_fault s ≡ None
+pub not_both : (b : List ℕ) (s : Stream) (blocks : List Block) (f : StreamFault) → IsRead b s → length b < 2 ^ 64 → totals_fault s ≡ None
     → IsGathered b s blocks → IsBroken b s f → ⊥
 not_both b s blocks f read few none x y = once.not_both b s blocks f (ready b s read few none) none x y
 

@@ -124,13 +124,13 @@ pub record IsReady (g : Geometry) (states : List State) (n : ℕ) (p : PacketNam
 known_ready : (s : Stream) (g : Geometry) (layers : ℕ) (list done rest : List PacketName) (p : PacketName) (states : List State) → Listed g layers list → list ≡ done ++ (p ∷ rest)
     → Known s g layers done states p.comp p.res p.precinct → IsReady g states (number_of g p) p
 known_ready s g layers list done rest p states h e k =
-    let same : state_at states (number_of g p) ≡ k.state = get_or_from_slice_get states (number_of g p) k.state no_state k.known in
+    let same : state_at states (number_of g p) ≡ k.state = get_or_from_slice_get states (number_of g p) k.state no_state k.turned.known in
     let I : State → Type 0 = λ x. IsState x in
     record {
       precinct = has_precinct g layers p (due_named g layers list done rest p h e);
-      there = slice_get_within states (number_of g p) k.state k.known;
+      there = slice_get_within states (number_of g p) k.state k.turned.known;
       is = subst I (sym same) k.is;
-      layer = ap (λ (x : State). x.layer) same ∙ layer_is s g layers list done rest p states h e k;
+      layer = ap (λ (x : State). x.layer) same ∙ layer_is g layers list done rest p states k.state h e k.turned;
       leaves_are = ap (λ (x : State). length (all_blocks x.bands)) same ∙ k.blocks ∙ leaf_count s g p.comp p.res p.precinct;
     }
 
@@ -140,7 +140,7 @@ ready b s g list number left blocks d task lt front =
     let t : ℕ = g.tile in
     let p : PacketName = get_or list number d in
     let after : List PacketName = drop (number + 1) list in
-    let hold : Keeps b = keeps b task.fits in
+    let hold : Keeps b = keeps b (let few = task.fits in omega arith) in
     let places : Precincts s (geometry s t) = precincts s t task.range task.totals task.below in
     let h : Listed (geometry s t) (layers_of s t) list = listed s t list task.order task.whole in
     let e = rest_is list (names_of front.cuts) number d front.names lt in

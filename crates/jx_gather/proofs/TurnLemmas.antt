@@ -56,15 +56,25 @@ listed s t list order whole =
     (record { packet = is; entry = covered.0; below = covered.1; covers = covered.2 })) in
     record { every = λ p. (from p, to p); rise = order_rises (geometry s t) (layers_of s t) entries (length entries) list order }
 
--- ---- an item that is set
--- ---- what is known of a precinct, where these packets were read
+-- ---- the layer of a precinct, where these packets were read
+pub record Turned (g : Geometry) (layers : ℕ) (done : List PacketName) (states : List State) (c r k : ℕ) (state : State) : Type 0 where
+  pub known : slice_get states (precinct_number g c r k) ≡ Some state
+  pub layers_are : (l : ℕ) → l < layers → (l < state.layer) ↔ Contains done (name_of l r c k)
+
+pub start_turned : (s : Stream) (t layers c r k : ℕ) → Precincts s (geometry s t) → HasPrecinct (geometry s t) c r k
+    → Turned (geometry s t) layers [] (start s t).states c r k (fresh_precinct s (geometry s t) c r k)
+start_turned s t layers c r k p has = record {
+  known = p.there c r k has;
+  layers_are = λ l lt. (λ h. absurd (omega (arith, h)), λ h. absurd (contains_none (name_of l r c k) h));
+}
+
+-- ---- and what else is known of it
 pub record Known (s : Stream) (g : Geometry) (layers : ℕ) (done : List PacketName) (states : List State) (c r k : ℕ) : Type 0 where
   pub state : State
-  pub known : slice_get states (precinct_number g c r k) ≡ Some state
+  pub turned : Turned g layers done states c r k state
   pub is : IsState state
   pub style : state.style ≡ style_of s g.tile c
   pub blocks : length (all_blocks state.bands) ≡ length (all_blocks (fresh_precinct s g c r k).bands)
-  pub layers_are : (l : ℕ) → l < layers → (l < state.layer) ↔ Contains done (name_of l r c k)
 
 abbrev pub AllKnown : Stream → Geometry → ℕ → List PacketName → List State → Type 0
 AllKnown s g layers done states = (c r k : ℕ) → HasPrecinct g c r k → Known s g layers done states c r k
@@ -72,11 +82,10 @@ AllKnown s g layers done states = (c r k : ℕ) → HasPrecinct g c r k → Know
 pub start_known : (s : Stream) (t layers : ℕ) → Precincts s (geometry s t) → AllKnown s (geometry s t) layers [] (start s t).states
 start_known s t layers p c r k has = record {
   state = fresh_precinct s (geometry s t) c r k;
-  known = p.there c r k has;
+  turned = start_turned s t layers c r k p has;
   is = p.states c r k has;
   style = refl;
   blocks = refl;
-  layers_are = λ l lt. (λ h. absurd (omega (arith, h)), λ h. absurd (contains_none (name_of l r c k) h));
 }
 
 -- ---- a packet that is due
@@ -120,16 +129,16 @@ own_new g layers list done rest p h e c =
     pairs_across R done (p ∷ rest) p p (subst A e h.rise) c (contains_head p rest) (record { comp = refl; res = refl; precinct = refl }) in
     omega arith
 
-pub layer_is : (s : Stream) (g : Geometry) (layers : ℕ) (list done rest : List PacketName) (p : PacketName) (states : List State) → Listed g layers list
-    → list ≡ done ++ (p ∷ rest) → (k : Known s g layers done states p.comp p.res p.precinct) → k.state.layer ≡ p.layer
-layer_is s g layers list done rest p states h e k =
+pub layer_is : (g : Geometry) (layers : ℕ) (list done rest : List PacketName) (p : PacketName) (states : List State) (state : State) → Listed g layers list
+    → list ≡ done ++ (p ∷ rest) → Turned g layers done states p.comp p.res p.precinct state → state.layer ≡ p.layer
+layer_is g layers list done rest p states state h e k =
     let is = due_named g layers list done rest p h e in
-    elim (cases_lt k.state.layer p.layer) [
+    elim (cases_lt state.layer p.layer) [
       | inl lt ↦
-          let below : k.state.layer < k.state.layer =
-          (k.layers_are k.state.layer (omega (arith, is.layer))).1 (lower_done g layers list done rest p k.state.layer h e lt) in
+          let below : state.layer < state.layer =
+          (k.layers_are state.layer (omega (arith, is.layer))).1 (lower_done g layers list done rest p state.layer h e lt) in
           absurd (omega arith)
-      | inr le ↦ elim (cases_lt p.layer k.state.layer) [
+      | inr le ↦ elim (cases_lt p.layer state.layer) [
         | inl gt ↦ absurd (own_new g layers list done rest p h e ((k.layers_are p.layer is.layer).0 gt))
         | inr ge ↦ omega arith
       ]
@@ -154,35 +163,31 @@ same_state : (k m : State) → Some k ≡ Some m → k ≡ m
 same_state k m e = cc
 
 -- the turn's state is the one that is known
-pub turn_state : (b : List ℕ) (s : Stream) (g : Geometry) (layers : ℕ) (done : List PacketName) (number : ℕ) (old : Left) (c : Cut) (new : Left)
-    → (k : Known s g layers done old.states c.name.comp c.name.res c.name.precinct) → (t : IsTurn b g number old c new) → k.state ≡ t.state
-turn_state b s g layers done number old c new k t = same_state k.state t.state (sym k.known ∙ t.known)
+pub turn_state : (b : List ℕ) (g : Geometry) (layers : ℕ) (done : List PacketName) (number : ℕ) (old : Left) (c : Cut) (new : Left) (state : State)
+    → Turned g layers done old.states c.name.comp c.name.res c.name.precinct state → (t : IsTurn b g number old c new) → state ≡ t.state
+turn_state b g layers done number old c new state k t = same_state state t.state (sym k.known ∙ t.known)
 
 -- its precinct's state afterwards
-own_known : (b : List ℕ) (s : Stream) (g : Geometry) (layers : ℕ) (list done rest : List PacketName) (number : ℕ) (old : Left) (c : Cut) (new : Left) → Keeps b → Listed g layers list
-    → list ≡ done ++ (c.name ∷ rest) → Known s g layers done old.states c.name.comp c.name.res c.name.precinct → IsTurn b g number old c new
-    → Known s g layers (done ++ c.name ∷ []) new.states c.name.comp c.name.res c.name.precinct
-own_known b s g layers list done rest number old c new keeps h e k t =
+after_there : (b : List ℕ) (g : Geometry) (number : ℕ) (old : Left) (c : Cut) (new : Left) → IsTurn b g number old c new → slice_get new.states (number_of g c.name) ≡ Some c.after
+after_there b g number old c new t =
+    ap (λ (x : Left). slice_get x.states (number_of g c.name)) t.new_is
+    ∙ get-set_same old.states (number_of g c.name) c.after (slice_get_within old.states (number_of g c.name) t.state t.known)
+
+pub own_turned : (b : List ℕ) (g : Geometry) (layers : ℕ) (list done rest : List PacketName) (number : ℕ) (old : Left) (c : Cut) (new : Left) (state : State) → Listed g layers list
+    → list ≡ done ++ (c.name ∷ rest) → Turned g layers done old.states c.name.comp c.name.res c.name.precinct state → IsTurn b g number old c new
+    → Turned g layers (done ++ c.name ∷ []) new.states c.name.comp c.name.res c.name.precinct c.after
+own_turned b g layers list done rest number old c new state h e k t =
     let p : PacketName = c.name in
-    let kept = keeps.kept (header_in (window b t.body)) t.state c.parts c.used c.after (window_few b t.body)
-    (let I : State → Type 0 = λ x. IsState x in subst I (turn_state b s g layers done number old c new k t) k.is) t.cut.header in
     let layer : c.after.layer ≡ t.state.layer + 1 = layer_after (header_in (window b t.body)) t.state c.parts c.used c.after t.cut.header in
-    let same : k.state ≡ t.state = turn_state b s g layers done number old c new k t in
-    let at : k.state.layer ≡ p.layer = layer_is s g layers list done rest p old.states h e k in
-    let next : c.after.layer ≡ p.layer + 1 = (let l : k.state.layer ≡ t.state.layer = ap (λ (x : State). x.layer) same in omega arith) in
-    let states : new.states ≡ set old.states (number_of g p) c.after = ap (λ (x : Left). x.states) t.new_is in
-    let set_it : slice_get (set old.states (number_of g p) c.after) (number_of g p) ≡ Some c.after =
-    get-set_same old.states (number_of g p) c.after (slice_get_within old.states (number_of g p) t.state t.known) in
+    let same : state ≡ t.state = turn_state b g layers done number old c new state k t in
+    let at : state.layer ≡ p.layer = layer_is g layers list done rest p old.states state h e k in
+    let next : c.after.layer ≡ p.layer + 1 = (let l : state.layer ≡ t.state.layer = ap (λ (x : State). x.layer) same in omega arith) in
     record {
-      state = c.after;
-      known = ap (λ (xs : List State). slice_get xs (number_of g p)) states ∙ set_it;
-      is = kept.is;
-      style = kept.style ∙ sym (ap (λ (x : State). x.style) same) ∙ k.style;
-      blocks = kept.blocks ∙ sym (ap (λ (x : State). length (all_blocks x.bands)) same) ∙ k.blocks;
+      known = after_there b g number old c new t;
       layers_are = λ l lt. (
         λ less. elim (cases_lt l p.layer) [
           | inl below ↦
-              let was : l < k.state.layer = omega arith in
+              let was : l < state.layer = omega arith in
               Contains-append_left done (p ∷ []) (name_of l p.res p.comp p.precinct) ((k.layers_are l lt).0 was)
           | inr ge ↦
               let is : p.layer ≡ l = omega arith in
@@ -190,26 +195,37 @@ own_known b s g layers list done rest number old c new keeps h e k t =
               subst C is (Contains-push done p)
         ],
         λ has. elim (Contains-push_cases done p (name_of l p.res p.comp p.precinct) has) [
-          | inl old_one ↦ (let was : l < k.state.layer = (k.layers_are l lt).1 old_one in omega arith)
+          | inl old_one ↦ (let was : l < state.layer = (k.layers_are l lt).1 old_one in omega arith)
           | inr new_one ↦ (let is : p.layer ≡ l = ap (λ (w : PacketName). w.layer) new_one in omega arith)
         ],
       );
     }
 
+own_known : (b : List ℕ) (s : Stream) (g : Geometry) (layers : ℕ) (list done rest : List PacketName) (number : ℕ) (old : Left) (c : Cut) (new : Left) → Keeps b → Listed g layers list
+    → list ≡ done ++ (c.name ∷ rest) → Known s g layers done old.states c.name.comp c.name.res c.name.precinct → IsTurn b g number old c new
+    → Known s g layers (done ++ c.name ∷ []) new.states c.name.comp c.name.res c.name.precinct
+own_known b s g layers list done rest number old c new keeps h e k t =
+    let same : k.state ≡ t.state = turn_state b g layers done number old c new k.state k.turned t in
+    let kept = keeps.kept (header_in (window b t.body)) t.state c.parts c.used c.after (window_few b t.body)
+    (let I : State → Type 0 = λ x. IsState x in subst I same k.is) t.cut.header in
+    record {
+      state = c.after;
+      turned = own_turned b g layers list done rest number old c new k.state h e k.turned t;
+      is = kept.is;
+      style = kept.style ∙ sym (ap (λ (x : State). x.style) same) ∙ k.style;
+      blocks = kept.blocks ∙ sym (ap (λ (x : State). length (all_blocks x.bands)) same) ∙ k.blocks;
+    }
+
 -- and that of another
-other_known : (b : List ℕ) (s : Stream) (g : Geometry) (layers : ℕ) (done : List PacketName) (number : ℕ) (old : Left) (c : Cut) (new : Left) (e r k : ℕ)
-    → (number_of g c.name ≡ precinct_number g e r k → ⊥) → IsTurn b g number old c new → Known s g layers done old.states e r k
-    → Known s g layers (done ++ c.name ∷ []) new.states e r k
-other_known b s g layers done number old c new e r k other t was =
+pub other_turned : (b : List ℕ) (g : Geometry) (layers : ℕ) (done : List PacketName) (number : ℕ) (old : Left) (c : Cut) (new : Left) (e r k : ℕ) (state : State)
+    → (number_of g c.name ≡ precinct_number g e r k → ⊥) → IsTurn b g number old c new → Turned g layers done old.states e r k state
+    → Turned g layers (done ++ c.name ∷ []) new.states e r k state
+other_turned b g layers done number old c new e r k state other t was =
     let p : PacketName = c.name in
     let states : new.states ≡ set old.states (number_of g p) c.after = ap (λ (x : Left). x.states) t.new_is in
     record {
-      state = was.state;
       known = ap (λ (xs : List State). slice_get xs (precinct_number g e r k)) states
           ∙ get-set_other old.states (number_of g p) (precinct_number g e r k) c.after (λ (x : precinct_number g e r k ≡ number_of g p). other (sym x)) ∙ was.known;
-      is = was.is;
-      style = was.style;
-      blocks = was.blocks;
       layers_are = λ l lt. (
         λ less. Contains-append_left done (p ∷ []) (name_of l r e k) ((was.layers_are l lt).0 less),
         λ has. elim (Contains-push_cases done p (name_of l r e k) has) [
@@ -219,23 +235,35 @@ other_known b s g layers done number old c new e r k other t was =
       );
     }
 
+-- what holds of the packet's own precinct and of each other holds of all
+pub each_precinct : (s : Stream) (g : Geometry) (layers : ℕ) (p : PacketName) (P : ℕ → ℕ → ℕ → Type 0) → Precincts s g → IsNamed g layers p
+    → P p.comp p.res p.precinct → ((d r k : ℕ) → HasPrecinct g d r k → (number_of g p ≡ precinct_number g d r k → ⊥) → P d r k)
+    → (d r k : ℕ) → HasPrecinct g d r k → P d r k
+each_precinct s g layers p P places is here others d r k has = elim (cases_eq (number_of g p) (precinct_number g d r k)) [
+  | inl same ↦
+      let one = places.once p.comp p.res p.precinct d r k (has_precinct g layers p is) has same in
+      let A : ℕ → Type 0 = λ x. P x p.res p.precinct in
+      let B : ℕ → Type 0 = λ x. P d x p.precinct in
+      let C : ℕ → Type 0 = λ x. P d r x in
+      subst C one.2 (subst B one.1 (subst A one.0 here))
+  | inr other ↦ others d r k has other
+]
+
 pub turn_known : (b : List ℕ) (s : Stream) (g : Geometry) (layers : ℕ) (list done rest : List PacketName) (number : ℕ) (old : Left) (c : Cut) (new : Left)
     → Precincts s g → Keeps b → Listed g layers list → list ≡ done ++ (c.name ∷ rest)
     → AllKnown s g layers done old.states → IsTurn b g number old c new → AllKnown s g layers (done ++ c.name ∷ []) new.states
-turn_known b s g layers list done rest number old c new places keeps h e all t d r k has =
+turn_known b s g layers list done rest number old c new places keeps h e all t =
     let p : PacketName = c.name in
-    let own : HasPrecinct g p.comp p.res p.precinct = has_precinct g layers p (due_named g layers list done rest p h e) in
-    elim (cases_eq (number_of g p) (precinct_number g d r k)) [
-      | inl same ↦
-          let is = places.once p.comp p.res p.precinct d r k own has same in
-          let here : Known s g layers (done ++ p ∷ []) new.states p.comp p.res p.precinct =
-          own_known b s g layers list done rest number old c new keeps h e (all p.comp p.res p.precinct own) t in
-          let A : ℕ → Type 0 = λ x. Known s g layers (done ++ p ∷ []) new.states x p.res p.precinct in
-          let B : ℕ → Type 0 = λ x. Known s g layers (done ++ p ∷ []) new.states d x p.precinct in
-          let C : ℕ → Type 0 = λ x. Known s g layers (done ++ p ∷ []) new.states d r x in
-          subst C is.2 (subst B is.1 (subst A is.0 here))
-      | inr other ↦ other_known b s g layers done number old c new d r k other t (all d r k has)
-    ]
+    let is : IsNamed g layers p = due_named g layers list done rest p h e in
+    each_precinct s g layers p (λ d r k. Known s g layers (done ++ p ∷ []) new.states d r k) places is
+    (own_known b s g layers list done rest number old c new keeps h e (all p.comp p.res p.precinct (has_precinct g layers p is)) t)
+    (λ d r k has other. (let was = all d r k has in record {
+      state = was.state;
+      turned = other_turned b g layers done number old c new d r k was.state other t was.turned;
+      is = was.is;
+      style = was.style;
+      blocks = was.blocks;
+    }))
 
 -- ---- packets one after another
 pub cuts_known : (b : List ℕ) (s : Stream) (g : Geometry) (layers : ℕ) (list done : List PacketName) (cuts : List Cut) (rest : List PacketName) (number : ℕ) (old new : Left)
@@ -266,8 +294,8 @@ in_turn b s t list cuts p rest left state places keeps h e are found =
     let all = known_there b s t list cuts (p ∷ rest) left places keeps h e are in
     let own = has_precinct (geometry s t) (layers_of s t) p (due_named (geometry s t) (layers_of s t) list (names_of cuts) rest p h e) in
     let k = all p.comp p.res p.precinct own in
-    let same : k.state ≡ state = same_state k.state state (sym k.known ∙ found) in
-    sym (ap (λ (x : State). x.layer) same) ∙ layer_is s (geometry s t) (layers_of s t) list (names_of cuts) rest p left.states h e k
+    let same : k.state ≡ state = same_state k.state state (sym k.turned.known ∙ found) in
+    sym (ap (λ (x : State). x.layer) same) ∙ layer_is (geometry s t) (layers_of s t) list (names_of cuts) rest p left.states k.state h e k.turned
 
 -- ---- each turn with what is known of its precinct's state before it
 pub record InTurn (b : List ℕ) (s : Stream) (g : Geometry) (number : ℕ) (old : Left) (c : Cut) (new : Left) : Type 0 where
@@ -287,12 +315,12 @@ pub turn_in : (b : List ℕ) (s : Stream) (g : Geometry) (layers : ℕ) (list do
 turn_in b s g layers list done rest number old c new h e all t =
     let own = has_precinct g layers c.name (due_named g layers list done rest c.name h e) in
     let k = all c.name.comp c.name.res c.name.precinct own in
-    let same : k.state ≡ t.state = turn_state b s g layers done number old c new k t in
+    let same : k.state ≡ t.state = turn_state b g layers done number old c new k.state k.turned t in
     let I : State → Type 0 = λ x. IsState x in
     record {
       turn = t;
       precinct = own;
-      layer = sym (ap (λ (x : State). x.layer) same) ∙ layer_is s g layers list done rest c.name old.states h e k;
+      layer = sym (ap (λ (x : State). x.layer) same) ∙ layer_is g layers list done rest c.name old.states k.state h e k.turned;
       is = subst I same k.is;
       style = sym (ap (λ (x : State). x.style) same) ∙ k.style;
       blocks = sym (ap (λ (x : State). length (all_blocks x.bands)) same) ∙ k.blocks;

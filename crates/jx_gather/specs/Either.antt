@@ -1,13 +1,9 @@
--- What a codestream has: a list of the packets of a tile, blocks, or a first violated rule or passed limit.
+-- What a codestream has: blocks, or a first violated rule or passed limit.
 use Rattle.std.specs.Prelude.{ℕ, List}
 use Rattle.jx_base.specs.declared.pieces.Block.{Block}
-use Rattle.jx_order.specs.declared.names.PacketName.{PacketName}
 use Rattle.jx_stream.specs.declared.Stream.{Stream}
 use Rattle.jx_stream.specs.declared.faults.StreamFault.{StreamFault}
-use Rattle.jx_gather.specs.Gathered.{IsListOf, IsGathered, IsBroken}
-
-abbrev pub HasList : Stream → ℕ → Type 0
-HasList s t = (list : List PacketName) × IsListOf s t list
+use Rattle.jx_gather.specs.Gathered.{IsGathered, IsBroken}
 
 abbrev pub HasBlocks : List ℕ → Stream → Type 0
 HasBlocks b s = (blocks : List Block) × IsGathered b s blocks

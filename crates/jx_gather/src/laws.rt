@@ -1,4 +1,5 @@
-//! Laws of tile data. Each function's contract is a law over the definitions that `gather` cites, so its body is empty.
+//! Laws of tile data. Each function's contract is a law over the definitions that `gather` cites, so its body does nothing but
+//! cite a law of the crates below.
 
 ghost use Rattle.std.specs.Prelude.{◌≡◌, ◌⊎◌, ◌≤◌, ◌<◌, ◌^◌, ℕ, List, None, length};
 ghost use Rattle.std.specs.List.{All};
@@ -12,7 +13,7 @@ ghost use Rattle.jx_stream.specs.declared.faults.StreamFault.{StreamFault};
 ghost use Rattle.jx_stream.specs.Read.{IsRead};
 ghost use Rattle.jx_stream.specs.Shapes.{geometry, layers_of, style_of, tile_at};
 ghost use Rattle.jx_gather.specs.Totals.{totals_fault};
-ghost use Rattle.jx_gather.specs.Either.{HasBlocks, HasFault, HasList};
+ghost use Rattle.jx_gather.specs.Either.{HasBlocks, HasFault};
 ghost use Rattle.jx_gather.specs.Gathered.{IsBroken, IsCutUp, IsGathered, IsListOf, IsWhole};
 ghost use Rattle.jx_gather.specs.Another.{HaveSameBlocks};
 ghost use Rattle.jx_gather.specs.BlockOf.{AreBlocksOf};
@@ -23,27 +24,31 @@ ghost use Rattle.jx_gather.specs.Planned.{ArePlanned, leaves_in};
 ghost use Rattle.jx_gather.specs.WellFormed.{IsWellFormed};
 ghost use Rattle.jx_gather.specs.Written.{AreFilled, AreWritten, IsLaid, Packets, cuts_at, laid_blocks, packets_in};
 
+use jx_order::laws::orders_exist;
+
 /// Tile data have one reading: the blocks of a codestream are given by its bytes.
 pub fn one_gathering()
-    ensures { (b : List ℕ) (s : Stream) (blocks others : List Block) → IsRead b s → length b ≤ 2 ^ 28 → totals_fault s ≡ None
+    ensures { (b : List ℕ) (s : Stream) (blocks others : List Block) → IsRead b s → length b < 2 ^ 64 → totals_fault s ≡ None
         → IsGathered b s blocks → IsGathered b s others → blocks ≡ others }
 {}
 
 /// At most one rule or limit is the first one that is violated or passed.
 pub fn one_violation()
-    ensures { (b : List ℕ) (s : Stream) (fault other : StreamFault) → IsRead b s → length b ≤ 2 ^ 28 → IsBroken b s fault → IsBroken b s other → fault ≡ other }
+    ensures { (b : List ℕ) (s : Stream) (fault other : StreamFault) → IsRead b s → length b < 2 ^ 64 → IsBroken b s fault → IsBroken b s other → fault ≡ other }
 {}
 
 /// Where the blocks are there, no rule is violated.
 pub fn never_both()
-    ensures { (b : List ℕ) (s : Stream) (blocks : List Block) (fault : StreamFault) → IsRead b s → length b ≤ 2 ^ 28 → totals_fault s ≡ None
+    ensures { (b : List ℕ) (s : Stream) (blocks : List Block) (fault : StreamFault) → IsRead b s → length b < 2 ^ 64 → totals_fault s ≡ None
         → IsGathered b s blocks → IsBroken b s fault → ⊥ }
 {}
 
-/// There are always blocks or a first violation, where each tile has a list of its packets in the order of its entries.
+/// There are always blocks or a first violation.
 pub fn one_of_both()
-    ensures { (b : List ℕ) (s : Stream) → IsRead b s → length b ≤ 2 ^ 28 → ((t : ℕ) → t < tile_number s.siz → HasList s t) → HasBlocks b s ⊎ HasFault b s }
-{}
+    ensures { (b : List ℕ) (s : Stream) → IsRead b s → length b < 2 ^ 64 → HasBlocks b s ⊎ HasFault b s }
+{
+    orders_exist();
+}
 
 /// A file of which the blocks are there is well-formed.
 pub fn gathered_is_well_formed()
@@ -61,13 +66,13 @@ pub fn blocks_are_named()
 /// A tile whose packets stand one after another in the order of its entries, cut into tile-parts between them, is cut up into
 /// just these packets: none of the rules 26 to 31 is violated (T.800, A.4.2, A.8, B.9 to B.12).
 pub fn laid_is_cut_up()
-    ensures { (b : List ℕ) (s : Stream) (t : ℕ) (packets : Packets) (groups : List (List PacketName)) → IsRead b s → length b ≤ 2 ^ 28 → totals_fault s ≡ None
+    ensures { (b : List ℕ) (s : Stream) (t : ℕ) (packets : Packets) (groups : List (List PacketName)) → IsRead b s → totals_fault s ≡ None
         → t < tile_number s.siz → IsWhole s t → IsLaid b s t packets groups → IsCutUp b s t (cuts_at packets (packets_in groups)) }
 {}
 
 /// A codestream of such tiles is gathered, with the blocks that its packets tell of.
 pub fn laid_is_gathered()
-    ensures { (b : List ℕ) (s : Stream) (packets : ℕ → Packets) (groups : ℕ → List (List PacketName)) → IsRead b s → length b ≤ 2 ^ 28 → totals_fault s ≡ None
+    ensures { (b : List ℕ) (s : Stream) (packets : ℕ → Packets) (groups : ℕ → List (List PacketName)) → IsRead b s → totals_fault s ≡ None
         → ((t : ℕ) → t < tile_number s.siz → IsWhole s t) → ((t : ℕ) → t < tile_number s.siz → IsLaid b s t (packets t) (groups t))
         → IsGathered b s (laid_blocks s packets groups) }
 {}
@@ -75,7 +80,7 @@ pub fn laid_is_gathered()
 /// Where the packets carry the pieces of given blocks, which are blocks of the stream, the codestream is gathered with just
 /// these blocks, whatever the order of the packets is and wherever tile-parts are cut.
 pub fn carried_is_gathered()
-    ensures { (b : List ℕ) (s : Stream) (blocks : List Block) (packets : ℕ → Packets) (groups : ℕ → List (List PacketName)) → IsRead b s → length b ≤ 2 ^ 28 → totals_fault s ≡ None
+    ensures { (b : List ℕ) (s : Stream) (blocks : List Block) (packets : ℕ → Packets) (groups : ℕ → List (List PacketName)) → IsRead b s → totals_fault s ≡ None
         → AreBlocksOf s blocks → All IsSound blocks
         → ((t : ℕ) → t < tile_number s.siz → IsWhole s t) → ((t : ℕ) → t < tile_number s.siz → IsLaid b s t (packets t) (groups t))
         → ((t : ℕ) → t < tile_number s.siz → AllCarry s t blocks (packets t)) → IsGathered b s blocks }
@@ -109,7 +114,7 @@ pub fn planned_is_written()
 /// A codestream that is written from blocks of its stream is gathered with just these blocks: each tile's packets, written from them,
 /// stand in the order of its entries, which cover each packet, and are cut into tile-parts between them.
 pub fn planned_is_gathered()
-    ensures { (b : List ℕ) (s : Stream) (blocks : List Block) (packets : ℕ → Packets) (groups : ℕ → List (List PacketName)) → IsRead b s → length b ≤ 2 ^ 28 → totals_fault s ≡ None
+    ensures { (b : List ℕ) (s : Stream) (blocks : List Block) (packets : ℕ → Packets) (groups : ℕ → List (List PacketName)) → IsRead b s → totals_fault s ≡ None
         → AreBlocksOf s blocks → All IsSound blocks
         → ((t : ℕ) → t < tile_number s.siz → IsWhole s t) → ((t : ℕ) → t < tile_number s.siz → IsListOf s t (packets_in (groups t)))
         → ((t : ℕ) → t < tile_number s.siz → AreFilled b (packets t) 0 (tile_at s t).bodies (groups t))

@@ -18,6 +18,7 @@ mod totals;
 pub use gathering::gather;
 pub use jx_base::{Block, Piece, Pieces};
 pub use jx_stream::StreamFault;
+pub use totals::count_all;
 
 #[cfg(test)]
 mod tests;

@@ -58,8 +58,16 @@ fn tile_totals(
     Ok((counts.0, counts.1 * layers))
 }
 
-/// The code-blocks and the packets of all tiles.
-fn all_totals(alloc: Global, stream: &Stream, main: &MainView<'_>) -> Result<(u128, u128), NoMemory>
+/// The code-blocks and the packets of all tiles (ITU-T T.800, B.7 and B.9).
+///
+/// # Errors
+///
+/// `NoMemory` where memory is refused.
+pub fn count_all(
+    alloc: Global,
+    stream: &Stream,
+    main: &MainView<'_>,
+) -> Result<(u128, u128), NoMemory>
     requires main { main.now ≡ record { siz = stream.now.siz; main = stream.now.main } }
     requires range { StreamInRange stream.now }
     ensures blocks { IfOk result (λ r. r.0 ≡ block_total stream.now) }
@@ -86,7 +94,7 @@ pub(crate) fn check_totals(
     requires range { StreamInRange stream.now }
     ensures { Answers result (totals_fault stream.now) (λ _. Unit {0}) }
 {
-    let (blocks, packets) = match all_totals(alloc, stream, main) {
+    let (blocks, packets) = match count_all(alloc, stream, main) {
         Ok(totals) => totals,
         Err(_) => return Err(StreamFault::NoMemory),
     };

@@ -4,7 +4,7 @@ use Rattle.jx_geom.specs.Numbering.{blocks_below}
 use Rattle.jx_stream.specs.First.{canvas_of}
 use Rattle.jx_stream.specs.Shapes.{shapes_of}
 use Rattle.jx_gather.specs.Totals.{tile_packets}
-use Rattle.jx_gather.proofs.totals.all_totals.Given as goal
+use Rattle.jx_gather.proofs.totals.count_all.Given as goal
 
 abbrev pub invariant-loop-tile : goal.invariant-loop-tile
 invariant-loop-tile l = record {

@@ -5,7 +5,7 @@ use Rattle.jx_stream.specs.First.{canvas_of}
 use Rattle.jx_stream.specs.Shapes.{shapes_of}
 use Rattle.jx_gather.specs.Totals.{tile_packets}
 use Rattle.jx_gather.proofs.TotalLemmas.{blocks_are, packets_are}
-use Rattle.jx_gather.proofs.totals.all_totals.Goals as goal
+use Rattle.jx_gather.proofs.totals.count_all.Goals as goal
 
 pub returns-clause-blocks : goal.returns-clause-blocks
 returns-clause-blocks c =
