@@ -1,0 +1,32 @@
+-- Pieces as packets cut them (ITU-T T.800, B.10.7), and parts within bytes.
+use Rattle.std.specs.Prelude.{◌≡◌, ◌≤◌, ℕ, ◌+◌, ◌-◌, ◌==◌, nat_lt, true, List, [], ◌∷◌, map, if◌then◌else◌}
+use Rattle.std.specs.List.{filter}
+use Rattle.jx_base.specs.Passes.{end_pass}
+use Rattle.jx_base.specs.Pieces.{PieceValue}
+use Rattle.jx_head.specs.Parts.{cut}
+use Rattle.jx_block.specs.declared.OutPart.{OutPart}
+
+-- a piece that is followed by one of its own layer ends a segment
+abbrev pub AreCutAtEnds : ℕ → List PieceValue → Type 0
+AreCutAtEnds style [] = Unit {0}
+AreCutAtEnds style (p ∷ []) = Unit {0}
+AreCutAtEnds style (p ∷ q ∷ ps) = (p.layer ≡ q.layer → end_pass style (p.first + p.passes - 1) ≡ true) × AreCutAtEnds style (q ∷ ps)
+
+-- how many passes pieces of a layer have, and those of the layers before it
+abbrev pub passes_at : ℕ → List PieceValue → ℕ
+passes_at layer [] = 0
+passes_at layer (p ∷ pieces) = if p.layer == layer then p.passes + passes_at layer pieces else passes_at layer pieces
+
+abbrev pub passes_below : ℕ → List PieceValue → ℕ
+passes_below layer [] = 0
+passes_below layer (p ∷ pieces) = if nat_lt p.layer layer then p.passes + passes_below layer pieces else passes_below layer pieces
+
+-- in each layer the passes are cut into pieces exactly after each pass that ends a segment
+abbrev pub AreCutInLayers : ℕ → List PieceValue → Type 0
+AreCutInLayers style pieces =
+    (layer : ℕ) → map (λ (p : PieceValue). p.passes) (filter (λ (p : PieceValue). p.layer == layer) pieces) ≡ cut style (passes_below layer pieces) (passes_at layer pieces)
+
+-- a part of so many bytes
+pub record IsWithin (length : ℕ) (p : OutPart) : Type 0 where
+  pub order : p.from ≤ p.to
+  pub inside : p.to ≤ length
