@@ -1,0 +1,76 @@
+-- The rule that keeps sends each block in the layers in which it was.
+use Rattle.std.proofs.Common.{◌≡◌, ◌<◌, ◌∙◌, ap, sym, subst, arith, ℕ, List, length, slice_index_or, Some}
+use Rattle.std.specs.List.{All, slice_get}
+use Rattle.std.proofs.lemmas.List.Elements.{All-weaker}
+use Rattle.std.proofs.lemmas.Option.{slice_get-get_or, slice_get_within}
+use Rattle.jx_base.specs.declared.pieces.Block.{Block}
+use Rattle.jx_base.specs.Pieces.{PieceValue}
+use Rattle.jx_base.specs.Sound.{IsSound}
+use Rattle.jx_stream.specs.declared.Stream.{Stream}
+use Rattle.jx_block.specs.declared.job.Job.{Job}
+use Rattle.jx_block.specs.Recoding.{layer_ends}
+use Rattle.jx_plan.specs.declared.Marks.{Marks}
+use Rattle.jx_plan.specs.declared.faults.PlanFault.{PlanFault}
+use Rattle.jx_plan.specs.declared.faults.PlanFault.TheVariants as fault
+use Rattle.jx_plan.specs.Facts.{most_layers}
+use Rattle.jx_plan.specs.Keeping.{AreKeptJobs}
+use Rattle.jx_plan.specs.KeptFault.{HasKeptCause}
+use Rattle.jx_plan.specs.Layers.{AreJobs, IsJobOf}
+use Rattle.jx_plan.specs.Plan.{IsKeptPlan, KeepsLayers, MayBePlanned, Plan}
+use Rattle.jx_plan.specs.Planned.{HasPlanCause, IsPlannedBy}
+use Rattle.jx_plan.specs.Rule.Rule.{Keep}
+use Rattle.jx_plan.proofs.KeptLemmas.{block_at, kept_uncrowded, most_reaches}
+use Rattle.jx_plan.proofs.OneLemmas.{keeps}
+
+-- ---- jobs of the rule
+abbrev IsBelow : ℕ → PieceValue → Type 0
+IsBelow layers p = p.layer < layers
+
+abbrev AreBelow : ℕ → Block → Type 0
+AreBelow layers b = All (IsBelow layers) b.pieces
+
+module _ (layers : ℕ) (blocks : List Block) (jobs : List Job) (sound : All IsSound blocks) (below : All (AreBelow layers) blocks) (are : AreJobs Keep layers blocks jobs) where
+  pub keep_jobs : AreKeptJobs blocks (length blocks) jobs
+  keep_jobs = record {
+    all = are.all;
+    each = λ n job e.
+        let inside : n < length blocks = omega (arith, slice_get_within jobs n job e, are.all) in
+        let b : Block = slice_index_or blocks n job.block.now in
+        let at : slice_get blocks n ≡ Some b = slice_get-get_or blocks n job.block.now inside in
+        let j : IsJobOf Keep layers blocks n b job = are.each n b job at e in
+        let is_sound : IsSound b = sound n job.block.now inside in
+        record {
+          number_is = j.number_is;
+          block_is = at ∙ ap Some (sym j.block_is);
+          style = j.kept;
+          ends = keeps layers blocks n b job is_sound (below n job.block.now inside) j ∙ ap (λ (x : Block). layer_ends x.pieces) (sym j.block_is);
+        };
+  }
+
+  pub keep_layers : KeepsLayers jobs
+  keep_layers = λ n d inside. (keep_jobs.each n (slice_index_or jobs n d) (slice_get-get_or jobs n d inside)).ends
+
+-- ---- and its plan is the one that keeps them
+module _ (s : Stream) (blocks : List Block) (may : MayBePlanned s blocks) where
+  below_most : All (AreBelow (most_layers s)) blocks
+  below_most = λ n d inside.
+      let b : Block = slice_index_or blocks n d in
+      let block = block_at s blocks n b may.blocks_are (slice_get-get_or blocks n d inside) inside in
+      let most = most_reaches s block.0.tile block.1.0.0 in
+      All-weaker (IsBelow _) (IsBelow (most_layers s)) (λ p lt. omega (arith, most, lt)) b.pieces block.1.1.layers
+
+  pub keep_plan : (m : Marks) (p : Plan) → IsPlannedBy Keep s blocks m p → IsKeptPlan s blocks m p
+  keep_plan m p is = record {
+    stream = is.stream;
+    blocks_are = is.blocks_are;
+    marks = is.marks;
+    layers = is.layers;
+    jobs = keep_layers (most_layers s) blocks p.jobs may.sound below_most (subst (λ k. AreJobs Keep k blocks p.jobs) is.layers is.jobs);
+  }
+
+  pub keep_fault : (m : Marks) (e : PlanFault) → HasPlanCause (Some Keep) s blocks m e → HasKeptCause s m e
+  keep_fault m (fault.Choice number place) cause =
+      let at = cause.1 in
+      kept_uncrowded s blocks at.jobs may (keep_jobs (most_layers s) blocks at.jobs may.sound below_most at.jobs_are) place at.lowest.0
+  keep_fault m (fault.Limit number found) cause = (cause.0, record { count = cause.1.count; many = cause.1.many })
+  keep_fault m fault.NoMemory cause = tt

@@ -1,0 +1,135 @@
+-- The stream that is written is in range, and its headers stand in its file.
+use Rattle.std.proofs.Common.{◌≡◌, ◌∙◌, ◌<◌, ◌≤◌, ◌^◌, ℕ, false, arith, List, [], ◌∷◌, map, length, refl, sym, ap, subst, nat_lt, Option, Some, None, inl, inr}
+use Rattle.std.specs.List.{All, find, flat_map}
+use Rattle.std.specs.Option.{option_or, option_map}
+use Rattle.std.proofs.lemmas.Bool.{cases_Bool}
+use Rattle.std.proofs.lemmas.List.{length-map}
+use Rattle.std.proofs.lemmas.Option.{slice_get-get_or}
+use Rattle.std.proofs.lemmas.List.Elements.{All-nil, All-cons, All-head, All-tail, All-map, All-weaker}
+use Rattle.jx_marker.specs.declared.Segment.{Segment}
+use Rattle.jx_marker.specs.declared.Segment.TheVariants as segment
+use Rattle.jx_marker.specs.declared.Siz.{Siz}
+use Rattle.jx_marker.specs.declared.Cod.{Cod}
+use Rattle.jx_marker.specs.declared.Progression.{Progression}
+use Rattle.jx_marker.specs.Ranges.{SizInRange}
+use Rattle.jx_geom.specs.declared.shape.CompShape.{CompShape}
+use Rattle.jx_geom.specs.Geometry.{Geometry, ShapesInRange, HasResolution}
+use Rattle.jx_stream.specs.declared.headers.HeaderKind.TheVariants.{Main, First}
+use Rattle.jx_stream.specs.declared.Tile.{Tile}
+use Rattle.jx_stream.specs.declared.Stream.{Stream}
+use Rattle.jx_stream.specs.Tiles.{in_slot, entry_of, entry_in, or_list}
+use Rattle.jx_stream.specs.Params.{cod_in, tile_has_too_few, tile_planes, limit_4_of, cod_of, header_in, header_of}
+use Rattle.jx_stream.specs.First.{tiles_fault, lacks_default}
+use Rattle.jx_stream.specs.Shapes.{geometry, tile_at, no_tile}
+use Rattle.jx_stream.specs.InRange.{StreamInRange}
+use Rattle.jx_stream.proofs.SegmentLemmas.{defaults_there}
+use Rattle.jx_plan.specs.Headers.{Asked, cod_written, all_written, tile_header, tile_written, stream_written}
+use Rattle.jx_plan.specs.Standing.{IsNote, IsHeaded, HeadersStand}
+use Rattle.jx_plan.proofs.AlikeLemmas.{too_few_same, bands_same}
+use Rattle.jx_plan.proofs.WrittenLemmas.{slot_written, kind_written}
+use Rattle.jx_plan.proofs.StandLemmas.{segments_written, segments_more}
+use Rattle.jx_plan.proofs.StreamLemmas.{notes_aside, slots_alike, tile_slots, cod_slots, coded_at, shapes_stay, geometry_stays, layers_are, style_stays, planes_stay, tile_is}
+
+-- the headers
+
+tile_stands : (a : Asked) (comps : ℕ) (main : List Segment) (t : Tile) → 0 < a.layers → a.layers < 2 ^ 16 → IsHeaded comps t → IsHeaded comps (tile_written a main t)
+tile_stands a comps main t some few h = record {
+  header = segments_more comps [] (all_written a t.header) t.notes (notes_aside comps t.notes h.notes) (segments_written a First comps [] [] t.header some few (λ slot k. k) h.header);
+  notes = All-nil (IsNote comps);
+}
+
+few_same : (a : Asked) (comps : ℕ) (main : List Segment) (t : Tile) → IsHeaded comps t
+    → tile_has_too_few (all_written a main) comps (tile_written a main t) ≡ tile_has_too_few main comps t
+unfolding tile_has_too_few
+few_same a comps main t h =
+    too_few_same (tile_header a t) t.header (all_written a main) main (slots_alike a (tile_header a t) t.header (tile_slots a comps t h))
+    (slots_alike a (all_written a main) main (λ slot g. slot_written a slot main g)) comps
+
+planes_same : (a : Asked) (comps : ℕ) (main : List Segment) (t : Tile) → IsHeaded comps t
+    → tile_planes (all_written a main) comps (tile_written a main t) ≡ tile_planes main comps t
+unfolding tile_planes
+planes_same a comps main t h =
+    bands_same (tile_header a t) t.header (all_written a main) main (slots_alike a (tile_header a t) t.header (tile_slots a comps t h))
+    (slots_alike a (all_written a main) main (λ slot g. slot_written a slot main g)) comps
+
+entries_kept : (a : Asked) (comps : ℕ) (main : List Segment) (tiles : List Tile) → All (IsHeaded comps) tiles → find (tile_has_too_few main comps) tiles ≡ None
+    → find (tile_has_too_few (all_written a main) comps) (map (tile_written a main) tiles) ≡ None
+entries_kept a comps main [] h none = refl
+entries_kept a comps main (x ∷ xs) h none = elim (cases_Bool (tile_has_too_few main comps x)) [
+  | inl t ↦ let e = rw t at none in absurd (cc)
+  | inr f ↦ rw (few_same a comps main x (All-head (IsHeaded comps) x xs h), f) (entries_kept a comps main xs (All-tail (IsHeaded comps) x xs h) (rw f at none))
+]
+
+all_planes_kept : (a : Asked) (comps : ℕ) (main : List Segment) (tiles : List Tile) → All (IsHeaded comps) tiles
+    → flat_map (tile_planes (all_written a main) comps) (map (tile_written a main) tiles) ≡ flat_map (tile_planes main comps) tiles
+all_planes_kept a comps main [] h = refl
+all_planes_kept a comps main (x ∷ xs) h =
+    rw (planes_same a comps main x (All-head (IsHeaded comps) x xs h), all_planes_kept a comps main xs (All-tail (IsHeaded comps) x xs h)) refl
+
+both_there : (a : Asked) (main : List Segment) → lacks_default main ≡ false → lacks_default (all_written a main) ≡ false
+both_there a main h =
+    let both = defaults_there main h in
+    rw (kind_written a 1 main refl, kind_written a 2 main refl, both.0, both.1) refl
+
+siz_written : (siz : Siz) → SizInRange siz → SizInRange (record siz { rsiz = 0 })
+siz_written siz r = record { rsiz = omega arith; x1 = r.x1; y1 = r.y1; x0 = r.x0; y0 = r.y0; tw = r.tw; th = r.th; tx = r.tx; ty = r.ty; fits = r.fits; each = r.each }
+
+few_tiles : (siz : Siz) → tiles_fault siz ≡ None → tiles_fault (record siz { rsiz = 0 }) ≡ None
+unfolding tiles_fault
+few_tiles siz h = h
+
+pub written_stands : (a : Asked) (s : Stream) → 0 < a.layers → a.layers < 2 ^ 16 → HeadersStand s → HeadersStand (stream_written a s)
+unfolding stream_written
+written_stands a s some few stand =
+    let comps = length s.siz.comps in
+    record {
+      siz = siz_written s.siz stand.siz;
+      few = few_tiles s.siz stand.few;
+      main = segments_written a Main comps [] [] s.main some few (λ slot k. k) stand.main;
+      defaults = both_there a s.main stand.defaults;
+      count = length-map s.tiles (tile_written a s.main) ∙ stand.count;
+      each = All-map (IsHeaded comps) (tile_written a s.main) s.tiles (All-weaker (IsHeaded comps) (λ (t : Tile). IsHeaded comps (tile_written a s.main t)) (λ t h. tile_stands a comps s.main t some few h) s.tiles stand.each);
+      entries = entries_kept a comps s.main s.tiles stand.each stand.entries;
+      planes = ap (λ (xs : List ℕ). limit_4_of (find (nat_lt 74) xs)) (all_planes_kept a comps s.main s.tiles stand.each) ∙ stand.planes;
+    }
+
+-- the one entry of a tile
+
+one_entry : (o p : Option Segment) (cod : Cod) → cod_in (option_or o p) ≡ Some cod → or_list (entry_in o) (entry_in p) ≡ entry_of cod ∷ []
+one_entry None None cod e = absurd (cc)
+one_entry None (Some (segment.Cod other)) cod e = let same : other ≡ cod = cc in ap (λ (x : Cod). entry_of x ∷ []) same
+one_entry None (Some _) cod e = absurd (cc)
+one_entry (Some (segment.Cod other)) p cod e = let same : other ≡ cod = cc in ap (λ (x : Cod). entry_of x ∷ []) same
+one_entry (Some _) p cod e = absurd (cc)
+
+pub entries_are : (a : Asked) (s : Stream) (stand : HeadersStand s) (t : ℕ) → t < length s.tiles
+    → (tile_at (stream_written a s) t).progressions ≡ entry_of (cod_written a (coded_at s stand t).cod) ∷ []
+entries_are a s stand t inside =
+    let x : Tile = tile_at s t in
+    let h : IsHeaded (length s.siz.comps) x = stand.each t no_tile inside in
+    let same : header_of s t ≡ x.header = ap header_in (slice_get-get_or s.tiles t no_tile inside) in
+    let cod : Cod = (coded_at s stand t).cod in
+    let is : cod_of x.header s.main ≡ Some cod = ap (λ (xs : List Segment). cod_of xs s.main) (sym same) ∙ (coded_at s stand t).is in
+    let there : cod_of (tile_header a x) (all_written a s.main) ≡ Some (cod_written a cod) =
+    cod_slots a (tile_header a x) x.header (all_written a s.main) s.main (tile_slots a (length s.siz.comps) x h) (λ slot g. slot_written a slot s.main g) ∙ ap (option_map (cod_written a)) is in
+    ap (λ (y : Tile). y.progressions) (tile_is a s stand t inside) ∙ one_entry (in_slot 1 (tile_header a x)) (in_slot 1 (all_written a s.main)) (cod_written a cod) there
+
+pub written_in_range : (a : Asked) (s : Stream) → 1 ≤ a.layers → a.layers < 2 ^ 16 → HeadersStand s → StreamInRange s → StreamInRange (stream_written a s)
+unfolding stream_written
+written_in_range a s some few stand r = record {
+  canvas = r.canvas;
+  some_comps = r.some_comps;
+  few_comps = r.few_comps;
+  few_tiles = r.few_tiles;
+  tiles = length-map s.tiles (tile_written a s.main) ∙ r.tiles;
+  shapes = λ t inside. subst (λ (xs : List CompShape). ShapesInRange xs) (sym (shapes_stay a s stand t)) (r.shapes t inside);
+  some_layers = λ t inside. omega (arith, layers_are a s stand t);
+  few_layers = λ t inside. omega (arith, layers_are a s stand t);
+  style = λ t c inside. omega (arith, style_stays a s stand t c, r.style t c inside);
+  orders = λ t inside.
+      subst (λ (xs : List Progression). All (λ (e : Progression). e.order ≤ 4) xs) (sym (entries_are a s stand t (omega (arith, r.tiles))))
+      (All-cons (λ (e : Progression). e.order ≤ 4) (entry_of (cod_written a (coded_at s stand t).cod)) [] (coded_at s stand t).fits.order (All-nil (λ (e : Progression). e.order ≤ 4)));
+  planes = λ t c res band inside there has.
+      (let same : HasResolution (geometry s t) c res = subst (λ (g : Geometry). HasResolution g c res) (geometry_stays a s stand t) there in
+      omega (arith, planes_stay a s stand t c res band, r.planes t c res band inside same has));
+}

@@ -1,0 +1,154 @@
+-- The tile that is read from the tile-parts of a written file.
+use Rattle.std.proofs.Common.{◌≡◌, ◌∙◌, ◌<◌, ℕ, true, false, arith, List, [], ◌∷◌, ◌++◌, length, get_or, drop, map, refl, sym, ap, Option, inl, inr}
+use Rattle.std.specs.List.{All, filter}
+use Rattle.std.proofs.lemmas.Bool.{cases_Bool}
+use Rattle.std.proofs.lemmas.Grind.{flat_map-append}
+use Rattle.std.proofs.lemmas.List.{length-map}
+use Rattle.std.proofs.lemmas.List.FromFn.{get_or-map-range_with_len, length-map-range_with_len}
+use Rattle.std.proofs.lemmas.List.Elements.{All-head, All-tail}
+use Rattle.jx_marker.specs.declared.Segment.{Segment}
+use Rattle.jx_marker.specs.declared.Segment.TheVariants as segment
+use Rattle.jx_marker.specs.declared.Progression.{Progression}
+use Rattle.jx_stream.specs.declared.parts.Part.{Part}
+use Rattle.jx_stream.specs.declared.Body.{Body}
+use Rattle.jx_stream.specs.declared.Tile.{Tile}
+use Rattle.jx_stream.specs.declared.Stream.{Stream}
+use Rattle.jx_stream.specs.Parts.{parts_of}
+use Rattle.jx_stream.specs.First.{tile_number}
+use Rattle.jx_stream.specs.Shapes.{tile_at, no_tile}
+use Rattle.jx_stream.specs.Tiles.{in_slot, entries_of, joined, is_com, entry_in, or_list, headers_of, first_header, first_place, progressions_of, tile_from, tile_of, tiles_of}
+use Rattle.jx_plan.specs.Headers.{Asked, written, is_written, all_written, tile_header, tile_written, stream_written}
+use Rattle.jx_plan.specs.Asides.{IsAside, is_aside, is_plt, IsTileWithMore, IsWithMore}
+use Rattle.jx_plan.specs.ReadBack.{HaveHeaders}
+use Rattle.jx_plan.specs.Standing.{IsHeaded, HeadersStand}
+use Rattle.jx_plan.proofs.WrittenLemmas.{slot_more}
+use Rattle.jx_plan.proofs.StreamLemmas.{notes_aside, tile_is}
+
+-- no POC is written
+
+no_entries : (a : Asked) (s : Segment) → is_written s ≡ true → entries_of (written a s) ≡ []
+no_entries a (segment.Poc entries) h = absurd (cc)
+no_entries a (segment.Cod cod) h = refl
+no_entries a _ h = refl
+
+pub none_written : (a : Asked) (ss : List Segment) → joined (all_written a ss) ≡ []
+none_written a [] = refl
+none_written a (s ∷ ss) = elim (cases_Bool (is_written s)) [
+  | inl t ↦ rw (t, no_entries a s t) (none_written a ss)
+  | inr f ↦ rw f (none_written a ss)
+]
+
+none_aside : (s : Segment) → is_aside s ≡ true → entries_of s ≡ []
+none_aside (segment.Com bytes) h = refl
+none_aside (segment.Plt bytes) h = refl
+none_aside _ h = absurd (cc)
+
+none_asides : (comps : ℕ) (more : List Segment) → All (IsAside comps) more → joined more ≡ []
+none_asides comps [] h = refl
+none_asides comps (s ∷ ss) h = rw (none_aside s (All-head (IsAside comps) s ss h).is) (none_asides comps ss (All-tail (IsAside comps) s ss h))
+
+plt_entries : (s : Segment) → is_plt s ≡ true → entries_of s ≡ []
+plt_entries (segment.Plt bytes) h = refl
+plt_entries _ h = absurd (cc)
+
+plt_note : (s : Segment) → is_plt s ≡ true → is_com s ≡ false
+plt_note (segment.Plt bytes) h = refl
+plt_note _ h = absurd (cc)
+
+abbrev IsLength : Segment → Type 0
+IsLength s = is_plt s ≡ true
+
+none_plts : (more : List Segment) → All IsLength more → joined more ≡ []
+none_plts [] h = refl
+none_plts (s ∷ ss) h = rw (plt_entries s (All-head IsLength s ss h)) (none_plts ss (All-tail IsLength s ss h))
+
+no_notes : (more : List Segment) → All IsLength more → filter is_com more ≡ []
+no_notes [] h = refl
+no_notes (s ∷ ss) h = rw (plt_note s (All-head IsLength s ss h)) (no_notes ss (All-tail IsLength s ss h))
+
+none_both : (xs ys : List Segment) → joined xs ≡ [] → joined ys ≡ [] → joined (xs ++ ys) ≡ []
+none_both xs ys h k = flat_map-append entries_of xs ys ∙ ap (λ (es : List Progression). es ++ joined ys) h ∙ k
+
+pub none_header : (a : Asked) (comps : ℕ) (t : Tile) → IsHeaded comps t → joined (tile_header a t) ≡ []
+none_header a comps t headed = none_both (all_written a t.header) t.notes (none_written a t.header) (none_asides comps t.notes (notes_aside comps t.notes headed.notes))
+
+-- all headers are the first and the later ones
+first_later : (own : List Part) → headers_of own ≡ first_header own ++ headers_of (drop 1 own)
+first_later [] = refl
+first_later (p ∷ later) = refl
+
+module _ (a : Asked) (comps : ℕ) (main : List Segment) (t : Tile) (own : List Part) (more : List Segment) (headed : IsHeaded comps t)
+    (first : first_header own ≡ tile_header a t ++ more) (asides : All (IsAside comps) more) (later : All IsLength (headers_of (drop 1 own))) where
+  none_first : joined (first_header own) ≡ []
+  none_first =
+      ap joined first ∙ none_both (tile_header a t) more (none_header a comps t headed) (none_asides comps more asides)
+
+  none_own : joined (headers_of own) ≡ []
+  none_own = ap joined (first_later own) ∙ none_both (first_header own) (headers_of (drop 1 own)) none_first (none_plts (headers_of (drop 1 own)) later)
+
+  slot_read : in_slot 1 (first_header own) ≡ in_slot 1 (tile_header a t)
+  slot_read = ap (λ (xs : List Segment). in_slot 1 xs) first ∙ slot_more comps 1 (tile_header a t) more refl asides
+
+  by_cod : (es fs gs : List Progression) (o : Option Segment) → es ≡ [] → fs ≡ [] → in_slot 1 (first_header own) ≡ o
+      → or_list es (or_list fs (or_list (entry_in (in_slot 1 (first_header own))) gs)) ≡ or_list (entry_in o) gs
+  by_cod es fs gs o h k e = rw (h, k, e) refl
+
+  entries_read : progressions_of (all_written a main) own ≡ (tile_written a main t).progressions
+  entries_read = by_cod (joined (headers_of own)) (joined (all_written a main)) (entry_in (in_slot 1 (all_written a main))) (in_slot 1 (tile_header a t)) none_own (none_written a main) slot_read
+
+  same_tile : (header other notes : List Segment) (place : ℕ) (entries others : List Progression) (bodies : List Body) → header ≡ other → notes ≡ [] → entries ≡ others
+      → ◌≡◌ {A = Tile} (record { place = place; header = header; notes = notes; progressions = entries; bodies = bodies })
+      (record { place = place; header = other; notes = []; progressions = others; bodies = bodies })
+  same_tile header other notes place entries others bodies h k e = rw (h, k, e) refl
+
+  pub tile_read : tile_from (all_written a main) own
+      ≡ record (tile_written a main t) { place = first_place own; header = tile_header a t ++ more; bodies = map (λ (p : Part). p.body) own }
+  tile_read =
+      same_tile (first_header own) (tile_header a t ++ more) (filter is_com (headers_of (drop 1 own))) (first_place own) (progressions_of (all_written a main) own)
+      (tile_written a main t).progressions (map (λ (p : Part). p.body) own) first (no_notes (headers_of (drop 1 own)) later) entries_read
+
+pub tile_with_more : (a : Asked) (comps : ℕ) (main : List Segment) (t : Tile) (own : List Part) → IsHeaded comps t → HaveHeaders a comps t own
+    → IsTileWithMore comps (tile_written a main t) (tile_from (all_written a main) own)
+tile_with_more a comps main t own headed h =
+    let is = tile_read a comps main t own h.more headed h.first h.asides h.later in
+    record { more = h.more; asides = h.asides; header = ap (λ (x : Tile). x.header) is; progressions = ap (λ (x : Tile). x.progressions) is }
+
+tile_of_is : (main : List Segment) (parts : List Part) (t : ℕ) → tile_of main parts t ≡ tile_from main (parts_of t parts)
+unfolding tile_of
+tile_of_is main parts t = refl
+
+pub main_is : (a : Asked) (s : Stream) → (stream_written a s).main ≡ all_written a s.main
+unfolding stream_written
+main_is a s = refl
+
+pub count_is : (a : Asked) (s : Stream) → length (stream_written a s).tiles ≡ length s.tiles
+unfolding stream_written
+count_is a s = length-map s.tiles (tile_written a s.main)
+
+comps_are : (a : Asked) (s : Stream) → length (stream_written a s).siz.comps ≡ length s.siz.comps
+unfolding stream_written
+comps_are a s = refl
+
+one_to : (m n : ℕ) (t u o p : Tile) → m ≡ n → t ≡ u → o ≡ p → IsTileWithMore n u p → IsTileWithMore m t o
+one_to m n t u o p e d k h = rw (e, d, k) h
+
+-- so the stream that is read has the headers of the one that is written
+module _ (a : Asked) (s other : Stream) (parts : List Part) (stand : HeadersStand s) (siz : other.siz ≡ (stream_written a s).siz) (main : other.main ≡ (stream_written a s).main)
+    (tiles : other.tiles ≡ tiles_of other.main parts (tile_number s.siz)) (each : (t : ℕ) → t < tile_number s.siz → HaveHeaders a (length s.siz.comps) (tile_at s t) (parts_of t parts)) where
+  other_at : (t : ℕ) → t < tile_number s.siz → tile_at other t ≡ tile_from (all_written a s.main) (parts_of t parts)
+  other_at t inside =
+      ap (λ (xs : List Tile). get_or xs t no_tile) tiles ∙ get_or-map-range_with_len (tile_of other.main parts) 0 (tile_number s.siz) t t no_tile inside (omega arith)
+      ∙ tile_of_is other.main parts t ∙ ap (λ (xs : List Segment). tile_from xs (parts_of t parts)) (main ∙ main_is a s)
+
+  pub stream_with_more : IsWithMore (stream_written a s) other
+  stream_with_more = record {
+    siz = siz;
+    main = main;
+    count = ap length tiles ∙ length-map-range_with_len (tile_of other.main parts) 0 (tile_number s.siz) ∙ sym stand.count ∙ sym (count_is a s);
+    each = λ t below.
+        (let within : t < length s.tiles = omega (arith, below, count_is a s) in
+        let inside : t < tile_number s.siz = omega (arith, within, stand.count) in
+        one_to (length (stream_written a s).siz.comps) (length s.siz.comps) (tile_at (stream_written a s) t) (tile_written a s.main (tile_at s t)) (tile_at other t)
+        (tile_from (all_written a s.main) (parts_of t parts)) (comps_are a s) (tile_is a s stand t within) (other_at t inside)
+        (tile_with_more a (length s.siz.comps) s.main (tile_at s t) (parts_of t parts) (stand.each t no_tile within) (each t inside)));
+  }

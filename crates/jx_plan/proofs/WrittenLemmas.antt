@@ -1,0 +1,92 @@
+-- What is written of a header says the same as the header, but for COD's marks and layers.
+use Rattle.std.proofs.Common.{◌≡◌, ◌==◌, ℕ, true, false, arith, List, [], ◌∷◌, ◌++◌, refl, Option, Some, None, inl, inr}
+use Rattle.std.specs.List.{All}
+use Rattle.std.specs.Option.{option_map}
+use Rattle.std.proofs.lemmas.Bool.Decides.{nat_tests}
+use Rattle.std.proofs.lemmas.Bool.{cases_Bool}
+use Rattle.std.proofs.lemmas.List.Elements.{All-head, All-tail}
+use Rattle.jx_marker.specs.declared.Segment.{Segment}
+use Rattle.jx_marker.specs.declared.Segment.TheVariants as segment
+use Rattle.jx_stream.specs.Headers.{slot_of, has_slot}
+use Rattle.jx_stream.specs.Index.{gives}
+use Rattle.jx_stream.specs.Tiles.{in_slot}
+use Rattle.jx_stream.specs.Params.{cod_in}
+use Rattle.jx_plan.specs.Headers.{Asked, cod_written, written, is_written, all_written}
+use Rattle.jx_plan.specs.Asides.{IsAside, is_aside}
+use Rattle.jx_plan.proofs.AlikeLemmas.{AreAlike, HeadersAlike}
+
+pub slot_kept : (a : Asked) (s : Segment) → slot_of (written a s) ≡ slot_of s
+slot_kept a (segment.Cod cod) = refl
+slot_kept a _ = refl
+
+-- what is left out gives nothing
+left_out : (s : Segment) (slot : ℕ) → is_written s ≡ false → gives slot ≡ true → (slot_of s == slot) ≡ false
+left_out (segment.Poc entries) slot h g = grind (arith, nat_tests)
+left_out (segment.Plt bytes) slot h g = grind (arith, nat_tests)
+left_out (segment.Plm bytes) slot h g = grind (arith, nat_tests)
+left_out (segment.Tlm bytes) slot h g = grind (arith, nat_tests)
+left_out (segment.Skipped code) slot h g = grind (arith, nat_tests)
+left_out _ slot h g = absurd (cc)
+
+pub slot_written : (a : Asked) (slot : ℕ) (ss : List Segment) → gives slot ≡ true → in_slot slot (all_written a ss) ≡ option_map (written a) (in_slot slot ss)
+slot_written a slot [] g = refl
+slot_written a slot (s ∷ ss) g = elim (cases_Bool (is_written s)) [
+  | inl t ↦ rw (t, slot_kept a s) (elim (cases_Bool (slot_of s == slot)) [
+    | inl here ↦ rw here refl
+    | inr past ↦ rw past (slot_written a slot ss g)
+  ])
+  | inr f ↦ rw (f, left_out s slot f g) (slot_written a slot ss g)
+]
+
+-- so is the same kind there
+pub kind_written : (a : Asked) (slot : ℕ) (ss : List Segment) → gives slot ≡ true → has_slot slot (all_written a ss) ≡ has_slot slot ss
+kind_written a slot [] g = refl
+kind_written a slot (s ∷ ss) g = elim (cases_Bool (is_written s)) [
+  | inl t ↦ rw (t, slot_kept a s, kind_written a slot ss g) refl
+  | inr f ↦ rw (f, left_out s slot f g) (kind_written a slot ss g)
+]
+
+pub alike_written : (a : Asked) (o : Option Segment) → AreAlike (option_map (written a) o) o
+alike_written a None = record { some = refl; shape = refl; quant = refl; shift = refl }
+alike_written a (Some (segment.Cod cod)) = record { some = refl; shape = refl; quant = refl; shift = refl }
+alike_written a (Some _) = record { some = refl; shape = refl; quant = refl; shift = refl }
+
+pub alike_to : (o p q : Option Segment) → o ≡ p → AreAlike p q → AreAlike o q
+alike_to o p q e h = rw e h
+
+pub header_written : (a : Asked) (ss : List Segment) → HeadersAlike (all_written a ss) ss
+header_written a ss slot g = alike_to (in_slot slot (all_written a ss)) (option_map (written a) (in_slot slot ss)) (in_slot slot ss) (slot_written a slot ss g) (alike_written a (in_slot slot ss))
+
+pub cod_kept : (a : Asked) (o : Option Segment) → cod_in (option_map (written a) o) ≡ option_map (cod_written a) (cod_in o)
+cod_kept a None = refl
+cod_kept a (Some (segment.Cod cod)) = refl
+cod_kept a (Some _) = refl
+
+-- comments and packet lengths give nothing either
+
+aside_slot : (s : Segment) → is_aside s ≡ true → slot_of s ≡ 0
+aside_slot (segment.Com bytes) h = refl
+aside_slot (segment.Plt bytes) h = refl
+aside_slot _ h = absurd (cc)
+
+zero_gives : (slot n : ℕ) → gives slot ≡ true → n ≡ 0 → (n == slot) ≡ false
+zero_gives slot n g e = grind (arith, nat_tests)
+
+none_aside : (comps slot : ℕ) (more : List Segment) → gives slot ≡ true → All (IsAside comps) more → in_slot slot more ≡ None
+none_aside comps slot [] g h = refl
+none_aside comps slot (s ∷ ss) g h =
+    let first = zero_gives slot (slot_of s) g (aside_slot s (All-head (IsAside comps) s ss h).is) in
+    rw first (none_aside comps slot ss g (All-tail (IsAside comps) s ss h))
+
+pub slot_more : (comps slot : ℕ) (own more : List Segment) → gives slot ≡ true → All (IsAside comps) more → in_slot slot (own ++ more) ≡ in_slot slot own
+slot_more comps slot [] more g h = none_aside comps slot more g h
+slot_more comps slot (s ∷ ss) more g h = elim (cases_Bool (slot_of s == slot)) [
+  | inl here ↦ rw here refl
+  | inr past ↦ rw past (slot_more comps slot ss more g h)
+]
+
+pub alike_self : (o : Option Segment) → AreAlike o o
+alike_self o = record { some = refl; shape = refl; quant = refl; shift = refl }
+
+pub header_more : (comps : ℕ) (own more : List Segment) → All (IsAside comps) more → HeadersAlike (own ++ more) own
+header_more comps own more h slot g = alike_to (in_slot slot (own ++ more)) (in_slot slot own) (in_slot slot own) (slot_more comps slot own more g h) (alike_self (in_slot slot own))

@@ -1,0 +1,5 @@
+use Rattle.jx_plan.proofs.KeptLemmas.{gathered_may}
+use Rattle.jx_plan.proofs.laws.gathered_may_be_planned.Goals as goal
+
+pub returns : goal.returns
+returns c = gathered_may

@@ -1,0 +1,23 @@
+use Rattle.jx_plan.proofs.PlainLemmas.{main_plain, header_stands, entries_plain, lengths_plain, order_plain, cods_are, totals_plain}
+use Rattle.jx_plan.proofs.laws.written_headers_are_plain.Goals as goal
+
+pub returns-clause-main : goal.returns-clause-main
+returns-clause-main c = λ a s stand. main_plain a s stand
+
+pub returns-clause-header : goal.returns-clause-header
+returns-clause-header c = λ a s t stand some few inside. header_stands a s stand t some few inside
+
+pub returns-clause-entries : goal.returns-clause-entries
+returns-clause-entries c = λ a s t stand inside. entries_plain a s stand t inside
+
+pub returns-clause-lengths : goal.returns-clause-lengths
+returns-clause-lengths c = λ a s t stand inside. lengths_plain a s stand t inside
+
+pub returns-clause-order : goal.returns-clause-order
+returns-clause-order c = λ a s t stand inside. order_plain a s stand t inside
+
+pub returns-clause-cods : goal.returns-clause-cods
+returns-clause-cods c = λ a s t stand. cods_are a s stand t
+
+pub returns-clause-limits : goal.returns-clause-limits
+returns-clause-limits c = λ a s stand h le. totals_plain a s stand h le

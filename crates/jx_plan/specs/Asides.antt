@@ -1,0 +1,37 @@
+-- Segments that say nothing of how a tile is coded: comments and packet lengths (ITU-T T.800, A.7.3 and A.9.2).
+use Rattle.std.specs.Prelude.{◌≡◌, ◌<◌, ℕ, Bool, true, false, List, ◌++◌, length}
+use Rattle.std.specs.List.{All}
+use Rattle.jx_marker.specs.declared.Segment.{Segment}
+use Rattle.jx_marker.specs.declared.Segment.TheVariants as segment
+use Rattle.jx_marker.specs.Ranges.{InRange}
+use Rattle.jx_stream.specs.declared.Tile.{Tile}
+use Rattle.jx_stream.specs.declared.Stream.{Stream}
+use Rattle.jx_stream.specs.Shapes.{tile_at}
+
+abbrev pub is_aside : Segment → Bool
+is_aside (segment.Com bytes) = true
+is_aside (segment.Plt bytes) = true
+is_aside _ = false
+
+abbrev pub is_plt : Segment → Bool
+is_plt (segment.Plt bytes) = true
+is_plt _ = false
+
+-- COM or PLT
+pub record IsAside (comps : ℕ) (s : Segment) : Type 0 where
+  pub range : InRange comps s
+  pub is : is_aside s ≡ true
+
+-- a tile with such segments at the end of its header; its place, its notes and its data may be others
+pub record IsTileWithMore (comps : ℕ) (t other : Tile) : Type 0 where
+  pub more : List Segment
+  pub asides : All (IsAside comps) more
+  pub header : other.header ≡ t.header ++ more
+  pub progressions : other.progressions ≡ t.progressions
+
+-- a stream of such tiles
+pub record IsWithMore (s other : Stream) : Type 0 where
+  pub siz : other.siz ≡ s.siz
+  pub main : other.main ≡ s.main
+  pub count : length other.tiles ≡ length s.tiles
+  pub each : (t : ℕ) → t < length s.tiles → IsTileWithMore (length s.siz.comps) (tile_at s t) (tile_at other t)

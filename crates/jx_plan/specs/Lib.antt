@@ -1,0 +1,16 @@
+pub mod Rule
+pub mod Texts
+pub mod Cuts
+pub mod Planners
+pub mod Layers
+pub mod Headers
+pub mod Standing
+pub mod Asides
+pub mod ReadBack
+pub mod Sent
+pub mod Crowded
+pub mod Facts
+pub mod Keeping
+pub mod Plan
+pub mod KeptFault
+pub mod Planned

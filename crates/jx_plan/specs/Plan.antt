@@ -1,0 +1,78 @@
+-- What is planned of a codestream before a byte of it is written: its headers, the number of layers, and what is asked of each
+-- code-block.
+use Rattle.std.specs.Prelude.{◌≡◌, ◌<◌, ◌≤◌, ◌^◌, ℕ, List, length, None, Some, slice_get}
+use Rattle.std.specs.List.{All}
+use Rattle.jx_base.specs.declared.pieces.Block.{Block}
+use Rattle.jx_base.specs.Sound.{IsSound}
+use Rattle.jx_stream.specs.declared.Stream.{Stream}
+use Rattle.jx_stream.specs.InRange.{StreamInRange}
+use Rattle.jx_gather.specs.BlockOf.{AreBlocksOf}
+use Rattle.jx_gather.specs.Totals.{packet_total, totals_fault}
+use Rattle.jx_block.specs.declared.job.Job.{Job}
+use Rattle.jx_block.specs.Jobs.{IsAsked}
+use Rattle.jx_block.specs.Recoding.{layer_ends}
+use Rattle.jx_plan.specs.declared.Marks.{Marks}
+use Rattle.jx_plan.specs.Crowded.{IsLowestCrowded}
+use Rattle.jx_plan.specs.Facts.{most_layers}
+use Rattle.jx_plan.specs.Headers.{stream_written}
+use Rattle.jx_plan.specs.Standing.{HeadersStand}
+
+-- a stream that was read, with its blocks
+pub record MayBePlanned (s : Stream) (blocks : List Block) : Type 0 where
+  pub headers : HeadersStand s
+  pub range : StreamInRange s
+  pub totals : totals_fault s ≡ None
+  pub blocks_are : AreBlocksOf s blocks
+  pub sound : All IsSound blocks
+
+-- the headers that are written
+abbrev pub headers_with : Marks → ℕ → Stream → Stream
+headers_with m layers s = stream_written (record { sop = m.sop; eph = m.eph; layers = layers }) s
+
+-- limit 7: the packets that are written
+abbrev pub most_packets : ℕ
+most_packets = 2 ^ 22
+
+pub record Plan : Type 0 where
+  pub stream : Stream
+  pub blocks : List Block
+  pub marks : Marks
+  pub layers : ℕ
+  pub jobs : List Job
+
+abbrev pub headers_of : Plan → Stream
+headers_of p = headers_with p.marks p.layers p.stream
+
+-- what is asked of a block of a number, which is kept
+pub record IsJob (blocks : List Block) (number : ℕ) (job : Job) : Type 0 where
+  pub number_is : job.number ≡ number
+  pub block_is : slice_get blocks number ≡ Some job.block.now
+  pub kept : job.style ≡ None
+  pub asked : IsAsked job.block.now job.style job.ends
+
+pub record IsPlan (p : Plan) : Type 0 where
+  pub may : MayBePlanned p.stream p.blocks
+  pub some : 1 ≤ p.layers
+  pub few : p.layers < 2 ^ 16
+  pub packets : packet_total (headers_of p) ≤ most_packets
+  pub all : length p.jobs ≡ length p.blocks
+  pub each : (number : ℕ) (job : Job) → slice_get p.jobs number ≡ Some job → IsJob p.blocks number job
+  -- choice 4
+  pub uncrowded : IsLowestCrowded p.jobs None
+
+-- each block is sent in the layers in which it was
+abbrev pub KeepsLayers : List Job → Type 0
+KeepsLayers jobs = All (λ (job : Job). job.ends ≡ layer_ends job.block.now.pieces) jobs
+
+-- the plan that keeps the layers of each tile: as many are written as the tile has that has the most
+pub record IsKeptPlan (s : Stream) (blocks : List Block) (m : Marks) (p : Plan) : Type 0 where
+  pub stream : p.stream ≡ s
+  pub blocks_are : p.blocks ≡ blocks
+  pub marks : p.marks ≡ m
+  pub layers : p.layers ≡ most_layers s
+  pub jobs : KeepsLayers p.jobs
+
+-- limit 7 is passed by it
+pub record PassesPackets (s : Stream) (m : Marks) (found : ℕ) : Type 0 where
+  pub count : found ≡ packet_total (headers_with m (most_layers s) s)
+  pub many : most_packets < found

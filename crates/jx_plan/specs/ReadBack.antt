@@ -1,0 +1,16 @@
+-- Tile-parts that have the headers of a tile that is written.
+use Rattle.std.specs.Prelude.{◌≡◌, ℕ, true, List, ◌++◌, drop}
+use Rattle.std.specs.List.{All}
+use Rattle.jx_marker.specs.declared.Segment.{Segment}
+use Rattle.jx_stream.specs.declared.parts.Part.{Part}
+use Rattle.jx_stream.specs.declared.Tile.{Tile}
+use Rattle.jx_stream.specs.Tiles.{headers_of, first_header}
+use Rattle.jx_plan.specs.Headers.{Asked, tile_header}
+use Rattle.jx_plan.specs.Asides.{is_plt, IsAside}
+
+-- the first has the tile's header, and perhaps COM and PLT segments after it; the later ones have PLT segments alone
+pub record HaveHeaders (a : Asked) (comps : ℕ) (t : Tile) (own : List Part) : Type 0 where
+  pub more : List Segment
+  pub asides : All (IsAside comps) more
+  pub first : first_header own ≡ tile_header a t ++ more
+  pub later : All (λ (s : Segment). is_plt s ≡ true) (headers_of (drop 1 own))

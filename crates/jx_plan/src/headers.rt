@@ -1,0 +1,229 @@
+//! The headers of the file that is written (ITU-T T.800, A.4 to A.9).
+
+ghost use Rattle.std.specs.Prelude.{◌≡◌, ◌++◌, ◌==◌, List, IfOk, OnOk, Some, map};
+ghost use Rattle.std.specs.Option.{option_to_list};
+ghost use Rattle.jx_marker.specs.declared.Segment.{Segment};
+ghost use Rattle.jx_stream.specs.Headers.{slot_of};
+ghost use Rattle.jx_stream.specs.Tiles.{entry_in, in_slot, or_list};
+ghost use Rattle.jx_plan.specs.Headers.{all_written, cod_written, is_written, stream_written, tile_written, written};
+
+use jx_base::NoMemory;
+use jx_marker::{Cod, Progression, Segment, Siz};
+use jx_stream::{Bodies, Entries, Segments, Stream, Tile, Tiles};
+use std::alloc::Global;
+use std::marker::Model;
+
+/// What the headers of the written file are to say.
+#[derive(Clone, Copy)]
+pub(crate) struct HeaderMarks {
+    /// Each packet has an SOP segment, and COD says so (A.6.1, A.8.1).
+    pub sop: bool,
+    /// Each packet header has an EPH marker, and COD says so (A.6.1, A.8.2).
+    pub eph: bool,
+    /// The layers of each tile, at least 1.
+    pub layers: u16,
+}
+
+impl Model for HeaderMarks {
+    ghost use Rattle.jx_plan.specs.Headers.{Asked};
+
+    ghost Value = { Asked };
+
+    ghost view = { λ marks. record { sop = marks.sop; eph = marks.eph; layers = marks.layers } };
+
+    ghost inverse = { λ asked. record { sop = asked.sop; eph = asked.eph; layers = asked.layers } };
+}
+
+/// The segment is written: POC, packet and tile-part lengths and skipped markers aren't.
+fn is_written(segment: &Segment) -> bool
+    ensures { result ≡ is_written segment.now }
+{
+    !matches!(
+        segment,
+        Segment::Poc(_) | Segment::Plt(_) | Segment::Plm(_) | Segment::Tlm(_) | Segment::Skipped(_)
+    )
+}
+
+/// COD with its marks and layers as asked.
+fn copy_cod(cod: &Cod, asked: HeaderMarks) -> Result<Cod, NoMemory>
+    ensures { IfOk result (λ copy. copy ≡ cod_written asked cod.now) }
+{
+    Ok(Cod {
+        sop: asked.sop,
+        eph: asked.eph,
+        order: cod.order,
+        layers: asked.layers,
+        transform: cod.transform,
+        shape: cod.shape.copy()?,
+    })
+}
+
+/// The segment as it is written.
+fn copy_segment(segment: &Segment, asked: HeaderMarks) -> Result<Segment, NoMemory>
+    ensures { IfOk result (λ copy. copy ≡ written asked segment.now) }
+{
+    match segment {
+        Segment::Cod(cod) => Ok(Segment::Cod(copy_cod(cod, asked)?)),
+        _ => segment.copy(),
+    }
+}
+
+/// Appends those of the segments that are written.
+fn push_written(
+    segments: &[Segment],
+    asked: HeaderMarks,
+    into: &mut Vec<Segment>,
+) -> Result<(), NoMemory>
+    ensures { OnOk result (into.new.items ≡ into.old.items ++ all_written asked segments.now) }
+{
+    for segment in segments {
+        if is_written(segment) {
+            let copy = copy_segment(segment, asked)?;
+            into.push(copy)?;
+        }
+    }
+    Ok(())
+}
+
+/// Appends the segments as they are.
+fn push_copies(segments: &[Segment], into: &mut Vec<Segment>) -> Result<(), NoMemory>
+    ensures { OnOk result (into.new.items ≡ into.old.items ++ segments.now) }
+{
+    for segment in segments {
+        let copy = segment.copy()?;
+        into.push(copy)?;
+    }
+    Ok(())
+}
+
+fn is_cod(segment: &Segment) -> bool
+    ensures { result ≡ (slot_of segment.now == 1) }
+{
+    matches!(segment, Segment::Cod(_))
+}
+
+/// The entry that a COD stands for: all layers, resolutions and components in its order (A.6.6).
+fn entry_of(segment: &Segment) -> Option<Progression>
+    ensures { option_to_list result ≡ entry_in (Some segment.now) }
+{
+    match segment {
+        Segment::Cod(cod) => Some(Progression {
+            rs: 0,
+            cs: 0,
+            lye: cod.layers,
+            re: 33,
+            ce: 0,
+            order: cod.order,
+        }),
+        _ => None,
+    }
+}
+
+/// The entry that a header's COD stands for.
+fn cod_entry(segments: &[Segment]) -> Option<Progression>
+    ensures { option_to_list result ≡ entry_in (in_slot 1 segments.now) }
+{
+    for segment in segments {
+        if is_cod(segment) {
+            return entry_of(segment);
+        }
+    }
+    None
+}
+
+fn one_entry(alloc: Global, entry: Option<Progression>) -> Result<Entries, NoMemory>
+    ensures { IfOk result (λ entries. entries ≡ option_to_list entry) }
+{
+    let mut entries = Vec::new(alloc);
+    if let Some(entry) = entry {
+        entries.push(entry)?;
+    }
+    let entries = Entries::new(entries)?;
+    Ok(entries)
+}
+
+/// The one entry of a tile with this header, else that of the main header.
+fn tile_entries(alloc: Global, header: &[Segment], default: &Entries) -> Result<Entries, NoMemory>
+    ensures { IfOk result (λ entries. entries ≡ or_list (entry_in (in_slot 1 header.now)) default.now) }
+{
+    let entry = cod_entry(header);
+    if entry.is_some() {
+        return one_entry(alloc, entry);
+    }
+    let entries = default.share()?;
+    Ok(entries)
+}
+
+/// A tile without tile data, its COM segments in one header.
+fn write_tile(
+    alloc: Global,
+    tile: &Tile,
+    asked: HeaderMarks,
+    default: &Entries,
+) -> Result<Tile, NoMemory>
+    ensures { IfOk result (λ copy. (main : List Segment) → default.now ≡ entry_in (in_slot 1 (all_written asked main)) → copy ≡ tile_written asked main tile.now) }
+{
+    let mut header = Vec::new(alloc);
+    push_written(tile.header.as_slice(), asked, &mut header)?;
+    push_copies(tile.notes.as_slice(), &mut header)?;
+    let progressions = tile_entries(alloc, &header, default)?;
+    Ok(Tile {
+        place: 0,
+        header: Segments::new(header),
+        notes: Segments::new(Vec::new(alloc)),
+        progressions,
+        bodies: Bodies::new(Vec::new(alloc)),
+    })
+}
+
+fn write_tiles(
+    alloc: Global,
+    tiles: &[Tile],
+    asked: HeaderMarks,
+    default: &Entries,
+) -> Result<Vec<Tile>, NoMemory>
+    ensures { IfOk result (λ copies. (main : List Segment) → default.now ≡ entry_in (in_slot 1 (all_written asked main)) → copies.items ≡ map (tile_written asked main) tiles.now) }
+{
+    let mut copies = Vec::new(alloc);
+    for tile in tiles {
+        let copy = write_tile(alloc, tile, asked, default)?;
+        copies.push(copy)?;
+    }
+    Ok(copies)
+}
+
+/// SIZ with Rsiz 0: a file that is packed anew may leave the profile that Rsiz named (A.5.1).
+fn write_siz(siz: &Siz) -> Result<Siz, NoMemory>
+    ensures { IfOk result (λ copy. copy ≡ record siz.now { rsiz = 0 }) }
+{
+    let mut copy = siz.copy()?;
+    copy.rsiz = 0;
+    Ok(copy)
+}
+
+/// The headers of the file that is written, as a stream without tile data: Rsiz is 0; POC, PLT, PLM, TLM and skipped
+/// markers are left out; each COD has SOP, EPH and layers as asked; a tile's first header takes the COM segments of its
+/// later ones; all else is kept. Time and memory follow the bytes of the headers and the number of tiles.
+///
+/// # Errors
+///
+/// `NoMemory` where memory is refused.
+#[tactic(auto, unfolding(crate::specs::Headers::stream_written))]
+pub(crate) fn write_headers(
+    alloc: Global,
+    stream: &Stream,
+    asked: HeaderMarks,
+) -> Result<Stream, NoMemory>
+    ensures { IfOk result (λ copy. copy ≡ stream_written asked stream.now) }
+{
+    let siz = write_siz(&stream.siz)?;
+    let mut main = Vec::new(alloc);
+    push_written(stream.main.as_slice(), asked, &mut main)?;
+    let default = one_entry(alloc, cod_entry(&main))?;
+    let tiles = write_tiles(alloc, stream.tiles.as_slice(), asked, &default)?;
+    Ok(Stream {
+        siz,
+        main: Segments::new(main),
+        tiles: Tiles::new(tiles),
+    })
+}

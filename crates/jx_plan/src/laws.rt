@@ -1,0 +1,165 @@
+//! Laws over what is planned: the headers that are written, and the plans. The functions do nothing: their contracts carry the laws.
+
+ghost use Rattle.std.specs.Prelude.{◌≡◌, ◌≤◌, ◌<◌, ◌^◌, ◌++◌, ℕ, List, [], None, Some, false, find, length, Option};
+ghost use Rattle.std.specs.List.{All, list_any};
+ghost use Rattle.jx_base.specs.declared.names.Band.{Band};
+ghost use Rattle.jx_marker.specs.declared.Segment.{Segment};
+ghost use Rattle.jx_stream.specs.declared.headers.HeaderKind.TheVariants.{First, Later};
+ghost use Rattle.jx_gather.specs.Another.{HaveSameBlocks};
+ghost use Rattle.jx_gather.specs.Gathered.{IsGathered, IsWhole};
+ghost use Rattle.jx_gather.specs.Totals.{block_total, packet_total, totals_fault};
+ghost use Rattle.jx_stream.specs.declared.parts.Part.{Part};
+ghost use Rattle.jx_stream.specs.declared.Stream.{Stream};
+ghost use Rattle.jx_stream.specs.declared.Tile.{Tile};
+ghost use Rattle.jx_stream.specs.First.{tile_number};
+ghost use Rattle.jx_stream.specs.InRange.{StreamInRange};
+ghost use Rattle.jx_stream.specs.Params.{cod_of, cod_or, header_of, params_by, params_of, planes_at, planes_by, planes_fault, step_by, step_of, tile_has_too_few};
+ghost use Rattle.jx_stream.specs.Parts.{parts_of};
+ghost use Rattle.jx_stream.specs.Read.{IsRead};
+ghost use Rattle.jx_stream.specs.Shapes.{geometry, layers_of, shapes_of, style_of, tile_at};
+ghost use Rattle.jx_stream.specs.Spells.{AreSegments};
+ghost use Rattle.jx_stream.specs.Tiles.{entry_in, in_slot, joined, or_list, tile_from, tiles_of};
+ghost use Rattle.jx_plan.specs.Asides.{is_plt, IsAside, IsTileWithMore, IsWithMore};
+ghost use Rattle.jx_plan.specs.Headers.{Asked, all_written, cod_written, stream_written, tile_written};
+ghost use Rattle.jx_plan.specs.ReadBack.{HaveHeaders};
+ghost use Rattle.jx_plan.specs.Standing.{HeadersStand, IsHeaded};
+ghost use Rattle.jx_base.specs.declared.pieces.Block.{Block};
+ghost use Rattle.jx_base.specs.Pieces.{PieceValue};
+ghost use Rattle.jx_base.specs.Sound.{IsSound};
+ghost use Rattle.jx_block.specs.declared.job.Job.{Job};
+ghost use Rattle.jx_plan.specs.declared.Marks.{Marks};
+ghost use Rattle.jx_plan.specs.declared.faults.PlanFault.{PlanFault};
+ghost use Rattle.jx_plan.specs.declared.faults.PlanFault.TheVariants as plan_fault;
+ghost use Rattle.jx_plan.specs.KeptFault.{HasKeptCause};
+ghost use Rattle.jx_plan.specs.Layers.{AreJobs};
+ghost use Rattle.jx_plan.specs.Plan.{IsKeptPlan, IsPlan, KeepsLayers, MayBePlanned, Plan};
+ghost use Rattle.jx_plan.specs.Planned.{HasPlanCause, IsPlanned, IsPlannedBy};
+ghost use Rattle.jx_plan.specs.Rule.{Rule};
+ghost use Rattle.jx_plan.specs.Rule.Rule.{Keep};
+
+/// The headers of a stream that was read stand in its file.
+pub fn read_headers_stand()
+    ensures { (b : List ℕ) (s : Stream) → IsRead b s → HeadersStand s }
+{}
+
+/// What is written of headers that stand in a file stands in one too, with 1 to 65,535 layers: none of the rules 1 to 19 is violated
+/// (T.800, A.3 to A.9), and none of the limits 3 and 4 is passed.
+pub fn written_headers_stand()
+    ensures { (a : Asked) (s : Stream) → 1 ≤ a.layers → a.layers < 2 ^ 16 → HeadersStand s → HeadersStand (stream_written a s) }
+{}
+
+/// The stream that is written is in range.
+pub fn written_is_in_range()
+    ensures { (a : Asked) (s : Stream) → 1 ≤ a.layers → a.layers < 2 ^ 16 → HeadersStand s → StreamInRange s → StreamInRange (stream_written a s) }
+{}
+
+/// The stream that is written has the parameters of its stream, but for the layers (T.800, A.6).
+pub fn parameters_stay()
+    ensures params { (a : Asked) (s : Stream) (t c : ℕ) → HeadersStand s → params_of (stream_written a s) t c ≡ record (params_of s t c) { layers = a.layers } }
+    ensures steps { (a : Asked) (s : Stream) (t c r : ℕ) (band : Band) → HeadersStand s → step_of (stream_written a s) t c r band ≡ step_of s t c r band }
+    ensures planes { (a : Asked) (s : Stream) (t c r : ℕ) (band : Band) → HeadersStand s → planes_at (stream_written a s) t c r band ≡ planes_at s t c r band }
+    ensures shapes { (a : Asked) (s : Stream) (t : ℕ) → HeadersStand s → shapes_of (stream_written a s) t ≡ shapes_of s t }
+    ensures geometries { (a : Asked) (s : Stream) (t : ℕ) → HeadersStand s → geometry (stream_written a s) t ≡ geometry s t }
+    ensures layers { (a : Asked) (s : Stream) (t : ℕ) → HeadersStand s → layers_of (stream_written a s) t ≡ a.layers }
+    ensures styles { (a : Asked) (s : Stream) (t c : ℕ) → HeadersStand s → style_of (stream_written a s) t c ≡ style_of s t c }
+    ensures tiles { (a : Asked) (s : Stream) → tile_number (stream_written a s).siz ≡ tile_number s.siz }
+{}
+
+/// COM and PLT segments may follow in the header of a tile's first tile-part, and stand alone in that of a later one (T.800, A.3).
+pub fn asides_may_follow()
+    ensures first { (comps : ℕ) (own more : List Segment) → AreSegments First comps [] own → All (IsAside comps) more → AreSegments First comps [] (own ++ more) }
+    ensures later { (comps : ℕ) (more : List Segment) → All (IsAside comps) more → AreSegments Later comps [] more }
+{}
+
+/// They change no parameter of the tile.
+pub fn asides_give_nothing()
+    ensures params { (comps : ℕ) (own more main : List Segment) (c : ℕ) → All (IsAside comps) more → params_by (own ++ more) main c ≡ params_by own main c }
+    ensures steps { (comps : ℕ) (own more main : List Segment) (c r : ℕ) (band : Band) → All (IsAside comps) more → step_by (own ++ more) main c r band ≡ step_by own main c r band }
+    ensures planes { (comps : ℕ) (own more main : List Segment) (c r : ℕ) (band : Band) → All (IsAside comps) more → planes_by (own ++ more) main c r band ≡ planes_by own main c r band }
+{}
+
+/// So a stream with such segments more in its tiles' headers has the same view, and violates rule 9 and passes limit 4 no more than
+/// the stream without them.
+pub fn view_stays_with_more()
+    ensures params { (s other : Stream) (t c : ℕ) → IsWithMore s other → params_of other t c ≡ params_of s t c }
+    ensures steps { (s other : Stream) (t c r : ℕ) (band : Band) → IsWithMore s other → step_of other t c r band ≡ step_of s t c r band }
+    ensures planes { (s other : Stream) (t c r : ℕ) (band : Band) → IsWithMore s other → planes_at other t c r band ≡ planes_at s t c r band }
+    ensures shapes { (s other : Stream) (t : ℕ) → IsWithMore s other → shapes_of other t ≡ shapes_of s t }
+    ensures layers { (s other : Stream) (t : ℕ) → IsWithMore s other → layers_of other t ≡ layers_of s t }
+    ensures styles { (s other : Stream) (t c : ℕ) → IsWithMore s other → style_of other t c ≡ style_of s t c }
+    ensures geometries { (s other : Stream) (t : ℕ) → IsWithMore s other → geometry other t ≡ geometry s t }
+    ensures entries { (s other : Stream) → IsWithMore s other → find (tile_has_too_few s.main (length s.siz.comps)) s.tiles ≡ None
+        → find (tile_has_too_few other.main (length other.siz.comps)) other.tiles ≡ None }
+    ensures over { (s other : Stream) → IsWithMore s other
+        → planes_fault other.main (length other.siz.comps) other.tiles ≡ planes_fault s.main (length s.siz.comps) s.tiles }
+{}
+
+/// The stream that is written has the code-blocks of its stream, where no tile has fewer layers than it had (T.800, B.7). So has one
+/// with COM and PLT segments more.
+pub fn blocks_stay()
+    ensures written { (a : Asked) (s : Stream) → HeadersStand s → ((t : ℕ) → t < tile_number s.siz → layers_of s t ≤ a.layers) → HaveSameBlocks s (stream_written a s) }
+    ensures more { (s other : Stream) → IsWithMore s other → HaveSameBlocks s other }
+    ensures through { (s between other : Stream) → HaveSameBlocks s between → HaveSameBlocks between other → HaveSameBlocks s other }
+{}
+
+/// The one entry of a tile that is written covers each of its packets (T.800, A.6.6 and B.12).
+pub fn written_is_covered()
+    ensures written { (a : Asked) (s : Stream) (t : ℕ) → 1 ≤ a.layers → a.layers < 2 ^ 16 → HeadersStand s → StreamInRange s → t < tile_number s.siz
+        → IsWhole (stream_written a s) t }
+    ensures more { (s other : Stream) (t : ℕ) → IsWithMore s other → t < length s.tiles → IsWhole s t → IsWhole other t }
+{}
+
+/// COM and PLT segments more change no count of code-blocks or packets, and pass no limit.
+pub fn totals_stay_with_more()
+    ensures blocks { (s other : Stream) → IsWithMore s other → block_total other ≡ block_total s }
+    ensures packets { (s other : Stream) → IsWithMore s other → packet_total other ≡ packet_total s }
+    ensures limits { (s other : Stream) → IsWithMore s other → totals_fault other ≡ totals_fault s }
+{}
+
+/// What is written is read back: where a tile's tile-parts have its headers, they make the tile that is written, but for its place, its
+/// data and the segments that follow in its header; and the stream of such tiles is the one that is written, with these segments more.
+pub fn written_is_read_back()
+    ensures tile { (a : Asked) (comps : ℕ) (main : List Segment) (t : Tile) (own : List Part) → IsHeaded comps t → HaveHeaders a comps t own
+        → IsTileWithMore comps (tile_written a main t) (tile_from (all_written a main) own) }
+    ensures stream { (a : Asked) (s other : Stream) (parts : List Part) → HeadersStand s → other.siz ≡ (stream_written a s).siz → other.main ≡ (stream_written a s).main
+        → other.tiles ≡ tiles_of other.main parts (tile_number s.siz)
+        → ((t : ℕ) → t < tile_number s.siz → HaveHeaders a (length s.siz.comps) (tile_at s t) (parts_of t parts)) → IsWithMore (stream_written a s) other }
+{}
+
+/// No POC and no PLT is written; the packets of a tile stand in the order of its COD, which has the marks and the layers that are
+/// asked (T.800, A.6.1 and A.6.6); and the limits 5 and 6 are those on its packets alone.
+pub fn written_headers_are_plain()
+    ensures main { (a : Asked) (s : Stream) → HeadersStand s → joined (stream_written a s).main ≡ [] }
+    ensures header { (a : Asked) (s : Stream) (t : ℕ) → HeadersStand s → 1 ≤ a.layers → a.layers < 2 ^ 16 → t < length s.tiles
+        → AreSegments First (length s.siz.comps) [] (header_of (stream_written a s) t) }
+    ensures entries { (a : Asked) (s : Stream) (t : ℕ) → HeadersStand s → t < length s.tiles → joined (header_of (stream_written a s) t) ≡ [] }
+    ensures lengths { (a : Asked) (s : Stream) (t : ℕ) → HeadersStand s → t < length s.tiles → list_any is_plt (header_of (stream_written a s) t) ≡ false }
+    ensures order { (a : Asked) (s : Stream) (t : ℕ) → HeadersStand s → t < length s.tiles → (tile_at (stream_written a s) t).progressions
+        ≡ or_list (entry_in (in_slot 1 (header_of (stream_written a s) t))) (entry_in (in_slot 1 (stream_written a s).main)) }
+    ensures cods { (a : Asked) (s : Stream) (t : ℕ) → HeadersStand s
+        → cod_or (cod_of (header_of (stream_written a s) t) (stream_written a s).main) ≡ cod_written a (cod_or (cod_of (header_of s t) s.main)) }
+    ensures limits { (a : Asked) (s : Stream) → HeadersStand s → totals_fault s ≡ None → packet_total (stream_written a s) ≤ 2 ^ 22
+        → totals_fault (stream_written a s) ≡ None }
+{}
+
+/// A stream that was read may be planned with the blocks that were gathered of it.
+pub fn gathered_may_be_planned()
+    ensures { (b : List ℕ) (s : Stream) (blocks : List Block) → IsRead b s → length b ≤ 2 ^ 28 → totals_fault s ≡ None → IsGathered b s blocks → MayBePlanned s blocks }
+{}
+
+/// The planner that keeps sends each code-block in the layers in which it was, where its pieces lie in the layers that are planned. So
+/// what it plans is the plan that keeps the layers, and nothing but limit 7 or want of memory keeps it from one.
+pub fn keep_keeps_layers()
+    ensures jobs { (layers : ℕ) (blocks : List Block) (jobs : List Job) → All IsSound blocks → All (λ (b : Block). All (λ (p : PieceValue). p.layer < layers) b.pieces) blocks
+        → AreJobs Keep layers blocks jobs → KeepsLayers jobs }
+    ensures plan { (s : Stream) (blocks : List Block) → MayBePlanned s blocks → (m : Marks) (p : Plan) → IsPlannedBy Keep s blocks m p → IsKeptPlan s blocks m p }
+    ensures fault { (s : Stream) (blocks : List Block) → MayBePlanned s blocks → (m : Marks) (e : PlanFault) → HasPlanCause (Some Keep) s blocks m e → HasKeptCause s m e }
+{}
+
+/// By a rule a stream has one answer, but for want of memory: a plan, or one cause for which nothing is planned.
+pub fn one_answer()
+    ensures planned { (s : Stream) (blocks : List Block) (m : Marks) (o : Option Rule) (p : Plan) (e : PlanFault) → IsPlan p → IsPlanned o s blocks m p → HasPlanCause o s blocks m e
+        → e ≡ plan_fault.NoMemory }
+    ensures cause { (s : Stream) (blocks : List Block) (m : Marks) (o : Option Rule) (e f : PlanFault) → (e ≡ plan_fault.NoMemory → ⊥) → (f ≡ plan_fault.NoMemory → ⊥)
+        → HasPlanCause o s blocks m e → HasPlanCause o s blocks m f → e ≡ f }
+{}

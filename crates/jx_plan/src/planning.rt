@@ -1,0 +1,205 @@
+//! The plan by a planner of layers that was handed in.
+
+ghost use Rattle.std.specs.Prelude.{◌≡◌, ◌≤◌, ◌^◌, ℕ, length, slice_get, None, Some, IfErr, IfOk, IfSome, MatchOption};
+ghost use Rattle.std.specs.List.{All};
+ghost use Rattle.std.specs.String.{string_bytes};
+ghost use Rattle.std.specs.Option.{option_map};
+ghost use Rattle.jx_base.specs.Sound.{IsSound};
+ghost use Rattle.jx_plan.specs.declared.faults.PlanFault.TheVariants as fault;
+ghost use Rattle.jx_plan.specs.Rule.{layers_by};
+ghost use Rattle.jx_plan.specs.Facts.{facts_of};
+ghost use Rattle.jx_plan.specs.Plan.{IsJob, MayBePlanned};
+ghost use Rattle.jx_plan.specs.Planned.{ArePlanned, HasPlanCause, IsPlanned, IsTooMuch, IsUnplanned, chosen, marks_of};
+ghost use Rattle.jx_block.specs.declared.job.Job.{Job as job_asked};
+
+use crate::asking::ask_jobs;
+use crate::counting::plan_headers;
+use crate::crowded::first_crowded;
+use crate::lending::shortened;
+use crate::{LayerPlanner, Marks, Options, OutStream, PlanFault, StreamFacts, facts_of};
+use jx_base::Block;
+use jx_block::Job;
+use jx_stream::Stream;
+use std::alloc::Global;
+
+/// The number of layers of the rule that a planner makes of the words.
+fn begin(planner: &mut Box<dyn LayerPlanner>, words: &str, facts: &StreamFacts) -> Option<u16>
+    ensures layers { result ≡ option_map (λ r. layers_by r facts.now) (rule_of planner.old words.now facts.now) }
+    ensures some { IfSome result (λ layers. 1 ≤ layers) }
+    ensures rule { rule planner.new ≡ rule_of planner.old words.now facts.now }
+    ensures asked { asked planner.new ≡ 0 }
+{
+    planner.begin(words, facts)
+}
+
+/// Lets a planner begin, and asks it for all passes.
+fn plan_by<'a>(
+    alloc: Global,
+    blocks: &'a [Block<'a>],
+    words: &str,
+    facts: &StreamFacts,
+    planner: &mut Box<dyn LayerPlanner>,
+) -> Result<(u16, Vec<Job<'a>>), PlanFault>
+    requires few { length blocks.now ≤ 2 ^ 20 }
+    requires sound { All IsSound blocks.now }
+    ensures planned { IfOk result (λ p. ArePlanned (rule_of planner.old words.now facts.now) facts.now blocks.entry.now p.0 p.1.items) }
+    ensures count { IfOk result (λ p. length p.1.items ≡ length blocks.entry.now) }
+    ensures unplanned { IfErr result (λ e. IsUnplanned (rule_of planner.old words.now facts.now) e) }
+{
+    let layers = match begin(planner, words, facts) {
+        Some(layers) => layers,
+        None => return Err(PlanFault::Choice {
+            number: 6,
+            place: 0,
+        }),
+    };
+    match ask_jobs(alloc, blocks, layers, planner) {
+        Ok(jobs) => Ok((layers, jobs)),
+        Err(_) => Err(PlanFault::NoMemory),
+    }
+}
+
+/// The number of layers that are written, and what is asked of each code-block, by the planner that serves the words; it is
+/// asked once for each coding pass, in the order of blocks and passes. There is no such planner where none serves them.
+///
+/// Choice 6 at 0 comes exactly where there is no planner, or it makes no rule of the words; nothing was asked then.
+pub fn plan_layers<'a, 'b: 'a>(
+    alloc: Global,
+    blocks: &'a [Block<'b>],
+    words: &str,
+    facts: &StreamFacts,
+    planner: Option<&mut Box<dyn LayerPlanner>>,
+) -> Result<(u16, Vec<Job<'a>>), PlanFault>
+    requires few { length blocks.now ≤ 2 ^ 20 }
+    requires sound { All IsSound blocks.now }
+    ensures planned { IfOk result (λ p. MatchOption planner.entry ⊥ (λ b. ArePlanned (rule_of b.now words.now facts.now) facts.now blocks.entry.now p.0 p.1.items)) }
+    ensures count { IfOk result (λ p. length p.1.items ≡ length blocks.entry.now) }
+    ensures unplanned { IfErr result (λ e. MatchOption planner.entry (e ≡ fault.Choice 6 0) (λ b. IsUnplanned (rule_of b.now words.now facts.now) e)) }
+{
+    match planner {
+        Some(planner) => plan_by(alloc, shortened(blocks), words, facts, planner),
+        None => Err(PlanFault::Choice {
+            number: 6,
+            place: 0,
+        }),
+    }
+}
+
+/// Whether a planner serves the words.
+fn does_serve(planner: &Box<dyn LayerPlanner>, words: &str) -> bool
+    ensures { result ≡ serves_text planner.now words.now }
+{
+    planner.serves(words)
+}
+
+/// The same by the first planner that serves the words; choice 6 at 0 comes also where none does.
+pub fn plan_first<'a, 'b: 'a>(
+    alloc: Global,
+    blocks: &'a [Block<'b>],
+    words: &str,
+    facts: &StreamFacts,
+    planners: &mut [Box<dyn LayerPlanner>],
+) -> Result<(u16, Vec<Job<'a>>), PlanFault>
+    requires few { length blocks.now ≤ 2 ^ 20 }
+    requires sound { All IsSound blocks.now }
+    ensures planned { IfOk result (λ p. ArePlanned (chosen (λ b. serves_text b words.now) (λ b. rule_of b words.now facts.now) planners.old) facts.now blocks.entry.now p.0 p.1.items) }
+    ensures count { IfOk result (λ p. length p.1.items ≡ length blocks.entry.now) }
+    ensures unplanned { IfErr result (λ e. IsUnplanned (chosen (λ b. serves_text b words.now) (λ b. rule_of b words.now facts.now) planners.old) e) }
+{
+    for planner in planners.iter_mut() {
+        if does_serve(planner, words) {
+            return plan_layers(alloc, blocks, words, facts, Some(planner));
+        }
+    }
+    plan_layers(alloc, blocks, words, facts, None)
+}
+
+/// The plan of these layers and jobs, one for each block.
+fn plan_jobs<'a>(
+    alloc: Global,
+    stream: &'a Stream,
+    blocks: &'a [Block<'a>],
+    marks: Marks,
+    layers: u16,
+    jobs: Vec<Job<'a>>,
+) -> Result<OutStream<'a>, PlanFault>
+    requires may { MayBePlanned stream.now blocks.now }
+    requires some { 1 ≤ layers }
+    requires all { length jobs.items ≡ length blocks.now }
+    requires each { (number : ℕ) (job : job_asked) → slice_get jobs.items number ≡ Some job → IsJob blocks.now number job }
+    ensures planned { IfOk result (λ p. p ≡ record { stream = stream.entry.now; blocks = blocks.entry.now; marks = marks; layers = layers; jobs = jobs.entry.items }) }
+    ensures cause { IfErr result (λ e. IsTooMuch stream.entry.now marks layers jobs.entry.items e) }
+{
+    let (written, packets) = plan_headers(alloc, stream, marks, layers)?;
+    if packets > 1 << 22 {
+        return Err(PlanFault::Limit {
+            number: 7,
+            found: packets,
+        });
+    }
+    if let Some(place) = first_crowded(&jobs) {
+        return Err(PlanFault::Choice { number: 4, place });
+    }
+    Ok(OutStream {
+        stream,
+        blocks,
+        marks,
+        layers,
+        written,
+        jobs,
+    })
+}
+
+/// The plan by a planner.
+fn plan_with<'a>(
+    alloc: Global,
+    stream: &'a Stream,
+    blocks: &'a [Block<'a>],
+    options: &Options,
+    planner: &mut Box<dyn LayerPlanner>,
+) -> Result<OutStream<'a>, PlanFault>
+    requires { MayBePlanned stream.now blocks.now }
+    ensures planned { IfOk result (λ p. IsPlanned (rule_of planner.old (string_bytes options.now.layers) (facts_of stream.entry.now blocks.entry.now)) stream.entry.now blocks.entry.now (marks_of options.now) p) }
+    ensures cause { IfErr result (λ e. HasPlanCause (rule_of planner.old (string_bytes options.now.layers) (facts_of stream.entry.now blocks.entry.now)) stream.entry.now blocks.entry.now (marks_of options.now) e) }
+{
+    let facts = facts_of(alloc, stream, blocks)?;
+    let marks = Marks {
+        sop: options.sop,
+        eph: options.eph,
+        plt: options.plt,
+    };
+    match plan_by(alloc, blocks, &options.layers, &facts, planner) {
+        Ok((layers, jobs)) => plan_jobs(alloc, stream, blocks, marks, layers, jobs),
+        Err(fault) => Err(fault),
+    }
+}
+
+/// Plans a codestream as the options ask: with the marks that they name, and the layers that the planner makes that serves
+/// their words; there is no such planner where none serves them. It is asked once for each coding pass, in the order of blocks
+/// and passes, before limit 7 or choice 4 is answered.
+///
+/// # Errors
+///
+/// Choice 6 at 0 exactly where there is no planner, or it makes no rule of the words; nothing was asked then. Limit 7 exactly
+/// where over 2^22 packets would be written, one for each precinct and layer (ITU-T T.800, B.9), with their number. Else choice
+/// 4 exactly where some layer would have over 164 passes of a code-block (B.10.6, Table B.4), at the lowest such block.
+/// `NoMemory` where memory is refused.
+pub fn plan<'a>(
+    alloc: Global,
+    stream: &'a Stream,
+    blocks: &'a [Block<'a>],
+    options: &'a Options,
+    planner: Option<&mut Box<dyn LayerPlanner>>,
+) -> Result<OutStream<'a>, PlanFault>
+    requires { MayBePlanned stream.now blocks.now }
+    ensures planned { IfOk result (λ p. MatchOption planner.entry ⊥ (λ b. IsPlanned (rule_of b.now (string_bytes options.entry.now.layers) (facts_of stream.entry.now blocks.entry.now)) stream.entry.now blocks.entry.now (marks_of options.entry.now) p)) }
+    ensures cause { IfErr result (λ e. MatchOption planner.entry (HasPlanCause None stream.entry.now blocks.entry.now (marks_of options.entry.now) e) (λ b. HasPlanCause (rule_of b.now (string_bytes options.entry.now.layers) (facts_of stream.entry.now blocks.entry.now)) stream.entry.now blocks.entry.now (marks_of options.entry.now) e)) }
+{
+    match planner {
+        Some(planner) => plan_with(alloc, stream, blocks, options, planner),
+        None => Err(PlanFault::Choice {
+            number: 6,
+            place: 0,
+        }),
+    }
+}

@@ -1,0 +1,347 @@
+//! Worked headers, what is written of them, and plans.
+
+ghost use Rattle.jx_plan.specs.Plan.{MayBePlanned};
+
+use super::*;
+use counting::count_packets;
+use headers::{HeaderMarks, write_headers};
+use jx_base::Block;
+use jx_block::Job;
+use jx_gather::gather;
+use jx_marker::Segment;
+use jx_stream::{Stream, StreamFault, read_stream};
+use std::alloc::{AllocError, Global};
+use std::process::Abort;
+use std::test::Fail;
+
+// SIZ with Rsiz 1; COD, QCD, POC, TLM, COM and a skipped marker; a tile of two tile-parts, the first with COC, POC and PLT, the
+// second with COM and PLT. Comments are one letter.
+const FILE: &str = "
+    FF4F FF51 0029 0001 00000001 00000001 00000000 00000000 00000001 00000001 00000000 00000000 0001 07 01 01
+    FF52 000C 00 02 0001 00 00 04 04 00 01 FF5C 0004 40 40 FF5F 0009 00 00 0001 01 01 04 FF55 0004 00 40
+    FF64 0005 0001 61 FF30
+    FF90 000A 0000 00000032 00 02 FF53 0009 00 00 00 04 04 01 01 FF64 0005 0001 62 FF5F 0009 00 00 0001 01 01 03 FF58 0004 00 01 FF93 00
+    FF90 000A 0000 0000001B 01 02 FF64 0005 0001 63 FF58 0004 00 01 FF93
+    FFD9";
+
+fn digit(byte: u8) -> Option<u8> {
+    match byte {
+        b'0'..=b'9' => Some(byte - b'0'),
+        b'A'..=b'F' => Some(byte - b'A' + 10),
+        _ => None,
+    }
+}
+
+// The bytes of hexadecimal digits; what is no digit stands between them.
+fn file_of(alloc: Global, text: &str) -> Result<Vec<u8>, AllocError> {
+    let mut bytes = Vec::new(alloc);
+    let mut high = None;
+    for byte in text.as_bytes() {
+        if let Some(low) = digit(*byte) {
+            match high {
+                None => high = Some(low),
+                Some(first) => {
+                    let first: u8 = first;
+                    bytes.push(first.wrapping_mul(16).wrapping_add(low))?;
+                    high = None;
+                }
+            }
+        }
+    }
+    Ok(bytes)
+}
+
+fn last(bytes: &[u8]) -> u8 {
+    match bytes.last() {
+        Some(byte) => *byte,
+        None => 0,
+    }
+}
+
+fn code(segment: &Segment) -> u8 {
+    match segment {
+        Segment::Cod(_) => b'C',
+        Segment::Coc { .. } => b'O',
+        Segment::Qcd(_) => b'Q',
+        Segment::Com(bytes) => last(bytes.as_slice()),
+        _ => b'?',
+    }
+}
+
+// A letter for each segment, a comment's own.
+fn codes(alloc: Global, segments: &[Segment]) -> Result<Vec<u8>, AllocError> {
+    let mut list = Vec::new(alloc);
+    for segment in segments {
+        list.push(code(segment))?;
+    }
+    Ok(list)
+}
+
+// SOP, EPH, order and layers of a header's COD.
+fn cod_of(segments: &[Segment]) -> Option<(bool, bool, u8, u16)> {
+    for segment in segments {
+        if let Segment::Cod(cod) = segment {
+            return Some((cod.sop, cod.eph, cod.order, cod.layers));
+        }
+    }
+    None
+}
+
+// What is written of a file's headers, with SOP and three layers, and how many packets that are.
+#[tactic(auto, using(crate::proofs::ViewLemmas::read_written))]
+fn written(alloc: Global, file: &[u8]) -> Result<(Stream, u128), StreamFault> {
+    if file.len() > 1 << 28 {
+        return Err(StreamFault::NoMemory);
+    }
+    let stream = read_stream(alloc, file)?;
+    let asked = HeaderMarks {
+        sop: true,
+        eph: false,
+        layers: 3,
+    };
+    let copy = write_headers(alloc, &stream, asked)?;
+    let packets = count_packets(alloc, &copy)?;
+    Ok((copy, packets))
+}
+
+#[test]
+fn headers_in_two_parts(rt: HostRuntime) -> Result<(), Fail> {
+    let alloc = rt.alloc();
+    let file = file_of(alloc, FILE)?;
+    let Ok((stream, packets)) = written(alloc, &file) else {
+        return Err("refused")?;
+    };
+    assert_eq!(rt; packets, 3);
+    assert_eq!(rt; stream.siz.rsiz, 0);
+    let main = stream.main.as_slice();
+    assert_eq!(rt; codes(alloc, main)?.as_slice(), b"CQa".as_slice());
+    assert_eq!(rt; cod_of(main), Some((true, false, 2, 3)));
+    assert_eq!(rt; stream.tiles.as_slice().len(), 1);
+    for tile in stream.tiles.as_slice() {
+        let header = tile.header.as_slice();
+        assert_eq!(rt; codes(alloc, header)?.as_slice(), b"Obc".as_slice());
+        assert_eq!(rt; tile.notes.as_slice().len(), 0);
+        assert_eq!(rt; tile.progressions.as_slice().len(), 1);
+        for entry in tile.progressions.as_slice() {
+            assert_eq!(rt; (entry.lye, entry.re, entry.order), (3, 33, 2));
+        }
+    }
+    Ok(())
+}
+
+// Two tiles of one sample, with a pass in the first's one layer, and one in each of the second's two, which its own COD says.
+const TILES: &str = "
+    FF4F FF51 0029 0000 00000002 00000001 00000000 00000000 00000001 00000001 00000000 00000000 0001 07 01 01
+    FF52 000C 00 00 0001 00 00 04 04 00 01 FF5C 0004 40 40
+    FF90 000A 0000 00000010 00 01 FF93 E101
+    FF90 000A 0001 00000020 00 01 FF52 000C 00 00 0002 00 00 04 04 00 01 FF93 E101 C202
+    FFD9";
+
+const BARE: Marks = Marks {
+    sop: false,
+    eph: false,
+    plt: false,
+};
+
+// The ends of all blocks' layers, each as the block's number, the layer and the passes.
+fn ends_of(alloc: Global, jobs: &[Job<'_>]) -> Result<Vec<[u32; 3]>, AllocError> {
+    let mut list = Vec::new(alloc);
+    for job in jobs {
+        for end in job.ends.as_slice() {
+            list.push([job.number, u32::from(end.layer), u32::from(end.passes)])?;
+        }
+    }
+    Ok(list)
+}
+
+// The layers, the ends and what the main COD says, of the plan that keeps the layers. The stream and the blocks come as references:
+// a value can't be lent where it is made, since both lifetimes of the blocks are one.
+fn kept_of(
+    alloc: Global,
+    stream: &Stream,
+    blocks: &[Block<'_>],
+) -> Result<(u16, Vec<[u32; 3]>, Option<(bool, bool, u8, u16)>), PlanFault>
+    requires { MayBePlanned stream.now blocks.now }
+{
+    let plan = plan_kept(alloc, stream, blocks, BARE)?;
+    let ends = ends_of(alloc, plan.jobs())?;
+    let cod = cod_of(plan.headers().main.as_slice());
+    Ok((plan.layers(), ends, cod))
+}
+
+// The same of a file; none where it is refused.
+#[tactic(auto, using(crate::proofs::KeptLemmas::gathered_may))]
+fn kept(
+    alloc: Global,
+    file: &[u8],
+) -> Option<Result<(u16, Vec<[u32; 3]>, Option<(bool, bool, u8, u16)>), PlanFault>> {
+    if file.len() > 1 << 28 {
+        return None;
+    }
+    let Ok(stream) = read_stream(alloc, file) else {
+        return None;
+    };
+    let Ok(blocks) = gather(alloc, file, &stream) else {
+        return None;
+    };
+    Some(kept_of(alloc, &stream, &blocks))
+}
+
+#[test]
+fn layers_are_kept(rt: HostRuntime) -> Result<(), Fail> {
+    let alloc = rt.alloc();
+    let file = file_of(alloc, TILES)?;
+    let Some(Ok((layers, ends, cod))) = kept(alloc, &file) else {
+        return Err("refused")?;
+    };
+    assert_eq!(rt; layers, 2);
+    assert_eq!(rt; cod, Some((false, false, 0, 2)));
+    assert_eq!(rt;
+        ends.as_slice(),
+        [[0, 0, 1], [1, 0, 1], [1, 1, 2]].as_slice()
+    );
+    Ok(())
+}
+
+// The layers and the ends that a planner plans.
+fn planned_of(
+    alloc: Global,
+    stream: &Stream,
+    blocks: &[Block<'_>],
+    options: &Options,
+    planner: &mut Box<dyn LayerPlanner>,
+) -> Result<(u16, Vec<[u32; 3]>), PlanFault>
+    requires { MayBePlanned stream.now blocks.now }
+{
+    let plan = plan(alloc, stream, blocks, options, Some(planner))?;
+    let ends = ends_of(alloc, plan.jobs())?;
+    Ok((plan.layers(), ends))
+}
+
+// The same of a file; none where it is refused.
+#[tactic(auto, using(crate::proofs::KeptLemmas::gathered_may))]
+fn by_planner(
+    alloc: Global,
+    file: &[u8],
+    options: &Options,
+    planner: &mut Box<dyn LayerPlanner>,
+) -> Option<Result<(u16, Vec<[u32; 3]>), PlanFault>> {
+    if file.len() > 1 << 28 {
+        return None;
+    }
+    let Ok(stream) = read_stream(alloc, file) else {
+        return None;
+    };
+    let Ok(blocks) = gather(alloc, file, &stream) else {
+        return None;
+    };
+    Some(planned_of(alloc, &stream, &blocks, options, planner))
+}
+
+fn options_of(alloc: Global, words: &str) -> Result<Options, AllocError> {
+    let mut layers = String::new(alloc);
+    layers.push_str(words)?;
+    Ok(Options {
+        layers,
+        sop: false,
+        eph: false,
+        plt: false,
+    })
+}
+
+#[test]
+fn all_in_one_layer(rt: HostRuntime) -> Result<(), Fail> {
+    let alloc = rt.alloc();
+    let file = file_of(alloc, TILES)?;
+    let mut planner: Box<dyn LayerPlanner> = Box::new(alloc, OneLayer::new())?;
+    let options = options_of(alloc, "one")?;
+    let Some(Ok((layers, ends))) = by_planner(alloc, &file, &options, &mut planner) else {
+        return Err("refused")?;
+    };
+    assert_eq!(rt; layers, 1);
+    assert_eq!(rt; ends.as_slice(), [[0, 0, 1], [1, 0, 2]].as_slice());
+    let options = options_of(alloc, "two")?;
+    let Some(Err(fault)) = by_planner(alloc, &file, &options, &mut planner) else {
+        return Err("planned")?;
+    };
+    assert_eq!(rt;
+        fault,
+        PlanFault::Choice {
+            number: 6,
+            place: 0
+        }
+    );
+    Ok(())
+}
+
+// A tile of 2,049 precincts with one layer, and one of one precinct with 2,049: each packet is empty.
+const WIDE: &str = "
+    FF4F FF51 0029 0000 00000802 00000001 00000000 00000000 00000801 00000001 00000000 00000000 0001 07 01 01
+    FF52 000D 01 00 0001 00 00 04 04 00 01 00 FF5C 0004 40 40";
+
+const FIRST: &str = "FF90 000A 0000 0000080F 00 01 FF93";
+
+const SECOND: &str = "FF90 000A 0001 0000081D 00 01 FF52 000C 00 00 0801 00 00 04 04 00 01 FF93";
+
+fn push_empty(bytes: &mut Vec<u8>) -> Result<(), AllocError> {
+    for _ in 0..2049_u32 {
+        bytes.push(0)?;
+    }
+    Ok(())
+}
+
+fn wide(alloc: Global) -> Result<Vec<u8>, AllocError> {
+    let mut bytes = file_of(alloc, WIDE)?;
+    bytes.extend_from_slice(&file_of(alloc, FIRST)?)?;
+    push_empty(&mut bytes)?;
+    bytes.extend_from_slice(&file_of(alloc, SECOND)?)?;
+    push_empty(&mut bytes)?;
+    bytes.extend_from_slice(&file_of(alloc, "FFD9")?)?;
+    Ok(bytes)
+}
+
+#[test]
+fn too_many_packets(rt: HostRuntime) -> Result<(), Fail> {
+    let alloc = rt.alloc();
+    let file = wide(alloc)?;
+    let limit = PlanFault::Limit {
+        number: 7,
+        found: 4_200_450,
+    };
+    let Some(Err(fault)) = kept(alloc, &file) else {
+        return Err("planned")?;
+    };
+    assert_eq!(rt; fault, limit);
+    Ok(())
+}
+
+// One block of 74 planes, a region's 37 among them, with 100 passes in each of two layers.
+const LONG: &str = "
+    FF4F FF51 0029 0000 00000001 00000001 00000000 00000000 00000001 00000001 00000000 00000000 0001 07 01 01
+    FF52 000C 00 00 0002 00 00 04 04 00 01 FF5C 0004 E0 F8 FF5E 0005 00 00 25
+    FF90 000A 0000 00000018 00 01 FF93 FF7BF00401 FF77E00802
+    FFD9";
+
+#[test]
+fn too_many_passes(rt: HostRuntime) -> Result<(), Fail> {
+    let alloc = rt.alloc();
+    let file = file_of(alloc, LONG)?;
+    let Some(Ok((layers, ends, _))) = kept(alloc, &file) else {
+        return Err("refused")?;
+    };
+    assert_eq!(rt; layers, 2);
+    assert_eq!(rt; ends.as_slice(), [[0, 0, 100], [0, 1, 200]].as_slice());
+    let mut planner: Box<dyn LayerPlanner> = Box::new(alloc, OneLayer::new())?;
+    let options = options_of(alloc, "one")?;
+    let Some(Err(fault)) = by_planner(alloc, &file, &options, &mut planner) else {
+        return Err("planned")?;
+    };
+    assert_eq!(rt;
+        fault,
+        PlanFault::Choice {
+            number: 4,
+            place: 0
+        }
+    );
+    Ok(())
+}
