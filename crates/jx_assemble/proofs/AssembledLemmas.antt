@@ -1,0 +1,128 @@
+-- The packets made from the blocks of a tile are those of the whole codestream's blocks.
+use Rattle.std.proofs.Common.{◌≡◌, ℕ, zero, suc, ◌+◌, ◌<◌, List, [], ◌∷◌, ◌++◌, length, map, refl, sym, ap, ◌∙◌, subst, arith, append-nil, All, Option}
+use Rattle.std.specs.Prelude.{slice_get}
+use Rattle.std.specs.List.{AllByRecursion, range_with_len}
+use Rattle.std.proofs.lemmas.List.Elements.{recursion_from_All}
+use Rattle.jx_base.specs.declared.pieces.Block.{Block}
+use Rattle.jx_base.specs.Joined.{joined}
+use Rattle.jx_base.proofs.Joined.{joined_same}
+use Rattle.jx_geom.specs.Counts.{tile_blocks}
+use Rattle.jx_geom.specs.Geometry.{Geometry, GeometryInRange, rect_of_tile}
+use Rattle.jx_geom.specs.Precincts.{HasPrecinct, leaves, leaf_number}
+use Rattle.jx_geom.proofs.LeafLemmas.{leaf_below}
+use Rattle.jx_head.specs.LeavesFit.{header_at}
+use Rattle.jx_head.specs.Written.{Leafed}
+use Rattle.jx_order.specs.Packets.{IsPacket}
+use Rattle.jx_order.specs.Steps.{name_of}
+use Rattle.jx_order.specs.declared.names.PacketName.{PacketName}
+use Rattle.jx_stream.specs.declared.Stream.{Stream}
+use Rattle.jx_stream.specs.Params.{header_of}
+use Rattle.jx_stream.specs.Shapes.{geometry, layers_of, shapes_of, style_of}
+use Rattle.jx_stream.specs.Spells.{part_bytes}
+use Rattle.jx_gather.specs.Carries.{block_in, bytes_of, pieces_of}
+use Rattle.jx_gather.specs.Cells.{precinct_bands}
+use Rattle.jx_gather.specs.Gathered.{IsListOf}
+use Rattle.jx_gather.specs.Planned.{leaf_from, leaf_in, leaves_in}
+use Rattle.jx_gather.specs.Written.{bytes_from, packet_bytes}
+use Rattle.jx_assemble.specs.Assembled.{AreOwn, AreTileBytes, IsTooLong}
+use Rattle.jx_assemble.specs.Own.{leaf_bytes, own_leaf, own_leaves}
+use Rattle.jx_assemble.specs.Packed.{own_body, own_length, own_packet, own_packets, own_part, packet_with}
+use Rattle.jx_assemble.specs.Sent.{layer_bytes}
+use Rattle.jx_assemble.specs.TileParts.{AreTilePartsOf, groups_of, packet_length, packet_of, packets_of, part_header, tile_part, tile_parts}
+use Rattle.jx_plan.specs.declared.Marks.{Marks as Asked}
+
+-- ---- a leaf
+same_block : (s : Stream) (t : ℕ) (blocks own : List Block) (p : PacketName) (j : ℕ) → GeometryInRange (geometry s t) → AreOwn s t blocks own → HasPrecinct (geometry s t) p.comp p.res p.precinct
+    → j < leaves (geometry s t) p.comp p.res p.precinct → block_in s t blocks p j ≡ slice_get own (leaf_number (geometry s t) p.comp p.res p.precinct j)
+same_block s t blocks own p j range are has lt =
+    let below : leaf_number (geometry s t) p.comp p.res p.precinct j < tile_blocks (rect_of_tile (geometry s t)) (shapes_of s t) = leaf_below (geometry s t) p.comp p.res p.precinct j range has lt in
+    are.each (leaf_number (geometry s t) p.comp p.res p.precinct j) (subst (λ (n : ℕ). leaf_number (geometry s t) p.comp p.res p.precinct j < n) (sym are.all) below)
+
+map_same : {X : Type 0} (f h : ℕ → X) (a n : ℕ) → ((i : ℕ) → i < n → f (a + i) ≡ h (a + i)) → map f (range_with_len a n) ≡ map h (range_with_len a n)
+map_same f h a zero each = refl
+map_same {X} f h a (suc n) each =
+    let here : a + 0 ≡ a = omega arith in
+    let first : f a ≡ h a = ap f (sym here) ∙ each 0 (omega arith) ∙ ap h here in
+    let rest : map f (range_with_len (a + 1) n) ≡ map h (range_with_len (a + 1) n) =
+    map_same f h (a + 1) n (λ i lt. (let e : a + suc i ≡ a + 1 + i = omega arith in ap f (sym e) ∙ each (suc i) (omega arith) ∙ ap h e)) in
+    ap (λ (x : X). x ∷ map f (range_with_len (a + 1) n)) first ∙ ap (λ (xs : List X). h a ∷ xs) rest
+
+same_leaves : (s : Stream) (t : ℕ) (blocks own : List Block) (c r k : ℕ) → GeometryInRange (geometry s t) → AreOwn s t blocks own → HasPrecinct (geometry s t) c r k
+    → leaves_in s t blocks c r k ≡ own_leaves (geometry s t) own c r k
+unfolding leaves_in own_leaves
+same_leaves s t blocks own c r k range are has =
+    map_same (leaf_in s t blocks c r k) (own_leaf (geometry s t) own c r k) 0 (leaves (geometry s t) c r k)
+    (λ i lt. (let e : i ≡ 0 + i = omega arith in
+    let P : ℕ → Type 0 = λ j. j < leaves (geometry s t) c r k in
+    ap (leaf_from (0 + i)) (same_block s t blocks own (name_of 0 r c k) (0 + i) range are has (subst P e lt))))
+
+same_body : (s : Stream) (t : ℕ) (blocks own : List Block) (p : PacketName) → GeometryInRange (geometry s t) → AreOwn s t blocks own → HasPrecinct (geometry s t) p.comp p.res p.precinct
+    → joined (bytes_of s t blocks p) 0 (leaves (geometry s t) p.comp p.res p.precinct) ≡ own_body (geometry s t) own p
+unfolding layer_bytes
+same_body s t blocks own p range are has =
+    joined_same (bytes_of s t blocks p) (leaf_bytes (geometry s t) own p.comp p.res p.precinct p.layer) (leaves (geometry s t) p.comp p.res p.precinct)
+    (λ j lt. ap (λ (o : Option Block). layer_bytes p.layer (pieces_of o)) (same_block s t blocks own p j range are has lt))
+
+-- ---- a packet
+same_packet : (m : Asked) (s : Stream) (t : ℕ) (blocks own : List Block) (p : PacketName) (n : ℕ) → GeometryInRange (geometry s t) → AreOwn s t blocks own → IsPacket (geometry s t) (layers_of s t) p
+    → packet_bytes n (packet_of m s t blocks p) ≡ packet_bytes n (own_packet m s (geometry s t) own p)
+same_packet m s t blocks own p n range are is =
+    let has : HasPrecinct (geometry s t) p.comp p.res p.precinct = record { resolution = is.resolution; precinct = is.precinct } in
+    let header : List Leafed → List ℕ = λ lvs. header_at (layers_of s t) (style_of s t p.comp) (precinct_bands s (geometry s t) p.comp p.res p.precinct) lvs p.layer in
+    ap (λ (lvs : List Leafed). packet_with m n (header lvs) (joined (bytes_of s t blocks p) 0 (leaves (geometry s t) p.comp p.res p.precinct))) (same_leaves s t blocks own p.comp p.res p.precinct range are has)
+    ∙ ap (λ (b : List ℕ). packet_with m n (header (own_leaves (geometry s t) own p.comp p.res p.precinct)) b) (same_body s t blocks own p range are has)
+
+same_bytes : (m : Asked) (s : Stream) (t : ℕ) (blocks own : List Block) (n : ℕ) (names : List PacketName) → GeometryInRange (geometry s t) → AreOwn s t blocks own
+    → AllByRecursion (IsPacket (geometry s t) (layers_of s t)) names → bytes_from (packets_of m s t blocks) n names ≡ bytes_from (own_packets m s (geometry s t) own) n names
+unfolding packets_of
+same_bytes m s t blocks own n [] range are each = refl
+same_bytes m s t blocks own n (p ∷ names) range are each =
+    ap (λ (b : List ℕ). b ++ bytes_from (packets_of m s t blocks) (n + 1) names) (same_packet m s t blocks own p n range are each.0)
+    ∙ ap (λ (b : List ℕ). packet_bytes n (own_packet m s (geometry s t) own p) ++ b) (same_bytes m s t blocks own (n + 1) names range are each.1)
+
+same_lengths : (m : Asked) (s : Stream) (t : ℕ) (blocks own : List Block) (names : List PacketName) → GeometryInRange (geometry s t) → AreOwn s t blocks own
+    → AllByRecursion (IsPacket (geometry s t) (layers_of s t)) names → map (packet_length (packets_of m s t blocks)) names ≡ map (own_length m s (geometry s t) own) names
+unfolding packets_of
+same_lengths m s t blocks own [] range are each = refl
+same_lengths m s t blocks own (p ∷ names) range are each =
+    ap (λ (b : List ℕ). length b ∷ map (packet_length (packets_of m s t blocks)) names) (same_packet m s t blocks own p 0 range are each.0)
+    ∙ ap (λ (ns : List ℕ). own_length m s (geometry s t) own p ∷ ns) (same_lengths m s t blocks own names range are each.1)
+
+-- ---- the tile-part
+same_part : (m : Asked) (s : Stream) (t : ℕ) (blocks own : List Block) (names : List PacketName) → GeometryInRange (geometry s t) → AreOwn s t blocks own
+    → All (IsPacket (geometry s t) (layers_of s t)) names → tile_parts m s blocks t (groups_of names) ≡ own_part m s (geometry s t) own names ∷ []
+same_part m s t blocks own names range are each =
+    let rec : AllByRecursion (IsPacket (geometry s t) (layers_of s t)) names = recursion_from_All (IsPacket (geometry s t) (layers_of s t)) names each in
+    ap (λ (ls : List ℕ). tile_part (length s.siz.comps) t 0 1 (part_header m (header_of s t) 0 ls) (bytes_from (packets_of m s t blocks) 0 names) ∷ [])
+    (same_lengths m s t blocks own names range are rec)
+    ∙ ap (λ (b : List ℕ). tile_part (length s.siz.comps) t 0 1 (part_header m (header_of s t) 0 (map (own_length m s (geometry s t) own) names)) b ∷ [])
+    (same_bytes m s t blocks own 0 names range are rec)
+
+tile_parts_are : (m : Asked) (s : Stream) (g : Geometry) (blocks own : List Block) (names : List PacketName) → g ≡ geometry s g.tile → GeometryInRange g → AreOwn s g.tile blocks own
+    → All (IsPacket g (layers_of s g.tile)) names → IsListOf s g.tile names → AreTilePartsOf m s blocks g.tile (own_part m s g own names ∷ [])
+tile_parts_are m s g blocks own names e range are each listed =
+    let P : Geometry → Type 0 = λ x. GeometryInRange x in
+    let Q : Geometry → Type 0 = λ x. All (IsPacket x (layers_of s g.tile)) names in
+    record {
+      names = names;
+      order = listed;
+      are = ap (λ (x : Geometry). own_part m s x own names ∷ []) e ∙ sym (same_part m s g.tile blocks own names (subst P e range) are (subst Q e each));
+    }
+
+pub tile_bytes : (m : Asked) (s : Stream) (g : Geometry) (blocks own : List Block) (names : List PacketName) (bytes : List ℕ) → g ≡ geometry s g.tile → GeometryInRange g → AreOwn s g.tile blocks own
+    → All (IsPacket g (layers_of s g.tile)) names → IsListOf s g.tile names → bytes ≡ part_bytes (length s.siz.comps) (own_part m s g own names) → AreTileBytes m s blocks g.tile bytes
+tile_bytes m s g blocks own names bytes e range are each listed is = record {
+  parts = own_part m s g own names ∷ [];
+  are = tile_parts_are m s g blocks own names e range are each listed;
+  bytes_are = is ∙ sym (append-nil (part_bytes (length s.siz.comps) (own_part m s g own names)));
+}
+
+pub too_long : (m : Asked) (s : Stream) (g : Geometry) (blocks own : List Block) (names : List PacketName) (most : ℕ) → g ≡ geometry s g.tile → GeometryInRange g → AreOwn s g.tile blocks own
+    → All (IsPacket g (layers_of s g.tile)) names → IsListOf s g.tile names → most < length (part_bytes (length s.siz.comps) (own_part m s g own names)) → IsTooLong m s blocks g.tile most
+too_long m s g blocks own names most e range are each listed lt =
+    let whole : List ℕ = part_bytes (length s.siz.comps) (own_part m s g own names) in
+    record {
+      parts = own_part m s g own names ∷ [];
+      are = tile_parts_are m s g blocks own names e range are each listed;
+      long = subst (λ (xs : List ℕ). most < length xs) (sym (append-nil whole)) lt;
+    }

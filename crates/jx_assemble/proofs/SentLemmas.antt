@@ -1,0 +1,132 @@
+-- The parts of blocks layer by layer, and their bytes.
+use Rattle.std.proofs.Common.{◌≡◌, inl, inr, ℕ, zero, suc, ◌<◌, ◌==◌, Bool, true, false, cond, List, [], ◌∷◌, ◌++◌, length, map, refl, sym, ap, ◌∙◌, subst, append-nil, slice_set, All, arith}
+use Rattle.std.specs.Prelude.{slice_index_or, Option, Some}
+use Rattle.std.specs.Global.{Vec}
+use Rattle.std.specs.List.{flat_map, AllByRecursion}
+use Rattle.std.proofs.lemmas.Bool.{cases_eq}
+use Rattle.std.proofs.lemmas.Bool.Decides.{nat_tests}
+use Rattle.std.proofs.lemmas.Grind.{flat_map-append}
+use Rattle.std.proofs.lemmas.List.Elements.{All-from_recursion, recursion_from_All, All-append}
+use Rattle.jx_base.specs.declared.pieces.Block.{Block}
+use Rattle.jx_base.specs.Pieces.{PieceValue}
+use Rattle.jx_gather.specs.BlockOf.{pieces_at}
+use Rattle.jx_gather.specs.Carries.{pieces_of}
+use Rattle.jx_gather.proofs.CarryLemmas.{layer_here, layer_past, layer_nothing}
+use Rattle.jx_assemble.specs.Coded.{ArePartsOf, HasLayers, IsInside}
+use Rattle.jx_assemble.specs.Sent.{AreSent, IsSent, layer_bytes, row_at, row_bytes, rows_of, sent_bytes, sent_in}
+use Rattle.jx_block.specs.declared.OutPart.{OutPart}
+use Rattle.jx_block.specs.Recoding.{piece_of}
+use Rattle.jx_assemble.specs.declared.sent.Sent.{Sent}
+
+one_sent : ℕ → OutPart → Sent
+one_sent block p = record { block = block; part = p }
+
+-- one part, then the others
+pub sent_next : (layer block : ℕ) (p : OutPart) (parts : List OutPart) → sent_in layer block (p ∷ parts) ≡ sent_in layer block (p ∷ []) ++ sent_in layer block parts
+sent_next layer block p parts = by (p.layer == layer)
+  where
+    by : (b : Bool) → cond b (record { block = block; part = p } ∷ sent_in layer block parts) (sent_in layer block parts)
+        ≡ cond b (record { block = block; part = p } ∷ []) [] ++ sent_in layer block parts
+    by true = refl
+    by false = refl
+
+sent_here : (layer block : ℕ) (p : OutPart) (parts : List OutPart) → p.layer ≡ layer → sent_in layer block (p ∷ parts) ≡ record { block = block; part = p } ∷ sent_in layer block parts
+sent_here layer block p parts e = grind (arith, nat_tests)
+
+sent_past : (layer block : ℕ) (p : OutPart) (parts : List OutPart) → (p.layer ≡ layer → ⊥) → sent_in layer block (p ∷ parts) ≡ sent_in layer block parts
+sent_past layer block p parts ne = grind (arith, nat_tests)
+
+-- the bytes of a block's parts in a layer are those of its pieces
+parts_bytes : (datas : List (List ℕ)) (layer block : ℕ) (parts : List OutPart)
+    → row_bytes datas (sent_in layer block parts) ≡ layer_bytes layer (map (piece_of (slice_index_or datas block [])) parts)
+unfolding layer_bytes
+parts_bytes datas layer block [] = ap (flat_map (λ (q : PieceValue). q.bytes)) (sym (layer_nothing layer))
+parts_bytes datas layer block (p ∷ parts) =
+    let bytes : List ℕ = slice_index_or datas block [] in
+    let own : PieceValue = piece_of bytes p in
+    let pieces : List PieceValue = map (piece_of bytes) parts in
+    let rest : row_bytes datas (sent_in layer block parts) ≡ flat_map (λ (q : PieceValue). q.bytes) (pieces_at layer pieces) = parts_bytes datas layer block parts in
+    elim (cases_eq p.layer layer) [
+      | inl e ↦
+          ap (row_bytes datas) (sent_here layer block p parts e)
+          ∙ ap (λ (xs : List ℕ). own.bytes ++ xs) rest
+          ∙ ap (flat_map (λ (q : PieceValue). q.bytes)) (sym (layer_here layer own pieces e))
+      | inr ne ↦
+          ap (row_bytes datas) (sent_past layer block p parts ne) ∙ rest ∙ ap (flat_map (λ (q : PieceValue). q.bytes)) (sym (layer_past layer own pieces ne))
+    ]
+
+pub block_sent : (datas : List (List ℕ)) (layer block : ℕ) (old new : List Sent) (o : Option Block) (b : Block) (bytes : List ℕ) (parts : List OutPart)
+    → o ≡ Some b → slice_index_or datas block [] ≡ bytes → ArePartsOf b bytes parts → new ≡ old ++ sent_in layer block parts
+    → row_bytes datas new ≡ row_bytes datas old ++ layer_bytes layer (pieces_of o)
+block_sent datas layer block old new o b bytes parts is held are made =
+    let pieces : map (piece_of (slice_index_or datas block [])) parts ≡ pieces_of o =
+    ap (λ (xs : List ℕ). map (piece_of xs) parts) held ∙ sym are.pieces ∙ ap pieces_of (sym is) in
+    ap (row_bytes datas) made
+    ∙ flat_map-append (sent_bytes datas) old (sent_in layer block parts)
+    ∙ ap (λ (xs : List ℕ). row_bytes datas old ++ xs) (parts_bytes datas layer block parts ∙ ap (layer_bytes layer) pieces)
+
+-- each lies in its block's bytes
+parts_inside : (datas : List (List ℕ)) (layer block : ℕ) (parts : List OutPart) → block < length datas
+    → AllByRecursion (IsInside (slice_index_or datas block [])) parts → AllByRecursion (IsSent datas) (sent_in layer block parts)
+parts_inside datas layer block [] lt all = tt
+parts_inside datas layer block (p ∷ parts) lt all =
+    let P : List Sent → Type 0 = λ xs. AllByRecursion (IsSent datas) xs in
+    let rest : P (sent_in layer block parts) = parts_inside datas layer block parts lt all.1 in
+    elim (cases_eq p.layer layer) [
+      | inl e ↦ subst P (sym (sent_here layer block p parts e)) (record { there = lt; inside = all.0 }, rest)
+      | inr ne ↦ subst P (sym (sent_past layer block p parts ne)) rest
+    ]
+
+pub block_inside : (datas : List (List ℕ)) (layer block : ℕ) (old new : List Sent) (b : Block) (bytes : List ℕ) (parts : List OutPart)
+    → block < length datas → slice_index_or datas block [] ≡ bytes → ArePartsOf b bytes parts → AreSent datas old → new ≡ old ++ sent_in layer block parts → AreSent datas new
+block_inside datas layer block old new b bytes parts lt held are before made =
+    let inside : AllByRecursion (IsInside (slice_index_or datas block [])) parts =
+    subst (λ (xs : List ℕ). AllByRecursion (IsInside xs) parts) (sym held) (recursion_from_All (IsInside bytes) parts are.inside) in
+    let all : All (IsSent datas) (sent_in layer block parts) = All-from_recursion (IsSent datas) (sent_in layer block parts) (parts_inside datas layer block parts lt inside) in
+    subst (AreSent datas) (sym made) (All-append (IsSent datas) old (sent_in layer block parts) before all)
+
+-- the layers of parts are those of the pieces
+layers_back : (bytes : List ℕ) (layers : ℕ) (parts : List OutPart) → AllByRecursion (λ (q : PieceValue). q.layer < layers) (map (piece_of bytes) parts)
+    → AllByRecursion (λ (p : OutPart). p.layer < layers) parts
+layers_back bytes layers [] all = tt
+layers_back bytes layers (p ∷ parts) all = (all.0, layers_back bytes layers parts all.1)
+
+pub parts_in_layers : (layers : ℕ) (o : Option Block) (b : Block) (bytes : List ℕ) (parts : List OutPart) → o ≡ Some b → ArePartsOf b bytes parts → HasLayers layers o
+    → All (λ (p : OutPart). p.layer < layers) parts
+parts_in_layers layers o b bytes parts is are has =
+    let own : All (λ (q : PieceValue). q.layer < layers) b.pieces = subst (λ (x : Option Block). HasLayers layers x) is has in
+    let mapped : All (λ (q : PieceValue). q.layer < layers) (map (piece_of bytes) parts) = subst (λ (qs : List PieceValue). All (λ (q : PieceValue). q.layer < layers) qs) are.pieces own in
+    All-from_recursion (λ (p : OutPart). p.layer < layers) parts
+    (layers_back bytes layers parts (recursion_from_All (λ (q : PieceValue). q.layer < layers) (map (piece_of bytes) parts) mapped))
+
+-- ---- one row becomes longer
+set_same : (vecs : List (Vec Sent)) (i : ℕ) (v : Vec Sent) → i < length vecs → row_at (rows_of (slice_set vecs i v)) i ≡ v.items
+set_same [] i v lt = absurd (omega arith)
+set_same (w ∷ vecs) zero v lt = refl
+set_same (w ∷ vecs) (suc i) v lt = set_same vecs i v (omega arith)
+
+set_other : (vecs : List (Vec Sent)) (i l : ℕ) (v : Vec Sent) → (l ≡ i → ⊥) → row_at (rows_of (slice_set vecs i v)) l ≡ row_at (rows_of vecs) l
+set_other [] i l v ne = refl
+set_other (w ∷ vecs) zero zero v ne = absurd (ne refl)
+set_other (w ∷ vecs) zero (suc l) v ne = refl
+set_other (w ∷ vecs) (suc i) zero v ne = refl
+set_other (w ∷ vecs) (suc i) (suc l) v ne = set_other vecs i l v (λ e. ne (ap (λ (n : ℕ). suc n) e))
+
+row_get : (vecs : List (Vec Sent)) (i : ℕ) (w : Vec Sent) → i < length vecs → w ≡ slice_index_or vecs i w → row_at (rows_of vecs) i ≡ w.items
+row_get [] i w lt e = absurd (omega arith)
+row_get (x ∷ vecs) zero w lt e = ap (λ (y : Vec Sent). y.items) (sym e)
+row_get (x ∷ vecs) (suc i) w lt e = row_get vecs i w (omega arith) e
+
+pub pushed : (vecs : List (Vec Sent)) (i layer block : ℕ) (v w : Vec Sent) (p : OutPart) → i ≡ p.layer → i < length vecs → w ≡ slice_index_or vecs i w
+    → v.items ≡ w.items ++ record { block = block; part = p } ∷ [] → row_at (rows_of (slice_set vecs i v)) layer ≡ row_at (rows_of vecs) layer ++ sent_in layer block (p ∷ [])
+pushed vecs i layer block v w p is lt at made = elim (cases_eq layer i) [
+  | inl e ↦
+      let same : p.layer ≡ layer = sym (e ∙ is) in
+      ap (row_at (rows_of (slice_set vecs i v))) e ∙ set_same vecs i v lt ∙ made
+      ∙ ap (λ (xs : List Sent). xs ++ record { block = block; part = p } ∷ []) (sym (row_get vecs i w lt at) ∙ ap (row_at (rows_of vecs)) (sym e))
+      ∙ ap (λ (xs : List Sent). row_at (rows_of vecs) layer ++ xs) (sym (sent_here layer block p [] same))
+  | inr ne ↦
+      let apart : p.layer ≡ layer → ⊥ = λ (e : p.layer ≡ layer). ne (sym e ∙ sym is) in
+      set_other vecs i layer v ne ∙ sym (append-nil (row_at (rows_of vecs) layer))
+      ∙ ap (λ (xs : List Sent). row_at (rows_of vecs) layer ++ xs) (sym (sent_past layer block p [] apart))
+]

@@ -1,0 +1,8 @@
+use Rattle.jx_assemble.proofs.OutputLemmas.{one_output, output_exists}
+use Rattle.jx_assemble.proofs.laws.one_output.Goals as goal
+
+pub returns-clause-some : goal.returns-clause-some
+returns-clause-some c = output_exists
+
+pub returns-clause-one : goal.returns-clause-one
+returns-clause-one c = one_output

@@ -1,0 +1,16 @@
+pub mod Assembled
+pub mod Coded
+pub mod Leaves
+pub mod Lengths
+pub mod Names
+pub mod Own
+pub mod Packed
+pub mod Rows
+pub mod Sent
+pub mod TileParts
+pub mod Told
+pub mod Ready
+pub mod Strict
+pub mod SameHeaders
+pub mod Tile
+pub mod Kept

@@ -1,0 +1,63 @@
+-- Inner: the packets of a tile as they are made from the blocks of that tile alone.
+use Rattle.std.specs.Prelude.{◌+◌, ℕ, Bool, List, [], ◌++◌, length, map, sum_by, if◌then◌else◌}
+use Rattle.jx_base.specs.declared.pieces.Block.{Block}
+use Rattle.jx_base.specs.Joined.{joined}
+use Rattle.jx_geom.specs.Geometry.{Geometry}
+use Rattle.jx_geom.specs.Precincts.{leaves}
+use Rattle.jx_head.specs.LeavesFit.{parts_at}
+use Rattle.jx_head.specs.Written.{state_at}
+use Rattle.jx_order.specs.declared.names.PacketName.{PacketName}
+use Rattle.jx_stream.specs.declared.Stream.{Stream}
+use Rattle.jx_stream.specs.Params.{header_of}
+use Rattle.jx_stream.specs.Shapes.{layers_of, style_of}
+use Rattle.jx_stream.specs.Spells.{TilePart}
+use Rattle.jx_gather.specs.Cells.{precinct_bands}
+use Rattle.jx_gather.specs.Written.{Packets, Written, bytes_from, eph_bytes, packet_bytes, sop_bytes}
+use Rattle.jx_plan.specs.declared.Marks.{Marks as Asked}
+use Rattle.jx_assemble.specs.Own.{leaf_bytes, own_header, own_leaves}
+use Rattle.jx_assemble.specs.TileParts.{part_header, tile_part}
+
+abbrev pub own_body : Geometry → List Block → PacketName → List ℕ
+own_body g own p = joined (leaf_bytes g own p.comp p.res p.precinct p.layer) 0 (leaves g p.comp p.res p.precinct)
+
+abbrev pub own_packet : Asked → Stream → Geometry → List Block → PacketName → Written
+own_packet m s g own p = record {
+  sop = m.sop;
+  header = own_header s g own p.comp p.res p.precinct p.layer;
+  eph = m.eph;
+  parts = parts_at p.layer (own_leaves g own p.comp p.res p.precinct);
+  bytes = own_body g own p;
+}
+
+abbrev pub own_packets : Asked → Stream → Geometry → List Block → Packets
+own_packets m s g own = record {
+  written = own_packet m s g own;
+  before = λ p. state_at (layers_of s g.tile) (style_of s g.tile p.comp) (precinct_bands s g p.comp p.res p.precinct) (own_leaves g own p.comp p.res p.precinct) p.layer;
+}
+
+-- the marks before a header and behind it
+abbrev pub sop_of : Bool → ℕ → List ℕ
+sop_of sop number = if sop then sop_bytes number else []
+
+abbrev pub eph_of : Bool → List ℕ
+eph_of eph = if eph then eph_bytes else []
+
+-- how many bytes they take
+abbrev pub marks_length : Asked → ℕ
+marks_length m = (if m.sop then 6 else 0) + (if m.eph then 2 else 0)
+
+abbrev pub packet_with : Asked → ℕ → List ℕ → List ℕ → List ℕ
+packet_with m number header body = sop_of m.sop number ++ (header ++ (eph_of m.eph ++ body))
+
+-- a packet's length
+abbrev pub own_length : Asked → Stream → Geometry → List Block → PacketName → ℕ
+own_length m s g own p = length (packet_bytes 0 (own_packet m s g own p))
+
+-- and those of many together
+abbrev pub total : List ℕ → ℕ
+total lengths = sum_by (λ (n : ℕ). n) lengths
+
+-- the tile-part
+abbrev pub own_part : Asked → Stream → Geometry → List Block → List PacketName → TilePart
+own_part m s g own names =
+    tile_part (length s.siz.comps) g.tile 0 1 (part_header m (header_of s g.tile) 0 (map (own_length m s g own) names)) (bytes_from (own_packets m s g own) 0 names)

@@ -1,0 +1,36 @@
+//! The main header (ITU-T T.800, A.2).
+
+ghost use Rattle.std.specs.Prelude.{◌≡◌, ◌≤◌, ◌++◌, [], length, IfOk};
+ghost use Rattle.jx_marker.specs.declared.Segment.TheVariants as segment;
+ghost use Rattle.jx_marker.specs.Ranges.{SizInRange};
+ghost use Rattle.jx_marker.specs.Segments.{spelling};
+ghost use Rattle.jx_stream.specs.declared.headers.HeaderKind.TheVariants.{Main};
+ghost use Rattle.jx_stream.specs.Spells.{AreSegments, all_bytes};
+
+use crate::segments::put_segments;
+use jx_base::NoMemory;
+use jx_marker::{Segment, Siz, put_segment};
+use jx_stream::Stream;
+use std::alloc::Global;
+
+/// How many components a picture has, at most 16,384.
+pub(crate) fn comps_of(siz: &Siz) -> u16
+    requires { length siz.now.comps ≤ 16384 }
+    ensures { result ≡ length siz.now.comps }
+{
+    siz.comps.as_slice().len() as u16
+}
+
+/// The main header: SOC, SIZ and the segments after it, in their order.
+pub(crate) fn header_bytes(alloc: Global, stream: &Stream) -> Result<Vec<u8>, NoMemory>
+    requires siz { SizInRange stream.now.siz }
+    requires main { AreSegments Main (length stream.now.siz.comps) [] stream.now.main }
+    ensures { IfOk result (λ bytes. bytes.items ≡ spelling 1 segment.Soc ++ (spelling 1 (segment.Siz stream.now.siz) ++ all_bytes (length stream.now.siz.comps) stream.now.main)) }
+{
+    let mut bytes = Vec::new(alloc);
+    let comps = comps_of(&stream.siz);
+    put_segment(&Segment::Soc, 1, &mut bytes)?;
+    put_segment(&Segment::Siz(stream.siz.copy()?), 1, &mut bytes)?;
+    put_segments(stream.main.as_slice(), comps, &mut bytes)?;
+    Ok(bytes)
+}

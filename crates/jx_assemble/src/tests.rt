@@ -1,0 +1,172 @@
+//! Lengths in PLT, and a codestream of one tile put together again.
+
+ghost use Rattle.std.specs.Prelude.{◌≡◌, map, [], None, IfOk};
+ghost use Rattle.std.specs.List.{All};
+ghost use Rattle.jx_base.specs.declared.pieces.Block.{Block};
+ghost use Rattle.jx_base.specs.Sound.{IsSound};
+ghost use Rattle.jx_block.specs.declared.job.Job.{Job};
+ghost use Rattle.jx_block.specs.Jobs.{IsAsked};
+ghost use Rattle.jx_block.specs.Recoded.{WrittenBlock};
+ghost use Rattle.jx_stream.specs.First.{tile_number};
+ghost use Rattle.jx_plan.specs.Plan.{MayBePlanned};
+ghost use Rattle.jx_assemble.specs.Tile.{block_written};
+
+use crate::lengths::put_lengths;
+use crate::{AssembleFault, assemble_tile, main_header};
+use jx_base::{Block, NoMemory};
+use jx_block::{Job, Recoded, recode};
+use jx_gather::gather;
+use jx_plan::{Marks, OutStream, plan_kept};
+use jx_store::Claim;
+use jx_stream::{Stream, read_stream};
+use std::alloc::Global;
+
+/// The lengths 1, 128 and 16,384 take one, two and three bytes.
+#[test]
+fn packet_lengths(rt: HostRuntime) {
+    let mut out = vec![in rt.alloc(); 7].expect(&rt, "memory");
+    let done = put_lengths(rt.alloc(), &[1, 128, 16_384], 1, &mut out);
+    assert!(rt; done.is_ok());
+    let want = [7, 0xFF, 0x58, 0, 9, 0, 1, 0x81, 0, 0x81, 0x80, 0];
+    assert!(rt; out.as_slice() == want.as_slice());
+}
+
+/// No packet has no length.
+#[test]
+fn no_lengths(rt: HostRuntime) {
+    let mut out = Vec::new(rt.alloc());
+    let done = put_lengths(rt.alloc(), &[], 1, &mut out);
+    assert!(rt; done.is_ok());
+    assert!(rt; out.is_empty());
+}
+
+/// A block without a pass, as it is written. Where it has a pass this fails as if memory were refused.
+fn bare_value<'a>(alloc: Global, job: &'a Job<'a>) -> Result<Recoded<'a>, NoMemory>
+    requires asked { IsAsked job.now.block.now job.now.style job.now.ends }
+    requires kept { job.now.style ≡ None }
+    ensures job { IfOk result (λ r. r.job ≡ job.entry.now) }
+    ensures sound { IfOk result (λ r. IsSound (block_written r)) }
+    ensures bare { IfOk result (λ r. (block_written r).pieces ≡ []) }
+{
+    let claim = Claim::issue(job.number, 0);
+    let value = recode(alloc, &claim, job);
+    claim.spend();
+    let value = value?;
+    if value.parts().len() > 0 {
+        return Err(NoMemory);
+    }
+    Ok(value)
+}
+
+/// The blocks as they are written, where none has a pass.
+fn bare_values<'a>(alloc: Global, jobs: &'a [Job<'a>]) -> Result<Vec<Recoded<'a>>, NoMemory>
+    requires asked { All (λ (j : Job). IsAsked j.block.now j.style j.ends) jobs.now }
+    requires kept { All (λ (j : Job). j.style ≡ None) jobs.now }
+    ensures jobs { IfOk result (λ list. map (λ (r : WrittenBlock). r.job) list.items ≡ jobs.entry.now) }
+    ensures sound { IfOk result (λ list. All IsSound (map block_written list.items)) }
+    ensures bare { IfOk result (λ list. All (λ (b : Block). b.pieces ≡ []) (map block_written list.items)) }
+{
+    let mut list = Vec::new(alloc);
+    for job in jobs {
+        let value = bare_value(alloc, job)?;
+        list.push(value)?;
+    }
+    Ok(list)
+}
+
+/// The one tile of a plan.
+fn only_tile(
+    alloc: Global,
+    plan: &OutStream<'_>,
+    most: u32,
+) -> Option<Result<Vec<Vec<u8>>, AssembleFault>>
+    requires { tile_number plan.now.stream.siz ≡ 1 }
+{
+    let Ok(values) = bare_values(alloc, plan.jobs()) else {
+        return None;
+    };
+    Some(assemble_tile(alloc, plan, 0, &values, most))
+}
+
+/// The main header and the tile of a stream of one tile. The stream and the blocks come as references: a value can't be lent where it
+/// is made, since both lifetimes of the blocks are one.
+fn kept_of(
+    alloc: Global,
+    stream: &Stream,
+    blocks: &[Block<'_>],
+    marks: Marks,
+    most: u32,
+) -> Option<(Vec<u8>, Result<Vec<Vec<u8>>, AssembleFault>)>
+    requires may { MayBePlanned stream.now blocks.now }
+    requires one { tile_number stream.now.siz ≡ 1 }
+{
+    let Ok(plan) = plan_kept(alloc, stream, blocks, marks) else {
+        return None;
+    };
+    let Ok(main) = main_header(alloc, &plan) else {
+        return None;
+    };
+    let tile = only_tile(alloc, &plan, most)?;
+    Some((main, tile))
+}
+
+/// The same of a codestream.
+#[tactic(auto, using(jx_plan::proofs::KeptLemmas::gathered_may))]
+fn kept(
+    alloc: Global,
+    bytes: &[u8],
+    marks: Marks,
+    most: u32,
+) -> Option<(Vec<u8>, Result<Vec<Vec<u8>>, AssembleFault>)> {
+    if bytes.len() > 1 << 28 {
+        return None;
+    }
+    let Ok(stream) = read_stream(alloc, bytes) else {
+        return None;
+    };
+    let Ok(blocks) = gather(alloc, bytes, &stream) else {
+        return None;
+    };
+    if stream.tiles.as_slice().len() != 1 {
+        return None;
+    }
+    kept_of(alloc, &stream, &blocks, marks, most)
+}
+
+/// The smallest tile has 15 bytes, or, with all marks, 29.
+#[test]
+fn smallest_tile(rt: HostRuntime) {
+    let file = [
+        0xFF, 0x4F, 0xFF, 0x51, 0, 41, 0, 0, 0, 0, 0, 1, 0, 0, 0, 1, 0, 0, 0, 0, 0, 0, 0, 0, 0, 0,
+        0, 1, 0, 0, 0, 1, 0, 0, 0, 0, 0, 0, 0, 0, 0, 1, 7, 1, 1, 0xFF, 0x52, 0, 12, 0, 0, 0, 1, 0,
+        0, 4, 4, 0, 1, 0xFF, 0x5C, 0, 4, 0x40, 0x40, 0xFF, 0x90, 0, 10, 0, 0, 0, 0, 0, 15, 0, 1,
+        0xFF, 0x93, 0, 0xFF, 0xD9,
+    ];
+    let none = Marks {
+        sop: false,
+        eph: false,
+        plt: false,
+    };
+    let all = Marks {
+        sop: true,
+        eph: true,
+        plt: true,
+    };
+    let (main, long) = kept(rt.alloc(), &file, none, 14).expect(&rt, "a plan");
+    assert!(rt; main.as_slice() == &file[0..65]);
+    assert!(rt; matches!(long, Err(AssembleFault::TooLong)));
+    let (_, bare) = kept(rt.alloc(), &file, none, 15).expect(&rt, "a plan");
+    let bare = bare.ok().expect(&rt, "a tile");
+    assert!(rt; bare.len() == 1);
+    assert!(rt; bare[0].as_slice() == &file[65..80]);
+    let (main, marked) = kept(rt.alloc(), &file, all, 29).expect(&rt, "a plan");
+    assert!(rt; main.len() == 65);
+    assert!(rt; main[49] == 6);
+    let marked = marked.ok().expect(&rt, "a tile");
+    assert!(rt; marked.len() == 1);
+    let want = [
+        0xFF, 0x90, 0, 10, 0, 0, 0, 0, 0, 29, 0, 1, 0xFF, 0x58, 0, 4, 0, 9, 0xFF, 0x93, 0xFF, 0x91,
+        0, 4, 0, 0, 0, 0xFF, 0x92,
+    ];
+    assert!(rt; marked[0].as_slice() == want.as_slice());
+}
