@@ -1,10 +1,10 @@
 pub mod ProgressLemmas
-pub mod OutcomeLemmas
-pub mod SmallLemmas
-pub mod OneTileLemmas
-pub mod CleanLemmas
-pub mod OneListLemmas
-pub mod AcceptLemmas
-pub mod JudgedLemmas
 pub mod SaidLemmas
+pub mod TileLemmas
+pub mod FrontLemmas
+pub mod WriteLemmas
+pub mod AnswerLemmas
+pub mod OutcomeLemmas
 pub mod OneVerdictLemmas
+pub mod ToldLemmas
+pub mod SomeVerdictLemmas

@@ -3,13 +3,12 @@ use Rattle.std.proofs.Common.{◌≡◌, ◌⊎◌, ◌∙◌, ◌<◌, ◌≤�
 use Rattle.std.proofs.lemmas.List.{take_all, length-take}
 use Rattle.std.proofs.lemmas.Bool.{cases_lt}
 use Rattle.jx_outside.specs.Device.{Meaning, joined}
-use Rattle.jx_recast.specs.Judged.{IsClean}
-use Rattle.jx_recast.proofs.AcceptLemmas.{small_is_kept}
+use Rattle.jx_plan.specs.declared.Marks.{Marks}
 use Rattle.jx_recast.specs.declared.status.Status.{Status}
 use Rattle.jx_recast.specs.declared.status.Status.TheVariants as status
+use Rattle.jx_recast.specs.Filed.{IsAnswered}
 use Rattle.jx_recast.specs.Words.{Text, Request}
-use Rattle.jx_recast.specs.Small.{IsSmall, output}
-use Rattle.jx_recast.specs.Outcome.{IsUntouched, IsMade, IsBegun, IsRefused, IsCutShort, Leaves, IsVerdict, Verdict, Ends, EndsFiles, EndsAtWords, EndsAs, PassesLimit, line_of, most_bytes}
+use Rattle.jx_recast.specs.Outcome.{IsBegun, IsCutShort, IsLimited, IsMade, IsRefused, IsStopped, IsUntouched, IsVerdict, Leaves, Verdict, Ends, EndsFiles, EndsAtWords, EndsAs, PassesLimit, line_of, most_bytes}
 
 pub untouched_twice : (a b c : Meaning) → IsUntouched a b → IsUntouched b c → IsUntouched a c
 untouched_twice a b c first next = record {
@@ -21,6 +20,9 @@ untouched_twice a b c first next = record {
 made_after : (name : Text) (bytes : List ℕ) (a b c : Meaning) → IsUntouched a b → IsMade name bytes b c → IsMade name bytes a c
 made_after name bytes a b c first made = (made.0, untouched_twice a b made.0 first made.1, made.2)
 
+stopped_after : (name : Text) (bytes : List ℕ) (a b c : Meaning) → IsUntouched a b → IsStopped name bytes b c → IsStopped name bytes a c
+stopped_after name bytes a b c first stopped = (stopped.0, untouched_twice a b stopped.0 first stopped.1, stopped.2)
+
 begun_after : (name : Text) (bytes : List ℕ) (a b c : Meaning) → IsUntouched a b → IsBegun name bytes b c → IsBegun name bytes a c
 begun_after name bytes a b c first (inl same) = inl (untouched_twice a b c first same)
 begun_after name bytes a b c first (inr (inl made)) = inr (inl (made.0, made.1, untouched_twice a b made.0 first made.2, made.3))
@@ -29,19 +31,25 @@ begun_after name bytes a b c first (inr (inr made)) = inr (inr (made_after name 
 refused_after : (blocks : ℕ) (a b c : Meaning) → IsUntouched a b → IsRefused blocks b c → IsRefused blocks a c
 refused_after blocks a b c first refused = (refused.0, untouched_twice a b c first refused.1)
 
-cut_after : (name : Text) (input : List ℕ) (blocks : ℕ) (a b c : Meaning) → IsUntouched a b → IsCutShort name input blocks b c → IsCutShort name input blocks a c
-cut_after name input blocks a b c first (inl refused) = inl (refused_after blocks a b c first refused)
-cut_after name input blocks a b c first (inr begun) = inr (begun.0, begun.1, begun_after name (output input) a b c first begun.2)
+cut_after : (name : Text) (m : Marks) (input : List ℕ) (blocks : ℕ) (a b c : Meaning) → IsUntouched a b → IsCutShort name m input blocks b c → IsCutShort name m input blocks a c
+cut_after name m input blocks a b c first (inl refused) = inl (refused_after blocks a b c first refused)
+cut_after name m input blocks a b c first (inr (inl over)) =
+    inr (inl (record { within = over.within; found = over.found; many = over.many; count = over.count; same = untouched_twice a b c first over.same }))
+cut_after name m input blocks a b c first (inr (inr begun)) =
+    inr (inr (record { within = begun.within; count = begun.count; bytes = begun.bytes; of = begun.of; begun = begun_after name begun.bytes a b c first begun.begun }))
 
-leaves_after : (name : Text) (input : List ℕ) (s : Status) (blocks : ℕ) (a b c : Meaning) → IsUntouched a b → Leaves name input s blocks b c → Leaves name input s blocks a c
-leaves_after name input status.Done blocks a b c first next = (next.0, made_after name (output input) a b c first next.1, next.2)
-leaves_after name input status.Words blocks a b c first next = refused_after blocks a b c first next
-leaves_after name input (status.Rule number place) blocks a b c first next = refused_after blocks a b c first next
-leaves_after name input (status.Limit number found) blocks a b c first next = refused_after blocks a b c first next
-leaves_after name input status.Form blocks a b c first next = refused_after blocks a b c first next
-leaves_after name input status.ReadFault blocks a b c first next = refused_after blocks a b c first next
-leaves_after name input status.WriteFault blocks a b c first next = cut_after name input blocks a b c first next
-leaves_after name input status.NoMemory blocks a b c first next = cut_after name input blocks a b c first next
+leaves_after : (name : Text) (m : Marks) (input : List ℕ) (s : Status) (blocks bytes : ℕ) (a b c : Meaning) → IsUntouched a b → Leaves name m input s blocks bytes b c
+    → Leaves name m input s blocks bytes a c
+leaves_after name m input status.Done blocks bytes a b c first next =
+    record { out = next.out; is = next.is; made = made_after name next.out a b c first next.made; kept = next.kept; count = next.count; long = next.long }
+leaves_after name m input status.Words blocks bytes a b c first next = refused_after blocks a b c first next
+leaves_after name m input (status.Rule number place) blocks bytes a b c first next = refused_after blocks a b c first next
+leaves_after name m input (status.Limit number found) blocks bytes a b c first next = (next.0, untouched_twice a b c first next.1)
+leaves_after name m input (status.Choice number place) blocks bytes a b c first next =
+    record { bytes = next.bytes; is = next.is; stopped = stopped_after name next.bytes a b c first next.stopped; count = next.count }
+leaves_after name m input status.ReadFault blocks bytes a b c first next = refused_after blocks a b c first next
+leaves_after name m input status.WriteFault blocks bytes a b c first next = cut_after name m input blocks a b c first next
+leaves_after name m input status.NoMemory blocks bytes a b c first next = cut_after name m input blocks a b c first next
 
 -- the whole of an input of which these bytes were read, where it is told
 whole : Option (List ℕ) → List ℕ → List ℕ
@@ -75,66 +83,70 @@ long_limit : (number found : ℕ) (read input : List ℕ) → most_bytes < lengt
 long_limit number found read input long whole (inl passed) = inl (whole, passed.1, passed.2)
 long_limit number found read input long whole (inr passed) = absurd (omega (arith, passed.0))
 
+limit_one : (m : Marks) (number found : ℕ) (read : List ℕ) → most_bytes < length read → Verdict m read (status.Limit number found) → number ≡ 1
+limit_one m number found read long (inl (inl passed)) = passed.1
+limit_one m number found read long (inl (inr passed)) = absurd (omega (arith, passed.0))
+limit_one m number found read long (inr many) = absurd (omega (arith, many.0))
+
 -- the verdict on a front that is too long is that on the whole
-long_verdict : (s : Status) (read input : List ℕ) → most_bytes < length read → most_bytes < length input → Verdict read s → Verdict input s
-long_verdict status.Done read input long whole verdict = absurd (omega (arith, verdict.0))
-long_verdict status.Words read input long whole verdict = absurd verdict
-long_verdict (status.Rule number place) read input long whole verdict = absurd (omega (arith, verdict.0))
-long_verdict (status.Limit number found) read input long whole verdict = long_limit number found read input long whole verdict
-long_verdict status.Form read input long whole verdict = absurd (omega (arith, verdict.0))
-long_verdict status.ReadFault read input long whole verdict = absurd verdict
-long_verdict status.WriteFault read input long whole verdict = absurd verdict
-long_verdict status.NoMemory read input long whole verdict = absurd verdict
+long_verdict : (m : Marks) (s : Status) (read input : List ℕ) → most_bytes < length read → most_bytes < length input → Verdict m read s → Verdict m input s
+long_verdict m status.Done read input long whole verdict = absurd (omega (arith, verdict.0))
+long_verdict m status.Words read input long whole verdict = absurd verdict
+long_verdict m (status.Rule number place) read input long whole verdict = absurd (omega (arith, verdict.0))
+long_verdict m (status.Limit number found) read input long whole (inl verdict) = inl (long_limit number found read input long whole verdict)
+long_verdict m (status.Limit number found) read input long whole (inr many) = absurd (omega (arith, many.0))
+long_verdict m (status.Choice number place) read input long whole verdict = absurd (omega (arith, verdict.0))
+long_verdict m status.ReadFault read input long whole verdict = absurd verdict
+long_verdict m status.WriteFault read input long whole verdict = absurd verdict
+long_verdict m status.NoMemory read input long whole verdict = absurd verdict
 
-long_cut : (name : Text) (read input : List ℕ) (blocks : ℕ) (a b : Meaning) → most_bytes < length read → IsCutShort name read blocks a b → IsCutShort name input blocks a b
-long_cut name read input blocks a b long (inl refused) = inl refused
-long_cut name read input blocks a b long (inr begun) = absurd (omega (arith, begun.1.0))
+long_cut : (name : Text) (m : Marks) (read input : List ℕ) (blocks : ℕ) (a b : Meaning) → most_bytes < length read → IsCutShort name m read blocks a b → IsCutShort name m input blocks a b
+long_cut name m read input blocks a b long (inl refused) = inl refused
+long_cut name m read input blocks a b long (inr (inl over)) = absurd (omega (arith, over.within, long))
+long_cut name m read input blocks a b long (inr (inr begun)) = absurd (omega (arith, begun.within, long))
 
-long_leaves : (name : Text) (s : Status) (read input : List ℕ) (blocks : ℕ) (a b : Meaning) → most_bytes < length read → (IsVerdict s → Verdict read s)
-    → Leaves name read s blocks a b → Leaves name input s blocks a b
-long_leaves name status.Done read input blocks a b long verdict leaves = absurd (omega (arith, (verdict tt).0))
-long_leaves name status.Words read input blocks a b long verdict leaves = leaves
-long_leaves name (status.Rule number place) read input blocks a b long verdict leaves = leaves
-long_leaves name (status.Limit number found) read input blocks a b long verdict leaves = leaves
-long_leaves name status.Form read input blocks a b long verdict leaves = leaves
-long_leaves name status.ReadFault read input blocks a b long verdict leaves = leaves
-long_leaves name status.WriteFault read input blocks a b long verdict leaves = long_cut name read input blocks a b long leaves
-long_leaves name status.NoMemory read input blocks a b long verdict leaves = long_cut name read input blocks a b long leaves
+long_limited : (number blocks : ℕ) (read input : List ℕ) → number ≡ 1 → IsLimited read number blocks → IsLimited input number blocks
+long_limited number blocks read input one (inl many) = absurd (omega (arith, many.0, one))
+long_limited number blocks read input one (inr few) = inr few
 
-long_not_done : (s : Status) (read : List ℕ) → most_bytes < length read → (IsVerdict s → Verdict read s) → s ≡ status.Done → ⊥
-long_not_done status.Done read long verdict e = omega (arith, (verdict tt).0)
-long_not_done status.Words read long verdict e = cc
-long_not_done (status.Rule number place) read long verdict e = cc
-long_not_done (status.Limit number found) read long verdict e = cc
-long_not_done status.Form read long verdict e = cc
-long_not_done status.ReadFault read long verdict e = cc
-long_not_done status.WriteFault read long verdict e = cc
-long_not_done status.NoMemory read long verdict e = cc
+long_leaves : (name : Text) (m : Marks) (s : Status) (read input : List ℕ) (blocks bytes : ℕ) (a b : Meaning) → most_bytes < length read → most_bytes < length input → (IsVerdict s → Verdict m read s)
+    → Leaves name m read s blocks bytes a b → Leaves name m input s blocks bytes a b
+long_leaves name m status.Done read input blocks bytes a b long whole verdict leaves = absurd (omega (arith, (verdict tt).0, long))
+long_leaves name m status.Words read input blocks bytes a b long whole verdict leaves = leaves
+long_leaves name m (status.Rule number place) read input blocks bytes a b long whole verdict leaves = leaves
+long_leaves name m (status.Limit number found) read input blocks bytes a b long whole verdict leaves =
+    (long_limited number blocks read input (limit_one m number found read long (verdict tt)) leaves.0, leaves.1)
+long_leaves name m (status.Choice number place) read input blocks bytes a b long whole verdict leaves = absurd (omega (arith, (verdict tt).0, long))
+long_leaves name m status.ReadFault read input blocks bytes a b long whole verdict leaves = leaves
+long_leaves name m status.WriteFault read input blocks bytes a b long whole verdict leaves = long_cut name m read input blocks a b long leaves
+long_leaves name m status.NoMemory read input blocks bytes a b long whole verdict leaves = long_cut name m read input blocks a b long leaves
 
 -- what an answer to the bytes read says of the input
 pub ends_read : (request : Request) (read : List ℕ) (s : Status) (blocks bytes : ℕ) (a b c : Meaning)
     → IfSome (joined (a.holds request.from)) (λ held. read ≡ take 268435457 held) → IsUntouched a b
-    → (IsVerdict s → Verdict read s) → Leaves request.to read s blocks b c → (s ≡ status.Done → bytes ≡ length (output read))
-    → EndsFiles request s blocks bytes a c
-ends_read request read s blocks bytes a b c front first verdict leaves told = elim (cases_lt most_bytes (length read)) [
+    → IsAnswered request.to request.marks read s blocks bytes b c → EndsFiles request s blocks bytes a c
+ends_read request read s blocks bytes a b c front first is = elim (cases_lt most_bytes (length read)) [
   | inr short ↦ record {
     input = read;
     files = record {
       told = short_told (joined (a.holds request.from)) read front short;
-      verdict = verdict;
-      leaves = leaves_after request.to read s blocks a b c first leaves;
+      verdict = is.verdict;
+      leaves = leaves_after request.to request.marks read s blocks bytes a b c first is.leaves;
     };
-    length_told = told;
+    unsaid = cut_after request.to request.marks read blocks a b c first is.unsaid;
   }
-  | inl long ↦ let input : List ℕ = whole (joined (a.holds request.from)) read in record {
-    input = input;
-    files = record {
-      told = told_whole (joined (a.holds request.from)) read;
-      verdict = λ is. long_verdict s read input long (long_whole (joined (a.holds request.from)) read front long) (verdict is);
-      leaves = leaves_after request.to input s blocks a b c first (long_leaves request.to s read input blocks b c long verdict leaves);
-    };
-    length_told = λ e. absurd (long_not_done s read long verdict e);
-  }
+  | inl long ↦
+      let input : List ℕ = whole (joined (a.holds request.from)) read in
+      let long_input : most_bytes < length input = long_whole (joined (a.holds request.from)) read front long in
+      record {
+        input = input;
+        files = record {
+          told = told_whole (joined (a.holds request.from)) read;
+          verdict = λ v. long_verdict request.marks s read input long long_input (is.verdict v);
+          leaves = leaves_after request.to request.marks input s blocks bytes a b c first (long_leaves request.to request.marks s read input blocks bytes b c long long_input is.verdict is.leaves);
+        };
+        unsaid = cut_after request.to request.marks input blocks a b c first (long_cut request.to request.marks read input blocks b c long is.unsaid);
+      }
 ]
 
 -- nothing was read to its end, and nothing was made
@@ -142,60 +154,30 @@ pub ends_unread : (request : Request) (s : Status) (a b : Meaning) → (s ≡ st
 ends_unread request s a b (inl e) same = rw e (record {
   input = whole (joined (a.holds request.from)) [];
   files = record { told = told_whole (joined (a.holds request.from)) []; verdict = λ no. absurd no; leaves = (refl, same) };
-  length_told = λ no. cc;
+  unsaid = inl (refl, same);
 })
 ends_unread request s a b (inr e) same = rw e (record {
   input = whole (joined (a.holds request.from)) [];
   files = record { told = told_whole (joined (a.holds request.from)) []; verdict = λ no. absurd no; leaves = inl (refl, same) };
-  length_told = λ no. cc;
+  unsaid = inl (refl, same);
 })
 
-number_same : (s : Status) (blocks bytes n : ℕ) → (s ≡ status.Done → bytes ≡ n) → line_of s blocks n ≡ line_of s blocks bytes
-number_same status.Done blocks bytes n told = rw (told refl) refl
-number_same status.Words blocks bytes n told = refl
-number_same (status.Rule number place) blocks bytes n told = refl
-number_same (status.Limit number found) blocks bytes n told = refl
-number_same status.Form blocks bytes n told = refl
-number_same status.ReadFault blocks bytes n told = refl
-number_same status.WriteFault blocks bytes n told = refl
-number_same status.NoMemory blocks bytes n told = refl
-
--- a fault of the sink, or want of memory, after a run
-cut_short : (name : Text) (input : List ℕ) (s : Status) (blocks : ℕ) (a b : Meaning) → (IsVerdict s → Verdict input s) → Leaves name input s blocks a b → IsCutShort name input blocks a b
-cut_short name input status.Done blocks a b verdict leaves = inr (leaves.0, verdict tt, inr (inr leaves.1))
-cut_short name input status.Words blocks a b verdict leaves = inl leaves
-cut_short name input (status.Rule number place) blocks a b verdict leaves = inl leaves
-cut_short name input (status.Limit number found) blocks a b verdict leaves = inl leaves
-cut_short name input status.Form blocks a b verdict leaves = inl leaves
-cut_short name input status.ReadFault blocks a b verdict leaves = inl leaves
-cut_short name input status.WriteFault blocks a b verdict leaves = leaves
-cut_short name input status.NoMemory blocks a b verdict leaves = leaves
-
--- a run over good words whose line was said
+-- a run over good words whose line was said, or wasn't
 pub ends_said : (request : Request) (s late : Status) (blocks bytes fault_before fault_now : ℕ) (old new : Meaning) (before now : Option (List ℕ))
     → EndsFiles request s blocks bytes old new → EndsAs s (line_of s blocks bytes) late before now fault_before fault_now
     → Ends request late blocks old new before now
-ends_said request s late blocks bytes fault_before fault_now old new before now ends (inl said) = rw said.0 (record {
-  input = ends.input;
-  files = ends.files;
-  said = rw (number_same s blocks bytes (length (output ends.input)) ends.length_told) said.1;
-})
+ends_said request s late blocks bytes fault_before fault_now old new before now ends (inl said) =
+    rw said.0 (record { input = ends.input; bytes = bytes; files = ends.files; said = said.1 })
 ends_said request s late blocks bytes fault_before fault_now old new before now ends (inr (inl fault)) = rw fault.0 (record {
   input = ends.input;
-  files = record {
-    told = ends.files.told;
-    verdict = λ no. absurd no;
-    leaves = cut_short request.to ends.input s blocks old new ends.files.verdict ends.files.leaves;
-  };
+  bytes = bytes;
+  files = record { told = ends.files.told; verdict = λ no. absurd no; leaves = ends.unsaid };
   said = fault.1;
 })
 ends_said request s late blocks bytes fault_before fault_now old new before now ends (inr (inr short)) = rw short.0 (record {
   input = ends.input;
-  files = record {
-    told = ends.files.told;
-    verdict = λ no. absurd no;
-    leaves = cut_short request.to ends.input s blocks old new ends.files.verdict ends.files.leaves;
-  };
+  bytes = bytes;
+  files = record { told = ends.files.told; verdict = λ no. absurd no; leaves = ends.unsaid };
   said = inl short.1;
 })
 
@@ -205,15 +187,6 @@ pub ends_at_words : (late : Status) (fault_before fault_now : ℕ) (files : Mean
 ends_at_words late fault_before fault_now files before now (inl said) = rw said.0 (record { words = inl refl; files = refl; none = refl; said = said.1 })
 ends_at_words late fault_before fault_now files before now (inr (inl fault)) = rw fault.0 (record { words = inr (inl refl); files = refl; none = refl; said = fault.1 })
 ends_at_words late fault_before fault_now files before now (inr (inr short)) = rw short.0 (record { words = inr (inr refl); files = refl; none = refl; said = inl short.1 })
-
--- an output that was begun
-pub begun_leaves : (name : Text) (input bytes : List ℕ) (old new : Meaning) → length input ≤ most_bytes → IsClean input → IsSmall input → bytes ≡ output input
-    → IsBegun name bytes old new → IsCutShort name input 1 old new
-begun_leaves name input bytes old new short clean small e begun = inr (refl, (short, clean, small), rw (← e) begun)
-
--- an output that was made
-pub made_leaves : (name : Text) (input bytes : List ℕ) (old new : Meaning) → IsSmall input → bytes ≡ output input → IsMade name bytes old new → Leaves name input status.Done 1 old new
-made_leaves name input bytes old new small e made = (refl, rw (← e) made, small_is_kept input small)
 
 -- a run over other words whose line was said
 pub words_said : (s late : Status) (blocks bytes fault_before fault_now : ℕ) (old new : Meaning) (before now : Option (List ℕ)) → s ≡ status.Words → blocks ≡ 0 → new ≡ old

@@ -1,7 +1,8 @@
 pub mod Words
-pub mod Small
-pub mod OneBlock
-pub mod Fronts
+pub mod Rewritten
 pub mod Outcome
 pub mod Progress
 pub mod Judged
+pub mod Rounds
+pub mod Filed
+pub mod Halts

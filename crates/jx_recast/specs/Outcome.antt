@@ -7,10 +7,10 @@ use Rattle.jx_outside.specs.Device.{Meaning, joined, after_create, after_write, 
 use Rattle.jx_recast.specs.declared.status.Status.{Status}
 use Rattle.jx_recast.specs.declared.status.Status.TheVariants as status
 use Rattle.jx_recast.specs.Words.{Text, Request, is_good, request_of}
-use Rattle.jx_recast.specs.Small.{IsSmall, output}
-use Rattle.jx_recast.specs.OneBlock.{IsKept}
+use Rattle.jx_recast.specs.Rewritten.{HasBlocks, IsCut, IsFrontOf, IsKept, IsRewritten, IsTooLong, PassesPackets}
+use Rattle.jx_plan.specs.declared.Marks.{Marks}
 use Rattle.jx_recast.specs.Progress.{HasWritten}
-use Rattle.jx_recast.specs.Judged.{Violates, Passes, IsClean}
+use Rattle.jx_recast.specs.Judged.{Violates, Passes}
 
 -- the most bytes that an input may have
 abbrev pub most_bytes : ℕ
@@ -25,7 +25,7 @@ number_of (status.Limit number found) = 4
 number_of status.ReadFault = 7
 number_of status.WriteFault = 8
 number_of status.NoMemory = 9
-number_of status.Form = 10
+number_of (status.Choice number place) = 5
 
 -- the status speaks of the words and the input, and not of a fault or of memory
 abbrev pub IsVerdict : Status → Type 0
@@ -33,7 +33,7 @@ IsVerdict status.Done = Unit {0}
 IsVerdict status.Words = Unit {0}
 IsVerdict (status.Rule number place) = Unit {0}
 IsVerdict (status.Limit number found) = Unit {0}
-IsVerdict status.Form = Unit {0}
+IsVerdict (status.Choice number place) = Unit {0}
 IsVerdict status.ReadFault = ⊥
 IsVerdict status.WriteFault = ⊥
 IsVerdict status.NoMemory = ⊥
@@ -44,17 +44,17 @@ PassesLimit input number found =
     ((most_bytes < length input) × (number ≡ 1) × (found ≡ most_bytes + 1))
     ⊎ ((length input ≤ most_bytes) × Passes input number found)
 
--- the status that an input has where the words are good and nothing fails: limit 1, then the first rule that it violates
--- or limit that it passes in its headers or its tile data, then the form
-abbrev pub Verdict : List ℕ → Status → Type 0
-Verdict input status.Done = (length input ≤ most_bytes) × IsClean input × IsSmall input
-Verdict input (status.Rule number place) = (length input ≤ most_bytes) × Violates input number place
-Verdict input (status.Limit number found) = PassesLimit input number found
-Verdict input status.Form = (length input ≤ most_bytes) × IsClean input × (IsSmall input → ⊥)
-Verdict input status.Words = ⊥
-Verdict input status.ReadFault = ⊥
-Verdict input status.WriteFault = ⊥
-Verdict input status.NoMemory = ⊥
+-- the status that an input has where the words are good and nothing fails: limit 1, then the first rule that it violates or limit that it
+-- passes in its headers or its tile data, then limit 7, then a tile-part that would be too long
+abbrev pub Verdict : Marks → List ℕ → Status → Type 0
+Verdict m input status.Done = (length input ≤ most_bytes) × (out : List ℕ) × IsRewritten m input out
+Verdict m input (status.Rule number place) = (length input ≤ most_bytes) × Violates input number place
+Verdict m input (status.Limit number found) = PassesLimit input number found ⊎ ((length input ≤ most_bytes) × (number ≡ 7) × PassesPackets m input found)
+Verdict m input (status.Choice number place) = (length input ≤ most_bytes) × (number ≡ 7) × IsTooLong m input place
+Verdict m input status.Words = ⊥
+Verdict m input status.ReadFault = ⊥
+Verdict m input status.WriteFault = ⊥
+Verdict m input status.NoMemory = ⊥
 
 -- the line that a status has, with its numbers: those of the code-blocks and of the bytes written after Done
 abbrev pub line_of : Status → ℕ → ℕ → List ℕ
@@ -62,7 +62,7 @@ line_of status.Done blocks bytes = codes "done: " ++ (decimal blocks ++ (codes "
 line_of status.Words blocks bytes = codes "words\n"
 line_of (status.Rule number place) blocks bytes = codes "rule " ++ (decimal number ++ (codes " at " ++ (decimal place ++ codes "\n")))
 line_of (status.Limit number found) blocks bytes = codes "limit " ++ (decimal number ++ (codes ": " ++ (decimal found ++ codes "\n")))
-line_of status.Form blocks bytes = codes "form\n"
+line_of (status.Choice number place) blocks bytes = codes "choice " ++ (decimal number ++ (codes " at " ++ (decimal place ++ codes "\n")))
 line_of status.ReadFault blocks bytes = codes "read fault\n"
 line_of status.WriteFault blocks bytes = []
 line_of status.NoMemory blocks bytes = codes "no memory\n"
@@ -79,7 +79,7 @@ Says status.Done line old new = new ≡ said_after line old
 Says status.Words line old new = new ≡ said_after line old
 Says (status.Rule number place) line old new = new ≡ said_after line old
 Says (status.Limit number found) line old new = new ≡ said_after line old
-Says status.Form line old new = new ≡ said_after line old
+Says (status.Choice number place) line old new = new ≡ said_after line old
 Says status.ReadFault line old new = new ≡ said_after line old
 
 -- nothing was made
@@ -96,6 +96,10 @@ IsMade name bytes old new = (m : Meaning) × IsUntouched old m × (new ≡ after
 abbrev pub IsPartlyMade : Text → List ℕ → Meaning → Meaning → Type 0
 IsPartlyMade name bytes old new = (m : Meaning) × (rest : List ℕ) × IsUntouched old m × HasWritten (after_create name m) new bytes rest
 
+-- just these bytes of the file were made, and it wasn't finished
+abbrev pub IsStopped : Text → List ℕ → Meaning → Meaning → Type 0
+IsStopped name bytes old new = (m : Meaning) × IsUntouched old m × (new ≡ after_write bytes (after_create name m))
+
 -- nothing of the file, a front or all of it was made
 abbrev pub IsBegun : Text → List ℕ → Meaning → Meaning → Type 0
 IsBegun name bytes old new = IsUntouched old new ⊎ (IsPartlyMade name bytes old new ⊎ IsMade name bytes old new)
@@ -104,32 +108,76 @@ IsBegun name bytes old new = IsUntouched old new ⊎ (IsPartlyMade name bytes ol
 abbrev pub IsRefused : ℕ → Meaning → Meaning → Type 0
 IsRefused blocks old new = (blocks ≡ 0) × IsUntouched old new
 
--- nothing was made, or the input was accepted and its output begun
-abbrev pub IsCutShort : Text → List ℕ → ℕ → Meaning → Meaning → Type 0
-IsCutShort name input blocks old new = IsRefused blocks old new ⊎ ((blocks ≡ 1) × Verdict input status.Done × IsBegun name (output input) old new)
+-- the input was accepted, and its output begun: what was written is a front of whole rounds, or of the whole file
+pub record IsAborted (name : Text) (m : Marks) (input : List ℕ) (blocks : ℕ) (old new : Meaning) : Type 0 where
+  pub within : length input ≤ most_bytes
+  pub count : HasBlocks input blocks
+  pub bytes : List ℕ
+  pub of : IsFrontOf m input bytes ⊎ IsRewritten m input bytes
+  pub begun : IsBegun name bytes old new
 
--- what stands after a status, and the blocks that are told
-abbrev pub Leaves : Text → List ℕ → Status → ℕ → Meaning → Meaning → Type 0
-Leaves name input status.Done blocks old new = (blocks ≡ 1) × IsMade name (output input) old new × IsKept input
-Leaves name input status.Words blocks old new = IsRefused blocks old new
-Leaves name input (status.Rule number place) blocks old new = IsRefused blocks old new
-Leaves name input (status.Limit number found) blocks old new = IsRefused blocks old new
-Leaves name input status.Form blocks old new = IsRefused blocks old new
-Leaves name input status.ReadFault blocks old new = IsRefused blocks old new
-Leaves name input status.WriteFault blocks old new = IsCutShort name input blocks old new
-Leaves name input status.NoMemory blocks old new = IsCutShort name input blocks old new
+-- nothing was made of an input that passes limit 7
+pub record IsOver (m : Marks) (input : List ℕ) (blocks : ℕ) (old new : Meaning) : Type 0 where
+  pub within : length input ≤ most_bytes
+  pub found : ℕ
+  pub many : PassesPackets m input found
+  pub count : HasBlocks input blocks
+  pub same : IsUntouched old new
+
+-- nothing was made, or the input was accepted and its output begun
+abbrev pub IsCutShort : Text → Marks → List ℕ → ℕ → Meaning → Meaning → Type 0
+IsCutShort name m input blocks old new = IsRefused blocks old new ⊎ (IsOver m input blocks old new ⊎ IsAborted name m input blocks old new)
+
+-- the file was made whole
+pub record IsWhole (name : Text) (m : Marks) (input : List ℕ) (blocks bytes : ℕ) (old new : Meaning) : Type 0 where
+  pub out : List ℕ
+  pub is : IsRewritten m input out
+  pub made : IsMade name out old new
+  pub kept : IsKept m input out
+  pub count : HasBlocks input blocks
+  pub long : bytes ≡ length out
+
+-- a tile-part was too long: the rounds before its tile's were written
+pub record IsStoppedAt (name : Text) (m : Marks) (input : List ℕ) (tile blocks : ℕ) (old new : Meaning) : Type 0 where
+  pub bytes : List ℕ
+  pub is : IsCut m input tile bytes
+  pub stopped : IsStopped name bytes old new
+  pub count : HasBlocks input blocks
+
+-- limit 7 alone is passed by an input that was accepted
+abbrev pub IsLimited : List ℕ → ℕ → ℕ → Type 0
+IsLimited input number blocks = ((number ≡ 7) × HasBlocks input blocks) ⊎ ((number < 7) × (blocks ≡ 0))
+
+-- what stands after a status, the blocks that are told, and the bytes of the output after Done
+abbrev pub Leaves : Text → Marks → List ℕ → Status → ℕ → ℕ → Meaning → Meaning → Type 0
+Leaves name m input status.Done blocks bytes old new = IsWhole name m input blocks bytes old new
+Leaves name m input status.Words blocks bytes old new = IsRefused blocks old new
+Leaves name m input (status.Rule number place) blocks bytes old new = IsRefused blocks old new
+Leaves name m input (status.Limit number found) blocks bytes old new = IsLimited input number blocks × IsUntouched old new
+Leaves name m input (status.Choice number place) blocks bytes old new = IsStoppedAt name m input place blocks old new
+Leaves name m input status.ReadFault blocks bytes old new = IsRefused blocks old new
+Leaves name m input status.WriteFault blocks bytes old new = IsCutShort name m input blocks old new
+Leaves name m input status.NoMemory blocks bytes old new = IsCutShort name m input blocks old new
 
 -- how a run over good words ends on an input, which is what the file named IN holds at the beginning, where that is told
-pub record EndsOn (request : Request) (input : List ℕ) (s : Status) (blocks : ℕ) (old new : Meaning) : Type 0 where
+pub record EndsOn (request : Request) (input : List ℕ) (s : Status) (blocks bytes : ℕ) (old new : Meaning) : Type 0 where
   pub told : IfSome (joined (old.holds request.from)) (λ bytes. input ≡ bytes)
-  pub verdict : IsVerdict s → Verdict input s
-  pub leaves : Leaves request.to input s blocks old new
+  pub verdict : IsVerdict s → Verdict request.marks input s
+  pub leaves : Leaves request.to request.marks input s blocks bytes old new
+
+-- how the files are left by a run over good words, before anything is said; `bytes` is the output's length after Done
+pub record EndsFiles (request : Request) (s : Status) (blocks bytes : ℕ) (old new : Meaning) : Type 0 where
+  pub input : List ℕ
+  pub files : EndsOn request input s blocks bytes old new
+  -- what stands where its line isn't said
+  pub unsaid : IsCutShort request.to request.marks input blocks old new
 
 -- how a run over good words ends
 pub record Ends (request : Request) (s : Status) (blocks : ℕ) (old new : Meaning) (before now : Option (List ℕ)) : Type 0 where
   pub input : List ℕ
-  pub files : EndsOn request input s blocks old new
-  pub said : Says s (line_of s blocks (length (output input))) before now
+  pub bytes : ℕ
+  pub files : EndsOn request input s blocks bytes old new
+  pub said : Says s (line_of s blocks bytes) before now
 
 -- how a run over other words ends
 pub record EndsAtWords (s : Status) (blocks : ℕ) (old new : Meaning) (before now : Option (List ℕ)) : Type 0 where
@@ -142,12 +190,6 @@ pub record EndsAtWords (s : Status) (blocks : ℕ) (old new : Meaning) (before n
 pub record Outcome (words : List Text) (s : Status) (blocks : ℕ) (old new : Meaning) (before now : Option (List ℕ)) : Type 0 where
   pub good : is_good words ≡ true → Ends (request_of words) s blocks old new before now
   pub bad : is_good words ≡ false → EndsAtWords s blocks old new before now
-
--- how the files are left by a run over good words, before anything is said; `bytes` is the output's length after Done
-pub record EndsFiles (request : Request) (s : Status) (blocks bytes : ℕ) (old new : Meaning) : Type 0 where
-  pub input : List ℕ
-  pub files : EndsOn request input s blocks old new
-  pub length_told : s ≡ status.Done → bytes ≡ length (output input)
 
 -- the status after a line was said: the same where it was said; a write fault exactly where the sink's count rose; and
 -- else want of memory

@@ -1,4 +1,5 @@
-ghost use Rattle.std.specs.Prelude.{◌≡◌, ◌≤◌, length, take, IfOk, OnOk, IfSome, IsTrue};
+ghost use Rattle.std.specs.Prelude.{◌≡◌, ◌+◌, length, take, map, IfOk, OnOk, IfSome, IsTrue};
+ghost use Rattle.std.specs.List.{concat};
 ghost use Rattle.jx_outside.specs.Causes.{HasCause};
 ghost use Rattle.jx_outside.specs.Device.{Allows, after_write};
 ghost use Rattle.jx_recast.specs.Progress.{SameButLeft, SomeFront};
@@ -49,37 +50,27 @@ pub fn write_all<F: Files>(files: &mut F, bytes: &[u8]) -> Result<(), Refused>
     Ok(())
 }
 
-fn write_two<F: Files>(files: &mut F, bytes: &[u8], at: usize) -> Result<(), Refused>
-    requires making { IsTrue (F.meaning files.old).making }
-    requires within { at ≤ length bytes.now }
-    ensures ok { OnOk result (F.meaning files.new ≡ after_write bytes.now (F.meaning files.old)) }
-    ensures front { SomeFront (F.meaning files.old) (F.meaning files.new) bytes.now }
+/// Writes pieces one after another; after an error, a front of their bytes.
+pub fn write_pieces<F: Files>(files: &mut F, pieces: &[Vec<u8>]) -> Result<(), Refused>
+    requires { IsTrue (F.meaning files.old).making }
+    ensures ok { OnOk result (F.meaning files.new ≡ after_write (concat (map (λ v. v.items) pieces.now)) (F.meaning files.old)) }
+    ensures front { SomeFront (F.meaning files.old) (F.meaning files.new) (concat (map (λ v. v.items) pieces.now)) }
     ensures cause { HasCause (F.write_faults files.old) (F.write_faults files.new) result }
     ensures other { F.read_faults files.new ≡ F.read_faults files.old }
 {
-    let (first, later) = bytes.split_at(at);
-    write_all(files, first)?;
-    write_all(files, later)?;
+    for piece in pieces {
+        write_all(files, piece)?;
+    }
     Ok(())
 }
 
-/// Writes the bytes in three pieces that end at these places; after an error, a front of them.
-pub fn write_pieces<F: Files>(
-    files: &mut F,
-    bytes: &[u8],
-    first: usize,
-    second: usize,
-) -> Result<(), Refused>
-    requires making { IsTrue (F.meaning files.old).making }
-    requires ordered { first ≤ second }
-    requires within { second ≤ length bytes.now }
-    ensures ok { OnOk result (F.meaning files.new ≡ after_write bytes.now (F.meaning files.old)) }
-    ensures front { SomeFront (F.meaning files.old) (F.meaning files.new) bytes.now }
-    ensures cause { HasCause (F.write_faults files.old) (F.write_faults files.new) result }
-    ensures other { F.read_faults files.new ≡ F.read_faults files.old }
+/// How many bytes these are with the bytes of pieces; none where no number has so many.
+pub fn count_bytes(before: usize, pieces: &[Vec<u8>]) -> Option<usize>
+    ensures { IfSome result (λ count. count ≡ before + length (concat (map (λ v. v.items) pieces.now))) }
 {
-    let (front, later) = bytes.split_at(second);
-    write_two(files, front, first)?;
-    write_all(files, later)?;
-    Ok(())
+    let mut count = before;
+    for piece in pieces {
+        count = count.checked_add(piece.len())?;
+    }
+    Some(count)
 }

@@ -3,16 +3,21 @@
 #![tactic(auto)]
 
 mod device;
+mod file;
+mod halt;
 pub mod laws;
 mod lines;
 mod program;
-mod small;
+mod rewrite;
+mod rounds;
 mod status;
+mod tile;
 mod words;
 
 pub use program::run;
-pub use small::Headers;
 pub use status::{Report, Status, TapeEntry};
 
+#[cfg(test)]
+mod refusal_tests;
 #[cfg(test)]
 mod tests;

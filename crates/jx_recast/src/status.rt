@@ -9,8 +9,8 @@ pub enum Status {
     Rule { number: u8, place: u32 },
     /// A limit was passed: its number, and what was counted.
     Limit { number: u8, found: u128 },
-    /// The input is none of the codestreams that this version rewrites.
-    Form,
+    /// The output can't be had: the number of the choice, and the tile.
+    Choice { number: u8, place: u32 },
     /// The input couldn't be opened or read.
     ReadFault,
     /// The output couldn't be created, written or finished, or the line couldn't be said.
@@ -32,10 +32,10 @@ impl Status {
             Status::Words => 2,
             Status::Rule { .. } => 3,
             Status::Limit { .. } => 4,
+            Status::Choice { .. } => 5,
             Status::ReadFault => 7,
             Status::WriteFault => 8,
             Status::NoMemory => 9,
-            Status::Form => 10,
         }
     }
 }

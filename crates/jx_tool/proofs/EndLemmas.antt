@@ -12,7 +12,7 @@ unbegun : (words : List Text) (files : Meaning) (said : Option (List ℕ)) → O
 unbegun words files said =
     let ends : EndsFiles (request_of words) status.NoMemory 0 0 files files =
     ends_unread (request_of words) status.NoMemory files files (inr refl) (record { holds = λ name. refl; making = refl; written = refl }) in record {
-      good = λ is. record { input = ends.input; files = ends.files; said = inl refl };
+      good = λ is. record { input = ends.input; bytes = 0; files = ends.files; said = inl refl };
       bad = λ is. record { words = inr (inr refl); files = refl; none = refl; said = inl refl };
     }
 

@@ -8,7 +8,7 @@ fn other_ends_than_zero(rt: HostRuntime) -> Result<(), Fail> {
     let mut files = MemFiles::new(alloc);
     let mut say = MemSink::new(alloc);
     let mut words = Vec::new(alloc);
-    for word in ["jx", "transcode", "in", "out"] {
+    for word in ["jx", "transcode", "in", "out", "--layers"] {
         words.push(String::from_str(alloc, word)?)?;
     }
     let end = end_of(alloc, Ok(words.into_iter()), &mut files, &mut say);

@@ -1,10 +1,15 @@
-use Rattle.jx_recast.proofs.OneVerdictLemmas.{VerdictLaws}
+use Rattle.jx_recast.proofs.OneVerdictLemmas.{Laws}
 use Rattle.jx_recast.proofs.OneVerdictLemmas as lemmas
-use Rattle.jx_recast.proofs.JudgedLemmas.{Laws}
 use Rattle.jx_recast.proofs.laws.one_verdict.Goals as goal
 
 pub returns : goal.returns
 returns c =
-    let clean : Laws = record { one_stream = c.one_stream.ensures; read = c.violated_or_spelled.ensures.never_both; gathered = c.never_both.ensures } in
-    let laws : VerdictLaws = record { clean = clean; first = c.one_first.ensures; broken = c.one_violation.ensures } in
+    let laws : Laws = record {
+      one_stream = c.one_stream.ensures;
+      read = c.violated_or_spelled.ensures.never_both;
+      gathered = c.never_both.ensures;
+      one_blocks = c.one_gathering.ensures;
+      first = c.one_first.ensures;
+      broken = c.one_violation.ensures;
+    } in
     lemmas.one_verdict laws

@@ -1,5 +1,5 @@
 use Rattle.std.proofs.Common.{ap, string_bytes, map}
-use Rattle.jx_recast.specs.declared.program.Ending.{Ending}
+use Rattle.jx_recast.specs.declared.rewrite.Ending.{Ending}
 use Rattle.jx_recast.specs.Words.{request_of}
 use Rattle.jx_recast.proofs.OutcomeLemmas.{ends_said, words_said}
 use Rattle.jx_recast.proofs.SaidLemmas.{unsaid}

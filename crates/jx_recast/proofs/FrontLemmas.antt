@@ -1,0 +1,176 @@
+-- Fronts of a file, tile by tile, and the rounds in which they are written.
+use Rattle.std.proofs.Common.{◌≡◌, ◌∙◌, ◌<◌, ◌≤◌, ◌+◌, ◌^◌, nat_lt, ℕ, List, [], ◌∷◌, ◌++◌, length, map, refl, ap, sym, subst, arith, inl, inr, append_assoc, append-nil, add-one, Option, None, Some}
+use Rattle.std.specs.List.{concat, flat_map}
+use Rattle.std.proofs.lemmas.Bool.{cases_eq}
+use Rattle.std.proofs.lemmas.Bool.Decides.{nat_tests}
+use Rattle.std.proofs.lemmas.Grind.{flat_map-append}
+use Rattle.std.proofs.lemmas.List.{map-append}
+use Rattle.std.proofs.lemmas.List.Concat.{concat_is}
+use Rattle.std.proofs.lemmas.List.Elements.{All-cons, All-head, All-tail}
+use Rattle.std.proofs.lemmas.List.Folds.{concat-append, flat_map-map}
+use Rattle.jx_base.specs.Joined.{joined}
+use Rattle.jx_base.proofs.Joined.{joined_next, joined_none, joined_same}
+use Rattle.jx_base.proofs.Sums.{sum_below_more, sum_below_next}
+use Rattle.jx_base.specs.declared.pieces.Block.{Block}
+use Rattle.std.specs.Option.{option_or}
+use Rattle.jx_gather.specs.Faults.{passed}
+use Rattle.jx_gather.specs.Totals.{block_total, packet_total, totals_fault}
+use Rattle.jx_gather.proofs.TotalLemmas.{blocks_are}
+use Rattle.jx_stream.specs.declared.faults.StreamFault.{StreamFault}
+use Rattle.jx_order.proofs.OrderLemmas.{one_order}
+use Rattle.jx_order.specs.declared.names.PacketName.{PacketName}
+use Rattle.jx_stream.specs.declared.Stream.{Stream}
+use Rattle.jx_stream.specs.First.{tile_number}
+use Rattle.jx_stream.specs.Shapes.{geometry, layers_of, tile_at}
+use Rattle.jx_stream.specs.Spells.{TilePart, part_bytes}
+use Rattle.jx_plan.specs.declared.Marks.{Marks}
+use Rattle.jx_plan.specs.Plan.{IsPlan, MayBePlanned, Plan, headers_of}
+use Rattle.jx_assemble.specs.Ready.{AreShort}
+use Rattle.jx_assemble.specs.Tile.{AreAtMost, IsTile, blocks_in, first_block, main_bytes}
+use Rattle.jx_assemble.specs.TileParts.{AreTilePartsOf, groups_of, tile_parts}
+use Rattle.jx_recast.specs.Rounds.{BeginsRound, IsInRound, IsLongFrom, IsLongTile, IsShortFront, IsUnmade, LeadOn, most_of_part, with_parts}
+use Rattle.jx_recast.specs.declared.halt.Halt.{Halt}
+use Rattle.jx_recast.specs.declared.halt.Halt.TheVariants as halt
+
+-- ---- lengths of tile-parts
+pub short_at_most : (parts : List TilePart) → AreAtMost most_of_part parts → AreShort parts
+short_at_most [] each = tt
+short_at_most (p ∷ ps) each =
+    let here : p.sot.psot ≤ 4294967295 = All-head (λ (part : TilePart). part.sot.psot ≤ most_of_part) p ps each in
+    (omega (arith, here), short_at_most ps (All-tail (λ (part : TilePart). part.sot.psot ≤ most_of_part) p ps each))
+
+pub at_most_short : (parts : List TilePart) → AreShort parts → AreAtMost most_of_part parts
+at_most_short [] short = λ k d lt. absurd (omega (arith, lt))
+at_most_short (p ∷ ps) short =
+    let here : p.sot.psot < 4294967296 = short.0 in
+    All-cons (λ (part : TilePart). part.sot.psot ≤ most_of_part) p ps (omega (arith, here)) (at_most_short ps short.1)
+
+-- ---- a front, with one tile more
+own_parts : (parts : ℕ → List TilePart) (at : ℕ) (next : List TilePart) → with_parts parts at next at ≡ next
+own_parts parts at next = grind (arith, nat_tests)
+
+other_parts : (parts : ℕ → List TilePart) (at : ℕ) (next : List TilePart) (t : ℕ) → t < at → with_parts parts at next t ≡ parts t
+other_parts parts at next t h = grind (arith, nat_tests)
+
+pub front_none : (p : Plan) → IsShortFront p 0 (main_bytes (headers_of p))
+front_none p =
+    let none : joined {X = TilePart} (λ (t : ℕ). []) 0 0 ≡ [] = joined_none (λ (t : ℕ). []) 0 0 (omega arith) in
+    let bytes : List TilePart → List ℕ = flat_map (part_bytes (length p.stream.siz.comps)) in
+    record {
+      parts = λ t. [];
+      are = λ t h. absurd (omega (arith, h));
+      short = λ t h. absurd (omega (arith, h));
+      bytes_are = sym (ap (λ (ps : List TilePart). main_bytes (headers_of p) ++ bytes ps) none ∙ append-nil (main_bytes (headers_of p)));
+    }
+
+-- the bytes of tile-parts, joined
+parts_joined : (comps : ℕ) (parts : List TilePart) → concat (map (part_bytes comps) parts) ≡ flat_map (part_bytes comps) parts
+parts_joined comps parts = concat_is (map (part_bytes comps) parts) ∙ flat_map-map (λ (x : List ℕ). x) (part_bytes comps) parts
+
+front_with : (p : Plan) (t : ℕ) (bytes : List ℕ) (own : List TilePart) → IsShortFront p t bytes → AreTilePartsOf p.marks (headers_of p) p.blocks t own → AreShort own
+    → IsShortFront p (t + 1) (bytes ++ flat_map (part_bytes (length p.stream.siz.comps)) own)
+front_with p t bytes own done are short =
+    let parts : ℕ → List TilePart = with_parts done.parts t own in
+    let f : TilePart → List ℕ = part_bytes (length p.stream.siz.comps) in
+    let main : List ℕ = main_bytes (headers_of p) in
+    let front : joined parts 0 t ≡ joined done.parts 0 t = joined_same parts done.parts t (λ i h. other_parts done.parts t own i h) in
+    let last : parts t ≡ own = own_parts done.parts t own in
+    let all : joined parts 0 (t + 1) ≡ joined done.parts 0 t ++ own =
+    joined_next parts 0 t (omega arith) ∙ ap (λ (xs : List TilePart). xs ++ parts t) front ∙ ap (λ (xs : List TilePart). joined done.parts 0 t ++ xs) last in
+    record {
+      parts = parts;
+      are = λ i h. elim (cases_eq i t) [
+        | inl e ↦ subst (λ (n : ℕ). AreTilePartsOf p.marks (headers_of p) p.blocks n (parts n)) (sym e) (subst (AreTilePartsOf p.marks (headers_of p) p.blocks t) (sym last) are)
+        | inr e ↦ subst (AreTilePartsOf p.marks (headers_of p) p.blocks i) (sym (other_parts done.parts t own i (omega (arith, h, e)))) (done.are i (omega (arith, h, e)))
+      ];
+      short = λ i h. elim (cases_eq i t) [
+        | inl e ↦ subst (λ (n : ℕ). AreShort (parts n)) (sym e) (subst AreShort (sym last) short)
+        | inr e ↦ subst AreShort (sym (other_parts done.parts t own i (omega (arith, h, e)))) (done.short i (omega (arith, h, e)))
+      ];
+      bytes_are = ap (λ (b : List ℕ). b ++ flat_map f own) done.bytes_are ∙ append_assoc main (flat_map f (joined done.parts 0 t)) (flat_map f own)
+          ∙ ap (λ (b : List ℕ). main ++ b) (sym (flat_map-append f (joined done.parts 0 t) own)) ∙ ap (λ (ps : List TilePart). main ++ flat_map f ps) (sym all);
+    }
+
+pub tile_leads : (p : Plan) (t : ℕ) (pieces : List (List ℕ)) → IsTile p p.blocks t most_of_part pieces → LeadOn p t (t + 1) pieces
+tile_leads p t pieces tile bytes front =
+    let whole : concat pieces ≡ flat_map (part_bytes (length p.stream.siz.comps)) tile.parts = ap concat tile.bytes_are ∙ parts_joined (length p.stream.siz.comps) tile.parts in
+    subst (λ (more : List ℕ). IsShortFront p (t + 1) (bytes ++ more)) (sym whole) (front_with p t bytes tile.parts front tile.are (short_at_most tile.parts tile.short))
+
+pub lead_none : (p : Plan) (t : ℕ) → LeadOn p t t []
+lead_none p t bytes front = subst (IsShortFront p t) (sym (append-nil bytes)) front
+
+pub lead_next : (p : Plan) (from t next : ℕ) (pieces more : List (List ℕ)) → LeadOn p from t pieces → LeadOn p t next more → LeadOn p from next (pieces ++ more)
+lead_next p from t next pieces more first later bytes front =
+    let both : bytes ++ concat (pieces ++ more) ≡ (bytes ++ concat pieces) ++ concat more =
+    ap (λ (b : List ℕ). bytes ++ b) (concat-append pieces more) ∙ sym (append_assoc bytes (concat pieces) (concat more)) in
+    subst (IsShortFront p next) (sym both) (later (bytes ++ concat pieces) (first bytes front))
+
+pub lead_more : {X : Type 0} (p : Plan) (from t next : ℕ) (f : X → List ℕ) (pieces more all : List X) → all ≡ pieces ++ more → LeadOn p from t (map f pieces) → LeadOn p t next (map f more)
+    → LeadOn p from next (map f all)
+lead_more {X} p from t next f pieces more all is first later =
+    let both : map f all ≡ map f pieces ++ map f more = ap (map f) is ∙ map-append f pieces more in
+    subst (λ (ps : List (List ℕ)). LeadOn p from next ps) (sym both) (lead_next p from t next (map f pieces) (map f more) first later)
+
+-- ---- rounds
+pub round_none : (p : Plan) → BeginsRound p 0
+round_none p = refl
+
+pub round_more : (p : Plan) (t start held : ℕ) → IsInRound p t start held → held + blocks_in p t < 4096 → IsInRound p (t + 1) start (held + blocks_in p t)
+round_more p t start held is few = rw (add-one, is) (grind (arith, nat_tests))
+
+pub round_full : (p : Plan) (t start held : ℕ) → IsInRound p t start held → 4096 ≤ held + blocks_in p t → BeginsRound p (t + 1)
+round_full p t start held is many = rw (add-one, is) (grind (arith, nat_tests))
+
+-- ---- numbers of blocks
+pub block_next : (p : Plan) (t block : ℕ) → block ≡ first_block p t → block + blocks_in p t ≡ first_block p (t + 1)
+block_next p t block is = omega (arith, is, sum_below_next (blocks_in p) t)
+
+not_passed : (number found most : ℕ) → passed number found (nat_lt most found) ≡ None → found ≤ most
+not_passed number found most h = grind (arith, nat_tests)
+
+first_none : (first later : Option StreamFault) → option_or first later ≡ None → first ≡ None
+first_none None later h = refl
+first_none (Some f) later h = absurd (cc)
+
+totals_few : (s : Stream) → totals_fault s ≡ None → block_total s ≤ 2 ^ 20
+unfolding totals_fault
+totals_few s h =
+    not_passed 5 (block_total s) (2 ^ 20) (first_none (passed 5 (block_total s) (nat_lt (2 ^ 20) (block_total s))) (passed 6 (packet_total s) (nat_lt (2 ^ 22) (packet_total s))) h)
+
+pub block_few : (p : Plan) (t : ℕ) → IsPlan p → t < tile_number p.stream.siz → first_block p t + blocks_in p t ≤ 1048576
+block_few p t plan inside =
+    let few : block_total p.stream ≤ 1048576 = totals_few p.stream plan.may.totals in
+    omega (arith, sum_below_more (blocks_in p) t (tile_number p.stream.siz) inside, blocks_are p.stream, few)
+
+pub blocks_few : (p : Plan) (t : ℕ) → IsPlan p → t < tile_number p.stream.siz → first_block p t + blocks_in p t ≤ length p.jobs
+blocks_few p t plan inside =
+    omega (arith, sum_below_more (blocks_in p) t (tile_number p.stream.siz) inside, blocks_are p.stream, plan.all, plan.may.blocks_are.all)
+
+-- ---- a round that isn't made
+pub unmade_of : (p : Plan) (start at held : ℕ) (pieces : List (List ℕ)) (h : Halt) → at < tile_number p.stream.siz → IsInRound p at start held → LeadOn p start at pieces
+    → IsLongTile p at h → IsUnmade p start h
+unmade_of p start at held pieces (halt.TooLong tile) inside round lead long = subst (λ (n : ℕ). IsLongFrom p start n) (sym long.0) (record {
+  inside = inside;
+  long = long.1;
+  held = held;
+  round = round;
+  below = λ bytes front. (bytes ++ concat pieces, lead bytes front);
+})
+unmade_of p start at held pieces halt.Failed inside round lead long = absurd long
+unmade_of p start at held pieces halt.NoMemory inside round lead long = tt
+
+-- ---- a tile has one list of tile-parts
+pub one_tile : (m : Marks) (s : Stream) (blocks : List Block) (t : ℕ) (xs ys : List TilePart) → AreTilePartsOf m s blocks t xs → AreTilePartsOf m s blocks t ys → xs ≡ ys
+one_tile m s blocks t xs ys one other =
+    let same : one.names ≡ other.names = one_order (geometry s t) (layers_of s t) (tile_at s t).progressions (length (tile_at s t).progressions) one.names other.names one.order other.order in
+    one.are ∙ ap (λ (z : List PacketName). tile_parts m s blocks t (groups_of z)) same ∙ sym other.are
+
+pub jobs_few : (p : Plan) → IsPlan p → length p.jobs ≤ 1048576
+jobs_few p plan =
+    let few : block_total p.stream ≤ 1048576 = totals_few p.stream plan.may.totals in
+    omega (arith, few, plan.all, plan.may.blocks_are.all)
+
+pub planned_few : (s : Stream) (blocks : List Block) → MayBePlanned s blocks → length blocks ≤ 1048576
+planned_few s blocks may =
+    let few : block_total s ≤ 1048576 = totals_few s may.totals in
+    omega (arith, few, may.blocks_are.all)

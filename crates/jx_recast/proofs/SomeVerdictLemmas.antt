@@ -1,0 +1,138 @@
+-- Each input has a verdict.
+use Rattle.std.proofs.Common.{◌≡◌, ◌⊎◌, ◌≤◌, ◌<◌, ◌^◌, zero, suc, inl, inr, refl, sym, subst, arith, List, [], ◌∷◌, ℕ, Option, None, Some, length}
+use Rattle.std.proofs.lemmas.Bool.{cases_lt, cases_eq}
+use Rattle.jx_base.specs.declared.pieces.Block.{Block}
+use Rattle.jx_marker.specs.Ranges.{AreBytes}
+use Rattle.jx_stream.specs.declared.faults.StreamFault.{StreamFault}
+use Rattle.jx_stream.specs.declared.faults.StreamFault.TheVariants as fault
+use Rattle.jx_stream.specs.declared.Stream.{Stream}
+use Rattle.jx_stream.specs.First.{tile_number}
+use Rattle.jx_stream.specs.FirstViolated.{IsFirst}
+use Rattle.jx_stream.specs.InRange.{StreamInRange}
+use Rattle.jx_stream.specs.Read.{IsRead}
+use Rattle.jx_stream.specs.Spells.{TilePart}
+use Rattle.jx_stream.proofs.RangeLemmas.{read_in_range}
+use Rattle.jx_gather.specs.Either.{HasBlocks, HasFault}
+use Rattle.jx_gather.specs.Gathered.{IsBroken}
+use Rattle.jx_gather.specs.Totals.{packet_total, totals_fault}
+use Rattle.jx_plan.specs.declared.Marks.{Marks}
+use Rattle.jx_plan.specs.Headers.{Asked}
+use Rattle.jx_plan.specs.Facts.{most_layers}
+use Rattle.jx_plan.specs.Plan.{headers_with, most_packets}
+use Rattle.jx_plan.specs.Standing.{HeadersStand}
+use Rattle.jx_plan.proofs.ReadLemmas.{read_stands}
+use Rattle.jx_plan.proofs.StreamLemmas.{tile_number_stays}
+use Rattle.jx_assemble.specs.Ready.{AreReady, AreShort}
+use Rattle.jx_assemble.specs.TileParts.{AreTilePartsOf, IsOutput}
+use Rattle.jx_assemble.proofs.MostLemmas.{most_few, most_some}
+use Rattle.jx_recast.specs.declared.status.Status.{Status}
+use Rattle.jx_recast.specs.declared.status.Status.TheVariants as status
+use Rattle.jx_recast.specs.Judged.{BreaksTiles}
+use Rattle.jx_recast.specs.Outcome.{Verdict, most_bytes}
+use Rattle.jx_recast.specs.Rewritten.{Reads, headers_of}
+use Rattle.jx_recast.proofs.ToldLemmas.{stop_told}
+use Rattle.jx_recast.proofs.FrontLemmas.{one_tile}
+
+-- what the laws of the crates below say
+pub record Laws : Type 0 where
+  pub either : (b : List ℕ) → AreBytes b → ((f : StreamFault) × IsFirst b f) ⊎ ((s : Stream) × IsRead b s)
+  pub blocks : (b : List ℕ) (s : Stream) → IsRead b s → length b < 2 ^ 64 → HasBlocks b s ⊎ HasFault b s
+  pub ready : (m : Marks) (layers : ℕ) (s : Stream) → 1 ≤ layers → layers < 2 ^ 16 → HeadersStand s → StreamInRange s → totals_fault s ≡ None
+      → packet_total (headers_with m layers s) ≤ 2 ^ 22 → AreReady m (headers_with m layers s)
+  pub output : (m : Marks) (s : Stream) (blocks : List Block) → AreReady m s → (b : List ℕ) × IsOutput m s blocks b
+
+-- the first of some tiles whose tile-parts aren't all short
+record IsFirstLong (parts : ℕ → List TilePart) (tiles : ℕ) (t : ℕ) : Type 0 where
+  pub inside : t < tiles
+  pub long : AreShort (parts t) → ⊥
+  pub before : (n : ℕ) → n < t → AreShort (parts n)
+
+short_or_not : (parts : List TilePart) → AreShort parts ⊎ (AreShort parts → ⊥)
+short_or_not [] = inl tt
+short_or_not (p ∷ ps) = elim (cases_lt p.sot.psot 4294967296) [
+  | inl few ↦ elim (short_or_not ps) [
+    | inl rest ↦ inl (few, rest)
+    | inr long ↦ inr (λ (short : AreShort (p ∷ ps)). long short.1)
+  ]
+  | inr many ↦ inr (λ (short : AreShort (p ∷ ps)). omega (arith, short.0, many))
+]
+
+all_short_or_not : (parts : ℕ → List TilePart) (tiles : ℕ) → ((t : ℕ) → t < tiles → AreShort (parts t)) ⊎ ((t : ℕ) × IsFirstLong parts tiles t)
+all_short_or_not parts zero = inl (λ t lt. absurd (omega (arith, lt)))
+all_short_or_not parts (suc n) = elim (all_short_or_not parts n) [
+  | inr (t, first) ↦ inr (t, record { inside = omega (arith, first.inside); long = first.long; before = first.before })
+  | inl all ↦ elim (short_or_not (parts n)) [
+    | inl short ↦ inl (λ t lt. elim (cases_eq t n) [
+      | inl e ↦ subst (λ (k : ℕ). AreShort (parts k)) (sym e) short
+      | inr ne ↦ all t (omega (arith, lt, ne))
+    ])
+    | inr long ↦ inr (n, record { inside = omega arith; long = long; before = all })
+  ]
+]
+
+module _ (laws : Laws) (m : Marks) (input : List ℕ) (short : length input ≤ most_bytes) where
+  stopped : (f : StreamFault) → IsFirst input f ⊎ BreaksTiles input f → (st : Status) × Verdict m input st
+  stopped (fault.Rule number place) cause = (status.Rule number place, (short, cause))
+  stopped (fault.Limit number found) cause = (status.Limit number found, inl (inr (short, cause)))
+  stopped fault.NoMemory cause = absurd (stop_told input fault.NoMemory cause)
+
+  written : (s : Stream) (blocks : List Block) → Reads input s blocks → packet_total (headers_of m s) ≤ most_packets → (st : Status) × Verdict m input st
+  written s blocks reads few =
+      let range : StreamInRange s = read_in_range input s reads.read in
+      let packets : packet_total (headers_of m s) ≤ 2 ^ 22 = few in
+      let asked : Asked = record { sop = m.sop; eph = m.eph; layers = most_layers s } in
+      let ready : AreReady m (headers_of m s) = laws.ready m (most_layers s) s (most_some s range) (most_few s range) (read_stands input s reads.read) range reads.totals packets in
+      let out = laws.output m (headers_of m s) blocks ready in
+      let are : (t : ℕ) → t < tile_number s.siz → AreTilePartsOf m (headers_of m s) blocks t (out.1.parts t) =
+      λ t lt. out.1.are t (subst (λ (n : ℕ). t < n) (sym (tile_number_stays asked s)) lt) in
+      elim (all_short_or_not out.1.parts (tile_number s.siz)) [
+        | inl all ↦ (status.Done, (short, out.0, record { stream = s; blocks = blocks; reads = reads; few = few; output = out.1; short = all }))
+        | inr (t, first) ↦ (
+          status.Choice 7 t,
+          (
+            short,
+            refl,
+            record {
+              stream = s;
+              blocks = blocks;
+              reads = reads;
+              few = few;
+              inside = first.inside;
+              is = record { parts = out.1.parts t; are = are t first.inside; long = first.long };
+              lowest = λ n lt long. long.long (subst AreShort (one_tile m (headers_of m s) blocks n (out.1.parts n) long.parts (are n (omega (arith, lt, first.inside))) long.are) (first.before n lt));
+            },
+          ),
+        )
+      ]
+
+  planned : (s : Stream) (blocks : List Block) → Reads input s blocks → (st : Status) × Verdict m input st
+  planned s blocks reads = elim (cases_lt 4194304 (packet_total (headers_of m s))) [
+    | inl many ↦ (status.Limit 7 (packet_total (headers_of m s)), inr (short, refl, record { stream = s; blocks = blocks; reads = reads; many = record { count = refl; many = many } }))
+    | inr few ↦ written s blocks reads few
+  ]
+
+  gathered : (s : Stream) → IsRead input s → HasBlocks input s ⊎ HasFault input s → (totals_fault s ≡ None) ⊎ ((f : StreamFault) × IsBroken input s f) → (st : Status) × Verdict m input st
+  gathered s read (inr broken) totals = stopped broken.0 (inr (record { stream = s; read = read; broken = broken.1 }))
+  gathered s read (inl blocks) (inr broken) = stopped broken.0 (inr (record { stream = s; read = read; broken = broken.1 }))
+  gathered s read (inl blocks) (inl none) = planned s blocks.0 (record { read = read; totals = none; gathered = blocks.1 })
+
+  totals_of : (s : Stream) → (totals_fault s ≡ None) ⊎ ((f : StreamFault) × IsBroken input s f)
+  totals_of s = told (totals_fault s) refl
+    where
+      told : (o : Option StreamFault) → totals_fault s ≡ o → (totals_fault s ≡ None) ⊎ ((f : StreamFault) × IsBroken input s f)
+      told None e = inl e
+      told (Some f) e = inr (f, inl e)
+
+  short_verdict : AreBytes input → (st : Status) × Verdict m input st
+  short_verdict bytes = elim (laws.either input bytes) [
+    | inl first ↦ stopped first.0 (inl first.1)
+    | inr read ↦
+        let few : length input ≤ 2 ^ 28 = short in
+        gathered read.0 read.1 (laws.blocks input read.0 read.1 (omega arith)) (totals_of read.0)
+  ]
+
+pub some_verdict : Laws → (m : Marks) (input : List ℕ) → AreBytes input → (st : Status) × Verdict m input st
+some_verdict laws m input bytes = elim (cases_lt most_bytes (length input)) [
+  | inl long ↦ (status.Limit 1 268435457, inl (inl (long, refl, refl)))
+  | inr short ↦ short_verdict laws m input short bytes
+]

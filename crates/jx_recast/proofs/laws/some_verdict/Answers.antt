@@ -1,0 +1,13 @@
+use Rattle.jx_recast.proofs.SomeVerdictLemmas.{Laws}
+use Rattle.jx_recast.proofs.SomeVerdictLemmas as lemmas
+use Rattle.jx_recast.proofs.laws.some_verdict.Goals as goal
+
+pub returns : goal.returns
+returns c =
+    let laws : Laws = record {
+      either = c.violated_or_spelled.ensures.either;
+      blocks = c.one_of_both.ensures;
+      ready = c.written_is_ready.ensures;
+      output = c.one_output.ensures.some;
+    } in
+    lemmas.some_verdict laws

@@ -1,0 +1,15 @@
+use Rattle.jx_recast.proofs.AnswerLemmas.{may_be_planned, reads_of, tiles_refused}
+use Rattle.jx_recast.proofs.rewrite.rewrite.Goals as goal
+
+pub write_blocks-requires-clause-may : goal.write_blocks-requires-clause-may
+write_blocks-requires-clause-may g c =
+    rw c.deref.ensures.value (may_be_planned c.args.input.now c.args.stream.now c.in-Ok.blocks.items c.requires.read c.in-Ok.ensures.totals c.in-Ok.ensures.blocks c.in-Ok.ensures.sound)
+
+pub returns-in-Ok-clause-answer : goal.returns-in-Ok-clause-answer
+returns-in-Ok-clause-answer g c =
+    c.write_blocks.ensures.answer c.args.input.now c.requires.within
+    (rw c.deref.ensures.value (reads_of c.args.input.now c.args.stream.now c.in-Ok.blocks.items c.requires.read c.in-Ok.ensures.totals c.in-Ok.ensures.gathered))
+
+pub returns-in-Err-clause-answer : goal.returns-in-Err-clause-answer
+returns-in-Err-clause-answer g c =
+    rw c.refused_by.ensures (tiles_refused _ _ c.args.input.now c.args.stream.now c.in-Err.fault _ c.requires.within c.requires.read c.in-Err.ensures.broken)

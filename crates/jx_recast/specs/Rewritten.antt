@@ -1,0 +1,127 @@
+-- The file to which an input is rewritten: its headers as they are written, and its code-blocks, each kept byte for byte, packed anew
+-- (ITU-T T.800, A and B). And what stands of it where the run ends early.
+use Rattle.std.specs.Prelude.{◌≡◌, ◌<◌, ◌≤◌, ◌+◌, ℕ, zero, suc, nat_le, List, ◌++◌, length, None, if◌then◌else◌}
+use Rattle.std.specs.List.{flat_map}
+use Rattle.jx_base.specs.declared.pieces.Block.{Block}
+use Rattle.jx_base.specs.Joined.{joined}
+use Rattle.jx_geom.specs.Counts.{tile_blocks}
+use Rattle.jx_geom.specs.Rects.{tile_rect}
+use Rattle.jx_stream.specs.declared.Stream.{Stream}
+use Rattle.jx_stream.specs.First.{canvas_of, tile_number}
+use Rattle.jx_stream.specs.Read.{IsRead}
+use Rattle.jx_stream.specs.Shapes.{shapes_of}
+use Rattle.jx_stream.specs.Spells.{TilePart, part_bytes}
+use Rattle.jx_gather.specs.Gathered.{IsGathered}
+use Rattle.jx_gather.specs.Totals.{packet_total, totals_fault}
+use Rattle.jx_plan.specs.declared.Marks.{Marks}
+use Rattle.jx_plan.specs.Facts.{most_layers}
+use Rattle.jx_plan.specs.Plan.{headers_with, most_packets}
+use Rattle.jx_plan.specs.Plan.{PassesPackets as HasManyPackets}
+use Rattle.jx_assemble.specs.Kept.{IsKeptIn}
+use Rattle.jx_assemble.specs.Ready.{AllShort, AreShort}
+use Rattle.jx_assemble.specs.Tile.{main_bytes}
+use Rattle.jx_assemble.specs.TileParts.{AreTilePartsOf, IsOutput}
+
+-- an input that is read whole: a well-formed codestream within the limits, with its blocks
+pub record Reads (input : List ℕ) (s : Stream) (blocks : List Block) : Type 0 where
+  pub read : IsRead input s
+  pub totals : totals_fault s ≡ None
+  pub gathered : IsGathered input s blocks
+
+-- the headers that are written: as many layers as the tile that has the most of them
+abbrev pub headers_of : Marks → Stream → Stream
+headers_of m s = headers_with m (most_layers s) s
+
+-- limit 7
+pub record PassesPackets (m : Marks) (input : List ℕ) (found : ℕ) : Type 0 where
+  pub stream : Stream
+  pub blocks : List Block
+  pub reads : Reads input stream blocks
+  pub many : HasManyPackets stream m found
+
+-- a tile that has a tile-part of 2^32 bytes or more
+pub record IsLong (m : Marks) (s : Stream) (blocks : List Block) (t : ℕ) : Type 0 where
+  pub parts : List TilePart
+  pub are : AreTilePartsOf m (headers_of m s) blocks t parts
+  pub long : AreShort parts → ⊥
+
+-- the lowest tile that has
+pub record IsTooLong (m : Marks) (input : List ℕ) (t : ℕ) : Type 0 where
+  pub stream : Stream
+  pub blocks : List Block
+  pub reads : Reads input stream blocks
+  pub few : packet_total (headers_of m stream) ≤ most_packets
+  pub inside : t < tile_number stream.siz
+  pub is : IsLong m stream blocks t
+  pub lowest : (n : ℕ) → n < t → IsLong m stream blocks n → ⊥
+
+-- the file that is written of an input: the one that its blocks make with its headers
+pub record IsRewritten (m : Marks) (input out : List ℕ) : Type 0 where
+  pub stream : Stream
+  pub blocks : List Block
+  pub reads : Reads input stream blocks
+  pub few : packet_total (headers_of m stream) ≤ most_packets
+  pub output : IsOutput m (headers_of m stream) blocks out
+  pub short : AllShort output.parts (tile_number stream.siz)
+
+-- rounds: tiles are written in rounds, of which each ends with the first tile at which it has 4,096 blocks, or with the last tile
+abbrev pub blocks_in_tile : Stream → ℕ → ℕ
+blocks_in_tile s t = tile_blocks (tile_rect (canvas_of s.siz) t) (shapes_of s t)
+
+abbrev pub most_of_round : ℕ
+most_of_round = 4096
+
+-- the round of a tile: where it begins, and the blocks that it has before the tile
+pub record Round : Type 0 where
+  pub start : ℕ
+  pub before : ℕ
+
+abbrev pub next_round : (ℕ → ℕ) → ℕ → Round → Round
+next_round counts t r = if nat_le most_of_round (r.before + counts t) then record { start = t + 1; before = 0 } else record { start = r.start; before = r.before + counts t }
+
+abbrev pub round_of : (ℕ → ℕ) → ℕ → Round
+round_of counts zero = record { start = 0; before = 0 }
+round_of counts (suc t) = next_round counts t (round_of counts t)
+
+abbrev pub round_start : Stream → ℕ → ℕ
+round_start s t = (round_of (blocks_in_tile s) t).start
+
+-- the main header and the tile-parts of the first tiles
+pub record IsFront (m : Marks) (s : Stream) (blocks : List Block) (tiles : ℕ) (bytes : List ℕ) : Type 0 where
+  pub parts : ℕ → List TilePart
+  pub are : (t : ℕ) → t < tiles → AreTilePartsOf m (headers_of m s) blocks t (parts t)
+  pub bytes_are : bytes ≡ main_bytes (headers_of m s) ++ flat_map (part_bytes (length s.siz.comps)) (joined parts 0 tiles)
+
+-- what a run may have written of an input before it is done: whole rounds, of which none has a tile that is too long
+pub record IsFrontOf (m : Marks) (input bytes : List ℕ) : Type 0 where
+  pub stream : Stream
+  pub blocks : List Block
+  pub reads : Reads input stream blocks
+  pub few : packet_total (headers_of m stream) ≤ most_packets
+  pub tiles : ℕ
+  pub inside : tiles ≤ tile_number stream.siz
+  pub front : IsFront m stream blocks tiles bytes
+  pub before : (t : ℕ) → t < tile_number stream.siz → IsLong m stream blocks t → tiles ≤ round_start stream t
+
+-- what it has written where a tile is too long: the rounds before that tile's
+pub record IsCut (m : Marks) (input : List ℕ) (t : ℕ) (bytes : List ℕ) : Type 0 where
+  pub stream : Stream
+  pub blocks : List Block
+  pub reads : Reads input stream blocks
+  pub front : IsFront m stream blocks (round_start stream t) bytes
+
+-- how many blocks an input has
+pub record HasBlocks (input : List ℕ) (count : ℕ) : Type 0 where
+  pub stream : Stream
+  pub blocks : List Block
+  pub reads : Reads input stream blocks
+  pub count_is : count ≡ length blocks
+
+-- what the written file keeps: it is a well-formed codestream, and strictly made; it has the input's blocks, each with its name, place,
+-- planes, zero planes, passes, style and coded bytes; SIZ but for Rsiz; and each component's parameters but for the layers, and steps
+pub record IsKept (m : Marks) (input out : List ℕ) : Type 0 where
+  pub before : Stream
+  pub after : Stream
+  pub blocks : List Block
+  pub reads : Reads input before blocks
+  pub kept : IsKeptIn m (most_layers before) before after blocks out

@@ -1,0 +1,191 @@
+-- What has been written of a plan, tile by tile: the main header, and the tile-parts of the first tiles; and where a round ends.
+use Rattle.std.specs.Prelude.{◌≡◌, ◌⊎◌, ◌<◌, ◌≤◌, ◌+◌, ◌-◌, ◌^◌, ℕ, List, ◌++◌, length, None, Some, slice_get, if◌then◌else◌, ◌==◌}
+use Rattle.std.specs.List.{All, concat, flat_map}
+use Rattle.jx_base.specs.Joined.{joined}
+use Rattle.jx_block.specs.declared.job.Job.{Job}
+use Rattle.jx_block.specs.Jobs.{IsAsked}
+use Rattle.jx_block.specs.Recoded.{WrittenBlock, recoding_in}
+use Rattle.jx_marker.specs.Segments.{spelling}
+use Rattle.jx_marker.specs.declared.Segment.TheVariants as segment
+use Rattle.jx_outside.specs.Device.{Meaning, after_finish, after_write}
+use Rattle.jx_plan.specs.Facts.{most_layers}
+use Rattle.jx_plan.specs.Plan.{KeepsLayers, Plan, headers_of}
+use Rattle.jx_stream.specs.First.{tile_number}
+use Rattle.jx_stream.specs.Spells.{TilePart, part_bytes}
+use Rattle.jx_assemble.specs.Ready.{AreShort}
+use Rattle.jx_assemble.specs.Tile.{IsTooLong, blocks_in, first_block, main_bytes}
+use Rattle.jx_assemble.specs.TileParts.{AreTilePartsOf}
+use Rattle.jx_recast.specs.Progress.{SomeFront}
+use Rattle.jx_recast.specs.Rewritten.{round_of}
+use Rattle.jx_recast.specs.declared.halt.Halt.{Halt}
+use Rattle.jx_recast.specs.declared.halt.Halt.TheVariants as halt
+
+-- the most bytes of a tile-part
+abbrev pub most_of_part : ℕ
+most_of_part = 2 ^ 32 - 1
+
+-- each block keeps its layers, and as many layers are written as the tile has that has the most
+pub record IsKeeping (p : Plan) : Type 0 where
+  pub jobs : KeepsLayers p.jobs
+  pub layers : p.layers ≡ most_layers p.stream
+
+-- jobs that keep their blocks
+pub record IsKeptJob (job : Job) : Type 0 where
+  pub asked : IsAsked job.block.now job.style job.ends
+  pub kept : job.style ≡ None
+
+abbrev pub CanBeMade : List Job → Type 0
+CanBeMade jobs = All IsKeptJob jobs
+
+-- what jobs are made to, from one on
+pub record AreMade (jobs : List Job) (first : ℕ) (values : List WrittenBlock) : Type 0 where
+  pub each : (i : ℕ) (r : WrittenBlock) → slice_get values i ≡ Some r → (slice_get jobs (first + i) ≡ Some r.job) × (Some r.recoding ≡ recoding_in r.job)
+
+-- the main header and the tile-parts of the first tiles, none of which is too long
+pub record IsShortFront (p : Plan) (tiles : ℕ) (bytes : List ℕ) : Type 0 where
+  pub parts : ℕ → List TilePart
+  pub are : (t : ℕ) → t < tiles → AreTilePartsOf p.marks (headers_of p) p.blocks t (parts t)
+  pub short : (t : ℕ) → t < tiles → AreShort (parts t)
+  pub bytes_are : bytes ≡ main_bytes (headers_of p) ++ flat_map (part_bytes (length p.stream.siz.comps)) (joined parts 0 tiles)
+
+-- pieces that lead from a front to a longer one
+abbrev pub LeadOn : Plan → ℕ → ℕ → List (List ℕ) → Type 0
+LeadOn p tile next pieces = (bytes : List ℕ) → IsShortFront p tile bytes → IsShortFront p next (bytes ++ concat pieces)
+
+-- no tile from one on below another is too long, as far as a front is written
+abbrev pub GoesOn : Plan → ℕ → ℕ → Type 0
+GoesOn p tile next = (bytes : List ℕ) → IsShortFront p tile bytes → (more : List ℕ) × IsShortFront p next more
+
+-- a round begins at a tile
+abbrev pub BeginsRound : Plan → ℕ → Type 0
+BeginsRound p tile = round_of (blocks_in p) tile ≡ record { start = tile; before = 0 }
+
+-- a tile in a round that began at another, before which it has so many blocks
+abbrev pub IsInRound : Plan → ℕ → ℕ → ℕ → Type 0
+IsInRound p tile start held = round_of (blocks_in p) tile ≡ record { start = start; before = held }
+
+-- a round ends before a tile: another begins there, or it is past the last one
+abbrev pub EndsRound : Plan → ℕ → Type 0
+EndsRound p tile = BeginsRound p tile ⊎ (tile ≡ tile_number p.stream.siz)
+
+-- a tile, and the number of its first block
+pub record IsPlace (p : Plan) (tile block : ℕ) : Type 0 where
+  pub inside : tile ≤ tile_number p.stream.siz
+  pub block_is : block ≡ first_block p tile
+
+-- a front that ends with a round
+pub record IsRoundFront (p : Plan) (bytes : List ℕ) : Type 0 where
+  pub tiles : ℕ
+  pub inside : tiles ≤ tile_number p.stream.siz
+  pub front : IsShortFront p tiles bytes
+  pub ends : EndsRound p tiles
+
+-- the front has been written that ends before a tile, of so many bytes
+pub record HasFront (p : Plan) (tile count : ℕ) (old new : Meaning) : Type 0 where
+  pub bytes : List ℕ
+  pub front : IsShortFront p tile bytes
+  pub meaning : new ≡ after_write bytes old
+  pub count_is : count ≡ length bytes
+
+-- all tiles and EOC
+pub record IsWholeFile (p : Plan) (bytes : List ℕ) : Type 0 where
+  pub front : List ℕ
+  pub tiles : IsShortFront p (tile_number p.stream.siz) front
+  pub bytes_are : bytes ≡ front ++ spelling 1 segment.Eoc
+
+-- a tile is too long, and what was written are the rounds before its own
+pub record IsHaltedAt (p : Plan) (tile : ℕ) (bytes : List ℕ) : Type 0 where
+  pub inside : tile < tile_number p.stream.siz
+  pub long : IsTooLong p p.blocks tile most_of_part
+  pub start : ℕ
+  pub front : IsShortFront p start bytes
+  pub held : ℕ
+  pub round : IsInRound p tile start held
+  pub below : (more : List ℕ) × IsShortFront p tile more
+
+-- why rounds aren't written, and what has been
+pub record IsHaltedTile (p : Plan) (tile : ℕ) (old new : Meaning) : Type 0 where
+  pub bytes : List ℕ
+  pub is : IsHaltedAt p tile bytes
+  pub meaning : new ≡ after_write bytes old
+
+-- a front of whole rounds, or of the file
+pub record IsHaltedByFault (p : Plan) (old new : Meaning) : Type 0 where
+  pub bytes : List ℕ
+  pub of : IsRoundFront p bytes ⊎ IsWholeFile p bytes
+  pub some : SomeFront old new bytes
+
+abbrev pub IsHalted : Plan → Halt → Meaning → Meaning → Type 0
+IsHalted p (halt.TooLong tile) old new = IsHaltedTile p tile old new
+IsHalted p halt.Failed old new = IsHaltedByFault p old new
+IsHalted p halt.NoMemory old new = IsHaltedByFault p old new
+
+-- why a round isn't made that begins at a tile: a tile of it is too long; want of memory is free
+pub record IsLongFrom (p : Plan) (start tile : ℕ) : Type 0 where
+  pub inside : tile < tile_number p.stream.siz
+  pub long : IsTooLong p p.blocks tile most_of_part
+  pub held : ℕ
+  pub round : IsInRound p tile start held
+  pub below : GoesOn p start tile
+
+-- why a tile isn't made
+abbrev pub IsLongTile : Plan → ℕ → Halt → Type 0
+IsLongTile p tile (halt.TooLong at) = (at ≡ tile) × IsTooLong p p.blocks tile most_of_part
+IsLongTile p tile halt.Failed = ⊥
+IsLongTile p tile halt.NoMemory = Unit {0}
+
+abbrev pub IsUnmade : Plan → ℕ → Halt → Type 0
+IsUnmade p start (halt.TooLong tile) = IsLongFrom p start tile
+IsUnmade p start halt.Failed = ⊥
+IsUnmade p start halt.NoMemory = Unit {0}
+
+-- bytes that lead from a front to a longer one
+abbrev pub LeadsBy : Plan → ℕ → ℕ → List ℕ → Type 0
+LeadsBy p tile next more = (bytes : List ℕ) → IsShortFront p tile bytes → IsShortFront p next (bytes ++ more)
+
+-- the tiles from one on below another have been written, after so many bytes
+pub record HasRounds (p : Plan) (start tile before count : ℕ) (old new : Meaning) : Type 0 where
+  pub more : List ℕ
+  pub lead : LeadsBy p start tile more
+  pub meaning : new ≡ after_write more old
+  pub count_is : count ≡ before + length more
+
+-- a tile is too long, and the rounds before its own have been written
+pub record IsLongAfter (p : Plan) (start tile : ℕ) (old new : Meaning) : Type 0 where
+  pub more : List ℕ
+  pub from : ℕ
+  pub lead : LeadsBy p start from more
+  pub meaning : new ≡ after_write more old
+  pub long : IsLongFrom p from tile
+
+-- a front of some rounds has been written
+pub record IsCutAfter (p : Plan) (start : ℕ) (old new : Meaning) : Type 0 where
+  pub more : List ℕ
+  pub next : ℕ
+  pub lead : LeadsBy p start next more
+  pub inside : next ≤ tile_number p.stream.siz
+  pub ends : EndsRound p next
+  pub some : SomeFront old new more
+
+-- why rounds aren't written
+abbrev pub IsUnwritten : Plan → ℕ → Halt → Meaning → Meaning → Type 0
+IsUnwritten p start (halt.TooLong tile) old new = IsLongAfter p start tile old new
+IsUnwritten p start halt.Failed old new = IsCutAfter p start old new
+IsUnwritten p start halt.NoMemory old new = IsCutAfter p start old new
+
+-- no tile is too long
+abbrev pub IsFault : Halt → Type 0
+IsFault (halt.TooLong tile) = ⊥
+IsFault halt.Failed = Unit {0}
+IsFault halt.NoMemory = Unit {0}
+
+-- the whole file has been written
+pub record HasWhole (p : Plan) (count : ℕ) (old new : Meaning) : Type 0 where
+  pub bytes : List ℕ
+  pub whole : IsWholeFile p bytes
+  pub meaning : new ≡ after_finish (after_write bytes old)
+  pub count_is : count ≡ length bytes
+
+-- a front with one tile more
+abbrev pub with_parts : (ℕ → List TilePart) → ℕ → List TilePart → ℕ → List TilePart
+with_parts parts tile own t = if t == tile then own else parts t

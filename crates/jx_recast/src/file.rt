@@ -1,0 +1,248 @@
+//! A file, written round by round.
+
+ghost use Rattle.std.specs.Prelude.{◌≡◌, ◌<◌, map, IfOk, IfErr, OnOk, IsErrOf, IsTrue};
+ghost use Rattle.std.specs.List.{concat};
+ghost use Rattle.jx_outside.specs.Causes.{Rose};
+ghost use Rattle.jx_outside.specs.Device.{Meaning, after_write};
+ghost use Rattle.jx_plan.specs.Plan.{IsPlan, Plan, headers_of};
+ghost use Rattle.jx_stream.specs.First.{tile_number};
+ghost use Rattle.jx_assemble.specs.Tile.{first_block, main_bytes};
+ghost use Rattle.jx_recast.specs.Filed.{IsFileHalted, IsFileMade};
+ghost use Rattle.jx_recast.specs.Progress.{SomeFront};
+ghost use Rattle.jx_recast.specs.Rounds.{BeginsRound, EndsRound, HasFront, HasRounds, HasWhole, IsFault, IsHalted, IsKeeping, IsPlace, IsUnwritten};
+
+use crate::device::{count_bytes, write_all, write_pieces};
+use crate::halt::{Halt, halt_of};
+use crate::rounds::{made_round, tile_count};
+use jx_assemble::main_header;
+use jx_outside::Files;
+use jx_plan::OutStream;
+use jx_stream::MainView;
+use std::alloc::Global;
+
+const EOC: [u8; 2] = [0xFF, 0xD9];
+
+/// What has been written before a tile: the number of its first code-block, and how many bytes.
+#[derive(Clone, Copy)]
+pub struct Mark {
+    pub tile: u16,
+    pub block: u32,
+    pub bytes: usize,
+}
+
+/// Writes a round's tile-parts; after an error, a front of them.
+#[tactic(auto, using(crate::proofs::WriteLemmas::halt_fault))]
+fn put_pieces<F: Files>(files: &mut F, pieces: &[Vec<u8>]) -> Result<(), Halt>
+    requires { IsTrue (F.meaning files.old).making }
+    ensures ok { OnOk result (F.meaning files.new ≡ after_write (concat (map (λ v. v.items) pieces.now)) (F.meaning files.old)) }
+    ensures front { SomeFront (F.meaning files.old) (F.meaning files.new) (concat (map (λ v. v.items) pieces.now)) }
+    ensures fault { IfErr result (λ h. IsFault h) }
+    ensures cause { IsErrOf result Halt.Failed → Rose (F.write_faults files.old) (F.write_faults files.new) }
+    ensures same { OnOk result (F.write_faults files.new ≡ F.write_faults files.old) }
+    ensures other { F.read_faults files.new ≡ F.read_faults files.old }
+{
+    match write_pieces(files, pieces) {
+        Ok(()) => Ok(()),
+        Err(refused) => Err(halt_of(refused)),
+    }
+}
+
+/// Writes one piece; after an error, a front of it.
+#[tactic(auto, using(crate::proofs::WriteLemmas::halt_fault))]
+fn put<F: Files>(files: &mut F, bytes: &[u8]) -> Result<(), Halt>
+    requires { IsTrue (F.meaning files.old).making }
+    ensures ok { OnOk result (F.meaning files.new ≡ after_write bytes.now (F.meaning files.old)) }
+    ensures front { SomeFront (F.meaning files.old) (F.meaning files.new) bytes.now }
+    ensures fault { IfErr result (λ h. IsFault h) }
+    ensures cause { IsErrOf result Halt.Failed → Rose (F.write_faults files.old) (F.write_faults files.new) }
+    ensures same { OnOk result (F.write_faults files.new ≡ F.write_faults files.old) }
+    ensures other { F.read_faults files.new ≡ F.read_faults files.old }
+{
+    match write_all(files, bytes) {
+        Ok(()) => Ok(()),
+        Err(refused) => Err(halt_of(refused)),
+    }
+}
+
+/// Writes the round that begins at a tile.
+#[tactic(auto, using(crate::proofs::WriteLemmas::cut_none, crate::proofs::WriteLemmas::unmade_unwritten))]
+fn write_round<F: Files>(
+    alloc: Global,
+    files: &mut F,
+    plan: &OutStream<'_>,
+    main: &MainView<'_>,
+    mark: Mark,
+) -> Result<Mark, Halt>
+    requires making { IsTrue (F.meaning files.old).making }
+    requires main { main.now ≡ record { siz = plan.now.stream.siz; main = plan.now.stream.main } }
+    requires plan { IsPlan plan.now }
+    requires keeping { IsKeeping plan.now }
+    requires tile { mark.tile < tile_number plan.now.stream.siz }
+    requires block { mark.block ≡ first_block plan.now mark.tile }
+    requires begins { BeginsRound plan.now mark.tile }
+    ensures ok { IfOk result (λ next. HasRounds plan.now mark.tile next.tile mark.bytes next.bytes (F.meaning files.old) (F.meaning files.new)) }
+    ensures later { IfOk result (λ next. mark.tile < next.tile) }
+    ensures place { IfOk result (λ next. IsPlace plan.now next.tile next.block) }
+    ensures ends { IfOk result (λ next. EndsRound plan.now next.tile) }
+    ensures err { IfErr result (λ h. IsUnwritten plan.now mark.tile h (F.meaning files.old) (F.meaning files.new)) }
+    ensures cause { IsErrOf result Halt.Failed → Rose (F.write_faults files.old) (F.write_faults files.new) }
+    ensures same { OnOk result (F.write_faults files.new ≡ F.write_faults files.old) }
+    ensures making { OnOk result (IsTrue (F.meaning files.new).making) }
+    ensures other { F.read_faults files.new ≡ F.read_faults files.old }
+{
+    let round = match made_round(alloc, plan, main, mark.tile, mark.block) {
+        Ok(round) => round,
+        Err(halt) => return Err(halt),
+    };
+    let Some(bytes) = count_bytes(mark.bytes, &round.pieces) else {
+        return Err(Halt::NoMemory);
+    };
+    match put_pieces(files, &round.pieces) {
+        Ok(()) => Ok(Mark {
+            tile: round.tile,
+            block: round.block,
+            bytes,
+        }),
+        Err(halt) => Err(halt),
+    }
+}
+
+/// Writes all rounds after `header` bytes: how many there are then.
+#[tactic(auto, using(crate::proofs::WriteLemmas::rounds_none, crate::proofs::WriteLemmas::rounds_then, crate::proofs::WriteLemmas::rounds_all, crate::proofs::WriteLemmas::begins_at, crate::proofs::WriteLemmas::first_place, crate::proofs::WriteLemmas::first_ends))]
+fn write_tiles<F: Files>(
+    alloc: Global,
+    files: &mut F,
+    plan: &OutStream<'_>,
+    main: &MainView<'_>,
+    header: usize,
+) -> Result<usize, Halt>
+    requires making { IsTrue (F.meaning files.old).making }
+    requires main { main.now ≡ record { siz = plan.now.stream.siz; main = plan.now.stream.main } }
+    requires plan { IsPlan plan.now }
+    requires keeping { IsKeeping plan.now }
+    ensures ok { IfOk result (λ bytes. HasRounds plan.now 0 (tile_number plan.now.stream.siz) header bytes (F.meaning files.old) (F.meaning files.new)) }
+    ensures err { IfErr result (λ h. IsUnwritten plan.now 0 h (F.meaning files.old) (F.meaning files.new)) }
+    ensures cause { IsErrOf result Halt.Failed → Rose (F.write_faults files.old) (F.write_faults files.new) }
+    ensures same { OnOk result (F.write_faults files.new ≡ F.write_faults files.old) }
+    ensures making { OnOk result (IsTrue (F.meaning files.new).making) }
+    ensures other { F.read_faults files.new ≡ F.read_faults files.old }
+{
+    let tiles = tile_count(plan.stream());
+    let mut mark = Mark {
+        tile: 0,
+        block: 0,
+        bytes: header,
+    };
+    while mark.tile < tiles {
+        mark = match write_round(alloc, files, plan, main, mark) {
+            Ok(next) => next,
+            Err(halt) => return Err(halt),
+        };
+    }
+    Ok(mark.bytes)
+}
+
+/// Writes the main header and all rounds.
+#[tactic(auto, using(crate::proofs::WriteLemmas::header_cut, crate::proofs::WriteLemmas::front_after, crate::proofs::WriteLemmas::halted_after))]
+fn write_rounds<F: Files>(
+    alloc: Global,
+    files: &mut F,
+    plan: &OutStream<'_>,
+    main: &MainView<'_>,
+    header: &[u8],
+) -> Result<usize, Halt>
+    requires making { IsTrue (F.meaning files.old).making }
+    requires main { main.now ≡ record { siz = plan.now.stream.siz; main = plan.now.stream.main } }
+    requires plan { IsPlan plan.now }
+    requires keeping { IsKeeping plan.now }
+    requires header { header.now ≡ main_bytes (headers_of plan.now) }
+    ensures ok { IfOk result (λ bytes. HasFront plan.now (tile_number plan.now.stream.siz) bytes (F.meaning files.old) (F.meaning files.new)) }
+    ensures err { IfErr result (λ h. IsHalted plan.now h (F.meaning files.old) (F.meaning files.new)) }
+    ensures cause { IsErrOf result Halt.Failed → Rose (F.write_faults files.old) (F.write_faults files.new) }
+    ensures same { OnOk result (F.write_faults files.new ≡ F.write_faults files.old) }
+    ensures making { OnOk result (IsTrue (F.meaning files.new).making) }
+    ensures other { F.read_faults files.new ≡ F.read_faults files.old }
+{
+    match put(files, header) {
+        Ok(()) => write_tiles(alloc, files, plan, main, header.len()),
+        Err(halt) => Err(halt),
+    }
+}
+
+/// Writes EOC after `before` bytes, and finishes the file.
+#[tactic(auto, using(crate::proofs::WriteLemmas::eoc_cut, crate::proofs::WriteLemmas::whole_written, crate::proofs::WriteLemmas::whole_unfinished, crate::proofs::WriteLemmas::uncounted))]
+fn write_end<F: Files>(files: &mut F, before: usize) -> Result<usize, Halt>
+    requires making { IsTrue (F.meaning files.old).making }
+    ensures ok { IfOk result (λ bytes. (p : Plan) (created : Meaning) → HasFront p (tile_number p.stream.siz) before created (F.meaning files.old) → HasWhole p bytes created (F.meaning files.new)) }
+    ensures err { IfErr result (λ h. (p : Plan) (created : Meaning) → HasFront p (tile_number p.stream.siz) before created (F.meaning files.old) → IsHalted p h created (F.meaning files.new)) }
+    ensures cause { IsErrOf result Halt.Failed → Rose (F.write_faults files.old) (F.write_faults files.new) }
+    ensures other { F.read_faults files.new ≡ F.read_faults files.old }
+{
+    let Some(bytes) = before.checked_add(EOC.len()) else {
+        return Err(Halt::NoMemory);
+    };
+    match put(files, &EOC) {
+        Ok(()) => {}
+        Err(halt) => return Err(halt),
+    }
+    match files.finish() {
+        Ok(()) => Ok(bytes),
+        Err(refused) => Err(halt_of(refused)),
+    }
+}
+
+/// Writes the file that was created to its end.
+fn write_created<F: Files>(
+    alloc: Global,
+    files: &mut F,
+    plan: &OutStream<'_>,
+    main: &MainView<'_>,
+    header: &[u8],
+) -> Result<usize, Halt>
+    requires making { IsTrue (F.meaning files.old).making }
+    requires main { main.now ≡ record { siz = plan.now.stream.siz; main = plan.now.stream.main } }
+    requires plan { IsPlan plan.now }
+    requires keeping { IsKeeping plan.now }
+    requires header { header.now ≡ main_bytes (headers_of plan.now) }
+    ensures ok { IfOk result (λ bytes. HasWhole plan.now bytes (F.meaning files.old) (F.meaning files.new)) }
+    ensures err { IfErr result (λ h. IsHalted plan.now h (F.meaning files.old) (F.meaning files.new)) }
+    ensures cause { IsErrOf result Halt.Failed → Rose (F.write_faults files.old) (F.write_faults files.new) }
+    ensures other { F.read_faults files.new ≡ F.read_faults files.old }
+{
+    match write_rounds(alloc, files, plan, main, header) {
+        Ok(before) => write_end(files, before),
+        Err(halt) => Err(halt),
+    }
+}
+
+/// Writes the file of a plan under a name, and gives how many bytes it has.
+///
+/// The main header, each tile-part and EOC are one piece each; the tile-parts of a round are made before the first of them is
+/// written. After an `Err` nothing was created, or what was written is a front of the file; after `TooLong` it is just the main
+/// header and the rounds before that of the tile.
+#[tactic(auto, using(crate::proofs::WriteLemmas::file_made, crate::proofs::WriteLemmas::file_halted, crate::proofs::WriteLemmas::file_uncreated, crate::proofs::WriteLemmas::halt_fault))]
+pub fn write_file<F: Files>(
+    alloc: Global,
+    files: &mut F,
+    to: &str,
+    plan: &OutStream<'_>,
+) -> Result<usize, Halt>
+    requires creates { F.can_create files.old to.now }
+    requires plan { IsPlan plan.now }
+    requires keeping { IsKeeping plan.now }
+    ensures ok { IfOk result (λ bytes. IsFileMade plan.now to.now bytes (F.meaning files.old) (F.meaning files.new)) }
+    ensures err { IfErr result (λ h. IsFileHalted plan.now to.now h (F.meaning files.old) (F.meaning files.new)) }
+    ensures cause { IsErrOf result Halt.Failed → Rose (F.write_faults files.old) (F.write_faults files.new) }
+    ensures other { F.read_faults files.new ≡ F.read_faults files.old }
+{
+    let Ok(header) = main_header(alloc, plan) else {
+        return Err(Halt::NoMemory);
+    };
+    let Ok(main) = plan.stream().main_view(alloc) else {
+        return Err(Halt::NoMemory);
+    };
+    match files.create(to) {
+        Ok(()) => write_created(alloc, files, plan, &main, &header),
+        Err(refused) => Err(halt_of(refused)),
+    }
+}

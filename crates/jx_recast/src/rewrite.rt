@@ -1,0 +1,185 @@
+//! What becomes of an input whose bytes were read.
+
+ghost use Rattle.std.specs.Prelude.{◌≡◌, ◌≤◌, ℕ, List, length};
+ghost use Rattle.jx_outside.specs.Causes.{Rose};
+ghost use Rattle.jx_stream.specs.Read.{IsRead};
+ghost use Rattle.jx_plan.specs.Plan.{MayBePlanned};
+ghost use Rattle.jx_recast.specs.Filed.{IsAnswered, IsPlanAnswered, blocks_told, status_of, told_by, told_of_plan};
+ghost use Rattle.jx_recast.specs.Outcome.{most_bytes};
+ghost use Rattle.jx_recast.specs.Rewritten.{Reads};
+ghost use Rattle.jx_recast.specs.Rounds.{IsKeeping};
+
+use crate::Status;
+use crate::device::MOST;
+use crate::file::write_file;
+use crate::halt::Halt;
+use jx_gather::{Block, gather};
+use jx_outside::Files;
+use jx_plan::{Marks, OutStream, PlanFault, plan_kept, shortened};
+use jx_stream::{Stream, StreamFault, read_stream};
+use std::alloc::Global;
+
+/// How the files were left, before anything is said.
+#[derive(Clone, Copy, Debug, PartialEq, Eq)]
+pub struct Ending {
+    pub status: Status,
+    pub blocks: u32,
+    // the bytes of the output after Done, else 0
+    pub bytes: usize,
+}
+
+impl Ending {
+    /// Nothing was made.
+    pub fn refused(status: Status) -> Ending
+        ensures { result ≡ record { status = status; blocks = 0; bytes = 0 } }
+    {
+        Ending {
+            status,
+            blocks: 0,
+            bytes: 0,
+        }
+    }
+}
+
+/// The status of a file that wasn't written to its end.
+fn status_of(halt: Halt) -> Status
+    ensures { result ≡ status_of halt }
+{
+    match halt {
+        Halt::TooLong { tile } => Status::Choice {
+            number: 7,
+            place: u32::from(tile),
+        },
+        Halt::Failed => Status::WriteFault,
+        Halt::NoMemory => Status::NoMemory,
+    }
+}
+
+/// What becomes of a plan.
+#[tactic(auto, using(crate::proofs::FrontLemmas::jobs_few, crate::proofs::AnswerLemmas::plan_written, crate::proofs::AnswerLemmas::plan_halted))]
+fn write_plan<F: Files>(alloc: Global, files: &mut F, to: &str, plan: &OutStream<'_>) -> Ending
+    requires creates { F.can_create files.old to.now }
+    requires keeping { IsKeeping plan.now }
+    ensures answer { IsPlanAnswered to.now plan.now result.status result.blocks result.bytes (F.meaning files.old) (F.meaning files.new) }
+    ensures cause { result.status ≡ Status.WriteFault → Rose (F.write_faults files.old) (F.write_faults files.new) }
+    ensures read { (result.status ≡ Status.ReadFault → ⊥) × (result.status ≡ Status.Words → ⊥) }
+    ensures other { F.read_faults files.new ≡ F.read_faults files.old }
+{
+    let blocks = plan.jobs().len() as u32;
+    match write_file(alloc, files, to, plan) {
+        Ok(bytes) => Ending {
+            status: Status::Done,
+            blocks,
+            bytes,
+        },
+        Err(halt) => Ending {
+            status: status_of(halt),
+            blocks,
+            bytes: 0,
+        },
+    }
+}
+
+/// A plan that can't be had of an input with so many code-blocks.
+fn unplanned_by(fault: PlanFault, blocks: u32) -> Ending
+    ensures { result ≡ record { status = told_of_plan fault; blocks = blocks_told fault blocks; bytes = 0 } }
+{
+    match fault {
+        PlanFault::Limit { number, found } => Ending {
+            status: Status::Limit { number, found },
+            blocks,
+            bytes: 0,
+        },
+        PlanFault::Choice { number, place } => Ending {
+            status: Status::Choice { number, place },
+            blocks,
+            bytes: 0,
+        },
+        PlanFault::NoMemory => Ending::refused(Status::NoMemory),
+    }
+}
+
+/// What becomes of a stream with its code-blocks: its output is planned and written.
+#[tactic(auto, using(crate::proofs::FrontLemmas::planned_few, crate::proofs::AnswerLemmas::keeping_of))]
+fn write_blocks<F: Files>(
+    alloc: Global,
+    files: &mut F,
+    stream: &Stream,
+    blocks: &[Block<'_>],
+    to: &str,
+    marks: Marks,
+) -> Ending
+    requires creates { F.can_create files.old to.now }
+    requires may { MayBePlanned stream.now blocks.now }
+    ensures answer { (input : List ℕ) → length input ≤ most_bytes → Reads input stream.now blocks.now
+        → IsAnswered to.now marks input result.status result.blocks result.bytes (F.meaning files.old) (F.meaning files.new) }
+    ensures cause { result.status ≡ Status.WriteFault → Rose (F.write_faults files.old) (F.write_faults files.new) }
+    ensures read { (result.status ≡ Status.ReadFault → ⊥) × (result.status ≡ Status.Words → ⊥) }
+    ensures other { F.read_faults files.new ≡ F.read_faults files.old }
+{
+    match plan_kept(alloc, stream, shortened(blocks), marks) {
+        Ok(plan) => write_plan(alloc, files, to, &plan),
+        Err(fault) => unplanned_by(fault, blocks.len() as u32),
+    }
+}
+
+/// What becomes of the input of a stream.
+fn rewrite<F: Files>(
+    alloc: Global,
+    files: &mut F,
+    input: &[u8],
+    stream: &Stream,
+    to: &str,
+    marks: Marks,
+) -> Ending
+    requires creates { F.can_create files.old to.now }
+    requires within { length input.now ≤ most_bytes }
+    requires read { IsRead input.now stream.now }
+    ensures answer { IsAnswered to.now marks input.now result.status result.blocks result.bytes (F.meaning files.old) (F.meaning files.new) }
+    ensures cause { result.status ≡ Status.WriteFault → Rose (F.write_faults files.old) (F.write_faults files.new) }
+    ensures read { (result.status ≡ Status.ReadFault → ⊥) × (result.status ≡ Status.Words → ⊥) }
+    ensures other { F.read_faults files.new ≡ F.read_faults files.old }
+{
+    match gather(alloc, input, stream) {
+        Ok(blocks) => write_blocks(alloc, files, stream, &blocks, to, marks),
+        Err(fault) => refused_by(fault),
+    }
+}
+
+/// A rule that is violated, or a limit that is passed, in the headers or the tile data.
+fn refused_by(fault: StreamFault) -> Ending
+    ensures { result ≡ record { status = told_by fault; blocks = 0; bytes = 0 } }
+{
+    match fault {
+        StreamFault::Rule { number, place } => Ending::refused(Status::Rule { number, place }),
+        StreamFault::Limit { number, found } => Ending::refused(Status::Limit { number, found }),
+        StreamFault::NoMemory => Ending::refused(Status::NoMemory),
+    }
+}
+
+/// What becomes of the bytes that were read, at most `MOST`.
+#[tactic(auto, using(crate::proofs::AnswerLemmas::too_long))]
+pub fn answer<F: Files>(
+    alloc: Global,
+    files: &mut F,
+    input: &[u8],
+    to: &str,
+    marks: Marks,
+) -> Ending
+    requires { F.can_create files.old to.now }
+    ensures answer { IsAnswered to.now marks input.now result.status result.blocks result.bytes (F.meaning files.old) (F.meaning files.new) }
+    ensures cause { result.status ≡ Status.WriteFault → Rose (F.write_faults files.old) (F.write_faults files.new) }
+    ensures read { (result.status ≡ Status.ReadFault → ⊥) × (result.status ≡ Status.Words → ⊥) }
+    ensures other { F.read_faults files.new ≡ F.read_faults files.old }
+{
+    if input.len() >= MOST {
+        return Ending::refused(Status::Limit {
+            number: 1,
+            found: 268_435_457,
+        });
+    }
+    match read_stream(alloc, input) {
+        Ok(stream) => rewrite(alloc, files, input, &stream, to, marks),
+        Err(fault) => refused_by(fault),
+    }
+}
