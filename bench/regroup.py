@@ -6,7 +6,7 @@ usage: bench/regroup.py PROGRAM [PICTURE.ppm]
 Without a picture one of 2,048 by 1,536 is made (smooth shades with noise, RGB, 8 bits). It is coded without loss; then, in turn and five
 times each, `opj_decompress` and `opj_compress` on one thread, and the program with no option, and with all three flags, are run on the
 file. Prints medians of processor seconds, the program's part of the other two together, and the most memory that each took beside what
-the program takes for the smallest codestream. Only Python's standard library is needed.
+the program takes for the smallest codestream. Python's standard library and Debian's `time` are needed.
 """
 
 import os
@@ -17,6 +17,7 @@ import sys
 import tempfile
 
 WIDE, HIGH = 2048, 1536
+RUNS = 5
 SMALL = bytes.fromhex(
     "FF4FFF5100290000000000010000000100000000000000000000000100000001000000000000000000010701 01"
     "FF52000C00000001000004040001FF5C00044040FF90000A00000000000F0001FF9300FFD9".replace(" ", "")
@@ -38,17 +39,21 @@ def made_picture(path):
 
 
 def timed(words):
-    """Processor seconds and the most memory in KiB of one run."""
-    pid = os.fork()
-    if pid == 0:
-        null = os.open(os.devnull, os.O_WRONLY)
-        os.dup2(null, 1)
-        os.dup2(null, 2)
-        os.execvp(words[0], words)
+    """Processor seconds of one run."""
+    null = os.open(os.devnull, os.O_WRONLY)
+    to_null = [(os.POSIX_SPAWN_DUP2, null, 1), (os.POSIX_SPAWN_DUP2, null, 2)]
+    pid = os.posix_spawnp(words[0], words, os.environ, file_actions=to_null)
     _, status, used = os.wait4(pid, 0)
+    os.close(null)
     if status:
         sys.exit(f"{' '.join(words)} ended with {status}")
-    return used.ru_utime + used.ru_stime, used.ru_maxrss
+    return used.ru_utime + used.ru_stime
+
+
+def memory_of(words):
+    """The most memory in KiB of one run, by Debian's `time`, since a process that Python starts begins as its copy."""
+    ran = subprocess.run(["/usr/bin/time", "-f", "%M"] + words, stdout=subprocess.DEVNULL, stderr=subprocess.PIPE, check=True)
+    return int(ran.stderr.decode().split()[-1])
 
 
 def main(words):
@@ -73,13 +78,13 @@ def main(words):
             "jx, smallest": [program, "transcode", path("small.j2k"), path("out.j2k")],
         }
         found = {name: [] for name in runs}
-        for _ in range(5):
+        for _ in range(RUNS):
             for name, command in runs.items():
                 found[name].append(timed(command))
+        memory = {name: memory_of(command) for name, command in runs.items()}
         size = os.path.getsize(path("in.j2k"))
         print(f"the file has {size} bytes")
-        seconds = {name: statistics.median(second for second, _ in list_) for name, list_ in found.items()}
-        memory = {name: statistics.median(kib for _, kib in list_) for name, list_ in found.items()}
+        seconds = {name: statistics.median(list_) for name, list_ in found.items()}
         both = seconds["opj_decompress"] + seconds["opj_compress"]
         for name in runs:
             beside = (memory[name] - memory["jx, smallest"]) * 1024 / size
