@@ -6,7 +6,6 @@ use Rattle.jx_stream.specs.declared.Stream.{Stream}
 use Rattle.jx_stream.specs.FirstViolated.{IsFirst}
 use Rattle.jx_stream.specs.Read.{IsRead}
 use Rattle.jx_gather.specs.Gathered.{IsBroken}
-use Rattle.jx_gather.specs.Accepted.{IsAccepted}
 
 -- the input spells a stream within the limits 3 and 4, and this is first in its tile data
 pub record BreaksTiles (input : List ℕ) (f : StreamFault) : Type 0 where
@@ -21,11 +20,6 @@ Violates input number place = IsFirst input (fault.Rule number place) ⊎ Breaks
 -- the limit that is passed first, and what was counted
 abbrev pub Passes : List ℕ → ℕ → ℕ → Type 0
 Passes input number found = IsFirst input (fault.Limit number found) ⊎ BreaksTiles input (fault.Limit number found)
-
--- no rule is violated, and no limit passed: the input is a well-formed codestream within the limits
-pub record IsClean (input : List ℕ) : Type 0 where
-  pub stream : Stream
-  pub accepted : IsAccepted input stream
 
 -- why an input is refused; want of memory is free
 abbrev pub IsInputCause : List ℕ → StreamFault → Type 0

@@ -18,6 +18,8 @@ pub use program::run;
 pub use status::{Report, Status, TapeEntry};
 
 #[cfg(test)]
+mod packing_tests;
+#[cfg(test)]
 mod refusal_tests;
 #[cfg(test)]
 mod tests;

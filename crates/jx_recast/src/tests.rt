@@ -93,7 +93,7 @@ pub fn edited(
 }
 
 // Runs these words on these bytes, and wants these bytes and this line.
-fn rewrites(
+pub fn rewrites(
     rt: &(impl Abort + AllocGlobal),
     words: &[&str],
     bytes: &[u8],

@@ -1,0 +1,129 @@
+//! How files are packed: interleaved tile-parts, segments that are dropped or moved, layers, tiles without packets, many packets.
+
+use super::*;
+use crate::tests::{holding, rewrites, run_words};
+use jx_outside::MemSink;
+use std::test::Fail;
+
+// Two tiles whose tile-parts are interleaved: PLM, TLM, a skipped marker and a comment in the main header; in tile 0 POC, PLT and
+// a comment in each tile-part; in tile 1 COC, QCC, RGN (shift 12) and two comments. Each has two layers of empty packets.
+const MIXED: [u8; 232] = [
+    0xFF, 0x4F, 0xFF, 0x51, 0, 0x29, 0, 0, 0, 0, 0, 2, 0, 0, 0, 1, 0, 0, 0, 0, 0, 0, 0, 0, 0, 0, 0,
+    1, 0, 0, 0, 1, 0, 0, 0, 0, 0, 0, 0, 0, 0, 1, 7, 1, 1, 0xFF, 0x52, 0, 0x0C, 0, 0, 0, 2, 0, 0, 4,
+    4, 0, 1, 0xFF, 0x5C, 0, 4, 0x40, 0x40, 0xFF, 0x57, 0, 4, 0, 0, 0xFF, 0x55, 0, 5, 0, 0x40, 0,
+    0xFF, 0x30, 0xFF, 0x64, 0, 8, 0, 1, 0x6D, 0x61, 0x69, 0x6E, 0xFF, 0x90, 0, 0x0A, 0, 0, 0, 0, 0,
+    0x29, 0, 2, 0xFF, 0x5F, 0, 9, 0, 0, 0, 2, 0x21, 1, 4, 0xFF, 0x58, 0, 4, 0, 1, 0xFF, 0x64, 0, 7,
+    0, 1, 0x74, 0x30, 0x61, 0xFF, 0x93, 0, 0xFF, 0x90, 0, 0x0A, 0, 1, 0, 0, 0, 0x31, 0, 0, 0xFF,
+    0x53, 0, 9, 0, 0, 0, 4, 4, 1, 1, 0xFF, 0x5D, 0, 5, 0, 0x40, 0x48, 0xFF, 0x5E, 0, 5, 0, 0, 0x0C,
+    0xFF, 0x64, 0, 7, 0, 1, 0x74, 0x31, 0x61, 0xFF, 0x93, 0, 0xFF, 0x90, 0, 0x0A, 0, 0, 0, 0, 0,
+    0x18, 1, 2, 0xFF, 0x64, 0, 7, 0, 1, 0x74, 0x30, 0x62, 0xFF, 0x93, 0, 0xFF, 0x90, 0, 0x0A, 0, 1,
+    0, 0, 0, 0x1A, 1, 2, 0xFF, 0x64, 0, 7, 0, 1, 0x74, 0x31, 0x62, 0xFF, 0x3F, 0xFF, 0x93, 0, 0xFF,
+    0xD9,
+];
+
+// The same with one tile-part for each tile, SOP, EPH and PLT.
+const PACKED: [u8; 216] = [
+    0xFF, 0x4F, 0xFF, 0x51, 0, 0x29, 0, 0, 0, 0, 0, 2, 0, 0, 0, 1, 0, 0, 0, 0, 0, 0, 0, 0, 0, 0, 0,
+    1, 0, 0, 0, 1, 0, 0, 0, 0, 0, 0, 0, 0, 0, 1, 7, 1, 1, 0xFF, 0x52, 0, 0x0C, 6, 0, 0, 2, 0, 0, 4,
+    4, 0, 1, 0xFF, 0x5C, 0, 4, 0x40, 0x40, 0xFF, 0x64, 0, 8, 0, 1, 0x6D, 0x61, 0x69, 0x6E, 0xFF,
+    0x90, 0, 0x0A, 0, 0, 0, 0, 0, 0x39, 0, 1, 0xFF, 0x64, 0, 7, 0, 1, 0x74, 0x30, 0x61, 0xFF, 0x64,
+    0, 7, 0, 1, 0x74, 0x30, 0x62, 0xFF, 0x58, 0, 5, 0, 9, 9, 0xFF, 0x93, 0xFF, 0x91, 0, 4, 0, 0, 0,
+    0xFF, 0x92, 0xFF, 0x91, 0, 4, 0, 1, 0, 0xFF, 0x92, 0xFF, 0x90, 0, 0x0A, 0, 1, 0, 0, 0, 0x52, 0,
+    1, 0xFF, 0x53, 0, 9, 0, 0, 0, 4, 4, 1, 1, 0xFF, 0x5D, 0, 5, 0, 0x40, 0x48, 0xFF, 0x5E, 0, 5, 0,
+    0, 0x0C, 0xFF, 0x64, 0, 7, 0, 1, 0x74, 0x31, 0x61, 0xFF, 0x64, 0, 7, 0, 1, 0x74, 0x31, 0x62,
+    0xFF, 0x58, 0, 5, 0, 9, 9, 0xFF, 0x93, 0xFF, 0x91, 0, 4, 0, 0, 0, 0xFF, 0x92, 0xFF, 0x91, 0, 4,
+    0, 1, 0, 0xFF, 0x92, 0xFF, 0xD9,
+];
+
+// Two tiles of one and of three layers; each has a pass of its block in its last one.
+const LAYERS: [u8; 117] = [
+    0xFF, 0x4F, 0xFF, 0x51, 0, 0x29, 0, 0, 0, 0, 0, 2, 0, 0, 0, 1, 0, 0, 0, 0, 0, 0, 0, 0, 0, 0, 0,
+    1, 0, 0, 0, 1, 0, 0, 0, 0, 0, 0, 0, 0, 0, 1, 7, 1, 1, 0xFF, 0x52, 0, 0x0C, 0, 0, 0, 1, 0, 0, 4,
+    4, 0, 1, 0xFF, 0x5C, 0, 4, 0x40, 0x40, 0xFF, 0x90, 0, 0x0A, 0, 0, 0, 0, 0, 0x11, 0, 1, 0xFF,
+    0x93, 0xC0, 0x21, 3, 0xFF, 0x90, 0, 0x0A, 0, 1, 0, 0, 0, 0x21, 0, 1, 0xFF, 0x52, 0, 0x0C, 0, 0,
+    0, 3, 0, 0, 4, 4, 0, 1, 0xFF, 0x93, 0, 0, 0xC0, 0x21, 3, 0xFF, 0xD9,
+];
+
+// The same with three layers in both.
+const ALIKE: [u8; 120] = [
+    0xFF, 0x4F, 0xFF, 0x51, 0, 0x29, 0, 0, 0, 0, 0, 2, 0, 0, 0, 1, 0, 0, 0, 0, 0, 0, 0, 0, 0, 0, 0,
+    1, 0, 0, 0, 1, 0, 0, 0, 0, 0, 0, 0, 0, 0, 1, 7, 1, 1, 0xFF, 0x52, 0, 0x0C, 0, 0, 0, 3, 0, 0, 4,
+    4, 0, 1, 0xFF, 0x5C, 0, 4, 0x40, 0x40, 0xFF, 0x90, 0, 0x0A, 0, 0, 0, 0, 0, 0x13, 0, 1, 0xFF,
+    0x93, 0xC0, 0x21, 3, 0, 0, 0xFF, 0x90, 0, 0x0A, 0, 1, 0, 0, 0, 0x22, 0, 1, 0xFF, 0x52, 0, 0x0C,
+    0, 0, 0, 3, 0, 0, 4, 4, 0, 1, 0xFF, 0x93, 0, 0, 0x90, 8, 0x40, 3, 0xFF, 0xD9,
+];
+
+// Two tiles of which no sample is taken, so neither has a packet.
+const NONE: [u8; 95] = [
+    0xFF, 0x4F, 0xFF, 0x51, 0, 0x29, 0, 0, 0, 0, 0, 3, 0, 0, 0, 2, 0, 0, 0, 1, 0, 0, 0, 1, 0, 0, 0,
+    1, 0, 0, 0, 1, 0, 0, 0, 1, 0, 0, 0, 1, 0, 1, 7, 0xFF, 0xFF, 0xFF, 0x52, 0, 0x0C, 0, 0, 0, 1, 0,
+    0, 4, 4, 0, 1, 0xFF, 0x5C, 0, 4, 0x40, 0x40, 0xFF, 0x90, 0, 0x0A, 0, 0, 0, 0, 0, 0x0E, 0, 1,
+    0xFF, 0x93, 0xFF, 0x90, 0, 0x0A, 0, 1, 0, 0, 0, 0x0E, 0, 1, 0xFF, 0x93, 0xFF, 0xD9,
+];
+
+// The same with SOP announced.
+const NONE_MARKED: [u8; 95] = [
+    0xFF, 0x4F, 0xFF, 0x51, 0, 0x29, 0, 0, 0, 0, 0, 3, 0, 0, 0, 2, 0, 0, 0, 1, 0, 0, 0, 1, 0, 0, 0,
+    1, 0, 0, 0, 1, 0, 0, 0, 1, 0, 0, 0, 1, 0, 1, 7, 0xFF, 0xFF, 0xFF, 0x52, 0, 0x0C, 2, 0, 0, 1, 0,
+    0, 4, 4, 0, 1, 0xFF, 0x5C, 0, 4, 0x40, 0x40, 0xFF, 0x90, 0, 0x0A, 0, 0, 0, 0, 0, 0x0E, 0, 1,
+    0xFF, 0x93, 0xFF, 0x90, 0, 0x0A, 0, 1, 0, 0, 0, 0x0E, 0, 1, 0xFF, 0x93, 0xFF, 0xD9,
+];
+
+// Up to SOD of the one tile-part of two components with 65,535 layers.
+const MANY: [u8; 82] = [
+    0xFF, 0x4F, 0xFF, 0x51, 0, 0x2C, 0, 0, 0, 0, 0, 1, 0, 0, 0, 1, 0, 0, 0, 0, 0, 0, 0, 0, 0, 0, 0,
+    1, 0, 0, 0, 1, 0, 0, 0, 0, 0, 0, 0, 0, 0, 2, 7, 1, 1, 7, 1, 1, 0xFF, 0x52, 0, 0x0C, 0, 0, 0xFF,
+    0xFF, 0, 0, 4, 4, 0, 1, 0xFF, 0x5C, 0, 4, 0x40, 0x40, 0xFF, 0x90, 0, 0x0A, 0, 0, 0, 2, 0, 0x0C,
+    0, 1, 0xFF, 0x93,
+];
+
+#[test]
+fn interleaved_tile_parts(rt: HostRuntime) -> Result<(), Fail> {
+    rewrites(
+        &rt,
+        &["jx", "transcode", "in", "out", "--sop", "--eph", "--plt"],
+        &MIXED,
+        &PACKED,
+        "done: 2 blocks, 216 bytes\n",
+    )
+}
+
+#[test]
+fn fewer_layers(rt: HostRuntime) -> Result<(), Fail> {
+    rewrites(
+        &rt,
+        &["jx", "transcode", "in", "out"],
+        &LAYERS,
+        &ALIKE,
+        "done: 2 blocks, 120 bytes\n",
+    )
+}
+
+#[test]
+fn no_packets(rt: HostRuntime) -> Result<(), Fail> {
+    rewrites(
+        &rt,
+        &["jx", "transcode", "in", "out", "--plt", "--sop"],
+        &NONE,
+        &NONE_MARKED,
+        "done: 0 blocks, 95 bytes\n",
+    )
+}
+
+// SOP numbers wrap, and the lengths need three PLT segments.
+#[test]
+fn many_packets(rt: HostRuntime) -> Result<(), Fail> {
+    let alloc = rt.alloc();
+    let mut bytes = MANY.to_vec(alloc)?;
+    for _ in 0..131_070_u32 {
+        bytes.push(0)?;
+    }
+    bytes.extend_from_slice(&[0xFF, 0xD9])?;
+    let mut files = holding(alloc, &bytes)?;
+    let mut say = MemSink::new(alloc);
+    let words = ["jx", "transcode", "in", "out", "--sop", "--plt"];
+    let report = run_words(alloc, &words, &mut files, &mut say)?;
+    assert_eq!(rt; report.status, Status::Done);
+    assert_eq!(rt; say.said(), "done: 2 blocks, 1048659 bytes\n");
+    Ok(())
+}
