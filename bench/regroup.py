@@ -4,8 +4,8 @@
 usage: bench/regroup.py PROGRAM [PICTURE.ppm]
 
 Without a picture one of 2,048 by 1,536 is made (smooth shades with noise, RGB, 8 bits). It is coded without loss; then, in turn and five
-times each, `opj_decompress` and `opj_compress` on one thread, and the program with no option, and with all three flags, are run on the
-file. Prints medians of processor seconds, the program's part of the other two together, and the most memory that each took beside what
+times each, `opj_decompress` and `opj_compress` on one thread, and the program with no option, with all three flags, and with another order and
+tile-parts are run on the file. Prints medians of processor seconds, the program's part of the other two together, and the most memory that each took beside what
 the program takes for the smallest codestream. Python's standard library and Debian's `time` are needed.
 """
 
@@ -75,6 +75,7 @@ def main(words):
             "opj_compress": ["opj_compress", "-threads", "1", "-i", picture, "-o", path("again.j2k")],
             "jx": [program, "transcode", path("in.j2k"), path("out.j2k")],
             "jx --sop --eph --plt": [program, "transcode", path("in.j2k"), path("out.j2k"), "--sop", "--eph", "--plt"],
+            "jx --order rpcl --plt --tile-parts r": [program, "transcode", path("in.j2k"), path("out.j2k"), "--order", "rpcl", "--plt", "--tile-parts", "r"],
             "jx, smallest": [program, "transcode", path("small.j2k"), path("out.j2k")],
         }
         found = {name: [] for name in runs}

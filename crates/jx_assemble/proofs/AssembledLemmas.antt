@@ -1,5 +1,5 @@
 -- The packets made from the blocks of a tile are those of the whole codestream's blocks.
-use Rattle.std.proofs.Common.{◌≡◌, ℕ, zero, suc, ◌+◌, ◌<◌, List, [], ◌∷◌, ◌++◌, length, map, refl, sym, ap, ◌∙◌, subst, arith, append-nil, All, Option}
+use Rattle.std.proofs.Common.{◌≡◌, ℕ, zero, suc, ◌+◌, ◌<◌, List, [], ◌∷◌, ◌++◌, length, map, refl, sym, ap, ◌∙◌, subst, arith, All, Option, Result, Ok, Err, IfOk}
 use Rattle.std.specs.Prelude.{slice_get}
 use Rattle.std.specs.List.{AllByRecursion, range_with_len}
 use Rattle.std.proofs.lemmas.List.Elements.{recursion_from_All}
@@ -18,7 +18,7 @@ use Rattle.jx_order.specs.declared.names.PacketName.{PacketName}
 use Rattle.jx_stream.specs.declared.Stream.{Stream}
 use Rattle.jx_stream.specs.Params.{header_of}
 use Rattle.jx_stream.specs.Shapes.{geometry, layers_of, shapes_of, style_of}
-use Rattle.jx_stream.specs.Spells.{part_bytes}
+use Rattle.jx_stream.specs.Spells.{TilePart, part_bytes}
 use Rattle.jx_gather.specs.Carries.{block_in, bytes_of, pieces_of}
 use Rattle.jx_gather.specs.Cells.{precinct_bands}
 use Rattle.jx_gather.specs.Gathered.{IsListOf}
@@ -26,10 +26,13 @@ use Rattle.jx_gather.specs.Planned.{leaf_from, leaf_in, leaves_in}
 use Rattle.jx_gather.specs.Written.{bytes_from, packet_bytes}
 use Rattle.jx_assemble.specs.Assembled.{AreOwn, AreTileBytes, IsTooLong}
 use Rattle.jx_assemble.specs.Own.{leaf_bytes, own_leaf, own_leaves}
-use Rattle.jx_assemble.specs.Packed.{own_body, own_length, own_packet, own_packets, own_part, packet_with}
+use Rattle.jx_assemble.specs.Packed.{own_body, own_length, own_packet, own_packets, own_part, own_parts, packet_with, parts_from}
 use Rattle.jx_assemble.specs.Sent.{layer_bytes}
-use Rattle.jx_assemble.specs.TileParts.{AreTilePartsOf, groups_of, packet_length, packet_of, packets_of, part_header, tile_part, tile_parts}
+use Rattle.jx_assemble.specs.TileParts.{AreTilePartsOf, packet_length, packet_of, packets_of, part_header, parts_with, tile_part, tile_parts}
+use Rattle.jx_assemble.specs.Tile.{AreAtMost}
 use Rattle.jx_plan.specs.declared.Marks.{Marks as Asked}
+use Rattle.jx_plan.specs.Groups.{groups_of}
+use Rattle.jx_plan.proofs.GroupLemmas.{groups_all}
 
 -- ---- a leaf
 same_block : (s : Stream) (t : ℕ) (blocks own : List Block) (p : PacketName) (j : ℕ) → GeometryInRange (geometry s t) → AreOwn s t blocks own → HasPrecinct (geometry s t) p.comp p.res p.precinct
@@ -88,41 +91,48 @@ same_lengths m s t blocks own (p ∷ names) range are each =
     ap (λ (b : List ℕ). length b ∷ map (packet_length (packets_of m s t blocks)) names) (same_packet m s t blocks own p 0 range are each.0)
     ∙ ap (λ (ns : List ℕ). own_length m s (geometry s t) own p ∷ ns) (same_lengths m s t blocks own names range are each.1)
 
--- ---- the tile-part
-same_part : (m : Asked) (s : Stream) (t : ℕ) (blocks own : List Block) (names : List PacketName) → GeometryInRange (geometry s t) → AreOwn s t blocks own
-    → All (IsPacket (geometry s t) (layers_of s t)) names → tile_parts m s blocks t (groups_of names) ≡ own_part m s (geometry s t) own names ∷ []
-same_part m s t blocks own names range are each =
-    let rec : AllByRecursion (IsPacket (geometry s t) (layers_of s t)) names = recursion_from_All (IsPacket (geometry s t) (layers_of s t)) names each in
-    ap (λ (ls : List ℕ). tile_part (length s.siz.comps) t 0 1 (part_header m (header_of s t) 0 ls) (bytes_from (packets_of m s t blocks) 0 names) ∷ [])
+-- ---- the tile-parts
+same_parts : (m : Asked) (s : Stream) (t : ℕ) (blocks own : List Block) (part parts number : ℕ) (groups : List (List PacketName)) → GeometryInRange (geometry s t) → AreOwn s t blocks own
+    → AllByRecursion (λ (names : List PacketName). All (IsPacket (geometry s t) (layers_of s t)) names) groups
+    → parts_with m (length s.siz.comps) t (header_of s t) (packets_of m s t blocks) part parts number groups ≡ parts_from m s (geometry s t) own part parts number groups
+same_parts m s t blocks own part parts number [] range are each = refl
+same_parts m s t blocks own part parts number (names ∷ groups) range are each =
+    let rec : AllByRecursion (IsPacket (geometry s t) (layers_of s t)) names = recursion_from_All (IsPacket (geometry s t) (layers_of s t)) names each.0 in
+    let own_lengths : List ℕ = map (own_length m s (geometry s t) own) names in
+    let later : List TilePart = parts_with m (length s.siz.comps) t (header_of s t) (packets_of m s t blocks) (part + 1) parts (number + length names) groups in
+    ap (λ (ls : List ℕ). tile_part (length s.siz.comps) t part parts (part_header m (header_of s t) part ls) (bytes_from (packets_of m s t blocks) number names) ∷ later)
     (same_lengths m s t blocks own names range are rec)
-    ∙ ap (λ (b : List ℕ). tile_part (length s.siz.comps) t 0 1 (part_header m (header_of s t) 0 (map (own_length m s (geometry s t) own) names)) b ∷ [])
-    (same_bytes m s t blocks own 0 names range are rec)
+    ∙ ap (λ (b : List ℕ). tile_part (length s.siz.comps) t part parts (part_header m (header_of s t) part own_lengths) b ∷ later) (same_bytes m s t blocks own number names range are rec)
+    ∙ ap (λ (ps : List TilePart). own_part m s (geometry s t) own part parts number names ∷ ps) (same_parts m s t blocks own (part + 1) parts (number + length names) groups range are each.1)
+
+same_tile : (m : Asked) (s : Stream) (t : ℕ) (blocks own : List Block) (names : List PacketName) → GeometryInRange (geometry s t) → AreOwn s t blocks own
+    → All (IsPacket (geometry s t) (layers_of s t)) names → tile_parts m s blocks t (groups_of m.parts names) ≡ own_parts m s (geometry s t) own names
+same_tile m s t blocks own names range are each =
+    same_parts m s t blocks own 0 (length (groups_of m.parts names)) 0 (groups_of m.parts names) range are (groups_all (IsPacket (geometry s t) (layers_of s t)) m.parts names each)
 
 tile_parts_are : (m : Asked) (s : Stream) (g : Geometry) (blocks own : List Block) (names : List PacketName) → g ≡ geometry s g.tile → GeometryInRange g → AreOwn s g.tile blocks own
-    → All (IsPacket g (layers_of s g.tile)) names → IsListOf s g.tile names → AreTilePartsOf m s blocks g.tile (own_part m s g own names ∷ [])
+    → All (IsPacket g (layers_of s g.tile)) names → IsListOf s g.tile names → AreTilePartsOf m s blocks g.tile (own_parts m s g own names)
 tile_parts_are m s g blocks own names e range are each listed =
     let P : Geometry → Type 0 = λ x. GeometryInRange x in
     let Q : Geometry → Type 0 = λ x. All (IsPacket x (layers_of s g.tile)) names in
     record {
       names = names;
       order = listed;
-      are = ap (λ (x : Geometry). own_part m s x own names ∷ []) e ∙ sym (same_part m s g.tile blocks own names (subst P e range) are (subst Q e each));
+      are = ap (λ (x : Geometry). own_parts m s x own names) e ∙ sym (same_tile m s g.tile blocks own names (subst P e range) are (subst Q e each));
     }
 
-pub tile_bytes : (m : Asked) (s : Stream) (g : Geometry) (blocks own : List Block) (names : List PacketName) (bytes : List ℕ) → g ≡ geometry s g.tile → GeometryInRange g → AreOwn s g.tile blocks own
-    → All (IsPacket g (layers_of s g.tile)) names → IsListOf s g.tile names → bytes ≡ part_bytes (length s.siz.comps) (own_part m s g own names) → AreTileBytes m s blocks g.tile bytes
-tile_bytes m s g blocks own names bytes e range are each listed is = record {
-  parts = own_part m s g own names ∷ [];
-  are = tile_parts_are m s g blocks own names e range are each listed;
-  bytes_are = is ∙ sym (append-nil (part_bytes (length s.siz.comps) (own_part m s g own names)));
-}
+pub tile_bytes : (m : Asked) (s : Stream) (g : Geometry) (blocks own : List Block) (names : List PacketName) (most : ℕ) (bytes : List (List ℕ)) → g ≡ geometry s g.tile → GeometryInRange g
+    → AreOwn s g.tile blocks own → All (IsPacket g (layers_of s g.tile)) names → IsListOf s g.tile names → bytes ≡ map (part_bytes (length s.siz.comps)) (own_parts m s g own names)
+    → AreAtMost most (own_parts m s g own names) → (is : AreTileBytes m s blocks g.tile bytes) × AreAtMost most is.parts
+tile_bytes m s g blocks own names most bytes e range are each listed is few =
+    (record { parts = own_parts m s g own names; are = tile_parts_are m s g blocks own names e range are each listed; bytes_are = is }, few)
 
 pub too_long : (m : Asked) (s : Stream) (g : Geometry) (blocks own : List Block) (names : List PacketName) (most : ℕ) → g ≡ geometry s g.tile → GeometryInRange g → AreOwn s g.tile blocks own
-    → All (IsPacket g (layers_of s g.tile)) names → IsListOf s g.tile names → most < length (part_bytes (length s.siz.comps) (own_part m s g own names)) → IsTooLong m s blocks g.tile most
-too_long m s g blocks own names most e range are each listed lt =
-    let whole : List ℕ = part_bytes (length s.siz.comps) (own_part m s g own names) in
-    record {
-      parts = own_part m s g own names ∷ [];
-      are = tile_parts_are m s g blocks own names e range are each listed;
-      long = subst (λ (xs : List ℕ). most < length xs) (sym (append-nil whole)) lt;
-    }
+    → All (IsPacket g (layers_of s g.tile)) names → IsListOf s g.tile names → (AreAtMost most (own_parts m s g own names) → ⊥) → IsTooLong m s blocks g.tile most
+too_long m s g blocks own names most e range are each listed long =
+    record { parts = own_parts m s g own names; are = tile_parts_are m s g blocks own names e range are each listed; long = long }
+
+-- ---- from a call's result
+pub ok_both : {T E : Type 0} (r : Result T E) (P Q R : T → Type 0) → ((x : T) → P x → Q x → R x) → IfOk r P → IfOk r Q → IfOk r R
+ok_both (Ok x) P Q R f p q = f x p q
+ok_both (Err e) P Q R f p q = tt

@@ -1,7 +1,8 @@
 -- The headers that are written are such as a file may be written from, and the file that is written from them keeps its input's blocks.
-use Rattle.std.proofs.Common.{◌≡◌, ◌∙◌, ◌<◌, ◌≤◌, ◌^◌, ℕ, Bool, false, arith, List, [], length, refl, sym, ap, subst, None}
+use Rattle.std.proofs.Common.{◌≡◌, ◌∙◌, ◌<◌, ◌≤◌, ◌^◌, ℕ, Bool, false, arith, List, [], length, map, refl, sym, ap, subst, None}
 use Rattle.std.proofs.Math.Path.{fun_ext}
 use Rattle.std.specs.List.{All, list_any}
+use Rattle.jx_base.specs.declared.names.Band.{Band}
 use Rattle.jx_base.specs.declared.pieces.Block.{Block}
 use Rattle.jx_base.specs.Sound.{IsSound}
 use Rattle.jx_marker.specs.declared.Cod.{Cod}
@@ -11,10 +12,12 @@ use Rattle.jx_marker.specs.declared.Siz.{Siz}
 use Rattle.jx_stream.specs.declared.headers.HeaderKind.TheVariants.{First}
 use Rattle.jx_stream.specs.declared.Stream.{Stream}
 use Rattle.jx_stream.specs.First.{tile_number}
-use Rattle.jx_stream.specs.Params.{header_of}
+use Rattle.jx_stream.specs.Params.{cod_of, cod_or, header_of, params_of, planes_at, step_of}
 use Rattle.jx_stream.specs.Read.{IsRead}
-use Rattle.jx_stream.specs.Shapes.{layers_of}
+use Rattle.jx_stream.specs.Shapes.{geometry, layers_of, shapes_of, tile_at}
 use Rattle.jx_stream.specs.Spells.{AreSegments}
+use Rattle.jx_stream.specs.Tiles.{entry_in, in_slot, or_list}
+use Rattle.jx_stream.specs.Tiles.{joined as entries_joined}
 use Rattle.jx_gather.specs.Another.{HaveSameBlocks}
 use Rattle.jx_gather.specs.BlockOf.{AreBlocksOf}
 use Rattle.jx_gather.specs.Gathered.{IsGathered}
@@ -24,20 +27,45 @@ use Rattle.jx_gather.proofs.BlockOfLemmas.{blocks_of_stream}
 use Rattle.jx_gather.proofs.SoundLemmas.{sound_gathered}
 use Rattle.jx_plan.specs.declared.Marks.{Marks}
 use Rattle.jx_plan.specs.Asides.{is_plt}
-use Rattle.jx_plan.specs.Headers.{Asked, stream_written}
-use Rattle.jx_plan.specs.Plan.{headers_with}
+use Rattle.jx_plan.specs.Fits.{Fits, first_zero}
+use Rattle.jx_plan.specs.Headers.{Asked, MayBeAsked, cod_written, comp_written, params_written, stream_written}
+use Rattle.jx_plan.specs.KeptFault.{IsFree}
+use Rattle.jx_plan.specs.Plan.{asked_of, headers_with}
 use Rattle.jx_plan.specs.Standing.{HeadersStand}
-use Rattle.jx_plan.proofs.PlainLemmas.{cods_are, entries_plain, header_stands, lengths_plain, main_plain, order_plain, totals_plain}
-use Rattle.jx_plan.proofs.RangeLemmas.{written_stands}
-use Rattle.jx_plan.proofs.ReadLemmas.{read_stands}
-use Rattle.jx_plan.proofs.StreamLemmas.{geometry_stays, params_stay, step_stays, tile_number_stays}
-use Rattle.jx_plan.proofs.ViewLemmas.{written_blocks}
+use Rattle.jx_plan.specs.Wanted.{MayBeWanted, Wanted, marks_of}
 use Rattle.jx_assemble.specs.Kept.{IsKeptIn}
 use Rattle.jx_assemble.specs.Ready.{AllShort, AreReady, IsTileReady, stream_read}
 use Rattle.jx_assemble.specs.SameHeaders.{HasHeadersOf}
 use Rattle.jx_assemble.specs.Told.{has_lengths, is_length}
 use Rattle.jx_assemble.specs.TileParts.{IsOutput}
 use Rattle.jx_assemble.proofs.OutputLemmas.{output_formed, output_gathered, output_headers, output_read, output_strict}
+
+-- the laws of written headers: they stand, are plain, and have their stream's tiles
+pub record HeaderLaws : Type 0 where
+  pub stand : (a : Asked) (s : Stream) → MayBeAsked a → first_zero a.precincts s ≡ None → HeadersStand s → HeadersStand (stream_written a s)
+  pub tiles : (a : Asked) (s : Stream) → tile_number (stream_written a s).siz ≡ tile_number s.siz
+  pub main : (a : Asked) (s : Stream) → HeadersStand s → entries_joined (stream_written a s).main ≡ []
+  pub header : (a : Asked) (s : Stream) (t : ℕ) → HeadersStand s → MayBeAsked a → first_zero a.precincts s ≡ None → t < length s.tiles
+      → AreSegments First (length s.siz.comps) [] (header_of (stream_written a s) t)
+  pub entries : (a : Asked) (s : Stream) (t : ℕ) → HeadersStand s → t < length s.tiles → entries_joined (header_of (stream_written a s) t) ≡ []
+  pub lengths : (a : Asked) (s : Stream) (t : ℕ) → HeadersStand s → t < length s.tiles → list_any is_plt (header_of (stream_written a s) t) ≡ false
+  pub order : (a : Asked) (s : Stream) (t : ℕ) → HeadersStand s → t < length s.tiles → (tile_at (stream_written a s) t).progressions
+      ≡ or_list (entry_in (in_slot 1 (header_of (stream_written a s) t))) (entry_in (in_slot 1 (stream_written a s).main))
+  pub cods : (a : Asked) (s : Stream) (t : ℕ) → HeadersStand s
+      → cod_or (cod_of (header_of (stream_written a s) t) (stream_written a s).main) ≡ cod_written a (cod_or (cod_of (header_of s t) s.main))
+  pub limits : (a : Asked) (s : Stream) → Fits a.precincts s → HeadersStand s → totals_fault s ≡ None → packet_total (stream_written a s) ≤ 2 ^ 22
+      → totals_fault (stream_written a s) ≡ None
+
+-- and of what they keep
+pub record KeepLaws : Type 0 where
+  pub read : (b : List ℕ) (s : Stream) → IsRead b s → HeadersStand s
+  pub params : (a : Asked) (s : Stream) (t c : ℕ) → HeadersStand s → params_of (stream_written a s) t c ≡ params_written a (params_of s t c)
+  pub steps : (a : Asked) (s : Stream) (t c r : ℕ) (band : Band) → HeadersStand s → step_of (stream_written a s) t c r band ≡ step_of s t c r band
+  pub planes : (a : Asked) (s : Stream) (t c r : ℕ) (band : Band) → HeadersStand s → planes_at (stream_written a s) t c r band ≡ planes_at s t c r band
+  pub places : (a : Asked) (s : Stream) (t : ℕ) → HeadersStand s
+      → geometry (stream_written a s) t ≡ record (geometry s t) { shapes = map (comp_written a.precincts) (shapes_of s t) }
+  pub blocks : (a : Asked) (s : Stream) → Fits a.precincts s → HeadersStand s → ((t : ℕ) → t < tile_number s.siz → layers_of s t ≤ a.layers)
+      → HaveSameBlocks s (stream_written a s)
 
 -- both tests are for PLT
 length_is : (s : Segment) → is_length s ≡ is_plt s
@@ -54,72 +82,83 @@ siz_written a s = refl
 pub comps_written : (a : Asked) (s : Stream) → length (stream_written a s).siz.comps ≡ length s.siz.comps
 comps_written a s = ap (λ (z : Siz). length z.comps) (siz_written a s)
 
-abbrev pub asked : Marks → ℕ → Asked
-asked m layers = record { sop = m.sop; eph = m.eph; layers = layers }
-
-module _ (m : Marks) (layers : ℕ) (s : Stream) (some : 1 ≤ layers) (few : layers < 2 ^ 16) (stand : HeadersStand s) where
+module _ (laws : HeaderLaws) (w : Wanted) (layers : ℕ) (s : Stream) (some : 1 ≤ layers) (few : layers < 2 ^ 16) (may : MayBeWanted w) (stand : HeadersStand s)
+    (none : totals_fault s ≡ None) (free : IsFree s w layers) where
   abbrev a : Asked
-  a = asked m layers
+  a = asked_of w layers
 
-  abbrev w : Stream
-  w = headers_with m layers s
+  abbrev m : Marks
+  m = marks_of w
 
-  within : (t : ℕ) → t < tile_number w.siz → t < length s.tiles
-  within t inside = omega (arith, inside, stand.count, tile_number_stays a s)
+  abbrev it : Stream
+  it = headers_with w layers s
 
-  tile_ready : (t : ℕ) → t < tile_number w.siz → IsTileReady m w t
+  may_be : MayBeAsked a
+  may_be = record { some = some; few = few; order = may.order; bytes = may.bytes }
+
+  above : first_zero a.precincts s ≡ None
+  above = free.fits.above
+
+  tiles_are : tile_number it.siz ≡ tile_number s.siz
+  tiles_are = laws.tiles a s
+
+  tile_ready : (t : ℕ) → t < tile_number it.siz → IsTileReady m it t
   tile_ready t inside =
-      let lt : t < length s.tiles = within t inside in
-      let P : ℕ → Type 0 = λ n. AreSegments First n [] (header_of w t) in
+      let lt : t < length s.tiles = omega (arith, inside, stand.count, tiles_are) in
+      let P : ℕ → Type 0 = λ n. AreSegments First n [] (header_of it t) in
       record {
-        header = subst P (sym (comps_written a s)) (header_stands a s stand t some few lt);
-        entries = entries_plain a s stand t lt;
-        lengths = no_lengths (header_of w t) (lengths_plain a s stand t lt);
-        progressions = order_plain a s stand t lt;
-        sop = ap (λ (c : Cod). c.sop) (cods_are a s stand t);
-        eph = ap (λ (c : Cod). c.eph) (cods_are a s stand t);
+        header = subst P (sym (comps_written a s)) (laws.header a s t stand may_be above lt);
+        entries = laws.entries a s t stand lt;
+        lengths = no_lengths (header_of it t) (laws.lengths a s t stand lt);
+        progressions = laws.order a s t stand lt;
+        sop = ap (λ (c : Cod). c.sop) (laws.cods a s t stand);
+        eph = ap (λ (c : Cod). c.eph) (laws.cods a s t stand);
+        few = free.parts t (omega (arith, inside, tiles_are));
       }
 
-  pub written_ready : totals_fault s ≡ None → packet_total w ≤ 2 ^ 22 → AreReady m w
-  written_ready none packets =
-      let written : HeadersStand w = written_stands a s some few stand in
+  pub written_ready : AreReady m it
+  written_ready =
+      let written : HeadersStand it = laws.stand a s may_be above stand in
       record {
         siz = written.siz;
         main = written.main;
-        entries = main_plain a s stand;
+        entries = laws.main a s stand;
         defaults = written.defaults;
         few_tiles = written.few;
         count = written.count;
         tiles = tile_ready;
         enough = written.entries;
         planes = written.planes;
-        totals = totals_plain a s stand none packets;
+        totals = laws.limits a s free.fits stand none free.few;
       }
 
-module _ (m : Marks) (layers : ℕ) (before : Stream) (blocks : List Block) (input out : List ℕ) (is : IsOutput m (headers_with m layers before) blocks out)
-    (read : IsRead input before) (small : length input ≤ 2 ^ 28) (none : totals_fault before ≡ None) (gathered : IsGathered input before blocks)
-    (most : (t : ℕ) → t < tile_number before.siz → layers_of before t ≤ layers) (some : 1 ≤ layers) (few : layers < 2 ^ 16)
-    (packets : packet_total (headers_with m layers before) ≤ 2 ^ 22) (short : AllShort is.parts (tile_number before.siz)) where
+module _ (laws : HeaderLaws) (keep : KeepLaws) (w : Wanted) (layers : ℕ) (before : Stream) (blocks : List Block) (input out : List ℕ)
+    (is : IsOutput (marks_of w) (headers_with w layers before) blocks out) (read : IsRead input before) (small : length input ≤ 2 ^ 28) (none : totals_fault before ≡ None)
+    (gathered : IsGathered input before blocks) (most : (t : ℕ) → t < tile_number before.siz → layers_of before t ≤ layers) (some : 1 ≤ layers) (few : layers < 2 ^ 16)
+    (may : MayBeWanted w) (free : IsFree before w layers) (short : AllShort is.parts (tile_number before.siz)) where
   abbrev b : Asked
-  b = asked m layers
+  b = asked_of w layers
+
+  abbrev marks : Marks
+  marks = marks_of w
 
   abbrev written : Stream
-  written = headers_with m layers before
+  written = headers_with w layers before
 
   abbrev after : Stream
   after = stream_read written is.parts
 
   stand : HeadersStand before
-  stand = read_stands input before read
+  stand = keep.read input before read
 
-  ready : AreReady m written
-  ready = written_ready m layers before some few stand none packets
+  ready : AreReady marks written
+  ready = written_ready laws w layers before some few may stand none free
 
   all_short : AllShort is.parts (tile_number written.siz)
-  all_short = subst (λ (n : ℕ). AllShort is.parts n) (sym (tile_number_stays b before)) short
+  all_short = subst (λ (n : ℕ). AllShort is.parts n) (sym (laws.tiles b before)) short
 
   same : HaveSameBlocks before written
-  same = written_blocks b before stand most
+  same = keep.blocks b before free.fits stand most
 
   named : AreBlocksOf written blocks
   named = blocks_of_other before written blocks same (blocks_of_stream input before blocks read small none gathered)
@@ -128,19 +167,20 @@ module _ (m : Marks) (layers : ℕ) (before : Stream) (blocks : List Block) (inp
   sound = sound_gathered input before blocks read small none gathered
 
   headers : HasHeadersOf written after
-  headers = output_headers m written blocks out is ready all_short
+  headers = output_headers marks written blocks out is ready all_short
 
-  kept : IsKeptIn m layers before after blocks out
+  kept : IsKeptIn w layers before after blocks out
   kept = record {
-    read = output_read m written blocks out is ready all_short;
-    gathered = output_gathered m written blocks out is ready all_short named sound;
-    formed = output_formed m written blocks out is ready all_short named sound;
-    strict = output_strict m written blocks out is ready all_short named sound;
+    read = output_read marks written blocks out is ready all_short;
+    gathered = output_gathered marks written blocks out is ready all_short named sound;
+    formed = output_formed marks written blocks out is ready all_short named sound;
+    strict = output_strict marks written blocks out is ready all_short named sound;
     siz = headers.siz ∙ siz_written b before;
-    params = λ t c. headers.params t c ∙ params_stay b before stand t c;
-    steps = λ t c r band. headers.step t c r band ∙ step_stays b before stand t c r band;
-    places = λ t. headers.places t ∙ geometry_stays b before stand t;
+    params = λ t c. headers.params t c ∙ keep.params b before t c stand;
+    steps = λ t c r band. headers.step t c r band ∙ keep.steps b before t c r band stand;
+    planes = λ t c r band. headers.planes t c r band ∙ keep.planes b before t c r band stand;
+    places = λ t. headers.places t ∙ keep.places b before t stand;
   }
 
-  pub rewritten_read : (after : Stream) × IsKeptIn m layers before after blocks out
+  pub rewritten_read : (after : Stream) × IsKeptIn w layers before after blocks out
   rewritten_read = (after, kept)

@@ -15,7 +15,8 @@ pub mod OutputLemmas
 pub mod KeptLemmas
 pub mod MostLemmas
 pub mod AssembledLemmas
-pub mod ListedLemmas
+pub mod CountLemmas
+pub mod CutLemmas
 pub mod LeafLemmas
 pub mod LengthLemmas
 pub mod NameLemmas

@@ -1,5 +1,5 @@
 -- A written file has the blocks that it was written from, and headers and packets give one file alone.
-use Rattle.std.proofs.Common.{◌≡◌, ◌∙◌, ◌<◌, ◌≤◌, ◌^◌, ℕ, arith, List, [], length, refl, sym, ap, subst, append-nil, None, inl, inr, ◌⊎◌}
+use Rattle.std.proofs.Common.{◌≡◌, ◌∙◌, ◌<◌, ◌≤◌, ◌^◌, ℕ, arith, List, [], length, refl, sym, ap, subst, None, inl, inr, ◌⊎◌}
 use Rattle.std.proofs.lemmas.Bool.{cases_lt}
 use Rattle.std.specs.List.{All, slice_get}
 use Rattle.jx_base.specs.declared.pieces.Block.{Block}
@@ -36,7 +36,9 @@ use Rattle.jx_assemble.proofs.StrictLemmas.{has_eph, has_sop, strict_made}
 use Rattle.jx_marker.specs.declared.Cod.{Cod}
 use Rattle.jx_stream.specs.Params.{cod_or, header_in, header_of}
 use Rattle.jx_plan.specs.declared.Marks.{Marks}
-use Rattle.jx_assemble.specs.TileParts.{AreTilePartsOf, IsOutput, groups_of, packets_of, tile_parts}
+use Rattle.jx_plan.specs.Groups.{HasFewParts, groups_of}
+use Rattle.jx_plan.proofs.GroupLemmas.{groups_stay, some_group}
+use Rattle.jx_assemble.specs.TileParts.{AreTilePartsOf, IsOutput, packets_of, tile_parts}
 use Rattle.jx_assemble.proofs.ReadyLemmas.{ready_list, ready_whole}
 use Rattle.jx_assemble.proofs.ReadLemmas.{IsCutInto, alike, filled, header_with, is_read, no_notes, progressions_same}
 use Rattle.jx_assemble.proofs.SameLemmas.{blocks_same, geometry_same, layers_same, packets_same, params_same, planes_same, step_same, totals_same}
@@ -157,40 +159,41 @@ record IsCut (names : List PacketName) (groups : List (List PacketName)) : Type 
   pub some : 0 < length groups
   pub few : length groups < 256
 
-one_group : (names : List PacketName) → IsCut names (groups_of names)
-one_group names = record { stay = append-nil names; some = omega arith; few = omega arith }
+cut_of : (m : Marks) (s : Stream) (t : ℕ) (names : List PacketName) → IsListOf s t names → HasFewParts m.parts s t → IsCut names (groups_of m.parts names)
+cut_of m s t names order few =
+    record { stay = groups_stay m.parts names; some = omega (arith, some_group m.parts names); few = omega (arith, few names order) }
 
 -- the packets of each tile-part of a tile that is there
 abbrev pick : (m : Marks) (s : Stream) (blocks : List Block) (t : ℕ) (parts : List TilePart) → ((t < tile_number s.siz) → AreTilePartsOf m s blocks t parts)
     → (t < tile_number s.siz) ⊎ (tile_number s.siz ≤ t) → List (List PacketName)
-pick m s blocks t parts are (inl lt) = groups_of (are lt).names
+pick m s blocks t parts are (inl lt) = groups_of m.parts (are lt).names
 pick m s blocks t parts are (inr past) = []
 
 picked : (m : Marks) (s : Stream) (blocks : List Block) (t : ℕ) (parts : List TilePart) (are : (t < tile_number s.siz) → AreTilePartsOf m s blocks t parts)
-    (c : (t < tile_number s.siz) ⊎ (tile_number s.siz ≤ t)) → t < tile_number s.siz → IsCutInto m s blocks t parts (pick m s blocks t parts are c)
-picked m s blocks t parts are (inl lt) inside =
-    let cut = one_group (are lt).names in
+    (few : (t < tile_number s.siz) → HasFewParts m.parts s t) (c : (t < tile_number s.siz) ⊎ (tile_number s.siz ≤ t)) → t < tile_number s.siz → IsCutInto m s blocks t parts (pick m s blocks t parts are c)
+picked m s blocks t parts are few (inl lt) inside =
+    let cut = cut_of m s t (are lt).names (are lt).order (few lt) in
     record { order = subst (λ (z : List PacketName). IsListOf s t z) (sym cut.stay) (are lt).order; some = cut.some; few = cut.few; are = (are lt).are }
-picked m s blocks t parts are (inr past) inside = absurd (omega arith)
+picked m s blocks t parts are few (inr past) inside = absurd (omega arith)
 
 abbrev groups_in : (m : Marks) (s : Stream) (blocks : List Block) (b : List ℕ) → IsOutput m s blocks b → ℕ → List (List PacketName)
 groups_in m s blocks b out t = pick m s blocks t (out.parts t) (out.are t) (cases_lt t (tile_number s.siz))
 
-cut_in : (m : Marks) (s : Stream) (blocks : List Block) (b : List ℕ) (out : IsOutput m s blocks b) (t : ℕ) → t < tile_number s.siz → IsCutInto m s blocks t (out.parts t) (groups_in m s blocks b out t)
-cut_in m s blocks b out t lt = picked m s blocks t (out.parts t) (out.are t) (cases_lt t (tile_number s.siz)) lt
+cut_in : (m : Marks) (s : Stream) (blocks : List Block) (b : List ℕ) (out : IsOutput m s blocks b) → AreReady m s → (t : ℕ) → t < tile_number s.siz → IsCutInto m s blocks t (out.parts t) (groups_in m s blocks b out t)
+cut_in m s blocks b out ready t lt = picked m s blocks t (out.parts t) (out.are t) (λ inside. (ready.tiles t inside).few) (cases_lt t (tile_number s.siz)) lt
 
 pub output_read : (m : Marks) (s : Stream) (blocks : List Block) (b : List ℕ) (out : IsOutput m s blocks b) → AreReady m s → AllShort out.parts (tile_number s.siz) → IsRead b (stream_read s out.parts)
-output_read m s blocks b out ready short = is_read m s blocks b out.parts (groups_in m s blocks b out) ready (cut_in m s blocks b out) short out.bytes
+output_read m s blocks b out ready short = is_read m s blocks b out.parts (groups_in m s blocks b out) ready (cut_in m s blocks b out ready) short out.bytes
 
 pub output_gathered : (m : Marks) (s : Stream) (blocks : List Block) (b : List ℕ) (out : IsOutput m s blocks b) → AreReady m s → AllShort out.parts (tile_number s.siz)
     → AreBlocksOf s blocks → All IsSound blocks → IsGathered b (stream_read s out.parts) blocks
-output_gathered m s blocks b out ready short = blocks_kept m s blocks b out.parts (groups_in m s blocks b out) ready (cut_in m s blocks b out) short out.bytes
+output_gathered m s blocks b out ready short = blocks_kept m s blocks b out.parts (groups_in m s blocks b out) ready (cut_in m s blocks b out ready) short out.bytes
 
 pub output_accepted : (m : Marks) (s : Stream) (blocks : List Block) (b : List ℕ) (out : IsOutput m s blocks b) → AreReady m s → AllShort out.parts (tile_number s.siz)
     → AreBlocksOf s blocks → All IsSound blocks → IsAccepted b (stream_read s out.parts)
 output_accepted m s blocks b out ready short are sound = record {
   read = output_read m s blocks b out ready short;
-  totals = totals_kept m s blocks b out.parts (groups_in m s blocks b out) ready (cut_in m s blocks b out) short out.bytes;
+  totals = totals_kept m s blocks b out.parts (groups_in m s blocks b out) ready (cut_in m s blocks b out ready) short out.bytes;
   blocks = blocks;
   gathered = output_gathered m s blocks b out ready short are sound;
 }
@@ -206,16 +209,16 @@ output_formed m s blocks b out ready short are sound = record {
 
 pub output_strict : (m : Marks) (s : Stream) (blocks : List Block) (b : List ℕ) (out : IsOutput m s blocks b) → AreReady m s → AllShort out.parts (tile_number s.siz)
     → AreBlocksOf s blocks → All IsSound blocks → IsStrict m.plt b (stream_read s out.parts)
-output_strict m s blocks b out ready short = file_strict m s blocks b out.parts (groups_in m s blocks b out) ready (cut_in m s blocks b out) short out.bytes
+output_strict m s blocks b out ready short = file_strict m s blocks b out.parts (groups_in m s blocks b out) ready (cut_in m s blocks b out ready) short out.bytes
 
 pub output_headers : (m : Marks) (s : Stream) (blocks : List Block) (b : List ℕ) (out : IsOutput m s blocks b) → AreReady m s → AllShort out.parts (tile_number s.siz) → HasHeadersOf s (stream_read s out.parts)
-output_headers m s blocks b out ready short = same_headers m s blocks b out.parts (groups_in m s blocks b out) ready (cut_in m s blocks b out) short out.bytes
+output_headers m s blocks b out ready short = same_headers m s blocks b out.parts (groups_in m s blocks b out) ready (cut_in m s blocks b out ready) short out.bytes
 
 -- ---- one file
 one_tile : (m : Marks) (s : Stream) (blocks : List Block) (t : ℕ) (xs ys : List TilePart) → AreTilePartsOf m s blocks t xs → AreTilePartsOf m s blocks t ys → xs ≡ ys
 one_tile m s blocks t xs ys one other =
     let same : one.names ≡ other.names = one_order (geometry s t) (layers_of s t) (tile_at s t).progressions (length (tile_at s t).progressions) one.names other.names one.order other.order in
-    one.are ∙ ap (λ (z : List PacketName). tile_parts m s blocks t (groups_of z)) same ∙ sym other.are
+    one.are ∙ ap (λ (z : List PacketName). tile_parts m s blocks t (groups_of m.parts z)) same ∙ sym other.are
 
 pub one_output : (m : Marks) (s : Stream) (blocks : List Block) (b c : List ℕ) → IsOutput m s blocks b → IsOutput m s blocks c → b ≡ c
 one_output m s blocks b c one other =
@@ -235,7 +238,7 @@ list_is_for s t has (inr past) inside = absurd (omega arith)
 pub output_exists : (m : Marks) (s : Stream) (blocks : List Block) → AreReady m s → (b : List ℕ) × IsOutput m s blocks b
 output_exists m s blocks ready =
     let names : ℕ → List PacketName = λ t. list_for s t (ready_list m s ready t) (cases_lt t (tile_number s.siz)) in
-    let parts : ℕ → List TilePart = λ t. tile_parts m s blocks t (groups_of (names t)) in (
+    let parts : ℕ → List TilePart = λ t. tile_parts m s blocks t (groups_of m.parts (names t)) in (
       file_bytes s.siz s.main (joined parts 0 (tile_number s.siz)) [],
       record {
         parts = parts;

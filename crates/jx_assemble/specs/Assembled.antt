@@ -1,6 +1,5 @@
 -- A tile's bytes, as they are put together from the blocks of that tile.
-use Rattle.std.specs.Prelude.{◌≡◌, ◌<◌, ◌+◌, ℕ, List, length, slice_get}
-use Rattle.std.specs.List.{flat_map}
+use Rattle.std.specs.Prelude.{◌≡◌, ◌<◌, ◌+◌, ℕ, List, length, map, slice_get}
 use Rattle.jx_base.specs.declared.pieces.Block.{Block}
 use Rattle.jx_geom.specs.Counts.{tile_blocks}
 use Rattle.jx_geom.specs.Geometry.{rect_of_tile}
@@ -10,6 +9,7 @@ use Rattle.jx_stream.specs.First.{canvas_of}
 use Rattle.jx_stream.specs.Shapes.{geometry, shapes_of}
 use Rattle.jx_stream.specs.Spells.{TilePart, part_bytes}
 use Rattle.jx_plan.specs.declared.Marks.{Marks}
+use Rattle.jx_assemble.specs.Tile.{AreAtMost}
 use Rattle.jx_assemble.specs.TileParts.{AreTilePartsOf}
 
 -- these are the blocks of a tile, among all of the codestream
@@ -17,14 +17,14 @@ pub record AreOwn (s : Stream) (t : ℕ) (blocks own : List Block) : Type 0 wher
   pub all : length own ≡ tile_blocks (rect_of_tile (geometry s t)) (shapes_of s t)
   pub each : (i : ℕ) → i < length own → slice_get blocks (blocks_below (canvas_of s.siz) (shapes_of s) t + i) ≡ slice_get own i
 
--- the bytes of a tile's tile-parts, one after another
-pub record AreTileBytes (m : Marks) (s : Stream) (blocks : List Block) (t : ℕ) (bytes : List ℕ) : Type 0 where
+-- a tile's tile-parts as bytes
+pub record AreTileBytes (m : Marks) (s : Stream) (blocks : List Block) (t : ℕ) (bytes : List (List ℕ)) : Type 0 where
   pub parts : List TilePart
   pub are : AreTilePartsOf m s blocks t parts
-  pub bytes_are : bytes ≡ flat_map (part_bytes (length s.siz.comps)) parts
+  pub bytes_are : bytes ≡ map (part_bytes (length s.siz.comps)) parts
 
--- the tile's one tile-part has more than so many bytes
+-- one of the tile's tile-parts has more than so many bytes
 pub record IsTooLong (m : Marks) (s : Stream) (blocks : List Block) (t most : ℕ) : Type 0 where
   pub parts : List TilePart
   pub are : AreTilePartsOf m s blocks t parts
-  pub long : most < length (flat_map (part_bytes (length s.siz.comps)) parts)
+  pub long : AreAtMost most parts → ⊥

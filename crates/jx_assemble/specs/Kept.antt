@@ -1,24 +1,28 @@
 -- What the file that is written anew keeps of the file that was read (ITU-T T.800, A.5, A.6, B.3 and E.1).
-use Rattle.std.specs.Prelude.{◌≡◌, ℕ, List}
+use Rattle.std.specs.Prelude.{◌≡◌, ℕ, List, map}
 use Rattle.jx_base.specs.declared.names.Band.{Band}
 use Rattle.jx_base.specs.declared.pieces.Block.{Block}
 use Rattle.jx_stream.specs.declared.Stream.{Stream}
-use Rattle.jx_stream.specs.Params.{params_of, step_of}
+use Rattle.jx_stream.specs.Params.{params_of, planes_at, step_of}
 use Rattle.jx_stream.specs.Read.{IsRead}
-use Rattle.jx_stream.specs.Shapes.{geometry}
+use Rattle.jx_stream.specs.Shapes.{geometry, shapes_of}
 use Rattle.jx_gather.specs.Gathered.{IsGathered}
 use Rattle.jx_gather.specs.WellFormed.{IsWellFormed}
-use Rattle.jx_plan.specs.declared.Marks.{Marks}
+use Rattle.jx_plan.specs.Headers.{comp_written, params_written}
+use Rattle.jx_plan.specs.Plan.{asked_of}
+use Rattle.jx_plan.specs.Wanted.{Wanted}
 use Rattle.jx_assemble.specs.Strict.{IsStrict}
 
 -- the stream that is read of the new file, with so many layers, beside the one before: a well-formed codestream, strictly made, with
--- just these code-blocks; SIZ but for Rsiz; each component's parameters but for the layers; the steps; and the places
-pub record IsKeptIn (m : Marks) (layers : ℕ) (before after : Stream) (blocks : List Block) (out : List ℕ) : Type 0 where
+-- just these code-blocks; SIZ but for Rsiz; each component's parameters but for the order, the layers and the precincts; the steps;
+-- and the places of tiles and bands
+pub record IsKeptIn (w : Wanted) (layers : ℕ) (before after : Stream) (blocks : List Block) (out : List ℕ) : Type 0 where
   pub read : IsRead out after
   pub gathered : IsGathered out after blocks
   pub formed : IsWellFormed out
-  pub strict : IsStrict m.plt out after
+  pub strict : IsStrict w.plt out after
   pub siz : after.siz ≡ record before.siz { rsiz = 0 }
-  pub params : (t c : ℕ) → params_of after t c ≡ record (params_of before t c) { layers = layers }
+  pub params : (t c : ℕ) → params_of after t c ≡ params_written (asked_of w layers) (params_of before t c)
   pub steps : (t c r : ℕ) (band : Band) → step_of after t c r band ≡ step_of before t c r band
-  pub places : (t : ℕ) → geometry after t ≡ geometry before t
+  pub planes : (t c r : ℕ) (band : Band) → planes_at after t c r band ≡ planes_at before t c r band
+  pub places : (t : ℕ) → geometry after t ≡ record (geometry before t) { shapes = map (comp_written w.precincts) (shapes_of before t) }

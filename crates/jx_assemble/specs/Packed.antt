@@ -1,11 +1,12 @@
 -- Inner: the packets of a tile as they are made from the blocks of that tile alone.
-use Rattle.std.specs.Prelude.{◌+◌, ℕ, Bool, List, [], ◌++◌, length, map, sum_by, if◌then◌else◌}
+use Rattle.std.specs.Prelude.{◌+◌, ℕ, zero, suc, Bool, List, [], ◌++◌, length, map, sum_by, if◌then◌else◌}
 use Rattle.jx_base.specs.declared.pieces.Block.{Block}
 use Rattle.jx_base.specs.Joined.{joined}
 use Rattle.jx_geom.specs.Geometry.{Geometry}
 use Rattle.jx_geom.specs.Precincts.{leaves}
 use Rattle.jx_head.specs.LeavesFit.{parts_at}
 use Rattle.jx_head.specs.Written.{state_at}
+use Rattle.jx_marker.specs.declared.Segment.{Segment}
 use Rattle.jx_order.specs.declared.names.PacketName.{PacketName}
 use Rattle.jx_stream.specs.declared.Stream.{Stream}
 use Rattle.jx_stream.specs.Params.{header_of}
@@ -14,8 +15,9 @@ use Rattle.jx_stream.specs.Spells.{TilePart}
 use Rattle.jx_gather.specs.Cells.{precinct_bands}
 use Rattle.jx_gather.specs.Written.{Packets, Written, bytes_from, eph_bytes, packet_bytes, sop_bytes}
 use Rattle.jx_plan.specs.declared.Marks.{Marks as Asked}
+use Rattle.jx_plan.specs.Groups.{groups_of}
 use Rattle.jx_assemble.specs.Own.{leaf_bytes, own_header, own_leaves}
-use Rattle.jx_assemble.specs.TileParts.{part_header, tile_part}
+use Rattle.jx_assemble.specs.TileParts.{part_header, parts_with, tile_part}
 
 abbrev pub own_body : Geometry → List Block → PacketName → List ℕ
 own_body g own p = joined (leaf_bytes g own p.comp p.res p.precinct p.layer) 0 (leaves g p.comp p.res p.precinct)
@@ -57,7 +59,20 @@ own_length m s g own p = length (packet_bytes 0 (own_packet m s g own p))
 abbrev pub total : List ℕ → ℕ
 total lengths = sum_by (λ (n : ℕ). n) lengths
 
--- the tile-part
-abbrev pub own_part : Asked → Stream → Geometry → List Block → List PacketName → TilePart
-own_part m s g own names =
-    tile_part (length s.siz.comps) g.tile 0 1 (part_header m (header_of s g.tile) 0 (map (own_length m s g own) names)) (bytes_from (own_packets m s g own) 0 names)
+-- the tile's own segments, in its first tile-part
+abbrev pub own_segments : ℕ → List Segment → List Segment
+own_segments zero own = own
+own_segments (suc part) own = []
+
+-- a tile-part: its number, how many there are, and the number of its first packet
+abbrev pub own_part : Asked → Stream → Geometry → List Block → ℕ → ℕ → ℕ → List PacketName → TilePart
+own_part m s g own part parts number names =
+    tile_part (length s.siz.comps) g.tile part parts (part_header m (header_of s g.tile) part (map (own_length m s g own) names)) (bytes_from (own_packets m s g own) number names)
+
+-- those from one on
+abbrev pub parts_from : Asked → Stream → Geometry → List Block → ℕ → ℕ → ℕ → List (List PacketName) → List TilePart
+parts_from m s g own part parts number groups = parts_with m (length s.siz.comps) g.tile (header_of s g.tile) (own_packets m s g own) part parts number groups
+
+-- all of a tile with these packets
+abbrev pub own_parts : Asked → Stream → Geometry → List Block → List PacketName → List TilePart
+own_parts m s g own names = parts_from m s g own 0 (length (groups_of m.parts names)) 0 (groups_of m.parts names)

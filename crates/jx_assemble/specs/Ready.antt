@@ -17,6 +17,7 @@ use Rattle.jx_gather.specs.Gathered.{IsListOf}
 use Rattle.jx_gather.specs.Totals.{totals_fault}
 use Rattle.jx_assemble.specs.Told.{has_lengths}
 use Rattle.jx_plan.specs.declared.Marks.{Marks}
+use Rattle.jx_plan.specs.Groups.{HasFewParts}
 
 -- what SOP and EPH a tile's COD, or else the main one, announces
 abbrev pub cod_at : Stream → ℕ → Cod
@@ -36,6 +37,8 @@ pub record IsTileReady (m : Marks) (s : Stream) (t : ℕ) : Type 0 where
   -- A.8: Scod says what stands in the tile's data
   pub sop : (cod_at s t).sop ≡ m.sop
   pub eph : (cod_at s t).eph ≡ m.eph
+  -- A.4.2: TNsot has one byte
+  pub few : HasFewParts m.parts s t
 
 -- all headers: no rule that headers can violate is violated, and no limit is passed
 pub record AreReady (m : Marks) (s : Stream) : Type 0 where

@@ -16,6 +16,7 @@ use Rattle.jx_stream.specs.Spells.{TilePart, all_bytes, part_bytes}
 use Rattle.jx_block.specs.Recoded.{WrittenBlock}
 use Rattle.jx_block.specs.Recoding.{pieces_of}
 use Rattle.jx_plan.specs.Plan.{Plan, headers_of}
+use Rattle.jx_plan.specs.Wanted.{marks_of}
 use Rattle.jx_assemble.specs.TileParts.{AreTilePartsOf}
 
 -- A.2: the main header
@@ -51,12 +52,12 @@ AreAtMost most parts = All (λ (part : TilePart). part.sot.psot ≤ most) parts
 -- the tile-parts that a tile is written as
 pub record IsTile (p : Plan) (blocks : List Block) (t : ℕ) (most : ℕ) (bytes : List (List ℕ)) : Type 0 where
   pub parts : List TilePart
-  pub are : AreTilePartsOf p.marks (headers_of p) blocks t parts
+  pub are : AreTilePartsOf (marks_of p.wanted) (headers_of p) blocks t parts
   pub short : AreAtMost most parts
   pub bytes_are : bytes ≡ map (part_bytes (length p.stream.siz.comps)) parts
 
 -- one of them is longer
 pub record IsTooLong (p : Plan) (blocks : List Block) (t : ℕ) (most : ℕ) : Type 0 where
   pub parts : List TilePart
-  pub are : AreTilePartsOf p.marks (headers_of p) blocks t parts
+  pub are : AreTilePartsOf (marks_of p.wanted) (headers_of p) blocks t parts
   pub long : AreAtMost most parts → ⊥

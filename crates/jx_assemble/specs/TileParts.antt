@@ -20,6 +20,7 @@ use Rattle.jx_gather.specs.Planned.{leaves_in}
 use Rattle.jx_gather.specs.Written.{Written, Packets, packet_bytes, bytes_from}
 use Rattle.jx_gather.specs.Gathered.{IsListOf}
 use Rattle.jx_plan.specs.declared.Marks.{Marks}
+use Rattle.jx_plan.specs.Groups.{groups_of}
 use Rattle.jx_assemble.specs.Lengths.{length_segments}
 
 -- a packet of a tile: its one header, for the blocks of its precinct, and the bytes of their pieces in its layer
@@ -67,15 +68,11 @@ parts_with m comps t own ps part parts number (names ∷ groups) =
 abbrev pub tile_parts : Marks → Stream → List Block → ℕ → List (List PacketName) → List TilePart
 tile_parts m s blocks t groups = parts_with m (length s.siz.comps) t (header_of s t) (packets_of m s t blocks) 0 (length groups) 0 groups
 
--- where a tile's packets are cut: they stand in one tile-part
-abbrev pub groups_of : List PacketName → List (List PacketName)
-groups_of names = names ∷ []
-
 -- the tile-parts of a tile
 pub record AreTilePartsOf (m : Marks) (s : Stream) (blocks : List Block) (t : ℕ) (parts : List TilePart) : Type 0 where
   pub names : List PacketName
   pub order : IsListOf s t names
-  pub are : parts ≡ tile_parts m s blocks t (groups_of names)
+  pub are : parts ≡ tile_parts m s blocks t (groups_of m.parts names)
 
 -- the whole file
 pub record IsOutput (m : Marks) (s : Stream) (blocks : List Block) (b : List ℕ) : Type 0 where

@@ -1,88 +1,48 @@
-//! The tile-part of a tile: its header and its packets (ITU-T T.800, A.4).
+//! The tile-parts of a tile, one after another (ITU-T T.800, A.4.2).
 
-ghost use Rattle.std.specs.Prelude.{◌≡◌, ◌≤◌, ◌<◌, ◌++◌, ◌^◌, List, [], length, map, None, Err, IfOk};
+ghost use Rattle.std.specs.Prelude.{◌≡◌, ◌≤◌, ◌<◌, ◌+◌, ◌^◌, ◌++◌, ◌∷◌, List, [], length, map, None, Err, IfOk, OnOk};
 ghost use Rattle.std.specs.List.{All};
 ghost use Rattle.jx_base.specs.declared.pieces.Block.{Block};
-ghost use Rattle.jx_marker.specs.declared.Segment.TheVariants as segment;
 ghost use Rattle.jx_marker.specs.Ranges.{InRange};
-ghost use Rattle.jx_marker.specs.Segments.{spelling};
 ghost use Rattle.jx_order.specs.Packets.{IsPacket};
 ghost use Rattle.jx_stream.specs.declared.headers.HeaderKind.TheVariants.{First};
 ghost use Rattle.jx_stream.specs.First.{tile_number};
 ghost use Rattle.jx_stream.specs.InRange.{StreamInRange};
 ghost use Rattle.jx_stream.specs.Params.{header_of, headers_at};
 ghost use Rattle.jx_stream.specs.Shapes.{geometry, layers_of};
-ghost use Rattle.jx_stream.specs.Spells.{AreSegments, all_bytes, part_bytes};
+ghost use Rattle.jx_stream.specs.Spells.{AreSegments, part_bytes};
 ghost use Rattle.jx_gather.specs.Gathered.{IsWhole};
 ghost use Rattle.jx_gather.specs.Totals.{totals_fault};
-ghost use Rattle.jx_gather.specs.Written.{bytes_from};
+ghost use Rattle.jx_plan.specs.Groups.{HasFewParts, groups_of};
 ghost use Rattle.jx_assemble.specs.Assembled.{AreOwn, AreTileBytes, IsTooLong};
 ghost use Rattle.jx_assemble.specs.Names.{AreSendings, tile_names};
 ghost use Rattle.jx_assemble.specs.Own.{AreOwnBlocks};
-ghost use Rattle.jx_assemble.specs.Packed.{own_packets, own_part, total};
-ghost use Rattle.jx_assemble.specs.TileParts.{part_header};
+ghost use Rattle.jx_assemble.specs.Packed.{own_parts};
+ghost use Rattle.jx_assemble.specs.Tile.{AreAtMost};
 
-use crate::front::comps_of;
-use crate::lengths::put_lengths;
-use crate::listed::names_of;
 use crate::parts::Coded;
 use crate::precincts::sendings_of;
-use crate::segments::put_segments;
 use crate::sending::Sending;
-use crate::tile::{AssembleFault, lengths_of, put_packets};
+use crate::tile::AssembleFault;
+use crate::tile_part::{PartPlace, assemble_part};
 use jx_base::NoMemory;
 use jx_geom::TileGeom;
-use jx_marker::{Segment, Sot, put_segment};
 use jx_order::PacketName;
-use jx_plan::Marks;
+use jx_plan::{Marks, count_parts, names_of, part_end};
 use jx_stream::{Stream, TileView};
 use std::alloc::Global;
 
-/// The segments of a tile's own header.
-fn own_header(stream: &Stream, tile: u16) -> &[Segment]
-    requires { tile < length stream.now.tiles }
-    ensures { result.now ≡ header_of stream.now tile }
+/// Puts a tile-part behind others.
+fn push_part(parts: &mut Vec<Vec<u8>>, bytes: Vec<u8>) -> Result<(), NoMemory>
+    ensures items { OnOk result (map (λ v. v.items) parts.new.items ≡ map (λ v. v.items) parts.old.items ++ bytes.items ∷ []) }
+    ensures long { OnOk result (length parts.new.items ≡ length parts.old.items + 1) }
 {
-    stream.tiles.as_slice()[usize::from(tile)].header.as_slice()
+    parts.push(bytes)?;
+    Ok(())
 }
 
-/// What stands between SOT and SOD: the tile's own segments, and PLT where it is asked.
-#[tactic(auto, using(crate::proofs::PartLemmas::bytes_append))]
-fn header_bytes(
-    alloc: Global,
-    own: &[Segment],
-    lengths: &[u32],
-    marks: Marks,
-    comps: u16,
-) -> Result<Vec<u8>, NoMemory>
-    requires own { All (InRange comps) own.now }
-    requires few { length lengths.now ≤ 2 ^ 22 }
-    requires together { total lengths.now < 2 ^ 32 }
-    ensures { IfOk result (λ bytes. bytes.items ≡ all_bytes comps (part_header marks own.now 0 lengths.now)) }
-{
-    let mut bytes = Vec::new(alloc);
-    put_segments(own, comps, &mut bytes)?;
-    if !marks.plt {
-        return Ok(bytes);
-    }
-    put_lengths(alloc, lengths, comps, &mut bytes)?;
-    Ok(bytes)
-}
-
-/// The sum of lengths.
-fn sum_of(lengths: &[u32]) -> u128
-    ensures value { result ≡ total lengths.now }
-    ensures bound { result ≤ 2 ^ 96 }
-{
-    let mut sum = 0;
-    for length in lengths {
-        sum += u128::from(*length);
-    }
-    sum
-}
-
-/// A tile-part of so many bytes, in one buffer that is taken before a byte is copied.
-fn put_part<B: Coded>(
+/// The one tile-part of a tile without packets.
+fn assemble_empty<B: Coded>(
     alloc: Global,
     stream: &Stream,
     geom: &TileGeom,
@@ -90,30 +50,33 @@ fn put_part<B: Coded>(
     list: &[Sending],
     marks: Marks,
     names: &[PacketName],
-    header: &[u8],
-    size: u32,
-    comps: u16,
-) -> Result<Vec<u8>, NoMemory>
+    most: u32,
+) -> Result<Vec<Vec<u8>>, AssembleFault>
     requires list { AreSendings stream.now geom.now (map B.block values.now) (map B.bytes values.now) (tile_names geom.now) list.now }
-    requires each { All (IsPacket geom.now (layers_of stream.now geom.now.tile)) names.now }
-    ensures { IfOk result (λ bytes. bytes.items ≡ spelling comps (segment.Sot (record { tile = geom.now.tile; psot = size; part = 0; parts = 1 }))
-        ++ (header.now ++ (spelling comps segment.Sod ++ bytes_from (own_packets marks stream.now geom.now (map B.block values.now)) 0 names.now))) }
+    requires none { names.now ≡ [] }
+    requires comps { length stream.now.siz.comps ≤ 16384 }
+    requires tile { geom.now.tile < length stream.now.tiles }
+    requires header { All (InRange (length stream.now.siz.comps)) (header_of stream.now geom.now.tile) }
+    ensures value { IfOk result (λ parts. map (λ v. v.items) parts.items
+        ≡ map (part_bytes (length stream.now.siz.comps)) (own_parts marks stream.now geom.now (map B.block values.now) names.now)) }
+    ensures short { IfOk result (λ parts. AreAtMost most (own_parts marks stream.now geom.now (map B.block values.now) names.now)) }
+    ensures long { result ≡ Err AssembleFault.TooLong → AreAtMost most (own_parts marks stream.now geom.now (map B.block values.now) names.now) → ⊥ }
 {
-    let mut out = Vec::with_capacity(alloc, size as usize)?;
-    let sot = Sot {
-        tile: geom.number(),
-        psot: size,
+    let place = PartPlace {
         part: 0,
         parts: 1,
+        packet: 0,
     };
-    put_segment(&Segment::Sot(sot), comps, &mut out)?;
-    out.extend_from_slice(header)?;
-    put_segment(&Segment::Sod, comps, &mut out)?;
-    put_packets(stream, geom, values, list, marks, names, &mut out)?;
-    Ok(out)
+    let bytes = match assemble_part(alloc, stream, geom, values, list, marks, names, place, most) {
+        Ok(bytes) => bytes,
+        Err(fault) => return Err(fault),
+    };
+    let mut parts = Vec::new(alloc);
+    push_part(&mut parts, bytes)?;
+    Ok(parts)
 }
 
-/// The tile-part of a tile of which the packets are named; `TooLong` where it has more than `most` bytes.
+/// The tile-parts of a tile of which the packets are named; `TooLong` exactly where one of them has more than `most` bytes.
 fn assemble_named<B: Coded>(
     alloc: Global,
     stream: &Stream,
@@ -123,36 +86,47 @@ fn assemble_named<B: Coded>(
     marks: Marks,
     names: &[PacketName],
     most: u32,
-) -> Result<Vec<u8>, AssembleFault>
+) -> Result<Vec<Vec<u8>>, AssembleFault>
     requires list { AreSendings stream.now geom.now (map B.block values.now) (map B.bytes values.now) (tile_names geom.now) list.now }
     requires each { All (IsPacket geom.now (layers_of stream.now geom.now.tile)) names.now }
     requires few { length names.now ≤ 2 ^ 22 }
+    requires parts { length (groups_of marks.parts names.now) ≤ 255 }
     requires comps { length stream.now.siz.comps ≤ 16384 }
     requires tile { geom.now.tile < length stream.now.tiles }
     requires header { All (InRange (length stream.now.siz.comps)) (header_of stream.now geom.now.tile) }
-    ensures value { IfOk result (λ bytes. bytes.items ≡ part_bytes (length stream.now.siz.comps) (own_part marks stream.now geom.now (map B.block values.now) names.now)) }
-    ensures short { IfOk result (λ bytes. length bytes.items ≤ most) }
-    ensures long { result ≡ Err AssembleFault.TooLong → most < length (part_bytes (length stream.now.siz.comps) (own_part marks stream.now geom.now (map B.block values.now) names.now)) }
+    ensures value { IfOk result (λ parts. map (λ v. v.items) parts.items
+        ≡ map (part_bytes (length stream.now.siz.comps)) (own_parts marks stream.now geom.now (map B.block values.now) names.now)) }
+    ensures short { IfOk result (λ parts. AreAtMost most (own_parts marks stream.now geom.now (map B.block values.now) names.now)) }
+    ensures long { result ≡ Err AssembleFault.TooLong → AreAtMost most (own_parts marks stream.now geom.now (map B.block values.now) names.now) → ⊥ }
 {
-    let lengths = match lengths_of(alloc, stream, geom, values, list, marks, names, most) {
-        Ok(lengths) => lengths,
-        Err(fault) => return Err(fault),
-    };
-    let comps = comps_of(&stream.siz);
-    let own = own_header(stream, geom.number());
-    let header = header_bytes(alloc, own, &lengths, marks, comps)?;
-    let size = 14 + header.len() as u128 + sum_of(&lengths);
-    if size > u128::from(most) {
-        return Err(AssembleFault::TooLong);
+    if names.is_empty() {
+        return assemble_empty(alloc, stream, geom, values, list, marks, names, most);
     }
-    let size = size as u32;
-    Ok(put_part(
-        alloc, stream, geom, values, list, marks, names, &header, size, comps,
-    )?)
+    let count = count_parts(names, marks.parts) as u8;
+    let mut parts: Vec<Vec<u8>> = Vec::new(alloc);
+    let mut from = 0;
+    while from < names.len() {
+        let end = part_end(names, from, marks.parts);
+        let place = PartPlace {
+            part: parts.len() as u8,
+            parts: count,
+            packet: from,
+        };
+        let own = &names[from..end];
+        let bytes = match assemble_part(
+            alloc, stream, geom, values, list, marks, own, place, most,
+        ) {
+            Ok(bytes) => bytes,
+            Err(fault) => return Err(fault),
+        };
+        push_part(&mut parts, bytes)?;
+        from = end;
+    }
+    Ok(parts)
 }
 
-/// The tile-part of a tile: `values` are its blocks by their numbers in the tile. `TooLong` comes exactly where it has more
-/// than `most` bytes. The time grows with the packets, with the blocks and their parts, and with the bytes.
+/// The tile-parts of a tile: `values` are its blocks by their numbers in the tile. `TooLong` comes exactly where one of them has
+/// more than `most` bytes. The time grows with the packets, with the blocks and their parts, and with the bytes.
 pub(crate) fn assemble_values<B: Coded>(
     alloc: Global,
     stream: &Stream,
@@ -161,7 +135,7 @@ pub(crate) fn assemble_values<B: Coded>(
     values: &[B],
     marks: Marks,
     most: u32,
-) -> Result<Vec<u8>, AssembleFault>
+) -> Result<Vec<Vec<u8>>, AssembleFault>
     requires view { view.now ≡ headers_at stream.now geom.now.tile }
     requires range { StreamInRange stream.now }
     requires totals { totals_fault stream.now ≡ None }
@@ -170,9 +144,9 @@ pub(crate) fn assemble_values<B: Coded>(
     requires whole { IsWhole stream.now geom.now.tile }
     requires header { AreSegments First (length stream.now.siz.comps) [] (header_of stream.now geom.now.tile) }
     requires own { AreOwnBlocks stream.now geom.now (map B.block values.now) }
-    ensures value { IfOk result (λ bytes. (blocks : List Block) → AreOwn stream.now geom.now.tile blocks (map B.block values.now)
-        → AreTileBytes marks stream.now blocks geom.now.tile bytes.items) }
-    ensures short { IfOk result (λ bytes. length bytes.items ≤ most) }
+    requires few { HasFewParts marks.parts stream.now geom.now.tile }
+    ensures value { IfOk result (λ parts. (blocks : List Block) → AreOwn stream.now geom.now.tile blocks (map B.block values.now)
+        → (is : AreTileBytes marks stream.now blocks geom.now.tile (map (λ v. v.items) parts.items)) × AreAtMost most is.parts) }
     ensures long { result ≡ Err AssembleFault.TooLong → (blocks : List Block) → AreOwn stream.now geom.now.tile blocks (map B.block values.now)
         → IsTooLong marks stream.now blocks geom.now.tile most }
 {

@@ -1,4 +1,5 @@
-//! Laws over the file that is written from headers and code-blocks. The functions do nothing: their contracts carry the laws.
+//! Laws over the file that is written from headers and code-blocks. The functions do nothing but cite laws of the crates below:
+//! their contracts carry the laws.
 
 ghost use Rattle.std.specs.Prelude.{◌≡◌, ◌<◌, ◌≤◌, ◌^◌, ℕ, List, None, length};
 ghost use Rattle.std.specs.List.{All, flat_map};
@@ -16,7 +17,7 @@ ghost use Rattle.jx_gather.specs.Accepted.{IsAccepted};
 ghost use Rattle.jx_gather.specs.Another.{HaveSameBlocks};
 ghost use Rattle.jx_gather.specs.BlockOf.{AreBlocksOf};
 ghost use Rattle.jx_gather.specs.Gathered.{IsGathered, IsListOf, IsWhole};
-ghost use Rattle.jx_gather.specs.Totals.{packet_total, totals_fault};
+ghost use Rattle.jx_gather.specs.Totals.{totals_fault};
 ghost use Rattle.jx_gather.specs.WellFormed.{IsWellFormed};
 ghost use Rattle.jx_assemble.specs.Kept.{IsKeptIn};
 ghost use Rattle.jx_assemble.specs.Lengths.{length_bytes, length_segments};
@@ -26,9 +27,16 @@ ghost use Rattle.jx_assemble.specs.Strict.{IsStrict};
 ghost use Rattle.jx_assemble.specs.Told.{length_total, lengths_from};
 ghost use Rattle.jx_plan.specs.declared.Marks.{Marks};
 ghost use Rattle.jx_plan.specs.Facts.{most_layers};
+ghost use Rattle.jx_plan.specs.KeptFault.{IsFree};
 ghost use Rattle.jx_plan.specs.Plan.{headers_with};
+ghost use Rattle.jx_plan.specs.Wanted.{MayBeWanted, Wanted, marks_of};
 ghost use Rattle.jx_plan.specs.Standing.{HeadersStand};
 ghost use Rattle.jx_assemble.specs.TileParts.{IsOutput};
+
+use jx_plan::laws::{
+    blocks_stay, parameters_stay, read_headers_stand, written_headers_are_plain,
+    written_headers_stand,
+};
 
 /// A written file spells the stream of the headers that it was written from, with its tile-parts' own headers, places and data: no
 /// rule from 1 to 24 is violated, and neither limit 3 nor 4 is passed (T.800, A.2 to A.6).
@@ -102,22 +110,34 @@ pub fn one_output()
     ensures one { (m : Marks) (s : Stream) (blocks : List Block) (b c : List ℕ) → IsOutput m s blocks b → IsOutput m s blocks c → b ≡ c }
 {}
 
-/// The headers that are written, with 1 to 65,535 layers, are such as a file may be written from, where limit 6 isn't passed by its
-/// packets: no POC and no PLT stands in them, and each COD announces SOP and EPH as asked (T.800, A.6 and A.8).
+/// The headers that are written, with 1 to 65,535 layers, are such as a file may be written from, where nothing is in the way: no
+/// POC and no PLT stands in them, each COD announces SOP and EPH as asked, and no tile is cut into over 255 tile-parts (T.800, A.4,
+/// A.6 and A.8).
 pub fn written_is_ready()
-    ensures { (m : Marks) (layers : ℕ) (s : Stream) → 1 ≤ layers → layers < 2 ^ 16 → HeadersStand s → StreamInRange s → totals_fault s ≡ None
-        → packet_total (headers_with m layers s) ≤ 2 ^ 22 → AreReady m (headers_with m layers s) }
-{}
+    ensures { (w : Wanted) (layers : ℕ) (s : Stream) → 1 ≤ layers → layers < 2 ^ 16 → MayBeWanted w → HeadersStand s → StreamInRange s → totals_fault s ≡ None
+        → IsFree s w layers → AreReady (marks_of w) (headers_with w layers s) }
+{
+    written_headers_stand();
+    written_headers_are_plain();
+    parameters_stay();
+}
 
-/// A file that was read, written anew with at least as many layers as each of its tiles has, at most 65,535, and at most 2^22 packets,
-/// is read as a stream that keeps its code-blocks, SIZ but for Rsiz, the parameters but for the layers, the steps and the places.
+/// A file that was read, written anew with at least as many layers as each of its tiles has, at most 65,535, where nothing is in the
+/// way, is read as a stream that keeps its code-blocks, SIZ but for Rsiz, the parameters but for the order, the layers and the
+/// precincts, the steps and the places.
 pub fn rewritten_is_read()
-    ensures { (m : Marks) (layers : ℕ) (before : Stream) (blocks : List Block) (input out : List ℕ) (is : IsOutput m (headers_with m layers before) blocks out)
+    ensures { (w : Wanted) (layers : ℕ) (before : Stream) (blocks : List Block) (input out : List ℕ) (is : IsOutput (marks_of w) (headers_with w layers before) blocks out)
         → IsRead input before → length input ≤ 2 ^ 28 → totals_fault before ≡ None → IsGathered input before blocks
         → ((t : ℕ) → t < tile_number before.siz → layers_of before t ≤ layers) → 1 ≤ layers → layers < 2 ^ 16
-        → packet_total (headers_with m layers before) ≤ 2 ^ 22 → AllShort is.parts (tile_number before.siz)
-        → (after : Stream) × IsKeptIn m layers before after blocks out }
-{}
+        → MayBeWanted w → IsFree before w layers → AllShort is.parts (tile_number before.siz)
+        → (after : Stream) × IsKeptIn w layers before after blocks out }
+{
+    read_headers_stand();
+    written_headers_stand();
+    written_headers_are_plain();
+    parameters_stay();
+    blocks_stay();
+}
 
 /// The greatest number of layers of any tile is at least that of each, and in the range of COD: 1 to 65,535 (T.800, Table A.14).
 pub fn most_layers_fit()

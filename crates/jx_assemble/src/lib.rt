@@ -7,8 +7,9 @@ mod front;
 pub mod laws;
 mod leaf;
 mod lengths;
-mod listed;
 mod packets;
+#[cfg(test)]
+mod part_tests;
 mod parts;
 mod planned;
 mod precincts;
@@ -19,6 +20,7 @@ mod sent;
 #[cfg(test)]
 mod tests;
 mod tile;
+mod tile_part;
 
-pub use planned::{assemble_tile, main_header};
+pub use planned::{assemble_tile, assemble_tile_with, main_header, main_view};
 pub use tile::AssembleFault;

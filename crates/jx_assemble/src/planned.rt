@@ -1,6 +1,6 @@
 //! The parts of the written file, from a plan and from the blocks as they are written.
 
-ghost use Rattle.std.specs.Prelude.{◌≡◌, ◌≤◌, ◌<◌, ◌∷◌, [], List, None, length, map, Err, IfOk};
+ghost use Rattle.std.specs.Prelude.{◌≡◌, ◌<◌, [], List, None, length, map, Err, IfOk};
 ghost use Rattle.jx_base.specs.declared.pieces.Block.{Block};
 ghost use Rattle.jx_stream.specs.declared.headers.HeaderKind.TheVariants.{First};
 ghost use Rattle.jx_stream.specs.First.{tile_number};
@@ -10,27 +10,54 @@ ghost use Rattle.jx_stream.specs.Shapes.{geometry};
 ghost use Rattle.jx_stream.specs.Spells.{AreSegments};
 ghost use Rattle.jx_gather.specs.Gathered.{IsWhole};
 ghost use Rattle.jx_gather.specs.Totals.{totals_fault};
-ghost use Rattle.jx_plan.specs.Plan.{headers_of};
+ghost use Rattle.jx_plan.specs.Groups.{HasFewParts};
+ghost use Rattle.jx_plan.specs.Plan.{IsPlan, headers_of};
+ghost use Rattle.jx_plan.specs.Wanted.{marks_of};
 ghost use Rattle.jx_assemble.specs.Assembled.{AreOwn, AreTileBytes, IsTooLong as HasMoreBytes};
 ghost use Rattle.jx_assemble.specs.Own.{AreOwnBlocks};
-ghost use Rattle.jx_assemble.specs.Tile.{AreValuesOf, IsTile, IsTooLong, StandIn, main_bytes};
+ghost use Rattle.jx_assemble.specs.Ready.{AreReady};
+ghost use Rattle.jx_assemble.specs.Tile.{AreAtMost, AreValuesOf, IsTile, IsTooLong, StandIn, block_written, main_bytes};
 
 use crate::assemble::assemble_values;
 use crate::front::header_bytes;
+use crate::laws::{ready_is_in_range, written_is_ready};
 use crate::parts::Coded;
 use crate::tile::AssembleFault;
 use jx_base::NoMemory;
 use jx_block::Recoded;
 use jx_geom::TileGeom;
+use jx_plan::laws::parameters_stay;
 use jx_plan::{Marks, OutStream};
-use jx_stream::{Stream, TileView};
+use jx_stream::{MainView, Stream, TileView};
 use std::alloc::Global;
+
+/// The headers that are written; a file may be written from them.
+fn ready_headers<'a>(plan: &'a OutStream<'_>) -> &'a Stream
+    ensures value { result.now ≡ headers_of plan.now }
+    ensures ready { AreReady (marks_of plan.now.wanted) result.now }
+    ensures plan { IsPlan plan.now }
+{
+    written_is_ready();
+    plan.headers()
+}
 
 /// The main header: SOC, SIZ and the segments after it (ITU-T T.800, A.2).
 pub fn main_header(alloc: Global, plan: &OutStream<'_>) -> Result<Vec<u8>, NoMemory>
     ensures { IfOk result (λ bytes. bytes.items ≡ main_bytes (headers_of plan.now)) }
 {
-    header_bytes(alloc, plan.headers())
+    header_bytes(alloc, ready_headers(plan))
+}
+
+/// The view of the main header that is written, for all tiles of a plan.
+///
+/// # Errors
+///
+/// `NoMemory` where memory is refused.
+pub fn main_view<'a>(alloc: Global, plan: &'a OutStream<'_>) -> Result<MainView<'a>, NoMemory>
+    ensures { IfOk result (λ view. view ≡ record { siz = (headers_of plan.entry.now).siz; main = (headers_of plan.entry.now).main }) }
+{
+    ready_is_in_range();
+    ready_headers(plan).main_view(alloc)
 }
 
 /// The geometry of a tile.
@@ -49,60 +76,83 @@ fn geometry_of(
     TileGeom::new(alloc, &view.canvas(), tile, view.shapes())
 }
 
-/// The tile-part of a tile of a stream, of which `values` are the blocks by their numbers in the tile. `TooLong` comes exactly
-/// where it has more than `most` bytes.
+/// The tile-parts of a tile of a stream, of which `values` are the blocks by their numbers in the tile. `TooLong` comes exactly
+/// where one of them has more than `most` bytes.
 pub(crate) fn tile_bytes<B: Coded>(
     alloc: Global,
     stream: &Stream,
+    main: &MainView<'_>,
     tile: u16,
     values: &[B],
     marks: Marks,
     most: u32,
-) -> Result<Vec<u8>, AssembleFault>
+) -> Result<Vec<Vec<u8>>, AssembleFault>
+    requires main { main.now ≡ record { siz = stream.now.siz; main = stream.now.main } }
     requires range { StreamInRange stream.now }
     requires totals { totals_fault stream.now ≡ None }
     requires tile { tile < tile_number stream.now.siz }
     requires whole { IsWhole stream.now tile }
     requires header { AreSegments First (length stream.now.siz.comps) [] (header_of stream.now tile) }
     requires own { AreOwnBlocks stream.now (geometry stream.now tile) (map B.block values.now) }
-    ensures value { IfOk result (λ bytes. (blocks : List Block) → AreOwn stream.now tile blocks (map B.block values.now) → AreTileBytes marks stream.now blocks tile bytes.items) }
-    ensures short { IfOk result (λ bytes. length bytes.items ≤ most) }
-    ensures long { result ≡ Err AssembleFault.TooLong → (blocks : List Block) → AreOwn stream.now tile blocks (map B.block values.now) → HasMoreBytes marks stream.now blocks tile most }
+    requires few { HasFewParts marks.parts stream.now tile }
+    ensures value { IfOk result (λ parts. (blocks : List Block) → AreOwn stream.now tile blocks (map B.block values.now)
+        → (is : AreTileBytes marks stream.now blocks tile (map (λ v. v.items) parts.items)) × AreAtMost most is.parts) }
+    ensures long { result ≡ Err AssembleFault.TooLong → (blocks : List Block) → AreOwn stream.now tile blocks (map B.block values.now)
+        → HasMoreBytes marks stream.now blocks tile most }
 {
-    let main = stream.main_view(alloc)?;
-    let view = stream.tile_view(alloc, &main, tile)?;
+    let view = stream.tile_view(alloc, main, tile)?;
     let geom = geometry_of(alloc, stream, &view, tile)?;
     assemble_values(alloc, stream, &view, &geom, values, marks, most)
 }
 
-/// The tile-part of a tile, in one buffer.
-fn tile_part(
+/// The headers that are written, to which a tile's blocks belong.
+fn tile_headers<'a>(plan: &'a OutStream<'_>, tile: u16, values: &[Recoded<'_>]) -> &'a Stream
+    requires tile { tile < tile_number plan.now.stream.siz }
+    requires values { AreValuesOf plan.now tile values.now }
+    ensures value { result.now ≡ headers_of plan.now }
+    ensures ready { AreReady (marks_of plan.now.wanted) result.now }
+    ensures range { StreamInRange result.now }
+    ensures tile { tile < tile_number result.now.siz }
+    ensures whole { IsWhole result.now tile }
+    ensures own { AreOwnBlocks result.now (geometry result.now tile) (map block_written values.now) }
+    ensures stand { (blocks : List Block) → StandIn blocks plan.now tile values.now → AreOwn result.now tile blocks (map block_written values.now) }
+{
+    ready_is_in_range();
+    parameters_stay();
+    ready_headers(plan)
+}
+
+/// The tile-parts of a tile, of which `values` are the code-blocks as they are written, in the order of their numbers, with the view
+/// of the main header. A tile-part begins where the plan's options say, and with the tile; a tile without packets has one (ITU-T
+/// T.800, A.4.2). The time grows with the packets, with the blocks and their parts, with the segments of the tile's header, and
+/// with the tile-parts and their bytes, of which each coded one is copied once.
+///
+/// # Errors
+///
+/// `TooLong` exactly where a tile-part would have more than `most` bytes; `NoMemory` where memory is refused.
+pub fn assemble_tile_with(
     alloc: Global,
     plan: &OutStream<'_>,
+    main: &MainView<'_>,
     tile: u16,
     values: &[Recoded<'_>],
     most: u32,
-) -> Result<Vec<u8>, AssembleFault>
+) -> Result<Vec<Vec<u8>>, AssembleFault>
+    requires main { main.now ≡ record { siz = (headers_of plan.now).siz; main = (headers_of plan.now).main } }
     requires tile { tile < tile_number plan.now.stream.siz }
     requires values { AreValuesOf plan.now tile values.now }
-    ensures part { IfOk result (λ bytes. (blocks : List Block) → StandIn blocks plan.now tile values.now → IsTile plan.now blocks tile most (bytes.items ∷ [])) }
+    ensures parts { IfOk result (λ parts. (blocks : List Block) → StandIn blocks plan.now tile values.now → IsTile plan.now blocks tile most (map (λ v. v.items) parts.items)) }
     ensures long { result ≡ Err AssembleFault.TooLong → (blocks : List Block) → StandIn blocks plan.now tile values.now → IsTooLong plan.now blocks tile most }
 {
-    tile_bytes(alloc, plan.headers(), tile, values, plan.marks(), most)
+    let headers = tile_headers(plan, tile, values);
+    tile_bytes(alloc, headers, main, tile, values, plan.marks(), most)
 }
 
-/// A list of one buffer.
-fn one_item(alloc: Global, bytes: Vec<u8>) -> Result<Vec<Vec<u8>>, NoMemory>
-    ensures { IfOk result (λ list. map (λ v. v.items) list.items ≡ bytes.items ∷ []) }
-{
-    let mut list = Vec::with_capacity(alloc, 1)?;
-    list.push(bytes)?;
-    Ok(list)
-}
-
-/// The tile-parts of a tile, of which `values` are the code-blocks as they are written, in the order of their numbers (ITU-T T.800,
-/// A.4.2). There is one tile-part. `TooLong` comes exactly where it would have more than `most` bytes. The time grows with the
-/// packets, with the blocks and their parts, and with the bytes, of which each coded one is copied once.
+/// The same, with a view of the main header of its own, for which the time grows with the segments of that header too.
+///
+/// # Errors
+///
+/// `TooLong` exactly where a tile-part would have more than `most` bytes; `NoMemory` where memory is refused.
 pub fn assemble_tile(
     alloc: Global,
     plan: &OutStream<'_>,
@@ -115,12 +165,6 @@ pub fn assemble_tile(
     ensures parts { IfOk result (λ parts. (blocks : List Block) → StandIn blocks plan.now tile values.now → IsTile plan.now blocks tile most (map (λ v. v.items) parts.items)) }
     ensures long { result ≡ Err AssembleFault.TooLong → (blocks : List Block) → StandIn blocks plan.now tile values.now → IsTooLong plan.now blocks tile most }
 {
-    let part = match tile_part(alloc, plan, tile, values, most) {
-        Ok(part) => part,
-        Err(fault) => return Err(fault),
-    };
-    match one_item(alloc, part) {
-        Ok(parts) => Ok(parts),
-        Err(_) => Err(AssembleFault::NoMemory),
-    }
+    let main = main_view(alloc, plan)?;
+    assemble_tile_with(alloc, plan, &main, tile, values, most)
 }

@@ -9,6 +9,7 @@ ghost use Rattle.jx_block.specs.Jobs.{IsAsked};
 ghost use Rattle.jx_block.specs.Recoded.{WrittenBlock};
 ghost use Rattle.jx_stream.specs.First.{tile_number};
 ghost use Rattle.jx_plan.specs.Plan.{MayBePlanned};
+ghost use Rattle.jx_plan.specs.Wanted.{MayBeWanted};
 ghost use Rattle.jx_assemble.specs.Tile.{block_written};
 
 use crate::lengths::put_lengths;
@@ -16,7 +17,7 @@ use crate::{AssembleFault, assemble_tile, main_header};
 use jx_base::{Block, NoMemory};
 use jx_block::{Job, Recoded, recode};
 use jx_gather::gather;
-use jx_plan::{Marks, OutStream, plan_kept};
+use jx_plan::{Options, OrderChoice, OutStream, PartChoice, PrecinctChoice, plan_kept};
 use jx_store::Claim;
 use jx_stream::{Stream, read_stream};
 use std::alloc::Global;
@@ -51,7 +52,9 @@ fn bare_value<'a>(alloc: Global, job: &'a Job<'a>) -> Result<Recoded<'a>, NoMemo
     let claim = Claim::issue(job.number, 0);
     let value = recode(alloc, &claim, job);
     claim.spend();
-    let value = value?;
+    let Ok(value) = value else {
+        return Err(NoMemory);
+    };
     if value.parts().len() > 0 {
         return Err(NoMemory);
     }
@@ -94,13 +97,14 @@ fn kept_of(
     alloc: Global,
     stream: &Stream,
     blocks: &[Block<'_>],
-    marks: Marks,
+    options: &Options,
     most: u32,
 ) -> Option<(Vec<u8>, Result<Vec<Vec<u8>>, AssembleFault>)>
     requires may { MayBePlanned stream.now blocks.now }
+    requires wanted { MayBeWanted options.now }
     requires one { tile_number stream.now.siz ≡ 1 }
 {
-    let Ok(plan) = plan_kept(alloc, stream, blocks, marks) else {
+    let Ok(plan) = plan_kept(alloc, stream, blocks, options) else {
         return None;
     };
     let Ok(main) = main_header(alloc, &plan) else {
@@ -112,12 +116,14 @@ fn kept_of(
 
 /// The same of a codestream.
 #[tactic(auto, using(jx_plan::proofs::KeptLemmas::gathered_may))]
-fn kept(
+pub(crate) fn kept(
     alloc: Global,
     bytes: &[u8],
-    marks: Marks,
+    options: &Options,
     most: u32,
-) -> Option<(Vec<u8>, Result<Vec<Vec<u8>>, AssembleFault>)> {
+) -> Option<(Vec<u8>, Result<Vec<Vec<u8>>, AssembleFault>)>
+    requires { MayBeWanted options.now }
+{
     if bytes.len() > 1 << 28 {
         return None;
     }
@@ -130,7 +136,28 @@ fn kept(
     if stream.tiles.as_slice().len() != 1 {
         return None;
     }
-    kept_of(alloc, &stream, &blocks, marks, most)
+    kept_of(alloc, &stream, &blocks, options, most)
+}
+
+/// Order, precincts and layers are kept.
+pub(crate) fn with_marks(
+    alloc: Global,
+    parts: PartChoice,
+    sop: bool,
+    eph: bool,
+    plt: bool,
+) -> Options
+    ensures { MayBeWanted result }
+{
+    Options {
+        order: OrderChoice::Keep,
+        precincts: PrecinctChoice::Keep,
+        layers: String::new(alloc),
+        parts,
+        sop,
+        eph,
+        plt,
+    }
 }
 
 /// The smallest tile has 15 bytes, or, with all marks, 29.
@@ -142,24 +169,16 @@ fn smallest_tile(rt: HostRuntime) {
         0, 4, 4, 0, 1, 0xFF, 0x5C, 0, 4, 0x40, 0x40, 0xFF, 0x90, 0, 10, 0, 0, 0, 0, 0, 15, 0, 1,
         0xFF, 0x93, 0, 0xFF, 0xD9,
     ];
-    let none = Marks {
-        sop: false,
-        eph: false,
-        plt: false,
-    };
-    let all = Marks {
-        sop: true,
-        eph: true,
-        plt: true,
-    };
-    let (main, long) = kept(rt.alloc(), &file, none, 14).expect(&rt, "a plan");
+    let none = with_marks(rt.alloc(), PartChoice::None, false, false, false);
+    let all = with_marks(rt.alloc(), PartChoice::None, true, true, true);
+    let (main, long) = kept(rt.alloc(), &file, &none, 14).expect(&rt, "a plan");
     assert!(rt; main.as_slice() == &file[0..65]);
     assert!(rt; matches!(long, Err(AssembleFault::TooLong)));
-    let (_, bare) = kept(rt.alloc(), &file, none, 15).expect(&rt, "a plan");
+    let (_, bare) = kept(rt.alloc(), &file, &none, 15).expect(&rt, "a plan");
     let bare = bare.ok().expect(&rt, "a tile");
     assert!(rt; bare.len() == 1);
     assert!(rt; bare[0].as_slice() == &file[65..80]);
-    let (main, marked) = kept(rt.alloc(), &file, all, 29).expect(&rt, "a plan");
+    let (main, marked) = kept(rt.alloc(), &file, &all, 29).expect(&rt, "a plan");
     assert!(rt; main.len() == 65);
     assert!(rt; main[49] == 6);
     let marked = marked.ok().expect(&rt, "a tile");

@@ -1,6 +1,6 @@
-//! A tile's packets one after another, and their lengths.
+//! Packets of a tile one after another, and their lengths.
 
-ghost use Rattle.std.specs.Prelude.{◌≡◌, ◌≤◌, ◌<◌, ◌++◌, List, map, Err, IfOk, OnOk};
+ghost use Rattle.std.specs.Prelude.{◌≡◌, ◌≤◌, ◌<◌, ◌+◌, ◌++◌, ◌^◌, List, length, map, Err, IfOk, OnOk};
 ghost use Rattle.std.specs.List.{All};
 ghost use Rattle.jx_order.specs.Packets.{IsPacket};
 ghost use Rattle.jx_stream.specs.Shapes.{layers_of};
@@ -38,7 +38,7 @@ impl From<NoMemory> for AssembleFault {
     }
 }
 
-/// The lengths of a tile's packets; `TooLong` where they are more than `most` bytes together. No sum is above `most`.
+/// The lengths of packets of a tile; `TooLong` where they are more than `most` bytes together. No sum is above `most`.
 pub(crate) fn lengths_of<B: Coded>(
     alloc: Global,
     stream: &Stream,
@@ -70,7 +70,7 @@ pub(crate) fn lengths_of<B: Coded>(
     Ok(lengths)
 }
 
-/// Appends a tile's packets, numbered from 0 on.
+/// Appends packets of a tile, numbered from one on.
 pub(crate) fn put_packets<B: Coded>(
     stream: &Stream,
     geom: &TileGeom,
@@ -78,23 +78,17 @@ pub(crate) fn put_packets<B: Coded>(
     list: &[Sending],
     marks: Marks,
     names: &[PacketName],
+    first: usize,
     out: &mut Vec<u8>,
 ) -> Result<(), NoMemory>
     requires list { AreSendings stream.now geom.now (map B.block values.now) (map B.bytes values.now) (tile_names geom.now) list.now }
     requires each { All (IsPacket geom.now (layers_of stream.now geom.now.tile)) names.now }
-    ensures { OnOk result (out.new.items ≡ out.old.items ++ bytes_from (own_packets marks stream.now geom.now (map B.block values.now)) 0 names.now) }
+    requires few { first + length names.now ≤ 2 ^ 22 }
+    ensures { OnOk result (out.new.items ≡ out.old.items ++ bytes_from (own_packets marks stream.now geom.now (map B.block values.now)) first names.now) }
 {
-    for number in 0..names.len() {
-        put_packet(
-            stream,
-            geom,
-            values,
-            list,
-            marks,
-            names[number],
-            number,
-            out,
-        )?;
+    for index in 0..names.len() {
+        let number = first + index;
+        put_packet(stream, geom, values, list, marks, names[index], number, out)?;
     }
     Ok(())
 }

@@ -8,6 +8,7 @@ use Rattle.std.proofs.lemmas.List.Sums.{sum_by-cons}
 use Rattle.std.proofs.lemmas.List.Elements.{All-cons, All-nil}
 use Rattle.jx_base.specs.declared.pieces.Block.{Block}
 use Rattle.jx_base.specs.declared.pieces.Piece.{Piece}
+use Rattle.jx_base.specs.declared.style.Style.{Style}
 use Rattle.jx_base.specs.Pieces.{PieceValue, value_of, ArePieces, bytes_in}
 use Rattle.jx_base.specs.Places.{length_of}
 use Rattle.jx_base.specs.Sound.{IsSound}
@@ -21,6 +22,7 @@ use Rattle.jx_block.specs.Recoding.{has_own_ends, own_segments, coding_in, decod
 use Rattle.jx_block.specs.Jobs.{AreEnds}
 use Rattle.jx_block.specs.Tables.{are_cut, at_place, rows, bytes_joined, AreFew}
 use Rattle.jx_block.proofs.DropLemmas.{pieces_few}
+use Rattle.jx_block.proofs.GroupLemmas.{segments_are}
 use Rattle.jx_block.proofs.LookedLemmas.{looked_few}
 use Rattle.jx_block.proofs.PartLemmas.{parts_everywhere, parts_at_cuts}
 use Rattle.jx_block.proofs.RoomLemmas.{listed_at}
@@ -119,3 +121,40 @@ joined_long b ps whole sound e f =
     let g : whole ≡ bytes_joined b.pieces = f ∙ ap bytes_joined e in
     let l : length whole ≡ bytes_in b.pieces = ap (λ (xs : List ℕ). length xs) g ∙ length-flat_map (λ (p : PieceValue). p.bytes) b.pieces in
     omega (arith, sound.bytes)
+
+-- ---- the same of any segments
+pub segments_short : (ss : List (List ℕ)) → bytes_before ss (length ss) ≤ 2 ^ 28 → AreShort ss
+segments_short ss le = all_short ss (omega (arith, all_before ss))
+
+pub groups_most : (style : ℕ) (ps : List PieceValue) (ss : List (List ℕ)) → ss ≡ groups style ps → bytes_in ps ≤ 2 ^ 28 → bytes_before ss (length ss) ≤ 2 ^ 28
+groups_most style ps ss e le =
+    let sum : sum_by (λ (t : List ℕ). length t) ss ≡ bytes_in ps = ap (sum_by (λ (t : List ℕ). length t)) e ∙ groups_total style ps in
+    omega (arith, all_before ss)
+
+-- a block's own segments, put together from its pieces
+pub own_same : (b : Block) (style : Style) (ss : List (List ℕ)) → IsSound b → style ≡ b.style → ss ≡ groups b.style.bits b.pieces
+    → decoded_in b style.bits ss ≡ decoded_in b b.style.bits (own_segments b)
+own_same b style ss sound e f =
+    ap (λ (s : Style). decoded_in b s.bits ss) e
+    ∙ ap (λ (segments : List (List ℕ)). decoded_in b b.style.bits segments) (f ∙ sym (segments_are b.style.bits 0 b.passes b.pieces sound.pieces))
+
+pub looked_few_in : (b : Block) (style found : Style) (ss slices : List (List ℕ)) (looked : List ℕ) → found ≡ style → slices ≡ ss → looked ≡ (decoded_in b found.bits ss).looked
+    → AreFew style.bits slices looked
+looked_few_in b style found ss slices looked e f g =
+    subst (λ (s : Style). AreFew s.bits slices looked) e (few_of (length_of b.rect.x) (length_of b.rect.y) (coding_in b found.bits) ss slices b.passes looked f g)
+
+pub looked_table : (b : Block) (style found : Style) (ss segments slices : List (List ℕ)) (looked : List ℕ) → found ≡ style → segments ≡ ss → slices ≡ segments
+    → looked ≡ (decoded_in b found.bits segments).looked
+    → map (sent_by_looks style.bits b.passes slices looked) (range_with_len 0 (b.passes + 1))
+    ≡ map (sent_by_looks style.bits b.passes ss (decoded_in b style.bits ss).looked) (range_with_len 0 (b.passes + 1))
+looked_table b style found ss segments slices looked e f g h =
+    let same : slices ≡ ss = g ∙ f in
+    let same' : looked ≡ (decoded_in b style.bits ss).looked = h ∙ ap (λ (s : Style). (decoded_in b s.bits segments).looked) e ∙ ap (λ (t : List (List ℕ)). (decoded_in b style.bits t).looked) f in
+    rw (same, same') refl
+
+pub own_table : (b : Block) (ss : List (List ℕ)) → IsSound b → ss ≡ groups b.style.bits b.pieces
+    → map (sent_by_looks b.style.bits b.passes ss (decoded_in b b.style.bits ss).looked) (range_with_len 0 (b.passes + 1))
+    ≡ map (sent_by_looks b.style.bits b.passes (own_segments b) (own_looked b)) (range_with_len 0 (b.passes + 1))
+own_table b ss sound e =
+    let same : ss ≡ own_segments b = e ∙ sym (segments_are b.style.bits 0 b.passes b.pieces sound.pieces) in
+    rw same refl

@@ -1,15 +1,21 @@
+pub mod AnewLemmas
+pub mod AnewParts
 pub mod CleanLemmas
+pub mod CoefLemmas
 pub mod CopyLemmas
 pub mod CutLemmas
 pub mod DecideLemmas
 pub mod DropLemmas
 pub mod EndLemmas
+pub mod FewLemmas
 pub mod GroupLemmas
 pub mod GrowLemmas
-pub mod KeptJobs
 pub mod KeptLemmas
 pub mod LawLemmas
+pub mod LengthLemmas
 pub mod LookedLemmas
+pub mod MadeJobs
+pub mod NewParts
 pub mod OwnBytes
 pub mod OwnLemmas
 pub mod PartLemmas
@@ -20,3 +26,4 @@ pub mod SentLemmas
 pub mod SoundLemmas
 pub mod TestLemmas
 pub mod WithinLemmas
+pub mod WrittenLemmas

@@ -58,14 +58,14 @@ drop_past (s ∷ ss) zero le = absurd (omega arith)
 drop_past (s ∷ ss) (suc a) le = drop_past ss a (omega arith)
 
 -- ---- what is sent of a block with these segments
-record Sends (style passes : ℕ) (ss : List (List ℕ)) (sent : ℕ → ℕ) : Type 0 where
-  cut : (n : ℕ) → n < passes → end_pass style (n - 1) ≡ true → sent n ≡ bytes_before ss (ends_below style n)
-  all : sent passes ≡ bytes_before ss (length ss)
-  none : sent 0 ≡ 0
-  grows : (n m : ℕ) → n ≤ m → m ≤ passes → IsInOneSegment style n (m - n) → sent n ≤ sent m
-  long : 1 ≤ passes → length ss ≡ ends_below style (passes - 1) + 1
+pub record Sends (style passes : ℕ) (ss : List (List ℕ)) (sent : ℕ → ℕ) : Type 0 where
+  pub cut : (n : ℕ) → n < passes → end_pass style (n - 1) ≡ true → sent n ≡ bytes_before ss (ends_below style n)
+  pub all : sent passes ≡ bytes_before ss (length ss)
+  pub none : sent 0 ≡ 0
+  pub grows : (n m : ℕ) → n ≤ m → m ≤ passes → IsInOneSegment style n (m - n) → sent n ≤ sent m
+  pub long : 1 ≤ passes → length ss ≡ ends_below style (passes - 1) + 1
 
-abbrev HaveBytes : (ℕ → ℕ) → List ℕ → List PieceValue → Type 0
+abbrev pub HaveBytes : (ℕ → ℕ) → List ℕ → List PieceValue → Type 0
 HaveBytes sent bytes [] = Unit {0}
 HaveBytes sent bytes (p ∷ ps) = (p.bytes ≡ take (sent (p.first + p.passes) - sent p.first) (drop (sent p.first) bytes)) × HaveBytes sent bytes ps
 
@@ -156,7 +156,7 @@ module _ (style passes : ℕ) (ss : List (List ℕ)) (sent : ℕ → ℕ) (sends
             ∙ ap (λ (s : List ℕ). groups_left style s (q ∷ ps)) now ∙ again ∙ ap (λ (k : ℕ). drop k ss) same
       ]
 
-  regroup : (layer : ℕ) (ps : List PieceValue) → ArePieces style layer 0 passes ps → HaveBytes sent (concat ss) ps → (passes ≡ 0 → ss ≡ []) → groups style ps ≡ ss
+  pub regroup : (layer : ℕ) (ps : List PieceValue) → ArePieces style layer 0 passes ps → HaveBytes sent (concat ss) ps → (passes ≡ 0 → ss ≡ []) → groups style ps ≡ ss
   regroup layer [] are have none_at = sym (none_at (sym are))
   regroup layer (p ∷ ps) are have none_at =
       let start : sent 0 - 0 ≡ 0 = omega (arith, sends.none) in
@@ -169,7 +169,7 @@ layer_have : (sent : ℕ → ℕ) (bytes : List ℕ) (layer first : ℕ) (runs :
 layer_have sent bytes layer first [] rest have = have
 layer_have sent bytes layer first (run ∷ runs) rest have = (refl, layer_have sent bytes layer (first + run) runs rest have)
 
-parts_have : (style : ℕ) (sent : ℕ → ℕ) (bytes : List ℕ) (first : ℕ) (ends : List LayerEnd) → HaveBytes sent bytes (map (piece_of bytes) (parts_after style sent first ends))
+pub parts_have : (style : ℕ) (sent : ℕ → ℕ) (bytes : List ℕ) (first : ℕ) (ends : List LayerEnd) → HaveBytes sent bytes (map (piece_of bytes) (parts_after style sent first ends))
 parts_have style sent bytes first [] = tt
 parts_have style sent bytes first (e ∷ ends) =
     subst (λ (ps : List PieceValue). HaveBytes sent bytes ps)

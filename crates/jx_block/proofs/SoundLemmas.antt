@@ -64,7 +64,7 @@ part_clean from to bytes h = elim (cases_lt from to) [
   | inr ge ↦ let z : to - from ≡ 0 = omega arith in subst (λ (n : ℕ). HasNoMarker 0 (take n (drop from bytes))) (sym z) none_clean
 ]
 
-abbrev Clean : ℕ → (ℕ → ℕ) → List ℕ → Type 0
+abbrev pub Clean : ℕ → (ℕ → ℕ) → List ℕ → Type 0
 Clean all sent bytes = (n : ℕ) → n ≤ all → HasNoMarker 0 (take (sent n) bytes)
 
 -- ---- the parts of a layer, and those after it
@@ -94,7 +94,7 @@ lower style below layer first all (p ∷ ps) le are =
     let at : layer ≤ p.layer = are.0.layers in
     (record { layers = omega arith; begins = are.0.begins; some = are.0.some; segment = are.0.segment; markers = are.0.markers }, are.1)
 
-parts_sound : (style all : ℕ) (sent : ℕ → ℕ) (bytes : List ℕ) (layer first : ℕ) (ends : List LayerEnd) → Clean all sent bytes → AreEnds layer first all ends
+pub parts_sound : (style all : ℕ) (sent : ℕ → ℕ) (bytes : List ℕ) (layer first : ℕ) (ends : List LayerEnd) → Clean all sent bytes → AreEnds layer first all ends
     → ArePieces style layer first all (map (piece_of bytes) (parts_after style sent first ends))
 parts_sound style all sent bytes layer first [] clean are = are
 parts_sound style all sent bytes layer first (e ∷ ends) clean are =
@@ -115,7 +115,7 @@ parts_sound style all sent bytes layer first (e ∷ ends) clean are =
     (map (piece_of bytes) (layer_parts sent e.layer first (cut style first (e.passes - first))) ++ map (piece_of bytes) (parts_after style sent e.passes ends)) at here)
 
 -- ---- what is sent of a kept block is clean
-looks_clean : (style passes : ℕ) (ss : List (List ℕ)) (looked : List ℕ) → AllClean ss → AreFew style ss looked → Clean passes (sent_by_looks style passes ss looked) (concat ss)
+pub looks_clean : (style passes : ℕ) (ss : List (List ℕ)) (looked : List ℕ) → AllClean ss → AreFew style ss looked → Clean passes (sent_by_looks style passes ss looked) (concat ss)
 looks_clean style passes ss looked all few n le =
     let P : ℕ → Type 0 = λ k. HasNoMarker 0 (take k (concat ss)) in
     let whole : (k : ℕ) → P (bytes_before ss k) = λ (k : ℕ).

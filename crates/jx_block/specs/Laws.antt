@@ -1,10 +1,15 @@
--- Pieces as packets cut them (ITU-T T.800, B.10.7), and parts within bytes.
-use Rattle.std.specs.Prelude.{◌≡◌, ◌≤◌, ℕ, ◌+◌, ◌-◌, ◌==◌, nat_lt, true, List, [], ◌∷◌, map, if◌then◌else◌}
+-- Pieces as packets cut them (ITU-T T.800, B.10.7), parts within bytes, and a block's first passes.
+use Rattle.std.specs.Prelude.{◌≡◌, ◌⊎◌, ◌≤◌, ◌%◌, ℕ, ◌+◌, ◌-◌, ◌==◌, nat_lt, true, List, [], ◌∷◌, map, if◌then◌else◌}
 use Rattle.std.specs.List.{filter}
-use Rattle.jx_base.specs.Passes.{end_pass}
+use Rattle.jx_base.specs.declared.pieces.Block.{Block}
+use Rattle.jx_base.specs.declared.style.Style.{Style}
+use Rattle.jx_base.specs.Passes.{end_pass, is_causal}
 use Rattle.jx_base.specs.Pieces.{PieceValue}
+use Rattle.jx_base.specs.Places.{length_of}
+use Rattle.jx_grid.specs.Reading.{Decoding, decoded}
 use Rattle.jx_head.specs.Parts.{cut}
 use Rattle.jx_block.specs.declared.OutPart.{OutPart}
+use Rattle.jx_block.specs.Recoding.{coding_in}
 
 -- a piece that is followed by one of its own layer ends a segment
 abbrev pub AreCutAtEnds : ℕ → List PieceValue → Type 0
@@ -30,3 +35,11 @@ AreCutInLayers style pieces =
 pub record IsWithin (length : ℕ) (p : OutPart) : Type 0 where
   pub order : p.from ≤ p.to
   pub inside : p.to ≤ length
+
+-- what a block's first passes decode to, from segments in a style
+abbrev pub decoded_first : Block → ℕ → List (List ℕ) → ℕ → Decoding
+decoded_first b style segments first = decoded (length_of b.rect.x) (length_of b.rect.y) (coding_in b style) segments first
+
+-- where the first passes keep their coefficients too: the causal bit stays, or they are whole planes of whole planes (D.7)
+abbrev pub KeepsFirst : Block → Style → ℕ → Type 0
+KeepsFirst b style first = (is_causal style.bits ≡ is_causal b.style.bits) ⊎ ((b.passes % 3 ≡ 1) × (first % 3 ≡ 1))

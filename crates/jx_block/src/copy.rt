@@ -59,3 +59,18 @@ pub(crate) fn append_bytes(
     }
     result
 }
+
+/// Appends the bytes from a place up to another. After an `Err` `out` has the bytes that it had.
+pub(crate) fn append_within(
+    bytes: &[u8],
+    from: u32,
+    to: u32,
+    out: &mut Vec<u8>,
+) -> Result<(), NoMemory>
+    ensures ok { OnOk result (out.new.items ≡ out.old.items ++ take (to - from) (drop from bytes.now)) }
+    ensures err { OnErr result (out.new.items ≡ out.old.items) }
+    ensures room { OnErr result (vec_capacity out.old < vec_len out.old + length (take (to - from) (drop from bytes.now))) }
+{
+    copy_some(bytes, from as usize, to.saturating_sub(from) as usize, out)?;
+    Ok(())
+}

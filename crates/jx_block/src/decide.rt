@@ -8,13 +8,14 @@ ghost use Rattle.jx_block.specs.Recoding.{parts_after, sent_in, own_segments, ha
 ghost use Rattle.jx_block.specs.Groups.{groups};
 ghost use Rattle.jx_block.specs.Segments.{sent_by_looks, sent_by_pieces};
 
+use crate::looks::looked_in;
 use crate::own::{all_cut, all_noted, own_ends};
 use crate::parts::all_parts;
 use crate::segments::{goes_on, joined, segments_apart, segments_in};
-use crate::sent::{by_looks, by_pieces};
+use crate::sent::by_pieces;
 use crate::{LayerEnd, OutPart};
 use jx_base::{Block, NoMemory};
-use jx_passdec::{Coded, Segments, decode_passes};
+use jx_grid::Segments;
 use std::alloc::Global;
 
 /// Whether each end is a pass at which a layer of the input ended.
@@ -27,35 +28,7 @@ fn has_own_ends(alloc: Global, block: &Block<'_>, ends: &[LayerEnd]) -> Result<b
 }
 
 /// How many bytes of a block are sent by the end of each number of passes, where those are that the
-/// decoder looked at in these segments, which are the block's own.
-fn looked_in(alloc: Global, block: &Block<'_>, segments: Segments<'_>) -> Result<Vec<u32>, NoMemory>
-    requires sound { IsSound block.now }
-    requires some { 1 ≤ block.now.passes }
-    requires own { segments ≡ groups block.now.style.bits block.now.pieces }
-    ensures { let segments = own_segments block.now in
-        IfOk result (λ table. table.items ≡ map (sent_by_looks block.now.style.bits block.now.passes segments
-        (decoded_in block.now block.now.style.bits segments).looked) (range_with_len 0 (block.now.passes + 1))) }
-{
-    let coded = Coded {
-        band: block.name.band,
-        style: block.style,
-        planes: block.planes - block.zero,
-        passes: block.passes,
-        segments,
-    };
-    let wide = block.rect.x.len() as u16;
-    let high = block.rect.y.len() as u16;
-    let decoded = decode_passes(alloc, wide, high, &coded)?;
-    by_looks(
-        alloc,
-        block.style,
-        block.passes,
-        coded.segments.as_slice(),
-        &decoded.looked,
-    )
-}
-
-/// The same of the block alone. Where each segment is one piece no byte is copied.
+/// decoder looked at in its own segments. Where each segment is one piece no byte is copied.
 fn looked_at(alloc: Global, block: &Block<'_>) -> Result<Vec<u32>, NoMemory>
     requires sound { IsSound block.now }
     requires some { 1 ≤ block.now.passes }
@@ -66,11 +39,27 @@ fn looked_at(alloc: Global, block: &Block<'_>) -> Result<Vec<u32>, NoMemory>
     let pieces = block.pieces.as_slice();
     if !goes_on(block.style, pieces) {
         let segments = segments_apart(alloc, block.style, pieces)?;
-        return looked_in(alloc, block, segments);
+        return own_looked(alloc, block, segments);
     }
     let whole = joined(alloc, pieces)?;
     let segments = segments_in(alloc, block.style, pieces, &whole)?;
-    looked_in(alloc, block, segments)
+    own_looked(alloc, block, segments)
+}
+
+/// The same from segments that are the block's own.
+fn own_looked(
+    alloc: Global,
+    block: &Block<'_>,
+    segments: Segments<'_>,
+) -> Result<Vec<u32>, NoMemory>
+    requires sound { IsSound block.now }
+    requires some { 1 ≤ block.now.passes }
+    requires own { segments ≡ groups block.now.style.bits block.now.pieces }
+    ensures { let segments = own_segments block.now in
+        IfOk result (λ table. table.items ≡ map (sent_by_looks block.now.style.bits block.now.passes segments
+        (decoded_in block.now block.now.style.bits segments).looked) (range_with_len 0 (block.now.passes + 1))) }
+{
+    looked_in(alloc, block, block.style, segments)
 }
 
 /// The parts, where as many bytes are sent as the pieces have.

@@ -1,13 +1,16 @@
 //! Laws on what becomes of a block, over the definitions alone.
 
-ghost use Rattle.std.specs.Prelude.{◌≡◌, ℕ, List, All, length, Some, None};
+ghost use Rattle.std.specs.Prelude.{◌≡◌, ◌≢◌, ◌≤◌, ◌^◌, ℕ, true, List, All, length, Some, None};
 ghost use Rattle.jx_base.specs.declared.pieces.Block.{Block};
+ghost use Rattle.jx_base.specs.declared.style.Style.{Style};
 ghost use Rattle.jx_base.specs.Pieces.{ArePieces, PieceValue};
 ghost use Rattle.jx_base.specs.Sound.{IsSound};
 ghost use Rattle.jx_block.specs.declared.LayerEnd.{LayerEnd};
 ghost use Rattle.jx_block.specs.Jobs.{IsAsked};
-ghost use Rattle.jx_block.specs.Laws.{AreCutAtEnds, AreCutInLayers, IsWithin};
-ghost use Rattle.jx_block.specs.Recoding.{Recoding, layer_ends, own_segments, pieces_of, recoding};
+ghost use Rattle.jx_block.specs.Laws.{AreCutAtEnds, AreCutInLayers, IsWithin, KeepsFirst, decoded_first};
+ghost use Rattle.jx_block.specs.Recoded.{is_bad, recoding_in};
+ghost use Rattle.jx_block.specs.declared.job.Job.{Job};
+ghost use Rattle.jx_block.specs.Recoding.{Recoding, decoded_in, layer_ends, new_segments, own_segments, pieces_of, recoding, wrong_in};
 ghost use Rattle.jx_block.specs.Segments.{segments_of};
 
 /// A sound block may be kept in the layers that it has.
@@ -53,4 +56,66 @@ pub fn kept_is_sound()
 pub fn kept_has_its_segments()
     ensures { (b : Block) → (ends : List LayerEnd) → (r : Recoding) → IsAsked b None ends → Some r ≡ recoding b None ends →
         segments_of b.style.bits b.passes (pieces_of r) ≡ own_segments b }
+{}
+
+/// Each part of a block that is coded anew lies within the new bytes.
+pub fn new_parts_lie_in_the_bytes()
+    ensures { (b : Block) → (style : Style) → (ends : List LayerEnd) → (r : Recoding) → IsAsked b (Some style) ends →
+        Some r ≡ recoding b (Some style) ends → All (IsWithin (length r.bytes)) r.parts }
+{}
+
+/// The parts of a block that is coded anew are pieces of a sound block with its passes, in the style and
+/// the layers that were asked.
+#[tactic(auto, using(crate::proofs::AnewParts::anew_sound))]
+pub fn coded_anew_is_sound()
+    ensures { (b : Block) → (style : Style) → (ends : List LayerEnd) → (r : Recoding) → IsAsked b (Some style) ends →
+        Some r ≡ recoding b (Some style) ends → ArePieces style.bits 0 0 b.passes (pieces_of r) }
+{}
+
+/// A block that is coded anew has the segments of its coefficients in the style that was asked, whatever
+/// the layers.
+#[tactic(auto, using(crate::proofs::AnewLemmas::new_are, crate::proofs::AnewParts::anew_segments))]
+pub fn coded_anew_has_new_segments()
+    ensures { (b : Block) → (style : Style) → (ends : List LayerEnd) → (r : Recoding) → IsAsked b (Some style) ends →
+        Some r ≡ recoding b (Some style) ends → Some (segments_of style.bits b.passes (pieces_of r)) ≡ new_segments b (Some style) }
+{}
+
+/// A block that is coded anew keeps its coefficients: its new segments decode to what its own decode to,
+/// place by place, with the same passes and zero planes, and each segmentation symbol is right. The same
+/// holds of the first passes, where the causal bit stays or these are whole planes of whole planes.
+pub fn coded_anew_keeps_coefficients()
+    ensures cells { (b : Block) → (style : Style) → (ends : List LayerEnd) → (r : Recoding) → IsAsked b (Some style) ends →
+        Some r ≡ recoding b (Some style) ends →
+        (decoded_in b style.bits (segments_of style.bits b.passes (pieces_of r))).cells ≡ (decoded_in b b.style.bits (own_segments b)).cells }
+    ensures right { (b : Block) → (style : Style) → (ends : List LayerEnd) → (r : Recoding) → IsAsked b (Some style) ends →
+        Some r ≡ recoding b (Some style) ends →
+        (decoded_in b style.bits (segments_of style.bits b.passes (pieces_of r))).wrong ≡ None }
+    ensures first { (b : Block) → (style : Style) → (ends : List LayerEnd) → (r : Recoding) → (first : ℕ) → IsAsked b (Some style) ends →
+        Some r ≡ recoding b (Some style) ends → first ≤ b.passes → KeepsFirst b style first →
+        (decoded_first b style.bits (segments_of style.bits b.passes (pieces_of r)) first).cells ≡ (decoded_first b b.style.bits (own_segments b) first).cells }
+{
+    jx_passenc::laws::written_is_read_back();
+    jx_passenc::laws::decoded_fits();
+    jx_passenc::laws::recoding_keeps_coefficients();
+    jx_passenc::laws::recoding_keeps_whole_planes();
+}
+
+/// Nothing is made of a block exactly where it is to be coded anew and one of its segmentation symbols is
+/// wrong; a block that keeps its segments isn't decoded for them.
+pub fn nothing_of_wrong_symbols()
+    ensures kept { (b : Block) → (ends : List LayerEnd) → recoding b None ends ≢ None }
+    ensures right { (b : Block) → (style : Style) → (ends : List LayerEnd) → wrong_in b ≡ None → recoding b (Some style) ends ≢ None }
+    ensures wrong { (b : Block) → (style : Style) → (ends : List LayerEnd) → wrong_in b ≢ None → recoding b (Some style) ends ≡ None }
+{}
+
+/// A block that is coded anew has at most 2^28 bytes, as each block of a file.
+pub fn new_bytes_are_few()
+    ensures { (b : Block) → (style : Style) → (ends : List LayerEnd) → (r : Recoding) → IsAsked b (Some style) ends →
+        Some r ≡ recoding b (Some style) ends → length r.bytes ≤ 2 ^ 28 }
+{}
+
+/// A job is bad exactly where nothing can be made of it.
+pub fn bad_is_nothing()
+    ensures bad { (j : Job) → is_bad j ≡ true → recoding_in j ≡ None }
+    ensures nothing { (j : Job) → recoding_in j ≡ None → is_bad j ≡ true }
 {}

@@ -2,20 +2,26 @@
 //! each layer has (ITU-T T.800, B.10 and Annex D).
 #![tactic(auto)]
 
+mod anew;
 mod copy;
 mod decide;
 mod ends;
+mod faults;
 mod job;
 pub mod laws;
+mod looks;
 mod own;
 mod parts;
 mod recoded;
 mod segments;
 mod sent;
 #[cfg(test)]
+mod style_tests;
+#[cfg(test)]
 mod tests;
 
 pub use ends::Ends;
+pub use faults::BlockFault;
 pub use job::Job;
 pub use recoded::{Recoded, recode};
 

@@ -1,50 +1,103 @@
 //! A block as it is written.
 
-ghost use Rattle.std.specs.Prelude.{All, ◌≡◌, ◌<◌, ◌+◌, ◌++◌, length, vec_len, vec_capacity, None, Some, IfOk, OnOk, OnErr};
+ghost use Rattle.std.specs.Prelude.{All, ◌≡◌, ◌≤◌, ◌<◌, ◌+◌, ◌++◌, ◌^◌, length, vec_len, vec_capacity, None, Some, IfOk, IfErr, OnOk, OnErr};
 ghost use Rattle.jx_base.specs.Pieces.{ArePieces};
 ghost use Rattle.jx_block.specs.Jobs.{IsAsked};
 ghost use Rattle.jx_block.specs.Laws.{IsWithin};
 ghost use Rattle.jx_block.specs.Recoding.{part_bytes, pieces_of};
-ghost use Rattle.jx_block.specs.Recoded.{recoding_in, is_bad};
+ghost use Rattle.jx_block.specs.Recoded.{recoding_in, is_bad, HasCause};
 
-use crate::copy::append_bytes;
+use crate::anew::{all_bytes, own_cells, parts_of as parts_anew};
+use crate::copy::{append_bytes, append_within};
 use crate::decide::parts_of;
-use crate::{Job, OutPart};
-use jx_base::NoMemory;
+use crate::{BlockFault, Job, OutPart};
+use jx_base::{NoMemory, Style};
+use jx_passenc::encode_passes;
 use jx_store::{Claim, Work};
 use std::alloc::Global;
 use std::marker::Model;
 
 /// A block as it is written: what is asked of it by its job. A block that keeps its segments copies none
-/// of their bytes.
+/// of their bytes; one that is coded anew has its own.
 #[derive(Drop)]
 pub struct Recoded<'a> {
     job: &'a Job<'a>,
+    /// The bytes of the new segments; none where the block keeps its own.
+    bytes: Vec<u8>,
     parts: Vec<OutPart>,
 }
 
 impl<'a> Model for Recoded<'a> {
-    ghost use Rattle.jx_block.specs.Recoded.{WrittenBlock, kept_recoding, IsKept};
+    ghost use Rattle.jx_block.specs.Recoded.{WrittenBlock, made_recoding, IsMade};
 
     ghost Value = { WrittenBlock };
 
-    ghost view = { λ r. record { job = r.job.now; recoding = kept_recoding r.job.now r.parts.items } };
+    ghost view = { λ r. record { job = r.job.now; recoding = made_recoding r.job.now r.bytes.items r.parts.items } };
 
-    ghost invariant = { λ r. IsKept r.job.now r.parts.items };
+    ghost invariant = { λ r. IsMade r.job.now r.bytes.items r.parts.items };
 }
 
-/// Makes of a block what its job asks for. Until blocks are coded anew, no style may be asked.
-pub fn recode<'a>(alloc: Global, claim: &Claim, job: &'a Job<'a>) -> Result<Recoded<'a>, NoMemory>
-    requires number { claim.now.number ≡ job.now.number }
+/// A block that keeps its segments.
+fn keep<'a>(alloc: Global, job: &'a Job<'a>) -> Result<Recoded<'a>, NoMemory>
     requires asked { IsAsked job.now.block.now job.now.style job.now.ends }
     requires kept { job.now.style ≡ None }
     ensures job { IfOk result (λ r. r.job ≡ job.now) }
     ensures recoding { IfOk result (λ r. Some r.recoding ≡ recoding_in job.now) }
 {
+    let bytes = Vec::new(alloc);
+    let parts = parts_of(alloc, job.block, job.ends.as_slice())?;
+    Ok(Recoded { job, bytes, parts })
+}
+
+/// A block without passes, which has no segments in any style.
+fn nothing<'a>(alloc: Global, job: &'a Job<'a>) -> Recoded<'a>
+    requires asked { IsAsked job.now.block.now job.now.style job.now.ends }
+    requires none { job.now.block.now.passes ≡ 0 }
+    ensures job { result.job ≡ job.now }
+    ensures recoding { Some result.recoding ≡ recoding_in job.now }
+{
+    Recoded {
+        job,
+        bytes: Vec::new(alloc),
+        parts: Vec::new(alloc),
+    }
+}
+
+/// A block of which a style is asked.
+fn code_anew<'a>(alloc: Global, job: &'a Job<'a>, style: Style) -> Result<Recoded<'a>, BlockFault>
+    requires asked { IsAsked job.now.block.now job.now.style job.now.ends }
+    requires style { job.now.style ≡ Some style }
+    ensures job { IfOk result (λ r. r.job ≡ job.now) }
+    ensures recoding { IfOk result (λ r. Some r.recoding ≡ recoding_in job.now) }
+    ensures bad { IfErr result (λ e. HasCause job.now e) }
+{
+    let block = job.block;
+    if block.passes == 0 {
+        return Ok(nothing(alloc, job));
+    }
+    let grid = own_cells(alloc, job)?;
+    let planes = block.planes - block.zero;
+    let lists = encode_passes(alloc, &grid, block.name.band, style, planes, block.passes)?;
+    let bytes = all_bytes(alloc, &lists)?;
+    let parts = parts_anew(alloc, block, style, job.ends.as_slice(), &lists)?;
+    Ok(Recoded { job, bytes, parts })
+}
+
+/// Makes of a block what its job asks for. It is refused with the job's number where a style is asked
+/// and a segmentation symbol of the block is wrong (T.800 D.5), and else for want of memory alone.
+pub fn recode<'a>(alloc: Global, claim: &Claim, job: &'a Job<'a>) -> Result<Recoded<'a>, BlockFault>
+    requires number { claim.now.number ≡ job.now.number }
+    requires asked { IsAsked job.now.block.now job.now.style job.now.ends }
+    ensures job { IfOk result (λ r. r.job ≡ job.now) }
+    ensures recoding { IfOk result (λ r. Some r.recoding ≡ recoding_in job.now) }
+    ensures bad { IfErr result (λ e. HasCause job.now e) }
+{
     // Only the contract speaks of it.
     let _ = claim;
-    let parts = parts_of(alloc, job.block, job.ends.as_slice())?;
-    Ok(Recoded { job, parts })
+    match job.style {
+        None => Ok(keep(alloc, job)?),
+        Some(style) => code_anew(alloc, job, style),
+    }
 }
 
 impl<'a> Recoded<'a> {
@@ -56,11 +109,12 @@ impl<'a> Recoded<'a> {
         self.job
     }
 
-    /// The parts of the layers, in their order. Their places are those of the block's bytes, within which
-    /// they lie. As pieces they are again those of a sound block.
+    /// The parts of the layers, in their order. Their places are those of the block's bytes, at most 2^28,
+    /// within which they lie. As pieces they are again those of a sound block.
     pub fn parts(&self) -> &[OutPart]
         ensures value { result.now ≡ self.now.recoding.parts }
         ensures recoding { Some self.now.recoding ≡ recoding_in self.now.job }
+        ensures few { length self.now.recoding.bytes ≤ 2 ^ 28 }
         ensures within { All (IsWithin (length self.now.recoding.bytes)) result.now }
         ensures sound { ArePieces self.now.recoding.style 0 0 self.now.job.block.now.passes (pieces_of self.now.recoding) }
     {
@@ -74,7 +128,10 @@ impl<'a> Recoded<'a> {
         ensures err { OnErr result (out.new.items ≡ out.old.items) }
         ensures room { OnErr result (vec_capacity out.old < vec_len out.old + length (part_bytes self.now.recoding.bytes part.now)) }
     {
-        append_bytes(self.job.block.pieces.as_slice(), part.from, part.to, out)
+        match self.job.style {
+            None => append_bytes(self.job.block.pieces.as_slice(), part.from, part.to, out),
+            Some(_) => append_within(&self.bytes, part.from, part.to, out),
+        }
     }
 }
 

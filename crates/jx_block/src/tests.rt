@@ -111,7 +111,7 @@ fn in_two(alloc: Global, passes: u16) -> Result<Ends, NoMemory>
 }
 
 /// Keeps a block in these layers. It gives the parts, and their bytes one behind another.
-fn keep(alloc: Global, block: &Block<'_>, ends: Ends) -> Result<(Vec<OutPart>, Vec<u8>), NoMemory>
+fn keep(alloc: Global, block: &Block<'_>, ends: Ends) -> Result<(Vec<OutPart>, Vec<u8>), BlockFault>
     requires sound { IsSound block.now }
     requires ends { AreEnds 0 0 block.now.passes ends }
 {

@@ -2,10 +2,12 @@
 //!
 //! [`Files`] and [`Sink`] state what each call does, when it may be refused, and what a refusal
 //! leaves. [`StdFiles`] and [`StdSink`] stand on the system, [`MemFiles`] and [`MemSink`] keep all
-//! in memory and fail as planned, and [`SureFiles`] and [`SureSink`] never fail.
+//! in memory and fail as planned, and [`SureFiles`] and [`SureSink`] never fail. [`Gate`] is told of the
+//! blocks that workers have in hand.
 #![tactic(auto)]
 
 mod files;
+mod gate;
 mod memory;
 mod output;
 mod plan;
@@ -17,6 +19,7 @@ mod store;
 mod sure;
 
 pub use files::Files;
+pub use gate::{Gate, NoGate};
 pub use memory::MemFiles;
 pub use plan::Call;
 pub use real::{StdFiles, StdSink};

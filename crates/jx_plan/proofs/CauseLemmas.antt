@@ -1,20 +1,26 @@
 -- Of a rule and a stream there is one answer: a plan or one cause.
-use Rattle.std.proofs.Common.{◌≡◌, ◌<◌, ◌∙◌, sym, subst, refl, arith, ℕ, List, length, inl, inr, slice_index_or, Option, None, Some}
+use Rattle.std.proofs.Common.{◌≡◌, ◌<◌, ◌≤◌, ◌∙◌, ap, sym, subst, refl, arith, ℕ, List, length, inl, inr, slice_index_or, Option, None, Some}
 use Rattle.std.specs.List.{slice_get}
 use Rattle.std.proofs.lemmas.Bool.{cases_lt}
 use Rattle.std.proofs.lemmas.Option.{slice_get-get_or, slice_get_within}
 use Rattle.jx_base.specs.declared.pieces.Block.{Block}
 use Rattle.jx_stream.specs.declared.Stream.{Stream}
+use Rattle.jx_stream.specs.First.{tile_number}
 use Rattle.jx_gather.specs.Totals.{packet_total}
 use Rattle.jx_block.specs.declared.job.Job.{Job}
-use Rattle.jx_plan.specs.declared.Marks.{Marks}
+use Rattle.jx_plan.specs.declared.PartChoice.{PartChoice}
 use Rattle.jx_plan.specs.declared.faults.PlanFault.{PlanFault}
 use Rattle.jx_plan.specs.declared.faults.PlanFault.TheVariants as fault
 use Rattle.jx_plan.specs.Crowded.{IsCrowded, IsLowestCrowded}
+use Rattle.jx_plan.specs.Fits.{AreUnfit, Fits, IsUnfit}
+use Rattle.jx_plan.specs.Groups.{HasFewParts, IsPartedAt}
+use Rattle.jx_plan.specs.KeptFault.{HasManyPartsAt, IsFree, PassesPackets}
 use Rattle.jx_plan.specs.Layers.{AreJobs, HasMany, layer_at}
-use Rattle.jx_plan.specs.Plan.{IsPlan, Plan, headers_of}
-use Rattle.jx_plan.specs.Planned.{HasPlanCause, IsPlanned, packets_by}
+use Rattle.jx_plan.specs.Plan.{IsPlan, Plan, asked_of, headers_of, headers_with, most_packets}
+use Rattle.jx_plan.specs.Planned.{HasPlanCause, IsPlanned, LacksPlan, layers_of_rule}
 use Rattle.jx_plan.specs.Rule.{Rule}
+use Rattle.jx_plan.specs.Wanted.{Wanted}
+use Rattle.jx_plan.proofs.KeptLemmas.{same_tiles}
 use Rattle.jx_plan.proofs.OneLemmas.{one_ends}
 
 module _ (r : Rule) (layers : ℕ) (blocks : List Block) (xs ys : List Job) (ax : AreJobs r layers blocks xs) (ay : AreJobs r layers blocks ys) where
@@ -44,34 +50,141 @@ one_lowest r layers blocks xs ys ax ay i k hx hy = elim (cases_lt i k) [
   ]
 ]
 
-same_choice : (a b c d : ℕ) → a ≡ b → c ≡ d → ◌≡◌ {A = PlanFault} (fault.Choice a c) (fault.Choice b d)
+pub same_choice : (a b c d : ℕ) → a ≡ b → c ≡ d → ◌≡◌ {A = PlanFault} (fault.Choice a c) (fault.Choice b d)
 same_choice a b c d e h = rw (e, h) refl
 
-same_limit : (a b c d : ℕ) → a ≡ b → c ≡ d → ◌≡◌ {A = PlanFault} (fault.Limit a c) (fault.Limit b d)
+pub same_limit : (a b c d : ℕ) → a ≡ b → c ≡ d → ◌≡◌ {A = PlanFault} (fault.Limit a c) (fault.Limit b d)
 same_limit a b c d e h = rw (e, h) refl
 
-module _ (s : Stream) (blocks : List Block) (m : Marks) where
-  pub planned_or_not : (o : Option Rule) (p : Plan) (e : PlanFault) → IsPlan p → IsPlanned o s blocks m p → HasPlanCause o s blocks m e → e ≡ fault.NoMemory
-  planned_or_not None p e plan is cause = absurd is
-  planned_or_not (Some r) p (fault.Choice number place) plan is cause =
-      let at = cause.1 in
+-- ---- choices 3 and 2
+same_some : (o : Option ℕ) (c d : ℕ) → o ≡ Some c → o ≡ Some d → c ≡ d
+same_some o c d e h = cc
+
+none_some : (o : Option ℕ) (c : ℕ) → o ≡ Some c → o ≡ None → ⊥
+none_some o c e h = absurd (cc)
+
+module _ (s : Stream) (precincts : Option (List ℕ)) where
+  pub one_unfit : (a c b d : ℕ) → IsUnfit s precincts a c → IsUnfit s precincts b d → ◌≡◌ {A = PlanFault} (fault.Choice a c) (fault.Choice b d)
+  one_unfit a c b d (inl x) (inl y) = same_choice a b c d (x.0 ∙ sym y.0) (same_some _ c d x.1 y.1)
+  one_unfit a c b d (inl x) (inr y) = absurd (none_some _ c x.1 y.1.above)
+  one_unfit a c b d (inr x) (inl y) = absurd (none_some _ d y.1 x.1.above)
+  one_unfit a c b d (inr x) (inr y) = elim (cases_lt c d) [
+    | inl lt ↦ absurd (x.1.changed (y.1.lowest c lt))
+    | inr ge ↦ elim (cases_lt d c) [
+      | inl lt ↦ absurd (y.1.changed (x.1.lowest d lt))
+      | inr le ↦ same_choice a b c d (x.0 ∙ sym y.0) (omega arith)
+    ]
+  ]
+
+  pub unfit_fits : (a c : ℕ) → IsUnfit s precincts a c → Fits precincts s → ⊥
+  unfit_fits a c (inl x) fits = none_some _ c x.1 fits.above
+  unfit_fits a c (inr x) fits = x.1.changed (fits.blocks c x.1.inside)
+
+  are_unfit : (e : PlanFault) → (e ≡ fault.NoMemory → ⊥) → AreUnfit s precincts e → Fits precincts s → ⊥
+  are_unfit (fault.Choice a c) ne unfit fits = unfit_fits a c unfit fits
+  are_unfit (fault.Limit a c) ne unfit fits = unfit
+  are_unfit fault.NoMemory ne unfit fits = ne refl
+
+  unfit_same : (e f : PlanFault) → (e ≡ fault.NoMemory → ⊥) → (f ≡ fault.NoMemory → ⊥) → AreUnfit s precincts e → AreUnfit s precincts f → e ≡ f
+  unfit_same (fault.Choice a c) (fault.Choice b d) ne nf he hf = one_unfit a c b d he hf
+  unfit_same (fault.Choice a c) (fault.Limit b d) ne nf he hf = absurd hf
+  unfit_same (fault.Choice a c) fault.NoMemory ne nf he hf = absurd (nf refl)
+  unfit_same (fault.Limit a c) f ne nf he hf = absurd he
+  unfit_same fault.NoMemory f ne nf he hf = absurd (ne refl)
+
+-- ---- choice 5
+parted_few : (parts : PartChoice) (s : Stream) (c : ℕ) → IsPartedAt parts s c → HasFewParts parts s c → ⊥
+parted_few parts s c x few = omega (arith, x.many.many, few x.many.names x.many.order)
+
+pub one_parted : (parts : PartChoice) (s : Stream) (c d : ℕ) → IsPartedAt parts s c → IsPartedAt parts s d → c ≡ d
+one_parted parts s c d x y = elim (cases_lt c d) [
+  | inl lt ↦ absurd (parted_few parts s c x (y.lowest c lt))
+  | inr ge ↦ elim (cases_lt d c) [
+    | inl lt ↦ absurd (parted_few parts s d y (x.lowest d lt))
+    | inr le ↦ omega arith
+  ]
+]
+
+-- ---- nothing is in the way of a plan
+few_parts : (x y : Wanted) (s t : Stream) (n : ℕ) → x ≡ y → s ≡ t → HasFewParts x.parts s n → HasFewParts y.parts t n
+few_parts x y s t n e h few =
+    subst (λ (w : Wanted). HasFewParts w.parts t n) e (subst (λ (u : Stream). HasFewParts x.parts u n) h few)
+
+module _ (s : Stream) (w : Wanted) (layers : ℕ) where
+  pub plan_free : (p : Plan) → p.stream ≡ s → p.wanted ≡ w → p.layers ≡ layers → IsPlan p → IsFree s w layers
+  plan_free p stream wanted is plan =
+      let same : headers_of p ≡ headers_with w layers s = rw (wanted, is, stream) refl in
+      record {
+        fits = subst (λ (x : Wanted). Fits x.precincts s) wanted (subst (λ (x : Stream). Fits p.wanted.precincts x) stream plan.fits);
+        few = subst (λ (x : Stream). packet_total x ≤ most_packets) same plan.packets;
+        parts = λ t inside.
+            let there : t < tile_number p.stream.siz = omega (arith, inside, ap (λ (x : Stream). tile_number x.siz) stream) in
+            few_parts p.wanted w (headers_of p) (headers_with w layers s) t wanted same (plan.parts t there);
+      }
+
+  pub free_few : (found : ℕ) → IsFree s w layers → PassesPackets s w layers found → ⊥
+  free_few found free passes = omega (arith, free.few, passes.count, passes.many)
+
+  pub free_parts : (place : ℕ) → IsFree s w layers → HasManyPartsAt s w layers place → ⊥
+  free_parts place free many =
+      let inside : place < tile_number s.siz = omega (arith, many.many.inside, same_tiles (asked_of w layers) s) in
+      parted_few w.parts (headers_with w layers s) place many.many (free.parts place inside)
+
+  pub few_many : (place found : ℕ) → HasManyPartsAt s w layers place → PassesPackets s w layers found → ⊥
+  few_many place found parts passes = omega (arith, parts.few, passes.count, passes.many)
+
+-- ---- one answer
+module _ (s : Stream) (blocks : List Block) (w : Wanted) where
+  lacks_fits : (o : Option Rule) (e : PlanFault) → (e ≡ fault.NoMemory → ⊥) → LacksPlan o s blocks w e → Fits w.precincts s
+  lacks_fits None e ne h = h.0
+  lacks_fits (Some r) (fault.Choice a c) ne (inl h) = h.1.fits
+  lacks_fits (Some r) (fault.Choice a c) ne (inr h) = h.1.many.fits
+  lacks_fits (Some r) (fault.Limit a c) ne h = h.1.fits
+  lacks_fits (Some r) fault.NoMemory ne h = absurd (ne refl)
+
+  lacks_same : (o : Option Rule) (e f : PlanFault) → (e ≡ fault.NoMemory → ⊥) → (f ≡ fault.NoMemory → ⊥) → LacksPlan o s blocks w e → LacksPlan o s blocks w f → e ≡ f
+  lacks_same None e f ne nf he hf = he.1 ∙ sym hf.1
+  lacks_same (Some r) fault.NoMemory f ne nf he hf = absurd (ne refl)
+  lacks_same (Some r) (fault.Choice a c) fault.NoMemory ne nf he hf = absurd (nf refl)
+  lacks_same (Some r) (fault.Limit a c) fault.NoMemory ne nf he hf = absurd (nf refl)
+  lacks_same (Some r) (fault.Choice a c) (fault.Choice b d) ne nf (inl x) (inl y) =
+      same_choice a b c d (x.0 ∙ sym y.0) (one_lowest r _ blocks x.1.jobs y.1.jobs x.1.jobs_are y.1.jobs_are c d x.1.lowest y.1.lowest)
+  lacks_same (Some r) (fault.Choice a c) (fault.Choice b d) ne nf (inl x) (inr y) =
+      absurd (y.1.uncrowded c (crowded_too r _ blocks x.1.jobs y.1.jobs x.1.jobs_are y.1.jobs_are c x.1.lowest.0))
+  lacks_same (Some r) (fault.Choice a c) (fault.Choice b d) ne nf (inr x) (inl y) =
+      absurd (x.1.uncrowded d (crowded_too r _ blocks y.1.jobs x.1.jobs y.1.jobs_are x.1.jobs_are d y.1.lowest.0))
+  lacks_same (Some r) (fault.Choice a c) (fault.Choice b d) ne nf (inr x) (inr y) =
+      same_choice a b c d (x.0 ∙ sym y.0) (one_parted w.parts _ c d x.1.many.many y.1.many.many)
+  lacks_same (Some r) (fault.Choice a c) (fault.Limit b d) ne nf (inl x) hf = absurd (omega (arith, x.1.few, hf.1.count, hf.1.many))
+  lacks_same (Some r) (fault.Choice a c) (fault.Limit b d) ne nf (inr x) hf = absurd (few_many s w _ c d x.1.many hf.1)
+  lacks_same (Some r) (fault.Limit a c) (fault.Choice b d) ne nf he (inl y) = absurd (omega (arith, y.1.few, he.1.count, he.1.many))
+  lacks_same (Some r) (fault.Limit a c) (fault.Choice b d) ne nf he (inr y) = absurd (few_many s w _ d c y.1.many he.1)
+  lacks_same (Some r) (fault.Limit a c) (fault.Limit b d) ne nf he hf = same_limit a b c d (he.0 ∙ sym hf.0) (he.1.count ∙ sym hf.1.count)
+
+  pub one_cause : (o : Option Rule) (e f : PlanFault) → (e ≡ fault.NoMemory → ⊥) → (f ≡ fault.NoMemory → ⊥) → HasPlanCause o s blocks w e → HasPlanCause o s blocks w f → e ≡ f
+  one_cause o e f ne nf (inl x) (inl y) = unfit_same s w.precincts e f ne nf x y
+  one_cause o e f ne nf (inl x) (inr y) = absurd (are_unfit s w.precincts e ne x (lacks_fits o f nf y))
+  one_cause o e f ne nf (inr x) (inl y) = absurd (are_unfit s w.precincts f nf y (lacks_fits o e ne x))
+  one_cause o e f ne nf (inr x) (inr y) = lacks_same o e f ne nf x y
+
+  planned_lacks : (r : Rule) (p : Plan) (e : PlanFault) → IsPlan p → IsPlanned (Some r) s blocks w p → LacksPlan (Some r) s blocks w e → e ≡ fault.NoMemory
+  planned_lacks r p (fault.Choice number place) plan is (inl x) =
+      let at = x.1 in
       let own : AreJobs r _ blocks p.jobs = subst (λ k. AreJobs r k blocks p.jobs) is.layers is.jobs in
       absurd (plan.uncrowded place (crowded_too r _ blocks at.jobs p.jobs at.jobs_are own place at.lowest.0))
-  planned_or_not (Some r) p (fault.Limit number found) plan is cause =
-      let same : packet_total (headers_of p) ≡ packets_by r s blocks m = rw (is.marks, is.layers, is.stream) refl in
-      absurd (omega (arith, same, plan.packets, cause.1.count, cause.1.many))
-  planned_or_not (Some r) p fault.NoMemory plan is cause = refl
+  planned_lacks r p (fault.Choice number place) plan is (inr x) =
+      absurd (free_parts s w (layers_of_rule r s blocks) place (plan_free s w (layers_of_rule r s blocks) p is.stream is.wanted is.layers plan) x.1.many)
+  planned_lacks r p (fault.Limit number found) plan is cause =
+      absurd (free_few s w (layers_of_rule r s blocks) found (plan_free s w (layers_of_rule r s blocks) p is.stream is.wanted is.layers plan) cause.1)
+  planned_lacks r p fault.NoMemory plan is cause = refl
 
-  pub one_cause : (o : Option Rule) (e f : PlanFault) → (e ≡ fault.NoMemory → ⊥) → (f ≡ fault.NoMemory → ⊥) → HasPlanCause o s blocks m e → HasPlanCause o s blocks m f → e ≡ f
-  one_cause o fault.NoMemory f ne nf he hf = absurd (ne refl)
-  one_cause o (fault.Choice a c) fault.NoMemory ne nf he hf = absurd (nf refl)
-  one_cause o (fault.Limit a c) fault.NoMemory ne nf he hf = absurd (nf refl)
-  one_cause None (fault.Choice a c) (fault.Choice b d) ne nf he hf = same_choice a b c d (he.0 ∙ sym hf.0) (he.1 ∙ sym hf.1)
-  one_cause None (fault.Choice a c) (fault.Limit b d) ne nf he hf = absurd hf
-  one_cause None (fault.Limit a c) (fault.Choice b d) ne nf he hf = absurd he
-  one_cause None (fault.Limit a c) (fault.Limit b d) ne nf he hf = absurd he
-  one_cause (Some r) (fault.Choice a c) (fault.Choice b d) ne nf he hf =
-      same_choice a b c d (he.0 ∙ sym hf.0) (one_lowest r _ blocks he.1.jobs hf.1.jobs he.1.jobs_are hf.1.jobs_are c d he.1.lowest hf.1.lowest)
-  one_cause (Some r) (fault.Choice a c) (fault.Limit b d) ne nf he hf = absurd (omega (arith, he.1.few, hf.1.count, hf.1.many))
-  one_cause (Some r) (fault.Limit a c) (fault.Choice b d) ne nf he hf = absurd (omega (arith, hf.1.few, he.1.count, he.1.many))
-  one_cause (Some r) (fault.Limit a c) (fault.Limit b d) ne nf he hf = same_limit a b c d (he.0 ∙ sym hf.0) (he.1.count ∙ sym hf.1.count)
+  planned_unfit : (r : Rule) (p : Plan) (e : PlanFault) → IsPlan p → IsPlanned (Some r) s blocks w p → AreUnfit s w.precincts e → e ≡ fault.NoMemory
+  planned_unfit r p (fault.Choice number place) plan is unfit =
+      absurd (unfit_fits s w.precincts number place unfit (plan_free s w (layers_of_rule r s blocks) p is.stream is.wanted is.layers plan).fits)
+  planned_unfit r p (fault.Limit number found) plan is unfit = absurd unfit
+  planned_unfit r p fault.NoMemory plan is unfit = refl
+
+  pub planned_or_not : (o : Option Rule) (p : Plan) (e : PlanFault) → IsPlan p → IsPlanned o s blocks w p → HasPlanCause o s blocks w e → e ≡ fault.NoMemory
+  planned_or_not None p e plan is cause = absurd is
+  planned_or_not (Some r) p e plan is (inl x) = planned_unfit r p e plan is x
+  planned_or_not (Some r) p e plan is (inr x) = planned_lacks r p e plan is x

@@ -1,5 +1,5 @@
 -- The one entry of a tile that is written covers each of its packets.
-use Rattle.std.proofs.Common.{◌≡◌, ◌<◌, ◌≤◌, ◌^◌, ℕ, arith, List, [], ◌∷◌, refl, sym, subst, inl}
+use Rattle.std.proofs.Common.{◌≡◌, ◌<◌, ℕ, arith, List, [], ◌∷◌, refl, sym, subst, None, inl}
 use Rattle.jx_marker.specs.declared.Cod.{Cod}
 use Rattle.jx_marker.specs.declared.Progression.{Progression}
 use Rattle.jx_geom.specs.Geometry.{Geometry, ShapesInRange}
@@ -11,7 +11,8 @@ use Rattle.jx_stream.specs.First.{tile_number}
 use Rattle.jx_stream.specs.Shapes.{geometry, layers_of}
 use Rattle.jx_stream.specs.InRange.{StreamInRange}
 use Rattle.jx_gather.specs.Gathered.{IsWhole}
-use Rattle.jx_plan.specs.Headers.{Asked, cod_written, stream_written}
+use Rattle.jx_plan.specs.Headers.{Asked, MayBeAsked, cod_written, stream_written}
+use Rattle.jx_plan.specs.Fits.{first_zero}
 use Rattle.jx_plan.specs.Standing.{HeadersStand}
 use Rattle.jx_plan.proofs.StreamLemmas.{coded_at, layers_are, tile_number_stays}
 use Rattle.jx_plan.proofs.RangeLemmas.{entries_are, written_in_range}
@@ -28,10 +29,10 @@ covers g layers cod p range same is = record {
 one_covers : (g : Geometry) (layers : ℕ) (cod : Cod) → ShapesInRange g.shapes → layers ≡ cod.layers → AreCovered g layers (entry_of cod ∷ [])
 one_covers g layers cod range same p is = (0, omega arith, covers g layers cod p range same is)
 
-pub written_whole : (a : Asked) (s : Stream) (t : ℕ) → 1 ≤ a.layers → a.layers < 2 ^ 16 → HeadersStand s → StreamInRange s → t < tile_number s.siz → IsWhole (stream_written a s) t
-written_whole a s t some few stand r inside =
+pub written_whole : (a : Asked) (s : Stream) (t : ℕ) → MayBeAsked a → first_zero a.precincts s ≡ None → HeadersStand s → StreamInRange s → t < tile_number s.siz → IsWhole (stream_written a s) t
+written_whole a s t may none stand r inside =
     let w : Stream = stream_written a s in
     let cod : Cod = cod_written a (coded_at s stand t).cod in
-    let range = (written_in_range a s some few stand r).shapes t (omega (arith, inside, tile_number_stays a s)) in
+    let range = (written_in_range a s may none stand r).shapes t (omega (arith, inside, tile_number_stays a s)) in
     subst (λ (es : List Progression). AreCovered (geometry w t) (layers_of w t) es) (sym (entries_are a s stand t (omega (arith, r.tiles))))
     (one_covers (geometry w t) (layers_of w t) cod range (layers_are a s stand t))

@@ -1,5 +1,5 @@
 -- The rule that keeps sends each block in the layers in which it was.
-use Rattle.std.proofs.Common.{◌≡◌, ◌<◌, ◌∙◌, ap, sym, subst, arith, ℕ, List, length, slice_index_or, Some}
+use Rattle.std.proofs.Common.{◌≡◌, ◌<◌, ◌∙◌, ap, sym, subst, arith, ℕ, List, length, slice_index_or, Some, inl, inr}
 use Rattle.std.specs.List.{All, slice_get}
 use Rattle.std.proofs.lemmas.List.Elements.{All-weaker}
 use Rattle.std.proofs.lemmas.Option.{slice_get-get_or, slice_get_within}
@@ -9,7 +9,6 @@ use Rattle.jx_base.specs.Sound.{IsSound}
 use Rattle.jx_stream.specs.declared.Stream.{Stream}
 use Rattle.jx_block.specs.declared.job.Job.{Job}
 use Rattle.jx_block.specs.Recoding.{layer_ends}
-use Rattle.jx_plan.specs.declared.Marks.{Marks}
 use Rattle.jx_plan.specs.declared.faults.PlanFault.{PlanFault}
 use Rattle.jx_plan.specs.declared.faults.PlanFault.TheVariants as fault
 use Rattle.jx_plan.specs.Facts.{most_layers}
@@ -19,6 +18,7 @@ use Rattle.jx_plan.specs.Layers.{AreJobs, IsJobOf}
 use Rattle.jx_plan.specs.Plan.{IsKeptPlan, KeepsLayers, MayBePlanned, Plan}
 use Rattle.jx_plan.specs.Planned.{HasPlanCause, IsPlannedBy}
 use Rattle.jx_plan.specs.Rule.Rule.{Keep}
+use Rattle.jx_plan.specs.Wanted.{Wanted}
 use Rattle.jx_plan.proofs.KeptLemmas.{block_at, kept_uncrowded, most_reaches}
 use Rattle.jx_plan.proofs.OneLemmas.{keeps}
 
@@ -59,18 +59,21 @@ module _ (s : Stream) (blocks : List Block) (may : MayBePlanned s blocks) where
       let most = most_reaches s block.0.tile block.1.0.0 in
       All-weaker (IsBelow _) (IsBelow (most_layers s)) (λ p lt. omega (arith, most, lt)) b.pieces block.1.1.layers
 
-  pub keep_plan : (m : Marks) (p : Plan) → IsPlannedBy Keep s blocks m p → IsKeptPlan s blocks m p
-  keep_plan m p is = record {
+  pub keep_plan : (w : Wanted) (p : Plan) → IsPlannedBy Keep s blocks w p → IsKeptPlan s blocks w p
+  keep_plan w p is = record {
     stream = is.stream;
     blocks_are = is.blocks_are;
-    marks = is.marks;
+    wanted = is.wanted;
     layers = is.layers;
     jobs = keep_layers (most_layers s) blocks p.jobs may.sound below_most (subst (λ k. AreJobs Keep k blocks p.jobs) is.layers is.jobs);
   }
 
-  pub keep_fault : (m : Marks) (e : PlanFault) → HasPlanCause (Some Keep) s blocks m e → HasKeptCause s m e
-  keep_fault m (fault.Choice number place) cause =
-      let at = cause.1 in
-      kept_uncrowded s blocks at.jobs may (keep_jobs (most_layers s) blocks at.jobs may.sound below_most at.jobs_are) place at.lowest.0
-  keep_fault m (fault.Limit number found) cause = (cause.0, record { count = cause.1.count; many = cause.1.many })
-  keep_fault m fault.NoMemory cause = tt
+  pub keep_fault : (w : Wanted) (e : PlanFault) → HasPlanCause (Some Keep) s blocks w e → HasKeptCause s w e
+  keep_fault w (fault.Choice number place) (inl unfit) = inl unfit
+  keep_fault w (fault.Choice number place) (inr (inl crowded)) =
+      let at = crowded.1 in
+      absurd (kept_uncrowded s blocks at.jobs may (keep_jobs (most_layers s) blocks at.jobs may.sound below_most at.jobs_are) place at.lowest.0)
+  keep_fault w (fault.Choice number place) (inr (inr parted)) = inr (parted.0, parted.1.many)
+  keep_fault w (fault.Limit number found) (inl unfit) = absurd unfit
+  keep_fault w (fault.Limit number found) (inr cause) = cause
+  keep_fault w fault.NoMemory cause = tt

@@ -1,6 +1,7 @@
 -- The plan that keeps the layers of each block.
 use Rattle.std.proofs.Common.{◌≡◌, ◌<◌, ◌≤◌, ◌+◌, ◌-◌, ◌^◌, ◌==◌, ◌⊎◌, ◌∙◌, ap, sym, subst, refl, arith, ℕ, zero, suc, Bool, true, false, if◌then◌else◌, List, [], ◌∷◌, length, nat_lt, map, inl, inr, slice_index_or, Option, None, Some}
 use Rattle.std.specs.List.{All, slice_get, range_with_len}
+use Rattle.std.specs.Option.{MatchOption}
 use Rattle.std.proofs.lemmas.Bool.{cases_Bool, cond-true, cond-false, eqb-true}
 use Rattle.std.proofs.lemmas.Bool.Decides.{nat_tests}
 use Rattle.std.proofs.lemmas.Option.{get_or_from_slice_get, slice_get-get_or}
@@ -22,7 +23,7 @@ use Rattle.jx_stream.specs.InRange.{StreamInRange}
 use Rattle.jx_gather.specs.BlockOf.{AreBlocksOf, IsBlockOf, IsFoundOf, passes_at}
 use Rattle.jx_stream.specs.Read.{IsRead}
 use Rattle.jx_stream.proofs.RangeLemmas.{read_in_range}
-use Rattle.jx_gather.specs.Gathered.{IsGathered}
+use Rattle.jx_gather.specs.Gathered.{IsGathered, IsWhole}
 use Rattle.jx_gather.proofs.BlockOfLemmas.{blocks_of_stream}
 use Rattle.jx_gather.proofs.SoundLemmas.{sound_gathered}
 use Rattle.jx_gather.specs.Totals.{block_total, packet_total, totals_fault}
@@ -31,18 +32,26 @@ use Rattle.jx_block.specs.declared.job.Job.{Job}
 use Rattle.jx_block.specs.Jobs.{IsAsked}
 use Rattle.jx_block.specs.Recoding.{layer_ends}
 use Rattle.jx_block.proofs.LawLemmas.{own_asked}
-use Rattle.jx_plan.specs.declared.Marks.{Marks}
 use Rattle.jx_plan.specs.Crowded.{IsCrowded, IsLowestCrowded}
 use Rattle.jx_plan.specs.Facts.{most_layers}
 use Rattle.jx_plan.specs.Keeping.{IsKeptJob, AreKeptJobs}
 use Rattle.jx_plan.specs.Layers.{HasMany}
-use Rattle.jx_plan.specs.Plan.{IsJob, IsPlan, KeepsLayers, MayBePlanned, headers_with, most_packets}
+use Rattle.jx_plan.specs.declared.faults.PlanFault.{PlanFault}
+use Rattle.jx_plan.specs.declared.faults.PlanFault.TheVariants as fault
+use Rattle.jx_plan.specs.Fits.{AreUnfit, Fits}
+use Rattle.jx_plan.specs.declared.PartChoice.{PartChoice}
+use Rattle.jx_plan.specs.Groups.{HasFewParts, IsPartedAt}
+use Rattle.jx_plan.specs.Headers.{Asked, MayBeAsked, stream_written}
+use Rattle.jx_plan.specs.KeptFault.{HasKeptCause}
+use Rattle.jx_plan.specs.Plan.{IsJob, IsPlan, KeepsLayers, MayBePlanned, asked_of, headers_with, most_packets}
+use Rattle.jx_plan.specs.Wanted.{MayBeWanted, Wanted}
 use Rattle.jx_plan.specs.Rule.{greatest}
 use Rattle.jx_plan.proofs.BlockLemmas.{blocks_are}
 use Rattle.jx_plan.proofs.ReadLemmas.{read_stands}
 use Rattle.jx_gather.specs.Faults.{passed}
 use Rattle.jx_plan.specs.Standing.{HeadersStand}
-use Rattle.jx_plan.proofs.PlainLemmas.{blocks_pass}
+use Rattle.jx_plan.proofs.CoverLemmas.{written_whole}
+use Rattle.jx_plan.proofs.PlainLemmas.{blocks_pass, totals_plain}
 use Rattle.jx_plan.proofs.RangeLemmas.{written_in_range}
 use Rattle.jx_plan.proofs.KeepingLemmas.{end_of}
 
@@ -73,6 +82,17 @@ pub some_layers : (s : Stream) → StreamInRange s → 1 ≤ most_layers s
 some_layers s r =
     let inside : 0 < tile_number s.siz = some_tile (canvas_of s.siz) r.canvas in
     omega (arith, most_reaches s 0 inside, r.some_layers 0 inside)
+
+greatest_below : (f : ℕ → ℕ) (i n most : ℕ) → 0 < most → ((k : ℕ) → i ≤ k → k < i + n → f k < most) → greatest (map f (range_with_len i n)) < most
+greatest_below f i zero most some each = some
+greatest_below f i (suc n) most some each =
+    let here = each i (omega arith) (omega arith) in
+    let more = greatest_below f (i + 1) n most some (λ k from below. each k (omega (arith, from)) (omega (arith, below))) in
+    omega (arith, here, more)
+
+pub few_most : (s : Stream) → StreamInRange s → most_layers s < 2 ^ 16
+unfolding most_layers
+few_most s r = greatest_below (layers_of s) 0 (tile_number s.siz) (2 ^ 16) (omega arith) (λ k from below. r.few_layers k (omega (arith, below)))
 
 -- ---- the passes between two ends of a block's own layers
 within : (layer : ℕ) (p : PieceValue) (ps : List PieceValue) → passes_at layer ps ≤ passes_at layer (p ∷ ps)
@@ -163,20 +183,61 @@ module _ (s : Stream) (blocks : List Block) (jobs : List Job) (may : MayBePlanne
   pub kept_layers : KeepsLayers jobs
   kept_layers = λ n d inside. (kept.each n (slice_index_or jobs n d) (slice_get-get_or jobs n d inside)).ends
 
-  pub kept_plan : (m : Marks) (layers : ℕ) → 1 ≤ layers → layers < 2 ^ 16 → packet_total (headers_with m layers s) ≤ most_packets
-      → IsPlan (record { stream = s; blocks = blocks; marks = m; layers = layers; jobs = jobs })
-  kept_plan m layers some few packets = record {
+  pub kept_plan : (w : Wanted) (layers : ℕ) → MayBeWanted w → Fits w.precincts s → 1 ≤ layers → layers < 2 ^ 16 → packet_total (headers_with w layers s) ≤ most_packets
+      → ((t : ℕ) → t < tile_number s.siz → HasFewParts w.parts (headers_with w layers s) t)
+      → IsPlan (record { stream = s; blocks = blocks; wanted = w; layers = layers; jobs = jobs })
+  kept_plan w layers wanted fits some few packets parts = record {
     may = may;
+    wanted = wanted;
+    fits = fits;
     some = some;
     few = few;
     packets = packets;
     all = kept.all;
     each = kept_job;
     uncrowded = kept_uncrowded;
+    parts = parts;
   }
 
-pub headers_in_range : (m : Marks) (layers : ℕ) (s w : Stream) → HeadersStand s → StreamInRange s → 1 ≤ layers → layers < 2 ^ 16 → w ≡ headers_with m layers s → StreamInRange w
-headers_in_range m layers s w stand r some few is = subst StreamInRange (sym is) (written_in_range (record { sop = m.sop; eph = m.eph; layers = layers }) s some few stand r)
+-- ---- the headers that are written
+may_ask : (w : Wanted) (layers : ℕ) → MayBeWanted w → 1 ≤ layers → layers < 2 ^ 16 → MayBeAsked (asked_of w layers)
+may_ask w layers wanted some few = record { some = some; few = few; order = wanted.order; bytes = wanted.bytes }
+
+pub same_tiles : (a : Asked) (s : Stream) → tile_number (stream_written a s).siz ≡ tile_number s.siz
+unfolding stream_written
+same_tiles a s = refl
+
+module _ (w : Wanted) (layers : ℕ) (s other : Stream) (stand : HeadersStand s) (range : StreamInRange s) (wanted : MayBeWanted w) (fits : Fits w.precincts s) (some : 1 ≤ layers)
+    (few : layers < 2 ^ 16) (is : other ≡ headers_with w layers s) where
+  pub headers_in_range : StreamInRange other
+  headers_in_range = subst StreamInRange (sym is) (written_in_range (asked_of w layers) s (may_ask w layers wanted some few) fits.above stand range)
+
+  pub headers_pass : totals_fault s ≡ None → packet_total (headers_with w layers s) ≤ most_packets → totals_fault other ≡ None
+  headers_pass totals packets = ap totals_fault is ∙ totals_plain (asked_of w layers) s stand fits totals packets
+
+  pub headers_whole : (t : ℕ) → t < tile_number other.siz → IsWhole other t
+  headers_whole t inside =
+      let there : t < tile_number s.siz = omega (arith, inside, ap (λ (x : Stream). tile_number x.siz) is, same_tiles (asked_of w layers) s) in
+      subst (λ (x : Stream). IsWhole x t) (sym is) (written_whole (asked_of w layers) s t (may_ask w layers wanted some few) fits.above stand range there)
+
+pub few_made : (w : Wanted) (layers : ℕ) (s other : Stream) → other ≡ headers_with w layers s → ((t : ℕ) → t < tile_number other.siz → HasFewParts w.parts other t)
+    → (t : ℕ) → t < tile_number s.siz → HasFewParts w.parts (headers_with w layers s) t
+few_made w layers s other is few t inside =
+    let there : t < tile_number other.siz = omega (arith, inside, ap (λ (x : Stream). tile_number x.siz) is, same_tiles (asked_of w layers) s) in
+    subst (λ (x : Stream). HasFewParts w.parts x t) is (few t there)
+
+abbrev FewOf : PartChoice → Stream → Type 0
+FewOf parts s = (t : ℕ) → t < tile_number s.siz → HasFewParts parts s t
+
+pub none_parted : (own parts : PartChoice) (s : Stream) (first : Option ℕ) → own ≡ parts → first ≡ None → MatchOption first (FewOf own s) (IsPartedAt own s) → FewOf parts s
+none_parted own parts s None e none few = subst (λ (p : PartChoice). FewOf p s) e few
+none_parted own parts s (Some t) e none few = absurd (cc)
+
+-- ---- precincts that don't fit
+pub unfit_kept : (s : Stream) (w : Wanted) (e : PlanFault) → AreUnfit s w.precincts e → HasKeptCause s w e
+unfit_kept s w (fault.Choice number place) unfit = inl unfit
+unfit_kept s w (fault.Limit number found) unfit = absurd unfit
+unfit_kept s w fault.NoMemory unfit = tt
 
 -- ---- what was read may be planned
 pub gathered_may : (b : List ℕ) (s : Stream) (blocks : List Block) → IsRead b s → length b ≤ 2 ^ 28 → totals_fault s ≡ None → IsGathered b s blocks → MayBePlanned s blocks

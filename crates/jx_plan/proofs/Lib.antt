@@ -1,12 +1,14 @@
 pub mod AlikeLemmas
 pub mod WrittenLemmas
 pub mod StandLemmas
+pub mod ZeroLemmas
 pub mod ReadLemmas
 pub mod StreamLemmas
 pub mod RangeLemmas
 pub mod MoreLemmas
 pub mod ReadBackLemmas
 pub mod CoverLemmas
+pub mod SameLemmas
 pub mod BlockLemmas
 pub mod ViewLemmas
 pub mod PlainLemmas
@@ -21,6 +23,11 @@ pub mod KeptLemmas
 pub mod OneLemmas
 pub mod KeepsLemmas
 pub mod CauseLemmas
+pub mod OneKeptLemmas
 pub mod PlannedLemmas
 pub mod CrowdLemmas
 pub mod FactLemmas
+pub mod FitLemmas
+pub mod ListedLemmas
+pub mod GroupLemmas
+pub mod PartedLemmas

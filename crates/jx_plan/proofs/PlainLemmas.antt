@@ -19,19 +19,22 @@ use Rattle.jx_stream.specs.Spells.{AreSegments}
 use Rattle.jx_stream.specs.Shapes.{tile_at, no_tile}
 use Rattle.jx_gather.specs.Faults.{passed}
 use Rattle.jx_gather.specs.Totals.{block_total, packet_total, totals_fault}
-use Rattle.jx_plan.specs.Headers.{Asked, cod_written, written, is_written, all_written, tile_header, stream_written}
+use Rattle.jx_plan.specs.Headers.{Asked, MayBeAsked, cod_written, written, is_written, all_written, tile_header, stream_written}
 use Rattle.jx_plan.specs.Asides.{is_plt}
+use Rattle.jx_plan.specs.Fits.{Fits, first_zero}
 use Rattle.jx_plan.specs.Standing.{IsNote, IsHeaded, HeadersStand}
-use Rattle.jx_plan.proofs.StreamLemmas.{cod_slots, coded_at, own_slots, main_slots, tile_is, canvas_stays, shapes_stay}
+use Rattle.jx_plan.proofs.StreamLemmas.{cod_slots, coded_at, own_slots, main_slots, tile_is, canvas_stays}
 use Rattle.jx_plan.proofs.RangeLemmas.{written_stands}
 use Rattle.jx_plan.proofs.ReadBackLemmas.{none_written, none_header, main_is, count_is}
 use Rattle.jx_plan.proofs.BlockLemmas.{totals_same}
+use Rattle.jx_plan.proofs.ViewLemmas.{written_shapes}
 
 -- no PLT
 
 not_plt : (a : Asked) (s : Segment) → is_written s ≡ true → is_plt (written a s) ≡ false
 not_plt a (segment.Plt bytes) h = absurd (cc)
 not_plt a (segment.Cod cod) h = refl
+not_plt a (segment.Coc comp shape) h = refl
 not_plt a _ h = refl
 
 no_plt : (a : Asked) (ss : List Segment) → list_any is_plt (all_written a ss) ≡ false
@@ -115,11 +118,11 @@ module _ (a : Asked) (s : Stream) (stand : HeadersStand s) where
       both_cods (cod_of (header_of (stream_written a s) t) (stream_written a s).main) (cod_of (header_of s t) s.main) a (coded_at s stand t).cod
       (cod_slots a (header_of (stream_written a s) t) (header_of s t) (stream_written a s).main s.main (own_slots a s stand t) (main_slots a s stand)) (coded_at s stand t).is
 
-  pub header_stands : (t : ℕ) → 1 ≤ a.layers → a.layers < 2 ^ 16 → t < length s.tiles → AreSegments First (length s.siz.comps) [] (header_of (stream_written a s) t)
-  header_stands t some few inside =
+  pub header_stands : (t : ℕ) → MayBeAsked a → first_zero a.precincts s ≡ None → t < length s.tiles → AreSegments First (length s.siz.comps) [] (header_of (stream_written a s) t)
+  header_stands t may none inside =
       let within : t < length (stream_written a s).tiles = omega (arith, count_is a s) in
       let is = ap (λ (x : Tile). x.header) (tile_is a s stand t inside) ∙ sym (header_is t inside) in
-      subst (λ (xs : List Segment). AreSegments First (length s.siz.comps) [] xs) is (comps_at a s (written_stands a s some few stand) t no_tile within).header
+      subst (λ (xs : List Segment). AreSegments First (length s.siz.comps) [] xs) is (comps_at a s (written_stands a s may none stand) t no_tile within).header
 
-  pub totals_plain : totals_fault s ≡ None → packet_total (stream_written a s) ≤ 2 ^ 22 → totals_fault (stream_written a s) ≡ None
-  totals_plain h le = totals_from s (stream_written a s) (sym (totals_same s (stream_written a s) (canvas_stays a s) (shapes_stay a s stand))) h le
+  pub totals_plain : Fits a.precincts s → totals_fault s ≡ None → packet_total (stream_written a s) ≤ 2 ^ 22 → totals_fault (stream_written a s) ≡ None
+  totals_plain fits h le = totals_from s (stream_written a s) (sym (totals_same s (stream_written a s) (canvas_stays a s) (written_shapes a s fits stand))) h le

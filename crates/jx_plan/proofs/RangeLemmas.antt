@@ -1,40 +1,46 @@
 -- The stream that is written is in range, and its headers stand in its file.
-use Rattle.std.proofs.Common.{◌≡◌, ◌∙◌, ◌<◌, ◌≤◌, ◌^◌, ℕ, false, arith, List, [], ◌∷◌, map, length, refl, sym, ap, subst, nat_lt, Option, Some, None, inl, inr}
+use Rattle.std.proofs.Common.{◌≡◌, ◌∙◌, ◌<◌, ◌≤◌, ℕ, false, arith, List, [], ◌∷◌, map, length, get_or, refl, sym, ap, subst, nat_lt, Option, Some, None, inl, inr}
 use Rattle.std.specs.List.{All, find, flat_map}
 use Rattle.std.specs.Option.{option_or, option_map}
 use Rattle.std.proofs.lemmas.Bool.{cases_Bool}
-use Rattle.std.proofs.lemmas.List.{length-map}
+use Rattle.std.proofs.lemmas.List.{get_or-map, length-map}
 use Rattle.std.proofs.lemmas.Option.{slice_get-get_or}
-use Rattle.std.proofs.lemmas.List.Elements.{All-nil, All-cons, All-head, All-tail, All-map, All-weaker}
+use Rattle.std.proofs.lemmas.List.Elements.{All-nil, All-cons, All-head, All-tail, All-map}
 use Rattle.jx_marker.specs.declared.Segment.{Segment}
 use Rattle.jx_marker.specs.declared.Segment.TheVariants as segment
 use Rattle.jx_marker.specs.declared.Siz.{Siz}
 use Rattle.jx_marker.specs.declared.Cod.{Cod}
+use Rattle.jx_marker.specs.declared.Shape.{Shape}
 use Rattle.jx_marker.specs.declared.Progression.{Progression}
 use Rattle.jx_marker.specs.Ranges.{SizInRange}
 use Rattle.jx_geom.specs.declared.shape.CompShape.{CompShape}
-use Rattle.jx_geom.specs.Geometry.{Geometry, ShapesInRange, HasResolution}
+use Rattle.jx_geom.specs.Ranges.{ShapeInRange}
+use Rattle.jx_geom.specs.Geometry.{Geometry, ShapesInRange, HasResolution, no_shape}
 use Rattle.jx_stream.specs.declared.headers.HeaderKind.TheVariants.{Main, First}
 use Rattle.jx_stream.specs.declared.Tile.{Tile}
 use Rattle.jx_stream.specs.declared.Stream.{Stream}
 use Rattle.jx_stream.specs.Tiles.{in_slot, entry_of, entry_in, or_list}
-use Rattle.jx_stream.specs.Params.{cod_in, tile_has_too_few, tile_planes, limit_4_of, cod_of, header_in, header_of}
+use Rattle.jx_stream.specs.Params.{cod_in, tile_has_too_few, tile_planes, limit_4_of, cod_of, shape_or, shape_at, params_of, precincts_of, header_in, header_of}
 use Rattle.jx_stream.specs.First.{tiles_fault, lacks_default}
-use Rattle.jx_stream.specs.Shapes.{geometry, tile_at, no_tile}
+use Rattle.jx_stream.specs.Shapes.{geometry, shape_in, shapes_of, size_of, no_size, tile_at, no_tile}
 use Rattle.jx_stream.specs.InRange.{StreamInRange}
 use Rattle.jx_stream.proofs.SegmentLemmas.{defaults_there}
-use Rattle.jx_plan.specs.Headers.{Asked, cod_written, all_written, tile_header, tile_written, stream_written}
+use Rattle.jx_stream.proofs.ShapeLemmas.{siz_is, shape_fits}
+use Rattle.jx_stream.proofs.RangeLemmas.{shapes_length, shapes_at}
+use Rattle.jx_plan.specs.Headers.{Asked, MayBeAsked, cod_written, comp_written, all_written, tile_header, tile_written, stream_written}
+use Rattle.jx_plan.specs.Fits.{first_zero, tile_has_zero}
 use Rattle.jx_plan.specs.Standing.{IsNote, IsHeaded, HeadersStand}
 use Rattle.jx_plan.proofs.AlikeLemmas.{too_few_same, bands_same}
 use Rattle.jx_plan.proofs.WrittenLemmas.{slot_written, kind_written}
-use Rattle.jx_plan.proofs.StandLemmas.{segments_written, segments_more}
-use Rattle.jx_plan.proofs.StreamLemmas.{notes_aside, slots_alike, tile_slots, cod_slots, coded_at, shapes_stay, geometry_stays, layers_are, style_stays, planes_stay, tile_is}
+use Rattle.jx_plan.proofs.StandLemmas.{segments_written, segments_more, order_kept}
+use Rattle.jx_plan.proofs.ZeroLemmas.{is_clear}
+use Rattle.jx_plan.proofs.StreamLemmas.{notes_aside, slots_alike, tile_slots, cod_slots, coded_at, shaped_at, shapes_stay, layers_are, style_stays, planes_stay, tile_is}
 
 -- the headers
 
-tile_stands : (a : Asked) (comps : ℕ) (main : List Segment) (t : Tile) → 0 < a.layers → a.layers < 2 ^ 16 → IsHeaded comps t → IsHeaded comps (tile_written a main t)
-tile_stands a comps main t some few h = record {
-  header = segments_more comps [] (all_written a t.header) t.notes (notes_aside comps t.notes h.notes) (segments_written a First comps [] [] t.header some few (λ slot k. k) h.header);
+tile_stands : (a : Asked) (comps : ℕ) (main : List Segment) (t : Tile) → MayBeAsked a → tile_has_zero a.precincts t ≡ false → IsHeaded comps t → IsHeaded comps (tile_written a main t)
+tile_stands a comps main t may clear h = record {
+  header = segments_more comps [] (all_written a t.header) t.notes (notes_aside comps t.notes h.notes) (segments_written a First comps [] [] t.header may clear (λ slot k. k) h.header);
   notes = All-nil (IsNote comps);
 }
 
@@ -42,14 +48,14 @@ few_same : (a : Asked) (comps : ℕ) (main : List Segment) (t : Tile) → IsHead
     → tile_has_too_few (all_written a main) comps (tile_written a main t) ≡ tile_has_too_few main comps t
 unfolding tile_has_too_few
 few_same a comps main t h =
-    too_few_same (tile_header a t) t.header (all_written a main) main (slots_alike a (tile_header a t) t.header (tile_slots a comps t h))
+    too_few_same a.precincts (tile_header a t) t.header (all_written a main) main (slots_alike a (tile_header a t) t.header (tile_slots a comps t h))
     (slots_alike a (all_written a main) main (λ slot g. slot_written a slot main g)) comps
 
 planes_same : (a : Asked) (comps : ℕ) (main : List Segment) (t : Tile) → IsHeaded comps t
     → tile_planes (all_written a main) comps (tile_written a main t) ≡ tile_planes main comps t
 unfolding tile_planes
 planes_same a comps main t h =
-    bands_same (tile_header a t) t.header (all_written a main) main (slots_alike a (tile_header a t) t.header (tile_slots a comps t h))
+    bands_same a.precincts (tile_header a t) t.header (all_written a main) main (slots_alike a (tile_header a t) t.header (tile_slots a comps t h))
     (slots_alike a (all_written a main) main (λ slot g. slot_written a slot main g)) comps
 
 entries_kept : (a : Asked) (comps : ℕ) (main : List Segment) (tiles : List Tile) → All (IsHeaded comps) tiles → find (tile_has_too_few main comps) tiles ≡ None
@@ -78,17 +84,18 @@ few_tiles : (siz : Siz) → tiles_fault siz ≡ None → tiles_fault (record siz
 unfolding tiles_fault
 few_tiles siz h = h
 
-pub written_stands : (a : Asked) (s : Stream) → 0 < a.layers → a.layers < 2 ^ 16 → HeadersStand s → HeadersStand (stream_written a s)
+pub written_stands : (a : Asked) (s : Stream) → MayBeAsked a → first_zero a.precincts s ≡ None → HeadersStand s → HeadersStand (stream_written a s)
 unfolding stream_written
-written_stands a s some few stand =
+written_stands a s may none stand =
     let comps = length s.siz.comps in
+    let clear = is_clear a.precincts s none in
     record {
       siz = siz_written s.siz stand.siz;
       few = few_tiles s.siz stand.few;
-      main = segments_written a Main comps [] [] s.main some few (λ slot k. k) stand.main;
+      main = segments_written a Main comps [] [] s.main may clear.main (λ slot k. k) stand.main;
       defaults = both_there a s.main stand.defaults;
       count = length-map s.tiles (tile_written a s.main) ∙ stand.count;
-      each = All-map (IsHeaded comps) (tile_written a s.main) s.tiles (All-weaker (IsHeaded comps) (λ (t : Tile). IsHeaded comps (tile_written a s.main t)) (λ t h. tile_stands a comps s.main t some few h) s.tiles stand.each);
+      each = All-map (IsHeaded comps) (tile_written a s.main) s.tiles (λ i d lt. tile_stands a comps s.main (get_or s.tiles i d) may (clear.tiles i d lt) (stand.each i d lt));
       entries = entries_kept a comps s.main s.tiles stand.each stand.entries;
       planes = ap (λ (xs : List ℕ). limit_4_of (find (nat_lt 74) xs)) (all_planes_kept a comps s.main s.tiles stand.each) ∙ stand.planes;
     }
@@ -114,22 +121,47 @@ entries_are a s stand t inside =
     cod_slots a (tile_header a x) x.header (all_written a s.main) s.main (tile_slots a (length s.siz.comps) x h) (λ slot g. slot_written a slot s.main g) ∙ ap (option_map (cod_written a)) is in
     ap (λ (y : Tile). y.progressions) (tile_is a s stand t inside) ∙ one_entry (in_slot 1 (tile_header a x)) (in_slot 1 (all_written a s.main)) (cod_written a cod) there
 
-pub written_in_range : (a : Asked) (s : Stream) → 1 ≤ a.layers → a.layers < 2 ^ 16 → HeadersStand s → StreamInRange s → StreamInRange (stream_written a s)
+-- the shapes of headers that stand are in range
+
+shape_in_range : (s : Stream) → HeadersStand s → (t c : ℕ) → c < length s.siz.comps → ShapeInRange (shape_in s t c)
+shape_in_range s stand t c inside =
+    let shape : Shape = (shaped_at s stand t c).shape in
+    let e : shape_or (shape_at s t c) ≡ shape = ap shape_or (shaped_at s stand t c).is in
+    shape_fits (size_of s c) (params_of s t c) shape ((siz_is s.siz stand.siz.fits).each c no_size inside) (shaped_at s stand t c).fits
+    (ap (λ (x : Shape). x.levels) e) (ap (λ (x : Shape). x.xcb) e) (ap (λ (x : Shape). x.ycb) e) (ap (λ (x : Shape). precincts_of x.precincts) e)
+
+pub shapes_in_range : (s : Stream) → HeadersStand s → (t : ℕ) → ShapesInRange (shapes_of s t)
+shapes_in_range s stand t c inside =
+    let within : c < length s.siz.comps = omega (arith, inside, shapes_length s t) in
+    subst ShapeInRange (sym (shapes_at s t c no_shape within)) (shape_in_range s stand t c within)
+
+-- a resolution is there where it was
+
+resolution_kept : (ps : Option (List ℕ)) (g h : Geometry) (c r : ℕ) → h.shapes ≡ map (comp_written ps) g.shapes → HasResolution h c r → HasResolution g c r
+resolution_kept ps g h c r e has =
+    let long : length h.shapes ≡ length g.shapes = ap length e ∙ length-map g.shapes (comp_written ps) in
+    let inside : c < length g.shapes = omega (arith, has.component, long) in
+    let at : get_or h.shapes c no_shape ≡ comp_written ps (get_or g.shapes c no_shape) =
+    ap (λ (xs : List CompShape). get_or xs c no_shape) e ∙ get_or-map (comp_written ps) g.shapes c no_shape no_shape inside in
+    record { component = inside; level = omega (arith, has.level, ap (λ (x : CompShape). x.levels) at) }
+
+pub written_in_range : (a : Asked) (s : Stream) → MayBeAsked a → first_zero a.precincts s ≡ None → HeadersStand s → StreamInRange s → StreamInRange (stream_written a s)
 unfolding stream_written
-written_in_range a s some few stand r = record {
+written_in_range a s may none stand r = record {
   canvas = r.canvas;
   some_comps = r.some_comps;
   few_comps = r.few_comps;
   few_tiles = r.few_tiles;
   tiles = length-map s.tiles (tile_written a s.main) ∙ r.tiles;
-  shapes = λ t inside. subst (λ (xs : List CompShape). ShapesInRange xs) (sym (shapes_stay a s stand t)) (r.shapes t inside);
-  some_layers = λ t inside. omega (arith, layers_are a s stand t);
-  few_layers = λ t inside. omega (arith, layers_are a s stand t);
+  shapes = λ t inside. shapes_in_range (stream_written a s) (written_stands a s may none stand) t;
+  some_layers = λ t inside. omega (arith, layers_are a s stand t, may.some);
+  few_layers = λ t inside. omega (arith, layers_are a s stand t, may.few);
   style = λ t c inside. omega (arith, style_stays a s stand t c, r.style t c inside);
   orders = λ t inside.
       subst (λ (xs : List Progression). All (λ (e : Progression). e.order ≤ 4) xs) (sym (entries_are a s stand t (omega (arith, r.tiles))))
-      (All-cons (λ (e : Progression). e.order ≤ 4) (entry_of (cod_written a (coded_at s stand t).cod)) [] (coded_at s stand t).fits.order (All-nil (λ (e : Progression). e.order ≤ 4)));
+      (All-cons (λ (e : Progression). e.order ≤ 4) (entry_of (cod_written a (coded_at s stand t).cod)) [] (order_kept a.order (coded_at s stand t).cod.order may.order (coded_at s stand t).fits.order)
+      (All-nil (λ (e : Progression). e.order ≤ 4)));
   planes = λ t c res band inside there has.
-      (let same : HasResolution (geometry s t) c res = subst (λ (g : Geometry). HasResolution g c res) (geometry_stays a s stand t) there in
+      (let same : HasResolution (geometry s t) c res = resolution_kept a.precincts (geometry s t) (geometry (stream_written a s) t) c res (shapes_stay a s stand t) there in
       omega (arith, planes_stay a s stand t c res band, r.planes t c res band inside same has));
 }

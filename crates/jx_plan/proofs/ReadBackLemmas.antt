@@ -29,6 +29,7 @@ use Rattle.jx_plan.proofs.StreamLemmas.{notes_aside, tile_is}
 no_entries : (a : Asked) (s : Segment) → is_written s ≡ true → entries_of (written a s) ≡ []
 no_entries a (segment.Poc entries) h = absurd (cc)
 no_entries a (segment.Cod cod) h = refl
+no_entries a (segment.Coc comp shape) h = refl
 no_entries a _ h = refl
 
 pub none_written : (a : Asked) (ss : List Segment) → joined (all_written a ss) ≡ []

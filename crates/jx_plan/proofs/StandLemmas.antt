@@ -1,16 +1,21 @@
 -- What is written of a header is a header, and comments and packet lengths may follow it.
-use Rattle.std.proofs.Common.{◌≡◌, ◌<◌, ◌^◌, ◌==◌, ℕ, false, nat_lt, List, [], ◌∷◌, ◌++◌, refl, inl, inr, ◌∙◌}
-use Rattle.std.specs.List.{All}
+use Rattle.std.proofs.Common.{◌≡◌, ◌<◌, ◌≤◌, ◌+◌, ◌-◌, ◌==◌, ℕ, false, nat_lt, min, cond, arith, List, [], ◌∷◌, ◌++◌, length, refl, sym, subst, Option, None, Some, inl, inr, ◌∙◌}
+use Rattle.std.specs.Prelude.{IfSome}
+use Rattle.std.specs.List.{All, list_any}
 use Rattle.std.proofs.lemmas.Bool.{cases_Bool, or_parts}
+use Rattle.std.proofs.lemmas.Bool.Decides.{nat_tests}
 use Rattle.std.proofs.lemmas.List.Elements.{All-head, All-tail}
+use Rattle.std.proofs.lemmas.List.FromFn.{get_or-map-range_with_len, length-map-range_with_len}
 use Rattle.jx_marker.specs.declared.Segment.{Segment}
 use Rattle.jx_marker.specs.declared.Segment.TheVariants as segment
-use Rattle.jx_marker.specs.Ranges.{InRange}
+use Rattle.jx_marker.specs.declared.Shape.{Shape}
+use Rattle.jx_marker.specs.Ranges.{InRange, AreBytes, ShapeInRange}
 use Rattle.jx_stream.specs.declared.headers.HeaderKind.{HeaderKind}
 use Rattle.jx_stream.specs.declared.headers.HeaderKind.TheVariants.{Main, First, Later}
 use Rattle.jx_stream.specs.Headers.{slot_of, has_slot, is_second, stands_in, ends_header}
 use Rattle.jx_stream.specs.Spells.{IsSegment, AreSegments}
-use Rattle.jx_plan.specs.Headers.{Asked, written, is_written, all_written}
+use Rattle.jx_plan.specs.Headers.{Asked, MayBeAsked, item_at, bytes_for, order_written, shape_written, written, is_written, all_written}
+use Rattle.jx_plan.specs.Fits.{shape_has_zero, has_zero}
 use Rattle.jx_plan.specs.Asides.{IsAside}
 use Rattle.jx_plan.proofs.WrittenLemmas.{slot_kept}
 
@@ -45,39 +50,94 @@ once_kept a xs ys s f h = elim (cases_Bool (nat_lt 0 (slot_of s))) [
   | inr n ↦ rw (slot_kept a s, n) refl
 ]
 
-range_kept : (a : Asked) (comps : ℕ) (s : Segment) → 0 < a.layers → a.layers < 2 ^ 16 → InRange comps s → InRange comps (written a s)
-range_kept a comps (segment.Cod cod) some few r = record { order = r.order; some = some; layers = few; transform = r.transform; shape = r.shape }
-range_kept a comps _ some few r = r
+-- bytes of precincts that are asked
+
+each_byte : (item : ℕ) (items : List ℕ) (levels : ℕ) → AreBytes (item ∷ items) → AreBytes (bytes_for (item ∷ items) levels)
+each_byte item items levels h i d lt =
+    let n : ℕ = levels + 1 in
+    let inside : i < n = omega (arith, lt, length-map-range_with_len (item_at (item ∷ items)) 0 n) in
+    let within : min i (length (item ∷ items) - 1) < length (item ∷ items) = grind (arith, nat_tests) in
+    let P : ℕ → Type 0 = λ byte. byte < 256 in
+    subst P (sym (get_or-map-range_with_len (item_at (item ∷ items)) 0 n i i d inside (omega arith))) (h (min i (length (item ∷ items) - 1)) 0 within)
+
+bytes_fit : (items : List ℕ) (levels : ℕ) → AreBytes items → AreBytes (bytes_for items levels)
+bytes_fit [] levels h = h
+bytes_fit (item ∷ items) levels h = each_byte item items levels h
+
+counted : (n levels : ℕ) → n ≡ levels + 1 → n ≡ (cond (n == 0) 0 (1 + levels))
+counted n levels e = grind (arith, nat_tests)
+
+bytes_count : (items : List ℕ) (levels : ℕ) → length (bytes_for items levels) ≡ (cond (length (bytes_for items levels) == 0) 0 (1 + levels))
+bytes_count [] levels = refl
+bytes_count (item ∷ items) levels =
+    counted (length (bytes_for (item ∷ items) levels)) levels (length-map-range_with_len (item_at (item ∷ items)) 0 (levels + 1))
+
+shape_kept : (ps : Option (List ℕ)) (shape : Shape) → IfSome ps AreBytes → shape_has_zero ps shape ≡ false → ShapeInRange shape → ShapeInRange (shape_written ps shape)
+shape_kept None shape bytes h r = r
+shape_kept (Some items) shape bytes h r = record {
+  levels = r.levels;
+  least_xcb = r.least_xcb;
+  least_ycb = r.least_ycb;
+  xcb = r.xcb;
+  ycb = r.ycb;
+  area = r.area;
+  style = r.style;
+  wavelet = r.wavelet;
+  count = bytes_count items shape.levels;
+  precincts = bytes_fit items shape.levels bytes;
+  above = h;
+}
+
+pub order_kept : (o : Option ℕ) (order : ℕ) → IfSome o (λ (n : ℕ). n ≤ 4) → order ≤ 4 → order_written o order ≤ 4
+order_kept None order h le = le
+order_kept (Some new) order h le = h
+
+range_kept : (a : Asked) (comps : ℕ) (s : Segment) → MayBeAsked a → has_zero a.precincts s ≡ false → InRange comps s → InRange comps (written a s)
+range_kept a comps (segment.Cod cod) may h r = record {
+  order = order_kept a.order cod.order may.order r.order;
+  some = may.some;
+  layers = may.few;
+  transform = r.transform;
+  shape = shape_kept a.precincts cod.shape may.bytes h r.shape;
+}
+range_kept a comps (segment.Coc comp shape) may h r = record { index = r.index; word = r.word; fits = shape_kept a.precincts shape may.bytes h r.fits }
+range_kept a comps _ may h r = r
 
 stands_kept : (kind : HeaderKind) (a : Asked) (s : Segment) → stands_in kind (written a s) ≡ stands_in kind s
 stands_kept Main a (segment.Cod cod) = refl
 stands_kept First a (segment.Cod cod) = refl
 stands_kept Later a (segment.Cod cod) = refl
+stands_kept Main a (segment.Coc comp shape) = refl
+stands_kept First a (segment.Coc comp shape) = refl
+stands_kept Later a (segment.Coc comp shape) = refl
 stands_kept kind a _ = refl
 
 inside_kept : (a : Asked) (s : Segment) → ends_header (written a s) ≡ ends_header s
 inside_kept a (segment.Cod cod) = refl
+inside_kept a (segment.Coc comp shape) = refl
 inside_kept a _ = refl
 
-segment_written : (a : Asked) (kind : HeaderKind) (comps : ℕ) (xs ys : List Segment) (s : Segment) → 0 < a.layers → a.layers < 2 ^ 16 → Fewer xs ys
+segment_written : (a : Asked) (kind : HeaderKind) (comps : ℕ) (xs ys : List Segment) (s : Segment) → MayBeAsked a → has_zero a.precincts s ≡ false → Fewer xs ys
     → IsSegment kind comps ys s → IsSegment kind comps xs (written a s)
-segment_written a kind comps xs ys s some few f is = record {
-  range = range_kept a comps s some few is.range;
+segment_written a kind comps xs ys s may h f is = record {
+  range = range_kept a comps s may h is.range;
   stands = stands_kept kind a s ∙ is.stands;
   inside = inside_kept a s ∙ is.inside;
   once = once_kept a xs ys s f is.once;
 }
 
-pub segments_written : (a : Asked) (kind : HeaderKind) (comps : ℕ) (xs ys ss : List Segment) → 0 < a.layers → a.layers < 2 ^ 16 → Fewer xs ys
+pub segments_written : (a : Asked) (kind : HeaderKind) (comps : ℕ) (xs ys ss : List Segment) → MayBeAsked a → list_any (has_zero a.precincts) ss ≡ false → Fewer xs ys
     → AreSegments kind comps ys ss → AreSegments kind comps xs (all_written a ss)
-segments_written a kind comps xs ys [] some few f are = tt
-segments_written a kind comps xs ys (s ∷ ss) some few f are = elim (cases_Bool (is_written s)) [
-  | inl t ↦ rw t (
-    segment_written a kind comps xs ys s some few f are.0,
-    segments_written a kind comps (xs ++ written a s ∷ []) (ys ++ s ∷ []) ss some few (fewer_both a xs ys s f) are.1,
-  )
-  | inr n ↦ rw n (segments_written a kind comps xs (ys ++ s ∷ []) ss some few (fewer_past xs ys s f) are.1)
-]
+segments_written a kind comps xs ys [] may h f are = tt
+segments_written a kind comps xs ys (s ∷ ss) may h f are =
+    let clear = or_parts (has_zero a.precincts s) (list_any (has_zero a.precincts) ss) h in
+    elim (cases_Bool (is_written s)) [
+      | inl t ↦ rw t (
+        segment_written a kind comps xs ys s may clear.0 f are.0,
+        segments_written a kind comps (xs ++ written a s ∷ []) (ys ++ s ∷ []) ss may clear.1 (fewer_both a xs ys s f) are.1,
+      )
+      | inr n ↦ rw n (segments_written a kind comps xs (ys ++ s ∷ []) ss may clear.1 (fewer_past xs ys s f) are.1)
+    ]
 
 -- comments and packet lengths
 

@@ -1,7 +1,7 @@
--- The parameters of the stream that is written are those of its stream, but for the layers.
-use Rattle.std.proofs.Common.{◌≡◌, ◌∙◌, ◌<◌, ℕ, zero, suc, true, List, [], ◌∷◌, map, length, refl, ap, Option, Some, None, inl}
+-- The parameters of the stream that is written are those of its stream, but for the order, the layers and the precincts.
+use Rattle.std.proofs.Common.{◌≡◌, ◌∙◌, ◌<◌, ◌+◌, ◌*◌, ℕ, zero, suc, true, List, [], ◌∷◌, map, length, refl, ap, Option, Some, None, inl}
 use Rattle.std.specs.List.{All, slice_get}
-use Rattle.std.specs.Option.{option_or, option_map}
+use Rattle.std.specs.Option.{option_or, option_map, is_some}
 use Rattle.std.proofs.lemmas.List.{get_or-map}
 use Rattle.std.proofs.lemmas.List.Elements.{All-nil, All-head, All-tail, All-weaker}
 use Rattle.jx_base.specs.declared.names.Band.{Band}
@@ -19,13 +19,13 @@ use Rattle.jx_stream.specs.Index.{gives}
 use Rattle.jx_stream.specs.declared.Params.{Params}
 use Rattle.jx_stream.specs.Tiles.{in_slot}
 use Rattle.jx_stream.specs.First.{canvas_of, tile_number}
-use Rattle.jx_stream.specs.Params.{shape_of, quant_of, shift_of, cod_in, cod_of, shape_or, quant_or, cod_or, params_from, params_by, header_in, header_of, params_of, step_of, planes_at}
+use Rattle.jx_stream.specs.Params.{chosen, precincts_of, shape_of, quant_of, shift_of, cod_in, cod_of, shape_or, quant_or, cod_or, params_from, params_by, header_in, header_of, params_of, step_of, planes_at}
 use Rattle.jx_stream.specs.Shapes.{shapes_of, geometry, layers_of, style_of, tile_at, no_tile}
-use Rattle.jx_stream.proofs.SegmentLemmas.{segments_fit, defaults_there, slot_chosen, or_chosen, slot_there, or_there, IsCoded, cod_there}
-use Rattle.jx_plan.specs.Headers.{Asked, cod_written, written, all_written, tile_header, tile_written, stream_written}
+use Rattle.jx_stream.proofs.SegmentLemmas.{segments_fit, defaults_there, slot_chosen, or_chosen, slot_there, or_there, chosen_fits, chosen_there, IsShaped, shape_there, IsCoded, cod_there}
+use Rattle.jx_plan.specs.Headers.{Asked, cod_written, comp_written, exponents_written, params_written, precincts_written, shape_written, written, all_written, tile_header, tile_written, stream_written}
 use Rattle.jx_plan.specs.Asides.{IsAside}
 use Rattle.jx_plan.specs.Standing.{IsNote, IsHeaded, HeadersStand}
-use Rattle.jx_plan.proofs.AlikeLemmas.{HeadersAlike, shape_same, quant_same, shift_same, step_same, planes_same, shapes_same}
+use Rattle.jx_plan.proofs.AlikeLemmas.{HeadersAlike, IsThere, shape_same, quant_same, shift_same, step_same, planes_same, shapes_same}
 use Rattle.jx_plan.proofs.WrittenLemmas.{alike_written, alike_to, slot_written, slot_more, cod_kept}
 
 note_aside : (comps : ℕ) (s : Segment) → IsNote comps s → IsAside comps s
@@ -49,8 +49,8 @@ header_slots a main comps [] t h slot g = refl
 header_slots a main comps (x ∷ xs) zero h slot g = tile_slots a comps x (All-head (IsHeaded comps) x xs h) slot g
 header_slots a main comps (x ∷ xs) (suc t) h slot g = header_slots a main comps xs t (All-tail (IsHeaded comps) x xs h) slot g
 
-pub slots_alike : (a : Asked) (xs ys : List Segment) → SlotsWritten a xs ys → HeadersAlike xs ys
-slots_alike a xs ys h slot g = alike_to (in_slot slot xs) (option_map (written a) (in_slot slot ys)) (in_slot slot ys) (h slot g) (alike_written a (in_slot slot ys))
+pub slots_alike : (a : Asked) (xs ys : List Segment) → SlotsWritten a xs ys → HeadersAlike a.precincts xs ys
+slots_alike a xs ys h slot g = alike_to a.precincts (in_slot slot xs) (option_map (written a) (in_slot slot ys)) (in_slot slot ys) (h slot g) (alike_written a (in_slot slot ys))
 
 or_map : (f : Segment → Segment) (x y : Option Segment) → option_or (option_map f x) (option_map f y) ≡ option_map f (option_or x y)
 or_map f None y = refl
@@ -64,17 +64,28 @@ cod_slots a own other main there here mains =
     ap cod_in (or_same (in_slot 1 own) (in_slot 1 main) _ _ (here 1 refl) (mains 1 refl) ∙ or_map (written a) (in_slot 1 other) (in_slot 1 there))
     ∙ cod_kept a (option_or (in_slot 1 other) (in_slot 1 there))
 
-all_but_layers : (a : Asked) (p q : Option Shape) (x y : Option Quant) (m n : ℕ) (u v : Option Cod) (cod : Cod) → p ≡ q → x ≡ y → m ≡ n → u ≡ Some (cod_written a cod) → v ≡ Some cod
-    → params_from (shape_or p) (cod_or u) (quant_or x) m ≡ record (params_from (shape_or q) (cod_or v) (quant_or y) n) { layers = a.layers }
-all_but_layers a p q x y m n u v cod e d k f h = rw (e, d, k, f, h) refl
+exponents_are : (ps : Option (List ℕ)) (shape : Shape) → precincts_of (precincts_written ps shape) ≡ exponents_written ps shape.levels (precincts_of shape.precincts)
+exponents_are None shape = refl
+exponents_are (Some items) shape = refl
 
-params_written : (a : Asked) (own other main there : List Segment) (c : ℕ) (cod : Cod) → SlotsWritten a own other → SlotsWritten a main there → cod_of other there ≡ Some cod
-    → params_by own main c ≡ record (params_by other there c) { layers = a.layers }
-params_written a own other main there c cod here mains is =
+both_asked : (a : Asked) (shape : Shape) (cod : Cod) (y : Option Quant) (n : ℕ)
+    → params_from (shape_written a.precincts shape) (cod_written a cod) (quant_or y) n ≡ params_written a (params_from shape cod (quant_or y) n)
+both_asked a shape cod y n = rw (exponents_are a.precincts shape) refl
+
+all_asked : (a : Asked) (p q : Option Shape) (x y : Option Quant) (m n : ℕ) (u v : Option Cod) (shape : Shape) (cod : Cod) → p ≡ option_map (shape_written a.precincts) q → q ≡ Some shape
+    → x ≡ y → m ≡ n → u ≡ Some (cod_written a cod) → v ≡ Some cod
+    → params_from (shape_or p) (cod_or u) (quant_or x) m ≡ params_written a (params_from (shape_or q) (cod_or v) (quant_or y) n)
+all_asked a p q x y m n u v shape cod e there d k f h =
+    let same : p ≡ Some (shape_written a.precincts shape) = e ∙ ap (option_map (shape_written a.precincts)) there in
+    rw (same, there, d, k, f, h) (both_asked a shape cod y n)
+
+params_are : (a : Asked) (own other main there : List Segment) (c : ℕ) (shape : Shape) (cod : Cod) → SlotsWritten a own other → SlotsWritten a main there
+    → shape_of other there c ≡ Some shape → cod_of other there ≡ Some cod → params_by own main c ≡ params_written a (params_by other there c)
+params_are a own other main there c shape cod here mains shaped is =
     let h = slots_alike a own other here in
     let m = slots_alike a main there mains in
-    all_but_layers a (shape_of own main c) (shape_of other there c) (quant_of own main c) (quant_of other there c) (shift_of own main c) (shift_of other there c) (cod_of own main) (cod_of other there) cod
-    (shape_same own other main there h m c) (quant_same own other main there h m c) (shift_same own other main there h m c)
+    all_asked a (shape_of own main c) (shape_of other there c) (quant_of own main c) (quant_of other there c) (shift_of own main c) (shift_of other there c) (cod_of own main) (cod_of other there) shape cod
+    (shape_same a.precincts own other main there h m c) shaped (quant_same a.precincts own other main there h m c) (shift_same a.precincts own other main there h m c)
     (cod_slots a own other main there here mains ∙ ap (option_map (cod_written a)) is) is
 
 -- the COD of a tile
@@ -93,6 +104,20 @@ coded_at s stand t =
     (or_chosen comps 1 1 _ _ (slot_chosen comps 1 1 1 (header_of s t) own (inl refl)) (slot_chosen comps 1 1 1 s.main main (inl refl)))
     (or_there (in_slot 1 (header_of s t)) (in_slot 1 s.main) (slot_there 1 s.main (defaults_there s.main stand.defaults).0))
 
+-- and the shape of a component
+
+pub shaped_at : (s : Stream) → HeadersStand s → (t c : ℕ) → IsShaped (chosen (5 + 3 * c) 1 (header_of s t) s.main)
+shaped_at s stand t c =
+    let comps = length s.siz.comps in
+    let own = headers_fit comps s.tiles t stand.each in
+    let main = segments_fit Main comps [] s.main stand.main in
+    shape_there comps c _ (chosen_fits comps (5 + 3 * c) 1 (header_of s t) s.main own main)
+    (chosen_there (5 + 3 * c) 1 (header_of s t) s.main (defaults_there s.main stand.defaults).0)
+
+there_by : (ps : Option (List ℕ)) (o : Option Shape) (shape : Shape) → o ≡ Some shape → IsThere ps o
+there_by None o shape e = tt
+there_by (Some items) o shape e = ap is_some e
+
 pub tile_number_stays : (a : Asked) (s : Stream) → tile_number (stream_written a s).siz ≡ tile_number s.siz
 unfolding stream_written
 tile_number_stays a s = refl
@@ -110,29 +135,33 @@ module _ (a : Asked) (s : Stream) (stand : HeadersStand s) where
   unfolding stream_written
   main_slots slot g = slot_written a slot s.main g
 
-  own_alike : (t : ℕ) → HeadersAlike (header_of (stream_written a s) t) (header_of s t)
+  own_alike : (t : ℕ) → HeadersAlike a.precincts (header_of (stream_written a s) t) (header_of s t)
   own_alike t = slots_alike a (header_of (stream_written a s) t) (header_of s t) (own_slots t)
 
-  main_alike : HeadersAlike (stream_written a s).main s.main
+  main_alike : HeadersAlike a.precincts (stream_written a s).main s.main
   main_alike = slots_alike a (stream_written a s).main s.main main_slots
 
   comps_same : (stream_written a s).siz.comps ≡ s.siz.comps
   unfolding stream_written
   comps_same = refl
 
-  pub params_stay : (t c : ℕ) → params_of (stream_written a s) t c ≡ record (params_of s t c) { layers = a.layers }
-  params_stay t c = params_written a (header_of (stream_written a s) t) (header_of s t) (stream_written a s).main s.main c (coded_at s stand t).cod (own_slots t) main_slots (coded_at s stand t).is
+  pub params_stay : (t c : ℕ) → params_of (stream_written a s) t c ≡ params_written a (params_of s t c)
+  params_stay t c =
+      params_are a (header_of (stream_written a s) t) (header_of s t) (stream_written a s).main s.main c (shaped_at s stand t c).shape (coded_at s stand t).cod (own_slots t) main_slots
+      (shaped_at s stand t c).is (coded_at s stand t).is
 
   pub step_stays : (t c r : ℕ) (band : Band) → step_of (stream_written a s) t c r band ≡ step_of s t c r band
-  step_stays t c r band = step_same (header_of (stream_written a s) t) (header_of s t) (stream_written a s).main s.main (own_alike t) main_alike c r band
+  step_stays t c r band = step_same a.precincts (header_of (stream_written a s) t) (header_of s t) (stream_written a s).main s.main (own_alike t) main_alike c r band
 
   pub planes_stay : (t c r : ℕ) (band : Band) → planes_at (stream_written a s) t c r band ≡ planes_at s t c r band
-  planes_stay t c r band = planes_same (header_of (stream_written a s) t) (header_of s t) (stream_written a s).main s.main (own_alike t) main_alike c r band
+  planes_stay t c r band = planes_same a.precincts (header_of (stream_written a s) t) (header_of s t) (stream_written a s).main s.main (own_alike t) main_alike c r band
 
-  pub shapes_stay : (t : ℕ) → shapes_of (stream_written a s) t ≡ shapes_of s t
-  shapes_stay t = shapes_same (header_of (stream_written a s) t) (header_of s t) (stream_written a s).main s.main (own_alike t) main_alike (stream_written a s).siz s.siz comps_same
+  pub shapes_stay : (t : ℕ) → shapes_of (stream_written a s) t ≡ map (comp_written a.precincts) (shapes_of s t)
+  shapes_stay t =
+      shapes_same a.precincts (header_of (stream_written a s) t) (header_of s t) (stream_written a s).main s.main (own_alike t) main_alike (stream_written a s).siz s.siz comps_same
+      (λ comp. there_by a.precincts (shape_of (header_of s t) s.main comp) (shaped_at s stand t comp).shape (shaped_at s stand t comp).is)
 
-  pub geometry_stays : (t : ℕ) → geometry (stream_written a s) t ≡ geometry s t
+  pub geometry_stays : (t : ℕ) → geometry (stream_written a s) t ≡ record (geometry s t) { shapes = map (comp_written a.precincts) (shapes_of s t) }
   unfolding stream_written
   geometry_stays t = ap (λ (xs : List CompShape). record { canvas = canvas_of s.siz; tile = t; shapes = xs }) (shapes_stay t)
 

@@ -1,5 +1,5 @@
 -- Code-blocks, packets and ranges of the stream that is written, and of one with comments and packet lengths more.
-use Rattle.std.proofs.Common.{◌≡◌, ◌∙◌, ◌<◌, ◌≤◌, ◌^◌, ◌*◌, ℕ, arith, List, length, refl, sym, subst}
+use Rattle.std.proofs.Common.{◌≡◌, ◌∙◌, ◌<◌, ◌≤◌, ◌*◌, ℕ, arith, List, length, refl, sym, subst}
 use Rattle.std.proofs.Math.Path.{fun_ext}
 use Rattle.jx_base.specs.declared.names.BlockName.{BlockName}
 use Rattle.jx_base.specs.Joined.{sum_below}
@@ -8,35 +8,42 @@ use Rattle.jx_geom.specs.declared.shape.CompShape.{CompShape}
 use Rattle.jx_geom.specs.Rects.{tile_rect}
 use Rattle.jx_geom.specs.Counts.{tile_count, tile_precincts}
 use Rattle.jx_geom.specs.Geometry.{Geometry}
+use Rattle.jx_geom.specs.Same.{AllSameBlocks}
 use Rattle.jx_marker.specs.declared.Progression.{Progression}
 use Rattle.jx_order.specs.Packets.{AreCovered}
 use Rattle.jx_stream.specs.declared.Stream.{Stream}
 use Rattle.jx_stream.specs.First.{canvas_of, tile_number}
-use Rattle.jx_stream.specs.Read.{IsRead}
 use Rattle.jx_stream.specs.Shapes.{shapes_of, geometry, layers_of, tile_at}
-use Rattle.jx_stream.specs.InRange.{StreamInRange}
-use Rattle.jx_stream.proofs.RangeLemmas.{read_in_range}
 use Rattle.jx_gather.specs.Totals.{block_total, tile_packets, packet_total, totals_fault}
 use Rattle.jx_gather.specs.Another.{HasSameBlock, HaveSameBlocks}
 use Rattle.jx_gather.specs.Gathered.{IsWhole}
 use Rattle.jx_plan.specs.Headers.{Asked, stream_written}
 use Rattle.jx_plan.specs.Asides.{IsWithMore}
+use Rattle.jx_plan.specs.Fits.{Fits}
 use Rattle.jx_plan.specs.Standing.{HeadersStand}
-use Rattle.jx_plan.proofs.ReadLemmas.{read_stands}
-use Rattle.jx_plan.proofs.RangeLemmas.{written_in_range}
 use Rattle.jx_plan.proofs.StreamLemmas.{canvas_stays, shapes_stay, planes_stay, style_stays, layers_are}
 use Rattle.jx_plan.proofs.MoreLemmas.{canvas_with_more, shapes_with_more, planes_with_more, style_with_more, layers_with_more}
-use Rattle.jx_plan.proofs.BlockLemmas.{geometries, totals_same, blocks_same}
+use Rattle.jx_plan.proofs.BlockLemmas.{geometries, same_shapes, totals_same, blocks_same}
 
 -- the same blocks
 
-pub written_blocks : (a : Asked) (s : Stream) → HeadersStand s → ((t : ℕ) → t < tile_number s.siz → layers_of s t ≤ a.layers) → HaveSameBlocks s (stream_written a s)
-written_blocks a s stand enough =
-    blocks_same s (stream_written a s) (canvas_stays a s) (shapes_stay a s stand) (planes_stay a s stand) (style_stays a s stand) (λ t inside. omega (arith, enough t inside, layers_are a s stand t))
+pub written_shapes : (a : Asked) (s : Stream) → Fits a.precincts s → HeadersStand s → (t : ℕ) → t < tile_number s.siz → AllSameBlocks (shapes_of s t) (shapes_of (stream_written a s) t)
+written_shapes a s fits stand t inside =
+    let P : List CompShape → Type 0 = λ xs. AllSameBlocks (shapes_of s t) xs in
+    subst P (sym (shapes_stay a s stand t)) (fits.blocks t inside)
+
+pub written_blocks : (a : Asked) (s : Stream) → Fits a.precincts s → HeadersStand s → ((t : ℕ) → t < tile_number s.siz → layers_of s t ≤ a.layers) → HaveSameBlocks s (stream_written a s)
+written_blocks a s fits stand enough =
+    blocks_same s (stream_written a s) (canvas_stays a s) (written_shapes a s fits stand) (planes_stay a s stand) (style_stays a s stand)
+    (λ t inside. omega (arith, enough t inside, layers_are a s stand t))
+
+more_shapes : (s other : Stream) → IsWithMore s other → (t : ℕ) → t < tile_number s.siz → AllSameBlocks (shapes_of s t) (shapes_of other t)
+more_shapes s other more t inside = same_shapes (shapes_of s t) (shapes_of other t) (shapes_with_more s other more t)
 
 pub more_blocks : (s other : Stream) → IsWithMore s other → HaveSameBlocks s other
 more_blocks s other more =
-    blocks_same s other (canvas_with_more s other more) (shapes_with_more s other more) (planes_with_more s other more) (style_with_more s other more) (λ t inside. omega (arith, layers_with_more s other more t))
+    blocks_same s other (canvas_with_more s other more) (more_shapes s other more) (planes_with_more s other more) (style_with_more s other more)
+    (λ t inside. omega (arith, layers_with_more s other more t))
 
 block_through : (s w o : Stream) (n : BlockName) → HasSameBlock s w n → HasSameBlock w o n → HasSameBlock s o n
 block_through s w o n h k = record {
@@ -71,7 +78,7 @@ module _ (s other : Stream) (more : IsWithMore s other) where
   more_geometry t = geometries s other (canvas_with_more s other more) (shapes_with_more s other more) t
 
   pub more_block_total : block_total other ≡ block_total s
-  more_block_total = sym (totals_same s other (canvas_with_more s other more) (shapes_with_more s other more))
+  more_block_total = sym (totals_same s other (canvas_with_more s other more) (more_shapes s other more))
 
   pub more_packets : packet_total other ≡ packet_total s
   more_packets =
@@ -94,8 +101,3 @@ module _ (s other : Stream) (more : IsWithMore s other) where
   more_whole t inside whole =
       cover_same (geometry other t) (geometry s t) (layers_of other t) (layers_of s t) (tile_at other t).progressions (tile_at s t).progressions (more_geometry t)
       (layers_with_more s other more t) (more.each t inside).progressions whole
-
--- a stream that was read is in range when it is written
-
-pub read_written : (b : List ℕ) (a : Asked) (s w : Stream) → IsRead b s → 1 ≤ a.layers → a.layers < 2 ^ 16 → w ≡ stream_written a s → StreamInRange w
-read_written b a s w read some few is = subst StreamInRange (sym is) (written_in_range a s some few (read_stands b s read) (read_in_range b s read))

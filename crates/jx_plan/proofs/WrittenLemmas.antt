@@ -1,22 +1,24 @@
--- What is written of a header says the same as the header, but for COD's marks and layers.
-use Rattle.std.proofs.Common.{◌≡◌, ◌==◌, ℕ, true, false, arith, List, [], ◌∷◌, ◌++◌, refl, Option, Some, None, inl, inr}
-use Rattle.std.specs.List.{All}
+-- What is written of a header says the same as the header, but for COD's marks, order and layers, and for precincts.
+use Rattle.std.proofs.Common.{◌≡◌, ◌+◌, ◌==◌, ℕ, true, false, arith, List, [], ◌∷◌, ◌++◌, map, refl, sym, Option, Some, None, inl, inr}
+use Rattle.std.specs.List.{All, range_with_len}
 use Rattle.std.specs.Option.{option_map}
 use Rattle.std.proofs.lemmas.Bool.Decides.{nat_tests}
 use Rattle.std.proofs.lemmas.Bool.{cases_Bool}
+use Rattle.std.proofs.lemmas.List.FromFn.{map-range_with_len_more}
 use Rattle.std.proofs.lemmas.List.Elements.{All-head, All-tail}
 use Rattle.jx_marker.specs.declared.Segment.{Segment}
 use Rattle.jx_marker.specs.declared.Segment.TheVariants as segment
 use Rattle.jx_stream.specs.Headers.{slot_of, has_slot}
 use Rattle.jx_stream.specs.Index.{gives}
 use Rattle.jx_stream.specs.Tiles.{in_slot}
-use Rattle.jx_stream.specs.Params.{cod_in}
-use Rattle.jx_plan.specs.Headers.{Asked, cod_written, written, is_written, all_written}
+use Rattle.jx_stream.specs.Params.{cod_in, shape_in}
+use Rattle.jx_plan.specs.Headers.{Asked, cod_written, item_at, written, is_written, all_written}
 use Rattle.jx_plan.specs.Asides.{IsAside, is_aside}
-use Rattle.jx_plan.proofs.AlikeLemmas.{AreAlike, HeadersAlike}
+use Rattle.jx_plan.proofs.AlikeLemmas.{AreAlike, none_asked}
 
 pub slot_kept : (a : Asked) (s : Segment) → slot_of (written a s) ≡ slot_of s
 slot_kept a (segment.Cod cod) = refl
+slot_kept a (segment.Coc comp shape) = refl
 slot_kept a _ = refl
 
 -- what is left out gives nothing
@@ -46,20 +48,19 @@ kind_written a slot (s ∷ ss) g = elim (cases_Bool (is_written s)) [
   | inr f ↦ rw (f, left_out s slot f g) (kind_written a slot ss g)
 ]
 
-pub alike_written : (a : Asked) (o : Option Segment) → AreAlike (option_map (written a) o) o
+pub alike_written : (a : Asked) (o : Option Segment) → AreAlike a.precincts (option_map (written a) o) o
 alike_written a None = record { some = refl; shape = refl; quant = refl; shift = refl }
 alike_written a (Some (segment.Cod cod)) = record { some = refl; shape = refl; quant = refl; shift = refl }
+alike_written a (Some (segment.Coc comp shape)) = record { some = refl; shape = refl; quant = refl; shift = refl }
 alike_written a (Some _) = record { some = refl; shape = refl; quant = refl; shift = refl }
 
-pub alike_to : (o p q : Option Segment) → o ≡ p → AreAlike p q → AreAlike o q
-alike_to o p q e h = rw e h
-
-pub header_written : (a : Asked) (ss : List Segment) → HeadersAlike (all_written a ss) ss
-header_written a ss slot g = alike_to (in_slot slot (all_written a ss)) (option_map (written a) (in_slot slot ss)) (in_slot slot ss) (slot_written a slot ss g) (alike_written a (in_slot slot ss))
+pub alike_to : (ps : Option (List ℕ)) (o p q : Option Segment) → o ≡ p → AreAlike ps p q → AreAlike ps o q
+alike_to ps o p q e h = rw e h
 
 pub cod_kept : (a : Asked) (o : Option Segment) → cod_in (option_map (written a) o) ≡ option_map (cod_written a) (cod_in o)
 cod_kept a None = refl
 cod_kept a (Some (segment.Cod cod)) = refl
+cod_kept a (Some (segment.Coc comp shape)) = refl
 cod_kept a (Some _) = refl
 
 -- comments and packet lengths give nothing either
@@ -85,8 +86,9 @@ slot_more comps slot (s ∷ ss) more g h = elim (cases_Bool (slot_of s == slot))
   | inr past ↦ rw past (slot_more comps slot ss more g h)
 ]
 
-pub alike_self : (o : Option Segment) → AreAlike o o
-alike_self o = record { some = refl; shape = refl; quant = refl; shift = refl }
+pub alike_self : (o : Option Segment) → AreAlike None o o
+alike_self o = record { some = refl; shape = sym (none_asked (shape_in o)); quant = refl; shift = refl }
 
-pub header_more : (comps : ℕ) (own more : List Segment) → All (IsAside comps) more → HeadersAlike (own ++ more) own
-header_more comps own more h slot g = alike_to (in_slot slot (own ++ more)) (in_slot slot own) (in_slot slot own) (slot_more comps slot own more g h) (alike_self (in_slot slot own))
+-- one byte of precincts more
+pub bytes_next : (items : List ℕ) (res : ℕ) → map (item_at items) (range_with_len 0 (res + 1)) ≡ map (item_at items) (range_with_len 0 res) ++ item_at items res ∷ []
+bytes_next items res = map-range_with_len_more (item_at items) 0 res res (omega arith)

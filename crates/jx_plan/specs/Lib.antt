@@ -4,6 +4,10 @@ pub mod Cuts
 pub mod Planners
 pub mod Layers
 pub mod Headers
+pub mod Wanted
+pub mod Choices
+pub mod Fits
+pub mod Groups
 pub mod Standing
 pub mod Asides
 pub mod ReadBack
@@ -14,3 +18,4 @@ pub mod Keeping
 pub mod Plan
 pub mod KeptFault
 pub mod Planned
+pub mod Steps

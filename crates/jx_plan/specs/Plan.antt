@@ -11,10 +11,13 @@ use Rattle.jx_gather.specs.Totals.{packet_total, totals_fault}
 use Rattle.jx_block.specs.declared.job.Job.{Job}
 use Rattle.jx_block.specs.Jobs.{IsAsked}
 use Rattle.jx_block.specs.Recoding.{layer_ends}
-use Rattle.jx_plan.specs.declared.Marks.{Marks}
+use Rattle.jx_stream.specs.First.{tile_number}
 use Rattle.jx_plan.specs.Crowded.{IsLowestCrowded}
 use Rattle.jx_plan.specs.Facts.{most_layers}
-use Rattle.jx_plan.specs.Headers.{stream_written}
+use Rattle.jx_plan.specs.Fits.{Fits}
+use Rattle.jx_plan.specs.Groups.{HasFewParts}
+use Rattle.jx_plan.specs.Headers.{Asked, stream_written}
+use Rattle.jx_plan.specs.Wanted.{MayBeWanted, Wanted}
 use Rattle.jx_plan.specs.Standing.{HeadersStand}
 
 -- a stream that was read, with its blocks
@@ -26,8 +29,11 @@ pub record MayBePlanned (s : Stream) (blocks : List Block) : Type 0 where
   pub sound : All IsSound blocks
 
 -- the headers that are written
-abbrev pub headers_with : Marks → ℕ → Stream → Stream
-headers_with m layers s = stream_written (record { sop = m.sop; eph = m.eph; layers = layers }) s
+abbrev pub asked_of : Wanted → ℕ → Asked
+asked_of w layers = record { sop = w.sop; eph = w.eph; layers = layers; order = w.order; precincts = w.precincts }
+
+abbrev pub headers_with : Wanted → ℕ → Stream → Stream
+headers_with w layers s = stream_written (asked_of w layers) s
 
 -- limit 7: the packets that are written
 abbrev pub most_packets : ℕ
@@ -36,12 +42,12 @@ most_packets = 2 ^ 22
 pub record Plan : Type 0 where
   pub stream : Stream
   pub blocks : List Block
-  pub marks : Marks
+  pub wanted : Wanted
   pub layers : ℕ
   pub jobs : List Job
 
 abbrev pub headers_of : Plan → Stream
-headers_of p = headers_with p.marks p.layers p.stream
+headers_of p = headers_with p.wanted p.layers p.stream
 
 -- what is asked of a block of a number, which is kept
 pub record IsJob (blocks : List Block) (number : ℕ) (job : Job) : Type 0 where
@@ -52,6 +58,9 @@ pub record IsJob (blocks : List Block) (number : ℕ) (job : Job) : Type 0 where
 
 pub record IsPlan (p : Plan) : Type 0 where
   pub may : MayBePlanned p.stream p.blocks
+  pub wanted : MayBeWanted p.wanted
+  -- choices 3 and 2
+  pub fits : Fits p.wanted.precincts p.stream
   pub some : 1 ≤ p.layers
   pub few : p.layers < 2 ^ 16
   pub packets : packet_total (headers_of p) ≤ most_packets
@@ -59,20 +68,17 @@ pub record IsPlan (p : Plan) : Type 0 where
   pub each : (number : ℕ) (job : Job) → slice_get p.jobs number ≡ Some job → IsJob p.blocks number job
   -- choice 4
   pub uncrowded : IsLowestCrowded p.jobs None
+  -- choice 5
+  pub parts : (t : ℕ) → t < tile_number p.stream.siz → HasFewParts p.wanted.parts (headers_of p) t
 
 -- each block is sent in the layers in which it was
 abbrev pub KeepsLayers : List Job → Type 0
 KeepsLayers jobs = All (λ (job : Job). job.ends ≡ layer_ends job.block.now.pieces) jobs
 
 -- the plan that keeps the layers of each tile: as many are written as the tile has that has the most
-pub record IsKeptPlan (s : Stream) (blocks : List Block) (m : Marks) (p : Plan) : Type 0 where
+pub record IsKeptPlan (s : Stream) (blocks : List Block) (w : Wanted) (p : Plan) : Type 0 where
   pub stream : p.stream ≡ s
   pub blocks_are : p.blocks ≡ blocks
-  pub marks : p.marks ≡ m
+  pub wanted : p.wanted ≡ w
   pub layers : p.layers ≡ most_layers s
   pub jobs : KeepsLayers p.jobs
-
--- limit 7 is passed by it
-pub record PassesPackets (s : Stream) (m : Marks) (found : ℕ) : Type 0 where
-  pub count : found ≡ packet_total (headers_with m (most_layers s) s)
-  pub many : most_packets < found

@@ -1,12 +1,10 @@
--- What is planned by a planner that was handed in, and why nothing is: choice 6, where no planner serves the words or it makes no rule
--- of them; limit 7; choice 4.
-use Rattle.std.specs.Prelude.{◌≡◌, ◌<◌, ◌≤◌, ℕ, Bool, List, [], ◌∷◌, Option, None, Some, if◌then◌else◌}
+-- What is planned by a planner that was handed in, and why nothing is: choice 3; choice 2; choice 6, where no planner serves the words
+-- or it makes no rule of them; limit 7; choice 4; choice 5.
+use Rattle.std.specs.Prelude.{◌≡◌, ◌⊎◌, ◌≤◌, ℕ, Bool, List, [], ◌∷◌, Option, None, Some, if◌then◌else◌}
 use Rattle.jx_base.specs.declared.pieces.Block.{Block}
 use Rattle.jx_block.specs.declared.job.Job.{Job}
 use Rattle.jx_stream.specs.declared.Stream.{Stream}
 use Rattle.jx_gather.specs.Totals.{packet_total}
-use Rattle.jx_plan.specs.declared.Marks.{Marks}
-use Rattle.jx_plan.specs.declared.Options.{Options}
 use Rattle.jx_plan.specs.declared.StreamFacts.{StreamFacts}
 use Rattle.jx_plan.specs.declared.faults.PlanFault.{PlanFault}
 use Rattle.jx_plan.specs.declared.faults.PlanFault.TheVariants as fault
@@ -14,7 +12,10 @@ use Rattle.jx_plan.specs.Rule.{Rule, layers_by}
 use Rattle.jx_plan.specs.Layers.{AreJobs}
 use Rattle.jx_plan.specs.Crowded.{IsLowestCrowded}
 use Rattle.jx_plan.specs.Facts.{facts_of}
+use Rattle.jx_plan.specs.Fits.{AreUnfit, Fits}
+use Rattle.jx_plan.specs.KeptFault.{HasManyPartsAt, PassesPackets}
 use Rattle.jx_plan.specs.Plan.{Plan, headers_with, most_packets}
+use Rattle.jx_plan.specs.Wanted.{Wanted}
 
 -- so many layers and these jobs, by the rule that there is
 abbrev pub ArePlanned : Option Rule → StreamFacts → List Block → ℕ → List Job → Type 0
@@ -31,49 +32,49 @@ abbrev pub chosen : {X Y : Type 0} → (X → Bool) → (X → Option Y) → Lis
 chosen p f [] = None
 chosen p f (x ∷ xs) = if p x then f x else chosen p f xs
 
--- the marks that are asked
-abbrev pub marks_of : Options → Marks
-marks_of o = record { sop = o.sop; eph = o.eph; plt = o.plt }
-
--- the packets of the layers that a rule makes
-abbrev pub packets_by : Rule → Stream → List Block → Marks → ℕ
-packets_by r s blocks m = packet_total (headers_with m (layers_by r (facts_of s blocks)) s)
+-- the layers that a rule makes of a stream
+abbrev pub layers_of_rule : Rule → Stream → List Block → ℕ
+layers_of_rule r s blocks = layers_by r (facts_of s blocks)
 
 -- what is planned by a rule: its layers, and jobs in the layers that it answers
-pub record IsPlannedBy (r : Rule) (s : Stream) (blocks : List Block) (m : Marks) (p : Plan) : Type 0 where
+pub record IsPlannedBy (r : Rule) (s : Stream) (blocks : List Block) (w : Wanted) (p : Plan) : Type 0 where
   pub stream : p.stream ≡ s
   pub blocks_are : p.blocks ≡ blocks
-  pub marks : p.marks ≡ m
-  pub layers : p.layers ≡ layers_by r (facts_of s blocks)
+  pub wanted : p.wanted ≡ w
+  pub layers : p.layers ≡ layers_of_rule r s blocks
   pub jobs : AreJobs r p.layers blocks p.jobs
 
 -- by the rule that there is
-abbrev pub IsPlanned : Option Rule → Stream → List Block → Marks → Plan → Type 0
-IsPlanned None s blocks m p = ⊥
-IsPlanned (Some r) s blocks m p = IsPlannedBy r s blocks m p
+abbrev pub IsPlanned : Option Rule → Stream → List Block → Wanted → Plan → Type 0
+IsPlanned None s blocks w p = ⊥
+IsPlanned (Some r) s blocks w p = IsPlannedBy r s blocks w p
 
--- limit 7 is passed
-pub record HasManyPackets (r : Rule) (s : Stream) (blocks : List Block) (m : Marks) (found : ℕ) : Type 0 where
-  pub count : found ≡ packets_by r s blocks m
-  pub many : most_packets < found
-
--- choice 4: limit 7 isn't passed, and this is the lowest block of which a layer would have too many passes
-pub record IsCrowdedAt (r : Rule) (s : Stream) (blocks : List Block) (m : Marks) (place : ℕ) : Type 0 where
-  pub few : packets_by r s blocks m ≤ most_packets
+-- choice 4: nothing of what comes before it, and this is the lowest block of which a layer would have too many passes
+pub record IsCrowdedAt (r : Rule) (s : Stream) (blocks : List Block) (w : Wanted) (place : ℕ) : Type 0 where
+  pub fits : Fits w.precincts s
+  pub few : packet_total (headers_with w (layers_of_rule r s blocks) s) ≤ most_packets
   pub jobs : List Job
-  pub jobs_are : AreJobs r (layers_by r (facts_of s blocks)) blocks jobs
+  pub jobs_are : AreJobs r (layers_of_rule r s blocks) blocks jobs
   pub lowest : IsLowestCrowded jobs (Some place)
 
--- why nothing is planned by the rule that there is, or without one: of each rule and stream one cause at most; want of memory is free
-abbrev pub HasPlanCause : Option Rule → Stream → List Block → Marks → PlanFault → Type 0
-HasPlanCause None s blocks m (fault.Choice number place) = (number ≡ 6) × (place ≡ 0)
-HasPlanCause None s blocks m (fault.Limit number found) = ⊥
-HasPlanCause (Some r) s blocks m (fault.Choice number place) = (number ≡ 4) × IsCrowdedAt r s blocks m place
-HasPlanCause (Some r) s blocks m (fault.Limit number found) = (number ≡ 7) × HasManyPackets r s blocks m found
-HasPlanCause rule s blocks m fault.NoMemory = Unit {0}
+-- choice 5: the same, and no block is crowded
+pub record IsPartedBy (r : Rule) (s : Stream) (blocks : List Block) (w : Wanted) (place : ℕ) : Type 0 where
+  pub many : HasManyPartsAt s w (layers_of_rule r s blocks) place
+  pub jobs : List Job
+  pub jobs_are : AreJobs r (layers_of_rule r s blocks) blocks jobs
+  pub uncrowded : IsLowestCrowded jobs None
 
--- the same of layers and jobs that are planned
-abbrev pub IsTooMuch : Stream → Marks → ℕ → List Job → PlanFault → Type 0
-IsTooMuch s m layers jobs (fault.Choice number place) = (number ≡ 4) × (packet_total (headers_with m layers s) ≤ most_packets) × IsLowestCrowded jobs (Some place)
-IsTooMuch s m layers jobs (fault.Limit number found) = (number ≡ 7) × (found ≡ packet_total (headers_with m layers s)) × (most_packets < found)
-IsTooMuch s m layers jobs fault.NoMemory = Unit {0}
+-- why nothing is planned by a rule
+abbrev pub IsUnplannedBy : Rule → Stream → List Block → Wanted → PlanFault → Type 0
+IsUnplannedBy r s blocks w (fault.Choice number place) = ((number ≡ 4) × IsCrowdedAt r s blocks w place) ⊎ ((number ≡ 5) × IsPartedBy r s blocks w place)
+IsUnplannedBy r s blocks w (fault.Limit number found) = (number ≡ 7) × PassesPackets s w (layers_of_rule r s blocks) found
+IsUnplannedBy r s blocks w fault.NoMemory = Unit {0}
+
+-- by the rule that there is, or without one
+abbrev pub LacksPlan : Option Rule → Stream → List Block → Wanted → PlanFault → Type 0
+LacksPlan None s blocks w e = Fits w.precincts s × (e ≡ fault.Choice 6 0)
+LacksPlan (Some r) s blocks w e = IsUnplannedBy r s blocks w e
+
+-- of each rule and stream one cause at most; want of memory is free
+abbrev pub HasPlanCause : Option Rule → Stream → List Block → Wanted → PlanFault → Type 0
+HasPlanCause rule s blocks w e = AreUnfit s w.precincts e ⊎ LacksPlan rule s blocks w e

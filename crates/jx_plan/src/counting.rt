@@ -1,13 +1,19 @@
-//! How many packets are written.
+//! How many packets and tile-parts are written.
 
-ghost use Rattle.std.specs.Prelude.{◌≡◌, ◌≤◌, IfOk};
-ghost use Rattle.jx_gather.specs.Totals.{packet_total};
+ghost use Rattle.std.specs.Prelude.{◌≡◌, ◌<◌, ◌≤◌, ℕ, IfErr, IfOk, OnOk, None};
+ghost use Rattle.jx_gather.specs.Totals.{packet_total, totals_fault};
+ghost use Rattle.jx_stream.specs.First.{tile_number};
 ghost use Rattle.jx_stream.specs.InRange.{StreamInRange};
-ghost use Rattle.jx_plan.specs.Plan.{headers_with};
+ghost use Rattle.jx_plan.specs.Fits.{Fits};
+ghost use Rattle.jx_plan.specs.Groups.{HasFewParts};
+ghost use Rattle.jx_plan.specs.Plan.{headers_with, most_packets};
 ghost use Rattle.jx_plan.specs.Standing.{HeadersStand};
+ghost use Rattle.jx_plan.specs.Steps.{IsOverPackets, IsOverParts};
+ghost use Rattle.jx_plan.specs.Wanted.{MayBeWanted};
 
-use crate::Marks;
 use crate::headers::{HeaderMarks, write_headers};
+use crate::parting::first_parted;
+use crate::{Options, PlanFault};
 use jx_base::NoMemory;
 use jx_gather::count_all;
 use jx_stream::Stream;
@@ -28,30 +34,84 @@ pub(crate) fn count_packets(alloc: Global, stream: &Stream) -> Result<u128, NoMe
     Ok(packets)
 }
 
-/// The headers that are written with these marks and so many layers in each tile, at least 1, and how many packets follow them.
+/// The headers that are written as the options ask, with so many layers in each tile.
+fn written_with(
+    alloc: Global,
+    stream: &Stream,
+    options: &Options,
+    layers: u16,
+) -> Result<Stream, NoMemory>
+    ensures { IfOk result (λ written. written ≡ headers_with options.now layers stream.now) }
+{
+    let asked = HeaderMarks {
+        sop: options.sop,
+        eph: options.eph,
+        layers,
+        order: options.order.number(),
+        precincts: options.precincts.bytes(),
+    };
+    write_headers(alloc, stream, asked)
+}
+
+/// The headers that are written as the options ask, with so many layers in each tile, at least 1.
 ///
 /// # Errors
 ///
-/// `NoMemory` where memory is refused.
-#[tactic(auto, using(crate::proofs::KeptLemmas::headers_in_range))]
+/// Limit 7 exactly where over 2^22 packets follow them, with their number. `NoMemory` where memory is refused.
 pub(crate) fn plan_headers(
     alloc: Global,
     stream: &Stream,
-    marks: Marks,
+    options: &Options,
     layers: u16,
-) -> Result<(Stream, u128), NoMemory>
+) -> Result<Stream, PlanFault>
     requires stand { HeadersStand stream.now }
     requires range { StreamInRange stream.now }
+    requires wanted { MayBeWanted options.now }
+    requires fits { Fits options.now.precincts stream.now }
     requires some { 1 ≤ layers }
-    ensures headers { IfOk result (λ made. made.0 ≡ headers_with marks layers stream.now) }
-    ensures packets { IfOk result (λ made. made.1 ≡ packet_total (headers_with marks layers stream.now)) }
+    ensures headers { IfOk result (λ written. written ≡ headers_with options.now layers stream.now) }
+    ensures few { OnOk result (packet_total (headers_with options.now layers stream.now) ≤ most_packets) }
+    ensures cause { IfErr result (λ e. IsOverPackets stream.now options.now layers e) }
 {
-    let asked = HeaderMarks {
-        sop: marks.sop,
-        eph: marks.eph,
-        layers,
-    };
-    let written = write_headers(alloc, stream, asked)?;
+    let written = written_with(alloc, stream, options, layers)?;
     let packets = count_packets(alloc, &written)?;
-    Ok((written, packets))
+    if packets > 1 << 22 {
+        return Err(PlanFault::Limit {
+            number: 7,
+            found: packets,
+        });
+    }
+    Ok(written)
+}
+
+/// Whether each tile of the headers that are written has at most 255 tile-parts.
+///
+/// # Errors
+///
+/// Choice 5 exactly where one has more, at the lowest such tile. `NoMemory` where memory is refused.
+pub(crate) fn check_parts(
+    alloc: Global,
+    stream: &Stream,
+    options: &Options,
+    layers: u16,
+    written: &Stream,
+) -> Result<(), PlanFault>
+    requires stand { HeadersStand stream.now }
+    requires range { StreamInRange stream.now }
+    requires totals { totals_fault stream.now ≡ None }
+    requires wanted { MayBeWanted options.now }
+    requires fits { Fits options.now.precincts stream.now }
+    requires some { 1 ≤ layers }
+    requires written { written.now ≡ headers_with options.now layers stream.now }
+    requires few { packet_total (headers_with options.now layers stream.now) ≤ most_packets }
+    ensures few { OnOk result ((t : ℕ) → t < tile_number stream.now.siz → HasFewParts options.now.parts (headers_with options.now layers stream.now) t) }
+    ensures cause { IfErr result (λ e. IsOverParts stream.now options.now layers e) }
+{
+    match first_parted(alloc, written, options.parts)? {
+        Some(tile) => Err(PlanFault::Choice {
+            number: 5,
+            place: u32::from(tile),
+        }),
+        None => Ok(()),
+    }
 }

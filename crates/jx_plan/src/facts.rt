@@ -12,7 +12,7 @@ use jx_stream::{MainView, Stream};
 use std::alloc::Global;
 
 /// How many tiles the picture has, at most 65,535.
-fn tile_count(stream: &Stream) -> u16
+pub(crate) fn tile_count(stream: &Stream) -> u16
     requires { StreamInRange stream.now }
     ensures { result ≡ tile_number stream.now.siz }
 {

@@ -1,37 +1,42 @@
 //! The headers of the file that is written (ITU-T T.800, A.4 to A.9).
 
-ghost use Rattle.std.specs.Prelude.{◌≡◌, ◌++◌, ◌==◌, List, IfOk, OnOk, Some, map};
+ghost use Rattle.std.specs.Prelude.{◌≡◌, ◌++◌, ◌+◌, ◌<◌, ◌==◌, List, IfOk, OnOk, Some, length, map};
+ghost use Rattle.std.specs.List.{range_with_len};
 ghost use Rattle.std.specs.Option.{option_to_list};
 ghost use Rattle.jx_marker.specs.declared.Segment.{Segment};
 ghost use Rattle.jx_stream.specs.Headers.{slot_of};
 ghost use Rattle.jx_stream.specs.Tiles.{entry_in, in_slot, or_list};
-ghost use Rattle.jx_plan.specs.Headers.{all_written, cod_written, is_written, stream_written, tile_written, written};
+ghost use Rattle.jx_plan.specs.Headers.{all_written, bytes_for, cod_written, is_written, item_at, order_written, precincts_written, shape_written, stream_written, tile_written, written};
 
 use jx_base::NoMemory;
-use jx_marker::{Cod, Progression, Segment, Siz};
+use jx_marker::{Bytes, Cod, Progression, Segment, Shape, Siz};
 use jx_stream::{Bodies, Entries, Segments, Stream, Tile, Tiles};
 use std::alloc::Global;
 use std::marker::Model;
 
 /// What the headers of the written file are to say.
-#[derive(Clone, Copy)]
-pub(crate) struct HeaderMarks {
+#[derive(Drop)]
+pub(crate) struct HeaderMarks<'a> {
     /// Each packet has an SOP segment, and COD says so (A.6.1, A.8.1).
     pub sop: bool,
     /// Each packet header has an EPH marker, and COD says so (A.6.1, A.8.2).
     pub eph: bool,
     /// The layers of each tile, at least 1.
     pub layers: u16,
+    /// The progression order of each tile, 0 to 4; none where each tile keeps its own (Table A.16).
+    pub order: Option<u8>,
+    /// A byte of precincts for each resolution from 0 up, of which the last stands for all above; without bytes every exponent
+    /// is 15; none where precincts are kept (Table A.21).
+    pub precincts: Option<&'a [u8]>,
 }
 
-impl Model for HeaderMarks {
+impl<'a> Model for HeaderMarks<'a> {
+    ghost use Rattle.std.specs.Option.{option_map};
     ghost use Rattle.jx_plan.specs.Headers.{Asked};
 
     ghost Value = { Asked };
 
-    ghost view = { λ marks. record { sop = marks.sop; eph = marks.eph; layers = marks.layers } };
-
-    ghost inverse = { λ asked. record { sop = asked.sop; eph = asked.eph; layers = asked.layers } };
+    ghost view = { λ marks. record { sop = marks.sop; eph = marks.eph; layers = marks.layers; order = marks.order; precincts = option_map (λ bytes. bytes.now) marks.precincts } };
 }
 
 /// The segment is written: POC, packet and tile-part lengths and skipped markers aren't.
@@ -44,41 +49,118 @@ fn is_written(segment: &Segment) -> bool
     )
 }
 
-/// COD with its marks and layers as asked.
-fn copy_cod(cod: &Cod, asked: HeaderMarks) -> Result<Cod, NoMemory>
-    ensures { IfOk result (λ copy. copy ≡ cod_written asked cod.now) }
+/// The byte of a resolution, of which the last stands for all above.
+fn item_at(items: &[u8], res: usize) -> u8
+    requires { 0 < length items.now }
+    ensures { result ≡ item_at items.now res }
 {
+    items[res.min(items.len() - 1)]
+}
+
+/// A byte for each resolution.
+#[tactic(auto, using(crate::proofs::WrittenLemmas::bytes_next))]
+fn each_byte(alloc: Global, items: &[u8], levels: u8) -> Result<Vec<u8>, NoMemory>
+    requires { 0 < length items.now }
+    ensures { IfOk result (λ bytes. bytes.items ≡ map (item_at items.now) (range_with_len 0 (levels + 1))) }
+{
+    let mut bytes = Vec::new(alloc);
+    for res in 0..usize::from(levels) + 1 {
+        bytes.push(item_at(items, res))?;
+    }
+    Ok(bytes)
+}
+
+/// The bytes of a shape with so many levels: none where every exponent is 15 (Table A.15).
+fn bytes_for(alloc: Global, items: &[u8], levels: u8) -> Result<Bytes, NoMemory>
+    ensures { IfOk result (λ bytes. bytes ≡ bytes_for items.now levels) }
+{
+    if items.is_empty() {
+        return Ok(Bytes::new(Vec::new(alloc)));
+    }
+    let bytes = each_byte(alloc, items, levels)?;
+    Ok(Bytes::new(bytes))
+}
+
+/// The precincts of a shape as they are written.
+fn copy_precincts(alloc: Global, shape: &Shape, asked: &HeaderMarks<'_>) -> Result<Bytes, NoMemory>
+    ensures { IfOk result (λ bytes. bytes ≡ precincts_written asked.now.precincts shape.now) }
+{
+    match asked.precincts {
+        Some(items) => bytes_for(alloc, items, shape.levels),
+        None => shape.precincts.copy(),
+    }
+}
+
+/// A shape with the precincts that are asked.
+fn copy_shape(alloc: Global, shape: &Shape, asked: &HeaderMarks<'_>) -> Result<Shape, NoMemory>
+    ensures { IfOk result (λ copy. copy ≡ shape_written asked.now.precincts shape.now) }
+{
+    let precincts = copy_precincts(alloc, shape, asked)?;
+    Ok(Shape {
+        levels: shape.levels,
+        xcb: shape.xcb,
+        ycb: shape.ycb,
+        style: shape.style,
+        wavelet: shape.wavelet,
+        precincts,
+    })
+}
+
+/// The order that is asked, else the one that is there.
+fn order_for(asked: Option<u8>, order: u8) -> u8
+    ensures { result ≡ order_written asked order }
+{
+    match asked {
+        Some(new) => new,
+        None => order,
+    }
+}
+
+/// COD with its marks, order, layers and precincts as asked.
+fn copy_cod(alloc: Global, cod: &Cod, asked: &HeaderMarks<'_>) -> Result<Cod, NoMemory>
+    ensures { IfOk result (λ copy. copy ≡ cod_written asked.now cod.now) }
+{
+    let shape = copy_shape(alloc, &cod.shape, asked)?;
     Ok(Cod {
         sop: asked.sop,
         eph: asked.eph,
-        order: cod.order,
+        order: order_for(asked.order, cod.order),
         layers: asked.layers,
         transform: cod.transform,
-        shape: cod.shape.copy()?,
+        shape,
     })
 }
 
 /// The segment as it is written.
-fn copy_segment(segment: &Segment, asked: HeaderMarks) -> Result<Segment, NoMemory>
-    ensures { IfOk result (λ copy. copy ≡ written asked segment.now) }
+fn copy_segment(
+    alloc: Global,
+    segment: &Segment,
+    asked: &HeaderMarks<'_>,
+) -> Result<Segment, NoMemory>
+    ensures { IfOk result (λ copy. copy ≡ written asked.now segment.now) }
 {
     match segment {
-        Segment::Cod(cod) => Ok(Segment::Cod(copy_cod(cod, asked)?)),
+        Segment::Cod(cod) => Ok(Segment::Cod(copy_cod(alloc, cod, asked)?)),
+        Segment::Coc { comp, shape } => Ok(Segment::Coc {
+            comp: *comp,
+            shape: copy_shape(alloc, shape, asked)?,
+        }),
         _ => segment.copy(),
     }
 }
 
 /// Appends those of the segments that are written.
 fn push_written(
+    alloc: Global,
     segments: &[Segment],
-    asked: HeaderMarks,
+    asked: &HeaderMarks<'_>,
     into: &mut Vec<Segment>,
 ) -> Result<(), NoMemory>
-    ensures { OnOk result (into.new.items ≡ into.old.items ++ all_written asked segments.now) }
+    ensures { OnOk result (into.new.items ≡ into.old.items ++ all_written asked.now segments.now) }
 {
     for segment in segments {
         if is_written(segment) {
-            let copy = copy_segment(segment, asked)?;
+            let copy = copy_segment(alloc, segment, asked)?;
             into.push(copy)?;
         }
     }
@@ -158,13 +240,13 @@ fn tile_entries(alloc: Global, header: &[Segment], default: &Entries) -> Result<
 fn write_tile(
     alloc: Global,
     tile: &Tile,
-    asked: HeaderMarks,
+    asked: &HeaderMarks<'_>,
     default: &Entries,
 ) -> Result<Tile, NoMemory>
-    ensures { IfOk result (λ copy. (main : List Segment) → default.now ≡ entry_in (in_slot 1 (all_written asked main)) → copy ≡ tile_written asked main tile.now) }
+    ensures { IfOk result (λ copy. (main : List Segment) → default.now ≡ entry_in (in_slot 1 (all_written asked.now main)) → copy ≡ tile_written asked.now main tile.now) }
 {
     let mut header = Vec::new(alloc);
-    push_written(tile.header.as_slice(), asked, &mut header)?;
+    push_written(alloc, tile.header.as_slice(), asked, &mut header)?;
     push_copies(tile.notes.as_slice(), &mut header)?;
     let progressions = tile_entries(alloc, &header, default)?;
     Ok(Tile {
@@ -179,10 +261,10 @@ fn write_tile(
 fn write_tiles(
     alloc: Global,
     tiles: &[Tile],
-    asked: HeaderMarks,
+    asked: &HeaderMarks<'_>,
     default: &Entries,
 ) -> Result<Vec<Tile>, NoMemory>
-    ensures { IfOk result (λ copies. (main : List Segment) → default.now ≡ entry_in (in_slot 1 (all_written asked main)) → copies.items ≡ map (tile_written asked main) tiles.now) }
+    ensures { IfOk result (λ copies. (main : List Segment) → default.now ≡ entry_in (in_slot 1 (all_written asked.now main)) → copies.items ≡ map (tile_written asked.now main) tiles.now) }
 {
     let mut copies = Vec::new(alloc);
     for tile in tiles {
@@ -202,8 +284,9 @@ fn write_siz(siz: &Siz) -> Result<Siz, NoMemory>
 }
 
 /// The headers of the file that is written, as a stream without tile data: Rsiz is 0; POC, PLT, PLM, TLM and skipped
-/// markers are left out; each COD has SOP, EPH and layers as asked; a tile's first header takes the COM segments of its
-/// later ones; all else is kept. Time and memory follow the bytes of the headers and the number of tiles.
+/// markers are left out; each COD has SOP, EPH, order and layers as asked, and each COD and COC the precincts; a tile's
+/// first header takes the COM segments of its later ones; all else is kept. Time and memory follow the bytes of the
+/// headers, the precincts that are written and the number of tiles.
 ///
 /// # Errors
 ///
@@ -212,15 +295,15 @@ fn write_siz(siz: &Siz) -> Result<Siz, NoMemory>
 pub(crate) fn write_headers(
     alloc: Global,
     stream: &Stream,
-    asked: HeaderMarks,
+    asked: HeaderMarks<'_>,
 ) -> Result<Stream, NoMemory>
-    ensures { IfOk result (λ copy. copy ≡ stream_written asked stream.now) }
+    ensures { IfOk result (λ copy. copy ≡ stream_written asked.entry stream.now) }
 {
     let siz = write_siz(&stream.siz)?;
     let mut main = Vec::new(alloc);
-    push_written(stream.main.as_slice(), asked, &mut main)?;
+    push_written(alloc, stream.main.as_slice(), &asked, &mut main)?;
     let default = one_entry(alloc, cod_entry(&main))?;
-    let tiles = write_tiles(alloc, stream.tiles.as_slice(), asked, &default)?;
+    let tiles = write_tiles(alloc, stream.tiles.as_slice(), &asked, &default)?;
     Ok(Stream {
         siz,
         main: Segments::new(main),

@@ -1,15 +1,52 @@
 //! The plan that keeps each code-block in its layers.
 
 ghost use Rattle.std.specs.Prelude.{◌≡◌, ◌≤◌, ◌^◌, length, IfErr, IfOk};
-ghost use Rattle.jx_plan.specs.Plan.{IsKeptPlan, MayBePlanned, PassesPackets};
+ghost use Rattle.jx_plan.specs.Facts.{most_layers};
+ghost use Rattle.jx_plan.specs.Fits.{Fits};
 ghost use Rattle.jx_plan.specs.KeptFault.{HasKeptCause};
+ghost use Rattle.jx_plan.specs.Plan.{IsKeptPlan, MayBePlanned};
+ghost use Rattle.jx_plan.specs.Wanted.{MayBeWanted};
 
-use crate::counting::plan_headers;
+use crate::counting::{check_parts, plan_headers};
+use crate::fitting::check_precincts;
 use crate::keeping::keep_blocks;
-use crate::{Marks, OutStream, PlanFault, facts_of};
+use crate::{Options, OutStream, PlanFault, facts_of};
 use jx_base::Block;
 use jx_stream::Stream;
 use std::alloc::Global;
+
+/// The plan with these layers, of precincts that fit.
+fn plan_fitting<'a>(
+    alloc: Global,
+    stream: &'a Stream,
+    blocks: &'a [Block<'a>],
+    options: &'a Options,
+    layers: u16,
+) -> Result<OutStream<'a>, PlanFault>
+    requires may { MayBePlanned stream.now blocks.now }
+    requires wanted { MayBeWanted options.now }
+    requires fits { Fits options.now.precincts stream.now }
+    requires layers { layers ≡ most_layers stream.now }
+    ensures planned { IfOk result (λ p. IsKeptPlan stream.entry.now blocks.entry.now options.entry.now p) }
+    ensures cause { IfErr result (λ e. HasKeptCause stream.entry.now options.entry.now e) }
+{
+    let written = match plan_headers(alloc, stream, options, layers) {
+        Ok(written) => written,
+        Err(fault) => return Err(fault),
+    };
+    let jobs = keep_blocks(alloc, blocks)?;
+    match check_parts(alloc, stream, options, layers, &written) {
+        Ok(()) => Ok(OutStream {
+            stream,
+            blocks,
+            options,
+            layers,
+            written,
+            jobs,
+        }),
+        Err(fault) => Err(fault),
+    }
+}
 
 /// Plans a codestream that keeps its code-blocks in the layers in which they are, with as many layers in each tile as the tile
 /// has that has the most; in the others those past its own are empty. Time and memory follow the headers, the blocks and their
@@ -17,34 +54,23 @@ use std::alloc::Global;
 ///
 /// # Errors
 ///
-/// Limit 7 exactly where over 2^22 packets would be written, one for each precinct and layer; `NoMemory` where memory is
-/// refused.
-#[tactic(auto, using(crate::proofs::KeptLemmas::some_layers, crate::proofs::KeptLemmas::kept_plan, crate::proofs::KeptLemmas::kept_layers))]
+/// Choices 3 and 2 exactly as `check_precincts` says. Else limit 7 exactly where over 2^22 packets would be written, one for each
+/// precinct and layer. Else choice 5 exactly where a tile would have over 255 tile-parts, at the lowest such tile. `NoMemory`
+/// where memory is refused.
 pub fn plan_kept<'a>(
     alloc: Global,
     stream: &'a Stream,
     blocks: &'a [Block<'a>],
-    marks: Marks,
+    options: &'a Options,
 ) -> Result<OutStream<'a>, PlanFault>
-    requires { MayBePlanned stream.now blocks.now }
-    ensures planned { IfOk result (λ p. IsKeptPlan stream.entry.now blocks.entry.now marks p) }
-    ensures cause { IfErr result (λ e. HasKeptCause stream.now marks e) }
+    requires may { MayBePlanned stream.now blocks.now }
+    requires wanted { MayBeWanted options.now }
+    ensures planned { IfOk result (λ p. IsKeptPlan stream.entry.now blocks.entry.now options.entry.now p) }
+    ensures cause { IfErr result (λ e. HasKeptCause stream.entry.now options.entry.now e) }
 {
-    let layers = facts_of(alloc, stream, blocks)?.layers;
-    let (written, packets) = plan_headers(alloc, stream, marks, layers)?;
-    if packets > 1 << 22 {
-        return Err(PlanFault::Limit {
-            number: 7,
-            found: packets,
-        });
+    if let Err(fault) = check_precincts(alloc, stream, &options.precincts) {
+        return Err(fault);
     }
-    let jobs = keep_blocks(alloc, blocks)?;
-    Ok(OutStream {
-        stream,
-        blocks,
-        marks,
-        layers,
-        written,
-        jobs,
-    })
+    let facts = facts_of(alloc, stream, blocks)?;
+    plan_fitting(alloc, stream, blocks, options, facts.layers)
 }

@@ -1,12 +1,13 @@
 //! Laws over what is planned: the headers that are written, and the plans. The functions do nothing: their contracts carry the laws.
 
-ghost use Rattle.std.specs.Prelude.{◌≡◌, ◌≤◌, ◌<◌, ◌^◌, ◌++◌, ℕ, List, [], None, Some, false, find, length, Option};
-ghost use Rattle.std.specs.List.{All, list_any};
+ghost use Rattle.std.specs.Prelude.{◌≡◌, ◌≤◌, ◌<◌, ◌^◌, ◌++◌, ◌⊎◌, ◌∷◌, ℕ, List, [], None, Some, false, find, length, map, slice_get, Option};
+ghost use Rattle.std.specs.List.{All, Contains, list_any};
 ghost use Rattle.jx_base.specs.declared.names.Band.{Band};
 ghost use Rattle.jx_marker.specs.declared.Segment.{Segment};
 ghost use Rattle.jx_stream.specs.declared.headers.HeaderKind.TheVariants.{First, Later};
 ghost use Rattle.jx_gather.specs.Another.{HaveSameBlocks};
 ghost use Rattle.jx_gather.specs.Gathered.{IsGathered, IsWhole};
+ghost use Rattle.jx_gather.specs.Written.{packets_in};
 ghost use Rattle.jx_gather.specs.Totals.{block_total, packet_total, totals_fault};
 ghost use Rattle.jx_stream.specs.declared.parts.Part.{Part};
 ghost use Rattle.jx_stream.specs.declared.Stream.{Stream};
@@ -20,17 +21,23 @@ ghost use Rattle.jx_stream.specs.Shapes.{geometry, layers_of, shapes_of, style_o
 ghost use Rattle.jx_stream.specs.Spells.{AreSegments};
 ghost use Rattle.jx_stream.specs.Tiles.{entry_in, in_slot, joined, or_list, tile_from, tiles_of};
 ghost use Rattle.jx_plan.specs.Asides.{is_plt, IsAside, IsTileWithMore, IsWithMore};
-ghost use Rattle.jx_plan.specs.Headers.{Asked, all_written, cod_written, stream_written, tile_written};
+ghost use Rattle.jx_plan.specs.Headers.{Asked, MayBeAsked, all_written, cod_written, comp_written, params_written, stream_written, tile_written};
 ghost use Rattle.jx_plan.specs.ReadBack.{HaveHeaders};
 ghost use Rattle.jx_plan.specs.Standing.{HeadersStand, IsHeaded};
 ghost use Rattle.jx_base.specs.declared.pieces.Block.{Block};
 ghost use Rattle.jx_base.specs.Pieces.{PieceValue};
 ghost use Rattle.jx_base.specs.Sound.{IsSound};
 ghost use Rattle.jx_block.specs.declared.job.Job.{Job};
-ghost use Rattle.jx_plan.specs.declared.Marks.{Marks};
+ghost use Rattle.jx_order.specs.declared.names.PacketName.{PacketName};
+ghost use Rattle.jx_plan.specs.declared.PartChoice.{PartChoice};
+ghost use Rattle.jx_plan.specs.declared.PartChoice.TheVariants as part_choice;
+ghost use Rattle.jx_plan.specs.Facts.{most_layers};
+ghost use Rattle.jx_plan.specs.Fits.{Fits, first_zero};
+ghost use Rattle.jx_plan.specs.Groups.{groups_of, key_of};
+ghost use Rattle.jx_plan.specs.Wanted.{MayBeWanted, Wanted};
 ghost use Rattle.jx_plan.specs.declared.faults.PlanFault.{PlanFault};
 ghost use Rattle.jx_plan.specs.declared.faults.PlanFault.TheVariants as plan_fault;
-ghost use Rattle.jx_plan.specs.KeptFault.{HasKeptCause};
+ghost use Rattle.jx_plan.specs.KeptFault.{HasKeptCause, IsFree};
 ghost use Rattle.jx_plan.specs.Layers.{AreJobs};
 ghost use Rattle.jx_plan.specs.Plan.{IsKeptPlan, IsPlan, KeepsLayers, MayBePlanned, Plan};
 ghost use Rattle.jx_plan.specs.Planned.{HasPlanCause, IsPlanned, IsPlannedBy};
@@ -42,24 +49,24 @@ pub fn read_headers_stand()
     ensures { (b : List ℕ) (s : Stream) → IsRead b s → HeadersStand s }
 {}
 
-/// What is written of headers that stand in a file stands in one too, with 1 to 65,535 layers: none of the rules 1 to 19 is violated
-/// (T.800, A.3 to A.9), and none of the limits 3 and 4 is passed.
+/// What is written of headers that stand in a file stands in one too, with 1 to 65,535 layers and precincts that give no exponent 0
+/// above resolution 0: none of the rules 1 to 19 is violated (T.800, A.3 to A.9), and none of the limits 3 and 4 is passed.
 pub fn written_headers_stand()
-    ensures { (a : Asked) (s : Stream) → 1 ≤ a.layers → a.layers < 2 ^ 16 → HeadersStand s → HeadersStand (stream_written a s) }
+    ensures { (a : Asked) (s : Stream) → MayBeAsked a → first_zero a.precincts s ≡ None → HeadersStand s → HeadersStand (stream_written a s) }
 {}
 
 /// The stream that is written is in range.
 pub fn written_is_in_range()
-    ensures { (a : Asked) (s : Stream) → 1 ≤ a.layers → a.layers < 2 ^ 16 → HeadersStand s → StreamInRange s → StreamInRange (stream_written a s) }
+    ensures { (a : Asked) (s : Stream) → MayBeAsked a → first_zero a.precincts s ≡ None → HeadersStand s → StreamInRange s → StreamInRange (stream_written a s) }
 {}
 
-/// The stream that is written has the parameters of its stream, but for the layers (T.800, A.6).
+/// The stream that is written has the parameters of its stream, but for the order, the layers and the precincts (T.800, A.6).
 pub fn parameters_stay()
-    ensures params { (a : Asked) (s : Stream) (t c : ℕ) → HeadersStand s → params_of (stream_written a s) t c ≡ record (params_of s t c) { layers = a.layers } }
+    ensures params { (a : Asked) (s : Stream) (t c : ℕ) → HeadersStand s → params_of (stream_written a s) t c ≡ params_written a (params_of s t c) }
     ensures steps { (a : Asked) (s : Stream) (t c r : ℕ) (band : Band) → HeadersStand s → step_of (stream_written a s) t c r band ≡ step_of s t c r band }
     ensures planes { (a : Asked) (s : Stream) (t c r : ℕ) (band : Band) → HeadersStand s → planes_at (stream_written a s) t c r band ≡ planes_at s t c r band }
-    ensures shapes { (a : Asked) (s : Stream) (t : ℕ) → HeadersStand s → shapes_of (stream_written a s) t ≡ shapes_of s t }
-    ensures geometries { (a : Asked) (s : Stream) (t : ℕ) → HeadersStand s → geometry (stream_written a s) t ≡ geometry s t }
+    ensures shapes { (a : Asked) (s : Stream) (t : ℕ) → HeadersStand s → shapes_of (stream_written a s) t ≡ map (comp_written a.precincts) (shapes_of s t) }
+    ensures geometries { (a : Asked) (s : Stream) (t : ℕ) → HeadersStand s → geometry (stream_written a s) t ≡ record (geometry s t) { shapes = map (comp_written a.precincts) (shapes_of s t) } }
     ensures layers { (a : Asked) (s : Stream) (t : ℕ) → HeadersStand s → layers_of (stream_written a s) t ≡ a.layers }
     ensures styles { (a : Asked) (s : Stream) (t c : ℕ) → HeadersStand s → style_of (stream_written a s) t c ≡ style_of s t c }
     ensures tiles { (a : Asked) (s : Stream) → tile_number (stream_written a s).siz ≡ tile_number s.siz }
@@ -94,17 +101,17 @@ pub fn view_stays_with_more()
         → planes_fault other.main (length other.siz.comps) other.tiles ≡ planes_fault s.main (length s.siz.comps) s.tiles }
 {}
 
-/// The stream that is written has the code-blocks of its stream, where no tile has fewer layers than it had (T.800, B.7). So has one
-/// with COM and PLT segments more.
+/// The stream that is written has the code-blocks of its stream, where it can have the precincts that are asked and no tile has fewer
+/// layers than it had (T.800, B.7). So has one with COM and PLT segments more.
 pub fn blocks_stay()
-    ensures written { (a : Asked) (s : Stream) → HeadersStand s → ((t : ℕ) → t < tile_number s.siz → layers_of s t ≤ a.layers) → HaveSameBlocks s (stream_written a s) }
+    ensures written { (a : Asked) (s : Stream) → Fits a.precincts s → HeadersStand s → ((t : ℕ) → t < tile_number s.siz → layers_of s t ≤ a.layers) → HaveSameBlocks s (stream_written a s) }
     ensures more { (s other : Stream) → IsWithMore s other → HaveSameBlocks s other }
     ensures through { (s between other : Stream) → HaveSameBlocks s between → HaveSameBlocks between other → HaveSameBlocks s other }
 {}
 
 /// The one entry of a tile that is written covers each of its packets (T.800, A.6.6 and B.12).
 pub fn written_is_covered()
-    ensures written { (a : Asked) (s : Stream) (t : ℕ) → 1 ≤ a.layers → a.layers < 2 ^ 16 → HeadersStand s → StreamInRange s → t < tile_number s.siz
+    ensures written { (a : Asked) (s : Stream) (t : ℕ) → MayBeAsked a → first_zero a.precincts s ≡ None → HeadersStand s → StreamInRange s → t < tile_number s.siz
         → IsWhole (stream_written a s) t }
     ensures more { (s other : Stream) (t : ℕ) → IsWithMore s other → t < length s.tiles → IsWhole s t → IsWhole other t }
 {}
@@ -126,11 +133,12 @@ pub fn written_is_read_back()
         → ((t : ℕ) → t < tile_number s.siz → HaveHeaders a (length s.siz.comps) (tile_at s t) (parts_of t parts)) → IsWithMore (stream_written a s) other }
 {}
 
-/// No POC and no PLT is written; the packets of a tile stand in the order of its COD, which has the marks and the layers that are
-/// asked (T.800, A.6.1 and A.6.6); and the limits 5 and 6 are those on its packets alone.
+/// No POC and no PLT is written; the packets of a tile stand in the order of its COD, which has the marks, the order, the layers and
+/// the precincts that are asked (T.800, A.6.1 and A.6.6); and where its precincts fit, the limits 5 and 6 are those on its packets
+/// alone.
 pub fn written_headers_are_plain()
     ensures main { (a : Asked) (s : Stream) → HeadersStand s → joined (stream_written a s).main ≡ [] }
-    ensures header { (a : Asked) (s : Stream) (t : ℕ) → HeadersStand s → 1 ≤ a.layers → a.layers < 2 ^ 16 → t < length s.tiles
+    ensures header { (a : Asked) (s : Stream) (t : ℕ) → HeadersStand s → MayBeAsked a → first_zero a.precincts s ≡ None → t < length s.tiles
         → AreSegments First (length s.siz.comps) [] (header_of (stream_written a s) t) }
     ensures entries { (a : Asked) (s : Stream) (t : ℕ) → HeadersStand s → t < length s.tiles → joined (header_of (stream_written a s) t) ≡ [] }
     ensures lengths { (a : Asked) (s : Stream) (t : ℕ) → HeadersStand s → t < length s.tiles → list_any is_plt (header_of (stream_written a s) t) ≡ false }
@@ -138,7 +146,7 @@ pub fn written_headers_are_plain()
         ≡ or_list (entry_in (in_slot 1 (header_of (stream_written a s) t))) (entry_in (in_slot 1 (stream_written a s).main)) }
     ensures cods { (a : Asked) (s : Stream) (t : ℕ) → HeadersStand s
         → cod_or (cod_of (header_of (stream_written a s) t) (stream_written a s).main) ≡ cod_written a (cod_or (cod_of (header_of s t) s.main)) }
-    ensures limits { (a : Asked) (s : Stream) → HeadersStand s → totals_fault s ≡ None → packet_total (stream_written a s) ≤ 2 ^ 22
+    ensures limits { (a : Asked) (s : Stream) → Fits a.precincts s → HeadersStand s → totals_fault s ≡ None → packet_total (stream_written a s) ≤ 2 ^ 22
         → totals_fault (stream_written a s) ≡ None }
 {}
 
@@ -148,18 +156,38 @@ pub fn gathered_may_be_planned()
 {}
 
 /// The planner that keeps sends each code-block in the layers in which it was, where its pieces lie in the layers that are planned. So
-/// what it plans is the plan that keeps the layers, and nothing but limit 7 or want of memory keeps it from one.
+/// what it plans is the plan that keeps the layers, and nothing but choices 3 and 2, limit 7, choice 5 or want of memory keeps it from one.
 pub fn keep_keeps_layers()
     ensures jobs { (layers : ℕ) (blocks : List Block) (jobs : List Job) → All IsSound blocks → All (λ (b : Block). All (λ (p : PieceValue). p.layer < layers) b.pieces) blocks
         → AreJobs Keep layers blocks jobs → KeepsLayers jobs }
-    ensures plan { (s : Stream) (blocks : List Block) → MayBePlanned s blocks → (m : Marks) (p : Plan) → IsPlannedBy Keep s blocks m p → IsKeptPlan s blocks m p }
-    ensures fault { (s : Stream) (blocks : List Block) → MayBePlanned s blocks → (m : Marks) (e : PlanFault) → HasPlanCause (Some Keep) s blocks m e → HasKeptCause s m e }
+    ensures plan { (s : Stream) (blocks : List Block) → MayBePlanned s blocks → (w : Wanted) (p : Plan) → IsPlannedBy Keep s blocks w p → IsKeptPlan s blocks w p }
+    ensures fault { (s : Stream) (blocks : List Block) → MayBePlanned s blocks → (w : Wanted) (e : PlanFault) → HasPlanCause (Some Keep) s blocks w e → HasKeptCause s w e }
 {}
 
 /// By a rule a stream has one answer, but for want of memory: a plan, or one cause for which nothing is planned.
 pub fn one_answer()
-    ensures planned { (s : Stream) (blocks : List Block) (m : Marks) (o : Option Rule) (p : Plan) (e : PlanFault) → IsPlan p → IsPlanned o s blocks m p → HasPlanCause o s blocks m e
+    ensures planned { (s : Stream) (blocks : List Block) (w : Wanted) (o : Option Rule) (p : Plan) (e : PlanFault) → IsPlan p → IsPlanned o s blocks w p → HasPlanCause o s blocks w e
         → e ≡ plan_fault.NoMemory }
-    ensures cause { (s : Stream) (blocks : List Block) (m : Marks) (o : Option Rule) (e f : PlanFault) → (e ≡ plan_fault.NoMemory → ⊥) → (f ≡ plan_fault.NoMemory → ⊥)
-        → HasPlanCause o s blocks m e → HasPlanCause o s blocks m f → e ≡ f }
+    ensures cause { (s : Stream) (blocks : List Block) (w : Wanted) (o : Option Rule) (e f : PlanFault) → (e ≡ plan_fault.NoMemory → ⊥) → (f ≡ plan_fault.NoMemory → ⊥)
+        → HasPlanCause o s blocks w e → HasPlanCause o s blocks w f → e ≡ f }
+{}
+
+/// Tile-parts have a tile's packets in their order; those of one agree in what is asked, and the last of one and the first of the
+/// next don't. Where nothing is asked there is one. Only the tile-part of a tile without packets is empty.
+pub fn groups_are_cut()
+    ensures stay { (parts : PartChoice) (names : List PacketName) → packets_in (groups_of parts names) ≡ names }
+    ensures agree { (parts : PartChoice) (names group : List PacketName) (i : ℕ) (p q : PacketName) → slice_get (groups_of parts names) i ≡ Some group
+        → Contains group p → Contains group q → key_of parts p ≡ key_of parts q }
+    ensures differ { (parts : PartChoice) (names : List PacketName) (before after : List (List PacketName)) (xs ys : List PacketName) (p q : PacketName)
+        → groups_of parts names ≡ before ++ ((xs ++ p ∷ []) ∷ (q ∷ ys) ∷ after) → key_of parts p ≡ key_of parts q → ⊥ }
+    ensures one { (names : List PacketName) → groups_of part_choice.None names ≡ names ∷ [] }
+    ensures full { (parts : PartChoice) (names : List PacketName) (i : ℕ) → slice_get (groups_of parts names) i ≡ Some [] → names ≡ [] }
+{}
+
+/// A stream has one answer where its layers are kept, but for want of memory: nothing is in the way of its plan, or one cause is.
+pub fn one_kept_answer()
+    ensures planned { (s : Stream) (blocks : List Block) (w : Wanted) (p : Plan) (e : PlanFault) → IsPlan p → IsKeptPlan s blocks w p → HasKeptCause s w e → e ≡ plan_fault.NoMemory }
+    ensures cause { (s : Stream) (w : Wanted) (e f : PlanFault) → (e ≡ plan_fault.NoMemory → ⊥) → (f ≡ plan_fault.NoMemory → ⊥) → HasKeptCause s w e → HasKeptCause s w f → e ≡ f }
+    ensures some { (s : Stream) (blocks : List Block) (w : Wanted) → MayBePlanned s blocks → MayBeWanted w
+        → IsFree s w (most_layers s) ⊎ ((e : PlanFault) × (e ≡ plan_fault.NoMemory → ⊥) × HasKeptCause s w e) }
 {}

@@ -2,11 +2,14 @@
 #![tactic(auto)]
 
 mod asking;
+#[cfg(test)]
+mod choice_tests;
 mod counting;
 mod crowded;
 mod cutting;
 mod facts;
 mod faults;
+mod fitting;
 mod headers;
 mod keep;
 mod keeping;
@@ -16,7 +19,11 @@ pub mod layer_laws;
 #[cfg(test)]
 mod layer_tests;
 mod lending;
+mod options;
 mod out_stream;
+mod parting;
+#[cfg(test)]
+mod parting_tests;
 mod planes;
 mod planner;
 mod planning;
@@ -31,26 +38,29 @@ pub use crowded::first_crowded;
 pub use cutting::CutLayers;
 pub use facts::facts_of;
 pub use faults::PlanFault;
+pub use fitting::check_precincts;
 pub use keep::{KeepLayers, OneLayer};
 pub use kept::plan_kept;
 pub use lending::shortened;
+pub use options::{Options, OrderChoice, PrecinctChoice};
 pub use out_stream::OutStream;
+pub use parting::{count_parts, names_of, part_end};
 pub use planes::PlaneLayers;
 pub use planner::LayerPlanner;
 pub use planning::{plan, plan_first, plan_layers};
 pub use table::TableLayers;
 
-/// How a codestream is to be written.
-#[derive(Drop)]
-pub struct Options {
-    /// The words for the planners of layers.
-    pub layers: String,
-    /// Whether an SOP segment stands before each packet (ITU-T T.800, A.8.1).
-    pub sop: bool,
-    /// Whether an EPH marker follows each packet header (A.8.2).
-    pub eph: bool,
-    /// Whether PLT segments give the lengths of the packets (A.7.3).
-    pub plt: bool,
+/// Where a tile is cut into tile-parts (ITU-T T.800, A.4.2).
+#[derive(Clone, Copy, Debug, PartialEq, Eq)]
+pub enum PartChoice {
+    /// Nowhere.
+    None,
+    /// Between packets of different resolutions.
+    Resolution,
+    /// Between packets of different layers.
+    Layer,
+    /// Between packets of different components.
+    Component,
 }
 
 /// What a planner is told of a codestream before it is asked.
@@ -79,7 +89,7 @@ pub struct PassFacts {
     pub layer: u16,
 }
 
-/// The marks by which a reader finds its way in the written file.
+/// What stands in the tile-parts of the written file beside headers and code-blocks, and where they begin.
 #[derive(Clone, Copy, Debug, PartialEq, Eq)]
 pub struct Marks {
     /// Whether an SOP segment stands before each packet (ITU-T T.800, A.8.1).
@@ -88,4 +98,6 @@ pub struct Marks {
     pub eph: bool,
     /// Whether PLT segments give the lengths of the packets (A.7.3).
     pub plt: bool,
+    /// Where a tile is cut into tile-parts (A.4.2).
+    pub parts: PartChoice,
 }

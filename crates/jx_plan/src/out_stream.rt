@@ -2,8 +2,9 @@
 
 ghost use Rattle.std.specs.Prelude.{◌≡◌};
 ghost use Rattle.jx_plan.specs.Plan.{IsPlan, headers_of};
+ghost use Rattle.jx_plan.specs.Wanted.{marks_of};
 
-use crate::Marks;
+use crate::{Marks, Options};
 use jx_base::Block;
 use jx_block::Job;
 use jx_stream::Stream;
@@ -14,7 +15,7 @@ use std::marker::Model;
 pub struct OutStream<'a> {
     pub(crate) stream: &'a Stream,
     pub(crate) blocks: &'a [Block<'a>],
-    pub(crate) marks: Marks,
+    pub(crate) options: &'a Options,
     pub(crate) layers: u16,
     pub(crate) written: Stream,
     pub(crate) jobs: Vec<Job<'a>>,
@@ -26,10 +27,10 @@ impl<'a> Model for OutStream<'a> {
 
     ghost Value = { Plan };
 
-    ghost view = { λ p. record { stream = p.stream.now; blocks = p.blocks.now; marks = p.marks; layers = p.layers; jobs = p.jobs.items } };
+    ghost view = { λ p. record { stream = p.stream.now; blocks = p.blocks.now; wanted = p.options.now; layers = p.layers; jobs = p.jobs.items } };
 
-    ghost invariant = { λ p. IsPlan (record { stream = p.stream.now; blocks = p.blocks.now; marks = p.marks; layers = p.layers; jobs = p.jobs.items })
-        × (p.written ≡ headers_with p.marks p.layers p.stream.now) };
+    ghost invariant = { λ p. IsPlan (record { stream = p.stream.now; blocks = p.blocks.now; wanted = p.options.now; layers = p.layers; jobs = p.jobs.items })
+        × (p.written ≡ headers_with p.options.now p.layers p.stream.now) };
 }
 
 impl<'a> OutStream<'a> {
@@ -47,11 +48,18 @@ impl<'a> OutStream<'a> {
         self.blocks
     }
 
-    /// The marks that are written.
-    pub fn marks(&self) -> Marks
-        ensures { result ≡ self.now.marks }
+    /// How it is to be written.
+    pub fn options(&self) -> &'a Options
+        ensures { result.now ≡ self.now.wanted }
     {
-        self.marks
+        self.options
+    }
+
+    /// What stands in its tile-parts beside headers and code-blocks, and where they begin.
+    pub fn marks(&self) -> Marks
+        ensures { result ≡ marks_of self.now.wanted }
+    {
+        self.options.marks()
     }
 
     /// The number of layers of each tile, 1 to 65,535.

@@ -2,21 +2,24 @@
 
 ghost use Rattle.std.specs.Prelude.{◌≡◌, ◌≤◌, ◌^◌, ℕ, length, slice_get, None, Some, IfErr, IfOk, IfSome, MatchOption};
 ghost use Rattle.std.specs.List.{All};
-ghost use Rattle.std.specs.String.{string_bytes};
 ghost use Rattle.std.specs.Option.{option_map};
 ghost use Rattle.jx_base.specs.Sound.{IsSound};
 ghost use Rattle.jx_plan.specs.declared.faults.PlanFault.TheVariants as fault;
 ghost use Rattle.jx_plan.specs.Rule.{layers_by};
 ghost use Rattle.jx_plan.specs.Facts.{facts_of};
+ghost use Rattle.jx_plan.specs.Fits.{Fits};
 ghost use Rattle.jx_plan.specs.Plan.{IsJob, MayBePlanned};
-ghost use Rattle.jx_plan.specs.Planned.{ArePlanned, HasPlanCause, IsPlanned, IsTooMuch, IsUnplanned, chosen, marks_of};
+ghost use Rattle.jx_plan.specs.Planned.{ArePlanned, HasPlanCause, IsPlanned, IsUnplanned, chosen};
+ghost use Rattle.jx_plan.specs.Steps.{IsTooMuch};
+ghost use Rattle.jx_plan.specs.Wanted.{MayBeWanted};
 ghost use Rattle.jx_block.specs.declared.job.Job.{Job as job_asked};
 
 use crate::asking::ask_jobs;
-use crate::counting::plan_headers;
+use crate::counting::{check_parts, plan_headers};
 use crate::crowded::first_crowded;
+use crate::fitting::check_precincts;
 use crate::lending::shortened;
-use crate::{LayerPlanner, Marks, Options, OutStream, PlanFault, StreamFacts, facts_of};
+use crate::{LayerPlanner, Options, OutStream, PlanFault, StreamFacts, facts_of};
 use jx_base::Block;
 use jx_block::Job;
 use jx_stream::Stream;
@@ -114,62 +117,61 @@ pub fn plan_first<'a, 'b: 'a>(
     plan_layers(alloc, blocks, words, facts, None)
 }
 
-/// The plan of these layers and jobs, one for each block.
+/// The plan of these layers and jobs, one for each block, of precincts that fit.
 fn plan_jobs<'a>(
     alloc: Global,
     stream: &'a Stream,
     blocks: &'a [Block<'a>],
-    marks: Marks,
+    options: &'a Options,
     layers: u16,
     jobs: Vec<Job<'a>>,
 ) -> Result<OutStream<'a>, PlanFault>
     requires may { MayBePlanned stream.now blocks.now }
+    requires wanted { MayBeWanted options.now }
+    requires fits { Fits options.now.precincts stream.now }
     requires some { 1 ≤ layers }
     requires all { length jobs.items ≡ length blocks.now }
     requires each { (number : ℕ) (job : job_asked) → slice_get jobs.items number ≡ Some job → IsJob blocks.now number job }
-    ensures planned { IfOk result (λ p. p ≡ record { stream = stream.entry.now; blocks = blocks.entry.now; marks = marks; layers = layers; jobs = jobs.entry.items }) }
-    ensures cause { IfErr result (λ e. IsTooMuch stream.entry.now marks layers jobs.entry.items e) }
+    ensures planned { IfOk result (λ p. p ≡ record { stream = stream.entry.now; blocks = blocks.entry.now; wanted = options.entry.now; layers = layers; jobs = jobs.entry.items }) }
+    ensures cause { IfErr result (λ e. IsTooMuch stream.entry.now options.entry.now layers jobs.entry.items e) }
 {
-    let (written, packets) = plan_headers(alloc, stream, marks, layers)?;
-    if packets > 1 << 22 {
-        return Err(PlanFault::Limit {
-            number: 7,
-            found: packets,
-        });
-    }
+    let written = match plan_headers(alloc, stream, options, layers) {
+        Ok(written) => written,
+        Err(fault) => return Err(fault),
+    };
     if let Some(place) = first_crowded(&jobs) {
         return Err(PlanFault::Choice { number: 4, place });
     }
-    Ok(OutStream {
-        stream,
-        blocks,
-        marks,
-        layers,
-        written,
-        jobs,
-    })
+    match check_parts(alloc, stream, options, layers, &written) {
+        Ok(()) => Ok(OutStream {
+            stream,
+            blocks,
+            options,
+            layers,
+            written,
+            jobs,
+        }),
+        Err(fault) => Err(fault),
+    }
 }
 
-/// The plan by a planner.
+/// The plan by a planner, of precincts that fit.
 fn plan_with<'a>(
     alloc: Global,
     stream: &'a Stream,
     blocks: &'a [Block<'a>],
-    options: &Options,
+    options: &'a Options,
     planner: &mut Box<dyn LayerPlanner>,
 ) -> Result<OutStream<'a>, PlanFault>
-    requires { MayBePlanned stream.now blocks.now }
-    ensures planned { IfOk result (λ p. IsPlanned (rule_of planner.old (string_bytes options.now.layers) (facts_of stream.entry.now blocks.entry.now)) stream.entry.now blocks.entry.now (marks_of options.now) p) }
-    ensures cause { IfErr result (λ e. HasPlanCause (rule_of planner.old (string_bytes options.now.layers) (facts_of stream.entry.now blocks.entry.now)) stream.entry.now blocks.entry.now (marks_of options.now) e) }
+    requires may { MayBePlanned stream.now blocks.now }
+    requires wanted { MayBeWanted options.now }
+    requires fits { Fits options.now.precincts stream.now }
+    ensures planned { IfOk result (λ p. IsPlanned (rule_of planner.old options.entry.now.layers (facts_of stream.entry.now blocks.entry.now)) stream.entry.now blocks.entry.now options.entry.now p) }
+    ensures cause { IfErr result (λ e. HasPlanCause (rule_of planner.old options.entry.now.layers (facts_of stream.entry.now blocks.entry.now)) stream.entry.now blocks.entry.now options.entry.now e) }
 {
     let facts = facts_of(alloc, stream, blocks)?;
-    let marks = Marks {
-        sop: options.sop,
-        eph: options.eph,
-        plt: options.plt,
-    };
     match plan_by(alloc, blocks, &options.layers, &facts, planner) {
-        Ok((layers, jobs)) => plan_jobs(alloc, stream, blocks, marks, layers, jobs),
+        Ok((layers, jobs)) => plan_jobs(alloc, stream, blocks, options, layers, jobs),
         Err(fault) => Err(fault),
     }
 }
@@ -180,10 +182,11 @@ fn plan_with<'a>(
 ///
 /// # Errors
 ///
-/// Choice 6 at 0 exactly where there is no planner, or it makes no rule of the words; nothing was asked then. Limit 7 exactly
-/// where over 2^22 packets would be written, one for each precinct and layer (ITU-T T.800, B.9), with their number. Else choice
-/// 4 exactly where some layer would have over 164 passes of a code-block (B.10.6, Table B.4), at the lowest such block.
-/// `NoMemory` where memory is refused.
+/// Choices 3 and 2 exactly as `check_precincts` says. Else choice 6 at 0 exactly where there is no planner, or it makes no rule of
+/// the words; after these nothing was asked. Else limit 7 exactly where over 2^22 packets would be written, one for each precinct
+/// and layer (ITU-T T.800, B.9), with their number. Else choice 4 exactly where some layer would have over 164 passes of a
+/// code-block (B.10.6, Table B.4), at the lowest such block. Else choice 5 exactly where a tile would have over 255 tile-parts
+/// (A.4.2), at the lowest such tile. `NoMemory` where memory is refused.
 pub fn plan<'a>(
     alloc: Global,
     stream: &'a Stream,
@@ -191,10 +194,14 @@ pub fn plan<'a>(
     options: &'a Options,
     planner: Option<&mut Box<dyn LayerPlanner>>,
 ) -> Result<OutStream<'a>, PlanFault>
-    requires { MayBePlanned stream.now blocks.now }
-    ensures planned { IfOk result (λ p. MatchOption planner.entry ⊥ (λ b. IsPlanned (rule_of b.now (string_bytes options.entry.now.layers) (facts_of stream.entry.now blocks.entry.now)) stream.entry.now blocks.entry.now (marks_of options.entry.now) p)) }
-    ensures cause { IfErr result (λ e. MatchOption planner.entry (HasPlanCause None stream.entry.now blocks.entry.now (marks_of options.entry.now) e) (λ b. HasPlanCause (rule_of b.now (string_bytes options.entry.now.layers) (facts_of stream.entry.now blocks.entry.now)) stream.entry.now blocks.entry.now (marks_of options.entry.now) e)) }
+    requires may { MayBePlanned stream.now blocks.now }
+    requires wanted { MayBeWanted options.now }
+    ensures planned { IfOk result (λ p. MatchOption planner.entry ⊥ (λ b. IsPlanned (rule_of b.now options.entry.now.layers (facts_of stream.entry.now blocks.entry.now)) stream.entry.now blocks.entry.now options.entry.now p)) }
+    ensures cause { IfErr result (λ e. MatchOption planner.entry (HasPlanCause None stream.entry.now blocks.entry.now options.entry.now e) (λ b. HasPlanCause (rule_of b.now options.entry.now.layers (facts_of stream.entry.now blocks.entry.now)) stream.entry.now blocks.entry.now options.entry.now e)) }
 {
+    if let Err(fault) = check_precincts(alloc, stream, &options.precincts) {
+        return Err(fault);
+    }
     match planner {
         Some(planner) => plan_with(alloc, stream, blocks, options, planner),
         None => Err(PlanFault::Choice {

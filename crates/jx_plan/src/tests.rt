@@ -1,9 +1,10 @@
 //! Worked headers, what is written of them, and plans.
 
+ghost use Rattle.std.specs.Prelude.{IfOk};
 ghost use Rattle.jx_plan.specs.Plan.{MayBePlanned};
+ghost use Rattle.jx_plan.specs.Wanted.{MayBeWanted};
 
 use super::*;
-use counting::count_packets;
 use headers::{HeaderMarks, write_headers};
 use jx_base::Block;
 use jx_block::Job;
@@ -33,7 +34,7 @@ fn digit(byte: u8) -> Option<u8> {
 }
 
 // The bytes of hexadecimal digits; what is no digit stands between them.
-fn file_of(alloc: Global, text: &str) -> Result<Vec<u8>, AllocError> {
+pub(crate) fn file_of(alloc: Global, text: &str) -> Result<Vec<u8>, AllocError> {
     let mut bytes = Vec::new(alloc);
     let mut high = None;
     for byte in text.as_bytes() {
@@ -87,9 +88,26 @@ fn cod_of(segments: &[Segment]) -> Option<(bool, bool, u8, u16)> {
     None
 }
 
-// What is written of a file's headers, with SOP and three layers, and how many packets that are.
-#[tactic(auto, using(crate::proofs::ViewLemmas::read_written))]
-fn written(alloc: Global, file: &[u8]) -> Result<(Stream, u128), StreamFault> {
+// The bytes of the precincts of each COD and COC, one after another.
+fn precincts_of(alloc: Global, segments: &[Segment]) -> Result<Vec<u8>, AllocError> {
+    let mut bytes = Vec::new(alloc);
+    for segment in segments {
+        match segment {
+            Segment::Cod(cod) => bytes.extend_from_slice(cod.shape.precincts.as_slice())?,
+            Segment::Coc { comp: _, shape } => bytes.extend_from_slice(shape.precincts.as_slice())?,
+            _ => {}
+        }
+    }
+    Ok(bytes)
+}
+
+// What is written of a file's headers, with SOP and three layers.
+fn written(
+    alloc: Global,
+    file: &[u8],
+    order: Option<u8>,
+    precincts: Option<&[u8]>,
+) -> Result<Stream, StreamFault> {
     if file.len() > 1 << 28 {
         return Err(StreamFault::NoMemory);
     }
@@ -98,20 +116,20 @@ fn written(alloc: Global, file: &[u8]) -> Result<(Stream, u128), StreamFault> {
         sop: true,
         eph: false,
         layers: 3,
+        order,
+        precincts,
     };
     let copy = write_headers(alloc, &stream, asked)?;
-    let packets = count_packets(alloc, &copy)?;
-    Ok((copy, packets))
+    Ok(copy)
 }
 
 #[test]
 fn headers_in_two_parts(rt: HostRuntime) -> Result<(), Fail> {
     let alloc = rt.alloc();
     let file = file_of(alloc, FILE)?;
-    let Ok((stream, packets)) = written(alloc, &file) else {
+    let Ok(stream) = written(alloc, &file, None, None) else {
         return Err("refused")?;
     };
-    assert_eq!(rt; packets, 3);
     assert_eq!(rt; stream.siz.rsiz, 0);
     let main = stream.main.as_slice();
     assert_eq!(rt; codes(alloc, main)?.as_slice(), b"CQa".as_slice());
@@ -129,6 +147,26 @@ fn headers_in_two_parts(rt: HostRuntime) -> Result<(), Fail> {
     Ok(())
 }
 
+#[test]
+fn order_and_precincts_of_headers(rt: HostRuntime) -> Result<(), Fail> {
+    let alloc = rt.alloc();
+    let file = file_of(alloc, FILE)?;
+    let Ok(stream) = written(alloc, &file, Some(4), Some(&[0x67, 0x55])) else {
+        return Err("refused")?;
+    };
+    let main = stream.main.as_slice();
+    assert_eq!(rt; cod_of(main), Some((true, false, 4, 3)));
+    assert_eq!(rt; precincts_of(alloc, main)?.as_slice(), [0x67].as_slice());
+    for tile in stream.tiles.as_slice() {
+        let header = tile.header.as_slice();
+        assert_eq!(rt; precincts_of(alloc, header)?.as_slice(), [0x67].as_slice());
+        for entry in tile.progressions.as_slice() {
+            assert_eq!(rt; entry.order, 4);
+        }
+    }
+    Ok(())
+}
+
 // Two tiles of one sample, with a pass in the first's one layer, and one in each of the second's two, which its own COD says.
 const TILES: &str = "
     FF4F FF51 0029 0000 00000002 00000001 00000000 00000000 00000001 00000001 00000000 00000000 0001 07 01 01
@@ -137,11 +175,22 @@ const TILES: &str = "
     FF90 000A 0001 00000020 00 01 FF52 000C 00 00 0002 00 00 04 04 00 01 FF93 E101 C202
     FFD9";
 
-const BARE: Marks = Marks {
-    sop: false,
-    eph: false,
-    plt: false,
-};
+// Words for the planners, without marks; order and precincts are kept, and nothing is cut.
+pub(crate) fn options_of(alloc: Global, words: &str) -> Result<Options, AllocError>
+    ensures { IfOk result (λ options. MayBeWanted options) }
+{
+    let mut layers = String::new(alloc);
+    layers.push_str(words)?;
+    Ok(Options {
+        order: OrderChoice::Keep,
+        precincts: PrecinctChoice::Keep,
+        layers,
+        parts: PartChoice::None,
+        sop: false,
+        eph: false,
+        plt: false,
+    })
+}
 
 // The ends of all blocks' layers, each as the block's number, the layer and the passes.
 fn ends_of(alloc: Global, jobs: &[Job<'_>]) -> Result<Vec<[u32; 3]>, AllocError> {
@@ -160,10 +209,12 @@ fn kept_of(
     alloc: Global,
     stream: &Stream,
     blocks: &[Block<'_>],
+    options: &Options,
 ) -> Result<(u16, Vec<[u32; 3]>, Option<(bool, bool, u8, u16)>), PlanFault>
-    requires { MayBePlanned stream.now blocks.now }
+    requires may { MayBePlanned stream.now blocks.now }
+    requires wanted { MayBeWanted options.now }
 {
-    let plan = plan_kept(alloc, stream, blocks, BARE)?;
+    let plan = plan_kept(alloc, stream, blocks, options)?;
     let ends = ends_of(alloc, plan.jobs())?;
     let cod = cod_of(plan.headers().main.as_slice());
     Ok((plan.layers(), ends, cod))
@@ -171,10 +222,13 @@ fn kept_of(
 
 // The same of a file; none where it is refused.
 #[tactic(auto, using(crate::proofs::KeptLemmas::gathered_may))]
-fn kept(
+pub(crate) fn kept(
     alloc: Global,
     file: &[u8],
-) -> Option<Result<(u16, Vec<[u32; 3]>, Option<(bool, bool, u8, u16)>), PlanFault>> {
+    options: &Options,
+) -> Option<Result<(u16, Vec<[u32; 3]>, Option<(bool, bool, u8, u16)>), PlanFault>>
+    requires { MayBeWanted options.now }
+{
     if file.len() > 1 << 28 {
         return None;
     }
@@ -184,14 +238,15 @@ fn kept(
     let Ok(blocks) = gather(alloc, file, &stream) else {
         return None;
     };
-    Some(kept_of(alloc, &stream, &blocks))
+    Some(kept_of(alloc, &stream, &blocks, options))
 }
 
 #[test]
 fn layers_are_kept(rt: HostRuntime) -> Result<(), Fail> {
     let alloc = rt.alloc();
     let file = file_of(alloc, TILES)?;
-    let Some(Ok((layers, ends, cod))) = kept(alloc, &file) else {
+    let options = options_of(alloc, "")?;
+    let Some(Ok((layers, ends, cod))) = kept(alloc, &file, &options) else {
         return Err("refused")?;
     };
     assert_eq!(rt; layers, 2);
@@ -211,7 +266,8 @@ fn planned_of(
     options: &Options,
     planner: &mut Box<dyn LayerPlanner>,
 ) -> Result<(u16, Vec<[u32; 3]>), PlanFault>
-    requires { MayBePlanned stream.now blocks.now }
+    requires may { MayBePlanned stream.now blocks.now }
+    requires wanted { MayBeWanted options.now }
 {
     let plan = plan(alloc, stream, blocks, options, Some(planner))?;
     let ends = ends_of(alloc, plan.jobs())?;
@@ -220,12 +276,14 @@ fn planned_of(
 
 // The same of a file; none where it is refused.
 #[tactic(auto, using(crate::proofs::KeptLemmas::gathered_may))]
-fn by_planner(
+pub(crate) fn by_planner(
     alloc: Global,
     file: &[u8],
     options: &Options,
     planner: &mut Box<dyn LayerPlanner>,
-) -> Option<Result<(u16, Vec<[u32; 3]>), PlanFault>> {
+) -> Option<Result<(u16, Vec<[u32; 3]>), PlanFault>>
+    requires { MayBeWanted options.now }
+{
     if file.len() > 1 << 28 {
         return None;
     }
@@ -236,17 +294,6 @@ fn by_planner(
         return None;
     };
     Some(planned_of(alloc, &stream, &blocks, options, planner))
-}
-
-fn options_of(alloc: Global, words: &str) -> Result<Options, AllocError> {
-    let mut layers = String::new(alloc);
-    layers.push_str(words)?;
-    Ok(Options {
-        layers,
-        sop: false,
-        eph: false,
-        plt: false,
-    })
 }
 
 #[test]
@@ -308,7 +355,8 @@ fn too_many_packets(rt: HostRuntime) -> Result<(), Fail> {
         number: 7,
         found: 4_200_450,
     };
-    let Some(Err(fault)) = kept(alloc, &file) else {
+    let options = options_of(alloc, "")?;
+    let Some(Err(fault)) = kept(alloc, &file, &options) else {
         return Err("planned")?;
     };
     assert_eq!(rt; fault, limit);
@@ -326,7 +374,8 @@ const LONG: &str = "
 fn too_many_passes(rt: HostRuntime) -> Result<(), Fail> {
     let alloc = rt.alloc();
     let file = file_of(alloc, LONG)?;
-    let Some(Ok((layers, ends, _))) = kept(alloc, &file) else {
+    let options = options_of(alloc, "")?;
+    let Some(Ok((layers, ends, _))) = kept(alloc, &file, &options) else {
         return Err("refused")?;
     };
     assert_eq!(rt; layers, 2);

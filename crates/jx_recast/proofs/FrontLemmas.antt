@@ -24,10 +24,13 @@ use Rattle.jx_stream.specs.First.{tile_number}
 use Rattle.jx_stream.specs.Shapes.{geometry, layers_of, tile_at}
 use Rattle.jx_stream.specs.Spells.{TilePart, part_bytes}
 use Rattle.jx_plan.specs.declared.Marks.{Marks}
-use Rattle.jx_plan.specs.Plan.{IsPlan, MayBePlanned, Plan, headers_of}
+use Rattle.jx_plan.specs.Groups.{groups_of}
+use Rattle.jx_plan.specs.Headers.{stream_written}
+use Rattle.jx_plan.specs.Plan.{IsPlan, MayBePlanned, Plan, headers_of, headers_with}
+use Rattle.jx_plan.specs.Wanted.{Wanted, marks_of}
 use Rattle.jx_assemble.specs.Ready.{AreShort}
 use Rattle.jx_assemble.specs.Tile.{AreAtMost, IsTile, blocks_in, first_block, main_bytes}
-use Rattle.jx_assemble.specs.TileParts.{AreTilePartsOf, groups_of, tile_parts}
+use Rattle.jx_assemble.specs.TileParts.{AreTilePartsOf, tile_parts}
 use Rattle.jx_recast.specs.Rounds.{BeginsRound, IsInRound, IsLongFrom, IsLongTile, IsShortFront, IsUnmade, LeadOn, most_of_part, with_parts}
 use Rattle.jx_recast.specs.declared.halt.Halt.{Halt}
 use Rattle.jx_recast.specs.declared.halt.Halt.TheVariants as halt
@@ -67,7 +70,7 @@ front_none p =
 parts_joined : (comps : ℕ) (parts : List TilePart) → concat (map (part_bytes comps) parts) ≡ flat_map (part_bytes comps) parts
 parts_joined comps parts = concat_is (map (part_bytes comps) parts) ∙ flat_map-map (λ (x : List ℕ). x) (part_bytes comps) parts
 
-front_with : (p : Plan) (t : ℕ) (bytes : List ℕ) (own : List TilePart) → IsShortFront p t bytes → AreTilePartsOf p.marks (headers_of p) p.blocks t own → AreShort own
+front_with : (p : Plan) (t : ℕ) (bytes : List ℕ) (own : List TilePart) → IsShortFront p t bytes → AreTilePartsOf (marks_of p.wanted) (headers_of p) p.blocks t own → AreShort own
     → IsShortFront p (t + 1) (bytes ++ flat_map (part_bytes (length p.stream.siz.comps)) own)
 front_with p t bytes own done are short =
     let parts : ℕ → List TilePart = with_parts done.parts t own in
@@ -80,8 +83,8 @@ front_with p t bytes own done are short =
     record {
       parts = parts;
       are = λ i h. elim (cases_eq i t) [
-        | inl e ↦ subst (λ (n : ℕ). AreTilePartsOf p.marks (headers_of p) p.blocks n (parts n)) (sym e) (subst (AreTilePartsOf p.marks (headers_of p) p.blocks t) (sym last) are)
-        | inr e ↦ subst (AreTilePartsOf p.marks (headers_of p) p.blocks i) (sym (other_parts done.parts t own i (omega (arith, h, e)))) (done.are i (omega (arith, h, e)))
+        | inl e ↦ subst (λ (n : ℕ). AreTilePartsOf (marks_of p.wanted) (headers_of p) p.blocks n (parts n)) (sym e) (subst (AreTilePartsOf (marks_of p.wanted) (headers_of p) p.blocks t) (sym last) are)
+        | inr e ↦ subst (AreTilePartsOf (marks_of p.wanted) (headers_of p) p.blocks i) (sym (other_parts done.parts t own i (omega (arith, h, e)))) (done.are i (omega (arith, h, e)))
       ];
       short = λ i h. elim (cases_eq i t) [
         | inl e ↦ subst (λ (n : ℕ). AreShort (parts n)) (sym e) (subst AreShort (sym last) short)
@@ -163,7 +166,16 @@ unmade_of p start at held pieces halt.NoMemory inside round lead long = tt
 pub one_tile : (m : Marks) (s : Stream) (blocks : List Block) (t : ℕ) (xs ys : List TilePart) → AreTilePartsOf m s blocks t xs → AreTilePartsOf m s blocks t ys → xs ≡ ys
 one_tile m s blocks t xs ys one other =
     let same : one.names ≡ other.names = one_order (geometry s t) (layers_of s t) (tile_at s t).progressions (length (tile_at s t).progressions) one.names other.names one.order other.order in
-    one.are ∙ ap (λ (z : List PacketName). tile_parts m s blocks t (groups_of z)) same ∙ sym other.are
+    one.are ∙ ap (λ (z : List PacketName). tile_parts m s blocks t (groups_of m.parts z)) same ∙ sym other.are
+
+-- ---- the headers that are written have the tiles and components of their stream
+pub tiles_stay : (w : Wanted) (layers : ℕ) (s : Stream) → tile_number (headers_with w layers s).siz ≡ tile_number s.siz
+unfolding stream_written
+tiles_stay w layers s = refl
+
+pub comps_stay : (w : Wanted) (layers : ℕ) (s : Stream) → length (headers_with w layers s).siz.comps ≡ length s.siz.comps
+unfolding stream_written
+comps_stay w layers s = refl
 
 pub jobs_few : (p : Plan) → IsPlan p → length p.jobs ≤ 1048576
 jobs_few p plan =

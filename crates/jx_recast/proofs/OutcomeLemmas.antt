@@ -3,11 +3,11 @@ use Rattle.std.proofs.Common.{◌≡◌, ◌⊎◌, ◌∙◌, ◌<◌, ◌≤�
 use Rattle.std.proofs.lemmas.List.{take_all, length-take}
 use Rattle.std.proofs.lemmas.Bool.{cases_lt}
 use Rattle.jx_outside.specs.Device.{Meaning, joined}
-use Rattle.jx_plan.specs.declared.Marks.{Marks}
+use Rattle.jx_plan.specs.Wanted.{Wanted}
 use Rattle.jx_recast.specs.declared.status.Status.{Status}
 use Rattle.jx_recast.specs.declared.status.Status.TheVariants as status
-use Rattle.jx_recast.specs.Filed.{IsAnswered}
-use Rattle.jx_recast.specs.Words.{Text, Request}
+use Rattle.jx_recast.specs.Filed.{IsAnswered, IsUnread}
+use Rattle.jx_words.specs.Words.{Text, Request}
 use Rattle.jx_recast.specs.Outcome.{IsBegun, IsCutShort, IsLimited, IsMade, IsRefused, IsStopped, IsUntouched, IsVerdict, Leaves, Verdict, Ends, EndsFiles, EndsAtWords, EndsAs, PassesLimit, line_of, most_bytes}
 
 pub untouched_twice : (a b c : Meaning) → IsUntouched a b → IsUntouched b c → IsUntouched a c
@@ -31,25 +31,26 @@ begun_after name bytes a b c first (inr (inr made)) = inr (inr (made_after name 
 refused_after : (blocks : ℕ) (a b c : Meaning) → IsUntouched a b → IsRefused blocks b c → IsRefused blocks a c
 refused_after blocks a b c first refused = (refused.0, untouched_twice a b c first refused.1)
 
-cut_after : (name : Text) (m : Marks) (input : List ℕ) (blocks : ℕ) (a b c : Meaning) → IsUntouched a b → IsCutShort name m input blocks b c → IsCutShort name m input blocks a c
-cut_after name m input blocks a b c first (inl refused) = inl (refused_after blocks a b c first refused)
-cut_after name m input blocks a b c first (inr (inl over)) =
-    inr (inl (record { within = over.within; found = over.found; many = over.many; count = over.count; same = untouched_twice a b c first over.same }))
-cut_after name m input blocks a b c first (inr (inr begun)) =
+cut_after : (name : Text) (w : Wanted) (input : List ℕ) (blocks : ℕ) (a b c : Meaning) → IsUntouched a b → IsCutShort name w input blocks b c → IsCutShort name w input blocks a c
+cut_after name w input blocks a b c first (inl refused) = inl (refused_after blocks a b c first refused)
+cut_after name w input blocks a b c first (inr (inl over)) =
+    inr (inl (record { within = over.within; why = over.why; is = over.is; caused = over.caused; count = over.count; same = untouched_twice a b c first over.same }))
+cut_after name w input blocks a b c first (inr (inr begun)) =
     inr (inr (record { within = begun.within; count = begun.count; bytes = begun.bytes; of = begun.of; begun = begun_after name begun.bytes a b c first begun.begun }))
 
-leaves_after : (name : Text) (m : Marks) (input : List ℕ) (s : Status) (blocks bytes : ℕ) (a b c : Meaning) → IsUntouched a b → Leaves name m input s blocks bytes b c
-    → Leaves name m input s blocks bytes a c
-leaves_after name m input status.Done blocks bytes a b c first next =
+leaves_after : (name : Text) (w : Wanted) (input : List ℕ) (s : Status) (blocks bytes : ℕ) (a b c : Meaning) → IsUntouched a b → Leaves name w input s blocks bytes b c
+    → Leaves name w input s blocks bytes a c
+leaves_after name w input status.Done blocks bytes a b c first next =
     record { out = next.out; is = next.is; made = made_after name next.out a b c first next.made; kept = next.kept; count = next.count; long = next.long }
-leaves_after name m input status.Words blocks bytes a b c first next = refused_after blocks a b c first next
-leaves_after name m input (status.Rule number place) blocks bytes a b c first next = refused_after blocks a b c first next
-leaves_after name m input (status.Limit number found) blocks bytes a b c first next = (next.0, untouched_twice a b c first next.1)
-leaves_after name m input (status.Choice number place) blocks bytes a b c first next =
-    record { bytes = next.bytes; is = next.is; stopped = stopped_after name next.bytes a b c first next.stopped; count = next.count }
-leaves_after name m input status.ReadFault blocks bytes a b c first next = refused_after blocks a b c first next
-leaves_after name m input status.WriteFault blocks bytes a b c first next = cut_after name m input blocks a b c first next
-leaves_after name m input status.NoMemory blocks bytes a b c first next = cut_after name m input blocks a b c first next
+leaves_after name w input status.Words blocks bytes a b c first next = refused_after blocks a b c first next
+leaves_after name w input (status.Rule number place) blocks bytes a b c first next = refused_after blocks a b c first next
+leaves_after name w input (status.Limit number found) blocks bytes a b c first next = (next.0, untouched_twice a b c first next.1)
+leaves_after name w input (status.Choice number place) blocks bytes a b c first (inl next) =
+    inl (next.0, record { bytes = next.1.bytes; is = next.1.is; stopped = stopped_after name next.1.bytes a b c first next.1.stopped; count = next.1.count })
+leaves_after name w input (status.Choice number place) blocks bytes a b c first (inr next) = inr (next.0, next.1, untouched_twice a b c first next.2)
+leaves_after name w input status.ReadFault blocks bytes a b c first next = refused_after blocks a b c first next
+leaves_after name w input status.WriteFault blocks bytes a b c first next = cut_after name w input blocks a b c first next
+leaves_after name w input status.NoMemory blocks bytes a b c first next = cut_after name w input blocks a b c first next
 
 -- the whole of an input of which these bytes were read, where it is told
 whole : Option (List ℕ) → List ℕ → List ℕ
@@ -83,57 +84,57 @@ long_limit : (number found : ℕ) (read input : List ℕ) → most_bytes < lengt
 long_limit number found read input long whole (inl passed) = inl (whole, passed.1, passed.2)
 long_limit number found read input long whole (inr passed) = absurd (omega (arith, passed.0))
 
-limit_one : (m : Marks) (number found : ℕ) (read : List ℕ) → most_bytes < length read → Verdict m read (status.Limit number found) → number ≡ 1
-limit_one m number found read long (inl (inl passed)) = passed.1
-limit_one m number found read long (inl (inr passed)) = absurd (omega (arith, passed.0))
-limit_one m number found read long (inr many) = absurd (omega (arith, many.0))
+limit_one : (w : Wanted) (number found : ℕ) (read : List ℕ) → most_bytes < length read → Verdict w read (status.Limit number found) → number ≡ 1
+limit_one w number found read long (inl (inl passed)) = passed.1
+limit_one w number found read long (inl (inr passed)) = absurd (omega (arith, passed.0))
+limit_one w number found read long (inr many) = absurd (omega (arith, many.0))
 
 -- the verdict on a front that is too long is that on the whole
-long_verdict : (m : Marks) (s : Status) (read input : List ℕ) → most_bytes < length read → most_bytes < length input → Verdict m read s → Verdict m input s
-long_verdict m status.Done read input long whole verdict = absurd (omega (arith, verdict.0))
-long_verdict m status.Words read input long whole verdict = absurd verdict
-long_verdict m (status.Rule number place) read input long whole verdict = absurd (omega (arith, verdict.0))
-long_verdict m (status.Limit number found) read input long whole (inl verdict) = inl (long_limit number found read input long whole verdict)
-long_verdict m (status.Limit number found) read input long whole (inr many) = absurd (omega (arith, many.0))
-long_verdict m (status.Choice number place) read input long whole verdict = absurd (omega (arith, verdict.0))
-long_verdict m status.ReadFault read input long whole verdict = absurd verdict
-long_verdict m status.WriteFault read input long whole verdict = absurd verdict
-long_verdict m status.NoMemory read input long whole verdict = absurd verdict
+long_verdict : (w : Wanted) (s : Status) (read input : List ℕ) → most_bytes < length read → most_bytes < length input → Verdict w read s → Verdict w input s
+long_verdict w status.Done read input long whole verdict = absurd (omega (arith, verdict.0))
+long_verdict w status.Words read input long whole verdict = absurd verdict
+long_verdict w (status.Rule number place) read input long whole verdict = absurd (omega (arith, verdict.0))
+long_verdict w (status.Limit number found) read input long whole (inl verdict) = inl (long_limit number found read input long whole verdict)
+long_verdict w (status.Limit number found) read input long whole (inr many) = absurd (omega (arith, many.0))
+long_verdict w (status.Choice number place) read input long whole verdict = absurd (omega (arith, verdict.0))
+long_verdict w status.ReadFault read input long whole verdict = absurd verdict
+long_verdict w status.WriteFault read input long whole verdict = absurd verdict
+long_verdict w status.NoMemory read input long whole verdict = absurd verdict
 
-long_cut : (name : Text) (m : Marks) (read input : List ℕ) (blocks : ℕ) (a b : Meaning) → most_bytes < length read → IsCutShort name m read blocks a b → IsCutShort name m input blocks a b
-long_cut name m read input blocks a b long (inl refused) = inl refused
-long_cut name m read input blocks a b long (inr (inl over)) = absurd (omega (arith, over.within, long))
-long_cut name m read input blocks a b long (inr (inr begun)) = absurd (omega (arith, begun.within, long))
+long_cut : (name : Text) (w : Wanted) (read input : List ℕ) (blocks : ℕ) (a b : Meaning) → most_bytes < length read → IsCutShort name w read blocks a b → IsCutShort name w input blocks a b
+long_cut name w read input blocks a b long (inl refused) = inl refused
+long_cut name w read input blocks a b long (inr (inl over)) = absurd (omega (arith, over.within, long))
+long_cut name w read input blocks a b long (inr (inr begun)) = absurd (omega (arith, begun.within, long))
 
 long_limited : (number blocks : ℕ) (read input : List ℕ) → number ≡ 1 → IsLimited read number blocks → IsLimited input number blocks
 long_limited number blocks read input one (inl many) = absurd (omega (arith, many.0, one))
 long_limited number blocks read input one (inr few) = inr few
 
-long_leaves : (name : Text) (m : Marks) (s : Status) (read input : List ℕ) (blocks bytes : ℕ) (a b : Meaning) → most_bytes < length read → most_bytes < length input → (IsVerdict s → Verdict m read s)
-    → Leaves name m read s blocks bytes a b → Leaves name m input s blocks bytes a b
-long_leaves name m status.Done read input blocks bytes a b long whole verdict leaves = absurd (omega (arith, (verdict tt).0, long))
-long_leaves name m status.Words read input blocks bytes a b long whole verdict leaves = leaves
-long_leaves name m (status.Rule number place) read input blocks bytes a b long whole verdict leaves = leaves
-long_leaves name m (status.Limit number found) read input blocks bytes a b long whole verdict leaves =
-    (long_limited number blocks read input (limit_one m number found read long (verdict tt)) leaves.0, leaves.1)
-long_leaves name m (status.Choice number place) read input blocks bytes a b long whole verdict leaves = absurd (omega (arith, (verdict tt).0, long))
-long_leaves name m status.ReadFault read input blocks bytes a b long whole verdict leaves = leaves
-long_leaves name m status.WriteFault read input blocks bytes a b long whole verdict leaves = long_cut name m read input blocks a b long leaves
-long_leaves name m status.NoMemory read input blocks bytes a b long whole verdict leaves = long_cut name m read input blocks a b long leaves
+long_leaves : (name : Text) (w : Wanted) (s : Status) (read input : List ℕ) (blocks bytes : ℕ) (a b : Meaning) → most_bytes < length read → most_bytes < length input → (IsVerdict s → Verdict w read s)
+    → Leaves name w read s blocks bytes a b → Leaves name w input s blocks bytes a b
+long_leaves name w status.Done read input blocks bytes a b long whole verdict leaves = absurd (omega (arith, (verdict tt).0, long))
+long_leaves name w status.Words read input blocks bytes a b long whole verdict leaves = leaves
+long_leaves name w (status.Rule number place) read input blocks bytes a b long whole verdict leaves = leaves
+long_leaves name w (status.Limit number found) read input blocks bytes a b long whole verdict leaves =
+    (long_limited number blocks read input (limit_one w number found read long (verdict tt)) leaves.0, leaves.1)
+long_leaves name w (status.Choice number place) read input blocks bytes a b long whole verdict leaves = absurd (omega (arith, (verdict tt).0, long))
+long_leaves name w status.ReadFault read input blocks bytes a b long whole verdict leaves = leaves
+long_leaves name w status.WriteFault read input blocks bytes a b long whole verdict leaves = long_cut name w read input blocks a b long leaves
+long_leaves name w status.NoMemory read input blocks bytes a b long whole verdict leaves = long_cut name w read input blocks a b long leaves
 
 -- what an answer to the bytes read says of the input
 pub ends_read : (request : Request) (read : List ℕ) (s : Status) (blocks bytes : ℕ) (a b c : Meaning)
     → IfSome (joined (a.holds request.from)) (λ held. read ≡ take 268435457 held) → IsUntouched a b
-    → IsAnswered request.to request.marks read s blocks bytes b c → EndsFiles request s blocks bytes a c
+    → IsAnswered request.to request.wanted read s blocks bytes b c → EndsFiles request s blocks bytes a c
 ends_read request read s blocks bytes a b c front first is = elim (cases_lt most_bytes (length read)) [
   | inr short ↦ record {
     input = read;
     files = record {
       told = short_told (joined (a.holds request.from)) read front short;
       verdict = is.verdict;
-      leaves = leaves_after request.to request.marks read s blocks bytes a b c first is.leaves;
+      leaves = leaves_after request.to request.wanted read s blocks bytes a b c first is.leaves;
     };
-    unsaid = cut_after request.to request.marks read blocks a b c first is.unsaid;
+    unsaid = cut_after request.to request.wanted read blocks a b c first is.unsaid;
   }
   | inl long ↦
       let input : List ℕ = whole (joined (a.holds request.from)) read in
@@ -142,10 +143,10 @@ ends_read request read s blocks bytes a b c front first is = elim (cases_lt most
         input = input;
         files = record {
           told = told_whole (joined (a.holds request.from)) read;
-          verdict = λ v. long_verdict request.marks s read input long long_input (is.verdict v);
-          leaves = leaves_after request.to request.marks input s blocks bytes a b c first (long_leaves request.to request.marks s read input blocks bytes b c long long_input is.verdict is.leaves);
+          verdict = λ v. long_verdict request.wanted s read input long long_input (is.verdict v);
+          leaves = leaves_after request.to request.wanted input s blocks bytes a b c first (long_leaves request.to request.wanted s read input blocks bytes b c long long_input is.verdict is.leaves);
         };
-        unsaid = cut_after request.to request.marks input blocks a b c first (long_cut request.to request.marks read input blocks b c long is.unsaid);
+        unsaid = cut_after request.to request.wanted input blocks a b c first (long_cut request.to request.wanted read input blocks b c long is.unsaid);
       }
 ]
 
@@ -161,6 +162,14 @@ ends_unread request s a b (inr e) same = rw e (record {
   files = record { told = told_whole (joined (a.holds request.from)) []; verdict = λ no. absurd no; leaves = inl (refl, same) };
   unsaid = inl (refl, same);
 })
+
+-- the parts of a request
+same_request : (r : Request) (from to : Text) (w : Wanted) → from ≡ r.from → to ≡ r.to → w ≡ r.wanted → ◌≡◌ {A = Request} (record { from = from; to = to; wanted = w }) r
+same_request r from to w e f h = rw (e, f, h) refl
+
+pub ends_as : (r : Request) (from to : Text) (w : Wanted) (s : Status) (blocks bytes : ℕ) (old new : Meaning) → from ≡ r.from → to ≡ r.to → w ≡ r.wanted
+    → EndsFiles (record { from = from; to = to; wanted = w }) s blocks bytes old new → EndsFiles r s blocks bytes old new
+ends_as r from to w s blocks bytes old new e f h ends = subst (λ (x : Request). EndsFiles x s blocks bytes old new) (same_request r from to w e f h) ends
 
 -- a run over good words whose line was said, or wasn't
 pub ends_said : (request : Request) (s late : Status) (blocks bytes fault_before fault_now : ℕ) (old new : Meaning) (before now : Option (List ℕ))
@@ -181,18 +190,28 @@ ends_said request s late blocks bytes fault_before fault_now old new before now 
   said = inl short.1;
 })
 
--- a run over other words
-pub ends_at_words : (late : Status) (fault_before fault_now : ℕ) (files : Meaning) (before now : Option (List ℕ))
-    → EndsAs status.Words (line_of status.Words 0 0) late before now fault_before fault_now → EndsAtWords late 0 files files before now
-ends_at_words late fault_before fault_now files before now (inl said) = rw said.0 (record { words = inl refl; files = refl; none = refl; said = said.1 })
-ends_at_words late fault_before fault_now files before now (inr (inl fault)) = rw fault.0 (record { words = inr (inl refl); files = refl; none = refl; said = fault.1 })
-ends_at_words late fault_before fault_now files before now (inr (inr short)) = rw short.0 (record { words = inr (inr refl); files = refl; none = refl; said = inl short.1 })
+-- a run over other words whose line was said, or wasn't
+words_said : (blocks bytes : ℕ) (late : Status) (fault_before fault_now : ℕ) (files : Meaning) (before now : Option (List ℕ))
+    → EndsAs status.Words (line_of status.Words blocks bytes) late before now fault_before fault_now → EndsAtWords late 0 files files before now
+words_said blocks bytes late fault_before fault_now files before now (inl said) = rw said.0 (record { words = inl refl; files = refl; none = refl; said = said.1 })
+words_said blocks bytes late fault_before fault_now files before now (inr (inl fault)) = rw fault.0 (record { words = inr (inl refl); files = refl; none = refl; said = fault.1 })
+words_said blocks bytes late fault_before fault_now files before now (inr (inr short)) = rw short.0 (record { words = inr (inr refl); files = refl; none = refl; said = inl short.1 })
 
--- a run over other words whose line was said
-pub words_said : (s late : Status) (blocks bytes fault_before fault_now : ℕ) (old new : Meaning) (before now : Option (List ℕ)) → s ≡ status.Words → blocks ≡ 0 → new ≡ old
+memory_said : (blocks bytes : ℕ) (late : Status) (fault_before fault_now : ℕ) (files : Meaning) (before now : Option (List ℕ))
+    → EndsAs status.NoMemory (line_of status.NoMemory blocks bytes) late before now fault_before fault_now → EndsAtWords late 0 files files before now
+memory_said blocks bytes late fault_before fault_now files before now (inl said) = rw said.0 (record { words = inr (inr refl); files = refl; none = refl; said = said.1 })
+memory_said blocks bytes late fault_before fault_now files before now (inr (inl fault)) = rw fault.0 (record { words = inr (inl refl); files = refl; none = refl; said = fault.1 })
+memory_said blocks bytes late fault_before fault_now files before now (inr (inr short)) = rw short.0 (record { words = inr (inr refl); files = refl; none = refl; said = inl short.1 })
+
+unread_is : (s late : Status) (blocks bytes fault_before fault_now : ℕ) (files : Meaning) (before now : Option (List ℕ)) → (s ≡ status.Words) ⊎ (s ≡ status.NoMemory)
+    → EndsAs s (line_of s blocks bytes) late before now fault_before fault_now → EndsAtWords late 0 files files before now
+unread_is s late blocks bytes fault_before fault_now files before now (inl e) said = words_said blocks bytes late fault_before fault_now files before now
+    (subst (λ (x : Status). EndsAs x (line_of x blocks bytes) late before now fault_before fault_now) e said)
+unread_is s late blocks bytes fault_before fault_now files before now (inr e) said = memory_said blocks bytes late fault_before fault_now files before now
+    (subst (λ (x : Status). EndsAs x (line_of x blocks bytes) late before now fault_before fault_now) e said)
+
+pub unread_said : (s late : Status) (blocks bytes fault_before fault_now : ℕ) (old new : Meaning) (before now : Option (List ℕ)) → IsUnread s blocks → new ≡ old
     → EndsAs s (line_of s blocks bytes) late before now fault_before fault_now → EndsAtWords late blocks old new before now
-words_said s late blocks bytes fault_before fault_now old new before now words none same said =
-    let told : EndsAs status.Words (line_of status.Words 0 0) late before now fault_before fault_now =
-    subst (λ (x : Status). EndsAs x (line_of x blocks bytes) late before now fault_before fault_now) words said in
-    let ends : EndsAtWords late 0 old old before now = ends_at_words late fault_before fault_now old before now told in
-    subst (λ (n : ℕ). EndsAtWords late n old new before now) (sym none) (subst (λ (m : Meaning). EndsAtWords late 0 old m before now) (sym same) ends)
+unread_said s late blocks bytes fault_before fault_now old new before now unread same said =
+    let ends : EndsAtWords late 0 old old before now = unread_is s late blocks bytes fault_before fault_now old before now unread.0 said in
+    subst (λ (n : ℕ). EndsAtWords late n old new before now) (sym unread.1) (subst (λ (m : Meaning). EndsAtWords late 0 old m before now) (sym same) ends)

@@ -14,14 +14,18 @@ use Rattle.jx_stream.specs.Spells.{TilePart}
 use Rattle.jx_stream.proofs.RangeLemmas.{read_in_range}
 use Rattle.jx_gather.specs.Either.{HasBlocks, HasFault}
 use Rattle.jx_gather.specs.Gathered.{IsBroken}
-use Rattle.jx_gather.specs.Totals.{packet_total, totals_fault}
+use Rattle.jx_gather.specs.Totals.{totals_fault}
+use Rattle.jx_gather.proofs.BlockOfLemmas.{blocks_of_stream}
+use Rattle.jx_gather.proofs.SoundLemmas.{sound_gathered}
 use Rattle.jx_plan.specs.declared.Marks.{Marks}
-use Rattle.jx_plan.specs.Headers.{Asked}
+use Rattle.jx_plan.specs.declared.faults.PlanFault.{PlanFault}
+use Rattle.jx_plan.specs.declared.faults.PlanFault.TheVariants as unplanned
 use Rattle.jx_plan.specs.Facts.{most_layers}
-use Rattle.jx_plan.specs.Plan.{headers_with, most_packets}
+use Rattle.jx_plan.specs.KeptFault.{HasKeptCause, IsFree}
+use Rattle.jx_plan.specs.Plan.{MayBePlanned, headers_with}
 use Rattle.jx_plan.specs.Standing.{HeadersStand}
+use Rattle.jx_plan.specs.Wanted.{MayBeWanted, Wanted, marks_of}
 use Rattle.jx_plan.proofs.ReadLemmas.{read_stands}
-use Rattle.jx_plan.proofs.StreamLemmas.{tile_number_stays}
 use Rattle.jx_assemble.specs.Ready.{AreReady, AreShort}
 use Rattle.jx_assemble.specs.TileParts.{AreTilePartsOf, IsOutput}
 use Rattle.jx_assemble.proofs.MostLemmas.{most_few, most_some}
@@ -31,14 +35,17 @@ use Rattle.jx_recast.specs.Judged.{BreaksTiles}
 use Rattle.jx_recast.specs.Outcome.{Verdict, most_bytes}
 use Rattle.jx_recast.specs.Rewritten.{Reads, headers_of}
 use Rattle.jx_recast.proofs.ToldLemmas.{stop_told}
-use Rattle.jx_recast.proofs.FrontLemmas.{one_tile}
+use Rattle.jx_recast.proofs.AnswerLemmas.{may_be_planned}
+use Rattle.jx_recast.proofs.FrontLemmas.{one_tile, tiles_stay}
 
 -- what the laws of the crates below say
 pub record Laws : Type 0 where
   pub either : (b : List ℕ) → AreBytes b → ((f : StreamFault) × IsFirst b f) ⊎ ((s : Stream) × IsRead b s)
   pub blocks : (b : List ℕ) (s : Stream) → IsRead b s → length b < 2 ^ 64 → HasBlocks b s ⊎ HasFault b s
-  pub ready : (m : Marks) (layers : ℕ) (s : Stream) → 1 ≤ layers → layers < 2 ^ 16 → HeadersStand s → StreamInRange s → totals_fault s ≡ None
-      → packet_total (headers_with m layers s) ≤ 2 ^ 22 → AreReady m (headers_with m layers s)
+  pub kept : (s : Stream) (blocks : List Block) (w : Wanted) → MayBePlanned s blocks → MayBeWanted w
+      → IsFree s w (most_layers s) ⊎ ((e : PlanFault) × (e ≡ unplanned.NoMemory → ⊥) × HasKeptCause s w e)
+  pub ready : (w : Wanted) (layers : ℕ) (s : Stream) → 1 ≤ layers → layers < 2 ^ 16 → MayBeWanted w → HeadersStand s → StreamInRange s → totals_fault s ≡ None
+      → IsFree s w layers → AreReady (marks_of w) (headers_with w layers s)
   pub output : (m : Marks) (s : Stream) (blocks : List Block) → AreReady m s → (b : List ℕ) × IsOutput m s blocks b
 
 -- the first of some tiles whose tile-parts aren't all short
@@ -70,48 +77,59 @@ all_short_or_not parts (suc n) = elim (all_short_or_not parts n) [
   ]
 ]
 
-module _ (laws : Laws) (m : Marks) (input : List ℕ) (short : length input ≤ most_bytes) where
-  stopped : (f : StreamFault) → IsFirst input f ⊎ BreaksTiles input f → (st : Status) × Verdict m input st
+module _ (laws : Laws) (w : Wanted) (may : MayBeWanted w) (input : List ℕ) (short : length input ≤ most_bytes) where
+  stopped : (f : StreamFault) → IsFirst input f ⊎ BreaksTiles input f → (st : Status) × Verdict w input st
   stopped (fault.Rule number place) cause = (status.Rule number place, (short, cause))
   stopped (fault.Limit number found) cause = (status.Limit number found, inl (inr (short, cause)))
   stopped fault.NoMemory cause = absurd (stop_told input fault.NoMemory cause)
 
-  written : (s : Stream) (blocks : List Block) → Reads input s blocks → packet_total (headers_of m s) ≤ most_packets → (st : Status) × Verdict m input st
-  written s blocks reads few =
+  written : (s : Stream) (blocks : List Block) → Reads input s blocks → IsFree s w (most_layers s) → (st : Status) × Verdict w input st
+  written s blocks reads free =
       let range : StreamInRange s = read_in_range input s reads.read in
-      let packets : packet_total (headers_of m s) ≤ 2 ^ 22 = few in
-      let asked : Asked = record { sop = m.sop; eph = m.eph; layers = most_layers s } in
-      let ready : AreReady m (headers_of m s) = laws.ready m (most_layers s) s (most_some s range) (most_few s range) (read_stands input s reads.read) range reads.totals packets in
-      let out = laws.output m (headers_of m s) blocks ready in
-      let are : (t : ℕ) → t < tile_number s.siz → AreTilePartsOf m (headers_of m s) blocks t (out.1.parts t) =
-      λ t lt. out.1.are t (subst (λ (n : ℕ). t < n) (sym (tile_number_stays asked s)) lt) in
+      let ready : AreReady (marks_of w) (headers_of w s) = laws.ready w (most_layers s) s (most_some s range) (most_few s range) may (read_stands input s reads.read) range reads.totals free in
+      let out = laws.output (marks_of w) (headers_of w s) blocks ready in
+      let are : (t : ℕ) → t < tile_number s.siz → AreTilePartsOf (marks_of w) (headers_of w s) blocks t (out.1.parts t) =
+      λ t lt. out.1.are t (subst (λ (n : ℕ). t < n) (sym (tiles_stay w (most_layers s) s)) lt) in
       elim (all_short_or_not out.1.parts (tile_number s.siz)) [
-        | inl all ↦ (status.Done, (short, out.0, record { stream = s; blocks = blocks; reads = reads; few = few; output = out.1; short = all }))
+        | inl all ↦ (status.Done, (short, out.0, record { stream = s; blocks = blocks; reads = reads; free = free; output = out.1; short = all }))
         | inr (t, first) ↦ (
           status.Choice 7 t,
           (
             short,
-            refl,
-            record {
-              stream = s;
-              blocks = blocks;
-              reads = reads;
-              few = few;
-              inside = first.inside;
-              is = record { parts = out.1.parts t; are = are t first.inside; long = first.long };
-              lowest = λ n lt long. long.long (subst AreShort (one_tile m (headers_of m s) blocks n (out.1.parts n) long.parts (are n (omega (arith, lt, first.inside))) long.are) (first.before n lt));
-            },
+            inl (
+              refl,
+              record {
+                stream = s;
+                blocks = blocks;
+                reads = reads;
+                free = free;
+                inside = first.inside;
+                is = record { parts = out.1.parts t; are = are t first.inside; long = first.long };
+                lowest = λ n lt long. long.long (subst AreShort (one_tile (marks_of w) (headers_of w s) blocks n (out.1.parts n) long.parts (are n (omega (arith, lt, first.inside))) long.are) (first.before n lt));
+              },
+            ),
           ),
         )
       ]
 
-  planned : (s : Stream) (blocks : List Block) → Reads input s blocks → (st : Status) × Verdict m input st
-  planned s blocks reads = elim (cases_lt 4194304 (packet_total (headers_of m s))) [
-    | inl many ↦ (status.Limit 7 (packet_total (headers_of m s)), inr (short, refl, record { stream = s; blocks = blocks; reads = reads; many = record { count = refl; many = many } }))
-    | inr few ↦ written s blocks reads few
+  unplanned_for : (s : Stream) (blocks : List Block) (e : PlanFault) → (e ≡ unplanned.NoMemory → ⊥) → HasKeptCause s w e → Reads input s blocks → (st : Status) × Verdict w input st
+  unplanned_for s blocks (unplanned.Choice number place) caused cause reads = (status.Choice number place, (short, inr (record { stream = s; blocks = blocks; reads = reads; cause = cause })))
+  unplanned_for s blocks (unplanned.Limit number found) caused cause reads = (status.Limit number found, inr (short, record { stream = s; blocks = blocks; reads = reads; cause = cause }))
+  unplanned_for s blocks unplanned.NoMemory caused cause reads = absurd (caused refl)
+
+  may_plan : (s : Stream) (blocks : List Block) → Reads input s blocks → MayBePlanned s blocks
+  may_plan s blocks reads =
+      let small : length input ≤ 2 ^ 28 = short in
+      may_be_planned input s blocks reads.read reads.totals (blocks_of_stream input s blocks reads.read small reads.totals reads.gathered)
+      (sound_gathered input s blocks reads.read small reads.totals reads.gathered)
+
+  planned : (s : Stream) (blocks : List Block) → Reads input s blocks → (st : Status) × Verdict w input st
+  planned s blocks reads = elim (laws.kept s blocks w (may_plan s blocks reads) may) [
+    | inl free ↦ written s blocks reads free
+    | inr why ↦ unplanned_for s blocks why.0 why.1 why.2 reads
   ]
 
-  gathered : (s : Stream) → IsRead input s → HasBlocks input s ⊎ HasFault input s → (totals_fault s ≡ None) ⊎ ((f : StreamFault) × IsBroken input s f) → (st : Status) × Verdict m input st
+  gathered : (s : Stream) → IsRead input s → HasBlocks input s ⊎ HasFault input s → (totals_fault s ≡ None) ⊎ ((f : StreamFault) × IsBroken input s f) → (st : Status) × Verdict w input st
   gathered s read (inr broken) totals = stopped broken.0 (inr (record { stream = s; read = read; broken = broken.1 }))
   gathered s read (inl blocks) (inr broken) = stopped broken.0 (inr (record { stream = s; read = read; broken = broken.1 }))
   gathered s read (inl blocks) (inl none) = planned s blocks.0 (record { read = read; totals = none; gathered = blocks.1 })
@@ -123,7 +141,7 @@ module _ (laws : Laws) (m : Marks) (input : List ℕ) (short : length input ≤ 
       told None e = inl e
       told (Some f) e = inr (f, inl e)
 
-  short_verdict : AreBytes input → (st : Status) × Verdict m input st
+  short_verdict : AreBytes input → (st : Status) × Verdict w input st
   short_verdict bytes = elim (laws.either input bytes) [
     | inl first ↦ stopped first.0 (inl first.1)
     | inr read ↦
@@ -131,8 +149,8 @@ module _ (laws : Laws) (m : Marks) (input : List ℕ) (short : length input ≤ 
         gathered read.0 read.1 (laws.blocks input read.0 read.1 (omega arith)) (totals_of read.0)
   ]
 
-pub some_verdict : Laws → (m : Marks) (input : List ℕ) → AreBytes input → (st : Status) × Verdict m input st
-some_verdict laws m input bytes = elim (cases_lt most_bytes (length input)) [
+pub some_verdict : Laws → (w : Wanted) (input : List ℕ) → MayBeWanted w → AreBytes input → (st : Status) × Verdict w input st
+some_verdict laws w input may bytes = elim (cases_lt most_bytes (length input)) [
   | inl long ↦ (status.Limit 1 268435457, inl (inl (long, refl, refl)))
-  | inr short ↦ short_verdict laws m input short bytes
+  | inr short ↦ short_verdict laws w may input short bytes
 ]

@@ -14,7 +14,7 @@ use Rattle.jx_recast.specs.Halts.{halt_of}
 use Rattle.jx_recast.specs.Outcome.{IsUntouched}
 use Rattle.jx_recast.specs.Progress.{HasWritten, SomeFront}
 use Rattle.jx_recast.specs.Rounds.{BeginsRound, EndsRound, HasFront, HasRounds, HasWhole, IsCutAfter, IsFault, IsHalted, IsHaltedByFault, IsPlace, IsShortFront, IsUnmade, IsUnwritten, IsWholeFile, LeadOn, LeadsBy}
-use Rattle.jx_recast.specs.Words.{Text}
+use Rattle.jx_words.specs.Words.{Text}
 use Rattle.jx_recast.specs.declared.halt.Halt.{Halt}
 use Rattle.jx_recast.specs.declared.halt.Halt.TheVariants as halt
 use Rattle.jx_recast.proofs.FrontLemmas.{front_none, round_none}

@@ -1,13 +1,13 @@
 -- What a whole file, or one that was halted, leaves under a name.
 use Rattle.std.specs.Prelude.{◌≡◌, ◌⊎◌, ℕ, List, length}
 use Rattle.jx_outside.specs.Device.{Meaning}
-use Rattle.jx_plan.specs.declared.Marks.{Marks}
+use Rattle.jx_plan.specs.Wanted.{Wanted}
 use Rattle.jx_plan.specs.declared.faults.PlanFault.{PlanFault}
 use Rattle.jx_plan.specs.declared.faults.PlanFault.TheVariants as unplanned
 use Rattle.jx_plan.specs.Plan.{IsPlan, Plan}
 use Rattle.jx_recast.specs.Outcome.{IsBegun, IsCutShort, IsMade, IsStopped, IsVerdict, Leaves, Verdict}
 use Rattle.jx_recast.specs.Rounds.{IsHaltedAt, IsRoundFront, IsWholeFile}
-use Rattle.jx_recast.specs.Words.{Text}
+use Rattle.jx_words.specs.Words.{Text}
 use Rattle.jx_recast.specs.declared.halt.Halt.{Halt}
 use Rattle.jx_recast.specs.declared.halt.Halt.TheVariants as halt
 use Rattle.jx_recast.specs.declared.status.Status.{Status}
@@ -37,10 +37,10 @@ IsFileHalted p name halt.Failed old new = IsFileBegun p name old new
 IsFileHalted p name halt.NoMemory old new = IsFileBegun p name old new
 
 -- what becomes of an input whose bytes were read
-pub record IsAnswered (name : Text) (m : Marks) (input : List ℕ) (s : Status) (blocks bytes : ℕ) (old new : Meaning) : Type 0 where
-  pub verdict : IsVerdict s → Verdict m input s
-  pub leaves : Leaves name m input s blocks bytes old new
-  pub unsaid : IsCutShort name m input blocks old new
+pub record IsAnswered (name : Text) (w : Wanted) (input : List ℕ) (s : Status) (blocks bytes : ℕ) (old new : Meaning) : Type 0 where
+  pub verdict : IsVerdict s → Verdict w input s
+  pub leaves : Leaves name w input s blocks bytes old new
+  pub unsaid : IsCutShort name w input blocks old new
 
 -- the status of a file that wasn't written to its end, and that of an input in which something is violated or passed
 abbrev pub status_of : Halt → Status
@@ -63,6 +63,10 @@ abbrev pub blocks_told : PlanFault → ℕ → ℕ
 blocks_told (unplanned.Limit number found) blocks = blocks
 blocks_told (unplanned.Choice number place) blocks = blocks
 blocks_told unplanned.NoMemory blocks = 0
+
+-- words that are no command, or that couldn't be read
+abbrev pub IsUnread : Status → ℕ → Type 0
+IsUnread s blocks = ((s ≡ status.Words) ⊎ (s ≡ status.NoMemory)) × (blocks ≡ 0)
 
 -- what becomes of a plan: a whole file, or one that was halted
 pub record IsPlanWritten (p : Plan) (name : Text) (s : Status) (bytes : ℕ) (old new : Meaning) : Type 0 where

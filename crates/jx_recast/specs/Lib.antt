@@ -1,4 +1,3 @@
-pub mod Words
 pub mod Rewritten
 pub mod Outcome
 pub mod Progress

@@ -6,9 +6,11 @@ use Rattle.jx_outside.specs.Causes.{Rose}
 use Rattle.jx_outside.specs.Device.{Meaning, joined, after_create, after_write, after_finish}
 use Rattle.jx_recast.specs.declared.status.Status.{Status}
 use Rattle.jx_recast.specs.declared.status.Status.TheVariants as status
-use Rattle.jx_recast.specs.Words.{Text, Request, is_good, request_of}
-use Rattle.jx_recast.specs.Rewritten.{HasBlocks, IsCut, IsFrontOf, IsKept, IsRewritten, IsTooLong, PassesPackets}
-use Rattle.jx_plan.specs.declared.Marks.{Marks}
+use Rattle.jx_words.specs.Words.{Text, Request, is_good, request_of}
+use Rattle.jx_recast.specs.Rewritten.{HasBlocks, IsCut, IsFrontOf, IsKept, IsRewritten, IsTooLong, IsUnplanned}
+use Rattle.jx_plan.specs.declared.faults.PlanFault.{PlanFault}
+use Rattle.jx_plan.specs.declared.faults.PlanFault.TheVariants as unplanned
+use Rattle.jx_plan.specs.Wanted.{Wanted}
 use Rattle.jx_recast.specs.Progress.{HasWritten}
 use Rattle.jx_recast.specs.Judged.{Violates, Passes}
 
@@ -45,16 +47,16 @@ PassesLimit input number found =
     ⊎ ((length input ≤ most_bytes) × Passes input number found)
 
 -- the status that an input has where the words are good and nothing fails: limit 1, then the first rule that it violates or limit that it
--- passes in its headers or its tile data, then limit 7, then a tile-part that would be too long
-abbrev pub Verdict : Marks → List ℕ → Status → Type 0
-Verdict m input status.Done = (length input ≤ most_bytes) × (out : List ℕ) × IsRewritten m input out
-Verdict m input (status.Rule number place) = (length input ≤ most_bytes) × Violates input number place
-Verdict m input (status.Limit number found) = PassesLimit input number found ⊎ ((length input ≤ most_bytes) × (number ≡ 7) × PassesPackets m input found)
-Verdict m input (status.Choice number place) = (length input ≤ most_bytes) × (number ≡ 7) × IsTooLong m input place
-Verdict m input status.Words = ⊥
-Verdict m input status.ReadFault = ⊥
-Verdict m input status.WriteFault = ⊥
-Verdict m input status.NoMemory = ⊥
+-- passes in its headers or its tile data, then choice 3, choice 2, limit 7 and choice 5, then a tile-part that would be too long
+abbrev pub Verdict : Wanted → List ℕ → Status → Type 0
+Verdict w input status.Done = (length input ≤ most_bytes) × (out : List ℕ) × IsRewritten w input out
+Verdict w input (status.Rule number place) = (length input ≤ most_bytes) × Violates input number place
+Verdict w input (status.Limit number found) = PassesLimit input number found ⊎ ((length input ≤ most_bytes) × IsUnplanned w input (unplanned.Limit number found))
+Verdict w input (status.Choice number place) = (length input ≤ most_bytes) × (((number ≡ 7) × IsTooLong w input place) ⊎ IsUnplanned w input (unplanned.Choice number place))
+Verdict w input status.Words = ⊥
+Verdict w input status.ReadFault = ⊥
+Verdict w input status.WriteFault = ⊥
+Verdict w input status.NoMemory = ⊥
 
 -- the line that a status has, with its numbers: those of the code-blocks and of the bytes written after Done
 abbrev pub line_of : Status → ℕ → ℕ → List ℕ
@@ -109,38 +111,39 @@ abbrev pub IsRefused : ℕ → Meaning → Meaning → Type 0
 IsRefused blocks old new = (blocks ≡ 0) × IsUntouched old new
 
 -- the input was accepted, and its output begun: what was written is a front of whole rounds, or of the whole file
-pub record IsAborted (name : Text) (m : Marks) (input : List ℕ) (blocks : ℕ) (old new : Meaning) : Type 0 where
+pub record IsAborted (name : Text) (w : Wanted) (input : List ℕ) (blocks : ℕ) (old new : Meaning) : Type 0 where
   pub within : length input ≤ most_bytes
   pub count : HasBlocks input blocks
   pub bytes : List ℕ
-  pub of : IsFrontOf m input bytes ⊎ IsRewritten m input bytes
+  pub of : IsFrontOf w input bytes ⊎ IsRewritten w input bytes
   pub begun : IsBegun name bytes old new
 
--- nothing was made of an input that passes limit 7
-pub record IsOver (m : Marks) (input : List ℕ) (blocks : ℕ) (old new : Meaning) : Type 0 where
+-- nothing was made of an input that isn't planned
+pub record IsOver (w : Wanted) (input : List ℕ) (blocks : ℕ) (old new : Meaning) : Type 0 where
   pub within : length input ≤ most_bytes
-  pub found : ℕ
-  pub many : PassesPackets m input found
+  pub why : PlanFault
+  pub is : IsUnplanned w input why
+  pub caused : why ≡ unplanned.NoMemory → ⊥
   pub count : HasBlocks input blocks
   pub same : IsUntouched old new
 
 -- nothing was made, or the input was accepted and its output begun
-abbrev pub IsCutShort : Text → Marks → List ℕ → ℕ → Meaning → Meaning → Type 0
-IsCutShort name m input blocks old new = IsRefused blocks old new ⊎ (IsOver m input blocks old new ⊎ IsAborted name m input blocks old new)
+abbrev pub IsCutShort : Text → Wanted → List ℕ → ℕ → Meaning → Meaning → Type 0
+IsCutShort name w input blocks old new = IsRefused blocks old new ⊎ (IsOver w input blocks old new ⊎ IsAborted name w input blocks old new)
 
 -- the file was made whole
-pub record IsWhole (name : Text) (m : Marks) (input : List ℕ) (blocks bytes : ℕ) (old new : Meaning) : Type 0 where
+pub record IsWhole (name : Text) (w : Wanted) (input : List ℕ) (blocks bytes : ℕ) (old new : Meaning) : Type 0 where
   pub out : List ℕ
-  pub is : IsRewritten m input out
+  pub is : IsRewritten w input out
   pub made : IsMade name out old new
-  pub kept : IsKept m input out
+  pub kept : IsKept w input out
   pub count : HasBlocks input blocks
   pub long : bytes ≡ length out
 
 -- a tile-part was too long: the rounds before its tile's were written
-pub record IsStoppedAt (name : Text) (m : Marks) (input : List ℕ) (tile blocks : ℕ) (old new : Meaning) : Type 0 where
+pub record IsStoppedAt (name : Text) (w : Wanted) (input : List ℕ) (tile blocks : ℕ) (old new : Meaning) : Type 0 where
   pub bytes : List ℕ
-  pub is : IsCut m input tile bytes
+  pub is : IsCut w input tile bytes
   pub stopped : IsStopped name bytes old new
   pub count : HasBlocks input blocks
 
@@ -149,28 +152,29 @@ abbrev pub IsLimited : List ℕ → ℕ → ℕ → Type 0
 IsLimited input number blocks = ((number ≡ 7) × HasBlocks input blocks) ⊎ ((number < 7) × (blocks ≡ 0))
 
 -- what stands after a status, the blocks that are told, and the bytes of the output after Done
-abbrev pub Leaves : Text → Marks → List ℕ → Status → ℕ → ℕ → Meaning → Meaning → Type 0
-Leaves name m input status.Done blocks bytes old new = IsWhole name m input blocks bytes old new
-Leaves name m input status.Words blocks bytes old new = IsRefused blocks old new
-Leaves name m input (status.Rule number place) blocks bytes old new = IsRefused blocks old new
-Leaves name m input (status.Limit number found) blocks bytes old new = IsLimited input number blocks × IsUntouched old new
-Leaves name m input (status.Choice number place) blocks bytes old new = IsStoppedAt name m input place blocks old new
-Leaves name m input status.ReadFault blocks bytes old new = IsRefused blocks old new
-Leaves name m input status.WriteFault blocks bytes old new = IsCutShort name m input blocks old new
-Leaves name m input status.NoMemory blocks bytes old new = IsCutShort name m input blocks old new
+abbrev pub Leaves : Text → Wanted → List ℕ → Status → ℕ → ℕ → Meaning → Meaning → Type 0
+Leaves name w input status.Done blocks bytes old new = IsWhole name w input blocks bytes old new
+Leaves name w input status.Words blocks bytes old new = IsRefused blocks old new
+Leaves name w input (status.Rule number place) blocks bytes old new = IsRefused blocks old new
+Leaves name w input (status.Limit number found) blocks bytes old new = IsLimited input number blocks × IsUntouched old new
+Leaves name w input (status.Choice number place) blocks bytes old new =
+    ((number ≡ 7) × IsStoppedAt name w input place blocks old new) ⊎ ((number < 7) × HasBlocks input blocks × IsUntouched old new)
+Leaves name w input status.ReadFault blocks bytes old new = IsRefused blocks old new
+Leaves name w input status.WriteFault blocks bytes old new = IsCutShort name w input blocks old new
+Leaves name w input status.NoMemory blocks bytes old new = IsCutShort name w input blocks old new
 
 -- how a run over good words ends on an input, which is what the file named IN holds at the beginning, where that is told
 pub record EndsOn (request : Request) (input : List ℕ) (s : Status) (blocks bytes : ℕ) (old new : Meaning) : Type 0 where
   pub told : IfSome (joined (old.holds request.from)) (λ bytes. input ≡ bytes)
-  pub verdict : IsVerdict s → Verdict request.marks input s
-  pub leaves : Leaves request.to request.marks input s blocks bytes old new
+  pub verdict : IsVerdict s → Verdict request.wanted input s
+  pub leaves : Leaves request.to request.wanted input s blocks bytes old new
 
 -- how the files are left by a run over good words, before anything is said; `bytes` is the output's length after Done
 pub record EndsFiles (request : Request) (s : Status) (blocks bytes : ℕ) (old new : Meaning) : Type 0 where
   pub input : List ℕ
   pub files : EndsOn request input s blocks bytes old new
   -- what stands where its line isn't said
-  pub unsaid : IsCutShort request.to request.marks input blocks old new
+  pub unsaid : IsCutShort request.to request.wanted input blocks old new
 
 -- how a run over good words ends
 pub record Ends (request : Request) (s : Status) (blocks : ℕ) (old new : Meaning) (before now : Option (List ℕ)) : Type 0 where

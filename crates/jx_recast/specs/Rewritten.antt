@@ -12,11 +12,12 @@ use Rattle.jx_stream.specs.Read.{IsRead}
 use Rattle.jx_stream.specs.Shapes.{shapes_of}
 use Rattle.jx_stream.specs.Spells.{TilePart, part_bytes}
 use Rattle.jx_gather.specs.Gathered.{IsGathered}
-use Rattle.jx_gather.specs.Totals.{packet_total, totals_fault}
-use Rattle.jx_plan.specs.declared.Marks.{Marks}
+use Rattle.jx_gather.specs.Totals.{totals_fault}
+use Rattle.jx_plan.specs.declared.faults.PlanFault.{PlanFault}
 use Rattle.jx_plan.specs.Facts.{most_layers}
-use Rattle.jx_plan.specs.Plan.{headers_with, most_packets}
-use Rattle.jx_plan.specs.Plan.{PassesPackets as HasManyPackets}
+use Rattle.jx_plan.specs.KeptFault.{HasKeptCause, IsFree}
+use Rattle.jx_plan.specs.Plan.{headers_with}
+use Rattle.jx_plan.specs.Wanted.{Wanted, marks_of}
 use Rattle.jx_assemble.specs.Kept.{IsKeptIn}
 use Rattle.jx_assemble.specs.Ready.{AllShort, AreShort}
 use Rattle.jx_assemble.specs.Tile.{main_bytes}
@@ -29,39 +30,39 @@ pub record Reads (input : List ℕ) (s : Stream) (blocks : List Block) : Type 0 
   pub gathered : IsGathered input s blocks
 
 -- the headers that are written: as many layers as the tile that has the most of them
-abbrev pub headers_of : Marks → Stream → Stream
-headers_of m s = headers_with m (most_layers s) s
+abbrev pub headers_of : Wanted → Stream → Stream
+headers_of w s = headers_with w (most_layers s) s
 
--- limit 7
-pub record PassesPackets (m : Marks) (input : List ℕ) (found : ℕ) : Type 0 where
+-- why an input isn't planned: choice 3, choice 2, limit 7 or choice 5
+pub record IsUnplanned (w : Wanted) (input : List ℕ) (why : PlanFault) : Type 0 where
   pub stream : Stream
   pub blocks : List Block
   pub reads : Reads input stream blocks
-  pub many : HasManyPackets stream m found
+  pub cause : HasKeptCause stream w why
 
 -- a tile that has a tile-part of 2^32 bytes or more
-pub record IsLong (m : Marks) (s : Stream) (blocks : List Block) (t : ℕ) : Type 0 where
+pub record IsLong (w : Wanted) (s : Stream) (blocks : List Block) (t : ℕ) : Type 0 where
   pub parts : List TilePart
-  pub are : AreTilePartsOf m (headers_of m s) blocks t parts
+  pub are : AreTilePartsOf (marks_of w) (headers_of w s) blocks t parts
   pub long : AreShort parts → ⊥
 
 -- the lowest tile that has
-pub record IsTooLong (m : Marks) (input : List ℕ) (t : ℕ) : Type 0 where
+pub record IsTooLong (w : Wanted) (input : List ℕ) (t : ℕ) : Type 0 where
   pub stream : Stream
   pub blocks : List Block
   pub reads : Reads input stream blocks
-  pub few : packet_total (headers_of m stream) ≤ most_packets
+  pub free : IsFree stream w (most_layers stream)
   pub inside : t < tile_number stream.siz
-  pub is : IsLong m stream blocks t
-  pub lowest : (n : ℕ) → n < t → IsLong m stream blocks n → ⊥
+  pub is : IsLong w stream blocks t
+  pub lowest : (n : ℕ) → n < t → IsLong w stream blocks n → ⊥
 
 -- the file that is written of an input: the one that its blocks make with its headers
-pub record IsRewritten (m : Marks) (input out : List ℕ) : Type 0 where
+pub record IsRewritten (w : Wanted) (input out : List ℕ) : Type 0 where
   pub stream : Stream
   pub blocks : List Block
   pub reads : Reads input stream blocks
-  pub few : packet_total (headers_of m stream) ≤ most_packets
-  pub output : IsOutput m (headers_of m stream) blocks out
+  pub free : IsFree stream w (most_layers stream)
+  pub output : IsOutput (marks_of w) (headers_of w stream) blocks out
   pub short : AllShort output.parts (tile_number stream.siz)
 
 -- rounds: tiles are written in rounds, of which each ends with the first tile at which it has 4,096 blocks, or with the last tile
@@ -87,28 +88,28 @@ abbrev pub round_start : Stream → ℕ → ℕ
 round_start s t = (round_of (blocks_in_tile s) t).start
 
 -- the main header and the tile-parts of the first tiles
-pub record IsFront (m : Marks) (s : Stream) (blocks : List Block) (tiles : ℕ) (bytes : List ℕ) : Type 0 where
+pub record IsFront (w : Wanted) (s : Stream) (blocks : List Block) (tiles : ℕ) (bytes : List ℕ) : Type 0 where
   pub parts : ℕ → List TilePart
-  pub are : (t : ℕ) → t < tiles → AreTilePartsOf m (headers_of m s) blocks t (parts t)
-  pub bytes_are : bytes ≡ main_bytes (headers_of m s) ++ flat_map (part_bytes (length s.siz.comps)) (joined parts 0 tiles)
+  pub are : (t : ℕ) → t < tiles → AreTilePartsOf (marks_of w) (headers_of w s) blocks t (parts t)
+  pub bytes_are : bytes ≡ main_bytes (headers_of w s) ++ flat_map (part_bytes (length s.siz.comps)) (joined parts 0 tiles)
 
 -- what a run may have written of an input before it is done: whole rounds, of which none has a tile that is too long
-pub record IsFrontOf (m : Marks) (input bytes : List ℕ) : Type 0 where
+pub record IsFrontOf (w : Wanted) (input bytes : List ℕ) : Type 0 where
   pub stream : Stream
   pub blocks : List Block
   pub reads : Reads input stream blocks
-  pub few : packet_total (headers_of m stream) ≤ most_packets
+  pub free : IsFree stream w (most_layers stream)
   pub tiles : ℕ
   pub inside : tiles ≤ tile_number stream.siz
-  pub front : IsFront m stream blocks tiles bytes
-  pub before : (t : ℕ) → t < tile_number stream.siz → IsLong m stream blocks t → tiles ≤ round_start stream t
+  pub front : IsFront w stream blocks tiles bytes
+  pub before : (t : ℕ) → t < tile_number stream.siz → IsLong w stream blocks t → tiles ≤ round_start stream t
 
 -- what it has written where a tile is too long: the rounds before that tile's
-pub record IsCut (m : Marks) (input : List ℕ) (t : ℕ) (bytes : List ℕ) : Type 0 where
+pub record IsCut (w : Wanted) (input : List ℕ) (t : ℕ) (bytes : List ℕ) : Type 0 where
   pub stream : Stream
   pub blocks : List Block
   pub reads : Reads input stream blocks
-  pub front : IsFront m stream blocks (round_start stream t) bytes
+  pub front : IsFront w stream blocks (round_start stream t) bytes
 
 -- how many blocks an input has
 pub record HasBlocks (input : List ℕ) (count : ℕ) : Type 0 where
@@ -118,10 +119,11 @@ pub record HasBlocks (input : List ℕ) (count : ℕ) : Type 0 where
   pub count_is : count ≡ length blocks
 
 -- what the written file keeps: it is a well-formed codestream, and strictly made; it has the input's blocks, each with its name, place,
--- planes, zero planes, passes, style and coded bytes; SIZ but for Rsiz; and each component's parameters but for the layers, and steps
-pub record IsKept (m : Marks) (input out : List ℕ) : Type 0 where
+-- planes, zero planes, passes, style and coded bytes; SIZ but for Rsiz; and each component's parameters but for the order, the layers
+-- and the precincts, and steps
+pub record IsKept (w : Wanted) (input out : List ℕ) : Type 0 where
   pub before : Stream
   pub after : Stream
   pub blocks : List Block
   pub reads : Reads input before blocks
-  pub kept : IsKeptIn m (most_layers before) before after blocks out
+  pub kept : IsKeptIn w (most_layers before) before after blocks out

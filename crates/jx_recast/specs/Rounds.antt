@@ -10,6 +10,7 @@ use Rattle.jx_marker.specs.declared.Segment.TheVariants as segment
 use Rattle.jx_outside.specs.Device.{Meaning, after_finish, after_write}
 use Rattle.jx_plan.specs.Facts.{most_layers}
 use Rattle.jx_plan.specs.Plan.{KeepsLayers, Plan, headers_of}
+use Rattle.jx_plan.specs.Wanted.{marks_of}
 use Rattle.jx_stream.specs.First.{tile_number}
 use Rattle.jx_stream.specs.Spells.{TilePart, part_bytes}
 use Rattle.jx_assemble.specs.Ready.{AreShort}
@@ -44,7 +45,7 @@ pub record AreMade (jobs : List Job) (first : ℕ) (values : List WrittenBlock) 
 -- the main header and the tile-parts of the first tiles, none of which is too long
 pub record IsShortFront (p : Plan) (tiles : ℕ) (bytes : List ℕ) : Type 0 where
   pub parts : ℕ → List TilePart
-  pub are : (t : ℕ) → t < tiles → AreTilePartsOf p.marks (headers_of p) p.blocks t (parts t)
+  pub are : (t : ℕ) → t < tiles → AreTilePartsOf (marks_of p.wanted) (headers_of p) p.blocks t (parts t)
   pub short : (t : ℕ) → t < tiles → AreShort (parts t)
   pub bytes_are : bytes ≡ main_bytes (headers_of p) ++ flat_map (part_bytes (length p.stream.siz.comps)) (joined parts 0 tiles)
 

@@ -14,7 +14,7 @@ ghost use Rattle.jx_recast.specs.Rounds.{BeginsRound, EndsRound, HasFront, HasRo
 use crate::device::{count_bytes, write_all, write_pieces};
 use crate::halt::{Halt, halt_of};
 use crate::rounds::{made_round, tile_count};
-use jx_assemble::main_header;
+use jx_assemble::{main_header, main_view};
 use jx_outside::Files;
 use jx_plan::OutStream;
 use jx_stream::MainView;
@@ -71,10 +71,12 @@ fn write_round<F: Files>(
     files: &mut F,
     plan: &OutStream<'_>,
     main: &MainView<'_>,
+    written: &MainView<'_>,
     mark: Mark,
 ) -> Result<Mark, Halt>
     requires making { IsTrue (F.meaning files.old).making }
     requires main { main.now ≡ record { siz = plan.now.stream.siz; main = plan.now.stream.main } }
+    requires written { written.now ≡ record { siz = (headers_of plan.now).siz; main = (headers_of plan.now).main } }
     requires plan { IsPlan plan.now }
     requires keeping { IsKeeping plan.now }
     requires tile { mark.tile < tile_number plan.now.stream.siz }
@@ -90,7 +92,7 @@ fn write_round<F: Files>(
     ensures making { OnOk result (IsTrue (F.meaning files.new).making) }
     ensures other { F.read_faults files.new ≡ F.read_faults files.old }
 {
-    let round = match made_round(alloc, plan, main, mark.tile, mark.block) {
+    let round = match made_round(alloc, plan, main, written, mark.tile, mark.block) {
         Ok(round) => round,
         Err(halt) => return Err(halt),
     };
@@ -114,10 +116,12 @@ fn write_tiles<F: Files>(
     files: &mut F,
     plan: &OutStream<'_>,
     main: &MainView<'_>,
+    written: &MainView<'_>,
     header: usize,
 ) -> Result<usize, Halt>
     requires making { IsTrue (F.meaning files.old).making }
     requires main { main.now ≡ record { siz = plan.now.stream.siz; main = plan.now.stream.main } }
+    requires written { written.now ≡ record { siz = (headers_of plan.now).siz; main = (headers_of plan.now).main } }
     requires plan { IsPlan plan.now }
     requires keeping { IsKeeping plan.now }
     ensures ok { IfOk result (λ bytes. HasRounds plan.now 0 (tile_number plan.now.stream.siz) header bytes (F.meaning files.old) (F.meaning files.new)) }
@@ -134,7 +138,7 @@ fn write_tiles<F: Files>(
         bytes: header,
     };
     while mark.tile < tiles {
-        mark = match write_round(alloc, files, plan, main, mark) {
+        mark = match write_round(alloc, files, plan, main, written, mark) {
             Ok(next) => next,
             Err(halt) => return Err(halt),
         };
@@ -149,10 +153,12 @@ fn write_rounds<F: Files>(
     files: &mut F,
     plan: &OutStream<'_>,
     main: &MainView<'_>,
+    written: &MainView<'_>,
     header: &[u8],
 ) -> Result<usize, Halt>
     requires making { IsTrue (F.meaning files.old).making }
     requires main { main.now ≡ record { siz = plan.now.stream.siz; main = plan.now.stream.main } }
+    requires written { written.now ≡ record { siz = (headers_of plan.now).siz; main = (headers_of plan.now).main } }
     requires plan { IsPlan plan.now }
     requires keeping { IsKeeping plan.now }
     requires header { header.now ≡ main_bytes (headers_of plan.now) }
@@ -164,7 +170,7 @@ fn write_rounds<F: Files>(
     ensures other { F.read_faults files.new ≡ F.read_faults files.old }
 {
     match put(files, header) {
-        Ok(()) => write_tiles(alloc, files, plan, main, header.len()),
+        Ok(()) => write_tiles(alloc, files, plan, main, written, header.len()),
         Err(halt) => Err(halt),
     }
 }
@@ -197,10 +203,12 @@ fn write_created<F: Files>(
     files: &mut F,
     plan: &OutStream<'_>,
     main: &MainView<'_>,
+    written: &MainView<'_>,
     header: &[u8],
 ) -> Result<usize, Halt>
     requires making { IsTrue (F.meaning files.old).making }
     requires main { main.now ≡ record { siz = plan.now.stream.siz; main = plan.now.stream.main } }
+    requires written { written.now ≡ record { siz = (headers_of plan.now).siz; main = (headers_of plan.now).main } }
     requires plan { IsPlan plan.now }
     requires keeping { IsKeeping plan.now }
     requires header { header.now ≡ main_bytes (headers_of plan.now) }
@@ -209,7 +217,7 @@ fn write_created<F: Files>(
     ensures cause { IsErrOf result Halt.Failed → Rose (F.write_faults files.old) (F.write_faults files.new) }
     ensures other { F.read_faults files.new ≡ F.read_faults files.old }
 {
-    match write_rounds(alloc, files, plan, main, header) {
+    match write_rounds(alloc, files, plan, main, written, header) {
         Ok(before) => write_end(files, before),
         Err(halt) => Err(halt),
     }
@@ -241,8 +249,11 @@ pub fn write_file<F: Files>(
     let Ok(main) = plan.stream().main_view(alloc) else {
         return Err(Halt::NoMemory);
     };
+    let Ok(written) = main_view(alloc, plan) else {
+        return Err(Halt::NoMemory);
+    };
     match files.create(to) {
-        Ok(()) => write_created(alloc, files, plan, &main, &header),
+        Ok(()) => write_created(alloc, files, plan, &main, &written, &header),
         Err(refused) => Err(halt_of(refused)),
     }
 }

@@ -12,7 +12,6 @@ mod rewrite;
 mod rounds;
 mod status;
 mod tile;
-mod words;
 
 pub use program::run;
 pub use status::{Report, Status, TapeEntry};
@@ -21,5 +20,7 @@ pub use status::{Report, Status, TapeEntry};
 mod packing_tests;
 #[cfg(test)]
 mod refusal_tests;
+#[cfg(test)]
+mod regrouping_tests;
 #[cfg(test)]
 mod tests;

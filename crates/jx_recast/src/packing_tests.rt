@@ -88,6 +88,31 @@ fn interleaved_tile_parts(rt: HostRuntime) -> Result<(), Fail> {
     )
 }
 
+// COC, QCC and RGN of tile 1 stay in its first tile-part's header when the order is another.
+#[test]
+fn own_segments_stay(rt: HostRuntime) -> Result<(), Fail> {
+    let mut want = PACKED.to_vec(rt.alloc())?;
+    assert!(rt; want.len() > 50);
+    want[50] = 2;
+    rewrites(
+        &rt,
+        &[
+            "jx",
+            "transcode",
+            "in",
+            "out",
+            "--order",
+            "rpcl",
+            "--sop",
+            "--eph",
+            "--plt",
+        ],
+        &MIXED,
+        &want,
+        "done: 2 blocks, 216 bytes\n",
+    )
+}
+
 #[test]
 fn fewer_layers(rt: HostRuntime) -> Result<(), Fail> {
     rewrites(

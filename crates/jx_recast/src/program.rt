@@ -1,16 +1,18 @@
 ghost use Rattle.std.specs.Prelude.{◌≡◌, ◌<◌, ◌⊎◌, [], true, false, map, take, IfOk, IfSome, string_bytes};
+ghost use Rattle.jx_plan.specs.Wanted.{MayBeWanted};
 ghost use Rattle.jx_outside.specs.Causes.{HasCause, Rose};
 ghost use Rattle.jx_outside.specs.Device.{Allows, joined};
-ghost use Rattle.jx_recast.specs.Words.{is_good, request_of};
+ghost use Rattle.jx_words.specs.Words.{is_good, request_of};
+ghost use Rattle.jx_recast.specs.Filed.{IsUnread};
 ghost use Rattle.jx_recast.specs.Outcome.{EndsAs, EndsFiles, IsUntouched, IsVerdict, Outcome, line_of};
 
 use crate::device::{MOST, read_all};
 use crate::lines::line_of;
 use crate::rewrite::{Ending, answer};
-use crate::words::{is_good, marks_of};
 use crate::{Report, Status};
 use jx_outside::{Files, Refused, Sink};
-use jx_plan::Marks;
+use jx_plan::Options;
+use jx_words::{Request, WordsFault, read_words};
 use std::alloc::Global;
 
 fn read_input<F: Files>(alloc: Global, files: &mut F, name: &str) -> Result<Vec<u8>, Refused>
@@ -25,19 +27,45 @@ fn read_input<F: Files>(alloc: Global, files: &mut F, name: &str) -> Result<Vec<
     read_all(alloc, files)
 }
 
-fn transcode<F: Files>(alloc: Global, files: &mut F, from: &str, to: &str, marks: Marks) -> Ending
+fn transcode<F: Files>(
+    alloc: Global,
+    files: &mut F,
+    from: &str,
+    to: &str,
+    options: &Options,
+) -> Ending
     requires opens { F.can_open files.old from.now }
     requires creates { F.can_create files.old to.now }
-    ensures ends { EndsFiles (record { from = from.now; to = to.now; marks = marks }) result.status result.blocks result.bytes (F.meaning files.old) (F.meaning files.new) }
+    requires wanted { MayBeWanted options.now }
+    ensures ends { EndsFiles (record { from = from.now; to = to.now; wanted = options.now }) result.status result.blocks result.bytes (F.meaning files.old) (F.meaning files.new) }
     ensures words { result.status ≡ Status.Words → ⊥ }
     ensures read { result.status ≡ Status.ReadFault → Rose (F.read_faults files.old) (F.read_faults files.new) }
     ensures write { result.status ≡ Status.WriteFault → Rose (F.write_faults files.old) (F.write_faults files.new) }
 {
     match read_input(alloc, files, from) {
-        Ok(input) => answer(alloc, files, &input, to, marks),
+        Ok(input) => answer(alloc, files, &input, to, options),
         Err(Refused::Failed) => Ending::refused(Status::ReadFault),
         Err(Refused::NoMemory) => Ending::refused(Status::NoMemory),
     }
+}
+
+/// Does what is asked.
+fn transcode_as<F: Files>(alloc: Global, files: &mut F, request: &Request) -> Ending
+    requires opens { F.can_open files.old request.now.from }
+    requires creates { F.can_create files.old request.now.to }
+    requires wanted { MayBeWanted request.now.wanted }
+    ensures ends { EndsFiles request.now result.status result.blocks result.bytes (F.meaning files.old) (F.meaning files.new) }
+    ensures words { result.status ≡ Status.Words → ⊥ }
+    ensures read { result.status ≡ Status.ReadFault → Rose (F.read_faults files.old) (F.read_faults files.new) }
+    ensures write { result.status ≡ Status.WriteFault → Rose (F.write_faults files.old) (F.write_faults files.new) }
+{
+    transcode(
+        alloc,
+        files,
+        request.from(),
+        request.to(),
+        request.options(),
+    )
 }
 
 /// Says the line of a status: nothing after a write fault.
@@ -63,18 +91,18 @@ fn judge<F: Files>(alloc: Global, words: &[String], files: &mut F) -> Ending
     requires creates { is_good (map string_bytes words.now) ≡ true → F.can_create files.old (request_of (map string_bytes words.now)).to }
     ensures good { is_good (map string_bytes words.now) ≡ true
         → EndsFiles (request_of (map string_bytes words.now)) result.status result.blocks result.bytes (F.meaning files.old) (F.meaning files.new) }
-    ensures bad { is_good (map string_bytes words.now) ≡ false
-        → (result ≡ record { status = Status.Words; blocks = 0; bytes = 0 }) × (F.meaning files.new ≡ F.meaning files.old) }
+    ensures bad { is_good (map string_bytes words.now) ≡ false → IsUnread result.status result.blocks }
+    ensures unread { is_good (map string_bytes words.now) ≡ false → F.meaning files.new ≡ F.meaning files.old }
     ensures read { result.status ≡ Status.ReadFault → Rose (F.read_faults files.old) (F.read_faults files.new) }
     ensures write { result.status ≡ Status.WriteFault → Rose (F.write_faults files.old) (F.write_faults files.new) }
     ensures idle { is_good (map string_bytes words.now) ≡ false
         → (F.read_faults files.new ≡ F.read_faults files.old) × (F.write_faults files.new ≡ F.write_faults files.old) }
 {
-    if !is_good(words) {
-        return Ending::refused(Status::Words);
+    match read_words(alloc, words) {
+        Ok(request) => transcode_as(alloc, files, &request),
+        Err(WordsFault::Words) => Ending::refused(Status::Words),
+        Err(WordsFault::NoMemory) => Ending::refused(Status::NoMemory),
     }
-    let marks = marks_of(words);
-    transcode(alloc, files, words[2].as_str(), words[3].as_str(), marks)
 }
 
 /// Rewrites a codestream: reads the file IN, writes the file OUT and says one line.

@@ -4,6 +4,7 @@ ghost use Rattle.std.specs.Prelude.{◌≡◌, ◌≤◌, ℕ, List, length};
 ghost use Rattle.jx_outside.specs.Causes.{Rose};
 ghost use Rattle.jx_stream.specs.Read.{IsRead};
 ghost use Rattle.jx_plan.specs.Plan.{MayBePlanned};
+ghost use Rattle.jx_plan.specs.Wanted.{MayBeWanted};
 ghost use Rattle.jx_recast.specs.Filed.{IsAnswered, IsPlanAnswered, blocks_told, status_of, told_by, told_of_plan};
 ghost use Rattle.jx_recast.specs.Outcome.{most_bytes};
 ghost use Rattle.jx_recast.specs.Rewritten.{Reads};
@@ -13,9 +14,10 @@ use crate::Status;
 use crate::device::MOST;
 use crate::file::write_file;
 use crate::halt::Halt;
+use jx_assemble::laws::rewritten_is_read;
 use jx_gather::{Block, gather};
 use jx_outside::Files;
-use jx_plan::{Marks, OutStream, PlanFault, plan_kept, shortened};
+use jx_plan::{Options, OutStream, PlanFault, plan_kept, shortened};
 use jx_stream::{Stream, StreamFault, read_stream};
 use std::alloc::Global;
 
@@ -107,17 +109,19 @@ fn write_blocks<F: Files>(
     stream: &Stream,
     blocks: &[Block<'_>],
     to: &str,
-    marks: Marks,
+    options: &Options,
 ) -> Ending
     requires creates { F.can_create files.old to.now }
     requires may { MayBePlanned stream.now blocks.now }
+    requires wanted { MayBeWanted options.now }
     ensures answer { (input : List ℕ) → length input ≤ most_bytes → Reads input stream.now blocks.now
-        → IsAnswered to.now marks input result.status result.blocks result.bytes (F.meaning files.old) (F.meaning files.new) }
+        → IsAnswered to.now options.now input result.status result.blocks result.bytes (F.meaning files.old) (F.meaning files.new) }
     ensures cause { result.status ≡ Status.WriteFault → Rose (F.write_faults files.old) (F.write_faults files.new) }
     ensures read { (result.status ≡ Status.ReadFault → ⊥) × (result.status ≡ Status.Words → ⊥) }
     ensures other { F.read_faults files.new ≡ F.read_faults files.old }
 {
-    match plan_kept(alloc, stream, shortened(blocks), marks) {
+    rewritten_is_read();
+    match plan_kept(alloc, stream, shortened(blocks), options) {
         Ok(plan) => write_plan(alloc, files, to, &plan),
         Err(fault) => unplanned_by(fault, blocks.len() as u32),
     }
@@ -130,18 +134,19 @@ fn rewrite<F: Files>(
     input: &[u8],
     stream: &Stream,
     to: &str,
-    marks: Marks,
+    options: &Options,
 ) -> Ending
     requires creates { F.can_create files.old to.now }
     requires within { length input.now ≤ most_bytes }
     requires read { IsRead input.now stream.now }
-    ensures answer { IsAnswered to.now marks input.now result.status result.blocks result.bytes (F.meaning files.old) (F.meaning files.new) }
+    requires wanted { MayBeWanted options.now }
+    ensures answer { IsAnswered to.now options.now input.now result.status result.blocks result.bytes (F.meaning files.old) (F.meaning files.new) }
     ensures cause { result.status ≡ Status.WriteFault → Rose (F.write_faults files.old) (F.write_faults files.new) }
     ensures read { (result.status ≡ Status.ReadFault → ⊥) × (result.status ≡ Status.Words → ⊥) }
     ensures other { F.read_faults files.new ≡ F.read_faults files.old }
 {
     match gather(alloc, input, stream) {
-        Ok(blocks) => write_blocks(alloc, files, stream, &blocks, to, marks),
+        Ok(blocks) => write_blocks(alloc, files, stream, &blocks, to, options),
         Err(fault) => refused_by(fault),
     }
 }
@@ -164,10 +169,11 @@ pub fn answer<F: Files>(
     files: &mut F,
     input: &[u8],
     to: &str,
-    marks: Marks,
+    options: &Options,
 ) -> Ending
-    requires { F.can_create files.old to.now }
-    ensures answer { IsAnswered to.now marks input.now result.status result.blocks result.bytes (F.meaning files.old) (F.meaning files.new) }
+    requires creates { F.can_create files.old to.now }
+    requires wanted { MayBeWanted options.now }
+    ensures answer { IsAnswered to.now options.now input.now result.status result.blocks result.bytes (F.meaning files.old) (F.meaning files.new) }
     ensures cause { result.status ≡ Status.WriteFault → Rose (F.write_faults files.old) (F.write_faults files.new) }
     ensures read { (result.status ≡ Status.ReadFault → ⊥) × (result.status ≡ Status.Words → ⊥) }
     ensures other { F.read_faults files.new ≡ F.read_faults files.old }
@@ -179,7 +185,7 @@ pub fn answer<F: Files>(
         });
     }
     match read_stream(alloc, input) {
-        Ok(stream) => rewrite(alloc, files, input, &stream, to, marks),
+        Ok(stream) => rewrite(alloc, files, input, &stream, to, options),
         Err(fault) => refused_by(fault),
     }
 }

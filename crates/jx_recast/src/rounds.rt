@@ -3,7 +3,7 @@
 ghost use Rattle.std.specs.Prelude.{◌≡◌, ◌<◌, ◌+◌, map, IfOk, IfErr};
 ghost use Rattle.jx_stream.specs.First.{tile_number};
 ghost use Rattle.jx_stream.specs.InRange.{StreamInRange};
-ghost use Rattle.jx_plan.specs.Plan.{IsPlan};
+ghost use Rattle.jx_plan.specs.Plan.{IsPlan, headers_of};
 ghost use Rattle.jx_assemble.specs.Tile.{blocks_in, first_block};
 ghost use Rattle.jx_recast.specs.Rounds.{BeginsRound, EndsRound, IsKeeping, IsLongTile, IsPlace, IsUnmade, LeadOn};
 
@@ -38,10 +38,12 @@ fn tile_of_round(
     alloc: Global,
     plan: &OutStream<'_>,
     main: &MainView<'_>,
+    written: &MainView<'_>,
     tile: u16,
     block: u32,
 ) -> Result<TileMade, Halt>
     requires main { main.now ≡ record { siz = plan.now.stream.siz; main = plan.now.stream.main } }
+    requires written { written.now ≡ record { siz = (headers_of plan.now).siz; main = (headers_of plan.now).main } }
     requires plan { IsPlan plan.now }
     requires keeping { IsKeeping plan.now }
     requires tile { tile < tile_number plan.now.stream.siz }
@@ -50,7 +52,7 @@ fn tile_of_round(
     ensures count { IfOk result (λ made. made.blocks ≡ blocks_in plan.now tile) }
     ensures long { IfErr result (λ h. IsLongTile plan.now tile h) }
 {
-    match made_tile(alloc, plan, main, tile, block) {
+    match made_tile(alloc, plan, main, written, tile, block) {
         Ok(made) => Ok(made),
         Err(AssembleFault::TooLong) => Err(Halt::TooLong { tile }),
         Err(AssembleFault::NoMemory) => Err(Halt::NoMemory),
@@ -63,10 +65,12 @@ pub fn made_round(
     alloc: Global,
     plan: &OutStream<'_>,
     main: &MainView<'_>,
+    written: &MainView<'_>,
     tile: u16,
     block: u32,
 ) -> Result<Round, Halt>
     requires main { main.now ≡ record { siz = plan.now.stream.siz; main = plan.now.stream.main } }
+    requires written { written.now ≡ record { siz = (headers_of plan.now).siz; main = (headers_of plan.now).main } }
     requires plan { IsPlan plan.now }
     requires keeping { IsKeeping plan.now }
     requires tile { tile < tile_number plan.now.stream.siz }
@@ -83,7 +87,7 @@ pub fn made_round(
     let mut next = block;
     let mut held = 0;
     for at in tile..tiles {
-        let mut made = match tile_of_round(alloc, plan, main, at, next) {
+        let mut made = match tile_of_round(alloc, plan, main, written, at, next) {
             Ok(made) => made,
             Err(halt) => return Err(halt),
         };

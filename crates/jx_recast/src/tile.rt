@@ -9,11 +9,11 @@ ghost use Rattle.jx_geom.specs.Rects.{tile_rect};
 ghost use Rattle.jx_stream.specs.First.{canvas_of, tile_number};
 ghost use Rattle.jx_stream.specs.InRange.{StreamInRange};
 ghost use Rattle.jx_stream.specs.Shapes.{shapes_of};
-ghost use Rattle.jx_plan.specs.Plan.{IsPlan};
+ghost use Rattle.jx_plan.specs.Plan.{IsPlan, headers_of};
 ghost use Rattle.jx_assemble.specs.Tile.{IsTile, IsTooLong, blocks_in, first_block};
 ghost use Rattle.jx_recast.specs.Rounds.{AreMade, CanBeMade, IsKeeping, most_of_part};
 
-use jx_assemble::{AssembleFault, assemble_tile};
+use jx_assemble::{AssembleFault, assemble_tile_with};
 use jx_base::{NoMemory, Rect};
 use jx_block::{Job, Recoded, recode};
 use jx_geom::{CompShape, count_in, tile_of};
@@ -71,7 +71,11 @@ fn recode_job<'a>(alloc: Global, job: &'a Job<'a>) -> Result<Recoded<'a>, NoMemo
     let claim = Claim::issue(job.number, job.number);
     let result = recode(alloc, &claim, job);
     let _ = claim.spend();
-    result
+    match result {
+        Ok(value) => Ok(value),
+        // A block that is kept has no wrong symbol, so memory was refused.
+        Err(_) => Err(NoMemory),
+    }
 }
 
 /// So many blocks from one on, as they are written.
@@ -95,16 +99,19 @@ fn recode_jobs<'a>(
     Ok(values)
 }
 
-/// The tile-parts of a tile, of which `first` is the number of the first code-block.
+/// The tile-parts of a tile, of which `first` is the number of the first code-block, by the views of the main header that was read and
+/// of the one that is written.
 #[tactic(auto, using(crate::proofs::FrontLemmas::block_few, crate::proofs::FrontLemmas::blocks_few, crate::proofs::TileLemmas::can_be_made, crate::proofs::TileLemmas::values_are, crate::proofs::TileLemmas::values_stand))]
 pub fn made_tile(
     alloc: Global,
     plan: &OutStream<'_>,
     main: &MainView<'_>,
+    written: &MainView<'_>,
     tile: u16,
     first: u32,
 ) -> Result<TileMade, AssembleFault>
     requires main { main.now ≡ record { siz = plan.now.stream.siz; main = plan.now.stream.main } }
+    requires written { written.now ≡ record { siz = (headers_of plan.now).siz; main = (headers_of plan.now).main } }
     requires plan { IsPlan plan.now }
     requires keeping { IsKeeping plan.now }
     requires tile { tile < tile_number plan.now.stream.siz }
@@ -119,6 +126,6 @@ pub fn made_tile(
     let Ok(values) = recode_jobs(alloc, plan.jobs(), first as usize, blocks as usize) else {
         return Err(AssembleFault::NoMemory);
     };
-    let parts = assemble_tile(alloc, plan, tile, &values, u32::MAX)?;
+    let parts = assemble_tile_with(alloc, plan, written, tile, &values, u32::MAX)?;
     Ok(TileMade { parts, blocks })
 }

@@ -3,7 +3,7 @@ use Rattle.std.proofs.Common.{◌≡◌, ◌∙◌, ap, ℕ, List, Option, inl, 
 use Rattle.jx_outside.specs.Device.{Meaning}
 use Rattle.jx_recast.specs.declared.status.Status.{Status}
 use Rattle.jx_recast.specs.declared.status.Status.TheVariants as status
-use Rattle.jx_recast.specs.Words.{Text, request_of}
+use Rattle.jx_words.specs.Words.{Text, request_of}
 use Rattle.jx_recast.specs.Outcome.{EndsFiles, Outcome, number_of}
 use Rattle.jx_recast.proofs.OutcomeLemmas.{ends_unread}
 use Rattle.jx_tool.specs.Ended.{IsEnded}

@@ -5,7 +5,7 @@ use Rattle.std.specs.declared.vec.IntoIter.{IntoIter}
 use Rattle.std.specs.Vec.Iter.{into_iter_items}
 use Rattle.jx_outside.specs.Device.{Meaning}
 use Rattle.jx_recast.specs.declared.status.Status.{Status}
-use Rattle.jx_recast.specs.Words.{Text}
+use Rattle.jx_words.specs.Words.{Text}
 use Rattle.jx_recast.specs.Outcome.{Outcome, number_of}
 
 -- the words that the system gives: all of them, in their order; none where one is no text

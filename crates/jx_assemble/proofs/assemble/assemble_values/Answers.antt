@@ -1,5 +1,4 @@
-use Rattle.std.proofs.Common.{◌≡◌, ◌<◌, ◌∙◌, List, [], map, length, ap, sym, subst}
-use Rattle.std.proofs.lemmas.Result.{IfOk-weaker}
+use Rattle.std.proofs.Common.{◌≡◌, ◌∙◌, List, [], map, length, ap, sym, subst}
 use Rattle.jx_base.specs.declared.pieces.Block.{Block}
 use Rattle.jx_geom.specs.Geometry.{Geometry, GeometryInRange}
 use Rattle.jx_order.specs.declared.names.PacketName.{PacketName}
@@ -8,8 +7,9 @@ use Rattle.jx_stream.specs.Params.{header_of}
 use Rattle.jx_stream.specs.Spells.{part_bytes}
 use Rattle.jx_gather.proofs.TotalLemmas.{geometry_fits}
 use Rattle.jx_assemble.specs.Assembled.{AreOwn, AreTileBytes}
-use Rattle.jx_assemble.specs.Packed.{own_part}
-use Rattle.jx_assemble.proofs.AssembledLemmas.{tile_bytes, too_long}
+use Rattle.jx_assemble.specs.Packed.{own_parts}
+use Rattle.jx_assemble.specs.Tile.{AreAtMost}
+use Rattle.jx_assemble.proofs.AssembledLemmas.{ok_both, tile_bytes, too_long}
 use Rattle.jx_assemble.proofs.SegmentLemmas.{all_in_range}
 use Rattle.jx_assemble.proofs.assemble.assemble_values.Goals as goal
 
@@ -27,13 +27,17 @@ returns-clause-value g c =
     let s = c.args.stream.now in
     let geom = c.args.geom.now in
     let own : List Block = map g.B.Coded.block c.args.values.now in
+    let names : List PacketName = c.in-Ok.names.items in
     let P : Geometry → Type 0 = λ x. GeometryInRange x in
+    let Q : List PacketName → Type 0 = λ ns. AreAtMost c.args.most (own_parts c.args.marks s geom own ns) in
     let limits : GeometryInRange geom = subst P (sym c.requires.geometry) (geometry_fits s geom.tile c.requires.range c.requires.totals c.requires.tile) in
-    IfOk-weaker c.assemble_named.result (λ bytes. bytes.items ≡ part_bytes (length s.siz.comps) (own_part c.args.marks s geom own c.deref-2.result.now))
-    (λ bytes. (blocks : List Block) → AreOwn s geom.tile blocks own → AreTileBytes c.args.marks s blocks geom.tile bytes.items)
-    (λ bytes is blocks are. tile_bytes c.args.marks s geom blocks own c.in-Ok.names.items bytes.items c.requires.geometry limits are c.in-Ok.ensures.each c.in-Ok.ensures.order
-    (is ∙ ap (λ (ns : List PacketName). part_bytes (length s.siz.comps) (own_part c.args.marks s geom own ns)) c.deref-2.ensures.value))
-    c.assemble_named.ensures.value
+    ok_both c.assemble_named.result (λ parts. map (λ v. v.items) parts.items ≡ map (part_bytes (length s.siz.comps)) (own_parts c.args.marks s geom own c.deref-2.result.now))
+    (λ parts. AreAtMost c.args.most (own_parts c.args.marks s geom own c.deref-2.result.now))
+    (λ parts. (blocks : List Block) → AreOwn s geom.tile blocks own → (is : AreTileBytes c.args.marks s blocks geom.tile (map (λ v. v.items) parts.items)) × AreAtMost c.args.most is.parts)
+    (λ parts is few blocks are. tile_bytes c.args.marks s geom blocks own names c.args.most (map (λ v. v.items) parts.items) c.requires.geometry limits are c.in-Ok.ensures.each c.in-Ok.ensures.order
+    (is ∙ ap (λ (ns : List PacketName). map (part_bytes (length s.siz.comps)) (own_parts c.args.marks s geom own ns)) c.deref-2.ensures.value)
+    (subst Q c.deref-2.ensures.value few))
+    c.assemble_named.ensures.value c.assemble_named.ensures.short
 
 pub returns-clause-long : goal.returns-clause-long
 returns-clause-long g c e blocks are =
@@ -42,6 +46,6 @@ returns-clause-long g c e blocks are =
     let own : List Block = map g.B.Coded.block c.args.values.now in
     let P : Geometry → Type 0 = λ x. GeometryInRange x in
     let limits : GeometryInRange geom = subst P (sym c.requires.geometry) (geometry_fits s geom.tile c.requires.range c.requires.totals c.requires.tile) in
-    let Q : List PacketName → Type 0 = λ ns. c.args.most < length (part_bytes (length s.siz.comps) (own_part c.args.marks s geom own ns)) in
+    let Q : List PacketName → Type 0 = λ ns. AreAtMost c.args.most (own_parts c.args.marks s geom own ns) → ⊥ in
     too_long c.args.marks s geom blocks own c.in-Ok.names.items c.args.most c.requires.geometry limits are c.in-Ok.ensures.each c.in-Ok.ensures.order
     (subst Q c.deref-2.ensures.value (c.assemble_named.ensures.long e))

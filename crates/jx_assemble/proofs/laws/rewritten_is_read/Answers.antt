@@ -1,5 +1,25 @@
-use Rattle.jx_assemble.proofs.KeptLemmas.{rewritten_read}
+use Rattle.jx_assemble.proofs.KeptLemmas.{HeaderLaws, KeepLaws, rewritten_read}
 use Rattle.jx_assemble.proofs.laws.rewritten_is_read.Goals as goal
 
 pub returns : goal.returns
-returns c = rewritten_read
+returns c =
+    let laws : HeaderLaws = record {
+      stand = c.written_headers_stand.ensures;
+      tiles = c.parameters_stay.ensures.tiles;
+      main = c.written_headers_are_plain.ensures.main;
+      header = c.written_headers_are_plain.ensures.header;
+      entries = c.written_headers_are_plain.ensures.entries;
+      lengths = c.written_headers_are_plain.ensures.lengths;
+      order = c.written_headers_are_plain.ensures.order;
+      cods = c.written_headers_are_plain.ensures.cods;
+      limits = c.written_headers_are_plain.ensures.limits;
+    } in
+    let keep : KeepLaws = record {
+      read = c.read_headers_stand.ensures;
+      params = c.parameters_stay.ensures.params;
+      steps = c.parameters_stay.ensures.steps;
+      planes = c.parameters_stay.ensures.planes;
+      places = c.parameters_stay.ensures.geometries;
+      blocks = c.blocks_stay.ensures.written;
+    } in
+    rewritten_read laws keep

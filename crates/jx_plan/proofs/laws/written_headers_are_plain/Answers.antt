@@ -5,7 +5,7 @@ pub returns-clause-main : goal.returns-clause-main
 returns-clause-main c = λ a s stand. main_plain a s stand
 
 pub returns-clause-header : goal.returns-clause-header
-returns-clause-header c = λ a s t stand some few inside. header_stands a s stand t some few inside
+returns-clause-header c = λ a s t stand may none inside. header_stands a s stand t may none inside
 
 pub returns-clause-entries : goal.returns-clause-entries
 returns-clause-entries c = λ a s t stand inside. entries_plain a s stand t inside
@@ -20,4 +20,4 @@ pub returns-clause-cods : goal.returns-clause-cods
 returns-clause-cods c = λ a s t stand. cods_are a s stand t
 
 pub returns-clause-limits : goal.returns-clause-limits
-returns-clause-limits c = λ a s stand h le. totals_plain a s stand h le
+returns-clause-limits c = λ a s fits stand h le. totals_plain a s stand fits h le

@@ -3,11 +3,11 @@ use Rattle.jx_plan.proofs.PlannedLemmas.{planned_each}
 use Rattle.jx_plan.proofs.planning.plan_with.Goals as goal
 
 pub facts_of-requires-clause-few : goal.facts_of-requires-clause-few
-facts_of-requires-clause-few g c = few_blocks c.args.stream.now c.args.blocks.now c.requires
+facts_of-requires-clause-few g c = few_blocks c.args.stream.now c.args.blocks.now c.requires.may
 
 pub plan_by-requires-clause-few : goal.plan_by-requires-clause-few
-plan_by-requires-clause-few g c = few_blocks c.args.stream.now c.args.blocks.now c.requires
+plan_by-requires-clause-few g c = few_blocks c.args.stream.now c.args.blocks.now c.requires.may
 
 pub plan_jobs-requires-clause-each : goal.plan_jobs-requires-clause-each
 plan_jobs-requires-clause-each g c =
-    planned_each c.args.blocks.now _ _ c.in-Ok.layers c.in-Ok.jobs.items c.requires.sound c.in-Ok.ensures.planned
+    planned_each c.args.blocks.now _ _ c.in-Ok.layers c.in-Ok.jobs.items c.requires.may.sound c.in-Ok.ensures.planned

@@ -7,6 +7,7 @@ returns c =
     let laws : Laws = record {
       either = c.violated_or_spelled.ensures.either;
       blocks = c.one_of_both.ensures;
+      kept = c.one_kept_answer.ensures.some;
       ready = c.written_is_ready.ensures;
       output = c.one_output.ensures.some;
     } in

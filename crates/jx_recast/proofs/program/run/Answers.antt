@@ -1,7 +1,6 @@
-use Rattle.std.proofs.Common.{ap, string_bytes, map}
-use Rattle.jx_recast.specs.declared.rewrite.Ending.{Ending}
-use Rattle.jx_recast.specs.Words.{request_of}
-use Rattle.jx_recast.proofs.OutcomeLemmas.{ends_said, words_said}
+use Rattle.std.proofs.Common.{string_bytes, map}
+use Rattle.jx_words.specs.Words.{request_of}
+use Rattle.jx_recast.proofs.OutcomeLemmas.{ends_said, unread_said}
 use Rattle.jx_recast.proofs.SaidLemmas.{unsaid}
 use Rattle.jx_recast.proofs.program.run.Goals as goal
 
@@ -9,9 +8,8 @@ pub returns-clause-outcome : goal.returns-clause-outcome
 returns-clause-outcome g c = record {
   good = λ is. ends_said (request_of (map string_bytes c.args.words.now)) c.judge-ending.result.status c.say_ending-status.result c.judge-ending.result.blocks
       c.judge-ending.result.bytes _ _ _ _ _ _ (c.judge-ending.ensures.good is) c.say_ending-status.ensures;
-  bad = λ is. words_said c.judge-ending.result.status c.say_ending-status.result c.judge-ending.result.blocks c.judge-ending.result.bytes _ _ _ _ _ _
-      (ap (λ (e : Ending). e.status) (c.judge-ending.ensures.bad is).0) (ap (λ (e : Ending). e.blocks) (c.judge-ending.ensures.bad is).0)
-      (c.judge-ending.ensures.bad is).1 c.say_ending-status.ensures;
+  bad = λ is. unread_said c.judge-ending.result.status c.say_ending-status.result c.judge-ending.result.blocks c.judge-ending.result.bytes _ _ _ _ _ _
+      (c.judge-ending.ensures.bad is) (c.judge-ending.ensures.unread is) c.say_ending-status.ensures;
 }
 
 pub returns-clause-unsaid : goal.returns-clause-unsaid

@@ -3,7 +3,7 @@ use Rattle.jx_recast.proofs.OutcomeLemmas.{ends_read, ends_unread}
 use Rattle.jx_recast.proofs.program.transcode.Goals as goal
 
 pub returns-in-Ok-clause-ends : goal.returns-in-Ok-clause-ends
-returns-in-Ok-clause-ends g c = ends_read (record { from = c.args.from.now; to = c.args.to.now; marks = c.args.marks }) c.deref.result.now _ _ _ _ (g.F.Files.meaning c.read_input.new.files) _
+returns-in-Ok-clause-ends g c = ends_read (record { from = c.args.from.now; to = c.args.to.now; wanted = c.args.options.now }) c.deref.result.now _ _ _ _ (g.F.Files.meaning c.read_input.new.files) _
     (rw c.deref.ensures.value c.in-Ok.ensures.bytes) c.in-Ok.ensures.same c.answer.ensures.answer
 
 pub returns-in-Err-Failed-clause-ends : goal.returns-in-Err-Failed-clause-ends

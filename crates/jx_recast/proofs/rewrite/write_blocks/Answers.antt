@@ -6,11 +6,11 @@ use Rattle.jx_recast.proofs.rewrite.write_blocks.Goals as goal
 
 pub returns-in-Ok-clause-answer : goal.returns-in-Ok-clause-answer
 returns-in-Ok-clause-answer g c =
-    let kept : IsKeptPlan c.args.stream.now c.args.blocks.now c.args.marks c.in-Ok.plan =
-    subst (λ (bs : List Block). IsKeptPlan c.args.stream.now bs c.args.marks c.in-Ok.plan) c.shortened.ensures c.in-Ok.ensures.planned in
-    λ input within reads. answered_by_plan c.args.to.now c.args.marks input c.args.stream.now c.args.blocks.now c.in-Ok.plan c.write_plan.result.status c.write_plan.result.blocks c.write_plan.result.bytes
-    _ _ kept c.write_plan.ensures.answer within reads
+    let kept : IsKeptPlan c.args.stream.now c.args.blocks.now c.args.options.now c.in-Ok.plan =
+    subst (λ (bs : List Block). IsKeptPlan c.args.stream.now bs c.args.options.now c.in-Ok.plan) c.shortened.ensures c.in-Ok.ensures.planned in
+    λ input within reads. answered_by_plan c.rewritten_is_read.ensures c.args.to.now c.args.options.now input c.args.stream.now c.args.blocks.now c.in-Ok.plan c.write_plan.result.status c.write_plan.result.blocks
+    c.write_plan.result.bytes _ _ c.requires.wanted kept c.write_plan.ensures.answer within reads
 
 pub returns-in-Err-clause-answer : goal.returns-in-Err-clause-answer
 returns-in-Err-clause-answer g c =
-    λ input within reads. rw c.unplanned_by.ensures (answered_unplanned c.args.to.now c.args.marks input c.args.stream.now c.args.blocks.now c.in-Err.fault _ _ c.in-Err.ensures.cause refl within reads)
+    λ input within reads. rw c.unplanned_by.ensures (answered_unplanned c.args.to.now c.args.options.now input c.args.stream.now c.args.blocks.now c.in-Err.fault _ _ c.in-Err.ensures.cause refl within reads)

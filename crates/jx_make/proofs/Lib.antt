@@ -1,0 +1,12 @@
+pub mod DrawnLemmas
+pub mod ListLemmas
+pub mod GeometryLemmas
+pub mod DrawnFits
+pub mod PrecinctLemmas
+pub mod PictureLemmas
+pub mod RangeLemmas
+pub mod ReadLemmas
+pub mod OrderLemmas
+pub mod FillLemmas
+pub mod WrittenLemmas
+pub mod WellLemmas

@@ -1,0 +1,28 @@
+//! Laws of made files. The functions do nothing: their contracts carry the laws.
+
+ghost use Rattle.std.specs.Prelude.{◌≡◌, ◌+◌, ◌*◌, ◌/◌, ◌<◌, ◌≤◌, ◌^◌, ◌↔◌, ℕ, length};
+ghost use Rattle.jx_base.specs.Markers.{HasNoMarker};
+ghost use Rattle.jx_gather.specs.Accepted.{IsAccepted};
+ghost use Rattle.jx_gather.specs.WellFormed.{IsWellFormed};
+ghost use Rattle.jx_make.specs.Drawn.{first_pass, pass_bytes};
+ghost use Rattle.jx_make.specs.Headers.{AreSizes};
+ghost use Rattle.jx_make.specs.Made.{body_made, file_made};
+ghost use Rattle.jx_make.specs.Reading.{stream_made};
+
+/// A made file of at most 2^28 bytes violates no rule and passes no limit.
+pub fn made_is_well_formed()
+    ensures formed { (seed w h : ℕ) → AreSizes w h → length (file_made seed w h) ≤ 2 ^ 28 → IsWellFormed (file_made seed w h) }
+    ensures accepted { (seed w h : ℕ) → AreSizes w h → length (file_made seed w h) ≤ 2 ^ 28
+        → IsAccepted (file_made seed w h) (stream_made w h (length (body_made seed w h))) }
+{}
+
+/// Pass i of n lies in layer 12 * i / n, that is from the first pass of the layer on and below that of the next.
+pub fn passes_lie_in_layers()
+    ensures { (n i layer : ℕ) → i < n → (12 * i / n ≡ layer) ↔ ((first_pass n layer ≤ i) × (i < first_pass n (layer + 1))) }
+{}
+
+/// No pass ends with FF, so the byte before a pass's first one isn't FF, whichever pass comes before; and no FF stands before a
+/// byte above 8F.
+pub fn passes_hold_no_marker()
+    ensures { (state : ℕ) → HasNoMarker 0 (pass_bytes state) }
+{}

@@ -1,0 +1,56 @@
+-- Where a tile is cut into tile-parts: a new one begins where two packets that follow each other differ in the resolution, layer or
+-- component that is asked. A tile without packets has one empty tile-part (ITU-T T.800, A.4.2 and B.12).
+use Rattle.std.specs.Prelude.{◌<◌, ◌≤◌, ◌==◌, ℕ, List, [], ◌∷◌, length, if◌then◌else◌}
+use Rattle.jx_order.specs.declared.names.PacketName.{PacketName}
+use Rattle.jx_stream.specs.declared.Stream.{Stream}
+use Rattle.jx_stream.specs.First.{tile_number}
+use Rattle.jx_gather.specs.Gathered.{IsListOf}
+use Rattle.jx_plan.specs.declared.PartChoice.{PartChoice}
+use Rattle.jx_plan.specs.declared.PartChoice.TheVariants as part
+
+-- what the packets of a tile-part have in common
+abbrev pub key_of : PartChoice → PacketName → ℕ
+key_of part.None p = 0
+key_of part.Resolution p = p.res
+key_of part.Layer p = p.layer
+key_of part.Component p = p.comp
+
+-- a packet at the beginning of the first tile-part
+abbrev pub with_first : PacketName → List (List PacketName) → List (List PacketName)
+with_first p [] = (p ∷ []) ∷ []
+with_first p (names ∷ groups) = (p ∷ names) ∷ groups
+
+-- a packet before others, which are cut already
+abbrev pub put_before : PartChoice → PacketName → List PacketName → List (List PacketName) → List (List PacketName)
+put_before parts p [] groups = (p ∷ []) ∷ []
+put_before parts p (q ∷ names) groups = if key_of parts p == key_of parts q then with_first p groups else (p ∷ []) ∷ groups
+
+-- the packets of each tile-part
+abbrev pub groups_of : PartChoice → List PacketName → List (List PacketName)
+groups_of parts [] = [] ∷ []
+groups_of parts (p ∷ names) = put_before parts p names (groups_of parts names)
+
+-- those of the tile-parts that follow one: none where no packet is left
+abbrev pub more_groups : PartChoice → List PacketName → List (List PacketName)
+more_groups parts [] = []
+more_groups parts (p ∷ names) = groups_of parts (p ∷ names)
+
+-- A.4.2: TNsot has one byte
+abbrev pub most_parts : ℕ
+most_parts = 255
+
+-- a tile of written headers isn't cut into more
+abbrev pub HasFewParts : PartChoice → Stream → ℕ → Type 0
+HasFewParts parts s t = (names : List PacketName) → IsListOf s t names → length (groups_of parts names) ≤ most_parts
+
+-- it is
+pub record HasManyParts (parts : PartChoice) (s : Stream) (t : ℕ) : Type 0 where
+  pub names : List PacketName
+  pub order : IsListOf s t names
+  pub many : most_parts < length (groups_of parts names)
+
+-- choice 5: the lowest tile that is
+pub record IsPartedAt (parts : PartChoice) (s : Stream) (place : ℕ) : Type 0 where
+  pub inside : place < tile_number s.siz
+  pub many : HasManyParts parts s place
+  pub lowest : (t : ℕ) → t < place → HasFewParts parts s t

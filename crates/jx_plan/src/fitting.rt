@@ -1,0 +1,302 @@
+//! Whether a codestream can have the precincts that are asked (ITU-T T.800, A.6.1 and B.7).
+
+ghost use Rattle.std.specs.Prelude.{◌≡◌, ◌<◌, ◌≤◌, ◌-◌, ◌/◌, ◌%◌, ◌||◌, not, ℕ, length, map, min, slice_index, IfErr, IfOk, MatchOption, OnOk, None, Some};
+ghost use Rattle.std.specs.List.{list_any, position, range_with_len};
+ghost use Rattle.std.specs.Bool.{Decides};
+ghost use Rattle.jx_geom.specs.Geometry.{ShapesInRange};
+ghost use Rattle.jx_geom.specs.Same.{AllSameBlocks, SameBlocks};
+ghost use Rattle.jx_marker.specs.Rules.{has_zero_exponent};
+ghost use Rattle.jx_stream.specs.First.{tile_number};
+ghost use Rattle.jx_stream.specs.InRange.{StreamInRange};
+ghost use Rattle.jx_stream.specs.Params.{header_of, precincts_of};
+ghost use Rattle.jx_plan.specs.Choices.{bytes_in};
+ghost use Rattle.jx_plan.specs.Fits.{AreUnfit, Fits, IsChangedAt, KeepsBlocks, first_zero, has_zero, shape_has_zero, tile_has_zero};
+ghost use Rattle.jx_plan.specs.Headers.{bytes_for, comp_written, item_at};
+ghost use Rattle.jx_plan.specs.Standing.{HeadersStand};
+ghost use Rattle.jx_plan.specs.Steps.{IsKnown, IsSameAt, is_coding};
+
+use crate::facts::tile_count;
+use crate::{PlanFault, PrecinctChoice};
+use jx_base::NoMemory;
+use jx_geom::CompShape;
+use jx_marker::{Segment, Shape};
+use jx_stream::{MainView, Stream, Tile};
+use std::alloc::Global;
+
+/// The byte of a resolution, of which the last stands for all above.
+fn item_at(items: &[u8], res: usize) -> u8
+    requires { 0 < length items.now }
+    ensures { result ≡ item_at items.now res }
+{
+    items[res.min(items.len() - 1)]
+}
+
+fn has_zero_exponent(sizes: u8) -> bool
+    ensures { result ≡ has_zero_exponent sizes }
+{
+    sizes % 16 == 0 || sizes / 16 == 0
+}
+
+/// An exponent is 0 above resolution 0.
+#[tactic(auto, using(jx_base::proofs::Lists::range_next))]
+fn zero_above(items: &[u8], levels: u8) -> bool
+    requires { 0 < length items.now }
+    ensures { result ≡ list_any has_zero_exponent (map (item_at items.now) (range_with_len 1 levels)) }
+{
+    for res in 1..usize::from(levels) + 1 {
+        if has_zero_exponent(item_at(items, res)) {
+            return true;
+        }
+    }
+    false
+}
+
+/// A shape with these precincts would have an exponent 0 above resolution 0.
+#[tactic(auto, using(crate::proofs::FitLemmas::zero_above, crate::proofs::FitLemmas::zero_none))]
+fn shape_has_zero(items: &[u8], shape: &Shape) -> bool
+    ensures { result ≡ shape_has_zero (Some items.now) shape.now }
+{
+    if items.is_empty() {
+        return false;
+    }
+    zero_above(items, shape.levels)
+}
+
+fn has_zero(items: &[u8], segment: &Segment) -> bool
+    ensures { result ≡ has_zero (Some items.now) segment.now }
+{
+    match segment {
+        Segment::Cod(cod) => shape_has_zero(items, &cod.shape),
+        Segment::Coc { comp: _, shape } => shape_has_zero(items, shape),
+        _ => false,
+    }
+}
+
+fn header_has_zero(items: &[u8], header: &[Segment]) -> bool
+    ensures { result ≡ list_any (has_zero (Some items.now)) header.now }
+{
+    for segment in header {
+        if has_zero(items, segment) {
+            return true;
+        }
+    }
+    false
+}
+
+fn tile_has_zero(items: &[u8], tile: &Tile) -> bool
+    ensures { result ≡ tile_has_zero (Some items.now) tile.now }
+{
+    header_has_zero(items, tile.header.as_slice())
+}
+
+/// The lowest tile of which a header would have an exponent 0 above resolution 0.
+fn zero_tile(items: &[u8], tiles: &[Tile]) -> Option<u32>
+    requires { length tiles.now ≤ 65535 }
+    ensures { result ≡ position (tile_has_zero (Some items.now)) tiles.now }
+{
+    for tile in 0..tiles.len() {
+        if tile_has_zero(items, &tiles[tile]) {
+            return Some(tile as u32);
+        }
+    }
+    None
+}
+
+/// Where a header would have an exponent 0 above resolution 0.
+fn first_zero(items: &[u8], stream: &Stream) -> Option<u32>
+    requires { length stream.now.tiles ≤ 65535 }
+    ensures { result ≡ first_zero (Some items.now) stream.now }
+{
+    if header_has_zero(items, stream.main.as_slice()) {
+        return Some(0);
+    }
+    zero_tile(items, stream.tiles.as_slice())
+}
+
+/// The exponents of a resolution with these precincts.
+#[tactic(auto, using(crate::proofs::FitLemmas::exponent_none, crate::proofs::FitLemmas::exponent_some))]
+fn exponents_at(items: &[u8], res: u8) -> u8
+    ensures { (levels : ℕ) → res ≤ levels → levels ≤ 32 → result ≡ slice_index (precincts_of (bytes_for items.now levels)) res }
+{
+    if items.is_empty() {
+        return 255;
+    }
+    item_at(items, usize::from(res))
+}
+
+/// A code-block's exponents at a resolution, of which a precinct has these (B.7, equations B-17 and B-18).
+fn block_at(shape: &CompShape, sizes: u8, res: u8) -> (u8, u8)
+    ensures across { result.0 ≡ min shape.now.xcb (sizes % 16 - min res 1) }
+    ensures down { result.1 ≡ min shape.now.ycb (sizes / 16 - min res 1) }
+{
+    let part = res.min(1);
+    let across = (sizes % 16).saturating_sub(part);
+    let down = (sizes / 16).saturating_sub(part);
+    (shape.xcb.min(across), shape.ycb.min(down))
+}
+
+/// The blocks of a resolution keep their exponents.
+fn keeps_at(shape: &CompShape, items: &[u8], res: u8) -> bool
+    requires level { res ≤ shape.now.levels }
+    requires levels { shape.now.levels ≤ 32 }
+    ensures { Decides result (IsSameAt shape.now (comp_written (Some items.now) shape.now) res) }
+{
+    let before = block_at(shape, shape.precincts[usize::from(res)], res);
+    let after = block_at(shape, exponents_at(items, res), res);
+    before.0 == after.0 && before.1 == after.1
+}
+
+/// A component keeps its blocks.
+fn comp_keeps(shape: &CompShape, items: &[u8]) -> bool
+    requires { shape.now.levels ≤ 32 }
+    ensures { Decides result (SameBlocks shape.now (comp_written (Some items.now) shape.now)) }
+{
+    for res in 0..shape.levels + 1 {
+        if !keeps_at(shape, items, res) {
+            return false;
+        }
+    }
+    true
+}
+
+/// All components keep theirs.
+fn all_keep(shapes: &[CompShape], items: &[u8]) -> bool
+    requires { ShapesInRange shapes.now }
+    ensures { Decides result (AllSameBlocks shapes.now (map (comp_written (Some items.now)) shapes.now)) }
+{
+    for comp in 0..shapes.len() {
+        if !comp_keeps(&shapes[comp], items) {
+            return false;
+        }
+    }
+    true
+}
+
+/// A tile's components keep theirs.
+fn tile_keeps(
+    alloc: Global,
+    stream: &Stream,
+    main: &MainView<'_>,
+    tile: u16,
+    items: &[u8],
+) -> Result<bool, NoMemory>
+    requires main { main.now ≡ record { siz = stream.now.siz; main = stream.now.main } }
+    requires range { StreamInRange stream.now }
+    requires tile { tile < tile_number stream.now.siz }
+    ensures { IfOk result (λ keeps. Decides keeps (KeepsBlocks (Some items.now) stream.now tile)) }
+{
+    let view = stream.tile_view(alloc, main, tile)?;
+    Ok(all_keep(view.shapes(), items))
+}
+
+/// The segments of the header of a tile's first tile-part.
+fn header_of(stream: &Stream, tile: u16) -> &[Segment]
+    ensures { result.now ≡ header_of stream.now tile }
+{
+    match stream.tiles.as_slice().get(usize::from(tile)) {
+        Some(tile) => tile.header.as_slice(),
+        None => &[],
+    }
+}
+
+/// A COD or COC is there.
+fn has_coding(header: &[Segment]) -> bool
+    ensures { result ≡ list_any is_coding header.now }
+{
+    for segment in header {
+        if matches!(segment, Segment::Cod(_) | Segment::Coc { .. }) {
+            return true;
+        }
+    }
+    false
+}
+
+/// The same of a tile where it may be known that tiles without COD and COC keep their blocks.
+fn known_keeps(
+    alloc: Global,
+    stream: &Stream,
+    main: &MainView<'_>,
+    tile: u16,
+    items: &[u8],
+    known: bool,
+) -> Result<bool, NoMemory>
+    requires main { main.now ≡ record { siz = stream.now.siz; main = stream.now.main } }
+    requires range { StreamInRange stream.now }
+    requires tile { tile < tile_number stream.now.siz }
+    requires known { IsKnown known (Some items.now) stream.now }
+    ensures { IfOk result (λ keeps. Decides keeps (KeepsBlocks (Some items.now) stream.now tile)) }
+{
+    if known && !has_coding(header_of(stream, tile)) {
+        return Ok(true);
+    }
+    tile_keeps(alloc, stream, main, tile, items)
+}
+
+/// It was known, or the header has neither COD nor COC.
+fn is_known(known: bool, header: &[Segment]) -> bool
+    ensures { result ≡ (known || not (list_any is_coding header.now)) }
+{
+    if known {
+        return true;
+    }
+    !has_coding(header)
+}
+
+/// The lowest tile in which some effective exponent of a code-block would be another.
+fn first_changed(alloc: Global, stream: &Stream, items: &[u8]) -> Result<Option<u16>, NoMemory>
+    requires range { StreamInRange stream.now }
+    requires above { first_zero (Some items.now) stream.now ≡ None }
+    ensures { IfOk result (λ first. MatchOption first (Fits (Some items.now) stream.now) (λ tile. IsChangedAt (Some items.now) stream.now tile)) }
+{
+    let main = stream.main_view(alloc)?;
+    let mut known = false;
+    for tile in 0..tile_count(stream) {
+        if !known_keeps(alloc, stream, &main, tile, items, known)? {
+            return Ok(Some(tile));
+        }
+        known = is_known(known, header_of(stream, tile));
+    }
+    Ok(None)
+}
+
+/// Whether a stream can have these precincts.
+fn check_items(alloc: Global, stream: &Stream, items: &[u8]) -> Result<(), PlanFault>
+    requires { StreamInRange stream.now }
+    ensures fits { OnOk result (Fits (Some items.now) stream.now) }
+    ensures unfit { IfErr result (λ e. AreUnfit stream.now (Some items.now) e) }
+{
+    if let Some(place) = first_zero(items, stream) {
+        return Err(PlanFault::Choice { number: 3, place });
+    }
+    if let Some(tile) = first_changed(alloc, stream, items)? {
+        return Err(PlanFault::Choice {
+            number: 2,
+            place: u32::from(tile),
+        });
+    }
+    Ok(())
+}
+
+/// Whether a stream can have the precincts that are asked. Time follows the headers, the tiles, and the components of those tiles of
+/// which a COD or COC stands in the header, and of one other; where precincts are kept nothing is done.
+///
+/// # Errors
+///
+/// Choice 3 exactly where a COD or COC would have an exponent 0 above resolution 0, at 0 where one stands in the main header,
+/// else at the lowest tile that has one. Else choice 2 exactly where a code-block's effective exponent would be another at some
+/// resolution of some component (B.7, equations B-17 and B-18), at the lowest such tile. `NoMemory` where memory is refused.
+pub fn check_precincts(
+    alloc: Global,
+    stream: &Stream,
+    precincts: &PrecinctChoice,
+) -> Result<(), PlanFault>
+    requires headers { HeadersStand stream.now }
+    requires range { StreamInRange stream.now }
+    ensures fits { OnOk result (Fits (bytes_in precincts.now) stream.now) }
+    ensures unfit { IfErr result (λ e. AreUnfit stream.now (bytes_in precincts.now) e) }
+{
+    match precincts.bytes() {
+        Some(items) => check_items(alloc, stream, items),
+        None => Ok(()),
+    }
+}

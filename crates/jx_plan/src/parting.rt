@@ -1,0 +1,166 @@
+//! The packets of a tile, and where it is cut into tile-parts (ITU-T T.800, A.4.2 and B.12).
+
+ghost use Rattle.std.specs.Prelude.{◌≡◌, ◌∷◌, ◌<◌, ◌≤◌, ◌-◌, ◌^◌, false, true, ℕ, None, drop, length, take, IfOk, MatchOption};
+ghost use Rattle.std.specs.List.{All};
+ghost use Rattle.jx_order.specs.Packets.{IsPacket};
+ghost use Rattle.jx_stream.specs.First.{tile_number};
+ghost use Rattle.jx_stream.specs.InRange.{StreamInRange};
+ghost use Rattle.jx_stream.specs.Params.{headers_at};
+ghost use Rattle.jx_stream.specs.Shapes.{geometry, layers_of, tile_at};
+ghost use Rattle.jx_gather.specs.Gathered.{IsListOf, IsWhole};
+ghost use Rattle.jx_gather.specs.Totals.{totals_fault};
+ghost use Rattle.jx_plan.specs.Groups.{HasFewParts, HasManyParts, IsPartedAt, groups_of, key_of, more_groups};
+
+use crate::PartChoice;
+use crate::facts::tile_count;
+use jx_base::NoMemory;
+use jx_geom::TileGeom;
+use jx_order::{PacketName, packets};
+use jx_stream::{MainView, Stream, Tile, TileView};
+use std::alloc::Global;
+
+/// A tile of a stream.
+fn tile_at(stream: &Stream, tile: u16) -> &Tile
+    requires { tile < length stream.now.tiles }
+    ensures { result.now ≡ tile_at stream.now tile }
+{
+    &stream.tiles.as_slice()[usize::from(tile)]
+}
+
+/// The geometry of a tile.
+fn geometry_of(
+    alloc: Global,
+    stream: &Stream,
+    view: &TileView<'_>,
+    tile: u16,
+) -> Result<TileGeom, NoMemory>
+    requires view { view.now ≡ headers_at stream.now tile }
+    requires range { StreamInRange stream.now }
+    requires totals { totals_fault stream.now ≡ None }
+    requires tile { tile < tile_number stream.now.siz }
+    ensures { IfOk result (λ geom. geom ≡ geometry stream.now tile) }
+{
+    TileGeom::new(alloc, &view.canvas(), tile, view.shapes())
+}
+
+/// The packets of a tile whose entries cover them all, at most 2^22, in the order in which they are sent.
+///
+/// # Errors
+///
+/// `NoMemory` where memory is refused.
+pub fn names_of(
+    alloc: Global,
+    stream: &Stream,
+    view: &TileView<'_>,
+    geom: &TileGeom,
+) -> Result<Vec<PacketName>, NoMemory>
+    requires view { view.now ≡ headers_at stream.now geom.now.tile }
+    requires range { StreamInRange stream.now }
+    requires totals { totals_fault stream.now ≡ None }
+    requires tile { geom.now.tile < tile_number stream.now.siz }
+    requires geometry { geom.now ≡ geometry stream.now geom.now.tile }
+    requires whole { IsWhole stream.now geom.now.tile }
+    ensures order { IfOk result (λ list. IsListOf stream.now geom.now.tile list.items) }
+    ensures each { IfOk result (λ list. All (IsPacket geom.now (layers_of stream.now geom.now.tile)) list.items) }
+    ensures few { IfOk result (λ list. length list.items ≤ 2 ^ 22) }
+{
+    let tile = tile_at(stream, geom.number());
+    match packets(alloc, geom, view.layers(), tile.progressions.as_slice()) {
+        Ok(list) => Ok(list),
+        // No packet is uncovered, so memory was refused.
+        Err(_) => Err(NoMemory),
+    }
+}
+
+/// What the packets of a tile-part have in common.
+fn key_of(name: PacketName, parts: PartChoice) -> u16
+    ensures { result ≡ key_of parts name }
+{
+    match parts {
+        PartChoice::None => 0,
+        PartChoice::Resolution => u16::from(name.res),
+        PartChoice::Layer => name.layer,
+        PartChoice::Component => name.comp,
+    }
+}
+
+/// The place behind the last packet of the tile-part that begins at a place.
+pub fn part_end(names: &[PacketName], from: usize, parts: PartChoice) -> usize
+    requires { from < length names.now }
+    ensures more { from < result }
+    ensures within { result ≤ length names.now }
+    ensures group { groups_of parts (drop from names.now) ≡ take (result - from) (drop from names.now) ∷ more_groups parts (drop result names.now) }
+{
+    let key = key_of(names[from], parts);
+    for end in from + 1..names.len() {
+        if key_of(names[end], parts) != key {
+            return end;
+        }
+    }
+    names.len()
+}
+
+/// How many tile-parts a tile with these packets has, at least 1.
+pub fn count_parts(names: &[PacketName], parts: PartChoice) -> usize
+    ensures { result ≡ length (groups_of parts names.now) }
+{
+    if names.is_empty() {
+        return 1;
+    }
+    let mut count = 0;
+    let mut from = 0;
+    while from < names.len() {
+        from = part_end(names, from, parts);
+        count += 1;
+    }
+    count
+}
+
+/// Whether a tile would have over 255 tile-parts.
+fn has_many(
+    alloc: Global,
+    written: &Stream,
+    main: &MainView<'_>,
+    tile: u16,
+    parts: PartChoice,
+) -> Result<bool, NoMemory>
+    requires main { main.now ≡ record { siz = written.now.siz; main = written.now.main } }
+    requires range { StreamInRange written.now }
+    requires totals { totals_fault written.now ≡ None }
+    requires tile { tile < tile_number written.now.siz }
+    requires whole { IsWhole written.now tile }
+    ensures few { IfOk result (λ many. many ≡ false → HasFewParts parts written.now tile) }
+    ensures many { IfOk result (λ many. many ≡ true → HasManyParts parts written.now tile) }
+{
+    let view = written.tile_view(alloc, main, tile)?;
+    let geom = geometry_of(alloc, written, &view, tile)?;
+    let names = names_of(alloc, written, &view, &geom)?;
+    Ok(count_parts(names.as_slice(), parts) > 255)
+}
+
+/// The lowest tile of written headers that would have over 255 tile-parts.
+///
+/// # Errors
+///
+/// `NoMemory` where memory is refused.
+pub(crate) fn first_parted(
+    alloc: Global,
+    written: &Stream,
+    parts: PartChoice,
+) -> Result<Option<u16>, NoMemory>
+    requires range { StreamInRange written.now }
+    requires totals { totals_fault written.now ≡ None }
+    requires whole { (t : ℕ) → t < tile_number written.now.siz → IsWhole written.now t }
+    ensures { IfOk result (λ first. MatchOption first ((t : ℕ) → t < tile_number written.now.siz → HasFewParts parts written.now t) (λ t. IsPartedAt parts written.now t)) }
+{
+    if matches!(parts, PartChoice::None) {
+        return Ok(None);
+    }
+    let main = written.main_view(alloc)?;
+    for tile in 0..tile_count(written) {
+        if has_many(alloc, written, &main, tile, parts)? {
+            return Ok(Some(tile));
+        }
+    }
+    Ok(None)
+}

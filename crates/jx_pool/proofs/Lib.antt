@@ -1,0 +1,3 @@
+pub mod TapeLemmas
+pub mod PassLemmas
+pub mod TestLemmas

@@ -1,0 +1,9 @@
+use Rattle.std.proofs.Common.{inr, refl, map, string_bytes}
+use Rattle.jx_words.specs.Words.{request_of}
+use Rattle.jx_recast.proofs.OutcomeLemmas.{ends_unread}
+use Rattle.jx_recast.proofs.WriteLemmas.{untouched}
+use Rattle.jx_recast.proofs.program.judge.Goals as goal
+
+pub returns-in-Err-NoMemory-clause-good : goal.returns-in-Err-NoMemory-clause-good
+returns-in-Err-NoMemory-clause-good g c =
+    λ is. rw c.refused-in-Err-NoMemory.ensures (ends_unread (request_of (map string_bytes c.args.words.now)) _ _ _ (inr refl) (untouched (g.F.Files.meaning c.args.files.now)))

@@ -1,0 +1,4 @@
+pub mod Command
+pub mod Parts
+pub mod Values
+pub mod Words

@@ -1,0 +1,116 @@
+-- What the words of the command line ask for.
+use Rattle.std.specs.Prelude.{◌≡◌, ◌≤◌, ◌⊎◌, IfSome, true, ℕ, ◌&&◌, Bool, List, [], length, drop, slice_index_or, codes, eqb, Option, is_some, None, unwrap_or}
+use Rattle.std.specs.Str.{bytes_eq}
+use Rattle.clap.specs.Words.{fault_of, first_of, matches_of}
+use Rattle.jx_plan.specs.Wanted.{Wanted}
+use Rattle.jx_plan.specs.declared.PartChoice.TheVariants as parts
+use Rattle.jx_words.specs.Command.{transcode}
+use Rattle.jx_words.specs.Values.{ArePrecincts, order_said, parts_said, precincts_said}
+
+-- the bytes of a word
+abbrev pub Text : Type 0
+Text = List ℕ
+
+-- the input's name and the output's, and how the codestream is to be written
+pub record Request : Type 0 where
+  pub from : Text
+  pub to : Text
+  pub wanted : Wanted
+
+-- what clap finds in the words from the command's name on, with the values of options that aren't among them
+pub record Given : Type 0 where
+  pub from : Text
+  pub to : Text
+  pub order : Text
+  pub precincts : Text
+  pub layers : Text
+  pub style : Text
+  pub parts : Text
+  pub sop : Bool
+  pub eph : Bool
+  pub plt : Bool
+  pub threads : Text
+  pub window : Text
+  pub window_bytes : Text
+
+-- the text that stands under a name, else a default
+abbrev pub text_of : (Text → Option Text) → Text → Text → Text
+text_of found name default = unwrap_or (found name) default
+
+-- clap gives a flag the text `true` where it is among the words
+abbrev pub flag_of : (Text → Option Text) → Text → Bool
+flag_of found name = bytes_eq (text_of found name (codes "false")) (codes "true")
+
+-- clap refuses words without `in` and `out`
+unfoldable pub given_by : (Text → Option Text) → Given
+given_by found = record {
+  from = text_of found (codes "in") [];
+  to = text_of found (codes "out") [];
+  order = text_of found (codes "order") (codes "keep");
+  precincts = text_of found (codes "precincts") (codes "keep");
+  layers = text_of found (codes "layers") (codes "keep");
+  style = text_of found (codes "style") (codes "keep");
+  parts = text_of found (codes "tile-parts") (codes "none");
+  sop = flag_of found (codes "sop");
+  eph = flag_of found (codes "eph");
+  plt = flag_of found (codes "plt");
+  threads = text_of found (codes "threads") (codes "1");
+  window = text_of found (codes "window") (codes "64");
+  window_bytes = text_of found (codes "window-bytes") (codes "268435456");
+}
+
+-- the text that clap finds under a name
+abbrev pub found_in : List Text → Text → Option Text
+found_in words name = first_of name (matches_of transcode words)
+
+abbrev pub given_in : List Text → Given
+given_in words = given_by (found_in words)
+
+-- options that are known, and have one value so far
+abbrev pub are_usual : Given → Bool
+are_usual g = bytes_eq g.layers (codes "keep") && (bytes_eq g.style (codes "keep") && (bytes_eq g.threads (codes "1") && (bytes_eq g.window (codes "64") && bytes_eq g.window_bytes (codes "268435456"))))
+
+-- each value is one of its option's
+unfoldable pub are_values : Given → Bool
+are_values g = is_some (order_said g.order) && (is_some (precincts_said g.precincts) && (is_some (parts_said g.parts) && are_usual g))
+
+unfoldable pub wanted_by : Given → Wanted
+wanted_by g = record {
+  order = unwrap_or (order_said g.order) None;
+  precincts = unwrap_or (precincts_said g.precincts) None;
+  layers = g.layers;
+  parts = unwrap_or (parts_said g.parts) parts.None;
+  sop = g.sop;
+  eph = g.eph;
+  plt = g.plt;
+}
+
+abbrev pub request_by : Given → Request
+request_by g = record { from = g.from; to = g.to; wanted = wanted_by g }
+
+abbrev pub names_command : List Text → Bool
+names_command words = bytes_eq (slice_index_or words 1 []) (codes "transcode")
+
+-- clap refuses none of the words from the command's name on
+abbrev pub are_taken : List Text → Bool
+are_taken words = eqb (length (fault_of transcode words)) 0
+
+-- the words are the program's name, the command's, and words that clap takes, with values that are their options'
+unfoldable pub is_good : List Text → Bool
+is_good words = names_command words && (are_taken (drop 1 words) && are_values (given_in (drop 1 words)))
+
+-- what good words ask for
+unfoldable pub request_of : List Text → Request
+request_of words = request_by (given_in (drop 1 words))
+
+-- a request that words can make: by one of the five orders, with the precincts of 1 to 33 resolutions, and with layers that are kept
+pub record MayBeAsked (r : Request) : Type 0 where
+  pub order : IfSome r.wanted.order (λ order. order ≤ 4)
+  pub precincts : IfSome r.wanted.precincts (λ bytes. (bytes ≡ []) ⊎ ArePrecincts bytes)
+  pub layers : r.wanted.layers ≡ codes "keep"
+
+-- good words that make a request
+pub record Asks (r : Request) : Type 0 where
+  pub words : List Text
+  pub good : is_good words ≡ true
+  pub made : request_of words ≡ r

@@ -1,0 +1,70 @@
+//! The words of the command line `jx transcode`, read with clap.
+#![tactic(auto)]
+
+ghost use Rattle.std.specs.Prelude.{◌≡◌};
+
+mod command;
+mod given;
+pub mod laws;
+mod precincts;
+mod reading;
+mod values;
+
+use jx_plan::Options;
+pub use reading::read_words;
+use std::marker::Model;
+
+/// What good words ask for.
+#[derive(Drop)]
+pub struct Request {
+    /// The name of the input.
+    pub from: String,
+    /// The name of the output.
+    pub to: String,
+    /// How the codestream is to be written.
+    pub options: Options,
+}
+
+impl Model for Request {
+    ghost use Rattle.std.specs.String.{string_bytes};
+    ghost use Rattle.jx_words.specs.Words.{Request};
+
+    ghost Value = { Request };
+
+    ghost view = { λ r. record { from = string_bytes r.from; to = string_bytes r.to; wanted = r.options } };
+}
+
+impl Request {
+    /// The name of the input.
+    pub fn from(&self) -> &str
+        ensures { result.now ≡ self.now.from }
+    {
+        self.from.as_str()
+    }
+
+    /// The name of the output.
+    pub fn to(&self) -> &str
+        ensures { result.now ≡ self.now.to }
+    {
+        self.to.as_str()
+    }
+
+    /// How the codestream is to be written.
+    pub fn options(&self) -> &Options
+        ensures { result.now ≡ self.now.wanted }
+    {
+        &self.options
+    }
+}
+
+/// Why words aren't read.
+#[derive(Clone, Copy, Debug, PartialEq, Eq)]
+pub enum WordsFault {
+    /// They aren't good words.
+    Words,
+    /// There was no memory.
+    NoMemory,
+}
+
+#[cfg(test)]
+mod tests;

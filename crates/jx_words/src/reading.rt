@@ -1,0 +1,121 @@
+//! The request that words make.
+
+ghost use Rattle.std.specs.Prelude.{◌≡◌, ◌≤◌, true, false, IfOk, Err, length, map, string_bytes};
+ghost use Rattle.jx_plan.specs.Choices.{bytes_in, order_in};
+ghost use Rattle.jx_plan.specs.Wanted.{MayBeWanted};
+ghost use Rattle.jx_words.specs.Words.{are_usual, are_values, is_good, names_command, request_by, request_of};
+
+use crate::given::{Given, given_in};
+use crate::values::{order_said, parts_said, precincts_said};
+use crate::{Request, WordsFault};
+use jx_base::NoMemory;
+use jx_plan::{Options, OrderChoice, PartChoice, PrecinctChoice};
+use std::alloc::Global;
+
+/// Whether the options that have one value so far have it.
+fn are_usual(given: &Given<'_>) -> bool
+    ensures { result ≡ are_usual given.now }
+{
+    given.layers == "keep"
+        && (given.style == "keep"
+            && (given.threads == "1"
+                && (given.window == "64" && given.window_bytes == "268435456")))
+}
+
+/// The request with these values.
+fn made(
+    alloc: Global,
+    given: &Given<'_>,
+    order: OrderChoice,
+    precincts: PrecinctChoice,
+    parts: PartChoice,
+) -> Result<Request, NoMemory>
+    ensures { IfOk result (λ r. r ≡ record {
+      from = given.now.from;
+      to = given.now.to;
+      wanted = record {
+        order = order_in order;
+        precincts = bytes_in precincts;
+        layers = given.now.layers;
+        parts = parts;
+        sop = given.now.sop;
+        eph = given.now.eph;
+        plt = given.now.plt;
+      };
+    }) }
+{
+    Ok(Request {
+        from: String::from_str(alloc, given.from)?,
+        to: String::from_str(alloc, given.to)?,
+        options: Options {
+            order,
+            precincts,
+            layers: String::from_str(alloc, given.layers)?,
+            parts,
+            sop: given.sop,
+            eph: given.eph,
+            plt: given.plt,
+        },
+    })
+}
+
+/// The request that is made by what was given.
+#[tactic(auto, unfolding(crate::specs::Words::are_values, crate::specs::Words::wanted_by))]
+fn request_by(alloc: Global, given: &Given<'_>) -> Result<Request, WordsFault>
+    ensures good { IfOk result (λ _. are_values given.now ≡ true) }
+    ensures value { IfOk result (λ r. r ≡ request_by given.now) }
+    ensures words { result ≡ Err WordsFault.Words → are_values given.now ≡ false }
+{
+    let Some(order) = order_said(given.order) else {
+        return Err(WordsFault::Words);
+    };
+    let Some(parts) = parts_said(given.parts) else {
+        return Err(WordsFault::Words);
+    };
+    if !are_usual(given) {
+        return Err(WordsFault::Words);
+    }
+    let precincts = match precincts_said(alloc, given.precincts) {
+        Ok(Some(precincts)) => precincts,
+        Ok(None) => return Err(WordsFault::Words),
+        Err(NoMemory) => return Err(WordsFault::NoMemory),
+    };
+    match made(alloc, given, order, precincts, parts) {
+        Ok(request) => Ok(request),
+        Err(NoMemory) => Err(WordsFault::NoMemory),
+    }
+}
+
+/// Whether the second word is the command's name.
+fn names_command(words: &[String]) -> bool
+    ensures names { result ≡ names_command (map string_bytes words.now) }
+    ensures there { result ≡ true → 2 ≤ length words.now }
+{
+    if words.len() < 2 {
+        return false;
+    }
+    words[1].as_str() == "transcode"
+}
+
+/// Reads the words of the command line, the program's name among them.
+///
+/// They name the command `transcode`, and clap reads the words behind it: the names of the input and the output, and the options
+/// of which the values are checked here.
+///
+/// # Errors
+/// `Words` where they aren't good words, `NoMemory` where there was no memory.
+#[tactic(auto, unfolding(crate::specs::Words::is_good, crate::specs::Words::request_of))]
+pub fn read_words(alloc: Global, words: &[String]) -> Result<Request, WordsFault>
+    ensures good { IfOk result (λ _. is_good (map string_bytes words.now) ≡ true) }
+    ensures value { IfOk result (λ r. r ≡ request_of (map string_bytes words.now)) }
+    ensures wanted { IfOk result (λ r. MayBeWanted r.wanted) }
+    ensures words { result ≡ Err WordsFault.Words → is_good (map string_bytes words.now) ≡ false }
+{
+    if !names_command(words) {
+        return Err(WordsFault::Words);
+    }
+    match given_in(alloc, words.split_at(1).1) {
+        Ok(given) => request_by(alloc, &given),
+        Err(fault) => Err(fault),
+    }
+}

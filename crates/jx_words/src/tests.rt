@@ -1,0 +1,246 @@
+use super::*;
+use jx_plan::{Options, OrderChoice, PrecinctChoice};
+use std::alloc::Global;
+use std::process::Abort;
+use std::test::Fail;
+
+fn order(options: &Options) -> OrderChoice {
+    options.order
+}
+
+// `keep`, `max`, or the bytes.
+fn precincts(alloc: Global, options: &Options) -> Result<String, Fail> {
+    match &options.precincts {
+        PrecinctChoice::Keep => Ok(String::from_str(alloc, "keep")?),
+        PrecinctChoice::Max => Ok(String::from_str(alloc, "max")?),
+        PrecinctChoice::List(bytes) => {
+            let list = bytes.as_slice();
+            Ok(format!(in alloc; "{list:?}")?)
+        }
+    }
+}
+
+// The names, the order, the precincts and the layers.
+fn shown(alloc: Global, request: &Request) -> Result<String, Fail> {
+    let options = request.options();
+    let precincts = precincts(alloc, options)?;
+    let layers = options.layers.as_str();
+    let (from, to, order) = (request.from(), request.to(), order(options));
+    Ok(format!(in alloc; "{from} {to} {order:?} {precincts} {layers}")?)
+}
+
+// Reads words with spaces between them, the program's name and the command's before them.
+fn read(alloc: Global, line: &str) -> Result<Result<Request, WordsFault>, Fail> {
+    let mut words = Vec::new(alloc);
+    words.push(String::from_str(alloc, "jx")?)?;
+    for word in line.split(' ') {
+        words.push(String::from_str(alloc, word)?)?;
+    }
+    Ok(read_words(alloc, &words))
+}
+
+// What is read, or why nothing is.
+fn found(alloc: Global, line: &str) -> Result<String, Fail> {
+    match read(alloc, line)? {
+        Ok(request) => shown(alloc, &request),
+        Err(fault) => Ok(format!(in alloc; "{fault:?}")?),
+    }
+}
+
+// The marks and the cuts of good words.
+fn marks(alloc: Global, line: &str) -> Result<String, Fail> {
+    match read(alloc, line)? {
+        Ok(request) => {
+            let marks = request.options().marks();
+            let (sop, eph, plt, parts) = (marks.sop, marks.eph, marks.plt, marks.parts);
+            Ok(format!(in alloc; "{sop} {eph} {plt} {parts:?}")?)
+        }
+        Err(fault) => Ok(format!(in alloc; "{fault:?}")?),
+    }
+}
+
+// What is read of `--precincts` with this value.
+fn precincts_of(alloc: Global, text: &str) -> Result<String, Fail> {
+    let line = format!(in alloc; "transcode in out --precincts={text}")?;
+    match read(alloc, line.as_str())? {
+        Ok(request) => precincts(alloc, request.options()),
+        Err(fault) => Ok(format!(in alloc; "{fault:?}")?),
+    }
+}
+
+// So many items, each `2x3`.
+fn items(alloc: Global, count: usize) -> Result<String, Fail> {
+    let mut text = String::from_str(alloc, "2x3")?;
+    for _ in 1..count {
+        text.push_str(",2x3")?;
+    }
+    Ok(text)
+}
+
+#[test]
+fn good_words(rt: HostRuntime) -> Result<(), Fail> {
+    let alloc = rt.alloc();
+    for (line, wanted) in [
+        ("transcode in out", "in out Keep keep keep"),
+        ("transcode in out --order keep", "in out Keep keep keep"),
+        ("transcode in out --order lrcp", "in out Order(0) keep keep"),
+        ("transcode in out --order rlcp", "in out Order(1) keep keep"),
+        ("transcode in out --order rpcl", "in out Order(2) keep keep"),
+        ("transcode in out --order pcrl", "in out Order(3) keep keep"),
+        ("transcode in out --order cprl", "in out Order(4) keep keep"),
+        ("transcode in out --precincts max", "in out Keep max keep"),
+        (
+            "transcode in out --layers keep --style keep",
+            "in out Keep keep keep",
+        ),
+        (
+            "transcode in out --threads 1 --window 64",
+            "in out Keep keep keep",
+        ),
+        (
+            "transcode in out --window-bytes 268435456",
+            "in out Keep keep keep",
+        ),
+        // options stand anywhere, and a value behind `=` too
+        (
+            "transcode --plt --order=rpcl in --sop out --eph",
+            "in out Order(2) keep keep",
+        ),
+        ("transcode in --precincts 7x6 out", "in out Keep [103] keep"),
+        // behind `--` each word is a name
+        (
+            "transcode --sop -- -in --order",
+            "-in --order Keep keep keep",
+        ),
+        ("transcode in -- out", "in out Keep keep keep"),
+        ("transcode -- -- --", "-- -- Keep keep keep"),
+        // so is any other word, the empty word too
+        ("transcode - out", "- out Keep keep keep"),
+        ("transcode transcode help", "transcode help Keep keep keep"),
+        ("transcode  out", " out Keep keep keep"),
+    ] {
+        assert_eq!(rt; found(alloc, line)?.as_str(), wanted);
+    }
+    Ok(())
+}
+
+#[test]
+fn bad_words(rt: HostRuntime) -> Result<(), Fail> {
+    let alloc = rt.alloc();
+    for line in [
+        "",
+        "in out",
+        "transcod in out",
+        "--sop transcode in out",
+        "transcode",
+        "transcode in",
+        "transcode in out more",
+        "transcode in out --precincts 16x4",
+        "transcode in out --precincts 016x4",
+        "transcode in out --threads 0",
+        "transcode in out --threads 2",
+        "transcode in out --threads 01",
+        "transcode in out --threads +1",
+        "transcode in out --window 1025",
+        "transcode in out --window-bytes 1",
+        "transcode in out --style causal+causal",
+        "transcode in out --layers one",
+        "transcode in out --order LRCP",
+        "transcode in out --order 0",
+        "transcode in out --tile-parts rl",
+        "transcode in out --help",
+        "transcode in out -h",
+        "transcode --help",
+        "transcode in out --version",
+        "transcode in out --unknown",
+        "transcode in out --ord keep",
+        // a name or a value of an option doesn't begin with `-`
+        "transcode in -out",
+        "transcode in out -s",
+        "transcode in out --order -keep",
+        "transcode in out --order=-keep",
+        "transcode in out --order --sop",
+        "transcode in out --order -",
+        // an option has a value, and a flag none
+        "transcode in out --order",
+        "transcode in out --order=",
+        "transcode in out --order ",
+        "transcode --order -- in out",
+        "transcode in out --sop=true",
+        "transcode in out --sop=",
+        "transcode in out --sop true",
+        // behind `--` no word is an option
+        "transcode in out -- --sop",
+        "transcode in -- out --",
+        // nothing stands twice
+        "transcode in out --sop --sop",
+        "transcode in out --order keep --order keep",
+        "transcode in out --order=keep --order lrcp",
+    ] {
+        assert_eq!(rt; found(alloc, line)?.as_str(), "Words");
+    }
+    assert!(rt; matches!(read_words(alloc, &[]), Err(WordsFault::Words)));
+    Ok(())
+}
+
+#[test]
+fn marks_and_cuts(rt: HostRuntime) -> Result<(), Fail> {
+    let alloc = rt.alloc();
+    for (line, wanted) in [
+        ("transcode in out", "false false false None"),
+        ("transcode in out --sop", "true false false None"),
+        ("transcode in out --eph", "false true false None"),
+        ("transcode in out --plt", "false false true None"),
+        ("transcode --plt in --sop out --eph", "true true true None"),
+        (
+            "transcode in out --tile-parts none",
+            "false false false None",
+        ),
+        (
+            "transcode in out --tile-parts r",
+            "false false false Resolution",
+        ),
+        ("transcode in out --tile-parts l", "false false false Layer"),
+        (
+            "transcode in out --tile-parts c",
+            "false false false Component",
+        ),
+    ] {
+        assert_eq!(rt; marks(alloc, line)?.as_str(), wanted);
+    }
+    Ok(())
+}
+
+#[test]
+fn precinct_lists(rt: HostRuntime) -> Result<(), Fail> {
+    let alloc = rt.alloc();
+    for (text, wanted) in [
+        ("keep", "keep"),
+        ("max", "max"),
+        ("7x6", "[103]"),
+        ("0x15,15x0,10x9", "[240, 15, 154]"),
+        ("", "Words"),
+        ("7", "Words"),
+        ("7x", "Words"),
+        ("x7", "Words"),
+        ("7x6,", "Words"),
+        (",7x6", "Words"),
+        ("7x6,,7x6", "Words"),
+        ("7X6", "Words"),
+        ("+7x6", "Words"),
+        ("7x06", "Words"),
+        ("7x16", "Words"),
+        ("7x6x5", "Words"),
+        ("7x6;7x6", "Words"),
+        ("7x6,keep", "Words"),
+    ] {
+        assert_eq!(rt; precincts_of(alloc, text)?.as_str(), wanted);
+    }
+    let all = precincts_of(alloc, items(alloc, 33)?.as_str())?;
+    assert_eq!(rt; all.as_str().split(", ").count(), 33_usize);
+    assert_eq!(rt;
+        precincts_of(alloc, items(alloc, 34)?.as_str())?.as_str(),
+        "Words"
+    );
+    Ok(())
+}
