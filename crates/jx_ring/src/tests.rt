@@ -580,7 +580,8 @@ fn many(alloc: Global) -> Result<(Vec<u32>, Vec<u32>), NoMemory>
 #[test]
 fn four_threads_fill_the_tape(rt: HostRuntime) -> Result<(), Fail> {
     let (jobs, sizes) = many(rt.alloc())?;
-    let maker = Gated::new(jobs.as_slice(), 0, 0, 0, 0);
+    // The first two wait for each other, so more than one worker has some.
+    let maker = Gated::new(jobs.as_slice(), 2, 3, 0, 10_000_000);
     let limits = (3, 10, 4);
     let lines = by_threads(
         &rt,
