@@ -83,7 +83,7 @@ cut_tail style first run more runs some e =
     }
 
 -- ---- pieces of a layer
-abbrev runs_at : ℕ → List PieceValue → List ℕ
+abbrev pub runs_at : ℕ → List PieceValue → List ℕ
 runs_at layer ps = map (λ (p : PieceValue). p.passes) (filter (λ (p : PieceValue). p.layer == layer) ps)
 
 -- layers below the first have none
@@ -105,7 +105,7 @@ none_at style layer first passes m (p ∷ ps) are lt =
       ap (map (λ (q : PieceValue). q.passes)) (cond-false (p.layer == m) (p ∷ filter test ps) (filter test ps) other) ∙ rest.1,
     )
 
-at_here : (p : PieceValue) (ps : List PieceValue) → (passes_at p.layer (p ∷ ps) ≡ p.passes + passes_at p.layer ps) × (runs_at p.layer (p ∷ ps) ≡ p.passes ∷ runs_at p.layer ps)
+pub at_here : (p : PieceValue) (ps : List PieceValue) → (passes_at p.layer (p ∷ ps) ≡ p.passes + passes_at p.layer ps) × (runs_at p.layer (p ∷ ps) ≡ p.passes ∷ runs_at p.layer ps)
 at_here p ps =
     let own : (p.layer == p.layer) ≡ true = eq-eqb p.layer p.layer refl in
     let test : PieceValue → Bool = λ q. q.layer == p.layer in (
@@ -113,7 +113,7 @@ at_here p ps =
       ap (map (λ (q : PieceValue). q.passes)) (cond-true (p.layer == p.layer) (p ∷ filter test ps) (filter test ps) own),
     )
 
-at_other : (m : ℕ) (p : PieceValue) (ps : List PieceValue) → (p.layer ≡ m → ⊥) → (passes_at m (p ∷ ps) ≡ passes_at m ps) × (runs_at m (p ∷ ps) ≡ runs_at m ps)
+pub at_other : (m : ℕ) (p : PieceValue) (ps : List PieceValue) → (p.layer ≡ m → ⊥) → (passes_at m (p ∷ ps) ≡ passes_at m ps) × (runs_at m (p ∷ ps) ≡ runs_at m ps)
 at_other m p ps ne =
     let other : (p.layer == m) ≡ false = ne_eqb p.layer m ne in
     let test : PieceValue → Bool = λ q. q.layer == m in (
@@ -122,7 +122,7 @@ at_other m p ps ne =
     )
 
 -- ---- pieces from a pass on
-abbrev CutFrom : ℕ → ℕ → List PieceValue → Type 0
+abbrev pub CutFrom : ℕ → ℕ → List PieceValue → Type 0
 CutFrom style first ps = (layer : ℕ) → runs_at layer ps ≡ cut style (first + passes_below layer ps) (passes_at layer ps)
 
 own_tail : (style layer first passes : ℕ) (p : PieceValue) (ps : List PieceValue) → ArePieces style layer first passes (p ∷ ps) → CutFrom style first (p ∷ ps)

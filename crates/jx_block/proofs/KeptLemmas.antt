@@ -99,7 +99,7 @@ layer_last style sent layer first n last p is long e =
     part_here a b = rw (a, b) refl
 
 -- ---- the ends of some pieces' layers: the first is that of the first piece's layer
-abbrev HeadAt : ℕ → ℕ → List LayerEnd → Type 0
+abbrev pub HeadAt : ℕ → ℕ → List LayerEnd → Type 0
 HeadAt layer low [] = ⊥
 HeadAt layer low (e ∷ ends) = (e.layer ≡ layer) × (low ≤ e.passes)
 
@@ -107,7 +107,7 @@ head_same : (layer other low less : ℕ) (ends : List LayerEnd) → HeadAt layer
 head_same layer other low less [] h e le = h
 head_same layer other low less (f ∷ ends) h e le = let at : low ≤ f.passes = h.1 in (h.0 ∙ e, omega arith)
 
-head_at : (style layer first passes : ℕ) (p : PieceValue) (ps : List PieceValue) → ArePieces style layer first passes (p ∷ ps) → HeadAt p.layer first (layer_ends (p ∷ ps))
+pub head_at : (style layer first passes : ℕ) (p : PieceValue) (ps : List PieceValue) → ArePieces style layer first passes (p ∷ ps) → HeadAt p.layer first (layer_ends (p ∷ ps))
 head_at style layer first passes p [] are = let begins : p.first ≡ first = are.0.begins in (refl, omega arith)
 head_at style layer first passes p (q ∷ ps) are =
     let begins : p.first ≡ first = are.0.begins in

@@ -14,6 +14,7 @@ pub mod KeptLemmas
 pub mod LawLemmas
 pub mod LengthLemmas
 pub mod LookedLemmas
+pub mod MadeBlocks
 pub mod MadeJobs
 pub mod NewParts
 pub mod OwnBytes
@@ -23,6 +24,7 @@ pub mod RegroupLemmas
 pub mod RoomLemmas
 pub mod SeenLemmas
 pub mod SentLemmas
+pub mod ShareLemmas
 pub mod SoundLemmas
 pub mod TestLemmas
 pub mod WithinLemmas

@@ -27,7 +27,7 @@ use Rattle.jx_block.proofs.PartLemmas.{ends_within}
 use Rattle.jx_block.proofs.WithinLemmas.{alone, longer, less_most, looks_all, looks_cut, looks_in}
 
 -- ---- runs of passes as they are cut
-abbrev Exact : ℕ → ℕ → ℕ → List ℕ → Type 0
+abbrev pub Exact : ℕ → ℕ → ℕ → List ℕ → Type 0
 Exact style first last [] = first ≡ last
 Exact style first last (run ∷ runs) = (1 ≤ run) × IsInOneSegment style first run × Exact style (first + run) last runs
 
@@ -37,7 +37,7 @@ exact_more style first last (run ∷ runs) flat h =
     let e : first + 1 + run ≡ first + suc run = omega arith in
     (omega arith, longer style first run flat h.1, subst (λ (n : ℕ). Exact style n last runs) e h.2)
 
-cut_exact : (style first n : ℕ) → Exact style first (first + n) (cut style first n)
+pub cut_exact : (style first n : ℕ) → Exact style first (first + n) (cut style first n)
 cut_exact style first zero = omega arith
 cut_exact style first (suc n) =
     let e : first + 1 + n ≡ first + suc n = omega arith in
@@ -50,7 +50,7 @@ cut_exact style first (suc n) =
           (exact_more style first (first + suc n) (cut style (first + 1) n) f rest)
     ]
 
-exact_end : (style first last : ℕ) (runs : List ℕ) → Exact style first last runs → first ≤ last
+pub exact_end : (style first last : ℕ) (runs : List ℕ) → Exact style first last runs → first ≤ last
 exact_end style first last [] h = let e : first ≡ last = h in omega arith
 exact_end style first last (run ∷ runs) h = let le : first + run ≤ last = exact_end style (first + run) last runs h.2 in omega arith
 

@@ -5,3 +5,4 @@ pub mod Tables
 pub mod Groups
 pub mod Recoded
 pub mod Laws
+pub mod Written

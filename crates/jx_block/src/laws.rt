@@ -1,17 +1,18 @@
 //! Laws on what becomes of a block, over the definitions alone.
 
-ghost use Rattle.std.specs.Prelude.{◌≡◌, ◌≢◌, ◌≤◌, ◌^◌, ℕ, true, List, All, length, Some, None};
+ghost use Rattle.std.specs.Prelude.{◌≡◌, ◌≢◌, ◌≤◌, ◌<◌, ◌^◌, ℕ, true, false, List, [], All, length, Option, Some, None};
 ghost use Rattle.jx_base.specs.declared.pieces.Block.{Block};
 ghost use Rattle.jx_base.specs.declared.style.Style.{Style};
 ghost use Rattle.jx_base.specs.Pieces.{ArePieces, PieceValue};
 ghost use Rattle.jx_base.specs.Sound.{IsSound};
 ghost use Rattle.jx_block.specs.declared.LayerEnd.{LayerEnd};
-ghost use Rattle.jx_block.specs.Jobs.{IsAsked};
-ghost use Rattle.jx_block.specs.Laws.{AreCutAtEnds, AreCutInLayers, IsWithin, KeepsFirst, decoded_first};
+ghost use Rattle.jx_block.specs.Jobs.{IsAsked, KeepsCausal};
+ghost use Rattle.jx_block.specs.Laws.{AreCutAtEnds, AreCutInLayers, IsWithin, KeepsFirst, decoded_first, passes_at};
 ghost use Rattle.jx_block.specs.Recoded.{is_bad, recoding_in};
 ghost use Rattle.jx_block.specs.declared.job.Job.{Job};
 ghost use Rattle.jx_block.specs.Recoding.{Recoding, decoded_in, layer_ends, new_segments, own_segments, pieces_of, recoding, wrong_in};
 ghost use Rattle.jx_block.specs.Segments.{segments_of};
+ghost use Rattle.jx_block.specs.Written.{block_with, is_wrong, own_cells, style_for, written_as};
 
 /// A sound block may be kept in the layers that it has.
 #[tactic(auto, using(crate::proofs::LawLemmas::own_asked))]
@@ -118,4 +119,53 @@ pub fn new_bytes_are_few()
 pub fn bad_is_nothing()
     ensures bad { (j : Job) → is_bad j ≡ true → recoding_in j ≡ None }
     ensures nothing { (j : Job) → recoding_in j ≡ None → is_bad j ≡ true }
+{}
+
+/// What is made of a block has the block's coefficients, place by place, with its passes and zero planes, in whatever style and layers.
+pub fn written_keeps_coefficients()
+    ensures asked { (b : Block) → (style : Option Style) → (ends : List LayerEnd) → (r : Recoding) → IsAsked b style ends →
+        Some r ≡ recoding b style ends → own_cells (block_with b (Some r)) ≡ own_cells b }
+    ensures own { (asked : Option Style) → (b : Block) → IsSound b → KeepsCausal b (style_for asked b) → own_cells (written_as asked b) ≡ own_cells b }
+{
+    coded_anew_keeps_coefficients();
+}
+
+/// It is a sound block, of which just so many passes are sent by the end of each layer as were asked, cut in each layer exactly after
+/// each pass that ends a segment, as packets cut them (B.10.7); it has pieces exactly where the block has passes.
+pub fn written_is_sound()
+    ensures sound { (b : Block) → (style : Option Style) → (ends : List LayerEnd) → (r : Recoding) → IsAsked b style ends →
+        Some r ≡ recoding b style ends → IsSound (block_with b (Some r)) }
+    ensures cuts { (b : Block) → (style : Option Style) → (ends : List LayerEnd) → (r : Recoding) → IsAsked b style ends →
+        Some r ≡ recoding b style ends → AreCutInLayers r.style (pieces_of r) }
+    ensures layers { (b : Block) → (style : Option Style) → (ends : List LayerEnd) → (r : Recoding) → IsAsked b style ends →
+        Some r ≡ recoding b style ends → layer_ends (pieces_of r) ≡ ends }
+    ensures passes { (b : Block) → (style : Option Style) → (ends : List LayerEnd) → (r : Recoding) → (layer : ℕ) → IsAsked b style ends →
+        Some r ≡ recoding b style ends → layer_ends b.pieces ≡ ends → passes_at layer (pieces_of r) ≡ passes_at layer b.pieces }
+{}
+
+/// In its own layers a sound block becomes one with the style that is asked, of which just the pieces are others; without a style, or
+/// with its own, it stays as it is, where its pieces are cut as packets cut them.
+pub fn written_in_own_layers()
+    ensures sound { (asked : Option Style) → (b : Block) → IsSound b → KeepsCausal b (style_for asked b) → IsSound (written_as asked b) }
+    ensures name { (asked : Option Style) → (b : Block) → (written_as asked b).name ≡ b.name }
+    ensures rect { (asked : Option Style) → (b : Block) → (written_as asked b).rect ≡ b.rect }
+    ensures planes { (asked : Option Style) → (b : Block) → (written_as asked b).planes ≡ b.planes }
+    ensures zero { (asked : Option Style) → (b : Block) → (written_as asked b).zero ≡ b.zero }
+    ensures passes { (asked : Option Style) → (b : Block) → (written_as asked b).passes ≡ b.passes }
+    ensures style { (asked : Style) → (b : Block) → is_wrong (Some asked) b ≡ false → (written_as (Some asked) b).style ≡ asked }
+    ensures kept { (b : Block) → IsSound b → AreCutInLayers b.style.bits b.pieces → written_as None b ≡ b }
+    ensures same { (b : Block) → IsSound b → AreCutInLayers b.style.bits b.pieces → written_as (Some b.style) b ≡ b }
+    ensures empty { (asked : Option Style) → (b : Block) → IsSound b → KeepsCausal b (style_for asked b) → (written_as asked b).pieces ≡ [] → b.pieces ≡ [] }
+    ensures layers { (asked : Option Style) → (b : Block) → (most : ℕ) → IsSound b → KeepsCausal b (style_for asked b) →
+        All (λ (p : PieceValue). p.layer < most) b.pieces → All (λ (p : PieceValue). p.layer < most) (written_as asked b).pieces }
+    ensures each { (asked : Option Style) → (b : Block) → (layer : ℕ) → IsSound b → KeepsCausal b (style_for asked b) →
+        passes_at layer (written_as asked b).pieces ≡ passes_at layer b.pieces }
+    ensures cuts { (asked : Option Style) → (b : Block) → IsSound b → KeepsCausal b (style_for asked b) → is_wrong asked b ≡ false →
+        AreCutInLayers (written_as asked b).style.bits (written_as asked b).pieces }
+{}
+
+/// Nothing is made of a block, in whatever layers, exactly where it is wrong.
+pub fn wrong_is_nothing()
+    ensures wrong { (asked : Option Style) → (b : Block) → (ends : List LayerEnd) → is_wrong asked b ≡ true → recoding b (style_for asked b) ends ≡ None }
+    ensures right { (asked : Option Style) → (b : Block) → (ends : List LayerEnd) → is_wrong asked b ≡ false → recoding b (style_for asked b) ends ≢ None }
 {}

@@ -6,10 +6,12 @@ ghost use Rattle.jx_block.specs.Jobs.{IsAsked};
 ghost use Rattle.jx_block.specs.Laws.{IsWithin};
 ghost use Rattle.jx_block.specs.Recoding.{part_bytes, pieces_of};
 ghost use Rattle.jx_block.specs.Recoded.{recoding_in, is_bad, HasCause};
+ghost use Rattle.jx_block.specs.Written.{block_with, own_cells};
 
 use crate::anew::{all_bytes, own_cells, parts_of as parts_anew};
 use crate::copy::{append_bytes, append_within};
 use crate::decide::parts_of;
+use crate::laws::written_keeps_coefficients;
 use crate::{BlockFault, Job, OutPart};
 use jx_base::{NoMemory, Style};
 use jx_passenc::encode_passes;
@@ -90,10 +92,13 @@ pub fn recode<'a>(alloc: Global, claim: &Claim, job: &'a Job<'a>) -> Result<Reco
     requires asked { IsAsked job.now.block.now job.now.style job.now.ends }
     ensures job { IfOk result (λ r. r.job ≡ job.now) }
     ensures recoding { IfOk result (λ r. Some r.recoding ≡ recoding_in job.now) }
+    // its coefficients stay
+    ensures same { IfOk result (λ r. own_cells (block_with job.now.block.now (Some r.recoding)) ≡ own_cells job.now.block.now) }
     ensures bad { IfErr result (λ e. HasCause job.now e) }
 {
     // Only the contract speaks of it.
     let _ = claim;
+    written_keeps_coefficients();
     match job.style {
         None => Ok(keep(alloc, job)?),
         Some(style) => code_anew(alloc, job, style),
