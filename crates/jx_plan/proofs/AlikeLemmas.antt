@@ -1,10 +1,11 @@
--- Headers that say the same of coding, quantization and the region's shift, but for precincts, give a tile the same steps and planes, and
--- the same shapes with the precincts that are asked.
+-- Headers that say the same of coding, quantization and the region's shift, but for precincts and style, give a tile the same steps and
+-- planes, and the same shapes with the precincts that are asked.
 use Rattle.std.proofs.Common.{◌≡◌, ◌<◌, ◌+◌, ◌*◌, ◌∙◌, ℕ, Bool, true, false, arith, List, [], ◌∷◌, map, length, refl, sym, ap, Option, Some, None}
 use Rattle.std.specs.List.{flat_map, list_any, range_with_len}
 use Rattle.std.specs.Option.{option_or, option_map, is_some}
 use Rattle.std.proofs.lemmas.Bool.Decides.{nat_tests}
 use Rattle.jx_base.specs.declared.names.Band.{Band}
+use Rattle.jx_base.specs.declared.style.Style.{Style}
 use Rattle.jx_marker.specs.declared.Segment.{Segment}
 use Rattle.jx_marker.specs.declared.Siz.{Siz}
 use Rattle.jx_marker.specs.declared.CompSize.{CompSize}
@@ -17,25 +18,25 @@ use Rattle.jx_stream.specs.Params.{chosen, shape_in, quant_in, shift_in, shape_o
 use Rattle.jx_stream.specs.Shapes.{comp_shape, shapes_in, size_in}
 use Rattle.jx_plan.specs.Headers.{comp_written, shape_written}
 
--- two segments, each there or not, that say the same, but for the precincts that are asked
-pub record AreAlike (ps : Option (List ℕ)) (o p : Option Segment) : Type 0 where
+-- two segments, each there or not, that say the same, but for the precincts and the style that are asked
+pub record AreAlike (ps : Option (List ℕ)) (st : Option Style) (o p : Option Segment) : Type 0 where
   pub some : is_some o ≡ is_some p
-  pub shape : shape_in o ≡ option_map (shape_written ps) (shape_in p)
+  pub shape : shape_in o ≡ option_map (shape_written ps st) (shape_in p)
   pub quant : quant_in o ≡ quant_in p
   pub shift : shift_in o ≡ shift_in p
 
 true_false : true ≡ false → ⊥
 true_false e = absurd (cc)
 
-alike_or : (ps : Option (List ℕ)) (a b c d : Option Segment) → AreAlike ps a b → AreAlike ps c d → AreAlike ps (option_or a c) (option_or b d)
-alike_or ps None None c d h k = k
-alike_or ps None (Some t) c d h k = absurd (true_false (sym h.some))
-alike_or ps (Some s) None c d h k = absurd (true_false h.some)
-alike_or ps (Some s) (Some t) c d h k = h
+alike_or : (ps : Option (List ℕ)) (st : Option Style) (a b c d : Option Segment) → AreAlike ps st a b → AreAlike ps st c d → AreAlike ps st (option_or a c) (option_or b d)
+alike_or ps st None None c d h k = k
+alike_or ps st None (Some t) c d h k = absurd (true_false (sym h.some))
+alike_or ps st (Some s) None c d h k = absurd (true_false h.some)
+alike_or ps st (Some s) (Some t) c d h k = h
 
 -- so do two headers
-abbrev pub HeadersAlike : Option (List ℕ) → List Segment → List Segment → Type 0
-HeadersAlike ps xs ys = (slot : ℕ) → gives slot ≡ true → AreAlike ps (in_slot slot xs) (in_slot slot ys)
+abbrev pub HeadersAlike : Option (List ℕ) → Option Style → List Segment → List Segment → Type 0
+HeadersAlike ps st xs ys = (slot : ℕ) → gives slot ≡ true → AreAlike ps st (in_slot slot xs) (in_slot slot ys)
 
 own_gives : (k comp : ℕ) → 4 < k → gives (k + 3 * comp) ≡ true
 own_gives k comp h = grind (arith, nat_tests)
@@ -52,9 +53,9 @@ map_both : (f g : ℕ → CompShape) (k : CompShape → CompShape) (xs : List �
 map_both f g k [] h = refl
 map_both f g k (x ∷ xs) h = rw (h x, map_both f g k xs h) refl
 
--- where no precincts are asked all is the same
+-- where neither is asked all is the same
 
-pub none_asked : (o : Option Shape) → option_map (shape_written None) o ≡ o
+pub none_asked : (o : Option Shape) → option_map (shape_written None None) o ≡ o
 none_asked None = refl
 none_asked (Some shape) = refl
 
@@ -64,19 +65,19 @@ none_changed (x ∷ xs) = ap (λ (ys : List CompShape). x ∷ ys) (none_changed 
 
 -- levels are never changed
 
-few_kept : (ps : Option (List ℕ)) (q : Option Quant) (o : Option Shape) → has_too_few q (option_map (shape_written ps) o) ≡ has_too_few q o
-few_kept ps None o = refl
-few_kept ps (Some quant) None = refl
-few_kept ps (Some quant) (Some shape) = refl
+few_kept : (ps : Option (List ℕ)) (st : Option Style) (q : Option Quant) (o : Option Shape) → has_too_few q (option_map (shape_written ps st) o) ≡ has_too_few q o
+few_kept ps st None o = refl
+few_kept ps st (Some quant) None = refl
+few_kept ps st (Some quant) (Some shape) = refl
 
-bands_kept : (ps : Option (List ℕ)) (q : Option Quant) (o : Option Shape) (shift : ℕ) → band_planes q (option_map (shape_written ps) o) shift ≡ band_planes q o shift
-bands_kept ps None o shift = refl
-bands_kept ps (Some quant) None shift = refl
-bands_kept ps (Some quant) (Some shape) shift = refl
+bands_kept : (ps : Option (List ℕ)) (st : Option Style) (q : Option Quant) (o : Option Shape) (shift : ℕ) → band_planes q (option_map (shape_written ps st) o) shift ≡ band_planes q o shift
+bands_kept ps st None o shift = refl
+bands_kept ps st (Some quant) None shift = refl
+bands_kept ps st (Some quant) (Some shape) shift = refl
 
-levels_kept : (ps : Option (List ℕ)) (o : Option Shape) → (shape_or (option_map (shape_written ps) o)).levels ≡ (shape_or o).levels
-levels_kept ps None = refl
-levels_kept ps (Some shape) = refl
+levels_kept : (ps : Option (List ℕ)) (st : Option Style) (o : Option Shape) → (shape_or (option_map (shape_written ps st) o)).levels ≡ (shape_or o).levels
+levels_kept ps st None = refl
+levels_kept ps st (Some shape) = refl
 
 -- the shape of a component
 
@@ -88,20 +89,21 @@ IsThere (Some items) o = is_some o ≡ true
 abbrev comp_of : CompSize → Shape → CompShape
 comp_of size shape = record { dx = size.dx; dy = size.dy; levels = shape.levels; xcb = shape.xcb; ycb = shape.ycb; precincts = precincts_of shape.precincts }
 
-comp_is : (ps : Option (List ℕ)) (size : CompSize) (o : Option Shape) → IsThere ps o → comp_of size (shape_or (option_map (shape_written ps) o)) ≡ comp_written ps (comp_of size (shape_or o))
-comp_is None size None there = refl
-comp_is None size (Some shape) there = refl
-comp_is (Some items) size None there = absurd (true_false (sym there))
-comp_is (Some items) size (Some shape) there = refl
+comp_is : (ps : Option (List ℕ)) (st : Option Style) (size : CompSize) (o : Option Shape) → IsThere ps o
+    → comp_of size (shape_or (option_map (shape_written ps st) o)) ≡ comp_written ps (comp_of size (shape_or o))
+comp_is None st size None there = refl
+comp_is None st size (Some shape) there = refl
+comp_is (Some items) st size None there = absurd (true_false (sym there))
+comp_is (Some items) st size (Some shape) there = refl
 
-module _ (ps : Option (List ℕ)) (own other main there : List Segment) (here : HeadersAlike ps own other) (mains : HeadersAlike ps main there) where
-  chosen_alike : (slot default : ℕ) → gives slot ≡ true → gives default ≡ true → AreAlike ps (chosen slot default own main) (chosen slot default other there)
+module _ (ps : Option (List ℕ)) (st : Option Style) (own other main there : List Segment) (here : HeadersAlike ps st own other) (mains : HeadersAlike ps st main there) where
+  chosen_alike : (slot default : ℕ) → gives slot ≡ true → gives default ≡ true → AreAlike ps st (chosen slot default own main) (chosen slot default other there)
   chosen_alike slot default a b =
-      alike_or ps (in_slot slot own) (in_slot slot other) _ _ (here slot a)
-      (alike_or ps (in_slot default own) (in_slot default other) _ _ (here default b)
-      (alike_or ps (in_slot slot main) (in_slot slot there) (in_slot default main) (in_slot default there) (mains slot a) (mains default b)))
+      alike_or ps st (in_slot slot own) (in_slot slot other) _ _ (here slot a)
+      (alike_or ps st (in_slot default own) (in_slot default other) _ _ (here default b)
+      (alike_or ps st (in_slot slot main) (in_slot slot there) (in_slot default main) (in_slot default there) (mains slot a) (mains default b)))
 
-  pub shape_same : (comp : ℕ) → shape_of own main comp ≡ option_map (shape_written ps) (shape_of other there comp)
+  pub shape_same : (comp : ℕ) → shape_of own main comp ≡ option_map (shape_written ps st) (shape_of other there comp)
   shape_same comp = (chosen_alike (5 + 3 * comp) 1 (own_gives 5 comp (omega arith)) refl).shape
 
   pub quant_same : (comp : ℕ) → quant_of own main comp ≡ quant_of other there comp
@@ -110,14 +112,14 @@ module _ (ps : Option (List ℕ)) (own other main there : List Segment) (here : 
   pub shift_same : (comp : ℕ) → shift_of own main comp ≡ shift_of other there comp
   shift_same comp =
       let g = own_gives 7 comp (omega arith) in
-      (alike_or ps (in_slot (7 + 3 * comp) own) (in_slot (7 + 3 * comp) other) (in_slot (7 + 3 * comp) main) (in_slot (7 + 3 * comp) there) (here (7 + 3 * comp) g) (mains (7 + 3 * comp) g)).shift
+      (alike_or ps st (in_slot (7 + 3 * comp) own) (in_slot (7 + 3 * comp) other) (in_slot (7 + 3 * comp) main) (in_slot (7 + 3 * comp) there) (here (7 + 3 * comp) g) (mains (7 + 3 * comp) g)).shift
 
   few_at : (comp : ℕ) → has_too_few (quant_of own main comp) (shape_of own main comp) ≡ has_too_few (quant_of other there comp) (shape_of other there comp)
-  few_at comp = rw (quant_same comp, shape_same comp) (few_kept ps (quant_of other there comp) (shape_of other there comp))
+  few_at comp = rw (quant_same comp, shape_same comp) (few_kept ps st (quant_of other there comp) (shape_of other there comp))
 
   bands_at : (comp : ℕ)
       → band_planes (quant_of own main comp) (shape_of own main comp) (shift_of own main comp) ≡ band_planes (quant_of other there comp) (shape_of other there comp) (shift_of other there comp)
-  bands_at comp = rw (quant_same comp, shape_same comp, shift_same comp) (bands_kept ps (quant_of other there comp) (shape_of other there comp) (shift_of other there comp))
+  bands_at comp = rw (quant_same comp, shape_same comp, shift_same comp) (bands_kept ps st (quant_of other there comp) (shape_of other there comp) (shift_of other there comp))
 
   pub too_few_same : (comps : ℕ) → header_has_too_few main comps own ≡ header_has_too_few there comps other
   too_few_same comps =
@@ -130,7 +132,7 @@ module _ (ps : Option (List ℕ)) (own other main there : List Segment) (here : 
       bands_at
 
   level_same : (comp : ℕ) → (shape_or (shape_of own main comp)).levels ≡ (shape_or (shape_of other there comp)).levels
-  level_same comp = ap (λ (o : Option Shape). (shape_or o).levels) (shape_same comp) ∙ levels_kept ps (shape_of other there comp)
+  level_same comp = ap (λ (o : Option Shape). (shape_or o).levels) (shape_same comp) ∙ levels_kept ps st (shape_of other there comp)
 
   pub step_same : (comp res : ℕ) (band : Band) → step_by own main comp res band ≡ step_by other there comp res band
   step_same comp res band = rw (quant_same comp, level_same comp) refl
@@ -142,7 +144,7 @@ module _ (ps : Option (List ℕ)) (own other main there : List Segment) (here : 
       → comp_shape (record { siz = siz; main = main; own = own }) comp ≡ comp_written ps (comp_shape (record { siz = tiz; main = there; own = other }) comp)
   comp_shape_same siz tiz e comp some =
       ap (λ (o : Option Shape). comp_of (size_in siz comp) (shape_or o)) (shape_same comp)
-      ∙ rw e (comp_is ps (size_in tiz comp) (shape_of other there comp) some)
+      ∙ rw e (comp_is ps st (size_in tiz comp) (shape_of other there comp) some)
 
   pub shapes_same : (siz tiz : Siz) → siz.comps ≡ tiz.comps → ((comp : ℕ) → IsThere ps (shape_of other there comp))
       → shapes_in (record { siz = siz; main = main; own = own }) ≡ map (comp_written ps) (shapes_in (record { siz = tiz; main = there; own = other }))

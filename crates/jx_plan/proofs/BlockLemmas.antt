@@ -36,18 +36,18 @@ pub same_shapes : (xs ys : List CompShape) → ys ≡ xs → AllSameBlocks xs ys
 same_shapes xs ys e = rw e (own_blocks xs)
 
 module _ (s w : Stream) (canvas : canvas_of w.siz ≡ canvas_of s.siz) (same : (t : ℕ) → t < tile_number s.siz → AllSameBlocks (shapes_of s t) (shapes_of w t)) where
-  there : (n : BlockName) → IsBlock (canvas_of w.siz) (shapes_of w) n → IsBlock (canvas_of s.siz) (shapes_of s) n
+  pub there : (n : BlockName) → IsBlock (canvas_of w.siz) (shapes_of w) n → IsBlock (canvas_of s.siz) (shapes_of s) n
   there n is =
       let P : Canvas → Type 0 = λ c. IsBlock c (shapes_of w) n in
       let here : IsBlock (canvas_of s.siz) (shapes_of w) n = subst P canvas is in
       (here.0, (same_there (canvas_of s.siz) n.tile (shapes_of s n.tile) (shapes_of w n.tile) n (same n.tile here.0)).1 here.1)
 
-  number_same : (n : BlockName) → IsBlock (canvas_of w.siz) (shapes_of w) n → block_number (canvas_of s.siz) (shapes_of s) n ≡ block_number (canvas_of w.siz) (shapes_of w) n
+  pub number_same : (n : BlockName) → IsBlock (canvas_of w.siz) (shapes_of w) n → block_number (canvas_of s.siz) (shapes_of s) n ≡ block_number (canvas_of w.siz) (shapes_of w) n
   number_same n is =
       same_block_number (canvas_of s.siz) (shapes_of s) (shapes_of w) n same (there n is)
       ∙ ap (λ (c : Canvas). block_number c (shapes_of w) n) (sym canvas)
 
-  rect_same : (n : BlockName) → IsBlock (canvas_of w.siz) (shapes_of w) n → rect_in s n ≡ rect_in w n
+  pub rect_same : (n : BlockName) → IsBlock (canvas_of w.siz) (shapes_of w) n → rect_in s n ≡ rect_in w n
   rect_same n is =
       let here = there n is in
       same_places (canvas_of s.siz) n.tile (shapes_of s n.tile) (shapes_of w n.tile) n (same n.tile here.0) here.1

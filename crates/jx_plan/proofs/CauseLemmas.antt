@@ -4,6 +4,7 @@ use Rattle.std.specs.List.{slice_get}
 use Rattle.std.proofs.lemmas.Bool.{cases_lt}
 use Rattle.std.proofs.lemmas.Option.{slice_get-get_or, slice_get_within}
 use Rattle.jx_base.specs.declared.pieces.Block.{Block}
+use Rattle.jx_base.specs.declared.style.Style.{Style}
 use Rattle.jx_stream.specs.declared.Stream.{Stream}
 use Rattle.jx_stream.specs.First.{tile_number}
 use Rattle.jx_gather.specs.Totals.{packet_total}
@@ -11,19 +12,20 @@ use Rattle.jx_block.specs.declared.job.Job.{Job}
 use Rattle.jx_plan.specs.declared.PartChoice.{PartChoice}
 use Rattle.jx_plan.specs.declared.faults.PlanFault.{PlanFault}
 use Rattle.jx_plan.specs.declared.faults.PlanFault.TheVariants as fault
-use Rattle.jx_plan.specs.Crowded.{IsCrowded, IsLowestCrowded}
+use Rattle.jx_layers.specs.Causal.{first_broken}
+use Rattle.jx_layers.specs.Crowded.{IsCrowded, IsLowestCrowded}
 use Rattle.jx_plan.specs.Fits.{AreUnfit, Fits, IsUnfit}
 use Rattle.jx_plan.specs.Groups.{HasFewParts, IsPartedAt}
-use Rattle.jx_plan.specs.KeptFault.{HasManyPartsAt, IsFree, PassesPackets}
-use Rattle.jx_plan.specs.Layers.{AreJobs, HasMany, layer_at}
+use Rattle.jx_plan.specs.KeptFault.{HasManyPartsAt, IsFree, IsPlaneBroken, PassesPackets}
+use Rattle.jx_layers.specs.Layers.{AreJobs, HasMany, layer_at}
 use Rattle.jx_plan.specs.Plan.{IsPlan, Plan, asked_of, headers_of, headers_with, most_packets}
-use Rattle.jx_plan.specs.Planned.{HasPlanCause, IsPlanned, LacksPlan, layers_of_rule}
-use Rattle.jx_plan.specs.Rule.{Rule}
+use Rattle.jx_plan.specs.Planned.{HasLaterCause, HasPlanCause, IsPlanned, LacksPlan, layers_of_rule}
+use Rattle.jx_layers.specs.Rule.{Rule}
 use Rattle.jx_plan.specs.Wanted.{Wanted}
 use Rattle.jx_plan.proofs.KeptLemmas.{same_tiles}
-use Rattle.jx_plan.proofs.OneLemmas.{one_ends}
+use Rattle.jx_layers.proofs.OneLemmas.{one_ends}
 
-module _ (r : Rule) (layers : ℕ) (blocks : List Block) (xs ys : List Job) (ax : AreJobs r layers blocks xs) (ay : AreJobs r layers blocks ys) where
+module _ (style : Option Style) (r : Rule) (layers : ℕ) (blocks : List Block) (xs ys : List Job) (ax : AreJobs style r layers blocks xs) (ay : AreJobs style r layers blocks ys) where
   crowds : (n : ℕ) (o : Option Job) → slice_get xs n ≡ o → IsCrowded o → IsCrowded (slice_get ys n)
   crowds n None e c = absurd c
   crowds n (Some job) e c =
@@ -40,12 +42,12 @@ module _ (r : Rule) (layers : ℕ) (blocks : List Block) (xs ys : List Job) (ax 
   crowded_too : (n : ℕ) → IsCrowded (slice_get xs n) → IsCrowded (slice_get ys n)
   crowded_too n c = crowds n (slice_get xs n) refl c
 
-one_lowest : (r : Rule) (layers : ℕ) (blocks : List Block) (xs ys : List Job) → AreJobs r layers blocks xs → AreJobs r layers blocks ys
+one_lowest : (style : Option Style) (r : Rule) (layers : ℕ) (blocks : List Block) (xs ys : List Job) → AreJobs style r layers blocks xs → AreJobs style r layers blocks ys
     → (i k : ℕ) → IsLowestCrowded xs (Some i) → IsLowestCrowded ys (Some k) → i ≡ k
-one_lowest r layers blocks xs ys ax ay i k hx hy = elim (cases_lt i k) [
-  | inl lt ↦ absurd (hy.1 i lt (crowded_too r layers blocks xs ys ax ay i hx.0))
+one_lowest style r layers blocks xs ys ax ay i k hx hy = elim (cases_lt i k) [
+  | inl lt ↦ absurd (hy.1 i lt (crowded_too style r layers blocks xs ys ax ay i hx.0))
   | inr ge ↦ elim (cases_lt k i) [
-    | inl lt ↦ absurd (hx.1 k lt (crowded_too r layers blocks ys xs ay ax k hy.0))
+    | inl lt ↦ absurd (hx.1 k lt (crowded_too style r layers blocks ys xs ay ax k hy.0))
     | inr le ↦ omega arith
   ]
 ]
@@ -56,13 +58,31 @@ same_choice a b c d e h = rw (e, h) refl
 pub same_limit : (a b c d : ℕ) → a ≡ b → c ≡ d → ◌≡◌ {A = PlanFault} (fault.Limit a c) (fault.Limit b d)
 same_limit a b c d e h = rw (e, h) refl
 
--- ---- choices 3 and 2
 same_some : (o : Option ℕ) (c d : ℕ) → o ≡ Some c → o ≡ Some d → c ≡ d
 same_some o c d e h = cc
 
 none_some : (o : Option ℕ) (c : ℕ) → o ≡ Some c → o ≡ None → ⊥
 none_some o c e h = absurd (cc)
 
+-- ---- choice 1
+module _ (style : Option Style) (blocks : List Block) where
+  pub one_broken : (e f : PlanFault) → IsPlaneBroken style blocks e → IsPlaneBroken style blocks f → e ≡ f
+  one_broken (fault.Choice a c) (fault.Choice b d) x y = same_choice a b c d (x.0 ∙ sym y.0) (same_some _ c d x.1 y.1)
+  one_broken (fault.Choice a c) (fault.Limit b d) x y = absurd y
+  one_broken (fault.Choice a c) fault.NoMemory x y = absurd y
+  one_broken (fault.Limit a c) f x y = absurd x
+  one_broken fault.NoMemory f x y = absurd x
+
+  pub broken_whole : (e : PlanFault) → IsPlaneBroken style blocks e → first_broken style blocks ≡ None → ⊥
+  broken_whole (fault.Choice a c) x whole = none_some _ c x.1 whole
+  broken_whole (fault.Limit a c) x whole = x
+  broken_whole fault.NoMemory x whole = x
+
+pub plan_whole : (blocks : List Block) (w : Wanted) (p : Plan) → p.blocks ≡ blocks → p.wanted ≡ w → IsPlan p → first_broken w.style blocks ≡ None
+plan_whole blocks w p blocks_are wanted plan =
+    subst (λ (x : Wanted). first_broken x.style blocks ≡ None) wanted (subst (λ (bs : List Block). first_broken p.wanted.style bs ≡ None) blocks_are plan.whole)
+
+-- ---- choices 3 and 2
 module _ (s : Stream) (precincts : Option (List ℕ)) where
   pub one_unfit : (a c b d : ℕ) → IsUnfit s precincts a c → IsUnfit s precincts b d → ◌≡◌ {A = PlanFault} (fault.Choice a c) (fault.Choice b d)
   one_unfit a c b d (inl x) (inl y) = same_choice a b c d (x.0 ∙ sym y.0) (same_some _ c d x.1 y.1)
@@ -148,11 +168,11 @@ module _ (s : Stream) (blocks : List Block) (w : Wanted) where
   lacks_same (Some r) (fault.Choice a c) fault.NoMemory ne nf he hf = absurd (nf refl)
   lacks_same (Some r) (fault.Limit a c) fault.NoMemory ne nf he hf = absurd (nf refl)
   lacks_same (Some r) (fault.Choice a c) (fault.Choice b d) ne nf (inl x) (inl y) =
-      same_choice a b c d (x.0 ∙ sym y.0) (one_lowest r _ blocks x.1.jobs y.1.jobs x.1.jobs_are y.1.jobs_are c d x.1.lowest y.1.lowest)
+      same_choice a b c d (x.0 ∙ sym y.0) (one_lowest w.style r _ blocks x.1.jobs y.1.jobs x.1.jobs_are y.1.jobs_are c d x.1.lowest y.1.lowest)
   lacks_same (Some r) (fault.Choice a c) (fault.Choice b d) ne nf (inl x) (inr y) =
-      absurd (y.1.uncrowded c (crowded_too r _ blocks x.1.jobs y.1.jobs x.1.jobs_are y.1.jobs_are c x.1.lowest.0))
+      absurd (y.1.uncrowded c (crowded_too w.style r _ blocks x.1.jobs y.1.jobs x.1.jobs_are y.1.jobs_are c x.1.lowest.0))
   lacks_same (Some r) (fault.Choice a c) (fault.Choice b d) ne nf (inr x) (inl y) =
-      absurd (x.1.uncrowded d (crowded_too r _ blocks y.1.jobs x.1.jobs y.1.jobs_are x.1.jobs_are d y.1.lowest.0))
+      absurd (x.1.uncrowded d (crowded_too w.style r _ blocks y.1.jobs x.1.jobs y.1.jobs_are x.1.jobs_are d y.1.lowest.0))
   lacks_same (Some r) (fault.Choice a c) (fault.Choice b d) ne nf (inr x) (inr y) =
       same_choice a b c d (x.0 ∙ sym y.0) (one_parted w.parts _ c d x.1.many.many y.1.many.many)
   lacks_same (Some r) (fault.Choice a c) (fault.Limit b d) ne nf (inl x) hf = absurd (omega (arith, x.1.few, hf.1.count, hf.1.many))
@@ -161,17 +181,23 @@ module _ (s : Stream) (blocks : List Block) (w : Wanted) where
   lacks_same (Some r) (fault.Limit a c) (fault.Choice b d) ne nf he (inr y) = absurd (few_many s w _ d c y.1.many he.1)
   lacks_same (Some r) (fault.Limit a c) (fault.Limit b d) ne nf he hf = same_limit a b c d (he.0 ∙ sym hf.0) (he.1.count ∙ sym hf.1.count)
 
+  later_same : (o : Option Rule) (e f : PlanFault) → (e ≡ fault.NoMemory → ⊥) → (f ≡ fault.NoMemory → ⊥) → HasLaterCause o s blocks w e → HasLaterCause o s blocks w f → e ≡ f
+  later_same o e f ne nf (inl x) (inl y) = unfit_same s w.precincts e f ne nf x y
+  later_same o e f ne nf (inl x) (inr y) = absurd (are_unfit s w.precincts e ne x (lacks_fits o f nf y))
+  later_same o e f ne nf (inr x) (inl y) = absurd (are_unfit s w.precincts f nf y (lacks_fits o e ne x))
+  later_same o e f ne nf (inr x) (inr y) = lacks_same o e f ne nf x y
+
   pub one_cause : (o : Option Rule) (e f : PlanFault) → (e ≡ fault.NoMemory → ⊥) → (f ≡ fault.NoMemory → ⊥) → HasPlanCause o s blocks w e → HasPlanCause o s blocks w f → e ≡ f
-  one_cause o e f ne nf (inl x) (inl y) = unfit_same s w.precincts e f ne nf x y
-  one_cause o e f ne nf (inl x) (inr y) = absurd (are_unfit s w.precincts e ne x (lacks_fits o f nf y))
-  one_cause o e f ne nf (inr x) (inl y) = absurd (are_unfit s w.precincts f nf y (lacks_fits o e ne x))
-  one_cause o e f ne nf (inr x) (inr y) = lacks_same o e f ne nf x y
+  one_cause o e f ne nf (inl x) (inl y) = one_broken w.style blocks e f x y
+  one_cause o e f ne nf (inl x) (inr y) = absurd (broken_whole w.style blocks e x y.0)
+  one_cause o e f ne nf (inr x) (inl y) = absurd (broken_whole w.style blocks f y x.0)
+  one_cause o e f ne nf (inr x) (inr y) = later_same o e f ne nf x.1 y.1
 
   planned_lacks : (r : Rule) (p : Plan) (e : PlanFault) → IsPlan p → IsPlanned (Some r) s blocks w p → LacksPlan (Some r) s blocks w e → e ≡ fault.NoMemory
   planned_lacks r p (fault.Choice number place) plan is (inl x) =
       let at = x.1 in
-      let own : AreJobs r _ blocks p.jobs = subst (λ k. AreJobs r k blocks p.jobs) is.layers is.jobs in
-      absurd (plan.uncrowded place (crowded_too r _ blocks at.jobs p.jobs at.jobs_are own place at.lowest.0))
+      let own : AreJobs w.style r _ blocks p.jobs = subst (λ k. AreJobs w.style r k blocks p.jobs) is.layers is.jobs in
+      absurd (plan.uncrowded place (crowded_too w.style r _ blocks at.jobs p.jobs at.jobs_are own place at.lowest.0))
   planned_lacks r p (fault.Choice number place) plan is (inr x) =
       absurd (free_parts s w (layers_of_rule r s blocks) place (plan_free s w (layers_of_rule r s blocks) p is.stream is.wanted is.layers plan) x.1.many)
   planned_lacks r p (fault.Limit number found) plan is cause =
@@ -184,7 +210,11 @@ module _ (s : Stream) (blocks : List Block) (w : Wanted) where
   planned_unfit r p (fault.Limit number found) plan is unfit = absurd unfit
   planned_unfit r p fault.NoMemory plan is unfit = refl
 
+  planned_later : (r : Rule) (p : Plan) (e : PlanFault) → IsPlan p → IsPlanned (Some r) s blocks w p → HasLaterCause (Some r) s blocks w e → e ≡ fault.NoMemory
+  planned_later r p e plan is (inl x) = planned_unfit r p e plan is x
+  planned_later r p e plan is (inr x) = planned_lacks r p e plan is x
+
   pub planned_or_not : (o : Option Rule) (p : Plan) (e : PlanFault) → IsPlan p → IsPlanned o s blocks w p → HasPlanCause o s blocks w e → e ≡ fault.NoMemory
   planned_or_not None p e plan is cause = absurd is
-  planned_or_not (Some r) p e plan is (inl x) = planned_unfit r p e plan is x
-  planned_or_not (Some r) p e plan is (inr x) = planned_lacks r p e plan is x
+  planned_or_not (Some r) p e plan is (inl x) = absurd (broken_whole w.style blocks e x (plan_whole blocks w p is.blocks_are is.wanted plan))
+  planned_or_not (Some r) p e plan is (inr x) = planned_later r p e plan is x.1

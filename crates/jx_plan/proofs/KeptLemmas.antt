@@ -1,13 +1,14 @@
 -- The plan that keeps the layers of each block.
 use Rattle.std.proofs.Common.{◌≡◌, ◌<◌, ◌≤◌, ◌+◌, ◌-◌, ◌^◌, ◌==◌, ◌⊎◌, ◌∙◌, ap, sym, subst, refl, arith, ℕ, zero, suc, Bool, true, false, if◌then◌else◌, List, [], ◌∷◌, length, nat_lt, map, inl, inr, slice_index_or, Option, None, Some}
 use Rattle.std.specs.List.{All, slice_get, range_with_len}
-use Rattle.std.specs.Option.{MatchOption}
+use Rattle.std.specs.Option.{IfSome, MatchOption}
 use Rattle.std.proofs.lemmas.Bool.{cases_Bool, cond-true, cond-false, eqb-true}
 use Rattle.std.proofs.lemmas.Bool.Decides.{nat_tests}
 use Rattle.std.proofs.lemmas.Option.{get_or_from_slice_get, slice_get-get_or}
 use Rattle.std.proofs.lemmas.Option.{slice_get_within}
 use Rattle.jx_base.specs.declared.names.BlockName.{BlockName}
 use Rattle.jx_base.specs.declared.pieces.Block.{Block}
+use Rattle.jx_base.specs.declared.style.Style.{Style}
 use Rattle.jx_base.specs.Pieces.{PieceValue, ArePieces}
 use Rattle.jx_base.specs.Sound.{IsSound}
 use Rattle.jx_geom.specs.declared.shape.Canvas.{Canvas}
@@ -29,23 +30,22 @@ use Rattle.jx_gather.proofs.SoundLemmas.{sound_gathered}
 use Rattle.jx_gather.specs.Totals.{block_total, packet_total, totals_fault}
 use Rattle.jx_block.specs.declared.LayerEnd.{LayerEnd}
 use Rattle.jx_block.specs.declared.job.Job.{Job}
-use Rattle.jx_block.specs.Jobs.{IsAsked}
 use Rattle.jx_block.specs.Recoding.{layer_ends}
-use Rattle.jx_block.proofs.LawLemmas.{own_asked}
-use Rattle.jx_plan.specs.Crowded.{IsCrowded, IsLowestCrowded}
-use Rattle.jx_plan.specs.Facts.{most_layers}
-use Rattle.jx_plan.specs.Keeping.{IsKeptJob, AreKeptJobs}
-use Rattle.jx_plan.specs.Layers.{HasMany}
+use Rattle.jx_layers.specs.Causal.{breaks_plane, first_broken}
+use Rattle.jx_layers.specs.Crowded.{IsCrowded, IsLowestCrowded}
+use Rattle.jx_layers.specs.Facts.{most_layers}
+use Rattle.jx_layers.specs.Keeping.{IsKeptJob, AreKeptJobs}
+use Rattle.jx_layers.specs.Layers.{HasMany}
 use Rattle.jx_plan.specs.declared.faults.PlanFault.{PlanFault}
 use Rattle.jx_plan.specs.declared.faults.PlanFault.TheVariants as fault
 use Rattle.jx_plan.specs.Fits.{AreUnfit, Fits}
 use Rattle.jx_plan.specs.declared.PartChoice.{PartChoice}
 use Rattle.jx_plan.specs.Groups.{HasFewParts, IsPartedAt}
 use Rattle.jx_plan.specs.Headers.{Asked, MayBeAsked, stream_written}
-use Rattle.jx_plan.specs.KeptFault.{HasKeptCause}
+use Rattle.jx_plan.specs.KeptFault.{HasHeaderCause}
 use Rattle.jx_plan.specs.Plan.{IsJob, IsPlan, KeepsLayers, MayBePlanned, asked_of, headers_with, most_packets}
-use Rattle.jx_plan.specs.Wanted.{MayBeWanted, Wanted}
-use Rattle.jx_plan.specs.Rule.{greatest}
+use Rattle.jx_plan.specs.Wanted.{MayBeStyle, MayBeWanted, Wanted}
+use Rattle.jx_layers.specs.Rule.{greatest}
 use Rattle.jx_plan.proofs.BlockLemmas.{blocks_are}
 use Rattle.jx_plan.proofs.ReadLemmas.{read_stands}
 use Rattle.jx_gather.specs.Faults.{passed}
@@ -53,7 +53,8 @@ use Rattle.jx_plan.specs.Standing.{HeadersStand}
 use Rattle.jx_plan.proofs.CoverLemmas.{written_whole}
 use Rattle.jx_plan.proofs.PlainLemmas.{blocks_pass, totals_plain}
 use Rattle.jx_plan.proofs.RangeLemmas.{written_in_range}
-use Rattle.jx_plan.proofs.KeepingLemmas.{end_of}
+use Rattle.jx_layers.proofs.CausalLemmas.{asked_kept, none_at}
+use Rattle.jx_layers.proofs.KeepingLemmas.{end_of}
 
 -- ---- the greatest number of layers
 greatest_has : (f : ℕ → ℕ) (i n k : ℕ) → i ≤ k → k < i + n → f k ≤ greatest (map f (range_with_len i n))
@@ -154,12 +155,17 @@ not_passed found most h = grind (arith, nat_tests)
 pub few_blocks : (s : Stream) (blocks : List Block) → MayBePlanned s blocks → length blocks ≤ 2 ^ 20
 few_blocks s blocks may = omega (arith, may.blocks_are.all, not_passed (block_total s) (2 ^ 20) (blocks_pass s may.totals))
 
+-- it keeps its causal bit within planes
+pub whole_at : (style : Option Style) (blocks : List Block) (n : ℕ) (b : Block) → first_broken style blocks ≡ None → slice_get blocks n ≡ Some b → n < length blocks → breaks_plane style b ≡ false
+whole_at style blocks n b whole at inside =
+    subst (λ (x : Block). breaks_plane style x ≡ false) (get_or_from_slice_get blocks n b b at) (none_at (breaks_plane style) blocks whole n b inside)
+
 -- ---- the plan
-module _ (s : Stream) (blocks : List Block) (jobs : List Job) (may : MayBePlanned s blocks) (kept : AreKeptJobs blocks (length blocks) jobs) where
+module _ (style : Option Style) (s : Stream) (blocks : List Block) (jobs : List Job) (may : MayBePlanned s blocks) (kept : AreKeptJobs style blocks (length blocks) jobs) where
   uncrowded : (n : ℕ) (o : Option Job) → slice_get jobs n ≡ o → IsCrowded o → ⊥
   uncrowded n None e crowded = crowded
   uncrowded n (Some job) e crowded =
-      let k : IsKeptJob blocks n job = kept.each n job e in
+      let k : IsKeptJob style blocks n job = kept.each n job e in
       let inside : n < length blocks = slice_get_within blocks n job.block.now k.block_is in
       let block = block_at s blocks n job.block.now may.blocks_are k.block_is inside in
       let sound = sound_at blocks n job.block.now may.sound k.block_is inside in
@@ -168,40 +174,46 @@ module _ (s : Stream) (blocks : List Block) (jobs : List Job) (may : MayBePlanne
   pub kept_uncrowded : IsLowestCrowded jobs None
   kept_uncrowded = λ n crowded. uncrowded n (slice_get jobs n) refl crowded
 
-  pub kept_job : (n : ℕ) (job : Job) → slice_get jobs n ≡ Some job → IsJob blocks n job
-  kept_job n job e =
-      let k : IsKeptJob blocks n job = kept.each n job e in
-      let sound = sound_at blocks n job.block.now may.sound k.block_is (slice_get_within blocks n job.block.now k.block_is) in
-      let asked : IsAsked job.block.now None (layer_ends job.block.now.pieces) = own_asked job.block.now sound in
+  pub kept_job : first_broken style blocks ≡ None → (n : ℕ) (job : Job) → slice_get jobs n ≡ Some job → IsJob style blocks n job
+  kept_job whole n job e =
+      let k : IsKeptJob style blocks n job = kept.each n job e in
+      let inside : n < length blocks = slice_get_within blocks n job.block.now k.block_is in
+      let sound = sound_at blocks n job.block.now may.sound k.block_is inside in
       record {
         number_is = k.number_is;
         block_is = k.block_is;
-        kept = k.style;
-        asked = rw (k.style, k.ends) asked;
+        style_is = k.style_is;
+        asked = asked_kept style blocks n job sound (whole_at style blocks n job.block.now whole k.block_is inside) k;
       }
 
   pub kept_layers : KeepsLayers jobs
   kept_layers = λ n d inside. (kept.each n (slice_index_or jobs n d) (slice_get-get_or jobs n d inside)).ends
 
-  pub kept_plan : (w : Wanted) (layers : ℕ) → MayBeWanted w → Fits w.precincts s → 1 ≤ layers → layers < 2 ^ 16 → packet_total (headers_with w layers s) ≤ most_packets
-      → ((t : ℕ) → t < tile_number s.siz → HasFewParts w.parts (headers_with w layers s) t)
-      → IsPlan (record { stream = s; blocks = blocks; wanted = w; layers = layers; jobs = jobs })
-  kept_plan w layers wanted fits some few packets parts = record {
-    may = may;
-    wanted = wanted;
-    fits = fits;
-    some = some;
-    few = few;
-    packets = packets;
-    all = kept.all;
-    each = kept_job;
-    uncrowded = kept_uncrowded;
-    parts = parts;
-  }
+pub kept_plan : (s : Stream) (blocks : List Block) (w : Wanted) (layers : ℕ) (jobs : List Job) → MayBePlanned s blocks → AreKeptJobs w.style blocks (length blocks) jobs → MayBeWanted w
+    → first_broken w.style blocks ≡ None → Fits w.precincts s → 1 ≤ layers → layers < 2 ^ 16 → packet_total (headers_with w layers s) ≤ most_packets
+    → ((t : ℕ) → t < tile_number s.siz → HasFewParts w.parts (headers_with w layers s) t)
+    → IsPlan (record { stream = s; blocks = blocks; wanted = w; layers = layers; jobs = jobs })
+kept_plan s blocks w layers jobs may kept wanted whole fits some few packets parts = record {
+  may = may;
+  wanted = wanted;
+  whole = whole;
+  fits = fits;
+  some = some;
+  few = few;
+  packets = packets;
+  all = kept.all;
+  each = kept_job w.style s blocks jobs may kept whole;
+  uncrowded = kept_uncrowded w.style s blocks jobs may kept;
+  parts = parts;
+}
 
 -- ---- the headers that are written
+style_few : (o : Option Style) → IfSome o MayBeStyle → IfSome o (λ (style : Style). style.bits < 64)
+style_few None may = tt
+style_few (Some style) may = may.few
+
 may_ask : (w : Wanted) (layers : ℕ) → MayBeWanted w → 1 ≤ layers → layers < 2 ^ 16 → MayBeAsked (asked_of w layers)
-may_ask w layers wanted some few = record { some = some; few = few; order = wanted.order; bytes = wanted.bytes }
+may_ask w layers wanted some few = record { some = some; few = few; order = wanted.order; bytes = wanted.bytes; style = style_few w.style wanted.style }
 
 pub same_tiles : (a : Asked) (s : Stream) → tile_number (stream_written a s).siz ≡ tile_number s.siz
 unfolding stream_written
@@ -234,7 +246,7 @@ none_parted own parts s None e none few = subst (λ (p : PartChoice). FewOf p s)
 none_parted own parts s (Some t) e none few = absurd (cc)
 
 -- ---- precincts that don't fit
-pub unfit_kept : (s : Stream) (w : Wanted) (e : PlanFault) → AreUnfit s w.precincts e → HasKeptCause s w e
+pub unfit_kept : (s : Stream) (w : Wanted) (e : PlanFault) → AreUnfit s w.precincts e → HasHeaderCause s w e
 unfit_kept s w (fault.Choice number place) unfit = inl unfit
 unfit_kept s w (fault.Limit number found) unfit = absurd unfit
 unfit_kept s w fault.NoMemory unfit = tt

@@ -27,8 +27,8 @@ use Rattle.jx_plan.proofs.WrittenLemmas.{slot_more, alike_to, alike_self}
 abbrev pub SlotsSame : List Segment → List Segment → Type 0
 SlotsSame xs ys = (slot : ℕ) → gives slot ≡ true → in_slot slot xs ≡ in_slot slot ys
 
-slots_alike : (xs ys : List Segment) → SlotsSame xs ys → HeadersAlike None xs ys
-slots_alike xs ys h slot g = alike_to None (in_slot slot xs) (in_slot slot ys) (in_slot slot ys) (h slot g) (alike_self (in_slot slot ys))
+slots_alike : (xs ys : List Segment) → SlotsSame xs ys → HeadersAlike None None xs ys
+slots_alike xs ys h slot g = alike_to None None (in_slot slot xs) (in_slot slot ys) (in_slot slot ys) (h slot g) (alike_self (in_slot slot ys))
 
 or_same : (x y z w : Option Segment) → x ≡ z → y ≡ w → option_or x y ≡ option_or z w
 or_same x y z w e d = rw (e, d) refl
@@ -38,28 +38,28 @@ params_alike : (p q : Option Shape) (x y : Option Quant) (m n : ℕ) (u v : Opti
 params_alike p q x y m n u v e d k f = rw (e, d, k, f) refl
 
 module _ (own other main there : List Segment) (here : SlotsSame own other) (mains : SlotsSame main there) where
-  alike : HeadersAlike None own other
+  alike : HeadersAlike None None own other
   alike = slots_alike own other here
 
-  alike_main : HeadersAlike None main there
+  alike_main : HeadersAlike None None main there
   alike_main = slots_alike main there mains
 
   cod_same : cod_of own main ≡ cod_of other there
   cod_same = ap cod_in (or_same (in_slot 1 own) (in_slot 1 main) (in_slot 1 other) (in_slot 1 there) (here 1 refl) (mains 1 refl))
 
   shape_is : (c : ℕ) → shape_of own main c ≡ shape_of other there c
-  shape_is c = shape_same None own other main there alike alike_main c ∙ none_asked (shape_of other there c)
+  shape_is c = shape_same None None own other main there alike alike_main c ∙ none_asked (shape_of other there c)
 
   pub params_same : (c : ℕ) → params_by own main c ≡ params_by other there c
   params_same c =
       params_alike (shape_of own main c) (shape_of other there c) (quant_of own main c) (quant_of other there c) (shift_of own main c) (shift_of other there c) (cod_of own main) (cod_of other there)
-      (shape_is c) (quant_same None own other main there alike alike_main c) (shift_same None own other main there alike alike_main c) cod_same
+      (shape_is c) (quant_same None None own other main there alike alike_main c) (shift_same None None own other main there alike alike_main c) cod_same
 
   pub step_is : (c r : ℕ) (band : Band) → step_by own main c r band ≡ step_by other there c r band
-  step_is c r band = step_same None own other main there alike alike_main c r band
+  step_is c r band = step_same None None own other main there alike alike_main c r band
 
   pub planes_are : (c r : ℕ) (band : Band) → planes_by own main c r band ≡ planes_by other there c r band
-  planes_are c r band = planes_same None own other main there alike alike_main c r band
+  planes_are c r band = planes_same None None own other main there alike alike_main c r band
 
 -- a header with more
 
@@ -82,11 +82,11 @@ AreTilesWithMore comps tiles others = (t : ℕ) → t < length tiles → IsTileW
 
 few_more : (comps : ℕ) (main : List Segment) (t other : Tile) → IsTileWithMore comps t other → tile_has_too_few main comps other ≡ tile_has_too_few main comps t
 unfolding tile_has_too_few
-few_more comps main t other h = too_few_same None other.header t.header main main (slots_alike other.header t.header (tile_slots comps t other h)) (slots_alike main main (no_slots main)) comps
+few_more comps main t other h = too_few_same None None other.header t.header main main (slots_alike other.header t.header (tile_slots comps t other h)) (slots_alike main main (no_slots main)) comps
 
 bands_more : (comps : ℕ) (main : List Segment) (t other : Tile) → IsTileWithMore comps t other → tile_planes main comps other ≡ tile_planes main comps t
 unfolding tile_planes
-bands_more comps main t other h = bands_same None other.header t.header main main (slots_alike other.header t.header (tile_slots comps t other h)) (slots_alike main main (no_slots main)) comps
+bands_more comps main t other h = bands_same None None other.header t.header main main (slots_alike other.header t.header (tile_slots comps t other h)) (slots_alike main main (no_slots main)) comps
 
 none_few : (comps : ℕ) (main : List Segment) (tiles others : List Tile) → length others ≡ length tiles → AreTilesWithMore comps tiles others
     → find (tile_has_too_few main comps) tiles ≡ None → find (tile_has_too_few main comps) others ≡ None
@@ -134,7 +134,7 @@ module _ (s other : Stream) (more : IsWithMore s other) where
 
   pub shapes_with_more : (t : ℕ) → shapes_of other t ≡ shapes_of s t
   shapes_with_more t =
-      shapes_same None (header_of other t) (header_of s t) other.main s.main (slots_alike (header_of other t) (header_of s t) (own_slots t)) (slots_alike other.main s.main main_slots) other.siz s.siz
+      shapes_same None None (header_of other t) (header_of s t) other.main s.main (slots_alike (header_of other t) (header_of s t) (own_slots t)) (slots_alike other.main s.main main_slots) other.siz s.siz
       (ap (λ (x : Siz). x.comps) more.siz) (λ comp. tt)
       ∙ none_changed (shapes_of s t)
 

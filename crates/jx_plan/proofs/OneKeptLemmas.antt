@@ -19,41 +19,52 @@ use Rattle.jx_gather.proofs.TotalLemmas.{geometry_fits}
 use Rattle.jx_plan.specs.declared.PartChoice.{PartChoice}
 use Rattle.jx_plan.specs.declared.faults.PlanFault.{PlanFault}
 use Rattle.jx_plan.specs.declared.faults.PlanFault.TheVariants as fault
-use Rattle.jx_plan.specs.Facts.{most_layers}
+use Rattle.jx_layers.specs.Causal.{first_broken}
+use Rattle.jx_layers.specs.Facts.{most_layers}
 use Rattle.jx_plan.specs.Fits.{Fits, IsUnfit, KeepsBlocks, first_zero}
 use Rattle.jx_plan.specs.Groups.{HasFewParts, HasManyParts, IsPartedAt, groups_of, most_parts}
 use Rattle.jx_plan.specs.Headers.{comp_written}
-use Rattle.jx_plan.specs.KeptFault.{HasKeptCause, IsFree}
+use Rattle.jx_plan.specs.KeptFault.{HasHeaderCause, HasKeptCause, IsFree}
 use Rattle.jx_plan.specs.Plan.{IsKeptPlan, IsPlan, MayBePlanned, Plan, asked_of, headers_with, most_packets}
 use Rattle.jx_plan.specs.Steps.{IsSameAt}
 use Rattle.jx_plan.specs.Wanted.{MayBeWanted, Wanted}
-use Rattle.jx_plan.proofs.CauseLemmas.{few_many, free_few, free_parts, one_parted, one_unfit, plan_free, same_choice, same_limit, unfit_fits}
+use Rattle.jx_plan.proofs.CauseLemmas.{broken_whole, few_many, free_few, free_parts, one_broken, one_parted, one_unfit, plan_free, plan_whole, same_choice, same_limit, unfit_fits}
 use Rattle.jx_plan.proofs.FitLemmas.{all_at, all_made}
 use Rattle.jx_plan.proofs.KeptLemmas.{few_most, headers_in_range, headers_pass, same_tiles, some_layers}
 
 -- ---- at most one
 module _ (s : Stream) (blocks : List Block) (w : Wanted) where
-  pub kept_or_not : (p : Plan) (e : PlanFault) → IsPlan p → IsKeptPlan s blocks w p → HasKeptCause s w e → e ≡ fault.NoMemory
-  kept_or_not p (fault.Choice number place) plan is (inl x) = absurd (unfit_fits s w.precincts number place x (plan_free s w (most_layers s) p is.stream is.wanted is.layers plan).fits)
-  kept_or_not p (fault.Choice number place) plan is (inr x) = absurd (free_parts s w (most_layers s) place (plan_free s w (most_layers s) p is.stream is.wanted is.layers plan) x.1)
-  kept_or_not p (fault.Limit number found) plan is x = absurd (free_few s w (most_layers s) found (plan_free s w (most_layers s) p is.stream is.wanted is.layers plan) x.1)
-  kept_or_not p fault.NoMemory plan is x = refl
+  headers_or_not : (p : Plan) (e : PlanFault) → IsPlan p → IsKeptPlan s blocks w p → HasHeaderCause s w e → e ≡ fault.NoMemory
+  headers_or_not p (fault.Choice number place) plan is (inl x) = absurd (unfit_fits s w.precincts number place x (plan_free s w (most_layers s) p is.stream is.wanted is.layers plan).fits)
+  headers_or_not p (fault.Choice number place) plan is (inr x) = absurd (free_parts s w (most_layers s) place (plan_free s w (most_layers s) p is.stream is.wanted is.layers plan) x.1)
+  headers_or_not p (fault.Limit number found) plan is x = absurd (free_few s w (most_layers s) found (plan_free s w (most_layers s) p is.stream is.wanted is.layers plan) x.1)
+  headers_or_not p fault.NoMemory plan is x = refl
 
-module _ (s : Stream) (w : Wanted) where
-  pub one_kept_cause : (e f : PlanFault) → (e ≡ fault.NoMemory → ⊥) → (f ≡ fault.NoMemory → ⊥) → HasKeptCause s w e → HasKeptCause s w f → e ≡ f
-  one_kept_cause fault.NoMemory f ne nf he hf = absurd (ne refl)
-  one_kept_cause (fault.Choice a c) fault.NoMemory ne nf he hf = absurd (nf refl)
-  one_kept_cause (fault.Limit a c) fault.NoMemory ne nf he hf = absurd (nf refl)
-  one_kept_cause (fault.Choice a c) (fault.Choice b d) ne nf (inl x) (inl y) = one_unfit s w.precincts a c b d x y
-  one_kept_cause (fault.Choice a c) (fault.Choice b d) ne nf (inl x) (inr y) = absurd (unfit_fits s w.precincts a c x y.1.fits)
-  one_kept_cause (fault.Choice a c) (fault.Choice b d) ne nf (inr x) (inl y) = absurd (unfit_fits s w.precincts b d y x.1.fits)
-  one_kept_cause (fault.Choice a c) (fault.Choice b d) ne nf (inr x) (inr y) =
+  pub kept_or_not : (p : Plan) (e : PlanFault) → IsPlan p → IsKeptPlan s blocks w p → HasKeptCause s blocks w e → e ≡ fault.NoMemory
+  kept_or_not p e plan is (inl x) = absurd (broken_whole w.style blocks e x (plan_whole blocks w p is.blocks_are is.wanted plan))
+  kept_or_not p e plan is (inr x) = headers_or_not p e plan is x.1
+
+module _ (s : Stream) (blocks : List Block) (w : Wanted) where
+  one_header_cause : (e f : PlanFault) → (e ≡ fault.NoMemory → ⊥) → (f ≡ fault.NoMemory → ⊥) → HasHeaderCause s w e → HasHeaderCause s w f → e ≡ f
+  one_header_cause fault.NoMemory f ne nf he hf = absurd (ne refl)
+  one_header_cause (fault.Choice a c) fault.NoMemory ne nf he hf = absurd (nf refl)
+  one_header_cause (fault.Limit a c) fault.NoMemory ne nf he hf = absurd (nf refl)
+  one_header_cause (fault.Choice a c) (fault.Choice b d) ne nf (inl x) (inl y) = one_unfit s w.precincts a c b d x y
+  one_header_cause (fault.Choice a c) (fault.Choice b d) ne nf (inl x) (inr y) = absurd (unfit_fits s w.precincts a c x y.1.fits)
+  one_header_cause (fault.Choice a c) (fault.Choice b d) ne nf (inr x) (inl y) = absurd (unfit_fits s w.precincts b d y x.1.fits)
+  one_header_cause (fault.Choice a c) (fault.Choice b d) ne nf (inr x) (inr y) =
       same_choice a b c d (x.0 ∙ sym y.0) (one_parted w.parts (headers_with w (most_layers s) s) c d x.1.many y.1.many)
-  one_kept_cause (fault.Choice a c) (fault.Limit b d) ne nf (inl x) hf = absurd (unfit_fits s w.precincts a c x hf.1.fits)
-  one_kept_cause (fault.Choice a c) (fault.Limit b d) ne nf (inr x) hf = absurd (few_many s w (most_layers s) c d x.1 hf.1)
-  one_kept_cause (fault.Limit a c) (fault.Choice b d) ne nf he (inl y) = absurd (unfit_fits s w.precincts b d y he.1.fits)
-  one_kept_cause (fault.Limit a c) (fault.Choice b d) ne nf he (inr y) = absurd (few_many s w (most_layers s) d c y.1 he.1)
-  one_kept_cause (fault.Limit a c) (fault.Limit b d) ne nf he hf = same_limit a b c d (he.0 ∙ sym hf.0) (he.1.count ∙ sym hf.1.count)
+  one_header_cause (fault.Choice a c) (fault.Limit b d) ne nf (inl x) hf = absurd (unfit_fits s w.precincts a c x hf.1.fits)
+  one_header_cause (fault.Choice a c) (fault.Limit b d) ne nf (inr x) hf = absurd (few_many s w (most_layers s) c d x.1 hf.1)
+  one_header_cause (fault.Limit a c) (fault.Choice b d) ne nf he (inl y) = absurd (unfit_fits s w.precincts b d y he.1.fits)
+  one_header_cause (fault.Limit a c) (fault.Choice b d) ne nf he (inr y) = absurd (few_many s w (most_layers s) d c y.1 he.1)
+  one_header_cause (fault.Limit a c) (fault.Limit b d) ne nf he hf = same_limit a b c d (he.0 ∙ sym hf.0) (he.1.count ∙ sym hf.1.count)
+
+  pub one_kept_cause : (e f : PlanFault) → (e ≡ fault.NoMemory → ⊥) → (f ≡ fault.NoMemory → ⊥) → HasKeptCause s blocks w e → HasKeptCause s blocks w f → e ≡ f
+  one_kept_cause e f ne nf (inl x) (inl y) = one_broken w.style blocks e f x y
+  one_kept_cause e f ne nf (inl x) (inr y) = absurd (broken_whole w.style blocks e x y.0)
+  one_kept_cause e f ne nf (inr x) (inl y) = absurd (broken_whole w.style blocks f y x.0)
+  one_kept_cause e f ne nf (inr x) (inr y) = one_header_cause e f ne nf x.1 y.1
 
 -- ---- and one
 abbrev Or : Type 0 → Type 0
@@ -125,7 +136,7 @@ parted_or parts s range none =
 
 module _ (s : Stream) (blocks : List Block) (w : Wanted) (may : MayBePlanned s blocks) (wanted : MayBeWanted w) where
   abbrev Answer : Type 0
-  Answer = IsFree s w (most_layers s) ⊎ ((e : PlanFault) × (e ≡ fault.NoMemory → ⊥) × HasKeptCause s w e)
+  Answer = IsFree s w (most_layers s) ⊎ ((e : PlanFault) × (e ≡ fault.NoMemory → ⊥) × HasHeaderCause s w e)
 
   by_parts : Fits w.precincts s → packet_total (headers_with w (most_layers s) s) ≤ most_packets → Answer
   by_parts fits few =
@@ -144,8 +155,22 @@ module _ (s : Stream) (blocks : List Block) (w : Wanted) (may : MayBePlanned s b
     | inr few ↦ by_parts fits few
   ]
 
-  pub kept_answer : Answer
-  kept_answer = elim (fits_or w.precincts s) [
+  header_answer : Answer
+  header_answer = elim (fits_or w.precincts s) [
     | inl fits ↦ by_packets fits
     | inr unfit ↦ inr (fault.Choice unfit.0 unfit.1, (λ e. absurd (cc)), inl unfit.2)
   ]
+
+  abbrev Verdict : Type 0
+  Verdict = ((first_broken w.style blocks ≡ None) × IsFree s w (most_layers s)) ⊎ ((e : PlanFault) × (e ≡ fault.NoMemory → ⊥) × HasKeptCause s blocks w e)
+
+  by_headers : first_broken w.style blocks ≡ None → Answer → Verdict
+  by_headers whole (inl free) = inl (whole, free)
+  by_headers whole (inr cause) = inr (cause.0, cause.1, inr (whole, cause.2))
+
+  by_planes : (o : Option ℕ) → first_broken w.style blocks ≡ o → Verdict
+  by_planes None whole = by_headers whole header_answer
+  by_planes (Some place) broken = inr (fault.Choice 1 place, (λ e. absurd (cc)), inl (refl, broken))
+
+  pub kept_answer : Verdict
+  kept_answer = by_planes (first_broken w.style blocks) refl

@@ -1,11 +1,13 @@
 -- The stream that is written is in range, and its headers stand in its file.
 use Rattle.std.proofs.Common.{◌≡◌, ◌∙◌, ◌<◌, ◌≤◌, ℕ, false, arith, List, [], ◌∷◌, map, length, get_or, refl, sym, ap, subst, nat_lt, Option, Some, None, inl, inr}
+use Rattle.std.specs.Prelude.{IfSome}
 use Rattle.std.specs.List.{All, find, flat_map}
 use Rattle.std.specs.Option.{option_or, option_map}
 use Rattle.std.proofs.lemmas.Bool.{cases_Bool}
 use Rattle.std.proofs.lemmas.List.{get_or-map, length-map}
 use Rattle.std.proofs.lemmas.Option.{slice_get-get_or}
 use Rattle.std.proofs.lemmas.List.Elements.{All-nil, All-cons, All-head, All-tail, All-map}
+use Rattle.jx_base.specs.declared.style.Style.{Style}
 use Rattle.jx_marker.specs.declared.Segment.{Segment}
 use Rattle.jx_marker.specs.declared.Segment.TheVariants as segment
 use Rattle.jx_marker.specs.declared.Siz.{Siz}
@@ -22,7 +24,7 @@ use Rattle.jx_stream.specs.declared.Stream.{Stream}
 use Rattle.jx_stream.specs.Tiles.{in_slot, entry_of, entry_in, or_list}
 use Rattle.jx_stream.specs.Params.{cod_in, tile_has_too_few, tile_planes, limit_4_of, cod_of, shape_or, shape_at, params_of, precincts_of, header_in, header_of}
 use Rattle.jx_stream.specs.First.{tiles_fault, lacks_default}
-use Rattle.jx_stream.specs.Shapes.{geometry, shape_in, shapes_of, size_of, no_size, tile_at, no_tile}
+use Rattle.jx_stream.specs.Shapes.{geometry, shape_in, shapes_of, size_of, no_size, style_of, tile_at, no_tile}
 use Rattle.jx_stream.specs.InRange.{StreamInRange}
 use Rattle.jx_stream.proofs.SegmentLemmas.{defaults_there}
 use Rattle.jx_stream.proofs.ShapeLemmas.{siz_is, shape_fits}
@@ -32,7 +34,7 @@ use Rattle.jx_plan.specs.Fits.{first_zero, tile_has_zero}
 use Rattle.jx_plan.specs.Standing.{IsNote, IsHeaded, HeadersStand}
 use Rattle.jx_plan.proofs.AlikeLemmas.{too_few_same, bands_same}
 use Rattle.jx_plan.proofs.WrittenLemmas.{slot_written, kind_written}
-use Rattle.jx_plan.proofs.StandLemmas.{segments_written, segments_more, order_kept}
+use Rattle.jx_plan.proofs.StandLemmas.{segments_written, segments_more, order_kept, style_kept}
 use Rattle.jx_plan.proofs.ZeroLemmas.{is_clear}
 use Rattle.jx_plan.proofs.StreamLemmas.{notes_aside, slots_alike, tile_slots, cod_slots, coded_at, shaped_at, shapes_stay, layers_are, style_stays, planes_stay, tile_is}
 
@@ -48,14 +50,14 @@ few_same : (a : Asked) (comps : ℕ) (main : List Segment) (t : Tile) → IsHead
     → tile_has_too_few (all_written a main) comps (tile_written a main t) ≡ tile_has_too_few main comps t
 unfolding tile_has_too_few
 few_same a comps main t h =
-    too_few_same a.precincts (tile_header a t) t.header (all_written a main) main (slots_alike a (tile_header a t) t.header (tile_slots a comps t h))
+    too_few_same a.precincts a.style (tile_header a t) t.header (all_written a main) main (slots_alike a (tile_header a t) t.header (tile_slots a comps t h))
     (slots_alike a (all_written a main) main (λ slot g. slot_written a slot main g)) comps
 
 planes_same : (a : Asked) (comps : ℕ) (main : List Segment) (t : Tile) → IsHeaded comps t
     → tile_planes (all_written a main) comps (tile_written a main t) ≡ tile_planes main comps t
 unfolding tile_planes
 planes_same a comps main t h =
-    bands_same a.precincts (tile_header a t) t.header (all_written a main) main (slots_alike a (tile_header a t) t.header (tile_slots a comps t h))
+    bands_same a.precincts a.style (tile_header a t) t.header (all_written a main) main (slots_alike a (tile_header a t) t.header (tile_slots a comps t h))
     (slots_alike a (all_written a main) main (λ slot g. slot_written a slot main g)) comps
 
 entries_kept : (a : Asked) (comps : ℕ) (main : List Segment) (tiles : List Tile) → All (IsHeaded comps) tiles → find (tile_has_too_few main comps) tiles ≡ None
@@ -135,6 +137,10 @@ shapes_in_range s stand t c inside =
     let within : c < length s.siz.comps = omega (arith, inside, shapes_length s t) in
     subst ShapeInRange (sym (shapes_at s t c no_shape within)) (shape_in_range s stand t c within)
 
+small_style : (st : Option Style) → IfSome st (λ (style : Style). style.bits < 64) → IfSome st (λ (style : Style). style.bits < 256)
+small_style None h = tt
+small_style (Some style) h = omega (arith, h)
+
 -- a resolution is there where it was
 
 resolution_kept : (ps : Option (List ℕ)) (g h : Geometry) (c r : ℕ) → h.shapes ≡ map (comp_written ps) g.shapes → HasResolution h c r → HasResolution g c r
@@ -156,7 +162,7 @@ written_in_range a s may none stand r = record {
   shapes = λ t inside. shapes_in_range (stream_written a s) (written_stands a s may none stand) t;
   some_layers = λ t inside. omega (arith, layers_are a s stand t, may.some);
   few_layers = λ t inside. omega (arith, layers_are a s stand t, may.few);
-  style = λ t c inside. omega (arith, style_stays a s stand t c, r.style t c inside);
+  style = λ t c inside. omega (arith, style_stays a s stand t c, style_kept a.style (style_of s t c) 256 (small_style a.style may.style) (r.style t c inside));
   orders = λ t inside.
       subst (λ (xs : List Progression). All (λ (e : Progression). e.order ≤ 4) xs) (sym (entries_are a s stand t (omega (arith, r.tiles))))
       (All-cons (λ (e : Progression). e.order ≤ 4) (entry_of (cod_written a (coded_at s stand t).cod)) [] (order_kept a.order (coded_at s stand t).cod.order may.order (coded_at s stand t).fits.order)

@@ -6,6 +6,7 @@ use Rattle.std.proofs.lemmas.Bool.{cases_Bool, or_parts}
 use Rattle.std.proofs.lemmas.Bool.Decides.{nat_tests}
 use Rattle.std.proofs.lemmas.List.Elements.{All-head, All-tail}
 use Rattle.std.proofs.lemmas.List.FromFn.{get_or-map-range_with_len, length-map-range_with_len}
+use Rattle.jx_base.specs.declared.style.Style.{Style}
 use Rattle.jx_marker.specs.declared.Segment.{Segment}
 use Rattle.jx_marker.specs.declared.Segment.TheVariants as segment
 use Rattle.jx_marker.specs.declared.Shape.{Shape}
@@ -14,7 +15,7 @@ use Rattle.jx_stream.specs.declared.headers.HeaderKind.{HeaderKind}
 use Rattle.jx_stream.specs.declared.headers.HeaderKind.TheVariants.{Main, First, Later}
 use Rattle.jx_stream.specs.Headers.{slot_of, has_slot, is_second, stands_in, ends_header}
 use Rattle.jx_stream.specs.Spells.{IsSegment, AreSegments}
-use Rattle.jx_plan.specs.Headers.{Asked, MayBeAsked, item_at, bytes_for, order_written, shape_written, written, is_written, all_written}
+use Rattle.jx_plan.specs.Headers.{Asked, MayBeAsked, item_at, bytes_for, order_written, precincts_written, shape_written, style_written, written, is_written, all_written}
 use Rattle.jx_plan.specs.Fits.{shape_has_zero, has_zero}
 use Rattle.jx_plan.specs.Asides.{IsAside}
 use Rattle.jx_plan.proofs.WrittenLemmas.{slot_kept}
@@ -72,21 +73,36 @@ bytes_count [] levels = refl
 bytes_count (item ∷ items) levels =
     counted (length (bytes_for (item ∷ items) levels)) levels (length-map-range_with_len (item_at (item ∷ items)) 0 (levels + 1))
 
-shape_kept : (ps : Option (List ℕ)) (shape : Shape) → IfSome ps AreBytes → shape_has_zero ps shape ≡ false → ShapeInRange shape → ShapeInRange (shape_written ps shape)
-shape_kept None shape bytes h r = r
-shape_kept (Some items) shape bytes h r = record {
-  levels = r.levels;
-  least_xcb = r.least_xcb;
-  least_ycb = r.least_ycb;
-  xcb = r.xcb;
-  ycb = r.ycb;
-  area = r.area;
-  style = r.style;
-  wavelet = r.wavelet;
-  count = bytes_count items shape.levels;
-  precincts = bytes_fit items shape.levels bytes;
-  above = h;
-}
+pub style_kept : (st : Option Style) (bits most : ℕ) → IfSome st (λ (style : Style). style.bits < most) → bits < most → (style_written st (record { bits = bits })).bits < most
+style_kept None bits most h le = le
+style_kept (Some new) bits most h le = h
+
+-- the precincts of a shape, at its levels
+record AreFit (levels : ℕ) (bytes : List ℕ) : Type 0 where
+  count : length bytes ≡ (cond (length bytes == 0) 0 (1 + levels))
+  each : AreBytes bytes
+
+precincts_fit : (ps : Option (List ℕ)) (shape : Shape) → IfSome ps AreBytes → ShapeInRange shape → AreFit shape.levels (precincts_written ps shape)
+precincts_fit None shape bytes r = record { count = r.count; each = r.precincts }
+precincts_fit (Some items) shape bytes r = record { count = bytes_count items shape.levels; each = bytes_fit items shape.levels bytes }
+
+shape_kept : (ps : Option (List ℕ)) (st : Option Style) (shape : Shape) → IfSome ps AreBytes → IfSome st (λ (style : Style). style.bits < 64) → shape_has_zero ps shape ≡ false → ShapeInRange shape
+    → ShapeInRange (shape_written ps st shape)
+shape_kept ps st shape bytes few h r =
+    let fit : AreFit shape.levels (precincts_written ps shape) = precincts_fit ps shape bytes r in
+    record {
+      levels = r.levels;
+      least_xcb = r.least_xcb;
+      least_ycb = r.least_ycb;
+      xcb = r.xcb;
+      ycb = r.ycb;
+      area = r.area;
+      style = style_kept st shape.style 64 few r.style;
+      wavelet = r.wavelet;
+      count = fit.count;
+      precincts = fit.each;
+      above = h;
+    }
 
 pub order_kept : (o : Option ℕ) (order : ℕ) → IfSome o (λ (n : ℕ). n ≤ 4) → order ≤ 4 → order_written o order ≤ 4
 order_kept None order h le = le
@@ -98,9 +114,9 @@ range_kept a comps (segment.Cod cod) may h r = record {
   some = may.some;
   layers = may.few;
   transform = r.transform;
-  shape = shape_kept a.precincts cod.shape may.bytes h r.shape;
+  shape = shape_kept a.precincts a.style cod.shape may.bytes may.style h r.shape;
 }
-range_kept a comps (segment.Coc comp shape) may h r = record { index = r.index; word = r.word; fits = shape_kept a.precincts shape may.bytes h r.fits }
+range_kept a comps (segment.Coc comp shape) may h r = record { index = r.index; word = r.word; fits = shape_kept a.precincts a.style shape may.bytes may.style h r.fits }
 range_kept a comps _ may h r = r
 
 stands_kept : (kind : HeaderKind) (a : Asked) (s : Segment) → stands_in kind (written a s) ≡ stands_in kind s

@@ -1,10 +1,11 @@
--- The parameters of the stream that is written are those of its stream, but for the order, the layers and the precincts.
+-- The parameters of the stream that is written are those of its stream, but for the order, the layers, the precincts and the style.
 use Rattle.std.proofs.Common.{◌≡◌, ◌∙◌, ◌<◌, ◌+◌, ◌*◌, ℕ, zero, suc, true, List, [], ◌∷◌, map, length, refl, ap, Option, Some, None, inl}
 use Rattle.std.specs.List.{All, slice_get}
 use Rattle.std.specs.Option.{option_or, option_map, is_some}
 use Rattle.std.proofs.lemmas.List.{get_or-map}
 use Rattle.std.proofs.lemmas.List.Elements.{All-nil, All-head, All-tail, All-weaker}
 use Rattle.jx_base.specs.declared.names.Band.{Band}
+use Rattle.jx_base.specs.declared.style.Style.{Style}
 use Rattle.jx_marker.specs.declared.Segment.{Segment}
 use Rattle.jx_marker.specs.declared.Segment.TheVariants as segment
 use Rattle.jx_marker.specs.declared.Shape.{Shape}
@@ -22,7 +23,7 @@ use Rattle.jx_stream.specs.First.{canvas_of, tile_number}
 use Rattle.jx_stream.specs.Params.{chosen, precincts_of, shape_of, quant_of, shift_of, cod_in, cod_of, shape_or, quant_or, cod_or, params_from, params_by, header_in, header_of, params_of, step_of, planes_at}
 use Rattle.jx_stream.specs.Shapes.{shapes_of, geometry, layers_of, style_of, tile_at, no_tile}
 use Rattle.jx_stream.proofs.SegmentLemmas.{segments_fit, defaults_there, slot_chosen, or_chosen, slot_there, or_there, chosen_fits, chosen_there, IsShaped, shape_there, IsCoded, cod_there}
-use Rattle.jx_plan.specs.Headers.{Asked, cod_written, comp_written, exponents_written, params_written, precincts_written, shape_written, written, all_written, tile_header, tile_written, stream_written}
+use Rattle.jx_plan.specs.Headers.{Asked, cod_written, comp_written, exponents_written, params_written, precincts_written, shape_written, style_written, written, all_written, tile_header, tile_written, stream_written}
 use Rattle.jx_plan.specs.Asides.{IsAside}
 use Rattle.jx_plan.specs.Standing.{IsNote, IsHeaded, HeadersStand}
 use Rattle.jx_plan.proofs.AlikeLemmas.{HeadersAlike, IsThere, shape_same, quant_same, shift_same, step_same, planes_same, shapes_same}
@@ -49,8 +50,8 @@ header_slots a main comps [] t h slot g = refl
 header_slots a main comps (x ∷ xs) zero h slot g = tile_slots a comps x (All-head (IsHeaded comps) x xs h) slot g
 header_slots a main comps (x ∷ xs) (suc t) h slot g = header_slots a main comps xs t (All-tail (IsHeaded comps) x xs h) slot g
 
-pub slots_alike : (a : Asked) (xs ys : List Segment) → SlotsWritten a xs ys → HeadersAlike a.precincts xs ys
-slots_alike a xs ys h slot g = alike_to a.precincts (in_slot slot xs) (option_map (written a) (in_slot slot ys)) (in_slot slot ys) (h slot g) (alike_written a (in_slot slot ys))
+pub slots_alike : (a : Asked) (xs ys : List Segment) → SlotsWritten a xs ys → HeadersAlike a.precincts a.style xs ys
+slots_alike a xs ys h slot g = alike_to a.precincts a.style (in_slot slot xs) (option_map (written a) (in_slot slot ys)) (in_slot slot ys) (h slot g) (alike_written a (in_slot slot ys))
 
 or_map : (f : Segment → Segment) (x y : Option Segment) → option_or (option_map f x) (option_map f y) ≡ option_map f (option_or x y)
 or_map f None y = refl
@@ -69,14 +70,14 @@ exponents_are None shape = refl
 exponents_are (Some items) shape = refl
 
 both_asked : (a : Asked) (shape : Shape) (cod : Cod) (y : Option Quant) (n : ℕ)
-    → params_from (shape_written a.precincts shape) (cod_written a cod) (quant_or y) n ≡ params_written a (params_from shape cod (quant_or y) n)
+    → params_from (shape_written a.precincts a.style shape) (cod_written a cod) (quant_or y) n ≡ params_written a (params_from shape cod (quant_or y) n)
 both_asked a shape cod y n = rw (exponents_are a.precincts shape) refl
 
-all_asked : (a : Asked) (p q : Option Shape) (x y : Option Quant) (m n : ℕ) (u v : Option Cod) (shape : Shape) (cod : Cod) → p ≡ option_map (shape_written a.precincts) q → q ≡ Some shape
+all_asked : (a : Asked) (p q : Option Shape) (x y : Option Quant) (m n : ℕ) (u v : Option Cod) (shape : Shape) (cod : Cod) → p ≡ option_map (shape_written a.precincts a.style) q → q ≡ Some shape
     → x ≡ y → m ≡ n → u ≡ Some (cod_written a cod) → v ≡ Some cod
     → params_from (shape_or p) (cod_or u) (quant_or x) m ≡ params_written a (params_from (shape_or q) (cod_or v) (quant_or y) n)
 all_asked a p q x y m n u v shape cod e there d k f h =
-    let same : p ≡ Some (shape_written a.precincts shape) = e ∙ ap (option_map (shape_written a.precincts)) there in
+    let same : p ≡ Some (shape_written a.precincts a.style shape) = e ∙ ap (option_map (shape_written a.precincts a.style)) there in
     rw (same, there, d, k, f, h) (both_asked a shape cod y n)
 
 params_are : (a : Asked) (own other main there : List Segment) (c : ℕ) (shape : Shape) (cod : Cod) → SlotsWritten a own other → SlotsWritten a main there
@@ -85,7 +86,7 @@ params_are a own other main there c shape cod here mains shaped is =
     let h = slots_alike a own other here in
     let m = slots_alike a main there mains in
     all_asked a (shape_of own main c) (shape_of other there c) (quant_of own main c) (quant_of other there c) (shift_of own main c) (shift_of other there c) (cod_of own main) (cod_of other there) shape cod
-    (shape_same a.precincts own other main there h m c) shaped (quant_same a.precincts own other main there h m c) (shift_same a.precincts own other main there h m c)
+    (shape_same a.precincts a.style own other main there h m c) shaped (quant_same a.precincts a.style own other main there h m c) (shift_same a.precincts a.style own other main there h m c)
     (cod_slots a own other main there here mains ∙ ap (option_map (cod_written a)) is) is
 
 -- the COD of a tile
@@ -135,10 +136,10 @@ module _ (a : Asked) (s : Stream) (stand : HeadersStand s) where
   unfolding stream_written
   main_slots slot g = slot_written a slot s.main g
 
-  own_alike : (t : ℕ) → HeadersAlike a.precincts (header_of (stream_written a s) t) (header_of s t)
+  own_alike : (t : ℕ) → HeadersAlike a.precincts a.style (header_of (stream_written a s) t) (header_of s t)
   own_alike t = slots_alike a (header_of (stream_written a s) t) (header_of s t) (own_slots t)
 
-  main_alike : HeadersAlike a.precincts (stream_written a s).main s.main
+  main_alike : HeadersAlike a.precincts a.style (stream_written a s).main s.main
   main_alike = slots_alike a (stream_written a s).main s.main main_slots
 
   comps_same : (stream_written a s).siz.comps ≡ s.siz.comps
@@ -151,14 +152,14 @@ module _ (a : Asked) (s : Stream) (stand : HeadersStand s) where
       (shaped_at s stand t c).is (coded_at s stand t).is
 
   pub step_stays : (t c r : ℕ) (band : Band) → step_of (stream_written a s) t c r band ≡ step_of s t c r band
-  step_stays t c r band = step_same a.precincts (header_of (stream_written a s) t) (header_of s t) (stream_written a s).main s.main (own_alike t) main_alike c r band
+  step_stays t c r band = step_same a.precincts a.style (header_of (stream_written a s) t) (header_of s t) (stream_written a s).main s.main (own_alike t) main_alike c r band
 
   pub planes_stay : (t c r : ℕ) (band : Band) → planes_at (stream_written a s) t c r band ≡ planes_at s t c r band
-  planes_stay t c r band = planes_same a.precincts (header_of (stream_written a s) t) (header_of s t) (stream_written a s).main s.main (own_alike t) main_alike c r band
+  planes_stay t c r band = planes_same a.precincts a.style (header_of (stream_written a s) t) (header_of s t) (stream_written a s).main s.main (own_alike t) main_alike c r band
 
   pub shapes_stay : (t : ℕ) → shapes_of (stream_written a s) t ≡ map (comp_written a.precincts) (shapes_of s t)
   shapes_stay t =
-      shapes_same a.precincts (header_of (stream_written a s) t) (header_of s t) (stream_written a s).main s.main (own_alike t) main_alike (stream_written a s).siz s.siz comps_same
+      shapes_same a.precincts a.style (header_of (stream_written a s) t) (header_of s t) (stream_written a s).main s.main (own_alike t) main_alike (stream_written a s).siz s.siz comps_same
       (λ comp. there_by a.precincts (shape_of (header_of s t) s.main comp) (shaped_at s stand t comp).shape (shaped_at s stand t comp).is)
 
   pub geometry_stays : (t : ℕ) → geometry (stream_written a s) t ≡ record (geometry s t) { shapes = map (comp_written a.precincts) (shapes_of s t) }
@@ -168,8 +169,11 @@ module _ (a : Asked) (s : Stream) (stand : HeadersStand s) where
   pub layers_are : (t : ℕ) → layers_of (stream_written a s) t ≡ a.layers
   layers_are t = ap (λ (p : Params). p.layers) (params_stay t 0)
 
-  pub style_stays : (t c : ℕ) → style_of (stream_written a s) t c ≡ style_of s t c
+  pub style_stays : (t c : ℕ) → style_of (stream_written a s) t c ≡ (style_written a.style (record { bits = style_of s t c })).bits
   style_stays t c = ap (λ (p : Params). p.style.bits) (params_stay t c)
+
+  pub own_style : a.style ≡ None → (t c : ℕ) → style_of (stream_written a s) t c ≡ style_of s t c
+  own_style none t c = style_stays t c ∙ ap (λ (o : Option Style). (style_written o (record { bits = style_of s t c })).bits) none
 
   pub tile_is : (t : ℕ) → t < length s.tiles → tile_at (stream_written a s) t ≡ tile_written a s.main (tile_at s t)
   unfolding stream_written

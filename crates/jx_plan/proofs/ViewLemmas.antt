@@ -1,5 +1,5 @@
 -- Code-blocks, packets and ranges of the stream that is written, and of one with comments and packet lengths more.
-use Rattle.std.proofs.Common.{◌≡◌, ◌∙◌, ◌<◌, ◌≤◌, ◌*◌, ℕ, arith, List, length, refl, sym, subst}
+use Rattle.std.proofs.Common.{◌≡◌, ◌∙◌, ◌<◌, ◌≤◌, ◌*◌, ℕ, arith, List, length, refl, sym, subst, None}
 use Rattle.std.proofs.Math.Path.{fun_ext}
 use Rattle.jx_base.specs.declared.names.BlockName.{BlockName}
 use Rattle.jx_base.specs.Joined.{sum_below}
@@ -21,7 +21,7 @@ use Rattle.jx_plan.specs.Headers.{Asked, stream_written}
 use Rattle.jx_plan.specs.Asides.{IsWithMore}
 use Rattle.jx_plan.specs.Fits.{Fits}
 use Rattle.jx_plan.specs.Standing.{HeadersStand}
-use Rattle.jx_plan.proofs.StreamLemmas.{canvas_stays, shapes_stay, planes_stay, style_stays, layers_are}
+use Rattle.jx_plan.proofs.StreamLemmas.{canvas_stays, shapes_stay, planes_stay, own_style, layers_are}
 use Rattle.jx_plan.proofs.MoreLemmas.{canvas_with_more, shapes_with_more, planes_with_more, style_with_more, layers_with_more}
 use Rattle.jx_plan.proofs.BlockLemmas.{geometries, same_shapes, totals_same, blocks_same}
 
@@ -32,9 +32,10 @@ written_shapes a s fits stand t inside =
     let P : List CompShape → Type 0 = λ xs. AllSameBlocks (shapes_of s t) xs in
     subst P (sym (shapes_stay a s stand t)) (fits.blocks t inside)
 
-pub written_blocks : (a : Asked) (s : Stream) → Fits a.precincts s → HeadersStand s → ((t : ℕ) → t < tile_number s.siz → layers_of s t ≤ a.layers) → HaveSameBlocks s (stream_written a s)
-written_blocks a s fits stand enough =
-    blocks_same s (stream_written a s) (canvas_stays a s) (written_shapes a s fits stand) (planes_stay a s stand) (style_stays a s stand)
+pub written_blocks : (a : Asked) (s : Stream) → a.style ≡ None → Fits a.precincts s → HeadersStand s
+    → ((t : ℕ) → t < tile_number s.siz → layers_of s t ≤ a.layers) → HaveSameBlocks s (stream_written a s)
+written_blocks a s none fits stand enough =
+    blocks_same s (stream_written a s) (canvas_stays a s) (written_shapes a s fits stand) (planes_stay a s stand) (own_style a s stand none)
     (λ t inside. omega (arith, enough t inside, layers_are a s stand t))
 
 more_shapes : (s other : Stream) → IsWithMore s other → (t : ℕ) → t < tile_number s.siz → AllSameBlocks (shapes_of s t) (shapes_of other t)

@@ -1,4 +1,4 @@
--- What is written of a header says the same as the header, but for COD's marks, order and layers, and for precincts.
+-- What is written of a header says the same as the header, but for COD's marks, order and layers, and for precincts and style.
 use Rattle.std.proofs.Common.{◌≡◌, ◌+◌, ◌==◌, ℕ, true, false, arith, List, [], ◌∷◌, ◌++◌, map, refl, sym, Option, Some, None, inl, inr}
 use Rattle.std.specs.List.{All, range_with_len}
 use Rattle.std.specs.Option.{option_map}
@@ -6,6 +6,7 @@ use Rattle.std.proofs.lemmas.Bool.Decides.{nat_tests}
 use Rattle.std.proofs.lemmas.Bool.{cases_Bool}
 use Rattle.std.proofs.lemmas.List.FromFn.{map-range_with_len_more}
 use Rattle.std.proofs.lemmas.List.Elements.{All-head, All-tail}
+use Rattle.jx_base.specs.declared.style.Style.{Style}
 use Rattle.jx_marker.specs.declared.Segment.{Segment}
 use Rattle.jx_marker.specs.declared.Segment.TheVariants as segment
 use Rattle.jx_stream.specs.Headers.{slot_of, has_slot}
@@ -48,14 +49,14 @@ kind_written a slot (s ∷ ss) g = elim (cases_Bool (is_written s)) [
   | inr f ↦ rw (f, left_out s slot f g) (kind_written a slot ss g)
 ]
 
-pub alike_written : (a : Asked) (o : Option Segment) → AreAlike a.precincts (option_map (written a) o) o
+pub alike_written : (a : Asked) (o : Option Segment) → AreAlike a.precincts a.style (option_map (written a) o) o
 alike_written a None = record { some = refl; shape = refl; quant = refl; shift = refl }
 alike_written a (Some (segment.Cod cod)) = record { some = refl; shape = refl; quant = refl; shift = refl }
 alike_written a (Some (segment.Coc comp shape)) = record { some = refl; shape = refl; quant = refl; shift = refl }
 alike_written a (Some _) = record { some = refl; shape = refl; quant = refl; shift = refl }
 
-pub alike_to : (ps : Option (List ℕ)) (o p q : Option Segment) → o ≡ p → AreAlike ps p q → AreAlike ps o q
-alike_to ps o p q e h = rw e h
+pub alike_to : (ps : Option (List ℕ)) (st : Option Style) (o p q : Option Segment) → o ≡ p → AreAlike ps st p q → AreAlike ps st o q
+alike_to ps st o p q e h = rw e h
 
 pub cod_kept : (a : Asked) (o : Option Segment) → cod_in (option_map (written a) o) ≡ option_map (cod_written a) (cod_in o)
 cod_kept a None = refl
@@ -86,7 +87,7 @@ slot_more comps slot (s ∷ ss) more g h = elim (cases_Bool (slot_of s == slot))
   | inr past ↦ rw past (slot_more comps slot ss more g h)
 ]
 
-pub alike_self : (o : Option Segment) → AreAlike None o o
+pub alike_self : (o : Option Segment) → AreAlike None None o o
 alike_self o = record { some = refl; shape = sym (none_asked (shape_in o)); quant = refl; shift = refl }
 
 -- one byte of precincts more

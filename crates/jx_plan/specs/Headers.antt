@@ -1,8 +1,9 @@
 -- The headers of the file that is written, as a stream without tile data: Rsiz is 0; POC, PLT, PLM, TLM and skipped markers are left
 -- out; COD announces SOP and EPH as asked and has the order and the number of layers that are written; COD and COC have the precincts
--- that are asked; a tile's first header takes the COM segments of its later ones; all else is kept (ITU-T T.800, A.4 to A.9).
+-- and the style that are asked; a tile's first header takes the COM segments of its later ones; all else is kept (ITU-T T.800, A.4 to A.9).
 use Rattle.std.specs.Prelude.{◌≤◌, ◌<◌, ◌^◌, ℕ, ◌+◌, ◌-◌, min, Bool, true, false, List, [], ◌∷◌, ◌++◌, length, map, Option, None, Some, IfSome, slice_index_or}
 use Rattle.std.specs.List.{filter, range_with_len}
+use Rattle.jx_base.specs.declared.style.Style.{Style}
 use Rattle.jx_geom.specs.declared.shape.CompShape.{CompShape}
 use Rattle.jx_marker.specs.Ranges.{AreBytes}
 use Rattle.jx_marker.specs.declared.Shape.{Shape}
@@ -15,19 +16,21 @@ use Rattle.jx_stream.specs.declared.Params.{Params}
 use Rattle.jx_stream.specs.Params.{precincts_of}
 use Rattle.jx_stream.specs.Tiles.{in_slot, entry_in, or_list}
 
--- what is asked of the headers: order and precincts as Wanted has them
+-- what is asked of the headers: order, precincts and style as Wanted has them
 pub record Asked : Type 0 where
   pub sop : Bool
   pub eph : Bool
   pub layers : ℕ
   pub order : Option ℕ
   pub precincts : Option (List ℕ)
+  pub style : Option Style
 
 pub record MayBeAsked (a : Asked) : Type 0 where
   pub some : 1 ≤ a.layers
   pub few : a.layers < 2 ^ 16
   pub order : IfSome a.order (λ (order : ℕ). order ≤ 4)
   pub bytes : IfSome a.precincts AreBytes
+  pub style : IfSome a.style (λ (style : Style). style.bits < 64)
 
 -- the byte of a resolution in a list, of which the last item stands for all above
 abbrev pub item_at : List ℕ → ℕ → ℕ
@@ -42,8 +45,16 @@ abbrev pub precincts_written : Option (List ℕ) → Shape → List ℕ
 precincts_written None shape = shape.precincts
 precincts_written (Some items) shape = bytes_for items shape.levels
 
-abbrev pub shape_written : Option (List ℕ) → Shape → Shape
-shape_written precincts shape = record shape { precincts = precincts_written precincts shape }
+-- the style that is asked, else the one that is there
+abbrev pub style_written : Option Style → Style → Style
+style_written None style = style
+style_written (Some new) style = new
+
+abbrev pub shape_written : Option (List ℕ) → Option Style → Shape → Shape
+shape_written precincts style shape = record shape {
+  style = (style_written style (record { bits = shape.style })).bits;
+  precincts = precincts_written precincts shape;
+}
 
 -- an order that is asked, else the one that is there
 abbrev pub order_written : Option ℕ → ℕ → ℕ
@@ -51,11 +62,11 @@ order_written None order = order
 order_written (Some new) order = new
 
 abbrev pub cod_written : Asked → Cod → Cod
-cod_written a cod = record cod { sop = a.sop; eph = a.eph; order = order_written a.order cod.order; layers = a.layers; shape = shape_written a.precincts cod.shape }
+cod_written a cod = record cod { sop = a.sop; eph = a.eph; order = order_written a.order cod.order; layers = a.layers; shape = shape_written a.precincts a.style cod.shape }
 
 abbrev pub written : Asked → Segment → Segment
 written a (segment.Cod cod) = segment.Cod (cod_written a cod)
-written a (segment.Coc comp shape) = segment.Coc comp (shape_written a.precincts shape)
+written a (segment.Coc comp shape) = segment.Coc comp (shape_written a.precincts a.style shape)
 written a s = s
 
 abbrev pub is_written : Segment → Bool
@@ -91,13 +102,13 @@ stream_written a s = record {
   tiles = map (tile_written a s.main) s.tiles;
 }
 
--- what comes of the parameters of a tile-component: order, layers and the exponents of 33 resolutions
+-- what comes of the parameters of a tile-component: order, layers, the exponents of 33 resolutions, and style
 abbrev pub exponents_written : Option (List ℕ) → ℕ → List ℕ → List ℕ
 exponents_written None levels exponents = exponents
 exponents_written (Some items) levels exponents = precincts_of (bytes_for items levels)
 
 abbrev pub params_written : Asked → Params → Params
-params_written a p = record p { order = order_written a.order p.order; layers = a.layers; precincts = exponents_written a.precincts p.levels p.precincts }
+params_written a p = record p { order = order_written a.order p.order; layers = a.layers; precincts = exponents_written a.precincts p.levels p.precincts; style = style_written a.style p.style }
 
 -- and of its shape
 abbrev pub comp_written : Option (List ℕ) → CompShape → CompShape

@@ -1,8 +1,3 @@
-pub mod Rule
-pub mod Texts
-pub mod Cuts
-pub mod Planners
-pub mod Layers
 pub mod Headers
 pub mod Wanted
 pub mod Choices
@@ -11,11 +6,8 @@ pub mod Groups
 pub mod Standing
 pub mod Asides
 pub mod ReadBack
-pub mod Sent
-pub mod Crowded
-pub mod Facts
-pub mod Keeping
 pub mod Plan
+pub mod Meaning
 pub mod KeptFault
 pub mod Planned
 pub mod Steps

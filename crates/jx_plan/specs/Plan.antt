@@ -1,8 +1,9 @@
 -- What is planned of a codestream before a byte of it is written: its headers, the number of layers, and what is asked of each
 -- code-block.
-use Rattle.std.specs.Prelude.{◌≡◌, ◌<◌, ◌≤◌, ◌^◌, ℕ, List, length, None, Some, slice_get}
+use Rattle.std.specs.Prelude.{◌≡◌, ◌<◌, ◌≤◌, ◌^◌, ℕ, List, length, map, Option, None, Some, slice_get}
 use Rattle.std.specs.List.{All}
 use Rattle.jx_base.specs.declared.pieces.Block.{Block}
+use Rattle.jx_base.specs.declared.style.Style.{Style}
 use Rattle.jx_base.specs.Sound.{IsSound}
 use Rattle.jx_stream.specs.declared.Stream.{Stream}
 use Rattle.jx_stream.specs.InRange.{StreamInRange}
@@ -11,9 +12,11 @@ use Rattle.jx_gather.specs.Totals.{packet_total, totals_fault}
 use Rattle.jx_block.specs.declared.job.Job.{Job}
 use Rattle.jx_block.specs.Jobs.{IsAsked}
 use Rattle.jx_block.specs.Recoding.{layer_ends}
+use Rattle.jx_block.specs.Written.{style_for, written_as}
 use Rattle.jx_stream.specs.First.{tile_number}
-use Rattle.jx_plan.specs.Crowded.{IsLowestCrowded}
-use Rattle.jx_plan.specs.Facts.{most_layers}
+use Rattle.jx_layers.specs.Causal.{first_broken}
+use Rattle.jx_layers.specs.Crowded.{IsLowestCrowded}
+use Rattle.jx_layers.specs.Facts.{most_layers}
 use Rattle.jx_plan.specs.Fits.{Fits}
 use Rattle.jx_plan.specs.Groups.{HasFewParts}
 use Rattle.jx_plan.specs.Headers.{Asked, stream_written}
@@ -30,7 +33,7 @@ pub record MayBePlanned (s : Stream) (blocks : List Block) : Type 0 where
 
 -- the headers that are written
 abbrev pub asked_of : Wanted → ℕ → Asked
-asked_of w layers = record { sop = w.sop; eph = w.eph; layers = layers; order = w.order; precincts = w.precincts }
+asked_of w layers = record { sop = w.sop; eph = w.eph; layers = layers; order = w.order; precincts = w.precincts; style = w.style }
 
 abbrev pub headers_with : Wanted → ℕ → Stream → Stream
 headers_with w layers s = stream_written (asked_of w layers) s
@@ -49,27 +52,33 @@ pub record Plan : Type 0 where
 abbrev pub headers_of : Plan → Stream
 headers_of p = headers_with p.wanted p.layers p.stream
 
--- what is asked of a block of a number, which is kept
-pub record IsJob (blocks : List Block) (number : ℕ) (job : Job) : Type 0 where
+-- what is asked of a block of a number
+pub record IsJob (style : Option Style) (blocks : List Block) (number : ℕ) (job : Job) : Type 0 where
   pub number_is : job.number ≡ number
   pub block_is : slice_get blocks number ≡ Some job.block.now
-  pub kept : job.style ≡ None
+  pub style_is : job.style ≡ style_for style job.block.now
   pub asked : IsAsked job.block.now job.style job.ends
 
 pub record IsPlan (p : Plan) : Type 0 where
   pub may : MayBePlanned p.stream p.blocks
   pub wanted : MayBeWanted p.wanted
+  -- choice 1
+  pub whole : first_broken p.wanted.style p.blocks ≡ None
   -- choices 3 and 2
   pub fits : Fits p.wanted.precincts p.stream
   pub some : 1 ≤ p.layers
   pub few : p.layers < 2 ^ 16
   pub packets : packet_total (headers_of p) ≤ most_packets
   pub all : length p.jobs ≡ length p.blocks
-  pub each : (number : ℕ) (job : Job) → slice_get p.jobs number ≡ Some job → IsJob p.blocks number job
+  pub each : (number : ℕ) (job : Job) → slice_get p.jobs number ≡ Some job → IsJob p.wanted.style p.blocks number job
   -- choice 4
   pub uncrowded : IsLowestCrowded p.jobs None
   -- choice 5
   pub parts : (t : ℕ) → t < tile_number p.stream.siz → HasFewParts p.wanted.parts (headers_of p) t
+
+-- the code-blocks as they are written, in the layers in which they were
+abbrev pub blocks_written : Wanted → List Block → List Block
+blocks_written w blocks = map (written_as w.style) blocks
 
 -- each block is sent in the layers in which it was
 abbrev pub KeepsLayers : List Job → Type 0

@@ -1,26 +1,28 @@
--- What is planned by a planner that was handed in, and why nothing is: choice 3; choice 2; choice 6, where no planner serves the words
+-- What is planned by a planner that was handed in, and why nothing is: choice 1; choice 3; choice 2; choice 6, where no planner serves the words
 -- or it makes no rule of them; limit 7; choice 4; choice 5.
 use Rattle.std.specs.Prelude.{◌≡◌, ◌⊎◌, ◌≤◌, ℕ, Bool, List, [], ◌∷◌, Option, None, Some, if◌then◌else◌}
 use Rattle.jx_base.specs.declared.pieces.Block.{Block}
+use Rattle.jx_base.specs.declared.style.Style.{Style}
 use Rattle.jx_block.specs.declared.job.Job.{Job}
 use Rattle.jx_stream.specs.declared.Stream.{Stream}
 use Rattle.jx_gather.specs.Totals.{packet_total}
-use Rattle.jx_plan.specs.declared.StreamFacts.{StreamFacts}
+use Rattle.jx_layers.specs.declared.StreamFacts.{StreamFacts}
 use Rattle.jx_plan.specs.declared.faults.PlanFault.{PlanFault}
 use Rattle.jx_plan.specs.declared.faults.PlanFault.TheVariants as fault
-use Rattle.jx_plan.specs.Rule.{Rule, layers_by}
-use Rattle.jx_plan.specs.Layers.{AreJobs}
-use Rattle.jx_plan.specs.Crowded.{IsLowestCrowded}
-use Rattle.jx_plan.specs.Facts.{facts_of}
+use Rattle.jx_layers.specs.Causal.{first_broken}
+use Rattle.jx_layers.specs.Rule.{Rule, layers_by}
+use Rattle.jx_layers.specs.Layers.{AreJobs}
+use Rattle.jx_layers.specs.Crowded.{IsLowestCrowded}
+use Rattle.jx_layers.specs.Facts.{facts_of}
 use Rattle.jx_plan.specs.Fits.{AreUnfit, Fits}
-use Rattle.jx_plan.specs.KeptFault.{HasManyPartsAt, PassesPackets}
+use Rattle.jx_plan.specs.KeptFault.{HasManyPartsAt, IsPlaneBroken, PassesPackets}
 use Rattle.jx_plan.specs.Plan.{Plan, headers_with, most_packets}
 use Rattle.jx_plan.specs.Wanted.{Wanted}
 
 -- so many layers and these jobs, by the rule that there is
-abbrev pub ArePlanned : Option Rule → StreamFacts → List Block → ℕ → List Job → Type 0
-ArePlanned None facts blocks layers jobs = ⊥
-ArePlanned (Some r) facts blocks layers jobs = (layers ≡ layers_by r facts) × (1 ≤ layers) × AreJobs r layers blocks jobs
+abbrev pub ArePlanned : Option Style → Option Rule → StreamFacts → List Block → ℕ → List Job → Type 0
+ArePlanned style None facts blocks layers jobs = ⊥
+ArePlanned style (Some r) facts blocks layers jobs = (layers ≡ layers_by r facts) × (1 ≤ layers) × AreJobs style r layers blocks jobs
 
 -- without a rule the fault is choice 6, with one it is want of memory
 abbrev pub IsUnplanned : Option Rule → PlanFault → Type 0
@@ -42,7 +44,7 @@ pub record IsPlannedBy (r : Rule) (s : Stream) (blocks : List Block) (w : Wanted
   pub blocks_are : p.blocks ≡ blocks
   pub wanted : p.wanted ≡ w
   pub layers : p.layers ≡ layers_of_rule r s blocks
-  pub jobs : AreJobs r p.layers blocks p.jobs
+  pub jobs : AreJobs w.style r p.layers blocks p.jobs
 
 -- by the rule that there is
 abbrev pub IsPlanned : Option Rule → Stream → List Block → Wanted → Plan → Type 0
@@ -54,14 +56,14 @@ pub record IsCrowdedAt (r : Rule) (s : Stream) (blocks : List Block) (w : Wanted
   pub fits : Fits w.precincts s
   pub few : packet_total (headers_with w (layers_of_rule r s blocks) s) ≤ most_packets
   pub jobs : List Job
-  pub jobs_are : AreJobs r (layers_of_rule r s blocks) blocks jobs
+  pub jobs_are : AreJobs w.style r (layers_of_rule r s blocks) blocks jobs
   pub lowest : IsLowestCrowded jobs (Some place)
 
 -- choice 5: the same, and no block is crowded
 pub record IsPartedBy (r : Rule) (s : Stream) (blocks : List Block) (w : Wanted) (place : ℕ) : Type 0 where
   pub many : HasManyPartsAt s w (layers_of_rule r s blocks) place
   pub jobs : List Job
-  pub jobs_are : AreJobs r (layers_of_rule r s blocks) blocks jobs
+  pub jobs_are : AreJobs w.style r (layers_of_rule r s blocks) blocks jobs
   pub uncrowded : IsLowestCrowded jobs None
 
 -- why nothing is planned by a rule
@@ -75,6 +77,10 @@ abbrev pub LacksPlan : Option Rule → Stream → List Block → Wanted → Plan
 LacksPlan None s blocks w e = Fits w.precincts s × (e ≡ fault.Choice 6 0)
 LacksPlan (Some r) s blocks w e = IsUnplannedBy r s blocks w e
 
+-- what comes after choice 1
+abbrev pub HasLaterCause : Option Rule → Stream → List Block → Wanted → PlanFault → Type 0
+HasLaterCause rule s blocks w e = AreUnfit s w.precincts e ⊎ LacksPlan rule s blocks w e
+
 -- of each rule and stream one cause at most; want of memory is free
 abbrev pub HasPlanCause : Option Rule → Stream → List Block → Wanted → PlanFault → Type 0
-HasPlanCause rule s blocks w e = AreUnfit s w.precincts e ⊎ LacksPlan rule s blocks w e
+HasPlanCause rule s blocks w e = IsPlaneBroken w.style blocks e ⊎ ((first_broken w.style blocks ≡ None) × HasLaterCause rule s blocks w e)

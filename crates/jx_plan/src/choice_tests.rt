@@ -1,10 +1,16 @@
-//! Plans that can't be had: precincts that don't fit, and too many tile-parts.
+//! Plans that can't be had: a causal bit within a plane, precincts that don't fit, and too many tile-parts; and the styles of jobs.
 
-ghost use Rattle.std.specs.Prelude.{IfOk};
-ghost use Rattle.jx_plan.specs.Wanted.{MayBeWanted};
+ghost use Rattle.std.specs.Prelude.{IfOk, IfSome};
+ghost use Rattle.jx_plan.specs.Plan.{MayBePlanned};
+ghost use Rattle.jx_plan.specs.Wanted.{MayBeStyle, MayBeWanted};
 
 use super::*;
-use crate::tests::{by_planner, file_of, kept};
+use crate::tests::{TILES, by_planner, file_of, kept};
+use jx_base::{Block, Style};
+use jx_block::Job;
+use jx_gather::gather;
+use jx_layers::{KeepLayers, LayerPlanner, OneLayer};
+use jx_stream::{Stream, read_stream};
 use std::alloc::{AllocError, Global};
 use std::test::Fail;
 
@@ -24,8 +30,22 @@ const LEVEL: &str = "
     FF90 000A 0001 0000001E 00 01 FF52 000C 00 00 0001 00 01 04 04 00 01 FF93 0000
     FFD9";
 
-// No word is a planner's, and these precincts are asked.
-fn with_precincts(alloc: Global, bytes: &[u8]) -> Result<Options, AllocError>
+// One sample with a level and style 0, whose block has three passes of its nine planes; and the same with four passes.
+const THREE: &str = "
+    FF4F FF51 0029 0000 00000001 00000001 00000000 00000000 00000001 00000001 00000000 00000000 0001 07 01 01
+    FF52 000C 00 00 0001 00 01 04 04 00 01 FF5C 0007 40 40 40 40 40
+    FF90 000A 0000 00000012 00 01 FF93 F81001 00
+    FFD9";
+
+const FOUR: &str = "
+    FF4F FF51 0029 0000 00000001 00000001 00000000 00000000 00000001 00000001 00000000 00000000 0001 07 01 01
+    FF52 000C 00 00 0001 00 01 04 04 00 01 FF5C 0007 40 40 40 40 40
+    FF90 000A 0000 00000012 00 01 FF93 FA0801 00
+    FFD9";
+
+// No word is a planner's; these precincts are asked, and this style.
+fn with_precincts(alloc: Global, bytes: &[u8], style: Option<Style>) -> Result<Options, AllocError>
+    requires { IfSome style MayBeStyle }
     ensures { IfOk result (λ options. MayBeWanted options) }
 {
     let mut list = Vec::new(alloc);
@@ -33,6 +53,7 @@ fn with_precincts(alloc: Global, bytes: &[u8]) -> Result<Options, AllocError>
     Ok(Options {
         order: OrderChoice::Keep,
         precincts: PrecinctChoice::List(list),
+        style,
         layers: String::new(alloc),
         parts: PartChoice::None,
         sop: false,
@@ -41,14 +62,18 @@ fn with_precincts(alloc: Global, bytes: &[u8]) -> Result<Options, AllocError>
     })
 }
 
-// The fault of the plan that keeps the layers with these precincts, after that of a planner that has no rule for the words.
+// The fault of the plan that keeps the layers with these precincts and this style, after that of a planner that has no rule for
+// the words.
 fn faults_of(
     alloc: Global,
     text: &str,
     bytes: &[u8],
-) -> Result<(Option<PlanFault>, Option<PlanFault>), AllocError> {
+    style: Option<Style>,
+) -> Result<(Option<PlanFault>, Option<PlanFault>), AllocError>
+    requires { IfSome style MayBeStyle }
+{
     let file = file_of(alloc, text)?;
-    let options = with_precincts(alloc, bytes)?;
+    let options = with_precincts(alloc, bytes, style)?;
     let mut planner: Box<dyn LayerPlanner> = Box::new(alloc, OneLayer::new())?;
     let by_rule = match by_planner(alloc, &file, &options, &mut planner) {
         Some(Err(fault)) => Some(fault),
@@ -76,7 +101,7 @@ fn precincts_that_fit_and_others(rt: HostRuntime) -> Result<(), Fail> {
         (LEVEL, &[0x77, 0x07], Some((3, 1))),
     ];
     for (text, bytes, fault) in rows {
-        let (by_rule, by_layers) = faults_of(alloc, text, bytes)?;
+        let (by_rule, by_layers) = faults_of(alloc, text, bytes, None)?;
         let unfit = match fault {
             Some((number, place)) => Some(PlanFault::Choice { number, place }),
             None => None,
@@ -88,6 +113,133 @@ fn precincts_that_fit_and_others(rt: HostRuntime) -> Result<(), Fail> {
         };
         assert_eq!(rt; by_rule, Some(unfit.unwrap_or(ruleless)));
     }
+    Ok(())
+}
+
+// A style with the causal bit alone, or all but it.
+fn causal_style(causal: bool) -> Style
+    ensures { MayBeStyle result }
+{
+    Style {
+        bits: if causal { 0x08 } else { 0x27 },
+    }
+}
+
+// Choice 1 comes before 3 and 6. The second tile's block has two passes, the first one's has one.
+#[test]
+fn causal_bits_within_a_plane(rt: HostRuntime) -> Result<(), Fail> {
+    let alloc = rt.alloc();
+    let rows: [(&str, &[u8], bool, Option<(u8, u32)>); 7] = [
+        (THREE, &[], true, Some((1, 0))),
+        (THREE, &[0x77, 0x70], true, Some((1, 0))),
+        (THREE, &[0x77, 0x70], false, Some((3, 0))),
+        (THREE, &[], false, None),
+        (FOUR, &[], true, None),
+        (TILES, &[], true, Some((1, 1))),
+        (LEVELS, &[], true, None),
+    ];
+    for (text, bytes, causal, fault) in rows {
+        let style = causal_style(causal);
+        let (by_rule, by_layers) = faults_of(alloc, text, bytes, Some(style))?;
+        let unfit = match fault {
+            Some((number, place)) => Some(PlanFault::Choice { number, place }),
+            None => None,
+        };
+        assert_eq!(rt; by_layers, unfit);
+        let ruleless = PlanFault::Choice {
+            number: 6,
+            place: 0,
+        };
+        assert_eq!(rt; by_rule, Some(unfit.unwrap_or(ruleless)));
+    }
+    Ok(())
+}
+
+fn styles_of(alloc: Global, jobs: &[Job<'_>]) -> Result<Vec<Option<Style>>, AllocError> {
+    let mut list = Vec::new(alloc);
+    for job in jobs {
+        list.push(job.style)?;
+    }
+    Ok(list)
+}
+
+// The styles of the jobs of the plan that keeps the layers, and of those of a planner's plan.
+fn planned_styles(
+    alloc: Global,
+    stream: &Stream,
+    blocks: &[Block<'_>],
+    options: &Options,
+    planner: &mut Box<dyn LayerPlanner>,
+) -> Result<(Vec<Option<Style>>, Vec<Option<Style>>), PlanFault>
+    requires may { MayBePlanned stream.now blocks.now }
+    requires wanted { MayBeWanted options.now }
+{
+    let by_layers = plan_kept(alloc, stream, blocks, options)?;
+    let by_rule = plan(alloc, stream, blocks, options, Some(planner))?;
+    let kept = styles_of(alloc, by_layers.jobs())?;
+    Ok((kept, styles_of(alloc, by_rule.jobs())?))
+}
+
+// The words of the planner that keeps, and this style.
+fn with_style(alloc: Global, style: Option<Style>) -> Result<Options, AllocError>
+    requires { IfSome style MayBeStyle }
+    ensures { IfOk result (λ options. MayBeWanted options) }
+{
+    let mut layers = String::new(alloc);
+    layers.push_str("keep")?;
+    Ok(Options {
+        order: OrderChoice::Keep,
+        precincts: PrecinctChoice::Keep,
+        style,
+        layers,
+        parts: PartChoice::None,
+        sop: false,
+        eph: false,
+        plt: false,
+    })
+}
+
+// The same of a file.
+#[tactic(auto, using(crate::proofs::KeptLemmas::gathered_may))]
+fn job_styles(
+    alloc: Global,
+    text: &str,
+    style: Option<Style>,
+) -> Result<(Vec<Option<Style>>, Vec<Option<Style>>), Fail>
+    requires { IfSome style MayBeStyle }
+{
+    let file = file_of(alloc, text)?;
+    let options = with_style(alloc, style)?;
+    let mut planner: Box<dyn LayerPlanner> = Box::new(alloc, KeepLayers::new())?;
+    if file.len() > 1 << 28 {
+        return Err("long")?;
+    }
+    let Ok(stream) = read_stream(alloc, &file) else {
+        return Err("headers refused")?;
+    };
+    let Ok(blocks) = gather(alloc, &file, &stream) else {
+        return Err("data refused")?;
+    };
+    match planned_styles(alloc, &stream, &blocks, &options, &mut planner) {
+        Ok(styles) => Ok(styles),
+        Err(_) => Err("not planned")?,
+    }
+}
+
+// The style is asked of a block that has another one; where all six bits are the same, or no style is asked, none is.
+#[test]
+fn styles_of_jobs(rt: HostRuntime) -> Result<(), Fail> {
+    let alloc = rt.alloc();
+    let causal = Some(Style { bits: 0x08 });
+    let (kept, planned) = job_styles(alloc, FOUR, causal)?;
+    assert_eq!(rt; kept.as_slice(), [causal].as_slice());
+    assert_eq!(rt; planned.as_slice(), [causal].as_slice());
+    let (kept, planned) = job_styles(alloc, THREE, Some(Style { bits: 0 }))?;
+    assert_eq!(rt; kept.as_slice(), [None].as_slice());
+    assert_eq!(rt; planned.as_slice(), [None].as_slice());
+    let (kept, planned) = job_styles(alloc, THREE, None)?;
+    assert_eq!(rt; kept.as_slice(), [None].as_slice());
+    assert_eq!(rt; planned.as_slice(), [None].as_slice());
     Ok(())
 }
 
@@ -115,6 +267,7 @@ fn by_layer(alloc: Global, words: &str) -> Result<Options, AllocError>
     Ok(Options {
         order: OrderChoice::Order(1),
         precincts: PrecinctChoice::Max,
+        style: None,
         layers,
         parts: PartChoice::Layer,
         sop: false,

@@ -49,6 +49,7 @@ fn written_with(
         layers,
         order: options.order.number(),
         precincts: options.precincts.bytes(),
+        style: options.style,
     };
     write_headers(alloc, stream, asked)
 }

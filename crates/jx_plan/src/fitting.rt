@@ -15,10 +15,10 @@ ghost use Rattle.jx_plan.specs.Headers.{bytes_for, comp_written, item_at};
 ghost use Rattle.jx_plan.specs.Standing.{HeadersStand};
 ghost use Rattle.jx_plan.specs.Steps.{IsKnown, IsSameAt, is_coding};
 
-use crate::facts::tile_count;
 use crate::{PlanFault, PrecinctChoice};
 use jx_base::NoMemory;
 use jx_geom::CompShape;
+use jx_layers::tile_count;
 use jx_marker::{Segment, Shape};
 use jx_stream::{MainView, Stream, Tile};
 use std::alloc::Global;

@@ -6,9 +6,9 @@ ghost use Rattle.std.specs.Option.{option_to_list};
 ghost use Rattle.jx_marker.specs.declared.Segment.{Segment};
 ghost use Rattle.jx_stream.specs.Headers.{slot_of};
 ghost use Rattle.jx_stream.specs.Tiles.{entry_in, in_slot, or_list};
-ghost use Rattle.jx_plan.specs.Headers.{all_written, bytes_for, cod_written, is_written, item_at, order_written, precincts_written, shape_written, stream_written, tile_written, written};
+ghost use Rattle.jx_plan.specs.Headers.{all_written, bytes_for, cod_written, is_written, item_at, order_written, precincts_written, shape_written, stream_written, style_written, tile_written, written};
 
-use jx_base::NoMemory;
+use jx_base::{NoMemory, Style};
 use jx_marker::{Bytes, Cod, Progression, Segment, Shape, Siz};
 use jx_stream::{Bodies, Entries, Segments, Stream, Tile, Tiles};
 use std::alloc::Global;
@@ -28,6 +28,8 @@ pub(crate) struct HeaderMarks<'a> {
     /// A byte of precincts for each resolution from 0 up, of which the last stands for all above; without bytes every exponent
     /// is 15; none where precincts are kept (Table A.21).
     pub precincts: Option<&'a [u8]>,
+    /// The style of all code-blocks, with bits 6 and 7 clear; none where each component keeps its own (Table A.19).
+    pub style: Option<Style>,
 }
 
 impl<'a> Model for HeaderMarks<'a> {
@@ -36,7 +38,7 @@ impl<'a> Model for HeaderMarks<'a> {
 
     ghost Value = { Asked };
 
-    ghost view = { λ marks. record { sop = marks.sop; eph = marks.eph; layers = marks.layers; order = marks.order; precincts = option_map (λ bytes. bytes.now) marks.precincts } };
+    ghost view = { λ marks. record { sop = marks.sop; eph = marks.eph; layers = marks.layers; order = marks.order; precincts = option_map (λ bytes. bytes.now) marks.precincts; style = marks.style } };
 }
 
 /// The segment is written: POC, packet and tile-part lengths and skipped markers aren't.
@@ -91,16 +93,26 @@ fn copy_precincts(alloc: Global, shape: &Shape, asked: &HeaderMarks<'_>) -> Resu
     }
 }
 
-/// A shape with the precincts that are asked.
+/// The style that is asked, else the one that is there.
+fn style_for(asked: Option<Style>, bits: u8) -> Style
+    ensures { result ≡ style_written asked (record { bits = bits }) }
+{
+    match asked {
+        Some(style) => style,
+        None => Style { bits },
+    }
+}
+
+/// A shape with the precincts and the style that are asked.
 fn copy_shape(alloc: Global, shape: &Shape, asked: &HeaderMarks<'_>) -> Result<Shape, NoMemory>
-    ensures { IfOk result (λ copy. copy ≡ shape_written asked.now.precincts shape.now) }
+    ensures { IfOk result (λ copy. copy ≡ shape_written asked.now.precincts asked.now.style shape.now) }
 {
     let precincts = copy_precincts(alloc, shape, asked)?;
     Ok(Shape {
         levels: shape.levels,
         xcb: shape.xcb,
         ycb: shape.ycb,
-        style: shape.style,
+        style: style_for(asked.style, shape.style).bits,
         wavelet: shape.wavelet,
         precincts,
     })
@@ -116,7 +128,7 @@ fn order_for(asked: Option<u8>, order: u8) -> u8
     }
 }
 
-/// COD with its marks, order, layers and precincts as asked.
+/// COD with its marks, order, layers, precincts and style as asked.
 fn copy_cod(alloc: Global, cod: &Cod, asked: &HeaderMarks<'_>) -> Result<Cod, NoMemory>
     ensures { IfOk result (λ copy. copy ≡ cod_written asked.now cod.now) }
 {
@@ -284,8 +296,8 @@ fn write_siz(siz: &Siz) -> Result<Siz, NoMemory>
 }
 
 /// The headers of the file that is written, as a stream without tile data: Rsiz is 0; POC, PLT, PLM, TLM and skipped
-/// markers are left out; each COD has SOP, EPH, order and layers as asked, and each COD and COC the precincts; a tile's
-/// first header takes the COM segments of its later ones; all else is kept. Time and memory follow the bytes of the
+/// markers are left out; each COD has SOP, EPH, order and layers as asked, and each COD and COC the precincts and the style; a
+/// tile's first header takes the COM segments of its later ones; all else is kept. Time and memory follow the bytes of the
 /// headers, the precincts that are written and the number of tiles.
 ///
 /// # Errors

@@ -1,17 +1,18 @@
 //! The plan that keeps each code-block in its layers.
 
-ghost use Rattle.std.specs.Prelude.{◌≡◌, ◌≤◌, ◌^◌, length, IfErr, IfOk};
-ghost use Rattle.jx_plan.specs.Facts.{most_layers};
+ghost use Rattle.std.specs.Prelude.{◌≡◌, ◌≤◌, ◌^◌, length, None, IfErr, IfOk};
+ghost use Rattle.jx_layers.specs.Causal.{first_broken};
+ghost use Rattle.jx_layers.specs.Facts.{most_layers};
 ghost use Rattle.jx_plan.specs.Fits.{Fits};
-ghost use Rattle.jx_plan.specs.KeptFault.{HasKeptCause};
+ghost use Rattle.jx_plan.specs.KeptFault.{HasHeaderCause, HasKeptCause};
 ghost use Rattle.jx_plan.specs.Plan.{IsKeptPlan, MayBePlanned};
 ghost use Rattle.jx_plan.specs.Wanted.{MayBeWanted};
 
 use crate::counting::{check_parts, plan_headers};
 use crate::fitting::check_precincts;
-use crate::keeping::keep_blocks;
-use crate::{Options, OutStream, PlanFault, facts_of};
+use crate::{Options, OutStream, PlanFault};
 use jx_base::Block;
+use jx_layers::{facts_of, first_broken, keep_blocks};
 use jx_stream::Stream;
 use std::alloc::Global;
 
@@ -25,16 +26,17 @@ fn plan_fitting<'a>(
 ) -> Result<OutStream<'a>, PlanFault>
     requires may { MayBePlanned stream.now blocks.now }
     requires wanted { MayBeWanted options.now }
+    requires whole { first_broken options.now.style blocks.now ≡ None }
     requires fits { Fits options.now.precincts stream.now }
     requires layers { layers ≡ most_layers stream.now }
     ensures planned { IfOk result (λ p. IsKeptPlan stream.entry.now blocks.entry.now options.entry.now p) }
-    ensures cause { IfErr result (λ e. HasKeptCause stream.entry.now options.entry.now e) }
+    ensures cause { IfErr result (λ e. HasHeaderCause stream.entry.now options.entry.now e) }
 {
     let written = match plan_headers(alloc, stream, options, layers) {
         Ok(written) => written,
         Err(fault) => return Err(fault),
     };
-    let jobs = keep_blocks(alloc, blocks)?;
+    let jobs = keep_blocks(alloc, blocks, options.style)?;
     match check_parts(alloc, stream, options, layers, &written) {
         Ok(()) => Ok(OutStream {
             stream,
@@ -54,9 +56,10 @@ fn plan_fitting<'a>(
 ///
 /// # Errors
 ///
-/// Choices 3 and 2 exactly as `check_precincts` says. Else limit 7 exactly where over 2^22 packets would be written, one for each
-/// precinct and layer. Else choice 5 exactly where a tile would have over 255 tile-parts, at the lowest such tile. `NoMemory`
-/// where memory is refused.
+/// Choice 1 exactly where a style is asked with another causal bit than that of a code-block whose passes end within a plane (ITU-T
+/// T.800, D.7), at the lowest such block. Else choices 3 and 2 exactly as `check_precincts` says. Else limit 7 exactly where over
+/// 2^22 packets would be written, one for each precinct and layer. Else choice 5 exactly where a tile would have over 255
+/// tile-parts, at the lowest such tile. `NoMemory` where memory is refused.
 pub fn plan_kept<'a>(
     alloc: Global,
     stream: &'a Stream,
@@ -66,8 +69,11 @@ pub fn plan_kept<'a>(
     requires may { MayBePlanned stream.now blocks.now }
     requires wanted { MayBeWanted options.now }
     ensures planned { IfOk result (λ p. IsKeptPlan stream.entry.now blocks.entry.now options.entry.now p) }
-    ensures cause { IfErr result (λ e. HasKeptCause stream.entry.now options.entry.now e) }
+    ensures cause { IfErr result (λ e. HasKeptCause stream.entry.now blocks.entry.now options.entry.now e) }
 {
+    if let Some(place) = first_broken(options.style, blocks) {
+        return Err(PlanFault::Choice { number: 1, place });
+    }
     if let Err(fault) = check_precincts(alloc, stream, &options.precincts) {
         return Err(fault);
     }

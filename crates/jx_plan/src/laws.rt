@@ -3,9 +3,11 @@
 ghost use Rattle.std.specs.Prelude.{◌≡◌, ◌≤◌, ◌<◌, ◌^◌, ◌++◌, ◌⊎◌, ◌∷◌, ℕ, List, [], None, Some, false, find, length, map, slice_get, Option};
 ghost use Rattle.std.specs.List.{All, Contains, list_any};
 ghost use Rattle.jx_base.specs.declared.names.Band.{Band};
+ghost use Rattle.jx_base.specs.declared.style.Style.{Style};
 ghost use Rattle.jx_marker.specs.declared.Segment.{Segment};
 ghost use Rattle.jx_stream.specs.declared.headers.HeaderKind.TheVariants.{First, Later};
 ghost use Rattle.jx_gather.specs.Another.{HaveSameBlocks};
+ghost use Rattle.jx_gather.specs.BlockOf.{AreBlocksOf};
 ghost use Rattle.jx_gather.specs.Gathered.{IsGathered, IsWhole};
 ghost use Rattle.jx_gather.specs.Written.{packets_in};
 ghost use Rattle.jx_gather.specs.Totals.{block_total, packet_total, totals_fault};
@@ -21,7 +23,7 @@ ghost use Rattle.jx_stream.specs.Shapes.{geometry, layers_of, shapes_of, style_o
 ghost use Rattle.jx_stream.specs.Spells.{AreSegments};
 ghost use Rattle.jx_stream.specs.Tiles.{entry_in, in_slot, joined, or_list, tile_from, tiles_of};
 ghost use Rattle.jx_plan.specs.Asides.{is_plt, IsAside, IsTileWithMore, IsWithMore};
-ghost use Rattle.jx_plan.specs.Headers.{Asked, MayBeAsked, all_written, cod_written, comp_written, params_written, stream_written, tile_written};
+ghost use Rattle.jx_plan.specs.Headers.{Asked, MayBeAsked, all_written, cod_written, comp_written, params_written, stream_written, style_written, tile_written};
 ghost use Rattle.jx_plan.specs.ReadBack.{HaveHeaders};
 ghost use Rattle.jx_plan.specs.Standing.{HeadersStand, IsHeaded};
 ghost use Rattle.jx_base.specs.declared.pieces.Block.{Block};
@@ -31,26 +33,33 @@ ghost use Rattle.jx_block.specs.declared.job.Job.{Job};
 ghost use Rattle.jx_order.specs.declared.names.PacketName.{PacketName};
 ghost use Rattle.jx_plan.specs.declared.PartChoice.{PartChoice};
 ghost use Rattle.jx_plan.specs.declared.PartChoice.TheVariants as part_choice;
-ghost use Rattle.jx_plan.specs.Facts.{most_layers};
+ghost use Rattle.jx_layers.specs.Facts.{most_layers};
 ghost use Rattle.jx_plan.specs.Fits.{Fits, first_zero};
 ghost use Rattle.jx_plan.specs.Groups.{groups_of, key_of};
 ghost use Rattle.jx_plan.specs.Wanted.{MayBeWanted, Wanted};
 ghost use Rattle.jx_plan.specs.declared.faults.PlanFault.{PlanFault};
 ghost use Rattle.jx_plan.specs.declared.faults.PlanFault.TheVariants as plan_fault;
 ghost use Rattle.jx_plan.specs.KeptFault.{HasKeptCause, IsFree};
-ghost use Rattle.jx_plan.specs.Layers.{AreJobs};
-ghost use Rattle.jx_plan.specs.Plan.{IsKeptPlan, IsPlan, KeepsLayers, MayBePlanned, Plan};
+ghost use Rattle.jx_layers.specs.Layers.{AreJobs};
+ghost use Rattle.jx_block.specs.Written.{is_wrong};
+ghost use Rattle.jx_layers.specs.Causal.{first_broken};
+ghost use Rattle.jx_plan.specs.Meaning.{meaning_of};
+ghost use Rattle.jx_plan.specs.Plan.{IsKeptPlan, IsPlan, KeepsLayers, MayBePlanned, Plan, blocks_written, headers_with};
 ghost use Rattle.jx_plan.specs.Planned.{HasPlanCause, IsPlanned, IsPlannedBy};
-ghost use Rattle.jx_plan.specs.Rule.{Rule};
-ghost use Rattle.jx_plan.specs.Rule.Rule.{Keep};
+ghost use Rattle.jx_layers.specs.Rule.{Rule};
+ghost use Rattle.jx_layers.specs.Rule.Rule.{Keep};
+
+use jx_block::laws::{written_in_own_layers, written_keeps_coefficients};
+use jx_layers::laws::breaks_are_told;
 
 /// The headers of a stream that was read stand in its file.
 pub fn read_headers_stand()
     ensures { (b : List ℕ) (s : Stream) → IsRead b s → HeadersStand s }
 {}
 
-/// What is written of headers that stand in a file stands in one too, with 1 to 65,535 layers and precincts that give no exponent 0
-/// above resolution 0: none of the rules 1 to 19 is violated (T.800, A.3 to A.9), and none of the limits 3 and 4 is passed.
+/// What is written of headers that stand in a file stands in one too, with 1 to 65,535 layers, precincts that give no exponent 0
+/// above resolution 0 and a style of six bits: none of the rules 1 to 19 is violated (T.800, A.3 to A.9), and none of the limits 3
+/// and 4 is passed.
 pub fn written_headers_stand()
     ensures { (a : Asked) (s : Stream) → MayBeAsked a → first_zero a.precincts s ≡ None → HeadersStand s → HeadersStand (stream_written a s) }
 {}
@@ -60,7 +69,7 @@ pub fn written_is_in_range()
     ensures { (a : Asked) (s : Stream) → MayBeAsked a → first_zero a.precincts s ≡ None → HeadersStand s → StreamInRange s → StreamInRange (stream_written a s) }
 {}
 
-/// The stream that is written has the parameters of its stream, but for the order, the layers and the precincts (T.800, A.6).
+/// The stream that is written has the parameters of its stream, but for the order, the layers, the precincts and the style (T.800, A.6).
 pub fn parameters_stay()
     ensures params { (a : Asked) (s : Stream) (t c : ℕ) → HeadersStand s → params_of (stream_written a s) t c ≡ params_written a (params_of s t c) }
     ensures steps { (a : Asked) (s : Stream) (t c r : ℕ) (band : Band) → HeadersStand s → step_of (stream_written a s) t c r band ≡ step_of s t c r band }
@@ -68,7 +77,7 @@ pub fn parameters_stay()
     ensures shapes { (a : Asked) (s : Stream) (t : ℕ) → HeadersStand s → shapes_of (stream_written a s) t ≡ map (comp_written a.precincts) (shapes_of s t) }
     ensures geometries { (a : Asked) (s : Stream) (t : ℕ) → HeadersStand s → geometry (stream_written a s) t ≡ record (geometry s t) { shapes = map (comp_written a.precincts) (shapes_of s t) } }
     ensures layers { (a : Asked) (s : Stream) (t : ℕ) → HeadersStand s → layers_of (stream_written a s) t ≡ a.layers }
-    ensures styles { (a : Asked) (s : Stream) (t c : ℕ) → HeadersStand s → style_of (stream_written a s) t c ≡ style_of s t c }
+    ensures styles { (a : Asked) (s : Stream) (t c : ℕ) → HeadersStand s → style_of (stream_written a s) t c ≡ (style_written a.style (record { bits = style_of s t c })).bits }
     ensures tiles { (a : Asked) (s : Stream) → tile_number (stream_written a s).siz ≡ tile_number s.siz }
 {}
 
@@ -101,13 +110,38 @@ pub fn view_stays_with_more()
         → planes_fault other.main (length other.siz.comps) other.tiles ≡ planes_fault s.main (length s.siz.comps) s.tiles }
 {}
 
-/// The stream that is written has the code-blocks of its stream, where it can have the precincts that are asked and no tile has fewer
-/// layers than it had (T.800, B.7). So has one with COM and PLT segments more.
+/// The stream that is written has the code-blocks of its stream, where it can have the precincts that are asked, its style isn't changed,
+/// and no tile has fewer layers than it had (T.800, B.7). So has one with COM and PLT segments more.
 pub fn blocks_stay()
-    ensures written { (a : Asked) (s : Stream) → Fits a.precincts s → HeadersStand s → ((t : ℕ) → t < tile_number s.siz → layers_of s t ≤ a.layers) → HaveSameBlocks s (stream_written a s) }
+    ensures written { (a : Asked) (s : Stream) → a.style ≡ None → Fits a.precincts s → HeadersStand s → ((t : ℕ) → t < tile_number s.siz → layers_of s t ≤ a.layers) → HaveSameBlocks s (stream_written a s) }
     ensures more { (s other : Stream) → IsWithMore s other → HaveSameBlocks s other }
     ensures through { (s between other : Stream) → HaveSameBlocks s between → HaveSameBlocks between other → HaveSameBlocks s other }
 {}
+
+/// Where a style is asked, its code-blocks are those of its stream as they are written in their own layers, if each of them may be asked
+/// for it and is right; and they are sound.
+pub fn written_blocks_stand()
+    ensures blocks { (w : Wanted) (layers : ℕ) (s : Stream) (blocks : List Block) → Fits w.precincts s → HeadersStand s → ((t : ℕ) → t < tile_number s.siz → layers_of s t ≤ layers)
+        → AreBlocksOf s blocks → All IsSound blocks → first_broken w.style blocks ≡ None → All (λ (b : Block). is_wrong w.style b ≡ false) blocks
+        → AreBlocksOf (headers_with w layers s) (blocks_written w blocks) }
+    ensures sound { (w : Wanted) (blocks : List Block) → All IsSound blocks → first_broken w.style blocks ≡ None → All IsSound (blocks_written w blocks) }
+    ensures kept { (w : Wanted) (s : Stream) (blocks : List Block) → w.style ≡ None → AreBlocksOf s blocks → All IsSound blocks → blocks_written w blocks ≡ blocks }
+{
+    written_in_own_layers();
+    breaks_are_told();
+}
+
+/// What is written means what was read: the canvas, the components, how they are transformed and quantized, and each coefficient with its
+/// decoded planes (T.800, A.5, A.6, D and E). So does a stream with COM and PLT segments more.
+pub fn meaning_stays()
+    ensures written { (w : Wanted) (layers : ℕ) (s : Stream) (blocks : List Block) → HeadersStand s → All IsSound blocks → first_broken w.style blocks ≡ None
+        → meaning_of (headers_with w layers s) (blocks_written w blocks) ≡ meaning_of s blocks }
+    ensures more { (s other : Stream) (blocks : List Block) → IsWithMore s other → meaning_of other blocks ≡ meaning_of s blocks }
+{
+    written_in_own_layers();
+    written_keeps_coefficients();
+    breaks_are_told();
+}
 
 /// The one entry of a tile that is written covers each of its packets (T.800, A.6.6 and B.12).
 pub fn written_is_covered()
@@ -133,9 +167,9 @@ pub fn written_is_read_back()
         → ((t : ℕ) → t < tile_number s.siz → HaveHeaders a (length s.siz.comps) (tile_at s t) (parts_of t parts)) → IsWithMore (stream_written a s) other }
 {}
 
-/// No POC and no PLT is written; the packets of a tile stand in the order of its COD, which has the marks, the order, the layers and
-/// the precincts that are asked (T.800, A.6.1 and A.6.6); and where its precincts fit, the limits 5 and 6 are those on its packets
-/// alone.
+/// No POC and no PLT is written; the packets of a tile stand in the order of its COD, which has the marks, the order, the layers, the
+/// precincts and the style that are asked (T.800, A.6.1 and A.6.6); and where its precincts fit, the limits 5 and 6 are those on its
+/// packets alone.
 pub fn written_headers_are_plain()
     ensures main { (a : Asked) (s : Stream) → HeadersStand s → joined (stream_written a s).main ≡ [] }
     ensures header { (a : Asked) (s : Stream) (t : ℕ) → HeadersStand s → MayBeAsked a → first_zero a.precincts s ≡ None → t < length s.tiles
@@ -156,12 +190,12 @@ pub fn gathered_may_be_planned()
 {}
 
 /// The planner that keeps sends each code-block in the layers in which it was, where its pieces lie in the layers that are planned. So
-/// what it plans is the plan that keeps the layers, and nothing but choices 3 and 2, limit 7, choice 5 or want of memory keeps it from one.
+/// what it plans is the plan that keeps the layers, and nothing but choices 1, 3 and 2, limit 7, choice 5 or want of memory keeps it from one.
 pub fn keep_keeps_layers()
-    ensures jobs { (layers : ℕ) (blocks : List Block) (jobs : List Job) → All IsSound blocks → All (λ (b : Block). All (λ (p : PieceValue). p.layer < layers) b.pieces) blocks
-        → AreJobs Keep layers blocks jobs → KeepsLayers jobs }
+    ensures jobs { (style : Option Style) (layers : ℕ) (blocks : List Block) (jobs : List Job) → All IsSound blocks → All (λ (b : Block). All (λ (p : PieceValue). p.layer < layers) b.pieces) blocks
+        → AreJobs style Keep layers blocks jobs → KeepsLayers jobs }
     ensures plan { (s : Stream) (blocks : List Block) → MayBePlanned s blocks → (w : Wanted) (p : Plan) → IsPlannedBy Keep s blocks w p → IsKeptPlan s blocks w p }
-    ensures fault { (s : Stream) (blocks : List Block) → MayBePlanned s blocks → (w : Wanted) (e : PlanFault) → HasPlanCause (Some Keep) s blocks w e → HasKeptCause s w e }
+    ensures fault { (s : Stream) (blocks : List Block) → MayBePlanned s blocks → (w : Wanted) (e : PlanFault) → HasPlanCause (Some Keep) s blocks w e → HasKeptCause s blocks w e }
 {}
 
 /// By a rule a stream has one answer, but for want of memory: a plan, or one cause for which nothing is planned.
@@ -186,8 +220,9 @@ pub fn groups_are_cut()
 
 /// A stream has one answer where its layers are kept, but for want of memory: nothing is in the way of its plan, or one cause is.
 pub fn one_kept_answer()
-    ensures planned { (s : Stream) (blocks : List Block) (w : Wanted) (p : Plan) (e : PlanFault) → IsPlan p → IsKeptPlan s blocks w p → HasKeptCause s w e → e ≡ plan_fault.NoMemory }
-    ensures cause { (s : Stream) (w : Wanted) (e f : PlanFault) → (e ≡ plan_fault.NoMemory → ⊥) → (f ≡ plan_fault.NoMemory → ⊥) → HasKeptCause s w e → HasKeptCause s w f → e ≡ f }
+    ensures planned { (s : Stream) (blocks : List Block) (w : Wanted) (p : Plan) (e : PlanFault) → IsPlan p → IsKeptPlan s blocks w p → HasKeptCause s blocks w e → e ≡ plan_fault.NoMemory }
+    ensures cause { (s : Stream) (blocks : List Block) (w : Wanted) (e f : PlanFault) → (e ≡ plan_fault.NoMemory → ⊥) → (f ≡ plan_fault.NoMemory → ⊥)
+        → HasKeptCause s blocks w e → HasKeptCause s blocks w f → e ≡ f }
     ensures some { (s : Stream) (blocks : List Block) (w : Wanted) → MayBePlanned s blocks → MayBeWanted w
-        → IsFree s w (most_layers s) ⊎ ((e : PlanFault) × (e ≡ plan_fault.NoMemory → ⊥) × HasKeptCause s w e) }
+        → ((first_broken w.style blocks ≡ None) × IsFree s w (most_layers s)) ⊎ ((e : PlanFault) × (e ≡ plan_fault.NoMemory → ⊥) × HasKeptCause s blocks w e) }
 {}

@@ -5,6 +5,7 @@ ghost use Rattle.jx_plan.specs.Choices.{bytes_in, lent, order_in};
 ghost use Rattle.jx_plan.specs.Wanted.{marks_of};
 
 use crate::{Marks, PartChoice};
+use jx_base::Style;
 use std::marker::Model;
 
 /// The progression order of the written file (ITU-T T.800, Table A.16).
@@ -35,6 +36,9 @@ pub struct Options {
     pub order: OrderChoice,
     /// The precincts.
     pub precincts: PrecinctChoice,
+    /// The style in which all code-blocks are coded (ITU-T T.800, Table A.19), with bits 4, 6 and 7 clear; none where each component
+    /// keeps its own.
+    pub style: Option<Style>,
     /// The words for the planners of layers.
     pub layers: String,
     /// Where tile-parts begin.
@@ -54,7 +58,7 @@ impl Model for Options {
 
     ghost Value = { Wanted };
 
-    ghost view = { λ o. record { order = order_in o.order; precincts = bytes_in o.precincts; layers = string_bytes o.layers; parts = o.parts; sop = o.sop; eph = o.eph; plt = o.plt } };
+    ghost view = { λ o. record { order = order_in o.order; precincts = bytes_in o.precincts; style = o.style; layers = string_bytes o.layers; parts = o.parts; sop = o.sop; eph = o.eph; plt = o.plt } };
 }
 
 impl OrderChoice {

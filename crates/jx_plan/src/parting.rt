@@ -12,9 +12,9 @@ ghost use Rattle.jx_gather.specs.Totals.{totals_fault};
 ghost use Rattle.jx_plan.specs.Groups.{HasFewParts, HasManyParts, IsPartedAt, groups_of, key_of, more_groups};
 
 use crate::PartChoice;
-use crate::facts::tile_count;
 use jx_base::NoMemory;
 use jx_geom::TileGeom;
+use jx_layers::tile_count;
 use jx_order::{PacketName, packets};
 use jx_stream::{MainView, Stream, Tile, TileView};
 use std::alloc::Global;

@@ -5,23 +5,24 @@ ghost use Rattle.std.specs.List.{All};
 ghost use Rattle.std.specs.Option.{option_map};
 ghost use Rattle.jx_base.specs.Sound.{IsSound};
 ghost use Rattle.jx_plan.specs.declared.faults.PlanFault.TheVariants as fault;
-ghost use Rattle.jx_plan.specs.Rule.{layers_by};
-ghost use Rattle.jx_plan.specs.Facts.{facts_of};
+ghost use Rattle.jx_layers.specs.Causal.{first_broken};
+ghost use Rattle.jx_layers.specs.Rule.{layers_by};
+ghost use Rattle.jx_layers.specs.Facts.{facts_of};
 ghost use Rattle.jx_plan.specs.Fits.{Fits};
 ghost use Rattle.jx_plan.specs.Plan.{IsJob, MayBePlanned};
-ghost use Rattle.jx_plan.specs.Planned.{ArePlanned, HasPlanCause, IsPlanned, IsUnplanned, chosen};
+ghost use Rattle.jx_plan.specs.Planned.{ArePlanned, HasLaterCause, HasPlanCause, IsPlanned, IsUnplanned, chosen};
 ghost use Rattle.jx_plan.specs.Steps.{IsTooMuch};
 ghost use Rattle.jx_plan.specs.Wanted.{MayBeWanted};
 ghost use Rattle.jx_block.specs.declared.job.Job.{Job as job_asked};
 
-use crate::asking::ask_jobs;
 use crate::counting::{check_parts, plan_headers};
-use crate::crowded::first_crowded;
 use crate::fitting::check_precincts;
-use crate::lending::shortened;
-use crate::{LayerPlanner, Options, OutStream, PlanFault, StreamFacts, facts_of};
-use jx_base::Block;
+use crate::{Options, OutStream, PlanFault};
+use jx_base::{Block, Style};
 use jx_block::Job;
+use jx_layers::{
+    LayerPlanner, StreamFacts, ask_jobs, facts_of, first_broken, first_crowded, shortened,
+};
 use jx_stream::Stream;
 use std::alloc::Global;
 
@@ -39,13 +40,14 @@ fn begin(planner: &mut Box<dyn LayerPlanner>, words: &str, facts: &StreamFacts) 
 fn plan_by<'a>(
     alloc: Global,
     blocks: &'a [Block<'a>],
+    style: Option<Style>,
     words: &str,
     facts: &StreamFacts,
     planner: &mut Box<dyn LayerPlanner>,
 ) -> Result<(u16, Vec<Job<'a>>), PlanFault>
     requires few { length blocks.now ≤ 2 ^ 20 }
     requires sound { All IsSound blocks.now }
-    ensures planned { IfOk result (λ p. ArePlanned (rule_of planner.old words.now facts.now) facts.now blocks.entry.now p.0 p.1.items) }
+    ensures planned { IfOk result (λ p. ArePlanned style (rule_of planner.old words.now facts.now) facts.now blocks.entry.now p.0 p.1.items) }
     ensures count { IfOk result (λ p. length p.1.items ≡ length blocks.entry.now) }
     ensures unplanned { IfErr result (λ e. IsUnplanned (rule_of planner.old words.now facts.now) e) }
 {
@@ -56,7 +58,7 @@ fn plan_by<'a>(
             place: 0,
         }),
     };
-    match ask_jobs(alloc, blocks, layers, planner) {
+    match ask_jobs(alloc, blocks, layers, style, planner) {
         Ok(jobs) => Ok((layers, jobs)),
         Err(_) => Err(PlanFault::NoMemory),
     }
@@ -69,18 +71,19 @@ fn plan_by<'a>(
 pub fn plan_layers<'a, 'b: 'a>(
     alloc: Global,
     blocks: &'a [Block<'b>],
+    style: Option<Style>,
     words: &str,
     facts: &StreamFacts,
     planner: Option<&mut Box<dyn LayerPlanner>>,
 ) -> Result<(u16, Vec<Job<'a>>), PlanFault>
     requires few { length blocks.now ≤ 2 ^ 20 }
     requires sound { All IsSound blocks.now }
-    ensures planned { IfOk result (λ p. MatchOption planner.entry ⊥ (λ b. ArePlanned (rule_of b.now words.now facts.now) facts.now blocks.entry.now p.0 p.1.items)) }
+    ensures planned { IfOk result (λ p. MatchOption planner.entry ⊥ (λ b. ArePlanned style (rule_of b.now words.now facts.now) facts.now blocks.entry.now p.0 p.1.items)) }
     ensures count { IfOk result (λ p. length p.1.items ≡ length blocks.entry.now) }
     ensures unplanned { IfErr result (λ e. MatchOption planner.entry (e ≡ fault.Choice 6 0) (λ b. IsUnplanned (rule_of b.now words.now facts.now) e)) }
 {
     match planner {
-        Some(planner) => plan_by(alloc, shortened(blocks), words, facts, planner),
+        Some(planner) => plan_by(alloc, shortened(blocks), style, words, facts, planner),
         None => Err(PlanFault::Choice {
             number: 6,
             place: 0,
@@ -99,22 +102,23 @@ fn does_serve(planner: &Box<dyn LayerPlanner>, words: &str) -> bool
 pub fn plan_first<'a, 'b: 'a>(
     alloc: Global,
     blocks: &'a [Block<'b>],
+    style: Option<Style>,
     words: &str,
     facts: &StreamFacts,
     planners: &mut [Box<dyn LayerPlanner>],
 ) -> Result<(u16, Vec<Job<'a>>), PlanFault>
     requires few { length blocks.now ≤ 2 ^ 20 }
     requires sound { All IsSound blocks.now }
-    ensures planned { IfOk result (λ p. ArePlanned (chosen (λ b. serves_text b words.now) (λ b. rule_of b words.now facts.now) planners.old) facts.now blocks.entry.now p.0 p.1.items) }
+    ensures planned { IfOk result (λ p. ArePlanned style (chosen (λ b. serves_text b words.now) (λ b. rule_of b words.now facts.now) planners.old) facts.now blocks.entry.now p.0 p.1.items) }
     ensures count { IfOk result (λ p. length p.1.items ≡ length blocks.entry.now) }
     ensures unplanned { IfErr result (λ e. IsUnplanned (chosen (λ b. serves_text b words.now) (λ b. rule_of b words.now facts.now) planners.old) e) }
 {
     for planner in planners.iter_mut() {
         if does_serve(planner, words) {
-            return plan_layers(alloc, blocks, words, facts, Some(planner));
+            return plan_layers(alloc, blocks, style, words, facts, Some(planner));
         }
     }
-    plan_layers(alloc, blocks, words, facts, None)
+    plan_layers(alloc, blocks, style, words, facts, None)
 }
 
 /// The plan of these layers and jobs, one for each block, of precincts that fit.
@@ -128,10 +132,11 @@ fn plan_jobs<'a>(
 ) -> Result<OutStream<'a>, PlanFault>
     requires may { MayBePlanned stream.now blocks.now }
     requires wanted { MayBeWanted options.now }
+    requires whole { first_broken options.now.style blocks.now ≡ None }
     requires fits { Fits options.now.precincts stream.now }
     requires some { 1 ≤ layers }
     requires all { length jobs.items ≡ length blocks.now }
-    requires each { (number : ℕ) (job : job_asked) → slice_get jobs.items number ≡ Some job → IsJob blocks.now number job }
+    requires each { (number : ℕ) (job : job_asked) → slice_get jobs.items number ≡ Some job → IsJob options.now.style blocks.now number job }
     ensures planned { IfOk result (λ p. p ≡ record { stream = stream.entry.now; blocks = blocks.entry.now; wanted = options.entry.now; layers = layers; jobs = jobs.entry.items }) }
     ensures cause { IfErr result (λ e. IsTooMuch stream.entry.now options.entry.now layers jobs.entry.items e) }
 {
@@ -165,12 +170,20 @@ fn plan_with<'a>(
 ) -> Result<OutStream<'a>, PlanFault>
     requires may { MayBePlanned stream.now blocks.now }
     requires wanted { MayBeWanted options.now }
+    requires whole { first_broken options.now.style blocks.now ≡ None }
     requires fits { Fits options.now.precincts stream.now }
     ensures planned { IfOk result (λ p. IsPlanned (rule_of planner.old options.entry.now.layers (facts_of stream.entry.now blocks.entry.now)) stream.entry.now blocks.entry.now options.entry.now p) }
-    ensures cause { IfErr result (λ e. HasPlanCause (rule_of planner.old options.entry.now.layers (facts_of stream.entry.now blocks.entry.now)) stream.entry.now blocks.entry.now options.entry.now e) }
+    ensures cause { IfErr result (λ e. HasLaterCause (rule_of planner.old options.entry.now.layers (facts_of stream.entry.now blocks.entry.now)) stream.entry.now blocks.entry.now options.entry.now e) }
 {
     let facts = facts_of(alloc, stream, blocks)?;
-    match plan_by(alloc, blocks, &options.layers, &facts, planner) {
+    match plan_by(
+        alloc,
+        blocks,
+        options.style,
+        &options.layers,
+        &facts,
+        planner,
+    ) {
         Ok((layers, jobs)) => plan_jobs(alloc, stream, blocks, options, layers, jobs),
         Err(fault) => Err(fault),
     }
@@ -182,11 +195,12 @@ fn plan_with<'a>(
 ///
 /// # Errors
 ///
-/// Choices 3 and 2 exactly as `check_precincts` says. Else choice 6 at 0 exactly where there is no planner, or it makes no rule of
-/// the words; after these nothing was asked. Else limit 7 exactly where over 2^22 packets would be written, one for each precinct
-/// and layer (ITU-T T.800, B.9), with their number. Else choice 4 exactly where some layer would have over 164 passes of a
-/// code-block (B.10.6, Table B.4), at the lowest such block. Else choice 5 exactly where a tile would have over 255 tile-parts
-/// (A.4.2), at the lowest such tile. `NoMemory` where memory is refused.
+/// Choice 1 exactly where a style is asked with another causal bit than that of a code-block whose passes end within a plane (ITU-T
+/// T.800, D.7), at the lowest such block. Else choices 3 and 2 exactly as `check_precincts` says. Else choice 6 at 0 exactly where
+/// there is no planner, or it makes no rule of the words; after these nothing was asked. Else limit 7 exactly where over 2^22
+/// packets would be written, one for each precinct and layer (B.9), with their number. Else choice 4 exactly where some layer would
+/// have over 164 passes of a code-block (B.10.6, Table B.4), at the lowest such block. Else choice 5 exactly where a tile would have
+/// over 255 tile-parts (A.4.2), at the lowest such tile. `NoMemory` where memory is refused.
 pub fn plan<'a>(
     alloc: Global,
     stream: &'a Stream,
@@ -199,6 +213,9 @@ pub fn plan<'a>(
     ensures planned { IfOk result (λ p. MatchOption planner.entry ⊥ (λ b. IsPlanned (rule_of b.now options.entry.now.layers (facts_of stream.entry.now blocks.entry.now)) stream.entry.now blocks.entry.now options.entry.now p)) }
     ensures cause { IfErr result (λ e. MatchOption planner.entry (HasPlanCause None stream.entry.now blocks.entry.now options.entry.now e) (λ b. HasPlanCause (rule_of b.now options.entry.now.layers (facts_of stream.entry.now blocks.entry.now)) stream.entry.now blocks.entry.now options.entry.now e)) }
 {
+    if let Some(place) = first_broken(options.style, blocks) {
+        return Err(PlanFault::Choice { number: 1, place });
+    }
     if let Err(fault) = check_precincts(alloc, stream, &options.precincts) {
         return Err(fault);
     }

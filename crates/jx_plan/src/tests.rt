@@ -6,9 +6,10 @@ ghost use Rattle.jx_plan.specs.Wanted.{MayBeWanted};
 
 use super::*;
 use headers::{HeaderMarks, write_headers};
-use jx_base::Block;
+use jx_base::{Block, Style};
 use jx_block::Job;
 use jx_gather::gather;
+use jx_layers::{LayerPlanner, OneLayer};
 use jx_marker::Segment;
 use jx_stream::{Stream, StreamFault, read_stream};
 use std::alloc::{AllocError, Global};
@@ -101,12 +102,26 @@ fn precincts_of(alloc: Global, segments: &[Segment]) -> Result<Vec<u8>, AllocErr
     Ok(bytes)
 }
 
+// The style of each COD and COC.
+fn header_styles(alloc: Global, segments: &[Segment]) -> Result<Vec<u8>, AllocError> {
+    let mut list = Vec::new(alloc);
+    for segment in segments {
+        match segment {
+            Segment::Cod(cod) => list.push(cod.shape.style)?,
+            Segment::Coc { comp: _, shape } => list.push(shape.style)?,
+            _ => {}
+        }
+    }
+    Ok(list)
+}
+
 // What is written of a file's headers, with SOP and three layers.
 fn written(
     alloc: Global,
     file: &[u8],
     order: Option<u8>,
     precincts: Option<&[u8]>,
+    style: Option<Style>,
 ) -> Result<Stream, StreamFault> {
     if file.len() > 1 << 28 {
         return Err(StreamFault::NoMemory);
@@ -118,6 +133,7 @@ fn written(
         layers: 3,
         order,
         precincts,
+        style,
     };
     let copy = write_headers(alloc, &stream, asked)?;
     Ok(copy)
@@ -127,7 +143,7 @@ fn written(
 fn headers_in_two_parts(rt: HostRuntime) -> Result<(), Fail> {
     let alloc = rt.alloc();
     let file = file_of(alloc, FILE)?;
-    let Ok(stream) = written(alloc, &file, None, None) else {
+    let Ok(stream) = written(alloc, &file, None, None, None) else {
         return Err("refused")?;
     };
     assert_eq!(rt; stream.siz.rsiz, 0);
@@ -151,7 +167,7 @@ fn headers_in_two_parts(rt: HostRuntime) -> Result<(), Fail> {
 fn order_and_precincts_of_headers(rt: HostRuntime) -> Result<(), Fail> {
     let alloc = rt.alloc();
     let file = file_of(alloc, FILE)?;
-    let Ok(stream) = written(alloc, &file, Some(4), Some(&[0x67, 0x55])) else {
+    let Ok(stream) = written(alloc, &file, Some(4), Some(&[0x67, 0x55]), None) else {
         return Err("refused")?;
     };
     let main = stream.main.as_slice();
@@ -167,8 +183,27 @@ fn order_and_precincts_of_headers(rt: HostRuntime) -> Result<(), Fail> {
     Ok(())
 }
 
+// The main COD has style 0, the tile's COC style 1.
+#[test]
+fn style_of_headers(rt: HostRuntime) -> Result<(), Fail> {
+    let alloc = rt.alloc();
+    let file = file_of(alloc, FILE)?;
+    for (style, main, own) in [(Some(Style { bits: 0x2F }), 0x2F, 0x2F), (None, 0, 1)] {
+        let Ok(stream) = written(alloc, &file, None, None, style) else {
+            return Err("refused")?;
+        };
+        let list = header_styles(alloc, stream.main.as_slice())?;
+        assert_eq!(rt; list.as_slice(), [main].as_slice());
+        for tile in stream.tiles.as_slice() {
+            let list = header_styles(alloc, tile.header.as_slice())?;
+            assert_eq!(rt; list.as_slice(), [own].as_slice());
+        }
+    }
+    Ok(())
+}
+
 // Two tiles of one sample, with a pass in the first's one layer, and one in each of the second's two, which its own COD says.
-const TILES: &str = "
+pub(crate) const TILES: &str = "
     FF4F FF51 0029 0000 00000002 00000001 00000000 00000000 00000001 00000001 00000000 00000000 0001 07 01 01
     FF52 000C 00 00 0001 00 00 04 04 00 01 FF5C 0004 40 40
     FF90 000A 0000 00000010 00 01 FF93 E101
@@ -184,6 +219,7 @@ pub(crate) fn options_of(alloc: Global, words: &str) -> Result<Options, AllocErr
     Ok(Options {
         order: OrderChoice::Keep,
         precincts: PrecinctChoice::Keep,
+        style: None,
         layers,
         parts: PartChoice::None,
         sop: false,

@@ -1,3 +1,5 @@
+use Rattle.std.proofs.Common.{ap}
+use Rattle.jx_plan.specs.Wanted.{Wanted}
 use Rattle.jx_plan.proofs.KeptLemmas.{few_blocks}
 use Rattle.jx_plan.proofs.PlannedLemmas.{planned_each}
 use Rattle.jx_plan.proofs.planning.plan_with.Goals as goal
@@ -10,4 +12,5 @@ plan_by-requires-clause-few g c = few_blocks c.args.stream.now c.args.blocks.now
 
 pub plan_jobs-requires-clause-each : goal.plan_jobs-requires-clause-each
 plan_jobs-requires-clause-each g c =
-    planned_each c.args.blocks.now _ _ c.in-Ok.layers c.in-Ok.jobs.items c.requires.may.sound c.in-Ok.ensures.planned
+    planned_each c.options.inside.style c.args.options.now.style c.args.blocks.now _ _ c.in-Ok.layers c.in-Ok.jobs.items (ap (λ (w : Wanted). w.style) c.options.view_is)
+    c.requires.may.sound c.requires.whole c.in-Ok.ensures.planned

@@ -1,0 +1,36 @@
+-- The search for a block of which a layer has too many passes.
+use Rattle.std.proofs.Common.{◌≡◌, ◌<◌, ◌≤◌, ◌+◌, ◌∙◌, ap, sym, subst, refl, arith, ℕ, zero, suc, List, [], ◌∷◌, length, inl, inr, slice_index_or, None, Some}
+use Rattle.std.specs.List.{slice_get}
+use Rattle.std.proofs.lemmas.Bool.{cases_lt}
+use Rattle.std.proofs.lemmas.Option.{slice_get-get_or}
+use Rattle.jx_block.specs.declared.job.Job.{Job}
+use Rattle.jx_layers.specs.Layers.{HasMany}
+use Rattle.jx_layers.specs.Crowded.{IsCrowded}
+
+-- a list has nothing past its end
+nothing_past : {X : Type 0} (xs : List X) (n : ℕ) → length xs ≤ n → slice_get xs n ≡ None
+nothing_past [] n le = refl
+nothing_past (x ∷ xs) zero le = absurd (omega arith)
+nothing_past (x ∷ xs) (suc n) le = nothing_past xs n (omega arith)
+
+-- none before n is crowded
+abbrev pub NoneBefore : List Job → ℕ → Type 0
+NoneBefore jobs n = (k : ℕ) → k < n → IsCrowded (slice_get jobs k) → ⊥
+
+pub none_crowded : (jobs : List Job) (n : ℕ) → length jobs ≤ n → NoneBefore jobs n → (k : ℕ) → IsCrowded (slice_get jobs k) → ⊥
+none_crowded jobs n le none k crowded = elim (cases_lt k n) [
+  | inl lt ↦ none k lt crowded
+  | inr ge ↦ subst IsCrowded (nothing_past jobs k (omega arith)) crowded
+]
+
+pub is_crowded : (jobs : List Job) (n : ℕ) (job : Job) → n < length jobs → job ≡ slice_index_or jobs n job → HasMany 0 job.ends → IsCrowded (slice_get jobs n)
+is_crowded jobs n job lt at many = subst IsCrowded (ap Some at ∙ sym (slice_get-get_or jobs n job lt)) many
+
+pub still_none : (jobs : List Job) (n : ℕ) (job : Job) → n < length jobs → job ≡ slice_index_or jobs n job → (HasMany 0 job.ends → ⊥) → NoneBefore jobs n → NoneBefore jobs (n + 1)
+still_none jobs n job lt at few none k below crowded = elim (cases_lt k n) [
+  | inl before ↦ none k before crowded
+  | inr ge ↦
+      let same : k ≡ n = omega arith in
+      let here : slice_get jobs k ≡ Some job = ap (λ m. slice_get jobs m) same ∙ slice_get-get_or jobs n job lt ∙ ap Some (sym at) in
+      few (subst IsCrowded here crowded)
+]

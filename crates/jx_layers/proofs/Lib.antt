@@ -1,0 +1,11 @@
+pub mod TextLemmas
+pub mod CutLemmas
+pub mod SpellLemmas
+pub mod SentLemmas
+pub mod LeftLemmas
+pub mod JobLemmas
+pub mod KeepingLemmas
+pub mod OneLemmas
+pub mod CrowdLemmas
+pub mod FactLemmas
+pub mod CausalLemmas

@@ -1,0 +1,10 @@
+pub mod Rule
+pub mod Texts
+pub mod Cuts
+pub mod Planners
+pub mod Layers
+pub mod Sent
+pub mod Crowded
+pub mod Facts
+pub mod Keeping
+pub mod Causal

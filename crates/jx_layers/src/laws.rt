@@ -1,0 +1,79 @@
+//! Laws over the definitions: which words say a rule, and which rule; that passes are put into layers in one way, that layers that
+//! are kept are those of the input, and which blocks may be asked for a style. They run no code.
+
+ghost use Rattle.std.specs.Prelude.{◌≡◌, ◌≤◌, ◌<◌, ℕ, List, true, false, Option, Some, None, slice_get};
+ghost use Rattle.std.specs.Option.{option_map};
+ghost use Rattle.std.specs.List.{All};
+ghost use Rattle.jx_base.specs.declared.pieces.Block.{Block};
+ghost use Rattle.jx_base.specs.declared.style.Style.{Style};
+ghost use Rattle.jx_base.specs.Pieces.{PieceValue};
+ghost use Rattle.jx_base.specs.Sound.{IsSound};
+ghost use Rattle.jx_block.specs.declared.LayerEnd.{LayerEnd};
+ghost use Rattle.jx_block.specs.declared.job.Job.{Job};
+ghost use Rattle.jx_block.specs.Jobs.{IsAsked, KeepsCausal};
+ghost use Rattle.jx_block.specs.Recoding.{layer_ends};
+ghost use Rattle.jx_block.specs.Written.{style_for};
+ghost use Rattle.jx_layers.specs.Causal.{breaks_plane, first_broken};
+ghost use Rattle.jx_layers.specs.Keeping.{IsKeptJob};
+ghost use Rattle.jx_layers.specs.declared.StreamFacts.{StreamFacts};
+ghost use Rattle.jx_layers.specs.Rule.{Rule};
+ghost use Rattle.jx_layers.specs.Rule.Rule.{Cuts, Keep, Planes};
+ghost use Rattle.jx_stream.specs.declared.Stream.{Stream};
+ghost use Rattle.jx_stream.specs.First.{tile_number};
+ghost use Rattle.jx_stream.specs.Shapes.{layers_of};
+ghost use Rattle.jx_layers.specs.Facts.{IsReached, most_layers, most_planes};
+ghost use Rattle.jx_layers.specs.Layers.{IsJobOf};
+ghost use Rattle.jx_layers.specs.Planners.{cuts_of, planes_of};
+ghost use Rattle.jx_layers.specs.Texts.{AreCuts, cuts_in, cuts_text, planes_in, planes_text};
+
+/// Words say passes at which to cut exactly where they spell 1 to 32 passes that rise from 1 to 220, and say no others.
+pub fn cuts_are_spelled()
+    ensures spelled { (list : List ℕ) → AreCuts list → cuts_in (cuts_text list) ≡ Some list }
+    ensures read { (text list : List ℕ) → cuts_in text ≡ Some list → AreCuts list × (text ≡ cuts_text list) }
+    ensures fits { (text : List ℕ) (facts : StreamFacts) → cuts_of text facts ≡ option_map Cuts (cuts_in text) }
+{}
+
+/// Words say a number of planes exactly where they spell one from 1 to 74, and say no other.
+pub fn planes_are_spelled()
+    ensures spelled { (q : ℕ) → 1 ≤ q → q ≤ 74 → planes_in (planes_text q) ≡ Some q }
+    ensures read { (text : List ℕ) (q : ℕ) → planes_in text ≡ Some q → (1 ≤ q) × (q ≤ 74) × (text ≡ planes_text q) }
+    ensures fits { (text : List ℕ) (facts : StreamFacts) → facts.planes < 256 → planes_of text facts ≡ option_map Planes (planes_in text) }
+{}
+
+/// What is asked of a block is determined: by a rule, all blocks and the block's number there is one list of layers. They
+/// are layers that are written.
+pub fn jobs_are_determined()
+    ensures one { (style : Option Style) (rule : Rule) (layers : ℕ) (blocks : List Block) (number : ℕ) (b : Block) (job other : Job)
+        → IsJobOf style rule layers blocks number b job → IsJobOf style rule layers blocks number b other → job.ends ≡ other.ends }
+    ensures written { (style : Option Style) (rule : Rule) (layers : ℕ) (blocks : List Block) (number : ℕ) (b : Block) (job : Job) → 1 ≤ layers
+        → IsJobOf style rule layers blocks number b job → All (λ (e : LayerEnd). e.layer < layers) job.ends }
+{}
+
+/// What is asked of a sound block may be asked of it, where the style doesn't change its causal bit within a plane.
+pub fn jobs_may_be_asked()
+    ensures ruled { (style : Option Style) (rule : Rule) (layers : ℕ) (blocks : List Block) (number : ℕ) (b : Block) (job : Job) → IsSound b
+        → breaks_plane style b ≡ false → IsJobOf style rule layers blocks number b job → IsAsked job.block.now job.style job.ends }
+    ensures kept { (style : Option Style) (blocks : List Block) (number : ℕ) (job : Job) → IsSound job.block.now
+        → breaks_plane style job.block.now ≡ false → IsKeptJob style blocks number job → IsAsked job.block.now job.style job.ends }
+{}
+
+/// The choice of a style is in the way of just those blocks that may not be asked for it; where it isn't, it is in the way of none.
+pub fn breaks_are_told()
+    ensures kept { (style : Option Style) (b : Block) → breaks_plane style b ≡ false → KeepsCausal b (style_for style b) }
+    ensures broken { (style : Option Style) (b : Block) → breaks_plane style b ≡ true → KeepsCausal b (style_for style b) → ⊥ }
+    ensures none { (style : Option Style) (blocks : List Block) → first_broken style blocks ≡ None → All (λ (b : Block). breaks_plane style b ≡ false) blocks }
+{}
+
+/// Layers that are kept are those in which a sound block's pieces lie, where there are as many.
+pub fn kept_layers_stay()
+    ensures { (style : Option Style) (layers : ℕ) (blocks : List Block) (number : ℕ) (b : Block) (job : Job) → 1 ≤ layers → IsSound b
+        → All (λ (p : PieceValue). p.layer < layers) b.pieces → IsJobOf style Keep layers blocks number b job → job.ends ≡ layer_ends b.pieces }
+{}
+
+/// The number of layers that a planner is told is that of some tile, and no tile has more; no block has more planes than the
+/// planner is told.
+pub fn facts_are_greatest()
+    ensures layers { (s : Stream) (t : ℕ) → t < tile_number s.siz → layers_of s t ≤ most_layers s }
+    ensures reached { (s : Stream) → 1 ≤ tile_number s.siz → IsReached (layers_of s) 0 (tile_number s.siz) (most_layers s) }
+    ensures planes { (blocks : List Block) (n : ℕ) (b : Block) → slice_get blocks n ≡ Some b → b.planes ≤ most_planes blocks }
+{}

@@ -1,0 +1,106 @@
+-- What a stream means stays, where it is written in another way, and with comments and packet lengths more.
+use Rattle.std.proofs.Common.{◌≡◌, ℕ, ◌+◌, ◌-◌, ◌==◌, if◌then◌else◌, Bool, true, false, cond, List, [], ◌∷◌, map, refl, ap, Option, None, Some}
+use Rattle.std.proofs.Math.Path.{fun_ext}
+use Rattle.std.specs.List.{All, find}
+use Rattle.std.specs.Option.{option_map}
+use Rattle.std.proofs.lemmas.List.Elements.{All-head, All-tail}
+use Rattle.jx_base.specs.declared.names.Band.{Band}
+use Rattle.jx_base.specs.declared.names.Rect.{Rect}
+use Rattle.jx_base.specs.declared.pieces.Block.{Block}
+use Rattle.jx_base.specs.declared.style.Style.{Style}
+use Rattle.jx_base.specs.Sound.{IsSound}
+use Rattle.jx_grid.specs.declared.coef.Coef.{Coef}
+use Rattle.jx_grid.specs.Cells.{Cells, coef_at}
+use Rattle.jx_block.specs.Jobs.{KeepsCausal}
+use Rattle.jx_block.specs.Written.{own_cells, style_for, written_as}
+use Rattle.jx_layers.specs.Causal.{first_broken}
+use Rattle.jx_marker.specs.declared.Siz.{Siz}
+use Rattle.jx_stream.specs.declared.Stream.{Stream}
+use Rattle.jx_stream.specs.Params.{params_of, step_of}
+use Rattle.jx_plan.specs.Asides.{IsWithMore}
+use Rattle.jx_plan.specs.Headers.{Asked, stream_written}
+use Rattle.jx_plan.specs.Meaning.{Component, Meaning, Place, component_of, lies_in, meaning_of, sample_at, sample_in}
+use Rattle.jx_plan.specs.Plan.{asked_of, blocks_written, headers_with}
+use Rattle.jx_plan.specs.Standing.{HeadersStand}
+use Rattle.jx_plan.specs.Wanted.{Wanted}
+use Rattle.jx_plan.proofs.BlocksWritten.{BreakLaws, MayBeIn, all_may}
+use Rattle.jx_plan.proofs.MoreLemmas.{params_with_more, step_with_more}
+use Rattle.jx_plan.proofs.StreamLemmas.{params_stay, step_stays}
+
+-- a block that is written keeps its place, its passes and its coefficients
+pub record CellLaws : Type 0 where
+  pub name : (asked : Option Style) (b : Block) → (written_as asked b).name ≡ b.name
+  pub rect : (asked : Option Style) (b : Block) → (written_as asked b).rect ≡ b.rect
+  pub zero : (asked : Option Style) (b : Block) → (written_as asked b).zero ≡ b.zero
+  pub passes : (asked : Option Style) (b : Block) → (written_as asked b).passes ≡ b.passes
+  pub cells : (asked : Option Style) (b : Block) → IsSound b → KeepsCausal b (style_for asked b) → own_cells (written_as asked b) ≡ own_cells b
+
+-- ---- the coefficient of a place
+lies_same : (p : Place) (b c : Block) → c.name ≡ b.name → c.rect ≡ b.rect → lies_in p c ≡ lies_in p b
+lies_same p b c name rect = rw (name, rect) refl
+
+abbrev sample_of : Place → Rect → ℕ → ℕ → Cells → Coef
+sample_of p rect passes none cells =
+    let c : Coef = coef_at cells (p.x - rect.x.low) (p.y - rect.y.low) in
+    record { negative = c.negative; bits = c.bits; planes = if passes == 0 then 0 else none + c.planes }
+
+of_same : (p : Place) (r q : Rect) (m n y z : ℕ) (u v : Cells) → r ≡ q → m ≡ n → y ≡ z → u ≡ v → sample_of p r m y u ≡ sample_of p q n z v
+of_same p r q m n y z u v e d h k = rw (e, d, h, k) refl
+
+sample_same : (p : Place) (b c : Block) → c.rect ≡ b.rect → c.passes ≡ b.passes → c.zero ≡ b.zero → own_cells c ≡ own_cells b → sample_in p c ≡ sample_in p b
+sample_same p b c rect passes none cells = of_same p c.rect b.rect c.passes b.passes c.zero b.zero (own_cells c) (own_cells b) rect passes none cells
+
+found_same : {X Y : Type 0} (g : X → Y) (x y : Bool) (c b : X) (m n : Option X) → x ≡ y → g c ≡ g b → option_map g m ≡ option_map g n
+    → option_map g (cond x (Some c) m) ≡ option_map g (cond y (Some b) n)
+found_same g x true c b m n e d h = rw e (ap Some d)
+found_same g x false c b m n e d h = rw e h
+
+module _ (laws : CellLaws) (asked : Option Style) (p : Place) where
+  abbrev f : Block → Block
+  f = written_as asked
+
+  own_sample : (b : Block) → MayBeIn asked b → sample_in p (f b) ≡ sample_in p b
+  own_sample b may = sample_same p b (f b) (laws.rect asked b) (laws.passes asked b) (laws.zero asked b) (laws.cells asked b may.sound may.causal)
+
+  samples_same : (blocks : List Block) → All (MayBeIn asked) blocks → sample_at (map f blocks) p ≡ sample_at blocks p
+  samples_same [] may = refl
+  samples_same (b ∷ blocks) may =
+      found_same (sample_in p) (lies_in p (f b)) (lies_in p b) (f b) b (find (lies_in p) (map f blocks)) (find (lies_in p) blocks)
+      (lies_same p b (f b) (laws.name asked b) (laws.rect asked b)) (own_sample b (All-head (MayBeIn asked) b blocks may)) (samples_same blocks (All-tail (MayBeIn asked) b blocks may))
+
+-- ---- all of it
+same_meaning : (u v : Siz) (f g : ℕ → ℕ → Component) (h k : ℕ → ℕ → ℕ → Band → ℕ × ℕ) (x y : Place → Option Coef) → u ≡ v → f ≡ g → h ≡ k → x ≡ y
+    → ◌≡◌ {A = Meaning} (record { siz = u; component = f; step = h; sample = x }) (record { siz = v; component = g; step = k; sample = y })
+same_meaning u v f g h k x y a b c d = rw (a, b, c, d) refl
+
+components_same : (s other : Stream) → ((t c : ℕ) → component_of (params_of other t c) ≡ component_of (params_of s t c))
+    → ◌≡◌ {A = ℕ → ℕ → Component} (λ t c. component_of (params_of other t c)) (λ t c. component_of (params_of s t c))
+components_same s other each = fun_ext (λ t. fun_ext (λ c. each t c))
+
+steps_same : (s other : Stream) → ((t c r : ℕ) (band : Band) → step_of other t c r band ≡ step_of s t c r band) → ◌≡◌ {A = ℕ → ℕ → ℕ → Band → ℕ × ℕ} (step_of other) (step_of s)
+steps_same s other each = fun_ext (λ t. fun_ext (λ c. fun_ext (λ r. fun_ext (λ band. each t c r band))))
+
+siz_same : (a : Asked) (s : Stream) → ◌≡◌ {A = Siz} (record (stream_written a s).siz { rsiz = 0 }) (record s.siz { rsiz = 0 })
+unfolding stream_written
+siz_same a s = refl
+
+pub meaning_written : CellLaws → BreakLaws → (w : Wanted) (layers : ℕ) (s : Stream) (blocks : List Block) → HeadersStand s → All IsSound blocks → first_broken w.style blocks ≡ None
+    → meaning_of (headers_with w layers s) (blocks_written w blocks) ≡ meaning_of s blocks
+unfolding meaning_of
+meaning_written laws breaks w layers s blocks stand sound none =
+    let a : Asked = asked_of w layers in
+    let other : Stream = headers_with w layers s in
+    same_meaning _ _ _ _ (step_of other) (step_of s) (sample_at (blocks_written w blocks)) (sample_at blocks)
+    (siz_same a s)
+    (components_same s other (λ t c. ap component_of (params_stay a s stand t c)))
+    (steps_same s other (step_stays a s stand))
+    (fun_ext (λ p. samples_same laws w.style p blocks (all_may breaks w.style blocks sound none)))
+
+pub meaning_with_more : (s other : Stream) (blocks : List Block) → IsWithMore s other → meaning_of other blocks ≡ meaning_of s blocks
+unfolding meaning_of
+meaning_with_more s other blocks more =
+    same_meaning _ _ _ _ (step_of other) (step_of s) (sample_at blocks) (sample_at blocks)
+    (ap (λ (x : Siz). record x { rsiz = 0 }) more.siz)
+    (components_same s other (λ t c. ap component_of (params_with_more s other more t c)))
+    (steps_same s other (step_with_more s other more))
+    refl

@@ -1,0 +1,5 @@
+use Rattle.jx_plan.proofs.KeptLemmas.{few_blocks}
+use Rattle.jx_plan.proofs.planning.plan.Goals as goal
+
+pub first_broken-requires : goal.first_broken-requires
+first_broken-requires g c = record { few = few_blocks c.args.stream.now c.args.blocks.now c.requires.may }
