@@ -1,7 +1,11 @@
 pub mod CommandLemmas
+pub mod FindLemmas
 pub mod ItemLemmas
 pub mod ListLemmas
 pub mod MadeLemmas
+pub mod NumberLemmas
 pub mod PartLemmas
 pub mod SpellLemmas
+pub mod StyleLemmas
+pub mod ValueLemmas
 pub mod WantedLemmas

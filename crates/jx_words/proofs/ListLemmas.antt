@@ -11,9 +11,9 @@ none_before None = refl
 none_before (Some more) = refl
 
 -- no byte so far
-pub begins : (done text : List ℕ) → done ≡ [] → goes_on done 33 (parts_of text) ≡ precincts_in text
+pub begins : (done text : List ℕ) → done ≡ [] → goes_on done 33 (parts_of 44 text) ≡ precincts_in text
 unfolding precincts_in
-begins done text is = ap (λ d. goes_on d 33 (parts_of text)) is ∙ none_before (items_in 33 (parts_of text))
+begins done text is = ap (λ d. goes_on d 33 (parts_of 44 text)) is ∙ none_before (items_in 33 (parts_of 44 text))
 
 -- a text that spells none
 pub refused : (done part : List ℕ) (parts more : List (List ℕ)) (room k : ℕ) (all : Option (List ℕ)) → room ≡ suc k → None ≡ item_in part → parts ≡ part ∷ more → goes_on done room parts ≡ all → None ≡ all
@@ -45,9 +45,9 @@ unfolding items_in
 full done [] all some so_far = absurd (omega arith)
 full done (part ∷ parts) all some so_far = so_far
 
-pub some_part : (text : List ℕ) → 1 ≤ length (parts_of text)
+pub some_part : (text : List ℕ) → 1 ≤ length (parts_of 44 text)
 unfolding parts_of
 some_part text = omega (arith, length-slice_split (λ b. eqb b 44) text)
 
-pub too_many : (done text : List ℕ) (room : ℕ) (all : Option (List ℕ)) → room ≡ 0 → goes_on done room (parts_of text) ≡ all → None ≡ all
-too_many done text room all none so_far = full done (parts_of text) all (some_part text) (ap (λ n. goes_on done n (parts_of text)) (sym none) ∙ so_far)
+pub too_many : (done text : List ℕ) (room : ℕ) (all : Option (List ℕ)) → room ≡ 0 → goes_on done room (parts_of 44 text) ≡ all → None ≡ all
+too_many done text room all none so_far = full done (parts_of 44 text) all (some_part text) (ap (λ n. goes_on done n (parts_of 44 text)) (sym none) ∙ so_far)

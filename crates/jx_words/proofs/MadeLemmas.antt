@@ -8,13 +8,17 @@ use Rattle.std.proofs.lemmas.List.{append_assoc}
 use Rattle.std.proofs.lemmas.Slice.Eq.{bytes_eq-Decides}
 use Rattle.clap.specs.Words.{fault_of}
 use Rattle.clap.proofs.OnLiterals.{clap_on_literals}
+use Rattle.jx_base.specs.declared.style.Style.{Style}
+use Rattle.jx_plan.specs.Wanted.{MayBeStyle}
 use Rattle.jx_plan.specs.declared.PartChoice.{PartChoice}
 use Rattle.jx_plan.specs.declared.PartChoice.TheVariants as parts
 use Rattle.jx_words.specs.Command.{transcode, with_flag, with_option, with_place}
-use Rattle.jx_words.specs.Values.{ArePrecincts, order_said, parts_said, precincts_in, precincts_said, precincts_text, value_in, whole_choices}
-use Rattle.jx_words.specs.Words.{Asks, Given, MayBeAsked, Request, Text, are_values, given_by, given_in, is_good, request_of, wanted_by}
+use Rattle.jx_words.specs.Values.{ArePrecincts, number_in, order_said, parts_said, precincts_in, precincts_said, precincts_text, style_said, style_text, value_in, whole_choices}
+use Rattle.jx_words.specs.Words.{Asks, Given, MayBeAsked, MayBeWork, Request, Text, Work, are_values, given_by, given_in, is_good, request_of, wanted_by, work_by}
 use Rattle.jx_words.proofs.ItemLemmas.{one_digit, two_digits}
+use Rattle.jx_words.proofs.NumberLemmas.{number_spelled}
 use Rattle.jx_words.proofs.SpellLemmas.{precincts_spelled, first_byte}
+use Rattle.jx_words.proofs.StyleLemmas.{style_spelled}
 
 -- ---- words, and what clap makes of them
 abbrev flag_words : Bool → Text → List Text → List Text
@@ -22,49 +26,36 @@ flag_words true flag words = flag ∷ words
 flag_words false flag words = words
 
 -- the words from the command's name on
-abbrev made_words : Text → Text → Text → Text → Text → Bool → Bool → Bool → List Text
-made_words from to order precincts parts sop eph plt =
-    codes "transcode" ∷ (codes "--order=" ++ order) ∷ (codes "--precincts=" ++ precincts) ∷ (codes "--tile-parts=" ++ parts)
-    ∷ flag_words sop (codes "--sop") (flag_words eph (codes "--eph") (flag_words plt (codes "--plt") (codes "--" ∷ from ∷ to ∷ [])))
+abbrev made_words : Given → Bool → Bool → Bool → List Text
+made_words g sop eph plt =
+    codes "transcode" ∷ (codes "--order=" ++ g.order) ∷ (codes "--precincts=" ++ g.precincts) ∷ (codes "--style=" ++ g.style) ∷ (codes "--tile-parts=" ++ g.parts)
+    ∷ (codes "--threads=" ++ g.threads) ∷ (codes "--window=" ++ g.window) ∷ (codes "--window-bytes=" ++ g.window_bytes)
+    ∷ flag_words sop (codes "--sop") (flag_words eph (codes "--eph") (flag_words plt (codes "--plt") (codes "--" ∷ g.from ∷ g.to ∷ [])))
 
-abbrev made_given : Text → Text → Text → Text → Text → Bool → Bool → Bool → Given
-made_given from to order precincts parts sop eph plt = record {
-  from = from;
-  to = to;
-  order = order;
-  precincts = precincts;
-  layers = codes "keep";
-  style = codes "keep";
-  parts = parts;
-  sop = sop;
-  eph = eph;
-  plt = plt;
-  threads = codes "1";
-  window = codes "64";
-  window_bytes = codes "268435456";
-}
+abbrev made_given : Given → Bool → Bool → Bool → Given
+made_given g sop eph plt = record g { layers = codes "keep"; sop = sop; eph = eph; plt = plt }
 
-made_taken : (from to order precincts parts : Text) (sop eph plt : Bool) → fault_of transcode (made_words from to order precincts parts sop eph plt) ≡ []
+made_taken : (g : Given) (sop eph plt : Bool) → fault_of transcode (made_words g sop eph plt) ≡ []
 unfolding clap_on_literals transcode with_flag with_option with_place
-made_taken from to order precincts parts true true true = refl
-made_taken from to order precincts parts true true false = refl
-made_taken from to order precincts parts true false true = refl
-made_taken from to order precincts parts true false false = refl
-made_taken from to order precincts parts false true true = refl
-made_taken from to order precincts parts false true false = refl
-made_taken from to order precincts parts false false true = refl
-made_taken from to order precincts parts false false false = refl
+made_taken g true true true = refl
+made_taken g true true false = refl
+made_taken g true false true = refl
+made_taken g true false false = refl
+made_taken g false true true = refl
+made_taken g false true false = refl
+made_taken g false false true = refl
+made_taken g false false false = refl
 
-made_found : (from to order precincts parts : Text) (sop eph plt : Bool) → given_in (made_words from to order precincts parts sop eph plt) ≡ made_given from to order precincts parts sop eph plt
+made_found : (g : Given) (sop eph plt : Bool) → given_in (made_words g sop eph plt) ≡ made_given g sop eph plt
 unfolding clap_on_literals transcode with_flag with_option with_place given_by
-made_found from to order precincts parts true true true = refl
-made_found from to order precincts parts true true false = refl
-made_found from to order precincts parts true false true = refl
-made_found from to order precincts parts true false false = refl
-made_found from to order precincts parts false true true = refl
-made_found from to order precincts parts false true false = refl
-made_found from to order precincts parts false false true = refl
-made_found from to order precincts parts false false false = refl
+made_found g true true true = refl
+made_found g true true false = refl
+made_found g true false true = refl
+made_found g true false false = refl
+made_found g false true true = refl
+made_found g false true false = refl
+made_found g false false true = refl
+made_found g false false false = refl
 
 -- ---- the words of values
 abbrev order_word : Option ℕ → Text
@@ -130,36 +121,73 @@ precincts_back (Some (byte ∷ bytes)) (inr are) =
     ap (λ o. option_or o (option_map Some (precincts_in (precincts_text (byte ∷ bytes))))) (not_listed (precincts_text (byte ∷ bytes)) (text_first byte bytes (first_byte byte bytes are.each)))
     ∙ ap (option_map Some) (precincts_spelled (byte ∷ bytes) are)
 
+style_word : Option Style → Text
+style_word None = codes "keep"
+style_word (Some style) = style_text style
+
+style_back : (style : Option Style) → IfSome style MayBeStyle → style_said (style_word style) ≡ Some style
+unfolding style_word
+style_back None may = refl
+style_back (Some style) may = style_spelled style may
+
 -- ---- all of it
 abbrev given_for : Request → Given
-given_for r = made_given r.from r.to (order_word r.wanted.order) (precincts_word r.wanted.precincts) (parts_word r.wanted.parts) r.wanted.sop r.wanted.eph r.wanted.plt
+given_for r = record {
+  from = r.from;
+  to = r.to;
+  order = order_word r.wanted.order;
+  precincts = precincts_word r.wanted.precincts;
+  layers = codes "keep";
+  style = style_word r.wanted.style;
+  parts = parts_word r.wanted.parts;
+  sop = r.wanted.sop;
+  eph = r.wanted.eph;
+  plt = r.wanted.plt;
+  threads = decimal r.work.threads;
+  window = decimal r.work.window;
+  window_bytes = decimal r.work.most;
+}
 
 abbrev words_for : Request → List Text
-words_for r = made_words r.from r.to (order_word r.wanted.order) (precincts_word r.wanted.precincts) (parts_word r.wanted.parts) r.wanted.sop r.wanted.eph r.wanted.plt
+words_for r = made_words (given_for r) r.wanted.sop r.wanted.eph r.wanted.plt
 
 found_for : (r : Request) → given_in (words_for r) ≡ given_for r
-found_for r = made_found r.from r.to (order_word r.wanted.order) (precincts_word r.wanted.precincts) (parts_word r.wanted.parts) r.wanted.sop r.wanted.eph r.wanted.plt
+found_for r = made_found (given_for r) r.wanted.sop r.wanted.eph r.wanted.plt
+
+threads_back : (w : Work) → MayBeWork w → number_in 64 (decimal w.threads) ≡ Some w.threads
+threads_back w may = number_spelled 64 w.threads (omega arith) may.some_threads may.few_threads
+
+window_back : (w : Work) → MayBeWork w → number_in 1024 (decimal w.window) ≡ Some w.window
+window_back w may = number_spelled 1024 w.window (omega arith) may.some_window may.few_window
+
+most_back : (w : Work) → MayBeWork w → number_in 268435456 (decimal w.most) ≡ Some w.most
+most_back w may = number_spelled 268435456 w.most (omega arith) may.some_most may.few_most
 
 values_good : (r : Request) → MayBeAsked r → are_values (given_for r) ≡ true
 unfolding are_values
-values_good r may = rw (order_back r.wanted.order may.order, precincts_back r.wanted.precincts may.precincts, parts_back r.wanted.parts) refl
+values_good r may =
+    rw (order_back r.wanted.order may.order, precincts_back r.wanted.precincts may.precincts, parts_back r.wanted.parts, style_back r.wanted.style may.style, threads_back r.work may.work, window_back r.work may.work, most_back r.work may.work) refl
 
 values_made : (r : Request) → MayBeAsked r → wanted_by (given_for r) ≡ r.wanted
 unfolding wanted_by
 values_made r may =
     let layered : record r.wanted { layers = codes "keep" } ≡ r.wanted = ap (λ (l : List ℕ). record r.wanted { layers = l }) (sym may.layers) in
-    rw (order_back r.wanted.order may.order, precincts_back r.wanted.precincts may.precincts, parts_back r.wanted.parts) layered
+    rw (order_back r.wanted.order may.order, precincts_back r.wanted.precincts may.precincts, parts_back r.wanted.parts, style_back r.wanted.style may.style) layered
+
+work_made : (r : Request) → MayBeAsked r → work_by (given_for r) ≡ r.work
+unfolding work_by
+work_made r may = rw (threads_back r.work may.work, window_back r.work may.work, most_back r.work may.work) refl
 
 made_good : (r : Request) → MayBeAsked r → is_good ([] ∷ words_for r) ≡ true
 unfolding is_good
 made_good r may =
-    let none : eqb (length (fault_of transcode (words_for r))) 0 ≡ true = rw (made_taken r.from r.to (order_word r.wanted.order) (precincts_word r.wanted.precincts) (parts_word r.wanted.parts) r.wanted.sop r.wanted.eph r.wanted.plt) refl in
+    let none : eqb (length (fault_of transcode (words_for r))) 0 ≡ true = rw (made_taken (given_for r) r.wanted.sop r.wanted.eph r.wanted.plt) refl in
     let values : are_values (given_in (words_for r)) ≡ true = rw (found_for r) (values_good r may) in
     rw (none, values) refl
 
 made_request : (r : Request) → MayBeAsked r → request_of ([] ∷ words_for r) ≡ r
 unfolding request_of
-made_request r may = rw (found_for r, values_made r may) refl
+made_request r may = rw (found_for r, values_made r may, work_made r may) refl
 
 pub has_words : (r : Request) → MayBeAsked r → Asks r
 has_words r may = record { words = [] ∷ words_for r; good = made_good r may; made = made_request r may }

@@ -1,10 +1,10 @@
 -- Which texts say precincts, and which precincts.
-use Rattle.std.proofs.Common.{◌≡◌, ◌<◌, ◌≤◌, ◌+◌, ◌/◌, ◌%◌, ◌∙◌, ap, sym, subst, refl, arith, ℕ, zero, suc, eqb, Bool, true, false, List, [], ◌∷◌, Option, None, Some, inl, inr, length, map, find, slice_index_or}
+use Rattle.std.proofs.Common.{◌≡◌, ◌<◌, ◌≤◌, ◌+◌, ◌/◌, ◌%◌, ◌∙◌, ap, sym, subst, refl, arith, ℕ, zero, suc, eqb, false, List, [], ◌∷◌, Option, None, Some, inl, inr, length, map, slice_index_or}
 use Rattle.std.specs.Str.{bytes_eq}
-use Rattle.std.specs.List.{All, range_with_len, join_with_byte, slice_split}
+use Rattle.std.specs.List.{All, join_with_byte, slice_split}
 use Rattle.std.specs.Option.{option_map}
 use Rattle.std.specs.Fmt.{decimal}
-use Rattle.std.proofs.lemmas.Bool.{cases_Bool, cases_lt, ne_eqb}
+use Rattle.std.proofs.lemmas.Bool.{cases_lt, ne_eqb}
 use Rattle.std.proofs.lemmas.Fmt.{decimal_injective}
 use Rattle.std.proofs.lemmas.List.{length-map}
 use Rattle.std.proofs.lemmas.List.Elements.{All-nil, All-cons, All-append}
@@ -13,36 +13,9 @@ use Rattle.std.proofs.lemmas.Slice.Eq.{bytes_eq-Decides}
 use Rattle.jx_base.proofs.Lists.{none_some, some_same}
 use Rattle.jx_marker.specs.Ranges.{AreBytes}
 use Rattle.jx_words.specs.Values.{ArePrecincts, in_front, item_in, item_text, items_in, parts_of, precincts_in, precincts_text}
+use Rattle.jx_words.proofs.FindLemmas.{find_in, find_first}
 use Rattle.jx_words.proofs.ItemLemmas.{one_digit, two_digits}
 use Rattle.jx_words.proofs.ListLemmas.{some_part}
-
--- ---- a number that is found in a range
-find_in : (f : ℕ → Bool) (a k n : ℕ) → find f (range_with_len a k) ≡ Some n → (a ≤ n) × (n < a + k) × (f n ≡ true)
-find_in f a zero n e = absurd (none_some n e)
-find_in f a (suc k) n e = elim (cases_Bool (f a)) [
-  | inl t ↦
-      let is : a ≡ n = some_same a n (rw t at e) in
-      (omega (arith, is), omega (arith, is), subst (λ m. f m ≡ true) is t)
-  | inr t ↦
-      let more = find_in f (a + 1) k n (rw t at e) in
-      (omega (arith, more.0), omega (arith, more.1), more.2)
-]
-
-find_first : (f : ℕ → Bool) (a k n : ℕ) → a ≤ n → n < a + k → f n ≡ true → ((m : ℕ) → m < n → f m ≡ true → ⊥) → find f (range_with_len a k) ≡ Some n
-find_first f a zero n from below test first = absurd (omega arith)
-find_first f a (suc k) n from below test first = elim (cases_Bool (f a)) [
-  | inl t ↦ elim (cases_lt a n) [
-    | inl lt ↦ absurd (first a lt t)
-    | inr ge ↦ let is : a ≡ n = omega arith in rw t (ap Some is)
-  ]
-  | inr t ↦ elim (cases_lt a n) [
-    | inl lt ↦ rw t (find_first f (a + 1) k n (omega arith) (omega arith) test first)
-    | inr ge ↦
-        let is : a ≡ n = omega arith in
-        let no_test : f n ≡ false = subst (λ m. f m ≡ false) is t in
-        absurd (cc)
-  ]
-]
 
 -- ---- digits are neither commas nor `x`
 abbrev HasNo : ℕ → List ℕ → Type 0
@@ -106,7 +79,7 @@ rest_bytes byte bytes each = λ k d lt. each (suc k) d (omega arith)
 pub first_byte : (byte : ℕ) (bytes : List ℕ) → AreBytes (byte ∷ bytes) → byte < 256
 first_byte byte bytes each = each 0 0 (omega arith)
 
-parts_spelled : (byte : ℕ) (bytes : List ℕ) → AreBytes (byte ∷ bytes) → parts_of (precincts_text (byte ∷ bytes)) ≡ map item_text (byte ∷ bytes)
+parts_spelled : (byte : ℕ) (bytes : List ℕ) → AreBytes (byte ∷ bytes) → parts_of 44 (precincts_text (byte ∷ bytes)) ≡ map item_text (byte ∷ bytes)
 unfolding parts_of
 parts_spelled byte [] each = slice_split_none (λ b. eqb b 44) (item_text byte) (item_whole byte (first_byte byte [] each))
 parts_spelled byte (next ∷ bytes) each =
@@ -155,13 +128,13 @@ unfolding precincts_in
 precincts_spelled [] are = absurd (omega (arith, are.some))
 precincts_spelled (byte ∷ bytes) are = ap (items_in 33) (parts_spelled byte bytes are.each) ∙ items_spelled 33 (byte ∷ bytes) are.each are.few
 
-joined_parts : (text : List ℕ) → join_with_byte 44 (parts_of text) ≡ text
+joined_parts : (text : List ℕ) → join_with_byte 44 (parts_of 44 text) ≡ text
 unfolding parts_of
 joined_parts text = join_with_byte-slice_split 44 text
 
 pub precincts_read : (text bytes : List ℕ) → precincts_in text ≡ Some bytes → ArePrecincts bytes × (text ≡ precincts_text bytes)
 unfolding precincts_in
 precincts_read text bytes e =
-    let r = items_read 33 (parts_of text) bytes e in
-    let many : length bytes ≡ length (parts_of text) = sym (length-map bytes item_text) ∙ ap length (sym r.parts_are) in
+    let r = items_read 33 (parts_of 44 text) bytes e in
+    let many : length bytes ≡ length (parts_of 44 text) = sym (length-map bytes item_text) ∙ ap length (sym r.parts_are) in
     (record { some = omega (arith, many, some_part text); few = r.few; each = r.each }, sym (joined_parts text) ∙ ap (join_with_byte 44) r.parts_are)

@@ -1,28 +1,19 @@
 -- What is asked may be wanted.
-use Rattle.std.proofs.Common.{◌≡◌, ◌<◌, ◌≤◌, ◌⊎◌, ◌&&◌, subst, sym, codes, drop, is_some, refl, arith, ℕ, Bool, true, false, List, [], ◌∷◌, Option, None, Some, IfSome, inl, inr, unwrap_or}
+use Rattle.std.proofs.Common.{◌≡◌, ◌<◌, ◌≤◌, ◌⊎◌, ◌&&◌, subst, sym, codes, drop, is_some, refl, arith, ℕ, Bool, true, false, List, [], Option, None, Some, IfSome, inl, inr, unwrap_or}
 use Rattle.std.specs.Option.{option_map, option_or}
-use Rattle.std.specs.Str.{bytes_eq}
-use Rattle.std.proofs.lemmas.Bool.{cases_Bool}
 use Rattle.std.proofs.lemmas.List.Elements.{All-nil}
 use Rattle.std.proofs.lemmas.Slice.Eq.{bytes_eq-Decides}
 use Rattle.jx_marker.specs.Ranges.{AreBytes}
-use Rattle.jx_plan.specs.Wanted.{MayBeWanted}
-use Rattle.jx_words.specs.Values.{ArePrecincts, order_said, orders, parts_said, precincts_in, precincts_said, value_in, whole_choices}
-use Rattle.jx_words.specs.Words.{Given, MayBeAsked, are_taken, are_values, given_in, is_good, names_command, request_by, request_of, wanted_by}
+use Rattle.jx_base.specs.declared.style.Style.{Style}
+use Rattle.jx_plan.specs.Wanted.{MayBeStyle, MayBeWanted}
+use Rattle.jx_words.specs.Values.{ArePrecincts, number_in, order_said, orders, parts_said, precincts_in, precincts_said, style_said, value_in, whole_choices}
+use Rattle.jx_words.specs.Words.{Given, MayBeAsked, MayBeWork, are_taken, are_values, given_in, is_good, is_work, names_command, request_by, request_of, wanted_by, work_by}
+use Rattle.jx_words.proofs.NumberLemmas.{number_read}
 use Rattle.jx_words.proofs.SpellLemmas.{precincts_read}
+use Rattle.jx_words.proofs.StyleLemmas.{IsGood, style_good}
+use Rattle.jx_words.proofs.ValueLemmas.{found}
 
--- ---- what is said of each value in a list is said of the one that is found
-abbrev AllValues : {X : Type 0} → (X → Type 0) → List (List ℕ × X) → Type 0
-AllValues P [] = Unit {0}
-AllValues P (p ∷ list) = P p.1 × AllValues P list
-
-found : {X : Type 0} (P : X → Type 0) (list : List (List ℕ × X)) (text : List ℕ) → AllValues P list → IfSome (value_in list text) P
-found P [] text all = tt
-found P (p ∷ list) text all = elim (cases_Bool (bytes_eq text p.0)) [
-  | inl t ↦ rw t all.0
-  | inr t ↦ rw t (found P list text all.1)
-]
-
+-- ---- values that are said, or their defaults
 else_none : {X : Type 0} (P : X → Type 0) (o : Option (Option X)) → IfSome o (λ v. IfSome v P) → IfSome (unwrap_or o None) P
 else_none P None all = tt
 else_none P (Some v) all = all
@@ -53,19 +44,48 @@ are_bytes None may = tt
 are_bytes (Some bytes) (inl none) = subst AreBytes (sym none) (All-nil (λ b. b < 256))
 are_bytes (Some bytes) (inr are) = are.each
 
+style_few : (text : List ℕ) → IfSome (unwrap_or (style_said text) None) MayBeStyle
+style_few text = else_none MayBeStyle (style_said text) (by (style_said text) (style_good text))
+  where
+    by : (o : Option (Option Style)) → IfSome o (λ v. IfSome v (IsGood text)) → IfSome o (λ v. IfSome v MayBeStyle)
+    by None good = tt
+    by (Some None) good = tt
+    by (Some (Some style)) good = good.0
+
 pub given_may_be : (g : Given) → MayBeWanted (wanted_by g)
 unfolding wanted_by
-given_may_be g = record { order = order_few g.order; bytes = are_bytes (unwrap_or (precincts_said g.precincts) None) (precincts_asked g.precincts) }
+given_may_be g = record { order = order_few g.order; bytes = are_bytes (unwrap_or (precincts_said g.precincts) None) (precincts_asked g.precincts); style = style_few g.style }
+
+-- a number that is said, or the default
+abbrev IsWithin : ℕ → ℕ → Type 0
+IsWithin most n = (1 ≤ n) × (n ≤ most)
+
+number_within : (most default : ℕ) (text : List ℕ) → IsWithin most default → IsWithin most (unwrap_or (number_in most text) default)
+number_within most default text may = by (number_in most text) refl
+  where
+    by : (o : Option ℕ) → number_in most text ≡ o → IsWithin most (unwrap_or o default)
+    by None is = may
+    by (Some n) is =
+        let read = number_read most n text is in
+        (read.0, read.1)
+
+pub work_may_be : (g : Given) → MayBeWork (work_by g)
+unfolding work_by
+work_may_be g =
+    let threads = number_within 64 1 g.threads (omega arith, omega arith) in
+    let window = number_within 1024 64 g.window (omega arith, omega arith) in
+    let most = number_within 268435456 268435456 g.window_bytes (omega arith, omega arith) in
+    record { some_threads = threads.0; few_threads = threads.1; some_window = window.0; few_window = window.1; some_most = most.0; few_most = most.1 }
 
 pub may_be_wanted : (words : List (List ℕ)) → MayBeWanted (request_of words).wanted
 unfolding request_of
 may_be_wanted words = given_may_be _
 
--- ---- good words ask for layers that are kept
-left_of : (a b : Bool) → (a && b) ≡ true → a ≡ true
-left_of true b both = refl
-left_of false b both = both
+pub may_be_work : (words : List (List ℕ)) → MayBeWork (request_of words).work
+unfolding request_of
+may_be_work words = work_may_be _
 
+-- ---- good words ask for layers that are kept
 right_of : (a b : Bool) → (a && b) ≡ true → b ≡ true
 right_of true b both = both
 right_of false b both = absurd (cc)
@@ -73,8 +93,11 @@ right_of false b both = absurd (cc)
 layers_kept : (g : Given) → are_values g ≡ true → g.layers ≡ codes "keep"
 unfolding are_values
 layers_kept g good =
-    let usual = right_of (is_some (parts_said g.parts)) _ (right_of (is_some (precincts_said g.precincts)) _ (right_of (is_some (order_said g.order)) _ good)) in
-    (bytes_eq-Decides g.layers (codes "keep")).0 (left_of (bytes_eq g.layers (codes "keep")) _ usual)
+    let precincts = right_of (is_some (order_said g.order)) _ good in
+    let parts = right_of (is_some (precincts_said g.precincts)) _ precincts in
+    let style = right_of (is_some (parts_said g.parts)) _ parts in
+    let work = right_of (is_some (style_said g.style)) _ style in
+    (bytes_eq-Decides g.layers (codes "keep")).0 (right_of (is_work g) _ work)
 
 good_values : (words : List (List ℕ)) → is_good words ≡ true → are_values (given_in (drop 1 words)) ≡ true
 unfolding is_good
@@ -82,7 +105,7 @@ good_values words good = right_of (are_taken (drop 1 words)) _ (right_of (names_
 
 request_asked : (g : Given) → are_values g ≡ true → MayBeAsked (request_by g)
 unfolding wanted_by
-request_asked g good = record { order = order_few g.order; precincts = precincts_asked g.precincts; layers = layers_kept g good }
+request_asked g good = record { order = order_few g.order; precincts = precincts_asked g.precincts; style = style_few g.style; layers = layers_kept g good; work = work_may_be g }
 
 pub asked : (words : List (List ℕ)) → is_good words ≡ true → MayBeAsked (request_of words)
 unfolding request_of

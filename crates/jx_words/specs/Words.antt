@@ -1,21 +1,38 @@
 -- What the words of the command line ask for.
-use Rattle.std.specs.Prelude.{◌≡◌, ◌≤◌, ◌⊎◌, IfSome, true, ℕ, ◌&&◌, Bool, List, [], length, drop, slice_index_or, codes, eqb, Option, is_some, None, unwrap_or}
+use Rattle.std.specs.Prelude.{◌≡◌, ◌≤◌, ◌^◌, ◌⊎◌, IfSome, true, ℕ, ◌&&◌, Bool, List, [], length, drop, slice_index_or, codes, eqb, Option, is_some, None, unwrap_or}
 use Rattle.std.specs.Str.{bytes_eq}
 use Rattle.clap.specs.Words.{fault_of, first_of, matches_of}
-use Rattle.jx_plan.specs.Wanted.{Wanted}
+use Rattle.jx_plan.specs.Wanted.{MayBeStyle, Wanted}
 use Rattle.jx_plan.specs.declared.PartChoice.TheVariants as parts
 use Rattle.jx_words.specs.Command.{transcode}
-use Rattle.jx_words.specs.Values.{ArePrecincts, order_said, parts_said, precincts_said}
+use Rattle.jx_words.specs.Values.{ArePrecincts, bytes_said, order_said, parts_said, precincts_said, style_said, threads_said, window_said}
 
 -- the bytes of a word
 abbrev pub Text : Type 0
 Text = List ℕ
 
--- the input's name and the output's, and how the codestream is to be written
+-- how the work is done: so many workers recode blocks; so many blocks may stand between claim and sequence; and so many bytes
+-- the pieces of several such blocks may have together
+pub record Work : Type 0 where
+  pub threads : ℕ
+  pub window : ℕ
+  pub most : ℕ
+
+-- work that words can ask for
+pub record MayBeWork (w : Work) : Type 0 where
+  pub some_threads : 1 ≤ w.threads
+  pub few_threads : w.threads ≤ 64
+  pub some_window : 1 ≤ w.window
+  pub few_window : w.window ≤ 1024
+  pub some_most : 1 ≤ w.most
+  pub few_most : w.most ≤ 2 ^ 28
+
+-- the input's name and the output's, how the codestream is to be written, and how the work is done
 pub record Request : Type 0 where
   pub from : Text
   pub to : Text
   pub wanted : Wanted
+  pub work : Work
 
 -- what clap finds in the words from the command's name on, with the values of options that aren't among them
 pub record Given : Type 0 where
@@ -66,18 +83,23 @@ found_in words name = first_of name (matches_of transcode words)
 abbrev pub given_in : List Text → Given
 given_in words = given_by (found_in words)
 
--- options that are known, and have one value so far
+-- an option that is known, and has one value so far
 abbrev pub are_usual : Given → Bool
-are_usual g = bytes_eq g.layers (codes "keep") && (bytes_eq g.style (codes "keep") && (bytes_eq g.threads (codes "1") && (bytes_eq g.window (codes "64") && bytes_eq g.window_bytes (codes "268435456"))))
+are_usual g = bytes_eq g.layers (codes "keep")
+
+-- the values that say how the work is done
+abbrev pub is_work : Given → Bool
+is_work g = is_some (threads_said g.threads) && (is_some (window_said g.window) && is_some (bytes_said g.window_bytes))
 
 -- each value is one of its option's
 unfoldable pub are_values : Given → Bool
-are_values g = is_some (order_said g.order) && (is_some (precincts_said g.precincts) && (is_some (parts_said g.parts) && are_usual g))
+are_values g = is_some (order_said g.order) && (is_some (precincts_said g.precincts) && (is_some (parts_said g.parts) && (is_some (style_said g.style) && (is_work g && are_usual g))))
 
 unfoldable pub wanted_by : Given → Wanted
 wanted_by g = record {
   order = unwrap_or (order_said g.order) None;
   precincts = unwrap_or (precincts_said g.precincts) None;
+  style = unwrap_or (style_said g.style) None;
   layers = g.layers;
   parts = unwrap_or (parts_said g.parts) parts.None;
   sop = g.sop;
@@ -85,8 +107,15 @@ wanted_by g = record {
   plt = g.plt;
 }
 
+unfoldable pub work_by : Given → Work
+work_by g = record {
+  threads = unwrap_or (threads_said g.threads) 1;
+  window = unwrap_or (window_said g.window) 64;
+  most = unwrap_or (bytes_said g.window_bytes) 268435456;
+}
+
 abbrev pub request_by : Given → Request
-request_by g = record { from = g.from; to = g.to; wanted = wanted_by g }
+request_by g = record { from = g.from; to = g.to; wanted = wanted_by g; work = work_by g }
 
 abbrev pub names_command : List Text → Bool
 names_command words = bytes_eq (slice_index_or words 1 []) (codes "transcode")
@@ -103,11 +132,14 @@ is_good words = names_command words && (are_taken (drop 1 words) && are_values (
 unfoldable pub request_of : List Text → Request
 request_of words = request_by (given_in (drop 1 words))
 
--- a request that words can make: by one of the five orders, with the precincts of 1 to 33 resolutions, and with layers that are kept
+-- a request that words can make: by one of the five orders, with the precincts of 1 to 33 resolutions, a style of five bits, and with
+-- layers that are kept
 pub record MayBeAsked (r : Request) : Type 0 where
   pub order : IfSome r.wanted.order (λ order. order ≤ 4)
   pub precincts : IfSome r.wanted.precincts (λ bytes. (bytes ≡ []) ⊎ ArePrecincts bytes)
+  pub style : IfSome r.wanted.style MayBeStyle
   pub layers : r.wanted.layers ≡ codes "keep"
+  pub work : MayBeWork r.work
 
 -- good words that make a request
 pub record Asks (r : Request) : Type 0 where

@@ -6,13 +6,37 @@ ghost use Rattle.std.specs.Prelude.{◌≡◌};
 mod command;
 mod given;
 pub mod laws;
+mod numbers;
+mod parts;
 mod precincts;
 mod reading;
+mod styles;
 mod values;
 
 use jx_plan::Options;
 pub use reading::read_words;
 use std::marker::Model;
+
+/// How the work is done.
+#[derive(Clone, Copy, Debug)]
+pub struct Work {
+    /// How many workers recode blocks, 1 to 64.
+    pub threads: u32,
+    /// How many blocks may stand between claim and sequence, 1 to 1,024.
+    pub window: u32,
+    /// How many bytes the pieces of several such blocks may have together, 1 to 2^28.
+    pub most: u32,
+}
+
+impl Model for Work {
+    ghost use Rattle.jx_words.specs.Words.{Work};
+
+    ghost Value = { Work };
+
+    ghost view = { λ w. record { threads = w.threads; window = w.window; most = w.most } };
+
+    ghost inverse = { λ w. record { threads = w.threads; window = w.window; most = w.most } };
+}
 
 /// What good words ask for.
 #[derive(Drop)]
@@ -23,6 +47,8 @@ pub struct Request {
     pub to: String,
     /// How the codestream is to be written.
     pub options: Options,
+    /// How the work is done.
+    pub work: Work,
 }
 
 impl Model for Request {
@@ -31,7 +57,7 @@ impl Model for Request {
 
     ghost Value = { Request };
 
-    ghost view = { λ r. record { from = string_bytes r.from; to = string_bytes r.to; wanted = r.options } };
+    ghost view = { λ r. record { from = string_bytes r.from; to = string_bytes r.to; wanted = r.options; work = r.work } };
 }
 
 impl Request {
@@ -54,6 +80,13 @@ impl Request {
         ensures { result.now ≡ self.now.wanted }
     {
         &self.options
+    }
+
+    /// How the work is done.
+    pub fn work(&self) -> Work
+        ensures { result ≡ self.now.work }
+    {
+        self.work
     }
 }
 

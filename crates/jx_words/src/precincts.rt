@@ -1,12 +1,12 @@
 //! Lists of precincts' exponents.
 
-ghost use Rattle.std.specs.Prelude.{◌≡◌, ◌<◌, ◌≤◌, ◌∷◌, IfOk, Some, eqb, length, option_map};
+ghost use Rattle.std.specs.Prelude.{◌≡◌, ◌<◌, IfOk, Some, option_map};
 ghost use Rattle.std.specs.Fmt.{decimal};
-ghost use Rattle.std.specs.List.{position_or_len};
 ghost use Rattle.std.specs.Str.{bytes_eq};
-ghost use Rattle.jx_words.specs.Parts.{after, more_parts};
-ghost use Rattle.jx_words.specs.Values.{item_in, item_text, parts_of, precincts_in};
+ghost use Rattle.jx_words.specs.Parts.{after};
+ghost use Rattle.jx_words.specs.Values.{item_in, item_text, precincts_in};
 
+use crate::parts::first_part;
 use jx_base::NoMemory;
 use std::alloc::Global;
 
@@ -57,31 +57,6 @@ fn item_in(text: &[u8]) -> Option<u8>
     None
 }
 
-/// The place of the first comma of a text, or its length.
-fn comma(text: &[u8]) -> usize
-    ensures value { result ≡ position_or_len (λ b. eqb b 44) text.now }
-    ensures bound { result ≤ length text.now }
-{
-    for (place, byte) in text.iter().enumerate() {
-        if *byte == b',' {
-            return place;
-        }
-    }
-    text.len()
-}
-
-/// What stands before the first comma of a text, and what stands after it where there is one.
-#[tactic(auto, using(crate::proofs::PartLemmas::part_first, crate::proofs::PartLemmas::part_last))]
-fn first_part<'a>(text: &'a [u8]) -> (&'a [u8], Option<&'a [u8]>)
-    ensures { parts_of text.entry.now ≡ result.0.now ∷ more_parts result.1 }
-{
-    let (part, rest) = text.split_at(comma(text));
-    if rest.is_empty() {
-        return (part, None);
-    }
-    (part, Some(rest.split_at(1).1))
-}
-
 /// The precincts that a text spells, 1 to 33 bytes.
 pub(crate) fn precincts_in(alloc: Global, text: &[u8]) -> Result<Option<Vec<u8>>, NoMemory>
     ensures { IfOk result (λ found. option_map (λ bytes. bytes.items) found ≡ precincts_in text.now) }
@@ -89,7 +64,7 @@ pub(crate) fn precincts_in(alloc: Global, text: &[u8]) -> Result<Option<Vec<u8>>
     let mut bytes = Vec::new(alloc);
     let mut rest = text;
     for _turn in 0..33_usize {
-        let (part, more) = first_part(rest);
+        let (part, more) = first_part(b',', rest);
         match item_in(part) {
             Some(byte) => bytes.push(byte)?,
             None => return Ok(None),

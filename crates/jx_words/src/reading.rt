@@ -1,25 +1,39 @@
 //! The request that words make.
 
-ghost use Rattle.std.specs.Prelude.{◌≡◌, ◌≤◌, true, false, IfOk, Err, length, map, string_bytes};
+ghost use Rattle.std.specs.Prelude.{◌≡◌, ◌≤◌, true, false, IfOk, IfSome, None, Err, length, map, string_bytes};
 ghost use Rattle.jx_plan.specs.Choices.{bytes_in, order_in};
 ghost use Rattle.jx_plan.specs.Wanted.{MayBeWanted};
-ghost use Rattle.jx_words.specs.Words.{are_usual, are_values, is_good, names_command, request_by, request_of};
+ghost use Rattle.jx_words.specs.Words.{MayBeWork, are_usual, are_values, is_good, is_work, names_command, request_by, request_of, work_by};
 
 use crate::given::{Given, given_in};
-use crate::values::{order_said, parts_said, precincts_said};
-use crate::{Request, WordsFault};
-use jx_base::NoMemory;
+use crate::numbers::number_in;
+use crate::values::{order_said, parts_said, precincts_said, style_said};
+use crate::{Request, WordsFault, Work};
+use jx_base::{NoMemory, Style};
 use jx_plan::{Options, OrderChoice, PartChoice, PrecinctChoice};
 use std::alloc::Global;
 
-/// Whether the options that have one value so far have it.
+/// Whether the option that has one value so far has it.
 fn are_usual(given: &Given<'_>) -> bool
     ensures { result ≡ are_usual given.now }
 {
     given.layers == "keep"
-        && (given.style == "keep"
-            && (given.threads == "1"
-                && (given.window == "64" && given.window_bytes == "268435456")))
+}
+
+/// How the work is to be done.
+#[tactic(auto, unfolding(crate::specs::Words::work_by))]
+fn work_by(given: &Given<'_>) -> Option<Work>
+    ensures some { IfSome result (λ w. (is_work given.now ≡ true) × (w ≡ work_by given.now)) }
+    ensures none { result ≡ None → is_work given.now ≡ false }
+{
+    let threads = number_in(64, given.threads)?;
+    let window = number_in(1_024, given.window)?;
+    let most = number_in(268_435_456, given.window_bytes)?;
+    Some(Work {
+        threads,
+        window,
+        most,
+    })
 }
 
 /// The request with these values.
@@ -29,6 +43,8 @@ fn made(
     order: OrderChoice,
     precincts: PrecinctChoice,
     parts: PartChoice,
+    style: Option<Style>,
+    work: Work,
 ) -> Result<Request, NoMemory>
     ensures { IfOk result (λ r. r ≡ record {
       from = given.now.from;
@@ -36,12 +52,14 @@ fn made(
       wanted = record {
         order = order_in order;
         precincts = bytes_in precincts;
+        style = style;
         layers = given.now.layers;
         parts = parts;
         sop = given.now.sop;
         eph = given.now.eph;
         plt = given.now.plt;
       };
+      work = work;
     }) }
 {
     Ok(Request {
@@ -50,12 +68,14 @@ fn made(
         options: Options {
             order,
             precincts,
+            style,
             layers: String::from_str(alloc, given.layers)?,
             parts,
             sop: given.sop,
             eph: given.eph,
             plt: given.plt,
         },
+        work,
     })
 }
 
@@ -72,6 +92,12 @@ fn request_by(alloc: Global, given: &Given<'_>) -> Result<Request, WordsFault>
     let Some(parts) = parts_said(given.parts) else {
         return Err(WordsFault::Words);
     };
+    let Some(style) = style_said(given.style) else {
+        return Err(WordsFault::Words);
+    };
+    let Some(work) = work_by(given) else {
+        return Err(WordsFault::Words);
+    };
     if !are_usual(given) {
         return Err(WordsFault::Words);
     }
@@ -80,7 +106,7 @@ fn request_by(alloc: Global, given: &Given<'_>) -> Result<Request, WordsFault>
         Ok(None) => return Err(WordsFault::Words),
         Err(NoMemory) => return Err(WordsFault::NoMemory),
     };
-    match made(alloc, given, order, precincts, parts) {
+    match made(alloc, given, order, precincts, parts, style, work) {
         Ok(request) => Ok(request),
         Err(NoMemory) => Err(WordsFault::NoMemory),
     }
@@ -109,6 +135,7 @@ pub fn read_words(alloc: Global, words: &[String]) -> Result<Request, WordsFault
     ensures good { IfOk result (λ _. is_good (map string_bytes words.now) ≡ true) }
     ensures value { IfOk result (λ r. r ≡ request_of (map string_bytes words.now)) }
     ensures wanted { IfOk result (λ r. MayBeWanted r.wanted) }
+    ensures work { IfOk result (λ r. MayBeWork r.work) }
     ensures words { result ≡ Err WordsFault.Words → is_good (map string_bytes words.now) ≡ false }
 {
     if !names_command(words) {

@@ -68,6 +68,59 @@ fn precincts_of(alloc: Global, text: &str) -> Result<String, Fail> {
     }
 }
 
+// What is read of `--style` with this value: `keep`, or the bits.
+fn style_of(alloc: Global, text: &str) -> Result<String, Fail> {
+    let line = format!(in alloc; "transcode in out --style={text}")?;
+    match read(alloc, line.as_str())? {
+        Ok(request) => match request.options().style {
+            Some(style) => {
+                let bits = style.bits;
+                Ok(format!(in alloc; "{bits}")?)
+            }
+            None => Ok(String::from_str(alloc, "keep")?),
+        },
+        Err(fault) => Ok(format!(in alloc; "{fault:?}")?),
+    }
+}
+
+// The workers, the window and its bytes.
+fn work_of(alloc: Global, line: &str) -> Result<String, Fail> {
+    match read(alloc, line)? {
+        Ok(request) => {
+            let work = request.work();
+            let (threads, window, most) = (work.threads, work.window, work.most);
+            Ok(format!(in alloc; "{threads} {window} {most}")?)
+        }
+        Err(fault) => Ok(format!(in alloc; "{fault:?}")?),
+    }
+}
+
+// The names of which the mask has a bit, with plus signs between them, or `none`, and the bits of the style.
+fn named(alloc: Global, mask: u8) -> Result<(String, u8), Fail> {
+    let mut text = String::new(alloc);
+    let mut bits = 0;
+    for (place, name, bit) in [
+        (1, "bypass", 0x01),
+        (2, "reset", 0x02),
+        (4, "terminate", 0x04),
+        (8, "causal", 0x08),
+        (16, "segment", 0x20),
+    ] {
+        if mask & place == 0 {
+            continue;
+        }
+        if bits != 0 {
+            text.push_str("+")?;
+        }
+        text.push_str(name)?;
+        bits |= bit;
+    }
+    if bits == 0 {
+        text.push_str("none")?;
+    }
+    Ok((text, bits))
+}
+
 // So many items, each `2x3`.
 fn items(alloc: Global, count: usize) -> Result<String, Fail> {
     let mut text = String::from_str(alloc, "2x3")?;
@@ -91,14 +144,6 @@ fn good_words(rt: HostRuntime) -> Result<(), Fail> {
         ("transcode in out --precincts max", "in out Keep max keep"),
         (
             "transcode in out --layers keep --style keep",
-            "in out Keep keep keep",
-        ),
-        (
-            "transcode in out --threads 1 --window 64",
-            "in out Keep keep keep",
-        ),
-        (
-            "transcode in out --window-bytes 268435456",
             "in out Keep keep keep",
         ),
         // options stand anywhere, and a value behind `=` too
@@ -137,13 +182,6 @@ fn bad_words(rt: HostRuntime) -> Result<(), Fail> {
         "transcode in out more",
         "transcode in out --precincts 16x4",
         "transcode in out --precincts 016x4",
-        "transcode in out --threads 0",
-        "transcode in out --threads 2",
-        "transcode in out --threads 01",
-        "transcode in out --threads +1",
-        "transcode in out --window 1025",
-        "transcode in out --window-bytes 1",
-        "transcode in out --style causal+causal",
         "transcode in out --layers one",
         "transcode in out --order LRCP",
         "transcode in out --order 0",
@@ -242,5 +280,105 @@ fn precinct_lists(rt: HostRuntime) -> Result<(), Fail> {
         precincts_of(alloc, items(alloc, 34)?.as_str())?.as_str(),
         "Words"
     );
+    Ok(())
+}
+
+#[test]
+fn style_names(rt: HostRuntime) -> Result<(), Fail> {
+    let alloc = rt.alloc();
+    for (text, wanted) in [
+        ("keep", "keep"),
+        ("none", "0"),
+        ("bypass", "1"),
+        ("reset", "2"),
+        ("terminate", "4"),
+        ("causal", "8"),
+        ("segment", "32"),
+        ("reset+bypass", "3"),
+        ("bypass+reset", "3"),
+        ("causal+bypass+segment", "41"),
+        ("segment+causal+terminate+reset+bypass", "47"),
+        ("terminate+segment+bypass+causal+reset", "47"),
+        ("", "Words"),
+        ("+", "Words"),
+        ("bypass+", "Words"),
+        ("+bypass", "Words"),
+        ("bypass++reset", "Words"),
+        ("causal+causal", "Words"),
+        ("bypass+reset+bypass", "Words"),
+        ("bypass+reset+terminate+causal+segment+bypass", "Words"),
+        ("keep+reset", "Words"),
+        ("reset+keep", "Words"),
+        ("none+reset", "Words"),
+        ("reset+none", "Words"),
+        ("none+none", "Words"),
+        ("BYPASS", "Words"),
+        ("Reset", "Words"),
+        ("bypass,reset", "Words"),
+        ("bypas", "Words"),
+        ("bypasses", "Words"),
+        ("predictable", "Words"),
+        ("0", "Words"),
+        ("1", "Words"),
+    ] {
+        assert_eq!(rt; style_of(alloc, text)?.as_str(), wanted);
+    }
+    Ok(())
+}
+
+#[test]
+fn all_styles(rt: HostRuntime) -> Result<(), Fail> {
+    let alloc = rt.alloc();
+    for mask in 0..32_u8 {
+        let (text, bits) = named(alloc, mask)?;
+        let wanted = format!(in alloc; "{bits}")?;
+        assert_eq!(rt; style_of(alloc, text.as_str())?.as_str(), wanted.as_str());
+    }
+    Ok(())
+}
+
+#[test]
+fn work_numbers(rt: HostRuntime) -> Result<(), Fail> {
+    let alloc = rt.alloc();
+    for (line, wanted) in [
+        ("transcode in out", "1 64 268435456"),
+        ("transcode in out --threads 1", "1 64 268435456"),
+        ("transcode in out --threads=64", "64 64 268435456"),
+        ("transcode in out --window 1", "1 1 268435456"),
+        ("transcode in out --window 1024", "1 1024 268435456"),
+        ("transcode in out --window-bytes 1", "1 64 1"),
+        (
+            "transcode in out --window-bytes 268435456",
+            "1 64 268435456",
+        ),
+        (
+            "transcode --window-bytes=20 in --threads 8 out --window=300",
+            "8 300 20",
+        ),
+        ("transcode in out --threads 0", "Words"),
+        ("transcode in out --threads 65", "Words"),
+        ("transcode in out --threads 01", "Words"),
+        ("transcode in out --threads +1", "Words"),
+        ("transcode in out --threads=-1", "Words"),
+        ("transcode in out --threads=", "Words"),
+        ("transcode in out --threads 1.0", "Words"),
+        ("transcode in out --threads 1_0", "Words"),
+        ("transcode in out --threads 0x1", "Words"),
+        ("transcode in out --threads 2a", "Words"),
+        ("transcode in out --threads two", "Words"),
+        ("transcode in out --threads 4294967297", "Words"),
+        ("transcode in out --window 0", "Words"),
+        ("transcode in out --window 00", "Words"),
+        ("transcode in out --window 1025", "Words"),
+        ("transcode in out --window-bytes 0", "Words"),
+        ("transcode in out --window-bytes 268435457", "Words"),
+        (
+            "transcode in out --window-bytes 18446744073709551617",
+            "Words",
+        ),
+        ("transcode in out --threads 2 --threads 2", "Words"),
+    ] {
+        assert_eq!(rt; work_of(alloc, line)?.as_str(), wanted);
+    }
     Ok(())
 }

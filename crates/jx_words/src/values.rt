@@ -2,10 +2,11 @@
 
 ghost use Rattle.std.specs.Prelude.{◌≡◌, IfOk, Some, codes, option_map};
 ghost use Rattle.jx_plan.specs.Choices.{bytes_in, order_in};
-ghost use Rattle.jx_words.specs.Values.{order_said, parts_said, precincts_said};
+ghost use Rattle.jx_words.specs.Values.{order_said, parts_said, precincts_said, style_said};
 
 use crate::precincts::precincts_in;
-use jx_base::NoMemory;
+use crate::styles::style_in;
+use jx_base::{NoMemory, Style};
 use jx_plan::{OrderChoice, PartChoice, PrecinctChoice};
 use std::alloc::Global;
 
@@ -67,5 +68,21 @@ pub(crate) fn precincts_said(alloc: Global, word: &str) -> Result<Option<Precinc
         Ok(Some(bytes)) => Ok(Some(PrecinctChoice::List(bytes))),
         Ok(None) => Ok(None),
         Err(NoMemory) => Err(NoMemory),
+    }
+}
+
+/// The style that a word asks for (ITU-T T.800, Table A.19); in it none where each component keeps its own.
+pub(crate) fn style_said(word: &str) -> Option<Option<Style>>
+    ensures { result ≡ style_said word.now }
+{
+    if word == "keep" {
+        return Some(None);
+    }
+    if word == "none" {
+        return Some(Some(Style { bits: 0 }));
+    }
+    match style_in(word.as_bytes()) {
+        Some(style) => Some(Some(style)),
+        None => None,
     }
 }

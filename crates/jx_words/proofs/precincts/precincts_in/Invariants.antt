@@ -4,4 +4,4 @@ use Rattle.jx_words.specs.Values.{parts_of, precincts_in}
 use Rattle.jx_words.proofs.precincts.precincts_in.Given as goal
 
 abbrev pub invariant-loop-turn : goal.invariant-loop-turn
-invariant-loop-turn l = goes_on l.bytes.items (33 - l._turn) (parts_of l.rest) ≡ precincts_in l.text
+invariant-loop-turn l = goes_on l.bytes.items (33 - l._turn) (parts_of 44 l.rest) ≡ precincts_in l.text

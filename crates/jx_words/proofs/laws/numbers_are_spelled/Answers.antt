@@ -1,0 +1,8 @@
+use Rattle.jx_words.proofs.NumberLemmas.{number_read, number_spelled}
+use Rattle.jx_words.proofs.laws.numbers_are_spelled.Goals as goal
+
+pub returns-clause-spelled : goal.returns-clause-spelled
+returns-clause-spelled c = λ most n few some within. number_spelled most n few some within
+
+pub returns-clause-read : goal.returns-clause-read
+returns-clause-read c = λ most n text is. number_read most n text is

@@ -1,6 +1,0 @@
-use Rattle.std.proofs.Common.{◌≡◌, ◌+◌, drop, eqb}
-use Rattle.std.specs.List.{position_or_len}
-use Rattle.jx_words.proofs.precincts.comma.Given as goal
-
-abbrev pub invariant-loop-place : goal.invariant-loop-place
-invariant-loop-place l = position_or_len (λ b. eqb b 44) l.text ≡ l.place + position_or_len (λ b. eqb b 44) (drop l.place l.text)
