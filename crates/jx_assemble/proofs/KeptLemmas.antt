@@ -1,10 +1,14 @@
--- The headers that are written are such as a file may be written from, and the file that is written from them keeps its input's blocks.
-use Rattle.std.proofs.Common.{◌≡◌, ◌∙◌, ◌<◌, ◌≤◌, ◌^◌, ℕ, Bool, false, arith, List, [], length, map, refl, sym, ap, subst, None}
+-- The headers that are written are such as a file may be written from, and the file that is written from them has its input's blocks as
+-- they are written, and its meaning.
+use Rattle.std.proofs.Common.{◌≡◌, ◌∙◌, ◌<◌, ◌≤◌, ◌^◌, ℕ, Bool, false, arith, List, [], length, map, refl, sym, ap, subst, Option, None, Some}
 use Rattle.std.proofs.Math.Path.{fun_ext}
 use Rattle.std.specs.List.{All, list_any}
+use Rattle.std.specs.Prelude.{IfSome}
 use Rattle.jx_base.specs.declared.names.Band.{Band}
 use Rattle.jx_base.specs.declared.pieces.Block.{Block}
+use Rattle.jx_base.specs.declared.style.Style.{Style}
 use Rattle.jx_base.specs.Sound.{IsSound}
+use Rattle.jx_grid.specs.declared.coef.Coef.{Coef}
 use Rattle.jx_marker.specs.declared.Cod.{Cod}
 use Rattle.jx_marker.specs.declared.Segment.{Segment}
 use Rattle.jx_marker.specs.declared.Segment.TheVariants as segment
@@ -18,21 +22,22 @@ use Rattle.jx_stream.specs.Shapes.{geometry, layers_of, shapes_of, tile_at}
 use Rattle.jx_stream.specs.Spells.{AreSegments}
 use Rattle.jx_stream.specs.Tiles.{entry_in, in_slot, or_list}
 use Rattle.jx_stream.specs.Tiles.{joined as entries_joined}
-use Rattle.jx_gather.specs.Another.{HaveSameBlocks}
 use Rattle.jx_gather.specs.BlockOf.{AreBlocksOf}
 use Rattle.jx_gather.specs.Gathered.{IsGathered}
 use Rattle.jx_gather.specs.Totals.{packet_total, totals_fault}
-use Rattle.jx_gather.proofs.AnotherLemmas.{blocks_of_other}
 use Rattle.jx_gather.proofs.BlockOfLemmas.{blocks_of_stream}
 use Rattle.jx_gather.proofs.SoundLemmas.{sound_gathered}
+use Rattle.jx_block.specs.Written.{is_wrong}
+use Rattle.jx_layers.specs.Causal.{first_broken}
 use Rattle.jx_plan.specs.declared.Marks.{Marks}
 use Rattle.jx_plan.specs.Asides.{is_plt}
 use Rattle.jx_plan.specs.Fits.{Fits, first_zero}
 use Rattle.jx_plan.specs.Headers.{Asked, MayBeAsked, cod_written, comp_written, params_written, stream_written}
 use Rattle.jx_plan.specs.KeptFault.{IsFree}
-use Rattle.jx_plan.specs.Plan.{asked_of, headers_with}
+use Rattle.jx_plan.specs.Meaning.{Component, Meaning, Place, component_of, meaning_of, sample_at}
+use Rattle.jx_plan.specs.Plan.{asked_of, blocks_written, headers_with}
 use Rattle.jx_plan.specs.Standing.{HeadersStand}
-use Rattle.jx_plan.specs.Wanted.{MayBeWanted, Wanted, marks_of}
+use Rattle.jx_plan.specs.Wanted.{MayBeStyle, MayBeWanted, Wanted, marks_of}
 use Rattle.jx_assemble.specs.Kept.{IsKeptIn}
 use Rattle.jx_assemble.specs.Ready.{AllShort, AreReady, IsTileReady, stream_read}
 use Rattle.jx_assemble.specs.SameHeaders.{HasHeadersOf}
@@ -64,8 +69,12 @@ pub record KeepLaws : Type 0 where
   pub planes : (a : Asked) (s : Stream) (t c r : ℕ) (band : Band) → HeadersStand s → planes_at (stream_written a s) t c r band ≡ planes_at s t c r band
   pub places : (a : Asked) (s : Stream) (t : ℕ) → HeadersStand s
       → geometry (stream_written a s) t ≡ record (geometry s t) { shapes = map (comp_written a.precincts) (shapes_of s t) }
-  pub blocks : (a : Asked) (s : Stream) → Fits a.precincts s → HeadersStand s → ((t : ℕ) → t < tile_number s.siz → layers_of s t ≤ a.layers)
-      → HaveSameBlocks s (stream_written a s)
+  pub blocks : (w : Wanted) (layers : ℕ) (s : Stream) (blocks : List Block) → Fits w.precincts s → HeadersStand s → ((t : ℕ) → t < tile_number s.siz → layers_of s t ≤ layers)
+      → AreBlocksOf s blocks → All IsSound blocks → first_broken w.style blocks ≡ None → All (λ (b : Block). is_wrong w.style b ≡ false) blocks
+      → AreBlocksOf (headers_with w layers s) (blocks_written w blocks)
+  pub sound : (w : Wanted) (blocks : List Block) → All IsSound blocks → first_broken w.style blocks ≡ None → All IsSound (blocks_written w blocks)
+  pub meaning : (w : Wanted) (layers : ℕ) (s : Stream) (blocks : List Block) → HeadersStand s → All IsSound blocks → first_broken w.style blocks ≡ None
+      → meaning_of (headers_with w layers s) (blocks_written w blocks) ≡ meaning_of s blocks
 
 -- both tests are for PLT
 length_is : (s : Segment) → is_length s ≡ is_plt s
@@ -82,6 +91,29 @@ siz_written a s = refl
 pub comps_written : (a : Asked) (s : Stream) → length (stream_written a s).siz.comps ≡ length s.siz.comps
 comps_written a s = ap (λ (z : Siz). length z.comps) (siz_written a s)
 
+-- a style that may be wanted has six bits
+style_few : (o : Option Style) → IfSome o MayBeStyle → IfSome o (λ (style : Style). style.bits < 64)
+style_few None may = may
+style_few (Some style) may = may.few
+
+-- what headers say of the meaning is in SIZ, the parameters and the steps
+means : (siz other : Siz) (c d : ℕ → ℕ → Component) (e f : ℕ → ℕ → ℕ → Band → ℕ × ℕ) (sample : Place → Option Coef) → siz ≡ other → c ≡ d → e ≡ f
+    → let x : Meaning = record { siz = record siz { rsiz = 0 }; component = c; step = e; sample = sample } in
+    let y : Meaning = record { siz = record other { rsiz = 0 }; component = d; step = f; sample = sample } in
+    x ≡ y
+means siz other c d e f sample one two three =
+    let A : Siz → Meaning = λ z. record { siz = record z { rsiz = 0 }; component = c; step = e; sample = sample } in
+    let B : (ℕ → ℕ → Component) → Meaning = λ z. record { siz = record other { rsiz = 0 }; component = z; step = e; sample = sample } in
+    let C : (ℕ → ℕ → ℕ → Band → ℕ × ℕ) → Meaning = λ z. record { siz = record other { rsiz = 0 }; component = d; step = z; sample = sample } in
+    ap A one ∙ ap B two ∙ ap C three
+
+same_meaning : (s other : Stream) (blocks : List Block) → HasHeadersOf s other → meaning_of other blocks ≡ meaning_of s blocks
+unfolding meaning_of
+same_meaning s other blocks headers =
+    means other.siz s.siz (λ t c. component_of (params_of other t c)) (λ t c. component_of (params_of s t c)) (step_of other) (step_of s) (sample_at blocks) headers.siz
+    (fun_ext (λ t. fun_ext (λ c. ap component_of (headers.params t c))))
+    (fun_ext (λ t. fun_ext (λ c. fun_ext (λ r. fun_ext (λ band. headers.step t c r band)))))
+
 module _ (laws : HeaderLaws) (w : Wanted) (layers : ℕ) (s : Stream) (some : 1 ≤ layers) (few : layers < 2 ^ 16) (may : MayBeWanted w) (stand : HeadersStand s)
     (none : totals_fault s ≡ None) (free : IsFree s w layers) where
   abbrev a : Asked
@@ -94,7 +126,7 @@ module _ (laws : HeaderLaws) (w : Wanted) (layers : ℕ) (s : Stream) (some : 1 
   it = headers_with w layers s
 
   may_be : MayBeAsked a
-  may_be = record { some = some; few = few; order = may.order; bytes = may.bytes }
+  may_be = record { some = some; few = few; order = may.order; bytes = may.bytes; style = style_few w.style may.style }
 
   above : first_zero a.precincts s ≡ None
   above = free.fits.above
@@ -133,9 +165,10 @@ module _ (laws : HeaderLaws) (w : Wanted) (layers : ℕ) (s : Stream) (some : 1 
       }
 
 module _ (laws : HeaderLaws) (keep : KeepLaws) (w : Wanted) (layers : ℕ) (before : Stream) (blocks : List Block) (input out : List ℕ)
-    (is : IsOutput (marks_of w) (headers_with w layers before) blocks out) (read : IsRead input before) (small : length input ≤ 2 ^ 28) (none : totals_fault before ≡ None)
+    (is : IsOutput (marks_of w) (headers_with w layers before) (blocks_written w blocks) out) (read : IsRead input before) (small : length input ≤ 2 ^ 28) (none : totals_fault before ≡ None)
     (gathered : IsGathered input before blocks) (most : (t : ℕ) → t < tile_number before.siz → layers_of before t ≤ layers) (some : 1 ≤ layers) (few : layers < 2 ^ 16)
-    (may : MayBeWanted w) (free : IsFree before w layers) (short : AllShort is.parts (tile_number before.siz)) where
+    (may : MayBeWanted w) (unbroken : first_broken w.style blocks ≡ None) (right : All (λ (b : Block). is_wrong w.style b ≡ false) blocks) (free : IsFree before w layers)
+    (short : AllShort is.parts (tile_number before.siz)) where
   abbrev b : Asked
   b = asked_of w layers
 
@@ -148,6 +181,9 @@ module _ (laws : HeaderLaws) (keep : KeepLaws) (w : Wanted) (layers : ℕ) (befo
   abbrev after : Stream
   after = stream_read written is.parts
 
+  abbrev anew : List Block
+  anew = blocks_written w blocks
+
   stand : HeadersStand before
   stand = keep.read input before read
 
@@ -157,29 +193,30 @@ module _ (laws : HeaderLaws) (keep : KeepLaws) (w : Wanted) (layers : ℕ) (befo
   all_short : AllShort is.parts (tile_number written.siz)
   all_short = subst (λ (n : ℕ). AllShort is.parts n) (sym (laws.tiles b before)) short
 
-  same : HaveSameBlocks before written
-  same = keep.blocks b before free.fits stand most
+  sound_read : All IsSound blocks
+  sound_read = sound_gathered input before blocks read small none gathered
 
-  named : AreBlocksOf written blocks
-  named = blocks_of_other before written blocks same (blocks_of_stream input before blocks read small none gathered)
+  named : AreBlocksOf written anew
+  named = keep.blocks w layers before blocks free.fits stand most (blocks_of_stream input before blocks read small none gathered) sound_read unbroken right
 
-  sound : All IsSound blocks
-  sound = sound_gathered input before blocks read small none gathered
+  sound : All IsSound anew
+  sound = keep.sound w blocks sound_read unbroken
 
   headers : HasHeadersOf written after
-  headers = output_headers marks written blocks out is ready all_short
+  headers = output_headers marks written anew out is ready all_short
 
   kept : IsKeptIn w layers before after blocks out
   kept = record {
-    read = output_read marks written blocks out is ready all_short;
-    gathered = output_gathered marks written blocks out is ready all_short named sound;
-    formed = output_formed marks written blocks out is ready all_short named sound;
-    strict = output_strict marks written blocks out is ready all_short named sound;
+    read = output_read marks written anew out is ready all_short;
+    gathered = output_gathered marks written anew out is ready all_short named sound;
+    formed = output_formed marks written anew out is ready all_short named sound;
+    strict = output_strict marks written anew out is ready all_short named sound;
     siz = headers.siz ∙ siz_written b before;
     params = λ t c. headers.params t c ∙ keep.params b before t c stand;
     steps = λ t c r band. headers.step t c r band ∙ keep.steps b before t c r band stand;
     planes = λ t c r band. headers.planes t c r band ∙ keep.planes b before t c r band stand;
     places = λ t. headers.places t ∙ keep.places b before t stand;
+    meaning = same_meaning written after anew headers ∙ keep.meaning w layers before blocks stand sound_read unbroken;
   }
 
   pub rewritten_read : (after : Stream) × IsKeptIn w layers before after blocks out

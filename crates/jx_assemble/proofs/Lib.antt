@@ -17,6 +17,7 @@ pub mod MostLemmas
 pub mod AssembledLemmas
 pub mod CountLemmas
 pub mod CutLemmas
+pub mod EntryLemmas
 pub mod LeafLemmas
 pub mod LengthLemmas
 pub mod NameLemmas

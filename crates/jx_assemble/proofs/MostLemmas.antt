@@ -6,8 +6,8 @@ use Rattle.jx_stream.specs.declared.Stream.{Stream}
 use Rattle.jx_stream.specs.First.{canvas_of, tile_number}
 use Rattle.jx_stream.specs.InRange.{StreamInRange}
 use Rattle.jx_stream.specs.Shapes.{layers_of}
-use Rattle.jx_plan.specs.Facts.{most_layers, tile_layers}
-use Rattle.jx_plan.specs.Rule.{greatest}
+use Rattle.jx_layers.specs.Facts.{most_layers, tile_layers}
+use Rattle.jx_layers.specs.Rule.{greatest}
 use Rattle.jx_assemble.proofs.ReadLemmas.{some_tile}
 
 -- a number that a function gives below a count isn't greater

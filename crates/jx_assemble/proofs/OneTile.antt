@@ -1,6 +1,6 @@
 -- A codestream of one tile without a coding pass, as a test puts it together again.
 use Rattle.std.proofs.Common.{◌≡◌, ℕ, ◌+◌, ◌<◌, List, [], ◌∷◌, ◌++◌, length, drop, map, sym, ap, ◌∙◌, subst, arith, All}
-use Rattle.std.specs.Prelude.{slice_get, slice_index_or, None, Some}
+use Rattle.std.specs.Prelude.{slice_get, slice_index_or, Some}
 use Rattle.std.specs.Option.{option_map}
 use Rattle.std.proofs.lemmas.List.{append_assoc, drop_more, length-map, map-append}
 use Rattle.std.proofs.lemmas.List.Elements.{All-append, All-cons, All-nil, All-weaker}
@@ -61,9 +61,6 @@ bare_all P jobs each i d lt = each i (slice_index_or jobs i d) (slice_get-get_or
 
 pub all_asked : (p : Plan) → IsPlan p → All (λ (j : Job). IsAsked j.block.now j.style j.ends) p.jobs
 all_asked p is = bare_all (λ (j : Job). IsAsked j.block.now j.style j.ends) p.jobs (λ n j e. (is.each n j e).asked)
-
-pub all_kept : (p : Plan) → IsPlan p → All (λ (j : Job). j.style ≡ None) p.jobs
-all_kept p is = bare_all (λ (j : Job). j.style ≡ None) p.jobs (λ n j e. (is.each n j e).kept)
 
 pub jobs_next : (jobs : List Job) (values more : List WrittenBlock) (r : WrittenBlock) (j : Job) (i : ℕ) → more ≡ values ++ r ∷ [] → map job_of values ++ drop i jobs ≡ jobs → i < length jobs
     → j ≡ slice_index_or jobs i j → r.job ≡ j → map job_of more ++ drop (i + 1) jobs ≡ jobs

@@ -1,5 +1,5 @@
 -- A tile's tile-parts as bytes, made of a plan and of the tile's blocks as they are written.
-use Rattle.std.specs.Prelude.{◌≡◌, ◌+◌, ◌<◌, ◌≤◌, ℕ, List, ◌++◌, length, map, Some, slice_get}
+use Rattle.std.specs.Prelude.{◌≡◌, ◌+◌, ◌<◌, ◌≤◌, ℕ, List, [], ◌∷◌, ◌++◌, length, map, Some, slice_get}
 use Rattle.std.specs.List.{All}
 use Rattle.jx_base.specs.declared.pieces.Block.{Block}
 use Rattle.jx_base.specs.Pieces.{PieceValue}
@@ -14,7 +14,10 @@ use Rattle.jx_stream.specs.First.{canvas_of}
 use Rattle.jx_stream.specs.Shapes.{shapes_of}
 use Rattle.jx_stream.specs.Spells.{TilePart, all_bytes, part_bytes}
 use Rattle.jx_block.specs.Recoded.{WrittenBlock}
-use Rattle.jx_block.specs.Recoding.{pieces_of}
+use Rattle.jx_block.specs.Written.{block_with}
+use Rattle.jx_store.specs.declared.event.Taped.{Taped}
+use Rattle.jx_store.specs.declared.work.Named.{Named}
+use Rattle.jx_store.specs.declared.work.Named.TheVariants.{Made, Bad, Short}
 use Rattle.jx_plan.specs.Plan.{Plan, headers_of}
 use Rattle.jx_plan.specs.Wanted.{marks_of}
 use Rattle.jx_assemble.specs.TileParts.{AreTilePartsOf}
@@ -25,7 +28,26 @@ main_bytes s = spelling 1 segment.Soc ++ (spelling 1 (segment.Siz s.siz) ++ all_
 
 -- a block as it is written
 abbrev pub block_written : WrittenBlock → Block
-block_written r = record r.job.block.now { style = record { bits = r.recoding.style }; pieces = pieces_of r.recoding }
+block_written r = block_with r.job.block.now (Some r.recoding)
+
+-- the blocks of a tape's entries
+abbrev pub made_before : Named WrittenBlock → List WrittenBlock → List WrittenBlock
+made_before (Made r) values = r ∷ values
+made_before (Bad number) values = values
+made_before (Short number) values = values
+
+abbrev pub made_in : List (Taped (Named WrittenBlock)) → List WrittenBlock
+made_in [] = []
+made_in (t ∷ entries) = made_before t.named (made_in entries)
+
+-- an entry has one
+abbrev pub IsMade : Named WrittenBlock → Type 0
+IsMade (Made r) = Unit {0}
+IsMade (Bad number) = ⊥
+IsMade (Short number) = ⊥
+
+abbrev pub AreMade : List (Taped (Named WrittenBlock)) → Type 0
+AreMade entries = All (λ (t : Taped (Named WrittenBlock)). IsMade t.named) entries
 
 -- the number of a tile's first block, and how many it has
 abbrev pub first_block : Plan → ℕ → ℕ

@@ -1,7 +1,7 @@
 //! Laws over the file that is written from headers and code-blocks. The functions do nothing but cite laws of the crates below:
 //! their contracts carry the laws.
 
-ghost use Rattle.std.specs.Prelude.{◌≡◌, ◌<◌, ◌≤◌, ◌^◌, ℕ, List, None, length};
+ghost use Rattle.std.specs.Prelude.{◌≡◌, ◌<◌, ◌≤◌, ◌^◌, ℕ, List, None, false, length};
 ghost use Rattle.std.specs.List.{All, flat_map};
 ghost use Rattle.jx_base.specs.declared.pieces.Block.{Block};
 ghost use Rattle.jx_base.specs.Sound.{IsSound};
@@ -26,16 +26,18 @@ ghost use Rattle.jx_assemble.specs.SameHeaders.{HasHeadersOf};
 ghost use Rattle.jx_assemble.specs.Strict.{IsStrict};
 ghost use Rattle.jx_assemble.specs.Told.{length_total, lengths_from};
 ghost use Rattle.jx_plan.specs.declared.Marks.{Marks};
-ghost use Rattle.jx_plan.specs.Facts.{most_layers};
+ghost use Rattle.jx_layers.specs.Facts.{most_layers};
 ghost use Rattle.jx_plan.specs.KeptFault.{IsFree};
-ghost use Rattle.jx_plan.specs.Plan.{headers_with};
+ghost use Rattle.jx_block.specs.Written.{is_wrong};
+ghost use Rattle.jx_layers.specs.Causal.{first_broken};
+ghost use Rattle.jx_plan.specs.Plan.{blocks_written, headers_with};
 ghost use Rattle.jx_plan.specs.Wanted.{MayBeWanted, Wanted, marks_of};
 ghost use Rattle.jx_plan.specs.Standing.{HeadersStand};
 ghost use Rattle.jx_assemble.specs.TileParts.{IsOutput};
 
 use jx_plan::laws::{
-    blocks_stay, parameters_stay, read_headers_stand, written_headers_are_plain,
-    written_headers_stand,
+    meaning_stays, parameters_stay, read_headers_stand, written_blocks_stand,
+    written_headers_are_plain, written_headers_stand,
 };
 
 /// A written file spells the stream of the headers that it was written from, with its tile-parts' own headers, places and data: no
@@ -123,20 +125,21 @@ pub fn written_is_ready()
 }
 
 /// A file that was read, written anew with at least as many layers as each of its tiles has, at most 65,535, where nothing is in the
-/// way, is read as a stream that keeps its code-blocks, SIZ but for Rsiz, the parameters but for the order, the layers and the
-/// precincts, the steps and the places.
+/// way and each code-block that is coded anew is right, is read as a stream that has its code-blocks as they are written, SIZ but for
+/// Rsiz, the parameters but for the order, the layers, the precincts and the style, the steps and the places, and that means what it meant.
 pub fn rewritten_is_read()
-    ensures { (w : Wanted) (layers : ℕ) (before : Stream) (blocks : List Block) (input out : List ℕ) (is : IsOutput (marks_of w) (headers_with w layers before) blocks out)
+    ensures { (w : Wanted) (layers : ℕ) (before : Stream) (blocks : List Block) (input out : List ℕ) (is : IsOutput (marks_of w) (headers_with w layers before) (blocks_written w blocks) out)
         → IsRead input before → length input ≤ 2 ^ 28 → totals_fault before ≡ None → IsGathered input before blocks
         → ((t : ℕ) → t < tile_number before.siz → layers_of before t ≤ layers) → 1 ≤ layers → layers < 2 ^ 16
-        → MayBeWanted w → IsFree before w layers → AllShort is.parts (tile_number before.siz)
+        → MayBeWanted w → first_broken w.style blocks ≡ None → All (λ (b : Block). is_wrong w.style b ≡ false) blocks → IsFree before w layers → AllShort is.parts (tile_number before.siz)
         → (after : Stream) × IsKeptIn w layers before after blocks out }
 {
     read_headers_stand();
     written_headers_stand();
     written_headers_are_plain();
     parameters_stay();
-    blocks_stay();
+    written_blocks_stand();
+    meaning_stays();
 }
 
 /// The greatest number of layers of any tile is at least that of each, and in the range of COD: 1 to 65,535 (T.800, Table A.14).

@@ -3,6 +3,7 @@
 #![tactic(auto)]
 
 mod assemble;
+mod entries;
 mod front;
 pub mod laws;
 mod leaf;

@@ -53,3 +53,21 @@ impl<'a> Coded for Recoded<'a> {
         Recoded::append(self, part, out)
     }
 }
+
+impl<B: Coded> Coded for &B {
+    ghost block = { λ b. B.block b.now };
+
+    ghost bytes = { λ b. B.bytes b.now };
+
+    fn zero(&self) -> u8 {
+        (**self).zero()
+    }
+
+    fn parts(&self) -> &[OutPart] {
+        (**self).parts()
+    }
+
+    fn append(&self, part: &OutPart, out: &mut Vec<u8>) -> Result<(), NoMemory> {
+        (**self).append(part, out)
+    }
+}

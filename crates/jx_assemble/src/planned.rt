@@ -16,9 +16,10 @@ ghost use Rattle.jx_plan.specs.Wanted.{marks_of};
 ghost use Rattle.jx_assemble.specs.Assembled.{AreOwn, AreTileBytes, IsTooLong as HasMoreBytes};
 ghost use Rattle.jx_assemble.specs.Own.{AreOwnBlocks};
 ghost use Rattle.jx_assemble.specs.Ready.{AreReady};
-ghost use Rattle.jx_assemble.specs.Tile.{AreAtMost, AreValuesOf, IsTile, IsTooLong, StandIn, block_written, main_bytes};
+ghost use Rattle.jx_assemble.specs.Tile.{AreAtMost, AreMade, AreValuesOf, IsTile, IsTooLong, StandIn, block_written, made_in, main_bytes};
 
 use crate::assemble::assemble_values;
+use crate::entries::blocks_of;
 use crate::front::header_bytes;
 use crate::laws::{ready_is_in_range, written_is_ready};
 use crate::parts::Coded;
@@ -28,6 +29,7 @@ use jx_block::Recoded;
 use jx_geom::TileGeom;
 use jx_plan::laws::parameters_stay;
 use jx_plan::{Marks, OutStream};
+use jx_store::Entry;
 use jx_stream::{MainView, Stream, TileView};
 use std::alloc::Global;
 
@@ -106,23 +108,23 @@ pub(crate) fn tile_bytes<B: Coded>(
 }
 
 /// The headers that are written, to which a tile's blocks belong.
-fn tile_headers<'a>(plan: &'a OutStream<'_>, tile: u16, values: &[Recoded<'_>]) -> &'a Stream
+fn tile_headers<'a>(plan: &'a OutStream<'_>, tile: u16, values: &[Entry<Recoded<'_>>]) -> &'a Stream
     requires tile { tile < tile_number plan.now.stream.siz }
-    requires values { AreValuesOf plan.now tile values.now }
+    requires values { AreValuesOf plan.now tile (made_in values.now) }
     ensures value { result.now ≡ headers_of plan.now }
     ensures ready { AreReady (marks_of plan.now.wanted) result.now }
     ensures range { StreamInRange result.now }
     ensures tile { tile < tile_number result.now.siz }
     ensures whole { IsWhole result.now tile }
-    ensures own { AreOwnBlocks result.now (geometry result.now tile) (map block_written values.now) }
-    ensures stand { (blocks : List Block) → StandIn blocks plan.now tile values.now → AreOwn result.now tile blocks (map block_written values.now) }
+    ensures own { AreOwnBlocks result.now (geometry result.now tile) (map block_written (made_in values.now)) }
+    ensures stand { (blocks : List Block) → StandIn blocks plan.now tile (made_in values.now) → AreOwn result.now tile blocks (map block_written (made_in values.now)) }
 {
     ready_is_in_range();
     parameters_stay();
     ready_headers(plan)
 }
 
-/// The tile-parts of a tile, of which `values` are the code-blocks as they are written, in the order of their numbers, with the view
+/// The tile-parts of a tile, of which `values` are the entries of its code-blocks in the order of their numbers, all made, with the view
 /// of the main header. A tile-part begins where the plan's options say, and with the tile; a tile without packets has one (ITU-T
 /// T.800, A.4.2). The time grows with the packets, with the blocks and their parts, with the segments of the tile's header, and
 /// with the tile-parts and their bytes, of which each coded one is copied once.
@@ -135,17 +137,19 @@ pub fn assemble_tile_with(
     plan: &OutStream<'_>,
     main: &MainView<'_>,
     tile: u16,
-    values: &[Recoded<'_>],
+    values: &[Entry<Recoded<'_>>],
     most: u32,
 ) -> Result<Vec<Vec<u8>>, AssembleFault>
     requires main { main.now ≡ record { siz = (headers_of plan.now).siz; main = (headers_of plan.now).main } }
     requires tile { tile < tile_number plan.now.stream.siz }
-    requires values { AreValuesOf plan.now tile values.now }
-    ensures parts { IfOk result (λ parts. (blocks : List Block) → StandIn blocks plan.now tile values.now → IsTile plan.now blocks tile most (map (λ v. v.items) parts.items)) }
-    ensures long { result ≡ Err AssembleFault.TooLong → (blocks : List Block) → StandIn blocks plan.now tile values.now → IsTooLong plan.now blocks tile most }
+    requires made { AreMade values.now }
+    requires values { AreValuesOf plan.now tile (made_in values.now) }
+    ensures parts { IfOk result (λ parts. (blocks : List Block) → StandIn blocks plan.now tile (made_in values.now) → IsTile plan.now blocks tile most (map (λ v. v.items) parts.items)) }
+    ensures long { result ≡ Err AssembleFault.TooLong → (blocks : List Block) → StandIn blocks plan.now tile (made_in values.now) → IsTooLong plan.now blocks tile most }
 {
+    let blocks = blocks_of(alloc, values)?;
     let headers = tile_headers(plan, tile, values);
-    tile_bytes(alloc, headers, main, tile, values, plan.marks(), most)
+    tile_bytes(alloc, headers, main, tile, &blocks, plan.marks(), most)
 }
 
 /// The same, with a view of the main header of its own, for which the time grows with the segments of that header too.
@@ -157,13 +161,14 @@ pub fn assemble_tile(
     alloc: Global,
     plan: &OutStream<'_>,
     tile: u16,
-    values: &[Recoded<'_>],
+    values: &[Entry<Recoded<'_>>],
     most: u32,
 ) -> Result<Vec<Vec<u8>>, AssembleFault>
     requires tile { tile < tile_number plan.now.stream.siz }
-    requires values { AreValuesOf plan.now tile values.now }
-    ensures parts { IfOk result (λ parts. (blocks : List Block) → StandIn blocks plan.now tile values.now → IsTile plan.now blocks tile most (map (λ v. v.items) parts.items)) }
-    ensures long { result ≡ Err AssembleFault.TooLong → (blocks : List Block) → StandIn blocks plan.now tile values.now → IsTooLong plan.now blocks tile most }
+    requires made { AreMade values.now }
+    requires values { AreValuesOf plan.now tile (made_in values.now) }
+    ensures parts { IfOk result (λ parts. (blocks : List Block) → StandIn blocks plan.now tile (made_in values.now) → IsTile plan.now blocks tile most (map (λ v. v.items) parts.items)) }
+    ensures long { result ≡ Err AssembleFault.TooLong → (blocks : List Block) → StandIn blocks plan.now tile (made_in values.now) → IsTooLong plan.now blocks tile most }
 {
     let main = main_view(alloc, plan)?;
     assemble_tile_with(alloc, plan, &main, tile, values, most)

@@ -1,6 +1,6 @@
 //! Lengths in PLT, and a codestream of one tile put together again.
 
-ghost use Rattle.std.specs.Prelude.{◌≡◌, map, [], None, IfOk};
+ghost use Rattle.std.specs.Prelude.{◌≡◌, map, [], IfOk};
 ghost use Rattle.std.specs.List.{All};
 ghost use Rattle.jx_base.specs.declared.pieces.Block.{Block};
 ghost use Rattle.jx_base.specs.Sound.{IsSound};
@@ -10,7 +10,7 @@ ghost use Rattle.jx_block.specs.Recoded.{WrittenBlock};
 ghost use Rattle.jx_stream.specs.First.{tile_number};
 ghost use Rattle.jx_plan.specs.Plan.{MayBePlanned};
 ghost use Rattle.jx_plan.specs.Wanted.{MayBeWanted};
-ghost use Rattle.jx_assemble.specs.Tile.{block_written};
+ghost use Rattle.jx_assemble.specs.Tile.{AreMade, block_written, made_in};
 
 use crate::lengths::put_lengths;
 use crate::{AssembleFault, assemble_tile, main_header};
@@ -18,7 +18,7 @@ use jx_base::{Block, NoMemory};
 use jx_block::{Job, Recoded, recode};
 use jx_gather::gather;
 use jx_plan::{Options, OrderChoice, OutStream, PartChoice, PrecinctChoice, plan_kept};
-use jx_store::Claim;
+use jx_store::{Claim, Entry, Named};
 use jx_stream::{Stream, read_stream};
 use std::alloc::Global;
 
@@ -43,8 +43,7 @@ fn no_lengths(rt: HostRuntime) {
 
 /// A block without a pass, as it is written. Where it has a pass this fails as if memory were refused.
 fn bare_value<'a>(alloc: Global, job: &'a Job<'a>) -> Result<Recoded<'a>, NoMemory>
-    requires asked { IsAsked job.now.block.now job.now.style job.now.ends }
-    requires kept { job.now.style ≡ None }
+    requires { IsAsked job.now.block.now job.now.style job.now.ends }
     ensures job { IfOk result (λ r. r.job ≡ job.entry.now) }
     ensures sound { IfOk result (λ r. IsSound (block_written r)) }
     ensures bare { IfOk result (λ r. (block_written r).pieces ≡ []) }
@@ -61,18 +60,30 @@ fn bare_value<'a>(alloc: Global, job: &'a Job<'a>) -> Result<Recoded<'a>, NoMemo
     Ok(value)
 }
 
-/// The blocks as they are written, where none has a pass.
-fn bare_values<'a>(alloc: Global, jobs: &'a [Job<'a>]) -> Result<Vec<Recoded<'a>>, NoMemory>
-    requires asked { All (λ (j : Job). IsAsked j.block.now j.style j.ends) jobs.now }
-    requires kept { All (λ (j : Job). j.style ≡ None) jobs.now }
-    ensures jobs { IfOk result (λ list. map (λ (r : WrittenBlock). r.job) list.items ≡ jobs.entry.now) }
-    ensures sound { IfOk result (λ list. All IsSound (map block_written list.items)) }
-    ensures bare { IfOk result (λ list. All (λ (b : Block). b.pieces ≡ []) (map block_written list.items)) }
+/// A block's entry.
+fn entry_of<'a>(number: u32, value: Recoded<'a>) -> Entry<Recoded<'a>>
+    ensures { result.named ≡ Named.Made value.entry }
+{
+    Entry {
+        number,
+        worker: 0,
+        seen: number,
+        named: Named::Made(value),
+    }
+}
+
+/// The entries of the blocks as they are written, where none has a pass.
+fn bare_values<'a>(alloc: Global, jobs: &'a [Job<'a>]) -> Result<Vec<Entry<Recoded<'a>>>, NoMemory>
+    requires { All (λ (j : Job). IsAsked j.block.now j.style j.ends) jobs.now }
+    ensures made { IfOk result (λ list. AreMade list.items) }
+    ensures jobs { IfOk result (λ list. map (λ (r : WrittenBlock). r.job) (made_in list.items) ≡ jobs.entry.now) }
+    ensures sound { IfOk result (λ list. All IsSound (map block_written (made_in list.items))) }
+    ensures bare { IfOk result (λ list. All (λ (b : Block). b.pieces ≡ []) (map block_written (made_in list.items))) }
 {
     let mut list = Vec::new(alloc);
     for job in jobs {
         let value = bare_value(alloc, job)?;
-        list.push(value)?;
+        list.push(entry_of(job.number, value))?;
     }
     Ok(list)
 }
@@ -139,7 +150,7 @@ pub(crate) fn kept(
     kept_of(alloc, &stream, &blocks, options, most)
 }
 
-/// Order, precincts and layers are kept.
+/// Order, precincts, style and layers are kept.
 pub(crate) fn with_marks(
     alloc: Global,
     parts: PartChoice,
@@ -152,6 +163,7 @@ pub(crate) fn with_marks(
     Options {
         order: OrderChoice::Keep,
         precincts: PrecinctChoice::Keep,
+        style: None,
         layers: String::new(alloc),
         parts,
         sop,

@@ -20,6 +20,8 @@ returns c =
       steps = c.parameters_stay.ensures.steps;
       planes = c.parameters_stay.ensures.planes;
       places = c.parameters_stay.ensures.geometries;
-      blocks = c.blocks_stay.ensures.written;
+      blocks = c.written_blocks_stand.ensures.blocks;
+      sound = c.written_blocks_stand.ensures.sound;
+      meaning = c.meaning_stays.ensures.written;
     } in
     rewritten_read laws keep

@@ -6,7 +6,7 @@ use Rattle.jx_stream.specs.Shapes.{geometry}
 use Rattle.jx_plan.specs.Wanted.{marks_of}
 use Rattle.jx_assemble.specs.Assembled.{AreOwn}
 use Rattle.jx_assemble.specs.Own.{AreOwnBlocks}
-use Rattle.jx_assemble.specs.Tile.{block_written}
+use Rattle.jx_assemble.specs.Tile.{block_written, made_in}
 use Rattle.jx_assemble.proofs.PlanLemmas.{ParametersStay, plan_inside, plan_own, plan_stands}
 use Rattle.jx_assemble.proofs.planned.tile_headers.Goals as goal
 
@@ -29,12 +29,12 @@ returns-clause-whole c =
 pub returns-clause-own : goal.returns-clause-own
 returns-clause-own c =
     let stay : ParametersStay = record { shapes = c.parameters_stay.ensures.shapes; layers = c.parameters_stay.ensures.layers } in
-    let P : Stream → Type 0 = λ s. AreOwnBlocks s (geometry s c.args.tile) (map block_written c.args.values.now) in
-    subst P (sym c.ready_headers.ensures.value) (plan_own c.args.plan.now c.ready_headers.ensures.plan stay c.args.tile c.args.values.now c.requires.tile c.requires.values)
+    let P : Stream → Type 0 = λ s. AreOwnBlocks s (geometry s c.args.tile) (map block_written (made_in c.args.values.now)) in
+    subst P (sym c.ready_headers.ensures.value) (plan_own c.args.plan.now c.ready_headers.ensures.plan stay c.args.tile (made_in c.args.values.now) c.requires.tile c.requires.values)
 
 pub returns-clause-stand : goal.returns-clause-stand
 returns-clause-stand c blocks stand =
     let stay : ParametersStay = record { shapes = c.parameters_stay.ensures.shapes; layers = c.parameters_stay.ensures.layers } in
-    let own : List Block = map block_written c.args.values.now in
+    let own : List Block = map block_written (made_in c.args.values.now) in
     let P : Stream → Type 0 = λ s. AreOwn s c.args.tile blocks own in
-    subst P (sym c.ready_headers.ensures.value) (plan_stands c.args.plan.now c.ready_headers.ensures.plan stay blocks c.args.tile c.args.values.now c.requires.tile c.requires.values stand)
+    subst P (sym c.ready_headers.ensures.value) (plan_stands c.args.plan.now c.ready_headers.ensures.plan stay blocks c.args.tile (made_in c.args.values.now) c.requires.tile c.requires.values stand)
