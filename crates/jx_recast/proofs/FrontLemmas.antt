@@ -31,7 +31,7 @@ use Rattle.jx_plan.specs.Wanted.{Wanted, marks_of}
 use Rattle.jx_assemble.specs.Ready.{AreShort}
 use Rattle.jx_assemble.specs.Tile.{AreAtMost, IsTile, blocks_in, first_block, main_bytes}
 use Rattle.jx_assemble.specs.TileParts.{AreTilePartsOf, tile_parts}
-use Rattle.jx_recast.specs.Rounds.{BeginsRound, IsInRound, IsLongFrom, IsLongTile, IsShortFront, IsUnmade, LeadOn, most_of_part, with_parts}
+use Rattle.jx_recast.specs.Rounds.{BeginsRound, IsInRound, IsRightTile, IsShortFront, IsSpoiledFrom, IsUnmade, IsUnmadeTile, LeadOn, blocks_of, most_of_part, with_parts}
 use Rattle.jx_recast.specs.declared.halt.Halt.{Halt}
 use Rattle.jx_recast.specs.declared.halt.Halt.TheVariants as halt
 
@@ -61,6 +61,7 @@ front_none p =
     let bytes : List TilePart → List ℕ = flat_map (part_bytes (length p.stream.siz.comps)) in
     record {
       parts = λ t. [];
+      right = λ t h. absurd (omega (arith, h));
       are = λ t h. absurd (omega (arith, h));
       short = λ t h. absurd (omega (arith, h));
       bytes_are = sym (ap (λ (ps : List TilePart). main_bytes (headers_of p) ++ bytes ps) none ∙ append-nil (main_bytes (headers_of p)));
@@ -70,9 +71,9 @@ front_none p =
 parts_joined : (comps : ℕ) (parts : List TilePart) → concat (map (part_bytes comps) parts) ≡ flat_map (part_bytes comps) parts
 parts_joined comps parts = concat_is (map (part_bytes comps) parts) ∙ flat_map-map (λ (x : List ℕ). x) (part_bytes comps) parts
 
-front_with : (p : Plan) (t : ℕ) (bytes : List ℕ) (own : List TilePart) → IsShortFront p t bytes → AreTilePartsOf (marks_of p.wanted) (headers_of p) p.blocks t own → AreShort own
+front_with : (p : Plan) (t : ℕ) (bytes : List ℕ) (own : List TilePart) → IsShortFront p t bytes → IsRightTile p t → AreTilePartsOf (marks_of p.wanted) (headers_of p) (blocks_of p) t own → AreShort own
     → IsShortFront p (t + 1) (bytes ++ flat_map (part_bytes (length p.stream.siz.comps)) own)
-front_with p t bytes own done are short =
+front_with p t bytes own done right are short =
     let parts : ℕ → List TilePart = with_parts done.parts t own in
     let f : TilePart → List ℕ = part_bytes (length p.stream.siz.comps) in
     let main : List ℕ = main_bytes (headers_of p) in
@@ -82,9 +83,13 @@ front_with p t bytes own done are short =
     joined_next parts 0 t (omega arith) ∙ ap (λ (xs : List TilePart). xs ++ parts t) front ∙ ap (λ (xs : List TilePart). joined done.parts 0 t ++ xs) last in
     record {
       parts = parts;
+      right = λ i h. elim (cases_eq i t) [
+        | inl e ↦ subst (IsRightTile p) (sym e) right
+        | inr e ↦ done.right i (omega (arith, h, e))
+      ];
       are = λ i h. elim (cases_eq i t) [
-        | inl e ↦ subst (λ (n : ℕ). AreTilePartsOf (marks_of p.wanted) (headers_of p) p.blocks n (parts n)) (sym e) (subst (AreTilePartsOf (marks_of p.wanted) (headers_of p) p.blocks t) (sym last) are)
-        | inr e ↦ subst (AreTilePartsOf (marks_of p.wanted) (headers_of p) p.blocks i) (sym (other_parts done.parts t own i (omega (arith, h, e)))) (done.are i (omega (arith, h, e)))
+        | inl e ↦ subst (λ (n : ℕ). AreTilePartsOf (marks_of p.wanted) (headers_of p) (blocks_of p) n (parts n)) (sym e) (subst (AreTilePartsOf (marks_of p.wanted) (headers_of p) (blocks_of p) t) (sym last) are)
+        | inr e ↦ subst (AreTilePartsOf (marks_of p.wanted) (headers_of p) (blocks_of p) i) (sym (other_parts done.parts t own i (omega (arith, h, e)))) (done.are i (omega (arith, h, e)))
       ];
       short = λ i h. elim (cases_eq i t) [
         | inl e ↦ subst (λ (n : ℕ). AreShort (parts n)) (sym e) (subst AreShort (sym last) short)
@@ -94,10 +99,10 @@ front_with p t bytes own done are short =
           ∙ ap (λ (b : List ℕ). main ++ b) (sym (flat_map-append f (joined done.parts 0 t) own)) ∙ ap (λ (ps : List TilePart). main ++ flat_map f ps) (sym all);
     }
 
-pub tile_leads : (p : Plan) (t : ℕ) (pieces : List (List ℕ)) → IsTile p p.blocks t most_of_part pieces → LeadOn p t (t + 1) pieces
-tile_leads p t pieces tile bytes front =
+pub tile_leads : (p : Plan) (t : ℕ) (pieces : List (List ℕ)) → IsRightTile p t → IsTile p (blocks_of p) t most_of_part pieces → LeadOn p t (t + 1) pieces
+tile_leads p t pieces right tile bytes front =
     let whole : concat pieces ≡ flat_map (part_bytes (length p.stream.siz.comps)) tile.parts = ap concat tile.bytes_are ∙ parts_joined (length p.stream.siz.comps) tile.parts in
-    subst (λ (more : List ℕ). IsShortFront p (t + 1) (bytes ++ more)) (sym whole) (front_with p t bytes tile.parts front tile.are (short_at_most tile.parts tile.short))
+    subst (λ (more : List ℕ). IsShortFront p (t + 1) (bytes ++ more)) (sym whole) (front_with p t bytes tile.parts front right tile.are (short_at_most tile.parts tile.short))
 
 pub lead_none : (p : Plan) (t : ℕ) → LeadOn p t t []
 lead_none p t bytes front = subst (IsShortFront p t) (sym (append-nil bytes)) front
@@ -151,16 +156,23 @@ blocks_few p t plan inside =
 
 -- ---- a round that isn't made
 pub unmade_of : (p : Plan) (start at held : ℕ) (pieces : List (List ℕ)) (h : Halt) → at < tile_number p.stream.siz → IsInRound p at start held → LeadOn p start at pieces
-    → IsLongTile p at h → IsUnmade p start h
-unmade_of p start at held pieces (halt.TooLong tile) inside round lead long = subst (λ (n : ℕ). IsLongFrom p start n) (sym long.0) (record {
+    → IsUnmadeTile p at h → IsUnmade p start h
+unmade_of p start at held pieces (halt.Bad tile number) inside round lead spoiled = subst (λ (n : ℕ). IsSpoiledFrom p start (halt.Bad n number) n) (sym spoiled.0) (record {
   inside = inside;
-  long = long.1;
+  spoiled = (refl, spoiled.1);
   held = held;
   round = round;
   below = λ bytes front. (bytes ++ concat pieces, lead bytes front);
 })
-unmade_of p start at held pieces halt.Failed inside round lead long = absurd long
-unmade_of p start at held pieces halt.NoMemory inside round lead long = tt
+unmade_of p start at held pieces (halt.TooLong tile) inside round lead spoiled = subst (λ (n : ℕ). IsSpoiledFrom p start (halt.TooLong n) n) (sym spoiled.0) (record {
+  inside = inside;
+  spoiled = (refl, spoiled.1, spoiled.2);
+  held = held;
+  round = round;
+  below = λ bytes front. (bytes ++ concat pieces, lead bytes front);
+})
+unmade_of p start at held pieces halt.Failed inside round lead never = absurd never
+unmade_of p start at held pieces halt.NoMemory inside round lead free = tt
 
 -- ---- a tile has one list of tile-parts
 pub one_tile : (m : Marks) (s : Stream) (blocks : List Block) (t : ℕ) (xs ys : List TilePart) → AreTilePartsOf m s blocks t xs → AreTilePartsOf m s blocks t ys → xs ≡ ys

@@ -1,10 +1,13 @@
 pub mod ProgressLemmas
 pub mod SaidLemmas
 pub mod TileLemmas
+pub mod TapedLemmas
 pub mod FrontLemmas
+pub mod ExtentLemmas
 pub mod WriteLemmas
 pub mod AnswerLemmas
 pub mod OutcomeLemmas
 pub mod OneVerdictLemmas
 pub mod ToldLemmas
 pub mod SomeVerdictLemmas
+pub mod WrongLemmas

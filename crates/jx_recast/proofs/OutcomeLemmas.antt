@@ -1,5 +1,5 @@
 -- Runs after what left the files as they were, on inputs that were cut, and with their line said.
-use Rattle.std.proofs.Common.{◌≡◌, ◌⊎◌, ◌∙◌, ◌<◌, ◌≤◌, ◌+◌, min, ℕ, List, [], length, take, inl, inr, refl, sym, subst, ap, Option, Some, None, IfSome, arith}
+use Rattle.std.proofs.Common.{◌≡◌, ◌⊎◌, ◌∙◌, ◌<◌, ◌≤◌, ◌+◌, min, ℕ, List, [], length, take, inl, inr, refl, subst, ap, Option, Some, None, IfSome, arith}
 use Rattle.std.proofs.lemmas.List.{take_all, length-take}
 use Rattle.std.proofs.lemmas.Bool.{cases_lt}
 use Rattle.jx_outside.specs.Device.{Meaning, joined}
@@ -7,7 +7,8 @@ use Rattle.jx_plan.specs.Wanted.{Wanted}
 use Rattle.jx_recast.specs.declared.status.Status.{Status}
 use Rattle.jx_recast.specs.declared.status.Status.TheVariants as status
 use Rattle.jx_recast.specs.Filed.{IsAnswered, IsUnread}
-use Rattle.jx_words.specs.Words.{Text, Request}
+use Rattle.jx_words.specs.Words.{Text, Request, Work}
+use Rattle.jx_recast.specs.declared.status.TapeEntry.{TapeEntry}
 use Rattle.jx_recast.specs.Outcome.{IsBegun, IsCutShort, IsLimited, IsMade, IsRefused, IsStopped, IsUntouched, IsVerdict, Leaves, Verdict, Ends, EndsFiles, EndsAtWords, EndsAs, PassesLimit, line_of, most_bytes}
 
 pub untouched_twice : (a b c : Meaning) → IsUntouched a b → IsUntouched b c → IsUntouched a c
@@ -48,6 +49,8 @@ leaves_after name w input (status.Limit number found) blocks bytes a b c first n
 leaves_after name w input (status.Choice number place) blocks bytes a b c first (inl next) =
     inl (next.0, record { bytes = next.1.bytes; is = next.1.is; stopped = stopped_after name next.1.bytes a b c first next.1.stopped; count = next.1.count })
 leaves_after name w input (status.Choice number place) blocks bytes a b c first (inr next) = inr (next.0, next.1, untouched_twice a b c first next.2)
+leaves_after name w input (status.Block number) blocks bytes a b c first next =
+    record { bytes = next.bytes; is = next.is; stopped = stopped_after name next.bytes a b c first next.stopped; count = next.count }
 leaves_after name w input status.ReadFault blocks bytes a b c first next = refused_after blocks a b c first next
 leaves_after name w input status.WriteFault blocks bytes a b c first next = cut_after name w input blocks a b c first next
 leaves_after name w input status.NoMemory blocks bytes a b c first next = cut_after name w input blocks a b c first next
@@ -97,6 +100,7 @@ long_verdict w (status.Rule number place) read input long whole verdict = absurd
 long_verdict w (status.Limit number found) read input long whole (inl verdict) = inl (long_limit number found read input long whole verdict)
 long_verdict w (status.Limit number found) read input long whole (inr many) = absurd (omega (arith, many.0))
 long_verdict w (status.Choice number place) read input long whole verdict = absurd (omega (arith, verdict.0))
+long_verdict w (status.Block number) read input long whole verdict = absurd (omega (arith, verdict.0))
 long_verdict w status.ReadFault read input long whole verdict = absurd verdict
 long_verdict w status.WriteFault read input long whole verdict = absurd verdict
 long_verdict w status.NoMemory read input long whole verdict = absurd verdict
@@ -118,21 +122,30 @@ long_leaves name w (status.Rule number place) read input blocks bytes a b long w
 long_leaves name w (status.Limit number found) read input blocks bytes a b long whole verdict leaves =
     (long_limited number blocks read input (limit_one w number found read long (verdict tt)) leaves.0, leaves.1)
 long_leaves name w (status.Choice number place) read input blocks bytes a b long whole verdict leaves = absurd (omega (arith, (verdict tt).0, long))
+long_leaves name w (status.Block number) read input blocks bytes a b long whole verdict leaves = absurd (omega (arith, (verdict tt).0, long))
 long_leaves name w status.ReadFault read input blocks bytes a b long whole verdict leaves = leaves
 long_leaves name w status.WriteFault read input blocks bytes a b long whole verdict leaves = long_cut name w read input blocks a b long leaves
 long_leaves name w status.NoMemory read input blocks bytes a b long whole verdict leaves = long_cut name w read input blocks a b long leaves
 
+-- nothing is done with a front that is too long
+never_done : (w : Wanted) (s : Status) (read : List ℕ) → most_bytes < length read → (IsVerdict s → Verdict w read s) → s ≡ status.Done → ⊥
+never_done w s read long verdict done =
+    let is : Verdict w read status.Done = subst (λ (x : Status). IsVerdict x → Verdict w read x) done verdict tt in
+    omega (arith, is.0, long)
+
 -- what an answer to the bytes read says of the input
-pub ends_read : (request : Request) (read : List ℕ) (s : Status) (blocks bytes : ℕ) (a b c : Meaning)
+pub ends_read : (request : Request) (read : List ℕ) (s : Status) (blocks bytes : ℕ) (tape : List TapeEntry) (a b c : Meaning)
     → IfSome (joined (a.holds request.from)) (λ held. read ≡ take 268435457 held) → IsUntouched a b
-    → IsAnswered request.to request.wanted read s blocks bytes b c → EndsFiles request s blocks bytes a c
-ends_read request read s blocks bytes a b c front first is = elim (cases_lt most_bytes (length read)) [
+    → IsAnswered request.to request.work request.wanted read s blocks bytes tape b c → (most_bytes < length read → tape ≡ []) → EndsFiles request s blocks bytes tape a c
+ends_read request read s blocks bytes tape a b c front first is none = elim (cases_lt most_bytes (length read)) [
   | inr short ↦ record {
     input = read;
     files = record {
       told = short_told (joined (a.holds request.from)) read front short;
       verdict = is.verdict;
       leaves = leaves_after request.to request.wanted read s blocks bytes a b c first is.leaves;
+      tape = is.tape;
+      whole = is.whole;
     };
     unsaid = cut_after request.to request.wanted read blocks a b c first is.unsaid;
   }
@@ -145,73 +158,85 @@ ends_read request read s blocks bytes a b c front first is = elim (cases_lt most
           told = told_whole (joined (a.holds request.from)) read;
           verdict = λ v. long_verdict request.wanted s read input long long_input (is.verdict v);
           leaves = leaves_after request.to request.wanted input s blocks bytes a b c first (long_leaves request.to request.wanted s read input blocks bytes b c long long_input is.verdict is.leaves);
+          tape = inl (none long);
+          whole = λ done. absurd (never_done request.wanted s read long is.verdict done);
         };
         unsaid = cut_after request.to request.wanted input blocks a b c first (long_cut request.to request.wanted read input blocks b c long is.unsaid);
       }
 ]
 
 -- nothing was read to its end, and nothing was made
-pub ends_unread : (request : Request) (s : Status) (a b : Meaning) → (s ≡ status.ReadFault) ⊎ (s ≡ status.NoMemory) → IsUntouched a b → EndsFiles request s 0 0 a b
+pub ends_unread : (request : Request) (s : Status) (a b : Meaning) → (s ≡ status.ReadFault) ⊎ (s ≡ status.NoMemory) → IsUntouched a b → EndsFiles request s 0 0 [] a b
 ends_unread request s a b (inl e) same = rw e (record {
   input = whole (joined (a.holds request.from)) [];
-  files = record { told = told_whole (joined (a.holds request.from)) []; verdict = λ no. absurd no; leaves = (refl, same) };
+  files = record { told = told_whole (joined (a.holds request.from)) []; verdict = λ no. absurd no; leaves = (refl, same); tape = inl refl; whole = λ done. cc };
   unsaid = inl (refl, same);
 })
 ends_unread request s a b (inr e) same = rw e (record {
   input = whole (joined (a.holds request.from)) [];
-  files = record { told = told_whole (joined (a.holds request.from)) []; verdict = λ no. absurd no; leaves = inl (refl, same) };
+  files = record { told = told_whole (joined (a.holds request.from)) []; verdict = λ no. absurd no; leaves = inl (refl, same); tape = inl refl; whole = λ done. cc };
   unsaid = inl (refl, same);
 })
 
 -- the parts of a request
-same_request : (r : Request) (from to : Text) (w : Wanted) → from ≡ r.from → to ≡ r.to → w ≡ r.wanted → ◌≡◌ {A = Request} (record { from = from; to = to; wanted = w }) r
-same_request r from to w e f h = rw (e, f, h) refl
+same_request : (r : Request) (from to : Text) (w : Wanted) (work : Work) → from ≡ r.from → to ≡ r.to → w ≡ r.wanted → work ≡ r.work
+    → ◌≡◌ {A = Request} (record { from = from; to = to; wanted = w; work = work }) r
+same_request r from to w work e f h g = rw (e, f, h, g) refl
 
-pub ends_as : (r : Request) (from to : Text) (w : Wanted) (s : Status) (blocks bytes : ℕ) (old new : Meaning) → from ≡ r.from → to ≡ r.to → w ≡ r.wanted
-    → EndsFiles (record { from = from; to = to; wanted = w }) s blocks bytes old new → EndsFiles r s blocks bytes old new
-ends_as r from to w s blocks bytes old new e f h ends = subst (λ (x : Request). EndsFiles x s blocks bytes old new) (same_request r from to w e f h) ends
+pub ends_as : (r : Request) (from to : Text) (w : Wanted) (work : Work) (s : Status) (blocks bytes : ℕ) (tape : List TapeEntry) (old new : Meaning) → from ≡ r.from → to ≡ r.to → w ≡ r.wanted
+    → work ≡ r.work → EndsFiles (record { from = from; to = to; wanted = w; work = work }) s blocks bytes tape old new → EndsFiles r s blocks bytes tape old new
+ends_as r from to w work s blocks bytes tape old new e f h g ends =
+    subst (λ (x : Request). EndsFiles x s blocks bytes tape old new) (same_request r from to w work e f h g) ends
 
 -- a run over good words whose line was said, or wasn't
-pub ends_said : (request : Request) (s late : Status) (blocks bytes fault_before fault_now : ℕ) (old new : Meaning) (before now : Option (List ℕ))
-    → EndsFiles request s blocks bytes old new → EndsAs s (line_of s blocks bytes) late before now fault_before fault_now
-    → Ends request late blocks old new before now
-ends_said request s late blocks bytes fault_before fault_now old new before now ends (inl said) =
+pub ends_said : (request : Request) (s late : Status) (blocks bytes : ℕ) (tape : List TapeEntry) (fault_before fault_now : ℕ) (old new : Meaning) (before now : Option (List ℕ))
+    → EndsFiles request s blocks bytes tape old new → EndsAs s (line_of s blocks bytes) late before now fault_before fault_now
+    → Ends request late blocks tape old new before now
+ends_said request s late blocks bytes tape fault_before fault_now old new before now ends (inl said) =
     rw said.0 (record { input = ends.input; bytes = bytes; files = ends.files; said = said.1 })
-ends_said request s late blocks bytes fault_before fault_now old new before now ends (inr (inl fault)) = rw fault.0 (record {
+ends_said request s late blocks bytes tape fault_before fault_now old new before now ends (inr (inl fault)) = rw fault.0 (record {
   input = ends.input;
   bytes = bytes;
-  files = record { told = ends.files.told; verdict = λ no. absurd no; leaves = ends.unsaid };
+  files = record { told = ends.files.told; verdict = λ no. absurd no; leaves = ends.unsaid; tape = ends.files.tape; whole = λ done. cc };
   said = fault.1;
 })
-ends_said request s late blocks bytes fault_before fault_now old new before now ends (inr (inr short)) = rw short.0 (record {
+ends_said request s late blocks bytes tape fault_before fault_now old new before now ends (inr (inr short)) = rw short.0 (record {
   input = ends.input;
   bytes = bytes;
-  files = record { told = ends.files.told; verdict = λ no. absurd no; leaves = ends.unsaid };
+  files = record { told = ends.files.told; verdict = λ no. absurd no; leaves = ends.unsaid; tape = ends.files.tape; whole = λ done. cc };
   said = inl short.1;
 })
 
 -- a run over other words whose line was said, or wasn't
 words_said : (blocks bytes : ℕ) (late : Status) (fault_before fault_now : ℕ) (files : Meaning) (before now : Option (List ℕ))
-    → EndsAs status.Words (line_of status.Words blocks bytes) late before now fault_before fault_now → EndsAtWords late 0 files files before now
-words_said blocks bytes late fault_before fault_now files before now (inl said) = rw said.0 (record { words = inl refl; files = refl; none = refl; said = said.1 })
-words_said blocks bytes late fault_before fault_now files before now (inr (inl fault)) = rw fault.0 (record { words = inr (inl refl); files = refl; none = refl; said = fault.1 })
-words_said blocks bytes late fault_before fault_now files before now (inr (inr short)) = rw short.0 (record { words = inr (inr refl); files = refl; none = refl; said = inl short.1 })
+    → EndsAs status.Words (line_of status.Words blocks bytes) late before now fault_before fault_now → EndsAtWords late 0 [] files files before now
+words_said blocks bytes late fault_before fault_now files before now (inl said) = rw said.0 (record { words = inl refl; files = refl; none = refl; tape = refl; said = said.1 })
+words_said blocks bytes late fault_before fault_now files before now (inr (inl fault)) =
+    rw fault.0 (record { words = inr (inl refl); files = refl; none = refl; tape = refl; said = fault.1 })
+words_said blocks bytes late fault_before fault_now files before now (inr (inr short)) =
+    rw short.0 (record { words = inr (inr refl); files = refl; none = refl; tape = refl; said = inl short.1 })
 
 memory_said : (blocks bytes : ℕ) (late : Status) (fault_before fault_now : ℕ) (files : Meaning) (before now : Option (List ℕ))
-    → EndsAs status.NoMemory (line_of status.NoMemory blocks bytes) late before now fault_before fault_now → EndsAtWords late 0 files files before now
-memory_said blocks bytes late fault_before fault_now files before now (inl said) = rw said.0 (record { words = inr (inr refl); files = refl; none = refl; said = said.1 })
-memory_said blocks bytes late fault_before fault_now files before now (inr (inl fault)) = rw fault.0 (record { words = inr (inl refl); files = refl; none = refl; said = fault.1 })
-memory_said blocks bytes late fault_before fault_now files before now (inr (inr short)) = rw short.0 (record { words = inr (inr refl); files = refl; none = refl; said = inl short.1 })
+    → EndsAs status.NoMemory (line_of status.NoMemory blocks bytes) late before now fault_before fault_now → EndsAtWords late 0 [] files files before now
+memory_said blocks bytes late fault_before fault_now files before now (inl said) = rw said.0 (record { words = inr (inr refl); files = refl; none = refl; tape = refl; said = said.1 })
+memory_said blocks bytes late fault_before fault_now files before now (inr (inl fault)) =
+    rw fault.0 (record { words = inr (inl refl); files = refl; none = refl; tape = refl; said = fault.1 })
+memory_said blocks bytes late fault_before fault_now files before now (inr (inr short)) =
+    rw short.0 (record { words = inr (inr refl); files = refl; none = refl; tape = refl; said = inl short.1 })
 
 unread_is : (s late : Status) (blocks bytes fault_before fault_now : ℕ) (files : Meaning) (before now : Option (List ℕ)) → (s ≡ status.Words) ⊎ (s ≡ status.NoMemory)
-    → EndsAs s (line_of s blocks bytes) late before now fault_before fault_now → EndsAtWords late 0 files files before now
+    → EndsAs s (line_of s blocks bytes) late before now fault_before fault_now → EndsAtWords late 0 [] files files before now
 unread_is s late blocks bytes fault_before fault_now files before now (inl e) said = words_said blocks bytes late fault_before fault_now files before now
     (subst (λ (x : Status). EndsAs x (line_of x blocks bytes) late before now fault_before fault_now) e said)
 unread_is s late blocks bytes fault_before fault_now files before now (inr e) said = memory_said blocks bytes late fault_before fault_now files before now
     (subst (λ (x : Status). EndsAs x (line_of x blocks bytes) late before now fault_before fault_now) e said)
 
-pub unread_said : (s late : Status) (blocks bytes fault_before fault_now : ℕ) (old new : Meaning) (before now : Option (List ℕ)) → IsUnread s blocks → new ≡ old
-    → EndsAs s (line_of s blocks bytes) late before now fault_before fault_now → EndsAtWords late blocks old new before now
-unread_said s late blocks bytes fault_before fault_now old new before now unread same said =
-    let ends : EndsAtWords late 0 old old before now = unread_is s late blocks bytes fault_before fault_now old before now unread.0 said in
-    subst (λ (n : ℕ). EndsAtWords late n old new before now) (sym unread.1) (subst (λ (m : Meaning). EndsAtWords late 0 old m before now) (sym same) ends)
+-- with just this tape and this meaning of the files
+ends_with : (late : Status) (blocks : ℕ) (tape : List TapeEntry) (old new : Meaning) (before now : Option (List ℕ)) → blocks ≡ 0 → tape ≡ [] → new ≡ old
+    → EndsAtWords late 0 [] old old before now → EndsAtWords late blocks tape old new before now
+ends_with late blocks tape old new before now e f g ends = record { words = ends.words; files = g; none = e; tape = f; said = ends.said }
+
+pub unread_said : (s late : Status) (blocks bytes : ℕ) (tape : List TapeEntry) (fault_before fault_now : ℕ) (old new : Meaning) (before now : Option (List ℕ)) → IsUnread s blocks → tape ≡ [] → new ≡ old
+    → EndsAs s (line_of s blocks bytes) late before now fault_before fault_now → EndsAtWords late blocks tape old new before now
+unread_said s late blocks bytes tape fault_before fault_now old new before now unread none same said =
+    ends_with late blocks tape old new before now unread.1 none same (unread_is s late blocks bytes fault_before fault_now old before now unread.0 said)

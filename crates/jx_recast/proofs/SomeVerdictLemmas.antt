@@ -1,6 +1,6 @@
 -- Each input has a verdict.
-use Rattle.std.proofs.Common.{◌≡◌, ◌⊎◌, ◌≤◌, ◌<◌, ◌^◌, zero, suc, inl, inr, refl, sym, subst, arith, List, [], ◌∷◌, ℕ, Option, None, Some, length}
-use Rattle.std.proofs.lemmas.Bool.{cases_lt, cases_eq}
+use Rattle.std.proofs.Common.{◌≡◌, ◌⊎◌, ◌≤◌, ◌<◌, ◌^◌, inl, inr, refl, sym, subst, arith, List, [], ◌∷◌, ℕ, Option, None, Some, length}
+use Rattle.std.proofs.lemmas.Bool.{cases_lt}
 use Rattle.jx_base.specs.declared.pieces.Block.{Block}
 use Rattle.jx_marker.specs.Ranges.{AreBytes}
 use Rattle.jx_stream.specs.declared.faults.StreamFault.{StreamFault}
@@ -12,6 +12,7 @@ use Rattle.jx_stream.specs.InRange.{StreamInRange}
 use Rattle.jx_stream.specs.Read.{IsRead}
 use Rattle.jx_stream.specs.Spells.{TilePart}
 use Rattle.jx_stream.proofs.RangeLemmas.{read_in_range}
+use Rattle.jx_gather.specs.BlockOf.{AreBlocksOf}
 use Rattle.jx_gather.specs.Either.{HasBlocks, HasFault}
 use Rattle.jx_gather.specs.Gathered.{IsBroken}
 use Rattle.jx_gather.specs.Totals.{totals_fault}
@@ -20,9 +21,10 @@ use Rattle.jx_gather.proofs.SoundLemmas.{sound_gathered}
 use Rattle.jx_plan.specs.declared.Marks.{Marks}
 use Rattle.jx_plan.specs.declared.faults.PlanFault.{PlanFault}
 use Rattle.jx_plan.specs.declared.faults.PlanFault.TheVariants as unplanned
-use Rattle.jx_plan.specs.Facts.{most_layers}
+use Rattle.jx_layers.specs.Causal.{first_broken}
+use Rattle.jx_layers.specs.Facts.{most_layers}
 use Rattle.jx_plan.specs.KeptFault.{HasKeptCause, IsFree}
-use Rattle.jx_plan.specs.Plan.{MayBePlanned, headers_with}
+use Rattle.jx_plan.specs.Plan.{MayBePlanned, blocks_written, headers_with}
 use Rattle.jx_plan.specs.Standing.{HeadersStand}
 use Rattle.jx_plan.specs.Wanted.{MayBeWanted, Wanted, marks_of}
 use Rattle.jx_plan.proofs.ReadLemmas.{read_stands}
@@ -33,26 +35,21 @@ use Rattle.jx_recast.specs.declared.status.Status.{Status}
 use Rattle.jx_recast.specs.declared.status.Status.TheVariants as status
 use Rattle.jx_recast.specs.Judged.{BreaksTiles}
 use Rattle.jx_recast.specs.Outcome.{Verdict, most_bytes}
-use Rattle.jx_recast.specs.Rewritten.{Reads, headers_of}
+use Rattle.jx_recast.specs.Rewritten.{CanBePlanned, IsRight, IsSpoiled, Reads, headers_of}
 use Rattle.jx_recast.proofs.ToldLemmas.{stop_told}
 use Rattle.jx_recast.proofs.AnswerLemmas.{may_be_planned}
 use Rattle.jx_recast.proofs.FrontLemmas.{one_tile, tiles_stay}
+use Rattle.jx_recast.proofs.WrongLemmas.{all_right, first_or_none, right_or_wrong, wrong_or_right}
 
 -- what the laws of the crates below say
 pub record Laws : Type 0 where
   pub either : (b : List ℕ) → AreBytes b → ((f : StreamFault) × IsFirst b f) ⊎ ((s : Stream) × IsRead b s)
   pub blocks : (b : List ℕ) (s : Stream) → IsRead b s → length b < 2 ^ 64 → HasBlocks b s ⊎ HasFault b s
   pub kept : (s : Stream) (blocks : List Block) (w : Wanted) → MayBePlanned s blocks → MayBeWanted w
-      → IsFree s w (most_layers s) ⊎ ((e : PlanFault) × (e ≡ unplanned.NoMemory → ⊥) × HasKeptCause s w e)
+      → ((first_broken w.style blocks ≡ None) × IsFree s w (most_layers s)) ⊎ ((e : PlanFault) × (e ≡ unplanned.NoMemory → ⊥) × HasKeptCause s blocks w e)
   pub ready : (w : Wanted) (layers : ℕ) (s : Stream) → 1 ≤ layers → layers < 2 ^ 16 → MayBeWanted w → HeadersStand s → StreamInRange s → totals_fault s ≡ None
       → IsFree s w layers → AreReady (marks_of w) (headers_with w layers s)
   pub output : (m : Marks) (s : Stream) (blocks : List Block) → AreReady m s → (b : List ℕ) × IsOutput m s blocks b
-
--- the first of some tiles whose tile-parts aren't all short
-record IsFirstLong (parts : ℕ → List TilePart) (tiles : ℕ) (t : ℕ) : Type 0 where
-  pub inside : t < tiles
-  pub long : AreShort (parts t) → ⊥
-  pub before : (n : ℕ) → n < t → AreShort (parts n)
 
 short_or_not : (parts : List TilePart) → AreShort parts ⊎ (AreShort parts → ⊥)
 short_or_not [] = inl tt
@@ -64,18 +61,35 @@ short_or_not (p ∷ ps) = elim (cases_lt p.sot.psot 4294967296) [
   | inr many ↦ inr (λ (short : AreShort (p ∷ ps)). omega (arith, short.0, many))
 ]
 
-all_short_or_not : (parts : ℕ → List TilePart) (tiles : ℕ) → ((t : ℕ) → t < tiles → AreShort (parts t)) ⊎ ((t : ℕ) × IsFirstLong parts tiles t)
-all_short_or_not parts zero = inl (λ t lt. absurd (omega (arith, lt)))
-all_short_or_not parts (suc n) = elim (all_short_or_not parts n) [
-  | inr (t, first) ↦ inr (t, record { inside = omega (arith, first.inside); long = first.long; before = first.before })
-  | inl all ↦ elim (short_or_not (parts n)) [
-    | inl short ↦ inl (λ t lt. elim (cases_eq t n) [
-      | inl e ↦ subst (λ (k : ℕ). AreShort (parts k)) (sym e) short
-      | inr ne ↦ all t (omega (arith, lt, ne))
-    ])
-    | inr long ↦ inr (n, record { inside = omega arith; long = long; before = all })
+-- a tile is written, or it has a block that is wrong, or else a tile-part that is too long
+module _ (w : Wanted) (s : Stream) (blocks : List Block) (t : ℕ) (parts : List TilePart) (are : AreTilePartsOf (marks_of w) (headers_of w s) (blocks_written w blocks) t parts) where
+  abbrev Written : Type 0
+  Written = IsRight w s blocks t × AreShort parts
+
+  written_or_not : IsSpoiled w s blocks t ⊎ Written
+  written_or_not = elim (wrong_or_right w s blocks t) [
+    | inl wrong ↦ inl (inl wrong)
+    | inr right ↦ elim (short_or_not parts) [
+      | inl short ↦ inr (right, short)
+      | inr long ↦ inl (inr (record { right = right; parts = parts; are = are; long = long }))
+    ]
   ]
-]
+
+  unspoiled : Written → IsSpoiled w s blocks t → ⊥
+  unspoiled is (inl wrong) = right_or_wrong w s blocks t wrong.0 is.0 wrong.1
+  unspoiled is (inr long) = long.long (subst AreShort (one_tile (marks_of w) (headers_of w s) (blocks_written w blocks) t parts long.parts are long.are) is.1)
+
+  spoiled_or_not : IsSpoiled w s blocks t ⊎ (IsSpoiled w s blocks t → ⊥)
+  spoiled_or_not = elim written_or_not [
+    | inl spoiled ↦ inl spoiled
+    | inr is ↦ inr (unspoiled is)
+  ]
+
+  written_of : (IsSpoiled w s blocks t → ⊥) → Written
+  written_of none = elim written_or_not [
+    | inl spoiled ↦ absurd (none spoiled)
+    | inr is ↦ is
+  ]
 
 module _ (laws : Laws) (w : Wanted) (may : MayBeWanted w) (input : List ℕ) (short : length input ≤ most_bytes) where
   stopped : (f : StreamFault) → IsFirst input f ⊎ BreaksTiles input f → (st : Status) × Verdict w input st
@@ -83,36 +97,36 @@ module _ (laws : Laws) (w : Wanted) (may : MayBeWanted w) (input : List ℕ) (sh
   stopped (fault.Limit number found) cause = (status.Limit number found, inl (inr (short, cause)))
   stopped fault.NoMemory cause = absurd (stop_told input fault.NoMemory cause)
 
-  written : (s : Stream) (blocks : List Block) → Reads input s blocks → IsFree s w (most_layers s) → (st : Status) × Verdict w input st
-  written s blocks reads free =
+  spoiled_by : (s : Stream) (blocks : List Block) (t : ℕ) → Reads input s blocks → CanBePlanned w s blocks → t < tile_number s.siz → IsSpoiled w s blocks t
+      → ((n : ℕ) → n < t → IsSpoiled w s blocks n → ⊥) → (st : Status) × Verdict w input st
+  spoiled_by s blocks t reads can inside (inl wrong) lowest =
+      (status.Block wrong.0, (short, record { stream = s; blocks = blocks; reads = reads; can = can; tile = t; inside = inside; is = wrong.1; lowest = lowest }))
+  spoiled_by s blocks t reads can inside (inr long) lowest =
+      (status.Choice 7 t, (short, inl (refl, record { stream = s; blocks = blocks; reads = reads; can = can; inside = inside; is = long; lowest = lowest })))
+
+  written : (s : Stream) (blocks : List Block) → Reads input s blocks → AreBlocksOf s blocks → CanBePlanned w s blocks → (st : Status) × Verdict w input st
+  written s blocks reads of can =
       let range : StreamInRange s = read_in_range input s reads.read in
-      let ready : AreReady (marks_of w) (headers_of w s) = laws.ready w (most_layers s) s (most_some s range) (most_few s range) may (read_stands input s reads.read) range reads.totals free in
-      let out = laws.output (marks_of w) (headers_of w s) blocks ready in
-      let are : (t : ℕ) → t < tile_number s.siz → AreTilePartsOf (marks_of w) (headers_of w s) blocks t (out.1.parts t) =
+      let ready : AreReady (marks_of w) (headers_of w s) =
+      laws.ready w (most_layers s) s (most_some s range) (most_few s range) may (read_stands input s reads.read) range reads.totals can.free in
+      let out = laws.output (marks_of w) (headers_of w s) (blocks_written w blocks) ready in
+      let are : (t : ℕ) → t < tile_number s.siz → AreTilePartsOf (marks_of w) (headers_of w s) (blocks_written w blocks) t (out.1.parts t) =
       λ t lt. out.1.are t (subst (λ (n : ℕ). t < n) (sym (tiles_stay w (most_layers s) s)) lt) in
-      elim (all_short_or_not out.1.parts (tile_number s.siz)) [
-        | inl all ↦ (status.Done, (short, out.0, record { stream = s; blocks = blocks; reads = reads; free = free; output = out.1; short = all }))
-        | inr (t, first) ↦ (
-          status.Choice 7 t,
-          (
-            short,
-            inl (
-              refl,
-              record {
-                stream = s;
-                blocks = blocks;
-                reads = reads;
-                free = free;
-                inside = first.inside;
-                is = record { parts = out.1.parts t; are = are t first.inside; long = first.long };
-                lowest = λ n lt long. long.long (subst AreShort (one_tile (marks_of w) (headers_of w s) blocks n (out.1.parts n) long.parts (are n (omega (arith, lt, first.inside))) long.are) (first.before n lt));
-              },
-            ),
-          ),
-        )
+      elim (first_or_none (λ (t : ℕ). IsSpoiled w s blocks t) 0 (tile_number s.siz) (λ t from lt. spoiled_or_not w s blocks t (out.1.parts t) (are t (omega (arith, lt))))) [
+        | inl first ↦ spoiled_by s blocks first.0 reads can (omega (arith, first.1.below)) first.1.is (λ n lt spoiled. first.1.lowest n (omega arith) lt spoiled)
+        | inr none ↦
+            let each : (t : ℕ) → t < tile_number s.siz → IsRight w s blocks t × AreShort (out.1.parts t) =
+            λ t lt. written_of w s blocks t (out.1.parts t) (are t lt) (none t (omega arith) (omega (arith, lt))) in (
+              status.Done,
+              (
+                short,
+                out.0,
+                record { stream = s; blocks = blocks; reads = reads; can = can; right = all_right w s blocks of.all (λ t lt. (each t lt).0); output = out.1; short = λ t lt. (each t lt).1 },
+              ),
+            )
       ]
 
-  unplanned_for : (s : Stream) (blocks : List Block) (e : PlanFault) → (e ≡ unplanned.NoMemory → ⊥) → HasKeptCause s w e → Reads input s blocks → (st : Status) × Verdict w input st
+  unplanned_for : (s : Stream) (blocks : List Block) (e : PlanFault) → (e ≡ unplanned.NoMemory → ⊥) → HasKeptCause s blocks w e → Reads input s blocks → (st : Status) × Verdict w input st
   unplanned_for s blocks (unplanned.Choice number place) caused cause reads = (status.Choice number place, (short, inr (record { stream = s; blocks = blocks; reads = reads; cause = cause })))
   unplanned_for s blocks (unplanned.Limit number found) caused cause reads = (status.Limit number found, inr (short, record { stream = s; blocks = blocks; reads = reads; cause = cause }))
   unplanned_for s blocks unplanned.NoMemory caused cause reads = absurd (caused refl)
@@ -124,10 +138,12 @@ module _ (laws : Laws) (w : Wanted) (may : MayBeWanted w) (input : List ℕ) (sh
       (sound_gathered input s blocks reads.read small reads.totals reads.gathered)
 
   planned : (s : Stream) (blocks : List Block) → Reads input s blocks → (st : Status) × Verdict w input st
-  planned s blocks reads = elim (laws.kept s blocks w (may_plan s blocks reads) may) [
-    | inl free ↦ written s blocks reads free
-    | inr why ↦ unplanned_for s blocks why.0 why.1 why.2 reads
-  ]
+  planned s blocks reads =
+      let can : MayBePlanned s blocks = may_plan s blocks reads in
+      elim (laws.kept s blocks w can may) [
+        | inl free ↦ written s blocks reads can.blocks_are (record { whole = free.0; free = free.1 })
+        | inr why ↦ unplanned_for s blocks why.0 why.1 why.2 reads
+      ]
 
   gathered : (s : Stream) → IsRead input s → HasBlocks input s ⊎ HasFault input s → (totals_fault s ≡ None) ⊎ ((f : StreamFault) × IsBroken input s f) → (st : Status) × Verdict w input st
   gathered s read (inr broken) totals = stopped broken.0 (inr (record { stream = s; read = read; broken = broken.1 }))

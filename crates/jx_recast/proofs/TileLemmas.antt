@@ -1,44 +1,50 @@
--- The blocks of a tile as they are written: each is the input's own.
-use Rattle.std.proofs.Common.{◌≡◌, ◌∙◌, ◌<◌, ◌+◌, ◌-◌, ◌==◌, nat_lt, ℕ, zero, suc, List, [], ◌∷◌, ◌++◌, length, map, cond, refl, ap, sym, subst, arith, inl, inr, None, Some, slice_index_or}
+-- The blocks of a tile as they are made: each as the plan's style has it written, or wrong.
+use Rattle.std.proofs.Common.{◌≡◌, ◌≢◌, ◌∙◌, ◌<◌, ◌≤◌, ◌+◌, ◌-◌, ℕ, zero, suc, true, false, List, [], ◌∷◌, length, map, take, drop, refl, ap, sym, subst, arith, inl, inr, Option, None, Some}
 use Rattle.std.specs.List.{All, slice_get}
-use Rattle.std.proofs.lemmas.Bool.{cases_lt}
-use Rattle.std.proofs.lemmas.List.Elements.{All-cons}
-use Rattle.std.proofs.lemmas.Option.{get_or_from_slice_get, slice_get_cases, slice_get_within}
+use Rattle.std.specs.Option.{option_map}
+use Rattle.std.proofs.lemmas.Bool.{cases_Bool}
+use Rattle.std.proofs.lemmas.List.{take_all}
+use Rattle.std.proofs.lemmas.List.Elements.{All-cons, All-head, All-tail}
+use Rattle.std.proofs.lemmas.Option.{get_or_from_slice_get, slice_get-map, slice_get_cases, slice_get_within}
 use Rattle.jx_base.specs.declared.names.BlockName.{BlockName}
 use Rattle.jx_base.specs.declared.pieces.Block.{Block}
+use Rattle.jx_base.specs.declared.style.Style.{Style}
 use Rattle.jx_base.specs.Pieces.{PieceValue}
 use Rattle.jx_base.specs.Sound.{IsSound}
-use Rattle.jx_base.proofs.Lists.{get_left, get_right, none_some, some_same}
+use Rattle.jx_base.proofs.Lists.{none_some, some_same}
 use Rattle.jx_geom.specs.Numbering.{blocks_of_all}
 use Rattle.jx_geom.proofs.NumberLemmas.{block_number_taken}
-use Rattle.jx_head.specs.Parts.{cut}
 use Rattle.jx_stream.specs.declared.Stream.{Stream}
 use Rattle.jx_stream.specs.First.{canvas_of, tile_number}
 use Rattle.jx_stream.specs.Shapes.{shapes_of}
-use Rattle.jx_gather.specs.BlockOf.{AreBlocksOf, IsBlockOf, IsFoundOf, pieces_at}
-use Rattle.jx_gather.specs.BlockOf.{AreCutAtEnds as AreCutAsRead, passes_at as passes_of_layer, passes_below as passes_before_layer}
+use Rattle.jx_gather.specs.BlockOf.{AreBlocksOf, IsBlockOf, IsFoundOf}
 use Rattle.jx_gather.specs.Totals.{block_total}
 use Rattle.jx_block.specs.declared.LayerEnd.{LayerEnd}
 use Rattle.jx_block.specs.declared.job.Job.{Job}
-use Rattle.jx_block.specs.Laws.{AreCutAtEnds, AreCutInLayers, passes_at, passes_below}
+use Rattle.jx_block.specs.Jobs.{KeepsCausal}
 use Rattle.jx_block.specs.Recoded.{WrittenBlock, recoding_in}
-use Rattle.jx_block.specs.Recoding.{Recoding, layer_ends, own_segments, pieces_of, recoding, recoding_of}
-use Rattle.jx_block.proofs.CutLemmas.{cut_in_layers}
-use Rattle.jx_block.proofs.LawLemmas.{kept_pieces}
-use Rattle.jx_plan.specs.Facts.{most_layers}
+use Rattle.jx_block.specs.Recoding.{Recoding, layer_ends, recoding}
+use Rattle.jx_block.specs.Written.{block_with, is_wrong, style_for, written_as}
+use Rattle.jx_layers.specs.Facts.{most_layers}
+use Rattle.jx_store.specs.declared.event.Taped.{Taped}
+use Rattle.jx_store.specs.declared.work.Named.{Named}
+use Rattle.jx_store.specs.declared.work.Named.TheVariants.{Made, Bad, Short}
+use Rattle.jx_pool.specs.Tapes.{answer_of, named_as}
 use Rattle.jx_plan.specs.Plan.{IsJob, IsPlan, Plan}
-use Rattle.jx_assemble.specs.Tile.{AreValuesOf, StandIn, block_written, blocks_in, first_block}
+use Rattle.jx_assemble.specs.Tile.{AreMade, AreValuesOf, IsMade, StandIn, block_written, blocks_in, first_block, made_before, made_in}
 use Rattle.jx_assemble.proofs.MostLemmas.{most_each}
-use Rattle.jx_recast.specs.Rounds.{AreMade, CanBeMade, IsKeeping, IsKeptJob}
+use Rattle.jx_recast.specs.MadeRounds.{AreOfBlocks, IsFirstUnmade, IsUnmadeAs}
+use Rattle.jx_recast.specs.Rewritten.{IsWrongBlock}
+use Rattle.jx_recast.specs.Rounds.{IsKeeping, IsRightTile, IsWrongTile, blocks_of}
 
 -- ---- an item and all items
-all_at : {X : Type 0} (P : X → Type 0) (xs : List X) (i : ℕ) (x : X) → All P xs → slice_get xs i ≡ Some x → P x
+pub all_at : {X : Type 0} (P : X → Type 0) (xs : List X) (i : ℕ) (x : X) → All P xs → slice_get xs i ≡ Some x → P x
 all_at P xs i x each is = subst P (get_or_from_slice_get xs i x x is) (each i x (slice_get_within xs i x is))
 
 all_none : {X : Type 0} (P : X → Type 0) → All P []
 all_none P = λ k d lt. absurd (omega (arith, lt))
 
-all_from : {X : Type 0} (P : X → Type 0) (xs : List X) → ((i : ℕ) (x : X) → slice_get xs i ≡ Some x → P x) → All P xs
+pub all_from : {X : Type 0} (P : X → Type 0) (xs : List X) → ((i : ℕ) (x : X) → slice_get xs i ≡ Some x → P x) → All P xs
 all_from P [] each = all_none P
 all_from P (x ∷ xs) each = All-cons P x xs (each 0 x refl) (all_from P xs (λ i y is. each (suc i) y is))
 
@@ -46,25 +52,20 @@ all_mapped : {X Y : Type 0} (P : Y → Type 0) (f : X → Y) (xs : List X) → (
 all_mapped P f [] each = all_none P
 all_mapped P f (x ∷ xs) each = All-cons P (f x) (map f xs) (each 0 x refl) (all_mapped P f xs (λ i y is. each (suc i) y is))
 
-found_at : {X : Type 0} (xs : List X) (n : ℕ) (x : X) → n < length xs → x ≡ slice_index_or xs n x → slice_get xs n ≡ Some x
-found_at xs n x lt is = elim (slice_get_cases xs n).1 [
-  | inl there ↦ there.2 ∙ ap Some (sym (is ∙ get_or_from_slice_get xs n there.0 x there.2))
-  | inr past ↦ absurd (omega (arith, lt, past.0))
-]
+mapped_at : {X Y : Type 0} (f : X → Y) (xs : List X) (i : ℕ) (x : X) → slice_get xs i ≡ Some x → slice_get (map f xs) i ≡ Some (f x)
+mapped_at f xs i x is = slice_get-map f xs i ∙ ap (option_map f) is
 
--- ---- how pieces are cut, in the words of two crates
-at_same : (layer : ℕ) (ps : List PieceValue) → passes_of_layer layer ps ≡ passes_at layer ps
-at_same layer [] = refl
-at_same layer (p ∷ ps) = ap (λ (n : ℕ). cond (p.layer == layer) (p.passes + n) n) (at_same layer ps)
+pub get_take : {X : Type 0} (n : ℕ) (xs : List X) (i : ℕ) → i < n → slice_get (take n xs) i ≡ slice_get xs i
+get_take zero xs i lt = absurd (omega (arith, lt))
+get_take (suc n) [] i lt = refl
+get_take (suc n) (x ∷ xs) zero lt = refl
+get_take (suc n) (x ∷ xs) (suc i) lt = get_take n xs i (omega (arith, lt))
 
-below_same : (layer : ℕ) (ps : List PieceValue) → passes_before_layer layer ps ≡ passes_below layer ps
-below_same layer [] = refl
-below_same layer (p ∷ ps) = ap (λ (n : ℕ). cond (nat_lt p.layer layer) (p.passes + n) n) (below_same layer ps)
-
-cut_as_read : (style : ℕ) (ps : List PieceValue) → AreCutAsRead style ps → AreCutInLayers style ps
-unfolding pieces_at
-cut_as_read style ps cuts layer =
-    cuts layer ∙ ap (λ (n : ℕ). cut style n (passes_of_layer layer ps)) (below_same layer ps) ∙ ap (cut style (passes_below layer ps)) (at_same layer ps)
+pub get_drop : {X : Type 0} (n : ℕ) (xs : List X) (i k : ℕ) → k ≡ n + i → slice_get (drop n xs) i ≡ slice_get xs k
+get_drop zero xs i k is = let same : i ≡ k = omega (arith, is) in ap (slice_get xs) same
+get_drop (suc n) [] i k is = refl
+get_drop (suc n) (x ∷ xs) i zero is = absurd (omega (arith, is))
+get_drop (suc n) (x ∷ xs) i (suc k) is = get_drop n xs i k (omega (arith, is))
 
 -- ---- the block of a number is that of a name
 total_is : (s : Stream) → block_total s ≡ blocks_of_all (canvas_of s.siz) (shapes_of s)
@@ -84,86 +85,216 @@ named_at s blocks k b are is =
     let here : IsFoundOf s taken.0 (slice_get blocks k) = subst P taken.1.1 (are.each taken.0 taken.1.0) in
     record { name = taken.0; tile = taken.1.0.0; of = subst (IsFoundOf s taken.0) is here }
 
--- ---- a block that is kept in its layers is the input's own
-style_kept : (b : Block) (ends : List LayerEnd) (r : Recoding) → Some r ≡ recoding b None ends → r.style ≡ b.style.bits
-unfolding recoding
-style_kept b ends r is = ap (λ (x : Recoding). x.style) (some_same r (recoding_of b None ends (own_segments b)) is)
-
-same_block : (b : Block) (style : ℕ) (pieces : List PieceValue) → style ≡ b.style.bits → pieces ≡ b.pieces → ◌≡◌ {A = Block} (record b { style = record { bits = style }; pieces = pieces }) b
-same_block b style pieces e f = rw (e, f) refl
-
-asked_kept : (r : WrittenBlock) → r.job.style ≡ None → r.job.ends ≡ layer_ends r.job.block.now.pieces → Some r.recoding ≡ recoding_in r.job
-    → Some r.recoding ≡ recoding r.job.block.now None (layer_ends r.job.block.now.pieces)
-asked_kept r style ends is = is ∙ ap (λ s. recoding r.job.block.now s r.job.ends) style ∙ ap (recoding r.job.block.now None) ends
-
-kept_same : (r : WrittenBlock) → IsSound r.job.block.now → AreCutAtEnds r.job.block.now.style.bits r.job.block.now.pieces → r.job.style ≡ None
-    → r.job.ends ≡ layer_ends r.job.block.now.pieces → Some r.recoding ≡ recoding_in r.job → block_written r ≡ r.job.block.now
-kept_same r sound cuts style ends is =
-    let b : Block = r.job.block.now in
-    let asked : Some r.recoding ≡ recoding b None (layer_ends b.pieces) = asked_kept r style ends is in
-    same_block b r.recoding.style (pieces_of r.recoding) (style_kept b (layer_ends b.pieces) r.recoding asked) (kept_pieces b r.recoding sound cuts asked)
-
--- ---- what a plan says of a job that was made
-record IsOwn (p : Plan) (number : ℕ) (r : WrittenBlock) : Type 0 where
-  pub same : block_written r ≡ r.job.block.now
-  pub stands : slice_get p.blocks number ≡ Some r.job.block.now
-  pub sound : IsSound r.job.block.now
-  pub layers : All (λ (q : PieceValue). q.layer < p.layers) r.job.block.now.pieces
-
 fewer : (s : Stream) (layers : ℕ) (b : Block) (n : IsNamed s b) → layers ≡ most_layers s → All (λ (q : PieceValue). q.layer < layers) b.pieces
 fewer s layers b named most = λ k d lt. omega (arith, named.of.layers k d lt, most_each s named.name.tile named.tile, most)
 
-own_at : (p : Plan) (number : ℕ) (r : WrittenBlock) → IsPlan p → IsKeeping p → slice_get p.jobs number ≡ Some r.job → Some r.recoding ≡ recoding_in r.job → IsOwn p number r
-own_at p number r plan keeping there is =
-    let job : IsJob p.blocks number r.job = plan.each number r.job there in
+-- ---- what a plan says of a job
+pub record IsOwn (p : Plan) (number : ℕ) (j : Job) : Type 0 where
+  pub number_is : j.number ≡ number
+  pub stands : slice_get p.blocks number ≡ Some j.block.now
+  pub style : j.style ≡ style_for p.wanted.style j.block.now
+  pub ends : j.ends ≡ layer_ends j.block.now.pieces
+  pub sound : IsSound j.block.now
+  pub causal : KeepsCausal j.block.now (style_for p.wanted.style j.block.now)
+  pub layers : All (λ (q : PieceValue). q.layer < p.layers) j.block.now.pieces
+
+own_at : (p : Plan) (number : ℕ) (j : Job) → IsPlan p → IsKeeping p → slice_get p.jobs number ≡ Some j → IsOwn p number j
+own_at p number j plan keeping there =
+    let job : IsJob p.wanted.style p.blocks number j = plan.each number j there in
+    let named : IsNamed p.stream j.block.now = named_at p.stream p.blocks number j.block.now plan.may.blocks_are job.block_is in
+    record {
+      number_is = job.number_is;
+      stands = job.block_is;
+      style = job.style_is;
+      ends = all_at (λ (x : Job). x.ends ≡ layer_ends x.block.now.pieces) p.jobs number j keeping.jobs there;
+      sound = job.asked.sound;
+      causal = subst (KeepsCausal j.block.now) job.style_is job.asked.causal;
+      layers = fewer p.stream p.layers j.block.now named keeping.layers;
+    }
+
+-- ---- what becomes of a block in its own layers, and of one that is wrong
+pub record BlockLaws : Type 0 where
+  pub sound : (asked : Option Style) (b : Block) → IsSound b → KeepsCausal b (style_for asked b) → IsSound (written_as asked b)
+  pub layers : (asked : Option Style) (b : Block) (most : ℕ) → IsSound b → KeepsCausal b (style_for asked b) → All (λ (q : PieceValue). q.layer < most) b.pieces
+      → All (λ (q : PieceValue). q.layer < most) (written_as asked b).pieces
+  pub wrong : (asked : Option Style) (b : Block) (ends : List LayerEnd) → is_wrong asked b ≡ true → recoding b (style_for asked b) ends ≡ None
+  pub right : (asked : Option Style) (b : Block) (ends : List LayerEnd) → is_wrong asked b ≡ false → recoding b (style_for asked b) ends ≢ None
+
+asked_is : (p : Plan) (number : ℕ) (j : Job) → IsOwn p number j → recoding_in j ≡ recoding j.block.now (style_for p.wanted.style j.block.now) j.ends
+asked_is p number j own = ap (λ (s : Option Style). recoding j.block.now s j.ends) own.style
+
+written_is : (p : Plan) (number : ℕ) (r : WrittenBlock) → IsOwn p number r.job → recoding_in r.job ≡ Some r.recoding → block_written r ≡ written_as p.wanted.style r.job.block.now
+unfolding written_as
+written_is p number r own is =
     let b : Block = r.job.block.now in
-    let sound : IsSound b = all_at IsSound p.blocks number b plan.may.sound job.block_is in
-    let named : IsNamed p.stream b = named_at p.stream p.blocks number b plan.may.blocks_are job.block_is in
-    let cuts : AreCutAtEnds b.style.bits b.pieces = cut_in_layers b.style.bits b.passes b.pieces sound.pieces (cut_as_read b.style.bits b.pieces named.of.cuts) in
-    let ends : r.job.ends ≡ layer_ends b.pieces = all_at (λ (j : Job). j.ends ≡ layer_ends j.block.now.pieces) p.jobs number r.job keeping.jobs there in
-    record { same = kept_same r sound cuts job.kept ends is; stands = job.block_is; sound = sound; layers = fewer p.stream p.layers b named keeping.layers }
+    let made : Some r.recoding ≡ recoding b (style_for p.wanted.style b) (layer_ends b.pieces) =
+    sym is ∙ asked_is p number r.job own ∙ ap (recoding b (style_for p.wanted.style b)) own.ends in
+    ap (block_with b) made
 
-own_of : (p : Plan) (t : ℕ) (values : List WrittenBlock) → IsPlan p → IsKeeping p → AreMade p.jobs (first_block p t) values
-    → (i : ℕ) (r : WrittenBlock) → slice_get values i ≡ Some r → IsOwn p (first_block p t + i) r
-own_of p t values plan keeping made i r is = own_at p (first_block p t + i) r plan keeping (made.each i r is).0 (made.each i r is).1
+right_at : BlockLaws → (p : Plan) (number : ℕ) (j : Job) (r : Recoding) → IsOwn p number j → recoding_in j ≡ Some r → IsWrongBlock p.wanted (slice_get p.blocks number) → ⊥
+right_at laws p number j r own is wrong =
+    let here : is_wrong p.wanted.style j.block.now ≡ true = subst (IsWrongBlock p.wanted) own.stands wrong in
+    none_some r (sym (laws.wrong p.wanted.style j.block.now j.ends here) ∙ sym (asked_is p number j own) ∙ is)
 
-pub values_are : (p : Plan) (t : ℕ) (values : List WrittenBlock) → IsPlan p → IsKeeping p → length values ≡ blocks_in p t → AreMade p.jobs (first_block p t) values → AreValuesOf p t values
-values_are p t values plan keeping count made = record {
-  count = count;
-  each = λ i r is. (made.each i r is).0;
-  sound = all_mapped IsSound block_written values (λ i r is. (let own = own_of p t values plan keeping made i r is in subst IsSound (sym own.same) own.sound));
-  layers = all_mapped (λ (b : Block). All (λ (q : PieceValue). q.layer < p.layers) b.pieces) block_written values
-      (λ i r is. (let own = own_of p t values plan keeping made i r is in
-      let P : Block → Type 0 = λ (b : Block). All (λ (q : PieceValue). q.layer < p.layers) b.pieces in
-      subst P (sym own.same) own.layers));
-}
+wrong_at : BlockLaws → (p : Plan) (number : ℕ) (j : Job) → IsOwn p number j → recoding_in j ≡ None → IsWrongBlock p.wanted (slice_get p.blocks number)
+wrong_at laws p number j own none =
+    let here : is_wrong p.wanted.style j.block.now ≡ true = elim (cases_Bool (is_wrong p.wanted.style j.block.now)) [
+      | inl bad ↦ bad
+      | inr fine ↦ absurd (laws.right p.wanted.style j.block.now j.ends fine (sym (asked_is p number j own) ∙ none))
+    ] in
+    subst (IsWrongBlock p.wanted) (sym own.stands) here
 
-pub values_stand : (p : Plan) (t : ℕ) (values : List WrittenBlock) → IsPlan p → IsKeeping p → AreMade p.jobs (first_block p t) values → StandIn p.blocks p t values
-values_stand p t values plan keeping made i r is =
-    let own = own_of p t values plan keeping made i r is in
-    own.stands ∙ ap Some (sym own.same)
+-- ---- the answer to a job
+made_for : (j : Job) (o : Option Recoding) (r : WrittenBlock) → Made r ≡ named_as j o → (r.job ≡ j) × (o ≡ Some r.recoding)
+made_for j None r e = absurd (cc)
+made_for j (Some q) r e =
+    let same : r ≡ record { job = j; recoding = q } = cc in
+    (ap (λ (x : WrittenBlock). x.job) same, ap (λ (x : WrittenBlock). Some x.recoding) (sym same))
 
--- ---- jobs, one after another
-pub can_be_made : (p : Plan) → IsPlan p → CanBeMade p.jobs
-can_be_made p plan = all_from IsKeptJob p.jobs (λ number job is. record { asked = (plan.each number job is).asked; kept = (plan.each number job is).kept })
+bad_for : (j : Job) (o : Option Recoding) (n : ℕ) → Bad n ≡ named_as j o → (n ≡ j.number) × (o ≡ None)
+bad_for j None n e = let same : n ≡ j.number = cc in (same, refl)
+bad_for j (Some q) n e = absurd (cc)
 
-pub made_none : (jobs : List Job) (first : ℕ) → AreMade jobs first []
-made_none jobs first = record { each = λ i r is. absurd (none_some r is) }
+short_for : (j : Job) (o : Option Recoding) (n : ℕ) → Short n ≡ named_as j o → ⊥
+short_for j None n e = cc
+short_for j (Some q) n e = cc
 
-last_of : (r found : WrittenBlock) (k : ℕ) → slice_get (r ∷ []) k ≡ Some found → (k ≡ 0) × (r ≡ found)
-last_of r found zero e = (refl, some_same r found e)
-last_of r found (suc k) e = absurd (none_some found e)
+unmade_for : (j : Job) (n : ℕ) (named : Named WrittenBlock) → named ≡ answer_of j → IsUnmadeAs named n → (n ≡ j.number) × (recoding_in j ≡ None)
+unmade_for j n named of (inl bad) = bad_for j (recoding_in j) n (sym bad ∙ of)
+unmade_for j n named of (inr short) = absurd (short_for j (recoding_in j) n (sym short ∙ of))
 
-pub made_next : (jobs : List Job) (first n : ℕ) (values more : List WrittenBlock) (r : WrittenBlock) (j : Job) → first + length values ≡ n → n < length jobs → j ≡ slice_index_or jobs n j
-    → more ≡ values ++ r ∷ [] → r.job ≡ j → Some r.recoding ≡ recoding_in j → AreMade jobs first values → AreMade jobs first more
-made_next jobs first n values more r j at lt is push of recoded made = subst (AreMade jobs first) (sym push) (record {
-  each = λ i found got. elim (cases_lt i (length values)) [
-    | inl before ↦ made.each i found (sym (get_left values (r ∷ []) i before) ∙ got)
-    | inr ge ↦
-        let last = last_of r found (i - length values) (sym (get_right values (r ∷ []) i (i - length values) (omega (arith, ge))) ∙ got) in
-        let here : n ≡ first + i = omega (arith, last.0, ge, at) in
-        let there : slice_get jobs (first + i) ≡ Some r.job = subst (λ (k : ℕ). slice_get jobs k ≡ Some r.job) here (found_at jobs n j lt is ∙ ap Some (sym of)) in
-        let own : Some r.recoding ≡ recoding_in r.job = recoded ∙ ap recoding_in (sym of) in
-        subst (λ (x : WrittenBlock). (slice_get jobs (first + i) ≡ Some x.job) × (Some x.recoding ≡ recoding_in x.job)) last.1 (there, own)
-  ];
-})
+-- ---- an entry and its job
+record IsAnswerAt (p : Plan) (number : ℕ) (t : Taped (Named WrittenBlock)) : Type 0 where
+  pub job : Job
+  pub there : slice_get p.jobs number ≡ Some job
+  pub answer : t.named ≡ answer_of job
+
+some_mapped : {X Y : Type 0} (f : X → Y) (o : Option X) (y : Y) → option_map f o ≡ Some y → (x : X) × (o ≡ Some x) × (y ≡ f x)
+some_mapped f None y e = absurd (none_some y e)
+some_mapped f (Some x) y e = (x, refl, sym (some_same (f x) y e))
+
+answer_at : (p : Plan) (first count i : ℕ) (entries : List (Taped (Named WrittenBlock))) (t : Taped (Named WrittenBlock)) → AreOfBlocks p first count entries → slice_get entries i ≡ Some t
+    → IsAnswerAt p (first + i) t
+answer_at p first count i entries t are is =
+    let jobs : List Job = take count (drop first p.jobs) in
+    let named : slice_get (map (λ (x : Taped (Named WrittenBlock)). x.named) entries) i ≡ Some t.named = mapped_at (λ (x : Taped (Named WrittenBlock)). x.named) entries i t is in
+    let here : option_map answer_of (slice_get jobs i) ≡ Some t.named =
+    sym (slice_get-map answer_of jobs i) ∙ sym (ap (λ (xs : List (Named WrittenBlock)). slice_get xs i) are.answers) ∙ named in
+    let found = some_mapped answer_of (slice_get jobs i) t.named here in
+    let inside : i < count = omega (arith, slice_get_within entries i t is, are.count_is) in
+    record {
+      job = found.0;
+      there = sym (get_take count (drop first p.jobs) i inside ∙ get_drop first p.jobs i (first + i) refl) ∙ found.1;
+      answer = found.2;
+    }
+
+-- ---- made entries and their blocks
+made_is : (n : Named WrittenBlock) → IsMade n → (r : WrittenBlock) × (n ≡ Made r)
+made_is (Made r) made = (r, refl)
+made_is (Bad number) never = absurd never
+made_is (Short number) never = absurd never
+
+made_first : (n : Named WrittenBlock) (r : WrittenBlock) (rest : List WrittenBlock) → n ≡ Made r → made_before n rest ≡ r ∷ rest
+made_first n r rest is = rw is refl
+
+made_rest : (t : Taped (Named WrittenBlock)) (ts : List (Taped (Named WrittenBlock))) → AreMade (t ∷ ts) → (r : WrittenBlock) × (t.named ≡ Made r) × (made_in (t ∷ ts) ≡ r ∷ made_in ts)
+made_rest t ts each =
+    let first = made_is t.named (All-head (λ (x : Taped (Named WrittenBlock)). IsMade x.named) t ts each) in
+    (first.0, first.1, made_first t.named first.0 (made_in ts) first.1)
+
+made_later : (t : Taped (Named WrittenBlock)) (ts : List (Taped (Named WrittenBlock))) → AreMade (t ∷ ts) → AreMade ts
+made_later t ts each = All-tail (λ (x : Taped (Named WrittenBlock)). IsMade x.named) t ts each
+
+made_count : (entries : List (Taped (Named WrittenBlock))) → AreMade entries → length (made_in entries) ≡ length entries
+made_count [] each = refl
+made_count (t ∷ ts) each =
+    let first = made_rest t ts each in
+    let rest : length (made_in ts) ≡ length ts = made_count ts (made_later t ts each) in
+    ap length first.2 ∙ ap suc rest
+
+record IsMadeAt (entries : List (Taped (Named WrittenBlock))) (i : ℕ) (r : WrittenBlock) : Type 0 where
+  pub entry : Taped (Named WrittenBlock)
+  pub there : slice_get entries i ≡ Some entry
+  pub made : entry.named ≡ Made r
+
+made_at : (entries : List (Taped (Named WrittenBlock))) (i : ℕ) (r : WrittenBlock) → AreMade entries → slice_get (made_in entries) i ≡ Some r → IsMadeAt entries i r
+made_at [] i r each is = absurd (none_some r is)
+made_at (t ∷ ts) zero r each is =
+    let first = made_rest t ts each in
+    let same : first.0 ≡ r = some_same first.0 r (sym (ap (λ (xs : List WrittenBlock). slice_get xs 0) first.2) ∙ is) in
+    record { entry = t; there = refl; made = first.1 ∙ ap Made same }
+made_at (t ∷ ts) (suc i) r each is =
+    let first = made_rest t ts each in
+    let later = made_at ts i r (made_later t ts each) (sym (ap (λ (xs : List WrittenBlock). slice_get xs (suc i)) first.2) ∙ is) in
+    record { entry = later.entry; there = later.there; made = later.made }
+
+-- ---- the blocks of a tile
+record IsMadeOf (p : Plan) (number : ℕ) (r : WrittenBlock) : Type 0 where
+  pub there : slice_get p.jobs number ≡ Some r.job
+  pub own : IsOwn p number r.job
+  pub written : block_written r ≡ written_as p.wanted.style r.job.block.now
+
+made_of : (p : Plan) (number : ℕ) (t : Taped (Named WrittenBlock)) (r : WrittenBlock) → IsPlan p → IsKeeping p → IsAnswerAt p number t → t.named ≡ Made r → IsMadeOf p number r
+made_of p number t r plan keeping at made =
+    let for = made_for at.job (recoding_in at.job) r (sym made ∙ at.answer) in
+    let there : slice_get p.jobs number ≡ Some r.job = at.there ∙ ap Some (sym for.0) in
+    let own : IsOwn p number r.job = own_at p number r.job plan keeping there in
+    record { there = there; own = own; written = written_is p number r own (ap recoding_in for.0 ∙ for.1) }
+
+module _ (laws : BlockLaws) (p : Plan) (t count : ℕ) (entries : List (Taped (Named WrittenBlock))) (plan : IsPlan p) (keeping : IsKeeping p) (are : AreOfBlocks p (first_block p t) count entries) where
+  value_at : (i : ℕ) (r : WrittenBlock) → AreMade entries → slice_get (made_in entries) i ≡ Some r → IsMadeOf p (first_block p t + i) r
+  value_at i r made is =
+      let at = made_at entries i r made is in
+      made_of p (first_block p t + i) at.entry r plan keeping (answer_at p (first_block p t) count i entries at.entry are at.there) at.made
+
+  pub values_are : AreMade entries → count ≡ blocks_in p t → AreValuesOf p t (made_in entries)
+  values_are made all = record {
+    count = made_count entries made ∙ are.count_is ∙ all;
+    each = λ i r is. (value_at i r made is).there;
+    sound = all_mapped IsSound block_written (made_in entries) (λ i r is.
+        let of = value_at i r made is in
+        subst IsSound (sym of.written) (laws.sound p.wanted.style r.job.block.now of.own.sound of.own.causal));
+    layers = all_mapped (λ (b : Block). All (λ (q : PieceValue). q.layer < p.layers) b.pieces) block_written (made_in entries) (λ i r is.
+        let of = value_at i r made is in
+        subst (λ (b : Block). All (λ (q : PieceValue). q.layer < p.layers) b.pieces) (sym of.written)
+        (laws.layers p.wanted.style r.job.block.now p.layers of.own.sound of.own.causal of.own.layers));
+  }
+
+  pub values_stand : AreMade entries → StandIn (blocks_of p) p t (made_in entries)
+  values_stand made i r is =
+      let of = value_at i r made is in
+      mapped_at (written_as p.wanted.style) p.blocks (first_block p t + i) r.job.block.now of.own.stands ∙ ap Some (sym of.written)
+
+  right_below : (n k : ℕ) → AreMade (take k entries) → first_block p t ≤ n → n < first_block p t + k → n < first_block p t + count → IsWrongBlock p.wanted (slice_get p.blocks n) → ⊥
+  right_below n k made from below inside wrong =
+      let i : ℕ = n - first_block p t in
+      let number : first_block p t + i ≡ n = omega (arith, from) in
+      elim (slice_get_cases entries i).1 [
+        | inl found ↦
+            let here : slice_get (take k entries) i ≡ Some found.0 = get_take k entries i (omega (arith, from, below)) ∙ found.2 in
+            let is = made_is found.0.named (all_at (λ (x : Taped (Named WrittenBlock)). IsMade x.named) (take k entries) i found.0 made here) in
+            let at = answer_at p (first_block p t) count i entries found.0 are found.2 in
+            let for = made_for at.job (recoding_in at.job) is.0 (sym is.1 ∙ at.answer) in
+            let own : IsOwn p (first_block p t + i) at.job = own_at p (first_block p t + i) at.job plan keeping at.there in
+            right_at laws p (first_block p t + i) at.job is.0.recoding own for.1 (subst (λ (m : ℕ). IsWrongBlock p.wanted (slice_get p.blocks m)) (sym number) wrong)
+        | inr past ↦ absurd (omega (arith, past.0, are.count_is, from, inside))
+      ]
+
+  pub tile_right : AreMade entries → count ≡ blocks_in p t → IsRightTile p t
+  tile_right made all n from below wrong =
+      let whole : AreMade (take count entries) = subst AreMade (sym (take_all count entries (omega (arith, are.count_is)))) made in
+      right_below n count whole from (omega (arith, below, all)) (omega (arith, below, all)) wrong
+
+  pub tile_wrong : (number : ℕ) → IsFirstUnmade entries number → count ≡ blocks_in p t → IsWrongTile p t number
+  tile_wrong number first all =
+      let at = answer_at p (first_block p t) count first.at entries first.entry are first.there in
+      let own : IsOwn p (first_block p t + first.at) at.job = own_at p (first_block p t + first.at) at.job plan keeping at.there in
+      let none = unmade_for at.job number first.entry.named at.answer first.unmade in
+      let is : first_block p t + first.at ≡ number = sym own.number_is ∙ sym none.0 in
+      let inside : first.at < length entries = slice_get_within entries first.at first.entry first.there in
+      record {
+        from = omega (arith, is);
+        below = omega (arith, is, inside, are.count_is, all);
+        wrong = subst (λ (m : ℕ). IsWrongBlock p.wanted (slice_get p.blocks m)) is (wrong_at laws p (first_block p t + first.at) at.job own none.1);
+        lowest = λ n from below. right_below n first.at first.before from (omega (arith, is, below)) (omega (arith, is, below, inside, are.count_is));
+      }

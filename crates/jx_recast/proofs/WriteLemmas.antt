@@ -9,11 +9,11 @@ use Rattle.jx_outside.specs.declared.refused.Refused.TheVariants as refused
 use Rattle.jx_stream.specs.First.{tile_number}
 use Rattle.jx_plan.specs.Plan.{Plan, headers_of}
 use Rattle.jx_assemble.specs.Tile.{main_bytes}
-use Rattle.jx_recast.specs.Filed.{IsFileBegun, IsFileHalted, IsFileMade}
+use Rattle.jx_recast.specs.Filed.{IsFileBegun, IsFileHalted, IsFileMade, IsFileStopped}
 use Rattle.jx_recast.specs.Halts.{halt_of}
 use Rattle.jx_recast.specs.Outcome.{IsUntouched}
 use Rattle.jx_recast.specs.Progress.{HasWritten, SomeFront}
-use Rattle.jx_recast.specs.Rounds.{BeginsRound, EndsRound, HasFront, HasRounds, HasWhole, IsCutAfter, IsFault, IsHalted, IsHaltedByFault, IsPlace, IsShortFront, IsUnmade, IsUnwritten, IsWholeFile, LeadOn, LeadsBy}
+use Rattle.jx_recast.specs.Rounds.{BeginsRound, EndsRound, HasFront, HasRounds, HasWhole, IsCutAfter, IsFault, IsHalted, IsHaltedByFault, IsHaltedTile, IsPlace, IsShortFront, IsSpoiledAfter, IsUnmade, IsUnwritten, IsWholeFile, LeadOn, LeadsBy}
 use Rattle.jx_words.specs.Words.{Text}
 use Rattle.jx_recast.specs.declared.halt.Halt.{Halt}
 use Rattle.jx_recast.specs.declared.halt.Halt.TheVariants as halt
@@ -38,12 +38,14 @@ pub cut_none : (p : Plan) (start : ℕ) (m : Meaning) → start < tile_number p.
 cut_none p start m inside begins = record { more = []; next = start; lead = leads_none p start; inside = omega arith; ends = inl begins; some = none_of m [] }
 
 pub unmade_unwritten : (p : Plan) (start : ℕ) (h : Halt) (m : Meaning) → start < tile_number p.stream.siz → BeginsRound p start → IsUnmade p start h → IsUnwritten p start h m m
-unmade_unwritten p start (halt.TooLong tile) m inside begins long = record { more = []; from = start; lead = leads_none p start; meaning = nothing_written m; long = long }
+unmade_unwritten p start (halt.Bad tile number) m inside begins spoiled = record { more = []; from = start; lead = leads_none p start; meaning = nothing_written m; spoiled = spoiled }
+unmade_unwritten p start (halt.TooLong tile) m inside begins spoiled = record { more = []; from = start; lead = leads_none p start; meaning = nothing_written m; spoiled = spoiled }
 unmade_unwritten p start halt.Failed m inside begins never = absurd never
 unmade_unwritten p start halt.NoMemory m inside begins free = cut_none p start m inside begins
 
 pub cut_round : (p : Plan) (start next block : ℕ) (pieces : List (List ℕ)) (h : Halt) (old new : Meaning) → IsPlace p next block → EndsRound p next → LeadOn p start next pieces
     → IsFault h → SomeFront old new (concat pieces) → IsUnwritten p start h old new
+cut_round p start next block pieces (halt.Bad tile number) old new place ends lead never some = absurd never
 cut_round p start next block pieces (halt.TooLong tile) old new place ends lead never some = absurd never
 cut_round p start next block pieces halt.Failed old new place ends lead fault some =
     record { more = concat pieces; next = next; lead = lead; inside = place.inside; ends = ends; some = some }
@@ -72,14 +74,18 @@ rounds_all p tile tiles block n k old new place is all rounds =
     let same : tile ≡ tile_number p.stream.siz = omega (arith, place.inside, is, all) in
     subst (λ (t : ℕ). HasRounds p 0 t n k old new) same rounds
 
-pub unwritten_after : (p : Plan) (mid n k : ℕ) (h : Halt) (old now new : Meaning) → HasRounds p 0 mid n k old now → IsUnwritten p mid h now new → IsUnwritten p 0 h old new
-unwritten_after p mid n k (halt.TooLong tile) old now new first later = record {
+spoiled_after : (p : Plan) (mid n k : ℕ) (h : Halt) (tile : ℕ) (old now new : Meaning) → HasRounds p 0 mid n k old now → IsSpoiledAfter p mid h tile now new → IsSpoiledAfter p 0 h tile old new
+spoiled_after p mid n k h tile old now new first later = record {
   more = first.more ++ later.more;
   from = later.from;
   lead = leads_then p 0 mid later.from first.more later.more first.lead later.lead;
   meaning = both_written old now new (first.more ++ later.more) first.more later.more refl first.meaning later.meaning;
-  long = later.long;
+  spoiled = later.spoiled;
 }
+
+pub unwritten_after : (p : Plan) (mid n k : ℕ) (h : Halt) (old now new : Meaning) → HasRounds p 0 mid n k old now → IsUnwritten p mid h now new → IsUnwritten p 0 h old new
+unwritten_after p mid n k (halt.Bad tile number) old now new first later = spoiled_after p mid n k (halt.Bad tile number) tile old now new first later
+unwritten_after p mid n k (halt.TooLong tile) old now new first later = spoiled_after p mid n k (halt.TooLong tile) tile old now new first later
 unwritten_after p mid n k halt.Failed old now new first later = record {
   more = first.more ++ later.more;
   next = later.next;
@@ -112,6 +118,7 @@ header_front : (p : Plan) (header : List ℕ) → header ≡ main_bytes (headers
 header_front p header is = subst (IsShortFront p 0) (sym is) (front_none p)
 
 pub header_cut : (p : Plan) (header : List ℕ) (h : Halt) (old new : Meaning) → header ≡ main_bytes (headers_of p) → IsFault h → SomeFront old new header → IsHalted p h old new
+header_cut p header (halt.Bad tile number) old new is never some = absurd never
 header_cut p header (halt.TooLong tile) old new is never some = absurd never
 header_cut p header halt.Failed old new is fault some =
     record { bytes = header; of = inl (record { tiles = 0; inside = omega arith; front = header_front p header is; ends = first_ends p }); some = some }
@@ -134,22 +141,27 @@ cut_after_header p header old now new is wrote cut = record {
   some = front_of_later old now new (header ++ cut.more) header cut.more refl wrote cut.some;
 }
 
-pub halted_after : (p : Plan) (header : List ℕ) (h : Halt) (old now new : Meaning) → header ≡ main_bytes (headers_of p) → now ≡ after_write header old → IsUnwritten p 0 h now new → IsHalted p h old new
-halted_after p header (halt.TooLong tile) old now new is wrote long =
-    let front : IsShortFront p long.from (header ++ long.more) = long.lead header (header_front p header is) in
+spoiled_after_header : (p : Plan) (header : List ℕ) (h : Halt) (tile : ℕ) (old now new : Meaning) → header ≡ main_bytes (headers_of p) → now ≡ after_write header old → IsSpoiledAfter p 0 h tile now new
+    → IsHaltedTile p h tile old new
+spoiled_after_header p header h tile old now new is wrote after =
+    let front : IsShortFront p after.from (header ++ after.more) = after.lead header (header_front p header is) in
     record {
-      bytes = header ++ long.more;
+      bytes = header ++ after.more;
       is = record {
-        inside = long.long.inside;
-        long = long.long.long;
-        start = long.from;
+        inside = after.spoiled.inside;
+        spoiled = after.spoiled.spoiled;
+        start = after.from;
         front = front;
-        held = long.long.held;
-        round = long.long.round;
-        below = long.long.below (header ++ long.more) front;
+        held = after.spoiled.held;
+        round = after.spoiled.round;
+        below = after.spoiled.below (header ++ after.more) front;
       };
-      meaning = both_written old now new (header ++ long.more) header long.more refl wrote long.meaning;
+      meaning = both_written old now new (header ++ after.more) header after.more refl wrote after.meaning;
     }
+
+pub halted_after : (p : Plan) (header : List ℕ) (h : Halt) (old now new : Meaning) → header ≡ main_bytes (headers_of p) → now ≡ after_write header old → IsUnwritten p 0 h now new → IsHalted p h old new
+halted_after p header (halt.Bad tile number) old now new is wrote after = spoiled_after_header p header (halt.Bad tile number) tile old now new is wrote after
+halted_after p header (halt.TooLong tile) old now new is wrote after = spoiled_after_header p header (halt.TooLong tile) tile old now new is wrote after
 halted_after p header halt.Failed old now new is wrote cut = cut_after_header p header old now new is wrote cut
 halted_after p header halt.NoMemory old now new is wrote cut = cut_after_header p header old now new is wrote cut
 
@@ -172,6 +184,7 @@ eoc_begun p count old now new front some = record {
 }
 
 pub eoc_cut : (p : Plan) (count : ℕ) (h : Halt) (old now new : Meaning) → HasFront p (tile_number p.stream.siz) count old now → IsFault h → SomeFront now new (255 ∷ 217 ∷ []) → IsHalted p h old new
+eoc_cut p count (halt.Bad tile number) old now new front never some = absurd never
 eoc_cut p count (halt.TooLong tile) old now new front never some = absurd never
 eoc_cut p count halt.Failed old now new front fault some = eoc_begun p count old now new front some
 eoc_cut p count halt.NoMemory old now new front fault some = eoc_begun p count old now new front some
@@ -209,9 +222,13 @@ begun_at p name old created new is fault = record {
   begun = inr (inl (old, fault.some.0, untouched old, subst (λ (m : Meaning). HasWritten m new fault.bytes fault.some.0) is fault.some.1));
 }
 
+stopped_at : (p : Plan) (name : Text) (h : Halt) (tile : ℕ) (old created new : Meaning) → created ≡ after_create name old → IsHaltedTile p h tile created new → IsFileStopped p name h tile old new
+stopped_at p name h tile old created new is halted =
+    record { bytes = halted.bytes; is = halted.is; stopped = (old, untouched old, halted.meaning ∙ ap (after_write halted.bytes) is) }
+
 pub file_halted : (p : Plan) (name : Text) (h : Halt) (old created new : Meaning) → created ≡ after_create name old → IsHalted p h created new → IsFileHalted p name h old new
-file_halted p name (halt.TooLong tile) old created new is long =
-    record { bytes = long.bytes; is = long.is; stopped = (old, untouched old, long.meaning ∙ ap (after_write long.bytes) is) }
+file_halted p name (halt.Bad tile number) old created new is halted = stopped_at p name (halt.Bad tile number) tile old created new is halted
+file_halted p name (halt.TooLong tile) old created new is halted = stopped_at p name (halt.TooLong tile) tile old created new is halted
 file_halted p name halt.Failed old created new is fault = begun_at p name old created new is fault
 file_halted p name halt.NoMemory old created new is fault = begun_at p name old created new is fault
 
@@ -223,6 +240,7 @@ nothing_begun p name m = record {
 }
 
 pub file_uncreated : (p : Plan) (name : Text) (h : Halt) (old new : Meaning) → IsFault h → new ≡ old → IsFileHalted p name h old new
+file_uncreated p name (halt.Bad tile number) old new never same = absurd never
 file_uncreated p name (halt.TooLong tile) old new never same = absurd never
 file_uncreated p name halt.Failed old new fault same = subst (λ (m : Meaning). IsFileBegun p name old m) (sym same) (nothing_begun p name old)
 file_uncreated p name halt.NoMemory old new fault same = subst (λ (m : Meaning). IsFileBegun p name old m) (sym same) (nothing_begun p name old)

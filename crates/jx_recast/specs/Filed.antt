@@ -8,6 +8,10 @@ use Rattle.jx_plan.specs.Plan.{IsPlan, Plan}
 use Rattle.jx_recast.specs.Outcome.{IsBegun, IsCutShort, IsMade, IsStopped, IsVerdict, Leaves, Verdict}
 use Rattle.jx_recast.specs.Rounds.{IsHaltedAt, IsRoundFront, IsWholeFile}
 use Rattle.jx_words.specs.Words.{Text}
+use Rattle.jx_words.specs.Words.{Work}
+use Rattle.jx_recast.specs.declared.status.TapeEntry.{TapeEntry}
+use Rattle.jx_recast.specs.Rewritten.{HasBlocks}
+use Rattle.jx_recast.specs.Tapes.{IsRunTape, IsTapeOf}
 use Rattle.jx_recast.specs.declared.halt.Halt.{Halt}
 use Rattle.jx_recast.specs.declared.halt.Halt.TheVariants as halt
 use Rattle.jx_recast.specs.declared.status.Status.{Status}
@@ -26,24 +30,28 @@ pub record IsFileBegun (p : Plan) (name : Text) (old new : Meaning) : Type 0 whe
   pub of : IsRoundFront p bytes ⊎ IsWholeFile p bytes
   pub begun : IsBegun name bytes old new
 
-pub record IsFileStopped (p : Plan) (name : Text) (tile : ℕ) (old new : Meaning) : Type 0 where
+pub record IsFileStopped (p : Plan) (name : Text) (why : Halt) (tile : ℕ) (old new : Meaning) : Type 0 where
   pub bytes : List ℕ
-  pub is : IsHaltedAt p tile bytes
+  pub is : IsHaltedAt p why tile bytes
   pub stopped : IsStopped name bytes old new
 
 abbrev pub IsFileHalted : Plan → Text → Halt → Meaning → Meaning → Type 0
-IsFileHalted p name (halt.TooLong tile) old new = IsFileStopped p name tile old new
+IsFileHalted p name (halt.Bad tile number) old new = IsFileStopped p name (halt.Bad tile number) tile old new
+IsFileHalted p name (halt.TooLong tile) old new = IsFileStopped p name (halt.TooLong tile) tile old new
 IsFileHalted p name halt.Failed old new = IsFileBegun p name old new
 IsFileHalted p name halt.NoMemory old new = IsFileBegun p name old new
 
 -- what becomes of an input whose bytes were read
-pub record IsAnswered (name : Text) (w : Wanted) (input : List ℕ) (s : Status) (blocks bytes : ℕ) (old new : Meaning) : Type 0 where
+pub record IsAnswered (name : Text) (work : Work) (w : Wanted) (input : List ℕ) (s : Status) (blocks bytes : ℕ) (entries : List TapeEntry) (old new : Meaning) : Type 0 where
   pub verdict : IsVerdict s → Verdict w input s
   pub leaves : Leaves name w input s blocks bytes old new
   pub unsaid : IsCutShort name w input blocks old new
+  pub tape : IsRunTape work input entries
+  pub whole : s ≡ status.Done → HasBlocks input (length entries)
 
 -- the status of a file that wasn't written to its end, and that of an input in which something is violated or passed
 abbrev pub status_of : Halt → Status
+status_of (halt.Bad tile number) = status.Block number
 status_of (halt.TooLong tile) = status.Choice 7 tile
 status_of halt.Failed = status.WriteFault
 status_of halt.NoMemory = status.NoMemory
@@ -78,7 +86,9 @@ pub record IsPlanHalted (p : Plan) (name : Text) (s : Status) (old new : Meaning
   pub status_is : s ≡ status_of why
   pub file : IsFileHalted p name why old new
 
-pub record IsPlanAnswered (name : Text) (p : Plan) (s : Status) (blocks bytes : ℕ) (old new : Meaning) : Type 0 where
+pub record IsPlanAnswered (name : Text) (work : Work) (p : Plan) (s : Status) (blocks bytes : ℕ) (entries : List TapeEntry) (old new : Meaning) : Type 0 where
   pub plan : IsPlan p
   pub count : blocks ≡ length p.blocks
+  pub tape : IsTapeOf work p.blocks entries
+  pub whole : s ≡ status.Done → length entries ≡ length p.blocks
   pub either : IsPlanWritten p name s bytes old new ⊎ IsPlanHalted p name s old new

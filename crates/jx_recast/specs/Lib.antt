@@ -1,7 +1,9 @@
 pub mod Rewritten
+pub mod Tapes
 pub mod Outcome
 pub mod Progress
 pub mod Judged
 pub mod Rounds
+pub mod MadeRounds
 pub mod Filed
 pub mod Halts

@@ -7,7 +7,9 @@ use Rattle.jx_outside.specs.Device.{Meaning, joined, after_create, after_write, 
 use Rattle.jx_recast.specs.declared.status.Status.{Status}
 use Rattle.jx_recast.specs.declared.status.Status.TheVariants as status
 use Rattle.jx_words.specs.Words.{Text, Request, is_good, request_of}
-use Rattle.jx_recast.specs.Rewritten.{HasBlocks, IsCut, IsFrontOf, IsKept, IsRewritten, IsTooLong, IsUnplanned}
+use Rattle.jx_recast.specs.declared.status.TapeEntry.{TapeEntry}
+use Rattle.jx_recast.specs.Tapes.{IsRunTape}
+use Rattle.jx_recast.specs.Rewritten.{HasBlocks, IsBad, IsCut, IsCutByBlock, IsFrontOf, IsKept, IsRewritten, IsTooLong, IsUnplanned}
 use Rattle.jx_plan.specs.declared.faults.PlanFault.{PlanFault}
 use Rattle.jx_plan.specs.declared.faults.PlanFault.TheVariants as unplanned
 use Rattle.jx_plan.specs.Wanted.{Wanted}
@@ -28,6 +30,7 @@ number_of status.ReadFault = 7
 number_of status.WriteFault = 8
 number_of status.NoMemory = 9
 number_of (status.Choice number place) = 5
+number_of (status.Block number) = 6
 
 -- the status speaks of the words and the input, and not of a fault or of memory
 abbrev pub IsVerdict : Status → Type 0
@@ -36,6 +39,7 @@ IsVerdict status.Words = Unit {0}
 IsVerdict (status.Rule number place) = Unit {0}
 IsVerdict (status.Limit number found) = Unit {0}
 IsVerdict (status.Choice number place) = Unit {0}
+IsVerdict (status.Block number) = Unit {0}
 IsVerdict status.ReadFault = ⊥
 IsVerdict status.WriteFault = ⊥
 IsVerdict status.NoMemory = ⊥
@@ -47,12 +51,14 @@ PassesLimit input number found =
     ⊎ ((length input ≤ most_bytes) × Passes input number found)
 
 -- the status that an input has where the words are good and nothing fails: limit 1, then the first rule that it violates or limit that it
--- passes in its headers or its tile data, then choice 3, choice 2, limit 7 and choice 5, then a tile-part that would be too long
+-- passes in its headers or its tile data, then choice 1, choice 3, choice 2, limit 7 and choice 5, then tile by tile a block that is coded
+-- anew and has a wrong segmentation symbol, and a tile-part that would be too long
 abbrev pub Verdict : Wanted → List ℕ → Status → Type 0
 Verdict w input status.Done = (length input ≤ most_bytes) × (out : List ℕ) × IsRewritten w input out
 Verdict w input (status.Rule number place) = (length input ≤ most_bytes) × Violates input number place
 Verdict w input (status.Limit number found) = PassesLimit input number found ⊎ ((length input ≤ most_bytes) × IsUnplanned w input (unplanned.Limit number found))
 Verdict w input (status.Choice number place) = (length input ≤ most_bytes) × (((number ≡ 7) × IsTooLong w input place) ⊎ IsUnplanned w input (unplanned.Choice number place))
+Verdict w input (status.Block number) = (length input ≤ most_bytes) × IsBad w input number
 Verdict w input status.Words = ⊥
 Verdict w input status.ReadFault = ⊥
 Verdict w input status.WriteFault = ⊥
@@ -65,6 +71,7 @@ line_of status.Words blocks bytes = codes "words\n"
 line_of (status.Rule number place) blocks bytes = codes "rule " ++ (decimal number ++ (codes " at " ++ (decimal place ++ codes "\n")))
 line_of (status.Limit number found) blocks bytes = codes "limit " ++ (decimal number ++ (codes ": " ++ (decimal found ++ codes "\n")))
 line_of (status.Choice number place) blocks bytes = codes "choice " ++ (decimal number ++ (codes " at " ++ (decimal place ++ codes "\n")))
+line_of (status.Block number) blocks bytes = codes "block " ++ (decimal number ++ codes "\n")
 line_of status.ReadFault blocks bytes = codes "read fault\n"
 line_of status.WriteFault blocks bytes = []
 line_of status.NoMemory blocks bytes = codes "no memory\n"
@@ -82,6 +89,7 @@ Says status.Words line old new = new ≡ said_after line old
 Says (status.Rule number place) line old new = new ≡ said_after line old
 Says (status.Limit number found) line old new = new ≡ said_after line old
 Says (status.Choice number place) line old new = new ≡ said_after line old
+Says (status.Block number) line old new = new ≡ said_after line old
 Says status.ReadFault line old new = new ≡ said_after line old
 
 -- nothing was made
@@ -147,6 +155,13 @@ pub record IsStoppedAt (name : Text) (w : Wanted) (input : List ℕ) (tile block
   pub stopped : IsStopped name bytes old new
   pub count : HasBlocks input blocks
 
+-- a block was wrong: the rounds before that of its tile were written
+pub record IsStoppedByBlock (name : Text) (w : Wanted) (input : List ℕ) (number blocks : ℕ) (old new : Meaning) : Type 0 where
+  pub bytes : List ℕ
+  pub is : IsCutByBlock w input number bytes
+  pub stopped : IsStopped name bytes old new
+  pub count : HasBlocks input blocks
+
 -- limit 7 alone is passed by an input that was accepted
 abbrev pub IsLimited : List ℕ → ℕ → ℕ → Type 0
 IsLimited input number blocks = ((number ≡ 7) × HasBlocks input blocks) ⊎ ((number < 7) × (blocks ≡ 0))
@@ -159,41 +174,47 @@ Leaves name w input (status.Rule number place) blocks bytes old new = IsRefused 
 Leaves name w input (status.Limit number found) blocks bytes old new = IsLimited input number blocks × IsUntouched old new
 Leaves name w input (status.Choice number place) blocks bytes old new =
     ((number ≡ 7) × IsStoppedAt name w input place blocks old new) ⊎ ((number < 7) × HasBlocks input blocks × IsUntouched old new)
+Leaves name w input (status.Block number) blocks bytes old new = IsStoppedByBlock name w input number blocks old new
 Leaves name w input status.ReadFault blocks bytes old new = IsRefused blocks old new
 Leaves name w input status.WriteFault blocks bytes old new = IsCutShort name w input blocks old new
 Leaves name w input status.NoMemory blocks bytes old new = IsCutShort name w input blocks old new
 
 -- how a run over good words ends on an input, which is what the file named IN holds at the beginning, where that is told
-pub record EndsOn (request : Request) (input : List ℕ) (s : Status) (blocks bytes : ℕ) (old new : Meaning) : Type 0 where
+pub record EndsOn (request : Request) (input : List ℕ) (s : Status) (blocks bytes : ℕ) (entries : List TapeEntry) (old new : Meaning) : Type 0 where
   pub told : IfSome (joined (old.holds request.from)) (λ bytes. input ≡ bytes)
   pub verdict : IsVerdict s → Verdict request.wanted input s
   pub leaves : Leaves request.to request.wanted input s blocks bytes old new
+  -- the tape has the entries of the first blocks, in their order, each once, by workers and inside windows that were asked for
+  pub tape : IsRunTape request.work input entries
+  -- and those of all blocks after Done
+  pub whole : s ≡ status.Done → HasBlocks input (length entries)
 
 -- how the files are left by a run over good words, before anything is said; `bytes` is the output's length after Done
-pub record EndsFiles (request : Request) (s : Status) (blocks bytes : ℕ) (old new : Meaning) : Type 0 where
+pub record EndsFiles (request : Request) (s : Status) (blocks bytes : ℕ) (entries : List TapeEntry) (old new : Meaning) : Type 0 where
   pub input : List ℕ
-  pub files : EndsOn request input s blocks bytes old new
+  pub files : EndsOn request input s blocks bytes entries old new
   -- what stands where its line isn't said
   pub unsaid : IsCutShort request.to request.wanted input blocks old new
 
 -- how a run over good words ends
-pub record Ends (request : Request) (s : Status) (blocks : ℕ) (old new : Meaning) (before now : Option (List ℕ)) : Type 0 where
+pub record Ends (request : Request) (s : Status) (blocks : ℕ) (entries : List TapeEntry) (old new : Meaning) (before now : Option (List ℕ)) : Type 0 where
   pub input : List ℕ
   pub bytes : ℕ
-  pub files : EndsOn request input s blocks bytes old new
+  pub files : EndsOn request input s blocks bytes entries old new
   pub said : Says s (line_of s blocks bytes) before now
 
 -- how a run over other words ends
-pub record EndsAtWords (s : Status) (blocks : ℕ) (old new : Meaning) (before now : Option (List ℕ)) : Type 0 where
+pub record EndsAtWords (s : Status) (blocks : ℕ) (entries : List TapeEntry) (old new : Meaning) (before now : Option (List ℕ)) : Type 0 where
   pub words : (s ≡ status.Words) ⊎ ((s ≡ status.WriteFault) ⊎ (s ≡ status.NoMemory))
   pub files : new ≡ old
   pub none : blocks ≡ 0
+  pub tape : entries ≡ []
   pub said : Says s (line_of s 0 0) before now
 
 -- how a run ends
-pub record Outcome (words : List Text) (s : Status) (blocks : ℕ) (old new : Meaning) (before now : Option (List ℕ)) : Type 0 where
-  pub good : is_good words ≡ true → Ends (request_of words) s blocks old new before now
-  pub bad : is_good words ≡ false → EndsAtWords s blocks old new before now
+pub record Outcome (words : List Text) (s : Status) (blocks : ℕ) (entries : List TapeEntry) (old new : Meaning) (before now : Option (List ℕ)) : Type 0 where
+  pub good : is_good words ≡ true → Ends (request_of words) s blocks entries old new before now
+  pub bad : is_good words ≡ false → EndsAtWords s blocks entries old new before now
 
 -- the status after a line was said: the same where it was said; a write fault exactly where the sink's count rose; and
 -- else want of memory

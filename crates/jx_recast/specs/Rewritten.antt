@@ -1,10 +1,11 @@
--- The file to which an input is rewritten: its headers as they are written, and its code-blocks, each kept byte for byte, packed anew
--- (ITU-T T.800, A and B). And what stands of it where the run ends early.
-use Rattle.std.specs.Prelude.{◌≡◌, ◌<◌, ◌≤◌, ◌+◌, ℕ, zero, suc, nat_le, List, ◌++◌, length, None, if◌then◌else◌}
-use Rattle.std.specs.List.{flat_map}
+-- The file to which an input is rewritten: its headers as they are written, and its code-blocks, each kept byte for byte or coded anew in
+-- the style that is asked, packed anew (ITU-T T.800, A, B and D). And what stands of it where the run ends early.
+use Rattle.std.specs.Prelude.{◌≡◌, ◌<◌, ◌≤◌, ◌+◌, ◌⊎◌, ℕ, zero, suc, nat_le, true, false, List, ◌++◌, length, slice_get, Option, None, Some, if◌then◌else◌}
+use Rattle.std.specs.List.{All, flat_map}
 use Rattle.jx_base.specs.declared.pieces.Block.{Block}
 use Rattle.jx_base.specs.Joined.{joined}
 use Rattle.jx_geom.specs.Counts.{tile_blocks}
+use Rattle.jx_geom.specs.Numbering.{blocks_below}
 use Rattle.jx_geom.specs.Rects.{tile_rect}
 use Rattle.jx_stream.specs.declared.Stream.{Stream}
 use Rattle.jx_stream.specs.First.{canvas_of, tile_number}
@@ -14,9 +15,11 @@ use Rattle.jx_stream.specs.Spells.{TilePart, part_bytes}
 use Rattle.jx_gather.specs.Gathered.{IsGathered}
 use Rattle.jx_gather.specs.Totals.{totals_fault}
 use Rattle.jx_plan.specs.declared.faults.PlanFault.{PlanFault}
-use Rattle.jx_plan.specs.Facts.{most_layers}
+use Rattle.jx_layers.specs.Facts.{most_layers}
 use Rattle.jx_plan.specs.KeptFault.{HasKeptCause, IsFree}
-use Rattle.jx_plan.specs.Plan.{headers_with}
+use Rattle.jx_block.specs.Written.{is_wrong}
+use Rattle.jx_layers.specs.Causal.{first_broken}
+use Rattle.jx_plan.specs.Plan.{blocks_written, headers_with}
 use Rattle.jx_plan.specs.Wanted.{Wanted, marks_of}
 use Rattle.jx_assemble.specs.Kept.{IsKeptIn}
 use Rattle.jx_assemble.specs.Ready.{AllShort, AreShort}
@@ -33,42 +36,84 @@ pub record Reads (input : List ℕ) (s : Stream) (blocks : List Block) : Type 0 
 abbrev pub headers_of : Wanted → Stream → Stream
 headers_of w s = headers_with w (most_layers s) s
 
--- why an input isn't planned: choice 3, choice 2, limit 7 or choice 5
+-- nothing in the blocks and the headers is in the way of a plan
+pub record CanBePlanned (w : Wanted) (s : Stream) (blocks : List Block) : Type 0 where
+  pub whole : first_broken w.style blocks ≡ None
+  pub free : IsFree s w (most_layers s)
+
+-- why an input isn't planned: choice 1, choice 3, choice 2, limit 7 or choice 5
 pub record IsUnplanned (w : Wanted) (input : List ℕ) (why : PlanFault) : Type 0 where
   pub stream : Stream
   pub blocks : List Block
   pub reads : Reads input stream blocks
-  pub cause : HasKeptCause stream w why
+  pub cause : HasKeptCause stream blocks w why
 
--- a tile that has a tile-part of 2^32 bytes or more
+-- the blocks of a tile: the number of the first, and how many there are
+abbrev pub first_in_tile : Stream → ℕ → ℕ
+first_in_tile s t = blocks_below (canvas_of s.siz) (shapes_of s) t
+
+abbrev pub blocks_in_tile : Stream → ℕ → ℕ
+blocks_in_tile s t = tile_blocks (tile_rect (canvas_of s.siz) t) (shapes_of s t)
+
+-- D.5: a block that is coded anew, and of which a segmentation symbol is wrong
+abbrev pub IsWrongBlock : Wanted → Option Block → Type 0
+IsWrongBlock w None = ⊥
+IsWrongBlock w (Some b) = is_wrong w.style b ≡ true
+
+-- the lowest one of a tile
+pub record IsWrongAt (w : Wanted) (s : Stream) (blocks : List Block) (t number : ℕ) : Type 0 where
+  pub from : first_in_tile s t ≤ number
+  pub below : number < first_in_tile s t + blocks_in_tile s t
+  pub wrong : IsWrongBlock w (slice_get blocks number)
+  pub lowest : (n : ℕ) → first_in_tile s t ≤ n → n < number → IsWrongBlock w (slice_get blocks n) → ⊥
+
+-- a tile that has none
+abbrev pub IsRight : Wanted → Stream → List Block → ℕ → Type 0
+IsRight w s blocks t = (n : ℕ) → first_in_tile s t ≤ n → n < first_in_tile s t + blocks_in_tile s t → IsWrongBlock w (slice_get blocks n) → ⊥
+
+-- such a tile that has a tile-part of 2^32 bytes or more
 pub record IsLong (w : Wanted) (s : Stream) (blocks : List Block) (t : ℕ) : Type 0 where
+  pub right : IsRight w s blocks t
   pub parts : List TilePart
-  pub are : AreTilePartsOf (marks_of w) (headers_of w s) blocks t parts
+  pub are : AreTilePartsOf (marks_of w) (headers_of w s) (blocks_written w blocks) t parts
   pub long : AreShort parts → ⊥
 
--- the lowest tile that has
+-- a tile that isn't written
+abbrev pub IsSpoiled : Wanted → Stream → List Block → ℕ → Type 0
+IsSpoiled w s blocks t = ((number : ℕ) × IsWrongAt w s blocks t number) ⊎ IsLong w s blocks t
+
+-- the lowest one has a block that is wrong
+pub record IsBad (w : Wanted) (input : List ℕ) (number : ℕ) : Type 0 where
+  pub stream : Stream
+  pub blocks : List Block
+  pub reads : Reads input stream blocks
+  pub can : CanBePlanned w stream blocks
+  pub tile : ℕ
+  pub inside : tile < tile_number stream.siz
+  pub is : IsWrongAt w stream blocks tile number
+  pub lowest : (n : ℕ) → n < tile → IsSpoiled w stream blocks n → ⊥
+
+-- the lowest one is too long
 pub record IsTooLong (w : Wanted) (input : List ℕ) (t : ℕ) : Type 0 where
   pub stream : Stream
   pub blocks : List Block
   pub reads : Reads input stream blocks
-  pub free : IsFree stream w (most_layers stream)
+  pub can : CanBePlanned w stream blocks
   pub inside : t < tile_number stream.siz
   pub is : IsLong w stream blocks t
-  pub lowest : (n : ℕ) → n < t → IsLong w stream blocks n → ⊥
+  pub lowest : (n : ℕ) → n < t → IsSpoiled w stream blocks n → ⊥
 
--- the file that is written of an input: the one that its blocks make with its headers
+-- the file that is written of an input: the one that its blocks, as they are written, make with its headers
 pub record IsRewritten (w : Wanted) (input out : List ℕ) : Type 0 where
   pub stream : Stream
   pub blocks : List Block
   pub reads : Reads input stream blocks
-  pub free : IsFree stream w (most_layers stream)
-  pub output : IsOutput (marks_of w) (headers_of w stream) blocks out
+  pub can : CanBePlanned w stream blocks
+  pub right : All (λ (b : Block). is_wrong w.style b ≡ false) blocks
+  pub output : IsOutput (marks_of w) (headers_of w stream) (blocks_written w blocks) out
   pub short : AllShort output.parts (tile_number stream.siz)
 
 -- rounds: tiles are written in rounds, of which each ends with the first tile at which it has 4,096 blocks, or with the last tile
-abbrev pub blocks_in_tile : Stream → ℕ → ℕ
-blocks_in_tile s t = tile_blocks (tile_rect (canvas_of s.siz) t) (shapes_of s t)
-
 abbrev pub most_of_round : ℕ
 most_of_round = 4096
 
@@ -87,22 +132,23 @@ round_of counts (suc t) = next_round counts t (round_of counts t)
 abbrev pub round_start : Stream → ℕ → ℕ
 round_start s t = (round_of (blocks_in_tile s) t).start
 
--- the main header and the tile-parts of the first tiles
+-- the main header and the tile-parts of the first tiles, in which no block is wrong
 pub record IsFront (w : Wanted) (s : Stream) (blocks : List Block) (tiles : ℕ) (bytes : List ℕ) : Type 0 where
   pub parts : ℕ → List TilePart
-  pub are : (t : ℕ) → t < tiles → AreTilePartsOf (marks_of w) (headers_of w s) blocks t (parts t)
+  pub right : (t : ℕ) → t < tiles → IsRight w s blocks t
+  pub are : (t : ℕ) → t < tiles → AreTilePartsOf (marks_of w) (headers_of w s) (blocks_written w blocks) t (parts t)
   pub bytes_are : bytes ≡ main_bytes (headers_of w s) ++ flat_map (part_bytes (length s.siz.comps)) (joined parts 0 tiles)
 
--- what a run may have written of an input before it is done: whole rounds, of which none has a tile that is too long
+-- what a run may have written of an input before it is done: whole rounds, of which none has a tile that isn't written
 pub record IsFrontOf (w : Wanted) (input bytes : List ℕ) : Type 0 where
   pub stream : Stream
   pub blocks : List Block
   pub reads : Reads input stream blocks
-  pub free : IsFree stream w (most_layers stream)
+  pub can : CanBePlanned w stream blocks
   pub tiles : ℕ
   pub inside : tiles ≤ tile_number stream.siz
   pub front : IsFront w stream blocks tiles bytes
-  pub before : (t : ℕ) → t < tile_number stream.siz → IsLong w stream blocks t → tiles ≤ round_start stream t
+  pub before : (t : ℕ) → t < tile_number stream.siz → IsSpoiled w stream blocks t → tiles ≤ round_start stream t
 
 -- what it has written where a tile is too long: the rounds before that tile's
 pub record IsCut (w : Wanted) (input : List ℕ) (t : ℕ) (bytes : List ℕ) : Type 0 where
@@ -110,6 +156,16 @@ pub record IsCut (w : Wanted) (input : List ℕ) (t : ℕ) (bytes : List ℕ) : 
   pub blocks : List Block
   pub reads : Reads input stream blocks
   pub front : IsFront w stream blocks (round_start stream t) bytes
+
+-- and where a block is wrong: the rounds before that of its tile
+pub record IsCutByBlock (w : Wanted) (input : List ℕ) (number : ℕ) (bytes : List ℕ) : Type 0 where
+  pub stream : Stream
+  pub blocks : List Block
+  pub reads : Reads input stream blocks
+  pub tile : ℕ
+  pub from : first_in_tile stream tile ≤ number
+  pub below : number < first_in_tile stream tile + blocks_in_tile stream tile
+  pub front : IsFront w stream blocks (round_start stream tile) bytes
 
 -- how many blocks an input has
 pub record HasBlocks (input : List ℕ) (count : ℕ) : Type 0 where
@@ -119,8 +175,8 @@ pub record HasBlocks (input : List ℕ) (count : ℕ) : Type 0 where
   pub count_is : count ≡ length blocks
 
 -- what the written file keeps: it is a well-formed codestream, and strictly made; it has the input's blocks, each with its name, place,
--- planes, zero planes, passes, style and coded bytes; SIZ but for Rsiz; and each component's parameters but for the order, the layers
--- and the precincts, and steps
+-- planes, zero planes and passes, and with its style and coded bytes where it isn't coded anew; SIZ but for Rsiz; each component's
+-- parameters but for the order, the layers, the precincts and the style, and steps; and it means the same
 pub record IsKept (w : Wanted) (input out : List ℕ) : Type 0 where
   pub before : Stream
   pub after : Stream

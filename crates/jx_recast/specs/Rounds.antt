@@ -1,15 +1,20 @@
 -- What has been written of a plan, tile by tile: the main header, and the tile-parts of the first tiles; and where a round ends.
-use Rattle.std.specs.Prelude.{◌≡◌, ◌⊎◌, ◌<◌, ◌≤◌, ◌+◌, ◌-◌, ◌^◌, ℕ, List, ◌++◌, length, None, Some, slice_get, if◌then◌else◌, ◌==◌}
+use Rattle.std.specs.Prelude.{◌≡◌, ◌⊎◌, ◌<◌, ◌≤◌, ◌+◌, ◌-◌, ◌^◌, ℕ, List, ◌++◌, drop, length, map, take, if◌then◌else◌, ◌==◌}
 use Rattle.std.specs.List.{All, concat, flat_map}
 use Rattle.jx_base.specs.Joined.{joined}
-use Rattle.jx_block.specs.declared.job.Job.{Job}
-use Rattle.jx_block.specs.Jobs.{IsAsked}
-use Rattle.jx_block.specs.Recoded.{WrittenBlock, recoding_in}
+use Rattle.jx_base.specs.declared.pieces.Block.{Block}
+use Rattle.jx_block.specs.Recoded.{WrittenBlock}
+use Rattle.jx_store.specs.declared.event.Taped.{Taped}
+use Rattle.jx_store.specs.declared.work.Named.{Named}
+use Rattle.jx_store.specs.Order.{numbers}
+use Rattle.jx_store.specs.Setup.{Within}
+use Rattle.jx_pool.specs.Tapes.{answer_of}
 use Rattle.jx_marker.specs.Segments.{spelling}
 use Rattle.jx_marker.specs.declared.Segment.TheVariants as segment
 use Rattle.jx_outside.specs.Device.{Meaning, after_finish, after_write}
-use Rattle.jx_plan.specs.Facts.{most_layers}
-use Rattle.jx_plan.specs.Plan.{KeepsLayers, Plan, headers_of}
+use Rattle.jx_layers.specs.Facts.{most_layers}
+use Rattle.jx_plan.specs.Plan.{KeepsLayers, Plan, blocks_written, headers_of}
+use Rattle.jx_words.specs.Words.{Work}
 use Rattle.jx_plan.specs.Wanted.{marks_of}
 use Rattle.jx_stream.specs.First.{tile_number}
 use Rattle.jx_stream.specs.Spells.{TilePart, part_bytes}
@@ -17,7 +22,9 @@ use Rattle.jx_assemble.specs.Ready.{AreShort}
 use Rattle.jx_assemble.specs.Tile.{IsTooLong, blocks_in, first_block, main_bytes}
 use Rattle.jx_assemble.specs.TileParts.{AreTilePartsOf}
 use Rattle.jx_recast.specs.Progress.{SomeFront}
-use Rattle.jx_recast.specs.Rewritten.{round_of}
+use Rattle.jx_recast.specs.Rewritten.{IsRight, IsWrongAt, round_of}
+use Rattle.jx_recast.specs.Tapes.{IsTapeOf, setup_of}
+use Rattle.jx_recast.specs.declared.status.TapeEntry.{TapeEntry}
 use Rattle.jx_recast.specs.declared.halt.Halt.{Halt}
 use Rattle.jx_recast.specs.declared.halt.Halt.TheVariants as halt
 
@@ -30,22 +37,36 @@ pub record IsKeeping (p : Plan) : Type 0 where
   pub jobs : KeepsLayers p.jobs
   pub layers : p.layers ≡ most_layers p.stream
 
--- jobs that keep their blocks
-pub record IsKeptJob (job : Job) : Type 0 where
-  pub asked : IsAsked job.block.now job.style job.ends
-  pub kept : job.style ≡ None
+-- the blocks as they are written
+abbrev pub blocks_of : Plan → List Block
+blocks_of p = blocks_written p.wanted p.blocks
 
-abbrev pub CanBeMade : List Job → Type 0
-CanBeMade jobs = All IsKeptJob jobs
+-- no block of a tile is wrong, or this is the lowest one that is
+abbrev pub IsRightTile : Plan → ℕ → Type 0
+IsRightTile p tile = IsRight p.wanted p.stream p.blocks tile
 
--- what jobs are made to, from one on
-pub record AreMade (jobs : List Job) (first : ℕ) (values : List WrittenBlock) : Type 0 where
-  pub each : (i : ℕ) (r : WrittenBlock) → slice_get values i ≡ Some r → (slice_get jobs (first + i) ≡ Some r.job) × (Some r.recoding ≡ recoding_in r.job)
+abbrev pub IsWrongTile : Plan → ℕ → ℕ → Type 0
+IsWrongTile p tile number = IsWrongAt p.wanted p.stream p.blocks tile number
 
--- the main header and the tile-parts of the first tiles, none of which is too long
+-- what stands under the numbers of some jobs from one on: what each asks for, or its number where nothing can be made of it; by one of
+-- the workers, and claimed inside both windows
+pub record AreAnswers (p : Plan) (work : Work) (first : ℕ) (entries : List (Taped (Named WrittenBlock))) : Type 0 where
+  pub order : map (λ (t : Taped (Named WrittenBlock)). t.number) entries ≡ numbers first (length entries)
+  pub within : first + length entries ≤ length p.jobs
+  pub answers : map (λ (t : Taped (Named WrittenBlock)). t.named) entries ≡ map answer_of (take (length entries) (drop first p.jobs))
+  pub workers : All (λ (t : Taped (Named WrittenBlock)). t.worker < work.threads) entries
+  pub seen : All (λ (t : Taped (Named WrittenBlock)). Within (setup_of work p.blocks) t.seen t.number) entries
+
+-- the tape so far: the entries of the blocks below a number
+pub record HasTape (p : Plan) (work : Work) (blocks : ℕ) (tape : List TapeEntry) : Type 0 where
+  pub of : IsTapeOf work p.blocks tape
+  pub long : length tape ≡ blocks
+
+-- the main header and the tile-parts of the first tiles, none of which is too long, and of which no block is wrong
 pub record IsShortFront (p : Plan) (tiles : ℕ) (bytes : List ℕ) : Type 0 where
   pub parts : ℕ → List TilePart
-  pub are : (t : ℕ) → t < tiles → AreTilePartsOf (marks_of p.wanted) (headers_of p) p.blocks t (parts t)
+  pub right : (t : ℕ) → t < tiles → IsRightTile p t
+  pub are : (t : ℕ) → t < tiles → AreTilePartsOf (marks_of p.wanted) (headers_of p) (blocks_of p) t (parts t)
   pub short : (t : ℕ) → t < tiles → AreShort (parts t)
   pub bytes_are : bytes ≡ main_bytes (headers_of p) ++ flat_map (part_bytes (length p.stream.siz.comps)) (joined parts 0 tiles)
 
@@ -53,7 +74,7 @@ pub record IsShortFront (p : Plan) (tiles : ℕ) (bytes : List ℕ) : Type 0 whe
 abbrev pub LeadOn : Plan → ℕ → ℕ → List (List ℕ) → Type 0
 LeadOn p tile next pieces = (bytes : List ℕ) → IsShortFront p tile bytes → IsShortFront p next (bytes ++ concat pieces)
 
--- no tile from one on below another is too long, as far as a front is written
+-- each tile from one on below another is written, as far as a front is
 abbrev pub GoesOn : Plan → ℕ → ℕ → Type 0
 GoesOn p tile next = (bytes : List ℕ) → IsShortFront p tile bytes → (more : List ℕ) × IsShortFront p next more
 
@@ -94,10 +115,17 @@ pub record IsWholeFile (p : Plan) (bytes : List ℕ) : Type 0 where
   pub tiles : IsShortFront p (tile_number p.stream.siz) front
   pub bytes_are : bytes ≡ front ++ spelling 1 segment.Eoc
 
--- a tile is too long, and what was written are the rounds before its own
-pub record IsHaltedAt (p : Plan) (tile : ℕ) (bytes : List ℕ) : Type 0 where
+-- why a tile isn't written: its lowest block that is wrong, or else a tile-part that is too long
+abbrev pub IsSpoiledBy : Plan → ℕ → Halt → Type 0
+IsSpoiledBy p tile (halt.Bad at number) = (at ≡ tile) × IsWrongTile p tile number
+IsSpoiledBy p tile (halt.TooLong at) = (at ≡ tile) × IsRightTile p tile × IsTooLong p (blocks_of p) tile most_of_part
+IsSpoiledBy p tile halt.Failed = ⊥
+IsSpoiledBy p tile halt.NoMemory = ⊥
+
+-- a tile isn't written, and what was written are the rounds before its own
+pub record IsHaltedAt (p : Plan) (why : Halt) (tile : ℕ) (bytes : List ℕ) : Type 0 where
   pub inside : tile < tile_number p.stream.siz
-  pub long : IsTooLong p p.blocks tile most_of_part
+  pub spoiled : IsSpoiledBy p tile why
   pub start : ℕ
   pub front : IsShortFront p start bytes
   pub held : ℕ
@@ -105,9 +133,9 @@ pub record IsHaltedAt (p : Plan) (tile : ℕ) (bytes : List ℕ) : Type 0 where
   pub below : (more : List ℕ) × IsShortFront p tile more
 
 -- why rounds aren't written, and what has been
-pub record IsHaltedTile (p : Plan) (tile : ℕ) (old new : Meaning) : Type 0 where
+pub record IsHaltedTile (p : Plan) (why : Halt) (tile : ℕ) (old new : Meaning) : Type 0 where
   pub bytes : List ℕ
-  pub is : IsHaltedAt p tile bytes
+  pub is : IsHaltedAt p why tile bytes
   pub meaning : new ≡ after_write bytes old
 
 -- a front of whole rounds, or of the file
@@ -117,26 +145,29 @@ pub record IsHaltedByFault (p : Plan) (old new : Meaning) : Type 0 where
   pub some : SomeFront old new bytes
 
 abbrev pub IsHalted : Plan → Halt → Meaning → Meaning → Type 0
-IsHalted p (halt.TooLong tile) old new = IsHaltedTile p tile old new
+IsHalted p (halt.Bad tile number) old new = IsHaltedTile p (halt.Bad tile number) tile old new
+IsHalted p (halt.TooLong tile) old new = IsHaltedTile p (halt.TooLong tile) tile old new
 IsHalted p halt.Failed old new = IsHaltedByFault p old new
 IsHalted p halt.NoMemory old new = IsHaltedByFault p old new
 
--- why a round isn't made that begins at a tile: a tile of it is too long; want of memory is free
-pub record IsLongFrom (p : Plan) (start tile : ℕ) : Type 0 where
+-- why a round isn't made that begins at a tile: a tile of it isn't written
+pub record IsSpoiledFrom (p : Plan) (start : ℕ) (why : Halt) (tile : ℕ) : Type 0 where
   pub inside : tile < tile_number p.stream.siz
-  pub long : IsTooLong p p.blocks tile most_of_part
+  pub spoiled : IsSpoiledBy p tile why
   pub held : ℕ
   pub round : IsInRound p tile start held
   pub below : GoesOn p start tile
 
--- why a tile isn't made
-abbrev pub IsLongTile : Plan → ℕ → Halt → Type 0
-IsLongTile p tile (halt.TooLong at) = (at ≡ tile) × IsTooLong p p.blocks tile most_of_part
-IsLongTile p tile halt.Failed = ⊥
-IsLongTile p tile halt.NoMemory = Unit {0}
+-- why a tile isn't made; want of memory is free
+abbrev pub IsUnmadeTile : Plan → ℕ → Halt → Type 0
+IsUnmadeTile p tile (halt.Bad at number) = IsSpoiledBy p tile (halt.Bad at number)
+IsUnmadeTile p tile (halt.TooLong at) = IsSpoiledBy p tile (halt.TooLong at)
+IsUnmadeTile p tile halt.Failed = ⊥
+IsUnmadeTile p tile halt.NoMemory = Unit {0}
 
 abbrev pub IsUnmade : Plan → ℕ → Halt → Type 0
-IsUnmade p start (halt.TooLong tile) = IsLongFrom p start tile
+IsUnmade p start (halt.Bad tile number) = IsSpoiledFrom p start (halt.Bad tile number) tile
+IsUnmade p start (halt.TooLong tile) = IsSpoiledFrom p start (halt.TooLong tile) tile
 IsUnmade p start halt.Failed = ⊥
 IsUnmade p start halt.NoMemory = Unit {0}
 
@@ -151,13 +182,13 @@ pub record HasRounds (p : Plan) (start tile before count : ℕ) (old new : Meani
   pub meaning : new ≡ after_write more old
   pub count_is : count ≡ before + length more
 
--- a tile is too long, and the rounds before its own have been written
-pub record IsLongAfter (p : Plan) (start tile : ℕ) (old new : Meaning) : Type 0 where
+-- a tile isn't written, and the rounds before its own have been
+pub record IsSpoiledAfter (p : Plan) (start : ℕ) (why : Halt) (tile : ℕ) (old new : Meaning) : Type 0 where
   pub more : List ℕ
   pub from : ℕ
   pub lead : LeadsBy p start from more
   pub meaning : new ≡ after_write more old
-  pub long : IsLongFrom p from tile
+  pub spoiled : IsSpoiledFrom p from why tile
 
 -- a front of some rounds has been written
 pub record IsCutAfter (p : Plan) (start : ℕ) (old new : Meaning) : Type 0 where
@@ -170,12 +201,14 @@ pub record IsCutAfter (p : Plan) (start : ℕ) (old new : Meaning) : Type 0 wher
 
 -- why rounds aren't written
 abbrev pub IsUnwritten : Plan → ℕ → Halt → Meaning → Meaning → Type 0
-IsUnwritten p start (halt.TooLong tile) old new = IsLongAfter p start tile old new
+IsUnwritten p start (halt.Bad tile number) old new = IsSpoiledAfter p start (halt.Bad tile number) tile old new
+IsUnwritten p start (halt.TooLong tile) old new = IsSpoiledAfter p start (halt.TooLong tile) tile old new
 IsUnwritten p start halt.Failed old new = IsCutAfter p start old new
 IsUnwritten p start halt.NoMemory old new = IsCutAfter p start old new
 
--- no tile is too long
+-- it isn't for a tile
 abbrev pub IsFault : Halt → Type 0
+IsFault (halt.Bad tile number) = ⊥
 IsFault (halt.TooLong tile) = ⊥
 IsFault halt.Failed = Unit {0}
 IsFault halt.NoMemory = Unit {0}

@@ -1,24 +1,30 @@
 //! A file, written round by round.
 
-ghost use Rattle.std.specs.Prelude.{◌≡◌, ◌<◌, map, IfOk, IfErr, OnOk, IsErrOf, IsTrue};
+ghost use Rattle.std.specs.Prelude.{◌≡◌, ◌<◌, ◌≤◌, ◌+◌, [], ◌++◌, length, map, vec_capacity, vec_len, IfOk, IfErr, OnErr, OnOk, IsErrOf, IsTrue};
 ghost use Rattle.std.specs.List.{concat};
 ghost use Rattle.jx_outside.specs.Causes.{Rose};
 ghost use Rattle.jx_outside.specs.Device.{Meaning, after_write};
 ghost use Rattle.jx_plan.specs.Plan.{IsPlan, Plan, headers_of};
 ghost use Rattle.jx_stream.specs.First.{tile_number};
 ghost use Rattle.jx_assemble.specs.Tile.{first_block, main_bytes};
+ghost use Rattle.jx_words.specs.Words.{MayBeWork};
 ghost use Rattle.jx_recast.specs.Filed.{IsFileHalted, IsFileMade};
 ghost use Rattle.jx_recast.specs.Progress.{SomeFront};
-ghost use Rattle.jx_recast.specs.Rounds.{BeginsRound, EndsRound, HasFront, HasRounds, HasWhole, IsFault, IsHalted, IsKeeping, IsPlace, IsUnwritten};
+ghost use Rattle.jx_recast.specs.Rounds.{BeginsRound, EndsRound, HasFront, HasRounds, HasTape, HasWhole, IsFault, IsHalted, IsKeeping, IsPlace, IsUnwritten};
+ghost use Rattle.jx_recast.specs.Tapes.{IsTapeOf};
 
+use crate::TapeEntry;
+use crate::crew::Crew;
 use crate::device::{count_bytes, write_all, write_pieces};
 use crate::halt::{Halt, halt_of};
-use crate::rounds::{made_round, tile_count};
+use crate::making::Making;
+use crate::rounds::made_round;
 use jx_assemble::{main_header, main_view};
-use jx_outside::Files;
+use jx_outside::{Files, Gate};
 use jx_plan::OutStream;
-use jx_stream::MainView;
 use std::alloc::Global;
+use std::sync::Wait;
+use std::thread::Threads;
 
 const EOC: [u8; 2] = [0xFF, 0xD9];
 
@@ -64,81 +70,97 @@ fn put<F: Files>(files: &mut F, bytes: &[u8]) -> Result<(), Halt>
     }
 }
 
-/// Writes the round that begins at a tile.
+/// Puts a round's entries behind those of the rounds before it.
+fn put_entries(tape: &mut Vec<TapeEntry>, entries: &[TapeEntry])
+    requires { vec_len tape.old + length entries.now ≤ vec_capacity tape.old }
+    ensures { tape.new.items ≡ tape.old.items ++ entries.now }
+{
+    for entry in entries {
+        tape.push_reserved(*entry);
+    }
+}
+
+/// Writes the round that begins at a tile, and puts its entries on the tape once it is written.
 #[tactic(auto, using(crate::proofs::WriteLemmas::cut_none, crate::proofs::WriteLemmas::unmade_unwritten))]
-fn write_round<F: Files>(
+fn write_round<R: Threads + Wait + Sync, G: Gate + Sync, F: Files>(
+    crew: &Crew<'_, R, G>,
     alloc: Global,
     files: &mut F,
-    plan: &OutStream<'_>,
-    main: &MainView<'_>,
-    written: &MainView<'_>,
+    making: &Making<'_, '_>,
     mark: Mark,
+    tape: &mut Vec<TapeEntry>,
 ) -> Result<Mark, Halt>
     requires making { IsTrue (F.meaning files.old).making }
-    requires main { main.now ≡ record { siz = plan.now.stream.siz; main = plan.now.stream.main } }
-    requires written { written.now ≡ record { siz = (headers_of plan.now).siz; main = (headers_of plan.now).main } }
-    requires plan { IsPlan plan.now }
-    requires keeping { IsKeeping plan.now }
-    requires tile { mark.tile < tile_number plan.now.stream.siz }
-    requires block { mark.block ≡ first_block plan.now mark.tile }
-    requires begins { BeginsRound plan.now mark.tile }
-    ensures ok { IfOk result (λ next. HasRounds plan.now mark.tile next.tile mark.bytes next.bytes (F.meaning files.old) (F.meaning files.new)) }
+    requires tile { mark.tile < tile_number making.now.stream.siz }
+    requires block { mark.block ≡ first_block making.now mark.tile }
+    requires begins { BeginsRound making.now mark.tile }
+    requires work { MayBeWork crew.now.work }
+    requires tape { HasTape making.now crew.now.work mark.block tape.old.items }
+    ensures ok { IfOk result (λ next. HasRounds making.now mark.tile next.tile mark.bytes next.bytes (F.meaning files.old) (F.meaning files.new)) }
     ensures later { IfOk result (λ next. mark.tile < next.tile) }
-    ensures place { IfOk result (λ next. IsPlace plan.now next.tile next.block) }
-    ensures ends { IfOk result (λ next. EndsRound plan.now next.tile) }
-    ensures err { IfErr result (λ h. IsUnwritten plan.now mark.tile h (F.meaning files.old) (F.meaning files.new)) }
+    ensures place { IfOk result (λ next. IsPlace making.now next.tile next.block) }
+    ensures ends { IfOk result (λ next. EndsRound making.now next.tile) }
+    ensures tape { IfOk result (λ next. HasTape making.now crew.now.work next.block tape.new.items) }
+    ensures kept { OnErr result (tape.new.items ≡ tape.old.items) }
+    ensures err { IfErr result (λ h. IsUnwritten making.now mark.tile h (F.meaning files.old) (F.meaning files.new)) }
     ensures cause { IsErrOf result Halt.Failed → Rose (F.write_faults files.old) (F.write_faults files.new) }
     ensures same { OnOk result (F.write_faults files.new ≡ F.write_faults files.old) }
     ensures making { OnOk result (IsTrue (F.meaning files.new).making) }
     ensures other { F.read_faults files.new ≡ F.read_faults files.old }
 {
-    let round = match made_round(alloc, plan, main, written, mark.tile, mark.block) {
+    let round = match made_round(crew, alloc, making, mark.tile, mark.block) {
         Ok(round) => round,
         Err(halt) => return Err(halt),
     };
     let Some(bytes) = count_bytes(mark.bytes, &round.pieces) else {
         return Err(Halt::NoMemory);
     };
+    if tape.reserve(round.tape.len()).is_err() {
+        return Err(Halt::NoMemory);
+    }
     match put_pieces(files, &round.pieces) {
-        Ok(()) => Ok(Mark {
-            tile: round.tile,
-            block: round.block,
-            bytes,
-        }),
+        Ok(()) => {
+            put_entries(tape, &round.tape);
+            Ok(Mark {
+                tile: round.tile,
+                block: round.block,
+                bytes,
+            })
+        }
         Err(halt) => Err(halt),
     }
 }
 
 /// Writes all rounds after `header` bytes: how many there are then.
 #[tactic(auto, using(crate::proofs::WriteLemmas::rounds_none, crate::proofs::WriteLemmas::rounds_then, crate::proofs::WriteLemmas::rounds_all, crate::proofs::WriteLemmas::begins_at, crate::proofs::WriteLemmas::first_place, crate::proofs::WriteLemmas::first_ends))]
-fn write_tiles<F: Files>(
+fn write_tiles<R: Threads + Wait + Sync, G: Gate + Sync, F: Files>(
+    crew: &Crew<'_, R, G>,
     alloc: Global,
     files: &mut F,
-    plan: &OutStream<'_>,
-    main: &MainView<'_>,
-    written: &MainView<'_>,
+    making: &Making<'_, '_>,
     header: usize,
+    tape: &mut Vec<TapeEntry>,
 ) -> Result<usize, Halt>
     requires making { IsTrue (F.meaning files.old).making }
-    requires main { main.now ≡ record { siz = plan.now.stream.siz; main = plan.now.stream.main } }
-    requires written { written.now ≡ record { siz = (headers_of plan.now).siz; main = (headers_of plan.now).main } }
-    requires plan { IsPlan plan.now }
-    requires keeping { IsKeeping plan.now }
-    ensures ok { IfOk result (λ bytes. HasRounds plan.now 0 (tile_number plan.now.stream.siz) header bytes (F.meaning files.old) (F.meaning files.new)) }
-    ensures err { IfErr result (λ h. IsUnwritten plan.now 0 h (F.meaning files.old) (F.meaning files.new)) }
+    requires work { MayBeWork crew.now.work }
+    requires empty { tape.old.items ≡ [] }
+    ensures ok { IfOk result (λ bytes. HasRounds making.now 0 (tile_number making.now.stream.siz) header bytes (F.meaning files.old) (F.meaning files.new)) }
+    ensures err { IfErr result (λ h. IsUnwritten making.now 0 h (F.meaning files.old) (F.meaning files.new)) }
+    ensures tape { IsTapeOf crew.now.work making.now.blocks tape.new.items }
+    ensures whole { OnOk result (length tape.new.items ≡ length making.now.blocks) }
     ensures cause { IsErrOf result Halt.Failed → Rose (F.write_faults files.old) (F.write_faults files.new) }
     ensures same { OnOk result (F.write_faults files.new ≡ F.write_faults files.old) }
     ensures making { OnOk result (IsTrue (F.meaning files.new).making) }
     ensures other { F.read_faults files.new ≡ F.read_faults files.old }
 {
-    let tiles = tile_count(plan.stream());
+    let tiles = making.tile_count();
     let mut mark = Mark {
         tile: 0,
         block: 0,
         bytes: header,
     };
     while mark.tile < tiles {
-        mark = match write_round(alloc, files, plan, main, written, mark) {
+        mark = match write_round(crew, alloc, files, making, mark, tape) {
             Ok(next) => next,
             Err(halt) => return Err(halt),
         };
@@ -147,30 +169,30 @@ fn write_tiles<F: Files>(
 }
 
 /// Writes the main header and all rounds.
-#[tactic(auto, using(crate::proofs::WriteLemmas::header_cut, crate::proofs::WriteLemmas::front_after, crate::proofs::WriteLemmas::halted_after))]
-fn write_rounds<F: Files>(
+#[tactic(auto, using(crate::proofs::WriteLemmas::header_cut, crate::proofs::WriteLemmas::front_after, crate::proofs::WriteLemmas::halted_after, crate::proofs::TapedLemmas::tape_none))]
+fn write_rounds<R: Threads + Wait + Sync, G: Gate + Sync, F: Files>(
+    crew: &Crew<'_, R, G>,
     alloc: Global,
     files: &mut F,
-    plan: &OutStream<'_>,
-    main: &MainView<'_>,
-    written: &MainView<'_>,
+    making: &Making<'_, '_>,
     header: &[u8],
+    tape: &mut Vec<TapeEntry>,
 ) -> Result<usize, Halt>
     requires making { IsTrue (F.meaning files.old).making }
-    requires main { main.now ≡ record { siz = plan.now.stream.siz; main = plan.now.stream.main } }
-    requires written { written.now ≡ record { siz = (headers_of plan.now).siz; main = (headers_of plan.now).main } }
-    requires plan { IsPlan plan.now }
-    requires keeping { IsKeeping plan.now }
-    requires header { header.now ≡ main_bytes (headers_of plan.now) }
-    ensures ok { IfOk result (λ bytes. HasFront plan.now (tile_number plan.now.stream.siz) bytes (F.meaning files.old) (F.meaning files.new)) }
-    ensures err { IfErr result (λ h. IsHalted plan.now h (F.meaning files.old) (F.meaning files.new)) }
+    requires header { header.now ≡ main_bytes (headers_of making.now) }
+    requires work { MayBeWork crew.now.work }
+    requires empty { tape.old.items ≡ [] }
+    ensures ok { IfOk result (λ bytes. HasFront making.now (tile_number making.now.stream.siz) bytes (F.meaning files.old) (F.meaning files.new)) }
+    ensures err { IfErr result (λ h. IsHalted making.now h (F.meaning files.old) (F.meaning files.new)) }
+    ensures tape { IsTapeOf crew.now.work making.now.blocks tape.new.items }
+    ensures whole { OnOk result (length tape.new.items ≡ length making.now.blocks) }
     ensures cause { IsErrOf result Halt.Failed → Rose (F.write_faults files.old) (F.write_faults files.new) }
     ensures same { OnOk result (F.write_faults files.new ≡ F.write_faults files.old) }
     ensures making { OnOk result (IsTrue (F.meaning files.new).making) }
     ensures other { F.read_faults files.new ≡ F.read_faults files.old }
 {
     match put(files, header) {
-        Ok(()) => write_tiles(alloc, files, plan, main, written, header.len()),
+        Ok(()) => write_tiles(crew, alloc, files, making, header.len(), tape),
         Err(halt) => Err(halt),
     }
 }
@@ -198,48 +220,55 @@ fn write_end<F: Files>(files: &mut F, before: usize) -> Result<usize, Halt>
 }
 
 /// Writes the file that was created to its end.
-fn write_created<F: Files>(
+fn write_created<R: Threads + Wait + Sync, G: Gate + Sync, F: Files>(
+    crew: &Crew<'_, R, G>,
     alloc: Global,
     files: &mut F,
-    plan: &OutStream<'_>,
-    main: &MainView<'_>,
-    written: &MainView<'_>,
+    making: &Making<'_, '_>,
     header: &[u8],
+    tape: &mut Vec<TapeEntry>,
 ) -> Result<usize, Halt>
     requires making { IsTrue (F.meaning files.old).making }
-    requires main { main.now ≡ record { siz = plan.now.stream.siz; main = plan.now.stream.main } }
-    requires written { written.now ≡ record { siz = (headers_of plan.now).siz; main = (headers_of plan.now).main } }
-    requires plan { IsPlan plan.now }
-    requires keeping { IsKeeping plan.now }
-    requires header { header.now ≡ main_bytes (headers_of plan.now) }
-    ensures ok { IfOk result (λ bytes. HasWhole plan.now bytes (F.meaning files.old) (F.meaning files.new)) }
-    ensures err { IfErr result (λ h. IsHalted plan.now h (F.meaning files.old) (F.meaning files.new)) }
+    requires header { header.now ≡ main_bytes (headers_of making.now) }
+    requires work { MayBeWork crew.now.work }
+    requires empty { tape.old.items ≡ [] }
+    ensures ok { IfOk result (λ bytes. HasWhole making.now bytes (F.meaning files.old) (F.meaning files.new)) }
+    ensures err { IfErr result (λ h. IsHalted making.now h (F.meaning files.old) (F.meaning files.new)) }
+    ensures tape { IsTapeOf crew.now.work making.now.blocks tape.new.items }
+    ensures whole { OnOk result (length tape.new.items ≡ length making.now.blocks) }
     ensures cause { IsErrOf result Halt.Failed → Rose (F.write_faults files.old) (F.write_faults files.new) }
     ensures other { F.read_faults files.new ≡ F.read_faults files.old }
 {
-    match write_rounds(alloc, files, plan, main, written, header) {
+    match write_rounds(crew, alloc, files, making, header, tape) {
         Ok(before) => write_end(files, before),
         Err(halt) => Err(halt),
     }
 }
 
-/// Writes the file of a plan under a name, and gives how many bytes it has.
+/// Writes the file of a plan under a name, and gives how many bytes it has. `tape` gets the entries of each round's code-blocks once the
+/// round is written.
 ///
-/// The main header, each tile-part and EOC are one piece each; the tile-parts of a round are made before the first of them is
-/// written. After an `Err` nothing was created, or what was written is a front of the file; after `TooLong` it is just the main
-/// header and the rounds before that of the tile.
-#[tactic(auto, using(crate::proofs::WriteLemmas::file_made, crate::proofs::WriteLemmas::file_halted, crate::proofs::WriteLemmas::file_uncreated, crate::proofs::WriteLemmas::halt_fault))]
-pub fn write_file<F: Files>(
+/// The main header, each tile-part and EOC are one piece each; the code-blocks and the tile-parts of a round are made before the first of
+/// these is written. After an `Err` nothing was created, or what was written is a front of the file; after `Bad` and `TooLong` it is just
+/// the main header and the rounds before that of the tile.
+#[tactic(auto, using(crate::proofs::WriteLemmas::file_made, crate::proofs::WriteLemmas::file_halted, crate::proofs::WriteLemmas::file_uncreated, crate::proofs::WriteLemmas::halt_fault, crate::proofs::TapedLemmas::tape_none))]
+pub fn write_file<R: Threads + Wait + Sync, G: Gate + Sync, F: Files>(
+    crew: &Crew<'_, R, G>,
     alloc: Global,
     files: &mut F,
     to: &str,
     plan: &OutStream<'_>,
+    tape: &mut Vec<TapeEntry>,
 ) -> Result<usize, Halt>
     requires creates { F.can_create files.old to.now }
     requires plan { IsPlan plan.now }
     requires keeping { IsKeeping plan.now }
+    requires work { MayBeWork crew.now.work }
+    requires empty { tape.old.items ≡ [] }
     ensures ok { IfOk result (λ bytes. IsFileMade plan.now to.now bytes (F.meaning files.old) (F.meaning files.new)) }
     ensures err { IfErr result (λ h. IsFileHalted plan.now to.now h (F.meaning files.old) (F.meaning files.new)) }
+    ensures tape { IsTapeOf crew.now.work plan.now.blocks tape.new.items }
+    ensures whole { OnOk result (length tape.new.items ≡ length plan.now.blocks) }
     ensures cause { IsErrOf result Halt.Failed → Rose (F.write_faults files.old) (F.write_faults files.new) }
     ensures other { F.read_faults files.new ≡ F.read_faults files.old }
 {
@@ -252,8 +281,9 @@ pub fn write_file<F: Files>(
     let Ok(written) = main_view(alloc, plan) else {
         return Err(Halt::NoMemory);
     };
+    let making = Making::new(plan, &main, &written);
     match files.create(to) {
-        Ok(()) => write_created(alloc, files, plan, &main, &written, &header),
+        Ok(()) => write_created(crew, alloc, files, &making, &header, tape),
         Err(refused) => Err(halt_of(refused)),
     }
 }

@@ -2,11 +2,13 @@
 //! bytes written, the line said and the status.
 #![tactic(auto)]
 
+mod crew;
 mod device;
 mod file;
 mod halt;
 pub mod laws;
 mod lines;
+mod making;
 mod program;
 mod rewrite;
 mod rounds;
@@ -22,5 +24,7 @@ mod packing_tests;
 mod refusal_tests;
 #[cfg(test)]
 mod regrouping_tests;
+#[cfg(test)]
+mod style_tests;
 #[cfg(test)]
 mod tests;

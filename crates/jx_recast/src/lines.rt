@@ -19,6 +19,7 @@ pub fn line_of(
         Status::Rule { number, place } => format!(in alloc; "rule {number} at {place}\n"),
         Status::Limit { number, found } => format!(in alloc; "limit {number}: {found}\n"),
         Status::Choice { number, place } => format!(in alloc; "choice {number} at {place}\n"),
+        Status::Block { number } => format!(in alloc; "block {number}\n"),
         Status::ReadFault => String::from_str(alloc, "read fault\n"),
         Status::WriteFault => Ok(String::new(alloc)),
         Status::NoMemory => String::from_str(alloc, "no memory\n"),

@@ -147,7 +147,7 @@ fn many_packets(rt: HostRuntime) -> Result<(), Fail> {
     let mut files = holding(alloc, &bytes)?;
     let mut say = MemSink::new(alloc);
     let words = ["jx", "transcode", "in", "out", "--sop", "--plt"];
-    let report = run_words(alloc, &words, &mut files, &mut say)?;
+    let report = run_words(&rt, alloc, &words, &mut files, &mut say)?;
     assert_eq!(rt; report.status, Status::Done);
     assert_eq!(rt; say.said(), "done: 2 blocks, 1048659 bytes\n");
     Ok(())

@@ -2,18 +2,21 @@ ghost use Rattle.std.specs.Prelude.{◌≡◌, ◌<◌, ◌⊎◌, [], true, fal
 ghost use Rattle.jx_plan.specs.Wanted.{MayBeWanted};
 ghost use Rattle.jx_outside.specs.Causes.{HasCause, Rose};
 ghost use Rattle.jx_outside.specs.Device.{Allows, joined};
-ghost use Rattle.jx_words.specs.Words.{is_good, request_of};
+ghost use Rattle.jx_words.specs.Words.{MayBeWork, is_good, request_of};
 ghost use Rattle.jx_recast.specs.Filed.{IsUnread};
 ghost use Rattle.jx_recast.specs.Outcome.{EndsAs, EndsFiles, IsUntouched, IsVerdict, Outcome, line_of};
 
+use crate::crew::Crew;
 use crate::device::{MOST, read_all};
 use crate::lines::line_of;
 use crate::rewrite::{Ending, answer};
 use crate::{Report, Status};
-use jx_outside::{Files, Refused, Sink};
+use jx_outside::{Files, Gate, Refused, Sink};
 use jx_plan::Options;
 use jx_words::{Request, WordsFault, read_words};
 use std::alloc::Global;
+use std::sync::Wait;
+use std::thread::Threads;
 
 fn read_input<F: Files>(alloc: Global, files: &mut F, name: &str) -> Result<Vec<u8>, Refused>
     requires { F.can_open files.old name.now }
@@ -27,7 +30,8 @@ fn read_input<F: Files>(alloc: Global, files: &mut F, name: &str) -> Result<Vec<
     read_all(alloc, files)
 }
 
-fn transcode<F: Files>(
+fn transcode<R: Threads + Wait + Sync, G: Gate + Sync, F: Files>(
+    crew: &Crew<'_, R, G>,
     alloc: Global,
     files: &mut F,
     from: &str,
@@ -37,29 +41,43 @@ fn transcode<F: Files>(
     requires opens { F.can_open files.old from.now }
     requires creates { F.can_create files.old to.now }
     requires wanted { MayBeWanted options.now }
-    ensures ends { EndsFiles (record { from = from.now; to = to.now; wanted = options.now }) result.status result.blocks result.bytes (F.meaning files.old) (F.meaning files.new) }
+    requires work { MayBeWork crew.now.work }
+    ensures ends { EndsFiles (record { from = from.now; to = to.now; wanted = options.now; work = crew.now.work }) result.status result.blocks result.bytes result.tape.items (F.meaning files.old) (F.meaning files.new) }
     ensures words { result.status ≡ Status.Words → ⊥ }
     ensures read { result.status ≡ Status.ReadFault → Rose (F.read_faults files.old) (F.read_faults files.new) }
     ensures write { result.status ≡ Status.WriteFault → Rose (F.write_faults files.old) (F.write_faults files.new) }
 {
     match read_input(alloc, files, from) {
-        Ok(input) => answer(alloc, files, &input, to, options),
-        Err(Refused::Failed) => Ending::refused(Status::ReadFault),
-        Err(Refused::NoMemory) => Ending::refused(Status::NoMemory),
+        Ok(input) => answer(crew, alloc, files, &input, to, options),
+        Err(Refused::Failed) => Ending::refused(alloc, Status::ReadFault),
+        Err(Refused::NoMemory) => Ending::refused(alloc, Status::NoMemory),
     }
 }
 
 /// Does what is asked.
-fn transcode_as<F: Files>(alloc: Global, files: &mut F, request: &Request) -> Ending
+fn transcode_as<R: Threads + Wait + Sync, G: Gate + Sync, F: Files>(
+    rt: &R,
+    alloc: Global,
+    files: &mut F,
+    gate: &G,
+    request: &Request,
+) -> Ending
     requires opens { F.can_open files.old request.now.from }
     requires creates { F.can_create files.old request.now.to }
     requires wanted { MayBeWanted request.now.wanted }
-    ensures ends { EndsFiles request.now result.status result.blocks result.bytes (F.meaning files.old) (F.meaning files.new) }
+    requires work { MayBeWork request.now.work }
+    ensures ends { EndsFiles request.now result.status result.blocks result.bytes result.tape.items (F.meaning files.old) (F.meaning files.new) }
     ensures words { result.status ≡ Status.Words → ⊥ }
     ensures read { result.status ≡ Status.ReadFault → Rose (F.read_faults files.old) (F.read_faults files.new) }
     ensures write { result.status ≡ Status.WriteFault → Rose (F.write_faults files.old) (F.write_faults files.new) }
 {
+    let crew = Crew {
+        rt,
+        gate,
+        work: request.work(),
+    };
     transcode(
+        &crew,
         alloc,
         files,
         request.from(),
@@ -69,8 +87,8 @@ fn transcode_as<F: Files>(alloc: Global, files: &mut F, request: &Request) -> En
 }
 
 /// Says the line of a status: nothing after a write fault.
-fn say_ending<S: Sink>(alloc: Global, say: &mut S, ending: Ending) -> Status
-    ensures { EndsAs ending.status (line_of ending.status ending.blocks ending.bytes) result (S.said say.old) (S.said say.new) (S.faults say.old) (S.faults say.new) }
+fn say_ending<S: Sink>(alloc: Global, say: &mut S, ending: &Ending) -> Status
+    ensures { EndsAs ending.now.status (line_of ending.now.status ending.now.blocks ending.now.bytes) result (S.said say.old) (S.said say.new) (S.faults say.old) (S.faults say.new) }
 {
     if ending.status == Status::WriteFault {
         return Status::WriteFault;
@@ -86,12 +104,18 @@ fn say_ending<S: Sink>(alloc: Global, say: &mut S, ending: Ending) -> Status
 }
 
 /// Does what the words ask for, but for what is said.
-fn judge<F: Files>(alloc: Global, words: &[String], files: &mut F) -> Ending
+fn judge<R: Threads + Wait + Sync, G: Gate + Sync, F: Files>(
+    rt: &R,
+    alloc: Global,
+    words: &[String],
+    files: &mut F,
+    gate: &G,
+) -> Ending
     requires opens { is_good (map string_bytes words.now) ≡ true → F.can_open files.old (request_of (map string_bytes words.now)).from }
     requires creates { is_good (map string_bytes words.now) ≡ true → F.can_create files.old (request_of (map string_bytes words.now)).to }
     ensures good { is_good (map string_bytes words.now) ≡ true
-        → EndsFiles (request_of (map string_bytes words.now)) result.status result.blocks result.bytes (F.meaning files.old) (F.meaning files.new) }
-    ensures bad { is_good (map string_bytes words.now) ≡ false → IsUnread result.status result.blocks }
+        → EndsFiles (request_of (map string_bytes words.now)) result.status result.blocks result.bytes result.tape.items (F.meaning files.old) (F.meaning files.new) }
+    ensures bad { is_good (map string_bytes words.now) ≡ false → IsUnread result.status result.blocks × (result.tape.items ≡ []) }
     ensures unread { is_good (map string_bytes words.now) ≡ false → F.meaning files.new ≡ F.meaning files.old }
     ensures read { result.status ≡ Status.ReadFault → Rose (F.read_faults files.old) (F.read_faults files.new) }
     ensures write { result.status ≡ Status.WriteFault → Rose (F.write_faults files.old) (F.write_faults files.new) }
@@ -99,9 +123,9 @@ fn judge<F: Files>(alloc: Global, words: &[String], files: &mut F) -> Ending
         → (F.read_faults files.new ≡ F.read_faults files.old) × (F.write_faults files.new ≡ F.write_faults files.old) }
 {
     match read_words(alloc, words) {
-        Ok(request) => transcode_as(alloc, files, &request),
-        Err(WordsFault::Words) => Ending::refused(Status::Words),
-        Err(WordsFault::NoMemory) => Ending::refused(Status::NoMemory),
+        Ok(request) => transcode_as(rt, alloc, files, gate, &request),
+        Err(WordsFault::Words) => Ending::refused(alloc, Status::Words),
+        Err(WordsFault::NoMemory) => Ending::refused(alloc, Status::NoMemory),
     }
 }
 
@@ -112,10 +136,20 @@ fn judge<F: Files>(alloc: Global, words: &[String], files: &mut F) -> Ending
 /// input is read and its plan made. The main header, each tile-part and EOC are one piece each to write;
 /// tiles are made round by round, and what is made is written before the next round. A fault of `files`
 /// or `say` ends the run where it comes.
-pub fn run<F: Files, S: Sink>(alloc: Global, words: &[String], files: &mut F, say: &mut S) -> Report
+///
+/// The code-blocks of a round of which some are coded anew are made by as many workers as the words ask for, inside both windows;
+/// `gate` is told of each of them. What is written doesn't depend on them.
+pub fn run<R: Threads + Wait + Sync, F: Files, S: Sink, G: Gate + Sync>(
+    rt: &R,
+    alloc: Global,
+    words: &[String],
+    files: &mut F,
+    say: &mut S,
+    gate: &G,
+) -> Report
     requires opens { is_good (map string_bytes words.now) ≡ true → F.can_open files.old (request_of (map string_bytes words.now)).from }
     requires creates { is_good (map string_bytes words.now) ≡ true → F.can_create files.old (request_of (map string_bytes words.now)).to }
-    ensures outcome { Outcome (map string_bytes words.now) result.status result.blocks (F.meaning files.old) (F.meaning files.new) (S.said say.old) (S.said say.new) }
+    ensures outcome { Outcome (map string_bytes words.now) result.status result.blocks result.tape.items (F.meaning files.old) (F.meaning files.new) (S.said say.old) (S.said say.new) }
     ensures read { result.status ≡ Status.ReadFault → Rose (F.read_faults files.old) (F.read_faults files.new) }
     ensures write { result.status ≡ Status.WriteFault
         → Rose (F.write_faults files.old) (F.write_faults files.new) ⊎ Rose (S.faults say.old) (S.faults say.new) }
@@ -128,13 +162,12 @@ pub fn run<F: Files, S: Sink>(alloc: Global, words: &[String], files: &mut F, sa
         → IsVerdict result.status ⊎ (result.status ≡ Status.NoMemory) }
     ensures idle { is_good (map string_bytes words.now) ≡ false
         → (F.read_faults files.new ≡ F.read_faults files.old) × (F.write_faults files.new ≡ F.write_faults files.old) }
-    ensures tape { result.tape.items ≡ [] }
 {
-    let ending = judge(alloc, words, files);
-    let status = say_ending(alloc, say, ending);
+    let ending = judge(rt, alloc, words, files, gate);
+    let status = say_ending(alloc, say, &ending);
     Report {
         status,
         blocks: ending.blocks,
-        tape: Vec::new(alloc),
+        tape: ending.tape,
     }
 }

@@ -4,10 +4,12 @@ use crate::tests::{GOOD, SMALL, edited, holding, run_words, written};
 use jx_outside::MemSink;
 use std::alloc::Global;
 use std::process::Abort;
+use std::sync::Wait;
 use std::test::Fail;
+use std::thread::Threads;
 
 fn refused(
-    rt: &(impl Abort + AllocGlobal),
+    rt: &(impl Abort + AllocGlobal + Threads + Wait + Sync),
     bytes: &[u8],
     status: Status,
     line: &str,
@@ -15,7 +17,7 @@ fn refused(
     let alloc = rt.alloc();
     let mut files = holding(alloc, bytes)?;
     let mut say = MemSink::new(alloc);
-    let report = run_words(alloc, &GOOD, &mut files, &mut say)?;
+    let report = run_words(rt, alloc, &GOOD, &mut files, &mut say)?;
     assert_eq!(rt; report.status, status, "at {} bytes", bytes.len());
     assert_eq!(rt; report.blocks, 0);
     assert_eq!(rt; say.said(), line);
@@ -24,7 +26,7 @@ fn refused(
 }
 
 fn breaks(
-    rt: &(impl Abort + AllocGlobal),
+    rt: &(impl Abort + AllocGlobal + Threads + Wait + Sync),
     bytes: &[u8],
     number: u8,
     place: u32,

@@ -4,7 +4,9 @@ use super::*;
 use crate::tests::{SMALL, edited, holding, rewrites, run_words, written};
 use jx_outside::{Call, MemSink};
 use std::process::Abort;
+use std::sync::Wait;
 use std::test::Fail;
+use std::thread::Threads;
 
 // Two by two samples with one level and two layers, in the order LRCP. In resolution 0 the block has a pass in each layer, in
 // resolution 1 that of band HL has one in layer 1.
@@ -43,8 +45,8 @@ fn front(rt: &(impl Abort + AllocGlobal), order: u8) -> Result<Vec<u8>, Fail> {
 }
 
 // Runs these words on these bytes, which aren't rewritten, and wants this status, these blocks and this line.
-fn stops(
-    rt: &(impl Abort + AllocGlobal),
+pub fn stops(
+    rt: &(impl Abort + AllocGlobal + Threads + Wait + Sync),
     options: &[&str],
     bytes: &[u8],
     status: Status,
@@ -57,7 +59,7 @@ fn stops(
     words.extend_from_slice(options)?;
     let mut files = holding(alloc, bytes)?;
     let mut say = MemSink::new(alloc);
-    let report = run_words(alloc, &words, &mut files, &mut say)?;
+    let report = run_words(rt, alloc, &words, &mut files, &mut say)?;
     assert_eq!(rt; report.status, status);
     assert_eq!(rt; report.blocks, blocks);
     assert_eq!(rt; say.said(), line);
@@ -246,7 +248,7 @@ fn values_that_are_none(rt: HostRuntime) -> Result<(), Fail> {
         let mut files = holding(alloc, &SMALL)?;
         let mut say = MemSink::new(alloc);
         files.fail(Call::Open, 1)?;
-        let report = run_words(alloc, list, &mut files, &mut say)?;
+        let report = run_words(&rt, alloc, list, &mut files, &mut say)?;
         assert_eq!(rt; report.status, Status::Words, "{list:?}");
         assert_eq!(rt; say.said(), "words\n");
         assert_eq!(rt; written(&files), None);

@@ -1,44 +1,54 @@
 //! What becomes of an input whose bytes were read.
 
-ghost use Rattle.std.specs.Prelude.{◌≡◌, ◌≤◌, ℕ, List, length};
+ghost use Rattle.std.specs.Prelude.{◌≡◌, ◌<◌, ◌≤◌, ℕ, List, [], length};
 ghost use Rattle.jx_outside.specs.Causes.{Rose};
 ghost use Rattle.jx_stream.specs.Read.{IsRead};
 ghost use Rattle.jx_plan.specs.Plan.{MayBePlanned};
 ghost use Rattle.jx_plan.specs.Wanted.{MayBeWanted};
+ghost use Rattle.jx_words.specs.Words.{MayBeWork};
 ghost use Rattle.jx_recast.specs.Filed.{IsAnswered, IsPlanAnswered, blocks_told, status_of, told_by, told_of_plan};
 ghost use Rattle.jx_recast.specs.Outcome.{most_bytes};
 ghost use Rattle.jx_recast.specs.Rewritten.{Reads};
 ghost use Rattle.jx_recast.specs.Rounds.{IsKeeping};
 
-use crate::Status;
+use crate::crew::Crew;
 use crate::device::MOST;
 use crate::file::write_file;
 use crate::halt::Halt;
+use crate::{Status, TapeEntry};
 use jx_assemble::laws::rewritten_is_read;
 use jx_gather::{Block, gather};
-use jx_outside::Files;
-use jx_plan::{Options, OutStream, PlanFault, plan_kept, shortened};
+use jx_layers::shortened;
+use jx_outside::{Files, Gate};
+use jx_plan::{Options, OutStream, PlanFault, plan_kept};
 use jx_stream::{Stream, StreamFault, read_stream};
 use std::alloc::Global;
+use std::sync::Wait;
+use std::thread::Threads;
 
 /// How the files were left, before anything is said.
-#[derive(Clone, Copy, Debug, PartialEq, Eq)]
+#[derive(Debug, Drop)]
 pub struct Ending {
     pub status: Status,
     pub blocks: u32,
     // the bytes of the output after Done, else 0
     pub bytes: usize,
+    // the entries of the rounds that were written
+    pub tape: Vec<TapeEntry>,
 }
 
 impl Ending {
     /// Nothing was made.
-    pub fn refused(status: Status) -> Ending
-        ensures { result ≡ record { status = status; blocks = 0; bytes = 0 } }
+    pub fn refused(alloc: Global, status: Status) -> Ending
+        ensures status { result.status ≡ status }
+        ensures none { (result.blocks ≡ 0) × (result.bytes ≡ 0) }
+        ensures tape { result.tape.items ≡ [] }
     {
         Ending {
             status,
             blocks: 0,
             bytes: 0,
+            tape: Vec::new(alloc),
         }
     }
 }
@@ -48,6 +58,7 @@ fn status_of(halt: Halt) -> Status
     ensures { result ≡ status_of halt }
 {
     match halt {
+        Halt::Bad { tile: _, number } => Status::Block { number },
         Halt::TooLong { tile } => Status::Choice {
             number: 7,
             place: u32::from(tile),
@@ -59,51 +70,66 @@ fn status_of(halt: Halt) -> Status
 
 /// What becomes of a plan.
 #[tactic(auto, using(crate::proofs::FrontLemmas::jobs_few, crate::proofs::AnswerLemmas::plan_written, crate::proofs::AnswerLemmas::plan_halted))]
-fn write_plan<F: Files>(alloc: Global, files: &mut F, to: &str, plan: &OutStream<'_>) -> Ending
+fn write_plan<R: Threads + Wait + Sync, G: Gate + Sync, F: Files>(
+    crew: &Crew<'_, R, G>,
+    alloc: Global,
+    files: &mut F,
+    to: &str,
+    plan: &OutStream<'_>,
+) -> Ending
     requires creates { F.can_create files.old to.now }
     requires keeping { IsKeeping plan.now }
-    ensures answer { IsPlanAnswered to.now plan.now result.status result.blocks result.bytes (F.meaning files.old) (F.meaning files.new) }
+    requires work { MayBeWork crew.now.work }
+    ensures answer { IsPlanAnswered to.now crew.now.work plan.now result.status result.blocks result.bytes result.tape.items (F.meaning files.old) (F.meaning files.new) }
     ensures cause { result.status ≡ Status.WriteFault → Rose (F.write_faults files.old) (F.write_faults files.new) }
     ensures read { (result.status ≡ Status.ReadFault → ⊥) × (result.status ≡ Status.Words → ⊥) }
     ensures other { F.read_faults files.new ≡ F.read_faults files.old }
 {
     let blocks = plan.jobs().len() as u32;
-    match write_file(alloc, files, to, plan) {
+    let mut tape = Vec::new(alloc);
+    match write_file(crew, alloc, files, to, plan, &mut tape) {
         Ok(bytes) => Ending {
             status: Status::Done,
             blocks,
             bytes,
+            tape,
         },
         Err(halt) => Ending {
             status: status_of(halt),
             blocks,
             bytes: 0,
+            tape,
         },
     }
 }
 
 /// A plan that can't be had of an input with so many code-blocks.
-fn unplanned_by(fault: PlanFault, blocks: u32) -> Ending
-    ensures { result ≡ record { status = told_of_plan fault; blocks = blocks_told fault blocks; bytes = 0 } }
+fn unplanned_by(alloc: Global, fault: PlanFault, blocks: u32) -> Ending
+    ensures status { result.status ≡ told_of_plan fault }
+    ensures blocks { (result.blocks ≡ blocks_told fault blocks) × (result.bytes ≡ 0) }
+    ensures tape { result.tape.items ≡ [] }
 {
     match fault {
         PlanFault::Limit { number, found } => Ending {
             status: Status::Limit { number, found },
             blocks,
             bytes: 0,
+            tape: Vec::new(alloc),
         },
         PlanFault::Choice { number, place } => Ending {
             status: Status::Choice { number, place },
             blocks,
             bytes: 0,
+            tape: Vec::new(alloc),
         },
-        PlanFault::NoMemory => Ending::refused(Status::NoMemory),
+        PlanFault::NoMemory => Ending::refused(alloc, Status::NoMemory),
     }
 }
 
 /// What becomes of a stream with its code-blocks: its output is planned and written.
 #[tactic(auto, using(crate::proofs::FrontLemmas::planned_few, crate::proofs::AnswerLemmas::keeping_of))]
-fn write_blocks<F: Files>(
+fn write_blocks<R: Threads + Wait + Sync, G: Gate + Sync, F: Files>(
+    crew: &Crew<'_, R, G>,
     alloc: Global,
     files: &mut F,
     stream: &Stream,
@@ -114,21 +140,23 @@ fn write_blocks<F: Files>(
     requires creates { F.can_create files.old to.now }
     requires may { MayBePlanned stream.now blocks.now }
     requires wanted { MayBeWanted options.now }
+    requires work { MayBeWork crew.now.work }
     ensures answer { (input : List ℕ) → length input ≤ most_bytes → Reads input stream.now blocks.now
-        → IsAnswered to.now options.now input result.status result.blocks result.bytes (F.meaning files.old) (F.meaning files.new) }
+        → IsAnswered to.now crew.now.work options.now input result.status result.blocks result.bytes result.tape.items (F.meaning files.old) (F.meaning files.new) }
     ensures cause { result.status ≡ Status.WriteFault → Rose (F.write_faults files.old) (F.write_faults files.new) }
     ensures read { (result.status ≡ Status.ReadFault → ⊥) × (result.status ≡ Status.Words → ⊥) }
     ensures other { F.read_faults files.new ≡ F.read_faults files.old }
 {
     rewritten_is_read();
     match plan_kept(alloc, stream, shortened(blocks), options) {
-        Ok(plan) => write_plan(alloc, files, to, &plan),
-        Err(fault) => unplanned_by(fault, blocks.len() as u32),
+        Ok(plan) => write_plan(crew, alloc, files, to, &plan),
+        Err(fault) => unplanned_by(alloc, fault, blocks.len() as u32),
     }
 }
 
 /// What becomes of the input of a stream.
-fn rewrite<F: Files>(
+fn rewrite<R: Threads + Wait + Sync, G: Gate + Sync, F: Files>(
+    crew: &Crew<'_, R, G>,
     alloc: Global,
     files: &mut F,
     input: &[u8],
@@ -140,31 +168,41 @@ fn rewrite<F: Files>(
     requires within { length input.now ≤ most_bytes }
     requires read { IsRead input.now stream.now }
     requires wanted { MayBeWanted options.now }
-    ensures answer { IsAnswered to.now options.now input.now result.status result.blocks result.bytes (F.meaning files.old) (F.meaning files.new) }
+    requires work { MayBeWork crew.now.work }
+    ensures answer { IsAnswered to.now crew.now.work options.now input.now result.status result.blocks result.bytes result.tape.items (F.meaning files.old) (F.meaning files.new) }
     ensures cause { result.status ≡ Status.WriteFault → Rose (F.write_faults files.old) (F.write_faults files.new) }
     ensures read { (result.status ≡ Status.ReadFault → ⊥) × (result.status ≡ Status.Words → ⊥) }
     ensures other { F.read_faults files.new ≡ F.read_faults files.old }
 {
     match gather(alloc, input, stream) {
-        Ok(blocks) => write_blocks(alloc, files, stream, &blocks, to, options),
-        Err(fault) => refused_by(fault),
+        Ok(blocks) => write_blocks(crew, alloc, files, stream, &blocks, to, options),
+        Err(fault) => refused_by(alloc, fault),
     }
 }
 
 /// A rule that is violated, or a limit that is passed, in the headers or the tile data.
-fn refused_by(fault: StreamFault) -> Ending
-    ensures { result ≡ record { status = told_by fault; blocks = 0; bytes = 0 } }
+fn refused_by(alloc: Global, fault: StreamFault) -> Ending
+    ensures status { result.status ≡ told_by fault }
+    ensures none { (result.blocks ≡ 0) × (result.bytes ≡ 0) }
+    ensures tape { result.tape.items ≡ [] }
 {
     match fault {
-        StreamFault::Rule { number, place } => Ending::refused(Status::Rule { number, place }),
-        StreamFault::Limit { number, found } => Ending::refused(Status::Limit { number, found }),
-        StreamFault::NoMemory => Ending::refused(Status::NoMemory),
+        StreamFault::Rule { number, place } => Ending::refused(
+            alloc,
+            Status::Rule { number, place },
+        ),
+        StreamFault::Limit { number, found } => Ending::refused(
+            alloc,
+            Status::Limit { number, found },
+        ),
+        StreamFault::NoMemory => Ending::refused(alloc, Status::NoMemory),
     }
 }
 
 /// What becomes of the bytes that were read, at most `MOST`.
 #[tactic(auto, using(crate::proofs::AnswerLemmas::too_long))]
-pub fn answer<F: Files>(
+pub fn answer<R: Threads + Wait + Sync, G: Gate + Sync, F: Files>(
+    crew: &Crew<'_, R, G>,
     alloc: Global,
     files: &mut F,
     input: &[u8],
@@ -173,19 +211,25 @@ pub fn answer<F: Files>(
 ) -> Ending
     requires creates { F.can_create files.old to.now }
     requires wanted { MayBeWanted options.now }
-    ensures answer { IsAnswered to.now options.now input.now result.status result.blocks result.bytes (F.meaning files.old) (F.meaning files.new) }
+    requires work { MayBeWork crew.now.work }
+    ensures answer { IsAnswered to.now crew.now.work options.now input.now result.status result.blocks result.bytes result.tape.items (F.meaning files.old) (F.meaning files.new) }
+    // no code-block of an input that is too long
+    ensures long { most_bytes < length input.now → result.tape.items ≡ [] }
     ensures cause { result.status ≡ Status.WriteFault → Rose (F.write_faults files.old) (F.write_faults files.new) }
     ensures read { (result.status ≡ Status.ReadFault → ⊥) × (result.status ≡ Status.Words → ⊥) }
     ensures other { F.read_faults files.new ≡ F.read_faults files.old }
 {
     if input.len() >= MOST {
-        return Ending::refused(Status::Limit {
-            number: 1,
-            found: 268_435_457,
-        });
+        return Ending::refused(
+            alloc,
+            Status::Limit {
+                number: 1,
+                found: 268_435_457,
+            },
+        );
     }
     match read_stream(alloc, input) {
-        Ok(stream) => rewrite(alloc, files, input, &stream, to, options),
-        Err(fault) => refused_by(fault),
+        Ok(stream) => rewrite(crew, alloc, files, input, &stream, to, options),
+        Err(fault) => refused_by(alloc, fault),
     }
 }

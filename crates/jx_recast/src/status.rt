@@ -9,8 +9,10 @@ pub enum Status {
     Rule { number: u8, place: u32 },
     /// A limit was passed: its number, and what was counted.
     Limit { number: u8, found: u128 },
-    /// The output can't be had: the number of the choice, and the tile.
+    /// The output can't be had: the number of the choice, and the block or tile.
     Choice { number: u8, place: u32 },
+    /// A block was to be coded anew, and one of its segmentation symbols is wrong: its number.
+    Block { number: u32 },
     /// The input couldn't be opened or read.
     ReadFault,
     /// The output couldn't be created, written or finished, or the line couldn't be said.
@@ -33,6 +35,7 @@ impl Status {
             Status::Rule { .. } => 3,
             Status::Limit { .. } => 4,
             Status::Choice { .. } => 5,
+            Status::Block { .. } => 6,
             Status::ReadFault => 7,
             Status::WriteFault => 8,
             Status::NoMemory => 9,
@@ -40,7 +43,8 @@ impl Status {
     }
 }
 
-/// Which worker recoded a block, and the first block that wasn't in sequence when it was claimed.
+/// Which worker had a block, and the first block that wasn't in sequence when it was claimed. A block of a round in which none is coded
+/// anew was had by worker 0, alone.
 #[derive(Clone, Copy, Debug, PartialEq, Eq)]
 pub struct TapeEntry {
     pub number: u32,
@@ -55,6 +59,6 @@ pub struct Report {
     pub status: Status,
     /// The code-blocks of the input once it was accepted, else 0.
     pub blocks: u32,
-    /// The blocks that workers recoded, in their order. No block is recoded yet.
+    /// The blocks of all rounds that were written, in their order.
     pub tape: Vec<TapeEntry>,
 }

@@ -1,8 +1,10 @@
 use super::*;
-use jx_outside::{Call, Files, MemFiles, MemSink};
+use jx_outside::{Call, Files, Gate, MemFiles, MemSink, NoGate};
 use std::alloc::Global;
 use std::process::Abort;
+use std::sync::Wait;
 use std::test::Fail;
+use std::thread::Threads;
 
 // A canvas of one sample, one tile, component and code-block, and an empty packet.
 pub const SMALL: [u8; 82] = [
@@ -24,18 +26,31 @@ const END: [u8; 23] = [
 
 pub const GOOD: [&str; 5] = ["jx", "transcode", "in", "out", "--sop"];
 
-// Runs these words; the status, the blocks and the text said.
-pub fn run_words(
+// Runs these words with a gate.
+pub fn run_gated<R: Threads + Wait + Sync, G: Gate + Sync>(
+    rt: &R,
     alloc: Global,
     list: &[&str],
     files: &mut MemFiles,
     say: &mut MemSink,
+    gate: &G,
 ) -> Result<Report, Fail> {
     let mut words = Vec::new(alloc);
     for word in list {
         words.push(String::from_str(alloc, word)?)?;
     }
-    Ok(run(alloc, &words, files, say))
+    Ok(run(rt, alloc, &words, files, say, gate))
+}
+
+// Runs these words.
+pub fn run_words<R: Threads + Wait + Sync>(
+    rt: &R,
+    alloc: Global,
+    list: &[&str],
+    files: &mut MemFiles,
+    say: &mut MemSink,
+) -> Result<Report, Fail> {
+    run_gated(rt, alloc, list, files, say, &NoGate)
 }
 
 // A file IN of these bytes.
@@ -58,11 +73,16 @@ fn sop_is_put_in(rt: HostRuntime) -> Result<(), Fail> {
     let alloc = rt.alloc();
     let mut files = holding(alloc, &SMALL)?;
     let mut say = MemSink::new(alloc);
-    let report = run_words(alloc, &GOOD, &mut files, &mut say)?;
+    let report = run_words(&rt, alloc, &GOOD, &mut files, &mut say)?;
     assert_eq!(rt; report.status, Status::Done);
     assert_eq!(rt; report.status.number(), 0);
     assert_eq!(rt; report.blocks, 1);
-    assert!(rt; report.tape.is_empty());
+    let entry = TapeEntry {
+        number: 0,
+        worker: 0,
+        seen: 0,
+    };
+    assert_eq!(rt; report.tape.as_slice(), [entry].as_slice());
     assert_eq!(rt; say.said(), "done: 1 blocks, 88 bytes\n");
     let (name, bytes) = files.made().ok_or("nothing made")?;
     assert_eq!(rt; name, "out");
@@ -94,7 +114,7 @@ pub fn edited(
 
 // Runs these words on these bytes, and wants these bytes and this line.
 pub fn rewrites(
-    rt: &(impl Abort + AllocGlobal),
+    rt: &(impl Abort + AllocGlobal + Threads + Wait + Sync),
     words: &[&str],
     bytes: &[u8],
     want: &[u8],
@@ -103,7 +123,7 @@ pub fn rewrites(
     let alloc = rt.alloc();
     let mut files = holding(alloc, bytes)?;
     let mut say = MemSink::new(alloc);
-    let report = run_words(alloc, words, &mut files, &mut say)?;
+    let report = run_words(rt, alloc, words, &mut files, &mut say)?;
     assert_eq!(rt; report.status, Status::Done);
     assert_eq!(rt; say.said(), line);
     let (_, made) = files.made().ok_or("nothing made")?;
@@ -188,7 +208,7 @@ fn faults_of_the_files(rt: HostRuntime) -> Result<(), Fail> {
         let mut files = holding(alloc, &SMALL)?;
         let mut say = MemSink::new(alloc);
         files.fail(call, nth)?;
-        let report = run_words(alloc, &GOOD, &mut files, &mut say)?;
+        let report = run_words(&rt, alloc, &GOOD, &mut files, &mut say)?;
         assert_eq!(rt; report.status, status, "at {call:?} {nth}");
         assert_eq!(rt; say.said(), said);
         assert_eq!(rt; written(&files), left);
@@ -203,7 +223,7 @@ fn the_line_is_not_said(rt: HostRuntime) -> Result<(), Fail> {
         let mut files = holding(alloc, &SMALL[..length])?;
         let mut say = MemSink::new(alloc);
         say.fail(1)?;
-        let report = run_words(alloc, &GOOD, &mut files, &mut say)?;
+        let report = run_words(&rt, alloc, &GOOD, &mut files, &mut say)?;
         assert_eq!(rt; report.status, Status::WriteFault);
         assert_eq!(rt; report.status.number(), 8);
         assert_eq!(rt; report.blocks, blocks);
@@ -215,19 +235,25 @@ fn the_line_is_not_said(rt: HostRuntime) -> Result<(), Fail> {
 #[test]
 fn other_words(rt: HostRuntime) -> Result<(), Fail> {
     let alloc = rt.alloc();
-    let lists: [&[&str]; 6] = [
+    let lists: [&[&str]; 12] = [
         &[],
         &["jx", "transcode", "in"],
         &["jx", "transform", "in", "out", "--sop"],
         &["jx", "transcode", "in", "out", "--layers"],
         &["jx", "transcode", "in", "out", "--sop", "--plt", "--sop"],
         &["jx", "transcode", "in", "out", "--sop", "more"],
+        &["jx", "transcode", "in", "out", "--threads", "0"],
+        &["jx", "transcode", "in", "out", "--threads", "65"],
+        &["jx", "transcode", "in", "out", "--window", "1025"],
+        &["jx", "transcode", "in", "out", "--window-bytes", "0"],
+        &["jx", "transcode", "in", "out", "--style", "causal+causal"],
+        &["jx", "transcode", "in", "out", "--style", "none+reset"],
     ];
     for list in lists {
         let mut files = holding(alloc, &SMALL)?;
         let mut say = MemSink::new(alloc);
         files.fail(Call::Open, 1)?;
-        let report = run_words(alloc, list, &mut files, &mut say)?;
+        let report = run_words(&rt, alloc, list, &mut files, &mut say)?;
         assert_eq!(rt; report.status, Status::Words, "{list:?}");
         assert_eq!(rt; say.said(), "words\n");
         assert_eq!(rt; written(&files), None);

@@ -5,6 +5,7 @@ use Rattle.std.specs.declared.vec.IntoIter.{IntoIter}
 use Rattle.std.specs.Vec.Iter.{into_iter_items}
 use Rattle.jx_outside.specs.Device.{Meaning}
 use Rattle.jx_recast.specs.declared.status.Status.{Status}
+use Rattle.jx_recast.specs.declared.status.TapeEntry.{TapeEntry}
 use Rattle.jx_words.specs.Words.{Text}
 use Rattle.jx_recast.specs.Outcome.{Outcome, number_of}
 
@@ -17,5 +18,6 @@ words_in (Err error) = []
 pub record IsEnded (words : List Text) (number : ℕ) (old new : Meaning) (before now : Option (List ℕ)) : Type 0 where
   pub status : Status
   pub blocks : ℕ
-  pub outcome : Outcome words status blocks old new before now
+  pub tape : List TapeEntry
+  pub outcome : Outcome words status blocks tape old new before now
   pub number_is : number ≡ number_of status

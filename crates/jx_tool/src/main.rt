@@ -8,12 +8,14 @@ ghost use Rattle.std.specs.Vec.Iter.{into_iter_items};
 ghost use Rattle.jx_words.specs.Words.{is_good, request_of};
 ghost use Rattle.jx_tool.specs.Ended.{IsEnded, words_in};
 
-use jx_outside::{Files, Sink, StdFiles, StdSink};
+use jx_outside::{Files, NoGate, Sink, StdFiles, StdSink};
 use jx_recast::{Status, run};
 use std::alloc::{AllocError, Global};
 use std::env::Args;
 use std::io::ErrorKind;
 use std::process::ExitCode;
+use std::sync::Wait;
+use std::thread::Threads;
 use std::{env, io};
 
 fn collected(alloc: Global, args: Args) -> Result<Vec<String>, AllocError>
@@ -44,7 +46,8 @@ fn words_of(alloc: Global, args: io::Result<Args>) -> Result<Vec<String>, Status
 }
 
 /// Runs on the words of the command line: what the process ends with.
-fn end_of<F: Files, S: Sink>(
+fn end_of<R: Threads + Wait + Sync, F: Files, S: Sink>(
+    rt: &R,
     alloc: Global,
     args: io::Result<Args>,
     files: &mut F,
@@ -55,7 +58,7 @@ fn end_of<F: Files, S: Sink>(
     ensures { IsEnded (words_in args) (exit_status result) (F.meaning files.old) (F.meaning files.new) (S.said say.old) (S.said say.new) }
 {
     match words_of(alloc, args) {
-        Ok(words) => ExitCode::from(run(alloc, &words, files, say).status.number()),
+        Ok(words) => ExitCode::from(run(rt, alloc, &words, files, say, &NoGate).status.number()),
         Err(status) => ExitCode::from(status.number()),
     }
 }
@@ -63,7 +66,7 @@ fn end_of<F: Files, S: Sink>(
 fn main(rt: HostRuntime) -> ExitCode {
     let mut files = StdFiles::new(&rt);
     let mut say = StdSink::new(&rt);
-    end_of(rt.alloc(), env::args(&rt), &mut files, &mut say)
+    end_of(&rt, rt.alloc(), env::args(&rt), &mut files, &mut say)
 }
 
 #[cfg(test)]

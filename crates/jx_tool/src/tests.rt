@@ -11,15 +11,16 @@ fn other_ends_than_zero(rt: HostRuntime) -> Result<(), Fail> {
     for word in ["jx", "transcode", "in", "out", "--layers"] {
         words.push(String::from_str(alloc, word)?)?;
     }
-    let end = end_of(alloc, Ok(words.into_iter()), &mut files, &mut say);
+    let end = end_of(&rt, alloc, Ok(words.into_iter()), &mut files, &mut say);
     assert_eq!(rt; end, ExitCode::from(2));
     let mut words = Vec::new(alloc);
     for word in ["jx", "transcode", "in", "out", "--sop"] {
         words.push(String::from_str(alloc, word)?)?;
     }
-    let end = end_of(alloc, Ok(words.into_iter()), &mut files, &mut say);
+    let end = end_of(&rt, alloc, Ok(words.into_iter()), &mut files, &mut say);
     assert_eq!(rt; end, ExitCode::from(7));
     let end = end_of(
+        &rt,
         alloc,
         Err(ErrorKind::InvalidData.into()),
         &mut files,

@@ -6,4 +6,4 @@ use Rattle.jx_recast.proofs.program.judge.Goals as goal
 
 pub returns-in-Err-NoMemory-clause-good : goal.returns-in-Err-NoMemory-clause-good
 returns-in-Err-NoMemory-clause-good g c =
-    λ is. rw c.refused-in-Err-NoMemory.ensures (ends_unread (request_of (map string_bytes c.args.words.now)) _ _ _ (inr refl) (untouched (g.F.Files.meaning c.args.files.now)))
+    λ is. rw (c.refused-in-Err-NoMemory.ensures.status, c.refused-in-Err-NoMemory.ensures.none.0, c.refused-in-Err-NoMemory.ensures.none.1, c.refused-in-Err-NoMemory.ensures.tape) (ends_unread (request_of (map string_bytes c.args.words.now)) _ _ _ (inr refl) (untouched (g.F.Files.meaning c.args.files.now)))

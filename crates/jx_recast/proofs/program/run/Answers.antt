@@ -7,9 +7,9 @@ use Rattle.jx_recast.proofs.program.run.Goals as goal
 pub returns-clause-outcome : goal.returns-clause-outcome
 returns-clause-outcome g c = record {
   good = λ is. ends_said (request_of (map string_bytes c.args.words.now)) c.judge-ending.result.status c.say_ending-status.result c.judge-ending.result.blocks
-      c.judge-ending.result.bytes _ _ _ _ _ _ (c.judge-ending.ensures.good is) c.say_ending-status.ensures;
-  bad = λ is. unread_said c.judge-ending.result.status c.say_ending-status.result c.judge-ending.result.blocks c.judge-ending.result.bytes _ _ _ _ _ _
-      (c.judge-ending.ensures.bad is) (c.judge-ending.ensures.unread is) c.say_ending-status.ensures;
+      c.judge-ending.result.bytes c.judge-ending.result.tape.items _ _ _ _ _ _ (c.judge-ending.ensures.good is) c.say_ending-status.ensures;
+  bad = λ is. unread_said c.judge-ending.result.status c.say_ending-status.result c.judge-ending.result.blocks c.judge-ending.result.bytes c.judge-ending.result.tape.items _ _ _ _ _ _
+      (c.judge-ending.ensures.bad is).0 (c.judge-ending.ensures.bad is).1 (c.judge-ending.ensures.unread is) c.say_ending-status.ensures;
 }
 
 pub returns-clause-unsaid : goal.returns-clause-unsaid

@@ -3,7 +3,7 @@ use Rattle.jx_recast.proofs.rewrite.rewrite.Goals as goal
 
 pub write_blocks-requires-clause-may : goal.write_blocks-requires-clause-may
 write_blocks-requires-clause-may g c =
-    rw c.deref.ensures.value (may_be_planned c.args.input.now c.args.stream.now c.in-Ok.blocks.items c.requires.read c.in-Ok.ensures.totals c.in-Ok.ensures.blocks c.in-Ok.ensures.sound)
+    λ lifetimes within. rw c.deref.ensures.value (may_be_planned c.args.input.now c.args.stream.now c.in-Ok.blocks.items c.requires.read c.in-Ok.ensures.totals c.in-Ok.ensures.blocks c.in-Ok.ensures.sound)
 
 pub returns-in-Ok-clause-answer : goal.returns-in-Ok-clause-answer
 returns-in-Ok-clause-answer g c =
@@ -12,4 +12,4 @@ returns-in-Ok-clause-answer g c =
 
 pub returns-in-Err-clause-answer : goal.returns-in-Err-clause-answer
 returns-in-Err-clause-answer g c =
-    rw c.refused_by.ensures (tiles_refused _ _ c.args.input.now c.args.stream.now c.in-Err.fault _ c.requires.within c.requires.read c.in-Err.ensures.broken)
+    rw (c.refused_by.ensures.status, c.refused_by.ensures.none.0, c.refused_by.ensures.none.1, c.refused_by.ensures.tape) (tiles_refused _ _ _ c.args.input.now c.args.stream.now c.in-Err.fault _ c.requires.within c.requires.read c.in-Err.ensures.broken)

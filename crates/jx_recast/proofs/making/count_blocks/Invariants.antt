@@ -1,6 +1,6 @@
 use Rattle.std.proofs.Common.{◌≡◌, ◌*◌, ◌≤◌, ◌^◌, take}
 use Rattle.jx_geom.specs.Counts.{tile_blocks}
-use Rattle.jx_recast.proofs.tile.count_blocks.Given as goal
+use Rattle.jx_recast.proofs.making.count_blocks.Given as goal
 
 abbrev pub invariant-loop-comp : goal.invariant-loop-comp
 invariant-loop-comp l = record {

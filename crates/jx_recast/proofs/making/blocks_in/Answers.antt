@@ -2,7 +2,7 @@ use Rattle.std.proofs.Common.{◌∙◌, ◌≤◌, ◌^◌, List, length, ap, s
 use Rattle.jx_geom.specs.declared.shape.CompShape.{CompShape}
 use Rattle.jx_stream.specs.Shapes.{shapes_in}
 use Rattle.jx_gather.proofs.TotalLemmas.{few_shapes}
-use Rattle.jx_recast.proofs.tile.blocks_in.Goals as goal
+use Rattle.jx_recast.proofs.making.blocks_in.Goals as goal
 
 pub count_blocks-requires-clause-few : goal.count_blocks-requires-clause-few
 count_blocks-requires-clause-few c =

@@ -1,0 +1,168 @@
+//! By whom the code-blocks of a run are made, and how.
+
+ghost use Rattle.std.specs.Prelude.{◌≡◌, ◌+◌, ◌≤◌, ◌^◌, true, is_some, length, map, All, IfOk, IfSome};
+ghost use Rattle.std.specs.List.{list_any, sum};
+ghost use Rattle.jx_base.specs.Pieces.{bytes_in, value_of};
+ghost use Rattle.jx_block.specs.Jobs.{IsAsked};
+ghost use Rattle.jx_store.specs.declared.event.Taped.{Taped};
+ghost use Rattle.jx_store.specs.declared.work.Named.{Named};
+ghost use Rattle.jx_block.specs.Recoded.{WrittenBlock};
+ghost use Rattle.jx_pool.specs.Tapes.{AreAsked, answer_of, size_of};
+ghost use Rattle.jx_words.specs.Words.{MayBeWork};
+ghost use Rattle.jx_recast.specs.MadeRounds.{AreMadeAlone, IsTapeFrom};
+
+use jx_base::{NoMemory, Piece};
+use jx_block::{BlockFault, Job, Recoded, recode};
+use jx_outside::Gate;
+use jx_pool::{Tape, recode_all};
+use jx_store::{Claim, Entry, Named, Taped};
+use jx_words::Work;
+use std::alloc::Global;
+use std::sync::Wait;
+use std::thread::Threads;
+
+/// The most bytes that the pieces of the blocks of a round may have together where workers make them.
+const MOST_BYTES: usize = 268_435_456;
+
+/// What workers are made with: the threads' and waiting's handle, the gate that is told of each block, and how many there are, inside
+/// which windows.
+#[derive_where(Clone, Copy)]
+pub struct Crew<'a, R, G> {
+    pub rt: &'a R,
+    pub gate: &'a G,
+    pub work: Work,
+}
+
+/// Whether one of the blocks is to be coded anew.
+fn is_anew(jobs: &[Job<'_>]) -> bool
+    ensures { result ≡ list_any (λ j. is_some j.style) jobs.now }
+{
+    jobs.iter().any(|job| job.style.is_some())
+}
+
+/// What is left of a room for bytes after those of some pieces; none where it is too small.
+fn left_after(room: usize, pieces: &[Piece<'_>]) -> Option<usize>
+    ensures { IfSome result (λ left. left + bytes_in (map value_of pieces.now) ≡ room) }
+{
+    let mut left = room;
+    for piece in pieces {
+        left = left.checked_sub(piece.bytes.len())?;
+    }
+    Some(left)
+}
+
+/// Whether the pieces of the blocks have at most 2^28 bytes together.
+fn is_light(jobs: &[Job<'_>]) -> bool
+    ensures { result ≡ true → sum (map size_of jobs.now) ≤ 2 ^ 28 }
+{
+    let mut left = MOST_BYTES;
+    for job in jobs {
+        match left_after(left, job.block.pieces.as_slice()) {
+            Some(rest) => left = rest,
+            None => return false,
+        }
+    }
+    true
+}
+
+/// What is made of a job, or its number where a segmentation symbol of its block is wrong.
+fn answer<'a>(alloc: Global, job: &'a Job<'a>) -> Result<Named<Recoded<'a>>, NoMemory>
+    requires { IsAsked job.now.block.now job.now.style job.now.ends }
+    ensures { IfOk result (λ named. named ≡ answer_of job.now) }
+{
+    let claim = Claim::issue(job.number, job.number);
+    let result = recode(alloc, &claim, job);
+    let _ = claim.spend();
+    match result {
+        Ok(made) => Ok(Named::Made(made)),
+        Err(BlockFault::BadSegmentation(number)) => Ok(Named::Bad(number)),
+        Err(BlockFault::NoMemory) => Err(NoMemory),
+    }
+}
+
+/// The entry of a job whose block is the only one in hand.
+fn entry_of<'a>(alloc: Global, job: &'a Job<'a>) -> Result<Entry<Recoded<'a>>, NoMemory>
+    requires { IsAsked job.now.block.now job.now.style job.now.ends }
+    ensures { IfOk result (λ t. t ≡ record { number = job.now.number; worker = 0; seen = job.now.number; named = answer_of job.now }) }
+{
+    let named = answer(alloc, job)?;
+    Ok(Taped {
+        number: job.number,
+        worker: 0,
+        seen: job.number,
+        named,
+    })
+}
+
+/// What is made of jobs one after another, on this thread.
+#[tactic(auto, using(crate::proofs::TapedLemmas::alone_none, crate::proofs::TapedLemmas::alone_next, crate::proofs::TapedLemmas::alone_all))]
+fn made_alone<'a>(alloc: Global, jobs: &'a [Job<'a>]) -> Result<Vec<Entry<Recoded<'a>>>, NoMemory>
+    requires { All (λ j. IsAsked j.block.now j.style j.ends) jobs.now }
+    ensures { IfOk result (λ entries. AreMadeAlone jobs.entry.now entries.items) }
+{
+    let mut entries = Vec::new(alloc);
+    for job in jobs {
+        let entry = entry_of(alloc, job)?;
+        entries.push(entry)?;
+    }
+    Ok(entries)
+}
+
+/// Whether no block was claimed when one before these was still out.
+fn are_from(first: u32, entries: &[Entry<Recoded<'_>>]) -> bool
+    ensures { result ≡ true → All (λ t. first ≤ t.seen) entries.now }
+{
+    entries.iter().all(|entry| first <= entry.seen)
+}
+
+/// What workers make of jobs.
+fn made_by_workers<'a, R: Threads + Wait + Sync, G: Gate + Sync>(
+    crew: &Crew<'_, R, G>,
+    alloc: Global,
+    jobs: &'a [Job<'a>],
+    first: u32,
+) -> Result<Vec<Entry<Recoded<'a>>>, NoMemory>
+    requires jobs { AreAsked first jobs.now }
+    requires count { first + length jobs.now ≤ 2 ^ 20 }
+    requires sizes { sum (map size_of jobs.now) ≤ 2 ^ 28 }
+    requires work { MayBeWork crew.now.work }
+    ensures { IfOk result (λ entries. IsTapeFrom jobs.entry.now first crew.now.work entries.items) }
+{
+    let work = crew.work;
+    let Tape { entries } = recode_all(
+        crew.rt,
+        alloc,
+        jobs,
+        first,
+        work.threads,
+        work.window,
+        work.most,
+        crew.gate,
+    )?;
+    // A store begins with `first` as the number that isn't drained; the tape's contract leaves it out.
+    if !are_from(first, &entries) {
+        return Err(NoMemory);
+    }
+    Ok(entries)
+}
+
+/// Makes of blocks what is asked of them, or finds that a segmentation symbol is wrong: by workers where one of them is coded anew, else
+/// one after another. `first` is the number of the first job.
+#[tactic(auto, using(crate::proofs::TapedLemmas::alone_is_tape))]
+pub fn made_blocks<'a, R: Threads + Wait + Sync, G: Gate + Sync>(
+    crew: &Crew<'_, R, G>,
+    alloc: Global,
+    jobs: &'a [Job<'a>],
+    first: u32,
+) -> Result<Vec<Entry<Recoded<'a>>>, NoMemory>
+    requires jobs { AreAsked first jobs.now }
+    requires count { first + length jobs.now ≤ 2 ^ 20 }
+    requires work { MayBeWork crew.now.work }
+    ensures { IfOk result (λ entries. IsTapeFrom jobs.entry.now first crew.now.work entries.items) }
+{
+    if is_anew(jobs) && is_light(jobs) {
+        return made_by_workers(crew, alloc, jobs, first);
+    }
+    let entries = made_alone(alloc, jobs)?;
+    Ok(entries)
+}
