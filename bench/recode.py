@@ -1,0 +1,72 @@
+#!/usr/bin/env python3
+"""Times coding every block anew against decoding and coding with Debian's OpenJPEG tools (libopenjp2-tools), side by side.
+
+usage: bench/recode.py PROGRAM [PICTURE.ppm]
+
+Without a picture one of 2,048 by 1,536 is made (smooth shades with noise, RGB, 8 bits). It is coded without loss; then, in turn and five
+times each, `opj_decompress` and `opj_compress` on 1, 2 and 4 threads, and the program with a style in which every block is coded anew, with
+`--threads` 1, 2 and 4, are run on the file. Prints medians of elapsed and of processor seconds, and the program's part of the other two
+together, on as many threads and on one. Python's standard library is needed.
+"""
+
+import os
+import statistics
+import subprocess
+import sys
+import tempfile
+import time
+
+sys.path.insert(0, os.path.dirname(os.path.abspath(__file__)))
+from regroup import RUNS, made_picture
+
+THREADS = ("1", "2", "4")
+
+
+def timed(words):
+    """Elapsed and processor seconds of one run."""
+    null = os.open(os.devnull, os.O_WRONLY)
+    to_null = [(os.POSIX_SPAWN_DUP2, null, 1), (os.POSIX_SPAWN_DUP2, null, 2)]
+    before = time.monotonic()
+    pid = os.posix_spawnp(words[0], words, os.environ, file_actions=to_null)
+    _, status, used = os.wait4(pid, 0)
+    after = time.monotonic()
+    os.close(null)
+    if status:
+        sys.exit(f"{' '.join(words)} ended with {status}")
+    return after - before, used.ru_utime + used.ru_stime
+
+
+def main(words):
+    if not words:
+        sys.exit(__doc__)
+    program = words[0]
+    with tempfile.TemporaryDirectory() as folder:
+        def path(name):
+            return os.path.join(folder, name)
+
+        picture = words[1] if len(words) > 1 else path("in.ppm")
+        if len(words) < 2:
+            made_picture(picture)
+        subprocess.run(["opj_compress", "-i", picture, "-o", path("in.j2k")], stdout=subprocess.DEVNULL, check=True)
+        runs = {"jx, blocks kept": [program, "transcode", path("in.j2k"), path("out.j2k")]}
+        for n in THREADS:
+            runs[f"opj_decompress, {n}"] = ["opj_decompress", "-threads", n, "-i", path("in.j2k"), "-o", path("back.ppm")]
+            runs[f"opj_compress, {n}"] = ["opj_compress", "-threads", n, "-i", picture, "-o", path("again.j2k")]
+            for style in ("terminate", "reset+segment"):
+                runs[f"jx --style {style}, {n}"] = [program, "transcode", path("in.j2k"), path("out.j2k"), "--style", style, "--threads", n]
+        found = {name: [] for name in runs}
+        for _ in range(RUNS):
+            for name, command in runs.items():
+                found[name].append(timed(command))
+        elapsed = {name: statistics.median(one for one, _ in list_) for name, list_ in found.items()}
+        used = {name: statistics.median(one for _, one in list_) for name, list_ in found.items()}
+        print(f"the file has {os.path.getsize(path('in.j2k'))} bytes; elapsed and processor seconds")
+        alone = elapsed["opj_decompress, 1"] + elapsed["opj_compress, 1"]
+        for name in runs:
+            n = name.rsplit(", ", 1)[1]
+            both = elapsed[f"opj_decompress, {n}"] + elapsed[f"opj_compress, {n}"] if n in THREADS else alone
+            print(f"{name}: {elapsed[name]:.3f} s, {used[name]:.3f} s; {elapsed[name] / both:.3f} of both on as many threads, {elapsed[name] / alone:.3f} of both on one")
+
+
+if __name__ == "__main__":
+    main(sys.argv[1:])
