@@ -51,11 +51,15 @@ fn symbols_are_put_in_and_left_out(rt: HostRuntime) -> Result<(), Fail> {
 // The small file with 74 planes (guard bits 7, exponent 31, a region's shift of 37), of which this packet has one.
 fn planes(rt: &(impl Abort + AllocGlobal), style: u8, byte: u8) -> Result<Vec<u8>, Fail> {
     let bytes = body(rt, style, &[0xE1, byte])?;
-    assert!(rt; bytes.len() > 65);
     let mut put = Vec::new(rt.alloc());
-    put.extend_from_slice(&bytes[..63])?;
-    put.extend_from_slice(&[0xE0, 0xF8, 0xFF, 0x5E, 0, 5, 0, 0, 37])?;
-    put.extend_from_slice(&bytes[65..])?;
+    for (place, byte) in bytes.iter().enumerate() {
+        if place == 63 {
+            put.extend_from_slice(&[0xE0, 0xF8, 0xFF, 0x5E, 0, 5, 0, 0, 37])?;
+        }
+        if place != 63 && place != 64 {
+            put.push(*byte)?;
+        }
+    }
     Ok(put)
 }
 
