@@ -33,7 +33,7 @@ use Rattle.jx_plan.specs.declared.Marks.{Marks}
 use Rattle.jx_plan.specs.Asides.{is_plt}
 use Rattle.jx_plan.specs.Fits.{Fits, first_zero}
 use Rattle.jx_plan.specs.Headers.{Asked, MayBeAsked, cod_written, comp_written, params_written, stream_written}
-use Rattle.jx_plan.specs.KeptFault.{IsFree}
+use Rattle.jx_plan.specs.Causes.{IsFree}
 use Rattle.jx_plan.specs.Meaning.{Component, Meaning, Place, component_of, meaning_of, sample_at}
 use Rattle.jx_plan.specs.Plan.{asked_of, blocks_written, headers_with}
 use Rattle.jx_plan.specs.Standing.{HeadersStand}

@@ -21,7 +21,7 @@ use Rattle.jx_stream.specs.Spells.{part_bytes}
 use Rattle.jx_gather.specs.Totals.{totals_fault}
 use Rattle.jx_block.specs.Recoded.{WrittenBlock}
 use Rattle.jx_plan.specs.Headers.{Asked, comp_written, stream_written}
-use Rattle.jx_plan.specs.KeptFault.{IsFree}
+use Rattle.jx_plan.specs.Causes.{IsFree}
 use Rattle.jx_plan.specs.Plan.{IsPlan, Plan, asked_of, headers_of, headers_with}
 use Rattle.jx_plan.specs.Standing.{HeadersStand}
 use Rattle.jx_plan.specs.Wanted.{MayBeWanted, Wanted, marks_of}

@@ -26,15 +26,17 @@ ghost use Rattle.jx_assemble.specs.SameHeaders.{HasHeadersOf};
 ghost use Rattle.jx_assemble.specs.Strict.{IsStrict};
 ghost use Rattle.jx_assemble.specs.Told.{length_total, lengths_from};
 ghost use Rattle.jx_plan.specs.declared.Marks.{Marks};
-ghost use Rattle.jx_layers.specs.Facts.{most_layers};
-ghost use Rattle.jx_plan.specs.KeptFault.{IsFree};
+ghost use Rattle.jx_layers.specs.Rule.{Rule};
+ghost use Rattle.jx_plan.specs.Causes.{IsFree};
 ghost use Rattle.jx_block.specs.Written.{is_wrong};
-ghost use Rattle.jx_layers.specs.Causal.{first_broken};
-ghost use Rattle.jx_plan.specs.Plan.{blocks_written, headers_with};
+ghost use Rattle.jx_plan.specs.Plan.{headers_with};
+ghost use Rattle.jx_plan.specs.Planned.{IsFreeBy, MakesLayers, blocks_written, layers_of_rule};
 ghost use Rattle.jx_plan.specs.Wanted.{MayBeWanted, Wanted, marks_of};
 ghost use Rattle.jx_plan.specs.Standing.{HeadersStand};
 ghost use Rattle.jx_assemble.specs.TileParts.{IsOutput};
 
+use jx_block::laws::first_layers_are_final;
+use jx_layers::laws::{breaks_are_told, jobs_have_these_ends};
 use jx_plan::laws::{
     meaning_stays, parameters_stay, read_headers_stand, written_blocks_stand,
     written_headers_are_plain, written_headers_stand,
@@ -124,15 +126,16 @@ pub fn written_is_ready()
     parameters_stay();
 }
 
-/// A file that was read, written anew with at least as many layers as each of its tiles has, at most 65,535, where nothing is in the
-/// way and each code-block that is coded anew is right, is read as a stream that has its code-blocks as they are written, SIZ but for
-/// Rsiz, the parameters but for the order, the layers, the precincts and the style, the steps and the places, and that means what it meant.
+/// A file that was read, written anew in the layers of a rule that makes 1 to 65,535, where nothing is in the way and each code-block
+/// that is coded anew is right, is read as a stream that has its code-blocks as they are written, SIZ but for Rsiz, the parameters but for
+/// the order, the layers, the precincts and the style, the steps and the places, and that means what it meant; the first layers of each
+/// code-block hold the passes that the rule puts there, with their final values.
 pub fn rewritten_is_read()
-    ensures { (w : Wanted) (layers : ℕ) (before : Stream) (blocks : List Block) (input out : List ℕ) (is : IsOutput (marks_of w) (headers_with w layers before) (blocks_written w blocks) out)
-        → IsRead input before → length input ≤ 2 ^ 28 → totals_fault before ≡ None → IsGathered input before blocks
-        → ((t : ℕ) → t < tile_number before.siz → layers_of before t ≤ layers) → 1 ≤ layers → layers < 2 ^ 16
-        → MayBeWanted w → first_broken w.style blocks ≡ None → All (λ (b : Block). is_wrong w.style b ≡ false) blocks → IsFree before w layers → AllShort is.parts (tile_number before.siz)
-        → (after : Stream) × IsKeptIn w layers before after blocks out }
+    ensures { (w : Wanted) (rule : Rule) (before : Stream) (blocks : List Block) (input out : List ℕ)
+        (is : IsOutput (marks_of w) (headers_with w (layers_of_rule rule before blocks) before) (blocks_written w rule before blocks) out)
+        → IsRead input before → length input ≤ 2 ^ 28 → totals_fault before ≡ None → IsGathered input before blocks → MakesLayers (Some rule) before blocks
+        → MayBeWanted w → IsFreeBy rule before blocks w → All (λ (b : Block). is_wrong w.style b ≡ false) blocks → AllShort is.parts (tile_number before.siz)
+        → (after : Stream) × IsKeptIn w rule before after blocks out }
 {
     read_headers_stand();
     written_headers_stand();
@@ -140,11 +143,7 @@ pub fn rewritten_is_read()
     parameters_stay();
     written_blocks_stand();
     meaning_stays();
+    first_layers_are_final();
+    jobs_have_these_ends();
+    breaks_are_told();
 }
-
-/// The greatest number of layers of any tile is at least that of each, and in the range of COD: 1 to 65,535 (T.800, Table A.14).
-pub fn most_layers_fit()
-    ensures each { (s : Stream) (t : ℕ) → t < tile_number s.siz → layers_of s t ≤ most_layers s }
-    ensures some { (s : Stream) → StreamInRange s → 1 ≤ most_layers s }
-    ensures few { (s : Stream) → StreamInRange s → most_layers s < 2 ^ 16 }
-{}

@@ -8,6 +8,7 @@ use Rattle.jx_base.specs.Pieces.{PieceValue}
 use Rattle.jx_base.specs.Places.{length_of}
 use Rattle.jx_grid.specs.Reading.{Decoding, decoded}
 use Rattle.jx_head.specs.Parts.{cut}
+use Rattle.jx_block.specs.declared.LayerEnd.{LayerEnd}
 use Rattle.jx_block.specs.declared.OutPart.{OutPart}
 use Rattle.jx_block.specs.Recoding.{coding_in}
 
@@ -25,6 +26,11 @@ passes_at layer (p ∷ pieces) = if p.layer == layer then p.passes + passes_at l
 abbrev pub passes_below : ℕ → List PieceValue → ℕ
 passes_below layer [] = 0
 passes_below layer (p ∷ pieces) = if nat_lt p.layer layer then p.passes + passes_below layer pieces else passes_below layer pieces
+
+-- how many passes are asked in a layer, after some passes
+abbrev pub asked_at : ℕ → ℕ → List LayerEnd → ℕ
+asked_at layer first [] = 0
+asked_at layer first (e ∷ ends) = if e.layer == layer then e.passes - first else asked_at layer e.passes ends
 
 -- in each layer the passes are cut into pieces exactly after each pass that ends a segment
 abbrev pub AreCutInLayers : ℕ → List PieceValue → Type 0

@@ -6,3 +6,4 @@ pub mod Groups
 pub mod Recoded
 pub mod Laws
 pub mod Written
+pub mod FirstLayers

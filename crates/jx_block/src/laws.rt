@@ -7,12 +7,13 @@ ghost use Rattle.jx_base.specs.Pieces.{ArePieces, PieceValue};
 ghost use Rattle.jx_base.specs.Sound.{IsSound};
 ghost use Rattle.jx_block.specs.declared.LayerEnd.{LayerEnd};
 ghost use Rattle.jx_block.specs.Jobs.{IsAsked, KeepsCausal};
-ghost use Rattle.jx_block.specs.Laws.{AreCutAtEnds, AreCutInLayers, IsWithin, KeepsFirst, decoded_first, passes_at};
+ghost use Rattle.jx_block.specs.Laws.{AreCutAtEnds, AreCutInLayers, IsWithin, KeepsFirst, asked_at, decoded_first, passes_at};
+ghost use Rattle.jx_block.specs.FirstLayers.{HasFirstLayers};
 ghost use Rattle.jx_block.specs.Recoded.{is_bad, recoding_in};
 ghost use Rattle.jx_block.specs.declared.job.Job.{Job};
 ghost use Rattle.jx_block.specs.Recoding.{Recoding, decoded_in, layer_ends, new_segments, own_segments, pieces_of, recoding, wrong_in};
 ghost use Rattle.jx_block.specs.Segments.{segments_of};
-ghost use Rattle.jx_block.specs.Written.{block_with, is_wrong, own_cells, style_for, written_as};
+ghost use Rattle.jx_block.specs.Written.{block_with, is_wrong, own_cells, style_for, written_as, written_in};
 
 /// A sound block may be kept in the layers that it has.
 #[tactic(auto, using(crate::proofs::LawLemmas::own_asked))]
@@ -169,3 +170,42 @@ pub fn wrong_is_nothing()
     ensures wrong { (asked : Option Style) → (b : Block) → (ends : List LayerEnd) → is_wrong asked b ≡ true → recoding b (style_for asked b) ends ≡ None }
     ensures right { (asked : Option Style) → (b : Block) → (ends : List LayerEnd) → is_wrong asked b ≡ false → recoding b (style_for asked b) ends ≢ None }
 {}
+
+/// In layers that may be asked of it a block becomes one with the style that is asked, of which just the pieces are others: they lie in
+/// these layers, with so many passes in each as were asked, cut as packets cut them (B.10.7).
+pub fn written_in_layers()
+    ensures own { (asked : Option Style) → (b : Block) → written_as asked b ≡ written_in asked (layer_ends b.pieces) b }
+    ensures sound { (asked : Option Style) → (ends : List LayerEnd) → (b : Block) → IsAsked b (style_for asked b) ends → IsSound (written_in asked ends b) }
+    ensures cells { (asked : Option Style) → (ends : List LayerEnd) → (b : Block) → IsAsked b (style_for asked b) ends → own_cells (written_in asked ends b) ≡ own_cells b }
+    ensures name { (asked : Option Style) → (ends : List LayerEnd) → (b : Block) → (written_in asked ends b).name ≡ b.name }
+    ensures rect { (asked : Option Style) → (ends : List LayerEnd) → (b : Block) → (written_in asked ends b).rect ≡ b.rect }
+    ensures planes { (asked : Option Style) → (ends : List LayerEnd) → (b : Block) → (written_in asked ends b).planes ≡ b.planes }
+    ensures zero { (asked : Option Style) → (ends : List LayerEnd) → (b : Block) → (written_in asked ends b).zero ≡ b.zero }
+    ensures passes { (asked : Option Style) → (ends : List LayerEnd) → (b : Block) → (written_in asked ends b).passes ≡ b.passes }
+    ensures style { (asked : Style) → (ends : List LayerEnd) → (b : Block) → is_wrong (Some asked) b ≡ false → (written_in (Some asked) ends b).style ≡ asked }
+    ensures kept { (ends : List LayerEnd) → (b : Block) → (written_in None ends b).style ≡ b.style }
+    ensures empty { (asked : Option Style) → (ends : List LayerEnd) → (b : Block) → IsAsked b (style_for asked b) ends → (written_in asked ends b).pieces ≡ [] → b.pieces ≡ [] }
+    ensures layers { (asked : Option Style) → (ends : List LayerEnd) → (b : Block) → (most : ℕ) → IsAsked b (style_for asked b) ends → is_wrong asked b ≡ false →
+        All (λ (e : LayerEnd). e.layer < most) ends → All (λ (p : PieceValue). p.layer < most) (written_in asked ends b).pieces }
+    ensures ends { (asked : Option Style) → (ends : List LayerEnd) → (b : Block) → IsAsked b (style_for asked b) ends → is_wrong asked b ≡ false →
+        layer_ends (written_in asked ends b).pieces ≡ ends }
+    ensures each { (asked : Option Style) → (ends : List LayerEnd) → (b : Block) → (layer : ℕ) → IsAsked b (style_for asked b) ends → is_wrong asked b ≡ false →
+        passes_at layer (written_in asked ends b).pieces ≡ asked_at layer 0 ends }
+    ensures cuts { (asked : Option Style) → (ends : List LayerEnd) → (b : Block) → IsAsked b (style_for asked b) ends → is_wrong asked b ≡ false →
+        AreCutInLayers (written_in asked ends b).style.bits (written_in asked ends b).pieces }
+{
+    coded_anew_keeps_coefficients();
+}
+
+/// The first layers of a block that is written hold the passes that were asked, and give them the values that all layers give them. The
+/// one exception is a block that is kept in layers that all end where layers of the input ended: it gives what those gave. The values
+/// are those of the input's block, unless its causal bit changes and the layers end within a plane.
+pub fn first_layers_are_final()
+    ensures { (asked : Option Style) → (ends : List LayerEnd) → (b : Block) → (layer : ℕ) → IsAsked b (style_for asked b) ends → is_wrong asked b ≡ false →
+        HasFirstLayers asked ends b layer }
+{
+    jx_mq::laws::decisions_depend_on_bytes_looked_at();
+    jx_mq::laws::lists_go_on();
+    jx_raw::laws::raw_bits_one_by_one();
+    coded_anew_keeps_coefficients();
+}

@@ -1,13 +1,14 @@
 -- The layers in which the passes of all code-blocks are sent, by a rule that is asked once for each pass, in the order of blocks and
 -- passes: a pass lies in the greatest layer that was answered so far for its block.
-use Rattle.std.specs.Prelude.{◌≡◌, ◌⊎◌, ◌<◌, ◌≤◌, ℕ, zero, suc, ◌+◌, ◌-◌, ◌/◌, min, max, nat_lt, List, [], ◌∷◌, length, take, sum_by, if◌then◌else◌, Option, Some, slice_get}
+use Rattle.std.specs.Prelude.{◌≡◌, ◌⊎◌, ◌<◌, ◌≤◌, ℕ, zero, suc, ◌+◌, ◌-◌, ◌/◌, ◌==◌, min, max, nat_le, nat_lt, Bool, List, [], ◌∷◌, count_by, length, map, take, sum_by, if◌then◌else◌, Option, Some, slice_get}
+use Rattle.std.specs.List.{filter, list_any, range_with_len}
 use Rattle.jx_base.specs.declared.pieces.Block.{Block}
 use Rattle.jx_base.specs.declared.style.Style.{Style}
 use Rattle.jx_base.specs.Pieces.{PieceValue}
 use Rattle.jx_block.specs.declared.job.Job.{Job}
 use Rattle.jx_block.specs.declared.LayerEnd.{LayerEnd}
 use Rattle.jx_block.specs.Jobs.{AreEnds}
-use Rattle.jx_block.specs.Written.{style_for}
+use Rattle.jx_block.specs.Written.{style_for, written_in}
 use Rattle.jx_layers.specs.declared.PassFacts.{PassFacts}
 use Rattle.jx_layers.specs.Rule.{Rule, answer}
 
@@ -39,6 +40,32 @@ greatest_to answered (suc pass) = max (greatest_to answered pass) (answered (suc
 -- the layer of each pass of a block
 abbrev pub layer_at : Rule → ℕ → List Block → ℕ → Block → ℕ → ℕ
 layer_at rule layers blocks number b pass = greatest_to (answer_at rule layers blocks number b) pass
+
+-- how many of the first n passes lie in layers up to one
+abbrev pub passes_to : (ℕ → ℕ) → ℕ → ℕ → ℕ
+passes_to layer n l = count_by (λ pass. nat_le (layer pass) l) (range_with_len 0 n)
+
+-- some of them lie in a layer
+abbrev pub has_pass : (ℕ → ℕ) → ℕ → ℕ → Bool
+has_pass layer n l = list_any (λ pass. layer pass == l) (range_with_len 0 n)
+
+-- the layers in which they lie, of so many, each with the passes that are sent by its end
+unfoldable pub ends_by : (ℕ → ℕ) → ℕ → ℕ → List LayerEnd
+ends_by layer n layers = map (λ l. record { layer = l; passes = passes_to layer n l }) (filter (has_pass layer n) (range_with_len 0 layers))
+
+-- the layers that a rule gives a block
+abbrev pub ends_of : Rule → ℕ → List Block → ℕ → Block → List LayerEnd
+ends_of rule layers blocks number b = ends_by (layer_at rule layers blocks number b) b.passes layers
+
+-- blocks from a number on as they are written, in one style, and in the layers that a rule gives them
+abbrev pub written_from : Option Style → Rule → ℕ → List Block → ℕ → List Block → List Block
+written_from style rule layers blocks number [] = []
+written_from style rule layers blocks number (b ∷ more) =
+    written_in style (ends_of rule layers blocks number b) b ∷ written_from style rule layers blocks (number + 1) more
+
+-- all blocks as they are written
+unfoldable pub written_by : Option Style → Rule → ℕ → List Block → List Block
+written_by style rule layers blocks = written_from style rule layers blocks 0 blocks
 
 -- ends of layers, after some passes: up to each end the passes lie in its layer
 abbrev pub Divide : (ℕ → ℕ) → ℕ → List LayerEnd → Type 0

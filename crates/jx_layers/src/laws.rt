@@ -1,7 +1,7 @@
 //! Laws over the definitions: which words say a rule, and which rule; that passes are put into layers in one way, that layers that
 //! are kept are those of the input, and which blocks may be asked for a style. They run no code.
 
-ghost use Rattle.std.specs.Prelude.{◌≡◌, ◌≤◌, ◌<◌, ℕ, List, true, false, Option, Some, None, slice_get};
+ghost use Rattle.std.specs.Prelude.{◌≡◌, ◌≤◌, ◌<◌, ℕ, List, length, map, true, false, Option, Some, None, slice_get};
 ghost use Rattle.std.specs.Option.{option_map};
 ghost use Rattle.std.specs.List.{All};
 ghost use Rattle.jx_base.specs.declared.pieces.Block.{Block};
@@ -12,7 +12,8 @@ ghost use Rattle.jx_block.specs.declared.LayerEnd.{LayerEnd};
 ghost use Rattle.jx_block.specs.declared.job.Job.{Job};
 ghost use Rattle.jx_block.specs.Jobs.{IsAsked, KeepsCausal};
 ghost use Rattle.jx_block.specs.Recoding.{layer_ends};
-ghost use Rattle.jx_block.specs.Written.{style_for};
+ghost use Rattle.jx_block.specs.Laws.{asked_at};
+ghost use Rattle.jx_block.specs.Written.{block_asked, style_for, written_in};
 ghost use Rattle.jx_layers.specs.Causal.{breaks_plane, first_broken};
 ghost use Rattle.jx_layers.specs.Keeping.{IsKeptJob};
 ghost use Rattle.jx_layers.specs.declared.StreamFacts.{StreamFacts};
@@ -22,7 +23,8 @@ ghost use Rattle.jx_stream.specs.declared.Stream.{Stream};
 ghost use Rattle.jx_stream.specs.First.{tile_number};
 ghost use Rattle.jx_stream.specs.Shapes.{layers_of};
 ghost use Rattle.jx_layers.specs.Facts.{IsReached, most_layers, most_planes};
-ghost use Rattle.jx_layers.specs.Layers.{IsJobOf};
+ghost use Rattle.jx_layers.specs.Crowded.{IsLowestCrowded, IsLowestCrowdedBlock};
+ghost use Rattle.jx_layers.specs.Layers.{AreJobs, IsJobOf, ends_of, written_by};
 ghost use Rattle.jx_layers.specs.Planners.{cuts_of, planes_of};
 ghost use Rattle.jx_layers.specs.Texts.{AreCuts, cuts_in, cuts_text, planes_in, planes_text};
 
@@ -76,4 +78,37 @@ pub fn facts_are_greatest()
     ensures layers { (s : Stream) (t : ℕ) → t < tile_number s.siz → layers_of s t ≤ most_layers s }
     ensures reached { (s : Stream) → 1 ≤ tile_number s.siz → IsReached (layers_of s) 0 (tile_number s.siz) (most_layers s) }
     ensures planes { (blocks : List Block) (n : ℕ) (b : Block) → slice_get blocks n ≡ Some b → b.planes ≤ most_planes blocks }
+{}
+
+/// The layers of what is asked of a block are those that the rule gives it: each layer in which some of its passes lie, with the passes that
+/// are sent by its end. They are layers that are written; they may be asked of a sound block, where the style doesn't change its causal bit
+/// within a plane; and the rule that keeps gives a block the layers in which its pieces lie.
+pub fn jobs_have_these_ends()
+    ensures ends { (style : Option Style) (rule : Rule) (layers : ℕ) (blocks : List Block) (number : ℕ) (b : Block) (job : Job) → 1 ≤ layers
+        → IsJobOf style rule layers blocks number b job → job.ends ≡ ends_of rule layers blocks number b }
+    ensures asked { (style : Option Style) (rule : Rule) (layers : ℕ) (blocks : List Block) (number : ℕ) (b : Block) → 1 ≤ layers → IsSound b
+        → breaks_plane style b ≡ false → IsAsked b (style_for style b) (ends_of rule layers blocks number b) }
+    ensures written { (rule : Rule) (layers : ℕ) (blocks : List Block) (number : ℕ) (b : Block) → 1 ≤ layers
+        → All (λ (e : LayerEnd). e.layer < layers) (ends_of rule layers blocks number b) }
+    ensures kept { (layers : ℕ) (blocks : List Block) (number : ℕ) (b : Block) → 1 ≤ layers → IsSound b
+        → All (λ (p : PieceValue). p.layer < layers) b.pieces → ends_of Keep layers blocks number b ≡ layer_ends b.pieces }
+{}
+
+/// The blocks as they are written stand under their numbers, each in the layers that the rule gives it; they are what the jobs ask for.
+pub fn blocks_are_written()
+    ensures count { (style : Option Style) (rule : Rule) (layers : ℕ) (blocks : List Block) → length (written_by style rule layers blocks) ≡ length blocks }
+    ensures each { (style : Option Style) (rule : Rule) (layers : ℕ) (blocks : List Block) (n : ℕ)
+        → slice_get (written_by style rule layers blocks) n ≡ option_map (λ (b : Block). written_in style (ends_of rule layers blocks n b) b) (slice_get blocks n) }
+    ensures jobs { (style : Option Style) (rule : Rule) (layers : ℕ) (blocks : List Block) (jobs : List Job) → 1 ≤ layers → AreJobs style rule layers blocks jobs
+        → map block_asked jobs ≡ written_by style rule layers blocks }
+{}
+
+/// The lowest crowded one of all jobs is the lowest crowded block, by its number; of a rule and blocks there is one answer.
+pub fn crowds_are_told()
+    ensures jobs { (style : Option Style) (rule : Rule) (layers : ℕ) (blocks : List Block) (jobs : List Job) (lowest : Option ℕ) → 1 ≤ layers → AreJobs style rule layers blocks jobs
+        → IsLowestCrowded jobs lowest → IsLowestCrowdedBlock rule layers blocks lowest }
+    ensures some { (rule : Rule) (layers : ℕ) (blocks : List Block) → (lowest : Option ℕ) × IsLowestCrowdedBlock rule layers blocks lowest }
+    ensures one { (rule : Rule) (layers : ℕ) (blocks : List Block) (a b : Option ℕ) → IsLowestCrowdedBlock rule layers blocks a → IsLowestCrowdedBlock rule layers blocks b → a ≡ b }
+    ensures few { (rule : Rule) (layers : ℕ) (blocks : List Block) (n : ℕ) (b : Block) (layer : ℕ) → IsLowestCrowdedBlock rule layers blocks None → slice_get blocks n ≡ Some b
+        → asked_at layer 0 (ends_of rule layers blocks n b) ≤ 164 }
 {}

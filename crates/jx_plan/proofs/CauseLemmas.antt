@@ -16,7 +16,7 @@ use Rattle.jx_layers.specs.Causal.{first_broken}
 use Rattle.jx_layers.specs.Crowded.{IsCrowded, IsLowestCrowded}
 use Rattle.jx_plan.specs.Fits.{AreUnfit, Fits, IsUnfit}
 use Rattle.jx_plan.specs.Groups.{HasFewParts, IsPartedAt}
-use Rattle.jx_plan.specs.KeptFault.{HasManyPartsAt, IsFree, IsPlaneBroken, PassesPackets}
+use Rattle.jx_plan.specs.Causes.{HasManyPartsAt, IsFree, IsPlaneBroken, PassesPackets}
 use Rattle.jx_layers.specs.Layers.{AreJobs, HasMany, layer_at}
 use Rattle.jx_plan.specs.Plan.{IsPlan, Plan, asked_of, headers_of, headers_with, most_packets}
 use Rattle.jx_plan.specs.Planned.{HasLaterCause, HasPlanCause, IsPlanned, LacksPlan, layers_of_rule}

@@ -15,7 +15,7 @@ use Rattle.jx_plan.specs.declared.faults.PlanFault.{PlanFault}
 use Rattle.jx_plan.specs.declared.faults.PlanFault.TheVariants as fault
 use Rattle.jx_layers.specs.Facts.{most_layers}
 use Rattle.jx_layers.specs.Keeping.{AreKeptJobs}
-use Rattle.jx_plan.specs.KeptFault.{HasHeaderCause, HasKeptCause}
+use Rattle.jx_plan.specs.Causes.{HasHeaderCause, HasKeptCause}
 use Rattle.jx_layers.specs.Layers.{AreJobs, IsJobOf}
 use Rattle.jx_plan.specs.Plan.{IsKeptPlan, KeepsLayers, MayBePlanned, Plan}
 use Rattle.jx_plan.specs.Planned.{HasLaterCause, HasPlanCause, IsPlannedBy}

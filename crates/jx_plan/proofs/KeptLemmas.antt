@@ -42,7 +42,7 @@ use Rattle.jx_plan.specs.Fits.{AreUnfit, Fits}
 use Rattle.jx_plan.specs.declared.PartChoice.{PartChoice}
 use Rattle.jx_plan.specs.Groups.{HasFewParts, IsPartedAt}
 use Rattle.jx_plan.specs.Headers.{Asked, MayBeAsked, stream_written}
-use Rattle.jx_plan.specs.KeptFault.{HasHeaderCause}
+use Rattle.jx_plan.specs.Causes.{HasHeaderCause}
 use Rattle.jx_plan.specs.Plan.{IsJob, IsPlan, KeepsLayers, MayBePlanned, asked_of, headers_with, most_packets}
 use Rattle.jx_plan.specs.Wanted.{MayBeStyle, MayBeWanted, Wanted}
 use Rattle.jx_layers.specs.Rule.{greatest}

@@ -24,7 +24,7 @@ use Rattle.jx_layers.specs.Facts.{most_layers}
 use Rattle.jx_plan.specs.Fits.{Fits, IsUnfit, KeepsBlocks, first_zero}
 use Rattle.jx_plan.specs.Groups.{HasFewParts, HasManyParts, IsPartedAt, groups_of, most_parts}
 use Rattle.jx_plan.specs.Headers.{comp_written}
-use Rattle.jx_plan.specs.KeptFault.{HasHeaderCause, HasKeptCause, IsFree}
+use Rattle.jx_plan.specs.Causes.{HasHeaderCause, HasKeptCause, IsFree}
 use Rattle.jx_plan.specs.Plan.{IsKeptPlan, IsPlan, MayBePlanned, Plan, asked_of, headers_with, most_packets}
 use Rattle.jx_plan.specs.Steps.{IsSameAt}
 use Rattle.jx_plan.specs.Wanted.{MayBeWanted, Wanted}

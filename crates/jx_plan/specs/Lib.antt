@@ -8,6 +8,6 @@ pub mod Asides
 pub mod ReadBack
 pub mod Plan
 pub mod Meaning
-pub mod KeptFault
+pub mod Causes
 pub mod Planned
 pub mod Steps

@@ -1,6 +1,6 @@
 -- What is planned of a codestream before a byte of it is written: its headers, the number of layers, and what is asked of each
 -- code-block.
-use Rattle.std.specs.Prelude.{◌≡◌, ◌<◌, ◌≤◌, ◌^◌, ℕ, List, length, map, Option, None, Some, slice_get}
+use Rattle.std.specs.Prelude.{◌≡◌, ◌<◌, ◌≤◌, ◌^◌, ℕ, List, length, Option, None, Some, slice_get}
 use Rattle.std.specs.List.{All}
 use Rattle.jx_base.specs.declared.pieces.Block.{Block}
 use Rattle.jx_base.specs.declared.style.Style.{Style}
@@ -10,13 +10,12 @@ use Rattle.jx_stream.specs.InRange.{StreamInRange}
 use Rattle.jx_gather.specs.BlockOf.{AreBlocksOf}
 use Rattle.jx_gather.specs.Totals.{packet_total, totals_fault}
 use Rattle.jx_block.specs.declared.job.Job.{Job}
+use Rattle.jx_block.specs.declared.LayerEnd.{LayerEnd}
 use Rattle.jx_block.specs.Jobs.{IsAsked}
-use Rattle.jx_block.specs.Recoding.{layer_ends}
-use Rattle.jx_block.specs.Written.{style_for, written_as}
+use Rattle.jx_block.specs.Written.{style_for}
 use Rattle.jx_stream.specs.First.{tile_number}
 use Rattle.jx_layers.specs.Causal.{first_broken}
 use Rattle.jx_layers.specs.Crowded.{IsLowestCrowded}
-use Rattle.jx_layers.specs.Facts.{most_layers}
 use Rattle.jx_plan.specs.Fits.{Fits}
 use Rattle.jx_plan.specs.Groups.{HasFewParts}
 use Rattle.jx_plan.specs.Headers.{Asked, stream_written}
@@ -71,23 +70,8 @@ pub record IsPlan (p : Plan) : Type 0 where
   pub packets : packet_total (headers_of p) ≤ most_packets
   pub all : length p.jobs ≡ length p.blocks
   pub each : (number : ℕ) (job : Job) → slice_get p.jobs number ≡ Some job → IsJob p.wanted.style p.blocks number job
+  pub below : (number : ℕ) (job : Job) → slice_get p.jobs number ≡ Some job → All (λ (e : LayerEnd). e.layer < p.layers) job.ends
   -- choice 4
   pub uncrowded : IsLowestCrowded p.jobs None
   -- choice 5
   pub parts : (t : ℕ) → t < tile_number p.stream.siz → HasFewParts p.wanted.parts (headers_of p) t
-
--- the code-blocks as they are written, in the layers in which they were
-abbrev pub blocks_written : Wanted → List Block → List Block
-blocks_written w blocks = map (written_as w.style) blocks
-
--- each block is sent in the layers in which it was
-abbrev pub KeepsLayers : List Job → Type 0
-KeepsLayers jobs = All (λ (job : Job). job.ends ≡ layer_ends job.block.now.pieces) jobs
-
--- the plan that keeps the layers of each tile: as many are written as the tile has that has the most
-pub record IsKeptPlan (s : Stream) (blocks : List Block) (w : Wanted) (p : Plan) : Type 0 where
-  pub stream : p.stream ≡ s
-  pub blocks_are : p.blocks ≡ blocks
-  pub wanted : p.wanted ≡ w
-  pub layers : p.layers ≡ most_layers s
-  pub jobs : KeepsLayers p.jobs

@@ -1,6 +1,6 @@
 -- What is planned by a planner that was handed in, and why nothing is: choice 1; choice 3; choice 2; choice 6, where no planner serves the words
 -- or it makes no rule of them; limit 7; choice 4; choice 5.
-use Rattle.std.specs.Prelude.{◌≡◌, ◌⊎◌, ◌≤◌, ℕ, Bool, List, [], ◌∷◌, Option, None, Some, if◌then◌else◌}
+use Rattle.std.specs.Prelude.{◌≡◌, ◌⊎◌, ◌<◌, ◌≤◌, ◌^◌, ℕ, Bool, List, [], ◌∷◌, Option, None, Some, if◌then◌else◌}
 use Rattle.jx_base.specs.declared.pieces.Block.{Block}
 use Rattle.jx_base.specs.declared.style.Style.{Style}
 use Rattle.jx_block.specs.declared.job.Job.{Job}
@@ -11,11 +11,11 @@ use Rattle.jx_plan.specs.declared.faults.PlanFault.{PlanFault}
 use Rattle.jx_plan.specs.declared.faults.PlanFault.TheVariants as fault
 use Rattle.jx_layers.specs.Causal.{first_broken}
 use Rattle.jx_layers.specs.Rule.{Rule, layers_by}
-use Rattle.jx_layers.specs.Layers.{AreJobs}
-use Rattle.jx_layers.specs.Crowded.{IsLowestCrowded}
+use Rattle.jx_layers.specs.Layers.{AreJobs, written_by}
+use Rattle.jx_layers.specs.Crowded.{IsLowestCrowdedBlock}
 use Rattle.jx_layers.specs.Facts.{facts_of}
 use Rattle.jx_plan.specs.Fits.{AreUnfit, Fits}
-use Rattle.jx_plan.specs.KeptFault.{HasManyPartsAt, IsPlaneBroken, PassesPackets}
+use Rattle.jx_plan.specs.Causes.{HasManyPartsAt, IsFree, IsPlaneBroken, PassesPackets}
 use Rattle.jx_plan.specs.Plan.{Plan, headers_with, most_packets}
 use Rattle.jx_plan.specs.Wanted.{Wanted}
 
@@ -51,20 +51,24 @@ abbrev pub IsPlanned : Option Rule → Stream → List Block → Wanted → Plan
 IsPlanned None s blocks w p = ⊥
 IsPlanned (Some r) s blocks w p = IsPlannedBy r s blocks w p
 
--- choice 4: nothing of what comes before it, and this is the lowest block of which a layer would have too many passes
+-- the code-blocks as they are written by a rule
+abbrev pub blocks_written : Wanted → Rule → Stream → List Block → List Block
+blocks_written w r s blocks = written_by w.style r (layers_of_rule r s blocks) blocks
+
+-- choice 4: the lowest block of which a layer would have too many passes, or none
+abbrev pub IsCrowded : Rule → Stream → List Block → Option ℕ → Type 0
+IsCrowded r s blocks lowest = IsLowestCrowdedBlock r (layers_of_rule r s blocks) blocks lowest
+
+-- nothing of what comes before it, and there is such a block
 pub record IsCrowdedAt (r : Rule) (s : Stream) (blocks : List Block) (w : Wanted) (place : ℕ) : Type 0 where
   pub fits : Fits w.precincts s
   pub few : packet_total (headers_with w (layers_of_rule r s blocks) s) ≤ most_packets
-  pub jobs : List Job
-  pub jobs_are : AreJobs w.style r (layers_of_rule r s blocks) blocks jobs
-  pub lowest : IsLowestCrowded jobs (Some place)
+  pub lowest : IsCrowded r s blocks (Some place)
 
 -- choice 5: the same, and no block is crowded
 pub record IsPartedBy (r : Rule) (s : Stream) (blocks : List Block) (w : Wanted) (place : ℕ) : Type 0 where
   pub many : HasManyPartsAt s w (layers_of_rule r s blocks) place
-  pub jobs : List Job
-  pub jobs_are : AreJobs w.style r (layers_of_rule r s blocks) blocks jobs
-  pub uncrowded : IsLowestCrowded jobs None
+  pub uncrowded : IsCrowded r s blocks None
 
 -- why nothing is planned by a rule
 abbrev pub IsUnplannedBy : Rule → Stream → List Block → Wanted → PlanFault → Type 0
@@ -84,3 +88,19 @@ HasLaterCause rule s blocks w e = AreUnfit s w.precincts e ⊎ LacksPlan rule s 
 -- of each rule and stream one cause at most; want of memory is free
 abbrev pub HasPlanCause : Option Rule → Stream → List Block → Wanted → PlanFault → Type 0
 HasPlanCause rule s blocks w e = IsPlaneBroken w.style blocks e ⊎ ((first_broken w.style blocks ≡ None) × HasLaterCause rule s blocks w e)
+
+-- nothing is in the way of a plan by a rule
+pub record IsFreeBy (r : Rule) (s : Stream) (blocks : List Block) (w : Wanted) : Type 0 where
+  pub whole : first_broken w.style blocks ≡ None
+  pub free : IsFree s w (layers_of_rule r s blocks)
+  pub uncrowded : IsCrowded r s blocks None
+
+-- by the rule that there is
+abbrev pub CanBePlannedBy : Option Rule → Stream → List Block → Wanted → Type 0
+CanBePlannedBy None s blocks w = ⊥
+CanBePlannedBy (Some r) s blocks w = IsFreeBy r s blocks w
+
+-- a rule makes 1 to 65,535 layers of a stream, where there is one
+abbrev pub MakesLayers : Option Rule → Stream → List Block → Type 0
+MakesLayers None s blocks = Unit {0}
+MakesLayers (Some r) s blocks = (1 ≤ layers_of_rule r s blocks) × (layers_of_rule r s blocks < 2 ^ 16)

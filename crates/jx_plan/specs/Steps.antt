@@ -13,7 +13,7 @@ use Rattle.jx_plan.specs.declared.faults.PlanFault.{PlanFault}
 use Rattle.jx_plan.specs.declared.faults.PlanFault.TheVariants as fault
 use Rattle.jx_layers.specs.Crowded.{IsLowestCrowded}
 use Rattle.jx_plan.specs.Fits.{KeepsBlocks}
-use Rattle.jx_plan.specs.KeptFault.{HasManyPartsAt, PassesPackets}
+use Rattle.jx_plan.specs.Causes.{HasManyPartsAt, PassesPackets}
 use Rattle.jx_plan.specs.Plan.{headers_with, most_packets}
 use Rattle.jx_plan.specs.Wanted.{Wanted}
 

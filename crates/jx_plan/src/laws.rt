@@ -27,30 +27,25 @@ ghost use Rattle.jx_plan.specs.Headers.{Asked, MayBeAsked, all_written, cod_writ
 ghost use Rattle.jx_plan.specs.ReadBack.{HaveHeaders};
 ghost use Rattle.jx_plan.specs.Standing.{HeadersStand, IsHeaded};
 ghost use Rattle.jx_base.specs.declared.pieces.Block.{Block};
-ghost use Rattle.jx_base.specs.Pieces.{PieceValue};
 ghost use Rattle.jx_base.specs.Sound.{IsSound};
-ghost use Rattle.jx_block.specs.declared.job.Job.{Job};
 ghost use Rattle.jx_order.specs.declared.names.PacketName.{PacketName};
 ghost use Rattle.jx_plan.specs.declared.PartChoice.{PartChoice};
 ghost use Rattle.jx_plan.specs.declared.PartChoice.TheVariants as part_choice;
-ghost use Rattle.jx_layers.specs.Facts.{most_layers};
 ghost use Rattle.jx_plan.specs.Fits.{Fits, first_zero};
 ghost use Rattle.jx_plan.specs.Groups.{groups_of, key_of};
 ghost use Rattle.jx_plan.specs.Wanted.{MayBeWanted, Wanted};
 ghost use Rattle.jx_plan.specs.declared.faults.PlanFault.{PlanFault};
 ghost use Rattle.jx_plan.specs.declared.faults.PlanFault.TheVariants as plan_fault;
-ghost use Rattle.jx_plan.specs.KeptFault.{HasKeptCause, IsFree};
-ghost use Rattle.jx_layers.specs.Layers.{AreJobs};
-ghost use Rattle.jx_block.specs.Written.{is_wrong};
+ghost use Rattle.jx_block.specs.Written.{block_asked, is_wrong};
 ghost use Rattle.jx_layers.specs.Causal.{first_broken};
 ghost use Rattle.jx_plan.specs.Meaning.{meaning_of};
-ghost use Rattle.jx_plan.specs.Plan.{IsKeptPlan, IsPlan, KeepsLayers, MayBePlanned, Plan, blocks_written, headers_with};
-ghost use Rattle.jx_plan.specs.Planned.{HasPlanCause, IsPlanned, IsPlannedBy};
+ghost use Rattle.jx_plan.specs.Plan.{IsPlan, MayBePlanned, Plan, headers_with};
+ghost use Rattle.jx_plan.specs.Planned.{CanBePlannedBy, HasPlanCause, IsCrowded, IsFreeBy, IsPlanned, IsPlannedBy, MakesLayers, blocks_written, layers_of_rule};
 ghost use Rattle.jx_layers.specs.Rule.{Rule};
 ghost use Rattle.jx_layers.specs.Rule.Rule.{Keep};
 
-use jx_block::laws::{written_in_own_layers, written_keeps_coefficients};
-use jx_layers::laws::breaks_are_told;
+use jx_block::laws::written_in_layers;
+use jx_layers::laws::{blocks_are_written, breaks_are_told, crowds_are_told, jobs_have_these_ends};
 
 /// The headers of a stream that was read stand in its file.
 pub fn read_headers_stand()
@@ -118,29 +113,44 @@ pub fn blocks_stay()
     ensures through { (s between other : Stream) → HaveSameBlocks s between → HaveSameBlocks between other → HaveSameBlocks s other }
 {}
 
-/// Where a style is asked, its code-blocks are those of its stream as they are written in their own layers, if each of them may be asked
-/// for it and is right; and they are sound.
+/// The code-blocks of a stream as they are written by a rule are those of the headers that are written, where each of them may be asked
+/// for its style and is right, and no layer has too many passes of one; and they are sound. The rule that keeps leaves them as they are
+/// where no style is asked.
 pub fn written_blocks_stand()
-    ensures blocks { (w : Wanted) (layers : ℕ) (s : Stream) (blocks : List Block) → Fits w.precincts s → HeadersStand s → ((t : ℕ) → t < tile_number s.siz → layers_of s t ≤ layers)
-        → AreBlocksOf s blocks → All IsSound blocks → first_broken w.style blocks ≡ None → All (λ (b : Block). is_wrong w.style b ≡ false) blocks
-        → AreBlocksOf (headers_with w layers s) (blocks_written w blocks) }
-    ensures sound { (w : Wanted) (blocks : List Block) → All IsSound blocks → first_broken w.style blocks ≡ None → All IsSound (blocks_written w blocks) }
-    ensures kept { (w : Wanted) (s : Stream) (blocks : List Block) → w.style ≡ None → AreBlocksOf s blocks → All IsSound blocks → blocks_written w blocks ≡ blocks }
+    ensures blocks { (w : Wanted) (r : Rule) (s : Stream) (blocks : List Block) → 1 ≤ layers_of_rule r s blocks → Fits w.precincts s → HeadersStand s
+        → AreBlocksOf s blocks → All IsSound blocks → first_broken w.style blocks ≡ None → All (λ (b : Block). is_wrong w.style b ≡ false) blocks → IsCrowded r s blocks None
+        → AreBlocksOf (headers_with w (layers_of_rule r s blocks) s) (blocks_written w r s blocks) }
+    ensures sound { (w : Wanted) (r : Rule) (s : Stream) (blocks : List Block) → 1 ≤ layers_of_rule r s blocks → All IsSound blocks → first_broken w.style blocks ≡ None
+        → All IsSound (blocks_written w r s blocks) }
+    ensures kept { (w : Wanted) (s : Stream) (blocks : List Block) → w.style ≡ None → MayBePlanned s blocks → blocks_written w Keep s blocks ≡ blocks }
 {
-    written_in_own_layers();
+    written_in_layers();
     breaks_are_told();
+    jobs_have_these_ends();
+    blocks_are_written();
+    crowds_are_told();
 }
 
 /// What is written means what was read: the canvas, the components, how they are transformed and quantized, and each coefficient with its
 /// decoded planes (T.800, A.5, A.6, D and E). So does a stream with COM and PLT segments more.
 pub fn meaning_stays()
-    ensures written { (w : Wanted) (layers : ℕ) (s : Stream) (blocks : List Block) → HeadersStand s → All IsSound blocks → first_broken w.style blocks ≡ None
-        → meaning_of (headers_with w layers s) (blocks_written w blocks) ≡ meaning_of s blocks }
+    ensures written { (w : Wanted) (r : Rule) (s : Stream) (blocks : List Block) → 1 ≤ layers_of_rule r s blocks → HeadersStand s → All IsSound blocks → first_broken w.style blocks ≡ None
+        → meaning_of (headers_with w (layers_of_rule r s blocks) s) (blocks_written w r s blocks) ≡ meaning_of s blocks }
     ensures more { (s other : Stream) (blocks : List Block) → IsWithMore s other → meaning_of other blocks ≡ meaning_of s blocks }
 {
-    written_in_own_layers();
-    written_keeps_coefficients();
+    written_in_layers();
     breaks_are_told();
+    jobs_have_these_ends();
+    blocks_are_written();
+}
+
+/// A plan by a rule writes the blocks that the rule says, and nothing is in its way.
+pub fn plans_write_these_blocks()
+    ensures blocks { (s : Stream) (blocks : List Block) (w : Wanted) (r : Rule) (p : Plan) → IsPlan p → IsPlannedBy r s blocks w p → map block_asked p.jobs ≡ blocks_written w r s blocks }
+    ensures free { (s : Stream) (blocks : List Block) (w : Wanted) (r : Rule) (p : Plan) → IsPlan p → IsPlannedBy r s blocks w p → IsFreeBy r s blocks w }
+{
+    blocks_are_written();
+    crowds_are_told();
 }
 
 /// The one entry of a tile that is written covers each of its packets (T.800, A.6.6 and B.12).
@@ -189,22 +199,19 @@ pub fn gathered_may_be_planned()
     ensures { (b : List ℕ) (s : Stream) (blocks : List Block) → IsRead b s → length b ≤ 2 ^ 28 → totals_fault s ≡ None → IsGathered b s blocks → MayBePlanned s blocks }
 {}
 
-/// The planner that keeps sends each code-block in the layers in which it was, where its pieces lie in the layers that are planned. So
-/// what it plans is the plan that keeps the layers, and nothing but choices 1, 3 and 2, limit 7, choice 5 or want of memory keeps it from one.
-pub fn keep_keeps_layers()
-    ensures jobs { (style : Option Style) (layers : ℕ) (blocks : List Block) (jobs : List Job) → All IsSound blocks → All (λ (b : Block). All (λ (p : PieceValue). p.layer < layers) b.pieces) blocks
-        → AreJobs style Keep layers blocks jobs → KeepsLayers jobs }
-    ensures plan { (s : Stream) (blocks : List Block) → MayBePlanned s blocks → (w : Wanted) (p : Plan) → IsPlannedBy Keep s blocks w p → IsKeptPlan s blocks w p }
-    ensures fault { (s : Stream) (blocks : List Block) → MayBePlanned s blocks → (w : Wanted) (e : PlanFault) → HasPlanCause (Some Keep) s blocks w e → HasKeptCause s blocks w e }
-{}
-
-/// By a rule a stream has one answer, but for want of memory: a plan, or one cause for which nothing is planned.
+/// By a rule a stream has one answer, but for want of memory: nothing is in the way of its plan, or there is one cause for which nothing is
+/// planned.
 pub fn one_answer()
     ensures planned { (s : Stream) (blocks : List Block) (w : Wanted) (o : Option Rule) (p : Plan) (e : PlanFault) → IsPlan p → IsPlanned o s blocks w p → HasPlanCause o s blocks w e
         → e ≡ plan_fault.NoMemory }
+    ensures free { (s : Stream) (blocks : List Block) (w : Wanted) (o : Option Rule) (e : PlanFault) → CanBePlannedBy o s blocks w → HasPlanCause o s blocks w e → e ≡ plan_fault.NoMemory }
     ensures cause { (s : Stream) (blocks : List Block) (w : Wanted) (o : Option Rule) (e f : PlanFault) → (e ≡ plan_fault.NoMemory → ⊥) → (f ≡ plan_fault.NoMemory → ⊥)
         → HasPlanCause o s blocks w e → HasPlanCause o s blocks w f → e ≡ f }
-{}
+    ensures some { (s : Stream) (blocks : List Block) (w : Wanted) (o : Option Rule) → MayBePlanned s blocks → MayBeWanted w → MakesLayers o s blocks
+        → CanBePlannedBy o s blocks w ⊎ ((e : PlanFault) × (e ≡ plan_fault.NoMemory → ⊥) × HasPlanCause o s blocks w e) }
+{
+    crowds_are_told();
+}
 
 /// Tile-parts have a tile's packets in their order; those of one agree in what is asked, and the last of one and the first of the
 /// next don't. Where nothing is asked there is one. Only the tile-part of a tile without packets is empty.
@@ -216,13 +223,4 @@ pub fn groups_are_cut()
         → groups_of parts names ≡ before ++ ((xs ++ p ∷ []) ∷ (q ∷ ys) ∷ after) → key_of parts p ≡ key_of parts q → ⊥ }
     ensures one { (names : List PacketName) → groups_of part_choice.None names ≡ names ∷ [] }
     ensures full { (parts : PartChoice) (names : List PacketName) (i : ℕ) → slice_get (groups_of parts names) i ≡ Some [] → names ≡ [] }
-{}
-
-/// A stream has one answer where its layers are kept, but for want of memory: nothing is in the way of its plan, or one cause is.
-pub fn one_kept_answer()
-    ensures planned { (s : Stream) (blocks : List Block) (w : Wanted) (p : Plan) (e : PlanFault) → IsPlan p → IsKeptPlan s blocks w p → HasKeptCause s blocks w e → e ≡ plan_fault.NoMemory }
-    ensures cause { (s : Stream) (blocks : List Block) (w : Wanted) (e f : PlanFault) → (e ≡ plan_fault.NoMemory → ⊥) → (f ≡ plan_fault.NoMemory → ⊥)
-        → HasKeptCause s blocks w e → HasKeptCause s blocks w f → e ≡ f }
-    ensures some { (s : Stream) (blocks : List Block) (w : Wanted) → MayBePlanned s blocks → MayBeWanted w
-        → ((first_broken w.style blocks ≡ None) × IsFree s w (most_layers s)) ⊎ ((e : PlanFault) × (e ≡ plan_fault.NoMemory → ⊥) × HasKeptCause s blocks w e) }
 {}

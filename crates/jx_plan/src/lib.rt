@@ -7,7 +7,6 @@ mod counting;
 mod faults;
 mod fitting;
 mod headers;
-mod kept;
 pub mod laws;
 mod options;
 mod out_stream;
@@ -20,11 +19,10 @@ mod tests;
 
 pub use faults::PlanFault;
 pub use fitting::check_precincts;
-pub use kept::plan_kept;
 pub use options::{Options, OrderChoice, PrecinctChoice};
 pub use out_stream::OutStream;
 pub use parting::{count_parts, names_of, part_end};
-pub use planning::{plan, plan_first, plan_layers};
+pub use planning::{plan, plan_served};
 
 /// Where a tile is cut into tile-parts (ITU-T T.800, A.4.2).
 #[derive(Clone, Copy, Debug, PartialEq, Eq)]

@@ -14,6 +14,7 @@ ghost use Rattle.jx_plan.specs.Planned.{ArePlanned, HasLaterCause, HasPlanCause,
 ghost use Rattle.jx_plan.specs.Steps.{IsTooMuch};
 ghost use Rattle.jx_plan.specs.Wanted.{MayBeWanted};
 ghost use Rattle.jx_block.specs.declared.job.Job.{Job as job_asked};
+ghost use Rattle.jx_block.specs.declared.LayerEnd.{LayerEnd};
 
 use crate::counting::{check_parts, plan_headers};
 use crate::fitting::check_precincts;
@@ -21,7 +22,7 @@ use crate::{Options, OutStream, PlanFault};
 use jx_base::{Block, Style};
 use jx_block::Job;
 use jx_layers::{
-    LayerPlanner, StreamFacts, ask_jobs, facts_of, first_broken, first_crowded, shortened,
+    LayerPlanner, StreamFacts, ask_jobs, facts_of, first_broken, first_crowded,
 };
 use jx_stream::Stream;
 use std::alloc::Global;
@@ -64,63 +65,6 @@ fn plan_by<'a>(
     }
 }
 
-/// The number of layers that are written, and what is asked of each code-block, by the planner that serves the words; it is
-/// asked once for each coding pass, in the order of blocks and passes. There is no such planner where none serves them.
-///
-/// Choice 6 at 0 comes exactly where there is no planner, or it makes no rule of the words; nothing was asked then.
-pub fn plan_layers<'a, 'b: 'a>(
-    alloc: Global,
-    blocks: &'a [Block<'b>],
-    style: Option<Style>,
-    words: &str,
-    facts: &StreamFacts,
-    planner: Option<&mut Box<dyn LayerPlanner>>,
-) -> Result<(u16, Vec<Job<'a>>), PlanFault>
-    requires few { length blocks.now ≤ 2 ^ 20 }
-    requires sound { All IsSound blocks.now }
-    ensures planned { IfOk result (λ p. MatchOption planner.entry ⊥ (λ b. ArePlanned style (rule_of b.now words.now facts.now) facts.now blocks.entry.now p.0 p.1.items)) }
-    ensures count { IfOk result (λ p. length p.1.items ≡ length blocks.entry.now) }
-    ensures unplanned { IfErr result (λ e. MatchOption planner.entry (e ≡ fault.Choice 6 0) (λ b. IsUnplanned (rule_of b.now words.now facts.now) e)) }
-{
-    match planner {
-        Some(planner) => plan_by(alloc, shortened(blocks), style, words, facts, planner),
-        None => Err(PlanFault::Choice {
-            number: 6,
-            place: 0,
-        }),
-    }
-}
-
-/// Whether a planner serves the words.
-fn does_serve(planner: &Box<dyn LayerPlanner>, words: &str) -> bool
-    ensures { result ≡ serves_text planner.now words.now }
-{
-    planner.serves(words)
-}
-
-/// The same by the first planner that serves the words; choice 6 at 0 comes also where none does.
-pub fn plan_first<'a, 'b: 'a>(
-    alloc: Global,
-    blocks: &'a [Block<'b>],
-    style: Option<Style>,
-    words: &str,
-    facts: &StreamFacts,
-    planners: &mut [Box<dyn LayerPlanner>],
-) -> Result<(u16, Vec<Job<'a>>), PlanFault>
-    requires few { length blocks.now ≤ 2 ^ 20 }
-    requires sound { All IsSound blocks.now }
-    ensures planned { IfOk result (λ p. ArePlanned style (chosen (λ b. serves_text b words.now) (λ b. rule_of b words.now facts.now) planners.old) facts.now blocks.entry.now p.0 p.1.items) }
-    ensures count { IfOk result (λ p. length p.1.items ≡ length blocks.entry.now) }
-    ensures unplanned { IfErr result (λ e. IsUnplanned (chosen (λ b. serves_text b words.now) (λ b. rule_of b words.now facts.now) planners.old) e) }
-{
-    for planner in planners.iter_mut() {
-        if does_serve(planner, words) {
-            return plan_layers(alloc, blocks, style, words, facts, Some(planner));
-        }
-    }
-    plan_layers(alloc, blocks, style, words, facts, None)
-}
-
 /// The plan of these layers and jobs, one for each block, of precincts that fit.
 fn plan_jobs<'a>(
     alloc: Global,
@@ -137,6 +81,7 @@ fn plan_jobs<'a>(
     requires some { 1 ≤ layers }
     requires all { length jobs.items ≡ length blocks.now }
     requires each { (number : ℕ) (job : job_asked) → slice_get jobs.items number ≡ Some job → IsJob options.now.style blocks.now number job }
+    requires below { (number : ℕ) (job : job_asked) → slice_get jobs.items number ≡ Some job → All (λ (e : LayerEnd). e.layer < layers) job.ends }
     ensures planned { IfOk result (λ p. p ≡ record { stream = stream.entry.now; blocks = blocks.entry.now; wanted = options.entry.now; layers = layers; jobs = jobs.entry.items }) }
     ensures cause { IfErr result (λ e. IsTooMuch stream.entry.now options.entry.now layers jobs.entry.items e) }
 {
@@ -226,4 +171,34 @@ pub fn plan<'a>(
             place: 0,
         }),
     }
+}
+
+/// Whether a planner serves the words.
+fn does_serve(planner: &Box<dyn LayerPlanner>, words: &str) -> bool
+    ensures { result ≡ serves_text planner.now words.now }
+{
+    planner.serves(words)
+}
+
+/// The plan by the first planner that serves the words; there is none where none does, which is choice 6 at 0 as in `plan`.
+pub fn plan_served<'a>(
+    alloc: Global,
+    stream: &'a Stream,
+    blocks: &'a [Block<'a>],
+    options: &'a Options,
+    planners: &mut [Box<dyn LayerPlanner>],
+) -> Result<OutStream<'a>, PlanFault>
+    requires may { MayBePlanned stream.now blocks.now }
+    requires wanted { MayBeWanted options.now }
+    ensures planned { IfOk result (λ p. IsPlanned (chosen (λ b. serves_text b options.entry.now.layers) (λ b. rule_of b options.entry.now.layers (facts_of stream.entry.now blocks.entry.now)) planners.old)
+        stream.entry.now blocks.entry.now options.entry.now p) }
+    ensures cause { IfErr result (λ e. HasPlanCause (chosen (λ b. serves_text b options.entry.now.layers) (λ b. rule_of b options.entry.now.layers (facts_of stream.entry.now blocks.entry.now)) planners.old)
+        stream.entry.now blocks.entry.now options.entry.now e) }
+{
+    for planner in planners.iter_mut() {
+        if does_serve(planner, &options.layers) {
+            return plan(alloc, stream, blocks, options, Some(planner));
+        }
+    }
+    plan(alloc, stream, blocks, options, None)
 }

@@ -26,7 +26,7 @@ use Rattle.jx_gather.specs.Gathered.{IsBroken, IsGathered}
 use Rattle.jx_gather.specs.Totals.{block_total, totals_fault}
 use Rattle.jx_plan.specs.declared.faults.PlanFault.{PlanFault}
 use Rattle.jx_plan.specs.declared.faults.PlanFault.TheVariants as unplanned
-use Rattle.jx_plan.specs.KeptFault.{HasKeptCause, IsFree}
+use Rattle.jx_plan.specs.Causes.{HasKeptCause, IsFree}
 use Rattle.jx_layers.specs.Causal.{first_broken}
 use Rattle.jx_layers.specs.Facts.{most_layers}
 use Rattle.jx_plan.specs.Plan.{IsKeptPlan, IsPlan, MayBePlanned, Plan, blocks_written, headers_with}

@@ -15,7 +15,7 @@ use Rattle.jx_plan.specs.declared.faults.PlanFault.{PlanFault}
 use Rattle.jx_plan.specs.declared.faults.PlanFault.TheVariants as unplanned
 use Rattle.jx_layers.specs.Causal.{first_broken}
 use Rattle.jx_layers.specs.Facts.{most_layers}
-use Rattle.jx_plan.specs.KeptFault.{HasHeaderCause, HasKeptCause, IsFree, IsPlaneBroken}
+use Rattle.jx_plan.specs.Causes.{HasHeaderCause, HasKeptCause, IsFree, IsPlaneBroken}
 use Rattle.jx_plan.specs.Plan.{blocks_written}
 use Rattle.jx_plan.specs.Wanted.{Wanted, marks_of}
 use Rattle.jx_assemble.specs.Ready.{AreShort}

@@ -23,7 +23,7 @@ use Rattle.jx_plan.specs.declared.faults.PlanFault.{PlanFault}
 use Rattle.jx_plan.specs.declared.faults.PlanFault.TheVariants as unplanned
 use Rattle.jx_layers.specs.Causal.{first_broken}
 use Rattle.jx_layers.specs.Facts.{most_layers}
-use Rattle.jx_plan.specs.KeptFault.{HasKeptCause, IsFree}
+use Rattle.jx_plan.specs.Causes.{HasKeptCause, IsFree}
 use Rattle.jx_plan.specs.Plan.{MayBePlanned, blocks_written, headers_with}
 use Rattle.jx_plan.specs.Standing.{HeadersStand}
 use Rattle.jx_plan.specs.Wanted.{MayBeWanted, Wanted, marks_of}

@@ -1,7 +1,7 @@
 -- What a whole file, or one that was halted, leaves under a name.
 use Rattle.std.specs.Prelude.{◌≡◌, ◌⊎◌, ℕ, List, length}
 use Rattle.jx_outside.specs.Device.{Meaning}
-use Rattle.jx_plan.specs.Wanted.{Wanted}
+use Rattle.jx_recast.specs.Aims.{Aim}
 use Rattle.jx_plan.specs.declared.faults.PlanFault.{PlanFault}
 use Rattle.jx_plan.specs.declared.faults.PlanFault.TheVariants as unplanned
 use Rattle.jx_plan.specs.Plan.{IsPlan, Plan}
@@ -42,10 +42,10 @@ IsFileHalted p name halt.Failed old new = IsFileBegun p name old new
 IsFileHalted p name halt.NoMemory old new = IsFileBegun p name old new
 
 -- what becomes of an input whose bytes were read
-pub record IsAnswered (name : Text) (work : Work) (w : Wanted) (input : List ℕ) (s : Status) (blocks bytes : ℕ) (entries : List TapeEntry) (old new : Meaning) : Type 0 where
-  pub verdict : IsVerdict s → Verdict w input s
-  pub leaves : Leaves name w input s blocks bytes old new
-  pub unsaid : IsCutShort name w input blocks old new
+pub record IsAnswered (name : Text) (work : Work) (aim : Aim) (input : List ℕ) (s : Status) (blocks bytes : ℕ) (entries : List TapeEntry) (old new : Meaning) : Type 0 where
+  pub verdict : IsVerdict s → Verdict aim input s
+  pub leaves : Leaves name aim input s blocks bytes old new
+  pub unsaid : IsCutShort name aim input blocks old new
   pub tape : IsRunTape work input entries
   pub whole : s ≡ status.Done → HasBlocks input (length entries)
 

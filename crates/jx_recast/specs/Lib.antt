@@ -1,3 +1,4 @@
+pub mod Aims
 pub mod Rewritten
 pub mod Tapes
 pub mod Outcome

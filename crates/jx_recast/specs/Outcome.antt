@@ -12,7 +12,9 @@ use Rattle.jx_recast.specs.Tapes.{IsRunTape}
 use Rattle.jx_recast.specs.Rewritten.{HasBlocks, IsBad, IsCut, IsCutByBlock, IsFrontOf, IsKept, IsRewritten, IsTooLong, IsUnplanned}
 use Rattle.jx_plan.specs.declared.faults.PlanFault.{PlanFault}
 use Rattle.jx_plan.specs.declared.faults.PlanFault.TheVariants as unplanned
-use Rattle.jx_plan.specs.Wanted.{Wanted}
+use Rattle.jx_layers.specs.declared.StreamFacts.{StreamFacts}
+use Rattle.jx_layers.specs.Rule.{Rule}
+use Rattle.jx_recast.specs.Aims.{Aim}
 use Rattle.jx_recast.specs.Progress.{HasWritten}
 use Rattle.jx_recast.specs.Judged.{Violates, Passes}
 
@@ -51,18 +53,18 @@ PassesLimit input number found =
     ⊎ ((length input ≤ most_bytes) × Passes input number found)
 
 -- the status that an input has where the words are good and nothing fails: limit 1, then the first rule that it violates or limit that it
--- passes in its headers or its tile data, then choice 1, choice 3, choice 2, limit 7 and choice 5, then tile by tile a block that is coded
--- anew and has a wrong segmentation symbol, and a tile-part that would be too long
-abbrev pub Verdict : Wanted → List ℕ → Status → Type 0
-Verdict w input status.Done = (length input ≤ most_bytes) × (out : List ℕ) × IsRewritten w input out
-Verdict w input (status.Rule number place) = (length input ≤ most_bytes) × Violates input number place
-Verdict w input (status.Limit number found) = PassesLimit input number found ⊎ ((length input ≤ most_bytes) × IsUnplanned w input (unplanned.Limit number found))
-Verdict w input (status.Choice number place) = (length input ≤ most_bytes) × (((number ≡ 7) × IsTooLong w input place) ⊎ IsUnplanned w input (unplanned.Choice number place))
-Verdict w input (status.Block number) = (length input ≤ most_bytes) × IsBad w input number
-Verdict w input status.Words = ⊥
-Verdict w input status.ReadFault = ⊥
-Verdict w input status.WriteFault = ⊥
-Verdict w input status.NoMemory = ⊥
+-- passes in its headers or its tile data, then choice 1, choice 3, choice 2, choice 6, limit 7, choice 4 and choice 5, then tile by tile a
+-- block that is coded anew and has a wrong segmentation symbol, and a tile-part that would be too long
+abbrev pub Verdict : Aim → List ℕ → Status → Type 0
+Verdict aim input status.Done = (length input ≤ most_bytes) × (out : List ℕ) × IsRewritten aim input out
+Verdict aim input (status.Rule number place) = (length input ≤ most_bytes) × Violates input number place
+Verdict aim input (status.Limit number found) = PassesLimit input number found ⊎ ((length input ≤ most_bytes) × IsUnplanned aim input (unplanned.Limit number found))
+Verdict aim input (status.Choice number place) = (length input ≤ most_bytes) × (((number ≡ 7) × IsTooLong aim input place) ⊎ IsUnplanned aim input (unplanned.Choice number place))
+Verdict aim input (status.Block number) = (length input ≤ most_bytes) × IsBad aim input number
+Verdict aim input status.Words = ⊥
+Verdict aim input status.ReadFault = ⊥
+Verdict aim input status.WriteFault = ⊥
+Verdict aim input status.NoMemory = ⊥
 
 -- the line that a status has, with its numbers: those of the code-blocks and of the bytes written after Done
 abbrev pub line_of : Status → ℕ → ℕ → List ℕ
@@ -119,46 +121,46 @@ abbrev pub IsRefused : ℕ → Meaning → Meaning → Type 0
 IsRefused blocks old new = (blocks ≡ 0) × IsUntouched old new
 
 -- the input was accepted, and its output begun: what was written is a front of whole rounds, or of the whole file
-pub record IsAborted (name : Text) (w : Wanted) (input : List ℕ) (blocks : ℕ) (old new : Meaning) : Type 0 where
+pub record IsAborted (name : Text) (aim : Aim) (input : List ℕ) (blocks : ℕ) (old new : Meaning) : Type 0 where
   pub within : length input ≤ most_bytes
   pub count : HasBlocks input blocks
   pub bytes : List ℕ
-  pub of : IsFrontOf w input bytes ⊎ IsRewritten w input bytes
+  pub of : IsFrontOf aim input bytes ⊎ IsRewritten aim input bytes
   pub begun : IsBegun name bytes old new
 
 -- nothing was made of an input that isn't planned
-pub record IsOver (w : Wanted) (input : List ℕ) (blocks : ℕ) (old new : Meaning) : Type 0 where
+pub record IsOver (aim : Aim) (input : List ℕ) (blocks : ℕ) (old new : Meaning) : Type 0 where
   pub within : length input ≤ most_bytes
   pub why : PlanFault
-  pub is : IsUnplanned w input why
+  pub is : IsUnplanned aim input why
   pub caused : why ≡ unplanned.NoMemory → ⊥
   pub count : HasBlocks input blocks
   pub same : IsUntouched old new
 
 -- nothing was made, or the input was accepted and its output begun
-abbrev pub IsCutShort : Text → Wanted → List ℕ → ℕ → Meaning → Meaning → Type 0
-IsCutShort name w input blocks old new = IsRefused blocks old new ⊎ (IsOver w input blocks old new ⊎ IsAborted name w input blocks old new)
+abbrev pub IsCutShort : Text → Aim → List ℕ → ℕ → Meaning → Meaning → Type 0
+IsCutShort name aim input blocks old new = IsRefused blocks old new ⊎ (IsOver aim input blocks old new ⊎ IsAborted name aim input blocks old new)
 
 -- the file was made whole
-pub record IsWhole (name : Text) (w : Wanted) (input : List ℕ) (blocks bytes : ℕ) (old new : Meaning) : Type 0 where
+pub record IsWhole (name : Text) (aim : Aim) (input : List ℕ) (blocks bytes : ℕ) (old new : Meaning) : Type 0 where
   pub out : List ℕ
-  pub is : IsRewritten w input out
+  pub is : IsRewritten aim input out
   pub made : IsMade name out old new
-  pub kept : IsKept w input out
+  pub kept : IsKept aim input out
   pub count : HasBlocks input blocks
   pub long : bytes ≡ length out
 
 -- a tile-part was too long: the rounds before its tile's were written
-pub record IsStoppedAt (name : Text) (w : Wanted) (input : List ℕ) (tile blocks : ℕ) (old new : Meaning) : Type 0 where
+pub record IsStoppedAt (name : Text) (aim : Aim) (input : List ℕ) (tile blocks : ℕ) (old new : Meaning) : Type 0 where
   pub bytes : List ℕ
-  pub is : IsCut w input tile bytes
+  pub is : IsCut aim input tile bytes
   pub stopped : IsStopped name bytes old new
   pub count : HasBlocks input blocks
 
 -- a block was wrong: the rounds before that of its tile were written
-pub record IsStoppedByBlock (name : Text) (w : Wanted) (input : List ℕ) (number blocks : ℕ) (old new : Meaning) : Type 0 where
+pub record IsStoppedByBlock (name : Text) (aim : Aim) (input : List ℕ) (number blocks : ℕ) (old new : Meaning) : Type 0 where
   pub bytes : List ℕ
-  pub is : IsCutByBlock w input number bytes
+  pub is : IsCutByBlock aim input number bytes
   pub stopped : IsStopped name bytes old new
   pub count : HasBlocks input blocks
 
@@ -167,40 +169,44 @@ abbrev pub IsLimited : List ℕ → ℕ → ℕ → Type 0
 IsLimited input number blocks = ((number ≡ 7) × HasBlocks input blocks) ⊎ ((number < 7) × (blocks ≡ 0))
 
 -- what stands after a status, the blocks that are told, and the bytes of the output after Done
-abbrev pub Leaves : Text → Wanted → List ℕ → Status → ℕ → ℕ → Meaning → Meaning → Type 0
-Leaves name w input status.Done blocks bytes old new = IsWhole name w input blocks bytes old new
-Leaves name w input status.Words blocks bytes old new = IsRefused blocks old new
-Leaves name w input (status.Rule number place) blocks bytes old new = IsRefused blocks old new
-Leaves name w input (status.Limit number found) blocks bytes old new = IsLimited input number blocks × IsUntouched old new
-Leaves name w input (status.Choice number place) blocks bytes old new =
-    ((number ≡ 7) × IsStoppedAt name w input place blocks old new) ⊎ ((number < 7) × HasBlocks input blocks × IsUntouched old new)
-Leaves name w input (status.Block number) blocks bytes old new = IsStoppedByBlock name w input number blocks old new
-Leaves name w input status.ReadFault blocks bytes old new = IsRefused blocks old new
-Leaves name w input status.WriteFault blocks bytes old new = IsCutShort name w input blocks old new
-Leaves name w input status.NoMemory blocks bytes old new = IsCutShort name w input blocks old new
+abbrev pub Leaves : Text → Aim → List ℕ → Status → ℕ → ℕ → Meaning → Meaning → Type 0
+Leaves name aim input status.Done blocks bytes old new = IsWhole name aim input blocks bytes old new
+Leaves name aim input status.Words blocks bytes old new = IsRefused blocks old new
+Leaves name aim input (status.Rule number place) blocks bytes old new = IsRefused blocks old new
+Leaves name aim input (status.Limit number found) blocks bytes old new = IsLimited input number blocks × IsUntouched old new
+Leaves name aim input (status.Choice number place) blocks bytes old new =
+    ((number ≡ 7) × IsStoppedAt name aim input place blocks old new) ⊎ ((number < 7) × HasBlocks input blocks × IsUntouched old new)
+Leaves name aim input (status.Block number) blocks bytes old new = IsStoppedByBlock name aim input number blocks old new
+Leaves name aim input status.ReadFault blocks bytes old new = IsRefused blocks old new
+Leaves name aim input status.WriteFault blocks bytes old new = IsCutShort name aim input blocks old new
+Leaves name aim input status.NoMemory blocks bytes old new = IsCutShort name aim input blocks old new
+
+-- what good words ask for, with the rule that the planners make of their words of layers
+abbrev pub aim_of : Request → (List ℕ → StreamFacts → Option Rule) → Aim
+aim_of request rule = record { wanted = request.wanted; rule = rule request.wanted.layers }
 
 -- how a run over good words ends on an input, which is what the file named IN holds at the beginning, where that is told
-pub record EndsOn (request : Request) (input : List ℕ) (s : Status) (blocks bytes : ℕ) (entries : List TapeEntry) (old new : Meaning) : Type 0 where
+pub record EndsOn (request : Request) (rule : List ℕ → StreamFacts → Option Rule) (input : List ℕ) (s : Status) (blocks bytes : ℕ) (entries : List TapeEntry) (old new : Meaning) : Type 0 where
   pub told : IfSome (joined (old.holds request.from)) (λ bytes. input ≡ bytes)
-  pub verdict : IsVerdict s → Verdict request.wanted input s
-  pub leaves : Leaves request.to request.wanted input s blocks bytes old new
+  pub verdict : IsVerdict s → Verdict (aim_of request rule) input s
+  pub leaves : Leaves request.to (aim_of request rule) input s blocks bytes old new
   -- the tape has the entries of the first blocks, in their order, each once, by workers and inside windows that were asked for
   pub tape : IsRunTape request.work input entries
   -- and those of all blocks after Done
   pub whole : s ≡ status.Done → HasBlocks input (length entries)
 
 -- how the files are left by a run over good words, before anything is said; `bytes` is the output's length after Done
-pub record EndsFiles (request : Request) (s : Status) (blocks bytes : ℕ) (entries : List TapeEntry) (old new : Meaning) : Type 0 where
+pub record EndsFiles (request : Request) (rule : List ℕ → StreamFacts → Option Rule) (s : Status) (blocks bytes : ℕ) (entries : List TapeEntry) (old new : Meaning) : Type 0 where
   pub input : List ℕ
-  pub files : EndsOn request input s blocks bytes entries old new
+  pub files : EndsOn request rule input s blocks bytes entries old new
   -- what stands where its line isn't said
-  pub unsaid : IsCutShort request.to request.wanted input blocks old new
+  pub unsaid : IsCutShort request.to (aim_of request rule) input blocks old new
 
 -- how a run over good words ends
-pub record Ends (request : Request) (s : Status) (blocks : ℕ) (entries : List TapeEntry) (old new : Meaning) (before now : Option (List ℕ)) : Type 0 where
+pub record Ends (request : Request) (rule : List ℕ → StreamFacts → Option Rule) (s : Status) (blocks : ℕ) (entries : List TapeEntry) (old new : Meaning) (before now : Option (List ℕ)) : Type 0 where
   pub input : List ℕ
   pub bytes : ℕ
-  pub files : EndsOn request input s blocks bytes entries old new
+  pub files : EndsOn request rule input s blocks bytes entries old new
   pub said : Says s (line_of s blocks bytes) before now
 
 -- how a run over other words ends
@@ -212,8 +218,8 @@ pub record EndsAtWords (s : Status) (blocks : ℕ) (entries : List TapeEntry) (o
   pub said : Says s (line_of s 0 0) before now
 
 -- how a run ends
-pub record Outcome (words : List Text) (s : Status) (blocks : ℕ) (entries : List TapeEntry) (old new : Meaning) (before now : Option (List ℕ)) : Type 0 where
-  pub good : is_good words ≡ true → Ends (request_of words) s blocks entries old new before now
+pub record Outcome (words : List Text) (rule : List ℕ → StreamFacts → Option Rule) (s : Status) (blocks : ℕ) (entries : List TapeEntry) (old new : Meaning) (before now : Option (List ℕ)) : Type 0 where
+  pub good : is_good words ≡ true → Ends (request_of words) rule s blocks entries old new before now
   pub bad : is_good words ≡ false → EndsAtWords s blocks entries old new before now
 
 -- the status after a line was said: the same where it was said; a write fault exactly where the sink's count rose; and

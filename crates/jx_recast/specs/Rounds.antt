@@ -12,8 +12,8 @@ use Rattle.jx_pool.specs.Tapes.{answer_of}
 use Rattle.jx_marker.specs.Segments.{spelling}
 use Rattle.jx_marker.specs.declared.Segment.TheVariants as segment
 use Rattle.jx_outside.specs.Device.{Meaning, after_finish, after_write}
-use Rattle.jx_layers.specs.Facts.{most_layers}
-use Rattle.jx_plan.specs.Plan.{KeepsLayers, Plan, blocks_written, headers_of}
+use Rattle.jx_block.specs.Written.{block_asked}
+use Rattle.jx_plan.specs.Plan.{Plan, headers_of}
 use Rattle.jx_words.specs.Words.{Work}
 use Rattle.jx_plan.specs.Wanted.{marks_of}
 use Rattle.jx_stream.specs.First.{tile_number}
@@ -32,14 +32,9 @@ use Rattle.jx_recast.specs.declared.halt.Halt.TheVariants as halt
 abbrev pub most_of_part : ℕ
 most_of_part = 2 ^ 32 - 1
 
--- each block keeps its layers, and as many layers are written as the tile has that has the most
-pub record IsKeeping (p : Plan) : Type 0 where
-  pub jobs : KeepsLayers p.jobs
-  pub layers : p.layers ≡ most_layers p.stream
-
--- the blocks as they are written
+-- the blocks as they are written: what is asked of each
 abbrev pub blocks_of : Plan → List Block
-blocks_of p = blocks_written p.wanted p.blocks
+blocks_of p = map block_asked p.jobs
 
 -- no block of a tile is wrong, or this is the lowest one that is
 abbrev pub IsRightTile : Plan → ℕ → Type 0

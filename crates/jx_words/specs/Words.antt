@@ -83,17 +83,13 @@ found_in words name = first_of name (matches_of transcode words)
 abbrev pub given_in : List Text → Given
 given_in words = given_by (found_in words)
 
--- an option that is known, and has one value so far
-abbrev pub are_usual : Given → Bool
-are_usual g = bytes_eq g.layers (codes "keep")
-
 -- the values that say how the work is done
 abbrev pub is_work : Given → Bool
 is_work g = is_some (threads_said g.threads) && (is_some (window_said g.window) && is_some (bytes_said g.window_bytes))
 
 -- each value is one of its option's
 unfoldable pub are_values : Given → Bool
-are_values g = is_some (order_said g.order) && (is_some (precincts_said g.precincts) && (is_some (parts_said g.parts) && (is_some (style_said g.style) && (is_work g && are_usual g))))
+are_values g = is_some (order_said g.order) && (is_some (precincts_said g.precincts) && (is_some (parts_said g.parts) && (is_some (style_said g.style) && is_work g)))
 
 unfoldable pub wanted_by : Given → Wanted
 wanted_by g = record {
@@ -132,13 +128,12 @@ is_good words = names_command words && (are_taken (drop 1 words) && are_values (
 unfoldable pub request_of : List Text → Request
 request_of words = request_by (given_in (drop 1 words))
 
--- a request that words can make: by one of the five orders, with the precincts of 1 to 33 resolutions, a style of five bits, and with
--- layers that are kept
+-- a request that words can make: by one of the five orders, with the precincts of 1 to 33 resolutions and a style of five bits; the words
+-- for the planners of layers are any text
 pub record MayBeAsked (r : Request) : Type 0 where
   pub order : IfSome r.wanted.order (λ order. order ≤ 4)
   pub precincts : IfSome r.wanted.precincts (λ bytes. (bytes ≡ []) ⊎ ArePrecincts bytes)
   pub style : IfSome r.wanted.style MayBeStyle
-  pub layers : r.wanted.layers ≡ codes "keep"
   pub work : MayBeWork r.work
 
 -- good words that make a request

@@ -1,6 +1,6 @@
 use Rattle.std.proofs.Common.{List, refl, subst}
 use Rattle.jx_base.specs.declared.pieces.Block.{Block}
-use Rattle.jx_plan.specs.KeptFault.{HasKeptCause}
+use Rattle.jx_plan.specs.Causes.{HasKeptCause}
 use Rattle.jx_plan.specs.Plan.{IsKeptPlan}
 use Rattle.jx_recast.proofs.AnswerLemmas.{answered_by_plan, answered_unplanned}
 use Rattle.jx_recast.proofs.rewrite.write_blocks.Goals as goal

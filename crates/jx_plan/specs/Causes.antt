@@ -1,6 +1,5 @@
--- Why a codestream isn't planned that keeps its layers: choice 1, choice 3, choice 2, limit 7 or choice 5, of which one at most comes; want
--- of memory is free.
-use Rattle.std.specs.Prelude.{◌≡◌, ◌⊎◌, ◌<◌, ◌≤◌, ℕ, List, Option, None, Some}
+-- What is in the way of a plan in the blocks and in the headers: choice 1; limit 7 and choice 5, of so many layers.
+use Rattle.std.specs.Prelude.{◌≡◌, ◌<◌, ◌≤◌, ℕ, List, Option, None, Some}
 use Rattle.jx_base.specs.declared.pieces.Block.{Block}
 use Rattle.jx_base.specs.declared.style.Style.{Style}
 use Rattle.jx_stream.specs.declared.Stream.{Stream}
@@ -9,8 +8,7 @@ use Rattle.jx_gather.specs.Totals.{packet_total}
 use Rattle.jx_plan.specs.declared.faults.PlanFault.{PlanFault}
 use Rattle.jx_plan.specs.declared.faults.PlanFault.TheVariants as fault
 use Rattle.jx_layers.specs.Causal.{first_broken}
-use Rattle.jx_layers.specs.Facts.{most_layers}
-use Rattle.jx_plan.specs.Fits.{Fits, IsUnfit}
+use Rattle.jx_plan.specs.Fits.{Fits}
 use Rattle.jx_plan.specs.Groups.{HasFewParts, IsPartedAt}
 use Rattle.jx_plan.specs.Plan.{headers_with, most_packets}
 use Rattle.jx_plan.specs.Wanted.{Wanted}
@@ -32,15 +30,6 @@ abbrev pub IsPlaneBroken : Option Style → List Block → PlanFault → Type 0
 IsPlaneBroken style blocks (fault.Choice number place) = (number ≡ 1) × (first_broken style blocks ≡ Some place)
 IsPlaneBroken style blocks (fault.Limit number found) = ⊥
 IsPlaneBroken style blocks fault.NoMemory = ⊥
-
--- what comes after choice 1
-abbrev pub HasHeaderCause : Stream → Wanted → PlanFault → Type 0
-HasHeaderCause s w (fault.Choice number place) = IsUnfit s w.precincts number place ⊎ ((number ≡ 5) × HasManyPartsAt s w (most_layers s) place)
-HasHeaderCause s w (fault.Limit number found) = (number ≡ 7) × PassesPackets s w (most_layers s) found
-HasHeaderCause s w fault.NoMemory = Unit {0}
-
-abbrev pub HasKeptCause : Stream → List Block → Wanted → PlanFault → Type 0
-HasKeptCause s blocks w e = IsPlaneBroken w.style blocks e ⊎ ((first_broken w.style blocks ≡ None) × HasHeaderCause s w e)
 
 -- nothing in the headers is in the way of a plan with so many layers
 pub record IsFree (s : Stream) (w : Wanted) (layers : ℕ) : Type 0 where
