@@ -10,6 +10,7 @@ pub mod EndLemmas
 pub mod FewLemmas
 pub mod GroupLemmas
 pub mod GrowLemmas
+pub mod InLayers
 pub mod KeptLemmas
 pub mod LawLemmas
 pub mod LengthLemmas

@@ -26,11 +26,11 @@ use Rattle.jx_block.proofs.RegroupLemmas.{kept_segments}
 use Rattle.jx_block.proofs.ShareLemmas.{ends_all, parts_all, parts_cut, parts_end, same_shares}
 
 -- ---- what is made of a block, by its segments
-record IsFrom (b : Block) (style : Option Style) (ends : List LayerEnd) (r : Recoding) : Type 0 where
-  segments : List (List ℕ)
-  is : r ≡ recoding_of b style ends segments
+pub record IsFrom (b : Block) (style : Option Style) (ends : List LayerEnd) (r : Recoding) : Type 0 where
+  pub segments : List (List ℕ)
+  pub is : r ≡ recoding_of b style ends segments
 
-is_from : (b : Block) (style : Option Style) (ends : List LayerEnd) (r : Recoding) → Some r ≡ recoding b style ends → IsFrom b style ends r
+pub is_from : (b : Block) (style : Option Style) (ends : List LayerEnd) (r : Recoding) → Some r ≡ recoding b style ends → IsFrom b style ends r
 unfolding recoding
 is_from b style ends r e = by (new_segments b style) e
   where
@@ -159,7 +159,7 @@ pub written_same : {X : Type 0} (f : Block → X) (asked : Option Style) (b : Bl
 written_same f asked b same = written_has (λ (c : Block). f c ≡ f b) asked b (λ none. refl) (λ (r : Recoding) made. same r)
 
 -- its style is the one that was asked
-style_asked : (asked : Style) (b : Block) → new_style b (style_for (Some asked) b) ≡ asked.bits
+pub style_asked : (asked : Style) (b : Block) → new_style b (style_for (Some asked) b) ≡ asked.bits
 style_asked asked b = elim (cases_Bool (asked.bits == b.style.bits)) [
   | inl t ↦ ap (new_style b) (cond-true (asked.bits == b.style.bits) None (Some asked) t) ∙ sym (eqb-true asked.bits b.style.bits t)
   | inr f ↦ ap (new_style b) (cond-false (asked.bits == b.style.bits) None (Some asked) f)

@@ -48,13 +48,13 @@ module _ (sent : ℕ → ℕ) (bytes : List ℕ) where
   abbrev piece : ℕ → ℕ → ℕ → PieceValue
   piece layer first run = piece_of bytes (record { layer = layer; first = first; passes = run; from = sent first; to = sent (first + run) })
 
-  abbrev of_layer : ℕ → ℕ → List ℕ → List PieceValue
+  abbrev pub of_layer : ℕ → ℕ → List ℕ → List PieceValue
   of_layer layer first runs = map (piece_of bytes) (layer_parts sent layer first runs)
 
-  abbrev from_ends : ℕ → ℕ → List LayerEnd → List PieceValue
+  abbrev pub from_ends : ℕ → ℕ → List LayerEnd → List PieceValue
   from_ends style first ends = map (piece_of bytes) (parts_after style sent first ends)
 
-  more_ends : (style first : ℕ) (e : LayerEnd) (ends : List LayerEnd)
+  pub more_ends : (style first : ℕ) (e : LayerEnd) (ends : List LayerEnd)
       → from_ends style first (e ∷ ends) ≡ of_layer e.layer first (cut style first (e.passes - first)) ++ from_ends style e.passes ends
   more_ends style first e ends = map-append (piece_of bytes) (layer_parts sent e.layer first (cut style first (e.passes - first))) (parts_after style sent e.passes ends)
 
@@ -103,7 +103,7 @@ module _ (sent : ℕ → ℕ) (bytes : List ℕ) where
       let more = other_at m layer (first + run) runs rest ne in
       (here.0 ∙ more.0, here.1 ∙ more.1)
 
-  earlier_below : (style m layer first last : ℕ) (runs : List ℕ) (rest : List PieceValue) → layer < m → Exact style first last runs
+  pub earlier_below : (style m layer first last : ℕ) (runs : List ℕ) (rest : List PieceValue) → layer < m → Exact style first last runs
       → first + passes_below m (of_layer layer first runs ++ rest) ≡ last + passes_below m rest
   earlier_below style m layer first last [] rest lt h = let e : first ≡ last = h in omega arith
   earlier_below style m layer first last (run ∷ runs) rest lt h =
@@ -113,7 +113,7 @@ module _ (sent : ℕ → ℕ) (bytes : List ℕ) where
       omega arith
 
   -- ---- they are cut in each layer as packets cut them
-  exact : (style first : ℕ) (e : LayerEnd) → first < e.passes → Exact style first e.passes (cut style first (e.passes - first))
+  pub exact : (style first : ℕ) (e : LayerEnd) → first < e.passes → Exact style first e.passes (cut style first (e.passes - first))
   exact style first e lt =
       let sum : first + (e.passes - first) ≡ e.passes = omega arith in
       subst (λ (n : ℕ). Exact style first n (cut style first (e.passes - first))) sum (cut_exact style first (e.passes - first))
@@ -189,7 +189,7 @@ module _ (sent : ℕ → ℕ) (bytes : List ℕ) where
       ∙ ap (λ (more : List LayerEnd). e ∷ more) (parts_end style (e.layer + 1) e.passes all ends are.2)
 
 -- ---- how many passes a layer has, by the ends of layers
-abbrev share : ℕ → ℕ → List LayerEnd → ℕ
+abbrev pub share : ℕ → ℕ → List LayerEnd → ℕ
 share m first [] = 0
 share m first (e ∷ ends) = if e.layer == m then (e.passes - first) + share m e.passes ends else share m e.passes ends
 
@@ -211,7 +211,7 @@ share_other m layer first more (e ∷ ends) head ne =
     cond-false (e.layer == m) ((e.passes - first) + share m e.passes ends) (share m e.passes ends) at
     ∙ sym (cond-false (e.layer == m) ((e.passes - more) + share m e.passes ends) (share m e.passes ends) at)
 
-share_is : (style layer first passes m : ℕ) (ps : List PieceValue) → ArePieces style layer first passes ps → passes_at m ps ≡ share m first (layer_ends ps)
+pub share_is : (style layer first passes m : ℕ) (ps : List PieceValue) → ArePieces style layer first passes ps → passes_at m ps ≡ share m first (layer_ends ps)
 share_is style layer first passes m [] are = refl
 share_is style layer first passes m (p ∷ []) are =
     let begins : p.first ≡ first = are.0.begins in
