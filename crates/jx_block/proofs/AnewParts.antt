@@ -44,7 +44,7 @@ anew_clean b style ends n le =
     looks_clean style.bits b.passes (anew b style) (anew_looked b style)
     (written_clean (coding_in b style.bits) (decoded_in b b.style.bits (own_segments b)).cells b.passes) few n le
 
-anew_sends : (b : Block) (style : Style) (ends : List LayerEnd) → Sends style.bits b.passes (anew b style) (sent_in b (Some style) ends (anew b style))
+pub anew_sends : (b : Block) (style : Style) (ends : List LayerEnd) → Sends style.bits b.passes (anew b style) (sent_in b (Some style) ends (anew b style))
 anew_sends b style ends = record {
   cut = λ (n : ℕ) (lt : n < b.passes) ended.
       looks_cut style.bits b.passes n (anew b style) (anew_looked b style) (λ (e : n ≡ b.passes). omega arith) (or_right (n == 0) (end_pass style.bits (n - 1)) ended);
@@ -77,7 +77,7 @@ anew_sound b style ends r asked e =
     subst P (sym (is_anew b style ends r e).is)
     (parts_sound style.bits b.passes (sent_in b (Some style) ends (anew b style)) (concat (anew b style)) 0 0 ends (anew_clean b style ends) asked.layers)
 
-anew_have : (b : Block) (style : Style) (ends : List LayerEnd) (r : Recoding) → Some r ≡ recoding b (Some style) ends
+pub anew_have : (b : Block) (style : Style) (ends : List LayerEnd) (r : Recoding) → Some r ≡ recoding b (Some style) ends
     → HaveBytes (sent_in b (Some style) ends (anew b style)) (concat (anew b style)) (pieces_of r)
 anew_have b style ends r e =
     let P : Recoding → Type 0 = λ q. HaveBytes (sent_in b (Some style) ends (anew b style)) (concat (anew b style)) (pieces_of q) in

@@ -68,7 +68,7 @@ cut_first style first (suc n) more one ends =
     ∙ ap one_more rest ∙ ap (λ (k : ℕ). suc (suc n) ∷ cut style k more) f
 
 -- ---- one part for each piece
-abbrev part_for : (ℕ → ℕ) → PieceValue → OutPart
+abbrev pub part_for : (ℕ → ℕ) → PieceValue → OutPart
 part_for sent p = record { layer = p.layer; first = p.first; passes = p.passes; from = sent p.first; to = sent (p.first + p.passes) }
 
 -- a layer's first piece, and the others

@@ -1,5 +1,6 @@
 pub mod AnewLemmas
 pub mod AnewParts
+pub mod BelowLemmas
 pub mod CleanLemmas
 pub mod CoefLemmas
 pub mod CopyLemmas
@@ -8,6 +9,9 @@ pub mod DecideLemmas
 pub mod DropLemmas
 pub mod EndLemmas
 pub mod FewLemmas
+pub mod FinalLemmas
+pub mod FirstLemmas
+pub mod FrontLemmas
 pub mod GroupLemmas
 pub mod GrowLemmas
 pub mod InLayers

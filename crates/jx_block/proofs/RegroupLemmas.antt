@@ -192,7 +192,7 @@ no_segments b sound e =
     let none : b.pieces ≡ [] = none_left b.style.bits 0 0 b.passes b.pieces sound.pieces (omega arith) in
     segments_are b.style.bits 0 b.passes b.pieces sound.pieces ∙ ap (groups b.style.bits) none
 
-kept_sends : (b : Block) (ends : List LayerEnd) → IsSound b → Sends b.style.bits b.passes (own_segments b) (sent_in b None ends (own_segments b))
+pub kept_sends : (b : Block) (ends : List LayerEnd) → IsSound b → Sends b.style.bits b.passes (own_segments b) (sent_in b None ends (own_segments b))
 kept_sends b ends sound = record {
   cut = λ (n : ℕ) (lt : n < b.passes) ended.
       at_cut b ends n sound (omega arith) (inr (inr ended))
@@ -211,7 +211,7 @@ kept_sends b ends sound = record {
       | inr ne ↦ looks_cut b.style.bits b.passes 0 (own_segments b) (own_looked b) ne (or_left (0 == 0) (end_pass b.style.bits (0 - 1)) refl)
     ]
 
-kept_have : (b : Block) (ends : List LayerEnd) (r : Recoding) → Some r ≡ recoding b None ends → HaveBytes (sent_in b None ends (own_segments b)) (concat (own_segments b)) (pieces_of r)
+pub kept_have : (b : Block) (ends : List LayerEnd) (r : Recoding) → Some r ≡ recoding b None ends → HaveBytes (sent_in b None ends (own_segments b)) (concat (own_segments b)) (pieces_of r)
 unfolding recoding
 kept_have b ends r e =
     let is : r ≡ recoding_of b None ends (own_segments b) = some_same r (recoding_of b None ends (own_segments b)) e in
