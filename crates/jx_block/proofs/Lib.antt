@@ -1,3 +1,4 @@
+pub mod AgreeLemmas
 pub mod AnewLemmas
 pub mod AnewParts
 pub mod BelowLemmas
@@ -7,6 +8,7 @@ pub mod CopyLemmas
 pub mod CutLemmas
 pub mod DecideLemmas
 pub mod DropLemmas
+pub mod EarlyLemmas
 pub mod EndLemmas
 pub mod FewLemmas
 pub mod FinalLemmas
@@ -32,5 +34,6 @@ pub mod SentLemmas
 pub mod ShareLemmas
 pub mod SoundLemmas
 pub mod TestLemmas
+pub mod TwinLemmas
 pub mod WithinLemmas
 pub mod WrittenLemmas

@@ -86,7 +86,7 @@ opened_same : (style pass : ℕ) (ss : List (List ℕ)) (d : Decoding) → begin
     → d.reading.segment ≡ get_or ss (ends_below style pass) [] → Within style pass ss (opened style pass d)
 opened_same style pass ss d old e f = rw old (record { rest = e; here = f })
 
-opened_within : (style pass : ℕ) (ss : List (List ℕ)) (d : Decoding) → Before style pass ss d → Within style pass ss (opened style pass d)
+pub opened_within : (style pass : ℕ) (ss : List (List ℕ)) (d : Decoding) → Before style pass ss d → Within style pass ss (opened style pass d)
 opened_within style zero ss d h = opened_fresh style 0 ss d refl h.rest
 opened_within style (suc m) ss d h =
     let back : suc m - 1 ≡ m = omega arith in
@@ -162,7 +162,7 @@ pass_next c pass ss d h =
     within_next c pass ss (opened c.style pass d) (opened_within c.style pass ss d h.before) (ap (λ (l : List ℕ). length l) same ∙ h.long)
     (subst (λ (l : List ℕ). AreFew c.style ss l) (sym same) h.few)
 
-all_next : (c : Coding) (count pass : ℕ) (ss : List (List ℕ)) (d : Decoding) → Decodes c.style pass ss d → Decodes c.style (pass + count) ss (read_from c count pass d)
+pub all_next : (c : Coding) (count pass : ℕ) (ss : List (List ℕ)) (d : Decoding) → Decodes c.style pass ss d → Decodes c.style (pass + count) ss (read_from c count pass d)
 unfolding read_from
 all_next c zero pass ss d h = let e : pass + 0 ≡ pass = omega arith in rw e h
 all_next c (suc count) pass ss d h =

@@ -83,7 +83,7 @@ fresh_seen raw segment r = begun_seen segment
 min_grows : (a b n : ℕ) → a ≤ b → min a n ≤ min b n
 min_grows a b n le = omega arith
 
-after_grows : (r : Reading) (label : ℕ) → IsSeen r.mq → Grows r (after_bit r label)
+pub after_grows : (r : Reading) (label : ℕ) → IsSeen r.mq → Grows r (after_bit r label)
 after_grows r label h = elim (cases_Bool r.raw) [
   | inl t ↦
       let fewer : length (drop 1 r.left) ≡ length r.left - 1 = length-drop 1 r.left in

@@ -124,7 +124,7 @@ less_grows segment m n le = elim (cases_eq m n) [
   | inr other ↦ let a = less_most segment m in let b = less_most segment n in omega (arith, a.0, b.1)
 ]
 
-looked_on : (style passes : ℕ) (looked : List ℕ) (i d : ℕ) → AreGrowing style passes looked → i + d < passes
+pub looked_on : (style passes : ℕ) (looked : List ℕ) (i d : ℕ) → AreGrowing style passes looked → i + d < passes
     → ((k : ℕ) → i ≤ k → k < i + d → end_pass style k ≡ false) → get_or looked i 0 ≤ get_or looked (i + d) 0
 looked_on style passes looked i zero grows lt flat = let e : i + 0 ≡ i = omega arith in rw e (omega arith)
 looked_on style passes looked i (suc d) grows lt flat =
