@@ -17,7 +17,7 @@ use Rattle.jx_block.specs.Recoding.{Recoding, coding_in, decoded_in, has_own_end
 use Rattle.jx_block.specs.Segments.{bytes_before, ends_below, segments_of, sent_by_looks, sent_by_pieces}
 use Rattle.jx_block.specs.Written.{block_with, is_wrong, style_for, written_in}
 use Rattle.jx_block.proofs.BelowLemmas.{asked_below, below_are, below_have, below_most, front_segments, sent_most}
-use Rattle.jx_block.proofs.FirstLemmas.{CutLaws, IsSent, front_final, is_sent, none_decoded}
+use Rattle.jx_block.proofs.FirstLemmas.{IsSent, front_final, is_sent, none_decoded}
 use Rattle.jx_block.proofs.FrontLemmas.{front}
 use Rattle.jx_block.proofs.InLayers.{in_made}
 use Rattle.jx_block.proofs.KeptLemmas.{part_for, pieces_same}
@@ -82,9 +82,9 @@ module _ (b : Block) (style : Option Style) (ends : List LayerEnd) (r : Recoding
       below_segments (new_style b style) b.passes s.segments (sent_in b style ends s.segments) s.sends m n (pieces_of r) (all_sound b style ends r asked is) s.have e some
 
   -- the values that they have in the end
-  pub made_final : CutLaws → (n : ℕ) → passes_below m (pieces_of r) ≡ n → is_kept_whole b style ends ≡ false
+  pub made_final : (n : ℕ) → passes_below m (pieces_of r) ≡ n → is_kept_whole b style ends ≡ false
       → first_cells m (block_with b (Some r)) ≡ cells_after n (block_with b (Some r))
-  made_final laws n e kept =
+  made_final n e kept =
       let bits : ℕ = new_style b style in
       let s = is_sent b style ends r asked is in
       let in_bits : r.style ≡ bits = made_style b style ends r is in
@@ -99,7 +99,7 @@ module _ (b : Block) (style : Option Style) (ends : List LayerEnd) (r : Recoding
         | inr some ↦
             let most = made_most in
             ap (λ (ss : List (List ℕ)). (decoded_first b bits ss n).cells) (made_segments n e (omega arith) s)
-            ∙ front_final laws (length_of b.rect.x) (length_of b.rect.y) (coding_in b bits) b.passes s.segments (sent_in b style ends s.segments) s.sends
+            ∙ front_final (length_of b.rect.x) (length_of b.rect.y) (coding_in b bits) b.passes s.segments (sent_in b style ends s.segments) s.sends
             (λ (k : ℕ). cond-false (is_kept_whole b style ends) (sent_by_pieces b.pieces k) (sent_by_looks bits b.passes s.segments (decoded_in b bits s.segments).looked k) kept)
             n (omega arith) (omega arith)
       ] in
@@ -167,15 +167,15 @@ made_same keeps b (Some style) ends r n asked is le values =
     after_are n b style.bits r (made_style b (Some style) ends r is) ∙ values_are ∙ sym (after_own n b)
 
 -- ---- as it is written
-pub first_layers : CutLaws → FirstKeeps → (asked : Option Style) (ends : List LayerEnd) (b : Block) (layer : ℕ) → IsAsked b (style_for asked b) ends → is_wrong asked b ≡ false
+pub first_layers : FirstKeeps → (asked : Option Style) (ends : List LayerEnd) (b : Block) (layer : ℕ) → IsAsked b (style_for asked b) ends → is_wrong asked b ≡ false
     → HasFirstLayers asked ends b layer
-first_layers laws keeps asked ends b layer may right = record {
+first_layers keeps asked ends b layer may right = record {
   passes =
       in_made (λ (c : Block). passes_below layer c.pieces ≡ sent_below layer ends) asked ends b right
       (λ (r : Recoding) made. made_below b (style_for asked b) ends r may made layer);
   final =
       in_made (λ (c : Block). is_kept_whole b (style_for asked b) ends ≡ false → first_cells layer c ≡ cells_after (sent_below layer ends) c) asked ends b right
-      (λ (r : Recoding) made kept. made_final b (style_for asked b) ends r may made layer laws (sent_below layer ends) (made_below b (style_for asked b) ends r may made layer) kept);
+      (λ (r : Recoding) made kept. made_final b (style_for asked b) ends r may made layer (sent_below layer ends) (made_below b (style_for asked b) ends r may made layer) kept);
   own =
       in_made (λ (c : Block). is_kept_whole b (style_for asked b) ends ≡ true → (before : ℕ) → sent_below layer ends ≡ passes_below before b.pieces → first_cells layer c ≡ first_cells before b)
       asked ends b right

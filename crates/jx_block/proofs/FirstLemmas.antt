@@ -19,6 +19,7 @@ use Rattle.jx_block.specs.Written.{block_with}
 use Rattle.jx_block.proofs.AnewLemmas.{anew}
 use Rattle.jx_block.proofs.AnewParts.{anew_have, anew_segments, anew_sends}
 use Rattle.jx_block.proofs.BelowLemmas.{below_are, below_have, below_most, front_segments}
+use Rattle.jx_block.proofs.EarlyLemmas.{cells_front, cut_short, looked_front}
 use Rattle.jx_block.proofs.EndLemmas.{below_ended, below_grows, below_still}
 use Rattle.jx_block.proofs.FrontLemmas.{front, front_whole, split_at}
 use Rattle.jx_block.proofs.MadeBlocks.{made_style}
@@ -26,16 +27,6 @@ use Rattle.jx_block.proofs.MadeJobs.{all_sound}
 use Rattle.jx_block.proofs.RegroupLemmas.{HaveBytes, Sends, kept_have, kept_segments, kept_sends}
 use Rattle.jx_block.proofs.RoomLemmas.{before_more}
 use Rattle.jx_block.proofs.WithinLemmas.{looks_in}
-
--- what is known of passes over segments that are cut: what they look at, and what they don't
-pub record CutLaws : Type 0 where
-  pub short : (w h : ℕ) (c : Coding) (before after : List (List ℕ)) (s : List ℕ) (passes n : ℕ) → 0 < passes → ends_below c.style (passes - 1) ≡ length before
-      → less_last_ff s (get_or (decoded w h c (before ++ s ∷ after) passes).looked (passes - 1) 0) ≡ n
-      → (decoded w h c (before ++ take n s ∷ []) passes).cells ≡ (decoded w h c (before ++ s ∷ after) passes).cells
-  pub looked : (w h : ℕ) (c : Coding) (segments : List (List ℕ)) (all i : ℕ) → i < all
-      → get_or (decoded w h c segments all).looked i 0 ≡ get_or (decoded w h c segments (i + 1)).looked i 0
-  pub whole : (w h : ℕ) (c : Coding) (before after : List (List ℕ)) (passes : ℕ) → ends_below c.style passes ≤ length before
-      → (decoded w h c (before ++ after) passes).cells ≡ (decoded w h c before passes).cells
 
 -- ---- what is made of a block, by its segments and what is sent of them
 pub record IsSent (b : Block) (style : Option Style) (ends : List LayerEnd) (r : Recoding) : Type 0 where
@@ -64,7 +55,7 @@ unfolding decoded read_from
 none_decoded w h c d ss others n e = rw e refl
 
 -- ---- the first passes over the segments as far as they are sent
-module _ (laws : CutLaws) (w h : ℕ) (c : Coding) (passes : ℕ) (ss : List (List ℕ)) (sent : ℕ → ℕ) (sends : Sends c.style passes ss sent)
+module _ (w h : ℕ) (c : Coding) (passes : ℕ) (ss : List (List ℕ)) (sent : ℕ → ℕ) (sends : Sends c.style passes ss sent)
     (looks : (n : ℕ) → sent n ≡ sent_by_looks c.style passes ss (decoded w h c ss passes).looked n) where
 
   module _ (n : ℕ) (some : 1 ≤ n) (within : n ≤ passes) where
@@ -110,7 +101,7 @@ module _ (laws : CutLaws) (w h : ℕ) (c : Coding) (passes : ℕ) (ss : List (Li
         let split : whole ++ drop (last + 1) ss ≡ ss =
         append_assoc (take last ss) (get_or ss last [] ∷ []) (drop (last + 1) ss) ∙ split_at ss last there in
         ap (λ (qs : List (List ℕ)). (decoded w h c qs n).cells) (all_sent (sends.cut n lt ended ∙ ap (bytes_before ss) up))
-        ∙ sym (laws.whole w h c whole (drop (last + 1) ss) n (omega arith))
+        ∙ sym (cells_front w h c whole (drop (last + 1) ss) n (omega arith) ended (omega arith))
         ∙ ap (λ (qs : List (List ℕ)). (decoded w h c qs n).cells) split
       where
         joined_long : (qs : List (List ℕ)) (a : ℕ) → a < length qs → length (take a qs ++ get_or qs a [] ∷ []) ≡ a + 1
@@ -130,12 +121,12 @@ module _ (laws : CutLaws) (w h : ℕ) (c : Coding) (passes : ℕ) (ss : List (Li
         sum ∙ ap (λ (k : ℕ). bytes_before ss k + less_last_ff (get_or ss k []) (get_or (decoded w h c ss passes).looked (n - 1) 0)) still in
         let split : take last ss ++ segment ∷ drop (last + 1) ss ≡ ss = split_at ss last there in
         let seen : get_or (decoded w h c ss passes).looked (n - 1) 0 ≡ get_or (decoded w h c (take last ss ++ segment ∷ drop (last + 1) ss) n).looked (n - 1) 0 =
-        laws.looked w h c ss passes (n - 1) (omega arith)
+        looked_front w h c ss passes (n - 1) (omega arith)
         ∙ ap (λ (k : ℕ). get_or (decoded w h c ss k).looked (n - 1) 0) back
         ∙ ap (λ (qs : List (List ℕ)). get_or (decoded w h c qs n).looked (n - 1) 0) (sym split) in
         let count : less_last_ff segment (get_or (decoded w h c ss passes).looked (n - 1) 0) ≡ short = omega arith in
         let long : ends_below c.style (n - 1) ≡ length (take last ss) = sym (length-take-le last ss (omega (arith, there))) in
-        laws.short w h c (take last ss) (drop (last + 1) ss) segment n short (omega arith) long (ap (less_last_ff segment) (sym seen) ∙ count)
+        cut_short w h c (take last ss) (drop (last + 1) ss) segment n short (omega arith) long (ap (less_last_ff segment) (sym seen) ∙ count)
         ∙ ap (λ (qs : List (List ℕ)). (decoded w h c qs n).cells) split
 
     pub front_final : (decoded w h c (front ss last short) n).cells ≡ (decoded w h c ss n).cells

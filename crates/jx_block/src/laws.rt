@@ -204,8 +204,5 @@ pub fn first_layers_are_final()
     ensures { (asked : Option Style) → (ends : List LayerEnd) → (b : Block) → (layer : ℕ) → IsAsked b (style_for asked b) ends → is_wrong asked b ≡ false →
         HasFirstLayers asked ends b layer }
 {
-    jx_mq::laws::decisions_depend_on_bytes_looked_at();
-    jx_mq::laws::lists_go_on();
-    jx_raw::laws::raw_bits_one_by_one();
     coded_anew_keeps_coefficients();
 }
