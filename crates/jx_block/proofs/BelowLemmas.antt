@@ -1,12 +1,10 @@
 -- The pieces of the layers below one: they are a block's first pieces, and have its first segments, the last of them as far as its bytes
 -- are sent.
-use Rattle.std.proofs.Common.{◌≡◌, ℕ, zero, suc, ◌+◌, ◌-◌, ◌<◌, ◌≤◌, max, nat_lt, true, false, List, [], ◌∷◌, ◌++◌, inl, inr, ◌∙◌, ap, sym, subst, refl, arith, length, map, take, drop, get_or}
-use Rattle.std.specs.Prelude.{if◌then◌else◌}
+use Rattle.std.proofs.Common.{◌≡◌, ℕ, ◌+◌, ◌-◌, ◌<◌, ◌≤◌, max, nat_lt, true, false, List, [], ◌∷◌, ◌++◌, inl, inr, ◌∙◌, ap, sym, subst, refl, arith, length, take, drop, get_or}
 use Rattle.std.specs.List.{All, concat}
 use Rattle.std.proofs.lemmas.Bool.{cases_lt, cond-true, cond-false, lt-ltb, le-ltb}
 use Rattle.std.proofs.lemmas.List.{drop-take, take-take}
 use Rattle.std.proofs.lemmas.List.Elements.{All-nil, All-cons, All-head, All-tail}
-use Rattle.jx_base.specs.Passes.{end_pass}
 use Rattle.jx_base.specs.Pieces.{PieceValue, ArePieces, IsInOneSegment}
 use Rattle.jx_head.specs.Parts.{cut}
 use Rattle.jx_block.specs.declared.LayerEnd.{LayerEnd}

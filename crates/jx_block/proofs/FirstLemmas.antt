@@ -6,24 +6,16 @@ use Rattle.std.proofs.lemmas.List.{append_assoc, length-take-le}
 use Rattle.jx_base.specs.declared.pieces.Block.{Block}
 use Rattle.jx_base.specs.declared.style.Style.{Style}
 use Rattle.jx_base.specs.Passes.{end_pass}
-use Rattle.jx_base.specs.Pieces.{ArePieces, PieceValue}
-use Rattle.jx_base.specs.Places.{length_of}
-use Rattle.jx_grid.specs.Reading.{Coding, Decoding, decoded, read_from}
+use Rattle.jx_grid.specs.Reading.{Coding, decoded, read_from}
 use Rattle.jx_block.specs.declared.LayerEnd.{LayerEnd}
-use Rattle.jx_block.specs.FirstLayers.{cells_after, first_cells, pieces_below}
 use Rattle.jx_block.specs.Jobs.{IsAsked}
-use Rattle.jx_block.specs.Laws.{decoded_first, passes_below}
-use Rattle.jx_block.specs.Recoding.{Recoding, coding_in, decoded_in, is_kept_whole, new_style, own_segments, pieces_of, recoding, sent_in}
+use Rattle.jx_block.specs.Recoding.{Recoding, new_style, own_segments, pieces_of, recoding, sent_in}
 use Rattle.jx_block.specs.Segments.{bytes_before, ends_below, less_last_ff, segments_of, sent_by_looks}
-use Rattle.jx_block.specs.Written.{block_with}
 use Rattle.jx_block.proofs.AnewLemmas.{anew}
 use Rattle.jx_block.proofs.AnewParts.{anew_have, anew_segments, anew_sends}
-use Rattle.jx_block.proofs.BelowLemmas.{below_are, below_have, below_most, front_segments}
 use Rattle.jx_block.proofs.EarlyLemmas.{cells_front, cut_short, looked_front}
 use Rattle.jx_block.proofs.EndLemmas.{below_ended, below_grows, below_still}
 use Rattle.jx_block.proofs.FrontLemmas.{front, front_whole, split_at}
-use Rattle.jx_block.proofs.MadeBlocks.{made_style}
-use Rattle.jx_block.proofs.MadeJobs.{all_sound}
 use Rattle.jx_block.proofs.RegroupLemmas.{HaveBytes, Sends, kept_have, kept_segments, kept_sends}
 use Rattle.jx_block.proofs.RoomLemmas.{before_more}
 use Rattle.jx_block.proofs.WithinLemmas.{looks_in}
