@@ -1,5 +1,5 @@
 -- What a decoder makes of the first layers of a block that is written: the values that its passes have in the end.
-use Rattle.std.proofs.Common.{◌≡◌, ℕ, zero, suc, ◌+◌, ◌-◌, ◌<◌, ◌≤◌, ◌==◌, ◌||◌, Bool, true, false, List, [], ◌∷◌, ◌++◌, inl, inr, ◌∙◌, ap, sym, refl, arith, length, take, drop, get_or, Option, Some, None}
+use Rattle.std.proofs.Common.{◌≡◌, ℕ, ◌+◌, ◌-◌, ◌<◌, ◌≤◌, ◌==◌, ◌||◌, Bool, true, false, List, [], ◌∷◌, ◌++◌, inl, inr, ◌∙◌, ap, sym, refl, arith, length, take, drop, get_or, Option, Some, None}
 use Rattle.std.specs.List.{concat}
 use Rattle.std.proofs.lemmas.Bool.{cases_eq, cases_Bool, ne_eqb}
 use Rattle.std.proofs.lemmas.List.{append_assoc, length-take-le}
@@ -15,8 +15,8 @@ use Rattle.jx_block.proofs.AnewLemmas.{anew}
 use Rattle.jx_block.proofs.AnewParts.{anew_have, anew_segments, anew_sends}
 use Rattle.jx_block.proofs.EarlyLemmas.{cells_front, cut_short, looked_front}
 use Rattle.jx_block.proofs.EndLemmas.{below_ended, below_grows, below_still}
-use Rattle.jx_block.proofs.FrontLemmas.{front, front_whole, split_at}
-use Rattle.jx_block.proofs.RegroupLemmas.{HaveBytes, Sends, kept_have, kept_segments, kept_sends}
+use Rattle.jx_block.proofs.FrontLemmas.{front, front_long, front_whole, split_at}
+use Rattle.jx_block.proofs.RegroupLemmas.{HaveBytes, Sends, drop_past, kept_have, kept_segments, kept_sends}
 use Rattle.jx_block.proofs.RoomLemmas.{before_more}
 use Rattle.jx_block.proofs.WithinLemmas.{looks_in}
 
@@ -49,7 +49,6 @@ none_decoded w h c d ss others n e = rw e refl
 -- ---- the first passes over the segments as far as they are sent
 module _ (w h : ℕ) (c : Coding) (passes : ℕ) (ss : List (List ℕ)) (sent : ℕ → ℕ) (sends : Sends c.style passes ss sent)
     (looks : (n : ℕ) → sent n ≡ sent_by_looks c.style passes ss (decoded w h c ss passes).looked n) where
-
   module _ (n : ℕ) (some : 1 ≤ n) (within : n ≤ passes) where
     abbrev last : ℕ
     last = ends_below c.style (n - 1)
@@ -77,29 +76,20 @@ module _ (w h : ℕ) (c : Coding) (passes : ℕ) (ss : List (List ℕ)) (sent : 
         let long : length ss ≡ ends_below c.style (passes - 1) + 1 = sends.long (omega arith) in
         let same : ends_below c.style (passes - 1) ≡ last = ap (λ (k : ℕ). ends_below c.style (k - 1)) (sym e) in
         let count : length ss ≡ last + 1 = omega arith in
-        let none : drop (last + 1) ss ≡ [] = ap (λ (k : ℕ). drop k ss) (sym count) ∙ drop_all ss in
+        let none : drop (last + 1) ss ≡ [] = ap (λ (k : ℕ). drop k ss) (sym count) ∙ drop_past ss (length ss) (omega arith) in
         all_sent (ap sent e ∙ sends.all ∙ ap (bytes_before ss) count)
         ∙ ap (λ (rest : List (List ℕ)). take last ss ++ get_or ss last [] ∷ rest) (sym none) ∙ split_at ss last there
-      where
-        drop_all : (xs : List (List ℕ)) → drop (length xs) xs ≡ []
-        drop_all [] = refl
-        drop_all (x ∷ xs) = drop_all xs
 
     at_end : n < passes → end_pass c.style (n - 1) ≡ true → (decoded w h c (front ss last short) n).cells ≡ (decoded w h c ss n).cells
     at_end lt ended =
         let up : ends_below c.style n ≡ last + 1 = ap (ends_below c.style) (sym back) ∙ below_ended c.style (n - 1) ended in
         let whole : List (List ℕ) = take last ss ++ get_or ss last [] ∷ [] in
-        let long : length whole ≡ last + 1 = joined_long ss last there in
+        let long : length whole ≡ last + 1 = ap (λ (qs : List (List ℕ)). length qs) (sym (front_whole ss last)) ∙ front_long ss last (length (get_or ss last [])) there in
         let split : whole ++ drop (last + 1) ss ≡ ss =
         append_assoc (take last ss) (get_or ss last [] ∷ []) (drop (last + 1) ss) ∙ split_at ss last there in
         ap (λ (qs : List (List ℕ)). (decoded w h c qs n).cells) (all_sent (sends.cut n lt ended ∙ ap (bytes_before ss) up))
         ∙ sym (cells_front w h c whole (drop (last + 1) ss) n (omega arith) ended (omega arith))
         ∙ ap (λ (qs : List (List ℕ)). (decoded w h c qs n).cells) split
-      where
-        joined_long : (qs : List (List ℕ)) (a : ℕ) → a < length qs → length (take a qs ++ get_or qs a [] ∷ []) ≡ a + 1
-        joined_long [] a lt = absurd (omega arith)
-        joined_long (q ∷ qs) zero lt = refl
-        joined_long (q ∷ qs) (suc a) lt = let more : length (take a qs ++ get_or qs a [] ∷ []) ≡ a + 1 = joined_long qs a (omega arith) in omega arith
 
     at_look : n < passes → end_pass c.style (n - 1) ≡ false → (decoded w h c (front ss last short) n).cells ≡ (decoded w h c ss n).cells
     at_look lt flat =

@@ -3,21 +3,18 @@ use Rattle.std.proofs.Common.{◌≡◌, ℕ, zero, suc, ◌+◌, ◌-◌, ◌<�
 use Rattle.std.specs.List.{concat, sum_by}
 use Rattle.std.proofs.Math.Seq.{take-append-add, take-length}
 use Rattle.std.proofs.lemmas.Bool.{cases_eq, cases_Bool}
-use Rattle.std.proofs.lemmas.List.{length-take-le, take-append-le}
+use Rattle.std.proofs.lemmas.List.{length-take-le, take-append-drop, take-append-le}
 use Rattle.std.proofs.lemmas.List.Sums.{sum_by-cons}
 use Rattle.jx_base.specs.Passes.{end_pass}
 use Rattle.jx_base.specs.Pieces.{IsInOneSegment}
 use Rattle.jx_block.specs.Segments.{bytes_before, ends_below}
 use Rattle.jx_block.proofs.EndLemmas.{below_ended, below_still}
-use Rattle.jx_block.proofs.RegroupLemmas.{Sends}
-use Rattle.jx_block.proofs.SentLemmas.{all_before}
+use Rattle.jx_block.proofs.RegroupLemmas.{Sends, drop_at}
+use Rattle.jx_block.proofs.SentLemmas.{all_before, before_next}
 
 -- ---- some segments, and the front of one more
 abbrev pub front : List (List ℕ) → ℕ → ℕ → List (List ℕ)
 front ss a k = take a ss ++ take k (get_or ss a []) ∷ []
-
-next_before : (s : List ℕ) (ss : List (List ℕ)) (i : ℕ) → bytes_before (s ∷ ss) (suc i) ≡ length s + bytes_before ss i
-next_before s ss i = sum_by-cons (λ (t : List ℕ). length t) s (take i ss)
 
 pub front_long : (ss : List (List ℕ)) (a k : ℕ) → a < length ss → length (front ss a k) ≡ a + 1
 front_long [] a k lt = absurd (omega arith)
@@ -29,13 +26,13 @@ front_before [] a k i lt le = absurd (omega arith)
 front_before (s ∷ ss) a k zero lt le = refl
 front_before (s ∷ ss) zero k (suc i) lt le = absurd (omega arith)
 front_before (s ∷ ss) (suc a) k (suc i) lt le =
-    next_before s (front ss a k) i ∙ ap (λ (n : ℕ). length s + n) (front_before ss a k i (omega arith) (omega arith)) ∙ sym (next_before s ss i)
+    before_next s (front ss a k) i ∙ ap (λ (n : ℕ). length s + n) (front_before ss a k i (omega arith) (omega arith)) ∙ sym (before_next s ss i)
 
 front_total : (ss : List (List ℕ)) (a k : ℕ) → a < length ss → k ≤ length (get_or ss a []) → sum_by (λ (t : List ℕ). length t) (front ss a k) ≡ bytes_before ss a + k
 front_total [] a k lt le = absurd (omega arith)
 front_total (s ∷ ss) zero k lt le = sum_by-cons (λ (t : List ℕ). length t) (take k s) [] ∙ omega (arith, length-take-le k s le)
 front_total (s ∷ ss) (suc a) k lt le =
-    sum_by-cons (λ (t : List ℕ). length t) s (front ss a k) ∙ omega (arith, front_total ss a k (omega arith) le, next_before s ss a)
+    sum_by-cons (λ (t : List ℕ). length t) s (front ss a k) ∙ omega (arith, front_total ss a k (omega arith) le, before_next s ss a)
 
 pub front_all : (ss : List (List ℕ)) (a k : ℕ) → a < length ss → k ≤ length (get_or ss a []) → bytes_before (front ss a k) (length (front ss a k)) ≡ bytes_before ss a + k
 front_all ss a k lt le = all_before (front ss a k) ∙ front_total ss a k lt le
@@ -46,7 +43,7 @@ front_bytes (s ∷ ss) zero k lt le =
     let all : k ≡ 0 + k = omega arith in
     append-nil (take k s) ∙ sym (take-append-le k s (concat ss) le) ∙ ap (λ (m : ℕ). take m (s ++ concat ss)) all
 front_bytes (s ∷ ss) (suc a) k lt le =
-    let n : bytes_before (s ∷ ss) (suc a) + k ≡ length s + (bytes_before ss a + k) = omega (arith, next_before s ss a) in
+    let n : bytes_before (s ∷ ss) (suc a) + k ≡ length s + (bytes_before ss a + k) = omega (arith, before_next s ss a) in
     ap (λ (bs : List ℕ). s ++ bs) (front_bytes ss a k (omega arith) le)
     ∙ sym (take-append-add s (concat ss) (bytes_before ss a + k))
     ∙ ap (λ (m : ℕ). take m (s ++ concat ss)) (sym n)
@@ -56,11 +53,7 @@ pub front_whole : (ss : List (List ℕ)) (a : ℕ) → front ss a (length (get_o
 front_whole ss a = ap (λ (s : List ℕ). take a ss ++ s ∷ []) (take-length (get_or ss a []))
 
 pub split_at : (ss : List (List ℕ)) (a : ℕ) → a < length ss → take a ss ++ get_or ss a [] ∷ drop (a + 1) ss ≡ ss
-split_at [] a lt = absurd (omega arith)
-split_at (s ∷ ss) zero lt = refl
-split_at (s ∷ ss) (suc a) lt =
-    let e : suc a + 1 ≡ suc (a + 1) = omega arith in
-    ap (λ (n : ℕ). s ∷ (take a ss ++ get_or ss a [] ∷ drop n (s ∷ ss))) e ∙ ap (λ (rest : List (List ℕ)). s ∷ rest) (split_at ss a (omega arith))
+split_at ss a lt = ap (λ (rest : List (List ℕ)). take a ss ++ rest) (sym (drop_at ss a lt)) ∙ take-append-drop a ss
 
 -- ---- where the segment of a pass begins
 record Begins (style pass : ℕ) : Type 0 where
@@ -77,12 +70,12 @@ begins_at style (suc pass) =
     let back : suc pass - 1 ≡ pass = omega arith in
     elim (cases_Bool (end_pass style pass)) [
       | inl t ↦ record {
-          at = suc pass;
-          low = omega arith;
-          one = λ (k : ℕ) le lt. absurd (omega arith);
-          same = refl;
-          is = inr (ap (λ (n : ℕ). end_pass style n) back ∙ t);
-        }
+        at = suc pass;
+        low = omega arith;
+        one = λ (k : ℕ) le lt. absurd (omega arith);
+        same = refl;
+        is = inr (ap (λ (n : ℕ). end_pass style n) back ∙ t);
+      }
       | inr f ↦
           let b = begins_at style pass in
           let low : b.at ≤ pass = b.low in
@@ -118,13 +111,13 @@ stops_at style passes n zero some e = record {
 }
 stops_at style passes n (suc left) some e = elim (cases_Bool (end_pass style (n - 1))) [
   | inl t ↦ record {
-      at = n;
-      high = omega arith;
-      within = omega arith;
-      flat = λ (k : ℕ) le lt. absurd (omega arith);
-      same = refl;
-      is = inr t;
-    }
+    at = n;
+    high = omega arith;
+    within = omega arith;
+    flat = λ (k : ℕ) le lt. absurd (omega arith);
+    same = refl;
+    is = inr t;
+  }
   | inr f ↦
       let s = stops_at style passes (n + 1) left (omega arith) (omega arith) in
       let high : n + 1 ≤ s.at = s.high in

@@ -10,30 +10,16 @@ use Rattle.jx_block.specs.declared.LayerEnd.{LayerEnd}
 use Rattle.jx_block.specs.Jobs.{AreEnds, IsAsked}
 use Rattle.jx_block.specs.Laws.{AreCutInLayers, asked_at, passes_at}
 use Rattle.jx_block.specs.Recoding.{Recoding, layer_ends, new_style, pieces_of, recoding}
-use Rattle.jx_block.specs.Written.{block_with, is_wrong, own_cells, style_for, written_as, written_in}
+use Rattle.jx_block.specs.Written.{block_with, is_wrong, own_cells, style_for, written_in}
 use Rattle.jx_block.proofs.GroupLemmas.{none_left}
-use Rattle.jx_block.proofs.MadeBlocks.{AnewKeeps, made_cells, made_cut, made_ends, made_layers, made_sound, made_style, right_makes_some, style_asked}
+use Rattle.jx_block.proofs.MadeBlocks.{AnewKeeps, in_has, made_cells, made_cut, made_ends, made_layers, made_sound, made_style, right_makes_some, style_asked}
 use Rattle.jx_block.proofs.MadeJobs.{all_sound}
 use Rattle.jx_block.proofs.ShareLemmas.{share, share_is}
 
--- ---- what holds of the block where nothing is made of it, and of it with all that is made of it
-pub in_has : (P : Block → Type 0) (asked : Option Style) (ends : List LayerEnd) (b : Block) → (recoding b (style_for asked b) ends ≡ None → P b)
-    → ((r : Recoding) → Some r ≡ recoding b (style_for asked b) ends → P (block_with b (Some r))) → P (written_in asked ends b)
-unfolding written_in
-in_has P asked ends b kept made = by (recoding b (style_for asked b) ends) refl
-  where
-    by : (found : Option Recoding) → found ≡ recoding b (style_for asked b) ends → P (block_with b found)
-    by None h = kept (sym h)
-    by (Some r) h = made r h
-
--- the same where something is made of it
+-- ---- what holds of it where something is made of it
 pub in_made : (P : Block → Type 0) (asked : Option Style) (ends : List LayerEnd) (b : Block) → is_wrong asked b ≡ false
     → ((r : Recoding) → Some r ≡ recoding b (style_for asked b) ends → P (block_with b (Some r))) → P (written_in asked ends b)
 in_made P asked ends b right made = in_has P asked ends b (λ none. absurd (right_makes_some asked b ends right none)) made
-
-pub in_own : (asked : Option Style) (b : Block) → written_as asked b ≡ written_in asked (layer_ends b.pieces) b
-unfolding written_as written_in
-in_own asked b = refl
 
 -- ---- the block
 pub in_same : {X : Type 0} (f : Block → X) (asked : Option Style) (ends : List LayerEnd) (b : Block) → ((r : Recoding) → f (block_with b (Some r)) ≡ f b)

@@ -13,7 +13,7 @@ use Rattle.jx_block.specs.Jobs.{IsAsked, KeepsCausal}
 use Rattle.jx_block.specs.Laws.{AreCutInLayers, passes_at}
 use Rattle.jx_block.specs.Recoding.{Recoding, decoded_in, layer_ends, new_segments, new_style, option_recoding, own_segments, pieces_of, recoding, recoding_of, sent_in, wrong_in}
 use Rattle.jx_block.specs.Segments.{segments_of}
-use Rattle.jx_block.specs.Written.{block_with, is_wrong, own_cells, style_for, written_as}
+use Rattle.jx_block.specs.Written.{block_with, is_wrong, own_cells, style_for, written_as, written_in}
 use Rattle.jx_block.proofs.AnewLemmas.{kept_some, right_some, wrong_none}
 use Rattle.jx_block.proofs.AnewParts.{anew_segments}
 use Rattle.jx_block.proofs.CutLemmas.{cut_in_layers}
@@ -135,14 +135,22 @@ pub may_ask : (b : Block) (style : Option Style) → IsSound b → KeepsCausal b
 may_ask b style sound causal = record { sound = sound; layers = own_ends_rise b.style.bits 0 0 b.passes b.pieces sound.pieces; causal = causal }
 
 -- what holds of the block where nothing is made of it, and of it with all that is made of it
-pub written_has : (P : Block → Type 0) (asked : Option Style) (b : Block) → (recoding b (style_for asked b) (layer_ends b.pieces) ≡ None → P b)
-    → ((r : Recoding) → Some r ≡ recoding b (style_for asked b) (layer_ends b.pieces) → P (block_with b (Some r))) → P (written_as asked b)
-unfolding written_as
-written_has P asked b kept made = by (recoding b (style_for asked b) (layer_ends b.pieces)) refl
+pub in_has : (P : Block → Type 0) (asked : Option Style) (ends : List LayerEnd) (b : Block) → (recoding b (style_for asked b) ends ≡ None → P b)
+    → ((r : Recoding) → Some r ≡ recoding b (style_for asked b) ends → P (block_with b (Some r))) → P (written_in asked ends b)
+unfolding written_in
+in_has P asked ends b kept made = by (recoding b (style_for asked b) ends) refl
   where
-    by : (found : Option Recoding) → found ≡ recoding b (style_for asked b) (layer_ends b.pieces) → P (block_with b found)
+    by : (found : Option Recoding) → found ≡ recoding b (style_for asked b) ends → P (block_with b found)
     by None h = kept (sym h)
     by (Some r) h = made r h
+
+pub in_own : (asked : Option Style) (b : Block) → written_as asked b ≡ written_in asked (layer_ends b.pieces) b
+unfolding written_as written_in
+in_own asked b = refl
+
+pub written_has : (P : Block → Type 0) (asked : Option Style) (b : Block) → (recoding b (style_for asked b) (layer_ends b.pieces) ≡ None → P b)
+    → ((r : Recoding) → Some r ≡ recoding b (style_for asked b) (layer_ends b.pieces) → P (block_with b (Some r))) → P (written_as asked b)
+written_has P asked b kept made = subst P (sym (in_own asked b)) (in_has P asked (layer_ends b.pieces) b kept made)
 
 pub written_cells : AnewKeeps → (asked : Option Style) (b : Block) → IsSound b → KeepsCausal b (style_for asked b) → own_cells (written_as asked b) ≡ own_cells b
 written_cells keeps asked b sound causal =

@@ -44,14 +44,14 @@ two_parts x y z bytes le le' =
     let e : drop (y - x) (drop x bytes) ≡ drop y bytes = drop-drop (y - x) x bytes ∙ ap (λ (k : ℕ). drop k bytes) there in
     sym (ap (λ (k : ℕ). take k (drop x bytes)) sum ∙ take-add (y - x) (z - y) (drop x bytes) ∙ ap (λ (xs : List ℕ). take (y - x) (drop x bytes) ++ take (z - y) xs) e)
 
-drop_at : (ss : List (List ℕ)) (a : ℕ) → a < length ss → drop a ss ≡ get_or ss a [] ∷ drop (a + 1) ss
+pub drop_at : (ss : List (List ℕ)) (a : ℕ) → a < length ss → drop a ss ≡ get_or ss a [] ∷ drop (a + 1) ss
 drop_at [] a lt = absurd (omega arith)
 drop_at (s ∷ ss) zero lt = refl
 drop_at (s ∷ ss) (suc a) lt =
     let e : suc a + 1 ≡ suc (a + 1) = omega arith in
     drop_at ss a (omega arith) ∙ ap (λ (k : ℕ). get_or ss a [] ∷ drop k (s ∷ ss)) (sym e)
 
-drop_past : (ss : List (List ℕ)) (a : ℕ) → length ss ≤ a → drop a ss ≡ []
+pub drop_past : (ss : List (List ℕ)) (a : ℕ) → length ss ≤ a → drop a ss ≡ []
 drop_past [] zero le = refl
 drop_past [] (suc a) le = refl
 drop_past (s ∷ ss) zero le = absurd (omega arith)

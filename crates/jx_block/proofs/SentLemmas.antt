@@ -88,7 +88,7 @@ table_at style layer passes (suc k) ps are le =
     rows_at style layer 0 passes 0 k ps are (omega arith) ∙ ap (λ (n : ℕ). 0 + sent_by_pieces ps n) e ∙ omega arith
 
 -- ---- by segments
-before_next : (s : List ℕ) (ss : List (List ℕ)) (k : ℕ) → bytes_before (s ∷ ss) (suc k) ≡ length s + bytes_before ss k
+pub before_next : (s : List ℕ) (ss : List (List ℕ)) (k : ℕ) → bytes_before (s ∷ ss) (suc k) ≡ length s + bytes_before ss k
 before_next s ss k = sum_by-cons (λ (t : List ℕ). length t) s (take k ss)
 
 onto_before : (bytes : List ℕ) (ss : List (List ℕ)) (k : ℕ) → bytes_before (onto_first bytes ss) (suc k) ≡ length bytes + bytes_before ss (suc k)

@@ -1,6 +1,7 @@
 use Rattle.std.proofs.Common.{ℕ, ◌<◌, refl}
 use Rattle.jx_base.specs.declared.pieces.Block.{Block}
-use Rattle.jx_block.proofs.InLayers.{in_cells, in_cut, in_each, in_empty, in_ends, in_kept, in_layers, in_own, in_same, in_sound, in_style}
+use Rattle.jx_block.proofs.InLayers.{in_cells, in_cut, in_each, in_empty, in_ends, in_kept, in_layers, in_same, in_sound, in_style}
+use Rattle.jx_block.proofs.MadeBlocks.{in_own}
 use Rattle.jx_block.proofs.laws.written_in_layers.Goals as goal
 
 pub returns-clause-own : goal.returns-clause-own
