@@ -10,11 +10,8 @@ use Rattle.jx_base.specs.Passes.{is_causal}
 use Rattle.jx_base.specs.Sound.{IsSound}
 use Rattle.jx_block.specs.declared.job.Job.{Job}
 use Rattle.jx_block.specs.Jobs.{IsAsked, KeepsCausal}
-use Rattle.jx_block.specs.Recoding.{layer_ends}
 use Rattle.jx_block.specs.Written.{style_for}
-use Rattle.jx_block.proofs.KeptLemmas.{own_ends_rise}
 use Rattle.jx_layers.specs.Causal.{breaks_plane, differ}
-use Rattle.jx_layers.specs.Keeping.{IsKeptJob}
 use Rattle.jx_layers.specs.Layers.{IsJobOf}
 use Rattle.jx_layers.specs.Rule.{Rule}
 
@@ -98,10 +95,3 @@ pub asked_of : (style : Option Style) (rule : Rule) (layers : ℕ) (blocks : Lis
 asked_of style rule layers blocks number b job sound clear is =
     let asked : IsAsked b (style_for style b) job.ends = record { sound = sound; layers = is.ends; causal = kept style b clear } in
     rw (is.block_is, is.style_is) asked
-
-pub asked_kept : (style : Option Style) (blocks : List Block) (number : ℕ) (job : Job) → IsSound job.block.now → breaks_plane style job.block.now ≡ false → IsKeptJob style blocks number job
-    → IsAsked job.block.now job.style job.ends
-asked_kept style blocks number job sound clear is =
-    let b : Block = job.block.now in
-    let asked : IsAsked b (style_for style b) (layer_ends b.pieces) = record { sound = sound; layers = own_ends_rise b.style.bits 0 0 b.passes b.pieces sound.pieces; causal = kept style b clear } in
-    rw (is.style_is, is.ends) asked

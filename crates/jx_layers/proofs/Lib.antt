@@ -4,8 +4,10 @@ pub mod SpellLemmas
 pub mod SentLemmas
 pub mod LeftLemmas
 pub mod JobLemmas
-pub mod KeepingLemmas
 pub mod OneLemmas
 pub mod CrowdLemmas
+pub mod LayerLemmas
+pub mod WrittenLemmas
+pub mod LowestLemmas
 pub mod FactLemmas
 pub mod CausalLemmas

@@ -67,7 +67,7 @@ ends_below f low first n layers [] within are divide = All-nil (λ (e : LayerEnd
 ends_below f low first n layers (e ∷ ends) within are divide =
     All-cons (λ (x : LayerEnd). x.layer < layers) e ends (subst (λ k. k < layers) (divide.0 first (omega arith) are.1) (within first)) (ends_below f (e.layer + 1) e.passes n layers ends within are.2 divide.1)
 
-greatest_below : (g : ℕ → ℕ) (layers pass : ℕ) → ((k : ℕ) → g k < layers) → greatest_to g pass < layers
+pub greatest_below : (g : ℕ → ℕ) (layers pass : ℕ) → ((k : ℕ) → g k < layers) → greatest_to g pass < layers
 greatest_below g layers zero within = within 0
 greatest_below g layers (suc pass) within = omega (arith, greatest_below g layers pass within, within (suc pass))
 
@@ -77,6 +77,10 @@ layers_below style rule layers blocks number b job some is =
     (λ pass. greatest_below (answer_at rule layers blocks number b) layers pass (λ k. omega arith)) is.ends is.layers_are
 
 -- ---- kept layers
+-- the end of a layer of which a piece is the last
+abbrev pub end_of : PieceValue → LayerEnd
+end_of p = record { layer = p.layer; passes = p.first + p.passes }
+
 here : (p : PieceValue) (ps : List PieceValue) (pass : ℕ) → pass < p.first + p.passes → layer_in (p ∷ ps) pass ≡ p.layer
 here p ps pass lt = let test : nat_lt pass (p.first + p.passes) ≡ true = grind (arith, nat_tests) in rw test refl
 
@@ -143,10 +147,14 @@ keeps_pieces f style n (p ∷ ps) ends pieces same are divide =
     one_ends f 0 0 0 n ends (layer_ends (p ∷ ps)) are (own_ends_rise style 0 0 n (p ∷ ps) pieces) divide
     (own_divide f style 0 0 n p ps moved (λ pass from below. absurd (omega (arith, begins))) (λ pass from below. same pass below))
 
-pub keeps : (style : Option Style) (layers : ℕ) (blocks : List Block) (number : ℕ) (b : Block) (job : Job) → IsSound b → All (λ (p : PieceValue). p.layer < layers) b.pieces → IsJobOf style Keep layers blocks number b job
-    → job.ends ≡ layer_ends b.pieces
-keeps style layers blocks number b job sound all is =
+pub keeps_ends : (layers : ℕ) (blocks : List Block) (number : ℕ) (b : Block) (ends : List LayerEnd) → IsSound b → All (λ (p : PieceValue). p.layer < layers) b.pieces → AreEnds 0 0 b.passes ends
+    → Divide (layer_at Keep layers blocks number b) 0 ends → ends ≡ layer_ends b.pieces
+keeps_ends layers blocks number b ends sound all are divide =
     let cut : (k : ℕ) → min (layer_in b.pieces k) (layers - 1) ≡ layer_in b.pieces k = λ k. omega (arith, within layers b.pieces k all) in
     let rising : (k : ℕ) → suc k < b.passes → layer_in b.pieces k ≤ layer_in b.pieces (suc k) = λ k below. rises b.style.bits 0 0 b.passes b.pieces k sound.pieces below in
-    keeps_pieces (layer_at Keep layers blocks number b) b.style.bits b.passes b.pieces job.ends sound.pieces
-    (λ pass below. greatest_is (answer_at Keep layers blocks number b) (layer_in b.pieces) b.passes cut rising pass below) is.ends is.layers_are
+    keeps_pieces (layer_at Keep layers blocks number b) b.style.bits b.passes b.pieces ends sound.pieces
+    (λ pass below. greatest_is (answer_at Keep layers blocks number b) (layer_in b.pieces) b.passes cut rising pass below) are divide
+
+pub keeps : (style : Option Style) (layers : ℕ) (blocks : List Block) (number : ℕ) (b : Block) (job : Job) → IsSound b → All (λ (p : PieceValue). p.layer < layers) b.pieces → IsJobOf style Keep layers blocks number b job
+    → job.ends ≡ layer_ends b.pieces
+keeps style layers blocks number b job sound all is = keeps_ends layers blocks number b job.ends sound all is.ends is.layers_are

@@ -6,5 +6,4 @@ pub mod Layers
 pub mod Sent
 pub mod Crowded
 pub mod Facts
-pub mod Keeping
 pub mod Causal

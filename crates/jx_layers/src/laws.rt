@@ -15,7 +15,6 @@ ghost use Rattle.jx_block.specs.Recoding.{layer_ends};
 ghost use Rattle.jx_block.specs.Laws.{asked_at};
 ghost use Rattle.jx_block.specs.Written.{block_asked, style_for, written_in};
 ghost use Rattle.jx_layers.specs.Causal.{breaks_plane, first_broken};
-ghost use Rattle.jx_layers.specs.Keeping.{IsKeptJob};
 ghost use Rattle.jx_layers.specs.declared.StreamFacts.{StreamFacts};
 ghost use Rattle.jx_layers.specs.Rule.{Rule};
 ghost use Rattle.jx_layers.specs.Rule.Rule.{Cuts, Keep, Planes};
@@ -53,10 +52,8 @@ pub fn jobs_are_determined()
 
 /// What is asked of a sound block may be asked of it, where the style doesn't change its causal bit within a plane.
 pub fn jobs_may_be_asked()
-    ensures ruled { (style : Option Style) (rule : Rule) (layers : ℕ) (blocks : List Block) (number : ℕ) (b : Block) (job : Job) → IsSound b
+    ensures { (style : Option Style) (rule : Rule) (layers : ℕ) (blocks : List Block) (number : ℕ) (b : Block) (job : Job) → IsSound b
         → breaks_plane style b ≡ false → IsJobOf style rule layers blocks number b job → IsAsked job.block.now job.style job.ends }
-    ensures kept { (style : Option Style) (blocks : List Block) (number : ℕ) (job : Job) → IsSound job.block.now
-        → breaks_plane style job.block.now ≡ false → IsKeptJob style blocks number job → IsAsked job.block.now job.style job.ends }
 {}
 
 /// The choice of a style is in the way of just those blocks that may not be asked for it; where it isn't, it is in the way of none.

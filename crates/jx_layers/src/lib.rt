@@ -8,7 +8,6 @@ mod crowded;
 mod cutting;
 mod facts;
 mod keep;
-mod keeping;
 pub mod laws;
 #[cfg(test)]
 mod layer_tests;
@@ -25,7 +24,6 @@ pub use crowded::first_crowded;
 pub use cutting::CutLayers;
 pub use facts::{facts_of, tile_count};
 pub use keep::{KeepLayers, OneLayer};
-pub use keeping::keep_blocks;
 pub use lending::shortened;
 pub use planes::PlaneLayers;
 pub use planner::LayerPlanner;
