@@ -1,58 +1,45 @@
--- The code-blocks of the stream that is written, where a style is asked: each is its stream's own, as it is written in its own layers.
-use Rattle.std.proofs.Common.{◌≡◌, ◌∙◌, ◌<◌, ◌≤◌, ◌+◌, ◌==◌, nat_lt, ℕ, suc, false, List, [], ◌∷◌, length, map, cond, refl, sym, ap, subst, arith, Option, None, Some}
+-- The code-blocks of the stream that is written: each is its stream's own, as it is written in the layers that a rule gives it.
+use Rattle.std.proofs.Common.{◌≡◌, ◌∙◌, ◌<◌, ◌≤◌, ◌+◌, ◌==◌, nat_lt, ℕ, false, List, [], ◌∷◌, length, cond, refl, sym, ap, subst, arith, slice_index_or, Option, None, Some}
 use Rattle.std.specs.List.{All, slice_get}
 use Rattle.std.specs.Option.{option_map}
-use Rattle.std.proofs.lemmas.List.{length-map}
-use Rattle.std.proofs.lemmas.List.Elements.{All-cons, All-head, All-nil, All-tail}
-use Rattle.std.proofs.lemmas.Option.{get_or_from_slice_get, slice_get-map, slice_get_within}
+use Rattle.std.proofs.lemmas.List.Elements.{All-weaker}
+use Rattle.std.proofs.lemmas.Option.{get_or_from_slice_get, slice_get-get_or, slice_get_within}
 use Rattle.jx_base.specs.declared.names.BlockName.{BlockName}
 use Rattle.jx_base.specs.declared.pieces.Block.{Block}
 use Rattle.jx_base.specs.declared.style.Style.{Style}
 use Rattle.jx_base.specs.Pieces.{PieceValue}
 use Rattle.jx_base.specs.Sound.{IsSound}
+use Rattle.jx_base.proofs.Lists.{same_gets}
 use Rattle.jx_geom.specs.Numbering.{IsBlock, block_number}
 use Rattle.jx_head.specs.Parts.{cut}
 use Rattle.jx_stream.specs.declared.Stream.{Stream}
-use Rattle.jx_stream.specs.First.{canvas_of, tile_number}
+use Rattle.jx_stream.specs.First.{canvas_of}
 use Rattle.jx_stream.specs.Params.{planes_at}
 use Rattle.jx_stream.specs.Shapes.{layers_of, shapes_of, style_of}
 use Rattle.jx_gather.specs.Another.{rect_in}
 use Rattle.jx_gather.specs.BlockOf.{AreBlocksOf, IsBlockOf, IsFoundOf, pieces_at}
 use Rattle.jx_gather.specs.BlockOf.{AreCutAtEnds as AreCutAsRead, passes_at as passes_of_layer, passes_below as passes_before_layer}
-use Rattle.jx_block.specs.Jobs.{KeepsCausal}
-use Rattle.jx_block.specs.Laws.{AreCutInLayers, passes_at, passes_below}
-use Rattle.jx_block.specs.Written.{is_wrong, style_for, written_as}
-use Rattle.jx_layers.specs.Causal.{breaks_plane, first_broken}
+use Rattle.jx_block.specs.declared.LayerEnd.{LayerEnd}
+use Rattle.jx_block.specs.Jobs.{IsAsked}
+use Rattle.jx_block.specs.Laws.{AreCutInLayers, asked_at, passes_at, passes_below}
+use Rattle.jx_block.specs.Written.{is_wrong, style_for, written_in}
+use Rattle.jx_layers.specs.Causal.{first_broken}
+use Rattle.jx_layers.specs.Facts.{most_layers}
+use Rattle.jx_layers.specs.Layers.{ends_of, written_by}
+use Rattle.jx_layers.specs.Rule.{Rule}
+use Rattle.jx_layers.specs.Rule.Rule.{Keep}
+use Rattle.jx_layers.proofs.FactLemmas.{layers_most}
 use Rattle.jx_plan.specs.Fits.{Fits}
 use Rattle.jx_plan.specs.Headers.{Asked, style_written}
-use Rattle.jx_plan.specs.Plan.{asked_of, blocks_written, headers_with}
+use Rattle.jx_plan.specs.Plan.{MayBePlanned, asked_of, headers_with}
+use Rattle.jx_plan.specs.Planned.{IsCrowded, blocks_written, layers_of_rule}
 use Rattle.jx_plan.specs.Standing.{HeadersStand}
 use Rattle.jx_plan.specs.Wanted.{Wanted}
 use Rattle.jx_plan.proofs.BlockLemmas.{number_same, rect_same, there, totals_same}
-use Rattle.jx_plan.proofs.KeptLemmas.{block_at, sound_at}
+use Rattle.jx_plan.proofs.LayerLaws.{CrowdLaws, EndLaws, InLayers, KeepsOwn, WrittenLaws}
+use Rattle.jx_plan.proofs.PlanLemmas.{block_at, some_layers, sound_at, whole_at}
 use Rattle.jx_plan.proofs.StreamLemmas.{canvas_stays, layers_are, planes_stay, style_stays}
 use Rattle.jx_plan.proofs.ViewLemmas.{written_shapes}
-
--- what is known of a block that is written in its own layers
-pub record OwnLayers : Type 0 where
-  pub sound : (asked : Option Style) (b : Block) → IsSound b → KeepsCausal b (style_for asked b) → IsSound (written_as asked b)
-  pub name : (asked : Option Style) (b : Block) → (written_as asked b).name ≡ b.name
-  pub rect : (asked : Option Style) (b : Block) → (written_as asked b).rect ≡ b.rect
-  pub planes : (asked : Option Style) (b : Block) → (written_as asked b).planes ≡ b.planes
-  pub zero : (asked : Option Style) (b : Block) → (written_as asked b).zero ≡ b.zero
-  pub style : (asked : Style) (b : Block) → is_wrong (Some asked) b ≡ false → (written_as (Some asked) b).style ≡ asked
-  pub kept : (b : Block) → IsSound b → AreCutInLayers b.style.bits b.pieces → written_as None b ≡ b
-  pub empty : (asked : Option Style) (b : Block) → IsSound b → KeepsCausal b (style_for asked b) → (written_as asked b).pieces ≡ [] → b.pieces ≡ []
-  pub layers : (asked : Option Style) (b : Block) (most : ℕ) → IsSound b → KeepsCausal b (style_for asked b) → All (λ (p : PieceValue). p.layer < most) b.pieces
-      → All (λ (p : PieceValue). p.layer < most) (written_as asked b).pieces
-  pub each : (asked : Option Style) (b : Block) (layer : ℕ) → IsSound b → KeepsCausal b (style_for asked b) → passes_at layer (written_as asked b).pieces ≡ passes_at layer b.pieces
-  pub cuts : (asked : Option Style) (b : Block) → IsSound b → KeepsCausal b (style_for asked b) → is_wrong asked b ≡ false
-      → AreCutInLayers (written_as asked b).style.bits (written_as asked b).pieces
-
--- and of a choice that is in the way of no block
-pub record BreakLaws : Type 0 where
-  pub kept : (asked : Option Style) (b : Block) → breaks_plane asked b ≡ false → KeepsCausal b (style_for asked b)
-  pub none : (asked : Option Style) (blocks : List Block) → first_broken asked blocks ≡ None → All (λ (b : Block). breaks_plane asked b ≡ false) blocks
 
 -- ---- how pieces are cut, in the words of two crates
 at_same : (layer : ℕ) (ps : List PieceValue) → passes_of_layer layer ps ≡ passes_at layer ps
@@ -67,68 +54,68 @@ cut_same : (style layer : ℕ) (ps : List PieceValue) → cut style (passes_befo
 cut_same style layer ps =
     ap (λ (n : ℕ). cut style n (passes_of_layer layer ps)) (below_same layer ps) ∙ ap (cut style (passes_below layer ps)) (at_same layer ps)
 
-pub cut_as_read : (style : ℕ) (ps : List PieceValue) → AreCutAsRead style ps → AreCutInLayers style ps
+cut_as_read : (style : ℕ) (ps : List PieceValue) → AreCutAsRead style ps → AreCutInLayers style ps
 unfolding pieces_at
 cut_as_read style ps cuts layer = cuts layer ∙ cut_same style layer ps
 
-pub cut_as_written : (style : ℕ) (ps : List PieceValue) → AreCutInLayers style ps → AreCutAsRead style ps
+cut_as_written : (style : ℕ) (ps : List PieceValue) → AreCutInLayers style ps → AreCutAsRead style ps
 unfolding pieces_at
 cut_as_written style ps cuts layer = cuts layer ∙ sym (cut_same style layer ps)
 
--- ---- a block that may be written in the style that is asked
-pub record MayBeIn (asked : Option Style) (b : Block) : Type 0 where
-  pub sound : IsSound b
-  pub causal : KeepsCausal b (style_for asked b)
-
-pub all_may : BreakLaws → (asked : Option Style) (blocks : List Block) → All IsSound blocks → first_broken asked blocks ≡ None → All (MayBeIn asked) blocks
-all_may breaks asked blocks sound none = λ n d inside. record { sound = sound n d inside; causal = breaks.kept asked _ (breaks.none asked blocks none n d inside) }
-
+-- ---- one block
 -- the other stream has the block of a name too, in the style that is asked
 record IsInStyle (s other : Stream) (asked : Option Style) (n : BlockName) : Type 0 where
   rect : rect_in s n ≡ rect_in other n
   planes : planes_at s n.tile n.comp n.res n.band ≡ planes_at other n.tile n.comp n.res n.band
   style : (style_written asked (record { bits = style_of s n.tile n.comp })).bits ≡ style_of other n.tile n.comp
-  layers : layers_of s n.tile ≤ layers_of other n.tile
 
-module _ (own : OwnLayers) (asked : Option Style) where
-  style_of_written : (o : Option Style) (b : Block) → IsSound b → AreCutInLayers b.style.bits b.pieces → is_wrong o b ≡ false → (written_as o b).style ≡ style_written o b.style
-  style_of_written None b sound cuts right = ap (λ (x : Block). x.style) (own.kept b sound cuts)
-  style_of_written (Some style) b sound cuts right = own.style style b right
+-- it may be written in some layers, of which there are enough, with so few passes in each as a packet header can tell
+record IsWritable (asked : Option Style) (most : ℕ) (b : Block) (ends : List LayerEnd) : Type 0 where
+  may : IsAsked b (style_for asked b) ends
+  right : is_wrong asked b ≡ false
+  below : All (λ (e : LayerEnd). e.layer < most) ends
+  few : (layer : ℕ) → asked_at layer 0 ends ≤ 164
 
-  written_of : (s other : Stream) (n : BlockName) (b : Block) → IsInStyle s other asked n → MayBeIn asked b → is_wrong asked b ≡ false → IsBlockOf s n b → IsBlockOf other n (written_as asked b)
-  written_of s other n b to may right is =
-      let same : (layer : ℕ) → passes_of_layer layer (written_as asked b).pieces ≡ passes_of_layer layer b.pieces =
-      λ layer. at_same layer (written_as asked b).pieces ∙ own.each asked b layer may.sound may.causal ∙ sym (at_same layer b.pieces) in
-      record {
-        name = own.name asked b ∙ is.name;
-        rect = own.rect asked b ∙ is.rect ∙ to.rect;
-        planes = own.planes asked b ∙ is.planes ∙ to.planes;
-        style = ap (λ (x : Style). x.bits) (style_of_written asked b may.sound (cut_as_read b.style.bits b.pieces is.cuts) right)
-            ∙ ap (λ (bits : ℕ). (style_written asked (record { bits = bits })).bits) is.style ∙ to.style;
-        empty = λ none. own.zero asked b ∙ is.empty (own.empty asked b may.sound may.causal none) ∙ sym (own.planes asked b);
-        layers = own.layers asked b (layers_of other n.tile) may.sound may.causal (λ k d inside. omega (arith, is.layers k d inside, to.layers));
-        few = λ layer. omega (arith, is.few layer, same layer);
-        cuts = cut_as_written (written_as asked b).style.bits (written_as asked b).pieces (own.cuts asked b may.sound may.causal right);
-      }
+module _ (own : InLayers) (asked : Option Style) where
+  style_of_written : (o : Option Style) (ends : List LayerEnd) (b : Block) → is_wrong o b ≡ false → (written_in o ends b).style ≡ style_written o b.style
+  style_of_written None ends b right = own.kept ends b
+  style_of_written (Some style) ends b right = own.style style ends b right
 
-  found_written : (s other : Stream) (n : BlockName) (o : Option Block) → IsInStyle s other asked n → ((b : Block) → o ≡ Some b → MayBeIn asked b × (is_wrong asked b ≡ false)) → IsFoundOf s n o
-      → IsFoundOf other n (option_map (written_as asked) o)
-  found_written s other n None to each is = is
-  found_written s other n (Some b) to each is = written_of s other n b to (each b refl).0 (each b refl).1 is
+  written_of : (s other : Stream) (n : BlockName) (ends : List LayerEnd) (b : Block) → IsInStyle s other asked n → IsWritable asked (layers_of other n.tile) b ends → IsBlockOf s n b
+      → IsBlockOf other n (written_in asked ends b)
+  written_of s other n ends b to is_so is = record {
+    name = own.name asked ends b ∙ is.name;
+    rect = own.rect asked ends b ∙ is.rect ∙ to.rect;
+    planes = own.planes asked ends b ∙ is.planes ∙ to.planes;
+    style = ap (λ (x : Style). x.bits) (style_of_written asked ends b is_so.right) ∙ ap (λ (bits : ℕ). (style_written asked (record { bits = bits })).bits) is.style ∙ to.style;
+    empty = λ none. own.zero asked ends b ∙ is.empty (own.empty asked ends b is_so.may none) ∙ sym (own.planes asked ends b);
+    layers = own.layers asked ends b (layers_of other n.tile) is_so.may is_so.right is_so.below;
+    few = λ layer. omega (arith, is_so.few layer, at_same layer (written_in asked ends b).pieces, own.each asked ends b layer is_so.may is_so.right);
+    cuts = cut_as_written (written_in asked ends b).style.bits (written_in asked ends b).pieces (own.cuts asked ends b is_so.may is_so.right);
+  }
 
-  -- and so of all
-  pub all_sound : (blocks : List Block) → All (MayBeIn asked) blocks → All IsSound (map (written_as asked) blocks)
-  all_sound [] may = All-nil IsSound
-  all_sound (b ∷ blocks) may =
-      let here : MayBeIn asked b = All-head (MayBeIn asked) b blocks may in
-      All-cons IsSound (written_as asked b) (map (written_as asked) blocks) (own.sound asked b here.sound here.causal) (all_sound blocks (All-tail (MayBeIn asked) b blocks may))
+found_of : (s other : Stream) (n : BlockName) (f : Block → Block) (o : Option Block) → ((b : Block) → o ≡ Some b → IsBlockOf s n b → IsBlockOf other n (f b)) → IsFoundOf s n o
+    → IsFoundOf other n (option_map f o)
+found_of s other n f None each is = is
+found_of s other n f (Some b) each is = each b refl is
 
 at_item : {X : Type 0} (P : X → Type 0) (xs : List X) (i : ℕ) (x : X) → All P xs → slice_get xs i ≡ Some x → P x
 at_item P xs i x each is = subst P (get_or_from_slice_get xs i x x is) (each i x (slice_get_within xs i x is))
 
-module _ (own : OwnLayers) (breaks : BreakLaws) (w : Wanted) (layers : ℕ) (s : Stream) (blocks : List Block) (fits : Fits w.precincts s) (stand : HeadersStand s)
-    (enough : (t : ℕ) → t < tile_number s.siz → layers_of s t ≤ layers) (are : AreBlocksOf s blocks) (sound : All IsSound blocks) (none : first_broken w.style blocks ≡ None)
-    (right : All (λ (b : Block). is_wrong w.style b ≡ false) blocks) where
+-- ---- the blocks by a rule
+module _ (ends : EndLaws) (w : Wanted) (r : Rule) (s : Stream) (blocks : List Block) (some : 1 ≤ layers_of_rule r s blocks) (sound : All IsSound blocks)
+    (whole : first_broken w.style blocks ≡ None) where
+  may_be_written : (i : ℕ) (b : Block) → slice_get blocks i ≡ Some b → IsAsked b (style_for w.style b) (ends_of r (layers_of_rule r s blocks) blocks i b)
+  may_be_written i b is =
+      let inside = slice_get_within blocks i b is in
+      ends.asked w.style r (layers_of_rule r s blocks) blocks i b some (sound_at blocks i b sound is inside) (whole_at w.style blocks i b whole is inside)
+
+module _ (own : InLayers) (ends : EndLaws) (written : WrittenLaws) (crowds : CrowdLaws) (w : Wanted) (r : Rule) (s : Stream) (blocks : List Block)
+    (some : 1 ≤ layers_of_rule r s blocks) (fits : Fits w.precincts s) (stand : HeadersStand s) (are : AreBlocksOf s blocks) (sound : All IsSound blocks)
+    (whole : first_broken w.style blocks ≡ None) (right : All (λ (b : Block). is_wrong w.style b ≡ false) blocks) (uncrowded : IsCrowded r s blocks None) where
+  abbrev layers : ℕ
+  layers = layers_of_rule r s blocks
+
   abbrev a : Asked
   a = asked_of w layers
 
@@ -136,46 +123,80 @@ module _ (own : OwnLayers) (breaks : BreakLaws) (w : Wanted) (layers : ℕ) (s :
   other = headers_with w layers s
 
   in_style : (n : BlockName) → IsBlock (canvas_of other.siz) (shapes_of other) n → IsInStyle s other w.style n
-  in_style n is =
-      let here = there s other (canvas_stays a s) (written_shapes a s fits stand) n is in
-      record {
-        rect = rect_same s other (canvas_stays a s) (written_shapes a s fits stand) n is;
-        planes = sym (planes_stay a s stand n.tile n.comp n.res n.band);
-        style = sym (style_stays a s stand n.tile n.comp);
-        layers = omega (arith, enough n.tile here.0, layers_are a s stand n.tile);
-      }
+  in_style n is = record {
+    rect = rect_same s other (canvas_stays a s) (written_shapes a s fits stand) n is;
+    planes = sym (planes_stay a s stand n.tile n.comp n.res n.band);
+    style = sym (style_stays a s stand n.tile n.comp);
+  }
 
-  each_may : (i : ℕ) (b : Block) → slice_get blocks i ≡ Some b → MayBeIn w.style b × (is_wrong w.style b ≡ false)
-  each_may i b is =
-      (at_item (MayBeIn w.style) blocks i b (all_may breaks w.style blocks sound none) is, at_item (λ (x : Block). is_wrong w.style x ≡ false) blocks i b right is)
+  writable : (n : BlockName) (i : ℕ) (b : Block) → slice_get blocks i ≡ Some b → IsWritable w.style (layers_of other n.tile) b (ends_of r layers blocks i b)
+  writable n i b is = record {
+    may = may_be_written ends w r s blocks some sound whole i b is;
+    right = at_item (λ (x : Block). is_wrong w.style x ≡ false) blocks i b right is;
+    below = subst (λ (most : ℕ). All (λ (e : LayerEnd). e.layer < most) (ends_of r layers blocks i b)) (sym (layers_are a s stand n.tile)) (ends.written r layers blocks i b some);
+    few = λ layer. crowds.few r layers blocks i b layer uncrowded is;
+  }
 
   found_at : (n : BlockName) → IsBlock (canvas_of other.siz) (shapes_of other) n
-      → IsFoundOf other n (slice_get (blocks_written w blocks) (block_number (canvas_of other.siz) (shapes_of other) n))
+      → IsFoundOf other n (slice_get (blocks_written w r s blocks) (block_number (canvas_of other.siz) (shapes_of other) n))
   found_at n is =
       let i : ℕ = block_number (canvas_of s.siz) (shapes_of s) n in
       let here = there s other (canvas_stays a s) (written_shapes a s fits stand) n is in
-      let found : IsFoundOf other n (option_map (written_as w.style) (slice_get blocks i)) =
-      found_written own w.style s other n (slice_get blocks i) (in_style n is) (each_may i) (are.each n here) in
-      let at : IsFoundOf other n (slice_get (blocks_written w blocks) i) = subst (IsFoundOf other n) (sym (slice_get-map (written_as w.style) blocks i)) found in
-      subst (λ (k : ℕ). IsFoundOf other n (slice_get (blocks_written w blocks) k)) (number_same s other (canvas_stays a s) (written_shapes a s fits stand) n is) at
+      let f : Block → Block = λ b. written_in w.style (ends_of r layers blocks i b) b in
+      let found : IsFoundOf other n (option_map f (slice_get blocks i)) =
+      found_of s other n f (slice_get blocks i) (λ b at of. written_of own w.style s other n (ends_of r layers blocks i b) b (in_style n is) (writable n i b at) of) (are.each n here) in
+      let at : IsFoundOf other n (slice_get (blocks_written w r s blocks) i) = subst (IsFoundOf other n) (sym (written.each w.style r layers blocks i)) found in
+      subst (λ (k : ℕ). IsFoundOf other n (slice_get (blocks_written w r s blocks) k)) (number_same s other (canvas_stays a s) (written_shapes a s fits stand) n is) at
 
-  pub written_stand : AreBlocksOf other (blocks_written w blocks)
+  pub written_stand : AreBlocksOf other (blocks_written w r s blocks)
   written_stand = record {
-    all = length-map blocks (written_as w.style) ∙ are.all ∙ totals_same s other (canvas_stays a s) (written_shapes a s fits stand);
+    all = written.count w.style r layers blocks ∙ are.all ∙ totals_same s other (canvas_stays a s) (written_shapes a s fits stand);
     each = found_at;
   }
 
-pub written_sound : OwnLayers → BreakLaws → (w : Wanted) (blocks : List Block) → All IsSound blocks → first_broken w.style blocks ≡ None → All IsSound (blocks_written w blocks)
-written_sound own breaks w blocks sound none = all_sound own w.style blocks (all_may breaks w.style blocks sound none)
+-- ---- what holds of each of them
+all_written : WrittenLaws → (style : Option Style) (r : Rule) (layers : ℕ) (blocks : List Block) (P : Block → Type 0)
+    → ((n : ℕ) (b : Block) → slice_get blocks n ≡ Some b → P (written_in style (ends_of r layers blocks n b) b)) → All P (written_by style r layers blocks)
+all_written written style r layers blocks P each = λ n d inside.
+    let within : n < length blocks = omega (arith, inside, written.count style r layers blocks) in
+    let b : Block = slice_index_or blocks n d in
+    let at : slice_get blocks n ≡ Some b = slice_get-get_or blocks n d within in
+    let f : Block → Block = λ x. written_in style (ends_of r layers blocks n x) x in
+    let is : slice_get (written_by style r layers blocks) n ≡ Some (f b) = written.each style r layers blocks n ∙ ap (option_map f) at in
+    subst P (sym (get_or_from_slice_get (written_by style r layers blocks) n (f b) d is)) (each n b at)
 
--- ---- where no style is asked
-map_same : {X : Type 0} (f : X → X) (xs : List X) → ((i : ℕ) (x : X) → slice_get xs i ≡ Some x → f x ≡ x) → map f xs ≡ xs
-map_same f [] each = refl
-map_same f (x ∷ xs) each = rw (each 0 x refl, map_same f xs (λ i y is. each (suc i) y is)) refl
+pub written_sound : InLayers → EndLaws → WrittenLaws → (w : Wanted) (r : Rule) (s : Stream) (blocks : List Block) → 1 ≤ layers_of_rule r s blocks → All IsSound blocks
+    → first_broken w.style blocks ≡ None → All IsSound (blocks_written w r s blocks)
+written_sound own ends written w r s blocks some sound whole =
+    let layers : ℕ = layers_of_rule r s blocks in
+    all_written written w.style r layers blocks IsSound
+    (λ n b at. own.sound w.style (ends_of r layers blocks n b) b (may_be_written ends w r s blocks some sound whole n b at))
 
-pub written_kept : OwnLayers → (w : Wanted) (s : Stream) (blocks : List Block) → w.style ≡ None → AreBlocksOf s blocks → All IsSound blocks → blocks_written w blocks ≡ blocks
-written_kept own w s blocks plain are sound =
-    let each : (i : ℕ) (b : Block) → slice_get blocks i ≡ Some b → written_as None b ≡ b = λ i b is.
-    (let inside = slice_get_within blocks i b is in
-    own.kept b (sound_at blocks i b sound is inside) (cut_as_read b.style.bits b.pieces (block_at s blocks i b are is inside).1.1.cuts)) in
-    ap (λ (asked : Option Style). map (written_as asked) blocks) plain ∙ map_same (written_as None) blocks each
+-- ---- by the rule that keeps, where no style is asked
+module _ (own : InLayers) (keeps : KeepsOwn) (ends : EndLaws) (written : WrittenLaws) (s : Stream) (blocks : List Block) (may : MayBePlanned s blocks) where
+  abbrev most : ℕ
+  most = most_layers s
+
+  kept_at : (n : ℕ) (b : Block) → slice_get blocks n ≡ Some b → written_in None (ends_of Keep most blocks n b) b ≡ b
+  kept_at n b at =
+      let inside = slice_get_within blocks n b at in
+      let block = block_at s blocks n b may.blocks_are at inside in
+      let sound = sound_at blocks n b may.sound at inside in
+      let reach = layers_most s block.0.tile block.1.0.0 in
+      let below : All (λ (p : PieceValue). p.layer < most) b.pieces =
+      All-weaker (λ (p : PieceValue). p.layer < layers_of s block.0.tile) (λ (p : PieceValue). p.layer < most) (λ p lt. omega (arith, reach, lt)) b.pieces block.1.1.layers in
+      ap (λ (list : List LayerEnd). written_in None list b) (ends.kept most blocks n b (some_layers s may.range) sound below)
+      ∙ sym (own.own None b) ∙ keeps b sound (cut_as_read b.style.bits b.pieces block.1.1.cuts)
+
+  kept_each : (n : ℕ) → slice_get (written_by None Keep most blocks) n ≡ slice_get blocks n
+  kept_each n = written.each None Keep most blocks n ∙ same (slice_get blocks n) (kept_at n)
+    where
+      same : (o : Option Block) → ((b : Block) → o ≡ Some b → written_in None (ends_of Keep most blocks n b) b ≡ b)
+          → option_map (λ (b : Block). written_in None (ends_of Keep most blocks n b) b) o ≡ o
+      same None each = refl
+      same (Some b) each = ap Some (each b refl)
+
+  pub written_kept : (w : Wanted) → w.style ≡ None → blocks_written w Keep s blocks ≡ blocks
+  written_kept w plain =
+      ap (λ (style : Option Style). written_by style Keep most blocks) plain
+      ∙ same_gets (written_by None Keep most blocks) blocks (written.count None Keep most blocks) (λ n inside. kept_each n)

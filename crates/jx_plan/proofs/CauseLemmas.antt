@@ -1,61 +1,32 @@
--- Of a rule and a stream there is one answer: a plan or one cause.
-use Rattle.std.proofs.Common.{◌≡◌, ◌<◌, ◌≤◌, ◌∙◌, ap, sym, subst, refl, arith, ℕ, List, length, inl, inr, slice_index_or, Option, None, Some}
-use Rattle.std.specs.List.{slice_get}
+-- Of a rule and a stream there is one answer at most: nothing is in the way of its plan, or one cause is.
+use Rattle.std.proofs.Common.{◌≡◌, ◌<◌, ◌≤◌, ◌∙◌, ap, sym, subst, refl, arith, ℕ, List, map, inl, inr, Option, None, Some}
 use Rattle.std.proofs.lemmas.Bool.{cases_lt}
-use Rattle.std.proofs.lemmas.Option.{slice_get-get_or, slice_get_within}
 use Rattle.jx_base.specs.declared.pieces.Block.{Block}
 use Rattle.jx_base.specs.declared.style.Style.{Style}
+use Rattle.jx_base.proofs.Lists.{some_none, some_same}
 use Rattle.jx_stream.specs.declared.Stream.{Stream}
 use Rattle.jx_stream.specs.First.{tile_number}
 use Rattle.jx_gather.specs.Totals.{packet_total}
-use Rattle.jx_block.specs.declared.job.Job.{Job}
+use Rattle.jx_block.specs.Written.{block_asked}
 use Rattle.jx_plan.specs.declared.PartChoice.{PartChoice}
 use Rattle.jx_plan.specs.declared.faults.PlanFault.{PlanFault}
 use Rattle.jx_plan.specs.declared.faults.PlanFault.TheVariants as fault
 use Rattle.jx_layers.specs.Causal.{first_broken}
-use Rattle.jx_layers.specs.Crowded.{IsCrowded, IsLowestCrowded}
 use Rattle.jx_plan.specs.Fits.{AreUnfit, Fits, IsUnfit}
 use Rattle.jx_plan.specs.Groups.{HasFewParts, IsPartedAt}
 use Rattle.jx_plan.specs.Causes.{HasManyPartsAt, IsFree, IsPlaneBroken, PassesPackets}
-use Rattle.jx_layers.specs.Layers.{AreJobs, HasMany, layer_at}
+use Rattle.jx_layers.specs.Layers.{AreJobs}
 use Rattle.jx_plan.specs.Plan.{IsPlan, Plan, asked_of, headers_of, headers_with, most_packets}
-use Rattle.jx_plan.specs.Planned.{HasLaterCause, HasPlanCause, IsPlanned, LacksPlan, layers_of_rule}
+use Rattle.jx_plan.specs.Planned.{CanBePlannedBy, HasLaterCause, HasPlanCause, IsCrowded, IsFreeBy, IsPlanned, IsPlannedBy, IsUnplannedBy, LacksPlan, blocks_written, layers_of_rule}
 use Rattle.jx_layers.specs.Rule.{Rule}
 use Rattle.jx_plan.specs.Wanted.{Wanted}
-use Rattle.jx_plan.proofs.KeptLemmas.{same_tiles}
-use Rattle.jx_layers.proofs.OneLemmas.{one_ends}
+use Rattle.jx_plan.proofs.LayerLaws.{CrowdLaws, WrittenLaws}
+use Rattle.jx_plan.proofs.PlanLemmas.{same_tiles}
 
-module _ (style : Option Style) (r : Rule) (layers : ℕ) (blocks : List Block) (xs ys : List Job) (ax : AreJobs style r layers blocks xs) (ay : AreJobs style r layers blocks ys) where
-  crowds : (n : ℕ) (o : Option Job) → slice_get xs n ≡ o → IsCrowded o → IsCrowded (slice_get ys n)
-  crowds n None e c = absurd c
-  crowds n (Some job) e c =
-      let inside : n < length blocks = omega (arith, slice_get_within xs n job e, ax.all) in
-      let b : Block = slice_index_or blocks n job.block.now in
-      let at : slice_get blocks n ≡ Some b = slice_get-get_or blocks n job.block.now inside in
-      let other : Job = slice_index_or ys n job in
-      let there : slice_get ys n ≡ Some other = slice_get-get_or ys n job (omega (arith, inside, ay.all)) in
-      let j = ax.each n b job at e in
-      let k = ay.each n b other at there in
-      let same = one_ends (layer_at r layers blocks n b) 0 0 0 b.passes job.ends other.ends j.ends k.ends j.layers_are k.layers_are in
-      subst IsCrowded (sym there) (subst (HasMany 0) same c)
-
-  crowded_too : (n : ℕ) → IsCrowded (slice_get xs n) → IsCrowded (slice_get ys n)
-  crowded_too n c = crowds n (slice_get xs n) refl c
-
-one_lowest : (style : Option Style) (r : Rule) (layers : ℕ) (blocks : List Block) (xs ys : List Job) → AreJobs style r layers blocks xs → AreJobs style r layers blocks ys
-    → (i k : ℕ) → IsLowestCrowded xs (Some i) → IsLowestCrowded ys (Some k) → i ≡ k
-one_lowest style r layers blocks xs ys ax ay i k hx hy = elim (cases_lt i k) [
-  | inl lt ↦ absurd (hy.1 i lt (crowded_too style r layers blocks xs ys ax ay i hx.0))
-  | inr ge ↦ elim (cases_lt k i) [
-    | inl lt ↦ absurd (hx.1 k lt (crowded_too style r layers blocks ys xs ay ax k hy.0))
-    | inr le ↦ omega arith
-  ]
-]
-
-pub same_choice : (a b c d : ℕ) → a ≡ b → c ≡ d → ◌≡◌ {A = PlanFault} (fault.Choice a c) (fault.Choice b d)
+same_choice : (a b c d : ℕ) → a ≡ b → c ≡ d → ◌≡◌ {A = PlanFault} (fault.Choice a c) (fault.Choice b d)
 same_choice a b c d e h = rw (e, h) refl
 
-pub same_limit : (a b c d : ℕ) → a ≡ b → c ≡ d → ◌≡◌ {A = PlanFault} (fault.Limit a c) (fault.Limit b d)
+same_limit : (a b c d : ℕ) → a ≡ b → c ≡ d → ◌≡◌ {A = PlanFault} (fault.Limit a c) (fault.Limit b d)
 same_limit a b c d e h = rw (e, h) refl
 
 same_some : (o : Option ℕ) (c d : ℕ) → o ≡ Some c → o ≡ Some d → c ≡ d
@@ -66,25 +37,25 @@ none_some o c e h = absurd (cc)
 
 -- ---- choice 1
 module _ (style : Option Style) (blocks : List Block) where
-  pub one_broken : (e f : PlanFault) → IsPlaneBroken style blocks e → IsPlaneBroken style blocks f → e ≡ f
+  one_broken : (e f : PlanFault) → IsPlaneBroken style blocks e → IsPlaneBroken style blocks f → e ≡ f
   one_broken (fault.Choice a c) (fault.Choice b d) x y = same_choice a b c d (x.0 ∙ sym y.0) (same_some _ c d x.1 y.1)
   one_broken (fault.Choice a c) (fault.Limit b d) x y = absurd y
   one_broken (fault.Choice a c) fault.NoMemory x y = absurd y
   one_broken (fault.Limit a c) f x y = absurd x
   one_broken fault.NoMemory f x y = absurd x
 
-  pub broken_whole : (e : PlanFault) → IsPlaneBroken style blocks e → first_broken style blocks ≡ None → ⊥
+  broken_whole : (e : PlanFault) → IsPlaneBroken style blocks e → first_broken style blocks ≡ None → ⊥
   broken_whole (fault.Choice a c) x whole = none_some _ c x.1 whole
   broken_whole (fault.Limit a c) x whole = x
   broken_whole fault.NoMemory x whole = x
 
-pub plan_whole : (blocks : List Block) (w : Wanted) (p : Plan) → p.blocks ≡ blocks → p.wanted ≡ w → IsPlan p → first_broken w.style blocks ≡ None
+plan_whole : (blocks : List Block) (w : Wanted) (p : Plan) → p.blocks ≡ blocks → p.wanted ≡ w → IsPlan p → first_broken w.style blocks ≡ None
 plan_whole blocks w p blocks_are wanted plan =
     subst (λ (x : Wanted). first_broken x.style blocks ≡ None) wanted (subst (λ (bs : List Block). first_broken p.wanted.style bs ≡ None) blocks_are plan.whole)
 
 -- ---- choices 3 and 2
 module _ (s : Stream) (precincts : Option (List ℕ)) where
-  pub one_unfit : (a c b d : ℕ) → IsUnfit s precincts a c → IsUnfit s precincts b d → ◌≡◌ {A = PlanFault} (fault.Choice a c) (fault.Choice b d)
+  one_unfit : (a c b d : ℕ) → IsUnfit s precincts a c → IsUnfit s precincts b d → ◌≡◌ {A = PlanFault} (fault.Choice a c) (fault.Choice b d)
   one_unfit a c b d (inl x) (inl y) = same_choice a b c d (x.0 ∙ sym y.0) (same_some _ c d x.1 y.1)
   one_unfit a c b d (inl x) (inr y) = absurd (none_some _ c x.1 y.1.above)
   one_unfit a c b d (inr x) (inl y) = absurd (none_some _ d y.1 x.1.above)
@@ -96,7 +67,7 @@ module _ (s : Stream) (precincts : Option (List ℕ)) where
     ]
   ]
 
-  pub unfit_fits : (a c : ℕ) → IsUnfit s precincts a c → Fits precincts s → ⊥
+  unfit_fits : (a c : ℕ) → IsUnfit s precincts a c → Fits precincts s → ⊥
   unfit_fits a c (inl x) fits = none_some _ c x.1 fits.above
   unfit_fits a c (inr x) fits = x.1.changed (fits.blocks c x.1.inside)
 
@@ -116,7 +87,7 @@ module _ (s : Stream) (precincts : Option (List ℕ)) where
 parted_few : (parts : PartChoice) (s : Stream) (c : ℕ) → IsPartedAt parts s c → HasFewParts parts s c → ⊥
 parted_few parts s c x few = omega (arith, x.many.many, few x.many.names x.many.order)
 
-pub one_parted : (parts : PartChoice) (s : Stream) (c d : ℕ) → IsPartedAt parts s c → IsPartedAt parts s d → c ≡ d
+one_parted : (parts : PartChoice) (s : Stream) (c d : ℕ) → IsPartedAt parts s c → IsPartedAt parts s d → c ≡ d
 one_parted parts s c d x y = elim (cases_lt c d) [
   | inl lt ↦ absurd (parted_few parts s c x (y.lowest c lt))
   | inr ge ↦ elim (cases_lt d c) [
@@ -131,7 +102,7 @@ few_parts x y s t n e h few =
     subst (λ (w : Wanted). HasFewParts w.parts t n) e (subst (λ (u : Stream). HasFewParts x.parts u n) h few)
 
 module _ (s : Stream) (w : Wanted) (layers : ℕ) where
-  pub plan_free : (p : Plan) → p.stream ≡ s → p.wanted ≡ w → p.layers ≡ layers → IsPlan p → IsFree s w layers
+  plan_free : (p : Plan) → p.stream ≡ s → p.wanted ≡ w → p.layers ≡ layers → IsPlan p → IsFree s w layers
   plan_free p stream wanted is plan =
       let same : headers_of p ≡ headers_with w layers s = rw (wanted, is, stream) refl in
       record {
@@ -142,19 +113,27 @@ module _ (s : Stream) (w : Wanted) (layers : ℕ) where
             few_parts p.wanted w (headers_of p) (headers_with w layers s) t wanted same (plan.parts t there);
       }
 
-  pub free_few : (found : ℕ) → IsFree s w layers → PassesPackets s w layers found → ⊥
+  free_few : (found : ℕ) → IsFree s w layers → PassesPackets s w layers found → ⊥
   free_few found free passes = omega (arith, free.few, passes.count, passes.many)
 
-  pub free_parts : (place : ℕ) → IsFree s w layers → HasManyPartsAt s w layers place → ⊥
+  free_parts : (place : ℕ) → IsFree s w layers → HasManyPartsAt s w layers place → ⊥
   free_parts place free many =
       let inside : place < tile_number s.siz = omega (arith, many.many.inside, same_tiles (asked_of w layers) s) in
       parted_few w.parts (headers_with w layers s) place many.many (free.parts place inside)
 
-  pub few_many : (place found : ℕ) → HasManyPartsAt s w layers place → PassesPackets s w layers found → ⊥
+  few_many : (place found : ℕ) → HasManyPartsAt s w layers place → PassesPackets s w layers found → ⊥
   few_many place found parts passes = omega (arith, parts.few, passes.count, passes.many)
 
+-- ---- choice 4
+module _ (crowds : CrowdLaws) (r : Rule) (s : Stream) (blocks : List Block) where
+  one_crowded : (c d : ℕ) → IsCrowded r s blocks (Some c) → IsCrowded r s blocks (Some d) → c ≡ d
+  one_crowded c d x y = some_same c d (crowds.one r (layers_of_rule r s blocks) blocks (Some c) (Some d) x y)
+
+  none_crowded : (c : ℕ) → IsCrowded r s blocks (Some c) → IsCrowded r s blocks None → ⊥
+  none_crowded c x y = some_none c (crowds.one r (layers_of_rule r s blocks) blocks (Some c) None x y)
+
 -- ---- one answer
-module _ (s : Stream) (blocks : List Block) (w : Wanted) where
+module _ (crowds : CrowdLaws) (s : Stream) (blocks : List Block) (w : Wanted) where
   lacks_fits : (o : Option Rule) (e : PlanFault) → (e ≡ fault.NoMemory → ⊥) → LacksPlan o s blocks w e → Fits w.precincts s
   lacks_fits None e ne h = h.0
   lacks_fits (Some r) (fault.Choice a c) ne (inl h) = h.1.fits
@@ -167,12 +146,9 @@ module _ (s : Stream) (blocks : List Block) (w : Wanted) where
   lacks_same (Some r) fault.NoMemory f ne nf he hf = absurd (ne refl)
   lacks_same (Some r) (fault.Choice a c) fault.NoMemory ne nf he hf = absurd (nf refl)
   lacks_same (Some r) (fault.Limit a c) fault.NoMemory ne nf he hf = absurd (nf refl)
-  lacks_same (Some r) (fault.Choice a c) (fault.Choice b d) ne nf (inl x) (inl y) =
-      same_choice a b c d (x.0 ∙ sym y.0) (one_lowest w.style r _ blocks x.1.jobs y.1.jobs x.1.jobs_are y.1.jobs_are c d x.1.lowest y.1.lowest)
-  lacks_same (Some r) (fault.Choice a c) (fault.Choice b d) ne nf (inl x) (inr y) =
-      absurd (y.1.uncrowded c (crowded_too w.style r _ blocks x.1.jobs y.1.jobs x.1.jobs_are y.1.jobs_are c x.1.lowest.0))
-  lacks_same (Some r) (fault.Choice a c) (fault.Choice b d) ne nf (inr x) (inl y) =
-      absurd (x.1.uncrowded d (crowded_too w.style r _ blocks y.1.jobs x.1.jobs y.1.jobs_are x.1.jobs_are d y.1.lowest.0))
+  lacks_same (Some r) (fault.Choice a c) (fault.Choice b d) ne nf (inl x) (inl y) = same_choice a b c d (x.0 ∙ sym y.0) (one_crowded crowds r s blocks c d x.1.lowest y.1.lowest)
+  lacks_same (Some r) (fault.Choice a c) (fault.Choice b d) ne nf (inl x) (inr y) = absurd (none_crowded crowds r s blocks c x.1.lowest y.1.uncrowded)
+  lacks_same (Some r) (fault.Choice a c) (fault.Choice b d) ne nf (inr x) (inl y) = absurd (none_crowded crowds r s blocks d y.1.lowest x.1.uncrowded)
   lacks_same (Some r) (fault.Choice a c) (fault.Choice b d) ne nf (inr x) (inr y) =
       same_choice a b c d (x.0 ∙ sym y.0) (one_parted w.parts _ c d x.1.many.many y.1.many.many)
   lacks_same (Some r) (fault.Choice a c) (fault.Limit b d) ne nf (inl x) hf = absurd (omega (arith, x.1.few, hf.1.count, hf.1.many))
@@ -193,28 +169,47 @@ module _ (s : Stream) (blocks : List Block) (w : Wanted) where
   one_cause o e f ne nf (inr x) (inl y) = absurd (broken_whole w.style blocks f y x.0)
   one_cause o e f ne nf (inr x) (inr y) = later_same o e f ne nf x.1 y.1
 
-  planned_lacks : (r : Rule) (p : Plan) (e : PlanFault) → IsPlan p → IsPlanned (Some r) s blocks w p → LacksPlan (Some r) s blocks w e → e ≡ fault.NoMemory
-  planned_lacks r p (fault.Choice number place) plan is (inl x) =
-      let at = x.1 in
-      let own : AreJobs w.style r _ blocks p.jobs = subst (λ k. AreJobs w.style r k blocks p.jobs) is.layers is.jobs in
-      absurd (plan.uncrowded place (crowded_too w.style r _ blocks at.jobs p.jobs at.jobs_are own place at.lowest.0))
-  planned_lacks r p (fault.Choice number place) plan is (inr x) =
-      absurd (free_parts s w (layers_of_rule r s blocks) place (plan_free s w (layers_of_rule r s blocks) p is.stream is.wanted is.layers plan) x.1.many)
-  planned_lacks r p (fault.Limit number found) plan is cause =
-      absurd (free_few s w (layers_of_rule r s blocks) found (plan_free s w (layers_of_rule r s blocks) p is.stream is.wanted is.layers plan) cause.1)
-  planned_lacks r p fault.NoMemory plan is cause = refl
+  -- nothing is in the way, and a cause is
+  free_lacks : (r : Rule) (e : PlanFault) → IsFreeBy r s blocks w → IsUnplannedBy r s blocks w e → e ≡ fault.NoMemory
+  free_lacks r (fault.Choice number place) free (inl x) = absurd (none_crowded crowds r s blocks place x.1.lowest free.uncrowded)
+  free_lacks r (fault.Choice number place) free (inr x) = absurd (free_parts s w (layers_of_rule r s blocks) place free.free x.1.many)
+  free_lacks r (fault.Limit number found) free cause = absurd (free_few s w (layers_of_rule r s blocks) found free.free cause.1)
+  free_lacks r fault.NoMemory free cause = refl
 
-  planned_unfit : (r : Rule) (p : Plan) (e : PlanFault) → IsPlan p → IsPlanned (Some r) s blocks w p → AreUnfit s w.precincts e → e ≡ fault.NoMemory
-  planned_unfit r p (fault.Choice number place) plan is unfit =
-      absurd (unfit_fits s w.precincts number place unfit (plan_free s w (layers_of_rule r s blocks) p is.stream is.wanted is.layers plan).fits)
-  planned_unfit r p (fault.Limit number found) plan is unfit = absurd unfit
-  planned_unfit r p fault.NoMemory plan is unfit = refl
+  free_unfit : (r : Rule) (e : PlanFault) → IsFreeBy r s blocks w → AreUnfit s w.precincts e → e ≡ fault.NoMemory
+  free_unfit r (fault.Choice number place) free unfit = absurd (unfit_fits s w.precincts number place unfit free.free.fits)
+  free_unfit r (fault.Limit number found) free unfit = absurd unfit
+  free_unfit r fault.NoMemory free unfit = refl
 
-  planned_later : (r : Rule) (p : Plan) (e : PlanFault) → IsPlan p → IsPlanned (Some r) s blocks w p → HasLaterCause (Some r) s blocks w e → e ≡ fault.NoMemory
-  planned_later r p e plan is (inl x) = planned_unfit r p e plan is x
-  planned_later r p e plan is (inr x) = planned_lacks r p e plan is x
+  free_later : (r : Rule) (e : PlanFault) → IsFreeBy r s blocks w → HasLaterCause (Some r) s blocks w e → e ≡ fault.NoMemory
+  free_later r e free (inl x) = free_unfit r e free x
+  free_later r e free (inr x) = free_lacks r e free x
+
+  pub free_or_not : (o : Option Rule) (e : PlanFault) → CanBePlannedBy o s blocks w → HasPlanCause o s blocks w e → e ≡ fault.NoMemory
+  free_or_not None e free cause = absurd free
+  free_or_not (Some r) e free (inl x) = absurd (broken_whole w.style blocks e x free.whole)
+  free_or_not (Some r) e free (inr x) = free_later r e free x.1
+
+  -- nothing is in the way of a plan that is there
+  pub planned_free : (r : Rule) (p : Plan) → IsPlan p → IsPlannedBy r s blocks w p → IsFreeBy r s blocks w
+  planned_free r p plan is =
+      let layers : ℕ = layers_of_rule r s blocks in
+      let some : 1 ≤ layers = omega (arith, plan.some, is.layers) in
+      let jobs : AreJobs w.style r layers blocks p.jobs = subst (λ (k : ℕ). AreJobs w.style r k blocks p.jobs) is.layers is.jobs in
+      record {
+        whole = plan_whole blocks w p is.blocks_are is.wanted plan;
+        free = plan_free s w layers p is.stream is.wanted is.layers plan;
+        uncrowded = crowds.jobs w.style r layers blocks p.jobs None some jobs plan.uncrowded;
+      }
 
   pub planned_or_not : (o : Option Rule) (p : Plan) (e : PlanFault) → IsPlan p → IsPlanned o s blocks w p → HasPlanCause o s blocks w e → e ≡ fault.NoMemory
   planned_or_not None p e plan is cause = absurd is
-  planned_or_not (Some r) p e plan is (inl x) = absurd (broken_whole w.style blocks e x (plan_whole blocks w p is.blocks_are is.wanted plan))
-  planned_or_not (Some r) p e plan is (inr x) = planned_later r p e plan is x.1
+  planned_or_not (Some r) p e plan is cause = free_or_not (Some r) e (planned_free r p plan is) cause
+
+-- ---- what a plan writes
+pub planned_blocks : WrittenLaws → (s : Stream) (blocks : List Block) (w : Wanted) (r : Rule) (p : Plan) → IsPlan p → IsPlannedBy r s blocks w p
+    → map block_asked p.jobs ≡ blocks_written w r s blocks
+planned_blocks written s blocks w r p plan is =
+    let layers : ℕ = layers_of_rule r s blocks in
+    let some : 1 ≤ layers = omega (arith, plan.some, is.layers) in
+    written.jobs w.style r layers blocks p.jobs some (subst (λ (k : ℕ). AreJobs w.style r k blocks p.jobs) is.layers is.jobs)

@@ -12,12 +12,12 @@ pub mod SameLemmas
 pub mod BlockLemmas
 pub mod ViewLemmas
 pub mod PlainLemmas
-pub mod KeptLemmas
+pub mod LayerLaws
+pub mod PlanLemmas
 pub mod BlocksWritten
 pub mod MeaningLemmas
-pub mod KeepsLemmas
 pub mod CauseLemmas
-pub mod OneKeptLemmas
+pub mod AnswerLemmas
 pub mod PlannedLemmas
 pub mod FitLemmas
 pub mod ListedLemmas

@@ -1,5 +1,5 @@
 -- What a stream means stays, where it is written in another way, and with comments and packet lengths more.
-use Rattle.std.proofs.Common.{◌≡◌, ℕ, ◌+◌, ◌-◌, ◌==◌, if◌then◌else◌, Bool, true, false, cond, List, [], ◌∷◌, map, refl, ap, Option, None, Some}
+use Rattle.std.proofs.Common.{◌≡◌, ◌∙◌, ◌≤◌, ℕ, ◌+◌, ◌-◌, ◌==◌, if◌then◌else◌, Bool, true, false, cond, List, [], ◌∷◌, refl, ap, Option, None, Some}
 use Rattle.std.proofs.Math.Path.{fun_ext}
 use Rattle.std.specs.List.{All, find}
 use Rattle.std.specs.Option.{option_map}
@@ -11,29 +11,25 @@ use Rattle.jx_base.specs.declared.style.Style.{Style}
 use Rattle.jx_base.specs.Sound.{IsSound}
 use Rattle.jx_grid.specs.declared.coef.Coef.{Coef}
 use Rattle.jx_grid.specs.Cells.{Cells, coef_at}
-use Rattle.jx_block.specs.Jobs.{KeepsCausal}
-use Rattle.jx_block.specs.Written.{own_cells, style_for, written_as}
-use Rattle.jx_layers.specs.Causal.{first_broken}
+use Rattle.jx_block.specs.declared.LayerEnd.{LayerEnd}
+use Rattle.jx_block.specs.Written.{own_cells, written_in}
+use Rattle.jx_layers.specs.Causal.{breaks_plane, first_broken}
+use Rattle.jx_layers.proofs.CausalLemmas.{none_at}
+use Rattle.jx_layers.specs.Layers.{ends_of, written_by, written_from}
+use Rattle.jx_layers.specs.Rule.{Rule}
 use Rattle.jx_marker.specs.declared.Siz.{Siz}
 use Rattle.jx_stream.specs.declared.Stream.{Stream}
 use Rattle.jx_stream.specs.Params.{params_of, step_of}
 use Rattle.jx_plan.specs.Asides.{IsWithMore}
 use Rattle.jx_plan.specs.Headers.{Asked, stream_written}
 use Rattle.jx_plan.specs.Meaning.{Component, Meaning, Place, component_of, lies_in, meaning_of, sample_at, sample_in}
-use Rattle.jx_plan.specs.Plan.{asked_of, blocks_written, headers_with}
+use Rattle.jx_plan.specs.Plan.{asked_of, headers_with}
+use Rattle.jx_plan.specs.Planned.{blocks_written, layers_of_rule}
 use Rattle.jx_plan.specs.Standing.{HeadersStand}
 use Rattle.jx_plan.specs.Wanted.{Wanted}
-use Rattle.jx_plan.proofs.BlocksWritten.{BreakLaws, MayBeIn, all_may}
+use Rattle.jx_plan.proofs.LayerLaws.{CellLaws, EndLaws}
 use Rattle.jx_plan.proofs.MoreLemmas.{params_with_more, step_with_more}
 use Rattle.jx_plan.proofs.StreamLemmas.{params_stay, step_stays}
-
--- a block that is written keeps its place, its passes and its coefficients
-pub record CellLaws : Type 0 where
-  pub name : (asked : Option Style) (b : Block) → (written_as asked b).name ≡ b.name
-  pub rect : (asked : Option Style) (b : Block) → (written_as asked b).rect ≡ b.rect
-  pub zero : (asked : Option Style) (b : Block) → (written_as asked b).zero ≡ b.zero
-  pub passes : (asked : Option Style) (b : Block) → (written_as asked b).passes ≡ b.passes
-  pub cells : (asked : Option Style) (b : Block) → IsSound b → KeepsCausal b (style_for asked b) → own_cells (written_as asked b) ≡ own_cells b
 
 -- ---- the coefficient of a place
 lies_same : (p : Place) (b c : Block) → c.name ≡ b.name → c.rect ≡ b.rect → lies_in p c ≡ lies_in p b
@@ -55,18 +51,25 @@ found_same : {X Y : Type 0} (g : X → Y) (x y : Bool) (c b : X) (m n : Option X
 found_same g x true c b m n e d h = rw e (ap Some d)
 found_same g x false c b m n e d h = rw e h
 
-module _ (laws : CellLaws) (asked : Option Style) (p : Place) where
-  abbrev f : Block → Block
-  f = written_as asked
+module _ (laws : CellLaws) (ends : EndLaws) (asked : Option Style) (r : Rule) (layers : ℕ) (some : 1 ≤ layers) (all : List Block) (p : Place) where
+  samples_same : (number : ℕ) (blocks : List Block) → All IsSound blocks → All (λ (b : Block). breaks_plane asked b ≡ false) blocks
+      → sample_at (written_from asked r layers all number blocks) p ≡ sample_at blocks p
+  samples_same number [] sound whole = refl
+  samples_same number (b ∷ blocks) sound whole =
+      let list : List LayerEnd = ends_of r layers all number b in
+      let c : Block = written_in asked list b in
+      let may = ends.asked asked r layers all number b some (All-head IsSound b blocks sound) (All-head (λ (x : Block). breaks_plane asked x ≡ false) b blocks whole) in
+      let more = samples_same (number + 1) blocks (All-tail IsSound b blocks sound) (All-tail (λ (x : Block). breaks_plane asked x ≡ false) b blocks whole) in
+      let own : sample_in p c ≡ sample_in p b = sample_same p b c (laws.rect asked list b) (laws.passes asked list b) (laws.zero asked list b) (laws.cells asked list b may) in
+      found_same (sample_in p) (lies_in p c) (lies_in p b) c b (find (lies_in p) (written_from asked r layers all (number + 1) blocks)) (find (lies_in p) blocks)
+      (lies_same p b c (laws.name asked list b) (laws.rect asked list b)) own more
 
-  own_sample : (b : Block) → MayBeIn asked b → sample_in p (f b) ≡ sample_in p b
-  own_sample b may = sample_same p b (f b) (laws.rect asked b) (laws.passes asked b) (laws.zero asked b) (laws.cells asked b may.sound may.causal)
+  from_first : written_by asked r layers all ≡ written_from asked r layers all 0 all
+  unfolding written_by
+  from_first = refl
 
-  samples_same : (blocks : List Block) → All (MayBeIn asked) blocks → sample_at (map f blocks) p ≡ sample_at blocks p
-  samples_same [] may = refl
-  samples_same (b ∷ blocks) may =
-      found_same (sample_in p) (lies_in p (f b)) (lies_in p b) (f b) b (find (lies_in p) (map f blocks)) (find (lies_in p) blocks)
-      (lies_same p b (f b) (laws.name asked b) (laws.rect asked b)) (own_sample b (All-head (MayBeIn asked) b blocks may)) (samples_same blocks (All-tail (MayBeIn asked) b blocks may))
+  samples_stay : All IsSound all → All (λ (b : Block). breaks_plane asked b ≡ false) all → sample_at (written_by asked r layers all) p ≡ sample_at all p
+  samples_stay sound whole = ap (λ (list : List Block). sample_at list p) from_first ∙ samples_same 0 all sound whole
 
 -- ---- all of it
 same_meaning : (u v : Siz) (f g : ℕ → ℕ → Component) (h k : ℕ → ℕ → ℕ → Band → ℕ × ℕ) (x y : Place → Option Coef) → u ≡ v → f ≡ g → h ≡ k → x ≡ y
@@ -84,17 +87,18 @@ siz_same : (a : Asked) (s : Stream) → ◌≡◌ {A = Siz} (record (stream_writ
 unfolding stream_written
 siz_same a s = refl
 
-pub meaning_written : CellLaws → BreakLaws → (w : Wanted) (layers : ℕ) (s : Stream) (blocks : List Block) → HeadersStand s → All IsSound blocks → first_broken w.style blocks ≡ None
-    → meaning_of (headers_with w layers s) (blocks_written w blocks) ≡ meaning_of s blocks
+pub meaning_written : CellLaws → EndLaws → (w : Wanted) (r : Rule) (s : Stream) (blocks : List Block) → 1 ≤ layers_of_rule r s blocks → HeadersStand s → All IsSound blocks
+    → first_broken w.style blocks ≡ None → meaning_of (headers_with w (layers_of_rule r s blocks) s) (blocks_written w r s blocks) ≡ meaning_of s blocks
 unfolding meaning_of
-meaning_written laws breaks w layers s blocks stand sound none =
+meaning_written laws ends w r s blocks some stand sound none =
+    let layers : ℕ = layers_of_rule r s blocks in
     let a : Asked = asked_of w layers in
     let other : Stream = headers_with w layers s in
-    same_meaning _ _ _ _ (step_of other) (step_of s) (sample_at (blocks_written w blocks)) (sample_at blocks)
+    same_meaning _ _ _ _ (step_of other) (step_of s) (sample_at (blocks_written w r s blocks)) (sample_at blocks)
     (siz_same a s)
     (components_same s other (λ t c. ap component_of (params_stay a s stand t c)))
     (steps_same s other (step_stays a s stand))
-    (fun_ext (λ p. samples_same laws w.style p blocks (all_may breaks w.style blocks sound none)))
+    (fun_ext (λ p. samples_stay laws ends w.style r layers some blocks p sound (none_at (breaks_plane w.style) blocks none)))
 
 pub meaning_with_more : (s other : Stream) (blocks : List Block) → IsWithMore s other → meaning_of other blocks ≡ meaning_of s blocks
 unfolding meaning_of

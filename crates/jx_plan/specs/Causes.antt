@@ -1,5 +1,5 @@
 -- What is in the way of a plan in the blocks and in the headers: choice 1; limit 7 and choice 5, of so many layers.
-use Rattle.std.specs.Prelude.{◌≡◌, ◌<◌, ◌≤◌, ℕ, List, Option, None, Some}
+use Rattle.std.specs.Prelude.{◌≡◌, ◌<◌, ◌≤◌, ℕ, List, Option, Some}
 use Rattle.jx_base.specs.declared.pieces.Block.{Block}
 use Rattle.jx_base.specs.declared.style.Style.{Style}
 use Rattle.jx_stream.specs.declared.Stream.{Stream}

@@ -5,7 +5,7 @@ ghost use Rattle.jx_plan.specs.Plan.{MayBePlanned};
 ghost use Rattle.jx_plan.specs.Wanted.{MayBeStyle, MayBeWanted};
 
 use super::*;
-use crate::tests::{TILES, by_planner, file_of, kept};
+use crate::tests::{TILES, by_planner, file_of};
 use jx_base::{Block, Style};
 use jx_block::Job;
 use jx_gather::gather;
@@ -43,18 +43,20 @@ const FOUR: &str = "
     FF90 000A 0000 00000012 00 01 FF93 FA0801 00
     FFD9";
 
-// No word is a planner's; these precincts are asked, and this style.
+// The words of the planner that keeps; these precincts are asked, and this style.
 fn with_precincts(alloc: Global, bytes: &[u8], style: Option<Style>) -> Result<Options, AllocError>
     requires { IfSome style MayBeStyle }
     ensures { IfOk result (λ options. MayBeWanted options) }
 {
     let mut list = Vec::new(alloc);
     list.extend_from_slice(bytes)?;
+    let mut layers = String::new(alloc);
+    layers.push_str("keep")?;
     Ok(Options {
         order: OrderChoice::Keep,
         precincts: PrecinctChoice::List(list),
         style,
-        layers: String::new(alloc),
+        layers,
         parts: PartChoice::None,
         sop: false,
         eph: false,
@@ -62,8 +64,7 @@ fn with_precincts(alloc: Global, bytes: &[u8], style: Option<Style>) -> Result<O
     })
 }
 
-// The fault of the plan that keeps the layers with these precincts and this style, after that of a planner that has no rule for
-// the words.
+// The fault of a planner that has no rule for the words, with these precincts and this style, and that of the planner that keeps.
 fn faults_of(
     alloc: Global,
     text: &str,
@@ -74,16 +75,17 @@ fn faults_of(
 {
     let file = file_of(alloc, text)?;
     let options = with_precincts(alloc, bytes, style)?;
-    let mut planner: Box<dyn LayerPlanner> = Box::new(alloc, OneLayer::new())?;
-    let by_rule = match by_planner(alloc, &file, &options, &mut planner) {
+    let mut one: Box<dyn LayerPlanner> = Box::new(alloc, OneLayer::new())?;
+    let ruleless = match by_planner(alloc, &file, &options, &mut one) {
         Some(Err(fault)) => Some(fault),
         _ => None,
     };
-    let by_layers = match kept(alloc, &file, &options) {
+    let mut keep: Box<dyn LayerPlanner> = Box::new(alloc, KeepLayers::new())?;
+    let by_rule = match by_planner(alloc, &file, &options, &mut keep) {
         Some(Err(fault)) => Some(fault),
         _ => None,
     };
-    Ok((by_rule, by_layers))
+    Ok((ruleless, by_rule))
 }
 
 // Choice 3 comes before 2, and both before 6.
@@ -101,17 +103,17 @@ fn precincts_that_fit_and_others(rt: HostRuntime) -> Result<(), Fail> {
         (LEVEL, &[0x77, 0x07], Some((3, 1))),
     ];
     for (text, bytes, fault) in rows {
-        let (by_rule, by_layers) = faults_of(alloc, text, bytes, None)?;
+        let (ruleless, by_rule) = faults_of(alloc, text, bytes, None)?;
         let unfit = match fault {
             Some((number, place)) => Some(PlanFault::Choice { number, place }),
             None => None,
         };
-        assert_eq!(rt; by_layers, unfit);
-        let ruleless = PlanFault::Choice {
+        assert_eq!(rt; by_rule, unfit);
+        let unserved = PlanFault::Choice {
             number: 6,
             place: 0,
         };
-        assert_eq!(rt; by_rule, Some(unfit.unwrap_or(ruleless)));
+        assert_eq!(rt; ruleless, Some(unfit.unwrap_or(unserved)));
     }
     Ok(())
 }
@@ -140,17 +142,17 @@ fn causal_bits_within_a_plane(rt: HostRuntime) -> Result<(), Fail> {
     ];
     for (text, bytes, causal, fault) in rows {
         let style = causal_style(causal);
-        let (by_rule, by_layers) = faults_of(alloc, text, bytes, Some(style))?;
+        let (ruleless, by_rule) = faults_of(alloc, text, bytes, Some(style))?;
         let unfit = match fault {
             Some((number, place)) => Some(PlanFault::Choice { number, place }),
             None => None,
         };
-        assert_eq!(rt; by_layers, unfit);
-        let ruleless = PlanFault::Choice {
+        assert_eq!(rt; by_rule, unfit);
+        let unserved = PlanFault::Choice {
             number: 6,
             place: 0,
         };
-        assert_eq!(rt; by_rule, Some(unfit.unwrap_or(ruleless)));
+        assert_eq!(rt; ruleless, Some(unfit.unwrap_or(unserved)));
     }
     Ok(())
 }
@@ -163,21 +165,20 @@ fn styles_of(alloc: Global, jobs: &[Job<'_>]) -> Result<Vec<Option<Style>>, Allo
     Ok(list)
 }
 
-// The styles of the jobs of the plan that keeps the layers, and of those of a planner's plan.
+// The styles of the jobs of a planner's plan.
 fn planned_styles(
     alloc: Global,
     stream: &Stream,
     blocks: &[Block<'_>],
     options: &Options,
     planner: &mut Box<dyn LayerPlanner>,
-) -> Result<(Vec<Option<Style>>, Vec<Option<Style>>), PlanFault>
+) -> Result<Vec<Option<Style>>, PlanFault>
     requires may { MayBePlanned stream.now blocks.now }
     requires wanted { MayBeWanted options.now }
 {
-    let by_layers = plan_kept(alloc, stream, blocks, options)?;
-    let by_rule = plan(alloc, stream, blocks, options, Some(planner))?;
-    let kept = styles_of(alloc, by_layers.jobs())?;
-    Ok((kept, styles_of(alloc, by_rule.jobs())?))
+    let plan = plan(alloc, stream, blocks, options, Some(planner))?;
+    let styles = styles_of(alloc, plan.jobs())?;
+    Ok(styles)
 }
 
 // The words of the planner that keeps, and this style.
@@ -200,12 +201,12 @@ fn with_style(alloc: Global, style: Option<Style>) -> Result<Options, AllocError
 }
 
 // The same of a file.
-#[tactic(auto, using(crate::proofs::KeptLemmas::gathered_may))]
+#[tactic(auto, using(crate::proofs::PlanLemmas::gathered_may))]
 fn job_styles(
     alloc: Global,
     text: &str,
     style: Option<Style>,
-) -> Result<(Vec<Option<Style>>, Vec<Option<Style>>), Fail>
+) -> Result<Vec<Option<Style>>, Fail>
     requires { IfSome style MayBeStyle }
 {
     let file = file_of(alloc, text)?;
@@ -231,15 +232,12 @@ fn job_styles(
 fn styles_of_jobs(rt: HostRuntime) -> Result<(), Fail> {
     let alloc = rt.alloc();
     let causal = Some(Style { bits: 0x08 });
-    let (kept, planned) = job_styles(alloc, FOUR, causal)?;
-    assert_eq!(rt; kept.as_slice(), [causal].as_slice());
-    assert_eq!(rt; planned.as_slice(), [causal].as_slice());
-    let (kept, planned) = job_styles(alloc, THREE, Some(Style { bits: 0 }))?;
-    assert_eq!(rt; kept.as_slice(), [None].as_slice());
-    assert_eq!(rt; planned.as_slice(), [None].as_slice());
-    let (kept, planned) = job_styles(alloc, THREE, None)?;
-    assert_eq!(rt; kept.as_slice(), [None].as_slice());
-    assert_eq!(rt; planned.as_slice(), [None].as_slice());
+    let styles = job_styles(alloc, FOUR, causal)?;
+    assert_eq!(rt; styles.as_slice(), [causal].as_slice());
+    let styles = job_styles(alloc, THREE, Some(Style { bits: 0 }))?;
+    assert_eq!(rt; styles.as_slice(), [None].as_slice());
+    let styles = job_styles(alloc, THREE, None)?;
+    assert_eq!(rt; styles.as_slice(), [None].as_slice());
     Ok(())
 }
 
@@ -285,10 +283,6 @@ fn too_many_tile_parts(rt: HostRuntime) -> Result<(), Fail> {
         place: 0,
     };
     let options = by_layer(alloc, "keep")?;
-    let Some(Err(fault)) = kept(alloc, &file, &options) else {
-        return Err("planned")?;
-    };
-    assert_eq!(rt; fault, parted);
     let mut planner: Box<dyn LayerPlanner> = Box::new(alloc, KeepLayers::new())?;
     let Some(Err(fault)) = by_planner(alloc, &file, &options, &mut planner) else {
         return Err("planned")?;
@@ -296,7 +290,7 @@ fn too_many_tile_parts(rt: HostRuntime) -> Result<(), Fail> {
     assert_eq!(rt; fault, parted);
     let options = by_layer(alloc, "one")?;
     let mut planner: Box<dyn LayerPlanner> = Box::new(alloc, OneLayer::new())?;
-    let Some(Ok((layers, _))) = by_planner(alloc, &file, &options, &mut planner) else {
+    let Some(Ok((layers, _, _))) = by_planner(alloc, &file, &options, &mut planner) else {
         return Err("refused")?;
     };
     assert_eq!(rt; layers, 1);

@@ -44,8 +44,8 @@ ghost use Rattle.jx_plan.specs.Planned.{CanBePlannedBy, HasPlanCause, IsCrowded,
 ghost use Rattle.jx_layers.specs.Rule.{Rule};
 ghost use Rattle.jx_layers.specs.Rule.Rule.{Keep};
 
-use jx_block::laws::written_in_layers;
-use jx_layers::laws::{blocks_are_written, breaks_are_told, crowds_are_told, jobs_have_these_ends};
+use jx_block::laws::{written_in_layers, written_in_own_layers};
+use jx_layers::laws::{blocks_are_written, crowds_are_told, jobs_have_these_ends};
 
 /// The headers of a stream that was read stand in its file.
 pub fn read_headers_stand()
@@ -125,7 +125,7 @@ pub fn written_blocks_stand()
     ensures kept { (w : Wanted) (s : Stream) (blocks : List Block) → w.style ≡ None → MayBePlanned s blocks → blocks_written w Keep s blocks ≡ blocks }
 {
     written_in_layers();
-    breaks_are_told();
+    written_in_own_layers();
     jobs_have_these_ends();
     blocks_are_written();
     crowds_are_told();
@@ -139,9 +139,7 @@ pub fn meaning_stays()
     ensures more { (s other : Stream) (blocks : List Block) → IsWithMore s other → meaning_of other blocks ≡ meaning_of s blocks }
 {
     written_in_layers();
-    breaks_are_told();
     jobs_have_these_ends();
-    blocks_are_written();
 }
 
 /// A plan by a rule writes the blocks that the rule says, and nothing is in its way.

@@ -1,6 +1,6 @@
 //! The plan by a planner of layers that was handed in.
 
-ghost use Rattle.std.specs.Prelude.{◌≡◌, ◌≤◌, ◌^◌, ℕ, length, slice_get, None, Some, IfErr, IfOk, IfSome, MatchOption};
+ghost use Rattle.std.specs.Prelude.{◌≡◌, ◌<◌, ◌≤◌, ◌^◌, ℕ, length, slice_get, None, Some, IfErr, IfOk, IfSome, MatchOption};
 ghost use Rattle.std.specs.List.{All};
 ghost use Rattle.std.specs.Option.{option_map};
 ghost use Rattle.jx_base.specs.Sound.{IsSound};
@@ -21,6 +21,7 @@ use crate::fitting::check_precincts;
 use crate::{Options, OutStream, PlanFault};
 use jx_base::{Block, Style};
 use jx_block::Job;
+use jx_layers::laws::crowds_are_told;
 use jx_layers::{
     LayerPlanner, StreamFacts, ask_jobs, facts_of, first_broken, first_crowded,
 };
@@ -120,6 +121,7 @@ fn plan_with<'a>(
     ensures planned { IfOk result (λ p. IsPlanned (rule_of planner.old options.entry.now.layers (facts_of stream.entry.now blocks.entry.now)) stream.entry.now blocks.entry.now options.entry.now p) }
     ensures cause { IfErr result (λ e. HasLaterCause (rule_of planner.old options.entry.now.layers (facts_of stream.entry.now blocks.entry.now)) stream.entry.now blocks.entry.now options.entry.now e) }
 {
+    crowds_are_told();
     let facts = facts_of(alloc, stream, blocks)?;
     match plan_by(
         alloc,

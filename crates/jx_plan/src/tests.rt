@@ -9,7 +9,7 @@ use headers::{HeaderMarks, write_headers};
 use jx_base::{Block, Style};
 use jx_block::Job;
 use jx_gather::gather;
-use jx_layers::{LayerPlanner, OneLayer};
+use jx_layers::{KeepLayers, LayerPlanner, OneLayer, TableLayers};
 use jx_marker::Segment;
 use jx_stream::{Stream, StreamFault, read_stream};
 use std::alloc::{AllocError, Global};
@@ -239,85 +239,32 @@ fn ends_of(alloc: Global, jobs: &[Job<'_>]) -> Result<Vec<[u32; 3]>, AllocError>
     Ok(list)
 }
 
-// The layers, the ends and what the main COD says, of the plan that keeps the layers. The stream and the blocks come as references:
-// a value can't be lent where it is made, since both lifetimes of the blocks are one.
-fn kept_of(
-    alloc: Global,
-    stream: &Stream,
-    blocks: &[Block<'_>],
-    options: &Options,
-) -> Result<(u16, Vec<[u32; 3]>, Option<(bool, bool, u8, u16)>), PlanFault>
-    requires may { MayBePlanned stream.now blocks.now }
-    requires wanted { MayBeWanted options.now }
-{
-    let plan = plan_kept(alloc, stream, blocks, options)?;
-    let ends = ends_of(alloc, plan.jobs())?;
-    let cod = cod_of(plan.headers().main.as_slice());
-    Ok((plan.layers(), ends, cod))
-}
-
-// The same of a file; none where it is refused.
-#[tactic(auto, using(crate::proofs::KeptLemmas::gathered_may))]
-pub(crate) fn kept(
-    alloc: Global,
-    file: &[u8],
-    options: &Options,
-) -> Option<Result<(u16, Vec<[u32; 3]>, Option<(bool, bool, u8, u16)>), PlanFault>>
-    requires { MayBeWanted options.now }
-{
-    if file.len() > 1 << 28 {
-        return None;
-    }
-    let Ok(stream) = read_stream(alloc, file) else {
-        return None;
-    };
-    let Ok(blocks) = gather(alloc, file, &stream) else {
-        return None;
-    };
-    Some(kept_of(alloc, &stream, &blocks, options))
-}
-
-#[test]
-fn layers_are_kept(rt: HostRuntime) -> Result<(), Fail> {
-    let alloc = rt.alloc();
-    let file = file_of(alloc, TILES)?;
-    let options = options_of(alloc, "")?;
-    let Some(Ok((layers, ends, cod))) = kept(alloc, &file, &options) else {
-        return Err("refused")?;
-    };
-    assert_eq!(rt; layers, 2);
-    assert_eq!(rt; cod, Some((false, false, 0, 2)));
-    assert_eq!(rt;
-        ends.as_slice(),
-        [[0, 0, 1], [1, 0, 1], [1, 1, 2]].as_slice()
-    );
-    Ok(())
-}
-
-// The layers and the ends that a planner plans.
+// The layers, the ends and what the main COD says, of a plan. The stream and the blocks come as references: a value can't be lent
+// where it is made, since both lifetimes of the blocks are one.
 fn planned_of(
     alloc: Global,
     stream: &Stream,
     blocks: &[Block<'_>],
     options: &Options,
     planner: &mut Box<dyn LayerPlanner>,
-) -> Result<(u16, Vec<[u32; 3]>), PlanFault>
+) -> Result<(u16, Vec<[u32; 3]>, Option<(bool, bool, u8, u16)>), PlanFault>
     requires may { MayBePlanned stream.now blocks.now }
     requires wanted { MayBeWanted options.now }
 {
     let plan = plan(alloc, stream, blocks, options, Some(planner))?;
     let ends = ends_of(alloc, plan.jobs())?;
-    Ok((plan.layers(), ends))
+    let cod = cod_of(plan.headers().main.as_slice());
+    Ok((plan.layers(), ends, cod))
 }
 
 // The same of a file; none where it is refused.
-#[tactic(auto, using(crate::proofs::KeptLemmas::gathered_may))]
+#[tactic(auto, using(crate::proofs::PlanLemmas::gathered_may))]
 pub(crate) fn by_planner(
     alloc: Global,
     file: &[u8],
     options: &Options,
     planner: &mut Box<dyn LayerPlanner>,
-) -> Option<Result<(u16, Vec<[u32; 3]>), PlanFault>>
+) -> Option<Result<(u16, Vec<[u32; 3]>, Option<(bool, bool, u8, u16)>), PlanFault>>
     requires { MayBeWanted options.now }
 {
     if file.len() > 1 << 28 {
@@ -333,12 +280,30 @@ pub(crate) fn by_planner(
 }
 
 #[test]
+fn layers_are_kept(rt: HostRuntime) -> Result<(), Fail> {
+    let alloc = rt.alloc();
+    let file = file_of(alloc, TILES)?;
+    let mut planner: Box<dyn LayerPlanner> = Box::new(alloc, KeepLayers::new())?;
+    let options = options_of(alloc, "keep")?;
+    let Some(Ok((layers, ends, cod))) = by_planner(alloc, &file, &options, &mut planner) else {
+        return Err("refused")?;
+    };
+    assert_eq!(rt; layers, 2);
+    assert_eq!(rt; cod, Some((false, false, 0, 2)));
+    assert_eq!(rt;
+        ends.as_slice(),
+        [[0, 0, 1], [1, 0, 1], [1, 1, 2]].as_slice()
+    );
+    Ok(())
+}
+
+#[test]
 fn all_in_one_layer(rt: HostRuntime) -> Result<(), Fail> {
     let alloc = rt.alloc();
     let file = file_of(alloc, TILES)?;
     let mut planner: Box<dyn LayerPlanner> = Box::new(alloc, OneLayer::new())?;
     let options = options_of(alloc, "one")?;
-    let Some(Ok((layers, ends))) = by_planner(alloc, &file, &options, &mut planner) else {
+    let Some(Ok((layers, ends, _))) = by_planner(alloc, &file, &options, &mut planner) else {
         return Err("refused")?;
     };
     assert_eq!(rt; layers, 1);
@@ -354,6 +319,107 @@ fn all_in_one_layer(rt: HostRuntime) -> Result<(), Fail> {
             place: 0
         }
     );
+    Ok(())
+}
+
+// The layers and the ends of a plan by the first of some planners that serves.
+fn served_of(
+    alloc: Global,
+    stream: &Stream,
+    blocks: &[Block<'_>],
+    options: &Options,
+    planners: &mut [Box<dyn LayerPlanner>],
+) -> Result<(u16, Vec<[u32; 3]>), PlanFault>
+    requires may { MayBePlanned stream.now blocks.now }
+    requires wanted { MayBeWanted options.now }
+{
+    let plan = plan_served(alloc, stream, blocks, options, planners)?;
+    let ends = ends_of(alloc, plan.jobs())?;
+    Ok((plan.layers(), ends))
+}
+
+// The same of a file; none where it is refused.
+#[tactic(auto, using(crate::proofs::PlanLemmas::gathered_may))]
+fn by_planners(
+    alloc: Global,
+    file: &[u8],
+    options: &Options,
+    planners: &mut [Box<dyn LayerPlanner>],
+) -> Option<Result<(u16, Vec<[u32; 3]>), PlanFault>>
+    requires { MayBeWanted options.now }
+{
+    if file.len() > 1 << 28 {
+        return None;
+    }
+    let Ok(stream) = read_stream(alloc, file) else {
+        return None;
+    };
+    let Ok(blocks) = gather(alloc, file, &stream) else {
+        return None;
+    };
+    Some(served_of(alloc, &stream, &blocks, options, planners))
+}
+
+// The planner that keeps; one of a table, which puts the second block's passes into a second layer, and that of one layer,
+// which serve the same words, in this order or the other.
+fn planners(alloc: Global, table_first: bool) -> Result<Vec<Box<dyn LayerPlanner>>, AllocError> {
+    let mut list = Vec::new(alloc);
+    let keep: Box<dyn LayerPlanner> = Box::new(alloc, KeepLayers::new())?;
+    list.push(keep)?;
+    let Ok(table) = TableLayers::new(alloc, "one", &[0, 1]) else {
+        return Ok(list);
+    };
+    let table: Box<dyn LayerPlanner> = Box::new(alloc, table)?;
+    let one: Box<dyn LayerPlanner> = Box::new(alloc, OneLayer::new())?;
+    if table_first {
+        list.push(table)?;
+        list.push(one)?;
+    } else {
+        list.push(one)?;
+        list.push(table)?;
+    }
+    Ok(list)
+}
+
+#[test]
+fn first_that_serves(rt: HostRuntime) -> Result<(), Fail> {
+    let alloc = rt.alloc();
+    let file = file_of(alloc, TILES)?;
+    let options = options_of(alloc, "one")?;
+    let mut list = planners(alloc, true)?;
+    let Some(Ok((layers, ends))) = by_planners(alloc, &file, &options, list.as_mut_slice()) else {
+        return Err("refused")?;
+    };
+    assert_eq!(rt; layers, 2);
+    assert_eq!(rt; ends.as_slice(), [[0, 0, 1], [1, 1, 2]].as_slice());
+    let mut list = planners(alloc, false)?;
+    let Some(Ok((layers, ends))) = by_planners(alloc, &file, &options, list.as_mut_slice()) else {
+        return Err("refused")?;
+    };
+    assert_eq!(rt; layers, 1);
+    assert_eq!(rt; ends.as_slice(), [[0, 0, 1], [1, 0, 2]].as_slice());
+    Ok(())
+}
+
+#[test]
+fn none_that_serves(rt: HostRuntime) -> Result<(), Fail> {
+    let alloc = rt.alloc();
+    let file = file_of(alloc, TILES)?;
+    let options = options_of(alloc, "two")?;
+    let unserved = PlanFault::Choice {
+        number: 6,
+        place: 0,
+    };
+    let mut list = planners(alloc, true)?;
+    let Some(Err(fault)) = by_planners(alloc, &file, &options, list.as_mut_slice()) else {
+        return Err("planned")?;
+    };
+    assert_eq!(rt; fault, unserved);
+    let mut nobody: Vec<Box<dyn LayerPlanner>> = Vec::new(alloc);
+    let Some(Err(fault)) = by_planners(alloc, &file, &options, nobody.as_mut_slice()) else {
+        return Err("planned")?;
+    };
+    assert_eq!(rt; fault, unserved);
     Ok(())
 }
 
@@ -391,8 +457,9 @@ fn too_many_packets(rt: HostRuntime) -> Result<(), Fail> {
         number: 7,
         found: 4_200_450,
     };
-    let options = options_of(alloc, "")?;
-    let Some(Err(fault)) = kept(alloc, &file, &options) else {
+    let mut planner: Box<dyn LayerPlanner> = Box::new(alloc, KeepLayers::new())?;
+    let options = options_of(alloc, "keep")?;
+    let Some(Err(fault)) = by_planner(alloc, &file, &options, &mut planner) else {
         return Err("planned")?;
     };
     assert_eq!(rt; fault, limit);
@@ -410,8 +477,9 @@ const LONG: &str = "
 fn too_many_passes(rt: HostRuntime) -> Result<(), Fail> {
     let alloc = rt.alloc();
     let file = file_of(alloc, LONG)?;
-    let options = options_of(alloc, "")?;
-    let Some(Ok((layers, ends, _))) = kept(alloc, &file, &options) else {
+    let mut planner: Box<dyn LayerPlanner> = Box::new(alloc, KeepLayers::new())?;
+    let options = options_of(alloc, "keep")?;
+    let Some(Ok((layers, ends, _))) = by_planner(alloc, &file, &options, &mut planner) else {
         return Err("refused")?;
     };
     assert_eq!(rt; layers, 2);

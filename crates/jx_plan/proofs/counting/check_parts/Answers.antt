@@ -1,6 +1,6 @@
 use Rattle.std.proofs.Common.{rules, ◌≡◌, ◌<◌, ◌^◌, ap}
 use Rattle.jx_plan.specs.Wanted.{Wanted}
-use Rattle.jx_plan.proofs.KeptLemmas.{few_made, headers_in_range, headers_pass, headers_whole, none_parted}
+use Rattle.jx_plan.proofs.PlanLemmas.{few_made, headers_in_range, headers_pass, headers_whole, none_parted}
 use Rattle.jx_plan.proofs.counting.check_parts.Goals as goal
 
 pub first_parted-requires-clause-range : goal.first_parted-requires-clause-range

@@ -1,5 +1,5 @@
 use Rattle.std.proofs.Common.{rules, ◌<◌, ◌^◌}
-use Rattle.jx_plan.proofs.KeptLemmas.{headers_in_range}
+use Rattle.jx_plan.proofs.PlanLemmas.{headers_in_range}
 use Rattle.jx_plan.proofs.counting.plan_headers.Goals as goal
 
 pub count_packets-requires : goal.count_packets-requires

@@ -1,4 +1,4 @@
-use Rattle.jx_plan.proofs.KeptLemmas.{few_blocks}
+use Rattle.jx_plan.proofs.PlanLemmas.{few_blocks}
 use Rattle.jx_plan.proofs.planning.plan.Goals as goal
 
 pub first_broken-requires : goal.first_broken-requires

@@ -1,5 +1,5 @@
 use Rattle.std.proofs.Common.{rules, ◌≡◌, length, arith}
-use Rattle.jx_plan.proofs.KeptLemmas.{few_blocks}
+use Rattle.jx_plan.proofs.PlanLemmas.{few_blocks}
 use Rattle.jx_plan.proofs.planning.plan_jobs.Goals as goal
 
 pub first_crowded-requires : goal.first_crowded-requires

@@ -1,0 +1,128 @@
+-- What a plan stands on: how many layers a stream has, a block at its number, and the headers that are written.
+use Rattle.std.proofs.Common.{◌≡◌, ◌<◌, ◌≤◌, ◌^◌, ◌∙◌, ap, sym, subst, refl, arith, ℕ, false, List, length, nat_lt, Option, None, Some}
+use Rattle.std.specs.List.{All, slice_get}
+use Rattle.std.specs.Option.{IfSome, MatchOption}
+use Rattle.std.proofs.lemmas.Bool.Decides.{nat_tests}
+use Rattle.std.proofs.lemmas.Option.{get_or_from_slice_get}
+use Rattle.jx_base.specs.declared.names.BlockName.{BlockName}
+use Rattle.jx_base.specs.declared.pieces.Block.{Block}
+use Rattle.jx_base.specs.declared.style.Style.{Style}
+use Rattle.jx_base.specs.Sound.{IsSound}
+use Rattle.jx_geom.specs.declared.shape.Canvas.{Canvas}
+use Rattle.jx_geom.specs.Ranges.{CanvasInRange}
+use Rattle.jx_geom.specs.Counts.{tile_count}
+use Rattle.jx_geom.specs.Numbering.{IsBlock, block_number}
+use Rattle.jx_geom.proofs.NumberLemmas.{block_number_taken}
+use Rattle.jx_geom.proofs.TileLemmas.{place_in_one_tile}
+use Rattle.jx_stream.specs.declared.Stream.{Stream}
+use Rattle.jx_stream.specs.First.{canvas_of, tile_number}
+use Rattle.jx_stream.specs.Shapes.{shapes_of}
+use Rattle.jx_stream.specs.InRange.{StreamInRange}
+use Rattle.jx_gather.specs.BlockOf.{AreBlocksOf, IsBlockOf, IsFoundOf}
+use Rattle.jx_stream.specs.Read.{IsRead}
+use Rattle.jx_stream.proofs.RangeLemmas.{read_in_range}
+use Rattle.jx_gather.specs.Gathered.{IsGathered, IsWhole}
+use Rattle.jx_gather.proofs.BlockOfLemmas.{blocks_of_stream}
+use Rattle.jx_gather.proofs.SoundLemmas.{sound_gathered}
+use Rattle.jx_gather.specs.Totals.{block_total, packet_total, totals_fault}
+use Rattle.jx_layers.specs.Causal.{breaks_plane, first_broken}
+use Rattle.jx_layers.specs.Facts.{most_layers}
+use Rattle.jx_plan.specs.Fits.{Fits}
+use Rattle.jx_plan.specs.declared.PartChoice.{PartChoice}
+use Rattle.jx_plan.specs.Groups.{HasFewParts, IsPartedAt}
+use Rattle.jx_plan.specs.Headers.{Asked, MayBeAsked, stream_written}
+use Rattle.jx_plan.specs.Plan.{MayBePlanned, asked_of, headers_with, most_packets}
+use Rattle.jx_plan.specs.Wanted.{MayBeStyle, MayBeWanted, Wanted}
+use Rattle.jx_plan.proofs.BlockLemmas.{blocks_are}
+use Rattle.jx_plan.proofs.ReadLemmas.{read_stands}
+use Rattle.jx_gather.specs.Faults.{passed}
+use Rattle.jx_plan.specs.Standing.{HeadersStand}
+use Rattle.jx_plan.proofs.CoverLemmas.{written_whole}
+use Rattle.jx_plan.proofs.PlainLemmas.{blocks_pass, totals_plain}
+use Rattle.jx_plan.proofs.RangeLemmas.{written_in_range}
+use Rattle.jx_layers.proofs.CausalLemmas.{none_at}
+use Rattle.jx_layers.proofs.FactLemmas.{layers_most}
+
+-- ---- the greatest number of layers
+some_tile : (c : Canvas) → CanvasInRange c → 0 < tile_count c
+some_tile c fit =
+    let one = place_in_one_tile c c.x0 c.y0 fit (record {
+      across = record { from = omega arith; below = omega (arith, fit.some_across) };
+      down = record { from = omega arith; below = omega (arith, fit.some_down) };
+    }) in
+    omega (arith, one.holds.0)
+
+pub some_layers : (s : Stream) → StreamInRange s → 1 ≤ most_layers s
+some_layers s r =
+    let inside : 0 < tile_number s.siz = some_tile (canvas_of s.siz) r.canvas in
+    omega (arith, layers_most s 0 inside, r.some_layers 0 inside)
+
+-- ---- a block at its number
+pub block_at : (s : Stream) (blocks : List Block) (n : ℕ) (b : Block) → AreBlocksOf s blocks → slice_get blocks n ≡ Some b → n < length blocks
+    → (name : BlockName) × (IsBlock (canvas_of s.siz) (shapes_of s) name × IsBlockOf s name b)
+block_at s blocks n b are at inside =
+    let name = block_number_taken (canvas_of s.siz) (shapes_of s) n (omega (arith, inside, are.all, blocks_are s)) in
+    let found : IsFoundOf s name.0 (slice_get blocks (block_number (canvas_of s.siz) (shapes_of s) name.0)) = are.each name.0 name.1.0 in
+    (name.0, (name.1.0, subst (IsFoundOf s name.0) (ap (λ (k : ℕ). slice_get blocks k) name.1.1 ∙ at) found))
+
+pub sound_at : (blocks : List Block) (n : ℕ) (b : Block) → All IsSound blocks → slice_get blocks n ≡ Some b → n < length blocks → IsSound b
+sound_at blocks n b sound at inside = subst IsSound (get_or_from_slice_get blocks n b b at) (sound n b inside)
+
+not_passed : (found most : ℕ) → passed 5 found (nat_lt most found) ≡ None → found ≤ most
+not_passed found most h = grind (arith, nat_tests)
+
+pub few_blocks : (s : Stream) (blocks : List Block) → MayBePlanned s blocks → length blocks ≤ 2 ^ 20
+few_blocks s blocks may = omega (arith, may.blocks_are.all, not_passed (block_total s) (2 ^ 20) (blocks_pass s may.totals))
+
+-- it keeps its causal bit within planes
+pub whole_at : (style : Option Style) (blocks : List Block) (n : ℕ) (b : Block) → first_broken style blocks ≡ None → slice_get blocks n ≡ Some b → n < length blocks → breaks_plane style b ≡ false
+whole_at style blocks n b whole at inside =
+    subst (λ (x : Block). breaks_plane style x ≡ false) (get_or_from_slice_get blocks n b b at) (none_at (breaks_plane style) blocks whole n b inside)
+
+-- ---- the headers that are written
+style_few : (o : Option Style) → IfSome o MayBeStyle → IfSome o (λ (style : Style). style.bits < 64)
+style_few None may = tt
+style_few (Some style) may = may.few
+
+may_ask : (w : Wanted) (layers : ℕ) → MayBeWanted w → 1 ≤ layers → layers < 2 ^ 16 → MayBeAsked (asked_of w layers)
+may_ask w layers wanted some few = record { some = some; few = few; order = wanted.order; bytes = wanted.bytes; style = style_few w.style wanted.style }
+
+pub same_tiles : (a : Asked) (s : Stream) → tile_number (stream_written a s).siz ≡ tile_number s.siz
+unfolding stream_written
+same_tiles a s = refl
+
+module _ (w : Wanted) (layers : ℕ) (s other : Stream) (stand : HeadersStand s) (range : StreamInRange s) (wanted : MayBeWanted w) (fits : Fits w.precincts s) (some : 1 ≤ layers)
+    (few : layers < 2 ^ 16) (is : other ≡ headers_with w layers s) where
+  pub headers_in_range : StreamInRange other
+  headers_in_range = subst StreamInRange (sym is) (written_in_range (asked_of w layers) s (may_ask w layers wanted some few) fits.above stand range)
+
+  pub headers_pass : totals_fault s ≡ None → packet_total (headers_with w layers s) ≤ most_packets → totals_fault other ≡ None
+  headers_pass totals packets = ap totals_fault is ∙ totals_plain (asked_of w layers) s stand fits totals packets
+
+  pub headers_whole : (t : ℕ) → t < tile_number other.siz → IsWhole other t
+  headers_whole t inside =
+      let there : t < tile_number s.siz = omega (arith, inside, ap (λ (x : Stream). tile_number x.siz) is, same_tiles (asked_of w layers) s) in
+      subst (λ (x : Stream). IsWhole x t) (sym is) (written_whole (asked_of w layers) s t (may_ask w layers wanted some few) fits.above stand range there)
+
+pub few_made : (w : Wanted) (layers : ℕ) (s other : Stream) → other ≡ headers_with w layers s → ((t : ℕ) → t < tile_number other.siz → HasFewParts w.parts other t)
+    → (t : ℕ) → t < tile_number s.siz → HasFewParts w.parts (headers_with w layers s) t
+few_made w layers s other is few t inside =
+    let there : t < tile_number other.siz = omega (arith, inside, ap (λ (x : Stream). tile_number x.siz) is, same_tiles (asked_of w layers) s) in
+    subst (λ (x : Stream). HasFewParts w.parts x t) is (few t there)
+
+abbrev FewOf : PartChoice → Stream → Type 0
+FewOf parts s = (t : ℕ) → t < tile_number s.siz → HasFewParts parts s t
+
+pub none_parted : (own parts : PartChoice) (s : Stream) (first : Option ℕ) → own ≡ parts → first ≡ None → MatchOption first (FewOf own s) (IsPartedAt own s) → FewOf parts s
+none_parted own parts s None e none few = subst (λ (p : PartChoice). FewOf p s) e few
+none_parted own parts s (Some t) e none few = absurd (cc)
+
+-- ---- what was read may be planned
+pub gathered_may : (b : List ℕ) (s : Stream) (blocks : List Block) → IsRead b s → length b ≤ 2 ^ 28 → totals_fault s ≡ None → IsGathered b s blocks → MayBePlanned s blocks
+gathered_may b s blocks read fits totals gathered = record {
+  headers = read_stands b s read;
+  range = read_in_range b s read;
+  totals = totals;
+  blocks_are = blocks_of_stream b s blocks read fits totals gathered;
+  sound = sound_gathered b s blocks read fits totals gathered;
+}
