@@ -3,7 +3,8 @@
 use Rattle.std.proofs.Common.{◌≡◌, ◌∙◌, ◌<◌, ◌≤◌, ◌^◌, ℕ, Bool, false, arith, List, [], length, map, refl, sym, ap, subst, Option, None, Some}
 use Rattle.std.proofs.Math.Path.{fun_ext}
 use Rattle.std.specs.List.{All, list_any}
-use Rattle.std.specs.Prelude.{IfSome}
+use Rattle.std.proofs.lemmas.Option.{get_or_from_slice_get, slice_get_within}
+use Rattle.std.specs.Prelude.{IfSome, slice_get}
 use Rattle.jx_base.specs.declared.names.Band.{Band}
 use Rattle.jx_base.specs.declared.pieces.Block.{Block}
 use Rattle.jx_base.specs.declared.style.Style.{Style}
@@ -18,7 +19,7 @@ use Rattle.jx_stream.specs.declared.Stream.{Stream}
 use Rattle.jx_stream.specs.First.{tile_number}
 use Rattle.jx_stream.specs.Params.{cod_of, cod_or, header_of, params_of, planes_at, step_of}
 use Rattle.jx_stream.specs.Read.{IsRead}
-use Rattle.jx_stream.specs.Shapes.{geometry, layers_of, shapes_of, tile_at}
+use Rattle.jx_stream.specs.Shapes.{geometry, shapes_of, tile_at}
 use Rattle.jx_stream.specs.Spells.{AreSegments}
 use Rattle.jx_stream.specs.Tiles.{entry_in, in_slot, or_list}
 use Rattle.jx_stream.specs.Tiles.{joined as entries_joined}
@@ -27,15 +28,21 @@ use Rattle.jx_gather.specs.Gathered.{IsGathered}
 use Rattle.jx_gather.specs.Totals.{packet_total, totals_fault}
 use Rattle.jx_gather.proofs.BlockOfLemmas.{blocks_of_stream}
 use Rattle.jx_gather.proofs.SoundLemmas.{sound_gathered}
-use Rattle.jx_block.specs.Written.{is_wrong}
-use Rattle.jx_layers.specs.Causal.{first_broken}
+use Rattle.jx_block.specs.declared.LayerEnd.{LayerEnd}
+use Rattle.jx_block.specs.FirstLayers.{HasFirstLayers}
+use Rattle.jx_block.specs.Jobs.{IsAsked}
+use Rattle.jx_block.specs.Written.{is_wrong, style_for}
+use Rattle.jx_layers.specs.Causal.{breaks_plane, first_broken}
+use Rattle.jx_layers.specs.Layers.{ends_of}
+use Rattle.jx_layers.specs.Rule.{Rule}
 use Rattle.jx_plan.specs.declared.Marks.{Marks}
 use Rattle.jx_plan.specs.Asides.{is_plt}
 use Rattle.jx_plan.specs.Fits.{Fits, first_zero}
 use Rattle.jx_plan.specs.Headers.{Asked, MayBeAsked, cod_written, comp_written, params_written, stream_written}
 use Rattle.jx_plan.specs.Causes.{IsFree}
 use Rattle.jx_plan.specs.Meaning.{Component, Meaning, Place, component_of, meaning_of, sample_at}
-use Rattle.jx_plan.specs.Plan.{asked_of, blocks_written, headers_with}
+use Rattle.jx_plan.specs.Plan.{asked_of, headers_with}
+use Rattle.jx_plan.specs.Planned.{IsCrowded, IsFreeBy, MakesLayers, blocks_written, layers_of_rule}
 use Rattle.jx_plan.specs.Standing.{HeadersStand}
 use Rattle.jx_plan.specs.Wanted.{MayBeStyle, MayBeWanted, Wanted, marks_of}
 use Rattle.jx_assemble.specs.Kept.{IsKeptIn}
@@ -69,12 +76,20 @@ pub record KeepLaws : Type 0 where
   pub planes : (a : Asked) (s : Stream) (t c r : ℕ) (band : Band) → HeadersStand s → planes_at (stream_written a s) t c r band ≡ planes_at s t c r band
   pub places : (a : Asked) (s : Stream) (t : ℕ) → HeadersStand s
       → geometry (stream_written a s) t ≡ record (geometry s t) { shapes = map (comp_written a.precincts) (shapes_of s t) }
-  pub blocks : (w : Wanted) (layers : ℕ) (s : Stream) (blocks : List Block) → Fits w.precincts s → HeadersStand s → ((t : ℕ) → t < tile_number s.siz → layers_of s t ≤ layers)
-      → AreBlocksOf s blocks → All IsSound blocks → first_broken w.style blocks ≡ None → All (λ (b : Block). is_wrong w.style b ≡ false) blocks
-      → AreBlocksOf (headers_with w layers s) (blocks_written w blocks)
-  pub sound : (w : Wanted) (blocks : List Block) → All IsSound blocks → first_broken w.style blocks ≡ None → All IsSound (blocks_written w blocks)
-  pub meaning : (w : Wanted) (layers : ℕ) (s : Stream) (blocks : List Block) → HeadersStand s → All IsSound blocks → first_broken w.style blocks ≡ None
-      → meaning_of (headers_with w layers s) (blocks_written w blocks) ≡ meaning_of s blocks
+  pub blocks : (w : Wanted) (r : Rule) (s : Stream) (blocks : List Block) → 1 ≤ layers_of_rule r s blocks → Fits w.precincts s → HeadersStand s
+      → AreBlocksOf s blocks → All IsSound blocks → first_broken w.style blocks ≡ None → All (λ (b : Block). is_wrong w.style b ≡ false) blocks → IsCrowded r s blocks None
+      → AreBlocksOf (headers_with w (layers_of_rule r s blocks) s) (blocks_written w r s blocks)
+  pub sound : (w : Wanted) (r : Rule) (s : Stream) (blocks : List Block) → 1 ≤ layers_of_rule r s blocks → All IsSound blocks → first_broken w.style blocks ≡ None
+      → All IsSound (blocks_written w r s blocks)
+  pub meaning : (w : Wanted) (r : Rule) (s : Stream) (blocks : List Block) → 1 ≤ layers_of_rule r s blocks → HeadersStand s → All IsSound blocks → first_broken w.style blocks ≡ None
+      → meaning_of (headers_with w (layers_of_rule r s blocks) s) (blocks_written w r s blocks) ≡ meaning_of s blocks
+
+-- and of the layers in which blocks are written
+pub record LayerLaws : Type 0 where
+  pub whole : (style : Option Style) (blocks : List Block) → first_broken style blocks ≡ None → All (λ (b : Block). breaks_plane style b ≡ false) blocks
+  pub asked : (style : Option Style) (rule : Rule) (layers : ℕ) (blocks : List Block) (number : ℕ) (b : Block) → 1 ≤ layers → IsSound b → breaks_plane style b ≡ false
+      → IsAsked b (style_for style b) (ends_of rule layers blocks number b)
+  pub final : (asked : Option Style) (ends : List LayerEnd) (b : Block) (layer : ℕ) → IsAsked b (style_for asked b) ends → is_wrong asked b ≡ false → HasFirstLayers asked ends b layer
 
 -- both tests are for PLT
 length_is : (s : Segment) → is_length s ≡ is_plt s
@@ -164,11 +179,17 @@ module _ (laws : HeaderLaws) (w : Wanted) (layers : ℕ) (s : Stream) (some : 1 
         totals = laws.limits a s free.fits stand none free.few;
       }
 
-module _ (laws : HeaderLaws) (keep : KeepLaws) (w : Wanted) (layers : ℕ) (before : Stream) (blocks : List Block) (input out : List ℕ)
-    (is : IsOutput (marks_of w) (headers_with w layers before) (blocks_written w blocks) out) (read : IsRead input before) (small : length input ≤ 2 ^ 28) (none : totals_fault before ≡ None)
-    (gathered : IsGathered input before blocks) (most : (t : ℕ) → t < tile_number before.siz → layers_of before t ≤ layers) (some : 1 ≤ layers) (few : layers < 2 ^ 16)
-    (may : MayBeWanted w) (unbroken : first_broken w.style blocks ≡ None) (right : All (λ (b : Block). is_wrong w.style b ≡ false) blocks) (free : IsFree before w layers)
+all_at : (P : Block → Type 0) (blocks : List Block) (k : ℕ) (b : Block) → All P blocks → slice_get blocks k ≡ Some b → P b
+all_at P blocks k b each is = subst P (get_or_from_slice_get blocks k b b is) (each k b (slice_get_within blocks k b is))
+
+module _ (laws : HeaderLaws) (keep : KeepLaws) (told : LayerLaws) (w : Wanted) (rule : Rule) (before : Stream) (blocks : List Block) (input out : List ℕ)
+    (is : IsOutput (marks_of w) (headers_with w (layers_of_rule rule before blocks) before) (blocks_written w rule before blocks) out) (read : IsRead input before)
+    (small : length input ≤ 2 ^ 28) (none : totals_fault before ≡ None) (gathered : IsGathered input before blocks) (makes : MakesLayers (Some rule) before blocks)
+    (may : MayBeWanted w) (free : IsFreeBy rule before blocks w) (right : All (λ (b : Block). is_wrong w.style b ≡ false) blocks)
     (short : AllShort is.parts (tile_number before.siz)) where
+  abbrev layers : ℕ
+  layers = layers_of_rule rule before blocks
+
   abbrev b : Asked
   b = asked_of w layers
 
@@ -182,13 +203,13 @@ module _ (laws : HeaderLaws) (keep : KeepLaws) (w : Wanted) (layers : ℕ) (befo
   after = stream_read written is.parts
 
   abbrev anew : List Block
-  anew = blocks_written w blocks
+  anew = blocks_written w rule before blocks
 
   stand : HeadersStand before
   stand = keep.read input before read
 
   ready : AreReady marks written
-  ready = written_ready laws w layers before some few may stand none free
+  ready = written_ready laws w layers before makes.0 makes.1 may stand none free.free
 
   all_short : AllShort is.parts (tile_number written.siz)
   all_short = subst (λ (n : ℕ). AllShort is.parts n) (sym (laws.tiles b before)) short
@@ -197,15 +218,26 @@ module _ (laws : HeaderLaws) (keep : KeepLaws) (w : Wanted) (layers : ℕ) (befo
   sound_read = sound_gathered input before blocks read small none gathered
 
   named : AreBlocksOf written anew
-  named = keep.blocks w layers before blocks free.fits stand most (blocks_of_stream input before blocks read small none gathered) sound_read unbroken right
+  named =
+      keep.blocks w rule before blocks makes.0 free.free.fits stand (blocks_of_stream input before blocks read small none gathered) sound_read free.whole right free.uncrowded
 
   sound : All IsSound anew
-  sound = keep.sound w blocks sound_read unbroken
+  sound = keep.sound w rule before blocks makes.0 sound_read free.whole
 
   headers : HasHeadersOf written after
   headers = output_headers marks written anew out is ready all_short
 
-  kept : IsKeptIn w layers before after blocks out
+  -- the layers that the rule gives a block may be asked of it
+  may_ask : (k : ℕ) (d : Block) → slice_get blocks k ≡ Some d → IsAsked d (style_for w.style d) (ends_of rule layers blocks k d)
+  may_ask k d there =
+      told.asked w.style rule layers blocks k d makes.0 (all_at IsSound blocks k d sound_read there)
+      (all_at (λ (x : Block). breaks_plane w.style x ≡ false) blocks k d (told.whole w.style blocks free.whole) there)
+
+  first_layers : (k layer : ℕ) (d : Block) → slice_get blocks k ≡ Some d → HasFirstLayers w.style (ends_of rule layers blocks k d) d layer
+  first_layers k layer d there =
+      told.final w.style (ends_of rule layers blocks k d) d layer (may_ask k d there) (all_at (λ (x : Block). is_wrong w.style x ≡ false) blocks k d right there)
+
+  kept : IsKeptIn w rule before after blocks out
   kept = record {
     read = output_read marks written anew out is ready all_short;
     gathered = output_gathered marks written anew out is ready all_short named sound;
@@ -216,8 +248,9 @@ module _ (laws : HeaderLaws) (keep : KeepLaws) (w : Wanted) (layers : ℕ) (befo
     steps = λ t c r band. headers.step t c r band ∙ keep.steps b before t c r band stand;
     planes = λ t c r band. headers.planes t c r band ∙ keep.planes b before t c r band stand;
     places = λ t. headers.places t ∙ keep.places b before t stand;
-    meaning = same_meaning written after anew headers ∙ keep.meaning w layers before blocks stand sound_read unbroken;
+    meaning = same_meaning written after anew headers ∙ keep.meaning w rule before blocks makes.0 stand sound_read free.whole;
+    first = first_layers;
   }
 
-  pub rewritten_read : (after : Stream) × IsKeptIn w layers before after blocks out
+  pub rewritten_read : (after : Stream) × IsKeptIn w rule before after blocks out
   rewritten_read = (after, kept)

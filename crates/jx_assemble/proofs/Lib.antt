@@ -13,7 +13,6 @@ pub mod TellLemmas
 pub mod StrictLemmas
 pub mod OutputLemmas
 pub mod KeptLemmas
-pub mod MostLemmas
 pub mod AssembledLemmas
 pub mod CountLemmas
 pub mod CutLemmas

@@ -12,7 +12,7 @@ ghost use Rattle.jx_stream.specs.declared.Stream.{Stream};
 ghost use Rattle.jx_stream.specs.First.{tile_number};
 ghost use Rattle.jx_stream.specs.InRange.{StreamInRange};
 ghost use Rattle.jx_stream.specs.Read.{IsRead};
-ghost use Rattle.jx_stream.specs.Shapes.{geometry, layers_of};
+ghost use Rattle.jx_stream.specs.Shapes.{geometry};
 ghost use Rattle.jx_gather.specs.Accepted.{IsAccepted};
 ghost use Rattle.jx_gather.specs.Another.{HaveSameBlocks};
 ghost use Rattle.jx_gather.specs.BlockOf.{AreBlocksOf};

@@ -88,7 +88,7 @@ fn gives(
 #[test]
 fn layers(rt: HostRuntime) -> Result<(), Fail> {
     let alloc = rt.alloc();
-    let options = with_marks(alloc, PartChoice::Layer, true, false, false);
+    let options = with_marks(alloc, PartChoice::Layer, true, false, false)?;
     let want = [
         "FF90 000A 0000 0000002A 00 03 FF64 0005 0001 61 FF93 FF91 0004 0000 00 FF91 0004 0001 00 FF91 0004 0002 00",
         "FF90 000A 0000 00000023 01 03 FF93 FF91 0004 0003 00 FF91 0004 0004 00 FF91 0004 0005 00",
@@ -103,7 +103,7 @@ fn layers(rt: HostRuntime) -> Result<(), Fail> {
 #[test]
 fn resolutions_with_lengths(rt: HostRuntime) -> Result<(), Fail> {
     let alloc = rt.alloc();
-    let options = with_marks(alloc, PartChoice::Resolution, false, false, true);
+    let options = with_marks(alloc, PartChoice::Resolution, false, false, true)?;
     let want = [
         "FF90 000A 0000 0000001C 00 06 FF64 0005 0001 61 FF58 0004 00 01 FF93 00",
         "FF90 000A 0000 00000017 01 06 FF58 0005 00 01 01 FF93 00 00",
@@ -120,7 +120,7 @@ fn resolutions_with_lengths(rt: HostRuntime) -> Result<(), Fail> {
 #[test]
 fn second_too_long(rt: HostRuntime) -> Result<(), Fail> {
     let alloc = rt.alloc();
-    let options = with_marks(alloc, PartChoice::Resolution, true, true, false);
+    let options = with_marks(alloc, PartChoice::Resolution, true, true, false)?;
     assert!(rt; gives(alloc, LAYERS, &options, 31, &[])?);
     assert!(rt; !gives(alloc, LAYERS, &options, 32, &[])?);
     Ok(())
@@ -130,7 +130,7 @@ fn second_too_long(rt: HostRuntime) -> Result<(), Fail> {
 #[test]
 fn no_packets(rt: HostRuntime) -> Result<(), Fail> {
     let alloc = rt.alloc();
-    let options = with_marks(alloc, PartChoice::Layer, true, true, true);
+    let options = with_marks(alloc, PartChoice::Layer, true, true, true)?;
     let want = ["FF90 000A 0000 0000000E 00 01 FF93"];
     assert!(rt; gives(alloc, EMPTY, &options, 14, &want)?);
     assert!(rt; gives(alloc, EMPTY, &options, 13, &[])?);

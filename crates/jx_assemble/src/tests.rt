@@ -17,10 +17,12 @@ use crate::{AssembleFault, assemble_tile, main_header};
 use jx_base::{Block, NoMemory};
 use jx_block::{Job, Recoded, recode};
 use jx_gather::gather;
-use jx_plan::{Options, OrderChoice, OutStream, PartChoice, PrecinctChoice, plan_kept};
+use jx_layers::{KeepLayers, LayerPlanner};
+use jx_plan::laws::gathered_may_be_planned;
+use jx_plan::{Options, OrderChoice, OutStream, PartChoice, PrecinctChoice, plan};
 use jx_store::{Claim, Entry, Named};
 use jx_stream::{Stream, read_stream};
-use std::alloc::Global;
+use std::alloc::{AllocError, Global};
 
 /// The lengths 1, 128 and 16,384 take one, two and three bytes.
 #[test]
@@ -115,7 +117,11 @@ fn kept_of(
     requires wanted { MayBeWanted options.now }
     requires one { tile_number stream.now.siz ≡ 1 }
 {
-    let Ok(plan) = plan_kept(alloc, stream, blocks, options) else {
+    let Ok(keep) = Box::new(alloc, KeepLayers::new()) else {
+        return None;
+    };
+    let mut planner: Box<dyn LayerPlanner> = keep;
+    let Ok(plan) = plan(alloc, stream, blocks, options, Some(&mut planner)) else {
         return None;
     };
     let Ok(main) = main_header(alloc, &plan) else {
@@ -126,7 +132,6 @@ fn kept_of(
 }
 
 /// The same of a codestream.
-#[tactic(auto, using(jx_plan::proofs::KeptLemmas::gathered_may))]
 pub(crate) fn kept(
     alloc: Global,
     bytes: &[u8],
@@ -147,6 +152,7 @@ pub(crate) fn kept(
     if stream.tiles.as_slice().len() != 1 {
         return None;
     }
+    gathered_may_be_planned();
     kept_of(alloc, &stream, &blocks, options, most)
 }
 
@@ -157,19 +163,19 @@ pub(crate) fn with_marks(
     sop: bool,
     eph: bool,
     plt: bool,
-) -> Options
-    ensures { MayBeWanted result }
+) -> Result<Options, AllocError>
+    ensures { IfOk result (λ options. MayBeWanted options) }
 {
-    Options {
+    Ok(Options {
         order: OrderChoice::Keep,
         precincts: PrecinctChoice::Keep,
         style: None,
-        layers: String::new(alloc),
+        layers: String::from_str(alloc, "keep")?,
         parts,
         sop,
         eph,
         plt,
-    }
+    })
 }
 
 /// The smallest tile has 15 bytes, or, with all marks, 29.
@@ -181,8 +187,8 @@ fn smallest_tile(rt: HostRuntime) {
         0, 4, 4, 0, 1, 0xFF, 0x5C, 0, 4, 0x40, 0x40, 0xFF, 0x90, 0, 10, 0, 0, 0, 0, 0, 15, 0, 1,
         0xFF, 0x93, 0, 0xFF, 0xD9,
     ];
-    let none = with_marks(rt.alloc(), PartChoice::None, false, false, false);
-    let all = with_marks(rt.alloc(), PartChoice::None, true, true, true);
+    let none = with_marks(rt.alloc(), PartChoice::None, false, false, false).expect(&rt, "memory");
+    let all = with_marks(rt.alloc(), PartChoice::None, true, true, true).expect(&rt, "memory");
     let (main, long) = kept(rt.alloc(), &file, &none, 14).expect(&rt, "a plan");
     assert!(rt; main.as_slice() == &file[0..65]);
     assert!(rt; matches!(long, Err(AssembleFault::TooLong)));

@@ -28,12 +28,12 @@ flag_words false flag words = words
 -- the words from the command's name on
 abbrev made_words : Given → Bool → Bool → Bool → List Text
 made_words g sop eph plt =
-    codes "transcode" ∷ (codes "--order=" ++ g.order) ∷ (codes "--precincts=" ++ g.precincts) ∷ (codes "--style=" ++ g.style) ∷ (codes "--tile-parts=" ++ g.parts)
+    codes "transcode" ∷ (codes "--order=" ++ g.order) ∷ (codes "--precincts=" ++ g.precincts) ∷ (codes "--layers=" ++ g.layers) ∷ (codes "--style=" ++ g.style) ∷ (codes "--tile-parts=" ++ g.parts)
     ∷ (codes "--threads=" ++ g.threads) ∷ (codes "--window=" ++ g.window) ∷ (codes "--window-bytes=" ++ g.window_bytes)
     ∷ flag_words sop (codes "--sop") (flag_words eph (codes "--eph") (flag_words plt (codes "--plt") (codes "--" ∷ g.from ∷ g.to ∷ [])))
 
 abbrev made_given : Given → Bool → Bool → Bool → Given
-made_given g sop eph plt = record g { layers = codes "keep"; sop = sop; eph = eph; plt = plt }
+made_given g sop eph plt = record g { sop = sop; eph = eph; plt = plt }
 
 made_taken : (g : Given) (sop eph plt : Bool) → fault_of transcode (made_words g sop eph plt) ≡ []
 unfolding clap_on_literals transcode with_flag with_option with_place
@@ -137,7 +137,7 @@ given_for r = record {
   to = r.to;
   order = order_word r.wanted.order;
   precincts = precincts_word r.wanted.precincts;
-  layers = codes "keep";
+  layers = r.wanted.layers;
   style = style_word r.wanted.style;
   parts = parts_word r.wanted.parts;
   sop = r.wanted.sop;
@@ -171,8 +171,7 @@ values_good r may =
 values_made : (r : Request) → MayBeAsked r → wanted_by (given_for r) ≡ r.wanted
 unfolding wanted_by
 values_made r may =
-    let layered : record r.wanted { layers = codes "keep" } ≡ r.wanted = ap (λ (l : List ℕ). record r.wanted { layers = l }) (sym may.layers) in
-    rw (order_back r.wanted.order may.order, precincts_back r.wanted.precincts may.precincts, parts_back r.wanted.parts, style_back r.wanted.style may.style) layered
+    rw (order_back r.wanted.order may.order, precincts_back r.wanted.precincts may.precincts, parts_back r.wanted.parts, style_back r.wanted.style may.style) refl
 
 work_made : (r : Request) → MayBeAsked r → work_by (given_for r) ≡ r.work
 unfolding work_by

@@ -1,13 +1,12 @@
 -- What is asked may be wanted.
-use Rattle.std.proofs.Common.{◌≡◌, ◌<◌, ◌≤◌, ◌⊎◌, ◌&&◌, subst, sym, codes, drop, is_some, refl, arith, ℕ, Bool, true, false, List, [], Option, None, Some, IfSome, inl, inr, unwrap_or}
+use Rattle.std.proofs.Common.{◌≡◌, ◌<◌, ◌≤◌, ◌⊎◌, subst, sym, drop, refl, arith, ℕ, List, [], Option, None, Some, IfSome, inl, inr, unwrap_or}
 use Rattle.std.specs.Option.{option_map, option_or}
 use Rattle.std.proofs.lemmas.List.Elements.{All-nil}
-use Rattle.std.proofs.lemmas.Slice.Eq.{bytes_eq-Decides}
 use Rattle.jx_marker.specs.Ranges.{AreBytes}
 use Rattle.jx_base.specs.declared.style.Style.{Style}
 use Rattle.jx_plan.specs.Wanted.{MayBeStyle, MayBeWanted}
-use Rattle.jx_words.specs.Values.{ArePrecincts, number_in, order_said, orders, parts_said, precincts_in, precincts_said, style_said, value_in, whole_choices}
-use Rattle.jx_words.specs.Words.{Given, MayBeAsked, MayBeWork, are_taken, are_values, given_in, is_good, is_work, names_command, request_by, request_of, wanted_by, work_by}
+use Rattle.jx_words.specs.Values.{ArePrecincts, number_in, order_said, orders, precincts_in, precincts_said, style_said, value_in, whole_choices}
+use Rattle.jx_words.specs.Words.{Given, MayBeAsked, MayBeWork, given_in, request_by, request_of, wanted_by, work_by}
 use Rattle.jx_words.proofs.NumberLemmas.{number_read}
 use Rattle.jx_words.proofs.SpellLemmas.{precincts_read}
 use Rattle.jx_words.proofs.StyleLemmas.{IsGood, style_good}
@@ -85,28 +84,10 @@ pub may_be_work : (words : List (List ℕ)) → MayBeWork (request_of words).wor
 unfolding request_of
 may_be_work words = work_may_be _
 
--- ---- good words ask for layers that are kept
-right_of : (a b : Bool) → (a && b) ≡ true → b ≡ true
-right_of true b both = both
-right_of false b both = absurd (cc)
-
-layers_kept : (g : Given) → are_values g ≡ true → g.layers ≡ codes "keep"
-unfolding are_values
-layers_kept g good =
-    let precincts = right_of (is_some (order_said g.order)) _ good in
-    let parts = right_of (is_some (precincts_said g.precincts)) _ precincts in
-    let style = right_of (is_some (parts_said g.parts)) _ parts in
-    let work = right_of (is_some (style_said g.style)) _ style in
-    (bytes_eq-Decides g.layers (codes "keep")).0 (right_of (is_work g) _ work)
-
-good_values : (words : List (List ℕ)) → is_good words ≡ true → are_values (given_in (drop 1 words)) ≡ true
-unfolding is_good
-good_values words good = right_of (are_taken (drop 1 words)) _ (right_of (names_command words) _ good)
-
-request_asked : (g : Given) → are_values g ≡ true → MayBeAsked (request_by g)
+request_asked : (g : Given) → MayBeAsked (request_by g)
 unfolding wanted_by
-request_asked g good = record { order = order_few g.order; precincts = precincts_asked g.precincts; style = style_few g.style; layers = layers_kept g good; work = work_may_be g }
+request_asked g = record { order = order_few g.order; precincts = precincts_asked g.precincts; style = style_few g.style; work = work_may_be g }
 
-pub asked : (words : List (List ℕ)) → is_good words ≡ true → MayBeAsked (request_of words)
+pub asked : (words : List (List ℕ)) → MayBeAsked (request_of words)
 unfolding request_of
-asked words good = request_asked (given_in (drop 1 words)) (good_values words good)
+asked words = request_asked (given_in (drop 1 words))

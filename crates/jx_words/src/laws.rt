@@ -33,7 +33,8 @@ pub fn requests_may_be_wanted()
     ensures work { (words : List Text) → MayBeWork (request_of words).work }
 {}
 
-/// Good words make the requests that may be asked, and each of these is made by some.
+/// Good words make the requests that may be asked, and each of these is made by some. The words for the planners of layers are any
+/// text: behind `--layers=` clap takes an empty one too, and one that begins with `-`.
 pub fn requests_have_words()
     ensures made { (r : Request) → MayBeAsked r → Asks r }
     ensures asked { (words : List Text) → is_good words ≡ true → MayBeAsked (request_of words) }

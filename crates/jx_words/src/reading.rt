@@ -3,7 +3,7 @@
 ghost use Rattle.std.specs.Prelude.{◌≡◌, ◌≤◌, true, false, IfOk, IfSome, None, Err, length, map, string_bytes};
 ghost use Rattle.jx_plan.specs.Choices.{bytes_in, order_in};
 ghost use Rattle.jx_plan.specs.Wanted.{MayBeWanted};
-ghost use Rattle.jx_words.specs.Words.{MayBeWork, are_usual, are_values, is_good, is_work, names_command, request_by, request_of, work_by};
+ghost use Rattle.jx_words.specs.Words.{MayBeWork, are_values, is_good, is_work, names_command, request_by, request_of, work_by};
 
 use crate::given::{Given, given_in};
 use crate::numbers::number_in;
@@ -12,13 +12,6 @@ use crate::{Request, WordsFault, Work};
 use jx_base::{NoMemory, Style};
 use jx_plan::{Options, OrderChoice, PartChoice, PrecinctChoice};
 use std::alloc::Global;
-
-/// Whether the option that has one value so far has it.
-fn are_usual(given: &Given<'_>) -> bool
-    ensures { result ≡ are_usual given.now }
-{
-    given.layers == "keep"
-}
 
 /// How the work is to be done.
 #[tactic(auto, unfolding(crate::specs::Words::work_by))]
@@ -98,9 +91,6 @@ fn request_by(alloc: Global, given: &Given<'_>) -> Result<Request, WordsFault>
     let Some(work) = work_by(given) else {
         return Err(WordsFault::Words);
     };
-    if !are_usual(given) {
-        return Err(WordsFault::Words);
-    }
     let precincts = match precincts_said(alloc, given.precincts) {
         Ok(Some(precincts)) => precincts,
         Ok(None) => return Err(WordsFault::Words),

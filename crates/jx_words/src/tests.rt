@@ -152,6 +152,23 @@ fn good_words(rt: HostRuntime) -> Result<(), Fail> {
             "in out Order(2) keep keep",
         ),
         ("transcode in --precincts 7x6 out", "in out Keep [103] keep"),
+        // the words for the planners of layers are any text
+        ("transcode in out --layers one", "in out Keep keep one"),
+        ("transcode in out --layers ten", "in out Keep keep ten"),
+        (
+            "transcode --layers cuts:1,2 in out",
+            "in out Keep keep cuts:1,2",
+        ),
+        (
+            "transcode in out --layers=planes:8",
+            "in out Keep keep planes:8",
+        ),
+        ("transcode in out --layers ", "in out Keep keep "),
+        ("transcode in out --layers=", "in out Keep keep "),
+        ("transcode in out --layers -", "in out Keep keep -"),
+        ("transcode in out --layers=-x", "in out Keep keep -x"),
+        ("transcode in out --layers=--sop", "in out Keep keep --sop"),
+        ("transcode in out --layers=a=b", "in out Keep keep a=b"),
         // behind `--` each word is a name
         (
             "transcode --sop -- -in --order",
@@ -182,7 +199,6 @@ fn bad_words(rt: HostRuntime) -> Result<(), Fail> {
         "transcode in out more",
         "transcode in out --precincts 16x4",
         "transcode in out --precincts 016x4",
-        "transcode in out --layers one",
         "transcode in out --order LRCP",
         "transcode in out --order 0",
         "transcode in out --tile-parts rl",
@@ -199,11 +215,15 @@ fn bad_words(rt: HostRuntime) -> Result<(), Fail> {
         "transcode in out --order=-keep",
         "transcode in out --order --sop",
         "transcode in out --order -",
+        "transcode in out --layers -x",
+        "transcode in out --layers --sop",
         // an option has a value, and a flag none
         "transcode in out --order",
         "transcode in out --order=",
         "transcode in out --order ",
         "transcode --order -- in out",
+        "transcode in out --layers",
+        "transcode in out --layers --",
         "transcode in out --sop=true",
         "transcode in out --sop=",
         "transcode in out --sop true",
@@ -214,6 +234,8 @@ fn bad_words(rt: HostRuntime) -> Result<(), Fail> {
         "transcode in out --sop --sop",
         "transcode in out --order keep --order keep",
         "transcode in out --order=keep --order lrcp",
+        "transcode in out --layers one --layers one",
+        "transcode in out --layers=one --layers ten",
     ] {
         assert_eq!(rt; found(alloc, line)?.as_str(), "Words");
     }

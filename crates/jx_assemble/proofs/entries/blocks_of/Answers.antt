@@ -1,6 +1,3 @@
-use Rattle.std.proofs.Common.{List}
-use Rattle.std.specs.Borrow.{Bor}
-use Rattle.jx_block.specs.Recoded.{WrittenBlock}
 use Rattle.jx_assemble.proofs.EntryLemmas.{lent_next}
 use Rattle.jx_assemble.proofs.entries.blocks_of.Goals as goal
 

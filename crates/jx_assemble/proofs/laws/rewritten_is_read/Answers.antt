@@ -1,4 +1,4 @@
-use Rattle.jx_assemble.proofs.KeptLemmas.{HeaderLaws, KeepLaws, rewritten_read}
+use Rattle.jx_assemble.proofs.KeptLemmas.{HeaderLaws, KeepLaws, LayerLaws, rewritten_read}
 use Rattle.jx_assemble.proofs.laws.rewritten_is_read.Goals as goal
 
 pub returns : goal.returns
@@ -24,4 +24,9 @@ returns c =
       sound = c.written_blocks_stand.ensures.sound;
       meaning = c.meaning_stays.ensures.written;
     } in
-    rewritten_read laws keep
+    let told : LayerLaws = record {
+      whole = c.breaks_are_told.ensures.none;
+      asked = c.jobs_have_these_ends.ensures.asked;
+      final = c.first_layers_are_final.ensures;
+    } in
+    rewritten_read laws keep told

@@ -1,4 +1,4 @@
-use Rattle.std.proofs.Common.{◌≡◌, ◌∙◌, List, All, subst, sym}
+use Rattle.std.proofs.Common.{◌∙◌, List, All, subst, sym}
 use Rattle.jx_block.specs.declared.job.Job.{Job}
 use Rattle.jx_block.specs.Jobs.{IsAsked}
 use Rattle.jx_assemble.specs.Tile.{AreValuesOf, made_in}

@@ -6,4 +6,4 @@ pub returns-clause-made : goal.returns-clause-made
 returns-clause-made c = λ r may. has_words r may
 
 pub returns-clause-asked : goal.returns-clause-asked
-returns-clause-asked c = λ words good. asked words good
+returns-clause-asked c = λ words good. asked words
