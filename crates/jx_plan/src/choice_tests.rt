@@ -202,11 +202,7 @@ fn with_style(alloc: Global, style: Option<Style>) -> Result<Options, AllocError
 
 // The same of a file.
 #[tactic(auto, using(crate::proofs::PlanLemmas::gathered_may))]
-fn job_styles(
-    alloc: Global,
-    text: &str,
-    style: Option<Style>,
-) -> Result<Vec<Option<Style>>, Fail>
+fn job_styles(alloc: Global, text: &str, style: Option<Style>) -> Result<Vec<Option<Style>>, Fail>
     requires { IfSome style MayBeStyle }
 {
     let file = file_of(alloc, text)?;

@@ -22,9 +22,7 @@ use crate::{Options, OutStream, PlanFault};
 use jx_base::{Block, Style};
 use jx_block::Job;
 use jx_layers::laws::crowds_are_told;
-use jx_layers::{
-    LayerPlanner, StreamFacts, ask_jobs, facts_of, first_broken, first_crowded,
-};
+use jx_layers::{LayerPlanner, StreamFacts, ask_jobs, facts_of, first_broken, first_crowded};
 use jx_stream::Stream;
 use std::alloc::Global;
 
