@@ -1,6 +1,7 @@
 -- What holds of all passes, before the workers begin and after they ended.
-use Rattle.std.proofs.Common.{◌≡◌, ℕ, ◌<◌, None, List, [], map, length, get_or, sym, subst, arith}
+use Rattle.std.proofs.Common.{◌≡◌, ℕ, ◌<◌, ◌≤◌, None, List, [], map, length, get_or, sym, subst, arith}
 use Rattle.std.specs.List.{All, Any, Contains}
+use Rattle.std.proofs.lemmas.List.Elements.{All-contains, All-nil}
 use Rattle.std.proofs.lemmas.Option.{slice_get-get_or}
 use Rattle.atomic_table.specs.Seated.{TableId}
 use Rattle.jx_store.specs.Order.{numbers}
@@ -27,15 +28,17 @@ module _ (p : Setup) (table : TableId) (workers : ℕ) where
         worker = omega (arith, number, wide, many, lt);
         holds = is.1;
         low = omega (arith, low, begins);
+        seen = subst (λ (claims : List Taken). All (λ (t : Taken). p.first ≤ t.seen) claims) (sym is.2) (All-nil (λ (t : Taken). p.first ≤ t.seen));
       })
 
   -- some pass was told that all numbers are claimed
   pub all_told : (passes : List PassView) → 0 < length passes → All (IsDone p table workers) passes → Any (λ (q : PassView). q.next ≡ end_of p) passes
   all_told passes some done = some_of (λ (q : PassView). q.next ≡ end_of p) passes some (λ k d lt. (done k d lt).all)
 
-  -- the worker of a claim
-  pub worker_of : (passes : List PassView) (worker : ℕ) (t : Taken) → All (IsDone p table workers) passes → Any (λ (q : PassView). (q.worker ≡ worker) × Contains q.claims t) passes → worker < workers
+  -- the worker of a claim, and what it saw
+  pub worker_of : (passes : List PassView) (worker : ℕ) (t : Taken) → All (IsDone p table workers) passes → Any (λ (q : PassView). (q.worker ≡ worker) × Contains q.claims t) passes
+      → (worker < workers) × (p.first ≤ t.seen)
   worker_of passes worker t done who =
       let one = any_all (IsDone p table workers) (λ (q : PassView). (q.worker ≡ worker) × Contains q.claims t) passes done who in
       let own = one.1.free.worker in let same = one.2.0 in
-      omega (arith, own, same)
+      (omega (arith, own, same), All-contains (λ (x : Taken). p.first ≤ x.seen) one.0.claims t one.1.free.seen one.2.1)

@@ -82,7 +82,7 @@ module _ (first i k : ℕ) (jobs : List Job) (j : Job) (place : k ≡ first + i)
 -- the entries of a store, of which each is right, are the tape of its jobs
 pub tape_is : (jobs : List Job) (first threads window most : ℕ) (entries : List (Taped (Named WrittenBlock)))
     → AreAsked first jobs → map (λ (t : Taped (Named WrittenBlock)). t.number) entries ≡ numbers first (length jobs)
-    → ((i : ℕ) (t : Taped (Named WrittenBlock)) → slice_get entries i ≡ Some t → (t.worker < threads) × Within (bounds first window most jobs) t.seen t.number
+    → ((i : ℕ) (t : Taped (Named WrittenBlock)) → slice_get entries i ≡ Some t → (t.worker < threads) × (first ≤ t.seen) × Within (bounds first window most jobs) t.seen t.number
     × IsOf (λ (r : WrittenBlock). r.job.number) (λ (r : WrittenBlock). r.job) is_bad first jobs t.number t.named)
     → All (λ (t : Taped (Named WrittenBlock)). IsRight t.named) entries → IsTape jobs first threads window most entries
 tape_is jobs first threads window most entries asked order each right = record {
@@ -90,10 +90,11 @@ tape_is jobs first threads window most entries asked order each right = record {
   answers = same_items (λ (t : Taped (Named WrittenBlock)). t.named) answer_of entries jobs (long first (length jobs) (λ (t : Taped (Named WrittenBlock)). t.number) entries order)
       (λ i t j at there.
       let place = number_at (λ (t : Taped (Named WrittenBlock)). t.number) entries first (length jobs) i t order at in
-      answered first i t.number jobs j place there ((asked i j there).numbered ∙ sym place) t.named (each i t at).2
+      answered first i t.number jobs j place there ((asked i j there).numbered ∙ sym place) t.named (each i t at).3
       (All-contains (λ (t : Taped (Named WrittenBlock)). IsRight t.named) entries t right (i, slice_get_within entries i t at, get_or_from_slice_get entries i t t at)));
   workers = all_at (λ (t : Taped (Named WrittenBlock)). t.worker < threads) entries (λ i t at. (each i t at).0);
-  within = all_at (λ (t : Taped (Named WrittenBlock)). Within (bounds first window most jobs) t.seen t.number) entries (λ i t at. (each i t at).1);
+  within = all_at (λ (t : Taped (Named WrittenBlock)). Within (bounds first window most jobs) t.seen t.number) entries (λ i t at. (each i t at).2);
+  from = all_at (λ (t : Taped (Named WrittenBlock)). first ≤ t.seen) entries (λ i t at. (each i t at).1);
 }
 
 -- ---- what a worker knows of a number
@@ -128,7 +129,7 @@ few_bytes first jobs asked k d lt = (asked k (get_or jobs k d) (slice_get-get_or
 
 -- no jobs
 pub tape_of_none : (jobs : List Job) (first threads window most : ℕ) → length jobs ≡ 0 → IsTape jobs first threads window most []
-tape_of_none [] first threads window most none = record { order = refl; answers = refl; workers = All-nil _; within = All-nil _ }
+tape_of_none [] first threads window most none = record { order = refl; answers = refl; workers = All-nil _; within = All-nil _; from = All-nil _ }
 tape_of_none (j ∷ js) first threads window most none = absurd (omega (arith, none))
 
 pub one_tape : (jobs : List Job) (a b : List (Taped (Named WrittenBlock))) → IsTapeOf jobs a → IsTapeOf jobs b

@@ -1,5 +1,5 @@
 -- Jobs, and the tape that is made of them.
-use Rattle.std.specs.Prelude.{◌≡◌, ℕ, ◌+◌, ◌<◌, List, map, length, All, Option, Some, None, slice_get}
+use Rattle.std.specs.Prelude.{◌≡◌, ℕ, ◌+◌, ◌<◌, ◌≤◌, List, map, length, All, Option, Some, None, slice_get}
 use Rattle.jx_base.specs.Pieces.{bytes_in}
 use Rattle.jx_block.specs.declared.job.Job.{Job}
 use Rattle.jx_block.specs.Jobs.{IsAsked}
@@ -41,12 +41,13 @@ abbrev pub answer_of : Job → Named WrittenBlock
 answer_of j = named_as j (recoding_in j)
 
 -- the tape of these jobs: their numbers in order, each once; under each the answer to its job; worker numbers below
--- `threads`; and each number claimed inside both windows
+-- `threads`; and each number claimed inside both windows, when none before the first was still out
 pub record IsTape (jobs : List Job) (first threads window most : ℕ) (entries : List (Taped (Named WrittenBlock))) : Type 0 where
   pub order : map (λ (t : Taped (Named WrittenBlock)). t.number) entries ≡ numbers first (length jobs)
   pub answers : map (λ (t : Taped (Named WrittenBlock)). t.named) entries ≡ map answer_of jobs
   pub workers : All (λ (t : Taped (Named WrittenBlock)). t.worker < threads) entries
   pub within : All (λ (t : Taped (Named WrittenBlock)). Within (bounds first window most jobs) t.seen t.number) entries
+  pub from : All (λ (t : Taped (Named WrittenBlock)). first ≤ t.seen) entries
 
 -- a tape of these jobs, by some workers within some windows
 pub record IsTapeOf (jobs : List Job) (entries : List (Taped (Named WrittenBlock))) : Type 0 where

@@ -124,7 +124,7 @@ fn collect<V: Work, N: Bounds<V::Job>>(
     requires done { All (IsDone N.setup store.table.shared.table_id N.workers) passes.items }
     ensures order { map (λ t. t.number) result.items ≡ numbers N.setup.first (length N.setup.sizes) }
     ensures each { (i : ℕ) (t : Taped (Named V)) → slice_get result.items i ≡ Some t →
-        (t.worker < N.workers) × Within N.setup t.seen t.number × IsOf V.number V.job V.bad N.setup.first N.jobs t.number t.named }
+        (t.worker < N.workers) × (N.setup.first ≤ t.seen) × Within N.setup t.seen t.number × IsOf V.number V.job V.bad N.setup.first N.jobs t.number t.named }
 {
     store.into_tape(passes)
 }
@@ -155,7 +155,7 @@ pub(crate) fn tape_of<
     requires threads { (0 < limits.threads) × (limits.threads ≤ 64) }
     ensures order { IfOk result (λ tape. map (λ t. t.number) tape.items ≡ numbers limits.first (length jobs.now)) }
     ensures each { IfOk result (λ tape. (i : ℕ) (t : Taped (Named V)) → slice_get tape.items i ≡ Some t →
-        (t.worker < limits.threads) × Within N.setup t.seen t.number × IsOf V.number V.job V.bad limits.first jobs.now t.number t.named) }
+        (t.worker < limits.threads) × (limits.first ≤ t.seen) × Within N.setup t.seen t.number × IsOf V.number V.job V.bad limits.first jobs.now t.number t.named) }
 {
     let (store, mut passes) = RingStore::<V, N>::new(
         alloc,

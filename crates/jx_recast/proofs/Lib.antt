@@ -6,6 +6,7 @@ pub mod FrontLemmas
 pub mod ExtentLemmas
 pub mod WriteLemmas
 pub mod AnswerLemmas
+pub mod RefusedLemmas
 pub mod OutcomeLemmas
 pub mod OneVerdictLemmas
 pub mod ToldLemmas

@@ -1,15 +1,19 @@
 -- Runs after what left the files as they were, on inputs that were cut, and with their line said.
-use Rattle.std.proofs.Common.{◌≡◌, ◌⊎◌, ◌∙◌, ◌<◌, ◌≤◌, ◌+◌, min, ℕ, List, [], length, take, inl, inr, refl, subst, ap, Option, Some, None, IfSome, arith}
+use Rattle.std.proofs.Common.{◌≡◌, Bool, ◌⊎◌, ◌∙◌, ◌<◌, ◌≤◌, ◌+◌, min, ℕ, List, [], length, take, inl, inr, refl, subst, ap, Option, Some, None, IfSome, arith}
 use Rattle.std.proofs.lemmas.List.{take_all, length-take}
 use Rattle.std.proofs.lemmas.Bool.{cases_lt}
 use Rattle.jx_outside.specs.Device.{Meaning, joined}
+use Rattle.jx_layers.specs.declared.StreamFacts.{StreamFacts}
+use Rattle.jx_layers.specs.Rule.{Rule}
+use Rattle.jx_plan.specs.Planned.{chosen}
 use Rattle.jx_plan.specs.Wanted.{Wanted}
+use Rattle.jx_recast.specs.Aims.{Aim}
 use Rattle.jx_recast.specs.declared.status.Status.{Status}
 use Rattle.jx_recast.specs.declared.status.Status.TheVariants as status
 use Rattle.jx_recast.specs.Filed.{IsAnswered, IsUnread}
 use Rattle.jx_words.specs.Words.{Text, Request, Work}
 use Rattle.jx_recast.specs.declared.status.TapeEntry.{TapeEntry}
-use Rattle.jx_recast.specs.Outcome.{IsBegun, IsCutShort, IsLimited, IsMade, IsRefused, IsStopped, IsUntouched, IsVerdict, Leaves, Verdict, Ends, EndsFiles, EndsAtWords, EndsAs, PassesLimit, line_of, most_bytes}
+use Rattle.jx_recast.specs.Outcome.{IsBegun, IsCutShort, IsLimited, IsMade, IsRefused, IsStopped, IsUntouched, IsVerdict, Leaves, Verdict, Ends, EndsFiles, EndsAtWords, EndsAs, PassesLimit, aim_of, line_of, most_bytes}
 
 pub untouched_twice : (a b c : Meaning) → IsUntouched a b → IsUntouched b c → IsUntouched a c
 untouched_twice a b c first next = record {
@@ -32,28 +36,28 @@ begun_after name bytes a b c first (inr (inr made)) = inr (inr (made_after name 
 refused_after : (blocks : ℕ) (a b c : Meaning) → IsUntouched a b → IsRefused blocks b c → IsRefused blocks a c
 refused_after blocks a b c first refused = (refused.0, untouched_twice a b c first refused.1)
 
-cut_after : (name : Text) (w : Wanted) (input : List ℕ) (blocks : ℕ) (a b c : Meaning) → IsUntouched a b → IsCutShort name w input blocks b c → IsCutShort name w input blocks a c
-cut_after name w input blocks a b c first (inl refused) = inl (refused_after blocks a b c first refused)
-cut_after name w input blocks a b c first (inr (inl over)) =
+cut_after : (name : Text) (aim : Aim) (input : List ℕ) (blocks : ℕ) (a b c : Meaning) → IsUntouched a b → IsCutShort name aim input blocks b c → IsCutShort name aim input blocks a c
+cut_after name aim input blocks a b c first (inl refused) = inl (refused_after blocks a b c first refused)
+cut_after name aim input blocks a b c first (inr (inl over)) =
     inr (inl (record { within = over.within; why = over.why; is = over.is; caused = over.caused; count = over.count; same = untouched_twice a b c first over.same }))
-cut_after name w input blocks a b c first (inr (inr begun)) =
+cut_after name aim input blocks a b c first (inr (inr begun)) =
     inr (inr (record { within = begun.within; count = begun.count; bytes = begun.bytes; of = begun.of; begun = begun_after name begun.bytes a b c first begun.begun }))
 
-leaves_after : (name : Text) (w : Wanted) (input : List ℕ) (s : Status) (blocks bytes : ℕ) (a b c : Meaning) → IsUntouched a b → Leaves name w input s blocks bytes b c
-    → Leaves name w input s blocks bytes a c
-leaves_after name w input status.Done blocks bytes a b c first next =
+leaves_after : (name : Text) (aim : Aim) (input : List ℕ) (s : Status) (blocks bytes : ℕ) (a b c : Meaning) → IsUntouched a b → Leaves name aim input s blocks bytes b c
+    → Leaves name aim input s blocks bytes a c
+leaves_after name aim input status.Done blocks bytes a b c first next =
     record { out = next.out; is = next.is; made = made_after name next.out a b c first next.made; kept = next.kept; count = next.count; long = next.long }
-leaves_after name w input status.Words blocks bytes a b c first next = refused_after blocks a b c first next
-leaves_after name w input (status.Rule number place) blocks bytes a b c first next = refused_after blocks a b c first next
-leaves_after name w input (status.Limit number found) blocks bytes a b c first next = (next.0, untouched_twice a b c first next.1)
-leaves_after name w input (status.Choice number place) blocks bytes a b c first (inl next) =
+leaves_after name aim input status.Words blocks bytes a b c first next = refused_after blocks a b c first next
+leaves_after name aim input (status.Rule number place) blocks bytes a b c first next = refused_after blocks a b c first next
+leaves_after name aim input (status.Limit number found) blocks bytes a b c first next = (next.0, untouched_twice a b c first next.1)
+leaves_after name aim input (status.Choice number place) blocks bytes a b c first (inl next) =
     inl (next.0, record { bytes = next.1.bytes; is = next.1.is; stopped = stopped_after name next.1.bytes a b c first next.1.stopped; count = next.1.count })
-leaves_after name w input (status.Choice number place) blocks bytes a b c first (inr next) = inr (next.0, next.1, untouched_twice a b c first next.2)
-leaves_after name w input (status.Block number) blocks bytes a b c first next =
+leaves_after name aim input (status.Choice number place) blocks bytes a b c first (inr next) = inr (next.0, next.1, untouched_twice a b c first next.2)
+leaves_after name aim input (status.Block number) blocks bytes a b c first next =
     record { bytes = next.bytes; is = next.is; stopped = stopped_after name next.bytes a b c first next.stopped; count = next.count }
-leaves_after name w input status.ReadFault blocks bytes a b c first next = refused_after blocks a b c first next
-leaves_after name w input status.WriteFault blocks bytes a b c first next = cut_after name w input blocks a b c first next
-leaves_after name w input status.NoMemory blocks bytes a b c first next = cut_after name w input blocks a b c first next
+leaves_after name aim input status.ReadFault blocks bytes a b c first next = refused_after blocks a b c first next
+leaves_after name aim input status.WriteFault blocks bytes a b c first next = cut_after name aim input blocks a b c first next
+leaves_after name aim input status.NoMemory blocks bytes a b c first next = cut_after name aim input blocks a b c first next
 
 -- the whole of an input of which these bytes were read, where it is told
 whole : Option (List ℕ) → List ℕ → List ℕ
@@ -87,67 +91,67 @@ long_limit : (number found : ℕ) (read input : List ℕ) → most_bytes < lengt
 long_limit number found read input long whole (inl passed) = inl (whole, passed.1, passed.2)
 long_limit number found read input long whole (inr passed) = absurd (omega (arith, passed.0))
 
-limit_one : (w : Wanted) (number found : ℕ) (read : List ℕ) → most_bytes < length read → Verdict w read (status.Limit number found) → number ≡ 1
-limit_one w number found read long (inl (inl passed)) = passed.1
-limit_one w number found read long (inl (inr passed)) = absurd (omega (arith, passed.0))
-limit_one w number found read long (inr many) = absurd (omega (arith, many.0))
+limit_one : (aim : Aim) (number found : ℕ) (read : List ℕ) → most_bytes < length read → Verdict aim read (status.Limit number found) → number ≡ 1
+limit_one aim number found read long (inl (inl passed)) = passed.1
+limit_one aim number found read long (inl (inr passed)) = absurd (omega (arith, passed.0))
+limit_one aim number found read long (inr many) = absurd (omega (arith, many.0))
 
 -- the verdict on a front that is too long is that on the whole
-long_verdict : (w : Wanted) (s : Status) (read input : List ℕ) → most_bytes < length read → most_bytes < length input → Verdict w read s → Verdict w input s
-long_verdict w status.Done read input long whole verdict = absurd (omega (arith, verdict.0))
-long_verdict w status.Words read input long whole verdict = absurd verdict
-long_verdict w (status.Rule number place) read input long whole verdict = absurd (omega (arith, verdict.0))
-long_verdict w (status.Limit number found) read input long whole (inl verdict) = inl (long_limit number found read input long whole verdict)
-long_verdict w (status.Limit number found) read input long whole (inr many) = absurd (omega (arith, many.0))
-long_verdict w (status.Choice number place) read input long whole verdict = absurd (omega (arith, verdict.0))
-long_verdict w (status.Block number) read input long whole verdict = absurd (omega (arith, verdict.0))
-long_verdict w status.ReadFault read input long whole verdict = absurd verdict
-long_verdict w status.WriteFault read input long whole verdict = absurd verdict
-long_verdict w status.NoMemory read input long whole verdict = absurd verdict
+long_verdict : (aim : Aim) (s : Status) (read input : List ℕ) → most_bytes < length read → most_bytes < length input → Verdict aim read s → Verdict aim input s
+long_verdict aim status.Done read input long whole verdict = absurd (omega (arith, verdict.0))
+long_verdict aim status.Words read input long whole verdict = absurd verdict
+long_verdict aim (status.Rule number place) read input long whole verdict = absurd (omega (arith, verdict.0))
+long_verdict aim (status.Limit number found) read input long whole (inl verdict) = inl (long_limit number found read input long whole verdict)
+long_verdict aim (status.Limit number found) read input long whole (inr many) = absurd (omega (arith, many.0))
+long_verdict aim (status.Choice number place) read input long whole verdict = absurd (omega (arith, verdict.0))
+long_verdict aim (status.Block number) read input long whole verdict = absurd (omega (arith, verdict.0))
+long_verdict aim status.ReadFault read input long whole verdict = absurd verdict
+long_verdict aim status.WriteFault read input long whole verdict = absurd verdict
+long_verdict aim status.NoMemory read input long whole verdict = absurd verdict
 
-long_cut : (name : Text) (w : Wanted) (read input : List ℕ) (blocks : ℕ) (a b : Meaning) → most_bytes < length read → IsCutShort name w read blocks a b → IsCutShort name w input blocks a b
-long_cut name w read input blocks a b long (inl refused) = inl refused
-long_cut name w read input blocks a b long (inr (inl over)) = absurd (omega (arith, over.within, long))
-long_cut name w read input blocks a b long (inr (inr begun)) = absurd (omega (arith, begun.within, long))
+long_cut : (name : Text) (aim : Aim) (read input : List ℕ) (blocks : ℕ) (a b : Meaning) → most_bytes < length read → IsCutShort name aim read blocks a b → IsCutShort name aim input blocks a b
+long_cut name aim read input blocks a b long (inl refused) = inl refused
+long_cut name aim read input blocks a b long (inr (inl over)) = absurd (omega (arith, over.within, long))
+long_cut name aim read input blocks a b long (inr (inr begun)) = absurd (omega (arith, begun.within, long))
 
 long_limited : (number blocks : ℕ) (read input : List ℕ) → number ≡ 1 → IsLimited read number blocks → IsLimited input number blocks
 long_limited number blocks read input one (inl many) = absurd (omega (arith, many.0, one))
 long_limited number blocks read input one (inr few) = inr few
 
-long_leaves : (name : Text) (w : Wanted) (s : Status) (read input : List ℕ) (blocks bytes : ℕ) (a b : Meaning) → most_bytes < length read → most_bytes < length input → (IsVerdict s → Verdict w read s)
-    → Leaves name w read s blocks bytes a b → Leaves name w input s blocks bytes a b
-long_leaves name w status.Done read input blocks bytes a b long whole verdict leaves = absurd (omega (arith, (verdict tt).0, long))
-long_leaves name w status.Words read input blocks bytes a b long whole verdict leaves = leaves
-long_leaves name w (status.Rule number place) read input blocks bytes a b long whole verdict leaves = leaves
-long_leaves name w (status.Limit number found) read input blocks bytes a b long whole verdict leaves =
-    (long_limited number blocks read input (limit_one w number found read long (verdict tt)) leaves.0, leaves.1)
-long_leaves name w (status.Choice number place) read input blocks bytes a b long whole verdict leaves = absurd (omega (arith, (verdict tt).0, long))
-long_leaves name w (status.Block number) read input blocks bytes a b long whole verdict leaves = absurd (omega (arith, (verdict tt).0, long))
-long_leaves name w status.ReadFault read input blocks bytes a b long whole verdict leaves = leaves
-long_leaves name w status.WriteFault read input blocks bytes a b long whole verdict leaves = long_cut name w read input blocks a b long leaves
-long_leaves name w status.NoMemory read input blocks bytes a b long whole verdict leaves = long_cut name w read input blocks a b long leaves
+long_leaves : (name : Text) (aim : Aim) (s : Status) (read input : List ℕ) (blocks bytes : ℕ) (a b : Meaning) → most_bytes < length read → most_bytes < length input → (IsVerdict s → Verdict aim read s)
+    → Leaves name aim read s blocks bytes a b → Leaves name aim input s blocks bytes a b
+long_leaves name aim status.Done read input blocks bytes a b long whole verdict leaves = absurd (omega (arith, (verdict tt).0, long))
+long_leaves name aim status.Words read input blocks bytes a b long whole verdict leaves = leaves
+long_leaves name aim (status.Rule number place) read input blocks bytes a b long whole verdict leaves = leaves
+long_leaves name aim (status.Limit number found) read input blocks bytes a b long whole verdict leaves =
+    (long_limited number blocks read input (limit_one aim number found read long (verdict tt)) leaves.0, leaves.1)
+long_leaves name aim (status.Choice number place) read input blocks bytes a b long whole verdict leaves = absurd (omega (arith, (verdict tt).0, long))
+long_leaves name aim (status.Block number) read input blocks bytes a b long whole verdict leaves = absurd (omega (arith, (verdict tt).0, long))
+long_leaves name aim status.ReadFault read input blocks bytes a b long whole verdict leaves = leaves
+long_leaves name aim status.WriteFault read input blocks bytes a b long whole verdict leaves = long_cut name aim read input blocks a b long leaves
+long_leaves name aim status.NoMemory read input blocks bytes a b long whole verdict leaves = long_cut name aim read input blocks a b long leaves
 
 -- nothing is done with a front that is too long
-never_done : (w : Wanted) (s : Status) (read : List ℕ) → most_bytes < length read → (IsVerdict s → Verdict w read s) → s ≡ status.Done → ⊥
-never_done w s read long verdict done =
-    let is : Verdict w read status.Done = subst (λ (x : Status). IsVerdict x → Verdict w read x) done verdict tt in
+never_done : (aim : Aim) (s : Status) (read : List ℕ) → most_bytes < length read → (IsVerdict s → Verdict aim read s) → s ≡ status.Done → ⊥
+never_done aim s read long verdict done =
+    let is : Verdict aim read status.Done = subst (λ (x : Status). IsVerdict x → Verdict aim read x) done verdict tt in
     omega (arith, is.0, long)
 
 -- what an answer to the bytes read says of the input
-pub ends_read : (request : Request) (read : List ℕ) (s : Status) (blocks bytes : ℕ) (tape : List TapeEntry) (a b c : Meaning)
+pub ends_read : (request : Request) (rule : List ℕ → StreamFacts → Option Rule) (read : List ℕ) (s : Status) (blocks bytes : ℕ) (tape : List TapeEntry) (a b c : Meaning)
     → IfSome (joined (a.holds request.from)) (λ held. read ≡ take 268435457 held) → IsUntouched a b
-    → IsAnswered request.to request.work request.wanted read s blocks bytes tape b c → (most_bytes < length read → tape ≡ []) → EndsFiles request s blocks bytes tape a c
-ends_read request read s blocks bytes tape a b c front first is none = elim (cases_lt most_bytes (length read)) [
+    → IsAnswered request.to request.work (aim_of request rule) read s blocks bytes tape b c → (most_bytes < length read → tape ≡ []) → EndsFiles request rule s blocks bytes tape a c
+ends_read request rule read s blocks bytes tape a b c front first is none = let aim : Aim = aim_of request rule in elim (cases_lt most_bytes (length read)) [
   | inr short ↦ record {
     input = read;
     files = record {
       told = short_told (joined (a.holds request.from)) read front short;
       verdict = is.verdict;
-      leaves = leaves_after request.to request.wanted read s blocks bytes a b c first is.leaves;
+      leaves = leaves_after request.to aim read s blocks bytes a b c first is.leaves;
       tape = is.tape;
       whole = is.whole;
     };
-    unsaid = cut_after request.to request.wanted read blocks a b c first is.unsaid;
+    unsaid = cut_after request.to aim read blocks a b c first is.unsaid;
   }
   | inl long ↦
       let input : List ℕ = whole (joined (a.holds request.from)) read in
@@ -156,23 +160,23 @@ ends_read request read s blocks bytes tape a b c front first is none = elim (cas
         input = input;
         files = record {
           told = told_whole (joined (a.holds request.from)) read;
-          verdict = λ v. long_verdict request.wanted s read input long long_input (is.verdict v);
-          leaves = leaves_after request.to request.wanted input s blocks bytes a b c first (long_leaves request.to request.wanted s read input blocks bytes b c long long_input is.verdict is.leaves);
+          verdict = λ v. long_verdict aim s read input long long_input (is.verdict v);
+          leaves = leaves_after request.to aim input s blocks bytes a b c first (long_leaves request.to aim s read input blocks bytes b c long long_input is.verdict is.leaves);
           tape = inl (none long);
-          whole = λ done. absurd (never_done request.wanted s read long is.verdict done);
+          whole = λ done. absurd (never_done aim s read long is.verdict done);
         };
-        unsaid = cut_after request.to request.wanted input blocks a b c first (long_cut request.to request.wanted read input blocks b c long is.unsaid);
+        unsaid = cut_after request.to aim input blocks a b c first (long_cut request.to aim read input blocks b c long is.unsaid);
       }
 ]
 
 -- nothing was read to its end, and nothing was made
-pub ends_unread : (request : Request) (s : Status) (a b : Meaning) → (s ≡ status.ReadFault) ⊎ (s ≡ status.NoMemory) → IsUntouched a b → EndsFiles request s 0 0 [] a b
-ends_unread request s a b (inl e) same = rw e (record {
+pub ends_unread : (request : Request) (rule : List ℕ → StreamFacts → Option Rule) (s : Status) (a b : Meaning) → (s ≡ status.ReadFault) ⊎ (s ≡ status.NoMemory) → IsUntouched a b → EndsFiles request rule s 0 0 [] a b
+ends_unread request rule s a b (inl e) same = rw e (record {
   input = whole (joined (a.holds request.from)) [];
   files = record { told = told_whole (joined (a.holds request.from)) []; verdict = λ no. absurd no; leaves = (refl, same); tape = inl refl; whole = λ done. cc };
   unsaid = inl (refl, same);
 })
-ends_unread request s a b (inr e) same = rw e (record {
+ends_unread request rule s a b (inr e) same = rw e (record {
   input = whole (joined (a.holds request.from)) [];
   files = record { told = told_whole (joined (a.holds request.from)) []; verdict = λ no. absurd no; leaves = inl (refl, same); tape = inl refl; whole = λ done. cc };
   unsaid = inl (refl, same);
@@ -183,24 +187,31 @@ same_request : (r : Request) (from to : Text) (w : Wanted) (work : Work) → fro
     → ◌≡◌ {A = Request} (record { from = from; to = to; wanted = w; work = work }) r
 same_request r from to w work e f h g = rw (e, f, h, g) refl
 
-pub ends_as : (r : Request) (from to : Text) (w : Wanted) (work : Work) (s : Status) (blocks bytes : ℕ) (tape : List TapeEntry) (old new : Meaning) → from ≡ r.from → to ≡ r.to → w ≡ r.wanted
-    → work ≡ r.work → EndsFiles (record { from = from; to = to; wanted = w; work = work }) s blocks bytes tape old new → EndsFiles r s blocks bytes tape old new
-ends_as r from to w work s blocks bytes tape old new e f h g ends =
-    subst (λ (x : Request). EndsFiles x s blocks bytes tape old new) (same_request r from to w work e f h g) ends
+pub ends_as : (r : Request) (rule : List ℕ → StreamFacts → Option Rule) (from to : Text) (w : Wanted) (work : Work) (s : Status) (blocks bytes : ℕ) (tape : List TapeEntry) (old new : Meaning) → from ≡ r.from → to ≡ r.to → w ≡ r.wanted
+    → work ≡ r.work → EndsFiles (record { from = from; to = to; wanted = w; work = work }) rule s blocks bytes tape old new → EndsFiles r rule s blocks bytes tape old new
+ends_as r rule from to w work s blocks bytes tape old new e f h g ends =
+    subst (λ (x : Request). EndsFiles x rule s blocks bytes tape old new) (same_request r from to w work e f h g) ends
+
+-- with the planners that were lent
+pub ends_lent : {B : Type 0} (lent planners : List B) → lent ≡ planners → (serves : B → List ℕ → Bool) (rule : B → List ℕ → StreamFacts → Option Rule) (request : Request) (s : Status) (blocks bytes : ℕ)
+    (tape : List TapeEntry) (old new : Meaning) → EndsFiles request (λ text facts. chosen (λ (b : B). serves b text) (λ (b : B). rule b text facts) lent) s blocks bytes tape old new
+    → EndsFiles request (λ text facts. chosen (λ (b : B). serves b text) (λ (b : B). rule b text facts) planners) s blocks bytes tape old new
+ends_lent {B} lent planners same serves rule request s blocks bytes tape old new ends =
+    subst (λ (ps : List B). EndsFiles request (λ text facts. chosen (λ (b : B). serves b text) (λ (b : B). rule b text facts) ps) s blocks bytes tape old new) same ends
 
 -- a run over good words whose line was said, or wasn't
-pub ends_said : (request : Request) (s late : Status) (blocks bytes : ℕ) (tape : List TapeEntry) (fault_before fault_now : ℕ) (old new : Meaning) (before now : Option (List ℕ))
-    → EndsFiles request s blocks bytes tape old new → EndsAs s (line_of s blocks bytes) late before now fault_before fault_now
-    → Ends request late blocks tape old new before now
-ends_said request s late blocks bytes tape fault_before fault_now old new before now ends (inl said) =
+pub ends_said : (request : Request) (rule : List ℕ → StreamFacts → Option Rule) (s late : Status) (blocks bytes : ℕ) (tape : List TapeEntry) (fault_before fault_now : ℕ) (old new : Meaning) (before now : Option (List ℕ))
+    → EndsFiles request rule s blocks bytes tape old new → EndsAs s (line_of s blocks bytes) late before now fault_before fault_now
+    → Ends request rule late blocks tape old new before now
+ends_said request rule s late blocks bytes tape fault_before fault_now old new before now ends (inl said) =
     rw said.0 (record { input = ends.input; bytes = bytes; files = ends.files; said = said.1 })
-ends_said request s late blocks bytes tape fault_before fault_now old new before now ends (inr (inl fault)) = rw fault.0 (record {
+ends_said request rule s late blocks bytes tape fault_before fault_now old new before now ends (inr (inl fault)) = rw fault.0 (record {
   input = ends.input;
   bytes = bytes;
   files = record { told = ends.files.told; verdict = λ no. absurd no; leaves = ends.unsaid; tape = ends.files.tape; whole = λ done. cc };
   said = fault.1;
 })
-ends_said request s late blocks bytes tape fault_before fault_now old new before now ends (inr (inr short)) = rw short.0 (record {
+ends_said request rule s late blocks bytes tape fault_before fault_now old new before now ends (inr (inr short)) = rw short.0 (record {
   input = ends.input;
   bytes = bytes;
   files = record { told = ends.files.told; verdict = λ no. absurd no; leaves = ends.unsaid; tape = ends.files.tape; whole = λ done. cc };

@@ -1,5 +1,5 @@
 -- Each input has a verdict.
-use Rattle.std.proofs.Common.{◌≡◌, ◌⊎◌, ◌≤◌, ◌<◌, ◌^◌, inl, inr, refl, sym, subst, arith, List, [], ◌∷◌, ℕ, Option, None, Some, length}
+use Rattle.std.proofs.Common.{◌≡◌, ◌⊎◌, ◌≤◌, ◌<◌, ◌^◌, inl, inr, refl, sym, subst, arith, List, [], ◌∷◌, ℕ, Option, None, Some, IfSome, length}
 use Rattle.std.proofs.lemmas.Bool.{cases_lt}
 use Rattle.jx_base.specs.declared.pieces.Block.{Block}
 use Rattle.jx_marker.specs.Ranges.{AreBytes}
@@ -11,33 +11,28 @@ use Rattle.jx_stream.specs.FirstViolated.{IsFirst}
 use Rattle.jx_stream.specs.InRange.{StreamInRange}
 use Rattle.jx_stream.specs.Read.{IsRead}
 use Rattle.jx_stream.specs.Spells.{TilePart}
-use Rattle.jx_stream.proofs.RangeLemmas.{read_in_range}
-use Rattle.jx_gather.specs.BlockOf.{AreBlocksOf}
 use Rattle.jx_gather.specs.Either.{HasBlocks, HasFault}
-use Rattle.jx_gather.specs.Gathered.{IsBroken}
+use Rattle.jx_gather.specs.Gathered.{IsBroken, IsGathered}
 use Rattle.jx_gather.specs.Totals.{totals_fault}
-use Rattle.jx_gather.proofs.BlockOfLemmas.{blocks_of_stream}
-use Rattle.jx_gather.proofs.SoundLemmas.{sound_gathered}
 use Rattle.jx_plan.specs.declared.Marks.{Marks}
 use Rattle.jx_plan.specs.declared.faults.PlanFault.{PlanFault}
 use Rattle.jx_plan.specs.declared.faults.PlanFault.TheVariants as unplanned
-use Rattle.jx_layers.specs.Causal.{first_broken}
-use Rattle.jx_layers.specs.Facts.{most_layers}
-use Rattle.jx_plan.specs.Causes.{HasKeptCause, IsFree}
-use Rattle.jx_plan.specs.Plan.{MayBePlanned, blocks_written, headers_with}
+use Rattle.jx_layers.specs.Facts.{facts_of}
+use Rattle.jx_layers.specs.Rule.{Rule, layers_by}
+use Rattle.jx_plan.specs.Causes.{IsFree}
+use Rattle.jx_plan.specs.Plan.{MayBePlanned, headers_with}
+use Rattle.jx_plan.specs.Planned.{CanBePlannedBy, HasPlanCause, MakesLayers, blocks_written, layers_of_rule}
 use Rattle.jx_plan.specs.Standing.{HeadersStand}
 use Rattle.jx_plan.specs.Wanted.{MayBeWanted, Wanted, marks_of}
-use Rattle.jx_plan.proofs.ReadLemmas.{read_stands}
 use Rattle.jx_assemble.specs.Ready.{AreReady, AreShort}
 use Rattle.jx_assemble.specs.TileParts.{AreTilePartsOf, IsOutput}
-use Rattle.jx_assemble.proofs.MostLemmas.{most_few, most_some}
 use Rattle.jx_recast.specs.declared.status.Status.{Status}
 use Rattle.jx_recast.specs.declared.status.Status.TheVariants as status
+use Rattle.jx_recast.specs.Aims.{Aim, MayBeAimed, rule_in}
 use Rattle.jx_recast.specs.Judged.{BreaksTiles}
 use Rattle.jx_recast.specs.Outcome.{Verdict, most_bytes}
 use Rattle.jx_recast.specs.Rewritten.{CanBePlanned, IsRight, IsSpoiled, Reads, headers_of}
 use Rattle.jx_recast.proofs.ToldLemmas.{stop_told}
-use Rattle.jx_recast.proofs.AnswerLemmas.{may_be_planned}
 use Rattle.jx_recast.proofs.FrontLemmas.{one_tile, tiles_stay}
 use Rattle.jx_recast.proofs.WrongLemmas.{all_right, first_or_none, right_or_wrong, wrong_or_right}
 
@@ -45,8 +40,9 @@ use Rattle.jx_recast.proofs.WrongLemmas.{all_right, first_or_none, right_or_wron
 pub record Laws : Type 0 where
   pub either : (b : List ℕ) → AreBytes b → ((f : StreamFault) × IsFirst b f) ⊎ ((s : Stream) × IsRead b s)
   pub blocks : (b : List ℕ) (s : Stream) → IsRead b s → length b < 2 ^ 64 → HasBlocks b s ⊎ HasFault b s
-  pub kept : (s : Stream) (blocks : List Block) (w : Wanted) → MayBePlanned s blocks → MayBeWanted w
-      → ((first_broken w.style blocks ≡ None) × IsFree s w (most_layers s)) ⊎ ((e : PlanFault) × (e ≡ unplanned.NoMemory → ⊥) × HasKeptCause s blocks w e)
+  pub may : (b : List ℕ) (s : Stream) (blocks : List Block) → IsRead b s → length b ≤ 2 ^ 28 → totals_fault s ≡ None → IsGathered b s blocks → MayBePlanned s blocks
+  pub planned : (s : Stream) (blocks : List Block) (w : Wanted) (o : Option Rule) → MayBePlanned s blocks → MayBeWanted w → MakesLayers o s blocks
+      → CanBePlannedBy o s blocks w ⊎ ((e : PlanFault) × (e ≡ unplanned.NoMemory → ⊥) × HasPlanCause o s blocks w e)
   pub ready : (w : Wanted) (layers : ℕ) (s : Stream) → 1 ≤ layers → layers < 2 ^ 16 → MayBeWanted w → HeadersStand s → StreamInRange s → totals_fault s ≡ None
       → IsFree s w layers → AreReady (marks_of w) (headers_with w layers s)
   pub output : (m : Marks) (s : Stream) (blocks : List Block) → AreReady m s → (b : List ℕ) × IsOutput m s blocks b
@@ -61,12 +57,21 @@ short_or_not (p ∷ ps) = elim (cases_lt p.sot.psot 4294967296) [
   | inr many ↦ inr (λ (short : AreShort (p ∷ ps)). omega (arith, short.0, many))
 ]
 
+-- planners make layers of a stream, and by a rule that there is nothing is in the way of a plan
+makes_layers : (o : Option Rule) (s : Stream) (blocks : List Block) → IfSome o (λ r. (1 ≤ layers_by r (facts_of s blocks)) × (layers_by r (facts_of s blocks) < 2 ^ 16)) → MakesLayers o s blocks
+makes_layers None s blocks made = tt
+makes_layers (Some r) s blocks made = made
+
+can_of : (aim : Aim) (s : Stream) (blocks : List Block) (o : Option Rule) → rule_in aim s blocks ≡ o → MakesLayers o s blocks → CanBePlannedBy o s blocks aim.wanted → CanBePlanned aim s blocks
+can_of aim s blocks None e made never = absurd never
+can_of aim s blocks (Some r) e made free = record { by = r; is = e; layers = made; free = free }
+
 -- a tile is written, or it has a block that is wrong, or else a tile-part that is too long
-module _ (w : Wanted) (s : Stream) (blocks : List Block) (t : ℕ) (parts : List TilePart) (are : AreTilePartsOf (marks_of w) (headers_of w s) (blocks_written w blocks) t parts) where
+module _ (w : Wanted) (r : Rule) (s : Stream) (blocks : List Block) (t : ℕ) (parts : List TilePart) (are : AreTilePartsOf (marks_of w) (headers_of w r s blocks) (blocks_written w r s blocks) t parts) where
   abbrev Written : Type 0
   Written = IsRight w s blocks t × AreShort parts
 
-  written_or_not : IsSpoiled w s blocks t ⊎ Written
+  written_or_not : IsSpoiled w r s blocks t ⊎ Written
   written_or_not = elim (wrong_or_right w s blocks t) [
     | inl wrong ↦ inl (inl wrong)
     | inr right ↦ elim (short_or_not parts) [
@@ -75,77 +80,85 @@ module _ (w : Wanted) (s : Stream) (blocks : List Block) (t : ℕ) (parts : List
     ]
   ]
 
-  unspoiled : Written → IsSpoiled w s blocks t → ⊥
+  unspoiled : Written → IsSpoiled w r s blocks t → ⊥
   unspoiled is (inl wrong) = right_or_wrong w s blocks t wrong.0 is.0 wrong.1
-  unspoiled is (inr long) = long.long (subst AreShort (one_tile (marks_of w) (headers_of w s) (blocks_written w blocks) t parts long.parts are long.are) is.1)
+  unspoiled is (inr long) = long.long (subst AreShort (one_tile (marks_of w) (headers_of w r s blocks) (blocks_written w r s blocks) t parts long.parts are long.are) is.1)
 
-  spoiled_or_not : IsSpoiled w s blocks t ⊎ (IsSpoiled w s blocks t → ⊥)
+  spoiled_or_not : IsSpoiled w r s blocks t ⊎ (IsSpoiled w r s blocks t → ⊥)
   spoiled_or_not = elim written_or_not [
     | inl spoiled ↦ inl spoiled
     | inr is ↦ inr (unspoiled is)
   ]
 
-  written_of : (IsSpoiled w s blocks t → ⊥) → Written
+  written_of : (IsSpoiled w r s blocks t → ⊥) → Written
   written_of none = elim written_or_not [
     | inl spoiled ↦ absurd (none spoiled)
     | inr is ↦ is
   ]
 
-module _ (laws : Laws) (w : Wanted) (may : MayBeWanted w) (input : List ℕ) (short : length input ≤ most_bytes) where
-  stopped : (f : StreamFault) → IsFirst input f ⊎ BreaksTiles input f → (st : Status) × Verdict w input st
+module _ (laws : Laws) (aim : Aim) (may : MayBeAimed aim) (input : List ℕ) (short : length input ≤ most_bytes) where
+  stopped : (f : StreamFault) → IsFirst input f ⊎ BreaksTiles input f → (st : Status) × Verdict aim input st
   stopped (fault.Rule number place) cause = (status.Rule number place, (short, cause))
   stopped (fault.Limit number found) cause = (status.Limit number found, inl (inr (short, cause)))
   stopped fault.NoMemory cause = absurd (stop_told input fault.NoMemory cause)
 
-  spoiled_by : (s : Stream) (blocks : List Block) (t : ℕ) → Reads input s blocks → CanBePlanned w s blocks → t < tile_number s.siz → IsSpoiled w s blocks t
-      → ((n : ℕ) → n < t → IsSpoiled w s blocks n → ⊥) → (st : Status) × Verdict w input st
+  spoiled_by : (s : Stream) (blocks : List Block) (t : ℕ) → Reads input s blocks → (can : CanBePlanned aim s blocks) → t < tile_number s.siz → IsSpoiled aim.wanted can.by s blocks t
+      → ((n : ℕ) → n < t → IsSpoiled aim.wanted can.by s blocks n → ⊥) → (st : Status) × Verdict aim input st
   spoiled_by s blocks t reads can inside (inl wrong) lowest =
       (status.Block wrong.0, (short, record { stream = s; blocks = blocks; reads = reads; can = can; tile = t; inside = inside; is = wrong.1; lowest = lowest }))
   spoiled_by s blocks t reads can inside (inr long) lowest =
       (status.Choice 7 t, (short, inl (refl, record { stream = s; blocks = blocks; reads = reads; can = can; inside = inside; is = long; lowest = lowest })))
 
-  written : (s : Stream) (blocks : List Block) → Reads input s blocks → AreBlocksOf s blocks → CanBePlanned w s blocks → (st : Status) × Verdict w input st
-  written s blocks reads of can =
-      let range : StreamInRange s = read_in_range input s reads.read in
-      let ready : AreReady (marks_of w) (headers_of w s) =
-      laws.ready w (most_layers s) s (most_some s range) (most_few s range) may (read_stands input s reads.read) range reads.totals can.free in
-      let out = laws.output (marks_of w) (headers_of w s) (blocks_written w blocks) ready in
-      let are : (t : ℕ) → t < tile_number s.siz → AreTilePartsOf (marks_of w) (headers_of w s) (blocks_written w blocks) t (out.1.parts t) =
-      λ t lt. out.1.are t (subst (λ (n : ℕ). t < n) (sym (tiles_stay w (most_layers s) s)) lt) in
-      elim (first_or_none (λ (t : ℕ). IsSpoiled w s blocks t) 0 (tile_number s.siz) (λ t from lt. spoiled_or_not w s blocks t (out.1.parts t) (are t (omega (arith, lt))))) [
+  -- the headers that are written are such as a file may be written from
+  ready : (s : Stream) (blocks : List Block) → MayBePlanned s blocks → (can : CanBePlanned aim s blocks) → AreReady (marks_of aim.wanted) (headers_of aim.wanted can.by s blocks)
+  ready s blocks plan can = laws.ready aim.wanted (layers_of_rule can.by s blocks) s can.layers.0 can.layers.1 may.may plan.headers plan.range plan.totals can.free.free
+
+  written : (s : Stream) (blocks : List Block) → Reads input s blocks → MayBePlanned s blocks → CanBePlanned aim s blocks → (st : Status) × Verdict aim input st
+  written s blocks reads plan can =
+      let w : Wanted = aim.wanted in
+      let r : Rule = can.by in
+      let out = laws.output (marks_of w) (headers_of w r s blocks) (blocks_written w r s blocks) (ready s blocks plan can) in
+      let are : (t : ℕ) → t < tile_number s.siz → AreTilePartsOf (marks_of w) (headers_of w r s blocks) (blocks_written w r s blocks) t (out.1.parts t) =
+      λ t lt. out.1.are t (subst (λ (n : ℕ). t < n) (sym (tiles_stay w (layers_of_rule r s blocks) s)) lt) in
+      elim (first_or_none (λ (t : ℕ). IsSpoiled w r s blocks t) 0 (tile_number s.siz) (λ t from lt. spoiled_or_not w r s blocks t (out.1.parts t) (are t (omega (arith, lt))))) [
         | inl first ↦ spoiled_by s blocks first.0 reads can (omega (arith, first.1.below)) first.1.is (λ n lt spoiled. first.1.lowest n (omega arith) lt spoiled)
         | inr none ↦
             let each : (t : ℕ) → t < tile_number s.siz → IsRight w s blocks t × AreShort (out.1.parts t) =
-            λ t lt. written_of w s blocks t (out.1.parts t) (are t lt) (none t (omega arith) (omega (arith, lt))) in (
+            λ t lt. written_of w r s blocks t (out.1.parts t) (are t lt) (none t (omega arith) (omega (arith, lt))) in (
               status.Done,
               (
                 short,
                 out.0,
-                record { stream = s; blocks = blocks; reads = reads; can = can; right = all_right w s blocks of.all (λ t lt. (each t lt).0); output = out.1; short = λ t lt. (each t lt).1 },
+                record {
+                  stream = s;
+                  blocks = blocks;
+                  reads = reads;
+                  can = can;
+                  right = all_right w s blocks plan.blocks_are.all (λ t lt. (each t lt).0);
+                  output = out.1;
+                  short = λ t lt. (each t lt).1;
+                },
               ),
             )
       ]
 
-  unplanned_for : (s : Stream) (blocks : List Block) (e : PlanFault) → (e ≡ unplanned.NoMemory → ⊥) → HasKeptCause s blocks w e → Reads input s blocks → (st : Status) × Verdict w input st
+  unplanned_for : (s : Stream) (blocks : List Block) (e : PlanFault) → (e ≡ unplanned.NoMemory → ⊥) → HasPlanCause (rule_in aim s blocks) s blocks aim.wanted e → Reads input s blocks
+      → (st : Status) × Verdict aim input st
   unplanned_for s blocks (unplanned.Choice number place) caused cause reads = (status.Choice number place, (short, inr (record { stream = s; blocks = blocks; reads = reads; cause = cause })))
   unplanned_for s blocks (unplanned.Limit number found) caused cause reads = (status.Limit number found, inr (short, record { stream = s; blocks = blocks; reads = reads; cause = cause }))
   unplanned_for s blocks unplanned.NoMemory caused cause reads = absurd (caused refl)
 
-  may_plan : (s : Stream) (blocks : List Block) → Reads input s blocks → MayBePlanned s blocks
-  may_plan s blocks reads =
-      let small : length input ≤ 2 ^ 28 = short in
-      may_be_planned input s blocks reads.read reads.totals (blocks_of_stream input s blocks reads.read small reads.totals reads.gathered)
-      (sound_gathered input s blocks reads.read small reads.totals reads.gathered)
-
-  planned : (s : Stream) (blocks : List Block) → Reads input s blocks → (st : Status) × Verdict w input st
+  planned : (s : Stream) (blocks : List Block) → Reads input s blocks → (st : Status) × Verdict aim input st
   planned s blocks reads =
-      let can : MayBePlanned s blocks = may_plan s blocks reads in
-      elim (laws.kept s blocks w can may) [
-        | inl free ↦ written s blocks reads can.blocks_are (record { whole = free.0; free = free.1 })
+      let small : length input ≤ 2 ^ 28 = short in
+      let plan : MayBePlanned s blocks = laws.may input s blocks reads.read small reads.totals reads.gathered in
+      let made : MakesLayers (rule_in aim s blocks) s blocks = makes_layers (rule_in aim s blocks) s blocks (may.layers (facts_of s blocks)) in
+      elim (laws.planned s blocks aim.wanted (rule_in aim s blocks) plan may.may made) [
+        | inl free ↦ written s blocks reads plan (can_of aim s blocks (rule_in aim s blocks) refl made free)
         | inr why ↦ unplanned_for s blocks why.0 why.1 why.2 reads
       ]
 
-  gathered : (s : Stream) → IsRead input s → HasBlocks input s ⊎ HasFault input s → (totals_fault s ≡ None) ⊎ ((f : StreamFault) × IsBroken input s f) → (st : Status) × Verdict w input st
+  gathered : (s : Stream) → IsRead input s → HasBlocks input s ⊎ HasFault input s → (totals_fault s ≡ None) ⊎ ((f : StreamFault) × IsBroken input s f) → (st : Status) × Verdict aim input st
   gathered s read (inr broken) totals = stopped broken.0 (inr (record { stream = s; read = read; broken = broken.1 }))
   gathered s read (inl blocks) (inr broken) = stopped broken.0 (inr (record { stream = s; read = read; broken = broken.1 }))
   gathered s read (inl blocks) (inl none) = planned s blocks.0 (record { read = read; totals = none; gathered = blocks.1 })
@@ -157,7 +170,7 @@ module _ (laws : Laws) (w : Wanted) (may : MayBeWanted w) (input : List ℕ) (sh
       told None e = inl e
       told (Some f) e = inr (f, inl e)
 
-  short_verdict : AreBytes input → (st : Status) × Verdict w input st
+  short_verdict : AreBytes input → (st : Status) × Verdict aim input st
   short_verdict bytes = elim (laws.either input bytes) [
     | inl first ↦ stopped first.0 (inl first.1)
     | inr read ↦
@@ -165,8 +178,8 @@ module _ (laws : Laws) (w : Wanted) (may : MayBeWanted w) (input : List ℕ) (sh
         gathered read.0 read.1 (laws.blocks input read.0 read.1 (omega arith)) (totals_of read.0)
   ]
 
-pub some_verdict : Laws → (w : Wanted) (input : List ℕ) → MayBeWanted w → AreBytes input → (st : Status) × Verdict w input st
-some_verdict laws w input may bytes = elim (cases_lt most_bytes (length input)) [
+pub some_verdict : Laws → (aim : Aim) (input : List ℕ) → MayBeAimed aim → AreBytes input → (st : Status) × Verdict aim input st
+some_verdict laws aim input may bytes = elim (cases_lt most_bytes (length input)) [
   | inl long ↦ (status.Limit 1 268435457, inl (inl (long, refl, refl)))
-  | inr short ↦ short_verdict laws w may input short bytes
+  | inr short ↦ short_verdict laws aim may input short bytes
 ]

@@ -1,6 +1,6 @@
 -- From what is made of the blocks of a round to the tape of a run.
-use Rattle.std.proofs.Common.{◌≡◌, ◌∙◌, ◌<◌, ◌≤◌, ◌+◌, ◌-◌, ℕ, zero, suc, List, [], ◌∷◌, ◌++◌, length, map, take, drop, refl, ap, sym, subst, arith, inl, inr, Some, append_assoc, append-nil, length-append, length-take, slice_index_or}
-use Rattle.std.specs.List.{All, slice_get, sum}
+use Rattle.std.proofs.Common.{◌≡◌, ◌∙◌, ◌<◌, ◌≤◌, ◌+◌, ◌-◌, ◌^◌, ℕ, zero, suc, true, is_some, List, [], ◌∷◌, ◌++◌, length, map, take, drop, refl, ap, sym, subst, arith, inl, inr, Some, append_assoc, append-nil, length-append, length-take, slice_index_or}
+use Rattle.std.specs.List.{All, list_any, slice_get, sum}
 use Rattle.std.proofs.lemmas.List.{drop_all, drop-drop, drop-map, drop-take, length-map, map-append, take-map, take-take}
 use Rattle.std.proofs.lemmas.List.Elements.{All-append, All-cons, All-map, All-nil}
 use Rattle.std.proofs.Math.Seq.{drop-cons}
@@ -23,7 +23,7 @@ use Rattle.jx_gather.proofs.TotalLemmas.{blocks_are}
 use Rattle.jx_assemble.specs.Tile.{first_block}
 use Rattle.jx_plan.specs.Plan.{IsPlan, Plan}
 use Rattle.jx_words.specs.Words.{MayBeWork, Work}
-use Rattle.jx_recast.specs.MadeRounds.{AreMadeAlone, AreOfBlocks, IsTapeFrom, TapesOn, entry_of}
+use Rattle.jx_recast.specs.MadeRounds.{AreMadeAlone, AreOfBlocks, AreUnshared, IsTapeFrom, TapesOn, entry_of}
 use Rattle.jx_recast.specs.Rounds.{AreAnswers, HasTape, IsPlace}
 use Rattle.jx_recast.specs.Tapes.{IsTapeOf, setup_of}
 use Rattle.jx_recast.specs.declared.status.TapeEntry.{TapeEntry}
@@ -57,15 +57,18 @@ alone_is_tape jobs first work entries asked may alone =
     let number : Taped (Named WrittenBlock) → ℕ = λ t. t.number in
     let order : map number entries ≡ numbers first (length jobs) = alone.numbers_are ∙ asked_numbers first jobs asked in
     record {
-      is = record {
-        order = order;
-        answers = alone.answers;
-        workers = λ k d lt. omega (arith, alone.workers k d lt, may.some_threads);
-        within = λ k d lt. (omega (arith, alone.seen k d lt), omega (arith, alone.seen k d lt, may.some_window), inl (alone.seen k d lt));
-      };
+      order = order;
+      answers = alone.answers;
+      workers = λ k d lt. omega (arith, alone.workers k d lt, may.some_threads);
+      within = λ k d lt. (omega (arith, alone.seen k d lt), omega (arith, alone.seen k d lt, may.some_window), inl (alone.seen k d lt));
       from = all_from (λ (t : Taped (Named WrittenBlock)). first ≤ t.seen) entries (λ i t at.
           omega (arith, number_at number entries first (length jobs) i t order at, all_at (λ (x : Taped (Named WrittenBlock)). x.seen ≡ x.number) entries i t alone.seen at));
     }
+
+-- jobs of which workers make something are shared
+pub shared_none : (jobs : List Job) (entries : List (Taped (Named WrittenBlock))) → list_any (λ (j : Job). is_some j.style) jobs ≡ true → sum (map size_of jobs) ≤ 2 ^ 28 → AreUnshared jobs → AreMadeAlone jobs entries
+shared_none jobs entries anew light (inl kept) = absurd (cc)
+shared_none jobs entries anew light (inr heavy) = absurd (omega (arith, light, heavy))
 
 -- ---- jobs, one after another
 mapped_next : {X Y Z : Type 0} (f : X → Z) (g : Y → Z) (xs more : List X) (x : X) (ys : List Y) (i : ℕ) (y : Y) → map f xs ++ map g (drop i ys) ≡ map g ys → i < length ys → y ≡ slice_index_or ys i y
@@ -149,22 +152,22 @@ jobs_asked p first count jobs plan is inside i j at =
 module _ (p : Plan) (work : Work) (first count : ℕ) (jobs : List Job) (entries : List (Taped (Named WrittenBlock))) (plan : IsPlan p) (is : jobs ≡ take count (drop first p.jobs)) (all : length jobs ≡ count)
     (inside : first + count ≤ length p.jobs) (tape : IsTapeFrom jobs first work entries) where
   answers_count : length entries ≡ count
-  answers_count = long first (length jobs) (λ (t : Taped (Named WrittenBlock)). t.number) entries tape.is.order ∙ all
+  answers_count = long first (length jobs) (λ (t : Taped (Named WrittenBlock)). t.number) entries tape.order ∙ all
 
   pub answers_of : AreOfBlocks p first count entries
-  answers_of = record { count_is = answers_count; answers = tape.is.answers ∙ ap (map answer_of) is }
+  answers_of = record { count_is = answers_count; answers = tape.answers ∙ ap (map answer_of) is }
 
   pub answers_are : AreAnswers p work first entries
   answers_are = record {
-    order = tape.is.order ∙ ap (numbers first) (all ∙ sym answers_count);
+    order = tape.order ∙ ap (numbers first) (all ∙ sym answers_count);
     within = omega (arith, inside, answers_count);
-    answers = tape.is.answers ∙ ap (map answer_of) is ∙ ap (λ (n : ℕ). map answer_of (take n (drop first p.jobs))) (sym answers_count);
-    workers = tape.is.workers;
+    answers = tape.answers ∙ ap (map answer_of) is ∙ ap (λ (n : ℕ). map answer_of (take n (drop first p.jobs))) (sym answers_count);
+    workers = tape.workers;
     seen = all_from (λ (t : Taped (Named WrittenBlock)). Within (setup_of work p.blocks) t.seen t.number) entries (λ i t at.
-        let number : t.number ≡ first + i = number_at (λ (x : Taped (Named WrittenBlock)). x.number) entries first (length jobs) i t tape.is.order at in
+        let number : t.number ≡ first + i = number_at (λ (x : Taped (Named WrittenBlock)). x.number) entries first (length jobs) i t tape.order at in
         within_run p work first count t.seen t.number jobs plan is (all_at (λ (x : Taped (Named WrittenBlock)). first ≤ x.seen) entries i t tape.from at)
         (omega (arith, number, slice_get_within entries i t at, answers_count))
-        (all_at (λ (x : Taped (Named WrittenBlock)). Within (bounds first work.window work.most jobs) x.seen x.number) entries i t tape.is.within at));
+        (all_at (λ (x : Taped (Named WrittenBlock)). Within (bounds first work.window work.most jobs) x.seen x.number) entries i t tape.within at));
   }
 
 -- ---- from tape to tape

@@ -1,41 +1,31 @@
--- The blocks of a tile as they are made: each as the plan's style has it written, or wrong.
-use Rattle.std.proofs.Common.{◌≡◌, ◌≢◌, ◌∙◌, ◌<◌, ◌≤◌, ◌+◌, ◌-◌, ℕ, zero, suc, true, false, List, [], ◌∷◌, length, map, take, drop, refl, ap, sym, subst, arith, inl, inr, Option, None, Some}
+-- The blocks of a tile as they are made: each as its job asks for it, or wrong.
+use Rattle.std.proofs.Common.{◌≡◌, ◌≢◌, ◌∙◌, ◌<◌, ◌≤◌, ◌+◌, ◌-◌, ◌==◌, ℕ, zero, suc, true, false, List, [], ◌∷◌, length, map, take, drop, refl, ap, sym, subst, arith, inl, inr, Option, None, Some}
 use Rattle.std.specs.List.{All, slice_get}
 use Rattle.std.specs.Option.{option_map}
-use Rattle.std.proofs.lemmas.Bool.{cases_Bool}
+use Rattle.std.proofs.lemmas.Bool.{cases_Bool, cond-false, cond-true, eqb-true}
 use Rattle.std.proofs.lemmas.List.{take_all}
 use Rattle.std.proofs.lemmas.List.Elements.{All-cons, All-head, All-tail}
 use Rattle.std.proofs.lemmas.Option.{get_or_from_slice_get, slice_get-map, slice_get_cases, slice_get_within}
-use Rattle.jx_base.specs.declared.names.BlockName.{BlockName}
 use Rattle.jx_base.specs.declared.pieces.Block.{Block}
 use Rattle.jx_base.specs.declared.style.Style.{Style}
 use Rattle.jx_base.specs.Pieces.{PieceValue}
 use Rattle.jx_base.specs.Sound.{IsSound}
 use Rattle.jx_base.proofs.Lists.{none_some, some_same}
-use Rattle.jx_geom.specs.Numbering.{blocks_of_all}
-use Rattle.jx_geom.proofs.NumberLemmas.{block_number_taken}
-use Rattle.jx_stream.specs.declared.Stream.{Stream}
-use Rattle.jx_stream.specs.First.{canvas_of, tile_number}
-use Rattle.jx_stream.specs.Shapes.{shapes_of}
-use Rattle.jx_gather.specs.BlockOf.{AreBlocksOf, IsBlockOf, IsFoundOf}
-use Rattle.jx_gather.specs.Totals.{block_total}
 use Rattle.jx_block.specs.declared.LayerEnd.{LayerEnd}
 use Rattle.jx_block.specs.declared.job.Job.{Job}
-use Rattle.jx_block.specs.Jobs.{KeepsCausal}
+use Rattle.jx_block.specs.Jobs.{IsAsked}
 use Rattle.jx_block.specs.Recoded.{WrittenBlock, recoding_in}
-use Rattle.jx_block.specs.Recoding.{Recoding, layer_ends, recoding}
-use Rattle.jx_block.specs.Written.{block_with, is_wrong, style_for, written_as}
-use Rattle.jx_layers.specs.Facts.{most_layers}
+use Rattle.jx_block.specs.Recoding.{Recoding, layer_ends, pieces_of, recoding}
+use Rattle.jx_block.specs.Written.{block_asked, block_with, is_wrong, style_for}
 use Rattle.jx_store.specs.declared.event.Taped.{Taped}
 use Rattle.jx_store.specs.declared.work.Named.{Named}
 use Rattle.jx_store.specs.declared.work.Named.TheVariants.{Made, Bad, Short}
 use Rattle.jx_pool.specs.Tapes.{answer_of, named_as}
 use Rattle.jx_plan.specs.Plan.{IsJob, IsPlan, Plan}
 use Rattle.jx_assemble.specs.Tile.{AreMade, AreValuesOf, IsMade, StandIn, block_written, blocks_in, first_block, made_before, made_in}
-use Rattle.jx_assemble.proofs.MostLemmas.{most_each}
 use Rattle.jx_recast.specs.MadeRounds.{AreOfBlocks, IsFirstUnmade, IsUnmadeAs}
 use Rattle.jx_recast.specs.Rewritten.{IsWrongBlock}
-use Rattle.jx_recast.specs.Rounds.{IsKeeping, IsRightTile, IsWrongTile, blocks_of}
+use Rattle.jx_recast.specs.Rounds.{IsRightTile, IsWrongTile, blocks_of}
 
 -- ---- an item and all items
 pub all_at : {X : Type 0} (P : X → Type 0) (xs : List X) (i : ℕ) (x : X) → All P xs → slice_get xs i ≡ Some x → P x
@@ -67,69 +57,51 @@ get_drop (suc n) [] i k is = refl
 get_drop (suc n) (x ∷ xs) i zero is = absurd (omega (arith, is))
 get_drop (suc n) (x ∷ xs) i (suc k) is = get_drop n xs i k (omega (arith, is))
 
--- ---- the block of a number is that of a name
-total_is : (s : Stream) → block_total s ≡ blocks_of_all (canvas_of s.siz) (shapes_of s)
-unfolding block_total
-total_is s = refl
-
-record IsNamed (s : Stream) (b : Block) : Type 0 where
-  pub name : BlockName
-  pub tile : name.tile < tile_number s.siz
-  pub of : IsBlockOf s name b
-
-named_at : (s : Stream) (blocks : List Block) (k : ℕ) (b : Block) → AreBlocksOf s blocks → slice_get blocks k ≡ Some b → IsNamed s b
-named_at s blocks k b are is =
-    let inside : k < length blocks = slice_get_within blocks k b is in
-    let taken = block_number_taken (canvas_of s.siz) (shapes_of s) k (omega (arith, inside, are.all, total_is s)) in
-    let P : ℕ → Type 0 = λ (n : ℕ). IsFoundOf s taken.0 (slice_get blocks n) in
-    let here : IsFoundOf s taken.0 (slice_get blocks k) = subst P taken.1.1 (are.each taken.0 taken.1.0) in
-    record { name = taken.0; tile = taken.1.0.0; of = subst (IsFoundOf s taken.0) is here }
-
-fewer : (s : Stream) (layers : ℕ) (b : Block) (n : IsNamed s b) → layers ≡ most_layers s → All (λ (q : PieceValue). q.layer < layers) b.pieces
-fewer s layers b named most = λ k d lt. omega (arith, named.of.layers k d lt, most_each s named.name.tile named.tile, most)
-
 -- ---- what a plan says of a job
 pub record IsOwn (p : Plan) (number : ℕ) (j : Job) : Type 0 where
   pub number_is : j.number ≡ number
   pub stands : slice_get p.blocks number ≡ Some j.block.now
   pub style : j.style ≡ style_for p.wanted.style j.block.now
-  pub ends : j.ends ≡ layer_ends j.block.now.pieces
-  pub sound : IsSound j.block.now
-  pub causal : KeepsCausal j.block.now (style_for p.wanted.style j.block.now)
-  pub layers : All (λ (q : PieceValue). q.layer < p.layers) j.block.now.pieces
+  pub asked : IsAsked j.block.now j.style j.ends
+  pub below : All (λ (e : LayerEnd). e.layer < p.layers) j.ends
 
-own_at : (p : Plan) (number : ℕ) (j : Job) → IsPlan p → IsKeeping p → slice_get p.jobs number ≡ Some j → IsOwn p number j
-own_at p number j plan keeping there =
+own_at : (p : Plan) (number : ℕ) (j : Job) → IsPlan p → slice_get p.jobs number ≡ Some j → IsOwn p number j
+own_at p number j plan there =
     let job : IsJob p.wanted.style p.blocks number j = plan.each number j there in
-    let named : IsNamed p.stream j.block.now = named_at p.stream p.blocks number j.block.now plan.may.blocks_are job.block_is in
-    record {
-      number_is = job.number_is;
-      stands = job.block_is;
-      style = job.style_is;
-      ends = all_at (λ (x : Job). x.ends ≡ layer_ends x.block.now.pieces) p.jobs number j keeping.jobs there;
-      sound = job.asked.sound;
-      causal = subst (KeepsCausal j.block.now) job.style_is job.asked.causal;
-      layers = fewer p.stream p.layers j.block.now named keeping.layers;
-    }
+    record { number_is = job.number_is; stands = job.block_is; style = job.style_is; asked = job.asked; below = plan.below number j there }
 
--- ---- what becomes of a block in its own layers, and of one that is wrong
+-- ---- pieces lie in the layers that end
+pub in_layers : (n : ℕ) (ps : List PieceValue) → All (λ (e : LayerEnd). e.layer < n) (layer_ends ps) → All (λ (q : PieceValue). q.layer < n) ps
+in_layers n [] each = all_none (λ (q : PieceValue). q.layer < n)
+in_layers n (p ∷ []) each =
+    let here : p.layer < n = All-head (λ (e : LayerEnd). e.layer < n) (record { layer = p.layer; passes = p.first + p.passes }) [] each in
+    All-cons (λ (q : PieceValue). q.layer < n) p [] here (all_none (λ (q : PieceValue). q.layer < n))
+in_layers n (p ∷ q ∷ ps) each =
+    let P : LayerEnd → Type 0 = λ e. e.layer < n in
+    let Q : PieceValue → Type 0 = λ x. x.layer < n in
+    let e : LayerEnd = record { layer = p.layer; passes = p.first + p.passes } in
+    let rest : List LayerEnd = layer_ends (q ∷ ps) in
+    elim (cases_Bool (p.layer == q.layer)) [
+      | inl t ↦
+          let more : All P rest = subst (All P) (cond-true (p.layer == q.layer) rest (e ∷ rest) t) each in
+          let later : All Q (q ∷ ps) = in_layers n (q ∷ ps) more in
+          let next : q.layer < n = All-head Q q ps later in
+          let same : p.layer ≡ q.layer = eqb-true p.layer q.layer t in
+          All-cons Q p (q ∷ ps) (omega (arith, same, next)) later
+      | inr f ↦
+          let all : All P (e ∷ rest) = subst (All P) (cond-false (p.layer == q.layer) rest (e ∷ rest) f) each in
+          All-cons Q p (q ∷ ps) (All-head P e rest all) (in_layers n (q ∷ ps) (All-tail P e rest all))
+    ]
+
+-- ---- what becomes of a block, and of one that is wrong
 pub record BlockLaws : Type 0 where
-  pub sound : (asked : Option Style) (b : Block) → IsSound b → KeepsCausal b (style_for asked b) → IsSound (written_as asked b)
-  pub layers : (asked : Option Style) (b : Block) (most : ℕ) → IsSound b → KeepsCausal b (style_for asked b) → All (λ (q : PieceValue). q.layer < most) b.pieces
-      → All (λ (q : PieceValue). q.layer < most) (written_as asked b).pieces
+  pub sound : (b : Block) (style : Option Style) (ends : List LayerEnd) (r : Recoding) → IsAsked b style ends → Some r ≡ recoding b style ends → IsSound (block_with b (Some r))
+  pub layers : (b : Block) (style : Option Style) (ends : List LayerEnd) (r : Recoding) → IsAsked b style ends → Some r ≡ recoding b style ends → layer_ends (pieces_of r) ≡ ends
   pub wrong : (asked : Option Style) (b : Block) (ends : List LayerEnd) → is_wrong asked b ≡ true → recoding b (style_for asked b) ends ≡ None
   pub right : (asked : Option Style) (b : Block) (ends : List LayerEnd) → is_wrong asked b ≡ false → recoding b (style_for asked b) ends ≢ None
 
 asked_is : (p : Plan) (number : ℕ) (j : Job) → IsOwn p number j → recoding_in j ≡ recoding j.block.now (style_for p.wanted.style j.block.now) j.ends
 asked_is p number j own = ap (λ (s : Option Style). recoding j.block.now s j.ends) own.style
-
-written_is : (p : Plan) (number : ℕ) (r : WrittenBlock) → IsOwn p number r.job → recoding_in r.job ≡ Some r.recoding → block_written r ≡ written_as p.wanted.style r.job.block.now
-unfolding written_as
-written_is p number r own is =
-    let b : Block = r.job.block.now in
-    let made : Some r.recoding ≡ recoding b (style_for p.wanted.style b) (layer_ends b.pieces) =
-    sym is ∙ asked_is p number r.job own ∙ ap (recoding b (style_for p.wanted.style b)) own.ends in
-    ap (block_with b) made
 
 right_at : BlockLaws → (p : Plan) (number : ℕ) (j : Job) (r : Recoding) → IsOwn p number j → recoding_in j ≡ Some r → IsWrongBlock p.wanted (slice_get p.blocks number) → ⊥
 right_at laws p number j r own is wrong =
@@ -232,20 +204,19 @@ made_at (t ∷ ts) (suc i) r each is =
 record IsMadeOf (p : Plan) (number : ℕ) (r : WrittenBlock) : Type 0 where
   pub there : slice_get p.jobs number ≡ Some r.job
   pub own : IsOwn p number r.job
-  pub written : block_written r ≡ written_as p.wanted.style r.job.block.now
+  pub is : recoding_in r.job ≡ Some r.recoding
 
-made_of : (p : Plan) (number : ℕ) (t : Taped (Named WrittenBlock)) (r : WrittenBlock) → IsPlan p → IsKeeping p → IsAnswerAt p number t → t.named ≡ Made r → IsMadeOf p number r
-made_of p number t r plan keeping at made =
+made_of : (p : Plan) (number : ℕ) (t : Taped (Named WrittenBlock)) (r : WrittenBlock) → IsPlan p → IsAnswerAt p number t → t.named ≡ Made r → IsMadeOf p number r
+made_of p number t r plan at made =
     let for = made_for at.job (recoding_in at.job) r (sym made ∙ at.answer) in
     let there : slice_get p.jobs number ≡ Some r.job = at.there ∙ ap Some (sym for.0) in
-    let own : IsOwn p number r.job = own_at p number r.job plan keeping there in
-    record { there = there; own = own; written = written_is p number r own (ap recoding_in for.0 ∙ for.1) }
+    record { there = there; own = own_at p number r.job plan there; is = ap recoding_in for.0 ∙ for.1 }
 
-module _ (laws : BlockLaws) (p : Plan) (t count : ℕ) (entries : List (Taped (Named WrittenBlock))) (plan : IsPlan p) (keeping : IsKeeping p) (are : AreOfBlocks p (first_block p t) count entries) where
+module _ (laws : BlockLaws) (p : Plan) (t count : ℕ) (entries : List (Taped (Named WrittenBlock))) (plan : IsPlan p) (are : AreOfBlocks p (first_block p t) count entries) where
   value_at : (i : ℕ) (r : WrittenBlock) → AreMade entries → slice_get (made_in entries) i ≡ Some r → IsMadeOf p (first_block p t + i) r
   value_at i r made is =
       let at = made_at entries i r made is in
-      made_of p (first_block p t + i) at.entry r plan keeping (answer_at p (first_block p t) count i entries at.entry are at.there) at.made
+      made_of p (first_block p t + i) at.entry r plan (answer_at p (first_block p t) count i entries at.entry are at.there) at.made
 
   pub values_are : AreMade entries → count ≡ blocks_in p t → AreValuesOf p t (made_in entries)
   values_are made all = record {
@@ -253,17 +224,17 @@ module _ (laws : BlockLaws) (p : Plan) (t count : ℕ) (entries : List (Taped (N
     each = λ i r is. (value_at i r made is).there;
     sound = all_mapped IsSound block_written (made_in entries) (λ i r is.
         let of = value_at i r made is in
-        subst IsSound (sym of.written) (laws.sound p.wanted.style r.job.block.now of.own.sound of.own.causal));
+        laws.sound r.job.block.now r.job.style r.job.ends r.recoding of.own.asked (sym of.is));
     layers = all_mapped (λ (b : Block). All (λ (q : PieceValue). q.layer < p.layers) b.pieces) block_written (made_in entries) (λ i r is.
         let of = value_at i r made is in
-        subst (λ (b : Block). All (λ (q : PieceValue). q.layer < p.layers) b.pieces) (sym of.written)
-        (laws.layers p.wanted.style r.job.block.now p.layers of.own.sound of.own.causal of.own.layers));
+        let same : layer_ends (pieces_of r.recoding) ≡ r.job.ends = laws.layers r.job.block.now r.job.style r.job.ends r.recoding of.own.asked (sym of.is) in
+        in_layers p.layers (pieces_of r.recoding) (subst (λ (ends : List LayerEnd). All (λ (e : LayerEnd). e.layer < p.layers) ends) (sym same) of.own.below));
   }
 
   pub values_stand : AreMade entries → StandIn (blocks_of p) p t (made_in entries)
   values_stand made i r is =
       let of = value_at i r made is in
-      mapped_at (written_as p.wanted.style) p.blocks (first_block p t + i) r.job.block.now of.own.stands ∙ ap Some (sym of.written)
+      mapped_at block_asked p.jobs (first_block p t + i) r.job of.there ∙ ap (λ (o : Option Recoding). Some (block_with r.job.block.now o)) of.is
 
   right_below : (n k : ℕ) → AreMade (take k entries) → first_block p t ≤ n → n < first_block p t + k → n < first_block p t + count → IsWrongBlock p.wanted (slice_get p.blocks n) → ⊥
   right_below n k made from below inside wrong =
@@ -275,7 +246,7 @@ module _ (laws : BlockLaws) (p : Plan) (t count : ℕ) (entries : List (Taped (N
             let is = made_is found.0.named (all_at (λ (x : Taped (Named WrittenBlock)). IsMade x.named) (take k entries) i found.0 made here) in
             let at = answer_at p (first_block p t) count i entries found.0 are found.2 in
             let for = made_for at.job (recoding_in at.job) is.0 (sym is.1 ∙ at.answer) in
-            let own : IsOwn p (first_block p t + i) at.job = own_at p (first_block p t + i) at.job plan keeping at.there in
+            let own : IsOwn p (first_block p t + i) at.job = own_at p (first_block p t + i) at.job plan at.there in
             right_at laws p (first_block p t + i) at.job is.0.recoding own for.1 (subst (λ (m : ℕ). IsWrongBlock p.wanted (slice_get p.blocks m)) (sym number) wrong)
         | inr past ↦ absurd (omega (arith, past.0, are.count_is, from, inside))
       ]
@@ -288,7 +259,7 @@ module _ (laws : BlockLaws) (p : Plan) (t count : ℕ) (entries : List (Taped (N
   pub tile_wrong : (number : ℕ) → IsFirstUnmade entries number → count ≡ blocks_in p t → IsWrongTile p t number
   tile_wrong number first all =
       let at = answer_at p (first_block p t) count first.at entries first.entry are first.there in
-      let own : IsOwn p (first_block p t + first.at) at.job = own_at p (first_block p t + first.at) at.job plan keeping at.there in
+      let own : IsOwn p (first_block p t + first.at) at.job = own_at p (first_block p t + first.at) at.job plan at.there in
       let none = unmade_for at.job number first.entry.named at.answer first.unmade in
       let is : first_block p t + first.at ≡ number = sym own.number_is ∙ sym none.0 in
       let inside : first.at < length entries = slice_get_within entries first.at first.entry first.there in

@@ -1,18 +1,22 @@
 -- Inner: a round as it is made: what is made of its code-blocks, and of which of its tiles they are.
-use Rattle.std.specs.Prelude.{◌≡◌, ◌⊎◌, ◌<◌, ◌≤◌, ◌+◌, ◌-◌, ℕ, List, ◌++◌, drop, length, map, take, Some, slice_get}
-use Rattle.std.specs.List.{All}
+use Rattle.std.specs.Prelude.{◌≡◌, ◌⊎◌, ◌<◌, ◌≤◌, ◌+◌, ◌-◌, ◌^◌, ℕ, false, List, ◌++◌, drop, is_some, length, map, take, Some, slice_get}
+use Rattle.std.specs.List.{All, list_any, sum}
 use Rattle.jx_block.specs.declared.job.Job.{Job}
 use Rattle.jx_block.specs.Recoded.{WrittenBlock}
 use Rattle.jx_store.specs.declared.event.Taped.{Taped}
 use Rattle.jx_store.specs.declared.work.Named.{Named}
 use Rattle.jx_store.specs.declared.work.Named.TheVariants.{Bad, Short}
-use Rattle.jx_pool.specs.Tapes.{IsTape, answer_of}
+use Rattle.jx_pool.specs.Tapes.{IsTape, answer_of, size_of}
 use Rattle.jx_stream.specs.First.{tile_number}
 use Rattle.jx_words.specs.Words.{Work}
 use Rattle.jx_plan.specs.Plan.{Plan}
 use Rattle.jx_assemble.specs.Tile.{AreMade, blocks_in, first_block}
 use Rattle.jx_recast.specs.Rounds.{EndsRound, HasTape, IsInRound}
 use Rattle.jx_recast.specs.declared.status.TapeEntry.{TapeEntry}
+
+-- jobs that aren't shared among workers: no block is coded anew, or their pieces have over 2^28 bytes
+abbrev pub AreUnshared : List Job → Type 0
+AreUnshared jobs = (list_any (λ (j : Job). is_some j.style) jobs ≡ false) ⊎ (2 ^ 28 < sum (map size_of jobs))
 
 -- what was made of some jobs one after another, on one thread
 pub record AreMadeAlone (jobs : List Job) (entries : List (Taped (Named WrittenBlock))) : Type 0 where
@@ -21,10 +25,9 @@ pub record AreMadeAlone (jobs : List Job) (entries : List (Taped (Named WrittenB
   pub workers : All (λ (t : Taped (Named WrittenBlock)). t.worker ≡ 0) entries
   pub seen : All (λ (t : Taped (Named WrittenBlock)). t.seen ≡ t.number) entries
 
--- the tape of some jobs, none of which was claimed when a number before the first was still out
-pub record IsTapeFrom (jobs : List Job) (first : ℕ) (work : Work) (entries : List (Taped (Named WrittenBlock))) : Type 0 where
-  pub is : IsTape jobs first work.threads work.window work.most entries
-  pub from : All (λ (t : Taped (Named WrittenBlock)). first ≤ t.seen) entries
+-- the tape of some jobs, by the workers of a run and inside its windows
+abbrev pub IsTapeFrom : List Job → ℕ → Work → List (Taped (Named WrittenBlock)) → Type 0
+IsTapeFrom jobs first work entries = IsTape jobs first work.threads work.window work.most entries
 
 -- what was made of so many blocks from one on
 pub record AreOfBlocks (p : Plan) (first count : ℕ) (entries : List (Taped (Named WrittenBlock))) : Type 0 where

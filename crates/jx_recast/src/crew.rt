@@ -1,6 +1,6 @@
 //! By whom the code-blocks of a run are made, and how.
 
-ghost use Rattle.std.specs.Prelude.{◌≡◌, ◌+◌, ◌≤◌, ◌^◌, true, is_some, length, map, All, IfOk, IfSome};
+ghost use Rattle.std.specs.Prelude.{◌≡◌, ◌<◌, ◌≤◌, ◌+◌, ◌^◌, ◌↔◌, None, true, is_some, length, map, All, IfOk, IfSome};
 ghost use Rattle.std.specs.List.{list_any, sum};
 ghost use Rattle.jx_base.specs.Pieces.{bytes_in, value_of};
 ghost use Rattle.jx_block.specs.Jobs.{IsAsked};
@@ -9,7 +9,7 @@ ghost use Rattle.jx_store.specs.declared.work.Named.{Named};
 ghost use Rattle.jx_block.specs.Recoded.{WrittenBlock};
 ghost use Rattle.jx_pool.specs.Tapes.{AreAsked, answer_of, size_of};
 ghost use Rattle.jx_words.specs.Words.{MayBeWork};
-ghost use Rattle.jx_recast.specs.MadeRounds.{AreMadeAlone, IsTapeFrom};
+ghost use Rattle.jx_recast.specs.MadeRounds.{AreMadeAlone, AreUnshared, IsTapeFrom};
 
 use jx_base::{NoMemory, Piece};
 use jx_block::{BlockFault, Job, Recoded, recode};
@@ -42,7 +42,8 @@ fn is_anew(jobs: &[Job<'_>]) -> bool
 
 /// What is left of a room for bytes after those of some pieces; none where it is too small.
 fn left_after(room: usize, pieces: &[Piece<'_>]) -> Option<usize>
-    ensures { IfSome result (λ left. left + bytes_in (map value_of pieces.now) ≡ room) }
+    ensures some { IfSome result (λ left. left + bytes_in (map value_of pieces.now) ≡ room) }
+    ensures none { result ≡ None → room < bytes_in (map value_of pieces.now) }
 {
     let mut left = room;
     for piece in pieces {
@@ -53,7 +54,7 @@ fn left_after(room: usize, pieces: &[Piece<'_>]) -> Option<usize>
 
 /// Whether the pieces of the blocks have at most 2^28 bytes together.
 fn is_light(jobs: &[Job<'_>]) -> bool
-    ensures { result ≡ true → sum (map size_of jobs.now) ≤ 2 ^ 28 }
+    ensures { (result ≡ true) ↔ (sum (map size_of jobs.now) ≤ 2 ^ 28) }
 {
     let mut left = MOST_BYTES;
     for job in jobs {
@@ -108,13 +109,6 @@ fn made_alone<'a>(alloc: Global, jobs: &'a [Job<'a>]) -> Result<Vec<Entry<Recode
     Ok(entries)
 }
 
-/// Whether no block was claimed when one before these was still out.
-fn are_from(first: u32, entries: &[Entry<Recoded<'_>>]) -> bool
-    ensures { result ≡ true → All (λ t. first ≤ t.seen) entries.now }
-{
-    entries.iter().all(|entry| first <= entry.seen)
-}
-
 /// What workers make of jobs.
 fn made_by_workers<'a, R: Threads + Wait + Sync, G: Gate + Sync>(
     crew: &Crew<'_, R, G>,
@@ -139,16 +133,12 @@ fn made_by_workers<'a, R: Threads + Wait + Sync, G: Gate + Sync>(
         work.most,
         crew.gate,
     )?;
-    // A store begins with `first` as the number that isn't drained; the tape's contract leaves it out.
-    if !are_from(first, &entries) {
-        return Err(NoMemory);
-    }
     Ok(entries)
 }
 
-/// Makes of blocks what is asked of them, or finds that a segmentation symbol is wrong: by workers where one of them is coded anew, else
-/// one after another. `first` is the number of the first job.
-#[tactic(auto, using(crate::proofs::TapedLemmas::alone_is_tape))]
+/// Makes of blocks what is asked of them, or finds that a segmentation symbol is wrong: by workers where one of them is coded anew and
+/// their pieces have at most 2^28 bytes, else one after another, by worker 0. `first` is the number of the first job.
+#[tactic(auto, using(crate::proofs::TapedLemmas::alone_is_tape, crate::proofs::TapedLemmas::shared_none))]
 pub fn made_blocks<'a, R: Threads + Wait + Sync, G: Gate + Sync>(
     crew: &Crew<'_, R, G>,
     alloc: Global,
@@ -158,10 +148,12 @@ pub fn made_blocks<'a, R: Threads + Wait + Sync, G: Gate + Sync>(
     requires jobs { AreAsked first jobs.now }
     requires count { first + length jobs.now ≤ 2 ^ 20 }
     requires work { MayBeWork crew.now.work }
-    ensures { IfOk result (λ entries. IsTapeFrom jobs.entry.now first crew.now.work entries.items) }
+    ensures tape { IfOk result (λ entries. IsTapeFrom jobs.entry.now first crew.now.work entries.items) }
+    ensures alone { IfOk result (λ entries. AreUnshared jobs.entry.now → AreMadeAlone jobs.entry.now entries.items) }
 {
     if is_anew(jobs) && is_light(jobs) {
-        return made_by_workers(crew, alloc, jobs, first);
+        let made = made_by_workers(crew, alloc, jobs, first)?;
+        return Ok(made);
     }
     let entries = made_alone(alloc, jobs)?;
     Ok(entries)

@@ -10,7 +10,7 @@ ghost use Rattle.jx_assemble.specs.Tile.{first_block, main_bytes};
 ghost use Rattle.jx_words.specs.Words.{MayBeWork};
 ghost use Rattle.jx_recast.specs.Filed.{IsFileHalted, IsFileMade};
 ghost use Rattle.jx_recast.specs.Progress.{SomeFront};
-ghost use Rattle.jx_recast.specs.Rounds.{BeginsRound, EndsRound, HasFront, HasRounds, HasTape, HasWhole, IsFault, IsHalted, IsKeeping, IsPlace, IsUnwritten};
+ghost use Rattle.jx_recast.specs.Rounds.{BeginsRound, EndsRound, HasFront, HasRounds, HasTape, HasWhole, IsFault, IsHalted, IsPlace, IsUnwritten};
 ghost use Rattle.jx_recast.specs.Tapes.{IsTapeOf};
 
 use crate::TapeEntry;
@@ -262,7 +262,6 @@ pub fn write_file<R: Threads + Wait + Sync, G: Gate + Sync, F: Files>(
 ) -> Result<usize, Halt>
     requires creates { F.can_create files.old to.now }
     requires plan { IsPlan plan.now }
-    requires keeping { IsKeeping plan.now }
     requires work { MayBeWork crew.now.work }
     requires empty { tape.old.items ≡ [] }
     ensures ok { IfOk result (λ bytes. IsFileMade plan.now to.now bytes (F.meaning files.old) (F.meaning files.new)) }

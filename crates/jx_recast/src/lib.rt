@@ -19,6 +19,8 @@ pub use program::run;
 pub use status::{Report, Status, TapeEntry};
 
 #[cfg(test)]
+mod layer_tests;
+#[cfg(test)]
 mod packing_tests;
 #[cfg(test)]
 mod refusal_tests;

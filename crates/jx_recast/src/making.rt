@@ -10,7 +10,6 @@ ghost use Rattle.jx_stream.specs.InRange.{StreamInRange};
 ghost use Rattle.jx_stream.specs.Shapes.{shapes_of};
 ghost use Rattle.jx_plan.specs.Plan.{IsPlan, headers_of};
 ghost use Rattle.jx_assemble.specs.Tile.{blocks_in};
-ghost use Rattle.jx_recast.specs.Rounds.{IsKeeping};
 
 use jx_base::{NoMemory, Rect};
 use jx_block::Job;
@@ -60,7 +59,7 @@ fn tiles_of(stream: &Stream) -> u16
     stream.tiles.as_slice().len() as u16
 }
 
-/// A plan that keeps the layers of each code-block, with the views of the main header that was read and of the one that is written.
+/// A plan, with the views of the main header that was read and of the one that is written.
 #[derive(Drop)]
 pub struct Making<'a, 'p> {
     plan: &'a OutStream<'p>,
@@ -71,14 +70,13 @@ pub struct Making<'a, 'p> {
 impl<'a, 'p> Model for Making<'a, 'p> {
     ghost use Rattle.std.specs.Prelude.{◌≡◌};
     ghost use Rattle.jx_plan.specs.Plan.{Plan, headers_of};
-    ghost use Rattle.jx_recast.specs.Rounds.{IsKeeping};
 
     ghost Value = { Plan };
 
     ghost view = { λ m. m.plan.now };
 
     ghost invariant = { λ m. (m.main.now ≡ record { siz = m.plan.now.stream.siz; main = m.plan.now.stream.main })
-        × (m.written.now ≡ record { siz = (headers_of m.plan.now).siz; main = (headers_of m.plan.now).main }) × IsKeeping m.plan.now };
+        × (m.written.now ≡ record { siz = (headers_of m.plan.now).siz; main = (headers_of m.plan.now).main }) };
 }
 
 impl<'a, 'p> Making<'a, 'p> {
@@ -89,7 +87,6 @@ impl<'a, 'p> Making<'a, 'p> {
     ) -> Making<'a, 'p>
         requires main { main.now ≡ record { siz = plan.now.stream.siz; main = plan.now.stream.main } }
         requires written { written.now ≡ record { siz = (headers_of plan.now).siz; main = (headers_of plan.now).main } }
-        requires keeping { IsKeeping plan.now }
         ensures { result ≡ plan.entry.now }
     {
         Making {
@@ -102,7 +99,6 @@ impl<'a, 'p> Making<'a, 'p> {
     pub fn plan(&self) -> &'a OutStream<'p>
         ensures value { result.now ≡ self.now }
         ensures plan { IsPlan self.now }
-        ensures keeping { IsKeeping self.now }
     {
         // For what is known of its value.
         let _ = self.plan.jobs();
@@ -120,7 +116,6 @@ impl<'a, 'p> Making<'a, 'p> {
     pub fn jobs(&self) -> &'a [Job<'a>]
         ensures value { result.now ≡ self.now.jobs }
         ensures plan { IsPlan self.now }
-        ensures keeping { IsKeeping self.now }
     {
         self.plan.jobs()
     }
@@ -141,7 +136,6 @@ impl<'a, 'p> Making<'a, 'p> {
     pub fn tile_count(&self) -> u16
         ensures count { result ≡ tile_number self.now.stream.siz }
         ensures plan { IsPlan self.now }
-        ensures keeping { IsKeeping self.now }
     {
         let _ = self.plan.jobs();
         tiles_of(self.plan.stream())

@@ -1,4 +1,5 @@
 ghost use Rattle.std.specs.Prelude.{◌≡◌, ◌<◌, ◌⊎◌, [], true, false, map, take, IfOk, IfSome, string_bytes};
+ghost use Rattle.jx_plan.specs.Planned.{chosen};
 ghost use Rattle.jx_plan.specs.Wanted.{MayBeWanted};
 ghost use Rattle.jx_outside.specs.Causes.{HasCause, Rose};
 ghost use Rattle.jx_outside.specs.Device.{Allows, joined};
@@ -11,6 +12,7 @@ use crate::device::{MOST, read_all};
 use crate::lines::line_of;
 use crate::rewrite::{Ending, answer};
 use crate::{Report, Status};
+use jx_layers::LayerPlanner;
 use jx_outside::{Files, Gate, Refused, Sink};
 use jx_plan::Options;
 use jx_words::{Request, WordsFault, read_words};
@@ -37,18 +39,19 @@ fn transcode<R: Threads + Wait + Sync, G: Gate + Sync, F: Files>(
     from: &str,
     to: &str,
     options: &Options,
+    planners: &mut [Box<dyn LayerPlanner>],
 ) -> Ending
     requires opens { F.can_open files.old from.now }
     requires creates { F.can_create files.old to.now }
     requires wanted { MayBeWanted options.now }
     requires work { MayBeWork crew.now.work }
-    ensures ends { EndsFiles (record { from = from.now; to = to.now; wanted = options.now; work = crew.now.work }) result.status result.blocks result.bytes result.tape.items (F.meaning files.old) (F.meaning files.new) }
+    ensures ends { EndsFiles (record { from = from.now; to = to.now; wanted = options.now; work = crew.now.work }) (λ text facts. chosen (λ b. serves_text b text) (λ b. rule_of b text facts) planners.old) result.status result.blocks result.bytes result.tape.items (F.meaning files.old) (F.meaning files.new) }
     ensures words { result.status ≡ Status.Words → ⊥ }
     ensures read { result.status ≡ Status.ReadFault → Rose (F.read_faults files.old) (F.read_faults files.new) }
     ensures write { result.status ≡ Status.WriteFault → Rose (F.write_faults files.old) (F.write_faults files.new) }
 {
     match read_input(alloc, files, from) {
-        Ok(input) => answer(crew, alloc, files, &input, to, options),
+        Ok(input) => answer(crew, alloc, files, &input, to, options, planners),
         Err(Refused::Failed) => Ending::refused(alloc, Status::ReadFault),
         Err(Refused::NoMemory) => Ending::refused(alloc, Status::NoMemory),
     }
@@ -61,12 +64,13 @@ fn transcode_as<R: Threads + Wait + Sync, G: Gate + Sync, F: Files>(
     files: &mut F,
     gate: &G,
     request: &Request,
+    planners: &mut [Box<dyn LayerPlanner>],
 ) -> Ending
     requires opens { F.can_open files.old request.now.from }
     requires creates { F.can_create files.old request.now.to }
     requires wanted { MayBeWanted request.now.wanted }
     requires work { MayBeWork request.now.work }
-    ensures ends { EndsFiles request.now result.status result.blocks result.bytes result.tape.items (F.meaning files.old) (F.meaning files.new) }
+    ensures ends { EndsFiles request.now (λ text facts. chosen (λ b. serves_text b text) (λ b. rule_of b text facts) planners.old) result.status result.blocks result.bytes result.tape.items (F.meaning files.old) (F.meaning files.new) }
     ensures words { result.status ≡ Status.Words → ⊥ }
     ensures read { result.status ≡ Status.ReadFault → Rose (F.read_faults files.old) (F.read_faults files.new) }
     ensures write { result.status ≡ Status.WriteFault → Rose (F.write_faults files.old) (F.write_faults files.new) }
@@ -83,6 +87,7 @@ fn transcode_as<R: Threads + Wait + Sync, G: Gate + Sync, F: Files>(
         request.from(),
         request.to(),
         request.options(),
+        planners,
     )
 }
 
@@ -110,11 +115,12 @@ fn judge<R: Threads + Wait + Sync, G: Gate + Sync, F: Files>(
     words: &[String],
     files: &mut F,
     gate: &G,
+    planners: &mut [Box<dyn LayerPlanner>],
 ) -> Ending
     requires opens { is_good (map string_bytes words.now) ≡ true → F.can_open files.old (request_of (map string_bytes words.now)).from }
     requires creates { is_good (map string_bytes words.now) ≡ true → F.can_create files.old (request_of (map string_bytes words.now)).to }
     ensures good { is_good (map string_bytes words.now) ≡ true
-        → EndsFiles (request_of (map string_bytes words.now)) result.status result.blocks result.bytes result.tape.items (F.meaning files.old) (F.meaning files.new) }
+        → EndsFiles (request_of (map string_bytes words.now)) (λ text facts. chosen (λ b. serves_text b text) (λ b. rule_of b text facts) planners.old) result.status result.blocks result.bytes result.tape.items (F.meaning files.old) (F.meaning files.new) }
     ensures bad { is_good (map string_bytes words.now) ≡ false → IsUnread result.status result.blocks × (result.tape.items ≡ []) }
     ensures unread { is_good (map string_bytes words.now) ≡ false → F.meaning files.new ≡ F.meaning files.old }
     ensures read { result.status ≡ Status.ReadFault → Rose (F.read_faults files.old) (F.read_faults files.new) }
@@ -123,7 +129,7 @@ fn judge<R: Threads + Wait + Sync, G: Gate + Sync, F: Files>(
         → (F.read_faults files.new ≡ F.read_faults files.old) × (F.write_faults files.new ≡ F.write_faults files.old) }
 {
     match read_words(alloc, words) {
-        Ok(request) => transcode_as(rt, alloc, files, gate, &request),
+        Ok(request) => transcode_as(rt, alloc, files, gate, &request, planners),
         Err(WordsFault::Words) => Ending::refused(alloc, Status::Words),
         Err(WordsFault::NoMemory) => Ending::refused(alloc, Status::NoMemory),
     }
@@ -146,10 +152,11 @@ pub fn run<R: Threads + Wait + Sync, F: Files, S: Sink, G: Gate + Sync>(
     files: &mut F,
     say: &mut S,
     gate: &G,
+    mut planners: Vec<Box<dyn LayerPlanner>>,
 ) -> Report
     requires opens { is_good (map string_bytes words.now) ≡ true → F.can_open files.old (request_of (map string_bytes words.now)).from }
     requires creates { is_good (map string_bytes words.now) ≡ true → F.can_create files.old (request_of (map string_bytes words.now)).to }
-    ensures outcome { Outcome (map string_bytes words.now) result.status result.blocks result.tape.items (F.meaning files.old) (F.meaning files.new) (S.said say.old) (S.said say.new) }
+    ensures outcome { Outcome (map string_bytes words.now) (λ text facts. chosen (λ b. serves_text b text) (λ b. rule_of b text facts) planners.items) result.status result.blocks result.tape.items (F.meaning files.old) (F.meaning files.new) (S.said say.old) (S.said say.new) }
     ensures read { result.status ≡ Status.ReadFault → Rose (F.read_faults files.old) (F.read_faults files.new) }
     ensures write { result.status ≡ Status.WriteFault
         → Rose (F.write_faults files.old) (F.write_faults files.new) ⊎ Rose (S.faults say.old) (S.faults say.new) }
@@ -163,7 +170,7 @@ pub fn run<R: Threads + Wait + Sync, F: Files, S: Sink, G: Gate + Sync>(
     ensures idle { is_good (map string_bytes words.now) ≡ false
         → (F.read_faults files.new ≡ F.read_faults files.old) × (F.write_faults files.new ≡ F.write_faults files.old) }
 {
-    let ending = judge(rt, alloc, words, files, gate);
+    let ending = judge(rt, alloc, words, files, gate, &mut planners);
     let status = say_ending(alloc, say, &ending);
     Report {
         status,

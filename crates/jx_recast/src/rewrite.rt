@@ -1,15 +1,15 @@
 //! What becomes of an input whose bytes were read.
 
-ghost use Rattle.std.specs.Prelude.{◌≡◌, ◌<◌, ◌≤◌, ℕ, List, [], length};
+ghost use Rattle.std.specs.Prelude.{◌≡◌, ◌<◌, ◌≤◌, ℕ, List, [], length, map};
 ghost use Rattle.jx_outside.specs.Causes.{Rose};
 ghost use Rattle.jx_stream.specs.Read.{IsRead};
 ghost use Rattle.jx_plan.specs.Plan.{MayBePlanned};
+ghost use Rattle.jx_plan.specs.Planned.{chosen};
 ghost use Rattle.jx_plan.specs.Wanted.{MayBeWanted};
 ghost use Rattle.jx_words.specs.Words.{MayBeWork};
 ghost use Rattle.jx_recast.specs.Filed.{IsAnswered, IsPlanAnswered, blocks_told, status_of, told_by, told_of_plan};
 ghost use Rattle.jx_recast.specs.Outcome.{most_bytes};
 ghost use Rattle.jx_recast.specs.Rewritten.{Reads};
-ghost use Rattle.jx_recast.specs.Rounds.{IsKeeping};
 
 use crate::crew::Crew;
 use crate::device::MOST;
@@ -18,9 +18,10 @@ use crate::halt::Halt;
 use crate::{Status, TapeEntry};
 use jx_assemble::laws::rewritten_is_read;
 use jx_gather::{Block, gather};
-use jx_layers::shortened;
+use jx_layers::{LayerPlanner, shortened};
 use jx_outside::{Files, Gate};
-use jx_plan::{Options, OutStream, PlanFault, plan_kept};
+use jx_plan::laws::plans_write_these_blocks;
+use jx_plan::{Options, OutStream, PlanFault, plan_served};
 use jx_stream::{Stream, StreamFault, read_stream};
 use std::alloc::Global;
 use std::sync::Wait;
@@ -78,7 +79,6 @@ fn write_plan<R: Threads + Wait + Sync, G: Gate + Sync, F: Files>(
     plan: &OutStream<'_>,
 ) -> Ending
     requires creates { F.can_create files.old to.now }
-    requires keeping { IsKeeping plan.now }
     requires work { MayBeWork crew.now.work }
     ensures answer { IsPlanAnswered to.now crew.now.work plan.now result.status result.blocks result.bytes result.tape.items (F.meaning files.old) (F.meaning files.new) }
     ensures cause { result.status ≡ Status.WriteFault → Rose (F.write_faults files.old) (F.write_faults files.new) }
@@ -127,7 +127,7 @@ fn unplanned_by(alloc: Global, fault: PlanFault, blocks: u32) -> Ending
 }
 
 /// What becomes of a stream with its code-blocks: its output is planned and written.
-#[tactic(auto, using(crate::proofs::FrontLemmas::planned_few, crate::proofs::AnswerLemmas::keeping_of))]
+#[tactic(auto, using(crate::proofs::FrontLemmas::planned_few))]
 fn write_blocks<R: Threads + Wait + Sync, G: Gate + Sync, F: Files>(
     crew: &Crew<'_, R, G>,
     alloc: Global,
@@ -136,19 +136,21 @@ fn write_blocks<R: Threads + Wait + Sync, G: Gate + Sync, F: Files>(
     blocks: &[Block<'_>],
     to: &str,
     options: &Options,
+    planners: &mut [Box<dyn LayerPlanner>],
 ) -> Ending
     requires creates { F.can_create files.old to.now }
     requires may { MayBePlanned stream.now blocks.now }
     requires wanted { MayBeWanted options.now }
     requires work { MayBeWork crew.now.work }
     ensures answer { (input : List ℕ) → length input ≤ most_bytes → Reads input stream.now blocks.now
-        → IsAnswered to.now crew.now.work options.now input result.status result.blocks result.bytes result.tape.items (F.meaning files.old) (F.meaning files.new) }
+        → IsAnswered to.now crew.now.work (record { wanted = options.now; rule = λ facts. chosen (λ b. serves_text b options.now.layers) (λ b. rule_of b options.now.layers facts) planners.old }) input result.status result.blocks result.bytes result.tape.items (F.meaning files.old) (F.meaning files.new) }
     ensures cause { result.status ≡ Status.WriteFault → Rose (F.write_faults files.old) (F.write_faults files.new) }
     ensures read { (result.status ≡ Status.ReadFault → ⊥) × (result.status ≡ Status.Words → ⊥) }
     ensures other { F.read_faults files.new ≡ F.read_faults files.old }
 {
+    plans_write_these_blocks();
     rewritten_is_read();
-    match plan_kept(alloc, stream, shortened(blocks), options) {
+    match plan_served(alloc, stream, shortened(blocks), options, planners) {
         Ok(plan) => write_plan(crew, alloc, files, to, &plan),
         Err(fault) => unplanned_by(alloc, fault, blocks.len() as u32),
     }
@@ -163,19 +165,20 @@ fn rewrite<R: Threads + Wait + Sync, G: Gate + Sync, F: Files>(
     stream: &Stream,
     to: &str,
     options: &Options,
+    planners: &mut [Box<dyn LayerPlanner>],
 ) -> Ending
     requires creates { F.can_create files.old to.now }
     requires within { length input.now ≤ most_bytes }
     requires read { IsRead input.now stream.now }
     requires wanted { MayBeWanted options.now }
     requires work { MayBeWork crew.now.work }
-    ensures answer { IsAnswered to.now crew.now.work options.now input.now result.status result.blocks result.bytes result.tape.items (F.meaning files.old) (F.meaning files.new) }
+    ensures answer { IsAnswered to.now crew.now.work (record { wanted = options.now; rule = λ facts. chosen (λ b. serves_text b options.now.layers) (λ b. rule_of b options.now.layers facts) planners.old }) input.now result.status result.blocks result.bytes result.tape.items (F.meaning files.old) (F.meaning files.new) }
     ensures cause { result.status ≡ Status.WriteFault → Rose (F.write_faults files.old) (F.write_faults files.new) }
     ensures read { (result.status ≡ Status.ReadFault → ⊥) × (result.status ≡ Status.Words → ⊥) }
     ensures other { F.read_faults files.new ≡ F.read_faults files.old }
 {
     match gather(alloc, input, stream) {
-        Ok(blocks) => write_blocks(crew, alloc, files, stream, &blocks, to, options),
+        Ok(blocks) => write_blocks(crew, alloc, files, stream, &blocks, to, options, planners),
         Err(fault) => refused_by(alloc, fault),
     }
 }
@@ -200,7 +203,7 @@ fn refused_by(alloc: Global, fault: StreamFault) -> Ending
 }
 
 /// What becomes of the bytes that were read, at most `MOST`.
-#[tactic(auto, using(crate::proofs::AnswerLemmas::too_long))]
+#[tactic(auto, using(crate::proofs::RefusedLemmas::too_long))]
 pub fn answer<R: Threads + Wait + Sync, G: Gate + Sync, F: Files>(
     crew: &Crew<'_, R, G>,
     alloc: Global,
@@ -208,11 +211,12 @@ pub fn answer<R: Threads + Wait + Sync, G: Gate + Sync, F: Files>(
     input: &[u8],
     to: &str,
     options: &Options,
+    planners: &mut [Box<dyn LayerPlanner>],
 ) -> Ending
     requires creates { F.can_create files.old to.now }
     requires wanted { MayBeWanted options.now }
     requires work { MayBeWork crew.now.work }
-    ensures answer { IsAnswered to.now crew.now.work options.now input.now result.status result.blocks result.bytes result.tape.items (F.meaning files.old) (F.meaning files.new) }
+    ensures answer { IsAnswered to.now crew.now.work (record { wanted = options.now; rule = λ facts. chosen (λ b. serves_text b options.now.layers) (λ b. rule_of b options.now.layers facts) planners.old }) input.now result.status result.blocks result.bytes result.tape.items (F.meaning files.old) (F.meaning files.new) }
     // no code-block of an input that is too long
     ensures long { most_bytes < length input.now → result.tape.items ≡ [] }
     ensures cause { result.status ≡ Status.WriteFault → Rose (F.write_faults files.old) (F.write_faults files.new) }
@@ -229,7 +233,7 @@ pub fn answer<R: Threads + Wait + Sync, G: Gate + Sync, F: Files>(
         );
     }
     match read_stream(alloc, input) {
-        Ok(stream) => rewrite(crew, alloc, files, input, &stream, to, options),
+        Ok(stream) => rewrite(crew, alloc, files, input, &stream, to, options, planners),
         Err(fault) => refused_by(alloc, fault),
     }
 }

@@ -26,7 +26,7 @@ const SEGMENT: [&str; 6] = ["jx", "transcode", "in", "out", "--style", "segment"
 const EIGHT: [u8; 10] = [0xF8, 7, 0x87, 0x0F, 0x87, 0x0F, 0xE1, 0xC3, 0xE1, 0xC2];
 
 // The small file with this style and this packet.
-fn body(rt: &(impl Abort + AllocGlobal), style: u8, packet: &[u8]) -> Result<Vec<u8>, Fail> {
+pub fn body(rt: &(impl Abort + AllocGlobal), style: u8, packet: &[u8]) -> Result<Vec<u8>, Fail> {
     assert!(rt; packet.len() < 100);
     let mut put = Vec::new(rt.alloc());
     put.push(packet.len() as u8 + 14)?;

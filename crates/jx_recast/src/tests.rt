@@ -1,4 +1,5 @@
 use super::*;
+use jx_layers::{CutLayers, KeepLayers, LayerPlanner, OneLayer, PlaneLayers};
 use jx_outside::{Call, Files, Gate, MemFiles, MemSink, NoGate};
 use std::alloc::Global;
 use std::process::Abort;
@@ -26,7 +27,24 @@ const END: [u8; 23] = [
 
 pub const GOOD: [&str; 5] = ["jx", "transcode", "in", "out", "--sop"];
 
-// Runs these words with a gate.
+// Runs these words with a gate and planners.
+pub fn run_planned<R: Threads + Wait + Sync, G: Gate + Sync>(
+    rt: &R,
+    alloc: Global,
+    list: &[&str],
+    files: &mut MemFiles,
+    say: &mut MemSink,
+    gate: &G,
+    planners: Vec<Box<dyn LayerPlanner>>,
+) -> Result<Report, Fail> {
+    let mut words = Vec::new(alloc);
+    for word in list {
+        words.push(String::from_str(alloc, word)?)?;
+    }
+    Ok(run(rt, alloc, &words, files, say, gate, planners))
+}
+
+// Runs these words with a gate and the four planners.
 pub fn run_gated<R: Threads + Wait + Sync, G: Gate + Sync>(
     rt: &R,
     alloc: Global,
@@ -35,11 +53,16 @@ pub fn run_gated<R: Threads + Wait + Sync, G: Gate + Sync>(
     say: &mut MemSink,
     gate: &G,
 ) -> Result<Report, Fail> {
-    let mut words = Vec::new(alloc);
-    for word in list {
-        words.push(String::from_str(alloc, word)?)?;
-    }
-    Ok(run(rt, alloc, &words, files, say, gate))
+    let keep: Box<dyn LayerPlanner> = Box::new(alloc, KeepLayers::new())?;
+    let one: Box<dyn LayerPlanner> = Box::new(alloc, OneLayer::new())?;
+    let cuts: Box<dyn LayerPlanner> = Box::new(alloc, CutLayers::new())?;
+    let planes: Box<dyn LayerPlanner> = Box::new(alloc, PlaneLayers::new())?;
+    let mut planners = Vec::new(alloc);
+    planners.push(keep)?;
+    planners.push(one)?;
+    planners.push(cuts)?;
+    planners.push(planes)?;
+    run_planned(rt, alloc, list, files, say, gate, planners)
 }
 
 // Runs these words.

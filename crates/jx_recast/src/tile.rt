@@ -13,7 +13,7 @@ use crate::halt::Halt;
 use crate::making::Making;
 use jx_assemble::{AssembleFault, assemble_tile_with};
 use jx_block::Recoded;
-use jx_block::laws::{written_in_own_layers, wrong_is_nothing};
+use jx_block::laws::{written_is_sound, wrong_is_nothing};
 use jx_store::{Entry, Named};
 use std::alloc::Global;
 
@@ -53,7 +53,7 @@ pub fn made_tile(
     ensures parts { IfOk result (λ parts. LeadOn making.now tile (tile + 1) (map (λ v. v.items) parts.items)) }
     ensures unmade { IfErr result (λ h. IsUnmadeTile making.now tile h) }
 {
-    written_in_own_layers();
+    written_is_sound();
     wrong_is_nothing();
     let plan = making.plan();
     if let Some(number) = first_unmade(entries) {

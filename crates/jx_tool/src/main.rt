@@ -1,13 +1,15 @@
 //! `jx`, the transcoder: real files, standard output, and the status that the process ends with.
 #![tactic(auto)]
 
-ghost use Rattle.std.specs.Prelude.{◌≡◌, ◌≢◌, true, map, string_bytes, IfErr, IfOk, IsOk};
+ghost use Rattle.std.specs.Prelude.{◌≡◌, ◌≢◌, true, map, string_bytes, IfErr, IfOk, IsOk, OnErr};
 ghost use Rattle.std.specs.Process.{exit_status};
 ghost use Rattle.std.specs.IoError.{error_kind};
 ghost use Rattle.std.specs.Vec.Iter.{into_iter_items};
+ghost use Rattle.jx_plan.specs.Planned.{chosen};
 ghost use Rattle.jx_words.specs.Words.{is_good, request_of};
 ghost use Rattle.jx_tool.specs.Ended.{IsEnded, words_in};
 
+use jx_layers::{CutLayers, KeepLayers, LayerPlanner, OneLayer, PlaneLayers};
 use jx_outside::{Files, NoGate, Sink, StdFiles, StdSink};
 use jx_recast::{Status, run};
 use std::alloc::{AllocError, Global};
@@ -45,28 +47,59 @@ fn words_of(alloc: Global, args: io::Result<Args>) -> Result<Vec<String>, Status
     }
 }
 
-/// Runs on the words of the command line: what the process ends with.
+/// Runs on the words of the command line with these planners of layers: what the process ends with.
 fn end_of<R: Threads + Wait + Sync, F: Files, S: Sink>(
     rt: &R,
     alloc: Global,
     args: io::Result<Args>,
     files: &mut F,
     say: &mut S,
+    planners: Vec<Box<dyn LayerPlanner>>,
 ) -> ExitCode
     requires opens { is_good (words_in args) ≡ true → F.can_open files.old (request_of (words_in args)).from }
     requires creates { is_good (words_in args) ≡ true → F.can_create files.old (request_of (words_in args)).to }
-    ensures { IsEnded (words_in args) (exit_status result) (F.meaning files.old) (F.meaning files.new) (S.said say.old) (S.said say.new) }
+    ensures { IsEnded (words_in args) (λ text facts. chosen (λ b. serves_text b text) (λ b. rule_of b text facts) planners.items) (exit_status result) (F.meaning files.old) (F.meaning files.new) (S.said say.old) (S.said say.new) }
 {
     match words_of(alloc, args) {
-        Ok(words) => ExitCode::from(run(rt, alloc, &words, files, say, &NoGate).status.number()),
+        Ok(words) => {
+            let report = run(rt, alloc, &words, files, say, &NoGate, planners);
+            ExitCode::from(report.status.number())
+        }
         Err(status) => ExitCode::from(status.number()),
     }
+}
+
+/// Makes the planners of layers, and runs with them. An `Err` is want of memory for these: then nothing was done.
+fn start<R: Threads + Wait + Sync, F: Files, S: Sink>(
+    rt: &R,
+    alloc: Global,
+    args: io::Result<Args>,
+    files: &mut F,
+    say: &mut S,
+) -> Result<ExitCode, AllocError>
+    requires opens { is_good (words_in args) ≡ true → F.can_open files.old (request_of (words_in args)).from }
+    requires creates { is_good (words_in args) ≡ true → F.can_create files.old (request_of (words_in args)).to }
+    ensures undone { OnErr result ((F.meaning files.new ≡ F.meaning files.old) × (S.said say.new ≡ S.said say.old)) }
+{
+    let keep: Box<dyn LayerPlanner> = Box::new(alloc, KeepLayers::new())?;
+    let one: Box<dyn LayerPlanner> = Box::new(alloc, OneLayer::new())?;
+    let cuts: Box<dyn LayerPlanner> = Box::new(alloc, CutLayers::new())?;
+    let planes: Box<dyn LayerPlanner> = Box::new(alloc, PlaneLayers::new())?;
+    let mut planners = Vec::with_capacity(alloc, 4)?;
+    planners.push_reserved(keep);
+    planners.push_reserved(one);
+    planners.push_reserved(cuts);
+    planners.push_reserved(planes);
+    Ok(end_of(rt, alloc, args, files, say, planners))
 }
 
 fn main(rt: HostRuntime) -> ExitCode {
     let mut files = StdFiles::new(&rt);
     let mut say = StdSink::new(&rt);
-    end_of(&rt, rt.alloc(), env::args(&rt), &mut files, &mut say)
+    match start(&rt, rt.alloc(), env::args(&rt), &mut files, &mut say) {
+        Ok(end) => end,
+        Err(_) => ExitCode::from(Status::NoMemory.number()),
+    }
 }
 
 #[cfg(test)]

@@ -11,21 +11,21 @@ fn other_ends_than_zero(rt: HostRuntime) -> Result<(), Fail> {
     for word in ["jx", "transcode", "in", "out", "--layers"] {
         words.push(String::from_str(alloc, word)?)?;
     }
-    let end = end_of(&rt, alloc, Ok(words.into_iter()), &mut files, &mut say);
+    let end = start(&rt, alloc, Ok(words.into_iter()), &mut files, &mut say)?;
     assert_eq!(rt; end, ExitCode::from(2));
     let mut words = Vec::new(alloc);
     for word in ["jx", "transcode", "in", "out", "--sop"] {
         words.push(String::from_str(alloc, word)?)?;
     }
-    let end = end_of(&rt, alloc, Ok(words.into_iter()), &mut files, &mut say);
+    let end = start(&rt, alloc, Ok(words.into_iter()), &mut files, &mut say)?;
     assert_eq!(rt; end, ExitCode::from(7));
-    let end = end_of(
+    let end = start(
         &rt,
         alloc,
         Err(ErrorKind::InvalidData.into()),
         &mut files,
         &mut say,
-    );
+    )?;
     assert_eq!(rt; end, ExitCode::from(2));
     assert_eq!(rt; say.said(), "words\nread fault\nwords\n");
     Ok(())

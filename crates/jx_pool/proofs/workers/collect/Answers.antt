@@ -13,4 +13,4 @@ pub returns-clause-each : goal.returns-clause-each
 returns-clause-each g c i t at =
     let e = c.into_tape.ensures in
     let worker = worker_of g.N.Bounds.setup c.args.store.table.shared.table_id g.N.Bounds.workers c.args.passes.items t.worker _ c.requires.done (e.who i t at) in
-    (worker, e.within i t at, e.valid i t at)
+    (worker.0, worker.1, e.within i t at, e.valid i t at)

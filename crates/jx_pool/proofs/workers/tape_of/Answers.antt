@@ -1,4 +1,4 @@
-use Rattle.std.proofs.Common.{ℕ, List, length, ap, sym, subst, ◌∙◌, ◌<◌}
+use Rattle.std.proofs.Common.{ℕ, List, length, ap, sym, subst, ◌∙◌, ◌<◌, ◌≤◌}
 use Rattle.jx_store.specs.Order.{numbers}
 use Rattle.jx_store.specs.Setup.{Setup}
 use Rattle.jx_store.specs.Valid.{IsOf}
@@ -20,7 +20,8 @@ pub returns-clause-each : goal.returns-clause-each
 returns-clause-each g c i t at =
     let b = c.requires.bounds in let e = c.collect.ensures.each i t at in (
       subst (λ (n : ℕ). t.worker < n) b.1 e.0,
-      e.1,
+      subst (λ (n : ℕ). n ≤ t.seen) (ap (λ (p : Setup). p.first) b.0) e.1,
+      e.2,
       subst (λ (n : ℕ). IsOf g.V.Work.number g.V.Work.job g.V.Work.bad n c.args.jobs.now t.number t.named) (ap (λ (p : Setup). p.first) b.0)
-          (subst (λ (jobs : List _). IsOf g.V.Work.number g.V.Work.job g.V.Work.bad g.N.Bounds.setup.first jobs t.number t.named) b.2 e.2),
+          (subst (λ (jobs : List _). IsOf g.V.Work.number g.V.Work.job g.V.Work.bad g.N.Bounds.setup.first jobs t.number t.named) b.2 e.3),
     )

@@ -11,6 +11,7 @@ returns c =
       one_blocks = c.one_gathering.ensures;
       first = c.one_first.ensures;
       broken = c.one_violation.ensures;
-      cause = c.one_kept_answer.ensures.cause;
+      free = c.one_answer.ensures.free;
+      cause = c.one_answer.ensures.cause;
     } in
     lemmas.one_verdict laws

@@ -7,7 +7,8 @@ returns c =
     let laws : Laws = record {
       either = c.violated_or_spelled.ensures.either;
       blocks = c.one_of_both.ensures;
-      kept = c.one_kept_answer.ensures.some;
+      may = c.gathered_may_be_planned.ensures;
+      planned = c.one_answer.ensures.some;
       ready = c.written_is_ready.ensures;
       output = c.one_output.ensures.some;
     } in

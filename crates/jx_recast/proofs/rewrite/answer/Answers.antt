@@ -1,6 +1,6 @@
 use Rattle.std.proofs.Common.{arith, refl, ◌≤◌, length}
 use Rattle.jx_recast.specs.Outcome.{most_bytes}
-use Rattle.jx_recast.proofs.AnswerLemmas.{header_refused}
+use Rattle.jx_recast.proofs.RefusedLemmas.{header_refused}
 use Rattle.jx_recast.proofs.rewrite.answer.Goals as goal
 
 pub returns-in-Err-clause-answer : goal.returns-in-Err-clause-answer

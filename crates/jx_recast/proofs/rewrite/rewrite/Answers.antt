@@ -1,4 +1,4 @@
-use Rattle.jx_recast.proofs.AnswerLemmas.{may_be_planned, reads_of, tiles_refused}
+use Rattle.jx_recast.proofs.RefusedLemmas.{may_be_planned, reads_of, tiles_refused}
 use Rattle.jx_recast.proofs.rewrite.rewrite.Goals as goal
 
 pub write_blocks-requires-clause-may : goal.write_blocks-requires-clause-may
