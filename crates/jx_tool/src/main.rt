@@ -12,9 +12,10 @@ ghost use Rattle.jx_tool.specs.Ended.{IsEnded, words_in};
 use jx_layers::{CutLayers, KeepLayers, LayerPlanner, OneLayer, PlaneLayers};
 use jx_outside::{Files, NoGate, Sink, StdFiles, StdSink};
 use jx_recast::{Status, run};
+use jx_say::{Refusal, explain};
 use std::alloc::{AllocError, Global};
 use std::env::Args;
-use std::io::ErrorKind;
+use std::io::{Eprint, ErrorKind};
 use std::process::ExitCode;
 use std::sync::Wait;
 use std::thread::Threads;
@@ -47,8 +48,32 @@ fn words_of(alloc: Global, args: io::Result<Args>) -> Result<Vec<String>, Status
     }
 }
 
+/// Why a run was refused; nothing where it is done.
+fn refusal_of(status: Status) -> Option<Refusal> {
+    match status {
+        Status::Done => None,
+        Status::Words => Some(Refusal::Words),
+        Status::Rule { number, place } => Some(Refusal::Rule { number, place }),
+        Status::Limit { number, found } => Some(Refusal::Limit { number, found }),
+        Status::Choice { number, place } => Some(Refusal::Choice { number, place }),
+        Status::Block { number } => Some(Refusal::Block { number }),
+        Status::ReadFault => Some(Refusal::ReadFault),
+        Status::WriteFault => Some(Refusal::WriteFault),
+        Status::NoMemory => Some(Refusal::NoMemory),
+    }
+}
+
+/// Says on standard error why a run was refused. The status stays what it is where that can't be said.
+fn tell<R: Eprint>(rt: &R, alloc: Global, words: &[String], status: Status) {
+    if let Some(refusal) = refusal_of(status) {
+        if let Ok(text) = explain(alloc, refusal, words) {
+            let _ = rt.eprint(text.as_str());
+        }
+    }
+}
+
 /// Runs on the words of the command line with these planners of layers: what the process ends with.
-fn end_of<R: Threads + Wait + Sync, F: Files, S: Sink>(
+fn end_of<R: Threads + Wait + Sync + Eprint, F: Files, S: Sink>(
     rt: &R,
     alloc: Global,
     args: io::Result<Args>,
@@ -63,6 +88,7 @@ fn end_of<R: Threads + Wait + Sync, F: Files, S: Sink>(
     match words_of(alloc, args) {
         Ok(words) => {
             let report = run(rt, alloc, &words, files, say, &NoGate, planners);
+            tell(rt, alloc, &words, report.status);
             ExitCode::from(report.status.number())
         }
         Err(status) => ExitCode::from(status.number()),
@@ -70,7 +96,7 @@ fn end_of<R: Threads + Wait + Sync, F: Files, S: Sink>(
 }
 
 /// Makes the planners of layers, and runs with them. An `Err` is want of memory for these: then nothing was done.
-fn start<R: Threads + Wait + Sync, F: Files, S: Sink>(
+fn start<R: Threads + Wait + Sync + Eprint, F: Files, S: Sink>(
     rt: &R,
     alloc: Global,
     args: io::Result<Args>,

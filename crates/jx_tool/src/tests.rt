@@ -30,3 +30,19 @@ fn other_ends_than_zero(rt: HostRuntime) -> Result<(), Fail> {
     assert_eq!(rt; say.said(), "words\nread fault\nwords\n");
     Ok(())
 }
+
+#[test]
+fn refusals_alone_are_told(rt: HostRuntime) -> Result<(), Fail> {
+    assert_eq!(rt; refusal_of(Status::Done), None);
+    assert_eq!(rt; refusal_of(Status::Words), Some(Refusal::Words));
+    let status = Status::Choice {
+        number: 2,
+        place: 7,
+    };
+    let refusal = Refusal::Choice {
+        number: 2,
+        place: 7,
+    };
+    assert_eq!(rt; refusal_of(status), Some(refusal));
+    Ok(())
+}

@@ -1,0 +1,60 @@
+//! What a keeper of pictures is told beside the one line for scripts: why a run was refused, what to ask instead, and how the program is
+//! called. No contract speaks of these texts; each is made of one table of rules, limits, choices and words.
+#![tactic(auto)]
+
+mod choices;
+mod commands;
+mod forms;
+mod options;
+mod rules;
+mod sentence;
+mod words;
+
+pub use commands::help_of;
+pub use sentence::explain;
+
+/// Why a run was refused.
+#[derive(Clone, Copy, Debug, PartialEq, Eq)]
+pub enum Refusal {
+    /// The words aren't good.
+    Words,
+    /// The input violates a rule of the standard at a byte.
+    Rule {
+        /// The rule, 1 to 36.
+        number: u8,
+        /// The byte, counted from 0.
+        place: u32,
+    },
+    /// A limit is passed.
+    Limit {
+        /// The limit, 1 to 7.
+        number: u8,
+        /// What was counted.
+        found: u128,
+    },
+    /// The input can't have what is asked.
+    Choice {
+        /// The choice, 1 to 9.
+        number: u8,
+        /// The code-block or the tile.
+        place: u32,
+    },
+    /// A code-block that is to be coded anew is wrong.
+    Block {
+        /// Its number.
+        number: u32,
+    },
+    /// The input couldn't be opened or read.
+    ReadFault,
+    /// The output couldn't be written.
+    WriteFault,
+    /// Memory was refused.
+    NoMemory,
+}
+
+#[cfg(test)]
+mod table_tests;
+#[cfg(test)]
+mod tests;
+#[cfg(test)]
+mod words_tests;
