@@ -1,30 +1,34 @@
--- The command and what clap finds for it.
+-- The commands and what clap finds for them.
 use Rattle.std.proofs.Common.{◌≡◌, ◌∙◌, ap, true, List, [], refl, inl, inr, subst}
+use Rattle.std.proofs.lemmas.Bool.{and_parts}
 use Rattle.std.proofs.Math.Path.{fun_ext}
 use Rattle.clap.specs.declared.error.Error.{Error}
 use Rattle.clap.specs.declared.error.kind.ErrorKind.TheVariants.{OutOfMemory}
-use Rattle.clap.specs.Words.{App, HasKind, HasMatchesOf, IsAmong, Kinds, Text, first_of, first_value, found_of, is_simple, is_simple_and_free, kind_of, matches_of, rows_of}
+use Rattle.clap.specs.Words.{App, HasKind, HasMatchesOf, IsAmong, Kinds, Text, first_of, first_value, found_of, is_simple, is_simple_and_free, kind_of}
 use Rattle.clap.specs.declared.parser.matches.ArgMatches.{ArgMatches}
 use Rattle.clap.proofs.WalkLemmas.{first_value-rows}
 use Rattle.clap.proofs.OnLiterals.{clap_on_literals}
 use Rattle.jx_words.specs.Command.{transcode, with_flag, with_option, with_place}
-use Rattle.jx_words.specs.Words.{found_in}
-
-pub transcode_simple : is_simple transcode ≡ true
-unfolding clap_on_literals transcode with_flag with_option with_place
-transcode_simple = refl
+use Rattle.jx_words.specs.MakeFound.{texts_of}
+use Rattle.jx_words.specs.MakeWords.{make}
 
 pub transcode_free : is_simple_and_free transcode ≡ true
 unfolding clap_on_literals transcode with_flag with_option with_place
 transcode_free = refl
 
--- what a parse of the command found, under each name
-pub found_texts : (a : App) (words : List Text) (m : ArgMatches) → a ≡ transcode → HasMatchesOf a words m → first_value (found_of m) ≡ found_in words
-found_texts a words m same matches =
-    let rows : rows_of (found_of m) ≡ matches_of a words = (matches (ap is_simple same ∙ transcode_simple)).0 in
-    fun_ext (λ name. first_value-rows (found_of m) name ∙ (ap (first_of name) rows ∙ ap (λ (b : App). first_of name (matches_of b words)) same))
+pub make_free : is_simple_and_free make ≡ true
+unfolding clap_on_literals make with_place
+make_free = refl
+
+-- what a parse of a command found, under each name
+pub found_texts : (a : App) (words : List Text) (m : ArgMatches) → is_simple a ≡ true → HasMatchesOf a words m → first_value (found_of m) ≡ texts_of a words
+found_texts a words m simple matches =
+    fun_ext (λ name. first_value-rows (found_of m) name ∙ ap (first_of name) (matches simple).0)
 
 -- an error that isn't want of memory has a kind
 pub has_a_kind : (kinds : Kinds) (e : Error) → HasKind kinds e → (kind_of e ≡ OutOfMemory → ⊥) → kinds ≡ [] → ⊥
 has_a_kind kinds e (inl memory) other none = other memory
 has_a_kind kinds e (inr among) other none = subst (IsAmong (kind_of e)) none among
+
+pub simple_of : (a : App) → is_simple_and_free a ≡ true → is_simple a ≡ true
+simple_of a free = (and_parts (is_simple a) _ free).0

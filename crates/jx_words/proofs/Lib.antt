@@ -3,6 +3,7 @@ pub mod FindLemmas
 pub mod ItemLemmas
 pub mod ListLemmas
 pub mod MadeLemmas
+pub mod MakeLemmas
 pub mod NumberLemmas
 pub mod PartLemmas
 pub mod SpellLemmas

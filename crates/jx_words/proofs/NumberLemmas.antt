@@ -42,7 +42,7 @@ first_digit n some small =
     let first = first_decimal n some small in
     (first, (digit_at (decimal n) 0 is.0.1 is.0.0).1)
 
-pub badly_begun : (most : ℕ) (text : List ℕ) → most < 2 ^ 32 → (BeginsWell text → ⊥) → None ≡ number_in most text
+pub badly_begun : (most : ℕ) (text : List ℕ) → most < 2 ^ 64 → (BeginsWell text → ⊥) → None ≡ number_in most text
 badly_begun most text small other = no_number most text (λ n some within is. other (subst BeginsWell (sym is) (first_digit n some (omega arith))))
 
 some_number : (n : ℕ) → 49 ≤ get_or (decimal n) 0 0 → 1 ≤ n
@@ -54,27 +54,27 @@ some_number n above = elim (cases_lt 0 n) [
       absurd (omega (arith, first, above))
 ]
 
-number_parsed : (n : ℕ) (text : List ℕ) → BeginsWell text → ParsesUnsigned {E = Unit {0}} 32 10 text (Ok n) → (1 ≤ n) × (text ≡ decimal n)
+number_parsed : (n : ℕ) (text : List ℕ) → BeginsWell text → ParsesUnsigned {E = Unit {0}} 64 10 text (Ok n) → (1 ≤ n) × (text ≡ decimal n)
 number_parsed n text well parses =
-    let told = parse_plain digits {E = Unit {0}} 32 text (Ok n) parses (λ e. omega (arith, e, well.0)) in
+    let told = parse_plain digits {E = Unit {0}} 64 text (Ok n) parses (λ e. omega (arith, e, well.0)) in
     let small : digits_value 10 text < 2 ^ 64 = omega (arith, told.0.2) in
     let spelled : text ≡ decimal n = sym (decimal-digits_value digits text told.0.0 told.0.1 (λ e. absurd (omega (arith, e, well.0))) small) ∙ ap decimal (sym told.1) in
     let first : get_or (decimal n) 0 0 ≡ get_or text 0 0 = ap (λ t. get_or t 0 0) (sym spelled) in
     (some_number n (omega (arith, first, well.0)), spelled)
 
-pub number_said : (most n : ℕ) (text : List ℕ) → most < 2 ^ 32 → BeginsWell text → ParsesUnsigned {E = Unit {0}} 32 10 text (Ok n) → n ≤ most → Some n ≡ number_in most text
+pub number_said : (most n : ℕ) (text : List ℕ) → most < 2 ^ 64 → BeginsWell text → ParsesUnsigned {E = Unit {0}} 64 10 text (Ok n) → n ≤ most → Some n ≡ number_in most text
 number_said most n text small well parses within =
     let is = number_parsed n text well parses in
     sym (ap (number_in most) is.1 ∙ number_spelled most n (omega arith) is.0 within)
 
-pub too_large : (most n : ℕ) (text : List ℕ) → most < 2 ^ 32 → n < 2 ^ 32 → BeginsWell text → ParsesUnsigned {E = Unit {0}} 32 10 text (Ok n) → most < n → None ≡ number_in most text
+pub too_large : (most n : ℕ) (text : List ℕ) → most < 2 ^ 64 → n < 2 ^ 64 → BeginsWell text → ParsesUnsigned {E = Unit {0}} 64 10 text (Ok n) → most < n → None ≡ number_in most text
 too_large most n text small below well parses above =
     let is = number_parsed n text well parses in
     no_number most text (λ m some within same. let one = decimal_injective n m (omega arith) (omega arith) (sym is.1 ∙ same) in omega (arith, one))
 
-pub not_parsed : (most : ℕ) (text : List ℕ) → most < 2 ^ 32 → ParsesUnsigned {E = Unit {0}} 32 10 text (Err tt) → None ≡ number_in most text
+pub not_parsed : (most : ℕ) (text : List ℕ) → most < 2 ^ 64 → ParsesUnsigned {E = Unit {0}} 64 10 text (Err tt) → None ≡ number_in most text
 not_parsed most text small parses =
-    no_number most text (λ m some within same. not_ok m (parse-decimal 32 m text (Err tt) (omega arith) (omega arith) same parses))
+    no_number most text (λ m some within same. not_ok m (parse-decimal 64 m text (Err tt) (omega arith) (omega arith) same parses))
   where
     not_ok : (n : ℕ) → ◌≡◌ {A = Result ℕ (Unit {0})} (Err tt) (Ok n) → ⊥
     not_ok n same = cc

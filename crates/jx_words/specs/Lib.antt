@@ -1,4 +1,6 @@
 pub mod Command
+pub mod MakeFound
+pub mod MakeWords
 pub mod Parts
 pub mod Values
 pub mod Words

@@ -1,8 +1,9 @@
-//! The command `transcode`, its words and its options.
+//! The commands `transcode` and `make`, their words and their options.
 
 ghost use Rattle.std.specs.Prelude.{◌≡◌, IfOk, codes};
 ghost use Rattle.clap.specs.Words.{app_of, rule_of};
 ghost use Rattle.jx_words.specs.Command.{flag_rule, option_rule, place_rule, transcode, with_flag, with_marks, with_option, with_packing, with_place, with_places, with_work};
+ghost use Rattle.jx_words.specs.MakeWords.{make};
 
 use clap::{Arg, ArgAction, Command};
 use std::alloc::{AllocError, Global};
@@ -83,7 +84,7 @@ fn with_work<'a>(alloc: Global, command: Command<'a>) -> Result<Command<'a>, All
     with_option(alloc, command, "window-bytes")
 }
 
-/// The command.
+/// The command `transcode`.
 pub(crate) fn transcode<'a>(alloc: Global) -> Result<Command<'a>, AllocError>
     ensures { IfOk result (λ c. app_of c ≡ transcode) }
 {
@@ -92,4 +93,14 @@ pub(crate) fn transcode<'a>(alloc: Global) -> Result<Command<'a>, AllocError>
     let command = with_packing(alloc, command)?;
     let command = with_marks(alloc, command)?;
     with_work(alloc, command)
+}
+
+/// The command `make`, of three words.
+pub(crate) fn make<'a>(alloc: Global) -> Result<Command<'a>, AllocError>
+    ensures { IfOk result (λ c. app_of c ≡ make) }
+{
+    let command = Command::new(alloc, "make");
+    let command = with_place(alloc, command, "seed")?;
+    let command = with_place(alloc, command, "width")?;
+    with_place(alloc, command, "height")
 }

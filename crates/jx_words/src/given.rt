@@ -1,15 +1,16 @@
 //! What clap finds in the words of the command line.
 
-ghost use Rattle.std.specs.Prelude.{◌≡◌, ◌≢◌, [], IfOk, Err, codes, map, string_bytes, unwrap_or};
+ghost use Rattle.std.specs.Prelude.{◌≡◌, ◌≢◌, [], IfOk, Err, codes, map, string_bytes, true, unwrap_or};
 ghost use Rattle.std.specs.Str.{bytes_eq};
-ghost use Rattle.clap.specs.Words.{fault_of, first_value, found_of};
+ghost use Rattle.clap.specs.Words.{app_of, fault_of, first_value, found_of, is_simple_and_free};
 ghost use Rattle.jx_words.specs.Command.{transcode};
+ghost use Rattle.jx_words.specs.MakeFound.{texts_of};
 ghost use Rattle.jx_words.specs.Words.{flag_of, given_by, given_in, text_of};
 
 use crate::WordsFault;
 use crate::command::transcode;
-use clap::ArgMatches;
 use clap::error::ErrorKind;
+use clap::{ArgMatches, Command};
 use std::alloc::Global;
 use std::marker::Model;
 
@@ -54,7 +55,7 @@ impl<'a> Model for Given<'a> {
 }
 
 /// The text that was found under a name, else a default.
-fn text_of<'a>(matches: &ArgMatches<'a>, name: &str, default: &'a str) -> &'a str
+pub(crate) fn text_of<'a>(matches: &ArgMatches<'a>, name: &str, default: &'a str) -> &'a str
     ensures { result.now ≡ text_of (first_value (found_of matches.now)) name.now default.entry.now }
 {
     match matches.get_str(name) {
@@ -92,6 +93,25 @@ fn given_by<'a>(matches: &ArgMatches<'a>) -> Given<'a>
     }
 }
 
+/// What clap finds in words for a command, of which the first is its name.
+pub(crate) fn matches_in<'a>(
+    command: Command<'a>,
+    words: &'a [String],
+) -> Result<ArgMatches<'a>, WordsFault>
+    requires simple { is_simple_and_free (app_of command) ≡ true }
+    ensures taken { IfOk result (λ _. fault_of (app_of command.entry) (map string_bytes words.entry.now) ≡ []) }
+    ensures found { IfOk result (λ m. first_value (found_of m) ≡ texts_of (app_of command.entry) (map string_bytes words.entry.now)) }
+    ensures refused { result ≡ Err WordsFault.Words → fault_of (app_of command.entry) (map string_bytes words.entry.now) ≢ [] }
+{
+    match command.try_get_matches_from(words) {
+        Ok(matches) => Ok(matches),
+        Err(error) => match error.kind() {
+            ErrorKind::OutOfMemory => Err(WordsFault::NoMemory),
+            _ => Err(WordsFault::Words),
+        },
+    }
+}
+
 /// What the words ask for, of which the first is the command's name.
 pub(crate) fn given_in<'a>(alloc: Global, words: &'a [String]) -> Result<Given<'a>, WordsFault>
     ensures taken { IfOk result (λ _. fault_of transcode (map string_bytes words.entry.now) ≡ []) }
@@ -102,11 +122,8 @@ pub(crate) fn given_in<'a>(alloc: Global, words: &'a [String]) -> Result<Given<'
         Ok(command) => command,
         Err(_) => return Err(WordsFault::NoMemory),
     };
-    match command.try_get_matches_from(words) {
+    match matches_in(command, words) {
         Ok(matches) => Ok(given_by(&matches)),
-        Err(error) => match error.kind() {
-            ErrorKind::OutOfMemory => Err(WordsFault::NoMemory),
-            _ => Err(WordsFault::Words),
-        },
+        Err(fault) => Err(fault),
     }
 }

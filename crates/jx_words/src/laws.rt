@@ -1,10 +1,12 @@
-//! Laws over the definitions: which texts say precincts, styles and numbers, and which; which requests words make. They run no
-//! code.
+//! Laws over the definitions: which texts say precincts, styles and numbers, and which; which requests words make, and
+//! which pictures they ask for. They run no code.
 
-ghost use Rattle.std.specs.Prelude.{◌≡◌, ◌≤◌, ◌<◌, ◌^◌, ℕ, List, Some, true};
+ghost use Rattle.std.specs.Prelude.{◌≡◌, ◌≤◌, ◌<◌, ◌^◌, ℕ, List, Some, false, true};
 ghost use Rattle.std.specs.Fmt.{decimal};
 ghost use Rattle.jx_base.specs.declared.style.Style.{Style};
 ghost use Rattle.jx_plan.specs.Wanted.{MayBeStyle, MayBeWanted};
+ghost use Rattle.jx_words.specs.MakeFound.{AsksMake};
+ghost use Rattle.jx_words.specs.MakeWords.{Make, MayBeMade, is_make, make_of};
 ghost use Rattle.jx_words.specs.Values.{ArePrecincts, HasNamed, number_in, parts_of, precincts_in, precincts_text, style_said, style_text};
 ghost use Rattle.jx_words.specs.Words.{Asks, MayBeAsked, MayBeWork, Request, Text, is_good, request_of};
 
@@ -38,4 +40,16 @@ pub fn requests_may_be_wanted()
 pub fn requests_have_words()
     ensures made { (r : Request) → MayBeAsked r → Asks r }
     ensures asked { (words : List Text) → is_good words ≡ true → MayBeAsked (request_of words) }
+{}
+
+/// Good words of `make` ask for the pictures that may be made, of 1 to 4,096 columns and rows and any seed below 2^64, and each of
+/// these is asked for by some.
+pub fn make_has_words()
+    ensures made { (m : Make) → MayBeMade m → AsksMake m }
+    ensures asked { (words : List Text) → is_make words ≡ true → MayBeMade (make_of words) }
+{}
+
+/// No words are good for both commands.
+pub fn commands_are_apart()
+    ensures { (words : List Text) → is_good words ≡ true → is_make words ≡ false }
 {}

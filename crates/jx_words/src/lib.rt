@@ -1,4 +1,4 @@
-//! The words of the command line `jx transcode`, read with clap.
+//! The words of the command lines `jx transcode` and `jx make`, read with clap.
 #![tactic(auto)]
 
 ghost use Rattle.std.specs.Prelude.{◌≡◌};
@@ -6,6 +6,7 @@ ghost use Rattle.std.specs.Prelude.{◌≡◌};
 mod command;
 mod given;
 pub mod laws;
+mod make;
 mod numbers;
 mod parts;
 mod precincts;
@@ -14,6 +15,7 @@ mod styles;
 mod values;
 
 use jx_plan::Options;
+pub use make::{Make, read_make};
 pub use reading::read_words;
 use std::marker::Model;
 
@@ -99,5 +101,7 @@ pub enum WordsFault {
     NoMemory,
 }
 
+#[cfg(test)]
+mod make_tests;
 #[cfg(test)]
 mod tests;

@@ -14,17 +14,27 @@ fn begins_well(word: &str) -> bool
 }
 
 /// The number from 1 to `most` that a word says in decimal digits, without a sign or a leading zero.
-pub(crate) fn number_in(most: u32, word: &str) -> Option<u32>
+pub(crate) fn long_number_in(most: u64, word: &str) -> Option<u64>
     ensures { result ≡ number_in most word.now }
 {
     if !begins_well(word) {
         return None;
     }
-    let Ok(number) = word.parse::<u32>() else {
+    let Ok(number) = word.parse::<u64>() else {
         return None;
     };
     if number > most {
         return None;
     }
     Some(number)
+}
+
+/// As `long_number_in`, of numbers that fit 32 bits.
+pub(crate) fn number_in(most: u32, word: &str) -> Option<u32>
+    ensures { result ≡ number_in most word.now }
+{
+    match long_number_in(u64::from(most), word) {
+        Some(number) => Some(number as u32),
+        None => None,
+    }
 }
