@@ -1,0 +1,10 @@
+pub mod AddedLemmas
+pub mod EndLemmas
+pub mod FewLemmas
+pub mod JoinedLemmas
+pub mod LabelLemmas
+pub mod MarkLemmas
+pub mod QuietLemmas
+pub mod ScanLemmas
+pub mod StepLemmas
+pub mod WindowLemmas

@@ -1,0 +1,15 @@
+use Rattle.std.proofs.Common.{[], ◌∙◌, ap, sym}
+use Rattle.jx_base.specs.MqTable.{mq_fresh}
+use Rattle.jx_grid.specs.Reading.{coding_of}
+use Rattle.jx_grid.specs.Needs.{needs}
+use Rattle.jx_passenc.specs.Encoding.{Encoding}
+use Rattle.jx_passenc.proofs.SegmentLemmas.{segments_finished}
+use Rattle.jx_flags.proofs.encode.encode_flags.Goals as goal
+
+pub returns : goal.returns
+returns c =
+    let co = coding_of c.args.band c.args.style.bits c.args.planes in
+    ap (λ (e : Encoding). e.done) c.encoder.view_is
+    ∙ (c.in_ok-run.ensures
+    ∙ rw (c.new-3.ensures.items, c.new-2.ensures, c.is_raw.ensures, c.in_ok-new.ensures, c.width.ensures, c.height.ensures)
+    (sym (segments_finished c.args.style.bits c.args.grid.now (needs co c.args.grid.now c.args.passes) 0 mq_fresh [])))

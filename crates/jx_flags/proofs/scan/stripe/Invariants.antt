@@ -1,0 +1,13 @@
+use Rattle.std.proofs.Common.{◌≡◌, ◌-◌, ◌+◌, ◌*◌}
+use Rattle.jx_grid.specs.Cells.{IsKept}
+use Rattle.jx_grid.specs.Asking.{told}
+use Rattle.jx_grid.specs.Pass.{scanned}
+use Rattle.jx_flags.specs.Numbers.{first_of}
+use Rattle.jx_flags.proofs.scan.stripe.Given as goal
+
+abbrev pub invariant-loop-x : goal.invariant-loop-x
+invariant-loop-x g l = record {
+  so_far : told g.S.Source.ask (scanned l.pass l.plane ((l.initial.field.width - l.x) * l.rows) (first_of l.initial.field l.x l.top l.rows) l.field) l.source
+      ≡ told g.S.Source.ask (scanned l.pass l.plane (l.initial.field.width * l.rows) (l.top * l.initial.field.width) l.initial.field) l.initial.source;
+  kept : IsKept l.plane.planes (l.plane.number + 1) l.initial.field l.field;
+}

@@ -1,0 +1,5 @@
+pub mod Joined
+pub mod Labels
+pub mod Marks
+pub mod Numbers
+pub mod Windows

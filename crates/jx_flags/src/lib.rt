@@ -1,0 +1,26 @@
+//! Decoding and coding of coded passes (ITU-T T.800, Annex D) in the fast form: the significance of a
+//! block is kept packed, one word for each column of a stripe, and labels are read from a table.
+#![tactic(auto)]
+
+mod answers;
+mod coefs;
+mod decode;
+mod decoder;
+mod encode;
+mod encoder;
+mod field;
+mod grid;
+mod labels;
+mod reader;
+mod runs;
+mod scan;
+mod signs;
+mod steps;
+#[cfg(test)]
+mod tests;
+mod writer;
+
+pub use decode::{FlagDecoded, decode_flags, sound_flags};
+pub use encode::encode_flags;
+pub use grid::FlagGrid;
+pub use jx_grid::{BadSymbol, Coded, Coef, Segments};

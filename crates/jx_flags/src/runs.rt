@@ -1,0 +1,189 @@
+ghost use Rattle.std.specs.Prelude.{◌≡◌, ◌+◌, ◌-◌, ◌<◌, ◌≤◌, ℕ, true, false, OnOk, IsTrue};
+ghost use Rattle.jx_grid.specs.Cells.{Cells, coef_at, significant, IsPlace, AreWithin, IsKept};
+ghost use Rattle.jx_grid.specs.Asking.{told};
+ghost use Rattle.jx_flags.specs.Labels.{AreLabels};
+ghost use Rattle.jx_grid.specs.Pass.{IsScan, is_quiet, is_run, zeroed, named_at, place_at, run_at, cleanup_at, number_in_run};
+
+use crate::field::Field;
+use crate::labels::{is_marked, label};
+use crate::signs::label_of_sign;
+use crate::steps::{is_done, put_bit, put_sign, shift, usual};
+use jx_base::NoMemory;
+use jx_grid::{About, Plane, Question, Source};
+
+/// Whether a coefficient is left to the cleanup pass with nothing significant near.
+#[inline(always)]
+fn is_quiet_at(field: &Field, labels: &[u8], plane: Plane, x: u16, y: u16) -> bool
+    requires labels { AreLabels plane.band labels.now }
+    requires place { IsPlace field.now x y }
+    ensures { result ≡ is_quiet plane field.now x y }
+{
+    let around = field.nine(plane.causal, x, y);
+    if is_marked(field, plane.causal, x, y, around) {
+        return false;
+    }
+    if label(field, labels, plane, x, y, around) != 0 {
+        return false;
+    }
+    !is_done(plane, field.grid.at(x, y))
+}
+
+/// Whether the run mode begins at a place.
+#[inline(always)]
+fn is_run_at(field: &Field, labels: &[u8], plane: Plane, x: u16, y: u16) -> bool
+    requires labels { AreLabels plane.band labels.now }
+    requires place { IsPlace field.now x y }
+    ensures run { result ≡ is_run plane field.now x y }
+    ensures whole { IsTrue result → y + 4 ≤ field.now.height }
+{
+    if y % 4 != 0 || y + 4 > field.grid.height() {
+        return false;
+    }
+    is_quiet_at(field, labels, plane, x, y)
+        && is_quiet_at(field, labels, plane, x, y + 1)
+        && is_quiet_at(field, labels, plane, x, y + 2)
+        && is_quiet_at(field, labels, plane, x, y + 3)
+}
+
+/// Decides that the first places of a column are 0.
+#[tactic(auto, using(jx_grid::proofs::RunLemmas::zeroed_more))]
+fn zero_first(field: &mut Field, plane: Plane, x: u16, y: u16, count: u16)
+    requires scan { IsScan plane }
+    requires place { IsPlace field.old x y }
+    requires whole { y + 4 ≤ field.old.height }
+    requires few { count ≤ 4 }
+    requires within { AreWithin plane.planes (plane.number + 1) field.old }
+    ensures grid { field.new ≡ zeroed plane count field.old x y }
+    ensures kept { IsKept plane.planes (plane.number + 1) field.old field.new }
+{
+    for i in 0..count {
+        put_bit(field, plane, x, y + i, false);
+    }
+}
+
+/// Makes the named one of four quiet places significant, and those above it 0.
+fn decide_named<S: Source>(
+    source: &mut S,
+    field: &mut Field,
+    plane: Plane,
+    x: u16,
+    y: u16,
+    n: u16,
+) -> Result<(), NoMemory>
+    requires scan { IsScan plane }
+    requires place { IsPlace field.old x y }
+    requires whole { y + 4 ≤ field.old.height }
+    requires few { n < 4 }
+    requires quiet { (coef_at field.old x (y + n)).bits ≡ 0 }
+    requires within { AreWithin plane.planes (plane.number + 1) field.old }
+    ensures grid { OnOk result (field.new ≡ (told S.ask (named_at plane field.old x y n) source.old).0) }
+    ensures source { OnOk result (source.new ≡ (told S.ask (named_at plane field.old x y n) source.old).1) }
+    ensures kept { IsKept plane.planes (plane.number + 1) field.old field.new }
+{
+    let (label, turned) = label_of_sign(&field.grid, plane.causal, x, y + n);
+    let negative = source.ask(Question {
+        label,
+        turned,
+        shift: shift(plane),
+        about: About::Sign(x, y + n),
+    })?;
+    put_sign(field, plane, x, y + n, negative);
+    zero_first(field, plane, x, y, n);
+    Ok(())
+}
+
+/// Asks which of four quiet places is the first with the bit 1.
+fn decide_place<S: Source>(
+    source: &mut S,
+    field: &mut Field,
+    plane: Plane,
+    x: u16,
+    y: u16,
+) -> Result<(), NoMemory>
+    requires scan { IsScan plane }
+    requires place { IsPlace field.old x y }
+    requires whole { y + 4 ≤ field.old.height }
+    requires quiet { IsTrue (is_run plane field.old x y) }
+    requires within { AreWithin plane.planes (plane.number + 1) field.old }
+    ensures grid { OnOk result (field.new ≡ (told S.ask (place_at plane field.old x y) source.old).0) }
+    ensures source { OnOk result (source.new ≡ (told S.ask (place_at plane field.old x y) source.old).1) }
+    ensures kept { IsKept plane.planes (plane.number + 1) field.old field.new }
+{
+    let shift = shift(plane);
+    let high = source.ask(Question {
+        label: 18,
+        turned: false,
+        shift,
+        about: About::High(x, y),
+    })?;
+    let low = source.ask(Question {
+        label: 18,
+        turned: false,
+        shift,
+        about: About::Low(x, y),
+    })?;
+    decide_named(source, field, plane, x, y, number(high, low))
+}
+
+/// The number that two bits name.
+#[inline(always)]
+fn number(high: bool, low: bool) -> u16
+    ensures number { result ≡ number_in_run high low }
+    ensures few { result < 4 }
+{
+    2 * u16::from(high) + u16::from(low)
+}
+
+/// The run mode.
+fn run<S: Source>(
+    source: &mut S,
+    field: &mut Field,
+    plane: Plane,
+    x: u16,
+    y: u16,
+) -> Result<(), NoMemory>
+    requires scan { IsScan plane }
+    requires place { IsPlace field.old x y }
+    requires whole { y + 4 ≤ field.old.height }
+    requires quiet { IsTrue (is_run plane field.old x y) }
+    requires within { AreWithin plane.planes (plane.number + 1) field.old }
+    ensures grid { OnOk result (field.new ≡ (told S.ask (run_at plane field.old x y) source.old).0) }
+    ensures source { OnOk result (source.new ≡ (told S.ask (run_at plane field.old x y) source.old).1) }
+    ensures kept { IsKept plane.planes (plane.number + 1) field.old field.new }
+{
+    let any = source.ask(Question {
+        label: 17,
+        turned: false,
+        shift: shift(plane),
+        about: About::Run(x, y),
+    })?;
+    if any {
+        return decide_place(source, field, plane, x, y);
+    }
+    zero_first(field, plane, x, y, 4);
+    Ok(())
+}
+
+/// A cleanup pass at a place (T.800 D.3.4).
+#[inline(always)]
+pub(crate) fn cleanup<S: Source>(
+    source: &mut S,
+    field: &mut Field,
+    labels: &[u8],
+    plane: Plane,
+    x: u16,
+    y: u16,
+) -> Result<(), NoMemory>
+    requires labels { AreLabels plane.band labels.now }
+    requires scan { IsScan plane }
+    requires place { IsPlace field.old x y }
+    requires within { AreWithin plane.planes (plane.number + 1) field.old }
+    ensures grid { OnOk result (field.new ≡ (told S.ask (cleanup_at plane field.old x y) source.old).0) }
+    ensures source { OnOk result (source.new ≡ (told S.ask (cleanup_at plane field.old x y) source.old).1) }
+    ensures kept { IsKept plane.planes (plane.number + 1) field.old field.new }
+{
+    if is_run_at(field, labels, plane, x, y) {
+        return run(source, field, plane, x, y);
+    }
+    usual(source, field, labels, plane, x, y)
+}

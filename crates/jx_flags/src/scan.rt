@@ -1,0 +1,172 @@
+ghost use Rattle.std.specs.Prelude.{◌≡◌, ◌+◌, ◌-◌, ◌*◌, ◌/◌, ◌%◌, ◌<◌, ◌≤◌, ℕ, min, OnOk, IsTrue};
+ghost use Rattle.jx_grid.specs.Cells.{Cells, HasSize, IsPlace, AreWithin, IsKept};
+ghost use Rattle.jx_grid.specs.Asking.{Told, told};
+ghost use Rattle.jx_grid.specs.Pass.{IsScan, pass_at, plane_of, scanned, pass_of};
+ghost use Rattle.jx_flags.specs.Numbers.{first_of};
+ghost use Rattle.jx_flags.specs.Labels.{AreLabels};
+
+use crate::field::Field;
+use crate::runs::cleanup;
+use crate::steps::{refinement, significance};
+use jx_base::{Band, NoMemory};
+use jx_grid::{Plane, Source};
+
+/// Whether a pass has nothing to ask in a column of a stripe.
+#[inline(always)]
+#[tactic(auto, using(crate::proofs::QuietLemmas::clear_window, crate::proofs::QuietLemmas::clear_word))]
+fn is_over(field: &Field, plane: Plane, pass: u16, x: u16, top: u16, rows: u16) -> bool
+    requires place { IsPlace field.now x top }
+    requires stripe { top % 4 ≡ 0 }
+    requires rows { rows ≡ min 4 (field.now.height - top) }
+    ensures { IsTrue result → scanned pass plane rows (first_of field.now x top rows) field.now ≡ Told field.now }
+{
+    match pass % 3 {
+        1 => field.window(plane.causal, top / 4 + 1, x) == 0,
+        2 => field.word(usize::from(top / 4) + 1, usize::from(x) + 1) == 0,
+        _ => false,
+    }
+}
+
+/// A pass at a place, by its number's kind.
+#[inline(always)]
+fn pass_at_place<S: Source>(
+    source: &mut S,
+    field: &mut Field,
+    labels: &[u8],
+    plane: Plane,
+    pass: u16,
+    x: u16,
+    y: u16,
+) -> Result<(), NoMemory>
+    requires scan { IsScan plane }
+    requires labels { AreLabels plane.band labels.now }
+    requires place { IsPlace field.old x y }
+    requires within { AreWithin plane.planes (plane.number + 1) field.old }
+    ensures grid { OnOk result (field.new ≡ (told S.ask (pass_at pass plane field.old x y) source.old).0) }
+    ensures source { OnOk result (source.new ≡ (told S.ask (pass_at pass plane field.old x y) source.old).1) }
+    ensures kept { IsKept plane.planes (plane.number + 1) field.old field.new }
+{
+    match pass % 3 {
+        1 => significance(source, field, labels, plane, x, y),
+        2 => refinement(source, field, plane, x, y),
+        _ => cleanup(source, field, labels, plane, x, y),
+    }
+}
+
+/// A pass at the places of a column of a stripe.
+#[inline(always)]
+#[tactic(auto, using(crate::proofs::ScanLemmas::row_more))]
+fn each_row<S: Source>(
+    source: &mut S,
+    field: &mut Field,
+    labels: &[u8],
+    plane: Plane,
+    pass: u16,
+    x: u16,
+    top: u16,
+    rows: u16,
+) -> Result<(), NoMemory>
+    requires scan { IsScan plane }
+    requires labels { AreLabels plane.band labels.now }
+    requires place { IsPlace field.old x top }
+    requires stripe { top % 4 ≡ 0 }
+    requires rows { rows ≡ min 4 (field.old.height - top) }
+    requires within { AreWithin plane.planes (plane.number + 1) field.old }
+    ensures grid { OnOk result (field.new ≡ (told S.ask (scanned pass plane rows (first_of field.old x top rows) field.old) source.old).0) }
+    ensures source { OnOk result (source.new ≡ (told S.ask (scanned pass plane rows (first_of field.old x top rows) field.old) source.old).1) }
+    ensures kept { IsKept plane.planes (plane.number + 1) field.old field.new }
+{
+    for row in 0..rows {
+        pass_at_place(source, field, labels, plane, pass, x, top + row)?;
+    }
+    Ok(())
+}
+
+/// The same, where nothing is looked at twice that asks nothing.
+#[inline(always)]
+fn column<S: Source>(
+    source: &mut S,
+    field: &mut Field,
+    labels: &[u8],
+    plane: Plane,
+    pass: u16,
+    x: u16,
+    top: u16,
+    rows: u16,
+) -> Result<(), NoMemory>
+    requires scan { IsScan plane }
+    requires labels { AreLabels plane.band labels.now }
+    requires place { IsPlace field.old x top }
+    requires stripe { top % 4 ≡ 0 }
+    requires rows { rows ≡ min 4 (field.old.height - top) }
+    requires within { AreWithin plane.planes (plane.number + 1) field.old }
+    ensures grid { OnOk result (field.new ≡ (told S.ask (scanned pass plane rows (first_of field.old x top rows) field.old) source.old).0) }
+    ensures source { OnOk result (source.new ≡ (told S.ask (scanned pass plane rows (first_of field.old x top rows) field.old) source.old).1) }
+    ensures kept { IsKept plane.planes (plane.number + 1) field.old field.new }
+{
+    if is_over(field, plane, pass, x, top, rows) {
+        return Ok(());
+    }
+    each_row(source, field, labels, plane, pass, x, top, rows)
+}
+
+/// A pass over a stripe.
+#[tactic(auto, using(crate::proofs::ScanLemmas::stripe_more))]
+fn stripe<S: Source>(
+    source: &mut S,
+    field: &mut Field,
+    labels: &[u8],
+    plane: Plane,
+    pass: u16,
+    top: u16,
+) -> Result<(), NoMemory>
+    requires scan { IsScan plane }
+    requires labels { AreLabels plane.band labels.now }
+    requires size { HasSize field.old }
+    requires stripe { top % 4 ≡ 0 }
+    requires row { top < field.old.height }
+    requires within { AreWithin plane.planes (plane.number + 1) field.old }
+    ensures grid { OnOk result (field.new ≡ (told S.ask (scanned pass plane (field.old.width * min 4 (field.old.height - top)) (top * field.old.width) field.old) source.old).0) }
+    ensures source { OnOk result (source.new ≡ (told S.ask (scanned pass plane (field.old.width * min 4 (field.old.height - top)) (top * field.old.width) field.old) source.old).1) }
+    ensures kept { IsKept plane.planes (plane.number + 1) field.old field.new }
+{
+    let rows = 4u16.min(field.grid.height() - top);
+    for x in 0..field.grid.width() {
+        column(source, field, labels, plane, pass, x, top, rows)?;
+    }
+    Ok(())
+}
+
+/// A coding pass over a block of at most 1,024 by 1,024 places (T.800 D.3). `planes` is the number
+/// of its coded planes, at most 74, and `pass` the number of the pass, one of theirs. The
+/// coefficients, of which no plane below the pass's was decided, are as the source's answers make
+/// them. After `NoMemory` they and the source are given up.
+#[tactic(auto, using(crate::proofs::ScanLemmas::stripes_more, crate::proofs::EndLemmas::stripes_done), unfolding(jx_grid::specs::Pass::pass_of))]
+pub(crate) fn run_pass<S: Source>(
+    source: &mut S,
+    field: &mut Field,
+    labels: &[u8],
+    band: Band,
+    causal: bool,
+    planes: u8,
+    pass: u16,
+) -> Result<(), NoMemory>
+    requires scan { IsScan (plane_of band causal planes pass) }
+    requires labels { AreLabels band labels.now }
+    requires size { HasSize field.old }
+    requires within { AreWithin planes ((pass + 2) / 3 + 1) field.old }
+    ensures grid { OnOk result (field.new ≡ (told S.ask (pass_of band causal planes pass field.old) source.old).0) }
+    ensures source { OnOk result (source.new ≡ (told S.ask (pass_of band causal planes pass field.old) source.old).1) }
+    ensures kept { IsKept planes ((pass + 2) / 3 + 1) field.old field.new }
+{
+    let plane = Plane {
+        band,
+        causal,
+        planes,
+        number: ((pass + 2) / 3) as u8,
+    };
+    for s in 0..(field.grid.height() + 3) / 4 {
+        stripe(source, field, labels, plane, pass, 4 * s)?;
+    }
+    Ok(())
+}
