@@ -1,8 +1,6 @@
 -- What holds of every row of the table.
-use Rattle.std.proofs.Common.{◌≡◌, ◌<◌, ◌≤◌, ℕ, zero, suc, Bool, true, false, List, [], ◌∷◌, ◌&&◌, get_or, refl, sym, arith, ltb, leb}
+use Rattle.std.proofs.Common.{◌≡◌, ◌<◌, ◌≤◌, ℕ, zero, suc, Bool, true, false, List, [], ◌∷◌, ◌&&◌, get_or, refl, arith, ltb, leb}
 use Rattle.std.proofs.lemmas.Bool.Decides.{nat_tests}
-use Rattle.std.proofs.lemmas.List.{get_or-map}
-use Rattle.jx_mq.specs.declared.table.TheConstants.{ROWS}
 use Rattle.jx_base.specs.MqTable.{MqRow, mq_row, mq_rows, mq_row_at}
 use Rattle.std.proofs.lemmas.Bool.{and_parts}
 
@@ -35,14 +33,3 @@ in_range row h =
 pub row_in_range : (n : ℕ) → IsRow (mq_row_at n)
 unfolding mq_row_at mq_rows holds_of
 row_in_range n = in_range (mq_row_at n) (holds_at (λ row. is_in_range row) mq_rows (mq_row 22017 46 46 false) n refl refl)
-
-abbrev pub row_of : ℕ × ℕ × ℕ × Bool → MqRow
-row_of (qe, nmps, nlps, switches) = mq_row qe nmps nlps switches
-
--- the code's table is the definition's
-pub row_is : (n : ℕ) → n < 47 → row_of (get_or ROWS n (0, 0, 0, false)) ≡ mq_row_at n
-unfolding mq_row_at mq_rows
-row_is n inside = sym (get_or-map (λ (r : ℕ × ℕ × ℕ × Bool). row_of r) ROWS n (0, 0, 0, false) (mq_row 22017 46 46 false) inside)
-
-pub code_row : (n : ℕ) → n < 47 → IsRow (row_of (get_or ROWS n (0, 0, 0, false)))
-code_row n inside = rw (row_is n inside) (row_in_range n)

@@ -1,8 +1,10 @@
-ghost use Rattle.std.specs.Prelude.{◌≡◌, ◌+◌, ◌<◌, ◌≤◌, ℕ, min, length};
+ghost use Rattle.std.specs.Prelude.{◌≡◌, ◌+◌, ◌*◌, ◌^◌, ◌<◌, ◌≤◌, ℕ, min, length};
 ghost use Rattle.jx_base.specs.MqTable.{MqContexts, mq_row_of};
-ghost use Rattle.jx_base.specs.MqReading.{MqReader, mq_byte, mq_byte_in, mq_reader, mq_shifted_in, mq_refilled, mq_reads_mps, mq_chosen, mq_read, mq_bit, mq_after};
+ghost use Rattle.jx_base.specs.MqReading.{MqReader, mq_byte, mq_byte_in, mq_reader, mq_refilled, mq_is_low, mq_reads_mps, mq_chosen, mq_read, mq_bit, mq_after};
 ghost use Rattle.jx_mq.specs.Decoding.{MqDecoding, IsWithin, IsReading};
+ghost use Rattle.jx_mq.specs.Shifting.{mq_shifted_by};
 
+use crate::choice::either;
 use crate::contexts::Contexts;
 use std::marker::Model;
 
@@ -22,7 +24,7 @@ fn byte_at(bytes: &[u8], place: usize) -> u8
 struct Registers {
     a: u32,
     c: u32,
-    ct: u8,
+    ct: u32,
     place: usize,
     looked: usize,
 }
@@ -35,6 +37,8 @@ impl Model for Registers {
 
 impl Registers {
     /// BYTEIN (Annex C.3.4).
+    #[cold]
+    #[inline(never)]
     fn byte_in(&mut self, bytes: &[u8])
         requires { IsWithin bytes.now self.old }
         ensures registers { self.new ≡ mq_byte_in bytes.now self.old }
@@ -58,22 +62,22 @@ impl Registers {
         self.ct = 8;
     }
 
-    /// One shift of RENORMD (Annex C.3.3).
-    fn shift(&mut self, bytes: &[u8])
-        requires within { IsWithin bytes.now self.old }
-        requires room { self.old.a < 32768 }
-        ensures registers { self.new ≡ mq_shifted_in bytes.now self.old }
-        ensures within { IsWithin bytes.now self.new }
+    /// Shifts of RENORMD for which no byte is due.
+    #[inline(always)]
+    fn shift(&mut self, by: u32)
+        requires due { by ≤ self.old.ct }
+        requires ct { self.old.ct ≤ 8 }
+        requires room { self.old.a * 2 ^ by < 65536 }
+        ensures registers { self.new ≡ mq_shifted_by by self.old }
+        ensures fits { self.old.c < 4294967296 }
     {
-        if self.ct == 0 {
-            self.byte_in(bytes);
-        }
-        self.a *= 2;
-        self.c = self.c << 1;
-        self.ct -= 1;
+        self.a <<= by;
+        self.c <<= by;
+        self.ct -= by;
     }
 
-    /// RENORMD (Annex C.3.3).
+    /// RENORMD (Annex C.3.3). A byte is read once a shift needs it, and no sooner.
+    #[inline(always)]
     fn refill(&mut self, bytes: &[u8])
         requires within { IsWithin bytes.now self.old }
         requires some { 0 < self.old.a }
@@ -81,13 +85,28 @@ impl Registers {
         ensures registers { self.new ≡ mq_refilled bytes.now 15 self.old }
         ensures reading { IsReading bytes.now self.new }
     {
-        while self.a < 0x8000 {
-            self.shift(bytes);
+        let mut left = self.a.leading_zeros() - 16;
+        while left > self.ct {
+            let ready = self.ct;
+            self.shift(ready);
+            self.byte_in(bytes);
+            left -= ready;
         }
+        self.shift(left);
+    }
+
+    /// Whether the code lies in the lower part of the interval.
+    #[inline(always)]
+    fn is_low(&self, qe: u32) -> bool
+        requires { qe < 65536 }
+        ensures { result ≡ mq_is_low self.now qe }
+    {
+        self.c < qe << 16
     }
 
     /// Narrows the interval to the part in which the code lies, and says whether that part is the
     /// more probable symbol's (Annex C.3.2).
+    #[inline(always)]
     fn choose(&mut self, qe: u32) -> bool
         requires most { qe ≤ self.old.a }
         requires room { self.old.a < 65536 }
@@ -95,13 +114,10 @@ impl Registers {
         ensures registers { self.new ≡ mq_chosen self.old qe }
     {
         let rest = self.a - qe;
-        if self.c >> 16 < qe {
-            self.a = qe;
-            return rest < qe;
-        }
-        self.c -= qe << 16;
-        self.a = rest;
-        rest >= qe
+        let is_low = self.is_low(qe);
+        self.c -= either(is_low, 0, qe << 16);
+        self.a = either(is_low, qe, rest);
+        is_low == (rest < qe)
     }
 }
 
@@ -140,6 +156,7 @@ impl<'a> MqDecoder<'a> {
     }
 
     /// The next decision under a label, which is below 19.
+    #[inline(always)]
     pub fn bit(&mut self, contexts: &mut Contexts, label: u8) -> bool
         requires { label < 19 }
         ensures bit { result ≡ mq_bit self.old.reader contexts.old label }
@@ -150,9 +167,11 @@ impl<'a> MqDecoder<'a> {
         let row = contexts.row(label);
         let symbol = contexts.symbol(label);
         let qe = row.qe as u32;
-        let rest = self.registers.a - qe;
         let is_mps = self.registers.choose(qe);
-        contexts.adapt(label, row, rest, is_mps);
+        if self.registers.a >= 0x8000 {
+            return symbol;
+        }
+        contexts.adapt(label, row, is_mps);
         self.registers.refill(self.bytes);
         symbol == is_mps
     }

@@ -1,8 +1,10 @@
-ghost use Rattle.std.specs.Prelude.{◌≡◌, ◌+◌, ◌*◌, ◌^◌, ◌<◌, ◌≤◌, ℕ, ◌∷◌, reverse, IfOk, OnOk};
+ghost use Rattle.std.specs.Prelude.{◌≡◌, ◌+◌, ◌*◌, ◌^◌, ◌<◌, ◌≤◌, ℕ, [], ◌∷◌, reverse, IfOk, OnOk};
 ghost use Rattle.jx_base.specs.MqTable.{MqContexts};
-ghost use Rattle.jx_base.specs.MqWriting.{MqWriter, mq_writer, mq_plain, mq_stuffed, mq_byte_out, mq_shifted, mq_renormalized, mq_part, mq_wrote, mq_after_bit, mq_last_number, mq_given_out, mq_segment};
+ghost use Rattle.jx_base.specs.MqWriting.{MqWriter, mq_writer, mq_plain, mq_stuffed, mq_byte_out, mq_renormalized, mq_part, mq_wrote, mq_after_bit, mq_last_number, mq_given_out, mq_segment};
 ghost use Rattle.jx_mq.specs.Coding.{IsCoding, IsCoder};
+ghost use Rattle.jx_mq.specs.Shifting.{mq_moved_by};
 
+use crate::choice::either;
 use crate::contexts::Contexts;
 use jx_base::NoMemory;
 use std::alloc::Global;
@@ -14,7 +16,7 @@ use std::marker::Model;
 struct Registers {
     a: u32,
     c: u32,
-    ct: u8,
+    ct: u32,
     newest: u8,
     older: Vec<u8>,
 }
@@ -27,6 +29,8 @@ impl Model for Registers {
 
 impl Registers {
     /// The registers at the start (Annex C.2.8).
+    #[cold]
+    #[inline(never)]
     fn restart(&mut self)
         ensures { self.new ≡ mq_writer }
     {
@@ -69,6 +73,8 @@ impl Registers {
     }
 
     /// BYTEOUT (Annex C.2.7).
+    #[cold]
+    #[inline(never)]
     fn byte_out(&mut self) -> Result<(), NoMemory>
         requires { self.old.c < 268435456 }
         ensures { OnOk result (self.new ≡ mq_byte_out self.old) }
@@ -87,35 +93,41 @@ impl Registers {
         self.plain()
     }
 
-    /// One shift of RENORME (Annex C.2.6).
-    fn shift(&mut self) -> Result<(), NoMemory>
-        requires coding { IsCoding self.old }
-        requires room { self.old.a < 32768 }
-        ensures { OnOk result (self.new ≡ mq_shifted self.old) }
+    /// Shifts of RENORME, before a byte is given out.
+    #[inline(always)]
+    fn shift(&mut self, by: u32)
+        requires due { by ≤ self.old.ct }
+        requires ct { self.old.ct ≤ 12 }
+        requires narrow { self.old.a * 2 ^ by < 65536 }
+        requires room { self.old.c * 2 ^ by < 268435456 }
+        ensures { self.new ≡ mq_moved_by by self.old }
     {
-        self.a *= 2;
-        self.c *= 2;
-        self.ct -= 1;
-        if self.ct == 0 {
-            return self.byte_out();
-        }
-        Ok(())
+        self.a <<= by;
+        self.c <<= by;
+        self.ct -= by;
     }
 
-    /// RENORME (Annex C.2.6).
+    /// RENORME (Annex C.2.6). A byte is given out as soon as it is whole.
+    #[inline(always)]
     fn renormalize(&mut self) -> Result<(), NoMemory>
         requires coding { IsCoding self.old }
         requires room { self.old.a < 65536 }
         ensures registers { OnOk result (self.new ≡ mq_renormalized 15 self.old) }
         ensures coder { OnOk result (IsCoder self.new) }
     {
-        while self.a < 0x8000 {
-            self.shift()?;
+        let mut left = self.a.leading_zeros() - 16;
+        while left >= self.ct {
+            let ready = self.ct;
+            self.shift(ready);
+            self.byte_out()?;
+            left -= ready;
         }
+        self.shift(left);
         Ok(())
     }
 
     /// Narrows the interval to a symbol's part (Annex C.2.4 and C.2.5).
+    #[inline(always)]
     fn narrow(&mut self, qe: u32, is_mps: bool)
         requires some { 0 < qe }
         requires most { qe < self.old.a }
@@ -123,12 +135,9 @@ impl Registers {
         ensures registers { self.new ≡ mq_part self.old qe is_mps }
     {
         let rest = self.a - qe;
-        if is_mps == (rest < qe) {
-            self.a = qe;
-            return;
-        }
-        self.a = rest;
-        self.c += qe;
+        let is_low = is_mps == (rest < qe);
+        self.c += either(is_low, 0, qe);
+        self.a = either(is_low, qe, rest);
     }
 
     /// SETBITS (Annex C.2.9).
@@ -174,19 +183,36 @@ impl MqEncoder {
     pub fn new(alloc: Global) -> MqEncoder
         ensures { result ≡ mq_writer }
     {
+        MqEncoder::over(Vec::new(alloc))
+    }
+
+    /// Such an encoder with room for a segment of so many bytes.
+    pub fn with_room(alloc: Global, bytes: usize) -> Result<MqEncoder, NoMemory>
+        ensures { IfOk result (λ e. e ≡ mq_writer) }
+    {
+        let older = Vec::with_capacity(alloc, bytes.saturating_add(1))?;
+        Ok(MqEncoder::over(older))
+    }
+
+    /// An encoder over a list that is empty.
+    fn over(older: Vec<u8>) -> MqEncoder
+        requires { older.items ≡ [] }
+        ensures { result ≡ mq_writer }
+    {
         MqEncoder {
             registers: Registers {
                 a: 0x8000,
                 c: 0,
                 ct: 12,
                 newest: 0,
-                older: Vec::new(alloc),
+                older,
             },
         }
     }
 
     /// Codes a decision under a label, which is below 19. After `NoMemory` the encoder has
     /// lost its decisions, and it and the contexts are given up.
+    #[inline(always)]
     pub fn bit(&mut self, contexts: &mut Contexts, label: u8, bit: bool) -> Result<(), NoMemory>
         requires { label < 19 }
         ensures contexts { OnOk result (contexts.new ≡ mq_after_bit self.old contexts.old label bit) }
@@ -195,8 +221,11 @@ impl MqEncoder {
         let row = contexts.row(label);
         let is_mps = contexts.symbol(label) == bit;
         let qe = row.qe as u32;
-        contexts.adapt(label, row, self.registers.a - qe, is_mps);
         self.registers.narrow(qe, is_mps);
+        if self.registers.a >= 0x8000 {
+            return Ok(());
+        }
+        contexts.adapt(label, row, is_mps);
         if let Err(refused) = self.registers.renormalize() {
             self.registers.restart();
             return Err(refused);

@@ -1,6 +1,7 @@
 //! The arithmetic coder of bit-plane decisions (ITU-T T.800, Annex C): contexts, decoder, encoder.
 #![tactic(auto)]
 
+mod choice;
 mod contexts;
 mod decoder;
 mod encoder;

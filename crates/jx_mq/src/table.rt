@@ -1,85 +1,130 @@
 ghost use Rattle.std.specs.Prelude.{◌≡◌, ◌<◌, ◌≤◌};
-ghost use Rattle.jx_base.specs.MqTable.{mq_row, mq_row_at};
+ghost use Rattle.jx_mq.specs.States.{mq_moves, moves_from, row_in, symbol_in};
 
-/// One row of the table of probability estimates (Annex C, Table C.2).
+/// What the table of probability estimates (Annex C, Table C.2) says of a state, which is a row of
+/// that table and the more probable symbol: 2 * row + symbol.
 #[derive(Clone, Copy)]
 pub struct Row {
     /// The width Qe of the less probable symbol's part.
     pub qe: u16,
-    /// The next row after the more probable symbol.
-    pub nmps: u8,
-    /// The next row after the less probable symbol.
-    pub nlps: u8,
-    /// Whether the less probable symbol turns the more probable one over.
-    pub switches: bool,
+    /// The next state after the more probable symbol.
+    pub after_mps: u8,
+    /// The next state after the less probable symbol.
+    pub after_lps: u8,
 }
 
-/// Qe, the next row after the more probable symbol and after the less probable one, and whether
-/// the latter turns the symbol over.
-static ROWS: [(u16, u8, u8, bool); 47] = [
-    (0x5601, 1, 1, true),
-    (0x3401, 2, 6, false),
-    (0x1801, 3, 9, false),
-    (0x0AC1, 4, 12, false),
-    (0x0521, 5, 29, false),
-    (0x0221, 38, 33, false),
-    (0x5601, 7, 6, true),
-    (0x5401, 8, 14, false),
-    (0x4801, 9, 14, false),
-    (0x3801, 10, 14, false),
-    (0x3001, 11, 17, false),
-    (0x2401, 12, 18, false),
-    (0x1C01, 13, 20, false),
-    (0x1601, 29, 21, false),
-    (0x5601, 15, 14, true),
-    (0x5401, 16, 14, false),
-    (0x5101, 17, 15, false),
-    (0x4801, 18, 16, false),
-    (0x3801, 19, 17, false),
-    (0x3401, 20, 18, false),
-    (0x3001, 21, 19, false),
-    (0x2801, 22, 19, false),
-    (0x2401, 23, 20, false),
-    (0x2201, 24, 21, false),
-    (0x1C01, 25, 22, false),
-    (0x1801, 26, 23, false),
-    (0x1601, 27, 24, false),
-    (0x1401, 28, 25, false),
-    (0x1201, 29, 26, false),
-    (0x1101, 30, 27, false),
-    (0x0AC1, 31, 28, false),
-    (0x09C1, 32, 29, false),
-    (0x08A1, 33, 30, false),
-    (0x0521, 34, 31, false),
-    (0x0441, 35, 32, false),
-    (0x02A1, 36, 33, false),
-    (0x0221, 37, 34, false),
-    (0x0141, 38, 35, false),
-    (0x0111, 39, 36, false),
-    (0x0085, 40, 37, false),
-    (0x0049, 41, 38, false),
-    (0x0025, 42, 39, false),
-    (0x0015, 43, 40, false),
-    (0x0009, 44, 41, false),
-    (0x0005, 45, 42, false),
-    (0x0001, 45, 43, false),
-    (0x5601, 46, 46, false),
+/// Qe, and the next states after the more probable symbol and after the less probable one.
+static ROWS: [(u16, u8, u8); 94] = [
+    (0x5601, 2, 3),
+    (0x5601, 3, 2),
+    (0x3401, 4, 12),
+    (0x3401, 5, 13),
+    (0x1801, 6, 18),
+    (0x1801, 7, 19),
+    (0x0AC1, 8, 24),
+    (0x0AC1, 9, 25),
+    (0x0521, 10, 58),
+    (0x0521, 11, 59),
+    (0x0221, 76, 66),
+    (0x0221, 77, 67),
+    (0x5601, 14, 13),
+    (0x5601, 15, 12),
+    (0x5401, 16, 28),
+    (0x5401, 17, 29),
+    (0x4801, 18, 28),
+    (0x4801, 19, 29),
+    (0x3801, 20, 28),
+    (0x3801, 21, 29),
+    (0x3001, 22, 34),
+    (0x3001, 23, 35),
+    (0x2401, 24, 36),
+    (0x2401, 25, 37),
+    (0x1C01, 26, 40),
+    (0x1C01, 27, 41),
+    (0x1601, 58, 42),
+    (0x1601, 59, 43),
+    (0x5601, 30, 29),
+    (0x5601, 31, 28),
+    (0x5401, 32, 28),
+    (0x5401, 33, 29),
+    (0x5101, 34, 30),
+    (0x5101, 35, 31),
+    (0x4801, 36, 32),
+    (0x4801, 37, 33),
+    (0x3801, 38, 34),
+    (0x3801, 39, 35),
+    (0x3401, 40, 36),
+    (0x3401, 41, 37),
+    (0x3001, 42, 38),
+    (0x3001, 43, 39),
+    (0x2801, 44, 38),
+    (0x2801, 45, 39),
+    (0x2401, 46, 40),
+    (0x2401, 47, 41),
+    (0x2201, 48, 42),
+    (0x2201, 49, 43),
+    (0x1C01, 50, 44),
+    (0x1C01, 51, 45),
+    (0x1801, 52, 46),
+    (0x1801, 53, 47),
+    (0x1601, 54, 48),
+    (0x1601, 55, 49),
+    (0x1401, 56, 50),
+    (0x1401, 57, 51),
+    (0x1201, 58, 52),
+    (0x1201, 59, 53),
+    (0x1101, 60, 54),
+    (0x1101, 61, 55),
+    (0x0AC1, 62, 56),
+    (0x0AC1, 63, 57),
+    (0x09C1, 64, 58),
+    (0x09C1, 65, 59),
+    (0x08A1, 66, 60),
+    (0x08A1, 67, 61),
+    (0x0521, 68, 62),
+    (0x0521, 69, 63),
+    (0x0441, 70, 64),
+    (0x0441, 71, 65),
+    (0x02A1, 72, 66),
+    (0x02A1, 73, 67),
+    (0x0221, 74, 68),
+    (0x0221, 75, 69),
+    (0x0141, 76, 70),
+    (0x0141, 77, 71),
+    (0x0111, 78, 72),
+    (0x0111, 79, 73),
+    (0x0085, 80, 74),
+    (0x0085, 81, 75),
+    (0x0049, 82, 76),
+    (0x0049, 83, 77),
+    (0x0025, 84, 78),
+    (0x0025, 85, 79),
+    (0x0015, 86, 80),
+    (0x0015, 87, 81),
+    (0x0009, 88, 82),
+    (0x0009, 89, 83),
+    (0x0005, 90, 84),
+    (0x0005, 91, 85),
+    (0x0001, 90, 86),
+    (0x0001, 91, 87),
+    (0x5601, 92, 92),
+    (0x5601, 93, 93),
 ];
 
-/// The row of a number below 47.
-pub fn row_at(number: u8) -> Row
-    requires { number < 47 }
-    ensures row { mq_row result.qe result.nmps result.nlps result.switches ≡ mq_row_at number }
+/// The row of a state below 94.
+#[inline(always)]
+pub fn row_at(state: u8) -> Row
+    requires { state < 94 }
+    ensures row { mq_moves result.qe result.after_mps result.after_lps ≡ moves_from (row_in state) (symbol_in state) }
     ensures some { 0 < result.qe }
     ensures most { result.qe ≤ 22017 }
-    ensures after_mps { result.nmps < 47 }
-    ensures after_lps { result.nlps < 47 }
+    ensures after_mps { result.after_mps < 94 }
+    ensures after_lps { result.after_lps < 94 }
 {
-    let (qe, nmps, nlps, switches) = ROWS[number as usize];
+    let (qe, after_mps, after_lps) = ROWS[state as usize];
     Row {
         qe,
-        nmps,
-        nlps,
-        switches,
+        after_mps,
+        after_lps,
     }
 }

@@ -58,6 +58,12 @@ fn ends(rt: HostRuntime) -> Result<(), Fail> {
         MqEncoder::new(rt.alloc()).flush()?.as_slice(),
         [0xFF, 0x7F].as_slice()
     );
+    for room in [0, 1, 100] {
+        assert_eq!(rt;
+            MqEncoder::with_room(rt.alloc(), room)?.flush()?.as_slice(),
+            [0xFF, 0x7F].as_slice()
+        );
+    }
 
     let mut none = MqDecoder::new(&[]);
     let mut ones = MqDecoder::new(&[0xFF, 0xFF]);

@@ -36,6 +36,7 @@ impl<'a> RawReader<'a> {
     }
 
     /// The next bit, most significant first, seven in a byte after FF; 1 past the end.
+    #[inline(always)]
     pub fn bit(&mut self) -> bool
         ensures bit { result ≡ first_or_one self.old.left }
         ensures bytes { self.new.bytes ≡ self.old.bytes }

@@ -35,7 +35,7 @@ fn next(x: u64) -> u64 {
 #[test]
 fn lists_of_many_lengths(rt: HostRuntime) -> Result<(), Fail> {
     for count in [1, 7, 16, 17, 100, 1000, 3000] {
-        let mut writer = RawWriter::new(rt.alloc());
+        let mut writer = RawWriter::with_room(rt.alloc(), 100)?;
         let mut x: u64 = count;
         for _ in 0..count {
             x = next(x);

@@ -28,8 +28,24 @@ impl RawWriter {
     pub fn new(alloc: Global) -> RawWriter
         ensures { result ≡ [] }
     {
+        RawWriter::over(Vec::new(alloc))
+    }
+
+    /// Such a writer with room for a segment of so many bytes.
+    pub fn with_room(alloc: Global, bytes: usize) -> Result<RawWriter, NoMemory>
+        ensures { IfOk result (λ w. w ≡ []) }
+    {
+        let room = Vec::with_capacity(alloc, bytes)?;
+        Ok(RawWriter::over(room))
+    }
+
+    /// A writer over a list that is empty.
+    fn over(bytes: Vec<u8>) -> RawWriter
+        requires { bytes.items ≡ [] }
+        ensures { result ≡ [] }
+    {
         RawWriter {
-            bytes: Vec::new(alloc),
+            bytes,
             partial: 0,
             count: 0,
             width: 8,
@@ -37,6 +53,7 @@ impl RawWriter {
     }
 
     /// Appends a bit. After `NoMemory` the writer is given up.
+    #[inline(always)]
     pub fn bit(&mut self, bit: bool) -> Result<(), NoMemory>
         ensures { OnOk result (self.new ≡ self.old ++ bit ∷ []) }
     {
