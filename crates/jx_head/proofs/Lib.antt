@@ -1,9 +1,16 @@
 pub mod WordLemmas
+pub mod FrontLemmas
+pub mod LongLemmas
 pub mod AskLemmas
 pub mod BlockLemmas
+pub mod StopLemmas
+pub mod StopBlockLemmas
 pub mod BandLemmas
 pub mod BandLoopLemmas
 pub mod PacketLemmas
+pub mod KindLemmas
+pub mod StuffedLemmas
+pub mod StopBandLemmas
 pub mod FreshLemmas
 pub mod PutLemmas
 pub mod WriteLemmas

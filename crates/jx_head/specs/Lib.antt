@@ -4,6 +4,7 @@ pub mod Packet
 pub mod Scan
 pub mod Frame
 pub mod Said
+pub mod Unread
 pub mod Precinct
 pub mod Written
 pub mod Leafs

@@ -1,10 +1,14 @@
 //! Laws of packet headers. Each function's contract is a law over the definitions that the other
 //! contracts cite, so its body is empty.
-ghost use Rattle.std.specs.Prelude.{◌≡◌, ◌++◌, ◌+◌, ◌≤◌, ◌<◌, List, ℕ, Bool, true, length};
-ghost use Rattle.jx_tagtree.specs.Header.{bytes_of};
+ghost use Rattle.std.specs.Prelude.{◌≡◌, ◌++◌, ◌+◌, ◌≤◌, ◌<◌, ◌⊎◌, List, ℕ, Bool, true, length};
+ghost use Rattle.jx_tagtree.specs.declared.BitFault.TheVariants.{Ended};
+ghost use Rattle.jx_tagtree.specs.Header.{bits_of, bytes_of};
 ghost use Rattle.jx_head.specs.declared.Part.{Part};
 ghost use Rattle.jx_head.specs.Words.{IsCount, pass_word, OneWord};
 ghost use Rattle.jx_head.specs.Packet.{State, Header, header_bits, header_after, header_parts, IsToldOf, AgreeAfter, IsPacket, BreaksPlanes, OneHeader};
+ghost use Rattle.jx_head.specs.declared.HeadFault.TheVariants.{Bits};
+ghost use Rattle.jx_head.specs.Said.{HasCause};
+ghost use Rattle.jx_head.specs.Unread.{BreaksBits, HasPacket, StuffedAt};
 ghost use Rattle.jx_head.specs.declared.BandCells.{BandCells};
 ghost use Rattle.jx_head.specs.Precinct.{CellsInRange, IsState};
 ghost use Rattle.jx_head.specs.Written.{Leafed, raise_of, header_written, state_at};
@@ -61,6 +65,25 @@ pub fn written_is_read()
 /// Where a block of a header breaks its band's planes, no header stands.
 pub fn planes_or_packet()
     ensures { (bytes : List ℕ) (k : State) (parts : List Part) (used : ℕ) (after : State) → IsState k → BreaksPlanes bytes k → IsPacket bytes k parts used after → ⊥ }
+{}
+
+/// At the front of any bytes exactly one of these is: a packet, a block that breaks its band's planes, or a
+/// header that can't be read, as `BreaksBits` says by itself.
+pub fn packet_planes_or_bits()
+    ensures some { (bytes : List ℕ) (k : State) → IsState k → HasPacket bytes k ⊎ BreaksPlanes bytes k ⊎ BreaksBits bytes k }
+    ensures no_packet { (bytes : List ℕ) (k : State) (parts : List Part) (used : ℕ) (after : State) → IsState k → BreaksBits bytes k → IsPacket bytes k parts used after → ⊥ }
+    ensures no_planes { (bytes : List ℕ) (k : State) → IsState k → BreaksBits bytes k → BreaksPlanes bytes k → ⊥ }
+{}
+
+/// The cause of `Bits`, which `read_header` states as what is left, is a header that can't be read.
+pub fn bits_are_broken()
+    ensures is { (bytes : List ℕ) (k : State) → IsState k → HasCause Bits bytes k → BreaksBits bytes k }
+    ensures back { (bytes : List ℕ) (k : State) → IsState k → BreaksBits bytes k → HasCause Bits bytes k }
+{}
+
+/// The bits that a header can have end where the bytes do, or before a byte of which the stuffed bit is 1.
+pub fn bits_end()
+    ensures { (bytes : List ℕ) → ((bits_of bytes).fault ≡ Ended) ⊎ ((n : ℕ) × StuffedAt bytes n) }
 {}
 
 /// Leaves that may be written are in range.

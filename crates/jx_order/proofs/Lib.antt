@@ -9,3 +9,10 @@ pub mod SortLemmas
 pub mod TableLemmas
 pub mod CoveredLemmas
 pub mod RiseLemmas
+pub mod BeginLemmas
+pub mod PlaceLemmas
+pub mod NestLemmas
+pub mod MemberLemmas
+pub mod LayerLoops
+pub mod PlaceLoops
+pub mod LoopLaws

@@ -2,3 +2,4 @@
 pub mod Orders
 pub mod Packets
 pub mod Steps
+pub mod Loops
