@@ -1,6 +1,6 @@
 -- Words of marks after a change of one place.
-use Rattle.std.proofs.Common.{◌≡◌, ◌≢◌, ◌<◌, ◌≤◌, ◌+◌, ◌-◌, ◌*◌, ◌/◌, ◌%◌, ◌^◌, ℕ, zero, suc, Bool, true, false, not, ◌==◌, refl, sym, ap, ◌∙◌, arith, subst, inl, inr, length, get_or, set, replicate, List, [], ◌∷◌}
-use Rattle.std.proofs.lemmas.Bool.{cases_lt, cases_eq, cases_Bool}
+use Rattle.std.proofs.Common.{◌≡◌, ◌≢◌, ◌<◌, ◌≤◌, ◌+◌, ◌-◌, ◌*◌, ◌/◌, ◌%◌, ℕ, zero, suc, true, not, ◌==◌, refl, sym, ap, ◌∙◌, arith, subst, inl, inr, length, get_or, set, replicate, List, [], ◌∷◌}
+use Rattle.std.proofs.lemmas.Bool.{cases_eq, cases_Bool}
 use Rattle.std.proofs.lemmas.List.{get_or-set_same, get_or-set_other, length-set, length-replicate}
 use Rattle.std.proofs.Math.Nat.{mul-le-mul_right}
 use Rattle.jx_grid.specs.declared.coef.Coef.{Coef}

@@ -1,7 +1,7 @@
 -- The first row of a word.
 use Rattle.std.proofs.Common.{◌≤◌, ◌+◌, ◌%◌, ◌*◌, ℕ, sym, subst}
 use Rattle.jx_grid.specs.Cells.{Cells}
-use Rattle.jx_flags.specs.Marks.{mark, word}
+use Rattle.jx_flags.specs.Marks.{word}
 use Rattle.jx_flags.proofs.MarkLemmas.{mark_le}
 use Rattle.jx_flags.proofs.WindowLemmas.{below_is}
 

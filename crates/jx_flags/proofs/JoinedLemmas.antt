@@ -1,5 +1,5 @@
 -- Lists of coefficients and their parts.
-use Rattle.std.proofs.Common.{◌≡◌, ◌<◌, ◌+◌, ℕ, zero, suc, refl, ap, arith, Bool, false, List, [], ◌∷◌, length, get_or, set, replicate}
+use Rattle.std.proofs.Common.{◌≡◌, ◌<◌, ℕ, zero, suc, refl, ap, arith, Bool, false, List, [], ◌∷◌, length, get_or, set, replicate}
 use Rattle.jx_grid.specs.declared.coef.Coef.{Coef}
 use Rattle.jx_grid.specs.Cells.{zero_coef}
 use Rattle.jx_flags.specs.Joined.{joined}

@@ -1,10 +1,13 @@
 pub mod AddedLemmas
 pub mod EndLemmas
 pub mod FewLemmas
+pub mod FullLemmas
 pub mod JoinedLemmas
 pub mod LabelLemmas
 pub mod MarkLemmas
 pub mod QuietLemmas
 pub mod ScanLemmas
+pub mod SeenLemmas
+pub mod SignLemmas
 pub mod StepLemmas
 pub mod WindowLemmas

@@ -1,5 +1,5 @@
 -- Columns in which a pass asks nothing.
-use Rattle.std.proofs.Common.{◌≡◌, ◌<◌, ◌≤◌, ◌+◌, ◌-◌, ◌*◌, ◌/◌, ◌%◌, ◌==◌, ◌||◌, ◌&&◌, ℕ, zero, suc, min, Bool, true, false, not, refl, sym, ap, ◌∙◌, arith, subst, if◌then◌else◌}
+use Rattle.std.proofs.Common.{◌≡◌, ◌<◌, ◌+◌, ◌-◌, ◌*◌, ◌/◌, ◌%◌, ◌==◌, ◌||◌, ℕ, zero, suc, min, Bool, true, false, refl, sym, ap, ◌∙◌, arith, if◌then◌else◌}
 use Rattle.jx_base.specs.declared.names.Band.{Band}
 use Rattle.jx_base.specs.declared.names.Band.TheVariants.{LL, HL, LH, HH}
 use Rattle.jx_grid.specs.declared.question.Plane.{Plane}
@@ -16,7 +16,7 @@ use Rattle.jx_flags.proofs.ScanLemmas.{nth_is}
 use Rattle.jx_flags.proofs.WindowLemmas.{nine_at, label_is}
 
 -- places that ask nothing
-none_asked : (pass : ℕ) (k : Plane) (g : Cells) (count n : ℕ) → ((i : ℕ) → i < count → pass_at_nth pass k g (n + i) ≡ Told g) → scanned pass k count n g ≡ Told g
+pub none_asked : (pass : ℕ) (k : Plane) (g : Cells) (count n : ℕ) → ((i : ℕ) → i < count → pass_at_nth pass k g (n + i) ≡ Told g) → scanned pass k count n g ≡ Told g
 none_asked pass k g zero n h = refl
 none_asked pass k g (suc count) n h =
     let e : n + 0 ≡ n = omega arith in
@@ -75,7 +75,7 @@ insignificant : (g : Cells) (t x y r : ℕ) → 0 < t → r < 4 → y ≡ 4 * t 
 insignificant g t x y r p l e a b z =
     not_one (significant (coef_at g x y)) (sym (mark_there g x y a b) ∙ row_clear (λ (n : ℕ). mark g (x + 1) n) t r y p l (omega arith) z)
 
-first_kind : (pass : ℕ) (k : Plane) (g : Cells) (x y : ℕ) → pass % 3 ≡ 1 → pass_at pass k g x y ≡ significance_at k g x y
+pub first_kind : (pass : ℕ) (k : Plane) (g : Cells) (x y : ℕ) → pass % 3 ≡ 1 → pass_at pass k g x y ≡ significance_at k g x y
 first_kind pass k g x y e = rw e refl
 
 second_kind : (pass : ℕ) (k : Plane) (g : Cells) (x y : ℕ) → pass % 3 ≡ 2 → pass_at pass k g x y ≡ refinement_at k g x y

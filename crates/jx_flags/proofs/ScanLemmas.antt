@@ -1,5 +1,5 @@
 -- Places one after the other, column by column of a stripe, and stripe by stripe.
-use Rattle.std.proofs.Common.{◌≡◌, ◌≢◌, ◌<◌, ◌≤◌, ◌+◌, ◌-◌, ◌*◌, ◌/◌, ◌%◌, ℕ, zero, suc, min, Bool, refl, sym, ap, ◌∙◌, arith, subst, inl, inr}
+use Rattle.std.proofs.Common.{◌≡◌, ◌<◌, ◌≤◌, ◌+◌, ◌-◌, ◌*◌, ◌/◌, ◌%◌, ℕ, zero, suc, min, Bool, refl, sym, ap, ◌∙◌, arith, inl, inr}
 use Rattle.std.specs.Prelude.{◌⊎◌}
 use Rattle.std.proofs.lemmas.Bool.{cases_lt}
 use Rattle.std.proofs.lemmas.Nat.{div-mul-add, mod-mul-add}
@@ -7,7 +7,7 @@ use Rattle.std.proofs.Math.Nat.{mul-le-mul_right, mul-le-mul_left}
 use Rattle.jx_grid.specs.declared.question.Plane.{Plane}
 use Rattle.jx_grid.specs.declared.question.Question.{Question}
 use Rattle.jx_grid.specs.Cells.{Cells}
-use Rattle.jx_grid.specs.Asking.{Asking, Told, and_then, told}
+use Rattle.jx_grid.specs.Asking.{Asking, told}
 use Rattle.jx_grid.specs.Pass.{stripe_rows, scan_column, scan_row, pass_at, pass_at_nth, scanned}
 use Rattle.jx_grid.proofs.Told.{told_then}
 use Rattle.jx_flags.specs.Numbers.{first_of}

@@ -1,15 +1,13 @@
 -- What a window shows of a place.
-use Rattle.std.proofs.Common.{◌≡◌, ◌≢◌, ◌<◌, ◌≤◌, ◌+◌, ◌-◌, ◌*◌, ◌/◌, ◌%◌, ◌^◌, ◌==◌, ◌||◌, ◌&&◌, ℕ, zero, suc, Bool, true, false, refl, sym, ap, ◌∙◌, arith, subst, inl, inr, if◌then◌else◌}
+use Rattle.std.proofs.Common.{◌≡◌, ◌<◌, ◌≤◌, ◌+◌, ◌-◌, ◌*◌, ◌/◌, ◌%◌, ◌^◌, ◌==◌, ◌||◌, ◌&&◌, ℕ, zero, suc, Bool, true, false, refl, sym, ap, ◌∙◌, arith, inl, inr, if◌then◌else◌}
 use Rattle.std.specs.Prelude.{nat_lt}
 use Rattle.std.proofs.lemmas.Bool.{cases_eq}
 use Rattle.std.proofs.lemmas.Bool.Decides.{nat_tests}
-use Rattle.jx_base.specs.declared.names.Band.{Band}
 use Rattle.jx_grid.specs.declared.coef.Coef.{Coef}
 use Rattle.jx_grid.specs.declared.question.Plane.{Plane}
 use Rattle.jx_grid.specs.Cells.{Cells, zero_coef, coef_at, significant}
-use Rattle.jx_grid.specs.Near.{one_if, one_at, coef_near, is_unseen, sides_of, upright_of, diagonals_of, has_near}
+use Rattle.jx_grid.specs.Near.{one_if, one_at, coef_near, sides_of, upright_of, diagonals_of, has_near}
 use Rattle.jx_grid.specs.Pass.{label_at}
-use Rattle.jx_grid.specs.Labels.{significance_row}
 use Rattle.jx_flags.specs.Marks.{mark, word, is_outside, power}
 use Rattle.jx_flags.specs.Windows.{below, six, window, nine, label_of, sides_in, upright_in, diagonals_in}
 use Rattle.jx_flags.proofs.MarkLemmas.{mark_le, mark_there}

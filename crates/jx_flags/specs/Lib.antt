@@ -2,4 +2,5 @@ pub mod Joined
 pub mod Labels
 pub mod Marks
 pub mod Numbers
+pub mod Signs
 pub mod Windows

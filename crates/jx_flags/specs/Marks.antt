@@ -1,6 +1,6 @@
 -- Where a block is significant, in words: one word for each column of a stripe of four rows. Columns and rows count from 1 on.
 -- Around the block stand a column to each side, a stripe above it and one below.
-use Rattle.std.specs.Prelude.{ℕ, zero, suc, ◌+◌, ◌-◌, ◌*◌, ◌/◌, ◌^◌, ◌<◌, ◌≡◌, ◌==◌, nat_lt, Bool, ◌||◌, List, length, slice_index_or, if◌then◌else◌}
+use Rattle.std.specs.Prelude.{ℕ, zero, suc, ◌+◌, ◌-◌, ◌*◌, ◌/◌, ◌<◌, ◌≡◌, ◌==◌, nat_lt, Bool, ◌||◌, List, length, slice_index_or, if◌then◌else◌}
 use Rattle.jx_grid.specs.Cells.{Cells, coef_at, significant}
 use Rattle.jx_grid.specs.Near.{one_if}
 

@@ -1,5 +1,5 @@
 -- What is significant around the places of a column of a stripe (ITU-T T.800, figure D.2 and D.7).
-use Rattle.std.specs.Prelude.{ℕ, ◌+◌, ◌-◌, ◌*◌, ◌/◌, ◌%◌, ◌^◌, ◌<◌, Bool, if◌then◌else◌}
+use Rattle.std.specs.Prelude.{ℕ, ◌+◌, ◌-◌, ◌*◌, ◌/◌, ◌%◌, Bool, if◌then◌else◌}
 use Rattle.jx_base.specs.declared.names.Band.{Band}
 use Rattle.jx_grid.specs.Cells.{Cells}
 use Rattle.jx_grid.specs.Near.{one_at}

@@ -40,6 +40,7 @@ impl Coefs {
     }
 
     /// How many there are.
+    #[inline(always)]
     pub fn len(&self) -> usize
         ensures { result ≡ length self.now }
     {
@@ -47,6 +48,7 @@ impl Coefs {
     }
 
     /// The coefficient of a number.
+    #[inline(always)]
     pub fn at(&self, i: usize) -> Coef
         requires { i < length self.now }
         ensures { result ≡ slice_index_or self.now i zero_coef }
@@ -58,7 +60,17 @@ impl Coefs {
         }
     }
 
+    /// Whether the coefficient of a number is below 0.
+    #[inline(always)]
+    pub fn negative(&self, i: usize) -> bool
+        requires { i < length self.now }
+        ensures { result ≡ (slice_index_or self.now i zero_coef).negative }
+    {
+        self.at(i).negative
+    }
+
     /// Changes the coefficient of a number, and no other.
+    #[inline(always)]
     pub fn set(&mut self, i: usize, coef: Coef)
         requires { i < length self.old }
         ensures { self.new ≡ slice_set self.old i coef }

@@ -134,16 +134,17 @@ impl Field {
         left + 2 * here + 4 * right
     }
 
-    /// A place and its eight neighbours.
+    /// A place and its eight neighbours, by what is seen around its column.
     #[inline(always)]
     #[tactic(auto, using(crate::proofs::WindowLemmas::nine_at))]
-    pub fn nine(&self, causal: bool, x: u16, y: u16) -> u32
-        requires { IsPlace self.now x y }
+    pub fn nine(&self, causal: bool, columns: u32, stripe: u16, x: u16, y: u16) -> u32
+        requires place { IsPlace self.now x y }
+        requires stripe { stripe ≡ y / 4 + 1 }
+        requires columns { columns ≡ window self.now causal stripe x }
         ensures nine { result ≡ nine self.now causal x y }
         ensures most { result < 512 }
     {
-        let window = self.window(causal, y / 4 + 1, x);
-        row_of(window, y % 4)
+        row_of(columns, y % 4)
     }
 
     /// Changes a coefficient that stays as significant as it was.

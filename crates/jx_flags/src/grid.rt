@@ -61,6 +61,17 @@ impl FlagGrid {
         self.coefs.at(index)
     }
 
+    /// Whether the coefficient in column `x` and row `y`, which are in the grid, is below 0.
+    #[inline(always)]
+    pub(crate) fn negative(&self, x: u16, y: u16) -> bool
+        requires column { x < self.now.width }
+        requires row { y < self.now.height }
+        ensures { result ≡ (coef_at self.now x y).negative }
+    {
+        let index = index(self.width, self.height, x, y);
+        self.coefs.negative(index)
+    }
+
     /// What stands in column `x` and row `y`. Where there is no such place, this is whatever the list of
     /// rows has at y·width + x, and zero past its end.
     #[inline(always)]
@@ -90,6 +101,7 @@ impl FlagGrid {
     }
 
     /// How many columns it has.
+    #[inline(always)]
     pub fn width(&self) -> u16
         ensures { result ≡ self.now.width }
     {
@@ -97,6 +109,7 @@ impl FlagGrid {
     }
 
     /// How many rows it has.
+    #[inline(always)]
     pub fn height(&self) -> u16
         ensures { result ≡ self.now.height }
     {

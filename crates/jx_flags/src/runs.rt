@@ -1,7 +1,8 @@
-ghost use Rattle.std.specs.Prelude.{◌≡◌, ◌+◌, ◌-◌, ◌<◌, ◌≤◌, ℕ, true, false, OnOk, IsTrue};
+ghost use Rattle.std.specs.Prelude.{◌≡◌, ◌+◌, ◌-◌, ◌/◌, ◌%◌, ◌<◌, ◌≤◌, ℕ, true, false, IfOk, OnOk, IsTrue};
 ghost use Rattle.jx_grid.specs.Cells.{Cells, coef_at, significant, IsPlace, AreWithin, IsKept};
 ghost use Rattle.jx_grid.specs.Asking.{told};
 ghost use Rattle.jx_flags.specs.Labels.{AreLabels};
+ghost use Rattle.jx_flags.specs.Windows.{window};
 ghost use Rattle.jx_grid.specs.Pass.{IsScan, is_quiet, is_run, zeroed, named_at, place_at, run_at, cleanup_at, number_in_run};
 
 use crate::field::Field;
@@ -13,12 +14,22 @@ use jx_grid::{About, Plane, Question, Source};
 
 /// Whether a coefficient is left to the cleanup pass with nothing significant near.
 #[inline(always)]
-fn is_quiet_at(field: &Field, labels: &[u8], plane: Plane, x: u16, y: u16) -> bool
+fn is_quiet_at(
+    field: &Field,
+    labels: &[u8],
+    plane: Plane,
+    columns: u32,
+    stripe: u16,
+    x: u16,
+    y: u16,
+) -> bool
+    requires stripe { stripe ≡ y / 4 + 1 }
+    requires columns { columns ≡ window field.now plane.causal stripe x }
     requires labels { AreLabels plane.band labels.now }
     requires place { IsPlace field.now x y }
     ensures { result ≡ is_quiet plane field.now x y }
 {
-    let around = field.nine(plane.causal, x, y);
+    let around = field.nine(plane.causal, columns, stripe, x, y);
     if is_marked(field, plane.causal, x, y, around) {
         return false;
     }
@@ -30,24 +41,44 @@ fn is_quiet_at(field: &Field, labels: &[u8], plane: Plane, x: u16, y: u16) -> bo
 
 /// Whether the run mode begins at a place.
 #[inline(always)]
-fn is_run_at(field: &Field, labels: &[u8], plane: Plane, x: u16, y: u16) -> bool
+fn is_run_at(
+    field: &Field,
+    labels: &[u8],
+    plane: Plane,
+    columns: u32,
+    stripe: u16,
+    x: u16,
+    y: u16,
+) -> bool
+    requires stripe { stripe ≡ y / 4 + 1 }
+    requires columns { columns ≡ window field.now plane.causal stripe x }
     requires labels { AreLabels plane.band labels.now }
     requires place { IsPlace field.now x y }
     ensures run { result ≡ is_run plane field.now x y }
+    ensures first { IsTrue result → y % 4 ≡ 0 }
     ensures whole { IsTrue result → y + 4 ≤ field.now.height }
 {
     if y % 4 != 0 || y + 4 > field.grid.height() {
         return false;
     }
-    is_quiet_at(field, labels, plane, x, y)
-        && is_quiet_at(field, labels, plane, x, y + 1)
-        && is_quiet_at(field, labels, plane, x, y + 2)
-        && is_quiet_at(field, labels, plane, x, y + 3)
+    is_quiet_at(field, labels, plane, columns, stripe, x, y)
+        && is_quiet_at(field, labels, plane, columns, stripe, x, y + 1)
+        && is_quiet_at(field, labels, plane, columns, stripe, x, y + 2)
+        && is_quiet_at(field, labels, plane, columns, stripe, x, y + 3)
 }
 
 /// Decides that the first places of a column are 0.
 #[tactic(auto, using(jx_grid::proofs::RunLemmas::zeroed_more))]
-fn zero_first(field: &mut Field, plane: Plane, x: u16, y: u16, count: u16)
+fn zero_first(
+    field: &mut Field,
+    plane: Plane,
+    columns: u32,
+    stripe: u16,
+    x: u16,
+    y: u16,
+    count: u16,
+)
+    requires columns { columns ≡ window field.old plane.causal stripe x }
     requires scan { IsScan plane }
     requires place { IsPlace field.old x y }
     requires whole { y + 4 ≤ field.old.height }
@@ -55,9 +86,10 @@ fn zero_first(field: &mut Field, plane: Plane, x: u16, y: u16, count: u16)
     requires within { AreWithin plane.planes (plane.number + 1) field.old }
     ensures grid { field.new ≡ zeroed plane count field.old x y }
     ensures kept { IsKept plane.planes (plane.number + 1) field.old field.new }
+    ensures columns { columns ≡ window field.new plane.causal stripe x }
 {
     for i in 0..count {
-        put_bit(field, plane, x, y + i, false);
+        put_bit(field, plane, columns, stripe, x, y + i, false);
     }
 }
 
@@ -69,7 +101,12 @@ fn decide_named<S: Source>(
     x: u16,
     y: u16,
     n: u16,
-) -> Result<(), NoMemory>
+    columns: u32,
+    stripe: u16,
+) -> Result<u32, NoMemory>
+    requires first { y % 4 ≡ 0 }
+    requires columns { columns ≡ window field.old plane.causal stripe x }
+    requires stripe { stripe ≡ y / 4 + 1 }
     requires scan { IsScan plane }
     requires place { IsPlace field.old x y }
     requires whole { y + 4 ≤ field.old.height }
@@ -79,8 +116,10 @@ fn decide_named<S: Source>(
     ensures grid { OnOk result (field.new ≡ (told S.ask (named_at plane field.old x y n) source.old).0) }
     ensures source { OnOk result (source.new ≡ (told S.ask (named_at plane field.old x y n) source.old).1) }
     ensures kept { IsKept plane.planes (plane.number + 1) field.old field.new }
+    ensures columns { IfOk result (λ w. w ≡ window field.new plane.causal stripe x) }
 {
-    let (label, turned) = label_of_sign(&field.grid, plane.causal, x, y + n);
+    let around = field.nine(plane.causal, columns, stripe, x, y + n);
+    let (label, turned) = label_of_sign(&field.grid, plane.causal, x, y + n, around);
     let negative = source.ask(Question {
         label,
         turned,
@@ -88,8 +127,9 @@ fn decide_named<S: Source>(
         about: About::Sign(x, y + n),
     })?;
     put_sign(field, plane, x, y + n, negative);
-    zero_first(field, plane, x, y, n);
-    Ok(())
+    let columns = field.window(plane.causal, stripe, x);
+    zero_first(field, plane, columns, stripe, x, y, n);
+    Ok(columns)
 }
 
 /// Asks which of four quiet places is the first with the bit 1.
@@ -99,7 +139,12 @@ fn decide_place<S: Source>(
     plane: Plane,
     x: u16,
     y: u16,
-) -> Result<(), NoMemory>
+    columns: u32,
+    stripe: u16,
+) -> Result<u32, NoMemory>
+    requires first { y % 4 ≡ 0 }
+    requires columns { columns ≡ window field.old plane.causal stripe x }
+    requires stripe { stripe ≡ y / 4 + 1 }
     requires scan { IsScan plane }
     requires place { IsPlace field.old x y }
     requires whole { y + 4 ≤ field.old.height }
@@ -108,6 +153,7 @@ fn decide_place<S: Source>(
     ensures grid { OnOk result (field.new ≡ (told S.ask (place_at plane field.old x y) source.old).0) }
     ensures source { OnOk result (source.new ≡ (told S.ask (place_at plane field.old x y) source.old).1) }
     ensures kept { IsKept plane.planes (plane.number + 1) field.old field.new }
+    ensures columns { IfOk result (λ w. w ≡ window field.new plane.causal stripe x) }
 {
     let shift = shift(plane);
     let high = source.ask(Question {
@@ -122,7 +168,16 @@ fn decide_place<S: Source>(
         shift,
         about: About::Low(x, y),
     })?;
-    decide_named(source, field, plane, x, y, number(high, low))
+    decide_named(
+        source,
+        field,
+        plane,
+        x,
+        y,
+        number(high, low),
+        columns,
+        stripe,
+    )
 }
 
 /// The number that two bits name.
@@ -141,7 +196,12 @@ fn run<S: Source>(
     plane: Plane,
     x: u16,
     y: u16,
-) -> Result<(), NoMemory>
+    columns: u32,
+    stripe: u16,
+) -> Result<u32, NoMemory>
+    requires first { y % 4 ≡ 0 }
+    requires stripe { stripe ≡ y / 4 + 1 }
+    requires columns { columns ≡ window field.old plane.causal stripe x }
     requires scan { IsScan plane }
     requires place { IsPlace field.old x y }
     requires whole { y + 4 ≤ field.old.height }
@@ -150,6 +210,7 @@ fn run<S: Source>(
     ensures grid { OnOk result (field.new ≡ (told S.ask (run_at plane field.old x y) source.old).0) }
     ensures source { OnOk result (source.new ≡ (told S.ask (run_at plane field.old x y) source.old).1) }
     ensures kept { IsKept plane.planes (plane.number + 1) field.old field.new }
+    ensures columns { IfOk result (λ w. w ≡ window field.new plane.causal stripe x) }
 {
     let any = source.ask(Question {
         label: 17,
@@ -158,10 +219,10 @@ fn run<S: Source>(
         about: About::Run(x, y),
     })?;
     if any {
-        return decide_place(source, field, plane, x, y);
+        return decide_place(source, field, plane, x, y, columns, stripe);
     }
-    zero_first(field, plane, x, y, 4);
-    Ok(())
+    zero_first(field, plane, columns, stripe, x, y, 4);
+    Ok(columns)
 }
 
 /// A cleanup pass at a place (T.800 D.3.4).
@@ -173,7 +234,11 @@ pub(crate) fn cleanup<S: Source>(
     plane: Plane,
     x: u16,
     y: u16,
-) -> Result<(), NoMemory>
+    columns: u32,
+    stripe: u16,
+) -> Result<u32, NoMemory>
+    requires stripe { stripe ≡ y / 4 + 1 }
+    requires columns { columns ≡ window field.old plane.causal stripe x }
     requires labels { AreLabels plane.band labels.now }
     requires scan { IsScan plane }
     requires place { IsPlace field.old x y }
@@ -181,9 +246,10 @@ pub(crate) fn cleanup<S: Source>(
     ensures grid { OnOk result (field.new ≡ (told S.ask (cleanup_at plane field.old x y) source.old).0) }
     ensures source { OnOk result (source.new ≡ (told S.ask (cleanup_at plane field.old x y) source.old).1) }
     ensures kept { IsKept plane.planes (plane.number + 1) field.old field.new }
+    ensures columns { IfOk result (λ w. w ≡ window field.new plane.causal stripe x) }
 {
-    if is_run_at(field, labels, plane, x, y) {
-        return run(source, field, plane, x, y);
+    if is_run_at(field, labels, plane, columns, stripe, x, y) {
+        return run(source, field, plane, x, y, columns, stripe);
     }
-    usual(source, field, labels, plane, x, y)
+    usual(source, field, labels, plane, x, y, columns, stripe)
 }

@@ -1,9 +1,11 @@
-ghost use Rattle.std.specs.Prelude.{◌≡◌, ◌+◌, ◌-◌, ◌*◌, ◌/◌, ◌%◌, ◌<◌, ◌≤◌, ℕ, min, OnOk, IsTrue};
+ghost use Rattle.std.specs.Prelude.{◌≡◌, ◌+◌, ◌-◌, ◌*◌, ◌/◌, ◌%◌, ◌<◌, ◌≤◌, ℕ, min, IfOk, OnOk, IsTrue};
 ghost use Rattle.jx_grid.specs.Cells.{Cells, HasSize, IsPlace, AreWithin, IsKept};
 ghost use Rattle.jx_grid.specs.Asking.{Told, told};
 ghost use Rattle.jx_grid.specs.Pass.{IsScan, pass_at, plane_of, scanned, pass_of};
 ghost use Rattle.jx_flags.specs.Numbers.{first_of};
 ghost use Rattle.jx_flags.specs.Labels.{AreLabels};
+ghost use Rattle.jx_flags.specs.Marks.{word};
+ghost use Rattle.jx_flags.specs.Windows.{window};
 
 use crate::field::Field;
 use crate::runs::cleanup;
@@ -11,20 +13,42 @@ use crate::steps::{refinement, significance};
 use jx_base::{Band, NoMemory};
 use jx_grid::{Plane, Source};
 
-/// Whether a pass has nothing to ask in a column of a stripe.
+/// Whether a pass has nothing to ask in a column of a stripe, by the column's marks.
 #[inline(always)]
-#[tactic(auto, using(crate::proofs::QuietLemmas::clear_window, crate::proofs::QuietLemmas::clear_word))]
-fn is_over(field: &Field, plane: Plane, pass: u16, x: u16, top: u16, rows: u16) -> bool
+#[tactic(auto, using(crate::proofs::FullLemmas::full_first, crate::proofs::FullLemmas::full_third, crate::proofs::QuietLemmas::clear_word))]
+fn is_over(field: &Field, plane: Plane, pass: u16, x: u16, top: u16, rows: u16, marks: u32) -> bool
     requires place { IsPlace field.now x top }
     requires stripe { top % 4 ≡ 0 }
     requires rows { rows ≡ min 4 (field.now.height - top) }
+    requires marks { marks ≡ word field.now (top / 4 + 1) (x + 1) }
     ensures { IsTrue result → scanned pass plane rows (first_of field.now x top rows) field.now ≡ Told field.now }
 {
     match pass % 3 {
-        1 => field.window(plane.causal, top / 4 + 1, x) == 0,
-        2 => field.word(usize::from(top / 4) + 1, usize::from(x) + 1) == 0,
-        _ => false,
+        1 => marks == 585,
+        2 => marks == 0,
+        _ => marks == 585,
     }
+}
+
+/// Whether a significance pass has nothing to ask in a column of a stripe, as nothing is near.
+#[inline(always)]
+#[tactic(auto, using(crate::proofs::QuietLemmas::clear_window))]
+fn is_clear(
+    field: &Field,
+    plane: Plane,
+    pass: u16,
+    x: u16,
+    top: u16,
+    rows: u16,
+    columns: u32,
+) -> bool
+    requires place { IsPlace field.now x top }
+    requires stripe { top % 4 ≡ 0 }
+    requires rows { rows ≡ min 4 (field.now.height - top) }
+    requires columns { columns ≡ window field.now plane.causal (top / 4 + 1) x }
+    ensures { IsTrue result → scanned pass plane rows (first_of field.now x top rows) field.now ≡ Told field.now }
+{
+    pass % 3 == 1 && columns == 0
 }
 
 /// A pass at a place, by its number's kind.
@@ -37,7 +61,11 @@ fn pass_at_place<S: Source>(
     pass: u16,
     x: u16,
     y: u16,
-) -> Result<(), NoMemory>
+    columns: u32,
+    stripe: u16,
+) -> Result<u32, NoMemory>
+    requires stripe { stripe ≡ y / 4 + 1 }
+    requires columns { columns ≡ window field.old plane.causal stripe x }
     requires scan { IsScan plane }
     requires labels { AreLabels plane.band labels.now }
     requires place { IsPlace field.old x y }
@@ -45,11 +73,12 @@ fn pass_at_place<S: Source>(
     ensures grid { OnOk result (field.new ≡ (told S.ask (pass_at pass plane field.old x y) source.old).0) }
     ensures source { OnOk result (source.new ≡ (told S.ask (pass_at pass plane field.old x y) source.old).1) }
     ensures kept { IsKept plane.planes (plane.number + 1) field.old field.new }
+    ensures columns { IfOk result (λ w. w ≡ window field.new plane.causal stripe x) }
 {
     match pass % 3 {
-        1 => significance(source, field, labels, plane, x, y),
-        2 => refinement(source, field, plane, x, y),
-        _ => cleanup(source, field, labels, plane, x, y),
+        1 => significance(source, field, labels, plane, x, y, columns, stripe),
+        2 => refinement(source, field, plane, x, y, columns, stripe),
+        _ => cleanup(source, field, labels, plane, x, y, columns, stripe),
     }
 }
 
@@ -65,19 +94,34 @@ fn each_row<S: Source>(
     x: u16,
     top: u16,
     rows: u16,
+    seen: u32,
+    stripe: u16,
 ) -> Result<(), NoMemory>
     requires scan { IsScan plane }
     requires labels { AreLabels plane.band labels.now }
     requires place { IsPlace field.old x top }
     requires stripe { top % 4 ≡ 0 }
     requires rows { rows ≡ min 4 (field.old.height - top) }
+    requires number { stripe ≡ top / 4 + 1 }
+    requires seen { seen ≡ window field.old plane.causal stripe x }
     requires within { AreWithin plane.planes (plane.number + 1) field.old }
     ensures grid { OnOk result (field.new ≡ (told S.ask (scanned pass plane rows (first_of field.old x top rows) field.old) source.old).0) }
     ensures source { OnOk result (source.new ≡ (told S.ask (scanned pass plane rows (first_of field.old x top rows) field.old) source.old).1) }
     ensures kept { IsKept plane.planes (plane.number + 1) field.old field.new }
 {
+    let mut columns = seen;
     for row in 0..rows {
-        pass_at_place(source, field, labels, plane, pass, x, top + row)?;
+        columns = pass_at_place(
+            source,
+            field,
+            labels,
+            plane,
+            pass,
+            x,
+            top + row,
+            columns,
+            stripe,
+        )?;
     }
     Ok(())
 }
@@ -104,10 +148,18 @@ fn column<S: Source>(
     ensures source { OnOk result (source.new ≡ (told S.ask (scanned pass plane rows (first_of field.old x top rows) field.old) source.old).1) }
     ensures kept { IsKept plane.planes (plane.number + 1) field.old field.new }
 {
-    if is_over(field, plane, pass, x, top, rows) {
+    let stripe = top / 4 + 1;
+    let marks = field.word(usize::from(stripe), usize::from(x) + 1);
+    if is_over(field, plane, pass, x, top, rows, marks) {
         return Ok(());
     }
-    each_row(source, field, labels, plane, pass, x, top, rows)
+    let columns = field.window(plane.causal, stripe, x);
+    if is_clear(field, plane, pass, x, top, rows, columns) {
+        return Ok(());
+    }
+    each_row(
+        source, field, labels, plane, pass, x, top, rows, columns, stripe,
+    )
 }
 
 /// A pass over a stripe.

@@ -1,8 +1,9 @@
-ghost use Rattle.std.specs.Prelude.{◌≡◌, ◌+◌, ◌-◌, ◌^◌, ◌<◌, ◌≤◌, ℕ, Bool, true, false, ◌&&◌, ◌||◌, ◌==◌, not, nat_lt, nat_le, if◌then◌else◌, IfOk, OnOk, IsTrue};
+ghost use Rattle.std.specs.Prelude.{◌≡◌, ◌+◌, ◌-◌, ◌/◌, ◌^◌, ◌<◌, ◌≤◌, ℕ, Bool, true, false, ◌&&◌, ◌||◌, ◌==◌, not, nat_lt, nat_le, if◌then◌else◌, IfOk, OnOk, IsTrue};
 ghost use Rattle.jx_grid.specs.Cells.{Cells, coef_at, significant, IsPlace, IsWithin, AreWithin, IsKept};
 ghost use Rattle.jx_grid.specs.Asking.{told};
 ghost use Rattle.jx_grid.specs.Pass.{IsScan, shift_of, is_decided, is_refined, with_bit, with_sign, changed, sign_of, bit_of, label_at, significance_at, refinement_at, usual_at};
 ghost use Rattle.jx_flags.specs.Labels.{AreLabels};
+ghost use Rattle.jx_flags.specs.Windows.{nine, window};
 
 use crate::field::Field;
 use crate::labels::{is_marked, is_near, label};
@@ -49,7 +50,16 @@ fn was_refined(plane: Plane, coef: Coef) -> bool
 /// Decides the bit of the plane at a place, which is 1 only in a significant coefficient.
 #[inline(always)]
 #[tactic(auto, using(crate::proofs::StepLemmas::bit_keeps))]
-pub(crate) fn put_bit(field: &mut Field, plane: Plane, x: u16, y: u16, bit: bool)
+pub(crate) fn put_bit(
+    field: &mut Field,
+    plane: Plane,
+    columns: u32,
+    stripe: u16,
+    x: u16,
+    y: u16,
+    bit: bool,
+)
+    requires columns { columns ≡ window field.old plane.causal stripe x }
     requires scan { IsScan plane }
     requires place { IsPlace field.old x y }
     requires within { AreWithin plane.planes (plane.number + 1) field.old }
@@ -57,6 +67,7 @@ pub(crate) fn put_bit(field: &mut Field, plane: Plane, x: u16, y: u16, bit: bool
     requires significant { IsTrue bit → IsTrue (significant (coef_at field.old x y)) }
     ensures grid { field.new ≡ changed field.old x y (with_bit plane bit) }
     ensures kept { IsKept plane.planes (plane.number + 1) field.old field.new }
+    ensures columns { columns ≡ window field.new plane.causal stripe x }
 {
     let coef = field.grid.at(x, y);
     let bits = if bit {
@@ -104,7 +115,11 @@ pub(crate) fn decide_sign<S: Source>(
     plane: Plane,
     x: u16,
     y: u16,
-) -> Result<(), NoMemory>
+    stripe: u16,
+    around: u32,
+) -> Result<u32, NoMemory>
+    requires around { around ≡ nine field.old plane.causal x y }
+    requires stripe { stripe ≡ y / 4 + 1 }
     requires scan { IsScan plane }
     requires place { IsPlace field.old x y }
     requires within { AreWithin plane.planes (plane.number + 1) field.old }
@@ -112,8 +127,9 @@ pub(crate) fn decide_sign<S: Source>(
     ensures grid { OnOk result (field.new ≡ (told S.ask (sign_of plane field.old x y) source.old).0) }
     ensures source { OnOk result (source.new ≡ (told S.ask (sign_of plane field.old x y) source.old).1) }
     ensures kept { IsKept plane.planes (plane.number + 1) field.old field.new }
+    ensures columns { IfOk result (λ w. w ≡ window field.new plane.causal stripe x) }
 {
-    let (label, turned) = label_of_sign(&field.grid, plane.causal, x, y);
+    let (label, turned) = label_of_sign(&field.grid, plane.causal, x, y, around);
     let negative = source.ask(Question {
         label,
         turned,
@@ -121,7 +137,7 @@ pub(crate) fn decide_sign<S: Source>(
         about: About::Sign(x, y),
     })?;
     put_sign(field, plane, x, y, negative);
-    Ok(())
+    Ok(field.window(plane.causal, stripe, x))
 }
 
 /// Asks for the bit of an insignificant coefficient, and at 1 for its sign (T.800 D.3.1).
@@ -133,7 +149,13 @@ fn decide_bit<S: Source>(
     x: u16,
     y: u16,
     label: u8,
-) -> Result<(), NoMemory>
+    columns: u32,
+    stripe: u16,
+    around: u32,
+) -> Result<u32, NoMemory>
+    requires around { around ≡ nine field.old plane.causal x y }
+    requires stripe { stripe ≡ y / 4 + 1 }
+    requires columns { columns ≡ window field.old plane.causal stripe x }
     requires scan { IsScan plane }
     requires place { IsPlace field.old x y }
     requires within { AreWithin plane.planes (plane.number + 1) field.old }
@@ -143,6 +165,7 @@ fn decide_bit<S: Source>(
     ensures grid { OnOk result (field.new ≡ (told S.ask (bit_of plane field.old x y) source.old).0) }
     ensures source { OnOk result (source.new ≡ (told S.ask (bit_of plane field.old x y) source.old).1) }
     ensures kept { IsKept plane.planes (plane.number + 1) field.old field.new }
+    ensures columns { IfOk result (λ w. w ≡ window field.new plane.causal stripe x) }
 {
     let bit = source.ask(Question {
         label,
@@ -151,10 +174,10 @@ fn decide_bit<S: Source>(
         about: About::Bit(x, y),
     })?;
     if bit {
-        return decide_sign(source, field, plane, x, y);
+        return decide_sign(source, field, plane, x, y, stripe, around);
     }
-    put_bit(field, plane, x, y, false);
-    Ok(())
+    put_bit(field, plane, columns, stripe, x, y, false);
+    Ok(columns)
 }
 
 /// A significance pass at a place.
@@ -166,7 +189,11 @@ pub(crate) fn significance<S: Source>(
     plane: Plane,
     x: u16,
     y: u16,
-) -> Result<(), NoMemory>
+    columns: u32,
+    stripe: u16,
+) -> Result<u32, NoMemory>
+    requires stripe { stripe ≡ y / 4 + 1 }
+    requires columns { columns ≡ window field.old plane.causal stripe x }
     requires scan { IsScan plane }
     requires labels { AreLabels plane.band labels.now }
     requires place { IsPlace field.old x y }
@@ -174,16 +201,17 @@ pub(crate) fn significance<S: Source>(
     ensures grid { OnOk result (field.new ≡ (told S.ask (significance_at plane field.old x y) source.old).0) }
     ensures source { OnOk result (source.new ≡ (told S.ask (significance_at plane field.old x y) source.old).1) }
     ensures kept { IsKept plane.planes (plane.number + 1) field.old field.new }
+    ensures columns { IfOk result (λ w. w ≡ window field.new plane.causal stripe x) }
 {
-    let around = field.nine(plane.causal, x, y);
+    let around = field.nine(plane.causal, columns, stripe, x, y);
     if is_marked(field, plane.causal, x, y, around) {
-        return Ok(());
+        return Ok(columns);
     }
     let label = label(field, labels, plane, x, y, around);
     if label == 0 || is_done(plane, field.grid.at(x, y)) {
-        return Ok(());
+        return Ok(columns);
     }
-    decide_bit(source, field, plane, x, y, label)
+    decide_bit(source, field, plane, x, y, label, columns, stripe, around)
 }
 
 /// A refinement pass at a place.
@@ -194,21 +222,26 @@ pub(crate) fn refinement<S: Source>(
     plane: Plane,
     x: u16,
     y: u16,
-) -> Result<(), NoMemory>
+    columns: u32,
+    stripe: u16,
+) -> Result<u32, NoMemory>
+    requires stripe { stripe ≡ y / 4 + 1 }
+    requires columns { columns ≡ window field.old plane.causal stripe x }
     requires scan { IsScan plane }
     requires place { IsPlace field.old x y }
     requires within { AreWithin plane.planes (plane.number + 1) field.old }
     ensures grid { OnOk result (field.new ≡ (told S.ask (refinement_at plane field.old x y) source.old).0) }
     ensures source { OnOk result (source.new ≡ (told S.ask (refinement_at plane field.old x y) source.old).1) }
     ensures kept { IsKept plane.planes (plane.number + 1) field.old field.new }
+    ensures columns { IfOk result (λ w. w ≡ window field.new plane.causal stripe x) }
 {
-    let around = field.nine(plane.causal, x, y);
+    let around = field.nine(plane.causal, columns, stripe, x, y);
     if !is_marked(field, plane.causal, x, y, around) {
-        return Ok(());
+        return Ok(columns);
     }
     let coef = field.grid.at(x, y);
     if is_done(plane, coef) {
-        return Ok(());
+        return Ok(columns);
     }
     let near = is_near(field, plane.causal, x, y, around);
     let bit = source.ask(Question {
@@ -217,8 +250,8 @@ pub(crate) fn refinement<S: Source>(
         shift: shift(plane),
         about: About::Bit(x, y),
     })?;
-    put_bit(field, plane, x, y, bit);
-    Ok(())
+    put_bit(field, plane, columns, stripe, x, y, bit);
+    Ok(columns)
 }
 
 /// A cleanup pass at a place outside the run mode.
@@ -230,7 +263,11 @@ pub(crate) fn usual<S: Source>(
     plane: Plane,
     x: u16,
     y: u16,
-) -> Result<(), NoMemory>
+    columns: u32,
+    stripe: u16,
+) -> Result<u32, NoMemory>
+    requires stripe { stripe ≡ y / 4 + 1 }
+    requires columns { columns ≡ window field.old plane.causal stripe x }
     requires scan { IsScan plane }
     requires labels { AreLabels plane.band labels.now }
     requires place { IsPlace field.old x y }
@@ -238,14 +275,15 @@ pub(crate) fn usual<S: Source>(
     ensures grid { OnOk result (field.new ≡ (told S.ask (usual_at plane field.old x y) source.old).0) }
     ensures source { OnOk result (source.new ≡ (told S.ask (usual_at plane field.old x y) source.old).1) }
     ensures kept { IsKept plane.planes (plane.number + 1) field.old field.new }
+    ensures columns { IfOk result (λ w. w ≡ window field.new plane.causal stripe x) }
 {
     if is_done(plane, field.grid.at(x, y)) {
-        return Ok(());
+        return Ok(columns);
     }
-    let around = field.nine(plane.causal, x, y);
+    let around = field.nine(plane.causal, columns, stripe, x, y);
     if is_marked(field, plane.causal, x, y, around) {
-        return Ok(());
+        return Ok(columns);
     }
     let label = label(field, labels, plane, x, y, around);
-    decide_bit(source, field, plane, x, y, label)
+    decide_bit(source, field, plane, x, y, label, columns, stripe, around)
 }

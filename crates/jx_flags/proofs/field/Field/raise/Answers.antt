@@ -1,5 +1,5 @@
 use Rattle.std.proofs.Common.{◌≡◌, ◌+◌, ◌*◌, ◌/◌, ◌∙◌, ℕ, ap, rules}
-use Rattle.jx_grid.specs.Cells.{IsPlace, coef_at, significant}
+use Rattle.jx_grid.specs.Cells.{IsPlace, coef_at}
 use Rattle.jx_flags.proofs.AddedLemmas.{read_fits, read_added}
 use Rattle.jx_flags.proofs.field.Field.raise.Goals as goal
 

@@ -1,5 +1,5 @@
-use Rattle.std.proofs.Common.{◌≡◌, ◌+◌, ◌*◌, ◌≤◌, ◌<◌, ◌∙◌, ℕ, ap, sym, subst}
-use Rattle.jx_flags.specs.Marks.{word, stripes_of, wide_of}
+use Rattle.std.proofs.Common.{◌+◌, ◌*◌, ◌≤◌, ◌<◌, ◌∙◌, ℕ, ap, sym, subst}
+use Rattle.jx_flags.specs.Marks.{stripes_of, wide_of}
 use Rattle.jx_flags.proofs.AddedLemmas.{word_is, word_le}
 use Rattle.jx_flags.proofs.field.Field.word.Goals as goal
 
