@@ -16,12 +16,11 @@ use crate::parts::all_parts;
 use crate::sent::by_looks;
 use crate::{BlockFault, Job, LayerEnd, OutPart};
 use jx_base::{Block, NoMemory, Style};
-use jx_grid::{Grid, Segments};
-use jx_passdec::sound;
+use jx_flags::{FlagGrid, Segments, sound_flags};
 use std::alloc::Global;
 
 /// The coefficients of a block that is to be coded anew.
-pub(crate) fn own_cells(alloc: Global, job: &Job<'_>) -> Result<Grid, BlockFault>
+pub(crate) fn own_cells(alloc: Global, job: &Job<'_>) -> Result<FlagGrid, BlockFault>
     requires sound { IsSound job.now.block.now }
     requires some { 1 ≤ job.now.block.now.passes }
     requires anew { job.now.style ≢ None }
@@ -31,7 +30,7 @@ pub(crate) fn own_cells(alloc: Global, job: &Job<'_>) -> Result<Grid, BlockFault
     ensures bad { IfErr result (λ e. HasCause job.now e) }
 {
     let decoded = own_decoded(alloc, job.block)?;
-    if sound(&decoded).is_err() {
+    if sound_flags(&decoded).is_err() {
         return Err(BlockFault::BadSegmentation(job.number));
     }
     Ok(decoded.grid)

@@ -11,11 +11,11 @@ ghost use Rattle.jx_block.specs.Segments.{bytes_before, sent_by_looks};
 use crate::segments::{goes_on, joined, segments_apart, segments_in};
 use crate::sent::by_looks;
 use jx_base::{Block, NoMemory, Style};
-use jx_passdec::{Coded, Decoded, Segments, decode_passes};
+use jx_flags::{Coded, FlagDecoded, Segments, decode_flags};
 use std::alloc::Global;
 
 /// What the passes of a block decode to.
-fn decode(alloc: Global, block: &Block<'_>, coded: &Coded<'_>) -> Result<Decoded, NoMemory>
+fn decode(alloc: Global, block: &Block<'_>, coded: &Coded<'_>) -> Result<FlagDecoded, NoMemory>
     requires sound { IsSound block.now }
     requires some { 1 ≤ block.now.passes }
     requires band { coded.now.band ≡ block.now.name.band }
@@ -28,7 +28,7 @@ fn decode(alloc: Global, block: &Block<'_>, coded: &Coded<'_>) -> Result<Decoded
 {
     let wide = block.rect.x.len() as u16;
     let high = block.rect.y.len() as u16;
-    decode_passes(alloc, wide, high, coded)
+    decode_flags(alloc, wide, high, coded)
 }
 
 /// The passes of a block in segments of a style.
@@ -77,7 +77,7 @@ pub(crate) fn looked_in(
 
 /// What a block's passes decode to from its own segments. Where each segment is one piece no byte is
 /// copied.
-pub(crate) fn own_decoded(alloc: Global, block: &Block<'_>) -> Result<Decoded, NoMemory>
+pub(crate) fn own_decoded(alloc: Global, block: &Block<'_>) -> Result<FlagDecoded, NoMemory>
     requires sound { IsSound block.now }
     requires some { 1 ≤ block.now.passes }
     ensures grid { IfOk result (λ d. d.grid ≡ (decoded_in block.now block.now.style.bits (own_segments block.now)).cells) }
@@ -94,7 +94,11 @@ pub(crate) fn own_decoded(alloc: Global, block: &Block<'_>) -> Result<Decoded, N
 }
 
 /// The same from segments that are the block's own.
-fn own_from(alloc: Global, block: &Block<'_>, segments: Segments<'_>) -> Result<Decoded, NoMemory>
+fn own_from(
+    alloc: Global,
+    block: &Block<'_>,
+    segments: Segments<'_>,
+) -> Result<FlagDecoded, NoMemory>
     requires sound { IsSound block.now }
     requires some { 1 ≤ block.now.passes }
     requires own { segments ≡ groups block.now.style.bits block.now.pieces }

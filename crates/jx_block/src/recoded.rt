@@ -14,7 +14,7 @@ use crate::decide::parts_of;
 use crate::laws::written_keeps_coefficients;
 use crate::{BlockFault, Job, OutPart};
 use jx_base::{NoMemory, Style};
-use jx_passenc::encode_passes;
+use jx_flags::encode_flags;
 use jx_store::{Claim, Work};
 use std::alloc::Global;
 use std::marker::Model;
@@ -79,7 +79,7 @@ fn code_anew<'a>(alloc: Global, job: &'a Job<'a>, style: Style) -> Result<Recode
     }
     let grid = own_cells(alloc, job)?;
     let planes = block.planes - block.zero;
-    let lists = encode_passes(alloc, &grid, block.name.band, style, planes, block.passes)?;
+    let lists = encode_flags(alloc, &grid, block.name.band, style, planes, block.passes)?;
     let bytes = all_bytes(alloc, &lists)?;
     let parts = parts_anew(alloc, block, style, job.ends.as_slice(), &lists)?;
     Ok(Recoded { job, bytes, parts })
