@@ -1,5 +1,5 @@
 -- The plan of files in memory.
-use Rattle.std.specs.Prelude.{ℕ, ◌≡◌, ◌⊎◌, List, Contains, Result, Err}
+use Rattle.std.specs.Prelude.{ℕ, ◌≡◌, ◌+◌, ◌⊎◌, List, Contains, Result, Err}
 use Rattle.jx_outside.specs.declared.plan.Call.{Call}
 use Rattle.jx_outside.specs.declared.plan.PlannedFault.{PlannedFault}
 use Rattle.jx_outside.specs.declared.refused.Refused.{Refused}
@@ -21,12 +21,18 @@ planned files = files.plan.faults.items
 abbrev pub next_call : MemFiles → Call → ℕ
 next_call files call = next_of files.plan call
 
+-- how many bytes a read or a write takes at most
+abbrev pub most_taken : MemFiles → ℕ
+most_taken files = files.more + 1
+
 -- the next call of a kind is to fail
 abbrev pub IsDue : MemFiles → Call → Type 0
 IsDue files call = Contains (planned files) (record { call = call; nth = next_call files call })
 
--- what a call of a kind shows of the plan: it is counted, and it fails where that is due, or by this other cause
+-- what a call of a kind shows of the plan: it is counted, it fails where that is due, or by this other cause, and calls take as many bytes as
+-- before
 pub record Shows {T : Type 0} (old new : MemFiles) (call : Call) (other : Type 0) (result : Result T Refused) : Type 0 where
   pub counts : Counts old.plan new.plan call
   pub due : IsDue old call → result ≡ Err Failed
   pub only : result ≡ Err Failed → IsDue old call ⊎ other
+  pub most : most_taken new ≡ most_taken old

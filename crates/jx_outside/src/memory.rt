@@ -9,18 +9,20 @@ use crate::store::Store;
 use crate::{Call, Files, Refused};
 use std::alloc::Global;
 
-/// Files in memory, of which the nth call of a kind can be made to fail. All is told. A name that
-/// isn't there is a failure of `open`.
+/// Files in memory, of which the nth call of a kind can be made to fail, and of which each read and each write can be made to take few
+/// bytes. All is told. A name that isn't there is a failure of `open`.
 #[derive(Drop)]
 pub struct MemFiles {
     store: Store,
     read_faults: u64,
     write_faults: u64,
     plan: Plan,
+    // how many bytes beside one a read or a write takes at most
+    more: u32,
 }
 
 impl MemFiles {
-    ghost use Rattle.jx_outside.specs.MemPlan.{next_call, planned};
+    ghost use Rattle.jx_outside.specs.MemPlan.{most_taken, next_call, planned};
 
     /// No files, and no call that is to fail.
     pub fn new(alloc: Global) -> MemFiles
@@ -35,6 +37,7 @@ impl MemFiles {
             read_faults: 0,
             write_faults: 0,
             plan: Plan::new(alloc),
+            more: u32::MAX,
         }
     }
 
@@ -48,6 +51,7 @@ impl MemFiles {
         ensures writes { ⟦<MemFiles as Files>⟧.write_faults self.new ≡ ⟦<MemFiles as Files>⟧.write_faults self.old }
         ensures plan { planned self.new ≡ planned self.old }
         ensures counts { (call : Call) → next_call self.new call ≡ next_call self.old call }
+        ensures most { most_taken self.new ≡ most_taken self.old }
     {
         self.store.put(name, bytes)?;
         Ok(())
@@ -62,9 +66,30 @@ impl MemFiles {
         ensures reads { ⟦<MemFiles as Files>⟧.read_faults self.new ≡ ⟦<MemFiles as Files>⟧.read_faults self.old }
         ensures writes { ⟦<MemFiles as Files>⟧.write_faults self.new ≡ ⟦<MemFiles as Files>⟧.write_faults self.old }
         ensures counts { (kind : Call) → next_call self.new kind ≡ next_call self.old kind }
+        ensures most { most_taken self.new ≡ most_taken self.old }
     {
         self.plan.add(call, nth)?;
         Ok(())
+    }
+
+    /// From now on each read and each write takes at most so many bytes.
+    pub fn short(&mut self, most: u32)
+        requires { 1 ≤ most }
+        ensures most { most_taken self.new ≡ most }
+        ensures same { ⟦<MemFiles as Files>⟧.meaning self.new ≡ ⟦<MemFiles as Files>⟧.meaning self.old }
+        ensures reads { ⟦<MemFiles as Files>⟧.read_faults self.new ≡ ⟦<MemFiles as Files>⟧.read_faults self.old }
+        ensures writes { ⟦<MemFiles as Files>⟧.write_faults self.new ≡ ⟦<MemFiles as Files>⟧.write_faults self.old }
+        ensures plan { planned self.new ≡ planned self.old }
+        ensures counts { (kind : Call) → next_call self.new kind ≡ next_call self.old kind }
+    {
+        self.more = most - 1;
+    }
+
+    /// How many bytes a read or a write takes at most.
+    fn most(&self) -> usize
+        ensures { result ≡ most_taken self.now }
+    {
+        self.more as usize + 1
     }
 
     /// The name and bytes of the file that was created last, or none where none was created.
@@ -97,7 +122,7 @@ impl MemFiles {
 }
 
 impl Files for MemFiles {
-    ghost use Rattle.jx_outside.specs.MemPlan.{Shows, told};
+    ghost use Rattle.jx_outside.specs.MemPlan.{Shows, most_taken, told};
 
     ghost meaning = { λ m. meaning_of m.store };
 
@@ -142,11 +167,13 @@ impl Files for MemFiles {
         ensures cause { HasCause self.old.read_faults self.new.read_faults result }
         ensures other { self.new.write_faults ≡ self.old.write_faults }
         ensures plan { Shows self.old self.new Call.Read ⊥ result }
+        ensures few { IfOk result (λ n. n ≤ most_taken self.old) }
     {
         if self.plan.fails(Call::Read) {
             return Err(self.read_fault());
         }
-        Ok(self.store.read(into))
+        let most = self.most();
+        Ok(self.store.read(most, into))
     }
 
     fn create(&mut self, name: &str) -> Result<(), Refused>
@@ -175,12 +202,14 @@ impl Files for MemFiles {
         ensures cause { HasCause self.old.write_faults self.new.write_faults result }
         ensures other { self.new.read_faults ≡ self.old.read_faults }
         ensures plan { Shows self.old self.new Call.Write ⊥ result }
+        ensures few { IfOk result (λ n. n ≤ most_taken self.old) }
     {
         if self.plan.fails(Call::Write) {
             return Err(self.write_fault());
         }
-        self.store.write(from)?;
-        Ok(from.len())
+        let count = from.len().min(self.most());
+        self.store.write(&from[..count])?;
+        Ok(count)
     }
 
     fn finish(&mut self) -> Result<(), Refused>

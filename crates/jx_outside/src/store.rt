@@ -92,16 +92,19 @@ impl Store {
         self.reading = true;
     }
 
-    pub fn read(&mut self, into: &mut [u8]) -> usize
+    /// Reads as many bytes as are left and have room, but no more than `most`.
+    pub fn read(&mut self, most: usize, into: &mut [u8]) -> usize
+        requires { 1 ≤ most }
         ensures read { meaning_of self.new ≡ after_read result (meaning_of self.old) }
         ensures room { result ≤ length into.new }
+        ensures few { result ≤ most }
         ensures takes { IfSome (meaning_of self.old).left (λ left. Takes left result (length into.new) into.new) }
     {
         if self.at >= self.opened.len() {
             return 0;
         }
         let left = &self.opened[self.at..];
-        let count = into.len().min(left.len());
+        let count = into.len().min(left.len()).min(most);
         into[..count].copy_from_slice(&left[..count]);
         self.at += count;
         count

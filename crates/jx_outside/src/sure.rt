@@ -67,7 +67,7 @@ impl Files for SureFiles {
     }
 
     fn read(&mut self, into: &mut [u8]) -> Result<usize, Refused> {
-        Ok(self.store.read(into))
+        Ok(self.store.read(usize::MAX, into))
     }
 
     fn create(&mut self, name: &str) -> Result<(), Refused> {

@@ -92,6 +92,24 @@ fn steps(files: &mut MemFiles) -> u32 {
 }
 
 #[test]
+fn memory_takes_few_bytes(rt: HostRuntime) -> Result<(), Fail> {
+    let mut files = MemFiles::new(rt.alloc());
+    files.short(2);
+    files.create("a")?;
+    assert_eq!(rt; files.write(&[1, 2, 3])?, 2);
+    assert_eq!(rt; files.write(&[3])?, 1);
+    assert_eq!(rt; files.write(&[])?, 0);
+    files.finish()?;
+    files.open("a")?;
+    let mut piece = [0u8; 3];
+    assert_eq!(rt; files.read(&mut piece)?, 2);
+    assert_eq!(rt; files.read(&mut piece)?, 1);
+    assert_eq!(rt; piece[0], 3);
+    assert_eq!(rt; files.read(&mut piece)?, 0);
+    Ok(())
+}
+
+#[test]
 fn sure_files_are_found(rt: HostRuntime) -> Result<(), Fail> {
     let mut files = SureFiles::new(rt.alloc());
     files.put("a", &[7])?;

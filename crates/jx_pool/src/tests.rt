@@ -265,6 +265,8 @@ impl Holding {
 }
 
 impl Gate for Holding {
+    fn begin(&self, _blocks: u32) {}
+
     fn enter(&self, block: u32) {
         if block == 0 {
             self.entered[0].fetch_add(1, SeqCst);

@@ -1,16 +1,18 @@
 -- The state that a ring shows after each of its events, and how often a number stands in the lists.
-use Rattle.std.proofs.Common.{◌≡◌, ℕ, zero, suc, ◌+◌, ◌-◌, ◌<◌, ◌≤◌, ◌==◌, nat_le, nat_lt, cond, ◌&&◌, List, [], ◌∷◌, map, length, refl, ap, subst, ◌∙◌, inl, inr, arith}
+use Rattle.std.proofs.Common.{◌≡◌, ℕ, zero, suc, ◌+◌, ◌-◌, ◌<◌, ◌≤◌, ◌==◌, nat_le, nat_lt, cond, ◌&&◌, List, [], ◌∷◌, ◌++◌, map, length, refl, sym, ap, subst, ◌∙◌, inl, inr, arith}
 use Rattle.std.specs.List.{sum_by}
 use Rattle.std.proofs.lemmas.Bool.{cases_lt}
 use Rattle.std.proofs.lemmas.Bool.Decides.{nat_tests}
+use Rattle.std.proofs.lemmas.List.{map-append}
 use Rattle.std.proofs.lemmas.List.Sums.{sum_by-cons}
 use mathlib.Core.Option.{some}
 use lib.ListN.{get_elem?}
 use Rattle.jx_store.specs.declared.event.Taped.{Taped}
 use Rattle.jx_store.specs.declared.work.Named.{Named}
 use Rattle.jx_store.specs.Setup.{Setup}
+use Rattle.jx_store.specs.Machine.{State as Store}
 use Rattle.jx_ring.specs.declared.view.Taken.{Taken}
-use Rattle.jx_ring.specs.Claims.{taken, stretch, put}
+use Rattle.jx_ring.specs.Claims.{taken, stretch}
 use Rattle.jx_ring.specs.Rule.{Phase, free, held, parked, leaving, claim_in, InPhase}
 use Rattle.jx_ring.specs.Shows.{shown, but_seen}
 use Rattle.jx_ring.specs.Laws.{is_number, ClaimsStandOnce, ClaimIsEvent, CommitIsEvent, DrainIsEvent}
@@ -37,12 +39,23 @@ module _ {V : Type 0} (p : Setup) (workers : ℕ) (Ok : ℕ → Named V → Type
       (c.0, (λ i. shown p (c.1 i) (c.2 i) (c.3 i) (c.4 i)) ∙ q.0, q.1)
 
   pub drain_is : DrainIsEvent p workers Ok
-  drain_is s r id v t e at live drains is items ok room =
+  drain_is s r id v t at live drains ok room =
       let c = draining.ended_at p workers Ok s r id v t (map taken t.items) at live drains refl ok room in
       let P = r.placed in let pos = P.some_slot in
+      let mine = (P.seats id v at).drains (map taken t.items) drains in let e : Taped (Named V) = mine.1.0 in let is = mine.1.1 in
       let cell = (subst (InPhase p Ok r.drained r.next r.drained) is (P.cells r.drained (omega arith) (omega (arith, pos))).phase) in
       let q = drain_event p r.drained r.next id (r.drained + p.window) r.phase r.tape e cell.0 P.near is cell.1.number in
-      (c.0, (λ i. shown p (c.1 i) (c.2 i) (c.3 i) (c.4 i)) ∙ ap (shown p (r.drained + 1) r.next (put r.phase (r.drained + p.window) free)) items ∙ q.0, q.1)
+      let tape : r.tape ++ e ∷ [] ≡ _ = ap (λ (y : Store (Named V)). y.tape) q.0 in (
+        c.0,
+        record {
+          after_is = (λ i. shown p (c.1 i) (c.2 i) (c.3 i) (c.4 i)) ∙ ap (λ (y : Store (Named V)). record y { tape = t.items }) q.0;
+          entries = mine.1.2 ∙ sym (map-append taken r.tape (e ∷ [])) ∙ ap (map taken) tape;
+          reply = q.1;
+        },
+        e,
+        is,
+        sym tape,
+      )
 
   -- a stretch has a number once, where it has it
   once : (k a n : ℕ) → stretch (λ q. cond (q == k) 1 0) a n ≡ cond (nat_le a k && nat_lt k (a + n)) 1 0

@@ -10,7 +10,7 @@ use Rattle.jx_store.specs.declared.event.Reply.TheVariants.{Claimed, Committed, 
 use Rattle.jx_store.specs.declared.event.Taped.{Taped}
 use Rattle.jx_store.specs.declared.work.Named.{Named}
 use Rattle.jx_store.specs.Setup.{Setup, end_of, Within}
-use Rattle.jx_store.specs.Machine.{does}
+use Rattle.jx_store.specs.Machine.{State as Store, does}
 use Rattle.jx_ring.specs.declared.view.Taken.{Taken}
 use Rattle.jx_ring.specs.declared.view.RingView.{RingView}
 use Rattle.jx_ring.specs.declared.view.Place.{Place}
@@ -41,13 +41,19 @@ module _ {V : Type 0} (p : Setup) (workers : ℕ) (Ok : ℕ → Named V → Type
       → (q : Ring p workers Ok record { words = slice_set s.words (t.number % p.window + 2) (t.number + 1); homes = slice_set s.homes (t.number % p.window) (some (Full e)); views = slice_set s.views id (commits_it v (taken e ∷ [])) })
       × (shows p workers Ok _ q ≡ (does (shows p workers Ok s r) (Commit t.worker t.number e.named)).0) × ((does (shows p workers Ok s r) (Commit t.worker t.number e.named)).1 ≡ Committed)
 
-  -- a store of the next even value into DRAIN is a drain, where the tape that comes home is that which
-  -- was taken, with the head's entry behind
+  -- the store after a drain: the machine's, but that the tape is the one that came home, whose entries
+  -- are the machine's but for their values
+  pub record IsDrained (now after : Store (Named V)) (home : List (Taped (Named V))) : Type 0 where
+    pub after_is : after ≡ record (does now Drain).0 { tape = home }
+    pub entries : map taken home ≡ map taken (does now Drain).0.tape
+    pub reply : (does now Drain).1 ≡ Drained now.drained
+
+  -- a store of the next even value into DRAIN is a drain, which takes the head's entry to the tape's end
   abbrev pub DrainIsEvent : Type 0
-  DrainIsEvent = (s : State (Place V) RingView) (r : Ring p workers Ok s) (id : ℕ) (v : RingView) (t : Vec (Taped (Named V))) (e : Taped (Named V)) → get_elem? s.views id ≡ some v → v.stands ≢ [] → v.drains ≡ Some (map taken t.items)
-      → r.phase r.drained ≡ leaving id e → t.items ≡ r.tape ++ e ∷ [] → TapeOk p Ok t.items → length p.sizes ≤ vec_capacity t
+  DrainIsEvent = (s : State (Place V) RingView) (r : Ring p workers Ok s) (id : ℕ) (v : RingView) (t : Vec (Taped (Named V))) → get_elem? s.views id ≡ some v → v.stands ≢ [] → v.drains ≡ Some (map taken t.items)
+      → TapeOk p Ok t.items → length p.sizes ≤ vec_capacity t
       → (q : Ring p workers Ok record { words = slice_set s.words 1 (2 * v.drained + 2); homes = slice_set (slice_set s.homes p.window (some (Tape t))) (v.drained % p.window) (some Empty); views = slice_set s.views id (ends v) })
-      × (shows p workers Ok _ q ≡ (does (shows p workers Ok s r) Drain).0) × ((does (shows p workers Ok s r) Drain).1 ≡ Drained r.drained)
+      × IsDrained (shows p workers Ok s r) (shows p workers Ok _ q) t.items × (e : Taped (Named V)) × (r.phase r.drained ≡ leaving id e) × ((does (shows p workers Ok s r) Drain).0.tape ≡ r.tape ++ e ∷ [])
 
   pub record StepsAreEvents : Type 0 where
     pub claim : ClaimIsEvent

@@ -11,7 +11,8 @@ pub fn claims_stand_once<V: Work, N: Bounds<V::Job>>()
 {}
 
 /// Every state that meets the rule shows a state of the store machine, but for `seen`. A claim that is
-/// won, a commit and the end of a drain are its events.
+/// won, a commit and the end of a drain are its events; the tape after a drain is the machine's but for
+/// the values, which are those of the tape that came home.
 pub fn steps_are_events<V: Work, N: Bounds<V::Job>>()
     ensures { StepsAreEvents N.setup N.workers (IsOf V.number V.job V.bad N.setup.first N.jobs) }
 {}

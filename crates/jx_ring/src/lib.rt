@@ -17,4 +17,8 @@ pub use rule::Turns;
 pub use view::{Pass, Place, RingView, Taken};
 
 #[cfg(test)]
+mod byte_tests;
+#[cfg(test)]
 mod tests;
+#[cfg(test)]
+mod thread_tests;
