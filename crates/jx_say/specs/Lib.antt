@@ -1,0 +1,6 @@
+pub mod Choices
+pub mod Limits
+pub mod Names
+pub mod Rules
+pub mod Sentences
+pub mod Text

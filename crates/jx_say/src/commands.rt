@@ -1,4 +1,6 @@
 //! How the program is called: help, usage, and what is wrong with words.
+ghost use Rattle.std.specs.Prelude.{IfOk, string_bytes};
+ghost use Rattle.jx_say.specs.Sentences.{EndsLine};
 
 use crate::forms::value_text;
 use crate::options::{COUNT, OptionText, option_text};
@@ -10,17 +12,40 @@ static VERSION: &str = "0.9";
 
 static ABOUT: &str = "Changes how a JPEG 2000 codestream is packed, and no coefficient of it.";
 
-static MORE: &str = "Examples:
+static MORE: &str = "\
+One line on standard output says how it went, a sentence on standard error
+why it was refused. jx transcode --help says all options, with examples.";
+
+static TRANSCODE: &str = "Writes a codestream packed anew: order, layers, precincts, style";
+
+static EXAMPLES: &str = "\
+Examples:
   jx transcode in.j2k out.j2k --order rpcl --plt --tile-parts r
   jx transcode in.j2k out.j2k --layers planes:2
   jx transcode in.j2k out.j2k --style terminate+reset --threads 4
 
-One line on standard output says how it went, a sentence on standard
-error why it was refused. docs/RULES.md has all rules and limits.";
+The picture is the same in each: no coefficient changes. A JP2 file isn't
+read: take the codestream out of its box first. docs/RULES.md has all rules
+and limits.";
 
-static USAGE: &str = "Usage: jx transcode IN OUT [OPTIONS]
-       jx transcode --help says all options, with examples
-";
+static MAKE: &str = "Makes a test picture in memory, transcodes it and says one line";
+
+static CHECK: &str = "\
+It shows whether an installation works: no file is read or written, and the
+line is the same on every machine.
+
+Example:
+  jx make 5 1 1
+says
+  make: 3 blocks, 1101 bytes in, 293 bytes out, sum 14543
+which are the picture's code-blocks, the bytes before and after, and the sum
+of those after. jx make 1 2048 1536 takes longer, and shows how fast it is.";
+
+static USAGE: &str = "\
+Usage: jx transcode IN OUT [OPTIONS]
+       jx make SEED WIDTH HEIGHT
+
+jx --help says what they do, jx transcode --help all options.";
 
 /// An option as clap takes it.
 fn arg_of<'a>(alloc: Global, text: OptionText) -> Arg<'a> {
@@ -47,9 +72,11 @@ fn place_of<'a>(alloc: Global, name: &'a str, value: &'a str, help: &'a str) -> 
         .action(ArgAction::Set)
 }
 
-/// The command `transcode` under a name, with its help.
-fn transcode<'a>(alloc: Global, name: &'a str) -> Result<Command<'a>, AllocError> {
-    let command = Command::new(alloc, name).about(ABOUT).after_help(MORE);
+/// The command `transcode`, with its help.
+fn transcode<'a>(alloc: Global) -> Result<Command<'a>, AllocError> {
+    let command = Command::new(alloc, "transcode")
+        .about(TRANSCODE)
+        .after_help(EXAMPLES);
     let from = place_of(alloc, "in", "IN", "the codestream that is read");
     let to = place_of(
         alloc,
@@ -64,18 +91,47 @@ fn transcode<'a>(alloc: Global, name: &'a str) -> Result<Command<'a>, AllocError
     Ok(command)
 }
 
+/// The command `make`, with its help.
+fn make<'a>(alloc: Global) -> Result<Command<'a>, AllocError> {
+    let seed = place_of(
+        alloc,
+        "seed",
+        "SEED",
+        "which picture: a number from 0 to 18446744073709551615",
+    );
+    let width = place_of(alloc, "width", "WIDTH", "its columns, 1 to 4096");
+    let height = place_of(alloc, "height", "HEIGHT", "its rows, 1 to 4096");
+    let command = Command::new(alloc, "make").about(MAKE).after_help(CHECK);
+    command.arg(seed)?.arg(width)?.arg(height)
+}
+
 /// The program, with its help.
 fn program<'a>(alloc: Global) -> Result<Command<'a>, AllocError> {
     let command = Command::new(alloc, "jx")
         .version(VERSION)
         .about(ABOUT)
+        .after_help(MORE)
         .subcommand_required(true)
         .arg_required_else_help(true);
-    command.subcommand(transcode(alloc, "transcode")?)
+    let command = command.subcommand(transcode(alloc)?)?;
+    command.subcommand(make(alloc)?)
 }
 
-/// What is wrong, without clap's own usage, and then the usage in two lines.
-fn mistake(alloc: Global, text: &str) -> Result<String, AllocError> {
+/// A text with one line feed at its end.
+fn ended(alloc: Global, text: &str) -> Result<String, AllocError>
+    ensures { IfOk result (λ text. EndsLine (string_bytes text)) }
+{
+    let line = match text.strip_suffix('\n') {
+        Some(line) => line,
+        None => text,
+    };
+    format!(in alloc; "{line}\n")
+}
+
+/// What is wrong, without clap's own usage, and then the usage.
+fn mistake(alloc: Global, text: &str) -> Result<String, AllocError>
+    ensures { IfOk result (λ text. EndsLine (string_bytes text)) }
+{
     let mut what = text;
     if let Some((before, _)) = what.split_once("\n\nUsage:") {
         what = before;
@@ -83,17 +139,20 @@ fn mistake(alloc: Global, text: &str) -> Result<String, AllocError> {
     if let Some((before, _)) = what.split_once("\n\nFor more information") {
         what = before;
     }
-    format!(in alloc; "{what}\n\n{USAGE}")
+    let text = format!(in alloc; "{what}\n\n{USAGE}")?;
+    ended(alloc, text.as_str())
 }
 
 /// What clap says of these words: the help or the version as they are, a mistake with the usage.
-fn told(alloc: Global, error: &Error) -> Result<String, AllocError> {
+fn told(alloc: Global, error: &Error) -> Result<String, AllocError>
+    ensures { IfOk result (λ text. EndsLine (string_bytes text)) }
+{
     let text = format!(in alloc; "{error}")?;
     match error.kind() {
         ErrorKind::DisplayHelp
         | ErrorKind::DisplayVersion
         | ErrorKind::DisplayHelpOnMissingArgumentOrSubcommand
-        | ErrorKind::OutOfMemory => Ok(text),
+        | ErrorKind::OutOfMemory => ended(alloc, text.as_str()),
         _ => mistake(alloc, text.as_str()),
     }
 }
@@ -103,7 +162,9 @@ fn told(alloc: Global, error: &Error) -> Result<String, AllocError> {
 /// # Errors
 ///
 /// `AllocError` where memory is refused.
-pub(crate) fn words_text(alloc: Global, words: &[String]) -> Result<String, AllocError> {
+pub(crate) fn words_text(alloc: Global, words: &[String]) -> Result<String, AllocError>
+    ensures { IfOk result (λ text. EndsLine (string_bytes text)) }
+{
     if words.is_empty() {
         return mistake(
             alloc,
@@ -118,14 +179,4 @@ pub(crate) fn words_text(alloc: Global, words: &[String]) -> Result<String, Allo
         }
         Err(error) => told(alloc, &error),
     }
-}
-
-/// The help of `transcode`, as `jx transcode --help` says it.
-///
-/// # Errors
-///
-/// `AllocError` where memory is refused.
-pub fn help_of(alloc: Global) -> Result<String, AllocError> {
-    let mut command = transcode(alloc, "jx transcode")?;
-    command.render_help()
 }

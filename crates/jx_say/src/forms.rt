@@ -1,17 +1,66 @@
 //! Which value hasn't the form that its option takes.
 
-use crate::words::value_of;
+use crate::words::{name_at, names_make, value_of};
 use std::alloc::{AllocError, Global};
 
-/// Whether a text is a number from 1 to the most, of digits without a sign or leading zeros.
-fn is_number(text: &str, most: u32) -> bool {
+/// Whether a text is a number up to the most, in digits without a sign or leading zeros.
+fn is_number(text: &str, most: u64) -> bool {
     if text.starts_with('0') || text.starts_with('+') {
         return false;
     }
-    match text.parse::<u32>() {
-        Ok(number) => number >= 1 && number <= most,
+    match text.parse::<u64>() {
+        Ok(number) => number <= most,
         Err(_) => false,
     }
+}
+
+/// The bit that a name has among those of `--style`.
+fn style_bit(name: &str) -> Option<u8> {
+    match name {
+        "bypass" => Some(1),
+        "reset" => Some(2),
+        "terminate" => Some(4),
+        "causal" => Some(8),
+        "segment" => Some(16),
+        _ => None,
+    }
+}
+
+/// Whether a text is a style: each name at most once.
+fn is_style(text: &str) -> bool {
+    if text == "keep" || text == "none" {
+        return true;
+    }
+    let mut seen = 0;
+    for name in text.split('+') {
+        let Some(bit) = style_bit(name) else {
+            return false;
+        };
+        if seen & bit != 0 {
+            return false;
+        }
+        seen |= bit;
+    }
+    true
+}
+
+/// A value that is none of its option's.
+fn wrong(alloc: Global, value: &str, name: &str, form: &str) -> Result<String, AllocError> {
+    format!(in alloc; "error: invalid value '{value}' for '{name}'\n  [{form}]")
+}
+
+/// A number that is none of its option's.
+fn wrong_number(
+    alloc: Global,
+    value: &str,
+    name: &str,
+    least: u8,
+    most: u64,
+) -> Result<String, AllocError> {
+    let form = format!(in alloc;
+        "a number from {least} to {most}, without a sign or leading zeros"
+    )?;
+    wrong(alloc, value, name, form.as_str())
 }
 
 /// What is wrong with the number of an option.
@@ -19,14 +68,12 @@ fn number_text(
     alloc: Global,
     words: &[String],
     name: &str,
-    most: u32,
+    most: u64,
 ) -> Result<Option<String>, AllocError> {
     if let Some(value) = value_of(words, name) {
         if !is_number(value, most) {
-            let text = format!(in alloc;
-                "error: invalid value '{value}' for '--{name} <N>': it takes a number from 1 to {most}, in digits without a sign or leading zeros"
-            )?;
-            return Ok(Some(text));
+            let option = format!(in alloc; "{name} <N>")?;
+            return Ok(Some(wrong_number(alloc, value, option.as_str(), 1, most)?));
         }
     }
     Ok(None)
@@ -34,29 +81,52 @@ fn number_text(
 
 /// What the other values have to be.
 fn list_text(alloc: Global, words: &[String]) -> Result<String, AllocError> {
-    match (value_of(words, "precincts"), value_of(words, "style")) {
-        (Some(list), None) => format!(in alloc;
-            "error: invalid value '{list}' for '--precincts <LIST>': it takes keep, max, or 1 to 33 items XxY with commas between them, X and Y from 0 to 15"
-        ),
-        (None, Some(style)) => format!(in alloc;
-            "error: invalid value '{style}' for '--style <NAMES>': it takes keep, none, or names with + between them, each of bypass, reset, terminate, causal, segment at most once"
-        ),
-        _ => String::from_str(
-            alloc,
-            "error: the value of --precincts, --style or --layers isn't one that it takes",
-        ),
+    if let Some(style) = value_of(words, "--style") {
+        if !is_style(style) {
+            return wrong(
+                alloc,
+                style,
+                "--style <NAMES>",
+                "keep, none, or names with + between them, each at most once:\n  bypass, reset, terminate, causal, segment",
+            );
+        }
     }
+    if let Some(list) = value_of(words, "--precincts") {
+        return wrong(
+            alloc,
+            list,
+            "--precincts <LIST>",
+            "keep, max, or 1 to 33 items XxY with commas, X and Y from 0 to 15",
+        );
+    }
+    String::from_str(alloc, "error: a value isn't one that its option takes")
+}
+
+/// What is wrong with the numbers of `make`.
+fn make_text(alloc: Global, words: &[String]) -> Result<String, AllocError> {
+    let seed = name_at(words, 0);
+    if seed != "0" && !is_number(seed, u64::MAX) {
+        return wrong_number(alloc, seed, "<SEED>", 0, u64::MAX);
+    }
+    let width = name_at(words, 1);
+    if !is_number(width, 4096) {
+        return wrong_number(alloc, width, "<WIDTH>", 1, 4096);
+    }
+    wrong_number(alloc, name_at(words, 2), "<HEIGHT>", 1, 4096)
 }
 
 /// What is wrong with a value of words that clap takes.
 pub(crate) fn value_text(alloc: Global, words: &[String]) -> Result<String, AllocError> {
-    if let Some(text) = number_text(alloc, words, "threads", 64)? {
+    if names_make(words) {
+        return make_text(alloc, words);
+    }
+    if let Some(text) = number_text(alloc, words, "--threads", 64)? {
         return Ok(text);
     }
-    if let Some(text) = number_text(alloc, words, "window", 1024)? {
+    if let Some(text) = number_text(alloc, words, "--window", 1024)? {
         return Ok(text);
     }
-    if let Some(text) = number_text(alloc, words, "window-bytes", 268_435_456)? {
+    if let Some(text) = number_text(alloc, words, "--window-bytes", 268_435_456)? {
         return Ok(text);
     }
     list_text(alloc, words)

@@ -1,16 +1,16 @@
 //! What a keeper of pictures is told beside the one line for scripts: why a run was refused, what to ask instead, and how the program is
-//! called. No contract speaks of these texts; each is made of one table of rules, limits, choices and words.
+//! called. Each text is the sentence of a row of rules, limits and choices, with the names, the place and the number in it.
 #![tactic(auto)]
 
 mod choices;
 mod commands;
 mod forms;
+mod limits;
 mod options;
 mod rules;
 mod sentence;
 mod words;
 
-pub use commands::help_of;
 pub use sentence::explain;
 
 /// Why a run was refused.
@@ -20,7 +20,7 @@ pub enum Refusal {
     Words,
     /// The input violates a rule of the standard at a byte.
     Rule {
-        /// The rule, 1 to 36.
+        /// The rule, 1 to 31.
         number: u8,
         /// The byte, counted from 0.
         place: u32,
@@ -34,7 +34,7 @@ pub enum Refusal {
     },
     /// The input can't have what is asked.
     Choice {
-        /// The choice, 1 to 9.
+        /// The choice, 1 to 7.
         number: u8,
         /// The code-block or the tile.
         place: u32,

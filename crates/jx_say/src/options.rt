@@ -2,14 +2,14 @@
 
 /// An option with its values, its default and an example.
 #[derive(Clone, Copy)]
-pub struct OptionText {
-    pub name: &'static str,
+pub(crate) struct OptionText {
+    pub(crate) name: &'static str,
     /// What stands for its value; nothing for a flag.
-    pub value: &'static str,
+    pub(crate) value: &'static str,
     /// The texts that it takes, where they are listed.
-    pub listed: &'static [&'static str],
-    pub heading: &'static str,
-    pub help: &'static str,
+    pub(crate) listed: &'static [&'static str],
+    pub(crate) heading: &'static str,
+    pub(crate) help: &'static str,
 }
 
 static NONE: [&str; 0] = [];
@@ -55,10 +55,10 @@ fn listed(
 }
 
 /// How many options there are.
-pub const COUNT: usize = 11;
+pub(crate) const COUNT: usize = 11;
 
 /// The option of a number, in the order of the help.
-pub fn option_text(number: usize) -> OptionText {
+pub(crate) fn option_text(number: usize) -> OptionText {
     match number {
         0 => listed(
             "order",
@@ -70,19 +70,19 @@ pub fn option_text(number: usize) -> OptionText {
             "precincts",
             "LIST",
             PACKING,
-            "keep, max, or exponents from resolution 0 up\nas in --precincts 7x7,8x8; default keep",
+            "keep, max, or exponents from resolution 0 up:\n7x7 is 128 by 128, the last one is for all above\ndefault keep; as in --precincts 7x7,8x8",
         ),
         2 => option(
             "layers",
             "RULE",
             PACKING,
-            "keep, one, cuts:N,N.. (passes 1 to 220)\nor planes:N (1 to 74); default keep\nas in --layers planes:2",
+            "keep, one, cuts:N,N.. (a new layer at each of\nthese coding passes, 1 to 220, rising), or\nplanes:N (one for each N bit-planes, 1 to 74)\ndefault keep; as in --layers planes:2",
         ),
         3 => listed(
             "tile-parts",
             "BY",
             &PARTS,
-            "none, r, l or c: a new tile-part for each\nresolution, layer or component; default none\nas in --tile-parts r",
+            "none, r, l or c: a new tile-part for each\nresolution, layer or component\ndefault none; as in --tile-parts r",
         ),
         4 => option("sop", "", PACKING, "an SOP segment before each packet"),
         5 => option(
@@ -101,25 +101,25 @@ pub fn option_text(number: usize) -> OptionText {
             "style",
             "NAMES",
             CODING,
-            "keep, none, or names with + between them:\nbypass, reset, terminate, causal, segment\nas in --style terminate+reset; default keep",
+            "keep, none, or names with + between them:\nbypass, reset, terminate, causal, segment\ndefault keep; as in --style terminate+reset",
         ),
         8 => option(
             "threads",
             "N",
             WORK,
-            "workers that code blocks anew, 1 to 64\ndefault 1; as in --threads 4",
+            "workers that code blocks anew\n1 to 64, default 1; as in --threads 4",
         ),
         9 => option(
             "window",
             "N",
             WORK,
-            "blocks between claim and sequence, 1 to 1024\ndefault 64; as in --window 16",
+            "blocks that are in work or wait for their turn\n1 to 1024, default 64; as in --window 16",
         ),
         _ => option(
             "window-bytes",
             "N",
             WORK,
-            "bytes of several such blocks together, 1 to\n268435456, the default",
+            "bytes of several such blocks together\n1 to 268435456, the default",
         ),
     }
 }

@@ -37,7 +37,7 @@ fn refusals_are_explained(rt: HostRuntime) -> Result<(), Fail> {
             alloc,
             rule,
             "jx transcode in.j2k out.j2k",
-            "in.j2k: a COD or COC segment at byte 45: "
+            "in.j2k: a COD or COC segment at byte 45:"
         )?
     );
     let choice = Refusal::Choice {
@@ -69,7 +69,7 @@ fn refusals_are_explained(rt: HostRuntime) -> Result<(), Fail> {
             alloc,
             limit,
             "jx transcode a b",
-            "a: 65536 tiles, and this program takes at most 65535"
+            "a: 65536 tiles,\n    and this program takes at most 65535"
         )?
     );
     assert!(rt;
@@ -124,10 +124,47 @@ fn words_are_explained(rt: HostRuntime) -> Result<(), Fail> {
 }
 
 #[test]
+fn make_is_explained(rt: HostRuntime) -> Result<(), Fail> {
+    let alloc = rt.alloc();
+    assert!(rt;
+        says(
+            alloc,
+            Refusal::WriteFault,
+            "jx make 1 2 3",
+            "jx: standard output"
+        )?
+    );
+    assert!(rt; says(alloc, Refusal::Words, "jx make 1", "<WIDTH>")?);
+    assert!(rt; says(alloc, Refusal::Words, "jx make 01 2 3", "'01' for '<SEED>'")?);
+    assert!(rt; says(alloc, Refusal::Words, "jx make 0 0 3", "'0' for '<WIDTH>'")?);
+    assert!(rt;
+        says(
+            alloc,
+            Refusal::Words,
+            "jx make 0 2 4097",
+            "'4097' for '<HEIGHT>'"
+        )?
+    );
+    Ok(())
+}
+
+#[test]
 fn help_fits_a_terminal(rt: HostRuntime) -> Result<(), Fail> {
-    let help = help_of(rt.alloc())?;
-    for line in help.as_str().split('\n') {
-        assert!(rt; line.len() <= 80, "{line}");
+    let alloc = rt.alloc();
+    for words in [
+        "jx --help",
+        "jx transcode --help",
+        "jx make --help",
+        "jx transcode a b --style x",
+        "jx transcode a b --precincts x",
+        "jx transcode a b --window-bytes x",
+        "jx make x 1 1",
+    ] {
+        let words = words_of(alloc, words)?;
+        let text = explain(alloc, Refusal::Words, &words)?;
+        for line in text.as_str().split('\n') {
+            assert!(rt; line.len() <= 80, "{line}");
+        }
     }
     Ok(())
 }

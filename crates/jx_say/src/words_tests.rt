@@ -8,7 +8,9 @@ use std::test::Fail;
 static USAGE: &str = "
 
 Usage: jx transcode IN OUT [OPTIONS]
-       jx transcode --help says all options, with examples
+       jx make SEED WIDTH HEIGHT
+
+jx --help says what they do, jx transcode --help all options.
 ";
 
 // Whether what is said begins with a text and ends with the usage, which stands there once.
@@ -43,8 +45,7 @@ fn help_is_said(rt: HostRuntime) -> Result<(), Fail> {
         )?
     );
     assert!(rt; says(alloc, Refusal::Words, "jx --version", "jx 0.9")?);
-    let help = help_of(alloc)?;
-    assert!(rt; help.as_str().contains("Usage: jx transcode"));
+    assert!(rt; says(alloc, Refusal::Words, "jx make --help", "Usage: jx make")?);
     Ok(())
 }
 
@@ -92,7 +93,7 @@ fn wrong_values_are_named(rt: HostRuntime) -> Result<(), Fail> {
         is_mistake(
             alloc,
             "jx transcode a b --threads 65",
-            "'65' for '--threads <N>': it takes a number from 1 to 64"
+            "'65' for '--threads <N>'\n  [a number from 1 to 64, "
         )?
     );
     assert!(rt;
@@ -124,6 +125,10 @@ fn wrong_values_are_named(rt: HostRuntime) -> Result<(), Fail> {
             "'bypass+' for '--style <NAMES>'"
         )?
     );
+    let both = "jx transcode a b --style reset+segment --precincts 16x1";
+    assert!(rt; is_mistake(alloc, both, "'16x1' for '--precincts <LIST>'")?);
+    let twice = "jx transcode a b --precincts 7x7 --style reset+reset";
+    assert!(rt; is_mistake(alloc, twice, "'reset+reset' for '--style <NAMES>'")?);
     Ok(())
 }
 
