@@ -3,7 +3,7 @@ ghost use Rattle.jx_grid.specs.Cells.{Cells, HasSize};
 ghost use Rattle.jx_passdec.specs.Short.{AreShort};
 
 use super::*;
-use jx_base::{Band, NoMemory, Style};
+use jx_base::{Band, NoMemory, Style, is_raw};
 use jx_grid::{Coded, Coef, Segments, place};
 use jx_passdec::{Decoded, decode_passes, sound};
 use std::alloc::Global;
@@ -126,6 +126,24 @@ fn one_coefficient(rt: HostRuntime) -> Result<(), Fail> {
                 assert_eq!(rt; list.as_slice(), [0xFF, 0x7F].as_slice());
             }
         }
+    }
+    Ok(())
+}
+
+// Selective bypass: of 13 passes 0 to 9 are one coded segment, 10 and 11 a raw one, and 12 a coded one; of
+// 12 the last segment is the raw one.
+#[test]
+fn bypass_segments(rt: HostRuntime) -> Result<(), Fail> {
+    let style = Style { bits: 0x01 };
+    let grid = stated(rt.alloc(), 5, 6).ok().ok_or("no memory")?;
+    for (passes, count) in [(10u16, 1usize), (11, 2), (12, 2), (13, 3)] {
+        assert!(rt; 10 <= passes && passes <= 13);
+        let lists = encode_passes(rt.alloc(), &grid, Band::HL, style, 5, passes)
+            .ok()
+            .ok_or("no memory")?;
+        assert_eq!(rt; lists.len(), count);
+        let last = passes - 1;
+        assert_eq!(rt; is_raw(style, last), count == 2, "pass {last}");
     }
     Ok(())
 }
