@@ -12,3 +12,6 @@ pub mod OneVerdictLemmas
 pub mod ToldLemmas
 pub mod SomeVerdictLemmas
 pub mod WrongLemmas
+pub mod MakeLemmas
+pub mod RunLemmas
+pub mod AcceptedLemmas

@@ -57,7 +57,7 @@ stops_once laws input f g short (inr x) (inl y) = absurd (laws.read input g x.st
 stops_once laws input f g short (inr x) (inr y) = tile_once laws input f g short x y
 
 -- what is read whole stops nowhere, and is read in one way
-reads_on : Laws → (input : List ℕ) (s : Stream) (blocks : List Block) (f : StreamFault) → length input ≤ most_bytes → Reads input s blocks → Stops input f → ⊥
+pub reads_on : Laws → (input : List ℕ) (s : Stream) (blocks : List Block) (f : StreamFault) → length input ≤ most_bytes → Reads input s blocks → Stops input f → ⊥
 reads_on laws input s blocks f short reads (inl first) = laws.read input f s first reads.read
 reads_on laws input s blocks f short reads (inr breaks) =
     let one : breaks.stream ≡ s = laws.one_stream input breaks.stream s breaks.read.spelled reads.read.spelled in

@@ -1,11 +1,10 @@
 -- Runs after what left the files as they were, on inputs that were cut, and with their line said.
-use Rattle.std.proofs.Common.{◌≡◌, Bool, ◌⊎◌, ◌∙◌, ◌<◌, ◌≤◌, ◌+◌, min, ℕ, List, [], length, take, inl, inr, refl, subst, ap, Option, Some, None, IfSome, arith}
+use Rattle.std.proofs.Common.{◌≡◌, ◌⊎◌, ◌∙◌, ◌<◌, ◌≤◌, ◌+◌, min, ℕ, List, [], length, take, inl, inr, refl, subst, ap, Option, Some, None, IfSome, arith}
 use Rattle.std.proofs.lemmas.List.{take_all, length-take}
 use Rattle.std.proofs.lemmas.Bool.{cases_lt}
 use Rattle.jx_outside.specs.Device.{Meaning, joined}
 use Rattle.jx_layers.specs.declared.StreamFacts.{StreamFacts}
 use Rattle.jx_layers.specs.Rule.{Rule}
-use Rattle.jx_plan.specs.Planned.{chosen}
 use Rattle.jx_plan.specs.Wanted.{Wanted}
 use Rattle.jx_recast.specs.Aims.{Aim}
 use Rattle.jx_recast.specs.declared.status.Status.{Status}
@@ -191,13 +190,6 @@ pub ends_as : (r : Request) (rule : List ℕ → StreamFacts → Option Rule) (f
     → work ≡ r.work → EndsFiles (record { from = from; to = to; wanted = w; work = work }) rule s blocks bytes tape old new → EndsFiles r rule s blocks bytes tape old new
 ends_as r rule from to w work s blocks bytes tape old new e f h g ends =
     subst (λ (x : Request). EndsFiles x rule s blocks bytes tape old new) (same_request r from to w work e f h g) ends
-
--- with the planners that were lent
-pub ends_lent : {B : Type 0} (lent planners : List B) → lent ≡ planners → (serves : B → List ℕ → Bool) (rule : B → List ℕ → StreamFacts → Option Rule) (request : Request) (s : Status) (blocks bytes : ℕ)
-    (tape : List TapeEntry) (old new : Meaning) → EndsFiles request (λ text facts. chosen (λ (b : B). serves b text) (λ (b : B). rule b text facts) lent) s blocks bytes tape old new
-    → EndsFiles request (λ text facts. chosen (λ (b : B). serves b text) (λ (b : B). rule b text facts) planners) s blocks bytes tape old new
-ends_lent {B} lent planners same serves rule request s blocks bytes tape old new ends =
-    subst (λ (ps : List B). EndsFiles request (λ text facts. chosen (λ (b : B). serves b text) (λ (b : B). rule b text facts) ps) s blocks bytes tape old new) same ends
 
 -- a run over good words whose line was said, or wasn't
 pub ends_said : (request : Request) (rule : List ℕ → StreamFacts → Option Rule) (s late : Status) (blocks bytes : ℕ) (tape : List TapeEntry) (fault_before fault_now : ℕ) (old new : Meaning) (before now : Option (List ℕ))

@@ -85,7 +85,7 @@ choice_below : (o : Option Rule) (s : Stream) (blocks : List Block) (w : Wanted)
 unfolding IsBelow
 choice_below o s blocks w number place cause = cause_below o s blocks w (unplanned.Choice number place) cause
 
-limit_seven : (o : Option Rule) (s : Stream) (blocks : List Block) (w : Wanted) (number found : ℕ) → HasPlanCause o s blocks w (unplanned.Limit number found) → number ≡ 7
+pub limit_seven : (o : Option Rule) (s : Stream) (blocks : List Block) (w : Wanted) (number found : ℕ) → HasPlanCause o s blocks w (unplanned.Limit number found) → number ≡ 7
 unfolding IsBelow
 limit_seven o s blocks w number found cause = cause_below o s blocks w (unplanned.Limit number found) cause
 

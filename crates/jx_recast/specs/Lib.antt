@@ -2,6 +2,8 @@ pub mod Aims
 pub mod Rewritten
 pub mod Tapes
 pub mod Outcome
+pub mod MakeRun
+pub mod Runs
 pub mod Progress
 pub mod Judged
 pub mod Rounds

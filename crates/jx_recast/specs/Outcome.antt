@@ -1,12 +1,13 @@
--- How a run ends: the verdict on the words and the input, the line said, and what stands afterwards.
-use Rattle.std.specs.Prelude.{◌≡◌, ◌⊎◌, ℕ, ◌+◌, ◌^◌, ◌<◌, ◌≤◌, true, false, List, [], ◌++◌, length, Option, IfSome, codes}
+-- How a run ends over words of `transcode` and over other words: the verdict on the words and the input, the line said, and what stands
+-- afterwards.
+use Rattle.std.specs.Prelude.{◌≡◌, ◌⊎◌, ℕ, ◌+◌, ◌^◌, ◌<◌, ◌≤◌, List, [], ◌++◌, length, Option, IfSome, codes}
 use Rattle.std.specs.Option.{option_map}
 use Rattle.std.specs.Fmt.{decimal}
 use Rattle.jx_outside.specs.Causes.{Rose}
 use Rattle.jx_outside.specs.Device.{Meaning, joined, after_create, after_write, after_finish}
 use Rattle.jx_recast.specs.declared.status.Status.{Status}
 use Rattle.jx_recast.specs.declared.status.Status.TheVariants as status
-use Rattle.jx_words.specs.Words.{Text, Request, is_good, request_of}
+use Rattle.jx_words.specs.Words.{Text, Request}
 use Rattle.jx_recast.specs.declared.status.TapeEntry.{TapeEntry}
 use Rattle.jx_recast.specs.Tapes.{IsRunTape}
 use Rattle.jx_recast.specs.Rewritten.{HasBlocks, IsBad, IsCut, IsCutByBlock, IsFrontOf, IsKept, IsRewritten, IsTooLong, IsUnplanned}
@@ -216,11 +217,6 @@ pub record EndsAtWords (s : Status) (blocks : ℕ) (entries : List TapeEntry) (o
   pub none : blocks ≡ 0
   pub tape : entries ≡ []
   pub said : Says s (line_of s 0 0) before now
-
--- how a run ends
-pub record Outcome (words : List Text) (rule : List ℕ → StreamFacts → Option Rule) (s : Status) (blocks : ℕ) (entries : List TapeEntry) (old new : Meaning) (before now : Option (List ℕ)) : Type 0 where
-  pub good : is_good words ≡ true → Ends (request_of words) rule s blocks entries old new before now
-  pub bad : is_good words ≡ false → EndsAtWords s blocks entries old new before now
 
 -- the status after a line was said: the same where it was said; a write fault exactly where the sink's count rose; and
 -- else want of memory

@@ -1,12 +1,16 @@
 //! Laws over what becomes of an input. The functions do nothing but cite the laws of the crates below: their contracts carry the laws.
-ghost use Rattle.std.specs.Prelude.{◌≡◌, ℕ, List};
+ghost use Rattle.std.specs.Prelude.{◌≡◌, ◌≤◌, ℕ, List, length};
 ghost use Rattle.jx_marker.specs.Ranges.{AreBytes};
 ghost use Rattle.jx_recast.specs.Aims.{Aim, MayBeAimed};
+ghost use Rattle.jx_words.specs.MakeWords.{Make, MayBeMade};
 ghost use Rattle.jx_recast.specs.declared.status.Status.{Status};
-ghost use Rattle.jx_recast.specs.Outcome.{Verdict};
+ghost use Rattle.jx_recast.specs.declared.status.Status.TheVariants as status;
+ghost use Rattle.jx_recast.specs.MakeRun.{input_of};
+ghost use Rattle.jx_recast.specs.Outcome.{Verdict, most_bytes};
 
 use jx_assemble::laws::{one_output, written_is_ready};
 use jx_gather::laws::{never_both, one_gathering, one_of_both, one_violation};
+use jx_make::laws::made_is_well_formed;
 use jx_plan::laws::{gathered_may_be_planned, one_answer};
 use jx_stream::laws::{one_first, one_stream, violated_or_spelled};
 
@@ -33,4 +37,20 @@ pub fn some_verdict()
     one_answer();
     written_is_ready();
     one_output();
+}
+
+/// A generated codestream violates no rule, and passes no limit but that on packets of the output.
+pub fn made_is_accepted()
+    ensures rules { (aim : Aim) (m : Make) (number place : ℕ) → MayBeMade m → Verdict aim (input_of m) (status.Rule number place) → ⊥ }
+    ensures limits { (aim : Aim) (m : Make) (number found : ℕ) → MayBeMade m → length (input_of m) ≤ most_bytes
+        → Verdict aim (input_of m) (status.Limit number found) → number ≡ 7 }
+{
+    made_is_well_formed();
+    one_stream();
+    one_first();
+    violated_or_spelled();
+    one_violation();
+    one_gathering();
+    never_both();
+    one_answer();
 }

@@ -8,10 +8,12 @@ mod file;
 mod halt;
 pub mod laws;
 mod lines;
+mod make;
 mod making;
 mod program;
 mod rewrite;
 mod rounds;
+mod say;
 mod status;
 mod tile;
 
@@ -19,7 +21,11 @@ pub use program::run;
 pub use status::{Report, Status, TapeEntry};
 
 #[cfg(test)]
+mod device_tests;
+#[cfg(test)]
 mod layer_tests;
+#[cfg(test)]
+mod make_tests;
 #[cfg(test)]
 mod packing_tests;
 #[cfg(test)]

@@ -1,20 +1,23 @@
-ghost use Rattle.std.specs.Prelude.{◌≡◌, ◌<◌, ◌⊎◌, [], true, false, map, take, IfOk, IfSome, string_bytes};
+ghost use Rattle.std.specs.Prelude.{◌≡◌, ◌<◌, ◌⊎◌, true, false, map, take, IfOk, IfSome, string_bytes};
 ghost use Rattle.jx_plan.specs.Planned.{chosen};
 ghost use Rattle.jx_plan.specs.Wanted.{MayBeWanted};
 ghost use Rattle.jx_outside.specs.Causes.{HasCause, Rose};
 ghost use Rattle.jx_outside.specs.Device.{Allows, joined};
 ghost use Rattle.jx_words.specs.Words.{MayBeWork, is_good, request_of};
-ghost use Rattle.jx_recast.specs.Filed.{IsUnread};
-ghost use Rattle.jx_recast.specs.Outcome.{EndsAs, EndsFiles, IsUntouched, IsVerdict, Outcome, line_of};
+ghost use Rattle.jx_recast.specs.Outcome.{EndsAs, Ends, EndsFiles, IsUntouched, IsVerdict, line_of};
+ghost use Rattle.jx_recast.specs.Runs.{Outcome};
 
 use crate::crew::Crew;
 use crate::device::{MOST, read_all};
 use crate::lines::line_of;
+use crate::make::run_beside;
 use crate::rewrite::{Ending, answer};
+use crate::say::{refuse, say_line};
 use crate::{Report, Status};
 use jx_layers::LayerPlanner;
 use jx_outside::{Files, Gate, Refused, Sink};
 use jx_plan::Options;
+use jx_words::laws::commands_are_apart;
 use jx_words::{Request, WordsFault, read_words};
 use std::alloc::Global;
 use std::sync::Wait;
@@ -91,57 +94,84 @@ fn transcode_as<R: Threads + Wait + Sync, G: Gate + Sync, F: Files>(
     )
 }
 
-/// Says the line of a status: nothing after a write fault.
+/// Says the line of what was done.
 fn say_ending<S: Sink>(alloc: Global, say: &mut S, ending: &Ending) -> Status
     ensures { EndsAs ending.now.status (line_of ending.now.status ending.now.blocks ending.now.bytes) result (S.said say.old) (S.said say.new) (S.faults say.old) (S.faults say.new) }
 {
-    if ending.status == Status::WriteFault {
-        return Status::WriteFault;
-    }
-    let Ok(line) = line_of(alloc, ending.status, ending.blocks, ending.bytes) else {
-        return Status::NoMemory;
-    };
-    match say.say(line.as_str()) {
-        Ok(()) => ending.status,
-        Err(Refused::Failed) => Status::WriteFault,
-        Err(Refused::NoMemory) => Status::NoMemory,
+    match line_of(alloc, ending.status, ending.blocks, ending.bytes) {
+        Ok(line) => say_line(say, ending.status, line.as_str()),
+        Err(_) => Status::NoMemory,
     }
 }
 
-/// Does what the words ask for, but for what is said.
-fn judge<R: Threads + Wait + Sync, G: Gate + Sync, F: Files>(
+/// Does what good words of `transcode` ask for.
+fn run_request<R: Threads + Wait + Sync, F: Files, S: Sink, G: Gate + Sync>(
+    rt: &R,
+    alloc: Global,
+    files: &mut F,
+    say: &mut S,
+    gate: &G,
+    request: &Request,
+    planners: &mut [Box<dyn LayerPlanner>],
+) -> Report
+    requires opens { F.can_open files.old request.now.from }
+    requires creates { F.can_create files.old request.now.to }
+    requires wanted { MayBeWanted request.now.wanted }
+    requires work { MayBeWork request.now.work }
+    ensures ends { Ends request.now (λ text facts. chosen (λ b. serves_text b text) (λ b. rule_of b text facts) planners.old) result.status result.blocks result.tape.items (F.meaning files.old) (F.meaning files.new) (S.said say.old) (S.said say.new) }
+    ensures read { result.status ≡ Status.ReadFault → Rose (F.read_faults files.old) (F.read_faults files.new) }
+    ensures write { result.status ≡ Status.WriteFault
+        → Rose (F.write_faults files.old) (F.write_faults files.new) ⊎ Rose (S.faults say.old) (S.faults say.new) }
+    ensures words { result.status ≡ Status.Words → ⊥ }
+    ensures unsaid { S.faults say.old < S.faults say.new → result.status ≡ Status.WriteFault }
+{
+    let ending = transcode_as(rt, alloc, files, gate, request, planners);
+    let status = say_ending(alloc, say, &ending);
+    Report {
+        status,
+        blocks: ending.blocks,
+        tape: ending.tape,
+    }
+}
+
+/// Does what the words ask for, with planners that are lent.
+fn run_lent<R: Threads + Wait + Sync, F: Files, S: Sink, G: Gate + Sync>(
     rt: &R,
     alloc: Global,
     words: &[String],
     files: &mut F,
+    say: &mut S,
     gate: &G,
     planners: &mut [Box<dyn LayerPlanner>],
-) -> Ending
+) -> Report
     requires opens { is_good (map string_bytes words.now) ≡ true → F.can_open files.old (request_of (map string_bytes words.now)).from }
     requires creates { is_good (map string_bytes words.now) ≡ true → F.can_create files.old (request_of (map string_bytes words.now)).to }
-    ensures good { is_good (map string_bytes words.now) ≡ true
-        → EndsFiles (request_of (map string_bytes words.now)) (λ text facts. chosen (λ b. serves_text b text) (λ b. rule_of b text facts) planners.old) result.status result.blocks result.bytes result.tape.items (F.meaning files.old) (F.meaning files.new) }
-    ensures bad { is_good (map string_bytes words.now) ≡ false → IsUnread result.status result.blocks × (result.tape.items ≡ []) }
-    ensures unread { is_good (map string_bytes words.now) ≡ false → F.meaning files.new ≡ F.meaning files.old }
+    ensures outcome { Outcome (map string_bytes words.now) (λ text facts. chosen (λ b. serves_text b text) (λ b. rule_of b text facts) planners.old) result.status result.blocks result.tape.items (F.meaning files.old) (F.meaning files.new) (S.said say.old) (S.said say.new) }
     ensures read { result.status ≡ Status.ReadFault → Rose (F.read_faults files.old) (F.read_faults files.new) }
-    ensures write { result.status ≡ Status.WriteFault → Rose (F.write_faults files.old) (F.write_faults files.new) }
+    ensures write { result.status ≡ Status.WriteFault
+        → Rose (F.write_faults files.old) (F.write_faults files.new) ⊎ Rose (S.faults say.old) (S.faults say.new) }
+    ensures unsaid { S.faults say.old < S.faults say.new → result.status ≡ Status.WriteFault }
     ensures idle { is_good (map string_bytes words.now) ≡ false
         → (F.read_faults files.new ≡ F.read_faults files.old) × (F.write_faults files.new ≡ F.write_faults files.old) }
 {
+    commands_are_apart();
     match read_words(alloc, words) {
-        Ok(request) => transcode_as(rt, alloc, files, gate, &request, planners),
-        Err(WordsFault::Words) => Ending::refused(alloc, Status::Words),
-        Err(WordsFault::NoMemory) => Ending::refused(alloc, Status::NoMemory),
+        Ok(request) => run_request(rt, alloc, files, say, gate, &request, planners),
+        Err(WordsFault::Words) => run_beside(rt, alloc, words, say, gate, planners),
+        Err(WordsFault::NoMemory) => refuse(alloc, say, Status::NoMemory),
     }
 }
 
-/// Rewrites a codestream: reads the file IN, writes the file OUT and says one line.
+/// Does what the words ask for, and says one line.
 ///
-/// `words` begin with the program's name, and name the command, IN, OUT and its options. IN is read
+/// `words` begin with the program's name, and name the command. Those of `transcode` name IN, OUT and its options: IN is read
 /// to its end, or to one byte past the most that an input may have, and OUT is created once the whole
 /// input is read and its plan made. The main header, each tile-part and EOC are one piece each to write;
 /// tiles are made round by round, and what is made is written before the next round. A fault of `files`
 /// or `say` ends the run where it comes.
+///
+/// Those of `make` name a seed, a width and a height: a codestream is generated and transcoded in memory with fixed options, and no file
+/// is touched. The line has the count of code-blocks, the lengths of both codestreams, and the sum of the output's bytes.
 ///
 /// The code-blocks of a round of which some are coded anew are made by as many workers as the words ask for, inside both windows;
 /// `gate` is told of each of them. What is written doesn't depend on them.
@@ -170,11 +200,5 @@ pub fn run<R: Threads + Wait + Sync, F: Files, S: Sink, G: Gate + Sync>(
     ensures idle { is_good (map string_bytes words.now) ≡ false
         → (F.read_faults files.new ≡ F.read_faults files.old) × (F.write_faults files.new ≡ F.write_faults files.old) }
 {
-    let ending = judge(rt, alloc, words, files, gate, &mut planners);
-    let status = say_ending(alloc, say, &ending);
-    Report {
-        status,
-        blocks: ending.blocks,
-        tape: ending.tape,
-    }
+    run_lent(rt, alloc, words, files, say, gate, &mut planners)
 }

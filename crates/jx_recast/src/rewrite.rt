@@ -86,8 +86,11 @@ fn write_plan<R: Threads + Wait + Sync, G: Gate + Sync, F: Files>(
     ensures other { F.read_faults files.new ≡ F.read_faults files.old }
 {
     let blocks = plan.jobs().len() as u32;
+    crew.gate.begin(blocks);
     let mut tape = Vec::new(alloc);
-    match write_file(crew, alloc, files, to, plan, &mut tape) {
+    let written = write_file(crew, alloc, files, to, plan, &mut tape);
+    crew.gate.end();
+    match written {
         Ok(bytes) => Ending {
             status: Status::Done,
             blocks,

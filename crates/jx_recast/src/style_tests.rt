@@ -278,6 +278,7 @@ fn the_rounds_before_stand(rt: HostRuntime) -> Result<(), Fail> {
 /// block 0 until block 1 has entered, and nothing else.
 #[derive(Drop)]
 struct Holding {
+    begun: AtomicU64,
     entered: [AtomicU64; 2],
     left: [AtomicU64; 2],
     reached: AtomicU64,
@@ -287,6 +288,7 @@ struct Holding {
 impl Holding {
     fn new(narrow: bool) -> Holding {
         Holding {
+            begun: AtomicU64::new(0),
             entered: [AtomicU64::new(0), AtomicU64::new(0)],
             left: [AtomicU64::new(0), AtomicU64::new(0)],
             reached: AtomicU64::new(0),
@@ -307,6 +309,10 @@ impl Holding {
 }
 
 impl Gate for Holding {
+    fn begin(&self, blocks: u32) {
+        self.begun.fetch_add(u64::from(blocks), SeqCst);
+    }
+
     fn enter(&self, block: u32) {
         if block == 0 {
             self.entered[0].fetch_add(1, SeqCst);
@@ -366,6 +372,7 @@ fn held<R: Abort + AllocGlobal + Threads + Wait + Sync, G: Gate + Sync>(
 fn two_workers_at_once(rt: HostRuntime) -> Result<(), Fail> {
     let gate = Holding::new(false);
     let tape = held(&rt, "2", &gate)?;
+    assert_eq!(rt; gate.begun.load(SeqCst), 2);
     assert_eq!(rt; gate.reached.load(SeqCst), 0);
     assert!(rt; tape.len() == 2 && tape[0].number == 0 && tape[1].number == 1);
     assert!(rt; tape[0].worker < 2 && tape[1].worker < 2);
