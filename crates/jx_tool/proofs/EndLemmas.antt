@@ -1,23 +1,19 @@
 -- A run that ends before it begins, for want of memory.
-use Rattle.std.proofs.Common.{◌≡◌, ◌∙◌, ap, subst, ℕ, List, [], Option, inl, inr, refl}
+use Rattle.std.proofs.Common.{◌≡◌, ◌∙◌, ap, subst, ℕ, List, [], Option, inl, refl}
 use Rattle.jx_outside.specs.Device.{Meaning}
 use Rattle.jx_layers.specs.declared.StreamFacts.{StreamFacts}
 use Rattle.jx_layers.specs.Rule.{Rule}
 use Rattle.jx_recast.specs.declared.status.Status.{Status}
 use Rattle.jx_recast.specs.declared.status.Status.TheVariants as status
 use Rattle.jx_recast.specs.declared.status.TapeEntry.{TapeEntry}
-use Rattle.jx_words.specs.Words.{Text, request_of}
-use Rattle.jx_recast.specs.Outcome.{EndsFiles, Outcome, number_of}
-use Rattle.jx_recast.proofs.OutcomeLemmas.{ends_unread}
+use Rattle.jx_words.specs.Words.{Text}
+use Rattle.jx_recast.specs.Outcome.{number_of}
+use Rattle.jx_recast.specs.Runs.{Outcome}
+use Rattle.jx_recast.proofs.RunLemmas.{outcome_memory}
 use Rattle.jx_tool.specs.Ended.{IsEnded}
 
 unbegun : (words : List Text) (rule : List ℕ → StreamFacts → Option Rule) (files : Meaning) (said : Option (List ℕ)) → Outcome words rule status.NoMemory 0 [] files files said said
-unbegun words rule files said =
-    let ends : EndsFiles (request_of words) rule status.NoMemory 0 0 [] files files =
-    ends_unread (request_of words) rule status.NoMemory files files (inr refl) (record { holds = λ name. refl; making = refl; written = refl }) in record {
-      good = λ is. record { input = ends.input; bytes = 0; files = ends.files; said = inl refl };
-      bad = λ is. record { words = inr (inr refl); files = refl; none = refl; tape = refl; said = inl refl };
-    }
+unbegun words rule files said = outcome_memory words rule status.NoMemory 0 0 files said said (inl (refl, inl refl, refl))
 
 pub ended_unbegun : (words : List Text) (rule : List ℕ → StreamFacts → Option Rule) (s : Status) (number : ℕ) (files : Meaning) (said : Option (List ℕ)) → s ≡ status.NoMemory → number ≡ number_of s
     → IsEnded words rule number files files said said

@@ -9,7 +9,8 @@ use Rattle.jx_layers.specs.Rule.{Rule}
 use Rattle.jx_recast.specs.declared.status.Status.{Status}
 use Rattle.jx_recast.specs.declared.status.TapeEntry.{TapeEntry}
 use Rattle.jx_words.specs.Words.{Text}
-use Rattle.jx_recast.specs.Outcome.{Outcome, number_of}
+use Rattle.jx_recast.specs.Outcome.{number_of}
+use Rattle.jx_recast.specs.Runs.{Outcome}
 
 -- the words that the system gives: all of them, in their order; none where one is no text
 abbrev pub words_in : {A Z E : Type 0} → Result (IntoIter (String A) Z) E → List Text

@@ -9,8 +9,11 @@ ghost use Rattle.jx_plan.specs.Planned.{chosen};
 ghost use Rattle.jx_words.specs.Words.{is_good, request_of};
 ghost use Rattle.jx_tool.specs.Ended.{IsEnded, words_in};
 
+mod progress;
+
+use crate::progress::{Progress, is_asked};
 use jx_layers::{CutLayers, KeepLayers, LayerPlanner, OneLayer, PlaneLayers};
-use jx_outside::{Files, NoGate, Sink, StdFiles, StdSink};
+use jx_outside::{Files, Sink, StdFiles, StdSink};
 use jx_recast::{Status, run};
 use jx_say::{Refusal, explain};
 use std::alloc::{AllocError, Global};
@@ -19,6 +22,7 @@ use std::io::{Eprint, ErrorKind};
 use std::process::ExitCode;
 use std::sync::Wait;
 use std::thread::Threads;
+use std::time::Clock;
 use std::{env, io};
 
 fn collected(alloc: Global, args: Args) -> Result<Vec<String>, AllocError>
@@ -73,13 +77,14 @@ fn tell<R: Eprint>(rt: &R, alloc: Global, words: &[String], status: Status) {
 }
 
 /// Runs on the words of the command line with these planners of layers: what the process ends with.
-fn end_of<R: Threads + Wait + Sync + Eprint, F: Files, S: Sink>(
+fn end_of<R: Threads + Wait + Sync + Eprint + Clock, F: Files, S: Sink>(
     rt: &R,
     alloc: Global,
     args: io::Result<Args>,
     files: &mut F,
     say: &mut S,
     planners: Vec<Box<dyn LayerPlanner>>,
+    progress: &Progress<'_, R>,
 ) -> ExitCode
     requires opens { is_good (words_in args) ≡ true → F.can_open files.old (request_of (words_in args)).from }
     requires creates { is_good (words_in args) ≡ true → F.can_create files.old (request_of (words_in args)).to }
@@ -87,7 +92,7 @@ fn end_of<R: Threads + Wait + Sync + Eprint, F: Files, S: Sink>(
 {
     match words_of(alloc, args) {
         Ok(words) => {
-            let report = run(rt, alloc, &words, files, say, &NoGate, planners);
+            let report = run(rt, alloc, &words, files, say, progress, planners);
             tell(rt, alloc, &words, report.status);
             ExitCode::from(report.status.number())
         }
@@ -96,12 +101,13 @@ fn end_of<R: Threads + Wait + Sync + Eprint, F: Files, S: Sink>(
 }
 
 /// Makes the planners of layers, and runs with them. An `Err` is want of memory for these: then nothing was done.
-fn start<R: Threads + Wait + Sync + Eprint, F: Files, S: Sink>(
+fn start<R: Threads + Wait + Sync + Eprint + Clock, F: Files, S: Sink>(
     rt: &R,
     alloc: Global,
     args: io::Result<Args>,
     files: &mut F,
     say: &mut S,
+    progress: &Progress<'_, R>,
 ) -> Result<ExitCode, AllocError>
     requires opens { is_good (words_in args) ≡ true → F.can_open files.old (request_of (words_in args)).from }
     requires creates { is_good (words_in args) ≡ true → F.can_create files.old (request_of (words_in args)).to }
@@ -116,17 +122,27 @@ fn start<R: Threads + Wait + Sync + Eprint, F: Files, S: Sink>(
     planners.push_reserved(one);
     planners.push_reserved(cuts);
     planners.push_reserved(planes);
-    Ok(end_of(rt, alloc, args, files, say, planners))
+    Ok(end_of(rt, alloc, args, files, say, planners, progress))
 }
 
 fn main(rt: HostRuntime) -> ExitCode {
     let mut files = StdFiles::new(&rt);
     let mut say = StdSink::new(&rt);
-    match start(&rt, rt.alloc(), env::args(&rt), &mut files, &mut say) {
+    let progress = Progress::new(&rt, rt.alloc(), is_asked(&rt));
+    match start(
+        &rt,
+        rt.alloc(),
+        env::args(&rt),
+        &mut files,
+        &mut say,
+        &progress,
+    ) {
         Ok(end) => end,
         Err(_) => ExitCode::from(Status::NoMemory.number()),
     }
 }
 
+#[cfg(test)]
+mod progress_tests;
 #[cfg(test)]
 mod tests;
