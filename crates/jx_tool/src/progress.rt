@@ -1,6 +1,6 @@
 //! How far a run is, for people: one line on standard error that is written over.
 
-ghost use Rattle.std.specs.Prelude.{◌≡◌, IfOk, Some, string_bytes};
+ghost use Rattle.std.specs.Prelude.{◌≡◌, false, IfOk, None, Some, string_bytes};
 ghost use Rattle.jx_tool.specs.Shown.{grouped, last_three, progress_text};
 
 use jx_outside::Gate;
@@ -75,7 +75,9 @@ pub struct Progress<'a, R> {
 
 impl<'a, R: Clock + Eprint> Progress<'a, R> {
     /// From now on, where it is asked for.
-    pub fn new(rt: &'a R, alloc: Global, is_asked: bool) -> Progress<'a, R> {
+    pub(crate) fn new(rt: &'a R, alloc: Global, is_asked: bool) -> Progress<'a, R>
+        ensures unasked { is_asked ≡ false → result.began ≡ None }
+    {
         let began = if is_asked {
             Instant::now(rt).ok()
         } else {
@@ -141,7 +143,7 @@ impl<'a, R: Clock + Eprint> Gate for Progress<'a, R> {
 }
 
 /// Whether progress is asked for, by the variable JX_PROGRESS.
-pub fn is_asked<R: Env + Alloc>(rt: &R) -> bool {
+pub(crate) fn is_asked<R: Env + Alloc>(rt: &R) -> bool {
     match env::var(rt, "JX_PROGRESS") {
         Ok(value) => value.as_str() == "1",
         Err(_) => false,
