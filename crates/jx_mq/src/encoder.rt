@@ -1,7 +1,7 @@
-ghost use Rattle.std.specs.Prelude.{◌≡◌, ◌+◌, ◌-◌, ◌*◌, ◌^◌, ◌<◌, ◌≤◌, ℕ, [], ◌∷◌, length, reverse, vec_capacity, IfOk, OnOk, OnErr};
+ghost use Rattle.std.specs.Prelude.{◌≡◌, ◌+◌, ◌-◌, ◌*◌, ◌^◌, ◌<◌, ◌≤◌, ℕ, [], ◌∷◌, length, reverse, vec_len, vec_capacity, IfOk, OnOk, OnErr};
 ghost use Rattle.jx_base.specs.MqTable.{MqContexts};
 ghost use Rattle.jx_base.specs.MqWriting.{MqWriter, mq_writer, mq_plain, mq_stuffed, mq_byte_out, mq_renormalized, mq_part, mq_wrote, mq_after_bit, mq_last_number, mq_given_out, mq_segment};
-ghost use Rattle.jx_mq.specs.Coding.{MqCoding, IsCoding, IsCoder};
+ghost use Rattle.jx_mq.specs.Coding.{MqCoding, given, IsCoding, IsCoder};
 ghost use Rattle.jx_mq.specs.Shifting.{mq_moved_by};
 
 use crate::choice::either;
@@ -9,6 +9,50 @@ use crate::contexts::Contexts;
 use jx_base::NoMemory;
 use std::alloc::Global;
 use std::marker::Model;
+
+/// Gives out eight bits of C.
+fn plain(c: u32, newest: u8, older: &mut Vec<u8>) -> Result<(u32, u32, u8), NoMemory>
+    requires { c < 134217728 }
+    ensures registers { IfOk result (λ r. given r.0 r.1 (r.2 ∷ reverse older.new.items) ≡ mq_plain (given c 0 (newest ∷ reverse older.old.items))) }
+    ensures limit { OnOk result (vec_capacity older.old ≤ vec_capacity older.new) }
+    ensures room { OnErr result (vec_capacity older.old ≤ vec_len older.old) }
+{
+    older.push(newest)?;
+    Ok((c % 0x8_0000, 8, (c >> 19) as u8))
+}
+
+/// Gives out seven bits of C, and the carry above them.
+fn stuffed(c: u32, newest: u8, older: &mut Vec<u8>) -> Result<(u32, u32, u8), NoMemory>
+    requires { c < 268435456 }
+    ensures registers { IfOk result (λ r. given r.0 r.1 (r.2 ∷ reverse older.new.items) ≡ mq_stuffed (given c 0 (newest ∷ reverse older.old.items))) }
+    ensures limit { OnOk result (vec_capacity older.old ≤ vec_capacity older.new) }
+    ensures room { OnErr result (vec_capacity older.old ≤ vec_len older.old) }
+{
+    older.push(newest)?;
+    Ok((c % 0x10_0000, 7, (c >> 20) as u8))
+}
+
+/// What BYTEOUT makes of C and of the newest byte, with CT between them (Annex C.2.7). The registers
+/// come and go as values, so a caller can keep its own in the machine's.
+#[cold]
+#[inline(never)]
+fn given_out(c: u32, newest: u8, older: &mut Vec<u8>) -> Result<(u32, u32, u8), NoMemory>
+    requires { c < 268435456 }
+    ensures registers { IfOk result (λ r. given r.0 r.1 (r.2 ∷ reverse older.new.items) ≡ mq_byte_out (given c 0 (newest ∷ reverse older.old.items))) }
+    ensures limit { OnOk result (vec_capacity older.old ≤ vec_capacity older.new) }
+    ensures room { OnErr result (vec_capacity older.old ≤ vec_len older.old) }
+{
+    if newest == 0xFF {
+        return stuffed(c, newest, older);
+    }
+    if c < 0x800_0000 {
+        return plain(c, newest, older);
+    }
+    if newest == 0xFE {
+        return stuffed(c - 0x800_0000, 0xFF, older);
+    }
+    plain(c - 0x800_0000, newest + 1, older)
+}
 
 /// The registers A, C and CT, the newest byte B, and the older ones with the byte 0 before the
 /// first.
@@ -32,8 +76,7 @@ impl Model for Registers {
 
 impl Registers {
     /// The registers at the start (Annex C.2.8).
-    #[cold]
-    #[inline(never)]
+    #[inline(always)]
     fn restart(&mut self)
         ensures { self.new.writer ≡ mq_writer }
     {
@@ -44,64 +87,19 @@ impl Registers {
         self.older.clear();
     }
 
-    /// Makes a byte the newest one.
-    fn give(&mut self, byte: u8) -> Result<(), NoMemory>
-        ensures registers { OnOk result (self.new.writer ≡ record self.old.writer { bytes = byte ∷ self.old.writer.bytes }) }
-        ensures limit { OnOk result (self.old.limit ≤ self.new.limit) }
-        ensures room { OnErr result (self.old.limit < length self.old.writer.bytes) }
-    {
-        self.older.push(self.newest)?;
-        self.newest = byte;
-        Ok(())
-    }
-
-    /// Gives out eight bits of C.
-    fn plain(&mut self) -> Result<(), NoMemory>
-        requires { self.old.writer.c < 134217728 }
-        ensures registers { OnOk result (self.new.writer ≡ mq_plain self.old.writer) }
-        ensures limit { OnOk result (self.old.limit ≤ self.new.limit) }
-        ensures room { OnErr result (self.old.limit < length self.old.writer.bytes) }
-    {
-        self.give((self.c >> 19) as u8)?;
-        self.c %= 0x8_0000;
-        self.ct = 8;
-        Ok(())
-    }
-
-    /// Gives out seven bits of C, and the carry above them.
-    fn stuffed(&mut self) -> Result<(), NoMemory>
-        requires { self.old.writer.c < 268435456 }
-        ensures registers { OnOk result (self.new.writer ≡ mq_stuffed self.old.writer) }
-        ensures limit { OnOk result (self.old.limit ≤ self.new.limit) }
-        ensures room { OnErr result (self.old.limit < length self.old.writer.bytes) }
-    {
-        self.give((self.c >> 20) as u8)?;
-        self.c %= 0x10_0000;
-        self.ct = 7;
-        Ok(())
-    }
-
     /// BYTEOUT (Annex C.2.7).
-    #[cold]
-    #[inline(never)]
+    #[inline(always)]
     fn byte_out(&mut self) -> Result<(), NoMemory>
         requires { self.old.writer.c < 268435456 }
         ensures registers { OnOk result (self.new.writer ≡ mq_byte_out self.old.writer) }
         ensures limit { OnOk result (self.old.limit ≤ self.new.limit) }
         ensures room { OnErr result (self.old.limit < length self.old.writer.bytes) }
     {
-        if self.newest == 0xFF {
-            return self.stuffed();
-        }
-        if self.c < 0x800_0000 {
-            return self.plain();
-        }
-        self.newest += 1;
-        self.c -= 0x800_0000;
-        if self.newest == 0xFF {
-            return self.stuffed();
-        }
-        self.plain()
+        let (c, ct, newest) = given_out(self.c, self.newest, &mut self.older)?;
+        self.c = c;
+        self.ct = ct;
+        self.newest = newest;
+        Ok(())
     }
 
     /// Shifts of RENORME, before a byte is given out.
