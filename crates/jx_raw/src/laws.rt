@@ -1,6 +1,6 @@
 //! Laws of raw bits, over their definitions alone.
 
-ghost use Rattle.std.specs.Prelude.{◌≡◌, ◌≤◌, ℕ, ◌+◌, ◌-◌, Bool, List, [], ◌∷◌, ◌++◌, length, take, drop};
+ghost use Rattle.std.specs.Prelude.{◌≡◌, ◌≤◌, ℕ, ◌+◌, ◌-◌, ◌/◌, Bool, List, [], ◌∷◌, ◌++◌, length, take, drop};
 ghost use Rattle.jx_base.specs.Markers.{HasNoMarker};
 ghost use Rattle.jx_base.specs.RawBits.{raw_bits, raw_read, raw_looked, raw_write};
 ghost use Rattle.jx_raw.specs.RawReading.{first_or_one};
@@ -21,4 +21,10 @@ pub fn raw_bits_one_by_one()
         raw_looked segment (length (raw_bits segment) - length (drop n (raw_bits segment))) ≡ raw_looked segment n }
     ensures cut { (segment : List ℕ) → (n : ℕ) → (k : ℕ) →
         raw_looked segment n ≤ k → raw_read (take k segment) n ≡ raw_read segment n }
+{}
+
+/// A segment has no more bytes than its bits make at seven in a byte. So room for that many bytes is
+/// room for all of them.
+pub fn raw_segments_are_short()
+    ensures { (bits : List Bool) → length (raw_write bits) ≤ (length bits + 6) / 7 }
 {}
