@@ -1,3 +1,4 @@
+pub mod Agreeing
 pub mod Back
 pub mod Bytes
 pub mod Lengths

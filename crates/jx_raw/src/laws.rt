@@ -28,3 +28,12 @@ pub fn raw_bits_one_by_one()
 pub fn raw_segments_are_short()
     ensures { (bits : List Bool) → length (raw_write bits) ≤ (length bits + 6) / 7 }
 {}
+
+/// The first bits of a segment are those of every segment that has the bytes looked at for them, a last
+/// FF that is left out is given back by the ones past the end, and more bits look at no fewer bytes.
+pub fn raw_bits_depend_on_bytes_looked_at()
+    ensures same { (s : List ℕ) → (t : List ℕ) → (n : ℕ) → n ≤ length (raw_bits s) →
+        take (raw_looked s n) t ≡ take (raw_looked s n) s → raw_read t n ≡ raw_read s n }
+    ensures dropped { (s : List ℕ) → (n : ℕ) → raw_read (s ++ 255 ∷ []) n ≡ raw_read s n }
+    ensures more { (s : List ℕ) → (m : ℕ) → (n : ℕ) → m ≤ n → raw_looked s m ≤ raw_looked s n }
+{}
