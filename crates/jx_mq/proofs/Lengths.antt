@@ -1,5 +1,5 @@
 -- How many bytes decisions make.
-use Rattle.std.proofs.Common.{◌≡◌, ◌≢◌, ◌<◌, ◌≤◌, ◌+◌, ◌-◌, ◌*◌, ◌/◌, ◌^◌, ℕ, zero, suc, Bool, true, false, List, [], ◌∷◌, length, drop, reverse, refl, ap, sym, ◌∙◌, arith, eqb, ltb, inl, inr, if◌then◌else◌, ◌==◌, Result, Ok, Err, OnErr, length-drop}
+use Rattle.std.proofs.Common.{◌≡◌, ◌≢◌, ◌<◌, ◌≤◌, ◌+◌, ◌-◌, ◌*◌, ◌/◌, ◌^◌, ℕ, zero, suc, Bool, true, false, List, [], ◌∷◌, length, reverse, refl, ap, sym, ◌∙◌, arith, ltb, inl, inr, if◌then◌else◌, ◌==◌, Result, Ok, Err, OnErr, length-drop}
 use Rattle.std.proofs.lemmas.Bool.{cases_lt}
 use Rattle.std.proofs.lemmas.List.{length-reverse}
 use Rattle.jx_base.specs.MqTable.{MqContexts, mq_fresh, mq_row_of}

@@ -69,8 +69,8 @@ impl Model for Registers {
     ghost Value = { MqCoding };
 
     ghost view = { λ r. record {
-        writer = record { a = r.a; c = r.c; ct = r.ct; bytes = r.newest ∷ reverse r.older.items };
-        limit = vec_capacity r.older
+      writer = record { a = r.a; c = r.c; ct = r.ct; bytes = r.newest ∷ reverse r.older.items };
+      limit = vec_capacity r.older;
     } };
 }
 

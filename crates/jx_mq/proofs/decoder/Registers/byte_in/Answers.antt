@@ -1,4 +1,3 @@
-use Rattle.std.proofs.Common.{◌≡◌}
 use Rattle.jx_mq.proofs.decoder.Registers.byte_in.Goals as goal
 
 pub returns-clause-registers : goal.returns-clause-registers

@@ -1,6 +1,5 @@
-use Rattle.std.proofs.Common.{◌≡◌, ◌≢◌, ◌≤◌, ◌<◌, ◌-◌, ◌∷◌, length, reverse, vec_len, vec_capacity, ap, sym, ◌∙◌, arith}
-use Rattle.std.proofs.lemmas.Bool.Decides.{nat_tests}
-use Rattle.jx_base.specs.MqWriting.{MqWriter, mq_last_number, mq_given_out, mq_segment}
+use Rattle.std.proofs.Common.{◌≡◌, ◌≢◌, ◌≤◌, ◌∷◌, length, reverse, vec_len, vec_capacity, ap, sym, arith}
+use Rattle.jx_base.specs.MqWriting.{mq_last_number}
 use Rattle.jx_mq.specs.Coding.{MqCoding}
 use Rattle.jx_mq.proofs.Lengths.{refused_first, refused_second, refused_last, on_err}
 use Rattle.jx_mq.proofs.encoder.MqEncoder.flush.Goals as goal
