@@ -4,6 +4,7 @@ pub mod GeometryLemmas
 pub mod DrawnFits
 pub mod PrecinctLemmas
 pub mod PictureLemmas
+pub mod WriterLemmas
 pub mod RangeLemmas
 pub mod ReadLemmas
 pub mod OrderLemmas
