@@ -11,3 +11,4 @@ pub mod OrderLemmas
 pub mod FillLemmas
 pub mod WrittenLemmas
 pub mod WellLemmas
+pub mod PlainLemmas

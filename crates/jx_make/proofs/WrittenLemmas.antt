@@ -77,10 +77,10 @@ number_few r HL le = omega arith
 number_few r LH le = omega arith
 number_few r HH le = omega arith
 
-planes_13 : (w h size c r : ℕ) (b : Band) → c < 3 → r ≤ 5 → planes_at (stream_made w h size) 0 c r b ≡ 13
+pub planes_13 : (w h size c r : ℕ) (b : Band) → c < 3 → r ≤ 5 → planes_at (stream_made w h size) 0 c r b ≡ 13
 planes_13 w h size c r b lt le = planes_own w h size c r b lt ∙ planes_n (number_of r b) (number_few r b le)
 
-style_0 : (w h size c : ℕ) → c < 3 → style_of (stream_made w h size) 0 c ≡ 0
+pub style_0 : (w h size c : ℕ) → c < 3 → style_of (stream_made w h size) 0 c ≡ 0
 unfolding stream_made
 style_0 w h size zero lt = refl
 style_0 w h size (suc zero) lt = refl
