@@ -1,5 +1,5 @@
 -- The code-blocks that are read of a made file: none has a style bit, and none more than 37 coding passes.
-use Rattle.std.proofs.Common.{◌≡◌, ◌∙◌, ℕ, ◌≤◌, ◌<◌, List, ap, sym, subst, arith, get_or, Option, Some, All}
+use Rattle.std.proofs.Common.{◌≡◌, ◌∙◌, ℕ, ◌≤◌, ◌<◌, List, ap, subst, arith, get_or, Some, All}
 use Rattle.std.specs.Prelude.{slice_get}
 use Rattle.std.proofs.lemmas.Option.{slice_get-get_or}
 use Rattle.jx_base.specs.declared.names.BlockName.{BlockName}
