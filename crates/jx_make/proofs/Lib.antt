@@ -4,9 +4,11 @@ pub mod GeometryLemmas
 pub mod DrawnFits
 pub mod PrecinctLemmas
 pub mod PictureLemmas
+pub mod WriterLemmas
 pub mod RangeLemmas
 pub mod ReadLemmas
 pub mod OrderLemmas
 pub mod FillLemmas
 pub mod WrittenLemmas
 pub mod WellLemmas
+pub mod PlainLemmas

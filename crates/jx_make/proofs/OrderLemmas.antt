@@ -1,4 +1,4 @@
--- The packets of a made file stand in the order RLCP, each once.
+-- The packets of a made file stand in the order LRCP, each once.
 use Rattle.std.proofs.Common.{◌≡◌, ℕ, ◌≤◌, ◌<◌, [], ◌∷◌, refl, sym, ap, subst, arith, inl, inr}
 use Rattle.std.specs.List.{AllPairs, Contains}
 use Rattle.jx_base.specs.Joined.{JoinedAt}
@@ -28,68 +28,68 @@ one_of x p has = elim (contains_cons x [] p has) [
   | inr none ↦ absurd (contains_none p none)
 ]
 
-from_layer : (r l : ℕ) (p : PacketName) → Contains (layer_names r l) p → (p.res ≡ r) × (p.layer ≡ l) × (p.comp < 3) × (p.precinct ≡ 0)
-unfolding layer_names
-from_layer r l p has =
-    let at : JoinedAt (one_name r l) 0 3 p = joined_has (one_name r l) 0 3 p has in
+from_resolution : (l r : ℕ) (p : PacketName) → Contains (resolution_names l r) p → (p.layer ≡ l) × (p.res ≡ r) × (p.comp < 3) × (p.precinct ≡ 0)
+unfolding resolution_names
+from_resolution l r p has =
+    let at : JoinedAt (one_name l r) 0 3 p = joined_has (one_name l r) 0 3 p has in
     let e : name_of l r at.number 0 ≡ p = one_of (name_of l r at.number 0) p at.has in
     let below : at.number < 3 = at.below in (
-      sym (ap (λ (x : PacketName). x.res) e),
       sym (ap (λ (x : PacketName). x.layer) e),
+      sym (ap (λ (x : PacketName). x.res) e),
       subst (λ (x : PacketName). x.comp < 3) e below,
       sym (ap (λ (x : PacketName). x.precinct) e),
     )
 
-from_resolution : (r : ℕ) (p : PacketName) → Contains (resolution_names r) p → (p.res ≡ r) × (p.layer < 12) × (p.comp < 3) × (p.precinct ≡ 0)
-unfolding resolution_names
-from_resolution r p has =
-    let at : JoinedAt (layer_names r) 0 12 p = joined_has (layer_names r) 0 12 p has in
-    let own = from_layer r at.number p at.has in
-    let below : at.number < 12 = at.below in
+from_layer : (l : ℕ) (p : PacketName) → Contains (layer_names l) p → (p.layer ≡ l) × (p.res < 6) × (p.comp < 3) × (p.precinct ≡ 0)
+unfolding layer_names
+from_layer l p has =
+    let at : JoinedAt (resolution_names l) 0 6 p = joined_has (resolution_names l) 0 6 p has in
+    let own = from_resolution l at.number p at.has in
+    let below : at.number < 6 = at.below in
     (own.0, omega (arith, own.1), own.2, own.3)
 
 from_names : (p : PacketName) → Contains names_made p → HasFields p
 unfolding names_made
 from_names p has =
-    let at : JoinedAt resolution_names 0 6 p = joined_has resolution_names 0 6 p has in
-    let own = from_resolution at.number p at.has in
-    let below : at.number < 6 = at.below in
-    record { res = omega (arith, own.0); layer = own.1; comp = own.2; precinct = own.3 }
+    let at : JoinedAt layer_names 0 12 p = joined_has layer_names 0 12 p has in
+    let own = from_layer at.number p at.has in
+    let below : at.number < 12 = at.below in
+    record { layer = omega (arith, own.0); res = own.1; comp = own.2; precinct = own.3 }
 
-to_names : (r l c : ℕ) → r < 6 → l < 12 → c < 3 → Contains names_made (name_of l r c 0)
-unfolding names_made resolution_names layer_names
-to_names r l c hr hl hc =
+to_names : (l r c : ℕ) → l < 12 → r < 6 → c < 3 → Contains names_made (name_of l r c 0)
+unfolding names_made layer_names resolution_names
+to_names l r c hl hr hc =
     let p : PacketName = name_of l r c 0 in
-    let one : Contains (layer_names r l) p = joined_from (one_name r l) 0 3 p (record { number = c; from = omega arith; below = hc; has = contains_head p [] }) in
-    let two : Contains (resolution_names r) p = joined_from (layer_names r) 0 12 p (record { number = l; from = omega arith; below = hl; has = one }) in
-    joined_from resolution_names 0 6 p (record { number = r; from = omega arith; below = hr; has = two })
+    let one : Contains (resolution_names l r) p = joined_from (one_name l r) 0 3 p (record { number = c; from = omega arith; below = hc; has = contains_head p [] }) in
+    let two : Contains (layer_names l) p = joined_from (resolution_names l) 0 6 p (record { number = r; from = omega arith; below = hr; has = one }) in
+    joined_from layer_names 0 12 p (record { number = l; from = omega arith; below = hl; has = two })
 
 -- ---- its order
 single : {X : Type 0} (R : X → X → Type 0) (x : X) → AllPairs R (x ∷ [])
 single R x i j d lt below = absurd (omega arith)
 
 abbrev Before : Geometry → PacketName → PacketName → Type 0
-Before g p q = ComesBefore g (order_of 1) p q
+Before g p q = ComesBefore g (order_of 0) p q
 
-layer_sorted : (g : Geometry) (r l : ℕ) → AllPairs (Before g) (layer_names r l)
-unfolding layer_names
-layer_sorted g r l =
-    joined_pairs (Before g) (one_name r l) 0 3 (λ c. single (Before g) (name_of l r c 0))
+resolution_sorted : (g : Geometry) (l r : ℕ) → AllPairs (Before g) (resolution_names l r)
+unfolding resolution_names
+resolution_sorted g l r =
+    joined_pairs (Before g) (one_name l r) 0 3 (λ c. single (Before g) (name_of l r c 0))
     (λ c d x y lt hx hy.
     (let P : PacketName → PacketName → Type 0 = λ a b. Before g a b in
     subst (λ (a : PacketName). P a y) (one_of (name_of l r c 0) x hx) (subst (λ (b : PacketName). P (name_of l r c 0) b) (one_of (name_of l r d 0) y hy) (inr (refl, inr (refl, inl lt))))))
 
-resolution_sorted : (g : Geometry) (r : ℕ) → AllPairs (Before g) (resolution_names r)
-unfolding resolution_names
-resolution_sorted g r =
-    joined_pairs (Before g) (layer_names r) 0 12 (λ l. layer_sorted g r l)
-    (λ l m x y lt hx hy. (let a = from_layer r l x hx in let b = from_layer r m y hy in inr (omega (arith, a.0, b.0), inl (omega (arith, a.1, b.1)))))
+layer_sorted : (g : Geometry) (l : ℕ) → AllPairs (Before g) (layer_names l)
+unfolding layer_names
+layer_sorted g l =
+    joined_pairs (Before g) (resolution_names l) 0 6 (λ r. resolution_sorted g l r)
+    (λ r q x y lt hx hy. (let a = from_resolution l r x hx in let b = from_resolution l q y hy in inr (omega (arith, a.0, b.0), inl (omega (arith, a.1, b.1)))))
 
 names_sorted : (g : Geometry) → AllPairs (Before g) names_made
 unfolding names_made
 names_sorted g =
-    joined_pairs (Before g) resolution_names 0 6 (λ r. resolution_sorted g r)
-    (λ r q x y lt hx hy. (let a = from_resolution r x hx in let b = from_resolution q y hy in inl (omega (arith, a.0, b.0))))
+    joined_pairs (Before g) layer_names 0 12 (λ l. layer_sorted g l)
+    (λ l m x y lt hx hy. (let a = from_layer l x hx in let b = from_layer m y hy in inl (omega (arith, a.0, b.0))))
 
 -- ---- the packets of the tile
 packet_from : (w h : ℕ) (p : PacketName) → AreSizes w h → HasFields p → IsPacket (geometry_made w h) 12 p
@@ -112,7 +112,7 @@ names_exact : (w h : ℕ) (p : PacketName) → AreSizes w h → IsPacket (geomet
 names_exact w h p sizes is =
     let f = packet_fields w h p sizes is in
     let e : name_of p.layer p.res p.comp 0 ≡ p = same_fields (name_of p.layer p.res p.comp 0) p refl refl refl (sym f.3) in
-    subst (λ (x : PacketName). Contains names_made x) e (to_names p.res p.layer p.comp f.0 f.1 f.2)
+    subst (λ (x : PacketName). Contains names_made x) e (to_names p.layer p.res p.comp f.1 f.0 f.2)
 
 sends_all : (w h : ℕ) → AreSizes w h → Sends (geometry_made w h) 12 entry_made [] names_made
 sends_all w h sizes = record {

@@ -77,10 +77,10 @@ number_few r HL le = omega arith
 number_few r LH le = omega arith
 number_few r HH le = omega arith
 
-planes_13 : (w h size c r : ℕ) (b : Band) → c < 3 → r ≤ 5 → planes_at (stream_made w h size) 0 c r b ≡ 13
+pub planes_13 : (w h size c r : ℕ) (b : Band) → c < 3 → r ≤ 5 → planes_at (stream_made w h size) 0 c r b ≡ 13
 planes_13 w h size c r b lt le = planes_own w h size c r b lt ∙ planes_n (number_of r b) (number_few r b le)
 
-style_0 : (w h size c : ℕ) → c < 3 → style_of (stream_made w h size) 0 c ≡ 0
+pub style_0 : (w h size c : ℕ) → c < 3 → style_of (stream_made w h size) 0 c ≡ 0
 unfolding stream_made
 style_0 w h size zero lt = refl
 style_0 w h size (suc zero) lt = refl
@@ -129,7 +129,7 @@ all_written seed w h size sizes =
 -- ---- the tile data
 module _ (seed w h : ℕ) where
   abbrev bytes_at : PacketName → List ℕ
-  bytes_at p = packet_made seed w h p.res p.layer p.comp
+  bytes_at p = packet_made seed w h p.layer p.res p.comp
 
   one_packet : (n : ℕ) (p : PacketName) → packet_bytes n ((packets_made seed w h).written p) ≡ bytes_at p
   unfolding packets_made packet_made
@@ -152,20 +152,19 @@ module _ (seed w h : ℕ) where
   unfolding joined
   flat_joined f n = flat_below f (n - 0)
 
-  layer_flat : (r l : ℕ) → flat_map bytes_at (layer_names r l) ≡ layer_made seed w h r l
-  unfolding layer_names layer_made
-  layer_flat r l =
-      flat_joined (one_name r l) 3 ∙ joined_same (λ c. flat_map bytes_at (one_name r l c)) (packet_made seed w h r l) 3 (λ c lt. append-nil (packet_made seed w h r l c))
-
-  resolution_flat : (r : ℕ) → flat_map bytes_at (resolution_names r) ≡ resolution_made seed w h r
+  resolution_flat : (l r : ℕ) → flat_map bytes_at (resolution_names l r) ≡ resolution_made seed w h l r
   unfolding resolution_names resolution_made
-  resolution_flat r = flat_joined (layer_names r) 12 ∙ joined_same (λ l. flat_map bytes_at (layer_names r l)) (layer_made seed w h r) 12 (λ l lt. layer_flat r l)
+  resolution_flat l r =
+      flat_joined (one_name l r) 3 ∙ joined_same (λ c. flat_map bytes_at (one_name l r c)) (packet_made seed w h l r) 3 (λ c lt. append-nil (packet_made seed w h l r c))
+
+  layer_flat : (l : ℕ) → flat_map bytes_at (layer_names l) ≡ layer_made seed w h l
+  unfolding layer_names layer_made
+  layer_flat l = flat_joined (resolution_names l) 6 ∙ joined_same (λ r. flat_map bytes_at (resolution_names l r)) (resolution_made seed w h l) 6 (λ r lt. resolution_flat l r)
 
   pub body_is : bytes_from (packets_made seed w h) 0 names_made ≡ body_made seed w h
   unfolding names_made body_made
   body_is =
-      any_number 0 (joined resolution_names 0 6) ∙ flat_joined resolution_names 6
-      ∙ joined_same (λ r. flat_map bytes_at (resolution_names r)) (resolution_made seed w h) 6 (λ r lt. resolution_flat r)
+      any_number 0 (joined layer_names 0 12) ∙ flat_joined layer_names 12 ∙ joined_same (λ l. flat_map bytes_at (layer_names l)) (layer_made seed w h) 12 (λ l lt. layer_flat l)
 
 -- ---- where they stand
 rest_of_file : (w h : ℕ) (body : List ℕ) → drop 124 (file_with w h body) ≡ (body ++ []) ++ (255 ∷ 217 ∷ [])

@@ -1,5 +1,5 @@
 -- The headers of a made file (ITU-T T.800, A.4 to A.6 and A.9.2): one tile with three components of 8 bits, 5 levels of the 9-7
--- wavelet, code-blocks of 64 by 64, 12 layers in the order RLCP, 13 planes in each band, one precinct in each resolution.
+-- wavelet, code-blocks of 64 by 64, 12 layers in the order LRCP, 13 planes in each band, one precinct in each resolution.
 use Rattle.std.specs.Prelude.{ℕ, ◌≤◌, List, [], ◌∷◌, replicate, false}
 use Rattle.jx_geom.specs.declared.shape.Canvas.{Canvas}
 use Rattle.jx_geom.specs.declared.shape.CompShape.{CompShape}
@@ -32,7 +32,7 @@ abbrev pub cod_made : Cod
 cod_made = record {
   sop = false;
   eph = false;
-  order = 1;
+  order = 0;
   layers = 12;
   transform = 1;
   shape = record { levels = 5; xcb = 6; ycb = 6; style = 0; wavelet = 0; precincts = [] };

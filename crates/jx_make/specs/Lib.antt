@@ -6,3 +6,4 @@ pub mod Values
 pub mod Making
 pub mod Reading
 pub mod Packets
+pub mod Plain

@@ -48,17 +48,17 @@ unfoldable pub data_made : ℕ → ℕ → ℕ → ℕ → ℕ → ℕ → List 
 data_made seed w h c r layer = joined (leaf_bytes seed w h c r layer) 0 (leaves (geometry_made w h) c r 0)
 
 unfoldable pub packet_made : ℕ → ℕ → ℕ → ℕ → ℕ → ℕ → List ℕ
-packet_made seed w h r layer c = header_made seed w h c r layer ++ data_made seed w h c r layer
+packet_made seed w h layer r c = header_made seed w h c r layer ++ data_made seed w h c r layer
 
--- B.12.1.2: resolution by resolution, in each layer by layer, in each component by component
-unfoldable pub layer_made : ℕ → ℕ → ℕ → ℕ → ℕ → List ℕ
-layer_made seed w h r layer = joined (packet_made seed w h r layer) 0 3
+-- B.12.1.1: layer by layer, in each resolution by resolution, in each component by component
+unfoldable pub resolution_made : ℕ → ℕ → ℕ → ℕ → ℕ → List ℕ
+resolution_made seed w h layer r = joined (packet_made seed w h layer r) 0 3
 
-unfoldable pub resolution_made : ℕ → ℕ → ℕ → ℕ → List ℕ
-resolution_made seed w h r = joined (layer_made seed w h r) 0 12
+unfoldable pub layer_made : ℕ → ℕ → ℕ → ℕ → List ℕ
+layer_made seed w h layer = joined (resolution_made seed w h layer) 0 6
 
 unfoldable pub body_made : ℕ → ℕ → ℕ → List ℕ
-body_made seed w h = joined (resolution_made seed w h) 0 6
+body_made seed w h = joined (layer_made seed w h) 0 12
 
 -- A.4.2: Psot counts from SOT's first byte on, with 12 bytes of SOT and 2 of SOD
 abbrev pub part_with : List ℕ → TilePart

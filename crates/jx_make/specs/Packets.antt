@@ -23,15 +23,15 @@ packets_made seed w h = record {
   before = λ p. state_at 12 0 (bands_made w h p.comp p.res) (leaves_made seed w h p.comp p.res) p.layer;
 }
 
--- B.12.1.2: their order
+-- B.12.1.1: their order
 abbrev pub one_name : ℕ → ℕ → ℕ → List PacketName
-one_name r layer c = name_of layer r c 0 ∷ []
+one_name layer r c = name_of layer r c 0 ∷ []
 
-unfoldable pub layer_names : ℕ → ℕ → List PacketName
-layer_names r layer = joined (one_name r layer) 0 3
+unfoldable pub resolution_names : ℕ → ℕ → List PacketName
+resolution_names layer r = joined (one_name layer r) 0 3
 
-unfoldable pub resolution_names : ℕ → List PacketName
-resolution_names r = joined (layer_names r) 0 12
+unfoldable pub layer_names : ℕ → List PacketName
+layer_names layer = joined (resolution_names layer) 0 6
 
 unfoldable pub names_made : List PacketName
-names_made = joined resolution_names 0 6
+names_made = joined layer_names 0 12

@@ -5,9 +5,9 @@ use Rattle.jx_stream.specs.declared.Stream.{Stream}
 use Rattle.jx_stream.specs.declared.Tile.{Tile}
 use Rattle.jx_make.specs.Headers.{main_made, siz_made}
 
--- B.12: one entry, of the order RLCP, covers all
+-- B.12: one entry, of the order LRCP, covers all
 abbrev pub entry_made : Progression
-entry_made = record { rs = 0; cs = 0; lye = 12; re = 33; ce = 0; order = 1 }
+entry_made = record { rs = 0; cs = 0; lye = 12; re = 33; ce = 0; order = 0 }
 
 -- SOT stands at 110, and the tile data, of so many bytes, at 124
 abbrev pub tile_made : ℕ → Tile

@@ -40,7 +40,7 @@ fn siz(alloc: Global, width: u32, height: u32) -> Result<Siz, NoMemory>
     })
 }
 
-/// Five levels of the 9-7 wavelet with the component transform, code-blocks of 64 by 64, twelve layers in the order RLCP.
+/// Five levels of the 9-7 wavelet with the component transform, code-blocks of 64 by 64, twelve layers in the order LRCP.
 fn cod(alloc: Global) -> Cod
     ensures { result ≡ cod_made }
 {
@@ -55,7 +55,7 @@ fn cod(alloc: Global) -> Cod
     Cod {
         sop: false,
         eph: false,
-        order: 1,
+        order: 0,
         layers: 12,
         transform: 1,
         shape,

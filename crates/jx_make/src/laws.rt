@@ -1,12 +1,17 @@
 //! Laws of made files. The functions do nothing: their contracts carry the laws.
 
-ghost use Rattle.std.specs.Prelude.{◌≡◌, ◌+◌, ◌*◌, ◌/◌, ◌<◌, ◌≤◌, ◌^◌, ◌↔◌, ℕ, length};
+ghost use Rattle.std.specs.Prelude.{◌≡◌, ◌+◌, ◌*◌, ◌/◌, ◌<◌, ◌≤◌, ◌^◌, ◌↔◌, ℕ, List, length};
+ghost use Rattle.std.specs.List.{All};
+ghost use Rattle.jx_base.specs.declared.pieces.Block.{Block};
 ghost use Rattle.jx_base.specs.Markers.{HasNoMarker};
+ghost use Rattle.jx_base.specs.Sound.{IsSound};
 ghost use Rattle.jx_gather.specs.Accepted.{IsAccepted};
+ghost use Rattle.jx_gather.specs.BlockOf.{AreBlocksOf};
 ghost use Rattle.jx_gather.specs.WellFormed.{IsWellFormed};
 ghost use Rattle.jx_make.specs.Drawn.{first_pass, pass_bytes};
 ghost use Rattle.jx_make.specs.Headers.{AreSizes};
 ghost use Rattle.jx_make.specs.Made.{body_made, file_made};
+ghost use Rattle.jx_make.specs.Plain.{IsPlain};
 ghost use Rattle.jx_make.specs.Reading.{stream_made};
 
 /// A made file of at most 2^28 bytes violates no rule and passes no limit.
@@ -25,4 +30,9 @@ pub fn passes_lie_in_layers()
 /// byte above 8F.
 pub fn passes_hold_no_marker()
     ensures { (state : ℕ) → HasNoMarker 0 (pass_bytes state) }
+{}
+
+/// Whatever code-blocks are read of a made file, none has a style bit, and none more than 37 coding passes.
+pub fn made_blocks_are_plain()
+    ensures { (w h size : ℕ) (blocks : List Block) → AreSizes w h → AreBlocksOf (stream_made w h size) blocks → All IsSound blocks → All IsPlain blocks }
 {}

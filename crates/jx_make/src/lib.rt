@@ -1,5 +1,5 @@
 //! A generator of codestreams with random code-blocks (ITU-T T.800): one tile, three components, five levels, twelve layers in the
-//! order RLCP, and coded bytes from a seed.
+//! order LRCP, and coded bytes from a seed.
 #![tactic(auto)]
 
 ghost use Rattle.std.specs.Prelude.{◌≡◌, ◌≤◌, ◌^◌, length, IfOk};

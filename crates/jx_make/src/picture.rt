@@ -11,7 +11,7 @@ ghost use Rattle.jx_head.specs.Leafs.{leaf_of};
 ghost use Rattle.jx_make.specs.Drawn.{block_drawn};
 ghost use Rattle.jx_make.specs.Headers.{AreSizes, geometry_made};
 ghost use Rattle.jx_make.specs.Made.{bands_made, body_made, data_made, layer_bytes, layer_made, leaf_of_drawn, leaves_made, packet_made, resolution_made};
-ghost use Rattle.jx_make.specs.Making.{Making, count_drawn, plan_made};
+ghost use Rattle.jx_make.specs.Making.{Making, count_drawn, plan_made, three_made, writers_made};
 ghost use Rattle.jx_make.specs.Values.{drawn_of, piece_of};
 
 use crate::drawing::{DrawnBlock, DrawnPiece, draw_blocks};
@@ -21,6 +21,9 @@ use jx_geom::{Leaves, TileGeom};
 use jx_head::{BandCells, Leaf, Part, PrecinctOut};
 use std::alloc::Global;
 use std::marker::Model;
+
+/// The writers of the precincts of a resolution, one for each component.
+type Three = (PrecinctOut, PrecinctOut, PrecinctOut);
 
 /// A picture with random code-blocks, in the order of their numbers.
 #[derive(Drop)]
@@ -233,6 +236,30 @@ impl Picture {
         PrecinctOut::new(alloc, &bands, Style { bits: 0 }, 12, leaves)
     }
 
+    /// The precincts of a resolution, before their first packets.
+    fn three(&self, alloc: Global, res: u8) -> Result<Three, NoMemory>
+        requires { res ≤ 5 }
+        ensures { IfOk result (λ three. three ≡ three_made self.now res 0) }
+    {
+        Ok((
+            self.precinct(alloc, 0, res)?,
+            self.precinct(alloc, 1, res)?,
+            self.precinct(alloc, 2, res)?,
+        ))
+    }
+
+    /// The precincts of the tile, before their first packets.
+    fn writers(&self, alloc: Global) -> Result<Vec<Three>, NoMemory>
+        ensures { IfOk result (λ writers. writers.items ≡ writers_made self.now 0 0) }
+    {
+        let mut writers = Vec::new(alloc);
+        for res in 0..6 {
+            let three = self.three(alloc, res)?;
+            writers.push(three)?;
+        }
+        Ok(writers)
+    }
+
     /// Appends a packet.
     #[tactic(auto, unfolding(crate::specs::Made::packet_made, crate::specs::Made::header_made))]
     fn put_packet(
@@ -247,7 +274,7 @@ impl Picture {
         requires res { res ≤ 5 }
         requires layer { layer < 12 }
         requires precinct { precinct.old ≡ plan_made self.now comp res layer }
-        ensures out { OnOk result (out.new.items ≡ out.old.items ++ packet_made self.now.seed self.now.width self.now.height res layer comp) }
+        ensures out { OnOk result (out.new.items ≡ out.old.items ++ packet_made self.now.seed self.now.width self.now.height layer res comp) }
         ensures precinct { OnOk result (precinct.new ≡ plan_made self.now comp res (layer + 1)) }
     {
         precinct.write_header(layer, out)?;
@@ -255,55 +282,53 @@ impl Picture {
         Ok(())
     }
 
-    /// Appends the packets of a layer of a resolution.
-    fn put_layer(
+    /// Appends the packets of a resolution in a layer.
+    fn put_resolution(
         &self,
-        precincts: &mut (PrecinctOut, PrecinctOut, PrecinctOut),
+        three: &mut Three,
         res: u8,
         layer: u16,
         out: &mut Vec<u8>,
     ) -> Result<(), NoMemory>
         requires res { res ≤ 5 }
         requires layer { layer < 12 }
-        requires first { precincts.old.0 ≡ plan_made self.now 0 res layer }
-        requires second { precincts.old.1 ≡ plan_made self.now 1 res layer }
-        requires third { precincts.old.2 ≡ plan_made self.now 2 res layer }
-        ensures out { OnOk result (out.new.items ≡ out.old.items ++ layer_made self.now.seed self.now.width self.now.height res layer) }
-        ensures first { OnOk result (precincts.new.0 ≡ plan_made self.now 0 res (layer + 1)) }
-        ensures second { OnOk result (precincts.new.1 ≡ plan_made self.now 1 res (layer + 1)) }
-        ensures third { OnOk result (precincts.new.2 ≡ plan_made self.now 2 res (layer + 1)) }
+        requires three { three.old ≡ three_made self.now res layer }
+        ensures out { OnOk result (out.new.items ≡ out.old.items ++ resolution_made self.now.seed self.now.width self.now.height layer res) }
+        ensures three { OnOk result (three.new ≡ three_made self.now res (layer + 1)) }
     {
-        self.put_packet(&mut precincts.0, 0, res, layer, out)?;
-        self.put_packet(&mut precincts.1, 1, res, layer, out)?;
-        self.put_packet(&mut precincts.2, 2, res, layer, out)?;
+        self.put_packet(&mut three.0, 0, res, layer, out)?;
+        self.put_packet(&mut three.1, 1, res, layer, out)?;
+        self.put_packet(&mut three.2, 2, res, layer, out)?;
         Ok(())
     }
 
-    /// Appends the packets of a resolution.
-    #[tactic(auto, unfolding(crate::specs::Made::resolution_made))]
-    fn put_resolution(&self, alloc: Global, res: u8, out: &mut Vec<u8>) -> Result<(), NoMemory>
-        requires res { res ≤ 5 }
-        ensures { OnOk result (out.new.items ≡ out.old.items ++ resolution_made self.now.seed self.now.width self.now.height res) }
+    /// Appends the packets of a layer.
+    fn put_layer(
+        &self,
+        writers: &mut Vec<Three>,
+        layer: u16,
+        out: &mut Vec<u8>,
+    ) -> Result<(), NoMemory>
+        requires layer { layer < 12 }
+        requires writers { writers.old.items ≡ writers_made self.now layer 0 }
+        ensures out { OnOk result (out.new.items ≡ out.old.items ++ layer_made self.now.seed self.now.width self.now.height layer) }
+        ensures writers { OnOk result (writers.new.items ≡ writers_made self.now (layer + 1) 0) }
     {
-        let mut precincts = (
-            self.precinct(alloc, 0, res)?,
-            self.precinct(alloc, 1, res)?,
-            self.precinct(alloc, 2, res)?,
-        );
-        for layer in 0..12 {
-            self.put_layer(&mut precincts, res, layer, out)?;
+        for res in 0..6 {
+            self.put_resolution(&mut writers[usize::from(res)], res, layer, out)?;
         }
         Ok(())
     }
 
-    /// The packets of the tile, in the order RLCP (B.12.1.2).
+    /// The packets of the tile, in the order LRCP (B.12.1.1).
     #[tactic(auto, unfolding(crate::specs::Made::body_made))]
     pub(crate) fn body(&self, alloc: Global) -> Result<Vec<u8>, NoMemory>
         ensures { IfOk result (λ bytes. bytes.items ≡ body_made self.now.seed self.now.width self.now.height) }
     {
+        let mut writers = self.writers(alloc)?;
         let mut bytes = Vec::new(alloc);
-        for res in 0..6 {
-            self.put_resolution(alloc, res, &mut bytes)?;
+        for layer in 0..12 {
+            self.put_layer(&mut writers, layer, &mut bytes)?;
         }
         Ok(bytes)
     }

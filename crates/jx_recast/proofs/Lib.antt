@@ -15,3 +15,5 @@ pub mod WrongLemmas
 pub mod MakeLemmas
 pub mod RunLemmas
 pub mod AcceptedLemmas
+pub mod PlannedMade
+pub mod MadeVerdictLemmas

@@ -10,3 +10,4 @@ pub mod Rounds
 pub mod MadeRounds
 pub mod Filed
 pub mod Halts
+pub mod MadeVerdict

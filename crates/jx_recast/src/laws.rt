@@ -1,11 +1,14 @@
 //! Laws over what becomes of an input. The functions do nothing but cite the laws of the crates below: their contracts carry the laws.
-ghost use Rattle.std.specs.Prelude.{◌≡◌, ◌≤◌, ℕ, List, length};
+ghost use Rattle.std.specs.Prelude.{◌≡◌, ◌⊎◌, ◌≤◌, ℕ, List, Option, length};
+ghost use Rattle.jx_layers.specs.declared.StreamFacts.{StreamFacts};
+ghost use Rattle.jx_layers.specs.Rule.{Rule};
 ghost use Rattle.jx_marker.specs.Ranges.{AreBytes};
 ghost use Rattle.jx_recast.specs.Aims.{Aim, MayBeAimed};
 ghost use Rattle.jx_words.specs.MakeWords.{Make, MayBeMade};
 ghost use Rattle.jx_recast.specs.declared.status.Status.{Status};
 ghost use Rattle.jx_recast.specs.declared.status.Status.TheVariants as status;
-ghost use Rattle.jx_recast.specs.MakeRun.{input_of};
+ghost use Rattle.jx_recast.specs.MadeVerdict.{HasNoRule};
+ghost use Rattle.jx_recast.specs.MakeRun.{aim_made, input_of};
 ghost use Rattle.jx_recast.specs.Outcome.{Verdict, most_bytes};
 
 use jx_assemble::laws::{one_output, written_is_ready};
@@ -44,6 +47,25 @@ pub fn made_is_accepted()
     ensures rules { (aim : Aim) (m : Make) (number place : ℕ) → MayBeMade m → Verdict aim (input_of m) (status.Rule number place) → ⊥ }
     ensures limits { (aim : Aim) (m : Make) (number found : ℕ) → MayBeMade m → length (input_of m) ≤ most_bytes
         → Verdict aim (input_of m) (status.Limit number found) → number ≡ 7 }
+{
+    made_is_well_formed();
+    one_stream();
+    one_first();
+    violated_or_spelled();
+    one_violation();
+    one_gathering();
+    never_both();
+    one_answer();
+}
+
+/// A generated codestream, with the options of `make` and planners that make 1 to 65,535 layers: no limit is passed, no code-block is wrong, and
+/// no choice is in the way but choice 7 and, where there is no rule of layers, choice 6.
+pub fn made_is_planned()
+    ensures limits { (rule : List ℕ → StreamFacts → Option Rule) (m : Make) (number found : ℕ) → MayBeMade m → MayBeAimed (aim_made rule) → length (input_of m) ≤ most_bytes
+        → Verdict (aim_made rule) (input_of m) (status.Limit number found) → ⊥ }
+    ensures choices { (rule : List ℕ → StreamFacts → Option Rule) (m : Make) (number place : ℕ) → MayBeMade m → MayBeAimed (aim_made rule)
+        → Verdict (aim_made rule) (input_of m) (status.Choice number place) → (number ≡ 7) ⊎ ((number ≡ 6) × (place ≡ 0) × HasNoRule (aim_made rule) (input_of m)) }
+    ensures blocks { (rule : List ℕ → StreamFacts → Option Rule) (m : Make) (number : ℕ) → MayBeMade m → Verdict (aim_made rule) (input_of m) (status.Block number) → ⊥ }
 {
     made_is_well_formed();
     one_stream();

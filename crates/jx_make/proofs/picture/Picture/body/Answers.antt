@@ -1,12 +1,13 @@
 use Rattle.std.proofs.Common.{◌∙◌, sym, arith}
 use Rattle.jx_base.proofs.Joined.{joined_none, makes_next}
-use Rattle.jx_make.specs.Made.{resolution_made}
+use Rattle.jx_make.specs.Made.{layer_made}
 use Rattle.jx_make.proofs.picture.Picture.body.Goals as goal
 
-pub loop-res-init : goal.loop-res-init
-loop-res-init c = c.new-bytes.ensures.items ∙ sym (joined_none (resolution_made c.args.self.now.seed c.args.self.now.width c.args.self.now.height) 0 0 (omega arith))
+pub loop-layer-init : goal.loop-layer-init
+loop-layer-init c = (c.new-bytes.ensures.items ∙ sym (joined_none (layer_made c.args.self.now.seed c.args.self.now.width c.args.self.now.height) 0 0 (omega arith)), c.in_ok-writers.ensures)
 
-pub loop-res-preserved : goal.loop-res-preserved
-loop-res-preserved c =
-    makes_next c.loop-res.bytes.items c.put_resolution.new.out.items (resolution_made c.args.self.now.seed c.args.self.now.width c.args.self.now.height) 0 c.loop-res.res (omega arith)
-    c.loop-res.invariant c.in_ok-put_resolution.ensures
+pub loop-layer-preserved : goal.loop-layer-preserved
+loop-layer-preserved c = (
+  makes_next c.loop-layer.bytes.items c.put_layer.new.out.items (layer_made c.args.self.now.seed c.args.self.now.width c.args.self.now.height) 0 c.loop-layer.layer (omega arith) c.loop-layer.invariant.0 c.in_ok-put_layer.ensures.out,
+  c.in_ok-put_layer.ensures.writers,
+)
