@@ -1,5 +1,5 @@
 -- The plan of files in memory.
-use Rattle.std.specs.Prelude.{ℕ, ◌≡◌, ◌+◌, ◌⊎◌, List, Contains, Result, Err}
+use Rattle.std.specs.Prelude.{ℕ, ◌≡◌, ◌+◌, ◌⊎◌, List, Contains, Option, Result, Err}
 use Rattle.jx_outside.specs.declared.plan.Call.{Call}
 use Rattle.jx_outside.specs.declared.plan.PlannedFault.{PlannedFault}
 use Rattle.jx_outside.specs.declared.refused.Refused.{Refused}
@@ -24,6 +24,10 @@ next_call files call = next_of files.plan call
 -- how many bytes a read or a write takes at most
 abbrev pub most_taken : MemFiles → ℕ
 most_taken files = files.more + 1
+
+-- how many bytes a file that is read is said to have
+abbrev pub length_said : MemFiles → Option ℕ
+length_said files = files.hint
 
 -- the next call of a kind is to fail
 abbrev pub IsDue : MemFiles → Call → Type 0

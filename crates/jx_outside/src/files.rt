@@ -50,6 +50,12 @@ pub trait Files {
         ensures cause { HasCause (read_faults self.old) (read_faults self.new) result }
         ensures other { write_faults self.new ≡ write_faults self.old };
 
+    /// How many bytes the file that is read may have in all, where the device can tell without
+    /// reading. Nothing is promised of it: it is for taking room at once, and may be wrong.
+    fn length_hint(&self) -> Option<u64> {
+        None
+    }
+
     /// Makes a file of this name, with no bytes yet.
     fn create(&mut self, name: &str) -> Result<(), Refused>
         requires { can_create self.old name.now }

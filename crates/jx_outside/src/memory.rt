@@ -19,10 +19,12 @@ pub struct MemFiles {
     plan: Plan,
     // how many bytes beside one a read or a write takes at most
     more: u32,
+    // how many bytes a file that is read is said to have
+    hint: Option<u64>,
 }
 
 impl MemFiles {
-    ghost use Rattle.jx_outside.specs.MemPlan.{most_taken, next_call, planned};
+    ghost use Rattle.jx_outside.specs.MemPlan.{length_said, most_taken, next_call, planned};
 
     /// No files, and no call that is to fail.
     pub fn new(alloc: Global) -> MemFiles
@@ -38,6 +40,7 @@ impl MemFiles {
             write_faults: 0,
             plan: Plan::new(alloc),
             more: u32::MAX,
+            hint: None,
         }
     }
 
@@ -85,6 +88,20 @@ impl MemFiles {
         self.more = most - 1;
     }
 
+    /// From now on each file that is read is said to have so many bytes, whatever it has; until then
+    /// nothing is said.
+    pub fn hint(&mut self, length: u64)
+        ensures hint { length_said self.new ≡ Some length }
+        ensures most { most_taken self.new ≡ most_taken self.old }
+        ensures same { ⟦<MemFiles as Files>⟧.meaning self.new ≡ ⟦<MemFiles as Files>⟧.meaning self.old }
+        ensures reads { ⟦<MemFiles as Files>⟧.read_faults self.new ≡ ⟦<MemFiles as Files>⟧.read_faults self.old }
+        ensures writes { ⟦<MemFiles as Files>⟧.write_faults self.new ≡ ⟦<MemFiles as Files>⟧.write_faults self.old }
+        ensures plan { planned self.new ≡ planned self.old }
+        ensures counts { (kind : Call) → next_call self.new kind ≡ next_call self.old kind }
+    {
+        self.hint = Some(length);
+    }
+
     /// How many bytes a read or a write takes at most.
     fn most(&self) -> usize
         ensures { result ≡ most_taken self.now }
@@ -122,7 +139,7 @@ impl MemFiles {
 }
 
 impl Files for MemFiles {
-    ghost use Rattle.jx_outside.specs.MemPlan.{Shows, most_taken, told};
+    ghost use Rattle.jx_outside.specs.MemPlan.{Shows, length_said, most_taken, told};
 
     ghost meaning = { λ m. meaning_of m.store };
 
@@ -174,6 +191,12 @@ impl Files for MemFiles {
         }
         let most = self.most();
         Ok(self.store.read(most, into))
+    }
+
+    fn length_hint(&self) -> Option<u64>
+        ensures { result ≡ length_said self.now }
+    {
+        self.hint
     }
 
     fn create(&mut self, name: &str) -> Result<(), Refused>

@@ -3,7 +3,7 @@ ghost use Rattle.jx_outside.specs.Causes.{Rose};
 
 use crate::output::{Output, begin};
 use crate::{Files, Refused, Sink};
-use std::fs;
+use std::fs::{self, OpenFile};
 use std::io::{Read, Write};
 use std::rt::Files as Disk;
 
@@ -102,6 +102,13 @@ impl<R: Disk + AllocGlobal + Drop> Files for StdFiles<R> {
             }
         }
         Err(self.read_fault())
+    }
+
+    fn length_hint(&self) -> Option<u64> {
+        match self.reading.as_ref()?.metadata() {
+            Ok(there) if there.is_file() => Some(there.len()),
+            _ => None,
+        }
     }
 
     fn create(&mut self, name: &str) -> Result<(), Refused> {

@@ -74,6 +74,24 @@ fn a_file_that_is_read_is_made_anew(rt: HostRuntime) -> Result<(), Fail> {
     Ok(())
 }
 
+#[test]
+fn a_plain_file_says_its_length(rt: HostRuntime) -> Result<(), Fail> {
+    let name = "jx_outside_length";
+    fs::write(&rt, name, &[1u8, 2, 3])?;
+    let mut files = StdFiles::new(&rt);
+    assert_eq!(rt; files.length_hint(), None);
+    files.open(name)?;
+    let mut piece = [0u8; 2];
+    for _ in 0..3 {
+        assert_eq!(rt; files.length_hint(), Some(3));
+        files.read(&mut piece)?;
+    }
+    files.open("/dev/null")?;
+    assert_eq!(rt; files.length_hint(), None);
+    fs::remove_file(&rt, name)?;
+    Ok(())
+}
+
 // A file is begun under this name, written and not finished.
 fn begin_only(rt: &HostRuntime, name: &str) -> Result<(), Fail> {
     let mut files = StdFiles::new(rt);

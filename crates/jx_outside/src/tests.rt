@@ -51,6 +51,21 @@ fn memory_keeps_what_is_put_and_made(rt: HostRuntime) -> Result<(), Fail> {
 }
 
 #[test]
+fn a_length_is_said_where_one_is_given(rt: HostRuntime) -> Result<(), Fail> {
+    let mut files = MemFiles::new(rt.alloc());
+    files.put("a", &[1, 2])?;
+    files.open("a")?;
+    assert_eq!(rt; files.length_hint(), None);
+    files.hint(7);
+    assert_eq!(rt; files.length_hint(), Some(7));
+    let mut sure = SureFiles::new(rt.alloc());
+    sure.put("a", &[1, 2])?;
+    sure.open("a")?;
+    assert_eq!(rt; sure.length_hint(), None);
+    Ok(())
+}
+
+#[test]
 fn memory_fails_as_planned(rt: HostRuntime) -> Result<(), Fail> {
     for (call, nth, done) in [
         (Call::Create, 1, 0),

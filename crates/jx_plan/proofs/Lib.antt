@@ -14,6 +14,7 @@ pub mod ViewLemmas
 pub mod PlainLemmas
 pub mod LayerLaws
 pub mod PlanLemmas
+pub mod TileJobLemmas
 pub mod BlocksWritten
 pub mod MeaningLemmas
 pub mod CauseLemmas

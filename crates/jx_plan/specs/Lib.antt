@@ -7,6 +7,7 @@ pub mod Standing
 pub mod Asides
 pub mod ReadBack
 pub mod Plan
+pub mod TileJobs
 pub mod Meaning
 pub mod Causes
 pub mod Planned

@@ -1,7 +1,13 @@
 //! A planned codestream.
 
-ghost use Rattle.std.specs.Prelude.{◌≡◌};
+ghost use Rattle.std.specs.Prelude.{◌≡◌, ◌<◌, ◌≤◌, ◌+◌, ◌^◌, ℕ, true, false, length};
+ghost use Rattle.jx_geom.specs.Counts.{tile_blocks};
+ghost use Rattle.jx_geom.specs.Numbering.{blocks_below};
+ghost use Rattle.jx_geom.specs.Rects.{tile_rect};
+ghost use Rattle.jx_stream.specs.First.{canvas_of, tile_number};
+ghost use Rattle.jx_stream.specs.Shapes.{shapes_of};
 ghost use Rattle.jx_plan.specs.Plan.{IsPlan, headers_of};
+ghost use Rattle.jx_plan.specs.TileJobs.{AreJobsBelow, AreTileJobs};
 ghost use Rattle.jx_plan.specs.Wanted.{marks_of};
 
 use crate::{Marks, Options};
@@ -31,6 +37,34 @@ impl<'a> Model for OutStream<'a> {
 
     ghost invariant = { λ p. IsPlan (record { stream = p.stream.now; blocks = p.blocks.now; wanted = p.options.now; layers = p.layers; jobs = p.jobs.items })
         × (p.written ≡ headers_with p.options.now p.layers p.stream.now) };
+}
+
+/// Whether the job of a number is of a tile below one; then the jobs of these tiles are more than its number, where they stand
+/// before all others.
+#[tactic(auto, using(crate::proofs::TileJobLemmas::not_behind, crate::proofs::TileJobLemmas::not_before))]
+fn is_below(jobs: &[Job<'_>], number: usize, tile: u32) -> bool
+    requires { number < length jobs.now }
+    ensures below { result ≡ true → (count : ℕ) → AreJobsBelow jobs.now tile count → number < count }
+    ensures past { result ≡ false → (count : ℕ) → AreJobsBelow jobs.now tile count → count ≤ number }
+{
+    u32::from(jobs[number].block.name.tile) < tile
+}
+
+/// How many jobs are of tiles below one, where they stand before all others.
+fn jobs_below(jobs: &[Job<'_>], tile: u32) -> usize
+    ensures { (count : ℕ) → AreJobsBelow jobs.now tile count → result ≡ count }
+{
+    let mut low = 0;
+    let mut high = jobs.len();
+    while low < high {
+        let middle = low + (high - low) / 2;
+        if is_below(jobs, middle, tile) {
+            low = middle + 1;
+        } else {
+            high = middle;
+        }
+    }
+    low
 }
 
 impl<'a> OutStream<'a> {
@@ -83,5 +117,30 @@ impl<'a> OutStream<'a> {
         ensures plan { IsPlan self.now }
     {
         &self.jobs
+    }
+
+    /// How many jobs are of tiles below one, or of all tiles.
+    fn jobs_before(&self, tile: u32) -> u32
+        requires { tile ≤ tile_number self.now.stream.siz }
+        ensures count { result ≡ blocks_below (canvas_of self.now.stream.siz) (shapes_of self.now.stream) tile }
+        ensures below { AreJobsBelow self.now.jobs tile result }
+        ensures few { result ≤ 2 ^ 20 }
+        ensures plan { IsPlan self.now }
+    {
+        jobs_below(self.jobs(), tile) as u32
+    }
+
+    /// The number of a tile's first job, and the number after its last; the two are equal where it has none. The time grows with
+    /// the binary digits of the number of all jobs.
+    pub fn tile_jobs(&self, tile: u16) -> (u32, u32)
+        requires tile { tile < tile_number self.now.stream.siz }
+        ensures own { AreTileJobs self.now.jobs tile result.0 result.1 }
+        ensures first { result.0 ≡ blocks_below (canvas_of self.now.stream.siz) (shapes_of self.now.stream) tile }
+        ensures count { result.1 ≡ result.0 + tile_blocks (tile_rect (canvas_of self.now.stream.siz) tile) (shapes_of self.now.stream tile) }
+        ensures few { result.1 ≤ 2 ^ 20 }
+        ensures plan { IsPlan self.now }
+    {
+        let tile = u32::from(tile);
+        (self.jobs_before(tile), self.jobs_before(tile + 1))
     }
 }
