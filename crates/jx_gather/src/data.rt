@@ -1,6 +1,6 @@
 //! SOP, EPH and the coded bytes of packets (ITU-T T.800, A.8 and B.10).
 
-ghost use Rattle.std.specs.Prelude.{◌≡◌, ◌≤◌, ◌<◌, ◌+◌, ◌^◌, length, MatchOption};
+ghost use Rattle.std.specs.Prelude.{◌≡◌, ◌≢◌, ◌≤◌, ◌<◌, ◌+◌, ◌^◌, length, IfErr, MatchOption};
 ghost use Rattle.jx_gather.specs.Faults.{Answers};
 ghost use Rattle.jx_gather.specs.Data.{begins_with, number_at, sop_fault, sop_length, eph_length, header_in, front_length, parts_length, is_marked, first_mark, marks_fault, body_fault};
 
@@ -44,7 +44,8 @@ fn number_at(bytes: &[u8], at: usize) -> usize
 #[tactic(auto, unfolding(crate::specs::Data::sop_fault))]
 pub(crate) fn read_sop(bytes: &[u8], at: usize, number: usize) -> Result<usize, StreamFault>
     requires { at < 2 ^ 32 }
-    ensures { Answers result (sop_fault bytes.now at number) (λ n. (n ≡ sop_length bytes.now) × (n ≤ length bytes.now)) }
+    ensures answer { Answers result (sop_fault bytes.now at number) (λ n. (n ≡ sop_length bytes.now) × (n ≤ length bytes.now)) }
+    ensures memory { IfErr result (λ e. e ≢ StreamFault.NoMemory) }
 {
     if !begins_with(bytes, SOP) {
         return Ok(0);
@@ -119,7 +120,8 @@ fn first_mark(bytes: &[u8]) -> Option<usize>
 fn check_marks(bytes: &[u8], at: usize, parts: &[Part]) -> Result<(), StreamFault>
     requires within { parts_length parts.now ≤ length bytes.now }
     requires fits { at + length bytes.now < 2 ^ 32 }
-    ensures { Answers result (marks_fault at bytes.now parts.now) (λ _. Unit {0}) }
+    ensures answer { Answers result (marks_fault at bytes.now parts.now) (λ _. Unit {0}) }
+    ensures memory { IfErr result (λ e. e ≢ StreamFault.NoMemory) }
 {
     let mut rest = bytes;
     let mut place = at;
@@ -147,8 +149,9 @@ pub(crate) fn check_body(
     requires sop { sop ≡ sop_length bytes.now }
     requires within { sop + used ≤ length bytes.now }
     requires fits { at + length bytes.now < 2 ^ 32 }
-    ensures { Answers result (body_fault bytes.now at used parts.now)
+    ensures answer { Answers result (body_fault bytes.now at used parts.now)
         (λ r. (r.0 ≡ front_length bytes.now used) × (r.1 ≡ parts_length parts.now) × (r.0 + r.1 ≤ length bytes.now)) }
+    ensures memory { IfErr result (λ e. e ≢ StreamFault.NoMemory) }
 {
     let front = front_length(bytes, sop, used);
     let coded = bytes.split_at(front).1;

@@ -1,3 +1,4 @@
+pub mod ComponentLemmas
 pub mod CountLemmas
 pub mod EmptyLemmas
 pub mod LawLemmas

@@ -26,6 +26,7 @@ ghost use Rattle.jx_geom.specs.Ranges.{CanvasInRange, HasBand, ShapeInRange, exp
 ghost use Rattle.jx_geom.specs.Rects.{
   block_cells,
   block_rect,
+  component_rect,
   off_across,
   off_down,
   precinct_blocks,
@@ -42,6 +43,7 @@ ghost use Rattle.jx_geom.specs.Sets.{
   InBand,
   InBlock,
   InCell,
+  InComponent,
   InPart,
   InPicture,
   InPrecinct,
@@ -53,6 +55,11 @@ ghost use Rattle.jx_geom.specs.Sets.{
 pub fn tiles_divide_the_picture()
     ensures one { (c : Canvas) (x y : ℕ) → CanvasInRange c → InPicture c x y → ExactlyOne (λ t. (t < tile_count c) × InTile c t x y) }
     ensures some { (c : Canvas) (t : ℕ) → CanvasInRange c → t < tile_count c → HasPlace (InTile c t) }
+{}
+
+/// The rect of a tile-component holds its places: those that stand on places of the tile (B.3).
+pub fn components_are_sets()
+    ensures { (tile : Rect) (s : CompShape) (x y : ℕ) → ShapeInRange s → InRect (component_rect tile s) x y ↔ InComponent tile s x y }
 {}
 
 /// The rect of a resolution holds its places.

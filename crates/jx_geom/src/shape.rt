@@ -21,7 +21,7 @@ pub struct Canvas {
     pub ty: u32,
 }
 
-/// How a component of a tile is divided (T.800, Tables A.11 and A.15).
+/// How a component of a tile is divided (T.800, Tables A.9 and A.15).
 #[derive(Clone, Copy, Debug, PartialEq, Eq)]
 pub struct CompShape {
     /// The columns of the reference grid from one sample to the next, 1 to 255 (XRsiz).

@@ -51,7 +51,7 @@ breaks_3 code body = (code == SIZ) && not (2 + length body == 38 + 3 * big_from 
 abbrev pub axis_fits : ℕ → ℕ → ℕ → ℕ → Bool
 axis_fits end begin tile first = nat_lt 0 tile && (nat_le first begin && (nat_lt begin end && nat_lt begin (first + tile)))
 
--- a depth of at most 38, and subsampling factors that aren't 0 (Table A.11)
+-- a depth of at most 38 (Table A.11), and subsampling factors that aren't 0 (Table A.9)
 abbrev pub comp_size_fits : CompSize → Bool
 comp_size_fits comp = nat_le (comp.ssiz % 128 + 1) 38 && (nat_lt 0 comp.dx && nat_lt 0 comp.dy)
 

@@ -1,6 +1,15 @@
--- The bounds of an encoder's registers.
+-- What contracts see of an encoder, and the bounds of its registers.
 use Rattle.std.specs.Prelude.{◌≡◌, ◌<◌, ◌≤◌, ◌+◌, ◌*◌, ◌^◌, ℕ, List, [], ◌∷◌}
 use Rattle.jx_base.specs.MqWriting.{MqWriter, mq_renormalized}
+
+-- the registers, and how many bytes the segment can have before more memory is needed
+pub record MqCoding : Type 0 where
+  pub writer : MqWriter
+  pub limit : ℕ
+
+-- what a byte given out depends on and changes
+abbrev pub given : ℕ → ℕ → List ℕ → MqWriter
+given c ct bytes = record { a = 0; c = c; ct = ct; bytes = bytes }
 
 -- the bytes given out, the newest first: none after FF is above 8F, and the oldest is 0
 abbrev pub AreGiven : List ℕ → Type 0

@@ -19,6 +19,29 @@ fn byte_at(bytes: &[u8], place: usize) -> u8
     }
 }
 
+/// What BYTEIN makes of C and of the place of the byte B, with CT between them (Annex C.3.4). All
+/// come and go as values, so a caller can keep its registers in the machine's.
+#[cold]
+#[inline(never)]
+fn fed(c: u32, place: usize, bytes: &[u8]) -> (u32, u32, usize)
+    requires { place ≤ length bytes.now }
+    ensures place { result.2 ≤ length bytes.now }
+    ensures forward { place ≤ result.2 }
+    ensures ct { result.1 ≤ 8 }
+    ensures registers { (a ct looked : ℕ) → record { a = a; c = result.0; ct = result.1; place = result.2; looked = place + 2 } ≡
+        mq_byte_in bytes.now (record { a = a; c = c; ct = ct; place = place; looked = looked }) }
+{
+    let current = byte_at(bytes, place);
+    let next = byte_at(bytes, place + 1);
+    if current != 0xFF {
+        return (c.wrapping_add(next as u32 * 256), 8, place + 1);
+    }
+    if next > 0x8F {
+        return (c.wrapping_add(0xFF00), 8, place);
+    }
+    (c.wrapping_add(next as u32 * 512), 7, place + 1)
+}
+
 /// The registers A, C and CT, the place of the byte B, and how many bytes were read or compared.
 #[derive(Drop)]
 struct Registers {
@@ -37,29 +60,17 @@ impl Model for Registers {
 
 impl Registers {
     /// BYTEIN (Annex C.3.4).
-    #[cold]
-    #[inline(never)]
+    #[inline(always)]
     fn byte_in(&mut self, bytes: &[u8])
         requires { IsWithin bytes.now self.old }
         ensures registers { self.new ≡ mq_byte_in bytes.now self.old }
         ensures within { IsWithin bytes.now self.new }
     {
-        let current = byte_at(bytes, self.place);
-        let next = byte_at(bytes, self.place + 1);
+        let (c, ct, place) = fed(self.c, self.place, bytes);
         self.looked = self.place + 2;
-        if current == 0xFF && next > 0x8F {
-            self.c = self.c.wrapping_add(0xFF00);
-            self.ct = 8;
-            return;
-        }
-        self.place += 1;
-        if current == 0xFF {
-            self.c = self.c.wrapping_add(next as u32 * 512);
-            self.ct = 7;
-            return;
-        }
-        self.c = self.c.wrapping_add(next as u32 * 256);
-        self.ct = 8;
+        self.c = c;
+        self.ct = ct;
+        self.place = place;
     }
 
     /// Shifts of RENORMD for which no byte is due.

@@ -1,6 +1,6 @@
 //! Laws of the arithmetic coder, over its definitions alone.
 
-ghost use Rattle.std.specs.Prelude.{◌≡◌, ◌<◌, ◌≤◌, ℕ, List, [], ◌∷◌, ◌++◌, map, take};
+ghost use Rattle.std.specs.Prelude.{◌≡◌, ◌<◌, ◌≤◌, ◌+◌, ◌*◌, ◌/◌, ℕ, List, [], ◌∷◌, ◌++◌, length, map, take};
 ghost use Rattle.jx_base.specs.Markers.{HasNoMarker};
 ghost use Rattle.jx_base.specs.MqTable.{MqContexts};
 ghost use Rattle.jx_base.specs.MqReading.{MqReader, MqAsked, MqDecisions, mq_byte, mq_decisions, mq_decisions_from, mq_looked};
@@ -45,4 +45,10 @@ pub fn lists_go_on()
     ensures written { (w : MqWriter) → (x : MqContexts) → (first : List MqGiven) → (more : List MqGiven) →
         let d = mq_written_from w x first in
         mq_written_from w x (first ++ more) ≡ mq_written_from d.writer d.contexts more }
+{}
+
+/// A segment's length is bounded by the number of its decisions, of which each shifts the registers
+/// by 15 at most, while a byte takes seven shifts at least. So room can be taken for all of it.
+pub fn segments_are_short()
+    ensures { (x : MqContexts) → (given : List MqGiven) → length (mq_write x given) ≤ 15 * length given / 7 + 2 }
 {}

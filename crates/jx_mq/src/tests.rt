@@ -138,3 +138,38 @@ fn lists_of_many_lengths(rt: HostRuntime) -> Result<(), Fail> {
     }
     Ok(())
 }
+
+#[test]
+fn room_of_a_whole_segment(rt: HostRuntime) -> Result<(), Fail> {
+    let mut encoder = MqEncoder::with_room(rt.alloc(), 28)?;
+    let mut contexts = Contexts::new();
+    for word in DECISIONS {
+        for i in 0..32 {
+            encoder.bit(&mut contexts, 1, decision(word, i))?;
+        }
+    }
+    let bytes = encoder.flush()?;
+    assert_eq!(rt; bytes.len(), 28);
+    assert_eq!(rt; bytes.capacity(), 29);
+    Ok(())
+}
+
+#[test]
+fn room_for_all_decisions(rt: HostRuntime) -> Result<(), Fail> {
+    for count in [0, 1, 10, 100, 1000usize] {
+        assert!(rt; count <= 1000);
+        let room = 15 * count / 7 + 2;
+        let mut encoder = MqEncoder::with_room(rt.alloc(), room)?;
+        let mut contexts = Contexts::new();
+        let mut x = 1;
+        for _ in 0..count {
+            x = next(x);
+            let label = ((x >> 50) % 19) as u8;
+            encoder.bit(&mut contexts, label, x >> 33 & 1 == 1)?;
+        }
+        let bytes = encoder.flush()?;
+        assert!(rt; bytes.len() <= room, "of {count} decisions");
+        assert_eq!(rt; bytes.capacity(), room + 1, "of {count} decisions");
+    }
+    Ok(())
+}

@@ -65,7 +65,7 @@ last_bits n before bits short some less =
 not_ff : (n : ℕ) → eqb (2 * n) 255 ≡ false
 not_ff n = grind (arith, nat_tests)
 
-tail_of : (bytes : List ℕ) (partial count width m : ℕ) → IsBegun bytes partial count width → count < m →
+pub tail_of : (bytes : List ℕ) (partial count width m : ℕ) → IsBegun bytes partial count width → count < m →
     raw_write (bits_written bytes partial count) ≡ bytes ++ raw_write_after m (last_after 0 bytes) (bits_of count partial)
 tail_of bytes partial count width m h less =
     let short : length (bits_of count partial) < m = rw length-bits_of less in
@@ -74,7 +74,7 @@ tail_of bytes partial count width m h less =
 filled : (partial count width : ℕ) → partial < 2 ^ count → byte_of width (bits_of count partial) ≡ partial * 2 ^ (width - count)
 filled partial count width fits = rw (number-bits_of count partial, length-bits_of count partial, mod-eq_of_lt fits) refl
 
-even_not_ff : (partial k : ℕ) → 0 < k → eqb (partial * 2 ^ k) 255 ≡ false
+pub even_not_ff : (partial k : ℕ) → 0 < k → eqb (partial * 2 ^ k) 255 ≡ false
 even_not_ff partial zero some = absurd (omega arith)
 even_not_ff partial (suc k) some =
     let twice : partial * 2 ^ suc k ≡ 2 * (partial * 2 ^ k) = rw two-pow-succ (grind arith) in

@@ -25,7 +25,7 @@ next_of (bit ∷ bits) zero pad less = refl
 next_of (bit ∷ bits) (suc n) pad less = ap (λ (rest : List Bool). bit ∷ rest) (next_of bits n pad (omega arith))
 
 -- the ones after the bits may be any number that is enough
-pads : (bits : List Bool) (n pad more : ℕ) → n ≤ pad → n ≤ more → take n (bits ++ replicate pad true) ≡ take n (bits ++ replicate more true)
+pub pads : (bits : List Bool) (n pad more : ℕ) → n ≤ pad → n ≤ more → take n (bits ++ replicate pad true) ≡ take n (bits ++ replicate more true)
 pads bits zero pad more p q = refl
 pads [] (suc n) zero more p q = absurd (omega arith)
 pads [] (suc n) (suc pad) zero p q = absurd (omega arith)
@@ -57,7 +57,7 @@ looked_most segment n =
           rw (length-drop, e) (looked_total 0 segment (length (raw_bits segment)) (omega arith) ∙ sym (looked_total 0 segment n more))
     ]
 
-looked_some : (before byte : ℕ) (rest : List ℕ) (n : ℕ) → 0 < n → raw_looked_after before (byte ∷ rest) n ≡ 1 + raw_looked_after byte rest (n - raw_width before)
+pub looked_some : (before byte : ℕ) (rest : List ℕ) (n : ℕ) → 0 < n → raw_looked_after before (byte ∷ rest) n ≡ 1 + raw_looked_after byte rest (n - raw_width before)
 looked_some before byte rest n some = rw (isnt_zero n some) refl
 
 -- the first bits depend on the bytes looked at alone

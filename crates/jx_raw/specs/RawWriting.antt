@@ -1,6 +1,11 @@
--- How the registers of a writer of raw bits stand for the bits written.
+-- What contracts see of a writer of raw bits, and how its registers stand for it.
 use Rattle.std.specs.Prelude.{◌≡◌, ◌<◌, ℕ, ◌^◌, Bool, List, [], ◌∷◌, ◌++◌}
 use Rattle.jx_base.specs.RawBits.{raw_width, raw_bits, bits_of}
+
+-- the bits written, and how many bytes the segment can have before more memory is needed
+pub record RawBegun : Type 0 where
+  pub bits : List Bool
+  pub limit : ℕ
 
 -- the last byte, or the one before the first
 abbrev pub last_after : ℕ → List ℕ → ℕ

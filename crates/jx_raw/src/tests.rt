@@ -67,3 +67,26 @@ fn ends(rt: HostRuntime) {
     assert!(rt; reader.bit());
     assert_eq!(rt; reader.looked(), 2);
 }
+
+#[test]
+fn room_for_seven_bits_in_a_byte(rt: HostRuntime) -> Result<(), Fail> {
+    for count in [0, 1, 7, 8, 9, 23, 38, 1000usize] {
+        assert!(rt; count <= 1000);
+        let room = (count + 6) / 7;
+        let mut writer = RawWriter::with_room(rt.alloc(), room)?;
+        for _ in 0..count {
+            writer.bit(true)?;
+        }
+        let bytes = writer.finish()?;
+        assert!(rt; bytes.len() <= room, "of {count} bits");
+        assert_eq!(rt; bytes.capacity(), room, "of {count} bits");
+    }
+    let mut writer = RawWriter::with_room(rt.alloc(), 2)?;
+    for _ in 0..8 {
+        writer.bit(true)?;
+    }
+    let bytes = writer.finish()?;
+    assert_eq!(rt; bytes.as_slice(), [0xFF, 0x00].as_slice());
+    assert_eq!(rt; bytes.capacity(), 2);
+    Ok(())
+}

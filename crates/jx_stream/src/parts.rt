@@ -1,4 +1,4 @@
-ghost use Rattle.std.specs.Prelude.{◌≡◌, ◌≤◌, ◌<◌, ◌+◌, ◌-◌, ◌^◌, ◌==◌, ◌&&◌, not, nat_lt, true, false, length, drop, slice_index, slice_set, IfOk, Some, None, ℕ, [], if◌then◌else◌};
+ghost use Rattle.std.specs.Prelude.{◌≡◌, ◌≢◌, ◌≤◌, ◌<◌, ◌+◌, ◌-◌, ◌^◌, ◌==◌, ◌&&◌, not, nat_lt, true, false, length, drop, slice_index, slice_set, IfOk, IfErr, Some, None, ℕ, [], if◌then◌else◌};
 ghost use Rattle.jx_marker.specs.declared.Segment.{Segment};
 ghost use Rattle.jx_marker.specs.Segments.{segment_at};
 ghost use Rattle.std.specs.List.{All};
@@ -86,8 +86,9 @@ fn check_sot(
 ) -> Result<(), StreamFault>
     requires place { at ≤ 2 ^ 28 }
     requires tables { length told.now ≡ length counts.now }
-    ensures { Answers result (sot_fault (length counts.now) bytes.now at sot (tables_say counts.now told.now sot))
+    ensures answer { Answers result (sot_fault (length counts.now) bytes.now at sot (tables_say counts.now told.now sot))
         (λ _. (sot.tile < length counts.now) × (at + sot.psot ≤ length bytes.now)) }
+    ensures memory { IfErr result (λ e. e ≢ StreamFault.NoMemory) }
 {
     let tile = usize::from(sot.tile);
     if tile >= counts.len() {
@@ -109,7 +110,8 @@ fn end_of(bytes: &[u8], at: usize, sot: Sot, sod: usize) -> Result<usize, Stream
     requires sod { sod + 2 ≤ length bytes.now }
     requires length { at + sot.psot ≤ length bytes.now }
     requires fits { length bytes.now ≤ 2 ^ 28 }
-    ensures { Answers result (sod_fault bytes.now at sot sod) (λ end. (end ≡ end_of bytes.now at sot) × (sod + 2 ≤ end) × (end ≤ length bytes.now)) }
+    ensures answer { Answers result (sod_fault bytes.now at sot sod) (λ end. (end ≡ end_of bytes.now at sot) × (sod + 2 ≤ end) × (end ≤ length bytes.now)) }
+    ensures memory { IfErr result (λ e. e ≢ StreamFault.NoMemory) }
 {
     if sot.psot == 0 {
         let end = bytes.len() - 2;

@@ -1,4 +1,4 @@
-ghost use Rattle.std.specs.Prelude.{◌≡◌, ◌⊎◌, ◌≤◌, ◌<◌, ◌+◌, ◌-◌, ◌*◌, ◌^◌, ◌==◌, ◌&&◌, not, nat_lt, length, drop, slice_index, IfOk, Ok, Err, ℕ, [], true};
+ghost use Rattle.std.specs.Prelude.{◌≡◌, ◌≢◌, ◌⊎◌, ◌≤◌, ◌<◌, ◌+◌, ◌-◌, ◌*◌, ◌^◌, ◌==◌, ◌&&◌, not, nat_lt, length, drop, slice_index, IfOk, IfErr, Ok, Err, ℕ, [], true};
 ghost use Rattle.std.specs.List.{All, list_any};
 ghost use Rattle.std.specs.Option.{option_or};
 ghost use Rattle.jx_marker.specs.Rules.{siz_fits};
@@ -76,7 +76,8 @@ fn read_front(alloc: Global, bytes: &[u8]) -> Result<(Siz, usize), StreamFault>
 #[tactic(auto, unfolding(crate::specs::First::tiles_fault))]
 fn count_tiles(siz: &Siz) -> Result<usize, StreamFault>
     requires { CanvasInRange (canvas_of siz.now) }
-    ensures { Answers result (tiles_fault siz.now) (λ count. (count ≡ tile_number siz.now) × (count ≤ 65535)) }
+    ensures answer { Answers result (tiles_fault siz.now) (λ count. (count ≡ tile_number siz.now) × (count ≤ 65535)) }
+    ensures memory { IfErr result (λ e. e ≢ StreamFault.NoMemory) }
 {
     let count = tiles(&canvas_of(siz));
     if count > TILES {

@@ -1,0 +1,82 @@
+-- How many bytes raw bits make.
+use Rattle.std.proofs.Common.{◌≡◌, ◌<◌, ◌≤◌, ◌+◌, ◌-◌, ◌*◌, ◌/◌, ◌^◌, ℕ, zero, suc, Bool, true, false, inl, inr, List, [], ◌∷◌, ◌++◌, length, take, drop, refl, arith, eqb, ◌==◌, if◌then◌else◌, Result, Ok, Err, OnErr, Vec, vec_len, vec_capacity, length-append, length-drop}
+use Rattle.std.proofs.lemmas.Bool.Decides.{nat_tests}
+use Rattle.std.proofs.lemmas.Bool.{cases_lt}
+use Rattle.std.proofs.lemmas.List.{take_all, drop_all}
+use Rattle.jx_base.specs.RawBits.{raw_width, byte_of, number_of, raw_write_after, raw_write}
+use Rattle.jx_raw.specs.RawWriting.{bits_written, IsBegun}
+use Rattle.jx_raw.proofs.Reading.{room}
+use Rattle.jx_raw.proofs.Back.{even_not_ff, tail_of}
+use Rattle.jx_raw.proofs.Writing.{one_if, whole, whole_bits}
+
+-- a byte 00 follows a last FF
+abbrev extra : ℕ → ℕ
+extra before = if before == 255 then 1 else 0
+
+extra_most : (before : ℕ) → extra before ≤ 1
+extra_most before = grind (arith, nat_tests)
+
+extra_width : (before : ℕ) → raw_width before + extra before ≡ 8
+extra_width before = grind (arith, nat_tests)
+
+at_end : (is_ff : Bool) → length {A = ℕ} (if is_ff then 0 ∷ [] else []) ≤ (if is_ff then 1 else 0)
+at_end true = omega arith
+at_end false = omega arith
+
+nothing_more : (n before : ℕ) → length (raw_write_after n before []) ≤ extra before
+nothing_more zero before = omega arith
+nothing_more (suc n) before = at_end (eqb before 255)
+
+-- at seven bits in a byte there is room for a byte 00 too
+most_after : (n before : ℕ) (bits : List Bool) → 7 * length (raw_write_after n before bits) ≤ length bits + 6 + extra before
+most_after zero before bits = omega arith
+most_after (suc n) before [] =
+    let e = extra_most before in
+    let none = nothing_more (suc n) before in
+    omega arith
+most_after (suc n) before (bit ∷ bits) =
+    let byte : ℕ = byte_of (raw_width before) (take (raw_width before) (bit ∷ bits)) in
+    let w = room before in
+    let e = extra_width before in
+    let one = extra_most byte in
+    elim (cases_lt (length (bit ∷ bits)) (raw_width before)) [
+      | inl less ↦
+          let last : byte ≡ number_of (bit ∷ bits) * 2 ^ (raw_width before - length (bit ∷ bits)) = rw (take_all (raw_width before) (bit ∷ bits) (omega arith)) refl in
+          let even : eqb byte 255 ≡ false = rw last (even_not_ff (number_of (bit ∷ bits)) (raw_width before - length (bit ∷ bits)) (omega arith)) in
+          let zero_more : extra byte ≡ 0 = rw even refl in
+          let none : drop (raw_width before) (bit ∷ bits) ≡ [] = drop_all (raw_width before) (bit ∷ bits) (omega arith) in
+          let more : length (raw_write_after n byte []) ≤ extra byte = nothing_more n byte in
+          rw none (omega arith)
+      | inr more ↦
+          let left : length (drop (raw_width before) (bit ∷ bits)) ≡ length (bit ∷ bits) - raw_width before = length-drop (raw_width before) (bit ∷ bits) in
+          let rest = most_after n byte (drop (raw_width before) (bit ∷ bits)) in
+          omega arith
+    ]
+
+pub short_segment : (bits : List Bool) → length (raw_write bits) ≤ (length bits + 6) / 7
+short_segment bits = let most : 7 * length (raw_write bits) ≤ length bits + 6 + 0 = most_after (suc (length bits)) 0 bits in omega arith
+
+-- whole bytes are in the segment
+at_least : (bytes : List ℕ) (partial count width : ℕ) → IsBegun bytes partial count width → length bytes ≤ length (raw_write (bits_written bytes partial count))
+at_least bytes partial count width h =
+    rw (tail_of bytes partial count width (suc count) h (omega arith), length-append) (omega arith)
+
+-- so is the byte that a bit makes whole
+pub one_longer : (bytes : List ℕ) (partial count width : ℕ) (bit : Bool) → width ≤ count + 1 → IsBegun bytes partial count width →
+    length bytes < length (raw_write (bits_written bytes partial count ++ bit ∷ []))
+one_longer bytes partial count width bit full h =
+    let byte : ℕ = partial * 2 + one_if bit in
+    let least = at_least (bytes ++ byte ∷ []) 0 0 (raw_width byte) (whole bytes partial count width bit full h) in
+    let long : length (bytes ++ byte ∷ []) ≡ length bytes + 1 = rw length-append refl in
+    rw (← whole_bits bytes partial count width bit full h) (omega arith)
+
+pub on_err : {T E P : Type 0} (r : Result T E) → P → OnErr r P
+on_err (Ok x) p = tt
+on_err (Err e) p = p
+
+-- a push that is refused for want of room
+pub refused : {Z : Type 0} (bytes : Vec ℕ Z) (all : List ℕ) (byte : ℕ) → all ≡ bytes.items ++ byte ∷ [] → vec_capacity bytes ≤ vec_len bytes → vec_capacity bytes < length all
+refused bytes all byte is full =
+    let long : vec_len bytes ≡ length bytes.items = bytes.ok.0 in
+    let longer : length (bytes.items ++ byte ∷ []) ≡ length bytes.items + 1 = rw length-append refl in
+    rw is (omega arith)
