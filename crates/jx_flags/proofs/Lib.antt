@@ -1,6 +1,7 @@
 pub mod AddedLemmas
 pub mod EndLemmas
 pub mod FewLemmas
+pub mod FourLemmas
 pub mod FullLemmas
 pub mod JoinedLemmas
 pub mod LabelLemmas
