@@ -7,6 +7,7 @@ pub mod LabelLemmas
 pub mod MarkLemmas
 pub mod QuietLemmas
 pub mod RaiseLemmas
+pub mod RunLemmas
 pub mod ScanLemmas
 pub mod SeenLemmas
 pub mod SignLemmas
