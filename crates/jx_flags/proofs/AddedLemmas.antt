@@ -1,14 +1,13 @@
 -- Words of marks after a change of one place.
-use Rattle.std.proofs.Common.{◌≡◌, ◌≢◌, ◌<◌, ◌≤◌, ◌+◌, ◌-◌, ◌*◌, ◌/◌, ◌%◌, ℕ, zero, suc, true, not, ◌==◌, refl, sym, ap, ◌∙◌, arith, subst, inl, inr, length, get_or, set, replicate, List, [], ◌∷◌}
-use Rattle.std.proofs.lemmas.Bool.{cases_eq, cases_Bool}
-use Rattle.std.proofs.lemmas.List.{get_or-set_same, get_or-set_other, length-set, length-replicate}
+use Rattle.std.proofs.Common.{◌≡◌, ◌≢◌, ◌<◌, ◌≤◌, ◌+◌, ◌-◌, ◌*◌, ◌/◌, ◌%◌, ℕ, zero, suc, true, not, ◌==◌, refl, sym, ap, ◌∙◌, arith, subst, inl, inr, length, get_or, replicate, List, [], ◌∷◌}
+use Rattle.std.proofs.lemmas.Bool.{cases_Bool}
 use Rattle.std.proofs.Math.Nat.{mul-le-mul_right}
 use Rattle.jx_grid.specs.declared.coef.Coef.{Coef}
 use Rattle.jx_grid.specs.Cells.{Cells, zero_coef, coef_at, with_coef, significant, IsPlace}
 use Rattle.jx_grid.specs.Near.{one_if}
 use Rattle.jx_grid.specs.Reading.{zeros}
-use Rattle.jx_flags.specs.Marks.{mark, word, wide_of, stripes_of, AreMarks, is_outside, power}
-use Rattle.jx_flags.proofs.MarkLemmas.{mark_le, mark_other, mark_here, mark_there, mark_kept, mark_out, mark_in, not_inside, IsWholeAt, same_place}
+use Rattle.jx_flags.specs.Marks.{mark, word, wide_of, is_outside, power}
+use Rattle.jx_flags.proofs.MarkLemmas.{mark_le, mark_other, mark_here, mark_there, mark_kept, mark_out, mark_in, not_inside, IsWholeAt}
 
 four : (a b c d e f g h : ℕ) → a ≡ e → b ≡ f → c ≡ g → d ≡ h → a + 8 * b + 64 * c + 512 * d ≡ e + 8 * f + 64 * g + 512 * h
 four a b c d e f g h p q r s = omega arith
@@ -91,70 +90,19 @@ word_index g x y = (y / 4 + 1) * wide_of g + (x + 1)
 pub index_inside : (w s t c : ℕ) → t < s → c < w → t * w + c < s * w
 index_inside w s t c p q = let m = mul-le-mul_right {m = t + 1} {n = s} w (omega arith) in omega arith
 
-pub word_below : (g : Cells) (words : List ℕ) (x y : ℕ) → x < g.width → y < g.height → AreMarks g words → word_index g x y < length words
-word_below g words x y p q a =
-    let e = a.size in
-    let f = index_inside (wide_of g) (stripes_of g + 2) (y / 4 + 1) (x + 1) (omega arith) (omega arith) in
-    subst (λ (n : ℕ). word_index g x y < n) (sym e) f
-
-pub marks_kept : (g : Cells) (words : List ℕ) (x y : ℕ) (coef : Coef) → IsWholeAt g x y → significant coef ≡ significant (coef_at g x y)
-    → AreMarks g words → AreMarks (with_coef g x y coef) words
-marks_kept g words x y coef s e a =
-    record {
-      whole = length-set g.coefs (y * g.width + x) coef ∙ a.whole;
-      size = a.size;
-      at = λ t c l. a.at t c l ∙ sym (word_kept g x y coef t c s e);
-    }
-
-pub marks_added : (g : Cells) (words : List ℕ) (x y n : ℕ) (coef : Coef) → IsWholeAt g x y → significant coef ≡ true
-    → mark g (x + 1) (y + 1) ≡ 0 → AreMarks g words → n ≡ get_or words (word_index g x y) 0 + power (y % 4)
-    → AreMarks (with_coef g x y coef) (set words (word_index g x y) n)
-marks_added g words x y n coef s e z a f =
-    let i : ℕ = word_index g x y in
-    let b = word_below g words x y s.column s.row a in
-    let h : Cells = with_coef g x y coef in
-    let xs = set words i n in
-    let col = s.column in
-    let here : get_or xs i 0 ≡ word h (y / 4 + 1) (x + 1) =
-    get_or-set_same words i n 0 b ∙ (f ∙ (ap (λ (m : ℕ). m + power (y % 4)) (a.at (y / 4 + 1) (x + 1) (omega arith)) ∙ sym (word_here g x y coef s e z))) in
-    record {
-      whole = length-set g.coefs (y * g.width + x) coef ∙ a.whole;
-      size = length-set words i n ∙ a.size;
-      at = λ t c l. elim (cases_eq (t * wide_of g + c) i) [
-        | inl p ↦
-            let q = same_place (wide_of g) c t (x + 1) (y / 4 + 1) l (omega arith) p in
-            subst (λ (m : ℕ). get_or xs m 0 ≡ word h t c) (sym p)
-            (subst (λ (m : ℕ). get_or xs i 0 ≡ word h m c) (sym q.1) (subst (λ (m : ℕ). get_or xs i 0 ≡ word h (y / 4 + 1) m) (sym q.0) here))
-        | inr p ↦
-            get_or-set_other words i (t * wide_of g + c) n 0 p
-            ∙ (a.at t c l ∙ sym (word_other g x y coef t c s.column (λ q r. p (ap (λ (m : ℕ). m * wide_of g + c) q ∙ ap (λ (m : ℕ). (y / 4 + 1) * wide_of g + m) r))))
-      ];
-    }
-
 -- a block of zeros
-same_at : {A : Type 0} (a : A) (n i : ℕ) → get_or (replicate n a) i a ≡ a
+pub same_at : {A : Type 0} (a : A) (n i : ℕ) → get_or (replicate n a) i a ≡ a
 same_at a zero i = refl
 same_at a (suc n) zero = refl
 same_at a (suc n) (suc i) = same_at a n i
 
-mark_zeros : (w h c r : ℕ) → mark (zeros w h) c r ≡ 0
+pub mark_zeros : (w h c r : ℕ) → mark (zeros w h) c r ≡ 0
 mark_zeros w h c r =
     elim (cases_Bool (is_outside (zeros w h) c r)) [
       | inl e ↦ mark_out (zeros w h) c r e
       | inr e ↦ mark_in (zeros w h) c r (not_inside (zeros w h) c r e)
           ∙ ap (λ (d : Coef). one_if (significant d)) (same_at zero_coef (h * w) ((r - 1) * w + (c - 1)))
     ]
-
-pub marks_zeros : (w h n : ℕ) → n ≡ ((h + 3) / 4 + 2) * (w + 2) → AreMarks (zeros w h) (replicate n 0)
-marks_zeros w h n e =
-    let g : Cells = zeros w h in
-    record {
-      whole = length-replicate (h * w) zero_coef;
-      size = length-replicate n 0 ∙ e;
-      at = λ t c l. same_at {A = ℕ} 0 n (t * (w + 2) + c) ∙
-          sym (four (mark g c (4 * t - 3)) (mark g c (4 * t - 2)) (mark g c (4 * t - 1)) (mark g c (4 * t)) 0 0 0 0
-          (mark_zeros w h c (4 * t - 3)) (mark_zeros w h c (4 * t - 2)) (mark_zeros w h c (4 * t - 1)) (mark_zeros w h c (4 * t)));
-    }
 
 pub word_le : (g : Cells) (t c : ℕ) → word g t c ≤ 585
 word_le g t c =
@@ -164,67 +112,10 @@ word_le g t c =
     let e = mark_le g c (4 * t) in
     omega arith
 
-power_le : (r : ℕ) → power r ≤ 512
-power_le zero = omega arith
-power_le (suc zero) = omega arith
-power_le (suc (suc zero)) = omega arith
-power_le (suc (suc (suc r))) = omega arith
-
--- the same where the place is known to be one of the block
-whole_at : (g : Cells) (words : List ℕ) (x y : ℕ) → IsPlace g x y → AreMarks g words → IsWholeAt g x y
-whole_at g words x y p a = record { column = p.column; row = p.row; whole = a.whole }
-
-pub kept_at : (g : Cells) (words : List ℕ) (x y : ℕ) (coef : Coef) → IsPlace g x y → significant coef ≡ significant (coef_at g x y)
-    → AreMarks g words → AreMarks (with_coef g x y coef) words
-kept_at g words x y coef p e a = marks_kept g words x y coef (whole_at g words x y p a) e a
-
-no_bits : (g : Cells) (x y : ℕ) → IsPlace g x y → (coef_at g x y).bits ≡ 0 → mark g (x + 1) (y + 1) ≡ 0
+pub no_bits : (g : Cells) (x y : ℕ) → IsPlace g x y → (coef_at g x y).bits ≡ 0 → mark g (x + 1) (y + 1) ≡ 0
 no_bits g x y p z = mark_there g x y p.column p.row ∙ ap (λ (n : ℕ). one_if (not (n == 0))) z
 
-pub added_at : (g : Cells) (words : List ℕ) (x y i n : ℕ) (coef : Coef) → IsPlace g x y → (coef_at g x y).bits ≡ 0 → significant coef ≡ true
-    → AreMarks g words → i ≡ word_index g x y → n ≡ get_or words i 0 + power (y % 4)
-    → AreMarks (with_coef g x y coef) (set words i n)
-added_at g words x y i n coef p z e a f h =
-    subst (λ (j : ℕ). AreMarks (with_coef g x y coef) (set words j n)) (sym f)
-    (marks_added g words x y n coef (whole_at g words x y p a) e (no_bits g x y p z) a
-    (h ∙ ap (λ (j : ℕ). get_or words j 0 + power (y % 4)) f))
-
--- a word has room for one more digit where it isn't set
-pub added_fits : (g : Cells) (words : List ℕ) (x y i : ℕ) → IsPlace g x y → AreMarks g words → i ≡ word_index g x y → get_or words i 0 + power (y % 4) < 65536
-added_fits g words x y i p a f =
-    let c = p.column in
-    let e : get_or words i 0 ≡ word g (y / 4 + 1) (x + 1) = ap (λ (j : ℕ). get_or words j 0) f ∙ a.at (y / 4 + 1) (x + 1) (omega arith) in
-    let m = word_le g (y / 4 + 1) (x + 1) in
-    let q = power_le (y % 4) in
-    omega arith
-
-any_default : (words : List ℕ) (i a b : ℕ) → i < length words → get_or words i a ≡ get_or words i b
+pub any_default : (words : List ℕ) (i a b : ℕ) → i < length words → get_or words i a ≡ get_or words i b
 any_default [] i a b l = absurd (omega arith)
 any_default (w ∷ words) zero a b l = refl
 any_default (w ∷ words) (suc i) a b l = any_default words i a b (omega arith)
-
--- what was read where the word of a place stands
-pub word_read : (g : Cells) (words : List ℕ) (x y i v : ℕ) → IsPlace g x y → AreMarks g words → i ≡ word_index g x y → v ≡ get_or words i v → v ≡ get_or words i 0
-word_read g words x y i v p a f e =
-    e ∙ any_default words i v 0 (subst (λ (j : ℕ). j < length words) (sym f) (word_below g words x y p.column p.row a))
-
-pub read_fits : (g : Cells) (words : List ℕ) (x y i v d : ℕ) → IsPlace g x y → AreMarks g words → i ≡ word_index g x y → v ≡ get_or words i v
-    → d ≡ power (y % 4) → v + d < 65536
-read_fits g words x y i v d p a f e h =
-    let q = word_read g words x y i v p a f e in
-    let b = added_fits g words x y i p a f in
-    omega arith
-
-pub read_added : (g : Cells) (words : List ℕ) (x y i v d : ℕ) (coef : Coef) → IsPlace g x y → (coef_at g x y).bits ≡ 0 → significant coef ≡ true
-    → AreMarks g words → i ≡ word_index g x y → v ≡ get_or words i v → d ≡ power (y % 4)
-    → AreMarks (with_coef g x y coef) (set words i (v + d))
-read_added g words x y i v d coef p z e a f q h =
-    let r = word_read g words x y i v p a f q in
-    added_at g words x y i (v + d) coef p z e a f (omega arith)
-
-pub word_is : (g : Cells) (words : List ℕ) (t c i v : ℕ) → AreMarks g words → t < stripes_of g + 2 → c < wide_of g → i ≡ t * wide_of g + c → v ≡ get_or words i v
-    → v ≡ word g t c
-word_is g words t c i v a p q f e =
-    let l : i < length words =
-    subst (λ (n : ℕ). i < n) (sym a.size) (subst (λ (n : ℕ). n < (stripes_of g + 2) * wide_of g) (sym f) (index_inside (wide_of g) (stripes_of g + 2) t c p q)) in
-    e ∙ (any_default words i v 0 l ∙ (ap (λ (j : ℕ). get_or words j 0) f ∙ a.at t c q))

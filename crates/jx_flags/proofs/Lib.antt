@@ -1,13 +1,16 @@
 pub mod AddedLemmas
 pub mod EndLemmas
-pub mod FewLemmas
+pub mod FourLemmas
 pub mod FullLemmas
 pub mod JoinedLemmas
 pub mod LabelLemmas
 pub mod MarkLemmas
 pub mod QuietLemmas
+pub mod RaiseLemmas
+pub mod RunLemmas
 pub mod ScanLemmas
 pub mod SeenLemmas
 pub mod SignLemmas
+pub mod SixLemmas
 pub mod StepLemmas
 pub mod WindowLemmas

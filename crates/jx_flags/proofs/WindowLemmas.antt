@@ -8,7 +8,7 @@ use Rattle.jx_grid.specs.declared.question.Plane.{Plane}
 use Rattle.jx_grid.specs.Cells.{Cells, zero_coef, coef_at, significant}
 use Rattle.jx_grid.specs.Near.{one_if, one_at, coef_near, sides_of, upright_of, diagonals_of, has_near}
 use Rattle.jx_grid.specs.Pass.{label_at}
-use Rattle.jx_flags.specs.Marks.{mark, word, is_outside, power}
+use Rattle.jx_flags.specs.Marks.{mark, is_outside, power}
 use Rattle.jx_flags.specs.Windows.{below, six, window, nine, label_of, sides_in, upright_in, diagonals_in}
 use Rattle.jx_flags.proofs.MarkLemmas.{mark_le, mark_there}
 
@@ -266,26 +266,3 @@ here_is g causal x y p q =
     ap (λ (n : ℕ). n == 1) ((digits_at g causal x y).here
     ∙ (seen_as g causal y (x + 1) (y + 1) (y + 1) refl (λ a b. omega arith) ∙ mark_there g x y p q))
     ∙ one_tested (significant (coef_at g x y))
-
--- the last row of a word, and the first
-above_of : (m : ℕ → ℕ) (t : ℕ) → ((r : ℕ) → m r ≤ 1) → 0 < t
-    → (m (4 * (t - 1) - 3) + 8 * m (4 * (t - 1) - 2) + 64 * m (4 * (t - 1) - 1) + 512 * m (4 * (t - 1))) / 512 ≡ m (4 * t - 4)
-above_of m t h p =
-    let a = h (4 * (t - 1) - 3) in
-    let b = h (4 * (t - 1) - 2) in
-    let c = h (4 * (t - 1) - 1) in
-    let e : m (4 * (t - 1)) ≡ m (4 * t - 4) = (let f : 4 * (t - 1) ≡ 4 * t - 4 = omega arith in ap m f) in
-    omega arith
-
-pub above_is : (g : Cells) (t c : ℕ) → 0 < t → word g (t - 1) c / 512 ≡ mark g c (4 * t - 4)
-above_is g t c p = above_of (λ (r : ℕ). mark g c r) t (λ r. mark_le g c r) p
-
-below_of : (m : ℕ → ℕ) (t : ℕ) → ((r : ℕ) → m r ≤ 1)
-    → (m (4 * (t + 1) - 3) + 8 * m (4 * (t + 1) - 2) + 64 * m (4 * (t + 1) - 1) + 512 * m (4 * (t + 1))) % 8 ≡ m (4 * t + 1)
-below_of m t h =
-    let a = h (4 * (t + 1) - 3) in
-    let e : m (4 * (t + 1) - 3) ≡ m (4 * t + 1) = (let f : 4 * (t + 1) - 3 ≡ 4 * t + 1 = omega arith in ap m f) in
-    omega arith
-
-pub below_is : (g : Cells) (t c : ℕ) → word g (t + 1) c % 8 ≡ mark g c (4 * t + 1)
-below_is g t c = below_of (λ (r : ℕ). mark g c r) t (λ r. mark_le g c r)

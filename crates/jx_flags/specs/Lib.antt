@@ -3,4 +3,5 @@ pub mod Labels
 pub mod Marks
 pub mod Numbers
 pub mod Signs
+pub mod Sixes
 pub mod Windows

@@ -1,6 +1,6 @@
 -- Where a block is significant, in words: one word for each column of a stripe of four rows. Columns and rows count from 1 on.
 -- Around the block stand a column to each side, a stripe above it and one below.
-use Rattle.std.specs.Prelude.{ℕ, zero, suc, ◌+◌, ◌-◌, ◌*◌, ◌/◌, ◌<◌, ◌≡◌, ◌==◌, nat_lt, Bool, ◌||◌, List, length, slice_index_or, if◌then◌else◌}
+use Rattle.std.specs.Prelude.{ℕ, zero, suc, ◌+◌, ◌-◌, ◌*◌, ◌/◌, ◌==◌, nat_lt, Bool, ◌||◌, if◌then◌else◌}
 use Rattle.jx_grid.specs.Cells.{Cells, coef_at, significant}
 use Rattle.jx_grid.specs.Near.{one_if}
 
@@ -28,9 +28,3 @@ wide_of g = g.width + 2
 
 abbrev pub stripes_of : Cells → ℕ
 stripes_of g = (g.height + 3) / 4
-
--- words say where a block is significant
-pub record AreMarks (g : Cells) (words : List ℕ) : Type 0 where
-  pub whole : length g.coefs ≡ g.height * g.width
-  pub size : length words ≡ (stripes_of g + 2) * wide_of g
-  pub at : (stripe column : ℕ) → column < wide_of g → slice_index_or words (stripe * wide_of g + column) 0 ≡ word g stripe column

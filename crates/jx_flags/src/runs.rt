@@ -39,8 +39,9 @@ fn is_quiet_at(
     !is_done(plane, field.grid.at(x, y))
 }
 
-/// Whether the run mode begins at a place.
+/// Whether the run mode begins at a place: nowhere but where nothing is seen around a column.
 #[inline(always)]
+#[tactic(auto, using(crate::proofs::RunLemmas::not_run))]
 fn is_run_at(
     field: &Field,
     labels: &[u8],
@@ -59,6 +60,9 @@ fn is_run_at(
     ensures whole { IsTrue result → y + 4 ≤ field.now.height }
 {
     if y % 4 != 0 || y + 4 > field.grid.height() {
+        return false;
+    }
+    if columns != 0 {
         return false;
     }
     is_quiet_at(field, labels, plane, columns, stripe, x, y)

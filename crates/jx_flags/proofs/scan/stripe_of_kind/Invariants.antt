@@ -3,7 +3,7 @@ use Rattle.jx_grid.specs.Cells.{IsKept}
 use Rattle.jx_grid.specs.Asking.{told}
 use Rattle.jx_grid.specs.Pass.{scanned}
 use Rattle.jx_flags.specs.Numbers.{first_of}
-use Rattle.jx_flags.proofs.scan.stripe.Given as goal
+use Rattle.jx_flags.proofs.scan.stripe_of_kind.Given as goal
 
 abbrev pub invariant-loop-x : goal.invariant-loop-x
 invariant-loop-x g l = record {
