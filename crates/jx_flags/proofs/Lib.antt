@@ -1,4 +1,6 @@
 pub mod AddedLemmas
+pub mod AnswerLemmas
+pub mod CopyLemmas
 pub mod EndLemmas
 pub mod FewLemmas
 pub mod FullLemmas
@@ -6,6 +8,7 @@ pub mod JoinedLemmas
 pub mod LabelLemmas
 pub mod MarkLemmas
 pub mod QuietLemmas
+pub mod RecodeLemmas
 pub mod ScanLemmas
 pub mod SeenLemmas
 pub mod SignLemmas
