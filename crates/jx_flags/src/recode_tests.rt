@@ -130,7 +130,7 @@ fn agrees_on_bytes(
     let mut number = seed;
     for _ in 0..count {
         number = next(number);
-        bytes.push((number >> 40) as u8)?;
+        bytes.push(((number >> 40) % 256) as u8)?;
     }
     let list = bytes.as_slice();
     if list.len() > 0xFFFF {
