@@ -6,7 +6,7 @@ use Rattle.jx_grid.specs.declared.question.Question.{Question}
 use Rattle.jx_grid.specs.declared.question.About.TheVariants.{Bit, High, Low, Run}
 use Rattle.jx_grid.specs.Cells.{Cells, coef_at, significant}
 use Rattle.jx_grid.specs.Asking.{Asking, Told, Ask, and_then, told}
-use Rattle.jx_grid.specs.Pass.{IsScan, shift_of, is_decided, with_bit, with_sign, changed, question, sign_question, label_at, refinement_label_at, sign_of, bit_of, significance_at, refinement_at, usual_at, is_run, zeroed, number_in_run, named_at, place_at, run_at, cleanup_at, pass_at, pass_at_nth, scan_column, scan_row, scanned, plane_of, pass_of}
+use Rattle.jx_grid.specs.Pass.{IsScan, shift_of, is_decided, with_bit, with_sign, changed, question, sign_question, label_at, refinement_label_at, sign_of, bit_of, significance_at, refinement_at, usual_at, is_run, zeroed, number_in_run, place_at, run_at, cleanup_at, pass_at, pass_at_nth, scan_column, scan_row, scanned, plane_of, pass_of}
 use Rattle.jx_grid.specs.Reading.{Coding}
 use Rattle.jx_grid.specs.Needs.{answer_of, bit_at_place, first_of_four, followed}
 use Rattle.jx_grid.proofs.Scanning.{column_inside, row_inside}

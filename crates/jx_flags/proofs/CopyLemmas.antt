@@ -1,17 +1,15 @@
 -- What is copied while it is read is what an encoder writes of the grid that comes of it.
-use Rattle.std.proofs.Common.{◌≡◌, ◌+◌, ◌/◌, ◌==◌, ℕ, Bool, true, false, List, [], ◌∷◌, ◌++◌, ◌||◌, not, drop, refl, sym, ap, ◌∙◌, if◌then◌else◌, Option, None}
+use Rattle.std.proofs.Common.{◌≡◌, ◌+◌, ℕ, Bool, true, false, List, [], ◌∷◌, ◌++◌, ◌||◌, drop, refl, sym, ap, ◌∙◌, if◌then◌else◌}
 use Rattle.jx_base.specs.declared.names.Band.{Band}
 use Rattle.jx_base.specs.MqTable.{MqContexts, mq_fresh}
 use Rattle.jx_base.specs.MqWriting.{MqWriter}
 use Rattle.jx_base.specs.Passes.{raw_pass, end_pass, resets, is_causal}
-use Rattle.jx_grid.specs.declared.question.Question.{Question}
 use Rattle.jx_grid.specs.Cells.{Cells}
 use Rattle.jx_grid.specs.Asking.{Asking, Told, Ask, told}
 use Rattle.jx_grid.specs.Pass.{pass_of}
 use Rattle.jx_grid.specs.Segments.{begins}
 use Rattle.jx_grid.specs.Symbol.{symbol_asked}
-use Rattle.jx_grid.specs.Reading.{Reading, Coding, Decoding, fresh_reading, first_segment, opened, renewed, read_answer, read_symbol, read_within, read_pass, turned_over, ends_by_symbol, first_wrong, looked_of}
-use Rattle.jx_grid.specs.Needs.{answer_of, followed}
+use Rattle.jx_grid.specs.Reading.{Reading, Coding, Decoding, fresh_reading, first_segment, opened, read_answer, read_symbol, read_within, read_pass, turned_over, ends_by_symbol, first_wrong, looked_of}
 use Rattle.jx_passenc.specs.Alike.{AreAlike}
 use Rattle.jx_passenc.specs.Writing.{Writing, write_answer, after_coded, fresh_writing, segment_by}
 use Rattle.jx_passenc.specs.Encoding.{Encoding, renewed_writing, after_bits, after_symbol, after_pass, closed, after_step}

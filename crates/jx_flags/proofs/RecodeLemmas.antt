@@ -5,9 +5,9 @@ use Rattle.std.proofs.lemmas.List.{append-nil}
 use Rattle.jx_base.specs.MqTable.{mq_fresh}
 use Rattle.jx_base.specs.Passes.{raw_pass, is_causal}
 use Rattle.jx_grid.specs.Cells.{Cells}
-use Rattle.jx_grid.specs.Asking.{Asking, told}
+use Rattle.jx_grid.specs.Asking.{Asking}
 use Rattle.jx_grid.specs.Pass.{IsScan, plane_of}
-use Rattle.jx_grid.specs.Reading.{Coding, Decoding, read_pass, read_from, zeros, at_start, decoded}
+use Rattle.jx_grid.specs.Reading.{Coding, Decoding, read_pass, read_from, zeros, decoded}
 use Rattle.jx_grid.specs.Needs.{needs, needs_from, written}
 use Rattle.jx_passenc.specs.Alike.{HasPasses, AreAlike}
 use Rattle.jx_passenc.specs.Writing.{Writing, fresh_writing, finished_from}
