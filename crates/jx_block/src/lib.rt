@@ -15,6 +15,7 @@ mod parts;
 mod recoded;
 mod segments;
 mod sent;
+mod step;
 #[cfg(test)]
 mod style_tests;
 #[cfg(test)]

@@ -32,7 +32,7 @@ fn decode(alloc: Global, block: &Block<'_>, coded: &Coded<'_>) -> Result<FlagDec
 }
 
 /// The passes of a block in segments of a style.
-fn coded_in<'a>(block: &Block<'_>, style: Style, segments: Segments<'a>) -> Coded<'a>
+pub(crate) fn coded_in<'a>(block: &Block<'_>, style: Style, segments: Segments<'a>) -> Coded<'a>
     requires { IsSound block.now }
     ensures band { result.band ≡ block.now.name.band }
     ensures style { result.style ≡ style }

@@ -1,10 +1,12 @@
 //! A block as it is written.
 
-ghost use Rattle.std.specs.Prelude.{All, ◌≡◌, ◌≤◌, ◌<◌, ◌+◌, ◌++◌, ◌^◌, length, vec_len, vec_capacity, None, Some, IfOk, IfErr, OnOk, OnErr};
+ghost use Rattle.std.specs.Prelude.{All, ◌≡◌, ◌≢◌, ◌≤◌, ◌<◌, ◌+◌, ◌++◌, ◌^◌, length, map, vec_len, vec_capacity, None, Some, IfOk, IfErr, OnOk, OnErr};
 ghost use Rattle.jx_base.specs.Pieces.{ArePieces};
+ghost use Rattle.jx_base.specs.Sound.{IsSound};
+ghost use Rattle.jx_grid.specs.Needs.{written};
 ghost use Rattle.jx_block.specs.Jobs.{IsAsked};
 ghost use Rattle.jx_block.specs.Laws.{IsWithin};
-ghost use Rattle.jx_block.specs.Recoding.{part_bytes, pieces_of};
+ghost use Rattle.jx_block.specs.Recoding.{coding_in, decoded_in, own_segments, part_bytes, pieces_of, wrong_in};
 ghost use Rattle.jx_block.specs.Recoded.{recoding_in, is_bad, HasCause};
 ghost use Rattle.jx_block.specs.Written.{block_with, own_cells};
 
@@ -12,6 +14,7 @@ use crate::anew::{all_bytes, own_cells, parts_of as parts_anew};
 use crate::copy::{append_bytes, append_within};
 use crate::decide::parts_of;
 use crate::laws::written_keeps_coefficients;
+use crate::step::lists_in_step;
 use crate::{BlockFault, Job, OutPart};
 use jx_base::{NoMemory, Style};
 use jx_flags::encode_flags;
@@ -65,6 +68,40 @@ fn nothing<'a>(alloc: Global, job: &'a Job<'a>) -> Recoded<'a>
     }
 }
 
+/// The segments of a block that is to be coded anew, which is decoded first.
+fn lists_apart(alloc: Global, job: &Job<'_>, style: Style) -> Result<Vec<Vec<u8>>, BlockFault>
+    requires sound { IsSound job.now.block.now }
+    requires some { 1 ≤ job.now.block.now.passes }
+    requires anew { job.now.style ≢ None }
+    ensures lists { let b = job.now.block.now in IfOk result (λ lists. map (λ l. l.items) lists.items
+        ≡ written (coding_in b style.bits) (decoded_in b b.style.bits (own_segments b)).cells b.passes) }
+    ensures right { IfOk result (λ lists. wrong_in job.now.block.now ≡ None) }
+    ensures bad { IfErr result (λ e. HasCause job.now e) }
+{
+    let block = job.block;
+    let grid = own_cells(alloc, job)?;
+    let planes = block.planes - block.zero;
+    let lists = encode_flags(alloc, &grid, block.name.band, style, planes, block.passes)?;
+    Ok(lists)
+}
+
+/// The segments of a block that is to be coded anew. Where its causal bit stays they are written while
+/// the block is decoded.
+fn new_lists(alloc: Global, job: &Job<'_>, style: Style) -> Result<Vec<Vec<u8>>, BlockFault>
+    requires sound { IsSound job.now.block.now }
+    requires some { 1 ≤ job.now.block.now.passes }
+    requires anew { job.now.style ≢ None }
+    ensures lists { let b = job.now.block.now in IfOk result (λ lists. map (λ l. l.items) lists.items
+        ≡ written (coding_in b style.bits) (decoded_in b b.style.bits (own_segments b)).cells b.passes) }
+    ensures right { IfOk result (λ lists. wrong_in job.now.block.now ≡ None) }
+    ensures bad { IfErr result (λ e. HasCause job.now e) }
+{
+    if style.causal() == job.block.style.causal() {
+        return lists_in_step(alloc, job, style);
+    }
+    lists_apart(alloc, job, style)
+}
+
 /// A block of which a style is asked.
 fn code_anew<'a>(alloc: Global, job: &'a Job<'a>, style: Style) -> Result<Recoded<'a>, BlockFault>
     requires asked { IsAsked job.now.block.now job.now.style job.now.ends }
@@ -77,9 +114,7 @@ fn code_anew<'a>(alloc: Global, job: &'a Job<'a>, style: Style) -> Result<Recode
     if block.passes == 0 {
         return Ok(nothing(alloc, job));
     }
-    let grid = own_cells(alloc, job)?;
-    let planes = block.planes - block.zero;
-    let lists = encode_flags(alloc, &grid, block.name.band, style, planes, block.passes)?;
+    let lists = new_lists(alloc, job, style)?;
     let bytes = all_bytes(alloc, &lists)?;
     let parts = parts_anew(alloc, block, style, job.ends.as_slice(), &lists)?;
     Ok(Recoded { job, bytes, parts })

@@ -264,6 +264,9 @@ fn wrong_symbol(rt: HostRuntime) -> Result<(), Fail> {
     let ends = in_one(alloc, 1).ok().ok_or("no memory")?;
     let fault = anew(alloc, &block, 0, ends).err();
     assert_eq!(rt; fault, Some(BlockFault::BadSegmentation(3)));
+    let ends = in_one(alloc, 1).ok().ok_or("no memory")?;
+    let fault = anew(alloc, &block, 8, ends).err();
+    assert_eq!(rt; fault, Some(BlockFault::BadSegmentation(3)));
     Ok(())
 }
 

@@ -1,4 +1,6 @@
 pub mod AddedLemmas
+pub mod AnswerLemmas
+pub mod CopyLemmas
 pub mod EndLemmas
 pub mod FourLemmas
 pub mod FullLemmas
@@ -8,6 +10,7 @@ pub mod MarkLemmas
 pub mod QuietLemmas
 pub mod RaiseLemmas
 pub mod RunLemmas
+pub mod RecodeLemmas
 pub mod ScanLemmas
 pub mod SeenLemmas
 pub mod SignLemmas

@@ -1,3 +1,4 @@
+pub mod InStep
 pub mod Joined
 pub mod Labels
 pub mod Marks

@@ -4,6 +4,7 @@
 
 mod answers;
 mod coefs;
+mod copier;
 mod decode;
 mod decoder;
 mod encode;
@@ -11,7 +12,12 @@ mod encoder;
 mod field;
 mod grid;
 mod labels;
+mod pen;
 mod reader;
+mod recode;
+#[cfg(test)]
+mod recode_tests;
+mod recoder;
 mod runs;
 mod scan;
 mod signs;
@@ -24,3 +30,4 @@ pub use decode::{FlagDecoded, decode_flags, sound_flags};
 pub use encode::encode_flags;
 pub use grid::FlagGrid;
 pub use jx_grid::{BadSymbol, Coded, Coef, Segments};
+pub use recode::{FlagRecoded, recode_flags};

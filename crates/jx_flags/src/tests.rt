@@ -12,7 +12,7 @@ use std::test::Fail;
 
 /// Segments as they were written; none where one has 2^16 bytes.
 #[tactic(auto, using(jx_passenc::proofs::ShortLemmas::short_more, jx_passenc::proofs::ShortLemmas::short_none))]
-fn gathered<'a>(alloc: Global, lists: &'a [Vec<u8>]) -> Result<Segments<'a>, NoMemory>
+pub(crate) fn gathered<'a>(alloc: Global, lists: &'a [Vec<u8>]) -> Result<Segments<'a>, NoMemory>
     ensures { IfOk result (λ s. AreShort s) }
 {
     let mut segments = Segments::new(alloc);
@@ -28,7 +28,7 @@ fn gathered<'a>(alloc: Global, lists: &'a [Vec<u8>]) -> Result<Segments<'a>, NoM
 
 /// One segment.
 #[tactic(auto, using(jx_passdec::proofs::Firsts::one_short))]
-fn one<'a>(alloc: Global, bytes: &'a [u8]) -> Result<Segments<'a>, NoMemory>
+pub(crate) fn one<'a>(alloc: Global, bytes: &'a [u8]) -> Result<Segments<'a>, NoMemory>
     requires { length bytes.now < 2 ^ 32 }
     ensures { IfOk result (λ s. AreShort s) }
 {
@@ -129,7 +129,7 @@ fn is_same(a: &Grid, b: &FlagGrid) -> bool {
 }
 
 /// Whether lists of bytes are the same.
-fn are_same(a: &[Vec<u8>], b: &[Vec<u8>]) -> bool {
+pub(crate) fn are_same(a: &[Vec<u8>], b: &[Vec<u8>]) -> bool {
     if a.len() != b.len() {
         return false;
     }

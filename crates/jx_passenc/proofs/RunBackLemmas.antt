@@ -84,7 +84,7 @@ zero_rows k (suc n) g x y a p q =
 pub left_same : (k : Plane) (c d : Coef) → d ≡ c → IsLeft k c → IsLeft k d
 left_same k c d e h = subst (λ (x : Coef). IsLeft k x) (sym e) h
 
-zero_seen : (k : Plane) (count i : ℕ) (g : Cells) (x y : ℕ) (h : Cells) → IsScan k → AreClean k.planes (k.number + 1) g → x < g.width → y + count ≤ g.height
+pub zero_seen : (k : Plane) (count i : ℕ) (g : Cells) (x y : ℕ) (h : Cells) → IsScan k → AreClean k.planes (k.number + 1) g → x < g.width → y + count ≤ g.height
     → i < count → IsLeft k (coef_at g x (y + i)) → IsFront k.planes (zeroed k count g x y) h → bit_at_place h (shift_of k) x (y + i) ≡ false
 zero_seen k zero i g x y h s a p q l t f = absurd (omega arith)
 zero_seen k (suc n) zero g x y h s a p q l t f =
@@ -110,7 +110,7 @@ zero_seen k (suc n) (suc i) g x y h s a p q l t f =
     subst (λ (z : ℕ). bit_at_place h (shift_of k) x z ≡ false) (sym e) (zero_seen k n i m x (y + 1) h s b p (omega arith) (omega arith) v f)
 
 -- the first of four
-first_none : (g : Cells) (s x y : ℕ) → ((i : ℕ) → i < 4 → bit_at_place g s x (y + i) ≡ false) → first_of_four g s x y ≡ 4
+pub first_none : (g : Cells) (s x y : ℕ) → ((i : ℕ) → i < 4 → bit_at_place g s x (y + i) ≡ false) → first_of_four g s x y ≡ 4
 first_none g s x y h =
     let e : y + 0 ≡ y = omega arith in
     let a : bit_at_place g s x y ≡ false = subst (λ (z : ℕ). bit_at_place g s x z ≡ false) e (h 0 (omega arith)) in
@@ -163,19 +163,19 @@ named_follows k m x y h l n g e t =
     ∙ ap (λ (b : Bool). zeroed k N (changed m x (y + N) (with_sign k b)) x y) t))
 
 -- what a grid shows after a named place
-record AreSeen (k : Plane) (m : Cells) (x y n : ℕ) (negative : Bool) (g : Cells) : Type 0 where
+pub record AreSeen (k : Plane) (m : Cells) (x y n : ℕ) (negative : Bool) (g : Cells) : Type 0 where
   pub first : first_of_four g (shift_of k) x y ≡ n
   pub sign : (coef_at g x (y + n)).negative ≡ negative
 
 abbrev pub named_cells : Plane → Cells → ℕ → ℕ → ℕ → Bool → Cells
 named_cells k m x y n negative = zeroed k n (changed m x (y + n) (with_sign k negative)) x y
 
-record AreNamed (k : Plane) (m : Cells) (x y n : ℕ) (negative : Bool) : Type 0 where
+pub record AreNamed (k : Plane) (m : Cells) (x y n : ℕ) (negative : Bool) : Type 0 where
   pub front : IsFront k.planes m (named_cells k m x y n negative)
   pub clean : AreClean k.planes (k.number + 1) (named_cells k m x y n negative)
   pub seen : (g : Cells) → IsFront k.planes (named_cells k m x y n negative) g → AreSeen k m x y n negative g
 
-named_is : (k : Plane) (m : Cells) (x y n : ℕ) (negative : Bool) → IsScan k → AreClean k.planes (k.number + 1) m → x < m.width → IsRun k m x y → n < 4
+pub named_is : (k : Plane) (m : Cells) (x y n : ℕ) (negative : Bool) → IsScan k → AreClean k.planes (k.number + 1) m → x < m.width → IsRun k m x y → n < 4
     → AreNamed k m x y n negative
 named_is k m x y n negative s a p r l =
     let c : Coef = coef_at m x (y + n) in

@@ -1,8 +1,5 @@
 use Rattle.std.proofs.Common.{◌∙◌, ◌≤◌, ◌^◌, ap, sym, subst, length, map, List, ℕ}
 use Rattle.std.specs.List.{concat}
-use Rattle.jx_grid.specs.Cells.{Cells}
-use Rattle.jx_grid.specs.Needs.{written}
-use Rattle.jx_block.specs.Recoding.{coding_in}
 use Rattle.jx_block.proofs.LengthLemmas.{anew_few}
 use Rattle.jx_block.proofs.MadeJobs.{anew_made}
 use Rattle.jx_block.proofs.recoded.code_anew.Goals as goal
@@ -10,24 +7,19 @@ use Rattle.jx_block.proofs.recoded.code_anew.Goals as goal
 pub parts_of-requires-clause-few : goal.parts_of-requires-clause-few
 parts_of-requires-clause-few c =
     let b = c.args.job.now.block.now in
-    let made = ap (λ (g : Cells). written (coding_in b c.args.style.bits) g b.passes) c.in_ok-grid.ensures.cells in
-    let is = ap (map (λ l. l.items)) c.deref-2.ensures.value ∙ c.in_ok-lists.ensures ∙ made in
+    let is = ap (map (λ l. l.items)) c.deref-2.ensures.value ∙ c.in_ok-lists.ensures.lists in
     subst (λ (ss : List (List ℕ)). length (concat ss) ≤ 2 ^ 28) (sym is) (anew_few b c.args.style c.requires.asked.sound)
 
 pub invariant_of-result : goal.invariant_of-result
 invariant_of-result c =
-    let b = c.args.job.now.block.now in
-    let made = ap (λ (g : Cells). written (coding_in b c.args.style.bits) g b.passes) c.in_ok-grid.ensures.cells in
-    let is = ap (map (λ l. l.items)) c.deref-2.ensures.value ∙ c.in_ok-lists.ensures ∙ made in
-    let was = ap (map (λ l. l.items)) c.deref.ensures.value ∙ c.in_ok-lists.ensures ∙ made in
-    anew_made c.args.job.now c.args.style c.as_slice.result.now _ _ c.in_ok-bytes.bytes.items c.in_ok-parts.parts.items c.requires.asked c.requires.style c.in_ok-grid.ensures.right
+    let is = ap (map (λ l. l.items)) c.deref-2.ensures.value ∙ c.in_ok-lists.ensures.lists in
+    let was = ap (map (λ l. l.items)) c.deref.ensures.value ∙ c.in_ok-lists.ensures.lists in
+    anew_made c.args.job.now c.args.style c.as_slice.result.now _ _ c.in_ok-bytes.bytes.items c.in_ok-parts.parts.items c.requires.asked c.requires.style c.in_ok-lists.ensures.right
     c.as_slice.ensures was is c.in_ok-bytes.ensures c.in_ok-parts.ensures
 
 pub returns-clause-recoding : goal.returns-clause-recoding
 returns-clause-recoding c =
-    let b = c.args.job.now.block.now in
-    let made = ap (λ (g : Cells). written (coding_in b c.args.style.bits) g b.passes) c.in_ok-grid.ensures.cells in
-    let is = ap (map (λ l. l.items)) c.deref-2.ensures.value ∙ c.in_ok-lists.ensures ∙ made in
-    let was = ap (map (λ l. l.items)) c.deref.ensures.value ∙ c.in_ok-lists.ensures ∙ made in
-    (anew_made c.args.job.now c.args.style c.as_slice.result.now _ _ c.in_ok-bytes.bytes.items c.in_ok-parts.parts.items c.requires.asked c.requires.style c.in_ok-grid.ensures.right
+    let is = ap (map (λ l. l.items)) c.deref-2.ensures.value ∙ c.in_ok-lists.ensures.lists in
+    let was = ap (map (λ l. l.items)) c.deref.ensures.value ∙ c.in_ok-lists.ensures.lists in
+    (anew_made c.args.job.now c.args.style c.as_slice.result.now _ _ c.in_ok-bytes.bytes.items c.in_ok-parts.parts.items c.requires.asked c.requires.style c.in_ok-lists.ensures.right
     c.as_slice.ensures was is c.in_ok-bytes.ensures c.in_ok-parts.ensures).is
