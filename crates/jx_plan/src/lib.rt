@@ -16,6 +16,8 @@ mod parting_tests;
 mod planning;
 #[cfg(test)]
 mod tests;
+#[cfg(test)]
+mod tile_tests;
 
 pub use faults::PlanFault;
 pub use fitting::check_precincts;

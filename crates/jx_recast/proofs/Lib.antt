@@ -1,4 +1,5 @@
 pub mod ProgressLemmas
+pub mod ReadLemmas
 pub mod SaidLemmas
 pub mod TileLemmas
 pub mod TapedLemmas

@@ -45,6 +45,22 @@ fn each_read_fails(rt: HostRuntime) -> Result<(), Fail> {
     Ok(())
 }
 
+// What the device says of the input's length changes nothing, whether it says too little, too much, or what is true.
+#[test]
+fn any_length_may_be_said(rt: HostRuntime) -> Result<(), Fail> {
+    let alloc = rt.alloc();
+    for (length, most) in [(0, 82), (82, 1), (5, 7), (81, 1_000), (1_000_000, 82)] {
+        let mut files = holding(alloc, &SMALL)?;
+        let mut say = MemSink::new(alloc);
+        files.hint(length);
+        files.short(u32::max(most, 1));
+        let report = run_words(&rt, alloc, &GOOD, &mut files, &mut say)?;
+        assert_eq!(rt; report.status, Status::Done, "at {length}");
+        assert_eq!(rt; say.said(), "done: 1 blocks, 88 bytes\n");
+    }
+    Ok(())
+}
+
 // The bytes that were written before the call failed are the first ones of the file that is written where none fails.
 #[test]
 fn each_write_fails(rt: HostRuntime) -> Result<(), Fail> {

@@ -274,13 +274,10 @@ pub fn write_file<R: Threads + Wait + Sync, G: Gate + Sync, F: Files>(
     let Ok(header) = main_header(alloc, plan) else {
         return Err(Halt::NoMemory);
     };
-    let Ok(main) = plan.stream().main_view(alloc) else {
-        return Err(Halt::NoMemory);
-    };
     let Ok(written) = main_view(alloc, plan) else {
         return Err(Halt::NoMemory);
     };
-    let making = Making::new(plan, &main, &written);
+    let making = Making::new(plan, &written);
     match files.create(to) {
         Ok(()) => write_created(crew, alloc, files, &making, &header, tape),
         Err(refused) => Err(halt_of(refused)),

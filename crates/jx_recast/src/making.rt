@@ -1,55 +1,16 @@
 //! A plan that is carried out.
 
-ghost use Rattle.std.specs.Prelude.{◌≡◌, ◌≤◌, ◌<◌, ◌^◌, ◌+◌, drop, length, take, IfOk};
-ghost use Rattle.jx_geom.specs.Counts.{tile_blocks};
-ghost use Rattle.jx_geom.specs.Geometry.{ShapesInRange};
-ghost use Rattle.jx_geom.specs.Rects.{tile_rect};
+ghost use Rattle.std.specs.Prelude.{◌≡◌, ◌≤◌, ◌<◌, ◌+◌, drop, length, take};
 ghost use Rattle.jx_pool.specs.Tapes.{AreAsked};
-ghost use Rattle.jx_stream.specs.First.{canvas_of, tile_number};
+ghost use Rattle.jx_stream.specs.First.{tile_number};
 ghost use Rattle.jx_stream.specs.InRange.{StreamInRange};
-ghost use Rattle.jx_stream.specs.Shapes.{shapes_of};
 ghost use Rattle.jx_plan.specs.Plan.{IsPlan, headers_of};
 ghost use Rattle.jx_assemble.specs.Tile.{blocks_in};
 
-use jx_base::{NoMemory, Rect};
 use jx_block::Job;
-use jx_geom::{CompShape, count_in, tile_of};
 use jx_plan::OutStream;
 use jx_stream::{MainView, Stream};
-use std::alloc::Global;
 use std::marker::Model;
-
-/// The code-blocks of a tile of these places (ITU-T T.800, B.7).
-#[tactic(auto, using(jx_geom::proofs::TableLemmas::blocks_more))]
-fn count_blocks(places: Rect, shapes: &[CompShape]) -> u128
-    requires few { length shapes.now ≤ 2 ^ 14 }
-    requires range { ShapesInRange shapes.now }
-    ensures blocks { result ≡ tile_blocks places shapes.now }
-    ensures few_blocks { result < 2 ^ 87 }
-{
-    let mut blocks = 0;
-    for comp in 0..shapes.len() {
-        blocks += count_in(places, &shapes[comp]).0;
-    }
-    blocks
-}
-
-/// The code-blocks of a tile of a stream, which has at most 2^20 in all.
-fn blocks_in(
-    alloc: Global,
-    stream: &Stream,
-    main: &MainView<'_>,
-    tile: u16,
-) -> Result<u32, NoMemory>
-    requires main { main.now ≡ record { siz = stream.now.siz; main = stream.now.main } }
-    requires range { StreamInRange stream.now }
-    requires tile { tile < tile_number stream.now.siz }
-    requires few { tile_blocks (tile_rect (canvas_of stream.now.siz) tile) (shapes_of stream.now tile) ≤ 2 ^ 20 }
-    ensures { IfOk result (λ blocks. blocks ≡ tile_blocks (tile_rect (canvas_of stream.now.siz) tile) (shapes_of stream.now tile)) }
-{
-    let view = stream.tile_view(alloc, main, tile)?;
-    Ok(count_blocks(tile_of(&view.canvas(), tile), view.shapes()) as u32)
-}
 
 /// How many tiles the picture of a stream has, at most 65,535.
 fn tiles_of(stream: &Stream) -> u16
@@ -59,11 +20,10 @@ fn tiles_of(stream: &Stream) -> u16
     stream.tiles.as_slice().len() as u16
 }
 
-/// A plan, with the views of the main header that was read and of the one that is written.
+/// A plan, with the view of the main header that is written.
 #[derive(Drop)]
 pub struct Making<'a, 'p> {
     plan: &'a OutStream<'p>,
-    main: &'a MainView<'a>,
     written: &'a MainView<'a>,
 }
 
@@ -75,25 +35,15 @@ impl<'a, 'p> Model for Making<'a, 'p> {
 
     ghost view = { λ m. m.plan.now };
 
-    ghost invariant = { λ m. (m.main.now ≡ record { siz = m.plan.now.stream.siz; main = m.plan.now.stream.main })
-        × (m.written.now ≡ record { siz = (headers_of m.plan.now).siz; main = (headers_of m.plan.now).main }) };
+    ghost invariant = { λ m. m.written.now ≡ record { siz = (headers_of m.plan.now).siz; main = (headers_of m.plan.now).main } };
 }
 
 impl<'a, 'p> Making<'a, 'p> {
-    pub fn new(
-        plan: &'a OutStream<'p>,
-        main: &'a MainView<'a>,
-        written: &'a MainView<'a>,
-    ) -> Making<'a, 'p>
-        requires main { main.now ≡ record { siz = plan.now.stream.siz; main = plan.now.stream.main } }
+    pub fn new(plan: &'a OutStream<'p>, written: &'a MainView<'a>) -> Making<'a, 'p>
         requires written { written.now ≡ record { siz = (headers_of plan.now).siz; main = (headers_of plan.now).main } }
         ensures { result ≡ plan.entry.now }
     {
-        Making {
-            plan,
-            main,
-            written,
-        }
+        Making { plan, written }
     }
 
     pub fn plan(&self) -> &'a OutStream<'p>
@@ -142,11 +92,11 @@ impl<'a, 'p> Making<'a, 'p> {
     }
 
     /// How many code-blocks a tile has.
-    pub fn blocks_in(&self, alloc: Global, tile: u16) -> Result<u32, NoMemory>
+    pub fn blocks_in(&self, tile: u16) -> u32
         requires { tile < tile_number self.now.stream.siz }
-        ensures { IfOk result (λ blocks. blocks ≡ blocks_in self.now tile) }
+        ensures { result ≡ blocks_in self.now tile }
     {
-        let _ = self.jobs();
-        blocks_in(alloc, self.plan.stream(), self.main, tile)
+        let (first, end) = self.plan.tile_jobs(tile);
+        end - first
     }
 }

@@ -80,6 +80,39 @@ fn order_there_and_back(rt: HostRuntime) -> Result<(), Fail> {
     rewrites(&rt, &back, &want, &TWO, line)
 }
 
+// What these words make of these bytes.
+fn made_of(
+    rt: &(impl Abort + AllocGlobal + Threads + Wait + Sync),
+    words: &[&str],
+    bytes: &[u8],
+) -> Result<Vec<u8>, Fail> {
+    let alloc = rt.alloc();
+    let mut files = holding(alloc, bytes)?;
+    let mut say = MemSink::new(alloc);
+    let report = run_words(rt, alloc, words, &mut files, &mut say)?;
+    assert_eq!(rt; report.status, Status::Done);
+    let (_, made) = files.made().ok_or("nothing made")?;
+    Ok(made.to_vec(alloc)?)
+}
+
+// By resolution and position, with other precincts, tile-parts and markers; then back: the same as with no option.
+#[test]
+fn transcoded_twice(rt: HostRuntime) -> Result<(), Fail> {
+    let kept = made_of(&rt, &["jx", "transcode", "in", "out"], &TWO)?;
+    let mut words = Vec::new(rt.alloc());
+    words.extend_from_slice(&["jx", "transcode", "in", "out", "--order", "rpcl"])?;
+    words.extend_from_slice(&["--precincts", "8x7,7x8", "--tile-parts", "r"])?;
+    words.extend_from_slice(&["--sop", "--plt"])?;
+    let there = made_of(&rt, &words, &TWO)?;
+    assert!(rt; there.as_slice() != kept.as_slice());
+    let mut words = Vec::new(rt.alloc());
+    words.extend_from_slice(&["jx", "transcode", "in", "out", "--order", "lrcp"])?;
+    words.extend_from_slice(&["--precincts", "max"])?;
+    let back = made_of(&rt, &words, &there)?;
+    assert!(rt; back.as_slice() == kept.as_slice());
+    Ok(())
+}
+
 #[test]
 fn tile_parts_by_resolution(rt: HostRuntime) -> Result<(), Fail> {
     let words = ["jx", "transcode", "in", "out", "--tile-parts", "r"];

@@ -56,7 +56,7 @@ fn counts_from(alloc: Global, making: &Making<'_, '_>, tile: u16) -> Result<Coun
     let mut each = Vec::new(alloc);
     let mut all = 0;
     for at in tile..making.tile_count() {
-        let count = making.blocks_in(alloc, at)?;
+        let count = making.blocks_in(at);
         each.push(count)?;
         all += count;
         if all >= MOST_BLOCKS {

@@ -9,22 +9,22 @@ use Rattle.jx_recast.proofs.rounds.counts_from.Goals as goal
 pub overflow_add-all : goal.overflow_add-all
 overflow_add-all c =
     let inside : c.loop-at.at < tile_number c.args.making.now.stream.siz = search rules in
-    omega (arith, c.in_ok-count.ensures, block_few c.args.making.now c.loop-at.at c.tile_count-at-end.ensures.plan inside)
+    omega (arith, c.blocks_in-count.ensures, block_few c.args.making.now c.loop-at.at c.tile_count-at-end.ensures.plan inside)
 
 pub returns-then-all-ge-MOST_BLOCKS : goal.returns-then-all-ge-MOST_BLOCKS
 returns-then-all-ge-MOST_BLOCKS c =
     let inside : c.loop-at.at < tile_number c.args.making.now.stream.siz = search rules in
-    let items : c.push.new.self.items ≡ c.loop-at.each.items ++ c.in_ok-count.count ∷ [] = search rules in
-    extent_full c.args.making.now c.args.tile c.loop-at.at c.loop-at.all c.in_ok-count.count c.loop-at.each.items c.push.new.self.items c.loop-at.invariant.of c.loop-at.invariant.place inside
-    c.loop-at.invariant.round c.in_ok-count.ensures items c.if-all-ge-MOST_BLOCKS.true
+    let items : c.push.new.self.items ≡ c.loop-at.each.items ++ c.blocks_in-count.result ∷ [] = search rules in
+    extent_full c.args.making.now c.args.tile c.loop-at.at c.loop-at.all c.blocks_in-count.result c.loop-at.each.items c.push.new.self.items c.loop-at.invariant.of c.loop-at.invariant.place inside
+    c.loop-at.invariant.round c.blocks_in-count.ensures items c.if-all-ge-MOST_BLOCKS.true
 
 pub loop-at-preserved : goal.loop-at-preserved
 loop-at-preserved c =
     let inside : c.loop-at.at < tile_number c.args.making.now.stream.siz = search rules in
-    let items : c.push.new.self.items ≡ c.loop-at.each.items ++ c.in_ok-count.count ∷ [] = search rules in
-    let count : c.in_ok-count.count ≡ blocks_in c.args.making.now c.loop-at.at = c.in_ok-count.ensures in
+    let items : c.push.new.self.items ≡ c.loop-at.each.items ++ c.blocks_in-count.result ∷ [] = search rules in
+    let count : c.blocks_in-count.result ≡ blocks_in c.args.making.now c.loop-at.at = c.blocks_in-count.ensures in
     record {
-      of = of_next c.args.making.now c.args.tile c.loop-at.at c.loop-at.all c.in_ok-count.count c.loop-at.each.items c.push.new.self.items c.loop-at.invariant.of c.loop-at.invariant.place inside
+      of = of_next c.args.making.now c.args.tile c.loop-at.at c.loop-at.all c.blocks_in-count.result c.loop-at.each.items c.push.new.self.items c.loop-at.invariant.of c.loop-at.invariant.place inside
           c.loop-at.invariant.round count items;
       place = search rules;
       round = subst (λ n. IsInRound c.args.making.now (c.loop-at.at + 1) c.args.tile (c.loop-at.all + n)) (sym count)

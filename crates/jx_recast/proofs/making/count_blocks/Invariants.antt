@@ -1,9 +1,0 @@
-use Rattle.std.proofs.Common.{◌≡◌, ◌*◌, ◌≤◌, ◌^◌, take}
-use Rattle.jx_geom.specs.Counts.{tile_blocks}
-use Rattle.jx_recast.proofs.making.count_blocks.Given as goal
-
-abbrev pub invariant-loop-comp : goal.invariant-loop-comp
-invariant-loop-comp l = record {
-  blocks : l.blocks ≡ tile_blocks l.places (take l.comp l.shapes);
-  most_blocks : l.blocks ≤ l.comp * 2 ^ 72;
-}
