@@ -1,6 +1,5 @@
 use Rattle.std.proofs.Common.{◌≡◌, ◌∙◌, ap, sym, subst, map, List, ℕ}
 use Rattle.std.proofs.lemmas.Result.{IfOk-weaker}
-use Rattle.jx_base.specs.Passes.{is_causal}
 use Rattle.jx_grid.specs.Needs.{written}
 use Rattle.jx_grid.specs.Reading.{Decoding}
 use Rattle.jx_passdec.specs.Short.{AreShort}
