@@ -36,3 +36,5 @@ mod regrouping_tests;
 mod style_tests;
 #[cfg(test)]
 mod tests;
+#[cfg(test)]
+mod tile_tests;
