@@ -6,6 +6,3 @@ returns-in_default-clause-err g c = nothing_begun c.args.plan.now c.args.to.now 
 
 pub returns-in_default-main_view-clause-err : goal.returns-in_default-main_view-clause-err
 returns-in_default-main_view-clause-err g c = nothing_begun c.args.plan.now c.args.to.now (g.F.Files.meaning c.args.files.now)
-
-pub returns-in_default-main_view-2-clause-err : goal.returns-in_default-main_view-2-clause-err
-returns-in_default-main_view-2-clause-err g c = nothing_begun c.args.plan.now c.args.to.now (g.F.Files.meaning c.args.files.now)
