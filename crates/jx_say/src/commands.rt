@@ -107,7 +107,9 @@ fn make<'a>(alloc: Global) -> Result<Command<'a>, AllocError> {
 
 /// The program, with its help.
 fn program<'a>(alloc: Global) -> Result<Command<'a>, AllocError> {
+    // The name is the same whatever file the program lies in.
     let command = Command::new(alloc, "jx")
+        .bin_name("jx")?
         .version(VERSION)
         .about(ABOUT)
         .after_help(MORE)

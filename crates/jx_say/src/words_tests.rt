@@ -27,6 +27,8 @@ fn is_mistake(alloc: Global, words: &str, part: &str) -> Result<bool, AllocError
 fn help_is_said(rt: HostRuntime) -> Result<(), Fail> {
     let alloc = rt.alloc();
     assert!(rt; says(alloc, Refusal::Words, "jx", "Commands:")?);
+    assert!(rt; says(alloc, Refusal::Words, "out/jx_tool", "Usage: jx <COMMAND>")?);
+    assert!(rt; says(alloc, Refusal::Words, "out/jx_tool make --help", "Usage: jx make")?);
     assert!(rt; says(alloc, Refusal::Words, "jx --help", "Commands:")?);
     assert!(rt;
         says(
