@@ -38,9 +38,12 @@ impl<'a> Copier<'a> {
 }
 
 impl<'a> Source for Copier<'a> {
+    ghost use Rattle.std.specs.Prelude.{false};
     ghost use Rattle.jx_flags.specs.InStep.{copy_answer};
 
     ghost ask = { copy_answer };
+
+    ghost is_sure = { false };
 
     #[inline(always)]
     fn ask(&mut self, question: Question) -> Result<bool, NoMemory> {

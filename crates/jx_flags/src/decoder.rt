@@ -1,4 +1,4 @@
-ghost use Rattle.std.specs.Prelude.{◌≡◌, ◌+◌, ◌++◌, ◌∷◌, [], ◌/◌, ◌%◌, ◌^◌, ◌==◌, ◌&&◌, ◌<◌, ℕ, length, drop, All, OnOk, IfOk};
+ghost use Rattle.std.specs.Prelude.{◌≡◌, ◌+◌, ◌++◌, ◌∷◌, [], ◌/◌, ◌%◌, ◌^◌, ◌==◌, ◌&&◌, ◌<◌, ℕ, length, drop, All, OnOk, IfOk, IsOk};
 ghost use Rattle.jx_grid.specs.Cells.{Cells, HasSize, AreWithin, IsKept};
 ghost use Rattle.jx_grid.specs.Pass.{IsScan, plane_of};
 ghost use Rattle.jx_grid.specs.Segments.{begins};
@@ -83,6 +83,7 @@ impl<'a> Decoder<'a> {
     fn symbol(&mut self, style: Style, pass: u16) -> Result<bool, NoMemory>
         ensures right { IfOk result (λ right. right ≡ (read_symbol style.bits pass self.old.reading).0) }
         ensures decoding { OnOk result (self.new ≡ record self.old { reading = (read_symbol style.bits pass self.old.reading).1 }) }
+        ensures sure { IsOk result }
         ensures kept { self.new.cells ≡ self.old.cells }
     {
         if !has_symbol(style, pass) {
@@ -119,6 +120,7 @@ impl<'a> Decoder<'a> {
         requires size { HasSize self.old.cells }
         requires within { AreWithin planes ((pass + 2) / 3 + 1) self.old.cells }
         ensures decoding { OnOk result (self.new ≡ with_bits self.old (read_bits (coding_of band style.bits planes) pass self.old)) }
+        ensures sure { IsOk result }
         ensures kept { OnOk result (IsKept planes ((pass + 2) / 3 + 1) self.old.cells self.new.cells) }
     {
         if style.reset() {

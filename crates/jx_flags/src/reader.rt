@@ -72,9 +72,12 @@ impl<'a> Reader<'a> {
 
 #[tactic(auto, using(jx_passdec::proofs::Firsts::first_is))]
 impl<'a> Source for Reader<'a> {
+    ghost use Rattle.std.specs.Prelude.{true};
     ghost use Rattle.jx_grid.specs.Reading.{read_answer};
 
     ghost ask = { read_answer };
+
+    ghost is_sure = { true };
 
     #[inline(always)]
     fn ask(&mut self, question: Question) -> Result<bool, NoMemory> {

@@ -1,4 +1,4 @@
-ghost use Rattle.std.specs.Prelude.{◌≡◌, ◌+◌, ◌-◌, ◌/◌, ◌%◌, ◌<◌, ◌≤◌, ℕ, true, false, IfOk, OnOk, IsTrue};
+ghost use Rattle.std.specs.Prelude.{◌≡◌, ◌+◌, ◌-◌, ◌/◌, ◌%◌, ◌<◌, ◌≤◌, ℕ, true, false, IfOk, OnOk, IsTrue, IsOk};
 ghost use Rattle.jx_grid.specs.Cells.{Cells, coef_at, significant, IsPlace, AreWithin, IsKept};
 ghost use Rattle.jx_grid.specs.Asking.{told};
 ghost use Rattle.jx_flags.specs.Labels.{AreLabels};
@@ -119,6 +119,7 @@ fn decide_named<S: Source>(
     requires within { AreWithin plane.planes (plane.number + 1) field.old }
     ensures grid { OnOk result (field.new ≡ (told S.ask (named_at plane field.old x y n) source.old).0) }
     ensures source { OnOk result (source.new ≡ (told S.ask (named_at plane field.old x y n) source.old).1) }
+    ensures sure { S.is_sure ≡ true → IsOk result }
     ensures kept { IsKept plane.planes (plane.number + 1) field.old field.new }
     ensures columns { IfOk result (λ w. w ≡ window field.new plane.causal stripe x) }
 {
@@ -156,6 +157,7 @@ fn decide_place<S: Source>(
     requires within { AreWithin plane.planes (plane.number + 1) field.old }
     ensures grid { OnOk result (field.new ≡ (told S.ask (place_at plane field.old x y) source.old).0) }
     ensures source { OnOk result (source.new ≡ (told S.ask (place_at plane field.old x y) source.old).1) }
+    ensures sure { S.is_sure ≡ true → IsOk result }
     ensures kept { IsKept plane.planes (plane.number + 1) field.old field.new }
     ensures columns { IfOk result (λ w. w ≡ window field.new plane.causal stripe x) }
 {
@@ -213,6 +215,7 @@ fn run<S: Source>(
     requires within { AreWithin plane.planes (plane.number + 1) field.old }
     ensures grid { OnOk result (field.new ≡ (told S.ask (run_at plane field.old x y) source.old).0) }
     ensures source { OnOk result (source.new ≡ (told S.ask (run_at plane field.old x y) source.old).1) }
+    ensures sure { S.is_sure ≡ true → IsOk result }
     ensures kept { IsKept plane.planes (plane.number + 1) field.old field.new }
     ensures columns { IfOk result (λ w. w ≡ window field.new plane.causal stripe x) }
 {
@@ -249,6 +252,7 @@ pub(crate) fn cleanup<S: Source>(
     requires within { AreWithin plane.planes (plane.number + 1) field.old }
     ensures grid { OnOk result (field.new ≡ (told S.ask (cleanup_at plane field.old x y) source.old).0) }
     ensures source { OnOk result (source.new ≡ (told S.ask (cleanup_at plane field.old x y) source.old).1) }
+    ensures sure { S.is_sure ≡ true → IsOk result }
     ensures kept { IsKept plane.planes (plane.number + 1) field.old field.new }
     ensures columns { IfOk result (λ w. w ≡ window field.new plane.causal stripe x) }
 {

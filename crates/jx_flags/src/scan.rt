@@ -1,4 +1,4 @@
-ghost use Rattle.std.specs.Prelude.{◌≡◌, ◌+◌, ◌-◌, ◌*◌, ◌/◌, ◌%◌, ◌<◌, ◌≤◌, ℕ, min, IfOk, OnOk, IsTrue};
+ghost use Rattle.std.specs.Prelude.{◌≡◌, ◌+◌, ◌-◌, ◌*◌, ◌/◌, ◌%◌, ◌<◌, ◌≤◌, ℕ, min, IfOk, OnOk, IsTrue, true, IsOk};
 ghost use Rattle.jx_grid.specs.Cells.{Cells, HasSize, IsPlace, AreWithin, IsKept};
 ghost use Rattle.jx_grid.specs.Asking.{Told, told};
 ghost use Rattle.jx_grid.specs.Pass.{IsScan, pass_at, plane_of, scanned, pass_of};
@@ -86,6 +86,7 @@ fn pass_at_place<S: Source>(
     requires within { AreWithin plane.planes (plane.number + 1) field.old }
     ensures grid { OnOk result (field.new ≡ (told S.ask (pass_at pass plane field.old x y) source.old).0) }
     ensures source { OnOk result (source.new ≡ (told S.ask (pass_at pass plane field.old x y) source.old).1) }
+    ensures sure { S.is_sure ≡ true → IsOk result }
     ensures kept { IsKept plane.planes (plane.number + 1) field.old field.new }
     ensures columns { IfOk result (λ w. w ≡ window field.new plane.causal stripe x) }
 {
@@ -123,6 +124,7 @@ fn each_row<S: Source>(
     requires within { AreWithin plane.planes (plane.number + 1) field.old }
     ensures grid { OnOk result (field.new ≡ (told S.ask (scanned pass plane rows (first_of field.old x top rows) field.old) source.old).0) }
     ensures source { OnOk result (source.new ≡ (told S.ask (scanned pass plane rows (first_of field.old x top rows) field.old) source.old).1) }
+    ensures sure { S.is_sure ≡ true → IsOk result }
     ensures kept { IsKept plane.planes (plane.number + 1) field.old field.new }
 {
     let mut columns = seen;
@@ -168,6 +170,7 @@ fn four_rows<S: Source>(
     requires within { AreWithin plane.planes (plane.number + 1) field.old }
     ensures grid { OnOk result (field.new ≡ (told S.ask (scanned pass plane 4 (first_of field.old x top 4) field.old) source.old).0) }
     ensures source { OnOk result (source.new ≡ (told S.ask (scanned pass plane 4 (first_of field.old x top 4) field.old) source.old).1) }
+    ensures sure { S.is_sure ≡ true → IsOk result }
     ensures kept { IsKept plane.planes (plane.number + 1) field.old field.new }
 {
     let at = top;
@@ -211,6 +214,7 @@ fn column<S: Source>(
     requires within { AreWithin plane.planes (plane.number + 1) field.old }
     ensures grid { OnOk result (field.new ≡ (told S.ask (scanned pass plane rows (first_of field.old x top rows) field.old) source.old).0) }
     ensures source { OnOk result (source.new ≡ (told S.ask (scanned pass plane rows (first_of field.old x top rows) field.old) source.old).1) }
+    ensures sure { S.is_sure ≡ true → IsOk result }
     ensures kept { IsKept plane.planes (plane.number + 1) field.old field.new }
 {
     let stripe = top / 4 + 1;
@@ -253,6 +257,7 @@ fn stripe_of_kind<S: Source>(
     requires within { AreWithin plane.planes (plane.number + 1) field.old }
     ensures grid { OnOk result (field.new ≡ (told S.ask (scanned pass plane (field.old.width * min 4 (field.old.height - top)) (top * field.old.width) field.old) source.old).0) }
     ensures source { OnOk result (source.new ≡ (told S.ask (scanned pass plane (field.old.width * min 4 (field.old.height - top)) (top * field.old.width) field.old) source.old).1) }
+    ensures sure { S.is_sure ≡ true → IsOk result }
     ensures kept { IsKept plane.planes (plane.number + 1) field.old field.new }
 {
     let rows = 4u16.min(field.grid.height() - top);
@@ -280,6 +285,7 @@ fn stripe<S: Source>(
     requires within { AreWithin plane.planes (plane.number + 1) field.old }
     ensures grid { OnOk result (field.new ≡ (told S.ask (scanned pass plane (field.old.width * min 4 (field.old.height - top)) (top * field.old.width) field.old) source.old).0) }
     ensures source { OnOk result (source.new ≡ (told S.ask (scanned pass plane (field.old.width * min 4 (field.old.height - top)) (top * field.old.width) field.old) source.old).1) }
+    ensures sure { S.is_sure ≡ true → IsOk result }
     ensures kept { IsKept plane.planes (plane.number + 1) field.old field.new }
 {
     match pass % 3 {
@@ -309,6 +315,7 @@ pub(crate) fn run_pass<S: Source>(
     requires within { AreWithin planes ((pass + 2) / 3 + 1) field.old }
     ensures grid { OnOk result (field.new ≡ (told S.ask (pass_of band causal planes pass field.old) source.old).0) }
     ensures source { OnOk result (source.new ≡ (told S.ask (pass_of band causal planes pass field.old) source.old).1) }
+    ensures sure { S.is_sure ≡ true → IsOk result }
     ensures kept { IsKept planes ((pass + 2) / 3 + 1) field.old field.new }
 {
     let plane = Plane {

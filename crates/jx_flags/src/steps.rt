@@ -1,4 +1,4 @@
-ghost use Rattle.std.specs.Prelude.{◌≡◌, ◌+◌, ◌-◌, ◌/◌, ◌^◌, ◌<◌, ◌≤◌, ℕ, Bool, true, false, ◌&&◌, ◌||◌, ◌==◌, not, nat_lt, nat_le, if◌then◌else◌, IfOk, OnOk, IsTrue};
+ghost use Rattle.std.specs.Prelude.{◌≡◌, ◌+◌, ◌-◌, ◌/◌, ◌^◌, ◌<◌, ◌≤◌, ℕ, Bool, true, false, ◌&&◌, ◌||◌, ◌==◌, not, nat_lt, nat_le, if◌then◌else◌, IfOk, OnOk, IsTrue, IsOk};
 ghost use Rattle.jx_grid.specs.Cells.{Cells, coef_at, significant, IsPlace, IsWithin, AreWithin, IsKept};
 ghost use Rattle.jx_grid.specs.Asking.{told};
 ghost use Rattle.jx_grid.specs.Pass.{IsScan, shift_of, is_decided, is_refined, with_bit, with_sign, changed, sign_of, bit_of, label_at, significance_at, refinement_at, usual_at};
@@ -126,6 +126,7 @@ pub(crate) fn decide_sign<S: Source>(
     requires insignificant { (coef_at field.old x y).bits ≡ 0 }
     ensures grid { OnOk result (field.new ≡ (told S.ask (sign_of plane field.old x y) source.old).0) }
     ensures source { OnOk result (source.new ≡ (told S.ask (sign_of plane field.old x y) source.old).1) }
+    ensures sure { S.is_sure ≡ true → IsOk result }
     ensures kept { IsKept plane.planes (plane.number + 1) field.old field.new }
     ensures columns { IfOk result (λ w. w ≡ window field.new plane.causal stripe x) }
 {
@@ -164,6 +165,7 @@ fn decide_bit<S: Source>(
     requires label { label ≡ label_at plane field.old x y }
     ensures grid { OnOk result (field.new ≡ (told S.ask (bit_of plane field.old x y) source.old).0) }
     ensures source { OnOk result (source.new ≡ (told S.ask (bit_of plane field.old x y) source.old).1) }
+    ensures sure { S.is_sure ≡ true → IsOk result }
     ensures kept { IsKept plane.planes (plane.number + 1) field.old field.new }
     ensures columns { IfOk result (λ w. w ≡ window field.new plane.causal stripe x) }
 {
@@ -200,6 +202,7 @@ pub(crate) fn significance<S: Source>(
     requires within { AreWithin plane.planes (plane.number + 1) field.old }
     ensures grid { OnOk result (field.new ≡ (told S.ask (significance_at plane field.old x y) source.old).0) }
     ensures source { OnOk result (source.new ≡ (told S.ask (significance_at plane field.old x y) source.old).1) }
+    ensures sure { S.is_sure ≡ true → IsOk result }
     ensures kept { IsKept plane.planes (plane.number + 1) field.old field.new }
     ensures columns { IfOk result (λ w. w ≡ window field.new plane.causal stripe x) }
 {
@@ -232,6 +235,7 @@ pub(crate) fn refinement<S: Source>(
     requires within { AreWithin plane.planes (plane.number + 1) field.old }
     ensures grid { OnOk result (field.new ≡ (told S.ask (refinement_at plane field.old x y) source.old).0) }
     ensures source { OnOk result (source.new ≡ (told S.ask (refinement_at plane field.old x y) source.old).1) }
+    ensures sure { S.is_sure ≡ true → IsOk result }
     ensures kept { IsKept plane.planes (plane.number + 1) field.old field.new }
     ensures columns { IfOk result (λ w. w ≡ window field.new plane.causal stripe x) }
 {
@@ -274,6 +278,7 @@ pub(crate) fn usual<S: Source>(
     requires within { AreWithin plane.planes (plane.number + 1) field.old }
     ensures grid { OnOk result (field.new ≡ (told S.ask (usual_at plane field.old x y) source.old).0) }
     ensures source { OnOk result (source.new ≡ (told S.ask (usual_at plane field.old x y) source.old).1) }
+    ensures sure { S.is_sure ≡ true → IsOk result }
     ensures kept { IsKept plane.planes (plane.number + 1) field.old field.new }
     ensures columns { IfOk result (λ w. w ≡ window field.new plane.causal stripe x) }
 {

@@ -1,4 +1,4 @@
-ghost use Rattle.std.specs.Prelude.{◌≡◌, ◌+◌, ◌-◌, ◌<◌, ◌≤◌, ℕ, true, false, OnOk, IsTrue};
+ghost use Rattle.std.specs.Prelude.{◌≡◌, ◌+◌, ◌-◌, ◌<◌, ◌≤◌, ℕ, true, false, OnOk, IsTrue, IsOk};
 ghost use Rattle.jx_grid.specs.Cells.{Cells, coef_at, significant, IsPlace, AreWithin, IsKept};
 ghost use Rattle.jx_grid.specs.Asking.{told};
 ghost use Rattle.jx_grid.specs.Pass.{IsScan, is_quiet, is_run, zeroed, named_at, place_at, run_at, cleanup_at, number_in_run};
@@ -65,6 +65,7 @@ fn decide_named<S: Source>(
     requires within { AreWithin plane.planes (plane.number + 1) grid.old }
     ensures grid { OnOk result (grid.new ≡ (told S.ask (named_at plane grid.old x y n) source.old).0) }
     ensures source { OnOk result (source.new ≡ (told S.ask (named_at plane grid.old x y n) source.old).1) }
+    ensures sure { S.is_sure ≡ true → IsOk result }
     ensures kept { IsKept plane.planes (plane.number + 1) grid.old grid.new }
 {
     let (label, turned) = label_of_sign(grid, plane.causal, x, y + n);
@@ -94,6 +95,7 @@ fn decide_place<S: Source>(
     requires within { AreWithin plane.planes (plane.number + 1) grid.old }
     ensures grid { OnOk result (grid.new ≡ (told S.ask (place_at plane grid.old x y) source.old).0) }
     ensures source { OnOk result (source.new ≡ (told S.ask (place_at plane grid.old x y) source.old).1) }
+    ensures sure { S.is_sure ≡ true → IsOk result }
     ensures kept { IsKept plane.planes (plane.number + 1) grid.old grid.new }
 {
     let shift = shift(plane);
@@ -135,6 +137,7 @@ fn run<S: Source>(
     requires within { AreWithin plane.planes (plane.number + 1) grid.old }
     ensures grid { OnOk result (grid.new ≡ (told S.ask (run_at plane grid.old x y) source.old).0) }
     ensures source { OnOk result (source.new ≡ (told S.ask (run_at plane grid.old x y) source.old).1) }
+    ensures sure { S.is_sure ≡ true → IsOk result }
     ensures kept { IsKept plane.planes (plane.number + 1) grid.old grid.new }
 {
     let any = source.ask(Question {
@@ -163,6 +166,7 @@ pub(crate) fn cleanup<S: Source>(
     requires within { AreWithin plane.planes (plane.number + 1) grid.old }
     ensures grid { OnOk result (grid.new ≡ (told S.ask (cleanup_at plane grid.old x y) source.old).0) }
     ensures source { OnOk result (source.new ≡ (told S.ask (cleanup_at plane grid.old x y) source.old).1) }
+    ensures sure { S.is_sure ≡ true → IsOk result }
     ensures kept { IsKept plane.planes (plane.number + 1) grid.old grid.new }
 {
     if is_run_at(grid, plane, x, y) {

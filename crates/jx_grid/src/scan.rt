@@ -1,4 +1,4 @@
-ghost use Rattle.std.specs.Prelude.{◌≡◌, ◌+◌, ◌-◌, ◌*◌, ◌/◌, ◌<◌, ◌≤◌, ℕ, OnOk};
+ghost use Rattle.std.specs.Prelude.{◌≡◌, ◌+◌, ◌-◌, ◌*◌, ◌/◌, ◌<◌, ◌≤◌, ℕ, OnOk, true, IsOk};
 ghost use Rattle.jx_grid.specs.Cells.{Cells, HasSize, IsPlace, AreWithin, IsKept};
 ghost use Rattle.jx_grid.specs.Asking.{told};
 ghost use Rattle.jx_grid.specs.Pass.{IsScan, scan_column, scan_row, pass_at, pass_at_nth, plane_of, scanned, pass_of};
@@ -41,6 +41,7 @@ fn pass_at_place<S: Source>(
     requires within { AreWithin plane.planes (plane.number + 1) grid.old }
     ensures grid { OnOk result (grid.new ≡ (told S.ask (pass_at pass plane grid.old x y) source.old).0) }
     ensures source { OnOk result (source.new ≡ (told S.ask (pass_at pass plane grid.old x y) source.old).1) }
+    ensures sure { S.is_sure ≡ true → IsOk result }
     ensures kept { IsKept plane.planes (plane.number + 1) grid.old grid.new }
 {
     match pass % 3 {
@@ -64,6 +65,7 @@ fn pass_at_number<S: Source>(
     requires within { AreWithin plane.planes (plane.number + 1) grid.old }
     ensures grid { OnOk result (grid.new ≡ (told S.ask (pass_at_nth pass plane grid.old n) source.old).0) }
     ensures source { OnOk result (source.new ≡ (told S.ask (pass_at_nth pass plane grid.old n) source.old).1) }
+    ensures sure { S.is_sure ≡ true → IsOk result }
     ensures kept { IsKept plane.planes (plane.number + 1) grid.old grid.new }
 {
     let (x, y) = place(grid.width(), grid.height(), n);
@@ -88,6 +90,7 @@ pub fn run_pass<S: Source>(
     requires within { AreWithin planes ((pass + 2) / 3 + 1) grid.old }
     ensures grid { OnOk result (grid.new ≡ (told S.ask (pass_of band causal planes pass grid.old) source.old).0) }
     ensures source { OnOk result (source.new ≡ (told S.ask (pass_of band causal planes pass grid.old) source.old).1) }
+    ensures sure { S.is_sure ≡ true → IsOk result }
     ensures kept { IsKept planes ((pass + 2) / 3 + 1) grid.old grid.new }
 {
     let plane = Plane {

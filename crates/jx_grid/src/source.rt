@@ -1,4 +1,4 @@
-ghost use Rattle.std.specs.Prelude.{◌≡◌, ◌<◌, ℕ, Bool, IfOk, OnOk};
+ghost use Rattle.std.specs.Prelude.{◌≡◌, ◌<◌, ℕ, Bool, true, IfOk, IsOk, OnOk};
 
 use crate::Question;
 use jx_base::NoMemory;
@@ -11,10 +11,14 @@ pub trait Source {
     /// The answer to a question, and the source after it.
     ghost ask: { Self → Question → Bool × Self };
 
+    /// Whether it is never refused memory.
+    ghost is_sure: { Bool };
+
     /// Answers a question. After `NoMemory` the source is given up.
     fn ask(&mut self, question: Question) -> Result<bool, NoMemory>
         requires label { question.label < 19 }
         requires shift { question.shift < 128 }
         ensures answer { IfOk result (λ answer. answer ≡ (ask self.old question).0) }
-        ensures after { OnOk result (self.new ≡ (ask self.old question).1) };
+        ensures after { OnOk result (self.new ≡ (ask self.old question).1) }
+        ensures sure { is_sure ≡ true → IsOk result };
 }

@@ -1,4 +1,4 @@
-ghost use Rattle.std.specs.Prelude.{◌≡◌, ◌+◌, ◌-◌, ◌^◌, ◌<◌, ◌≤◌, ℕ, Bool, true, false, ◌&&◌, ◌||◌, ◌==◌, not, nat_lt, nat_le, if◌then◌else◌, IfOk, OnOk, IsTrue};
+ghost use Rattle.std.specs.Prelude.{◌≡◌, ◌+◌, ◌-◌, ◌^◌, ◌<◌, ◌≤◌, ℕ, Bool, true, false, ◌&&◌, ◌||◌, ◌==◌, not, nat_lt, nat_le, if◌then◌else◌, IfOk, OnOk, IsTrue, IsOk};
 ghost use Rattle.jx_grid.specs.Cells.{Cells, coef_at, significant, IsPlace, IsWithin, AreWithin, IsKept};
 ghost use Rattle.jx_grid.specs.Asking.{told};
 ghost use Rattle.jx_grid.specs.Pass.{IsScan, shift_of, is_decided, is_refined, with_bit, with_sign, changed, sign_of, bit_of, significance_at, refinement_at, usual_at};
@@ -101,6 +101,7 @@ fn decide_sign<S: Source>(
     requires insignificant { (coef_at grid.old x y).bits ≡ 0 }
     ensures grid { OnOk result (grid.new ≡ (told S.ask (sign_of plane grid.old x y) source.old).0) }
     ensures source { OnOk result (source.new ≡ (told S.ask (sign_of plane grid.old x y) source.old).1) }
+    ensures sure { S.is_sure ≡ true → IsOk result }
     ensures kept { IsKept plane.planes (plane.number + 1) grid.old grid.new }
 {
     let (label, turned) = label_of_sign(grid, plane.causal, x, y);
@@ -128,6 +129,7 @@ fn decide_bit<S: Source>(
     requires insignificant { (coef_at grid.old x y).bits ≡ 0 }
     ensures grid { OnOk result (grid.new ≡ (told S.ask (bit_of plane grid.old x y) source.old).0) }
     ensures source { OnOk result (source.new ≡ (told S.ask (bit_of plane grid.old x y) source.old).1) }
+    ensures sure { S.is_sure ≡ true → IsOk result }
     ensures kept { IsKept plane.planes (plane.number + 1) grid.old grid.new }
 {
     let bit = source.ask(Question {
@@ -156,6 +158,7 @@ pub(crate) fn significance<S: Source>(
     requires within { AreWithin plane.planes (plane.number + 1) grid.old }
     ensures grid { OnOk result (grid.new ≡ (told S.ask (significance_at plane grid.old x y) source.old).0) }
     ensures source { OnOk result (source.new ≡ (told S.ask (significance_at plane grid.old x y) source.old).1) }
+    ensures sure { S.is_sure ≡ true → IsOk result }
     ensures kept { IsKept plane.planes (plane.number + 1) grid.old grid.new }
 {
     let coef = grid.at(x, y);
@@ -178,6 +181,7 @@ pub(crate) fn refinement<S: Source>(
     requires within { AreWithin plane.planes (plane.number + 1) grid.old }
     ensures grid { OnOk result (grid.new ≡ (told S.ask (refinement_at plane grid.old x y) source.old).0) }
     ensures source { OnOk result (source.new ≡ (told S.ask (refinement_at plane grid.old x y) source.old).1) }
+    ensures sure { S.is_sure ≡ true → IsOk result }
     ensures kept { IsKept plane.planes (plane.number + 1) grid.old grid.new }
 {
     let coef = grid.at(x, y);
@@ -207,6 +211,7 @@ pub(crate) fn usual<S: Source>(
     requires within { AreWithin plane.planes (plane.number + 1) grid.old }
     ensures grid { OnOk result (grid.new ≡ (told S.ask (usual_at plane grid.old x y) source.old).0) }
     ensures source { OnOk result (source.new ≡ (told S.ask (usual_at plane grid.old x y) source.old).1) }
+    ensures sure { S.is_sure ≡ true → IsOk result }
     ensures kept { IsKept plane.planes (plane.number + 1) grid.old grid.new }
 {
     let coef = grid.at(x, y);

@@ -1,4 +1,4 @@
-ghost use Rattle.std.specs.Prelude.{◌≡◌, IfOk, OnOk};
+ghost use Rattle.std.specs.Prelude.{◌≡◌, IfOk, OnOk, true, IsOk};
 ghost use Rattle.jx_grid.specs.Asking.{told};
 ghost use Rattle.jx_grid.specs.Symbol.{symbol_bit, symbol_asked};
 
@@ -22,6 +22,7 @@ fn bit_of_symbol(bit: bool) -> Question
 pub fn ask_symbol<S: Source>(source: &mut S) -> Result<bool, NoMemory>
     ensures symbol { IfOk result (λ right. right ≡ (told S.ask symbol_asked source.old).0) }
     ensures source { OnOk result (source.new ≡ (told S.ask symbol_asked source.old).1) }
+    ensures sure { S.is_sure ≡ true → IsOk result }
 {
     let a = source.ask(bit_of_symbol(true))?;
     let b = source.ask(bit_of_symbol(false))?;

@@ -78,9 +78,12 @@ impl<'a> Writer<'a> {
 }
 
 impl<'a> Source for Writer<'a> {
+    ghost use Rattle.std.specs.Prelude.{false};
     ghost use Rattle.jx_passenc.specs.Writing.{write_answer};
 
     ghost ask = { write_answer };
+
+    ghost is_sure = { false };
 
     fn ask(&mut self, question: Question) -> Result<bool, NoMemory> {
         let answer = answer(self.target, question);
