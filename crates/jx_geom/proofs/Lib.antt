@@ -1,3 +1,4 @@
+pub mod ChainLemmas
 pub mod ComponentLemmas
 pub mod CountLemmas
 pub mod EmptyLemmas

@@ -11,3 +11,4 @@ pub mod Numbering
 pub mod Precincts
 pub mod Resolutions
 pub mod Same
+pub mod Search
