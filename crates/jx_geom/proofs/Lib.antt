@@ -4,6 +4,7 @@ pub mod CountLemmas
 pub mod EmptyLemmas
 pub mod LawLemmas
 pub mod LeafLemmas
+pub mod LeafPlaces
 pub mod NumberLemmas
 pub mod NumberedLeaves
 pub mod PrecinctLemmas

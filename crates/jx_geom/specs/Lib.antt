@@ -7,6 +7,7 @@ pub mod Sizes
 pub mod Counts
 pub mod Geometry
 pub mod Leaves
+pub mod LeafPlaces
 pub mod Numbering
 pub mod Precincts
 pub mod Resolutions

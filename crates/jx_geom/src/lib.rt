@@ -4,6 +4,7 @@
 mod counts;
 mod exponents;
 pub mod laws;
+mod leaf_places;
 mod leaves;
 mod naming;
 mod numbering;
@@ -16,6 +17,7 @@ mod table;
 mod tile_geom;
 
 pub use counts::{count_blocks, count_in, count_precincts};
+pub use leaf_places::Leaf;
 pub use leaves::Leaves;
 pub use naming::PrecinctName;
 pub use ranges::is_within_limits;
