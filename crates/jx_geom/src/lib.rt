@@ -27,4 +27,6 @@ pub use table::Resolution;
 pub use tile_geom::TileGeom;
 
 #[cfg(test)]
+mod naming_tests;
+#[cfg(test)]
 mod tests;
