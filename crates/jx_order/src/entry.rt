@@ -1,10 +1,11 @@
 //! The packets that an entry sends: what stands together is listed by resolution, sorted, and taken apart.
 
-ghost use Rattle.std.specs.Prelude.{◌≡◌, ◌<◌, ◌≤◌, ◌+◌, ◌++◌, IfOk, OnOk, drop, length, take};
+ghost use Rattle.std.specs.Prelude.{◌≡◌, ◌<◌, ◌≤◌, ◌+◌, ◌++◌, ◌^◌, IfOk, OnOk, drop, length, take};
 ghost use Rattle.std.specs.List.{flat_map};
 ghost use Rattle.jx_base.specs.Joined.{joined};
 ghost use Rattle.jx_base.specs.Places.{size_of};
 ghost use Rattle.jx_geom.specs.Geometry.{GeometryInRange, HasResolution, precincts_in};
+ghost use Rattle.jx_geom.specs.Resolutions.{resolutions_of};
 ghost use Rattle.jx_order.specs.Orders.{order_of};
 ghost use Rattle.jx_order.specs.Steps.{
   HasPlaces,
@@ -31,7 +32,7 @@ use std::alloc::Global;
 fn push_layers(
     order: Order,
     row: Resolution,
-    place: usize,
+    place: u32,
     from: u16,
     to: u16,
     groups: &mut Vec<Group>,
@@ -49,7 +50,7 @@ fn push_precincts(
     geom: &TileGeom,
     order: Order,
     row: Resolution,
-    place: usize,
+    place: u32,
     groups: &mut Vec<Group>,
 ) -> Result<(), NoMemory>
     requires resolution { HasResolution geom.now row.comp row.res }
@@ -69,7 +70,7 @@ fn push_row(
     geom: &TileGeom,
     order: Order,
     row: Resolution,
-    place: usize,
+    place: u32,
     from: u16,
     to: u16,
     groups: &mut Vec<Group>,
@@ -96,6 +97,7 @@ fn groups_of(
     sent: &[u16],
 ) -> Result<Vec<Group>, NoMemory>
     requires order { entry.order ≤ 4 }
+    requires few { length (resolutions_of geom.now) ≤ 2 ^ 20 }
     ensures list { IfOk result (λ groups. groups.items ≡ all_groups geom.now layers entry sent.now) }
 {
     let order = order_from(entry.order);
@@ -108,7 +110,7 @@ fn groups_of(
             geom,
             order,
             row,
-            place,
+            place as u32,
             sent_at(sent, place),
             end,
             &mut groups,
@@ -185,9 +187,10 @@ fn push_groups(
 {
     let order = order_from(entry.order);
     for group in groups {
-        let row = row_at(rows, group.place);
+        let place = group.place as usize;
+        let row = row_at(rows, place);
         let end = row_end(layers, entry, row);
-        push_group(order, row, sent_at(sent, group.place), end, *group, list)?;
+        push_group(order, row, sent_at(sent, place), end, *group, list)?;
     }
     Ok(())
 }

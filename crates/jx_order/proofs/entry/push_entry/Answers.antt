@@ -5,6 +5,7 @@ use Rattle.jx_order.specs.declared.groups.Group.{Group}
 use Rattle.jx_order.specs.declared.names.PacketName.{PacketName}
 use Rattle.jx_order.specs.Orders.{order_of}
 use Rattle.jx_order.specs.Steps.{Lists, group_names}
+use Rattle.jx_order.proofs.FewRows.{few_resolutions}
 use Rattle.jx_order.proofs.KeyLemmas.{not_before}
 use Rattle.jx_order.proofs.SortLemmas.{names_of, sorted_lists}
 use Rattle.jx_order.proofs.TableLemmas.{back_is, front_is}
@@ -24,3 +25,6 @@ returns-clause-lists c =
     let groups = ap (λ (ys : List Group). names_of c.args.geom.now c.args.layers c.args.entry c.args.sent.now ys) c.deref.ensures.value in
     let P : List PacketName → Type 0 = λ l. Lists c.args.geom.now c.args.layers c.args.entry c.args.sent.now l in
     subst P (sym (e ∙ rows ∙ groups)) lists
+
+pub groups_of-requires-clause-few : goal.groups_of-requires-clause-few
+groups_of-requires-clause-few c = few_resolutions c.args.geom.now c.components-components.ensures.range
