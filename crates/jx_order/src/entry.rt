@@ -88,7 +88,31 @@ fn push_row(
     Ok(())
 }
 
-/// What an entry sends, group by group in the order of the resolutions.
+/// How many groups an entry has, at most the largest number of its type.
+fn count(
+    order: Order,
+    rows: &[Resolution],
+    layers: u16,
+    entry: Progression,
+    sent: &[u16],
+) -> usize {
+    let mut groups: usize = 0;
+    for place in 0..rows.len() {
+        let row = row_at(rows, place);
+        let due = row_end(layers, entry, row).saturating_sub(sent_at(sent, place));
+        let own = if by_layer(order) {
+            usize::from(due)
+        } else if due > 0 {
+            row.precincts as usize
+        } else {
+            0
+        };
+        groups = groups.saturating_add(own);
+    }
+    groups
+}
+
+/// What an entry sends, group by group in the order of the resolutions. Room is taken once.
 fn groups_of(
     alloc: Global,
     geom: &TileGeom,
@@ -102,7 +126,7 @@ fn groups_of(
 {
     let order = order_from(entry.order);
     let rows = geom.resolutions();
-    let mut groups = Vec::new(alloc);
+    let mut groups = Vec::with_capacity(alloc, count(order, rows, layers, entry, sent))?;
     for place in 0..rows.len() {
         let row = row_at(rows, place);
         let end = row_end(layers, entry, row);
@@ -212,7 +236,7 @@ pub(crate) fn push_entry(
 {
     let _components = geom.components();
     let mut groups = groups_of(alloc, geom, layers, entry, sent)?;
-    groups.sort()?;
+    groups.sort_unstable();
     push_groups(geom.resolutions(), layers, entry, sent, &groups, list)?;
     Ok(())
 }
