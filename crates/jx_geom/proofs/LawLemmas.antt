@@ -173,7 +173,7 @@ coarser x w p le =
     let steps : x / 2 ^ w / 2 ^ (p - w) ≡ x / 2 ^ (w + (p - w)) = shr-shr x w (p - w) in
     sym (rw whole at steps)
 
-in_part_cell : (s : CompShape) (r u v m n x y : ℕ) → InCell (block_across s r) (block_down s r) u v x y
+pub in_part_cell : (s : CompShape) (r u v m n x y : ℕ) → InCell (block_across s r) (block_down s r) u v x y
     → InCell (part_across s r) (part_down s r) m n x y
     → (m ≡ u / 2 ^ (part_across s r - block_across s r)) × (n ≡ v / 2 ^ (part_down s r - block_down s r))
 in_part_cell s r u v m n x y fine coarse =

@@ -1,8 +1,10 @@
+pub mod ChainLemmas
 pub mod ComponentLemmas
 pub mod CountLemmas
 pub mod EmptyLemmas
 pub mod LawLemmas
 pub mod LeafLemmas
+pub mod LeafPlaces
 pub mod NumberLemmas
 pub mod NumberedLeaves
 pub mod PrecinctLemmas

@@ -7,7 +7,9 @@ pub mod Sizes
 pub mod Counts
 pub mod Geometry
 pub mod Leaves
+pub mod LeafPlaces
 pub mod Numbering
 pub mod Precincts
 pub mod Resolutions
 pub mod Same
+pub mod Search

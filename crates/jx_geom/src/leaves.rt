@@ -99,7 +99,7 @@ fn part_of(geom: &TileGeom, comp: u16, res: u8, band: Band, precinct: u32, befor
 
 impl TileGeom {
     /// How many blocks a precinct has in a band.
-    fn leaf_count(&self, comp: u16, res: u8, band: Band, precinct: u32) -> u32
+    pub(crate) fn leaf_count(&self, comp: u16, res: u8, band: Band, precinct: u32) -> u32
         requires range { GeometryInRange self.now }
         requires precinct { HasPrecinct self.now comp res precinct }
         requires band { HasBand res band }

@@ -4,22 +4,29 @@
 mod counts;
 mod exponents;
 pub mod laws;
+mod leaf_places;
 mod leaves;
+mod naming;
 mod numbering;
 mod ranges;
 mod rects;
+mod search;
 mod shape;
 mod spans;
 mod table;
 mod tile_geom;
 
 pub use counts::{count_blocks, count_in, count_precincts};
+pub use leaf_places::Leaf;
 pub use leaves::Leaves;
+pub use naming::PrecinctName;
 pub use ranges::is_within_limits;
 pub use rects::{tile_of, tiles};
 pub use shape::{Canvas, CompShape};
 pub use table::Resolution;
 pub use tile_geom::TileGeom;
 
+#[cfg(test)]
+mod naming_tests;
 #[cfg(test)]
 mod tests;

@@ -1,7 +1,7 @@
 //! The rects of a tile, from its own rect on.
 
 ghost use Rattle.std.specs.Prelude.{◌≡◌, ◌≤◌, ◌<◌, ◌^◌, ◌*◌, ◌-◌, ◌↔◌, IsTrue};
-ghost use Rattle.jx_base.specs.Places.{InSpan, column_at, row_at, size_of};
+ghost use Rattle.jx_base.specs.Places.{InRect, InSpan, column_at, row_at, size_of};
 ghost use Rattle.jx_geom.specs.Counts.{tile_count, precinct_count, block_count};
 ghost use Rattle.jx_geom.specs.Ranges.{CanvasInRange, ShapeInRange, HasBand};
 ghost use Rattle.jx_geom.specs.Rects.{
@@ -260,6 +260,30 @@ pub(crate) fn precinct_blocks_of(
         x: cells_of(places.x, size.across),
         y: cells_of(places.y, size.down),
     }
+}
+
+/// The precinct in which a block of a band lies.
+pub(crate) fn precinct_of_block(
+    tile: Rect,
+    shape: &CompShape,
+    res: u8,
+    band: Band,
+    index: u32,
+) -> u32
+    requires shape { ShapeInRange shape.now }
+    requires res { res ≤ shape.now.levels }
+    requires band { HasBand res band }
+    requires index { index < block_count tile shape.now res band }
+    requires few { precinct_count tile shape.now res ≤ 2 ^ 22 }
+    ensures below { result < precinct_count tile shape.now res }
+    ensures cell { InRect (precinct_blocks tile shape.now res band result) (column_at (block_cells tile shape.now res band) index) (row_at (block_cells tile shape.now res band) index) }
+{
+    let cells = blocks_of(tile, shape, res, band);
+    let part = of_part(shape, res);
+    let size = of_block(shape, res);
+    let column = column_of(cells, index) >> (part.across - size.across);
+    let row = row_of(cells, index) >> (part.down - size.down);
+    precincts_of(tile, shape, res).number(column, row) as u32
 }
 
 /// How many columns and rows of the reference grid lie from one place of a resolution to the next.

@@ -11,7 +11,7 @@ use std::alloc::Global;
 use std::process::Abort;
 use std::test::Fail;
 
-const BANDS: [Band; 4] = [Band::LL, Band::HL, Band::LH, Band::HH];
+pub(crate) const BANDS: [Band; 4] = [Band::LL, Band::HL, Band::LH, Band::HH];
 
 fn are_in_range(comps: &[CompShape]) -> bool
     ensures { IsTrue result → ShapesInRange comps.now }
@@ -25,7 +25,7 @@ fn are_in_range(comps: &[CompShape]) -> bool
 }
 
 /// The geometry of a tile, where what it is made from is within the ranges.
-fn geometry(
+pub(crate) fn geometry(
     alloc: Global,
     canvas: &Canvas,
     tile: u16,
@@ -39,13 +39,13 @@ fn geometry(
     Ok(TileGeom::new(alloc, canvas, tile, comps)?)
 }
 
-fn has_resolution(geom: &TileGeom, comp: u16, res: u8) -> bool
+pub(crate) fn has_resolution(geom: &TileGeom, comp: u16, res: u8) -> bool
     ensures { IsTrue result ↔ HasResolution geom.now comp res }
 {
     usize::from(comp) < geom.components() && res <= geom.levels(comp)
 }
 
-fn has_band(res: u8, band: Band) -> bool
+pub(crate) fn has_band(res: u8, band: Band) -> bool
     ensures { IsTrue result ↔ HasBand res band }
 {
     match band {
@@ -78,7 +78,7 @@ fn precincts_at(geom: &TileGeom, comp: u16, res: u8) -> Option<(u32, u32)> {
     }
 }
 
-fn has_precinct(geom: &TileGeom, comp: u16, res: u8, precinct: u32) -> bool
+pub(crate) fn has_precinct(geom: &TileGeom, comp: u16, res: u8, precinct: u32) -> bool
     requires { HasResolution geom.now comp res }
     ensures { IsTrue result ↔ precinct < size_of (precincts_in geom.now comp res) }
 {
@@ -104,7 +104,7 @@ fn blocks_at(geom: &TileGeom, comp: u16, res: u8, band: Band, precinct: u32) -> 
     Some(geom.blocks(comp, res, band, precinct))
 }
 
-fn has_block(geom: &TileGeom, comp: u16, res: u8, band: Band, index: u32) -> bool
+pub(crate) fn has_block(geom: &TileGeom, comp: u16, res: u8, band: Band, index: u32) -> bool
     requires res { HasResolution geom.now comp res }
     requires band { HasBand res band }
     ensures { IsTrue result ↔ index < size_of (blocks_in geom.now comp res band) }
@@ -148,7 +148,13 @@ fn rect(x: (u32, u32), y: (u32, u32)) -> Rect {
     }
 }
 
-fn shape(dx: u8, dy: u8, levels: u8, blocks: (u8, u8), precincts: [u8; 33]) -> CompShape {
+pub(crate) fn shape(
+    dx: u8,
+    dy: u8,
+    levels: u8,
+    blocks: (u8, u8),
+    precincts: [u8; 33],
+) -> CompShape {
     CompShape {
         dx,
         dy,
@@ -159,7 +165,7 @@ fn shape(dx: u8, dy: u8, levels: u8, blocks: (u8, u8), precincts: [u8; 33]) -> C
     }
 }
 
-const WHOLE: [u8; 33] = [0xff; 33];
+pub(crate) const WHOLE: [u8; 33] = [0xff; 33];
 
 /// One tile over a picture.
 fn whole(x: (u32, u32), y: (u32, u32)) -> Canvas {

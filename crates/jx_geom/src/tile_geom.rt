@@ -1,7 +1,7 @@
 //! The geometry of one tile.
 
 ghost use Rattle.std.specs.Prelude.{◌≡◌, ◌≤◌, ◌<◌, ◌-◌, ◌*◌, ◌^◌, ℕ, ◌↔◌, IfOk, length};
-ghost use Rattle.jx_base.specs.Places.{InRect, size_of, length_of};
+ghost use Rattle.jx_base.specs.Places.{InRect, column_at, length_of, row_at, size_of};
 ghost use Rattle.jx_geom.specs.Counts.{tile_count};
 ghost use Rattle.jx_geom.specs.Geometry.{
   Geometry,
@@ -18,6 +18,7 @@ ghost use Rattle.jx_geom.specs.Geometry.{
   reference_down,
   shape_of,
 };
+ghost use Rattle.jx_geom.specs.Precincts.{HasPrecinct, cells_at};
 ghost use Rattle.jx_geom.specs.Ranges.{CanvasInRange, ShapeInRange, HasBand};
 ghost use Rattle.jx_geom.specs.Rects.{component_rect, tile_rect, precinct_blocks, block_rect, block_across, block_down};
 ghost use Rattle.jx_geom.specs.Resolutions.{all_places, all_resolutions, resolution_at, resolutions_of};
@@ -25,7 +26,8 @@ ghost use Rattle.jx_geom.specs.Sets.{HasPlace, InBand, InBlock, InCell, InPart, 
 ghost use Rattle.jx_geom.specs.Sizes.{BlockFits};
 
 use crate::rects::{
-    band_of, block_of, blocks_of, precinct_blocks_of, precincts_of, reference_of_precinct, tile_of,
+    band_of, block_of, blocks_of, precinct_blocks_of, precinct_of_block, precincts_of,
+    reference_of_precinct, tile_of,
 };
 use crate::shape::{Canvas, CompShape};
 use crate::table::{Resolution, Table, table_of};
@@ -197,6 +199,22 @@ impl TileGeom {
         ensures fits { BlockFits result }
     {
         block_of(
+            self.places,
+            self.shape(name.comp),
+            name.res,
+            name.band,
+            name.index,
+        )
+    }
+
+    /// The precinct in which a code-block lies.
+    pub(crate) fn precinct_of(&self, name: &BlockName) -> u32
+        requires { HasBlock self.now name.now }
+        ensures there { HasPrecinct self.now name.now.comp name.now.res result }
+        ensures cell { InRect (cells_at self.now name.now.comp name.now.res result name.now.band) (column_at (blocks_in self.now name.now.comp name.now.res name.now.band) name.now.index) (row_at (blocks_in self.now name.now.comp name.now.res name.now.band) name.now.index) }
+        ensures range { GeometryInRange self.now }
+    {
+        precinct_of_block(
             self.places,
             self.shape(name.comp),
             name.res,

@@ -4,6 +4,7 @@ pub mod LoopLemmas
 pub mod OrderLemmas
 pub mod KeyLemmas
 pub mod RowLemmas
+pub mod FewRows
 pub mod GroupLemmas
 pub mod SortLemmas
 pub mod TableLemmas

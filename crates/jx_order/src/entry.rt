@@ -1,10 +1,11 @@
 //! The packets that an entry sends: what stands together is listed by resolution, sorted, and taken apart.
 
-ghost use Rattle.std.specs.Prelude.{◌≡◌, ◌<◌, ◌≤◌, ◌+◌, ◌++◌, IfOk, OnOk, drop, length, take};
+ghost use Rattle.std.specs.Prelude.{◌≡◌, ◌<◌, ◌≤◌, ◌+◌, ◌++◌, ◌^◌, IfOk, OnOk, drop, length, take};
 ghost use Rattle.std.specs.List.{flat_map};
 ghost use Rattle.jx_base.specs.Joined.{joined};
 ghost use Rattle.jx_base.specs.Places.{size_of};
 ghost use Rattle.jx_geom.specs.Geometry.{GeometryInRange, HasResolution, precincts_in};
+ghost use Rattle.jx_geom.specs.Resolutions.{resolutions_of};
 ghost use Rattle.jx_order.specs.Orders.{order_of};
 ghost use Rattle.jx_order.specs.Steps.{
   HasPlaces,
@@ -31,7 +32,7 @@ use std::alloc::Global;
 fn push_layers(
     order: Order,
     row: Resolution,
-    place: usize,
+    place: u32,
     from: u16,
     to: u16,
     groups: &mut Vec<Group>,
@@ -49,7 +50,7 @@ fn push_precincts(
     geom: &TileGeom,
     order: Order,
     row: Resolution,
-    place: usize,
+    place: u32,
     groups: &mut Vec<Group>,
 ) -> Result<(), NoMemory>
     requires resolution { HasResolution geom.now row.comp row.res }
@@ -69,7 +70,7 @@ fn push_row(
     geom: &TileGeom,
     order: Order,
     row: Resolution,
-    place: usize,
+    place: u32,
     from: u16,
     to: u16,
     groups: &mut Vec<Group>,
@@ -87,7 +88,31 @@ fn push_row(
     Ok(())
 }
 
-/// What an entry sends, group by group in the order of the resolutions.
+/// How many groups an entry has, at most the largest number of its type.
+fn count(
+    order: Order,
+    rows: &[Resolution],
+    layers: u16,
+    entry: Progression,
+    sent: &[u16],
+) -> usize {
+    let mut groups: usize = 0;
+    for place in 0..rows.len() {
+        let row = row_at(rows, place);
+        let due = row_end(layers, entry, row).saturating_sub(sent_at(sent, place));
+        let own = if by_layer(order) {
+            usize::from(due)
+        } else if due > 0 {
+            row.precincts as usize
+        } else {
+            0
+        };
+        groups = groups.saturating_add(own);
+    }
+    groups
+}
+
+/// What an entry sends, group by group in the order of the resolutions. Room is taken once.
 fn groups_of(
     alloc: Global,
     geom: &TileGeom,
@@ -96,11 +121,12 @@ fn groups_of(
     sent: &[u16],
 ) -> Result<Vec<Group>, NoMemory>
     requires order { entry.order ≤ 4 }
+    requires few { length (resolutions_of geom.now) ≤ 2 ^ 20 }
     ensures list { IfOk result (λ groups. groups.items ≡ all_groups geom.now layers entry sent.now) }
 {
     let order = order_from(entry.order);
     let rows = geom.resolutions();
-    let mut groups = Vec::new(alloc);
+    let mut groups = Vec::with_capacity(alloc, count(order, rows, layers, entry, sent))?;
     for place in 0..rows.len() {
         let row = row_at(rows, place);
         let end = row_end(layers, entry, row);
@@ -108,7 +134,7 @@ fn groups_of(
             geom,
             order,
             row,
-            place,
+            place as u32,
             sent_at(sent, place),
             end,
             &mut groups,
@@ -185,9 +211,10 @@ fn push_groups(
 {
     let order = order_from(entry.order);
     for group in groups {
-        let row = row_at(rows, group.place);
+        let place = group.place as usize;
+        let row = row_at(rows, place);
         let end = row_end(layers, entry, row);
-        push_group(order, row, sent_at(sent, group.place), end, *group, list)?;
+        push_group(order, row, sent_at(sent, place), end, *group, list)?;
     }
     Ok(())
 }
@@ -209,7 +236,7 @@ pub(crate) fn push_entry(
 {
     let _components = geom.components();
     let mut groups = groups_of(alloc, geom, layers, entry, sent)?;
-    groups.sort()?;
+    groups.sort_unstable();
     push_groups(geom.resolutions(), layers, entry, sent, &groups, list)?;
     Ok(())
 }

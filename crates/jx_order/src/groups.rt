@@ -15,11 +15,11 @@ pub(crate) struct Group {
     pub first: u32,
     pub second: u32,
     pub third: u32,
-    pub fourth: u32,
-    /// The place of its resolution in the list of all.
-    pub place: usize,
+    pub fourth: u16,
     /// Its layer, where it has one.
     pub layer: u16,
+    /// The place of its resolution in the list of all.
+    pub place: u32,
     /// Its precinct, where it has one.
     pub precinct: u32,
 }
@@ -65,8 +65,8 @@ fn keyed(
     first: u32,
     second: u32,
     third: u32,
-    fourth: u32,
-    place: usize,
+    fourth: u16,
+    place: u32,
     layer: u16,
     precinct: u32,
 ) -> Group
@@ -77,14 +77,14 @@ fn keyed(
         second,
         third,
         fourth,
-        place,
         layer,
+        place,
         precinct,
     }
 }
 
 /// The group of a layer.
-pub(crate) fn layer_group(order: Order, row: Resolution, place: usize, layer: u16) -> Group
+pub(crate) fn layer_group(order: Order, row: Resolution, place: u32, layer: u16) -> Group
     ensures { result ≡ layer_group order row place layer }
 {
     let number = u32::from(layer);
@@ -102,18 +102,20 @@ pub(crate) fn layer_group(order: Order, row: Resolution, place: usize, layer: u1
 pub(crate) fn precinct_group(
     order: Order,
     row: Resolution,
-    place: usize,
+    place: u32,
     precinct: u32,
     x: u32,
     y: u32,
 ) -> Group
     ensures { result ≡ precinct_group order row place precinct x y }
 {
-    let res = u32::from(row.res);
+    let res = u16::from(row.res);
     let comp = u32::from(row.comp);
     match order {
         Order::Pcrl => keyed(y, x, comp, res, place, 0, precinct),
         Order::Cprl => keyed(comp, y, x, res, place, 0, precinct),
-        Order::Lrcp | Order::Rlcp | Order::Rpcl => keyed(res, y, x, comp, place, 0, precinct),
+        Order::Lrcp | Order::Rlcp | Order::Rpcl => {
+            keyed(u32::from(row.res), y, x, row.comp, place, 0, precinct)
+        }
     }
 }

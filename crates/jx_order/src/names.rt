@@ -2,8 +2,8 @@
 
 use jx_base::NoMemory;
 
-/// A packet of a tile: one layer of one precinct (T.800, B.9). Names are ordered by layer, resolution,
-/// component and precinct, which is the order LRCP.
+/// A packet of a tile: one layer of one precinct (T.800, B.9). Names can be compared, and put into an order of
+/// their own by the derives; no clause speaks of that order.
 #[derive(Clone, Copy, Debug, PartialEq, Eq, PartialOrd, Ord)]
 pub struct PacketName {
     /// The layer's number; 0 is the most significant.

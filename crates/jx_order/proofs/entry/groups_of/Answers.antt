@@ -9,7 +9,7 @@ use Rattle.jx_order.proofs.entry.groups_of.Goals as goal
 
 pub loop-place-init : goal.loop-place-init
 loop-place-init c =
-    c.new-groups.ensures.items ∙ sym (joined_none (groups_at c.args.geom.now c.args.layers c.args.entry c.args.sent.now) 0 0 (omega arith))
+    c.in_ok-groups.ensures.items ∙ sym (joined_none (groups_at c.args.geom.now c.args.layers c.args.entry c.args.sent.now) 0 0 (omega arith))
 
 pub push_row-requires-clause-resolution : goal.push_row-requires-clause-resolution
 push_row-requires-clause-resolution c =
