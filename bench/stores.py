@@ -48,7 +48,7 @@ impl Work for Empty {
 
 type Ring = RingStore<Empty, Brand>;
 
-type Lock = LockStore<Empty, Brand, Brand, Brand, Brand, Brand>;
+type Lock = LockStore<Empty, Brand, Brand, Brand, Brand, Brand, Brand>;
 
 fn on_ring<R: Threads + Wait + Sync>(rt: &R, alloc: Global, jobs: &[u32], sizes: &[u32], window: u32, workers: u32) -> Result<usize, NoMemory> {
     let (store, mut passes) = Ring::new(alloc, jobs, sizes, 0, window, 1, workers)?;
@@ -73,6 +73,7 @@ fn on_lock<R: Threads + Wait + Sync>(rt: &R, alloc: Global, jobs: &[u32], sizes:
         full: Blank::new(workers as u64),
         all_claimed: Blank::new(workers as u64),
         committed: Blank::new(workers as u64),
+        made: Blank::new(workers as u64),
     };
     let (store, mut passes) = Lock::new(alloc, jobs, sizes, 0, window, 1, workers, blanks)?;
     thread::for_each_mut(rt, passes.as_mut_slice(), workers as usize, &|_, pass| {

@@ -15,13 +15,14 @@ use std::thread;
 use std::thread::Threads;
 
 fn blanks() -> Blanks
-    ensures { (result.claimed.parts ≡ 64) × (result.full.parts ≡ 64) × (result.all_claimed.parts ≡ 64) × (result.committed.parts ≡ 64) }
+    ensures { (result.claimed.parts ≡ 64) × (result.full.parts ≡ 64) × (result.all_claimed.parts ≡ 64) × (result.committed.parts ≡ 64) × (result.made.parts ≡ 64) }
 {
     Blanks {
         claimed: Blank::new(64),
         full: Blank::new(64),
         all_claimed: Blank::new(64),
         committed: Blank::new(64),
+        made: Blank::new(64),
     }
 }
 
@@ -33,9 +34,10 @@ fn work<
     B: Ledger,
     C: Ledger,
     D: Ledger,
+    E: Ledger,
     R: Wait,
     M: Maker<V>,
->(rt: &R, store: &LockStore<V, N, A, B, C, D>, pass: &mut Pass<N, A, B, C, D>, maker: &M)
+>(rt: &R, store: &LockStore<V, N, A, B, C, D, E>, pass: &mut Pass<N, A, B, C, D, E>, maker: &M)
     requires named { (M.first maker.now ≡ N.setup.first) × (M.jobs maker.now ≡ N.jobs) }
     requires free { pass.old.holds ≡ None }
     ensures { pass.new.holds ≡ None }
@@ -64,9 +66,10 @@ fn all_work<
     B: Ledger + Send + Sync,
     C: Ledger + Send + Sync,
     D: Ledger + Send + Sync,
+    E: Ledger + Send + Sync,
     R: Threads + Wait + Sync,
     M: Maker<V> + Sync,
->(rt: &R, store: &LockStore<V, N, A, B, C, D>, passes: &mut [Pass<N, A, B, C, D>], maker: &M)
+>(rt: &R, store: &LockStore<V, N, A, B, C, D, E>, passes: &mut [Pass<N, A, B, C, D, E>], maker: &M)
     requires some { 0 < length passes.old }
     requires named { (M.first maker.now ≡ N.setup.first) × (M.jobs maker.now ≡ N.jobs) }
     requires free { All (λ p. p.holds ≡ None) passes.old }
@@ -77,7 +80,7 @@ fn all_work<
         rt,
         passes,
         threads,
-        &|_, pass: &mut Pass<N, A, B, C, D>|
+        &|_, pass: &mut Pass<N, A, B, C, D, E>|
             requires { (pass.old.holds ≡ None) × (M.first maker.now ≡ N.setup.first) × (M.jobs maker.now ≡ N.jobs) }
             ensures { pass.new.holds ≡ None }
         { work(rt, store, pass, maker) },
@@ -91,6 +94,7 @@ fn shared<
     B: Ledger + Send + Sync,
     C: Ledger + Send + Sync,
     D: Ledger + Send + Sync,
+    E: Ledger + Send + Sync,
     R: Threads + Wait + Sync,
     M: Maker<V> + Sync,
 >(
@@ -104,11 +108,11 @@ fn shared<
     requires bounds { (N.setup ≡ record { first = 7; sizes = sizes.now; window = 1024; most = 1048576 }) × (N.workers ≡ 64) × (N.jobs ≡ jobs.now) }
     requires jobs { (0 < length jobs.now) × (length jobs.now ≤ 2 ^ 19) × (length jobs.now ≡ length sizes.now) × (M.jobs maker.now ≡ jobs.now) × (M.first maker.now ≡ 7) }
     requires sizes { sum sizes.now ≤ 2 ^ 28 }
-    requires names { (blanks.claimed.name ≡ A.name) × (blanks.full.name ≡ B.name) × (blanks.all_claimed.name ≡ C.name) × (blanks.committed.name ≡ D.name) }
-    requires parts { (blanks.claimed.parts ≡ A.parts) × (blanks.full.parts ≡ B.parts) × (blanks.all_claimed.parts ≡ C.parts) × (blanks.committed.parts ≡ D.parts) }
-    requires each { (A.parts ≡ 64) × (B.parts ≡ 64) × (C.parts ≡ 64) × (D.parts ≡ 64) }
+    requires names { (blanks.claimed.name ≡ A.name) × (blanks.full.name ≡ B.name) × (blanks.all_claimed.name ≡ C.name) × (blanks.committed.name ≡ D.name) × (blanks.made.name ≡ E.name) }
+    requires parts { (blanks.claimed.parts ≡ A.parts) × (blanks.full.parts ≡ B.parts) × (blanks.all_claimed.parts ≡ C.parts) × (blanks.committed.parts ≡ D.parts) × (blanks.made.parts ≡ E.parts) }
+    requires each { (A.parts ≡ 64) × (B.parts ≡ 64) × (C.parts ≡ 64) × (D.parts ≡ 64) × (E.parts ≡ 64) }
 {
-    let (store, mut passes) = LockStore::<V, N, A, B, C, D>::new(
+    let (store, mut passes) = LockStore::<V, N, A, B, C, D, E>::new(
         alloc,
         jobs,
         sizes,
@@ -133,7 +137,7 @@ fn by_all<'j, R: Threads + Wait + Sync>(
     requires maker { (maker.now.jobs.now ≡ jobs.now) × (maker.now.first ≡ 7) }
     requires sizes { sum sizes.now ≤ 2 ^ 28 }
 {
-    shared::<Plain, Brand, Brand, Brand, Brand, Brand, R, Gated<'j>>(
+    shared::<Plain, Brand, Brand, Brand, Brand, Brand, Brand, R, Gated<'j>>(
         rt,
         alloc,
         jobs,

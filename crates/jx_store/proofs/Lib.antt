@@ -6,3 +6,5 @@ pub mod Tally
 pub mod Valids
 pub mod Records
 pub mod Replays
+pub mod Made
+pub mod Below

@@ -20,7 +20,7 @@ use Rattle.jx_store.proofs.Windows.{slot_out}
 use Rattle.jx_store.proofs.Runs.{always_in_order, on_each, cond_cases, put_same, put_other, not_both}
 
 module _ {X : Type 0} where
-  busy_put_out : (m : ℕ → Option X) (k : ℕ) (x : Option X) (a n : ℕ) → (k < a) ⊎ (a + n ≤ k) → busy (put m k x) a n ≡ busy m a n
+  pub busy_put_out : (m : ℕ → Option X) (k : ℕ) (x : Option X) (a n : ℕ) → (k < a) ⊎ (a + n ≤ k) → busy (put m k x) a n ≡ busy m a n
   busy_put_out m k x a zero out = refl
   busy_put_out m k x a (suc n) out =
       let ne : a + n ≢ k = λ e. elim out [ inl lt ↦ omega arith | inr le ↦ omega arith ] in
@@ -43,7 +43,20 @@ module _ {X : Type 0} where
             omega (arith, same, below))
       ]
 
-  busy_front : (m : ℕ → Option X) (a n : ℕ) → busy m a (suc n) ≡ one_if (m a) + busy m (a + 1) n
+  pub busy_put : (m : ℕ → Option X) (k : ℕ) (x : Option X) (a n : ℕ) → a ≤ k → k < a + n → m k ≡ None → busy (put m k x) a n ≡ busy m a n + one_if x
+  busy_put m k x a zero ak kn is = absurd (omega arith)
+  busy_put m k x a (suc n) ak kn is =
+      elim (cases_eq (a + n) k) [
+        | inl e ↦ (let here : one_if (put m k x (a + n)) ≡ one_if x = ap one_if (put_same m k x (a + n) e) in
+            let was : one_if (m (a + n)) ≡ 0 = ap one_if (ap m e ∙ is) in
+            let below = busy_put_out m k x a n (inr (omega arith)) in
+            omega (arith, below, here, was))
+        | inr ne ↦ (let same : one_if (put m k x (a + n)) ≡ one_if (m (a + n)) = ap one_if (put_other m k x (a + n) ne) in
+            let below = busy_put m k x a n ak (omega arith) is in
+            omega (arith, same, below))
+      ]
+
+  pub busy_front : (m : ℕ → Option X) (a n : ℕ) → busy m a (suc n) ≡ one_if (m a) + busy m (a + 1) n
   busy_front m a zero = (let e : a + 0 ≡ a = omega arith in rw e (omega arith))
   busy_front m a (suc n) =
       let below = busy_front m a n in
@@ -115,7 +128,7 @@ module _ {V : Type 0} where
   kept_order : (p : Setup) (claims commits : ℕ) (s : State V) (e : Event V) → Kept p claims commits s → (log : List (Event V × Reply)) × InOrder log (does s e).0
   kept_order p claims commits s e h = (h.order.0 ++ (e, (does s e).1) ∷ [], on_each h.order.0 s e h.order.1)
 
-  held_range : (log : List (Event V × Reply)) (s : State V) (k : ℕ) (c : Claimant) → InOrder log s → s.held k ≡ Some c → (s.drained ≤ k) × (k < s.next)
+  pub held_range : (log : List (Event V × Reply)) (s : State V) (k : ℕ) (c : Claimant) → InOrder log s → s.held k ≡ Some c → (s.drained ≤ k) × (k < s.next)
   held_range log s k c o at = elim (cases_lt k s.drained) [
     | inl lt ↦ absurd (not_both (s.held k) c (o.outside k (inl lt)).0 at)
     | inr dk ↦ elim (cases_lt k s.next) [ inl kn ↦ (dk, kn) | inr nk ↦ absurd (not_both (s.held k) c (o.outside k (inr nk)).0 at) ]
@@ -160,11 +173,11 @@ module _ {V : Type 0} where
   pub kept_same : (p : Setup) (claims commits : ℕ) (s t : State V) → t ≡ s → Kept p claims commits s → Kept p claims commits t
   kept_same p claims commits s t e h = subst (Kept p claims commits) (sym e) h
 
-  -- where as many were committed as were claimed, the tape has them all
-  pub all_on_tape : (p : Setup) (claims commits : ℕ) (s : State V) → Kept p claims commits s → s.parked s.drained ≡ None → commits ≡ claims → length s.tape ≡ claims
-  all_on_tape p claims commits s h idle e =
+  -- where as many were committed as were claimed, all are drained
+  pub all_drained : (p : Setup) (claims commits : ℕ) (s : State V) → Kept p claims commits s → s.parked s.drained ≡ None → commits ≡ claims → s.drained ≡ s.next
+  all_drained p claims commits s h idle e =
       let o = h.order.1 in
-      let end : s.drained ≡ s.next = elim (cases_lt s.drained s.next) [
+      elim (cases_lt s.drained s.next) [
         | inl lt ↦ absurd (elim (o.between s.drained (omega arith) lt) [
           | inl q ↦ (let n = s.next - (s.drained + 1) in
               let e' : s.next - s.drained ≡ suc n = omega arith in
@@ -175,7 +188,13 @@ module _ {V : Type 0} where
           | inr q ↦ not_both (s.parked s.drained) q.0 idle q.2
         ])
         | inr le ↦ (let m = o.mid in omega arith)
-      ] in
+      ]
+
+  -- the tape then has them all
+  pub all_on_tape : (p : Setup) (claims commits : ℕ) (s : State V) → Kept p claims commits s → s.parked s.drained ≡ None → commits ≡ claims → length s.tape ≡ claims
+  all_on_tape p claims commits s h idle e =
+      let o = h.order.1 in
+      let end = all_drained p claims commits s h idle e in
       let long : length (map (λ (t : Taped V). t.number) s.tape) ≡ length (numbers s.setup.first (s.drained - s.setup.first)) = ap length o.tape in
       let c = h.claims_is in
       let l1 = length_map (λ (t : Taped V). t.number) s.tape in

@@ -4,6 +4,7 @@ use Rattle.jx_store.specs.declared.claim.ClaimAnswer.{ClaimAnswer}
 use Rattle.jx_store.specs.declared.claim.ClaimAnswer.TheVariants.{Claim, Full, AllClaimed}
 use Rattle.jx_store.specs.declared.event.Reply.{Reply}
 use Rattle.jx_store.specs.declared.event.Reply.TheVariants.{Committed}
+use Rattle.jx_store.specs.declared.work.Named.{Named}
 use Rattle.jx_store.specs.Setup.{Setup, load, Within}
 use Rattle.jx_store.specs.Passes.{PassView, claims_one, sees_full, sees_all, commits_one, gives_up}
 
@@ -15,7 +16,7 @@ Tells p (Claim c) a b = (b ≡ claims_one a c.number) × (p.first + a.claimed �
 Tells p (Full next drained) a b = (b ≡ sees_full a) × (p.first ≤ drained) × (next < p.first + length p.sizes) × ((next ≡ drained + p.window) ⊎ ((drained < next) × (p.most < load p drained (next + 1))))
 Tells p AllClaimed a b = b ≡ sees_all a
 
--- the pass after a commit with this reply
-abbrev pub counted : Reply → PassView → PassView
-counted Committed a = commits_one a
-counted r a = gives_up a
+-- the pass after a commit of this value with this reply
+abbrev pub counted : {V : Type 0} → Reply → Named V → PassView → PassView
+counted Committed v a = commits_one a v
+counted r v a = gives_up a

@@ -10,6 +10,9 @@ pub mod Replays
 pub mod Busy
 pub mod LockView
 pub mod Kept
+pub mod Made
+pub mod Below
+pub mod Told
 pub mod Valid
 pub mod Passes
 pub mod Replies

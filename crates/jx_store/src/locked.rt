@@ -16,13 +16,15 @@ ghost use Rattle.jx_store.specs.Replays.{Remembers};
 ghost use Rattle.jx_store.specs.Shown.{state_of};
 ghost use Rattle.jx_store.specs.ShownNotes.{shown};
 ghost use Rattle.jx_store.specs.Valid.{IsOf};
+ghost use Rattle.jx_store.specs.Below.{AllBelow};
+ghost use Rattle.jx_store.specs.Made.{made_in, made_on};
 
 use crate::claim::{Claim, ClaimAnswer};
 use crate::event::{Event, Reply, Taped};
 use crate::history::{History, Kind};
 use crate::kernel::Core;
-use crate::pass::Pass;
-use crate::work::{Bounds, Entry, Named, Work};
+use crate::pass::{Pass, Shares};
+use crate::work::{Bounds, Entry, Named, Work, one_made};
 use jx_base::NoMemory;
 use std::alloc::Global;
 use std::marker::{Model, PhantomData};
@@ -31,29 +33,42 @@ use std::sync::ledger::{Book, Ledger, Share};
 
 /// The value under a store's lock. Whenever the lock is free, the history is one of legal events
 /// that replays to the core's state, the next number in sequence isn't parked, each parked value is
-/// of its number, and the four sums are the numbers of these replies in the history.
+/// of its number, and the four sums are the numbers of these replies in the history. As many values
+/// are parked or on the tape as were committed, and each worker's number is below the number of passes.
 #[derive(Drop)]
-pub struct Locked<V: Work, N: Bounds<V::Job>, A: Ledger, B: Ledger, C: Ledger, D: Ledger> {
+pub struct Locked<
+    V: Work,
+    N: Bounds<V::Job>,
+    A: Ledger,
+    B: Ledger,
+    C: Ledger,
+    D: Ledger,
+    E: Ledger,
+> {
     core: Core<Named<V>>,
     history: History,
     claims: u64,
     fulls: u64,
     alls: u64,
     commits: u64,
+    values: u64,
     claimed: Book<A>,
     full: Book<B>,
     all_claimed: Book<C>,
     committed: Book<D>,
+    made: Book<E>,
     of: PhantomData<N>,
 }
 
-impl<V: Work, N: Bounds<V::Job>, A: Ledger, B: Ledger, C: Ledger, D: Ledger> Model
-    for Locked<V, N, A, B, C, D> {
+impl<V: Work, N: Bounds<V::Job>, A: Ledger, B: Ledger, C: Ledger, D: Ledger, E: Ledger> Model
+    for Locked<V, N, A, B, C, D, E> {
     ghost use Rattle.std.specs.Prelude.{◌≡◌, ◌<◌, ◌≤◌, ◌+◌, ◌-◌, ◌*◌, None, List, length, vec_capacity};
     ghost use Rattle.jx_store.specs.declared.work.Named.{Named};
     ghost use Rattle.jx_store.specs.Shown.{state_of};
     ghost use Rattle.jx_store.specs.LockView.{LockView};
     ghost use Rattle.jx_store.specs.Kept.{Kept};
+    ghost use Rattle.jx_store.specs.Below.{AllBelow};
+    ghost use Rattle.jx_store.specs.Made.{made_in};
     ghost use Rattle.jx_store.specs.Valid.{AllOf, IsOf};
     ghost use Rattle.jx_store.specs.Recorded.{Recorded};
     ghost use Rattle.jx_store.specs.Notes.{count_full, count_all, count_claims, count_commits};
@@ -72,23 +87,28 @@ impl<V: Work, N: Bounds<V::Job>, A: Ledger, B: Ledger, C: Ledger, D: Ledger> Mod
       full : h.fulls ≡ h.full.total;
       all_claimed : h.alls ≡ h.all_claimed.total;
       committed : h.commits ≡ h.committed.total;
+      made : h.values ≡ h.made.total;
+      below : AllBelow A.parts (state_of h.core);
       recorded : Recorded N.setup (shown h.history) (state_of h.core);
       long : length h.history.steps.items + h.core.setup.first ≡ h.claims + h.commits + h.core.drained;
       claims_are : count_claims (shown h.history) ≡ h.claims;
       fulls_are : count_full (shown h.history) ≡ h.fulls;
       alls_are : count_all (shown h.history) ≡ h.alls;
       commits_are : count_commits (shown h.history) ≡ h.commits;
+      values_are : made_in (state_of h.core) ≡ h.values;
+      few : h.values ≤ h.commits;
       room : 3 * length N.setup.sizes ≤ vec_capacity h.history.steps;
     } };
 }
 
-impl<V: Work, N: Bounds<V::Job>, A: Ledger, B: Ledger, C: Ledger, D: Ledger> Locked<
+impl<V: Work, N: Bounds<V::Job>, A: Ledger, B: Ledger, C: Ledger, D: Ledger, E: Ledger> Locked<
     V,
     N,
     A,
     B,
     C,
     D,
+    E,
 > {
     /// The value of a new store: nothing happened yet.
     pub fn new(
@@ -98,13 +118,15 @@ impl<V: Work, N: Bounds<V::Job>, A: Ledger, B: Ledger, C: Ledger, D: Ledger> Loc
         window: u32,
         most: u32,
         books: (Book<A>, Book<B>, Book<C>, Book<D>),
-    ) -> Result<Locked<V, N, A, B, C, D>, NoMemory>
+        made: Book<E>,
+    ) -> Result<Locked<V, N, A, B, C, D, E>, NoMemory>
         requires bounds { N.setup ≡ record { first = first; sizes = sizes.now; window = window; most = most } }
         requires count { (0 < length sizes.now) × (first + length sizes.now ≤ 2 ^ 20) }
         requires sizes { sum sizes.now ≤ 2 ^ 28 }
         requires window { (0 < window) × (window ≤ 1024) }
         requires most { (0 < most) × (most ≤ 2 ^ 28) }
         requires empty { (books.0.total ≡ 0) × (books.1.total ≡ 0) × (books.2.total ≡ 0) × (books.3.total ≡ 0) }
+        requires none_made { made.total ≡ 0 }
         ensures { IfOk result (λ h. (state_of h.core ≡ start N.setup) × (h.notes ≡ no_notes)) }
     {
         let core = Core::new(alloc, first, sizes, window, most)?;
@@ -117,10 +139,12 @@ impl<V: Work, N: Bounds<V::Job>, A: Ledger, B: Ledger, C: Ledger, D: Ledger> Loc
             fulls: 0,
             alls: 0,
             commits: 0,
+            values: 0,
             claimed,
             full,
             all_claimed,
             committed,
+            made,
             of: PhantomData,
         })
     }
@@ -148,6 +172,13 @@ impl<V: Work, N: Bounds<V::Job>, A: Ledger, B: Ledger, C: Ledger, D: Ledger> Loc
         (self.claims, self.fulls, self.alls, self.commits)
     }
 
+    /// The commits of values, over all passes: so many of the numbers parked or on the tape have one.
+    pub fn made(&self) -> u64
+        ensures { result ≡ made_in (state_of self.now.core) }
+    {
+        self.values
+    }
+
     /// What the shares of all passes say of the tape.
     pub(crate) fn audit(&mut self, claimed: &mut Share<A>, committed: &mut Share<D>)
         requires { (claimed.old.parts ≡ A.parts) × (committed.old.parts ≡ D.parts) }
@@ -158,6 +189,25 @@ impl<V: Work, N: Bounds<V::Job>, A: Ledger, B: Ledger, C: Ledger, D: Ledger> Loc
         self.committed.audit(committed);
     }
 
+    /// What the shares of all passes say of the history and of the values.
+    pub(crate) fn audit_all(&mut self, shares: &mut Shares<A, B, C, D, E>)
+        ensures claims { shares.old.claimed.parts ≡ A.parts → count_claims self.new.notes ≡ shares.old.claimed.amount }
+        ensures fulls { shares.old.full.parts ≡ B.parts → count_full self.new.notes ≡ shares.old.full.amount }
+        ensures alls { shares.old.all_claimed.parts ≡ C.parts → count_all self.new.notes ≡ shares.old.all_claimed.amount }
+        ensures commits { shares.old.committed.parts ≡ D.parts → count_commits self.new.notes ≡ shares.old.committed.amount }
+        ensures values { shares.old.made.parts ≡ E.parts → made_in (state_of self.new.core) ≡ shares.old.made.amount }
+        ensures whole { shares.old.committed.parts ≡ D.parts → shares.old.claimed.parts ≡ A.parts → shares.old.committed.amount ≡ shares.old.claimed.amount → made_on self.new.core.tape ≡ made_in (state_of self.new.core) }
+        ensures same { self.new ≡ self.old }
+        ensures claimed { (shares.new.claimed.parts ≡ shares.old.claimed.parts) × (shares.new.claimed.amount ≡ shares.old.claimed.amount) }
+        ensures committed { (shares.new.committed.parts ≡ shares.old.committed.parts) × (shares.new.committed.amount ≡ shares.old.committed.amount) }
+    {
+        self.claimed.audit(&mut shares.claimed);
+        self.full.audit(&mut shares.full);
+        self.all_claimed.audit(&mut shares.all_claimed);
+        self.committed.audit(&mut shares.committed);
+        self.made.audit(&mut shares.made);
+    }
+
     /// The tape, in order of the numbers from the first on: what some legal history left there. Each
     /// entry was claimed inside both windows, and what stands under its number is of that number.
     pub(crate) fn into_tape(self) -> Vec<Entry<V>>
@@ -166,6 +216,8 @@ impl<V: Work, N: Bounds<V::Job>, A: Ledger, B: Ledger, C: Ledger, D: Ledger> Loc
         ensures order { map (λ t. t.number) result.items ≡ numbers N.setup.first (length result.items) }
         ensures within { (i : ℕ) (t : Taped (Named V)) → slice_get result.items i ≡ Some t → Within N.setup t.seen t.number }
         ensures valid { (i : ℕ) (t : Taped (Named V)) → slice_get result.items i ≡ Some t → IsOf V.number V.job V.bad N.setup.first N.jobs t.number t.named }
+        ensures below { AllBelow A.parts (state_of self.core) }
+        ensures remembers { Remembers N.setup self.notes (state_of self.core) }
     {
         let Locked {
             core,
@@ -174,17 +226,19 @@ impl<V: Work, N: Bounds<V::Job>, A: Ledger, B: Ledger, C: Ledger, D: Ledger> Loc
             fulls: _,
             alls: _,
             commits: _,
+            values: _,
             claimed: _,
             full: _,
             all_claimed: _,
             committed: _,
+            made: _,
             of: _,
         } = self;
         core.into_tape()
     }
 
     /// One claim, under the lock. A call that would pass the last value of a sum waits for ever.
-    pub fn claim<R: Wait>(&mut self, rt: &R, pass: &mut Pass<N, A, B, C, D>) -> ClaimAnswer
+    pub fn claim<R: Wait>(&mut self, rt: &R, pass: &mut Pass<N, A, B, C, D, E>) -> ClaimAnswer
         requires { pass.old.holds ≡ None }
         ensures told { Tells N.setup result pass.old pass.new }
         ensures reply { replied result ≡ (does (state_of self.old.core) (Asks pass.old.worker)).1 }
@@ -228,20 +282,22 @@ impl<V: Work, N: Bounds<V::Job>, A: Ledger, B: Ledger, C: Ledger, D: Ledger> Loc
 
     /// One commit, under the lock, with all drains that are then possible. The value is dropped
     /// where the core replies `Foreign`.
-    pub fn commit(&mut self, pass: &mut Pass<N, A, B, C, D>, number: u32, value: Named<V>)
+    pub fn commit(&mut self, pass: &mut Pass<N, A, B, C, D, E>, number: u32, value: Named<V>)
         requires held { pass.old.holds ≡ Some number }
         requires value { IsOf V.number V.job V.bad N.setup.first N.jobs number value }
-        ensures counted { pass.new ≡ counted (does (state_of self.old.core) (HandsIn pass.old.worker number value)).1 pass.old }
+        ensures counted { pass.new ≡ counted (does (state_of self.old.core) (HandsIn pass.old.worker number value)).1 value pass.old }
         ensures settled { Settled (does (state_of self.old.core) (HandsIn pass.old.worker number value)).0 (note self.old.notes (HandsIn pass.old.worker number value) (does (state_of self.old.core) (HandsIn pass.old.worker number value)).1) (state_of self.new.core) self.new.notes }
     {
         let Pass {
             worker,
             holds,
             committed,
+            made,
             ..
         } = pass;
         let worker = *worker;
         *holds = None;
+        let one = one_made(&value);
         match self.core.step(Event::Commit {
             worker,
             number,
@@ -252,6 +308,8 @@ impl<V: Work, N: Bounds<V::Job>, A: Ledger, B: Ledger, C: Ledger, D: Ledger> Loc
                 self.committed.audit(committed);
                 self.committed.add(committed, 1);
                 self.commits += 1;
+                self.made.add(made, one);
+                self.values += one;
                 settle(&mut self.core, &mut self.history);
             }
             _ => {}

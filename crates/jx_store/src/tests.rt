@@ -220,10 +220,19 @@ fn lines<V: Work>(alloc: Global, tape: Vec<Entry<V>>) -> Result<Vec<Line>, NoMem
 }
 
 // Claims this number, told `seen`.
-fn claims<V: Work, N: Bounds<V::Job>, A: Ledger, B: Ledger, C: Ledger, D: Ledger, R: Wait + Abort>(
+fn claims<
+    V: Work,
+    N: Bounds<V::Job>,
+    A: Ledger,
+    B: Ledger,
+    C: Ledger,
+    D: Ledger,
+    E: Ledger,
+    R: Wait + Abort,
+>(
     rt: &R,
-    store: &LockStore<V, N, A, B, C, D>,
-    pass: &mut Pass<N, A, B, C, D>,
+    store: &LockStore<V, N, A, B, C, D, E>,
+    pass: &mut Pass<N, A, B, C, D, E>,
     want: u32,
     seen: u32,
 ) -> Claim
@@ -252,8 +261,9 @@ fn is_refused<
     B: Ledger,
     C: Ledger,
     D: Ledger,
+    E: Ledger,
     R: Wait + Abort,
->(rt: &R, store: &LockStore<V, N, A, B, C, D>, pass: &mut Pass<N, A, B, C, D>, reply: Reply)
+>(rt: &R, store: &LockStore<V, N, A, B, C, D, E>, pass: &mut Pass<N, A, B, C, D, E>, reply: Reply)
     requires { pass.old.holds ≡ None }
     ensures { pass.new.holds ≡ None }
 {
@@ -268,10 +278,19 @@ fn is_refused<
 }
 
 // Commits this, and holds nothing more.
-fn commits<V: Work, N: Bounds<V::Job>, A: Ledger, B: Ledger, C: Ledger, D: Ledger, R: Wait>(
+fn commits<
+    V: Work,
+    N: Bounds<V::Job>,
+    A: Ledger,
+    B: Ledger,
+    C: Ledger,
+    D: Ledger,
+    E: Ledger,
+    R: Wait,
+>(
     rt: &R,
-    store: &LockStore<V, N, A, B, C, D>,
-    pass: &mut Pass<N, A, B, C, D>,
+    store: &LockStore<V, N, A, B, C, D, E>,
+    pass: &mut Pass<N, A, B, C, D, E>,
     claim: Claim,
     named: Named<V>,
 )
@@ -283,12 +302,12 @@ fn commits<V: Work, N: Bounds<V::Job>, A: Ledger, B: Ledger, C: Ledger, D: Ledge
 }
 
 // The tape of a store with these three passes.
-fn tape<V: Work, N: Bounds<V::Job>, A: Ledger, B: Ledger, C: Ledger, D: Ledger>(
+fn tape<V: Work, N: Bounds<V::Job>, A: Ledger, B: Ledger, C: Ledger, D: Ledger, E: Ledger>(
     alloc: Global,
-    store: LockStore<V, N, A, B, C, D>,
-    first: Pass<N, A, B, C, D>,
-    second: Pass<N, A, B, C, D>,
-    third: Pass<N, A, B, C, D>,
+    store: LockStore<V, N, A, B, C, D, E>,
+    first: Pass<N, A, B, C, D, E>,
+    second: Pass<N, A, B, C, D, E>,
+    third: Pass<N, A, B, C, D, E>,
 ) -> Result<Vec<Line>, NoMemory>
     requires each { (A.parts ≡ 3) × (D.parts ≡ 3) }
     requires none { (first.holds ≡ None) × (second.holds ≡ None) × (third.holds ≡ None) }
@@ -302,13 +321,14 @@ fn tape<V: Work, N: Bounds<V::Job>, A: Ledger, B: Ledger, C: Ledger, D: Ledger>(
 
 fn blanks(workers: u32) -> Blanks
     requires { (0 < workers) × (workers ≤ 64) }
-    ensures { (result.claimed.parts ≡ workers) × (result.full.parts ≡ workers) × (result.all_claimed.parts ≡ workers) × (result.committed.parts ≡ workers) }
+    ensures { (result.claimed.parts ≡ workers) × (result.full.parts ≡ workers) × (result.all_claimed.parts ≡ workers) × (result.committed.parts ≡ workers) × (result.made.parts ≡ workers) }
 {
     Blanks {
         claimed: Blank::new(workers as u64),
         full: Blank::new(workers as u64),
         all_claimed: Blank::new(workers as u64),
         committed: Blank::new(workers as u64),
+        made: Blank::new(workers as u64),
     }
 }
 
@@ -320,16 +340,17 @@ fn narrow<
     B: Ledger,
     C: Ledger,
     D: Ledger,
+    E: Ledger,
     R: Wait + Abort,
     M: Maker<V>,
 >(rt: &R, alloc: Global, jobs: &[V::Job], maker: &M, blanks: Blanks) -> Result<Vec<Line>, NoMemory>
     requires bounds { (N.setup ≡ record { first = 0; sizes = 0 ∷ 0 ∷ 0 ∷ []; window = 2; most = 1 }) × (N.workers ≡ 3) × (N.jobs ≡ jobs.now) }
     requires jobs { (length jobs.now ≡ 3) × (M.jobs maker.now ≡ jobs.now) }
-    requires names { (blanks.claimed.name ≡ A.name) × (blanks.full.name ≡ B.name) × (blanks.all_claimed.name ≡ C.name) × (blanks.committed.name ≡ D.name) }
-    requires parts { (blanks.claimed.parts ≡ A.parts) × (blanks.full.parts ≡ B.parts) × (blanks.all_claimed.parts ≡ C.parts) × (blanks.committed.parts ≡ D.parts) }
-    requires each { (A.parts ≡ 3) × (B.parts ≡ 3) × (C.parts ≡ 3) × (D.parts ≡ 3) }
+    requires names { (blanks.claimed.name ≡ A.name) × (blanks.full.name ≡ B.name) × (blanks.all_claimed.name ≡ C.name) × (blanks.committed.name ≡ D.name) × (blanks.made.name ≡ E.name) }
+    requires parts { (blanks.claimed.parts ≡ A.parts) × (blanks.full.parts ≡ B.parts) × (blanks.all_claimed.parts ≡ C.parts) × (blanks.committed.parts ≡ D.parts) × (blanks.made.parts ≡ E.parts) }
+    requires each { (A.parts ≡ 3) × (B.parts ≡ 3) × (C.parts ≡ 3) × (D.parts ≡ 3) × (E.parts ≡ 3) }
 {
-    let (store, mut passes) = LockStore::<V, N, A, B, C, D>::new(
+    let (store, mut passes) = LockStore::<V, N, A, B, C, D, E>::new(
         alloc,
         jobs,
         &[0, 0, 0],
@@ -367,16 +388,17 @@ fn short<
     B: Ledger,
     C: Ledger,
     D: Ledger,
+    E: Ledger,
     R: Wait + Abort,
     M: Maker<V>,
 >(rt: &R, alloc: Global, jobs: &[V::Job], maker: &M, blanks: Blanks) -> Result<Vec<Line>, NoMemory>
     requires bounds { (N.setup ≡ record { first = 0; sizes = 0 ∷ 0 ∷ 0 ∷ []; window = 3; most = 1 }) × (N.workers ≡ 3) × (N.jobs ≡ jobs.now) }
     requires jobs { (length jobs.now ≡ 3) × (M.jobs maker.now ≡ jobs.now) }
-    requires names { (blanks.claimed.name ≡ A.name) × (blanks.full.name ≡ B.name) × (blanks.all_claimed.name ≡ C.name) × (blanks.committed.name ≡ D.name) }
-    requires parts { (blanks.claimed.parts ≡ A.parts) × (blanks.full.parts ≡ B.parts) × (blanks.all_claimed.parts ≡ C.parts) × (blanks.committed.parts ≡ D.parts) }
-    requires each { (A.parts ≡ 3) × (B.parts ≡ 3) × (C.parts ≡ 3) × (D.parts ≡ 3) }
+    requires names { (blanks.claimed.name ≡ A.name) × (blanks.full.name ≡ B.name) × (blanks.all_claimed.name ≡ C.name) × (blanks.committed.name ≡ D.name) × (blanks.made.name ≡ E.name) }
+    requires parts { (blanks.claimed.parts ≡ A.parts) × (blanks.full.parts ≡ B.parts) × (blanks.all_claimed.parts ≡ C.parts) × (blanks.committed.parts ≡ D.parts) × (blanks.made.parts ≡ E.parts) }
+    requires each { (A.parts ≡ 3) × (B.parts ≡ 3) × (C.parts ≡ 3) × (D.parts ≡ 3) × (E.parts ≡ 3) }
 {
-    let (store, mut passes) = LockStore::<V, N, A, B, C, D>::new(
+    let (store, mut passes) = LockStore::<V, N, A, B, C, D, E>::new(
         alloc,
         jobs,
         &[0, 0, 0],
@@ -410,14 +432,14 @@ fn plain_runs<'j, R: Wait + Abort>(rt: &R, alloc: Global, jobs: &'j [u32]) -> Re
     requires { length jobs.now ≡ 3 }
 {
     let maker = Plains { jobs };
-    let one = narrow::<Plain, Brand, Brand, Brand, Brand, Brand, R, Plains<'j>>(
+    let one = narrow::<Plain, Brand, Brand, Brand, Brand, Brand, Brand, R, Plains<'j>>(
         rt,
         alloc,
         jobs,
         &maker,
         blanks(3),
     )?;
-    let other = short::<Plain, Brand, Brand, Brand, Brand, Brand, R, Plains<'j>>(
+    let other = short::<Plain, Brand, Brand, Brand, Brand, Brand, Brand, R, Plains<'j>>(
         rt,
         alloc,
         jobs,
@@ -435,14 +457,14 @@ fn counted_runs<'a, R: Wait + Abort>(
     requires { length jobs.now ≡ 3 }
 {
     let maker = Counter { jobs };
-    let one = narrow::<Counted<'a>, Brand, Brand, Brand, Brand, Brand, R, Counter<'a>>(
+    let one = narrow::<Counted<'a>, Brand, Brand, Brand, Brand, Brand, Brand, R, Counter<'a>>(
         rt,
         alloc,
         jobs,
         &maker,
         blanks(3),
     )?;
-    let other = short::<Counted<'a>, Brand, Brand, Brand, Brand, Brand, R, Counter<'a>>(
+    let other = short::<Counted<'a>, Brand, Brand, Brand, Brand, Brand, Brand, R, Counter<'a>>(
         rt,
         alloc,
         jobs,
@@ -498,9 +520,10 @@ fn work<
     B: Ledger,
     C: Ledger,
     D: Ledger,
+    E: Ledger,
     R: Wait,
     M: Maker<V>,
->(rt: &R, store: &LockStore<V, N, A, B, C, D>, pass: &mut Pass<N, A, B, C, D>, maker: &M)
+>(rt: &R, store: &LockStore<V, N, A, B, C, D, E>, pass: &mut Pass<N, A, B, C, D, E>, maker: &M)
     requires named { (N.setup.first ≡ 0) × (M.jobs maker.now ≡ N.jobs) }
     requires free { pass.old.holds ≡ None }
     ensures { pass.new.holds ≡ None }
@@ -529,9 +552,10 @@ fn all_work<
     B: Ledger + Send + Sync,
     C: Ledger + Send + Sync,
     D: Ledger + Send + Sync,
+    E: Ledger + Send + Sync,
     R: Threads + Wait + Sync,
     M: Maker<V> + Sync,
->(rt: &R, store: &LockStore<V, N, A, B, C, D>, passes: &mut [Pass<N, A, B, C, D>], maker: &M)
+>(rt: &R, store: &LockStore<V, N, A, B, C, D, E>, passes: &mut [Pass<N, A, B, C, D, E>], maker: &M)
     requires some { 0 < length passes.old }
     requires named { (N.setup.first ≡ 0) × (M.jobs maker.now ≡ N.jobs) }
     requires free { All (λ p. p.holds ≡ None) passes.old }
@@ -542,7 +566,7 @@ fn all_work<
         rt,
         passes,
         threads,
-        &|_, pass: &mut Pass<N, A, B, C, D>|
+        &|_, pass: &mut Pass<N, A, B, C, D, E>|
             requires { (pass.old.holds ≡ None) × (N.setup.first ≡ 0) × (M.jobs maker.now ≡ N.jobs) }
             ensures { pass.new.holds ≡ None }
         { work(rt, store, pass, maker) },
@@ -556,6 +580,7 @@ fn shared<
     B: Ledger + Send + Sync,
     C: Ledger + Send + Sync,
     D: Ledger + Send + Sync,
+    E: Ledger + Send + Sync,
     R: Threads + Wait + Sync,
     M: Maker<V> + Sync,
 >(
@@ -569,11 +594,11 @@ fn shared<
     requires bounds { (N.setup ≡ record { first = 0; sizes = sizes.now; window = 3; most = 1 }) × (N.workers ≡ 4) × (N.jobs ≡ jobs.now) }
     requires jobs { (0 < length jobs.now) × (length jobs.now ≤ 2 ^ 20) × (length jobs.now ≡ length sizes.now) × (M.jobs maker.now ≡ jobs.now) }
     requires sizes { sum sizes.now ≤ 2 ^ 28 }
-    requires names { (blanks.claimed.name ≡ A.name) × (blanks.full.name ≡ B.name) × (blanks.all_claimed.name ≡ C.name) × (blanks.committed.name ≡ D.name) }
-    requires parts { (blanks.claimed.parts ≡ A.parts) × (blanks.full.parts ≡ B.parts) × (blanks.all_claimed.parts ≡ C.parts) × (blanks.committed.parts ≡ D.parts) }
-    requires each { (A.parts ≡ 4) × (B.parts ≡ 4) × (C.parts ≡ 4) × (D.parts ≡ 4) }
+    requires names { (blanks.claimed.name ≡ A.name) × (blanks.full.name ≡ B.name) × (blanks.all_claimed.name ≡ C.name) × (blanks.committed.name ≡ D.name) × (blanks.made.name ≡ E.name) }
+    requires parts { (blanks.claimed.parts ≡ A.parts) × (blanks.full.parts ≡ B.parts) × (blanks.all_claimed.parts ≡ C.parts) × (blanks.committed.parts ≡ D.parts) × (blanks.made.parts ≡ E.parts) }
+    requires each { (A.parts ≡ 4) × (B.parts ≡ 4) × (C.parts ≡ 4) × (D.parts ≡ 4) × (E.parts ≡ 4) }
 {
-    let (store, mut passes) = LockStore::<V, N, A, B, C, D>::new(
+    let (store, mut passes) = LockStore::<V, N, A, B, C, D, E>::new(
         alloc, jobs, sizes, 0, 3, 1, 4, blanks,
     )?;
     all_work(rt, &store, passes.as_mut_slice(), maker);
@@ -590,7 +615,7 @@ fn by_four<'j, R: Threads + Wait + Sync>(
     requires sizes { sum sizes.now ≤ 2 ^ 28 }
 {
     let maker = Plains { jobs };
-    shared::<Plain, Brand, Brand, Brand, Brand, Brand, R, Plains<'j>>(
+    shared::<Plain, Brand, Brand, Brand, Brand, Brand, Brand, R, Plains<'j>>(
         rt,
         alloc,
         jobs,

@@ -1,6 +1,7 @@
 //! What a store holds: the results of jobs, under names.
-ghost use Rattle.std.specs.Prelude.{◌≡◌, ℕ, Bool, List, []};
+ghost use Rattle.std.specs.Prelude.{◌≡◌, ◌≤◌, ℕ, Bool, List, []};
 ghost use Rattle.jx_store.specs.Setup.{Setup};
+ghost use Rattle.jx_store.specs.Made.{one_made};
 
 use crate::event::Taped;
 use std::marker::Brand;
@@ -31,6 +32,17 @@ pub enum Named<V> {
     Made(V),
     Bad(u32),
     Short(u32),
+}
+
+// One where a value was made.
+pub(crate) fn one_made<V>(named: &Named<V>) -> u64
+    ensures is { result ≡ one_made named.now }
+    ensures few { result ≤ 1 }
+{
+    match named {
+        Named::Made(_) => 1,
+        Named::Bad(_) | Named::Short(_) => 0,
+    }
 }
 
 /// An entry of a store's tape: its number, the worker that claimed it, the first number that wasn't

@@ -14,3 +14,6 @@ ghosts-shared-C-Ledger g a = record { name = a.blanks.all_claimed.name; parts = 
 
 abbrev pub ghosts-shared-D-Ledger : goal.ghosts-shared-D-Ledger
 ghosts-shared-D-Ledger g a = record { name = a.blanks.committed.name; parts = 64 }
+
+abbrev pub ghosts-shared-E-Ledger : goal.ghosts-shared-E-Ledger
+ghosts-shared-E-Ledger g a = record { name = a.blanks.made.name; parts = 64 }

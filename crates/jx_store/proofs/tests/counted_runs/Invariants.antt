@@ -16,6 +16,9 @@ ghosts-narrow-C-Ledger g a = record { name = a.blanks.all_claimed.name; parts = 
 abbrev pub ghosts-narrow-D-Ledger : goal.ghosts-narrow-D-Ledger
 ghosts-narrow-D-Ledger g a = record { name = a.blanks.committed.name; parts = 3 }
 
+abbrev pub ghosts-narrow-E-Ledger : goal.ghosts-narrow-E-Ledger
+ghosts-narrow-E-Ledger g a = record { name = a.blanks.made.name; parts = 3 }
+
 abbrev pub ghosts-short-N-Bounds : goal.ghosts-short-N-Bounds
 ghosts-short-N-Bounds g a = record { setup = record { first = 0; sizes = 0 ∷ 0 ∷ 0 ∷ []; window = 3; most = 1 }; workers = 3; jobs = a.jobs.now }
 
@@ -30,3 +33,6 @@ ghosts-short-C-Ledger g a = record { name = a.blanks.all_claimed.name; parts = 3
 
 abbrev pub ghosts-short-D-Ledger : goal.ghosts-short-D-Ledger
 ghosts-short-D-Ledger g a = record { name = a.blanks.committed.name; parts = 3 }
+
+abbrev pub ghosts-short-E-Ledger : goal.ghosts-short-E-Ledger
+ghosts-short-E-Ledger g a = record { name = a.blanks.made.name; parts = 3 }

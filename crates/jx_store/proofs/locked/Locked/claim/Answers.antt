@@ -10,6 +10,8 @@ use Rattle.jx_store.specs.Notes.{Notes, count_full, count_all, count_claims, cou
 use Rattle.jx_store.proofs.Tally.{Idle, kept_claim, kept_same, was_claimed, was_refused, was_all, idle_claim}
 use Rattle.jx_store.proofs.Records.{recorded_to, count_full_tells, count_all_tells, count_claims_tells, count_commits_tells, length_tells}
 use Rattle.jx_store.proofs.Valids.{all_same, all_claim}
+use Rattle.jx_store.proofs.Made.{made_same, made_claim}
+use Rattle.jx_store.proofs.Below.{below_same, below_claim}
 use Rattle.jx_store.proofs.locked.Locked.claim.Goals as goal
 
 other : (a b k seen : ℕ) → Full a b ≡ Claimed k seen → ⊥
@@ -36,6 +38,10 @@ invariant_of-self g c =
       full = i.full;
       all_claimed = i.all_claimed;
       committed = i.committed;
+      made = i.made;
+      below = below_same _ _ _ c.step.ensures.state (below_claim _ s w _ _ r c.pass.invariant.worker i.below);
+      values_are = made_same _ _ _ c.step.ensures.state (made_claim i.kept.order.0 s w _ _ i.kept.order.1 r ∙ i.values_are);
+      few = i.few;
       recorded = recorded_to _ _ _ s _ (Claim w) (Claimed c.in-Claimed.number c.in-Claimed.seen) told r c.step.ensures.state i.recorded;
       long = (let l = i.long in omega arith);
       claims_are = (let a = ap count_claims told in let b = count_claims_tells (shown c.self.inside.history) (Claims w) in let d = i.claims_are in omega arith);
@@ -65,6 +71,10 @@ invariant_of-self-in-Full g c =
       full = omega arith;
       all_claimed = i.all_claimed;
       committed = i.committed;
+      made = i.made;
+      below = below_same _ _ _ e i.below;
+      values_are = made_same _ _ _ e i.values_are;
+      few = i.few;
       recorded = recorded_to _ _ _ s _ (Claim c.pass.inside.worker) (Full c.in-Full.next c.in-Full.drained) told (sym c.step.ensures.reply ∙ c.in-Full.is) c.step.ensures.state i.recorded;
       long = (let l = i.long in omega arith);
       claims_are = ap count_claims told ∙ i.claims_are;
@@ -94,6 +104,10 @@ invariant_of-self-in_default g c =
       full = i.full;
       all_claimed = omega arith;
       committed = i.committed;
+      made = i.made;
+      below = below_same _ _ _ e i.below;
+      values_are = made_same _ _ _ e i.values_are;
+      few = i.few;
       recorded = recorded_to _ _ _ s _ (Claim c.pass.inside.worker) AllClaimed told (was_all s c.pass.inside.worker (λ k seen r. c.in_default.not-Claimed k seen (c.step.ensures.reply ∙ r)) (λ a b r. c.in_default.not-Full a b (c.step.ensures.reply ∙ r))) c.step.ensures.state i.recorded;
       long = (let l = i.long in omega arith);
       claims_are = ap count_claims told ∙ i.claims_are;

@@ -15,6 +15,8 @@ use Rattle.jx_store.specs.ShownNotes.{shown}
 use Rattle.jx_store.specs.Notes.{Notes, note, count_full, count_all, count_claims, count_commits}
 use Rattle.jx_store.proofs.Records.{recorded_to, settled_from, settled_none, recorded_drains, counts_drains, kinds_drains, count_claims_tells, count_commits_tells, count_full_tells, count_all_tells, length_tells}
 use Rattle.jx_store.proofs.Valids.{all_same, all_commit, all_drains}
+use Rattle.jx_store.proofs.Made.{made_same, made_commit, made_drains}
+use Rattle.jx_store.proofs.Below.{below_same, below_commit, below_drains}
 use Rattle.jx_store.proofs.locked.Locked.commit.Goals.{in-Committed, in_default}
 use Rattle.jx_store.proofs.locked.Locked.commit.Goals as goal
 
@@ -72,6 +74,10 @@ invariant_of-self g c =
       full = i.full;
       all_claimed = i.all_claimed;
       committed = omega arith;
+      made = omega arith;
+      below = below_same _ _ _ z.1 (below_drains _ t z.0 (below_same _ _ _ c.step.ensures.state (below_commit _ s w number value r i.below)));
+      values_are = (let x = made_same _ _ _ z.1 (made_drains _ _ _ t z.0 k') in let y = made_same _ _ _ c.step.ensures.state (made_commit i.kept.order.0 s w number value i.kept.order.1 r) in let u = i.values_are in omega arith);
+      few = (let u = i.few in let x = c.one_made-one.ensures.few in omega arith);
       recorded = rw (z.1, z.2) (recorded_drains _ (shown c.tell.new.self) t z.0 rec);
       long = (let l = i.long in let y = z.4 in let f1 = ap (λ (p : Setup). p.first) (kept_drains _ _ _ t z.0 k').setup_is in let f2 = ap (λ (u : State (Named g.row.V.Denot)). u.setup.first) z.1 in let f0 = ap (λ (p : Setup). p.first) i.kept.setup_is in omega arith);
       claims_are = (let x = ap count_claims z.2 in let y = kinds.0 in let a = ap count_claims told in let b = count_claims_tells (shown c.self.inside.history) (Commits w number) in let d = i.claims_are in omega arith);
@@ -95,6 +101,10 @@ invariant_of-self-in_default g c =
       full = i.full;
       all_claimed = i.all_claimed;
       committed = i.committed;
+      made = i.made;
+      below = below_same _ _ _ e i.below;
+      values_are = made_same _ _ _ e i.values_are;
+      few = i.few;
       recorded = recorded_to _ _ _ s _ (Commit c.pass.inside.worker c.args.number c.args.value) Foreign refl (was_foreign_reply s c.pass.inside.worker c.args.number c.args.value (λ r. c.in_default.not-Committed (c.step.ensures.reply ∙ r))) c.step.ensures.state i.recorded;
       long = (let l = i.long in let f = ap (λ (u : State (Named g.row.V.Denot)). u.setup.first) e in let d = ap (λ (u : State (Named g.row.V.Denot)). u.drained) e in omega arith);
       claims_are = i.claims_are;

@@ -3,6 +3,7 @@ use Rattle.std.specs.Prelude.{slice_get}
 use Rattle.jx_store.specs.declared.event.Taped.{Taped}
 use Rattle.jx_store.specs.declared.work.Named.{Named}
 use Rattle.jx_store.specs.Setup.{Setup, Within}
+use Rattle.jx_store.proofs.Replays.{remembers}
 use Rattle.jx_store.proofs.locked.Locked.into_tape.Goals as goal
 
 pub returns-clause-within : goal.returns-clause-within
@@ -13,3 +14,6 @@ returns-clause-within g c i t at =
 
 pub returns-clause-valid : goal.returns-clause-valid
 returns-clause-valid g c i t at = c.self.invariant.valid.tape i t (ap (λ (l : List (Taped (Named g.row.V.Denot))). slice_get l i) (sym c.into_tape.ensures) ∙ at)
+
+pub returns-clause-remembers : goal.returns-clause-remembers
+returns-clause-remembers g c = rw (← c.self.view_is) (remembers _ _ _ c.self.invariant.recorded)

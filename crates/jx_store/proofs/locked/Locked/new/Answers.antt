@@ -7,6 +7,8 @@ use Rattle.jx_store.specs.Notes.{Notes, count_full, count_all, count_claims, cou
 use Rattle.jx_store.proofs.Tally.{Idle, kept_start}
 use Rattle.jx_store.proofs.Records.{recorded_start}
 use Rattle.jx_store.proofs.Valids.{all_start}
+use Rattle.jx_store.proofs.Made.{made_start}
+use Rattle.jx_store.proofs.Below.{below_start}
 use Rattle.jx_store.proofs.locked.Locked.new.Goals as goal
 
 pub invariant_of-result : goal.invariant_of-result
@@ -30,6 +32,10 @@ invariant_of-result g c =
       full = sym r.empty.1;
       all_claimed = sym r.empty.2;
       committed = sym r.empty.3;
+      made = sym r.none_made;
+      below = below_start _ _ _ started;
+      values_are = made_start _ _ started;
+      few = omega arith;
       recorded = rw h.0 (recorded_start _ _ started);
       long = omega arith;
       claims_are = ap count_claims h.0;

@@ -9,9 +9,11 @@ invariant-loop-worker g l = record {
   b : (l.b.parts + l.worker ≡ l.workers) × (l.b.amount ≡ 0);
   c : (l.c.parts + l.worker ≡ l.workers) × (l.c.amount ≡ 0);
   d : (l.d.parts + l.worker ≡ l.workers) × (l.d.amount ≡ 0);
-  books : (l.book_a.total ≡ 0) × (l.book_b.total ≡ 0) × (l.book_c.total ≡ 0) × (l.book_d.total ≡ 0);
+  e : (l.e.parts + l.worker ≡ l.workers) × (l.e.amount ≡ 0);
+  books : (l.book_a.total ≡ 0) × (l.book_b.total ≡ 0) × (l.book_c.total ≡ 0) × (l.book_d.total ≡ 0) × (l.book_e.total ≡ 0);
   room : l.workers ≤ vec_capacity l.passes;
   long : vec_len l.passes ≡ l.worker;
   workers : map (λ p. p.worker) l.passes.items ≡ numbers 0 l.worker;
   fresh : All (λ p. (p.holds ≡ None) × (p.claimed ≡ 0) × (p.full ≡ 0) × (p.all_claimed ≡ 0) × (p.committed ≡ 0)) l.passes.items;
+  none_made : All (λ p. p.made ≡ 0) l.passes.items;
 }
