@@ -69,17 +69,17 @@ module _ (m : Asked) (s : Stream) (g : Geometry) (own : List Block) (names : Lis
       omega arith
 
 -- ---- a tile without packets
-module _ (m : Asked) (s : Stream) (g : Geometry) (own : List Block) (names : List PacketName) (most : ℕ) (none : names ≡ []) where
+module _ (m : Asked) (s : Stream) (g : Geometry) (own : List Block) (names : List PacketName) (none : names ≡ []) where
   abbrev empty : TilePart
   empty = own_part m s g own 0 1 0 names
 
-  empty_parts : own_parts m s g own names ≡ empty ∷ []
+  pub empty_parts : own_parts m s g own names ≡ empty ∷ []
   empty_parts =
       let P : List PacketName → Type 0 = λ xs. own_parts m s g own xs ≡ own_part m s g own 0 1 0 xs ∷ [] in
       subst P (sym none) refl
 
-  pub empty_long : most < empty.sot.psot → AreAtMost most (own_parts m s g own names) → ⊥
-  empty_long more whole =
+  pub empty_long : (most : ℕ) → most < empty.sot.psot → AreAtMost most (own_parts m s g own names) → ⊥
+  empty_long most more whole =
       let few : IsAtMost most empty = All-head (IsAtMost most) empty [] (subst (AreAtMost most) empty_parts whole) in
       omega arith
 

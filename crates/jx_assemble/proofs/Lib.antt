@@ -24,6 +24,7 @@ pub mod OneTile
 pub mod OwnLemmas
 pub mod PacketLemmas
 pub mod PartLemmas
+pub mod PieceLemmas
 pub mod PlanLemmas
 pub mod RowsLemmas
 pub mod SegmentLemmas

@@ -70,7 +70,7 @@ module _ (m : Asked) (s : Stream) (g : Geometry) (own : List Block) (part parts 
   pub part_least : total lengths_in ≤ made.sot.psot
   part_least = omega (arith, packets_long m s g own number names)
 
-  pub part_put : (size : ℕ) (header bytes : List ℕ) → header ≡ all_bytes comps made.header → size ≡ made.sot.psot
+  part_put : (size : ℕ) (header bytes : List ℕ) → header ≡ all_bytes comps made.header → size ≡ made.sot.psot
       → bytes ≡ spelling comps (segment.Sot (sot_of g.tile size part parts)) ++ (header ++ (spelling comps segment.Sod ++ bytes_from (own_packets m s g own) number names))
       → bytes ≡ part_bytes comps made
   part_put size header bytes is long put =
@@ -79,6 +79,18 @@ module _ (m : Asked) (s : Stream) (g : Geometry) (own : List Block) (part parts 
       part_is comps made.sot made.header body bytes
       (put ∙ ap (λ (n : ℕ). spelling comps (segment.Sot (sot_of g.tile n part parts)) ++ (header ++ (sod ++ body))) long
       ∙ ap (λ (xs : List ℕ). spelling comps (segment.Sot made.sot) ++ (xs ++ (sod ++ body))) is)
+
+  -- from what stands before its packets
+  pub front_put : (tile size : ℕ) (header front : List ℕ) → tile ≡ g.tile → header ≡ all_bytes comps made.header → size ≡ made.sot.psot
+      → front ≡ spelling comps (segment.Sot (sot_of tile size part parts)) ++ (header ++ spelling comps segment.Sod)
+      → front ++ bytes_from (own_packets m s g own) number names ≡ part_bytes comps made
+  front_put tile size header front et is long put =
+      let body : List ℕ = bytes_from (own_packets m s g own) number names in
+      let sod : List ℕ = spelling comps segment.Sod in
+      let sot : List ℕ = spelling comps (segment.Sot (sot_of g.tile size part parts)) in
+      part_put size header (front ++ body) is long
+      (ap (λ (xs : List ℕ). xs ++ body) (put ∙ ap (λ (t : ℕ). spelling comps (segment.Sot (sot_of t size part parts)) ++ (header ++ sod)) et)
+      ∙ append_assoc sot (header ++ sod) body ∙ ap (λ (xs : List ℕ). sot ++ xs) (append_assoc header sod body))
 
 pub below_part : (most a b : ℕ) → most < a → a ≤ b → most < b
 below_part most a b lt le = omega arith

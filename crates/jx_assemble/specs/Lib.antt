@@ -5,6 +5,7 @@ pub mod Lengths
 pub mod Names
 pub mod Own
 pub mod Packed
+pub mod Pieces
 pub mod Rows
 pub mod Sent
 pub mod TileParts

@@ -1,7 +1,7 @@
 //! The tile-parts of a tile, one after another (ITU-T T.800, A.4.2).
 
 ghost use Rattle.std.specs.Prelude.{◌≡◌, ◌≤◌, ◌<◌, ◌+◌, ◌^◌, ◌++◌, ◌∷◌, List, [], length, map, None, Err, IfOk, OnOk};
-ghost use Rattle.std.specs.List.{All};
+ghost use Rattle.std.specs.List.{All, concat};
 ghost use Rattle.jx_base.specs.declared.pieces.Block.{Block};
 ghost use Rattle.jx_marker.specs.Ranges.{InRange};
 ghost use Rattle.jx_order.specs.Packets.{IsPacket};
@@ -17,14 +17,15 @@ ghost use Rattle.jx_plan.specs.Groups.{HasFewParts, groups_of};
 ghost use Rattle.jx_assemble.specs.Assembled.{AreOwn, AreTileBytes, IsTooLong};
 ghost use Rattle.jx_assemble.specs.Names.{AreSendings, tile_names};
 ghost use Rattle.jx_assemble.specs.Own.{AreOwnBlocks};
-ghost use Rattle.jx_assemble.specs.Packed.{own_parts};
+ghost use Rattle.jx_assemble.specs.Packed.{own_packets, own_parts};
+ghost use Rattle.jx_assemble.specs.Pieces.{IsLayout, IsPartOut, pieces_with, tile_pieces};
 ghost use Rattle.jx_assemble.specs.Tile.{AreAtMost};
 
 use crate::parts::Coded;
 use crate::precincts::sendings_of;
 use crate::sending::Sending;
 use crate::tile::AssembleFault;
-use crate::tile_part::{PartPlace, assemble_part};
+use crate::tile_part::{PartOut, PartPlace, pack_part};
 use jx_base::NoMemory;
 use jx_geom::TileGeom;
 use jx_order::PacketName;
@@ -32,17 +33,26 @@ use jx_plan::{Marks, count_parts, names_of, part_end};
 use jx_stream::{Stream, TileView};
 use std::alloc::Global;
 
+/// What a tile is written from, but for its headers and its blocks: what is sent of each precinct, its packets in their order, and its
+/// tile-parts.
+#[derive(Drop)]
+pub(crate) struct Layout {
+    pub(crate) list: Vec<Sending>,
+    pub(crate) names: Vec<PacketName>,
+    pub(crate) parts: Vec<PartOut>,
+}
+
 /// Puts a tile-part behind others.
-fn push_part(parts: &mut Vec<Vec<u8>>, bytes: Vec<u8>) -> Result<(), NoMemory>
-    ensures items { OnOk result (map (λ v. v.items) parts.new.items ≡ map (λ v. v.items) parts.old.items ++ bytes.items ∷ []) }
+fn push_part(parts: &mut Vec<PartOut>, part: PartOut) -> Result<(), NoMemory>
+    ensures items { OnOk result (parts.new.items ≡ parts.old.items ++ part ∷ []) }
     ensures long { OnOk result (length parts.new.items ≡ length parts.old.items + 1) }
 {
-    parts.push(bytes)?;
+    parts.push(part)?;
     Ok(())
 }
 
 /// The one tile-part of a tile without packets.
-fn assemble_empty<B: Coded>(
+fn pack_empty<B: Coded>(
     alloc: Global,
     stream: &Stream,
     geom: &TileGeom,
@@ -51,14 +61,15 @@ fn assemble_empty<B: Coded>(
     marks: Marks,
     names: &[PacketName],
     most: u32,
-) -> Result<Vec<Vec<u8>>, AssembleFault>
+) -> Result<Vec<PartOut>, AssembleFault>
     requires list { AreSendings stream.now geom.now (map B.block values.now) (map B.bytes values.now) (tile_names geom.now) list.now }
     requires none { names.now ≡ [] }
     requires comps { length stream.now.siz.comps ≤ 16384 }
     requires tile { geom.now.tile < length stream.now.tiles }
     requires header { All (InRange (length stream.now.siz.comps)) (header_of stream.now geom.now.tile) }
-    ensures value { IfOk result (λ parts. map (λ v. v.items) parts.items
+    ensures value { IfOk result (λ parts. map concat (pieces_with (own_packets marks stream.now geom.now (map B.block values.now)) names.now parts.items)
         ≡ map (part_bytes (length stream.now.siz.comps)) (own_parts marks stream.now geom.now (map B.block values.now) names.now)) }
+    ensures parts { IfOk result (λ parts. All (IsPartOut (own_packets marks stream.now geom.now (map B.block values.now)) names.now) parts.items) }
     ensures short { IfOk result (λ parts. AreAtMost most (own_parts marks stream.now geom.now (map B.block values.now) names.now)) }
     ensures long { result ≡ Err AssembleFault.TooLong → AreAtMost most (own_parts marks stream.now geom.now (map B.block values.now) names.now) → ⊥ }
 {
@@ -67,17 +78,17 @@ fn assemble_empty<B: Coded>(
         parts: 1,
         packet: 0,
     };
-    let bytes = match assemble_part(alloc, stream, geom, values, list, marks, names, place, most) {
-        Ok(bytes) => bytes,
+    let part = match pack_part(alloc, stream, geom, values, list, marks, names, place, most) {
+        Ok(part) => part,
         Err(fault) => return Err(fault),
     };
     let mut parts = Vec::new(alloc);
-    push_part(&mut parts, bytes)?;
+    push_part(&mut parts, part)?;
     Ok(parts)
 }
 
 /// The tile-parts of a tile of which the packets are named; `TooLong` exactly where one of them has more than `most` bytes.
-fn assemble_named<B: Coded>(
+fn pack_named<B: Coded>(
     alloc: Global,
     stream: &Stream,
     geom: &TileGeom,
@@ -86,7 +97,7 @@ fn assemble_named<B: Coded>(
     marks: Marks,
     names: &[PacketName],
     most: u32,
-) -> Result<Vec<Vec<u8>>, AssembleFault>
+) -> Result<Vec<PartOut>, AssembleFault>
     requires list { AreSendings stream.now geom.now (map B.block values.now) (map B.bytes values.now) (tile_names geom.now) list.now }
     requires each { All (IsPacket geom.now (layers_of stream.now geom.now.tile)) names.now }
     requires few { length names.now ≤ 2 ^ 22 }
@@ -94,16 +105,17 @@ fn assemble_named<B: Coded>(
     requires comps { length stream.now.siz.comps ≤ 16384 }
     requires tile { geom.now.tile < length stream.now.tiles }
     requires header { All (InRange (length stream.now.siz.comps)) (header_of stream.now geom.now.tile) }
-    ensures value { IfOk result (λ parts. map (λ v. v.items) parts.items
+    ensures value { IfOk result (λ parts. map concat (pieces_with (own_packets marks stream.now geom.now (map B.block values.now)) names.now parts.items)
         ≡ map (part_bytes (length stream.now.siz.comps)) (own_parts marks stream.now geom.now (map B.block values.now) names.now)) }
+    ensures parts { IfOk result (λ parts. All (IsPartOut (own_packets marks stream.now geom.now (map B.block values.now)) names.now) parts.items) }
     ensures short { IfOk result (λ parts. AreAtMost most (own_parts marks stream.now geom.now (map B.block values.now) names.now)) }
     ensures long { result ≡ Err AssembleFault.TooLong → AreAtMost most (own_parts marks stream.now geom.now (map B.block values.now) names.now) → ⊥ }
 {
     if names.is_empty() {
-        return assemble_empty(alloc, stream, geom, values, list, marks, names, most);
+        return pack_empty(alloc, stream, geom, values, list, marks, names, most);
     }
     let count = count_parts(names, marks.parts) as u8;
-    let mut parts: Vec<Vec<u8>> = Vec::new(alloc);
+    let mut parts: Vec<PartOut> = Vec::new(alloc);
     let mut from = 0;
     while from < names.len() {
         let end = part_end(names, from, marks.parts);
@@ -113,21 +125,19 @@ fn assemble_named<B: Coded>(
             packet: from,
         };
         let own = &names[from..end];
-        let bytes = match assemble_part(
-            alloc, stream, geom, values, list, marks, own, place, most,
-        ) {
-            Ok(bytes) => bytes,
+        let part = match pack_part(alloc, stream, geom, values, list, marks, own, place, most) {
+            Ok(part) => part,
             Err(fault) => return Err(fault),
         };
-        push_part(&mut parts, bytes)?;
+        push_part(&mut parts, part)?;
         from = end;
     }
     Ok(parts)
 }
 
-/// The tile-parts of a tile: `values` are its blocks by their numbers in the tile. `TooLong` comes exactly where one of them has
-/// more than `most` bytes. The time grows with the packets, with the blocks and their parts, and with the bytes.
-pub(crate) fn assemble_values<B: Coded>(
+/// A tile laid out: `values` are its blocks by their numbers in the tile. `TooLong` comes exactly where one of its tile-parts has more
+/// than `most` bytes. The time grows with the packets, and with the blocks and their parts.
+pub(crate) fn pack_values<B: Coded>(
     alloc: Global,
     stream: &Stream,
     view: &TileView<'_>,
@@ -135,7 +145,7 @@ pub(crate) fn assemble_values<B: Coded>(
     values: &[B],
     marks: Marks,
     most: u32,
-) -> Result<Vec<Vec<u8>>, AssembleFault>
+) -> Result<Layout, AssembleFault>
     requires view { view.now ≡ headers_at stream.now geom.now.tile }
     requires range { StreamInRange stream.now }
     requires totals { totals_fault stream.now ≡ None }
@@ -145,8 +155,9 @@ pub(crate) fn assemble_values<B: Coded>(
     requires header { AreSegments First (length stream.now.siz.comps) [] (header_of stream.now geom.now.tile) }
     requires own { AreOwnBlocks stream.now geom.now (map B.block values.now) }
     requires few { HasFewParts marks.parts stream.now geom.now.tile }
-    ensures value { IfOk result (λ parts. (blocks : List Block) → AreOwn stream.now geom.now.tile blocks (map B.block values.now)
-        → (is : AreTileBytes marks stream.now blocks geom.now.tile (map (λ v. v.items) parts.items)) × AreAtMost most is.parts) }
+    ensures layout { IfOk result (λ layout. IsLayout marks stream.now geom.now (map B.block values.now) (map B.bytes values.now) layout) }
+    ensures value { IfOk result (λ layout. (blocks : List Block) → AreOwn stream.now geom.now.tile blocks (map B.block values.now)
+        → (is : AreTileBytes marks stream.now blocks geom.now.tile (map concat (tile_pieces (own_packets marks stream.now geom.now (map B.block values.now)) layout))) × AreAtMost most is.parts) }
     ensures long { result ≡ Err AssembleFault.TooLong → (blocks : List Block) → AreOwn stream.now geom.now.tile blocks (map B.block values.now)
         → IsTooLong marks stream.now blocks geom.now.tile most }
 {
@@ -158,5 +169,9 @@ pub(crate) fn assemble_values<B: Coded>(
         Ok(list) => list,
         Err(_) => return Err(AssembleFault::NoMemory),
     };
-    assemble_named(alloc, stream, geom, values, &list, marks, &names, most)
+    let parts = match pack_named(alloc, stream, geom, values, &list, marks, &names, most) {
+        Ok(parts) => parts,
+        Err(fault) => return Err(fault),
+    };
+    Ok(Layout { list, names, parts })
 }

@@ -21,7 +21,10 @@ mod sent;
 #[cfg(test)]
 mod tests;
 mod tile;
+mod tile_out;
 mod tile_part;
+mod whole;
 
-pub use planned::{assemble_tile, assemble_tile_with, main_header, main_view};
+pub use planned::{assemble_tile, assemble_tile_with, main_header, main_view, pack_tile};
 pub use tile::AssembleFault;
+pub use tile_out::TileOut;

@@ -1,6 +1,6 @@
 //! Lengths in PLT, and a codestream of one tile put together again.
 
-ghost use Rattle.std.specs.Prelude.{◌≡◌, map, [], IfOk};
+ghost use Rattle.std.specs.Prelude.{◌≡◌, ◌<◌, map, [], IfOk};
 ghost use Rattle.std.specs.List.{All};
 ghost use Rattle.jx_base.specs.declared.pieces.Block.{Block};
 ghost use Rattle.jx_base.specs.Sound.{IsSound};
@@ -10,10 +10,10 @@ ghost use Rattle.jx_block.specs.Recoded.{WrittenBlock};
 ghost use Rattle.jx_stream.specs.First.{tile_number};
 ghost use Rattle.jx_plan.specs.Plan.{MayBePlanned};
 ghost use Rattle.jx_plan.specs.Wanted.{MayBeWanted};
-ghost use Rattle.jx_assemble.specs.Tile.{AreMade, block_written, made_in};
+ghost use Rattle.jx_assemble.specs.Tile.{AreMade, AreValuesOf, block_written, made_in};
 
 use crate::lengths::put_lengths;
-use crate::{AssembleFault, assemble_tile, main_header};
+use crate::{AssembleFault, TileOut, assemble_tile, main_header, main_view, pack_tile};
 use jx_base::{Block, NoMemory};
 use jx_block::{Job, Recoded, recode};
 use jx_gather::gather;
@@ -90,18 +90,67 @@ fn bare_values<'a>(alloc: Global, jobs: &'a [Job<'a>]) -> Result<Vec<Entry<Recod
     Ok(list)
 }
 
-/// The one tile of a plan.
+/// The pieces of a tile, each in a buffer. Where a tile-part's size isn't that of its pieces this fails as if memory were refused.
+fn pieces_of(alloc: Global, out: &TileOut<'_, '_>) -> Result<Vec<Vec<u8>>, NoMemory> {
+    let mut list = Vec::new(alloc);
+    for part in 0..out.parts() {
+        let mut size: u64 = 0;
+        for piece in 0..out.pieces(part) {
+            let mut bytes = Vec::new(alloc);
+            out.put(part, piece, &mut bytes)?;
+            size = size.wrapping_add(bytes.len() as u64);
+            list.push(bytes)?;
+        }
+        if size != u64::from(out.size(part)) {
+            return Err(NoMemory);
+        }
+    }
+    Ok(list)
+}
+
+/// The pieces of a tile, by its number 0.
+fn put_tile(
+    alloc: Global,
+    plan: &OutStream<'_>,
+    values: &[Entry<Recoded<'_>>],
+    most: u32,
+) -> Result<Vec<Vec<u8>>, AssembleFault>
+    requires tile { 0 < tile_number plan.now.stream.siz }
+    requires made { AreMade values.now }
+    requires values { AreValuesOf plan.now 0 (made_in values.now) }
+{
+    let main = main_view(alloc, plan)?;
+    let out = match pack_tile(alloc, plan, &main, 0, values, most) {
+        Ok(out) => out,
+        Err(fault) => return Err(fault),
+    };
+    Ok(pieces_of(alloc, &out)?)
+}
+
+/// The tile-parts of the one tile of a plan, or its pieces.
 fn only_tile(
     alloc: Global,
     plan: &OutStream<'_>,
     most: u32,
+    form: Form,
 ) -> Option<Result<Vec<Vec<u8>>, AssembleFault>>
     requires { tile_number plan.now.stream.siz ≡ 1 }
 {
     let Ok(values) = bare_values(alloc, plan.jobs()) else {
         return None;
     };
-    Some(assemble_tile(alloc, plan, 0, &values, most))
+    let entries = values.as_slice();
+    match form {
+        Form::Parts => Some(assemble_tile(alloc, plan, 0, entries, most)),
+        Form::Pieces => Some(put_tile(alloc, plan, entries, most)),
+    }
+}
+
+/// How a tile is given.
+#[derive(Clone, Copy)]
+pub(crate) enum Form {
+    Parts,
+    Pieces,
 }
 
 /// The main header and the tile of a stream of one tile. The stream and the blocks come as references: a value can't be lent where it
@@ -112,6 +161,7 @@ fn kept_of(
     blocks: &[Block<'_>],
     options: &Options,
     most: u32,
+    form: Form,
 ) -> Option<(Vec<u8>, Result<Vec<Vec<u8>>, AssembleFault>)>
     requires may { MayBePlanned stream.now blocks.now }
     requires wanted { MayBeWanted options.now }
@@ -127,7 +177,7 @@ fn kept_of(
     let Ok(main) = main_header(alloc, &plan) else {
         return None;
     };
-    let tile = only_tile(alloc, &plan, most)?;
+    let tile = only_tile(alloc, &plan, most, form)?;
     Some((main, tile))
 }
 
@@ -137,6 +187,7 @@ pub(crate) fn kept(
     bytes: &[u8],
     options: &Options,
     most: u32,
+    form: Form,
 ) -> Option<(Vec<u8>, Result<Vec<Vec<u8>>, AssembleFault>)>
     requires { MayBeWanted options.now }
 {
@@ -153,7 +204,7 @@ pub(crate) fn kept(
         return None;
     }
     gathered_may_be_planned();
-    kept_of(alloc, &stream, &blocks, options, most)
+    kept_of(alloc, &stream, &blocks, options, most, form)
 }
 
 /// Order, precincts, style and layers are kept.
@@ -189,14 +240,14 @@ fn smallest_tile(rt: HostRuntime) {
     ];
     let none = with_marks(rt.alloc(), PartChoice::None, false, false, false).expect(&rt, "memory");
     let all = with_marks(rt.alloc(), PartChoice::None, true, true, true).expect(&rt, "memory");
-    let (main, long) = kept(rt.alloc(), &file, &none, 14).expect(&rt, "a plan");
+    let (main, long) = kept(rt.alloc(), &file, &none, 14, Form::Parts).expect(&rt, "a plan");
     assert!(rt; main.as_slice() == &file[0..65]);
     assert!(rt; matches!(long, Err(AssembleFault::TooLong)));
-    let (_, bare) = kept(rt.alloc(), &file, &none, 15).expect(&rt, "a plan");
+    let (_, bare) = kept(rt.alloc(), &file, &none, 15, Form::Parts).expect(&rt, "a plan");
     let bare = bare.ok().expect(&rt, "a tile");
     assert!(rt; bare.len() == 1);
     assert!(rt; bare[0].as_slice() == &file[65..80]);
-    let (main, marked) = kept(rt.alloc(), &file, &all, 29).expect(&rt, "a plan");
+    let (main, marked) = kept(rt.alloc(), &file, &all, 29, Form::Parts).expect(&rt, "a plan");
     assert!(rt; main.len() == 65);
     assert!(rt; main[49] == 6);
     let marked = marked.ok().expect(&rt, "a tile");

@@ -1,14 +1,13 @@
-//! Packets of a tile one after another, and their lengths.
+//! The lengths of packets of a tile.
 
-ghost use Rattle.std.specs.Prelude.{◌≡◌, ◌≤◌, ◌<◌, ◌+◌, ◌++◌, ◌^◌, List, length, map, Err, IfOk, OnOk};
+ghost use Rattle.std.specs.Prelude.{◌≡◌, ◌≤◌, ◌<◌, List, map, Err, IfOk};
 ghost use Rattle.std.specs.List.{All};
 ghost use Rattle.jx_order.specs.Packets.{IsPacket};
 ghost use Rattle.jx_stream.specs.Shapes.{layers_of};
-ghost use Rattle.jx_gather.specs.Written.{bytes_from};
 ghost use Rattle.jx_assemble.specs.Names.{AreSendings, tile_names};
-ghost use Rattle.jx_assemble.specs.Packed.{own_length, own_packets, total};
+ghost use Rattle.jx_assemble.specs.Packed.{own_length, total};
 
-use crate::packets::{packet_length, put_packet};
+use crate::packets::packet_length;
 use crate::parts::Coded;
 use crate::sending::Sending;
 use jx_base::NoMemory;
@@ -68,27 +67,4 @@ pub(crate) fn lengths_of<B: Coded>(
         sum += length as u32;
     }
     Ok(lengths)
-}
-
-/// Appends packets of a tile, numbered from one on.
-pub(crate) fn put_packets<B: Coded>(
-    stream: &Stream,
-    geom: &TileGeom,
-    values: &[B],
-    list: &[Sending],
-    marks: Marks,
-    names: &[PacketName],
-    first: usize,
-    out: &mut Vec<u8>,
-) -> Result<(), NoMemory>
-    requires list { AreSendings stream.now geom.now (map B.block values.now) (map B.bytes values.now) (tile_names geom.now) list.now }
-    requires each { All (IsPacket geom.now (layers_of stream.now geom.now.tile)) names.now }
-    requires few { first + length names.now ≤ 2 ^ 22 }
-    ensures { OnOk result (out.new.items ≡ out.old.items ++ bytes_from (own_packets marks stream.now geom.now (map B.block values.now)) first names.now) }
-{
-    for index in 0..names.len() {
-        let number = first + index;
-        put_packet(stream, geom, values, list, marks, names[index], number, out)?;
-    }
-    Ok(())
 }

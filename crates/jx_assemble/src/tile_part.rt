@@ -1,4 +1,4 @@
-//! One tile-part: its header and its packets (ITU-T T.800, A.4).
+//! One tile-part: its header, and which packets it has (ITU-T T.800, A.4).
 
 ghost use Rattle.std.specs.Prelude.{◌≡◌, ◌≤◌, ◌<◌, ◌+◌, ◌++◌, ◌^◌, List, length, map, Err, IfOk, OnOk, [], if◌then◌else◌};
 ghost use Rattle.std.specs.List.{All};
@@ -20,7 +20,7 @@ use crate::lengths::put_lengths;
 use crate::parts::Coded;
 use crate::segments::put_segments;
 use crate::sending::Sending;
-use crate::tile::{AssembleFault, lengths_of, put_packets};
+use crate::tile::{AssembleFault, lengths_of};
 use jx_base::NoMemory;
 use jx_geom::TileGeom;
 use jx_marker::{Segment, Sot, put_segment};
@@ -38,6 +38,19 @@ pub(crate) struct PartPlace {
     pub(crate) parts: u8,
     /// The number of its first packet in the tile.
     pub(crate) packet: usize,
+}
+
+/// A tile-part that is ready to be written.
+#[derive(Drop)]
+pub(crate) struct PartOut {
+    /// SOT, the header and SOD.
+    pub(crate) front: Vec<u8>,
+    /// The number of its first packet in the tile.
+    pub(crate) from: usize,
+    /// The number of the packet after its last.
+    pub(crate) end: usize,
+    /// How many bytes it has.
+    pub(crate) size: u32,
 }
 
 /// The segments of a tile's own header.
@@ -119,30 +132,23 @@ fn size_of(header: &[u8], lengths: &[u32]) -> u128
     14 + header.len() as u128 + sum_of(lengths)
 }
 
-/// A tile-part of so many bytes, in one buffer that is taken before a byte is copied.
-fn put_part<B: Coded>(
+/// What stands before the packets of a tile-part: SOT, the header's segments and SOD.
+fn front_bytes(
     alloc: Global,
     stream: &Stream,
-    geom: &TileGeom,
-    values: &[B],
-    list: &[Sending],
-    marks: Marks,
-    names: &[PacketName],
+    tile: u16,
     place: PartPlace,
     header: &[u8],
     size: u32,
 ) -> Result<Vec<u8>, NoMemory>
-    requires list { AreSendings stream.now geom.now (map B.block values.now) (map B.bytes values.now) (tile_names geom.now) list.now }
-    requires each { All (IsPacket geom.now (layers_of stream.now geom.now.tile)) names.now }
-    requires few { place.packet + length names.now ≤ 2 ^ 22 }
-    requires comps { length stream.now.siz.comps ≤ 16384 }
-    ensures { IfOk result (λ bytes. bytes.items ≡ spelling (length stream.now.siz.comps) (segment.Sot (record { tile = geom.now.tile; psot = size; part = place.part; parts = place.parts }))
-        ++ (header.now ++ (spelling (length stream.now.siz.comps) segment.Sod ++ bytes_from (own_packets marks stream.now geom.now (map B.block values.now)) place.packet names.now))) }
+    requires { length stream.now.siz.comps ≤ 16384 }
+    ensures { IfOk result (λ bytes. bytes.items ≡ spelling (length stream.now.siz.comps) (segment.Sot (record { tile = tile; psot = size; part = place.part; parts = place.parts }))
+        ++ (header.now ++ spelling (length stream.now.siz.comps) segment.Sod)) }
 {
     let comps = comps_of(&stream.siz);
-    let mut out = Vec::with_capacity(alloc, size as usize)?;
+    let mut out = Vec::with_capacity(alloc, header.len() + 14)?;
     let sot = Sot {
-        tile: geom.number(),
+        tile,
         psot: size,
         part: place.part,
         parts: place.parts,
@@ -150,13 +156,11 @@ fn put_part<B: Coded>(
     put_segment(&Segment::Sot(sot), comps, &mut out)?;
     out.extend_from_slice(header)?;
     put_segment(&Segment::Sod, comps, &mut out)?;
-    let first = place.packet;
-    put_packets(stream, geom, values, list, marks, names, first, &mut out)?;
     Ok(out)
 }
 
-/// The tile-part with these packets of a tile; `TooLong` exactly where it has more than `most` bytes.
-pub(crate) fn assemble_part<B: Coded>(
+/// The tile-part with these packets of a tile, but for the packets; `TooLong` exactly where it has more than `most` bytes with them.
+pub(crate) fn pack_part<B: Coded>(
     alloc: Global,
     stream: &Stream,
     geom: &TileGeom,
@@ -166,16 +170,19 @@ pub(crate) fn assemble_part<B: Coded>(
     names: &[PacketName],
     place: PartPlace,
     most: u32,
-) -> Result<Vec<u8>, AssembleFault>
+) -> Result<PartOut, AssembleFault>
     requires list { AreSendings stream.now geom.now (map B.block values.now) (map B.bytes values.now) (tile_names geom.now) list.now }
     requires each { All (IsPacket geom.now (layers_of stream.now geom.now.tile)) names.now }
     requires few { place.packet + length names.now ≤ 2 ^ 22 }
     requires comps { length stream.now.siz.comps ≤ 16384 }
     requires tile { geom.now.tile < length stream.now.tiles }
     requires header { All (InRange (length stream.now.siz.comps)) (header_of stream.now geom.now.tile) }
-    ensures value { IfOk result (λ bytes. bytes.items
+    ensures bytes { IfOk result (λ p. p.front.items ++ bytes_from (own_packets marks stream.now geom.now (map B.block values.now)) place.packet names.now
         ≡ part_bytes (length stream.now.siz.comps) (own_part marks stream.now geom.now (map B.block values.now) place.part place.parts place.packet names.now)) }
-    ensures short { IfOk result (λ bytes. (own_part marks stream.now geom.now (map B.block values.now) place.part place.parts place.packet names.now).sot.psot ≤ most) }
+    ensures size { IfOk result (λ p. p.size ≡ (own_part marks stream.now geom.now (map B.block values.now) place.part place.parts place.packet names.now).sot.psot) }
+    ensures first { IfOk result (λ p. p.from ≡ place.packet) }
+    ensures last { IfOk result (λ p. p.end ≡ place.packet + length names.now) }
+    ensures short { IfOk result (λ p. (own_part marks stream.now geom.now (map B.block values.now) place.part place.parts place.packet names.now).sot.psot ≤ most) }
     ensures long { result ≡ Err AssembleFault.TooLong
         → most < (own_part marks stream.now geom.now (map B.block values.now) place.part place.parts place.packet names.now).sot.psot }
 {
@@ -189,7 +196,11 @@ pub(crate) fn assemble_part<B: Coded>(
         return Err(AssembleFault::TooLong);
     }
     let size = size as u32;
-    Ok(put_part(
-        alloc, stream, geom, values, list, marks, names, place, &header, size,
-    )?)
+    let front = front_bytes(alloc, stream, geom.number(), place, &header, size)?;
+    Ok(PartOut {
+        front,
+        from: place.packet,
+        end: place.packet + names.len(),
+        size,
+    })
 }

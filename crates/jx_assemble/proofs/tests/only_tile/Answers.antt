@@ -14,5 +14,11 @@ bare_values-requires c =
 pub assemble_tile-requires-clause-values : goal.assemble_tile-requires-clause-values
 assemble_tile-requires-clause-values c =
     let P : List Entry → Type 0 = λ entries. AreValuesOf c.args.plan.now 0 (made_in entries) in
-    subst P (sym c.deref.ensures.value)
+    subst P (sym c.as_slice-entries.ensures.value)
+    (bare_values c.args.plan.now (made_in c.in-Ok.values.items) c.jobs.ensures.plan c.requires (c.in-Ok.ensures.jobs ∙ c.jobs.ensures.value) c.in-Ok.ensures.sound c.in-Ok.ensures.bare)
+
+pub put_tile-requires-clause-values : goal.put_tile-requires-clause-values
+put_tile-requires-clause-values c =
+    let P : List Entry → Type 0 = λ entries. AreValuesOf c.args.plan.now 0 (made_in entries) in
+    subst P (sym c.as_slice-entries.ensures.value)
     (bare_values c.args.plan.now (made_in c.in-Ok.values.items) c.jobs.ensures.plan c.requires (c.in-Ok.ensures.jobs ∙ c.jobs.ensures.value) c.in-Ok.ensures.sound c.in-Ok.ensures.bare)
