@@ -1,5 +1,5 @@
 -- The data of tile-parts: SOP, EPH and coded bytes (ITU-T T.800, A.8 and B.10).
-use Rattle.std.specs.Prelude.{ℕ, ◌+◌, ◌*◌, ◌%◌, ◌-◌, ◌==◌, ◌&&◌, ◌||◌, not, nat_lt, Bool, List, [], ◌∷◌, length, take, drop, sum_by, Option, None, Some, find, slice_index, if◌then◌else◌}
+use Rattle.std.specs.Prelude.{ℕ, ◌+◌, ◌*◌, ◌%◌, ◌-◌, ◌==◌, ◌&&◌, ◌||◌, not, nat_lt, Bool, List, [], ◌∷◌, length, take, drop, sum_by, Option, None, Some, find, is_some, slice_index, if◌then◌else◌}
 use Rattle.std.specs.List.{range_with_len}
 use Rattle.std.specs.Option.{option_or}
 use Rattle.jx_head.specs.declared.Part.{Part}
@@ -66,6 +66,10 @@ parts_length parts = sum_by (λ (p : Part). p.length) parts
 -- at this byte of a piece FF stands before a byte above 8F, or last (B.10.1)
 abbrev pub is_marked : List ℕ → ℕ → Bool
 is_marked bytes i = (slice_index bytes i == 255) && ((i + 1 == length bytes) || nat_lt 143 (slice_index bytes (i + 1)))
+
+-- one of the first n bytes is such a byte
+abbrev pub has_mark_below : List ℕ → ℕ → Bool
+has_mark_below bytes n = is_some (find (is_marked bytes) (range_with_len 0 n))
 
 -- the first such byte
 unfoldable pub first_mark : List ℕ → Option ℕ

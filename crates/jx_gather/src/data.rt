@@ -1,8 +1,8 @@
 //! SOP, EPH and the coded bytes of packets (ITU-T T.800, A.8 and B.10).
 
-ghost use Rattle.std.specs.Prelude.{◌≡◌, ◌≢◌, ◌≤◌, ◌<◌, ◌+◌, ◌^◌, length, IfErr, MatchOption};
+ghost use Rattle.std.specs.Prelude.{◌≡◌, ◌≢◌, ◌≤◌, ◌<◌, ◌+◌, ◌-◌, ◌^◌, length, IfErr, MatchOption};
 ghost use Rattle.jx_gather.specs.Faults.{Answers};
-ghost use Rattle.jx_gather.specs.Data.{begins_with, number_at, sop_fault, sop_length, eph_length, header_in, front_length, parts_length, is_marked, first_mark, marks_fault, body_fault};
+ghost use Rattle.jx_gather.specs.Data.{begins_with, number_at, sop_fault, sop_length, eph_length, header_in, front_length, parts_length, is_marked, has_mark_below, first_mark, marks_fault, body_fault};
 
 use crate::StreamFault;
 use jx_head::Part;
@@ -102,12 +102,34 @@ fn is_marked(bytes: &[u8], at: usize) -> bool
     bytes[at] == 255 && (at + 1 == bytes.len() || bytes[at + 1] > 143)
 }
 
-/// The first such place.
+/// Whether FF stands before a byte above 8F. Nothing ends the way through the bytes, so that the compiler takes many of them
+/// at once.
+fn has_pair(bytes: &[u8]) -> bool
+    ensures { result ≡ has_mark_below bytes.now (length bytes.now - 1) }
+{
+    let mut found = false;
+    for i in 1..bytes.len() {
+        found |= (bytes[i - 1] == 255) & (bytes[i] > 143);
+    }
+    found
+}
+
+/// Whether there is a marked place.
+fn has_mark(bytes: &[u8]) -> bool
+    ensures { result ≡ has_mark_below bytes.now (length bytes.now) }
+{
+    has_pair(bytes) || (bytes.len() > 0 && bytes[bytes.len() - 1] == 255)
+}
+
+/// The first marked place.
 #[tactic(auto, unfolding(crate::specs::Data::first_mark))]
 fn first_mark(bytes: &[u8]) -> Option<usize>
     ensures is { result ≡ first_mark bytes.now }
     ensures within { MatchOption result (Unit {0}) (λ i. i < length bytes.now) }
 {
+    if !has_mark(bytes) {
+        return None;
+    }
     for i in 0..bytes.len() {
         if is_marked(bytes, i) {
             return Some(i);

@@ -24,10 +24,14 @@ use jx_base::{Block, NoMemory};
 use jx_stream::{MainView, Stream};
 use std::alloc::Global;
 
-/// Moves the blocks of a tile behind those of the tiles before it.
+/// Moves the blocks of a tile behind those of the tiles before it. Those of the first tile aren't copied.
 fn append<'a>(blocks: &mut Vec<Block<'a>>, mut next: Vec<Block<'a>>) -> Result<(), NoMemory>
     ensures { OnOk result (blocks.new.items ≡ blocks.old.items ++ next.entry.items) }
 {
+    if blocks.is_empty() {
+        *blocks = next;
+        return Ok(());
+    }
     Ok(blocks.append(&mut next)?)
 }
 

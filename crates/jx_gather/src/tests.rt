@@ -178,6 +178,38 @@ fn one_block(rt: HostRuntime) -> Result<(), Fail> {
     Ok(())
 }
 
+// FF at each place of 45 coded bytes, before 8F and before 90: the last byte may not be FF at all.
+#[test]
+fn marks_at_each_place(rt: HostRuntime) -> Result<(), Fail> {
+    let alloc = rt.alloc();
+    for (next, allowed) in [(0x8Fu8, 44u32), (0x90, 0)] {
+        for place in 0..45u32 {
+            let mut file = edited(alloc, 71, 80, "0000003E 00 01 FF93 C02EB4")?;
+            file.truncate(82);
+            for at in 0..45u32 {
+                let byte = match at.wrapping_sub(place) {
+                    0 => 255,
+                    1 => next,
+                    _ => 1,
+                };
+                file.push(byte)?;
+            }
+            push_hex(EOC, &mut file)?;
+            let want = if place < allowed {
+                (0, 0)
+            } else {
+                (30, 82 + u128::from(place))
+            };
+            let said = match blocks_of(alloc, &file)? {
+                Ok(_) => (0, 0),
+                Err(said) => said,
+            };
+            assert_eq!(rt; said, want, "FF at {place} before {next}");
+        }
+    }
+    Ok(())
+}
+
 // Three layers over four tile-parts, of which the third is empty: a packet in each of the others.
 const PARTS: &str = "
 FF90 000A 0000 0000000F 00 00 FF93 00 FF90 000A 0000 00000011 01 00 FF93 A0 21 03
