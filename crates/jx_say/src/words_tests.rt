@@ -28,7 +28,14 @@ fn help_is_said(rt: HostRuntime) -> Result<(), Fail> {
     let alloc = rt.alloc();
     assert!(rt; says(alloc, Refusal::Words, "jx", "Commands:")?);
     assert!(rt; says(alloc, Refusal::Words, "out/jx_tool", "Usage: jx <COMMAND>")?);
-    assert!(rt; says(alloc, Refusal::Words, "out/jx_tool make --help", "Usage: jx make")?);
+    assert!(rt;
+        says(
+            alloc,
+            Refusal::Words,
+            "out/jx_tool make --help",
+            "Usage: jx make"
+        )?
+    );
     assert!(rt; says(alloc, Refusal::Words, "jx --help", "Commands:")?);
     assert!(rt;
         says(
