@@ -4,7 +4,6 @@ use Rattle.std.specs.List.{concat, flat_map}
 use Rattle.std.proofs.lemmas.Bool.{cases_eq}
 use Rattle.std.proofs.lemmas.Bool.Decides.{nat_tests}
 use Rattle.std.proofs.lemmas.Grind.{flat_map-append}
-use Rattle.std.proofs.lemmas.List.{map-append}
 use Rattle.std.proofs.lemmas.List.Concat.{concat_is}
 use Rattle.std.proofs.lemmas.List.Elements.{All-cons, All-head, All-tail}
 use Rattle.std.proofs.lemmas.List.Folds.{concat-append, flat_map-map}
@@ -31,6 +30,7 @@ use Rattle.jx_plan.specs.Wanted.{Wanted, marks_of}
 use Rattle.jx_assemble.specs.Ready.{AreShort}
 use Rattle.jx_assemble.specs.Tile.{AreAtMost, IsTile, blocks_in, first_block, main_bytes}
 use Rattle.jx_assemble.specs.TileParts.{AreTilePartsOf, tile_parts}
+use Rattle.jx_recast.specs.MadeRounds.{parts_of}
 use Rattle.jx_recast.specs.Rounds.{BeginsRound, IsInRound, IsRightTile, IsShortFront, IsSpoiledFrom, IsUnmade, IsUnmadeTile, LeadOn, blocks_of, most_of_part, with_parts}
 use Rattle.jx_recast.specs.declared.halt.Halt.{Halt}
 use Rattle.jx_recast.specs.declared.halt.Halt.TheVariants as halt
@@ -107,17 +107,18 @@ tile_leads p t pieces right tile bytes front =
 pub lead_none : (p : Plan) (t : ℕ) → LeadOn p t t []
 lead_none p t bytes front = subst (IsShortFront p t) (sym (append-nil bytes)) front
 
-pub lead_next : (p : Plan) (from t next : ℕ) (pieces more : List (List ℕ)) → LeadOn p from t pieces → LeadOn p t next more → LeadOn p from next (pieces ++ more)
+lead_next : (p : Plan) (from t next : ℕ) (pieces more : List (List ℕ)) → LeadOn p from t pieces → LeadOn p t next more → LeadOn p from next (pieces ++ more)
 lead_next p from t next pieces more first later bytes front =
     let both : bytes ++ concat (pieces ++ more) ≡ (bytes ++ concat pieces) ++ concat more =
     ap (λ (b : List ℕ). bytes ++ b) (concat-append pieces more) ∙ sym (append_assoc bytes (concat pieces) (concat more)) in
     subst (IsShortFront p next) (sym both) (later (bytes ++ concat pieces) (first bytes front))
 
-pub lead_more : {X : Type 0} (p : Plan) (from t next : ℕ) (f : X → List ℕ) (pieces more all : List X) → all ≡ pieces ++ more → LeadOn p from t (map f pieces) → LeadOn p t next (map f more)
-    → LeadOn p from next (map f all)
-lead_more {X} p from t next f pieces more all is first later =
-    let both : map f all ≡ map f pieces ++ map f more = ap (map f) is ∙ map-append f pieces more in
-    subst (λ (ps : List (List ℕ)). LeadOn p from next ps) (sym both) (lead_next p from t next (map f pieces) (map f more) first later)
+pub lead_tile : (p : Plan) (from t next : ℕ) (tiles : List (List (List (List ℕ)))) (tile : List (List (List ℕ))) (all : List (List (List (List ℕ)))) → all ≡ tiles ++ tile ∷ []
+    → LeadOn p from t (parts_of tiles) → LeadOn p t next (map concat tile) → LeadOn p from next (parts_of all)
+lead_tile p from t next tiles tile all is first later =
+    let both : parts_of all ≡ parts_of tiles ++ map concat tile =
+    ap parts_of is ∙ flat_map-append (map concat) tiles (tile ∷ []) ∙ ap (λ (parts : List (List ℕ)). parts_of tiles ++ parts) (append-nil (map concat tile)) in
+    subst (LeadOn p from next) (sym both) (lead_next p from t next (parts_of tiles) (map concat tile) first later)
 
 -- ---- rounds
 pub round_none : (p : Plan) → BeginsRound p 0

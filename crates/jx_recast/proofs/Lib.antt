@@ -6,6 +6,7 @@ pub mod TapedLemmas
 pub mod FrontLemmas
 pub mod ExtentLemmas
 pub mod WriteLemmas
+pub mod PartLemmas
 pub mod AnswerLemmas
 pub mod RefusedLemmas
 pub mod OutcomeLemmas

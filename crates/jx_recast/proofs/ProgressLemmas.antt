@@ -1,8 +1,7 @@
 -- Calls one after another.
-use Rattle.std.proofs.Common.{◌+◌, ◌∷◌, map, suc, slice_index_or, ◌≡◌, ◌≤◌, ◌<◌, ℕ, List, [], ◌++◌, length, take, drop, Option, Some, None, refl, ap, sym, ◌∙◌, append_assoc, append-nil, arith, IfSome, inl, inr}
+use Rattle.std.proofs.Common.{◌≡◌, ◌≤◌, ◌<◌, ℕ, List, [], ◌++◌, length, take, drop, Option, Some, None, refl, ap, sym, ◌∙◌, append_assoc, append-nil, arith, IfSome, inl, inr}
 use Rattle.std.proofs.lemmas.List.{take-append-drop, take_all}
-use Rattle.std.proofs.Math.Seq.{drop-cons, take-append_seam}
-use Rattle.std.specs.List.{concat}
+use Rattle.std.proofs.Math.Seq.{take-append_seam}
 use Rattle.std.specs.Option.{option_map}
 use Rattle.jx_outside.specs.Device.{Named, Meaning, appended, after_write, Takes}
 use Rattle.jx_recast.specs.Progress.{HasRead, HasWritten, SomeFront}
@@ -99,13 +98,9 @@ both_written old now new bytes first later cut wrote wrote_later =
 pub all_front : (old new : Meaning) (bytes : List ℕ) → new ≡ after_write bytes old → SomeFront old new bytes
 all_front old new bytes wrote = ([], record { front = bytes; whole = simp append-nil refl; meaning = wrote })
 
--- pieces, one after another
-pub pieces_cut : {X : Type 0} (f : X → List ℕ) (xs : List X) (i : ℕ) (x : X) → i < length xs → x ≡ slice_index_or xs i x
-    → concat (map f (drop i xs)) ≡ f x ++ concat (map f (drop (i + 1) xs))
-pieces_cut {X} f xs i x lt is =
-    let first : drop i xs ≡ slice_index_or xs i x ∷ drop (suc i) xs = drop-cons xs i x lt in
-    let next : suc i ≡ i + 1 = omega arith in
-    ap (λ (ys : List X). concat (map f ys)) first ∙ ap (λ (y : X). f y ++ concat (map f (drop (suc i) xs))) (sym is) ∙ ap (λ (k : ℕ). f x ++ concat (map f (drop k xs))) next
+-- nothing is a front
+pub no_front : (m : Meaning) (bytes : List ℕ) → SomeFront m m bytes
+no_front m bytes = (bytes, has_written_none m bytes)
 
 -- a front of the next piece
 pub front_after : (old now new : Meaning) (bytes rest piece rest' : List ℕ) → HasWritten old now bytes rest → rest ≡ piece ++ rest' → SomeFront now new piece → SomeFront old new bytes

@@ -18,10 +18,7 @@ use Rattle.jx_words.specs.Words.{Text}
 use Rattle.jx_recast.specs.declared.halt.Halt.{Halt}
 use Rattle.jx_recast.specs.declared.halt.Halt.TheVariants as halt
 use Rattle.jx_recast.proofs.FrontLemmas.{front_none, round_none}
-use Rattle.jx_recast.proofs.ProgressLemmas.{all_front, both_written, front_of_later, has_written_none, nothing_written}
-
-none_of : (m : Meaning) (bytes : List ℕ) → SomeFront m m bytes
-none_of m bytes = (bytes, has_written_none m bytes)
+use Rattle.jx_recast.proofs.ProgressLemmas.{all_front, both_written, front_of_later, no_front, nothing_written}
 
 pub untouched : (m : Meaning) → IsUntouched m m
 untouched m = record { holds = λ name. refl; making = refl; written = refl }
@@ -35,7 +32,7 @@ leads_then p a b c more later first next bytes front = subst (IsShortFront p c) 
 
 -- ---- one round
 pub cut_none : (p : Plan) (start : ℕ) (m : Meaning) → start < tile_number p.stream.siz → BeginsRound p start → IsCutAfter p start m m
-cut_none p start m inside begins = record { more = []; next = start; lead = leads_none p start; inside = omega arith; ends = inl begins; some = none_of m [] }
+cut_none p start m inside begins = record { more = []; next = start; lead = leads_none p start; inside = omega arith; ends = inl begins; some = no_front m [] }
 
 pub unmade_unwritten : (p : Plan) (start : ℕ) (h : Halt) (m : Meaning) → start < tile_number p.stream.siz → BeginsRound p start → IsUnmade p start h → IsUnwritten p start h m m
 unmade_unwritten p start (halt.Bad tile number) m inside begins spoiled = record { more = []; from = start; lead = leads_none p start; meaning = nothing_written m; spoiled = spoiled }

@@ -1,6 +1,6 @@
 -- Inner: a round as it is made: what is made of its code-blocks, and of which of its tiles they are.
 use Rattle.std.specs.Prelude.{◌≡◌, ◌⊎◌, ◌<◌, ◌≤◌, ◌+◌, ◌-◌, ◌^◌, ℕ, false, List, ◌++◌, drop, is_some, length, map, take, Some, slice_get}
-use Rattle.std.specs.List.{All, list_any, sum}
+use Rattle.std.specs.List.{All, concat, flat_map, list_any, sum}
 use Rattle.jx_block.specs.declared.job.Job.{Job}
 use Rattle.jx_block.specs.Recoded.{WrittenBlock}
 use Rattle.jx_store.specs.declared.event.Taped.{Taped}
@@ -62,6 +62,10 @@ pub record IsExtent (p : Plan) (tile : ℕ) (counts : List ℕ) (blocks : ℕ) :
   pub of : AreOfRound p tile counts blocks
   pub some : 0 < length counts
   pub ends : EndsRound p (tile + length counts)
+
+-- the tile-parts of some tiles, each of them made of pieces
+abbrev pub parts_of : List (List (List (List ℕ))) → List (List ℕ)
+parts_of tiles = flat_map (map concat) tiles
 
 -- what the tape says of a block
 abbrev pub entry_of : Taped (Named WrittenBlock) → TapeEntry

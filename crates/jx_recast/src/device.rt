@@ -1,5 +1,4 @@
-ghost use Rattle.std.specs.Prelude.{◌≡◌, ◌+◌, ◌<◌, ◌≤◌, ℕ, List, [], Option, Err, length, take, map, vec_len, IfOk, OnErr, OnOk, IfSome, IsTrue};
-ghost use Rattle.std.specs.List.{concat};
+ghost use Rattle.std.specs.Prelude.{◌≡◌, ◌+◌, ◌<◌, ◌≤◌, ℕ, List, [], Option, Err, length, take, vec_len, IfOk, OnErr, OnOk, IfSome, IsTrue};
 ghost use Rattle.jx_outside.specs.Causes.{HasCause};
 ghost use Rattle.jx_outside.specs.Device.{Allows, after_write};
 ghost use Rattle.jx_recast.specs.Progress.{HasRead, SameButLeft, SomeFront};
@@ -138,29 +137,4 @@ pub fn write_all<F: Files>(files: &mut F, bytes: &[u8]) -> Result<(), Refused>
         rest = &rest[count..];
     }
     Ok(())
-}
-
-/// Writes pieces one after another; after an error, a front of their bytes.
-pub fn write_pieces<F: Files>(files: &mut F, pieces: &[Vec<u8>]) -> Result<(), Refused>
-    requires { IsTrue (F.meaning files.old).making }
-    ensures ok { OnOk result (F.meaning files.new ≡ after_write (concat (map (λ v. v.items) pieces.now)) (F.meaning files.old)) }
-    ensures front { SomeFront (F.meaning files.old) (F.meaning files.new) (concat (map (λ v. v.items) pieces.now)) }
-    ensures cause { HasCause (F.write_faults files.old) (F.write_faults files.new) result }
-    ensures other { F.read_faults files.new ≡ F.read_faults files.old }
-{
-    for piece in pieces {
-        write_all(files, piece)?;
-    }
-    Ok(())
-}
-
-/// How many bytes these are with the bytes of pieces; none where no number has so many.
-pub fn count_bytes(before: usize, pieces: &[Vec<u8>]) -> Option<usize>
-    ensures { IfSome result (λ count. count ≡ before + length (concat (map (λ v. v.items) pieces.now))) }
-{
-    let mut count = before;
-    for piece in pieces {
-        count = count.checked_add(piece.len())?;
-    }
-    Some(count)
 }

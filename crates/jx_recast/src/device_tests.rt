@@ -88,8 +88,13 @@ fn each_other_call_fails(rt: HostRuntime) -> Result<(), Fail> {
     Ok(())
 }
 
-// The smallest codestream with 257 components, and this segment before SOT.
-fn wide(rt: &impl AllocGlobal, segment: &[u8]) -> Result<Vec<u8>, Fail> {
+// The smallest codestream with 257 components, this segment before SOT, and these packets in a tile-part of so many bytes.
+fn wide_with(
+    rt: &impl AllocGlobal,
+    segment: &[u8],
+    psot: u32,
+    packets: &[u8],
+) -> Result<Vec<u8>, Fail> {
     let mut bytes = SMALL[..4].to_vec(rt.alloc())?;
     bytes.extend_from_slice(&[3, 0x29])?;
     bytes.extend_from_slice(&SMALL[6..40])?;
@@ -99,12 +104,62 @@ fn wide(rt: &impl AllocGlobal, segment: &[u8]) -> Result<Vec<u8>, Fail> {
     }
     bytes.extend_from_slice(&SMALL[45..65])?;
     bytes.extend_from_slice(segment)?;
-    bytes.extend_from_slice(&[0xFF, 0x90, 0, 10, 0, 0, 0, 0, 1, 15, 0, 1, 0xFF, 0x93])?;
-    for _ in 0..257 {
-        bytes.push(0)?;
-    }
+    bytes.extend_from_slice(&[0xFF, 0x90, 0, 10, 0, 0])?;
+    bytes.extend_from_slice(&psot.to_be_bytes())?;
+    bytes.extend_from_slice(&[0, 1, 0xFF, 0x93])?;
+    bytes.extend_from_slice(packets)?;
     bytes.extend_from_slice(&[0xFF, 0xD9])?;
     Ok(bytes)
+}
+
+// The same with empty packets.
+fn wide(rt: &impl AllocGlobal, segment: &[u8]) -> Result<Vec<u8>, Fail> {
+    wide_with(rt, segment, 271, &[0; 257])
+}
+
+// The same with a packet of 803 bytes for each component: its header, and 800 bytes of one coding pass.
+fn heavy(rt: &impl AllocGlobal) -> Result<Vec<u8>, Fail> {
+    let mut packets = Vec::new(rt.alloc());
+    for number in 0..257_u16 {
+        packets.extend_from_slice(&[0xEF, 0xEC, 0x80])?;
+        for _ in 0..400_u32 {
+            packets.extend_from_slice(&number.to_be_bytes())?;
+        }
+    }
+    wide_with(rt, &[], 206_385, &packets)
+}
+
+// A tile-part of 206,385 bytes comes in four writes; where one fails, those before it were made.
+#[test]
+fn each_write_of_a_long_tile_part_fails(rt: HostRuntime) -> Result<(), Fail> {
+    let alloc = rt.alloc();
+    let bytes = heavy(&rt)?;
+    rewrites(
+        &rt,
+        &PLAIN,
+        &bytes,
+        &bytes,
+        "done: 257 blocks, 207220 bytes\n",
+    )?;
+    for (nth, left, taped) in [
+        (1, 0, 0),
+        (2, 833, 0),
+        (3, 66_693, 0),
+        (4, 132_539, 0),
+        (5, 198_385, 0),
+        (6, 207_218, 257),
+    ] {
+        let mut files = holding(alloc, &bytes)?;
+        let mut say = MemSink::new(alloc);
+        files.fail(Call::Write, nth)?;
+        let report = run_words(&rt, alloc, &PLAIN, &mut files, &mut say)?;
+        assert_eq!(rt; report.status, Status::WriteFault, "at {nth}");
+        assert_eq!(rt; report.tape.len(), taped, "at {nth}");
+        let (_, front) = files.made().ok_or("nothing made")?;
+        assert_eq!(rt; front.len(), left, "at {nth}");
+        assert!(rt; bytes.starts_with(front));
+    }
+    Ok(())
 }
 
 #[test]

@@ -14,11 +14,11 @@ ghost use Rattle.jx_recast.specs.Rounds.{BeginsRound, EndsRound, HasFront, HasRo
 ghost use Rattle.jx_recast.specs.Tapes.{IsTapeOf};
 
 use crate::TapeEntry;
+use crate::buffer::{ENOUGH, count_bytes, put, put_tiles};
 use crate::crew::Crew;
-use crate::device::{count_bytes, write_all, write_pieces};
 use crate::halt::{Halt, halt_of};
 use crate::making::Making;
-use crate::rounds::made_round;
+use crate::rounds::{made_round, packed_tiles, taped};
 use jx_assemble::{main_header, main_view};
 use jx_outside::{Files, Gate};
 use jx_plan::OutStream;
@@ -34,40 +34,6 @@ pub struct Mark {
     pub tile: u16,
     pub block: u32,
     pub bytes: usize,
-}
-
-/// Writes a round's tile-parts; after an error, a front of them.
-#[tactic(auto, using(crate::proofs::WriteLemmas::halt_fault))]
-fn put_pieces<F: Files>(files: &mut F, pieces: &[Vec<u8>]) -> Result<(), Halt>
-    requires { IsTrue (F.meaning files.old).making }
-    ensures ok { OnOk result (F.meaning files.new ≡ after_write (concat (map (λ v. v.items) pieces.now)) (F.meaning files.old)) }
-    ensures front { SomeFront (F.meaning files.old) (F.meaning files.new) (concat (map (λ v. v.items) pieces.now)) }
-    ensures fault { IfErr result (λ h. IsFault h) }
-    ensures cause { IsErrOf result Halt.Failed → Rose (F.write_faults files.old) (F.write_faults files.new) }
-    ensures same { OnOk result (F.write_faults files.new ≡ F.write_faults files.old) }
-    ensures other { F.read_faults files.new ≡ F.read_faults files.old }
-{
-    match write_pieces(files, pieces) {
-        Ok(()) => Ok(()),
-        Err(refused) => Err(halt_of(refused)),
-    }
-}
-
-/// Writes one piece; after an error, a front of it.
-#[tactic(auto, using(crate::proofs::WriteLemmas::halt_fault))]
-fn put<F: Files>(files: &mut F, bytes: &[u8]) -> Result<(), Halt>
-    requires { IsTrue (F.meaning files.old).making }
-    ensures ok { OnOk result (F.meaning files.new ≡ after_write bytes.now (F.meaning files.old)) }
-    ensures front { SomeFront (F.meaning files.old) (F.meaning files.new) bytes.now }
-    ensures fault { IfErr result (λ h. IsFault h) }
-    ensures cause { IsErrOf result Halt.Failed → Rose (F.write_faults files.old) (F.write_faults files.new) }
-    ensures same { OnOk result (F.write_faults files.new ≡ F.write_faults files.old) }
-    ensures other { F.read_faults files.new ≡ F.read_faults files.old }
-{
-    match write_all(files, bytes) {
-        Ok(()) => Ok(()),
-        Err(refused) => Err(halt_of(refused)),
-    }
 }
 
 /// Puts a round's entries behind those of the rounds before it.
@@ -89,6 +55,7 @@ fn write_round<R: Threads + Wait + Sync, G: Gate + Sync, F: Files>(
     making: &Making<'_, '_>,
     mark: Mark,
     tape: &mut Vec<TapeEntry>,
+    buffer: &mut Vec<u8>,
 ) -> Result<Mark, Halt>
     requires making { IsTrue (F.meaning files.old).making }
     requires tile { mark.tile < tile_number making.now.stream.siz }
@@ -96,34 +63,42 @@ fn write_round<R: Threads + Wait + Sync, G: Gate + Sync, F: Files>(
     requires begins { BeginsRound making.now mark.tile }
     requires work { MayBeWork crew.now.work }
     requires tape { HasTape making.now crew.now.work mark.block tape.old.items }
+    requires buffer { buffer.old.items ≡ [] }
     ensures ok { IfOk result (λ next. HasRounds making.now mark.tile next.tile mark.bytes next.bytes (F.meaning files.old) (F.meaning files.new)) }
     ensures later { IfOk result (λ next. mark.tile < next.tile) }
     ensures place { IfOk result (λ next. IsPlace making.now next.tile next.block) }
     ensures ends { IfOk result (λ next. EndsRound making.now next.tile) }
     ensures tape { IfOk result (λ next. HasTape making.now crew.now.work next.block tape.new.items) }
     ensures kept { OnErr result (tape.new.items ≡ tape.old.items) }
+    ensures buffer { OnOk result (buffer.new.items ≡ []) }
     ensures err { IfErr result (λ h. IsUnwritten making.now mark.tile h (F.meaning files.old) (F.meaning files.new)) }
     ensures cause { IsErrOf result Halt.Failed → Rose (F.write_faults files.old) (F.write_faults files.new) }
     ensures same { OnOk result (F.write_faults files.new ≡ F.write_faults files.old) }
     ensures making { OnOk result (IsTrue (F.meaning files.new).making) }
     ensures other { F.read_faults files.new ≡ F.read_faults files.old }
 {
-    let round = match made_round(crew, alloc, making, mark.tile, mark.block) {
-        Ok(round) => round,
+    let Ok(round) = made_round(crew, alloc, making, mark.tile, mark.block) else {
+        return Err(Halt::NoMemory);
+    };
+    let tiles = match packed_tiles(alloc, making, mark.tile, &round.extent, &round.entries) {
+        Ok(tiles) => tiles,
         Err(halt) => return Err(halt),
     };
-    let Some(bytes) = count_bytes(mark.bytes, &round.pieces) else {
+    let Some(bytes) = count_bytes(mark.bytes, &tiles) else {
         return Err(Halt::NoMemory);
     };
-    if tape.reserve(round.tape.len()).is_err() {
+    let Ok(entries) = taped(alloc, &round.entries) else {
+        return Err(Halt::NoMemory);
+    };
+    if tape.reserve(entries.len()).is_err() {
         return Err(Halt::NoMemory);
     }
-    match put_pieces(files, &round.pieces) {
+    match put_tiles(files, &tiles, buffer) {
         Ok(()) => {
-            put_entries(tape, &round.tape);
+            put_entries(tape, &entries);
             Ok(Mark {
-                tile: round.tile,
-                block: round.block,
+                tile: round.extent.tile,
+                block: round.extent.block,
                 bytes,
             })
         }
@@ -140,10 +115,12 @@ fn write_tiles<R: Threads + Wait + Sync, G: Gate + Sync, F: Files>(
     making: &Making<'_, '_>,
     header: usize,
     tape: &mut Vec<TapeEntry>,
+    buffer: &mut Vec<u8>,
 ) -> Result<usize, Halt>
     requires making { IsTrue (F.meaning files.old).making }
     requires work { MayBeWork crew.now.work }
     requires empty { tape.old.items ≡ [] }
+    requires buffer { buffer.old.items ≡ [] }
     ensures ok { IfOk result (λ bytes. HasRounds making.now 0 (tile_number making.now.stream.siz) header bytes (F.meaning files.old) (F.meaning files.new)) }
     ensures err { IfErr result (λ h. IsUnwritten making.now 0 h (F.meaning files.old) (F.meaning files.new)) }
     ensures tape { IsTapeOf crew.now.work making.now.blocks tape.new.items }
@@ -160,7 +137,7 @@ fn write_tiles<R: Threads + Wait + Sync, G: Gate + Sync, F: Files>(
         bytes: header,
     };
     while mark.tile < tiles {
-        mark = match write_round(crew, alloc, files, making, mark, tape) {
+        mark = match write_round(crew, alloc, files, making, mark, tape, buffer) {
             Ok(next) => next,
             Err(halt) => return Err(halt),
         };
@@ -177,11 +154,13 @@ fn write_rounds<R: Threads + Wait + Sync, G: Gate + Sync, F: Files>(
     making: &Making<'_, '_>,
     header: &[u8],
     tape: &mut Vec<TapeEntry>,
+    buffer: &mut Vec<u8>,
 ) -> Result<usize, Halt>
     requires making { IsTrue (F.meaning files.old).making }
     requires header { header.now ≡ main_bytes (headers_of making.now) }
     requires work { MayBeWork crew.now.work }
     requires empty { tape.old.items ≡ [] }
+    requires buffer { buffer.old.items ≡ [] }
     ensures ok { IfOk result (λ bytes. HasFront making.now (tile_number making.now.stream.siz) bytes (F.meaning files.old) (F.meaning files.new)) }
     ensures err { IfErr result (λ h. IsHalted making.now h (F.meaning files.old) (F.meaning files.new)) }
     ensures tape { IsTapeOf crew.now.work making.now.blocks tape.new.items }
@@ -192,7 +171,7 @@ fn write_rounds<R: Threads + Wait + Sync, G: Gate + Sync, F: Files>(
     ensures other { F.read_faults files.new ≡ F.read_faults files.old }
 {
     match put(files, header) {
-        Ok(()) => write_tiles(crew, alloc, files, making, header.len(), tape),
+        Ok(()) => write_tiles(crew, alloc, files, making, header.len(), tape, buffer),
         Err(halt) => Err(halt),
     }
 }
@@ -227,11 +206,13 @@ fn write_created<R: Threads + Wait + Sync, G: Gate + Sync, F: Files>(
     making: &Making<'_, '_>,
     header: &[u8],
     tape: &mut Vec<TapeEntry>,
+    buffer: &mut Vec<u8>,
 ) -> Result<usize, Halt>
     requires making { IsTrue (F.meaning files.old).making }
     requires header { header.now ≡ main_bytes (headers_of making.now) }
     requires work { MayBeWork crew.now.work }
     requires empty { tape.old.items ≡ [] }
+    requires buffer { buffer.old.items ≡ [] }
     ensures ok { IfOk result (λ bytes. HasWhole making.now bytes (F.meaning files.old) (F.meaning files.new)) }
     ensures err { IfErr result (λ h. IsHalted making.now h (F.meaning files.old) (F.meaning files.new)) }
     ensures tape { IsTapeOf crew.now.work making.now.blocks tape.new.items }
@@ -239,7 +220,7 @@ fn write_created<R: Threads + Wait + Sync, G: Gate + Sync, F: Files>(
     ensures cause { IsErrOf result Halt.Failed → Rose (F.write_faults files.old) (F.write_faults files.new) }
     ensures other { F.read_faults files.new ≡ F.read_faults files.old }
 {
-    match write_rounds(crew, alloc, files, making, header, tape) {
+    match write_rounds(crew, alloc, files, making, header, tape, buffer) {
         Ok(before) => write_end(files, before),
         Err(halt) => Err(halt),
     }
@@ -248,8 +229,8 @@ fn write_created<R: Threads + Wait + Sync, G: Gate + Sync, F: Files>(
 /// Writes the file of a plan under a name, and gives how many bytes it has. `tape` gets the entries of each round's code-blocks once the
 /// round is written.
 ///
-/// The main header, each tile-part and EOC are one piece each; the code-blocks and the tile-parts of a round are made before the first of
-/// these is written. After an `Err` nothing was created, or what was written is a front of the file; after `Bad` and `TooLong` it is just
+/// The main header, each tile-part and EOC begin with a write of their own, and a tile-part of 65,536 bytes or more may come in several.
+/// The code-blocks of a round are made, and its tile-parts are packed, before a byte of it is written. After an `Err` nothing was created, or what was written is a front of the file; after `Bad` and `TooLong` it is just
 /// the main header and the rounds before that of the tile.
 #[tactic(auto, using(crate::proofs::WriteLemmas::file_made, crate::proofs::WriteLemmas::file_halted, crate::proofs::WriteLemmas::file_uncreated, crate::proofs::WriteLemmas::halt_fault, crate::proofs::TapedLemmas::tape_none))]
 pub fn write_file<R: Threads + Wait + Sync, G: Gate + Sync, F: Files>(
@@ -277,9 +258,12 @@ pub fn write_file<R: Threads + Wait + Sync, G: Gate + Sync, F: Files>(
     let Ok(written) = main_view(alloc, plan) else {
         return Err(Halt::NoMemory);
     };
+    let Ok(mut buffer) = Vec::with_capacity(alloc, ENOUGH) else {
+        return Err(Halt::NoMemory);
+    };
     let making = Making::new(plan, &written);
     match files.create(to) {
-        Ok(()) => write_created(crew, alloc, files, &making, &header, tape),
+        Ok(()) => write_created(crew, alloc, files, &making, &header, tape, &mut buffer),
         Err(refused) => Err(halt_of(refused)),
     }
 }

@@ -2,6 +2,7 @@
 //! bytes written, the line said and the status.
 #![tactic(auto)]
 
+mod buffer;
 mod crew;
 mod device;
 mod file;

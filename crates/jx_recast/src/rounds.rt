@@ -4,14 +4,15 @@ ghost use Rattle.std.specs.Prelude.{◌≡◌, ◌<◌, ◌≤◌, ◌+◌, ◌^
 ghost use Rattle.jx_stream.specs.First.{tile_number};
 ghost use Rattle.jx_assemble.specs.Tile.{first_block};
 ghost use Rattle.jx_words.specs.Words.{MayBeWork};
-ghost use Rattle.jx_recast.specs.MadeRounds.{AreOfBlocks, IsExtent, TapesOn, entry_of};
+ghost use Rattle.jx_recast.specs.MadeRounds.{AreOfBlocks, IsExtent, TapesOn, entry_of, parts_of};
 ghost use Rattle.jx_recast.specs.Rounds.{BeginsRound, EndsRound, IsPlace, IsUnmade, LeadOn};
 
 use crate::TapeEntry;
 use crate::crew::{Crew, made_blocks};
 use crate::halt::Halt;
 use crate::making::Making;
-use crate::tile::made_tile;
+use crate::tile::packed_tile;
+use jx_assemble::TileOut;
 use jx_base::NoMemory;
 use jx_block::Recoded;
 use jx_outside::Gate;
@@ -31,20 +32,18 @@ struct Counts {
 
 /// How many code-blocks each tile of a round has, and all of them; the tile after it, and the number of that tile's first code-block.
 #[derive(Drop)]
-struct Extent {
-    counts: Vec<u32>,
-    blocks: u32,
-    tile: u16,
-    block: u32,
-}
-
-/// The tile-parts of a round, the entries of its code-blocks, the tile after it, and the number of that tile's first code-block.
-#[derive(Drop)]
-pub struct Round {
-    pub pieces: Vec<Vec<u8>>,
-    pub tape: Vec<TapeEntry>,
+pub struct Extent {
+    pub counts: Vec<u32>,
+    pub blocks: u32,
     pub tile: u16,
     pub block: u32,
+}
+
+/// A round as it is made: its tiles, and the entries of its code-blocks.
+#[derive(Drop)]
+pub struct Round<'a> {
+    pub extent: Extent,
+    pub entries: Vec<Entry<Recoded<'a>>>,
 }
 
 /// The code-blocks of the round that begins at a tile.
@@ -112,39 +111,39 @@ fn round_blocks<'a, R: Threads + Wait + Sync, G: Gate + Sync>(
     Ok(entries)
 }
 
-/// The tile-parts of the tiles of a round that begins at a tile, of whose code-blocks these are the entries.
-fn made_tiles(
+/// The tiles of a round that begins at a tile, of whose code-blocks these are the entries: each is ready to be written.
+pub fn packed_tiles<'a, 'b>(
     alloc: Global,
-    making: &Making<'_, '_>,
+    making: &Making<'a, '_>,
     tile: u16,
     extent: &Extent,
-    entries: &[Entry<Recoded<'_>>],
-) -> Result<Vec<Vec<u8>>, Halt>
+    entries: &'a [Entry<Recoded<'b>>],
+) -> Result<Vec<TileOut<'a, 'b>>, Halt>
     requires extent { IsExtent making.now tile extent.now.counts.items extent.now.blocks }
     requires tile { extent.now.tile ≡ tile + length extent.now.counts.items }
     requires few { extent.now.blocks ≤ 2 ^ 20 }
     requires entries { AreOfBlocks making.now (first_block making.now tile) extent.now.blocks entries.now }
-    ensures pieces { IfOk result (λ pieces. LeadOn making.now tile extent.now.tile (map (λ v. v.items) pieces.items)) }
+    ensures parts { IfOk result (λ tiles. LeadOn making.now tile extent.now.tile (parts_of tiles.items)) }
     ensures unmade { IfErr result (λ h. IsUnmade making.now tile h) }
 {
-    let mut pieces = Vec::new(alloc);
+    let mut tiles = Vec::new(alloc);
     let mut from = 0;
     for at in tile..extent.tile {
         let to = from + extent.counts[(at - tile) as usize] as usize;
-        let mut parts = match made_tile(alloc, making, at, &entries[from..to]) {
-            Ok(parts) => parts,
+        let out = match packed_tile(alloc, making, at, &entries[from..to]) {
+            Ok(out) => out,
             Err(halt) => return Err(halt),
         };
-        if pieces.append(&mut parts).is_err() {
+        if tiles.push(out).is_err() {
             return Err(Halt::NoMemory);
         }
         from = to;
     }
-    Ok(pieces)
+    Ok(tiles)
 }
 
 /// What the tape says of blocks.
-fn taped(alloc: Global, entries: &[Entry<Recoded<'_>>]) -> Result<Vec<TapeEntry>, NoMemory>
+pub fn taped(alloc: Global, entries: &[Entry<Recoded<'_>>]) -> Result<Vec<TapeEntry>, NoMemory>
     ensures { IfOk result (λ tape. tape.items ≡ map entry_of entries.now) }
 {
     let mut tape = Vec::new(alloc);
@@ -159,41 +158,27 @@ fn taped(alloc: Global, entries: &[Entry<Recoded<'_>>]) -> Result<Vec<TapeEntry>
 }
 
 /// The round that begins at a tile, of which `block` is the number of the first code-block.
-pub fn made_round<R: Threads + Wait + Sync, G: Gate + Sync>(
+pub fn made_round<'a, R: Threads + Wait + Sync, G: Gate + Sync>(
     crew: &Crew<'_, R, G>,
     alloc: Global,
-    making: &Making<'_, '_>,
+    making: &Making<'a, '_>,
     tile: u16,
     block: u32,
-) -> Result<Round, Halt>
+) -> Result<Round<'a>, NoMemory>
     requires tile { tile < tile_number making.now.stream.siz }
     requires block { block ≡ first_block making.now tile }
     requires begins { BeginsRound making.now tile }
     requires work { MayBeWork crew.now.work }
-    ensures pieces { IfOk result (λ r. LeadOn making.now tile r.tile (map (λ v. v.items) r.pieces.items)) }
-    ensures later { IfOk result (λ r. tile < r.tile) }
-    ensures place { IfOk result (λ r. IsPlace making.now r.tile r.block) }
-    ensures ends { IfOk result (λ r. EndsRound making.now r.tile) }
-    ensures tape { IfOk result (λ r. TapesOn making.now crew.now.work block r.block r.tape.items) }
-    ensures unmade { IfErr result (λ h. IsUnmade making.now tile h) }
+    ensures extent { IfOk result (λ r. IsExtent making.now tile r.extent.counts.items r.extent.blocks) }
+    ensures tile { IfOk result (λ r. r.extent.tile ≡ tile + length r.extent.counts.items) }
+    ensures few { IfOk result (λ r. r.extent.blocks ≤ 2 ^ 20) }
+    ensures entries { IfOk result (λ r. AreOfBlocks making.now block r.extent.blocks r.entries.items) }
+    ensures later { IfOk result (λ r. tile < r.extent.tile) }
+    ensures place { IfOk result (λ r. IsPlace making.now r.extent.tile r.extent.block) }
+    ensures ends { IfOk result (λ r. EndsRound making.now r.extent.tile) }
+    ensures tape { IfOk result (λ r. TapesOn making.now crew.now.work block r.extent.block (map entry_of r.entries.items)) }
 {
-    let Ok(extent) = extent_of(alloc, making, tile, block) else {
-        return Err(Halt::NoMemory);
-    };
-    let Ok(entries) = round_blocks(crew, alloc, making, block, extent.blocks) else {
-        return Err(Halt::NoMemory);
-    };
-    let pieces = match made_tiles(alloc, making, tile, &extent, &entries) {
-        Ok(pieces) => pieces,
-        Err(halt) => return Err(halt),
-    };
-    let Ok(tape) = taped(alloc, &entries) else {
-        return Err(Halt::NoMemory);
-    };
-    Ok(Round {
-        pieces,
-        tape,
-        tile: extent.tile,
-        block: extent.block,
-    })
+    let extent = extent_of(alloc, making, tile, block)?;
+    let entries = round_blocks(crew, alloc, making, block, extent.blocks)?;
+    Ok(Round { extent, entries })
 }

@@ -1,6 +1,7 @@
-//! A tile as it is written.
+//! A tile that is ready to be written.
 
 ghost use Rattle.std.specs.Prelude.{◌≡◌, ◌<◌, ◌+◌, None, Some, map, IfErr, IfOk, IfSome};
+ghost use Rattle.std.specs.List.{concat};
 ghost use Rattle.jx_block.specs.Recoded.{WrittenBlock};
 ghost use Rattle.jx_store.specs.declared.event.Taped.{Taped};
 ghost use Rattle.jx_store.specs.declared.work.Named.{Named};
@@ -11,7 +12,7 @@ ghost use Rattle.jx_recast.specs.Rounds.{IsUnmadeTile, LeadOn};
 
 use crate::halt::Halt;
 use crate::making::Making;
-use jx_assemble::{AssembleFault, assemble_tile_with};
+use jx_assemble::{AssembleFault, TileOut, pack_tile};
 use jx_block::Recoded;
 use jx_block::laws::{written_is_sound, wrong_is_nothing};
 use jx_store::{Entry, Named};
@@ -41,16 +42,16 @@ fn first_unmade(entries: &[Entry<Recoded<'_>>]) -> Option<u32>
     None
 }
 
-/// The tile-parts of a tile, of which these are the entries of its code-blocks.
-pub fn made_tile(
+/// A tile that is ready to be written, of which these are the entries of its code-blocks.
+pub fn packed_tile<'a, 'b>(
     alloc: Global,
-    making: &Making<'_, '_>,
+    making: &Making<'a, '_>,
     tile: u16,
-    entries: &[Entry<Recoded<'_>>],
-) -> Result<Vec<Vec<u8>>, Halt>
+    entries: &'a [Entry<Recoded<'b>>],
+) -> Result<TileOut<'a, 'b>, Halt>
     requires tile { tile < tile_number making.now.stream.siz }
     requires entries { AreOfBlocks making.now (first_block making.now tile) (blocks_in making.now tile) entries.now }
-    ensures parts { IfOk result (λ parts. LeadOn making.now tile (tile + 1) (map (λ v. v.items) parts.items)) }
+    ensures parts { IfOk result (λ out. LeadOn making.now tile (tile + 1) (map concat out)) }
     ensures unmade { IfErr result (λ h. IsUnmadeTile making.now tile h) }
 {
     written_is_sound();
@@ -59,8 +60,8 @@ pub fn made_tile(
     if let Some(number) = first_unmade(entries) {
         return Err(Halt::Bad { tile, number });
     }
-    match assemble_tile_with(alloc, plan, making.written(), tile, entries, u32::MAX) {
-        Ok(parts) => Ok(parts),
+    match pack_tile(alloc, plan, making.written(), tile, entries, u32::MAX) {
+        Ok(out) => Ok(out),
         Err(AssembleFault::TooLong) => Err(Halt::TooLong { tile }),
         Err(AssembleFault::NoMemory) => Err(Halt::NoMemory),
     }

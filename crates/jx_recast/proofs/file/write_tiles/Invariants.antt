@@ -1,4 +1,4 @@
-use Rattle.std.proofs.Common.{◌≡◌, ◌-◌, IsTrue}
+use Rattle.std.proofs.Common.{◌≡◌, ◌-◌, [], IsTrue}
 use Rattle.jx_recast.specs.Rounds.{EndsRound, HasRounds, HasTape, IsPlace}
 use Rattle.jx_recast.proofs.file.write_tiles.Given as goal
 
@@ -8,6 +8,7 @@ invariant-loop-mark g l = record {
   place : IsPlace l.making l.mark.tile l.mark.block;
   ends : EndsRound l.making l.mark.tile;
   tape : HasTape l.making l.crew.work l.mark.block l.tape.items;
+  buffer : l.buffer.items ≡ [];
   making : IsTrue (g.F.Files.meaning l.files).making;
   same : g.F.Files.write_faults l.files ≡ g.F.Files.write_faults l.initial.files;
   other : g.F.Files.read_faults l.files ≡ g.F.Files.read_faults l.initial.files;

@@ -1,7 +1,8 @@
-use Rattle.std.proofs.Common.{rules, arith, ◌≡◌, ◌≤◌, ◌+◌, ◌-◌, ◌++◌, ap, drop, length, map, take}
+use Rattle.std.proofs.Common.{rules, arith, ◌≡◌, ◌≤◌, ◌+◌, ◌-◌, [], ◌∷◌, ◌++◌, ap, drop, length, take}
+use Rattle.jx_recast.specs.MadeRounds.{parts_of}
 use Rattle.jx_recast.proofs.ExtentLemmas.{entries_at, tile_at}
-use Rattle.jx_recast.proofs.FrontLemmas.{lead_more, unmade_of}
-use Rattle.jx_recast.proofs.rounds.made_tiles.Goals as goal
+use Rattle.jx_recast.proofs.FrontLemmas.{lead_tile, unmade_of}
+use Rattle.jx_recast.proofs.rounds.packed_tiles.Goals as goal
 
 pub overflow_add-to : goal.overflow_add-to
 overflow_add-to c =
@@ -10,8 +11,8 @@ overflow_add-to c =
     let within : c.loop-at.from + c.index.result.now ≤ c.args.extent.now.blocks = own.within in
     omega (arith, within, c.requires.few)
 
-pub slice_bounds-made_tile-end : goal.slice_bounds-made_tile-end
-slice_bounds-made_tile-end c =
+pub slice_bounds-packed_tile-end : goal.slice_bounds-packed_tile-end
+slice_bounds-packed_tile-end c =
     let own = tile_at c.args.making.now c.args.tile c.loop-at.at c.args.extent.now.blocks c.index.result.now c.loop-at.from c.args.extent.now.counts.items c.requires.extent.of c.loop-at.auto.at
     (omega (arith, c.loop-at-test.true, c.requires.tile)) c.index.ensures c.loop-at.invariant.from in
     let within : c.loop-at.from + c.index.result.now ≤ length c.args.entries.now = omega (arith, own.within, c.requires.entries.count_is) in
@@ -24,8 +25,8 @@ offset_bounds-entries-from c =
     let within : c.loop-at.from + c.index.result.now ≤ c.args.extent.now.blocks = own.within in
     omega (arith, within, c.requires.few)
 
-pub made_tile-requires-clause-entries : goal.made_tile-requires-clause-entries
-made_tile-requires-clause-entries c =
+pub packed_tile-requires-clause-entries : goal.packed_tile-requires-clause-entries
+packed_tile-requires-clause-entries c =
     let own = tile_at c.args.making.now c.args.tile c.loop-at.at c.args.extent.now.blocks c.index.result.now c.loop-at.from c.args.extent.now.counts.items c.requires.extent.of c.loop-at.auto.at
     (omega (arith, c.loop-at-test.true, c.requires.tile)) c.index.ensures c.loop-at.invariant.from in
     let count : (c.loop-at.from + c.index.result.now) - c.loop-at.from ≡ c.index.result.now = omega arith in
@@ -36,15 +37,15 @@ pub returns-in-Err-clause-unmade : goal.returns-in-Err-clause-unmade
 returns-in-Err-clause-unmade c =
     let own = tile_at c.args.making.now c.args.tile c.loop-at.at c.args.extent.now.blocks c.index.result.now c.loop-at.from c.args.extent.now.counts.items c.requires.extent.of c.loop-at.auto.at
     (omega (arith, c.loop-at-test.true, c.requires.tile)) c.index.ensures c.loop-at.invariant.from in
-    unmade_of c.args.making.now c.args.tile c.loop-at.at c.loop-at.from (map (λ v. v.items) c.loop-at.pieces.items) c.in-Err.halt own.inside own.round c.loop-at.invariant.lead c.in-Err.ensures.unmade
+    unmade_of c.args.making.now c.args.tile c.loop-at.at c.loop-at.from (parts_of c.loop-at.tiles.items) c.in-Err.halt own.inside own.round c.loop-at.invariant.lead c.in-Err.ensures.unmade
 
 pub loop-at-preserved : goal.loop-at-preserved
 loop-at-preserved c =
     let own = tile_at c.args.making.now c.args.tile c.loop-at.at c.args.extent.now.blocks c.index.result.now c.loop-at.from c.args.extent.now.counts.items c.requires.extent.of c.loop-at.auto.at
     (omega (arith, c.loop-at-test.true, c.requires.tile)) c.index.ensures c.loop-at.invariant.from in
-    let items : c.append.new.self.items ≡ c.loop-at.pieces.items ++ c.in-Ok.parts.items = search rules in
+    let items : c.push.new.self.items ≡ c.loop-at.tiles.items ++ c.in-Ok.out ∷ [] = search rules in
     record {
-      lead = lead_more c.args.making.now c.args.tile c.loop-at.at (c.loop-at.at + 1) (λ v. v.items) c.loop-at.pieces.items c.in-Ok.parts.items c.append.new.self.items items c.loop-at.invariant.lead
+      lead = lead_tile c.args.making.now c.args.tile c.loop-at.at (c.loop-at.at + 1) c.loop-at.tiles.items c.in-Ok.out c.push.new.self.items items c.loop-at.invariant.lead
           c.in-Ok.ensures.parts;
       from = own.next;
     }

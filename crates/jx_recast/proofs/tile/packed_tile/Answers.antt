@@ -1,10 +1,11 @@
 use Rattle.std.proofs.Common.{rules, List, ℕ, map, refl, subst, sym}
+use Rattle.std.specs.List.{concat}
 use Rattle.jx_plan.specs.Plan.{Plan}
 use Rattle.jx_assemble.specs.Tile.{AreMade, AreValuesOf, IsTile, IsTooLong, StandIn, blocks_in, made_in}
 use Rattle.jx_recast.specs.Rounds.{blocks_of, most_of_part}
 use Rattle.jx_recast.proofs.FrontLemmas.{tile_leads}
 use Rattle.jx_recast.proofs.TileLemmas.{BlockLaws, tile_right, tile_wrong, values_are, values_stand}
-use Rattle.jx_recast.proofs.tile.made_tile.Goals as goal
+use Rattle.jx_recast.proofs.tile.packed_tile.Goals as goal
 
 pub returns-in-Some-clause-unmade : goal.returns-in-Some-clause-unmade
 returns-in-Some-clause-unmade c =
@@ -17,8 +18,8 @@ returns-in-Some-clause-unmade c =
     let p : Plan = c.args.making.now in
     (refl, tile_wrong laws p c.args.tile (blocks_in p c.args.tile) c.args.entries.now c.plan-plan.ensures.plan c.requires.entries c.in-Some.number c.in-Some.ensures.unmade refl)
 
-pub assemble_tile_with-requires-clause-values : goal.assemble_tile_with-requires-clause-values
-assemble_tile_with-requires-clause-values c =
+pub pack_tile-requires-clause-values : goal.pack_tile-requires-clause-values
+pack_tile-requires-clause-values c =
     let laws : BlockLaws = record {
       sound = c.written_is_sound.ensures.sound;
       layers = c.written_is_sound.ensures.layers;
@@ -41,7 +42,7 @@ returns-in-Ok-clause-parts c =
     let p : Plan = c.args.making.now in
     let stand : StandIn (blocks_of p) c.plan-plan.result.now c.args.tile (made_in c.args.entries.now) =
     subst (λ (q : Plan). StandIn (blocks_of p) q c.args.tile (made_in c.args.entries.now)) (sym c.plan-plan.ensures.value) (values_stand laws p c.args.tile (blocks_in p c.args.tile) c.args.entries.now c.plan-plan.ensures.plan c.requires.entries made) in
-    let pieces : List (List ℕ) = map (λ v. v.items) c.in-Ok.parts.items in
+    let pieces : List (List ℕ) = map concat c.in-Ok.out in
     let tile : IsTile p (blocks_of p) c.args.tile most_of_part pieces =
     subst (λ (q : Plan). IsTile q (blocks_of p) c.args.tile most_of_part pieces) c.plan-plan.ensures.value (c.in-Ok.ensures.parts (blocks_of p) stand) in
     tile_leads p c.args.tile pieces (tile_right laws p c.args.tile (blocks_in p c.args.tile) c.args.entries.now c.plan-plan.ensures.plan c.requires.entries made refl) tile
