@@ -123,7 +123,7 @@ fn heavy(rt: &impl AllocGlobal) -> Result<Vec<u8>, Fail> {
     for number in 0..257_u16 {
         packets.extend_from_slice(&[0xEF, 0xEC, 0x80])?;
         for _ in 0..400_u32 {
-            packets.extend_from_slice(&number.to_be_bytes())?;
+            packets.extend_from_slice(&number.to_le_bytes())?;
         }
     }
     wide_with(rt, &[], 206_385, &packets)
