@@ -7,6 +7,7 @@ pub mod FrontLemmas
 pub mod ExtentLemmas
 pub mod WriteLemmas
 pub mod PartLemmas
+pub mod PackedLemmas
 pub mod AnswerLemmas
 pub mod RefusedLemmas
 pub mod OutcomeLemmas

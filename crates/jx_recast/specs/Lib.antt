@@ -11,3 +11,4 @@ pub mod MadeRounds
 pub mod Filed
 pub mod Halts
 pub mod MadeVerdict
+pub mod PackedTiles

@@ -10,7 +10,7 @@ ghost use Rattle.jx_recast.specs.Rounds.{IsFault};
 
 use crate::device::write_all;
 use crate::halt::{Halt, halt_of};
-use jx_assemble::TileOut;
+use crate::packed::Packed;
 use jx_outside::Files;
 
 /// The buffer is written where it has so many bytes.
@@ -57,7 +57,7 @@ fn write_out<F: Files>(files: &mut F, buffer: &mut Vec<u8>) -> Result<(), Halt>
 #[tactic(auto, using(crate::proofs::PartLemmas::nothing_left, crate::proofs::PartLemmas::nothing_gone, crate::proofs::ProgressLemmas::no_front))]
 fn put_piece<F: Files>(
     files: &mut F,
-    tile: &TileOut<'_, '_>,
+    tile: &Packed<'_, '_>,
     part: usize,
     piece: usize,
     buffer: &mut Vec<u8>,
@@ -84,7 +84,7 @@ fn put_piece<F: Files>(
 /// Writes a tile-part through the buffer, which is empty before and after; after an error, a front of it was written.
 fn put_part<F: Files>(
     files: &mut F,
-    tile: &TileOut<'_, '_>,
+    tile: &Packed<'_, '_>,
     part: usize,
     buffer: &mut Vec<u8>,
 ) -> Result<(), Halt>
@@ -99,6 +99,9 @@ fn put_part<F: Files>(
     ensures same { OnOk result (F.write_faults files.new ≡ F.write_faults files.old) }
     ensures other { F.read_faults files.new ≡ F.read_faults files.old }
 {
+    if let Some(bytes) = tile.bytes(part) {
+        return put(files, bytes);
+    }
     for piece in 0..tile.pieces(part) {
         match put_piece(files, tile, part, piece, buffer) {
             Ok(()) => {}
@@ -111,7 +114,7 @@ fn put_part<F: Files>(
 /// Writes the tile-parts of a tile.
 fn put_tile<F: Files>(
     files: &mut F,
-    tile: &TileOut<'_, '_>,
+    tile: &Packed<'_, '_>,
     buffer: &mut Vec<u8>,
 ) -> Result<(), Halt>
     requires making { IsTrue (F.meaning files.old).making }
@@ -137,7 +140,7 @@ fn put_tile<F: Files>(
 /// was written.
 pub fn put_tiles<F: Files>(
     files: &mut F,
-    tiles: &[TileOut<'_, '_>],
+    tiles: &[Packed<'_, '_>],
     buffer: &mut Vec<u8>,
 ) -> Result<(), Halt>
     requires making { IsTrue (F.meaning files.old).making }
@@ -160,18 +163,18 @@ pub fn put_tiles<F: Files>(
 }
 
 /// How many bytes these are with those of a tile; none where no number has so many.
-fn count_tile(before: usize, tile: &TileOut<'_, '_>) -> Option<usize>
+fn count_tile(before: usize, tile: &Packed<'_, '_>) -> Option<usize>
     ensures { IfSome result (λ count. count ≡ before + length (concat (map concat tile.now))) }
 {
     let mut count = before;
     for part in 0..tile.parts() {
-        count = count.checked_add(tile.size(part) as usize)?;
+        count = count.checked_add(tile.size(part))?;
     }
     Some(count)
 }
 
 /// How many bytes these are with those of tiles; none where no number has so many.
-pub fn count_bytes(before: usize, tiles: &[TileOut<'_, '_>]) -> Option<usize>
+pub fn count_bytes(before: usize, tiles: &[Packed<'_, '_>]) -> Option<usize>
     ensures { IfSome result (λ count. count ≡ before + length (concat (parts_of tiles.now))) }
 {
     let mut count = before;

@@ -11,6 +11,7 @@ pub mod laws;
 mod lines;
 mod make;
 mod making;
+mod packed;
 mod program;
 mod rewrite;
 mod rounds;

@@ -11,8 +11,8 @@ use crate::TapeEntry;
 use crate::crew::{Crew, made_blocks};
 use crate::halt::Halt;
 use crate::making::Making;
+use crate::packed::Packed;
 use crate::tile::packed_tile;
-use jx_assemble::TileOut;
 use jx_base::NoMemory;
 use jx_block::Recoded;
 use jx_outside::Gate;
@@ -118,7 +118,7 @@ pub fn packed_tiles<'a, 'b>(
     tile: u16,
     extent: &Extent,
     entries: &'a [Entry<Recoded<'b>>],
-) -> Result<Vec<TileOut<'a, 'b>>, Halt>
+) -> Result<Vec<Packed<'a, 'b>>, Halt>
     requires extent { IsExtent making.now tile extent.now.counts.items extent.now.blocks }
     requires tile { extent.now.tile ≡ tile + length extent.now.counts.items }
     requires few { extent.now.blocks ≤ 2 ^ 20 }
@@ -126,11 +126,12 @@ pub fn packed_tiles<'a, 'b>(
     ensures parts { IfOk result (λ tiles. LeadOn making.now tile extent.now.tile (parts_of tiles.items)) }
     ensures unmade { IfErr result (λ h. IsUnmade making.now tile h) }
 {
+    let alone = extent.counts.len() == 1;
     let mut tiles = Vec::new(alloc);
     let mut from = 0;
     for at in tile..extent.tile {
         let to = from + extent.counts[(at - tile) as usize] as usize;
-        let out = match packed_tile(alloc, making, at, &entries[from..to]) {
+        let out = match packed_tile(alloc, making, at, &entries[from..to], alone) {
             Ok(out) => out,
             Err(halt) => return Err(halt),
         };

@@ -12,7 +12,8 @@ ghost use Rattle.jx_recast.specs.Rounds.{IsUnmadeTile, LeadOn};
 
 use crate::halt::Halt;
 use crate::making::Making;
-use jx_assemble::{AssembleFault, TileOut, pack_tile};
+use crate::packed::Packed;
+use jx_assemble::{AssembleFault, TileOut, assemble_tile_with, pack_tile};
 use jx_block::Recoded;
 use jx_block::laws::{written_is_sound, wrong_is_nothing};
 use jx_store::{Entry, Named};
@@ -42,8 +43,8 @@ fn first_unmade(entries: &[Entry<Recoded<'_>>]) -> Option<u32>
     None
 }
 
-/// A tile that is ready to be written, of which these are the entries of its code-blocks.
-pub fn packed_tile<'a, 'b>(
+/// A tile that is put together but for its coded bytes, of which these are the entries of its code-blocks.
+fn laid_tile<'a, 'b>(
     alloc: Global,
     making: &Making<'a, '_>,
     tile: u16,
@@ -64,5 +65,56 @@ pub fn packed_tile<'a, 'b>(
         Ok(out) => Ok(out),
         Err(AssembleFault::TooLong) => Err(Halt::TooLong { tile }),
         Err(AssembleFault::NoMemory) => Err(Halt::NoMemory),
+    }
+}
+
+/// The tile-parts of a tile, of which these are the entries of its code-blocks.
+fn made_tile(
+    alloc: Global,
+    making: &Making<'_, '_>,
+    tile: u16,
+    entries: &[Entry<Recoded<'_>>],
+) -> Result<Vec<Vec<u8>>, Halt>
+    requires tile { tile < tile_number making.now.stream.siz }
+    requires entries { AreOfBlocks making.now (first_block making.now tile) (blocks_in making.now tile) entries.now }
+    ensures parts { IfOk result (λ parts. LeadOn making.now tile (tile + 1) (map (λ v. v.items) parts.items)) }
+    ensures unmade { IfErr result (λ h. IsUnmadeTile making.now tile h) }
+{
+    written_is_sound();
+    wrong_is_nothing();
+    let plan = making.plan();
+    if let Some(number) = first_unmade(entries) {
+        return Err(Halt::Bad { tile, number });
+    }
+    match assemble_tile_with(alloc, plan, making.written(), tile, entries, u32::MAX) {
+        Ok(parts) => Ok(parts),
+        Err(AssembleFault::TooLong) => Err(Halt::TooLong { tile }),
+        Err(AssembleFault::NoMemory) => Err(Halt::NoMemory),
+    }
+}
+
+/// A tile that is ready to be written, of which these are the entries of its code-blocks: put together but for its coded bytes where it
+/// is alone in its round.
+pub fn packed_tile<'a, 'b>(
+    alloc: Global,
+    making: &Making<'a, '_>,
+    tile: u16,
+    entries: &'a [Entry<Recoded<'b>>],
+    alone: bool,
+) -> Result<Packed<'a, 'b>, Halt>
+    requires tile { tile < tile_number making.now.stream.siz }
+    requires entries { AreOfBlocks making.now (first_block making.now tile) (blocks_in making.now tile) entries.now }
+    ensures parts { IfOk result (λ out. LeadOn making.now tile (tile + 1) (map concat out)) }
+    ensures unmade { IfErr result (λ h. IsUnmadeTile making.now tile h) }
+{
+    if alone {
+        return match laid_tile(alloc, making, tile, entries) {
+            Ok(out) => Ok(Packed::laid(out)),
+            Err(halt) => Err(halt),
+        };
+    }
+    match made_tile(alloc, making, tile, entries) {
+        Ok(parts) => Ok(Packed::whole(parts)),
+        Err(halt) => Err(halt),
     }
 }

@@ -5,7 +5,7 @@ use Rattle.jx_assemble.specs.Tile.{AreMade, AreValuesOf, IsTile, IsTooLong, Stan
 use Rattle.jx_recast.specs.Rounds.{blocks_of, most_of_part}
 use Rattle.jx_recast.proofs.FrontLemmas.{tile_leads}
 use Rattle.jx_recast.proofs.TileLemmas.{BlockLaws, tile_right, tile_wrong, values_are, values_stand}
-use Rattle.jx_recast.proofs.tile.packed_tile.Goals as goal
+use Rattle.jx_recast.proofs.tile.laid_tile.Goals as goal
 
 pub returns-in-Some-clause-unmade : goal.returns-in-Some-clause-unmade
 returns-in-Some-clause-unmade c =
