@@ -11,7 +11,7 @@ use Rattle.jx_order.specs.declared.names.Order.{Order}
 use Rattle.jx_order.specs.declared.names.Order.TheVariants.{Lrcp, Rlcp, Rpcl, Pcrl, Cprl}
 use Rattle.jx_order.specs.Orders.{IsLess, ComesBefore, key_of, order_of, across_of, down_of}
 use Rattle.jx_order.specs.Packets.{Covers, IsOrder, IsPacket, Sends, entry_at}
-use Rattle.jx_order.specs.Steps.{all_groups}
+use Rattle.jx_order.specs.Steps.{all_heads}
 use Rattle.jx_order.proofs.KeyLemmas.{same_place}
 use Rattle.jx_order.proofs.LessLemmas.{less_trans}
 use Rattle.jx_order.proofs.OrderLemmas.{contains_or, same_fields}
@@ -266,11 +266,11 @@ abbrev all_of : ℕ → Progression
 all_of layers = record { rs = 0; cs = 0; lye = layers; re = 33; ce = 0; order = 0 }
 
 abbrev all_packets : Geometry → ℕ → List PacketName
-all_packets g layers = names_of g layers (all_of layers) [] (all_groups g layers (all_of layers) [])
+all_packets g layers = names_of g layers (all_of layers) (all_heads g layers (all_of layers) [])
 
 all_are : (g : Geometry) (layers : ℕ) (p : PacketName) → GeometryInRange g → Contains (all_packets g layers) p ↔ IsPacket g layers p
 all_are g layers p range =
-    let exact = exact_names g layers (all_of layers) [] (all_groups g layers (all_of layers) []) (λ x h. h) (λ x h. h) p in (
+    let exact = exact_names g layers (all_of layers) [] (all_heads g layers (all_of layers) []) (λ x h. h) (λ x h. h) p in (
       λ h. (exact.0 h).0,
       λ packet.
           (let level = (range.shapes p.comp packet.resolution.component).numbers.levels in

@@ -1,5 +1,5 @@
 -- A key tells packets apart: where two precincts of a resolution stand in one place, they are one.
-use Rattle.std.proofs.Common.{◌≡◌, ℕ, ◌+◌, ◌-◌, ◌*◌, ◌/◌, ◌^◌, ◌≤◌, ◌<◌, List, [], ◌∷◌, inl, inr, ◌⊎◌, sym, subst, arith, Ordering, nat_cmp, is_lt, false}
+use Rattle.std.proofs.Common.{◌≡◌, ℕ, ◌+◌, ◌-◌, ◌*◌, ◌/◌, ◌^◌, ◌≤◌, ◌<◌, inl, inr, ◌⊎◌, sym, subst, arith, Ordering, nat_cmp, is_lt, false}
 use Rattle.std.specs.Ordering.{ordering_then}
 use Rattle.std.proofs.Math.Nat.{mul-le-mul_right, lt-div-mul-add, one-le-mul}
 use Rattle.std.proofs.lemmas.Nat.{pow_pos}
@@ -16,10 +16,11 @@ use Rattle.jx_geom.specs.Spans.{scaled, cells, reference_of}
 use Rattle.jx_geom.specs.Rects.{component_rect, resolution_rect, precinct_cells, precinct_column_point, precinct_row_point}
 use Rattle.jx_geom.specs.Geometry.{Geometry, GeometryInRange, HasResolution, precincts_in, reference_across, reference_down, rect_of_tile, shape_of}
 use Rattle.jx_geom.proofs.SpanLemmas.{cells_low, reference_latest}
-use Rattle.jx_order.specs.declared.groups.Group.{Group}
+use Rattle.jx_order.specs.declared.keys.Key.{Key}
 use Rattle.jx_order.specs.declared.names.PacketName.{PacketName}
 use Rattle.jx_order.specs.Orders.{IsLess, across_of, down_of}
 use Rattle.jx_order.specs.Packets.{IsPacket}
+use Rattle.jx_order.specs.Steps.{numbers_of}
 use Rattle.jx_base.proofs.Raster.{raster_in, raster_one}
 
 -- a later cell begins past the start of what is scaled
@@ -110,34 +111,31 @@ same_place g layers p q range hp hq ec er across down =
     subst R (sym er) (subst Q (sym ec) h)) in
     one_place g p.comp p.res p.precinct q.precinct range hp.resolution hp.precinct (move K hq.precinct) (move A across) (move D down)
 
--- ---- the numbers that a group is sorted by
-abbrev pub heads : Group → List ℕ
-heads q = q.first ∷ q.second ∷ q.third ∷ q.fourth ∷ []
-
 -- ---- what a comparison field by field says
 pub then_not_lt : (a b : ℕ) (p : Ordering) → is_lt (ordering_then (nat_cmp a b) p) ≡ false → (b < a) ⊎ ((a ≡ b) × (is_lt p ≡ false))
 then_not_lt a b p h = grind (arith, nat_tests)
 
 -- b isn't before a
-pub not_before : (a b : Group) (p : Ordering)
-    → is_lt (ordering_then (nat_cmp b.first a.first) (ordering_then (nat_cmp b.second a.second) (ordering_then (nat_cmp b.third a.third)
-    (ordering_then (nat_cmp b.fourth a.fourth) p)))) ≡ false
-    → IsLess (heads a) (heads b) ⊎ (heads a ≡ heads b)
-not_before a b p h = elim (then_not_lt b.first a.first _ h) [
+pub not_before : (a b : Key)
+    → is_lt (ordering_then (nat_cmp b.first a.first) (ordering_then (nat_cmp b.second a.second) (ordering_then (nat_cmp b.third a.third) (nat_cmp b.fourth a.fourth)))) ≡ false
+    → IsLess (numbers_of a) (numbers_of b) ⊎ (numbers_of a ≡ numbers_of b)
+not_before a b h = elim (then_not_lt b.first a.first _ h) [
   | inl lt ↦ inl (inl lt)
   | inr one ↦ elim (then_not_lt b.second a.second _ one.1) [
     | inl lt ↦ inl (inr (sym one.0, inl lt))
     | inr two ↦ elim (then_not_lt b.third a.third _ two.1) [
       | inl lt ↦ inl (inr (sym one.0, inr (sym two.0, inl lt)))
-      | inr three ↦ elim (then_not_lt b.fourth a.fourth p three.1) [
-        | inl lt ↦ inl (inr (sym one.0, inr (sym two.0, inr (sym three.0, inl lt))))
-        | inr four ↦
-            let e1 : a.first ≡ b.first = sym one.0 in
-            let e2 : a.second ≡ b.second = sym two.0 in
-            let e3 : a.third ≡ b.third = sym three.0 in
-            let e4 : a.fourth ≡ b.fourth = sym four.0 in
-            inr (cc)
-      ]
+      | inr three ↦
+          let last : a.fourth ≤ b.fourth = (let t = three.1 in grind (arith, nat_tests)) in
+          elim (cases_lt a.fourth b.fourth) [
+            | inl lt ↦ inl (inr (sym one.0, inr (sym two.0, inr (sym three.0, inl lt))))
+            | inr ge ↦
+                let e1 : a.first ≡ b.first = sym one.0 in
+                let e2 : a.second ≡ b.second = sym two.0 in
+                let e3 : a.third ≡ b.third = sym three.0 in
+                let e4 : a.fourth ≡ b.fourth = omega arith in
+                inr (cc)
+          ]
     ]
   ]
 ]

@@ -1,6 +1,7 @@
 pub mod ExistLemmas
 pub mod LessLemmas
 pub mod LoopLemmas
+pub mod SpreadLemmas
 pub mod OrderLemmas
 pub mod KeyLemmas
 pub mod RowLemmas

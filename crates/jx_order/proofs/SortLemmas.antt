@@ -1,121 +1,112 @@
--- Groups in the order of their numbers give packets in the order of their keys.
-use Rattle.std.proofs.Common.{◌≡◌, ℕ, ◌+◌, ◌<◌, Bool, true, false, List, [], ◌∷◌, inl, inr, ◌⊎◌, ◌↔◌, ◌∙◌, ap, sym, subst, refl, arith, length, get_or, slice_index}
-use Rattle.std.proofs.lemmas.Bool.{cases_Bool, cases_eq, cases_lt}
+-- First packets in the order of their numbers, each with those that stand together with it, are packets in the order of their keys.
+use Rattle.std.proofs.Common.{◌≡◌, ◌≢◌, ℕ, ◌+◌, ◌<◌, Bool, true, false, List, [], ◌∷◌, inl, inr, ◌⊎◌, ◌↔◌, ◌∙◌, ap, sym, subst, refl, arith, length, get_or, min, slice_index}
+use Rattle.std.proofs.lemmas.Bool.{cases_Bool, cases_lt}
+use Rattle.std.proofs.lemmas.Bool.Decides.{nat_tests}
 use Rattle.std.proofs.lemmas.List.Elements.{Contains-get_or}
 use Rattle.std.proofs.lemmas.List.Sorted.{Contains-permutation, IsPermutation-sym}
 use Rattle.std.proofs.lemmas.Map.Keys.{IsDistinct-IsPermutation, IsDistinct-from_apart, apart_from_distinct}
-use Rattle.std.specs.List.{AllPairs, Contains, flat_map}
+use Rattle.std.specs.List.{All, AllPairs, Contains, flat_map}
 use Rattle.std.specs.List.Sorted.{IsPermutation}
-use Rattle.jx_base.proofs.Joined.{joined_has, joined_pairs}
+use Rattle.jx_base.proofs.Joined.{joined_pairs}
 use Rattle.jx_base.proofs.Lists.{pairs_from_next}
 use Rattle.jx_geom.specs.declared.table.Resolution.{Resolution}
-use Rattle.jx_geom.specs.Geometry.{Geometry, GeometryInRange, reference_across, reference_down}
+use Rattle.jx_geom.specs.Geometry.{Geometry, GeometryInRange}
 use Rattle.jx_geom.specs.Resolutions.{resolutions_of}
 use Rattle.jx_marker.specs.declared.Progression.{Progression}
-use Rattle.jx_order.specs.declared.groups.Group.{Group}
 use Rattle.jx_order.specs.declared.names.PacketName.{PacketName}
 use Rattle.jx_order.specs.declared.names.Order.{Order}
 use Rattle.jx_order.specs.declared.names.Order.TheVariants.{Lrcp, Rlcp, Rpcl, Pcrl, Cprl}
 use Rattle.jx_order.specs.Orders.{IsLess, ComesBefore, order_of, across_of, down_of}
 use Rattle.jx_order.specs.Packets.{IsPacket}
-use Rattle.jx_order.specs.Steps.{Lists, all_groups, by_layer, group_names, groups_at, layer_group, name_of, one_layer, one_layer_group, one_precinct, one_precinct_group, row_end, row_groups, row_of}
-use Rattle.jx_order.proofs.GroupLemmas.{GroupIn, LayerIn, Listed, PrecinctIn, due_from, due_in, due_to, flat_from, flat_has, flat_pairs, group_at, group_in, layer_is, layer_names, layers_are, name_in, no_groups, one_has, precinct_is, precinct_names, precincts_are, row_has}
-use Rattle.jx_order.proofs.KeyLemmas.{heads, same_place}
+use Rattle.jx_order.specs.Steps.{AreSorted, Lists, across_or, all_heads, by_layer, count_of, down_or, group_names, group_size, heads_at, name_of, numbers_of, one_layer, one_layer_head, one_precinct, one_precinct_head, precinct_key, row_end, row_heads, row_of, sent_at, sort_key}
+use Rattle.jx_order.proofs.GroupLemmas.{IsFirst, Listed, count_is, flat_from, flat_has, flat_pairs, head_to, in_group, layer_names, layers_are, name_listed, no_heads, one_has, precinct_names, precincts_are, row_has, some_names, stands_in}
+use Rattle.jx_order.proofs.KeyLemmas.{same_place}
 use Rattle.jx_order.proofs.LessLemmas.{drop_zero, less_more, less_trans}
-use Rattle.jx_order.proofs.RowLemmas.{row_packet, rows_once}
+use Rattle.jx_order.proofs.OrderLemmas.{same_fields, same_or}
+use Rattle.jx_order.proofs.RowLemmas.{rows_once}
 
--- ---- no group is listed twice
-abbrev pub Same : Group → Group → Type 0
-Same x y = (x.place ≡ y.place) × (x.layer ≡ y.layer) × (x.precinct ≡ y.precinct)
+-- ---- none is listed twice
+abbrev pub Apart : PacketName → PacketName → Type 0
+Apart x y = x ≢ y
 
-abbrev pub Apart : Group → Group → Type 0
-Apart x y = Same x y → ⊥
-
-one_pairs : (x : Group) → AllPairs Apart (x ∷ [])
+one_pairs : (x : PacketName) → AllPairs Apart (x ∷ [])
 one_pairs x i j d lt below = absurd (omega arith)
 
-layers_apart : (o : Order) (q : Resolution) (i m n : ℕ) (x y : Group) → m < n → Contains (one_layer_group o q i m) x → Contains (one_layer_group o q i n) y → Apart x y
-layers_apart o q i m n x y lt hx hy same =
-    let ex : x.layer ≡ m = ap (λ (w : Group). w.layer) (one_has (layer_group o q i m) x hx) ∙ layer_is o q i m in
-    let ey : y.layer ≡ n = ap (λ (w : Group). w.layer) (one_has (layer_group o q i n) y hy) ∙ layer_is o q i n in
-    omega (arith, same.1)
+layers_apart : (q : Resolution) (m n : ℕ) (x y : PacketName) → m < n → Contains (one_layer_head q m) x → Contains (one_layer_head q n) y → Apart x y
+layers_apart q m n x y lt hx hy same =
+    let ex : x.layer ≡ m = ap (λ (w : PacketName). w.layer) (one_has (name_of m q.res q.comp 0) x hx) in
+    let ey : y.layer ≡ n = ap (λ (w : PacketName). w.layer) (one_has (name_of n q.res q.comp 0) y hy) in
+    omega (arith, ap (λ (w : PacketName). w.layer) same)
 
-precincts_apart : (g : Geometry) (o : Order) (q : Resolution) (i m n : ℕ) (x y : Group) → m < n
-    → Contains (one_precinct_group g o q i m) x → Contains (one_precinct_group g o q i n) y → Apart x y
-precincts_apart g o q i m n x y lt hx hy same =
-    let ex : x.precinct ≡ m = ap (λ (w : Group). w.precinct) (one_has _ x hx) ∙ precinct_is o q i m (reference_across g q.comp q.res m) (reference_down g q.comp q.res m) in
-    let ey : y.precinct ≡ n = ap (λ (w : Group). w.precinct) (one_has _ y hy) ∙ precinct_is o q i n (reference_across g q.comp q.res n) (reference_down g q.comp q.res n) in
-    omega (arith, same.2)
+precincts_apart : (q : Resolution) (from m n : ℕ) (x y : PacketName) → m < n → Contains (one_precinct_head q from m) x
+    → Contains (one_precinct_head q from n) y → Apart x y
+precincts_apart q from m n x y lt hx hy same =
+    let ex : x.precinct ≡ m = ap (λ (w : PacketName). w.precinct) (one_has (name_of from q.res q.comp m) x hx) in
+    let ey : y.precinct ≡ n = ap (λ (w : PacketName). w.precinct) (one_has (name_of from q.res q.comp n) y hy) in
+    omega (arith, ap (λ (w : PacketName). w.precinct) same)
 
-row_apart : (g : Geometry) (o : Order) (q : Resolution) (i from to : ℕ) → AllPairs Apart (row_groups g o q i from to)
-row_apart g o q i from to =
-    let P : List Group → Type 0 = λ xs. AllPairs Apart xs in
+row_apart : (o : Order) (q : Resolution) (from to : ℕ) → AllPairs Apart (row_heads o q from to)
+row_apart o q from to =
+    let P : List PacketName → Type 0 = λ xs. AllPairs Apart xs in
     elim (cases_Bool (by_layer o)) [
       | inl h ↦
-          subst P (sym (layers_are g o q i from to h)) (joined_pairs Apart (one_layer_group o q i) from to (λ n. one_pairs (layer_group o q i n)) (layers_apart o q i))
+          subst P (sym (layers_are o q from to h)) (joined_pairs Apart (one_layer_head q) from to (λ n. one_pairs (name_of n q.res q.comp 0)) (layers_apart q))
       | inr h ↦ elim (cases_lt from to) [
         | inl some ↦
-            subst P (sym (precincts_are g o q i from to h some)) (joined_pairs Apart (one_precinct_group g o q i) 0 q.precincts (λ n. one_pairs _) (precincts_apart g o q i))
-        | inr none ↦ subst P (sym (no_groups g o q i from to h none)) (λ m n d lt below. absurd (omega arith))
+            subst P (sym (precincts_are o q from to h some))
+            (joined_pairs Apart (one_precinct_head q from) 0 q.precincts (λ n. one_pairs (name_of from q.res q.comp n)) (precincts_apart q from))
+        | inr none ↦ subst P (sym (no_heads o q from to h none)) (λ m n d lt below. absurd (omega arith))
       ]
     ]
 
-rows_apart : (g : Geometry) (layers : ℕ) (e : Progression) (sent : List ℕ) (i j : ℕ) (x y : Group) → i < j
-    → Contains (groups_at g layers e sent i) x → Contains (groups_at g layers e sent j) y → Apart x y
+rows_apart : (g : Geometry) (layers : ℕ) (e : Progression) (sent : List ℕ) (i j : ℕ) (x y : PacketName) → i < j
+    → Contains (heads_at g layers e sent i) x → Contains (heads_at g layers e sent j) y → Apart x y
 rows_apart g layers e sent i j x y lt hx hy same =
-    omega (arith, same.0, (row_has g layers e sent (order_of e.order) i x hx).place, (row_has g layers e sent (order_of e.order) j y hy).place)
+    let a = (row_has g layers e sent (order_of e.order) i x hx).due in
+    let b = (row_has g layers e sent (order_of e.order) j y hy).due in
+    let one : i ≡ j = rows_once g i j a.below b.below (sym a.comp ∙ ap (λ (w : PacketName). w.comp) same ∙ b.comp)
+    (sym a.res ∙ ap (λ (w : PacketName). w.res) same ∙ b.res) in
+    omega arith
 
-all_apart : (g : Geometry) (layers : ℕ) (e : Progression) (sent : List ℕ) → AllPairs Apart (all_groups g layers e sent)
-unfolding all_groups
+all_apart : (g : Geometry) (layers : ℕ) (e : Progression) (sent : List ℕ) → AllPairs Apart (all_heads g layers e sent)
+unfolding all_heads
 all_apart g layers e sent =
-    joined_pairs Apart (groups_at g layers e sent) 0 (length (resolutions_of g))
-    (λ i. row_apart g (order_of e.order) (row_of g i) i (slice_index sent i) (row_end layers e (row_of g i)))
+    joined_pairs Apart (heads_at g layers e sent) 0 (length (resolutions_of g))
+    (λ i. row_apart (order_of e.order) (row_of g i) (slice_index sent i) (row_end layers e (row_of g i)))
     (rows_apart g layers e sent)
 
 -- ---- nor after a change of places
-same_or : (x y : Group) → Same x y ⊎ (Same x y → ⊥)
-same_or x y = elim (cases_eq x.place y.place) [
-  | inr other ↦ inr (λ s. other s.0)
-  | inl ep ↦ elim (cases_eq x.layer y.layer) [
-    | inr other ↦ inr (λ s. other s.1)
-    | inl el ↦ elim (cases_eq x.precinct y.precinct) [ inr other ↦ inr (λ s. other s.2) | inl ek ↦ inl (ep, el, ek) ]
-  ]
-]
-
-abbrev decided : (x y : Group) → Same x y ⊎ (Same x y → ⊥) → Bool
+abbrev decided : (x y : PacketName) → (x ≡ y) ⊎ (x ≢ y) → Bool
 decided x y (inl e) = true
 decided x y (inr other) = false
 
-abbrev same_group : Group → Group → Bool
-same_group x y = decided x y (same_or x y)
+abbrev is_one : PacketName → PacketName → Bool
+is_one x y = decided x y (same_or x y)
 
-decided_false : (x y : Group) (d : Same x y ⊎ (Same x y → ⊥)) → Apart x y → decided x y d ≡ false
+decided_false : (x y : PacketName) (d : (x ≡ y) ⊎ (x ≢ y)) → Apart x y → decided x y d ≡ false
 decided_false x y (inl e) h = absurd (h e)
 decided_false x y (inr other) h = refl
 
-decided_other : (x y : Group) (d : Same x y ⊎ (Same x y → ⊥)) → decided x y d ≡ false → Apart x y
+decided_other : (x y : PacketName) (d : (x ≡ y) ⊎ (x ≢ y)) → decided x y d ≡ false → Apart x y
 decided_other x y (inl e) h = absurd (cc)
 decided_other x y (inr other) h = other
 
-turned : (x y : Group) → Same x y → Same y x
-turned x y s = (sym s.0, sym s.1, sym s.2)
-
-decided_flips : (x y : Group) (d : Same x y ⊎ (Same x y → ⊥)) (f : Same y x ⊎ (Same y x → ⊥)) → decided x y d ≡ decided y x f
+decided_flips : (x y : PacketName) (d : (x ≡ y) ⊎ (x ≢ y)) (f : (y ≡ x) ⊎ (y ≢ x)) → decided x y d ≡ decided y x f
 decided_flips x y (inl e) (inl f) = refl
-decided_flips x y (inl e) (inr f) = absurd (f (turned x y e))
-decided_flips x y (inr e) (inl f) = absurd (e (turned y x f))
+decided_flips x y (inl e) (inr f) = absurd (f (sym e))
+decided_flips x y (inr e) (inl f) = absurd (e (sym f))
 decided_flips x y (inr e) (inr f) = refl
 
-pairs_permuted : (xs ys : List Group) → IsPermutation xs ys → AllPairs Apart xs → AllPairs Apart ys
+pairs_permuted : (xs ys : List PacketName) → IsPermutation xs ys → AllPairs Apart xs → AllPairs Apart ys
 pairs_permuted xs ys moved h =
-    let flips : (x y : Group) → same_group x y ≡ same_group y x = λ x y. decided_flips x y (same_or x y) (same_or y x) in
-    let before = IsDistinct-from_apart same_group xs (λ i j d lt below.
+    let flips : (x y : PacketName) → is_one x y ≡ is_one y x = λ x y. decided_flips x y (same_or x y) (same_or y x) in
+    let before = IsDistinct-from_apart is_one xs (λ i j d lt below.
     decided_false (get_or xs i d) (get_or xs j d) (same_or (get_or xs i d) (get_or xs j d)) (h i j d lt below)) in
-    let after = IsDistinct-IsPermutation same_group flips xs ys moved before in
+    let after = IsDistinct-IsPermutation is_one flips xs ys moved before in
     λ i j d lt below. decided_other (get_or ys i d) (get_or ys j d) (same_or (get_or ys i d) (get_or ys j d))
-    (apart_from_distinct same_group ys i j d after lt below)
+    (apart_from_distinct is_one ys i j d after lt below)
 
--- ---- the numbers of a group are those of its packets
+-- ---- the numbers that are sorted by are those that the packets of a group share
 abbrev head_of : Geometry → Order → PacketName → List ℕ
 head_of g Lrcp p = p.layer ∷ p.res ∷ p.comp ∷ 0 ∷ []
 head_of g Rlcp p = p.res ∷ p.layer ∷ p.comp ∷ 0 ∷ []
@@ -134,66 +125,52 @@ head_less g Rpcl p q h = less_more (head_of g Rpcl p) (head_of g Rpcl q) (p.laye
 head_less g Pcrl p q h = less_more (head_of g Pcrl p) (head_of g Pcrl q) (p.layer ∷ []) (q.layer ∷ []) h
 head_less g Cprl p q h = less_more (head_of g Cprl p) (head_of g Cprl q) (p.layer ∷ []) (q.layer ∷ []) h
 
-layer_head : (g : Geometry) (o : Order) (q : Resolution) (i n k : ℕ) → by_layer o ≡ true → heads (layer_group o q i n) ≡ head_of g o (name_of n q.res q.comp k)
-layer_head g Lrcp q i n k h = refl
-layer_head g Rlcp q i n k h = refl
-layer_head g Rpcl q i n k h = absurd (cc)
-layer_head g Pcrl q i n k h = absurd (cc)
-layer_head g Cprl q i n k h = absurd (cc)
+across_there : (g : Geometry) (layers : ℕ) (p : PacketName) → IsPacket g layers p → across_or g p ≡ across_of g p
+unfolding across_or
+across_there g layers p h =
+    let lt : p.precinct < count_of g p.comp p.res = omega (arith, h.precinct, count_is g p.comp p.res h.resolution) in
+    grind (arith, nat_tests)
 
-precinct_head : (g : Geometry) (o : Order) (i n l : ℕ) → by_layer o ≡ false → heads (group_at g o i n) ≡ head_of g o (name_of l (row_of g i).res (row_of g i).comp n)
-precinct_head g Lrcp i n l h = absurd (cc)
-precinct_head g Rlcp i n l h = absurd (cc)
-precinct_head g Rpcl i n l h = refl
-precinct_head g Pcrl i n l h = refl
-precinct_head g Cprl i n l h = refl
+down_there : (g : Geometry) (layers : ℕ) (p : PacketName) → IsPacket g layers p → down_or g p ≡ down_of g p
+unfolding down_or
+down_there g layers p h =
+    let lt : p.precinct < count_of g p.comp p.res = omega (arith, h.precinct, count_is g p.comp p.res h.resolution) in
+    grind (arith, nat_tests)
 
-other_kind : (b : Bool) → b ≡ true → b ≡ false → ⊥
-other_kind b h k = cc
+key_is : (g : Geometry) (layers : ℕ) (o : Order) (p : PacketName) → IsPacket g layers p → numbers_of (sort_key g o p) ≡ head_of g o p
+unfolding sort_key
+key_is g layers Lrcp p h = refl
+key_is g layers Rlcp p h = refl
+key_is g layers Rpcl p h =
+    ap (λ x. numbers_of (precinct_key Rpcl p x (down_or g p))) (across_there g layers p h) ∙ ap (λ y. numbers_of (precinct_key Rpcl p (across_of g p) y)) (down_there g layers p h)
+key_is g layers Pcrl p h =
+    ap (λ x. numbers_of (precinct_key Pcrl p x (down_or g p))) (across_there g layers p h) ∙ ap (λ y. numbers_of (precinct_key Pcrl p (across_of g p) y)) (down_there g layers p h)
+key_is g layers Cprl p h =
+    ap (λ x. numbers_of (precinct_key Cprl p x (down_or g p))) (across_there g layers p h) ∙ ap (λ y. numbers_of (precinct_key Cprl p (across_of g p) y)) (down_there g layers p h)
 
--- a packet of a group, by its kind
-record PacketOf (g : Geometry) (o : Order) (x : Group) (p : PacketName) : Type 0 where
-  pub head : heads x ≡ head_of g o p
+layer_shares : (g : Geometry) (o : Order) (x : PacketName) (k : ℕ) → by_layer o ≡ true → head_of g o (name_of x.layer x.res x.comp k) ≡ head_of g o x
+layer_shares g Lrcp x k h = refl
+layer_shares g Rlcp x k h = refl
+layer_shares g Rpcl x k h = absurd (cc)
+layer_shares g Pcrl x k h = absurd (cc)
+layer_shares g Cprl x k h = absurd (cc)
 
-layer_packet : (g : Geometry) (layers : ℕ) (e : Progression) (sent : List ℕ) (o : Order) (x : Group) (k : ℕ) → LayerIn g layers e sent o x
-    → heads x ≡ head_of g o (name_of x.layer (row_of g x.place).res (row_of g x.place).comp k)
-layer_packet g layers e sent o x k l =
-    ap (λ (w : Group). heads w) l.is ∙ layer_head g o (row_of g x.place) x.place x.layer k l.kind
+precinct_shares : (g : Geometry) (o : Order) (x : PacketName) (n : ℕ) → by_layer o ≡ false → head_of g o (name_of n x.res x.comp x.precinct) ≡ head_of g o x
+precinct_shares g Lrcp x n h = absurd (cc)
+precinct_shares g Rlcp x n h = absurd (cc)
+precinct_shares g Rpcl x n h = refl
+precinct_shares g Pcrl x n h = refl
+precinct_shares g Cprl x n h = refl
 
-precinct_packet : (g : Geometry) (layers : ℕ) (e : Progression) (sent : List ℕ) (o : Order) (x : Group) (l : ℕ) → PrecinctIn g layers e sent o x
-    → heads x ≡ head_of g o (name_of l (row_of g x.place).res (row_of g x.place).comp x.precinct)
-precinct_packet g layers e sent o x l k =
-    ap (λ (w : Group). heads w) k.is ∙ precinct_head g o x.place x.precinct l k.kind
+shares : (g : Geometry) (o : Order) (end : ℕ) (x p : PacketName) → Contains (group_names g o end x) p → head_of g o p ≡ head_of g o x
+shares g o end x p c =
+    let s = stands_in g o end x p c in
+    elim (cases_Bool (by_layer o)) [
+      | inl h ↦ ap (λ (q : PacketName). head_of g o q) (s.layer h).1 ∙ layer_shares g o x p.precinct h
+      | inr h ↦ ap (λ (q : PacketName). head_of g o q) (s.precinct h).2 ∙ precinct_shares g o x p.layer h
+    ]
 
--- the packets of a group stand in a row of its kind
-layer_name : (g : Geometry) (layers : ℕ) (e : Progression) (sent : List ℕ) (o : Order) (x : Group) (p : PacketName) → LayerIn g layers e sent o x
-    → Contains (group_names o layers e (resolutions_of g) sent x) p → (k : ℕ) × (p ≡ name_of x.layer (row_of g x.place).res (row_of g x.place).comp k)
-layer_name g layers e sent o x p l c =
-    let C : List PacketName → Type 0 = λ xs. Contains xs p in
-    let j = joined_has (one_precinct (row_of g x.place) x.layer) 0 (row_of g x.place).precincts p
-    (subst C (layer_names o (row_of g x.place) (slice_index sent x.place) (row_end layers e (row_of g x.place)) x l.kind) c) in
-    (j.number, one_has (name_of x.layer (row_of g x.place).res (row_of g x.place).comp j.number) p j.has)
-
-precinct_name : (g : Geometry) (layers : ℕ) (e : Progression) (sent : List ℕ) (o : Order) (x : Group) (p : PacketName) → PrecinctIn g layers e sent o x
-    → Contains (group_names o layers e (resolutions_of g) sent x) p → (l : ℕ) × (p ≡ name_of l (row_of g x.place).res (row_of g x.place).comp x.precinct)
-precinct_name g layers e sent o x p k c =
-    let C : List PacketName → Type 0 = λ xs. Contains xs p in
-    let j = joined_has (one_layer (row_of g x.place) x.precinct) (slice_index sent x.place) (row_end layers e (row_of g x.place)) p
-    (subst C (precinct_names o (row_of g x.place) (slice_index sent x.place) (row_end layers e (row_of g x.place)) x k.kind) c) in
-    (j.number, one_has (name_of j.number (row_of g x.place).res (row_of g x.place).comp x.precinct) p j.has)
-
-head_is : (g : Geometry) (layers : ℕ) (e : Progression) (sent : List ℕ) (o : Order) (x : Group) (p : PacketName) → GroupIn g layers e sent o x
-    → Contains (group_names o layers e (resolutions_of g) sent x) p → heads x ≡ head_of g o p
-head_is g layers e sent o x p h c = elim h.kind [
-  | inl l ↦
-      let n = layer_name g layers e sent o x p l c in
-      layer_packet g layers e sent o x n.0 l ∙ ap (λ (q : PacketName). head_of g o q) (sym n.1)
-  | inr k ↦
-      let n = precinct_name g layers e sent o x p k c in
-      precinct_packet g layers e sent o x n.0 k ∙ ap (λ (q : PacketName). head_of g o q) (sym n.1)
-]
-
--- ---- two groups of one key are one
+-- ---- two first packets of one key are one
 record Heads (a b c d a' b' c' d' : ℕ) : Type 0 where
   pub first : a ≡ a'
   pub second : b ≡ b'
@@ -239,52 +216,35 @@ head_precinct g layers Cprl p q range hp hq h e =
     let f = four p.comp (down_of g p) (across_of g p) p.res q.comp (down_of g q) (across_of g q) q.res e in
     same_place g layers p q range hp hq f.first f.fourth f.third f.second
 
-same_layers : (g : Geometry) (layers : ℕ) (e : Progression) (sent : List ℕ) (o : Order) (x y : Group) → x.place < length (resolutions_of g)
-    → y.place < length (resolutions_of g) → LayerIn g layers e sent o x → LayerIn g layers e sent o y → heads x ≡ heads y → Same x y
-same_layers g layers e sent o x y bx by' lx ly same =
-    let p : PacketName = name_of x.layer (row_of g x.place).res (row_of g x.place).comp 0 in
-    let q : PacketName = name_of y.layer (row_of g y.place).res (row_of g y.place).comp 0 in
-    let head = sym (layer_packet g layers e sent o x 0 lx) ∙ same ∙ layer_packet g layers e sent o y 0 ly in
-    let row = head_row g o (name_of x.layer (row_of g x.place).res (row_of g x.place).comp 0) (name_of y.layer (row_of g y.place).res (row_of g y.place).comp 0) head in
-    let layer = head_layer g o (name_of x.layer (row_of g x.place).res (row_of g x.place).comp 0) (name_of y.layer (row_of g y.place).res (row_of g y.place).comp 0) lx.kind head in
-    (rows_once g x.place y.place bx by' row.comp row.res, layer, lx.precinct ∙ sym ly.precinct)
-
-same_precincts : (g : Geometry) (layers : ℕ) (e : Progression) (sent : List ℕ) (o : Order) (x y : Group) → GeometryInRange g → x.place < length (resolutions_of g)
-    → y.place < length (resolutions_of g) → PrecinctIn g layers e sent o x → PrecinctIn g layers e sent o y → heads x ≡ heads y → Same x y
-same_precincts g layers e sent o x y range bx by' kx ky same =
-    let head = sym (precinct_packet g layers e sent o x 0 kx) ∙ same ∙ precinct_packet g layers e sent o y 0 ky in
-    let row = head_row g o (name_of 0 (row_of g x.place).res (row_of g x.place).comp x.precinct) (name_of 0 (row_of g y.place).res (row_of g y.place).comp y.precinct) head in
-    let precinct = head_precinct g 1 o (name_of 0 (row_of g x.place).res (row_of g x.place).comp x.precinct) (name_of 0 (row_of g y.place).res (row_of g y.place).comp y.precinct)
-    range (row_packet g 1 x.place 0 x.precinct bx (omega arith) kx.precinct) (row_packet g 1 y.place 0 y.precinct by' (omega arith) ky.precinct) kx.kind head in
-    (rows_once g x.place y.place bx by' row.comp row.res, kx.layer ∙ sym ky.layer, precinct)
-
-same_groups : (g : Geometry) (layers : ℕ) (e : Progression) (sent : List ℕ) (o : Order) (x y : Group) → GeometryInRange g
-    → GroupIn g layers e sent o x → GroupIn g layers e sent o y → heads x ≡ heads y → Same x y
-same_groups g layers e sent o x y range hx hy same = elim hx.kind [
-  | inl lx ↦ elim hy.kind [
-    | inl ly ↦ same_layers g layers e sent o x y hx.below hy.below lx ly same
-    | inr ky ↦ absurd (other_kind (by_layer o) lx.kind ky.kind)
-  ]
-  | inr kx ↦ elim hy.kind [
-    | inl ly ↦ absurd (other_kind (by_layer o) ly.kind kx.kind)
-    | inr ky ↦ same_precincts g layers e sent o x y range hx.below hy.below kx ky same
-  ]
-]
+-- first packets of one head
+one_first : (g : Geometry) (layers : ℕ) (e : Progression) (sent : List ℕ) (o : Order) (x y : PacketName) → GeometryInRange g
+    → Listed g layers e sent x → Listed g layers e sent y → IsFirst g sent o x → IsFirst g sent o y → head_of g o x ≡ head_of g o y → x ≡ y
+one_first g layers e sent o x y range lx ly fx fy same =
+    let row = head_row g o x y same in
+    elim (cases_Bool (by_layer o)) [
+      | inl h ↦ same_fields x y (head_layer g o x y h same) row.res row.comp (fx.precinct h ∙ sym (fy.precinct h))
+      | inr h ↦
+          let layer : x.layer ≡ y.layer =
+          fx.layer h ∙ ap (λ c. sent_at g sent c x.res) row.comp ∙ ap (λ r. sent_at g sent y.comp r) row.res ∙ sym (fy.layer h) in
+          same_fields x y layer row.res row.comp (head_precinct g layers o x y range lx.0 ly.0 h same)
+    ]
 
 -- ---- packets of one group
-layer_rises : (g : Geometry) (o : Order) (q : Resolution) (n i j : ℕ) → by_layer o ≡ true → i < j → ComesBefore g o (name_of n q.res q.comp i) (name_of n q.res q.comp j)
-layer_rises g Lrcp q n i j h lt = inr (refl, inr (refl, inr (refl, inl lt)))
-layer_rises g Rlcp q n i j h lt = inr (refl, inr (refl, inr (refl, inl lt)))
-layer_rises g Rpcl q n i j h lt = absurd (cc)
-layer_rises g Pcrl q n i j h lt = absurd (cc)
-layer_rises g Cprl q n i j h lt = absurd (cc)
+layer_rises : (g : Geometry) (o : Order) (x : PacketName) (i j : ℕ) → by_layer o ≡ true → i < j
+    → ComesBefore g o (name_of x.layer x.res x.comp i) (name_of x.layer x.res x.comp j)
+layer_rises g Lrcp x i j h lt = inr (refl, inr (refl, inr (refl, inl lt)))
+layer_rises g Rlcp x i j h lt = inr (refl, inr (refl, inr (refl, inl lt)))
+layer_rises g Rpcl x i j h lt = absurd (cc)
+layer_rises g Pcrl x i j h lt = absurd (cc)
+layer_rises g Cprl x i j h lt = absurd (cc)
 
-precinct_rises : (g : Geometry) (o : Order) (q : Resolution) (k i j : ℕ) → by_layer o ≡ false → i < j → ComesBefore g o (name_of i q.res q.comp k) (name_of j q.res q.comp k)
-precinct_rises g Lrcp q k i j h lt = absurd (cc)
-precinct_rises g Rlcp q k i j h lt = absurd (cc)
-precinct_rises g Rpcl q k i j h lt = inr (refl, inr (refl, inr (refl, inr (refl, inl lt))))
-precinct_rises g Pcrl q k i j h lt = inr (refl, inr (refl, inr (refl, inr (refl, inl lt))))
-precinct_rises g Cprl q k i j h lt = inr (refl, inr (refl, inr (refl, inr (refl, inl lt))))
+precinct_rises : (g : Geometry) (o : Order) (x : PacketName) (i j : ℕ) → by_layer o ≡ false → i < j
+    → ComesBefore g o (name_of i x.res x.comp x.precinct) (name_of j x.res x.comp x.precinct)
+precinct_rises g Lrcp x i j h lt = absurd (cc)
+precinct_rises g Rlcp x i j h lt = absurd (cc)
+precinct_rises g Rpcl x i j h lt = inr (refl, inr (refl, inr (refl, inr (refl, inl lt))))
+precinct_rises g Pcrl x i j h lt = inr (refl, inr (refl, inr (refl, inr (refl, inl lt))))
+precinct_rises g Cprl x i j h lt = inr (refl, inr (refl, inr (refl, inr (refl, inl lt))))
 
 one_name_pairs : (g : Geometry) (o : Order) (p : PacketName) → AllPairs (ComesBefore g o) (p ∷ [])
 one_name_pairs g o p i j d lt below = absurd (omega arith)
@@ -295,82 +255,110 @@ moved_before g o x y p q ex ey h =
     let Q : PacketName → Type 0 = λ w. ComesBefore g o x w in
     subst Q (sym ey) (subst P (sym ex) h)
 
-names_rise : (g : Geometry) (layers : ℕ) (e : Progression) (sent : List ℕ) (o : Order) (x : Group)
-    → AllPairs (ComesBefore g o) (group_names o layers e (resolutions_of g) sent x)
-names_rise g layers e sent o x =
+names_rise : (g : Geometry) (o : Order) (end : ℕ) (x : PacketName) → AllPairs (ComesBefore g o) (group_names g o end x)
+names_rise g o end x =
     let P : List PacketName → Type 0 = λ xs. AllPairs (ComesBefore g o) xs in
     elim (cases_Bool (by_layer o)) [
       | inl h ↦
-          subst P (sym (layer_names o (row_of g x.place) (slice_index sent x.place) (row_end layers e (row_of g x.place)) x h))
-          (joined_pairs (ComesBefore g o) (one_precinct (row_of g x.place) x.layer) 0 (row_of g x.place).precincts
-          (λ k. one_name_pairs g o (name_of x.layer (row_of g x.place).res (row_of g x.place).comp k))
-          (λ i j a b lt ha hb. moved_before g o a b (name_of x.layer (row_of g x.place).res (row_of g x.place).comp i)
-          (name_of x.layer (row_of g x.place).res (row_of g x.place).comp j) (one_has _ a ha) (one_has _ b hb) (layer_rises g o (row_of g x.place) x.layer i j h lt)))
+          subst P (sym (layer_names g o end x h))
+          (joined_pairs (ComesBefore g o) (one_precinct x) 0 (count_of g x.comp x.res) (λ k. one_name_pairs g o (name_of x.layer x.res x.comp k))
+          (λ i j a b lt ha hb. moved_before g o a b (name_of x.layer x.res x.comp i) (name_of x.layer x.res x.comp j) (one_has _ a ha) (one_has _ b hb)
+          (layer_rises g o x i j h lt)))
       | inr h ↦
-          subst P (sym (precinct_names o (row_of g x.place) (slice_index sent x.place) (row_end layers e (row_of g x.place)) x h))
-          (joined_pairs (ComesBefore g o) (one_layer (row_of g x.place) x.precinct) (slice_index sent x.place) (row_end layers e (row_of g x.place))
-          (λ l. one_name_pairs g o (name_of l (row_of g x.place).res (row_of g x.place).comp x.precinct))
-          (λ i j a b lt ha hb. moved_before g o a b (name_of i (row_of g x.place).res (row_of g x.place).comp x.precinct)
-          (name_of j (row_of g x.place).res (row_of g x.place).comp x.precinct) (one_has _ a ha) (one_has _ b hb) (precinct_rises g o (row_of g x.place) x.precinct i j h lt)))
+          subst P (sym (precinct_names g o end x h))
+          (joined_pairs (ComesBefore g o) (one_layer x) x.layer end (λ l. one_name_pairs g o (name_of l x.res x.comp x.precinct))
+          (λ i j a b lt ha hb. moved_before g o a b (name_of i x.res x.comp x.precinct) (name_of j x.res x.comp x.precinct) (one_has _ a ha) (one_has _ b hb)
+          (precinct_rises g o x i j h lt)))
     ]
 
 -- ---- what is listed and sorted is what the entry sends
-abbrev pub names_of : Geometry → ℕ → Progression → List ℕ → List Group → List PacketName
-names_of g layers e sent ys = flat_map (group_names (order_of e.order) layers e (resolutions_of g) sent) ys
+abbrev pub names_of : Geometry → ℕ → Progression → List PacketName → List PacketName
+names_of g layers e ys = flat_map (group_names g (order_of e.order) (min e.lye layers)) ys
 
-abbrev Before : Group → Group → Type 0
-Before x y = IsLess (heads x) (heads y)
+abbrev Before : Geometry → Order → PacketName → PacketName → Type 0
+Before g o x y = IsLess (head_of g o x) (head_of g o y)
 
-pub exact_names : (g : Geometry) (layers : ℕ) (e : Progression) (sent : List ℕ) (ys : List Group)
-    → ((x : Group) → Contains ys x → Contains (all_groups g layers e sent) x) → ((x : Group) → Contains (all_groups g layers e sent) x → Contains ys x)
-    → (p : PacketName) → Contains (names_of g layers e sent ys) p ↔ Listed g layers e sent p
+pub exact_names : (g : Geometry) (layers : ℕ) (e : Progression) (sent : List ℕ) (ys : List PacketName)
+    → ((x : PacketName) → Contains ys x → Contains (all_heads g layers e sent) x)
+    → ((x : PacketName) → Contains (all_heads g layers e sent) x → Contains ys x)
+    → (p : PacketName) → Contains (names_of g layers e ys) p ↔ Listed g layers e sent p
 exact_names g layers e sent ys to from p = (
-  λ h. (let n = flat_has (group_names (order_of e.order) layers e (resolutions_of g) sent) ys p h in
-      let x = group_in g layers e sent n.0 (to n.0 n.1) in
-      due_to g layers e sent n.0.place p (name_in g layers e sent (order_of e.order) n.0 p x n.2).due),
-  λ h. (let i = due_in g layers e sent _ p (due_from g layers e sent p h) in
-      flat_from (group_names (order_of e.order) layers e (resolutions_of g) sent) ys i.group p (from i.group i.listed) i.has),
+  λ h. (let n = flat_has (group_names g (order_of e.order) (min e.lye layers)) ys p h in
+      name_listed g layers e sent (order_of e.order) n.0 p (head_to g layers e sent n.0 (to n.0 n.1)).0 n.2),
+  λ h. (let i = in_group g layers e sent p h in
+      flat_from (group_names g (order_of e.order) (min e.lye layers)) ys i.first p (from i.first i.there) i.has),
 )
 
-groups_sorted : (g : Geometry) (layers : ℕ) (e : Progression) (sent : List ℕ) (ys : List Group) → GeometryInRange g
-    → ((x : Group) → Contains ys x → Contains (all_groups g layers e sent) x) → AllPairs Apart ys
-    → ((k : ℕ) (d : Group) → k + 1 < length ys → IsLess (heads (get_or ys k d)) (heads (get_or ys (k + 1) d)) ⊎ (heads (get_or ys k d) ≡ heads (get_or ys (k + 1) d)))
-    → AllPairs Before ys
-groups_sorted g layers e sent ys range to apart sorted =
-    pairs_from_next Before (λ x y z. less_trans (heads x) (heads y) (heads z)) ys (λ k d below.
+heads_sorted : (g : Geometry) (layers : ℕ) (e : Progression) (sent : List ℕ) (ys : List PacketName) → GeometryInRange g
+    → ((x : PacketName) → Contains ys x → Contains (all_heads g layers e sent) x) → AllPairs Apart ys → AreSorted g (order_of e.order) ys
+    → AllPairs (Before g (order_of e.order)) ys
+heads_sorted g layers e sent ys range to apart sorted =
+    pairs_from_next (Before g (order_of e.order))
+    (λ x y z. less_trans (head_of g (order_of e.order) x) (head_of g (order_of e.order) y) (head_of g (order_of e.order) z)) ys (λ k d below.
+    (let x : PacketName = get_or ys k d in
+    let y : PacketName = get_or ys (k + 1) d in
+    let here : k < length ys = omega arith in
+    let a = head_to g layers e sent (get_or ys k d) (to (get_or ys k d) (Contains-get_or ys k d here)) in
+    let b = head_to g layers e sent (get_or ys (k + 1) d) (to (get_or ys (k + 1) d) (Contains-get_or ys (k + 1) d below)) in
+    let ex = key_is g layers (order_of e.order) (get_or ys k d) a.0.0 in
+    let ey = key_is g layers (order_of e.order) (get_or ys (k + 1) d) b.0.0 in
+    let P : List ℕ → Type 0 = λ v. IsLess v (numbers_of (sort_key g (order_of e.order) (get_or ys (k + 1) d))) in
+    let Q : List ℕ → Type 0 = λ w. IsLess (head_of g (order_of e.order) (get_or ys k d)) w in
     elim (sorted k d below) [
-      | inl less ↦ less
+      | inl less ↦ subst Q ey (subst P ex less)
       | inr same ↦
-          let here : k < length ys = omega arith in
-          let a = group_in g layers e sent (get_or ys k d) (to (get_or ys k d) (Contains-get_or ys k d here)) in
-          let b = group_in g layers e sent (get_or ys (k + 1) d) (to (get_or ys (k + 1) d) (Contains-get_or ys (k + 1) d below)) in
-          absurd (apart k (k + 1) d (omega arith) below (same_groups g layers e sent (order_of e.order) (get_or ys k d) (get_or ys (k + 1) d) range a b same))
-    ])
+          absurd (apart k (k + 1) d (omega arith) below (one_first g layers e sent (order_of e.order) (get_or ys k d) (get_or ys (k + 1) d) range a.0 b.0 a.1 b.1
+          (sym ex ∙ same ∙ ey)))
+    ]))
 
-between : (g : Geometry) (layers : ℕ) (e : Progression) (sent : List ℕ) (x y : Group) (p q : PacketName) → GroupIn g layers e sent (order_of e.order) x
-    → GroupIn g layers e sent (order_of e.order) y → Before x y → Contains (group_names (order_of e.order) layers e (resolutions_of g) sent x) p
-    → Contains (group_names (order_of e.order) layers e (resolutions_of g) sent y) q → ComesBefore g (order_of e.order) p q
-between g layers e sent x y p q hx hy less cp cq =
-    let P : List ℕ → Type 0 = λ v. IsLess v (heads y) in
-    let Q : List ℕ → Type 0 = λ w. IsLess (head_of g (order_of e.order) p) w in
-    head_less g (order_of e.order) p q
-    (subst Q (head_is g layers e sent (order_of e.order) y q hy cq) (subst P (head_is g layers e sent (order_of e.order) x p hx cp) less))
+between : (g : Geometry) (o : Order) (end : ℕ) (x y p q : PacketName) → Before g o x y → Contains (group_names g o end x) p
+    → Contains (group_names g o end y) q → ComesBefore g o p q
+between g o end x y p q less cp cq =
+    let P : List ℕ → Type 0 = λ v. IsLess v (head_of g o y) in
+    let Q : List ℕ → Type 0 = λ w. IsLess (head_of g o p) w in
+    head_less g o p q (subst Q (sym (shares g o end y q cq)) (subst P (sym (shares g o end x p cp)) less))
 
-pub sorted_lists : (g : Geometry) (layers : ℕ) (e : Progression) (sent : List ℕ) (xs ys : List Group) → GeometryInRange g
-    → xs ≡ all_groups g layers e sent → IsPermutation xs ys
-    → ((k : ℕ) (d : Group) → k + 1 < length ys → IsLess (heads (get_or ys k d)) (heads (get_or ys (k + 1) d)) ⊎ (heads (get_or ys k d) ≡ heads (get_or ys (k + 1) d)))
-    → Lists g layers e sent (names_of g layers e sent ys)
+pub sorted_lists : (g : Geometry) (layers : ℕ) (e : Progression) (sent : List ℕ) (xs ys : List PacketName) → GeometryInRange g
+    → xs ≡ all_heads g layers e sent → IsPermutation xs ys → AreSorted g (order_of e.order) ys → Lists g layers e sent (names_of g layers e ys)
 sorted_lists g layers e sent xs ys range made moved sorted =
-    let C : Group → List Group → Type 0 = λ q l. Contains l q in
-    let to : (x : Group) → Contains ys x → Contains (all_groups g layers e sent) x = λ x h.
+    let C : PacketName → List PacketName → Type 0 = λ q l. Contains l q in
+    let to : (x : PacketName) → Contains ys x → Contains (all_heads g layers e sent) x = λ x h.
     subst (C x) made (Contains-permutation ys xs x (IsPermutation-sym xs ys moved) h) in
-    let from : (x : Group) → Contains (all_groups g layers e sent) x → Contains ys x = λ x h.
+    let from : (x : PacketName) → Contains (all_heads g layers e sent) x → Contains ys x = λ x h.
     Contains-permutation xs ys x moved (subst (C x) (sym made) h) in
-    let P : List Group → Type 0 = λ l. AllPairs Apart l in
+    let P : List PacketName → Type 0 = λ l. AllPairs Apart l in
     let apart : AllPairs Apart ys = pairs_permuted xs ys moved (subst P (sym made) (all_apart g layers e sent)) in
     record {
       exact = exact_names g layers e sent ys to from;
-      sorted = flat_pairs Before (ComesBefore g (order_of e.order)) (group_names (order_of e.order) layers e (resolutions_of g) sent) ys
-          (groups_sorted g layers e sent ys range to apart sorted) (λ x h. names_rise g layers e sent (order_of e.order) x)
-          (λ x y p q hx hy r cp cq. between g layers e sent x y p q (group_in g layers e sent x (to x hx)) (group_in g layers e sent y (to y hy)) r cp cq);
+      sorted = flat_pairs (Before g (order_of e.order)) (ComesBefore g (order_of e.order)) (group_names g (order_of e.order) (min e.lye layers)) ys
+          (heads_sorted g layers e sent ys range to apart sorted) (λ x h. names_rise g (order_of e.order) (min e.lye layers) x)
+          (λ x y p q hx hy r cp cq. between g (order_of e.order) (min e.lye layers) x y p q r cp cq);
     }
+
+-- none of them stands for nothing
+pub some_each : (g : Geometry) (layers : ℕ) (e : Progression) (sent : List ℕ) (xs ys : List PacketName) → xs ≡ all_heads g layers e sent
+    → IsPermutation xs ys → All (λ x. 0 < group_size g (order_of e.order) (min e.lye layers) x) ys
+some_each g layers e sent xs ys made moved k d lt =
+    let C : List PacketName → Type 0 = λ l. Contains l (get_or ys k d) in
+    some_names g layers e sent (order_of e.order) (get_or ys k d)
+    (head_to g layers e sent (get_or ys k d) (subst C made (Contains-permutation ys xs (get_or ys k d) (IsPermutation-sym xs ys moved) (Contains-get_or ys k d lt)))).0
+
+-- ---- the same of an order and an end that are these
+pub entry_some : (g : Geometry) (layers : ℕ) (e : Progression) (sent : List ℕ) (o : Order) (end : ℕ) (xs ys zs : List PacketName) → o ≡ order_of e.order
+    → end ≡ min e.lye layers → xs ≡ all_heads g layers e sent → IsPermutation xs ys → zs ≡ ys → All (λ x. 0 < group_size g o end x) zs
+entry_some g layers e sent o end xs ys zs eo ee made moved same =
+    let P : Order → Type 0 = λ v. All (λ x. 0 < group_size g v end x) zs in
+    let Q : ℕ → Type 0 = λ n. All (λ x. 0 < group_size g (order_of e.order) n x) zs in
+    let R : List PacketName → Type 0 = λ l. All (λ x. 0 < group_size g (order_of e.order) (min e.lye layers) x) l in
+    subst P (sym eo) (subst Q (sym ee) (subst R (sym same) (some_each g layers e sent xs ys made moved)))
+
+pub entry_lists : (g : Geometry) (layers : ℕ) (e : Progression) (sent : List ℕ) (o : Order) (end : ℕ) (xs ys zs names : List PacketName) → GeometryInRange g
+    → o ≡ order_of e.order → end ≡ min e.lye layers → xs ≡ all_heads g layers e sent → IsPermutation xs ys → AreSorted g o ys → zs ≡ ys
+    → names ≡ flat_map (group_names g o end) zs → Lists g layers e sent names
+entry_lists g layers e sent o end xs ys zs names range eo ee made moved sorted same is =
+    let P : Order → Type 0 = λ v. AreSorted g v ys in
+    let L : List PacketName → Type 0 = λ l. Lists g layers e sent l in
+    let named : names ≡ names_of g layers e ys =
+    is ∙ ap (λ (l : List PacketName). flat_map (group_names g o end) l) same ∙ ap (λ (v : Order). flat_map (group_names g v end) ys) eo
+    ∙ ap (λ n. flat_map (group_names g (order_of e.order) n) ys) ee in
+    subst L (sym named) (sorted_lists g layers e sent xs ys range made moved (subst P eo sorted))

@@ -1,17 +1,18 @@
 -- Words of the inner functions: how far an entry goes in a resolution, the layers that were sent, groups of packets that stand together.
-use Rattle.std.specs.Prelude.{ℕ, ◌+◌, ◌<◌, ◌≤◌, ◌≡◌, ◌==◌, ◌↔◌, min, max, nat_lt, Bool, true, false, List, [], ◌∷◌, length, slice_index, slice_index_or, if◌then◌else◌}
+use Rattle.std.specs.Prelude.{ℕ, ◌+◌, ◌-◌, ◌<◌, ◌≤◌, ◌≡◌, ◌⊎◌, ◌==◌, ◌↔◌, min, max, nat_le, nat_lt, Bool, true, false, List, [], ◌∷◌, length, slice_index, slice_index_or, if◌then◌else◌}
 use Rattle.std.specs.List.{AllPairs, Contains}
 use Rattle.jx_geom.specs.declared.table.Resolution.{Resolution}
-use Rattle.jx_geom.specs.Geometry.{Geometry, rect_of_tile, reference_across, reference_down}
+use Rattle.jx_geom.specs.Geometry.{Geometry, precincts_in, rect_of_tile, shape_of}
 use Rattle.jx_geom.specs.Resolutions.{place_of, resolutions_of}
 use Rattle.jx_marker.specs.declared.Progression.{Progression}
 use Rattle.jx_order.specs.declared.names.PacketName.{PacketName}
 use Rattle.jx_order.specs.declared.names.Order.{Order}
 use Rattle.jx_order.specs.declared.names.Order.TheVariants.{Lrcp, Rlcp, Rpcl, Pcrl, Cprl}
-use Rattle.jx_order.specs.declared.groups.Group.{Group}
-use Rattle.jx_order.specs.Orders.{ComesBefore, order_of}
+use Rattle.jx_order.specs.declared.keys.Key.{Key}
+use Rattle.jx_order.specs.Orders.{ComesBefore, IsLess, across_of, down_of, order_of}
 use Rattle.jx_order.specs.Packets.{Covers, IsPacket, entry_at}
 use Rattle.jx_base.specs.Joined.{joined}
+use Rattle.jx_base.specs.Places.{size_of}
 
 abbrev pub name_of : ℕ → ℕ → ℕ → ℕ → PacketName
 name_of l r c k = record { layer = l; res = r; comp = c; precinct = k }
@@ -47,51 +48,73 @@ by_layer Rpcl = false
 by_layer Pcrl = false
 by_layer Cprl = false
 
--- what stands together, behind the numbers of its key: a layer of the resolution at a place, or a precinct of it
-abbrev pub layer_group : Order → Resolution → ℕ → ℕ → Group
-layer_group Lrcp q i n = record { first = n; second = q.res; third = q.comp; fourth = 0; place = i; layer = n; precinct = 0 }
-layer_group Rlcp q i n = record { first = q.res; second = n; third = q.comp; fourth = 0; place = i; layer = n; precinct = 0 }
-layer_group Rpcl q i n = record { first = n; second = q.res; third = q.comp; fourth = 0; place = i; layer = n; precinct = 0 }
-layer_group Pcrl q i n = record { first = n; second = q.res; third = q.comp; fourth = 0; place = i; layer = n; precinct = 0 }
-layer_group Cprl q i n = record { first = n; second = q.res; third = q.comp; fourth = 0; place = i; layer = n; precinct = 0 }
+-- the first packet of each group that stands together in a resolution, with the layers from one to an end to send
+abbrev pub one_layer_head : Resolution → ℕ → List PacketName
+one_layer_head q n = name_of n q.res q.comp 0 ∷ []
 
-abbrev pub precinct_group : Order → Resolution → ℕ → ℕ → ℕ → ℕ → Group
-precinct_group Lrcp q i n x y = record { first = q.res; second = y; third = x; fourth = q.comp; place = i; layer = 0; precinct = n }
-precinct_group Rlcp q i n x y = record { first = q.res; second = y; third = x; fourth = q.comp; place = i; layer = 0; precinct = n }
-precinct_group Rpcl q i n x y = record { first = q.res; second = y; third = x; fourth = q.comp; place = i; layer = 0; precinct = n }
-precinct_group Pcrl q i n x y = record { first = y; second = x; third = q.comp; fourth = q.res; place = i; layer = 0; precinct = n }
-precinct_group Cprl q i n x y = record { first = q.comp; second = y; third = x; fourth = q.res; place = i; layer = 0; precinct = n }
+abbrev pub one_precinct_head : Resolution → ℕ → ℕ → List PacketName
+one_precinct_head q from k = name_of from q.res q.comp k ∷ []
 
-abbrev pub one_layer_group : Order → Resolution → ℕ → ℕ → List Group
-one_layer_group o q i n = layer_group o q i n ∷ []
+unfoldable pub row_heads : Order → Resolution → ℕ → ℕ → List PacketName
+row_heads o q from to =
+    (if by_layer o then joined (one_layer_head q) from to else (if nat_lt from to then joined (one_precinct_head q from) 0 q.precincts else []))
 
-abbrev pub one_precinct_group : Geometry → Order → Resolution → ℕ → ℕ → List Group
-one_precinct_group g o q i n = precinct_group o q i n (reference_across g q.comp q.res n) (reference_down g q.comp q.res n) ∷ []
+abbrev pub heads_at : Geometry → ℕ → Progression → List ℕ → ℕ → List PacketName
+heads_at g layers e sent i = row_heads (order_of e.order) (row_of g i) (slice_index sent i) (row_end layers e (row_of g i))
 
--- those of a resolution with layers to send, from a layer to an end
-unfoldable pub row_groups : Geometry → Order → Resolution → ℕ → ℕ → ℕ → List Group
-row_groups g o q i from to =
-    (if by_layer o then joined (one_layer_group o q i) from to else (if nat_lt from to then joined (one_precinct_group g o q i) 0 q.precincts else []))
+unfoldable pub all_heads : Geometry → ℕ → Progression → List ℕ → List PacketName
+all_heads g layers e sent = joined (heads_at g layers e sent) 0 (length (resolutions_of g))
 
-abbrev pub groups_at : Geometry → ℕ → Progression → List ℕ → ℕ → List Group
-groups_at g layers e sent i = row_groups g (order_of e.order) (row_of g i) i (slice_index sent i) (row_end layers e (row_of g i))
+-- how many precincts a resolution has, none where it isn't there
+unfoldable pub count_of : Geometry → ℕ → ℕ → ℕ
+count_of g c r = (if nat_lt c (length g.shapes) then (if nat_le r (shape_of g c).levels then size_of (precincts_in g c r) else 0) else 0)
 
-unfoldable pub all_groups : Geometry → ℕ → Progression → List ℕ → List Group
-all_groups g layers e sent = joined (groups_at g layers e sent) 0 (length (resolutions_of g))
+-- the packets that stand together with the first of them, up to an end of the layers
+abbrev pub one_precinct : PacketName → ℕ → List PacketName
+one_precinct x k = name_of x.layer x.res x.comp k ∷ []
 
--- the packets of a group
-abbrev pub one_precinct : Resolution → ℕ → ℕ → List PacketName
-one_precinct q l k = name_of l q.res q.comp k ∷ []
+abbrev pub one_layer : PacketName → ℕ → List PacketName
+one_layer x l = name_of l x.res x.comp x.precinct ∷ []
 
-abbrev pub one_layer : Resolution → ℕ → ℕ → List PacketName
-one_layer q k l = name_of l q.res q.comp k ∷ []
+unfoldable pub group_names : Geometry → Order → ℕ → PacketName → List PacketName
+group_names g o end x = (if by_layer o then joined (one_precinct x) 0 (count_of g x.comp x.res) else joined (one_layer x) x.layer end)
 
-unfoldable pub names_in : Order → Resolution → ℕ → ℕ → Group → List PacketName
-names_in o q from to group = (if by_layer o then joined (one_precinct q group.layer) 0 q.precincts else joined (one_layer q group.precinct) from to)
+unfoldable pub group_size : Geometry → Order → ℕ → PacketName → ℕ
+group_size g o end x = (if by_layer o then count_of g x.comp x.res else end - x.layer)
 
-abbrev pub group_names : Order → ℕ → Progression → List Resolution → List ℕ → Group → List PacketName
-group_names o layers e rows sent group =
-    names_in o (row_at rows group.place) (slice_index sent group.place) (row_end layers e (row_at rows group.place)) group
+-- what they are sorted by
+unfoldable pub across_or : Geometry → PacketName → ℕ
+across_or g p = if nat_lt p.precinct (count_of g p.comp p.res) then across_of g p else 0
+
+unfoldable pub down_or : Geometry → PacketName → ℕ
+down_or g p = if nat_lt p.precinct (count_of g p.comp p.res) then down_of g p else 0
+
+abbrev pub layer_key : Order → PacketName → Key
+layer_key Lrcp p = record { first = p.layer; second = p.res; third = p.comp; fourth = 0 }
+layer_key Rlcp p = record { first = p.res; second = p.layer; third = p.comp; fourth = 0 }
+layer_key Rpcl p = record { first = p.layer; second = p.res; third = p.comp; fourth = 0 }
+layer_key Pcrl p = record { first = p.layer; second = p.res; third = p.comp; fourth = 0 }
+layer_key Cprl p = record { first = p.layer; second = p.res; third = p.comp; fourth = 0 }
+
+abbrev pub precinct_key : Order → PacketName → ℕ → ℕ → Key
+precinct_key Lrcp p x y = record { first = p.res; second = y; third = x; fourth = p.comp }
+precinct_key Rlcp p x y = record { first = p.res; second = y; third = x; fourth = p.comp }
+precinct_key Rpcl p x y = record { first = p.res; second = y; third = x; fourth = p.comp }
+precinct_key Pcrl p x y = record { first = y; second = x; third = p.comp; fourth = p.res }
+precinct_key Cprl p x y = record { first = p.comp; second = y; third = x; fourth = p.res }
+
+unfoldable pub sort_key : Geometry → Order → PacketName → Key
+sort_key g o p = (if by_layer o then layer_key o p else precinct_key o p (across_or g p) (down_or g p))
+
+abbrev pub numbers_of : Key → List ℕ
+numbers_of k = k.first ∷ k.second ∷ k.third ∷ k.fourth ∷ []
+
+abbrev pub NotAfter : Geometry → Order → PacketName → PacketName → Type 0
+NotAfter g o p q =
+    IsLess (numbers_of (sort_key g o p)) (numbers_of (sort_key g o q)) ⊎ (numbers_of (sort_key g o p) ≡ numbers_of (sort_key g o q))
+
+abbrev pub AreSorted : Geometry → Order → List PacketName → Type 0
+AreSorted g o xs = (k : ℕ) (d : PacketName) → k + 1 < length xs → NotAfter g o (slice_index_or xs k d) (slice_index_or xs (k + 1) d)
 
 -- the table has a place for each resolution of the list
 abbrev pub HasPlaces : Geometry → List ℕ → Type 0

@@ -3,11 +3,12 @@
 
 mod covered;
 mod entry;
-mod groups;
+mod keys;
 pub mod laws;
 mod listing;
 mod names;
 mod rows;
+mod spread;
 
 pub use covered::are_covered;
 pub use listing::packets;
