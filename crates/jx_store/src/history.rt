@@ -3,6 +3,7 @@ ghost use Rattle.std.specs.Prelude.{◌≡◌, ◌<◌, ◌≤◌, ◌+◌, ◌-
 ghost use Rattle.jx_store.specs.Notes.{no_notes, tells, count_full, count_all, adds_full, adds_all};
 ghost use Rattle.jx_store.specs.ShownNotes.{shown};
 
+use crate::work::Entry;
 use jx_base::NoMemory;
 use std::alloc::Global;
 
@@ -31,7 +32,35 @@ pub struct History {
     pub(crate) all: u64,
 }
 
+/// A tape, and the history that led to it.
+#[derive(Drop)]
+pub struct Told<V> {
+    pub tape: Vec<Entry<V>>,
+    pub history: History,
+}
+
 impl History {
+    /// The events that changed the store, the first one first.
+    pub fn steps(&self) -> &[Step]
+        ensures { result.now ≡ (shown self.now).steps }
+    {
+        &self.steps
+    }
+
+    /// How many claims a full window refused since the last of these events.
+    pub fn full(&self) -> u64
+        ensures { result ≡ (shown self.now).full }
+    {
+        self.full
+    }
+
+    /// How many claims were refused since the last of these events because every number was claimed.
+    pub fn all(&self) -> u64
+        ensures { result ≡ (shown self.now).all }
+    {
+        self.all
+    }
+
     pub(crate) fn new(alloc: Global, room: usize) -> Result<History, NoMemory>
         ensures { IfOk result (λ h. (shown h ≡ no_notes) × (room ≤ vec_capacity h.steps)) }
     {

@@ -15,7 +15,7 @@ mod work;
 
 pub use claim::{Claim, ClaimAnswer};
 pub use event::{Event, Reply, Taped};
-pub use history::{History, Kind, Step};
+pub use history::{History, Kind, Step, Told};
 pub use kernel::Core;
 pub use laws::events_keep_order;
 pub use locked::Locked;

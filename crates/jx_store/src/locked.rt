@@ -21,10 +21,10 @@ ghost use Rattle.jx_store.specs.Made.{made_in, made_on};
 
 use crate::claim::{Claim, ClaimAnswer};
 use crate::event::{Event, Reply, Taped};
-use crate::history::{History, Kind};
+use crate::history::{History, Kind, Told};
 use crate::kernel::Core;
 use crate::pass::{Pass, Shares};
-use crate::work::{Bounds, Entry, Named, Work, one_made};
+use crate::work::{Bounds, Named, Work, one_made};
 use jx_base::NoMemory;
 use std::alloc::Global;
 use std::marker::{Model, PhantomData};
@@ -208,20 +208,23 @@ impl<V: Work, N: Bounds<V::Job>, A: Ledger, B: Ledger, C: Ledger, D: Ledger, E: 
         self.made.audit(&mut shares.made);
     }
 
-    /// The tape, in order of the numbers from the first on: what some legal history left there. Each
-    /// entry was claimed inside both windows, and what stands under its number is of that number.
-    pub(crate) fn into_tape(self) -> Vec<Entry<V>>
-        ensures is { result.items ≡ self.core.tape }
-        ensures told { (events : List (Event (Named V))) × (result.items ≡ (runs (start N.setup) events).tape) }
-        ensures order { map (λ t. t.number) result.items ≡ numbers N.setup.first (length result.items) }
-        ensures within { (i : ℕ) (t : Taped (Named V)) → slice_get result.items i ≡ Some t → Within N.setup t.seen t.number }
-        ensures valid { (i : ℕ) (t : Taped (Named V)) → slice_get result.items i ≡ Some t → IsOf V.number V.job V.bad N.setup.first N.jobs t.number t.named }
+    /// The tape, in order of the numbers from the first on, and the history: what some legal list of
+    /// events left. Each entry was claimed inside both windows, and what stands under its number is of
+    /// that number.
+    pub(crate) fn into_history(self) -> Told<V>
+        ensures is { result.tape.items ≡ self.core.tape }
+        ensures told { (events : List (Event (Named V))) × (result.tape.items ≡ (runs (start N.setup) events).tape) }
+        ensures order { map (λ t. t.number) result.tape.items ≡ numbers N.setup.first (length result.tape.items) }
+        ensures within { (i : ℕ) (t : Taped (Named V)) → slice_get result.tape.items i ≡ Some t → Within N.setup t.seen t.number }
+        ensures valid { (i : ℕ) (t : Taped (Named V)) → slice_get result.tape.items i ≡ Some t → IsOf V.number V.job V.bad N.setup.first N.jobs t.number t.named }
         ensures below { AllBelow A.parts (state_of self.core) }
+        ensures kept { shown result.history ≡ self.notes }
         ensures remembers { Remembers N.setup self.notes (state_of self.core) }
+        ensures short { length (shown result.history).steps ≤ 3 * length N.setup.sizes }
     {
         let Locked {
             core,
-            history: _,
+            history,
             claims: _,
             fulls: _,
             alls: _,
@@ -234,7 +237,8 @@ impl<V: Work, N: Bounds<V::Job>, A: Ledger, B: Ledger, C: Ledger, D: Ledger, E: 
             made: _,
             of: _,
         } = self;
-        core.into_tape()
+        let tape = core.into_tape();
+        Told { tape, history }
     }
 
     /// One claim, under the lock. A call that would pass the last value of a sum waits for ever.

@@ -1,19 +1,23 @@
 //! The store with a lock.
-ghost use Rattle.std.specs.Prelude.{◌≡◌, ◌<◌, ◌≤◌, ◌+◌, ◌^◌, ◌⊎◌, All, IfOk, None, Some, List, length, map, vec_len, sum_by, ℕ, slice_get};
+ghost use Rattle.std.specs.Prelude.{◌≡◌, ◌<◌, ◌≤◌, ◌+◌, ◌*◌, ◌^◌, ◌⊎◌, All, IfOk, None, Some, List, length, map, vec_len, sum_by, ℕ, slice_get};
 ghost use Rattle.std.specs.List.{sum};
 ghost use Rattle.jx_store.specs.declared.event.Taped.{Taped};
 ghost use Rattle.jx_store.specs.declared.event.Event.{Event};
 ghost use Rattle.jx_store.specs.declared.work.Named.{Named};
 ghost use Rattle.jx_store.specs.Setup.{Within};
-ghost use Rattle.jx_store.specs.Machine.{start, runs};
+ghost use Rattle.jx_store.specs.Machine.{State, start, runs};
 ghost use Rattle.jx_store.specs.Order.{numbers};
 ghost use Rattle.jx_store.specs.Answers.{Tells};
 ghost use Rattle.jx_store.specs.Valid.{IsOf};
 ghost use Rattle.jx_store.specs.Passes.{commits_one, gives_up};
 ghost use Rattle.jx_store.specs.Made.{made_on};
-ghost use Rattle.jx_store.specs.Told.{IsTold};
+ghost use Rattle.jx_store.specs.Notes.{count_full, count_all, count_claims, count_commits};
+ghost use Rattle.jx_store.specs.Replays.{Remembers, blank_taped, replayed};
+ghost use Rattle.jx_store.specs.ShownNotes.{shown};
+ghost use Rattle.jx_store.specs.Told.{IsToldBy, IsTold};
 
 use crate::claim::{Claim, ClaimAnswer};
+use crate::history::Told;
 use crate::locked::Locked;
 use crate::pass::{Pass, Shares};
 use crate::work::{Bounds, Entry, Named, Work};
@@ -141,6 +145,36 @@ impl<V: Work, N: Bounds<V::Job>, A: Ledger, B: Ledger, C: Ledger, D: Ledger, E: 
         self.locked.lock(rt).commit(pass, number, value);
     }
 
+    /// The tape, as `into_tape` gives it, and the history that the store kept: it is kept of a legal
+    /// list of events with replies that leads to this tape, and by itself it leads there but for the
+    /// values. It has at most three events for each number, and as many replies of each kind as the
+    /// passes counted.
+    pub fn into_history(self, passes: Vec<Pass<N, A, B, C, D, E>>) -> Told<V>
+        requires all { (A.parts ≡ vec_len passes) × (D.parts ≡ vec_len passes) × (0 < vec_len passes) }
+        requires none { All (λ p. p.holds ≡ None) passes.items }
+        ensures told { (events : List (Event (Named V))) × (result.tape.items ≡ (runs (start N.setup) events).tape) }
+        ensures order { map (λ t. t.number) result.tape.items ≡ numbers N.setup.first (length result.tape.items) }
+        ensures within { (i : ℕ) (t : Taped (Named V)) → slice_get result.tape.items i ≡ Some t → Within N.setup t.seen t.number }
+        ensures valid { (i : ℕ) (t : Taped (Named V)) → slice_get result.tape.items i ≡ Some t → IsOf V.number V.job V.bad N.setup.first N.jobs t.number t.named }
+        ensures whole { sum_by (λ p. p.committed) passes.items ≡ sum_by (λ p. p.claimed) passes.items → length result.tape.items ≡ sum_by (λ p. p.claimed) passes.items }
+        ensures worker { (i : ℕ) (t : Taped (Named V)) → slice_get result.tape.items i ≡ Some t → t.worker < vec_len passes }
+        ensures made { E.parts ≡ vec_len passes → sum_by (λ p. p.committed) passes.items ≡ sum_by (λ p. p.claimed) passes.items → made_on result.tape.items ≡ sum_by (λ p. p.made) passes.items }
+        ensures remembers { (state : State (Named V)) × Remembers N.setup (shown result.history) state × (state.tape ≡ result.tape.items) }
+        ensures replays { map blank_taped result.tape.items ≡ (replayed N.setup (shown result.history)).tape }
+        ensures short { length (shown result.history).steps ≤ 3 * length N.setup.sizes }
+        ensures claims { count_claims (shown result.history) ≡ sum_by (λ p. p.claimed) passes.items }
+        ensures fulls { B.parts ≡ vec_len passes → count_full (shown result.history) ≡ sum_by (λ p. p.full) passes.items }
+        ensures alls { C.parts ≡ vec_len passes → count_all (shown result.history) ≡ sum_by (λ p. p.all_claimed) passes.items }
+        ensures commits { count_commits (shown result.history) ≡ sum_by (λ p. p.committed) passes.items }
+        ensures history { E.parts ≡ vec_len passes → IsToldBy N.setup (vec_len passes) (shown result.history) result.tape.items (sum_by (λ p. p.made) passes.items) }
+    {
+        let mut locked = self.locked.into_inner();
+        let mut shares = all_shares(passes);
+        locked.audit_all(&mut shares);
+        locked.audit(&mut shares.claimed, &mut shares.committed);
+        locked.into_history()
+    }
+
     /// The tape, once all passes that `new` gave are back and none holds a claim: the numbers from
     /// the first on, in order, as some legal history left them there. Where the passes counted as
     /// many commits as claims, it has as many entries, and as many values as they counted.
@@ -156,11 +190,8 @@ impl<V: Work, N: Bounds<V::Job>, A: Ledger, B: Ledger, C: Ledger, D: Ledger, E: 
         ensures history { (B.parts ≡ vec_len passes) × (C.parts ≡ vec_len passes) × (E.parts ≡ vec_len passes) → IsTold N.setup (vec_len passes) result.items (sum_by (λ p. p.claimed) passes.items) (sum_by (λ p. p.full) passes.items) (sum_by (λ p. p.all_claimed) passes.items) (sum_by (λ p. p.committed) passes.items) (sum_by (λ p. p.made) passes.items) }
         ensures made { E.parts ≡ vec_len passes → sum_by (λ p. p.committed) passes.items ≡ sum_by (λ p. p.claimed) passes.items → made_on result.items ≡ sum_by (λ p. p.made) passes.items }
     {
-        let mut locked = self.locked.into_inner();
-        let mut shares = all_shares(passes);
-        locked.audit_all(&mut shares);
-        locked.audit(&mut shares.claimed, &mut shares.committed);
-        locked.into_tape()
+        let Told { tape, history: _ } = self.into_history(passes);
+        tape
     }
 }
 
