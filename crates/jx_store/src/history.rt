@@ -8,7 +8,7 @@ use jx_base::NoMemory;
 use std::alloc::Global;
 
 /// An event that changed the store, without its value.
-#[derive(Clone, Copy)]
+#[derive(Clone, Copy, PartialEq, Eq, Debug)]
 pub enum Kind {
     Claims { worker: u32 },
     Commits { worker: u32, number: u32 },
@@ -17,7 +17,7 @@ pub enum Kind {
 
 /// An event that changed the store, and how many claims were refused since the one before: by a full
 /// window, and because every number was claimed.
-#[derive(Clone, Copy)]
+#[derive(Clone, Copy, PartialEq, Eq, Debug)]
 pub struct Step {
     pub full: u64,
     pub all: u64,

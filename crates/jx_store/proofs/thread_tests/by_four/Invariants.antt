@@ -1,4 +1,4 @@
-use Rattle.jx_store.proofs.tests.by_four.Given as goal
+use Rattle.jx_store.proofs.thread_tests.by_four.Given as goal
 
 abbrev pub ghosts-shared-N-Bounds : goal.ghosts-shared-N-Bounds
 ghosts-shared-N-Bounds g a = record { setup = record { first = 0; sizes = a.sizes.now; window = 3; most = 1 }; workers = 4; jobs = a.jobs.now }

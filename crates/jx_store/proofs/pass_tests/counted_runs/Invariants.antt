@@ -1,5 +1,5 @@
 use Rattle.std.specs.Prelude.{[], ◌∷◌}
-use Rattle.jx_store.proofs.tests.plain_runs.Given as goal
+use Rattle.jx_store.proofs.pass_tests.counted_runs.Given as goal
 
 abbrev pub ghosts-narrow-N-Bounds : goal.ghosts-narrow-N-Bounds
 ghosts-narrow-N-Bounds g a = record { setup = record { first = 0; sizes = 0 ∷ 0 ∷ 0 ∷ []; window = 2; most = 1 }; workers = 3; jobs = a.jobs.now }
