@@ -6,6 +6,7 @@ pub mod Sets
 pub mod Sizes
 pub mod Counts
 pub mod Geometry
+pub mod Grids
 pub mod Leaves
 pub mod LeafPlaces
 pub mod Numbering

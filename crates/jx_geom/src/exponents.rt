@@ -7,7 +7,7 @@ ghost use Rattle.jx_geom.specs.Rects.{part_across, part_down, block_across, bloc
 use crate::shape::CompShape;
 
 /// The exponents of a cell's width and height.
-#[derive(Clone, Copy)]
+#[derive(Clone, Copy, Debug)]
 pub(crate) struct Exponents {
     pub(crate) across: u32,
     pub(crate) down: u32,

@@ -3,6 +3,7 @@
 
 mod counts;
 mod exponents;
+mod grid;
 pub mod laws;
 mod leaf_places;
 mod leaves;
@@ -17,6 +18,7 @@ mod table;
 mod tile_geom;
 
 pub use counts::{count_blocks, count_in, count_precincts};
+pub use grid::BlockGrid;
 pub use leaf_places::Leaf;
 pub use leaves::Leaves;
 pub use naming::PrecinctName;
@@ -26,6 +28,8 @@ pub use shape::{Canvas, CompShape};
 pub use table::Resolution;
 pub use tile_geom::TileGeom;
 
+#[cfg(test)]
+mod grid_tests;
 #[cfg(test)]
 mod naming_tests;
 #[cfg(test)]

@@ -3,6 +3,7 @@
 ghost use Rattle.std.specs.Prelude.{◌≡◌, ◌≤◌, ◌<◌, ◌^◌, ◌*◌, ◌-◌, ◌↔◌, IsTrue};
 ghost use Rattle.jx_base.specs.Places.{InRect, InSpan, column_at, row_at, size_of};
 ghost use Rattle.jx_geom.specs.Counts.{tile_count, precinct_count, block_count};
+ghost use Rattle.jx_geom.specs.Grids.{AreCells, cell_part};
 ghost use Rattle.jx_geom.specs.Ranges.{CanvasInRange, ShapeInRange, HasBand};
 ghost use Rattle.jx_geom.specs.Rects.{
   tiles_across,
@@ -23,7 +24,7 @@ ghost use Rattle.jx_geom.specs.Rects.{
   precinct_row_point,
 };
 
-use crate::exponents::{of_block, of_part, of_precinct};
+use crate::exponents::{Exponents, of_block, of_part, of_precinct};
 use crate::shape::{Canvas, CompShape};
 use crate::spans::{cells_of, count_tiles, every, one_band, one_tile, part_of, point_of};
 use jx_base::{Band, Rect, Span};
@@ -163,6 +164,18 @@ pub(crate) fn precincts_of(tile: Rect, shape: &CompShape, res: u8) -> Rect
     }
 }
 
+/// The cells of a size that have a place of a rect.
+pub(crate) fn cells_in(places: Rect, size: Exponents) -> Rect
+    requires wide { size.across < 16 }
+    requires high { size.down < 16 }
+    ensures { AreCells places result size.across size.down }
+{
+    Rect {
+        x: cells_of(places.x, size.across),
+        y: cells_of(places.y, size.down),
+    }
+}
+
 /// The blocks of a band, as cells.
 #[tactic(auto, unfolding(crate::specs::Rects::block_cells))]
 pub(crate) fn blocks_of(tile: Rect, shape: &CompShape, res: u8, band: Band) -> Rect
@@ -171,12 +184,7 @@ pub(crate) fn blocks_of(tile: Rect, shape: &CompShape, res: u8, band: Band) -> R
     requires band { HasBand res band }
     ensures { result ≡ block_cells tile shape.now res band }
 {
-    let places = band_of(tile, shape, res, band);
-    let size = of_block(shape, res);
-    Rect {
-        x: cells_of(places.x, size.across),
-        y: cells_of(places.y, size.down),
-    }
+    cells_in(band_of(tile, shape, res, band), of_block(shape, res))
 }
 
 /// The column of the cell of a number among the cells of a rect, row by row.
@@ -199,8 +207,23 @@ fn row_of(cells: Rect, index: u32) -> u32
     cells.y.low + index / (cells.x.high - cells.x.low)
 }
 
+/// The places of a rect in the cell of a number.
+#[tactic(auto, using(crate::proofs::SpanLemmas::cells_times, std::proofs::lemmas::Nat::pow_pos))]
+pub(crate) fn block_in(places: Rect, cells: Rect, size: Exponents, index: u32) -> Rect
+    requires cells { AreCells places cells size.across size.down }
+    requires index { index < size_of cells }
+    ensures { result ≡ cell_part places cells size.across size.down index }
+{
+    let column = column_of(cells, index);
+    let row = row_of(cells, index);
+    Rect {
+        x: part_of(places.x, size.across, column),
+        y: part_of(places.y, size.down, row),
+    }
+}
+
 /// The places of a block.
-#[tactic(auto, using(crate::proofs::SpanLemmas::cells_times, std::proofs::lemmas::Nat::pow_pos), unfolding(crate::specs::Rects::block_cells, crate::specs::Rects::block_rect))]
+#[tactic(auto, unfolding(crate::specs::Rects::block_cells, crate::specs::Rects::block_rect))]
 pub(crate) fn block_of(tile: Rect, shape: &CompShape, res: u8, band: Band, index: u32) -> Rect
     requires shape { ShapeInRange shape.now }
     requires res { res ≤ shape.now.levels }
@@ -209,14 +232,8 @@ pub(crate) fn block_of(tile: Rect, shape: &CompShape, res: u8, band: Band, index
     ensures { result ≡ block_rect tile shape.now res band index }
 {
     let places = band_of(tile, shape, res, band);
-    let cells = blocks_of(tile, shape, res, band);
     let size = of_block(shape, res);
-    let column = column_of(cells, index);
-    let row = row_of(cells, index);
-    Rect {
-        x: part_of(places.x, size.across, column),
-        y: part_of(places.y, size.down, row),
-    }
+    block_in(places, cells_in(places, size), size, index)
 }
 
 /// The part of a band that lies in a precinct.

@@ -18,6 +18,7 @@ ghost use Rattle.jx_geom.specs.Geometry.{
   reference_down,
   shape_of,
 };
+ghost use Rattle.jx_geom.specs.Grids.{grid_in};
 ghost use Rattle.jx_geom.specs.Precincts.{HasPrecinct, cells_at};
 ghost use Rattle.jx_geom.specs.Ranges.{CanvasInRange, ShapeInRange, HasBand};
 ghost use Rattle.jx_geom.specs.Rects.{component_rect, tile_rect, precinct_blocks, block_rect, block_across, block_down};
@@ -25,6 +26,7 @@ ghost use Rattle.jx_geom.specs.Resolutions.{all_places, all_resolutions, resolut
 ghost use Rattle.jx_geom.specs.Sets.{HasPlace, InBand, InBlock, InCell, InPart, InTile};
 ghost use Rattle.jx_geom.specs.Sizes.{BlockFits};
 
+use crate::grid::{BlockGrid, grid_of};
 use crate::rects::{
     band_of, block_of, blocks_of, precinct_blocks_of, precinct_of_block, precincts_of,
     reference_of_precinct, tile_of,
@@ -175,6 +177,16 @@ impl TileGeom {
         ensures bound { size_of result ≤ 2 ^ 20 }
     {
         blocks_of(self.places, self.shape(comp), res, band)
+    }
+
+    /// The code-blocks of a band by their indices, for those who ask for many: each block's places are those
+    /// that `block` gives.
+    pub fn block_grid(&self, comp: u16, res: u8, band: Band) -> BlockGrid
+        requires res { HasResolution self.now comp res }
+        requires band { HasBand res band }
+        ensures { result ≡ grid_in self.now comp res band }
+    {
+        grid_of(self.places, self.shape(comp), res, band)
     }
 
     /// The code-blocks of a precinct in a band, as columns and rows of cells of that band; there may be
