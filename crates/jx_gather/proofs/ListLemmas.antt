@@ -7,6 +7,7 @@ use Rattle.jx_base.specs.declared.names.Band.TheVariants.{LL, HL, LH, HH}
 use Rattle.jx_base.specs.declared.names.BlockName.{BlockName}
 use Rattle.jx_base.specs.declared.style.Style.{Style}
 use Rattle.jx_base.specs.declared.pieces.Block.{Block}
+use Rattle.jx_base.specs.declared.names.Rect.{Rect}
 use Rattle.jx_geom.specs.Rects.{block_rect}
 use Rattle.jx_geom.specs.Geometry.{Geometry, shape_of, rect_of_tile}
 use Rattle.jx_head.specs.declared.BandCells.{BandCells}
@@ -79,10 +80,10 @@ fresh_from s g c r k bits bands e is =
 abbrev named_at : ℕ → ℕ → ℕ → Band → ℕ → BlockName
 named_at t c r b i = record { tile = t; comp = c; res = r; band = b; index = i }
 
-abbrev value : Geometry → BlockName → Style → ℕ → Block
-value g n style planes = record {
+abbrev value_at : BlockName → Rect → Style → ℕ → Block
+value_at n places style planes = record {
   name = n;
-  rect = block_rect (rect_of_tile g) (shape_of g n.comp) n.res n.band n.index;
+  rect = places;
   planes = planes;
   zero = planes;
   passes = 0;
@@ -90,15 +91,18 @@ value g n style planes = record {
   pieces = [];
 }
 
+abbrev value : Geometry → BlockName → Style → ℕ → Block
+value g n style planes = value_at n (block_rect (rect_of_tile g) (shape_of g n.comp) n.res n.band n.index) style planes
+
 abbrev style_with : ℕ → Style
 style_with n = record { bits = n }
 
-pub fresh_is : (s : Stream) (g : Geometry) (c r : ℕ) (b : Band) (i t planes : ℕ) (style : Style) (x : Block) → t ≡ g.tile
-    → style.bits ≡ style_of s t c → planes ≡ planes_at s t c r b → x ≡ value g (named_at t c r b i) style planes
-    → x ≡ block_of s g [] (named_at g.tile c r b i)
+pub fresh_is : (s : Stream) (g : Geometry) (c r : ℕ) (b : Band) (i t planes : ℕ) (style : Style) (places : Rect) (x : Block) → t ≡ g.tile
+    → style.bits ≡ style_of s t c → planes ≡ planes_at s t c r b → places ≡ block_rect (rect_of_tile g) (shape_of g c) r b i
+    → x ≡ value_at (named_at t c r b i) places style planes → x ≡ block_of s g [] (named_at g.tile c r b i)
 unfolding own_founds
-fresh_is s g c r b i t planes style x same bits all is =
+fresh_is s g c r b i t planes style places x same bits all there is =
     let P : ℕ → Type 0 = λ n. value g (named_at n c r b i) (style_with (style_of s n c)) (planes_at s n c r b) ≡ block_of s g [] (named_at g.tile c r b i) in
-    is ∙ ap (λ n. value g (named_at t c r b i) style n) all
+    is ∙ ap (λ (p : Rect). value_at (named_at t c r b i) p style planes) there ∙ ap (λ n. value g (named_at t c r b i) style n) all
     ∙ ap (λ n. value g (named_at t c r b i) (style_with n) (planes_at s t c r b)) bits
     ∙ subst P (sym same) refl

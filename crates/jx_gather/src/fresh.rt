@@ -2,9 +2,9 @@
 
 ghost use Rattle.std.specs.Prelude.{◌≡◌, ◌<◌, ◌≤◌, ◌++◌, [], length, IfOk, OnOk};
 ghost use Rattle.jx_base.specs.Places.{size_of};
-ghost use Rattle.jx_geom.specs.Geometry.{GeometryInRange, HasBlock, HasResolution, blocks_in, precincts_in, rect_of_tile, shape_of};
+ghost use Rattle.jx_geom.specs.Geometry.{GeometryInRange, HasResolution, precincts_in};
 ghost use Rattle.jx_geom.specs.Ranges.{HasBand};
-ghost use Rattle.jx_geom.specs.Rects.{block_rect};
+ghost use Rattle.jx_geom.specs.Resolutions.{resolutions_of};
 ghost use Rattle.jx_stream.specs.First.{tile_number};
 ghost use Rattle.jx_gather.specs.Blocks.{band_blocks, resolution_blocks, tile_blocks};
 ghost use Rattle.jx_gather.specs.Cells.{fresh_precinct, fresh_precincts, fresh_resolution, sizes_of};
@@ -14,8 +14,8 @@ ghost use Rattle.jx_stream.specs.InRange.{StreamInRange};
 ghost use Rattle.jx_stream.specs.Params.{headers_at};
 ghost use Rattle.jx_stream.specs.Shapes.{geometry};
 
-use jx_base::{Band, Block, BlockName, NoMemory, Pieces, Style};
-use jx_geom::TileGeom;
+use jx_base::{Band, Block, BlockName, NoMemory, Pieces, Rect, Style};
+use jx_geom::{Resolution, TileGeom};
 use jx_head::{BandCells, Precinct};
 use jx_stream::{Stream, TileView};
 use std::alloc::Global;
@@ -150,18 +150,11 @@ pub(crate) fn precincts_of(
     Ok(list)
 }
 
-/// A code-block that has no pass.
-fn fresh_block<'a>(
-    alloc: Global,
-    geom: &TileGeom,
-    block: BlockName,
-    bits: Style,
-    all: u8,
-) -> Block<'a>
-    requires { HasBlock geom.now block }
+/// A code-block of these places that has no pass.
+fn fresh_block<'a>(alloc: Global, block: BlockName, places: Rect, bits: Style, all: u8) -> Block<'a>
     ensures { result ≡ record {
       name = block;
-      rect = block_rect (rect_of_tile geom.now) (shape_of geom.now block.comp) block.res block.band block.index;
+      rect = places;
       planes = all;
       zero = all;
       passes = 0;
@@ -171,22 +164,13 @@ fn fresh_block<'a>(
 {
     Block {
         name: block,
-        rect: geom.block(&block),
+        rect: places,
         planes: all,
         zero: all,
         passes: 0,
         style: bits,
         pieces: Pieces::new(alloc),
     }
-}
-
-/// How many code-blocks a band has.
-fn band_count(geom: &TileGeom, comp: u16, res: u8, band: Band) -> u32
-    requires res { HasResolution geom.now comp res }
-    requires band { HasBand res band }
-    ensures { result ≡ size_of (blocks_in geom.now comp res band) }
-{
-    geom.cells(comp, res, band).area() as u32
 }
 
 /// Appends the code-blocks of a band.
@@ -212,7 +196,8 @@ fn push_band<'a>(
     let tile = geom.number();
     let style = view.style(comp);
     let planes = view.planes(comp, res, band) as u8;
-    for index in 0..band_count(geom, comp, res, band) {
+    let grid = geom.block_grid(comp, res, band);
+    for index in 0..grid.count() {
         let name = BlockName {
             tile,
             comp,
@@ -220,7 +205,8 @@ fn push_band<'a>(
             band,
             index,
         };
-        list.push(fresh_block(alloc, geom, name, style, planes))?;
+        let places = grid.block(index);
+        list.push(fresh_block(alloc, name, places, style, planes))?;
     }
     Ok(())
 }
@@ -250,6 +236,30 @@ fn push_bands<'a>(
     push_band(alloc, stream, view, geom, comp, res, Band::HH, list)
 }
 
+/// How many code-blocks a tile has up to the end of a resolution.
+fn blocks_up_to(geom: &TileGeom, comp: u16, res: u8, before: u32) -> usize
+    requires { HasResolution geom.now comp res }
+{
+    let before = before as usize;
+    if res == 0 {
+        return before + geom.block_grid(comp, res, Band::LL).count() as usize;
+    }
+    let right = geom.block_grid(comp, res, Band::HL).count() as usize;
+    let low = geom.block_grid(comp, res, Band::LH).count() as usize;
+    before + right + low + geom.block_grid(comp, res, Band::HH).count() as usize
+}
+
+/// How many code-blocks a tile of these resolutions has, so that room for them is taken at once.
+fn room_of(geom: &TileGeom, rows: &[Resolution]) -> usize
+    requires { rows.now ≡ resolutions_of geom.now }
+{
+    if rows.is_empty() {
+        return 0;
+    }
+    let last = rows[rows.len() - 1];
+    blocks_up_to(geom, last.comp, last.res, last.blocks_before)
+}
+
 /// The code-blocks of a tile in the order of their numbers. A component without a sample in the tile costs nothing.
 pub(crate) fn blocks_of<'a>(
     alloc: Global,
@@ -264,7 +274,7 @@ pub(crate) fn blocks_of<'a>(
     ensures { IfOk result (λ list. list.items ≡ tile_blocks stream.now geom.now []) }
 {
     let rows = geom.resolutions();
-    let mut list = Vec::new(alloc);
+    let mut list = Vec::with_capacity(alloc, room_of(geom, rows))?;
     for row in rows {
         push_bands(alloc, stream, view, geom, row.comp, row.res, &mut list)?;
     }

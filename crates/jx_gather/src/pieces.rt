@@ -112,6 +112,9 @@ pub(crate) fn put_pieces<'a>(
     requires can { CanPut blocks.old.items (founds_from geom.now name precinct.now packet.now.bytes.now packet.now.parts.items) }
     ensures { OnOk result (blocks.new.items ≡ put_all blocks.old.items (founds_from geom.now name precinct.now packet.now.bytes.now packet.now.parts.items)) }
 {
+    if packet.parts.is_empty() {
+        return Ok(());
+    }
     let all = geom.leaves(name.comp, name.res, name.precinct);
     let mut rest = packet.bytes;
     for part in &packet.parts {

@@ -1,6 +1,6 @@
 use Rattle.std.proofs.Common.{◌≡◌, ◌++◌, ◌∷◌, [], ℕ, ap, sym, subst, ◌∙◌, arith}
 use Rattle.jx_base.specs.declared.pieces.Block.{Block}
-use Rattle.jx_geom.specs.Geometry.{Geometry, HasResolution}
+use Rattle.jx_geom.specs.Geometry.{Geometry, HasResolution, rect_of_tile, shape_of}
 use Rattle.jx_stream.specs.Params.{planes_at, planes_in}
 use Rattle.jx_stream.specs.Shapes.{style_in, style_of}
 use Rattle.jx_stream.specs.TileHeaders.{TileHeaders}
@@ -31,8 +31,9 @@ loop-index-preserved c =
     let style = c.style-style.ensures ∙ ap (λ (h : TileHeaders). style_in h c.args.comp) c.requires.view ∙ ap (λ (t : ℕ). style_of s t c.args.comp) tile in
     let planes = c.planes-planes.ensures.value ∙ ap (λ (h : TileHeaders). planes_in h c.args.comp c.args.res c.args.band) c.requires.view
     ∙ ap (λ (t : ℕ). planes_at s t c.args.comp c.args.res c.args.band) tile in
+    let places = c.block-places.ensures (rect_of_tile c.args.geom.now) (shape_of c.args.geom.now c.args.comp) c.args.res c.args.band c.block_grid-grid.ensures in
     let block = fresh_is s c.args.geom.now c.args.comp c.args.res c.args.band c.loop-index.index c.number-tile.result c.planes-planes.result
-    c.style-style.result c.fresh_block.result c.number-tile.ensures style planes c.fresh_block.ensures in
+    c.style-style.result c.block-places.result c.fresh_block.result c.number-tile.ensures style planes places c.fresh_block.ensures in
     let step : c.push.new.self.items ≡ c.loop-index.list.items ++ one_block s c.args.geom.now [] c.args.comp c.args.res c.args.band c.loop-index.index =
     c.in_ok-push.ensures.items ∙ ap (λ (x : Block). c.loop-index.list.items ++ x ∷ []) block in
     appends_next c.args.list.now.items c.loop-index.list.items c.push.new.self.items
