@@ -13,5 +13,6 @@ pub mod SameLemmas
 pub mod SetLemmas
 pub mod SizeLemmas
 pub mod SpanLemmas
+pub mod StepLemmas
 pub mod TableLemmas
 pub mod TileLemmas

@@ -1,6 +1,6 @@
 //! The rects of a tile, from its own rect on.
 
-ghost use Rattle.std.specs.Prelude.{◌≡◌, ◌≤◌, ◌<◌, ◌^◌, ◌*◌, ◌-◌, ◌↔◌, IsTrue};
+ghost use Rattle.std.specs.Prelude.{◌≡◌, ◌≤◌, ◌<◌, ◌^◌, ◌*◌, ◌-◌, ◌↔◌, None, IfSome, IsTrue};
 ghost use Rattle.jx_base.specs.Places.{InRect, InSpan, column_at, row_at, size_of};
 ghost use Rattle.jx_geom.specs.Counts.{tile_count, precinct_count, block_count};
 ghost use Rattle.jx_geom.specs.Grids.{AreCells, cell_part};
@@ -314,8 +314,37 @@ fn steps_of(shape: &CompShape, res: u8) -> (u64, u64)
     (step * u64::from(shape.dx), step * u64::from(shape.dy))
 }
 
-/// Where a precinct stands on the reference grid.
-#[tactic(auto, using(crate::proofs::RectLemmas::precinct_column_fits, crate::proofs::RectLemmas::precinct_row_fits, crate::proofs::RectLemmas::precinct_column_low, crate::proofs::RectLemmas::precinct_row_low), unfolding(crate::specs::Rects::precinct_column_point, crate::specs::Rects::precinct_row_point))]
+/// Where a precinct stands on the reference grid; none where the resolution has no such precinct.
+#[tactic(auto, using(crate::proofs::RectLemmas::precinct_column_fits, crate::proofs::RectLemmas::precinct_row_fits, crate::proofs::RectLemmas::precinct_column_low, crate::proofs::RectLemmas::precinct_row_low), unfolding(crate::specs::Rects::precinct_column_point, crate::specs::Rects::precinct_row_point, crate::specs::Rects::precinct_cells))]
+pub(crate) fn point_of_precinct(
+    tile: Rect,
+    shape: &CompShape,
+    res: u8,
+    precinct: u32,
+) -> Option<(u64, u64)>
+    requires shape { ShapeInRange shape.now }
+    requires res { res ≤ shape.now.levels }
+    ensures there { IfSome result (λ p. precinct < precinct_count tile shape.now res) }
+    ensures across { IfSome result (λ p. p.0 ≡ precinct_column_point tile shape.now res (column_at (precinct_cells tile shape.now res) precinct)) }
+    ensures down { IfSome result (λ p. p.1 ≡ precinct_row_point tile shape.now res (row_at (precinct_cells tile shape.now res) precinct)) }
+    ensures fits { IfSome result (λ p. (p.0 < 2 ^ 32) × (p.1 < 2 ^ 32)) }
+    ensures none { result ≡ None → precinct_count tile shape.now res ≤ precinct }
+{
+    let places = resolution_of(tile, shape, res);
+    let size = of_precinct(shape, res);
+    let cells = cells_in(places, size);
+    if u64::from(precinct) >= cells.area() {
+        return None;
+    }
+    let (right, below) = steps_of(shape, res);
+    let column = column_of(cells, precinct);
+    let row = row_of(cells, precinct);
+    let x = point_of(tile.x.low, places.x.low, size.across, right, column);
+    let y = point_of(tile.y.low, places.y.low, size.down, below, row);
+    Some((x, y))
+}
+
+/// Where a precinct that is there stands on the reference grid.
 pub(crate) fn reference_of_precinct(
     tile: Rect,
     shape: &CompShape,
@@ -328,13 +357,8 @@ pub(crate) fn reference_of_precinct(
     ensures across { result.0 ≡ precinct_column_point tile shape.now res (column_at (precinct_cells tile shape.now res) precinct) }
     ensures down { result.1 ≡ precinct_row_point tile shape.now res (row_at (precinct_cells tile shape.now res) precinct) }
 {
-    let places = resolution_of(tile, shape, res);
-    let cells = precincts_of(tile, shape, res);
-    let size = of_precinct(shape, res);
-    let (right, below) = steps_of(shape, res);
-    let column = column_of(cells, precinct);
-    let row = row_of(cells, precinct);
-    let x = point_of(tile.x.low, places.x.low, size.across, right, column);
-    let y = point_of(tile.y.low, places.y.low, size.down, below, row);
-    (x, y)
+    match point_of_precinct(tile, shape, res, precinct) {
+        Some(point) => point,
+        None => (0, 0),
+    }
 }

@@ -34,12 +34,15 @@ pub(crate) fn one_tile(start: u32, end: u32, offset: u32, size: u32, place: u64)
     }
 }
 
-/// The places that stand for every `step`-th one of a span.
-#[tactic(auto, using(jx_base::proofs::Ceilings::ceil_le_self), unfolding(crate::specs::Spans::scaled))]
+/// The places that stand for every `step`-th one of a span. Most steps are 1, where nothing is divided.
+#[tactic(auto, using(jx_base::proofs::Ceilings::ceil_le_self, crate::proofs::StepLemmas::scaled_by_one), unfolding(crate::specs::Spans::scaled))]
 pub(crate) fn every(span: Span, step: u64) -> Span
     requires { 0 < step }
     ensures { result ≡ scaled span step }
 {
+    if step == 1 {
+        return span;
+    }
     let low = ceil_div(u64::from(span.low), step);
     let high = ceil_div(u64::from(span.high), step);
     Span {
@@ -113,7 +116,8 @@ pub(crate) fn point_of(start: u32, low: u32, exponent: u32, step: u64, place: u3
     requires exponent { exponent < 16 }
     requires cell { place * 2 ^ exponent < 2 ^ 32 }
     requires fits { place * 2 ^ exponent * step < 2 ^ 32 }
-    ensures { result ≡ reference_of start low (2 ^ exponent) step place }
+    ensures value { result ≡ reference_of start low (2 ^ exponent) step place }
+    ensures fits { result < 2 ^ 32 }
 {
     if place == low >> exponent && low % (1 << exponent) != 0 {
         return u64::from(start);

@@ -1,6 +1,6 @@
 //! The geometry of one tile.
 
-ghost use Rattle.std.specs.Prelude.{◌≡◌, ◌≤◌, ◌<◌, ◌-◌, ◌*◌, ◌^◌, ℕ, ◌↔◌, IfOk, length};
+ghost use Rattle.std.specs.Prelude.{◌≡◌, ◌≤◌, ◌<◌, ◌-◌, ◌*◌, ◌^◌, ℕ, ◌↔◌, None, IfOk, IfSome, length};
 ghost use Rattle.jx_base.specs.Places.{InRect, column_at, length_of, row_at, size_of};
 ghost use Rattle.jx_geom.specs.Counts.{tile_count};
 ghost use Rattle.jx_geom.specs.Geometry.{
@@ -28,8 +28,8 @@ ghost use Rattle.jx_geom.specs.Sizes.{BlockFits};
 
 use crate::grid::{BlockGrid, grid_of};
 use crate::rects::{
-    band_of, block_of, blocks_of, precinct_blocks_of, precinct_of_block, precincts_of,
-    reference_of_precinct, tile_of,
+    band_of, block_of, blocks_of, point_of_precinct, precinct_blocks_of, precinct_of_block,
+    precincts_of, reference_of_precinct, tile_of,
 };
 use crate::shape::{Canvas, CompShape};
 use crate::table::{Resolution, Table, table_of};
@@ -244,5 +244,23 @@ impl TileGeom {
         ensures inside { InRect (rect_of_tile self.now) result.0 result.1 }
     {
         reference_of_precinct(self.places, self.shape(comp), res, precinct)
+    }
+
+    /// Where a precinct stands on the reference grid, x and y (T.800, B.12.1.3); none where it isn't there. The
+    /// precinct's rect is computed once.
+    pub fn point_of(&self, comp: u16, res: u8, precinct: u32) -> Option<(u64, u64)>
+        ensures there { IfSome result (λ p. HasPrecinct self.now comp res precinct) }
+        ensures across { IfSome result (λ p. p.0 ≡ reference_across self.now comp res precinct) }
+        ensures down { IfSome result (λ p. p.1 ≡ reference_down self.now comp res precinct) }
+        ensures fits { IfSome result (λ p. (p.0 < 2 ^ 32) × (p.1 < 2 ^ 32)) }
+        ensures none { result ≡ None → HasPrecinct self.now comp res precinct → ⊥ }
+    {
+        if usize::from(comp) >= self.components() {
+            return None;
+        }
+        if res > self.levels(comp) {
+            return None;
+        }
+        point_of_precinct(self.places, self.shape(comp), res, precinct)
     }
 }
