@@ -3,12 +3,11 @@ use Rattle.std.proofs.Common.{◌≡◌, ℕ, ◌-◌, ◌≤◌, ◌<◌, Bool,
 use Rattle.std.proofs.lemmas.Bool.{cases_Bool, cases_lt}
 use Rattle.std.proofs.lemmas.Bool.Decides.{nat_tests}
 use Rattle.std.proofs.lemmas.List.{get_or_past}
-use Rattle.std.proofs.lemmas.List.Elements.{Contains-append_left, Contains-append_right, Contains-append_cases}
-use Rattle.std.specs.List.{All, AllPairs, Contains, flat_map}
+use Rattle.std.specs.List.{All, Contains}
 use Rattle.jx_base.specs.Joined.{joined}
 use Rattle.jx_base.specs.Places.{size_of}
 use Rattle.jx_base.proofs.Joined.{joined_has, joined_from}
-use Rattle.jx_base.proofs.Lists.{contains_cons, contains_head, contains_tail, contains_none, pairs_append, pairs_head, pairs_tail}
+use Rattle.jx_base.proofs.Lists.{contains_cons, contains_head, contains_none}
 use Rattle.jx_geom.specs.declared.table.Resolution.{Resolution}
 use Rattle.jx_geom.specs.Geometry.{Geometry, HasResolution, precincts_in, shape_of}
 use Rattle.jx_geom.specs.Resolutions.{resolutions_of}
@@ -21,35 +20,6 @@ use Rattle.jx_order.specs.Steps.{all_heads, by_layer, count_of, group_names, gro
 use Rattle.jx_order.proofs.OrderLemmas.{same_fields}
 use Rattle.jx_order.proofs.SpreadLemmas.{Some, joined_long}
 use Rattle.jx_order.proofs.RowLemmas.{end_from, end_to, index_of, packet_row, row_index, row_packet}
-
--- ---- lists of lists
-pub flat_has : {X A : Type 0} (f : X → List A) (xs : List X) (a : A) → Contains (flat_map f xs) a → (x : X) × Contains xs x × Contains (f x) a
-flat_has f [] a h = absurd (contains_none a h)
-flat_has f (x ∷ xs) a h = elim (Contains-append_cases (f x) (flat_map f xs) a h) [
-  | inl here ↦ (x, contains_head x xs, here)
-  | inr rest ↦ let r = flat_has f xs a rest in (r.0, contains_tail x xs r.0 r.1, r.2)
-]
-
-pub flat_from : {X A : Type 0} (f : X → List A) (xs : List X) (x : X) (a : A) → Contains xs x → Contains (f x) a → Contains (flat_map f xs) a
-flat_from f [] x a h c = absurd (contains_none x h)
-flat_from {X} {A} f (y ∷ xs) x a h c = elim (contains_cons y xs x h) [
-  | inl same ↦
-      let P : X → Type 0 = λ z. Contains (f z) a in
-      Contains-append_left (f y) (flat_map f xs) a (subst P (sym same) c)
-  | inr rest ↦ Contains-append_right (f y) (flat_map f xs) a (flat_from f xs x a rest c)
-]
-
-pub flat_pairs : {X A : Type 0} (R : X → X → Type 0) (S : A → A → Type 0) (f : X → List A) (xs : List X) → AllPairs R xs
-    → ((x : X) → Contains xs x → AllPairs S (f x))
-    → ((x y : X) (a b : A) → Contains xs x → Contains xs y → R x y → Contains (f x) a → Contains (f y) b → S a b) → AllPairs S (flat_map f xs)
-flat_pairs R S f [] pairs each across = λ i j d lt below. absurd (omega arith)
-flat_pairs R S f (x ∷ xs) pairs each across =
-    pairs_append S (f x) (flat_map f xs) (each x (contains_head x xs))
-    (flat_pairs R S f xs (pairs_tail R x xs pairs) (λ y h. each y (contains_tail x xs y h))
-    (λ y z a b hy hz r ca cb. across y z a b (contains_tail x xs y hy) (contains_tail x xs z hz) r ca cb))
-    (λ a b ca cb.
-    (let r = flat_has f xs b cb in
-    across x r.0 a b (contains_head x xs) (contains_tail x xs r.0 r.1) (pairs_head R x xs r.0 pairs r.1) ca r.2))
 
 -- ---- by cases on a test
 pick_true : {X : Type 0} (b : Bool) (x y : X) → b ≡ true → cond b x y ≡ x
@@ -375,7 +345,6 @@ in_layer : (g : Geometry) (layers : ℕ) (e : Progression) (sent : List ℕ) (p 
 in_layer g layers e sent p l h =
     let C : List PacketName → Type 0 = λ xs. Contains xs p in
     let lt : p.precinct < count_of g p.comp p.res = omega (arith, l.0.precinct, count_is g p.comp p.res l.0.resolution) in
-    let x : PacketName = name_of p.layer p.res p.comp 0 in
     record {
       first = name_of p.layer p.res p.comp 0;
       there = head_from g layers e sent (name_of p.layer p.res p.comp 0) (layer_listed g layers e sent p 0 l (omega arith))

@@ -5,7 +5,7 @@ pub mod SpreadLemmas
 pub mod OrderLemmas
 pub mod KeyLemmas
 pub mod RowLemmas
-pub mod FewRows
+pub mod FlatLemmas
 pub mod GroupLemmas
 pub mod SortLemmas
 pub mod TableLemmas

@@ -19,7 +19,8 @@ use Rattle.jx_order.specs.declared.names.Order.TheVariants.{Lrcp, Rlcp, Rpcl, Pc
 use Rattle.jx_order.specs.Orders.{IsLess, ComesBefore, order_of, across_of, down_of}
 use Rattle.jx_order.specs.Packets.{IsPacket}
 use Rattle.jx_order.specs.Steps.{AreSorted, Lists, across_or, all_heads, by_layer, count_of, down_or, group_names, group_size, heads_at, name_of, numbers_of, one_layer, one_layer_head, one_precinct, one_precinct_head, precinct_key, row_end, row_heads, row_of, sent_at, sort_key}
-use Rattle.jx_order.proofs.GroupLemmas.{IsFirst, Listed, count_is, flat_from, flat_has, flat_pairs, head_to, in_group, layer_names, layers_are, name_listed, no_heads, one_has, precinct_names, precincts_are, row_has, some_names, stands_in}
+use Rattle.jx_order.proofs.FlatLemmas.{flat_from, flat_has, flat_pairs}
+use Rattle.jx_order.proofs.GroupLemmas.{IsFirst, Listed, count_is, head_to, in_group, layer_names, layers_are, name_listed, no_heads, one_has, precinct_names, precincts_are, row_has, some_names, stands_in}
 use Rattle.jx_order.proofs.KeyLemmas.{same_place}
 use Rattle.jx_order.proofs.LessLemmas.{drop_zero, less_more, less_trans}
 use Rattle.jx_order.proofs.OrderLemmas.{same_fields, same_or}
@@ -295,9 +296,7 @@ heads_sorted : (g : Geometry) (layers : ℕ) (e : Progression) (sent : List ℕ)
 heads_sorted g layers e sent ys range to apart sorted =
     pairs_from_next (Before g (order_of e.order))
     (λ x y z. less_trans (head_of g (order_of e.order) x) (head_of g (order_of e.order) y) (head_of g (order_of e.order) z)) ys (λ k d below.
-    (let x : PacketName = get_or ys k d in
-    let y : PacketName = get_or ys (k + 1) d in
-    let here : k < length ys = omega arith in
+    (let here : k < length ys = omega arith in
     let a = head_to g layers e sent (get_or ys k d) (to (get_or ys k d) (Contains-get_or ys k d here)) in
     let b = head_to g layers e sent (get_or ys (k + 1) d) (to (get_or ys (k + 1) d) (Contains-get_or ys (k + 1) d below)) in
     let ex = key_is g layers (order_of e.order) (get_or ys k d) a.0.0 in

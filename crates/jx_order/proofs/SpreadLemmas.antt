@@ -6,7 +6,7 @@ use Rattle.std.proofs.Math.Seq.{drop-append_seam, set-append_seam, take-length}
 use Rattle.std.specs.List.{flat_map}
 use Rattle.jx_base.specs.Joined.{joined, joined_below}
 use Rattle.jx_base.proofs.Joined.{joined_next, joined_none}
-use Rattle.jx_order.proofs.LoopLemmas.{flat_next}
+use Rattle.jx_order.proofs.FlatLemmas.{flat_next}
 
 -- ---- lists of one item each
 below_long : {X : Type 0} (f : ℕ → List X) (a n : ℕ) → ((i : ℕ) → length (f i) ≡ 1) → length (joined_below f a n) ≡ n
@@ -172,3 +172,38 @@ module _ {A : Type 0} (F : A → List A) where
         within = omega arith;
         long = refl;
       }
+
+  -- a step of the loop that has done so many from the last on
+  heads_long : (before : List A) (from n : ℕ) → from + n ≤ length before → length (take n (drop from before)) ≡ n
+  heads_long before from n le = length-take-le n (drop from before) (omega (arith, length-drop from before))
+
+  left : (before now : List A) (from n done to : ℕ) → done < n → Spread (take n (drop from before)) before now from (n - done) to
+      → Spread (take n (drop from before)) before now from (n - 1 - done + 1) to
+  left before now from n done to lt s =
+      let P : ℕ → Type 0 = λ i. Spread (take n (drop from before)) before now from i to in
+      let e : n - done ≡ n - 1 - done + 1 = omega arith in
+      subst P e s
+
+  pub spread_fits : (before now : List A) (from n done to : ℕ) (d : A) → done < n → from + n ≤ length before
+      → Spread (take n (drop from before)) before now from (n - done) to → length (F (get_or now (from + (n - 1 - done)) d)) ≤ to
+  spread_fits before now from n done to d lt le s =
+      let on = left before now from n done to lt s in
+      omega (
+        arith,
+        ap (λ (y : A). length (F y)) (spread_item before now from n (n - 1 - done) to d (omega arith) on),
+        spread_room (take n (drop from before)) before now from (n - 1 - done) to d (omega (arith, heads_long before from n le)) on,
+      )
+
+  pub spread_step : (before now next : List A) (from n done to size at : ℕ) (d : A) → Some (take n (drop from before)) → done < n → from + n ≤ length before
+      → Spread (take n (drop from before)) before now from (n - done) to → size ≡ length (F (get_or now (from + (n - 1 - done)) d)) → at ≡ to - size
+      → next ≡ take (to - size) now ++ F (get_or now (from + (n - 1 - done)) d) ++ drop to now
+      → Spread (take n (drop from before)) before next from (n - (done + 1)) at
+  spread_step before now next from n done to size at d some lt le s es ea e =
+      let on = left before now from n done to lt s in
+      let item = spread_item before now from n (n - 1 - done) to d (omega arith) on in
+      let next_is = spread_next (take n (drop from before)) before now next from (n - 1 - done) to size d some (omega (arith, heads_long before from n le)) on
+      (es ∙ ap (λ (y : A). length (F y)) (sym item)) (e ∙ ap (λ (y : A). take (to - size) now ++ F y ++ drop to now) (sym item)) in
+      let P : ℕ → Type 0 = λ i. Spread (take n (drop from before)) before next from i at in
+      let Q : ℕ → Type 0 = λ i. Spread (take n (drop from before)) before next from (n - 1 - done) i in
+      let last : n - 1 - done ≡ n - (done + 1) = omega arith in
+      subst P last (subst Q (sym ea) next_is)

@@ -8,7 +8,6 @@ use Rattle.jx_order.proofs.spread.make_room.Goals as goal
 
 pub loop-done-preserved : goal.loop-done-preserved
 loop-done-preserved c =
-    let x : PacketName = c.index-head.result.now in
     let item : get_or (drop c.args.from c.args.list.now.items) c.loop-done.done c.index-head.result.now ≡ c.index-head.result.now =
     get_or-drop c.args.from c.args.list.now.items c.loop-done.done c.index-head.result.now
     ∙ sym (front_all c.args.list.now.items c.loop-done.list.items (c.args.from + c.loop-done.done) c.index-head.result.now (omega arith) c.loop-done.invariant.front)
