@@ -13,6 +13,7 @@ pub mod CoveredLemmas
 pub mod RiseLemmas
 pub mod BeginLemmas
 pub mod PlaceLemmas
+pub mod PointLemmas
 pub mod NestLemmas
 pub mod MemberLemmas
 pub mod LayerLoops

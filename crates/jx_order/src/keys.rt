@@ -57,17 +57,15 @@ pub(crate) fn count_precincts(geom: &TileGeom, comp: u16, res: u8) -> u32
 }
 
 /// Where a packet's precinct stands on the reference grid: its column and its row, or 0 where it isn't there.
-#[tactic(auto, unfolding(crate::specs::Steps::across_or, crate::specs::Steps::down_or))]
+#[tactic(auto, using(crate::proofs::PointLemmas::across_there, crate::proofs::PointLemmas::down_there, crate::proofs::PointLemmas::across_none, crate::proofs::PointLemmas::down_none))]
 fn position(geom: &TileGeom, name: PacketName) -> (u32, u32)
     ensures across { result.0 ≡ across_or geom.now name }
     ensures down { result.1 ≡ down_or geom.now name }
 {
-    if name.precinct >= count_precincts(geom, name.comp, name.res) {
-        return (0, 0);
+    match geom.point_of(name.comp, name.res, name.precinct) {
+        Some((x, y)) => (x as u32, y as u32),
+        None => (0, 0),
     }
-    let _tile = geom.tile();
-    let (x, y) = geom.reference_point(name.comp, name.res, name.precinct);
-    (x as u32, y as u32)
 }
 
 /// A key of four numbers.
