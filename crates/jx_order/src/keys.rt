@@ -1,4 +1,4 @@
-//! Keys by which an entry's packets are sorted where not all of them are listed yet.
+//! What an entry's groups are sorted by: a layer of a resolution stands together, or a precinct.
 
 ghost use Rattle.std.specs.Prelude.{◌≡◌, ◌≤◌, ◌<◌};
 ghost use Rattle.jx_geom.specs.Geometry.{HasResolution, precincts_in};
@@ -8,7 +8,7 @@ ghost use Rattle.jx_order.specs.Steps.{across_or, by_layer, count_of, down_or, l
 use crate::names::{Order, PacketName};
 use jx_geom::TileGeom;
 
-/// The numbers that an order sorts packets that stand together by: a layer of a resolution, or a precinct.
+/// The numbers that an order sorts groups by.
 #[derive(Clone, Copy, Debug, PartialEq, Eq, PartialOrd, Ord, Drop)]
 pub(crate) struct Key {
     pub first: u32,

@@ -32,7 +32,7 @@ fn push_copies(head: PacketName, more: usize, list: &mut Vec<PacketName>) -> Res
     Ok(())
 }
 
-/// Appends as many packets as lack behind the first of each group.
+/// Appends as many packets as the groups have besides their first ones, so that the list has its length.
 fn make_room(
     geom: &TileGeom,
     order: Order,
