@@ -1,4 +1,4 @@
-use Rattle.std.proofs.Common.{◌≡◌, ℕ, ◌<◌, List, map, ap, sym, subst, ◌∙◌}
+use Rattle.std.proofs.Common.{ℕ, ◌<◌, List, map, ap, sym, subst, ◌∙◌}
 use Rattle.std.specs.Prelude.{slice_get}
 use Rattle.jx_store.specs.declared.event.Taped.{Taped}
 use Rattle.jx_store.specs.declared.work.Named.{Named}
@@ -8,9 +8,7 @@ use Rattle.jx_store.specs.Below.{AllBelow}
 use Rattle.jx_store.specs.Made.{made_in}
 use Rattle.jx_store.specs.Notes.{Notes, count_full, count_all, count_claims, count_commits}
 use Rattle.jx_store.specs.Replays.{Blank, Remembers, blank_taped, replayed}
-use Rattle.jx_store.specs.Setup.{Setup}
 use Rattle.jx_store.specs.Shown.{state_of}
-use Rattle.jx_store.specs.ShownNotes.{shown}
 use Rattle.jx_store.proofs.store.LockStore.into_history.Goals as goal
 
 pub returns-clause-worker : goal.returns-clause-worker
