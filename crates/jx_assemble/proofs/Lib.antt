@@ -31,3 +31,4 @@ pub mod SegmentLemmas
 pub mod SendingLemmas
 pub mod SendingsLemmas
 pub mod SentLemmas
+pub mod SilentLemmas

@@ -8,6 +8,7 @@ pub mod Packed
 pub mod Pieces
 pub mod Rows
 pub mod Sent
+pub mod Silent
 pub mod TileParts
 pub mod Told
 pub mod Ready

@@ -18,6 +18,7 @@ mod rows;
 mod segments;
 mod sending;
 mod sent;
+mod silent;
 #[cfg(test)]
 mod tests;
 mod tile;

@@ -13,12 +13,14 @@ ghost use Rattle.jx_stream.specs.Params.{headers_at, planes_at};
 ghost use Rattle.jx_stream.specs.Shapes.{geometry};
 ghost use Rattle.jx_gather.specs.Cells.{precinct_bands, sizes_of};
 ghost use Rattle.jx_assemble.specs.Own.{AreOwnBlocks, HasLeaves, IsSending, leaf_bytes};
+ghost use Rattle.jx_assemble.specs.Silent.{empty_header};
 ghost use Rattle.jx_assemble.specs.Sent.{AreSent, row_at, row_bytes, rows_of};
 
 use crate::leaf::leaves_of;
 use crate::parts::Coded;
 use crate::rows::Rows;
 use crate::sent::{Sent, put_block};
+use crate::silent::{are_silent, silent_headers};
 use jx_base::{Band, NoMemory, Rect};
 use jx_geom::TileGeom;
 use jx_head::{BandCells, PrecinctOut};
@@ -97,6 +99,18 @@ fn headers_of(alloc: Global, precinct: PrecinctOut, layers: u16) -> Result<Rows<
     Ok(rows)
 }
 
+/// What is sent of a precinct of which no block has a part.
+fn silent_sending(alloc: Global, layers: u16) -> Result<Sending, NoMemory>
+    ensures headers { IfOk result (λ p. p.headers ≡ map empty_header (range_with_len 0 layers)) }
+    ensures long { IfOk result (λ p. length p.sent ≡ layers) }
+    ensures none { IfOk result (λ p. (l : ℕ) → row_at p.sent l ≡ []) }
+{
+    let rows = empty_rows(alloc, layers)?;
+    let sent = flat_rows(alloc, &rows)?;
+    let headers = silent_headers(alloc, layers)?;
+    Ok(Sending { headers, sent })
+}
+
 /// Appends how many blocks a precinct has in a band.
 fn push_cells(
     stream: &Stream,
@@ -161,8 +175,8 @@ fn cells_of(
     Ok(bands)
 }
 
-/// What is sent of a precinct, from the blocks of its tile.
-pub(crate) fn sending_of<B: Coded>(
+/// What is sent of a precinct whose tag trees are written, from the blocks of its tile.
+fn written_sending<B: Coded>(
     alloc: Global,
     stream: &Stream,
     view: &TileView<'_>,
@@ -190,4 +204,32 @@ pub(crate) fn sending_of<B: Coded>(
     let rows = parts_of(alloc, geom, comp, res, precinct, layers, values)?;
     let sent = flat_rows(alloc, &rows)?;
     Ok(Sending { headers, sent })
+}
+
+/// What is sent of a precinct, from the blocks of its tile. Where no block has a part no tag tree is built.
+pub(crate) fn sending_of<B: Coded>(
+    alloc: Global,
+    stream: &Stream,
+    view: &TileView<'_>,
+    geom: &TileGeom,
+    comp: u16,
+    res: u8,
+    precinct: u32,
+    values: &[B],
+) -> Result<Sending, NoMemory>
+    requires view { view.now ≡ headers_at stream.now geom.now.tile }
+    requires range { StreamInRange stream.now }
+    requires tile { geom.now.tile < tile_number stream.now.siz }
+    requires geometry { geom.now ≡ geometry stream.now geom.now.tile }
+    requires limits { GeometryInRange geom.now }
+    requires precinct { HasPrecinct geom.now comp res precinct }
+    requires own { AreOwnBlocks stream.now geom.now (map B.block values.now) }
+    ensures { IfOk result (λ p. IsSending stream.now geom.now (map B.block values.now) (map B.bytes values.now) comp res precinct p) }
+{
+    if are_silent(geom, comp, res, precinct, values) {
+        let layers = view.layers();
+        let sending = silent_sending(alloc, layers)?;
+        return Ok(sending);
+    }
+    written_sending(alloc, stream, view, geom, comp, res, precinct, values)
 }

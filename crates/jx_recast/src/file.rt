@@ -9,6 +9,7 @@ ghost use Rattle.jx_stream.specs.First.{tile_number};
 ghost use Rattle.jx_assemble.specs.Tile.{first_block, main_bytes};
 ghost use Rattle.jx_words.specs.Words.{MayBeWork};
 ghost use Rattle.jx_recast.specs.Filed.{IsFileHalted, IsFileMade};
+ghost use Rattle.jx_recast.specs.MadeRounds.{entry_of};
 ghost use Rattle.jx_recast.specs.Progress.{SomeFront};
 ghost use Rattle.jx_recast.specs.Rounds.{BeginsRound, EndsRound, HasFront, HasRounds, HasTape, HasWhole, IsFault, IsHalted, IsPlace, IsUnwritten};
 ghost use Rattle.jx_recast.specs.Tapes.{IsTapeOf};
@@ -18,10 +19,12 @@ use crate::buffer::{ENOUGH, count_bytes, put, put_tiles};
 use crate::crew::Crew;
 use crate::halt::{Halt, halt_of};
 use crate::making::Making;
-use crate::rounds::{made_round, packed_tiles, taped};
+use crate::rounds::{made_round, packed_tiles};
 use jx_assemble::{main_header, main_view};
+use jx_block::Recoded;
 use jx_outside::{Files, Gate};
 use jx_plan::OutStream;
+use jx_store::Entry;
 use std::alloc::Global;
 use std::sync::Wait;
 use std::thread::Threads;
@@ -36,13 +39,24 @@ pub struct Mark {
     pub bytes: usize,
 }
 
-/// Puts a round's entries behind those of the rounds before it.
-fn put_entries(tape: &mut Vec<TapeEntry>, entries: &[TapeEntry])
+/// What the tape says of a block.
+fn told_of(entry: &Entry<Recoded<'_>>) -> TapeEntry
+    ensures { result ≡ entry_of entry.now }
+{
+    TapeEntry {
+        number: entry.number,
+        worker: entry.worker,
+        seen: entry.seen,
+    }
+}
+
+/// Puts what the tape says of a round's blocks behind those of the rounds before it.
+fn put_entries(tape: &mut Vec<TapeEntry>, entries: &[Entry<Recoded<'_>>])
     requires { vec_len tape.old + length entries.now ≤ vec_capacity tape.old }
-    ensures { tape.new.items ≡ tape.old.items ++ entries.now }
+    ensures { tape.new.items ≡ tape.old.items ++ map entry_of entries.now }
 {
     for entry in entries {
-        tape.push_reserved(*entry);
+        tape.push_reserved(told_of(entry));
     }
 }
 
@@ -87,15 +101,12 @@ fn write_round<R: Threads + Wait + Sync, G: Gate + Sync, F: Files>(
     let Some(bytes) = count_bytes(mark.bytes, &tiles) else {
         return Err(Halt::NoMemory);
     };
-    let Ok(entries) = taped(alloc, &round.entries) else {
-        return Err(Halt::NoMemory);
-    };
-    if tape.reserve(entries.len()).is_err() {
+    if tape.reserve(round.entries.len()).is_err() {
         return Err(Halt::NoMemory);
     }
     match put_tiles(files, &tiles, buffer) {
         Ok(()) => {
-            put_entries(tape, &entries);
+            put_entries(tape, &round.entries);
             Ok(Mark {
                 tile: round.extent.tile,
                 block: round.extent.block,

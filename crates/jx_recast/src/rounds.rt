@@ -7,7 +7,6 @@ ghost use Rattle.jx_words.specs.Words.{MayBeWork};
 ghost use Rattle.jx_recast.specs.MadeRounds.{AreOfBlocks, IsExtent, TapesOn, entry_of, parts_of};
 ghost use Rattle.jx_recast.specs.Rounds.{BeginsRound, EndsRound, IsPlace, IsUnmade, LeadOn};
 
-use crate::TapeEntry;
 use crate::crew::{Crew, made_blocks};
 use crate::halt::Halt;
 use crate::making::Making;
@@ -141,21 +140,6 @@ pub fn packed_tiles<'a, 'b>(
         from = to;
     }
     Ok(tiles)
-}
-
-/// What the tape says of blocks.
-pub fn taped(alloc: Global, entries: &[Entry<Recoded<'_>>]) -> Result<Vec<TapeEntry>, NoMemory>
-    ensures { IfOk result (λ tape. tape.items ≡ map entry_of entries.now) }
-{
-    let mut tape = Vec::new(alloc);
-    for entry in entries {
-        tape.push(TapeEntry {
-            number: entry.number,
-            worker: entry.worker,
-            seen: entry.seen,
-        })?;
-    }
-    Ok(tape)
 }
 
 /// The round that begins at a tile, of which `block` is the number of the first code-block.
