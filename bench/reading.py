@@ -4,9 +4,11 @@
 usage: bench/reading.py PROGRAM [PROGRAM ..]
 
 Makes the files in a temporary folder, runs each program on each of them in turn (`PROGRAM transcode IN OUT --sop`), three
-times each, and prints the medians in seconds beside what the program said. Only Python's standard library is needed.
+times each, and prints the medians in seconds beside what the program said. Files of many code-blocks are also read alone: the
+same run with precincts that are refused once all is read (`--precincts 1x1`, choice 3). Only Python's standard library is needed.
 """
 
+import itertools
 import os
 import struct
 import subprocess
@@ -83,11 +85,11 @@ FILES = [
 ]
 
 
-def timed(program, source, target):
+def timed(program, source, target, words):
     start = time.monotonic()
     try:
         run = subprocess.run(
-            [program, "transcode", source, target, "--sop"],
+            [program, "transcode", source, target, *words],
             capture_output=True,
             timeout=MOST_SECONDS,
         )
@@ -109,14 +111,16 @@ def main():
             with open(source, "wb") as file:
                 file.write(data)
             print(f"{name}; {len(data):,} bytes")
-            for program in programs:
+            alone = [["--precincts", "1x1"]] if "code-blocks" in name else []
+            for program, words in itertools.product(programs, [["--sop"], *alone]):
                 runs = []
                 for _ in range(3):
-                    runs.append(timed(program, source, target))
+                    runs.append(timed(program, source, target, words))
                     if runs[-1][0] > 20:
                         break
                 seconds = sorted(seconds for seconds, _ in runs)[len(runs) // 2]
-                print(f"    {seconds:8.3f} s  {program}: {runs[0][1]}", flush=True)
+                said = runs[0][1].splitlines()[0] if runs[0][1] else ""
+                print(f"    {seconds:8.3f} s  {program} {' '.join(words)}: {said}", flush=True)
 
 
 if __name__ == "__main__":
