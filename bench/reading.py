@@ -5,7 +5,7 @@ usage: bench/reading.py PROGRAM [PROGRAM ..]
 
 Makes the files in a temporary folder, runs each program on each of them in turn (`PROGRAM transcode IN OUT --sop`), three
 times each, and prints the medians in seconds beside what the program said. Files of many code-blocks are also read alone: the
-same run with precincts that are refused once all is read (`--precincts 1x1`, choice 3). Only Python's standard library is needed.
+same run with precincts that are refused once all is read (`--precincts 1x1`, choice 2). Only Python's standard library is needed.
 """
 
 import itertools
