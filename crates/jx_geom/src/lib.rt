@@ -27,10 +27,3 @@ pub use rects::{tile_of, tiles};
 pub use shape::{Canvas, CompShape};
 pub use table::Resolution;
 pub use tile_geom::TileGeom;
-
-#[cfg(test)]
-mod grid_tests;
-#[cfg(test)]
-mod naming_tests;
-#[cfg(test)]
-mod tests;

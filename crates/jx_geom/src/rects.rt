@@ -26,7 +26,7 @@ ghost use Rattle.jx_geom.specs.Rects.{
 
 use crate::exponents::{Exponents, of_block, of_part, of_precinct};
 use crate::shape::{Canvas, CompShape};
-use crate::spans::{cells_of, count_tiles, every, one_band, one_tile, part_of, point_of};
+use crate::spans::{cells_of, count_tiles, every, has_none, one_band, one_tile, part_of, point_of};
 use jx_base::{Band, Rect, Span};
 
 /// How many tiles a canvas has: those across times those down (T.800, equation B-5).
@@ -87,7 +87,7 @@ pub(crate) fn is_empty(tile: Rect, shape: &CompShape) -> bool
     requires { ShapeInRange shape.now }
     ensures { IsTrue result ↔ (size_of (component_rect tile shape.now) ≡ 0) }
 {
-    every(tile.x, u64::from(shape.dx)).len() == 0 || every(tile.y, u64::from(shape.dy)).len() == 0
+    has_none(tile.x, u32::from(shape.dx)) || has_none(tile.y, u32::from(shape.dy))
 }
 
 /// A resolution's places.

@@ -1,7 +1,8 @@
 //! One direction, across or down.
 
-ghost use Rattle.std.specs.Prelude.{◌≡◌, ◌+◌, ◌-◌, ◌*◌, ◌<◌, ◌≤◌, ◌^◌, if◌then◌else◌};
+ghost use Rattle.std.specs.Prelude.{◌≡◌, ◌+◌, ◌-◌, ◌*◌, ◌<◌, ◌≤◌, ◌^◌, ◌↔◌, IsTrue, if◌then◌else◌};
 ghost use Rattle.jx_base.specs.Numbers.{ceil_of};
+ghost use Rattle.jx_base.specs.Places.{length_of};
 ghost use Rattle.jx_geom.specs.Spans.{tiles_along, tile_span, scaled, band_span, cells, cut, reference_of};
 
 use jx_base::{Span, ceil_div, ceil_shift};
@@ -49,6 +50,27 @@ pub(crate) fn every(span: Span, step: u64) -> Span
         low: low as u32,
         high: high as u32,
     }
+}
+
+/// A number divided and rounded up. Of 32 bits, for which a processor divides faster than for 64.
+#[tactic(auto, using(jx_base::proofs::Ceilings::ceil_le_self), unfolding(jx_base::specs::Numbers::ceil_of))]
+fn rounded_up(number: u32, step: u32) -> u32
+    requires { 0 < step }
+    ensures { result ≡ ceil_of number step }
+{
+    let whole = number / step;
+    if number % step == 0 { whole } else { whole + 1 }
+}
+
+/// Whether no place stands for an every `step`-th one of a span: the first multiple from its low end on lies
+/// at its high end or behind it. One division, where the places themselves take two.
+#[tactic(auto, using(crate::proofs::StepLemmas::none_from, crate::proofs::StepLemmas::none_to))]
+pub(crate) fn has_none(span: Span, step: u32) -> bool
+    requires { 0 < step }
+    ensures { IsTrue result ↔ (length_of (scaled span step) ≡ 0) }
+{
+    let first = rounded_up(span.low, step);
+    u64::from(first) * u64::from(step) >= u64::from(span.high)
 }
 
 /// An end of a band of a level, from that of its tile-component.
