@@ -33,7 +33,6 @@ pub mod SeenLemmas
 pub mod SentLemmas
 pub mod ShareLemmas
 pub mod SoundLemmas
-pub mod TestLemmas
 pub mod TwinLemmas
 pub mod WithinLemmas
 pub mod WrittenLemmas

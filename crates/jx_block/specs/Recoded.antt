@@ -1,5 +1,5 @@
 -- A block as it is written, with the job that it was made of.
-use Rattle.std.specs.Prelude.{◌≡◌, ◌≤◌, ◌^◌, ℕ, Bool, ◌&&◌, List, length, Option, Some, None, is_some, is_none}
+use Rattle.std.specs.Prelude.{◌≡◌, ◌≤◌, ◌^◌, ℕ, Bool, ◌&&◌, List, [], length, Option, Some, None, is_some, is_none}
 use Rattle.std.specs.List.{concat}
 use Rattle.jx_base.specs.declared.pieces.Block.{Block}
 use Rattle.jx_base.specs.declared.style.Style.{Style}
@@ -35,6 +35,16 @@ bytes_by b (Some style) new = new
 -- the block with these bytes and parts
 abbrev pub made_recoding : Job → List ℕ → List OutPart → Recoding
 made_recoding j new parts = record { style = new_style j.block.now j.style; bytes = bytes_by j.block.now j.style new; parts = parts }
+
+-- a list of what there may be: none where there is nothing
+abbrev pub list_of : {A B : Type 0} → (A → List B) → Option A → List B
+list_of f None = []
+list_of f (Some a) = f a
+
+-- the new bytes of a block, and its parts
+pub record MadeLists : Type 0 where
+  pub bytes : List ℕ
+  pub parts : List OutPart
 
 -- the job is a valid one, and these are its new bytes and its parts
 pub record IsMade (j : Job) (new : List ℕ) (parts : List OutPart) : Type 0 where

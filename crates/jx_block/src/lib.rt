@@ -10,16 +10,13 @@ mod faults;
 mod job;
 pub mod laws;
 mod looks;
+mod made;
 mod own;
 mod parts;
 mod recoded;
 mod segments;
 mod sent;
 mod step;
-#[cfg(test)]
-mod style_tests;
-#[cfg(test)]
-mod tests;
 
 pub use ends::Ends;
 pub use faults::BlockFault;

@@ -14,6 +14,7 @@ use crate::anew::{all_bytes, own_cells, parts_of as parts_anew};
 use crate::copy::{append_bytes, append_within};
 use crate::decide::parts_of;
 use crate::laws::written_keeps_coefficients;
+use crate::made::Made;
 use crate::step::lists_in_step;
 use crate::{BlockFault, Job, OutPart};
 use jx_base::{NoMemory, Style};
@@ -27,9 +28,7 @@ use std::marker::Model;
 #[derive(Drop)]
 pub struct Recoded<'a> {
     job: &'a Job<'a>,
-    /// The bytes of the new segments; none where the block keeps its own.
-    bytes: Vec<u8>,
-    parts: Vec<OutPart>,
+    made: Made,
 }
 
 impl<'a> Model for Recoded<'a> {
@@ -37,9 +36,9 @@ impl<'a> Model for Recoded<'a> {
 
     ghost Value = { WrittenBlock };
 
-    ghost view = { λ r. record { job = r.job.now; recoding = made_recoding r.job.now r.bytes.items r.parts.items } };
+    ghost view = { λ r. record { job = r.job.now; recoding = made_recoding r.job.now r.made.bytes r.made.parts } };
 
-    ghost invariant = { λ r. IsMade r.job.now r.bytes.items r.parts.items };
+    ghost invariant = { λ r. IsMade r.job.now r.made.bytes r.made.parts };
 }
 
 /// A block that keeps its segments.
@@ -49,13 +48,13 @@ fn keep<'a>(alloc: Global, job: &'a Job<'a>) -> Result<Recoded<'a>, NoMemory>
     ensures job { IfOk result (λ r. r.job ≡ job.now) }
     ensures recoding { IfOk result (λ r. Some r.recoding ≡ recoding_in job.now) }
 {
-    let bytes = Vec::new(alloc);
     let parts = parts_of(alloc, job.block, job.ends.as_slice())?;
-    Ok(Recoded { job, bytes, parts })
+    let made = Made::of(alloc, Vec::new(alloc), parts)?;
+    Ok(Recoded { job, made })
 }
 
 /// A block without passes, which has no segments in any style.
-fn nothing<'a>(alloc: Global, job: &'a Job<'a>) -> Recoded<'a>
+fn nothing<'a>(job: &'a Job<'a>) -> Recoded<'a>
     requires asked { IsAsked job.now.block.now job.now.style job.now.ends }
     requires none { job.now.block.now.passes ≡ 0 }
     ensures job { result.job ≡ job.now }
@@ -63,8 +62,7 @@ fn nothing<'a>(alloc: Global, job: &'a Job<'a>) -> Recoded<'a>
 {
     Recoded {
         job,
-        bytes: Vec::new(alloc),
-        parts: Vec::new(alloc),
+        made: Made::nothing(),
     }
 }
 
@@ -105,19 +103,18 @@ fn new_lists(alloc: Global, job: &Job<'_>, style: Style) -> Result<Vec<Vec<u8>>,
 /// A block of which a style is asked.
 fn code_anew<'a>(alloc: Global, job: &'a Job<'a>, style: Style) -> Result<Recoded<'a>, BlockFault>
     requires asked { IsAsked job.now.block.now job.now.style job.now.ends }
+    requires some { 1 ≤ job.now.block.now.passes }
     requires style { job.now.style ≡ Some style }
     ensures job { IfOk result (λ r. r.job ≡ job.now) }
     ensures recoding { IfOk result (λ r. Some r.recoding ≡ recoding_in job.now) }
     ensures bad { IfErr result (λ e. HasCause job.now e) }
 {
     let block = job.block;
-    if block.passes == 0 {
-        return Ok(nothing(alloc, job));
-    }
     let lists = new_lists(alloc, job, style)?;
     let bytes = all_bytes(alloc, &lists)?;
     let parts = parts_anew(alloc, block, style, job.ends.as_slice(), &lists)?;
-    Ok(Recoded { job, bytes, parts })
+    let made = Made::of(alloc, bytes, parts)?;
+    Ok(Recoded { job, made })
 }
 
 /// Makes of a block what its job asks for. It is refused with the job's number where a style is asked
@@ -134,6 +131,9 @@ pub fn recode<'a>(alloc: Global, claim: &Claim, job: &'a Job<'a>) -> Result<Reco
     // Only the contract speaks of it.
     let _ = claim;
     written_keeps_coefficients();
+    if job.block.passes == 0 {
+        return Ok(nothing(job));
+    }
     match job.style {
         None => Ok(keep(alloc, job)?),
         Some(style) => code_anew(alloc, job, style),
@@ -158,7 +158,7 @@ impl<'a> Recoded<'a> {
         ensures within { All (IsWithin (length self.now.recoding.bytes)) result.now }
         ensures sound { ArePieces self.now.recoding.style 0 0 self.now.job.block.now.passes (pieces_of self.now.recoding) }
     {
-        &self.parts
+        self.made.parts()
     }
 
     /// Appends the bytes of a part. With room for them in `out` it isn't refused; after an `Err` `out` has
@@ -170,7 +170,7 @@ impl<'a> Recoded<'a> {
     {
         match self.job.style {
             None => append_bytes(self.job.block.pieces.as_slice(), part.from, part.to, out),
-            Some(_) => append_within(&self.bytes, part.from, part.to, out),
+            Some(_) => append_within(self.made.bytes(), part.from, part.to, out),
         }
     }
 }

@@ -1,13 +1,13 @@
-use Rattle.std.proofs.Common.{arith}
+use Rattle.std.proofs.Common.{◌∙◌, arith}
 use Rattle.jx_block.proofs.OwnBytes.{kept_by}
 use Rattle.jx_block.proofs.recoded.keep.Goals as goal
 
 pub invariant_of-result : goal.invariant_of-result
 invariant_of-result c = record {
   asked = c.requires.asked;
-  few = rw c.new-bytes.ensures.items (omega arith);
-  is = kept_by c.args.job.now c.as_slice.result.now _ c.in_ok-parts.parts.items c.requires.kept c.as_slice.ensures c.in_ok-parts.ensures;
+  few = rw (c.in_ok-made.ensures.bytes, c.new.ensures.items) (omega arith);
+  is = kept_by c.args.job.now c.as_slice.result.now _ _ c.requires.kept c.as_slice.ensures (c.in_ok-made.ensures.parts ∙ c.in_ok-parts.ensures);
 }
 
 pub returns-clause-recoding : goal.returns-clause-recoding
-returns-clause-recoding c = kept_by c.args.job.now c.as_slice.result.now _ c.in_ok-parts.parts.items c.requires.kept c.as_slice.ensures c.in_ok-parts.ensures
+returns-clause-recoding c = kept_by c.args.job.now c.as_slice.result.now _ _ c.requires.kept c.as_slice.ensures (c.in_ok-made.ensures.parts ∙ c.in_ok-parts.ensures)

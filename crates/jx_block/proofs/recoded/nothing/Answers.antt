@@ -5,9 +5,9 @@ use Rattle.jx_block.proofs.recoded.nothing.Goals as goal
 pub invariant_of-result : goal.invariant_of-result
 invariant_of-result c = record {
   asked = c.requires.asked;
-  few = rw c.new.ensures.items (omega arith);
-  is = nothing_made c.args.job.now _ _ c.requires.asked c.requires.none c.new.ensures.items c.new-2.ensures.items;
+  few = rw c.nothing.ensures.bytes (omega arith);
+  is = nothing_made c.args.job.now _ _ c.requires.asked c.requires.none c.nothing.ensures.bytes c.nothing.ensures.parts;
 }
 
 pub returns-clause-recoding : goal.returns-clause-recoding
-returns-clause-recoding c = nothing_made c.args.job.now _ _ c.requires.asked c.requires.none c.new.ensures.items c.new-2.ensures.items
+returns-clause-recoding c = nothing_made c.args.job.now _ _ c.requires.asked c.requires.none c.nothing.ensures.bytes c.nothing.ensures.parts
