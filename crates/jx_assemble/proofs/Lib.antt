@@ -20,7 +20,6 @@ pub mod EntryLemmas
 pub mod LeafLemmas
 pub mod LengthLemmas
 pub mod NameLemmas
-pub mod OneTile
 pub mod OwnLemmas
 pub mod PacketLemmas
 pub mod PartLemmas

@@ -9,8 +9,6 @@ pub mod laws;
 mod leaf;
 mod lengths;
 mod packets;
-#[cfg(test)]
-mod part_tests;
 mod parts;
 mod planned;
 mod precincts;
@@ -19,8 +17,6 @@ mod segments;
 mod sending;
 mod sent;
 mod silent;
-#[cfg(test)]
-mod tests;
 mod tile;
 mod tile_out;
 mod tile_part;

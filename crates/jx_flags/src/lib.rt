@@ -15,15 +15,11 @@ mod labels;
 mod pen;
 mod reader;
 mod recode;
-#[cfg(test)]
-mod recode_tests;
 mod recoder;
 mod runs;
 mod scan;
 mod signs;
 mod steps;
-#[cfg(test)]
-mod tests;
 mod writer;
 
 pub use decode::{FlagDecoded, decode_flags, sound_flags};

@@ -19,6 +19,3 @@ pub use gathering::gather;
 pub use jx_base::{Block, Piece, Pieces};
 pub use jx_stream::StreamFault;
 pub use totals::count_all;
-
-#[cfg(test)]
-mod tests;

@@ -15,8 +15,6 @@ mod scan;
 mod source;
 mod steps;
 mod symbol;
-#[cfg(test)]
-mod tests;
 
 pub use answers::answer;
 pub use coded::{BadSymbol, Coded, Segments};

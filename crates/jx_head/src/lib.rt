@@ -59,6 +59,3 @@ pub enum HeadFault {
     /// Memory was refused.
     NoMemory,
 }
-
-#[cfg(test)]
-mod tests;

@@ -9,8 +9,6 @@ mod cutting;
 mod facts;
 mod keep;
 pub mod laws;
-#[cfg(test)]
-mod layer_tests;
 mod lending;
 mod planes;
 mod planner;

@@ -48,6 +48,3 @@ pub fn make(alloc: Global, seed: u64, width: u32, height: u32) -> Result<Vec<u8>
     }
     file(alloc, width, height, &body)
 }
-
-#[cfg(test)]
-mod tests;

@@ -12,8 +12,6 @@ mod packets;
 mod put;
 mod read;
 mod rules;
-#[cfg(test)]
-mod tests;
 
 pub use lists::{Bytes, CompSizes, Numbers, Progressions};
 pub use packets::{eph, sop};

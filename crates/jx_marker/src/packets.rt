@@ -19,15 +19,3 @@ pub fn eph() -> [u8; 2]
 {
     [0xFF, EPH]
 }
-
-#[cfg(test)]
-mod tests {
-    use super::*;
-
-    #[test]
-    fn marks_of_packets(rt: HostRuntime) {
-        assert_eq!(rt; sop(0x1234), [0xFF, 0x91, 0, 4, 0x12, 0x34]);
-        assert_eq!(rt; sop(0xFFFF), [0xFF, 0x91, 0, 4, 0xFF, 0xFF]);
-        assert_eq!(rt; eph(), [0xFF, 0x92]);
-    }
-}

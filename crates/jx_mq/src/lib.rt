@@ -7,8 +7,6 @@ mod decoder;
 mod encoder;
 pub mod laws;
 mod table;
-#[cfg(test)]
-mod tests;
 
 pub use contexts::Contexts;
 pub use decoder::MqDecoder;

@@ -13,6 +13,3 @@ mod spread;
 pub use covered::are_covered;
 pub use listing::packets;
 pub use names::{Order, OrderFault, PacketName};
-
-#[cfg(test)]
-mod tests;

@@ -27,8 +27,3 @@ pub use refused::Refused;
 pub use sink::Sink;
 pub use spoken::{MemSink, SureSink};
 pub use sure::SureFiles;
-
-#[cfg(test)]
-mod real_tests;
-#[cfg(test)]
-mod tests;

@@ -4,8 +4,6 @@
 mod decode;
 mod decoder;
 mod reader;
-#[cfg(test)]
-mod tests;
 
 pub use decode::{Decoded, decode_passes, sound};
 pub use jx_grid::{BadSymbol, Coded, Coef, Grid, Segments};

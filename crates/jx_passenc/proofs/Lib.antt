@@ -13,7 +13,6 @@ pub mod PowerLemmas
 pub mod ReadyLemmas
 pub mod RunBackLemmas
 pub mod SegmentLemmas
-pub mod ShortLemmas
 pub mod StayLemmas
 pub mod StepLemmas
 pub mod WholeLemmas

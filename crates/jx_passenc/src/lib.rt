@@ -4,8 +4,6 @@
 mod encode;
 mod encoder;
 pub mod laws;
-#[cfg(test)]
-mod tests;
 mod writer;
 
 pub use encode::encode_passes;

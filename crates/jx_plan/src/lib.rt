@@ -1,8 +1,6 @@
 //! What is written of a codestream, chosen before a byte of it is: its headers, and the layers of its code-blocks (ITU-T T.800).
 #![tactic(auto)]
 
-#[cfg(test)]
-mod choice_tests;
 mod counting;
 mod faults;
 mod fitting;
@@ -11,13 +9,7 @@ pub mod laws;
 mod options;
 mod out_stream;
 mod parting;
-#[cfg(test)]
-mod parting_tests;
 mod planning;
-#[cfg(test)]
-mod tests;
-#[cfg(test)]
-mod tile_tests;
 
 pub use faults::PlanFault;
 pub use fitting::check_precincts;

@@ -1,3 +1,2 @@
 pub mod TapeLemmas
 pub mod PassLemmas
-pub mod TestLemmas

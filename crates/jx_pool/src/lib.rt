@@ -9,6 +9,3 @@ mod sizes;
 mod workers;
 
 pub use pool::{Tape, recode_all};
-
-#[cfg(test)]
-mod tests;

@@ -4,8 +4,6 @@
 
 pub mod laws;
 mod reader;
-#[cfg(test)]
-mod tests;
 mod writer;
 
 pub use reader::RawReader;

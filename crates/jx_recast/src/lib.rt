@@ -21,22 +21,3 @@ mod tile;
 
 pub use program::run;
 pub use status::{Report, Status, TapeEntry};
-
-#[cfg(test)]
-mod device_tests;
-#[cfg(test)]
-mod layer_tests;
-#[cfg(test)]
-mod make_tests;
-#[cfg(test)]
-mod packing_tests;
-#[cfg(test)]
-mod refusal_tests;
-#[cfg(test)]
-mod regrouping_tests;
-#[cfg(test)]
-mod style_tests;
-#[cfg(test)]
-mod tests;
-#[cfg(test)]
-mod tile_tests;

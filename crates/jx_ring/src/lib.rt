@@ -15,10 +15,3 @@ pub use laws::{claims_stand_once, steps_are_events};
 pub use ring::RingStore;
 pub use rule::Turns;
 pub use view::{Pass, Place, RingView, Taken};
-
-#[cfg(test)]
-mod byte_tests;
-#[cfg(test)]
-mod tests;
-#[cfg(test)]
-mod thread_tests;

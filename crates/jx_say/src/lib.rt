@@ -51,10 +51,3 @@ pub enum Refusal {
     /// Memory was refused.
     NoMemory,
 }
-
-#[cfg(test)]
-mod table_tests;
-#[cfg(test)]
-mod tests;
-#[cfg(test)]
-mod words_tests;

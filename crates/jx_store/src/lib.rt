@@ -23,14 +23,3 @@ pub use pass::Pass;
 pub use store::{Blanks, LockStore};
 pub use sums::Sums;
 pub use work::{Bounds, Entry, Named, Work};
-
-#[cfg(test)]
-mod history_tests;
-#[cfg(test)]
-mod pass_tests;
-#[cfg(test)]
-mod tests;
-#[cfg(test)]
-mod thread_tests;
-#[cfg(test)]
-mod works;

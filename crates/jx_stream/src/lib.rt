@@ -13,8 +13,6 @@ mod precedence;
 mod queries;
 mod reading;
 mod steps;
-#[cfg(test)]
-mod tests;
 mod tiles;
 mod view;
 

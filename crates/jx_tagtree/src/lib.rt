@@ -24,6 +24,3 @@ pub enum BitFault {
     /// The bit that is stuffed after a byte FF is 1.
     Stuffed,
 }
-
-#[cfg(test)]
-mod tests;

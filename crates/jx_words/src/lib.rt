@@ -100,8 +100,3 @@ pub enum WordsFault {
     /// There was no memory.
     NoMemory,
 }
-
-#[cfg(test)]
-mod make_tests;
-#[cfg(test)]
-mod tests;

@@ -1,0 +1,252 @@
+ghost use Rattle.std.specs.Prelude.{◌≡◌, ◌-◌, ◌*◌, ◌^◌, ◌<◌, ◌≤◌, ℕ, length, IfOk};
+ghost use Rattle.jx_grid.specs.Cells.{Cells, HasSize};
+
+use crate::samples::{gathered, nth, one, plain};
+use jx_base::{Band, NoMemory, Style};
+use jx_flags::{Coded, Coef, FlagDecoded, FlagGrid, decode_flags, encode_flags, sound_flags};
+use jx_grid::{Grid, place};
+use jx_passdec::{Decoded, decode_passes};
+use jx_passenc::encode_passes;
+use std::alloc::Global;
+use std::test::Fail;
+
+/// Decodes the passes of a block of one segment in the band LL.
+fn decode(
+    alloc: Global,
+    width: u16,
+    height: u16,
+    style: u8,
+    planes: u8,
+    passes: u16,
+    bytes: &[u8],
+) -> Result<FlagDecoded, NoMemory>
+    requires wide { width ≤ 1024 }
+    requires high { height ≤ 1024 }
+    requires some { 1 ≤ planes }
+    requires most { planes ≤ 74 }
+    requires passes { passes ≤ 3 * planes - 2 }
+    requires short { length bytes.now < 2 ^ 32 }
+{
+    let coded = Coded {
+        band: Band::LL,
+        style: Style { bits: style },
+        planes,
+        passes,
+        segments: one(alloc, bytes)?,
+    };
+    decode_flags(alloc, width, height, &coded)
+}
+
+/// The coefficient in a column and row, zero where there is none.
+fn coef(decoded: &FlagDecoded, x: u16, y: u16) -> Coef {
+    decoded.grid.get(x, u32::from(y))
+}
+
+/// The grid of `plain` in the fast form.
+fn fast(alloc: Global, width: u16, height: u16) -> Result<FlagGrid, NoMemory>
+    requires wide { width ≤ 1024 }
+    requires high { height ≤ 1024 }
+    ensures { IfOk result (λ g. HasSize g) }
+{
+    let mut grid = FlagGrid::new(alloc, width, height)?;
+    for n in 0..u32::from(width) * u32::from(height) {
+        let (x, y) = place(width, height, n);
+        grid.set(x, y, nth(n));
+    }
+    Ok(grid)
+}
+
+/// A grid of one coefficient.
+fn single(alloc: Global, coef: Coef) -> Result<FlagGrid, NoMemory>
+    ensures { IfOk result (λ g. HasSize g) }
+{
+    let mut grid = FlagGrid::new(alloc, 1, 1)?;
+    grid.set(0, 0, coef);
+    Ok(grid)
+}
+
+/// Whether both forms have the same coefficients, each with its sign where it is significant.
+fn is_same(a: &Grid, b: &FlagGrid) -> bool {
+    for y in 0..a.height() {
+        for x in 0..a.width() {
+            if a.get(x, u32::from(y)) != b.get(x, u32::from(y)) {
+                return false;
+            }
+        }
+    }
+    a.width() == b.width() && a.height() == b.height()
+}
+
+/// Whether lists of bytes are the same.
+pub(crate) fn are_same(a: &[Vec<u8>], b: &[Vec<u8>]) -> bool {
+    if a.len() != b.len() {
+        return false;
+    }
+    for i in 0..a.len() {
+        if i >= b.len() || a[i].as_slice() != b[i].as_slice() {
+            return false;
+        }
+    }
+    true
+}
+
+/// What both forms decode from lists of bytes in the style.
+fn both(
+    alloc: Global,
+    width: u16,
+    height: u16,
+    style: Style,
+    lists: &[Vec<u8>],
+) -> Result<(Decoded, FlagDecoded), NoMemory>
+    requires wide { width ≤ 1024 }
+    requires high { height ≤ 1024 }
+{
+    let coded = Coded {
+        band: Band::HL,
+        style,
+        planes: 5,
+        passes: 13,
+        segments: gathered(alloc, lists)?,
+    };
+    let a = decode_passes(alloc, width, height, &coded)?;
+    let b = decode_flags(alloc, width, height, &coded)?;
+    Ok((a, b))
+}
+
+/// Whether both forms write the same segments of the stated grid, decode it from them, and look at as
+/// many bytes in each pass.
+fn agree(alloc: Global, width: u16, height: u16, bits: u8) -> Result<bool, NoMemory>
+    requires wide { width ≤ 1024 }
+    requires high { height ≤ 1024 }
+{
+    let style = Style { bits };
+    let a = plain(alloc, width, height)?;
+    let b = fast(alloc, width, height)?;
+    let first = encode_passes(alloc, &a, Band::HL, style, 5, 13)?;
+    let second = encode_flags(alloc, &b, Band::HL, style, 5, 13)?;
+    if !are_same(&first, &second) {
+        return Ok(false);
+    }
+    let (c, d) = both(alloc, width, height, style, &first)?;
+    if !is_same(&c.grid, &d.grid) || !is_same(&a, &d.grid) {
+        return Ok(false);
+    }
+    Ok(c.looked.as_slice() == d.looked.as_slice() && sound_flags(&d).is_ok())
+}
+
+/// The same in three styles: none, bypass with causal contexts, and all but predictable termination.
+fn agree_in_three(alloc: Global, width: u16, height: u16) -> Result<bool, NoMemory>
+    requires wide { width ≤ 1024 }
+    requires high { height ≤ 1024 }
+{
+    if !agree(alloc, width, height, 0x00)? || !agree(alloc, width, height, 0x09)? {
+        return Ok(false);
+    }
+    agree(alloc, width, height, 0x2F)
+}
+
+// A last stripe that isn't whole.
+#[test]
+fn small_block(rt: HostRuntime) -> Result<(), Fail> {
+    let same = agree_in_three(rt.alloc(), 5, 6);
+    assert!(rt; same.ok().ok_or("no memory")?);
+    Ok(())
+}
+
+#[test]
+fn one_place(rt: HostRuntime) -> Result<(), Fail> {
+    let same = agree_in_three(rt.alloc(), 1, 1);
+    assert!(rt; same.ok().ok_or("no memory")?);
+    Ok(())
+}
+
+#[test]
+fn one_column(rt: HostRuntime) -> Result<(), Fail> {
+    let same = agree_in_three(rt.alloc(), 1, 9);
+    assert!(rt; same.ok().ok_or("no memory")?);
+    Ok(())
+}
+
+// The greatest blocks, each in a style of its own.
+#[test]
+fn highest_block(rt: HostRuntime) -> Result<(), Fail> {
+    let same = agree(rt.alloc(), 4, 1024, 0x09);
+    assert!(rt; same.ok().ok_or("no memory")?);
+    Ok(())
+}
+
+#[test]
+fn widest_block(rt: HostRuntime) -> Result<(), Fail> {
+    let same = agree(rt.alloc(), 1024, 4, 0x2F);
+    assert!(rt; same.ok().ok_or("no memory")?);
+    Ok(())
+}
+
+#[test]
+fn square_block(rt: HostRuntime) -> Result<(), Fail> {
+    let same = agree(rt.alloc(), 64, 64, 0x00);
+    assert!(rt; same.ok().ok_or("no memory")?);
+    Ok(())
+}
+
+// One coefficient: +1 and -1 by one pass, +3 by four passes of two planes.
+#[test]
+fn one_coefficient(rt: HostRuntime) -> Result<(), Fail> {
+    for (planes, passes, byte, negative, bits) in [
+        (1u8, 1u16, 0x03u8, false, 1u128),
+        (1, 1, 0x07, true, 1),
+        (2, 4, 0x01, false, 3),
+    ] {
+        assert!(rt; planes == 1 && passes == 1 || planes == 2 && passes == 4);
+        let decoded = decode(rt.alloc(), 1, 1, 0, planes, passes, &[byte])
+            .ok()
+            .ok_or("no memory")?;
+        let found = coef(&decoded, 0, 0);
+        assert_eq!(rt; found.negative, negative);
+        assert_eq!(rt; found.bits, bits);
+        assert_eq!(rt; found.planes, planes);
+        let grid = single(rt.alloc(), found).ok().ok_or("no memory")?;
+        let style = Style { bits: 0 };
+        let lists = encode_flags(rt.alloc(), &grid, Band::LL, style, planes, passes)
+            .ok()
+            .ok_or("no memory")?;
+        assert_eq!(rt; lists.len(), 1);
+        for list in lists.iter() {
+            assert_eq!(rt; list.as_slice(), [byte].as_slice());
+        }
+    }
+    Ok(())
+}
+
+// With segmentation symbols 01 has the right one and 03 doesn't.
+#[test]
+fn right_and_wrong_symbol(rt: HostRuntime) -> Result<(), Fail> {
+    let right = decode(rt.alloc(), 1, 1, 0x20, 1, 1, &[0x01])
+        .ok()
+        .ok_or("no memory")?;
+    assert!(rt; sound_flags(&right).is_ok());
+    let wrong = decode(rt.alloc(), 1, 1, 0x20, 1, 1, &[0x03])
+        .ok()
+        .ok_or("no memory")?;
+    assert_eq!(rt; wrong.wrong, Some(0));
+    assert!(rt; sound_flags(&wrong).is_err());
+    Ok(())
+}
+
+// Bytes that no encoder writes: 35 coefficients aren't 0.
+#[test]
+fn hostile_bytes(rt: HostRuntime) -> Result<(), Fail> {
+    let decoded = decode(rt.alloc(), 16, 4, 0, 9, 16, &[0xFF, 0x8F])
+        .ok()
+        .ok_or("no memory")?;
+    let mut count = 0u32;
+    for y in 0..4 {
+        for x in 0..16 {
+            if coef(&decoded, x, y).is_significant() {
+                count = count.saturating_add(1);
+            }
+        }
+    }
+    assert_eq!(rt; count, 35);
+    Ok(())
+}

@@ -1,6 +1,0 @@
-use Rattle.std.proofs.Common.{◌≡◌}
-use Rattle.jx_head.specs.Precinct.{IsState}
-use Rattle.jx_head.proofs.tests.both_ways.Given as goal
-
-abbrev pub invariant-packets : goal.invariant-packets
-invariant-packets g l = (l.out.next ≡ l.layer) × (l.out.layers ≡ l.layers) × (l.precinct.layer ≡ l.layer) × IsState l.precinct

@@ -1,6 +1,0 @@
-use Rattle.std.proofs.Common.{◌<◌, ◌≤◌, ℕ, slice_index_or}
-use Rattle.jx_marker.specs.declared.Progression.{Progression}
-use Rattle.jx_order.proofs.tests.have_orders.Given as goal
-
-abbrev pub invariant-loop-entry : goal.invariant-loop-entry
-invariant-loop-entry l = (k : ℕ) (d : Progression) → k < l.entry-index → (slice_index_or l.entries k d).order ≤ 4

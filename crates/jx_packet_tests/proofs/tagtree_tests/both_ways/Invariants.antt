@@ -1,0 +1,6 @@
+use Rattle.std.proofs.Common.{◌≡◌}
+use Rattle.jx_packet_tests.proofs.tagtree_tests.both_ways.Given as goal
+
+-- the tree keeps its size
+abbrev pub invariant-loop-leaf : goal.invariant-loop-leaf
+invariant-loop-leaf g l = (l.tree.wide ≡ l.wide) × (l.tree.high ≡ l.high)

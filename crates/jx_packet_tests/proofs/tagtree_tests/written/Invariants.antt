@@ -1,0 +1,6 @@
+use Rattle.std.proofs.Common.{◌≡◌}
+use Rattle.jx_packet_tests.proofs.tagtree_tests.written.Given as goal
+
+-- the tree keeps its size
+abbrev pub invariant-loop-leaf : goal.invariant-loop-leaf
+invariant-loop-leaf g l = (l.tree.tree.wide ≡ l.wide) × (l.tree.tree.high ≡ l.high)

@@ -1,0 +1,266 @@
+mod rows;
+
+ghost use Rattle.jx_marker.specs.Ranges.{InRange};
+
+use jx_marker::{CompSize, Progression, Rule, Segment, eph, put_segment, read_segment, sop};
+use std::alloc::{AllocError, Global};
+use std::process::Abort;
+use std::test::Fail;
+
+// What no rule is: a segment that was put otherwise than it was read, and want of memory.
+const DIFFERS: u8 = 254;
+
+const NO_MEMORY: u8 = 255;
+
+fn digit(byte: u8) -> Option<u8> {
+    match byte {
+        b'0'..=b'9' => Some(byte - b'0'),
+        b'A'..=b'F' => Some(byte - b'A' + 10),
+        _ => None,
+    }
+}
+
+// The bytes of hexadecimal digits; what is no digit stands between them.
+fn bytes_of(alloc: Global, text: &str) -> Result<Vec<u8>, AllocError> {
+    let mut bytes = Vec::new(alloc);
+    let mut high = None;
+    for byte in text.as_bytes() {
+        if let Some(low) = digit(*byte) {
+            match high {
+                None => high = Some(low),
+                Some(first) => {
+                    let first: u8 = first;
+                    bytes.push(first.wrapping_mul(16).wrapping_add(low))?;
+                    high = None;
+                }
+            }
+        }
+    }
+    Ok(bytes)
+}
+
+// Whether a segment and its copy are put as these bytes.
+fn put_back(alloc: Global, segment: &Segment, comps: u16, want: &[u8]) -> u8
+    requires { InRange comps segment.now }
+{
+    let first = put_one(alloc, segment, comps, want);
+    if first != 0 {
+        return first;
+    }
+    match segment.copy() {
+        Ok(copy) => put_one(alloc, &copy, comps, want),
+        Err(_) => NO_MEMORY,
+    }
+}
+
+fn put_one(alloc: Global, segment: &Segment, comps: u16, want: &[u8]) -> u8
+    requires { InRange comps segment.now }
+{
+    let mut out = Vec::new(alloc);
+    if put_segment(segment, comps, &mut out).is_err() {
+        return NO_MEMORY;
+    }
+    if out.as_slice() == want { 0 } else { DIFFERS }
+}
+
+// The rule violated at a place, or 0 where the segment there is put again as the bytes from there to `end`.
+fn outcome(alloc: Global, bytes: &[u8], at: usize, end: usize, comps: u16) -> u8 {
+    if at > bytes.len() {
+        return DIFFERS;
+    }
+    match read_segment(alloc, bytes, at, comps) {
+        Ok((segment, after)) => {
+            if after == end && at <= end && end <= bytes.len() {
+                put_back(alloc, &segment, comps, &bytes[at..end])
+            } else {
+                DIFFERS
+            }
+        }
+        Err(Rule::Broken(rule)) => rule,
+        Err(Rule::NoMemory) => NO_MEMORY,
+    }
+}
+
+// Each row of a table, alone and, where it is accepted, also with bytes before and after it.
+fn check_rows(rt: &impl Abort, alloc: Global, text: &str) -> Result<(), Fail> {
+    for line in text.lines() {
+        let mut words = line.split_whitespace();
+        let Some(hex) = words.next() else { continue };
+        let comps = words.next().ok_or("components")?.parse::<u16>()?;
+        let want = words.next().ok_or("rule")?.parse::<u8>()?;
+        let bytes = bytes_of(alloc, hex)?;
+        let found = outcome(alloc, bytes.as_slice(), 0, bytes.len(), comps);
+        assert_eq!(rt; found, want, "{line}");
+        if want == 0 {
+            let mut longer = bytes_of(alloc, "12")?;
+            longer.extend_from_slice(bytes.as_slice())?;
+            let end = longer.len();
+            longer.extend_from_slice(bytes.as_slice())?;
+            let found = outcome(alloc, longer.as_slice(), 1, end, comps);
+            assert_eq!(rt; found, 0, "with others: {line}");
+        }
+    }
+    Ok(())
+}
+
+#[test]
+fn tables(rt: HostRuntime) -> Result<(), Fail> {
+    let alloc = rt.alloc();
+    for text in [
+        rows::ONE_OF_EACH_KIND,
+        rows::RULE_1,
+        rows::RULE_2,
+        rows::RULE_14,
+        rows::RULE_3,
+        rows::RULE_4,
+        rows::RULE_5,
+        rows::RULE_6,
+        rows::RULE_7,
+        rows::RULE_8,
+        rows::RULE_9,
+        rows::RULE_10,
+        rows::RULE_11,
+        rows::RULE_12,
+        rows::RULE_13,
+        rows::TWO_RULES_AT_ONCE,
+    ] {
+        check_rows(&rt, alloc, text)?;
+    }
+    Ok(())
+}
+
+// A SIZ segment of so many components of eight bits.
+fn siz_of(alloc: Global, count: u16) -> Result<Vec<u8>, AllocError> {
+    let mut bytes = bytes_of(alloc, "FF51")?;
+    let length = u16::try_from(38 + 3 * u32::from(count)).unwrap_or(0);
+    bytes.extend_from_slice(&length.to_be_bytes())?;
+    let canvas = bytes_of(
+        alloc,
+        "0000 00000001 00000001 00000000 00000000 00000001 00000001 00000000 00000000",
+    )?;
+    bytes.extend_from_slice(canvas.as_slice())?;
+    bytes.extend_from_slice(&count.to_be_bytes())?;
+    for _ in 0..count {
+        bytes.extend_from_slice(&[7, 1, 1])?;
+    }
+    Ok(bytes)
+}
+
+#[test]
+fn many_components(rt: HostRuntime) -> Result<(), Fail> {
+    let alloc = rt.alloc();
+    for (count, want) in [(256, 0), (257, 0), (16384, 0), (16385, 4), (21832, 4)] {
+        let bytes = siz_of(alloc, count)?;
+        assert_eq!(rt;
+            outcome(alloc, bytes.as_slice(), 0, bytes.len(), 0),
+            want,
+            "{count} components"
+        );
+    }
+    Ok(())
+}
+
+fn read(alloc: Global, text: &str, comps: u16) -> Result<Segment, Fail> {
+    let bytes = bytes_of(alloc, text)?;
+    let (segment, _) = read_segment(alloc, bytes.as_slice(), 0, comps)?;
+    Ok(segment)
+}
+
+// Fields by their values, as the standard's tables have them.
+#[test]
+fn coding_fields(rt: HostRuntime) -> Result<(), Fail> {
+    let alloc = rt.alloc();
+    let Segment::Cod(cod) = read(alloc, "FF52_000E_05_04_0002_01_01_03_05_28_01_00_98", 3)? else {
+        return Err("COD")?;
+    };
+    assert!(rt; !cod.sop && cod.eph);
+    assert_eq!(rt; (cod.order, cod.layers, cod.transform), (4, 2, 1));
+    let shape = cod.shape;
+    assert_eq!(rt;
+        (
+            shape.levels,
+            shape.xcb,
+            shape.ycb,
+            shape.style,
+            shape.wavelet
+        ),
+        (1, 5, 7, 0x28, 1)
+    );
+    assert_eq!(rt; shape.precincts.as_slice(), [0x00, 0x98].as_slice());
+    let Segment::Coc { comp, shape } = read(alloc, "FF53_000A_0102_00_02_04_03_01_00", 300)? else {
+        return Err("COC")?;
+    };
+    assert_eq!(rt;
+        (
+            comp,
+            shape.levels,
+            shape.xcb,
+            shape.ycb,
+            shape.style,
+            shape.wavelet
+        ),
+        (258, 2, 6, 5, 1, 0)
+    );
+    Ok(())
+}
+
+fn expect_siz(rt: &impl Abort, alloc: Global) -> Result<(), Fail> {
+    let text =
+        "FF51_002C_1234_00000101_00000202_00000003_00000004_00000105_00000206_00000001_00000002_0002_070101_8B0203";
+    let Segment::Siz(siz) = read(alloc, text, 0)? else {
+        return Err("SIZ")?;
+    };
+    assert_eq!(rt;
+        (siz.rsiz, siz.x1, siz.y1, siz.x0, siz.y0),
+        (0x1234, 0x101, 0x202, 3, 4)
+    );
+    assert_eq!(rt; (siz.tw, siz.th, siz.tx, siz.ty), (0x105, 0x206, 1, 2));
+    let last = CompSize {
+        ssiz: 0x8B,
+        dx: 2,
+        dy: 3,
+    };
+    assert_eq!(rt; siz.comps.as_slice().last().copied(), Some(last));
+    Ok(())
+}
+
+#[test]
+fn other_fields(rt: HostRuntime) -> Result<(), Fail> {
+    let alloc = rt.alloc();
+    expect_siz(&rt, alloc)?;
+    let Segment::Qcc { comp, quant } = read(alloc, "FF5D_000A_02_41_4801_4902_4A03", 3)? else {
+        return Err("QCC")?;
+    };
+    assert_eq!(rt; (comp, quant.sqcd), (2, 0x41));
+    assert_eq!(rt;
+        quant.entries.as_slice(),
+        [0x4801, 0x4902, 0x4A03].as_slice()
+    );
+    let Segment::Poc(entries) = read(alloc, "FF5F_000B_01_0002_0304_05_0106_03", 300)? else {
+        return Err("POC")?;
+    };
+    let entry = Progression {
+        rs: 1,
+        cs: 2,
+        lye: 0x304,
+        re: 5,
+        ce: 0x106,
+        order: 3,
+    };
+    assert_eq!(rt; entries.as_slice().first().copied(), Some(entry));
+    let Segment::Sot(sot) = read(alloc, "FF90_000A_0102_00030405_06_07", 3)? else {
+        return Err("SOT")?;
+    };
+    assert_eq!(rt;
+        (sot.tile, sot.psot, sot.part, sot.parts),
+        (0x102, 0x30405, 6, 7)
+    );
+    Ok(())
+}
+
+#[test]
+fn marks_of_packets(rt: HostRuntime) {
+    assert_eq!(rt; sop(0x1234), [0xFF, 0x91, 0, 4, 0x12, 0x34]);
+    assert_eq!(rt; sop(0xFFFF), [0xFF, 0x91, 0, 4, 0xFF, 0xFF]);
+    assert_eq!(rt; eph(), [0xFF, 0x92]);
+}

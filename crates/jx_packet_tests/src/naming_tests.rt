@@ -1,0 +1,129 @@
+//! From the names of a tile's precincts and code-blocks to their numbers, and back.
+
+use crate::geometries::{
+    BANDS, WHOLE, geometry, has_band, has_block, has_precinct, has_resolution, shape,
+};
+use jx_base::{Band, BlockName};
+use jx_geom::{Canvas, PrecinctName, TileGeom};
+use std::process::Abort;
+use std::test::Fail;
+
+/// Whether the cell of a block is one of those of a precinct in the band.
+fn holds(geom: &TileGeom, name: &BlockName, precinct: u32) -> bool {
+    if !has_resolution(geom, name.comp, name.res)
+        || !has_band(name.res, name.band)
+        || !has_block(geom, name.comp, name.res, name.band, name.index)
+        || !has_precinct(geom, name.comp, name.res, precinct)
+    {
+        return false;
+    }
+    let all = geom.cells(name.comp, name.res, name.band);
+    let (column, row) = all.place(u64::from(name.index));
+    let part = geom.blocks(name.comp, name.res, name.band, precinct);
+    (part.x.low..part.x.high).contains(&column) && (part.y.low..part.y.high).contains(&row)
+}
+
+/// Compares the blocks of a band, of which the first has a number, and gives that of the next band's first one.
+fn compare_blocks(
+    rt: &impl Abort,
+    geom: &TileGeom,
+    comp: u16,
+    res: u8,
+    band: Band,
+    first: u32,
+) -> Result<u32, Fail> {
+    let mut number = first;
+    for index in 0..64 {
+        if !has_resolution(geom, comp, res)
+            || !has_band(res, band)
+            || !has_block(geom, comp, res, band, index)
+        {
+            break;
+        }
+        let name = BlockName {
+            tile: geom.number(),
+            comp,
+            res,
+            band,
+            index,
+        };
+        let own = geom.block_number(&name);
+        assert_eq!(rt; own, number, "{name:?}");
+        assert_eq!(rt; geom.block_name(own), name, "{own}");
+        let place = geom.leaf(&name);
+        assert!(rt; holds(geom, &name, place.precinct), "{name:?}");
+        let leaves = geom.leaves(comp, res, place.precinct);
+        assert_eq!(rt; leaves.number(place.leaf), own as usize, "{name:?}");
+        number = number.saturating_add(1);
+    }
+    Ok(number)
+}
+
+/// Compares the precincts of a resolution, of which the first has a number, and gives that of the next one's.
+fn compare_precincts(
+    rt: &impl Abort,
+    geom: &TileGeom,
+    comp: u16,
+    res: u8,
+    first: u32,
+) -> Result<u32, Fail> {
+    let mut number = first;
+    for precinct in 0..64 {
+        if !has_resolution(geom, comp, res) || !has_precinct(geom, comp, res, precinct) {
+            break;
+        }
+        let own = geom.precinct_number(comp, res, precinct);
+        assert_eq!(rt; own, number, "{comp} {res} {precinct}");
+        let name = PrecinctName {
+            comp,
+            res,
+            precinct,
+        };
+        assert_eq!(rt; geom.precinct_name(own), name, "{own}");
+        number = number.saturating_add(1);
+    }
+    Ok(number)
+}
+
+/// Goes through a tile, and gives how many blocks and precincts it has.
+fn compare_tile(rt: &impl Abort, geom: &TileGeom) -> Result<(u32, u32), Fail> {
+    let mut blocks = 0;
+    let mut precincts = 0;
+    for comp in 0..geom.components() as u16 {
+        for res in 0..4 {
+            precincts = compare_precincts(rt, geom, comp, res, precincts)?;
+            for band in BANDS {
+                blocks = compare_blocks(rt, geom, comp, res, band, blocks)?;
+            }
+        }
+    }
+    Ok((blocks, precincts))
+}
+
+#[test]
+fn there_and_back(rt: HostRuntime) -> Result<(), Fail> {
+    let canvas = Canvas {
+        x1: 40,
+        y1: 23,
+        x0: 5,
+        y0: 1,
+        tw: 24,
+        th: 23,
+        tx: 0,
+        ty: 0,
+    };
+    let mut small = WHOLE;
+    small[0] = 0x22;
+    small[1] = 0x33;
+    small[2] = 0x34;
+    let comps = [
+        shape(1, 1, 2, (2, 2), small),
+        shape(255, 1, 2, (2, 2), small),
+        shape(2, 1, 1, (2, 3), WHOLE),
+    ];
+    let first = geometry(rt.alloc(), &canvas, 0, &comps)?;
+    assert_eq!(rt; compare_tile(&rt, &first)?, (59, 16));
+    let second = geometry(rt.alloc(), &canvas, 1, &comps)?;
+    assert_eq!(rt; compare_tile(&rt, &second)?, (50, 16));
+    Ok(())
+}

@@ -1,0 +1,198 @@
+//! Values of the standard's example and of small trees, both ways.
+ghost use Rattle.std.specs.Prelude.{◌≡◌, ◌*◌, ◌<◌, length};
+ghost use Rattle.jx_tagtree.specs.Shape.{IsShape};
+
+use jx_tagtree::{BitFault, BitReader, BitWriter, TagReader, TagWriter};
+use std::alloc::Global;
+use std::process::Abort;
+use std::test::Fail;
+
+/// How many bits 1 come first, and what the reader answers then.
+fn ones(bytes: &[u8]) -> (u32, Option<BitFault>, Option<BitFault>) {
+    let mut reader = BitReader::new(bytes);
+    for count in 0..64 {
+        match reader.bit() {
+            Ok(true) => {}
+            Ok(false) => return (count, None, None),
+            Err(fault) => return (count, Some(fault), reader.bit().err()),
+        }
+    }
+    (64, None, None)
+}
+
+/// What `finish` answers after some bits.
+fn end_after(bytes: &[u8], bits: u32) -> Result<usize, BitFault> {
+    let mut reader = BitReader::new(bytes);
+    for _ in 0..bits {
+        let _ = reader.bit();
+    }
+    reader.finish()
+}
+
+#[test]
+fn bits_are_read(rt: HostRuntime) {
+    assert_eq!(rt;
+        ones(&[0xff, 0x80]),
+        (8, Some(BitFault::Stuffed), Some(BitFault::Stuffed))
+    );
+    assert_eq!(rt;
+        ones(&[0xff]),
+        (8, Some(BitFault::Ended), Some(BitFault::Ended))
+    );
+    assert_eq!(rt; ones(&[0xff, 0x7f, 0xe0]), (18, None, None));
+    assert_eq!(rt; end_after(&[0xff, 0x00], 8), Ok(2));
+    assert_eq!(rt; end_after(&[0xff], 8), Err(BitFault::Ended));
+    assert_eq!(rt; end_after(&[0xff, 0x80], 3), Err(BitFault::Stuffed));
+    assert_eq!(rt; end_after(&[0x12, 0x34], 0), Ok(0));
+    assert_eq!(rt; end_after(&[0x12, 0x34], 8), Ok(1));
+    assert_eq!(rt; end_after(&[0x12, 0x34], 9), Ok(2));
+    assert_eq!(rt; end_after(&[0x12, 0x34], 17), Err(BitFault::Ended));
+}
+
+#[test]
+fn bits_are_written(rt: HostRuntime) -> Result<(), Fail> {
+    let cases: [(u32, u32, &[u8]); 5] = [
+        (0, 0, &[]),
+        (1, 0, &[0x80]),
+        (8, 0, &[0xff, 0x00]),
+        (9, 1, &[0xff, 0x40]),
+        (15, 0, &[0xff, 0x7f]),
+    ];
+    for (ones, zeros, bytes) in cases {
+        let mut writer = BitWriter::new(rt.alloc());
+        for _ in 0..ones {
+            writer.bit(true)?;
+        }
+        for _ in 0..zeros {
+            writer.bit(false)?;
+        }
+        let written = writer.finish()?;
+        assert_eq!(rt; written.as_slice(), bytes);
+    }
+    Ok(())
+}
+
+/// The bytes of some queries.
+fn written(
+    rt: &impl Abort,
+    alloc: Global,
+    wide: u32,
+    high: u32,
+    leaves: &[u32],
+    queries: &[(u32, u32)],
+) -> Result<Vec<u8>, Fail>
+    requires shape { IsShape wide high }
+    requires leaves { length leaves.now ≡ wide * high }
+{
+    let mut tree = TagWriter::new(alloc, wide, high, leaves)?;
+    let mut writer = BitWriter::new(alloc);
+    for (leaf, threshold) in queries {
+        assert!(rt; *leaf < wide * high);
+        tree.reach(*leaf, *threshold, &mut writer)?;
+    }
+    Ok(writer.finish()?)
+}
+
+/// Writes queries of some leaves, and reads them back.
+fn both_ways(
+    rt: &impl Abort,
+    alloc: Global,
+    wide: u32,
+    high: u32,
+    leaves: &[u32],
+    queries: &[(u32, u32)],
+    bytes: &[u8],
+) -> Result<(), Fail>
+    requires shape { IsShape wide high }
+    requires leaves { length leaves.now ≡ wide * high }
+{
+    let found = written(rt, alloc, wide, high, leaves, queries)?;
+    assert_eq!(rt; found.as_slice(), bytes);
+    let mut tree = TagReader::new(alloc, wide, high)?;
+    let mut reader = BitReader::new(bytes);
+    for (leaf, threshold) in queries {
+        assert!(rt; *leaf < wide * high);
+        let below = tree.reach(*leaf, *threshold, &mut reader);
+        assert_eq!(rt; below, Ok(leaves[*leaf as usize] < *threshold));
+    }
+    assert_eq!(rt; reader.finish(), Ok(bytes.len()));
+    Ok(())
+}
+
+/// The example of T.800 B.10.2, figure B.12: its first code words are 01111, 001 and 101.
+#[test]
+fn the_example_of_the_standard(rt: HostRuntime) -> Result<(), Fail> {
+    let leaves = [1, 3, 2, 3, 2, 3, 2, 2, 1, 4, 3, 2, 2, 2, 2, 2, 1, 2];
+    both_ways(&rt, rt.alloc(), 6, 3, &leaves, &[(0, 2)], &[0b0111_1000])?;
+    both_ways(
+        &rt,
+        rt.alloc(),
+        6,
+        3,
+        &leaves,
+        &[(0, 2), (1, 4), (2, 3)],
+        &[0b0111_1001, 0b1010_0000],
+    )?;
+    both_ways(
+        &rt,
+        rt.alloc(),
+        6,
+        3,
+        &leaves,
+        &[(0, 1), (0, 1), (0, 2), (1, 3), (1, 4)],
+        &[0b0111_1001],
+    )
+}
+
+#[test]
+fn other_trees(rt: HostRuntime) -> Result<(), Fail> {
+    both_ways(&rt, rt.alloc(), 1, 1, &[3], &[(0, 5)], &[0b0001_0000])?;
+    both_ways(
+        &rt,
+        rt.alloc(),
+        1,
+        7,
+        &[0, 1, 2, 3, 4, 5, 6],
+        &[(6, 7)],
+        &[0b1000_0100, 0b1100_0000],
+    )?;
+    both_ways(
+        &rt,
+        rt.alloc(),
+        5,
+        1,
+        &[2, 0, 1, 3, 5],
+        &[(4, 6)],
+        &[0b1000_0011, 0b1000_0000],
+    )
+}
+
+#[test]
+fn a_large_tree(rt: HostRuntime) -> Result<(), Fail> {
+    let leaves = vec![in rt.alloc(); 1; 1_048_576]?;
+    assert_eq!(rt; leaves.len(), 1_048_576);
+    both_ways(
+        &rt,
+        rt.alloc(),
+        1024,
+        1024,
+        &leaves,
+        &[(1_048_575, 2)],
+        &[0b0111_1111, 0b1111_0000],
+    )
+}
+
+#[test]
+fn a_high_tree(rt: HostRuntime) -> Result<(), Fail> {
+    let leaves = vec![in rt.alloc(); 1; 2048]?;
+    assert_eq!(rt; leaves.len(), 2048);
+    both_ways(
+        &rt,
+        rt.alloc(),
+        1,
+        2048,
+        &leaves,
+        &[(2047, 2)],
+        &[0b0111_1111, 0b1111_1000],
+    )
+}

@@ -1,0 +1,226 @@
+//! Plans that can't be had: a causal bit within a plane, precincts that don't fit, and too many tile-parts; and the styles of jobs.
+
+ghost use Rattle.std.specs.Prelude.{IfOk, IfSome};
+ghost use Rattle.jx_plan.specs.Wanted.{MayBeStyle, MayBeWanted};
+
+use crate::hex::bytes_of;
+use crate::plan_tests::TILES;
+use crate::planned::{by_planner, fault_in, joiner, keeper, options_of, seen_in};
+use jx_base::Style;
+use jx_plan::{Options, OrderChoice, PartChoice, PlanFault, PrecinctChoice};
+use std::alloc::{AllocError, Global};
+use std::test::Fail;
+
+// Two tiles of two samples with a level each, whose packets are empty; the blocks' exponents are 5, in the second tile 6.
+const LEVELS: &str = "
+    FF4F FF51 0029 0000 00000004 00000001 00000000 00000000 00000002 00000001 00000000 00000000 0001 07 01 01
+    FF52 000C 00 00 0001 00 01 03 03 00 01 FF5C 0007 40 40 40 40 40
+    FF90 000A 0000 00000010 00 01 FF93 0000
+    FF90 000A 0001 0000001E 00 01 FF52 000C 00 00 0001 00 01 04 04 00 01 FF93 0000
+    FFD9";
+
+// The same, but the first tile has no level.
+const LEVEL: &str = "
+    FF4F FF51 0029 0000 00000004 00000001 00000000 00000000 00000002 00000001 00000000 00000000 0001 07 01 01
+    FF52 000C 00 00 0001 00 00 03 03 00 01 FF5C 0007 40 40 40 40 40
+    FF90 000A 0000 0000000F 00 01 FF93 00
+    FF90 000A 0001 0000001E 00 01 FF52 000C 00 00 0001 00 01 04 04 00 01 FF93 0000
+    FFD9";
+
+// One sample with a level and style 0, whose block has three passes of its nine planes; and the same with four passes.
+const THREE: &str = "
+    FF4F FF51 0029 0000 00000001 00000001 00000000 00000000 00000001 00000001 00000000 00000000 0001 07 01 01
+    FF52 000C 00 00 0001 00 01 04 04 00 01 FF5C 0007 40 40 40 40 40
+    FF90 000A 0000 00000012 00 01 FF93 F81001 00
+    FFD9";
+
+const FOUR: &str = "
+    FF4F FF51 0029 0000 00000001 00000001 00000000 00000000 00000001 00000001 00000000 00000000 0001 07 01 01
+    FF52 000C 00 00 0001 00 01 04 04 00 01 FF5C 0007 40 40 40 40 40
+    FF90 000A 0000 00000012 00 01 FF93 FA0801 00
+    FFD9";
+
+// The words of the planner that keeps; these precincts are asked, and this style.
+fn with_precincts(alloc: Global, bytes: &[u8], style: Option<Style>) -> Result<Options, AllocError>
+    requires { IfSome style MayBeStyle }
+    ensures { IfOk result (λ options. MayBeWanted options) }
+{
+    let mut list = Vec::new(alloc);
+    list.extend_from_slice(bytes)?;
+    let mut layers = String::new(alloc);
+    layers.push_str("keep")?;
+    Ok(Options {
+        order: OrderChoice::Keep,
+        precincts: PrecinctChoice::List(list),
+        style,
+        layers,
+        parts: PartChoice::None,
+        sop: false,
+        eph: false,
+        plt: false,
+    })
+}
+
+// The fault of a planner that has no rule for the words, with these precincts and this style, and that of the planner that keeps.
+fn faults_of(
+    alloc: Global,
+    text: &str,
+    bytes: &[u8],
+    style: Option<Style>,
+) -> Result<(Option<PlanFault>, Option<PlanFault>), AllocError>
+    requires { IfSome style MayBeStyle }
+{
+    let file = bytes_of(alloc, text)?;
+    let options = with_precincts(alloc, bytes, style)?;
+    let mut one = joiner(alloc)?;
+    let ruleless = fault_in(by_planner(alloc, &file, &options, &mut one));
+    let mut keep = keeper(alloc)?;
+    let by_rule = fault_in(by_planner(alloc, &file, &options, &mut keep));
+    Ok((ruleless, by_rule))
+}
+
+// Choice 3 comes before 2, and both before 6.
+#[test]
+fn precincts_that_fit_and_others(rt: HostRuntime) -> Result<(), Fail> {
+    let alloc = rt.alloc();
+    let rows: [(&str, &[u8], Option<(u8, u32)>); 8] = [
+        (LEVELS, &[], None),
+        (LEVELS, &[0x77], None),
+        (LEVELS, &[0x77, 0x70], Some((3, 0))),
+        (LEVELS, &[0x00], Some((3, 0))),
+        (LEVELS, &[0x70, 0x77], Some((2, 0))),
+        (LEVELS, &[0x55], Some((2, 0))),
+        (LEVELS, &[0x55, 0x66], Some((2, 1))),
+        (LEVEL, &[0x77, 0x07], Some((3, 1))),
+    ];
+    for (text, bytes, fault) in rows {
+        let (ruleless, by_rule) = faults_of(alloc, text, bytes, None)?;
+        let unfit = match fault {
+            Some((number, place)) => Some(PlanFault::Choice { number, place }),
+            None => None,
+        };
+        assert_eq!(rt; by_rule, unfit);
+        let unserved = PlanFault::Choice {
+            number: 6,
+            place: 0,
+        };
+        assert_eq!(rt; ruleless, Some(unfit.unwrap_or(unserved)));
+    }
+    Ok(())
+}
+
+// A style with the causal bit alone, or all but it.
+fn causal_style(causal: bool) -> Style
+    ensures { MayBeStyle result }
+{
+    Style {
+        bits: if causal { 0x08 } else { 0x27 },
+    }
+}
+
+// Choice 1 comes before 3 and 6. The second tile's block has two passes, the first one's has one.
+#[test]
+fn causal_bits_within_a_plane(rt: HostRuntime) -> Result<(), Fail> {
+    let alloc = rt.alloc();
+    let rows: [(&str, &[u8], bool, Option<(u8, u32)>); 7] = [
+        (THREE, &[], true, Some((1, 0))),
+        (THREE, &[0x77, 0x70], true, Some((1, 0))),
+        (THREE, &[0x77, 0x70], false, Some((3, 0))),
+        (THREE, &[], false, None),
+        (FOUR, &[], true, None),
+        (TILES, &[], true, Some((1, 1))),
+        (LEVELS, &[], true, None),
+    ];
+    for (text, bytes, causal, fault) in rows {
+        let style = causal_style(causal);
+        let (ruleless, by_rule) = faults_of(alloc, text, bytes, Some(style))?;
+        let unfit = match fault {
+            Some((number, place)) => Some(PlanFault::Choice { number, place }),
+            None => None,
+        };
+        assert_eq!(rt; by_rule, unfit);
+        let unserved = PlanFault::Choice {
+            number: 6,
+            place: 0,
+        };
+        assert_eq!(rt; ruleless, Some(unfit.unwrap_or(unserved)));
+    }
+    Ok(())
+}
+
+// The styles of the jobs of a file.
+fn job_styles(alloc: Global, text: &str, style: Option<Style>) -> Result<Vec<Option<Style>>, Fail>
+    requires { IfSome style MayBeStyle }
+{
+    let file = bytes_of(alloc, text)?;
+    let options = options_of(alloc, "keep", style)?;
+    let mut planner = keeper(alloc)?;
+    let seen = seen_in(by_planner(alloc, &file, &options, &mut planner))?;
+    Ok(seen.styles)
+}
+
+// The style is asked of a block that has another one; where all six bits are the same, or no style is asked, none is.
+#[test]
+fn styles_of_jobs(rt: HostRuntime) -> Result<(), Fail> {
+    let alloc = rt.alloc();
+    let causal = Some(Style { bits: 0x08 });
+    let styles = job_styles(alloc, FOUR, causal)?;
+    assert_eq!(rt; styles.as_slice(), [causal].as_slice());
+    let styles = job_styles(alloc, THREE, Some(Style { bits: 0 }))?;
+    assert_eq!(rt; styles.as_slice(), [None].as_slice());
+    let styles = job_styles(alloc, THREE, None)?;
+    assert_eq!(rt; styles.as_slice(), [None].as_slice());
+    Ok(())
+}
+
+// One sample, and 300 layers of one empty packet.
+const DEEP: &str = "
+    FF4F FF51 0029 0000 00000001 00000001 00000000 00000000 00000001 00000001 00000000 00000000 0001 07 01 01
+    FF52 000C 00 00 012C 00 00 04 04 00 01 FF5C 0004 40 40
+    FF90 000A 0000 0000013A 00 01 FF93";
+
+fn deep(alloc: Global) -> Result<Vec<u8>, AllocError> {
+    let mut bytes = bytes_of(alloc, DEEP)?;
+    for _ in 0..300_u32 {
+        bytes.push(0)?;
+    }
+    bytes.extend_from_slice(&bytes_of(alloc, "FFD9")?)?;
+    Ok(bytes)
+}
+
+// Words for the planners, and a tile-part for each layer.
+fn by_layer(alloc: Global, words: &str) -> Result<Options, AllocError>
+    ensures { IfOk result (λ options. MayBeWanted options) }
+{
+    let mut layers = String::new(alloc);
+    layers.push_str(words)?;
+    Ok(Options {
+        order: OrderChoice::Order(1),
+        precincts: PrecinctChoice::Max,
+        style: None,
+        layers,
+        parts: PartChoice::Layer,
+        sop: false,
+        eph: false,
+        plt: false,
+    })
+}
+
+#[test]
+fn too_many_tile_parts(rt: HostRuntime) -> Result<(), Fail> {
+    let alloc = rt.alloc();
+    let file = deep(alloc)?;
+    let parted = PlanFault::Choice {
+        number: 5,
+        place: 0,
+    };
+    let options = by_layer(alloc, "keep")?;
+    let mut planner = keeper(alloc)?;
+    let fault = fault_in(by_planner(alloc, &file, &options, &mut planner));
+    assert_eq!(rt; fault, Some(parted));
+    let options = by_layer(alloc, "one")?;
+    let mut planner = joiner(alloc)?;
+    let seen = seen_in(by_planner(alloc, &file, &options, &mut planner))?;
+    assert_eq!(rt; seen.layers, 1);
+    Ok(())
+}

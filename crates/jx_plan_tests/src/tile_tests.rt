@@ -1,0 +1,23 @@
+//! The jobs of each tile.
+
+use crate::hex::bytes_of;
+use crate::planned::{by_planner, keeper, options_of, seen_in};
+use std::test::Fail;
+
+// Three tiles of one column each; every second column has a sample, so the tile in the middle has no code-block.
+const COLUMNS: &str = "
+    FF4F FF51 0029 0000 00000003 00000001 00000000 00000000 00000001 00000001 00000000 00000000 0001 07 02 01
+    FF52 000C 00 00 0001 00 00 04 04 00 01 FF5C 0004 40 40
+    FF90 000A 0000 0000000F 00 01 FF93 00 FF90 000A 0001 0000000E 00 01 FF93 FF90 000A 0002 0000000F 00 01 FF93 00
+    FFD9";
+
+#[test]
+fn a_tile_without_jobs(rt: HostRuntime) -> Result<(), Fail> {
+    let alloc = rt.alloc();
+    let file = bytes_of(alloc, COLUMNS)?;
+    let options = options_of(alloc, "keep", None)?;
+    let mut planner = keeper(alloc)?;
+    let seen = seen_in(by_planner(alloc, &file, &options, &mut planner))?;
+    assert_eq!(rt; seen.tiles.as_slice(), [(0, 1), (1, 1), (1, 2)].as_slice());
+    Ok(())
+}

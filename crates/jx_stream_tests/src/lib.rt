@@ -1,0 +1,15 @@
+//! Tests of the stream, of the pieces of code-blocks and of the file that is made, over public calls alone.
+//! They stand in a crate of their own, so that an edit here proves nothing else anew, and a check of the tests doesn't prove
+//! again what they test.
+#![tactic(auto)]
+
+#[cfg(test)]
+mod files;
+#[cfg(test)]
+mod gather_rows;
+#[cfg(test)]
+mod gather_tests;
+#[cfg(test)]
+mod make_tests;
+#[cfg(test)]
+mod stream_tests;
