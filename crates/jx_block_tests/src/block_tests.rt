@@ -7,6 +7,7 @@ ghost use Rattle.jx_base.specs.Sound.{IsSound};
 ghost use Rattle.jx_block.specs.Jobs.{AreEnds};
 
 use crate::blocks::{block_of, in_one, in_two, kept, one_piece, part};
+use crate::checks::{equal, given};
 use jx_base::{Block, NoMemory, Piece, Pieces, Style};
 use jx_block::Ends;
 use std::alloc::Global;
@@ -42,14 +43,15 @@ fn two_pieces<'a>(alloc: Global, first: &'a [u8], second: &'a [u8]) -> Result<Bl
 #[test]
 fn own_layers(rt: HostRuntime) -> Result<(), Fail> {
     let alloc = rt.alloc();
-    let block = two_pieces(alloc, &[1, 2], &[3]).ok().ok_or("no memory")?;
-    let ends = in_two(alloc, 2, 1).ok().ok_or("no memory")?;
-    let (parts, bytes) = kept(alloc, &block, ends).ok().ok_or("no memory")?;
-    assert_eq!(rt;
+    let block = given(two_pieces(alloc, &[1, 2], &[3]))?;
+    let ends = given(in_two(alloc, 2, 1))?;
+    let (parts, bytes) = given(kept(alloc, &block, ends))?;
+    equal(
+        &rt,
         parts.as_slice(),
-        [part(0, 0, 2, 0, 2), part(1, 2, 2, 2, 3)].as_slice()
+        [part(0, 0, 2, 0, 2), part(1, 2, 2, 2, 3)].as_slice(),
     );
-    assert_eq!(rt; bytes.as_slice(), [1, 2, 3].as_slice());
+    equal(&rt, bytes.as_slice(), [1, 2, 3].as_slice());
     Ok(())
 }
 
@@ -57,11 +59,11 @@ fn own_layers(rt: HostRuntime) -> Result<(), Fail> {
 #[test]
 fn in_one_layer(rt: HostRuntime) -> Result<(), Fail> {
     let alloc = rt.alloc();
-    let block = two_pieces(alloc, &[1, 2], &[3]).ok().ok_or("no memory")?;
-    let ends = in_one(alloc, 4).ok().ok_or("no memory")?;
-    let (parts, bytes) = kept(alloc, &block, ends).ok().ok_or("no memory")?;
-    assert_eq!(rt; parts.as_slice(), [part(0, 0, 4, 0, 3)].as_slice());
-    assert_eq!(rt; bytes.as_slice(), [1, 2, 3].as_slice());
+    let block = given(two_pieces(alloc, &[1, 2], &[3]))?;
+    let ends = given(in_one(alloc, 4))?;
+    let (parts, bytes) = given(kept(alloc, &block, ends))?;
+    equal(&rt, parts.as_slice(), [part(0, 0, 4, 0, 3)].as_slice());
+    equal(&rt, bytes.as_slice(), [1, 2, 3].as_slice());
     Ok(())
 }
 
@@ -69,14 +71,15 @@ fn in_one_layer(rt: HostRuntime) -> Result<(), Fail> {
 #[test]
 fn within_a_segment(rt: HostRuntime) -> Result<(), Fail> {
     let alloc = rt.alloc();
-    let block = one_piece(alloc, &[1]).ok().ok_or("no memory")?;
-    let ends = in_two(alloc, 2, 1).ok().ok_or("no memory")?;
-    let (parts, bytes) = kept(alloc, &block, ends).ok().ok_or("no memory")?;
-    assert_eq!(rt;
+    let block = given(one_piece(alloc, &[1]))?;
+    let ends = given(in_two(alloc, 2, 1))?;
+    let (parts, bytes) = given(kept(alloc, &block, ends))?;
+    equal(
+        &rt,
         parts.as_slice(),
-        [part(0, 0, 2, 0, 1), part(1, 2, 2, 1, 1)].as_slice()
+        [part(0, 0, 2, 0, 1), part(1, 2, 2, 1, 1)].as_slice(),
     );
-    assert_eq!(rt; bytes.as_slice(), [1].as_slice());
+    equal(&rt, bytes.as_slice(), [1].as_slice());
     Ok(())
 }
 
@@ -84,14 +87,15 @@ fn within_a_segment(rt: HostRuntime) -> Result<(), Fail> {
 #[test]
 fn within_a_joined_segment(rt: HostRuntime) -> Result<(), Fail> {
     let alloc = rt.alloc();
-    let block = two_pieces(alloc, &[], &[1]).ok().ok_or("no memory")?;
-    let ends = in_two(alloc, 3, 1).ok().ok_or("no memory")?;
-    let (parts, bytes) = kept(alloc, &block, ends).ok().ok_or("no memory")?;
-    assert_eq!(rt;
+    let block = given(two_pieces(alloc, &[], &[1]))?;
+    let ends = given(in_two(alloc, 3, 1))?;
+    let (parts, bytes) = given(kept(alloc, &block, ends))?;
+    equal(
+        &rt,
         parts.as_slice(),
-        [part(0, 0, 3, 0, 1), part(1, 3, 1, 1, 1)].as_slice()
+        [part(0, 0, 3, 0, 1), part(1, 3, 1, 1, 1)].as_slice(),
     );
-    assert_eq!(rt; bytes.as_slice(), [1].as_slice());
+    equal(&rt, bytes.as_slice(), [1].as_slice());
     Ok(())
 }
 
@@ -99,16 +103,15 @@ fn within_a_joined_segment(rt: HostRuntime) -> Result<(), Fail> {
 #[test]
 fn without_a_last_ff(rt: HostRuntime) -> Result<(), Fail> {
     let alloc = rt.alloc();
-    let block = one_piece(alloc, &[0xF0, 0xFF, 0x10])
-        .ok()
-        .ok_or("no memory")?;
-    let ends = in_two(alloc, 1, 1).ok().ok_or("no memory")?;
-    let (parts, bytes) = kept(alloc, &block, ends).ok().ok_or("no memory")?;
-    assert_eq!(rt;
+    let block = given(one_piece(alloc, &[0xF0, 0xFF, 0x10]))?;
+    let ends = given(in_two(alloc, 1, 1))?;
+    let (parts, bytes) = given(kept(alloc, &block, ends))?;
+    equal(
+        &rt,
         parts.as_slice(),
-        [part(0, 0, 1, 0, 1), part(1, 1, 3, 1, 3)].as_slice()
+        [part(0, 0, 1, 0, 1), part(1, 1, 3, 1, 3)].as_slice(),
     );
-    assert_eq!(rt; bytes.as_slice(), [0xF0, 0xFF, 0x10].as_slice());
+    equal(&rt, bytes.as_slice(), [0xF0, 0xFF, 0x10].as_slice());
     Ok(())
 }
 
@@ -116,10 +119,8 @@ fn without_a_last_ff(rt: HostRuntime) -> Result<(), Fail> {
 fn without_pieces(rt: HostRuntime) -> Result<(), Fail> {
     let alloc = rt.alloc();
     let block = block_of(Style { bits: 0 }, 9, 0, Pieces::new(alloc));
-    let (parts, bytes) = kept(alloc, &block, Ends::new(alloc))
-        .ok()
-        .ok_or("no memory")?;
-    assert_eq!(rt; parts.len(), 0);
-    assert_eq!(rt; bytes.len(), 0);
+    let (parts, bytes) = given(kept(alloc, &block, Ends::new(alloc)))?;
+    equal(&rt, parts.len(), 0);
+    equal(&rt, bytes.len(), 0);
     Ok(())
 }

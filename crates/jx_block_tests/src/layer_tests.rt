@@ -6,6 +6,7 @@ ghost use Rattle.std.specs.Option.{option_map};
 ghost use Rattle.jx_base.specs.Sound.{IsSound};
 ghost use Rattle.jx_layers.specs.Rule.{layers_by};
 
+use crate::checks::{check, equal, equal_at};
 use jx_base::{Band, Block, BlockName, NoMemory, Piece, Pieces, Rect, Span, Style};
 use jx_block::Job;
 use jx_layers::{
@@ -62,7 +63,7 @@ fn layers_of_words(rt: HostRuntime) {
         ("planes:75", None),
         ("planes:", None),
     ] {
-        assert_eq!(rt; layers_by(words), layers, "{words}");
+        equal_at(&rt, &words, layers_by(words), layers);
     }
 }
 
@@ -199,12 +200,12 @@ fn kept_and_cut(rt: HostRuntime) -> Result<(), Fail> {
     let alloc = rt.alloc();
     let mut keep: Box<dyn LayerPlanner> = Box::new(alloc, KeepLayers::new())?;
     let kept = plan_of(alloc, &mut keep, "keep", 2, 2);
-    assert!(rt; is_plan(kept, 2, &[(0, 2), (1, 4)], None));
+    check(&rt, is_plan(kept, 2, &[(0, 2), (1, 4)], None));
     let mut cuts: Box<dyn LayerPlanner> = Box::new(alloc, CutLayers::new())?;
     let cut = plan_of(alloc, &mut cuts, "cuts:1,2", 2, 2);
-    assert!(rt; is_plan(cut, 3, &[(0, 1), (1, 2), (2, 4)], None));
+    check(&rt, is_plan(cut, 3, &[(0, 1), (1, 2), (2, 4)], None));
     let refused = plan_of(alloc, &mut cuts, "cuts:4,4", 2, 2);
-    assert!(rt; refused == Ok(None));
+    check(&rt, refused == Ok(None));
     Ok(())
 }
 
@@ -214,7 +215,7 @@ fn one_and_planes(rt: HostRuntime) -> Result<(), Fail> {
     let alloc = rt.alloc();
     let mut one: Box<dyn LayerPlanner> = Box::new(alloc, OneLayer::new())?;
     let all = plan_of(alloc, &mut one, "one", 164, 2);
-    assert!(rt; is_plan(all, 1, &[(0, 166)], Some(0)));
+    check(&rt, is_plan(all, 1, &[(0, 166)], Some(0)));
     let mut planes: Box<dyn LayerPlanner> = Box::new(alloc, PlaneLayers::new())?;
     let cut = plan_of(alloc, &mut planes, "planes:8", 164, 2);
     let ends = [
@@ -226,7 +227,7 @@ fn one_and_planes(rt: HostRuntime) -> Result<(), Fail> {
         (5, 142),
         (6, 166),
     ];
-    assert!(rt; is_plan(cut, 7, &ends, None));
+    check(&rt, is_plan(cut, 7, &ends, None));
     Ok(())
 }
 
@@ -239,7 +240,7 @@ fn listed(rt: HostRuntime) -> Result<(), Fail> {
     };
     let mut table: Box<dyn LayerPlanner> = Box::new(alloc, table)?;
     let cut = plan_of(alloc, &mut table, "t", 2, 2);
-    assert!(rt; is_plan(cut, 2, &[(0, 1), (1, 4)], None));
+    check(&rt, is_plan(cut, 2, &[(0, 1), (1, 4)], None));
     Ok(())
 }
 
@@ -293,10 +294,11 @@ fn causal_bit_within_a_plane(rt: HostRuntime) {
         (Some(0x37), (3, 0), (2, 0x11), None),
         (None, (3, 0), (3, 8), None),
     ] {
-        assert_eq!(rt;
+        equal_at(
+            &rt,
+            &(front, back),
             broken_of(rt.alloc(), asked, front, back),
             Ok(broken),
-            "{front:?} {back:?}"
         );
     }
 }
@@ -305,12 +307,13 @@ fn causal_bit_within_a_plane(rt: HostRuntime) {
 #[test]
 fn style_of_one_block(rt: HostRuntime) {
     let block = bare(rt.alloc(), 4, 0x2F);
-    assert_eq!(rt; style_for(None, &block), None);
-    assert_eq!(rt; style_for(Some(Style { bits: 0x2F }), &block), None);
+    equal(&rt, style_for(None, &block), None);
+    equal(&rt, style_for(Some(Style { bits: 0x2F }), &block), None);
     for bits in [0_u8, 0x0F, 0x27, 0x2E, 0x3F] {
-        assert_eq!(rt;
+        equal(
+            &rt,
             style_for(Some(Style { bits }), &block),
-            Some(Style { bits })
+            Some(Style { bits }),
         );
     }
 }
@@ -346,7 +349,7 @@ fn jobs_with_a_style(rt: HostRuntime) -> Result<(), Fail> {
             Some(Style { bits }),
             &mut one,
         )?;
-        assert_eq!(rt; first_of(&asked), (style, 1));
+        equal(&rt, first_of(&asked), (style, 1));
     }
     Ok(())
 }

@@ -7,6 +7,8 @@ mod block_tests;
 #[cfg(test)]
 mod blocks;
 #[cfg(test)]
+mod checks;
+#[cfg(test)]
 mod layer_tests;
 #[cfg(test)]
 mod pool_tests;

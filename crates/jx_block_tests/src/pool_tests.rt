@@ -9,6 +9,7 @@ ghost use Rattle.jx_block.specs.Jobs.{AreEnds, IsAsked};
 ghost use Rattle.jx_pool.specs.Tapes.{AreAsked, size_of};
 
 use crate::blocks::{in_one, one_pass};
+use crate::checks::{check, equal, given};
 use jx_base::{Block, NoMemory, Style};
 use jx_block::Job;
 use jx_outside::{Gate, NoGate};
@@ -249,20 +250,21 @@ impl Gate for Holding {
 #[test]
 fn two_are_inside_at_once(rt: HostRuntime) -> Result<(), Fail> {
     let gate = Holding::new(false);
-    let (lines, bytes) = run(&rt, rt.alloc(), 2, 0, 9, false, (2, 2, MOST), &gate)
-        .ok()
-        .ok_or("no memory")?;
-    assert_eq!(rt; gate.reached.load(SeqCst), 0);
+    let (lines, bytes) = given(run(&rt, rt.alloc(), 2, 0, 9, false, (2, 2, MOST), &gate))?;
+    equal(&rt, gate.reached.load(SeqCst), 0);
     for block in 0..2_usize {
-        assert_eq!(rt; gate.entered[block].load(SeqCst), 1);
-        assert_eq!(rt; gate.left[block].load(SeqCst), 1);
+        equal(&rt, gate.entered[block].load(SeqCst), 1);
+        equal(&rt, gate.left[block].load(SeqCst), 1);
     }
-    assert!(rt; lines.len() == 2 && lines[0].number == 0 && lines[1].number == 1);
-    assert!(rt; lines[0].made && lines[1].made);
-    assert!(rt; lines[0].worker < 2 && lines[1].worker < 2);
-    assert!(rt; lines[0].worker != lines[1].worker);
-    assert_eq!(rt; lines[1].seen, 0);
-    assert_eq!(rt; bytes.as_slice(), [0x03, 0x03].as_slice());
+    check(
+        &rt,
+        lines.len() == 2 && lines[0].number == 0 && lines[1].number == 1,
+    );
+    check(&rt, lines[0].made && lines[1].made);
+    check(&rt, lines[0].worker < 2 && lines[1].worker < 2);
+    check(&rt, lines[0].worker != lines[1].worker);
+    equal(&rt, lines[1].seen, 0);
+    equal(&rt, bytes.as_slice(), [0x03, 0x03].as_slice());
     Ok(())
 }
 
@@ -270,16 +272,12 @@ fn two_are_inside_at_once(rt: HostRuntime) -> Result<(), Fail> {
 #[test]
 fn the_window_keeps_out(rt: HostRuntime) -> Result<(), Fail> {
     let gate = Holding::new(true);
-    let (lines, bytes) = run(&rt, rt.alloc(), 2, 0, 9, false, (2, 1, MOST), &gate)
-        .ok()
-        .ok_or("no memory")?;
-    assert_eq!(rt; gate.reached.load(SeqCst), 1);
-    assert!(rt; lines.len() == 2 && lines[1].number == 1);
-    assert_eq!(rt; lines[1].seen, 1);
-    let (_, alone) = run(&rt, rt.alloc(), 2, 0, 9, false, (1, 1, MOST), &NoGate)
-        .ok()
-        .ok_or("no memory")?;
-    assert_eq!(rt; bytes.as_slice(), alone.as_slice());
+    let (lines, bytes) = given(run(&rt, rt.alloc(), 2, 0, 9, false, (2, 1, MOST), &gate))?;
+    equal(&rt, gate.reached.load(SeqCst), 1);
+    check(&rt, lines.len() == 2 && lines[1].number == 1);
+    equal(&rt, lines[1].seen, 1);
+    let (_, alone) = given(run(&rt, rt.alloc(), 2, 0, 9, false, (1, 1, MOST), &NoGate))?;
+    equal(&rt, bytes.as_slice(), alone.as_slice());
     Ok(())
 }
 
@@ -287,11 +285,9 @@ fn the_window_keeps_out(rt: HostRuntime) -> Result<(), Fail> {
 #[test]
 fn the_bytes_keep_out(rt: HostRuntime) -> Result<(), Fail> {
     let gate = Holding::new(true);
-    let (lines, _) = run(&rt, rt.alloc(), 2, 0, 9, false, (2, 2, 1), &gate)
-        .ok()
-        .ok_or("no memory")?;
-    assert_eq!(rt; gate.reached.load(SeqCst), 1);
-    assert!(rt; lines.len() == 2 && lines[1].seen == 1);
+    let (lines, _) = given(run(&rt, rt.alloc(), 2, 0, 9, false, (2, 2, 1), &gate))?;
+    equal(&rt, gate.reached.load(SeqCst), 1);
+    check(&rt, lines.len() == 2 && lines[1].seen == 1);
     Ok(())
 }
 
@@ -299,7 +295,7 @@ fn the_bytes_keep_out(rt: HostRuntime) -> Result<(), Fail> {
 #[test]
 fn wrong_in_the_middle(rt: HostRuntime) -> Result<(), Fail> {
     for threads in [1, 4] {
-        let (lines, bytes) = run(
+        let (lines, bytes) = given(run(
             &rt,
             rt.alloc(),
             9,
@@ -308,15 +304,16 @@ fn wrong_in_the_middle(rt: HostRuntime) -> Result<(), Fail> {
             false,
             (threads, 3, MOST),
             &NoGate,
-        )
-        .ok()
-        .ok_or("no memory")?;
-        assert_eq!(rt; lines.len(), 9);
+        ))?;
+        equal(&rt, lines.len(), 9);
         for (place, line) in lines.iter().enumerate() {
-            assert!(rt; line.number as usize == 70 + place && line.worker < threads);
-            assert_eq!(rt; line.made, place != 4);
+            check(
+                &rt,
+                line.number as usize == 70 + place && line.worker < threads,
+            );
+            equal(&rt, line.made, place != 4);
         }
-        assert_eq!(rt; bytes.as_slice(), [0x03; 8].as_slice());
+        equal(&rt, bytes.as_slice(), [0x03; 8].as_slice());
     }
     Ok(())
 }
@@ -325,14 +322,21 @@ fn wrong_in_the_middle(rt: HostRuntime) -> Result<(), Fail> {
 #[test]
 fn kept_and_coded_anew(rt: HostRuntime) -> Result<(), Fail> {
     for threads in [1, 4] {
-        let (lines, bytes) = run(&rt, rt.alloc(), 4, 0, 3, true, (threads, 64, MOST), &NoGate)
-            .ok()
-            .ok_or("no memory")?;
-        assert_eq!(rt; lines.len(), 4);
+        let (lines, bytes) = given(run(
+            &rt,
+            rt.alloc(),
+            4,
+            0,
+            3,
+            true,
+            (threads, 64, MOST),
+            &NoGate,
+        ))?;
+        equal(&rt, lines.len(), 4);
         for line in &lines {
-            assert!(rt; line.made);
+            check(&rt, line.made);
         }
-        assert_eq!(rt; bytes.as_slice(), [0x03, 0x01, 0x03, 0x03].as_slice());
+        equal(&rt, bytes.as_slice(), [0x03, 0x01, 0x03, 0x03].as_slice());
     }
     Ok(())
 }
@@ -340,14 +344,13 @@ fn kept_and_coded_anew(rt: HostRuntime) -> Result<(), Fail> {
 // No jobs, whatever else is asked; and more workers than blocks.
 #[test]
 fn none_and_few(rt: HostRuntime) -> Result<(), Fail> {
-    let (lines, bytes) = run(&rt, rt.alloc(), 0, 5, 9, false, (64, 1024, 1), &NoGate)
-        .ok()
-        .ok_or("no memory")?;
-    assert!(rt; lines.is_empty() && bytes.is_empty());
-    let (lines, bytes) = run(&rt, rt.alloc(), 2, 5, 9, false, (64, 1024, MOST), &NoGate)
-        .ok()
-        .ok_or("no memory")?;
-    assert!(rt; lines.len() == 2 && lines[0].worker < 64 && lines[1].worker < 64);
-    assert_eq!(rt; bytes.as_slice(), [0x03, 0x03].as_slice());
+    let (lines, bytes) = given(run(&rt, rt.alloc(), 0, 5, 9, false, (64, 1024, 1), &NoGate))?;
+    check(&rt, lines.is_empty() && bytes.is_empty());
+    let (lines, bytes) = given(run(&rt, rt.alloc(), 2, 5, 9, false, (64, 1024, MOST), &NoGate))?;
+    check(
+        &rt,
+        lines.len() == 2 && lines[0].worker < 64 && lines[1].worker < 64,
+    );
+    equal(&rt, bytes.as_slice(), [0x03, 0x03].as_slice());
     Ok(())
 }

@@ -7,6 +7,7 @@ ghost use Rattle.jx_base.specs.Sound.{IsSound};
 ghost use Rattle.jx_block.specs.Jobs.{AreEnds, IsAsked};
 
 use crate::blocks::{block_of, done, in_one, in_two, kept, one_pass, one_piece, part};
+use crate::checks::{check, equal, given};
 use jx_base::{Block, NoMemory, Piece, Pieces, Style};
 use jx_block::{BlockFault, Ends, Job, OutPart};
 use std::alloc::Global;
@@ -101,8 +102,8 @@ fn without_passes(rt: HostRuntime) -> Result<(), Fail> {
     let alloc = rt.alloc();
     let block = block_of(Style { bits: 0 }, 9, 0, Pieces::new(alloc));
     let (parts, bytes) = none_anew(alloc, &block, 0x2F).ok().ok_or("refused")?;
-    assert_eq!(rt; parts.len(), 0);
-    assert_eq!(rt; bytes.len(), 0);
+    equal(&rt, parts.len(), 0);
+    equal(&rt, bytes.len(), 0);
     Ok(())
 }
 
@@ -112,14 +113,12 @@ fn with_symbols_and_without(rt: HostRuntime) -> Result<(), Fail> {
     let alloc = rt.alloc();
     for (from, to, own, new) in [(0u8, 0x20u8, 0x03u8, 0x01u8), (0x20, 0, 0x01, 0x03)] {
         let bytes = [own];
-        assert!(rt; own < 0xFF);
-        let block = one_pass(alloc, Style { bits: from }, &bytes)
-            .ok()
-            .ok_or("no memory")?;
-        let ends = in_one(alloc, 1).ok().ok_or("no memory")?;
+        check(&rt, own < 0xFF);
+        let block = given(one_pass(alloc, Style { bits: from }, &bytes))?;
+        let ends = given(in_one(alloc, 1))?;
         let (parts, bytes) = anew(alloc, &block, to, ends).ok().ok_or("refused")?;
-        assert_eq!(rt; parts.as_slice(), [part(0, 0, 1, 0, 1)].as_slice());
-        assert_eq!(rt; bytes.as_slice(), [new].as_slice());
+        equal(&rt, parts.as_slice(), [part(0, 0, 1, 0, 1)].as_slice());
+        equal(&rt, bytes.as_slice(), [new].as_slice());
     }
     Ok(())
 }
@@ -128,15 +127,13 @@ fn with_symbols_and_without(rt: HostRuntime) -> Result<(), Fail> {
 #[test]
 fn wrong_symbol(rt: HostRuntime) -> Result<(), Fail> {
     let alloc = rt.alloc();
-    let block = one_pass(alloc, Style { bits: 0x20 }, &[0x03])
-        .ok()
-        .ok_or("no memory")?;
-    let ends = in_one(alloc, 1).ok().ok_or("no memory")?;
+    let block = given(one_pass(alloc, Style { bits: 0x20 }, &[0x03]))?;
+    let ends = given(in_one(alloc, 1))?;
     let fault = anew(alloc, &block, 0, ends).err();
-    assert_eq!(rt; fault, Some(BlockFault::BadSegmentation(3)));
-    let ends = in_one(alloc, 1).ok().ok_or("no memory")?;
+    equal(&rt, fault, Some(BlockFault::BadSegmentation(3)));
+    let ends = given(in_one(alloc, 1))?;
     let fault = anew(alloc, &block, 8, ends).err();
-    assert_eq!(rt; fault, Some(BlockFault::BadSegmentation(3)));
+    equal(&rt, fault, Some(BlockFault::BadSegmentation(3)));
     Ok(())
 }
 
@@ -144,13 +141,11 @@ fn wrong_symbol(rt: HostRuntime) -> Result<(), Fail> {
 #[test]
 fn wrong_symbol_kept(rt: HostRuntime) -> Result<(), Fail> {
     let alloc = rt.alloc();
-    let block = one_pass(alloc, Style { bits: 0x20 }, &[0x03])
-        .ok()
-        .ok_or("no memory")?;
-    let ends = in_one(alloc, 1).ok().ok_or("no memory")?;
+    let block = given(one_pass(alloc, Style { bits: 0x20 }, &[0x03]))?;
+    let ends = given(in_one(alloc, 1))?;
     let (parts, bytes) = kept(alloc, &block, ends).ok().ok_or("refused")?;
-    assert_eq!(rt; parts.as_slice(), [part(0, 0, 1, 0, 1)].as_slice());
-    assert_eq!(rt; bytes.as_slice(), [0x03].as_slice());
+    equal(&rt, parts.as_slice(), [part(0, 0, 1, 0, 1)].as_slice());
+    equal(&rt, bytes.as_slice(), [0x03].as_slice());
     Ok(())
 }
 
@@ -158,30 +153,30 @@ fn wrong_symbol_kept(rt: HostRuntime) -> Result<(), Fail> {
 #[test]
 fn each_pass_terminated(rt: HostRuntime) -> Result<(), Fail> {
     let alloc = rt.alloc();
-    let block = one_piece(alloc, &[0x01]).ok().ok_or("no memory")?;
-    let ends = in_one(alloc, 4).ok().ok_or("no memory")?;
+    let block = given(one_piece(alloc, &[0x01]))?;
+    let ends = given(in_one(alloc, 4))?;
     let (parts, bytes) = anew(alloc, &block, 4, ends).ok().ok_or("refused")?;
-    assert_eq!(rt;
+    equal(
+        &rt,
         parts.as_slice(),
         [
             part(0, 0, 1, 0, 1),
             part(0, 1, 1, 1, 3),
             part(0, 2, 1, 3, 5),
-            part(0, 3, 1, 5, 7)
+            part(0, 3, 1, 5, 7),
         ]
-        .as_slice()
+        .as_slice(),
     );
-    assert_eq!(rt;
+    equal(
+        &rt,
         bytes.as_slice(),
-        [0x03, 0xFF, 0x7F, 0xFF, 0x7F, 0xFF, 0x7F].as_slice()
+        [0x03, 0xFF, 0x7F, 0xFF, 0x7F, 0xFF, 0x7F].as_slice(),
     );
-    let block = each_pass(alloc, Style { bits: 4 }, &[0x03], &[0xFF, 0x7F])
-        .ok()
-        .ok_or("no memory")?;
-    let ends = in_one(alloc, 4).ok().ok_or("no memory")?;
+    let block = given(each_pass(alloc, Style { bits: 4 }, &[0x03], &[0xFF, 0x7F]))?;
+    let ends = given(in_one(alloc, 4))?;
     let (parts, bytes) = anew(alloc, &block, 0, ends).ok().ok_or("refused")?;
-    assert_eq!(rt; parts.as_slice(), [part(0, 0, 4, 0, 1)].as_slice());
-    assert_eq!(rt; bytes.as_slice(), [0x01].as_slice());
+    equal(&rt, parts.as_slice(), [part(0, 0, 4, 0, 1)].as_slice());
+    equal(&rt, bytes.as_slice(), [0x01].as_slice());
     Ok(())
 }
 
@@ -189,11 +184,11 @@ fn each_pass_terminated(rt: HostRuntime) -> Result<(), Fail> {
 #[test]
 fn causal(rt: HostRuntime) -> Result<(), Fail> {
     let alloc = rt.alloc();
-    let block = one_piece(alloc, &[0x01]).ok().ok_or("no memory")?;
-    let ends = in_one(alloc, 4).ok().ok_or("no memory")?;
+    let block = given(one_piece(alloc, &[0x01]))?;
+    let ends = given(in_one(alloc, 4))?;
     let (parts, bytes) = anew(alloc, &block, 8, ends).ok().ok_or("refused")?;
-    assert_eq!(rt; parts.as_slice(), [part(0, 0, 4, 0, 1)].as_slice());
-    assert_eq!(rt; bytes.as_slice(), [0x01].as_slice());
+    equal(&rt, parts.as_slice(), [part(0, 0, 4, 0, 1)].as_slice());
+    equal(&rt, bytes.as_slice(), [0x01].as_slice());
     Ok(())
 }
 
@@ -201,22 +196,21 @@ fn causal(rt: HostRuntime) -> Result<(), Fail> {
 #[test]
 fn in_layers(rt: HostRuntime) -> Result<(), Fail> {
     let alloc = rt.alloc();
-    let block = each_pass(alloc, Style { bits: 4 }, &[0x03], &[0xFF, 0x7F])
-        .ok()
-        .ok_or("no memory")?;
-    let ends = in_two(alloc, 2, 2).ok().ok_or("no memory")?;
+    let block = given(each_pass(alloc, Style { bits: 4 }, &[0x03], &[0xFF, 0x7F]))?;
+    let ends = given(in_two(alloc, 2, 2))?;
     let (parts, bytes) = anew(alloc, &block, 6, ends).ok().ok_or("refused")?;
-    assert_eq!(rt;
+    equal(
+        &rt,
         parts.as_slice(),
         [
             part(0, 0, 1, 0, 1),
             part(0, 1, 1, 1, 3),
             part(2, 2, 1, 3, 5),
-            part(2, 3, 1, 5, 7)
+            part(2, 3, 1, 5, 7),
         ]
-        .as_slice()
+        .as_slice(),
     );
-    assert_eq!(rt; bytes.len(), 7);
+    equal(&rt, bytes.len(), 7);
     Ok(())
 }
 
@@ -224,15 +218,14 @@ fn in_layers(rt: HostRuntime) -> Result<(), Fail> {
 #[test]
 fn within_a_new_segment(rt: HostRuntime) -> Result<(), Fail> {
     let alloc = rt.alloc();
-    let block = each_pass(alloc, Style { bits: 4 }, &[0x03], &[0xFF, 0x7F])
-        .ok()
-        .ok_or("no memory")?;
-    let ends = in_two(alloc, 1, 2).ok().ok_or("no memory")?;
+    let block = given(each_pass(alloc, Style { bits: 4 }, &[0x03], &[0xFF, 0x7F]))?;
+    let ends = given(in_two(alloc, 1, 2))?;
     let (parts, bytes) = anew(alloc, &block, 0, ends).ok().ok_or("refused")?;
-    assert_eq!(rt;
+    equal(
+        &rt,
         parts.as_slice(),
-        [part(0, 0, 1, 0, 1), part(2, 1, 3, 1, 1)].as_slice()
+        [part(0, 0, 1, 0, 1), part(2, 1, 3, 1, 1)].as_slice(),
     );
-    assert_eq!(rt; bytes.as_slice(), [0x01].as_slice());
+    equal(&rt, bytes.as_slice(), [0x01].as_slice());
     Ok(())
 }

@@ -2,6 +2,7 @@
 
 ghost use Rattle.std.specs.Prelude.{◌<◌};
 
+use crate::checks::{equal, equal_at};
 use crate::samples::next;
 use jx_mq::{Contexts, MqDecoder, MqEncoder};
 use jx_raw::{RawReader, RawWriter};
@@ -54,7 +55,7 @@ fn coded(alloc: Global) -> Result<Vec<u8>, Fail> {
 #[test]
 fn a_long_coded_segment(rt: HostRuntime) -> Result<(), Fail> {
     let bytes = coded(rt.alloc())?;
-    assert_eq!(rt; (bytes.len(), sum_of(&bytes)), (73_069, 9_313_987));
+    equal(&rt, (bytes.len(), sum_of(&bytes)), (73_069, 9_313_987));
     let mut decoder = MqDecoder::new(&bytes);
     let mut contexts = Contexts::new();
     let mut x: u64 = 1;
@@ -62,7 +63,7 @@ fn a_long_coded_segment(rt: HostRuntime) -> Result<(), Fail> {
         x = next(x);
         let label = label_of(x);
         let read = decoder.bit(&mut contexts, label);
-        assert_eq!(rt; read, bit_of(x, label), "decision {i}");
+        equal_at(&rt, &i, read, bit_of(x, label));
     }
     Ok(())
 }
@@ -77,13 +78,13 @@ fn a_long_raw_segment(rt: HostRuntime) -> Result<(), Fail> {
         writer.bit(x >> 33 & 7 != 0)?;
     }
     let bytes = writer.finish()?;
-    assert_eq!(rt; (bytes.len(), sum_of(&bytes)), (77_482, 15_064_774));
+    equal(&rt, (bytes.len(), sum_of(&bytes)), (77_482, 15_064_774));
     let mut reader = RawReader::new(&bytes);
     let mut x: u64 = 1;
     for i in 0..BITS {
         x = next(x);
-        assert_eq!(rt; reader.bit(), x >> 33 & 7 != 0, "bit {i}");
+        equal_at(&rt, &i, reader.bit(), x >> 33 & 7 != 0);
     }
-    assert_eq!(rt; reader.looked(), 77_482);
+    equal(&rt, reader.looked(), 77_482);
     Ok(())
 }

@@ -1,6 +1,7 @@
 ghost use Rattle.std.specs.Prelude.{◌≡◌, ◌-◌, ◌*◌, ◌^◌, ◌<◌, ◌≤◌, ℕ, length, IfOk};
 ghost use Rattle.jx_grid.specs.Cells.{Cells, HasSize};
 
+use crate::checks::{check, equal, given};
 use crate::samples::{gathered, nth, one, plain};
 use jx_base::{Band, NoMemory, Style};
 use jx_flags::{Coded, Coef, FlagDecoded, FlagGrid, decode_flags, encode_flags, sound_flags};
@@ -149,21 +150,21 @@ fn agree_in_three(alloc: Global, width: u16, height: u16) -> Result<bool, NoMemo
 #[test]
 fn small_block(rt: HostRuntime) -> Result<(), Fail> {
     let same = agree_in_three(rt.alloc(), 5, 6);
-    assert!(rt; same.ok().ok_or("no memory")?);
+    check(&rt, given(same)?);
     Ok(())
 }
 
 #[test]
 fn one_place(rt: HostRuntime) -> Result<(), Fail> {
     let same = agree_in_three(rt.alloc(), 1, 1);
-    assert!(rt; same.ok().ok_or("no memory")?);
+    check(&rt, given(same)?);
     Ok(())
 }
 
 #[test]
 fn one_column(rt: HostRuntime) -> Result<(), Fail> {
     let same = agree_in_three(rt.alloc(), 1, 9);
-    assert!(rt; same.ok().ok_or("no memory")?);
+    check(&rt, given(same)?);
     Ok(())
 }
 
@@ -171,21 +172,21 @@ fn one_column(rt: HostRuntime) -> Result<(), Fail> {
 #[test]
 fn highest_block(rt: HostRuntime) -> Result<(), Fail> {
     let same = agree(rt.alloc(), 4, 1024, 0x09);
-    assert!(rt; same.ok().ok_or("no memory")?);
+    check(&rt, given(same)?);
     Ok(())
 }
 
 #[test]
 fn widest_block(rt: HostRuntime) -> Result<(), Fail> {
     let same = agree(rt.alloc(), 1024, 4, 0x2F);
-    assert!(rt; same.ok().ok_or("no memory")?);
+    check(&rt, given(same)?);
     Ok(())
 }
 
 #[test]
 fn square_block(rt: HostRuntime) -> Result<(), Fail> {
     let same = agree(rt.alloc(), 64, 64, 0x00);
-    assert!(rt; same.ok().ok_or("no memory")?);
+    check(&rt, given(same)?);
     Ok(())
 }
 
@@ -197,22 +198,21 @@ fn one_coefficient(rt: HostRuntime) -> Result<(), Fail> {
         (1, 1, 0x07, true, 1),
         (2, 4, 0x01, false, 3),
     ] {
-        assert!(rt; planes == 1 && passes == 1 || planes == 2 && passes == 4);
-        let decoded = decode(rt.alloc(), 1, 1, 0, planes, passes, &[byte])
-            .ok()
-            .ok_or("no memory")?;
+        check(
+            &rt,
+            planes == 1 && passes == 1 || planes == 2 && passes == 4,
+        );
+        let decoded = given(decode(rt.alloc(), 1, 1, 0, planes, passes, &[byte]))?;
         let found = coef(&decoded, 0, 0);
-        assert_eq!(rt; found.negative, negative);
-        assert_eq!(rt; found.bits, bits);
-        assert_eq!(rt; found.planes, planes);
-        let grid = single(rt.alloc(), found).ok().ok_or("no memory")?;
+        equal(&rt, found.negative, negative);
+        equal(&rt, found.bits, bits);
+        equal(&rt, found.planes, planes);
+        let grid = given(single(rt.alloc(), found))?;
         let style = Style { bits: 0 };
-        let lists = encode_flags(rt.alloc(), &grid, Band::LL, style, planes, passes)
-            .ok()
-            .ok_or("no memory")?;
-        assert_eq!(rt; lists.len(), 1);
+        let lists = given(encode_flags(rt.alloc(), &grid, Band::LL, style, planes, passes))?;
+        equal(&rt, lists.len(), 1);
         for list in lists.iter() {
-            assert_eq!(rt; list.as_slice(), [byte].as_slice());
+            equal(&rt, list.as_slice(), [byte].as_slice());
         }
     }
     Ok(())
@@ -221,24 +221,18 @@ fn one_coefficient(rt: HostRuntime) -> Result<(), Fail> {
 // With segmentation symbols 01 has the right one and 03 doesn't.
 #[test]
 fn right_and_wrong_symbol(rt: HostRuntime) -> Result<(), Fail> {
-    let right = decode(rt.alloc(), 1, 1, 0x20, 1, 1, &[0x01])
-        .ok()
-        .ok_or("no memory")?;
-    assert!(rt; sound_flags(&right).is_ok());
-    let wrong = decode(rt.alloc(), 1, 1, 0x20, 1, 1, &[0x03])
-        .ok()
-        .ok_or("no memory")?;
-    assert_eq!(rt; wrong.wrong, Some(0));
-    assert!(rt; sound_flags(&wrong).is_err());
+    let right = given(decode(rt.alloc(), 1, 1, 0x20, 1, 1, &[0x01]))?;
+    check(&rt, sound_flags(&right).is_ok());
+    let wrong = given(decode(rt.alloc(), 1, 1, 0x20, 1, 1, &[0x03]))?;
+    equal(&rt, wrong.wrong, Some(0));
+    check(&rt, sound_flags(&wrong).is_err());
     Ok(())
 }
 
 // Bytes that no encoder writes: 35 coefficients aren't 0.
 #[test]
 fn hostile_bytes(rt: HostRuntime) -> Result<(), Fail> {
-    let decoded = decode(rt.alloc(), 16, 4, 0, 9, 16, &[0xFF, 0x8F])
-        .ok()
-        .ok_or("no memory")?;
+    let decoded = given(decode(rt.alloc(), 16, 4, 0, 9, 16, &[0xFF, 0x8F]))?;
     let mut count = 0u32;
     for y in 0..4 {
         for x in 0..16 {
@@ -247,6 +241,6 @@ fn hostile_bytes(rt: HostRuntime) -> Result<(), Fail> {
             }
         }
     }
-    assert_eq!(rt; count, 35);
+    equal(&rt, count, 35);
     Ok(())
 }

@@ -1,3 +1,4 @@
+use crate::checks::{check, equal, equal_at, given};
 use jx_base::Band;
 use jx_grid::{Coef, Grid, Segments, place, refinement_label, sign_label, significance_label};
 use std::test::Fail;
@@ -16,47 +17,47 @@ fn scan_of_five_by_six(rt: HostRuntime) {
         (22, 1, 4),
         (29, 4, 5),
     ] {
-        assert!(rt; n < 30);
+        check(&rt, n < 30);
         let found = place(5, 6, n);
-        assert_eq!(rt; found.0, x, "column of {n}");
-        assert_eq!(rt; found.1, y, "row of {n}");
+        equal_at(&rt, &n, found.0, x);
+        equal_at(&rt, &n, found.1, y);
     }
 }
 
 // Rows of tables D.1, D.3 and D.4.
 #[test]
 fn labels_of_the_tables(rt: HostRuntime) {
-    assert_eq!(rt; significance_label(Band::LL, 2, 0, 0), 8);
-    assert_eq!(rt; significance_label(Band::LH, 1, 2, 4), 7);
-    assert_eq!(rt; significance_label(Band::HL, 0, 2, 0), 8);
-    assert_eq!(rt; significance_label(Band::HL, 2, 0, 0), 4);
-    assert_eq!(rt; significance_label(Band::LL, 0, 0, 2), 2);
-    assert_eq!(rt; significance_label(Band::HH, 1, 0, 2), 7);
-    assert_eq!(rt; significance_label(Band::HH, 2, 2, 0), 2);
-    assert_eq!(rt; sign_label(1, -1), (11, false));
-    assert_eq!(rt; sign_label(0, 0), (9, false));
-    assert_eq!(rt; sign_label(0, -1), (10, true));
-    assert_eq!(rt; sign_label(-1, -1), (13, true));
-    assert_eq!(rt; refinement_label(false, false), 14);
-    assert_eq!(rt; refinement_label(false, true), 15);
-    assert_eq!(rt; refinement_label(true, false), 16);
+    equal(&rt, significance_label(Band::LL, 2, 0, 0), 8);
+    equal(&rt, significance_label(Band::LH, 1, 2, 4), 7);
+    equal(&rt, significance_label(Band::HL, 0, 2, 0), 8);
+    equal(&rt, significance_label(Band::HL, 2, 0, 0), 4);
+    equal(&rt, significance_label(Band::LL, 0, 0, 2), 2);
+    equal(&rt, significance_label(Band::HH, 1, 0, 2), 7);
+    equal(&rt, significance_label(Band::HH, 2, 2, 0), 2);
+    equal(&rt, sign_label(1, -1), (11, false));
+    equal(&rt, sign_label(0, 0), (9, false));
+    equal(&rt, sign_label(0, -1), (10, true));
+    equal(&rt, sign_label(-1, -1), (13, true));
+    equal(&rt, refinement_label(false, false), 14);
+    equal(&rt, refinement_label(false, true), 15);
+    equal(&rt, refinement_label(true, false), 16);
 }
 
 // A new grid is zeros; a place that is set is alone in it.
 #[test]
 fn one_place_is_set(rt: HostRuntime) -> Result<(), Fail> {
-    let mut grid = Grid::new(rt.alloc(), 3, 2).ok().ok_or("no memory")?;
+    let mut grid = given(Grid::new(rt.alloc(), 3, 2))?;
     let coef = Coef {
         negative: true,
         bits: 5,
         planes: 3,
     };
-    assert!(rt; grid.width() == 3 && grid.height() == 2);
+    check(&rt, grid.width() == 3 && grid.height() == 2);
     grid.set(2, 1, coef);
-    assert!(rt; grid.width() == 3 && grid.height() == 2);
-    assert_eq!(rt; grid.at(2, 1), coef);
-    assert_eq!(rt; grid.at(1, 1).bits, 0);
-    assert_eq!(rt; grid.at(0, 0).planes, 0);
+    check(&rt, grid.width() == 3 && grid.height() == 2);
+    equal(&rt, grid.at(2, 1), coef);
+    equal(&rt, grid.at(1, 1).bits, 0);
+    equal(&rt, grid.at(0, 0).planes, 0);
     Ok(())
 }
 
@@ -64,11 +65,11 @@ fn one_place_is_set(rt: HostRuntime) -> Result<(), Fail> {
 #[test]
 fn segments_in_order(rt: HostRuntime) -> Result<(), Fail> {
     let mut segments = Segments::new(rt.alloc());
-    segments.push(&[1, 2]).ok().ok_or("no memory")?;
-    segments.push(&[3]).ok().ok_or("no memory")?;
+    given(segments.push(&[1, 2]))?;
+    given(segments.push(&[3]))?;
     let lists = segments.as_slice();
-    assert_eq!(rt; lists.len(), 2);
-    assert_eq!(rt; lists[0].len(), 2);
-    assert_eq!(rt; lists[1].len(), 1);
+    equal(&rt, lists.len(), 2);
+    equal(&rt, lists[0].len(), 2);
+    equal(&rt, lists[1].len(), 1);
     Ok(())
 }

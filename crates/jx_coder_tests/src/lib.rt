@@ -3,6 +3,8 @@
 #![tactic(auto)]
 
 #[cfg(test)]
+mod checks;
+#[cfg(test)]
 mod coder_rows;
 #[cfg(test)]
 mod flags_tests;

@@ -1,5 +1,6 @@
 ghost use Rattle.std.specs.Prelude.{◌<◌};
 
+use crate::checks::{check, check_at, equal, equal_at};
 use crate::samples::next;
 use jx_mq::{Contexts, MqDecoder, MqEncoder};
 use std::alloc::Global;
@@ -39,30 +40,32 @@ fn published_vector(rt: HostRuntime) -> Result<(), Fail> {
             encoder.bit(&mut contexts, 1, decision(word, i))?;
         }
     }
-    assert_eq!(rt; encoder.flush()?.as_slice(), CODED.as_slice());
+    equal(&rt, encoder.flush()?.as_slice(), CODED.as_slice());
 
     let mut decoder = MqDecoder::new(&CODED);
     let mut contexts = Contexts::new();
     for word in DECISIONS {
         for i in 0..32 {
             let read = decoder.bit(&mut contexts, 1);
-            assert_eq!(rt; read, decision(word, i), "decision {i} of {word}");
+            equal_at(&rt, &(i, word), read, decision(word, i));
         }
     }
-    assert_eq!(rt; decoder.looked(), 28);
+    equal(&rt, decoder.looked(), 28);
     Ok(())
 }
 
 #[test]
 fn ends(rt: HostRuntime) -> Result<(), Fail> {
-    assert_eq!(rt;
+    equal(
+        &rt,
         MqEncoder::new(rt.alloc()).flush()?.as_slice(),
-        [0xFF, 0x7F].as_slice()
+        [0xFF, 0x7F].as_slice(),
     );
     for room in [0, 1, 100] {
-        assert_eq!(rt;
+        equal(
+            &rt,
             MqEncoder::with_room(rt.alloc(), room)?.flush()?.as_slice(),
-            [0xFF, 0x7F].as_slice()
+            [0xFF, 0x7F].as_slice(),
         );
     }
 
@@ -72,13 +75,14 @@ fn ends(rt: HostRuntime) -> Result<(), Fail> {
     let mut second = Contexts::new();
     for i in 0..1000u32 {
         let label = (i % 19) as u8;
-        assert_eq!(rt;
+        equal_at(
+            &rt,
+            &i,
             none.bit(&mut first, label),
             ones.bit(&mut second, label),
-            "decision {i}"
         );
     }
-    assert_eq!(rt; none.looked(), 0);
+    equal(&rt, none.looked(), 0);
     Ok(())
 }
 
@@ -125,9 +129,10 @@ fn writes_and_reads(alloc: Global, count: u32, seed: u64) -> Result<bool, Fail> 
 fn lists_of_many_lengths(rt: HostRuntime) -> Result<(), Fail> {
     for count in [0, 1, 2, 3, 10, 19, 50, 100, 200, 500, 1000, 2000, 3000] {
         for seed in [1, 2, 3, 4, 5] {
-            assert!(rt;
+            check_at(
+                &rt,
+                &(count, seed),
                 writes_and_reads(rt.alloc(), count, seed)?,
-                "{count} decisions from {seed}"
             );
         }
     }
@@ -144,15 +149,15 @@ fn room_of_a_whole_segment(rt: HostRuntime) -> Result<(), Fail> {
         }
     }
     let bytes = encoder.flush()?;
-    assert_eq!(rt; bytes.len(), 28);
-    assert_eq!(rt; bytes.capacity(), 29);
+    equal(&rt, bytes.len(), 28);
+    equal(&rt, bytes.capacity(), 29);
     Ok(())
 }
 
 #[test]
 fn room_for_all_decisions(rt: HostRuntime) -> Result<(), Fail> {
     for count in [0, 1, 10, 100, 1000usize] {
-        assert!(rt; count <= 1000);
+        check(&rt, count <= 1000);
         let room = 15 * count / 7 + 2;
         let mut encoder = MqEncoder::with_room(rt.alloc(), room)?;
         let mut contexts = Contexts::new();
@@ -163,8 +168,8 @@ fn room_for_all_decisions(rt: HostRuntime) -> Result<(), Fail> {
             encoder.bit(&mut contexts, label, x >> 33 & 1 == 1)?;
         }
         let bytes = encoder.flush()?;
-        assert!(rt; bytes.len() <= room, "of {count} decisions");
-        assert_eq!(rt; bytes.capacity(), room + 1, "of {count} decisions");
+        check_at(&rt, &count, bytes.len() <= room);
+        equal_at(&rt, &count, bytes.capacity(), room + 1);
     }
     Ok(())
 }

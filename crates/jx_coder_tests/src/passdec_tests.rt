@@ -1,5 +1,6 @@
 ghost use Rattle.std.specs.Prelude.{◌≡◌, ◌-◌, ◌*◌, ◌^◌, ◌<◌, ◌≤◌, ℕ, length, IfOk};
 
+use crate::checks::{check, equal, equal_at, given};
 use crate::samples::one;
 use jx_base::{Band, NoMemory, Style};
 use jx_passdec::{Coded, Coef, Decoded, decode_passes, sound};
@@ -46,16 +47,17 @@ fn one_coefficient(rt: HostRuntime) -> Result<(), Fail> {
         (1, 1, 0x07, true, 1),
         (2, 4, 0x01, false, 3),
     ] {
-        assert!(rt; planes == 1 && passes == 1 || planes == 2 && passes == 4);
-        let decoded = decode(rt.alloc(), 1, 1, 0, planes, passes, &[byte])
-            .ok()
-            .ok_or("no memory")?;
+        check(
+            &rt,
+            planes == 1 && passes == 1 || planes == 2 && passes == 4,
+        );
+        let decoded = given(decode(rt.alloc(), 1, 1, 0, planes, passes, &[byte]))?;
         let found = coef(&decoded, 0, 0);
-        assert_eq!(rt; found.negative, negative);
-        assert_eq!(rt; found.bits, bits);
-        assert_eq!(rt; found.planes, planes);
-        assert_eq!(rt; decoded.looked.len(), usize::from(passes));
-        assert!(rt; sound(&decoded).is_ok());
+        equal(&rt, found.negative, negative);
+        equal(&rt, found.bits, bits);
+        equal(&rt, found.planes, planes);
+        equal(&rt, decoded.looked.len(), usize::from(passes));
+        check(&rt, sound(&decoded).is_ok());
     }
     Ok(())
 }
@@ -63,16 +65,12 @@ fn one_coefficient(rt: HostRuntime) -> Result<(), Fail> {
 // With segmentation symbols 01 has the right one and 03 doesn't.
 #[test]
 fn right_and_wrong_symbol(rt: HostRuntime) -> Result<(), Fail> {
-    let right = decode(rt.alloc(), 1, 1, 0x20, 1, 1, &[0x01])
-        .ok()
-        .ok_or("no memory")?;
-    assert_eq!(rt; coef(&right, 0, 0).bits, 1);
-    assert!(rt; sound(&right).is_ok());
-    let wrong = decode(rt.alloc(), 1, 1, 0x20, 1, 1, &[0x03])
-        .ok()
-        .ok_or("no memory")?;
-    assert_eq!(rt; wrong.wrong, Some(0));
-    assert!(rt; sound(&wrong).is_err());
+    let right = given(decode(rt.alloc(), 1, 1, 0x20, 1, 1, &[0x01]))?;
+    equal(&rt, coef(&right, 0, 0).bits, 1);
+    check(&rt, sound(&right).is_ok());
+    let wrong = given(decode(rt.alloc(), 1, 1, 0x20, 1, 1, &[0x03]))?;
+    equal(&rt, wrong.wrong, Some(0));
+    check(&rt, sound(&wrong).is_err());
     Ok(())
 }
 
@@ -80,9 +78,7 @@ fn right_and_wrong_symbol(rt: HostRuntime) -> Result<(), Fail> {
 // aren't 0.
 #[test]
 fn register_of_32_bits(rt: HostRuntime) -> Result<(), Fail> {
-    let decoded = decode(rt.alloc(), 16, 4, 0, 9, 16, &[0xFF, 0x8F])
-        .ok()
-        .ok_or("no memory")?;
+    let decoded = given(decode(rt.alloc(), 16, 4, 0, 9, 16, &[0xFF, 0x8F]))?;
     let mut count = 0u32;
     for y in 0..4 {
         for x in 0..16 {
@@ -91,7 +87,7 @@ fn register_of_32_bits(rt: HostRuntime) -> Result<(), Fail> {
             }
         }
     }
-    assert_eq!(rt; count, 35);
+    equal(&rt, count, 35);
     Ok(())
 }
 
@@ -99,22 +95,14 @@ fn register_of_32_bits(rt: HostRuntime) -> Result<(), Fail> {
 #[test]
 fn endless_tail(rt: HostRuntime) -> Result<(), Fail> {
     for style in [0x00, 0x09, 0x2B] {
-        let none = decode(rt.alloc(), 5, 6, style, 7, 19, &[])
-            .ok()
-            .ok_or("no memory")?;
-        let tail = decode(rt.alloc(), 5, 6, style, 7, 19, &[0xFF, 0xFF, 0xFF])
-            .ok()
-            .ok_or("no memory")?;
+        let none = given(decode(rt.alloc(), 5, 6, style, 7, 19, &[]))?;
+        let tail = given(decode(rt.alloc(), 5, 6, style, 7, 19, &[0xFF, 0xFF, 0xFF]))?;
         for y in 0..6 {
             for x in 0..5 {
-                assert_eq!(rt;
-                    coef(&none, x, y),
-                    coef(&tail, x, y),
-                    "{x}, {y} in style {style}"
-                );
+                equal_at(&rt, &(x, y, style), coef(&none, x, y), coef(&tail, x, y));
             }
         }
-        assert_eq!(rt; none.wrong, tail.wrong);
+        equal(&rt, none.wrong, tail.wrong);
     }
     Ok(())
 }

@@ -1,6 +1,7 @@
 ghost use Rattle.std.specs.Prelude.{◌≡◌, ◌-◌, ◌*◌, ◌^◌, ◌<◌, ◌≤◌, ℕ, length, IfOk};
 ghost use Rattle.jx_grid.specs.Cells.{Cells, HasSize};
 
+use crate::checks::{check, check_at, equal, equal_at, given};
 use crate::samples::{gathered, plain};
 use jx_base::{Band, NoMemory, Style, is_raw};
 use jx_grid::{Coded, Coef, Grid};
@@ -74,20 +75,19 @@ fn one_coefficient(rt: HostRuntime) -> Result<(), Fail> {
         (false, 3, 0, 2, 4, 0x01, 1),
         (false, 3, 4, 2, 4, 0x03, 4),
     ] {
-        assert!(rt; planes == 1 && passes == 1 || planes == 2 && passes == 4);
-        let grid = single(rt.alloc(), negative, bits, planes)
-            .ok()
-            .ok_or("no memory")?;
+        check(
+            &rt,
+            planes == 1 && passes == 1 || planes == 2 && passes == 4,
+        );
+        let grid = given(single(rt.alloc(), negative, bits, planes))?;
         let style = Style { bits: style };
-        let lists = encode_passes(rt.alloc(), &grid, Band::LL, style, planes, passes)
-            .ok()
-            .ok_or("no memory")?;
-        assert_eq!(rt; lists.len(), count);
+        let lists = given(encode_passes(rt.alloc(), &grid, Band::LL, style, planes, passes))?;
+        equal(&rt, lists.len(), count);
         for (i, list) in lists.iter().enumerate() {
             if i == 0 {
-                assert_eq!(rt; list.as_slice(), [first].as_slice());
+                equal(&rt, list.as_slice(), [first].as_slice());
             } else {
-                assert_eq!(rt; list.as_slice(), [0xFF, 0x7F].as_slice());
+                equal(&rt, list.as_slice(), [0xFF, 0x7F].as_slice());
             }
         }
     }
@@ -99,15 +99,13 @@ fn one_coefficient(rt: HostRuntime) -> Result<(), Fail> {
 #[test]
 fn bypass_segments(rt: HostRuntime) -> Result<(), Fail> {
     let style = Style { bits: 0x01 };
-    let grid = plain(rt.alloc(), 5, 6).ok().ok_or("no memory")?;
+    let grid = given(plain(rt.alloc(), 5, 6))?;
     for (passes, count) in [(10u16, 1usize), (11, 2), (12, 2), (13, 3)] {
-        assert!(rt; 10 <= passes && passes <= 13);
-        let lists = encode_passes(rt.alloc(), &grid, Band::HL, style, 5, passes)
-            .ok()
-            .ok_or("no memory")?;
-        assert_eq!(rt; lists.len(), count);
+        check(&rt, 10 <= passes && passes <= 13);
+        let lists = given(encode_passes(rt.alloc(), &grid, Band::HL, style, 5, passes))?;
+        equal(&rt, lists.len(), count);
         let last = passes - 1;
-        assert_eq!(rt; is_raw(style, last), count == 2, "pass {last}");
+        equal_at(&rt, &last, is_raw(style, last), count == 2);
     }
     Ok(())
 }
@@ -115,13 +113,9 @@ fn bypass_segments(rt: HostRuntime) -> Result<(), Fail> {
 // 74 planes in 220 passes.
 #[test]
 fn many_planes(rt: HostRuntime) -> Result<(), Fail> {
-    let grid = single(rt.alloc(), false, (1 << 73) + 1, 74)
-        .ok()
-        .ok_or("no memory")?;
-    let decoded = again(rt.alloc(), &grid, 0, 74, 220)
-        .ok()
-        .ok_or("no memory")?;
-    assert!(rt; is_same(&grid, &decoded.grid));
+    let grid = given(single(rt.alloc(), false, (1 << 73) + 1, 74))?;
+    let decoded = given(again(rt.alloc(), &grid, 0, 74, 220))?;
+    check(&rt, is_same(&grid, &decoded.grid));
     Ok(())
 }
 
@@ -129,17 +123,12 @@ fn many_planes(rt: HostRuntime) -> Result<(), Fail> {
 #[test]
 fn all_styles(rt: HostRuntime) -> Result<(), Fail> {
     for (width, height) in [(1, 1), (1, 1024), (1024, 4), (5, 6), (64, 64)] {
-        let grid = plain(rt.alloc(), width, height).ok().ok_or("no memory")?;
+        let grid = given(plain(rt.alloc(), width, height))?;
         for mix in 0..32u8 {
             let style = mix % 16 + mix / 16 * 32;
-            let decoded = again(rt.alloc(), &grid, style, 5, 13)
-                .ok()
-                .ok_or("no memory")?;
-            assert!(rt;
-                is_same(&grid, &decoded.grid),
-                "{width} by {height} in style {style}"
-            );
-            assert!(rt; sound(&decoded).is_ok());
+            let decoded = given(again(rt.alloc(), &grid, style, 5, 13))?;
+            check_at(&rt, &(width, height, style), is_same(&grid, &decoded.grid));
+            check(&rt, sound(&decoded).is_ok());
         }
     }
     Ok(())

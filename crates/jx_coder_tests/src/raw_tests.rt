@@ -1,3 +1,4 @@
+use crate::checks::{check, check_at, equal, equal_at};
 use crate::samples::next;
 use jx_raw::{RawReader, RawWriter};
 use std::test::Fail;
@@ -12,16 +13,16 @@ fn vectors(rt: HostRuntime) -> Result<(), Fail> {
         (0, 0, &[]),
     ];
     for (count, bits, want) in cases {
-        assert!(rt; count < 32);
+        check(&rt, count < 32);
         let mut writer = RawWriter::new(rt.alloc());
         for i in (0..count).rev() {
             writer.bit(bits >> i & 1 == 1)?;
         }
         let bytes = writer.finish()?;
-        assert_eq!(rt; bytes.as_slice(), want, "of {count} bits");
+        equal_at(&rt, &count, bytes.as_slice(), want);
         let mut reader = RawReader::new(&bytes);
         for i in (0..count).rev() {
-            assert_eq!(rt; reader.bit(), bits >> i & 1 == 1, "bit {i} of {count}");
+            equal_at(&rt, &(i, count), reader.bit(), bits >> i & 1 == 1);
         }
     }
     Ok(())
@@ -38,11 +39,11 @@ fn lists_of_many_lengths(rt: HostRuntime) -> Result<(), Fail> {
         }
         let bytes = writer.finish()?;
         let mut reader = RawReader::new(&bytes);
-        assert_eq!(rt; reader.looked(), 0);
+        equal(&rt, reader.looked(), 0);
         let mut x: u64 = count;
         for i in 0..count {
             x = next(x);
-            assert_eq!(rt; reader.bit(), x >> 33 & 7 != 0, "bit {i} of {count}");
+            equal_at(&rt, &(i, count), reader.bit(), x >> 33 & 7 != 0);
         }
     }
     Ok(())
@@ -52,36 +53,36 @@ fn lists_of_many_lengths(rt: HostRuntime) -> Result<(), Fail> {
 fn ends(rt: HostRuntime) {
     let mut reader = RawReader::new(&[0xFF, 0x00]);
     for _ in 0..8 {
-        assert!(rt; reader.bit());
+        check(&rt, reader.bit());
     }
-    assert_eq!(rt; reader.looked(), 1);
+    equal(&rt, reader.looked(), 1);
     for _ in 0..7 {
-        assert!(rt; !reader.bit());
+        check(&rt, !reader.bit());
     }
-    assert_eq!(rt; reader.looked(), 2);
-    assert!(rt; reader.bit());
-    assert_eq!(rt; reader.looked(), 2);
+    equal(&rt, reader.looked(), 2);
+    check(&rt, reader.bit());
+    equal(&rt, reader.looked(), 2);
 }
 
 #[test]
 fn room_for_seven_bits_in_a_byte(rt: HostRuntime) -> Result<(), Fail> {
     for count in [0, 1, 7, 8, 9, 23, 38, 1000usize] {
-        assert!(rt; count <= 1000);
+        check(&rt, count <= 1000);
         let room = (count + 6) / 7;
         let mut writer = RawWriter::with_room(rt.alloc(), room)?;
         for _ in 0..count {
             writer.bit(true)?;
         }
         let bytes = writer.finish()?;
-        assert!(rt; bytes.len() <= room, "of {count} bits");
-        assert_eq!(rt; bytes.capacity(), room, "of {count} bits");
+        check_at(&rt, &count, bytes.len() <= room);
+        equal_at(&rt, &count, bytes.capacity(), room);
     }
     let mut writer = RawWriter::with_room(rt.alloc(), 2)?;
     for _ in 0..8 {
         writer.bit(true)?;
     }
     let bytes = writer.finish()?;
-    assert_eq!(rt; bytes.as_slice(), [0xFF, 0x00].as_slice());
-    assert_eq!(rt; bytes.capacity(), 2);
+    equal(&rt, bytes.as_slice(), [0xFF, 0x00].as_slice());
+    equal(&rt, bytes.capacity(), 2);
     Ok(())
 }

@@ -5,6 +5,7 @@ ghost use Rattle.jx_base.specs.Passes.{is_causal};
 ghost use Rattle.jx_grid.specs.Cells.{HasSize};
 ghost use Rattle.jx_passdec.specs.Short.{AreShort};
 
+use crate::checks::{check, equal, given};
 use crate::flags_tests::are_same;
 use crate::samples::{gathered, next, one};
 use jx_base::{Band, NoMemory, Style};
@@ -150,14 +151,14 @@ fn each_style_into_each(rt: HostRuntime) -> Result<(), Fail> {
         1,
         &[0x00, 0x01, 0x02, 0x04, 0x07, 0x20, 0x37],
     );
-    assert!(rt; same.ok().ok_or("no memory")?);
+    check(&rt, given(same)?);
     Ok(())
 }
 
 #[test]
 fn each_causal_style_into_each(rt: HostRuntime) -> Result<(), Fail> {
     let same = all_agree(rt.alloc(), 7, 13, 2, &[0x08, 0x09, 0x2A, 0x3F]);
-    assert!(rt; same.ok().ok_or("no memory")?);
+    check(&rt, given(same)?);
     Ok(())
 }
 
@@ -165,9 +166,9 @@ fn each_causal_style_into_each(rt: HostRuntime) -> Result<(), Fail> {
 #[test]
 fn other_sizes(rt: HostRuntime) -> Result<(), Fail> {
     for (width, height) in [(1u16, 1u16), (1, 9), (64, 3), (3, 64), (33, 32)] {
-        assert!(rt; width <= 64 && height <= 64);
+        check(&rt, width <= 64 && height <= 64);
         let same = all_agree(rt.alloc(), width, height, 3, &[0x00, 0x25]);
-        assert!(rt; same.ok().ok_or("no memory")?);
+        check(&rt, given(same)?);
     }
     Ok(())
 }
@@ -178,7 +179,7 @@ fn first_passes(rt: HostRuntime) -> Result<(), Fail> {
     for passes in 0..26u16 {
         for (old, new) in [(0x00u8, 0x21u8), (0x21, 0x06), (0x05, 0x20)] {
             let same = agrees(rt.alloc(), 6, 9, 4, passes, old, new);
-            assert!(rt; same.ok().ok_or("no memory")?);
+            check(&rt, given(same)?);
         }
     }
     Ok(())
@@ -190,7 +191,7 @@ fn drawn_bytes(rt: HostRuntime) -> Result<(), Fail> {
     for count in [0u16, 1, 7, 60] {
         for (old, new) in [(0x20u8, 0x00u8), (0x00, 0x25), (0x07, 0x21), (0x29, 0x0C)] {
             let same = agrees_on_bytes(rt.alloc(), 5, count, old, new);
-            assert!(rt; same.ok().ok_or("no memory")?);
+            check(&rt, given(same)?);
         }
     }
     Ok(())
@@ -214,24 +215,18 @@ fn recoded(alloc: Global, bytes: &[u8], old: u8, new: u8) -> Result<FlagRecoded,
 // +1 gets a segmentation symbol and loses it again; a wrong one is told.
 #[test]
 fn symbols_of_either_style(rt: HostRuntime) -> Result<(), Fail> {
-    let with = recoded(rt.alloc(), &[0x03], 0, 0x20)
-        .ok()
-        .ok_or("no memory")?;
-    assert_eq!(rt; with.wrong, None);
-    assert_eq!(rt; with.segments.len(), 1);
+    let with = given(recoded(rt.alloc(), &[0x03], 0, 0x20))?;
+    equal(&rt, with.wrong, None);
+    equal(&rt, with.segments.len(), 1);
     for list in with.segments.iter() {
-        assert_eq!(rt; list.as_slice(), [0x01].as_slice());
+        equal(&rt, list.as_slice(), [0x01].as_slice());
     }
-    let without = recoded(rt.alloc(), &[0x01], 0x20, 0)
-        .ok()
-        .ok_or("no memory")?;
-    assert_eq!(rt; without.wrong, None);
+    let without = given(recoded(rt.alloc(), &[0x01], 0x20, 0))?;
+    equal(&rt, without.wrong, None);
     for list in without.segments.iter() {
-        assert_eq!(rt; list.as_slice(), [0x03].as_slice());
+        equal(&rt, list.as_slice(), [0x03].as_slice());
     }
-    let wrong = recoded(rt.alloc(), &[0x03], 0x20, 0)
-        .ok()
-        .ok_or("no memory")?;
-    assert_eq!(rt; wrong.wrong, Some(0));
+    let wrong = given(recoded(rt.alloc(), &[0x03], 0x20, 0))?;
+    equal(&rt, wrong.wrong, Some(0));
     Ok(())
 }

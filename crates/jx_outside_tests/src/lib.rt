@@ -3,6 +3,8 @@
 #![tactic(auto)]
 
 #[cfg(test)]
+mod checks;
+#[cfg(test)]
 mod memory_tests;
 #[cfg(test)]
 mod real_tests;

@@ -1,3 +1,4 @@
+use crate::checks::{check, equal, equal_at};
 use jx_outside::*;
 use std::fs;
 use std::process::Abort;
@@ -14,13 +15,13 @@ fn round_trip<F: Files>(
     requires creates { (g : F) → F.can_create g name.now }
 {
     files.create(name)?;
-    assert!(rt; files.write(bytes)? >= 1);
+    check(rt, files.write(bytes)? >= 1);
     files.finish()?;
     files.open(name)?;
     let mut piece = [0u8; 4];
-    assert!(rt; files.read(&mut piece)? >= 1);
-    assert_eq!(rt; piece[0], 7);
-    assert_eq!(rt; files.read(&mut [])?, 0);
+    check(rt, files.read(&mut piece)? >= 1);
+    equal(rt, piece[0], 7);
+    equal(rt, files.read(&mut [])?, 0);
     Ok(())
 }
 
@@ -32,21 +33,21 @@ fn say_twice<S: Sink>(sink: &mut S) -> Result<(), Refused> {
 #[test]
 fn memory_keeps_what_is_put_and_made(rt: HostRuntime) -> Result<(), Fail> {
     let mut files = MemFiles::new(rt.alloc());
-    assert!(rt; files.made().is_none());
+    check(&rt, files.made().is_none());
     files.put("a", &[1, 2, 3])?;
     files.put("a", &[4, 5, 6, 7, 8])?;
     files.open("a")?;
     let mut piece = [0u8; 3];
-    assert_eq!(rt; files.read(&mut piece)?, 3);
-    assert_eq!(rt; piece[0], 4);
-    assert_eq!(rt; files.read(&mut piece)?, 2);
-    assert_eq!(rt; piece[0], 7);
-    assert_eq!(rt; files.read(&mut piece)?, 0);
+    equal(&rt, files.read(&mut piece)?, 3);
+    equal(&rt, piece[0], 4);
+    equal(&rt, files.read(&mut piece)?, 2);
+    equal(&rt, piece[0], 7);
+    equal(&rt, files.read(&mut piece)?, 0);
     round_trip(&rt, &mut files, "b", &[7, 8, 9])?;
     let (name, bytes) = files.made().ok_or("nothing made")?;
-    assert_eq!(rt; name, "b");
-    assert_eq!(rt; bytes, [7, 8, 9].as_slice());
-    assert_eq!(rt; files.open("c"), Err(Refused::Failed));
+    equal(&rt, name, "b");
+    equal(&rt, bytes, [7, 8, 9].as_slice());
+    equal(&rt, files.open("c"), Err(Refused::Failed));
     Ok(())
 }
 
@@ -55,13 +56,13 @@ fn a_length_is_said_where_one_is_given(rt: HostRuntime) -> Result<(), Fail> {
     let mut files = MemFiles::new(rt.alloc());
     files.put("a", &[1, 2])?;
     files.open("a")?;
-    assert_eq!(rt; files.length_hint(), None);
+    equal(&rt, files.length_hint(), None);
     files.hint(7);
-    assert_eq!(rt; files.length_hint(), Some(7));
+    equal(&rt, files.length_hint(), Some(7));
     let mut sure = SureFiles::new(rt.alloc());
     sure.put("a", &[1, 2])?;
     sure.open("a")?;
-    assert_eq!(rt; sure.length_hint(), None);
+    equal(&rt, sure.length_hint(), None);
     Ok(())
 }
 
@@ -78,7 +79,7 @@ fn memory_fails_as_planned(rt: HostRuntime) -> Result<(), Fail> {
     ] {
         let mut files = MemFiles::new(rt.alloc());
         files.fail(call, nth)?;
-        assert_eq!(rt; steps(&mut files), done, "at {call:?} {nth}");
+        equal_at(&rt, &(call, nth), steps(&mut files), done);
     }
     Ok(())
 }
@@ -111,16 +112,16 @@ fn memory_takes_few_bytes(rt: HostRuntime) -> Result<(), Fail> {
     let mut files = MemFiles::new(rt.alloc());
     files.short(2);
     files.create("a")?;
-    assert_eq!(rt; files.write(&[1, 2, 3])?, 2);
-    assert_eq!(rt; files.write(&[3])?, 1);
-    assert_eq!(rt; files.write(&[])?, 0);
+    equal(&rt, files.write(&[1, 2, 3])?, 2);
+    equal(&rt, files.write(&[3])?, 1);
+    equal(&rt, files.write(&[])?, 0);
     files.finish()?;
     files.open("a")?;
     let mut piece = [0u8; 3];
-    assert_eq!(rt; files.read(&mut piece)?, 2);
-    assert_eq!(rt; files.read(&mut piece)?, 1);
-    assert_eq!(rt; piece[0], 3);
-    assert_eq!(rt; files.read(&mut piece)?, 0);
+    equal(&rt, files.read(&mut piece)?, 2);
+    equal(&rt, files.read(&mut piece)?, 1);
+    equal(&rt, piece[0], 3);
+    equal(&rt, files.read(&mut piece)?, 0);
     Ok(())
 }
 
@@ -130,14 +131,14 @@ fn sure_files_are_found(rt: HostRuntime) -> Result<(), Fail> {
     files.put("a", &[7])?;
     files.open("a")?;
     let mut piece = [0u8; 4];
-    assert_eq!(rt; files.read(&mut piece)?, 1);
-    assert_eq!(rt; piece[0], 7);
+    equal(&rt, files.read(&mut piece)?, 1);
+    equal(&rt, piece[0], 7);
     files.create("b")?;
-    assert_eq!(rt; files.write(&piece)?, 4);
+    equal(&rt, files.write(&piece)?, 4);
     files.finish()?;
     let (name, bytes) = files.made().ok_or("nothing made")?;
-    assert_eq!(rt; name, "b");
-    assert_eq!(rt; bytes, [7, 0, 0, 0].as_slice());
+    equal(&rt, name, "b");
+    equal(&rt, bytes, [7, 0, 0, 0].as_slice());
     Ok(())
 }
 
@@ -145,13 +146,13 @@ fn sure_files_are_found(rt: HostRuntime) -> Result<(), Fail> {
 fn sinks_keep_their_text(rt: HostRuntime) -> Result<(), Fail> {
     let mut sink = MemSink::new(rt.alloc());
     sink.fail(2)?;
-    assert_eq!(rt; say_twice(&mut sink), Err(Refused::Failed));
-    assert_eq!(rt; sink.said(), "done: ");
+    equal(&rt, say_twice(&mut sink), Err(Refused::Failed));
+    equal(&rt, sink.said(), "done: ");
     say_twice(&mut sink)?;
-    assert_eq!(rt; sink.said(), "done: done: said\n");
+    equal(&rt, sink.said(), "done: done: said\n");
     let mut sure = SureSink::new(rt.alloc());
     say_twice(&mut sure)?;
-    assert_eq!(rt; sure.said(), "done: said\n");
+    equal(&rt, sure.said(), "done: said\n");
     Ok(())
 }
 
@@ -161,8 +162,8 @@ fn a_real_file(rt: HostRuntime) -> Result<(), Fail> {
     let mut files = StdFiles::new(&rt);
     round_trip(&rt, &mut files, name, &[7, 8, 9])?;
     fs::remove_file(&rt, name)?;
-    assert_eq!(rt; files.open(name), Err(Refused::Failed));
-    assert_eq!(rt; files.create("no/such/folder"), Err(Refused::Failed));
+    equal(&rt, files.open(name), Err(Refused::Failed));
+    equal(&rt, files.create("no/such/folder"), Err(Refused::Failed));
     Ok(())
 }
 

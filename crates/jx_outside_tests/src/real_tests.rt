@@ -1,5 +1,6 @@
 ghost use Rattle.std.specs.Prelude.{◌≡◌, IsTrue, OnOk};
 
+use crate::checks::{check, equal, equal_at};
 use jx_outside::*;
 use std::fs;
 use std::os::unix::fs::{PermissionsExt, symlink};
@@ -69,12 +70,13 @@ fn an_older_file_stands_until_the_new_one_is_whole(rt: HostRuntime) -> Result<()
     fs::set_permissions(&rt, name, fs::Permissions::from_mode(0o600))?;
     let mut files = StdFiles::new(&rt);
     begin(&mut files, name, &newer)?;
-    assert!(rt; holds(&rt, name, &older)?);
+    check(&rt, holds(&rt, name, &older)?);
     files.finish()?;
-    assert!(rt; holds(&rt, name, &newer)?);
-    assert_eq!(rt;
+    check(&rt, holds(&rt, name, &newer)?);
+    equal(
+        &rt,
         fs::metadata(&rt, name)?.permissions().mode() & 0o777,
-        0o600
+        0o600,
     );
     clear(&rt, name, folder)
 }
@@ -91,8 +93,8 @@ fn a_file_that_is_read_is_made_anew(rt: HostRuntime) -> Result<(), Fail> {
     make(&mut files, name, &newer)?;
     let mut piece = [0u8; 4_096];
     let count = files.read(&mut piece)?;
-    assert!(rt; count > 0 && older.starts_with(&piece[..count]));
-    assert!(rt; holds(&rt, name, &newer)?);
+    check(&rt, count > 0 && older.starts_with(&piece[..count]));
+    check(&rt, holds(&rt, name, &newer)?);
     clear(&rt, name, folder)
 }
 
@@ -111,9 +113,9 @@ fn a_plain_file_says_its_length(rt: HostRuntime) -> Result<(), Fail> {
     let name = "jx_outside_length";
     fs::write(&rt, name, &[1u8, 2, 3])?;
     let mut files = StdFiles::new(&rt);
-    assert_eq!(rt; files.length_hint(), None);
-    assert_eq!(rt; said_lengths(&mut files, name)?, (Some(3), Some(3)));
-    assert_eq!(rt; said_lengths(&mut files, "/dev/null")?, (None, None));
+    equal(&rt, files.length_hint(), None);
+    equal(&rt, said_lengths(&mut files, name)?, (Some(3), Some(3)));
+    equal(&rt, said_lengths(&mut files, "/dev/null")?, (None, None));
     fs::remove_file(&rt, name)?;
     Ok(())
 }
@@ -141,9 +143,9 @@ fn what_is_not_finished_leaves_no_trace(rt: HostRuntime) -> Result<(), Fail> {
     begin_only(&rt, name)?;
     fs::write(&rt, name, &[9u8])?;
     begin_only(&rt, name)?;
-    assert!(rt; holds(&rt, name, &[9])?);
+    check(&rt, holds(&rt, name, &[9])?);
     fs::remove_file(&rt, name)?;
-    assert_eq!(rt; finish_over_folder(&rt, name)?, Err(Refused::Failed));
+    equal(&rt, finish_over_folder(&rt, name)?, Err(Refused::Failed));
     fs::remove_dir(&rt, name)?;
     fs::remove_dir(&rt, folder)?;
     Ok(())
@@ -160,8 +162,8 @@ fn a_link_is_followed(rt: HostRuntime) -> Result<(), Fail> {
     for byte in [1u8, 2] {
         let mut files = StdFiles::new(&rt);
         make(&mut files, link, &[byte])?;
-        assert!(rt; holds(&rt, target, &[byte])?);
-        assert!(rt; fs::symlink_metadata(&rt, target)?.is_file());
+        check(&rt, holds(&rt, target, &[byte])?);
+        check(&rt, fs::symlink_metadata(&rt, target)?.is_file());
     }
     fs::remove_file(&rt, target)?;
     fs::remove_file(&rt, link)?;
@@ -172,12 +174,12 @@ fn a_link_is_followed(rt: HostRuntime) -> Result<(), Fail> {
 fn what_is_no_plain_file_is_written_directly(rt: HostRuntime) -> Result<(), Fail> {
     let mut files = StdFiles::new(&rt);
     make(&mut files, "/dev/null", &[1, 2, 3])?;
-    assert!(rt; !fs::metadata(&rt, "/dev/null")?.is_file());
+    check(&rt, !fs::metadata(&rt, "/dev/null")?.is_file());
     files.create("/dev/full")?;
-    assert_eq!(rt; files.write(&[1]), Err(Refused::Failed));
+    equal(&rt, files.write(&[1]), Err(Refused::Failed));
     // no file can be made there
     for name in ["/proc/jx_outside", "no/such/folder", "folder/", ".", ""] {
-        assert_eq!(rt; files.create(name), Err(Refused::Failed), "at {name}");
+        equal_at(&rt, &name, files.create(name), Err(Refused::Failed));
     }
     Ok(())
 }

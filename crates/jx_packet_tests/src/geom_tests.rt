@@ -1,5 +1,6 @@
 //! Worked values: bands, precincts and their reference points, parts without places, the ends of the ranges.
 
+use crate::checks::{equal, equal_at};
 use crate::geometries::{
     WHOLE, area, band_at, blocks_at, cells_at, geometry, point_at, precincts_at, shape,
     two_components,
@@ -45,22 +46,24 @@ fn expect_precincts(
     size: (u32, u32),
     points: [Option<(u64, u64)>; 2],
 ) {
-    assert_eq!(rt; precincts_at(geom, comp, res), Some(size), "{comp} {res}");
+    equal_at(rt, &(comp, res), precincts_at(geom, comp, res), Some(size));
     let found = [point_at(geom, comp, res, 0), point_at(geom, comp, res, 1)];
-    assert_eq!(rt; found, points, "{comp} {res}");
+    equal_at(rt, &(comp, res), found, points);
 }
 
 #[test]
 fn two_components_with_offset(rt: HostRuntime) -> Result<(), Fail> {
     let first = two_components(rt.alloc(), 0)?;
-    assert_eq!(rt; first.tile(), rect((5, 24), (0, 16)));
-    assert_eq!(rt;
+    equal(&rt, first.tile(), rect((5, 24), (0, 16)));
+    equal(
+        &rt,
         band_at(&first, 0, 1, Band::HL),
-        Some(rect((2, 12), (0, 8)))
+        Some(rect((2, 12), (0, 8))),
     );
-    assert_eq!(rt;
+    equal(
+        &rt,
         band_at(&first, 0, 1, Band::LH),
-        Some(rect((3, 12), (0, 8)))
+        Some(rect((3, 12), (0, 8))),
     );
     for res in [0, 1] {
         let points = [Some((5, 0)), Some((16, 0))];
@@ -85,12 +88,18 @@ fn empty_parts(rt: HostRuntime) -> Result<(), Fail> {
         &[shape(255, 1, 2, (4, 4), WHOLE)],
     )?;
     for (res, band) in [(0, Band::LL), (1, Band::HL), (2, Band::HH)] {
-        assert_eq!(rt; band_at(&sparse, 0, res, band).map(area), Some(0), "{res}");
-        assert_eq!(rt; cells_at(&sparse, 0, res, band).map(area), Some(0), "{res}");
-        assert_eq!(rt;
+        equal_at(&rt, &res, band_at(&sparse, 0, res, band).map(area), Some(0));
+        equal_at(
+            &rt,
+            &res,
+            cells_at(&sparse, 0, res, band).map(area),
+            Some(0),
+        );
+        equal_at(
+            &rt,
+            &res,
             precincts_at(&sparse, 0, res).map(|n| n.0),
             Some(0),
-            "{res}"
         );
     }
     // Resolution 0 is empty, resolution 1 isn't.
@@ -100,9 +109,9 @@ fn empty_parts(rt: HostRuntime) -> Result<(), Fail> {
         0,
         &[shape(1, 1, 1, (4, 4), WHOLE)],
     )?;
-    assert_eq!(rt; precincts_at(&odd, 0, 0).map(|n| n.0), Some(0));
-    assert_eq!(rt; precincts_at(&odd, 0, 1), Some((1, 1)));
-    assert_eq!(rt; cells_at(&odd, 0, 1, Band::HL).map(area), Some(1));
+    equal(&rt, precincts_at(&odd, 0, 0).map(|n| n.0), Some(0));
+    equal(&rt, precincts_at(&odd, 0, 1), Some((1, 1)));
+    equal(&rt, cells_at(&odd, 0, 1, Band::HL).map(area), Some(1));
     // Resolution 1 has a place, its band HL has none.
     let even = geometry(
         rt.alloc(),
@@ -110,9 +119,9 @@ fn empty_parts(rt: HostRuntime) -> Result<(), Fail> {
         0,
         &[shape(1, 1, 1, (4, 4), WHOLE)],
     )?;
-    assert_eq!(rt; precincts_at(&even, 0, 1), Some((1, 1)));
+    equal(&rt, precincts_at(&even, 0, 1), Some((1, 1)));
     for band in [Band::HL, Band::LH, Band::HH] {
-        assert_eq!(rt; blocks_at(&even, 0, 1, band, 0).map(area), Some(0));
+        equal(&rt, blocks_at(&even, 0, 1, band, 0).map(area), Some(0));
     }
     Ok(())
 }
@@ -154,8 +163,8 @@ fn ends_of_the_ranges(rt: HostRuntime) -> Result<(), Fail> {
         if !canvas.is_in_range() || u64::from(tile) >= tiles(&canvas) || !comp.is_in_range() {
             return Err("out of range")?;
         }
-        assert_eq!(rt; count_blocks(&canvas, tile, &comp), blocks);
-        assert_eq!(rt; count_precincts(&canvas, tile, &comp), precincts);
+        equal(&rt, count_blocks(&canvas, tile, &comp), blocks);
+        equal(&rt, count_precincts(&canvas, tile, &comp), precincts);
     }
     Ok(())
 }

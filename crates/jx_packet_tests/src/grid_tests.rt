@@ -1,5 +1,6 @@
 //! The code-blocks of a band by their indices, compared with each one by its name.
 
+use crate::checks::{check_at, equal_at};
 use crate::geometries::{BANDS, WHOLE, geometry, has_band, has_block, has_resolution, shape};
 use jx_base::{Band, BlockName};
 use jx_geom::{Canvas, TileGeom};
@@ -26,12 +27,13 @@ fn compare_band(
             band,
             index,
         };
-        assert!(rt; has_block(geom, comp, res, band, index), "{name:?}");
-        assert_eq!(rt; grid.block(index), geom.block(&name), "{name:?}");
+        check_at(rt, &name, has_block(geom, comp, res, band, index));
+        equal_at(rt, &name, grid.block(index), geom.block(&name));
     }
-    assert!(rt;
+    check_at(
+        rt,
+        &(res, band),
         !has_block(geom, comp, res, band, grid.count()),
-        "{res} {band:?}"
     );
     Ok(grid.count())
 }
@@ -61,7 +63,7 @@ fn each_block_of_a_band(rt: HostRuntime) -> Result<(), Fail> {
                 }
             }
         }
-        assert_eq!(rt; blocks, wanted, "{tile}");
+        equal_at(&rt, &tile, blocks, wanted);
     }
     Ok(())
 }

@@ -4,6 +4,7 @@ ghost use Rattle.jx_head.specs.Precinct.{CellsInRange, cells_in};
 ghost use Rattle.jx_head.specs.Leafs.{leaf_of};
 ghost use Rattle.jx_head.specs.Writable.{AllFew, all_passes};
 
+use crate::checks::{check, equal};
 use jx_base::{Style, ends_segment, is_raw};
 use jx_head::{BandCells, HeadFault, Leaf, Part, Precinct, PrecinctOut};
 use jx_tagtree::BitWriter;
@@ -102,9 +103,9 @@ fn both_ways(
     layers: u16,
     leaves: Vec<Leaf>,
 ) -> Result<Vec<u8>, Fail> {
-    assert!(rt; in_range(bands));
-    assert!(rt; few(&leaves));
-    assert_eq!(rt; leaves.len(), blocks(bands));
+    check(rt, in_range(bands));
+    check(rt, few(&leaves));
+    equal(rt, leaves.len(), blocks(bands));
     let mut wanted = Vec::new(alloc);
     for layer in 0..layers {
         wanted.push(parts_of(alloc, &leaves, layer)?)?;
@@ -116,14 +117,14 @@ fn both_ways(
         let mut bytes = Vec::new(alloc);
         out.write_header(layer, &mut bytes)?;
         let written = bytes.len();
-        assert!(rt; written < 256);
+        check(rt, written < 256);
         headers.push(written as u8)?;
         headers.extend_from_slice(&bytes)?;
         bytes.push(0xff)?;
         let (parts, used) = precinct.read_header(layer, &bytes)?;
-        assert_eq!(rt; used, written);
-        assert!(rt; (layer as usize) < wanted.len());
-        assert_eq!(rt; parts.as_slice(), wanted[layer as usize].as_slice());
+        equal(rt, used, written);
+        check(rt, (layer as usize) < wanted.len());
+        equal(rt, parts.as_slice(), wanted[layer as usize].as_slice());
     }
     Ok(headers)
 }
@@ -142,15 +143,20 @@ fn worked_headers(rt: HostRuntime) -> Result<(), Fail> {
     let mut leaves = Vec::new(alloc);
     leaves.push(leaf(alloc, 0, &[(0, part(0, 0, 1, 2047))])?)?;
     let headers = both_ways(&rt, alloc, &[ONE], PLAIN, 1, leaves)?;
-    assert_eq!(rt; headers.as_slice(), [4, 0xef, 0xf7, 0xff, 0x00].as_slice());
+    equal(
+        &rt,
+        headers.as_slice(),
+        [4, 0xef, 0xf7, 0xff, 0x00].as_slice(),
+    );
     let two = BandCells { wide: 2, ..ONE };
     let mut leaves = Vec::new(alloc);
     leaves.push(leaf(alloc, 1, &[(0, part(0, 0, 2, 5))])?)?;
     leaves.push(leaf(alloc, 3, &[(1, part(1, 0, 4, 9))])?)?;
     let headers = both_ways(&rt, alloc, &[two], PLAIN, 2, leaves)?;
-    assert_eq!(rt;
+    equal(
+        &rt,
         headers.as_slice(),
-        [2, 0xee, 0x28, 2, 0xa7, 0x49].as_slice()
+        [2, 0xee, 0x28, 2, 0xa7, 0x49].as_slice(),
     );
     Ok(())
 }
@@ -230,7 +236,7 @@ fn first(
     bytes: &[u8],
 ) -> Result<(usize, usize), HeadFault> {
     let bands = [cells];
-    assert!(rt; in_range(&bands));
+    check(rt, in_range(&bands));
     match Precinct::new(alloc, &bands, PLAIN) {
         Ok(mut precinct) => {
             let (parts, used) = precinct.read_header(0, bytes)?;
@@ -264,33 +270,52 @@ fn refusals(rt: HostRuntime) -> Result<(), Fail> {
     let thin = BandCells { planes: 1, ..ONE };
     let third = BandCells { planes: 3, ..ONE };
     // It isn't empty, yet includes no block.
-    assert_eq!(rt; first(&rt, alloc, ONE, &[0x80]), Ok((0, 1)));
-    assert_eq!(rt; first(&rt, alloc, ONE, &[0x00]), Ok((0, 1)));
-    assert_eq!(rt; first(&rt, alloc, ONE, &[]), Err(HeadFault::Bits));
+    equal(&rt, first(&rt, alloc, ONE, &[0x80]), Ok((0, 1)));
+    equal(&rt, first(&rt, alloc, ONE, &[0x00]), Ok((0, 1)));
+    equal(&rt, first(&rt, alloc, ONE, &[]), Err(HeadFault::Bits));
     // Zero planes reach the band's planes.
-    assert_eq!(rt; first(&rt, alloc, flat, &[0xc0]), Err(HeadFault::Planes));
-    assert_eq!(rt; first(&rt, alloc, third, &[0xc0]), Err(HeadFault::Planes));
-    assert_eq!(rt; first(&rt, alloc, ONE, &[0xc0]), Err(HeadFault::Bits));
-    // Two passes in one plane.
-    assert_eq!(rt; first(&rt, alloc, thin, &[0xf0]), Err(HeadFault::Planes));
-    assert_eq!(rt; first(&rt, alloc, thin, &[0xe0, 0x00]), Ok((1, 1)));
-    // A stuffed bit is 1.
-    assert_eq!(rt; first(&rt, alloc, ONE, &[0xff, 0x80]), Err(HeadFault::Bits));
-    // A length may have leading zeros, and must be below 2^32.
-    assert_eq!(rt;
-        first(&rt, alloc, ONE, &wide_length(alloc, false)?),
-        Ok((1, 9))
+    equal(
+        &rt,
+        first(&rt, alloc, flat, &[0xc0]),
+        Err(HeadFault::Planes),
     );
-    assert_eq!(rt;
+    equal(
+        &rt,
+        first(&rt, alloc, third, &[0xc0]),
+        Err(HeadFault::Planes),
+    );
+    equal(&rt, first(&rt, alloc, ONE, &[0xc0]), Err(HeadFault::Bits));
+    // Two passes in one plane.
+    equal(
+        &rt,
+        first(&rt, alloc, thin, &[0xf0]),
+        Err(HeadFault::Planes),
+    );
+    equal(&rt, first(&rt, alloc, thin, &[0xe0, 0x00]), Ok((1, 1)));
+    // A stuffed bit is 1.
+    equal(
+        &rt,
+        first(&rt, alloc, ONE, &[0xff, 0x80]),
+        Err(HeadFault::Bits),
+    );
+    // A length may have leading zeros, and must be below 2^32.
+    equal(
+        &rt,
+        first(&rt, alloc, ONE, &wide_length(alloc, false)?),
+        Ok((1, 9)),
+    );
+    equal(
+        &rt,
         first(&rt, alloc, ONE, &wide_length(alloc, true)?),
-        Err(HeadFault::Bits)
+        Err(HeadFault::Bits),
     );
     let header = [0xef, 0xf7, 0xff, 0x00];
-    assert_eq!(rt; first(&rt, alloc, ONE, &header), Ok((1, 4)));
+    equal(&rt, first(&rt, alloc, ONE, &header), Ok((1, 4)));
     for end in 0..4 {
-        assert_eq!(rt;
+        equal(
+            &rt,
             first(&rt, alloc, ONE, &header[..end]),
-            Err(HeadFault::Bits)
+            Err(HeadFault::Bits),
         );
     }
     Ok(())
@@ -301,13 +326,13 @@ fn refusals(rt: HostRuntime) -> Result<(), Fail> {
 fn packets_that_include_nothing(rt: HostRuntime) -> Result<(), Fail> {
     let two = BandCells { wide: 2, ..ONE };
     let bands = [two];
-    assert!(rt; in_range(&bands));
+    check(&rt, in_range(&bands));
     let mut precinct = Precinct::new(rt.alloc(), &bands, PLAIN)?;
-    assert_eq!(rt; precinct.read_header(0, &[0x80])?.1, 1);
-    assert_eq!(rt; precinct.read_header(1, &[0x80])?.1, 1);
+    equal(&rt, precinct.read_header(0, &[0x80])?.1, 1);
+    equal(&rt, precinct.read_header(1, &[0x80])?.1, 1);
     let (parts, used) = precinct.read_header(2, &[0xf8, 0x00])?;
-    assert_eq!(rt; parts.as_slice(), [part(0, 0, 1, 0)].as_slice());
-    assert_eq!(rt; used, 2);
+    equal(&rt, parts.as_slice(), [part(0, 0, 1, 0)].as_slice());
+    equal(&rt, used, 2);
     Ok(())
 }
 
@@ -316,14 +341,15 @@ fn packets_that_include_nothing(rt: HostRuntime) -> Result<(), Fail> {
 fn too_many_passes_later(rt: HostRuntime) -> Result<(), Fail> {
     let thin = BandCells { planes: 1, ..ONE };
     let bands = [thin];
-    assert!(rt; in_range(&bands));
+    check(&rt, in_range(&bands));
     let mut precinct = Precinct::new(rt.alloc(), &bands, PLAIN)?;
     let (parts, used) = precinct.read_header(0, &[0xe0])?;
-    assert_eq!(rt; parts.as_slice(), [part(0, 0, 1, 0)].as_slice());
-    assert_eq!(rt; used, 1);
-    assert_eq!(rt;
+    equal(&rt, parts.as_slice(), [part(0, 0, 1, 0)].as_slice());
+    equal(&rt, used, 1);
+    equal(
+        &rt,
         precinct.read_header(1, &[0xc0]).err(),
-        Some(HeadFault::Planes)
+        Some(HeadFault::Planes),
     );
     Ok(())
 }
@@ -331,14 +357,14 @@ fn too_many_passes_later(rt: HostRuntime) -> Result<(), Fail> {
 #[test]
 fn zero_planes_are_told(rt: HostRuntime) -> Result<(), Fail> {
     let bands = [ONE];
-    assert!(rt; in_range(&bands));
-    assert_eq!(rt; blocks(&bands), 1);
+    check(&rt, in_range(&bands));
+    equal(&rt, blocks(&bands), 1);
     let mut precinct = Precinct::new(rt.alloc(), &bands, PLAIN)?;
-    assert_eq!(rt; precinct.zero(0), None);
+    equal(&rt, precinct.zero(0), None);
     let (parts, used) = precinct.read_header(0, &[0xc0, 0x21])?;
-    assert_eq!(rt; parts.as_slice(), [part(0, 0, 1, 1)].as_slice());
-    assert_eq!(rt; used, 2);
-    assert_eq!(rt; precinct.zero(0), Some(8));
+    equal(&rt, parts.as_slice(), [part(0, 0, 1, 1)].as_slice());
+    equal(&rt, used, 2);
+    equal(&rt, precinct.zero(0), Some(8));
     Ok(())
 }
 
@@ -346,10 +372,10 @@ fn zero_planes_are_told(rt: HostRuntime) -> Result<(), Fail> {
 fn segments_with_bypass(rt: HostRuntime) {
     let bypass = Style { bits: 1 };
     for pass in 0..13 {
-        assert_eq!(rt; is_raw(bypass, pass), pass == 10 || pass == 11);
-        assert_eq!(rt; ends_segment(bypass, pass), pass == 9 || pass >= 11);
-        assert!(rt; !is_raw(Style { bits: 4 }, pass));
-        assert!(rt; ends_segment(Style { bits: 4 }, pass));
-        assert!(rt; !ends_segment(PLAIN, pass));
+        equal(&rt, is_raw(bypass, pass), pass == 10 || pass == 11);
+        equal(&rt, ends_segment(bypass, pass), pass == 9 || pass >= 11);
+        check(&rt, !is_raw(Style { bits: 4 }, pass));
+        check(&rt, ends_segment(Style { bits: 4 }, pass));
+        check(&rt, !ends_segment(PLAIN, pass));
     }
 }

@@ -1,5 +1,6 @@
 //! A long comment, put behind many bytes.
 
+use crate::checks::{check, equal};
 use jx_marker::{Segment, put_segment, read_segment};
 use std::process::Abort;
 use std::test::Fail;
@@ -19,13 +20,13 @@ fn a_long_comment_behind_many_bytes(rt: HostRuntime) -> Result<(), Fail> {
     for i in 0..TEXT {
         bytes.push((i % 251) as u8)?;
     }
-    assert!(rt; bytes.len() > BEFORE);
+    check(&rt, bytes.len() > BEFORE);
     let (segment, end) = read_segment(alloc, &bytes, BEFORE, 1)?;
-    assert_eq!(rt; end, BEFORE + 6 + TEXT);
+    equal(&rt, end, BEFORE + 6 + TEXT);
     let is_comment = matches!(&segment, Segment::Com(_));
-    assert!(rt; is_comment);
+    check(&rt, is_comment);
     let mut out = vec![in alloc; 0x5A_u8; BEFORE]?;
     put_segment(&segment, 1, &mut out)?;
-    assert!(rt; out.as_slice() == bytes.as_slice());
+    check(&rt, out.as_slice() == bytes.as_slice());
     Ok(())
 }

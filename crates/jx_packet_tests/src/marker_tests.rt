@@ -2,7 +2,8 @@ mod rows;
 
 ghost use Rattle.jx_marker.specs.Ranges.{InRange};
 
-use jx_marker::{CompSize, Progression, Rule, Segment, eph, put_segment, read_segment, sop};
+use crate::checks::{check, equal, equal_at};
+use jx_marker::{CompSize, Progression, Rule, Segment, Shape, eph, put_segment, read_segment, sop};
 use std::alloc::{AllocError, Global};
 use std::process::Abort;
 use std::test::Fail;
@@ -90,14 +91,14 @@ fn check_rows(rt: &impl Abort, alloc: Global, text: &str) -> Result<(), Fail> {
         let want = words.next().ok_or("rule")?.parse::<u8>()?;
         let bytes = bytes_of(alloc, hex)?;
         let found = outcome(alloc, bytes.as_slice(), 0, bytes.len(), comps);
-        assert_eq!(rt; found, want, "{line}");
+        equal_at(rt, &line, found, want);
         if want == 0 {
             let mut longer = bytes_of(alloc, "12")?;
             longer.extend_from_slice(bytes.as_slice())?;
             let end = longer.len();
             longer.extend_from_slice(bytes.as_slice())?;
             let found = outcome(alloc, longer.as_slice(), 1, end, comps);
-            assert_eq!(rt; found, 0, "with others: {line}");
+            equal_at(rt, &line, found, 0);
         }
     }
     Ok(())
@@ -151,10 +152,11 @@ fn many_components(rt: HostRuntime) -> Result<(), Fail> {
     let alloc = rt.alloc();
     for (count, want) in [(256, 0), (257, 0), (16384, 0), (16385, 4), (21832, 4)] {
         let bytes = siz_of(alloc, count)?;
-        assert_eq!(rt;
+        equal_at(
+            &rt,
+            &count,
             outcome(alloc, bytes.as_slice(), 0, bytes.len(), 0),
             want,
-            "{count} components"
         );
     }
     Ok(())
@@ -168,75 +170,79 @@ fn read(alloc: Global, text: &str, comps: u16) -> Result<Segment, Fail> {
 
 // Fields by their values, as the standard's tables have them.
 #[test]
-fn coding_fields(rt: HostRuntime) -> Result<(), Fail> {
-    let alloc = rt.alloc();
-    let Segment::Cod(cod) = read(alloc, "FF52_000E_05_04_0002_01_01_03_05_28_01_00_98", 3)? else {
-        return Err("COD")?;
-    };
-    assert!(rt; !cod.sop && cod.eph);
-    assert_eq!(rt; (cod.order, cod.layers, cod.transform), (4, 2, 1));
-    let shape = cod.shape;
-    assert_eq!(rt;
-        (
-            shape.levels,
-            shape.xcb,
-            shape.ycb,
-            shape.style,
-            shape.wavelet
-        ),
-        (1, 5, 7, 0x28, 1)
-    );
-    assert_eq!(rt; shape.precincts.as_slice(), [0x00, 0x98].as_slice());
-    let Segment::Coc { comp, shape } = read(alloc, "FF53_000A_0102_00_02_04_03_01_00", 300)? else {
-        return Err("COC")?;
-    };
-    assert_eq!(rt;
-        (
-            comp,
-            shape.levels,
-            shape.xcb,
-            shape.ycb,
-            shape.style,
-            shape.wavelet
-        ),
-        (258, 2, 6, 5, 1, 0)
-    );
-    Ok(())
-}
-
-fn expect_siz(rt: &impl Abort, alloc: Global) -> Result<(), Fail> {
+fn fields_of_siz(rt: HostRuntime) -> Result<(), Fail> {
     let text =
         "FF51_002C_1234_00000101_00000202_00000003_00000004_00000105_00000206_00000001_00000002_0002_070101_8B0203";
-    let Segment::Siz(siz) = read(alloc, text, 0)? else {
+    let Segment::Siz(siz) = read(rt.alloc(), text, 0)? else {
         return Err("SIZ")?;
     };
-    assert_eq!(rt;
+    equal(
+        &rt,
         (siz.rsiz, siz.x1, siz.y1, siz.x0, siz.y0),
-        (0x1234, 0x101, 0x202, 3, 4)
+        (0x1234, 0x101, 0x202, 3, 4),
     );
-    assert_eq!(rt; (siz.tw, siz.th, siz.tx, siz.ty), (0x105, 0x206, 1, 2));
+    equal(&rt, (siz.tw, siz.th, siz.tx, siz.ty), (0x105, 0x206, 1, 2));
     let last = CompSize {
         ssiz: 0x8B,
         dx: 2,
         dy: 3,
     };
-    assert_eq!(rt; siz.comps.as_slice().last().copied(), Some(last));
+    equal(&rt, siz.comps.as_slice().last().copied(), Some(last));
     Ok(())
 }
 
 #[test]
-fn other_fields(rt: HostRuntime) -> Result<(), Fail> {
-    let alloc = rt.alloc();
-    expect_siz(&rt, alloc)?;
-    let Segment::Qcc { comp, quant } = read(alloc, "FF5D_000A_02_41_4801_4902_4A03", 3)? else {
+fn fields_of_cod(rt: HostRuntime) -> Result<(), Fail> {
+    let text = "FF52_000E_05_04_0002_01_01_03_05_28_01_00_98";
+    let Segment::Cod(cod) = read(rt.alloc(), text, 3)? else {
+        return Err("COD")?;
+    };
+    check(&rt, !cod.sop && cod.eph);
+    equal(&rt, (cod.order, cod.layers, cod.transform), (4, 2, 1));
+    are_fields_of(&rt, &cod.shape, (1, 5, 7, 0x28, 1));
+    equal(&rt, cod.shape.precincts.as_slice(), [0x00, 0x98].as_slice());
+    Ok(())
+}
+
+#[test]
+fn fields_of_coc(rt: HostRuntime) -> Result<(), Fail> {
+    let text = "FF53_000A_0102_00_02_04_03_01_00";
+    let Segment::Coc { comp, shape } = read(rt.alloc(), text, 300)? else {
+        return Err("COC")?;
+    };
+    equal(&rt, comp, 258);
+    are_fields_of(&rt, &shape, (2, 6, 5, 1, 0));
+    Ok(())
+}
+
+// Levels, both exponents of a code-block, style and wavelet.
+fn are_fields_of(rt: &impl Abort, shape: &Shape, want: (u8, u8, u8, u8, u8)) {
+    let found = (
+        shape.levels,
+        shape.xcb,
+        shape.ycb,
+        shape.style,
+        shape.wavelet,
+    );
+    equal(rt, found, want);
+}
+
+#[test]
+fn fields_of_qcc(rt: HostRuntime) -> Result<(), Fail> {
+    let text = "FF5D_000A_02_41_4801_4902_4A03";
+    let Segment::Qcc { comp, quant } = read(rt.alloc(), text, 3)? else {
         return Err("QCC")?;
     };
-    assert_eq!(rt; (comp, quant.sqcd), (2, 0x41));
-    assert_eq!(rt;
-        quant.entries.as_slice(),
-        [0x4801, 0x4902, 0x4A03].as_slice()
-    );
-    let Segment::Poc(entries) = read(alloc, "FF5F_000B_01_0002_0304_05_0106_03", 300)? else {
+    equal(&rt, (comp, quant.sqcd), (2, 0x41));
+    let want = [0x4801, 0x4902, 0x4A03];
+    equal(&rt, quant.entries.as_slice(), want.as_slice());
+    Ok(())
+}
+
+#[test]
+fn fields_of_poc(rt: HostRuntime) -> Result<(), Fail> {
+    let text = "FF5F_000B_01_0002_0304_05_0106_03";
+    let Segment::Poc(entries) = read(rt.alloc(), text, 300)? else {
         return Err("POC")?;
     };
     let entry = Progression {
@@ -247,20 +253,27 @@ fn other_fields(rt: HostRuntime) -> Result<(), Fail> {
         ce: 0x106,
         order: 3,
     };
-    assert_eq!(rt; entries.as_slice().first().copied(), Some(entry));
-    let Segment::Sot(sot) = read(alloc, "FF90_000A_0102_00030405_06_07", 3)? else {
+    equal(&rt, entries.as_slice().first().copied(), Some(entry));
+    Ok(())
+}
+
+#[test]
+fn fields_of_sot(rt: HostRuntime) -> Result<(), Fail> {
+    let text = "FF90_000A_0102_00030405_06_07";
+    let Segment::Sot(sot) = read(rt.alloc(), text, 3)? else {
         return Err("SOT")?;
     };
-    assert_eq!(rt;
+    equal(
+        &rt,
         (sot.tile, sot.psot, sot.part, sot.parts),
-        (0x102, 0x30405, 6, 7)
+        (0x102, 0x30405, 6, 7),
     );
     Ok(())
 }
 
 #[test]
 fn marks_of_packets(rt: HostRuntime) {
-    assert_eq!(rt; sop(0x1234), [0xFF, 0x91, 0, 4, 0x12, 0x34]);
-    assert_eq!(rt; sop(0xFFFF), [0xFF, 0x91, 0, 4, 0xFF, 0xFF]);
-    assert_eq!(rt; eph(), [0xFF, 0x92]);
+    equal(&rt, sop(0x1234), [0xFF, 0x91, 0, 4, 0x12, 0x34]);
+    equal(&rt, sop(0xFFFF), [0xFF, 0x91, 0, 4, 0xFF, 0xFF]);
+    equal(&rt, eph(), [0xFF, 0x92]);
 }

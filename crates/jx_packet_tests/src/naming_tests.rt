@@ -1,5 +1,6 @@
 //! From the names of a tile's precincts and code-blocks to their numbers, and back.
 
+use crate::checks::{check_at, equal, equal_at};
 use crate::geometries::{
     BANDS, WHOLE, geometry, has_band, has_block, has_precinct, has_resolution, shape,
 };
@@ -48,12 +49,12 @@ fn compare_blocks(
             index,
         };
         let own = geom.block_number(&name);
-        assert_eq!(rt; own, number, "{name:?}");
-        assert_eq!(rt; geom.block_name(own), name, "{own}");
+        equal_at(rt, &name, own, number);
+        equal_at(rt, &own, geom.block_name(own), name);
         let place = geom.leaf(&name);
-        assert!(rt; holds(geom, &name, place.precinct), "{name:?}");
+        check_at(rt, &name, holds(geom, &name, place.precinct));
         let leaves = geom.leaves(comp, res, place.precinct);
-        assert_eq!(rt; leaves.number(place.leaf), own as usize, "{name:?}");
+        equal_at(rt, &name, leaves.number(place.leaf), own as usize);
         number = number.saturating_add(1);
     }
     Ok(number)
@@ -73,13 +74,13 @@ fn compare_precincts(
             break;
         }
         let own = geom.precinct_number(comp, res, precinct);
-        assert_eq!(rt; own, number, "{comp} {res} {precinct}");
+        equal_at(rt, &(comp, res, precinct), own, number);
         let name = PrecinctName {
             comp,
             res,
             precinct,
         };
-        assert_eq!(rt; geom.precinct_name(own), name, "{own}");
+        equal_at(rt, &own, geom.precinct_name(own), name);
         number = number.saturating_add(1);
     }
     Ok(number)
@@ -122,8 +123,8 @@ fn there_and_back(rt: HostRuntime) -> Result<(), Fail> {
         shape(2, 1, 1, (2, 3), WHOLE),
     ];
     let first = geometry(rt.alloc(), &canvas, 0, &comps)?;
-    assert_eq!(rt; compare_tile(&rt, &first)?, (59, 16));
+    equal(&rt, compare_tile(&rt, &first)?, (59, 16));
     let second = geometry(rt.alloc(), &canvas, 1, &comps)?;
-    assert_eq!(rt; compare_tile(&rt, &second)?, (50, 16));
+    equal(&rt, compare_tile(&rt, &second)?, (50, 16));
     Ok(())
 }

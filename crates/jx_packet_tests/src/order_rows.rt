@@ -2,6 +2,7 @@
 
 ghost use Rattle.std.specs.Prelude.{◌≤◌};
 
+use crate::checks::check_at;
 use crate::geometries::{WHOLE, geometry, shape};
 use jx_geom::{Canvas, TileGeom};
 use jx_marker::Progression;
@@ -72,7 +73,7 @@ fn all_components_have_packets(rt: HostRuntime) -> Result<(), Fail> {
     ] {
         let found = ends(rt.alloc(), &geom, order)?;
         let want = (name(0, 0, 0), second, name(2, 1, 16_383), 98_304);
-        assert!(rt; found == want, "order {order}");
+        check_at(&rt, &order, found == want);
     }
     Ok(())
 }

@@ -3,6 +3,7 @@
 ghost use Rattle.std.specs.Prelude.{◌≤◌, IsTrue};
 ghost use Rattle.std.specs.List.{All};
 
+use crate::checks::equal;
 use crate::geometries::{WHOLE, geometry, two_components};
 use jx_geom::{Canvas, CompShape, TileGeom};
 use jx_marker::Progression;
@@ -67,7 +68,7 @@ fn all(order: u8) -> Progression {
 
 fn expect_list(rt: &impl Abort, answer: &Result<Vec<PacketName>, OrderFault>, want: &[PacketName]) {
     match answer {
-        Ok(list) => assert_eq!(rt; list.as_slice(), want),
+        Ok(list) => equal(rt, list.as_slice(), want),
         Err(_) => assert!(rt; false, "uncovered"),
     }
 }
@@ -75,7 +76,7 @@ fn expect_list(rt: &impl Abort, answer: &Result<Vec<PacketName>, OrderFault>, wa
 fn expect_uncovered(rt: &impl Abort, answer: &Result<Vec<PacketName>, OrderFault>) {
     match answer {
         Ok(_) => assert!(rt; false, "covered"),
-        Err(fault) => assert_eq!(rt; *fault, OrderFault::Uncovered),
+        Err(fault) => equal(rt, *fault, OrderFault::Uncovered),
     }
 }
 
@@ -294,7 +295,7 @@ fn wide_tile(rt: HostRuntime) -> Result<(), Fail> {
     let geom = geometry(rt.alloc(), &square(60_000), 0, &comps)?;
     for order in [0, 1, 2, 3, 4] {
         match list(rt.alloc(), &geom, 3, &[all(order)])? {
-            Ok(names) => assert_eq!(rt; names.len(), 24),
+            Ok(names) => equal(&rt, names.len(), 24),
             Err(_) => assert!(&rt; false, "uncovered"),
         }
     }
@@ -309,11 +310,11 @@ fn many_packets(rt: HostRuntime) -> Result<(), Fail> {
     // The second entry begins behind a long list.
     match list(rt.alloc(), &geom, 4, &[entry(3, 3, 33, 0), all(0)])? {
         Ok(names) => {
-            assert_eq!(rt; names.len(), 262_144);
-            assert_eq!(rt; names[0], name(0, 0, 0, 0));
-            assert_eq!(rt; names[196_607], name(2, 0, 0, 65_535));
-            assert_eq!(rt; names[196_608], name(3, 0, 0, 0));
-            assert_eq!(rt; names[262_143], name(3, 0, 0, 65_535));
+            equal(&rt, names.len(), 262_144);
+            equal(&rt, names[0], name(0, 0, 0, 0));
+            equal(&rt, names[196_607], name(2, 0, 0, 65_535));
+            equal(&rt, names[196_608], name(3, 0, 0, 0));
+            equal(&rt, names[262_143], name(3, 0, 0, 65_535));
         }
         Err(_) => assert!(&rt; false, "uncovered"),
     }

@@ -1,5 +1,6 @@
 //! All of small tiles, compared with a plain count of places.
 
+use crate::checks::{check, equal_at};
 use crate::geometries::{
     BANDS, WHOLE, area, band_at, block_at, blocks_at, cells_at, geometry, has_band, precincts_at,
     shape,
@@ -129,33 +130,35 @@ fn compare_band(
 ) -> Result<(), Fail> {
     let (places, cells) = plain.counts(res, Some(band), plain.exponents(res)[2]);
     let rect = band_at(geom, 0, res, band).ok_or("no band")?;
-    assert_eq!(rt; area(rect), places, "{res} {band:?}");
+    equal_at(rt, &(res, band), area(rect), places);
     for y in 0..SIDE {
         for x in 0..SIDE {
-            assert_eq!(rt;
+            equal_at(
+                rt,
+                &(res, band, x, y),
                 holds(rect, x, y),
                 plain.has_band_place(res, band, x, y),
-                "{res} {band:?} {x} {y}"
             );
         }
     }
-    assert_eq!(rt;
+    equal_at(
+        rt,
+        &(res, band),
         cells_at(geom, 0, res, band).map(area),
         Some(cells),
-        "{res} {band:?}"
     );
     let mut in_blocks = 0u64;
     for index in 0..1024 {
         in_blocks = in_blocks.saturating_add(block_at(geom, 0, res, band, index).map_or(0, area));
     }
-    assert_eq!(rt; in_blocks, places, "{res} {band:?}");
+    equal_at(rt, &(res, band), in_blocks, places);
     let mut in_precincts = 0u64;
     for precinct in 0..1024 {
         in_precincts = in_precincts.saturating_add(blocks_at(geom, 0, res, band, precinct).map_or(
             0, area,
         ));
     }
-    assert_eq!(rt; in_precincts, cells, "{res} {band:?}");
+    equal_at(rt, &(res, band), in_precincts, cells);
     Ok(())
 }
 
@@ -165,7 +168,7 @@ fn compare(rt: &impl Abort, alloc: Global, plain: &Plain) -> Result<(), Fail> {
     for res in 0..plain.comp.levels.min(32) + 1 {
         let (_, precincts) = plain.counts(res, None, plain.exponents(res)[0]);
         let (columns, rows) = precincts_at(&geom, 0, res).ok_or("no resolution")?;
-        assert_eq!(rt; u64::from(columns) * u64::from(rows), precincts, "{res}");
+        equal_at(rt, &res, u64::from(columns) * u64::from(rows), precincts);
         for band in BANDS {
             if has_band(res, band) {
                 compare_band(rt, plain, &geom, res, band)?;
@@ -203,7 +206,7 @@ fn plain_counts_on_small_canvases(rt: HostRuntime) -> Result<(), Fail> {
             };
             for comp in shapes {
                 for tile in 0..2 {
-                    assert!(rt; canvas.is_in_range());
+                    check(&rt, canvas.is_in_range());
                     if u64::from(tile) < tiles(&canvas) {
                         compare(&rt, rt.alloc(), &Plain { canvas, tile, comp })?;
                     }

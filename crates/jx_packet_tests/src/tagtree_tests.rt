@@ -2,6 +2,7 @@
 ghost use Rattle.std.specs.Prelude.{◌≡◌, ◌*◌, ◌<◌, length};
 ghost use Rattle.jx_tagtree.specs.Shape.{IsShape};
 
+use crate::checks::{check, equal};
 use jx_tagtree::{BitFault, BitReader, BitWriter, TagReader, TagWriter};
 use std::alloc::Global;
 use std::process::Abort;
@@ -31,22 +32,24 @@ fn end_after(bytes: &[u8], bits: u32) -> Result<usize, BitFault> {
 
 #[test]
 fn bits_are_read(rt: HostRuntime) {
-    assert_eq!(rt;
+    equal(
+        &rt,
         ones(&[0xff, 0x80]),
-        (8, Some(BitFault::Stuffed), Some(BitFault::Stuffed))
+        (8, Some(BitFault::Stuffed), Some(BitFault::Stuffed)),
     );
-    assert_eq!(rt;
+    equal(
+        &rt,
         ones(&[0xff]),
-        (8, Some(BitFault::Ended), Some(BitFault::Ended))
+        (8, Some(BitFault::Ended), Some(BitFault::Ended)),
     );
-    assert_eq!(rt; ones(&[0xff, 0x7f, 0xe0]), (18, None, None));
-    assert_eq!(rt; end_after(&[0xff, 0x00], 8), Ok(2));
-    assert_eq!(rt; end_after(&[0xff], 8), Err(BitFault::Ended));
-    assert_eq!(rt; end_after(&[0xff, 0x80], 3), Err(BitFault::Stuffed));
-    assert_eq!(rt; end_after(&[0x12, 0x34], 0), Ok(0));
-    assert_eq!(rt; end_after(&[0x12, 0x34], 8), Ok(1));
-    assert_eq!(rt; end_after(&[0x12, 0x34], 9), Ok(2));
-    assert_eq!(rt; end_after(&[0x12, 0x34], 17), Err(BitFault::Ended));
+    equal(&rt, ones(&[0xff, 0x7f, 0xe0]), (18, None, None));
+    equal(&rt, end_after(&[0xff, 0x00], 8), Ok(2));
+    equal(&rt, end_after(&[0xff], 8), Err(BitFault::Ended));
+    equal(&rt, end_after(&[0xff, 0x80], 3), Err(BitFault::Stuffed));
+    equal(&rt, end_after(&[0x12, 0x34], 0), Ok(0));
+    equal(&rt, end_after(&[0x12, 0x34], 8), Ok(1));
+    equal(&rt, end_after(&[0x12, 0x34], 9), Ok(2));
+    equal(&rt, end_after(&[0x12, 0x34], 17), Err(BitFault::Ended));
 }
 
 #[test]
@@ -67,7 +70,7 @@ fn bits_are_written(rt: HostRuntime) -> Result<(), Fail> {
             writer.bit(false)?;
         }
         let written = writer.finish()?;
-        assert_eq!(rt; written.as_slice(), bytes);
+        equal(&rt, written.as_slice(), bytes);
     }
     Ok(())
 }
@@ -87,7 +90,7 @@ fn written(
     let mut tree = TagWriter::new(alloc, wide, high, leaves)?;
     let mut writer = BitWriter::new(alloc);
     for (leaf, threshold) in queries {
-        assert!(rt; *leaf < wide * high);
+        check(rt, *leaf < wide * high);
         tree.reach(*leaf, *threshold, &mut writer)?;
     }
     Ok(writer.finish()?)
@@ -107,15 +110,15 @@ fn both_ways(
     requires leaves { length leaves.now ≡ wide * high }
 {
     let found = written(rt, alloc, wide, high, leaves, queries)?;
-    assert_eq!(rt; found.as_slice(), bytes);
+    equal(rt, found.as_slice(), bytes);
     let mut tree = TagReader::new(alloc, wide, high)?;
     let mut reader = BitReader::new(bytes);
     for (leaf, threshold) in queries {
-        assert!(rt; *leaf < wide * high);
+        check(rt, *leaf < wide * high);
         let below = tree.reach(*leaf, *threshold, &mut reader);
-        assert_eq!(rt; below, Ok(leaves[*leaf as usize] < *threshold));
+        equal(rt, below, Ok(leaves[*leaf as usize] < *threshold));
     }
-    assert_eq!(rt; reader.finish(), Ok(bytes.len()));
+    equal(rt, reader.finish(), Ok(bytes.len()));
     Ok(())
 }
 
@@ -170,7 +173,7 @@ fn other_trees(rt: HostRuntime) -> Result<(), Fail> {
 #[test]
 fn a_large_tree(rt: HostRuntime) -> Result<(), Fail> {
     let leaves = vec![in rt.alloc(); 1; 1_048_576]?;
-    assert_eq!(rt; leaves.len(), 1_048_576);
+    equal(&rt, leaves.len(), 1_048_576);
     both_ways(
         &rt,
         rt.alloc(),
@@ -185,7 +188,7 @@ fn a_large_tree(rt: HostRuntime) -> Result<(), Fail> {
 #[test]
 fn a_high_tree(rt: HostRuntime) -> Result<(), Fail> {
     let leaves = vec![in rt.alloc(); 1; 2048]?;
-    assert_eq!(rt; leaves.len(), 2048);
+    equal(&rt, leaves.len(), 2048);
     both_ways(
         &rt,
         rt.alloc(),

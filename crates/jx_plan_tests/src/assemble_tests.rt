@@ -12,6 +12,7 @@ ghost use Rattle.jx_plan.specs.Plan.{MayBePlanned};
 ghost use Rattle.jx_plan.specs.Wanted.{MayBeWanted};
 ghost use Rattle.jx_assemble.specs.Tile.{AreMade, AreValuesOf, block_written, made_in};
 
+use crate::checks::check;
 use jx_assemble::{AssembleFault, TileOut, assemble_tile, main_header, main_view, pack_tile};
 use jx_base::{Block, NoMemory};
 use jx_block::{Job, Recoded, recode};
@@ -221,20 +222,20 @@ fn smallest_tile(rt: HostRuntime) {
     let none = with_marks(rt.alloc(), PartChoice::None, false, false, false).expect(&rt, "memory");
     let all = with_marks(rt.alloc(), PartChoice::None, true, true, true).expect(&rt, "memory");
     let (main, long) = kept(rt.alloc(), &file, &none, 14, Form::Parts).expect(&rt, "a plan");
-    assert!(rt; main.as_slice() == &file[0..65]);
-    assert!(rt; matches!(long, Err(AssembleFault::TooLong)));
+    check(&rt, main.as_slice() == &file[0..65]);
+    check(&rt, matches!(long, Err(AssembleFault::TooLong)));
     let (_, bare) = kept(rt.alloc(), &file, &none, 15, Form::Parts).expect(&rt, "a plan");
     let bare = bare.ok().expect(&rt, "a tile");
-    assert!(rt; bare.len() == 1);
-    assert!(rt; bare[0].as_slice() == &file[65..80]);
+    check(&rt, bare.len() == 1);
+    check(&rt, bare[0].as_slice() == &file[65..80]);
     let (main, marked) = kept(rt.alloc(), &file, &all, 29, Form::Parts).expect(&rt, "a plan");
-    assert!(rt; main.len() == 65);
-    assert!(rt; main[49] == 6);
+    check(&rt, main.len() == 65);
+    check(&rt, main[49] == 6);
     let marked = marked.ok().expect(&rt, "a tile");
-    assert!(rt; marked.len() == 1);
+    check(&rt, marked.len() == 1);
     let want = [
         0xFF, 0x90, 0, 10, 0, 0, 0, 0, 0, 29, 0, 1, 0xFF, 0x58, 0, 4, 0, 9, 0xFF, 0x93, 0xFF, 0x91,
         0, 4, 0, 0, 0, 0xFF, 0x92,
     ];
-    assert!(rt; marked[0].as_slice() == want.as_slice());
+    check(&rt, marked[0].as_slice() == want.as_slice());
 }

@@ -3,6 +3,7 @@
 ghost use Rattle.std.specs.Prelude.{IfOk, IfSome};
 ghost use Rattle.jx_plan.specs.Wanted.{MayBeStyle, MayBeWanted};
 
+use crate::checks::equal;
 use crate::hex::bytes_of;
 use crate::plan_tests::TILES;
 use crate::planned::{by_planner, fault_in, joiner, keeper, options_of, seen_in};
@@ -99,12 +100,12 @@ fn precincts_that_fit_and_others(rt: HostRuntime) -> Result<(), Fail> {
             Some((number, place)) => Some(PlanFault::Choice { number, place }),
             None => None,
         };
-        assert_eq!(rt; by_rule, unfit);
+        equal(&rt, by_rule, unfit);
         let unserved = PlanFault::Choice {
             number: 6,
             place: 0,
         };
-        assert_eq!(rt; ruleless, Some(unfit.unwrap_or(unserved)));
+        equal(&rt, ruleless, Some(unfit.unwrap_or(unserved)));
     }
     Ok(())
 }
@@ -138,12 +139,12 @@ fn causal_bits_within_a_plane(rt: HostRuntime) -> Result<(), Fail> {
             Some((number, place)) => Some(PlanFault::Choice { number, place }),
             None => None,
         };
-        assert_eq!(rt; by_rule, unfit);
+        equal(&rt, by_rule, unfit);
         let unserved = PlanFault::Choice {
             number: 6,
             place: 0,
         };
-        assert_eq!(rt; ruleless, Some(unfit.unwrap_or(unserved)));
+        equal(&rt, ruleless, Some(unfit.unwrap_or(unserved)));
     }
     Ok(())
 }
@@ -165,11 +166,11 @@ fn styles_of_jobs(rt: HostRuntime) -> Result<(), Fail> {
     let alloc = rt.alloc();
     let causal = Some(Style { bits: 0x08 });
     let styles = job_styles(alloc, FOUR, causal)?;
-    assert_eq!(rt; styles.as_slice(), [causal].as_slice());
+    equal(&rt, styles.as_slice(), [causal].as_slice());
     let styles = job_styles(alloc, THREE, Some(Style { bits: 0 }))?;
-    assert_eq!(rt; styles.as_slice(), [None].as_slice());
+    equal(&rt, styles.as_slice(), [None].as_slice());
     let styles = job_styles(alloc, THREE, None)?;
-    assert_eq!(rt; styles.as_slice(), [None].as_slice());
+    equal(&rt, styles.as_slice(), [None].as_slice());
     Ok(())
 }
 
@@ -217,10 +218,10 @@ fn too_many_tile_parts(rt: HostRuntime) -> Result<(), Fail> {
     let options = by_layer(alloc, "keep")?;
     let mut planner = keeper(alloc)?;
     let fault = fault_in(by_planner(alloc, &file, &options, &mut planner));
-    assert_eq!(rt; fault, Some(parted));
+    equal(&rt, fault, Some(parted));
     let options = by_layer(alloc, "one")?;
     let mut planner = joiner(alloc)?;
     let seen = seen_in(by_planner(alloc, &file, &options, &mut planner))?;
-    assert_eq!(rt; seen.layers, 1);
+    equal(&rt, seen.layers, 1);
     Ok(())
 }

@@ -3,6 +3,7 @@
 ghost use Rattle.std.specs.Prelude.{IfOk, IfSome};
 ghost use Rattle.jx_plan.specs.Wanted.{MayBeStyle, MayBeWanted};
 
+use crate::checks::equal;
 use crate::hex::bytes_of;
 use crate::planned::{by_planner, seen_in};
 use jx_base::Style;
@@ -141,18 +142,18 @@ fn written(alloc: Global, options: &Options) -> Result<Stream, Fail>
 fn headers_in_two_parts(rt: HostRuntime) -> Result<(), Fail> {
     let alloc = rt.alloc();
     let stream = written(alloc, &with_style(alloc, CUTS, None)?)?;
-    assert_eq!(rt; stream.siz.rsiz, 0);
+    equal(&rt, stream.siz.rsiz, 0);
     let main = stream.main.as_slice();
-    assert_eq!(rt; codes(alloc, main)?.as_slice(), b"CQa".as_slice());
-    assert_eq!(rt; cod_of(main), Some((true, false, 2, 3)));
-    assert_eq!(rt; stream.tiles.as_slice().len(), 1);
+    equal(&rt, codes(alloc, main)?.as_slice(), b"CQa".as_slice());
+    equal(&rt, cod_of(main), Some((true, false, 2, 3)));
+    equal(&rt, stream.tiles.as_slice().len(), 1);
     for tile in stream.tiles.as_slice() {
         let header = tile.header.as_slice();
-        assert_eq!(rt; codes(alloc, header)?.as_slice(), b"Obc".as_slice());
-        assert_eq!(rt; tile.notes.as_slice().len(), 0);
-        assert_eq!(rt; tile.progressions.as_slice().len(), 1);
+        equal(&rt, codes(alloc, header)?.as_slice(), b"Obc".as_slice());
+        equal(&rt, tile.notes.as_slice().len(), 0);
+        equal(&rt, tile.progressions.as_slice().len(), 1);
         for entry in tile.progressions.as_slice() {
-            assert_eq!(rt; (entry.lye, entry.re, entry.order), (3, 33, 2));
+            equal(&rt, (entry.lye, entry.re, entry.order), (3, 33, 2));
         }
     }
     Ok(())
@@ -163,13 +164,21 @@ fn order_and_precincts_of_headers(rt: HostRuntime) -> Result<(), Fail> {
     let alloc = rt.alloc();
     let stream = written(alloc, &with_precincts(alloc, CUTS, &[0x67, 0x55])?)?;
     let main = stream.main.as_slice();
-    assert_eq!(rt; cod_of(main), Some((true, false, 4, 3)));
-    assert_eq!(rt; precincts_of(alloc, main)?.as_slice(), [0x67].as_slice());
+    equal(&rt, cod_of(main), Some((true, false, 4, 3)));
+    equal(
+        &rt,
+        precincts_of(alloc, main)?.as_slice(),
+        [0x67].as_slice(),
+    );
     for tile in stream.tiles.as_slice() {
         let header = tile.header.as_slice();
-        assert_eq!(rt; precincts_of(alloc, header)?.as_slice(), [0x67].as_slice());
+        equal(
+            &rt,
+            precincts_of(alloc, header)?.as_slice(),
+            [0x67].as_slice(),
+        );
         for entry in tile.progressions.as_slice() {
-            assert_eq!(rt; entry.order, 4);
+            equal(&rt, entry.order, 4);
         }
     }
     Ok(())
@@ -194,10 +203,10 @@ fn style_of_headers(rt: HostRuntime) -> Result<(), Fail> {
         let options = with_style(alloc, CUTS, asked_style(is_asked))?;
         let stream = written(alloc, &options)?;
         let list = header_styles(alloc, stream.main.as_slice())?;
-        assert_eq!(rt; list.as_slice(), [main].as_slice());
+        equal(&rt, list.as_slice(), [main].as_slice());
         for tile in stream.tiles.as_slice() {
             let list = header_styles(alloc, tile.header.as_slice())?;
-            assert_eq!(rt; list.as_slice(), [own].as_slice());
+            equal(&rt, list.as_slice(), [own].as_slice());
         }
     }
     Ok(())

@@ -5,6 +5,8 @@
 #[cfg(test)]
 mod assemble_tests;
 #[cfg(test)]
+mod checks;
+#[cfg(test)]
 mod choice_tests;
 #[cfg(test)]
 mod header_tests;

@@ -1,5 +1,6 @@
 //! Rows of words of `make`, and what is read of them.
 
+use crate::checks::{check, equal};
 use jx_words::{WordsFault, read_make};
 use std::alloc::{AllocError, Global};
 use std::test::Fail;
@@ -38,7 +39,7 @@ fn good_words_of_make(rt: HostRuntime) -> Result<(), Fail> {
         ("make -- 5 1 2", "5 1 2"),
         ("make 5 -- 1 2", "5 1 2"),
     ] {
-        assert_eq!(rt; found(alloc, line)?.as_str(), wanted);
+        equal(&rt, found(alloc, line)?.as_str(), wanted);
     }
     Ok(())
 }
@@ -83,8 +84,8 @@ fn bad_words_of_make(rt: HostRuntime) -> Result<(), Fail> {
         "make --seed 1 1 1",
         "make -- 1 1 --",
     ] {
-        assert_eq!(rt; found(alloc, line)?.as_str(), "Words");
+        equal(&rt, found(alloc, line)?.as_str(), "Words");
     }
-    assert!(rt; matches!(read_make(alloc, &[]), Err(WordsFault::Words)));
+    check(&rt, matches!(read_make(alloc, &[]), Err(WordsFault::Words)));
     Ok(())
 }

@@ -3,6 +3,7 @@
 ghost use Rattle.jx_plan.specs.Wanted.{MayBeWanted};
 
 use crate::assemble_tests::{Form, kept, with_marks};
+use crate::checks::check;
 use crate::hex::bytes_of;
 use jx_assemble::AssembleFault;
 use jx_plan::{Options, PartChoice};
@@ -118,8 +119,8 @@ fn layers(rt: HostRuntime) -> Result<(), Fail> {
         "FF90 000A 0000 00000023 01 03 FF93 FF91 0004 0003 00 FF91 0004 0004 00 FF91 0004 0005 00",
         "FF90 000A 0000 00000023 02 03 FF93 FF91 0004 0006 00 FF91 0004 0007 00 FF91 0004 0008 00",
     ];
-    assert!(rt; gives(alloc, LAYERS, &options, 42, &want)?);
-    assert!(rt; gives(alloc, LAYERS, &options, 41, &[])?);
+    check(&rt, gives(alloc, LAYERS, &options, 42, &want)?);
+    check(&rt, gives(alloc, LAYERS, &options, 41, &[])?);
     Ok(())
 }
 
@@ -136,7 +137,7 @@ fn resolutions_with_lengths(rt: HostRuntime) -> Result<(), Fail> {
         "FF90 000A 0000 00000015 04 06 FF58 0004 00 01 FF93 00",
         "FF90 000A 0000 00000017 05 06 FF58 0005 00 01 01 FF93 00 00",
     ];
-    assert!(rt; gives(alloc, LAYERS, &options, 28, &want)?);
+    check(&rt, gives(alloc, LAYERS, &options, 28, &want)?);
     Ok(())
 }
 
@@ -145,8 +146,8 @@ fn resolutions_with_lengths(rt: HostRuntime) -> Result<(), Fail> {
 fn second_too_long(rt: HostRuntime) -> Result<(), Fail> {
     let alloc = rt.alloc();
     let options = with_marks(alloc, PartChoice::Resolution, true, true, false)?;
-    assert!(rt; gives(alloc, LAYERS, &options, 31, &[])?);
-    assert!(rt; !gives(alloc, LAYERS, &options, 32, &[])?);
+    check(&rt, gives(alloc, LAYERS, &options, 31, &[])?);
+    check(&rt, !gives(alloc, LAYERS, &options, 32, &[])?);
     Ok(())
 }
 
@@ -156,8 +157,8 @@ fn no_packets(rt: HostRuntime) -> Result<(), Fail> {
     let alloc = rt.alloc();
     let options = with_marks(alloc, PartChoice::Layer, true, true, true)?;
     let want = ["FF90 000A 0000 0000000E 00 01 FF93"];
-    assert!(rt; gives(alloc, EMPTY, &options, 14, &want)?);
-    assert!(rt; gives(alloc, EMPTY, &options, 13, &[])?);
+    check(&rt, gives(alloc, EMPTY, &options, 14, &want)?);
+    check(&rt, gives(alloc, EMPTY, &options, 13, &[])?);
     Ok(())
 }
 
@@ -167,7 +168,7 @@ fn no_lengths(rt: HostRuntime) -> Result<(), Fail> {
     let alloc = rt.alloc();
     let options = with_marks(alloc, PartChoice::None, false, false, true)?;
     let want = ["FF90 000A 0000 0000000E 00 01 FF93"];
-    assert!(rt; gives(alloc, EMPTY, &options, 14, &want)?);
+    check(&rt, gives(alloc, EMPTY, &options, 14, &want)?);
     Ok(())
 }
 
@@ -190,8 +191,11 @@ fn pieces(rt: HostRuntime) -> Result<(), Fail> {
         "FF91 0004 0007 00",
         "FF91 0004 0008 00",
     ];
-    assert!(rt; puts(alloc, LAYERS, &options, 42, &want)?);
-    assert!(rt; gives_in(alloc, LAYERS, &options, 41, Form::Pieces, &[])?);
+    check(&rt, puts(alloc, LAYERS, &options, 42, &want)?);
+    check(
+        &rt,
+        gives_in(alloc, LAYERS, &options, 41, Form::Pieces, &[])?,
+    );
     Ok(())
 }
 
@@ -212,7 +216,7 @@ fn pieces_with_lengths(rt: HostRuntime) -> Result<(), Fail> {
         "00 FF92",
         "00 FF92",
     ];
-    assert!(rt; puts(alloc, LAYERS, &options, 62, &want)?);
+    check(&rt, puts(alloc, LAYERS, &options, 62, &want)?);
     Ok(())
 }
 
@@ -222,7 +226,10 @@ fn piece_without_packets(rt: HostRuntime) -> Result<(), Fail> {
     let alloc = rt.alloc();
     let options = with_marks(alloc, PartChoice::Layer, true, true, true)?;
     let want = ["FF90 000A 0000 0000000E 00 01 FF93"];
-    assert!(rt; puts(alloc, EMPTY, &options, 14, &want)?);
-    assert!(rt; gives_in(alloc, EMPTY, &options, 13, Form::Pieces, &[])?);
+    check(&rt, puts(alloc, EMPTY, &options, 14, &want)?);
+    check(
+        &rt,
+        gives_in(alloc, EMPTY, &options, 13, Form::Pieces, &[])?,
+    );
     Ok(())
 }

@@ -1,5 +1,6 @@
 //! Lists of packets, cut into tile-parts.
 
+use crate::checks::equal;
 use jx_order::PacketName;
 use jx_plan::{PartChoice, count_parts, part_end};
 use std::alloc::{AllocError, Global};
@@ -39,13 +40,13 @@ fn cut_by_each(rt: HostRuntime) -> Result<(), Fail> {
         name(1, 0, 1),
     ];
     let by_resolution = sizes(alloc, &names, PartChoice::Resolution)?;
-    assert_eq!(rt; by_resolution.as_slice(), [2, 3, 1].as_slice());
+    equal(&rt, by_resolution.as_slice(), [2, 3, 1].as_slice());
     let by_layer = sizes(alloc, &names, PartChoice::Layer)?;
-    assert_eq!(rt; by_layer.as_slice(), [4, 2].as_slice());
+    equal(&rt, by_layer.as_slice(), [4, 2].as_slice());
     let by_component = sizes(alloc, &names, PartChoice::Component)?;
-    assert_eq!(rt; by_component.as_slice(), [3, 3].as_slice());
+    equal(&rt, by_component.as_slice(), [3, 3].as_slice());
     let whole = sizes(alloc, &names, PartChoice::None)?;
-    assert_eq!(rt; whole.as_slice(), [6].as_slice());
+    equal(&rt, whole.as_slice(), [6].as_slice());
     Ok(())
 }
 
@@ -56,10 +57,14 @@ fn counted(rt: HostRuntime) -> Result<(), Fail> {
     for layer in 0..300_u16 {
         names.push(name(layer, 0, 0))?;
     }
-    assert_eq!(rt; count_parts(names.as_slice(), PartChoice::Layer), 300);
-    assert_eq!(rt; count_parts(names.as_slice(), PartChoice::Resolution), 1);
-    assert_eq!(rt; count_parts(names.as_slice(), PartChoice::None), 1);
-    assert_eq!(rt; count_parts(&[], PartChoice::Layer), 1);
-    assert_eq!(rt; count_parts(&[], PartChoice::None), 1);
+    equal(&rt, count_parts(names.as_slice(), PartChoice::Layer), 300);
+    equal(
+        &rt,
+        count_parts(names.as_slice(), PartChoice::Resolution),
+        1,
+    );
+    equal(&rt, count_parts(names.as_slice(), PartChoice::None), 1);
+    equal(&rt, count_parts(&[], PartChoice::Layer), 1);
+    equal(&rt, count_parts(&[], PartChoice::None), 1);
     Ok(())
 }

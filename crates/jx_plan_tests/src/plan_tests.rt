@@ -1,5 +1,6 @@
 //! Plans: their layers, planners that serve or don't, and what is too much.
 
+use crate::checks::equal;
 use crate::header_tests::cod_of;
 use crate::hex::bytes_of;
 use crate::planned::{by_planner, by_planners, fault_in, joiner, keeper, options_of, seen_in};
@@ -23,12 +24,13 @@ fn layers_are_kept(rt: HostRuntime) -> Result<(), Fail> {
     let mut planner = keeper(alloc)?;
     let options = options_of(alloc, "keep", None)?;
     let seen = seen_in(by_planner(alloc, &file, &options, &mut planner))?;
-    assert_eq!(rt; seen.layers, 2);
+    equal(&rt, seen.layers, 2);
     let cod = cod_of(seen.headers.main.as_slice());
-    assert_eq!(rt; cod, Some((false, false, 0, 2)));
-    assert_eq!(rt;
+    equal(&rt, cod, Some((false, false, 0, 2)));
+    equal(
+        &rt,
         seen.ends.as_slice(),
-        [[0, 0, 1], [1, 0, 1], [1, 1, 2]].as_slice()
+        [[0, 0, 1], [1, 0, 1], [1, 1, 2]].as_slice(),
     );
     Ok(())
 }
@@ -40,15 +42,15 @@ fn all_in_one_layer(rt: HostRuntime) -> Result<(), Fail> {
     let mut planner = joiner(alloc)?;
     let options = options_of(alloc, "one", None)?;
     let seen = seen_in(by_planner(alloc, &file, &options, &mut planner))?;
-    assert_eq!(rt; seen.layers, 1);
-    assert_eq!(rt; seen.ends.as_slice(), [[0, 0, 1], [1, 0, 2]].as_slice());
+    equal(&rt, seen.layers, 1);
+    equal(&rt, seen.ends.as_slice(), [[0, 0, 1], [1, 0, 2]].as_slice());
     let options = options_of(alloc, "two", None)?;
     let fault = fault_in(by_planner(alloc, &file, &options, &mut planner));
     let choice = PlanFault::Choice {
         number: 6,
         place: 0,
     };
-    assert_eq!(rt; fault, Some(choice));
+    equal(&rt, fault, Some(choice));
     Ok(())
 }
 
@@ -79,12 +81,12 @@ fn first_that_serves(rt: HostRuntime) -> Result<(), Fail> {
     let options = options_of(alloc, "one", None)?;
     let mut list = planners(alloc, true)?;
     let seen = seen_in(by_planners(alloc, &file, &options, list.as_mut_slice()))?;
-    assert_eq!(rt; seen.layers, 2);
-    assert_eq!(rt; seen.ends.as_slice(), [[0, 0, 1], [1, 1, 2]].as_slice());
+    equal(&rt, seen.layers, 2);
+    equal(&rt, seen.ends.as_slice(), [[0, 0, 1], [1, 1, 2]].as_slice());
     let mut list = planners(alloc, false)?;
     let seen = seen_in(by_planners(alloc, &file, &options, list.as_mut_slice()))?;
-    assert_eq!(rt; seen.layers, 1);
-    assert_eq!(rt; seen.ends.as_slice(), [[0, 0, 1], [1, 0, 2]].as_slice());
+    equal(&rt, seen.layers, 1);
+    equal(&rt, seen.ends.as_slice(), [[0, 0, 1], [1, 0, 2]].as_slice());
     Ok(())
 }
 
@@ -99,10 +101,10 @@ fn none_that_serves(rt: HostRuntime) -> Result<(), Fail> {
     };
     let mut list = planners(alloc, true)?;
     let fault = fault_in(by_planners(alloc, &file, &options, list.as_mut_slice()));
-    assert_eq!(rt; fault, Some(unserved));
+    equal(&rt, fault, Some(unserved));
     let mut nobody: Vec<Box<dyn LayerPlanner>> = Vec::new(alloc);
     let fault = fault_in(by_planners(alloc, &file, &options, nobody.as_mut_slice()));
-    assert_eq!(rt; fault, Some(unserved));
+    equal(&rt, fault, Some(unserved));
     Ok(())
 }
 
@@ -143,7 +145,7 @@ fn too_many_packets(rt: HostRuntime) -> Result<(), Fail> {
     let mut planner = keeper(alloc)?;
     let options = options_of(alloc, "keep", None)?;
     let fault = fault_in(by_planner(alloc, &file, &options, &mut planner));
-    assert_eq!(rt; fault, Some(limit));
+    equal(&rt, fault, Some(limit));
     Ok(())
 }
 
@@ -161,8 +163,12 @@ fn too_many_passes(rt: HostRuntime) -> Result<(), Fail> {
     let mut planner = keeper(alloc)?;
     let options = options_of(alloc, "keep", None)?;
     let seen = seen_in(by_planner(alloc, &file, &options, &mut planner))?;
-    assert_eq!(rt; seen.layers, 2);
-    assert_eq!(rt; seen.ends.as_slice(), [[0, 0, 100], [0, 1, 200]].as_slice());
+    equal(&rt, seen.layers, 2);
+    equal(
+        &rt,
+        seen.ends.as_slice(),
+        [[0, 0, 100], [0, 1, 200]].as_slice(),
+    );
     let mut planner = joiner(alloc)?;
     let options = options_of(alloc, "one", None)?;
     let fault = fault_in(by_planner(alloc, &file, &options, &mut planner));
@@ -170,6 +176,6 @@ fn too_many_passes(rt: HostRuntime) -> Result<(), Fail> {
         number: 4,
         place: 0,
     };
-    assert_eq!(rt; fault, Some(choice));
+    equal(&rt, fault, Some(choice));
     Ok(())
 }

@@ -1,5 +1,6 @@
 //! The jobs of each tile.
 
+use crate::checks::equal;
 use crate::hex::bytes_of;
 use crate::planned::{by_planner, keeper, options_of, seen_in};
 use std::test::Fail;
@@ -18,6 +19,10 @@ fn a_tile_without_jobs(rt: HostRuntime) -> Result<(), Fail> {
     let options = options_of(alloc, "keep", None)?;
     let mut planner = keeper(alloc)?;
     let seen = seen_in(by_planner(alloc, &file, &options, &mut planner))?;
-    assert_eq!(rt; seen.tiles.as_slice(), [(0, 1), (1, 1), (1, 2)].as_slice());
+    equal(
+        &rt,
+        seen.tiles.as_slice(),
+        [(0, 1), (1, 1), (1, 2)].as_slice(),
+    );
     Ok(())
 }

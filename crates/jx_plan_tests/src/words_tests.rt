@@ -1,5 +1,6 @@
 //! Rows of words of `transcode`, and what is read of them.
 
+use crate::checks::{check, equal};
 use crate::make_words_tests::words_of;
 use jx_plan::{Options, PrecinctChoice};
 use jx_words::{Request, WordsFault, read_words};
@@ -174,7 +175,7 @@ fn good_words(rt: HostRuntime) -> Result<(), Fail> {
         ("transcode transcode help", "transcode help Keep keep keep"),
         ("transcode  out", " out Keep keep keep"),
     ] {
-        assert_eq!(rt; found(alloc, line)?.as_str(), wanted);
+        equal(&rt, found(alloc, line)?.as_str(), wanted);
     }
     Ok(())
 }
@@ -230,9 +231,12 @@ fn bad_words(rt: HostRuntime) -> Result<(), Fail> {
         "transcode in out --layers one --layers one",
         "transcode in out --layers=one --layers ten",
     ] {
-        assert_eq!(rt; found(alloc, line)?.as_str(), "Words");
+        equal(&rt, found(alloc, line)?.as_str(), "Words");
     }
-    assert!(rt; matches!(read_words(alloc, &[]), Err(WordsFault::Words)));
+    check(
+        &rt,
+        matches!(read_words(alloc, &[]), Err(WordsFault::Words)),
+    );
     Ok(())
 }
 
@@ -259,7 +263,7 @@ fn marks_and_cuts(rt: HostRuntime) -> Result<(), Fail> {
             "false false false Component",
         ),
     ] {
-        assert_eq!(rt; marks(alloc, line)?.as_str(), wanted);
+        equal(&rt, marks(alloc, line)?.as_str(), wanted);
     }
     Ok(())
 }
@@ -287,13 +291,14 @@ fn precinct_lists(rt: HostRuntime) -> Result<(), Fail> {
         ("7x6;7x6", "Words"),
         ("7x6,keep", "Words"),
     ] {
-        assert_eq!(rt; precincts_of(alloc, text)?.as_str(), wanted);
+        equal(&rt, precincts_of(alloc, text)?.as_str(), wanted);
     }
     let all = precincts_of(alloc, items(alloc, 33)?.as_str())?;
-    assert_eq!(rt; all.as_str().split(", ").count(), 33_usize);
-    assert_eq!(rt;
+    equal(&rt, all.as_str().split(", ").count(), 33_usize);
+    equal(
+        &rt,
         precincts_of(alloc, items(alloc, 34)?.as_str())?.as_str(),
-        "Words"
+        "Words",
     );
     Ok(())
 }
@@ -336,7 +341,7 @@ fn style_names(rt: HostRuntime) -> Result<(), Fail> {
         ("0", "Words"),
         ("1", "Words"),
     ] {
-        assert_eq!(rt; style_of(alloc, text)?.as_str(), wanted);
+        equal(&rt, style_of(alloc, text)?.as_str(), wanted);
     }
     Ok(())
 }
@@ -347,7 +352,11 @@ fn all_styles(rt: HostRuntime) -> Result<(), Fail> {
     for mask in 0..32_u8 {
         let (text, bits) = named(alloc, mask)?;
         let wanted = format!(in alloc; "{bits}")?;
-        assert_eq!(rt; style_of(alloc, text.as_str())?.as_str(), wanted.as_str());
+        equal(
+            &rt,
+            style_of(alloc, text.as_str())?.as_str(),
+            wanted.as_str(),
+        );
     }
     Ok(())
 }
@@ -393,7 +402,7 @@ fn work_numbers(rt: HostRuntime) -> Result<(), Fail> {
         ),
         ("transcode in out --threads 2 --threads 2", "Words"),
     ] {
-        assert_eq!(rt; work_of(alloc, line)?.as_str(), wanted);
+        equal(&rt, work_of(alloc, line)?.as_str(), wanted);
     }
     Ok(())
 }

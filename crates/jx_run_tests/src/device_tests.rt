@@ -1,5 +1,6 @@
 //! Devices that take and give one byte at a time, and each of their calls failing; files of many components and planes.
 
+use crate::checks::{check, equal, equal_at};
 use crate::regrouping_tests::stops;
 use crate::run_tests::{GOOD, SMALL, edited, holding, made_in, rewrites, run_words, written};
 use jx_outside::{Call, MemFiles, MemSink};
@@ -26,8 +27,8 @@ fn ends(
         files.fail(call, nth)?;
     }
     let report = run_words(rt, alloc, &GOOD, &mut files, &mut say)?;
-    assert_eq!(rt; report.status, status, "at {failing:?}");
-    assert_eq!(rt; say.said(), said);
+    equal_at(rt, &failing, report.status, status);
+    equal(rt, say.said(), said);
     Ok(files)
 }
 
@@ -40,7 +41,7 @@ fn each_read_fails(rt: HostRuntime) -> Result<(), Fail> {
             Status::ReadFault,
             "read fault\n",
         )?;
-        assert_eq!(rt; written(&files), None);
+        equal(&rt, written(&files), None);
     }
     Ok(())
 }
@@ -55,8 +56,8 @@ fn any_length_may_be_said(rt: HostRuntime) -> Result<(), Fail> {
         files.hint(length);
         files.short(u32::max(most, 1));
         let report = run_words(&rt, alloc, &GOOD, &mut files, &mut say)?;
-        assert_eq!(rt; report.status, Status::Done, "at {length}");
-        assert_eq!(rt; say.said(), "done: 1 blocks, 88 bytes\n");
+        equal_at(&rt, &length, report.status, Status::Done);
+        equal(&rt, say.said(), "done: 1 blocks, 88 bytes\n");
     }
     Ok(())
 }
@@ -69,8 +70,8 @@ fn each_write_fails(rt: HostRuntime) -> Result<(), Fail> {
     for nth in 1..=88 {
         let files = ends(&rt, Some((Call::Write, nth)), Status::WriteFault, "")?;
         let front = made_in(&files)?;
-        assert_eq!(rt; front.len() + 1, nth as usize);
-        assert!(rt; bytes.starts_with(front));
+        equal(&rt, front.len() + 1, nth as usize);
+        check(&rt, bytes.starts_with(front));
     }
     Ok(())
 }
@@ -83,7 +84,7 @@ fn each_other_call_fails(rt: HostRuntime) -> Result<(), Fail> {
         (Call::Finish, Status::WriteFault, "", Some(88)),
     ] {
         let files = ends(&rt, Some((call, 1)), status, said)?;
-        assert_eq!(rt; written(&files), left);
+        equal(&rt, written(&files), left);
     }
     Ok(())
 }
@@ -153,11 +154,11 @@ fn each_write_of_a_long_tile_part_fails(rt: HostRuntime) -> Result<(), Fail> {
         let mut say = MemSink::new(alloc);
         files.fail(Call::Write, nth)?;
         let report = run_words(&rt, alloc, &PLAIN, &mut files, &mut say)?;
-        assert_eq!(rt; report.status, Status::WriteFault, "at {nth}");
-        assert_eq!(rt; report.tape.len(), taped, "at {nth}");
+        equal_at(&rt, &nth, report.status, Status::WriteFault);
+        equal_at(&rt, &nth, report.tape.len(), taped);
         let front = made_in(&files)?;
-        assert_eq!(rt; front.len(), left, "at {nth}");
-        assert!(rt; bytes.starts_with(front));
+        equal_at(&rt, &nth, front.len(), left);
+        check(&rt, bytes.starts_with(front));
     }
     Ok(())
 }

@@ -1,5 +1,6 @@
 //! Workers that a gate holds: two blocks at once, and a window that keeps one out.
 
+use crate::checks::{check, equal};
 use crate::run_tests::{holding, made_in, run_gated};
 use crate::style_tests::two_tiles;
 use jx_outside::{Gate, MemSink};
@@ -104,11 +105,11 @@ fn held<R: Abort + AllocGlobal + Threads + Wait + Sync, G: Gate + Sync>(
         window,
     ];
     let report = run_gated(rt, alloc, &words, &mut files, &mut say, gate)?;
-    assert_eq!(rt; report.status, Status::Done);
-    assert_eq!(rt; say.said(), "done: 2 blocks, 101 bytes\n");
+    equal(rt, report.status, Status::Done);
+    equal(rt, say.said(), "done: 2 blocks, 101 bytes\n");
     let made = made_in(&files)?;
     let want = two_tiles(rt, 0x20, None, [1, 1])?;
-    assert_eq!(rt; made, want.as_slice());
+    equal(rt, made, want.as_slice());
     Ok(report.tape)
 }
 
@@ -116,12 +117,15 @@ fn held<R: Abort + AllocGlobal + Threads + Wait + Sync, G: Gate + Sync>(
 fn two_workers_at_once(rt: HostRuntime) -> Result<(), Fail> {
     let gate = Holding::new(false);
     let tape = held(&rt, "2", &gate)?;
-    assert_eq!(rt; gate.begun.load(SeqCst), 2);
-    assert_eq!(rt; gate.reached.load(SeqCst), 0);
-    assert!(rt; tape.len() == 2 && tape[0].number == 0 && tape[1].number == 1);
-    assert!(rt; tape[0].worker < 2 && tape[1].worker < 2);
-    assert!(rt; tape[0].worker != tape[1].worker);
-    assert_eq!(rt; tape[1].seen, 0);
+    equal(&rt, gate.begun.load(SeqCst), 2);
+    equal(&rt, gate.reached.load(SeqCst), 0);
+    check(
+        &rt,
+        tape.len() == 2 && tape[0].number == 0 && tape[1].number == 1,
+    );
+    check(&rt, tape[0].worker < 2 && tape[1].worker < 2);
+    check(&rt, tape[0].worker != tape[1].worker);
+    equal(&rt, tape[1].seen, 0);
     Ok(())
 }
 
@@ -129,7 +133,7 @@ fn two_workers_at_once(rt: HostRuntime) -> Result<(), Fail> {
 fn a_narrow_window(rt: HostRuntime) -> Result<(), Fail> {
     let gate = Holding::new(true);
     let tape = held(&rt, "1", &gate)?;
-    assert_eq!(rt; gate.reached.load(SeqCst), 1);
-    assert!(rt; tape.len() == 2 && tape[1].seen == 1);
+    equal(&rt, gate.reached.load(SeqCst), 1);
+    check(&rt, tape.len() == 2 && tape[1].seen == 1);
     Ok(())
 }

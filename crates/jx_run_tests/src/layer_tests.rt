@@ -1,5 +1,6 @@
 //! Layers by the planners that are handed in.
 
+use crate::checks::equal;
 use crate::regrouping_tests::stops;
 use crate::run_tests::{GOOD, SMALL, holding, made_in, rewrites, run_planned, written};
 use crate::style_tests::body;
@@ -79,10 +80,10 @@ fn a_planner_is_handed_in(rt: HostRuntime) -> Result<(), Fail> {
     let mut files = holding(alloc, &body(&rt, 0, &[0xC0, 0x74, 0x10, 1])?)?;
     let mut say = MemSink::new(alloc);
     let report = run_planned(&rt, alloc, &TABLE, &mut files, &mut say, &NoGate, planners)?;
-    assert_eq!(rt; report.status, Status::Done);
-    assert_eq!(rt; say.said(), "done: 1 blocks, 86 bytes\n");
+    equal(&rt, report.status, Status::Done);
+    equal(&rt, say.said(), "done: 1 blocks, 86 bytes\n");
     let made = made_in(&files)?;
-    assert_eq!(rt; made, LISTED.as_slice());
+    equal(&rt, made, LISTED.as_slice());
     Ok(())
 }
 
@@ -146,9 +147,9 @@ fn no_planners(rt: HostRuntime) -> Result<(), Fail> {
     let mut say = MemSink::new(alloc);
     let none = Vec::new(alloc);
     let report = run_planned(&rt, alloc, &GOOD, &mut files, &mut say, &NoGate, none)?;
-    assert_eq!(rt; report.blocks, 1);
-    assert_eq!(rt; say.said(), "choice 6 at 0\n");
-    assert_eq!(rt; written(&files), None);
+    equal(&rt, report.blocks, 1);
+    equal(&rt, say.said(), "choice 6 at 0\n");
+    equal(&rt, written(&files), None);
     Ok(())
 }
 

@@ -1,5 +1,6 @@
 //! `make`: a generated codestream is transcoded in memory.
 
+use crate::checks::equal;
 use crate::run_tests::{holding, made_in, run_planned, run_words, written};
 use jx_layers::{KeepLayers, LayerPlanner};
 use jx_outside::{Call, MemFiles, MemSink, NoGate};
@@ -69,11 +70,11 @@ fn lines_of_make(rt: HostRuntime) -> Result<(), Fail> {
         let mut say = MemSink::new(alloc);
         let words = ["jx", "make", "5", side, "1"];
         let report = run_words(&rt, alloc, &words, &mut files, &mut say)?;
-        assert_eq!(rt; report.status, status);
-        assert_eq!(rt; report.blocks, blocks);
-        assert_eq!(rt; report.tape.len(), blocks as usize);
-        assert_eq!(rt; say.said(), line);
-        assert_eq!(rt; written(&files), None);
+        equal(&rt, report.status, status);
+        equal(&rt, report.blocks, blocks);
+        equal(&rt, report.tape.len(), blocks as usize);
+        equal(&rt, say.said(), line);
+        equal(&rt, written(&files), None);
     }
     Ok(())
 }
@@ -86,10 +87,10 @@ fn fixed_options_are_words(rt: HostRuntime) -> Result<(), Fail> {
     let mut files = holding(alloc, &input)?;
     let mut say = MemSink::new(alloc);
     let report = run_words(&rt, alloc, &FIXED, &mut files, &mut say)?;
-    assert_eq!(rt; report.status, Status::Done);
-    assert_eq!(rt; say.said(), "done: 3 blocks, 293 bytes\n");
+    equal(&rt, report.status, Status::Done);
+    equal(&rt, say.said(), "done: 3 blocks, 293 bytes\n");
     let bytes = made_in(&files)?;
-    assert_eq!(rt; sum_of(bytes), 14_543);
+    equal(&rt, sum_of(bytes), 14_543);
     Ok(())
 }
 
@@ -106,10 +107,10 @@ fn no_planner_serves(rt: HostRuntime) -> Result<(), Fail> {
         number: 6,
         place: 0,
     };
-    assert_eq!(rt; report.status, status);
-    assert_eq!(rt; report.blocks, 3);
-    assert_eq!(rt; report.tape.len(), 0);
-    assert_eq!(rt; say.said(), "choice 6 at 0\n");
+    equal(&rt, report.status, status);
+    equal(&rt, report.blocks, 3);
+    equal(&rt, report.tape.len(), 0);
+    equal(&rt, say.said(), "choice 6 at 0\n");
     Ok(())
 }
 
@@ -120,9 +121,9 @@ fn line_of_make_is_not_said(rt: HostRuntime) -> Result<(), Fail> {
     let mut say = MemSink::new(alloc);
     say.fail(1)?;
     let report = run_words(&rt, alloc, &MAKE, &mut files, &mut say)?;
-    assert_eq!(rt; report.status, Status::WriteFault);
-    assert_eq!(rt; report.blocks, 3);
-    assert_eq!(rt; say.said(), "");
-    assert_eq!(rt; written(&files), None);
+    equal(&rt, report.status, Status::WriteFault);
+    equal(&rt, report.blocks, 3);
+    equal(&rt, say.said(), "");
+    equal(&rt, written(&files), None);
     Ok(())
 }

@@ -1,5 +1,6 @@
 //! How files are packed: interleaved tile-parts, segments that are dropped or moved, layers, tiles without packets, many packets.
 
+use crate::checks::{check, equal};
 use crate::run_tests::{SMALL, holding, rewrites, run_words};
 use jx_outside::MemSink;
 use jx_recast::Status;
@@ -93,7 +94,7 @@ fn interleaved_tile_parts(rt: HostRuntime) -> Result<(), Fail> {
 #[test]
 fn own_segments_stay(rt: HostRuntime) -> Result<(), Fail> {
     let mut want = PACKED.to_vec(rt.alloc())?;
-    assert!(rt; want.len() > 50);
+    check(&rt, want.len() > 50);
     want[50] = 2;
     rewrites(
         &rt,
@@ -149,8 +150,8 @@ fn many_packets(rt: HostRuntime) -> Result<(), Fail> {
     let mut say = MemSink::new(alloc);
     let words = ["jx", "transcode", "in", "out", "--sop", "--plt"];
     let report = run_words(&rt, alloc, &words, &mut files, &mut say)?;
-    assert_eq!(rt; report.status, Status::Done);
-    assert_eq!(rt; say.said(), "done: 2 blocks, 1048659 bytes\n");
+    equal(&rt, report.status, Status::Done);
+    equal(&rt, say.said(), "done: 2 blocks, 1048659 bytes\n");
     Ok(())
 }
 
@@ -176,7 +177,7 @@ fn with_packets(
     packets: &[u8],
 ) -> Result<Vec<u8>, Fail> {
     let mut bytes = SMALL[..65].to_vec(rt.alloc())?;
-    assert!(rt; bytes.len() > 52);
+    check(rt, bytes.len() > 52);
     bytes[52] = 3;
     bytes.extend_from_slice(header)?;
     bytes.extend_from_slice(packets)?;

@@ -1,5 +1,6 @@
 //! Inputs that are refused.
 
+use crate::checks::{check, equal, equal_at};
 use crate::run_tests::{GOOD, SMALL, edited, holding, run_words, written};
 use jx_outside::MemSink;
 use jx_recast::Status;
@@ -18,10 +19,10 @@ fn refused(
     let mut files = holding(alloc, bytes)?;
     let mut say = MemSink::new(alloc);
     let report = run_words(rt, alloc, &GOOD, &mut files, &mut say)?;
-    assert_eq!(rt; report.status, status, "at {} bytes", bytes.len());
-    assert_eq!(rt; report.blocks, 0);
-    assert_eq!(rt; say.said(), line);
-    assert_eq!(rt; written(&files), None);
+    equal_at(rt, &bytes.len(), report.status, status);
+    equal(rt, report.blocks, 0);
+    equal(rt, say.said(), line);
+    equal(rt, written(&files), None);
     Ok(())
 }
 
@@ -95,7 +96,7 @@ fn cut_files(rt: HostRuntime) -> Result<(), Fail> {
         (80, 82, 23, 80),
     ] {
         for length in first..end {
-            assert!(rt; length <= SMALL.len());
+            check(&rt, length <= SMALL.len());
             breaks(&rt, &SMALL[..length], number, place)?;
         }
     }

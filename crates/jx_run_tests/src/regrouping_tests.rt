@@ -1,5 +1,6 @@
 //! Orders, precincts and tile-parts that are asked for.
 
+use crate::checks::{check, equal, equal_at};
 use crate::run_tests::{SMALL, edited, holding, made_in, rewrites, run_words, written};
 use jx_outside::{Call, MemSink};
 use jx_recast::Status;
@@ -28,7 +29,7 @@ fn put_part(
     parts: u8,
     rest: &[u8],
 ) -> Result<(), Fail> {
-    assert!(rt; rest.len() < 200);
+    check(rt, rest.len() < 200);
     out.extend_from_slice(&[0xFF, 0x90, 0, 0x0A, 0, 0, 0, 0, 0])?;
     out.push(rest.len() as u8 + 12)?;
     out.extend_from_slice(&[part, parts])?;
@@ -39,7 +40,7 @@ fn put_part(
 // The main header of the file of two resolutions, with this order.
 fn front(rt: &(impl Abort + AllocGlobal), order: u8) -> Result<Vec<u8>, Fail> {
     let mut out = TWO[..68].to_vec(rt.alloc())?;
-    assert!(rt; out.len() > 50);
+    check(rt, out.len() > 50);
     out[50] = order;
     Ok(out)
 }
@@ -60,10 +61,10 @@ pub fn stops(
     let mut files = holding(alloc, bytes)?;
     let mut say = MemSink::new(alloc);
     let report = run_words(rt, alloc, &words, &mut files, &mut say)?;
-    assert_eq!(rt; report.status, status);
-    assert_eq!(rt; report.blocks, blocks);
-    assert_eq!(rt; say.said(), line);
-    assert_eq!(rt; written(&files), None);
+    equal(rt, report.status, status);
+    equal(rt, report.blocks, blocks);
+    equal(rt, say.said(), line);
+    equal(rt, written(&files), None);
     Ok(())
 }
 
@@ -90,7 +91,7 @@ fn made_of(
     let mut files = holding(alloc, bytes)?;
     let mut say = MemSink::new(alloc);
     let report = run_words(rt, alloc, words, &mut files, &mut say)?;
-    assert_eq!(rt; report.status, Status::Done);
+    equal(rt, report.status, Status::Done);
     let made = made_in(&files)?;
     Ok(made.to_vec(alloc)?)
 }
@@ -104,12 +105,12 @@ fn transcoded_twice(rt: HostRuntime) -> Result<(), Fail> {
     words.extend_from_slice(&["--precincts", "8x7,7x8", "--tile-parts", "r"])?;
     words.extend_from_slice(&["--sop", "--plt"])?;
     let there = made_of(&rt, &words, &TWO)?;
-    assert!(rt; there.as_slice() != kept.as_slice());
+    check(&rt, there.as_slice() != kept.as_slice());
     let mut words = Vec::new(rt.alloc());
     words.extend_from_slice(&["jx", "transcode", "in", "out", "--order", "lrcp"])?;
     words.extend_from_slice(&["--precincts", "max"])?;
     let back = made_of(&rt, &words, &there)?;
-    assert!(rt; back.as_slice() == kept.as_slice());
+    check(&rt, back.as_slice() == kept.as_slice());
     Ok(())
 }
 
@@ -141,7 +142,7 @@ fn tile_parts_with_marks(rt: HostRuntime) -> Result<(), Fail> {
         "--plt",
     ];
     let mut want = front(&rt, 1)?;
-    assert!(rt; want.len() > 49);
+    check(&rt, want.len() > 49);
     want[49] = 2;
     let first = [
         0xFF, 0x58, 0, 5, 0, 9, 8, 0xFF, 0x93, 0xFF, 0x91, 0, 4, 0, 0, 0xC0, 0x42, 3, 0xFF, 0x91,
@@ -163,7 +164,7 @@ fn precincts_of_a_list(rt: HostRuntime) -> Result<(), Fail> {
     let mut want = TWO[..49].to_vec(rt.alloc())?;
     want.extend_from_slice(&[1, 0, 0, 2, 0, 1, 4, 4, 0, 1, 0x78, 0x87])?;
     want.extend_from_slice(&TWO[59..])?;
-    assert!(rt; want.len() > 48);
+    check(&rt, want.len() > 48);
     want[48] = 14;
     let words = ["jx", "transcode", "in", "out", "--precincts", "8x7,7x8"];
     rewrites(&rt, &words, &TWO, &want, "done: 4 blocks, 96 bytes\n")?;
@@ -192,7 +193,7 @@ fn layers(rt: &(impl Abort + AllocGlobal), count: u16) -> Result<Vec<u8>, Fail> 
         bytes.push(0)?;
     }
     bytes.extend_from_slice(&[0xFF, 0xD9])?;
-    assert!(rt; bytes.len() > 74);
+    check(rt, bytes.len() > 74);
     bytes[51] = high;
     bytes[52] = low;
     bytes[73] = length;
@@ -216,7 +217,7 @@ fn tile_parts_by_layer(rt: HostRuntime) -> Result<(), Fail> {
         "choice 5 at 0\n",
     )?;
     let mut want = SMALL[..65].to_vec(rt.alloc())?;
-    assert!(rt; want.len() > 52);
+    check(&rt, want.len() > 52);
     want[52] = 255;
     for part in 0..255 {
         put_part(&rt, &mut want, part, 255, &[0xFF, 0x93, 0])?;
@@ -236,7 +237,7 @@ fn tile_parts_by_layer(rt: HostRuntime) -> Result<(), Fail> {
 fn too_many_packets(rt: HostRuntime) -> Result<(), Fail> {
     let side = [0, 0, 0, 36, 0, 0, 0, 36];
     let mut bytes = layers(&rt, 65_535)?;
-    assert!(rt; bytes.len() > 75);
+    check(&rt, bytes.len() > 75);
     bytes[8..16].copy_from_slice(&side);
     bytes[24..32].copy_from_slice(&side);
     bytes[55] = 0;
@@ -282,9 +283,9 @@ fn values_that_are_none(rt: HostRuntime) -> Result<(), Fail> {
         let mut say = MemSink::new(alloc);
         files.fail(Call::Open, 1)?;
         let report = run_words(&rt, alloc, list, &mut files, &mut say)?;
-        assert_eq!(rt; report.status, Status::Words, "{list:?}");
-        assert_eq!(rt; say.said(), "words\n");
-        assert_eq!(rt; written(&files), None);
+        equal_at(&rt, &list, report.status, Status::Words);
+        equal(&rt, say.said(), "words\n");
+        equal(&rt, written(&files), None);
     }
     Ok(())
 }

@@ -1,5 +1,6 @@
 //! Runs over files in memory: what is said, written and answered, and which words are refused.
 
+use crate::checks::{check, equal, equal_at};
 use jx_layers::{CutLayers, KeepLayers, LayerPlanner, OneLayer, PlaneLayers};
 use jx_outside::{Call, Files, Gate, MemFiles, MemSink, NoGate};
 use jx_recast::{Report, Status, TapeEntry, run};
@@ -105,26 +106,26 @@ fn sop_is_put_in(rt: HostRuntime) -> Result<(), Fail> {
     let mut files = holding(alloc, &SMALL)?;
     let mut say = MemSink::new(alloc);
     let report = run_words(&rt, alloc, &GOOD, &mut files, &mut say)?;
-    assert_eq!(rt; report.status, Status::Done);
-    assert_eq!(rt; report.status.number(), 0);
-    assert_eq!(rt; report.blocks, 1);
+    equal(&rt, report.status, Status::Done);
+    equal(&rt, report.status.number(), 0);
+    equal(&rt, report.blocks, 1);
     let entry = TapeEntry {
         number: 0,
         worker: 0,
         seen: 0,
     };
-    assert_eq!(rt; report.tape.as_slice(), [entry].as_slice());
-    assert_eq!(rt; say.said(), "done: 1 blocks, 88 bytes\n");
+    equal(&rt, report.tape.as_slice(), [entry].as_slice());
+    equal(&rt, say.said(), "done: 1 blocks, 88 bytes\n");
     let (name, bytes) = files.made().ok_or("nothing made")?;
-    assert_eq!(rt; name, "out");
+    equal(&rt, name, "out");
     let mut want = SMALL[..65].to_vec(alloc)?;
     want.extend_from_slice(&END)?;
     want[49] = 2;
-    assert_eq!(rt; bytes, want.as_slice());
+    equal(&rt, bytes, want.as_slice());
     files.open("out")?;
     let mut found = [0u8; 100];
-    assert_eq!(rt; files.read(&mut found)?, 88);
-    assert_eq!(rt; found[49], 2);
+    equal(&rt, files.read(&mut found)?, 88);
+    equal(&rt, found[49], 2);
     Ok(())
 }
 
@@ -135,10 +136,10 @@ pub fn edited(
     gone: usize,
     put: &[u8],
 ) -> Result<Vec<u8>, Fail> {
-    assert!(rt; at <= SMALL.len());
+    check(rt, at <= SMALL.len());
     let mut bytes = SMALL[..at].to_vec(rt.alloc())?;
     bytes.extend_from_slice(put)?;
-    assert!(rt; gone <= SMALL.len() - at);
+    check(rt, gone <= SMALL.len() - at);
     bytes.extend_from_slice(&SMALL[at + gone..])?;
     Ok(bytes)
 }
@@ -155,10 +156,10 @@ pub fn rewrites(
     let mut files = holding(alloc, bytes)?;
     let mut say = MemSink::new(alloc);
     let report = run_words(rt, alloc, words, &mut files, &mut say)?;
-    assert_eq!(rt; report.status, Status::Done);
-    assert_eq!(rt; say.said(), line);
+    equal(rt, report.status, Status::Done);
+    equal(rt, say.said(), line);
     let made = made_in(&files)?;
-    assert_eq!(rt; made, want);
+    equal(rt, made, want);
     Ok(())
 }
 
@@ -172,7 +173,7 @@ fn marks_are_put_in(rt: HostRuntime) -> Result<(), Fail> {
             0, 0, 0, 0x17, 0, 1, 0xFF, 0x93, 0xFF, 0x91, 0, 4, 0, 0, 0, 0xFF, 0x92,
         ],
     )?;
-    assert!(rt; both.len() > 49);
+    check(&rt, both.len() > 49);
     both[49] = 6;
     rewrites(
         &rt,
@@ -240,9 +241,9 @@ fn faults_of_the_files(rt: HostRuntime) -> Result<(), Fail> {
         let mut say = MemSink::new(alloc);
         files.fail(call, nth)?;
         let report = run_words(&rt, alloc, &GOOD, &mut files, &mut say)?;
-        assert_eq!(rt; report.status, status, "at {call:?} {nth}");
-        assert_eq!(rt; say.said(), said);
-        assert_eq!(rt; written(&files), left);
+        equal_at(&rt, &(call, nth), report.status, status);
+        equal(&rt, say.said(), said);
+        equal(&rt, written(&files), left);
     }
     Ok(())
 }
@@ -255,10 +256,10 @@ fn the_line_is_not_said(rt: HostRuntime) -> Result<(), Fail> {
         let mut say = MemSink::new(alloc);
         say.fail(1)?;
         let report = run_words(&rt, alloc, &GOOD, &mut files, &mut say)?;
-        assert_eq!(rt; report.status, Status::WriteFault);
-        assert_eq!(rt; report.status.number(), 8);
-        assert_eq!(rt; report.blocks, blocks);
-        assert_eq!(rt; say.said(), "");
+        equal(&rt, report.status, Status::WriteFault);
+        equal(&rt, report.status.number(), 8);
+        equal(&rt, report.blocks, blocks);
+        equal(&rt, say.said(), "");
     }
     Ok(())
 }
@@ -285,9 +286,9 @@ fn other_words(rt: HostRuntime) -> Result<(), Fail> {
         let mut say = MemSink::new(alloc);
         files.fail(Call::Open, 1)?;
         let report = run_words(&rt, alloc, list, &mut files, &mut say)?;
-        assert_eq!(rt; report.status, Status::Words, "{list:?}");
-        assert_eq!(rt; say.said(), "words\n");
-        assert_eq!(rt; written(&files), None);
+        equal_at(&rt, &list, report.status, Status::Words);
+        equal(&rt, say.said(), "words\n");
+        equal(&rt, written(&files), None);
     }
     Ok(())
 }

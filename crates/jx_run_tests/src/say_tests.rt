@@ -1,5 +1,6 @@
 //! Sentences for refusals, and help that fits a terminal.
 
+use crate::checks::{check, check_at};
 use jx_say::{Refusal, explain};
 use std::alloc::{AllocError, Global};
 use std::test::Fail;
@@ -32,61 +33,67 @@ fn refusals_are_explained(rt: HostRuntime) -> Result<(), Fail> {
         number: 6,
         place: 45,
     };
-    assert!(rt;
+    check(
+        &rt,
         says(
             alloc,
             rule,
             "jx transcode in.j2k out.j2k",
-            "in.j2k: a COD or COC segment at byte 45:"
-        )?
+            "in.j2k: a COD or COC segment at byte 45:",
+        )?,
     );
     let choice = Refusal::Choice {
         number: 2,
         place: 0,
     };
-    assert!(rt;
+    check(
+        &rt,
         says(
             alloc,
             choice,
             "jx transcode a b --precincts 7x7",
-            "--precincts 7x7 would change"
-        )?
+            "--precincts 7x7 would change",
+        )?,
     );
-    assert!(rt;
+    check(
+        &rt,
         says(
             alloc,
             choice,
             "jx transcode a b --precincts=7x7",
-            "--precincts 7x7 would change"
-        )?
+            "--precincts 7x7 would change",
+        )?,
     );
     let limit = Refusal::Limit {
         number: 3,
         found: 65536,
     };
-    assert!(rt;
+    check(
+        &rt,
         says(
             alloc,
             limit,
             "jx transcode a b",
-            "a: 65536 tiles,\n    and this program takes at most 65535"
-        )?
+            "a: 65536 tiles,\n    and this program takes at most 65535",
+        )?,
     );
-    assert!(rt;
+    check(
+        &rt,
         says(
             alloc,
             Refusal::ReadFault,
             "jx transcode --order rpcl --sop a b",
-            "jx: a could"
-        )?
+            "jx: a could",
+        )?,
     );
-    assert!(rt;
+    check(
+        &rt,
         says(
             alloc,
             Refusal::WriteFault,
             "jx transcode --order rpcl --sop a b",
-            "jx: b could"
-        )?
+            "jx: b could",
+        )?,
     );
     Ok(())
 }
@@ -94,56 +101,67 @@ fn refusals_are_explained(rt: HostRuntime) -> Result<(), Fail> {
 #[test]
 fn words_are_explained(rt: HostRuntime) -> Result<(), Fail> {
     let alloc = rt.alloc();
-    assert!(rt; says(alloc, Refusal::Words, "jx transcode a", "<OUT>")?);
-    assert!(rt;
+    check(&rt, says(alloc, Refusal::Words, "jx transcode a", "<OUT>")?);
+    check(
+        &rt,
         says(
             alloc,
             Refusal::Words,
             "jx transcode a b --order up",
-            "--order"
-        )?
+            "--order",
+        )?,
     );
-    assert!(rt;
+    check(
+        &rt,
         says(
             alloc,
             Refusal::Words,
             "jx transcode a b --threads 0",
-            "invalid value '0' for '--threads <N>'"
-        )?
+            "invalid value '0' for '--threads <N>'",
+        )?,
     );
-    assert!(rt;
+    check(
+        &rt,
         says(
             alloc,
             Refusal::Words,
             "jx transcode --help",
-            "--window-bytes"
-        )?
+            "--window-bytes",
+        )?,
     );
-    assert!(rt; says(alloc, Refusal::Words, "jx --version", "jx 0.9")?);
+    check(&rt, says(alloc, Refusal::Words, "jx --version", "jx 0.9")?);
     Ok(())
 }
 
 #[test]
 fn make_is_explained(rt: HostRuntime) -> Result<(), Fail> {
     let alloc = rt.alloc();
-    assert!(rt;
+    check(
+        &rt,
         says(
             alloc,
             Refusal::WriteFault,
             "jx make 1 2 3",
-            "jx: standard output"
-        )?
+            "jx: standard output",
+        )?,
     );
-    assert!(rt; says(alloc, Refusal::Words, "jx make 1", "<WIDTH>")?);
-    assert!(rt; says(alloc, Refusal::Words, "jx make 01 2 3", "'01' for '<SEED>'")?);
-    assert!(rt; says(alloc, Refusal::Words, "jx make 0 0 3", "'0' for '<WIDTH>'")?);
-    assert!(rt;
+    check(&rt, says(alloc, Refusal::Words, "jx make 1", "<WIDTH>")?);
+    check(
+        &rt,
+        says(alloc, Refusal::Words, "jx make 01 2 3", "'01' for '<SEED>'")?,
+    );
+    check(
+        &rt,
+        says(alloc, Refusal::Words, "jx make 0 0 3", "'0' for '<WIDTH>'")?,
+    );
+    check(
+        &rt,
         says(
             alloc,
             Refusal::Words,
             "jx make 0 2 4097",
-            "'4097' for '<HEIGHT>'"
-        )?
+            "'4097' for '<HEIGHT>'",
+        )?,
     );
     Ok(())
 }
@@ -163,7 +181,7 @@ fn help_fits_a_terminal(rt: HostRuntime) -> Result<(), Fail> {
         let words = words_of(alloc, words)?;
         let text = explain(alloc, Refusal::Words, &words)?;
         for line in text.as_str().split('\n') {
-            assert!(rt; line.len() <= 80, "{line}");
+            check_at(&rt, &line, line.len() <= 80);
         }
     }
     Ok(())

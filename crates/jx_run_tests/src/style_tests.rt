@@ -1,5 +1,6 @@
 //! Code-blocks that are coded anew in the style that is asked, by workers.
 
+use crate::checks::{check, equal};
 use crate::regrouping_tests::stops;
 use crate::run_tests::{SMALL, edited, holding, made_in, rewrites, run_gated, run_words, written};
 use jx_outside::{Files, MemSink, NoGate};
@@ -18,13 +19,13 @@ const EIGHT: [u8; 10] = [0xF8, 7, 0x87, 0x0F, 0x87, 0x0F, 0xE1, 0xC3, 0xE1, 0xC2
 
 // The small file with this style and this packet.
 pub fn body(rt: &(impl Abort + AllocGlobal), style: u8, packet: &[u8]) -> Result<Vec<u8>, Fail> {
-    assert!(rt; packet.len() < 100);
+    check(rt, packet.len() < 100);
     let mut put = Vec::new(rt.alloc());
     put.push(packet.len() as u8 + 14)?;
     put.extend_from_slice(&[0, 1, 0xFF, 0x93])?;
     put.extend_from_slice(packet)?;
     let mut bytes = edited(rt, 74, 6, &put)?;
-    assert!(rt; bytes.len() > 57);
+    check(rt, bytes.len() > 57);
     bytes[57] = style;
     Ok(bytes)
 }
@@ -80,15 +81,15 @@ fn a_wrong_symbol(rt: HostRuntime) -> Result<(), Fail> {
     let mut files = holding(alloc, &wrong)?;
     let mut say = MemSink::new(alloc);
     let report = run_words(&rt, alloc, &NONE, &mut files, &mut say)?;
-    assert_eq!(rt; report.status, Status::Block { number: 0 });
-    assert_eq!(rt; report.status.number(), 6);
-    assert_eq!(rt; report.blocks, 1);
-    assert!(rt; report.tape.is_empty());
-    assert_eq!(rt; say.said(), "block 0\n");
+    equal(&rt, report.status, Status::Block { number: 0 });
+    equal(&rt, report.status.number(), 6);
+    equal(&rt, report.blocks, 1);
+    check(&rt, report.tape.is_empty());
+    equal(&rt, say.said(), "block 0\n");
     let (name, bytes) = files.made().ok_or("nothing made")?;
-    assert_eq!(rt; name, "out");
-    assert_eq!(rt; bytes, &SMALL[..65]);
-    assert!(rt; files.open("out").is_err());
+    equal(&rt, name, "out");
+    equal(&rt, bytes, &SMALL[..65]);
+    check(&rt, files.open("out").is_err());
     let line = "done: 1 blocks, 84 bytes\n";
     let keep = ["jx", "transcode", "in", "out", "--style", "keep"];
     rewrites(&rt, &keep, &wrong, &wrong, line)?;
@@ -140,7 +141,7 @@ fn eight(rt: &(impl Abort + AllocGlobal), blocks: &[u8]) -> Result<Vec<u8>, Fail
     let mut packet = EIGHT.to_vec(rt.alloc())?;
     packet.extend_from_slice(blocks)?;
     let mut bytes = body(rt, 0x20, &packet)?;
-    assert!(rt; bytes.len() > 57);
+    check(rt, bytes.len() > 57);
     for at in [8, 24] {
         bytes[at + 3] = 32;
         bytes[at + 7] = 4;
@@ -179,15 +180,15 @@ fn the_lowest_wrong_block(rt: HostRuntime) -> Result<(), Fail> {
     let wrong = [0x60, 0x60, 0x60, 0x30, 0x60, 0x60, 0x60, 0x30];
     let (one, alone) = made_by(&rt, &[0x60; 8], "1")?;
     let (four, together) = made_by(&rt, &[0x60; 8], "4")?;
-    assert_eq!(rt; one.status, Status::Done);
-    assert_eq!(rt; four.status, Status::Done);
-    assert_eq!(rt; alone.as_slice(), together.as_slice());
+    equal(&rt, one.status, Status::Done);
+    equal(&rt, four.status, Status::Done);
+    equal(&rt, alone.as_slice(), together.as_slice());
     for threads in ["1", "4"] {
         let (report, made) = made_by(&rt, &wrong, threads)?;
-        assert_eq!(rt; report.status, Status::Block { number: 3 });
-        assert_eq!(rt; report.blocks, 8);
-        assert!(rt; report.tape.is_empty());
-        assert_eq!(rt; made.len(), 65);
+        equal(&rt, report.status, Status::Block { number: 3 });
+        equal(&rt, report.blocks, 8);
+        check(&rt, report.tape.is_empty());
+        equal(&rt, made.len(), 65);
     }
     Ok(())
 }
@@ -211,7 +212,7 @@ pub fn two_tiles(
         bytes.extend_from_slice(&[0xFF, 0x90, 0, 10, 0, 1, 0, 0, 0, 17, 0, 1])?;
     }
     bytes.extend_from_slice(&[0xFF, 0x93, 0xC0, 0x21, second, 0xFF, 0xD9])?;
-    assert!(rt; bytes.len() > 57);
+    check(&rt, bytes.len() > 57);
     bytes[11] = 2;
     bytes[57] = style;
     Ok(bytes)
@@ -256,12 +257,12 @@ fn the_rounds_before_stand(rt: HostRuntime) -> Result<(), Fail> {
     let mut files = holding(alloc, &bytes)?;
     let mut say = MemSink::new(alloc);
     let report = run_words(&rt, alloc, &NONE, &mut files, &mut say)?;
-    assert_eq!(rt; report.status, Status::Block { number: 4096 });
-    assert_eq!(rt; report.blocks, 4097);
-    assert_eq!(rt; report.tape.len(), 4096);
-    assert_eq!(rt; say.said(), "block 4096\n");
+    equal(&rt, report.status, Status::Block { number: 4096 });
+    equal(&rt, report.blocks, 4097);
+    equal(&rt, report.tape.len(), 4096);
+    equal(&rt, say.said(), "block 4096\n");
     let made = made_in(&files)?;
-    assert_eq!(rt; made, want.as_slice());
+    equal(&rt, made, want.as_slice());
     Ok(())
 }
 
@@ -272,8 +273,8 @@ fn nothing_of_its_round_stands(rt: HostRuntime) -> Result<(), Fail> {
     let mut files = holding(alloc, &two_tiles(&rt, 0x20, None, [1, 3])?)?;
     let mut say = MemSink::new(alloc);
     let report = run_gated(&rt, alloc, &NONE, &mut files, &mut say, &NoGate)?;
-    assert_eq!(rt; report.status, Status::Block { number: 1 });
-    assert!(rt; report.tape.is_empty());
-    assert_eq!(rt; written(&files), Some(65));
+    equal(&rt, report.status, Status::Block { number: 1 });
+    check(&rt, report.tape.is_empty());
+    equal(&rt, written(&files), Some(65));
     Ok(())
 }

@@ -1,5 +1,6 @@
 //! A row for each rule, limit, choice and other status: its lines fit a terminal, and name its number.
 
+use crate::checks::{check, check_at};
 use crate::say_tests::words_of;
 use jx_say::{Refusal, explain};
 use std::alloc::{AllocError, Global};
@@ -69,13 +70,15 @@ fn each_rule_has_its_line(rt: HostRuntime) -> Result<(), Fail> {
             place: 4711,
         };
         let name = format!(in alloc; "; rule {number})")?;
-        assert!(rt;
+        check_at(
+            &rt,
+            &number,
             says_lines(alloc, refusal, part, name.as_str())?,
-            "{number}"
         );
-        assert!(rt;
+        check_at(
+            &rt,
+            &number,
             says_lines(alloc, refusal, "in.j2k: ", " at byte 4711:\n")?,
-            "{number}"
         );
     }
     Ok(())
@@ -99,9 +102,10 @@ fn each_limit_has_its_line(rt: HostRuntime) -> Result<(), Fail> {
             found: 4711,
         };
         let name = format!(in alloc; "(limit {number})")?;
-        assert!(rt;
+        check_at(
+            &rt,
+            &number,
             says_lines(alloc, refusal, part, name.as_str())?,
-            "{number}"
         );
     }
     Ok(())
@@ -129,16 +133,20 @@ fn each_choice_has_its_line(rt: HostRuntime) -> Result<(), Fail> {
             place: 4711,
         };
         let name = format!(in alloc; "choice {number})")?;
-        assert!(rt;
+        check_at(
+            &rt,
+            &number,
             says_lines(alloc, refusal, part, name.as_str())?,
-            "{number}"
         );
     }
     let first = Refusal::Choice {
         number: 3,
         place: 0,
     };
-    assert!(rt; says_lines(alloc, first, "the main header or tile 0", "choice 3)")?);
+    check(
+        &rt,
+        says_lines(alloc, first, "the main header or tile 0", "choice 3)")?,
+    );
     Ok(())
 }
 
@@ -146,9 +154,18 @@ fn each_choice_has_its_line(rt: HostRuntime) -> Result<(), Fail> {
 fn each_other_status_has_its_line(rt: HostRuntime) -> Result<(), Fail> {
     let alloc = rt.alloc();
     let block = Refusal::Block { number: 4711 };
-    assert!(rt; says_lines(alloc, block, "code-block 4711", "--style keep")?);
-    assert!(rt; says_lines(alloc, Refusal::ReadFault, "in.j2k", "opened or read")?);
-    assert!(rt; says_lines(alloc, Refusal::WriteFault, "out.j2k", "created")?);
-    assert!(rt; says_lines(alloc, Refusal::NoMemory, "memory", "")?);
+    check(
+        &rt,
+        says_lines(alloc, block, "code-block 4711", "--style keep")?,
+    );
+    check(
+        &rt,
+        says_lines(alloc, Refusal::ReadFault, "in.j2k", "opened or read")?,
+    );
+    check(
+        &rt,
+        says_lines(alloc, Refusal::WriteFault, "out.j2k", "created")?,
+    );
+    check(&rt, says_lines(alloc, Refusal::NoMemory, "memory", "")?);
     Ok(())
 }

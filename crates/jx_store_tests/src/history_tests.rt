@@ -2,6 +2,7 @@
 
 ghost use Rattle.std.specs.Prelude.{◌≡◌, None, [], ◌∷◌, length};
 
+use crate::checks::{check, equal};
 use crate::works::{
     ALL_CLAIMED, Line, MADE, Maker, Plain, Plains, blanks, claims, commits, full, is_refused,
     lines, written,
@@ -138,13 +139,13 @@ fn the_history_is_what_was_done(rt: HostRuntime) -> Result<(), Fail> {
         ),
         step(0, 0, Kind::Drains),
     ];
-    assert!(rt; history.steps() == steps.as_slice());
-    assert_eq!(rt; (history.full(), history.all()), (0, 2));
+    check(&rt, history.steps() == steps.as_slice());
+    equal(&rt, (history.full(), history.all()), (0, 2));
     let tape = [
         written(0, 0, 0, MADE),
         written(1, 1, 0, MADE),
         written(2, 1, 2, MADE),
     ];
-    assert!(rt; lines.as_slice() == tape.as_slice());
+    check(&rt, lines.as_slice() == tape.as_slice());
     Ok(())
 }

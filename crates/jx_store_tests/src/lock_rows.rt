@@ -2,6 +2,7 @@
 
 ghost use Rattle.std.specs.Prelude.{◌≡◌};
 
+use crate::checks::{check, check_at};
 use crate::lock_thread_tests::by_threads;
 use crate::works::{Gated, Limits, Line, Plains, Wanted, expect_whole, many};
 use std::process::Abort;
@@ -36,10 +37,10 @@ pub fn expect_filled(rt: &impl Abort, lines: &[Line]) -> Result<(), Fail> {
     expect_whole(rt, lines, WIDEST, 3000);
     let holder = lines.first().ok_or("first")?.worker;
     for line in lines.iter().take(1024).skip(1) {
-        assert!(rt;
+        check_at(
+            rt,
+            &line.number,
             line.seen == WIDEST.first && line.worker != holder,
-            "{}",
-            line.number
         );
     }
     Ok(())
@@ -59,6 +60,6 @@ fn the_widest_window_of_a_lock_is_filled(rt: HostRuntime) -> Result<(), Fail> {
         WIDEST,
         &maker,
     )?;
-    assert!(rt; !maker.has_waited_in_vain());
+    check(&rt, !maker.has_waited_in_vain());
     expect_filled(&rt, &lines)
 }

@@ -2,6 +2,7 @@
 
 ghost use Rattle.std.specs.Prelude.{◌≡◌, None, [], ◌∷◌, length};
 
+use crate::checks::check;
 use crate::works::{
     ALL_CLAIMED, Counted, Counter, Line, MADE, Maker, Plain, Plains, SHORT, Text, blanks, claims,
     commits, full, is_refused, lines, written,
@@ -186,8 +187,8 @@ fn are_as_expected<R: Abort>(rt: &R, runs: &Runs) {
         written(1, 1, 0, SHORT),
         written(2, 2, 0, MADE),
     ];
-    assert!(rt; runs.0.as_slice() == narrow.as_slice());
-    assert!(rt; runs.1.as_slice() == short.as_slice());
+    check(rt, runs.0.as_slice() == narrow.as_slice());
+    check(rt, runs.1.as_slice() == short.as_slice());
 }
 
 #[test]

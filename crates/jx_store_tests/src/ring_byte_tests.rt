@@ -2,6 +2,7 @@
 
 ghost use Rattle.std.specs.Prelude.{◌≡◌, [], ◌∷◌, length};
 
+use crate::checks::check;
 use crate::ring_tests::{Runs, claims, commits, is_full, tape, three};
 use crate::works::{Counted, Counter, Line, MADE, Maker, Text, make_text, written};
 use jx_base::NoMemory;
@@ -85,7 +86,7 @@ fn a_window_in_bytes(rt: HostRuntime) -> Result<(), Fail> {
         written(2, 0, 1, MADE),
     ];
     let large = [written(0, 0, 0, MADE), written(1, 1, 1, MADE)];
-    assert!(rt; runs.0.as_slice() == even.as_slice());
-    assert!(rt; runs.1.as_slice() == large.as_slice());
+    check(&rt, runs.0.as_slice() == even.as_slice());
+    check(&rt, runs.1.as_slice() == large.as_slice());
     Ok(())
 }

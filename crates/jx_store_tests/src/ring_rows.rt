@@ -1,5 +1,6 @@
 //! The store without a lock, by 64 workers on its widest window.
 
+use crate::checks::check;
 use crate::lock_rows::{WIDEST, expect_filled, hold_first};
 use crate::ring_thread_tests::by_threads;
 use crate::works::many;
@@ -19,6 +20,6 @@ fn the_widest_window_of_a_ring_is_filled(rt: HostRuntime) -> Result<(), Fail> {
         WIDEST,
         &maker,
     )?;
-    assert!(rt; !maker.has_waited_in_vain());
+    check(&rt, !maker.has_waited_in_vain());
     expect_filled(&rt, &lines)
 }

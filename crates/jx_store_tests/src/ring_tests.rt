@@ -4,6 +4,7 @@ ghost use Rattle.std.specs.Prelude.{◌≡◌, All, None, Some, [], ◌∷◌, l
 ghost use Rattle.jx_store.specs.Valid.{IsOf};
 ghost use Rattle.jx_ring.specs.Passes.{claim_by};
 
+use crate::checks::{check, equal};
 use crate::works::{Counted, Counter, Line, MADE, Maker, SHORT, Text, lines, make_text, written};
 use jx_base::NoMemory;
 use jx_ring::{Pass, RingStore};
@@ -27,8 +28,8 @@ pub fn claims<V: Work, N: Bounds<V::Job>, R: Wait + Abort>(
 {
     match store.claim(rt, pass) {
         ClaimAnswer::Claim(claim) => {
-            assert_eq!(rt; claim.number(), want);
-            assert_eq!(rt; claim.seen(), seen);
+            equal(rt, claim.number(), want);
+            equal(rt, claim.seen(), seen);
             claim
         }
         ClaimAnswer::Full {
@@ -54,7 +55,7 @@ pub fn is_full<V: Work, N: Bounds<V::Job>, R: Wait + Abort>(
             let (number, _) = claim.spend();
             panic!(rt; "{number} is claimed")
         }
-        ClaimAnswer::Full { next, drained } => assert_eq!(rt; (next, drained), want),
+        ClaimAnswer::Full { next, drained } => equal(rt, (next, drained), want),
         ClaimAnswer::AllClaimed => panic!(rt; "all are claimed"),
     }
 }
@@ -267,8 +268,8 @@ fn three_passes_share_a_ring(rt: HostRuntime) -> Result<(), Fail> {
         written(1, 1, 0, SHORT),
         written(2, 2, 0, MADE),
     ];
-    assert!(rt; runs.0.as_slice() == narrow.as_slice());
-    assert!(rt; runs.1.as_slice() == short.as_slice());
+    check(&rt, runs.0.as_slice() == narrow.as_slice());
+    check(&rt, runs.1.as_slice() == short.as_slice());
     let high = [make_text(7), make_text(8), make_text(9)];
     let runs = from_seven(&rt, rt.alloc(), &high)?;
     let heavy = [
@@ -277,7 +278,7 @@ fn three_passes_share_a_ring(rt: HostRuntime) -> Result<(), Fail> {
         written(9, 2, 9, MADE),
     ];
     let single = [written(7, 0, 7, MADE), written(8, 1, 8, MADE)];
-    assert!(rt; runs.0.as_slice() == heavy.as_slice());
-    assert!(rt; runs.1.as_slice() == single.as_slice());
+    check(&rt, runs.0.as_slice() == heavy.as_slice());
+    check(&rt, runs.1.as_slice() == single.as_slice());
     Ok(())
 }

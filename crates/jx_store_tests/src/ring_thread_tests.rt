@@ -4,6 +4,7 @@ ghost use Rattle.std.specs.Prelude.{◌≡◌, ◌+◌, ◌<◌, ◌≤◌, ◌^
 ghost use Rattle.std.specs.List.{sum};
 ghost use Rattle.jx_store.specs.Setup.{end_of};
 
+use crate::checks::{check, equal};
 use crate::works::{Gated, Limits, Line, Maker, Plain, Plains, Wanted, expect_whole, lines, many};
 use jx_base::NoMemory;
 use jx_ring::{Pass, RingStore};
@@ -139,7 +140,7 @@ fn four_threads_fill_the_tape(rt: HostRuntime) -> Result<(), Fail> {
             others = 1;
         }
     }
-    assert_eq!(rt; others, 1);
+    equal(&rt, others, 1);
     Ok(())
 }
 
@@ -176,26 +177,26 @@ fn gates_open_or_hold(rt: HostRuntime) -> Result<(), Fail> {
     // Two workers are really at work at once.
     let both = gated(&jobs, 2, (2, 0), 10_000_000);
     let lines = by_threads(&rt, alloc, &jobs, &sizes, wide, &both)?;
-    assert!(rt; lines.len() == 8 && lines[0].worker != lines[1].worker);
-    assert!(rt; !both.has_waited_in_vain());
+    check(&rt, lines.len() == 8 && lines[0].worker != lines[1].worker);
+    check(&rt, !both.has_waited_in_vain());
     // One that is stalled holds back nobody inside the window.
     let stalled = gated(&jobs, 1, (0, 7), 10_000_000);
     let lines = by_threads(&rt, alloc, &jobs, &sizes, wide, &stalled)?;
-    assert!(rt; lines.len() == 8);
-    assert!(rt; !stalled.has_waited_in_vain());
+    check(&rt, lines.len() == 8);
+    check(&rt, !stalled.has_waited_in_vain());
     for line in lines.iter().skip(1) {
-        assert!(rt; line.seen == 0 && line.worker != lines[0].worker);
+        check(&rt, line.seen == 0 && line.worker != lines[0].worker);
     }
     // As many workers, and a window as wide, as there may be.
     let open = gated(&jobs, 0, (0, 0), 0);
     let lines = by_threads(&rt, alloc, &jobs, &sizes, narrowed(1024, 8, 64), &open)?;
-    assert!(rt; lines.len() == 8);
+    check(&rt, lines.len() == 8);
     // A window of one, and `most` of 1, hold back.
     for limits in [narrowed(1, 8, 2), narrowed(2, 1, 2)] {
         let held = gated(&jobs, 1, (2, 0), 2_000);
         let lines = by_threads(&rt, alloc, &jobs, &sizes, limits, &held)?;
-        assert!(rt; lines.len() == 8 && lines[1].seen == 1);
-        assert!(rt; held.has_waited_in_vain());
+        check(&rt, lines.len() == 8 && lines[1].seen == 1);
+        check(&rt, held.has_waited_in_vain());
     }
     Ok(())
 }

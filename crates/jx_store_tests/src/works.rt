@@ -4,6 +4,7 @@ ghost use Rattle.std.specs.Prelude.{ℕ, List, ◌≡◌, ◌+◌, ◌*◌, ◌<
 ghost use Rattle.std.specs.List.{sum};
 ghost use Rattle.jx_store.specs.Valid.{IsOf};
 
+use crate::checks::{check, check_at, equal, equal_at};
 use jx_base::NoMemory;
 use jx_store::{Blanks, Bounds, Claim, ClaimAnswer, Entry, LockStore, Named, Pass, Reply, Work};
 use std::alloc::Global;
@@ -279,19 +280,24 @@ pub fn lines<V: Work>(alloc: Global, tape: Vec<Entry<V>>) -> Result<Vec<Line>, N
 
 /// Whether the tape is whole and in order, each number inside the window when it was claimed, and made unless its job is bad.
 pub fn expect_whole(rt: &impl Abort, lines: &[Line], limits: Limits, count: usize) {
-    assert_eq!(rt; lines.len(), count);
+    equal(rt, lines.len(), count);
     for (place, line) in lines.iter().enumerate() {
         let number = line.number;
-        assert!(rt; number >= limits.first && (number - limits.first) as usize == place);
-        assert!(rt; line.worker < limits.workers, "{number}");
-        assert!(rt;
-            line.seen <= number && number - line.seen < limits.window,
-            "{number}"
+        check(
+            rt,
+            number >= limits.first && (number - limits.first) as usize == place,
         );
-        assert_eq!(rt;
+        check_at(rt, &number, line.worker < limits.workers);
+        check_at(
+            rt,
+            &number,
+            line.seen <= number && number - line.seen < limits.window,
+        );
+        equal_at(
+            rt,
+            &number,
             line.kind,
             if number % 100 == 13 { BAD } else { MADE },
-            "{number}"
         );
     }
 }
@@ -318,8 +324,8 @@ pub fn claims<
 {
     match store.claim(rt, pass) {
         ClaimAnswer::Claim(claim) => {
-            assert_eq!(rt; claim.number(), want);
-            assert_eq!(rt; claim.seen(), seen);
+            equal(rt, claim.number(), want);
+            equal(rt, claim.seen(), seen);
             claim
         }
         ClaimAnswer::Full {
@@ -349,8 +355,8 @@ pub fn is_refused<
             let (number, _) = claim.spend();
             panic!(rt; "{number} is claimed")
         }
-        ClaimAnswer::Full { next, drained } => assert_eq!(rt; full(next, drained), reply),
-        ClaimAnswer::AllClaimed => assert_eq!(rt; ALL_CLAIMED, reply),
+        ClaimAnswer::Full { next, drained } => equal(rt, full(next, drained), reply),
+        ClaimAnswer::AllClaimed => equal(rt, ALL_CLAIMED, reply),
     }
 }
 

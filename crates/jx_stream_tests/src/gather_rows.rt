@@ -1,5 +1,6 @@
 //! Tiles of one sample each: two, three, and as many as there may be.
 
+use crate::checks::{check, check_at, equal};
 use jx_gather::gather;
 use jx_stream::read_stream;
 use std::alloc::{AllocError, Global};
@@ -35,7 +36,7 @@ type Facts = (u8, u16, usize);
 
 /// The blocks of a file.
 fn blocks_of(rt: &impl Abort, alloc: Global, bytes: &[u8]) -> Result<Vec<Facts>, Fail> {
-    assert!(rt; bytes.len() < 1 << 28);
+    check(rt, bytes.len() < 1 << 28);
     let stream = read_stream(alloc, bytes)?;
     let blocks = gather(alloc, bytes, &stream)?;
     let mut facts = Vec::new(alloc);
@@ -58,14 +59,17 @@ fn a_few_tiles(rt: HostRuntime) -> Result<(), Fail> {
         push_part(0, first.0, &mut bytes)?;
         bytes.extend_from_slice(&[0xFF, 0xD9])?;
         let found = blocks_of(&rt, alloc, &bytes)?;
-        assert!(rt; found.as_slice() == [first.1, second.1].as_slice());
+        check(&rt, found.as_slice() == [first.1, second.1].as_slice());
         let mut bytes = front(alloc, 3)?;
         push_part(1, second.0, &mut bytes)?;
         push_part(2, third.0, &mut bytes)?;
         push_part(0, first.0, &mut bytes)?;
         bytes.extend_from_slice(&[0xFF, 0xD9])?;
         let found = blocks_of(&rt, alloc, &bytes)?;
-        assert!(rt; found.as_slice() == [first.1, second.1, third.1].as_slice());
+        check(
+            &rt,
+            found.as_slice() == [first.1, second.1, third.1].as_slice(),
+        );
     }
     Ok(())
 }
@@ -81,14 +85,14 @@ fn as_many_tiles_as_there_may_be(rt: HostRuntime) -> Result<(), Fail> {
     push_part(65_534, &[0xC0, 0x21, 3], &mut bytes)?;
     bytes.extend_from_slice(&[0xFF, 0xD9])?;
     let found = blocks_of(&rt, alloc, &bytes)?;
-    assert_eq!(rt; found.len(), 65_535);
+    equal(&rt, found.len(), 65_535);
     for (number, facts) in found.iter().enumerate() {
         let want = if number < 65_534 {
             (9, 0, 0)
         } else {
             (8, 1, 1)
         };
-        assert!(rt; *facts == want, "block {number}");
+        check_at(&rt, &number, *facts == want);
     }
     Ok(())
 }

@@ -1,6 +1,7 @@
 //! Worked tile data: one row for each rule from 25 to 31, the limits 5 and 6, blocks with and without passes, SOP, EPH and
 //! tile-parts.
 
+use crate::checks::{equal, equal_at};
 use crate::files::{EOC, edited, file_of, push_hex, told};
 use jx_base::Block;
 use jx_gather::gather;
@@ -88,7 +89,7 @@ fn rules_and_limits(rt: HostRuntime) -> Result<(), Fail> {
             Ok(_) => (0, 0),
             Err(said) => said,
         };
-        assert_eq!(rt; said, (number, place), "{line}");
+        equal_at(&rt, &line, said, (number, place));
     }
     Ok(())
 }
@@ -106,7 +107,7 @@ fn one_block(rt: HostRuntime) -> Result<(), Fail> {
     ] {
         let file = edited(alloc, from, 80, text)?;
         match blocks_of(alloc, &file)? {
-            Ok(blocks) => assert_eq!(rt; blocks.as_slice(), [want].as_slice(), "{text}"),
+            Ok(blocks) => equal_at(&rt, &text, blocks.as_slice(), [want].as_slice()),
             Err(_) => Err("refused")?,
         }
     }
@@ -139,7 +140,7 @@ fn marks_at_each_place(rt: HostRuntime) -> Result<(), Fail> {
                 Ok(_) => (0, 0),
                 Err(said) => said,
             };
-            assert_eq!(rt; said, want, "FF at {place} before {next}");
+            equal_at(&rt, &(place, next), said, want);
         }
     }
     Ok(())
@@ -158,8 +159,8 @@ fn several_tile_parts(rt: HostRuntime) -> Result<(), Fail> {
     push_hex(PARTS, &mut file)?;
     push_hex(EOC, &mut file)?;
     match blocks_of(alloc, &file)? {
-        Ok(blocks) => assert_eq!(rt; blocks.as_slice(), [[9usize, 7, 4, 2, 2]].as_slice()),
-        Err((number, place)) => assert_eq!(rt; (number, place), (0, 0)),
+        Ok(blocks) => equal(&rt, blocks.as_slice(), [[9usize, 7, 4, 2, 2]].as_slice()),
+        Err((number, place)) => equal(&rt, (number, place), (0, 0)),
     }
     Ok(())
 }
@@ -182,8 +183,8 @@ fn numbers_of_packets_wrap(rt: HostRuntime) -> Result<(), Fail> {
     }
     push_hex(EOC, &mut file)?;
     match blocks_of(alloc, &file)? {
-        Ok(blocks) => assert_eq!(rt; blocks.len(), 2),
-        Err((number, place)) => assert_eq!(rt; (number, place), (0, 0)),
+        Ok(blocks) => equal(&rt, blocks.len(), 2),
+        Err((number, place)) => equal(&rt, (number, place), (0, 0)),
     }
     Ok(())
 }

@@ -1,5 +1,6 @@
 //! Made files: their lengths, their blocks and their bytes, as a second program of the same text gives them.
 
+use crate::checks::{equal, equal_at};
 use jx_gather::gather;
 use jx_make::make;
 use jx_stream::read_stream;
@@ -43,12 +44,13 @@ fn small_files(rt: HostRuntime) -> Result<(), Fail> {
     for (seed, width, height, length, blocks, hash) in ROWS {
         if 1 <= width && width <= 4096 && 1 <= height && height <= 4096 {
             let bytes = make(alloc, seed, width, height).map_err(|_| "memory")?;
-            assert_eq!(rt; bytes.len(), length, "{seed} {width} {height}");
-            assert_eq!(rt; hash_of(&bytes), hash, "{seed} {width} {height}");
-            assert_eq!(rt;
+            equal_at(&rt, &(seed, width, height), bytes.len(), length);
+            equal_at(&rt, &(seed, width, height), hash_of(&bytes), hash);
+            equal_at(
+                &rt,
+                &(seed, width, height),
                 count_of(alloc, &bytes),
                 Some(blocks),
-                "{seed} {width} {height}"
             );
         }
     }
@@ -59,9 +61,9 @@ fn small_files(rt: HostRuntime) -> Result<(), Fail> {
 fn large_file(rt: HostRuntime) -> Result<(), Fail> {
     let alloc = rt.alloc();
     let bytes = make(alloc, 1, 2048, 1536).map_err(|_| "memory")?;
-    assert_eq!(rt; bytes.len(), 281_161);
-    assert_eq!(rt; hash_of(&bytes), 0x06B5_7600_15BB_0BED);
-    assert_eq!(rt; count_of(alloc, &bytes), Some(2_316));
+    equal(&rt, bytes.len(), 281_161);
+    equal(&rt, hash_of(&bytes), 0x06B5_7600_15BB_0BED);
+    equal(&rt, count_of(alloc, &bytes), Some(2_316));
     Ok(())
 }
 
@@ -104,6 +106,6 @@ fn whole_file(rt: HostRuntime) -> Result<(), Fail> {
     }
     wanted.extend_from_slice(b"\xFF\xD9")?;
     let bytes = make(alloc, 2832, 1, 1).map_err(|_| "memory")?;
-    assert_eq!(rt; bytes.as_slice(), wanted.as_slice());
+    equal(&rt, bytes.as_slice(), wanted.as_slice());
     Ok(())
 }

@@ -4,6 +4,7 @@
 mod rows;
 mod views;
 
+use crate::checks::{check, equal, equal_at};
 use crate::files::{EOC, MAIN, PART, SIZ, edited, file_of, push_hex, told};
 use jx_base::Band;
 use jx_marker::Segment;
@@ -37,7 +38,7 @@ fn rows_hold(rt: &impl Abort, alloc: Global, rows: &str) -> Result<(), Fail> {
         let number = words.next().ok_or("rule")?.parse::<u8>()?;
         let place = words.next().ok_or("place")?.parse::<u128>()?;
         let file = edited(alloc, from.parse::<usize>()?, to, text)?;
-        assert_eq!(rt; answer(alloc, &file), (number, place), "{line}");
+        equal_at(rt, &line, answer(alloc, &file), (number, place));
     }
     Ok(())
 }
@@ -68,7 +69,7 @@ fn cuts(rt: HostRuntime) -> Result<(), Fail> {
             80..=81 => (23, 80),
             _ => (0, 0),
         };
-        assert_eq!(rt; answer(alloc, &file), want, "{n}");
+        equal_at(&rt, &n, answer(alloc, &file), want);
     }
     Ok(())
 }
@@ -76,7 +77,7 @@ fn cuts(rt: HostRuntime) -> Result<(), Fail> {
 // A stream that is there.
 fn stream_in(rt: &impl Abort, alloc: Global, file: &[u8]) -> Result<Stream, Fail> {
     let known = file.len() < 2000;
-    assert!(rt; known);
+    check(rt, known);
     match read_stream(alloc, file) {
         Ok(stream) => Ok(stream),
         Err(_) => Err("refused")?,
@@ -117,24 +118,26 @@ fn wide(alloc: Global, segment: &str) -> Result<Vec<u8>, AllocError> {
 fn indexes_of_two_bytes(rt: HostRuntime) -> Result<(), Fail> {
     let alloc = rt.alloc();
     let plain = stream_in(&rt, alloc, &wide(alloc, "")?)?;
-    assert_eq!(rt;
+    equal(
+        &rt,
         (
             plain.siz.comps.as_slice().len(),
-            plain.params(0, 256).style.bits
+            plain.params(0, 256).style.bits,
         ),
-        (257, 0)
+        (257, 0),
     );
     let own = stream_in(
         &rt,
         alloc,
         &wide(alloc, "FF53 000A 0100 00 00 04 04 20 01")?,
     )?;
-    assert_eq!(rt;
+    equal(
+        &rt,
         (own.params(0, 255).style.bits, own.params(0, 256).style.bits),
-        (0, 0x20)
+        (0, 0x20),
     );
     let past = wide(alloc, "FF53 000A 0101 00 00 04 04 20 01")?;
-    assert_eq!(rt; answer(alloc, &past), (12, 833));
+    equal(&rt, answer(alloc, &past), (12, 833));
     Ok(())
 }
 
@@ -150,32 +153,37 @@ fn own_parameters(rt: HostRuntime) -> Result<(), Fail> {
     )?;
     let first = stream.params(0, 0);
     let own = stream.params(1, 0);
-    assert_eq!(rt;
+    equal(
+        &rt,
         (first.style.bits, first.shift, first.guard, first.quant),
-        (0, 3, 2, 0)
+        (0, 3, 2, 0),
     );
-    assert_eq!(rt;
+    equal(
+        &rt,
         (own.style.bits, own.shift, own.guard, own.quant),
-        (1, 12, 2, 0)
+        (1, 12, 2, 0),
     );
-    assert_eq!(rt;
+    equal(
+        &rt,
         (own.levels, own.xcb, own.ycb, own.wavelet, own.precincts[0]),
-        (0, 6, 6, 1, 255)
+        (0, 6, 6, 1, 255),
     );
-    assert_eq!(rt; (own.order, own.layers, own.transform), (0, 1, 0));
-    assert_eq!(rt;
+    equal(&rt, (own.order, own.layers, own.transform), (0, 1, 0));
+    equal(
+        &rt,
         (
             stream.planes(0, 0, 0, Band::LL),
-            stream.planes(1, 0, 0, Band::LL)
+            stream.planes(1, 0, 0, Band::LL),
         ),
-        (12, 22)
+        (12, 22),
     );
-    assert_eq!(rt;
+    equal(
+        &rt,
         (
             stream.step(0, 0, 0, Band::LL),
-            stream.step(1, 0, 0, Band::LL)
+            stream.step(1, 0, 0, Band::LL),
         ),
-        ((8, 0), (9, 0))
+        ((8, 0), (9, 0)),
     );
     Ok(())
 }
@@ -185,35 +193,38 @@ fn derived_quantization(rt: HostRuntime) -> Result<(), Fail> {
     let alloc = rt.alloc();
     let main = "0001 07 01 01 FF52 000C 00 00 0001 00 05 04 04 00 01 FF5C 0005 41 6F00";
     let stream = stream_of(&rt, alloc, &[SIZ, main, PART, EOC])?;
-    assert_eq!(rt; stream.step(0, 0, 0, Band::LL), (13, 1792));
-    assert_eq!(rt; stream.step(0, 0, 1, Band::HL), (13, 1792));
-    assert_eq!(rt; stream.step(0, 0, 5, Band::HH), (9, 1792));
-    assert_eq!(rt; stream.planes(0, 0, 5, Band::LH), 10);
+    equal(&rt, stream.step(0, 0, 0, Band::LL), (13, 1792));
+    equal(&rt, stream.step(0, 0, 1, Band::HL), (13, 1792));
+    equal(&rt, stream.step(0, 0, 5, Band::HH), (9, 1792));
+    equal(&rt, stream.planes(0, 0, 5, Band::LH), 10);
     let main = "0001 07 01 01 FF52 000C 00 00 0001 00 05 04 04 00 01 FF5C 0005 01 1000";
     let stream = stream_of(&rt, alloc, &[SIZ, main, PART, EOC])?;
-    assert_eq!(rt;
+    equal(
+        &rt,
         (
             stream.step(0, 0, 5, Band::HL),
-            stream.planes(0, 0, 5, Band::HL)
+            stream.planes(0, 0, 5, Band::HL),
         ),
-        ((0, 0), 0)
+        ((0, 0), 0),
     );
     let main =
         "0001 07 01 01 FF52 000C 00 00 0001 00 01 04 04 00 01 FF5C 000B 42 4001 4802 5003 5804";
     let stream = stream_of(&rt, alloc, &[SIZ, main, PART, EOC])?;
-    assert_eq!(rt;
+    equal(
+        &rt,
         (
             stream.step(0, 0, 0, Band::LL),
-            stream.step(0, 0, 1, Band::HL)
+            stream.step(0, 0, 1, Band::HL),
         ),
-        ((8, 1), (9, 2))
+        ((8, 1), (9, 2)),
     );
-    assert_eq!(rt;
+    equal(
+        &rt,
         (
             stream.step(0, 0, 1, Band::LH),
-            stream.step(0, 0, 1, Band::HH)
+            stream.step(0, 0, 1, Band::HH),
         ),
-        ((10, 3), (11, 4))
+        ((10, 3), (11, 4)),
     );
     Ok(())
 }
@@ -239,25 +250,26 @@ fn interleaved_parts(rt: HostRuntime) -> Result<(), Fail> {
     let stream = stream_of(&rt, alloc, &[TWO, MAIN, INTERLEAVED, EOC])?;
     let tiles = stream.tiles.as_slice();
     let two = tiles.len() == 2;
-    assert!(rt; two);
+    check(&rt, two);
     let (first, second) = (&tiles[0], &tiles[1]);
-    assert_eq!(rt; (first.place, second.place), (65, 91));
-    assert_eq!(rt;
+    equal(&rt, (first.place, second.place), (65, 91));
+    equal(
+        &rt,
         (
             first.header.as_slice().len(),
             first.notes.as_slice().len(),
-            second.notes.as_slice().len()
+            second.notes.as_slice().len(),
         ),
-        (1, 1, 0)
+        (1, 1, 0),
     );
-    assert_eq!(rt; orders(alloc, first)?.as_slice(), [0u8, 2].as_slice());
-    assert_eq!(rt; orders(alloc, second)?.as_slice(), [1u8].as_slice());
+    equal(&rt, orders(alloc, first)?.as_slice(), [0u8, 2].as_slice());
+    equal(&rt, orders(alloc, second)?.as_slice(), [1u8].as_slice());
     let bodies = [Body { at: 90, length: 1 }, Body { at: 149, length: 2 }];
-    assert_eq!(rt; first.bodies.as_slice(), bodies.as_slice());
+    equal(&rt, first.bodies.as_slice(), bodies.as_slice());
     let bodies = [Body { at: 116, length: 0 }, Body { at: 165, length: 2 }];
-    assert_eq!(rt; second.bodies.as_slice(), bodies.as_slice());
+    equal(&rt, second.bodies.as_slice(), bodies.as_slice());
     let is_note = matches!(first.notes.as_slice(), [Segment::Com(_)]);
-    assert!(rt; is_note);
+    check(&rt, is_note);
     Ok(())
 }
 
@@ -268,19 +280,24 @@ fn entries_of_the_main_header(rt: HostRuntime) -> Result<(), Fail> {
     let second = "FF90 000A 0001 0000000F 00 01 FF93 00";
     let stream = stream_of(&rt, alloc, &[TWO, MAIN, poc, PART, second, EOC])?;
     for tile in stream.tiles.as_slice() {
-        assert_eq!(rt; orders(alloc, tile)?.as_slice(), [4u8].as_slice());
+        equal(&rt, orders(alloc, tile)?.as_slice(), [4u8].as_slice());
     }
     let stream = stream_of(&rt, alloc, &[SIZ, MAIN, PART, EOC])?;
     let tiles = stream.tiles.as_slice();
     let one = tiles.len() == 1;
-    assert!(rt; one);
+    check(&rt, one);
     let entries = tiles[0].progressions.as_slice();
     let one = entries.len() == 1;
-    assert!(rt; one);
-    assert_eq!(rt; (entries[0].rs, entries[0].cs, entries[0].lye), (0, 0, 1));
-    assert_eq!(rt;
+    check(&rt, one);
+    equal(
+        &rt,
+        (entries[0].rs, entries[0].cs, entries[0].lye),
+        (0, 0, 1),
+    );
+    equal(
+        &rt,
         (entries[0].re, entries[0].ce, entries[0].order),
-        (33, 0, 0)
+        (33, 0, 0),
     );
     Ok(())
 }
