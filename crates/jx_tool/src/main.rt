@@ -113,14 +113,14 @@ fn start<R: Threads + Wait + Sync + Eprint + Clock, F: Files, S: Sink>(
     requires creates { is_good (words_in args) ≡ true → F.can_create files.old (request_of (words_in args)).to }
     ensures undone { OnErr result ((F.meaning files.new ≡ F.meaning files.old) × (S.said say.new ≡ S.said say.old)) }
 {
-    let keep: Box<dyn LayerPlanner> = Box::new(alloc, KeepLayers::new())?;
-    let one: Box<dyn LayerPlanner> = Box::new(alloc, OneLayer::new())?;
-    let cuts: Box<dyn LayerPlanner> = Box::new(alloc, CutLayers::new())?;
-    let planes: Box<dyn LayerPlanner> = Box::new(alloc, PlaneLayers::new())?;
     let mut planners = Vec::with_capacity(alloc, 4)?;
+    let keep: Box<dyn LayerPlanner> = Box::new(alloc, KeepLayers::new())?;
     planners.push_reserved(keep);
+    let one: Box<dyn LayerPlanner> = Box::new(alloc, OneLayer::new())?;
     planners.push_reserved(one);
+    let cuts: Box<dyn LayerPlanner> = Box::new(alloc, CutLayers::new())?;
     planners.push_reserved(cuts);
+    let planes: Box<dyn LayerPlanner> = Box::new(alloc, PlaneLayers::new())?;
     planners.push_reserved(planes);
     Ok(end_of(rt, alloc, args, files, say, planners, progress))
 }

@@ -2,75 +2,64 @@ use super::*;
 use jx_outside::{MemFiles, MemSink};
 use std::test::Fail;
 
+// Words of a command line.
+fn words_in(alloc: Global, list: &[&str]) -> Result<Vec<String>, AllocError> {
+    let mut words = Vec::new(alloc);
+    for word in list {
+        words.push(String::from_str(alloc, word)?)?;
+    }
+    Ok(words)
+}
+
+// What a run on these words ends with; none are words that are no text.
+fn ends<R: AllocGlobal + Threads + Wait + Sync + Eprint + Clock>(
+    rt: &R,
+    list: Option<&[&str]>,
+    files: &mut MemFiles,
+    say: &mut MemSink,
+) -> Result<ExitCode, AllocError> {
+    let alloc = rt.alloc();
+    let progress = Progress::new(rt, alloc, false);
+    match list {
+        Some(list) => {
+            let words = words_in(alloc, list)?;
+            start(rt, alloc, Ok(words.into_iter()), files, say, &progress)
+        }
+        None => {
+            let none = Err(ErrorKind::InvalidData.into());
+            start(rt, alloc, none, files, say, &progress)
+        }
+    }
+}
+
 #[test]
 fn other_ends_than_zero(rt: HostRuntime) -> Result<(), Fail> {
-    let alloc = rt.alloc();
-    let mut files = MemFiles::new(alloc);
-    let mut say = MemSink::new(alloc);
-    let progress = Progress::new(&rt, alloc, false);
-    let mut words = Vec::new(alloc);
-    for word in ["jx", "transcode", "in", "out", "--layers"] {
-        words.push(String::from_str(alloc, word)?)?;
+    let mut files = MemFiles::new(rt.alloc());
+    let mut say = MemSink::new(rt.alloc());
+    let rows: [(Option<&[&str]>, u8); 3] = [
+        (Some(&["jx", "transcode", "in", "out", "--layers"]), 2),
+        (Some(&["jx", "transcode", "in", "out", "--sop"]), 7),
+        (None, 2),
+    ];
+    for (list, end) in rows {
+        let found = ends(&rt, list, &mut files, &mut say)?;
+        assert_eq!(rt; found, ExitCode::from(end));
     }
-    let end = start(
-        &rt,
-        alloc,
-        Ok(words.into_iter()),
-        &mut files,
-        &mut say,
-        &progress,
-    )?;
-    assert_eq!(rt; end, ExitCode::from(2));
-    let mut words = Vec::new(alloc);
-    for word in ["jx", "transcode", "in", "out", "--sop"] {
-        words.push(String::from_str(alloc, word)?)?;
-    }
-    let end = start(
-        &rt,
-        alloc,
-        Ok(words.into_iter()),
-        &mut files,
-        &mut say,
-        &progress,
-    )?;
-    assert_eq!(rt; end, ExitCode::from(7));
-    let end = start(
-        &rt,
-        alloc,
-        Err(ErrorKind::InvalidData.into()),
-        &mut files,
-        &mut say,
-        &progress,
-    )?;
-    assert_eq!(rt; end, ExitCode::from(2));
     assert_eq!(rt; say.said(), "words\nread fault\nwords\n");
     Ok(())
 }
 
 #[test]
 fn make_takes_no_file(rt: HostRuntime) -> Result<(), Fail> {
-    let alloc = rt.alloc();
-    let mut files = MemFiles::new(alloc);
-    let mut say = MemSink::new(alloc);
-    let progress = Progress::new(&rt, alloc, false);
-    let mut words = Vec::new(alloc);
-    for word in ["jx", "make", "5", "1", "1"] {
-        words.push(String::from_str(alloc, word)?)?;
-    }
-    let end = start(
-        &rt,
-        alloc,
-        Ok(words.into_iter()),
-        &mut files,
-        &mut say,
-        &progress,
-    )?;
-    assert_eq!(rt; end, ExitCode::from(0));
+    let mut files = MemFiles::new(rt.alloc());
+    let mut say = MemSink::new(rt.alloc());
+    let words = ["jx", "make", "5", "1", "1"];
+    let end = ends(&rt, Some(&words), &mut files, &mut say)?;
+    assert!(rt; end == ExitCode::from(0) && files.made().is_none());
     assert_eq!(rt;
         say.said(),
         "make: 3 blocks, 1101 bytes in, 293 bytes out, sum 14543\n"
     );
-    assert!(rt; files.made().is_none());
     Ok(())
 }
 
