@@ -1,28 +1,51 @@
+ghost use Rattle.std.specs.Prelude.{ℕ, List};
+
 use crate::checks::{check, equal, equal_at};
 use jx_outside::*;
-use std::fs;
-use std::process::Abort;
 use std::test::Fail;
 
-// Bytes that begin with 7 are written to a file, which is ended, opened and read.
-fn round_trip<F: Files>(
-    rt: &impl Abort,
-    files: &mut F,
-    name: &str,
-    bytes: &[u8],
-) -> Result<(), Fail>
-    requires opens { (g : F) → F.can_open g name.now }
-    requires creates { (g : F) → F.can_create g name.now }
+// Whether bytes that begin with 7 are written to a file, which is ended, opened and read, and a name that isn't there is refused.
+pub(crate) fn round_trip<F: Files>(files: &mut F, name: &str, bytes: &[u8]) -> Result<bool, Refused>
+    requires opens { (g : F) (n : List ℕ) → F.can_open g n }
+    requires creates { F.can_create files.old name.now }
+{
+    let taken = makes(files, name, bytes)?;
+    let (count, first, rest) = opened(files, name)?;
+    let refused = files.open("jx_no_such_file") == Err(Refused::Failed);
+    Ok(taken >= 1 && count >= 1 && first == 7 && rest == 0 && refused)
+}
+
+// Makes a file by one write, and says how many bytes this took.
+fn makes<F: Files>(files: &mut F, name: &str, bytes: &[u8]) -> Result<usize, Refused>
+    requires { F.can_create files.old name.now }
 {
     files.create(name)?;
-    check(rt, files.write(bytes)? >= 1);
+    let count = files.write(bytes)?;
     files.finish()?;
+    Ok(count)
+}
+
+// Opens a file, and says how many bytes a read gives, the first one, and how many a read into no room gives.
+fn opened<F: Files>(files: &mut F, name: &str) -> Result<(usize, u8, usize), Refused>
+    requires { F.can_open files.old name.now }
+{
     files.open(name)?;
     let mut piece = [0u8; 4];
-    check(rt, files.read(&mut piece)? >= 1);
-    equal(rt, piece[0], 7);
-    equal(rt, files.read(&mut [])?, 0);
-    Ok(())
+    let count = files.read(&mut piece)?;
+    let rest = files.read(&mut [])?;
+    Ok((count, piece[0], rest))
+}
+
+// Opens a file, and says of three reads how many bytes each gives, and what then stands first.
+fn three_reads<F: Files>(files: &mut F, name: &str) -> Result<[(usize, u8); 3], Refused>
+    requires { F.can_open files.old name.now }
+{
+    files.open(name)?;
+    let mut piece = [0u8; 3];
+    let first = (files.read(&mut piece)?, piece[0]);
+    let second = (files.read(&mut piece)?, piece[0]);
+    let third = (files.read(&mut piece)?, piece[0]);
+    Ok([first, second, third])
 }
 
 fn say_twice<S: Sink>(sink: &mut S) -> Result<(), Refused> {
@@ -31,23 +54,24 @@ fn say_twice<S: Sink>(sink: &mut S) -> Result<(), Refused> {
 }
 
 #[test]
-fn memory_keeps_what_is_put_and_made(rt: HostRuntime) -> Result<(), Fail> {
+fn memory_keeps_what_is_put(rt: HostRuntime) -> Result<(), Fail> {
     let mut files = MemFiles::new(rt.alloc());
-    check(&rt, files.made().is_none());
     files.put("a", &[1, 2, 3])?;
     files.put("a", &[4, 5, 6, 7, 8])?;
-    files.open("a")?;
-    let mut piece = [0u8; 3];
-    equal(&rt, files.read(&mut piece)?, 3);
-    equal(&rt, piece[0], 4);
-    equal(&rt, files.read(&mut piece)?, 2);
-    equal(&rt, piece[0], 7);
-    equal(&rt, files.read(&mut piece)?, 0);
-    round_trip(&rt, &mut files, "b", &[7, 8, 9])?;
+    let reads = three_reads(&mut files, "a")?;
+    equal(&rt, reads, [(3, 4), (2, 7), (0, 7)]);
+    equal(&rt, files.open("c"), Err(Refused::Failed));
+    Ok(())
+}
+
+#[test]
+fn memory_keeps_what_is_made(rt: HostRuntime) -> Result<(), Fail> {
+    let mut files = MemFiles::new(rt.alloc());
+    check(&rt, files.made().is_none());
+    check(&rt, round_trip(&mut files, "b", &[7, 8, 9])?);
     let (name, bytes) = files.made().ok_or("nothing made")?;
     equal(&rt, name, "b");
     equal(&rt, bytes, [7, 8, 9].as_slice());
-    equal(&rt, files.open("c"), Err(Refused::Failed));
     Ok(())
 }
 
@@ -59,6 +83,11 @@ fn a_length_is_said_where_one_is_given(rt: HostRuntime) -> Result<(), Fail> {
     equal(&rt, files.length_hint(), None);
     files.hint(7);
     equal(&rt, files.length_hint(), Some(7));
+    Ok(())
+}
+
+#[test]
+fn sure_files_say_no_length(rt: HostRuntime) -> Result<(), Fail> {
     let mut sure = SureFiles::new(rt.alloc());
     sure.put("a", &[1, 2])?;
     sure.open("a")?;
@@ -107,21 +136,25 @@ fn steps(files: &mut MemFiles) -> u32 {
     6
 }
 
+// How many bytes each of three writes takes.
+fn three_writes<F: Files>(files: &mut F, name: &str) -> Result<[usize; 3], Refused>
+    requires { F.can_create files.old name.now }
+{
+    files.create(name)?;
+    let first = files.write(&[1, 2, 3])?;
+    let second = files.write(&[3])?;
+    let third = files.write(&[])?;
+    files.finish()?;
+    Ok([first, second, third])
+}
+
 #[test]
 fn memory_takes_few_bytes(rt: HostRuntime) -> Result<(), Fail> {
     let mut files = MemFiles::new(rt.alloc());
     files.short(2);
-    files.create("a")?;
-    equal(&rt, files.write(&[1, 2, 3])?, 2);
-    equal(&rt, files.write(&[3])?, 1);
-    equal(&rt, files.write(&[])?, 0);
-    files.finish()?;
-    files.open("a")?;
-    let mut piece = [0u8; 3];
-    equal(&rt, files.read(&mut piece)?, 2);
-    equal(&rt, files.read(&mut piece)?, 1);
-    equal(&rt, piece[0], 3);
-    equal(&rt, files.read(&mut piece)?, 0);
+    equal(&rt, three_writes(&mut files, "a")?, [2, 1, 0]);
+    let reads = three_reads(&mut files, "a")?;
+    equal(&rt, reads, [(2, 1), (1, 3), (0, 3)]);
     Ok(())
 }
 
@@ -129,13 +162,9 @@ fn memory_takes_few_bytes(rt: HostRuntime) -> Result<(), Fail> {
 fn sure_files_are_found(rt: HostRuntime) -> Result<(), Fail> {
     let mut files = SureFiles::new(rt.alloc());
     files.put("a", &[7])?;
-    files.open("a")?;
-    let mut piece = [0u8; 4];
-    equal(&rt, files.read(&mut piece)?, 1);
-    equal(&rt, piece[0], 7);
-    files.create("b")?;
-    equal(&rt, files.write(&piece)?, 4);
-    files.finish()?;
+    let reads = three_reads(&mut files, "a")?;
+    equal(&rt, reads, [(1, 7), (0, 7), (0, 7)]);
+    equal(&rt, makes(&mut files, "b", &[7, 0, 0, 0])?, 4);
     let (name, bytes) = files.made().ok_or("nothing made")?;
     equal(&rt, name, "b");
     equal(&rt, bytes, [7, 0, 0, 0].as_slice());
@@ -153,17 +182,6 @@ fn sinks_keep_their_text(rt: HostRuntime) -> Result<(), Fail> {
     let mut sure = SureSink::new(rt.alloc());
     say_twice(&mut sure)?;
     equal(&rt, sure.said(), "done: said\n");
-    Ok(())
-}
-
-#[test]
-fn a_real_file(rt: HostRuntime) -> Result<(), Fail> {
-    let name = "jx_outside_real_file.tmp";
-    let mut files = StdFiles::new(&rt);
-    round_trip(&rt, &mut files, name, &[7, 8, 9])?;
-    fs::remove_file(&rt, name)?;
-    equal(&rt, files.open(name), Err(Refused::Failed));
-    equal(&rt, files.create("no/such/folder"), Err(Refused::Failed));
     Ok(())
 }
 

@@ -7,6 +7,7 @@ use crate::geometries::{
 };
 use jx_base::{Band, Rect, Span};
 use jx_geom::{Canvas, TileGeom, count_blocks, count_precincts, tiles};
+use std::alloc::Global;
 use std::process::Abort;
 use std::test::Fail;
 
@@ -51,74 +52,81 @@ fn expect_precincts(
     equal_at(rt, &(comp, res), found, points);
 }
 
-#[test]
-fn two_components_with_offset(rt: HostRuntime) -> Result<(), Fail> {
-    let first = two_components(rt.alloc(), 0)?;
-    equal(&rt, first.tile(), rect((5, 24), (0, 16)));
+/// The bands and precincts of the first tile.
+fn is_first_tile(rt: &impl Abort, geom: &TileGeom) {
+    equal(rt, geom.tile(), rect((5, 24), (0, 16)));
     equal(
-        &rt,
-        band_at(&first, 0, 1, Band::HL),
+        rt,
+        band_at(geom, 0, 1, Band::HL),
         Some(rect((2, 12), (0, 8))),
     );
     equal(
-        &rt,
-        band_at(&first, 0, 1, Band::LH),
+        rt,
+        band_at(geom, 0, 1, Band::LH),
         Some(rect((3, 12), (0, 8))),
     );
     for res in [0, 1] {
         let points = [Some((5, 0)), Some((16, 0))];
-        expect_precincts(&rt, &first, 0, res, (2, 1), points);
-        expect_precincts(&rt, &first, 1, res, (1, 1), [Some((5, 0)), None]);
+        expect_precincts(rt, geom, 0, res, (2, 1), points);
+        expect_precincts(rt, geom, 1, res, (1, 1), [Some((5, 0)), None]);
     }
-    let second = two_components(rt.alloc(), 1)?;
+}
+
+/// The precincts of the second tile.
+fn is_second_tile(rt: &impl Abort, geom: &TileGeom) {
     for (comp, res) in [(0, 0), (0, 1), (1, 0), (1, 1)] {
         let points = [Some((24, 0)), Some((32, 0))];
-        expect_precincts(&rt, &second, comp, res, (2, 1), points);
+        expect_precincts(rt, geom, comp, res, (2, 1), points);
     }
-    Ok(())
 }
 
 #[test]
-fn empty_parts(rt: HostRuntime) -> Result<(), Fail> {
-    // No multiple of 255 lies in the picture, so the component is empty.
-    let sparse = geometry(
-        rt.alloc(),
-        &whole((1, 3), (0, 3)),
+fn two_components_with_offset(rt: HostRuntime) -> Result<(), Fail> {
+    is_first_tile(&rt, &two_components(rt.alloc(), 0)?);
+    is_second_tile(&rt, &two_components(rt.alloc(), 1)?);
+    Ok(())
+}
+
+/// One tile over a picture, with a component of so many levels.
+fn of_levels(
+    alloc: Global,
+    x: (u32, u32),
+    y: (u32, u32),
+    step: u8,
+    levels: u8,
+) -> Result<TileGeom, Fail> {
+    geometry(
+        alloc,
+        &whole(x, y),
         0,
-        &[shape(255, 1, 2, (4, 4), WHOLE)],
-    )?;
+        &[shape(step, 1, levels, (4, 4), WHOLE)],
+    )
+}
+
+/// No resolution has a place.
+fn is_empty(rt: &impl Abort, geom: &TileGeom) {
     for (res, band) in [(0, Band::LL), (1, Band::HL), (2, Band::HH)] {
-        equal_at(&rt, &res, band_at(&sparse, 0, res, band).map(area), Some(0));
-        equal_at(
-            &rt,
-            &res,
-            cells_at(&sparse, 0, res, band).map(area),
-            Some(0),
-        );
-        equal_at(
-            &rt,
-            &res,
-            precincts_at(&sparse, 0, res).map(|n| n.0),
-            Some(0),
-        );
+        equal_at(rt, &res, band_at(geom, 0, res, band).map(area), Some(0));
+        equal_at(rt, &res, cells_at(geom, 0, res, band).map(area), Some(0));
+        equal_at(rt, &res, precincts_at(geom, 0, res).map(|n| n.0), Some(0));
     }
-    // Resolution 0 is empty, resolution 1 isn't.
-    let odd = geometry(
-        rt.alloc(),
-        &whole((1, 2), (0, 1)),
-        0,
-        &[shape(1, 1, 1, (4, 4), WHOLE)],
-    )?;
+}
+
+// No multiple of 255 lies in the picture.
+#[test]
+fn an_empty_component(rt: HostRuntime) -> Result<(), Fail> {
+    is_empty(&rt, &of_levels(rt.alloc(), (1, 3), (0, 3), 255, 2)?);
+    Ok(())
+}
+
+// Resolution 0 is empty, resolution 1 isn't; resolution 1 has a place, its bands have none.
+#[test]
+fn empty_parts(rt: HostRuntime) -> Result<(), Fail> {
+    let odd = of_levels(rt.alloc(), (1, 2), (0, 1), 1, 1)?;
     equal(&rt, precincts_at(&odd, 0, 0).map(|n| n.0), Some(0));
     equal(&rt, precincts_at(&odd, 0, 1), Some((1, 1)));
     equal(&rt, cells_at(&odd, 0, 1, Band::HL).map(area), Some(1));
-    // Resolution 1 has a place, its band HL has none.
-    let even = geometry(
-        rt.alloc(),
-        &whole((0, 1), (0, 1)),
-        0,
-        &[shape(1, 1, 1, (4, 4), WHOLE)],
-    )?;
+    let even = of_levels(rt.alloc(), (0, 1), (0, 1), 1, 1)?;
     equal(&rt, precincts_at(&even, 0, 1), Some((1, 1)));
     for band in [Band::HL, Band::LH, Band::HH] {
         equal(&rt, blocks_at(&even, 0, 1, band, 0).map(area), Some(0));

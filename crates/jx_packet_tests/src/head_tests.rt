@@ -1,11 +1,11 @@
 //! Headers of small precincts, both ways.
-ghost use Rattle.std.specs.Prelude.{◌≡◌, ◌<◌, ◌≤◌, ◌+◌, ◌*◌, ◌^◌, IsTrue, map, length};
-ghost use Rattle.jx_head.specs.Precinct.{CellsInRange, cells_in};
+ghost use Rattle.std.specs.Prelude.{◌≡◌, ◌<◌, ◌≤◌, ◌+◌, ◌*◌, ◌^◌, IsTrue, OnOk, map, length};
+ghost use Rattle.jx_head.specs.Precinct.{CellsInRange, IsState, cells_in};
 ghost use Rattle.jx_head.specs.Leafs.{leaf_of};
 ghost use Rattle.jx_head.specs.Writable.{AllFew, all_passes};
 
 use crate::checks::{check, equal};
-use jx_base::{Style, ends_segment, is_raw};
+use jx_base::{NoMemory, Style, ends_segment, is_raw};
 use jx_head::{BandCells, HeadFault, Leaf, Part, Precinct, PrecinctOut};
 use jx_tagtree::BitWriter;
 use std::alloc::Global;
@@ -80,6 +80,15 @@ fn leaf(alloc: Global, zero: u8, parts: &[(u16, Part)]) -> Result<Leaf, Fail> {
     })
 }
 
+/// A leaf for each of these blocks, by its zero planes and its parts.
+fn leaves_of(alloc: Global, blocks: &[(u8, &[(u16, Part)])]) -> Result<Vec<Leaf>, Fail> {
+    let mut leaves = Vec::new(alloc);
+    for (zero, parts) in blocks {
+        leaves.push(leaf(alloc, *zero, parts)?)?;
+    }
+    Ok(leaves)
+}
+
 /// The parts that a layer has of some leaves.
 fn parts_of(alloc: Global, leaves: &[Leaf], layer: u16) -> Result<Vec<Part>, Fail> {
     let mut parts = Vec::new(alloc);
@@ -106,27 +115,62 @@ fn both_ways(
     check(rt, in_range(bands));
     check(rt, few(&leaves));
     equal(rt, leaves.len(), blocks(bands));
-    let mut wanted = Vec::new(alloc);
-    for layer in 0..layers {
-        wanted.push(parts_of(alloc, &leaves, layer)?)?;
-    }
+    let wanted = all_parts(alloc, &leaves, layers)?;
     let mut out = PrecinctOut::new(alloc, bands, style, layers, leaves)?;
     let mut precinct = Precinct::new(alloc, bands, style)?;
     let mut headers = Vec::new(alloc);
     'packets: for layer in 0..layers {
-        let mut bytes = Vec::new(alloc);
-        out.write_header(layer, &mut bytes)?;
-        let written = bytes.len();
-        check(rt, written < 256);
-        headers.push(written as u8)?;
-        headers.extend_from_slice(&bytes)?;
-        bytes.push(0xff)?;
-        let (parts, used) = precinct.read_header(layer, &bytes)?;
-        equal(rt, used, written);
         check(rt, (layer as usize) < wanted.len());
-        equal(rt, parts.as_slice(), wanted[layer as usize].as_slice());
+        let parts = wanted[layer as usize].as_slice();
+        one_packet(
+            rt,
+            alloc,
+            &mut out,
+            &mut precinct,
+            layer,
+            parts,
+            &mut headers,
+        )?;
     }
     Ok(headers)
+}
+
+/// The parts that each layer has.
+fn all_parts(alloc: Global, leaves: &[Leaf], layers: u16) -> Result<Vec<Vec<Part>>, Fail> {
+    let mut all = Vec::new(alloc);
+    for layer in 0..layers {
+        all.push(parts_of(alloc, leaves, layer)?)?;
+    }
+    Ok(all)
+}
+
+/// Writes the header of a layer and reads it back, with a byte behind it; these are its parts. It is put
+/// behind the headers, with its length before it.
+fn one_packet(
+    rt: &impl Abort,
+    alloc: Global,
+    out: &mut PrecinctOut,
+    precinct: &mut Precinct,
+    layer: u16,
+    wanted: &[Part],
+    headers: &mut Vec<u8>,
+) -> Result<(), Fail>
+    requires written { (out.old.next ≡ layer) × (layer < out.old.layers) }
+    requires read { (precinct.old.layer ≡ layer) × IsState precinct.old }
+    ensures written { OnOk result ((out.new.next ≡ layer + 1) × (out.new.layers ≡ out.old.layers)) }
+    ensures read { OnOk result ((precinct.new.layer ≡ layer + 1) × IsState precinct.new) }
+{
+    let mut bytes = Vec::new(alloc);
+    out.write_header(layer, &mut bytes)?;
+    let written = bytes.len();
+    check(rt, written < 256);
+    headers.push(written as u8)?;
+    headers.extend_from_slice(&bytes)?;
+    bytes.push(0xff)?;
+    let (parts, used) = precinct.read_header(layer, &bytes)?;
+    equal(rt, used, written);
+    equal(rt, parts.as_slice(), wanted);
+    Ok(())
 }
 
 const ONE: BandCells = BandCells {
@@ -137,33 +181,63 @@ const ONE: BandCells = BandCells {
 
 const PLAIN: Style = Style { bits: 0 };
 
-#[test]
-fn worked_headers(rt: HostRuntime) -> Result<(), Fail> {
-    let alloc = rt.alloc();
-    let mut leaves = Vec::new(alloc);
-    leaves.push(leaf(alloc, 0, &[(0, part(0, 0, 1, 2047))])?)?;
-    let headers = both_ways(&rt, alloc, &[ONE], PLAIN, 1, leaves)?;
-    equal(
-        &rt,
-        headers.as_slice(),
-        [4, 0xef, 0xf7, 0xff, 0x00].as_slice(),
-    );
-    let two = BandCells { wide: 2, ..ONE };
-    let mut leaves = Vec::new(alloc);
-    leaves.push(leaf(alloc, 1, &[(0, part(0, 0, 2, 5))])?)?;
-    leaves.push(leaf(alloc, 3, &[(1, part(1, 0, 4, 9))])?)?;
-    let headers = both_ways(&rt, alloc, &[two], PLAIN, 2, leaves)?;
-    equal(
-        &rt,
-        headers.as_slice(),
-        [2, 0xee, 0x28, 2, 0xa7, 0x49].as_slice(),
-    );
+/// Wants these headers of one band's blocks.
+fn has_headers(
+    rt: &(impl Abort + AllocGlobal),
+    cells: BandCells,
+    layers: u16,
+    blocks: &[(u8, &[(u16, Part)])],
+    want: &[u8],
+) -> Result<(), Fail> {
+    let leaves = leaves_of(rt.alloc(), blocks)?;
+    let headers = both_ways(rt, rt.alloc(), &[cells], PLAIN, layers, leaves)?;
+    equal(rt, headers.as_slice(), want);
     Ok(())
 }
 
 #[test]
+fn worked_headers(rt: HostRuntime) -> Result<(), Fail> {
+    has_headers(
+        &rt,
+        ONE,
+        1,
+        &[(0, &[(0, part(0, 0, 1, 2047))])],
+        &[4, 0xef, 0xf7, 0xff, 0x00],
+    )?;
+    let two = BandCells { wide: 2, ..ONE };
+    has_headers(
+        &rt,
+        two,
+        2,
+        &[(1, &[(0, part(0, 0, 2, 5))]), (3, &[(1, part(1, 0, 4, 9))])],
+        &[2, 0xee, 0x28, 2, 0xa7, 0x49],
+    )
+}
+
+// 15 blocks, of which Lblock is raised in two packets for the block 3.
+fn uneven(alloc: Global) -> Result<Vec<Leaf>, Fail> {
+    let mut leaves = Vec::new(alloc);
+    for block in 0..15 {
+        let leaf = match block {
+            3 => leaf(
+                alloc,
+                2,
+                &[
+                    (0, part(3, 0, 3, 5)),
+                    (1, part(3, 3, 2, 100)),
+                    (2, part(3, 5, 20, 70000)),
+                ],
+            )?,
+            14 => leaf(alloc, 11, &[(2, part(14, 0, 1, 0))])?,
+            _ => leaf(alloc, 0, &[])?,
+        };
+        leaves.push(leaf)?;
+    }
+    Ok(leaves)
+}
+
+#[test]
 fn uneven_blocks(rt: HostRuntime) -> Result<(), Fail> {
-    let alloc = rt.alloc();
     let none = BandCells {
         wide: 0,
         high: 0,
@@ -174,58 +248,41 @@ fn uneven_blocks(rt: HostRuntime) -> Result<(), Fail> {
         high: 3,
         planes: 12,
     };
-    let mut leaves = Vec::new(alloc);
-    for _ in 0..3 {
-        leaves.push(leaf(alloc, 0, &[])?)?;
-    }
-    // Lblock is raised in two packets.
-    leaves.push(leaf(
-        alloc,
-        2,
-        &[
-            (0, part(3, 0, 3, 5)),
-            (1, part(3, 3, 2, 100)),
-            (2, part(3, 5, 20, 70000)),
-        ],
-    )?)?;
-    for _ in 4..14 {
-        leaves.push(leaf(alloc, 0, &[])?)?;
-    }
-    leaves.push(leaf(alloc, 11, &[(2, part(14, 0, 1, 0))])?)?;
-    let _ = both_ways(&rt, alloc, &[none, some], PLAIN, 3, leaves)?;
+    let leaves = uneven(rt.alloc())?;
+    let headers = both_ways(&rt, rt.alloc(), &[none, some], PLAIN, 3, leaves)?;
+    check(&rt, !headers.is_empty());
+    Ok(())
+}
+
+/// One block of 56 planes with these parts goes both ways in this style.
+fn goes(
+    rt: &(impl Abort + AllocGlobal),
+    bits: u8,
+    layers: u16,
+    parts: &[(u16, Part)],
+) -> Result<(), Fail> {
+    let deep = BandCells { planes: 56, ..ONE };
+    let leaves = leaves_of(rt.alloc(), &[(0, parts)])?;
+    let headers = both_ways(rt, rt.alloc(), &[deep], Style { bits }, layers, leaves)?;
+    check(rt, !headers.is_empty());
     Ok(())
 }
 
 #[test]
 fn many_passes(rt: HostRuntime) -> Result<(), Fail> {
-    let alloc = rt.alloc();
-    let deep = BandCells { planes: 56, ..ONE };
-    let mut leaves = Vec::new(alloc);
-    leaves.push(leaf(
-        alloc,
-        0,
-        &[(0, part(0, 0, 164, 1000)), (1, part(0, 164, 2, 1))],
-    )?)?;
-    let _ = both_ways(&rt, alloc, &[deep], PLAIN, 2, leaves)?;
-    let mut ended = Vec::new(alloc);
-    for pass in 0..13 {
-        ended.push((0, part(0, pass, 1, 3)))?;
+    let two = [(0, part(0, 0, 164, 1000)), (1, part(0, 164, 2, 1))];
+    goes(&rt, 0, 2, &two)?;
+    let three = [
+        (0, part(0, 0, 10, 30)),
+        (0, part(0, 10, 2, 7)),
+        (0, part(0, 12, 1, 2)),
+    ];
+    goes(&rt, 1, 1, &three)?;
+    let mut ended = [(0, part(0, 0, 1, 3)); 13];
+    for (pass, (_, part)) in (0..13_u16).zip(&mut ended) {
+        part.first = pass;
     }
-    let mut leaves = Vec::new(alloc);
-    leaves.push(leaf(alloc, 0, &ended)?)?;
-    let _ = both_ways(&rt, alloc, &[deep], Style { bits: 4 }, 1, leaves)?;
-    let mut leaves = Vec::new(alloc);
-    leaves.push(leaf(
-        alloc,
-        0,
-        &[
-            (0, part(0, 0, 10, 30)),
-            (0, part(0, 10, 2, 7)),
-            (0, part(0, 12, 1, 2)),
-        ],
-    )?)?;
-    let _ = both_ways(&rt, alloc, &[deep], Style { bits: 1 }, 1, leaves)?;
-    Ok(())
+    goes(&rt, 4, 1, &ended)
 }
 
 /// How many parts the first header of one band has, and its length.
@@ -246,77 +303,68 @@ fn first(
     }
 }
 
-/// A header with a length of 34 bits, of which the first is given.
-fn wide_length(alloc: Global, top: bool) -> Result<Vec<u8>, Fail> {
-    let mut bits = BitWriter::new(alloc);
-    for bit in [true, true, true, false] {
+/// Writes a bit so many times.
+fn put_bits(bits: &mut BitWriter, bit: bool, times: u32) -> Result<(), NoMemory> {
+    for _ in 0..times {
         bits.bit(bit)?;
     }
-    for _ in 0..31 {
-        bits.bit(true)?;
-    }
-    bits.bit(false)?;
-    bits.bit(top)?;
-    for _ in 0..33 {
-        bits.bit(false)?;
-    }
-    Ok(bits.finish()?)
+    Ok(())
 }
+
+/// A header with a length of 34 bits, of which the first is given.
+fn wide_length(alloc: Global, top: bool) -> Result<Vec<u8>, NoMemory> {
+    let mut bits = BitWriter::new(alloc);
+    for (bit, times) in [
+        (true, 3),
+        (false, 1),
+        (true, 31),
+        (false, 1),
+        (top, 1),
+        (false, 33),
+    ] {
+        put_bits(&mut bits, bit, times)?;
+    }
+    bits.finish()
+}
+
+/// What a header of one block, or of none, is refused for or gives: how many parts, and its length.
+const REFUSALS: [(u32, &[u8], Result<(usize, usize), HeadFault>); 14] = [
+    // It isn't empty, yet includes no block.
+    (9, &[0x80], Ok((0, 1))),
+    (9, &[0x00], Ok((0, 1))),
+    (9, &[], Err(HeadFault::Bits)),
+    // Zero planes reach the band's planes.
+    (0, &[0xc0], Err(HeadFault::Planes)),
+    (3, &[0xc0], Err(HeadFault::Planes)),
+    (9, &[0xc0], Err(HeadFault::Bits)),
+    // Two passes in one plane.
+    (1, &[0xf0], Err(HeadFault::Planes)),
+    (1, &[0xe0, 0x00], Ok((1, 1))),
+    // A stuffed bit is 1.
+    (9, &[0xff, 0x80], Err(HeadFault::Bits)),
+    // A header that is cut.
+    (9, &[0xef, 0xf7, 0xff, 0x00], Ok((1, 4))),
+    (9, &[0xef, 0xf7, 0xff], Err(HeadFault::Bits)),
+    (9, &[0xef, 0xf7], Err(HeadFault::Bits)),
+    (9, &[0xef], Err(HeadFault::Bits)),
+    (9, &[0xff], Err(HeadFault::Bits)),
+];
 
 #[test]
 fn refusals(rt: HostRuntime) -> Result<(), Fail> {
-    let alloc = rt.alloc();
-    let flat = BandCells { planes: 0, ..ONE };
-    let thin = BandCells { planes: 1, ..ONE };
-    let third = BandCells { planes: 3, ..ONE };
-    // It isn't empty, yet includes no block.
-    equal(&rt, first(&rt, alloc, ONE, &[0x80]), Ok((0, 1)));
-    equal(&rt, first(&rt, alloc, ONE, &[0x00]), Ok((0, 1)));
-    equal(&rt, first(&rt, alloc, ONE, &[]), Err(HeadFault::Bits));
-    // Zero planes reach the band's planes.
-    equal(
-        &rt,
-        first(&rt, alloc, flat, &[0xc0]),
-        Err(HeadFault::Planes),
-    );
-    equal(
-        &rt,
-        first(&rt, alloc, third, &[0xc0]),
-        Err(HeadFault::Planes),
-    );
-    equal(&rt, first(&rt, alloc, ONE, &[0xc0]), Err(HeadFault::Bits));
-    // Two passes in one plane.
-    equal(
-        &rt,
-        first(&rt, alloc, thin, &[0xf0]),
-        Err(HeadFault::Planes),
-    );
-    equal(&rt, first(&rt, alloc, thin, &[0xe0, 0x00]), Ok((1, 1)));
-    // A stuffed bit is 1.
-    equal(
-        &rt,
-        first(&rt, alloc, ONE, &[0xff, 0x80]),
-        Err(HeadFault::Bits),
-    );
-    // A length may have leading zeros, and must be below 2^32.
-    equal(
-        &rt,
-        first(&rt, alloc, ONE, &wide_length(alloc, false)?),
-        Ok((1, 9)),
-    );
-    equal(
-        &rt,
-        first(&rt, alloc, ONE, &wide_length(alloc, true)?),
-        Err(HeadFault::Bits),
-    );
-    let header = [0xef, 0xf7, 0xff, 0x00];
-    equal(&rt, first(&rt, alloc, ONE, &header), Ok((1, 4)));
-    for end in 0..4 {
-        equal(
-            &rt,
-            first(&rt, alloc, ONE, &header[..end]),
-            Err(HeadFault::Bits),
-        );
+    for (planes, bytes, want) in REFUSALS {
+        let cells = BandCells { planes, ..ONE };
+        equal(&rt, first(&rt, rt.alloc(), cells, bytes), want);
+    }
+    Ok(())
+}
+
+// A length may have leading zeros, and must be below 2^32.
+#[test]
+fn lengths_of_34_bits(rt: HostRuntime) -> Result<(), Fail> {
+    for (top, want) in [(false, Ok((1, 9))), (true, Err(HeadFault::Bits))] {
+        let bytes = wide_length(rt.alloc(), top)?;
+        equal(&rt, first(&rt, rt.alloc(), ONE, &bytes), want);
     }
     Ok(())
 }

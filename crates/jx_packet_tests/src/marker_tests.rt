@@ -3,7 +3,9 @@ mod rows;
 ghost use Rattle.jx_marker.specs.Ranges.{InRange};
 
 use crate::checks::{check, equal, equal_at};
-use jx_marker::{CompSize, Progression, Rule, Segment, Shape, eph, put_segment, read_segment, sop};
+use jx_marker::{
+    Cod, CompSize, Progression, Rule, Segment, Shape, Siz, eph, put_segment, read_segment, sop,
+};
 use std::alloc::{AllocError, Global};
 use std::process::Abort;
 use std::test::Fail;
@@ -69,39 +71,56 @@ fn outcome(alloc: Global, bytes: &[u8], at: usize, end: usize, comps: u16) -> u8
     if at > bytes.len() {
         return DIFFERS;
     }
-    match read_segment(alloc, bytes, at, comps) {
-        Ok((segment, after)) => {
-            if after == end && at <= end && end <= bytes.len() {
-                put_back(alloc, &segment, comps, &bytes[at..end])
-            } else {
-                DIFFERS
-            }
-        }
-        Err(Rule::Broken(rule)) => rule,
-        Err(Rule::NoMemory) => NO_MEMORY,
+    let (segment, after) = match read_segment(alloc, bytes, at, comps) {
+        Ok(found) => found,
+        Err(Rule::Broken(rule)) => return rule,
+        Err(Rule::NoMemory) => return NO_MEMORY,
+    };
+    if after != end {
+        return DIFFERS;
     }
+    put_at(alloc, &segment, comps, bytes, at, end)
+}
+
+// Whether a segment and its copy are put as the bytes from one place to another.
+fn put_at(alloc: Global, segment: &Segment, comps: u16, bytes: &[u8], at: usize, end: usize) -> u8
+    requires { InRange comps segment.now }
+{
+    if at > end || end > bytes.len() {
+        return DIFFERS;
+    }
+    put_back(alloc, segment, comps, &bytes[at..end])
+}
+
+// A row of a table: a segment, how many components the picture has, and the rule.
+fn row_of(line: &str) -> Option<(&str, u16, u8)> {
+    let mut words = line.split_whitespace();
+    let hex = words.next()?;
+    let comps = words.next()?.parse::<u16>().ok()?;
+    let rule = words.next()?.parse::<u8>().ok()?;
+    Some((hex, comps, rule))
 }
 
 // Each row of a table, alone and, where it is accepted, also with bytes before and after it.
 fn check_rows(rt: &impl Abort, alloc: Global, text: &str) -> Result<(), Fail> {
-    for line in text.lines() {
-        let mut words = line.split_whitespace();
-        let Some(hex) = words.next() else { continue };
-        let comps = words.next().ok_or("components")?.parse::<u16>()?;
-        let want = words.next().ok_or("rule")?.parse::<u8>()?;
+    for line in text.trim().lines() {
+        let (hex, comps, want) = row_of(line).ok_or("row")?;
         let bytes = bytes_of(alloc, hex)?;
         let found = outcome(alloc, bytes.as_slice(), 0, bytes.len(), comps);
         equal_at(rt, &line, found, want);
         if want == 0 {
-            let mut longer = bytes_of(alloc, "12")?;
-            longer.extend_from_slice(bytes.as_slice())?;
-            let end = longer.len();
-            longer.extend_from_slice(bytes.as_slice())?;
-            let found = outcome(alloc, longer.as_slice(), 1, end, comps);
-            equal_at(rt, &line, found, 0);
+            equal_at(rt, &line, within(alloc, &bytes, comps)?, 0);
         }
     }
     Ok(())
+}
+
+// The outcome of a segment with bytes before and after it.
+fn within(alloc: Global, segment: &[u8], comps: u16) -> Result<u8, AllocError> {
+    let mut longer = Vec::new(alloc);
+    put_all(&mut longer, &[&[0x12], segment, segment])?;
+    let end = segment.len().saturating_add(1);
+    Ok(outcome(alloc, longer.as_slice(), 1, end, comps))
 }
 
 #[test]
@@ -130,21 +149,37 @@ fn tables(rt: HostRuntime) -> Result<(), Fail> {
     Ok(())
 }
 
+// The canvas of a SIZ segment.
+const CANVAS: [u8; 34] = [
+    0, 0, 0, 0, 0, 1, 0, 0, 0, 1, 0, 0, 0, 0, 0, 0, 0, 0, 0, 0, 0, 1, 0, 0, 0, 1, 0, 0, 0, 0, 0, 0,
+    0, 0,
+];
+
 // A SIZ segment of so many components of eight bits.
 fn siz_of(alloc: Global, count: u16) -> Result<Vec<u8>, AllocError> {
-    let mut bytes = bytes_of(alloc, "FF51")?;
     let length = u16::try_from(38 + 3 * u32::from(count)).unwrap_or(0);
-    bytes.extend_from_slice(&length.to_be_bytes())?;
-    let canvas = bytes_of(
-        alloc,
-        "0000 00000001 00000001 00000000 00000000 00000001 00000001 00000000 00000000",
+    let mut bytes = Vec::new(alloc);
+    put_all(
+        &mut bytes,
+        &[
+            &[0xFF, 0x51],
+            &length.to_be_bytes(),
+            &CANVAS,
+            &count.to_be_bytes(),
+        ],
     )?;
-    bytes.extend_from_slice(canvas.as_slice())?;
-    bytes.extend_from_slice(&count.to_be_bytes())?;
     for _ in 0..count {
-        bytes.extend_from_slice(&[7, 1, 1])?;
+        put_all(&mut bytes, &[&[7, 1, 1]])?;
     }
     Ok(bytes)
+}
+
+// Puts these slices behind what there is.
+fn put_all(bytes: &mut Vec<u8>, parts: &[&[u8]]) -> Result<(), AllocError> {
+    for part in parts {
+        bytes.extend_from_slice(part)?;
+    }
+    Ok(())
 }
 
 #[test]
@@ -168,51 +203,82 @@ fn read(alloc: Global, text: &str, comps: u16) -> Result<Segment, Fail> {
     Ok(segment)
 }
 
+// A segment of each kind, and how many components the picture has.
+static FIELDS: [(&str, u16); 6] = [
+    (
+        "FF51_002C_1234_00000101_00000202_00000003_00000004_00000105_00000206_00000001_00000002_0002_070101_8B0203",
+        0,
+    ),
+    ("FF52_000E_05_04_0002_01_01_03_05_28_01_00_98", 3),
+    ("FF53_000A_0102_00_02_04_03_01_00", 300),
+    ("FF5D_000A_02_41_4801_4902_4A03", 3),
+    ("FF5F_000B_01_0002_0304_05_0106_03", 300),
+    ("FF90_000A_0102_00030405_06_07", 3),
+];
+
 // Fields by their values, as the standard's tables have them.
 #[test]
-fn fields_of_siz(rt: HostRuntime) -> Result<(), Fail> {
-    let text =
-        "FF51_002C_1234_00000101_00000202_00000003_00000004_00000105_00000206_00000001_00000002_0002_070101_8B0203";
-    let Segment::Siz(siz) = read(rt.alloc(), text, 0)? else {
-        return Err("SIZ")?;
-    };
+fn fields_of_segments(rt: HostRuntime) -> Result<(), Fail> {
+    for (text, comps) in FIELDS {
+        let segment = read(rt.alloc(), text, comps)?;
+        has_fields(&rt, &segment);
+    }
+    Ok(())
+}
+
+fn has_fields(rt: &impl Abort, segment: &Segment) {
+    match segment {
+        Segment::Siz(siz) => is_siz(rt, siz),
+        Segment::Cod(cod) => is_cod(rt, cod),
+        Segment::Coc { comp, shape } => {
+            equal(rt, *comp, 258);
+            are_fields_of(rt, shape, (2, 6, 5, 1, 0));
+        }
+        Segment::Qcc { comp, quant } => {
+            equal(rt, (*comp, quant.sqcd), (2, 0x41));
+            let want = [0x4801, 0x4902, 0x4A03];
+            equal(rt, quant.entries.as_slice(), want.as_slice());
+        }
+        Segment::Poc(entries) => {
+            let entry = Progression {
+                rs: 1,
+                cs: 2,
+                lye: 0x304,
+                re: 5,
+                ce: 0x106,
+                order: 3,
+            };
+            equal(rt, entries.as_slice().first().copied(), Some(entry));
+        }
+        Segment::Sot(sot) => equal(
+            rt,
+            (sot.tile, sot.psot, sot.part, sot.parts),
+            (0x102, 0x30405, 6, 7),
+        ),
+        _ => check(rt, false),
+    }
+}
+
+fn is_siz(rt: &impl Abort, siz: &Siz) {
     equal(
-        &rt,
+        rt,
         (siz.rsiz, siz.x1, siz.y1, siz.x0, siz.y0),
         (0x1234, 0x101, 0x202, 3, 4),
     );
-    equal(&rt, (siz.tw, siz.th, siz.tx, siz.ty), (0x105, 0x206, 1, 2));
+    equal(rt, (siz.tw, siz.th, siz.tx, siz.ty), (0x105, 0x206, 1, 2));
     let last = CompSize {
         ssiz: 0x8B,
         dx: 2,
         dy: 3,
     };
-    equal(&rt, siz.comps.as_slice().last().copied(), Some(last));
-    Ok(())
+    equal(rt, siz.comps.as_slice().last().copied(), Some(last));
 }
 
-#[test]
-fn fields_of_cod(rt: HostRuntime) -> Result<(), Fail> {
-    let text = "FF52_000E_05_04_0002_01_01_03_05_28_01_00_98";
-    let Segment::Cod(cod) = read(rt.alloc(), text, 3)? else {
-        return Err("COD")?;
-    };
-    check(&rt, !cod.sop && cod.eph);
-    equal(&rt, (cod.order, cod.layers, cod.transform), (4, 2, 1));
-    are_fields_of(&rt, &cod.shape, (1, 5, 7, 0x28, 1));
-    equal(&rt, cod.shape.precincts.as_slice(), [0x00, 0x98].as_slice());
-    Ok(())
-}
-
-#[test]
-fn fields_of_coc(rt: HostRuntime) -> Result<(), Fail> {
-    let text = "FF53_000A_0102_00_02_04_03_01_00";
-    let Segment::Coc { comp, shape } = read(rt.alloc(), text, 300)? else {
-        return Err("COC")?;
-    };
-    equal(&rt, comp, 258);
-    are_fields_of(&rt, &shape, (2, 6, 5, 1, 0));
-    Ok(())
+fn is_cod(rt: &impl Abort, cod: &Cod) {
+    check(rt, !cod.sop && cod.eph);
+    equal(rt, (cod.order, cod.layers, cod.transform), (4, 2, 1));
+    are_fields_of(rt, &cod.shape, (1, 5, 7, 0x28, 1));
+    equal(rt, cod.shape.precincts.as_slice(), [0x00, 0x98].as_slice());
 }
 
 // Levels, both exponents of a code-block, style and wavelet.
@@ -225,50 +291,6 @@ fn are_fields_of(rt: &impl Abort, shape: &Shape, want: (u8, u8, u8, u8, u8)) {
         shape.wavelet,
     );
     equal(rt, found, want);
-}
-
-#[test]
-fn fields_of_qcc(rt: HostRuntime) -> Result<(), Fail> {
-    let text = "FF5D_000A_02_41_4801_4902_4A03";
-    let Segment::Qcc { comp, quant } = read(rt.alloc(), text, 3)? else {
-        return Err("QCC")?;
-    };
-    equal(&rt, (comp, quant.sqcd), (2, 0x41));
-    let want = [0x4801, 0x4902, 0x4A03];
-    equal(&rt, quant.entries.as_slice(), want.as_slice());
-    Ok(())
-}
-
-#[test]
-fn fields_of_poc(rt: HostRuntime) -> Result<(), Fail> {
-    let text = "FF5F_000B_01_0002_0304_05_0106_03";
-    let Segment::Poc(entries) = read(rt.alloc(), text, 300)? else {
-        return Err("POC")?;
-    };
-    let entry = Progression {
-        rs: 1,
-        cs: 2,
-        lye: 0x304,
-        re: 5,
-        ce: 0x106,
-        order: 3,
-    };
-    equal(&rt, entries.as_slice().first().copied(), Some(entry));
-    Ok(())
-}
-
-#[test]
-fn fields_of_sot(rt: HostRuntime) -> Result<(), Fail> {
-    let text = "FF90_000A_0102_00030405_06_07";
-    let Segment::Sot(sot) = read(rt.alloc(), text, 3)? else {
-        return Err("SOT")?;
-    };
-    equal(
-        &rt,
-        (sot.tile, sot.psot, sot.part, sot.parts),
-        (0x102, 0x30405, 6, 7),
-    );
-    Ok(())
 }
 
 #[test]

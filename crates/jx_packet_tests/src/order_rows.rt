@@ -45,10 +45,14 @@ fn ends(
     let Ok(list) = packets(alloc, geom, 3, &[entry]) else {
         return Err("refused")?;
     };
-    let first = list.first().copied().ok_or("first")?;
-    let second = list.get(1).copied().ok_or("second")?;
-    let last = list.last().copied().ok_or("last")?;
-    Ok((first, second, last, list.len()))
+    Ok(ends_of(&list).ok_or("too few")?)
+}
+
+fn ends_of(list: &[PacketName]) -> Option<(PacketName, PacketName, PacketName, usize)> {
+    let first = list.first().copied()?;
+    let second = list.get(1).copied()?;
+    let last = list.last().copied()?;
+    Some((first, second, last, list.len()))
 }
 
 fn name(layer: u16, res: u8, comp: u16) -> PacketName {

@@ -3,7 +3,7 @@
 ghost use Rattle.std.specs.Prelude.{◌≤◌, IsTrue};
 ghost use Rattle.std.specs.List.{All};
 
-use crate::checks::equal;
+use crate::checks::{check, equal, equal_at};
 use crate::geometries::{WHOLE, geometry, two_components};
 use jx_geom::{Canvas, CompShape, TileGeom};
 use jx_marker::Progression;
@@ -66,18 +66,46 @@ fn all(order: u8) -> Progression {
     entry(order, u16::MAX, 33, 0)
 }
 
-fn expect_list(rt: &impl Abort, answer: &Result<Vec<PacketName>, OrderFault>, want: &[PacketName]) {
-    match answer {
+/// Wants this list.
+fn expect_list(
+    rt: &(impl Abort + AllocGlobal),
+    geom: &TileGeom,
+    layers: u16,
+    entries: &[Progression],
+    want: &[PacketName],
+) -> Result<(), Fail> {
+    match list(rt.alloc(), geom, layers, entries)? {
         Ok(list) => equal(rt, list.as_slice(), want),
-        Err(_) => assert!(rt; false, "uncovered"),
+        Err(_) => check(rt, false),
     }
+    Ok(())
 }
 
-fn expect_uncovered(rt: &impl Abort, answer: &Result<Vec<PacketName>, OrderFault>) {
-    match answer {
-        Ok(_) => assert!(rt; false, "covered"),
-        Err(fault) => equal(rt, *fault, OrderFault::Uncovered),
+/// Wants a list of so many packets.
+fn expect_length(
+    rt: &(impl Abort + AllocGlobal),
+    geom: &TileGeom,
+    layers: u16,
+    entries: &[Progression],
+    want: usize,
+) -> Result<(), Fail> {
+    match list(rt.alloc(), geom, layers, entries)? {
+        Ok(list) => equal(rt, list.len(), want),
+        Err(_) => check(rt, false),
     }
+    Ok(())
+}
+
+/// Wants no list, since the entries leave out a packet.
+fn expect_uncovered(
+    rt: &(impl Abort + AllocGlobal),
+    geom: &TileGeom,
+    layers: u16,
+    entries: &[Progression],
+) -> Result<(), Fail> {
+    let answer = list(rt.alloc(), geom, layers, entries)?;
+    equal(rt, answer.err(), Some(OrderFault::Uncovered));
+    Ok(())
 }
 
 fn shape(step: u8, levels: u8, precincts: [u8; 33]) -> CompShape {
@@ -169,11 +197,7 @@ fn five_orders(rt: HostRuntime) -> Result<(), Fail> {
     let first = two_components(rt.alloc(), 0)?;
     for (order, want) in ORDERS {
         let want = want.map(|(res, comp, precinct)| name(0, res, comp, precinct));
-        expect_list(
-            &rt,
-            &list(rt.alloc(), &first, 1, &[all(order)])?,
-            want.as_slice(),
-        );
+        expect_list(&rt, &first, 1, &[all(order)], &want)?;
     }
     // The second tile has two precincts in each resolution, the second ones further right.
     let second = two_components(rt.alloc(), 1)?;
@@ -187,12 +211,7 @@ fn five_orders(rt: HostRuntime) -> Result<(), Fail> {
         name(0, 1, 0, 1),
         name(0, 1, 1, 1),
     ];
-    expect_list(
-        &rt,
-        &list(rt.alloc(), &second, 1, &[all(2)])?,
-        want.as_slice(),
-    );
-    Ok(())
+    expect_list(&rt, &second, 1, &[all(2)], &want)
 }
 
 #[test]
@@ -211,11 +230,7 @@ fn positions_row_by_row(rt: HostRuntime) -> Result<(), Fail> {
         name(1, 0, 0, 3),
     ];
     for order in [2, 3, 4] {
-        expect_list(
-            &rt,
-            &list(rt.alloc(), &geom, 2, &[all(order)])?,
-            want.as_slice(),
-        );
+        expect_list(&rt, &geom, 2, &[all(order)], &want)?;
     }
     Ok(())
 }
@@ -234,12 +249,7 @@ fn fewer_levels_in_one_component(rt: HostRuntime) -> Result<(), Fail> {
         name(0, 4, 1, 0),
         name(0, 5, 1, 0),
     ];
-    expect_list(
-        &rt,
-        &list(rt.alloc(), &geom, 1, &[all(0)])?,
-        want.as_slice(),
-    );
-    Ok(())
+    expect_list(&rt, &geom, 1, &[all(0)], &want)
 }
 
 #[test]
@@ -266,22 +276,17 @@ fn entries_one_after_the_other(rt: HostRuntime) -> Result<(), Fail> {
         ([all(4), all(0)], by_resolution),
     ];
     for (entries, want) in rows {
-        expect_list(
-            &rt,
-            &list(rt.alloc(), &geom, 2, entries.as_slice())?,
-            want.as_slice(),
-        );
+        expect_list(&rt, &geom, 2, &entries, &want)?;
     }
     // Not all layers, not all resolutions, not from the first resolution or component on, nothing.
     let late = Progression { rs: 1, ..all(0) };
     let other = Progression { cs: 1, ..all(0) };
     for entries in [[first, first], [entry(0, 2, 1, 0), first], [late, other]] {
-        expect_uncovered(&rt, &list(rt.alloc(), &geom, 2, entries.as_slice())?);
+        expect_uncovered(&rt, &geom, 2, &entries)?;
     }
-    expect_uncovered(&rt, &list(rt.alloc(), &geom, 2, &[])?);
+    expect_uncovered(&rt, &geom, 2, &[])?;
     // A tile without packets needs no entry.
-    expect_list(&rt, &list(rt.alloc(), &geom, 0, &[])?, &[]);
-    Ok(())
+    expect_list(&rt, &geom, 0, &[], &[])
 }
 
 #[test]
@@ -294,36 +299,34 @@ fn wide_tile(rt: HostRuntime) -> Result<(), Fail> {
     }
     let geom = geometry(rt.alloc(), &square(60_000), 0, &comps)?;
     for order in [0, 1, 2, 3, 4] {
-        match list(rt.alloc(), &geom, 3, &[all(order)])? {
-            Ok(names) => equal(&rt, names.len(), 24),
-            Err(_) => assert!(&rt; false, "uncovered"),
-        }
+        expect_length(&rt, &geom, 3, &[all(order)], 24)?;
     }
     Ok(())
 }
 
+// The second entry begins behind a long list.
 #[test]
 fn many_packets(rt: HostRuntime) -> Result<(), Fail> {
     let mut precincts = WHOLE;
     precincts[0] = 0;
     let geom = geometry(rt.alloc(), &square(256), 0, &[shape(1, 0, precincts)])?;
-    // The second entry begins behind a long list.
-    match list(rt.alloc(), &geom, 4, &[entry(3, 3, 33, 0), all(0)])? {
-        Ok(names) => {
-            equal(&rt, names.len(), 262_144);
-            equal(&rt, names[0], name(0, 0, 0, 0));
-            equal(&rt, names[196_607], name(2, 0, 0, 65_535));
-            equal(&rt, names[196_608], name(3, 0, 0, 0));
-            equal(&rt, names[262_143], name(3, 0, 0, 65_535));
-        }
-        Err(_) => assert!(&rt; false, "uncovered"),
+    let Ok(names) = list(rt.alloc(), &geom, 4, &[entry(3, 3, 33, 0), all(0)])? else {
+        return Err("uncovered")?;
+    };
+    equal(&rt, names.len(), 262_144);
+    for (at, want) in [
+        (0, name(0, 0, 0, 0)),
+        (196_607, name(2, 0, 0, 65_535)),
+        (196_608, name(3, 0, 0, 0)),
+        (262_143, name(3, 0, 0, 65_535)),
+    ] {
+        equal_at(&rt, &at, names.get(at).copied(), Some(want));
     }
     Ok(())
 }
 
-#[test]
-fn many_empty_resolutions(rt: HostRuntime) -> Result<(), Fail> {
-    // No multiple of 255 lies in the picture, so no component has a packet.
+// No multiple of 255 lies in the picture, so no component has a packet.
+fn no_places(alloc: Global) -> Result<TileGeom, Fail> {
     let canvas = Canvas {
         x1: 3,
         y1: 3,
@@ -334,9 +337,13 @@ fn many_empty_resolutions(rt: HostRuntime) -> Result<(), Fail> {
         tx: 0,
         ty: 0,
     };
-    let comps = vec![in rt.alloc(); shape(255, 32, WHOLE); 16_384]?;
-    let geom = geometry(rt.alloc(), &canvas, 0, &comps)?;
+    let comps = vec![in alloc; shape(255, 32, WHOLE); 16_384]?;
+    geometry(alloc, &canvas, 0, &comps)
+}
+
+#[test]
+fn many_empty_resolutions(rt: HostRuntime) -> Result<(), Fail> {
+    let geom = no_places(rt.alloc())?;
     let entries = vec![in rt.alloc(); entry(1, 1, 33, 16_384); 728]?;
-    expect_list(&rt, &list(rt.alloc(), &geom, u16::MAX, &entries)?, &[]);
-    Ok(())
+    expect_list(&rt, &geom, u16::MAX, &entries, &[])
 }

@@ -3,6 +3,7 @@ ghost use Rattle.std.specs.Prelude.{◌≡◌, ◌*◌, ◌<◌, length};
 ghost use Rattle.jx_tagtree.specs.Shape.{IsShape};
 
 use crate::checks::{check, equal};
+use jx_base::NoMemory;
 use jx_tagtree::{BitFault, BitReader, BitWriter, TagReader, TagWriter};
 use std::alloc::Global;
 use std::process::Abort;
@@ -52,6 +53,18 @@ fn bits_are_read(rt: HostRuntime) {
     equal(&rt, end_after(&[0x12, 0x34], 17), Err(BitFault::Ended));
 }
 
+/// The bytes of so many bits 1 and then so many bits 0.
+fn bits_of(alloc: Global, ones: u32, zeros: u32) -> Result<Vec<u8>, NoMemory> {
+    let mut writer = BitWriter::new(alloc);
+    for _ in 0..ones {
+        writer.bit(true)?;
+    }
+    for _ in 0..zeros {
+        writer.bit(false)?;
+    }
+    writer.finish()
+}
+
 #[test]
 fn bits_are_written(rt: HostRuntime) -> Result<(), Fail> {
     let cases: [(u32, u32, &[u8]); 5] = [
@@ -62,14 +75,7 @@ fn bits_are_written(rt: HostRuntime) -> Result<(), Fail> {
         (15, 0, &[0xff, 0x7f]),
     ];
     for (ones, zeros, bytes) in cases {
-        let mut writer = BitWriter::new(rt.alloc());
-        for _ in 0..ones {
-            writer.bit(true)?;
-        }
-        for _ in 0..zeros {
-            writer.bit(false)?;
-        }
-        let written = writer.finish()?;
+        let written = bits_of(rt.alloc(), ones, zeros)?;
         equal(&rt, written.as_slice(), bytes);
     }
     Ok(())
@@ -111,6 +117,22 @@ fn both_ways(
 {
     let found = written(rt, alloc, wide, high, leaves, queries)?;
     equal(rt, found.as_slice(), bytes);
+    read_back(rt, alloc, wide, high, leaves, queries, bytes)
+}
+
+/// Reads what queries of some leaves gave.
+fn read_back(
+    rt: &impl Abort,
+    alloc: Global,
+    wide: u32,
+    high: u32,
+    leaves: &[u32],
+    queries: &[(u32, u32)],
+    bytes: &[u8],
+) -> Result<(), Fail>
+    requires shape { IsShape wide high }
+    requires leaves { length leaves.now ≡ wide * high }
+{
     let mut tree = TagReader::new(alloc, wide, high)?;
     let mut reader = BitReader::new(bytes);
     for (leaf, threshold) in queries {

@@ -12,7 +12,7 @@ ghost use Rattle.jx_plan.specs.Plan.{MayBePlanned};
 ghost use Rattle.jx_plan.specs.Wanted.{MayBeWanted};
 ghost use Rattle.jx_assemble.specs.Tile.{AreMade, AreValuesOf, block_written, made_in};
 
-use crate::checks::check;
+use crate::checks::{check, equal};
 use jx_assemble::{AssembleFault, TileOut, assemble_tile, main_header, main_view, pack_tile};
 use jx_base::{Block, NoMemory};
 use jx_block::{Job, Recoded, recode};
@@ -23,6 +23,7 @@ use jx_plan::{Options, OrderChoice, OutStream, PartChoice, PrecinctChoice, plan}
 use jx_store::{Claim, Entry, Named};
 use jx_stream::{Stream, read_stream};
 use std::alloc::{AllocError, Global};
+use std::test::Fail;
 
 /// A block without a pass, as it is written. Where it has a pass this fails as if memory were refused.
 fn bare_value<'a>(alloc: Global, job: &'a Job<'a>) -> Result<Recoded<'a>, NoMemory>
@@ -210,32 +211,51 @@ pub(crate) fn with_marks(
     })
 }
 
+const SMALL: [u8; 82] = [
+    0xFF, 0x4F, 0xFF, 0x51, 0, 41, 0, 0, 0, 0, 0, 1, 0, 0, 0, 1, 0, 0, 0, 0, 0, 0, 0, 0, 0, 0, 0,
+    1, 0, 0, 0, 1, 0, 0, 0, 0, 0, 0, 0, 0, 0, 1, 7, 1, 1, 0xFF, 0x52, 0, 12, 0, 0, 0, 1, 0, 0, 4,
+    4, 0, 1, 0xFF, 0x5C, 0, 4, 0x40, 0x40, 0xFF, 0x90, 0, 10, 0, 0, 0, 0, 0, 15, 0, 1, 0xFF, 0x93,
+    0, 0xFF, 0xD9,
+];
+
+/// The main header, and the only tile-part of at most so many bytes: none where it is longer.
+fn smallest(alloc: Global, marked: bool, most: u32) -> Result<(Vec<u8>, Option<Vec<u8>>), Fail> {
+    let options = with_marks(alloc, PartChoice::None, marked, marked, marked)?;
+    let (main, tile) = kept(alloc, &SMALL, &options, most, Form::Parts).ok_or("no plan")?;
+    match tile {
+        Ok(mut parts) if parts.len() == 1 => Ok((main, parts.pop())),
+        Err(AssembleFault::TooLong) => Ok((main, None)),
+        _ => Err("no tile")?,
+    }
+}
+
 /// The smallest tile has 15 bytes, or, with all marks, 29.
 #[test]
-fn smallest_tile(rt: HostRuntime) {
-    let file = [
-        0xFF, 0x4F, 0xFF, 0x51, 0, 41, 0, 0, 0, 0, 0, 1, 0, 0, 0, 1, 0, 0, 0, 0, 0, 0, 0, 0, 0, 0,
-        0, 1, 0, 0, 0, 1, 0, 0, 0, 0, 0, 0, 0, 0, 0, 1, 7, 1, 1, 0xFF, 0x52, 0, 12, 0, 0, 0, 1, 0,
-        0, 4, 4, 0, 1, 0xFF, 0x5C, 0, 4, 0x40, 0x40, 0xFF, 0x90, 0, 10, 0, 0, 0, 0, 0, 15, 0, 1,
-        0xFF, 0x93, 0, 0xFF, 0xD9,
-    ];
-    let none = with_marks(rt.alloc(), PartChoice::None, false, false, false).expect(&rt, "memory");
-    let all = with_marks(rt.alloc(), PartChoice::None, true, true, true).expect(&rt, "memory");
-    let (main, long) = kept(rt.alloc(), &file, &none, 14, Form::Parts).expect(&rt, "a plan");
-    check(&rt, main.as_slice() == &file[0..65]);
-    check(&rt, matches!(long, Err(AssembleFault::TooLong)));
-    let (_, bare) = kept(rt.alloc(), &file, &none, 15, Form::Parts).expect(&rt, "a plan");
-    let bare = bare.ok().expect(&rt, "a tile");
-    check(&rt, bare.len() == 1);
-    check(&rt, bare[0].as_slice() == &file[65..80]);
-    let (main, marked) = kept(rt.alloc(), &file, &all, 29, Form::Parts).expect(&rt, "a plan");
-    check(&rt, main.len() == 65);
-    check(&rt, main[49] == 6);
-    let marked = marked.ok().expect(&rt, "a tile");
-    check(&rt, marked.len() == 1);
+fn smallest_tile(rt: HostRuntime) -> Result<(), Fail> {
+    let alloc = rt.alloc();
+    let (main, long) = smallest(alloc, false, 14)?;
+    equal(&rt, main.as_slice(), &SMALL[..65]);
+    check(&rt, long.is_none());
+    let (_, bare) = smallest(alloc, false, 15)?;
+    check(
+        &rt,
+        matches!(&bare, Some(part) if part.as_slice() == &SMALL[65..80]),
+    );
+    Ok(())
+}
+
+#[test]
+fn smallest_tile_with_marks(rt: HostRuntime) -> Result<(), Fail> {
+    let (main, part) = smallest(rt.alloc(), true, 29)?;
+    equal(&rt, main.len(), 65);
+    check(&rt, matches!(main.get(49), Some(6)));
     let want = [
         0xFF, 0x90, 0, 10, 0, 0, 0, 0, 0, 29, 0, 1, 0xFF, 0x58, 0, 4, 0, 9, 0xFF, 0x93, 0xFF, 0x91,
         0, 4, 0, 0, 0, 0xFF, 0x92,
     ];
-    check(&rt, marked[0].as_slice() == want.as_slice());
+    check(
+        &rt,
+        matches!(&part, Some(part) if part.as_slice() == want.as_slice()),
+    );
+    Ok(())
 }

@@ -4,12 +4,13 @@ ghost use Rattle.std.specs.Prelude.{IfOk, IfSome};
 ghost use Rattle.jx_plan.specs.Wanted.{MayBeStyle, MayBeWanted};
 
 use crate::checks::equal;
-use crate::hex::bytes_of;
+use crate::hex::{bytes_of, put_hex};
 use crate::plan_tests::TILES;
-use crate::planned::{by_planner, fault_in, joiner, keeper, options_of, seen_in};
+use crate::planned::{Seen, by_planner, fault_in, joiner, keeper, options_of, seen_in};
 use jx_base::Style;
 use jx_plan::{Options, OrderChoice, PartChoice, PlanFault, PrecinctChoice};
 use std::alloc::{AllocError, Global};
+use std::process::Abort;
 use std::test::Fail;
 
 // Two tiles of two samples with a level each, whose packets are empty; the blocks' exponents are 5, in the second tile 6.
@@ -62,28 +63,53 @@ fn with_precincts(alloc: Global, bytes: &[u8], style: Option<Style>) -> Result<O
     })
 }
 
-// The fault of a planner that has no rule for the words, with these precincts and this style, and that of the planner that keeps.
-fn faults_of(
-    alloc: Global,
+// Wants this fault of the planner that keeps, and of a planner that has no rule for the words, with these precincts and this style;
+// of the latter, where none is wanted, that it doesn't serve.
+fn faults_are(
+    rt: &(impl Abort + AllocGlobal),
     text: &str,
     bytes: &[u8],
     style: Option<Style>,
-) -> Result<(Option<PlanFault>, Option<PlanFault>), AllocError>
+    fault: Option<(u8, u32)>,
+) -> Result<(), Fail>
     requires { IfSome style MayBeStyle }
 {
+    let alloc = rt.alloc();
     let file = bytes_of(alloc, text)?;
     let options = with_precincts(alloc, bytes, style)?;
-    let mut one = joiner(alloc)?;
-    let ruleless = fault_in(by_planner(alloc, &file, &options, &mut one));
-    let mut keep = keeper(alloc)?;
-    let by_rule = fault_in(by_planner(alloc, &file, &options, &mut keep));
-    Ok((ruleless, by_rule))
+    let unfit = match fault {
+        Some((number, place)) => Some(PlanFault::Choice { number, place }),
+        None => None,
+    };
+    let unserved = PlanFault::Choice {
+        number: 6,
+        place: 0,
+    };
+    equal(rt, keeps(alloc, &file, &options)?, unfit);
+    let ruleless = joins(alloc, &file, &options)?;
+    equal(rt, ruleless, Some(unfit.unwrap_or(unserved)));
+    Ok(())
+}
+
+// Why the planner that keeps layers has no plan.
+fn keeps(alloc: Global, file: &[u8], options: &Options) -> Result<Option<PlanFault>, AllocError>
+    requires { MayBeWanted options.now }
+{
+    let mut planner = keeper(alloc)?;
+    Ok(fault_in(by_planner(alloc, file, options, &mut planner)))
+}
+
+// Why the planner of one layer has none.
+fn joins(alloc: Global, file: &[u8], options: &Options) -> Result<Option<PlanFault>, AllocError>
+    requires { MayBeWanted options.now }
+{
+    let mut planner = joiner(alloc)?;
+    Ok(fault_in(by_planner(alloc, file, options, &mut planner)))
 }
 
 // Choice 3 comes before 2, and both before 6.
 #[test]
 fn precincts_that_fit_and_others(rt: HostRuntime) -> Result<(), Fail> {
-    let alloc = rt.alloc();
     let rows: [(&str, &[u8], Option<(u8, u32)>); 8] = [
         (LEVELS, &[], None),
         (LEVELS, &[0x77], None),
@@ -95,17 +121,7 @@ fn precincts_that_fit_and_others(rt: HostRuntime) -> Result<(), Fail> {
         (LEVEL, &[0x77, 0x07], Some((3, 1))),
     ];
     for (text, bytes, fault) in rows {
-        let (ruleless, by_rule) = faults_of(alloc, text, bytes, None)?;
-        let unfit = match fault {
-            Some((number, place)) => Some(PlanFault::Choice { number, place }),
-            None => None,
-        };
-        equal(&rt, by_rule, unfit);
-        let unserved = PlanFault::Choice {
-            number: 6,
-            place: 0,
-        };
-        equal(&rt, ruleless, Some(unfit.unwrap_or(unserved)));
+        faults_are(&rt, text, bytes, None, fault)?;
     }
     Ok(())
 }
@@ -122,7 +138,6 @@ fn causal_style(causal: bool) -> Style
 // Choice 1 comes before 3 and 6. The second tile's block has two passes, the first one's has one.
 #[test]
 fn causal_bits_within_a_plane(rt: HostRuntime) -> Result<(), Fail> {
-    let alloc = rt.alloc();
     let rows: [(&str, &[u8], bool, Option<(u8, u32)>); 7] = [
         (THREE, &[], true, Some((1, 0))),
         (THREE, &[0x77, 0x70], true, Some((1, 0))),
@@ -133,45 +148,46 @@ fn causal_bits_within_a_plane(rt: HostRuntime) -> Result<(), Fail> {
         (LEVELS, &[], true, None),
     ];
     for (text, bytes, causal, fault) in rows {
-        let style = causal_style(causal);
-        let (ruleless, by_rule) = faults_of(alloc, text, bytes, Some(style))?;
-        let unfit = match fault {
-            Some((number, place)) => Some(PlanFault::Choice { number, place }),
-            None => None,
-        };
-        equal(&rt, by_rule, unfit);
-        let unserved = PlanFault::Choice {
-            number: 6,
-            place: 0,
-        };
-        equal(&rt, ruleless, Some(unfit.unwrap_or(unserved)));
+        faults_are(&rt, text, bytes, Some(causal_style(causal)), fault)?;
     }
     Ok(())
 }
 
-// The styles of the jobs of a file.
-fn job_styles(alloc: Global, text: &str, style: Option<Style>) -> Result<Vec<Option<Style>>, Fail>
+// Wants this style of the one job of a file, where a style is asked, or none.
+fn job_has(
+    rt: &(impl Abort + AllocGlobal),
+    text: &str,
+    style: Option<Style>,
+    want: Option<Style>,
+) -> Result<(), Fail>
+    requires { IfSome style MayBeStyle }
+{
+    let seen = seen_in(with_style(rt.alloc(), text, style)?)?;
+    equal(rt, seen.styles.as_slice(), [want].as_slice());
+    Ok(())
+}
+
+// The plan of a file, where a style is asked, or none.
+fn with_style(
+    alloc: Global,
+    text: &str,
+    style: Option<Style>,
+) -> Result<Option<Result<Seen, PlanFault>>, AllocError>
     requires { IfSome style MayBeStyle }
 {
     let file = bytes_of(alloc, text)?;
     let options = options_of(alloc, "keep", style)?;
     let mut planner = keeper(alloc)?;
-    let seen = seen_in(by_planner(alloc, &file, &options, &mut planner))?;
-    Ok(seen.styles)
+    Ok(by_planner(alloc, &file, &options, &mut planner))
 }
 
 // The style is asked of a block that has another one; where all six bits are the same, or no style is asked, none is.
 #[test]
 fn styles_of_jobs(rt: HostRuntime) -> Result<(), Fail> {
-    let alloc = rt.alloc();
     let causal = Some(Style { bits: 0x08 });
-    let styles = job_styles(alloc, FOUR, causal)?;
-    equal(&rt, styles.as_slice(), [causal].as_slice());
-    let styles = job_styles(alloc, THREE, Some(Style { bits: 0 }))?;
-    equal(&rt, styles.as_slice(), [None].as_slice());
-    let styles = job_styles(alloc, THREE, None)?;
-    equal(&rt, styles.as_slice(), [None].as_slice());
-    Ok(())
+    job_has(&rt, FOUR, causal, causal)?;
+    job_has(&rt, THREE, Some(Style { bits: 0 }), None)?;
+    job_has(&rt, THREE, None, None)
 }
 
 // One sample, and 300 layers of one empty packet.
@@ -185,7 +201,7 @@ fn deep(alloc: Global) -> Result<Vec<u8>, AllocError> {
     for _ in 0..300_u32 {
         bytes.push(0)?;
     }
-    bytes.extend_from_slice(&bytes_of(alloc, "FFD9")?)?;
+    put_hex(&mut bytes, "FFD9")?;
     Ok(bytes)
 }
 
@@ -216,9 +232,15 @@ fn too_many_tile_parts(rt: HostRuntime) -> Result<(), Fail> {
         place: 0,
     };
     let options = by_layer(alloc, "keep")?;
-    let mut planner = keeper(alloc)?;
-    let fault = fault_in(by_planner(alloc, &file, &options, &mut planner));
-    equal(&rt, fault, Some(parted));
+    equal(&rt, keeps(alloc, &file, &options)?, Some(parted));
+    Ok(())
+}
+
+// One layer of the same file is one tile-part.
+#[test]
+fn one_tile_part(rt: HostRuntime) -> Result<(), Fail> {
+    let alloc = rt.alloc();
+    let file = deep(alloc)?;
     let options = by_layer(alloc, "one")?;
     let mut planner = joiner(alloc)?;
     let seen = seen_in(by_planner(alloc, &file, &options, &mut planner))?;

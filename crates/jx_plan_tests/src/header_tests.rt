@@ -12,6 +12,7 @@ use jx_marker::Segment;
 use jx_plan::{Options, OrderChoice, PartChoice, PrecinctChoice};
 use jx_stream::Stream;
 use std::alloc::{AllocError, Global};
+use std::process::Abort;
 use std::test::Fail;
 
 // SIZ with Rsiz 1; COD, QCD, POC, TLM, COM and a skipped marker; a tile of two tile-parts, the first with COC, POC and PLT, the
@@ -138,22 +139,58 @@ fn written(alloc: Global, options: &Options) -> Result<Stream, Fail>
     Ok(seen.headers)
 }
 
+// Wants these letters of a header's segments.
+fn has_codes(
+    rt: &(impl Abort + AllocGlobal),
+    segments: &[Segment],
+    want: &[u8],
+) -> Result<(), Fail> {
+    let found = codes(rt.alloc(), segments)?;
+    equal(rt, found.as_slice(), want);
+    Ok(())
+}
+
+// Wants these bytes of its precincts.
+fn has_precincts(
+    rt: &(impl Abort + AllocGlobal),
+    segments: &[Segment],
+    want: &[u8],
+) -> Result<(), Fail> {
+    let found = precincts_of(rt.alloc(), segments)?;
+    equal(rt, found.as_slice(), want);
+    Ok(())
+}
+
+// Wants these styles of it.
+fn has_styles(
+    rt: &(impl Abort + AllocGlobal),
+    segments: &[Segment],
+    want: &[u8],
+) -> Result<(), Fail> {
+    let found = header_styles(rt.alloc(), segments)?;
+    equal(rt, found.as_slice(), want);
+    Ok(())
+}
+
 #[test]
 fn headers_in_two_parts(rt: HostRuntime) -> Result<(), Fail> {
-    let alloc = rt.alloc();
-    let stream = written(alloc, &with_style(alloc, CUTS, None)?)?;
-    equal(&rt, stream.siz.rsiz, 0);
+    let options = with_style(rt.alloc(), CUTS, None)?;
+    let stream = written(rt.alloc(), &options)?;
+    are_in_two_parts(&rt, &stream)
+}
+
+fn are_in_two_parts(rt: &(impl Abort + AllocGlobal), stream: &Stream) -> Result<(), Fail> {
+    equal(rt, stream.siz.rsiz, 0);
     let main = stream.main.as_slice();
-    equal(&rt, codes(alloc, main)?.as_slice(), b"CQa".as_slice());
-    equal(&rt, cod_of(main), Some((true, false, 2, 3)));
-    equal(&rt, stream.tiles.as_slice().len(), 1);
+    has_codes(rt, main, b"CQa")?;
+    equal(rt, cod_of(main), Some((true, false, 2, 3)));
+    equal(rt, stream.tiles.as_slice().len(), 1);
     for tile in stream.tiles.as_slice() {
-        let header = tile.header.as_slice();
-        equal(&rt, codes(alloc, header)?.as_slice(), b"Obc".as_slice());
-        equal(&rt, tile.notes.as_slice().len(), 0);
-        equal(&rt, tile.progressions.as_slice().len(), 1);
+        has_codes(rt, tile.header.as_slice(), b"Obc")?;
+        equal(rt, tile.notes.as_slice().len(), 0);
+        equal(rt, tile.progressions.as_slice().len(), 1);
         for entry in tile.progressions.as_slice() {
-            equal(&rt, (entry.lye, entry.re, entry.order), (3, 33, 2));
+            equal(rt, (entry.lye, entry.re, entry.order), (3, 33, 2));
         }
     }
     Ok(())
@@ -161,24 +198,19 @@ fn headers_in_two_parts(rt: HostRuntime) -> Result<(), Fail> {
 
 #[test]
 fn order_and_precincts_of_headers(rt: HostRuntime) -> Result<(), Fail> {
-    let alloc = rt.alloc();
-    let stream = written(alloc, &with_precincts(alloc, CUTS, &[0x67, 0x55])?)?;
+    let options = with_precincts(rt.alloc(), CUTS, &[0x67, 0x55])?;
+    let stream = written(rt.alloc(), &options)?;
+    have_precincts(&rt, &stream)
+}
+
+fn have_precincts(rt: &(impl Abort + AllocGlobal), stream: &Stream) -> Result<(), Fail> {
     let main = stream.main.as_slice();
-    equal(&rt, cod_of(main), Some((true, false, 4, 3)));
-    equal(
-        &rt,
-        precincts_of(alloc, main)?.as_slice(),
-        [0x67].as_slice(),
-    );
+    equal(rt, cod_of(main), Some((true, false, 4, 3)));
+    has_precincts(rt, main, &[0x67])?;
     for tile in stream.tiles.as_slice() {
-        let header = tile.header.as_slice();
-        equal(
-            &rt,
-            precincts_of(alloc, header)?.as_slice(),
-            [0x67].as_slice(),
-        );
+        has_precincts(rt, tile.header.as_slice(), &[0x67])?;
         for entry in tile.progressions.as_slice() {
-            equal(&rt, entry.order, 4);
+            equal(rt, entry.order, 4);
         }
     }
     Ok(())
@@ -198,16 +230,23 @@ fn asked_style(is_asked: bool) -> Option<Style>
 // The main COD has style 0, the tile's COC style 1.
 #[test]
 fn style_of_headers(rt: HostRuntime) -> Result<(), Fail> {
-    let alloc = rt.alloc();
     for (is_asked, main, own) in [(true, 0x2F, 0x2F), (false, 0, 1)] {
-        let options = with_style(alloc, CUTS, asked_style(is_asked))?;
-        let stream = written(alloc, &options)?;
-        let list = header_styles(alloc, stream.main.as_slice())?;
-        equal(&rt, list.as_slice(), [main].as_slice());
-        for tile in stream.tiles.as_slice() {
-            let list = header_styles(alloc, tile.header.as_slice())?;
-            equal(&rt, list.as_slice(), [own].as_slice());
-        }
+        let options = with_style(rt.alloc(), CUTS, asked_style(is_asked))?;
+        let stream = written(rt.alloc(), &options)?;
+        have_styles(&rt, &stream, main, own)?;
+    }
+    Ok(())
+}
+
+fn have_styles(
+    rt: &(impl Abort + AllocGlobal),
+    stream: &Stream,
+    main: u8,
+    own: u8,
+) -> Result<(), Fail> {
+    has_styles(rt, stream.main.as_slice(), &[main])?;
+    for tile in stream.tiles.as_slice() {
+        has_styles(rt, tile.header.as_slice(), &[own])?;
     }
     Ok(())
 }

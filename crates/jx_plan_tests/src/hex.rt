@@ -10,9 +10,8 @@ fn digit(byte: u8) -> Option<u8> {
     }
 }
 
-/// The bytes of hexadecimal digits; what is no digit stands between them.
-pub(crate) fn bytes_of(alloc: Global, text: &str) -> Result<Vec<u8>, AllocError> {
-    let mut bytes = Vec::new(alloc);
+/// Appends the bytes of hexadecimal digits; what is no digit stands between them.
+pub(crate) fn put_hex(bytes: &mut Vec<u8>, text: &str) -> Result<(), AllocError> {
     let mut high = None;
     for byte in text.as_bytes() {
         if let Some(low) = digit(*byte) {
@@ -26,5 +25,12 @@ pub(crate) fn bytes_of(alloc: Global, text: &str) -> Result<Vec<u8>, AllocError>
             }
         }
     }
+    Ok(())
+}
+
+/// The bytes of hexadecimal digits.
+pub(crate) fn bytes_of(alloc: Global, text: &str) -> Result<Vec<u8>, AllocError> {
+    let mut bytes = Vec::new(alloc);
+    put_hex(&mut bytes, text)?;
     Ok(bytes)
 }

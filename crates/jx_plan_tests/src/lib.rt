@@ -25,4 +25,6 @@ mod planned;
 #[cfg(test)]
 mod tile_tests;
 #[cfg(test)]
+mod value_tests;
+#[cfg(test)]
 mod words_tests;

@@ -82,6 +82,23 @@ fn joined(alloc: Global, list: &[Vec<u8>]) -> Result<Vec<u8>, AllocError> {
     Ok(bytes)
 }
 
+// The tile-parts of a file's one tile, or its pieces, where it has them.
+fn tile_of(
+    alloc: Global,
+    text: &str,
+    options: &Options,
+    most: u32,
+    form: Form,
+) -> Result<Option<Vec<Vec<u8>>>, AllocError>
+    requires { MayBeWanted options.now }
+{
+    let file = bytes_of(alloc, text)?;
+    let Some((_, tile)) = kept(alloc, &file, options, most, form) else {
+        return Ok(None);
+    };
+    Ok(tile.ok())
+}
+
 // Whether its pieces are these, and together its tile-parts.
 fn puts(
     alloc: Global,
@@ -92,21 +109,20 @@ fn puts(
 ) -> Result<bool, AllocError>
     requires { MayBeWanted options.now }
 {
-    let file = bytes_of(alloc, text)?;
-    let Some((_, parts)) = kept(alloc, &file, options, most, Form::Parts) else {
+    let Some(parts) = tile_of(alloc, text, options, most, Form::Parts)? else {
         return Ok(false);
     };
-    let Some((_, pieces)) = kept(alloc, &file, options, most, Form::Pieces) else {
+    let Some(pieces) = tile_of(alloc, text, options, most, Form::Pieces)? else {
         return Ok(false);
     };
-    let Ok(parts) = parts else {
-        return Ok(false);
-    };
-    let Ok(pieces) = pieces else {
-        return Ok(false);
-    };
-    let (whole, put) = (joined(alloc, &parts)?, joined(alloc, &pieces)?);
-    Ok(whole.as_slice() == put.as_slice() && are(alloc, &pieces, want)?)
+    Ok(are_one(alloc, &parts, &pieces)? && are(alloc, &pieces, want)?)
+}
+
+// Whether both are the same bytes.
+fn are_one(alloc: Global, parts: &[Vec<u8>], pieces: &[Vec<u8>]) -> Result<bool, AllocError> {
+    let whole = joined(alloc, parts)?;
+    let put = joined(alloc, pieces)?;
+    Ok(whole.as_slice() == put.as_slice())
 }
 
 // Packets are numbered over the tile, and the tile's own segments stand once.

@@ -2,8 +2,10 @@
 
 use crate::checks::equal;
 use crate::header_tests::cod_of;
-use crate::hex::bytes_of;
-use crate::planned::{by_planner, by_planners, fault_in, joiner, keeper, options_of, seen_in};
+use crate::hex::{bytes_of, put_hex};
+use crate::planned::{
+    Seen, by_planners, by_words, fault_by, fault_in, joiner, keeper, options_of, seen_in,
+};
 use jx_layers::{LayerPlanner, TableLayers};
 use jx_plan::PlanFault;
 use std::alloc::{AllocError, Global};
@@ -21,9 +23,7 @@ pub(crate) const TILES: &str = "
 fn layers_are_kept(rt: HostRuntime) -> Result<(), Fail> {
     let alloc = rt.alloc();
     let file = bytes_of(alloc, TILES)?;
-    let mut planner = keeper(alloc)?;
-    let options = options_of(alloc, "keep", None)?;
-    let seen = seen_in(by_planner(alloc, &file, &options, &mut planner))?;
+    let seen = seen_in(by_words(alloc, &file, "keep")?)?;
     equal(&rt, seen.layers, 2);
     let cod = cod_of(seen.headers.main.as_slice());
     equal(&rt, cod, Some((false, false, 0, 2)));
@@ -39,71 +39,81 @@ fn layers_are_kept(rt: HostRuntime) -> Result<(), Fail> {
 fn all_in_one_layer(rt: HostRuntime) -> Result<(), Fail> {
     let alloc = rt.alloc();
     let file = bytes_of(alloc, TILES)?;
-    let mut planner = joiner(alloc)?;
-    let options = options_of(alloc, "one", None)?;
-    let seen = seen_in(by_planner(alloc, &file, &options, &mut planner))?;
+    let seen = seen_in(by_words(alloc, &file, "one")?)?;
     equal(&rt, seen.layers, 1);
     equal(&rt, seen.ends.as_slice(), [[0, 0, 1], [1, 0, 2]].as_slice());
-    let options = options_of(alloc, "two", None)?;
-    let fault = fault_in(by_planner(alloc, &file, &options, &mut planner));
     let choice = PlanFault::Choice {
         number: 6,
         place: 0,
     };
-    equal(&rt, fault, Some(choice));
+    equal(&rt, fault_by(alloc, &file, "two")?, Some(choice));
     Ok(())
 }
 
 // The planner that keeps; one of a table, which puts the second block's passes into a second layer, and that of one layer,
 // which serve the same words, in this order or the other.
-fn planners(alloc: Global, table_first: bool) -> Result<Vec<Box<dyn LayerPlanner>>, AllocError> {
+fn planners(alloc: Global, table_first: bool) -> Result<Vec<Box<dyn LayerPlanner>>, Fail> {
     let mut list = Vec::new(alloc);
-    list.push(keeper(alloc)?)?;
+    put(alloc, &mut list, 0)?;
+    put(alloc, &mut list, if table_first { 1 } else { 2 })?;
+    put(alloc, &mut list, if table_first { 2 } else { 1 })?;
+    Ok(list)
+}
+
+fn put(alloc: Global, list: &mut Vec<Box<dyn LayerPlanner>>, which: u8) -> Result<(), Fail> {
+    let planner = match which {
+        0 => keeper(alloc)?,
+        1 => table(alloc)?,
+        _ => joiner(alloc)?,
+    };
+    list.push(planner)?;
+    Ok(())
+}
+
+fn table(alloc: Global) -> Result<Box<dyn LayerPlanner>, Fail> {
     let Ok(table) = TableLayers::new(alloc, "one", &[0, 1]) else {
-        return Ok(list);
+        return Err(Fail::from("no memory"));
     };
     let table: Box<dyn LayerPlanner> = Box::new(alloc, table)?;
-    let one = joiner(alloc)?;
-    if table_first {
-        list.push(table)?;
-        list.push(one)?;
-    } else {
-        list.push(one)?;
-        list.push(table)?;
-    }
-    Ok(list)
+    Ok(table)
+}
+
+// The plan by the first of them that serves these words.
+fn by_first(
+    alloc: Global,
+    words: &str,
+    table_first: bool,
+) -> Result<Option<Result<Seen, PlanFault>>, Fail> {
+    let file = bytes_of(alloc, TILES)?;
+    let options = options_of(alloc, words, None)?;
+    let mut list = planners(alloc, table_first)?;
+    Ok(by_planners(alloc, &file, &options, list.as_mut_slice()))
 }
 
 #[test]
 fn first_that_serves(rt: HostRuntime) -> Result<(), Fail> {
     let alloc = rt.alloc();
-    let file = bytes_of(alloc, TILES)?;
-    let options = options_of(alloc, "one", None)?;
-    let mut list = planners(alloc, true)?;
-    let seen = seen_in(by_planners(alloc, &file, &options, list.as_mut_slice()))?;
-    equal(&rt, seen.layers, 2);
-    equal(&rt, seen.ends.as_slice(), [[0, 0, 1], [1, 1, 2]].as_slice());
-    let mut list = planners(alloc, false)?;
-    let seen = seen_in(by_planners(alloc, &file, &options, list.as_mut_slice()))?;
-    equal(&rt, seen.layers, 1);
-    equal(&rt, seen.ends.as_slice(), [[0, 0, 1], [1, 0, 2]].as_slice());
+    for (table_first, layers, end) in [(true, 2, [1, 1, 2]), (false, 1, [1, 0, 2])] {
+        let seen = seen_in(by_first(alloc, "one", table_first)?)?;
+        equal(&rt, seen.layers, layers);
+        equal(&rt, seen.ends.as_slice(), [[0, 0, 1], end].as_slice());
+    }
     Ok(())
 }
 
+// No planner of a list serves the words, and a list has none.
 #[test]
 fn none_that_serves(rt: HostRuntime) -> Result<(), Fail> {
     let alloc = rt.alloc();
-    let file = bytes_of(alloc, TILES)?;
-    let options = options_of(alloc, "two", None)?;
     let unserved = PlanFault::Choice {
         number: 6,
         place: 0,
     };
-    let mut list = planners(alloc, true)?;
-    let fault = fault_in(by_planners(alloc, &file, &options, list.as_mut_slice()));
+    let fault = fault_in(by_first(alloc, "two", true)?);
     equal(&rt, fault, Some(unserved));
-    let mut nobody: Vec<Box<dyn LayerPlanner>> = Vec::new(alloc);
-    let fault = fault_in(by_planners(alloc, &file, &options, nobody.as_mut_slice()));
+    let file = bytes_of(alloc, TILES)?;
+    let options = options_of(alloc, "two", None)?;
+    let fault = fault_in(by_planners(alloc, &file, &options, &mut []));
     equal(&rt, fault, Some(unserved));
     Ok(())
 }
@@ -117,7 +127,9 @@ const FIRST: &str = "FF90 000A 0000 0000080F 00 01 FF93";
 
 const SECOND: &str = "FF90 000A 0001 0000081D 00 01 FF52 000C 00 00 0801 00 00 04 04 00 01 FF93";
 
-fn push_empty(bytes: &mut Vec<u8>) -> Result<(), AllocError> {
+// These digits, and as many empty packets.
+fn put_with_packets(bytes: &mut Vec<u8>, text: &str) -> Result<(), AllocError> {
+    put_hex(bytes, text)?;
     for _ in 0..2049_u32 {
         bytes.push(0)?;
     }
@@ -126,11 +138,9 @@ fn push_empty(bytes: &mut Vec<u8>) -> Result<(), AllocError> {
 
 fn wide(alloc: Global) -> Result<Vec<u8>, AllocError> {
     let mut bytes = bytes_of(alloc, WIDE)?;
-    bytes.extend_from_slice(&bytes_of(alloc, FIRST)?)?;
-    push_empty(&mut bytes)?;
-    bytes.extend_from_slice(&bytes_of(alloc, SECOND)?)?;
-    push_empty(&mut bytes)?;
-    bytes.extend_from_slice(&bytes_of(alloc, "FFD9")?)?;
+    put_with_packets(&mut bytes, FIRST)?;
+    put_with_packets(&mut bytes, SECOND)?;
+    put_hex(&mut bytes, "FFD9")?;
     Ok(bytes)
 }
 
@@ -142,10 +152,7 @@ fn too_many_packets(rt: HostRuntime) -> Result<(), Fail> {
         number: 7,
         found: 4_200_450,
     };
-    let mut planner = keeper(alloc)?;
-    let options = options_of(alloc, "keep", None)?;
-    let fault = fault_in(by_planner(alloc, &file, &options, &mut planner));
-    equal(&rt, fault, Some(limit));
+    equal(&rt, fault_by(alloc, &file, "keep")?, Some(limit));
     Ok(())
 }
 
@@ -160,22 +167,17 @@ const LONG: &str = "
 fn too_many_passes(rt: HostRuntime) -> Result<(), Fail> {
     let alloc = rt.alloc();
     let file = bytes_of(alloc, LONG)?;
-    let mut planner = keeper(alloc)?;
-    let options = options_of(alloc, "keep", None)?;
-    let seen = seen_in(by_planner(alloc, &file, &options, &mut planner))?;
+    let seen = seen_in(by_words(alloc, &file, "keep")?)?;
     equal(&rt, seen.layers, 2);
     equal(
         &rt,
         seen.ends.as_slice(),
         [[0, 0, 100], [0, 1, 200]].as_slice(),
     );
-    let mut planner = joiner(alloc)?;
-    let options = options_of(alloc, "one", None)?;
-    let fault = fault_in(by_planner(alloc, &file, &options, &mut planner));
     let choice = PlanFault::Choice {
         number: 4,
         place: 0,
     };
-    equal(&rt, fault, Some(choice));
+    equal(&rt, fault_by(alloc, &file, "one")?, Some(choice));
     Ok(())
 }

@@ -70,6 +70,33 @@ pub(crate) fn fault_in(plan: Option<Result<Seen, PlanFault>>) -> Option<PlanFaul
     }
 }
 
+/// The plan of a file, where order, precincts and styles are kept: by the planner that keeps layers, or, for other words, by that of
+/// one layer. None where the file is refused.
+pub(crate) fn by_words(
+    alloc: Global,
+    file: &[u8],
+    words: &str,
+) -> Result<Option<Result<Seen, PlanFault>>, AllocError> {
+    let options = options_of(alloc, words, None)?;
+    let mut planner = planner_for(alloc, words)?;
+    Ok(by_planner(alloc, file, &options, &mut planner))
+}
+
+/// Why there is no such plan.
+pub(crate) fn fault_by(alloc: Global, file: &[u8], words: &str) -> Result<Option<PlanFault>, Fail> {
+    let plan = by_words(alloc, file, words)?;
+    Ok(fault_in(plan))
+}
+
+/// The planner of these words.
+fn planner_for(alloc: Global, words: &str) -> Result<Box<dyn LayerPlanner>, AllocError> {
+    if words == "keep" {
+        keeper(alloc)
+    } else {
+        joiner(alloc)
+    }
+}
+
 /// The planner that keeps layers.
 pub(crate) fn keeper(alloc: Global) -> Result<Box<dyn LayerPlanner>, AllocError> {
     let planner: Box<dyn LayerPlanner> = Box::new(alloc, KeepLayers::new())?;

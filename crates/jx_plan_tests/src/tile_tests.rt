@@ -2,7 +2,7 @@
 
 use crate::checks::equal;
 use crate::hex::bytes_of;
-use crate::planned::{by_planner, keeper, options_of, seen_in};
+use crate::planned::{by_words, seen_in};
 use std::test::Fail;
 
 // Three tiles of one column each; every second column has a sample, so the tile in the middle has no code-block.
@@ -16,9 +16,7 @@ const COLUMNS: &str = "
 fn a_tile_without_jobs(rt: HostRuntime) -> Result<(), Fail> {
     let alloc = rt.alloc();
     let file = bytes_of(alloc, COLUMNS)?;
-    let options = options_of(alloc, "keep", None)?;
-    let mut planner = keeper(alloc)?;
-    let seen = seen_in(by_planner(alloc, &file, &options, &mut planner))?;
+    let seen = seen_in(by_words(alloc, &file, "keep")?)?;
     equal(
         &rt,
         seen.tiles.as_slice(),

@@ -1,9 +1,9 @@
 //! Workers that a gate holds: two blocks at once, and a window that keeps one out.
 
 use crate::checks::{check, equal};
-use crate::run_tests::{holding, made_in, run_gated};
+use crate::runs::{Made, Want, ending, holding, is_left, run_gated};
 use crate::style_tests::two_tiles;
-use jx_outside::{Gate, MemSink};
+use jx_outside::Gate;
 use jx_recast::{Status, TapeEntry};
 use std::process::Abort;
 use std::sync::Wait;
@@ -89,9 +89,8 @@ fn held<R: Abort + AllocGlobal + Threads + Wait + Sync, G: Gate + Sync>(
     window: &str,
     gate: &G,
 ) -> Result<Vec<TapeEntry>, Fail> {
-    let alloc = rt.alloc();
-    let mut files = holding(alloc, &two_tiles(rt, 0, None, [3, 3])?)?;
-    let mut say = MemSink::new(alloc);
+    let bytes = two_tiles(rt.alloc(), 0, [3, 3])?;
+    let made = two_tiles(rt.alloc(), 0x20, [1, 1])?;
     let words = [
         "jx",
         "transcode",
@@ -104,13 +103,13 @@ fn held<R: Abort + AllocGlobal + Threads + Wait + Sync, G: Gate + Sync>(
         "--window",
         window,
     ];
-    let report = run_gated(rt, alloc, &words, &mut files, &mut say, gate)?;
-    equal(rt, report.status, Status::Done);
-    equal(rt, say.said(), "done: 2 blocks, 101 bytes\n");
-    let made = made_in(&files)?;
-    let want = two_tiles(rt, 0x20, None, [1, 1])?;
-    equal(rt, made, want.as_slice());
-    Ok(report.tape)
+    let want = Want {
+        made: Made::Bytes(&made),
+        ..ending(Status::Done, "done: 2 blocks, 101 bytes\n")
+    };
+    let left = run_gated(rt, &words, &holding(&bytes), gate)?;
+    is_left(rt, &words, &left, &want);
+    Ok(left.report.tape)
 }
 
 #[test]

@@ -1,12 +1,13 @@
 //! Layers by the planners that are handed in.
 
-use crate::checks::equal;
-use crate::regrouping_tests::stops;
-use crate::run_tests::{GOOD, SMALL, holding, made_in, rewrites, run_planned, written};
+use crate::bytes::{joined, repeated};
+use crate::run_tests::{GOOD, SMALL};
+use crate::runs::{Made, Want, ending, holding, is_left, rewrites, run_planned, stops};
 use crate::style_tests::body;
 use jx_layers::{LayerPlanner, TableLayers};
-use jx_outside::{MemSink, NoGate};
+use jx_outside::NoGate;
 use jx_recast::Status;
+use std::alloc::Global;
 use std::test::Fail;
 
 // The small file with four passes of its block, in three layers: one, one and two of them. The one byte of the block is in layer 0.
@@ -58,33 +59,33 @@ const CUTS: &str =
 // Four passes of one layer are cut before the passes 1 and 2.
 #[test]
 fn a_layer_is_cut(rt: HostRuntime) -> Result<(), Fail> {
-    rewrites(
-        &rt,
-        &["jx", "transcode", "in", "out", "--layers", "cuts:1,2"],
-        &body(&rt, 0, &[0xC0, 0x74, 0x10, 1])?,
-        &THREE,
-        "done: 1 blocks, 87 bytes\n",
-    )
+    let words = ["jx", "transcode", "in", "out", "--layers", "cuts:1,2"];
+    let bytes = body(rt.alloc(), 0, &[0xC0, 0x74, 0x10, 1])?;
+    rewrites(&rt, &words, &bytes, &THREE, "done: 1 blocks, 87 bytes\n")
 }
 
 // The list answers 0, 1, and 0 for the others, which is raised to 1.
 #[test]
 fn a_planner_is_handed_in(rt: HostRuntime) -> Result<(), Fail> {
-    let alloc = rt.alloc();
+    let bytes = body(rt.alloc(), 0, &[0xC0, 0x74, 0x10, 1])?;
+    let planners = listed(rt.alloc())?;
+    let left = run_planned(&rt, &TABLE, &holding(&bytes), &NoGate, planners)?;
+    let want = Want {
+        made: Made::Bytes(&LISTED),
+        ..ending(Status::Done, "done: 1 blocks, 86 bytes\n")
+    };
+    is_left(&rt, &TABLE, &left, &want);
+    Ok(())
+}
+
+fn listed(alloc: Global) -> Result<Vec<Box<dyn LayerPlanner>>, Fail> {
     let Ok(table) = TableLayers::new(alloc, "t", &[0, 1]) else {
         return Err(Fail::from("no memory"));
     };
     let table: Box<dyn LayerPlanner> = Box::new(alloc, table)?;
     let mut planners = Vec::new(alloc);
     planners.push(table)?;
-    let mut files = holding(alloc, &body(&rt, 0, &[0xC0, 0x74, 0x10, 1])?)?;
-    let mut say = MemSink::new(alloc);
-    let report = run_planned(&rt, alloc, &TABLE, &mut files, &mut say, &NoGate, planners)?;
-    equal(&rt, report.status, Status::Done);
-    equal(&rt, say.said(), "done: 1 blocks, 86 bytes\n");
-    let made = made_in(&files)?;
-    equal(&rt, made, LISTED.as_slice());
-    Ok(())
+    Ok(planners)
 }
 
 // 166 passes are too many for one layer, and not for seven.
@@ -92,7 +93,7 @@ fn a_planner_is_handed_in(rt: HostRuntime) -> Result<(), Fail> {
 fn many_passes(rt: HostRuntime) -> Result<(), Fail> {
     stops(
         &rt,
-        &["--layers", "one"],
+        &["jx", "transcode", "in", "out", "--layers", "one"],
         &WIDE,
         Status::Choice {
             number: 4,
@@ -127,7 +128,7 @@ fn words_that_say_no_rule(rt: HostRuntime) -> Result<(), Fail> {
     for layers in ["ten", "cuts:4,4"] {
         stops(
             &rt,
-            &["--layers", layers],
+            &["jx", "transcode", "in", "out", "--layers", layers],
             &SMALL,
             Status::Choice {
                 number: 6,
@@ -142,33 +143,34 @@ fn words_that_say_no_rule(rt: HostRuntime) -> Result<(), Fail> {
 
 #[test]
 fn no_planners(rt: HostRuntime) -> Result<(), Fail> {
-    let alloc = rt.alloc();
-    let mut files = holding(alloc, &SMALL)?;
-    let mut say = MemSink::new(alloc);
-    let none = Vec::new(alloc);
-    let report = run_planned(&rt, alloc, &GOOD, &mut files, &mut say, &NoGate, none)?;
-    equal(&rt, report.blocks, 1);
-    equal(&rt, say.said(), "choice 6 at 0\n");
-    equal(&rt, written(&files), None);
+    let none = Vec::new(rt.alloc());
+    let left = run_planned(&rt, &GOOD, &holding(&SMALL), &NoGate, none)?;
+    let choice = Status::Choice {
+        number: 6,
+        place: 0,
+    };
+    let want = Want {
+        blocks: Some(1),
+        ..ending(choice, "choice 6 at 0\n")
+    };
+    is_left(&rt, &GOOD, &left, &want);
     Ok(())
 }
 
 // 33 layers of 131,406 precincts.
 #[test]
 fn too_many_packets(rt: HostRuntime) -> Result<(), Fail> {
-    let mut bytes = MANY.to_vec(rt.alloc())?;
-    for _ in 0..131_406_u32 {
-        bytes.push(0)?;
-    }
-    bytes.extend_from_slice(&[0xFF, 0xD9])?;
+    let packets = repeated(rt.alloc(), 0, 131_406)?;
+    let bytes = joined(rt.alloc(), &[&MANY, &packets, &[0xFF, 0xD9]])?;
+    let limit = Status::Limit {
+        number: 7,
+        found: 4_336_398,
+    };
     stops(
         &rt,
-        &["--layers", CUTS],
+        &["jx", "transcode", "in", "out", "--layers", CUTS],
         &bytes,
-        Status::Limit {
-            number: 7,
-            found: 4_336_398,
-        },
+        limit,
         131_406,
         "limit 7: 4336398\n",
     )

@@ -3,6 +3,8 @@
 #![tactic(auto)]
 
 #[cfg(test)]
+mod bytes;
+#[cfg(test)]
 mod checks;
 #[cfg(test)]
 mod device_tests;
@@ -20,6 +22,8 @@ mod refusal_tests;
 mod regrouping_tests;
 #[cfg(test)]
 mod run_tests;
+#[cfg(test)]
+mod runs;
 #[cfg(test)]
 mod say_tests;
 #[cfg(test)]

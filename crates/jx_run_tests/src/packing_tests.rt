@@ -1,10 +1,10 @@
 //! How files are packed: interleaved tile-parts, segments that are dropped or moved, layers, tiles without packets, many packets.
 
-use crate::checks::{check, equal};
-use crate::run_tests::{SMALL, holding, rewrites, run_words};
-use jx_outside::MemSink;
+use crate::bytes::{joined, repeated, spliced};
+use crate::run_tests::SMALL;
+use crate::runs::{Made, Want, ending, ends, holding, rewrites};
 use jx_recast::Status;
-use std::process::Abort;
+use std::alloc::{AllocError, Global};
 use std::test::Fail;
 
 // Two tiles whose tile-parts are interleaved: PLM, TLM, a skipped marker and a comment in the main header; in tile 0 POC, PLT and
@@ -93,9 +93,7 @@ fn interleaved_tile_parts(rt: HostRuntime) -> Result<(), Fail> {
 // COC, QCC and RGN of tile 1 stay in its first tile-part's header when the order is another.
 #[test]
 fn own_segments_stay(rt: HostRuntime) -> Result<(), Fail> {
-    let mut want = PACKED.to_vec(rt.alloc())?;
-    check(&rt, want.len() > 50);
-    want[50] = 2;
+    let want = spliced(rt.alloc(), &PACKED, &[(50, 1, &[2])])?;
     rewrites(
         &rt,
         &[
@@ -140,64 +138,39 @@ fn no_packets(rt: HostRuntime) -> Result<(), Fail> {
 // SOP numbers wrap, and the lengths need three PLT segments.
 #[test]
 fn many_packets(rt: HostRuntime) -> Result<(), Fail> {
-    let alloc = rt.alloc();
-    let mut bytes = MANY.to_vec(alloc)?;
-    for _ in 0..131_070_u32 {
-        bytes.push(0)?;
-    }
-    bytes.extend_from_slice(&[0xFF, 0xD9])?;
-    let mut files = holding(alloc, &bytes)?;
-    let mut say = MemSink::new(alloc);
+    let packets = repeated(rt.alloc(), 0, 131_070)?;
+    let bytes = joined(rt.alloc(), &[&MANY, &packets, &[0xFF, 0xD9]])?;
     let words = ["jx", "transcode", "in", "out", "--sop", "--plt"];
-    let report = run_words(&rt, alloc, &words, &mut files, &mut say)?;
-    equal(&rt, report.status, Status::Done);
-    equal(&rt, say.said(), "done: 2 blocks, 1048659 bytes\n");
-    Ok(())
+    let want = Want {
+        made: Made::Length(1_048_659),
+        ..ending(Status::Done, "done: 2 blocks, 1048659 bytes\n")
+    };
+    ends(&rt, &words, &holding(&bytes), &want)
 }
 
 // Three layers of the small file's block: an empty packet, one of three bytes and 125 of a pass, and one of four and 16,380 of the next pass.
-fn long_packets(rt: &impl AllocGlobal) -> Result<Vec<u8>, Fail> {
-    let mut bytes = Vec::new(rt.alloc());
-    bytes.extend_from_slice(&[0, 0xB7, 0xBE, 0x80])?;
-    for _ in 0..125_u32 {
-        bytes.push(1)?;
-    }
-    bytes.extend_from_slice(&[0xDF, 0xDF, 0xFE, 0])?;
-    for _ in 0..16_380_u32 {
-        bytes.push(2)?;
-    }
-    bytes.extend_from_slice(&[0xFF, 0xD9])?;
-    Ok(bytes)
-}
-
-// The small file with three layers, and this header and these packets.
-fn with_packets(
-    rt: &(impl Abort + AllocGlobal),
-    header: &[u8],
-    packets: &[u8],
-) -> Result<Vec<u8>, Fail> {
-    let mut bytes = SMALL[..65].to_vec(rt.alloc())?;
-    check(rt, bytes.len() > 52);
-    bytes[52] = 3;
-    bytes.extend_from_slice(header)?;
-    bytes.extend_from_slice(packets)?;
-    Ok(bytes)
+fn long_packets(alloc: Global) -> Result<Vec<u8>, AllocError> {
+    let one = repeated(alloc, 1, 125)?;
+    let two = repeated(alloc, 2, 16_380)?;
+    let headers: [&[u8]; 2] = [&[0, 0xB7, 0xBE, 0x80], &[0xDF, 0xDF, 0xFE, 0]];
+    let [first, second] = headers;
+    joined(alloc, &[first, &one, second, &two, &[0xFF, 0xD9]])
 }
 
 // The lengths 1, 128 and 16,384 take one, two and three bytes.
 #[test]
 fn packet_lengths(rt: HostRuntime) -> Result<(), Fail> {
-    let packets = long_packets(&rt)?;
+    let alloc = rt.alloc();
+    let packets = long_packets(alloc)?;
     let plain = [0xFF, 0x90, 0, 10, 0, 0, 0, 0, 0x40, 0x8F, 0, 1, 0xFF, 0x93];
     let listed = [
         0xFF, 0x90, 0, 10, 0, 0, 0, 0, 0x40, 0x9A, 0, 1, 0xFF, 0x58, 0, 9, 0, 1, 0x81, 0, 0x81,
         0x80, 0, 0xFF, 0x93,
     ];
-    rewrites(
-        &rt,
-        &["jx", "transcode", "in", "out", "--plt"],
-        &with_packets(&rt, &plain, &packets)?,
-        &with_packets(&rt, &listed, &packets)?,
-        "done: 1 blocks, 16605 bytes\n",
-    )
+    let front = [(52, 1, [3].as_slice())];
+    let front = spliced(alloc, &SMALL[..65], &front)?;
+    let bytes = joined(alloc, &[&front, &plain, &packets])?;
+    let want = joined(alloc, &[&front, &listed, &packets])?;
+    let words = ["jx", "transcode", "in", "out", "--plt"];
+    rewrites(&rt, &words, &bytes, &want, "done: 1 blocks, 16605 bytes\n")
 }

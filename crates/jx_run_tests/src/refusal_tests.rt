@@ -1,39 +1,35 @@
 //! Inputs that are refused.
 
-use crate::checks::{check, equal, equal_at};
-use crate::run_tests::{GOOD, SMALL, edited, holding, run_words, written};
-use jx_outside::MemSink;
+use crate::bytes::{Edit, repeated, spliced};
+use crate::run_tests::{GOOD, SMALL};
+use crate::runs::stops;
 use jx_recast::Status;
 use std::process::Abort;
 use std::sync::Wait;
 use std::test::Fail;
 use std::thread::Threads;
 
-fn refused(
+// The small file with these edits is refused.
+fn refuses(
     rt: &(impl Abort + AllocGlobal + Threads + Wait + Sync),
-    bytes: &[u8],
+    edits: &[Edit<'_>],
     status: Status,
     line: &str,
 ) -> Result<(), Fail> {
-    let alloc = rt.alloc();
-    let mut files = holding(alloc, bytes)?;
-    let mut say = MemSink::new(alloc);
-    let report = run_words(rt, alloc, &GOOD, &mut files, &mut say)?;
-    equal_at(rt, &bytes.len(), report.status, status);
-    equal(rt, report.blocks, 0);
-    equal(rt, say.said(), line);
-    equal(rt, written(&files), None);
-    Ok(())
+    let bytes = spliced(rt.alloc(), &SMALL, edits)?;
+    stops(rt, &GOOD, &bytes, status, 0, line)
 }
 
+// The small file with this edit breaks this rule.
 fn breaks(
     rt: &(impl Abort + AllocGlobal + Threads + Wait + Sync),
-    bytes: &[u8],
+    edit: Edit<'_>,
     number: u8,
     place: u32,
 ) -> Result<(), Fail> {
     let line = format!(in rt.alloc(); "rule {number} at {place}\n")?;
-    refused(rt, bytes, Status::Rule { number, place }, line.as_str())
+    let status = Status::Rule { number, place };
+    refuses(rt, &[edit], status, line.as_str())
 }
 
 #[test]
@@ -78,7 +74,7 @@ fn rules_of_headers(rt: HostRuntime) -> Result<(), Fail> {
         (8, 4, &[0, 0, 0, 2], 24, 80),
     ];
     for (at, gone, put, number, place) in rows {
-        breaks(&rt, &edited(&rt, at, gone, put)?, number, place)?;
+        breaks(&rt, (at, gone, put), number, place)?;
     }
     Ok(())
 }
@@ -96,8 +92,7 @@ fn cut_files(rt: HostRuntime) -> Result<(), Fail> {
         (80, 82, 23, 80),
     ] {
         for length in first..end {
-            check(&rt, length <= SMALL.len());
-            breaks(&rt, &SMALL[..length], number, place)?;
+            breaks(&rt, (length, SMALL.len(), &[]), number, place)?;
         }
     }
     Ok(())
@@ -105,36 +100,34 @@ fn cut_files(rt: HostRuntime) -> Result<(), Fail> {
 
 #[test]
 fn limits_of_headers(rt: HostRuntime) -> Result<(), Fail> {
-    let tiles = edited(&rt, 8, 4, &[0, 1, 0, 0])?;
-    refused(
-        &rt,
-        &tiles,
-        Status::Limit {
-            number: 3,
-            found: 65_536,
-        },
-        "limit 3: 65536\n",
-    )?;
-    let planes = edited(&rt, 63, 2, &[0xE0, 0xF8, 0xFF, 0x5E, 0, 5, 0, 0, 38])?;
-    refused(
-        &rt,
-        &planes,
-        Status::Limit {
-            number: 4,
-            found: 75,
-        },
-        "limit 4: 75\n",
-    )?;
-    let wide = edited(&rt, 8, 8, &[0xFF; 8])?;
-    refused(
-        &rt,
-        &wide,
-        Status::Limit {
-            number: 3,
-            found: 18_446_744_065_119_617_025,
-        },
-        "limit 3: 18446744065119617025\n",
-    )
+    let rows: [(usize, usize, &[u8], u8, u128, &str); 3] = [
+        (8, 4, &[0, 1, 0, 0], 3, 65_536, "limit 3: 65536\n"),
+        (
+            63,
+            2,
+            &[0xE0, 0xF8, 0xFF, 0x5E, 0, 5, 0, 0, 38],
+            4,
+            75,
+            "limit 4: 75\n",
+        ),
+        (
+            8,
+            8,
+            &[0xFF; 8],
+            3,
+            18_446_744_065_119_617_025,
+            "limit 3: 18446744065119617025\n",
+        ),
+    ];
+    for (at, gone, put, number, found, line) in rows {
+        refuses(
+            &rt,
+            &[(at, gone, put)],
+            Status::Limit { number, found },
+            line,
+        )?;
+    }
+    Ok(())
 }
 
 // From Psot on: the tile-part's length, its number, SOD and the tile data, in place of the small file's.
@@ -155,14 +148,14 @@ fn rules_of_tile_data(rt: HostRuntime) -> Result<(), Fail> {
         (&[0, 0, 0, 18, 0, 1, 0xFF, 0x93, 0, 0xFF, 0x92, 0], 31, 82),
     ];
     for (put, number, place) in rows {
-        breaks(&rt, &edited(&rt, 71, 9, put)?, number, place)?;
+        breaks(&rt, (71, 9, put), number, place)?;
     }
     // two layers, and a packet for one; two layers, and an entry for one
-    breaks(&rt, &edited(&rt, 52, 1, &[2])?, 26, 80)?;
+    breaks(&rt, (52, 1, &[2]), 26, 80)?;
     let entry = [
         2, 0, 0, 4, 4, 0, 1, 0xFF, 0x5C, 0, 4, 0x40, 0x40, 0xFF, 0x5F, 0, 9, 0, 0, 0, 1, 1, 1, 0,
     ];
-    breaks(&rt, &edited(&rt, 52, 13, &entry)?, 25, 76)
+    breaks(&rt, (52, 13, &entry), 25, 76)
 }
 
 #[test]
@@ -172,9 +165,9 @@ fn limits_of_tile_data(rt: HostRuntime) -> Result<(), Fail> {
         0, 1, 0, 0, 0, 1, 0, 0, 0, 0, 0, 0, 0, 0, 0, 0, 0, 1, 0, 0, 0, 1, 0, 0, 0, 0, 0, 0, 0, 0,
         0, 0, 0, 1, 7, 1, 1, 0xFF, 0x52, 0, 12, 0, 0, 0, 1, 0, 0, 0, 0,
     ];
-    refused(
+    refuses(
         &rt,
-        &edited(&rt, 8, 49, &blocks)?,
+        &[(8, 49, &blocks)],
         Status::Limit {
             number: 5,
             found: 268_435_456,
@@ -186,9 +179,9 @@ fn limits_of_tile_data(rt: HostRuntime) -> Result<(), Fail> {
         0, 0, 0, 9, 0, 0, 0, 9, 0, 0, 0, 0, 0, 0, 0, 0, 0, 0, 0, 9, 0, 0, 0, 9, 0, 0, 0, 0, 0, 0,
         0, 0, 0, 1, 7, 1, 1, 0xFF, 0x52, 0, 13, 1, 0, 0xFF, 0xFF, 0, 0, 4, 4, 0, 1, 0,
     ];
-    refused(
+    refuses(
         &rt,
-        &edited(&rt, 8, 51, &packets)?,
+        &[(8, 51, &packets)],
         Status::Limit {
             number: 6,
             found: 5_308_335,
@@ -200,22 +193,17 @@ fn limits_of_tile_data(rt: HostRuntime) -> Result<(), Fail> {
 // Edits of the small file that are worth having.
 #[test]
 fn hostile_files(rt: HostRuntime) -> Result<(), Fail> {
-    breaks(&rt, &edited(&rt, 4, 2, &[0xFF, 0xFF])?, 1, 2)?;
-    breaks(&rt, &edited(&rt, 71, 4, &[0xFF; 4])?, 22, 65)?;
-    breaks(&rt, &edited(&rt, 54, 1, &[0x20])?, 9, 65)?;
-    Ok(())
+    breaks(&rt, (4, 2, &[0xFF, 0xFF]), 1, 2)?;
+    breaks(&rt, (71, 4, &[0xFF; 4]), 22, 65)?;
+    breaks(&rt, (54, 1, &[0x20]), 9, 65)
 }
 
 #[test]
 fn an_input_that_is_too_long(rt: HostRuntime) -> Result<(), Fail> {
-    let long = vec![in rt.alloc(); 0u8; 268_435_457]?;
-    refused(
-        &rt,
-        &long,
-        Status::Limit {
-            number: 1,
-            found: 268_435_457,
-        },
-        "limit 1: 268435457\n",
-    )
+    let long = repeated(rt.alloc(), 0, 268_435_457)?;
+    let limit = Status::Limit {
+        number: 1,
+        found: 268_435_457,
+    };
+    stops(&rt, &GOOD, &long, limit, 0, "limit 1: 268435457\n")
 }

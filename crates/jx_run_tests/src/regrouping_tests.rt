@@ -1,9 +1,11 @@
 //! Orders, precincts and tile-parts that are asked for.
 
-use crate::checks::{check, equal, equal_at};
-use crate::run_tests::{SMALL, edited, holding, made_in, rewrites, run_words, written};
-use jx_outside::{Call, MemSink};
+use crate::bytes::{Edit, low_byte, put_all, repeated, spliced};
+use crate::checks::{check, equal_at};
+use crate::run_tests::{SMALL, are_no_words};
+use crate::runs::{holding, remakes, rewrites, run_words, stops};
 use jx_recast::Status;
+use std::alloc::{AllocError, Global};
 use std::process::Abort;
 use std::sync::Wait;
 use std::test::Fail;
@@ -21,95 +23,100 @@ const TWO: [u8; 94] = [
 // The packets of the same in the order RLCP.
 const BY_RESOLUTION: [u8; 10] = [0xC0, 0x42, 3, 0xC2, 5, 0, 0xA0, 8, 0x40, 7];
 
+const EOC: [u8; 2] = [0xFF, 0xD9];
+
+// There, and back.
+const THERE: [&str; 12] = [
+    "jx",
+    "transcode",
+    "in",
+    "out",
+    "--order",
+    "rpcl",
+    "--precincts",
+    "8x7,7x8",
+    "--tile-parts",
+    "r",
+    "--sop",
+    "--plt",
+];
+
+const BACK: [&str; 8] = [
+    "jx",
+    "transcode",
+    "in",
+    "out",
+    "--order",
+    "lrcp",
+    "--precincts",
+    "max",
+];
+
+const MARKED: [&str; 10] = [
+    "jx",
+    "transcode",
+    "in",
+    "out",
+    "--order",
+    "rlcp",
+    "--tile-parts",
+    "r",
+    "--sop",
+    "--plt",
+];
+
 // A tile-part of tile 0 with these bytes after SOT.
-fn put_part(
-    rt: &(impl Abort + AllocGlobal),
-    out: &mut Vec<u8>,
-    part: u8,
-    parts: u8,
-    rest: &[u8],
-) -> Result<(), Fail> {
-    check(rt, rest.len() < 200);
-    out.extend_from_slice(&[0xFF, 0x90, 0, 0x0A, 0, 0, 0, 0, 0])?;
-    out.push(rest.len() as u8 + 12)?;
-    out.extend_from_slice(&[part, parts])?;
-    out.extend_from_slice(rest)?;
-    Ok(())
+fn put_part(out: &mut Vec<u8>, part: u8, parts: u8, rest: &[u8]) -> Result<(), AllocError> {
+    let length = low_byte(rest.len()).wrapping_add(12);
+    let sot = [0xFF, 0x90, 0, 0x0A, 0, 0, 0, 0, 0, length, part, parts];
+    put_all(out, &[&sot, rest])
 }
 
-// The main header of the file of two resolutions, with this order.
-fn front(rt: &(impl Abort + AllocGlobal), order: u8) -> Result<Vec<u8>, Fail> {
-    let mut out = TWO[..68].to_vec(rt.alloc())?;
-    check(rt, out.len() > 50);
-    out[50] = order;
+// A main header with these edits, these tile-parts of the one tile, and EOC.
+fn in_parts(
+    alloc: Global,
+    header: &[u8],
+    edits: &[Edit<'_>],
+    parts: &[&[u8]],
+) -> Result<Vec<u8>, AllocError> {
+    let mut out = spliced(alloc, header, edits)?;
+    let mut part = 0_u8;
+    for rest in parts {
+        put_part(&mut out, part, low_byte(parts.len()), rest)?;
+        part = part.wrapping_add(1);
+    }
+    put_all(&mut out, &[&EOC])?;
     Ok(out)
-}
-
-// Runs these words on these bytes, which aren't rewritten, and wants this status, these blocks and this line.
-pub fn stops(
-    rt: &(impl Abort + AllocGlobal + Threads + Wait + Sync),
-    options: &[&str],
-    bytes: &[u8],
-    status: Status,
-    blocks: u32,
-    line: &str,
-) -> Result<(), Fail> {
-    let alloc = rt.alloc();
-    let mut words = Vec::new(alloc);
-    words.extend_from_slice(&["jx", "transcode", "in", "out"])?;
-    words.extend_from_slice(options)?;
-    let mut files = holding(alloc, bytes)?;
-    let mut say = MemSink::new(alloc);
-    let report = run_words(rt, alloc, &words, &mut files, &mut say)?;
-    equal(rt, report.status, status);
-    equal(rt, report.blocks, blocks);
-    equal(rt, say.said(), line);
-    equal(rt, written(&files), None);
-    Ok(())
 }
 
 #[test]
 fn order_there_and_back(rt: HostRuntime) -> Result<(), Fail> {
-    let mut want = front(&rt, 1)?;
-    want.extend_from_slice(&TWO[68..82])?;
-    want.extend_from_slice(&BY_RESOLUTION)?;
-    want.extend_from_slice(&[0xFF, 0xD9])?;
+    let sorted: [Edit<'_>; 2] = [(50, 1, &[1]), (82, 10, &BY_RESOLUTION)];
     let line = "done: 4 blocks, 94 bytes\n";
     let there = ["jx", "transcode", "in", "out", "--order", "rlcp"];
-    rewrites(&rt, &there, &TWO, &want, line)?;
+    remakes(&rt, &there, &TWO, &[], &sorted, line)?;
     let back = ["jx", "transcode", "in", "out", "--order", "lrcp"];
-    rewrites(&rt, &back, &want, &TWO, line)
+    remakes(&rt, &back, &TWO, &sorted, &[], line)
 }
 
 // What these words make of these bytes.
-fn made_of(
+pub fn made_of(
     rt: &(impl Abort + AllocGlobal + Threads + Wait + Sync),
     words: &[&str],
     bytes: &[u8],
 ) -> Result<Vec<u8>, Fail> {
-    let alloc = rt.alloc();
-    let mut files = holding(alloc, bytes)?;
-    let mut say = MemSink::new(alloc);
-    let report = run_words(rt, alloc, words, &mut files, &mut say)?;
-    equal(rt, report.status, Status::Done);
-    let made = made_in(&files)?;
-    Ok(made.to_vec(alloc)?)
+    let left = run_words(rt, words, &holding(bytes))?;
+    equal_at(rt, &words, left.report.status, Status::Done);
+    Ok(left.made().unwrap_or(&[]).to_vec(rt.alloc())?)
 }
 
 // By resolution and position, with other precincts, tile-parts and markers; then back: the same as with no option.
 #[test]
 fn transcoded_twice(rt: HostRuntime) -> Result<(), Fail> {
     let kept = made_of(&rt, &["jx", "transcode", "in", "out"], &TWO)?;
-    let mut words = Vec::new(rt.alloc());
-    words.extend_from_slice(&["jx", "transcode", "in", "out", "--order", "rpcl"])?;
-    words.extend_from_slice(&["--precincts", "8x7,7x8", "--tile-parts", "r"])?;
-    words.extend_from_slice(&["--sop", "--plt"])?;
-    let there = made_of(&rt, &words, &TWO)?;
+    let there = made_of(&rt, &THERE, &TWO)?;
     check(&rt, there.as_slice() != kept.as_slice());
-    let mut words = Vec::new(rt.alloc());
-    words.extend_from_slice(&["jx", "transcode", "in", "out", "--order", "lrcp"])?;
-    words.extend_from_slice(&["--precincts", "max"])?;
-    let back = made_of(&rt, &words, &there)?;
+    let back = made_of(&rt, &BACK, &there)?;
     check(&rt, back.as_slice() == kept.as_slice());
     Ok(())
 }
@@ -117,33 +124,23 @@ fn transcoded_twice(rt: HostRuntime) -> Result<(), Fail> {
 #[test]
 fn tile_parts_by_resolution(rt: HostRuntime) -> Result<(), Fail> {
     let words = ["jx", "transcode", "in", "out", "--tile-parts", "r"];
-    let mut want = front(&rt, 0)?;
-    put_part(&rt, &mut want, 0, 4, &[0xFF, 0x93, 0xC0, 0x42, 3])?;
-    put_part(&rt, &mut want, 1, 4, &[0xFF, 0x93, 0])?;
-    put_part(&rt, &mut want, 2, 4, &[0xFF, 0x93, 0xC2, 5])?;
-    put_part(&rt, &mut want, 3, 4, &[0xFF, 0x93, 0xA0, 8, 0x40, 7])?;
-    want.extend_from_slice(&[0xFF, 0xD9])?;
+    let want = in_parts(
+        rt.alloc(),
+        &TWO[..68],
+        &[],
+        &[
+            &[0xFF, 0x93, 0xC0, 0x42, 3],
+            &[0xFF, 0x93, 0],
+            &[0xFF, 0x93, 0xC2, 5],
+            &[0xFF, 0x93, 0xA0, 8, 0x40, 7],
+        ],
+    )?;
     rewrites(&rt, &words, &TWO, &want, "done: 4 blocks, 136 bytes\n")
 }
 
 // Packets are numbered over the tile, and PLT stands in each tile-part.
 #[test]
 fn tile_parts_with_marks(rt: HostRuntime) -> Result<(), Fail> {
-    let words = [
-        "jx",
-        "transcode",
-        "in",
-        "out",
-        "--order",
-        "rlcp",
-        "--tile-parts",
-        "r",
-        "--sop",
-        "--plt",
-    ];
-    let mut want = front(&rt, 1)?;
-    check(&rt, want.len() > 49);
-    want[49] = 2;
     let first = [
         0xFF, 0x58, 0, 5, 0, 9, 8, 0xFF, 0x93, 0xFF, 0x91, 0, 4, 0, 0, 0xC0, 0x42, 3, 0xFF, 0x91,
         0, 4, 0, 1, 0xC2, 5,
@@ -152,26 +149,27 @@ fn tile_parts_with_marks(rt: HostRuntime) -> Result<(), Fail> {
         0xFF, 0x58, 0, 5, 0, 7, 10, 0xFF, 0x93, 0xFF, 0x91, 0, 4, 0, 2, 0, 0xFF, 0x91, 0, 4, 0, 3,
         0xA0, 8, 0x40, 7,
     ];
-    put_part(&rt, &mut want, 0, 2, &first)?;
-    put_part(&rt, &mut want, 1, 2, &second)?;
-    want.extend_from_slice(&[0xFF, 0xD9])?;
-    rewrites(&rt, &words, &TWO, &want, "done: 4 blocks, 146 bytes\n")
+    let want = in_parts(
+        rt.alloc(),
+        &TWO[..68],
+        &[(49, 2, &[2, 1])],
+        &[&first, &second],
+    )?;
+    rewrites(&rt, &MARKED, &TWO, &want, "done: 4 blocks, 146 bytes\n")
 }
 
 // One byte for each resolution; with `max` there are none, as in the input.
 #[test]
 fn precincts_of_a_list(rt: HostRuntime) -> Result<(), Fail> {
-    let mut want = TWO[..49].to_vec(rt.alloc())?;
-    want.extend_from_slice(&[1, 0, 0, 2, 0, 1, 4, 4, 0, 1, 0x78, 0x87])?;
-    want.extend_from_slice(&TWO[59..])?;
-    check(&rt, want.len() > 48);
-    want[48] = 14;
+    let listed: [Edit<'_>; 2] = [(48, 2, &[14, 1]), (59, 0, &[0x78, 0x87])];
     let words = ["jx", "transcode", "in", "out", "--precincts", "8x7,7x8"];
-    rewrites(&rt, &words, &TWO, &want, "done: 4 blocks, 96 bytes\n")?;
-    let most = ["jx", "transcode", "in", "out", "--precincts", "max"];
-    rewrites(&rt, &most, &want, &TWO, "done: 4 blocks, 94 bytes\n")?;
+    let line = "done: 4 blocks, 96 bytes\n";
+    remakes(&rt, &words, &TWO, &[], &listed, line)?;
     let again = ["jx", "transcode", "in", "out"];
-    rewrites(&rt, &again, &want, &want, "done: 4 blocks, 96 bytes\n")
+    remakes(&rt, &again, &TWO, &listed, &listed, line)?;
+    let most = ["jx", "transcode", "in", "out", "--precincts", "max"];
+    let line = "done: 4 blocks, 94 bytes\n";
+    remakes(&rt, &most, &TWO, &listed, &[], line)
 }
 
 #[test]
@@ -179,27 +177,25 @@ fn precincts_that_cannot_be(rt: HostRuntime) -> Result<(), Fail> {
     for (list, number) in [("7x0", 3), ("7x7,0x7", 3), ("0x0,7x7", 2), ("6x6", 2)] {
         let line = format!(in rt.alloc(); "choice {number} at 0\n")?;
         let status = Status::Choice { number, place: 0 };
-        stops(&rt, &["--precincts", list], &TWO, status, 4, line.as_str())?;
+        let words = ["jx", "transcode", "in", "out", "--precincts", list];
+        stops(&rt, &words, &TWO, status, 4, line.as_str())?;
     }
     Ok(())
 }
 
-// The small file with so many layers, each an empty packet.
-fn layers(rt: &(impl Abort + AllocGlobal), count: u16) -> Result<Vec<u8>, Fail> {
-    let [_, _, length, last] = (u32::from(count) + 14).to_be_bytes();
-    let [high, low] = count.to_be_bytes();
-    let mut bytes = edited(rt, 80, 2, &[])?;
-    for _ in 1..count {
-        bytes.push(0)?;
-    }
-    bytes.extend_from_slice(&[0xFF, 0xD9])?;
-    check(rt, bytes.len() > 74);
-    bytes[51] = high;
-    bytes[52] = low;
-    bytes[73] = length;
-    bytes[74] = last;
+// The small file with so many layers, each an empty packet, and these edits up to the packets.
+fn layers(alloc: Global, count: u16, edits: &[Edit<'_>]) -> Result<Vec<u8>, AllocError> {
+    let layers = count.to_be_bytes();
+    let length = (u32::from(count) + 14).to_be_bytes();
+    let layered: [Edit<'_>; 2] = [(51, 2, &layers), (71, 4, &length)];
+    let small = spliced(alloc, &SMALL[..79], &layered)?;
+    let mut bytes = spliced(alloc, &small, edits)?;
+    let packets = repeated(alloc, 0, usize::from(count))?;
+    put_all(&mut bytes, &[&packets, &EOC])?;
     Ok(bytes)
 }
+
+const BY_LAYER: [&str; 6] = ["jx", "transcode", "in", "out", "--tile-parts", "l"];
 
 #[test]
 fn tile_parts_by_layer(rt: HostRuntime) -> Result<(), Fail> {
@@ -207,26 +203,15 @@ fn tile_parts_by_layer(rt: HostRuntime) -> Result<(), Fail> {
         number: 5,
         place: 0,
     };
-    let by_layer = ["--tile-parts", "l"];
-    stops(
-        &rt,
-        &by_layer,
-        &layers(&rt, 300)?,
-        choice,
-        1,
-        "choice 5 at 0\n",
-    )?;
-    let mut want = SMALL[..65].to_vec(rt.alloc())?;
-    check(&rt, want.len() > 52);
-    want[52] = 255;
-    for part in 0..255 {
-        put_part(&rt, &mut want, part, 255, &[0xFF, 0x93, 0])?;
-    }
-    want.extend_from_slice(&[0xFF, 0xD9])?;
+    let bytes = layers(rt.alloc(), 300, &[])?;
+    stops(&rt, &BY_LAYER, &bytes, choice, 1, "choice 5 at 0\n")?;
+    let bytes = layers(rt.alloc(), 255, &[])?;
+    let parts: [&[u8]; 255] = [&[0xFF, 0x93, 0]; 255];
+    let want = in_parts(rt.alloc(), &SMALL[..65], &[(52, 1, &[255])], &parts)?;
     rewrites(
         &rt,
-        &["jx", "transcode", "in", "out", "--tile-parts", "l"],
-        &layers(&rt, 255)?,
+        &BY_LAYER,
+        &bytes,
         &want,
         "done: 1 blocks, 3892 bytes\n",
     )
@@ -236,16 +221,11 @@ fn tile_parts_by_layer(rt: HostRuntime) -> Result<(), Fail> {
 #[test]
 fn too_many_packets(rt: HostRuntime) -> Result<(), Fail> {
     let side = [0, 0, 0, 36, 0, 0, 0, 36];
-    let mut bytes = layers(&rt, 65_535)?;
-    check(&rt, bytes.len() > 75);
-    bytes[8..16].copy_from_slice(&side);
-    bytes[24..32].copy_from_slice(&side);
-    bytes[55] = 0;
-    bytes[56] = 0;
-    bytes[72] = 1;
+    let edits: [Edit<'_>; 3] = [(8, 8, &side), (24, 8, &side), (55, 2, &[0, 0])];
+    let bytes = layers(rt.alloc(), 65_535, &edits)?;
     stops(
         &rt,
-        &["--precincts", "2x2"],
+        &["jx", "transcode", "in", "out", "--precincts", "2x2"],
         &bytes,
         Status::Limit {
             number: 7,
@@ -256,7 +236,7 @@ fn too_many_packets(rt: HostRuntime) -> Result<(), Fail> {
     )?;
     stops(
         &rt,
-        &["--precincts", "1x2"],
+        &["jx", "transcode", "in", "out", "--precincts", "1x2"],
         &bytes,
         Status::Choice {
             number: 2,
@@ -267,25 +247,15 @@ fn too_many_packets(rt: HostRuntime) -> Result<(), Fail> {
     )
 }
 
-// Words that say no option's value: nothing is opened.
+static NO_VALUES: [&[&str]; 5] = [
+    &["jx", "transcode", "in"],
+    &["jx", "transcode", "in", "out", "--precincts", "16x4"],
+    &["jx", "transcode", "in", "out", "--order", "rcpl"],
+    &["jx", "transcode", "in", "out", "--tile-parts", "p"],
+    &["jx", "transcode", "in", "out", "--order"],
+];
+
 #[test]
 fn values_that_are_none(rt: HostRuntime) -> Result<(), Fail> {
-    let alloc = rt.alloc();
-    let lists: [&[&str]; 5] = [
-        &["jx", "transcode", "in"],
-        &["jx", "transcode", "in", "out", "--precincts", "16x4"],
-        &["jx", "transcode", "in", "out", "--order", "rcpl"],
-        &["jx", "transcode", "in", "out", "--tile-parts", "p"],
-        &["jx", "transcode", "in", "out", "--order"],
-    ];
-    for list in lists {
-        let mut files = holding(alloc, &SMALL)?;
-        let mut say = MemSink::new(alloc);
-        files.fail(Call::Open, 1)?;
-        let report = run_words(&rt, alloc, list, &mut files, &mut say)?;
-        equal_at(&rt, &list, report.status, Status::Words);
-        equal(&rt, say.said(), "words\n");
-        equal(&rt, written(&files), None);
-    }
-    Ok(())
+    are_no_words(&rt, &NO_VALUES)
 }

@@ -1,10 +1,15 @@
 //! Code-blocks that are coded anew in the style that is asked, by workers.
 
+use crate::bytes::{Edit, joined, low_byte, spliced};
 use crate::checks::{check, equal};
-use crate::regrouping_tests::stops;
-use crate::run_tests::{SMALL, edited, holding, made_in, rewrites, run_gated, run_words, written};
-use jx_outside::{Files, MemSink, NoGate};
-use jx_recast::{Report, Status};
+use crate::regrouping_tests::made_of;
+use crate::run_tests::{SMALL, is_under};
+use crate::runs::{
+    Made, Want, ending, ends, holding, is_left, remakes, rewrites, run_words, stops,
+};
+use jx_outside::Files;
+use jx_recast::Status;
+use std::alloc::{AllocError, Global};
 use std::process::Abort;
 use std::sync::Wait;
 use std::test::Fail;
@@ -18,83 +23,86 @@ const SEGMENT: [&str; 6] = ["jx", "transcode", "in", "out", "--style", "segment"
 const EIGHT: [u8; 10] = [0xF8, 7, 0x87, 0x0F, 0x87, 0x0F, 0xE1, 0xC3, 0xE1, 0xC2];
 
 // The small file with this style and this packet.
-pub fn body(rt: &(impl Abort + AllocGlobal), style: u8, packet: &[u8]) -> Result<Vec<u8>, Fail> {
-    check(rt, packet.len() < 100);
-    let mut put = Vec::new(rt.alloc());
-    put.push(packet.len() as u8 + 14)?;
-    put.extend_from_slice(&[0, 1, 0xFF, 0x93])?;
-    put.extend_from_slice(packet)?;
-    let mut bytes = edited(rt, 74, 6, &put)?;
-    check(rt, bytes.len() > 57);
-    bytes[57] = style;
-    Ok(bytes)
+pub fn body(alloc: Global, style: u8, packet: &[u8]) -> Result<Vec<u8>, AllocError> {
+    let length = low_byte(packet.len()).wrapping_add(14);
+    let edits: [Edit<'_>; 3] = [(57, 1, &[style]), (74, 1, &[length]), (79, 1, packet)];
+    spliced(alloc, &SMALL, &edits)
+}
+
+// Runs these words on the small file with one style and packet, and wants it with the others, and this line.
+fn codes(
+    rt: &(impl Abort + AllocGlobal + Threads + Wait + Sync),
+    words: &[&str],
+    given: (u8, &[u8]),
+    want: (u8, &[u8]),
+    line: &str,
+) -> Result<(), Fail> {
+    let given = body(rt.alloc(), given.0, given.1)?;
+    let want = body(rt.alloc(), want.0, want.1)?;
+    rewrites(rt, words, &given, &want, line)
 }
 
 // 03 is a one without a symbol, or with a wrong one; 01 has the right one (ITU-T T.800, D.5).
 #[test]
 fn symbols_are_put_in_and_left_out(rt: HostRuntime) -> Result<(), Fail> {
-    let without = body(&rt, 0, &[0xC0, 0x21, 3])?;
-    let with = body(&rt, 0x20, &[0xC0, 0x21, 1])?;
+    let without: (u8, &[u8]) = (0, &[0xC0, 0x21, 3]);
+    let with: (u8, &[u8]) = (0x20, &[0xC0, 0x21, 1]);
     let line = "done: 1 blocks, 84 bytes\n";
-    rewrites(&rt, &SEGMENT, &without, &with, line)?;
-    rewrites(&rt, &NONE, &with, &without, line)
+    codes(&rt, &SEGMENT, without, with, line)?;
+    codes(&rt, &NONE, with, without, line)
 }
 
-// The small file with 74 planes (guard bits 7, exponent 31, a region's shift of 37), of which this packet has one.
-fn planes(rt: &(impl Abort + AllocGlobal), style: u8, byte: u8) -> Result<Vec<u8>, Fail> {
-    let bytes = body(rt, style, &[0xE1, byte])?;
-    let mut put = Vec::new(rt.alloc());
-    for (place, byte) in bytes.iter().enumerate() {
-        if place == 63 {
-            put.extend_from_slice(&[0xE0, 0xF8, 0xFF, 0x5E, 0, 5, 0, 0, 37])?;
-        }
-        if place != 63 && place != 64 {
-            put.push(*byte)?;
-        }
-    }
-    Ok(put)
-}
+// Guard bits 7, exponent 31 and a region's shift of 37: 74 planes.
+const PLANES: [u8; 9] = [0xE0, 0xF8, 0xFF, 0x5E, 0, 5, 0, 0, 37];
 
-// A block that no packet includes, and one of as many planes as there may be.
+// A block that no packet includes, and one of as many planes as there may be, of which the packet has one.
 #[test]
 fn no_pass_and_many_planes(rt: HostRuntime) -> Result<(), Fail> {
-    rewrites(
+    let line = "done: 1 blocks, 82 bytes\n";
+    codes(&rt, &SEGMENT, (0, &[0]), (0x20, &[0]), line)?;
+    let planes: Edit<'_> = (63, 2, &PLANES);
+    remakes(
         &rt,
         &SEGMENT,
-        &body(&rt, 0, &[0])?,
-        &body(&rt, 0x20, &[0])?,
-        "done: 1 blocks, 82 bytes\n",
-    )?;
-    rewrites(
-        &rt,
-        &SEGMENT,
-        &planes(&rt, 0, 3)?,
-        &planes(&rt, 0x20, 1)?,
+        &SMALL,
+        &[planes, (74, 1, &[16]), (79, 1, &[0xE1, 3])],
+        &[
+            (57, 1, &[0x20]),
+            planes,
+            (74, 1, &[16]),
+            (79, 1, &[0xE1, 1]),
+        ],
         "done: 1 blocks, 90 bytes\n",
     )
 }
 
+// What is written before the block's tile stands, and nothing can be read there.
 #[test]
 fn a_wrong_symbol(rt: HostRuntime) -> Result<(), Fail> {
-    let alloc = rt.alloc();
-    let wrong = body(&rt, 0x20, &[0xC0, 0x21, 3])?;
-    let mut files = holding(alloc, &wrong)?;
-    let mut say = MemSink::new(alloc);
-    let report = run_words(&rt, alloc, &NONE, &mut files, &mut say)?;
-    equal(&rt, report.status, Status::Block { number: 0 });
-    equal(&rt, report.status.number(), 6);
-    equal(&rt, report.blocks, 1);
-    check(&rt, report.tape.is_empty());
-    equal(&rt, say.said(), "block 0\n");
-    let (name, bytes) = files.made().ok_or("nothing made")?;
-    equal(&rt, name, "out");
-    equal(&rt, bytes, &SMALL[..65]);
-    check(&rt, files.open("out").is_err());
+    let wrong = body(rt.alloc(), 0x20, &[0xC0, 0x21, 3])?;
+    let mut left = run_words(&rt, &NONE, &holding(&wrong))?;
+    let status = Status::Block { number: 0 };
+    equal(&rt, status.number(), 6);
+    let want = Want {
+        blocks: Some(1),
+        taped: Some(0),
+        made: Made::Front(&SMALL, 65),
+        ..ending(status, "block 0\n")
+    };
+    is_left(&rt, &NONE, &left, &want);
+    check(&rt, is_under(&left, "out", &SMALL[..65]));
+    check(&rt, left.files.open("out").is_err());
+    Ok(())
+}
+
+// A block that has the style that is asked, or of which none is asked.
+#[test]
+fn a_wrong_symbol_is_kept(rt: HostRuntime) -> Result<(), Fail> {
+    let wrong: (u8, &[u8]) = (0x20, &[0xC0, 0x21, 3]);
     let line = "done: 1 blocks, 84 bytes\n";
     let keep = ["jx", "transcode", "in", "out", "--style", "keep"];
-    rewrites(&rt, &keep, &wrong, &wrong, line)?;
-    // it has the style that is asked
-    rewrites(&rt, &SEGMENT, &wrong, &wrong, line)
+    codes(&rt, &keep, wrong, wrong, line)?;
+    codes(&rt, &SEGMENT, wrong, wrong, line)
 }
 
 // Four passes in one segment, and in four.
@@ -104,18 +112,18 @@ fn segments_of_passes(rt: HostRuntime) -> Result<(), Fail> {
     let apart = [
         0xC0, 0x74, 0x52, 0x40, 3, 0xFF, 0x7F, 0xFF, 0x7F, 0xFF, 0x7F,
     ];
-    rewrites(
+    codes(
         &rt,
         &["jx", "transcode", "in", "out", "--style", "terminate"],
-        &body(&rt, 0, &packet)?,
-        &body(&rt, 4, &apart)?,
+        (0, &packet),
+        (4, &apart),
         "done: 1 blocks, 92 bytes\n",
     )?;
-    rewrites(
+    codes(
         &rt,
         &["jx", "transcode", "in", "out", "--style", "causal"],
-        &body(&rt, 0, &packet)?,
-        &body(&rt, 8, &packet)?,
+        (0, &packet),
+        (8, &packet),
         "done: 1 blocks, 85 bytes\n",
     )
 }
@@ -123,44 +131,34 @@ fn segments_of_passes(rt: HostRuntime) -> Result<(), Fail> {
 // The last of three passes isn't a cleanup pass.
 #[test]
 fn another_causal_bit_within_a_plane(rt: HostRuntime) -> Result<(), Fail> {
-    stops(
-        &rt,
-        &["--style", "causal"],
-        &body(&rt, 0, &[0xC0, 0x70, 0x20, 1])?,
-        Status::Choice {
-            number: 1,
-            place: 0,
-        },
-        1,
-        "choice 1 at 0\n",
-    )
+    let bytes = body(rt.alloc(), 0, &[0xC0, 0x70, 0x20, 1])?;
+    let choice = Status::Choice {
+        number: 1,
+        place: 0,
+    };
+    let words = ["jx", "transcode", "in", "out", "--style", "causal"];
+    stops(&rt, &words, &bytes, choice, 1, "choice 1 at 0\n")
 }
 
 // One band of eight blocks of 4 by 4 places, without a coefficient: 60 has the right symbol, 30 a wrong one.
-fn eight(rt: &(impl Abort + AllocGlobal), blocks: &[u8]) -> Result<Vec<u8>, Fail> {
-    let mut packet = EIGHT.to_vec(rt.alloc())?;
-    packet.extend_from_slice(blocks)?;
-    let mut bytes = body(rt, 0x20, &packet)?;
-    check(rt, bytes.len() > 57);
-    for at in [8, 24] {
-        bytes[at + 3] = 32;
-        bytes[at + 7] = 4;
-    }
-    bytes[55] = 0;
-    bytes[56] = 0;
-    Ok(bytes)
+fn eight(alloc: Global, blocks: &[u8]) -> Result<Vec<u8>, AllocError> {
+    let packet = joined(alloc, &[&EIGHT, blocks])?;
+    let length = low_byte(packet.len()).wrapping_add(14);
+    let side = [0, 0, 0, 32, 0, 0, 0, 4];
+    let edits: [Edit<'_>; 6] = [
+        (8, 8, &side),
+        (24, 8, &side),
+        (55, 2, &[0, 0]),
+        (57, 1, &[0x20]),
+        (74, 1, &[length]),
+        (79, 1, &packet),
+    ];
+    spliced(alloc, &SMALL, &edits)
 }
 
-// What is made of these blocks without symbols by so many threads: the status, and the file.
-fn made_by(
-    rt: &(impl Abort + AllocGlobal + Threads + Wait + Sync),
-    blocks: &[u8],
-    threads: &str,
-) -> Result<(Report, Vec<u8>), Fail> {
-    let alloc = rt.alloc();
-    let mut files = holding(alloc, &eight(rt, blocks)?)?;
-    let mut say = MemSink::new(alloc);
-    let words = [
+// So many threads, and symbols that are left out.
+fn by(threads: &str) -> [&str; 8] {
+    [
         "jx",
         "transcode",
         "in",
@@ -169,112 +167,116 @@ fn made_by(
         "none",
         "--threads",
         threads,
-    ];
-    let report = run_words(rt, alloc, &words, &mut files, &mut say)?;
-    let made = made_in(&files)?;
-    Ok((report, made.to_vec(alloc)?))
+    ]
+}
+
+// What workers make of right blocks.
+#[test]
+fn right_blocks(rt: HostRuntime) -> Result<(), Fail> {
+    let right = eight(rt.alloc(), &[0x60; 8])?;
+    let alone = made_of(&rt, &by("1"), &right)?;
+    let together = made_of(&rt, &by("4"), &right)?;
+    check(&rt, !alone.is_empty());
+    equal(&rt, alone.as_slice(), together.as_slice());
+    Ok(())
 }
 
 #[test]
 fn the_lowest_wrong_block(rt: HostRuntime) -> Result<(), Fail> {
-    let wrong = [0x60, 0x60, 0x60, 0x30, 0x60, 0x60, 0x60, 0x30];
-    let (one, alone) = made_by(&rt, &[0x60; 8], "1")?;
-    let (four, together) = made_by(&rt, &[0x60; 8], "4")?;
-    equal(&rt, one.status, Status::Done);
-    equal(&rt, four.status, Status::Done);
-    equal(&rt, alone.as_slice(), together.as_slice());
+    let blocks = [0x60, 0x60, 0x60, 0x30, 0x60, 0x60, 0x60, 0x30];
+    let wrong = eight(rt.alloc(), &blocks)?;
+    let want = Want {
+        blocks: Some(8),
+        taped: Some(0),
+        made: Made::Length(65),
+        ..ending(Status::Block { number: 3 }, "block 3\n")
+    };
     for threads in ["1", "4"] {
-        let (report, made) = made_by(&rt, &wrong, threads)?;
-        equal(&rt, report.status, Status::Block { number: 3 });
-        equal(&rt, report.blocks, 8);
-        check(&rt, report.tape.is_empty());
-        equal(&rt, made.len(), 65);
+        ends(&rt, &by(threads), &holding(&wrong), &want)?;
     }
     Ok(())
 }
 
-// Two tiles of one block each, of which the second may have a COC.
-pub fn two_tiles(
-    rt: &(impl Abort + AllocGlobal),
-    style: u8,
-    own: Option<u8>,
-    data: [u8; 2],
-) -> Result<Vec<u8>, Fail> {
+// From SOT on: two tiles of one block each, the second without a COC or with one.
+const PLAIN: [u8; 36] = [
+    0xFF, 0x90, 0, 10, 0, 0, 0, 0, 0, 17, 0, 1, 0xFF, 0x93, 0xC0, 0x21, 0, //
+    0xFF, 0x90, 0, 10, 0, 1, 0, 0, 0, 17, 0, 1, 0xFF, 0x93, 0xC0, 0x21, 0, //
+    0xFF, 0xD9,
+];
+
+const OWN: [u8; 47] = [
+    0xFF, 0x90, 0, 10, 0, 0, 0, 0, 0, 17, 0, 1, 0xFF, 0x93, 0xC0, 0x21, 0, //
+    0xFF, 0x90, 0, 10, 0, 1, 0, 0, 0, 28, 0, 1, 0xFF, 0x53, 0, 9, 0, 0, 0, 4, 4, 0, 1, //
+    0xFF, 0x93, 0xC0, 0x21, 0, 0xFF, 0xD9,
+];
+
+// Two tiles of one block each, with this style and these bytes.
+pub fn two_tiles(alloc: Global, style: u8, data: [u8; 2]) -> Result<Vec<u8>, AllocError> {
     let [first, second] = data;
-    let mut bytes = SMALL[..65].to_vec(rt.alloc())?;
-    bytes.extend_from_slice(&[
-        0xFF, 0x90, 0, 10, 0, 0, 0, 0, 0, 17, 0, 1, 0xFF, 0x93, 0xC0, 0x21, first,
-    ])?;
-    if let Some(own) = own {
-        bytes.extend_from_slice(&[0xFF, 0x90, 0, 10, 0, 1, 0, 0, 0, 28, 0, 1])?;
-        bytes.extend_from_slice(&[0xFF, 0x53, 0, 9, 0, 0, 0, 4, 4, own, 1])?;
-    } else {
-        bytes.extend_from_slice(&[0xFF, 0x90, 0, 10, 0, 1, 0, 0, 0, 17, 0, 1])?;
-    }
-    bytes.extend_from_slice(&[0xFF, 0x93, 0xC0, 0x21, second, 0xFF, 0xD9])?;
-    check(&rt, bytes.len() > 57);
-    bytes[11] = 2;
-    bytes[57] = style;
-    Ok(bytes)
+    let parts = spliced(alloc, &PLAIN, &[(16, 1, &[first]), (33, 1, &[second])])?;
+    let edits: [Edit<'_>; 3] = [(11, 1, &[2]), (57, 1, &[style]), (65, 17, &parts)];
+    spliced(alloc, &SMALL, &edits)
+}
+
+// The same, where the second tile has a style of its own.
+fn own_style(alloc: Global, styles: [u8; 2], data: [u8; 2]) -> Result<Vec<u8>, AllocError> {
+    let [style, own] = styles;
+    let [first, second] = data;
+    let edits: [Edit<'_>; 3] = [(16, 1, &[first]), (38, 1, &[own]), (44, 1, &[second])];
+    let parts = spliced(alloc, &OWN, &edits)?;
+    let edits: [Edit<'_>; 3] = [(11, 1, &[2]), (57, 1, &[style]), (65, 17, &parts)];
+    spliced(alloc, &SMALL, &edits)
 }
 
 // COD and COC get the style that is asked, and a block that has it already is kept, whatever its bytes are.
 #[test]
 fn a_tile_of_another_style(rt: HostRuntime) -> Result<(), Fail> {
+    let alloc = rt.alloc();
     let line = "done: 2 blocks, 112 bytes\n";
-    rewrites(
-        &rt,
-        &SEGMENT,
-        &two_tiles(&rt, 0, Some(0x20), [3, 3])?,
-        &two_tiles(&rt, 0x20, Some(0x20), [1, 3])?,
-        line,
-    )?;
-    rewrites(
-        &rt,
-        &NONE,
-        &two_tiles(&rt, 0, Some(0x20), [3, 1])?,
-        &two_tiles(&rt, 0, Some(0), [3, 3])?,
-        line,
-    )
+    let given = own_style(alloc, [0, 0x20], [3, 3])?;
+    let want = own_style(alloc, [0x20, 0x20], [1, 3])?;
+    rewrites(&rt, &SEGMENT, &given, &want, line)?;
+    let given = own_style(alloc, [0, 0x20], [3, 1])?;
+    let want = own_style(alloc, [0, 0], [3, 3])?;
+    rewrites(&rt, &NONE, &given, &want, line)
 }
 
-// A row of 4,096 blocks without passes in the first tile, and a block with a wrong symbol in the second.
+// A row of 4,096 blocks without passes in a tile.
+fn wide_tile(alloc: Global) -> Result<Vec<u8>, AllocError> {
+    let wide: [Edit<'_>; 3] = [(10, 1, &[0x40]), (26, 2, &[0x40, 0]), (55, 2, &[0, 0])];
+    spliced(alloc, &SMALL[..80], &wide)
+}
+
+// The same with symbols, and behind it a tile of a block with a wrong symbol.
+fn wrong_behind(alloc: Global, first: &[u8]) -> Result<Vec<u8>, AllocError> {
+    let second = [
+        0xFF, 0x90, 0, 10, 0, 1, 0, 0, 0, 17, 0, 1, 0xFF, 0x93, 0xC0, 0x21, 3, 0xFF, 0xD9,
+    ];
+    spliced(alloc, first, &[(57, 1, &[0x20]), (80, 0, &second)])
+}
+
 #[test]
 fn the_rounds_before_stand(rt: HostRuntime) -> Result<(), Fail> {
-    let alloc = rt.alloc();
-    let mut bytes = SMALL[..80].to_vec(alloc)?;
-    bytes.extend_from_slice(&[
-        0xFF, 0x90, 0, 10, 0, 1, 0, 0, 0, 17, 0, 1, 0xFF, 0x93, 0xC0, 0x21, 3, 0xFF, 0xD9,
-    ])?;
-    bytes[10] = 0x40;
-    bytes[26] = 0x40;
-    bytes[27] = 0;
-    bytes[55] = 0;
-    bytes[56] = 0;
-    let mut want = bytes[..80].to_vec(alloc)?;
-    bytes[57] = 0x20;
-    want[57] = 0;
-    let mut files = holding(alloc, &bytes)?;
-    let mut say = MemSink::new(alloc);
-    let report = run_words(&rt, alloc, &NONE, &mut files, &mut say)?;
-    equal(&rt, report.status, Status::Block { number: 4096 });
-    equal(&rt, report.blocks, 4097);
-    equal(&rt, report.tape.len(), 4096);
-    equal(&rt, say.said(), "block 4096\n");
-    let made = made_in(&files)?;
-    equal(&rt, made, want.as_slice());
-    Ok(())
+    let first = wide_tile(rt.alloc())?;
+    let bytes = wrong_behind(rt.alloc(), &first)?;
+    let want = Want {
+        blocks: Some(4097),
+        taped: Some(4096),
+        made: Made::Bytes(&first),
+        ..ending(Status::Block { number: 4096 }, "block 4096\n")
+    };
+    ends(&rt, &NONE, &holding(&bytes), &want)
 }
 
 // The second tile has a wrong block, and is of the first one's round.
 #[test]
 fn nothing_of_its_round_stands(rt: HostRuntime) -> Result<(), Fail> {
-    let alloc = rt.alloc();
-    let mut files = holding(alloc, &two_tiles(&rt, 0x20, None, [1, 3])?)?;
-    let mut say = MemSink::new(alloc);
-    let report = run_gated(&rt, alloc, &NONE, &mut files, &mut say, &NoGate)?;
-    equal(&rt, report.status, Status::Block { number: 1 });
-    check(&rt, report.tape.is_empty());
-    equal(&rt, written(&files), Some(65));
-    Ok(())
+    let bytes = two_tiles(rt.alloc(), 0x20, [1, 3])?;
+    let want = Want {
+        blocks: Some(2),
+        taped: Some(0),
+        made: Made::Length(65),
+        ..ending(Status::Block { number: 1 }, "block 1\n")
+    };
+    ends(&rt, &NONE, &holding(&bytes), &want)
 }

@@ -27,6 +27,18 @@ fn says_lines(
     Ok(text.starts_with("jx: ") && text.contains(part) && text.contains(number))
 }
 
+// Whether what is said has this part, and ends its name with this kind and number.
+fn has_row(
+    alloc: Global,
+    refusal: Refusal,
+    part: &str,
+    kind: &str,
+    number: u8,
+) -> Result<bool, AllocError> {
+    let name = format!(in alloc; "{kind} {number})")?;
+    says_lines(alloc, refusal, part, name.as_str())
+}
+
 static RULES: [(u8, &str); 31] = [
     (1, "a marker segment at byte 4711:\n    it is cut short"),
     (2, "the next marker at byte 4711:"),
@@ -64,22 +76,14 @@ static RULES: [(u8, &str); 31] = [
 #[test]
 fn each_rule_has_its_line(rt: HostRuntime) -> Result<(), Fail> {
     let alloc = rt.alloc();
-    for (number, part) in RULES {
+    for (number, part) in &RULES {
         let refusal = Refusal::Rule {
-            number,
+            number: *number,
             place: 4711,
         };
-        let name = format!(in alloc; "; rule {number})")?;
-        check_at(
-            &rt,
-            &number,
-            says_lines(alloc, refusal, part, name.as_str())?,
-        );
-        check_at(
-            &rt,
-            &number,
-            says_lines(alloc, refusal, "in.j2k: ", " at byte 4711:\n")?,
-        );
+        let named = has_row(alloc, refusal, part, "; rule", *number)?;
+        let placed = says_lines(alloc, refusal, "in.j2k: ", " at byte 4711:\n")?;
+        check_at(&rt, number, named && placed);
     }
     Ok(())
 }
@@ -95,18 +99,13 @@ static LIMITS: [(u8, &str); 6] = [
 
 #[test]
 fn each_limit_has_its_line(rt: HostRuntime) -> Result<(), Fail> {
-    let alloc = rt.alloc();
-    for (number, part) in LIMITS {
+    for (number, part) in &LIMITS {
         let refusal = Refusal::Limit {
-            number,
+            number: *number,
             found: 4711,
         };
-        let name = format!(in alloc; "(limit {number})")?;
-        check_at(
-            &rt,
-            &number,
-            says_lines(alloc, refusal, part, name.as_str())?,
-        );
+        let named = has_row(rt.alloc(), refusal, part, "(limit", *number)?;
+        check_at(&rt, number, named);
     }
     Ok(())
 }
@@ -127,17 +126,13 @@ static CHOICES: [(u8, &str); 7] = [
 #[test]
 fn each_choice_has_its_line(rt: HostRuntime) -> Result<(), Fail> {
     let alloc = rt.alloc();
-    for (number, part) in CHOICES {
+    for (number, part) in &CHOICES {
         let refusal = Refusal::Choice {
-            number,
+            number: *number,
             place: 4711,
         };
-        let name = format!(in alloc; "choice {number})")?;
-        check_at(
-            &rt,
-            &number,
-            says_lines(alloc, refusal, part, name.as_str())?,
-        );
+        let named = has_row(alloc, refusal, part, "choice", *number)?;
+        check_at(&rt, number, named);
     }
     let first = Refusal::Choice {
         number: 3,

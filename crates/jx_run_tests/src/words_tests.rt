@@ -1,7 +1,7 @@
 //! Rows of words: what is wrong with them, and the usage; help and version where they are asked for.
 
-use crate::checks::check;
-use crate::say_tests::{says, words_of};
+use crate::checks::{check, check_at};
+use crate::say_tests::{all_say, words_of};
 use jx_say::{Refusal, explain};
 use std::alloc::{AllocError, Global};
 use std::test::Fail;
@@ -24,190 +24,113 @@ fn is_mistake(alloc: Global, words: &str, part: &str) -> Result<bool, AllocError
     Ok(said.starts_with("error: ") && said.contains(part) && !said.contains("Usage:"))
 }
 
+static HELP: [(Refusal, &str, &str); 8] = [
+    (Refusal::Words, "jx", "Commands:"),
+    (Refusal::Words, "out/jx_tool", "Usage: jx <COMMAND>"),
+    (Refusal::Words, "out/jx_tool make --help", "Usage: jx make"),
+    (Refusal::Words, "jx --help", "Commands:"),
+    (Refusal::Words, "jx transcode --help", "--tile-parts <BY>"),
+    (Refusal::Words, "jx transcode --help", "Usage: jx transcode"),
+    (Refusal::Words, "jx --version", "jx 0.9"),
+    (Refusal::Words, "jx make --help", "Usage: jx make"),
+];
+
 #[test]
 fn help_is_said(rt: HostRuntime) -> Result<(), Fail> {
-    let alloc = rt.alloc();
-    check(&rt, says(alloc, Refusal::Words, "jx", "Commands:")?);
-    check(
-        &rt,
-        says(alloc, Refusal::Words, "out/jx_tool", "Usage: jx <COMMAND>")?,
-    );
-    check(
-        &rt,
-        says(
-            alloc,
-            Refusal::Words,
-            "out/jx_tool make --help",
-            "Usage: jx make",
-        )?,
-    );
-    check(&rt, says(alloc, Refusal::Words, "jx --help", "Commands:")?);
-    check(
-        &rt,
-        says(
-            alloc,
-            Refusal::Words,
-            "jx transcode --help",
-            "--tile-parts <BY>",
-        )?,
-    );
-    check(
-        &rt,
-        says(
-            alloc,
-            Refusal::Words,
-            "jx transcode --help",
-            "Usage: jx transcode",
-        )?,
-    );
-    check(&rt, says(alloc, Refusal::Words, "jx --version", "jx 0.9")?);
-    check(
-        &rt,
-        says(alloc, Refusal::Words, "jx make --help", "Usage: jx make")?,
-    );
+    all_say(&rt, &HELP)
+}
+
+// Words that are no command; options that stand twice, without a value or with one that is none; values that are none, of which the
+// first one is named.
+static MISTAKES: [(&str, &str); 17] = [
+    ("jx recast a b", "subcommand 'recast'"),
+    ("jx transcode a", "<OUT>"),
+    ("jx transcode a b c", "'c'"),
+    ("jx transcode a b --up", "'--up'"),
+    (
+        "jx transcode a b --sop --sop",
+        "cannot be used multiple times",
+    ),
+    (
+        "jx transcode a b --order rpcl --order rpcl",
+        "cannot be used multiple times",
+    ),
+    (
+        "jx transcode a b --order",
+        "a value is required for '--order",
+    ),
+    (
+        "jx transcode a b --order=up",
+        "invalid value 'up' for '--order",
+    ),
+    ("jx transcode a b --sop=yes", "--sop"),
+    (
+        "jx transcode a b --threads 65",
+        "'65' for '--threads <N>'\n  [a number from 1 to 64, ",
+    ),
+    ("jx transcode a b --threads=01", "'01' for '--threads <N>'"),
+    ("jx transcode a b --window 1025", "from 1 to 1024"),
+    (
+        "jx transcode a b --window-bytes 268435457",
+        "from 1 to 268435456",
+    ),
+    (
+        "jx transcode a b --precincts 7",
+        "'7' for '--precincts <LIST>'",
+    ),
+    (
+        "jx transcode a b --style bypass+",
+        "'bypass+' for '--style <NAMES>'",
+    ),
+    (
+        "jx transcode a b --style reset+segment --precincts 16x1",
+        "'16x1' for '--precincts <LIST>'",
+    ),
+    (
+        "jx transcode a b --precincts 7x7 --style reset+reset",
+        "'reset+reset' for '--style <NAMES>'",
+    ),
+];
+
+#[test]
+fn mistakes_are_named(rt: HostRuntime) -> Result<(), Fail> {
+    for (words, part) in &MISTAKES {
+        check_at(&rt, words, is_mistake(rt.alloc(), words, part)?);
+    }
     Ok(())
 }
 
 #[test]
-fn wrong_words_are_named(rt: HostRuntime) -> Result<(), Fail> {
-    let alloc = rt.alloc();
-    check(
-        &rt,
-        is_mistake(alloc, "jx recast a b", "subcommand 'recast'")?,
-    );
-    check(&rt, is_mistake(alloc, "jx transcode a", "<OUT>")?);
-    check(&rt, is_mistake(alloc, "jx transcode a b c", "'c'")?);
-    check(&rt, is_mistake(alloc, "jx transcode a b --up", "'--up'")?);
-    let none = Vec::new(alloc);
-    let text = explain(alloc, Refusal::Words, &none)?;
+fn words_that_are_no_text(rt: HostRuntime) -> Result<(), Fail> {
+    let text = explain(rt.alloc(), Refusal::Words, &[])?;
     check(&rt, text.as_str().contains("no text (UTF-8)\n\nUsage: "));
     Ok(())
 }
 
-#[test]
-fn wrong_options_are_named(rt: HostRuntime) -> Result<(), Fail> {
-    let alloc = rt.alloc();
-    let twice = "cannot be used multiple times";
-    check(
-        &rt,
-        is_mistake(alloc, "jx transcode a b --sop --sop", twice)?,
-    );
-    check(
-        &rt,
-        is_mistake(alloc, "jx transcode a b --order rpcl --order rpcl", twice)?,
-    );
-    check(
-        &rt,
-        is_mistake(
-            alloc,
-            "jx transcode a b --order",
-            "a value is required for '--order",
-        )?,
-    );
-    check(
-        &rt,
-        is_mistake(
-            alloc,
-            "jx transcode a b --order=up",
-            "invalid value 'up' for '--order",
-        )?,
-    );
-    check(
-        &rt,
-        is_mistake(alloc, "jx transcode a b --sop=yes", "--sop")?,
-    );
-    Ok(())
-}
+const CHOICE: Refusal = Refusal::Choice {
+    number: 2,
+    place: 0,
+};
 
-#[test]
-fn wrong_values_are_named(rt: HostRuntime) -> Result<(), Fail> {
-    let alloc = rt.alloc();
-    check(
-        &rt,
-        is_mistake(
-            alloc,
-            "jx transcode a b --threads 65",
-            "'65' for '--threads <N>'\n  [a number from 1 to 64, ",
-        )?,
-    );
-    check(
-        &rt,
-        is_mistake(
-            alloc,
-            "jx transcode a b --threads=01",
-            "'01' for '--threads <N>'",
-        )?,
-    );
-    check(
-        &rt,
-        is_mistake(alloc, "jx transcode a b --window 1025", "from 1 to 1024")?,
-    );
-    check(
-        &rt,
-        is_mistake(
-            alloc,
-            "jx transcode a b --window-bytes 268435457",
-            "from 1 to 268435456",
-        )?,
-    );
-    check(
-        &rt,
-        is_mistake(
-            alloc,
-            "jx transcode a b --precincts 7",
-            "'7' for '--precincts <LIST>'",
-        )?,
-    );
-    check(
-        &rt,
-        is_mistake(
-            alloc,
-            "jx transcode a b --style bypass+",
-            "'bypass+' for '--style <NAMES>'",
-        )?,
-    );
-    let both = "jx transcode a b --style reset+segment --precincts 16x1";
-    check(
-        &rt,
-        is_mistake(alloc, both, "'16x1' for '--precincts <LIST>'")?,
-    );
-    let twice = "jx transcode a b --precincts 7x7 --style reset+reset";
-    check(
-        &rt,
-        is_mistake(alloc, twice, "'reset+reset' for '--style <NAMES>'")?,
-    );
-    Ok(())
-}
+static NAMES: [(Refusal, &str, &str); 3] = [
+    (
+        Refusal::WriteFault,
+        "jx transcode in -- --out",
+        "jx: --out could",
+    ),
+    (
+        Refusal::ReadFault,
+        "jx transcode --order=keep -- --in out",
+        "jx: --in could",
+    ),
+    (
+        CHOICE,
+        "jx transcode --precincts 7x7 -- --precincts=8x8 out",
+        "--precincts 7x7 would change",
+    ),
+];
 
 #[test]
 fn names_behind_two_dashes(rt: HostRuntime) -> Result<(), Fail> {
-    let alloc = rt.alloc();
-    check(
-        &rt,
-        says(
-            alloc,
-            Refusal::WriteFault,
-            "jx transcode in -- --out",
-            "jx: --out could",
-        )?,
-    );
-    check(
-        &rt,
-        says(
-            alloc,
-            Refusal::ReadFault,
-            "jx transcode --order=keep -- --in out",
-            "jx: --in could",
-        )?,
-    );
-    let choice = Refusal::Choice {
-        number: 2,
-        place: 0,
-    };
-    let words = "jx transcode --precincts 7x7 -- --precincts=8x8 out";
-    check(
-        &rt,
-        says(alloc, choice, words, "--precincts 7x7 would change")?,
-    );
-    Ok(())
+    all_say(&rt, &NAMES)
 }

@@ -70,17 +70,43 @@ fn two<
     let Some(mut first) = passes.pop() else {
         unreachable!()
     };
-    let zero = claims(rt, &store, &mut first, 0, 0);
-    let one = claims(rt, &store, &mut second, 1, 0);
-    commits(rt, &store, &mut second, one, maker.make(1));
-    is_refused(rt, &store, &mut second, full(2, 0));
-    commits(rt, &store, &mut first, zero, maker.make(0));
-    let two = claims(rt, &store, &mut second, 2, 2);
-    is_refused(rt, &store, &mut first, ALL_CLAIMED);
-    commits(rt, &store, &mut second, two, maker.make(2));
-    is_refused(rt, &store, &mut second, ALL_CLAIMED);
-    is_refused(rt, &store, &mut first, ALL_CLAIMED);
+    two_steps(rt, &store, &mut first, &mut second, maker);
     told(alloc, store, first, second)
+}
+
+// What its workers do.
+fn two_steps<
+    V: Work,
+    N: Bounds<V::Job>,
+    A: Ledger,
+    B: Ledger,
+    C: Ledger,
+    D: Ledger,
+    E: Ledger,
+    R: Wait + Abort,
+    M: Maker<V>,
+>(
+    rt: &R,
+    store: &LockStore<V, N, A, B, C, D, E>,
+    first: &mut Pass<N, A, B, C, D, E>,
+    second: &mut Pass<N, A, B, C, D, E>,
+    maker: &M,
+)
+    requires bounds { (N.setup ≡ record { first = 0; sizes = 0 ∷ 0 ∷ 0 ∷ []; window = 2; most = 1 }) }
+    requires jobs { (length N.jobs ≡ 3) × (M.jobs maker.now ≡ N.jobs) × (M.first maker.now ≡ 0) }
+    requires free { (first.old.holds ≡ None) × (second.old.holds ≡ None) }
+    ensures { (first.new.holds ≡ None) × (second.new.holds ≡ None) }
+{
+    let zero = claims(rt, store, first, 0, 0);
+    let one = claims(rt, store, second, 1, 0);
+    commits(rt, store, second, one, maker.make(1));
+    is_refused(rt, store, second, full(2, 0));
+    commits(rt, store, first, zero, maker.make(0));
+    let two = claims(rt, store, second, 2, 2);
+    is_refused(rt, store, first, ALL_CLAIMED);
+    commits(rt, store, second, two, maker.make(2));
+    is_refused(rt, store, second, ALL_CLAIMED);
+    is_refused(rt, store, first, ALL_CLAIMED);
 }
 
 fn plain_run<'j, R: Wait + Abort>(rt: &R, alloc: Global, jobs: &'j [u32]) -> Result<Run, NoMemory>

@@ -71,15 +71,42 @@ fn narrow<
     let Some(mut first) = passes.pop() else {
         unreachable!()
     };
-    let zero = claims(rt, &store, &mut first, 0, 0);
-    let one = claims(rt, &store, &mut second, 1, 0);
-    is_refused(rt, &store, &mut third, full(2, 0));
-    commits(rt, &store, &mut second, one, maker.make(1));
-    commits(rt, &store, &mut first, zero, maker.make(0));
-    let two = claims(rt, &store, &mut first, 2, 2);
-    is_refused(rt, &store, &mut third, ALL_CLAIMED);
-    commits(rt, &store, &mut first, two, maker.make(2));
+    narrow_steps(rt, &store, &mut first, &mut second, &mut third, maker);
     tape(alloc, store, first, second, third)
+}
+
+// What its workers do.
+fn narrow_steps<
+    V: Work,
+    N: Bounds<V::Job>,
+    A: Ledger,
+    B: Ledger,
+    C: Ledger,
+    D: Ledger,
+    E: Ledger,
+    R: Wait + Abort,
+    M: Maker<V>,
+>(
+    rt: &R,
+    store: &LockStore<V, N, A, B, C, D, E>,
+    first: &mut Pass<N, A, B, C, D, E>,
+    second: &mut Pass<N, A, B, C, D, E>,
+    third: &mut Pass<N, A, B, C, D, E>,
+    maker: &M,
+)
+    requires bounds { (N.setup ≡ record { first = 0; sizes = 0 ∷ 0 ∷ 0 ∷ []; window = 2; most = 1 }) }
+    requires jobs { (length N.jobs ≡ 3) × (M.jobs maker.now ≡ N.jobs) × (M.first maker.now ≡ 0) }
+    requires free { (first.old.holds ≡ None) × (second.old.holds ≡ None) × (third.old.holds ≡ None) }
+    ensures { (first.new.holds ≡ None) × (second.new.holds ≡ None) × (third.new.holds ≡ None) }
+{
+    let zero = claims(rt, store, first, 0, 0);
+    let one = claims(rt, store, second, 1, 0);
+    is_refused(rt, store, third, full(2, 0));
+    commits(rt, store, second, one, maker.make(1));
+    commits(rt, store, first, zero, maker.make(0));
+    let two = claims(rt, store, first, 2, 2);
+    is_refused(rt, store, third, ALL_CLAIMED);
+    commits(rt, store, first, two, maker.make(2));
 }
 
 // Three workers, of which the last commits first and the second finds no memory.
@@ -119,13 +146,40 @@ fn short<
     let Some(mut first) = passes.pop() else {
         unreachable!()
     };
-    let zero = claims(rt, &store, &mut first, 0, 0);
-    let one = claims(rt, &store, &mut second, 1, 0);
-    let two = claims(rt, &store, &mut third, 2, 0);
-    commits(rt, &store, &mut third, two, maker.make(2));
-    commits(rt, &store, &mut first, zero, maker.make(0));
-    commits(rt, &store, &mut second, one, Named::Short(1));
+    short_steps(rt, &store, &mut first, &mut second, &mut third, maker);
     tape(alloc, store, first, second, third)
+}
+
+// What its workers do.
+fn short_steps<
+    V: Work,
+    N: Bounds<V::Job>,
+    A: Ledger,
+    B: Ledger,
+    C: Ledger,
+    D: Ledger,
+    E: Ledger,
+    R: Wait + Abort,
+    M: Maker<V>,
+>(
+    rt: &R,
+    store: &LockStore<V, N, A, B, C, D, E>,
+    first: &mut Pass<N, A, B, C, D, E>,
+    second: &mut Pass<N, A, B, C, D, E>,
+    third: &mut Pass<N, A, B, C, D, E>,
+    maker: &M,
+)
+    requires bounds { (N.setup ≡ record { first = 0; sizes = 0 ∷ 0 ∷ 0 ∷ []; window = 3; most = 1 }) }
+    requires jobs { (length N.jobs ≡ 3) × (M.jobs maker.now ≡ N.jobs) × (M.first maker.now ≡ 0) }
+    requires free { (first.old.holds ≡ None) × (second.old.holds ≡ None) × (third.old.holds ≡ None) }
+    ensures { (first.new.holds ≡ None) × (second.new.holds ≡ None) × (third.new.holds ≡ None) }
+{
+    let zero = claims(rt, store, first, 0, 0);
+    let one = claims(rt, store, second, 1, 0);
+    let two = claims(rt, store, third, 2, 0);
+    commits(rt, store, third, two, maker.make(2));
+    commits(rt, store, first, zero, maker.make(0));
+    commits(rt, store, second, one, Named::Short(1));
 }
 
 type Runs = (Vec<Line>, Vec<Line>);

@@ -152,15 +152,34 @@ fn narrow<V: Work, N: Bounds<V::Job>, R: Wait + Abort, M: Maker<V>>(
 {
     let (store, passes) = RingStore::<V, N>::new(alloc, jobs, &[0, 0, 0], 0, 2, 1, 3)?;
     let (mut first, mut second, mut third) = three(&store, passes);
-    let zero = claims(rt, &store, &mut first, 0, 0);
-    let one = claims(rt, &store, &mut second, 1, 0);
-    is_full(rt, &store, &mut third, (2, 0));
-    commits(rt, &store, &mut second, one, maker.make(1));
-    commits(rt, &store, &mut first, zero, maker.make(0));
-    let two = claims(rt, &store, &mut first, 2, 1);
-    is_last(rt, &store, &mut third);
-    commits(rt, &store, &mut first, two, maker.make(2));
+    narrow_steps::<V, N, R, M>(rt, &store, &mut first, &mut second, &mut third, maker);
     tape(alloc, store, first, second, third)
+}
+
+// What its workers do.
+fn narrow_steps<V: Work, N: Bounds<V::Job>, R: Wait + Abort, M: Maker<V>>(
+    rt: &R,
+    store: &RingStore<V, N>,
+    first: &mut Pass<V, N>,
+    second: &mut Pass<V, N>,
+    third: &mut Pass<V, N>,
+    maker: &M,
+)
+    requires bounds { (N.setup ≡ record { first = 0; sizes = 0 ∷ 0 ∷ 0 ∷ []; window = 2; most = 1 }) × (N.workers ≡ 3) }
+    requires jobs { (length N.jobs ≡ 3) × (M.jobs maker.now ≡ N.jobs) × (M.first maker.now ≡ 0) }
+    requires tables { (first.old.table ≡ store.now.table.shared.table_id) × (second.old.table ≡ store.now.table.shared.table_id) × (third.old.table ≡ store.now.table.shared.table_id) }
+    requires free { (first.old.holds ≡ None) × (second.old.holds ≡ None) × (third.old.holds ≡ None) }
+    ensures tables { (first.new.table ≡ store.now.table.shared.table_id) × (second.new.table ≡ store.now.table.shared.table_id) × (third.new.table ≡ store.now.table.shared.table_id) }
+    ensures free { (first.new.holds ≡ None) × (second.new.holds ≡ None) × (third.new.holds ≡ None) }
+{
+    let zero = claims(rt, store, first, 0, 0);
+    let one = claims(rt, store, second, 1, 0);
+    is_full(rt, store, third, (2, 0));
+    commits(rt, store, second, one, maker.make(1));
+    commits(rt, store, first, zero, maker.make(0));
+    let two = claims(rt, store, first, 2, 1);
+    is_last(rt, store, third);
+    commits(rt, store, first, two, maker.make(2));
 }
 
 // Three workers, of which the last commits first and the second finds no memory.
@@ -175,13 +194,32 @@ fn short<V: Work, N: Bounds<V::Job>, R: Wait + Abort, M: Maker<V>>(
 {
     let (store, passes) = RingStore::<V, N>::new(alloc, jobs, &[0, 0, 0], 0, 3, 1, 3)?;
     let (mut first, mut second, mut third) = three(&store, passes);
-    let zero = claims(rt, &store, &mut first, 0, 0);
-    let one = claims(rt, &store, &mut second, 1, 0);
-    let two = claims(rt, &store, &mut third, 2, 0);
-    commits(rt, &store, &mut third, two, maker.make(2));
-    commits(rt, &store, &mut first, zero, maker.make(0));
-    commits(rt, &store, &mut second, one, Named::Short(1));
+    short_steps::<V, N, R, M>(rt, &store, &mut first, &mut second, &mut third, maker);
     tape(alloc, store, first, second, third)
+}
+
+// What its workers do.
+fn short_steps<V: Work, N: Bounds<V::Job>, R: Wait + Abort, M: Maker<V>>(
+    rt: &R,
+    store: &RingStore<V, N>,
+    first: &mut Pass<V, N>,
+    second: &mut Pass<V, N>,
+    third: &mut Pass<V, N>,
+    maker: &M,
+)
+    requires bounds { (N.setup ≡ record { first = 0; sizes = 0 ∷ 0 ∷ 0 ∷ []; window = 3; most = 1 }) × (N.workers ≡ 3) }
+    requires jobs { (length N.jobs ≡ 3) × (M.jobs maker.now ≡ N.jobs) × (M.first maker.now ≡ 0) }
+    requires tables { (first.old.table ≡ store.now.table.shared.table_id) × (second.old.table ≡ store.now.table.shared.table_id) × (third.old.table ≡ store.now.table.shared.table_id) }
+    requires free { (first.old.holds ≡ None) × (second.old.holds ≡ None) × (third.old.holds ≡ None) }
+    ensures tables { (first.new.table ≡ store.now.table.shared.table_id) × (second.new.table ≡ store.now.table.shared.table_id) × (third.new.table ≡ store.now.table.shared.table_id) }
+    ensures free { (first.new.holds ≡ None) × (second.new.holds ≡ None) × (third.new.holds ≡ None) }
+{
+    let zero = claims(rt, store, first, 0, 0);
+    let one = claims(rt, store, second, 1, 0);
+    let two = claims(rt, store, third, 2, 0);
+    commits(rt, store, third, two, maker.make(2));
+    commits(rt, store, first, zero, maker.make(0));
+    commits(rt, store, second, one, Named::Short(1));
 }
 
 // Sizes below, at and above `most`, from a first number on.
@@ -196,14 +234,33 @@ fn heavy<V: Work, N: Bounds<V::Job>, R: Wait + Abort, M: Maker<V>>(
 {
     let (store, passes) = RingStore::<V, N>::new(alloc, jobs, &[5, 5, 6], 7, 2, 10, 3)?;
     let (mut first, mut second, mut third) = three(&store, passes);
-    let zero = claims(rt, &store, &mut first, 7, 7);
-    let one = claims(rt, &store, &mut second, 8, 7);
-    commits(rt, &store, &mut first, zero, maker.make(7));
-    is_full(rt, &store, &mut third, (9, 8));
-    commits(rt, &store, &mut second, one, maker.make(8));
-    let two = claims(rt, &store, &mut third, 9, 9);
-    commits(rt, &store, &mut third, two, maker.make(9));
+    heavy_steps::<V, N, R, M>(rt, &store, &mut first, &mut second, &mut third, maker);
     tape(alloc, store, first, second, third)
+}
+
+// What its workers do.
+fn heavy_steps<V: Work, N: Bounds<V::Job>, R: Wait + Abort, M: Maker<V>>(
+    rt: &R,
+    store: &RingStore<V, N>,
+    first: &mut Pass<V, N>,
+    second: &mut Pass<V, N>,
+    third: &mut Pass<V, N>,
+    maker: &M,
+)
+    requires bounds { (N.setup ≡ record { first = 7; sizes = 5 ∷ 5 ∷ 6 ∷ []; window = 2; most = 10 }) × (N.workers ≡ 3) }
+    requires jobs { (length N.jobs ≡ 3) × (M.jobs maker.now ≡ N.jobs) × (M.first maker.now ≡ 7) }
+    requires tables { (first.old.table ≡ store.now.table.shared.table_id) × (second.old.table ≡ store.now.table.shared.table_id) × (third.old.table ≡ store.now.table.shared.table_id) }
+    requires free { (first.old.holds ≡ None) × (second.old.holds ≡ None) × (third.old.holds ≡ None) }
+    ensures tables { (first.new.table ≡ store.now.table.shared.table_id) × (second.new.table ≡ store.now.table.shared.table_id) × (third.new.table ≡ store.now.table.shared.table_id) }
+    ensures free { (first.new.holds ≡ None) × (second.new.holds ≡ None) × (third.new.holds ≡ None) }
+{
+    let zero = claims(rt, store, first, 7, 7);
+    let one = claims(rt, store, second, 8, 7);
+    commits(rt, store, first, zero, maker.make(7));
+    is_full(rt, store, third, (9, 8));
+    commits(rt, store, second, one, maker.make(8));
+    let two = claims(rt, store, third, 9, 9);
+    commits(rt, store, third, two, maker.make(9));
 }
 
 // A window of one.
@@ -217,13 +274,33 @@ fn single<V: Work, N: Bounds<V::Job>, R: Wait + Abort, M: Maker<V>>(
     requires jobs { (length jobs.now ≡ 3) × (M.jobs maker.now ≡ jobs.now) × (M.first maker.now ≡ 7) }
 {
     let (store, passes) = RingStore::<V, N>::new(alloc, jobs, &[9, 0, 9], 7, 1, 1, 3)?;
-    let (mut first, mut second, third) = three(&store, passes);
-    let zero = claims(rt, &store, &mut first, 7, 7);
-    is_full(rt, &store, &mut second, (8, 7));
-    commits(rt, &store, &mut first, zero, maker.make(7));
-    let one = claims(rt, &store, &mut second, 8, 8);
-    commits(rt, &store, &mut second, one, maker.make(8));
+    let (mut first, mut second, mut third) = three(&store, passes);
+    single_steps::<V, N, R, M>(rt, &store, &mut first, &mut second, &mut third, maker);
     tape(alloc, store, first, second, third)
+}
+
+// What its workers do.
+fn single_steps<V: Work, N: Bounds<V::Job>, R: Wait + Abort, M: Maker<V>>(
+    rt: &R,
+    store: &RingStore<V, N>,
+    first: &mut Pass<V, N>,
+    second: &mut Pass<V, N>,
+    third: &mut Pass<V, N>,
+    maker: &M,
+)
+    requires bounds { (N.setup ≡ record { first = 7; sizes = 9 ∷ 0 ∷ 9 ∷ []; window = 1; most = 1 }) × (N.workers ≡ 3) }
+    requires jobs { (length N.jobs ≡ 3) × (M.jobs maker.now ≡ N.jobs) × (M.first maker.now ≡ 7) }
+    requires tables { (first.old.table ≡ store.now.table.shared.table_id) × (second.old.table ≡ store.now.table.shared.table_id) × (third.old.table ≡ store.now.table.shared.table_id) }
+    requires free { (first.old.holds ≡ None) × (second.old.holds ≡ None) × (third.old.holds ≡ None) }
+    ensures tables { (first.new.table ≡ store.now.table.shared.table_id) × (second.new.table ≡ store.now.table.shared.table_id) × (third.new.table ≡ store.now.table.shared.table_id) }
+    ensures free { (first.new.holds ≡ None) × (second.new.holds ≡ None) × (third.new.holds ≡ None) }
+{
+    let _third = third;
+    let zero = claims(rt, store, first, 7, 7);
+    is_full(rt, store, second, (8, 7));
+    commits(rt, store, first, zero, maker.make(7));
+    let one = claims(rt, store, second, 8, 8);
+    commits(rt, store, second, one, maker.make(8));
 }
 
 pub type Runs = (Vec<Line>, Vec<Line>);

@@ -168,35 +168,61 @@ fn narrowed(window: u32, most: u32, workers: u32) -> Limits
     }
 }
 
-#[test]
-fn gates_open_or_hold(rt: HostRuntime) -> Result<(), Fail> {
+// The tape of eight jobs of size 1 under these limits, and whether a maker waited in vain that holds so many of them until others
+// are begun and made, or until the limit.
+fn eight(
+    rt: &(impl AllocGlobal + Threads + Wait + Sync),
+    limits: Limits,
+    held: u32,
+    wanted: (u64, u64),
+    limit: u32,
+) -> Result<(Vec<Line>, bool), NoMemory>
+    requires first { limits.first ≡ 0 }
+    requires limits { (0 < limits.window) × (limits.window ≤ 1024) × (0 < limits.most) × (limits.most ≤ 2 ^ 28) × (0 < limits.workers) × (limits.workers ≤ 64) }
+{
     let jobs = [0, 1, 2, 3, 4, 5, 6, 7];
     let sizes = [1, 1, 1, 1, 1, 1, 1, 1];
-    let alloc = rt.alloc();
-    let wide = narrowed(8, 8, 2);
-    // Two workers are really at work at once.
-    let both = gated(&jobs, 2, (2, 0), 10_000_000);
-    let lines = by_threads(&rt, alloc, &jobs, &sizes, wide, &both)?;
+    let maker = gated(&jobs, held, wanted, limit);
+    let lines = by_threads(rt, rt.alloc(), &jobs, &sizes, limits, &maker)?;
+    Ok((lines, maker.has_waited_in_vain()))
+}
+
+// Two workers are really at work at once.
+#[test]
+fn two_at_once(rt: HostRuntime) -> Result<(), Fail> {
+    let (lines, in_vain) = eight(&rt, narrowed(8, 8, 2), 2, (2, 0), 10_000_000)?;
     check(&rt, lines.len() == 8 && lines[0].worker != lines[1].worker);
-    check(&rt, !both.has_waited_in_vain());
-    // One that is stalled holds back nobody inside the window.
-    let stalled = gated(&jobs, 1, (0, 7), 10_000_000);
-    let lines = by_threads(&rt, alloc, &jobs, &sizes, wide, &stalled)?;
+    check(&rt, !in_vain);
+    Ok(())
+}
+
+// One that is stalled holds back nobody inside the window.
+#[test]
+fn one_is_stalled(rt: HostRuntime) -> Result<(), Fail> {
+    let (lines, in_vain) = eight(&rt, narrowed(8, 8, 2), 1, (0, 7), 10_000_000)?;
     check(&rt, lines.len() == 8);
-    check(&rt, !stalled.has_waited_in_vain());
+    check(&rt, !in_vain);
     for line in lines.iter().skip(1) {
         check(&rt, line.seen == 0 && line.worker != lines[0].worker);
     }
-    // As many workers, and a window as wide, as there may be.
-    let open = gated(&jobs, 0, (0, 0), 0);
-    let lines = by_threads(&rt, alloc, &jobs, &sizes, narrowed(1024, 8, 64), &open)?;
-    check(&rt, lines.len() == 8);
-    // A window of one, and `most` of 1, hold back.
+    Ok(())
+}
+
+// As many workers, and a window as wide, as there may be.
+#[test]
+fn as_wide_as_may_be(rt: HostRuntime) -> Result<(), Fail> {
+    let (lines, _) = eight(&rt, narrowed(1024, 8, 64), 0, (0, 0), 0)?;
+    equal(&rt, lines.len(), 8);
+    Ok(())
+}
+
+// A window of one, and `most` of 1, hold back.
+#[test]
+fn narrow_windows_hold_back(rt: HostRuntime) -> Result<(), Fail> {
     for limits in [narrowed(1, 8, 2), narrowed(2, 1, 2)] {
-        let held = gated(&jobs, 1, (2, 0), 2_000);
-        let lines = by_threads(&rt, alloc, &jobs, &sizes, limits, &held)?;
+        let (lines, in_vain) = eight(&rt, limits, 1, (2, 0), 2_000)?;
         check(&rt, lines.len() == 8 && lines[1].seen == 1);
-        check(&rt, held.has_waited_in_vain());
+        check(&rt, in_vain);
     }
     Ok(())
 }

@@ -75,3 +75,28 @@ pub(crate) fn told(fault: StreamFault) -> (u8, u128) {
         StreamFault::NoMemory => (255, 0),
     }
 }
+
+/// A row of a table: an edit of the smallest codestream, and what is said of it.
+#[derive(Clone, Copy)]
+pub(crate) struct Row<'a> {
+    pub from: usize,
+    pub to: usize,
+    pub text: &'a str,
+    pub said: (u8, u128),
+}
+
+/// A row by its words.
+pub(crate) fn row_of(line: &str) -> Option<Row<'_>> {
+    let mut words = line.split_whitespace();
+    let from = words.next()?.parse::<usize>().ok()?;
+    let to = words.next()?.parse::<usize>().ok()?;
+    let text = words.next()?;
+    let number = words.next()?.parse::<u8>().ok()?;
+    let place = words.next()?.parse::<u128>().ok()?;
+    Some(Row {
+        from,
+        to,
+        text,
+        said: (number, place),
+    })
+}

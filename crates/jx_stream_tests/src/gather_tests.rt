@@ -2,7 +2,7 @@
 //! tile-parts.
 
 use crate::checks::{equal, equal_at};
-use crate::files::{EOC, edited, file_of, push_hex, told};
+use crate::files::{EOC, edited, file_of, push_hex, row_of, told};
 use jx_base::Block;
 use jx_gather::gather;
 use jx_stream::read_stream;
@@ -25,6 +25,14 @@ fn blocks_of(
     match gather(alloc, bytes, &stream) {
         Ok(blocks) => Ok(Ok(facts_of(alloc, &blocks)?)),
         Err(fault) => Ok(Err(told(fault))),
+    }
+}
+
+// What is said of a file's fault, or 0 where blocks are given.
+fn said_of(alloc: Global, bytes: &[u8]) -> Result<(u8, u128), AllocError> {
+    match blocks_of(alloc, bytes)? {
+        Ok(_) => Ok((0, 0)),
+        Err(said) => Ok(said),
     }
 }
 
@@ -76,20 +84,10 @@ const ROWS: &str = "
 
 #[test]
 fn rules_and_limits(rt: HostRuntime) -> Result<(), Fail> {
-    let alloc = rt.alloc();
-    for line in ROWS.lines() {
-        let mut words = line.split_whitespace();
-        let Some(from) = words.next() else { continue };
-        let to = words.next().ok_or("end")?.parse::<usize>()?;
-        let text = words.next().ok_or("text")?;
-        let number = words.next().ok_or("rule")?.parse::<u8>()?;
-        let place = words.next().ok_or("place")?.parse::<u128>()?;
-        let file = edited(alloc, from.parse::<usize>()?, to, text)?;
-        let said = match blocks_of(alloc, &file)? {
-            Ok(_) => (0, 0),
-            Err(said) => said,
-        };
-        equal_at(&rt, &line, said, (number, place));
+    for line in ROWS.trim().lines() {
+        let row = row_of(line).ok_or("row")?;
+        let file = edited(rt.alloc(), row.from, row.to, row.text)?;
+        equal_at(&rt, &line, said_of(rt.alloc(), &file)?, row.said);
     }
     Ok(())
 }
@@ -114,33 +112,35 @@ fn one_block(rt: HostRuntime) -> Result<(), Fail> {
     Ok(())
 }
 
+// A file of 45 coded bytes with FF at a place and this byte behind it.
+fn marked(alloc: Global, place: u32, next: u8) -> Result<Vec<u8>, AllocError> {
+    let mut file = edited(alloc, 71, 80, "0000003E 00 01 FF93 C02EB4")?;
+    file.truncate(82);
+    for at in 0..45u32 {
+        let byte = match at.wrapping_sub(place) {
+            0 => 255,
+            1 => next,
+            _ => 1,
+        };
+        file.push(byte)?;
+    }
+    push_hex(EOC, &mut file)?;
+    Ok(file)
+}
+
 // FF at each place of 45 coded bytes, before 8F and before 90: the last byte may not be FF at all.
 #[test]
 fn marks_at_each_place(rt: HostRuntime) -> Result<(), Fail> {
     let alloc = rt.alloc();
     for (next, allowed) in [(0x8Fu8, 44u32), (0x90, 0)] {
         for place in 0..45u32 {
-            let mut file = edited(alloc, 71, 80, "0000003E 00 01 FF93 C02EB4")?;
-            file.truncate(82);
-            for at in 0..45u32 {
-                let byte = match at.wrapping_sub(place) {
-                    0 => 255,
-                    1 => next,
-                    _ => 1,
-                };
-                file.push(byte)?;
-            }
-            push_hex(EOC, &mut file)?;
+            let file = marked(alloc, place, next)?;
             let want = if place < allowed {
                 (0, 0)
             } else {
                 (30, 82 + u128::from(place))
             };
-            let said = match blocks_of(alloc, &file)? {
-                Ok(_) => (0, 0),
-                Err(said) => said,
-            };
-            equal_at(&rt, &(place, next), said, want);
+            equal_at(&rt, &(place, next), said_of(alloc, &file)?, want);
         }
     }
     Ok(())
@@ -151,13 +151,19 @@ const PARTS: &str = "
 FF90 000A 0000 0000000F 00 00 FF93 00 FF90 000A 0000 00000011 01 00 FF93 A0 21 03
 FF90 000A 0000 0000000E 02 00 FF93 FF90 000A 0000 00000011 03 04 FF93 F0 20 05";
 
-#[test]
-fn several_tile_parts(rt: HostRuntime) -> Result<(), Fail> {
-    let alloc = rt.alloc();
+// The smallest codestream with three layers and these tile-parts.
+fn in_parts(alloc: Global) -> Result<Vec<u8>, AllocError> {
     let mut file = edited(alloc, 51, 53, "0003")?;
     file.truncate(65);
     push_hex(PARTS, &mut file)?;
     push_hex(EOC, &mut file)?;
+    Ok(file)
+}
+
+#[test]
+fn several_tile_parts(rt: HostRuntime) -> Result<(), Fail> {
+    let alloc = rt.alloc();
+    let file = in_parts(alloc)?;
     match blocks_of(alloc, &file)? {
         Ok(blocks) => equal(&rt, blocks.as_slice(), [[9usize, 7, 4, 2, 2]].as_slice()),
         Err((number, place)) => equal(&rt, (number, place), (0, 0)),
@@ -166,9 +172,7 @@ fn several_tile_parts(rt: HostRuntime) -> Result<(), Fail> {
 }
 
 // Two precincts and 40,000 layers: 80,000 packets, each with SOP; the number is kept modulo 65,536.
-#[test]
-fn numbers_of_packets_wrap(rt: HostRuntime) -> Result<(), Fail> {
-    let alloc = rt.alloc();
+fn with_sops(alloc: Global) -> Result<Vec<u8>, AllocError> {
     let mut file = file_of(
         alloc,
         &[
@@ -182,6 +186,13 @@ fn numbers_of_packets_wrap(rt: HostRuntime) -> Result<(), Fail> {
         file.extend_from_slice(&[0xFF, 0x91, 0, 4, high, low, 0])?;
     }
     push_hex(EOC, &mut file)?;
+    Ok(file)
+}
+
+#[test]
+fn numbers_of_packets_wrap(rt: HostRuntime) -> Result<(), Fail> {
+    let alloc = rt.alloc();
+    let file = with_sops(alloc)?;
     match blocks_of(alloc, &file)? {
         Ok(blocks) => equal(&rt, blocks.len(), 2),
         Err((number, place)) => equal(&rt, (number, place), (0, 0)),

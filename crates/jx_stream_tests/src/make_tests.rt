@@ -4,7 +4,7 @@ use crate::checks::{equal, equal_at};
 use jx_gather::gather;
 use jx_make::make;
 use jx_stream::read_stream;
-use std::alloc::Global;
+use std::alloc::{AllocError, Global};
 use std::test::Fail;
 
 // How many blocks a file has, or None where a rule is violated or a limit is passed.
@@ -93,9 +93,8 @@ const LAYERS: [&[u8]; 12] = [
     &[0; 3],
 ];
 
-#[test]
-fn whole_file(rt: HostRuntime) -> Result<(), Fail> {
-    let alloc = rt.alloc();
+// That file.
+fn wanted(alloc: Global) -> Result<Vec<u8>, AllocError> {
     let mut wanted = Vec::new(alloc);
     for piece in HEADERS {
         wanted.extend_from_slice(piece)?;
@@ -105,7 +104,13 @@ fn whole_file(rt: HostRuntime) -> Result<(), Fail> {
         wanted.extend_from_slice(&[0; 15])?;
     }
     wanted.extend_from_slice(b"\xFF\xD9")?;
-    let bytes = make(alloc, 2832, 1, 1).map_err(|_| "memory")?;
+    Ok(wanted)
+}
+
+#[test]
+fn whole_file(rt: HostRuntime) -> Result<(), Fail> {
+    let wanted = wanted(rt.alloc())?;
+    let bytes = make(rt.alloc(), 2832, 1, 1).map_err(|_| "memory")?;
     equal(&rt, bytes.as_slice(), wanted.as_slice());
     Ok(())
 }

@@ -5,9 +5,9 @@ mod rows;
 mod views;
 
 use crate::checks::{check, equal, equal_at};
-use crate::files::{EOC, MAIN, PART, SIZ, edited, file_of, push_hex, told};
+use crate::files::{EOC, MAIN, PART, SIZ, edited, file_of, push_hex, row_of, told};
 use jx_base::Band;
-use jx_marker::Segment;
+use jx_marker::{Progression, Segment};
 use jx_stream::{Body, Stream, Tile, read_stream};
 use rows::{KINDS, ROWS};
 use std::alloc::{AllocError, Global};
@@ -30,15 +30,10 @@ fn answer(alloc: Global, bytes: &[u8]) -> (u8, u128) {
 }
 
 fn rows_hold(rt: &impl Abort, alloc: Global, rows: &str) -> Result<(), Fail> {
-    for line in rows.lines() {
-        let mut words = line.split_whitespace();
-        let Some(from) = words.next() else { continue };
-        let to = words.next().ok_or("end")?.parse::<usize>()?;
-        let text = words.next().ok_or("text")?;
-        let number = words.next().ok_or("rule")?.parse::<u8>()?;
-        let place = words.next().ok_or("place")?.parse::<u128>()?;
-        let file = edited(alloc, from.parse::<usize>()?, to, text)?;
-        equal_at(rt, &line, answer(alloc, &file), (number, place));
+    for line in rows.trim().lines() {
+        let row = row_of(line).ok_or("row")?;
+        let file = edited(alloc, row.from, row.to, row.text)?;
+        equal_at(rt, &line, answer(alloc, &file), row.said);
     }
     Ok(())
 }
@@ -114,28 +109,21 @@ fn wide(alloc: Global, segment: &str) -> Result<Vec<u8>, AllocError> {
     Ok(file)
 }
 
+// The styles of components 255 and 256 of the smallest codestream of 257, with a segment before its SOT.
+fn styles_with(rt: &impl Abort, alloc: Global, segment: &str) -> Result<(u8, u8), Fail> {
+    let file = wide(alloc, segment)?;
+    let stream = stream_in(rt, alloc, &file)?;
+    equal(rt, stream.siz.comps.as_slice().len(), 257);
+    let (last, end) = (stream.params(0, 255), stream.params(0, 256));
+    Ok((last.style.bits, end.style.bits))
+}
+
 #[test]
 fn indexes_of_two_bytes(rt: HostRuntime) -> Result<(), Fail> {
     let alloc = rt.alloc();
-    let plain = stream_in(&rt, alloc, &wide(alloc, "")?)?;
-    equal(
-        &rt,
-        (
-            plain.siz.comps.as_slice().len(),
-            plain.params(0, 256).style.bits,
-        ),
-        (257, 0),
-    );
-    let own = stream_in(
-        &rt,
-        alloc,
-        &wide(alloc, "FF53 000A 0100 00 00 04 04 20 01")?,
-    )?;
-    equal(
-        &rt,
-        (own.params(0, 255).style.bits, own.params(0, 256).style.bits),
-        (0, 0x20),
-    );
+    equal(&rt, styles_with(&rt, alloc, "")?, (0, 0));
+    let own = "FF53 000A 0100 00 00 04 04 20 01";
+    equal(&rt, styles_with(&rt, alloc, own)?, (0, 0x20));
     let past = wide(alloc, "FF53 000A 0101 00 00 04 04 20 01")?;
     equal(&rt, answer(alloc, &past), (12, 833));
     Ok(())
@@ -143,89 +131,77 @@ fn indexes_of_two_bytes(rt: HostRuntime) -> Result<(), Fail> {
 
 #[test]
 fn own_parameters(rt: HostRuntime) -> Result<(), Fail> {
-    let alloc = rt.alloc();
     let second =
         "FF90 000A 0001 00000028 00 01 FF53 0009 00 00 00 04 04 01 01 FF5D 0005 00 40 48 FF5E 0005 00 00 0C FF93 00";
     let stream = stream_of(
         &rt,
-        alloc,
+        rt.alloc(),
         &[TWO, MAIN, "FF5E 0005 00 00 03", PART, second, EOC],
     )?;
+    are_own(&rt, &stream);
+    Ok(())
+}
+
+// The second tile has parameters of its own, the first those of the main header.
+fn are_own(rt: &impl Abort, stream: &Stream) {
     let first = stream.params(0, 0);
     let own = stream.params(1, 0);
     equal(
-        &rt,
+        rt,
         (first.style.bits, first.shift, first.guard, first.quant),
         (0, 3, 2, 0),
     );
     equal(
-        &rt,
+        rt,
         (own.style.bits, own.shift, own.guard, own.quant),
         (1, 12, 2, 0),
     );
     equal(
-        &rt,
+        rt,
         (own.levels, own.xcb, own.ycb, own.wavelet, own.precincts[0]),
         (0, 6, 6, 1, 255),
     );
-    equal(&rt, (own.order, own.layers, own.transform), (0, 1, 0));
-    equal(
-        &rt,
-        (
-            stream.planes(0, 0, 0, Band::LL),
-            stream.planes(1, 0, 0, Band::LL),
-        ),
-        (12, 22),
-    );
-    equal(
-        &rt,
-        (
-            stream.step(0, 0, 0, Band::LL),
-            stream.step(1, 0, 0, Band::LL),
-        ),
-        ((8, 0), (9, 0)),
-    );
-    Ok(())
+    equal(rt, (own.order, own.layers, own.transform), (0, 1, 0));
+    for (tile, planes, step) in [(0, 12, (8, 0)), (1, 22, (9, 0))] {
+        equal(rt, stream.planes(tile, 0, 0, Band::LL), planes);
+        equal(rt, stream.step(tile, 0, 0, Band::LL), step);
+    }
+}
+
+// The small codestream with this from Csiz on.
+fn small_with(rt: &impl Abort, alloc: Global, main: &str) -> Result<Stream, Fail> {
+    stream_of(rt, alloc, &[SIZ, main, PART, EOC])
 }
 
 #[test]
 fn derived_quantization(rt: HostRuntime) -> Result<(), Fail> {
-    let alloc = rt.alloc();
     let main = "0001 07 01 01 FF52 000C 00 00 0001 00 05 04 04 00 01 FF5C 0005 41 6F00";
-    let stream = stream_of(&rt, alloc, &[SIZ, main, PART, EOC])?;
+    let stream = small_with(&rt, rt.alloc(), main)?;
     equal(&rt, stream.step(0, 0, 0, Band::LL), (13, 1792));
     equal(&rt, stream.step(0, 0, 1, Band::HL), (13, 1792));
     equal(&rt, stream.step(0, 0, 5, Band::HH), (9, 1792));
     equal(&rt, stream.planes(0, 0, 5, Band::LH), 10);
+    Ok(())
+}
+
+#[test]
+fn derived_exponent_below_0(rt: HostRuntime) -> Result<(), Fail> {
     let main = "0001 07 01 01 FF52 000C 00 00 0001 00 05 04 04 00 01 FF5C 0005 01 1000";
-    let stream = stream_of(&rt, alloc, &[SIZ, main, PART, EOC])?;
-    equal(
-        &rt,
-        (
-            stream.step(0, 0, 5, Band::HL),
-            stream.planes(0, 0, 5, Band::HL),
-        ),
-        ((0, 0), 0),
-    );
+    let stream = small_with(&rt, rt.alloc(), main)?;
+    equal(&rt, stream.step(0, 0, 5, Band::HL), (0, 0));
+    equal(&rt, stream.planes(0, 0, 5, Band::HL), 0);
+    Ok(())
+}
+
+#[test]
+fn expounded_quantization(rt: HostRuntime) -> Result<(), Fail> {
     let main =
         "0001 07 01 01 FF52 000C 00 00 0001 00 01 04 04 00 01 FF5C 000B 42 4001 4802 5003 5804";
-    let stream = stream_of(&rt, alloc, &[SIZ, main, PART, EOC])?;
-    equal(
-        &rt,
-        (
-            stream.step(0, 0, 0, Band::LL),
-            stream.step(0, 0, 1, Band::HL),
-        ),
-        ((8, 1), (9, 2)),
-    );
-    equal(
-        &rt,
-        (
-            stream.step(0, 0, 1, Band::LH),
-            stream.step(0, 0, 1, Band::HH),
-        ),
-        ((10, 3), (11, 4)),
-    );
+    let stream = small_with(&rt, rt.alloc(), main)?;
+    equal(&rt, stream.step(0, 0, 0, Band::LL), (8, 1));
+    equal(&rt, stream.step(0, 0, 1, Band::HL), (9, 2));
+    equal(&rt, stream.step(0, 0, 1, Band::LH), (10, 3));
+    equal(&rt, stream.step(0, 0, 1, Band::HH), (11, 4));
     Ok(())
 }
 
@@ -248,29 +224,39 @@ FF90 000A 0001 00000000 01 00 FF93 00 01";
 fn interleaved_parts(rt: HostRuntime) -> Result<(), Fail> {
     let alloc = rt.alloc();
     let stream = stream_of(&rt, alloc, &[TWO, MAIN, INTERLEAVED, EOC])?;
-    let tiles = stream.tiles.as_slice();
-    let two = tiles.len() == 2;
-    check(&rt, two);
-    let (first, second) = (&tiles[0], &tiles[1]);
-    equal(&rt, (first.place, second.place), (65, 91));
-    equal(
-        &rt,
-        (
-            first.header.as_slice().len(),
-            first.notes.as_slice().len(),
-            second.notes.as_slice().len(),
-        ),
-        (1, 1, 0),
-    );
-    equal(&rt, orders(alloc, first)?.as_slice(), [0u8, 2].as_slice());
-    equal(&rt, orders(alloc, second)?.as_slice(), [1u8].as_slice());
-    let bodies = [Body { at: 90, length: 1 }, Body { at: 149, length: 2 }];
-    equal(&rt, first.bodies.as_slice(), bodies.as_slice());
-    let bodies = [Body { at: 116, length: 0 }, Body { at: 165, length: 2 }];
-    equal(&rt, second.bodies.as_slice(), bodies.as_slice());
-    let is_note = matches!(first.notes.as_slice(), [Segment::Com(_)]);
-    check(&rt, is_note);
+    match stream.tiles.as_slice() {
+        [first, second] => {
+            is_first(&rt, first);
+            is_second(&rt, second);
+            has_orders(&rt, alloc, first, &[0, 2])?;
+            has_orders(&rt, alloc, second, &[1])
+        }
+        _ => Err("tiles")?,
+    }
+}
+
+// Wants these orders of a tile's entries.
+fn has_orders(rt: &impl Abort, alloc: Global, tile: &Tile, want: &[u8]) -> Result<(), Fail> {
+    let found = orders(alloc, tile)?;
+    equal(rt, found.as_slice(), want);
     Ok(())
+}
+
+// Its second tile-part has a comment.
+fn is_first(rt: &impl Abort, tile: &Tile) {
+    equal(rt, tile.place, 65);
+    equal(rt, tile.header.as_slice().len(), 1);
+    check(rt, matches!(tile.notes.as_slice(), [Segment::Com(_)]));
+    let bodies = [Body { at: 90, length: 1 }, Body { at: 149, length: 2 }];
+    equal(rt, tile.bodies.as_slice(), bodies.as_slice());
+}
+
+// Its first tile-part has no byte.
+fn is_second(rt: &impl Abort, tile: &Tile) {
+    equal(rt, tile.place, 91);
+    equal(rt, tile.notes.as_slice().len(), 0);
+    let bodies = [Body { at: 116, length: 0 }, Body { at: 165, length: 2 }];
+    equal(rt, tile.bodies.as_slice(), bodies.as_slice());
 }
 
 #[test]
@@ -279,25 +265,28 @@ fn entries_of_the_main_header(rt: HostRuntime) -> Result<(), Fail> {
     let poc = "FF5F 0009 00 00 0001 01 01 04";
     let second = "FF90 000A 0001 0000000F 00 01 FF93 00";
     let stream = stream_of(&rt, alloc, &[TWO, MAIN, poc, PART, second, EOC])?;
+    equal(&rt, stream.tiles.as_slice().len(), 2);
     for tile in stream.tiles.as_slice() {
-        equal(&rt, orders(alloc, tile)?.as_slice(), [4u8].as_slice());
+        has_orders(&rt, alloc, tile, &[4])?;
     }
-    let stream = stream_of(&rt, alloc, &[SIZ, MAIN, PART, EOC])?;
-    let tiles = stream.tiles.as_slice();
-    let one = tiles.len() == 1;
-    check(&rt, one);
-    let entries = tiles[0].progressions.as_slice();
-    let one = entries.len() == 1;
-    check(&rt, one);
-    equal(
-        &rt,
-        (entries[0].rs, entries[0].cs, entries[0].lye),
-        (0, 0, 1),
-    );
-    equal(
-        &rt,
-        (entries[0].re, entries[0].ce, entries[0].order),
-        (33, 0, 0),
-    );
+    Ok(())
+}
+
+// Without POC there is one entry, for all.
+#[test]
+fn entry_without_poc(rt: HostRuntime) -> Result<(), Fail> {
+    let stream = stream_of(&rt, rt.alloc(), &[SIZ, MAIN, PART, EOC])?;
+    let all = Progression {
+        rs: 0,
+        cs: 0,
+        lye: 1,
+        re: 33,
+        ce: 0,
+        order: 0,
+    };
+    equal(&rt, stream.tiles.as_slice().len(), 1);
+    for tile in stream.tiles.as_slice() {
+        equal(&rt, tile.progressions.as_slice(), [all].as_slice());
+    }
     Ok(())
 }

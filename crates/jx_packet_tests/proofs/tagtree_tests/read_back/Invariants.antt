@@ -1,5 +1,5 @@
 use Rattle.std.proofs.Common.{◌≡◌}
-use Rattle.jx_packet_tests.proofs.tagtree_tests.both_ways.Given as goal
+use Rattle.jx_packet_tests.proofs.tagtree_tests.read_back.Given as goal
 
 -- the tree keeps its size
 abbrev pub invariant-loop-leaf : goal.invariant-loop-leaf
