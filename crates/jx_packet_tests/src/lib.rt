@@ -26,4 +26,6 @@ mod order_tests;
 #[cfg(test)]
 mod plain_tests;
 #[cfg(test)]
+mod read_tests;
+#[cfg(test)]
 mod tagtree_tests;
