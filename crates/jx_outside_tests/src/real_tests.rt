@@ -79,6 +79,8 @@ enum Scene<'a> {
     RoundTrip,
     // It is no plain file.
     Device,
+    // It is gone.
+    Gone,
 }
 
 // Whether a scene goes as it should. No other function has a device of its own, since a proof of its drop costs more than all else.
@@ -105,6 +107,7 @@ fn played<F: Files>(
         Scene::Link(target, byte) => makes_through(rt, files, name, target, byte),
         Scene::RoundTrip => Ok(round_trip(files, name, &[7, 8, 9])?),
         Scene::Device => refuses_devices(rt, files),
+        Scene::Gone => Ok(files.open(name) == Err(Refused::Failed)),
     }
 }
 
@@ -293,5 +296,6 @@ fn a_real_file(rt: HostRuntime) -> Result<(), Fail> {
     let name = "jx_outside_real_file.tmp";
     check(&rt, is_played(&rt, name, Scene::RoundTrip)?);
     fs::remove_file(&rt, name)?;
+    check(&rt, is_played(&rt, name, Scene::Gone)?);
     Ok(())
 }
