@@ -114,6 +114,57 @@ fn both(
     Ok((a, b))
 }
 
+/// The segments that the plain form writes of the stated grid, where the fast form writes the same.
+fn written_alike(
+    alloc: Global,
+    a: &Grid,
+    b: &FlagGrid,
+    style: Style,
+) -> Result<Option<Vec<Vec<u8>>>, NoMemory>
+    requires first { HasSize a.now }
+    requires second { HasSize b.now }
+{
+    let first = encode_passes(alloc, a, Band::HL, style, 5, 13)?;
+    let second = encode_flags(alloc, b, Band::HL, style, 5, 13)?;
+    Ok(if are_same(&first, &second) {
+        Some(first)
+    } else {
+        None
+    })
+}
+
+/// Whether both forms decoded a grid, and looked at as many bytes in each pass.
+fn are_decoded(a: &Grid, c: &Decoded, d: &FlagDecoded) -> bool {
+    is_same(&c.grid, &d.grid)
+        && is_same(a, &d.grid)
+        && c.looked.as_slice() == d.looked.as_slice()
+        && sound_flags(d).is_ok()
+}
+
+/// The segments that both forms write of the stated grid, which is `a` in the plain form, where they are the same.
+fn lists_of(
+    alloc: Global,
+    a: &Grid,
+    width: u16,
+    height: u16,
+    style: Style,
+) -> Result<Option<Vec<Vec<u8>>>, NoMemory>
+    requires wide { width ≤ 1024 }
+    requires high { height ≤ 1024 }
+    requires size { HasSize a.now }
+{
+    let b = fast(alloc, width, height)?;
+    written_alike(alloc, a, &b, style)
+}
+
+/// Whether both forms decode a grid from lists of bytes.
+fn read_alike(alloc: Global, a: &Grid, style: Style, lists: &[Vec<u8>]) -> Result<bool, NoMemory>
+    requires { HasSize a.now }
+{
+    let (c, d) = both(alloc, a.width(), a.height(), style, lists)?;
+    Ok(are_decoded(a, &c, &d))
+}
+
 /// Whether both forms write the same segments of the stated grid, decode it from them, and look at as
 /// many bytes in each pass.
 fn agree(alloc: Global, width: u16, height: u16, bits: u8) -> Result<bool, NoMemory>
@@ -122,17 +173,10 @@ fn agree(alloc: Global, width: u16, height: u16, bits: u8) -> Result<bool, NoMem
 {
     let style = Style { bits };
     let a = plain(alloc, width, height)?;
-    let b = fast(alloc, width, height)?;
-    let first = encode_passes(alloc, &a, Band::HL, style, 5, 13)?;
-    let second = encode_flags(alloc, &b, Band::HL, style, 5, 13)?;
-    if !are_same(&first, &second) {
-        return Ok(false);
+    match lists_of(alloc, &a, width, height, style)? {
+        Some(lists) => read_alike(alloc, &a, style, &lists),
+        None => Ok(false),
     }
-    let (c, d) = both(alloc, width, height, style, &first)?;
-    if !is_same(&c.grid, &d.grid) || !is_same(&a, &d.grid) {
-        return Ok(false);
-    }
-    Ok(c.looked.as_slice() == d.looked.as_slice() && sound_flags(&d).is_ok())
 }
 
 /// The same in three styles: none, bypass with causal contexts, and all but predictable termination.
@@ -190,6 +234,31 @@ fn square_block(rt: HostRuntime) -> Result<(), Fail> {
     Ok(())
 }
 
+/// The coefficient of a block of one place from its one byte.
+fn read_one(alloc: Global, planes: u8, passes: u16, byte: u8) -> Result<Coef, NoMemory>
+    requires some { 1 ≤ planes }
+    requires most { planes ≤ 74 }
+    requires passes { passes ≤ 3 * planes - 2 }
+{
+    let decoded = decode(alloc, 1, 1, 0, planes, passes, &[byte])?;
+    Ok(coef(&decoded, 0, 0))
+}
+
+/// The segments of a block of one place.
+fn written_one(alloc: Global, coef: Coef, planes: u8, passes: u16) -> Result<Vec<Vec<u8>>, NoMemory>
+    requires some { 1 ≤ planes }
+    requires most { planes ≤ 74 }
+    requires passes { passes ≤ 3 * planes - 2 }
+{
+    let grid = single(alloc, coef)?;
+    encode_flags(alloc, &grid, Band::LL, Style { bits: 0 }, planes, passes)
+}
+
+/// Whether these are one list of one byte.
+fn is_byte(lists: &[Vec<u8>], byte: u8) -> bool {
+    lists.len() == 1 && lists[0].as_slice() == [byte].as_slice()
+}
+
 // One coefficient: +1 and -1 by one pass, +3 by four passes of two planes.
 #[test]
 fn one_coefficient(rt: HostRuntime) -> Result<(), Fail> {
@@ -202,18 +271,15 @@ fn one_coefficient(rt: HostRuntime) -> Result<(), Fail> {
             &rt,
             planes == 1 && passes == 1 || planes == 2 && passes == 4,
         );
-        let decoded = given(decode(rt.alloc(), 1, 1, 0, planes, passes, &[byte]))?;
-        let found = coef(&decoded, 0, 0);
-        equal(&rt, found.negative, negative);
-        equal(&rt, found.bits, bits);
-        equal(&rt, found.planes, planes);
-        let grid = given(single(rt.alloc(), found))?;
-        let style = Style { bits: 0 };
-        let lists = given(encode_flags(rt.alloc(), &grid, Band::LL, style, planes, passes))?;
-        equal(&rt, lists.len(), 1);
-        for list in lists.iter() {
-            equal(&rt, list.as_slice(), [byte].as_slice());
-        }
+        let found = read_one(rt.alloc(), planes, passes, byte)?;
+        let want = Coef {
+            negative,
+            bits,
+            planes,
+        };
+        equal(&rt, found, want);
+        let lists = written_one(rt.alloc(), found, planes, passes)?;
+        check(&rt, is_byte(&lists, byte));
     }
     Ok(())
 }

@@ -2,8 +2,10 @@ ghost use Rattle.std.specs.Prelude.{◌<◌};
 
 use crate::checks::{check, check_at, equal, equal_at};
 use crate::samples::next;
+use jx_base::NoMemory;
 use jx_mq::{Contexts, MqDecoder, MqEncoder};
 use std::alloc::Global;
+use std::process::Abort;
 use std::test::Fail;
 
 /// The decisions of ITU-T T.88, Annex H.2, thirty-two in a word.
@@ -31,27 +33,48 @@ fn decision(word: u32, i: u32) -> bool
     word >> (31 - i) & 1 == 1
 }
 
-#[test]
-fn published_vector(rt: HostRuntime) -> Result<(), Fail> {
-    let mut encoder = MqEncoder::new(rt.alloc());
+/// The segment of these decisions, under one label.
+fn coded(mut encoder: MqEncoder) -> Result<Vec<u8>, NoMemory> {
     let mut contexts = Contexts::new();
     for word in DECISIONS {
         for i in 0..32 {
             encoder.bit(&mut contexts, 1, decision(word, i))?;
         }
     }
-    equal(&rt, encoder.flush()?.as_slice(), CODED.as_slice());
+    encoder.flush()
+}
 
+/// The segment of as many drawn decisions under all labels.
+fn drawn(mut encoder: MqEncoder, count: usize) -> Result<Vec<u8>, NoMemory> {
+    let mut contexts = Contexts::new();
+    let mut x = 1;
+    for _ in 0..count {
+        x = next(x);
+        let label = ((x >> 50) % 19) as u8;
+        encoder.bit(&mut contexts, label, x >> 33 & 1 == 1)?;
+    }
+    encoder.flush()
+}
+
+#[test]
+fn published_vector(rt: HostRuntime) -> Result<(), Fail> {
+    let bytes = coded(MqEncoder::new(rt.alloc()))?;
+    equal(&rt, bytes.as_slice(), CODED.as_slice());
+    published_vector_is_read(&rt);
+    Ok(())
+}
+
+/// The bytes are read as the decisions.
+fn published_vector_is_read(rt: &impl Abort) {
     let mut decoder = MqDecoder::new(&CODED);
     let mut contexts = Contexts::new();
     for word in DECISIONS {
         for i in 0..32 {
             let read = decoder.bit(&mut contexts, 1);
-            equal_at(&rt, &(i, word), read, decision(word, i));
+            equal_at(rt, &(i, word), read, decision(word, i));
         }
     }
-    equal(&rt, decoder.looked(), 28);
-    Ok(())
+    equal(rt, decoder.looked(), 28);
 }
 
 #[test]
@@ -68,7 +91,12 @@ fn ends(rt: HostRuntime) -> Result<(), Fail> {
             [0xFF, 0x7F].as_slice(),
         );
     }
+    Ok(())
+}
 
+// No bytes are read as FF without an end.
+#[test]
+fn reads_past_the_end(rt: HostRuntime) {
     let mut none = MqDecoder::new(&[]);
     let mut ones = MqDecoder::new(&[0xFF, 0xFF]);
     let mut first = Contexts::new();
@@ -83,7 +111,6 @@ fn ends(rt: HostRuntime) -> Result<(), Fail> {
         );
     }
     equal(&rt, none.looked(), 0);
-    Ok(())
 }
 
 /// Whether the contexts start anew before a decision.
@@ -96,8 +123,8 @@ fn bit_of(x: u64, label: u8) -> bool {
     (x >> 33 & 7 == 0) != (label % 2 == 0)
 }
 
-/// Writes a list of decisions under all labels with resets among them, and reads it back.
-fn writes_and_reads(alloc: Global, count: u32, seed: u64) -> Result<bool, Fail> {
+/// The segment of a list of decisions under all labels, with resets among them.
+fn with_resets(alloc: Global, count: u32, seed: u64) -> Result<Vec<u8>, NoMemory> {
     let mut encoder = MqEncoder::new(alloc);
     let mut contexts = Contexts::new();
     let mut x = seed;
@@ -109,8 +136,12 @@ fn writes_and_reads(alloc: Global, count: u32, seed: u64) -> Result<bool, Fail> 
         let label = ((x >> 50) % 19) as u8;
         encoder.bit(&mut contexts, label, bit_of(x, label))?;
     }
-    let bytes = encoder.flush()?;
-    let mut decoder = MqDecoder::new(&bytes);
+    encoder.flush()
+}
+
+/// Whether a segment is read as that list.
+fn is_read(bytes: &[u8], count: u32, seed: u64) -> bool {
+    let mut decoder = MqDecoder::new(bytes);
     let mut contexts = Contexts::new();
     let mut x = seed;
     let mut same = true;
@@ -122,18 +153,15 @@ fn writes_and_reads(alloc: Global, count: u32, seed: u64) -> Result<bool, Fail> 
         let label = ((x >> 50) % 19) as u8;
         same = same && decoder.bit(&mut contexts, label) == bit_of(x, label);
     }
-    Ok(same)
+    same
 }
 
 #[test]
 fn lists_of_many_lengths(rt: HostRuntime) -> Result<(), Fail> {
     for count in [0, 1, 2, 3, 10, 19, 50, 100, 200, 500, 1000, 2000, 3000] {
         for seed in [1, 2, 3, 4, 5] {
-            check_at(
-                &rt,
-                &(count, seed),
-                writes_and_reads(rt.alloc(), count, seed)?,
-            );
+            let bytes = with_resets(rt.alloc(), count, seed)?;
+            check_at(&rt, &(count, seed), is_read(&bytes, count, seed));
         }
     }
     Ok(())
@@ -141,14 +169,7 @@ fn lists_of_many_lengths(rt: HostRuntime) -> Result<(), Fail> {
 
 #[test]
 fn room_of_a_whole_segment(rt: HostRuntime) -> Result<(), Fail> {
-    let mut encoder = MqEncoder::with_room(rt.alloc(), 28)?;
-    let mut contexts = Contexts::new();
-    for word in DECISIONS {
-        for i in 0..32 {
-            encoder.bit(&mut contexts, 1, decision(word, i))?;
-        }
-    }
-    let bytes = encoder.flush()?;
+    let bytes = coded(MqEncoder::with_room(rt.alloc(), 28)?)?;
     equal(&rt, bytes.len(), 28);
     equal(&rt, bytes.capacity(), 29);
     Ok(())
@@ -159,15 +180,7 @@ fn room_for_all_decisions(rt: HostRuntime) -> Result<(), Fail> {
     for count in [0, 1, 10, 100, 1000usize] {
         check(&rt, count <= 1000);
         let room = 15 * count / 7 + 2;
-        let mut encoder = MqEncoder::with_room(rt.alloc(), room)?;
-        let mut contexts = Contexts::new();
-        let mut x = 1;
-        for _ in 0..count {
-            x = next(x);
-            let label = ((x >> 50) % 19) as u8;
-            encoder.bit(&mut contexts, label, x >> 33 & 1 == 1)?;
-        }
-        let bytes = encoder.flush()?;
+        let bytes = drawn(MqEncoder::with_room(rt.alloc(), room)?, count)?;
         check_at(&rt, &count, bytes.len() <= room);
         equal_at(&rt, &count, bytes.capacity(), room + 1);
     }

@@ -53,9 +53,12 @@ fn one_coefficient(rt: HostRuntime) -> Result<(), Fail> {
         );
         let decoded = given(decode(rt.alloc(), 1, 1, 0, planes, passes, &[byte]))?;
         let found = coef(&decoded, 0, 0);
-        equal(&rt, found.negative, negative);
-        equal(&rt, found.bits, bits);
-        equal(&rt, found.planes, planes);
+        let want = Coef {
+            negative,
+            bits,
+            planes,
+        };
+        equal(&rt, found, want);
         equal(&rt, decoded.looked.len(), usize::from(passes));
         check(&rt, sound(&decoded).is_ok());
     }

@@ -1,7 +1,42 @@
+ghost use Rattle.std.specs.Prelude.{◌<◌};
+
 use crate::checks::{check, check_at, equal, equal_at};
 use crate::samples::next;
+use jx_base::NoMemory;
 use jx_raw::{RawReader, RawWriter};
+use std::alloc::Global;
 use std::test::Fail;
+
+/// The segment of some bits, the highest first.
+fn written(alloc: Global, count: u32, bits: u32) -> Result<Vec<u8>, NoMemory>
+    requires { count < 32 }
+{
+    let mut writer = RawWriter::new(alloc);
+    for i in (0..count).rev() {
+        writer.bit(bits >> i & 1 == 1)?;
+    }
+    writer.finish()
+}
+
+/// The segment of as many bits, of which about one in eight is 0, with room for 100 bytes at first.
+fn drawn(alloc: Global, count: u64) -> Result<Vec<u8>, NoMemory> {
+    let mut writer = RawWriter::with_room(alloc, 100)?;
+    let mut x: u64 = count;
+    for _ in 0..count {
+        x = next(x);
+        writer.bit(x >> 33 & 7 != 0)?;
+    }
+    writer.finish()
+}
+
+/// The segment of as many bits 1, with room for some bytes.
+fn ones(alloc: Global, room: usize, count: usize) -> Result<Vec<u8>, NoMemory> {
+    let mut writer = RawWriter::with_room(alloc, room)?;
+    for _ in 0..count {
+        writer.bit(true)?;
+    }
+    writer.finish()
+}
 
 #[test]
 fn vectors(rt: HostRuntime) -> Result<(), Fail> {
@@ -14,11 +49,7 @@ fn vectors(rt: HostRuntime) -> Result<(), Fail> {
     ];
     for (count, bits, want) in cases {
         check(&rt, count < 32);
-        let mut writer = RawWriter::new(rt.alloc());
-        for i in (0..count).rev() {
-            writer.bit(bits >> i & 1 == 1)?;
-        }
-        let bytes = writer.finish()?;
+        let bytes = written(rt.alloc(), count, bits)?;
         equal_at(&rt, &count, bytes.as_slice(), want);
         let mut reader = RawReader::new(&bytes);
         for i in (0..count).rev() {
@@ -31,13 +62,7 @@ fn vectors(rt: HostRuntime) -> Result<(), Fail> {
 #[test]
 fn lists_of_many_lengths(rt: HostRuntime) -> Result<(), Fail> {
     for count in [1, 7, 16, 17, 100, 1000, 3000] {
-        let mut writer = RawWriter::with_room(rt.alloc(), 100)?;
-        let mut x: u64 = count;
-        for _ in 0..count {
-            x = next(x);
-            writer.bit(x >> 33 & 7 != 0)?;
-        }
-        let bytes = writer.finish()?;
+        let bytes = drawn(rt.alloc(), count)?;
         let mut reader = RawReader::new(&bytes);
         equal(&rt, reader.looked(), 0);
         let mut x: u64 = count;
@@ -69,19 +94,11 @@ fn room_for_seven_bits_in_a_byte(rt: HostRuntime) -> Result<(), Fail> {
     for count in [0, 1, 7, 8, 9, 23, 38, 1000usize] {
         check(&rt, count <= 1000);
         let room = (count + 6) / 7;
-        let mut writer = RawWriter::with_room(rt.alloc(), room)?;
-        for _ in 0..count {
-            writer.bit(true)?;
-        }
-        let bytes = writer.finish()?;
+        let bytes = ones(rt.alloc(), room, count)?;
         check_at(&rt, &count, bytes.len() <= room);
         equal_at(&rt, &count, bytes.capacity(), room);
     }
-    let mut writer = RawWriter::with_room(rt.alloc(), 2)?;
-    for _ in 0..8 {
-        writer.bit(true)?;
-    }
-    let bytes = writer.finish()?;
+    let bytes = ones(rt.alloc(), 2, 8)?;
     equal(&rt, bytes.as_slice(), [0xFF, 0x00].as_slice());
     equal(&rt, bytes.capacity(), 2);
     Ok(())
