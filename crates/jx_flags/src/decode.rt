@@ -45,6 +45,25 @@ fn start<'a>(
     })
 }
 
+/// What a block gives whose passes were decoded.
+fn end(decoder: Decoder) -> FlagDecoded
+    ensures grid { result.grid ≡ decoder.entry.cells }
+    ensures looked { result.looked.items ≡ decoder.entry.looked }
+    ensures wrong { result.wrong ≡ decoder.entry.wrong }
+{
+    let Decoder {
+        field,
+        looked,
+        wrong,
+        ..
+    } = decoder;
+    FlagDecoded {
+        grid: field.grid,
+        looked,
+        wrong,
+    }
+}
+
 /// Decodes the passes of a block.
 #[tactic(auto, using(jx_passdec::proofs::ReadMore::read_more, jx_passdec::proofs::ReadMore::read_done, jx_grid::proofs::Places::within_more))]
 fn run<'a>(decoder: &mut Decoder<'a>, labels: &[u8], coded: &Coded) -> Result<(), NoMemory>
@@ -65,9 +84,24 @@ fn run<'a>(decoder: &mut Decoder<'a>, labels: &[u8], coded: &Coded) -> Result<()
     Ok(())
 }
 
+/// The same from a table of labels that it makes.
+fn run_block<'a>(decoder: &mut Decoder<'a>, alloc: Global, coded: &Coded) -> Result<(), NoMemory>
+    requires some { 1 ≤ coded.now.planes }
+    requires planes { coded.now.planes ≤ 74 }
+    requires passes { coded.now.passes ≤ 3 * coded.now.planes - 2 }
+    requires size { HasSize decoder.old.cells }
+    requires within { AreWithin coded.now.planes 1 decoder.old.cells }
+    requires rest { AreShort decoder.old.rest }
+    ensures decoding { OnOk result (decoder.new ≡
+        read_from (coding_of coded.now.band coded.now.style.bits coded.now.planes) coded.now.passes 0 decoder.old) }
+    ensures within { OnOk result (AreWithin coded.now.planes coded.now.planes decoder.new.cells) }
+{
+    let labels = labels_of(alloc, coded.band)?;
+    run(decoder, &labels, coded)
+}
+
 /// The coefficients of a block of at most 1,024 by 1,024 places, from its coded passes (T.800, Annex
 /// D). Each segment has fewer than 2^32 bytes; one that isn't there is taken as one of no bytes.
-#[tactic(auto, unfolding(jx_grid::specs::Reading::decoded), using(jx_grid::proofs::Places::zeros_within))]
 pub fn decode_flags(
     alloc: Global,
     width: u16,
@@ -89,19 +123,10 @@ pub fn decode_flags(
     ensures within { IfOk result (λ d. AreWithin coded.now.planes coded.now.planes d.grid) }
 {
     let mut decoder = start(alloc, width, height, coded.segments.as_slice())?;
-    let labels = labels_of(alloc, coded.band)?;
-    run(&mut decoder, &labels, coded)?;
-    let Decoder {
-        field,
-        looked,
-        wrong,
-        ..
-    } = decoder;
-    Ok(FlagDecoded {
-        grid: field.grid,
-        looked,
-        wrong,
-    })
+    let result = run_block(&mut decoder, alloc, coded);
+    let decoded = end(decoder);
+    result?;
+    Ok(decoded)
 }
 
 /// Whether each segmentation symbol was right.

@@ -66,6 +66,17 @@ fn start<'a>(
     })
 }
 
+/// What a block gives whose passes were decoded and coded.
+fn end(recoder: Recoder) -> FlagRecoded
+    ensures segments { map (λ s. s.items) result.segments.items ≡ recoder.entry.done }
+    ensures wrong { result.wrong ≡ recoder.entry.wrong }
+{
+    FlagRecoded {
+        segments: recoder.done,
+        wrong: recoder.wrong,
+    }
+}
+
 /// Decodes the passes of a block and codes them.
 #[tactic(auto, using(crate::proofs::RecodeLemmas::recoded_more, crate::proofs::RecodeLemmas::recoded_end, jx_grid::proofs::Places::within_more))]
 fn run<'a>(
@@ -100,12 +111,31 @@ fn run<'a>(
     Ok(())
 }
 
+/// The same from a table of labels that it makes.
+fn run_block<'a>(
+    recoder: &mut Recoder<'a>,
+    alloc: Global,
+    coded: &Coded,
+    style: Style,
+) -> Result<(), NoMemory>
+    requires some { 1 ≤ coded.now.planes }
+    requires planes { coded.now.planes ≤ 74 }
+    requires passes { coded.now.passes ≤ 3 * coded.now.planes - 2 }
+    requires size { HasSize recoder.old.cells }
+    requires within { AreWithin coded.now.planes 1 recoder.old.cells }
+    requires rest { AreShort recoder.old.rest }
+    ensures { let planes = coded.now.planes in let band = coded.now.band in
+        OnOk result (recoder.new ≡ recoded_from (coding_of band coded.now.style.bits planes) (coding_of band style.bits planes) coded.now.passes 0 recoder.old) }
+{
+    let labels = labels_of(alloc, coded.band)?;
+    run(recoder, alloc, &labels, coded, style)
+}
+
 /// The segments in another style of a block of at most 1,024 by 1,024 places, from its coded passes
 /// (T.800, Annex D), which are decoded and coded in step. Each segment has fewer than 2^32 bytes; one
 /// that isn't there is taken as one of no bytes. Both styles agree on causal contexts, so that each
 /// decision is coded as it is read. The segments are those of the coefficients, whatever the
 /// segmentation symbols.
-#[tactic(auto, using(crate::proofs::RecodeLemmas::recoded_wrong, crate::proofs::RecodeLemmas::recoded_done, jx_grid::proofs::Places::zeros_within))]
 pub fn recode_flags(
     alloc: Global,
     width: u16,
@@ -127,11 +157,8 @@ pub fn recode_flags(
         IfOk result (λ r. r.wrong ≡ (decoded width height c coded.now.segments coded.now.passes).wrong) }
 {
     let mut recoder = start(alloc, width, height, style, coded.segments.as_slice())?;
-    let labels = labels_of(alloc, coded.band)?;
-    run(&mut recoder, alloc, &labels, coded, style)?;
-    let Recoder { done, wrong, .. } = recoder;
-    Ok(FlagRecoded {
-        segments: done,
-        wrong,
-    })
+    let result = run_block(&mut recoder, alloc, coded, style);
+    let recoded = end(recoder);
+    result?;
+    Ok(recoded)
 }

@@ -1,10 +1,11 @@
-ghost use Rattle.std.specs.Prelude.{◌≡◌, ◌+◌, ◌/◌, ◌%◌, ◌^◌, ◌==◌, ◌&&◌, ◌||◌, ◌<◌, ℕ, length, drop, OnOk, IfOk};
-ghost use Rattle.jx_base.specs.Passes.{is_causal, has_symbols};
+ghost use Rattle.std.specs.Prelude.{◌≡◌, ◌+◌, ◌++◌, ◌∷◌, [], ◌/◌, ◌%◌, ◌^◌, ◌==◌, ◌&&◌, ◌||◌, ◌<◌, ℕ, length, drop, OnOk, IfOk};
+ghost use Rattle.jx_base.specs.Passes.{raw_pass, is_causal, has_symbols};
 ghost use Rattle.jx_grid.specs.Cells.{Cells, HasSize, AreWithin, IsKept};
 ghost use Rattle.jx_grid.specs.Pass.{IsScan, plane_of};
 ghost use Rattle.jx_grid.specs.Reading.{coding_of, first_segment, read_symbol, first_wrong, ends_by_symbol};
 ghost use Rattle.jx_flags.specs.Labels.{AreLabels};
 ghost use Rattle.jx_flags.specs.InStep.{Recoding, begun, copied, checked, marked, ended, recoded_pass};
+ghost use Rattle.jx_passenc.specs.Writing.{fresh_writing, segment_by};
 ghost use Rattle.jx_passdec.specs.Short.{AreShort};
 
 use crate::copier::Copier;
@@ -152,6 +153,21 @@ impl<'a> Recoder<'a> {
         Ok(())
     }
 
+    /// Ends a segment of the new style.
+    fn end(&mut self, alloc: Global, style: Style, pass: u16) -> Result<(), NoMemory>
+        requires { pass < 65535 }
+        ensures recoding { OnOk result (self.new ≡ record self.old {
+          copying = record self.old.copying {
+            writing = fresh_writing self.old.copying.writing.target (raw_pass style.bits (pass + 1)) self.old.copying.writing.contexts;
+          };
+          done = self.old.done ++ segment_by self.old.copying.writing ∷ [];
+        }) }
+    {
+        let segment = self.copier.pen.finish(alloc, is_raw(style, pass + 1))?;
+        self.done.push(segment)?;
+        Ok(())
+    }
+
     /// Ends a segment of the new style where the pass does.
     #[tactic(auto, unfolding(crate::specs::InStep::ended))]
     fn close(&mut self, alloc: Global, style: Style, pass: u16, last: bool) -> Result<(), NoMemory>
@@ -163,9 +179,7 @@ impl<'a> Recoder<'a> {
         if !last && !ends_segment(style, pass) {
             return Ok(());
         }
-        let segment = self.copier.pen.finish(alloc, is_raw(style, pass + 1))?;
-        self.done.push(segment)?;
-        Ok(())
+        self.end(alloc, style, pass)
     }
 
     /// The next pass of the block, which may be the last.

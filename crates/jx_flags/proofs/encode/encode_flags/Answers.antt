@@ -1,15 +1,27 @@
-use Rattle.std.proofs.Common.{[], ◌∙◌, ap, sym}
+use Rattle.std.proofs.Common.{[], ◌∙◌, sym, refl}
 use Rattle.jx_base.specs.MqTable.{mq_fresh}
-use Rattle.jx_grid.specs.Reading.{coding_of}
+use Rattle.jx_grid.specs.Reading.{Coding, coding_of}
 use Rattle.jx_grid.specs.Needs.{needs}
-use Rattle.jx_passenc.specs.Encoding.{Encoding}
+use Rattle.jx_grid.proofs.Places.{zeros_within}
 use Rattle.jx_passenc.proofs.SegmentLemmas.{segments_finished}
 use Rattle.jx_flags.proofs.encode.encode_flags.Goals as goal
 
+pub run_block-result-requires : goal.run_block-result-requires
+run_block-result-requires c =
+    let e = c.in_ok-encoder.ensures in
+    record {
+      some = c.requires.some;
+      planes = c.requires.planes;
+      passes = c.requires.passes;
+      size = rw e (record { wide = c.requires.size.wide; high = c.requires.size.high });
+      within = rw e (zeros_within c.args.planes 1 c.args.grid.now.width c.args.grid.now.height);
+      kind = rw e refl;
+    }
+
 pub returns : goal.returns
 returns c =
-    let co = coding_of c.args.band c.args.style.bits c.args.planes in
-    ap (λ (e : Encoding). e.done) c.encoder.view_is
-    ∙ (c.in_ok-run.ensures
-    ∙ rw (c.new-3.ensures.items, c.new-2.ensures, c.is_raw.ensures, c.in_ok-new.ensures, c.width.ensures, c.height.ensures)
+    let co : Coding = coding_of c.args.band c.args.style.bits c.args.planes in
+    c.end-segments.ensures
+    ∙ (c.in_ok-result.ensures
+    ∙ rw c.in_ok-encoder.ensures
     (sym (segments_finished c.args.style.bits c.args.grid.now (needs co c.args.grid.now c.args.passes) 0 mq_fresh [])))
