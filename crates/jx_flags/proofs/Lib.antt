@@ -16,4 +16,5 @@ pub mod SeenLemmas
 pub mod SignLemmas
 pub mod SixLemmas
 pub mod StepLemmas
+pub mod StripeLemmas
 pub mod WindowLemmas
