@@ -298,7 +298,6 @@ fn stripe<S: Source>(
 /// of its coded planes, at most 74, and `pass` the number of the pass, one of theirs. The
 /// coefficients, of which no plane below the pass's was decided, are as the source's answers make
 /// them. After `NoMemory` they and the source are given up.
-#[tactic(auto, using(crate::proofs::EndLemmas::stripes_done), unfolding(jx_grid::specs::Pass::pass_of))]
 pub(crate) fn run_pass<S: Source>(
     source: &mut S,
     field: &mut Field,

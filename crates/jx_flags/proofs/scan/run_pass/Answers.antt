@@ -1,6 +1,8 @@
-use Rattle.std.proofs.Common.{◌<◌, ◌+◌, ◌*◌, ◌/◌, ◌∙◌, ap, sym, arith}
+use Rattle.std.proofs.Common.{◌<◌, ◌≤◌, ◌*◌, ◌∙◌, ap, sym, arith}
 use Rattle.jx_grid.specs.declared.question.Plane.{Plane}
 use Rattle.jx_grid.specs.Cells.{Cells}
+use Rattle.jx_grid.specs.Pass.{pass_of, plane_of}
+use Rattle.jx_flags.proofs.EndLemmas.{stripes_done}
 use Rattle.jx_flags.proofs.ScanLemmas.{stripes_more}
 use Rattle.jx_flags.proofs.scan.run_pass.Goals as goal
 
@@ -9,7 +11,7 @@ loop-s-preserved g c =
     let f : Cells = c.args.field.now in
     let i = c.loop-s.invariant in
     let k = c.in_ok-stripe.ensures in
-    let p : Plane = record { band = c.args.band; causal = c.args.causal; planes = c.args.planes; number = (c.args.pass + 2) / 3 } in
+    let p : Plane = plane_of c.args.band c.args.causal c.args.planes c.args.pass in
     let h = ap (λ (z : Cells). z.height) c.field.view_is in
     let l : 4 * c.loop-s.s < f.height = omega arith in
     record {
@@ -17,3 +19,25 @@ loop-s-preserved g c =
           (sym (stripes_more g.S.Source.ask c.args.pass p f c.loop-s.field c.loop-s.s c.loop-s.source l i.kept.width i.kept.height) ∙ i.so_far);
       kept = record { width = k.kept.width ∙ i.kept.width; height = k.kept.height ∙ i.kept.height; within = k.kept.within };
     }
+
+pub returns-clause-grid : goal.returns-clause-grid
+unfolding pass_of
+returns-clause-grid g c =
+    let f : Cells = c.args.field.now in
+    let p : Plane = plane_of c.args.band c.args.causal c.args.planes c.args.pass in
+    let h = ap (λ (z : Cells). z.height) c.field.view_is in
+    let l : f.height ≤ 4 * c.loop-s.s = omega arith in
+    ap (λ (z : Cells × g.row.S.Denot). z.0)
+    (sym (stripes_done g.S.Source.ask c.args.pass p f.width f.height c.loop-s.s (4 * c.loop-s.s * f.width) c.loop-s.field c.loop-s.source l)
+    ∙ c.loop-s.invariant.so_far)
+
+pub returns-clause-source : goal.returns-clause-source
+unfolding pass_of
+returns-clause-source g c =
+    let f : Cells = c.args.field.now in
+    let p : Plane = plane_of c.args.band c.args.causal c.args.planes c.args.pass in
+    let h = ap (λ (z : Cells). z.height) c.field.view_is in
+    let l : f.height ≤ 4 * c.loop-s.s = omega arith in
+    ap (λ (z : Cells × g.row.S.Denot). z.1)
+    (sym (stripes_done g.S.Source.ask c.args.pass p f.width f.height c.loop-s.s (4 * c.loop-s.s * f.width) c.loop-s.field c.loop-s.source l)
+    ∙ c.loop-s.invariant.so_far)
