@@ -52,10 +52,10 @@ pub same_fault : {T U E : Type 0} (e f : E) → ◌≡◌ {A = Result U E} (Err 
 same_fault {T} {U} {E} e f same = ap (λ (q : Result U E). Err (fault_in e q)) same
 
 -- words are asked where clap finds nothing wrong and its texts say numbers
-asked_by : {X : Type 0} (faults : List X) (said b : Bool) → faults ≡ [] → said ≡ b → (eqb (length faults) 0 && said) ≡ b
+pub asked_by : {X : Type 0} (faults : List X) (said b : Bool) → faults ≡ [] → said ≡ b → (eqb (length faults) 0 && said) ≡ b
 asked_by faults said b none is = rw none is
 
-unasked_by : {X : Type 0} (faults : List X) (said : Bool) → (faults ≡ [] → ⊥) → (eqb (length faults) 0 && said) ≡ false
+pub unasked_by : {X : Type 0} (faults : List X) (said : Bool) → (faults ≡ [] → ⊥) → (eqb (length faults) 0 && said) ≡ false
 unasked_by [] said some = absurd (some refl)
 unasked_by (fault ∷ faults) said some =
     let more : eqb (length (fault ∷ faults)) 0 ≡ false = ne_eqb (length (fault ∷ faults)) 0 (λ none. omega (arith, none)) in

@@ -1,5 +1,6 @@
 pub mod CommandLemmas
 pub mod FindLemmas
+pub mod GoodLemmas
 pub mod ItemLemmas
 pub mod ListLemmas
 pub mod MadeLemmas
