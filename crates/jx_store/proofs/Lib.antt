@@ -8,3 +8,4 @@ pub mod Records
 pub mod Replays
 pub mod Made
 pub mod Below
+pub mod Deals

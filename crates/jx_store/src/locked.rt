@@ -23,7 +23,7 @@ use crate::claim::{Claim, ClaimAnswer};
 use crate::event::{Event, Reply, Taped};
 use crate::history::{History, Kind, Told};
 use crate::kernel::Core;
-use crate::pass::{Pass, Shares};
+use crate::pass::{Books, Pass, Shares};
 use crate::work::{Bounds, Named, Work, one_made};
 use jx_base::NoMemory;
 use std::alloc::Global;
@@ -129,9 +129,43 @@ impl<V: Work, N: Bounds<V::Job>, A: Ledger, B: Ledger, C: Ledger, D: Ledger, E: 
         requires none_made { made.total ≡ 0 }
         ensures { IfOk result (λ h. (state_of h.core ≡ start N.setup) × (h.notes ≡ no_notes)) }
     {
+        let (claimed, full, all_claimed, committed) = books;
+        let books = Books {
+            claimed,
+            full,
+            all_claimed,
+            committed,
+            made,
+        };
+        Locked::with_books(alloc, first, sizes, window, most, books)
+    }
+
+    // The value of a new store, over these books.
+    pub(crate) fn with_books(
+        alloc: Global,
+        first: u32,
+        sizes: &[u32],
+        window: u32,
+        most: u32,
+        books: Books<A, B, C, D, E>,
+    ) -> Result<Locked<V, N, A, B, C, D, E>, NoMemory>
+        requires bounds { N.setup ≡ record { first = first; sizes = sizes.now; window = window; most = most } }
+        requires count { (0 < length sizes.now) × (first + length sizes.now ≤ 2 ^ 20) }
+        requires sizes { sum sizes.now ≤ 2 ^ 28 }
+        requires window { (0 < window) × (window ≤ 1024) }
+        requires most { (0 < most) × (most ≤ 2 ^ 28) }
+        requires empty { (books.claimed.total ≡ 0) × (books.full.total ≡ 0) × (books.all_claimed.total ≡ 0) × (books.committed.total ≡ 0) × (books.made.total ≡ 0) }
+        ensures { IfOk result (λ h. (state_of h.core ≡ start N.setup) × (h.notes ≡ no_notes)) }
+    {
         let core = Core::new(alloc, first, sizes, window, most)?;
         let history = History::new(alloc, 3 * sizes.len())?;
-        let (claimed, full, all_claimed, committed) = books;
+        let Books {
+            claimed,
+            full,
+            all_claimed,
+            committed,
+            made,
+        } = books;
         Ok(Locked {
             core,
             history,

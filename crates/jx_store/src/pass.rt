@@ -1,8 +1,8 @@
 //! What a worker carries.
-ghost use Rattle.std.specs.Prelude.{◌≡◌, ◌<◌, None};
+ghost use Rattle.std.specs.Prelude.{◌≡◌, ◌+◌, ◌<◌, None};
 
 use std::marker::{Model, PhantomData};
-use std::sync::ledger::{Ledger, Share};
+use std::sync::ledger::{Book, Ledger, Share};
 
 /// A worker's pass to a `LockStore`: its number, the number that it holds a claim on, and its shares
 /// of the five counts: how often it was given a number, found a window full, found every number
@@ -27,6 +27,37 @@ pub(crate) struct Shares<A: Ledger, B: Ledger, C: Ledger, D: Ledger, E: Ledger> 
     pub(crate) all_claimed: Share<C>,
     pub(crate) committed: Share<D>,
     pub(crate) made: Share<E>,
+}
+
+// The books of the five counts.
+#[derive(Drop)]
+pub(crate) struct Books<A: Ledger, B: Ledger, C: Ledger, D: Ledger, E: Ledger> {
+    pub(crate) claimed: Book<A>,
+    pub(crate) full: Book<B>,
+    pub(crate) all_claimed: Book<C>,
+    pub(crate) committed: Book<D>,
+    pub(crate) made: Book<E>,
+}
+
+impl<A: Ledger, B: Ledger, C: Ledger, D: Ledger, E: Ledger> Shares<A, B, C, D, E> {
+    // A worker's pass, with one part of each.
+    pub(crate) fn pass<N>(&mut self, worker: u32) -> Pass<N, A, B, C, D, E>
+        requires parts { (0 < self.old.claimed.parts) × (0 < self.old.full.parts) × (0 < self.old.all_claimed.parts) × (0 < self.old.committed.parts) × (0 < self.old.made.parts) }
+        requires none { (self.old.claimed.amount ≡ 0) × (self.old.full.amount ≡ 0) × (self.old.all_claimed.amount ≡ 0) × (self.old.committed.amount ≡ 0) × (self.old.made.amount ≡ 0) }
+        requires worker { worker < A.parts }
+        ensures is { result ≡ record { worker = worker; holds = None; claimed = 0; full = 0; all_claimed = 0; committed = 0; made = 0 } }
+        ensures parts { (self.new.claimed.parts + 1 ≡ self.old.claimed.parts) × (self.new.full.parts + 1 ≡ self.old.full.parts) × (self.new.all_claimed.parts + 1 ≡ self.old.all_claimed.parts) × (self.new.committed.parts + 1 ≡ self.old.committed.parts) × (self.new.made.parts + 1 ≡ self.old.made.parts) }
+        ensures none { (self.new.claimed.amount ≡ 0) × (self.new.full.amount ≡ 0) × (self.new.all_claimed.amount ≡ 0) × (self.new.committed.amount ≡ 0) × (self.new.made.amount ≡ 0) }
+    {
+        Pass::new(
+            worker,
+            self.claimed.split_off(1, 0),
+            self.full.split_off(1, 0),
+            self.all_claimed.split_off(1, 0),
+            self.committed.split_off(1, 0),
+            self.made.split_off(1, 0),
+        )
+    }
 }
 
 impl<N, A: Ledger, B: Ledger, C: Ledger, D: Ledger, E: Ledger> Model for Pass<N, A, B, C, D, E> {

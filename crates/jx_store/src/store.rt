@@ -19,7 +19,7 @@ ghost use Rattle.jx_store.specs.Told.{IsToldBy, IsTold};
 use crate::claim::{Claim, ClaimAnswer};
 use crate::history::Told;
 use crate::locked::Locked;
-use crate::pass::{Pass, Shares};
+use crate::pass::{Books, Pass, Shares};
 use crate::work::{Bounds, Entry, Named, Work};
 use jx_base::NoMemory;
 use std::alloc::Global;
@@ -48,6 +48,47 @@ pub struct Blanks {
     pub all_claimed: Blank,
     pub committed: Blank,
     pub made: Blank,
+}
+
+impl Blanks {
+    // The books of the five counts, and of each a share with all its parts.
+    fn open<A: Ledger, B: Ledger, C: Ledger, D: Ledger, E: Ledger>(
+        self,
+    ) -> (Books<A, B, C, D, E>, Shares<A, B, C, D, E>)
+        requires names { (self.claimed.name ≡ A.name) × (self.full.name ≡ B.name) × (self.all_claimed.name ≡ C.name) × (self.committed.name ≡ D.name) × (self.made.name ≡ E.name) }
+        requires parts { (self.claimed.parts ≡ A.parts) × (self.full.parts ≡ B.parts) × (self.all_claimed.parts ≡ C.parts) × (self.committed.parts ≡ D.parts) × (self.made.parts ≡ E.parts) }
+        ensures empty { (result.0.claimed.total ≡ 0) × (result.0.full.total ≡ 0) × (result.0.all_claimed.total ≡ 0) × (result.0.committed.total ≡ 0) × (result.0.made.total ≡ 0) }
+        ensures parts { (result.1.claimed.parts ≡ A.parts) × (result.1.full.parts ≡ B.parts) × (result.1.all_claimed.parts ≡ C.parts) × (result.1.committed.parts ≡ D.parts) × (result.1.made.parts ≡ E.parts) }
+        ensures none { (result.1.claimed.amount ≡ 0) × (result.1.full.amount ≡ 0) × (result.1.all_claimed.amount ≡ 0) × (result.1.committed.amount ≡ 0) × (result.1.made.amount ≡ 0) }
+    {
+        let Blanks {
+            claimed,
+            full,
+            all_claimed,
+            committed,
+            made,
+        } = self;
+        let (book_a, a) = claimed.open::<A>();
+        let (book_b, b) = full.open::<B>();
+        let (book_c, c) = all_claimed.open::<C>();
+        let (book_d, d) = committed.open::<D>();
+        let (book_e, e) = made.open::<E>();
+        let books = Books {
+            claimed: book_a,
+            full: book_b,
+            all_claimed: book_c,
+            committed: book_d,
+            made: book_e,
+        };
+        let shares = Shares {
+            claimed: a,
+            full: b,
+            all_claimed: c,
+            committed: d,
+            made: e,
+        };
+        (books, shares)
+    }
 }
 
 impl<V: Work, N: Bounds<V::Job>, A: Ledger, B: Ledger, C: Ledger, D: Ledger, E: Ledger> LockStore<
@@ -88,31 +129,9 @@ impl<V: Work, N: Bounds<V::Job>, A: Ledger, B: Ledger, C: Ledger, D: Ledger, E: 
         ensures none_made { IfOk result (λ r. All (λ p. p.made ≡ 0) r.1.items) }
     {
         prove!(jobs.len() == sizes.len());
-        let Blanks {
-            claimed,
-            full,
-            all_claimed,
-            committed,
-            made,
-        } = blanks;
-        let (book_a, mut a) = claimed.open::<A>();
-        let (book_b, mut b) = full.open::<B>();
-        let (book_c, mut c) = all_claimed.open::<C>();
-        let (book_d, mut d) = committed.open::<D>();
-        let (book_e, mut e) = made.open::<E>();
-        let mut passes = Vec::with_capacity(alloc, workers as usize)?;
-        for worker in 0..workers {
-            passes.push_reserved(Pass::new(
-                worker,
-                a.split_off(1, 0),
-                b.split_off(1, 0),
-                c.split_off(1, 0),
-                d.split_off(1, 0),
-                e.split_off(1, 0),
-            ));
-        }
-        let books = (book_a, book_b, book_c, book_d);
-        let locked = Locked::new(alloc, first, sizes, window, most, books, book_e)?;
+        let (books, shares) = blanks.open();
+        let passes = deal(alloc, shares, workers)?;
+        let locked = Locked::with_books(alloc, first, sizes, window, most, books)?;
         let store = LockStore {
             locked: Mutex::new(locked),
         };
@@ -193,6 +212,26 @@ impl<V: Work, N: Bounds<V::Job>, A: Ledger, B: Ledger, C: Ledger, D: Ledger, E: 
         let Told { tape, history: _ } = self.into_history(passes);
         tape
     }
+}
+
+// A pass for each worker, with a part of each share.
+fn deal<N, A: Ledger, B: Ledger, C: Ledger, D: Ledger, E: Ledger>(
+    alloc: Global,
+    mut shares: Shares<A, B, C, D, E>,
+    workers: u32,
+) -> Result<Vec<Pass<N, A, B, C, D, E>>, NoMemory>
+    requires workers { workers ≡ A.parts }
+    requires parts { (shares.claimed.parts ≡ workers) × (shares.full.parts ≡ workers) × (shares.all_claimed.parts ≡ workers) × (shares.committed.parts ≡ workers) × (shares.made.parts ≡ workers) }
+    requires none { (shares.claimed.amount ≡ 0) × (shares.full.amount ≡ 0) × (shares.all_claimed.amount ≡ 0) × (shares.committed.amount ≡ 0) × (shares.made.amount ≡ 0) }
+    ensures workers { IfOk result (λ r. map (λ p. p.worker) r.items ≡ numbers 0 workers) }
+    ensures fresh { IfOk result (λ r. All (λ p. (p.holds ≡ None) × (p.claimed ≡ 0) × (p.full ≡ 0) × (p.all_claimed ≡ 0) × (p.committed ≡ 0)) r.items) }
+    ensures none_made { IfOk result (λ r. All (λ p. p.made ≡ 0) r.items) }
+{
+    let mut passes = Vec::with_capacity(alloc, workers as usize)?;
+    for worker in 0..workers {
+        passes.push_reserved(shares.pass(worker));
+    }
+    Ok(passes)
 }
 
 // The counts of all passes, of which there is at least one.

@@ -1,16 +1,15 @@
 use Rattle.std.proofs.Common.{◌≡◌, ◌+◌, ◌≤◌, map, vec_len, vec_capacity}
 use Rattle.std.specs.Prelude.{All, None}
 use Rattle.jx_store.specs.Order.{numbers}
-use Rattle.jx_store.proofs.store.LockStore.new.Given as goal
+use Rattle.jx_store.proofs.store.deal.Given as goal
 
 abbrev pub invariant-loop-worker : goal.invariant-loop-worker
 invariant-loop-worker g l = record {
-  a : (l.a.parts + l.worker ≡ l.workers) × (l.a.amount ≡ 0);
-  b : (l.b.parts + l.worker ≡ l.workers) × (l.b.amount ≡ 0);
-  c : (l.c.parts + l.worker ≡ l.workers) × (l.c.amount ≡ 0);
-  d : (l.d.parts + l.worker ≡ l.workers) × (l.d.amount ≡ 0);
-  e : (l.e.parts + l.worker ≡ l.workers) × (l.e.amount ≡ 0);
-  books : (l.book_a.total ≡ 0) × (l.book_b.total ≡ 0) × (l.book_c.total ≡ 0) × (l.book_d.total ≡ 0) × (l.book_e.total ≡ 0);
+  a : (l.shares.claimed.parts + l.worker ≡ l.workers) × (l.shares.claimed.amount ≡ 0);
+  b : (l.shares.full.parts + l.worker ≡ l.workers) × (l.shares.full.amount ≡ 0);
+  c : (l.shares.all_claimed.parts + l.worker ≡ l.workers) × (l.shares.all_claimed.amount ≡ 0);
+  d : (l.shares.committed.parts + l.worker ≡ l.workers) × (l.shares.committed.amount ≡ 0);
+  e : (l.shares.made.parts + l.worker ≡ l.workers) × (l.shares.made.amount ≡ 0);
   room : l.workers ≤ vec_capacity l.passes;
   long : vec_len l.passes ≡ l.worker;
   workers : map (λ p. p.worker) l.passes.items ≡ numbers 0 l.worker;

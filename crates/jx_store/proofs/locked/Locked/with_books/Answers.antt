@@ -9,7 +9,7 @@ use Rattle.jx_store.proofs.Records.{recorded_start}
 use Rattle.jx_store.proofs.Valids.{all_start}
 use Rattle.jx_store.proofs.Made.{made_start}
 use Rattle.jx_store.proofs.Below.{below_start}
-use Rattle.jx_store.proofs.locked.Locked.new.Goals as goal
+use Rattle.jx_store.proofs.locked.Locked.with_books.Goals as goal
 
 pub invariant_of-result : goal.invariant_of-result
 invariant_of-result g c =
@@ -32,7 +32,7 @@ invariant_of-result g c =
       full = sym r.empty.1;
       all_claimed = sym r.empty.2;
       committed = sym r.empty.3;
-      made = sym r.none_made;
+      made = sym r.empty.4;
       below = below_start _ _ _ started;
       values_are = made_start _ _ started;
       few = omega arith;
