@@ -14,6 +14,7 @@ pub mod StopBandLemmas
 pub mod FreshLemmas
 pub mod PutLemmas
 pub mod WriteLemmas
+pub mod EntryLemmas
 pub mod PlanLemmas
 pub mod LayerLemmas
 pub mod AgreeLemmas
