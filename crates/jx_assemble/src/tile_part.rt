@@ -132,6 +132,29 @@ fn size_of(header: &[u8], lengths: &[u32]) -> u128
     14 + header.len() as u128 + sum_of(lengths)
 }
 
+/// Appends SOT.
+fn put_sot(sot: Sot, comps: u16, out: &mut Vec<u8>) -> Result<(), NoMemory>
+    ensures { OnOk result (out.new.items ≡ out.old.items ++ spelling comps (segment.Sot sot)) }
+{
+    put_segment(&Segment::Sot(sot), comps, out)
+}
+
+/// Appends SOD.
+fn put_sod(comps: u16, out: &mut Vec<u8>) -> Result<(), NoMemory>
+    ensures { OnOk result (out.new.items ≡ out.old.items ++ spelling comps segment.Sod) }
+{
+    put_segment(&Segment::Sod, comps, out)
+}
+
+/// Appends SOT, the header's segments and SOD.
+fn put_front(sot: Sot, header: &[u8], comps: u16, out: &mut Vec<u8>) -> Result<(), NoMemory>
+    ensures { OnOk result (out.new.items ≡ out.old.items ++ (spelling comps (segment.Sot sot) ++ (header.now ++ spelling comps segment.Sod))) }
+{
+    put_sot(sot, comps, out)?;
+    out.extend_from_slice(header)?;
+    put_sod(comps, out)
+}
+
 /// What stands before the packets of a tile-part: SOT, the header's segments and SOD.
 fn front_bytes(
     alloc: Global,
@@ -153,9 +176,7 @@ fn front_bytes(
         part: place.part,
         parts: place.parts,
     };
-    put_segment(&Segment::Sot(sot), comps, &mut out)?;
-    out.extend_from_slice(header)?;
-    put_segment(&Segment::Sod, comps, &mut out)?;
+    put_front(sot, header, comps, &mut out)?;
     Ok(out)
 }
 
