@@ -1,6 +1,6 @@
 //! The main header (ITU-T T.800, A.2).
 
-ghost use Rattle.std.specs.Prelude.{◌≡◌, ◌≤◌, ◌++◌, [], length, IfOk};
+ghost use Rattle.std.specs.Prelude.{◌≡◌, ◌≤◌, ◌++◌, [], length, IfOk, OnOk};
 ghost use Rattle.jx_marker.specs.declared.Segment.TheVariants as segment;
 ghost use Rattle.jx_marker.specs.Ranges.{SizInRange};
 ghost use Rattle.jx_marker.specs.Segments.{spelling};
@@ -21,6 +21,22 @@ pub(crate) fn comps_of(siz: &Siz) -> u16
     siz.comps.as_slice().len() as u16
 }
 
+/// Appends SOC.
+fn put_soc(out: &mut Vec<u8>) -> Result<(), NoMemory>
+    ensures { OnOk result (out.new.items ≡ out.old.items ++ spelling 1 segment.Soc) }
+{
+    put_segment(&Segment::Soc, 1, out)
+}
+
+/// Appends SIZ.
+fn put_siz(siz: &Siz, out: &mut Vec<u8>) -> Result<(), NoMemory>
+    requires { SizInRange siz.now }
+    ensures { OnOk result (out.new.items ≡ out.old.items ++ spelling 1 (segment.Siz siz.now)) }
+{
+    let copy = siz.copy()?;
+    put_segment(&Segment::Siz(copy), 1, out)
+}
+
 /// The main header: SOC, SIZ and the segments after it, in their order.
 pub(crate) fn header_bytes(alloc: Global, stream: &Stream) -> Result<Vec<u8>, NoMemory>
     requires siz { SizInRange stream.now.siz }
@@ -29,8 +45,8 @@ pub(crate) fn header_bytes(alloc: Global, stream: &Stream) -> Result<Vec<u8>, No
 {
     let mut bytes = Vec::new(alloc);
     let comps = comps_of(&stream.siz);
-    put_segment(&Segment::Soc, 1, &mut bytes)?;
-    put_segment(&Segment::Siz(stream.siz.copy()?), 1, &mut bytes)?;
+    put_soc(&mut bytes)?;
+    put_siz(&stream.siz, &mut bytes)?;
     put_segments(stream.main.as_slice(), comps, &mut bytes)?;
     Ok(bytes)
 }
