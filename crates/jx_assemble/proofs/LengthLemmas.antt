@@ -1,5 +1,6 @@
 -- The lengths of packets, and how many segments they take.
-use Rattle.std.proofs.Common.{◌≡◌, ◌⊎◌, inl, inr, ℕ, zero, suc, ◌+◌, ◌*◌, ◌^◌, ◌<◌, ◌≤◌, nat_le, Bool, true, false, cond, List, [], ◌∷◌, ◌++◌, length, refl, sym, ap, ◌∙◌, pow_mono, append_assoc, arith}
+use Rattle.std.proofs.Common.{◌≡◌, ◌⊎◌, inl, inr, ℕ, zero, suc, ◌+◌, ◌-◌, ◌*◌, ◌/◌, ◌%◌, ◌^◌, ◌<◌, ◌≤◌, nat_eq, nat_le, Bool, true, false, cond, List, [], ◌∷◌, ◌++◌, length, drop, take, get_or, refl, sym, ap, ◌∙◌, pow_mono, append_assoc, append-nil, arith}
+use Rattle.std.proofs.lemmas.List.{at_drop_all, at_drop_more}
 use Rattle.std.specs.Prelude.{sum_by}
 use Rattle.std.proofs.lemmas.Bool.{cases_lt}
 use Rattle.std.proofs.lemmas.Bool.Decides.{nat_tests}
@@ -8,12 +9,36 @@ use Rattle.jx_head.specs.Words.{powers, size}
 use Rattle.jx_marker.specs.declared.Segment.TheVariants as segment
 use Rattle.jx_marker.specs.Segments.{spelling}
 use Rattle.jx_stream.specs.Spells.{all_bytes}
-use Rattle.jx_assemble.specs.Lengths.{filled, length_bytes, length_size, numbered, septets}
+use Rattle.jx_assemble.specs.Lengths.{filled, length_bytes, length_segments, length_size, numbered, septets}
 
 septets_long : (count n : ℕ) → length (septets count n) ≡ count
 septets_long zero n = refl
 septets_long (suc zero) n = refl
 septets_long (suc (suc count)) n = ap (λ (k : ℕ). suc k) (septets_long (suc count) n)
+
+-- the last of five groups of seven digits
+abbrev last_of : ℕ → List ℕ → List ℕ
+last_of size groups = take (5 - (5 - size)) (drop (5 - size) groups)
+
+last_septets : (size n : ℕ) → 1 ≤ size → size ≤ 5
+    → last_of size ((128 + n / 268435456 % 128) ∷ (128 + n / 2097152 % 128) ∷ (128 + n / 16384 % 128) ∷ (128 + n / 128 % 128) ∷ (n % 128) ∷ []) ≡ septets size n
+last_septets zero n some few = absurd (omega arith)
+last_septets (suc zero) n some few = refl
+last_septets (suc (suc zero)) n some few = refl
+last_septets (suc (suc (suc zero))) n some few = refl
+last_septets (suc (suc (suc (suc zero)))) n some few = refl
+last_septets (suc (suc (suc (suc (suc zero))))) n some few = refl
+last_septets (suc (suc (suc (suc (suc (suc size)))))) n some few = absurd (omega arith)
+
+pub groups_last : (size n a b c d e : ℕ) → 1 ≤ size → size ≤ 5 → a ≡ 128 + n / 268435456 % 128 → b ≡ 128 + n / 2097152 % 128 → c ≡ 128 + n / 16384 % 128 → d ≡ 128 + n / 128 % 128 → e ≡ n % 128
+    → last_of size (a ∷ b ∷ c ∷ d ∷ e ∷ []) ≡ septets size n
+groups_last size n a b c d e some few ea eb ec ed ee =
+    ap (λ (x : ℕ). last_of size (x ∷ b ∷ c ∷ d ∷ e ∷ [])) ea
+    ∙ ap (λ (x : ℕ). last_of size ((128 + n / 268435456 % 128) ∷ x ∷ c ∷ d ∷ e ∷ [])) eb
+    ∙ ap (λ (x : ℕ). last_of size ((128 + n / 268435456 % 128) ∷ (128 + n / 2097152 % 128) ∷ x ∷ d ∷ e ∷ [])) ec
+    ∙ ap (λ (x : ℕ). last_of size ((128 + n / 268435456 % 128) ∷ (128 + n / 2097152 % 128) ∷ (128 + n / 16384 % 128) ∷ x ∷ e ∷ [])) ed
+    ∙ ap (λ (x : ℕ). last_of size ((128 + n / 268435456 % 128) ∷ (128 + n / 2097152 % 128) ∷ (128 + n / 16384 % 128) ∷ (128 + n / 128 % 128) ∷ x ∷ [])) ee
+    ∙ last_septets size n some few
 
 pub long : (n : ℕ) → length (length_bytes n) ≡ length_size n
 long n = septets_long (length_size n) n
@@ -112,3 +137,31 @@ flushed comps number n out mid held put rest lt first second =
     ∙ ap (λ (xs : List ℕ). xs ++ later) first
     ∙ append_assoc out own later
     ∙ ap (λ (x : List (List ℕ)). out ++ all_bytes comps (numbered number x)) (sym (filled_over held n rest lt))
+
+-- ---- the lengths one after another: one more is held, and the last segment is appended
+pub walk_next : (comps number next n i d : ℕ) (lengths out more held after base : List ℕ) → i < length lengths → n ≡ get_or lengths i d
+    → ((rest : List ℕ) → more ++ all_bytes comps (numbered next (filled after rest)) ≡ out ++ all_bytes comps (numbered number (filled held (n ∷ rest))))
+    → out ++ all_bytes comps (numbered number (filled held (drop i lengths))) ≡ base
+    → more ++ all_bytes comps (numbered next (filled after (drop (i + 1) lengths))) ≡ base
+walk_next comps number next n i d lengths out more held after base lt is step was =
+    let F : List ℕ → List ℕ = λ xs. out ++ all_bytes comps (numbered number (filled held xs)) in
+    step (drop (i + 1) lengths) ∙ ap (λ (k : ℕ). F (k ∷ drop (i + 1) lengths)) is ∙ sym (at_drop_more F lengths i d lt) ∙ was
+
+pub weight_next : (number next held after n i d : ℕ) (lengths : List ℕ) → i < length lengths → n ≡ get_or lengths i d
+    → next * 65528 + after ≤ number * 65528 + held + length_size n → number * 65528 + held + weight (drop i lengths) ≤ weight lengths
+    → next * 65528 + after + weight (drop (i + 1) lengths) ≤ weight lengths
+weight_next number next held after n i d lengths lt is few was =
+    let F : List ℕ → ℕ = λ xs. weight xs in
+    let e : weight (drop i lengths) ≡ length_size n + weight (drop (i + 1) lengths) =
+    at_drop_more F lengths i d lt ∙ ap (λ (k : ℕ). F (k ∷ drop (i + 1) lengths)) (sym is) ∙ sum_by-cons length_size n (drop (i + 1) lengths) in
+    omega arith
+
+pub walk_last : (comps number i : ℕ) (lengths out more held base : List ℕ) → length lengths ≤ i → more ≡ out ++ spelling comps (segment.Plt (number ∷ held))
+    → out ++ all_bytes comps (numbered number (filled held (drop i lengths))) ≡ base → more ≡ base
+walk_last comps number i lengths out more held base over put was =
+    let F : List ℕ → List ℕ = λ xs. out ++ all_bytes comps (numbered number (filled held xs)) in
+    put ∙ ap (λ (xs : List ℕ). out ++ xs) (sym (append-nil (spelling comps (segment.Plt (number ∷ held))))) ∙ sym (at_drop_all F lengths i over) ∙ was
+
+pub some_segments : (comps : ℕ) (lengths : List ℕ) → nat_eq (length lengths) 0 ≡ false → all_bytes comps (numbered 0 (filled [] lengths)) ≡ all_bytes comps (length_segments lengths)
+some_segments comps [] some = absurd cc
+some_segments comps (n ∷ lengths) some = refl

@@ -59,28 +59,14 @@ fn put_septets(length: u32, size: usize, out: &mut Vec<u8>) -> Result<(), NoMemo
     requires { (1 ≤ size) × (size ≤ 5) }
     ensures { OnOk result (out.new.items ≡ out.old.items ++ septets size length) }
 {
-    let last = last_septet(length);
-    if size == 1 {
-        out.extend_from_slice(&[last])?;
-        return Ok(());
-    }
-    let first = septet(length, 128);
-    if size == 2 {
-        out.extend_from_slice(&[first, last])?;
-        return Ok(());
-    }
-    let second = septet(length, 16_384);
-    if size == 3 {
-        out.extend_from_slice(&[second, first, last])?;
-        return Ok(());
-    }
-    let third = septet(length, 2_097_152);
-    if size == 4 {
-        out.extend_from_slice(&[third, second, first, last])?;
-        return Ok(());
-    }
-    let fourth = septet(length, 268_435_456);
-    out.extend_from_slice(&[fourth, third, second, first, last])?;
+    let groups = [
+        septet(length, 268_435_456),
+        septet(length, 2_097_152),
+        septet(length, 16_384),
+        septet(length, 128),
+        last_septet(length),
+    ];
+    out.extend_from_slice(&groups[5 - size..])?;
     Ok(())
 }
 
@@ -147,7 +133,6 @@ fn put_next(
 
 /// Appends the segments that have the lengths of a tile-part's packets, in their order. There is none where there is no
 /// packet, and there are at most 256. After `NoMemory` a front of them may have been appended.
-#[tactic(auto, using(crate::proofs::LengthLemmas::few_segments))]
 pub(crate) fn put_lengths(
     alloc: Global,
     lengths: &[u32],
