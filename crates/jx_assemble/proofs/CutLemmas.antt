@@ -1,6 +1,6 @@
 -- A tile's tile-parts one after another: what is written so far, and what is still to come.
-use Rattle.std.proofs.Common.{◌≡◌, ◌∙◌, ℕ, ◌+◌, ◌-◌, ◌<◌, ◌≤◌, List, [], ◌∷◌, ◌++◌, length, map, drop, take, refl, sym, ap, subst, arith, append_assoc, Result, Ok, Err}
-use Rattle.std.proofs.lemmas.List.Elements.{All-cons, All-head, All-tail}
+use Rattle.std.proofs.Common.{◌≡◌, ◌∙◌, ℕ, ◌+◌, ◌-◌, ◌<◌, ◌≤◌, List, [], ◌∷◌, ◌++◌, length, map, drop, take, refl, sym, ap, subst, arith, append-nil, append_assoc, Result, Ok, Err}
+use Rattle.std.proofs.lemmas.List.Elements.{All-cons, All-head, All-nil, All-tail}
 use Rattle.jx_base.specs.declared.pieces.Block.{Block}
 use Rattle.jx_geom.specs.Geometry.{Geometry}
 use Rattle.jx_order.specs.declared.names.PacketName.{PacketName}
@@ -8,7 +8,7 @@ use Rattle.jx_stream.specs.declared.Stream.{Stream}
 use Rattle.jx_stream.specs.Spells.{TilePart, part_bytes}
 use Rattle.jx_plan.specs.declared.Marks.{Marks as Asked}
 use Rattle.jx_plan.specs.Groups.{groups_of, more_groups}
-use Rattle.jx_plan.proofs.GroupLemmas.{more_cut, part_length}
+use Rattle.jx_plan.proofs.GroupLemmas.{more_at, more_cut, none_left, part_length}
 use Rattle.jx_assemble.specs.Packed.{own_part, own_parts, parts_from}
 use Rattle.jx_assemble.specs.Tile.{AreAtMost}
 
@@ -42,6 +42,28 @@ module _ (m : Asked) (s : Stream) (g : Geometry) (own : List Block) (names : Lis
   rest_next part from end low high cut =
       ap (parts_from m s g own part count from) (more_cut m.parts names from end (omega arith) cut)
       ∙ ap (λ (n : ℕ). here part from end ∷ parts_from m s g own (part + 1) count n (more_groups m.parts (drop end names))) (part_length names from end (omega arith) high)
+
+  -- before the first
+  pub cut_first : 0 < length names → count ≡ length (groups_of m.parts names) → IsCut m s g own names most count 0 0 []
+  cut_first some counted =
+      let same : rest 0 0 ≡ all =
+      ap (parts_from m s g own 0 count 0) (more_at m.parts names some) ∙ ap (λ (n : ℕ). parts_from m s g own 0 n 0 (groups_of m.parts names)) counted in
+      record {
+        bytes = ap (map bytes_of) same;
+        short = λ few. subst (AreAtMost most) same few;
+        long = λ few. subst (AreAtMost most) (sym same) few;
+      }
+
+  -- behind the last
+  rest_none : (part from : ℕ) → length names ≤ from → rest part from ≡ []
+  rest_none part from over = ap (parts_from m s g own part count from) (none_left m.parts names from over)
+
+  pub cut_whole : (part from : ℕ) (done : List (List ℕ)) → length names ≤ from → IsCut m s g own names most count part from done → done ≡ map bytes_of all
+  cut_whole part from done over is =
+      sym (append-nil done) ∙ ap (λ (ps : List TilePart). done ++ map bytes_of ps) (sym (rest_none part from over)) ∙ is.bytes
+
+  pub cut_short : (part from : ℕ) (done : List (List ℕ)) → length names ≤ from → IsCut m s g own names most count part from done → AreAtMost most all
+  cut_short part from done over is = is.short (subst (AreAtMost most) (sym (rest_none part from over)) (All-nil (IsAtMost most)))
 
   pub cut_next : (part from end next : ℕ) (done more : List (List ℕ)) (bytes : List ℕ) → from < end → end ≤ length names
       → groups_of m.parts (drop from names) ≡ take (end - from) (drop from names) ∷ more_groups m.parts (drop end names)

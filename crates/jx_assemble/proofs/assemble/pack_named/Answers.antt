@@ -10,10 +10,24 @@ use Rattle.jx_plan.proofs.GroupLemmas.{count_next, part_length}
 use Rattle.jx_assemble.specs.Packed.{own_packets, own_part}
 use Rattle.jx_assemble.specs.Pieces.{IsPartOut, part_pieces, pieces_with}
 use Rattle.jx_assemble.specs.declared.tile_part.PartOut.{PartOut}
-use Rattle.jx_assemble.proofs.CutLemmas.{cut_long, cut_next, same_fault}
+use Rattle.jx_assemble.proofs.CutLemmas.{cut_long, cut_next, cut_short, cut_whole, same_fault}
 use Rattle.jx_assemble.proofs.PieceLemmas.{part_out, pieces_joined, pieces_push}
 use Rattle.jx_assemble.specs.declared.tile.AssembleFault.TheVariants.{TooLong}
 use Rattle.jx_assemble.proofs.assemble.pack_named.Goals as goal
+
+pub returns-clause-value : goal.returns-clause-value
+returns-clause-value g c =
+    let own : List Block = map g.B.Coded.block c.args.values.now in
+    let names : List PacketName = c.args.names.now in
+    cut_whole c.args.marks c.args.stream.now c.args.geom.now own names c.args.most c.count_parts-count.result (length c.loop-from.parts.items) c.loop-from.from
+    (map concat (pieces_with (own_packets c.args.marks c.args.stream.now c.args.geom.now own) names c.loop-from.parts.items)) c.loop-from-test.false c.loop-from.invariant.cut
+
+pub returns-clause-short : goal.returns-clause-short
+returns-clause-short g c =
+    let own : List Block = map g.B.Coded.block c.args.values.now in
+    let names : List PacketName = c.args.names.now in
+    cut_short c.args.marks c.args.stream.now c.args.geom.now own names c.args.most c.count_parts-count.result (length c.loop-from.parts.items) c.loop-from.from
+    (map concat (pieces_with (own_packets c.args.marks c.args.stream.now c.args.geom.now own) names c.loop-from.parts.items)) c.loop-from-test.false c.loop-from.invariant.cut
 
 pub returns-in-Err-clause-long : goal.returns-in-Err-clause-long
 returns-in-Err-clause-long g c e =
