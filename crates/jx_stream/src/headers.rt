@@ -129,6 +129,7 @@ pub fn segment_in(
             if stands_in(kind, &segment) {
                 return Ok((segment, next));
             }
+            drop(segment);
             Err(violated(19, at))
         }
         Err(rule) => Err(fault_of(rule, at)),
@@ -172,12 +173,14 @@ pub fn read_header(
     'segments: loop {
         let (segment, next) = segment_in(alloc, bytes, place, kind, comps)?;
         if ends_header(&segment) {
+            drop(segment);
             return Ok(Header {
                 segments: Segments::new(segments),
                 end: place,
             });
         }
         if mark(slot_of(&segment), start, seen) {
+            drop(segment);
             return Err(violated(18, place));
         }
         segments.push(segment)?;

@@ -1,5 +1,6 @@
-ghost use Rattle.std.specs.Prelude.{◌≡◌, ◌≢◌, ◌≤◌, ◌<◌, ◌+◌, ◌-◌, ◌^◌, ◌==◌, ◌&&◌, not, nat_lt, true, false, length, drop, slice_index, slice_set, IfOk, IfErr, Some, None, ℕ, [], if◌then◌else◌};
+ghost use Rattle.std.specs.Prelude.{◌≡◌, ◌≢◌, ◌≤◌, ◌<◌, ◌+◌, ◌-◌, ◌^◌, ◌==◌, ◌&&◌, not, nat_lt, true, false, length, drop, slice_index, slice_set, IfOk, IfErr, MatchOption, Some, None, ℕ, [], if◌then◌else◌};
 ghost use Rattle.jx_marker.specs.declared.Segment.{Segment};
+ghost use Rattle.jx_marker.specs.declared.Sot.{Sot};
 ghost use Rattle.jx_marker.specs.Segments.{segment_at};
 ghost use Rattle.std.specs.List.{All};
 ghost use Rattle.jx_stream.specs.declared.parts.Part.{Part};
@@ -39,6 +40,16 @@ pub fn has_marker(bytes: &[u8], at: usize, code: u8) -> bool
     at + 1 < bytes.len() && bytes[at] == 255 && bytes[at + 1] == code
 }
 
+/// The SOT that a segment is.
+fn sot_of(segment: &Segment) -> Option<Sot>
+    ensures { MatchOption result ((sot : Sot) → segment.now ≢ Segment.Sot sot) (λ sot. segment.now ≡ Segment.Sot sot) }
+{
+    match segment {
+        Segment::Sot(sot) => Some(*sot),
+        _ => None,
+    }
+}
+
 /// The SOT at a place, and the place after it.
 #[tactic(auto, unfolding(crate::specs::Parts::start_fault))]
 fn read_sot(alloc: Global, bytes: &[u8], at: usize, comps: u16) -> Result<(Sot, usize), StreamFault>
@@ -52,8 +63,14 @@ fn read_sot(alloc: Global, bytes: &[u8], at: usize, comps: u16) -> Result<(Sot, 
         return Err(violated(23, at));
     }
     match read_segment(alloc, bytes, at, comps) {
-        Ok((Segment::Sot(sot), next)) => Ok((sot, next)),
-        Ok(_) => Err(violated(23, at)),
+        Ok((segment, next)) => {
+            let sot = sot_of(&segment);
+            drop(segment);
+            match sot {
+                Some(sot) => Ok((sot, next)),
+                None => Err(violated(23, at)),
+            }
+        }
         Err(rule) => Err(fault_of(rule, at)),
     }
 }

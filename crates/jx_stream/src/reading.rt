@@ -64,6 +64,7 @@ fn read_front(alloc: Global, bytes: &[u8]) -> Result<(Siz, usize), StreamFault>
     match read_segment(alloc, bytes, 2, 1) {
         Ok((segment, next)) => {
             let Segment::Siz(siz) = segment else {
+                drop(segment);
                 return Err(violated(16, 2));
             };
             Ok((siz, next))
@@ -175,7 +176,7 @@ fn read_headers(
     let mut seen = vec![in alloc; 0u32; 5 + 3 * usize::from(comps)]?;
     let mut counts = vec![in alloc; 0u16; count]?;
     let mut told = vec![in alloc; 0u8; count]?;
-    let (main, parts) = read_body(
+    read_body(
         alloc,
         bytes,
         start,
@@ -183,8 +184,7 @@ fn read_headers(
         &mut seen,
         &mut counts,
         &mut told,
-    )?;
-    Ok((main, parts))
+    )
 }
 
 /// Whether the tiles' quantization and planes violate nothing.

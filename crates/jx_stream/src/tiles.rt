@@ -62,6 +62,8 @@ fn push_notes(segments: Vec<Segment>, notes: &mut Vec<Segment>) -> Result<(), Al
     for segment in segments {
         if is_com(&segment) {
             notes.push(segment)?;
+        } else {
+            drop(segment);
         }
     }
     Ok(())
