@@ -17,6 +17,20 @@ Finishes main draft tile = (own : List Part) → Collects own draft → tile ≡
 before_or_last : (k n : ℕ) → k < n + 1 → (k < n) ⊎ (k ≡ n)
 before_or_last k n h = grind arith
 
+-- one draft more without tile-parts
+pub empties_more : (drafts items : List Draft) (draft : Draft) → items ≡ drafts ++ draft ∷ [] → Collects [] draft
+    → ((k : ℕ) (other : Draft) → k < length drafts → Collects [] (get_or drafts k other))
+    → (k : ℕ) (other : Draft) → k < length items → Collects [] (get_or items k other)
+empties_more drafts items draft all empty before k other inside =
+    let size : length items ≡ length drafts + 1 = ap (λ (x : List Draft). length x) all ∙ length-append drafts (draft ∷ []) in
+    let below : k < length drafts + 1 = omega (arith, size) in
+    let P : Draft → Type 0 = λ d. Collects [] d in
+    let here : get_or items k other ≡ get_or (drafts ++ draft ∷ []) k other = ap (λ (x : List Draft). get_or x k other) all in
+    elim (before_or_last k (length drafts) below) [
+      | inl lower ↦ subst P (sym (here ∙ get_or_append_left drafts (draft ∷ []) other k lower)) (before k other lower)
+      | inr last ↦ subst P (sym (here ∙ ap (λ (n : ℕ). get_or (drafts ++ draft ∷ []) n other) last ∙ get_or-append_seam drafts draft [] other)) empty
+    ]
+
 pub finishes_more : (main : List Segment) (drafts : List Draft) (tiles items : List Tile) (draft : Draft) (tile : Tile) → length tiles ≡ length drafts → items ≡ tiles ++ tile ∷ []
     → ((k : ℕ) (other : Draft) (another : Tile) (own : List Part) → k < length drafts → Collects own (get_or drafts k other) → get_or tiles k another ≡ tile_from main own)
     → Finishes main draft tile

@@ -207,6 +207,26 @@ fn main_entries(alloc: Global, main: &[Segment]) -> Result<Entries, AllocError>
     Entries::new(entries)
 }
 
+/// The tiles of drafts, with the main header's entries and the one of the main COD.
+fn finish_all(
+    alloc: Global,
+    drafts: Vec<Draft>,
+    main: &Entries,
+    default: &Entries,
+) -> Result<Vec<Tile>, AllocError>
+    ensures count { IfOk result (λ tiles. length tiles.items ≡ length drafts.items) }
+    ensures each { IfOk result (λ tiles. (segments : List Segment) → main.now ≡ joined segments → default.now ≡ entry_in (in_slot 1 segments)
+        → (tile : ℕ) (other : Draft) (another : Tile) (own : List Part) → tile < length drafts.items
+        → Collects own (slice_index_or drafts.items tile other) → slice_index_or tiles.items tile another ≡ tile_from segments own) }
+{
+    let mut tiles = Vec::new(alloc);
+    for draft in drafts {
+        let tile = draft.finish(alloc, main, default)?;
+        tiles.push(tile)?;
+    }
+    Ok(tiles)
+}
+
 fn finish_drafts(
     alloc: Global,
     main: &[Segment],
@@ -218,12 +238,7 @@ fn finish_drafts(
 {
     let entries = main_entries(alloc, main)?;
     let default = one_entry(alloc, cod_entry(main))?;
-    let mut tiles = Vec::new(alloc);
-    for draft in drafts {
-        let tile = draft.finish(alloc, &entries, &default)?;
-        tiles.push(tile)?;
-    }
-    Ok(tiles)
+    finish_all(alloc, drafts, &entries, &default)
 }
 
 /// The tiles that some tile-parts make, whose tiles are below `count`.

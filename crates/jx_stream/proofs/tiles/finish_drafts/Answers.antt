@@ -1,13 +1,7 @@
-use Rattle.std.proofs.Common.{◌∙◌, ◌∷◌, [], length, arith, ap, List}
-use Rattle.std.proofs.lemmas.List.{length-append}
-use Rattle.jx_stream.specs.declared.Tile.{Tile}
-use Rattle.jx_stream.proofs.TileLemmas.{finishes_more}
+use Rattle.std.proofs.Common.{◌∙◌}
+use Rattle.std.proofs.lemmas.Result.{IfOk-weaker}
 use Rattle.jx_stream.proofs.tiles.finish_drafts.Goals as goal
 
-pub loop-draft-preserved : goal.loop-draft-preserved
-loop-draft-preserved c =
-    record {
-      count = omega (arith, ap (λ (x : List Tile). length x) c.in_ok-push.ensures.items, length-append c.loop-draft.tiles.items (c.in_ok-tile.tile ∷ []), length-append c.loop-draft.yielded (c.in-Some.draft ∷ []), c.loop-draft.invariant.count);
-      each = finishes_more c.args.main.now c.loop-draft.yielded c.loop-draft.tiles.items c.push.new.self.items c.in-Some.draft c.in_ok-tile.tile c.loop-draft.invariant.count c.in_ok-push.ensures.items c.loop-draft.invariant.each
-          (λ own collects. c.in_ok-tile.ensures own c.args.main.now collects c.in_ok-entries.ensures (c.in_ok-default.ensures ∙ c.cod_entry.ensures));
-    }
+pub returns-clause-each : goal.returns-clause-each
+returns-clause-each c =
+    IfOk-weaker c.finish_all.result _ _ (λ tiles each. each c.args.main.now c.in_ok-entries.ensures (c.in_ok-default.ensures ∙ c.cod_entry.ensures)) c.finish_all.ensures.each
