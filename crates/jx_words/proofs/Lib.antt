@@ -1,4 +1,5 @@
 pub mod CommandLemmas
+pub mod CommandWordLemmas
 pub mod FindLemmas
 pub mod GoodLemmas
 pub mod ItemLemmas

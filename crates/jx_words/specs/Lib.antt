@@ -1,4 +1,5 @@
 pub mod Command
+pub mod CommandWords
 pub mod MakeFound
 pub mod MakeWords
 pub mod Parts

@@ -1,87 +1,90 @@
 //! The commands `transcode` and `make`, their words and their options.
 
-ghost use Rattle.std.specs.Prelude.{◌≡◌, IfOk, codes};
+ghost use Rattle.std.specs.Prelude.{◌≡◌, IfOk, false, map};
 ghost use Rattle.clap.specs.Words.{app_of, rule_of};
-ghost use Rattle.jx_words.specs.Command.{flag_rule, option_rule, place_rule, transcode, with_flag, with_marks, with_option, with_packing, with_place, with_places, with_work};
+ghost use Rattle.jx_words.specs.Command.{transcode, with_marks, with_packing, with_places, with_work};
+ghost use Rattle.jx_words.specs.CommandWords.{rule_by, with_words};
 ghost use Rattle.jx_words.specs.MakeWords.{make};
 
 use clap::{Arg, ArgAction, Command};
 use std::alloc::{AllocError, Global};
 
-/// With a word that has to be there.
-#[tactic(auto, unfolding(crate::specs::Command::with_place))]
-fn with_place<'a>(
-    alloc: Global,
-    command: Command<'a>,
-    name: &'a str,
-) -> Result<Command<'a>, AllocError>
-    ensures { IfOk result (λ c. app_of c ≡ with_place name.entry.now (app_of command.entry)) }
-{
-    let arg = Arg::new(alloc, name).required(true).action(ArgAction::Set);
-    command.arg(arg)
+/// How a command takes a word.
+#[derive(Clone, Copy)]
+enum Kind {
+    /// It has to be there.
+    Place,
+    /// It is an option that has one value.
+    Option,
+    /// It is an option that stands alone.
+    Flag,
 }
 
-/// With an option that has one value.
-#[tactic(auto, unfolding(crate::specs::Command::with_option))]
-fn with_option<'a>(
-    alloc: Global,
-    command: Command<'a>,
-    name: &'a str,
-) -> Result<Command<'a>, AllocError>
-    ensures { IfOk result (λ c. app_of c ≡ with_option name.entry.now (app_of command.entry)) }
+/// A word as clap takes it.
+fn arg_of<'a>(alloc: Global, kind: Kind, name: &'a str) -> Arg<'a>
+    ensures rule { rule_of result ≡ rule_by kind name.entry.now }
+    ensures local { result.global ≡ false }
 {
-    let arg = Arg::new(alloc, name).long(name).action(ArgAction::Set);
-    command.arg(arg)
+    let arg = Arg::new(alloc, name);
+    match kind {
+        Kind::Place => arg.required(true).action(ArgAction::Set),
+        Kind::Option => arg.long(name).action(ArgAction::Set),
+        Kind::Flag => arg.long(name).action(ArgAction::SetTrue),
+    }
 }
 
-/// With an option that stands alone.
-#[tactic(auto, unfolding(crate::specs::Command::with_flag))]
-fn with_flag<'a>(
+/// With the words of a list, each taken in the same way.
+fn with_words<'a>(
     alloc: Global,
     command: Command<'a>,
-    name: &'a str,
+    kind: Kind,
+    names: &[&'a str],
 ) -> Result<Command<'a>, AllocError>
-    ensures { IfOk result (λ c. app_of c ≡ with_flag name.entry.now (app_of command.entry)) }
+    ensures { IfOk result (λ c. app_of c ≡ with_words kind (map (λ name. name.now) names.now) (app_of command.entry)) }
 {
-    let arg = Arg::new(alloc, name).long(name).action(ArgAction::SetTrue);
-    command.arg(arg)
+    let Some((name, rest)) = names.split_first() else {
+        return Ok(command);
+    };
+    let command = command.arg(arg_of(alloc, kind, name))?;
+    with_words(alloc, command, kind, rest)
 }
 
 /// With the names of the input and the output.
 fn with_places<'a>(alloc: Global, command: Command<'a>) -> Result<Command<'a>, AllocError>
     ensures { IfOk result (λ c. app_of c ≡ with_places (app_of command.entry)) }
 {
-    let command = with_place(alloc, command, "in")?;
-    with_place(alloc, command, "out")
+    with_words(alloc, command, Kind::Place, &["in", "out"])
 }
 
 /// With the options that say how the file is written.
 fn with_packing<'a>(alloc: Global, command: Command<'a>) -> Result<Command<'a>, AllocError>
     ensures { IfOk result (λ c. app_of c ≡ with_packing (app_of command.entry)) }
 {
-    let command = with_option(alloc, command, "order")?;
-    let command = with_option(alloc, command, "precincts")?;
-    let command = with_option(alloc, command, "tile-parts")?;
-    let command = with_option(alloc, command, "layers")?;
-    with_option(alloc, command, "style")
+    with_words(
+        alloc,
+        command,
+        Kind::Option,
+        &["order", "precincts", "tile-parts", "layers", "style"],
+    )
 }
 
 /// With the marks that the file may have.
 fn with_marks<'a>(alloc: Global, command: Command<'a>) -> Result<Command<'a>, AllocError>
     ensures { IfOk result (λ c. app_of c ≡ with_marks (app_of command.entry)) }
 {
-    let command = with_flag(alloc, command, "sop")?;
-    let command = with_flag(alloc, command, "eph")?;
-    with_flag(alloc, command, "plt")
+    with_words(alloc, command, Kind::Flag, &["sop", "eph", "plt"])
 }
 
 /// With the options that say how the work is done.
 fn with_work<'a>(alloc: Global, command: Command<'a>) -> Result<Command<'a>, AllocError>
     ensures { IfOk result (λ c. app_of c ≡ with_work (app_of command.entry)) }
 {
-    let command = with_option(alloc, command, "threads")?;
-    let command = with_option(alloc, command, "window")?;
-    with_option(alloc, command, "window-bytes")
+    with_words(
+        alloc,
+        command,
+        Kind::Option,
+        &["threads", "window", "window-bytes"],
+    )
 }
 
 /// The command `transcode`.
@@ -100,7 +103,5 @@ pub(crate) fn make<'a>(alloc: Global) -> Result<Command<'a>, AllocError>
     ensures { IfOk result (λ c. app_of c ≡ make) }
 {
     let command = Command::new(alloc, "make");
-    let command = with_place(alloc, command, "seed")?;
-    let command = with_place(alloc, command, "width")?;
-    with_place(alloc, command, "height")
+    with_words(alloc, command, Kind::Place, &["seed", "width", "height"])
 }

@@ -7,6 +7,4 @@ use Rattle.jx_words.proofs.command.make.Goals as goal
 pub returns : goal.returns
 unfolding make
 returns c =
-    let seed = c.in_ok-command.ensures ∙ ap (with_place (codes "seed")) c.new-command.ensures.app in
-    let width = c.in_ok-command-2.ensures ∙ ap (with_place (codes "width")) seed in
-    IfOk-weaker c.with_place-3.result _ _ (λ r is. is ∙ ap (with_place (codes "height")) width) c.with_place-3.ensures
+    IfOk-weaker c.with_words.result _ _ (λ r is. is ∙ ap (λ app. with_place (codes "height") (with_place (codes "width") (with_place (codes "seed") app))) c.new-command.ensures.app) c.with_words.ensures
