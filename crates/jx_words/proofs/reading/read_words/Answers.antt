@@ -1,4 +1,4 @@
-use Rattle.std.proofs.Common.{◌≡◌, ◌∙◌, ap, drop, false, map, string_bytes, subst, sym, true}
+use Rattle.std.proofs.Common.{◌≡◌, ◌∙◌, ap, false, map, string_bytes, subst, sym, true}
 use Rattle.std.proofs.lemmas.List.{drop-map}
 use Rattle.std.proofs.lemmas.Result.{IfOk-weaker}
 use Rattle.jx_plan.specs.Wanted.{MayBeWanted}
