@@ -17,4 +17,5 @@ pub mod SignLemmas
 pub mod SixLemmas
 pub mod StepLemmas
 pub mod StripeLemmas
+pub mod TreeLemmas
 pub mod WindowLemmas
