@@ -1,5 +1,5 @@
 -- What is written of a header says the same as the header, but for COD's marks, order and layers, and for precincts and style.
-use Rattle.std.proofs.Common.{◌≡◌, ◌+◌, ◌==◌, ℕ, true, false, arith, List, [], ◌∷◌, ◌++◌, map, refl, sym, Option, Some, None, inl, inr}
+use Rattle.std.proofs.Common.{◌≡◌, ◌+◌, ◌==◌, ℕ, true, false, arith, List, [], ◌∷◌, ◌++◌, map, refl, sym, ap, ◌∙◌, Option, Some, None, inl, inr}
 use Rattle.std.specs.List.{All, range_with_len}
 use Rattle.std.specs.Option.{option_map}
 use Rattle.std.proofs.lemmas.Bool.Decides.{nat_tests}
@@ -9,11 +9,14 @@ use Rattle.std.proofs.lemmas.List.Elements.{All-head, All-tail}
 use Rattle.jx_base.specs.declared.style.Style.{Style}
 use Rattle.jx_marker.specs.declared.Segment.{Segment}
 use Rattle.jx_marker.specs.declared.Segment.TheVariants as segment
+use Rattle.jx_marker.specs.declared.Siz.{Siz}
+use Rattle.jx_stream.specs.declared.Tile.{Tile}
+use Rattle.jx_stream.specs.declared.Stream.{Stream}
 use Rattle.jx_stream.specs.Headers.{slot_of, has_slot}
 use Rattle.jx_stream.specs.Index.{gives}
-use Rattle.jx_stream.specs.Tiles.{in_slot}
+use Rattle.jx_stream.specs.Tiles.{in_slot, entry_in}
 use Rattle.jx_stream.specs.Params.{cod_in, shape_in}
-use Rattle.jx_plan.specs.Headers.{Asked, cod_written, item_at, written, is_written, all_written}
+use Rattle.jx_plan.specs.Headers.{Asked, cod_written, item_at, written, is_written, all_written, tile_over, stream_written}
 use Rattle.jx_plan.specs.Asides.{IsAside, is_aside}
 use Rattle.jx_plan.proofs.AlikeLemmas.{AreAlike, none_asked}
 
@@ -93,3 +96,12 @@ alike_self o = record { some = refl; shape = sym (none_asked (shape_in o)); quan
 -- one byte of precincts more
 pub bytes_next : (items : List ℕ) (res : ℕ) → map (item_at items) (range_with_len 0 (res + 1)) ≡ map (item_at items) (range_with_len 0 res) ++ item_at items res ∷ []
 bytes_next items res = map-range_with_len_more (item_at items) 0 res res (omega arith)
+
+-- the stream of such a main header and such tiles
+pub stream_is : (a : Asked) (s : Stream) (siz : Siz) (main : List Segment) (tiles : List Tile) → siz ≡ record s.siz { rsiz = 0 } → main ≡ all_written a s.main →
+    tiles ≡ map (tile_over a (entry_in (in_slot 1 main))) s.tiles → (let x : Stream = record { siz = siz; main = main; tiles = tiles } in x) ≡ stream_written a s
+unfolding stream_written
+stream_is a s siz main tiles e f g =
+    ap (λ (x : Siz). let y : Stream = record { siz = x; main = main; tiles = tiles } in y) e
+    ∙ ap (λ (x : List Tile). let y : Stream = record { siz = record s.siz { rsiz = 0 }; main = main; tiles = x } in y) g
+    ∙ ap (λ (x : List Segment). let y : Stream = record { siz = record s.siz { rsiz = 0 }; main = x; tiles = map (tile_over a (entry_in (in_slot 1 x))) s.tiles } in y) f

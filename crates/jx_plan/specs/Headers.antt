@@ -10,6 +10,7 @@ use Rattle.jx_marker.specs.declared.Shape.{Shape}
 use Rattle.jx_marker.specs.declared.Segment.{Segment}
 use Rattle.jx_marker.specs.declared.Segment.TheVariants as segment
 use Rattle.jx_marker.specs.declared.Cod.{Cod}
+use Rattle.jx_marker.specs.declared.Progression.{Progression}
 use Rattle.jx_stream.specs.declared.Tile.{Tile}
 use Rattle.jx_stream.specs.declared.Stream.{Stream}
 use Rattle.jx_stream.specs.declared.Params.{Params}
@@ -84,6 +85,16 @@ all_written a segments = map (written a) (filter is_written segments)
 -- that of a tile's first tile-part, up to PLT
 abbrev pub tile_header : Asked → Tile → List Segment
 tile_header a t = all_written a t.header ++ t.notes
+
+-- a tile, with the one entry of its COD, else these
+abbrev pub tile_over : Asked → List Progression → Tile → Tile
+tile_over a entries t = record {
+  place = 0;
+  header = tile_header a t;
+  notes = [];
+  progressions = or_list (entry_in (in_slot 1 (tile_header a t))) entries;
+  bodies = [];
+}
 
 -- a tile, with the one entry of its COD, else of the main one
 abbrev pub tile_written : Asked → List Segment → Tile → Tile

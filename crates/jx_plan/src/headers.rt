@@ -1,12 +1,11 @@
 //! The headers of the file that is written (ITU-T T.800, A.4 to A.9).
 
-ghost use Rattle.std.specs.Prelude.{◌≡◌, ◌++◌, ◌+◌, ◌<◌, ◌==◌, List, IfOk, OnOk, Some, length, map};
+ghost use Rattle.std.specs.Prelude.{◌≡◌, ◌++◌, ◌+◌, ◌<◌, ◌==◌, IfOk, OnOk, Some, length, map};
 ghost use Rattle.std.specs.List.{range_with_len};
 ghost use Rattle.std.specs.Option.{option_to_list};
-ghost use Rattle.jx_marker.specs.declared.Segment.{Segment};
 ghost use Rattle.jx_stream.specs.Headers.{slot_of};
 ghost use Rattle.jx_stream.specs.Tiles.{entry_in, in_slot, or_list};
-ghost use Rattle.jx_plan.specs.Headers.{all_written, bytes_for, cod_written, is_written, item_at, order_written, precincts_written, shape_written, stream_written, style_written, tile_written, written};
+ghost use Rattle.jx_plan.specs.Headers.{all_written, bytes_for, cod_written, is_written, item_at, order_written, precincts_written, shape_written, stream_written, style_written, tile_over, written};
 
 use jx_base::{NoMemory, Style};
 use jx_marker::{Bytes, Cod, Progression, Segment, Shape, Siz};
@@ -255,7 +254,7 @@ fn write_tile(
     asked: &HeaderMarks<'_>,
     default: &Entries,
 ) -> Result<Tile, NoMemory>
-    ensures { IfOk result (λ copy. (main : List Segment) → default.now ≡ entry_in (in_slot 1 (all_written asked.now main)) → copy ≡ tile_written asked.now main tile.now) }
+    ensures { IfOk result (λ copy. copy ≡ tile_over asked.now default.now tile.now) }
 {
     let mut header = Vec::new(alloc);
     push_written(alloc, tile.header.as_slice(), asked, &mut header)?;
@@ -276,7 +275,7 @@ fn write_tiles(
     asked: &HeaderMarks<'_>,
     default: &Entries,
 ) -> Result<Vec<Tile>, NoMemory>
-    ensures { IfOk result (λ copies. (main : List Segment) → default.now ≡ entry_in (in_slot 1 (all_written asked.now main)) → copies.items ≡ map (tile_written asked.now main) tiles.now) }
+    ensures { IfOk result (λ copies. copies.items ≡ map (tile_over asked.now default.now) tiles.now) }
 {
     let mut copies = Vec::new(alloc);
     for tile in tiles {
@@ -284,6 +283,19 @@ fn write_tiles(
         copies.push(copy)?;
     }
     Ok(copies)
+}
+
+/// The tiles under a main header that is written.
+fn tiles_under(
+    alloc: Global,
+    main: &[Segment],
+    tiles: &[Tile],
+    asked: &HeaderMarks<'_>,
+) -> Result<Vec<Tile>, NoMemory>
+    ensures { IfOk result (λ copies. copies.items ≡ map (tile_over asked.now (entry_in (in_slot 1 main.now))) tiles.now) }
+{
+    let default = one_entry(alloc, cod_entry(main))?;
+    write_tiles(alloc, tiles, asked, &default)
 }
 
 /// SIZ with Rsiz 0: a file that is packed anew may leave the profile that Rsiz named (A.5.1).
@@ -303,7 +315,6 @@ fn write_siz(siz: &Siz) -> Result<Siz, NoMemory>
 /// # Errors
 ///
 /// `NoMemory` where memory is refused.
-#[tactic(auto, unfolding(crate::specs::Headers::stream_written))]
 pub(crate) fn write_headers(
     alloc: Global,
     stream: &Stream,
@@ -314,8 +325,7 @@ pub(crate) fn write_headers(
     let siz = write_siz(&stream.siz)?;
     let mut main = Vec::new(alloc);
     push_written(alloc, stream.main.as_slice(), &asked, &mut main)?;
-    let default = one_entry(alloc, cod_entry(&main))?;
-    let tiles = write_tiles(alloc, stream.tiles.as_slice(), &asked, &default)?;
+    let tiles = tiles_under(alloc, &main, stream.tiles.as_slice(), &asked)?;
     Ok(Stream {
         siz,
         main: Segments::new(main),

@@ -1,0 +1,18 @@
+use Rattle.std.proofs.Common.{◌≡◌, ◌++◌, ◌∙◌, List, ap, map, sym}
+use Rattle.jx_marker.specs.declared.Segment.{Segment}
+use Rattle.jx_stream.specs.declared.Tile.{Tile}
+use Rattle.jx_stream.specs.Tiles.{entry_in, in_slot}
+use Rattle.jx_plan.specs.Headers.{all_written, tile_over}
+use Rattle.jx_plan.proofs.WrittenLemmas.{stream_is}
+use Rattle.jx_plan.proofs.headers.write_headers.Goals as goal
+
+pub returns : goal.returns
+returns c =
+    let a = c.args.asked in
+    let s = c.args.stream.now in
+    let main : c.new.result ≡ all_written a s.main =
+    c.new.ensures ∙ c.in_ok-push_written.ensures ∙ ap (λ (l : List Segment). l ++ all_written a c.as_slice.result.now) c.new-main.ensures.items ∙ ap (λ (l : List Segment). all_written a l) c.as_slice.ensures in
+    let tiles : c.new-2.result ≡ map (tile_over a (entry_in (in_slot 1 c.new.result))) s.tiles =
+    c.new-2.ensures ∙ c.in_ok-tiles.ensures ∙ ap (λ (l : List Segment). map (tile_over a (entry_in (in_slot 1 l))) c.as_slice-2.result.now) (c.deref.ensures.value ∙ sym c.new.ensures)
+    ∙ ap (λ (l : List Tile). map (tile_over a (entry_in (in_slot 1 c.new.result))) l) c.as_slice-2.ensures in
+    stream_is a s c.in_ok-siz.siz c.new.result c.new-2.result c.in_ok-siz.ensures main tiles
