@@ -11,6 +11,7 @@ pub mod QuietLemmas
 pub mod RaiseLemmas
 pub mod RunLemmas
 pub mod RecodeLemmas
+pub mod RefineLemmas
 pub mod ScanLemmas
 pub mod SeenLemmas
 pub mod SignLemmas

@@ -1,0 +1,51 @@
+use Rattle.std.proofs.Common.{◌≡◌, ◌∙◌, ap, sym}
+use Rattle.jx_grid.specs.declared.coef.Coef.{Coef}
+use Rattle.jx_grid.specs.Cells.{Cells, coef_at}
+use Rattle.jx_grid.specs.Asking.{Asking, told}
+use Rattle.jx_grid.specs.Pass.{is_decided}
+use Rattle.jx_flags.proofs.RefineLemmas.{refinement_unmarked, refinement_done, refinement_label_is, refinement_told}
+use Rattle.jx_flags.proofs.steps.refinement.Goals as goal
+
+pub returns-then-not-is_marked-clause-grid : goal.returns-then-not-is_marked-clause-grid
+returns-then-not-is_marked-clause-grid g c =
+    let m = sym c.is_marked.ensures ∙ c.if-not-is_marked.true in
+    ap (λ (a : Asking Cells). (told g.S.Source.ask a c.args.source.now).0) (sym (refinement_unmarked c.args.plane c.args.field.now c.args.x c.args.y m))
+
+pub returns-then-not-is_marked-clause-source : goal.returns-then-not-is_marked-clause-source
+returns-then-not-is_marked-clause-source g c =
+    let m = sym c.is_marked.ensures ∙ c.if-not-is_marked.true in
+    ap (λ (a : Asking Cells). (told g.S.Source.ask a c.args.source.now).1) (sym (refinement_unmarked c.args.plane c.args.field.now c.args.x c.args.y m))
+
+pub returns-then-is_done-clause-grid : goal.returns-then-is_done-clause-grid
+returns-then-is_done-clause-grid g c =
+    let i = c.at-coef.ensures ∙ ap (λ (z : Cells). coef_at z c.args.x c.args.y) c.field.view_is in
+    let d = ap (λ (z : Coef). is_decided c.args.plane z) (sym i) ∙ (sym c.is_done.ensures ∙ c.if-is_done.true) in
+    ap (λ (a : Asking Cells). (told g.S.Source.ask a c.args.source.now).0) (sym (refinement_done c.args.plane c.args.field.now c.args.x c.args.y d))
+
+pub returns-then-is_done-clause-source : goal.returns-then-is_done-clause-source
+returns-then-is_done-clause-source g c =
+    let i = c.at-coef.ensures ∙ ap (λ (z : Cells). coef_at z c.args.x c.args.y) c.field.view_is in
+    let d = ap (λ (z : Coef). is_decided c.args.plane z) (sym i) ∙ (sym c.is_done.ensures ∙ c.if-is_done.true) in
+    ap (λ (a : Asking Cells). (told g.S.Source.ask a c.args.source.now).1) (sym (refinement_done c.args.plane c.args.field.now c.args.x c.args.y d))
+
+pub returns-clause-grid : goal.returns-clause-grid
+returns-clause-grid g c =
+    let m = sym c.is_marked.ensures ∙ c.if-not-is_marked.false in
+    let i = c.at-coef.ensures ∙ ap (λ (z : Cells). coef_at z c.args.x c.args.y) c.field.view_is in
+    let d = ap (λ (z : Coef). is_decided c.args.plane z) (sym i) ∙ (sym c.is_done.ensures ∙ c.if-is_done.false) in
+    let l =
+    refinement_label_is c.args.plane c.field.inside.grid c.args.field.now c.args.x c.args.y c.refinement_label.result c.at-coef.result
+    c.was_refined.result c.is_near-near.result c.refinement_label.ensures.label c.was_refined.ensures c.at-coef.ensures c.field.view_is c.is_near-near.ensures in
+    (refinement_told g.S.Source.ask c.args.plane c.args.field.now c.put_bit.new.field c.args.x c.args.y c.refinement_label.result c.shift.result
+    c.in_ok-bit.bit c.args.source.now c.ask.new.self m d l c.shift.ensures c.in_ok-bit.ensures.answer c.in_ok-bit.ensures.after c.put_bit.ensures.grid).0
+
+pub returns-clause-source : goal.returns-clause-source
+returns-clause-source g c =
+    let m = sym c.is_marked.ensures ∙ c.if-not-is_marked.false in
+    let i = c.at-coef.ensures ∙ ap (λ (z : Cells). coef_at z c.args.x c.args.y) c.field.view_is in
+    let d = ap (λ (z : Coef). is_decided c.args.plane z) (sym i) ∙ (sym c.is_done.ensures ∙ c.if-is_done.false) in
+    let l =
+    refinement_label_is c.args.plane c.field.inside.grid c.args.field.now c.args.x c.args.y c.refinement_label.result c.at-coef.result
+    c.was_refined.result c.is_near-near.result c.refinement_label.ensures.label c.was_refined.ensures c.at-coef.ensures c.field.view_is c.is_near-near.ensures in
+    (refinement_told g.S.Source.ask c.args.plane c.args.field.now c.put_bit.new.field c.args.x c.args.y c.refinement_label.result c.shift.result
+    c.in_ok-bit.bit c.args.source.now c.ask.new.self m d l c.shift.ensures c.in_ok-bit.ensures.answer c.in_ok-bit.ensures.after c.put_bit.ensures.grid).1
