@@ -2,7 +2,7 @@
 use Rattle.std.proofs.Common.{◌≡◌, ◌||◌, ℕ, Bool, true, false, refl, ap, ◌∙◌, if◌then◌else◌}
 use Rattle.jx_grid.specs.declared.question.Plane.{Plane}
 use Rattle.jx_grid.specs.Cells.{Cells, coef_at, significant}
-use Rattle.jx_grid.specs.Asking.{Asking, Told}
+use Rattle.jx_grid.specs.Asking.{Told}
 use Rattle.jx_grid.specs.Pass.{is_decided, bit_of, usual_at, is_run, run_at, cleanup_at}
 
 second_true : (a : Bool) → (a || true) ≡ true
