@@ -9,7 +9,7 @@ ghost use Rattle.jx_ring.specs.declared.view.Place.TheVariants.{Empty, Tape};
 ghost use Rattle.jx_ring.specs.Passes.{Blank, Row};
 ghost use Rattle.jx_ring.specs.Rule.{first_view, counting_down};
 
-use crate::ring::{Limits, RingStore};
+use crate::ring::{Limits, RingStore, RingTable};
 use crate::view::{Pass, Place, RingView};
 use atomic_table::{Refused, Seat, Table};
 use jx_base::NoMemory;
@@ -43,15 +43,55 @@ impl<V: Work, N: Bounds<V::Job>> RingStore<V, N> {
     {
         prove!(jobs.len() == sizes.len());
         let limits = Limits::new(Sums::new(alloc, first, sizes, window, most)?);
+        let (table, seat, passes) = RingStore::<V, N>::first_table(
+            alloc,
+            first,
+            window,
+            sizes.len(),
+            workers,
+        )?;
+        let store = RingStore { table, limits };
+        let passes = store.deal_all(seat, passes, workers);
+        Ok((store, passes))
+    }
+
+    // The table as it is at the start, with its seat, and room for the passes.
+    fn first_table(
+        alloc: Global,
+        first: u32,
+        window: u32,
+        count: usize,
+        workers: u32,
+    ) -> Result<(RingTable<V, N>, Seat<Place<V>, RingView>, Vec<Pass<V, N>>), NoMemory>
+        requires bounds { (first ≡ N.setup.first) × (window ≡ N.setup.window) × (count ≡ length N.setup.sizes) × (workers ≡ N.workers) }
+        requires sizes { (first ≤ 2 ^ 20) × (count ≤ 2 ^ 20) × (0 < window) × (0 < workers) }
+        ensures counts { IfOk result (λ r. (r.0.shared.table_id.words ≡ window + 2) × (r.0.shared.table_id.slots ≡ window + 1)) }
+        ensures seat { IfOk result (λ r. (r.1.table_id ≡ r.0.shared.table_id) × (r.1.me ≡ (first_view N.setup workers, []))) }
+        ensures room { IfOk result (λ r. (r.2.items ≡ []) × (workers ≤ vec_capacity r.2)) }
+    {
         let words = first_words(alloc, first, window)?;
-        let slots = first_slots(alloc, window, sizes.len())?;
+        RingStore::<V, N>::table_of(alloc, words.as_slice(), window, count, workers)
+    }
+
+    // The same, over the words that stand at the start.
+    fn table_of(
+        alloc: Global,
+        words: &[u64],
+        window: u32,
+        count: usize,
+        workers: u32,
+    ) -> Result<(RingTable<V, N>, Seat<Place<V>, RingView>, Vec<Pass<V, N>>), NoMemory>
+        requires words { Blank N.setup.first window words.now }
+        requires bounds { (window ≡ N.setup.window) × (count ≡ length N.setup.sizes) × (workers ≡ N.workers) }
+        requires sizes { (count ≤ 2 ^ 20) × (0 < window) × (0 < workers) }
+        ensures counts { IfOk result (λ r. (r.0.shared.table_id.words ≡ window + 2) × (r.0.shared.table_id.slots ≡ window + 1)) }
+        ensures seat { IfOk result (λ r. (r.1.table_id ≡ r.0.shared.table_id) × (r.1.me ≡ (first_view N.setup workers, []))) }
+        ensures room { IfOk result (λ r. (r.2.items ≡ []) × (workers ≤ vec_capacity r.2)) }
+    {
+        let slots = first_slots(alloc, window, count)?;
         let passes = Vec::with_capacity(alloc, workers as usize)?;
-        match Table::new(alloc, words.as_slice(), slots, &()) {
-            Ok((table, seat)) => {
-                let store = RingStore { table, limits };
-                let passes = store.deal_all(seat, passes, workers);
-                Ok((store, passes))
-            }
+        match Table::new(alloc, words, slots, &()) {
+            Ok((table, seat)) => Ok((table, seat, passes)),
             Err(Refused { slots: _ }) => Err(NoMemory),
         }
     }

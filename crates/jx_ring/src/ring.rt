@@ -45,11 +45,13 @@ impl<V: Work, N: Bounds<V::Job>> Limits<V, N> {
     }
 }
 
+pub(crate) type RingTable<V, N> = Table<Place<V>, RingView, (), Turns<V, N>, Global>;
+
 /// A store that workers share, without a lock: numbers from a first one on are claimed in turn, values
 /// are committed under them in any order, and a tape takes them in sequence. `N` names its bounds.
 #[derive(Drop)]
 pub struct RingStore<V: Work, N: Bounds<V::Job>> {
-    pub(crate) table: Table<Place<V>, RingView, (), Turns<V, N>, Global>,
+    pub(crate) table: RingTable<V, N>,
     pub(crate) limits: Limits<V, N>,
     ghost counts: { (table.shared.table_id.words ≡ limits.window + 2) × (table.shared.table_id.slots ≡ limits.window + 1) },
 }
