@@ -1,7 +1,10 @@
 -- What is read of the bands of a precinct, band after band.
 use Rattle.std.proofs.Common.{◌≡◌, ℕ, zero, suc, ◌+◌, ◌<◌, ◌≤◌, Bool, List, [], ◌∷◌, ◌++◌, length, take, drop, refl, sym, ap, ◌∙◌, arith, append_assoc, Ok, Err, Result, length-append, get_or, set}
+use Rattle.std.proofs.lemmas.List.{append-nil, drop_all, take_all}
 use Rattle.jx_head.specs.declared.Part.{Part}
 use Rattle.jx_head.specs.declared.HeadFault.{HeadFault}
+use Rattle.jx_head.specs.declared.HeadFault.TheVariants.{Bits, Planes, NoMemory}
+use Rattle.jx_head.specs.Said.{Refuses, BandsSaid}
 use Rattle.jx_head.specs.Precinct.{all_blocks}
 use Rattle.jx_head.specs.Packet.{Cells}
 use Rattle.jx_head.specs.Kept.{IsBand, AreBands}
@@ -81,3 +84,38 @@ next_left bands at base most y d lt le =
     let b : length (all_blocks (drop at bands)) ≡ length (x.blocks ++ all_blocks (drop (at + 1) bands)) = ap (λ (l : List Cells). length (all_blocks l)) s.here in
     let e : length (all_blocks (drop (at + 1) (set bands at y))) ≡ length (all_blocks (drop (at + 1) bands)) = ap (λ (l : List Cells). length (all_blocks l)) s.behind in
     omega arith
+
+-- after the last band
+pub bands_said : (whole : Result BandsRead HeadFault) (begun now : List Part) (style layer base at : ℕ) (bands : List Cells) (bits : List Bool) → length bands ≤ at →
+    and_done begun [] whole ≡ and_done now (take at bands) (scan_bands style layer base (drop at bands) bits) → BandsSaid whole begun now bands bits
+bands_said whole begun now style layer base at bands bits le h =
+    said whole (h ∙ ap (λ (l : List Cells). and_done now (take at bands) (scan_bands style layer base l bits)) (drop_all at bands le) ∙ ap (λ (l : List Cells). Ok (bands_is (now ++ []) (l ++ []) bits)) (take_all at bands le))
+  where
+    said : (w : Result BandsRead HeadFault) → and_done begun [] w ≡ Ok (bands_is (now ++ []) (bands ++ []) bits) → BandsSaid w begun now bands bits
+    said (Err e) is = absurd cc
+    said (Ok b) is =
+        let same : bands_is (begun ++ b.parts) b.bands b.rest ≡ bands_is (now ++ []) (bands ++ []) bits = cc in
+        let new : begun ++ b.parts ≡ now = ap (λ (x : BandsRead). x.parts) same ∙ append-nil now in
+        record {
+          parts = b.parts;
+          is = ap (λ (l : List Cells). Ok (bands_is b.parts l b.rest)) (ap (λ (x : BandsRead). x.bands) same ∙ append-nil bands) ∙ ap (λ (l : List Bool). Ok (bands_is b.parts bands l)) (ap (λ (x : BandsRead). x.rest) same);
+          new_is = sym new;
+        }
+
+-- where a band is refused
+bands_err : (whole : Result BandsRead HeadFault) (begun : List Part) (f : HeadFault) → and_done begun [] whole ≡ Err f → whole ≡ Err f
+bands_err (Err e) begun f h = h
+bands_err (Ok b) begun f h = absurd cc
+
+band_err : (whole : Result BandsRead HeadFault) (begun now : List Part) (style layer base at : ℕ) (bands : List Cells) (d : Cells) (bits : List Bool) (f : HeadFault) → at < length bands →
+    and_done begun [] whole ≡ and_done now (take at bands) (scan_bands style layer base (drop at bands) bits) → scan_band style layer base (get_or bands at d) bits ≡ Err f → whole ≡ Err f
+band_err whole begun now style layer base at bands d bits f lt h was =
+    let s = set_at bands at d d lt in
+    bands_err whole begun f (h ∙ ap (λ (l : List Cells). and_done now (take at bands) (scan_bands style layer base l bits)) s.here
+    ∙ ap (λ (r : Result AllTold HeadFault). and_done now (take at bands) (and_then r (on_band style layer base (get_or bands at d) (drop (at + 1) bands)))) was)
+
+pub bands_refuse : (whole : Result BandsRead HeadFault) (begun now : List Part) (style layer base at : ℕ) (bands : List Cells) (d : Cells) (bits : List Bool) (f : HeadFault) → at < length bands →
+    and_done begun [] whole ≡ and_done now (take at bands) (scan_bands style layer base (drop at bands) bits) → Refuses f (scan_band style layer base (get_or bands at d) bits) → Refuses f whole
+bands_refuse whole begun now style layer base at bands d bits Bits lt h was = band_err whole begun now style layer base at bands d bits Bits lt h was
+bands_refuse whole begun now style layer base at bands d bits Planes lt h was = band_err whole begun now style layer base at bands d bits Planes lt h was
+bands_refuse whole begun now style layer base at bands d bits NoMemory lt h was = tt

@@ -5,8 +5,8 @@ use Rattle.jx_head.specs.Packet.{Cells}
 use Rattle.jx_head.specs.Precinct.{all_blocks}
 use Rattle.jx_head.specs.Kept.{IsBand}
 use Rattle.jx_head.specs.Scan.{scan_bands, scan_band}
-use Rattle.jx_head.specs.Said.{BandSaid}
-use Rattle.jx_head.proofs.BandLoopLemmas.{band_at, bands_set, blocks_set, bands_step, next_left}
+use Rattle.jx_head.specs.Said.{BandSaid, Refuses}
+use Rattle.jx_head.proofs.BandLoopLemmas.{band_at, bands_set, blocks_set, bands_step, next_left, bands_said, bands_refuse}
 use Rattle.jx_head.proofs.precinct.read_bands.Goals as goal
 
 pub read_band-requires-clause-band : goal.read_band-requires-clause-band
@@ -41,3 +41,17 @@ loop-at-preserved c =
       blocks = blocks_set items at y x inside same' ∙ c.loop-at.invariant.blocks;
       left = rw count' at left';
     }
+
+pub returns-clause-ok : goal.returns-clause-ok
+returns-clause-ok c =
+    bands_said (scan_bands c.args.style.bits c.args.layer 0 c.args.bands.now.items (to_come c.args.bits.now)) c.args.parts.now.items c.loop-at.parts.items c.args.style.bits c.args.layer c.loop-at.base
+    c.loop-at.at c.loop-at.bands.items (to_come c.loop-at.bits) (omega (arith, c.loop-at.bands.ok.0, c.loop-at.invariant.long)) c.loop-at.invariant.scanned
+
+pub returns-in-Err-clause-err : goal.returns-in-Err-clause-err
+returns-in-Err-clause-err c =
+    let items = c.loop-at.bands.items in
+    let x = c.index_mut-band.result.now in
+    let here : x ≡ get_or items c.loop-at.at x = c.index_mut-band.ensures.value in
+    bands_refuse (scan_bands c.args.style.bits c.args.layer 0 c.args.bands.now.items (to_come c.args.bits.now)) c.args.parts.now.items c.loop-at.parts.items c.args.style.bits c.args.layer c.loop-at.base
+    c.loop-at.at items x (to_come c.loop-at.bits) c.in-Err.fault (omega (arith, c.loop-at.bands.ok.0)) c.loop-at.invariant.scanned
+    (subst (λ (z : Cells). Refuses c.in-Err.fault (scan_band c.args.style.bits c.args.layer c.loop-at.base z (to_come c.loop-at.bits))) here c.in-Err.ensures.err)
