@@ -63,13 +63,37 @@ fn arg_of<'a>(alloc: Global, text: OptionText) -> Arg<'a> {
     arg.value_parser(text.listed).hide_possible_values(true)
 }
 
-/// A word that has to be there.
-fn place_of<'a>(alloc: Global, name: &'a str, value: &'a str, help: &'a str) -> Arg<'a> {
-    Arg::new(alloc, name)
+/// With a word that has to be there.
+fn with_place<'a>(
+    alloc: Global,
+    command: Command<'a>,
+    name: &'a str,
+    value: &'a str,
+    help: &'a str,
+) -> Result<Command<'a>, AllocError> {
+    let place = Arg::new(alloc, name)
         .required(true)
         .value_name(value)
         .help(help)
-        .action(ArgAction::Set)
+        .action(ArgAction::Set);
+    command.arg(place)
+}
+
+/// With the names of the input and the output.
+fn with_places<'a>(alloc: Global, command: Command<'a>) -> Result<Command<'a>, AllocError> {
+    let read = "the codestream that is read";
+    let written = "the file that is written; an older one stands until it is whole";
+    let command = with_place(alloc, command, "in", "IN", read)?;
+    with_place(alloc, command, "out", "OUT", written)
+}
+
+/// With the options.
+fn with_options<'a>(alloc: Global, command: Command<'a>) -> Result<Command<'a>, AllocError> {
+    let mut command = command;
+    for number in 0..COUNT {
+        command = command.arg(arg_of(alloc, option_text(number)))?;
+    }
+    Ok(command)
 }
 
 /// The command `transcode`, with its help.
@@ -77,46 +101,50 @@ fn transcode<'a>(alloc: Global) -> Result<Command<'a>, AllocError> {
     let command = Command::new(alloc, "transcode")
         .about(TRANSCODE)
         .after_help(EXAMPLES);
-    let from = place_of(alloc, "in", "IN", "the codestream that is read");
-    let to = place_of(
-        alloc,
-        "out",
-        "OUT",
-        "the file that is written; an older one stands until it is whole",
-    );
-    let mut command = command.arg(from)?.arg(to)?;
-    for number in 0..COUNT {
-        command = command.arg(arg_of(alloc, option_text(number)))?;
-    }
-    Ok(command)
+    let command = with_places(alloc, command)?;
+    with_options(alloc, command)
 }
 
 /// The command `make`, with its help.
 fn make<'a>(alloc: Global) -> Result<Command<'a>, AllocError> {
-    let seed = place_of(
-        alloc,
-        "seed",
-        "SEED",
-        "which picture: a number from 0 to 18446744073709551615",
-    );
-    let width = place_of(alloc, "width", "WIDTH", "its columns, 1 to 4096");
-    let height = place_of(alloc, "height", "HEIGHT", "its rows, 1 to 4096");
+    let seed = "which picture: a number from 0 to 18446744073709551615";
     let command = Command::new(alloc, "make").about(MAKE).after_help(CHECK);
-    command.arg(seed)?.arg(width)?.arg(height)
+    let command = with_place(alloc, command, "seed", "SEED", seed)?;
+    let command = with_place(alloc, command, "width", "WIDTH", "its columns, 1 to 4096")?;
+    with_place(alloc, command, "height", "HEIGHT", "its rows, 1 to 4096")
+}
+
+/// The program without its commands.
+fn bare<'a>(alloc: Global) -> Result<Command<'a>, AllocError> {
+    // The name is the same whatever file the program lies in.
+    let command = Command::new(alloc, "jx").bin_name("jx")?;
+    Ok(
+        command
+            .version(VERSION)
+            .about(ABOUT)
+            .after_help(MORE)
+            .subcommand_required(true)
+            .arg_required_else_help(true),
+    )
+}
+
+/// With the command `transcode`.
+fn with_transcode<'a>(alloc: Global, command: Command<'a>) -> Result<Command<'a>, AllocError> {
+    let transcode = transcode(alloc)?;
+    command.subcommand(transcode)
+}
+
+/// With the command `make`.
+fn with_make<'a>(alloc: Global, command: Command<'a>) -> Result<Command<'a>, AllocError> {
+    let make = make(alloc)?;
+    command.subcommand(make)
 }
 
 /// The program, with its help.
 fn program<'a>(alloc: Global) -> Result<Command<'a>, AllocError> {
-    // The name is the same whatever file the program lies in.
-    let command = Command::new(alloc, "jx")
-        .bin_name("jx")?
-        .version(VERSION)
-        .about(ABOUT)
-        .after_help(MORE)
-        .subcommand_required(true)
-        .arg_required_else_help(true);
-    let command = command.subcommand(transcode(alloc)?)?;
-    command.subcommand(make(alloc)?)
+    let command = bare(alloc)?;
+    let command = with_transcode(alloc, command)?;
+    with_make(alloc, command)
 }
 
 /// A text with one line feed at its end.
@@ -130,10 +158,8 @@ fn ended(alloc: Global, text: &str) -> Result<String, AllocError>
     format!(in alloc; "{line}\n")
 }
 
-/// What is wrong, without clap's own usage, and then the usage.
-fn mistake(alloc: Global, text: &str) -> Result<String, AllocError>
-    ensures { IfOk result (λ text. EndsLine (string_bytes text)) }
-{
+/// A text without clap's own usage.
+fn without_usage(text: &str) -> &str {
     let mut what = text;
     if let Some((before, _)) = what.split_once("\n\nUsage:") {
         what = before;
@@ -141,8 +167,24 @@ fn mistake(alloc: Global, text: &str) -> Result<String, AllocError>
     if let Some((before, _)) = what.split_once("\n\nFor more information") {
         what = before;
     }
+    what
+}
+
+/// What is wrong, without clap's own usage, and then the usage.
+fn mistake(alloc: Global, text: &str) -> Result<String, AllocError>
+    ensures { IfOk result (λ text. EndsLine (string_bytes text)) }
+{
+    let what = without_usage(text);
     let text = format!(in alloc; "{what}\n\n{USAGE}")?;
     ended(alloc, text.as_str())
+}
+
+/// What is wrong with words that clap takes, and then the usage.
+fn wrong_value(alloc: Global, words: &[String]) -> Result<String, AllocError>
+    ensures { IfOk result (λ text. EndsLine (string_bytes text)) }
+{
+    let text = value_text(alloc, words)?;
+    mistake(alloc, text.as_str())
 }
 
 /// What clap says of these words: the help or the version as they are, a mistake with the usage.
@@ -175,10 +217,7 @@ pub(crate) fn words_text(alloc: Global, words: &[String]) -> Result<String, Allo
     }
     let command = program(alloc)?;
     match command.try_get_matches_from(words) {
-        Ok(_) => {
-            let text = value_text(alloc, words)?;
-            mistake(alloc, text.as_str())
-        }
+        Ok(_) => wrong_value(alloc, words),
         Err(error) => told(alloc, &error),
     }
 }

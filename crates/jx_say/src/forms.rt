@@ -63,20 +63,18 @@ fn wrong_number(
     wrong(alloc, value, name, form.as_str())
 }
 
-/// What is wrong with the number of an option.
-fn number_text(
-    alloc: Global,
-    words: &[String],
-    name: &str,
-    most: u64,
-) -> Result<Option<String>, AllocError> {
-    if let Some(value) = value_of(words, name) {
-        if !is_number(value, most) {
-            let option = format!(in alloc; "{name} <N>")?;
-            return Ok(Some(wrong_number(alloc, value, option.as_str(), 1, most)?));
-        }
+/// The value of an option, where it is none of the option's numbers.
+fn no_number<'a>(words: &'a [String], name: &str, most: u64) -> Option<&'a str> {
+    match value_of(words, name) {
+        Some(value) if !is_number(value, most) => Some(value),
+        _ => None,
     }
-    Ok(None)
+}
+
+/// What is wrong with the number of an option.
+fn number_text(alloc: Global, value: &str, name: &str, most: u64) -> Result<String, AllocError> {
+    let option = format!(in alloc; "{name} <N>")?;
+    wrong_number(alloc, value, option.as_str(), 1, most)
 }
 
 /// What the other values have to be.
@@ -120,14 +118,14 @@ pub(crate) fn value_text(alloc: Global, words: &[String]) -> Result<String, Allo
     if names_make(words) {
         return make_text(alloc, words);
     }
-    if let Some(text) = number_text(alloc, words, "--threads", 64)? {
-        return Ok(text);
+    if let Some(value) = no_number(words, "--threads", 64) {
+        return number_text(alloc, value, "--threads", 64);
     }
-    if let Some(text) = number_text(alloc, words, "--window", 1024)? {
-        return Ok(text);
+    if let Some(value) = no_number(words, "--window", 1024) {
+        return number_text(alloc, value, "--window", 1024);
     }
-    if let Some(text) = number_text(alloc, words, "--window-bytes", 268_435_456)? {
-        return Ok(text);
+    if let Some(value) = no_number(words, "--window-bytes", 268_435_456) {
+        return number_text(alloc, value, "--window-bytes", 268_435_456);
     }
     list_text(alloc, words)
 }
