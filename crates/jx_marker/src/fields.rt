@@ -35,7 +35,6 @@ pub fn progression_at(comps: u16, body: &[u8], at: usize) -> Progression
     }
 }
 
-#[tactic(auto, using(crate::proofs::ValueLemmas::values_more))]
 fn comp_sizes(alloc: Global, body: &[u8], count: u16) -> Result<CompSizes, AllocError>
     requires { 36 + 3 * count ≤ length body.now }
     ensures { IfOk result (λ list. list ≡ values_from comp_size_at 3 count 36 body.now) }
@@ -109,7 +108,7 @@ pub fn read_cod(alloc: Global, body: &[u8]) -> Result<Cod, AllocError>
     })
 }
 
-#[tactic(auto, using(crate::proofs::ValueLemmas::values_more, crate::proofs::ValueLemmas::room_left))]
+#[tactic(auto, using(crate::proofs::ValueLemmas::room_left))]
 fn entries(
     alloc: Global,
     body: &[u8],
