@@ -1,3 +1,4 @@
+pub mod DoneLemmas
 pub mod ProgressLemmas
 pub mod ReadLemmas
 pub mod SaidLemmas

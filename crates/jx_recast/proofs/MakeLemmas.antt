@@ -16,6 +16,7 @@ use Rattle.jx_recast.specs.Outcome.{EndsAs, IsCutShort, IsLimited, IsMade, Leave
 use Rattle.jx_recast.specs.declared.status.Status.{Status}
 use Rattle.jx_recast.specs.declared.status.Status.TheVariants as status
 use Rattle.jx_recast.specs.declared.status.TapeEntry.{TapeEntry}
+use Rattle.jx_recast.proofs.DoneLemmas.{IsOther, undone, unfailed}
 
 abbrev pub Rules : Type 0
 Rules = List ℕ → StreamFacts → Option Rule
@@ -54,28 +55,31 @@ record IsOutOf (name : List ℕ) (aim : Aim) (input : List ℕ) (s : Status) (bl
   long : s ≡ status.Done → bytes ≡ length out
   made : s ≡ status.Done → IsLastMade name out new
 
+none_out : (name : List ℕ) (aim : Aim) (input : List ℕ) (s : Status) (blocks bytes : ℕ) (new : Meaning) → IsOther s → TellsMade aim input s blocks [] → IsOutOf name aim input s blocks bytes new
+none_out name aim input s blocks bytes new other tells = record { out = []; tells = tells; long = λ done. absurd (undone s other done); made = λ done. absurd (undone s other done) }
+
 out_of : (name : List ℕ) (aim : Aim) (input : List ℕ) (s : Status) (blocks bytes : ℕ) (new : Meaning) → (s ≡ status.Words → ⊥) → (s ≡ status.ReadFault → ⊥) → (s ≡ status.WriteFault → ⊥)
     → Leaves name aim input s blocks bytes empty new → IsOutOf name aim input s blocks bytes new
 out_of name aim input status.Done blocks bytes new words read write leaves =
     record { out = leaves.out; tells = record { is = leaves.is; kept = leaves.kept; count = leaves.count }; long = λ done. leaves.long; made = λ done. last_made name leaves.out new leaves.made }
 out_of name aim input status.Words blocks bytes new words read write leaves = absurd (words refl)
-out_of name aim input (status.Rule number place) blocks bytes new words read write leaves = record { out = []; tells = leaves.0; long = λ done. cc; made = λ done. cc }
-out_of name aim input (status.Limit number found) blocks bytes new words read write leaves = record { out = []; tells = leaves.0; long = λ done. cc; made = λ done. cc }
-out_of name aim input (status.Choice number place) blocks bytes new words read write (inl seven) = record { out = []; tells = seven.1.count; long = λ done. cc; made = λ done. cc }
-out_of name aim input (status.Choice number place) blocks bytes new words read write (inr few) = record { out = []; tells = few.1; long = λ done. cc; made = λ done. cc }
-out_of name aim input (status.Block number) blocks bytes new words read write leaves = record { out = []; tells = leaves.count; long = λ done. cc; made = λ done. cc }
+out_of name aim input (status.Rule number place) blocks bytes new words read write leaves = none_out name aim input (status.Rule number place) blocks bytes new tt leaves.0
+out_of name aim input (status.Limit number found) blocks bytes new words read write leaves = none_out name aim input (status.Limit number found) blocks bytes new tt leaves.0
+out_of name aim input (status.Choice number place) blocks bytes new words read write (inl seven) = none_out name aim input (status.Choice number place) blocks bytes new tt seven.1.count
+out_of name aim input (status.Choice number place) blocks bytes new words read write (inr few) = none_out name aim input (status.Choice number place) blocks bytes new tt few.1
+out_of name aim input (status.Block number) blocks bytes new words read write leaves = none_out name aim input (status.Block number) blocks bytes new tt leaves.count
 out_of name aim input status.ReadFault blocks bytes new words read write leaves = absurd (read refl)
 out_of name aim input status.WriteFault blocks bytes new words read write leaves = absurd (write refl)
-out_of name aim input status.NoMemory blocks bytes new words read write leaves = record { out = []; tells = cut_told name aim input blocks empty new leaves; long = λ done. cc; made = λ done. cc }
+out_of name aim input status.NoMemory blocks bytes new words read write leaves = none_out name aim input status.NoMemory blocks bytes new tt (cut_told name aim input blocks empty new leaves)
 
 -- there was no memory
 pub refused_ready : (m : Make) (rule : Rules) (before after total : ℕ) → IsReadyToSay m rule status.NoMemory 0 before after total []
 refused_ready m rule before after total = record {
   out = [];
-  comes = record { verdict = λ no. absurd no; tells = inl refl; tape = inl refl; whole = λ done. cc };
+  comes = record { verdict = λ no. absurd no; tells = inl refl; tape = inl refl; whole = λ done. absurd (undone status.NoMemory tt done) };
   told = inl refl;
-  unfailed = λ fault. cc;
-  numbers = λ done. cc;
+  unfailed = unfailed;
+  numbers = λ done. absurd (undone status.NoMemory tt done);
 }
 
 -- ---- the line
@@ -114,13 +118,13 @@ made_said m rule s late blocks before after total entries fault_before fault_now
 made_said m rule s late blocks before after total entries fault_before fault_now files old new ready (inr (inl fault)) = rw fault.0 (record {
   files = refl;
   out = ready.out;
-  comes = record { verdict = λ no. absurd no; tells = ready.told; tape = ready.comes.tape; whole = λ done. cc };
+  comes = record { verdict = λ no. absurd no; tells = ready.told; tape = ready.comes.tape; whole = λ done. absurd (undone status.WriteFault tt done) };
   said = fault.1;
 })
 made_said m rule s late blocks before after total entries fault_before fault_now files old new ready (inr (inr short)) = rw short.0 (record {
   files = refl;
   out = ready.out;
-  comes = record { verdict = λ no. absurd no; tells = ready.told; tape = ready.comes.tape; whole = λ done. cc };
+  comes = record { verdict = λ no. absurd no; tells = ready.told; tape = ready.comes.tape; whole = λ done. absurd (undone status.NoMemory tt done) };
   said = inl short.1;
 })
 
@@ -129,7 +133,7 @@ pub made_failed : (m : Make) (rule : Rules) (s late : Status) (blocks before aft
     → IsReadyToSay m rule s blocks before after total entries → EndsAs s line late old new fault_before fault_now → late ≡ status.WriteFault → Rose fault_before fault_now
 made_failed m rule s late blocks before after total entries line fault_before fault_now old new ready (inl said) failed = absurd (ready.unfailed (sym said.0 ∙ failed))
 made_failed m rule s late blocks before after total entries line fault_before fault_now old new ready (inr (inl fault)) failed = fault.2
-made_failed m rule s late blocks before after total entries line fault_before fault_now old new ready (inr (inr short)) failed = cc
+made_failed m rule s late blocks before after total entries line fault_before fault_now old new ready (inr (inr short)) failed = absurd (unfailed (sym short.0 ∙ failed))
 
 -- no file is read
 pub made_unread : (m : Make) (rule : Rules) (s : Status) (blocks : ℕ) (entries : List TapeEntry) (a b : Meaning) (old new : Option (List ℕ)) → EndsMade m rule s blocks entries a b old new → s ≡ status.ReadFault → ⊥

@@ -13,6 +13,7 @@ use Rattle.jx_recast.specs.Filed.{IsAnswered, IsUnread}
 use Rattle.jx_words.specs.Words.{Text, Request, Work}
 use Rattle.jx_recast.specs.declared.status.TapeEntry.{TapeEntry}
 use Rattle.jx_recast.specs.Outcome.{IsBegun, IsCutShort, IsLimited, IsMade, IsRefused, IsStopped, IsUntouched, IsVerdict, Leaves, Verdict, Ends, EndsFiles, EndsAtWords, EndsAs, PassesLimit, aim_of, line_of, most_bytes}
+use Rattle.jx_recast.proofs.DoneLemmas.{undone}
 
 pub untouched_twice : (a b c : Meaning) → IsUntouched a b → IsUntouched b c → IsUntouched a c
 untouched_twice a b c first next = record {
@@ -172,12 +173,12 @@ ends_read request rule read s blocks bytes tape a b c front first is none = let 
 pub ends_unread : (request : Request) (rule : List ℕ → StreamFacts → Option Rule) (s : Status) (a b : Meaning) → (s ≡ status.ReadFault) ⊎ (s ≡ status.NoMemory) → IsUntouched a b → EndsFiles request rule s 0 0 [] a b
 ends_unread request rule s a b (inl e) same = rw e (record {
   input = whole (joined (a.holds request.from)) [];
-  files = record { told = told_whole (joined (a.holds request.from)) []; verdict = λ no. absurd no; leaves = (refl, same); tape = inl refl; whole = λ done. cc };
+  files = record { told = told_whole (joined (a.holds request.from)) []; verdict = λ no. absurd no; leaves = (refl, same); tape = inl refl; whole = λ done. absurd (undone status.ReadFault tt done) };
   unsaid = inl (refl, same);
 })
 ends_unread request rule s a b (inr e) same = rw e (record {
   input = whole (joined (a.holds request.from)) [];
-  files = record { told = told_whole (joined (a.holds request.from)) []; verdict = λ no. absurd no; leaves = inl (refl, same); tape = inl refl; whole = λ done. cc };
+  files = record { told = told_whole (joined (a.holds request.from)) []; verdict = λ no. absurd no; leaves = inl (refl, same); tape = inl refl; whole = λ done. absurd (undone status.NoMemory tt done) };
   unsaid = inl (refl, same);
 })
 
@@ -200,13 +201,13 @@ ends_said request rule s late blocks bytes tape fault_before fault_now old new b
 ends_said request rule s late blocks bytes tape fault_before fault_now old new before now ends (inr (inl fault)) = rw fault.0 (record {
   input = ends.input;
   bytes = bytes;
-  files = record { told = ends.files.told; verdict = λ no. absurd no; leaves = ends.unsaid; tape = ends.files.tape; whole = λ done. cc };
+  files = record { told = ends.files.told; verdict = λ no. absurd no; leaves = ends.unsaid; tape = ends.files.tape; whole = λ done. absurd (undone status.WriteFault tt done) };
   said = fault.1;
 })
 ends_said request rule s late blocks bytes tape fault_before fault_now old new before now ends (inr (inr short)) = rw short.0 (record {
   input = ends.input;
   bytes = bytes;
-  files = record { told = ends.files.told; verdict = λ no. absurd no; leaves = ends.unsaid; tape = ends.files.tape; whole = λ done. cc };
+  files = record { told = ends.files.told; verdict = λ no. absurd no; leaves = ends.unsaid; tape = ends.files.tape; whole = λ done. absurd (undone status.NoMemory tt done) };
   said = inl short.1;
 })
 

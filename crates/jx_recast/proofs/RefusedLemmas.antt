@@ -31,6 +31,7 @@ use Rattle.jx_recast.specs.Outcome.{IsCutShort, most_bytes}
 use Rattle.jx_recast.specs.Rewritten.{HasBlocks, IsUnplanned, Reads}
 use Rattle.jx_recast.specs.declared.status.Status.TheVariants as status
 use Rattle.jx_words.specs.Words.{Text, Work}
+use Rattle.jx_recast.proofs.DoneLemmas.{undone}
 use Rattle.jx_recast.proofs.ToldLemmas.{stop_told}
 use Rattle.jx_recast.proofs.WriteLemmas.{untouched}
 
@@ -40,7 +41,7 @@ refused_short name aim input mm = inl (refl, untouched mm)
 
 no_plan : (name : Text) (work : Work) (aim : Aim) (input : List ℕ) (mm : Meaning) → IsAnswered name work aim input status.NoMemory 0 0 [] mm mm
 no_plan name work aim input mm =
-    record { verdict = λ v. absurd v; leaves = refused_short name aim input mm; unsaid = refused_short name aim input mm; tape = inl refl; whole = λ done. cc }
+    record { verdict = λ v. absurd v; leaves = refused_short name aim input mm; unsaid = refused_short name aim input mm; tape = inl refl; whole = λ done. absurd (undone status.NoMemory tt done) }
 
 -- there is no limit but 7, and choice 7 isn't among the choices of a plan
 IsBelow : PlanFault → Type 0
@@ -113,43 +114,49 @@ answered_unplanned name work aim input s blocks (unplanned.Limit number found) n
   leaves = (inl (limit_seven (rule_in aim s blocks) s blocks aim.wanted number found cause, has_blocks input s blocks n count reads), untouched mm);
   unsaid = over_short name aim input s blocks (unplanned.Limit number found) n mm (λ e. cc) cause count within reads;
   tape = inl refl;
-  whole = λ done. cc;
+  whole = λ done. absurd (undone (status.Limit number found) tt done);
 }
 answered_unplanned name work aim input s blocks (unplanned.Choice number place) n mm cause count within reads = record {
   verdict = λ v. (within, inr (is_unplanned aim input s blocks (unplanned.Choice number place) cause reads));
   leaves = inr (choice_below (rule_in aim s blocks) s blocks aim.wanted number place cause, has_blocks input s blocks n count reads, untouched mm);
   unsaid = over_short name aim input s blocks (unplanned.Choice number place) n mm (λ e. cc) cause count within reads;
   tape = inl refl;
-  whole = λ done. cc;
+  whole = λ done. absurd (undone (status.Choice number place) tt done);
 }
 answered_unplanned name work aim input s blocks unplanned.NoMemory n mm cause count within reads = no_plan name work aim input mm
 
 pub refused : (name : Text) (work : Work) (aim : Aim) (input : List ℕ) (f : StreamFault) (mm : Meaning) → length input ≤ most_bytes → IsInputCause input f
     → IsAnswered name work aim input (told_by f) 0 0 [] mm mm
 refused name work aim input (fault.Rule number place) mm within cause =
-    record { verdict = λ v. (within, cause); leaves = (refl, untouched mm); unsaid = refused_short name aim input mm; tape = inl refl; whole = λ done. cc }
+    record { verdict = λ v. (within, cause); leaves = (refl, untouched mm); unsaid = refused_short name aim input mm; tape = inl refl; whole = λ done. absurd (undone (status.Rule number place) tt done) }
 refused name work aim input (fault.Limit number found) mm within cause = record {
   verdict = λ v. inl (inr (within, cause));
   leaves = (inr (stop_told input (fault.Limit number found) cause, refl), untouched mm);
   unsaid = refused_short name aim input mm;
   tape = inl refl;
-  whole = λ done. cc;
+  whole = λ done. absurd (undone (status.Limit number found) tt done);
 }
 refused name work aim input fault.NoMemory mm within cause = no_plan name work aim input mm
 
 pub too_long : (name : Text) (work : Work) (aim : Aim) (input : List ℕ) (mm : Meaning) → most_bytes < length input → IsAnswered name work aim input (status.Limit 1 268435457) 0 0 [] mm mm
 too_long name work aim input mm long =
-    record { verdict = λ v. inl (inl (long, refl, refl)); leaves = (inr (omega arith, refl), untouched mm); unsaid = refused_short name aim input mm; tape = inl refl; whole = λ done. cc }
+    record { verdict = λ v. inl (inl (long, refl, refl)); leaves = (inr (omega arith, refl), untouched mm); unsaid = refused_short name aim input mm; tape = inl refl; whole = λ done. absurd (undone (status.Limit 1 268435457) tt done) }
 
 tile_cause : (input : List ℕ) (s : Stream) (e : StreamFault) → IsRead input s → HasCause (IsBroken input s) e → IsInputCause input e
 tile_cause input s (fault.Rule number place) read broken = inr (record { stream = s; read = read; broken = broken })
 tile_cause input s (fault.Limit number found) read broken = inr (record { stream = s; read = read; broken = broken })
 tile_cause input s fault.NoMemory read broken = tt
 
+no_rule : (number place : ℕ) → fault.Rule number place ≡ fault.NoMemory → ⊥
+no_rule number place e = cc
+
+no_limit : (number found : ℕ) → fault.Limit number found ≡ fault.NoMemory → ⊥
+no_limit number found e = cc
+
 header_cause : (input : List ℕ) (e : StreamFault) → (e ≡ fault.NoMemory) ⊎ IsFirst input e → IsInputCause input e
-header_cause input (fault.Rule number place) (inl e) = cc
+header_cause input (fault.Rule number place) (inl e) = absurd (no_rule number place e)
 header_cause input (fault.Rule number place) (inr first) = inl first
-header_cause input (fault.Limit number found) (inl e) = cc
+header_cause input (fault.Limit number found) (inl e) = absurd (no_limit number found e)
 header_cause input (fault.Limit number found) (inr first) = inl first
 header_cause input fault.NoMemory h = tt
 
