@@ -1,20 +1,22 @@
 -- Tiles written through one buffer: what the device has taken and what stands in the buffer are the bytes so far.
-use Rattle.std.proofs.Common.{◌≡◌, ◌∙◌, ◌<◌, ◌+◌, ℕ, suc, List, [], ◌∷◌, ◌++◌, length, map, drop, refl, ap, sym, subst, arith, append_assoc, length-append, append-nil, slice_index_or, IsTrue}
+use Rattle.std.proofs.Common.{◌≡◌, ◌∙◌, ◌<◌, ◌+◌, ℕ, suc, List, [], ◌∷◌, ◌++◌, length, map, drop, refl, ap, sym, subst, arith, append_assoc, length-append, append-nil, slice_index_or, IsTrue, OnOk, Result, Ok, Err}
 use Rattle.std.specs.List.{concat}
 use Rattle.std.proofs.Math.Seq.{drop-cons}
 use Rattle.std.proofs.lemmas.List.Folds.{concat-append}
 use Rattle.jx_outside.specs.Device.{Meaning, after_write}
 use Rattle.jx_recast.specs.MadeRounds.{parts_of}
 use Rattle.jx_recast.specs.Progress.{HasWritten, SomeFront}
+use Rattle.jx_recast.specs.declared.halt.Halt.{Halt}
 use Rattle.jx_recast.proofs.ProgressLemmas.{front_after, has_written_all, has_written_more, has_written_none}
 
 -- ---- one piece
 pub nothing_gone : (m : Meaning) (bytes rest : List ℕ) → rest ≡ bytes → HasWritten m m bytes rest
 nothing_gone m bytes rest is = subst (HasWritten m m bytes) (sym is) (has_written_none m bytes)
 
-pub nothing_left : (old new : Meaning) (bytes written rest : List ℕ) → written ≡ bytes → new ≡ after_write written old → rest ≡ [] → HasWritten old new bytes rest
-nothing_left old new bytes written rest is wrote none =
-    subst (HasWritten old new bytes) (sym none) (record { front = bytes; whole = sym (append-nil bytes); meaning = wrote ∙ ap (λ (b : List ℕ). after_write b old) is })
+pub nothing_left : (r : Result (Unit {0}) Halt) (old new : Meaning) (bytes rest : List ℕ) → OnOk r (new ≡ after_write bytes old) → OnOk r (rest ≡ []) → OnOk r (HasWritten old new bytes rest)
+nothing_left (Ok x) old new bytes rest wrote none =
+    subst (HasWritten old new bytes) (sym none) (record { front = bytes; whole = sym (append-nil bytes); meaning = wrote })
+nothing_left (Err h) old new bytes rest wrote none = tt
 
 pub making_stays : (old new : Meaning) (bytes rest : List ℕ) → HasWritten old new bytes rest → IsTrue old.making → IsTrue new.making
 making_stays old new bytes rest done making = rw done.meaning making
@@ -50,12 +52,14 @@ pub piece_cut_off : (old now new : Meaning) (bytes buffer all piece rest : List 
 piece_cut_off old now new bytes buffer all piece rest so_far cut some =
     front_after old now new bytes (buffer ++ all) (buffer ++ piece) rest so_far (ap (λ (b : List ℕ). buffer ++ b) cut ∙ sym (append_assoc buffer piece rest)) some
 
-pub part_put : (old now new : Meaning) (bytes buffer rest : List ℕ) → HasWritten old now bytes (buffer ++ rest) → rest ≡ [] → new ≡ after_write buffer now → new ≡ after_write bytes old
-part_put old now new bytes buffer rest so_far none wrote =
-    has_written_all old new bytes rest (has_written_more old now new bytes (buffer ++ rest) buffer rest so_far refl wrote) none
+pub pieces_put : (old now : Meaning) (bytes buffer rest : List ℕ) → HasWritten old now bytes (buffer ++ rest) → rest ≡ [] → HasWritten old now bytes buffer
+pieces_put old now bytes buffer rest so_far none = subst (HasWritten old now bytes) (ap (λ (b : List ℕ). buffer ++ b) none ∙ append-nil buffer) so_far
 
-pub part_cut_off : (old now new : Meaning) (bytes buffer rest : List ℕ) → HasWritten old now bytes (buffer ++ rest) → SomeFront now new buffer → SomeFront old new bytes
-part_cut_off old now new bytes buffer rest so_far some = front_after old now new bytes (buffer ++ rest) buffer rest so_far refl some
+pub part_put : (old now new : Meaning) (bytes buffer : List ℕ) → HasWritten old now bytes buffer → new ≡ after_write buffer now → new ≡ after_write bytes old
+part_put old now new bytes buffer so_far wrote = has_written_all old new bytes [] (has_written_more old now new bytes buffer buffer [] so_far (sym (append-nil buffer)) wrote) refl
+
+pub part_cut_off : (old now new : Meaning) (bytes buffer : List ℕ) → HasWritten old now bytes buffer → SomeFront now new buffer → SomeFront old new bytes
+part_cut_off old now new bytes buffer so_far some = front_after old now new bytes buffer buffer [] so_far (sym (append-nil buffer)) some
 
 pub tiles_counted : (tiles : List (List (List (List ℕ)))) (i : ℕ) (tile : List (List (List ℕ))) (before count more : ℕ) → i < length tiles → tile ≡ slice_index_or tiles i tile
     → more ≡ count + length (concat (map concat tile)) → count + length (concat (parts_of (drop i tiles))) ≡ before + length (concat (parts_of tiles))

@@ -1,8 +1,10 @@
 -- What has been written of a file, step by step.
-use Rattle.std.proofs.Common.{◌≡◌, ◌∙◌, ◌<◌, ◌≤◌, ◌+◌, ℕ, List, [], ◌∷◌, ◌++◌, length, refl, ap, sym, subst, arith, inl, inr, append_assoc, append-nil, length-append}
+use Rattle.std.proofs.Common.{◌≡◌, ◌∙◌, ◌<◌, ◌≤◌, ◌+◌, ℕ, List, [], ◌∷◌, ◌++◌, length, refl, ap, sym, subst, arith, inl, inr, append_assoc, append-nil, length-append, Ok, Err, IsErrOf}
 use Rattle.std.specs.List.{concat}
+use Rattle.std.proofs.lemmas.Bool.{cases_lt}
 use Rattle.jx_marker.specs.Segments.{spelling}
 use Rattle.jx_marker.specs.declared.Segment.TheVariants as segment
+use Rattle.jx_outside.specs.Causes.{HasCause, Rose}
 use Rattle.jx_outside.specs.Device.{Meaning, after_create, after_finish, after_write}
 use Rattle.jx_outside.specs.declared.refused.Refused.{Refused}
 use Rattle.jx_outside.specs.declared.refused.Refused.TheVariants as refused
@@ -245,3 +247,18 @@ file_uncreated p name halt.NoMemory old new fault same = subst (λ (m : Meaning)
 pub halt_fault : (h : Halt) (e : Refused) → h ≡ halt_of e → IsFault h
 halt_fault h refused.Failed is = rw is tt
 halt_fault h refused.NoMemory is = rw is tt
+
+-- ---- a call that wasn't refused
+pub unrisen : {T : Type 0} (before now : ℕ) (x : T) → HasCause before now (Ok x) → now ≡ before
+unrisen before now x cause = elim (cases_lt before now) [
+  | inl rose ↦ let e = cause.rose rose in absurd (cc)
+  | inr ge ↦ omega (arith, ge, cause.later)
+]
+
+-- ---- one that was
+pub refused_cause : {T U : Type 0} (before now : ℕ) (h : Halt) (e : Refused) → h ≡ halt_of e → HasCause {T = T} before now (Err e) → IsErrOf {T = U} (Err h) halt.Failed → Rose before now
+refused_cause before now h refused.Failed is cause failed = cause.failed refl
+refused_cause before now h refused.NoMemory is cause failed = absurd (cc)
+
+pub same_err : {T U : Type 0} (h k : Halt) → IsErrOf {T = T} (Err h) k → IsErrOf {T = U} (Err h) k
+same_err h k e = let is : h ≡ k = cc in ap (λ (x : Halt). Err x) is

@@ -17,7 +17,6 @@ use jx_outside::Files;
 pub const ENOUGH: usize = 65_536;
 
 /// Writes these bytes; after an error, a front of them.
-#[tactic(auto, using(crate::proofs::WriteLemmas::halt_fault))]
 pub fn put<F: Files>(files: &mut F, bytes: &[u8]) -> Result<(), Halt>
     requires { IsTrue (F.meaning files.old).making }
     ensures ok { OnOk result (F.meaning files.new ≡ after_write bytes.now (F.meaning files.old)) }
@@ -53,8 +52,23 @@ fn write_out<F: Files>(files: &mut F, buffer: &mut Vec<u8>) -> Result<(), Halt>
     }
 }
 
+/// Writes what stands in the buffer where it has enough; after an error, a front of it was written.
+fn write_full<F: Files>(files: &mut F, buffer: &mut Vec<u8>) -> Result<(), Halt>
+    requires { IsTrue (F.meaning files.old).making }
+    ensures ok { OnOk result (HasWritten (F.meaning files.old) (F.meaning files.new) buffer.old.items buffer.new.items) }
+    ensures front { SomeFront (F.meaning files.old) (F.meaning files.new) buffer.old.items }
+    ensures fault { IfErr result (λ h. IsFault h) }
+    ensures cause { IsErrOf result Halt.Failed → Rose (F.write_faults files.old) (F.write_faults files.new) }
+    ensures same { OnOk result (F.write_faults files.new ≡ F.write_faults files.old) }
+    ensures other { F.read_faults files.new ≡ F.read_faults files.old }
+{
+    if buffer.len() >= ENOUGH {
+        return write_out(files, buffer);
+    }
+    Ok(())
+}
+
 /// Puts a piece behind what stands in the buffer, which is written where it has enough.
-#[tactic(auto, using(crate::proofs::PartLemmas::nothing_left, crate::proofs::PartLemmas::nothing_gone, crate::proofs::ProgressLemmas::no_front))]
 fn put_piece<F: Files>(
     files: &mut F,
     tile: &Packed<'_, '_>,
@@ -72,11 +86,35 @@ fn put_piece<F: Files>(
     ensures same { OnOk result (F.write_faults files.new ≡ F.write_faults files.old) }
     ensures other { F.read_faults files.new ≡ F.read_faults files.old }
 {
-    if tile.put(part, piece, buffer).is_err() {
-        return Err(Halt::NoMemory);
+    match tile.put(part, piece, buffer) {
+        Ok(()) => write_full(files, buffer),
+        Err(_) => Err(Halt::NoMemory),
     }
-    if buffer.len() >= ENOUGH {
-        return write_out(files, buffer);
+}
+
+/// Puts the pieces of a tile-part into the buffer, which is empty before, and writes it where it has enough; after an error, a front of
+/// them was written.
+fn put_pieces<F: Files>(
+    files: &mut F,
+    tile: &Packed<'_, '_>,
+    part: usize,
+    buffer: &mut Vec<u8>,
+) -> Result<(), Halt>
+    requires making { IsTrue (F.meaning files.old).making }
+    requires part { part < length tile.now }
+    requires empty { buffer.old.items ≡ [] }
+    ensures ok { OnOk result (HasWritten (F.meaning files.old) (F.meaning files.new) (concat (slice_index_or tile.now part [])) buffer.new.items) }
+    ensures front { SomeFront (F.meaning files.old) (F.meaning files.new) (concat (slice_index_or tile.now part [])) }
+    ensures fault { IfErr result (λ h. IsFault h) }
+    ensures cause { IsErrOf result Halt.Failed → Rose (F.write_faults files.old) (F.write_faults files.new) }
+    ensures same { OnOk result (F.write_faults files.new ≡ F.write_faults files.old) }
+    ensures other { F.read_faults files.new ≡ F.read_faults files.old }
+{
+    for piece in 0..tile.pieces(part) {
+        match put_piece(files, tile, part, piece, buffer) {
+            Ok(()) => {}
+            Err(halt) => return Err(halt),
+        }
     }
     Ok(())
 }
@@ -102,11 +140,9 @@ fn put_part<F: Files>(
     if let Some(bytes) = tile.bytes(part) {
         return put(files, bytes);
     }
-    for piece in 0..tile.pieces(part) {
-        match put_piece(files, tile, part, piece, buffer) {
-            Ok(()) => {}
-            Err(halt) => return Err(halt),
-        }
+    match put_pieces(files, tile, part, buffer) {
+        Ok(()) => {}
+        Err(halt) => return Err(halt),
     }
     write_out(files, buffer)
 }

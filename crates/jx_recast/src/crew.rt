@@ -1,6 +1,6 @@
 //! By whom the code-blocks of a run are made, and how.
 
-ghost use Rattle.std.specs.Prelude.{◌≡◌, ◌<◌, ◌≤◌, ◌+◌, ◌^◌, ◌↔◌, None, true, is_some, length, map, All, IfOk, IfSome};
+ghost use Rattle.std.specs.Prelude.{◌≡◌, ◌<◌, ◌≤◌, ◌+◌, ◌^◌, ◌↔◌, [], None, true, is_some, length, map, All, IfOk, IfSome, OnOk};
 ghost use Rattle.std.specs.List.{list_any, sum};
 ghost use Rattle.jx_base.specs.Pieces.{bytes_in, value_of};
 ghost use Rattle.jx_block.specs.Jobs.{IsAsked};
@@ -26,7 +26,7 @@ const MOST_BYTES: usize = 268_435_456;
 
 /// What workers are made with: the threads' and waiting's handle, the gate that is told of each block, and how many there are, inside
 /// which windows.
-#[derive_where(Clone, Copy)]
+#[derive(Drop)]
 pub struct Crew<'a, R, G> {
     pub rt: &'a R,
     pub gate: &'a G,
@@ -95,17 +95,31 @@ fn entry_of<'a>(alloc: Global, job: &'a Job<'a>) -> Result<Entry<Recoded<'a>>, N
     })
 }
 
+/// Puts what is made of jobs one after another, on this thread, into an empty list.
+#[tactic(auto, using(crate::proofs::TapedLemmas::alone_all))]
+fn put_alone<'a>(
+    alloc: Global,
+    jobs: &'a [Job<'a>],
+    entries: &mut Vec<Entry<Recoded<'a>>>,
+) -> Result<(), NoMemory>
+    requires asked { All (λ j. IsAsked j.block.now j.style j.ends) jobs.now }
+    requires empty { entries.old.items ≡ [] }
+    ensures { OnOk result (AreMadeAlone jobs.entry.now entries.new.items) }
+{
+    for job in jobs {
+        let entry = entry_of(alloc, job)?;
+        entries.push(entry)?;
+    }
+    Ok(())
+}
+
 /// What is made of jobs one after another, on this thread.
-#[tactic(auto, using(crate::proofs::TapedLemmas::alone_none, crate::proofs::TapedLemmas::alone_next, crate::proofs::TapedLemmas::alone_all))]
 fn made_alone<'a>(alloc: Global, jobs: &'a [Job<'a>]) -> Result<Vec<Entry<Recoded<'a>>>, NoMemory>
     requires { All (λ j. IsAsked j.block.now j.style j.ends) jobs.now }
     ensures { IfOk result (λ entries. AreMadeAlone jobs.entry.now entries.items) }
 {
     let mut entries = Vec::new(alloc);
-    for job in jobs {
-        let entry = entry_of(alloc, job)?;
-        entries.push(entry)?;
-    }
+    put_alone(alloc, jobs, &mut entries)?;
     Ok(entries)
 }
 
@@ -152,9 +166,7 @@ pub fn made_blocks<'a, R: Threads + Wait + Sync, G: Gate + Sync>(
     ensures alone { IfOk result (λ entries. AreUnshared jobs.entry.now → AreMadeAlone jobs.entry.now entries.items) }
 {
     if is_anew(jobs) && is_light(jobs) {
-        let made = made_by_workers(crew, alloc, jobs, first)?;
-        return Ok(made);
+        return made_by_workers(crew, alloc, jobs, first);
     }
-    let entries = made_alone(alloc, jobs)?;
-    Ok(entries)
+    made_alone(alloc, jobs)
 }

@@ -9,7 +9,7 @@ ghost use Rattle.jx_stream.specs.First.{tile_number};
 ghost use Rattle.jx_assemble.specs.Tile.{first_block, main_bytes};
 ghost use Rattle.jx_words.specs.Words.{MayBeWork};
 ghost use Rattle.jx_recast.specs.Filed.{IsFileHalted, IsFileMade};
-ghost use Rattle.jx_recast.specs.MadeRounds.{entry_of};
+ghost use Rattle.jx_recast.specs.MadeRounds.{entry_of, parts_of};
 ghost use Rattle.jx_recast.specs.Progress.{SomeFront};
 ghost use Rattle.jx_recast.specs.Rounds.{BeginsRound, EndsRound, HasFront, HasRounds, HasTape, HasWhole, IsFault, IsHalted, IsPlace, IsUnwritten};
 ghost use Rattle.jx_recast.specs.Tapes.{IsTapeOf};
@@ -19,7 +19,8 @@ use crate::buffer::{ENOUGH, count_bytes, put, put_tiles};
 use crate::crew::Crew;
 use crate::halt::{Halt, halt_of};
 use crate::making::Making;
-use crate::rounds::{made_round, packed_tiles};
+use crate::packed::Packed;
+use crate::rounds::{Round, made_round, packed_tiles};
 use jx_assemble::{main_header, main_view};
 use jx_block::Recoded;
 use jx_outside::{Files, Gate};
@@ -60,8 +61,48 @@ fn put_entries(tape: &mut Vec<TapeEntry>, entries: &[Entry<Recoded<'_>>])
     }
 }
 
+/// Writes the tiles of a round, and puts its entries on the tape once they are written.
+fn put_round<F: Files>(
+    files: &mut F,
+    mark: Mark,
+    round: &Round<'_>,
+    tiles: &[Packed<'_, '_>],
+    tape: &mut Vec<TapeEntry>,
+    buffer: &mut Vec<u8>,
+) -> Result<Mark, Halt>
+    requires making { IsTrue (F.meaning files.old).making }
+    requires buffer { buffer.old.items ≡ [] }
+    ensures ok { IfOk result (λ next. (next.tile ≡ round.now.extent.tile) × (next.block ≡ round.now.extent.block) × (next.bytes ≡ mark.bytes + length (concat (parts_of tiles.now)))
+        × (F.meaning files.new ≡ after_write (concat (parts_of tiles.now)) (F.meaning files.old)) × (tape.new.items ≡ tape.old.items ++ map entry_of round.now.entries.items)) }
+    ensures kept { OnErr result (tape.new.items ≡ tape.old.items) }
+    ensures buffer { OnOk result (buffer.new.items ≡ []) }
+    ensures front { SomeFront (F.meaning files.old) (F.meaning files.new) (concat (parts_of tiles.now)) }
+    ensures fault { IfErr result (λ h. IsFault h) }
+    ensures cause { IsErrOf result Halt.Failed → Rose (F.write_faults files.old) (F.write_faults files.new) }
+    ensures same { OnOk result (F.write_faults files.new ≡ F.write_faults files.old) }
+    ensures making { OnOk result (IsTrue (F.meaning files.new).making) }
+    ensures other { F.read_faults files.new ≡ F.read_faults files.old }
+{
+    let Some(bytes) = count_bytes(mark.bytes, tiles) else {
+        return Err(Halt::NoMemory);
+    };
+    if tape.reserve(round.entries.len()).is_err() {
+        return Err(Halt::NoMemory);
+    }
+    match put_tiles(files, tiles, buffer) {
+        Ok(()) => {
+            put_entries(tape, &round.entries);
+            Ok(Mark {
+                tile: round.extent.tile,
+                block: round.extent.block,
+                bytes,
+            })
+        }
+        Err(halt) => Err(halt),
+    }
+}
+
 /// Writes the round that begins at a tile, and puts its entries on the tape once it is written.
-#[tactic(auto, using(crate::proofs::WriteLemmas::cut_none, crate::proofs::WriteLemmas::unmade_unwritten))]
 fn write_round<R: Threads + Wait + Sync, G: Gate + Sync, F: Files>(
     crew: &Crew<'_, R, G>,
     alloc: Global,
@@ -98,27 +139,10 @@ fn write_round<R: Threads + Wait + Sync, G: Gate + Sync, F: Files>(
         Ok(tiles) => tiles,
         Err(halt) => return Err(halt),
     };
-    let Some(bytes) = count_bytes(mark.bytes, &tiles) else {
-        return Err(Halt::NoMemory);
-    };
-    if tape.reserve(round.entries.len()).is_err() {
-        return Err(Halt::NoMemory);
-    }
-    match put_tiles(files, &tiles, buffer) {
-        Ok(()) => {
-            put_entries(tape, &round.entries);
-            Ok(Mark {
-                tile: round.extent.tile,
-                block: round.extent.block,
-                bytes,
-            })
-        }
-        Err(halt) => Err(halt),
-    }
+    put_round(files, mark, &round, &tiles, tape, buffer)
 }
 
 /// Writes all rounds after `header` bytes: how many there are then.
-#[tactic(auto, using(crate::proofs::WriteLemmas::rounds_none, crate::proofs::WriteLemmas::rounds_then, crate::proofs::WriteLemmas::rounds_all, crate::proofs::WriteLemmas::begins_at, crate::proofs::WriteLemmas::first_place, crate::proofs::WriteLemmas::first_ends))]
 fn write_tiles<R: Threads + Wait + Sync, G: Gate + Sync, F: Files>(
     crew: &Crew<'_, R, G>,
     alloc: Global,
@@ -157,7 +181,6 @@ fn write_tiles<R: Threads + Wait + Sync, G: Gate + Sync, F: Files>(
 }
 
 /// Writes the main header and all rounds.
-#[tactic(auto, using(crate::proofs::WriteLemmas::header_cut, crate::proofs::WriteLemmas::front_after, crate::proofs::WriteLemmas::halted_after, crate::proofs::TapedLemmas::tape_none))]
 fn write_rounds<R: Threads + Wait + Sync, G: Gate + Sync, F: Files>(
     crew: &Crew<'_, R, G>,
     alloc: Global,
@@ -188,7 +211,6 @@ fn write_rounds<R: Threads + Wait + Sync, G: Gate + Sync, F: Files>(
 }
 
 /// Writes EOC after `before` bytes, and finishes the file.
-#[tactic(auto, using(crate::proofs::WriteLemmas::eoc_cut, crate::proofs::WriteLemmas::whole_written, crate::proofs::WriteLemmas::whole_unfinished, crate::proofs::WriteLemmas::uncounted))]
 fn write_end<F: Files>(files: &mut F, before: usize) -> Result<usize, Halt>
     requires making { IsTrue (F.meaning files.old).making }
     ensures ok { IfOk result (λ bytes. (p : Plan) (created : Meaning) → HasFront p (tile_number p.stream.siz) before created (F.meaning files.old) → HasWhole p bytes created (F.meaning files.new)) }
@@ -237,13 +259,42 @@ fn write_created<R: Threads + Wait + Sync, G: Gate + Sync, F: Files>(
     }
 }
 
+/// Creates a file under a name, and writes it to its end.
+fn write_new<R: Threads + Wait + Sync, G: Gate + Sync, F: Files>(
+    crew: &Crew<'_, R, G>,
+    alloc: Global,
+    files: &mut F,
+    to: &str,
+    making: &Making<'_, '_>,
+    header: &[u8],
+    tape: &mut Vec<TapeEntry>,
+) -> Result<usize, Halt>
+    requires creates { F.can_create files.old to.now }
+    requires header { header.now ≡ main_bytes (headers_of making.now) }
+    requires work { MayBeWork crew.now.work }
+    requires empty { tape.old.items ≡ [] }
+    ensures ok { IfOk result (λ bytes. IsFileMade making.now to.now bytes (F.meaning files.old) (F.meaning files.new)) }
+    ensures err { IfErr result (λ h. IsFileHalted making.now to.now h (F.meaning files.old) (F.meaning files.new)) }
+    ensures tape { IsTapeOf crew.now.work making.now.blocks tape.new.items }
+    ensures whole { OnOk result (length tape.new.items ≡ length making.now.blocks) }
+    ensures cause { IsErrOf result Halt.Failed → Rose (F.write_faults files.old) (F.write_faults files.new) }
+    ensures other { F.read_faults files.new ≡ F.read_faults files.old }
+{
+    let Ok(mut buffer) = Vec::with_capacity(alloc, ENOUGH) else {
+        return Err(Halt::NoMemory);
+    };
+    match files.create(to) {
+        Ok(()) => write_created(crew, alloc, files, making, header, tape, &mut buffer),
+        Err(refused) => Err(halt_of(refused)),
+    }
+}
+
 /// Writes the file of a plan under a name, and gives how many bytes it has. `tape` gets the entries of each round's code-blocks once the
 /// round is written.
 ///
 /// The main header, each tile-part and EOC begin with a write of their own, and a tile-part of 65,536 bytes or more may come in several.
 /// The code-blocks of a round are made, and its tile-parts are packed, before a byte of it is written. After an `Err` nothing was created, or what was written is a front of the file; after `Bad` and `TooLong` it is just
 /// the main header and the rounds before that of the tile.
-#[tactic(auto, using(crate::proofs::WriteLemmas::file_made, crate::proofs::WriteLemmas::file_halted, crate::proofs::WriteLemmas::file_uncreated, crate::proofs::WriteLemmas::halt_fault, crate::proofs::TapedLemmas::tape_none))]
 pub fn write_file<R: Threads + Wait + Sync, G: Gate + Sync, F: Files>(
     crew: &Crew<'_, R, G>,
     alloc: Global,
@@ -269,12 +320,6 @@ pub fn write_file<R: Threads + Wait + Sync, G: Gate + Sync, F: Files>(
     let Ok(written) = main_view(alloc, plan) else {
         return Err(Halt::NoMemory);
     };
-    let Ok(mut buffer) = Vec::with_capacity(alloc, ENOUGH) else {
-        return Err(Halt::NoMemory);
-    };
     let making = Making::new(plan, &written);
-    match files.create(to) {
-        Ok(()) => write_created(crew, alloc, files, &making, &header, tape, &mut buffer),
-        Err(refused) => Err(halt_of(refused)),
-    }
+    write_new(crew, alloc, files, to, &making, &header, tape)
 }

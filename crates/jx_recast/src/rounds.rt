@@ -1,11 +1,11 @@
 //! Rounds of tiles: consecutive ones, up to the first at which a round has 4,096 code-blocks, or up to the last tile.
 
-ghost use Rattle.std.specs.Prelude.{◌≡◌, ◌<◌, ◌≤◌, ◌+◌, ◌^◌, length, map, IfOk, IfErr};
+ghost use Rattle.std.specs.Prelude.{◌≡◌, ◌<◌, ◌≤◌, ◌+◌, ◌^◌, ℕ, [], length, map, IfOk, IfErr, OnOk};
 ghost use Rattle.jx_stream.specs.First.{tile_number};
-ghost use Rattle.jx_assemble.specs.Tile.{first_block};
+ghost use Rattle.jx_assemble.specs.Tile.{blocks_in, first_block};
 ghost use Rattle.jx_words.specs.Words.{MayBeWork};
 ghost use Rattle.jx_recast.specs.MadeRounds.{AreOfBlocks, IsExtent, TapesOn, entry_of, parts_of};
-ghost use Rattle.jx_recast.specs.Rounds.{BeginsRound, EndsRound, IsPlace, IsUnmade, LeadOn};
+ghost use Rattle.jx_recast.specs.Rounds.{BeginsRound, EndsRound, IsPlace, IsUnmade, IsUnmadeTile, LeadOn};
 
 use crate::crew::{Crew, made_blocks};
 use crate::halt::Halt;
@@ -21,13 +21,6 @@ use std::sync::Wait;
 use std::thread::Threads;
 
 const MOST_BLOCKS: u32 = 4096;
-
-/// How many code-blocks each of some tiles has, and all of them.
-#[derive(Drop)]
-struct Counts {
-    each: Vec<u32>,
-    all: u32,
-}
 
 /// How many code-blocks each tile of a round has, and all of them; the tile after it, and the number of that tile's first code-block.
 #[derive(Drop)]
@@ -45,23 +38,23 @@ pub struct Round<'a> {
     pub entries: Vec<Entry<Recoded<'a>>>,
 }
 
-/// The code-blocks of the round that begins at a tile.
-fn counts_from(alloc: Global, making: &Making<'_, '_>, tile: u16) -> Result<Counts, NoMemory>
+/// Puts into an empty list how many code-blocks each tile of the round has that begins at a tile: how many all of them have.
+fn put_counts(making: &Making<'_, '_>, tile: u16, each: &mut Vec<u32>) -> Result<u32, NoMemory>
     requires tile { tile < tile_number making.now.stream.siz }
     requires begins { BeginsRound making.now tile }
-    ensures { IfOk result (λ c. IsExtent making.now tile c.each.items c.all) }
+    requires empty { each.old.items ≡ [] }
+    ensures { IfOk result (λ all. IsExtent making.now tile each.new.items all) }
 {
-    let mut each = Vec::new(alloc);
     let mut all = 0;
     for at in tile..making.tile_count() {
         let count = making.blocks_in(at);
         each.push(count)?;
         all += count;
         if all >= MOST_BLOCKS {
-            return Ok(Counts { each, all });
+            return Ok(all);
         }
     }
-    Ok(Counts { each, all })
+    Ok(all)
 }
 
 /// The round that begins at a tile, of which `block` is the number of the first code-block.
@@ -81,10 +74,11 @@ fn extent_of(
     ensures few { IfOk result (λ e. e.block ≤ 2 ^ 20) }
 {
     let _ = making.jobs();
-    let Counts { each, all } = counts_from(alloc, making, tile)?;
-    let next = tile + each.len() as u16;
+    let mut counts = Vec::new(alloc);
+    let all = put_counts(making, tile, &mut counts)?;
+    let next = tile + counts.len() as u16;
     Ok(Extent {
-        counts: each,
+        counts,
         blocks: all,
         tile: next,
         block: block + all,
@@ -106,8 +100,61 @@ fn round_blocks<'a, R: Threads + Wait + Sync, G: Gate + Sync>(
     ensures of { IfOk result (λ entries. AreOfBlocks making.now first count entries.items) }
 {
     let jobs = making.jobs_from(first, count);
-    let entries = made_blocks(crew, alloc, jobs, first)?;
-    Ok(entries)
+    made_blocks(crew, alloc, jobs, first)
+}
+
+/// Puts a tile that is ready to be written behind others, of whose code-blocks these are the entries.
+fn push_packed<'a, 'b>(
+    alloc: Global,
+    making: &Making<'a, '_>,
+    tile: u16,
+    entries: &'a [Entry<Recoded<'b>>],
+    alone: bool,
+    tiles: &mut Vec<Packed<'a, 'b>>,
+) -> Result<(), Halt>
+    requires tile { tile < tile_number making.now.stream.siz }
+    requires entries { AreOfBlocks making.now (first_block making.now tile) (blocks_in making.now tile) entries.now }
+    ensures lead { OnOk result ((first : ℕ) → LeadOn making.now first tile (parts_of tiles.old.items) → LeadOn making.now first (tile + 1) (parts_of tiles.new.items)) }
+    ensures unmade { IfErr result (λ h. IsUnmadeTile making.now tile h) }
+{
+    let out = match packed_tile(alloc, making, tile, entries, alone) {
+        Ok(out) => out,
+        Err(halt) => return Err(halt),
+    };
+    if tiles.push(out).is_err() {
+        return Err(Halt::NoMemory);
+    }
+    Ok(())
+}
+
+/// Puts the tiles of a round that begins at a tile into an empty list, of whose code-blocks these are the entries.
+fn push_tiles<'a, 'b>(
+    alloc: Global,
+    making: &Making<'a, '_>,
+    tile: u16,
+    extent: &Extent,
+    entries: &'a [Entry<Recoded<'b>>],
+    tiles: &mut Vec<Packed<'a, 'b>>,
+) -> Result<(), Halt>
+    requires extent { IsExtent making.now tile extent.now.counts.items extent.now.blocks }
+    requires tile { extent.now.tile ≡ tile + length extent.now.counts.items }
+    requires few { extent.now.blocks ≤ 2 ^ 20 }
+    requires entries { AreOfBlocks making.now (first_block making.now tile) extent.now.blocks entries.now }
+    requires empty { tiles.old.items ≡ [] }
+    ensures parts { OnOk result (LeadOn making.now tile extent.now.tile (parts_of tiles.new.items)) }
+    ensures unmade { IfErr result (λ h. IsUnmade making.now tile h) }
+{
+    let alone = extent.counts.len() == 1;
+    let mut from = 0;
+    for at in tile..extent.tile {
+        let to = from + extent.counts[(at - tile) as usize] as usize;
+        match push_packed(alloc, making, at, &entries[from..to], alone, tiles) {
+            Ok(()) => {}
+            Err(halt) => return Err(halt),
+        }
+        from = to;
+    }
+    Ok(())
 }
 
 /// The tiles of a round that begins at a tile, of whose code-blocks these are the entries: each is ready to be written.
@@ -125,21 +172,11 @@ pub fn packed_tiles<'a, 'b>(
     ensures parts { IfOk result (λ tiles. LeadOn making.now tile extent.now.tile (parts_of tiles.items)) }
     ensures unmade { IfErr result (λ h. IsUnmade making.now tile h) }
 {
-    let alone = extent.counts.len() == 1;
     let mut tiles = Vec::new(alloc);
-    let mut from = 0;
-    for at in tile..extent.tile {
-        let to = from + extent.counts[(at - tile) as usize] as usize;
-        let out = match packed_tile(alloc, making, at, &entries[from..to], alone) {
-            Ok(out) => out,
-            Err(halt) => return Err(halt),
-        };
-        if tiles.push(out).is_err() {
-            return Err(Halt::NoMemory);
-        }
-        from = to;
+    match push_tiles(alloc, making, tile, extent, entries, &mut tiles) {
+        Ok(()) => Ok(tiles),
+        Err(halt) => Err(halt),
     }
-    Ok(tiles)
 }
 
 /// The round that begins at a tile, of which `block` is the number of the first code-block.
@@ -164,6 +201,8 @@ pub fn made_round<'a, R: Threads + Wait + Sync, G: Gate + Sync>(
     ensures tape { IfOk result (λ r. TapesOn making.now crew.now.work block r.extent.block (map entry_of r.entries.items)) }
 {
     let extent = extent_of(alloc, making, tile, block)?;
-    let entries = round_blocks(crew, alloc, making, block, extent.blocks)?;
-    Ok(Round { extent, entries })
+    match round_blocks(crew, alloc, making, block, extent.blocks) {
+        Ok(entries) => Ok(Round { extent, entries }),
+        Err(refused) => Err(refused),
+    }
 }

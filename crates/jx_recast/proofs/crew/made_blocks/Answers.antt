@@ -1,9 +1,11 @@
 use Rattle.std.proofs.lemmas.Option.{slice_get-get_or}
-use Rattle.jx_recast.proofs.TapedLemmas.{alone_is_tape}
+use Rattle.std.proofs.lemmas.Result.{IfOk-weaker}
+use Rattle.jx_recast.proofs.TapedLemmas.{alone_is_tape, shared_none}
 use Rattle.jx_recast.proofs.crew.made_blocks.Goals as goal
 
 pub made_alone-requires : goal.made_alone-requires
 made_alone-requires g c = λ k d lt. (c.requires.jobs k _ (slice_get-get_or c.args.jobs.now k d lt)).asked
 
 pub returns-clause-tape : goal.returns-clause-tape
-returns-clause-tape g c = alone_is_tape c.args.jobs.now c.args.first c.args.crew.now.work c.in_ok-entries.entries.items c.requires.jobs c.requires.work c.in_ok-entries.ensures
+returns-clause-tape g c =
+    IfOk-weaker c.made_alone.result _ _ (λ entries alone. alone_is_tape c.args.jobs.now c.args.first c.args.crew.now.work entries.items c.requires.jobs c.requires.work alone) c.made_alone.ensures

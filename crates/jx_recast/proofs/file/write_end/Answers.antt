@@ -1,6 +1,9 @@
 use Rattle.std.proofs.Common.{rules, ◌≡◌, ◌∙◌, ◌+◌}
-use Rattle.jx_recast.proofs.WriteLemmas.{eoc_cut, whole_unfinished, whole_written}
+use Rattle.jx_recast.proofs.WriteLemmas.{eoc_cut, refused_cause, uncounted, whole_unfinished, whole_written}
 use Rattle.jx_recast.proofs.file.write_end.Goals as goal
+
+pub returns-in_default-clause-err : goal.returns-in_default-clause-err
+returns-in_default-clause-err g c = λ p created front. uncounted p c.args.before created (g.F.Files.meaning c.args.files.now) front
 
 pub returns-in-Err-clause-err : goal.returns-in-Err-clause-err
 returns-in-Err-clause-err g c =
@@ -16,3 +19,6 @@ pub returns-in-Err-finish-clause-err : goal.returns-in-Err-finish-clause-err
 returns-in-Err-finish-clause-err g c =
     λ p created front. whole_unfinished p c.args.before c.halt_of.result c.in-Err-finish.refused created (g.F.Files.meaning c.args.files.now) (g.F.Files.meaning c.finish.new.self) front c.halt_of.ensures
     (c.in-Err-finish.ensures.err ∙ c.in-Ok.ensures.ok)
+
+pub returns-in-Err-finish-clause-cause : goal.returns-in-Err-finish-clause-cause
+returns-in-Err-finish-clause-cause g c = rw (← c.in-Ok.ensures.same) (refused_cause _ _ c.halt_of.result c.in-Err-finish.refused c.halt_of.ensures c.in-Err-finish.ensures.cause)

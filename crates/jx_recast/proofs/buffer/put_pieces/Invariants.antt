@@ -1,7 +1,7 @@
 use Rattle.std.proofs.Common.{◌≡◌, [], ◌++◌, IsTrue, drop, slice_index_or}
 use Rattle.std.specs.List.{concat}
 use Rattle.jx_recast.specs.Progress.{HasWritten}
-use Rattle.jx_recast.proofs.buffer.put_part.Given as goal
+use Rattle.jx_recast.proofs.buffer.put_pieces.Given as goal
 
 abbrev pub invariant-loop-piece : goal.invariant-loop-piece
 invariant-loop-piece g l = record {

@@ -1,7 +1,7 @@
 use Rattle.std.proofs.Common.{◌≡◌, ◌+◌, ◌<◌, length}
 use Rattle.jx_recast.specs.MadeRounds.{AreOfRound}
 use Rattle.jx_recast.specs.Rounds.{IsInRound}
-use Rattle.jx_recast.proofs.rounds.counts_from.Given as goal
+use Rattle.jx_recast.proofs.rounds.put_counts.Given as goal
 
 abbrev pub invariant-loop-at : goal.invariant-loop-at
 invariant-loop-at l = record {

@@ -2,7 +2,7 @@ use Rattle.std.proofs.Common.{◌≡◌, ◌+◌}
 use Rattle.jx_assemble.specs.Tile.{first_block}
 use Rattle.jx_recast.specs.MadeRounds.{parts_of}
 use Rattle.jx_recast.specs.Rounds.{LeadOn}
-use Rattle.jx_recast.proofs.rounds.packed_tiles.Given as goal
+use Rattle.jx_recast.proofs.rounds.push_tiles.Given as goal
 
 abbrev pub invariant-loop-at : goal.invariant-loop-at
 invariant-loop-at l = record {

@@ -1,6 +1,9 @@
 use Rattle.std.proofs.Common.{rules, ◌≡◌, ◌<◌, ◌++◌, ◌∷◌, [], length}
-use Rattle.jx_recast.proofs.TapedLemmas.{alone_next}
-use Rattle.jx_recast.proofs.crew.made_alone.Goals as goal
+use Rattle.jx_recast.proofs.TapedLemmas.{alone_next, alone_none}
+use Rattle.jx_recast.proofs.crew.put_alone.Goals as goal
+
+pub loop-job-init : goal.loop-job-init
+loop-job-init c = rw c.requires.empty (alone_none c.args.jobs.now)
 
 pub loop-job-preserved : goal.loop-job-preserved
 loop-job-preserved c =

@@ -1,8 +1,11 @@
 use Rattle.std.proofs.Common.{rules, arith, ◌≡◌, ◌≤◌, ◌+◌, ◌-◌, [], ◌∷◌, ◌++◌, ap, drop, length, take}
 use Rattle.jx_recast.specs.MadeRounds.{parts_of}
 use Rattle.jx_recast.proofs.ExtentLemmas.{entries_at, tile_at}
-use Rattle.jx_recast.proofs.FrontLemmas.{lead_tile, unmade_of}
-use Rattle.jx_recast.proofs.rounds.packed_tiles.Goals as goal
+use Rattle.jx_recast.proofs.FrontLemmas.{lead_none, unmade_of}
+use Rattle.jx_recast.proofs.rounds.push_tiles.Goals as goal
+
+pub loop-at-init : goal.loop-at-init
+loop-at-init c = record { lead = rw c.requires.empty (lead_none c.args.making.now c.args.tile); from = omega arith }
 
 pub overflow_add-to : goal.overflow_add-to
 overflow_add-to c =
@@ -11,8 +14,8 @@ overflow_add-to c =
     let within : c.loop-at.from + c.index.result.now ≤ c.args.extent.now.blocks = own.within in
     omega (arith, within, c.requires.few)
 
-pub slice_bounds-packed_tile-end : goal.slice_bounds-packed_tile-end
-slice_bounds-packed_tile-end c =
+pub slice_bounds-push_packed-end : goal.slice_bounds-push_packed-end
+slice_bounds-push_packed-end c =
     let own = tile_at c.args.making.now c.args.tile c.loop-at.at c.args.extent.now.blocks c.index.result.now c.loop-at.from c.args.extent.now.counts.items c.requires.extent.of c.loop-at.auto.at
     (omega (arith, c.loop-at-test.true, c.requires.tile)) c.index.ensures c.loop-at.invariant.from in
     let within : c.loop-at.from + c.index.result.now ≤ length c.args.entries.now = omega (arith, own.within, c.requires.entries.count_is) in
@@ -25,8 +28,8 @@ offset_bounds-entries-from c =
     let within : c.loop-at.from + c.index.result.now ≤ c.args.extent.now.blocks = own.within in
     omega (arith, within, c.requires.few)
 
-pub packed_tile-requires-clause-entries : goal.packed_tile-requires-clause-entries
-packed_tile-requires-clause-entries c =
+pub push_packed-requires-clause-entries : goal.push_packed-requires-clause-entries
+push_packed-requires-clause-entries c =
     let own = tile_at c.args.making.now c.args.tile c.loop-at.at c.args.extent.now.blocks c.index.result.now c.loop-at.from c.args.extent.now.counts.items c.requires.extent.of c.loop-at.auto.at
     (omega (arith, c.loop-at-test.true, c.requires.tile)) c.index.ensures c.loop-at.invariant.from in
     let count : (c.loop-at.from + c.index.result.now) - c.loop-at.from ≡ c.index.result.now = omega arith in
@@ -43,9 +46,4 @@ pub loop-at-preserved : goal.loop-at-preserved
 loop-at-preserved c =
     let own = tile_at c.args.making.now c.args.tile c.loop-at.at c.args.extent.now.blocks c.index.result.now c.loop-at.from c.args.extent.now.counts.items c.requires.extent.of c.loop-at.auto.at
     (omega (arith, c.loop-at-test.true, c.requires.tile)) c.index.ensures c.loop-at.invariant.from in
-    let items : c.push.new.self.items ≡ c.loop-at.tiles.items ++ c.in-Ok.out ∷ [] = search rules in
-    record {
-      lead = lead_tile c.args.making.now c.args.tile c.loop-at.at (c.loop-at.at + 1) c.loop-at.tiles.items c.in-Ok.out c.push.new.self.items items c.loop-at.invariant.lead
-          c.in-Ok.ensures.parts;
-      from = own.next;
-    }
+    record { lead = c.in-Ok.ensures.lead c.args.tile c.loop-at.invariant.lead; from = own.next }

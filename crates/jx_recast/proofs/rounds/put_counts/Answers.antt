@@ -2,9 +2,17 @@ use Rattle.std.proofs.Common.{rules, arith, ◌≡◌, ◌<◌, ◌+◌, ◌++�
 use Rattle.jx_stream.specs.First.{tile_number}
 use Rattle.jx_assemble.specs.Tile.{blocks_in}
 use Rattle.jx_recast.specs.Rounds.{IsInRound}
-use Rattle.jx_recast.proofs.ExtentLemmas.{extent_full, of_next}
+use Rattle.jx_recast.proofs.ExtentLemmas.{extent_full, extent_last, of_next, of_none}
 use Rattle.jx_recast.proofs.FrontLemmas.{block_few, round_more}
-use Rattle.jx_recast.proofs.rounds.counts_from.Goals as goal
+use Rattle.jx_recast.proofs.rounds.put_counts.Goals as goal
+
+pub loop-at-init : goal.loop-at-init
+loop-at-init c = record {
+  of = rw c.requires.empty (of_none c.args.making.now c.args.tile c.requires.tile);
+  place = rw c.requires.empty (omega arith);
+  round = c.requires.begins;
+  few = omega arith;
+}
 
 pub overflow_add-all : goal.overflow_add-all
 overflow_add-all c =
@@ -31,3 +39,7 @@ loop-at-preserved c =
           (round_more c.args.making.now c.loop-at.at c.args.tile c.loop-at.all c.loop-at.invariant.round (omega (arith, count)));
       few = c.if-all-ge-MOST_BLOCKS.false;
     }
+
+pub returns : goal.returns
+returns c = extent_last c.args.making.now c.args.tile c.loop-at.all c.tile_count-at-end.result c.loop-at.each.items c.loop-at.invariant.of c.tile_count-at-end.ensures.count c.requires.tile
+    (omega (arith, c.loop-at.invariant.place, c.loop-at-test.false))
