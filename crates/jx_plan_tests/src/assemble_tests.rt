@@ -8,20 +8,19 @@ ghost use Rattle.jx_block.specs.declared.job.Job.{Job};
 ghost use Rattle.jx_block.specs.Jobs.{IsAsked};
 ghost use Rattle.jx_block.specs.Recoded.{WrittenBlock};
 ghost use Rattle.jx_stream.specs.First.{tile_number};
-ghost use Rattle.jx_plan.specs.Plan.{MayBePlanned};
+ghost use Rattle.jx_plan.specs.Plan.{MayBePlanned, headers_of};
 ghost use Rattle.jx_plan.specs.Wanted.{MayBeWanted};
 ghost use Rattle.jx_assemble.specs.Tile.{AreMade, AreValuesOf, block_written, made_in};
 
 use crate::checks::{check, equal};
+use crate::planned::{input, keeper};
 use jx_assemble::{AssembleFault, TileOut, assemble_tile, main_header, main_view, pack_tile};
 use jx_base::{Block, NoMemory};
 use jx_block::{Job, Recoded, recode};
-use jx_gather::gather;
-use jx_layers::{KeepLayers, LayerPlanner};
-use jx_plan::laws::gathered_may_be_planned;
-use jx_plan::{Options, OrderChoice, OutStream, PartChoice, PrecinctChoice, plan};
+use jx_layers::{LayerPlanner, tile_count};
+use jx_plan::{Marks, Options, OrderChoice, OutStream, PartChoice, PrecinctChoice, plan};
 use jx_store::{Claim, Entry, Named};
-use jx_stream::{Stream, read_stream};
+use jx_stream::{MainView, Stream};
 use std::alloc::{AllocError, Global};
 use std::test::Fail;
 
@@ -102,11 +101,26 @@ fn put_tile(
     requires values { AreValuesOf plan.now 0 (made_in values.now) }
 {
     let main = main_view(alloc, plan)?;
-    let out = match pack_tile(alloc, plan, &main, 0, values, most) {
-        Ok(out) => out,
-        Err(fault) => return Err(fault),
-    };
-    Ok(pieces_of(alloc, &out)?)
+    put_packed(alloc, plan, &main, values, most)
+}
+
+/// The same, with what is known of the main header.
+fn put_packed(
+    alloc: Global,
+    plan: &OutStream<'_>,
+    main: &MainView<'_>,
+    values: &[Entry<Recoded<'_>>],
+    most: u32,
+) -> Result<Vec<Vec<u8>>, AssembleFault>
+    requires main { main.now ≡ record { siz = (headers_of plan.now).siz; main = (headers_of plan.now).main } }
+    requires tile { 0 < tile_number plan.now.stream.siz }
+    requires made { AreMade values.now }
+    requires values { AreValuesOf plan.now 0 (made_in values.now) }
+{
+    match pack_tile(alloc, plan, main, 0, values, most) {
+        Ok(out) => Ok(pieces_of(alloc, &out)?),
+        Err(fault) => Err(fault),
+    }
 }
 
 /// The tile-parts of the one tile of a plan, or its pieces.
@@ -135,8 +149,45 @@ pub(crate) enum Form {
     Pieces,
 }
 
+/// The main header of a plan, and its one tile.
+#[derive(Drop)]
+pub(crate) struct Assembled {
+    pub main: Vec<u8>,
+    pub tile: Result<Vec<Vec<u8>>, AssembleFault>,
+}
+
+fn kept_in(alloc: Global, plan: &OutStream<'_>, most: u32, form: Form) -> Option<Assembled>
+    requires { tile_number plan.now.stream.siz ≡ 1 }
+{
+    let tile = only_tile(alloc, plan, most, form)?;
+    match main_header(alloc, plan) {
+        Ok(main) => Some(Assembled { main, tile }),
+        Err(_) => None,
+    }
+}
+
 /// The main header and the tile of a stream of one tile. The stream and the blocks come as references: a value can't be lent where it
 /// is made, since both lifetimes of the blocks are one.
+fn kept_by(
+    alloc: Global,
+    stream: &Stream,
+    blocks: &[Block<'_>],
+    options: &Options,
+    planner: &mut Box<dyn LayerPlanner>,
+    most: u32,
+    form: Form,
+) -> Option<Assembled>
+    requires may { MayBePlanned stream.now blocks.now }
+    requires wanted { MayBeWanted options.now }
+    requires one { tile_number stream.now.siz ≡ 1 }
+{
+    match plan(alloc, stream, blocks, options, Some(planner)) {
+        Ok(plan) => kept_in(alloc, &plan, most, form),
+        Err(_) => None,
+    }
+}
+
+/// The same of the headers and the blocks of a file.
 fn kept_of(
     alloc: Global,
     stream: &Stream,
@@ -144,23 +195,17 @@ fn kept_of(
     options: &Options,
     most: u32,
     form: Form,
-) -> Option<(Vec<u8>, Result<Vec<Vec<u8>>, AssembleFault>)>
+) -> Option<Assembled>
     requires may { MayBePlanned stream.now blocks.now }
     requires wanted { MayBeWanted options.now }
-    requires one { tile_number stream.now.siz ≡ 1 }
 {
-    let Ok(keep) = Box::new(alloc, KeepLayers::new()) else {
+    if tile_count(stream) != 1 {
         return None;
-    };
-    let mut planner: Box<dyn LayerPlanner> = keep;
-    let Ok(plan) = plan(alloc, stream, blocks, options, Some(&mut planner)) else {
-        return None;
-    };
-    let Ok(main) = main_header(alloc, &plan) else {
-        return None;
-    };
-    let tile = only_tile(alloc, &plan, most, form)?;
-    Some((main, tile))
+    }
+    match keeper(alloc) {
+        Ok(mut planner) => kept_by(alloc, stream, blocks, options, &mut planner, most, form),
+        Err(_) => None,
+    }
 }
 
 /// The same of a codestream.
@@ -170,44 +215,29 @@ pub(crate) fn kept(
     options: &Options,
     most: u32,
     form: Form,
-) -> Option<(Vec<u8>, Result<Vec<Vec<u8>>, AssembleFault>)>
+) -> Option<Assembled>
     requires { MayBeWanted options.now }
 {
-    if bytes.len() > 1 << 28 {
-        return None;
+    match input(alloc, bytes) {
+        Some(read) => kept_of(alloc, &read.0, &read.1, options, most, form),
+        None => None,
     }
-    let Ok(stream) = read_stream(alloc, bytes) else {
-        return None;
-    };
-    let Ok(blocks) = gather(alloc, bytes, &stream) else {
-        return None;
-    };
-    if stream.tiles.as_slice().len() != 1 {
-        return None;
-    }
-    gathered_may_be_planned();
-    kept_of(alloc, &stream, &blocks, options, most, form)
 }
 
 /// Order, precincts, style and layers are kept.
-pub(crate) fn with_marks(
-    alloc: Global,
-    parts: PartChoice,
-    sop: bool,
-    eph: bool,
-    plt: bool,
-) -> Result<Options, AllocError>
+pub(crate) fn with_marks(alloc: Global, marks: Marks) -> Result<Options, AllocError>
     ensures { IfOk result (λ options. MayBeWanted options) }
 {
+    let layers = String::from_str(alloc, "keep")?;
     Ok(Options {
         order: OrderChoice::Keep,
         precincts: PrecinctChoice::Keep,
         style: None,
-        layers: String::from_str(alloc, "keep")?,
-        parts,
-        sop,
-        eph,
-        plt,
+        layers,
+        parts: marks.parts,
+        sop: marks.sop,
+        eph: marks.eph,
+        plt: marks.plt,
     })
 }
 
@@ -218,44 +248,53 @@ const SMALL: [u8; 82] = [
     0, 0xFF, 0xD9,
 ];
 
-/// The main header, and the only tile-part of at most so many bytes: none where it is longer.
-fn smallest(alloc: Global, marked: bool, most: u32) -> Result<(Vec<u8>, Option<Vec<u8>>), Fail> {
-    let options = with_marks(alloc, PartChoice::None, marked, marked, marked)?;
-    let (main, tile) = kept(alloc, &SMALL, &options, most, Form::Parts).ok_or("no plan")?;
-    match tile {
-        Ok(mut parts) if parts.len() == 1 => Ok((main, parts.pop())),
-        Err(AssembleFault::TooLong) => Ok((main, None)),
-        _ => Err("no tile")?,
+/// What is kept of the smallest tile, with all marks or none, where a tile-part has at most so many bytes.
+fn smallest(alloc: Global, marked: bool, most: u32) -> Result<Assembled, Fail> {
+    let marks = Marks {
+        sop: marked,
+        eph: marked,
+        plt: marked,
+        parts: PartChoice::None,
+    };
+    let options = with_marks(alloc, marks)?;
+    Ok(kept(alloc, &SMALL, &options, most, Form::Parts).ok_or("no plan")?)
+}
+
+/// Whether the tile has this tile-part alone.
+fn is_part(kept: &Assembled, want: &[u8]) -> bool {
+    match &kept.tile {
+        Ok(parts) => parts.len() == 1 && parts[0].as_slice() == want,
+        Err(_) => false,
     }
 }
 
 /// The smallest tile has 15 bytes, or, with all marks, 29.
 #[test]
 fn smallest_tile(rt: HostRuntime) -> Result<(), Fail> {
-    let alloc = rt.alloc();
-    let (main, long) = smallest(alloc, false, 14)?;
-    equal(&rt, main.as_slice(), &SMALL[..65]);
-    check(&rt, long.is_none());
-    let (_, bare) = smallest(alloc, false, 15)?;
-    check(
-        &rt,
-        matches!(&bare, Some(part) if part.as_slice() == &SMALL[65..80]),
-    );
+    let bare = smallest(rt.alloc(), false, 15)?;
+    equal(&rt, bare.main.as_slice(), &SMALL[..65]);
+    check(&rt, is_part(&bare, &SMALL[65..80]));
     Ok(())
 }
 
 #[test]
+fn smallest_tile_too_long(rt: HostRuntime) -> Result<(), Fail> {
+    let long = smallest(rt.alloc(), false, 14)?;
+    equal(&rt, long.main.as_slice(), &SMALL[..65]);
+    check(&rt, matches!(&long.tile, Err(AssembleFault::TooLong)));
+    Ok(())
+}
+
+static MARKED: [u8; 29] = [
+    0xFF, 0x90, 0, 10, 0, 0, 0, 0, 0, 29, 0, 1, 0xFF, 0x58, 0, 4, 0, 9, 0xFF, 0x93, 0xFF, 0x91, 0,
+    4, 0, 0, 0, 0xFF, 0x92,
+];
+
+#[test]
 fn smallest_tile_with_marks(rt: HostRuntime) -> Result<(), Fail> {
-    let (main, part) = smallest(rt.alloc(), true, 29)?;
-    equal(&rt, main.len(), 65);
-    check(&rt, matches!(main.get(49), Some(6)));
-    let want = [
-        0xFF, 0x90, 0, 10, 0, 0, 0, 0, 0, 29, 0, 1, 0xFF, 0x58, 0, 4, 0, 9, 0xFF, 0x93, 0xFF, 0x91,
-        0, 4, 0, 0, 0, 0xFF, 0x92,
-    ];
-    check(
-        &rt,
-        matches!(&part, Some(part) if part.as_slice() == want.as_slice()),
-    );
+    let kept = smallest(rt.alloc(), true, 29)?;
+    equal(&rt, kept.main.len(), 65);
+    check(&rt, matches!(kept.main.get(49), Some(6)));
+    check(&rt, is_part(&kept, &MARKED));
     Ok(())
 }

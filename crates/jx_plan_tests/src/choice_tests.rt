@@ -6,7 +6,10 @@ ghost use Rattle.jx_plan.specs.Wanted.{MayBeStyle, MayBeWanted};
 use crate::checks::equal;
 use crate::hex::{bytes_of, put_hex};
 use crate::plan_tests::TILES;
-use crate::planned::{Seen, by_planner, fault_in, joiner, keeper, options_of, seen_in};
+use crate::planned::{
+    NO_MEMORY, Plan, by_options, by_planner, fault_in, has_fault, joiner, options_of, precincts_of,
+    seen_in,
+};
 use jx_base::Style;
 use jx_plan::{Options, OrderChoice, PartChoice, PlanFault, PrecinctChoice};
 use std::alloc::{AllocError, Global};
@@ -47,13 +50,11 @@ fn with_precincts(alloc: Global, bytes: &[u8], style: Option<Style>) -> Result<O
     requires { IfSome style MayBeStyle }
     ensures { IfOk result (λ options. MayBeWanted options) }
 {
-    let mut list = Vec::new(alloc);
-    list.extend_from_slice(bytes)?;
-    let mut layers = String::new(alloc);
-    layers.push_str("keep")?;
+    let precincts = precincts_of(alloc, bytes)?;
+    let layers = String::from_str(alloc, "keep")?;
     Ok(Options {
         order: OrderChoice::Keep,
-        precincts: PrecinctChoice::List(list),
+        precincts,
         style,
         layers,
         parts: PartChoice::None,
@@ -63,65 +64,75 @@ fn with_precincts(alloc: Global, bytes: &[u8], style: Option<Style>) -> Result<O
     })
 }
 
+// A row is a file, precincts that are asked, and the number and the place of the choice that can't be had.
+type Row = (&'static str, &'static [u8], Option<(u8, u32)>);
+
 // Wants this fault of the planner that keeps, and of a planner that has no rule for the words, with these precincts and this style;
 // of the latter, where none is wanted, that it doesn't serve.
-fn faults_are(
-    rt: &(impl Abort + AllocGlobal),
-    text: &str,
-    bytes: &[u8],
-    style: Option<Style>,
-    fault: Option<(u8, u32)>,
-) -> Result<(), Fail>
+fn faults_are(rt: &(impl Abort + AllocGlobal), row: &Row, style: Option<Style>) -> Result<(), Fail>
     requires { IfSome style MayBeStyle }
 {
-    let alloc = rt.alloc();
-    let file = bytes_of(alloc, text)?;
-    let options = with_precincts(alloc, bytes, style)?;
-    let unfit = match fault {
-        Some((number, place)) => Some(PlanFault::Choice { number, place }),
-        None => None,
-    };
-    let unserved = PlanFault::Choice {
-        number: 6,
-        place: 0,
-    };
-    equal(rt, keeps(alloc, &file, &options)?, unfit);
-    let ruleless = joins(alloc, &file, &options)?;
-    equal(rt, ruleless, Some(unfit.unwrap_or(unserved)));
+    let (text, bytes, fault) = row;
+    let (kept, ruleless) = faults_of(rt.alloc(), text, bytes, style)?;
+    let unfit = unfit(*fault);
+    equal(rt, kept, unfit);
+    equal(rt, ruleless, Some(unfit.unwrap_or(UNSERVED)));
     Ok(())
 }
 
-// Why the planner that keeps layers has no plan.
-fn keeps(alloc: Global, file: &[u8], options: &Options) -> Result<Option<PlanFault>, AllocError>
-    requires { MayBeWanted options.now }
+const UNSERVED: PlanFault = PlanFault::Choice {
+    number: 6,
+    place: 0,
+};
+
+fn unfit(fault: Option<(u8, u32)>) -> Option<PlanFault> {
+    match fault {
+        Some((number, place)) => Some(PlanFault::Choice { number, place }),
+        None => None,
+    }
+}
+
+// Why there is no plan by the planner that keeps, and by that of one layer.
+fn faults_of(
+    alloc: Global,
+    text: &str,
+    bytes: &[u8],
+    style: Option<Style>,
+) -> Result<(Option<PlanFault>, Option<PlanFault>), AllocError>
+    requires { IfSome style MayBeStyle }
 {
-    let mut planner = keeper(alloc)?;
-    Ok(fault_in(by_planner(alloc, file, options, &mut planner)))
+    let options = with_precincts(alloc, bytes, style)?;
+    let file = bytes_of(alloc, text)?;
+    let kept = fault_in(&by_options(alloc, &file, &options));
+    Ok((kept, joins(alloc, &file, &options)))
 }
 
 // Why the planner of one layer has none.
-fn joins(alloc: Global, file: &[u8], options: &Options) -> Result<Option<PlanFault>, AllocError>
+fn joins(alloc: Global, file: &[u8], options: &Options) -> Option<PlanFault>
     requires { MayBeWanted options.now }
 {
-    let mut planner = joiner(alloc)?;
-    Ok(fault_in(by_planner(alloc, file, options, &mut planner)))
+    match joiner(alloc) {
+        Ok(mut planner) => fault_in(&by_planner(alloc, file, options, &mut planner)),
+        Err(_) => NO_MEMORY,
+    }
 }
+
+static PRECINCTS: [Row; 8] = [
+    (LEVELS, &[], None),
+    (LEVELS, &[0x77], None),
+    (LEVELS, &[0x77, 0x70], Some((3, 0))),
+    (LEVELS, &[0x00], Some((3, 0))),
+    (LEVELS, &[0x70, 0x77], Some((2, 0))),
+    (LEVELS, &[0x55], Some((2, 0))),
+    (LEVELS, &[0x55, 0x66], Some((2, 1))),
+    (LEVEL, &[0x77, 0x07], Some((3, 1))),
+];
 
 // Choice 3 comes before 2, and both before 6.
 #[test]
 fn precincts_that_fit_and_others(rt: HostRuntime) -> Result<(), Fail> {
-    let rows: [(&str, &[u8], Option<(u8, u32)>); 8] = [
-        (LEVELS, &[], None),
-        (LEVELS, &[0x77], None),
-        (LEVELS, &[0x77, 0x70], Some((3, 0))),
-        (LEVELS, &[0x00], Some((3, 0))),
-        (LEVELS, &[0x70, 0x77], Some((2, 0))),
-        (LEVELS, &[0x55], Some((2, 0))),
-        (LEVELS, &[0x55, 0x66], Some((2, 1))),
-        (LEVEL, &[0x77, 0x07], Some((3, 1))),
-    ];
-    for (text, bytes, fault) in rows {
-        faults_are(&rt, text, bytes, None, fault)?;
+    for row in &PRECINCTS {
+        faults_are(&rt, row, None)?;
     }
     Ok(())
 }
@@ -135,20 +146,22 @@ fn causal_style(causal: bool) -> Style
     }
 }
 
+// Each with the causal bit, or with all but it.
+static STYLES: [(bool, Row); 7] = [
+    (true, (THREE, &[], Some((1, 0)))),
+    (true, (THREE, &[0x77, 0x70], Some((1, 0)))),
+    (false, (THREE, &[0x77, 0x70], Some((3, 0)))),
+    (false, (THREE, &[], None)),
+    (true, (FOUR, &[], None)),
+    (true, (TILES, &[], Some((1, 1)))),
+    (true, (LEVELS, &[], None)),
+];
+
 // Choice 1 comes before 3 and 6. The second tile's block has two passes, the first one's has one.
 #[test]
 fn causal_bits_within_a_plane(rt: HostRuntime) -> Result<(), Fail> {
-    let rows: [(&str, &[u8], bool, Option<(u8, u32)>); 7] = [
-        (THREE, &[], true, Some((1, 0))),
-        (THREE, &[0x77, 0x70], true, Some((1, 0))),
-        (THREE, &[0x77, 0x70], false, Some((3, 0))),
-        (THREE, &[], false, None),
-        (FOUR, &[], true, None),
-        (TILES, &[], true, Some((1, 1))),
-        (LEVELS, &[], true, None),
-    ];
-    for (text, bytes, causal, fault) in rows {
-        faults_are(&rt, text, bytes, Some(causal_style(causal)), fault)?;
+    for (causal, row) in &STYLES {
+        faults_are(&rt, row, Some(causal_style(*causal)))?;
     }
     Ok(())
 }
@@ -162,23 +175,28 @@ fn job_has(
 ) -> Result<(), Fail>
     requires { IfSome style MayBeStyle }
 {
-    let seen = seen_in(with_style(rt.alloc(), text, style)?)?;
-    equal(rt, seen.styles.as_slice(), [want].as_slice());
+    let seen = seen_in(with_style(rt.alloc(), text, style))?;
+    equal(rt, seen.jobs.styles.as_slice(), [want].as_slice());
     Ok(())
 }
 
 // The plan of a file, where a style is asked, or none.
-fn with_style(
-    alloc: Global,
-    text: &str,
-    style: Option<Style>,
-) -> Result<Option<Result<Seen, PlanFault>>, AllocError>
+fn with_style(alloc: Global, text: &str, style: Option<Style>) -> Plan
     requires { IfSome style MayBeStyle }
 {
-    let file = bytes_of(alloc, text)?;
-    let options = options_of(alloc, "keep", style)?;
-    let mut planner = keeper(alloc)?;
-    Ok(by_planner(alloc, &file, &options, &mut planner))
+    match options_of(alloc, "keep", style) {
+        Ok(options) => of_text(alloc, text, &options),
+        Err(_) => Err(NO_MEMORY),
+    }
+}
+
+fn of_text(alloc: Global, text: &str, options: &Options) -> Plan
+    requires { MayBeWanted options.now }
+{
+    match bytes_of(alloc, text) {
+        Ok(file) => by_options(alloc, &file, options),
+        Err(_) => Err(NO_MEMORY),
+    }
 }
 
 // The style is asked of a block that has another one; where all six bits are the same, or no style is asked, none is.
@@ -206,11 +224,10 @@ fn deep(alloc: Global) -> Result<Vec<u8>, AllocError> {
 }
 
 // Words for the planners, and a tile-part for each layer.
-fn by_layer(alloc: Global, words: &str) -> Result<Options, AllocError>
+fn layered(alloc: Global, words: &str) -> Result<Options, AllocError>
     ensures { IfOk result (λ options. MayBeWanted options) }
 {
-    let mut layers = String::new(alloc);
-    layers.push_str(words)?;
+    let layers = String::from_str(alloc, words)?;
     Ok(Options {
         order: OrderChoice::Order(1),
         precincts: PrecinctChoice::Max,
@@ -223,27 +240,37 @@ fn by_layer(alloc: Global, words: &str) -> Result<Options, AllocError>
     })
 }
 
+// The plan of the same file by the planner of these words, with a tile-part for each layer.
+fn by_layer(alloc: Global, words: &str) -> Plan {
+    match layered(alloc, words) {
+        Ok(options) => of_deep(alloc, &options),
+        Err(_) => Err(NO_MEMORY),
+    }
+}
+
+fn of_deep(alloc: Global, options: &Options) -> Plan
+    requires { MayBeWanted options.now }
+{
+    match deep(alloc) {
+        Ok(file) => by_options(alloc, &file, options),
+        Err(_) => Err(NO_MEMORY),
+    }
+}
+
 #[test]
 fn too_many_tile_parts(rt: HostRuntime) -> Result<(), Fail> {
-    let alloc = rt.alloc();
-    let file = deep(alloc)?;
     let parted = PlanFault::Choice {
         number: 5,
         place: 0,
     };
-    let options = by_layer(alloc, "keep")?;
-    equal(&rt, keeps(alloc, &file, &options)?, Some(parted));
+    has_fault(&rt, &by_layer(rt.alloc(), "keep"), parted);
     Ok(())
 }
 
 // One layer of the same file is one tile-part.
 #[test]
 fn one_tile_part(rt: HostRuntime) -> Result<(), Fail> {
-    let alloc = rt.alloc();
-    let file = deep(alloc)?;
-    let options = by_layer(alloc, "one")?;
-    let mut planner = joiner(alloc)?;
-    let seen = seen_in(by_planner(alloc, &file, &options, &mut planner))?;
+    let seen = seen_in(by_layer(rt.alloc(), "one"))?;
     equal(&rt, seen.layers, 1);
     Ok(())
 }

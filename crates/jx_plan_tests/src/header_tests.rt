@@ -5,12 +5,12 @@ ghost use Rattle.jx_plan.specs.Wanted.{MayBeStyle, MayBeWanted};
 
 use crate::checks::equal;
 use crate::hex::bytes_of;
-use crate::planned::{by_planner, seen_in};
+use crate::planned::{NO_MEMORY, Plan, Seen, by_planner, precincts_of, seen_in};
 use jx_base::Style;
 use jx_layers::{CutLayers, LayerPlanner};
-use jx_marker::Segment;
+use jx_marker::{Progression, Segment, Shape};
 use jx_plan::{Options, OrderChoice, PartChoice, PrecinctChoice};
-use jx_stream::Stream;
+use jx_stream::{Stream, Tile};
 use std::alloc::{AllocError, Global};
 use std::process::Abort;
 use std::test::Fail;
@@ -27,6 +27,17 @@ const FILE: &str = "
 
 // Three layers.
 const CUTS: &str = "cuts:1,2";
+
+/// What is shown of a header.
+#[derive(Clone, Copy)]
+enum What {
+    /// A letter for each segment, a comment's own.
+    Codes,
+    /// The bytes of the precincts of each COD and COC, one after another.
+    Precincts,
+    /// The style of each COD and COC.
+    Styles,
+}
 
 fn last(bytes: &[u8]) -> u8 {
     match bytes.last() {
@@ -45,13 +56,49 @@ fn code(segment: &Segment) -> u8 {
     }
 }
 
-// A letter for each segment, a comment's own.
-fn codes(alloc: Global, segments: &[Segment]) -> Result<Vec<u8>, AllocError> {
-    let mut list = Vec::new(alloc);
-    for segment in segments {
-        list.push(code(segment))?;
+fn shape_of(segment: &Segment) -> Option<&Shape> {
+    match segment {
+        Segment::Cod(cod) => Some(&cod.shape),
+        Segment::Coc { comp: _, shape } => Some(shape),
+        _ => None,
     }
-    Ok(list)
+}
+
+fn put_shape(bytes: &mut Vec<u8>, what: What, shape: &Shape) -> Result<(), AllocError> {
+    match what {
+        What::Precincts => bytes.extend_from_slice(shape.precincts.as_slice()),
+        _ => bytes.extend_from_slice(&[shape.style]),
+    }
+}
+
+fn put_shown(bytes: &mut Vec<u8>, what: What, segment: &Segment) -> Result<(), AllocError> {
+    match what {
+        What::Codes => bytes.extend_from_slice(&[code(segment)]),
+        _ => match shape_of(segment) {
+            Some(shape) => put_shape(bytes, what, shape),
+            None => Ok(()),
+        },
+    }
+}
+
+fn shown(alloc: Global, segments: &[Segment], what: What) -> Result<Vec<u8>, AllocError> {
+    let mut bytes = Vec::new(alloc);
+    for segment in segments {
+        put_shown(&mut bytes, what, segment)?;
+    }
+    Ok(bytes)
+}
+
+// Wants this of a header's segments.
+fn shows(
+    rt: &(impl Abort + AllocGlobal),
+    segments: &[Segment],
+    what: What,
+    want: &[u8],
+) -> Result<(), Fail> {
+    let found = shown(rt.alloc(), segments, what)?;
+    equal(rt, found.as_slice(), want);
+    Ok(())
 }
 
 // SOP, EPH, order and layers of a header's COD.
@@ -64,39 +111,12 @@ pub(crate) fn cod_of(segments: &[Segment]) -> Option<(bool, bool, u8, u16)> {
     None
 }
 
-// The bytes of the precincts of each COD and COC, one after another.
-fn precincts_of(alloc: Global, segments: &[Segment]) -> Result<Vec<u8>, AllocError> {
-    let mut bytes = Vec::new(alloc);
-    for segment in segments {
-        match segment {
-            Segment::Cod(cod) => bytes.extend_from_slice(cod.shape.precincts.as_slice())?,
-            Segment::Coc { comp: _, shape } => bytes.extend_from_slice(shape.precincts.as_slice())?,
-            _ => {}
-        }
-    }
-    Ok(bytes)
-}
-
-// The style of each COD and COC.
-fn header_styles(alloc: Global, segments: &[Segment]) -> Result<Vec<u8>, AllocError> {
-    let mut list = Vec::new(alloc);
-    for segment in segments {
-        match segment {
-            Segment::Cod(cod) => list.push(cod.shape.style)?,
-            Segment::Coc { comp: _, shape } => list.push(shape.style)?,
-            _ => {}
-        }
-    }
-    Ok(list)
-}
-
 // SOP, words for the planner, and this style; order and precincts are kept.
 fn with_style(alloc: Global, words: &str, style: Option<Style>) -> Result<Options, AllocError>
     requires { IfSome style MayBeStyle }
     ensures { IfOk result (λ options. MayBeWanted options) }
 {
-    let mut layers = String::new(alloc);
-    layers.push_str(words)?;
+    let layers = String::from_str(alloc, words)?;
     Ok(Options {
         order: OrderChoice::Keep,
         precincts: PrecinctChoice::Keep,
@@ -113,13 +133,11 @@ fn with_style(alloc: Global, words: &str, style: Option<Style>) -> Result<Option
 fn with_precincts(alloc: Global, words: &str, bytes: &[u8]) -> Result<Options, AllocError>
     ensures { IfOk result (λ options. MayBeWanted options) }
 {
-    let mut list = Vec::new(alloc);
-    list.extend_from_slice(bytes)?;
-    let mut layers = String::new(alloc);
-    layers.push_str(words)?;
+    let precincts = precincts_of(alloc, bytes)?;
+    let layers = String::from_str(alloc, words)?;
     Ok(Options {
         order: OrderChoice::Order(4),
-        precincts: PrecinctChoice::List(list),
+        precincts,
         style: None,
         layers,
         parts: PartChoice::None,
@@ -129,91 +147,91 @@ fn with_precincts(alloc: Global, words: &str, bytes: &[u8]) -> Result<Options, A
     })
 }
 
+// The plan of the file, in whose headers three layers are written.
+fn planned(alloc: Global, file: &[u8], options: &Options) -> Plan
+    requires { MayBeWanted options.now }
+{
+    match cutter(alloc) {
+        Ok(mut planner) => by_planner(alloc, file, options, &mut planner),
+        Err(_) => Err(NO_MEMORY),
+    }
+}
+
+fn cutter(alloc: Global) -> Result<Box<dyn LayerPlanner>, AllocError> {
+    let planner: Box<dyn LayerPlanner> = Box::new(alloc, CutLayers::new())?;
+    Ok(planner)
+}
+
 // What is written of the file's headers.
-fn written(alloc: Global, options: &Options) -> Result<Stream, Fail>
+fn written(alloc: Global, options: &Options) -> Result<Box<Seen>, Fail>
     requires { MayBeWanted options.now }
 {
     let file = bytes_of(alloc, FILE)?;
-    let mut planner: Box<dyn LayerPlanner> = Box::new(alloc, CutLayers::new())?;
-    let seen = seen_in(by_planner(alloc, &file, options, &mut planner))?;
-    Ok(seen.headers)
+    seen_in(planned(alloc, &file, options))
 }
 
-// Wants these letters of a header's segments.
-fn has_codes(
-    rt: &(impl Abort + AllocGlobal),
-    segments: &[Segment],
-    want: &[u8],
-) -> Result<(), Fail> {
-    let found = codes(rt.alloc(), segments)?;
-    equal(rt, found.as_slice(), want);
-    Ok(())
+// The headers where this style is asked, or none.
+fn by_style(alloc: Global, style: Option<Style>) -> Result<Box<Seen>, Fail>
+    requires { IfSome style MayBeStyle }
+{
+    let options = with_style(alloc, CUTS, style)?;
+    written(alloc, &options)
 }
 
-// Wants these bytes of its precincts.
-fn has_precincts(
-    rt: &(impl Abort + AllocGlobal),
-    segments: &[Segment],
-    want: &[u8],
-) -> Result<(), Fail> {
-    let found = precincts_of(rt.alloc(), segments)?;
-    equal(rt, found.as_slice(), want);
-    Ok(())
+// The headers where these precincts are asked.
+fn by_precincts(alloc: Global, bytes: &[u8]) -> Result<Box<Seen>, Fail> {
+    let options = with_precincts(alloc, CUTS, bytes)?;
+    written(alloc, &options)
 }
 
-// Wants these styles of it.
-fn has_styles(
-    rt: &(impl Abort + AllocGlobal),
-    segments: &[Segment],
-    want: &[u8],
-) -> Result<(), Fail> {
-    let found = header_styles(rt.alloc(), segments)?;
-    equal(rt, found.as_slice(), want);
-    Ok(())
+// The header of the one tile.
+fn only_tile<'a>(rt: &impl Abort, stream: &'a Stream) -> Result<&'a Tile, Fail> {
+    let tiles = stream.tiles.as_slice();
+    equal(rt, tiles.len(), 1);
+    Ok(tiles.first().ok_or("no tile")?)
+}
+
+// The one entry by which its packets are ordered.
+fn only_entry<'a>(rt: &impl Abort, tile: &'a Tile) -> Result<&'a Progression, Fail> {
+    let entries = tile.progressions.as_slice();
+    equal(rt, entries.len(), 1);
+    Ok(entries.first().ok_or("no entry")?)
 }
 
 #[test]
 fn headers_in_two_parts(rt: HostRuntime) -> Result<(), Fail> {
-    let options = with_style(rt.alloc(), CUTS, None)?;
-    let stream = written(rt.alloc(), &options)?;
-    are_in_two_parts(&rt, &stream)
+    let seen = by_style(rt.alloc(), None)?;
+    are_in_two_parts(&rt, &seen.headers)
 }
 
 fn are_in_two_parts(rt: &(impl Abort + AllocGlobal), stream: &Stream) -> Result<(), Fail> {
     equal(rt, stream.siz.rsiz, 0);
     let main = stream.main.as_slice();
-    has_codes(rt, main, b"CQa")?;
     equal(rt, cod_of(main), Some((true, false, 2, 3)));
-    equal(rt, stream.tiles.as_slice().len(), 1);
-    for tile in stream.tiles.as_slice() {
-        has_codes(rt, tile.header.as_slice(), b"Obc")?;
-        equal(rt, tile.notes.as_slice().len(), 0);
-        equal(rt, tile.progressions.as_slice().len(), 1);
-        for entry in tile.progressions.as_slice() {
-            equal(rt, (entry.lye, entry.re, entry.order), (3, 33, 2));
-        }
-    }
-    Ok(())
+    shows(rt, main, What::Codes, b"CQa")?;
+    is_in_two_parts(rt, only_tile(rt, stream)?)
+}
+
+fn is_in_two_parts(rt: &(impl Abort + AllocGlobal), tile: &Tile) -> Result<(), Fail> {
+    equal(rt, tile.notes.as_slice().len(), 0);
+    let entry = only_entry(rt, tile)?;
+    equal(rt, (entry.lye, entry.re, entry.order), (3, 33, 2));
+    shows(rt, tile.header.as_slice(), What::Codes, b"Obc")
 }
 
 #[test]
 fn order_and_precincts_of_headers(rt: HostRuntime) -> Result<(), Fail> {
-    let options = with_precincts(rt.alloc(), CUTS, &[0x67, 0x55])?;
-    let stream = written(rt.alloc(), &options)?;
-    have_precincts(&rt, &stream)
+    let seen = by_precincts(rt.alloc(), &[0x67, 0x55])?;
+    have_precincts(&rt, &seen.headers)
 }
 
 fn have_precincts(rt: &(impl Abort + AllocGlobal), stream: &Stream) -> Result<(), Fail> {
     let main = stream.main.as_slice();
     equal(rt, cod_of(main), Some((true, false, 4, 3)));
-    has_precincts(rt, main, &[0x67])?;
-    for tile in stream.tiles.as_slice() {
-        has_precincts(rt, tile.header.as_slice(), &[0x67])?;
-        for entry in tile.progressions.as_slice() {
-            equal(rt, entry.order, 4);
-        }
-    }
-    Ok(())
+    let tile = only_tile(rt, stream)?;
+    equal(rt, only_entry(rt, tile)?.order, 4);
+    shows(rt, main, What::Precincts, &[0x67])?;
+    shows(rt, tile.header.as_slice(), What::Precincts, &[0x67])
 }
 
 // A style with each bit that may be asked, or none.
@@ -230,12 +248,19 @@ fn asked_style(is_asked: bool) -> Option<Style>
 // The main COD has style 0, the tile's COC style 1.
 #[test]
 fn style_of_headers(rt: HostRuntime) -> Result<(), Fail> {
-    for (is_asked, main, own) in [(true, 0x2F, 0x2F), (false, 0, 1)] {
-        let options = with_style(rt.alloc(), CUTS, asked_style(is_asked))?;
-        let stream = written(rt.alloc(), &options)?;
-        have_styles(&rt, &stream, main, own)?;
-    }
-    Ok(())
+    has_styles(&rt, true, 0x2F, 0x2F)?;
+    has_styles(&rt, false, 0, 1)
+}
+
+// Wants these styles of the main header and of the tile's.
+fn has_styles(
+    rt: &(impl Abort + AllocGlobal),
+    is_asked: bool,
+    main: u8,
+    own: u8,
+) -> Result<(), Fail> {
+    let seen = by_style(rt.alloc(), asked_style(is_asked))?;
+    have_styles(rt, &seen.headers, main, own)
 }
 
 fn have_styles(
@@ -244,9 +269,7 @@ fn have_styles(
     main: u8,
     own: u8,
 ) -> Result<(), Fail> {
-    has_styles(rt, stream.main.as_slice(), &[main])?;
-    for tile in stream.tiles.as_slice() {
-        has_styles(rt, tile.header.as_slice(), &[own])?;
-    }
-    Ok(())
+    let tile = only_tile(rt, stream)?;
+    shows(rt, stream.main.as_slice(), What::Styles, &[main])?;
+    shows(rt, tile.header.as_slice(), What::Styles, &[own])
 }

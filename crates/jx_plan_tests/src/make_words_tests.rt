@@ -1,7 +1,7 @@
 //! Rows of words of `make`, and what is read of them.
 
 use crate::checks::{check, equal};
-use jx_words::{WordsFault, read_make};
+use jx_words::{Make, WordsFault, read_make};
 use std::alloc::{AllocError, Global};
 use std::process::Abort;
 use std::test::Fail;
@@ -26,12 +26,23 @@ fn put_word(alloc: Global, words: &mut Vec<String>, word: &str) -> Result<(), Al
 fn found(alloc: Global, line: &str) -> Result<String, Fail> {
     let words = words_of(alloc, line)?;
     match read_make(alloc, &words) {
-        Ok(make) => {
-            let (seed, width, height) = (make.seed, make.width, make.height);
-            Ok(format!(in alloc; "{seed} {width} {height}")?)
-        }
-        Err(fault) => Ok(format!(in alloc; "{fault:?}")?),
+        Ok(make) => shown(alloc, make),
+        Err(fault) => fault_text(alloc, fault),
     }
+}
+
+fn shown(alloc: Global, make: Make) -> Result<String, Fail> {
+    let (seed, width, height) = (make.seed, make.width, make.height);
+    Ok(format!(in alloc; "{seed} {width} {height}")?)
+}
+
+// What is shown where nothing is read.
+pub(crate) fn fault_text(alloc: Global, fault: WordsFault) -> Result<String, Fail> {
+    let text = match fault {
+        WordsFault::Words => "Words",
+        WordsFault::NoMemory => "NoMemory",
+    };
+    Ok(String::from_str(alloc, text)?)
 }
 
 // Wants this of a line.

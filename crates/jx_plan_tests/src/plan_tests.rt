@@ -4,11 +4,14 @@ use crate::checks::equal;
 use crate::header_tests::cod_of;
 use crate::hex::{bytes_of, put_hex};
 use crate::planned::{
-    Seen, by_planners, by_words, fault_by, fault_in, joiner, keeper, options_of, seen_in,
+    NO_MEMORY, Plan, by_planners, by_words, has_fault, has_layers, joiner, keeper, of_file,
+    options_of, seen_in, shows,
 };
+use jx_base::NoMemory;
 use jx_layers::{LayerPlanner, TableLayers};
 use jx_plan::PlanFault;
 use std::alloc::{AllocError, Global};
+use std::process::Abort;
 use std::test::Fail;
 
 // Two tiles of one sample, with a pass in the first's one layer, and one in each of the second's two, which its own COD says.
@@ -21,46 +24,37 @@ pub(crate) const TILES: &str = "
 
 #[test]
 fn layers_are_kept(rt: HostRuntime) -> Result<(), Fail> {
-    let alloc = rt.alloc();
-    let file = bytes_of(alloc, TILES)?;
-    let seen = seen_in(by_words(alloc, &file, "keep")?)?;
-    equal(&rt, seen.layers, 2);
+    let seen = seen_in(by_words(rt.alloc(), TILES, "keep"))?;
+    has_layers(&rt, &seen, 2, &[[0, 0, 1], [1, 0, 1], [1, 1, 2]]);
     let cod = cod_of(seen.headers.main.as_slice());
     equal(&rt, cod, Some((false, false, 0, 2)));
-    equal(
-        &rt,
-        seen.ends.as_slice(),
-        [[0, 0, 1], [1, 0, 1], [1, 1, 2]].as_slice(),
-    );
     Ok(())
 }
 
 #[test]
 fn all_in_one_layer(rt: HostRuntime) -> Result<(), Fail> {
-    let alloc = rt.alloc();
-    let file = bytes_of(alloc, TILES)?;
-    let seen = seen_in(by_words(alloc, &file, "one")?)?;
-    equal(&rt, seen.layers, 1);
-    equal(&rt, seen.ends.as_slice(), [[0, 0, 1], [1, 0, 2]].as_slice());
-    let choice = PlanFault::Choice {
-        number: 6,
-        place: 0,
-    };
-    equal(&rt, fault_by(alloc, &file, "two")?, Some(choice));
+    shows(&rt, TILES, "one", 1, &[[0, 0, 1], [1, 0, 2]])?;
+    has_fault(&rt, &by_words(rt.alloc(), TILES, "two"), UNSERVED);
     Ok(())
 }
 
-// The planner that keeps; one of a table, which puts the second block's passes into a second layer, and that of one layer,
-// which serve the same words, in this order or the other.
-fn planners(alloc: Global, table_first: bool) -> Result<Vec<Box<dyn LayerPlanner>>, Fail> {
+// No planner serves the words.
+const UNSERVED: PlanFault = PlanFault::Choice {
+    number: 6,
+    place: 0,
+};
+
+// Planners by their numbers: the one that keeps; one of a table, which puts the second block's passes into a second layer, and that of
+// one layer, which serve the same words.
+fn planners(alloc: Global, order: &[u8]) -> Result<Vec<Box<dyn LayerPlanner>>, NoMemory> {
     let mut list = Vec::new(alloc);
-    put(alloc, &mut list, 0)?;
-    put(alloc, &mut list, if table_first { 1 } else { 2 })?;
-    put(alloc, &mut list, if table_first { 2 } else { 1 })?;
+    for which in order {
+        put(alloc, &mut list, *which)?;
+    }
     Ok(list)
 }
 
-fn put(alloc: Global, list: &mut Vec<Box<dyn LayerPlanner>>, which: u8) -> Result<(), Fail> {
+fn put(alloc: Global, list: &mut Vec<Box<dyn LayerPlanner>>, which: u8) -> Result<(), NoMemory> {
     let planner = match which {
         0 => keeper(alloc)?,
         1 => table(alloc)?,
@@ -70,51 +64,63 @@ fn put(alloc: Global, list: &mut Vec<Box<dyn LayerPlanner>>, which: u8) -> Resul
     Ok(())
 }
 
-fn table(alloc: Global) -> Result<Box<dyn LayerPlanner>, Fail> {
-    let Ok(table) = TableLayers::new(alloc, "one", &[0, 1]) else {
-        return Err(Fail::from("no memory"));
-    };
+fn table(alloc: Global) -> Result<Box<dyn LayerPlanner>, NoMemory> {
+    let table = TableLayers::new(alloc, "one", &[0, 1])?;
     let table: Box<dyn LayerPlanner> = Box::new(alloc, table)?;
     Ok(table)
 }
 
-// The plan by the first of them that serves these words.
-fn by_first(
+// The plan by the first of these planners that serves the words.
+fn by_first(alloc: Global, words: &str, order: &[u8]) -> Plan {
+    match planners(alloc, order) {
+        Ok(mut list) => by_list(alloc, words, list.as_mut_slice()),
+        Err(_) => Err(NO_MEMORY),
+    }
+}
+
+fn by_list(alloc: Global, words: &str, list: &mut [Box<dyn LayerPlanner>]) -> Plan {
+    match bytes_of(alloc, TILES) {
+        Ok(file) => list_of_file(alloc, &file, words, list),
+        Err(_) => Err(NO_MEMORY),
+    }
+}
+
+fn list_of_file(
     alloc: Global,
+    file: &[u8],
     words: &str,
-    table_first: bool,
-) -> Result<Option<Result<Seen, PlanFault>>, Fail> {
-    let file = bytes_of(alloc, TILES)?;
-    let options = options_of(alloc, words, None)?;
-    let mut list = planners(alloc, table_first)?;
-    Ok(by_planners(alloc, &file, &options, list.as_mut_slice()))
+    list: &mut [Box<dyn LayerPlanner>],
+) -> Plan {
+    match options_of(alloc, words, None) {
+        Ok(options) => by_planners(alloc, file, &options, list),
+        Err(_) => Err(NO_MEMORY),
+    }
+}
+
+// Wants these layers of `one`, and this end of the last layer.
+fn first_shows(
+    rt: &(impl Abort + AllocGlobal),
+    order: &[u8],
+    layers: u16,
+    end: [u32; 3],
+) -> Result<(), Fail> {
+    let seen = seen_in(by_first(rt.alloc(), "one", order))?;
+    has_layers(rt, &seen, layers, &[[0, 0, 1], end]);
+    Ok(())
 }
 
 #[test]
 fn first_that_serves(rt: HostRuntime) -> Result<(), Fail> {
-    let alloc = rt.alloc();
-    for (table_first, layers, end) in [(true, 2, [1, 1, 2]), (false, 1, [1, 0, 2])] {
-        let seen = seen_in(by_first(alloc, "one", table_first)?)?;
-        equal(&rt, seen.layers, layers);
-        equal(&rt, seen.ends.as_slice(), [[0, 0, 1], end].as_slice());
-    }
-    Ok(())
+    first_shows(&rt, &[0, 1, 2], 2, [1, 1, 2])?;
+    first_shows(&rt, &[0, 2, 1], 1, [1, 0, 2])
 }
 
 // No planner of a list serves the words, and a list has none.
 #[test]
 fn none_that_serves(rt: HostRuntime) -> Result<(), Fail> {
     let alloc = rt.alloc();
-    let unserved = PlanFault::Choice {
-        number: 6,
-        place: 0,
-    };
-    let fault = fault_in(by_first(alloc, "two", true)?);
-    equal(&rt, fault, Some(unserved));
-    let file = bytes_of(alloc, TILES)?;
-    let options = options_of(alloc, "two", None)?;
-    let fault = fault_in(by_planners(alloc, &file, &options, &mut []));
-    equal(&rt, fault, Some(unserved));
+    has_fault(&rt, &by_first(alloc, "two", &[0, 1, 2]), UNSERVED);
+    has_fault(&rt, &by_list(alloc, "two", &mut []), UNSERVED);
     Ok(())
 }
 
@@ -152,7 +158,7 @@ fn too_many_packets(rt: HostRuntime) -> Result<(), Fail> {
         number: 7,
         found: 4_200_450,
     };
-    equal(&rt, fault_by(alloc, &file, "keep")?, Some(limit));
+    has_fault(&rt, &of_file(alloc, &file, "keep"), limit);
     Ok(())
 }
 
@@ -165,19 +171,11 @@ const LONG: &str = "
 
 #[test]
 fn too_many_passes(rt: HostRuntime) -> Result<(), Fail> {
-    let alloc = rt.alloc();
-    let file = bytes_of(alloc, LONG)?;
-    let seen = seen_in(by_words(alloc, &file, "keep")?)?;
-    equal(&rt, seen.layers, 2);
-    equal(
-        &rt,
-        seen.ends.as_slice(),
-        [[0, 0, 100], [0, 1, 200]].as_slice(),
-    );
+    shows(&rt, LONG, "keep", 2, &[[0, 0, 100], [0, 1, 200]])?;
     let choice = PlanFault::Choice {
         number: 4,
         place: 0,
     };
-    equal(&rt, fault_by(alloc, &file, "one")?, Some(choice));
+    has_fault(&rt, &by_words(rt.alloc(), LONG, "one"), choice);
     Ok(())
 }

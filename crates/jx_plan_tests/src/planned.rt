@@ -1,9 +1,13 @@
 //! What tests see of plans: the jobs, and a copy of the headers that are written.
 
 ghost use Rattle.std.specs.Prelude.{IfOk, IfSome};
+ghost use Rattle.jx_marker.specs.Ranges.{AreBytes};
+ghost use Rattle.jx_plan.specs.Choices.{bytes_in};
 ghost use Rattle.jx_plan.specs.Plan.{MayBePlanned};
 ghost use Rattle.jx_plan.specs.Wanted.{MayBeStyle, MayBeWanted};
 
+use crate::checks::equal;
+use crate::hex::bytes_of;
 use jx_base::{Block, NoMemory, Style};
 use jx_block::Job;
 use jx_gather::gather;
@@ -14,6 +18,7 @@ use jx_plan::{
 };
 use jx_stream::{Bodies, Segments, Stream, Tile, Tiles, read_stream};
 use std::alloc::{AllocError, Global};
+use std::process::Abort;
 use std::test::Fail;
 
 /// Words for the planners and a style, without marks; order and precincts are kept, and nothing is cut.
@@ -25,8 +30,7 @@ pub(crate) fn options_of(
     requires { IfSome style MayBeStyle }
     ensures { IfOk result (λ options. MayBeWanted options) }
 {
-    let mut layers = String::new(alloc);
-    layers.push_str(words)?;
+    let layers = String::from_str(alloc, words)?;
     Ok(Options {
         order: OrderChoice::Keep,
         precincts: PrecinctChoice::Keep,
@@ -39,56 +43,110 @@ pub(crate) fn options_of(
     })
 }
 
+/// These precincts.
+pub(crate) fn precincts_of(alloc: Global, bytes: &[u8]) -> Result<PrecinctChoice, AllocError>
+    ensures { IfOk result (λ p. IfSome (bytes_in p) AreBytes) }
+{
+    let list = bytes.to_vec(alloc)?;
+    Ok(PrecinctChoice::List(list))
+}
+
 /// What is seen of a plan.
 #[derive(Drop)]
 pub(crate) struct Seen {
     /// The layers of each tile.
     pub layers: u16,
+    /// The jobs.
+    pub jobs: SeenJobs,
+    /// The headers that are written.
+    pub headers: Stream,
+}
+
+/// What is seen of its jobs.
+#[derive(Drop)]
+pub(crate) struct SeenJobs {
     /// The ends of all blocks' layers, each as the block's number, the layer and the passes.
     pub ends: Vec<[u32; 3]>,
     /// The styles of the jobs.
     pub styles: Vec<Option<Style>>,
     /// The numbers of each tile's jobs.
     pub tiles: Vec<(u32, u32)>,
-    /// The headers that are written.
-    pub headers: Stream,
 }
 
+/// What is seen of a plan, behind one pointer, so that who owns it drops one value; or why there is none: no fault where the file is
+/// refused.
+pub(crate) type Plan = Result<Box<Seen>, Option<PlanFault>>;
+
+/// No plan for want of memory.
+pub(crate) const NO_MEMORY: Option<PlanFault> = Some(PlanFault::NoMemory);
+
 /// What is seen, where there is a plan.
-pub(crate) fn seen_in(plan: Option<Result<Seen, PlanFault>>) -> Result<Seen, Fail> {
+pub(crate) fn seen_in(plan: Plan) -> Result<Box<Seen>, Fail> {
     match plan {
-        Some(Ok(seen)) => Ok(seen),
-        _ => Err("no plan")?,
+        Ok(seen) => Ok(seen),
+        Err(_) => Err("no plan")?,
     }
 }
 
 /// Why there is no plan, where the file isn't refused.
-pub(crate) fn fault_in(plan: Option<Result<Seen, PlanFault>>) -> Option<PlanFault> {
+pub(crate) fn fault_in(plan: &Plan) -> Option<PlanFault> {
     match plan {
-        Some(Err(fault)) => Some(fault),
-        _ => None,
+        Ok(_) => None,
+        Err(fault) => *fault,
     }
 }
 
-/// The plan of a file, where order, precincts and styles are kept: by the planner that keeps layers, or, for other words, by that of
-/// one layer. None where the file is refused.
-pub(crate) fn by_words(
-    alloc: Global,
-    file: &[u8],
+/// The plan of a file of these digits, where order, precincts and styles are kept, by the planner of these words.
+pub(crate) fn by_words(alloc: Global, text: &str, words: &str) -> Plan {
+    match bytes_of(alloc, text) {
+        Ok(file) => of_file(alloc, &file, words),
+        Err(_) => Err(NO_MEMORY),
+    }
+}
+
+/// The same of a file.
+pub(crate) fn of_file(alloc: Global, file: &[u8], words: &str) -> Plan {
+    match options_of(alloc, words, None) {
+        Ok(options) => by_options(alloc, file, &options),
+        Err(_) => Err(NO_MEMORY),
+    }
+}
+
+/// The plan of a file by the planner of its options' words.
+pub(crate) fn by_options(alloc: Global, file: &[u8], options: &Options) -> Plan
+    requires { MayBeWanted options.now }
+{
+    match planner_for(alloc, options.layers.as_str()) {
+        Ok(mut planner) => by_planner(alloc, file, options, &mut planner),
+        Err(_) => Err(NO_MEMORY),
+    }
+}
+
+/// Wants these layers of each tile, and these ends of all blocks' layers.
+pub(crate) fn has_layers(rt: &impl Abort, seen: &Seen, layers: u16, ends: &[[u32; 3]]) {
+    equal(rt, seen.layers, layers);
+    equal(rt, seen.jobs.ends.as_slice(), ends);
+}
+
+/// Wants these layers and ends of the plan of a file.
+pub(crate) fn shows(
+    rt: &(impl Abort + AllocGlobal),
+    text: &str,
     words: &str,
-) -> Result<Option<Result<Seen, PlanFault>>, AllocError> {
-    let options = options_of(alloc, words, None)?;
-    let mut planner = planner_for(alloc, words)?;
-    Ok(by_planner(alloc, file, &options, &mut planner))
+    layers: u16,
+    ends: &[[u32; 3]],
+) -> Result<(), Fail> {
+    let seen = seen_in(by_words(rt.alloc(), text, words))?;
+    has_layers(rt, &seen, layers, ends);
+    Ok(())
 }
 
-/// Why there is no such plan.
-pub(crate) fn fault_by(alloc: Global, file: &[u8], words: &str) -> Result<Option<PlanFault>, Fail> {
-    let plan = by_words(alloc, file, words)?;
-    Ok(fault_in(plan))
+/// Wants this fault of a plan.
+pub(crate) fn has_fault(rt: &impl Abort, plan: &Plan, fault: PlanFault) {
+    equal(rt, fault_in(plan), Some(fault));
 }
 
-/// The planner of these words.
+/// The planner that keeps layers, where the words say so, or that of one layer.
 fn planner_for(alloc: Global, words: &str) -> Result<Box<dyn LayerPlanner>, AllocError> {
     if words == "keep" {
         keeper(alloc)
@@ -155,27 +213,68 @@ fn copy_tile(alloc: Global, tile: &Tile) -> Result<Tile, NoMemory> {
     })
 }
 
+fn copy_tiles(alloc: Global, tiles: &[Tile]) -> Result<Tiles, NoMemory> {
+    let mut list = Vec::new(alloc);
+    for tile in tiles {
+        list.push(copy_tile(alloc, tile)?)?;
+    }
+    Ok(Tiles::new(list))
+}
+
 /// The same headers again, without tile data.
 fn copy_headers(alloc: Global, headers: &Stream) -> Result<Stream, NoMemory> {
-    let mut tiles = Vec::new(alloc);
-    for tile in headers.tiles.as_slice() {
-        tiles.push(copy_tile(alloc, tile)?)?;
-    }
     Ok(Stream {
         siz: headers.siz.copy()?,
         main: copy_segments(alloc, headers.main.as_slice())?,
-        tiles: Tiles::new(tiles),
+        tiles: copy_tiles(alloc, headers.tiles.as_slice())?,
+    })
+}
+
+fn see_jobs(alloc: Global, plan: &OutStream<'_>) -> Result<SeenJobs, NoMemory> {
+    Ok(SeenJobs {
+        ends: ends_of(alloc, plan.jobs())?,
+        styles: styles_of(alloc, plan.jobs())?,
+        tiles: jobs_of_tiles(alloc, plan)?,
     })
 }
 
 fn see(alloc: Global, plan: &OutStream<'_>) -> Result<Seen, NoMemory> {
     Ok(Seen {
         layers: plan.layers(),
-        ends: ends_of(alloc, plan.jobs())?,
-        styles: styles_of(alloc, plan.jobs())?,
-        tiles: jobs_of_tiles(alloc, plan)?,
+        jobs: see_jobs(alloc, plan)?,
         headers: copy_headers(alloc, plan.headers())?,
     })
+}
+
+fn seen_of(alloc: Global, plan: &OutStream<'_>) -> Plan {
+    match see(alloc, plan) {
+        Ok(seen) => boxed(alloc, seen),
+        Err(_) => Err(NO_MEMORY),
+    }
+}
+
+fn boxed(alloc: Global, seen: Seen) -> Plan {
+    match Box::new(alloc, seen) {
+        Ok(seen) => Ok(seen),
+        Err(_) => Err(NO_MEMORY),
+    }
+}
+
+/// A file's headers and blocks, where it isn't refused.
+#[tactic(auto, using(jx_plan::proofs::PlanLemmas::gathered_may))]
+pub(crate) fn input<'a>(alloc: Global, file: &'a [u8]) -> Option<(Stream, Vec<Block<'a>>)>
+    ensures { IfSome result (λ r. MayBePlanned r.0 r.1.items) }
+{
+    if file.len() > 1 << 28 {
+        return None;
+    }
+    let Ok(stream) = read_stream(alloc, file) else {
+        return None;
+    };
+    let Ok(blocks) = gather(alloc, file, &stream) else {
+        return None;
+    };
+    Some((stream, blocks))
 }
 
 // The stream and the blocks come as references: a value can't be lent where it is made, since both lifetimes of the blocks are one.
@@ -185,34 +284,29 @@ fn planned_of(
     blocks: &[Block<'_>],
     options: &Options,
     planner: &mut Box<dyn LayerPlanner>,
-) -> Result<Seen, PlanFault>
+) -> Plan
     requires may { MayBePlanned stream.now blocks.now }
     requires wanted { MayBeWanted options.now }
 {
-    let plan = plan(alloc, stream, blocks, options, Some(planner))?;
-    Ok(see(alloc, &plan)?)
+    match plan(alloc, stream, blocks, options, Some(planner)) {
+        Ok(plan) => seen_of(alloc, &plan),
+        Err(fault) => Err(Some(fault)),
+    }
 }
 
 /// The plan of a file by a planner; none where the file is refused.
-#[tactic(auto, using(jx_plan::proofs::PlanLemmas::gathered_may))]
 pub(crate) fn by_planner(
     alloc: Global,
     file: &[u8],
     options: &Options,
     planner: &mut Box<dyn LayerPlanner>,
-) -> Option<Result<Seen, PlanFault>>
+) -> Plan
     requires { MayBeWanted options.now }
 {
-    if file.len() > 1 << 28 {
-        return None;
+    match input(alloc, file) {
+        Some(read) => planned_of(alloc, &read.0, &read.1, options, planner),
+        None => Err(None),
     }
-    let Ok(stream) = read_stream(alloc, file) else {
-        return None;
-    };
-    let Ok(blocks) = gather(alloc, file, &stream) else {
-        return None;
-    };
-    Some(planned_of(alloc, &stream, &blocks, options, planner))
 }
 
 fn served_of(
@@ -221,32 +315,27 @@ fn served_of(
     blocks: &[Block<'_>],
     options: &Options,
     planners: &mut [Box<dyn LayerPlanner>],
-) -> Result<Seen, PlanFault>
+) -> Plan
     requires may { MayBePlanned stream.now blocks.now }
     requires wanted { MayBeWanted options.now }
 {
-    let plan = plan_served(alloc, stream, blocks, options, planners)?;
-    Ok(see(alloc, &plan)?)
+    match plan_served(alloc, stream, blocks, options, planners) {
+        Ok(plan) => seen_of(alloc, &plan),
+        Err(fault) => Err(Some(fault)),
+    }
 }
 
 /// The plan of a file by the first of some planners that serves; none where the file is refused.
-#[tactic(auto, using(jx_plan::proofs::PlanLemmas::gathered_may))]
 pub(crate) fn by_planners(
     alloc: Global,
     file: &[u8],
     options: &Options,
     planners: &mut [Box<dyn LayerPlanner>],
-) -> Option<Result<Seen, PlanFault>>
+) -> Plan
     requires { MayBeWanted options.now }
 {
-    if file.len() > 1 << 28 {
-        return None;
+    match input(alloc, file) {
+        Some(read) => served_of(alloc, &read.0, &read.1, options, planners),
+        None => Err(None),
     }
-    let Ok(stream) = read_stream(alloc, file) else {
-        return None;
-    };
-    let Ok(blocks) = gather(alloc, file, &stream) else {
-        return None;
-    };
-    Some(served_of(alloc, &stream, &blocks, options, planners))
 }

@@ -1,7 +1,6 @@
 //! The jobs of each tile.
 
 use crate::checks::equal;
-use crate::hex::bytes_of;
 use crate::planned::{by_words, seen_in};
 use std::test::Fail;
 
@@ -14,12 +13,10 @@ const COLUMNS: &str = "
 
 #[test]
 fn a_tile_without_jobs(rt: HostRuntime) -> Result<(), Fail> {
-    let alloc = rt.alloc();
-    let file = bytes_of(alloc, COLUMNS)?;
-    let seen = seen_in(by_words(alloc, &file, "keep")?)?;
+    let seen = seen_in(by_words(rt.alloc(), COLUMNS, "keep"))?;
     equal(
         &rt,
-        seen.tiles.as_slice(),
+        seen.jobs.tiles.as_slice(),
         [(0, 1), (1, 1), (1, 2)].as_slice(),
     );
     Ok(())

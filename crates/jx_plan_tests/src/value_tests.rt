@@ -2,7 +2,7 @@
 
 use crate::checks::equal;
 use crate::words_tests::{What, all_show, found};
-use std::alloc::Global;
+use std::alloc::{AllocError, Global};
 use std::process::Abort;
 use std::test::Fail;
 
@@ -29,23 +29,29 @@ static NAMES: [(u8, &str, u8); 5] = [
 ];
 
 // The names of which the mask has a bit, with plus signs between them, or `none`, and the bits of the style.
-fn named(alloc: Global, mask: u8) -> Result<(String, u8), Fail> {
+fn named(alloc: Global, mask: u8) -> Result<(String, u8), AllocError> {
     let mut text = String::new(alloc);
     let mut bits = 0;
-    for (place, name, bit) in NAMES {
-        if mask & place == 0 {
-            continue;
-        }
-        if bits != 0 {
-            text.push_str("+")?;
-        }
-        text.push_str(name)?;
-        bits |= bit;
+    for row in &NAMES {
+        bits = put_name(&mut text, bits, mask, row)?;
     }
     if bits == 0 {
         text.push_str("none")?;
     }
     Ok((text, bits))
+}
+
+// Puts a name behind those of these bits, where the mask has its bit, and gives the bits with its own.
+fn put_name(text: &mut String, bits: u8, mask: u8, row: &(u8, &str, u8)) -> Result<u8, AllocError> {
+    let (place, name, bit) = row;
+    if mask & *place == 0 {
+        return Ok(bits);
+    }
+    if bits != 0 {
+        text.push_str("+")?;
+    }
+    text.push_str(name)?;
+    Ok(bits | *bit)
 }
 
 // So many items, each `2x3`.
@@ -88,11 +94,15 @@ static LISTS: [(&str, &str); 18] = [
 // No more than 33 items.
 #[test]
 fn precinct_lists(rt: HostRuntime) -> Result<(), Fail> {
-    let alloc = rt.alloc();
     values_show(&rt, "precincts", What::Precincts, &LISTS)?;
-    let most = read_items(alloc, 33)?;
+    let most = read_items(rt.alloc(), 33)?;
     equal(&rt, most.as_str().split(", ").count(), 33_usize);
-    let more = read_items(alloc, 34)?;
+    Ok(())
+}
+
+#[test]
+fn too_many_precincts(rt: HostRuntime) -> Result<(), Fail> {
+    let more = read_items(rt.alloc(), 34)?;
     equal(&rt, more.as_str(), "Words");
     Ok(())
 }
@@ -141,16 +151,20 @@ fn style_names(rt: HostRuntime) -> Result<(), Fail> {
 #[test]
 fn all_styles(rt: HostRuntime) -> Result<(), Fail> {
     for mask in 0..32_u8 {
-        let (text, bits) = named(rt.alloc(), mask)?;
-        let wanted = format!(in rt.alloc(); "{bits}")?;
-        values_show(
-            &rt,
-            "style",
-            What::Style,
-            &[(text.as_str(), wanted.as_str())],
-        )?;
+        style_is_read(&rt, mask)?;
     }
     Ok(())
+}
+
+fn style_is_read(rt: &(impl Abort + AllocGlobal), mask: u8) -> Result<(), Fail> {
+    let (text, bits) = named(rt.alloc(), mask)?;
+    has_bits(rt, text.as_str(), bits)
+}
+
+// Wants these bits of a style's names.
+fn has_bits(rt: &(impl Abort + AllocGlobal), names: &str, bits: u8) -> Result<(), Fail> {
+    let wanted = format!(in rt.alloc(); "{bits}")?;
+    values_show(rt, "style", What::Style, &[(names, wanted.as_str())])
 }
 
 static NUMBERS: [(&str, &str); 27] = [

@@ -1,7 +1,7 @@
 //! Rows of words of `transcode`, and what is read of them.
 
 use crate::checks::{check, equal};
-use crate::make_words_tests::words_of;
+use crate::make_words_tests::{fault_text, words_of};
 use jx_plan::{Options, PrecinctChoice};
 use jx_words::{Request, WordsFault, read_words};
 use std::alloc::Global;
@@ -35,8 +35,12 @@ fn precincts(alloc: Global, options: &Options) -> Result<String, Fail> {
 }
 
 fn names(alloc: Global, request: &Request) -> Result<String, Fail> {
+    let precincts = precincts(alloc, request.options())?;
+    named(alloc, request, precincts.as_str())
+}
+
+fn named(alloc: Global, request: &Request, precincts: &str) -> Result<String, Fail> {
     let options = request.options();
-    let precincts = precincts(alloc, options)?;
     let layers = options.layers.as_str();
     let (from, to, order) = (request.from(), request.to(), options.order);
     Ok(format!(in alloc; "{from} {to} {order:?} {precincts} {layers}")?)
@@ -79,7 +83,7 @@ pub(crate) fn found(alloc: Global, line: &str, what: What) -> Result<String, Fai
     let words = words_of(alloc, line)?;
     match read_words(alloc, &words) {
         Ok(request) => shown(alloc, &request, what),
-        Err(fault) => Ok(format!(in alloc; "{fault:?}")?),
+        Err(fault) => fault_text(alloc, fault),
     }
 }
 
