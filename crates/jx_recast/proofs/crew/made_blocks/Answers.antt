@@ -1,6 +1,6 @@
 use Rattle.std.proofs.lemmas.Option.{slice_get-get_or}
 use Rattle.std.proofs.lemmas.Result.{IfOk-weaker}
-use Rattle.jx_recast.proofs.TapedLemmas.{alone_is_tape, shared_none}
+use Rattle.jx_recast.proofs.TapedLemmas.{alone_is_tape}
 use Rattle.jx_recast.proofs.crew.made_blocks.Goals as goal
 
 pub made_alone-requires : goal.made_alone-requires

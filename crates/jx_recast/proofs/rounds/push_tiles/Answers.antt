@@ -1,4 +1,4 @@
-use Rattle.std.proofs.Common.{rules, arith, ◌≡◌, ◌≤◌, ◌+◌, ◌-◌, [], ◌∷◌, ◌++◌, ap, drop, length, take}
+use Rattle.std.proofs.Common.{rules, arith, ◌≡◌, ◌≤◌, ◌+◌, ◌-◌, ap, drop, length, take}
 use Rattle.jx_recast.specs.MadeRounds.{parts_of}
 use Rattle.jx_recast.proofs.ExtentLemmas.{entries_at, tile_at}
 use Rattle.jx_recast.proofs.FrontLemmas.{lead_none, unmade_of}
