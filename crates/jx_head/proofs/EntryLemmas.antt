@@ -41,7 +41,7 @@ entry_bits_are w layer leaf own passes parts known start first zeros told k is n
     ∙ append_assoc (start ++ F n) Z (T n) ∙ append_assoc start (F n) (Z ++ T n) in
     let cut : Z ++ T n ≡ cond (nat_lt 0 n) (Z ++ T n) [] = sym (ap (λ (b : Bool). cond b (Z ++ T n) []) some) in
     subst (λ (x : Known). told ≡ start ++ (first_bits x.zero (least_of w.first) w.first.tree leaf layer (nat_lt 0 n)
-        ++ cond (nat_lt 0 n) (zero_bits x.zero (least_of w.zeros) w.zeros.tree leaf w.planes ++ told_bits x.lblock (record { passes = n; raise = raise_of x.lblock (parts_in layer parts); parts = parts_in layer parts })) [])) k
+    ++ cond (nat_lt 0 n) (zero_bits x.zero (least_of w.zeros) w.zeros.tree leaf w.planes ++ told_bits x.lblock (record { passes = n; raise = raise_of x.lblock (parts_in layer parts); parts = parts_in layer parts })) [])) k
     (all ∙ ap (λ (l : List Bool). start ++ (F n ++ l)) cut)
 
 -- what is known after it
