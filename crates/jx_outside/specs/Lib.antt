@@ -5,3 +5,4 @@ pub mod Planned
 pub mod MemPlan
 pub mod SinkPlan
 pub mod Drafts
+pub mod Shown

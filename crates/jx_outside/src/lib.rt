@@ -3,7 +3,7 @@
 //! [`Files`] and [`Sink`] state what each call does, when it may be refused, and what a refusal
 //! leaves. [`StdFiles`] and [`StdSink`] stand on the system, [`MemFiles`] and [`MemSink`] keep all
 //! in memory and fail as planned, and [`SureFiles`] and [`SureSink`] never fail. [`Gate`] is told of the
-//! blocks that workers have in hand.
+//! blocks that workers have in hand, and [`Progress`] shows how many they are done with.
 #![tactic(auto)]
 
 mod files;
@@ -11,6 +11,7 @@ mod gate;
 mod memory;
 mod output;
 mod plan;
+mod progress;
 mod real;
 mod refused;
 mod sink;
@@ -22,6 +23,7 @@ pub use files::Files;
 pub use gate::{Gate, NoGate};
 pub use memory::MemFiles;
 pub use plan::Call;
+pub use progress::{Progress, is_asked, progress_line};
 pub use real::{StdFiles, StdSink};
 pub use refused::Refused;
 pub use sink::Sink;

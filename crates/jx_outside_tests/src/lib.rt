@@ -7,4 +7,6 @@ mod checks;
 #[cfg(test)]
 mod memory_tests;
 #[cfg(test)]
+mod progress_tests;
+#[cfg(test)]
 mod real_tests;

@@ -9,11 +9,8 @@ ghost use Rattle.jx_plan.specs.Planned.{chosen};
 ghost use Rattle.jx_words.specs.Words.{is_good, request_of};
 ghost use Rattle.jx_tool.specs.Ended.{IsEnded, words_in};
 
-mod progress;
-
-use crate::progress::{Progress, is_asked};
 use jx_layers::{CutLayers, KeepLayers, LayerPlanner, OneLayer, PlaneLayers};
-use jx_outside::{Files, Sink, StdFiles, StdSink};
+use jx_outside::{Files, Progress, Sink, StdFiles, StdSink, is_asked};
 use jx_recast::{Status, run};
 use jx_say::{Refusal, explain};
 use std::alloc::{AllocError, Global};
@@ -141,8 +138,3 @@ fn main(rt: HostRuntime) -> ExitCode {
         Err(_) => ExitCode::from(Status::NoMemory.number()),
     }
 }
-
-#[cfg(test)]
-mod progress_tests;
-#[cfg(test)]
-mod tests;

@@ -1,9 +1,9 @@
 //! How far a run is, for people: one line on standard error that is written over.
 
 ghost use Rattle.std.specs.Prelude.{◌≡◌, false, IfOk, None, Some, string_bytes};
-ghost use Rattle.jx_tool.specs.Shown.{grouped, last_three, progress_text};
+ghost use Rattle.jx_outside.specs.Shown.{grouped, last_three, progress_text};
 
-use jx_outside::Gate;
+use crate::gate::Gate;
 use std::alloc::{AllocError, Global};
 use std::env::Env;
 use std::fmt::{Display, Formatter};
@@ -51,7 +51,7 @@ impl Display for Grouped {
 }
 
 /// That so many code-blocks of all are coded anew.
-pub(crate) fn progress_line(alloc: Global, done: u32, all: u32) -> Result<String, AllocError>
+pub fn progress_line(alloc: Global, done: u32, all: u32) -> Result<String, AllocError>
     ensures { IfOk result (λ line. string_bytes line ≡ progress_text done all) }
 {
     let done = Grouped(done);
@@ -75,7 +75,7 @@ pub struct Progress<'a, R> {
 
 impl<'a, R: Clock + Eprint> Progress<'a, R> {
     /// From now on, where it is asked for.
-    pub(crate) fn new(rt: &'a R, alloc: Global, is_asked: bool) -> Progress<'a, R>
+    pub fn new(rt: &'a R, alloc: Global, is_asked: bool) -> Progress<'a, R>
         ensures unasked { is_asked ≡ false → result.began ≡ None }
     {
         let began = if is_asked {
@@ -143,7 +143,7 @@ impl<'a, R: Clock + Eprint> Gate for Progress<'a, R> {
 }
 
 /// Whether progress is asked for, by the variable JX_PROGRESS.
-pub(crate) fn is_asked<R: Env + Alloc>(rt: &R) -> bool {
+pub fn is_asked<R: Env + Alloc>(rt: &R) -> bool {
     match env::var(rt, "JX_PROGRESS") {
         Ok(value) => value.as_str() == "1",
         Err(_) => false,

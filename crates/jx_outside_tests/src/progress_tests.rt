@@ -1,5 +1,7 @@
-use crate::progress::{Progress, progress_line};
-use jx_outside::Gate;
+//! The line of progress, over a clock that is set by hand.
+
+use crate::checks::equal;
+use jx_outside::{Gate, Progress, progress_line};
 use std::alloc::Global;
 use std::cell::{Cell, RefCell};
 use std::fmt::Display;
@@ -66,12 +68,13 @@ fn said(alloc: Global, is_asked: bool) -> Result<String, Fail> {
 #[test]
 fn a_line_is_written_over(rt: HostRuntime) -> Result<(), Fail> {
     let shown = said(rt.alloc(), true)?;
-    assert_eq!(rt;
+    equal(
+        &rt,
         shown.as_str(),
-        "\rrecoding 2 of 1,234 blocks\rrecoding 4 of 1,234 blocks\r                          \r"
+        "\rrecoding 2 of 1,234 blocks\rrecoding 4 of 1,234 blocks\r                          \r",
     );
     let shown = said(rt.alloc(), false)?;
-    assert_eq!(rt; shown.as_str(), "");
+    equal(&rt, shown.as_str(), "");
     Ok(())
 }
 
@@ -87,7 +90,8 @@ fn digits_stand_in_threes(rt: HostRuntime) -> Result<(), Fail> {
             "recoding 999,999,999 of 4,294,967,295 blocks",
         ),
     ] {
-        assert_eq!(rt; progress_line(rt.alloc(), done, all)?.as_str(), text);
+        let line = progress_line(rt.alloc(), done, all)?;
+        equal(&rt, line.as_str(), text);
     }
     Ok(())
 }
