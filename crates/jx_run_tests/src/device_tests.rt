@@ -1,10 +1,9 @@
-//! Devices that take and give one byte at a time, and each of their calls failing; files of many components and planes.
+//! Devices that take and give one byte at a time, and each of their calls failing.
 
-use crate::bytes::{Edit, joined, put_all};
+use crate::bytes::{joined, put_all};
 use crate::checks::equal;
-use crate::regrouping_tests::made_of;
 use crate::run_tests::{GOOD, SMALL};
-use crate::runs::{Devices, Made, Want, ending, ends, holding, remakes, rewrites, stops};
+use crate::runs::{Devices, Made, Want, ending, ends, holding, made_of, rewrites};
 use jx_outside::Call;
 use jx_recast::Status;
 use std::alloc::{AllocError, Global};
@@ -108,11 +107,6 @@ fn wide_with(
     Ok(bytes)
 }
 
-// The same with empty packets.
-fn wide(alloc: Global, segment: &[u8]) -> Result<Vec<u8>, AllocError> {
-    wide_with(alloc, segment, 271, &[0; 257])
-}
-
 // The same with a packet of 803 bytes for each component: its header, and 800 bytes of one coding pass.
 fn heavy(alloc: Global) -> Result<Vec<u8>, AllocError> {
     let mut packets = Vec::new(alloc);
@@ -156,61 +150,4 @@ fn each_write_of_a_long_tile_part_fails(rt: HostRuntime) -> Result<(), Fail> {
         ends(&rt, &PLAIN, &devices, &want)?;
     }
     Ok(())
-}
-
-#[test]
-fn many_components(rt: HostRuntime) -> Result<(), Fail> {
-    let plain = wide(rt.alloc(), &[])?;
-    let line = "done: 257 blocks, 1106 bytes\n";
-    rewrites(&rt, &PLAIN, &plain, &plain, line)?;
-    let choice = Status::Choice {
-        number: 5,
-        place: 0,
-    };
-    stops(
-        &rt,
-        &["jx", "transcode", "in", "out", "--tile-parts", "c"],
-        &plain,
-        choice,
-        257,
-        "choice 5 at 0\n",
-    )
-}
-
-// A COC of the last component, and one of a component past it.
-#[test]
-fn indices_of_two_bytes(rt: HostRuntime) -> Result<(), Fail> {
-    let own = [0xFF, 0x53, 0, 10, 1, 0, 0, 0, 4, 4, 0x20, 1];
-    let styled = wide(rt.alloc(), &own)?;
-    let line = "done: 257 blocks, 1118 bytes\n";
-    rewrites(&rt, &PLAIN, &styled, &styled, line)?;
-    let past = [0xFF, 0x53, 0, 10, 1, 1, 0, 0, 4, 4, 0x20, 1];
-    let bytes = wide(rt.alloc(), &past)?;
-    let rule = Status::Rule {
-        number: 12,
-        place: 833,
-    };
-    stops(&rt, &PLAIN, &bytes, rule, 0, "rule 12 at 833\n")
-}
-
-// Guard bits 7, exponent 31 and a region's shift of 37 give 74 planes, of which 73 are zero planes; and 32 levels, of which none has a
-// code-block but the lowest.
-#[test]
-fn many_planes_and_levels(rt: HostRuntime) -> Result<(), Fail> {
-    let planes = [
-        0xE0, 0xF8, 0xFF, 0x5E, 0, 5, 0, 0, 37, 0xFF, 0x90, 0, 10, 0, 0, 0, 0, 0, 26, 0, 1, 0xFF,
-        0x93, 0xC0, 0, 0, 0, 0, 0, 0, 0, 0, 0x10, 0x80, 3,
-    ];
-    let planes: [Edit<'_>; 1] = [(63, 17, &planes)];
-    let line = "done: 1 blocks, 100 bytes\n";
-    remakes(&rt, &PLAIN, &SMALL, &planes, &planes, line)?;
-    let steps = [0xFF, 0x5C, 0, 5, 0x41, 0x40, 0];
-    let levels: [Edit<'_>; 4] = [
-        (54, 1, &[32]),
-        (59, 6, &steps),
-        (74, 1, &[47]),
-        (79, 1, &[0; 33]),
-    ];
-    let line = "done: 1 blocks, 115 bytes\n";
-    remakes(&rt, &PLAIN, &SMALL, &levels, &levels, line)
 }

@@ -1,5 +1,5 @@
 //! Tests of whole runs of the transcoder, and of the sentences that are said of refusals, over public calls of jx_recast and jx_say.
-//! They stand in a crate of their own: an edit here proves no library anew, and their check proves none once more.
+//! They show what the program can't: calls of a device that fail, what a report tells, gates and planners. What it can is in tests/tables.
 #![tactic(auto)]
 
 #[cfg(test)]
@@ -15,11 +15,7 @@ mod layer_tests;
 #[cfg(test)]
 mod make_tests;
 #[cfg(test)]
-mod packing_tests;
-#[cfg(test)]
 mod refusal_tests;
-#[cfg(test)]
-mod regrouping_tests;
 #[cfg(test)]
 mod run_tests;
 #[cfg(test)]
@@ -28,9 +24,3 @@ mod runs;
 mod say_tests;
 #[cfg(test)]
 mod style_tests;
-#[cfg(test)]
-mod table_tests;
-#[cfg(test)]
-mod tile_tests;
-#[cfg(test)]
-mod words_tests;

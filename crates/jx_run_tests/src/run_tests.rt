@@ -1,14 +1,11 @@
-//! Runs over files in memory: what is said, written and answered, and which words are refused.
+//! Runs over files in memory: what is said, written and answered, and devices that fail.
 
-use crate::bytes::{Edit, spliced};
+use crate::bytes::spliced;
 use crate::checks::{check, equal};
-use crate::runs::{Devices, Left, Made, Want, ending, ends, holding, remakes, run_words};
+use crate::runs::{Devices, Left, Made, Want, ending, ends, holding, run_words};
 use jx_outside::{Call, Files, MemFiles, Refused};
 use jx_recast::{Status, TapeEntry};
-use std::process::Abort;
-use std::sync::Wait;
 use std::test::Fail;
-use std::thread::Threads;
 
 // A canvas of one sample, one tile, component and code-block, and an empty packet.
 pub const SMALL: [u8; 82] = [
@@ -74,58 +71,6 @@ fn read_again(files: &mut MemFiles) -> Result<(usize, u8), Refused> {
 }
 
 #[test]
-fn marks_are_put_in(rt: HostRuntime) -> Result<(), Fail> {
-    let both = [
-        0x17, 0, 1, 0xFF, 0x93, 0xFF, 0x91, 0, 4, 0, 0, 0, 0xFF, 0x92,
-    ];
-    remakes(
-        &rt,
-        &["jx", "transcode", "in", "out", "--eph", "--sop"],
-        &SMALL,
-        &[],
-        &[(49, 1, &[6]), (74, 6, &both)],
-        "done: 1 blocks, 90 bytes\n",
-    )?;
-    let lengths = [0x15, 0, 1, 0xFF, 0x58, 0, 4, 0, 1, 0xFF, 0x93, 0];
-    remakes(
-        &rt,
-        &["jx", "transcode", "in", "out", "--plt"],
-        &SMALL,
-        &[],
-        &[(74, 6, &lengths)],
-        "done: 1 blocks, 88 bytes\n",
-    )
-}
-
-#[test]
-fn blocks_are_kept(rt: HostRuntime) -> Result<(), Fail> {
-    let words = ["jx", "transcode", "in", "out"];
-    let coded: [Edit<'_>; 2] = [(74, 1, &[0x11]), (79, 1, &[0xC0, 0x21, 3])];
-    let line = "done: 1 blocks, 84 bytes\n";
-    remakes(&rt, &words, &SMALL, &coded, &coded, line)?;
-    let line = "done: 1 blocks, 82 bytes\n";
-    remakes(&rt, &words, &SMALL, &[(79, 1, &[0x80])], &[], line)
-}
-
-// Two tiles of one sample: each has a tile-part of its own, and its packets are numbered anew.
-#[test]
-fn two_tiles(rt: HostRuntime) -> Result<(), Fail> {
-    let second = [0xFF, 0x90, 0, 10, 0, 1, 0, 0, 0, 15, 0, 1, 0xFF, 0x93, 0];
-    let marked = [
-        0xFF, 0x90, 0, 0x0A, 0, 0, 0, 0, 0, 0x15, 0, 1, 0xFF, 0x93, 0xFF, 0x91, 0, 4, 0, 0, 0, //
-        0xFF, 0x90, 0, 0x0A, 0, 1, 0, 0, 0, 0x15, 0, 1, 0xFF, 0x93, 0xFF, 0x91, 0, 4, 0, 0, 0,
-    ];
-    remakes(
-        &rt,
-        &GOOD,
-        &SMALL,
-        &[(11, 1, &[2]), (80, 0, &second)],
-        &[(11, 1, &[2]), (49, 1, &[2]), (65, 15, &marked)],
-        "done: 2 blocks, 109 bytes\n",
-    )
-}
-
-#[test]
 fn faults_of_the_files(rt: HostRuntime) -> Result<(), Fail> {
     for (call, nth, status, said, made) in [
         (
@@ -183,41 +128,6 @@ fn the_line_is_not_said(rt: HostRuntime) -> Result<(), Fail> {
             ..ending(Status::WriteFault, "")
         };
         ends(&rt, &GOOD, &devices, &want)?;
-    }
-    Ok(())
-}
-
-static OTHERS: [&[&str]; 12] = [
-    &[],
-    &["jx", "transcode", "in"],
-    &["jx", "transform", "in", "out", "--sop"],
-    &["jx", "transcode", "in", "out", "--layers"],
-    &["jx", "transcode", "in", "out", "--sop", "--plt", "--sop"],
-    &["jx", "transcode", "in", "out", "--sop", "more"],
-    &["jx", "transcode", "in", "out", "--threads", "0"],
-    &["jx", "transcode", "in", "out", "--threads", "65"],
-    &["jx", "transcode", "in", "out", "--window", "1025"],
-    &["jx", "transcode", "in", "out", "--window-bytes", "0"],
-    &["jx", "transcode", "in", "out", "--style", "causal+causal"],
-    &["jx", "transcode", "in", "out", "--style", "none+reset"],
-];
-
-#[test]
-fn other_words(rt: HostRuntime) -> Result<(), Fail> {
-    are_no_words(&rt, &OTHERS)
-}
-
-// Words that are no command, or say no option's value: nothing is opened.
-pub fn are_no_words(
-    rt: &(impl Abort + AllocGlobal + Threads + Wait + Sync),
-    lists: &[&[&str]],
-) -> Result<(), Fail> {
-    let devices = Devices {
-        failing: &[(Call::Open, 1)],
-        ..holding(&SMALL)
-    };
-    for list in lists {
-        ends(rt, list, &devices, &ending(Status::Words, "words\n"))?;
     }
     Ok(())
 }

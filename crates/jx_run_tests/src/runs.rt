@@ -1,6 +1,5 @@
 //! A run over files in memory: what its devices hold and refuse, and what it leaves.
 
-use crate::bytes::{Edit, spliced};
 use crate::checks::{check_at, equal, equal_at};
 use jx_layers::{CutLayers, KeepLayers, LayerPlanner, OneLayer, PlaneLayers};
 use jx_outside::{Call, Gate, MemFiles, MemSink, NoGate};
@@ -220,6 +219,17 @@ pub fn ends(
     Ok(())
 }
 
+/// What these words make of these bytes.
+pub fn made_of(
+    rt: &(impl Abort + AllocGlobal + Threads + Wait + Sync),
+    words: &[&str],
+    bytes: &[u8],
+) -> Result<Vec<u8>, Fail> {
+    let left = run_words(rt, words, &holding(bytes))?;
+    equal_at(rt, &words, left.report.status, Status::Done);
+    Ok(left.made().unwrap_or(&[]).to_vec(rt.alloc())?)
+}
+
 /// Runs these words on these bytes, and wants these bytes and this line.
 pub fn rewrites(
     rt: &(impl Abort + AllocGlobal + Threads + Wait + Sync),
@@ -233,20 +243,6 @@ pub fn rewrites(
         ..ending(Status::Done, line)
     };
     ends(rt, words, &holding(bytes), &want)
-}
-
-/// Runs these words on this file with the first edits, and wants it with the others, and this line.
-pub fn remakes(
-    rt: &(impl Abort + AllocGlobal + Threads + Wait + Sync),
-    words: &[&str],
-    file: &[u8],
-    given: &[Edit<'_>],
-    want: &[Edit<'_>],
-    line: &str,
-) -> Result<(), Fail> {
-    let given = spliced(rt.alloc(), file, given)?;
-    let want = spliced(rt.alloc(), file, want)?;
-    rewrites(rt, words, &given, &want, line)
 }
 
 /// Runs these words on these bytes, which aren't rewritten, and wants this status, these blocks and this line.

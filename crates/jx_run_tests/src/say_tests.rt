@@ -1,13 +1,13 @@
-//! Sentences for refusals, and help that fits a terminal.
+//! Sentences for refusals that no small file brings about, or none alone: their lines fit a terminal.
 
-use crate::checks::check_at;
+use crate::checks::{check, check_at};
 use jx_say::{Refusal, explain};
 use std::alloc::{AllocError, Global};
 use std::process::Abort;
 use std::test::Fail;
 
 // Words of a command line.
-pub(crate) fn words_of(alloc: Global, text: &str) -> Result<Vec<String>, AllocError> {
+fn words_of(alloc: Global, text: &str) -> Result<Vec<String>, AllocError> {
     let mut words = Vec::new(alloc);
     for word in text.split(' ') {
         words.push(String::from_str(alloc, word)?)?;
@@ -15,117 +15,75 @@ pub(crate) fn words_of(alloc: Global, text: &str) -> Result<Vec<String>, AllocEr
     Ok(words)
 }
 
-// Whether what is said has some text.
-fn says(alloc: Global, refusal: Refusal, words: &str, part: &str) -> Result<bool, AllocError> {
+// Whether what is said of these words are lines of at most 80 columns, of which the last one ends with a line feed, and has both parts.
+fn says_lines(
+    alloc: Global,
+    words: &str,
+    refusal: Refusal,
+    part: &str,
+    number: &str,
+) -> Result<bool, AllocError> {
     let words = words_of(alloc, words)?;
     let text = explain(alloc, refusal, &words)?;
-    Ok(text.as_str().contains(part))
+    let text = text.as_str();
+    let Some(lines) = text.strip_suffix('\n') else {
+        return Ok(false);
+    };
+    for line in lines.split('\n') {
+        if line.is_empty() || line.len() > 80 {
+            return Ok(false);
+        }
+    }
+    Ok(text.starts_with("jx: ") && text.contains(part) && text.contains(number))
 }
 
-const RULE: Refusal = Refusal::Rule {
-    number: 6,
-    place: 45,
-};
+// A choice, and a text and a number that are said of it.
+type Row<'a> = (u8, u32, &'a str, &'a str);
 
-const CHOICE: Refusal = Refusal::Choice {
-    number: 2,
-    place: 0,
-};
-
-const LIMIT: Refusal = Refusal::Limit {
-    number: 3,
-    found: 65_536,
-};
-
-static ROWS: [(Refusal, &str, &str); 16] = [
+static CHOICES: [Row<'static>; 8] = [
     (
-        RULE,
-        "jx transcode in.j2k out.j2k",
-        "in.j2k: a COD or COC segment at byte 45:",
+        1,
+        4711,
+        "--style keep would turn causal on or off for code-block 4711,",
+        "choice 1)",
     ),
-    (
-        CHOICE,
-        "jx transcode a b --precincts 7x7",
-        "--precincts 7x7 would change",
-    ),
-    (
-        CHOICE,
-        "jx transcode a b --precincts=7x7",
-        "--precincts 7x7 would change",
-    ),
-    (
-        LIMIT,
-        "jx transcode a b",
-        "a: 65536 tiles,\n    and this program takes at most 65535",
-    ),
-    (
-        Refusal::ReadFault,
-        "jx transcode --order rpcl --sop a b",
-        "jx: a could",
-    ),
-    (
-        Refusal::WriteFault,
-        "jx transcode --order rpcl --sop a b",
-        "jx: b could",
-    ),
-    (Refusal::Words, "jx transcode a", "<OUT>"),
-    (Refusal::Words, "jx transcode a b --order up", "--order"),
-    (
-        Refusal::Words,
-        "jx transcode a b --threads 0",
-        "invalid value '0' for '--threads <N>'",
-    ),
-    (Refusal::Words, "jx transcode --help", "--window-bytes"),
-    (Refusal::Words, "jx --version", "jx 0.9"),
-    (Refusal::WriteFault, "jx make 1 2 3", "jx: standard output"),
-    (Refusal::Words, "jx make 1", "<WIDTH>"),
-    (Refusal::Words, "jx make 01 2 3", "'01' for '<SEED>'"),
-    (Refusal::Words, "jx make 0 0 3", "'0' for '<WIDTH>'"),
-    (Refusal::Words, "jx make 0 2 4097", "'4097' for '<HEIGHT>'"),
+    (2, 4711, "code-blocks\n    in tile 4711", "choice 2)"),
+    (3, 4711, "tile 4711\n    an exponent 0", "choice 3)"),
+    (3, 0, "the main header or tile 0", "choice 3)"),
+    (4, 4711, "of code-block 4711 into one layer", "choice 4)"),
+    (5, 4711, "tile 4711 into over 255 tile-parts", "choice 5)"),
+    (6, 4711, "is no rule for layers", "choice 6)"),
+    (7, 4711, "a tile-part of tile 4711", "choice 7)"),
 ];
 
-#[test]
-fn refusals_are_explained(rt: HostRuntime) -> Result<(), Fail> {
-    all_say(&rt, &ROWS)
-}
-
-// Each row is what is refused, the words, and a text that is said.
-pub(crate) fn all_say(
-    rt: &(impl Abort + AllocGlobal),
-    rows: &[(Refusal, &str, &str)],
-) -> Result<(), Fail> {
-    for (refusal, words, part) in rows {
-        check_at(rt, words, says(rt.alloc(), *refusal, words, part)?);
+fn all_say(rt: &(impl Abort + AllocGlobal), rows: &[Row<'_>]) -> Result<(), Fail> {
+    let words = "jx transcode in.j2k out.j2k --order=rpcl";
+    for (number, place, part, name) in rows {
+        let refusal = Refusal::Choice {
+            number: *number,
+            place: *place,
+        };
+        let holds = says_lines(rt.alloc(), words, refusal, part, name)?;
+        check_at(rt, part, holds);
     }
     Ok(())
 }
 
-// Whether each line of what is said of these words has at most 80 columns.
-fn fits(alloc: Global, words: &str) -> Result<bool, AllocError> {
-    let words = words_of(alloc, words)?;
-    let text = explain(alloc, Refusal::Words, &words)?;
-    for line in text.as_str().split('\n') {
-        if line.len() > 80 {
-            return Ok(false);
-        }
-    }
-    Ok(true)
+#[test]
+fn each_choice_has_its_line(rt: HostRuntime) -> Result<(), Fail> {
+    all_say(&rt, &CHOICES)
 }
 
-static HELP: [&str; 7] = [
-    "jx --help",
-    "jx transcode --help",
-    "jx make --help",
-    "jx transcode a b --style x",
-    "jx transcode a b --precincts x",
-    "jx transcode a b --window-bytes x",
-    "jx make x 1 1",
-];
-
+// No file is named where `make` can't say its line.
 #[test]
-fn help_fits_a_terminal(rt: HostRuntime) -> Result<(), Fail> {
-    for words in &HELP {
-        check_at(&rt, words, fits(rt.alloc(), words)?);
-    }
+fn other_refusals(rt: HostRuntime) -> Result<(), Fail> {
+    let alloc = rt.alloc();
+    let (none, fault) = (Refusal::NoMemory, Refusal::WriteFault);
+    check(
+        &rt,
+        says_lines(alloc, "jx transcode a b", none, "memory", "")?,
+    );
+    let line = "jx: standard output";
+    check(&rt, says_lines(alloc, "jx make 1 2 3", fault, line, "")?);
     Ok(())
 }
