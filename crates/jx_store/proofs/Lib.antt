@@ -3,8 +3,10 @@ pub mod Windows
 pub mod Changes
 pub mod Runs
 pub mod Tally
+pub mod Sharing
 pub mod Valids
 pub mod Records
+pub mod Refusals
 pub mod Replays
 pub mod Made
 pub mod Below

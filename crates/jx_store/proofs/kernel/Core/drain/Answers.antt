@@ -8,6 +8,7 @@ use Rattle.jx_store.specs.declared.event.Taped.{Taped}
 use Rattle.jx_store.specs.Machine.{State}
 use Rattle.jx_store.specs.Shown.{Shown, state_of}
 use Rattle.jx_store.proofs.Changes.{drain_does}
+use Rattle.jx_store.proofs.Refusals.{nothing_claimed, nothing_parked}
 use Rattle.jx_store.proofs.kernel.Core.drain.Goals as goal
 
 pub returns : goal.returns
@@ -24,3 +25,23 @@ returns g c =
       state = ap (λ (w : ℕ). after w c.replace.new.dest c.push_reserved.new.self.items) in_place ∙ ap (λ (x : Slot g.row.V.Denot). after f.sums.window x c.push_reserved.new.self.items) c.replace.ensures.after ∙ ap (after f.sums.window Empty) c.push_reserved.ensures.items ∙ sym (ap (λ r. r.0) does);
       reply = sym (ap (λ r. r.1) does);
     }
+
+pub returns-then-self-clause-state : goal.returns-then-self-clause-state
+returns-then-self-clause-state g c =
+    let f = c.self.inside in
+    let v : Shown g.row.V.Denot = record { setup = f.sums; next = f.next; drained = f.drained; slots = f.slots.items; tape = f.tape.items } in
+    rw (← c.self.view_is) (sym (ap (λ r. r.0) (nothing_claimed v (omega arith))))
+
+pub returns-then-self-clause-reply : goal.returns-then-self-clause-reply
+returns-then-self-clause-reply g c =
+    let f = c.self.inside in
+    let v : Shown g.row.V.Denot = record { setup = f.sums; next = f.next; drained = f.drained; slots = f.slots.items; tape = f.tape.items } in
+    rw (← c.self.view_is) (sym (ap (λ r. r.1) (nothing_claimed v (omega arith))))
+
+pub returns-in_default : goal.returns-in_default
+returns-in_default g c =
+    let f = c.self.inside in let i = c.self.invariant in
+    let v : Shown g.row.V.Denot = record { setup = f.sums; next = f.next; drained = f.drained; slots = f.slots.items; tape = f.tape.items } in
+    let at : slice_get f.slots.items (f.drained % f.sums.window) ≡ Some c.index.result.now = slice_get_read f.slots.items f.slots.len (f.drained % f.sums.window) c.index.result.now f.slots.ok.0 (omega (arith, mod_below f.drained f.sums.window)) (subst (λ (w : ℕ). c.index.result.now ≡ get_or f.slots.items (f.drained % w) c.index.result.now) c.window.ensures.is c.index.ensures) in
+    let does = nothing_parked v c.index.result.now (omega arith) at c.in_default.not-Parked in
+    rw (← c.self.view_is) record { state = sym (ap (λ r. r.0) does); reply = sym (ap (λ r. r.1) does) }

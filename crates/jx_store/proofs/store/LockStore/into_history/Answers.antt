@@ -1,11 +1,11 @@
-use Rattle.std.proofs.Common.{ℕ, ◌<◌, List, map, ap, sym, subst, ◌∙◌}
+use Rattle.std.proofs.Common.{ℕ, ◌<◌, List, length, map, ap, sym, subst, ◌∙◌}
 use Rattle.std.specs.Prelude.{slice_get}
 use Rattle.jx_store.specs.declared.event.Taped.{Taped}
 use Rattle.jx_store.specs.declared.work.Named.{Named}
 use Rattle.jx_store.specs.LockView.{LockView}
 use Rattle.jx_store.specs.Machine.{State}
 use Rattle.jx_store.specs.Below.{AllBelow}
-use Rattle.jx_store.specs.Made.{made_in}
+use Rattle.jx_store.specs.Made.{made_in, made_on}
 use Rattle.jx_store.specs.Notes.{Notes, count_full, count_all, count_claims, count_commits}
 use Rattle.jx_store.specs.Replays.{Blank, Remembers, blank_taped, replayed}
 use Rattle.jx_store.specs.Shown.{state_of}
@@ -67,3 +67,36 @@ returns-clause-history g c parts =
       below = subst (λ (n : ℕ). AllBelow n (state_of h.core)) c.requires.all.0 told.below;
       values = ap (λ (x : View). made_in (state_of x.core)) c.audit.ensures.same ∙ c.audit_all.ensures.values (of.parts.4 ∙ sym parts) ∙ of.made;
     }
+
+pub returns-clause-told : goal.returns-clause-told
+returns-clause-told g c = c.into_history.ensures.told
+
+pub returns-clause-order : goal.returns-clause-order
+returns-clause-order g c = c.into_history.ensures.order
+
+pub returns-clause-within : goal.returns-clause-within
+returns-clause-within g c = c.into_history.ensures.within
+
+pub returns-clause-valid : goal.returns-clause-valid
+returns-clause-valid g c = c.into_history.ensures.valid
+
+pub returns-clause-whole : goal.returns-clause-whole
+returns-clause-whole g c e =
+    let of = c.all_shares-shares.ensures in
+    let kept = c.audit_all.ensures in
+    let claimed = kept.claimed.1 ∙ of.claimed in
+    ap (λ (l : List (Taped (Named g.row.V.Denot))). length l) c.into_history.ensures.is
+    ∙ (c.audit.ensures.whole (kept.committed.1 ∙ of.committed ∙ e ∙ sym claimed) ∙ claimed)
+
+pub returns-clause-made : goal.returns-clause-made
+returns-clause-made g c parts e =
+    let View = LockView (Named g.row.V.Denot) in
+    let of = c.all_shares-shares.ensures in
+    let kept = c.audit_all.ensures in
+    ap (λ (l : List (Taped (Named g.row.V.Denot))). made_on l) c.into_history.ensures.is
+    ∙ (ap (λ (x : View). made_on x.core.tape) c.audit.ensures.same
+    ∙ (kept.whole (of.parts.3 ∙ sym c.requires.all.1) (of.parts.0 ∙ sym c.requires.all.0) (of.committed ∙ e ∙ sym of.claimed)
+    ∙ (kept.values (of.parts.4 ∙ sym parts) ∙ of.made)))
+
+pub returns-clause-short : goal.returns-clause-short
+returns-clause-short g c = c.into_history.ensures.short
