@@ -15,8 +15,10 @@ pub mod RefineLemmas
 pub mod ScanLemmas
 pub mod SeenLemmas
 pub mod SignLemmas
+pub mod SignificanceLemmas
 pub mod SixLemmas
 pub mod StepLemmas
 pub mod StripeLemmas
+pub mod ToldLemmas
 pub mod TreeLemmas
 pub mod WindowLemmas
