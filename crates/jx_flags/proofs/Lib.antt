@@ -10,6 +10,7 @@ pub mod MarkLemmas
 pub mod QuietLemmas
 pub mod RaiseLemmas
 pub mod RunLemmas
+pub mod RunTold
 pub mod RecodeLemmas
 pub mod RefineLemmas
 pub mod ScanLemmas

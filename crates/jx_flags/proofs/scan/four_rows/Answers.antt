@@ -1,6 +1,70 @@
-use Rattle.std.proofs.Common.{◌∙◌, refl}
+use Rattle.std.proofs.Common.{◌≡◌, ◌<◌, ◌+◌, ◌∙◌, ℕ, arith, refl}
+use Rattle.jx_grid.specs.Cells.{Cells, IsPlace}
 use Rattle.jx_flags.proofs.FourLemmas.{four_told}
 use Rattle.jx_flags.proofs.scan.four_rows.Goals as goal
+
+below : (f h : Cells) (x y z : ℕ) → IsPlace f x y → h.width ≡ f.width → h.height ≡ f.height → z < f.height → IsPlace h x z
+below f h x y z p a b l =
+    let column = p.column in
+    let wide = p.wide in
+    let high = p.high in
+    record { column = omega arith; row = omega arith; wide = omega arith; high = omega arith }
+
+pub pass_at_place-requires : goal.pass_at_place-requires
+pass_at_place-requires g c = record {
+  kind = c.requires.kind;
+  stripe = c.requires.number;
+  columns = c.requires.seen;
+  scan = c.requires.scan;
+  labels = c.requires.labels;
+  place = c.requires.place;
+  within = c.requires.within;
+}
+
+pub pass_at_place-requires-2 : goal.pass_at_place-requires-2
+pass_at_place-requires-2 g c =
+    let first = c.requires.stripe in
+    let number = c.requires.number in
+    let whole = c.requires.whole in
+    record {
+      kind = c.requires.kind;
+      stripe = omega arith;
+      columns = c.in_ok-columns.ensures.columns;
+      scan = c.requires.scan;
+      labels = c.requires.labels;
+      place = below c.args.field.now c.pass_at_place.new.field c.args.x c.args.top (c.args.top + 1) c.requires.place (c.in_ok-columns.ensures.kept.width) (c.in_ok-columns.ensures.kept.height) (omega arith);
+      within = c.in_ok-columns.ensures.kept.within;
+    }
+
+pub pass_at_place-requires-3 : goal.pass_at_place-requires-3
+pass_at_place-requires-3 g c =
+    let first = c.requires.stripe in
+    let number = c.requires.number in
+    let whole = c.requires.whole in
+    record {
+      kind = c.requires.kind;
+      stripe = omega arith;
+      columns = c.in_ok-columns-2.ensures.columns;
+      scan = c.requires.scan;
+      labels = c.requires.labels;
+      place = below c.args.field.now c.pass_at_place-2.new.field c.args.x c.args.top (c.args.top + 2) c.requires.place (c.in_ok-columns-2.ensures.kept.width ∙ c.in_ok-columns.ensures.kept.width) (c.in_ok-columns-2.ensures.kept.height ∙ c.in_ok-columns.ensures.kept.height) (omega arith);
+      within = c.in_ok-columns-2.ensures.kept.within;
+    }
+
+pub pass_at_place-requires-4 : goal.pass_at_place-requires-4
+pass_at_place-requires-4 g c =
+    let first = c.requires.stripe in
+    let number = c.requires.number in
+    let whole = c.requires.whole in
+    record {
+      kind = c.requires.kind;
+      stripe = omega arith;
+      columns = c.in_ok-columns-3.ensures.columns;
+      scan = c.requires.scan;
+      labels = c.requires.labels;
+      place = below c.args.field.now c.pass_at_place-3.new.field c.args.x c.args.top (c.args.top + 3) c.requires.place (c.in_ok-columns-3.ensures.kept.width ∙ c.in_ok-columns-2.ensures.kept.width ∙ c.in_ok-columns.ensures.kept.width) (c.in_ok-columns-3.ensures.kept.height ∙ c.in_ok-columns-2.ensures.kept.height ∙ c.in_ok-columns.ensures.kept.height) (omega arith);
+      within = c.in_ok-columns-3.ensures.kept.within;
+    }
 
 pub returns : goal.returns
 returns g c =

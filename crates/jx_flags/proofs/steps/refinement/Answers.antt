@@ -1,10 +1,28 @@
-use Rattle.std.proofs.Common.{◌∙◌, ap, sym}
+use Rattle.std.proofs.Common.{◌≡◌, ◌≤◌, ◌∙◌, ℕ, false, ap, arith, refl, sym}
+use Rattle.std.specs.Prelude.{nat_lt}
+use Rattle.std.proofs.lemmas.Bool.Decides.{nat_tests}
 use Rattle.jx_grid.specs.declared.coef.Coef.{Coef}
 use Rattle.jx_grid.specs.Cells.{Cells, coef_at}
 use Rattle.jx_grid.specs.Asking.{Asking, told}
 use Rattle.jx_grid.specs.Pass.{is_decided}
 use Rattle.jx_flags.proofs.RefineLemmas.{refinement_unmarked, refinement_done, refinement_label_is, refinement_told}
 use Rattle.jx_flags.proofs.steps.refinement.Goals as goal
+
+undecided : (m n : ℕ) → nat_lt m n ≡ false → n ≤ m
+undecided m n e = grind (arith, nat_tests)
+
+pub put_bit-requires : goal.put_bit-requires
+put_bit-requires g c =
+    let i = c.at-coef.ensures ∙ ap (λ (z : Cells). coef_at z c.args.x c.args.y) c.field.view_is in
+    let d = ap (λ (z : Coef). is_decided c.args.plane z) (sym i) ∙ (sym c.is_done.ensures ∙ c.if-is_done.false) in
+    record {
+      columns = c.requires.columns;
+      scan = c.requires.scan;
+      place = c.requires.place;
+      within = c.requires.within;
+      undecided = λ _. undecided c.args.plane.number (coef_at c.args.field.now c.args.x c.args.y).planes d;
+      significant = λ _. sym c.is_marked.ensures ∙ c.if-not-is_marked.false;
+    }
 
 pub returns-then-not-is_marked-clause-grid : goal.returns-then-not-is_marked-clause-grid
 returns-then-not-is_marked-clause-grid g c =
@@ -49,3 +67,30 @@ returns-clause-source g c =
     c.was_refined.result c.is_near-near.result c.refinement_label.ensures.label c.was_refined.ensures c.at-coef.ensures c.field.view_is c.is_near-near.ensures in
     (refinement_told g.S.Source.ask c.args.plane c.args.field.now c.put_bit.new.field c.args.x c.args.y c.refinement_label.result c.shift.result
     c.in_ok-bit.bit c.args.source.now c.ask.new.self m d l c.shift.ensures c.in_ok-bit.ensures.answer c.in_ok-bit.ensures.after c.put_bit.ensures.grid).1
+
+pub returns-then-not-is_marked-clause-sure : goal.returns-then-not-is_marked-clause-sure
+returns-then-not-is_marked-clause-sure g c = λ e. refl
+
+pub returns-then-not-is_marked-clause-kept : goal.returns-then-not-is_marked-clause-kept
+returns-then-not-is_marked-clause-kept g c = record { width = refl; height = refl; within = c.requires.within }
+
+pub returns-then-not-is_marked-clause-columns : goal.returns-then-not-is_marked-clause-columns
+returns-then-not-is_marked-clause-columns g c = c.requires.columns
+
+pub returns-then-is_done-clause-sure : goal.returns-then-is_done-clause-sure
+returns-then-is_done-clause-sure g c = λ e. refl
+
+pub returns-then-is_done-clause-kept : goal.returns-then-is_done-clause-kept
+returns-then-is_done-clause-kept g c = record { width = refl; height = refl; within = c.requires.within }
+
+pub returns-then-is_done-clause-columns : goal.returns-then-is_done-clause-columns
+returns-then-is_done-clause-columns g c = c.requires.columns
+
+pub returns-clause-sure : goal.returns-clause-sure
+returns-clause-sure g c = λ e. refl
+
+pub returns-clause-kept : goal.returns-clause-kept
+returns-clause-kept g c = c.put_bit.ensures.kept
+
+pub returns-clause-columns : goal.returns-clause-columns
+returns-clause-columns g c = c.put_bit.ensures.columns
