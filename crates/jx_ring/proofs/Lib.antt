@@ -6,6 +6,7 @@ pub mod Claiming
 pub mod Committing
 pub mod Draining
 pub mod Seats
+pub mod Shelves
 pub mod Carrying
 pub mod Dealing
 pub mod Joining

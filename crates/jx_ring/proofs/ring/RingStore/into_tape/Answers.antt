@@ -1,6 +1,17 @@
-use Rattle.std.proofs.Common.{sym, ◌∙◌}
+use Rattle.std.proofs.Common.{ℕ, ◌+◌, ap, sym, ◌∙◌}
 use Rattle.jx_ring.proofs.Ends.{lasts, says}
 use Rattle.jx_ring.proofs.ring.RingStore.into_tape.Goals as goal
+
+pub join_all-seat-requires : goal.join_all-seat-requires
+join_all-seat-requires g c = record { all = (c.requires.all.1, c.requires.all.2); none = c.requires.none }
+
+pub close_with-closed-requires : goal.close_with-closed-requires
+close_with-closed-requires g c = c.join_all-seat.ensures.0
+
+pub collect-requires-clause-slots : goal.collect-requires-clause-slots
+collect-requires-clause-slots g c =
+    let window = c.window-window.ensures in let closed = c.close_with-closed.ensures in
+    (closed.counts.1 ∙ (window.counts.1 ∙ ap (λ (n : ℕ). n + 1) (sym window.is.0)), closed.values.1)
 
 pub collect-requires-clause-shut : goal.collect-requires-clause-shut
 collect-requires-clause-shut g c =

@@ -1,11 +1,32 @@
-use Rattle.std.proofs.Common.{◌≡◌, List, [], ◌∷◌, ◌++◌, All, ap, sym, subst, ◌∙◌, arith, append_assoc}
+use Rattle.std.proofs.Common.{◌≡◌, ℕ, List, [], ◌∷◌, ◌++◌, All, ap, sym, subst, ◌∙◌, arith, append_assoc, length}
 use Rattle.std.specs.Prelude.{None}
 use Rattle.jx_ring.specs.declared.view.Taken.{Taken}
 use Rattle.jx_ring.specs.Passes.{PassView, out}
 use Rattle.jx_ring.specs.Closing.{IsLast}
-use Rattle.jx_ring.proofs.Joining.{all_mid, last_more}
+use Rattle.jx_ring.proofs.Joining.{all_mid, last_one, last_more}
+use Rattle.jx_ring.proofs.Shelves.{nil_of}
 use Rattle.jx_ring.proofs.Seats.{first_nil}
 use Rattle.jx_ring.proofs.ring.RingStore.join_all.Goals as goal
+
+pub unreachable-requires : goal.unreachable-requires
+unreachable-requires g c = let e = c.in_default.ensures.cases.0 in let some = c.requires.all.0 in omega (arith, e, some)
+
+pub loop-pass-init : goal.loop-pass-init
+loop-pass-init g c =
+    let x : PassView = c.in-Some.last in let ys : List PassView = c.pop.new.self.items in let items = c.in-Some.ensures.items in
+    let w = c.last.inside.seat.me.0 in let inv = c.last.invariant in let view = c.last.view_is in let z = c.args.self.now.table.shared.table_id in
+    let none = ap (λ (q : PassView). q.holds) view ∙ all_mid (λ (q : PassView). q.holds ≡ None) ys x [] (subst (All (λ (q : PassView). q.holds ≡ None)) items c.requires.none) in
+    let next = ap (λ (q : PassView). q.next) view in
+    record {
+      table = ap (λ (q : PassView). q.table) view ∙ all_mid (λ (q : PassView). q.table ≡ z) ys x [] (subst (All (λ (q : PassView). q.table ≡ z)) items c.requires.all.1);
+      live = λ nil. (let e = ap (λ (l : List ℕ). length l) (sym inv.stands ∙ nil) in omega (arith, e));
+      out = inv.out ∙ ap (out g.N.Bounds.setup.window) none;
+      some = (
+        x ∷ [],
+        items,
+        last_one x w c.last.inside.worker none inv.idle inv.stands (ap (λ (q : PassView). q.claims) view) (omega (arith, next)) (subst (λ (q : PassView). All (λ (t : Taken). t.worker ≡ q.worker) q.claims) view inv.mine),
+      );
+    }
 
 pub join-requires-clause-table : goal.join-requires-clause-table
 join-requires-clause-table g c =
@@ -39,3 +60,9 @@ loop-pass-preserved g c =
             (last_more x ds v w c.pass.inside.worker last inv.stands (ap (λ (q : PassView). q.claims) view) (omega (arith, next)) (subst (λ (q : PassView). All (λ (t : Taken). t.worker ≡ q.worker) q.claims) view inv.mine)),
       );
     }
+
+pub returns : goal.returns
+returns g c =
+    let i = c.loop-pass.invariant in let ds : List PassView = i.some.0 in let rest : List PassView = c.loop-pass.passes.items in
+    let nil = nil_of rest (sym c.loop-pass.passes.ok.0 ∙ c.in_default-pop.ensures.cases.0) in
+    (i.table, subst (λ (l : List PassView). IsLast l c.loop-pass.seat.me.0) (sym (i.some.1 ∙ ap (λ (l : List PassView). l ++ ds) nil)) i.some.2)
