@@ -50,9 +50,6 @@ loop-i-init g c =
           (get_or-set_other fs W (k % W) false false (λ e. omega (arith, below, e)) ∙ c.requires.slots.1 (k % W) (omega arith) there));
     }
 
-pub overflow_add-place : goal.overflow_add-place
-overflow_add-place g c = let a = c.requires.sizes.0 in let b = c.requires.sizes.2 in let lt = c.loop-i-test.true in record { fits = omega (arith, a, b, lt) }
-
 pub nonzero_rem-place : goal.nonzero_rem-place
 nonzero_rem-place g c = c.requires.sizes.1
 
