@@ -128,23 +128,19 @@ fn bare<'a>(alloc: Global) -> Result<Command<'a>, AllocError> {
     )
 }
 
-/// With the command `transcode`.
-fn with_transcode<'a>(alloc: Global, command: Command<'a>) -> Result<Command<'a>, AllocError> {
-    let transcode = transcode(alloc)?;
-    command.subcommand(transcode)
-}
-
-/// With the command `make`.
-fn with_make<'a>(alloc: Global, command: Command<'a>) -> Result<Command<'a>, AllocError> {
-    let make = make(alloc)?;
-    command.subcommand(make)
+/// With a command that was just made.
+fn with_command<'a>(
+    command: Command<'a>,
+    made: Result<Command<'a>, AllocError>,
+) -> Result<Command<'a>, AllocError> {
+    command.subcommand(made?)
 }
 
 /// The program, with its help.
 fn program<'a>(alloc: Global) -> Result<Command<'a>, AllocError> {
     let command = bare(alloc)?;
-    let command = with_transcode(alloc, command)?;
-    with_make(alloc, command)
+    let command = with_command(command, transcode(alloc))?;
+    with_command(command, make(alloc))
 }
 
 /// A text with one line feed at its end.
