@@ -56,6 +56,16 @@ one_is tile s c precincts blocks r p b xs ys ep eb e =
     } ∷ [] in
     subst Q eb (subst P ep e)
 
+-- a component's resolutions behind what came before it
+pub component_is : (tile : Rect) (shapes : List CompShape) (c p b : ℕ) (xs ys : List Resolution)
+    → p ≡ tile_precincts tile (take c shapes) → b ≡ tile_blocks tile (take c shapes)
+    → ys ≡ xs ++ resolutions_behind tile (get_or shapes c no_shape) c p b → ys ≡ xs ++ component_resolutions tile shapes c
+component_is tile shapes c p b xs ys ep eb e =
+    let s = get_or shapes c no_shape in
+    let P : ℕ → Type 0 = λ n. ys ≡ xs ++ resolutions_behind tile s c n b in
+    let Q : ℕ → Type 0 = λ n. ys ≡ xs ++ resolutions_behind tile s c (tile_precincts tile (take c shapes)) n in
+    subst Q eb (subst P ep e)
+
 -- where a component's begin
 ones : (tile : Rect) (shapes : List CompShape) (n : ℕ) → sum_below (λ i. length (one_place tile shapes i)) n ≡ n
 ones tile shapes zero = refl

@@ -74,7 +74,6 @@ fn push_resolution(
 }
 
 /// Lists the resolutions of a component behind what came before it.
-#[tactic(auto, using(jx_base::proofs::Joined::joined_none, jx_base::proofs::Joined::joined_next, jx_base::proofs::Sums::sum_below_next, jx_base::proofs::Sums::sum_below_more), unfolding(crate::specs::Counts::component_precincts, crate::specs::Counts::component_blocks))]
 fn push_resolutions(
     tile: Rect,
     shape: &CompShape,
@@ -139,7 +138,6 @@ impl Table {
 }
 
 /// The resolutions of a tile with components of these shapes.
-#[tactic(auto, using(jx_base::proofs::Joined::joined_none, jx_base::proofs::Joined::joined_next, crate::proofs::TableLemmas::precincts_more, crate::proofs::TableLemmas::blocks_more, crate::proofs::TableLemmas::precincts_room, crate::proofs::TableLemmas::blocks_room), unfolding(crate::specs::Resolutions::all_places, crate::specs::Resolutions::all_resolutions))]
 pub(crate) fn table_of(alloc: Global, tile: Rect, comps: &[CompShape]) -> Result<Table, NoMemory>
     requires few { length comps.now ≤ 2 ^ 14 }
     requires comps { ShapesInRange comps.now }
