@@ -1,8 +1,9 @@
 -- How long what follows a segment's length is.
-use Rattle.std.proofs.Common.{◌≡◌, ◌≤◌, ◌+◌, ◌*◌, ℕ, List, ◌∷◌, ◌++◌, [], length, arith, append_assoc, refl, ap, length-append, ltb, leb, take, drop, sym, ◌∙◌}
-use Rattle.std.proofs.Math.Seq.{take-append_seam}
-use Rattle.std.proofs.lemmas.List.{take-append-drop}
+use Rattle.std.proofs.Common.{◌≡◌, ◌≤◌, ◌<◌, ◌+◌, ◌*◌, ℕ, List, ◌∷◌, ◌++◌, [], length, arith, append_assoc, append-nil, get_or, add-one, Result, Ok, Err, OnOk, refl, ap, length-append, ltb, leb, take, drop, sym, ◌∙◌}
+use Rattle.std.proofs.Math.Seq.{take-append_seam, take-suc}
+use Rattle.std.proofs.lemmas.List.{take-append-drop, take_all}
 use Rattle.std.proofs.lemmas.Bool.Decides.{nat_tests}
+use Rattle.std.proofs.lemmas.Grind.{flat_map-append}
 use Rattle.std.specs.List.{flat_map}
 use Rattle.byteorder.specs.Endian.{big_bytes}
 use Rattle.byteorder.specs.Numbers.{length-bytes_high_first}
@@ -79,3 +80,29 @@ fronted_as code size out middle new body first then_body same = then_body ∙ ap
 pub four_appended : (out a b c d first second third last : List ℕ) → first ≡ out ++ a → second ≡ first ++ b → third ≡ second ++ c → last ≡ third ++ d
     → last ≡ out ++ (a ++ (b ++ (c ++ d)))
 four_appended out a b c d first second third last e1 e2 e3 e4 = rw (e4, e3, e2, e1) (simp append_assoc)
+
+-- what one call appends after the others
+pub after : (out so_far last new more : List ℕ) → last ≡ out ++ so_far → new ≡ last ++ more → new ≡ out ++ (so_far ++ more)
+after out so_far last new more before e = e ∙ (ap (λ (front : List ℕ). front ++ more) before ∙ append_assoc out so_far more)
+
+pub kept : (out more new : List ℕ) → new ≡ out ++ more → take (length out) new ≡ out
+kept out more new e = ap (λ (list : List ℕ). take (length out) list) e ∙ take-append_seam out more
+
+-- what each value of a list appends
+pub each_next : {A : Type 0} (bytes_of : A → List ℕ) (values : List A) (i : ℕ) (none : A) (out last new : List ℕ) → i < length values
+    → last ≡ out ++ flat_map bytes_of (take i values) → new ≡ last ++ bytes_of (get_or values i none) → new ≡ out ++ flat_map bytes_of (take (i + 1) values)
+each_next {A} bytes_of values i none out last new lt before e =
+    let one : take (i + 1) values ≡ take i values ++ get_or values i none ∷ [] = rw add-one (take-suc values i none lt) in
+    let more : flat_map bytes_of (take (i + 1) values) ≡ flat_map bytes_of (take i values) ++ bytes_of (get_or values i none) =
+    ap (λ (list : List A). flat_map bytes_of list) one
+    ∙ (flat_map-append bytes_of (take i values) (get_or values i none ∷ [])
+    ∙ ap (λ (list : List ℕ). flat_map bytes_of (take i values) ++ list) (append-nil (bytes_of (get_or values i none)))) in
+    after out (flat_map bytes_of (take i values)) last new (bytes_of (get_or values i none)) before e ∙ ap (λ (list : List ℕ). out ++ list) (sym more)
+
+pub each_all : {A : Type 0} (bytes_of : A → List ℕ) (values : List A) (i : ℕ) (out new : List ℕ) → length values ≤ i
+    → new ≡ out ++ flat_map bytes_of (take i values) → new ≡ out ++ flat_map bytes_of values
+each_all {A} bytes_of values i out new done e = e ∙ ap (λ (list : List A). out ++ flat_map bytes_of list) (take_all i values done)
+
+pub on_ok : {T E P Q : Type 0} (r : Result T E) → (P → Q) → OnOk r P → OnOk r Q
+on_ok (Ok value) f p = f p
+on_ok (Err e) f p = p

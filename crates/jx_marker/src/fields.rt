@@ -108,7 +108,6 @@ pub fn read_cod(alloc: Global, body: &[u8]) -> Result<Cod, AllocError>
     })
 }
 
-#[tactic(auto, using(crate::proofs::ValueLemmas::room_left))]
 fn entries(
     alloc: Global,
     body: &[u8],
@@ -141,7 +140,6 @@ pub fn read_quant(alloc: Global, body: &[u8], at: usize) -> Result<Quant, AllocE
     Ok(Quant { sqcd, entries })
 }
 
-#[tactic(auto, using(crate::proofs::ValueLemmas::values_more, crate::proofs::ValueLemmas::room_left))]
 pub fn read_poc(alloc: Global, comps: u16, body: &[u8]) -> Result<Progressions, AllocError>
     ensures { IfOk result (λ list. list ≡ poc_at comps body.now) }
 {

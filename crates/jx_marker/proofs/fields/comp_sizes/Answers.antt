@@ -1,4 +1,4 @@
-use Rattle.std.proofs.Common.{◌≡◌, ◌∙◌, ◌+◌, ◌-◌, ◌++◌, ◌∷◌, [], arith, sym, ap, List}
+use Rattle.std.proofs.Common.{◌∙◌, ◌+◌, ◌-◌, ◌++◌, ◌∷◌, [], arith, sym, ap, List}
 use Rattle.jx_marker.specs.declared.CompSize.{CompSize}
 use Rattle.jx_marker.specs.Values.{values_from, comp_size_at}
 use Rattle.jx_marker.proofs.ValueLemmas.{values_more}
