@@ -69,7 +69,7 @@ fn put_siz_body(out: &mut Vec<u8>, siz: &Siz) -> Result<(), AllocError>
     Ok(())
 }
 
-#[tactic(auto, using(crate::proofs::PutLemmas::fronted, crate::proofs::PutLemmas::length_siz, crate::proofs::PutLemmas::most_comps))]
+#[tactic(auto, using(crate::proofs::PutLemmas::most_comps))]
 fn put_siz(out: &mut Vec<u8>, siz: &Siz) -> Result<(), AllocError>
     requires { SizInRange siz.now }
     ensures ok { OnOk result (out.new.items ≡ out.old.items ++ with_length SIZ (siz_bytes siz.now)) }
@@ -123,7 +123,6 @@ fn put_cod_body(out: &mut Vec<u8>, cod: &Cod) -> Result<(), AllocError>
     put_shape(out, &cod.shape)
 }
 
-#[tactic(auto, using(crate::proofs::PutLemmas::fronted, crate::proofs::PutLemmas::length_cod))]
 fn put_cod(out: &mut Vec<u8>, cod: &Cod) -> Result<(), AllocError>
     requires { CodInRange cod.now }
     ensures ok { OnOk result (out.new.items ≡ out.old.items ++ with_length COD (cod_bytes cod.now)) }
@@ -168,7 +167,6 @@ fn put_quant(out: &mut Vec<u8>, quant: &Quant) -> Result<(), AllocError>
     put_entries(out, entry_size(quant.sqcd), quant.entries.as_slice())
 }
 
-#[tactic(auto, using(crate::proofs::PutLemmas::fronted, crate::proofs::PutLemmas::length_quant))]
 fn put_qcd(out: &mut Vec<u8>, quant: &Quant) -> Result<(), AllocError>
     requires { QuantInRange quant.now 0 }
     ensures ok { OnOk result (out.new.items ≡ out.old.items ++ with_length QCD (quant_bytes quant.now)) }
@@ -191,7 +189,6 @@ fn put_qcc_body(out: &mut Vec<u8>, comps: u16, comp: u16, quant: &Quant) -> Resu
     put_quant(out, quant)
 }
 
-#[tactic(auto, using(crate::proofs::PutLemmas::fronted, crate::proofs::PutLemmas::length_qcc))]
 fn put_qcc(out: &mut Vec<u8>, comps: u16, comp: u16, quant: &Quant) -> Result<(), AllocError>
     requires { QccInRange comps comp quant.now }
     ensures ok { OnOk result (out.new.items ≡ out.old.items ++ spelling comps (Segment.Qcc comp quant.now)) }
@@ -247,7 +244,6 @@ fn put_progressions(
     Ok(())
 }
 
-#[tactic(auto, using(crate::proofs::PutLemmas::fronted, crate::proofs::PutLemmas::length_poc))]
 fn put_poc(out: &mut Vec<u8>, comps: u16, entries: &[Progression]) -> Result<(), AllocError>
     requires { PocInRange comps entries.now }
     ensures ok { OnOk result (out.new.items ≡ out.old.items ++ with_length POC (poc_bytes comps entries.now)) }

@@ -1,7 +1,7 @@
 use Rattle.std.proofs.Common.{◌∙◌, ◌+◌, ◌-◌, ◌++◌, ◌∷◌, [], arith, sym, ap, List}
 use Rattle.jx_marker.specs.declared.CompSize.{CompSize}
 use Rattle.jx_marker.specs.Values.{values_from, comp_size_at}
-use Rattle.jx_marker.proofs.ValueLemmas.{values_more}
+use Rattle.jx_marker.proofs.ValueLemmas.{values_all, values_more}
 use Rattle.jx_marker.proofs.fields.comp_sizes.Goals as goal
 
 pub loop-i-preserved : goal.loop-i-preserved
@@ -13,3 +13,8 @@ loop-i-preserved c =
           ∙ sym (values_more comp_size_at 3 c.args.count c.loop-i._i c.loop-i.at c.args.body.now c.loop-i.items.items c.loop-i-test.true)
           ∙ c.loop-i.invariant.so_far;
     }
+
+pub returns : goal.returns
+returns c =
+    c.new.ensures ∙ values_all comp_size_at 3 c.args.count c.loop-i._i c.loop-i.at c.args.body.now c.loop-i.items.items
+    (values_from comp_size_at 3 c.args.count 36 c.args.body.now) c.loop-i-test.false c.loop-i.invariant.so_far
