@@ -1,6 +1,9 @@
 pub mod WordLemmas
 pub mod FrontLemmas
 pub mod LongLemmas
+pub mod MadeLemmas
+pub mod NotedLemmas
+pub mod ZerosLemmas
 pub mod AskLemmas
 pub mod BlockLemmas
 pub mod StopLemmas

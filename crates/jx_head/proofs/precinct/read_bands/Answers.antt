@@ -1,4 +1,4 @@
-use Rattle.std.proofs.Common.{◌≡◌, ◌<◌, ◌≤◌, ◌+◌, ◌^◌, ◌∙◌, sym, ap, subst, length, drop, get_or, ℕ, set, arith}
+use Rattle.std.proofs.Common.{◌≡◌, ◌<◌, ◌≤◌, ◌+◌, ◌^◌, ◌∙◌, sym, ap, subst, length, drop, get_or, ℕ, refl, set, arith}
 use Rattle.std.proofs.Common.{length-set}
 use Rattle.jx_tagtree.specs.Header.{to_come}
 use Rattle.jx_head.specs.Packet.{Cells}
@@ -55,3 +55,33 @@ returns-in-Err-clause-err c =
     bands_refuse (scan_bands c.args.style.bits c.args.layer 0 c.args.bands.now.items (to_come c.args.bits.now)) c.args.parts.now.items c.loop-at.parts.items c.args.style.bits c.args.layer c.loop-at.base
     c.loop-at.at items x (to_come c.loop-at.bits) c.in-Err.fault (omega (arith, c.loop-at.bands.ok.0)) c.loop-at.invariant.scanned
     (subst (λ (z : Cells). Refuses c.in-Err.fault (scan_band c.args.style.bits c.args.layer c.loop-at.base z (to_come c.loop-at.bits))) here c.in-Err.ensures.err)
+
+pub loop-at-init : goal.loop-at-init
+loop-at-init c = record {
+  scanned = refl;
+  same = refl;
+  are = c.requires.bands;
+  long = refl;
+  blocks = refl;
+  left = omega (arith, c.requires.blocks);
+}
+
+pub read_band-requires-clause-few : goal.read_band-requires-clause-few
+read_band-requires-clause-few c = rw c.loop-at.invariant.same c.requires.few
+
+pub read_band-requires-clause-room : goal.read_band-requires-clause-room
+read_band-requires-clause-room c =
+    let items = c.loop-at.bands.items in
+    let x = c.index_mut-band.result.now in
+    let inside : c.loop-at.at < length items = omega (arith, c.loop-at.bands.ok.0) in
+    let left = next_left items c.loop-at.at c.loop-at.base (2 ^ 20) x x inside c.loop-at.invariant.left in
+    omega (arith, left, ap (λ (z : Cells). length z.blocks) c.index_mut-band.ensures.value)
+
+pub returns-clause-kept : goal.returns-clause-kept
+returns-clause-kept c = c.loop-at.invariant.are
+
+pub returns-clause-blocks : goal.returns-clause-blocks
+returns-clause-blocks c = c.loop-at.invariant.blocks
+
+pub returns-clause-frame : goal.returns-clause-frame
+returns-clause-frame c = c.loop-at.invariant.same
