@@ -2,6 +2,7 @@
 
 ghost use Rattle.std.specs.Prelude.{◌≡◌, ◌+◌, ◌<◌, ◌++◌, ◌^◌, [], length, IfOk, OnOk};
 ghost use Rattle.jx_marker.specs.declared.Segment.TheVariants as segment_value;
+ghost use Rattle.jx_marker.specs.Ranges.{InRange};
 ghost use Rattle.jx_marker.specs.Segments.{spelling};
 ghost use Rattle.jx_stream.specs.Spells.{all_bytes, part_bytes};
 ghost use Rattle.jx_make.specs.Headers.{AreSizes, cod_made, com_made, main_made, qcd_made, siz_made};
@@ -80,13 +81,21 @@ fn com(alloc: Global) -> Result<Bytes, NoMemory>
     Ok(Bytes::new(Vec::from_array(alloc, [0, 1, b'j', b'x'])?))
 }
 
+/// Appends a segment and lets it go: at one place, as a segment is dropped by its kind.
+fn put_owned(segment: Segment, comps: u16, out: &mut Vec<u8>) -> Result<(), NoMemory>
+    requires { InRange comps segment }
+    ensures { OnOk result (out.new.items ≡ out.old.items ++ spelling comps segment) }
+{
+    put_segment(&segment, comps, out)
+}
+
 /// Appends SIZ.
 fn put_siz(alloc: Global, width: u32, height: u32, out: &mut Vec<u8>) -> Result<(), NoMemory>
     requires { AreSizes width height }
     ensures { OnOk result (out.new.items ≡ out.old.items ++ spelling 1 (segment_value.Siz (siz_made width height))) }
 {
     let siz = siz(alloc, width, height)?;
-    put_segment(&Segment::Siz(siz), 1, out)
+    put_owned(Segment::Siz(siz), 1, out)
 }
 
 /// Appends SOC and SIZ.
@@ -103,7 +112,7 @@ fn put_front(alloc: Global, width: u32, height: u32, out: &mut Vec<u8>) -> Resul
 fn put_cod(alloc: Global, out: &mut Vec<u8>) -> Result<(), NoMemory>
     ensures { OnOk result (out.new.items ≡ out.old.items ++ spelling 3 (segment_value.Cod cod_made)) }
 {
-    put_segment(&Segment::Cod(cod(alloc)), COMPS, out)
+    put_owned(Segment::Cod(cod(alloc)), COMPS, out)
 }
 
 /// Appends QCD.
@@ -111,7 +120,7 @@ fn put_qcd(alloc: Global, out: &mut Vec<u8>) -> Result<(), NoMemory>
     ensures { OnOk result (out.new.items ≡ out.old.items ++ spelling 3 (segment_value.Qcd qcd_made)) }
 {
     let quant = qcd(alloc)?;
-    put_segment(&Segment::Qcd(quant), COMPS, out)
+    put_owned(Segment::Qcd(quant), COMPS, out)
 }
 
 /// Appends COM.
@@ -119,7 +128,7 @@ fn put_com(alloc: Global, out: &mut Vec<u8>) -> Result<(), NoMemory>
     ensures { OnOk result (out.new.items ≡ out.old.items ++ spelling 3 (segment_value.Com com_made)) }
 {
     let comment = com(alloc)?;
-    put_segment(&Segment::Com(comment), COMPS, out)
+    put_owned(Segment::Com(comment), COMPS, out)
 }
 
 /// Appends the segments after SIZ.
@@ -143,8 +152,8 @@ fn put_part(body: &[u8], out: &mut Vec<u8>) -> Result<(), NoMemory>
         part: 0,
         parts: 1,
     };
-    put_segment(&Segment::Sot(sot), COMPS, out)?;
-    put_segment(&Segment::Sod, COMPS, out)?;
+    put_owned(Segment::Sot(sot), COMPS, out)?;
+    put_owned(Segment::Sod, COMPS, out)?;
     out.extend_from_slice(body)?;
     Ok(())
 }
