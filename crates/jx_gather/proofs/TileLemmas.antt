@@ -1,7 +1,7 @@
 -- The packets of a tile, read one after another.
 use Rattle.std.proofs.Common.{◌≡◌, ℕ, suc, ◌+◌, ◌-◌, ◌<◌, ◌≤◌, ◌^◌, List, [], ◌∷◌, ◌++◌, length, get_or, set, drop, take, Some, slice_get, refl, ap, sym, ◌∙◌, subst, arith, inl, inr, All, append-nil, ◌==◌, Bool, true, false, cond, length-take, take-append-drop}
 use Rattle.std.specs.List.{flat_map}
-use Rattle.std.proofs.lemmas.List.{at_drop_more, at_drop_all, take_more}
+use Rattle.std.proofs.lemmas.List.{at_drop_more, at_drop_all, length-drop, length-set, take_more}
 use Rattle.std.proofs.lemmas.List.Concat.{flat_map-append}
 use Rattle.std.proofs.lemmas.List.Elements.{All-head, All-tail, All-cons, All-weaker}
 use Rattle.std.proofs.lemmas.Option.{get_or_from_slice_get, slice_get-get_or, slice_get_within}
@@ -21,7 +21,7 @@ use Rattle.jx_gather.specs.Faults.{HasCause}
 use Rattle.jx_stream.specs.Shapes.{geometry, layers_of, tile_at}
 use Rattle.jx_geom.specs.Precincts.{HasPrecinct, leaf_number}
 use Rattle.jx_geom.specs.Precincts.{leaves}
-use Rattle.jx_gather.specs.Data.{window, due, behind, end_of_data, header_in}
+use Rattle.jx_gather.specs.Data.{window, due, behind, end_of_data, front_length, header_in, parts_length}
 use Rattle.jx_gather.specs.Cuts.{Cut, Left, IsCut, IsTurn, AreCuts, names_of, number_of, Breaks}
 use Rattle.jx_gather.specs.Blocks.{Found, founds_from, founds_in, founds_of, tile_blocks}
 use Rattle.jx_gather.specs.Put.{put_one, put_all}
@@ -401,3 +401,22 @@ pub first_inside : (b : List ℕ) (bodies all : List Body) → AreInside b bodie
 first_inside b bodies all inside is =
     let I : List Body → Type 0 = λ ys. AreInside b ys in
     subst I (sym is) (All-cons (λ (y : Body). y.at + y.length ≤ length b) (record { at = 0; length = 0 }) bodies (omega arith) inside)
+
+-- ---- what a call asks for beside a step
+pub window_short : (b : List ℕ) (body : Body) (w : List ℕ) → w ≡ window b body → length w ≤ body.length
+window_short b body w is = omega (arith, ap length is, length-take body.length (drop body.at b))
+
+pub window_fits : (b : List ℕ) (body : Body) (later : List Body) (w : List ℕ) → length b ≤ 2 ^ 28 → AreInside b (body ∷ later) → w ≡ window b body → body.at + length w < 2 ^ 32
+window_fits b body later w fits inside is =
+    let low : length w ≤ body.length = window_short b body w is in
+    let within : body.at + body.length ≤ length b = All-head (λ (y : Body). y.at + y.length ≤ length b) body later inside in
+    omega (arith, low, within, fits)
+
+pub bytes_enough : (w : List ℕ) (number : ℕ) (k : State) (c : Cut) → IsCut w number k c → c.count ≤ length w → parts_length c.parts ≤ length c.bytes
+bytes_enough w number k c cut within =
+    omega (arith, cut.count_is, within, ap length cut.bytes_are, length-take (parts_length c.parts) (drop (front_length w c.used) w), length-drop (front_length w c.used) w)
+
+pub still_there : (states read now : List State) (n : ℕ) (k : State) → n < length states → read ≡ set states n k → now ≡ read → n < length now
+still_there states read now n k there read_is now_is =
+    let long : length now ≡ length states = ap length now_is ∙ ap length read_is ∙ length-set states n k in
+    omega (arith, there, long)

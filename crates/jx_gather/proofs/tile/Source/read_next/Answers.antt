@@ -7,7 +7,7 @@ use Rattle.jx_stream.specs.Shapes.{tile_at}
 use Rattle.jx_gather.specs.Data.{behind}
 use Rattle.jx_gather.specs.Cuts.{number_of}
 use Rattle.jx_gather.specs.Reading.{state_at}
-use Rattle.jx_gather.proofs.TileLemmas.{inside_due, next_inside, end_inside, ready_at, none_due, due_breaks, step_made, next_front, after_parts, after_leaves, can_put}
+use Rattle.jx_gather.proofs.TileLemmas.{after_leaves, after_parts, bytes_enough, can_put, due_breaks, end_inside, inside_due, next_front, next_inside, none_due, ready_at, step_made, still_there, window_fits, window_short}
 use Rattle.jx_gather.proofs.tile.Source.read_next.Goals as goal
 
 abbrev none : PacketName
@@ -110,3 +110,25 @@ returns-in-Ok-put_pieces-clause-inside c =
     let bodies_are = c.pass.ensures.bodies ∙ ap (λ (xs : List Body). behind c.in-Some.body c.in-Ok.packet.count ∷ drop 1 xs) c.in-Ok.ensures.bodies in
     next_inside c.args.self.now.bytes.now c.args.rest.now.bodies c.in-Some.body (drop 1 c.due.new.self.bodies) c.in-Ok.packet.count c.window_of-window.result.now c.pass.new.self.bodies c.requires.inside
     (c.in-Some.ensures.due.0 ∙ c.in-Some.ensures.due.1) c.window_of-window.ensures c.in-Ok.ensures.within bodies_are
+
+pub read-requires-clause-fits : goal.read-requires-clause-fits
+read-requires-clause-fits c =
+    window_fits c.args.self.now.bytes.now c.in-Some.body (drop 1 c.due.new.self.bodies) c.window_of-window.result.now c.requires.task.fits
+    (inside_due c.args.self.now.bytes.now c.args.rest.now.bodies c.in-Some.body (drop 1 c.due.new.self.bodies) c.requires.inside (c.in-Some.ensures.due.0 ∙ c.in-Some.ensures.due.1)) c.window_of-window.ensures
+
+pub pass-requires-clause-body : goal.pass-requires-clause-body
+pass-requires-clause-body c = c.in-Ok.ensures.bodies ∙ c.in-Some.ensures.due.1 ∙ ap (λ (xs : List Body). c.in-Some.body ∷ drop 1 xs) (sym c.in-Ok.ensures.bodies)
+
+pub pass-requires-clause-count : goal.pass-requires-clause-count
+pass-requires-clause-count c =
+    let low : length c.window_of-window.result.now ≤ c.in-Some.body.length = window_short c.args.self.now.bytes.now c.in-Some.body c.window_of-window.result.now c.window_of-window.ensures in
+    omega (arith, c.in-Ok.ensures.within, low)
+
+pub precinct-requires : goal.precinct-requires
+precinct-requires c =
+    still_there c.due.new.self.states c.read.new.self.states c.pass.new.self.states c.precinct_number-precinct.result (state_at c.read.new.self.states c.precinct_number-precinct.result)
+    (ready_at c.args.self.now.bytes.now c.args.self.now.stream.now c.args.self.now.geom.now c.args.self.now.list.now c.args.number c.args.rest.now c.args.blocks.now.items none c.due.new.self.states c.precinct_number-precinct.result c.requires.task c.requires.number c.requires.front c.in-Some.ensures.states c.precinct_number-precinct.ensures.value).there c.in-Ok.ensures.states c.pass.ensures.states
+
+pub put_pieces-requires-clause-bytes : goal.put_pieces-requires-clause-bytes
+put_pieces-requires-clause-bytes c =
+    bytes_enough c.window_of-window.result.now c.args.number (state_at c.due.new.self.states c.precinct_number-precinct.result) _ c.in-Ok.ensures.ok c.in-Ok.ensures.within
