@@ -36,7 +36,6 @@ fn append<'a>(blocks: &mut Vec<Block<'a>>, mut next: Vec<Block<'a>>) -> Result<(
 }
 
 /// The blocks of all tiles, where each packet is covered by an entry.
-#[tactic(auto, using(crate::proofs::GatherLemmas::gathered_none, crate::proofs::GatherLemmas::gathered_next, crate::proofs::GatherLemmas::gathered_all, crate::proofs::GatherLemmas::cause_of_tile))]
 fn gather_tiles<'a>(
     alloc: Global,
     bytes: &'a [u8],
