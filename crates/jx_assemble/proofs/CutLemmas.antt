@@ -8,7 +8,7 @@ use Rattle.jx_stream.specs.declared.Stream.{Stream}
 use Rattle.jx_stream.specs.Spells.{TilePart, part_bytes}
 use Rattle.jx_plan.specs.declared.Marks.{Marks as Asked}
 use Rattle.jx_plan.specs.Groups.{groups_of, more_groups}
-use Rattle.jx_plan.proofs.GroupLemmas.{more_at, more_cut, none_left, part_length}
+use Rattle.jx_plan.proofs.GroupLemmas.{more_cut, none_left, part_length}
 use Rattle.jx_assemble.specs.Packed.{own_part, own_parts, parts_from}
 use Rattle.jx_assemble.specs.Tile.{AreAtMost}
 
@@ -42,17 +42,6 @@ module _ (m : Asked) (s : Stream) (g : Geometry) (own : List Block) (names : Lis
   rest_next part from end low high cut =
       ap (parts_from m s g own part count from) (more_cut m.parts names from end (omega arith) cut)
       ∙ ap (λ (n : ℕ). here part from end ∷ parts_from m s g own (part + 1) count n (more_groups m.parts (drop end names))) (part_length names from end (omega arith) high)
-
-  -- before the first
-  pub cut_first : 0 < length names → count ≡ length (groups_of m.parts names) → IsCut m s g own names most count 0 0 []
-  cut_first some counted =
-      let same : rest 0 0 ≡ all =
-      ap (parts_from m s g own 0 count 0) (more_at m.parts names some) ∙ ap (λ (n : ℕ). parts_from m s g own 0 n 0 (groups_of m.parts names)) counted in
-      record {
-        bytes = ap (map bytes_of) same;
-        short = λ few. subst (AreAtMost most) same few;
-        long = λ few. subst (AreAtMost most) (sym same) few;
-      }
 
   -- behind the last
   rest_none : (part from : ℕ) → length names ≤ from → rest part from ≡ []
