@@ -1,11 +1,12 @@
 -- The parts of blocks layer by layer, and their bytes.
-use Rattle.std.proofs.Common.{◌≡◌, inl, inr, ℕ, zero, suc, ◌<◌, ◌==◌, Bool, true, false, cond, List, [], ◌∷◌, ◌++◌, length, map, refl, sym, ap, ◌∙◌, subst, append-nil, slice_set, All, arith}
+use Rattle.std.proofs.Common.{◌≡◌, inl, inr, ℕ, zero, suc, ◌<◌, ◌==◌, Bool, true, false, cond, ◌+◌, List, [], ◌∷◌, ◌++◌, length, map, drop, get_or, refl, sym, ap, ◌∙◌, subst, append-nil, append_assoc, slice_set, All, arith}
 use Rattle.std.specs.Prelude.{slice_index_or, Option, Some}
 use Rattle.std.specs.Global.{Vec}
-use Rattle.std.specs.List.{flat_map, AllByRecursion}
+use Rattle.std.specs.List.{flat_map, slice_get, AllByRecursion}
 use Rattle.std.proofs.lemmas.Bool.{cases_eq}
 use Rattle.std.proofs.lemmas.Bool.Decides.{nat_tests}
 use Rattle.std.proofs.lemmas.Grind.{flat_map-append}
+use Rattle.std.proofs.lemmas.List.{at_drop_more, length-map}
 use Rattle.std.proofs.lemmas.List.Elements.{All-from_recursion, recursion_from_All, All-append}
 use Rattle.jx_base.specs.declared.pieces.Block.{Block}
 use Rattle.jx_base.specs.Pieces.{PieceValue}
@@ -15,7 +16,7 @@ use Rattle.jx_gather.proofs.CarryLemmas.{layer_here, layer_past, layer_nothing}
 use Rattle.jx_assemble.specs.Coded.{ArePartsOf, HasLayers, IsInside}
 use Rattle.jx_assemble.specs.Sent.{AreSent, IsSent, layer_bytes, row_at, row_bytes, rows_of, sent_bytes, sent_in}
 use Rattle.jx_block.specs.declared.OutPart.{OutPart}
-use Rattle.jx_block.specs.Recoding.{piece_of}
+use Rattle.jx_block.specs.Recoding.{part_bytes, piece_of}
 use Rattle.jx_assemble.specs.declared.sent.Sent.{Sent}
 
 one_sent : ℕ → OutPart → Sent
@@ -130,3 +131,31 @@ pushed vecs i layer block v w p is lt at made = elim (cases_eq layer i) [
       set_other vecs i layer v ne ∙ sym (append-nil (row_at (rows_of vecs) layer))
       ∙ ap (λ (xs : List Sent). row_at (rows_of vecs) layer ++ xs) (sym (sent_past layer block p [] apart))
 ]
+
+-- ---- a block by its number
+pub block_there : {X Y : Type 0} (f : X → Y) (xs : List X) (i : ℕ) (x : X) → i < length xs → x ≡ slice_index_or xs i x → slice_get (map f xs) i ≡ Some (f x)
+block_there f [] i x lt is = absurd (omega (arith, lt))
+block_there f (y ∷ xs) zero x lt is = ap (λ z. Some (f z)) (sym is)
+block_there f (y ∷ xs) (suc i) x lt is = block_there f xs i x (omega (arith, lt)) is
+
+pub bytes_there : {X : Type 0} (f : X → List ℕ) (xs : List X) (i : ℕ) (x : X) → i < length xs → x ≡ slice_index_or xs i x → slice_index_or (map f xs) i [] ≡ f x
+bytes_there f [] i x lt is = absurd (omega (arith, lt))
+bytes_there f (y ∷ xs) zero x lt is = ap f (sym is)
+bytes_there f (y ∷ xs) (suc i) x lt is = bytes_there f xs i x (omega (arith, lt)) is
+
+-- ---- what is sent, part by part
+pub sent_there : {X : Type 0} (f : X → List ℕ) (values : List X) (row : List Sent) (i : ℕ) (d : Sent) → AreSent (map f values) row → i < length row → (get_or row i d).block < length values
+sent_there f values row i d sent lt = subst (λ (n : ℕ). (get_or row i d).block < n) (length-map values f) (sent i d lt).there
+
+pub sent_inside : (datas : List (List ℕ)) (row : List Sent) (i : ℕ) (d : Sent) (bytes : List ℕ) → AreSent datas row → i < length row → slice_index_or datas (get_or row i d).block [] ≡ bytes
+    → IsInside bytes (get_or row i d).part
+sent_inside datas row i d bytes sent lt held = subst (λ (xs : List ℕ). IsInside xs (get_or row i d).part) held (sent i d lt).inside
+
+pub body_next : (datas : List (List ℕ)) (row : List Sent) (i : ℕ) (d : Sent) (out new all bytes : List ℕ) → i < length row → slice_index_or datas (get_or row i d).block [] ≡ bytes
+    → new ≡ out ++ part_bytes bytes (get_or row i d).part → out ++ row_bytes datas (drop i row) ≡ all → new ++ row_bytes datas (drop (i + 1) row) ≡ all
+body_next datas row i d out new all bytes lt held put is =
+    let own : Sent = get_or row i d in
+    let rest : List ℕ = row_bytes datas (drop (i + 1) row) in
+    let split : row_bytes datas (drop i row) ≡ part_bytes bytes own.part ++ rest =
+    at_drop_more (row_bytes datas) row i d lt ∙ ap (λ (xs : List ℕ). part_bytes xs own.part ++ rest) held in
+    ap (λ (xs : List ℕ). xs ++ rest) put ∙ append_assoc out (part_bytes bytes own.part) rest ∙ ap (λ (xs : List ℕ). out ++ xs) (sym split) ∙ is
