@@ -1,9 +1,10 @@
-use Rattle.std.proofs.Common.{◌≡◌, ◌<◌, ℕ, List, ◌∙◌, ap, sym, map, arith}
+use Rattle.std.proofs.Common.{◌≡◌, ◌<◌, ℕ, List, ◌∙◌, ap, subst, sym, map, arith}
 use Rattle.std.specs.Prelude.{slice_get}
 use Rattle.jx_base.specs.declared.pieces.Block.{Block}
 use Rattle.jx_base.proofs.Joined.{joined_none}
 use Rattle.jx_geom.specs.Precincts.{leaf_number, leaves}
 use Rattle.jx_gather.specs.Carries.{pieces_of}
+use Rattle.jx_assemble.specs.Coded.{HasLayers}
 use Rattle.jx_assemble.specs.Own.{leaf_bytes}
 use Rattle.jx_assemble.specs.Sent.{layer_bytes, row_at, row_bytes, rows_of}
 use Rattle.jx_assemble.proofs.SendingLemmas.{bytes_next, none_sent}
@@ -30,3 +31,14 @@ loop-leaf-preserved g c =
           (c.in_ok-put_block.ensures.bytes n) (c.loop-leaf.invariant.1 n) (ap (λ (i : ℕ). layer_bytes n (pieces_of (slice_get own i))) number),
       λ n. c.in_ok-put_block.ensures.sent n,
     )
+
+pub put_block-requires-clause-layers : goal.put_block-requires-clause-layers
+put_block-requires-clause-layers g c =
+    let own : List Block = map g.B.Coded.block c.args.values.now in
+    let inside : c.loop-leaf.leaf < leaves c.args.geom.now c.args.comp c.args.res c.args.precinct = grind arith in
+    let number : c.number.result ≡ leaf_number c.args.geom.now c.args.comp c.args.res c.args.precinct c.loop-leaf.leaf = c.number.ensures ∙ c.leaves-leaves.ensures.each c.loop-leaf.leaf inside in
+    subst (λ (n : ℕ). HasLayers n (slice_get own c.number.result)) (sym c.loop-leaf.invariant.0)
+    (subst (λ (i : ℕ). HasLayers c.args.layers (slice_get own i)) (sym number) (c.requires.layers c.loop-leaf.leaf inside))
+
+pub put_block-requires-clause-sent : goal.put_block-requires-clause-sent
+put_block-requires-clause-sent g c = c.loop-leaf.invariant.2
