@@ -1,92 +1,60 @@
 //! A codestream of one tile put together again.
 
-ghost use Rattle.std.specs.Prelude.{◌≡◌, ◌<◌, map, [], IfOk};
-ghost use Rattle.std.specs.List.{All};
-ghost use Rattle.jx_base.specs.declared.pieces.Block.{Block};
-ghost use Rattle.jx_base.specs.Sound.{IsSound};
-ghost use Rattle.jx_block.specs.declared.job.Job.{Job};
-ghost use Rattle.jx_block.specs.Jobs.{IsAsked};
-ghost use Rattle.jx_block.specs.Recoded.{WrittenBlock};
+ghost use Rattle.std.specs.Prelude.{◌≡◌, ◌<◌, length, IfOk};
 ghost use Rattle.jx_stream.specs.First.{tile_number};
 ghost use Rattle.jx_plan.specs.Plan.{MayBePlanned, headers_of};
 ghost use Rattle.jx_plan.specs.Wanted.{MayBeWanted};
-ghost use Rattle.jx_assemble.specs.Tile.{AreMade, AreValuesOf, block_written, made_in};
+ghost use Rattle.jx_assemble.specs.Tile.{AreMade, AreValuesOf, made_in};
 
-use crate::checks::{check, equal};
+use crate::checks::equal;
+use crate::hex::bytes_of;
 use crate::planned::{input, keeper};
+use crate::values::bare_values;
 use jx_assemble::{AssembleFault, TileOut, assemble_tile, main_header, main_view, pack_tile};
 use jx_base::{Block, NoMemory};
-use jx_block::{Job, Recoded, recode};
+use jx_block::Recoded;
 use jx_layers::{LayerPlanner, tile_count};
-use jx_plan::{Marks, Options, OrderChoice, OutStream, PartChoice, PrecinctChoice, plan};
-use jx_store::{Claim, Entry, Named};
+use jx_plan::{Options, OrderChoice, OutStream, PartChoice, PrecinctChoice, plan};
+use jx_store::Entry;
 use jx_stream::{MainView, Stream};
 use std::alloc::{AllocError, Global};
 use std::test::Fail;
 
-/// A block without a pass, as it is written. Where it has a pass this fails as if memory were refused.
-fn bare_value<'a>(alloc: Global, job: &'a Job<'a>) -> Result<Recoded<'a>, NoMemory>
-    requires { IsAsked job.now.block.now job.now.style job.now.ends }
-    ensures job { IfOk result (λ r. r.job ≡ job.entry.now) }
-    ensures sound { IfOk result (λ r. IsSound (block_written r)) }
-    ensures bare { IfOk result (λ r. (block_written r).pieces ≡ []) }
+/// The pieces of a tile: their bytes, one behind another, and how many each has.
+#[derive(Drop)]
+struct Pieces {
+    bytes: Vec<u8>,
+    sizes: Vec<usize>,
+}
+
+/// Puts the pieces of a tile-part behind others. Where its size isn't that of its pieces this fails as if memory were refused.
+fn put_pieces(out: &TileOut<'_, '_>, part: usize, pieces: &mut Pieces) -> Result<(), NoMemory>
+    requires { part < length out.now }
 {
-    let claim = Claim::issue(job.number, 0);
-    let value = recode(alloc, &claim, job);
-    claim.spend();
-    let Ok(value) = value else {
+    let first = pieces.bytes.len();
+    for piece in 0..out.pieces(part) {
+        let before = pieces.bytes.len();
+        out.put(part, piece, &mut pieces.bytes)?;
+        pieces
+            .sizes
+            .push(pieces.bytes.len().saturating_sub(before))?;
+    }
+    if pieces.bytes.len().saturating_sub(first) as u64 != u64::from(out.size(part)) {
         return Err(NoMemory);
+    }
+    Ok(())
+}
+
+/// The pieces of a tile.
+fn pieces_of(alloc: Global, out: &TileOut<'_, '_>) -> Result<Pieces, NoMemory> {
+    let mut pieces = Pieces {
+        bytes: Vec::new(alloc),
+        sizes: Vec::new(alloc),
     };
-    if value.parts().len() > 0 {
-        return Err(NoMemory);
-    }
-    Ok(value)
-}
-
-/// A block's entry.
-fn entry_of<'a>(number: u32, value: Recoded<'a>) -> Entry<Recoded<'a>>
-    ensures { result.named ≡ Named.Made value.entry }
-{
-    Entry {
-        number,
-        worker: 0,
-        seen: number,
-        named: Named::Made(value),
-    }
-}
-
-/// The entries of the blocks as they are written, where none has a pass.
-fn bare_values<'a>(alloc: Global, jobs: &'a [Job<'a>]) -> Result<Vec<Entry<Recoded<'a>>>, NoMemory>
-    requires { All (λ (j : Job). IsAsked j.block.now j.style j.ends) jobs.now }
-    ensures made { IfOk result (λ list. AreMade list.items) }
-    ensures jobs { IfOk result (λ list. map (λ (r : WrittenBlock). r.job) (made_in list.items) ≡ jobs.entry.now) }
-    ensures sound { IfOk result (λ list. All IsSound (map block_written (made_in list.items))) }
-    ensures bare { IfOk result (λ list. All (λ (b : Block). b.pieces ≡ []) (map block_written (made_in list.items))) }
-{
-    let mut list = Vec::new(alloc);
-    for job in jobs {
-        let value = bare_value(alloc, job)?;
-        list.push(entry_of(job.number, value))?;
-    }
-    Ok(list)
-}
-
-/// The pieces of a tile, each in a buffer. Where a tile-part's size isn't that of its pieces this fails as if memory were refused.
-fn pieces_of(alloc: Global, out: &TileOut<'_, '_>) -> Result<Vec<Vec<u8>>, NoMemory> {
-    let mut list = Vec::new(alloc);
     for part in 0..out.parts() {
-        let mut size: u64 = 0;
-        for piece in 0..out.pieces(part) {
-            let mut bytes = Vec::new(alloc);
-            out.put(part, piece, &mut bytes)?;
-            size = size.wrapping_add(bytes.len() as u64);
-            list.push(bytes)?;
-        }
-        if size != u64::from(out.size(part)) {
-            return Err(NoMemory);
-        }
+        put_pieces(out, part, &mut pieces)?;
     }
-    Ok(list)
+    Ok(pieces)
 }
 
 /// The pieces of a tile, by its number 0.
@@ -95,7 +63,7 @@ fn put_tile(
     plan: &OutStream<'_>,
     values: &[Entry<Recoded<'_>>],
     most: u32,
-) -> Result<Vec<Vec<u8>>, AssembleFault>
+) -> Result<Pieces, AssembleFault>
     requires tile { 0 < tile_number plan.now.stream.siz }
     requires made { AreMade values.now }
     requires values { AreValuesOf plan.now 0 (made_in values.now) }
@@ -111,7 +79,7 @@ fn put_packed(
     main: &MainView<'_>,
     values: &[Entry<Recoded<'_>>],
     most: u32,
-) -> Result<Vec<Vec<u8>>, AssembleFault>
+) -> Result<Pieces, AssembleFault>
     requires main { main.now ≡ record { siz = (headers_of plan.now).siz; main = (headers_of plan.now).main } }
     requires tile { 0 < tile_number plan.now.stream.siz }
     requires made { AreMade values.now }
@@ -123,79 +91,132 @@ fn put_packed(
     }
 }
 
-/// The tile-parts of the one tile of a plan, or its pieces.
-fn only_tile(
-    alloc: Global,
-    plan: &OutStream<'_>,
+/// The tile-parts, SOP, EPH and PLT.
+type Asked = (PartChoice, bool, bool, bool);
+
+/// What is asked of a file with one tile, and what is wanted: the length of the main header, and those of the tile-parts and of their
+/// pieces, or nothing where a tile-part has more bytes than the most.
+struct Row {
+    text: &'static str,
+    marks: Asked,
     most: u32,
-    form: Form,
-) -> Option<Result<Vec<Vec<u8>>, AssembleFault>>
+    main: usize,
+    parts: &'static [usize],
+    pieces: &'static [usize],
+}
+
+fn have_sizes(parts: &[Vec<u8>], sizes: &[usize]) -> bool {
+    if parts.len() != sizes.len() {
+        return false;
+    }
+    let mut rest = sizes;
+    for part in parts {
+        match rest.split_first() {
+            Some((size, behind)) if *size == part.len() => rest = behind,
+            _ => return false,
+        }
+    }
+    true
+}
+
+/// Whether they are these bytes, one behind another.
+fn are_whole(parts: &[Vec<u8>], whole: &[u8]) -> bool {
+    let mut rest = whole;
+    for part in parts {
+        let (front, behind) = rest.split_at(part.len().min(rest.len()));
+        if part.as_slice() != front {
+            return false;
+        }
+        rest = behind;
+    }
+    rest.is_empty()
+}
+
+/// Whether tile-parts and pieces are the same bytes, and have these lengths.
+fn are_so(
+    parts: &Result<Vec<Vec<u8>>, AssembleFault>,
+    pieces: &Result<Pieces, AssembleFault>,
+    row: &Row,
+) -> bool {
+    match (parts, pieces) {
+        (Ok(parts), Ok(pieces)) => {
+            have_sizes(parts, row.parts)
+                && pieces.sizes.as_slice() == row.pieces
+                && are_whole(parts, &pieces.bytes)
+        }
+        (Err(AssembleFault::TooLong), Err(AssembleFault::TooLong)) => row.parts.is_empty(),
+        _ => false,
+    }
+}
+
+/// Whether the tile is so.
+fn is_tile(alloc: Global, plan: &OutStream<'_>, values: &[Entry<Recoded<'_>>], row: &Row) -> bool
+    requires tile { 0 < tile_number plan.now.stream.siz }
+    requires made { AreMade values.now }
+    requires values { AreValuesOf plan.now 0 (made_in values.now) }
+{
+    let parts = assemble_tile(alloc, plan, 0, values, row.most);
+    let pieces = put_tile(alloc, plan, values, row.most);
+    are_so(&parts, &pieces, row)
+}
+
+/// Whether the one tile of a plan is so. None where a block has a pass, or for want of memory.
+fn only_tile(alloc: Global, plan: &OutStream<'_>, row: &Row) -> Option<bool>
     requires { tile_number plan.now.stream.siz ≡ 1 }
 {
     let Ok(values) = bare_values(alloc, plan.jobs()) else {
         return None;
     };
     let entries = values.as_slice();
-    match form {
-        Form::Parts => Some(assemble_tile(alloc, plan, 0, entries, most)),
-        Form::Pieces => Some(put_tile(alloc, plan, entries, most)),
+    Some(is_tile(alloc, plan, entries, row))
+}
+
+fn is_main(alloc: Global, plan: &OutStream<'_>, row: &Row) -> bool {
+    match main_header(alloc, plan) {
+        Ok(main) => main.len() == row.main,
+        Err(_) => false,
     }
 }
 
-/// How a tile is given.
-#[derive(Clone, Copy)]
-pub(crate) enum Form {
-    Parts,
-    Pieces,
-}
-
-/// The main header of a plan, and its one tile.
-#[derive(Drop)]
-pub(crate) struct Assembled {
-    pub main: Vec<u8>,
-    pub tile: Result<Vec<Vec<u8>>, AssembleFault>,
-}
-
-fn kept_in(alloc: Global, plan: &OutStream<'_>, most: u32, form: Form) -> Option<Assembled>
+/// Whether the main header and the one tile of a plan are so.
+fn is_kept_by(alloc: Global, plan: &OutStream<'_>, row: &Row) -> Option<bool>
     requires { tile_number plan.now.stream.siz ≡ 1 }
 {
-    let tile = only_tile(alloc, plan, most, form)?;
-    match main_header(alloc, plan) {
-        Ok(main) => Some(Assembled { main, tile }),
-        Err(_) => None,
+    if is_main(alloc, plan, row) {
+        only_tile(alloc, plan, row)
+    } else {
+        None
     }
 }
 
-/// The main header and the tile of a stream of one tile. The stream and the blocks come as references: a value can't be lent where it
-/// is made, since both lifetimes of the blocks are one.
-fn kept_by(
+/// The same of a stream of one tile. The stream and the blocks come as references: a value can't be lent where it is made, since both
+/// lifetimes of the blocks are one.
+fn is_planned(
     alloc: Global,
     stream: &Stream,
     blocks: &[Block<'_>],
     options: &Options,
     planner: &mut Box<dyn LayerPlanner>,
-    most: u32,
-    form: Form,
-) -> Option<Assembled>
+    row: &Row,
+) -> Option<bool>
     requires may { MayBePlanned stream.now blocks.now }
     requires wanted { MayBeWanted options.now }
     requires one { tile_number stream.now.siz ≡ 1 }
 {
     match plan(alloc, stream, blocks, options, Some(planner)) {
-        Ok(plan) => kept_in(alloc, &plan, most, form),
+        Ok(plan) => is_kept_by(alloc, &plan, row),
         Err(_) => None,
     }
 }
 
 /// The same of the headers and the blocks of a file.
-fn kept_of(
+fn is_kept_of(
     alloc: Global,
     stream: &Stream,
     blocks: &[Block<'_>],
     options: &Options,
-    most: u32,
-    form: Form,
-) -> Option<Assembled>
+    row: &Row,
+) -> Option<bool>
     requires may { MayBePlanned stream.now blocks.now }
     requires wanted { MayBeWanted options.now }
 {
@@ -203,98 +224,173 @@ fn kept_of(
         return None;
     }
     match keeper(alloc) {
-        Ok(mut planner) => kept_by(alloc, stream, blocks, options, &mut planner, most, form),
+        Ok(mut planner) => is_planned(alloc, stream, blocks, options, &mut planner, row),
         Err(_) => None,
     }
 }
 
-/// The same of a codestream.
-pub(crate) fn kept(
-    alloc: Global,
-    bytes: &[u8],
-    options: &Options,
-    most: u32,
-    form: Form,
-) -> Option<Assembled>
+/// The same of a file.
+fn is_kept_in(alloc: Global, file: &[u8], options: &Options, row: &Row) -> Option<bool>
     requires { MayBeWanted options.now }
 {
-    match input(alloc, bytes) {
-        Some(read) => kept_of(alloc, &read.0, &read.1, options, most, form),
-        None => None,
-    }
+    let read = input(alloc, file)?;
+    is_kept_of(alloc, &read.0, &read.1, options, row)
 }
 
 /// Order, precincts, style and layers are kept.
-pub(crate) fn with_marks(alloc: Global, marks: Marks) -> Result<Options, AllocError>
+fn with_marks(alloc: Global, asked: Asked) -> Result<Options, AllocError>
     ensures { IfOk result (λ options. MayBeWanted options) }
 {
+    let (parts, sop, eph, plt) = asked;
     let layers = String::from_str(alloc, "keep")?;
     Ok(Options {
         order: OrderChoice::Keep,
         precincts: PrecinctChoice::Keep,
         style: None,
         layers,
-        parts: marks.parts,
-        sop: marks.sop,
-        eph: marks.eph,
-        plt: marks.plt,
+        parts,
+        sop,
+        eph,
+        plt,
     })
 }
 
-const SMALL: [u8; 82] = [
-    0xFF, 0x4F, 0xFF, 0x51, 0, 41, 0, 0, 0, 0, 0, 1, 0, 0, 0, 1, 0, 0, 0, 0, 0, 0, 0, 0, 0, 0, 0,
-    1, 0, 0, 0, 1, 0, 0, 0, 0, 0, 0, 0, 0, 0, 1, 7, 1, 1, 0xFF, 0x52, 0, 12, 0, 0, 0, 1, 0, 0, 4,
-    4, 0, 1, 0xFF, 0x5C, 0, 4, 0x40, 0x40, 0xFF, 0x90, 0, 10, 0, 0, 0, 0, 0, 15, 0, 1, 0xFF, 0x93,
-    0, 0xFF, 0xD9,
-];
-
-/// What is kept of the smallest tile, with all marks or none, where a tile-part has at most so many bytes.
-fn smallest(alloc: Global, marked: bool, most: u32) -> Result<Assembled, Fail> {
-    let marks = Marks {
-        sop: marked,
-        eph: marked,
-        plt: marked,
-        parts: PartChoice::None,
-    };
-    let options = with_marks(alloc, marks)?;
-    Ok(kept(alloc, &SMALL, &options, most, Form::Parts).ok_or("no plan")?)
+fn is_marked(alloc: Global, file: &[u8], row: &Row) -> Option<bool> {
+    let options = with_marks(alloc, row.marks).ok()?;
+    is_kept_in(alloc, file, &options, row)
 }
 
-/// Whether the tile has this tile-part alone.
-fn is_part(kept: &Assembled, want: &[u8]) -> bool {
-    match &kept.tile {
-        Ok(parts) => parts.len() == 1 && parts[0].as_slice() == want,
-        Err(_) => false,
+fn is_kept(alloc: Global, row: &Row) -> Option<bool> {
+    let file = bytes_of(alloc, row.text)?;
+    is_marked(alloc, &file, row)
+}
+
+// One sample, whose packet is empty.
+const SMALL: &str = "
+    FF4F FF51 0029 0000 00000001 00000001 00000000 00000000 00000001 00000001 00000000 00000000 0001 07 01 01
+    FF52 000C 00 00 0001 00 00 04 04 00 01 FF5C 0004 40 40
+    FF90 000A 0000 0000000F 00 01 FF93 00
+    FFD9";
+
+// Four samples in a row, three layers, one level, and two precincts in resolution 1; the tile has a comment. Every packet is empty.
+const LAYERS: &str = "
+    FF4F FF51 0029 0000 00000004 00000001 00000000 00000000 00000004 00000001 00000000 00000000 0001 07 01 01
+    FF52 000E 01 00 0003 00 01 04 04 00 01 FF 11 FF5C 0007 40 40 48 48 50
+    FF90 000A 0000 0000001E 00 01 FF64 0005 0001 61 FF93 000000 000000 000000
+    FFD9";
+
+// The picture's one column is none of its component, which has each second one.
+const EMPTY: &str = "
+    FF4F FF51 0029 0000 00000002 00000001 00000001 00000000 00000002 00000001 00000000 00000000 0001 07 02 01
+    FF52 000C 00 00 0001 00 00 04 04 00 01 FF5C 0004 40 40
+    FF90 000A 0000 0000000E 00 01 FF93
+    FFD9";
+
+// The second tile-part of resolutions with SOP and EPH has 32 bytes, the first 30. A tile without packets has one tile-part, and no
+// lengths.
+static TILES: [Row; 12] = [
+    Row {
+        text: SMALL,
+        marks: (PartChoice::None, false, false, false),
+        most: 15,
+        main: 65,
+        parts: &[15],
+        pieces: &[14, 1],
+    },
+    Row {
+        text: SMALL,
+        marks: (PartChoice::None, false, false, false),
+        most: 14,
+        main: 65,
+        parts: &[],
+        pieces: &[],
+    },
+    Row {
+        text: SMALL,
+        marks: (PartChoice::None, true, true, true),
+        most: 29,
+        main: 65,
+        parts: &[29],
+        pieces: &[20, 9],
+    },
+    Row {
+        text: LAYERS,
+        marks: (PartChoice::Layer, true, false, false),
+        most: 42,
+        main: 70,
+        parts: &[42, 35, 35],
+        pieces: &[21, 7, 7, 7, 14, 7, 7, 7, 14, 7, 7, 7],
+    },
+    Row {
+        text: LAYERS,
+        marks: (PartChoice::Layer, true, false, false),
+        most: 41,
+        main: 70,
+        parts: &[],
+        pieces: &[],
+    },
+    Row {
+        text: LAYERS,
+        marks: (PartChoice::Resolution, false, false, true),
+        most: 28,
+        main: 70,
+        parts: &[28, 23, 21, 23, 21, 23],
+        pieces: &[27, 1, 21, 1, 1, 20, 1, 21, 1, 1, 20, 1, 21, 1, 1],
+    },
+    Row {
+        text: LAYERS,
+        marks: (PartChoice::Resolution, true, true, false),
+        most: 31,
+        main: 70,
+        parts: &[],
+        pieces: &[],
+    },
+    Row {
+        text: LAYERS,
+        marks: (PartChoice::Resolution, true, true, false),
+        most: 32,
+        main: 70,
+        parts: &[30, 32, 23, 32, 23, 32],
+        pieces: &[21, 9, 14, 9, 9, 14, 9, 14, 9, 9, 14, 9, 14, 9, 9],
+    },
+    Row {
+        text: LAYERS,
+        marks: (PartChoice::None, false, true, true),
+        most: 62,
+        main: 70,
+        parts: &[62],
+        pieces: &[35, 3, 3, 3, 3, 3, 3, 3, 3, 3],
+    },
+    Row {
+        text: EMPTY,
+        marks: (PartChoice::Layer, true, true, true),
+        most: 14,
+        main: 65,
+        parts: &[14],
+        pieces: &[14],
+    },
+    Row {
+        text: EMPTY,
+        marks: (PartChoice::Layer, true, true, true),
+        most: 13,
+        main: 65,
+        parts: &[],
+        pieces: &[],
+    },
+    Row {
+        text: EMPTY,
+        marks: (PartChoice::None, false, false, true),
+        most: 14,
+        main: 65,
+        parts: &[14],
+        pieces: &[14],
+    },
+];
+
+#[test]
+fn tiles(rt: HostRuntime) -> Result<(), Fail> {
+    for row in &TILES {
+        equal(&rt, is_kept(rt.alloc(), row), Some(true));
     }
-}
-
-/// The smallest tile has 15 bytes, or, with all marks, 29.
-#[test]
-fn smallest_tile(rt: HostRuntime) -> Result<(), Fail> {
-    let bare = smallest(rt.alloc(), false, 15)?;
-    equal(&rt, bare.main.as_slice(), &SMALL[..65]);
-    check(&rt, is_part(&bare, &SMALL[65..80]));
-    Ok(())
-}
-
-#[test]
-fn smallest_tile_too_long(rt: HostRuntime) -> Result<(), Fail> {
-    let long = smallest(rt.alloc(), false, 14)?;
-    equal(&rt, long.main.as_slice(), &SMALL[..65]);
-    check(&rt, matches!(&long.tile, Err(AssembleFault::TooLong)));
-    Ok(())
-}
-
-static MARKED: [u8; 29] = [
-    0xFF, 0x90, 0, 10, 0, 0, 0, 0, 0, 29, 0, 1, 0xFF, 0x58, 0, 4, 0, 9, 0xFF, 0x93, 0xFF, 0x91, 0,
-    4, 0, 0, 0, 0xFF, 0x92,
-];
-
-#[test]
-fn smallest_tile_with_marks(rt: HostRuntime) -> Result<(), Fail> {
-    let kept = smallest(rt.alloc(), true, 29)?;
-    equal(&rt, kept.main.len(), 65);
-    check(&rt, matches!(kept.main.get(49), Some(6)));
-    check(&rt, is_part(&kept, &MARKED));
     Ok(())
 }

@@ -1,6 +1,6 @@
 //! Files as texts of hexadecimal digits.
 
-use std::alloc::{AllocError, Global};
+use std::alloc::Global;
 
 fn digit(byte: u8) -> Option<u8> {
     match byte {
@@ -10,27 +10,20 @@ fn digit(byte: u8) -> Option<u8> {
     }
 }
 
-/// Appends the bytes of hexadecimal digits; what is no digit stands between them.
-pub(crate) fn put_hex(bytes: &mut Vec<u8>, text: &str) -> Result<(), AllocError> {
-    let mut high = None;
+/// The bytes of hexadecimal digits; what is no digit stands between them. None for want of memory.
+pub(crate) fn bytes_of(alloc: Global, text: &str) -> Option<Vec<u8>> {
+    let mut bytes = Vec::new(alloc);
+    let mut high: Option<u8> = None;
     for byte in text.as_bytes() {
         if let Some(low) = digit(*byte) {
             match high {
                 None => high = Some(low),
                 Some(first) => {
-                    let first: u8 = first;
-                    bytes.push(first.wrapping_mul(16).wrapping_add(low))?;
+                    bytes.push(first.wrapping_mul(16).wrapping_add(low)).ok()?;
                     high = None;
                 }
             }
         }
     }
-    Ok(())
-}
-
-/// The bytes of hexadecimal digits.
-pub(crate) fn bytes_of(alloc: Global, text: &str) -> Result<Vec<u8>, AllocError> {
-    let mut bytes = Vec::new(alloc);
-    put_hex(&mut bytes, text)?;
-    Ok(bytes)
+    Some(bytes)
 }

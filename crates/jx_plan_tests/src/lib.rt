@@ -1,5 +1,6 @@
 //! Tests of the words of command lines, of plans, and of tiles that are put together, over public calls of jx_words, jx_plan and
-//! jx_assemble. They stand in a crate of their own: an edit here proves no library anew, and their check proves none once more.
+//! jx_assemble, of what the program can't show; tests/tables has the others. They stand in a crate of their own: an edit here proves
+//! no library anew, and their check proves none once more.
 #![tactic(auto)]
 
 #[cfg(test)]
@@ -7,15 +8,7 @@ mod assemble_tests;
 #[cfg(test)]
 mod checks;
 #[cfg(test)]
-mod choice_tests;
-#[cfg(test)]
-mod header_tests;
-#[cfg(test)]
 mod hex;
-#[cfg(test)]
-mod make_words_tests;
-#[cfg(test)]
-mod part_tests;
 #[cfg(test)]
 mod parting_tests;
 #[cfg(test)]
@@ -23,8 +16,6 @@ mod plan_tests;
 #[cfg(test)]
 mod planned;
 #[cfg(test)]
-mod tile_tests;
-#[cfg(test)]
-mod value_tests;
+mod values;
 #[cfg(test)]
 mod words_tests;

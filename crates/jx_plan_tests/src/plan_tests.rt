@@ -1,181 +1,237 @@
-//! Plans: their layers, planners that serve or don't, and what is too much.
+//! Rows of plans: what the program doesn't show of them, and planners that aren't the program's.
 
 use crate::checks::equal;
-use crate::header_tests::cod_of;
-use crate::hex::{bytes_of, put_hex};
-use crate::planned::{
-    NO_MEMORY, Plan, by_planners, by_words, has_fault, has_layers, joiner, keeper, of_file,
-    options_of, seen_in, shows,
-};
-use jx_base::NoMemory;
-use jx_layers::{LayerPlanner, TableLayers};
+use crate::planned::{Ask, AskStyle, Want, is_answered};
+use jx_base::Style;
 use jx_plan::PlanFault;
-use std::alloc::{AllocError, Global};
-use std::process::Abort;
+use std::alloc::Global;
 use std::test::Fail;
 
 // Two tiles of one sample, with a pass in the first's one layer, and one in each of the second's two, which its own COD says.
-pub(crate) const TILES: &str = "
+const TILES: &str = "
     FF4F FF51 0029 0000 00000002 00000001 00000000 00000000 00000001 00000001 00000000 00000000 0001 07 01 01
     FF52 000C 00 00 0001 00 00 04 04 00 01 FF5C 0004 40 40
     FF90 000A 0000 00000010 00 01 FF93 E101
     FF90 000A 0001 00000020 00 01 FF52 000C 00 00 0002 00 00 04 04 00 01 FF93 E101 C202
     FFD9";
 
-#[test]
-fn layers_are_kept(rt: HostRuntime) -> Result<(), Fail> {
-    let seen = seen_in(by_words(rt.alloc(), TILES, "keep"))?;
-    has_layers(&rt, &seen, 2, &[[0, 0, 1], [1, 0, 1], [1, 1, 2]]);
-    let cod = cod_of(seen.headers.main.as_slice());
-    equal(&rt, cod, Some((false, false, 0, 2)));
-    Ok(())
-}
+// Three tiles of one column each; every second column has a sample, so the tile in the middle has no code-block.
+const COLUMNS: &str = "
+    FF4F FF51 0029 0000 00000003 00000001 00000000 00000000 00000001 00000001 00000000 00000000 0001 07 02 01
+    FF52 000C 00 00 0001 00 00 04 04 00 01 FF5C 0004 40 40
+    FF90 000A 0000 0000000F 00 01 FF93 00 FF90 000A 0001 0000000E 00 01 FF93 FF90 000A 0002 0000000F 00 01 FF93 00
+    FFD9";
 
-#[test]
-fn all_in_one_layer(rt: HostRuntime) -> Result<(), Fail> {
-    shows(&rt, TILES, "one", 1, &[[0, 0, 1], [1, 0, 2]])?;
-    has_fault(&rt, &by_words(rt.alloc(), TILES, "two"), UNSERVED);
-    Ok(())
-}
+// Two tiles of two samples with a level each, whose packets are empty; the blocks' exponents are 5, in the second tile 6.
+const LEVELS: &str = "
+    FF4F FF51 0029 0000 00000004 00000001 00000000 00000000 00000002 00000001 00000000 00000000 0001 07 01 01
+    FF52 000C 00 00 0001 00 01 03 03 00 01 FF5C 0007 40 40 40 40 40
+    FF90 000A 0000 00000010 00 01 FF93 0000
+    FF90 000A 0001 0000001E 00 01 FF52 000C 00 00 0001 00 01 04 04 00 01 FF93 0000
+    FFD9";
 
-// No planner serves the words.
-const UNSERVED: PlanFault = PlanFault::Choice {
+// The same, but the first tile has no level.
+const LEVEL: &str = "
+    FF4F FF51 0029 0000 00000004 00000001 00000000 00000000 00000002 00000001 00000000 00000000 0001 07 01 01
+    FF52 000C 00 00 0001 00 00 03 03 00 01 FF5C 0007 40 40 40 40 40
+    FF90 000A 0000 0000000F 00 01 FF93 00
+    FF90 000A 0001 0000001E 00 01 FF52 000C 00 00 0001 00 01 04 04 00 01 FF93 0000
+    FFD9";
+
+// One sample with a level and style 0, whose block has three passes of its nine planes; and the same with four passes.
+const THREE: &str = "
+    FF4F FF51 0029 0000 00000001 00000001 00000000 00000000 00000001 00000001 00000000 00000000 0001 07 01 01
+    FF52 000C 00 00 0001 00 01 04 04 00 01 FF5C 0007 40 40 40 40 40
+    FF90 000A 0000 00000012 00 01 FF93 F81001 00
+    FFD9";
+
+const FOUR: &str = "
+    FF4F FF51 0029 0000 00000001 00000001 00000000 00000000 00000001 00000001 00000000 00000000 0001 07 01 01
+    FF52 000C 00 00 0001 00 01 04 04 00 01 FF5C 0007 40 40 40 40 40
+    FF90 000A 0000 00000012 00 01 FF93 FA0801 00
+    FFD9";
+
+// The order is RPCL, with POC in both headers; a tile of two tile-parts.
+const POC: &str = "
+    FF4F FF51 0029 0001 00000001 00000001 00000000 00000000 00000001 00000001 00000000 00000000 0001 07 01 01
+    FF52 000C 00 02 0001 00 00 04 04 00 01 FF5C 0004 40 40 FF5F 0009 00 00 0001 01 01 04 FF55 0004 00 40
+    FF64 0005 0001 61 FF30
+    FF90 000A 0000 00000032 00 02 FF53 0009 00 00 00 04 04 01 01 FF64 0005 0001 62 FF5F 0009 00 00 0001 01 01 03 FF58 0004 00 01 FF93 00
+    FF90 000A 0000 0000001B 01 02 FF64 0005 0001 63 FF58 0004 00 01 FF93
+    FFD9";
+
+const KEEP: Ask = Ask {
+    words: "keep",
+    planners: &[0],
+    style: AskStyle::Keep,
+    cprl: false,
+    precincts: None,
+};
+
+const PLAIN: Ask = Ask {
+    words: "keep",
+    planners: &[0],
+    style: AskStyle::Plain,
+    cprl: false,
+    precincts: None,
+};
+
+const CAUSAL: Ask = Ask {
+    words: "keep",
+    planners: &[0],
+    style: AskStyle::Causal,
+    cprl: false,
+    precincts: None,
+};
+
+// Without exponents each is 15.
+const CAUSAL_LARGEST: Ask = Ask {
+    words: "keep",
+    planners: &[0],
+    style: AskStyle::Causal,
+    cprl: false,
+    precincts: Some(&[]),
+};
+
+const OTHERS_LARGEST: Ask = Ask {
+    words: "keep",
+    planners: &[0],
+    style: AskStyle::Others,
+    cprl: false,
+    precincts: Some(&[]),
+};
+
+const CUT: Ask = Ask {
+    words: "cuts:1,2",
+    planners: &[3],
+    style: AskStyle::Keep,
+    cprl: false,
+    precincts: None,
+};
+
+const CUT_IN_PRECINCTS: Ask = Ask {
+    words: "cuts:1,2",
+    planners: &[3],
+    style: AskStyle::Keep,
+    cprl: true,
+    precincts: Some(&[0x67, 0x55]),
+};
+
+// The planner of a table and that of one layer serve the same words.
+const TABLE_FIRST: Ask = Ask {
+    words: "one",
+    planners: &[0, 1, 2],
+    style: AskStyle::Keep,
+    cprl: false,
+    precincts: None,
+};
+
+const TABLE_LAST: Ask = Ask {
+    words: "one",
+    planners: &[0, 2, 1],
+    style: AskStyle::Keep,
+    cprl: false,
+    precincts: None,
+};
+
+const UNSERVED: Ask = Ask {
+    words: "two",
+    planners: &[0, 1, 2],
+    style: AskStyle::Keep,
+    cprl: false,
+    precincts: None,
+};
+
+const NONE: Ask = Ask {
+    words: "two",
+    planners: &[],
+    style: AskStyle::Keep,
+    cprl: false,
+    precincts: None,
+};
+
+const NO_RULE: PlanFault = PlanFault::Choice {
     number: 6,
     place: 0,
 };
 
-// Planners by their numbers: the one that keeps; one of a table, which puts the second block's passes into a second layer, and that of
-// one layer, which serve the same words.
-fn planners(alloc: Global, order: &[u8]) -> Result<Vec<Box<dyn LayerPlanner>>, NoMemory> {
-    let mut list = Vec::new(alloc);
-    for which in order {
-        put(alloc, &mut list, *which)?;
+// A file, what is asked of it, and what is wanted of the plan. A style is asked of a block that has another one; where all six bits
+// are the same, or no style is asked, none is.
+static PLANS: [(&str, &Ask, Want); 12] = [
+    (COLUMNS, &KEEP, Want::Tiles(&[(0, 1), (1, 1), (1, 2)])),
+    (FOUR, &CAUSAL, Want::Style(Some(Style { bits: 0x08 }))),
+    (
+        FOUR,
+        &CAUSAL_LARGEST,
+        Want::Style(Some(Style { bits: 0x08 })),
+    ),
+    (
+        THREE,
+        &OTHERS_LARGEST,
+        Want::Style(Some(Style { bits: 0x27 })),
+    ),
+    (THREE, &PLAIN, Want::Style(None)),
+    (THREE, &KEEP, Want::Style(None)),
+    (POC, &CUT, Want::Entry(3, 33, 2)),
+    (POC, &CUT_IN_PRECINCTS, Want::Entry(3, 33, 4)),
+    (
+        TILES,
+        &TABLE_FIRST,
+        Want::Layers(2, &[[0, 0, 1], [1, 1, 2]]),
+    ),
+    (TILES, &TABLE_LAST, Want::Layers(1, &[[0, 0, 1], [1, 0, 2]])),
+    (TILES, &UNSERVED, Want::Fault(NO_RULE)),
+    (TILES, &NONE, Want::Fault(NO_RULE)),
+];
+
+#[test]
+fn plans(rt: HostRuntime) -> Result<(), Fail> {
+    for (text, ask, want) in &PLANS {
+        equal(&rt, is_answered(rt.alloc(), text, ask, *want), Some(true));
     }
-    Ok(list)
+    Ok(())
 }
 
-fn put(alloc: Global, list: &mut Vec<Box<dyn LayerPlanner>>, which: u8) -> Result<(), NoMemory> {
-    let planner = match which {
-        0 => keeper(alloc)?,
-        1 => table(alloc)?,
-        _ => joiner(alloc)?,
+// A file, a style and exponents that are asked of it, and the number and the place of the choice that can't be had.
+type Row = (&'static str, AskStyle, &'static [u8], (u8, u32));
+
+// Choice 1 comes before 3, 3 before 2, and each before 6. The second tile's block has two passes, the first one's has one.
+static CHOICES: [Row; 15] = [
+    (LEVELS, AskStyle::Keep, &[], (6, 0)),
+    (LEVELS, AskStyle::Keep, &[0x77], (6, 0)),
+    (LEVELS, AskStyle::Keep, &[0x77, 0x70], (3, 0)),
+    (LEVELS, AskStyle::Keep, &[0x00], (3, 0)),
+    (LEVELS, AskStyle::Keep, &[0x70, 0x77], (2, 0)),
+    (LEVELS, AskStyle::Keep, &[0x55], (2, 0)),
+    (LEVELS, AskStyle::Keep, &[0x55, 0x66], (2, 1)),
+    (LEVEL, AskStyle::Keep, &[0x77, 0x07], (3, 1)),
+    (THREE, AskStyle::Causal, &[], (1, 0)),
+    (THREE, AskStyle::Causal, &[0x77, 0x70], (1, 0)),
+    (THREE, AskStyle::Others, &[0x77, 0x70], (3, 0)),
+    (THREE, AskStyle::Others, &[], (6, 0)),
+    (FOUR, AskStyle::Causal, &[], (6, 0)),
+    (TILES, AskStyle::Causal, &[], (1, 1)),
+    (LEVELS, AskStyle::Causal, &[], (6, 0)),
+];
+
+// The planner of one layer has no rule for these words.
+fn is_chosen(alloc: Global, row: &Row) -> Option<bool> {
+    let (text, style, bytes, (number, place)) = *row;
+    let ask = Ask {
+        words: "keep",
+        planners: &[2],
+        style,
+        cprl: false,
+        precincts: Some(bytes),
     };
-    list.push(planner)?;
-    Ok(())
-}
-
-fn table(alloc: Global) -> Result<Box<dyn LayerPlanner>, NoMemory> {
-    let table = TableLayers::new(alloc, "one", &[0, 1])?;
-    let table: Box<dyn LayerPlanner> = Box::new(alloc, table)?;
-    Ok(table)
-}
-
-// The plan by the first of these planners that serves the words.
-fn by_first(alloc: Global, words: &str, order: &[u8]) -> Plan {
-    match planners(alloc, order) {
-        Ok(mut list) => by_list(alloc, words, list.as_mut_slice()),
-        Err(_) => Err(NO_MEMORY),
-    }
-}
-
-fn by_list(alloc: Global, words: &str, list: &mut [Box<dyn LayerPlanner>]) -> Plan {
-    match bytes_of(alloc, TILES) {
-        Ok(file) => list_of_file(alloc, &file, words, list),
-        Err(_) => Err(NO_MEMORY),
-    }
-}
-
-fn list_of_file(
-    alloc: Global,
-    file: &[u8],
-    words: &str,
-    list: &mut [Box<dyn LayerPlanner>],
-) -> Plan {
-    match options_of(alloc, words, None) {
-        Ok(options) => by_planners(alloc, file, &options, list),
-        Err(_) => Err(NO_MEMORY),
-    }
-}
-
-// Wants these layers of `one`, and this end of the last layer.
-fn first_shows(
-    rt: &(impl Abort + AllocGlobal),
-    order: &[u8],
-    layers: u16,
-    end: [u32; 3],
-) -> Result<(), Fail> {
-    let seen = seen_in(by_first(rt.alloc(), "one", order))?;
-    has_layers(rt, &seen, layers, &[[0, 0, 1], end]);
-    Ok(())
+    let fault = PlanFault::Choice { number, place };
+    is_answered(alloc, text, &ask, Want::Fault(fault))
 }
 
 #[test]
-fn first_that_serves(rt: HostRuntime) -> Result<(), Fail> {
-    first_shows(&rt, &[0, 1, 2], 2, [1, 1, 2])?;
-    first_shows(&rt, &[0, 2, 1], 1, [1, 0, 2])
-}
-
-// No planner of a list serves the words, and a list has none.
-#[test]
-fn none_that_serves(rt: HostRuntime) -> Result<(), Fail> {
-    let alloc = rt.alloc();
-    has_fault(&rt, &by_first(alloc, "two", &[0, 1, 2]), UNSERVED);
-    has_fault(&rt, &by_list(alloc, "two", &mut []), UNSERVED);
-    Ok(())
-}
-
-// A tile of 2,049 precincts with one layer, and one of one precinct with 2,049: each packet is empty.
-const WIDE: &str = "
-    FF4F FF51 0029 0000 00000802 00000001 00000000 00000000 00000801 00000001 00000000 00000000 0001 07 01 01
-    FF52 000D 01 00 0001 00 00 04 04 00 01 00 FF5C 0004 40 40";
-
-const FIRST: &str = "FF90 000A 0000 0000080F 00 01 FF93";
-
-const SECOND: &str = "FF90 000A 0001 0000081D 00 01 FF52 000C 00 00 0801 00 00 04 04 00 01 FF93";
-
-// These digits, and as many empty packets.
-fn put_with_packets(bytes: &mut Vec<u8>, text: &str) -> Result<(), AllocError> {
-    put_hex(bytes, text)?;
-    for _ in 0..2049_u32 {
-        bytes.push(0)?;
+fn choices_without_a_rule(rt: HostRuntime) -> Result<(), Fail> {
+    for row in &CHOICES {
+        equal(&rt, is_chosen(rt.alloc(), row), Some(true));
     }
-    Ok(())
-}
-
-fn wide(alloc: Global) -> Result<Vec<u8>, AllocError> {
-    let mut bytes = bytes_of(alloc, WIDE)?;
-    put_with_packets(&mut bytes, FIRST)?;
-    put_with_packets(&mut bytes, SECOND)?;
-    put_hex(&mut bytes, "FFD9")?;
-    Ok(bytes)
-}
-
-#[test]
-fn too_many_packets(rt: HostRuntime) -> Result<(), Fail> {
-    let alloc = rt.alloc();
-    let file = wide(alloc)?;
-    let limit = PlanFault::Limit {
-        number: 7,
-        found: 4_200_450,
-    };
-    has_fault(&rt, &of_file(alloc, &file, "keep"), limit);
-    Ok(())
-}
-
-// One block of 74 planes, a region's 37 among them, with 100 passes in each of two layers.
-const LONG: &str = "
-    FF4F FF51 0029 0000 00000001 00000001 00000000 00000000 00000001 00000001 00000000 00000000 0001 07 01 01
-    FF52 000C 00 00 0002 00 00 04 04 00 01 FF5C 0004 E0 F8 FF5E 0005 00 00 25
-    FF90 000A 0000 00000018 00 01 FF93 FF7BF00401 FF77E00802
-    FFD9";
-
-#[test]
-fn too_many_passes(rt: HostRuntime) -> Result<(), Fail> {
-    shows(&rt, LONG, "keep", 2, &[[0, 0, 100], [0, 1, 200]])?;
-    let choice = PlanFault::Choice {
-        number: 4,
-        place: 0,
-    };
-    has_fault(&rt, &by_words(rt.alloc(), LONG, "one"), choice);
     Ok(())
 }

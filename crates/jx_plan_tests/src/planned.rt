@@ -1,40 +1,105 @@
-//! What tests see of plans: the jobs, and a copy of the headers that are written.
+//! What tests ask of a file, and what they want of its plan.
 
-ghost use Rattle.std.specs.Prelude.{IfOk, IfSome};
+ghost use Rattle.std.specs.Prelude.{◌≤◌, IfOk, IfSome};
 ghost use Rattle.jx_marker.specs.Ranges.{AreBytes};
-ghost use Rattle.jx_plan.specs.Choices.{bytes_in};
+ghost use Rattle.jx_plan.specs.Choices.{bytes_in, order_in};
 ghost use Rattle.jx_plan.specs.Plan.{MayBePlanned};
 ghost use Rattle.jx_plan.specs.Wanted.{MayBeStyle, MayBeWanted};
 
-use crate::checks::equal;
 use crate::hex::bytes_of;
 use jx_base::{Block, NoMemory, Style};
 use jx_block::Job;
 use jx_gather::gather;
-use jx_layers::{KeepLayers, LayerPlanner, OneLayer, tile_count};
-use jx_marker::Segment;
+use jx_layers::{CutLayers, KeepLayers, LayerPlanner, OneLayer, TableLayers, tile_count};
 use jx_plan::{
     Options, OrderChoice, OutStream, PartChoice, PlanFault, PrecinctChoice, plan, plan_served,
 };
-use jx_stream::{Bodies, Segments, Stream, Tile, Tiles, read_stream};
+use jx_stream::{Stream, Tile, read_stream};
 use std::alloc::{AllocError, Global};
-use std::process::Abort;
-use std::test::Fail;
 
-/// Words for the planners and a style, without marks; order and precincts are kept, and nothing is cut.
-pub(crate) fn options_of(
-    alloc: Global,
-    words: &str,
-    style: Option<Style>,
-) -> Result<Options, AllocError>
-    requires { IfSome style MayBeStyle }
+/// What is asked of a file. Nothing is marked or cut.
+#[derive(Clone, Copy)]
+pub(crate) struct Ask {
+    /// The words for the planners.
+    pub words: &'static str,
+    /// The planners, each by its number: that which keeps layers; one of a table, by which the second block's passes come into a second
+    /// layer where the words are `one`; that of one layer; that of cuts. Where there is just one, it is handed in, whether or not it
+    /// serves the words.
+    pub planners: &'static [u8],
+    pub style: AskStyle,
+    /// Whether the order is to be CPRL; else it is kept.
+    pub cprl: bool,
+    /// The exponents; they are kept where there are none.
+    pub precincts: Option<&'static [u8]>,
+}
+
+/// A style that is asked.
+#[derive(Clone, Copy)]
+pub(crate) enum AskStyle {
+    Keep,
+    Plain,
+    Causal,
+    /// Each bit that may be asked, but the causal one.
+    Others,
+}
+
+/// What is wanted of a plan.
+#[derive(Clone, Copy)]
+pub(crate) enum Want {
+    /// That there is none, and why.
+    Fault(PlanFault),
+    /// The layers of each tile, and the ends of all blocks' layers, each as the block's number, the layer and the passes.
+    Layers(u16, &'static [[u32; 3]]),
+    /// The style of the one job.
+    Style(Option<Style>),
+    /// The numbers of each tile's jobs.
+    Tiles(&'static [(u32, u32)]),
+    /// The layers, resolutions and order of the one entry by which the first tile's packets are ordered.
+    Entry(u16, u8, u8),
+}
+
+fn style_of(ask: AskStyle) -> Option<Style>
+    ensures { IfSome result MayBeStyle }
+{
+    match ask {
+        AskStyle::Keep => None,
+        AskStyle::Plain => Some(Style { bits: 0 }),
+        AskStyle::Causal => Some(Style { bits: 0x08 }),
+        AskStyle::Others => Some(Style { bits: 0x27 }),
+    }
+}
+
+fn precincts_of(alloc: Global, ask: Option<&[u8]>) -> Result<PrecinctChoice, AllocError>
+    ensures { IfOk result (λ p. IfSome (bytes_in p) AreBytes) }
+{
+    match ask {
+        Some(bytes) => {
+            let list = bytes.to_vec(alloc)?;
+            Ok(PrecinctChoice::List(list))
+        }
+        None => Ok(PrecinctChoice::Keep),
+    }
+}
+
+fn order_of(cprl: bool) -> OrderChoice
+    ensures { IfSome (order_in result) (λ order. order ≤ 4) }
+{
+    if cprl {
+        OrderChoice::Order(4)
+    } else {
+        OrderChoice::Keep
+    }
+}
+
+fn options_of(alloc: Global, ask: &Ask) -> Result<Options, AllocError>
     ensures { IfOk result (λ options. MayBeWanted options) }
 {
-    let layers = String::from_str(alloc, words)?;
+    let precincts = precincts_of(alloc, ask.precincts)?;
+    let layers = String::from_str(alloc, ask.words)?;
     Ok(Options {
-        order: OrderChoice::Keep,
-        precincts: PrecinctChoice::Keep,
-        style,
+        order: order_of(ask.cprl),
+        precincts,
+        style: style_of(ask.style),
         layers,
         parts: PartChoice::None,
         sop: false,
@@ -43,221 +108,44 @@ pub(crate) fn options_of(
     })
 }
 
-/// These precincts.
-pub(crate) fn precincts_of(alloc: Global, bytes: &[u8]) -> Result<PrecinctChoice, AllocError>
-    ensures { IfOk result (λ p. IfSome (bytes_in p) AreBytes) }
-{
-    let list = bytes.to_vec(alloc)?;
-    Ok(PrecinctChoice::List(list))
-}
-
-/// What is seen of a plan.
-#[derive(Drop)]
-pub(crate) struct Seen {
-    /// The layers of each tile.
-    pub layers: u16,
-    /// The jobs.
-    pub jobs: SeenJobs,
-    /// The headers that are written.
-    pub headers: Stream,
-}
-
-/// What is seen of its jobs.
-#[derive(Drop)]
-pub(crate) struct SeenJobs {
-    /// The ends of all blocks' layers, each as the block's number, the layer and the passes.
-    pub ends: Vec<[u32; 3]>,
-    /// The styles of the jobs.
-    pub styles: Vec<Option<Style>>,
-    /// The numbers of each tile's jobs.
-    pub tiles: Vec<(u32, u32)>,
-}
-
-/// What is seen of a plan, behind one pointer, so that who owns it drops one value; or why there is none: no fault where the file is
-/// refused.
-pub(crate) type Plan = Result<Box<Seen>, Option<PlanFault>>;
-
-/// No plan for want of memory.
-pub(crate) const NO_MEMORY: Option<PlanFault> = Some(PlanFault::NoMemory);
-
-/// What is seen, where there is a plan.
-pub(crate) fn seen_in(plan: Plan) -> Result<Box<Seen>, Fail> {
-    match plan {
-        Ok(seen) => Ok(seen),
-        Err(_) => Err("no plan")?,
-    }
-}
-
-/// Why there is no plan, where the file isn't refused.
-pub(crate) fn fault_in(plan: &Plan) -> Option<PlanFault> {
-    match plan {
-        Ok(_) => None,
-        Err(fault) => *fault,
-    }
-}
-
-/// The plan of a file of these digits, where order, precincts and styles are kept, by the planner of these words.
-pub(crate) fn by_words(alloc: Global, text: &str, words: &str) -> Plan {
-    match bytes_of(alloc, text) {
-        Ok(file) => of_file(alloc, &file, words),
-        Err(_) => Err(NO_MEMORY),
-    }
-}
-
-/// The same of a file.
-pub(crate) fn of_file(alloc: Global, file: &[u8], words: &str) -> Plan {
-    match options_of(alloc, words, None) {
-        Ok(options) => by_options(alloc, file, &options),
-        Err(_) => Err(NO_MEMORY),
-    }
-}
-
-/// The plan of a file by the planner of its options' words.
-pub(crate) fn by_options(alloc: Global, file: &[u8], options: &Options) -> Plan
-    requires { MayBeWanted options.now }
-{
-    match planner_for(alloc, options.layers.as_str()) {
-        Ok(mut planner) => by_planner(alloc, file, options, &mut planner),
-        Err(_) => Err(NO_MEMORY),
-    }
-}
-
-/// Wants these layers of each tile, and these ends of all blocks' layers.
-pub(crate) fn has_layers(rt: &impl Abort, seen: &Seen, layers: u16, ends: &[[u32; 3]]) {
-    equal(rt, seen.layers, layers);
-    equal(rt, seen.jobs.ends.as_slice(), ends);
-}
-
-/// Wants these layers and ends of the plan of a file.
-pub(crate) fn shows(
-    rt: &(impl Abort + AllocGlobal),
-    text: &str,
-    words: &str,
-    layers: u16,
-    ends: &[[u32; 3]],
-) -> Result<(), Fail> {
-    let seen = seen_in(by_words(rt.alloc(), text, words))?;
-    has_layers(rt, &seen, layers, ends);
-    Ok(())
-}
-
-/// Wants this fault of a plan.
-pub(crate) fn has_fault(rt: &impl Abort, plan: &Plan, fault: PlanFault) {
-    equal(rt, fault_in(plan), Some(fault));
-}
-
-/// The planner that keeps layers, where the words say so, or that of one layer.
-fn planner_for(alloc: Global, words: &str) -> Result<Box<dyn LayerPlanner>, AllocError> {
-    if words == "keep" {
-        keeper(alloc)
-    } else {
-        joiner(alloc)
-    }
-}
-
 /// The planner that keeps layers.
-pub(crate) fn keeper(alloc: Global) -> Result<Box<dyn LayerPlanner>, AllocError> {
+pub(crate) fn keeper(alloc: Global) -> Result<Box<dyn LayerPlanner>, NoMemory> {
     let planner: Box<dyn LayerPlanner> = Box::new(alloc, KeepLayers::new())?;
     Ok(planner)
 }
 
-/// The planner of one layer.
-pub(crate) fn joiner(alloc: Global) -> Result<Box<dyn LayerPlanner>, AllocError> {
+fn joiner(alloc: Global) -> Result<Box<dyn LayerPlanner>, NoMemory> {
     let planner: Box<dyn LayerPlanner> = Box::new(alloc, OneLayer::new())?;
     Ok(planner)
 }
 
-fn ends_of(alloc: Global, jobs: &[Job<'_>]) -> Result<Vec<[u32; 3]>, NoMemory> {
+fn cutter(alloc: Global) -> Result<Box<dyn LayerPlanner>, NoMemory> {
+    let planner: Box<dyn LayerPlanner> = Box::new(alloc, CutLayers::new())?;
+    Ok(planner)
+}
+
+fn table(alloc: Global) -> Result<Box<dyn LayerPlanner>, NoMemory> {
+    let table = TableLayers::new(alloc, "one", &[0, 1])?;
+    let table: Box<dyn LayerPlanner> = Box::new(alloc, table)?;
+    Ok(table)
+}
+
+fn planner(alloc: Global, which: u8) -> Result<Box<dyn LayerPlanner>, NoMemory> {
+    match which {
+        0 => keeper(alloc),
+        1 => table(alloc),
+        2 => joiner(alloc),
+        _ => cutter(alloc),
+    }
+}
+
+fn planners(alloc: Global, order: &[u8]) -> Result<Vec<Box<dyn LayerPlanner>>, NoMemory> {
     let mut list = Vec::new(alloc);
-    for job in jobs {
-        for end in job.ends.as_slice() {
-            list.push([job.number, u32::from(end.layer), u32::from(end.passes)])?;
-        }
+    for which in order {
+        let planner = planner(alloc, *which)?;
+        list.push(planner)?;
     }
     Ok(list)
-}
-
-fn styles_of(alloc: Global, jobs: &[Job<'_>]) -> Result<Vec<Option<Style>>, NoMemory> {
-    let mut list = Vec::new(alloc);
-    for job in jobs {
-        list.push(job.style)?;
-    }
-    Ok(list)
-}
-
-fn jobs_of_tiles(alloc: Global, plan: &OutStream<'_>) -> Result<Vec<(u32, u32)>, NoMemory> {
-    // For what is known of its value.
-    let _ = plan.jobs();
-    let mut list = Vec::new(alloc);
-    for tile in 0..tile_count(plan.stream()) {
-        list.push(plan.tile_jobs(tile))?;
-    }
-    Ok(list)
-}
-
-fn copy_segments(alloc: Global, segments: &[Segment]) -> Result<Segments, NoMemory> {
-    let mut list = Vec::new(alloc);
-    for segment in segments {
-        list.push(segment.copy()?)?;
-    }
-    Ok(Segments::new(list))
-}
-
-fn copy_tile(alloc: Global, tile: &Tile) -> Result<Tile, NoMemory> {
-    Ok(Tile {
-        place: tile.place,
-        header: copy_segments(alloc, tile.header.as_slice())?,
-        notes: copy_segments(alloc, tile.notes.as_slice())?,
-        progressions: tile.progressions.share()?,
-        bodies: Bodies::new(Vec::new(alloc)),
-    })
-}
-
-fn copy_tiles(alloc: Global, tiles: &[Tile]) -> Result<Tiles, NoMemory> {
-    let mut list = Vec::new(alloc);
-    for tile in tiles {
-        list.push(copy_tile(alloc, tile)?)?;
-    }
-    Ok(Tiles::new(list))
-}
-
-/// The same headers again, without tile data.
-fn copy_headers(alloc: Global, headers: &Stream) -> Result<Stream, NoMemory> {
-    Ok(Stream {
-        siz: headers.siz.copy()?,
-        main: copy_segments(alloc, headers.main.as_slice())?,
-        tiles: copy_tiles(alloc, headers.tiles.as_slice())?,
-    })
-}
-
-fn see_jobs(alloc: Global, plan: &OutStream<'_>) -> Result<SeenJobs, NoMemory> {
-    Ok(SeenJobs {
-        ends: ends_of(alloc, plan.jobs())?,
-        styles: styles_of(alloc, plan.jobs())?,
-        tiles: jobs_of_tiles(alloc, plan)?,
-    })
-}
-
-fn see(alloc: Global, plan: &OutStream<'_>) -> Result<Seen, NoMemory> {
-    Ok(Seen {
-        layers: plan.layers(),
-        jobs: see_jobs(alloc, plan)?,
-        headers: copy_headers(alloc, plan.headers())?,
-    })
-}
-
-fn seen_of(alloc: Global, plan: &OutStream<'_>) -> Plan {
-    match see(alloc, plan) {
-        Ok(seen) => boxed(alloc, seen),
-        Err(_) => Err(NO_MEMORY),
-    }
-}
-
-fn boxed(alloc: Global, seen: Seen) -> Plan {
-    match Box::new(alloc, seen) {
-        Ok(seen) => Ok(seen),
-        Err(_) => Err(NO_MEMORY),
-    }
 }
 
 /// A file's headers and blocks, where it isn't refused.
@@ -277,65 +165,120 @@ pub(crate) fn input<'a>(alloc: Global, file: &'a [u8]) -> Option<(Stream, Vec<Bl
     Some((stream, blocks))
 }
 
+fn are_ends(jobs: &[Job<'_>], want: &[[u32; 3]]) -> bool {
+    let mut rest = want;
+    for job in jobs {
+        for end in job.ends.as_slice() {
+            let found = [job.number, u32::from(end.layer), u32::from(end.passes)];
+            match rest.split_first() {
+                Some((first, behind)) if *first == found => rest = behind,
+                _ => return false,
+            }
+        }
+    }
+    rest.is_empty()
+}
+
+fn are_tiles(plan: &OutStream<'_>, want: &[(u32, u32)]) -> bool {
+    // For what is known of its value.
+    let _ = plan.jobs();
+    let count = tile_count(plan.stream());
+    for tile in 0..count {
+        if want.get(usize::from(tile)) != Some(&plan.tile_jobs(tile)) {
+            return false;
+        }
+    }
+    want.len() == usize::from(count)
+}
+
+fn is_ordered(tile: &Tile, want: (u16, u8, u8)) -> bool {
+    let entries = tile.progressions.as_slice();
+    match entries.first() {
+        Some(entry) => entries.len() == 1 && (entry.lye, entry.re, entry.order) == want,
+        None => false,
+    }
+}
+
+fn is_so(plan: &OutStream<'_>, want: Want) -> bool {
+    match want {
+        Want::Fault(_) => false,
+        Want::Layers(layers, ends) => plan.layers() == layers && are_ends(plan.jobs(), ends),
+        Want::Style(style) => match plan.jobs().first() {
+            Some(job) => plan.jobs().len() == 1 && job.style == style,
+            None => false,
+        },
+        Want::Tiles(tiles) => are_tiles(plan, tiles),
+        Want::Entry(layers, resolutions, order) => match plan.headers().tiles.as_slice().first() {
+            Some(tile) => is_ordered(tile, (layers, resolutions, order)),
+            None => false,
+        },
+    }
+}
+
+// Whether a plan is so, or there is none for this reason.
+fn is_wanted(plan: &Result<OutStream<'_>, PlanFault>, want: Want) -> bool {
+    match (plan, want) {
+        (Ok(plan), want) => is_so(plan, want),
+        (Err(found), Want::Fault(fault)) => *found == fault,
+        (Err(_), _) => false,
+    }
+}
+
 // The stream and the blocks come as references: a value can't be lent where it is made, since both lifetimes of the blocks are one.
-fn planned_of(
-    alloc: Global,
-    stream: &Stream,
-    blocks: &[Block<'_>],
-    options: &Options,
-    planner: &mut Box<dyn LayerPlanner>,
-) -> Plan
-    requires may { MayBePlanned stream.now blocks.now }
-    requires wanted { MayBeWanted options.now }
-{
-    match plan(alloc, stream, blocks, options, Some(planner)) {
-        Ok(plan) => seen_of(alloc, &plan),
-        Err(fault) => Err(Some(fault)),
-    }
-}
-
-/// The plan of a file by a planner; none where the file is refused.
-pub(crate) fn by_planner(
-    alloc: Global,
-    file: &[u8],
-    options: &Options,
-    planner: &mut Box<dyn LayerPlanner>,
-) -> Plan
-    requires { MayBeWanted options.now }
-{
-    match input(alloc, file) {
-        Some(read) => planned_of(alloc, &read.0, &read.1, options, planner),
-        None => Err(None),
-    }
-}
-
-fn served_of(
+fn is_planned(
     alloc: Global,
     stream: &Stream,
     blocks: &[Block<'_>],
     options: &Options,
     planners: &mut [Box<dyn LayerPlanner>],
-) -> Plan
+    want: Want,
+) -> bool
     requires may { MayBePlanned stream.now blocks.now }
     requires wanted { MayBeWanted options.now }
 {
-    match plan_served(alloc, stream, blocks, options, planners) {
-        Ok(plan) => seen_of(alloc, &plan),
-        Err(fault) => Err(Some(fault)),
+    if planners.len() == 1 {
+        is_wanted(
+            &plan(alloc, stream, blocks, options, Some(&mut planners[0])),
+            want,
+        )
+    } else {
+        is_wanted(&plan_served(alloc, stream, blocks, options, planners), want)
     }
 }
 
-/// The plan of a file by the first of some planners that serves; none where the file is refused.
-pub(crate) fn by_planners(
+fn is_planned_of(
     alloc: Global,
     file: &[u8],
     options: &Options,
     planners: &mut [Box<dyn LayerPlanner>],
-) -> Plan
+    want: Want,
+) -> Option<bool>
     requires { MayBeWanted options.now }
 {
-    match input(alloc, file) {
-        Some(read) => served_of(alloc, &read.0, &read.1, options, planners),
-        None => Err(None),
-    }
+    let read = input(alloc, file)?;
+    Some(is_planned(alloc, &read.0, &read.1, options, planners, want))
+}
+
+fn is_planned_by(
+    alloc: Global,
+    file: &[u8],
+    options: &Options,
+    order: &[u8],
+    want: Want,
+) -> Option<bool>
+    requires { MayBeWanted options.now }
+{
+    let mut planners = planners(alloc, order).ok()?;
+    is_planned_of(alloc, file, options, &mut planners, want)
+}
+
+fn is_answered_of(alloc: Global, file: &[u8], ask: &Ask, want: Want) -> Option<bool> {
+    let options = options_of(alloc, ask).ok()?;
+    is_planned_by(alloc, file, &options, ask.planners, want)
+}
+
+/// Whether the plan of a file of these digits is so. None where the file is refused, or for want of memory.
+pub(crate) fn is_answered(alloc: Global, text: &str, ask: &Ask, want: Want) -> Option<bool> {
+    let file = bytes_of(alloc, text)?;
+    is_answered_of(alloc, &file, ask, want)
 }

@@ -11,14 +11,8 @@ bare_values-requires c =
     let P : List Job → Type 0 = λ jobs. All (λ (j : Job). IsAsked j.block.now j.style j.ends) jobs in
     subst P (sym c.jobs.ensures.value) (all_asked c.args.plan.now c.jobs.ensures.plan)
 
-pub assemble_tile-requires-clause-values : goal.assemble_tile-requires-clause-values
-assemble_tile-requires-clause-values c =
-    let P : List Entry → Type 0 = λ entries. AreValuesOf c.args.plan.now 0 (made_in entries) in
-    subst P (sym c.as_slice-entries.ensures.value)
-    (bare_values c.args.plan.now (made_in c.in-Ok.values.items) c.jobs.ensures.plan c.requires (c.in-Ok.ensures.jobs ∙ c.jobs.ensures.value) c.in-Ok.ensures.sound c.in-Ok.ensures.bare)
-
-pub put_tile-requires-clause-values : goal.put_tile-requires-clause-values
-put_tile-requires-clause-values c =
+pub is_tile-requires-clause-values : goal.is_tile-requires-clause-values
+is_tile-requires-clause-values c =
     let P : List Entry → Type 0 = λ entries. AreValuesOf c.args.plan.now 0 (made_in entries) in
     subst P (sym c.as_slice-entries.ensures.value)
     (bare_values c.args.plan.now (made_in c.in-Ok.values.items) c.jobs.ensures.plan c.requires (c.in-Ok.ensures.jobs ∙ c.jobs.ensures.value) c.in-Ok.ensures.sound c.in-Ok.ensures.bare)

@@ -2,7 +2,7 @@ use Rattle.std.proofs.Common.{◌≡◌, ◌++◌, All, map, drop}
 use Rattle.jx_base.specs.Sound.{IsSound}
 use Rattle.jx_assemble.specs.Tile.{AreMade, block_written, made_in}
 use Rattle.jx_plan_tests.proofs.OneTile.{IsBare, job_of}
-use Rattle.jx_plan_tests.proofs.assemble_tests.bare_values.Given as goal
+use Rattle.jx_plan_tests.proofs.values.bare_values.Given as goal
 
 abbrev pub invariant-loop-job : goal.invariant-loop-job
 invariant-loop-job l =

@@ -5,7 +5,7 @@ use Rattle.jx_block.specs.Recoded.{WrittenBlock}
 use Rattle.jx_assemble.specs.Tile.{AreMade, IsMade, made_in}
 use Rattle.jx_assemble.proofs.EntryLemmas.{Entry, is_made, made_more}
 use Rattle.jx_plan_tests.proofs.OneTile.{IsBare, bare_next, jobs_next}
-use Rattle.jx_plan_tests.proofs.assemble_tests.bare_values.Goals as goal
+use Rattle.jx_plan_tests.proofs.values.bare_values.Goals as goal
 
 pub loop-job-preserved : goal.loop-job-preserved
 loop-job-preserved c =
