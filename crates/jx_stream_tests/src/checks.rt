@@ -5,13 +5,6 @@ ghost use Rattle.std.specs.Prelude.{IsTrue};
 use std::fmt::Debug;
 use std::process::Abort;
 
-/// Ends the process, with both values, where they aren't equal.
-pub fn equal<T: PartialEq + Debug + Drop>(rt: &impl Abort, found: T, want: T)
-    ensures { IsTrue (⟦<T as PartialEq>⟧.eq found want) }
-{
-    assert_eq!(rt; found, want);
-}
-
 /// Ends the process, with both values and the case, where the values aren't equal.
 pub fn equal_at<C: Debug, T: PartialEq + Debug + Drop>(rt: &impl Abort, case: &C, found: T, want: T)
     ensures { IsTrue (⟦<T as PartialEq>⟧.eq found want) }
@@ -24,11 +17,4 @@ pub fn check(rt: &impl Abort, holds: bool)
     ensures { IsTrue holds }
 {
     assert!(rt; holds);
-}
-
-/// Ends the process, with the case, where this doesn't hold.
-pub fn check_at<C: Debug>(rt: &impl Abort, case: &C, holds: bool)
-    ensures { IsTrue holds }
-{
-    assert!(rt; holds, "{case:?}");
 }

@@ -1,42 +1,18 @@
-//! Worked tile data: one row for each rule from 25 to 31, the limits 5 and 6, blocks with and without passes, SOP, EPH and
-//! tile-parts.
+//! Code-blocks of worked tile data, and one row of each kind of refusal. What the program shows of a file stands in tables
+//! (tests/tables/tile_data.rows and others).
 
-use crate::checks::{equal, equal_at};
-use crate::files::{EOC, edited, file_of, push_hex, row_of, told};
+use crate::checks::equal_at;
+use crate::files::{EOC, MAIN, MOST_TILES, PART, Parts, SIZ, TWO, file_of};
 use jx_base::Block;
 use jx_gather::gather;
-use jx_stream::read_stream;
+use jx_stream::{StreamFault, read_stream};
 use std::alloc::{AllocError, Global};
 use std::test::Fail;
 
-// The blocks of a file, each as its planes, zero planes, passes, pieces and bytes; what is said of a fault; or 200 where its
-// headers are refused.
-fn blocks_of(
-    alloc: Global,
-    bytes: &[u8],
-) -> Result<Result<Vec<[usize; 5]>, (u8, u128)>, AllocError> {
-    if bytes.len() > 1 << 28 {
-        return Ok(Err((200, 0)));
-    }
-    let stream = match read_stream(alloc, bytes) {
-        Ok(stream) => stream,
-        Err(_) => return Ok(Err((200, 0))),
-    };
-    match gather(alloc, bytes, &stream) {
-        Ok(blocks) => Ok(Ok(facts_of(alloc, &blocks)?)),
-        Err(fault) => Ok(Err(told(fault))),
-    }
-}
+/// A block's planes, zero planes, passes, pieces and bytes.
+type Facts = [usize; 5];
 
-// What is said of a file's fault, or 0 where blocks are given.
-fn said_of(alloc: Global, bytes: &[u8]) -> Result<(u8, u128), AllocError> {
-    match blocks_of(alloc, bytes)? {
-        Ok(_) => Ok((0, 0)),
-        Err(said) => Ok(said),
-    }
-}
-
-fn facts_of(alloc: Global, blocks: &[Block<'_>]) -> Result<Vec<[usize; 5]>, AllocError> {
+fn facts_of(alloc: Global, blocks: &[Block<'_>]) -> Result<Vec<Facts>, AllocError> {
     let mut facts = Vec::new(alloc);
     for block in blocks {
         let mut count = 0usize;
@@ -54,148 +30,249 @@ fn facts_of(alloc: Global, blocks: &[Block<'_>]) -> Result<Vec<[usize; 5]>, Allo
     Ok(facts)
 }
 
-// The edit of the smallest codestream: the first byte replaced, the one after the last, and what stands there, in `_` for
-// spaces. Then the rule and its place, or 100 and more for a limit with what was counted, or 0 where blocks are given.
-const ROWS: &str = "
-51 65 0002_00000404_0001_FF5C00044040_FF5F0009_00000001010100 25 76
-71 80 0000000F_0001_FF93_C0 26 79
-71 80 00000010_0001_FF93_C000 27 79
-71 80 00000010_0001_FF93_C021 28 79
-71 80 00000015_0001_FF93_FF910004000100 29 79
-71 80 00000011_0001_FF93_C021FF 30 81
-71 80 00000012_0001_FF93_C0217F90 31 82
-71 80 00000010_0001_FF93_0000 31 80
-71 80 00000014_0001_FF93_FF9100040000 26 79
-71 80 00000012_0001_FF93_FF910004 26 79
-71 80 00000015_0001_FF93_FF910005000000 29 79
-71 80 0000000E_0001_FF93 26 79
-51 53 0002 26 80
-8 57 0001000000010000_0000000000000000_0001000000010000_0000000000000000_0001070101_FF52000C0000000100000000 105 268435456
-8 59 0000000900000009_0000000000000000_0000000900000009_0000000000000000_0001070101_FF52000D0100FFFF000004040001_00 106 5308335
-8 82 0000000900000012_0000000000000000_0000000900000009_0000000000000000_0001070101_FF52000D0100659000000404000100_FF5C00044040_FF90000A00000000000F0001FF9300_FF90000A00010000000F0001FF9300_FFD9 106 4212000
-8 82 0000000100000002_0000000000000000_0000000100000001_0000000000000000_0001070101_FF52000C00000002000004040001_FF5C00044040_FF90000A00000000000F0001FF9300_FF90000A00010000001A0001FF5F000900000001010100FF9300_FFD9 25 80
-71 80 00000011_0001_FF93_C02103 0 0
-71 80 0000000F_0001_FF93_80 0 0
-71 80 00000017_0001_FF93_FF910004000000FF92 0 0
-71 80 00000019_0001_FF93_FF9100040000C021FF9205 0 0
-71 80 00000013_0001_FF93_FF91000400 26 79
-49 50 06 0 0
-";
-
-#[test]
-fn rules_and_limits(rt: HostRuntime) -> Result<(), Fail> {
-    for line in ROWS.trim().lines() {
-        let row = row_of(line).ok_or("row")?;
-        let file = edited(rt.alloc(), row.from, row.to, row.text)?;
-        equal_at(&rt, &line, said_of(rt.alloc(), &file)?, row.said);
+/// The blocks of a file.
+pub(crate) fn facts_in(alloc: Global, bytes: &[u8]) -> Result<Vec<Facts>, StreamFault> {
+    if bytes.len() > 1 << 28 {
+        return Err(StreamFault::NoMemory);
     }
-    Ok(())
+    let stream = read_stream(alloc, bytes)?;
+    let blocks = gather(alloc, bytes, &stream)?;
+    Ok(facts_of(alloc, &blocks)?)
 }
 
-#[test]
-fn one_block(rt: HostRuntime) -> Result<(), Fail> {
-    let alloc = rt.alloc();
-    let deep =
-        "E0F8 FF5E 0005 00 00 25 FF90 000A 0000 0000001A 00 01 FF93 C0 0000000000000000 10 80 03";
-    for (from, text, want) in [
-        (71, "00000011 00 01 FF93 C0 21 03", [9, 8, 1, 1, 1]),
-        (71, "00000012 00 01 FF93 C0 74 10 01", [9, 7, 4, 1, 1]),
-        (71, "0000000F 00 01 FF93 80", [9, 9, 0, 0, 0]),
-        (63, deep, [74, 73, 1, 1, 1]),
-    ] {
-        let file = edited(alloc, from, 80, text)?;
-        match blocks_of(alloc, &file)? {
-            Ok(blocks) => equal_at(&rt, &text, blocks.as_slice(), [want].as_slice()),
-            Err(_) => Err("refused")?,
-        }
-    }
-    Ok(())
-}
+// Three layers, up to a tile-part's length; a row of three tiles.
+const LAYERS: &str =
+    "0001 07 01 01 FF52 000C 00 00 0003 00 00 04 04 00 01 FF5C 0004 40 40 FF90 000A 0000";
 
-// A file of 45 coded bytes with FF at a place and this byte behind it.
-fn marked(alloc: Global, place: u32, next: u8) -> Result<Vec<u8>, AllocError> {
-    let mut file = edited(alloc, 71, 80, "0000003E 00 01 FF93 C02EB4")?;
-    file.truncate(82);
-    for at in 0..45u32 {
-        let byte = match at.wrapping_sub(place) {
-            0 => 255,
-            1 => next,
-            _ => 1,
-        };
-        file.push(byte)?;
-    }
-    push_hex(EOC, &mut file)?;
-    Ok(file)
-}
+const THREE: &str =
+    "FF4F FF51 0029 0000 00000003 00000001 00000000 00000000 00000001 00000001 00000000 00000000";
+// A picture of 74 planes.
+const DEEP: &str =
+    "0001 07 01 01 FF52 000C 00 00 0001 00 00 04 04 00 01 FF5C 0004 E0 F8 FF5E 0005 00 00 25";
 
-// FF at each place of 45 coded bytes, before 8F and before 90: the last byte may not be FF at all.
-#[test]
-fn marks_at_each_place(rt: HostRuntime) -> Result<(), Fail> {
-    let alloc = rt.alloc();
-    for (next, allowed) in [(0x8Fu8, 44u32), (0x90, 0)] {
-        for place in 0..45u32 {
-            let file = marked(alloc, place, next)?;
-            let want = if place < allowed {
-                (0, 0)
-            } else {
-                (30, 82 + u128::from(place))
-            };
-            equal_at(&rt, &(place, next), said_of(alloc, &file)?, want);
-        }
-    }
-    Ok(())
-}
-
-// Three layers over four tile-parts, of which the third is empty: a packet in each of the others.
-const PARTS: &str = "
-FF90 000A 0000 0000000F 00 00 FF93 00 FF90 000A 0000 00000011 01 00 FF93 A0 21 03
-FF90 000A 0000 0000000E 02 00 FF93 FF90 000A 0000 00000011 03 04 FF93 F0 20 05";
-
-// The smallest codestream with three layers and these tile-parts.
-fn in_parts(alloc: Global) -> Result<Vec<u8>, AllocError> {
-    let mut file = edited(alloc, 51, 53, "0003")?;
-    file.truncate(65);
-    push_hex(PARTS, &mut file)?;
-    push_hex(EOC, &mut file)?;
-    Ok(file)
-}
-
-#[test]
-fn several_tile_parts(rt: HostRuntime) -> Result<(), Fail> {
-    let alloc = rt.alloc();
-    let file = in_parts(alloc)?;
-    match blocks_of(alloc, &file)? {
-        Ok(blocks) => equal(&rt, blocks.as_slice(), [[9usize, 7, 4, 2, 2]].as_slice()),
-        Err((number, place)) => equal(&rt, (number, place), (0, 0)),
-    }
-    Ok(())
-}
-
-// Two precincts and 40,000 layers: 80,000 packets, each with SOP; the number is kept modulo 65,536.
-fn with_sops(alloc: Global) -> Result<Vec<u8>, AllocError> {
-    let mut file = file_of(
-        alloc,
+// A file, and its blocks in the order of their numbers: the tiles may stand in another one. The fifth file has four tile-parts, of
+// which the third is empty.
+static BLOCKS: [(Parts, &[Facts]); 11] = [
+    (
         &[
-            "FF4F FF51 0029 0000 00000002 00000001 00000000 00000000 00000002 00000001 00000000 00000000",
-            "0001 07 01 01 FF52 000D 01 00 9C40 00 00 04 04 00 01 00 FF5C 0004 40 40",
-            "FF90 000A 0000 00088B8E 00 01 FF93",
+            (SIZ, 1),
+            (MAIN, 1),
+            ("FF90 000A 0000 00000011 00 01 FF93 C0 21 03", 1),
+            (EOC, 1),
         ],
-    )?;
-    for number in 0..80_000u32 {
-        let [_, _, high, low] = number.to_be_bytes();
-        file.extend_from_slice(&[0xFF, 0x91, 0, 4, high, low, 0])?;
+        &[[9, 8, 1, 1, 1]],
+    ),
+    (
+        &[
+            (SIZ, 1),
+            (MAIN, 1),
+            ("FF90 000A 0000 00000012 00 01 FF93 C0 74 10 01", 1),
+            (EOC, 1),
+        ],
+        &[[9, 7, 4, 1, 1]],
+    ),
+    (
+        &[
+            (SIZ, 1),
+            (MAIN, 1),
+            ("FF90 000A 0000 0000000F 00 01 FF93 80", 1),
+            (EOC, 1),
+        ],
+        &[[9, 9, 0, 0, 0]],
+    ),
+    (
+        &[
+            (SIZ, 1),
+            (DEEP, 1),
+            (
+                "FF90 000A 0000 0000001A 00 01 FF93 C0 0000000000000000 10 80 03",
+                1,
+            ),
+            (EOC, 1),
+        ],
+        &[[74, 73, 1, 1, 1]],
+    ),
+    (
+        &[
+            (SIZ, 1),
+            (LAYERS, 1),
+            (
+                "0000000F 00 00 FF93 00 FF90 000A 0000 00000011 01 00 FF93 A0 21 03 FF90 000A 0000 0000000E 02 00 FF93 FF90 000A 0000 00000011 03 04 FF93 F0 20 05",
+                1,
+            ),
+            (EOC, 1),
+        ],
+        &[[9, 7, 4, 2, 2]],
+    ),
+    (
+        &[
+            (TWO, 1),
+            (MAIN, 1),
+            ("FF90 000A 0001 00000012 00 01 FF93 C0 74 10 01", 1),
+            ("FF90 000A 0000 00000011 00 01 FF93 C0 21 03", 1),
+            (EOC, 1),
+        ],
+        &[[9, 8, 1, 1, 1], [9, 7, 4, 1, 1]],
+    ),
+    (
+        &[
+            (THREE, 1),
+            (MAIN, 1),
+            ("FF90 000A 0001 00000012 00 01 FF93 C0 74 10 01", 1),
+            ("FF90 000A 0002 0000000F 00 01 FF93 80", 1),
+            ("FF90 000A 0000 00000011 00 01 FF93 C0 21 03", 1),
+            (EOC, 1),
+        ],
+        &[[9, 8, 1, 1, 1], [9, 7, 4, 1, 1], [9, 9, 0, 0, 0]],
+    ),
+    (
+        &[
+            (TWO, 1),
+            (MAIN, 1),
+            ("FF90 000A 0001 00000011 00 01 FF93 C0 21 03", 1),
+            ("FF90 000A 0000 0000000F 00 01 FF93 80", 1),
+            (EOC, 1),
+        ],
+        &[[9, 9, 0, 0, 0], [9, 8, 1, 1, 1]],
+    ),
+    (
+        &[
+            (THREE, 1),
+            (MAIN, 1),
+            ("FF90 000A 0001 00000011 00 01 FF93 C0 21 03", 1),
+            ("FF90 000A 0002 00000012 00 01 FF93 C0 74 10 01", 1),
+            ("FF90 000A 0000 0000000F 00 01 FF93 80", 1),
+            (EOC, 1),
+        ],
+        &[[9, 9, 0, 0, 0], [9, 8, 1, 1, 1], [9, 7, 4, 1, 1]],
+    ),
+    (
+        &[
+            (TWO, 1),
+            (MAIN, 1),
+            ("FF90 000A 0001 0000000F 00 01 FF93 80", 1),
+            ("FF90 000A 0000 00000012 00 01 FF93 C0 74 10 01", 1),
+            (EOC, 1),
+        ],
+        &[[9, 7, 4, 1, 1], [9, 9, 0, 0, 0]],
+    ),
+    (
+        &[
+            (THREE, 1),
+            (MAIN, 1),
+            ("FF90 000A 0001 0000000F 00 01 FF93 80", 1),
+            ("FF90 000A 0002 00000011 00 01 FF93 C0 21 03", 1),
+            ("FF90 000A 0000 00000012 00 01 FF93 C0 74 10 01", 1),
+            (EOC, 1),
+        ],
+        &[[9, 7, 4, 1, 1], [9, 9, 0, 0, 0], [9, 8, 1, 1, 1]],
+    ),
+];
+
+#[test]
+fn blocks(rt: HostRuntime) -> Result<(), Fail> {
+    for (parts, want) in &BLOCKS {
+        let file = file_of(rt.alloc(), parts)?;
+        let facts = facts_in(rt.alloc(), &file)?;
+        equal_at(&rt, parts, facts.as_slice(), *want);
     }
-    push_hex(EOC, &mut file)?;
-    Ok(file)
+    Ok(())
+}
+
+// A file, and what it is refused for: by its headers and by its tile data.
+static FAULTS: [(Parts, StreamFault); 4] = [
+    (
+        &[(SIZ, 1), (MAIN, 1), (PART, 1), ("FFD8", 1)],
+        StreamFault::Rule {
+            number: 23,
+            place: 80,
+        },
+    ),
+    (
+        &[
+            (
+                "FF4F FF51 0029 0000 FFFFFFFF 00000001 00000000 00000000 00000001 00000001 00000000 00000000",
+                1,
+            ),
+            (MAIN, 1),
+            (PART, 1),
+            (EOC, 1),
+        ],
+        StreamFault::Limit {
+            number: 3,
+            found: 4_294_967_295,
+        },
+    ),
+    (
+        &[
+            (SIZ, 1),
+            (MAIN, 1),
+            ("FF90 000A 0000 00000011 00 01 FF93 C021FF", 1),
+            (EOC, 1),
+        ],
+        StreamFault::Rule {
+            number: 30,
+            place: 81,
+        },
+    ),
+    (
+        &[
+            (
+                "FF4F FF51 0029 0000 00000009 00000009 00000000 00000000 00000009 00000009 00000000 00000000",
+                1,
+            ),
+            (
+                "0001 070101 FF52 000D 01 00 FFFF 00 00 04 04 00 01 00 FF5C 0004 40 40",
+                1,
+            ),
+            (PART, 1),
+            (EOC, 1),
+        ],
+        StreamFault::Limit {
+            number: 6,
+            found: 5_308_335,
+        },
+    ),
+];
+
+// What a file is refused for.
+fn fault_in(alloc: Global, parts: &[(&str, u16)]) -> Result<Option<StreamFault>, AllocError> {
+    let file = file_of(alloc, parts)?;
+    match facts_in(alloc, &file) {
+        Ok(_) => Ok(None),
+        Err(fault) => Ok(Some(fault)),
+    }
 }
 
 #[test]
-fn numbers_of_packets_wrap(rt: HostRuntime) -> Result<(), Fail> {
-    let alloc = rt.alloc();
-    let file = with_sops(alloc)?;
-    match blocks_of(alloc, &file)? {
-        Ok(blocks) => equal(&rt, blocks.len(), 2),
-        Err((number, place)) => equal(&rt, (number, place), (0, 0)),
+fn faults(rt: HostRuntime) -> Result<(), Fail> {
+    for (parts, fault) in &FAULTS {
+        equal_at(&rt, parts, fault_in(rt.alloc(), parts)?, Some(*fault));
+    }
+    Ok(())
+}
+
+// Each of as many tiles as there may be has an empty packet, but the last one, which has a pass.
+static TILES: [(&str, u16); 5] = [
+    (MOST_TILES, 1),
+    (MAIN, 1),
+    ("FF90 000A # 0000000F 00 01 FF93 00", 65_534),
+    ("FF90 000A FFFE 00000011 00 01 FF93 C0 21 03", 1),
+    (EOC, 1),
+];
+
+#[test]
+fn many_tiles(rt: HostRuntime) -> Result<(), Fail> {
+    let file = file_of(rt.alloc(), &TILES)?;
+    let facts = facts_in(rt.alloc(), &file)?;
+    equal_at(&rt, &"tiles", facts.len(), 65_535);
+    for (number, found) in facts.iter().enumerate() {
+        let want = if number < 65_534 {
+            [9, 9, 0, 0, 0]
+        } else {
+            [9, 8, 1, 1, 1]
+        };
+        equal_at(&rt, &number, *found, want);
     }
     Ok(())
 }

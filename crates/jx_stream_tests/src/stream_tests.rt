@@ -1,292 +1,391 @@
-//! Worked files: one for each rule, the cuts of the smallest one, parameters by precedence, tile-parts of two
-//! tiles.
+//! Parameters by precedence, as a stream's calls give them, and the parts of tiles. What the program shows of a file stands in
+//! tables (tests/tables/header_kinds.rows and others).
 
-mod rows;
-mod views;
+ghost use Rattle.std.specs.Prelude.{IfOk};
+ghost use Rattle.jx_geom.specs.Ranges.{HasBand};
+ghost use Rattle.jx_stream.specs.InRange.{StreamInRange};
 
-use crate::checks::{check, equal, equal_at};
-use crate::files::{EOC, MAIN, PART, SIZ, edited, file_of, push_hex, row_of, told};
+use crate::checks::{check, equal_at};
+use crate::files::{EOC, MAIN, MOST_TILES, PART, Parts, SIZ, TWO, file_of};
 use jx_base::Band;
 use jx_marker::{Progression, Segment};
-use jx_stream::{Body, Stream, Tile, read_stream};
-use rows::{KINDS, ROWS};
-use std::alloc::{AllocError, Global};
+use jx_stream::{Body, Params, Stream, StreamFault, Tile, read_stream};
+use std::alloc::Global;
 use std::process::Abort;
 use std::test::Fail;
 
-// SOC and SIZ of a picture of 2 by 1 in two tiles, up to Csiz.
-const TWO: &str =
-    "FF4F FF51 0029 0000 00000002 00000001 00000000 00000000 00000001 00000001 00000000 00000000";
-
-// The rule and its place, or 100 and more for a limit with what was counted, or 0.
-fn answer(alloc: Global, bytes: &[u8]) -> (u8, u128) {
-    if bytes.len() > 1 << 28 {
-        return (200, 0);
+// The stream of a file.
+#[tactic(auto, using(jx_stream::proofs::RangeLemmas::read_in_range))]
+pub(crate) fn stream_of(alloc: Global, parts: &[(&str, u16)]) -> Result<Stream, StreamFault>
+    ensures range { IfOk result (λ stream. StreamInRange stream) }
+{
+    let file = file_of(alloc, parts)?;
+    if file.len() > 1 << 28 {
+        return Err(StreamFault::NoMemory);
     }
-    match read_stream(alloc, bytes) {
-        Ok(_) => (0, 0),
-        Err(fault) => told(fault),
-    }
+    read_stream(alloc, &file)
 }
 
-fn rows_hold(rt: &impl Abort, alloc: Global, rows: &str) -> Result<(), Fail> {
-    for line in rows.trim().lines() {
-        let row = row_of(line).ok_or("row")?;
-        let file = edited(alloc, row.from, row.to, row.text)?;
-        equal_at(rt, &line, answer(alloc, &file), row.said);
-    }
-    Ok(())
+// Levels, exponents of code-blocks, style, wavelet, precinct, order, layers, transform, guard bits, quantization and shift.
+fn fields(params: &Params) -> [u16; 12] {
+    [
+        u16::from(params.levels),
+        u16::from(params.xcb),
+        u16::from(params.ycb),
+        u16::from(params.style.bits),
+        u16::from(params.wavelet),
+        u16::from(params.precincts[0]),
+        u16::from(params.order),
+        params.layers,
+        u16::from(params.transform),
+        u16::from(params.guard),
+        u16::from(params.quant),
+        u16::from(params.shift),
+    ]
 }
 
-#[test]
-fn rules_and_limits(rt: HostRuntime) -> Result<(), Fail> {
-    rows_hold(&rt, rt.alloc(), ROWS)
+// The exponent and the mantissa of a band's step, and its planes.
+type Step = (u8, u16, u32);
+
+fn step_of(stream: &Stream, tile: u16, res: u8, band: Band) -> Step
+    requires { HasBand res band }
+{
+    let (exponent, mantissa) = stream.step(tile, 0, res, band);
+    (exponent, mantissa, stream.planes(tile, 0, res, band))
 }
 
-#[test]
-fn kinds_in_headers(rt: HostRuntime) -> Result<(), Fail> {
-    rows_hold(&rt, rt.alloc(), KINDS)
-}
-
-#[test]
-fn cuts(rt: HostRuntime) -> Result<(), Fail> {
-    let alloc = rt.alloc();
-    for n in 0..83 {
-        let file = edited(alloc, n, 82, "")?;
-        let want = match n {
-            0..=1 => (15, 0),
-            2..=3 => (16, 2),
-            4..=44 => (1, 2),
-            45..=58 => (1, 45),
-            59..=64 => (1, 59),
-            65..=76 => (1, 65),
-            77..=79 => (22, 65),
-            80..=81 => (23, 80),
-            _ => (0, 0),
-        };
-        equal_at(&rt, &n, answer(alloc, &file), want);
-    }
-    Ok(())
-}
-
-// A stream that is there.
-fn stream_in(rt: &impl Abort, alloc: Global, file: &[u8]) -> Result<Stream, Fail> {
-    let known = file.len() < 2000;
-    check(rt, known);
-    match read_stream(alloc, file) {
-        Ok(stream) => Ok(stream),
-        Err(_) => Err("refused")?,
+// Those of a resolution's bands: LL, or HL, LH and HH.
+fn steps_of(stream: &Stream, tile: u16, res: u8) -> [Step; 3] {
+    if res == 0 {
+        [step_of(stream, tile, res, Band::LL); 3]
+    } else {
+        [
+            step_of(stream, tile, res, Band::HL),
+            step_of(stream, tile, res, Band::LH),
+            step_of(stream, tile, res, Band::HH),
+        ]
     }
 }
 
-fn stream_of(rt: &impl Abort, alloc: Global, texts: &[&str]) -> Result<Stream, Fail> {
-    let file = file_of(alloc, texts)?;
-    stream_in(rt, alloc, &file)
+// The later tile-parts have comments alone, and these are the tile's entries.
+fn tile_has(rt: &impl Abort, tile: &Tile, entries: &[[u16; 6]]) {
+    for note in tile.notes.as_slice() {
+        check(rt, matches!(note, Segment::Com(_)));
+    }
+    let found = tile.progressions.as_slice();
+    equal_at(rt, &entries, found.len(), entries.len());
+    for (number, entry) in found.iter().enumerate() {
+        check(rt, number < entries.len());
+        equal_at(rt, &entries, fields_of(entry), entries[number]);
+    }
 }
 
-// SOC and SIZ up to Csiz, with 257 components, then COD and QCD.
+fn fields_of(entry: &Progression) -> [u16; 6] {
+    [
+        u16::from(entry.rs),
+        entry.cs,
+        entry.lye,
+        u16::from(entry.re),
+        entry.ce,
+        u16::from(entry.order),
+    ]
+}
+
+// A tile, how many components there are, one of them and its parameters; a tile, a resolution and its bands' steps; how many tiles
+// there are, one of them, its place, how many segments its header has and how many comments the later ones, its data and entries.
+enum Asked {
+    Params(u16, usize, u16, [u16; 12]),
+    Steps(u16, u8, [Step; 3]),
+    Tile(usize, usize, (u32, usize, usize), &'static [Body], &'static [[u16; 6]]),
+}
+
+fn shows(rt: &impl Abort, stream: &Stream, asked: &Asked) {
+    match asked {
+        Asked::Params(tile, comps, comp, want) => {
+            let found = fields(&stream.params(*tile, *comp));
+            let all = stream.siz.comps.as_slice().len();
+            equal_at(rt, &(*tile, *comp), (all, found), (*comps, *want));
+        }
+        Asked::Steps(tile, res, want) => {
+            equal_at(rt, &(*tile, *res), steps_of(stream, *tile, *res), *want);
+        }
+        Asked::Tile(tiles, number, want, bodies, entries) => {
+            let all = stream.tiles.as_slice();
+            equal_at(rt, number, all.len(), *tiles);
+            check(rt, *number < all.len());
+            let tile = &all[*number];
+            let (header, notes) = (tile.header.as_slice(), tile.notes.as_slice());
+            equal_at(rt, number, (tile.place, header.len(), notes.len()), *want);
+            equal_at(rt, number, tile.bodies.as_slice(), *bodies);
+            tile_has(rt, tile, entries);
+        }
+    }
+}
+
+// Two tiles. The main header's COC and QCC yield to the second one's COD, of style 2, order 3 and 9 layers, and QCD, of exponent 9;
+// its POC doesn't.
+pub(crate) const DEFAULTS: [(&str, u16); 6] = [
+    (TWO, 1),
+    (MAIN, 1),
+    (
+        "FF53 0009 00 00 00 04 04 01 01 FF5D 0005 00 40 50 FF5F 0009 00 00 0009 01 01 04",
+        1,
+    ),
+    (PART, 1),
+    (
+        "FF90 000A 0001 00000023 00 01 FF52 000C 00 03 0009 00 00 04 04 02 01 FF5C 0004 40 48 FF93 00",
+        1,
+    ),
+    (EOC, 1),
+];
+
+// SOC and SIZ up to the components, of which there are 257 and 16,384; COD and QCD.
 const WIDE: &str =
     "FF4F FF51 0329 0000 00000001 00000001 00000000 00000000 00000001 00000001 00000000 00000000 0101";
 
+const MOST_COMPONENTS: &str =
+    "FF4F FF51 C026 0000 00000001 00000001 00000000 00000000 00000001 00000001 00000000 00000000 4000";
+
 const CODING: &str = "FF52 000C 00 00 0001 00 00 04 04 00 01 FF5C 0004 40 40";
 
-fn push_times(text: &str, times: u16, bytes: &mut Vec<u8>) -> Result<(), AllocError> {
-    for _ in 0..times {
-        push_hex(text, bytes)?;
-    }
-    Ok(())
-}
-
-// The smallest codestream of 257 components, with a segment before its SOT.
-fn wide(alloc: Global, segment: &str) -> Result<Vec<u8>, AllocError> {
-    let mut file = file_of(alloc, &[WIDE])?;
-    push_times("07 01 01", 257, &mut file)?;
-    push_hex(CODING, &mut file)?;
-    push_hex(segment, &mut file)?;
-    push_hex("FF90 000A 0000 0000010F 00 01 FF93", &mut file)?;
-    push_times("00", 257, &mut file)?;
-    push_hex(EOC, &mut file)?;
-    Ok(file)
-}
-
-// The styles of components 255 and 256 of the smallest codestream of 257, with a segment before its SOT.
-fn styles_with(rt: &impl Abort, alloc: Global, segment: &str) -> Result<(u8, u8), Fail> {
-    let file = wide(alloc, segment)?;
-    let stream = stream_in(rt, alloc, &file)?;
-    equal(rt, stream.siz.comps.as_slice().len(), 257);
-    let (last, end) = (stream.params(0, 255), stream.params(0, 256));
-    Ok((last.style.bits, end.style.bits))
-}
+static STREAMS: [(Parts, &[Asked]); 13] = [
+    (
+        &DEFAULTS,
+        &[
+            Asked::Params(0, 1, 0, [0, 6, 6, 1, 1, 255, 0, 1, 0, 2, 0, 0]),
+            Asked::Params(1, 1, 0, [0, 6, 6, 2, 1, 255, 3, 9, 0, 2, 0, 0]),
+            Asked::Steps(0, 0, [(10, 0, 11); 3]),
+            Asked::Steps(1, 0, [(9, 0, 10); 3]),
+            Asked::Tile(
+                2,
+                0,
+                (94, 0, 0),
+                &[Body { at: 108, length: 1 }],
+                &[[0, 0, 9, 1, 1, 4]],
+            ),
+            Asked::Tile(
+                2,
+                1,
+                (109, 2, 0),
+                &[Body { at: 143, length: 1 }],
+                &[[0, 0, 9, 1, 1, 4]],
+            ),
+        ],
+    ),
+    // The second tile has a style, a quantization and a shift of its own.
+    (
+        &[
+            (TWO, 1),
+            (MAIN, 1),
+            ("FF5E 0005 00 00 03", 1),
+            (PART, 1),
+            (
+                "FF90 000A 0001 00000028 00 01 FF53 0009 00 00 00 04 04 01 01 FF5D 0005 00 40 48 FF5E 0005 00 00 0C FF93 00",
+                1,
+            ),
+            (EOC, 1),
+        ],
+        &[
+            Asked::Params(0, 1, 0, [0, 6, 6, 0, 1, 255, 0, 1, 0, 2, 0, 3]),
+            Asked::Params(1, 1, 0, [0, 6, 6, 1, 1, 255, 0, 1, 0, 2, 0, 12]),
+            Asked::Steps(0, 0, [(8, 0, 12); 3]),
+            Asked::Steps(1, 0, [(9, 0, 22); 3]),
+        ],
+    ),
+    // Guard bits and exponent are 0: the planes are those of the shift.
+    (
+        &[
+            (SIZ, 1),
+            (
+                "0001 07 01 01 FF52 000C 00 00 0001 00 00 04 04 00 01 FF5C 0004 00 00 FF5E 0005 00 00 05",
+                1,
+            ),
+            (PART, 1),
+            (EOC, 1),
+        ],
+        &[
+            Asked::Params(0, 1, 0, [0, 6, 6, 0, 1, 255, 0, 1, 0, 0, 0, 5]),
+            Asked::Steps(0, 0, [(0, 0, 5); 3]),
+        ],
+    ),
+    // Steps by the lowest band's, the same with an exponent that ends below 0, and steps of each band.
+    (
+        &[
+            (SIZ, 1),
+            (
+                "0001 07 01 01 FF52 000C 00 00 0001 00 05 04 04 00 01 FF5C 0005 41 6F00",
+                1,
+            ),
+            (PART, 1),
+            (EOC, 1),
+        ],
+        &[
+            Asked::Steps(0, 0, [(13, 1792, 14); 3]),
+            Asked::Steps(0, 1, [(13, 1792, 14); 3]),
+            Asked::Steps(0, 5, [(9, 1792, 10); 3]),
+        ],
+    ),
+    (
+        &[
+            (SIZ, 1),
+            (
+                "0001 07 01 01 FF52 000C 00 00 0001 00 05 04 04 00 01 FF5C 0005 01 1000",
+                1,
+            ),
+            (PART, 1),
+            (EOC, 1),
+        ],
+        &[Asked::Steps(0, 5, [(0, 0, 0); 3])],
+    ),
+    (
+        &[
+            (SIZ, 1),
+            (
+                "0001 07 01 01 FF52 000C 00 00 0001 00 01 04 04 00 01 FF5C 000B 42 4001 4802 5003 5804",
+                1,
+            ),
+            (PART, 1),
+            (EOC, 1),
+        ],
+        &[
+            Asked::Steps(0, 0, [(8, 1, 9); 3]),
+            Asked::Steps(0, 1, [(9, 2, 10), (10, 3, 11), (11, 4, 12)]),
+        ],
+    ),
+    // Indexes of two bytes, without and with a COC of the last component.
+    (
+        &[
+            (WIDE, 1),
+            ("070101", 257),
+            (CODING, 1),
+            ("FF90 000A 0000 0000010F 00 01 FF93", 1),
+            ("00", 257),
+            (EOC, 1),
+        ],
+        &[
+            Asked::Params(0, 257, 255, [0, 6, 6, 0, 1, 255, 0, 1, 0, 2, 0, 0]),
+            Asked::Params(0, 257, 256, [0, 6, 6, 0, 1, 255, 0, 1, 0, 2, 0, 0]),
+        ],
+    ),
+    (
+        &[
+            (WIDE, 1),
+            ("070101", 257),
+            (CODING, 1),
+            ("FF53 000A 0100 00 00 04 04 20 01", 1),
+            ("FF90 000A 0000 0000010F 00 01 FF93", 1),
+            ("00", 257),
+            (EOC, 1),
+        ],
+        &[
+            Asked::Params(0, 257, 255, [0, 6, 6, 0, 1, 255, 0, 1, 0, 2, 0, 0]),
+            Asked::Params(0, 257, 256, [0, 6, 6, 0x20, 1, 255, 0, 1, 0, 2, 0, 0]),
+        ],
+    ),
+    // A COC for each component, and as many tiles as there may be, each with an empty tile-part.
+    (
+        &[
+            (MOST_COMPONENTS, 1),
+            ("070101", 16384),
+            (CODING, 1),
+            ("FF53 000A # 00 00 04 04 00 01", 16384),
+            ("FF90 000A 0000 0000000E 00 01 FF93", 1),
+            (EOC, 1),
+        ],
+        &[Asked::Params(0, 16_384, 16_383, [0, 6, 6, 0, 1, 255, 0, 1, 0, 2, 0, 0])],
+    ),
+    (
+        &[
+            (MOST_TILES, 1),
+            (MAIN, 1),
+            ("FF90 000A # 0000000E 00 01 FF93", 65535),
+            (EOC, 1),
+        ],
+        &[Asked::Params(65_534, 1, 0, [0, 6, 6, 0, 1, 255, 0, 1, 0, 2, 0, 0])],
+    ),
+    // Two tiles of two tile-parts each.
+    (
+        &[
+            (TWO, 1),
+            (MAIN, 1),
+            (
+                "FF90 000A 0000 0000001A 00 02 FF5F 0009 00 00 0001 01 01 00 FF93 00",
+                1,
+            ),
+            (
+                "FF90 000A 0001 00000019 00 00 FF5F 0009 00 00 0001 01 01 01 FF93",
+                1,
+            ),
+            (
+                "FF90 000A 0000 00000023 01 02 FF5F 0009 00 00 0001 01 01 02 FF64 0006 0001 6A78 FF93 80 81",
+                1,
+            ),
+            ("FF90 000A 0001 00000000 01 00 FF93 00 01", 1),
+            (EOC, 1),
+        ],
+        &[
+            Asked::Tile(
+                2,
+                0,
+                (65, 1, 1),
+                &[Body { at: 90, length: 1 }, Body { at: 149, length: 2 }],
+                &[[0, 0, 1, 1, 1, 0], [0, 0, 1, 1, 1, 2]],
+            ),
+            Asked::Tile(
+                2,
+                1,
+                (91, 1, 0),
+                &[Body { at: 116, length: 0 }, Body { at: 165, length: 2 }],
+                &[[0, 0, 1, 1, 1, 1]],
+            ),
+        ],
+    ),
+    // Entries of the main header alone, and none: there is one for all then.
+    (
+        &[
+            (TWO, 1),
+            (MAIN, 1),
+            ("FF5F 0009 00 00 0001 01 01 04", 1),
+            (PART, 1),
+            ("FF90 000A 0001 0000000F 00 01 FF93 00", 1),
+            (EOC, 1),
+        ],
+        &[
+            Asked::Tile(
+                2,
+                0,
+                (76, 0, 0),
+                &[Body { at: 90, length: 1 }],
+                &[[0, 0, 1, 1, 1, 4]],
+            ),
+            Asked::Tile(
+                2,
+                1,
+                (91, 0, 0),
+                &[Body { at: 105, length: 1 }],
+                &[[0, 0, 1, 1, 1, 4]],
+            ),
+        ],
+    ),
+    (
+        &[(SIZ, 1), (MAIN, 1), (PART, 1), (EOC, 1)],
+        &[Asked::Tile(
+            1,
+            0,
+            (65, 0, 0),
+            &[Body { at: 79, length: 1 }],
+            &[[0, 0, 1, 33, 0, 0]],
+        )],
+    ),
+];
 
 #[test]
-fn indexes_of_two_bytes(rt: HostRuntime) -> Result<(), Fail> {
-    let alloc = rt.alloc();
-    equal(&rt, styles_with(&rt, alloc, "")?, (0, 0));
-    let own = "FF53 000A 0100 00 00 04 04 20 01";
-    equal(&rt, styles_with(&rt, alloc, own)?, (0, 0x20));
-    let past = wide(alloc, "FF53 000A 0101 00 00 04 04 20 01")?;
-    equal(&rt, answer(alloc, &past), (12, 833));
-    Ok(())
-}
-
-#[test]
-fn own_parameters(rt: HostRuntime) -> Result<(), Fail> {
-    let second =
-        "FF90 000A 0001 00000028 00 01 FF53 0009 00 00 00 04 04 01 01 FF5D 0005 00 40 48 FF5E 0005 00 00 0C FF93 00";
-    let stream = stream_of(
-        &rt,
-        rt.alloc(),
-        &[TWO, MAIN, "FF5E 0005 00 00 03", PART, second, EOC],
-    )?;
-    are_own(&rt, &stream);
-    Ok(())
-}
-
-// The second tile has parameters of its own, the first those of the main header.
-fn are_own(rt: &impl Abort, stream: &Stream) {
-    let first = stream.params(0, 0);
-    let own = stream.params(1, 0);
-    equal(
-        rt,
-        (first.style.bits, first.shift, first.guard, first.quant),
-        (0, 3, 2, 0),
-    );
-    equal(
-        rt,
-        (own.style.bits, own.shift, own.guard, own.quant),
-        (1, 12, 2, 0),
-    );
-    equal(
-        rt,
-        (own.levels, own.xcb, own.ycb, own.wavelet, own.precincts[0]),
-        (0, 6, 6, 1, 255),
-    );
-    equal(rt, (own.order, own.layers, own.transform), (0, 1, 0));
-    for (tile, planes, step) in [(0, 12, (8, 0)), (1, 22, (9, 0))] {
-        equal(rt, stream.planes(tile, 0, 0, Band::LL), planes);
-        equal(rt, stream.step(tile, 0, 0, Band::LL), step);
-    }
-}
-
-// The small codestream with this from Csiz on.
-fn small_with(rt: &impl Abort, alloc: Global, main: &str) -> Result<Stream, Fail> {
-    stream_of(rt, alloc, &[SIZ, main, PART, EOC])
-}
-
-#[test]
-fn derived_quantization(rt: HostRuntime) -> Result<(), Fail> {
-    let main = "0001 07 01 01 FF52 000C 00 00 0001 00 05 04 04 00 01 FF5C 0005 41 6F00";
-    let stream = small_with(&rt, rt.alloc(), main)?;
-    equal(&rt, stream.step(0, 0, 0, Band::LL), (13, 1792));
-    equal(&rt, stream.step(0, 0, 1, Band::HL), (13, 1792));
-    equal(&rt, stream.step(0, 0, 5, Band::HH), (9, 1792));
-    equal(&rt, stream.planes(0, 0, 5, Band::LH), 10);
-    Ok(())
-}
-
-#[test]
-fn derived_exponent_below_0(rt: HostRuntime) -> Result<(), Fail> {
-    let main = "0001 07 01 01 FF52 000C 00 00 0001 00 05 04 04 00 01 FF5C 0005 01 1000";
-    let stream = small_with(&rt, rt.alloc(), main)?;
-    equal(&rt, stream.step(0, 0, 5, Band::HL), (0, 0));
-    equal(&rt, stream.planes(0, 0, 5, Band::HL), 0);
-    Ok(())
-}
-
-#[test]
-fn expounded_quantization(rt: HostRuntime) -> Result<(), Fail> {
-    let main =
-        "0001 07 01 01 FF52 000C 00 00 0001 00 01 04 04 00 01 FF5C 000B 42 4001 4802 5003 5804";
-    let stream = small_with(&rt, rt.alloc(), main)?;
-    equal(&rt, stream.step(0, 0, 0, Band::LL), (8, 1));
-    equal(&rt, stream.step(0, 0, 1, Band::HL), (9, 2));
-    equal(&rt, stream.step(0, 0, 1, Band::LH), (10, 3));
-    equal(&rt, stream.step(0, 0, 1, Band::HH), (11, 4));
-    Ok(())
-}
-
-// The orders of a tile's entries.
-fn orders(alloc: Global, tile: &Tile) -> Result<Vec<u8>, AllocError> {
-    let mut orders = Vec::new(alloc);
-    for entry in tile.progressions.as_slice() {
-        orders.push(entry.order)?;
-    }
-    Ok(orders)
-}
-
-const INTERLEAVED: &str = "
-FF90 000A 0000 0000001A 00 02 FF5F 0009 00 00 0001 01 01 00 FF93 00
-FF90 000A 0001 00000019 00 00 FF5F 0009 00 00 0001 01 01 01 FF93
-FF90 000A 0000 00000023 01 02 FF5F 0009 00 00 0001 01 01 02 FF64 0006 0001 6A78 FF93 80 81
-FF90 000A 0001 00000000 01 00 FF93 00 01";
-
-#[test]
-fn interleaved_parts(rt: HostRuntime) -> Result<(), Fail> {
-    let alloc = rt.alloc();
-    let stream = stream_of(&rt, alloc, &[TWO, MAIN, INTERLEAVED, EOC])?;
-    match stream.tiles.as_slice() {
-        [first, second] => {
-            is_first(&rt, first);
-            is_second(&rt, second);
-            has_orders(&rt, alloc, first, &[0, 2])?;
-            has_orders(&rt, alloc, second, &[1])
+fn streams(rt: HostRuntime) -> Result<(), Fail> {
+    for (parts, list) in &STREAMS {
+        let stream = stream_of(rt.alloc(), parts)?;
+        for asked in *list {
+            shows(&rt, &stream, asked);
         }
-        _ => Err("tiles")?,
-    }
-}
-
-// Wants these orders of a tile's entries.
-fn has_orders(rt: &impl Abort, alloc: Global, tile: &Tile, want: &[u8]) -> Result<(), Fail> {
-    let found = orders(alloc, tile)?;
-    equal(rt, found.as_slice(), want);
-    Ok(())
-}
-
-// Its second tile-part has a comment.
-fn is_first(rt: &impl Abort, tile: &Tile) {
-    equal(rt, tile.place, 65);
-    equal(rt, tile.header.as_slice().len(), 1);
-    check(rt, matches!(tile.notes.as_slice(), [Segment::Com(_)]));
-    let bodies = [Body { at: 90, length: 1 }, Body { at: 149, length: 2 }];
-    equal(rt, tile.bodies.as_slice(), bodies.as_slice());
-}
-
-// Its first tile-part has no byte.
-fn is_second(rt: &impl Abort, tile: &Tile) {
-    equal(rt, tile.place, 91);
-    equal(rt, tile.notes.as_slice().len(), 0);
-    let bodies = [Body { at: 116, length: 0 }, Body { at: 165, length: 2 }];
-    equal(rt, tile.bodies.as_slice(), bodies.as_slice());
-}
-
-#[test]
-fn entries_of_the_main_header(rt: HostRuntime) -> Result<(), Fail> {
-    let alloc = rt.alloc();
-    let poc = "FF5F 0009 00 00 0001 01 01 04";
-    let second = "FF90 000A 0001 0000000F 00 01 FF93 00";
-    let stream = stream_of(&rt, alloc, &[TWO, MAIN, poc, PART, second, EOC])?;
-    equal(&rt, stream.tiles.as_slice().len(), 2);
-    for tile in stream.tiles.as_slice() {
-        has_orders(&rt, alloc, tile, &[4])?;
-    }
-    Ok(())
-}
-
-// Without POC there is one entry, for all.
-#[test]
-fn entry_without_poc(rt: HostRuntime) -> Result<(), Fail> {
-    let stream = stream_of(&rt, rt.alloc(), &[SIZ, MAIN, PART, EOC])?;
-    let all = Progression {
-        rs: 0,
-        cs: 0,
-        lye: 1,
-        re: 33,
-        ce: 0,
-        order: 0,
-    };
-    equal(&rt, stream.tiles.as_slice().len(), 1);
-    for tile in stream.tiles.as_slice() {
-        equal(&rt, tile.progressions.as_slice(), [all].as_slice());
     }
     Ok(())
 }
