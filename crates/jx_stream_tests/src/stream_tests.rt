@@ -379,13 +379,20 @@ static STREAMS: [(Parts, &[Asked]); 13] = [
     ),
 ];
 
-#[test]
-fn streams(rt: HostRuntime) -> Result<(), Fail> {
-    for (parts, list) in &STREAMS {
+fn all_show(
+    rt: &(impl Abort + AllocGlobal),
+    rows: &[(Parts, &'static [Asked])],
+) -> Result<(), Fail> {
+    for (parts, list) in rows {
         let stream = stream_of(rt.alloc(), parts)?;
         for asked in *list {
-            shows(&rt, &stream, asked);
+            shows(rt, &stream, asked);
         }
     }
     Ok(())
+}
+
+#[test]
+fn streams(rt: HostRuntime) -> Result<(), Fail> {
+    all_show(&rt, &STREAMS)
 }
