@@ -5,24 +5,144 @@ use crate::geometries::{
     WHOLE, area, band_at, blocks_at, cells_at, geometry, point_at, precincts_at, shape,
     two_components,
 };
-use jx_base::{Band, Rect, Span};
-use jx_geom::{Canvas, TileGeom, count_blocks, count_precincts, tiles};
-use std::alloc::Global;
+use jx_base::{Band, Rect};
+use jx_geom::{Canvas, CompShape, TileGeom, count_blocks, count_precincts, tiles};
 use std::process::Abort;
 use std::test::Fail;
 
-fn rect(x: (u32, u32), y: (u32, u32)) -> Rect {
-    Rect {
-        x: Span {
-            low: x.0,
-            high: x.1,
-        },
-        y: Span {
-            low: y.0,
-            high: y.1,
-        },
+/// What is asked of a resolution.
+#[derive(Clone, Copy)]
+enum Of {
+    /// The places of a band: its columns and rows.
+    Places(Band),
+    /// How many places a band has.
+    Count(Band),
+    /// How many cells of code-blocks a band has.
+    Cells(Band),
+    /// How many of them lie in the first precinct.
+    Blocks(Band),
+    /// How many columns of precincts there are.
+    Columns,
+    Precincts,
+    /// The reference point of a precinct.
+    Point(u32),
+}
+
+type Four = (u64, u64, u64, u64);
+
+/// A component, its resolution, what is asked of it, and the answer.
+type Row = (u16, u8, Of, Four);
+
+/// The ends of a rectangle.
+fn ends(rect: Rect) -> Four {
+    (
+        u64::from(rect.x.low),
+        u64::from(rect.x.high),
+        u64::from(rect.y.low),
+        u64::from(rect.y.high),
+    )
+}
+
+fn two((x, y): (u64, u64)) -> Four {
+    (x, y, 0, 0)
+}
+
+fn answer(geom: &TileGeom, comp: u16, res: u8, of: Of) -> Option<Four> {
+    let found = match of {
+        Of::Places(band) => return Some(ends(band_at(geom, comp, res, band)?)),
+        Of::Point(precinct) => return Some(two(point_at(geom, comp, res, precinct)?)),
+        Of::Precincts => {
+            let (columns, rows) = precincts_at(geom, comp, res)?;
+            return Some(two((u64::from(columns), u64::from(rows))));
+        }
+        Of::Columns => u64::from(precincts_at(geom, comp, res)?.0),
+        Of::Count(band) => area(band_at(geom, comp, res, band)?),
+        Of::Cells(band) => area(cells_at(geom, comp, res, band)?),
+        Of::Blocks(band) => area(blocks_at(geom, comp, res, band, 0)?),
+    };
+    Some(two((found, 0)))
+}
+
+fn are_answers(rt: &impl Abort, geom: &TileGeom, rows: &[Row]) {
+    for (comp, res, of, want) in rows {
+        equal_at(
+            rt,
+            &(*comp, *res),
+            answer(geom, *comp, *res, *of),
+            Some(*want),
+        );
     }
 }
+
+const FIRST: [Row; 12] = [
+    (0, 1, Of::Places(Band::HL), (2, 12, 0, 8)),
+    (0, 1, Of::Places(Band::LH), (3, 12, 0, 8)),
+    (0, 0, Of::Precincts, (2, 1, 0, 0)),
+    (0, 0, Of::Point(0), (5, 0, 0, 0)),
+    (0, 0, Of::Point(1), (16, 0, 0, 0)),
+    (0, 1, Of::Precincts, (2, 1, 0, 0)),
+    (0, 1, Of::Point(0), (5, 0, 0, 0)),
+    (0, 1, Of::Point(1), (16, 0, 0, 0)),
+    (1, 0, Of::Precincts, (1, 1, 0, 0)),
+    (1, 0, Of::Point(0), (5, 0, 0, 0)),
+    (1, 1, Of::Precincts, (1, 1, 0, 0)),
+    (1, 1, Of::Point(0), (5, 0, 0, 0)),
+];
+
+const SECOND: [Row; 12] = [
+    (0, 0, Of::Precincts, (2, 1, 0, 0)),
+    (0, 0, Of::Point(0), (24, 0, 0, 0)),
+    (0, 0, Of::Point(1), (32, 0, 0, 0)),
+    (0, 1, Of::Precincts, (2, 1, 0, 0)),
+    (0, 1, Of::Point(0), (24, 0, 0, 0)),
+    (0, 1, Of::Point(1), (32, 0, 0, 0)),
+    (1, 0, Of::Precincts, (2, 1, 0, 0)),
+    (1, 0, Of::Point(0), (24, 0, 0, 0)),
+    (1, 0, Of::Point(1), (32, 0, 0, 0)),
+    (1, 1, Of::Precincts, (2, 1, 0, 0)),
+    (1, 1, Of::Point(0), (24, 0, 0, 0)),
+    (1, 1, Of::Point(1), (32, 0, 0, 0)),
+];
+
+fn is_first(rt: &impl Abort, geom: &TileGeom) {
+    equal(rt, ends(geom.tile()), (5, 24, 0, 16));
+    are_answers(rt, geom, &FIRST);
+}
+
+#[test]
+fn two_components_with_offset(rt: HostRuntime) -> Result<(), Fail> {
+    is_first(&rt, &two_components(rt.alloc(), 0)?);
+    are_answers(&rt, &two_components(rt.alloc(), 1)?, &SECOND);
+    Ok(())
+}
+
+/// No resolution has a place, as no multiple of 255 lies in the picture.
+const NONE: [Row; 9] = [
+    (0, 0, Of::Count(Band::LL), (0, 0, 0, 0)),
+    (0, 0, Of::Cells(Band::LL), (0, 0, 0, 0)),
+    (0, 0, Of::Columns, (0, 0, 0, 0)),
+    (0, 1, Of::Count(Band::HL), (0, 0, 0, 0)),
+    (0, 1, Of::Cells(Band::HL), (0, 0, 0, 0)),
+    (0, 1, Of::Columns, (0, 0, 0, 0)),
+    (0, 2, Of::Count(Band::HH), (0, 0, 0, 0)),
+    (0, 2, Of::Cells(Band::HH), (0, 0, 0, 0)),
+    (0, 2, Of::Columns, (0, 0, 0, 0)),
+];
+
+/// Resolution 0 is empty, resolution 1 isn't.
+const ODD: [Row; 3] = [
+    (0, 0, Of::Columns, (0, 0, 0, 0)),
+    (0, 1, Of::Precincts, (1, 1, 0, 0)),
+    (0, 1, Of::Cells(Band::HL), (1, 0, 0, 0)),
+];
+
+/// Resolution 1 has a place, its bands have none.
+const EVEN: [Row; 4] = [
+    (0, 1, Of::Precincts, (1, 1, 0, 0)),
+    (0, 1, Of::Blocks(Band::HL), (0, 0, 0, 0)),
+    (0, 1, Of::Blocks(Band::LH), (0, 0, 0, 0)),
+    (0, 1, Of::Blocks(Band::HH), (0, 0, 0, 0)),
+];
 
 /// One tile over a picture.
 fn whole(x: (u32, u32), y: (u32, u32)) -> Canvas {
@@ -38,100 +158,26 @@ fn whole(x: (u32, u32), y: (u32, u32)) -> Canvas {
     }
 }
 
-/// Compares how many precincts a resolution has, and the reference points of the first two.
-fn expect_precincts(
-    rt: &impl Abort,
-    geom: &TileGeom,
-    comp: u16,
-    res: u8,
-    size: (u32, u32),
-    points: [Option<(u64, u64)>; 2],
-) {
-    equal_at(rt, &(comp, res), precincts_at(geom, comp, res), Some(size));
-    let found = [point_at(geom, comp, res, 0), point_at(geom, comp, res, 1)];
-    equal_at(rt, &(comp, res), found, points);
-}
-
-/// The bands and precincts of the first tile.
-fn is_first_tile(rt: &impl Abort, geom: &TileGeom) {
-    equal(rt, geom.tile(), rect((5, 24), (0, 16)));
-    equal(
-        rt,
-        band_at(geom, 0, 1, Band::HL),
-        Some(rect((2, 12), (0, 8))),
-    );
-    equal(
-        rt,
-        band_at(geom, 0, 1, Band::LH),
-        Some(rect((3, 12), (0, 8))),
-    );
-    for res in [0, 1] {
-        let points = [Some((5, 0)), Some((16, 0))];
-        expect_precincts(rt, geom, 0, res, (2, 1), points);
-        expect_precincts(rt, geom, 1, res, (1, 1), [Some((5, 0)), None]);
-    }
-}
-
-/// The precincts of the second tile.
-fn is_second_tile(rt: &impl Abort, geom: &TileGeom) {
-    for (comp, res) in [(0, 0), (0, 1), (1, 0), (1, 1)] {
-        let points = [Some((24, 0)), Some((32, 0))];
-        expect_precincts(rt, geom, comp, res, (2, 1), points);
-    }
-}
-
-#[test]
-fn two_components_with_offset(rt: HostRuntime) -> Result<(), Fail> {
-    is_first_tile(&rt, &two_components(rt.alloc(), 0)?);
-    is_second_tile(&rt, &two_components(rt.alloc(), 1)?);
-    Ok(())
-}
-
 /// One tile over a picture, with a component of so many levels.
-fn of_levels(
-    alloc: Global,
+fn is_of_levels(
+    rt: &(impl Abort + AllocGlobal),
     x: (u32, u32),
-    y: (u32, u32),
+    high: u32,
     step: u8,
     levels: u8,
-) -> Result<TileGeom, Fail> {
-    geometry(
-        alloc,
-        &whole(x, y),
-        0,
-        &[shape(step, 1, levels, (4, 4), WHOLE)],
-    )
-}
-
-/// No resolution has a place.
-fn is_empty(rt: &impl Abort, geom: &TileGeom) {
-    for (res, band) in [(0, Band::LL), (1, Band::HL), (2, Band::HH)] {
-        equal_at(rt, &res, band_at(geom, 0, res, band).map(area), Some(0));
-        equal_at(rt, &res, cells_at(geom, 0, res, band).map(area), Some(0));
-        equal_at(rt, &res, precincts_at(geom, 0, res).map(|n| n.0), Some(0));
-    }
-}
-
-// No multiple of 255 lies in the picture.
-#[test]
-fn an_empty_component(rt: HostRuntime) -> Result<(), Fail> {
-    is_empty(&rt, &of_levels(rt.alloc(), (1, 3), (0, 3), 255, 2)?);
+    rows: &[Row],
+) -> Result<(), Fail> {
+    let comp = shape(step, 1, levels, (4, 4), WHOLE);
+    let geom = geometry(rt.alloc(), &whole(x, (0, high)), 0, &[comp])?;
+    are_answers(rt, &geom, rows);
     Ok(())
 }
 
-// Resolution 0 is empty, resolution 1 isn't; resolution 1 has a place, its bands have none.
 #[test]
-fn empty_parts(rt: HostRuntime) -> Result<(), Fail> {
-    let odd = of_levels(rt.alloc(), (1, 2), (0, 1), 1, 1)?;
-    equal(&rt, precincts_at(&odd, 0, 0).map(|n| n.0), Some(0));
-    equal(&rt, precincts_at(&odd, 0, 1), Some((1, 1)));
-    equal(&rt, cells_at(&odd, 0, 1, Band::HL).map(area), Some(1));
-    let even = of_levels(rt.alloc(), (0, 1), (0, 1), 1, 1)?;
-    equal(&rt, precincts_at(&even, 0, 1), Some((1, 1)));
-    for band in [Band::HL, Band::LH, Band::HH] {
-        equal(&rt, blocks_at(&even, 0, 1, band, 0).map(area), Some(0));
-    }
-    Ok(())
+fn parts_without_places(rt: HostRuntime) -> Result<(), Fail> {
+    is_of_levels(&rt, (1, 3), 3, 255, 2, &NONE)?;
+    is_of_levels(&rt, (1, 2), 1, 1, 1, &ODD)?;
+    is_of_levels(&rt, (0, 1), 1, 1, 1, &EVEN)
 }
 
 /// All places of the largest canvas.
@@ -149,30 +195,48 @@ const FAR: Canvas = Canvas {
     ty: u32::MAX - 4,
 };
 
-#[test]
-fn ends_of_the_ranges(rt: HostRuntime) -> Result<(), Fail> {
-    let mut low = WHOLE;
-    low[0] = 0;
-    let big = whole((0, 65536), (0, 65536));
-    let all = whole((0, u32::MAX), (0, u32::MAX));
-    let one = whole((0, 1), (0, 1));
-    // The subsampling both ways, the levels, and the exponent of blocks both ways.
-    let rows: [(Canvas, u16, (u8, u8, u8), [u8; 33], u128, u128); 7] = [
-        (big, 0, (1, 0, 2), WHOLE, 268435456, 4),
-        (all, 0, (1, 0, 2), low, ALL_PLACES, ALL_PLACES),
-        (all, 0, (255, 0, 2), WHOLE, 17730440827009, 265225),
-        (one, 0, (1, 32, 2), WHOLE, 1, 33),
-        (FAR, 0, (1, 32, 2), WHOLE, 2, 1),
-        (FAR, 3, (1, 1, 6), low, 2, 2),
-        (FAR, 3, (255, 3, 6), low, 0, 0),
-    ];
-    for (canvas, tile, (step, levels, side), exponents, blocks, precincts) in rows {
-        let comp = shape(step, step, levels, (side, side), exponents);
-        if !canvas.is_in_range() || u64::from(tile) >= tiles(&canvas) || !comp.is_in_range() {
-            return Err("out of range")?;
-        }
-        equal(&rt, count_blocks(&canvas, tile, &comp), blocks);
-        equal(&rt, count_precincts(&canvas, tile, &comp), precincts);
+/// The side of the one tile, or none for the far corner; the tile; the subsampling both ways, the levels and the exponent of
+/// blocks both ways; whether the precincts of resolution 0 have one place; the code-blocks and the precincts.
+const COUNTS: [(Option<u32>, u16, (u8, u8, u8), bool, (u128, u128)); 7] = [
+    (Some(65536), 0, (1, 0, 2), false, (268435456, 4)),
+    (Some(u32::MAX), 0, (1, 0, 2), true, (ALL_PLACES, ALL_PLACES)),
+    (
+        Some(u32::MAX),
+        0,
+        (255, 0, 2),
+        false,
+        (17730440827009, 265225),
+    ),
+    (Some(1), 0, (1, 32, 2), false, (1, 33)),
+    (None, 0, (1, 32, 2), false, (2, 1)),
+    (None, 3, (1, 1, 6), true, (2, 2)),
+    (None, 3, (255, 3, 6), true, (0, 0)),
+];
+
+/// The code-blocks and precincts of a component, where it and its tile are within the ranges.
+fn counts(canvas: &Canvas, tile: u16, comp: &CompShape) -> Option<(u128, u128)> {
+    if canvas.is_in_range() && u64::from(tile) < tiles(canvas) && comp.is_in_range() {
+        Some((
+            count_blocks(canvas, tile, comp),
+            count_precincts(canvas, tile, comp),
+        ))
+    } else {
+        None
     }
-    Ok(())
+}
+
+#[test]
+fn ends_of_the_ranges(rt: HostRuntime) {
+    for (side, tile, (step, levels, exponent), low, want) in &COUNTS {
+        let canvas = match side {
+            Some(side) => whole((0, *side), (0, *side)),
+            None => FAR,
+        };
+        let mut precincts = WHOLE;
+        if *low {
+            precincts[0] = 0;
+        }
+        let comp = shape(*step, *step, *levels, (*exponent, *exponent), precincts);
+        equal(&rt, counts(&canvas, *tile, &comp), Some(*want));
+    }
 }

@@ -10,22 +10,14 @@ mod geom_tests;
 #[cfg(test)]
 mod geometries;
 #[cfg(test)]
-mod grid_tests;
-#[cfg(test)]
 mod head_tests;
-#[cfg(test)]
-mod marker_rows;
 #[cfg(test)]
 mod marker_tests;
 #[cfg(test)]
 mod naming_tests;
 #[cfg(test)]
-mod order_rows;
-#[cfg(test)]
 mod order_tests;
 #[cfg(test)]
 mod plain_tests;
-#[cfg(test)]
-mod read_tests;
 #[cfg(test)]
 mod tagtree_tests;

@@ -1,19 +1,72 @@
-mod rows;
+//! Segments that are read and put again as they were, and their fields.
 
 ghost use Rattle.jx_marker.specs.Ranges.{InRange};
 
-use crate::checks::{check, equal, equal_at};
+use crate::checks::{check, check_at, equal};
 use jx_marker::{
-    Cod, CompSize, Progression, Rule, Segment, Shape, Siz, eph, put_segment, read_segment, sop,
+    Cod, CompSize, Progression, Segment, Shape, Siz, eph, put_segment, read_segment, sop,
 };
 use std::alloc::{AllocError, Global};
 use std::process::Abort;
 use std::test::Fail;
 
-// What no rule is: a segment that was put otherwise than it was read, and want of memory.
-const DIFFERS: u8 = 254;
-
-const NO_MEMORY: u8 = 255;
+/// Segments, one a line, of pictures of so many components.
+const SEGMENTS: [(u16, &str); 4] = [
+    (
+        0,
+        "
+FF51_0029_0000_00000001_00000001_00000000_00000000_00000001_00000001_00000000_00000000_0001_070101
+",
+    ),
+    (
+        1,
+        "
+FF4F
+FF52_000C_00_00_0001_00_00_04_04_00_01
+FF52_000E_07_04_0002_01_01_04_04_3F_00_00_11
+FF53_0009_00_00_00_04_04_00_01
+FF5C_0004_40_40
+FF5C_0007_22_6F00_6F01
+FF5C_0005_41_1234
+FF5D_0005_00_40_40
+FF5E_0005_00_00_25
+FF5F_0009_00_00_0001_01_01_00
+FF5F_0010_00_00_0001_01_01_00_01_00_FFFF_21_00_04
+FF63_0006_0000_0000
+FF64_0006_0001_6A78
+FF64_0002
+FF58_0003_00
+FF57_0003_00
+FF55_0004_00_50
+FF90_000A_0000_0000000F_00_01
+FF90_000A_FFFE_FFFFFFFF_FF_00
+FF93
+FFD9
+FF30
+FF3F
+FF51_0029_3FFF_00000001_00000001_00000000_00000000_00000001_00000001_00000000_00000000_0001_070101
+FF5F_0009_00_00_0001_01_01_04
+FF5F_0009_01_00_0001_02_01_00
+FF5F_0009_00_01_0001_01_02_00
+FF5F_0009_00_01_0001_01_00_00
+",
+    ),
+    (
+        2,
+        "
+FF53_000B_01_01_01_00_08_3F_00_0F_77
+",
+    ),
+    (
+        257,
+        "
+FF53_000A_0100_00_00_04_04_00_01
+FF5D_0006_0100_40_40
+FF5E_0006_0100_00_05
+FF5F_000B_00_0000_0001_01_0101_04
+",
+    ),
+];
 
 fn digit(byte: u8) -> Option<u8> {
     match byte {
@@ -24,17 +77,19 @@ fn digit(byte: u8) -> Option<u8> {
 }
 
 // The bytes of hexadecimal digits; what is no digit stands between them.
-fn bytes_of(alloc: Global, text: &str) -> Result<Vec<u8>, AllocError> {
+fn bytes_of(alloc: Global, texts: &[&str]) -> Result<Vec<u8>, AllocError> {
     let mut bytes = Vec::new(alloc);
     let mut high = None;
-    for byte in text.as_bytes() {
-        if let Some(low) = digit(*byte) {
-            match high {
-                None => high = Some(low),
-                Some(first) => {
-                    let first: u8 = first;
-                    bytes.push(first.wrapping_mul(16).wrapping_add(low))?;
-                    high = None;
+    for text in texts {
+        for byte in text.as_bytes() {
+            if let Some(low) = digit(*byte) {
+                match high {
+                    None => high = Some(low),
+                    Some(first) => {
+                        let first: u8 = first;
+                        bytes.push(first.wrapping_mul(16).wrapping_add(low))?;
+                        high = None;
+                    }
                 }
             }
         }
@@ -42,165 +97,51 @@ fn bytes_of(alloc: Global, text: &str) -> Result<Vec<u8>, AllocError> {
     Ok(bytes)
 }
 
-// Whether a segment and its copy are put as these bytes.
-fn put_back(alloc: Global, segment: &Segment, comps: u16, want: &[u8]) -> u8
-    requires { InRange comps segment.now }
-{
-    let first = put_one(alloc, segment, comps, want);
-    if first != 0 {
-        return first;
-    }
-    match segment.copy() {
-        Ok(copy) => put_one(alloc, &copy, comps, want),
-        Err(_) => NO_MEMORY,
-    }
-}
-
-fn put_one(alloc: Global, segment: &Segment, comps: u16, want: &[u8]) -> u8
+// Whether a segment is put as these bytes.
+fn is_put(alloc: Global, segment: &Segment, comps: u16, want: &[u8]) -> bool
     requires { InRange comps segment.now }
 {
     let mut out = Vec::new(alloc);
-    if put_segment(segment, comps, &mut out).is_err() {
-        return NO_MEMORY;
-    }
-    if out.as_slice() == want { 0 } else { DIFFERS }
+    put_segment(segment, comps, &mut out).is_ok() && out.as_slice() == want
 }
 
-// The rule violated at a place, or 0 where the segment there is put again as the bytes from there to `end`.
-fn outcome(alloc: Global, bytes: &[u8], at: usize, end: usize, comps: u16) -> u8 {
-    if at > bytes.len() {
-        return DIFFERS;
-    }
-    let (segment, after) = match read_segment(alloc, bytes, at, comps) {
-        Ok(found) => found,
-        Err(Rule::Broken(rule)) => return rule,
-        Err(Rule::NoMemory) => return NO_MEMORY,
-    };
-    if after != end {
-        return DIFFERS;
-    }
-    put_at(alloc, &segment, comps, bytes, at, end)
-}
-
-// Whether a segment and its copy are put as the bytes from one place to another.
-fn put_at(alloc: Global, segment: &Segment, comps: u16, bytes: &[u8], at: usize, end: usize) -> u8
+// Whether a segment and its copy are put as these bytes.
+fn are_put(alloc: Global, segment: &Segment, comps: u16, want: &[u8]) -> bool
     requires { InRange comps segment.now }
 {
-    if at > end || end > bytes.len() {
-        return DIFFERS;
+    match segment.copy() {
+        Ok(copy) => is_put(alloc, segment, comps, want) && is_put(alloc, &copy, comps, want),
+        Err(_) => false,
     }
-    put_back(alloc, segment, comps, &bytes[at..end])
 }
 
-// A row of a table: a segment, how many components the picture has, and the rule.
-fn row_of(line: &str) -> Option<(&str, u16, u8)> {
-    let mut words = line.split_whitespace();
-    let hex = words.next()?;
-    let comps = words.next()?.parse::<u16>().ok()?;
-    let rule = words.next()?.parse::<u8>().ok()?;
-    Some((hex, comps, rule))
+// Whether the segment at a place ends at `end`, and is put again as the bytes between.
+fn goes(alloc: Global, bytes: &[u8], at: usize, end: usize, comps: u16) -> bool {
+    if at > end || end > bytes.len() {
+        return false;
+    }
+    match read_segment(alloc, bytes, at, comps) {
+        Ok((segment, after)) => after == end && are_put(alloc, &segment, comps, &bytes[at..end]),
+        Err(_) => false,
+    }
 }
 
-// Each row of a table, alone and, where it is accepted, also with bytes before and after it.
-fn check_rows(rt: &impl Abort, alloc: Global, text: &str) -> Result<(), Fail> {
-    for line in text.trim().lines() {
-        let (hex, comps, want) = row_of(line).ok_or("row")?;
-        let bytes = bytes_of(alloc, hex)?;
-        let found = outcome(alloc, bytes.as_slice(), 0, bytes.len(), comps);
-        equal_at(rt, &line, found, want);
-        if want == 0 {
-            equal_at(rt, &line, within(alloc, &bytes, comps)?, 0);
+// Whether a segment goes alone, and with bytes before and after it.
+fn goes_anywhere(alloc: Global, text: &str, comps: u16) -> Result<bool, AllocError> {
+    let alone = bytes_of(alloc, &[text])?;
+    let within = bytes_of(alloc, &["12", text, text])?;
+    let end = within.len() / 2 + 1;
+    Ok(goes(alloc, &alone, 0, alone.len(), comps) && goes(alloc, &within, 1, end, comps))
+}
+
+#[test]
+fn segments_are_put_again(rt: HostRuntime) -> Result<(), Fail> {
+    for (comps, texts) in &SEGMENTS {
+        for text in texts.trim().lines() {
+            check_at(&rt, &text, goes_anywhere(rt.alloc(), text, *comps)?);
         }
     }
     Ok(())
-}
-
-// The outcome of a segment with bytes before and after it.
-fn within(alloc: Global, segment: &[u8], comps: u16) -> Result<u8, AllocError> {
-    let mut longer = Vec::new(alloc);
-    put_all(&mut longer, &[&[0x12], segment, segment])?;
-    let end = segment.len().saturating_add(1);
-    Ok(outcome(alloc, longer.as_slice(), 1, end, comps))
-}
-
-#[test]
-fn tables(rt: HostRuntime) -> Result<(), Fail> {
-    let alloc = rt.alloc();
-    for text in [
-        rows::ONE_OF_EACH_KIND,
-        rows::RULE_1,
-        rows::RULE_2,
-        rows::RULE_14,
-        rows::RULE_3,
-        rows::RULE_4,
-        rows::RULE_5,
-        rows::RULE_6,
-        rows::RULE_7,
-        rows::RULE_8,
-        rows::RULE_9,
-        rows::RULE_10,
-        rows::RULE_11,
-        rows::RULE_12,
-        rows::RULE_13,
-        rows::TWO_RULES_AT_ONCE,
-    ] {
-        check_rows(&rt, alloc, text)?;
-    }
-    Ok(())
-}
-
-// The canvas of a SIZ segment.
-const CANVAS: [u8; 34] = [
-    0, 0, 0, 0, 0, 1, 0, 0, 0, 1, 0, 0, 0, 0, 0, 0, 0, 0, 0, 0, 0, 1, 0, 0, 0, 1, 0, 0, 0, 0, 0, 0,
-    0, 0,
-];
-
-// A SIZ segment of so many components of eight bits.
-fn siz_of(alloc: Global, count: u16) -> Result<Vec<u8>, AllocError> {
-    let length = u16::try_from(38 + 3 * u32::from(count)).unwrap_or(0);
-    let mut bytes = Vec::new(alloc);
-    put_all(
-        &mut bytes,
-        &[
-            &[0xFF, 0x51],
-            &length.to_be_bytes(),
-            &CANVAS,
-            &count.to_be_bytes(),
-        ],
-    )?;
-    for _ in 0..count {
-        put_all(&mut bytes, &[&[7, 1, 1]])?;
-    }
-    Ok(bytes)
-}
-
-// Puts these slices behind what there is.
-fn put_all(bytes: &mut Vec<u8>, parts: &[&[u8]]) -> Result<(), AllocError> {
-    for part in parts {
-        bytes.extend_from_slice(part)?;
-    }
-    Ok(())
-}
-
-#[test]
-fn many_components(rt: HostRuntime) -> Result<(), Fail> {
-    let alloc = rt.alloc();
-    for (count, want) in [(256, 0), (257, 0), (16384, 0), (16385, 4), (21832, 4)] {
-        let bytes = siz_of(alloc, count)?;
-        equal_at(
-            &rt,
-            &count,
-            outcome(alloc, bytes.as_slice(), 0, bytes.len(), 0),
-            want,
-        );
-    }
-    Ok(())
-}
-
-fn read(alloc: Global, text: &str, comps: u16) -> Result<Segment, Fail> {
-    let bytes = bytes_of(alloc, text)?;
-    let (segment, _) = read_segment(alloc, bytes.as_slice(), 0, comps)?;
-    Ok(segment)
 }
 
 // A segment of each kind, and how many components the picture has.
@@ -219,9 +160,12 @@ static FIELDS: [(&str, u16); 6] = [
 // Fields by their values, as the standard's tables have them.
 #[test]
 fn fields_of_segments(rt: HostRuntime) -> Result<(), Fail> {
-    for (text, comps) in FIELDS {
-        let segment = read(rt.alloc(), text, comps)?;
-        has_fields(&rt, &segment);
+    for (text, comps) in &FIELDS {
+        let bytes = bytes_of(rt.alloc(), &[text])?;
+        match read_segment(rt.alloc(), &bytes, 0, *comps) {
+            Ok((segment, _)) => has_fields(&rt, &segment),
+            Err(_) => check(&rt, false),
+        }
     }
     Ok(())
 }

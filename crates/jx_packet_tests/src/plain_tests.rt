@@ -7,7 +7,6 @@ use crate::geometries::{
 };
 use jx_base::{Band, Rect};
 use jx_geom::{Canvas, CompShape, TileGeom, tiles};
-use std::alloc::Global;
 use std::process::Abort;
 use std::test::Fail;
 
@@ -120,63 +119,87 @@ fn holds(rect: Rect, x: u32, y: u32) -> bool {
     rect.x.low <= x && x < rect.x.high && rect.y.low <= y && y < rect.y.high
 }
 
-/// Compares the precincts and blocks of a band with the plain count.
-fn compare_band(
-    rt: &impl Abort,
-    plain: &Plain,
-    geom: &TileGeom,
-    res: u8,
-    band: Band,
-) -> Result<(), Fail> {
-    let (places, cells) = plain.counts(res, Some(band), plain.exponents(res)[2]);
-    let rect = band_at(geom, 0, res, band).ok_or("no band")?;
-    equal_at(rt, &(res, band), area(rect), places);
+/// Compares each place of a band.
+fn compare_places(rt: &impl Abort, plain: &Plain, rect: Rect, res: u8, band: Band) {
     for y in 0..SIDE {
         for x in 0..SIDE {
-            equal_at(
-                rt,
-                &(res, band, x, y),
-                holds(rect, x, y),
-                plain.has_band_place(res, band, x, y),
-            );
+            let want = plain.has_band_place(res, band, x, y);
+            equal_at(rt, &(res, band, x, y), holds(rect, x, y), want);
         }
     }
-    equal_at(
-        rt,
-        &(res, band),
-        cells_at(geom, 0, res, band).map(area),
-        Some(cells),
-    );
-    let mut in_blocks = 0u64;
-    for index in 0..1024 {
-        in_blocks = in_blocks.saturating_add(block_at(geom, 0, res, band, index).map_or(0, area));
-    }
-    equal_at(rt, &(res, band), in_blocks, places);
-    let mut in_precincts = 0u64;
-    for precinct in 0..1024 {
-        in_precincts = in_precincts.saturating_add(blocks_at(geom, 0, res, band, precinct).map_or(
-            0, area,
-        ));
-    }
-    equal_at(rt, &(res, band), in_precincts, cells);
-    Ok(())
 }
 
-/// Compares all of a tile's component, and gives its blocks and precincts.
-fn compare(rt: &impl Abort, alloc: Global, plain: &Plain) -> Result<(), Fail> {
-    let geom = geometry(alloc, &plain.canvas, plain.tile, &[plain.comp])?;
+/// How many places a band's blocks have together, and how many cells its precincts.
+fn sums(geom: &TileGeom, res: u8, band: Band) -> (u64, u64) {
+    let mut places = 0u64;
+    let mut cells = 0u64;
+    for index in 0..1024 {
+        if let Some(block) = block_at(geom, 0, res, band, index) {
+            places = places.saturating_add(area(block));
+        }
+        if let Some(blocks) = blocks_at(geom, 0, res, band, index) {
+            cells = cells.saturating_add(area(blocks));
+        }
+    }
+    (places, cells)
+}
+
+/// Compares the precincts and blocks of a band with the plain count.
+fn compare_band(rt: &impl Abort, plain: &Plain, geom: &TileGeom, res: u8, band: Band) {
+    let want = plain.counts(res, Some(band), plain.exponents(res)[2]);
+    match (band_at(geom, 0, res, band), cells_at(geom, 0, res, band)) {
+        (Some(rect), Some(cells)) => {
+            equal_at(rt, &(res, band), (area(rect), area(cells)), want);
+            compare_places(rt, plain, rect, res, band);
+        }
+        _ => check(rt, false),
+    }
+    equal_at(rt, &(res, band), sums(geom, res, band), want);
+}
+
+/// Compares all of a tile's component.
+fn compare(rt: &impl Abort, plain: &Plain, geom: &TileGeom) {
     for res in 0..plain.comp.levels.min(32) + 1 {
-        let (_, precincts) = plain.counts(res, None, plain.exponents(res)[0]);
-        let (columns, rows) = precincts_at(&geom, 0, res).ok_or("no resolution")?;
-        equal_at(rt, &res, u64::from(columns) * u64::from(rows), precincts);
+        let (_, want) = plain.counts(res, None, plain.exponents(res)[0]);
+        match precincts_at(geom, 0, res) {
+            Some((columns, rows)) => {
+                equal_at(rt, &res, u64::from(columns) * u64::from(rows), want);
+            }
+            None => check(rt, false),
+        }
         for band in BANDS {
             if has_band(res, band) {
-                compare_band(rt, plain, &geom, res, band)?;
+                compare_band(rt, plain, geom, res, band);
             }
         }
     }
+}
+
+/// Compares two tiles, where the canvas has them.
+fn compare_tiles(
+    rt: &(impl Abort + AllocGlobal),
+    canvas: Canvas,
+    comp: CompShape,
+) -> Result<(), Fail> {
+    check(rt, canvas.is_in_range());
+    for tile in 0..2 {
+        if u64::from(tile) < tiles(&canvas) {
+            let geom = geometry(rt.alloc(), &canvas, tile, &[comp])?;
+            compare(rt, &Plain { canvas, tile, comp }, &geom);
+        }
+    }
     Ok(())
 }
+
+/// The ends of pictures, and their tiles' first place and size, across and down.
+const ACROSS: [(u32, u32, u32, u32); 4] = [
+    (0, 9, 0, 9),
+    (5, 22, 3, 7),
+    (1, 2, 1, 1),
+    (13, 30, 2, 24),
+];
+
+const DOWN: [(u32, u32, u32, u32); 3] = [(0, 5, 0, 5), (3, 19, 1, 11), (6, 31, 0, 8)];
 
 #[test]
 fn plain_counts_on_small_canvases(rt: HostRuntime) -> Result<(), Fail> {
@@ -190,10 +213,8 @@ fn plain_counts_on_small_canvases(rt: HostRuntime) -> Result<(), Fail> {
         shape(3, 1, 1, (2, 2), small),
         shape(2, 5, 3, (2, 2), WHOLE),
     ];
-    let across = [(0, 9, 0, 9), (5, 22, 3, 7), (1, 2, 1, 1), (13, 30, 2, 24)];
-    let down = [(0, 5, 0, 5), (3, 19, 1, 11), (6, 31, 0, 8)];
-    for (x0, x1, tx, tw) in across {
-        for (y0, y1, ty, th) in down {
+    for (x0, x1, tx, tw) in ACROSS {
+        for (y0, y1, ty, th) in DOWN {
             let canvas = Canvas {
                 x1,
                 y1,
@@ -205,12 +226,7 @@ fn plain_counts_on_small_canvases(rt: HostRuntime) -> Result<(), Fail> {
                 ty,
             };
             for comp in shapes {
-                for tile in 0..2 {
-                    check(&rt, canvas.is_in_range());
-                    if u64::from(tile) < tiles(&canvas) {
-                        compare(&rt, rt.alloc(), &Plain { canvas, tile, comp })?;
-                    }
-                }
+                compare_tiles(&rt, canvas, comp)?;
             }
         }
     }
