@@ -43,24 +43,45 @@ fn ends(rect: Rect) -> Four {
     )
 }
 
-fn two((x, y): (u64, u64)) -> Four {
-    (x, y, 0, 0)
+fn ends_of(rect: Option<Rect>) -> Option<Four> {
+    match rect {
+        Some(rect) => Some(ends(rect)),
+        None => None,
+    }
+}
+
+fn area_of(rect: Option<Rect>) -> Option<Four> {
+    match rect {
+        Some(rect) => Some((area(rect), 0, 0, 0)),
+        None => None,
+    }
+}
+
+fn point_of(point: Option<(u64, u64)>) -> Option<Four> {
+    match point {
+        Some((x, y)) => Some((x, y, 0, 0)),
+        None => None,
+    }
+}
+
+fn precincts_of(size: Option<(u32, u32)>, rows: bool) -> Option<Four> {
+    match size {
+        Some((columns, high)) if rows => Some((u64::from(columns), u64::from(high), 0, 0)),
+        Some((columns, _)) => Some((u64::from(columns), 0, 0, 0)),
+        None => None,
+    }
 }
 
 fn answer(geom: &TileGeom, comp: u16, res: u8, of: Of) -> Option<Four> {
-    let found = match of {
-        Of::Places(band) => return Some(ends(band_at(geom, comp, res, band)?)),
-        Of::Point(precinct) => return Some(two(point_at(geom, comp, res, precinct)?)),
-        Of::Precincts => {
-            let (columns, rows) = precincts_at(geom, comp, res)?;
-            return Some(two((u64::from(columns), u64::from(rows))));
-        }
-        Of::Columns => u64::from(precincts_at(geom, comp, res)?.0),
-        Of::Count(band) => area(band_at(geom, comp, res, band)?),
-        Of::Cells(band) => area(cells_at(geom, comp, res, band)?),
-        Of::Blocks(band) => area(blocks_at(geom, comp, res, band, 0)?),
-    };
-    Some(two((found, 0)))
+    match of {
+        Of::Places(band) => ends_of(band_at(geom, comp, res, band)),
+        Of::Count(band) => area_of(band_at(geom, comp, res, band)),
+        Of::Cells(band) => area_of(cells_at(geom, comp, res, band)),
+        Of::Blocks(band) => area_of(blocks_at(geom, comp, res, band, 0)),
+        Of::Columns => precincts_of(precincts_at(geom, comp, res), false),
+        Of::Precincts => precincts_of(precincts_at(geom, comp, res), true),
+        Of::Point(precinct) => point_of(point_at(geom, comp, res, precinct)),
+    }
 }
 
 fn are_answers(rt: &impl Abort, geom: &TileGeom, rows: &[Row]) {

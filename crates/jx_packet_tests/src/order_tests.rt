@@ -180,12 +180,19 @@ const SMALL_PRECINCTS: Tile = (256, 0, &[(1, 1, 0, 4)], 1, true);
 /// No multiple of 255 lies in the picture, so no component has a packet.
 const EMPTY: Tile = (3, 1, &[(255, 1, 32, 4)], 16_384, false);
 
+const TILES: [(Tile, &[Row]); 4] = [
+    (LEVELS, &FEW),
+    (WIDE_TILE, &WIDE),
+    (SMALL_PRECINCTS, &LONG),
+    (EMPTY, &NONE),
+];
+
 #[test]
 fn lists_of_tiles(rt: HostRuntime) -> Result<(), Fail> {
-    are_lists(&rt, LEVELS, &FEW)?;
-    are_lists(&rt, WIDE_TILE, &WIDE)?;
-    are_lists(&rt, SMALL_PRECINCTS, &LONG)?;
-    are_lists(&rt, EMPTY, &NONE)
+    for (tile, rows) in &TILES {
+        are_lists(&rt, *tile, rows)?;
+    }
+    Ok(())
 }
 
 const BY_COMPONENT: [(usize, Name); 3] = [

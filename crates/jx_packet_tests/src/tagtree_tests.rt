@@ -98,7 +98,7 @@ fn written(
     high: u32,
     leaves: &[u32],
     queries: &[(u32, u32)],
-) -> Result<Vec<u8>, Fail>
+) -> Result<Vec<u8>, NoMemory>
     requires shape { IsShape wide high }
     requires leaves { length leaves.now ≡ wide * high }
 {
@@ -108,7 +108,7 @@ fn written(
         check(rt, *leaf < wide * high);
         tree.reach(*leaf, *threshold, &mut writer)?;
     }
-    Ok(writer.finish()?)
+    writer.finish()
 }
 
 /// Whether a tree can have these leaves.
@@ -128,7 +128,7 @@ fn both_ways(
     leaves: &[u32],
     queries: &[(u32, u32)],
     bytes: &[u8],
-) -> Result<(), Fail> {
+) -> Result<(), NoMemory> {
     check(rt, is_shape(wide, high, leaves));
     let found = written(rt, alloc, wide, high, leaves, queries)?;
     equal(rt, found.as_slice(), bytes);
@@ -144,7 +144,7 @@ fn read_back(
     leaves: &[u32],
     queries: &[(u32, u32)],
     bytes: &[u8],
-) -> Result<(), Fail>
+) -> Result<(), NoMemory>
     requires shape { IsShape wide high }
     requires leaves { length leaves.now ≡ wide * high }
 {
@@ -214,7 +214,7 @@ fn last_of(
     let count = wide.saturating_mul(high);
     let leaves = vec![in rt.alloc(); 1; count as usize]?;
     let queries = [(count.saturating_sub(1), 2)];
-    both_ways(rt, rt.alloc(), wide, high, &leaves, &queries, bytes)
+    Ok(both_ways(rt, rt.alloc(), wide, high, &leaves, &queries, bytes)?)
 }
 
 #[test]
