@@ -3,6 +3,7 @@ pub mod Cells
 pub mod Rolls
 pub mod Looks
 pub mod Claiming
+pub mod Asking
 pub mod Committing
 pub mod Draining
 pub mod Seats
