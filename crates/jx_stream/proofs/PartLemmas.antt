@@ -276,10 +276,10 @@ module _ (comps tiles : ℕ) (b : List ℕ) (start : ℕ) (parts : List Part) (a
 equal_or_not : (a b : ℕ) → (a ≡ b) ⊎ (a ≢ b)
 equal_or_not a b = grind (arith, nat_tests)
 
-own_more : (tile : ℕ) (parts : List Part) (p : Part) → p.sot.tile ≡ tile → parts_of tile (parts ++ p ∷ []) ≡ parts_of tile parts ++ p ∷ []
+pub own_more : (tile : ℕ) (parts : List Part) (p : Part) → p.sot.tile ≡ tile → parts_of tile (parts ++ p ∷ []) ≡ parts_of tile parts ++ p ∷ []
 own_more tile parts p h = filter-append (λ (x : Part). x.sot.tile == tile) parts (p ∷ []) ∙ rw (eq-eqb p.sot.tile tile h) refl
 
-own_same : (tile : ℕ) (parts : List Part) (p : Part) → p.sot.tile ≢ tile → parts_of tile (parts ++ p ∷ []) ≡ parts_of tile parts
+pub own_same : (tile : ℕ) (parts : List Part) (p : Part) → p.sot.tile ≢ tile → parts_of tile (parts ++ p ∷ []) ≡ parts_of tile parts
 own_same tile parts p h = filter-append (λ (x : Part). x.sot.tile == tile) parts (p ∷ []) ∙ rw (ne_eqb p.sot.tile tile h) (append-nil (parts_of tile parts))
 
 other_more : (number : ℕ) (own : List Part) (p : Part) → told_other number (own ++ p ∷ []) ≡ (told_other number own || (nat_lt 0 p.sot.parts && not (p.sot.parts == number)))
