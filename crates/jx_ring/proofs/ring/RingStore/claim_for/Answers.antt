@@ -1,6 +1,6 @@
 use Rattle.std.proofs.Common.{◌≡◌, ◌≤◌, ◌<◌, ◌/◌, ◌∙◌, ℕ, refl, sym, ap, arith}
 use Rattle.jx_store.specs.Setup.{end_of}
-use Rattle.jx_ring.proofs.Asking.{Looked, look, more_then, free, drains_none, room, all_claimed, claimed, claimed_out, full, later}
+use Rattle.jx_ring.proofs.Asking.{look, more_then, free, drains_none, room, all_claimed, claimed, claimed_out, full, later}
 use Rattle.jx_ring.proofs.ring.RingStore.claim_for.Goals as goal
 
 strict : (n end all : ℕ) → n ≤ all → end ≡ all → (n ≡ end → ⊥) → n < all
