@@ -66,7 +66,10 @@ fn check_tile(
     let view = stream.tile_view(alloc, main, tile)?;
     let geom = geometry_of(alloc, stream, &view, tile)?;
     let sent = tile_at(stream, tile);
-    if are_covered(&geom, view.layers(), sent.progressions.as_slice()) {
+    let whole = are_covered(&geom, view.layers(), sent.progressions.as_slice());
+    drop(geom);
+    drop(view);
+    if whole {
         return Ok(());
     }
     Err(StreamFault::Rule {

@@ -55,6 +55,7 @@ fn tile_totals(
     let view = stream.tile_view(alloc, main, tile)?;
     let counts = count_tile(tile_of(&view.canvas(), tile), view.shapes());
     let layers = u128::from(view.layers());
+    drop(view);
     Ok((counts.0, counts.1 * layers))
 }
 

@@ -1,8 +1,8 @@
-use Rattle.std.proofs.Common.{◌≡◌, ◌∙◌, ◌≤◌, ◌*◌, ◌^◌, ℕ, List, length, ap, subst, sym, arith}
+use Rattle.std.proofs.Common.{◌≡◌, ◌∙◌, ◌<◌, ◌≤◌, ◌*◌, ◌^◌, ℕ, List, length, ap, subst, sym, arith}
 use Rattle.jx_base.specs.declared.names.Rect.{Rect}
 use Rattle.jx_geom.specs.declared.shape.Canvas.{Canvas}
 use Rattle.jx_geom.specs.declared.shape.CompShape.{CompShape}
-use Rattle.jx_geom.specs.Counts.{tile_blocks, tile_precincts}
+use Rattle.jx_geom.specs.Counts.{tile_blocks, tile_count, tile_precincts}
 use Rattle.jx_geom.specs.Rects.{tile_rect}
 use Rattle.jx_stream.specs.First.{canvas_of}
 use Rattle.jx_stream.specs.Shapes.{shapes_in, shapes_of, layers_in}
@@ -14,6 +14,19 @@ pub count_tile-counts-requires-clause-few : goal.count_tile-counts-requires-clau
 count_tile-counts-requires-clause-few c =
     let P : List CompShape → Type 0 = λ x. length x ≤ 2 ^ 14 in
     subst P (sym (c.shapes.ensures.value ∙ ap shapes_in c.in_ok-view.ensures)) (few_shapes c.args.stream.now c.args.tile c.requires.range)
+
+pub count_tile-counts-requires-clause-range : goal.count_tile-counts-requires-clause-range
+count_tile-counts-requires-clause-range c = c.shapes.ensures.range
+
+pub tile_of-requires-clause-canvas : goal.tile_of-requires-clause-canvas
+tile_of-requires-clause-canvas c = c.canvas.ensures.range
+
+pub tile_of-requires-clause-tile : goal.tile_of-requires-clause-tile
+tile_of-requires-clause-tile c =
+    subst (λ (x : Canvas). c.args.tile < tile_count x) (sym (c.canvas.ensures.value ∙ ap (λ (h : TileHeaders). canvas_of h.siz) c.in_ok-view.ensures)) c.requires.tile
+
+pub returns-clause-few_blocks : goal.returns-clause-few_blocks
+returns-clause-few_blocks c = c.count_tile-counts.ensures.few_blocks
 
 pub returns-clause-blocks : goal.returns-clause-blocks
 returns-clause-blocks c =
