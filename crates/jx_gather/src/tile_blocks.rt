@@ -7,6 +7,8 @@ ghost use Rattle.jx_stream.specs.First.{tile_number};
 ghost use Rattle.jx_gather.specs.Faults.{HasCause};
 ghost use Rattle.jx_stream.specs.Read.{IsRead};
 ghost use Rattle.jx_stream.specs.InRange.{StreamInRange};
+ghost use Rattle.jx_stream.specs.Params.{headers_at};
+ghost use Rattle.jx_stream.specs.Shapes.{geometry};
 ghost use Rattle.jx_gather.specs.Totals.{totals_fault};
 ghost use Rattle.jx_gather.specs.Gathered.{AreTileBlocks, BreaksTile, IsWhole};
 
@@ -16,8 +18,40 @@ use crate::fresh::blocks_of;
 use crate::shapes::geometry_of;
 use crate::tile::read_tile;
 use jx_base::Block;
-use jx_stream::{MainView, Stream};
+use jx_geom::TileGeom;
+use jx_stream::{MainView, Stream, TileView};
 use std::alloc::Global;
+
+/// Reads the blocks of a tile whose packets are covered, over its headers and geometry.
+fn read_blocks<'a>(
+    alloc: Global,
+    bytes: &'a [u8],
+    stream: &Stream,
+    view: &TileView<'_>,
+    geom: &TileGeom,
+) -> Result<Vec<Block<'a>>, StreamFault>
+    requires view { view.now ≡ headers_at stream.now geom.now.tile }
+    requires read { IsRead bytes.now stream.now }
+    requires range { StreamInRange stream.now }
+    requires fits { length bytes.now ≤ 2 ^ 28 }
+    requires totals { totals_fault stream.now ≡ None }
+    requires tile { geom.now.tile < tile_number stream.now.siz }
+    requires geometry { geom.now ≡ geometry stream.now geom.now.tile }
+    requires whole { IsWhole stream.now geom.now.tile }
+    ensures blocks { IfOk result (λ blocks. AreTileBlocks bytes.entry.now stream.now geom.now.tile blocks.items) }
+    ensures sound { IfOk result (λ blocks. All IsSound blocks.items) }
+    ensures broken { IfErr result (λ e. HasCause (BreaksTile bytes.entry.now stream.now geom.now.tile) e) }
+{
+    let list = match list_of(alloc, stream, view, geom) {
+        Ok(list) => list,
+        Err(fault) => return Err(fault),
+    };
+    let mut blocks = blocks_of(alloc, stream, view, geom)?;
+    match read_tile(alloc, bytes, stream, view, geom, &list, &mut blocks) {
+        Ok(()) => Ok(blocks),
+        Err(fault) => Err(fault),
+    }
+}
 
 /// The blocks of a tile whose packets are covered by its progression entries.
 pub(crate) fn gather_tile<'a>(
@@ -40,13 +74,8 @@ pub(crate) fn gather_tile<'a>(
 {
     let view = stream.tile_view(alloc, main, tile)?;
     let geom = geometry_of(alloc, stream, &view, tile)?;
-    let list = match list_of(alloc, stream, &view, &geom) {
-        Ok(list) => list,
-        Err(fault) => return Err(fault),
-    };
-    let mut blocks = blocks_of(alloc, stream, &view, &geom)?;
-    match read_tile(alloc, bytes, stream, &view, &geom, &list, &mut blocks) {
-        Ok(()) => Ok(blocks),
-        Err(fault) => Err(fault),
-    }
+    let result = read_blocks(alloc, bytes, stream, &view, &geom);
+    drop(geom);
+    drop(view);
+    result
 }

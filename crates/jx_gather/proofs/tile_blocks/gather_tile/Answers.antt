@@ -1,18 +1,34 @@
-use Rattle.std.proofs.Common.{sym, subst}
+use Rattle.std.proofs.Common.{◌≡◌, ◌<◌, refl, subst, sym}
+use Rattle.std.specs.Prelude.{IfErr, IfOk}
+use Rattle.std.specs.Global.{Vec}
+use Rattle.jx_base.specs.declared.pieces.Block.{Block}
 use Rattle.jx_geom.specs.Geometry.{Geometry}
-use Rattle.jx_stream.specs.Shapes.{tile_at}
-use Rattle.jx_gather.specs.InRange.{DataInRange}
-use Rattle.jx_gather.specs.Gathered.{AreTileBlocks}
-use Rattle.jx_gather.proofs.BodyLemmas.{read_data}
-use Rattle.jx_gather.proofs.GatherLemmas.{tile_sound}
+use Rattle.jx_stream.specs.First.{tile_number}
+use Rattle.jx_stream.specs.Params.{headers_at}
+use Rattle.jx_stream.specs.Shapes.{geometry}
+use Rattle.jx_stream.specs.declared.faults.StreamFault.{StreamFault}
+use Rattle.jx_gather.specs.Faults.{HasCause}
+use Rattle.jx_gather.specs.Gathered.{AreTileBlocks, BreaksTile, IsWhole}
 use Rattle.jx_gather.proofs.tile_blocks.gather_tile.Goals as goal
 
-pub read_tile-requires-clause-bodies : goal.read_tile-requires-clause-bodies
-read_tile-requires-clause-bodies c =
-    subst (λ (g : Geometry). DataInRange c.args.bytes.now (tile_at c.args.stream.now g.tile).bodies) (sym c.in_ok-geom.ensures)
-    (read_data c.args.bytes.now c.args.stream.now c.args.tile c.requires.read c.requires.tile)
+pub read_blocks-result-requires-clause-view : goal.read_blocks-result-requires-clause-view
+read_blocks-result-requires-clause-view c = subst (λ (g : Geometry). c.in_ok-view.view ≡ headers_at c.args.stream.now g.tile) (sym c.in_ok-geom.ensures) c.in_ok-view.ensures
 
-pub returns-in-Ok-read_tile-clause-sound : goal.returns-in-Ok-read_tile-clause-sound
-returns-in-Ok-read_tile-clause-sound c =
-    tile_sound c.args.bytes.now c.args.stream.now c.args.tile c.read_tile.new.blocks.items c.requires.read c.requires.fits c.requires.tile c.requires.totals
-    (subst (λ (g : Geometry). AreTileBlocks c.args.bytes.now c.args.stream.now g.tile c.read_tile.new.blocks.items) c.in_ok-geom.ensures c.in-Ok-read_tile.ensures.ok)
+pub read_blocks-result-requires-clause-tile : goal.read_blocks-result-requires-clause-tile
+read_blocks-result-requires-clause-tile c = subst (λ (g : Geometry). g.tile < tile_number c.args.stream.now.siz) (sym c.in_ok-geom.ensures) c.requires.tile
+
+pub read_blocks-result-requires-clause-geometry : goal.read_blocks-result-requires-clause-geometry
+read_blocks-result-requires-clause-geometry c = subst (λ (g : Geometry). g ≡ geometry c.args.stream.now g.tile) (sym c.in_ok-geom.ensures) refl
+
+pub read_blocks-result-requires-clause-whole : goal.read_blocks-result-requires-clause-whole
+read_blocks-result-requires-clause-whole c = subst (λ (g : Geometry). IsWhole c.args.stream.now g.tile) (sym c.in_ok-geom.ensures) c.requires.whole
+
+pub returns-clause-blocks : goal.returns-clause-blocks
+returns-clause-blocks c =
+    subst (λ (g : Geometry). IfOk c.read_blocks-result.result (λ (blocks : Vec Block). AreTileBlocks c.args.bytes.now c.args.stream.now g.tile blocks.items))
+    c.in_ok-geom.ensures c.read_blocks-result.ensures.blocks
+
+pub returns-clause-broken : goal.returns-clause-broken
+returns-clause-broken c =
+    subst (λ (g : Geometry). IfErr c.read_blocks-result.result (λ (e : StreamFault). HasCause (BreaksTile c.args.bytes.now c.args.stream.now g.tile) e))
+    c.in_ok-geom.ensures c.read_blocks-result.ensures.broken
