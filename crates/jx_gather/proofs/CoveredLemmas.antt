@@ -1,8 +1,10 @@
 -- Rule 25 over the tiles of a stream.
-use Rattle.std.proofs.Common.{◌≡◌, ◌∙◌, ◌<◌, ℕ, List, ap, subst}
+use Rattle.std.proofs.Common.{◌≡◌, ◌∙◌, ◌<◌, ◌+◌, inl, inr, ℕ, List, length, ap, arith, subst, sym}
+use Rattle.std.proofs.lemmas.Bool.{cases_eq}
 use Rattle.jx_geom.specs.Geometry.{Geometry}
 use Rattle.jx_marker.specs.declared.Progression.{Progression}
-use Rattle.jx_order.specs.Packets.{AreCovered, HasUncovered}
+use Rattle.jx_order.specs.declared.names.PacketName.{PacketName}
+use Rattle.jx_order.specs.Packets.{AreCovered, HasUncovered, IsOrder}
 use Rattle.jx_stream.specs.declared.Tile.{Tile}
 use Rattle.jx_stream.specs.declared.Stream.{Stream}
 use Rattle.jx_stream.specs.First.{tile_number}
@@ -10,7 +12,7 @@ use Rattle.jx_stream.specs.declared.faults.StreamFault.{StreamFault}
 use Rattle.jx_stream.specs.declared.faults.StreamFault.TheVariants as fault
 use Rattle.jx_gather.specs.Faults.{HasCause}
 use Rattle.jx_stream.specs.Shapes.{geometry, layers_of, tile_at}
-use Rattle.jx_gather.specs.Gathered.{IsWhole, IsUncovered}
+use Rattle.jx_gather.specs.Gathered.{IsListOf, IsWhole, IsUncovered}
 use Rattle.jx_gather.specs.Covered.{LacksPacket}
 
 -- in the lowest tile of which some packet isn't covered
@@ -19,7 +21,22 @@ uncovered_first s t (fault.Rule number place) inside before h = record { tile = 
 uncovered_first s t (fault.Limit number found) inside before h = record { tile = t; inside = inside; some = h.some; lowest = before; fault_is = h.fault_is }
 uncovered_first s t fault.NoMemory inside before h = tt
 
+pub whole_next : (s : Stream) (n : ℕ) → ((t : ℕ) → t < n → IsWhole s t) → IsWhole s n → (t : ℕ) → t < n + 1 → IsWhole s t
+whole_next s n before own t lt = elim (cases_eq t n) [
+  | inl e ↦ subst (λ (i : ℕ). IsWhole s i) (sym e) own
+  | inr e ↦ before t (omega (arith, lt, e))
+]
+
 -- by the values that a tile's list is made from
+pub order_here : (s : Stream) (g : Geometry) (layers : ℕ) (entries : List Progression) (tile : Tile) (list : List PacketName) → g ≡ geometry s g.tile → layers ≡ layers_of s g.tile
+    → tile ≡ tile_at s g.tile → entries ≡ tile.progressions → IsOrder g layers entries (length entries) list → IsListOf s g.tile list
+order_here s g layers entries tile list is many at sent h =
+    let own : List Progression = (tile_at s g.tile).progressions in
+    let P : Geometry → Type 0 = λ x. IsOrder x (layers_of s g.tile) own (length own) list in
+    let Q : ℕ → Type 0 = λ n. IsOrder g n own (length own) list in
+    let R : List Progression → Type 0 = λ x. IsOrder g layers x (length x) list in
+    subst P is (subst Q many (subst R (sent ∙ ap (λ (x : Tile). x.progressions) at) h))
+
 pub lacks_here : (s : Stream) (g : Geometry) (layers : ℕ) (entries : List Progression) (tile : Tile) → g ≡ geometry s g.tile → layers ≡ layers_of s g.tile → tile ≡ tile_at s g.tile
     → entries ≡ tile.progressions → HasUncovered g layers entries → LacksPacket s g.tile (fault.Rule 25 tile.place)
 lacks_here s g layers entries tile is many at sent h =
