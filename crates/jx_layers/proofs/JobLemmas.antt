@@ -1,5 +1,5 @@
 -- Jobs that are made block by block.
-use Rattle.std.proofs.Common.{◌≡◌, ◌<◌, ◌≤◌, ◌+◌, ◌-◌, ◌*◌, ◌∙◌, ap, sym, subst, refl, arith, ℕ, zero, suc, List, [], ◌∷◌, ◌++◌, length, length-append, inl, inr, slice_index_or, Option, None, Some, IfSome}
+use Rattle.std.proofs.Common.{◌≡◌, ◌<◌, ◌≤◌, ◌+◌, ◌-◌, ◌*◌, ◌^◌, ◌∙◌, ap, sym, subst, refl, arith, ℕ, zero, suc, List, [], ◌∷◌, ◌++◌, length, length-append, inl, inr, slice_index_or, Option, None, Some, IfSome, IsSome}
 use Rattle.std.specs.List.{All, slice_get}
 use Rattle.std.proofs.lemmas.Bool.{cases_lt}
 use Rattle.std.proofs.lemmas.List.Sums.{sum_by_more}
@@ -94,3 +94,29 @@ asked_most blocks n b before now lt at before_is most =
     let same : b.passes ≡ (slice_index_or blocks n b).passes = ap (λ (x : Block). x.passes) at in
     let to = asked_to blocks b (n + 1) (omega arith) in
     omega (arith, more, same, before_is, most, to)
+
+-- ---- what a loop over blocks asks, and what it leaves
+pub begun_on : (o now : Option Rule) → now ≡ o → IsSome o → IsSome now
+begun_on o now is begun = subst IsSome (sym is) begun
+
+pub room_left : (blocks : List Block) (n asked : ℕ) (d : Block) → All IsSound blocks → length blocks ≤ 2 ^ 20 → n < length blocks → asked ≡ asked_before blocks n → asked < 2 ^ 31
+room_left blocks n asked d sound few lt is =
+    let most : asked_before blocks n ≤ 220 * n = few_asked blocks n d sound (omega arith) in
+    omega (arith, most, few, lt, is)
+
+pub sound_at : (blocks : List Block) (n : ℕ) (b : Block) → All IsSound blocks → n < length blocks → b ≡ slice_index_or blocks n b → IsSound b
+sound_at blocks n b sound lt is = subst IsSound (sym is) (sound n b lt)
+
+pub jobs_begun : (style : Option Style) (o : Option Rule) (layers : ℕ) (blocks : List Block) (jobs : List Job) → jobs ≡ [] → IfSome o (λ r. AreFirst style r layers blocks 0 jobs)
+jobs_begun style None layers blocks jobs is = tt
+jobs_begun style (Some r) layers blocks jobs is = subst (AreFirst style r layers blocks 0) (sym is) (no_jobs style r layers blocks)
+
+pub jobs_done : (style : Option Style) (o : Option Rule) (layers : ℕ) (blocks : List Block) (n : ℕ) (jobs : List Job) → n ≡ length blocks → IfSome o (λ r. AreFirst style r layers blocks n jobs) → IfSome o (λ r. AreJobs style r layers blocks jobs)
+jobs_done style None layers blocks n jobs is first = tt
+jobs_done style (Some r) layers blocks n jobs is first = all_jobs style r layers blocks n jobs first is
+
+pub asked_all : (blocks : List Block) (n asked : ℕ) → n ≡ length blocks → asked ≡ asked_before blocks n → asked ≡ asked_before blocks (length blocks)
+asked_all blocks n asked is asked_is = asked_is ∙ ap (asked_before blocks) is
+
+pub most_all : (blocks : List Block) (n asked : ℕ) → n ≡ length blocks → asked ≡ asked_before blocks n → asked ≤ asked_before blocks (length blocks)
+most_all blocks n asked is asked_is = omega (arith, asked_all blocks n asked is asked_is)

@@ -1,14 +1,19 @@
 -- The pieces of a sound block, one after another.
-use Rattle.std.proofs.Common.{◌≡◌, ◌<◌, ◌≤◌, ◌+◌, ◌∙◌, refl, arith, ℕ, suc, nat_lt, true, false, List, [], ◌∷◌, length, map, drop, drop-cons, subst, slice_index_or, Option, None, Some, IfSome}
+use Rattle.std.proofs.Common.{◌≡◌, ◌<◌, ◌≤◌, ◌+◌, ◌^◌, ◌∙◌, ap, refl, arith, ℕ, suc, nat_lt, true, false, List, [], ◌∷◌, length, map, drop, drop-cons, subst, slice_index_or, Option, None, Some, IfSome}
 use Rattle.std.proofs.lemmas.Bool.Decides.{nat_tests}
+use Rattle.std.proofs.lemmas.List.{drop_all}
 use Rattle.jx_base.specs.declared.pieces.Block.{Block}
 use Rattle.jx_base.specs.declared.pieces.Piece.{Piece}
+use Rattle.jx_base.specs.declared.style.Style.{Style}
 use Rattle.jx_base.specs.Pieces.{PieceValue, ArePieces, value_of}
 use Rattle.jx_base.specs.Sound.{IsSound}
-use Rattle.jx_layers.specs.Layers.{layer_in}
-use Rattle.jx_layers.specs.Sent.{AreLeft, AreSent, answered}
+use Rattle.jx_layers.specs.Layers.{Divide, greatest_to, layer_in}
+use Rattle.jx_layers.specs.Sent.{AreLeft, AreSent, IsJobFrom, answered}
 use Rattle.jx_layers.specs.Rule.{Rule}
 use Rattle.jx_block.specs.declared.LayerEnd.{LayerEnd}
+use Rattle.jx_block.specs.declared.job.Job.{Job}
+use Rattle.jx_block.specs.Jobs.{AreEnds}
+use Rattle.jx_block.specs.Written.{style_for}
 
 pub pieces_reach : (style layer first passes : ℕ) (ps : List PieceValue) → ArePieces style layer first passes ps → first ≤ passes
 pieces_reach style layer first passes [] are = omega (arith, are)
@@ -97,3 +102,45 @@ asked_most b n i items d start before now lt are before_is most =
     let at : AreLeft b n (p ∷ map value_of (drop (i + 1) items)) = piece_at b n i items d lt are in
     let reach = pieces_reach b.style.bits p.layer (n + p.passes) b.passes (map value_of (drop (i + 1) items)) at.pieces.1 in
     omega (arith, reach, before_is, most)
+
+-- ---- what a loop over pieces asks, and what it leaves
+pub item_first : (b : Block) (n i : ℕ) (items : List Piece) (d : Piece) → i < length items → AreLeft b n (map value_of (drop i items)) → (slice_index_or items i d).first ≡ n
+item_first b n i items d lt are = left_first b n (value_of (slice_index_or items i d)) (map value_of (drop (i + 1) items)) (piece_at b n i items d lt are)
+
+pub item_layer : (b : Block) (n i : ℕ) (items : List Piece) (d : Piece) → i < length items → AreLeft b n (map value_of (drop i items))
+    → (pass : ℕ) → (slice_index_or items i d).first ≤ pass → pass < (slice_index_or items i d).first + (slice_index_or items i d).passes → layer_in b.pieces pass ≡ (slice_index_or items i d).layer
+item_layer b n i items d lt are = left_layer b n (value_of (slice_index_or items i d)) (map value_of (drop (i + 1) items)) (piece_at b n i items d lt are)
+
+pub room_on : (start n asked : ℕ) → asked ≡ start + n → n ≤ 220 → start < 2 ^ 31 → asked < 2 ^ 32
+room_on start n asked is few room = omega arith
+
+pub few_on : (b : Block) (n i : ℕ) (items : List Piece) (d : Piece) (more : ℕ) → IsSound b → i < length items → AreLeft b n (map value_of (drop i items)) → more ≡ (slice_index_or items i d).first + (slice_index_or items i d).passes → more ≤ 220
+few_on b n i items d more sound lt are is = omega (arith, item_few b n i items d sound lt are, is)
+
+pub asked_begun : (start n : ℕ) → n ≡ 0 → start ≡ start + n
+asked_begun start n is = omega (arith, is)
+
+pub left_begun : (b : Block) (n : ℕ) (left : List PieceValue) → IsSound b → n ≡ 0 → left ≡ b.pieces → AreLeft b n left
+left_begun b n left sound is left_is = rw is (rw left_is (left_all b sound))
+
+pub sent_begun : (o : Option Rule) (last start number : ℕ) (b : Block) (n now : ℕ) (ends : List LayerEnd) → ((g : ℕ → ℕ) → AreSent g n now ends) → IfSome o (λ r. AreSent (answered r last start number b) n now ends)
+sent_begun None last start number b n now ends sent = tt
+sent_begun (Some r) last start number b n now ends sent = sent (answered r last start number b)
+
+pub left_ended : (b : Block) (n i : ℕ) (items : List Piece) → length items ≤ i → AreLeft b n (map value_of (drop i items)) → n ≡ b.passes
+left_ended b n i items past are = left_none b n (subst (λ (ps : List Piece). AreLeft b n (map value_of ps)) (drop_all i items past) are)
+
+pub asked_ended : (b : Block) (n i : ℕ) (items : List Piece) (start asked : ℕ) → length items ≤ i → AreLeft b n (map value_of (drop i items)) → asked ≡ start + n → asked ≡ start + b.passes
+asked_ended b n i items start asked past are is = is ∙ ap (λ m. start + m) (left_ended b n i items past are)
+
+pub most_ended : (b : Block) (n i : ℕ) (items : List Piece) (start asked : ℕ) → length items ≤ i → AreLeft b n (map value_of (drop i items)) → asked ≡ start + n → asked ≤ start + b.passes
+most_ended b n i items start asked past are is = omega (arith, asked_ended b n i items start asked past are is)
+
+-- what is asked of a block whose passes are all in layers
+pub job_ended : (style : Option Style) (o : Option Rule) (last start number : ℕ) (b : Block) (n now : ℕ) (ends : List LayerEnd) (job : Job) → n ≡ b.passes → job.number ≡ number → job.block.now ≡ b → job.style ≡ style_for style b
+    → IfSome o (λ r. AreSent (answered r last start number b) n now ends) → ((g : ℕ → ℕ) → AreSent g n now ends → AreEnds 0 0 n job.ends × Divide (greatest_to g) 0 job.ends)
+    → IfSome o (λ r. IsJobFrom style r last start number b job)
+job_ended style None last start number b n now ends job all number_is block_is style_is sent goes = tt
+job_ended style (Some r) last start number b n now ends job all number_is block_is style_is sent goes =
+    let both = goes (answered r last start number b) sent in
+    record { number_is = number_is; block_is = block_is; style_is = style_is; ends = subst (λ m. AreEnds 0 0 m job.ends) all both.0; layers_are = both.1 }

@@ -82,7 +82,7 @@ fn ask_piece(
 }
 
 /// Asks for the passes of a block, and puts them into layers by the answers.
-#[tactic(auto, using(crate::proofs::LeftLemmas::left_all, crate::proofs::LeftLemmas::left_first, crate::proofs::LeftLemmas::item_few, crate::proofs::LeftLemmas::left_layer, crate::proofs::LeftLemmas::item_next, crate::proofs::LeftLemmas::left_reach, crate::proofs::LeftLemmas::left_none, crate::proofs::LeftLemmas::sent_on, crate::proofs::LeftLemmas::asked_most))]
+#[tactic(auto)]
 fn ask_block<'a>(
     alloc: Global,
     planner: &mut Box<dyn LayerPlanner>,
@@ -117,7 +117,7 @@ fn ask_block<'a>(
 /// another style than the one that is asked. There are `layers` layers, 1 to 65,535; an answer past the last one means the last.
 ///
 /// The planner has begun and wasn't asked yet. After an `Err` it may have been asked for the first of the passes alone.
-#[tactic(auto, using(crate::proofs::JobLemmas::few_asked, crate::proofs::JobLemmas::asked_most, crate::proofs::JobLemmas::asked_next, crate::proofs::JobLemmas::all_jobs, crate::proofs::JobLemmas::no_jobs, crate::proofs::JobLemmas::jobs_on))]
+#[tactic(auto)]
 pub fn ask_jobs<'a>(
     alloc: Global,
     blocks: &'a [Block<'a>],
