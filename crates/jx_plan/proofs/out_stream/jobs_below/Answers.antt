@@ -1,4 +1,4 @@
-use Rattle.std.proofs.Common.{◌<◌, ◌≤◌, ◌+◌, ◌-◌, ◌/◌, ℕ, arith}
+use Rattle.std.proofs.Common.{arith}
 use Rattle.jx_plan.proofs.out_stream.jobs_below.Goals as goal
 
 pub loop-low-preserved-then-is_below : goal.loop-low-preserved-then-is_below
