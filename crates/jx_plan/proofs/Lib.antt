@@ -18,6 +18,7 @@ pub mod TileJobLemmas
 pub mod BlocksWritten
 pub mod MeaningLemmas
 pub mod CauseLemmas
+pub mod ChosenLemmas
 pub mod AnswerLemmas
 pub mod PlannedLemmas
 pub mod FitLemmas
