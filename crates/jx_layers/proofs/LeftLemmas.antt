@@ -55,9 +55,6 @@ left_next b n p left are =
 pub left_none : (b : Block) (n : ℕ) → AreLeft b n [] → n ≡ b.passes
 left_none b n are = are.pieces
 
-pub left_reach : (b : Block) (n : ℕ) (left : List PieceValue) → IsSound b → AreLeft b n left → n ≤ 220
-left_reach b n left sound are = omega (arith, pieces_reach b.style.bits 0 n b.passes left are.pieces, sound.few, sound.planes)
-
 -- ---- the same at a place of a list
 piece_at : (b : Block) (n i : ℕ) (items : List Piece) (d : Piece) → i < length items → AreLeft b n (map value_of (drop i items)) → AreLeft b n (value_of (slice_index_or items i d) ∷ map value_of (drop (i + 1) items))
 piece_at b n i items d lt are =
