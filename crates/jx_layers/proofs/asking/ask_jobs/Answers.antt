@@ -17,7 +17,7 @@ loop-number-init g c = record {
   rule = refl;
   asked = c.requires.start;
   count = ap length c.new-jobs.ensures.items;
-  jobs = jobs_begun c.args.style _ c.args.layers c.args.blocks.now c.new-jobs.result.items c.new-jobs.ensures.items;
+  jobs = jobs_begun c.args.style ((goal.LayerPlanner-dyn g (c.args.planner.now.vtable, c.args.planner.now.value)).rule c.args.planner.now.value) c.args.layers c.args.blocks.now c.new-jobs.result.items c.new-jobs.ensures.items;
 }
 
 pub loop-number-preserved : goal.loop-number-preserved
@@ -33,7 +33,7 @@ loop-number-preserved g c =
 pub returns-clause-jobs : goal.returns-clause-jobs
 returns-clause-jobs g c =
     let all : c.loop-number.number ≡ length c.args.blocks.now = omega (arith, c.loop-number-test.false, c.loop-number.auto.number-end) in
-    jobs_done c.args.style _ c.args.layers c.args.blocks.now c.loop-number.number c.loop-number.jobs.items all c.loop-number.invariant.jobs
+    jobs_done c.args.style ((goal.LayerPlanner-dyn g (c.args.planner.now.vtable, c.args.planner.now.value)).rule c.args.planner.now.value) c.args.layers c.args.blocks.now c.loop-number.number c.loop-number.jobs.items all c.loop-number.invariant.jobs
 
 pub returns-clause-count : goal.returns-clause-count
 returns-clause-count g c =
@@ -43,12 +43,12 @@ returns-clause-count g c =
 pub returns-clause-asked : goal.returns-clause-asked
 returns-clause-asked g c =
     let all : c.loop-number.number ≡ length c.args.blocks.now = omega (arith, c.loop-number-test.false, c.loop-number.auto.number-end) in
-    asked_all c.args.blocks.now c.loop-number.number _ all c.loop-number.invariant.asked
+    asked_all c.args.blocks.now c.loop-number.number ((goal.LayerPlanner-dyn g (c.loop-number.planner.vtable, c.loop-number.planner.value)).asked c.loop-number.planner.value) all c.loop-number.invariant.asked
 
 pub returns-clause-most : goal.returns-clause-most
 returns-clause-most g c =
     let all : c.loop-number.number ≡ length c.args.blocks.now = omega (arith, c.loop-number-test.false, c.loop-number.auto.number-end) in
-    most_all c.args.blocks.now c.loop-number.number _ all c.loop-number.invariant.asked
+    most_all c.args.blocks.now c.loop-number.number ((goal.LayerPlanner-dyn g (c.loop-number.planner.vtable, c.loop-number.planner.value)).asked c.loop-number.planner.value) all c.loop-number.invariant.asked
 
 pub returns-clause-rule : goal.returns-clause-rule
 returns-clause-rule g c = c.loop-number.invariant.rule
