@@ -69,14 +69,18 @@ fn style_of(ask: AskStyle) -> Option<Style>
     }
 }
 
+fn list_of(alloc: Global, bytes: &[u8]) -> Result<PrecinctChoice, AllocError>
+    ensures { IfOk result (λ p. IfSome (bytes_in p) AreBytes) }
+{
+    let list = bytes.to_vec(alloc)?;
+    Ok(PrecinctChoice::List(list))
+}
+
 fn precincts_of(alloc: Global, ask: Option<&[u8]>) -> Result<PrecinctChoice, AllocError>
     ensures { IfOk result (λ p. IfSome (bytes_in p) AreBytes) }
 {
     match ask {
-        Some(bytes) => {
-            let list = bytes.to_vec(alloc)?;
-            Ok(PrecinctChoice::List(list))
-        }
+        Some(bytes) => list_of(alloc, bytes),
         None => Ok(PrecinctChoice::Keep),
     }
 }
