@@ -1,13 +1,13 @@
 -- The parts of blocks layer by layer, and their bytes.
-use Rattle.std.proofs.Common.{◌≡◌, inl, inr, ℕ, zero, suc, ◌<◌, ◌==◌, Bool, true, false, cond, ◌+◌, List, [], ◌∷◌, ◌++◌, length, map, drop, get_or, refl, sym, ap, ◌∙◌, subst, append-nil, append_assoc, slice_set, All, arith}
+use Rattle.std.proofs.Common.{◌≡◌, inl, inr, ℕ, zero, suc, ◌<◌, ◌≤◌, ◌==◌, Bool, true, false, cond, ◌+◌, List, [], ◌∷◌, ◌++◌, length, map, drop, get_or, refl, sym, ap, ◌∙◌, subst, append-nil, append_assoc, slice_set, All, arith}
 use Rattle.std.specs.Prelude.{slice_index_or, Option, Some}
 use Rattle.std.specs.Global.{Vec}
 use Rattle.std.specs.List.{flat_map, slice_get, AllByRecursion}
 use Rattle.std.proofs.lemmas.Bool.{cases_eq}
 use Rattle.std.proofs.lemmas.Bool.Decides.{nat_tests}
 use Rattle.std.proofs.lemmas.Grind.{flat_map-append}
-use Rattle.std.proofs.lemmas.List.{at_drop_more, length-map}
-use Rattle.std.proofs.lemmas.List.Elements.{All-from_recursion, recursion_from_All, All-append}
+use Rattle.std.proofs.lemmas.List.{at_drop_all, at_drop_more, length-map}
+use Rattle.std.proofs.lemmas.List.Elements.{All-from_recursion, recursion_from_All, All-append, All-head, All-tail}
 use Rattle.jx_base.specs.declared.pieces.Block.{Block}
 use Rattle.jx_base.specs.Pieces.{PieceValue}
 use Rattle.jx_gather.specs.BlockOf.{pieces_at}
@@ -131,6 +131,25 @@ pushed vecs i layer block v w p is lt at made = elim (cases_eq layer i) [
       set_other vecs i layer v ne ∙ sym (append-nil (row_at (rows_of vecs) layer))
       ∙ ap (λ (xs : List Sent). row_at (rows_of vecs) layer ++ xs) (sym (sent_past layer block p [] apart))
 ]
+
+-- ---- the parts of a block, one after another
+pub layer_inside : (most now : ℕ) (parts : List OutPart) (i : ℕ) (d : OutPart) → All (λ (p : OutPart). p.layer < most) parts → now ≡ most → i < length parts → (get_or parts i d).layer < now
+layer_inside most now [] i d all same lt = absurd (omega (arith, lt))
+layer_inside most now (p ∷ parts) zero d all same lt = omega (arith, same, All-head (λ (q : OutPart). q.layer < most) p parts all)
+layer_inside most now (p ∷ parts) (suc i) d all same lt = layer_inside most now parts i d (All-tail (λ (q : OutPart). q.layer < most) p parts all) same (omega (arith, lt))
+
+pub sent_step : (layer block : ℕ) (parts : List OutPart) (i : ℕ) (d : OutPart) (old new all : List Sent) → i < length parts → new ≡ old ++ sent_in layer block (get_or parts i d ∷ [])
+    → old ++ sent_in layer block (drop i parts) ≡ all → new ++ sent_in layer block (drop (i + 1) parts) ≡ all
+sent_step layer block parts i d old new all lt put is =
+    let part : OutPart = get_or parts i d in
+    let one : List Sent = sent_in layer block (part ∷ []) in
+    let rest : List Sent = sent_in layer block (drop (i + 1) parts) in
+    let split : sent_in layer block (drop i parts) ≡ one ++ rest = at_drop_more (sent_in layer block) parts i d lt ∙ sent_next layer block part (drop (i + 1) parts) in
+    ap (λ (xs : List Sent). xs ++ rest) put ∙ append_assoc old one rest ∙ ap (λ (xs : List Sent). old ++ xs) (sym split) ∙ is
+
+pub sent_last : (layer block : ℕ) (parts : List OutPart) (i : ℕ) (now all : List Sent) → length parts ≤ i → now ++ sent_in layer block (drop i parts) ≡ all → now ≡ all
+sent_last layer block parts i now all end is =
+    sym (append-nil now) ∙ ap (λ (xs : List Sent). now ++ xs) (sym (at_drop_all (sent_in layer block) parts i end)) ∙ is
 
 -- ---- a block by its number
 pub block_there : {X Y : Type 0} (f : X → Y) (xs : List X) (i : ℕ) (x : X) → i < length xs → x ≡ slice_index_or xs i x → slice_get (map f xs) i ≡ Some (f x)

@@ -28,7 +28,6 @@ fn put_sent(rows: &mut Vec<Vec<Sent>>, block: u32, part: OutPart) -> Result<(), 
 }
 
 /// Puts the parts of a block, each behind those of its layer.
-#[tactic(auto, using(crate::proofs::SentLemmas::sent_next))]
 fn put_parts(rows: &mut Vec<Vec<Sent>>, block: u32, parts: &[OutPart]) -> Result<(), NoMemory>
     requires { All (λ p. p.layer < length rows.old.items) parts.now }
     ensures long { OnOk result (length rows.new.items ≡ length rows.old.items) }
