@@ -1,5 +1,5 @@
 -- What becomes of an input that is refused, or isn't planned: nothing is made.
-use Rattle.std.proofs.Common.{◌≡◌, ◌⊎◌, ◌<◌, ◌≤◌, ℕ, List, [], length, Option, None, Some, refl, arith, inl, inr}
+use Rattle.std.proofs.Common.{◌≡◌, ◌⊎◌, ◌<◌, ◌≤◌, ℕ, List, [], length, Option, None, Some, refl, sym, subst, arith, inl, inr}
 use Rattle.std.specs.List.{All}
 use Rattle.jx_base.specs.declared.pieces.Block.{Block}
 use Rattle.jx_base.specs.declared.style.Style.{Style}
@@ -29,6 +29,7 @@ use Rattle.jx_recast.specs.Filed.{IsAnswered, blocks_told, told_by, told_of_plan
 use Rattle.jx_recast.specs.Judged.{IsInputCause}
 use Rattle.jx_recast.specs.Outcome.{IsCutShort, most_bytes}
 use Rattle.jx_recast.specs.Rewritten.{HasBlocks, IsUnplanned, Reads}
+use Rattle.jx_recast.specs.declared.status.Status.{Status}
 use Rattle.jx_recast.specs.declared.status.Status.TheVariants as status
 use Rattle.jx_words.specs.Words.{Text, Work}
 use Rattle.jx_recast.proofs.DoneLemmas.{undone}
@@ -175,3 +176,47 @@ reads_of input s blocks read totals gathered = record { read = read; totals = to
 pub may_be_planned : (input : List ℕ) (s : Stream) (blocks : List Block) → IsRead input s → totals_fault s ≡ None → AreBlocksOf s blocks → All IsSound blocks → MayBePlanned s blocks
 may_be_planned input s blocks read totals are sound =
     record { headers = read_stands input s read; range = read_in_range input s read; totals = totals; blocks_are = are; sound = sound }
+
+-- ---- what is told of an input or a plan is no fault of a device, and doesn't speak of the words
+IsTold : Status → Type 0
+IsTold status.Done = Unit {0}
+IsTold status.Words = ⊥
+IsTold (status.Rule number place) = Unit {0}
+IsTold (status.Limit number found) = Unit {0}
+IsTold (status.Choice number place) = Unit {0}
+IsTold (status.Block number) = Unit {0}
+IsTold status.ReadFault = ⊥
+IsTold status.WriteFault = ⊥
+IsTold status.NoMemory = Unit {0}
+
+input_told : (f : StreamFault) → IsTold (told_by f)
+unfolding IsTold
+input_told (fault.Rule number place) = tt
+input_told (fault.Limit number found) = tt
+input_told fault.NoMemory = tt
+
+plan_told : (e : PlanFault) → IsTold (told_of_plan e)
+unfolding IsTold
+plan_told (unplanned.Limit number found) = tt
+plan_told (unplanned.Choice number place) = tt
+plan_told unplanned.NoMemory = tt
+
+told_unwritten : (s : Status) → IsTold s → s ≡ status.WriteFault → ⊥
+unfolding IsTold
+told_unwritten s told failed = subst IsTold failed told
+
+told_unread : (s : Status) → IsTold s → (s ≡ status.ReadFault → ⊥) × (s ≡ status.Words → ⊥)
+unfolding IsTold
+told_unread s told = (λ failed. subst IsTold failed told, λ words. subst IsTold words told)
+
+pub input_unwritten : (f : StreamFault) (s : Status) → s ≡ told_by f → s ≡ status.WriteFault → ⊥
+input_unwritten f s is = told_unwritten s (subst IsTold (sym is) (input_told f))
+
+pub input_unread : (f : StreamFault) (s : Status) → s ≡ told_by f → (s ≡ status.ReadFault → ⊥) × (s ≡ status.Words → ⊥)
+input_unread f s is = told_unread s (subst IsTold (sym is) (input_told f))
+
+pub plan_unwritten : (e : PlanFault) (s : Status) → s ≡ told_of_plan e → s ≡ status.WriteFault → ⊥
+plan_unwritten e s is = told_unwritten s (subst IsTold (sym is) (plan_told e))
+
+pub plan_unread : (e : PlanFault) (s : Status) → s ≡ told_of_plan e → (s ≡ status.ReadFault → ⊥) × (s ≡ status.Words → ⊥)
+plan_unread e s is = told_unread s (subst IsTold (sym is) (plan_told e))

@@ -1,4 +1,4 @@
-use Rattle.std.proofs.Common.{rules, List, ℕ, map, refl, subst, sym}
+use Rattle.std.proofs.Common.{List, ℕ, map, refl, subst, sym}
 use Rattle.jx_plan.specs.Plan.{Plan}
 use Rattle.jx_assemble.specs.Tile.{AreMade, AreValuesOf, IsTile, IsTooLong, StandIn, blocks_in, made_in}
 use Rattle.jx_recast.specs.Rounds.{blocks_of, most_of_part}
@@ -25,7 +25,7 @@ assemble_tile_with-requires-clause-values c =
       wrong = c.wrong_is_nothing.ensures.wrong;
       right = c.wrong_is_nothing.ensures.right;
     } in
-    let made : AreMade c.args.entries.now = search rules in
+    let made : AreMade c.args.entries.now = c.first_unmade.ensures.made c.in_default.is in
     let p : Plan = c.args.making.now in
     subst (λ (q : Plan). AreValuesOf q c.args.tile (made_in c.args.entries.now)) (sym c.plan-plan.ensures.value) (values_are laws p c.args.tile (blocks_in p c.args.tile) c.args.entries.now c.plan-plan.ensures.plan c.requires.entries made refl)
 
@@ -37,7 +37,7 @@ returns-in-Ok-clause-parts c =
       wrong = c.wrong_is_nothing.ensures.wrong;
       right = c.wrong_is_nothing.ensures.right;
     } in
-    let made : AreMade c.args.entries.now = search rules in
+    let made : AreMade c.args.entries.now = c.first_unmade.ensures.made c.in_default.is in
     let p : Plan = c.args.making.now in
     let stand : StandIn (blocks_of p) c.plan-plan.result.now c.args.tile (made_in c.args.entries.now) =
     subst (λ (q : Plan). StandIn (blocks_of p) q c.args.tile (made_in c.args.entries.now)) (sym c.plan-plan.ensures.value) (values_stand laws p c.args.tile (blocks_in p c.args.tile) c.args.entries.now c.plan-plan.ensures.plan c.requires.entries made) in
@@ -54,10 +54,13 @@ returns-in-Err-TooLong-clause-unmade c =
       wrong = c.wrong_is_nothing.ensures.wrong;
       right = c.wrong_is_nothing.ensures.right;
     } in
-    let made : AreMade c.args.entries.now = search rules in
+    let made : AreMade c.args.entries.now = c.first_unmade.ensures.made c.in_default.is in
     let p : Plan = c.args.making.now in
     let stand : StandIn (blocks_of p) c.plan-plan.result.now c.args.tile (made_in c.args.entries.now) =
     subst (λ (q : Plan). StandIn (blocks_of p) q c.args.tile (made_in c.args.entries.now)) (sym c.plan-plan.ensures.value) (values_stand laws p c.args.tile (blocks_in p c.args.tile) c.args.entries.now c.plan-plan.ensures.plan c.requires.entries made) in
     let long : IsTooLong p (blocks_of p) c.args.tile most_of_part =
-    subst (λ (q : Plan). IsTooLong q (blocks_of p) c.args.tile most_of_part) c.plan-plan.ensures.value (c.in-Err-TooLong.ensures.long (search rules) (blocks_of p) stand) in
+    subst (λ (q : Plan). IsTooLong q (blocks_of p) c.args.tile most_of_part) c.plan-plan.ensures.value (c.in-Err-TooLong.ensures.long (rw c.in-Err-TooLong.field-0-is refl) (blocks_of p) stand) in
     (refl, tile_right laws p c.args.tile (blocks_in p c.args.tile) c.args.entries.now c.plan-plan.ensures.plan c.requires.entries made refl, long)
+
+pub assemble_tile_with-requires-clause-made : goal.assemble_tile_with-requires-clause-made
+assemble_tile_with-requires-clause-made c = c.first_unmade.ensures.made c.in_default.is
