@@ -15,6 +15,7 @@ pub mod OutcomeLemmas
 pub mod OneVerdictLemmas
 pub mod ToldLemmas
 pub mod SomeVerdictLemmas
+pub mod StatusLemmas
 pub mod WrongLemmas
 pub mod MakeLemmas
 pub mod RunLemmas

@@ -70,7 +70,6 @@ fn status_of(halt: Halt) -> Status
 }
 
 /// What becomes of a plan.
-#[tactic(auto, using(crate::proofs::FrontLemmas::jobs_few, crate::proofs::AnswerLemmas::plan_written, crate::proofs::AnswerLemmas::plan_halted))]
 fn write_plan<R: Threads + Wait + Sync, G: Gate + Sync, F: Files>(
     crew: &Crew<'_, R, G>,
     alloc: Global,
@@ -130,7 +129,6 @@ fn unplanned_by(alloc: Global, fault: PlanFault, blocks: u32) -> Ending
 }
 
 /// What becomes of a stream with its code-blocks: its output is planned and written.
-#[tactic(auto, using(crate::proofs::FrontLemmas::planned_few))]
 fn write_blocks<R: Threads + Wait + Sync, G: Gate + Sync, F: Files>(
     crew: &Crew<'_, R, G>,
     alloc: Global,
@@ -206,7 +204,6 @@ fn refused_by(alloc: Global, fault: StreamFault) -> Ending
 }
 
 /// What becomes of the bytes that were read, at most `MOST`.
-#[tactic(auto, using(crate::proofs::RefusedLemmas::too_long))]
 pub fn answer<R: Threads + Wait + Sync, G: Gate + Sync, F: Files>(
     crew: &Crew<'_, R, G>,
     alloc: Global,

@@ -1,7 +1,11 @@
-use Rattle.std.proofs.Common.{refl, sym}
+use Rattle.std.proofs.Common.{arith, refl, sym}
 use Rattle.jx_recast.proofs.AnswerLemmas.{Laws, answered_by_plan}
+use Rattle.jx_recast.proofs.FrontLemmas.{planned_few}
 use Rattle.jx_recast.proofs.RefusedLemmas.{answered_unplanned, plan_unread, plan_unwritten}
 use Rattle.jx_recast.proofs.rewrite.write_blocks.Goals as goal
+
+pub overflow_cast-blocks : goal.overflow_cast-blocks
+overflow_cast-blocks g c = omega (arith, planned_few c.args.stream.now c.args.blocks.now c.requires.may)
 
 pub returns-in-Ok-clause-answer : goal.returns-in-Ok-clause-answer
 returns-in-Ok-clause-answer g c =
