@@ -16,6 +16,7 @@ pub mod OneVerdictLemmas
 pub mod ToldLemmas
 pub mod SomeVerdictLemmas
 pub mod StatusLemmas
+pub mod EntryLemmas
 pub mod WrongLemmas
 pub mod MakeLemmas
 pub mod RunLemmas
