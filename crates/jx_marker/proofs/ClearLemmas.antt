@@ -3,6 +3,7 @@ use Rattle.std.proofs.Common.{◌≡◌, ◌<◌, ◌≤◌, ◌+◌, ◌-◌, �
 use Rattle.std.specs.List.{list_all, list_any}
 use Rattle.std.proofs.lemmas.Bool.Decides.{nat_tests}
 use Rattle.byteorder.specs.Endian.{big_from}
+use Rattle.jx_marker.specs.Codes.{SIZ, COD, COC, TLM, PLM, PLT, QCD, QCC, RGN, POC, PPM, PPT, CRG, COM, SOT}
 use Rattle.jx_marker.specs.Markers.{has_length, index_size, entry_size, progression_size}
 use Rattle.jx_marker.specs.Values.{siz_at, poc_at, index_at}
 use Rattle.jx_marker.specs.Rules.{breaks_3, breaks_4, breaks_5, breaks_6, breaks_7, breaks_8, breaks_9, breaks_10, breaks_11, breaks_12, first_true, rules_inside, siz_fits, shape_fits, cod_fits, quant_fits, has_zero_exponent, progression_fits}
@@ -18,13 +19,13 @@ pub record IsClearSiz (body : List ℕ) : Type 0 where
   pub fits : siz_fits (siz_at body) ≡ true
   pub rsiz : big_from 0 2 body < 2 ^ 14
 
-pub clear_siz : (comps : ℕ) (body : List ℕ) → first_true (rules_inside comps 81 body) ≡ None → IsClearSiz body
+pub clear_siz : (comps : ℕ) (body : List ℕ) → first_true (rules_inside comps SIZ body) ≡ None → IsClearSiz body
 unfolding breaks_3 breaks_4 breaks_5
 clear_siz comps body h =
     let all = rw siz_rules at h in
-    let third = cleared 3 (breaks_3 81 body) ((4, breaks_4 81 body) ∷ (5, breaks_5 81 body) ∷ []) all in
-    let fourth = cleared 4 (breaks_4 81 body) ((5, breaks_5 81 body) ∷ []) third.1 in
-    let fifth = cleared 5 (breaks_5 81 body) [] fourth.1 in
+    let third = cleared 3 (breaks_3 SIZ body) ((4, breaks_4 SIZ body) ∷ (5, breaks_5 SIZ body) ∷ []) all in
+    let fourth = cleared 4 (breaks_4 SIZ body) ((5, breaks_5 SIZ body) ∷ []) third.1 in
+    let fifth = cleared 5 (breaks_5 SIZ body) [] fourth.1 in
     let length_is = not-false _ third.0 in
     let rsiz_is = fifth.0 in
     record {
@@ -69,13 +70,13 @@ pub record IsClearCod (body : List ℕ) : Type 0 where
   pub transform : slice_index body 4 ≤ 1
   pub shape : IsClearShape (slice_index body 0) 5 body
 
-pub clear_cod : (comps : ℕ) (body : List ℕ) → first_true (rules_inside comps 82 body) ≡ None → IsClearCod body
+pub clear_cod : (comps : ℕ) (body : List ℕ) → first_true (rules_inside comps COD body) ≡ None → IsClearCod body
 unfolding breaks_6 breaks_7 breaks_8
 clear_cod comps body h =
     let all = rw cod_rules at h in
-    let sixth = cleared 6 (breaks_6 comps 82 body) ((7, breaks_7 comps 82 body) ∷ (8, breaks_8 comps 82 body) ∷ []) all in
-    let seventh = cleared 7 (breaks_7 comps 82 body) ((8, breaks_8 comps 82 body) ∷ []) sixth.1 in
-    let eighth = cleared 8 (breaks_8 comps 82 body) [] seventh.1 in
+    let sixth = cleared 6 (breaks_6 comps COD body) ((7, breaks_7 comps COD body) ∷ (8, breaks_8 comps COD body) ∷ []) all in
+    let seventh = cleared 7 (breaks_7 comps COD body) ((8, breaks_8 comps COD body) ∷ []) sixth.1 in
+    let eighth = cleared 8 (breaks_8 comps COD body) [] seventh.1 in
     let fields = and_parts (cod_fits body) (shape_fits (slice_index body 0) 5 body) (not-false _ (or_parts _ _ sixth.0).0) in
     let flags = and_parts _ _ fields.0 in
     let order = and_parts _ _ flags.1 in
@@ -93,14 +94,14 @@ pub record IsClearCoc (comps : ℕ) (body : List ℕ) : Type 0 where
   pub shape : IsClearShape (slice_index body (index_size comps)) (1 + index_size comps) body
   pub index : index_at comps 0 body < comps
 
-pub clear_coc : (comps : ℕ) (body : List ℕ) → first_true (rules_inside comps 83 body) ≡ None → IsClearCoc comps body
+pub clear_coc : (comps : ℕ) (body : List ℕ) → first_true (rules_inside comps COC body) ≡ None → IsClearCoc comps body
 unfolding breaks_6 breaks_7 breaks_8 breaks_12
 clear_coc comps body h =
     let all = rw coc_rules at h in
-    let sixth = cleared 6 (breaks_6 comps 83 body) ((7, breaks_7 comps 83 body) ∷ (8, breaks_8 comps 83 body) ∷ (12, breaks_12 comps 83 body) ∷ []) all in
-    let seventh = cleared 7 (breaks_7 comps 83 body) ((8, breaks_8 comps 83 body) ∷ (12, breaks_12 comps 83 body) ∷ []) sixth.1 in
-    let eighth = cleared 8 (breaks_8 comps 83 body) ((12, breaks_12 comps 83 body) ∷ []) seventh.1 in
-    let twelfth = cleared 12 (breaks_12 comps 83 body) [] eighth.1 in
+    let sixth = cleared 6 (breaks_6 comps COC body) ((7, breaks_7 comps COC body) ∷ (8, breaks_8 comps COC body) ∷ (12, breaks_12 comps COC body) ∷ []) all in
+    let seventh = cleared 7 (breaks_7 comps COC body) ((8, breaks_8 comps COC body) ∷ (12, breaks_12 comps COC body) ∷ []) sixth.1 in
+    let eighth = cleared 8 (breaks_8 comps COC body) ((12, breaks_12 comps COC body) ∷ []) seventh.1 in
+    let twelfth = cleared 12 (breaks_12 comps COC body) [] eighth.1 in
     let fields = and_parts _ (shape_fits (slice_index body (index_size comps)) (1 + index_size comps) body) (not-false _ sixth.0) in
     record {
       flags = ltb-true _ _ fields.0;
@@ -119,21 +120,21 @@ clear_quant at body h =
     let some = and_parts _ _ style.1 in
     record { style = leb-true _ _ style.0; some = leb-true _ _ some.0; whole = eqb-true _ _ some.1 }
 
-pub clear_qcd : (comps : ℕ) (body : List ℕ) → first_true (rules_inside comps 92 body) ≡ None → IsClearQuant 0 body
+pub clear_qcd : (comps : ℕ) (body : List ℕ) → first_true (rules_inside comps QCD body) ≡ None → IsClearQuant 0 body
 unfolding breaks_9
 clear_qcd comps body h =
-    let ninth = cleared 9 (breaks_9 comps 92 body) [] (rw qcd_rules at h) in
+    let ninth = cleared 9 (breaks_9 comps QCD body) [] (rw qcd_rules at h) in
     clear_quant 0 body (not-false _ (or_parts _ _ ninth.0).0)
 
 pub record IsClearQcc (comps : ℕ) (body : List ℕ) : Type 0 where
   pub quant : IsClearQuant (index_size comps) body
   pub index : index_at comps 0 body < comps
 
-pub clear_qcc : (comps : ℕ) (body : List ℕ) → first_true (rules_inside comps 93 body) ≡ None → IsClearQcc comps body
+pub clear_qcc : (comps : ℕ) (body : List ℕ) → first_true (rules_inside comps QCC body) ≡ None → IsClearQcc comps body
 unfolding breaks_9 breaks_12
 clear_qcc comps body h =
-    let ninth = cleared 9 (breaks_9 comps 93 body) ((12, breaks_12 comps 93 body) ∷ []) (rw qcc_rules at h) in
-    let twelfth = cleared 12 (breaks_12 comps 93 body) [] ninth.1 in
+    let ninth = cleared 9 (breaks_9 comps QCC body) ((12, breaks_12 comps QCC body) ∷ []) (rw qcc_rules at h) in
+    let twelfth = cleared 12 (breaks_12 comps QCC body) [] ninth.1 in
     record { quant = clear_quant (index_size comps) body (not-false _ ninth.0); index = leb-false _ _ twelfth.0 }
 
 pub record IsClearRgn (comps : ℕ) (body : List ℕ) : Type 0 where
@@ -141,11 +142,11 @@ pub record IsClearRgn (comps : ℕ) (body : List ℕ) : Type 0 where
   pub style : slice_index body (index_size comps) ≡ 0
   pub index : index_at comps 0 body < comps
 
-pub clear_rgn : (comps : ℕ) (body : List ℕ) → first_true (rules_inside comps 94 body) ≡ None → IsClearRgn comps body
+pub clear_rgn : (comps : ℕ) (body : List ℕ) → first_true (rules_inside comps RGN body) ≡ None → IsClearRgn comps body
 unfolding breaks_10 breaks_12
 clear_rgn comps body h =
-    let tenth = cleared 10 (breaks_10 comps 94 body) ((12, breaks_12 comps 94 body) ∷ []) (rw rgn_rules at h) in
-    let twelfth = cleared 12 (breaks_12 comps 94 body) [] tenth.1 in
+    let tenth = cleared 10 (breaks_10 comps RGN body) ((12, breaks_12 comps RGN body) ∷ []) (rw rgn_rules at h) in
+    let twelfth = cleared 12 (breaks_12 comps RGN body) [] tenth.1 in
     let fields = and_parts _ _ (not-false _ tenth.0) in
     record { size = eqb-true _ _ fields.0; style = eqb-true _ _ fields.1; index = leb-false _ _ twelfth.0 }
 
@@ -153,17 +154,17 @@ pub record IsClearPoc (comps : ℕ) (body : List ℕ) : Type 0 where
   pub whole : length body % progression_size comps ≡ 0
   pub fits : list_all progression_fits (poc_at comps body) ≡ true
 
-pub clear_poc : (comps : ℕ) (body : List ℕ) → first_true (rules_inside comps 95 body) ≡ None → IsClearPoc comps body
+pub clear_poc : (comps : ℕ) (body : List ℕ) → first_true (rules_inside comps POC body) ≡ None → IsClearPoc comps body
 unfolding breaks_11
 clear_poc comps body h =
-    let eleventh = cleared 11 (breaks_11 comps 95 body) [] (rw poc_rules at h) in
+    let eleventh = cleared 11 (breaks_11 comps POC body) [] (rw poc_rules at h) in
     let fields = and_parts _ _ (not-false _ eleventh.0) in
     record { whole = eqb-true _ _ fields.0; fits = fields.1 }
 
 -- the only marker with a length that is left
-pub sot_left : (code : ℕ) → has_length code ≡ true → (code == 81) ≡ false → (code == 82) ≡ false → (code == 83) ≡ false → (code == 85) ≡ false → (code == 87) ≡ false
-    → (code == 88) ≡ false → (code == 92) ≡ false → (code == 93) ≡ false → (code == 94) ≡ false → (code == 95) ≡ false → (code == 96) ≡ false → (code == 97) ≡ false
-    → (code == 99) ≡ false → (code == 100) ≡ false → code ≡ 144
+pub sot_left : (code : ℕ) → has_length code ≡ true → (code == SIZ) ≡ false → (code == COD) ≡ false → (code == COC) ≡ false → (code == TLM) ≡ false → (code == PLM) ≡ false
+    → (code == PLT) ≡ false → (code == QCD) ≡ false → (code == QCC) ≡ false → (code == RGN) ≡ false → (code == POC) ≡ false → (code == PPM) ≡ false → (code == PPT) ≡ false
+    → (code == CRG) ≡ false → (code == COM) ≡ false → code ≡ SOT
 sot_left code h n81 n82 n83 n85 n87 n88 n92 n93 n94 n95 n96 n97 n99 n100 =
     let left = rw (n81, n82, n83, n85, n87, n88, n92, n93, n94, n95, n96, n97, n99, n100) at h in
-    eqb-true code 144 (last_holds (code == 144) left)
+    eqb-true code SOT (last_holds (code == SOT) left)

@@ -5,6 +5,7 @@ use Rattle.std.proofs.lemmas.List.{take_at}
 use Rattle.std.specs.List.{AllByRecursion, flat_map}
 use Rattle.byteorder.specs.Endian.{big_from}
 use Rattle.byteorder.specs.Numbers.{big_from-cons, big_number-reads_back}
+use Rattle.jx_marker.specs.Codes.{PPM, PPT, SOT}
 use Rattle.jx_marker.specs.declared.Segment.{Segment}
 use Rattle.jx_marker.specs.Markers.{has_length}
 use Rattle.jx_marker.specs.Values.{values_from}
@@ -50,18 +51,18 @@ front_body code body rest fits =
 -- what rule 1 asks of a whole segment
 pub record IsWhole (comps code : ℕ) (body : List ℕ) : Type 0 where
   pub follows : has_length code ≡ true
-  pub not_ppm : (code == 96) ≡ false
-  pub not_ppt : (code == 97) ≡ false
+  pub not_ppm : (code == PPM) ≡ false
+  pub not_ppt : (code == PPT) ≡ false
   pub fits : FitsLength body
   pub least : least_length comps code ≤ 2 + length body
-  pub sot : ((code == 144) && not (2 + length body == 10)) ≡ false
+  pub sot : ((code == SOT) && not (2 + length body == 10)) ≡ false
   pub inside : first_true (rules_inside comps code body) ≡ None
 
 front_marker : (code : ℕ) (tail : List ℕ) → has_length code ≡ true → breaks_2 (255 ∷ code ∷ tail) ≡ false
 unfolding breaks_2
 front_marker code tail follows = rw follows (grind (arith, nat_tests))
 
-front_packed : (code : ℕ) (tail : List ℕ) → (code == 96) ≡ false → (code == 97) ≡ false → breaks_14 (255 ∷ code ∷ tail) ≡ false
+front_packed : (code : ℕ) (tail : List ℕ) → (code == PPM) ≡ false → (code == PPT) ≡ false → breaks_14 (255 ∷ code ∷ tail) ≡ false
 unfolding breaks_14
 front_packed code tail not_ppm not_ppt = rw (not_ppm, not_ppt) (grind (arith, nat_tests))
 
@@ -70,7 +71,7 @@ all_false true = refl
 all_false false = refl
 
 front_long : (comps code x y : ℕ) (tail : List ℕ) (n : ℕ) → length_at (255 ∷ code ∷ x ∷ y ∷ tail) ≡ n → n ≤ 2 + length tail → least_length comps code ≤ n
-    → ((code == 144) && not (n == 10)) ≡ false → breaks_1 comps (255 ∷ code ∷ x ∷ y ∷ tail) ≡ false
+    → ((code == SOT) && not (n == 10)) ≡ false → breaks_1 comps (255 ∷ code ∷ x ∷ y ∷ tail) ≡ false
 unfolding breaks_1
 front_long comps code x y tail n is room least sot =
     let one : ltb (length (255 ∷ code ∷ x ∷ y ∷ tail)) 2 ≡ false = grind (arith, nat_tests) in

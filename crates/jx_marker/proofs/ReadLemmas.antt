@@ -6,6 +6,7 @@ use Rattle.std.proofs.lemmas.List.Elements.{All-take, All-from_get_or}
 use Rattle.std.proofs.Math.Nat.{mod-add-div'}
 use Rattle.std.specs.List.{flat_map, list_any}
 use Rattle.byteorder.specs.Endian.{big_from, big_bytes}
+use Rattle.jx_marker.specs.Codes.{SOC, SIZ, COD, COC, TLM, PLM, PLT, QCD, QCC, RGN, POC, PPM, PPT, CRG, COM, SOT, SOD, EOC}
 use Rattle.jx_marker.specs.declared.Shape.{Shape}
 use Rattle.jx_marker.specs.declared.Segment.{Segment}
 use Rattle.jx_marker.specs.Markers.{has_length, stands_alone, index_size, entry_size, progression_size}
@@ -322,131 +323,131 @@ pub record IsSound (comps code : ℕ) (body : List ℕ) : Type 0 where
   pub are_bytes : AreBytes body
   pub fits : FitsLength body
   pub least : least_length comps code ≤ 2 + length body
-  pub sot : code ≡ 144 → length body ≡ 8
+  pub sot : code ≡ SOT → length body ≡ 8
   pub follows : has_length code ≡ true
-  pub not_ppm : (code == 96) ≡ false
-  pub not_ppt : (code == 97) ≡ false
+  pub not_ppm : (code == PPM) ≡ false
+  pub not_ppt : (code == PPT) ≡ false
 
 pub record IsSpelled (comps code : ℕ) (body : List ℕ) : Type 0 where
   pub spelled : spelling comps (value_of comps code body) ≡ with_length code body
   pub range : InRange comps (value_of comps code body)
 
-read_siz : (comps : ℕ) (body : List ℕ) → IsSound comps 81 body → IsSpelled comps 81 body
+read_siz : (comps : ℕ) (body : List ℕ) → IsSound comps SIZ body → IsSpelled comps SIZ body
 read_siz comps body h =
     let fine = clear_siz comps body h.rules in
-    record { spelled = ap (with_length 81) (siz_spelled body h.are_bytes fine.count); range = siz_range body h.are_bytes fine }
+    record { spelled = ap (with_length SIZ) (siz_spelled body h.are_bytes fine.count); range = siz_range body h.are_bytes fine }
 
-read_cod : (comps : ℕ) (body : List ℕ) → IsSound comps 82 body → IsSpelled comps 82 body
+read_cod : (comps : ℕ) (body : List ℕ) → IsSound comps COD body → IsSpelled comps COD body
 read_cod comps body h =
     let fine = clear_cod comps body h.rules in
-    record { spelled = ap (with_length 82) (cod_spelled body h.are_bytes fine); range = cod_range body h.are_bytes fine }
+    record { spelled = ap (with_length COD) (cod_spelled body h.are_bytes fine); range = cod_range body h.are_bytes fine }
 
-read_coc : (comps : ℕ) (body : List ℕ) → IsSound comps 83 body → IsSpelled comps 83 body
+read_coc : (comps : ℕ) (body : List ℕ) → IsSound comps COC body → IsSpelled comps COC body
 read_coc comps body h =
     let fine = clear_coc comps body h.rules in
-    record { spelled = ap (with_length 83) (coc_spelled comps body h.are_bytes fine); range = coc_range comps body h.are_bytes fine }
+    record { spelled = ap (with_length COC) (coc_spelled comps body h.are_bytes fine); range = coc_range comps body h.are_bytes fine }
 
-read_qcd : (comps : ℕ) (body : List ℕ) → IsSound comps 92 body → IsSpelled comps 92 body
+read_qcd : (comps : ℕ) (body : List ℕ) → IsSound comps QCD body → IsSpelled comps QCD body
 read_qcd comps body h =
     let fine = clear_qcd comps body h.rules in
     let least = h.least in
-    record { spelled = ap (with_length 92) (quant_spelled 0 body h.are_bytes (omega arith) fine); range = quant_range 0 body h.are_bytes (omega arith) h.fits fine }
+    record { spelled = ap (with_length QCD) (quant_spelled 0 body h.are_bytes (omega arith) fine); range = quant_range 0 body h.are_bytes (omega arith) h.fits fine }
 
-read_qcc : (comps : ℕ) (body : List ℕ) → IsSound comps 93 body → IsSpelled comps 93 body
+read_qcc : (comps : ℕ) (body : List ℕ) → IsSound comps QCC body → IsSpelled comps QCC body
 read_qcc comps body h =
     let fine = clear_qcc comps body h.rules in
     let least = h.least in
     let room : index_size comps + 1 ≤ length body = omega arith in
-    record { spelled = ap (with_length 93) (qcc_spelled comps body h.are_bytes room fine); range = qcc_range comps body h.are_bytes room h.fits fine }
+    record { spelled = ap (with_length QCC) (qcc_spelled comps body h.are_bytes room fine); range = qcc_range comps body h.are_bytes room h.fits fine }
 
-read_rgn : (comps : ℕ) (body : List ℕ) → IsSound comps 94 body → IsSpelled comps 94 body
+read_rgn : (comps : ℕ) (body : List ℕ) → IsSound comps RGN body → IsSpelled comps RGN body
 read_rgn comps body h =
     let fine = clear_rgn comps body h.rules in
     record {
-      spelled = ap (with_length 94) (rgn_spelled comps body h.are_bytes fine);
+      spelled = ap (with_length RGN) (rgn_spelled comps body h.are_bytes fine);
       range = record { index = fine.index; word = index_word comps body h.are_bytes; fits = byte_small body h.are_bytes (1 + index_size comps) };
     }
 
-read_poc : (comps : ℕ) (body : List ℕ) → IsSound comps 95 body → IsSpelled comps 95 body
+read_poc : (comps : ℕ) (body : List ℕ) → IsSound comps POC body → IsSpelled comps POC body
 read_poc comps body h =
     let fine = clear_poc comps body h.rules in
     let least = h.least in
-    record { spelled = ap (with_length 95) (poc_spelled comps body h.are_bytes fine); range = poc_range comps body h.are_bytes h.fits (omega arith) fine }
+    record { spelled = ap (with_length POC) (poc_spelled comps body h.are_bytes fine); range = poc_range comps body h.are_bytes h.fits (omega arith) fine }
 
-read_crg : (comps : ℕ) (body : List ℕ) → IsSound comps 99 body → IsSpelled comps 99 body
+read_crg : (comps : ℕ) (body : List ℕ) → IsSound comps CRG body → IsSpelled comps CRG body
 read_crg comps body h = record { spelled = refl; range = record { some = omega arith; count = h.fits; each = h.are_bytes } }
 
-read_com : (comps : ℕ) (body : List ℕ) → IsSound comps 100 body → IsSpelled comps 100 body
+read_com : (comps : ℕ) (body : List ℕ) → IsSound comps COM body → IsSpelled comps COM body
 read_com comps body h = record { spelled = refl; range = record { some = omega arith; count = h.fits; each = h.are_bytes } }
 
 not_short : (n least : ℕ) → ltb (2 + n) (2 + least) ≡ false → least ≤ n
 not_short n least h = grind (arith, nat_tests)
 
-read_plt : (comps : ℕ) (body : List ℕ) → IsSound comps 88 body → IsSpelled comps 88 body
+read_plt : (comps : ℕ) (body : List ℕ) → IsSound comps PLT body → IsSpelled comps PLT body
 unfolding breaks_13
 read_plt comps body h =
-    let all = rw (plain_rules comps 88 body (record { siz = refl; cod = refl; coc = refl; qcd = refl; qcc = refl; rgn = refl; poc = refl })) at h.rules in
-    let long = or_parts (ltb (2 + length body) 3) false (cleared 13 (breaks_13 88 body) [] all).0 in
+    let all = rw (plain_rules comps PLT body (record { siz = refl; cod = refl; coc = refl; qcd = refl; qcc = refl; rgn = refl; poc = refl })) at h.rules in
+    let long = or_parts (ltb (2 + length body) 3) false (cleared 13 (breaks_13 PLT body) [] all).0 in
     record { spelled = refl; range = record { some = not_short (length body) 1 long.0; count = h.fits; each = h.are_bytes } }
 
-read_plm : (comps : ℕ) (body : List ℕ) → IsSound comps 87 body → IsSpelled comps 87 body
+read_plm : (comps : ℕ) (body : List ℕ) → IsSound comps PLM body → IsSpelled comps PLM body
 unfolding breaks_13
 read_plm comps body h =
-    let all = rw (plain_rules comps 87 body (record { siz = refl; cod = refl; coc = refl; qcd = refl; qcc = refl; rgn = refl; poc = refl })) at h.rules in
-    let long = or_parts (ltb (2 + length body) 3) false (cleared 13 (breaks_13 87 body) [] all).0 in
+    let all = rw (plain_rules comps PLM body (record { siz = refl; cod = refl; coc = refl; qcd = refl; qcc = refl; rgn = refl; poc = refl })) at h.rules in
+    let long = or_parts (ltb (2 + length body) 3) false (cleared 13 (breaks_13 PLM body) [] all).0 in
     record { spelled = refl; range = record { some = not_short (length body) 1 long.0; count = h.fits; each = h.are_bytes } }
 
-read_tlm : (comps : ℕ) (body : List ℕ) → IsSound comps 85 body → IsSpelled comps 85 body
+read_tlm : (comps : ℕ) (body : List ℕ) → IsSound comps TLM body → IsSpelled comps TLM body
 unfolding breaks_13
 read_tlm comps body h =
-    let all = rw (plain_rules comps 85 body (record { siz = refl; cod = refl; coc = refl; qcd = refl; qcc = refl; rgn = refl; poc = refl })) at h.rules in
-    record { spelled = refl; range = record { some = not_short (length body) 2 (cleared 13 (breaks_13 85 body) [] all).0; count = h.fits; each = h.are_bytes } }
+    let all = rw (plain_rules comps TLM body (record { siz = refl; cod = refl; coc = refl; qcd = refl; qcc = refl; rgn = refl; poc = refl })) at h.rules in
+    record { spelled = refl; range = record { some = not_short (length body) 2 (cleared 13 (breaks_13 TLM body) [] all).0; count = h.fits; each = h.are_bytes } }
 
-read_sot : (comps : ℕ) (body : List ℕ) → IsSound comps 144 body → IsSpelled comps 144 body
-read_sot comps body h = record { spelled = ap (with_length 144) (sot_spelled body h.are_bytes (h.sot refl)); range = sot_range body h.are_bytes }
+read_sot : (comps : ℕ) (body : List ℕ) → IsSound comps SOT body → IsSpelled comps SOT body
+read_sot comps body h = record { spelled = ap (with_length SOT) (sot_spelled body h.are_bytes (h.sot refl)); range = sot_range body h.are_bytes }
 
 is_or_not : (a b : ℕ) → (a ≡ b) ⊎ ((a == b) ≡ false)
 is_or_not a b = elim (eqb_tells a b) [ inl (is, same) ↦ inl same | inr (is, other) ↦ inr is ]
 
 pub value_spelled : (comps code : ℕ) (body : List ℕ) → IsSound comps code body → IsSpelled comps code body
 value_spelled comps code body h =
-    elim (is_or_not code 81) [
+    elim (is_or_not code SIZ) [
       | inl e ↦ rw e (read_siz comps body (rw e at h))
-      | inr n81 ↦
-          elim (is_or_not code 82) [
+      | inr not_siz ↦
+          elim (is_or_not code COD) [
             | inl e ↦ rw e (read_cod comps body (rw e at h))
-            | inr n82 ↦
-                elim (is_or_not code 83) [
+            | inr not_cod ↦
+                elim (is_or_not code COC) [
                   | inl e ↦ rw e (read_coc comps body (rw e at h))
-                  | inr n83 ↦
-                      elim (is_or_not code 92) [
+                  | inr not_coc ↦
+                      elim (is_or_not code QCD) [
                         | inl e ↦ rw e (read_qcd comps body (rw e at h))
-                        | inr n92 ↦
-                            elim (is_or_not code 93) [
+                        | inr not_qcd ↦
+                            elim (is_or_not code QCC) [
                               | inl e ↦ rw e (read_qcc comps body (rw e at h))
-                              | inr n93 ↦
-                                  elim (is_or_not code 94) [
+                              | inr not_qcc ↦
+                                  elim (is_or_not code RGN) [
                                     | inl e ↦ rw e (read_rgn comps body (rw e at h))
-                                    | inr n94 ↦
-                                        elim (is_or_not code 95) [
+                                    | inr not_rgn ↦
+                                        elim (is_or_not code POC) [
                                           | inl e ↦ rw e (read_poc comps body (rw e at h))
-                                          | inr n95 ↦
-                                              elim (is_or_not code 99) [
+                                          | inr not_poc ↦
+                                              elim (is_or_not code CRG) [
                                                 | inl e ↦ rw e (read_crg comps body (rw e at h))
-                                                | inr n99 ↦
-                                                    elim (is_or_not code 100) [
+                                                | inr not_crg ↦
+                                                    elim (is_or_not code COM) [
                                                       | inl e ↦ rw e (read_com comps body (rw e at h))
-                                                      | inr n100 ↦
-                                                          elim (is_or_not code 88) [
+                                                      | inr not_com ↦
+                                                          elim (is_or_not code PLT) [
                                                             | inl e ↦ rw e (read_plt comps body (rw e at h))
-                                                            | inr n88 ↦
-                                                                elim (is_or_not code 87) [
+                                                            | inr not_plt ↦
+                                                                elim (is_or_not code PLM) [
                                                                   | inl e ↦ rw e (read_plm comps body (rw e at h))
-                                                                  | inr n87 ↦
-                                                                      elim (is_or_not code 85) [
+                                                                  | inr not_plm ↦
+                                                                      elim (is_or_not code TLM) [
                                                                         | inl e ↦ rw e (read_tlm comps body (rw e at h))
-                                                                        | inr n85 ↦
-                                                                            (let e = sot_left code h.follows n81 n82 n83 n85 n87 n88 n92 n93 n94 n95 h.not_ppm h.not_ppt n99 n100 in rw e (read_sot comps body (rw e at h)))
+                                                                        | inr not_tlm ↦
+                                                                            (let e = sot_left code h.follows not_siz not_cod not_coc not_tlm not_plm not_plt not_qcd not_qcc not_rgn not_poc h.not_ppm h.not_ppt not_crg not_com in rw e (read_sot comps body (rw e at h)))
                                                                       ]
                                                                 ]
                                                           ]
@@ -500,8 +501,8 @@ length_spelled comps bytes are fine follows =
       least = omega arith;
       sot = λ is. (let ten = room.sot is in omega arith);
       follows = follows;
-      not_ppm = ne_eqb (code_at bytes) 96 packed.0;
-      not_ppt = ne_eqb (code_at bytes) 97 packed.1;
+      not_ppm = ne_eqb (code_at bytes) PPM packed.0;
+      not_ppt = ne_eqb (code_at bytes) PPT packed.1;
     } in
     let done = value_spelled comps (code_at bytes) (body_at bytes) sound in
     rw follows (record {
@@ -511,19 +512,19 @@ length_spelled comps bytes are fine follows =
 
 alone_spelled : (comps code : ℕ) → stands_alone code ≡ true → (spelling comps (alone code) ≡ 255 ∷ code ∷ []) × InRange comps (alone code)
 alone_spelled comps code h =
-    elim (is_or_not code 79) [
+    elim (is_or_not code SOC) [
       | inl e ↦ rw e (refl, tt)
-      | inr n79 ↦
-          elim (is_or_not code 147) [
+      | inr not_soc ↦
+          elim (is_or_not code SOD) [
             | inl e ↦ rw e (refl, tt)
-            | inr n147 ↦
-                elim (is_or_not code 217) [
+            | inr not_sod ↦
+                elim (is_or_not code EOC) [
                   | inl e ↦ rw e (refl, tt)
-                  | inr n217 ↦
-                      (let left = rw (n79, n147, n217) at h in
+                  | inr not_eoc ↦
+                      (let left = rw (not_soc, not_sod, not_eoc) at h in
                       let low = and_parts (leb 48 code) (leb code 63) left in
                       let l0 = low.0 in let l1 = low.1 in
-                      rw (n79, n147, n217) (refl, (grind (arith, nat_tests, l0), grind (arith, nat_tests, l1))))
+                      rw (not_soc, not_sod, not_eoc) (refl, (grind (arith, nat_tests, l0), grind (arith, nat_tests, l1))))
                 ]
           ]
     ]

@@ -2,6 +2,7 @@
 use Rattle.std.proofs.Common.{◌≡◌, ◌≢◌, ◌<◌, ◌≤◌, ◌+◌, ℕ, List, ◌∷◌, [], length, arith, refl, Bool, true, false, ◌&&◌, ◌==◌, not, None, ltb, leb, length-take, length-drop}
 use Rattle.std.proofs.lemmas.Bool.Decides.{nat_tests}
 use Rattle.byteorder.specs.Endian.{big_from}
+use Rattle.jx_marker.specs.Codes.{SIZ, COD, COC, TLM, PLM, PLT, QCD, QCC, RGN, POC, PPM, PPT, SOT}
 use Rattle.jx_marker.specs.Markers.{has_length}
 use Rattle.std.specs.List.{list_all}
 use Rattle.jx_marker.specs.Values.{values_from, comp_size_at}
@@ -10,43 +11,43 @@ use Rattle.jx_marker.specs.Segments.{code_at, length_at, body_at}
 use Rattle.jx_marker.specs.Rules.{breaks_1, breaks_2, breaks_3, breaks_4, breaks_5, breaks_6, breaks_7, breaks_8, breaks_9, breaks_10, breaks_11, breaks_12, breaks_13, breaks_14, first_true, rules_inside, first_broken, least_length, axis_fits, comp_size_fits}
 use Rattle.std.proofs.lemmas.Bool.{or_parts}
 
-pub siz_rules : (comps : ℕ) (body : List ℕ) → first_true (rules_inside comps 81 body) ≡ first_true ((3, breaks_3 81 body) ∷ (4, breaks_4 81 body) ∷ (5, breaks_5 81 body) ∷ [])
+pub siz_rules : (comps : ℕ) (body : List ℕ) → first_true (rules_inside comps SIZ body) ≡ first_true ((3, breaks_3 SIZ body) ∷ (4, breaks_4 SIZ body) ∷ (5, breaks_5 SIZ body) ∷ [])
 unfolding breaks_6 breaks_7 breaks_8 breaks_9 breaks_10 breaks_11 breaks_12 breaks_13
 siz_rules comps body = refl
 
-pub cod_rules : (comps : ℕ) (body : List ℕ) → first_true (rules_inside comps 82 body) ≡ first_true ((6, breaks_6 comps 82 body) ∷ (7, breaks_7 comps 82 body) ∷ (8, breaks_8 comps 82 body) ∷ [])
+pub cod_rules : (comps : ℕ) (body : List ℕ) → first_true (rules_inside comps COD body) ≡ first_true ((6, breaks_6 comps COD body) ∷ (7, breaks_7 comps COD body) ∷ (8, breaks_8 comps COD body) ∷ [])
 unfolding breaks_3 breaks_4 breaks_5 breaks_9 breaks_10 breaks_11 breaks_12 breaks_13
 cod_rules comps body = refl
 
-pub coc_rules : (comps : ℕ) (body : List ℕ) → first_true (rules_inside comps 83 body) ≡ first_true ((6, breaks_6 comps 83 body) ∷ (7, breaks_7 comps 83 body) ∷ (8, breaks_8 comps 83 body) ∷ (12, breaks_12 comps 83 body) ∷ [])
+pub coc_rules : (comps : ℕ) (body : List ℕ) → first_true (rules_inside comps COC body) ≡ first_true ((6, breaks_6 comps COC body) ∷ (7, breaks_7 comps COC body) ∷ (8, breaks_8 comps COC body) ∷ (12, breaks_12 comps COC body) ∷ [])
 unfolding breaks_3 breaks_4 breaks_5 breaks_9 breaks_10 breaks_11 breaks_13
 coc_rules comps body = refl
 
-pub qcd_rules : (comps : ℕ) (body : List ℕ) → first_true (rules_inside comps 92 body) ≡ first_true ((9, breaks_9 comps 92 body) ∷ [])
+pub qcd_rules : (comps : ℕ) (body : List ℕ) → first_true (rules_inside comps QCD body) ≡ first_true ((9, breaks_9 comps QCD body) ∷ [])
 unfolding breaks_3 breaks_4 breaks_5 breaks_6 breaks_7 breaks_8 breaks_10 breaks_11 breaks_12 breaks_13
 qcd_rules comps body = refl
 
-pub qcc_rules : (comps : ℕ) (body : List ℕ) → first_true (rules_inside comps 93 body) ≡ first_true ((9, breaks_9 comps 93 body) ∷ (12, breaks_12 comps 93 body) ∷ [])
+pub qcc_rules : (comps : ℕ) (body : List ℕ) → first_true (rules_inside comps QCC body) ≡ first_true ((9, breaks_9 comps QCC body) ∷ (12, breaks_12 comps QCC body) ∷ [])
 unfolding breaks_3 breaks_4 breaks_5 breaks_6 breaks_7 breaks_8 breaks_10 breaks_11 breaks_13
 qcc_rules comps body = refl
 
-pub rgn_rules : (comps : ℕ) (body : List ℕ) → first_true (rules_inside comps 94 body) ≡ first_true ((10, breaks_10 comps 94 body) ∷ (12, breaks_12 comps 94 body) ∷ [])
+pub rgn_rules : (comps : ℕ) (body : List ℕ) → first_true (rules_inside comps RGN body) ≡ first_true ((10, breaks_10 comps RGN body) ∷ (12, breaks_12 comps RGN body) ∷ [])
 unfolding breaks_3 breaks_4 breaks_5 breaks_6 breaks_7 breaks_8 breaks_9 breaks_11 breaks_13
 rgn_rules comps body = refl
 
-pub poc_rules : (comps : ℕ) (body : List ℕ) → first_true (rules_inside comps 95 body) ≡ first_true ((11, breaks_11 comps 95 body) ∷ [])
+pub poc_rules : (comps : ℕ) (body : List ℕ) → first_true (rules_inside comps POC body) ≡ first_true ((11, breaks_11 comps POC body) ∷ [])
 unfolding breaks_3 breaks_4 breaks_5 breaks_6 breaks_7 breaks_8 breaks_9 breaks_10 breaks_12 breaks_13
 poc_rules comps body = refl
 
 -- a segment of none of these kinds
 pub record IsPlain (code : ℕ) : Type 0 where
-  pub siz : (code == 81) ≡ false
-  pub cod : (code == 82) ≡ false
-  pub coc : (code == 83) ≡ false
-  pub qcd : (code == 92) ≡ false
-  pub qcc : (code == 93) ≡ false
-  pub rgn : (code == 94) ≡ false
-  pub poc : (code == 95) ≡ false
+  pub siz : (code == SIZ) ≡ false
+  pub cod : (code == COD) ≡ false
+  pub coc : (code == COC) ≡ false
+  pub qcd : (code == QCD) ≡ false
+  pub qcc : (code == QCC) ≡ false
+  pub rgn : (code == RGN) ≡ false
+  pub poc : (code == POC) ≡ false
 
 pub plain_rules : (comps code : ℕ) (body : List ℕ) → IsPlain code → first_true (rules_inside comps code body) ≡ first_true ((13, breaks_13 code body) ∷ [])
 unfolding breaks_3 breaks_4 breaks_5 breaks_6 breaks_7 breaks_8 breaks_9 breaks_10 breaks_11 breaks_12
@@ -55,16 +56,16 @@ plain_rules comps code body plain = rw (plain.siz, plain.cod, plain.coc, plain.q
 pub alone_rules : (comps code : ℕ) (body : List ℕ) → has_length code ≡ false → first_true (rules_inside comps code body) ≡ None
 unfolding breaks_13
 alone_rules comps code body none =
-    let siz = or_parts (code == 81) _ none in
-    let cod = or_parts (code == 82) _ siz.1 in
-    let coc = or_parts (code == 83) _ cod.1 in
-    let tlm = or_parts (code == 85) _ coc.1 in
-    let plm = or_parts (code == 87) _ tlm.1 in
-    let plt = or_parts (code == 88) _ plm.1 in
-    let qcd = or_parts (code == 92) _ plt.1 in
-    let qcc = or_parts (code == 93) _ qcd.1 in
-    let rgn = or_parts (code == 94) _ qcc.1 in
-    let poc = or_parts (code == 95) _ rgn.1 in
+    let siz = or_parts (code == SIZ) _ none in
+    let cod = or_parts (code == COD) _ siz.1 in
+    let coc = or_parts (code == COC) _ cod.1 in
+    let tlm = or_parts (code == TLM) _ coc.1 in
+    let plm = or_parts (code == PLM) _ tlm.1 in
+    let plt = or_parts (code == PLT) _ plm.1 in
+    let qcd = or_parts (code == QCD) _ plt.1 in
+    let qcc = or_parts (code == QCC) _ qcd.1 in
+    let rgn = or_parts (code == RGN) _ qcc.1 in
+    let poc = or_parts (code == POC) _ rgn.1 in
     rw (plain_rules comps code body (record { siz = siz.0; cod = cod.0; coc = coc.0; qcd = qcd.0; qcc = qcc.0; rgn = rgn.0; poc = poc.0 }), plm.0, plt.0, tlm.0) refl
 
 -- a test that comes first in a list of which none is true
@@ -99,7 +100,7 @@ pub record HasRoom (comps : ℕ) (bytes : List ℕ) : Type 0 where
   pub front : 4 ≤ length bytes
   pub whole : 2 + length_at bytes ≤ length bytes
   pub least : least_length comps (code_at bytes) ≤ length_at bytes
-  pub sot : code_at bytes ≡ 144 → length_at bytes ≡ 10
+  pub sot : code_at bytes ≡ SOT → length_at bytes ≡ 10
 
 pub both : (x y : Bool) → x ≡ true → (x && y) ≡ false → y ≡ false
 both true y h e = e
@@ -134,7 +135,7 @@ length_body comps bytes room =
 pub canvas_broken : (body : List ℕ) → 0 < big_from 34 2 body → big_from 34 2 body ≤ 16384
     → axis_fits (big_from 2 4 body) (big_from 10 4 body) (big_from 18 4 body) (big_from 26 4 body) ≡ true
     → axis_fits (big_from 6 4 body) (big_from 14 4 body) (big_from 22 4 body) (big_from 30 4 body) ≡ true
-    → breaks_4 81 body ≡ not (list_all comp_size_fits (values_from comp_size_at 3 (big_from 34 2 body) 36 body))
+    → breaks_4 SIZ body ≡ not (list_all comp_size_fits (values_from comp_size_at 3 (big_from 34 2 body) 36 body))
 unfolding breaks_4
 canvas_broken body some most across down =
     let count = length_values comp_size_at 3 (big_from 34 2 body) 36 body in
@@ -142,27 +143,27 @@ canvas_broken body some most across down =
     let greatest : leb (big_from 34 2 body) 16384 ≡ true = grind (arith, nat_tests) in
     rw (count, least, greatest, across, down) refl
 
-pub not_packed : (comps : ℕ) (bytes : List ℕ) → breaks_1 comps bytes ≡ false → breaks_14 bytes ≡ false → (code_at bytes ≢ 96) × (code_at bytes ≢ 97)
+pub not_packed : (comps : ℕ) (bytes : List ℕ) → breaks_1 comps bytes ≡ false → breaks_14 bytes ≡ false → (code_at bytes ≢ PPM) × (code_at bytes ≢ PPT)
 unfolding breaks_14
 not_packed comps bytes long packed =
     let two = two_bytes comps bytes long in
     let long_enough : leb 2 (length bytes) ≡ true = grind (arith, nat_tests) in
     let codes = both (leb 2 (length bytes)) _ long_enough packed in
-    let each = or_parts (code_at bytes == 96) _ codes in
+    let each = or_parts (code_at bytes == PPM) _ codes in
     (λ is. grind (arith, nat_tests, each, is), λ is. grind (arith, nat_tests, each, is))
 
-pub packed_not_alone : (code : ℕ) → has_length code ≡ false → ((code == 96) ≡ false) × ((code == 97) ≡ false)
+pub packed_not_alone : (code : ℕ) → has_length code ≡ false → ((code == PPM) ≡ false) × ((code == PPT) ≡ false)
 packed_not_alone code none =
-    let siz = or_parts (code == 81) _ none in
-    let cod = or_parts (code == 82) _ siz.1 in
-    let coc = or_parts (code == 83) _ cod.1 in
-    let tlm = or_parts (code == 85) _ coc.1 in
-    let plm = or_parts (code == 87) _ tlm.1 in
-    let plt = or_parts (code == 88) _ plm.1 in
-    let qcd = or_parts (code == 92) _ plt.1 in
-    let qcc = or_parts (code == 93) _ qcd.1 in
-    let rgn = or_parts (code == 94) _ qcc.1 in
-    let poc = or_parts (code == 95) _ rgn.1 in
-    let ppm = or_parts (code == 96) _ poc.1 in
-    let ppt = or_parts (code == 97) _ ppm.1 in
+    let siz = or_parts (code == SIZ) _ none in
+    let cod = or_parts (code == COD) _ siz.1 in
+    let coc = or_parts (code == COC) _ cod.1 in
+    let tlm = or_parts (code == TLM) _ coc.1 in
+    let plm = or_parts (code == PLM) _ tlm.1 in
+    let plt = or_parts (code == PLT) _ plm.1 in
+    let qcd = or_parts (code == QCD) _ plt.1 in
+    let qcc = or_parts (code == QCC) _ qcd.1 in
+    let rgn = or_parts (code == RGN) _ qcc.1 in
+    let poc = or_parts (code == POC) _ rgn.1 in
+    let ppm = or_parts (code == PPM) _ poc.1 in
+    let ppt = or_parts (code == PPT) _ ppm.1 in
     (ppm.0, ppt.0)

@@ -6,6 +6,7 @@ use Rattle.std.specs.List.{flat_map, list_all, list_any}
 use Rattle.std.proofs.lemmas.List.Elements.{recursion_from_All}
 use Rattle.byteorder.specs.Endian.{big_from, big_bytes}
 use Rattle.byteorder.specs.Numbers.{big_number-reads_back, length-bytes_high_first}
+use Rattle.jx_marker.specs.Codes.{SOC, SIZ, COD, COC, TLM, PLM, PLT, QCD, QCC, RGN, POC, CRG, COM, SOT, SOD, EOC}
 use Rattle.jx_marker.specs.declared.CompSize.{CompSize}
 use Rattle.jx_marker.specs.declared.Siz.{Siz}
 use Rattle.jx_marker.specs.declared.Shape.{Shape}
@@ -72,12 +73,12 @@ siz_is_read comps siz rest range =
     let most = most_comps siz range in
     let size = length_siz siz in
     let value = siz_value siz range in
-    let third : breaks_3 81 body ≡ false = rw (siz_count siz range, size) (grind (arith, nat_tests)) in
-    let fourth : breaks_4 81 body ≡ false = ap (λ (s : Siz). not (siz_fits s)) value ∙ ap not range.fits in
+    let third : breaks_3 SIZ body ≡ false = rw (siz_count siz range, size) (grind (arith, nat_tests)) in
+    let fourth : breaks_4 SIZ body ≡ false = ap (λ (s : Siz). not (siz_fits s)) value ∙ ap not range.fits in
     let low = range.rsiz in
     let small : leb (2 ^ 14) siz.rsiz ≡ false = grind (arith, nat_tests) in
-    let fifth : breaks_5 81 body ≡ false = ap (λ (s : Siz). leb (2 ^ 14) s.rsiz) value ∙ small in
-    whole_read comps 81 body rest (segment.Siz siz) (record {
+    let fifth : breaks_5 SIZ body ≡ false = ap (λ (s : Siz). leb (2 ^ 14) s.rsiz) value ∙ small in
+    whole_read comps SIZ body rest (segment.Siz siz) (record {
       follows = refl;
       not_ppm = refl;
       not_ppt = refl;
@@ -225,12 +226,12 @@ cod_is_read comps cod rest range =
     let shape : shape_fits (scod cod) 5 body ≡ true = shape_fits_read (scod cod) cod.shape range.shape bit front 5 refl in
     let flags : ltb (scod cod) 8 ≡ true = lt-ltb (scod cod) 8 (scod_small (precinct_bit cod.shape) small cod.sop cod.eph) in
     let fields : cod_fits body ≡ true = rw layers (and_from _ _ flags (and_from _ _ (le-leb cod.order 4 range.order) (and_from _ _ (lt-ltb 0 cod.layers range.some) (le-leb cod.transform 1 range.transform)))) in
-    let sixth : breaks_6 comps 82 body ≡ false = ap (λ (x : Bool). not x || false) (and_from (cod_fits body) (shape_fits (scod cod) 5 body) fields shape) in
-    let seventh : breaks_7 comps 82 body ≡ false = style_read cod.shape range.shape front 5 refl in
-    let eighth : breaks_8 comps 82 body ≡ false = above_read cod.shape range.shape front 5 refl in
+    let sixth : breaks_6 comps COD body ≡ false = ap (λ (x : Bool). not x || false) (and_from (cod_fits body) (shape_fits (scod cod) 5 body) fields shape) in
+    let seventh : breaks_7 comps COD body ≡ false = style_read cod.shape range.shape front 5 refl in
+    let eighth : breaks_8 comps COD body ≡ false = above_read cod.shape range.shape front 5 refl in
     let size = length_cod cod in
     let count = most_precincts cod.shape range.shape in
-    whole_read comps 82 body rest (segment.Cod cod) (record {
+    whole_read comps COD body rest (segment.Cod cod) (record {
       follows = refl;
       not_ppm = refl;
       not_ppt = refl;
@@ -283,7 +284,7 @@ bit_of_bit : (shape : Shape) → precinct_bit shape % 2 ≡ precinct_bit shape
 bit_of_bit shape = elim (zero_or_one (precinct_bit shape) (bit_small shape)) [ inl e ↦ rw e refl | inr e ↦ rw e refl ]
 
 coc_value : (comps comp : ℕ) (shape : Shape) → CocInRange comps comp shape
-    → value_of comps 83 (coc_bytes comps comp shape) ≡ segment.Coc comp shape
+    → value_of comps COC (coc_bytes comps comp shape) ≡ segment.Coc comp shape
 coc_value comps comp shape range =
     let front : List ℕ = index_bytes comps comp ++ precinct_bit shape ∷ [] in
     let body : List ℕ = coc_bytes comps comp shape in
@@ -306,17 +307,17 @@ coc_is_read comps comp shape rest range =
     let fits : shape_fits (precinct_bit shape) at body ≡ true
     = ap (λ (b : List ℕ). shape_fits (precinct_bit shape) at b) parts ∙ shape_fits_read (precinct_bit shape) shape range.fits (bit_of_bit shape) front at place in
     let flag : ltb (precinct_bit shape) 2 ≡ true = lt-ltb (precinct_bit shape) 2 (omega arith) in
-    let sixth : breaks_6 comps 83 body ≡ false
+    let sixth : breaks_6 comps COC body ≡ false
     = ap (λ (f : ℕ). not (ltb f 2 && shape_fits f at body)) bit ∙ ap not (and_from (ltb (precinct_bit shape) 2) (shape_fits (precinct_bit shape) at body) flag fits) in
-    let seventh : breaks_7 comps 83 body ≡ false = ap (λ (b : List ℕ). leb 64 (slice_index b (at + 3))) parts ∙ style_read shape range.fits front at place in
-    let eighth : breaks_8 comps 83 body ≡ false = ap (λ (b : List ℕ). list_any has_zero_exponent (drop (at + 6) b)) parts ∙ above_read shape range.fits front at place in
+    let seventh : breaks_7 comps COC body ≡ false = ap (λ (b : List ℕ). leb 64 (slice_index b (at + 3))) parts ∙ style_read shape range.fits front at place in
+    let eighth : breaks_8 comps COC body ≡ false = ap (λ (b : List ℕ). list_any has_zero_exponent (drop (at + 6) b)) parts ∙ above_read shape range.fits front at place in
     let index : index_at comps 0 body ≡ comp = index_read comps comp (precinct_bit shape ∷ shape_bytes shape) (index_fits comps comp range.index range.word) in
-    let twelfth : breaks_12 comps 83 body ≡ false = ap (λ (n : ℕ). leb comps n) index ∙ lt-leb comps comp range.index in
+    let twelfth : breaks_12 comps COC body ≡ false = ap (λ (n : ℕ). leb comps n) index ∙ lt-leb comps comp range.index in
     let size : length body ≡ index_size comps + (6 + length shape.precincts)
     = omega (arith, length-append (index_bytes comps comp) (precinct_bit shape ∷ shape_bytes shape), index_length comps comp) in
     let count = most_precincts shape range.fits in
     let narrow = narrow_index comps in
-    whole_read comps 83 body rest (segment.Coc comp shape) (record {
+    whole_read comps COC body rest (segment.Coc comp shape) (record {
       follows = refl;
       not_ppm = refl;
       not_ppt = refl;
@@ -375,10 +376,10 @@ unfolding breaks_9
 qcd_is_read comps quant rest range =
     let body : List ℕ = quant_bytes quant in
     let fits : quant_fits 0 body ≡ true = quant_fits_read quant 0 range [] 0 refl in
-    let ninth : breaks_9 comps 92 body ≡ false = ap (λ (x : Bool). not x || false) fits in
+    let ninth : breaks_9 comps QCD body ≡ false = ap (λ (x : Bool). not x || false) fits in
     let size = length_quant quant in
     let count = range.count in
-    whole_read comps 92 body rest (segment.Qcd quant) (record {
+    whole_read comps QCD body rest (segment.Qcd quant) (record {
       follows = refl;
       not_ppm = refl;
       not_ppt = refl;
@@ -396,13 +397,13 @@ qcc_is_read comps comp quant rest range =
     let body : List ℕ = front ++ quant_bytes quant in
     let place = sym (index_length comps comp) in
     let fits : quant_fits (index_size comps) body ≡ true = quant_fits_read quant (index_size comps) range.fits front (index_size comps) place in
-    let ninth : breaks_9 comps 93 body ≡ false = ap not fits in
+    let ninth : breaks_9 comps QCC body ≡ false = ap not fits in
     let index : index_at comps 0 body ≡ comp = index_read comps comp (quant_bytes quant) (index_fits comps comp range.index range.word) in
-    let twelfth : breaks_12 comps 93 body ≡ false = ap (λ (n : ℕ). leb comps n) index ∙ lt-leb comps comp range.index in
+    let twelfth : breaks_12 comps QCC body ≡ false = ap (λ (n : ℕ). leb comps n) index ∙ lt-leb comps comp range.index in
     let size = length_qcc comps comp quant in
     let count = range.fits.count in
     let value : quant_at (index_size comps) body ≡ quant = quant_value quant (index_size comps) range.fits front (index_size comps) place in
-    whole_read comps 93 body rest (segment.Qcc comp quant) (record {
+    whole_read comps QCC body rest (segment.Qcc comp quant) (record {
       follows = refl;
       not_ppm = refl;
       not_ppt = refl;
@@ -421,14 +422,14 @@ rgn_is_read comps comp shift rest range =
     let body : List ℕ = index_bytes comps comp ++ 0 ∷ shift ∷ [] in
     let size : length body ≡ index_size comps + 2 = omega (arith, length-append (index_bytes comps comp) (0 ∷ shift ∷ []), index_length comps comp) in
     let style : slice_index body (index_size comps) ≡ 0 = flag_read comps comp (shift ∷ []) 0 in
-    let tenth : breaks_10 comps 94 body ≡ false
+    let tenth : breaks_10 comps RGN body ≡ false
     = ap not (and_from (length body == index_size comps + 2) (slice_index body (index_size comps) == 0) (eq-eqb (length body) (index_size comps + 2) size) (eq-eqb (slice_index body (index_size comps)) 0 style)) in
     let index : index_at comps 0 body ≡ comp = index_read comps comp (0 ∷ shift ∷ []) (index_fits comps comp range.index range.word) in
-    let twelfth : breaks_12 comps 94 body ≡ false = ap (λ (n : ℕ). leb comps n) index ∙ lt-leb comps comp range.index in
+    let twelfth : breaks_12 comps RGN body ≡ false = ap (λ (n : ℕ). leb comps n) index ∙ lt-leb comps comp range.index in
     let narrow = narrow_index comps in
     let here : 1 + index_size comps ≡ length (index_bytes comps comp) + 1 = omega (arith, index_length comps comp) in
     let shift_is : slice_index body (1 + index_size comps) ≡ shift = ap (λ (n : ℕ). slice_index body n) here ∙ slice_past (index_bytes comps comp) (0 ∷ shift ∷ []) 1 in
-    whole_read comps 94 body rest (segment.Rgn comp shift) (record {
+    whole_read comps RGN body rest (segment.Rgn comp shift) (record {
       follows = refl;
       not_ppm = refl;
       not_ppt = refl;
@@ -522,10 +523,10 @@ poc_is_read comps entries rest range =
     let long = length_poc comps entries in
     let whole : length body % size ≡ 0 = ap (λ (n : ℕ). n % size) long ∙ mul-mod_left (length entries) size in
     let fits : list_all progression_fits (poc_at comps body) ≡ true = ap (λ (es : List Progression). list_all progression_fits es) value ∙ range.fits in
-    let eleventh : breaks_11 comps 95 body ≡ false = ap not (and_from (length body % size == 0) (list_all progression_fits (poc_at comps body)) (eq-eqb (length body % size) 0 whole) fits) in
+    let eleventh : breaks_11 comps POC body ≡ false = ap not (and_from (length body % size == 0) (list_all progression_fits (poc_at comps body)) (eq-eqb (length body % size) 0 whole) fits) in
     let some = mul_some (length entries) size range.some in
     let count = range.count in
-    whole_read comps 95 body rest (segment.Poc entries) (record {
+    whole_read comps POC body rest (segment.Poc entries) (record {
       follows = refl;
       not_ppm = refl;
       not_ppt = refl;
@@ -537,69 +538,69 @@ poc_is_read comps entries rest range =
 
 -- bytes that are kept as they are, and SOT
 
-crg_is_read : (comps : ℕ) (bytes rest : List ℕ) → BytesInRange 0 bytes → StandsAt comps (with_length 99 bytes ++ rest) (segment.Crg bytes) (length (with_length 99 bytes))
+crg_is_read : (comps : ℕ) (bytes rest : List ℕ) → BytesInRange 0 bytes → StandsAt comps (with_length CRG bytes ++ rest) (segment.Crg bytes) (length (with_length CRG bytes))
 unfolding breaks_13
-crg_is_read comps bytes rest range = whole_read comps 99 bytes rest (segment.Crg bytes) (record {
+crg_is_read comps bytes rest range = whole_read comps CRG bytes rest (segment.Crg bytes) (record {
   follows = refl;
   not_ppm = refl;
   not_ppt = refl;
   fits = range.count;
   least = omega arith;
   sot = refl;
-  inside = plain_rules comps 99 bytes (record { siz = refl; cod = refl; coc = refl; qcd = refl; qcc = refl; rgn = refl; poc = refl }) ∙ refl;
+  inside = plain_rules comps CRG bytes (record { siz = refl; cod = refl; coc = refl; qcd = refl; qcc = refl; rgn = refl; poc = refl }) ∙ refl;
 }) refl
 
-com_is_read : (comps : ℕ) (bytes rest : List ℕ) → BytesInRange 0 bytes → StandsAt comps (with_length 100 bytes ++ rest) (segment.Com bytes) (length (with_length 100 bytes))
+com_is_read : (comps : ℕ) (bytes rest : List ℕ) → BytesInRange 0 bytes → StandsAt comps (with_length COM bytes ++ rest) (segment.Com bytes) (length (with_length COM bytes))
 unfolding breaks_13
-com_is_read comps bytes rest range = whole_read comps 100 bytes rest (segment.Com bytes) (record {
+com_is_read comps bytes rest range = whole_read comps COM bytes rest (segment.Com bytes) (record {
   follows = refl;
   not_ppm = refl;
   not_ppt = refl;
   fits = range.count;
   least = omega arith;
   sot = refl;
-  inside = plain_rules comps 100 bytes (record { siz = refl; cod = refl; coc = refl; qcd = refl; qcc = refl; rgn = refl; poc = refl }) ∙ refl;
+  inside = plain_rules comps COM bytes (record { siz = refl; cod = refl; coc = refl; qcd = refl; qcc = refl; rgn = refl; poc = refl }) ∙ refl;
 }) refl
 
 long_enough : (n least : ℕ) → least ≤ n → ltb (2 + n) (2 + least) ≡ false
 long_enough n least h = grind (arith, nat_tests)
 
-plt_is_read : (comps : ℕ) (bytes rest : List ℕ) → BytesInRange 1 bytes → StandsAt comps (with_length 88 bytes ++ rest) (segment.Plt bytes) (length (with_length 88 bytes))
+plt_is_read : (comps : ℕ) (bytes rest : List ℕ) → BytesInRange 1 bytes → StandsAt comps (with_length PLT bytes ++ rest) (segment.Plt bytes) (length (with_length PLT bytes))
 unfolding breaks_13
-plt_is_read comps bytes rest range = whole_read comps 88 bytes rest (segment.Plt bytes) (record {
+plt_is_read comps bytes rest range = whole_read comps PLT bytes rest (segment.Plt bytes) (record {
   follows = refl;
   not_ppm = refl;
   not_ppt = refl;
   fits = range.count;
   least = omega arith;
   sot = refl;
-  inside = plain_rules comps 88 bytes (record { siz = refl; cod = refl; coc = refl; qcd = refl; qcc = refl; rgn = refl; poc = refl })
+  inside = plain_rules comps PLT bytes (record { siz = refl; cod = refl; coc = refl; qcd = refl; qcc = refl; rgn = refl; poc = refl })
       ∙ (let e = long_enough (length bytes) 1 range.some in rw e refl);
 }) refl
 
-plm_is_read : (comps : ℕ) (bytes rest : List ℕ) → BytesInRange 1 bytes → StandsAt comps (with_length 87 bytes ++ rest) (segment.Plm bytes) (length (with_length 87 bytes))
+plm_is_read : (comps : ℕ) (bytes rest : List ℕ) → BytesInRange 1 bytes → StandsAt comps (with_length PLM bytes ++ rest) (segment.Plm bytes) (length (with_length PLM bytes))
 unfolding breaks_13
-plm_is_read comps bytes rest range = whole_read comps 87 bytes rest (segment.Plm bytes) (record {
+plm_is_read comps bytes rest range = whole_read comps PLM bytes rest (segment.Plm bytes) (record {
   follows = refl;
   not_ppm = refl;
   not_ppt = refl;
   fits = range.count;
   least = omega arith;
   sot = refl;
-  inside = plain_rules comps 87 bytes (record { siz = refl; cod = refl; coc = refl; qcd = refl; qcc = refl; rgn = refl; poc = refl })
+  inside = plain_rules comps PLM bytes (record { siz = refl; cod = refl; coc = refl; qcd = refl; qcc = refl; rgn = refl; poc = refl })
       ∙ (let e = long_enough (length bytes) 1 range.some in rw e refl);
 }) refl
 
-tlm_is_read : (comps : ℕ) (bytes rest : List ℕ) → BytesInRange 2 bytes → StandsAt comps (with_length 85 bytes ++ rest) (segment.Tlm bytes) (length (with_length 85 bytes))
+tlm_is_read : (comps : ℕ) (bytes rest : List ℕ) → BytesInRange 2 bytes → StandsAt comps (with_length TLM bytes ++ rest) (segment.Tlm bytes) (length (with_length TLM bytes))
 unfolding breaks_13
-tlm_is_read comps bytes rest range = whole_read comps 85 bytes rest (segment.Tlm bytes) (record {
+tlm_is_read comps bytes rest range = whole_read comps TLM bytes rest (segment.Tlm bytes) (record {
   follows = refl;
   not_ppm = refl;
   not_ppt = refl;
   fits = range.count;
   least = omega arith;
   sot = refl;
-  inside = plain_rules comps 85 bytes (record { siz = refl; cod = refl; coc = refl; qcd = refl; qcc = refl; rgn = refl; poc = refl })
+  inside = plain_rules comps TLM bytes (record { siz = refl; cod = refl; coc = refl; qcd = refl; qcc = refl; rgn = refl; poc = refl })
       ∙ (let e = long_enough (length bytes) 2 range.some in rw e refl);
 }) refl
 
@@ -609,16 +610,16 @@ sot_value sot range =
     let psot = big_number-reads_back 4 sot.psot [] range.psot in
     ap₂ (λ (t p : ℕ). record sot { tile = t; psot = p }) tile psot
 
-sot_is_read : (comps : ℕ) (sot : Sot) (rest : List ℕ) → SotInRange sot → StandsAt comps (with_length 144 (sot_bytes sot) ++ rest) (segment.Sot sot) (length (with_length 144 (sot_bytes sot)))
+sot_is_read : (comps : ℕ) (sot : Sot) (rest : List ℕ) → SotInRange sot → StandsAt comps (with_length SOT (sot_bytes sot) ++ rest) (segment.Sot sot) (length (with_length SOT (sot_bytes sot)))
 unfolding breaks_13
-sot_is_read comps sot rest range = whole_read comps 144 (sot_bytes sot) rest (segment.Sot sot) (record {
+sot_is_read comps sot rest range = whole_read comps SOT (sot_bytes sot) rest (segment.Sot sot) (record {
   follows = refl;
   not_ppm = refl;
   not_ppt = refl;
   fits = omega arith;
   least = omega arith;
   sot = refl;
-  inside = plain_rules comps 144 (sot_bytes sot) (record { siz = refl; cod = refl; coc = refl; qcd = refl; qcc = refl; rgn = refl; poc = refl }) ∙ refl;
+  inside = plain_rules comps SOT (sot_bytes sot) (record { siz = refl; cod = refl; coc = refl; qcd = refl; qcc = refl; rgn = refl; poc = refl }) ∙ refl;
 }) (ap segment.Sot (sot_value sot range))
 
 -- markers that stand alone
@@ -645,13 +646,13 @@ skipped_is_read : (comps code : ℕ) (rest : List ℕ) → 48 ≤ code → code 
 skipped_is_read comps code rest low high =
     let none : has_length code ≡ false = grind (arith, nat_tests) in
     let alone : stands_alone code ≡ true = grind (arith, nat_tests) in
-    let soc : (code == 79) ≡ false = grind (arith, nat_tests) in
-    let sod : (code == 147) ≡ false = grind (arith, nat_tests) in
-    let eoc : (code == 217) ≡ false = grind (arith, nat_tests) in
+    let soc : (code == SOC) ≡ false = grind (arith, nat_tests) in
+    let sod : (code == SOD) ≡ false = grind (arith, nat_tests) in
+    let eoc : (code == EOC) ≡ false = grind (arith, nat_tests) in
     alone_is_read comps code rest (segment.Skipped code) none alone (rw (none, soc, sod, eoc) refl)
 
 pub segment_is_read : (comps : ℕ) (s : Segment) (rest : List ℕ) → InRange comps s → StandsAt comps (spelling comps s ++ rest) s (length (spelling comps s))
-segment_is_read comps segment.Soc rest range = alone_is_read comps 79 rest segment.Soc refl refl refl
+segment_is_read comps segment.Soc rest range = alone_is_read comps SOC rest segment.Soc refl refl refl
 segment_is_read comps (segment.Siz siz) rest range = siz_is_read comps siz rest range
 segment_is_read comps (segment.Cod cod) rest range = cod_is_read comps cod rest range
 segment_is_read comps (segment.Coc comp shape) rest range = coc_is_read comps comp shape rest range
@@ -665,6 +666,6 @@ segment_is_read comps (segment.Plt bytes) rest range = plt_is_read comps bytes r
 segment_is_read comps (segment.Plm bytes) rest range = plm_is_read comps bytes rest range
 segment_is_read comps (segment.Tlm bytes) rest range = tlm_is_read comps bytes rest range
 segment_is_read comps (segment.Sot sot) rest range = sot_is_read comps sot rest range
-segment_is_read comps segment.Sod rest range = alone_is_read comps 147 rest segment.Sod refl refl refl
-segment_is_read comps segment.Eoc rest range = alone_is_read comps 217 rest segment.Eoc refl refl refl
+segment_is_read comps segment.Sod rest range = alone_is_read comps SOD rest segment.Sod refl refl refl
+segment_is_read comps segment.Eoc rest range = alone_is_read comps EOC rest segment.Eoc refl refl refl
 segment_is_read comps (segment.Skipped code) rest range = skipped_is_read comps code rest range.0 range.1

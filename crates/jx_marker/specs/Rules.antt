@@ -10,7 +10,7 @@ use Rattle.jx_marker.specs.declared.Progression.{Progression}
 use Rattle.jx_marker.specs.Markers.{has_length, stands_alone, index_size, entry_size, progression_size}
 use Rattle.jx_marker.specs.Values.{siz_at, poc_at, index_at}
 use Rattle.jx_marker.specs.Segments.{code_at, length_at, body_at}
-use Rattle.jx_marker.specs.Codes.{SIZ, COD, COC, TLM, PLM, PLT, QCD, QCC, RGN, POC}
+use Rattle.jx_marker.specs.Codes.{SIZ, COD, COC, TLM, PLM, PLT, QCD, QCC, RGN, POC, SOT}
 
 -- rule 2: two bytes that are no marker (Table A.2), or SOP or EPH, which stand in tile data alone (A.8)
 unfoldable pub breaks_2 : List ℕ → Bool
@@ -41,7 +41,7 @@ breaks_1 comps bytes = nat_lt (length bytes) 2
     && (nat_lt (length bytes) 4
     || (nat_lt (length bytes) (2 + length_at bytes)
     || (nat_lt (length_at bytes) (least_length comps (code_at bytes))
-    || ((code_at bytes == 144) && not (length_at bytes == 10))))))
+    || ((code_at bytes == SOT) && not (length_at bytes == 10))))))
 
 -- rule 3: the length of SIZ isn't that of its components (A.5.1)
 unfoldable pub breaks_3 : ℕ → List ℕ → Bool

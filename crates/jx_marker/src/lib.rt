@@ -12,6 +12,7 @@ mod packets;
 mod put;
 mod read;
 mod rules;
+mod siz_rules;
 
 pub use lists::{Bytes, CompSizes, Numbers, Progressions};
 pub use packets::{eph, sop};

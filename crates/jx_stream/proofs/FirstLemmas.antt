@@ -4,6 +4,7 @@ use Rattle.std.specs.List.{list_any, range_with_len}
 use Rattle.std.specs.Option.{option_or}
 use Rattle.std.proofs.lemmas.List.{get_or-drop}
 use Rattle.std.proofs.lemmas.List.FromFn.{fill_by_all}
+use Rattle.jx_marker.specs.Codes.{SOC, SIZ}
 use Rattle.jx_marker.specs.declared.Segment.{Segment}
 use Rattle.jx_marker.specs.declared.Segment.TheVariants as segment
 use Rattle.jx_marker.specs.declared.Siz.{Siz}
@@ -29,26 +30,26 @@ use Rattle.std.proofs.lemmas.Bool.{and_parts, eqb-true}
 
 -- SOC and SIZ
 
-pub siz_stands : (b : List ℕ) → marker_at b 2 81 ≡ true → segment_at 1 (drop 2 b) ≡ segment.Siz (siz_of b)
+pub siz_stands : (b : List ℕ) → marker_at b 2 SIZ ≡ true → segment_at 1 (drop 2 b) ≡ segment.Siz (siz_of b)
 siz_stands b h =
-    let e : get_or (drop 2 b) 1 0 ≡ 81 = get_or-drop 2 b 1 0 ∙ eqb-true (get_or b 3 0) 81 (and_parts (get_or b 2 0 == 255) (get_or b 3 0 == 81) h).1 in
+    let e : get_or (drop 2 b) 1 0 ≡ SIZ = get_or-drop 2 b 1 0 ∙ eqb-true (get_or b 3 0) SIZ (and_parts (get_or b 2 0 == 255) (get_or b 3 0 == SIZ) h).1 in
     rw e refl
 
-pub front_15 : (b : List ℕ) → marker_at b 0 79 ≡ false → front_fault b ≡ Some (fault.Rule 15 0)
+pub front_15 : (b : List ℕ) → marker_at b 0 SOC ≡ false → front_fault b ≡ Some (fault.Rule 15 0)
 unfolding front_fault
 front_15 b h = rw h refl
 
-pub front_16 : (b : List ℕ) → marker_at b 0 79 ≡ true → marker_at b 2 81 ≡ false → front_fault b ≡ Some (fault.Rule 16 2)
+pub front_16 : (b : List ℕ) → marker_at b 0 SOC ≡ true → marker_at b 2 SIZ ≡ false → front_fault b ≡ Some (fault.Rule 16 2)
 unfolding front_fault
 front_16 b soc h = rw (soc, h) refl
 
-pub front_cause : (b : List ℕ) (why : Rule) {X : Type 0} (x : Result X Rule) → marker_at b 0 79 ≡ true → marker_at b 2 81 ≡ true → x ≡ Err why
+pub front_cause : (b : List ℕ) (why : Rule) {X : Type 0} (x : Result X Rule) → marker_at b 0 SOC ≡ true → marker_at b 2 SIZ ≡ true → x ≡ Err why
     → ((m : ℕ) → x ≡ Err (rule.Broken m) → first_broken 1 (drop 2 b) ≡ Some m) → IsCause (fault_of why 2) (front_fault b)
 unfolding front_fault
 front_cause b (rule.Broken m) x soc siz is h = rw (soc, siz, h m is) refl
 front_cause b rule.NoMemory x soc siz is h = tt
 
-pub front_clear : (b : List ℕ) → marker_at b 0 79 ≡ true → marker_at b 2 81 ≡ true → first_broken 1 (drop 2 b) ≡ None → front_fault b ≡ None
+pub front_clear : (b : List ℕ) → marker_at b 0 SOC ≡ true → marker_at b 2 SIZ ≡ true → first_broken 1 (drop 2 b) ≡ None → front_fault b ≡ None
 unfolding front_fault
 front_clear b soc siz h = rw (soc, siz, h) refl
 
@@ -195,7 +196,7 @@ siz_inside : Siz → Segment → Siz
 siz_inside other (segment.Siz siz) = siz
 siz_inside other _ = other
 
-pub siz_value : (b : List ℕ) (s : Segment) (siz : Siz) → marker_at b 2 81 ≡ true → segment_at 1 (drop 2 b) ≡ s → s ≡ segment.Siz siz → siz ≡ siz_of b
+pub siz_value : (b : List ℕ) (s : Segment) (siz : Siz) → marker_at b 2 SIZ ≡ true → segment_at 1 (drop 2 b) ≡ s → s ≡ segment.Siz siz → siz ≡ siz_of b
 unfolding siz_inside
 siz_value b s siz stands value is =
     sym (ap (siz_inside siz) (sym (siz_stands b stands) ∙ value ∙ is))

@@ -3,6 +3,7 @@ use Rattle.std.proofs.Common.{◌≡◌, ◌∙◌, ◌<◌, ◌+◌, ◌||◌, 
 use Rattle.std.specs.List.{flat_map}
 use Rattle.std.specs.Option.{option_or}
 use Rattle.std.proofs.lemmas.List.{append-nil, append_assoc, length-append}
+use Rattle.jx_marker.specs.Codes.{SOC, SOT, EOC}
 use Rattle.jx_marker.specs.declared.Segment.{Segment}
 use Rattle.jx_marker.specs.declared.Segment.TheVariants as segment
 use Rattle.jx_marker.specs.declared.Siz.{Siz}
@@ -57,7 +58,7 @@ header_size siz main parts sot before =
 -- what follows a front
 
 pub main_rest : (siz : Siz) (main : List Segment) (tail : List ℕ) → main_bytes siz main ++ tail ≡ spelling 1 segment.Soc ++ (spelling 1 (segment.Siz siz) ++ (all_bytes (length siz.comps) main ++ tail))
-main_rest siz main tail = ap (λ (x : List ℕ). 255 ∷ 79 ∷ x) (append_assoc (spelling 1 (segment.Siz siz)) (all_bytes (length siz.comps) main) tail)
+main_rest siz main tail = ap (λ (x : List ℕ). 0xFF ∷ SOC ∷ x) (append_assoc (spelling 1 (segment.Siz siz)) (all_bytes (length siz.comps) main) tail)
 
 pub front_rest : (siz : Siz) (main : List Segment) (parts : List TilePart) (tail : List ℕ) → front_bytes siz main parts ++ tail ≡ main_bytes siz main ++ (flat_map (part_bytes (length siz.comps)) parts ++ tail)
 front_rest siz main parts tail = append_assoc (main_bytes siz main) (flat_map (part_bytes (length siz.comps)) parts) tail
@@ -182,7 +183,7 @@ parts_walked comps tiles b (p ∷ ps) before at tail are h =
 
 -- what is violated after tile-parts that are spelled is violated in the tile-parts
 after_parts : (comps tiles : ℕ) (b : List ℕ) (start : ℕ) (parts : List Part) (at : ℕ) (f : StreamFault)
-    → longest_parts comps tiles b (length b) [] start ≡ longest_parts comps tiles b (length b) parts at → marker_at b at 217 ≡ false → fault_after comps tiles b parts at ≡ Some f
+    → longest_parts comps tiles b (length b) [] start ≡ longest_parts comps tiles b (length b) parts at → marker_at b at EOC ≡ false → fault_after comps tiles b parts at ≡ Some f
     → parts_fault comps tiles b start ≡ Some f
 after_parts comps tiles b start parts at f walked goes h =
     fault_at_end comps tiles b start parts at (sym walked) (stop_at_fault comps tiles b parts at f h) ∙ rw goes h
@@ -218,7 +219,7 @@ sot_begins comps tiles before at (p ∷ ps) sot tail are range = part_begins com
 -- after a main header and tile-parts
 record AfterParts (b : List ℕ) (siz : Siz) (main : List Segment) (parts : List TilePart) (tail : List ℕ) : Type 0 where
   pub there : drop (length (front_bytes siz main parts)) b ≡ tail
-  pub first : (f : StreamFault) → marker_at b (length (front_bytes siz main parts)) 217 ≡ false
+  pub first : (f : StreamFault) → marker_at b (length (front_bytes siz main parts)) EOC ≡ false
       → fault_after (length siz.comps) (tile_number siz) b (placed (length siz.comps) (first_sot siz main) parts) (length (front_bytes siz main parts)) ≡ Some f → first_fault b ≡ Some f
 
 after_all : (b : List ℕ) (siz : Siz) (main : List Segment) (parts : List TilePart) (tail : List ℕ) → AreParts siz main parts → b ≡ front_bytes siz main parts ++ tail
@@ -247,17 +248,17 @@ after_all b siz main parts tail are h begins =
 
 -- at a tile-part
 
-eoc_starts : (comps : ℕ) (b : List ℕ) (at : ℕ) → marker_at b at 217 ≡ true → start_fault comps b at ≡ None
+eoc_starts : (comps : ℕ) (b : List ℕ) (at : ℕ) → marker_at b at EOC ≡ true → start_fault comps b at ≡ None
 unfolding start_fault
 eoc_starts comps b at h =
-    let rules = (stands_there comps b at segment.Eoc (drop (at + 2) b) tt (marker_there b at 217 h (omega arith))).rules in
-    let either : (marker_at b at 144 || marker_at b at 217) ≡ true = ap (λ x. marker_at b at 144 || x) h ∙ or_is_true (marker_at b at 144) in
-    none_of_both (broken 23 at (not (marker_at b at 144 || marker_at b at 217))) (rule_at at (first_broken comps (drop at b)))
-    (broken_false 23 at (not (marker_at b at 144 || marker_at b at 217)) (ap not either)) (ap (rule_at at) rules)
+    let rules = (stands_there comps b at segment.Eoc (drop (at + 2) b) tt (marker_there b at EOC h (omega arith))).rules in
+    let either : (marker_at b at SOT || marker_at b at EOC) ≡ true = ap (λ x. marker_at b at SOT || x) h ∙ or_is_true (marker_at b at SOT) in
+    none_of_both (broken 23 at (not (marker_at b at SOT || marker_at b at EOC))) (rule_at at (first_broken comps (drop at b)))
+    (broken_false 23 at (not (marker_at b at SOT || marker_at b at EOC)) (ap not either)) (ap (rule_at at) rules)
 
-start_goes : (comps : ℕ) (b : List ℕ) (at : ℕ) (f : StreamFault) → start_fault comps b at ≡ Some f → marker_at b at 217 ≡ false
+start_goes : (comps : ℕ) (b : List ℕ) (at : ℕ) (f : StreamFault) → start_fault comps b at ≡ Some f → marker_at b at EOC ≡ false
 start_goes comps b at f h =
-    elim (cases_Bool (marker_at b at 217)) [
+    elim (cases_Bool (marker_at b at EOC)) [
       | inl t ↦ let e : None ≡ Some f = sym (eoc_starts comps b at t) ∙ h in absurd (cc)
       | inr g ↦ g
     ]
@@ -383,14 +384,14 @@ told_sod b f x =
 -- after a whole file
 
 record WholeRead (b : List ℕ) (siz : Siz) (main : List Segment) (parts : List TilePart) (rest : List ℕ) : Type 0 where
-  pub front : AfterSiz b siz main (flat_map (part_bytes (length siz.comps)) parts ++ (255 ∷ 217 ∷ rest))
+  pub front : AfterSiz b siz main (flat_map (part_bytes (length siz.comps)) parts ++ (0xFF ∷ EOC ∷ rest))
   pub over : BodyOver (length siz.comps) (tile_number siz) b main parts (after_siz b)
   pub end : after_siz b + length (all_bytes (length siz.comps) main) + length (flat_map (part_bytes (length siz.comps)) parts) ≡ length (front_bytes siz main parts)
 
 whole_read : (b : List ℕ) (siz : Siz) (main : List Segment) (parts : List TilePart) (rest : List ℕ) → IsWhole b siz main parts rest → WholeRead b siz main parts rest
 whole_read b siz main parts rest is =
     let comps = length siz.comps in
-    let tail = flat_map (part_bytes comps) parts ++ (255 ∷ 217 ∷ rest) in
+    let tail = flat_map (part_bytes comps) parts ++ (0xFF ∷ EOC ∷ rest) in
     let start = after_siz b in
     let front = after_front b siz main tail is.front.range (is.bytes ∙ sym (main_rest siz main tail)) in
     let P : ℕ → Type 0 = λ n. AreTileParts comps (tile_number siz) rest [] n parts in

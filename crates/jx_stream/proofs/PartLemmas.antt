@@ -7,6 +7,7 @@ use Rattle.std.proofs.lemmas.List.{get_or-set_other, length-set, get_or-drop, ge
 use Rattle.std.proofs.lemmas.List.Folds.{list_any-append}
 use Rattle.std.proofs.lemmas.List.Elements.{filter-append}
 use Rattle.std.proofs.lemmas.Grind.{get_or-set_at}
+use Rattle.jx_marker.specs.Codes.{SOT, EOC}
 use Rattle.jx_marker.specs.declared.Segment.{Segment}
 use Rattle.jx_marker.specs.declared.Segment.TheVariants as segment
 use Rattle.jx_marker.specs.declared.Sot.{Sot}
@@ -57,25 +58,25 @@ above_zero : (n : ℕ) → nat_lt 0 n ≡ true → 0 < n
 above_zero n h = grind (arith, nat_tests)
 
 -- where the marker stands, the segment is a SOT
-pub sot_stands : (comps : ℕ) (b : List ℕ) (at : ℕ) → marker_at b at 144 ≡ true → segment_at comps (drop at b) ≡ segment.Sot (sot_in b at)
+pub sot_stands : (comps : ℕ) (b : List ℕ) (at : ℕ) → marker_at b at SOT ≡ true → segment_at comps (drop at b) ≡ segment.Sot (sot_in b at)
 sot_stands comps b at h =
-    let e : get_or (drop at b) 1 0 ≡ 144 = get_or-drop at b 1 0 ∙ eqb-true (get_or b (at + 1) 0) 144 (and_parts (get_or b at 0 == 255) (get_or b (at + 1) 0 == 144) h).1 in
+    let e : get_or (drop at b) 1 0 ≡ SOT = get_or-drop at b 1 0 ∙ eqb-true (get_or b (at + 1) 0) SOT (and_parts (get_or b at 0 == 255) (get_or b (at + 1) 0 == SOT) h).1 in
     rw e refl
 
-pub sot_of_segment : (comps : ℕ) (b : List ℕ) (at : ℕ) (s : Segment) → marker_at b at 144 ≡ true → segment_at comps (drop at b) ≡ s → s ≡ segment.Sot (sot_in b at)
+pub sot_of_segment : (comps : ℕ) (b : List ℕ) (at : ℕ) (s : Segment) → marker_at b at SOT ≡ true → segment_at comps (drop at b) ≡ s → s ≡ segment.Sot (sot_in b at)
 sot_of_segment comps b at s h e = sym e ∙ sot_stands comps b at h
 
-pub start_cause : (comps : ℕ) (b : List ℕ) (at : ℕ) (why : Rule) {X : Type 0} (x : Result X Rule) → marker_at b at 144 ≡ true → x ≡ Err why
+pub start_cause : (comps : ℕ) (b : List ℕ) (at : ℕ) (why : Rule) {X : Type 0} (x : Result X Rule) → marker_at b at SOT ≡ true → x ≡ Err why
     → ((m : ℕ) → x ≡ Err (rule.Broken m) → first_broken comps (drop at b) ≡ Some m) → IsCause (fault_of why at) (start_fault comps b at)
 unfolding start_fault
 start_cause comps b at (rule.Broken m) x stands is h = rw (stands, h m is) refl
 start_cause comps b at rule.NoMemory x stands is h = tt
 
-pub start_clear : (comps : ℕ) (b : List ℕ) (at : ℕ) → marker_at b at 144 ≡ true → first_broken comps (drop at b) ≡ None → start_fault comps b at ≡ None
+pub start_clear : (comps : ℕ) (b : List ℕ) (at : ℕ) → marker_at b at SOT ≡ true → first_broken comps (drop at b) ≡ None → start_fault comps b at ≡ None
 unfolding start_fault
 start_clear comps b at stands h = rw (stands, h) refl
 
-pub start_missing : (comps : ℕ) (b : List ℕ) (at : ℕ) → marker_at b at 144 ≡ false → marker_at b at 217 ≡ false → start_fault comps b at ≡ Some (fault.Rule 23 at)
+pub start_missing : (comps : ℕ) (b : List ℕ) (at : ℕ) → marker_at b at SOT ≡ false → marker_at b at EOC ≡ false → start_fault comps b at ≡ Some (fault.Rule 23 at)
 unfolding start_fault
 start_missing comps b at lacks goes = rw (lacks, goes) refl
 
@@ -136,7 +137,7 @@ pub sod_within : (b : List ℕ) (at : ℕ) (sot : Sot) (sod : ℕ) → sod_fault
 unfolding sod_fault
 sod_within b at sot sod h =
     elim (cases_Bool (sot.psot == 0)) [
-      | inl t ↦ rw t (not_below (sod + 2) (length b - 2) (or_none (not (marker_at b (length b - 2) 217)) (nat_lt (length b - 2) (sod + 2)) (broken_none 23 (length b - 2) _ (rw t at h))))
+      | inl t ↦ rw t (not_below (sod + 2) (length b - 2) (or_none (not (marker_at b (length b - 2) EOC)) (nat_lt (length b - 2) (sod + 2)) (broken_none 23 (length b - 2) _ (rw t at h))))
       | inr f ↦ rw f (not_below (sod + 2) (at + sot.psot) (broken_none 22 at _ (rw f at h)))
     ]
 
@@ -172,21 +173,21 @@ module _ (comps : ℕ) (b : List ℕ) (parts : List Part) (counts told : List �
 
 -- where tile-parts stop and where they go on
 
-pub stop_at_eoc : (comps tiles : ℕ) (b : List ℕ) (parts : List Part) (at : ℕ) → marker_at b at 217 ≡ true → parts_stop comps tiles b parts at ≡ true
+pub stop_at_eoc : (comps tiles : ℕ) (b : List ℕ) (parts : List Part) (at : ℕ) → marker_at b at EOC ≡ true → parts_stop comps tiles b parts at ≡ true
 unfolding parts_stop
 stop_at_eoc comps tiles b parts at h = rw h refl
 
 pub stop_at_fault : (comps tiles : ℕ) (b : List ℕ) (parts : List Part) (at : ℕ) (e : StreamFault) → fault_after comps tiles b parts at ≡ Some e → parts_stop comps tiles b parts at ≡ true
 unfolding parts_stop
-stop_at_fault comps tiles b parts at e h = rw h (or_is_true (marker_at b at 217))
+stop_at_fault comps tiles b parts at e h = rw h (or_is_true (marker_at b at EOC))
 
-pub go_on : (comps tiles : ℕ) (b : List ℕ) (parts : List Part) (at : ℕ) → marker_at b at 217 ≡ false → fault_after comps tiles b parts at ≡ None → parts_stop comps tiles b parts at ≡ false
+pub go_on : (comps tiles : ℕ) (b : List ℕ) (parts : List Part) (at : ℕ) → marker_at b at EOC ≡ false → fault_after comps tiles b parts at ≡ None → parts_stop comps tiles b parts at ≡ false
 unfolding parts_stop
 go_on comps tiles b parts at goes clear = rw (goes, clear) refl
 
 pub goes_clear : (comps tiles : ℕ) (b : List ℕ) (parts : List Part) (at : ℕ) → parts_stop comps tiles b parts at ≡ false → fault_after comps tiles b parts at ≡ None
 unfolding parts_stop
-goes_clear comps tiles b parts at h = none_is (fault_after comps tiles b parts at) (or_none (marker_at b at 217) (is_some (fault_after comps tiles b parts at)) h)
+goes_clear comps tiles b parts at h = none_is (fault_after comps tiles b parts at) (or_none (marker_at b at EOC) (is_some (fault_after comps tiles b parts at)) h)
 
 marker_past : (b : List ℕ) (at code : ℕ) → length b ≤ at → marker_at b at code ≡ false
 marker_past b at code h = rw (get_or_past b at 0 h) refl
@@ -194,7 +195,7 @@ marker_past b at code h = rw (get_or_past b at 0 h) refl
 pub stop_past : (comps tiles : ℕ) (b : List ℕ) (parts : List Part) (at : ℕ) → length b ≤ at → parts_stop comps tiles b parts at ≡ true
 stop_past comps tiles b parts at h =
     stop_at_fault comps tiles b parts at (fault.Rule 23 at)
-    (part_start comps tiles b (comes_out_of_turn parts (sot_in b at)) at (fault.Rule 23 at) (start_missing comps b at (marker_past b at 144 h) (marker_past b at 217 h)))
+    (part_start comps tiles b (comes_out_of_turn parts (sot_in b at)) at (fault.Rule 23 at) (start_missing comps b at (marker_past b at SOT h) (marker_past b at EOC h)))
 
 pub parts_stopped : (comps tiles : ℕ) (b : List ℕ) (n : ℕ) (parts : List Part) (at : ℕ) → parts_stop comps tiles b parts at ≡ true
     → longest_parts comps tiles b n parts at ≡ record { parts = parts; end = at }
@@ -245,10 +246,10 @@ module _ (comps tiles : ℕ) (b : List ℕ) (start : ℕ) (parts : List Part) (a
   ended : parts_stop comps tiles b parts at ≡ true → parts_from comps tiles b start ≡ record { parts = parts; end = at }
   ended h = sym same ∙ parts_stopped comps tiles b (length b) parts at h
 
-  pub fault_at_end : parts_stop comps tiles b parts at ≡ true → parts_fault comps tiles b start ≡ cond (marker_at b at 217) None (fault_after comps tiles b parts at)
-  fault_at_end h = ap (λ (x : Parts). cond (marker_at b x.end 217) None (fault_after comps tiles b x.parts x.end)) (ended h)
+  pub fault_at_end : parts_stop comps tiles b parts at ≡ true → parts_fault comps tiles b start ≡ cond (marker_at b at EOC) None (fault_after comps tiles b parts at)
+  fault_at_end h = ap (λ (x : Parts). cond (marker_at b x.end EOC) None (fault_after comps tiles b x.parts x.end)) (ended h)
 
-  pub parts_end : marker_at b at 217 ≡ true
+  pub parts_end : marker_at b at EOC ≡ true
       → (parts_fault comps tiles b start ≡ None) × (parts ≡ (parts_from comps tiles b start).parts) × (at ≡ (parts_from comps tiles b start).end)
   parts_end h =
       let stop = stop_at_eoc comps tiles b parts at h in (
@@ -257,14 +258,14 @@ module _ (comps tiles : ℕ) (b : List ℕ) (start : ℕ) (parts : List Part) (a
         ap (λ (x : Parts). x.end) (sym (ended stop)),
       )
 
-  pub parts_refused : (e : StreamFault) → marker_at b at 217 ≡ false → IsCause e (fault_after comps tiles b parts at) → IsCause e (parts_fault comps tiles b start)
+  pub parts_refused : (e : StreamFault) → marker_at b at EOC ≡ false → IsCause e (fault_after comps tiles b parts at) → IsCause e (parts_fault comps tiles b start)
   parts_refused (fault.Rule number place) goes h =
       fault_at_end (stop_at_fault comps tiles b parts at (fault.Rule number place) h) ∙ rw goes h
   parts_refused (fault.Limit number found) goes h =
       fault_at_end (stop_at_fault comps tiles b parts at (fault.Limit number found) h) ∙ rw goes h
   parts_refused fault.NoMemory goes h = tt
 
-  pub parts_more : (items : List Part) (p : Part) (next : ℕ) → at < length b → marker_at b at 217 ≡ false → fault_after comps tiles b parts at ≡ None → p ≡ part_at comps b at
+  pub parts_more : (items : List Part) (p : Part) (next : ℕ) → at < length b → marker_at b at EOC ≡ false → fault_after comps tiles b parts at ≡ None → p ≡ part_at comps b at
       → items ≡ parts ++ p ∷ [] → next ≡ end_of_part p → longest_parts comps tiles b (length b) items next ≡ parts_from comps tiles b start
   parts_more items p next inside goes clear is all after =
       ap (λ (n : ℕ). longest_parts comps tiles b (length b) items n) (after ∙ ap end_of_part is)

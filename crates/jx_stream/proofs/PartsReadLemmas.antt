@@ -2,6 +2,7 @@
 use Rattle.std.proofs.Common.{◌≡◌, ◌≢◌, ◌∙◌, ◌<◌, ◌≤◌, ◌+◌, ◌-◌, ◌==◌, ◌&&◌, ℕ, Bool, true, false, nat_lt, arith, List, [], ◌∷◌, ◌++◌, length, drop, get_or, refl, sym, ap, subst, None, ◌⊎◌, inl, inr, add-zero}
 use Rattle.std.specs.List.{flat_map}
 use Rattle.std.proofs.lemmas.List.{append-nil, append_assoc, length-append, length-drop, get_or-drop}
+use Rattle.jx_marker.specs.Codes.{SOT, EOC}
 use Rattle.jx_marker.specs.declared.Segment.TheVariants as segment
 use Rattle.jx_marker.specs.declared.Sot.{Sot}
 use Rattle.jx_marker.specs.Segments.{spelling}
@@ -46,7 +47,7 @@ sot_size comps sot = refl
 
 -- a SOT that is spelled
 pub record SotRead (comps : ℕ) (b : List ℕ) (at : ℕ) (sot : Sot) (tail : List ℕ) : Type 0 where
-  pub goes : marker_at b at 217 ≡ false
+  pub goes : marker_at b at EOC ≡ false
   pub clear : start_fault comps b at ≡ None
   pub value : sot_in b at ≡ sot
   pub after : after_sot b at ≡ at + 12
@@ -55,10 +56,10 @@ pub record SotRead (comps : ℕ) (b : List ℕ) (at : ℕ) (sot : Sot) (tail : L
 pub sot_read : (comps : ℕ) (b : List ℕ) (at : ℕ) (sot : Sot) (tail : List ℕ) → SotInRange sot → drop at b ≡ spelling comps (segment.Sot sot) ++ tail → SotRead comps b at sot tail
 sot_read comps b at sot tail range h =
     let there = stands_there comps b at (segment.Sot sot) tail range h in
-    let here : marker_at b at 144 ≡ true = marker_is b at 144 (drop 2 (spelling comps (segment.Sot sot) ++ tail)) h in
+    let here : marker_at b at SOT ≡ true = marker_is b at SOT (drop 2 (spelling comps (segment.Sot sot) ++ tail)) h in
     let same : segment.Sot (sot_in b at) ≡ segment.Sot sot = sym (sot_stands comps b at here) ∙ there.value in
     record {
-      goes = marker_is_not b at 144 217 (drop 2 (spelling comps (segment.Sot sot) ++ tail)) h (λ e. absurd (omega arith));
+      goes = marker_is_not b at SOT EOC (drop 2 (spelling comps (segment.Sot sot) ++ tail)) h (λ e. absurd (omega arith));
       clear = start_clear comps b at here there.rules;
       value = cc;
       after = ap (λ (n : ℕ). at + n) (there.takes ∙ sot_size comps sot);
@@ -67,14 +68,14 @@ sot_read comps b at sot tail range h =
 
 -- where Psot is the tile-part's length, or it is 0 and only EOC follows
 pub Ends : ℕ → TilePart → List ℕ → Type 0
-Ends comps p tail = (p.sot.psot ≡ length (part_bytes comps p)) ⊎ ((p.sot.psot ≡ 0) × (tail ≡ 255 ∷ 217 ∷ []))
+Ends comps p tail = (p.sot.psot ≡ length (part_bytes comps p)) ⊎ ((p.sot.psot ≡ 0) × (tail ≡ 0xFF ∷ EOC ∷ []))
 
 pub ends_named : (comps : ℕ) (p : TilePart) (tail : List ℕ) → p.sot.psot ≡ length (part_bytes comps p) → Ends comps p tail
 unfolding Ends
 ends_named comps p tail named = inl named
 
 pub record PartRead (comps tiles : ℕ) (b : List ℕ) (before : List Part) (at : ℕ) (p : TilePart) : Type 0 where
-  pub goes : marker_at b at 217 ≡ false
+  pub goes : marker_at b at EOC ≡ false
   pub clear : fault_after comps tiles b before at ≡ None
   pub value : part_at comps b at ≡ part_of comps at p
   pub inside : at < length b
@@ -155,9 +156,9 @@ module _ (comps tiles : ℕ) (b : List ℕ) (before : List Part) (at : ℕ) (p :
         rw (some, le-ltb (at + p.sot.psot) (sod + 2) long) refl
     | inr last ↦
         let place : length b - 2 ≡ at + length (part_bytes comps p) = omega (arith, total, ap (λ (x : List ℕ). length x) last.1) in
-        let there : drop (length b - 2) b ≡ 255 ∷ 217 ∷ [] = ap (λ (n : ℕ). drop n b) place ∙ drop_on b at (length (part_bytes comps p)) (part_bytes comps p) tail h refl ∙ last.1 in
+        let there : drop (length b - 2) b ≡ 0xFF ∷ EOC ∷ [] = ap (λ (n : ℕ). drop n b) place ∙ drop_on b at (length (part_bytes comps p)) (part_bytes comps p) tail h refl ∙ last.1 in
         let long : sod + 2 ≤ length b - 2 = omega (arith, place, whole) in
-        rw (eq-eqb p.sot.psot 0 last.0, marker_is b (length b - 2) 217 [] there, le-ltb (length b - 2) (sod + 2) long) refl
+        rw (eq-eqb p.sot.psot 0 last.0, marker_is b (length b - 2) EOC [] there, le-ltb (length b - 2) (sod + 2) long) refl
   ]
 
   pub part_read : PartRead comps tiles b before at p
@@ -176,22 +177,22 @@ module _ (comps tiles : ℕ) (b : List ℕ) (before : List Part) (at : ℕ) (p :
 parts_same : (one other : List Part) (end place : ℕ) → one ≡ other → end ≡ place → ◌≡◌ {A = Parts} (record { parts = one; end = end }) (record { parts = other; end = place })
 parts_same one other end place same ends = rw (same, ends) refl
 
-ends_of : (comps : ℕ) (p : TilePart) (ps : List TilePart) (rest : List ℕ) → HasLength comps p ps rest → Ends comps p (flat_map (part_bytes comps) ps ++ (255 ∷ 217 ∷ rest))
+ends_of : (comps : ℕ) (p : TilePart) (ps : List TilePart) (rest : List ℕ) → HasLength comps p ps rest → Ends comps p (flat_map (part_bytes comps) ps ++ (0xFF ∷ EOC ∷ rest))
 unfolding Ends
 ends_of comps p ps rest has = elim has [
-  | inl named ↦ ends_named comps p (flat_map (part_bytes comps) ps ++ (255 ∷ 217 ∷ rest)) named
-  | inr last ↦ inr (last.0, ap (λ (x : List TilePart). flat_map (part_bytes comps) x ++ (255 ∷ 217 ∷ rest)) last.1 ∙ ap (λ (x : List ℕ). 255 ∷ 217 ∷ x) last.2)
+  | inl named ↦ ends_named comps p (flat_map (part_bytes comps) ps ++ (0xFF ∷ EOC ∷ rest)) named
+  | inr last ↦ inr (last.0, ap (λ (x : List TilePart). flat_map (part_bytes comps) x ++ (0xFF ∷ EOC ∷ rest)) last.1 ∙ ap (λ (x : List ℕ). 0xFF ∷ EOC ∷ x) last.2)
 ]
 
 -- tile-parts that are spelled, with EOC after them
 pub parts_read : (comps tiles : ℕ) (b : List ℕ) (ps : List TilePart) (before : List Part) (at : ℕ) (rest : List ℕ) → AreTileParts comps tiles rest before at ps
-    → drop at b ≡ flat_map (part_bytes comps) ps ++ (255 ∷ 217 ∷ rest)
+    → drop at b ≡ flat_map (part_bytes comps) ps ++ (0xFF ∷ EOC ∷ rest)
     → longest_parts comps tiles b (length b) before at ≡ record { parts = before ++ placed comps at ps; end = at + length (flat_map (part_bytes comps) ps) }
 parts_read comps tiles b [] before at rest are h =
-    parts_stopped comps tiles b (length b) before at (stop_at_eoc comps tiles b before at (marker_is b at 217 rest h)) ∙ parts_same before (before ++ []) at (at + 0) (sym (append-nil before)) (sym (add-zero at))
+    parts_stopped comps tiles b (length b) before at (stop_at_eoc comps tiles b before at (marker_is b at EOC rest h)) ∙ parts_same before (before ++ []) at (at + 0) (sym (append-nil before)) (sym (add-zero at))
 parts_read comps tiles b (p ∷ ps) before at rest are h =
-    let tail = flat_map (part_bytes comps) ps ++ (255 ∷ 217 ∷ rest) in
-    let front : drop at b ≡ part_bytes comps p ++ tail = h ∙ append_assoc (part_bytes comps p) (flat_map (part_bytes comps) ps) (255 ∷ 217 ∷ rest) in
+    let tail = flat_map (part_bytes comps) ps ++ (0xFF ∷ EOC ∷ rest) in
+    let front : drop at b ≡ part_bytes comps p ++ tail = h ∙ append_assoc (part_bytes comps p) (flat_map (part_bytes comps) ps) (0xFF ∷ EOC ∷ rest) in
     let read = part_read comps tiles b before at p tail are.0 (ends_of comps p ps rest are.1) front in
     let later : drop (at + length (part_bytes comps p)) b ≡ tail = drop_on b at (length (part_bytes comps p)) (part_bytes comps p) tail front refl in
     let end : end_of_part (part_at comps b at) ≡ at + length (part_bytes comps p) = ap end_of_part read.value ∙ omega (arith, length-append (head_bytes comps p) p.body) in

@@ -5,6 +5,7 @@ use Rattle.std.specs.Option.{option_or, is_some}
 use Rattle.std.proofs.lemmas.Bool.Decides.{nat_tests}
 use Rattle.std.proofs.lemmas.List.{append-nil, append_assoc, drop-drop, length-append, length-drop, length-take, take-append-drop, get_or-drop, drop_all}
 use Rattle.std.proofs.lemmas.List.Elements.{All-drop}
+use Rattle.jx_marker.specs.Codes.{SOT, EOC}
 use Rattle.jx_marker.specs.declared.Segment.{Segment}
 use Rattle.jx_marker.specs.declared.Segment.TheVariants as segment
 use Rattle.jx_marker.specs.declared.Sot.{Sot}
@@ -216,27 +217,27 @@ either_first : (x y : Bool) → y ≡ false → (x || y) ≡ true → x ≡ true
 either_first true y f h = refl
 either_first false y f h = absurd (cc)
 
-pub start_rules : (comps : ℕ) (b : List ℕ) (at : ℕ) → start_fault comps b at ≡ None → marker_at b at 217 ≡ false → (marker_at b at 144 ≡ true) × (first_broken comps (drop at b) ≡ None)
+pub start_rules : (comps : ℕ) (b : List ℕ) (at : ℕ) → start_fault comps b at ≡ None → marker_at b at EOC ≡ false → (marker_at b at SOT ≡ true) × (first_broken comps (drop at b) ≡ None)
 unfolding start_fault
 start_rules comps b at h goes =
-    let here = not-false (marker_at b at 144 || marker_at b at 217) (broken_none 23 at (not (marker_at b at 144 || marker_at b at 217)) (none_first (broken 23 at (not (marker_at b at 144 || marker_at b at 217))) (rule_at at (first_broken comps (drop at b))) h)) in (
-      either_first (marker_at b at 144) (marker_at b at 217) goes here,
-      rule_none at (first_broken comps (drop at b)) (none_later (broken 23 at (not (marker_at b at 144 || marker_at b at 217))) (rule_at at (first_broken comps (drop at b))) h),
+    let here = not-false (marker_at b at SOT || marker_at b at EOC) (broken_none 23 at (not (marker_at b at SOT || marker_at b at EOC)) (none_first (broken 23 at (not (marker_at b at SOT || marker_at b at EOC))) (rule_at at (first_broken comps (drop at b))) h)) in (
+      either_first (marker_at b at SOT) (marker_at b at EOC) goes here,
+      rule_none at (first_broken comps (drop at b)) (none_later (broken 23 at (not (marker_at b at SOT || marker_at b at EOC))) (rule_at at (first_broken comps (drop at b))) h),
     )
 
 zero_is : (n : ℕ) → n ≡ 0 → (n == 0) ≡ true
 zero_is n h = grind (arith, nat_tests)
 
-sod_last : (b : List ℕ) (at : ℕ) (sot : Sot) (sod : ℕ) → sod_fault b at sot sod ≡ None → sot.psot ≡ 0 → marker_at b (length b - 2) 217 ≡ true
+sod_last : (b : List ℕ) (at : ℕ) (sot : Sot) (sod : ℕ) → sod_fault b at sot sod ≡ None → sot.psot ≡ 0 → marker_at b (length b - 2) EOC ≡ true
 unfolding sod_fault
 sod_last b at sot sod h none =
     let here : (sot.psot == 0) ≡ true = zero_is sot.psot none in
-    not-false (marker_at b (length b - 2) 217) (or_parts (not (marker_at b (length b - 2) 217)) (nat_lt (length b - 2) (sod + 2)) (broken_none 23 (length b - 2) (not (marker_at b (length b - 2) 217) || nat_lt (length b - 2) (sod + 2)) (rw here at h))).0
+    not-false (marker_at b (length b - 2) EOC) (or_parts (not (marker_at b (length b - 2) EOC)) (nat_lt (length b - 2) (sod + 2)) (broken_none 23 (length b - 2) (not (marker_at b (length b - 2) EOC) || nat_lt (length b - 2) (sod + 2)) (rw here at h))).0
 
 -- where a tile-part ends: Psot says, or EOC stands at the end of the file
 record SodClear (b : List ℕ) (at : ℕ) (sot : Sot) (sod : ℕ) : Type 0 where
   pub within : sod + 2 ≤ end_of b at sot
-  pub last : sot.psot ≡ 0 → marker_at b (length b - 2) 217 ≡ true
+  pub last : sot.psot ≡ 0 → marker_at b (length b - 2) EOC ≡ true
 
 sod_clear : (b : List ℕ) (at : ℕ) (sot : Sot) (sod : ℕ) → sod_fault b at sot sod ≡ None → SodClear b at sot sod
 sod_clear b at sot sod h = record { within = sod_within b at sot sod h; last = sod_last b at sot sod h }
@@ -248,7 +249,7 @@ pub record PartWritten (comps tiles : ℕ) (b : List ℕ) (before : List Part) (
   pub spelled : drop at b ≡ part_bytes comps written ++ drop (end_of_part part) b
   pub end : end_of_part part ≡ at + length (part_bytes comps written)
   pub is : IsTilePart comps tiles before written
-  pub length : (written.sot.psot ≡ length (part_bytes comps written)) ⊎ ((written.sot.psot ≡ 0) × (end_of_part part ≡ length b - 2) × (marker_at b (length b - 2) 217 ≡ true))
+  pub length : (written.sot.psot ≡ length (part_bytes comps written)) ⊎ ((written.sot.psot ≡ 0) × (end_of_part part ≡ length b - 2) × (marker_at b (length b - 2) EOC ≡ true))
 
 -- a header as it was walked over
 pub record HeaderSpelled (kind : HeaderKind) (comps : ℕ) (b : List ℕ) (at : ℕ) : Type 0 where
@@ -356,7 +357,7 @@ module _ (comps : ℕ) (b : List ℕ) (at : ℕ) (sot : Sot) (header : Header) (
       let end : end_of b at sot ≡ at + sot.psot = rw h refl in
       omega (arith, end, part_size)
 
-pub part_written : (comps tiles : ℕ) (b : List ℕ) (before : List Part) (at : ℕ) → AreBytes b → marker_at b at 217 ≡ false → fault_after comps tiles b before at ≡ None
+pub part_written : (comps tiles : ℕ) (b : List ℕ) (before : List Part) (at : ℕ) → AreBytes b → marker_at b at EOC ≡ false → fault_after comps tiles b before at ≡ None
     → PartWritten comps tiles b before at (part_at comps b at)
 part_written comps tiles b before at are goes none =
     let sot = sot_in b at in
@@ -380,7 +381,7 @@ part_written comps tiles b before at are goes none =
     begins_sod.spelled ∙ ap (λ (x : List ℕ). spelling comps segment.Sod ++ x) (ap (λ (n : ℕ). drop n (drop header.end b)) size_sod ∙ drop-drop 2 header.end b) in
     let first : drop at b ≡ spelling comps (segment.Sot sot) ++ drop (at + size_at (drop at b)) b = begins.spelled ∙ ap (λ (x : List ℕ). spelling comps (segment.Sot sot) ++ x) (drop-drop (size_at (drop at b)) at b) in
     let end : end_of_part (part_at comps b at) ≡ end_of b at sot = ap end_of_part (part_shape comps b at) ∙ omega (arith, ending.within) in
-    let R : Sot → Type 0 = λ s. (s.psot ≡ length (part_bytes comps written)) ⊎ ((s.psot ≡ 0) × (end_of_part (part_at comps b at) ≡ length b - 2) × (marker_at b (length b - 2) 217 ≡ true)) in
+    let R : Sot → Type 0 = λ s. (s.psot ≡ length (part_bytes comps written)) ⊎ ((s.psot ≡ 0) × (end_of_part (part_at comps b at) ≡ length b - 2) × (marker_at b (length b - 2) EOC ≡ true)) in
     record {
       written = written;
       placed = part_shape comps b at ∙ is_placed comps b at sot header w.new (size_at (drop at b)) sizes header.segments w.all;
@@ -433,7 +434,7 @@ last_same : (before : List Part) (one other : Part) (end place : ℕ) → one �
     → ◌≡◌ {A = Parts} (record { parts = before ++ one ∷ []; end = end }) (record { parts = before ++ other ∷ []; end = place })
 last_same before one other end place same ends = rw (same, ends) refl
 
-parts_more_written : (comps tiles : ℕ) (b : List ℕ) (n : ℕ) (before : List Part) (at : ℕ) → AreBytes b → marker_at b at 217 ≡ false → fault_after comps tiles b before at ≡ None
+parts_more_written : (comps tiles : ℕ) (b : List ℕ) (n : ℕ) (before : List Part) (at : ℕ) → AreBytes b → marker_at b at EOC ≡ false → fault_after comps tiles b before at ≡ None
     → PartsWritten comps tiles b (before ++ part_at comps b at ∷ []) (end_of_part (part_at comps b at)) (longest_parts comps tiles b n (before ++ part_at comps b at ∷ []) (end_of_part (part_at comps b at)))
     → PartsWritten comps tiles b before at (longest_parts comps tiles b n (before ++ part_at comps b at ∷ []) (end_of_part (part_at comps b at)))
 parts_more_written comps tiles b n before at are goes none later =
@@ -446,7 +447,7 @@ parts_more_written comps tiles b n before at are goes none later =
           let Q : Part → Type 0 = λ x. PartsWritten comps tiles b (before ++ x ∷ []) (at + length (part_bytes comps p)) (longest_parts comps tiles b n (before ++ part_at comps b at ∷ []) (end_of_part (part_at comps b at))) in
           parts_and comps tiles b before at (longest_parts comps tiles b n (before ++ part_at comps b at ∷ []) (end_of_part (part_at comps b at))) p here.is named spelled (subst Q here.placed (subst P here.end later))
       | inr last ↦
-          let eoc : marker_at b (end_of_part (part_at comps b at)) 217 ≡ true = ap (λ (m : ℕ). marker_at b m 217) last.1 ∙ last.2 in
+          let eoc : marker_at b (end_of_part (part_at comps b at)) EOC ≡ true = ap (λ (m : ℕ). marker_at b m EOC) last.1 ∙ last.2 in
           let stop = parts_stopped comps tiles b n (before ++ part_at comps b at ∷ []) (end_of_part (part_at comps b at)) (stop_at_eoc comps tiles b (before ++ part_at comps b at ∷ []) (end_of_part (part_at comps b at)) eoc) in
           let same : longest_parts comps tiles b n (before ++ part_at comps b at ∷ []) (end_of_part (part_at comps b at)) ≡ record { parts = before ++ part_of comps at p ∷ []; end = at + length (part_bytes comps p) } =
           stop ∙ last_same before (part_at comps b at) (part_of comps at p) (end_of_part (part_at comps b at)) (at + length (part_bytes comps p)) here.placed here.end in
@@ -454,9 +455,9 @@ parts_more_written comps tiles b n before at are goes none later =
           subst R (sym same) (parts_last comps tiles b before at p here.is last.0 spelled (sym here.end ∙ last.1))
     ]
 
-pub goes_on_at : (comps tiles : ℕ) (b : List ℕ) (parts : List Part) (at : ℕ) → parts_stop comps tiles b parts at ≡ false → marker_at b at 217 ≡ false
+pub goes_on_at : (comps tiles : ℕ) (b : List ℕ) (parts : List Part) (at : ℕ) → parts_stop comps tiles b parts at ≡ false → marker_at b at EOC ≡ false
 unfolding parts_stop
-goes_on_at comps tiles b parts at h = (or_parts (marker_at b at 217) (is_some (fault_after comps tiles b parts at)) h).0
+goes_on_at comps tiles b parts at h = (or_parts (marker_at b at EOC) (is_some (fault_after comps tiles b parts at)) h).0
 
 pub parts_written : (comps tiles : ℕ) (b : List ℕ) (n : ℕ) (before : List Part) (at : ℕ) → AreBytes b → PartsWritten comps tiles b before at (longest_parts comps tiles b n before at)
 unfolding longest_parts
@@ -489,17 +490,17 @@ no_stop true e f none h = cc
 no_stop false None f none h = cc
 no_stop false (Some e) f none h = cc
 
-eoc_of_stop : (comps tiles : ℕ) (b : List ℕ) (parts : List Part) (at : ℕ) → parts_stop comps tiles b parts at ≡ true → cond (marker_at b at 217) None (fault_after comps tiles b parts at) ≡ None → marker_at b at 217 ≡ true
+eoc_of_stop : (comps tiles : ℕ) (b : List ℕ) (parts : List Part) (at : ℕ) → parts_stop comps tiles b parts at ≡ true → cond (marker_at b at EOC) None (fault_after comps tiles b parts at) ≡ None → marker_at b at EOC ≡ true
 unfolding parts_stop
 eoc_of_stop comps tiles b parts at stop clear =
-    elim (cases_Bool (marker_at b at 217)) [
+    elim (cases_Bool (marker_at b at EOC)) [
       | inl t ↦ t
       | inr f ↦
           let none : fault_after comps tiles b parts at ≡ None = rw f at clear in
-          absurd (no_stop (marker_at b at 217) (fault_after comps tiles b parts at) f none stop)
+          absurd (no_stop (marker_at b at EOC) (fault_after comps tiles b parts at) f none stop)
     ]
 
 -- where nothing is violated EOC stands after the tile-parts
-pub eoc_there : (comps tiles : ℕ) (b : List ℕ) (at : ℕ) → parts_fault comps tiles b at ≡ None → marker_at b (parts_from comps tiles b at).end 217 ≡ true
+pub eoc_there : (comps tiles : ℕ) (b : List ℕ) (at : ℕ) → parts_fault comps tiles b at ≡ None → marker_at b (parts_from comps tiles b at).end EOC ≡ true
 eoc_there comps tiles b at clear =
     eoc_of_stop comps tiles b (parts_from comps tiles b at).parts (parts_from comps tiles b at).end (parts_end_there comps tiles b (length b) [] at (omega arith)) clear

@@ -3,6 +3,7 @@ use Rattle.std.proofs.Common.{◌≡◌, ◌∙◌, ◌<◌, ◌+◌, ℕ, true,
 use Rattle.std.specs.List.{flat_map, find}
 use Rattle.std.specs.Option.{option_or}
 use Rattle.std.proofs.lemmas.List.{append_assoc}
+use Rattle.jx_marker.specs.Codes.{SOC, SIZ, EOC}
 use Rattle.jx_marker.specs.declared.Segment.{Segment}
 use Rattle.jx_marker.specs.declared.Segment.TheVariants as segment
 use Rattle.jx_marker.specs.declared.Siz.{Siz}
@@ -59,23 +60,23 @@ pub record BodyOver (comps tiles : ℕ) (b : List ℕ) (main : List Segment) (pa
   pub end : (parts_after comps tiles b start).end ≡ start + length (all_bytes comps main) + length (flat_map (part_bytes comps) parts)
 
 pub body_over : (comps tiles : ℕ) (b rest : List ℕ) (main : List Segment) (parts : List TilePart) (start : ℕ) → 0 < length parts → AreTileParts comps tiles rest [] (start + length (all_bytes comps main)) parts
-    → AreSegments Main comps [] main → lacks_default main ≡ false → drop start b ≡ all_bytes comps main ++ (flat_map (part_bytes comps) parts ++ (255 ∷ 217 ∷ rest)) → BodyOver comps tiles b main parts start
+    → AreSegments Main comps [] main → lacks_default main ≡ false → drop start b ≡ all_bytes comps main ++ (flat_map (part_bytes comps) parts ++ (0xFF ∷ EOC ∷ rest)) → BodyOver comps tiles b main parts start
 unfolding main_fault
 body_over comps tiles b rest main parts start some are segments_fit defaults h =
-    let read = main_read comps tiles b rest (255 ∷ 217 ∷ rest) main parts [] (start + length (all_bytes comps main)) start some are segments_fit h in
+    let read = main_read comps tiles b rest (0xFF ∷ EOC ∷ rest) main parts [] (start + length (all_bytes comps main)) start some are segments_fit h in
     let place = start + length (all_bytes comps main) in
-    let there : drop place b ≡ flat_map (part_bytes comps) parts ++ (255 ∷ 217 ∷ rest) =
-    drop_on b start (length (all_bytes comps main)) (all_bytes comps main) (flat_map (part_bytes comps) parts ++ (255 ∷ 217 ∷ rest)) h refl in
+    let there : drop place b ≡ flat_map (part_bytes comps) parts ++ (0xFF ∷ EOC ∷ rest) =
+    drop_on b start (length (all_bytes comps main)) (all_bytes comps main) (flat_map (part_bytes comps) parts ++ (0xFF ∷ EOC ∷ rest)) h refl in
     let walked = parts_read comps tiles b parts [] place rest are there in
     let end = place + length (flat_map (part_bytes comps) parts) in
-    let eoc : marker_at b end 217 ≡ true = marker_is b end 217 rest (drop_on b place (length (flat_map (part_bytes comps) parts)) (flat_map (part_bytes comps) parts) (255 ∷ 217 ∷ rest) there refl) in
+    let eoc : marker_at b end EOC ≡ true = marker_is b end EOC rest (drop_on b place (length (flat_map (part_bytes comps) parts)) (flat_map (part_bytes comps) parts) (0xFF ∷ EOC ∷ rest) there refl) in
     let segments_are : (main_header comps b start).segments ≡ main = ap (λ (x : Header). x.segments) read.header in
     let end_is : (main_header comps b start).end ≡ place = ap (λ (x : Header). x.end) read.header in
     let after : parts_after comps tiles b start ≡ record { parts = placed comps place parts; end = end } = ap (λ (n : ℕ). parts_from comps tiles b n) end_is ∙ walked in
     record {
       main_clear = none_of_both (header_fault Main comps b start) (broken 17 (main_header comps b start).end (lacks_default (main_header comps b start).segments)) read.clear
           (broken_false 17 (main_header comps b start).end (lacks_default (main_header comps b start).segments) (ap lacks_default segments_are ∙ defaults));
-      parts_clear = ap (λ (x : Parts). cond (marker_at b x.end 217) None (fault_after comps tiles b x.parts x.end)) after ∙ rw eoc refl;
+      parts_clear = ap (λ (x : Parts). cond (marker_at b x.end EOC) None (fault_after comps tiles b x.parts x.end)) after ∙ rw eoc refl;
       segments = segments_are;
       all = ap (λ (x : Parts). x.parts) after;
       end = ap (λ (x : Parts). x.end) after;
@@ -102,8 +103,8 @@ pub record FrontRead (b : List ℕ) (siz : Siz) (later : List ℕ) : Type 0 wher
 pub front_read : (b : List ℕ) (siz : Siz) (later : List ℕ) → SizInRange siz → b ≡ spelling 1 segment.Soc ++ (spelling 1 (segment.Siz siz) ++ later) → FrontRead b siz later
 front_read b siz later range h =
     let second : drop 2 b ≡ spelling 1 (segment.Siz siz) ++ later = ap (λ (x : List ℕ). drop 2 x) h in
-    let soc : marker_at b 0 79 ≡ true = marker_is b 0 79 (spelling 1 (segment.Siz siz) ++ later) h in
-    let stands : marker_at b 2 81 ≡ true = marker_is b 2 81 (drop 2 (spelling 1 (segment.Siz siz) ++ later)) second in
+    let soc : marker_at b 0 SOC ≡ true = marker_is b 0 SOC (spelling 1 (segment.Siz siz) ++ later) h in
+    let stands : marker_at b 2 SIZ ≡ true = marker_is b 2 SIZ (drop 2 (spelling 1 (segment.Siz siz) ++ later)) second in
     let there = stands_there 1 b 2 (segment.Siz siz) later range second in
     let same : segment.Siz (siz_of b) ≡ segment.Siz siz = sym (siz_stands b stands) ∙ there.value in
     let start : after_siz b ≡ 2 + length (spelling 1 (segment.Siz siz)) = ap (λ (n : ℕ). 2 + n) there.takes in
@@ -140,7 +141,7 @@ pub is_read : (b : List ℕ) (s : Stream) → Spells b s → IsTold b s
 is_read b s spells =
     let comps = length s.siz.comps in
     let tiles = tile_number s.siz in
-    let later = all_bytes comps s.main ++ (flat_map (part_bytes comps) spells.parts ++ (255 ∷ 217 ∷ spells.rest)) in
+    let later = all_bytes comps s.main ++ (flat_map (part_bytes comps) spells.parts ++ (0xFF ∷ EOC ∷ spells.rest)) in
     let front = front_read b s.siz later spells.siz spells.bytes in
     let start = after_siz b in
     let place : first_sot s.siz s.main ≡ start + length (all_bytes comps s.main) = ap (λ (n : ℕ). n + length (all_bytes comps s.main)) (sym front.start) in

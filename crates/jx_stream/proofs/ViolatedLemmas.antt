@@ -3,6 +3,7 @@ use Rattle.std.proofs.Common.{◌≡◌, ◌∙◌, ◌<◌, ◌+◌, ℕ, zero,
 use Rattle.std.specs.List.{flat_map}
 use Rattle.std.specs.Option.{option_or}
 use Rattle.std.proofs.lemmas.List.{append-nil, append_assoc, drop-drop, length-append}
+use Rattle.jx_marker.specs.Codes.{EOC}
 use Rattle.jx_marker.specs.declared.Segment.{Segment}
 use Rattle.jx_marker.specs.declared.Segment.TheVariants as segment
 use Rattle.jx_marker.specs.declared.Siz.{Siz}
@@ -60,10 +61,10 @@ named_and comps tiles b before at res p is names spelled later = record {
   size = later.size ∙ omega (arith, length-append (part_bytes comps p) (flat_map (part_bytes comps) later.new));
 }
 
-named_more : (comps tiles : ℕ) (b : List ℕ) (n : ℕ) (before : List Part) (at : ℕ) → AreBytes b → marker_at b at 217 ≡ false → fault_after comps tiles b before at ≡ None
-    → (marker_at b (longest_parts comps tiles b n (before ++ part_at comps b at ∷ []) (end_of_part (part_at comps b at))).end 217 ≡ false
+named_more : (comps tiles : ℕ) (b : List ℕ) (n : ℕ) (before : List Part) (at : ℕ) → AreBytes b → marker_at b at EOC ≡ false → fault_after comps tiles b before at ≡ None
+    → (marker_at b (longest_parts comps tiles b n (before ++ part_at comps b at ∷ []) (end_of_part (part_at comps b at))).end EOC ≡ false
     → PartsNamed comps tiles b (before ++ part_at comps b at ∷ []) (end_of_part (part_at comps b at)) (longest_parts comps tiles b n (before ++ part_at comps b at ∷ []) (end_of_part (part_at comps b at))))
-    → marker_at b (longest_parts comps tiles b n (before ++ part_at comps b at ∷ []) (end_of_part (part_at comps b at))).end 217 ≡ false
+    → marker_at b (longest_parts comps tiles b n (before ++ part_at comps b at ∷ []) (end_of_part (part_at comps b at))).end EOC ≡ false
     → PartsNamed comps tiles b before at (longest_parts comps tiles b n (before ++ part_at comps b at ∷ []) (end_of_part (part_at comps b at)))
 named_more comps tiles b n before at are goes none later lacks =
     let here = part_written comps tiles b before at are goes none in
@@ -77,18 +78,18 @@ named_more comps tiles b n before at are goes none later lacks =
           let Q : Part → Type 0 = λ x. PartsNamed comps tiles b (before ++ x ∷ []) (at + length (part_bytes comps p)) res in
           named_and comps tiles b before at res p here.is names spelled (subst Q here.placed (subst P here.end (later lacks)))
       | inr last ↦
-          let eoc : marker_at b next 217 ≡ true = ap (λ (m : ℕ). marker_at b m 217) last.1 ∙ last.2 in
+          let eoc : marker_at b next EOC ≡ true = ap (λ (m : ℕ). marker_at b m EOC) last.1 ∙ last.2 in
           let stop = parts_stopped comps tiles b n (before ++ part_at comps b at ∷ []) next (stop_at_eoc comps tiles b (before ++ part_at comps b at ∷ []) next eoc) in
-          let wrong : true ≡ false = sym eoc ∙ sym (ap (λ (x : Parts). marker_at b x.end 217) stop) ∙ lacks in
+          let wrong : true ≡ false = sym eoc ∙ sym (ap (λ (x : Parts). marker_at b x.end EOC) stop) ∙ lacks in
           absurd (cc)
     ]
 
-parts_named : (comps tiles : ℕ) (b : List ℕ) (n : ℕ) (before : List Part) (at : ℕ) → AreBytes b → marker_at b (longest_parts comps tiles b n before at).end 217 ≡ false
+parts_named : (comps tiles : ℕ) (b : List ℕ) (n : ℕ) (before : List Part) (at : ℕ) → AreBytes b → marker_at b (longest_parts comps tiles b n before at).end EOC ≡ false
     → PartsNamed comps tiles b before at (longest_parts comps tiles b n before at)
 unfolding longest_parts
 parts_named comps tiles b zero before at are = λ lacks. named_none comps tiles b before at
 parts_named comps tiles b (suc n) before at are =
-    let P : Parts → Type 0 = λ x. marker_at b x.end 217 ≡ false → PartsNamed comps tiles b before at x in
+    let P : Parts → Type 0 = λ x. marker_at b x.end EOC ≡ false → PartsNamed comps tiles b before at x in
     elim (cases_Bool (parts_stop comps tiles b before at)) [
       | inl t ↦ subst P (sym (parts_stopped comps tiles b (suc n) before at t)) (λ lacks. named_none comps tiles b before at)
       | inr f ↦ subst P (sym (parts_going comps tiles b n before at f))
@@ -144,7 +145,7 @@ record UpTo (b : List ℕ) (siz : Siz) (main : List Segment) (parts : List TileP
   pub are : AreParts siz main parts
   pub bytes : b ≡ front_bytes siz main parts ++ drop (length (front_bytes siz main parts)) b
   pub first : SotThere (length siz.comps) b (first_sot siz main)
-  pub goes : marker_at b (length (front_bytes siz main parts)) 217 ≡ false
+  pub goes : marker_at b (length (front_bytes siz main parts)) EOC ≡ false
 
 some_or_clear : (b : List ℕ) (siz : Siz) (main : List Segment) (parts : List TilePart) → SotThere (length siz.comps) b (first_sot siz main)
     → (0 < length parts) ⊎ (start_fault (length siz.comps) b (length (front_bytes siz main parts)) ≡ None)
@@ -168,7 +169,7 @@ record SotSpelled (comps : ℕ) (b : List ℕ) (at : ℕ) : Type 0 where
   pub after : after_sot b at ≡ at + 12
   pub spelled : drop at b ≡ spelling comps (segment.Sot (sot_in b at)) ++ drop (after_sot b at) b
 
-sot_spelled : (comps : ℕ) (b : List ℕ) (at : ℕ) → AreBytes b → marker_at b at 217 ≡ false → start_fault comps b at ≡ None → SotSpelled comps b at
+sot_spelled : (comps : ℕ) (b : List ℕ) (at : ℕ) → AreBytes b → marker_at b at EOC ≡ false → start_fault comps b at ≡ None → SotSpelled comps b at
 sot_spelled comps b at are goes clear =
     let start = start_rules comps b at clear goes in
     let sot = sot_in b at in
@@ -338,7 +339,7 @@ is_main : (b : List ℕ) → MainClear b → IsMain (siz_of b) (main_header (len
 is_main b m = record { range = m.range; few = m.few; segments = m.spelled.are }
 
 up_to : (b : List ℕ) → AreBytes b → MainClear b → lacks_default (main_header (length (siz_of b).comps) b (after_siz b)).segments ≡ false
-    → marker_at b (parts_after (length (siz_of b).comps) (tile_number (siz_of b)) b (after_siz b)).end 217 ≡ false
+    → marker_at b (parts_after (length (siz_of b).comps) (tile_number (siz_of b)) b (after_siz b)).end EOC ≡ false
     → UpToHere b (siz_of b) (main_header (length (siz_of b).comps) b (after_siz b)).segments (parts_after (length (siz_of b).comps) (tile_number (siz_of b)) b (after_siz b))
 up_to b are m defaults lacks =
     let siz = siz_of b in
@@ -359,7 +360,7 @@ up_to b are m defaults lacks =
         bytes = main_front b m.spelled ∙ ap (λ (x : List ℕ). main_bytes siz main ++ x) pn.spelled ∙ sym (front_rest siz main pn.new (drop res.end b))
             ∙ ap (λ (n : ℕ). front_bytes siz main pn.new ++ drop n b) place;
         first = subst Q m.spelled.place (first_there comps b (after_siz b) are m.header);
-        goes = ap (λ (n : ℕ). marker_at b n 217) (sym place) ∙ lacks;
+        goes = ap (λ (n : ℕ). marker_at b n EOC) (sym place) ∙ lacks;
       };
       all = pn.all ∙ ap (λ (n : ℕ). placed comps n pn.new) m.spelled.place;
       end = place;
@@ -377,7 +378,7 @@ parts_told b f are m defaults h =
     let tiles = tile_number siz in
     let main = (main_header comps b (after_siz b)).segments in
     let res = parts_after comps tiles b (after_siz b) in
-    let here = cond_some (marker_at b res.end 217) (fault_after comps tiles b res.parts res.end) f h in
+    let here = cond_some (marker_at b res.end EOC) (fault_after comps tiles b res.parts res.end) f h in
     let up = up_to b are m defaults here.0 in
     after_told b siz main up.parts f are up.up
     (ap (λ (x : List Part). fault_after comps tiles b x (length (front_bytes siz main up.parts))) (sym up.all) ∙ ap (λ (n : ℕ). fault_after comps tiles b res.parts n) (sym up.end) ∙ here.1)

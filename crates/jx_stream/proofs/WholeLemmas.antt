@@ -3,6 +3,7 @@ use Rattle.std.proofs.Common.{◌≡◌, ◌∙◌, ◌<◌, ◌+◌, ℕ, true,
 use Rattle.std.specs.List.{flat_map, find}
 use Rattle.std.specs.Option.{option_or}
 use Rattle.std.proofs.lemmas.List.{drop-drop}
+use Rattle.jx_marker.specs.Codes.{SOC, SIZ, EOC}
 use Rattle.jx_marker.specs.declared.Segment.{Segment}
 use Rattle.jx_marker.specs.declared.Segment.TheVariants as segment
 use Rattle.jx_marker.specs.declared.Siz.{Siz}
@@ -28,20 +29,20 @@ use Rattle.jx_stream.proofs.SpellLemmas.{header_spelled, parts_written, eoc_ther
 use Rattle.std.proofs.lemmas.Bool.{not-false}
 
 pub record FrontClear (b : List ℕ) : Type 0 where
-  pub soc : marker_at b 0 79 ≡ true
-  pub siz : marker_at b 2 81 ≡ true
+  pub soc : marker_at b 0 SOC ≡ true
+  pub siz : marker_at b 2 SIZ ≡ true
   pub rules : first_broken 1 (drop 2 b) ≡ None
 
 pub front_is_clear : (b : List ℕ) → front_fault b ≡ None → FrontClear b
 unfolding front_fault
 front_is_clear b h =
-    let soc = broken 15 0 (not (marker_at b 0 79)) in
-    let siz = broken 16 2 (not (marker_at b 2 81)) in
+    let soc = broken 15 0 (not (marker_at b 0 SOC)) in
+    let siz = broken 16 2 (not (marker_at b 2 SIZ)) in
     let rules = rule_at 2 (first_broken 1 (drop 2 b)) in
     let later = none_later soc (option_or siz rules) h in
     record {
-      soc = not-false (marker_at b 0 79) (broken_none 15 0 (not (marker_at b 0 79)) (none_first soc (option_or siz rules) h));
-      siz = not-false (marker_at b 2 81) (broken_none 16 2 (not (marker_at b 2 81)) (none_first siz rules later));
+      soc = not-false (marker_at b 0 SOC) (broken_none 15 0 (not (marker_at b 0 SOC)) (none_first soc (option_or siz rules) h));
+      siz = not-false (marker_at b 2 SIZ) (broken_none 16 2 (not (marker_at b 2 SIZ)) (none_first siz rules later));
       rules = rule_none 2 (first_broken 1 (drop 2 b)) (none_later siz rules later);
     }
 
@@ -109,8 +110,8 @@ front_spelled b are clear =
     record {
       range = begins.range;
       start = ap (λ (n : ℕ). 2 + n) size;
-      bytes = marker_there b 0 79 clear.soc (omega arith)
-          ∙ ap (λ (x : List ℕ). 255 ∷ 79 ∷ x) (begins.spelled ∙ ap (λ (x : List ℕ). spelling 1 (segment.Siz siz) ++ x) (drop-drop (size_at (drop 2 b)) 2 b));
+      bytes = marker_there b 0 SOC clear.soc (omega arith)
+          ∙ ap (λ (x : List ℕ). 0xFF ∷ SOC ∷ x) (begins.spelled ∙ ap (λ (x : List ℕ). spelling 1 (segment.Siz siz) ++ x) (drop-drop (size_at (drop 2 b)) 2 b));
     }
 
 -- the main header after them
@@ -129,12 +130,12 @@ main_spelled b are front =
     record {
       are = w.are;
       place = w.size ∙ ap (λ (n : ℕ). n + length (all_bytes comps main)) front.start;
-      bytes = front.bytes ∙ ap (λ (x : List ℕ). 255 ∷ 79 ∷ (spelling 1 (segment.Siz siz) ++ x)) w.spelled;
+      bytes = front.bytes ∙ ap (λ (x : List ℕ). 0xFF ∷ SOC ∷ (spelling 1 (segment.Siz siz) ++ x)) w.spelled;
     }
 
 -- where a header ends no EOC stands, so a tile-part does
 some_part : (comps : ℕ) (b : List ℕ) (at end : ℕ) (rest : List ℕ) (new : List TilePart) → ends_header (segment_at comps (drop at b)) ≡ true
-    → drop at b ≡ flat_map (part_bytes comps) new ++ drop end b → drop end b ≡ 255 ∷ 217 ∷ rest → 0 < length new
+    → drop at b ≡ flat_map (part_bytes comps) new ++ drop end b → drop end b ≡ 0xFF ∷ EOC ∷ rest → 0 < length new
 some_part comps b at end rest [] ends spelled eoc =
     let there : segment_at comps (drop at b) ≡ segment.Eoc = ap (λ (x : List ℕ). segment_at comps x) (spelled ∙ eoc) in
     let wrong : false ≡ true = sym (ap ends_header there) ∙ ends in
@@ -165,13 +166,13 @@ up_to_eoc b are clear few header defaults no_part =
     let m = main_spelled b are front in
     let pw = parts_written comps tiles b (length b) [] place are in
     let rest = drop (res.end + 2) b in
-    let eoc : drop res.end b ≡ 255 ∷ 217 ∷ rest = marker_there b res.end 217 (eoc_there comps tiles b place no_part) (omega arith) in
+    let eoc : drop res.end b ≡ 0xFF ∷ EOC ∷ rest = marker_there b res.end EOC (eoc_there comps tiles b place no_part) (omega arith) in
     let P : ℕ → Type 0 = λ n. AreTileParts comps tiles rest [] n pw.new in
     record {
       parts = pw.new;
       rest = rest;
       whole = record {
-        bytes = m.bytes ∙ ap (λ (x : List ℕ). 255 ∷ 79 ∷ (spelling 1 (segment.Siz siz) ++ (all_bytes comps main ++ x))) (pw.spelled ∙ ap (λ (x : List ℕ). flat_map (part_bytes comps) pw.new ++ x) eoc);
+        bytes = m.bytes ∙ ap (λ (x : List ℕ). 0xFF ∷ SOC ∷ (spelling 1 (segment.Siz siz) ++ (all_bytes comps main ++ x))) (pw.spelled ∙ ap (λ (x : List ℕ). flat_map (part_bytes comps) pw.new ++ x) eoc);
         front = record { range = front.range; few = few; segments = m.are };
         defaults = defaults;
         some = some_part comps b place res.end rest pw.new (header_ends Main comps b start header) pw.spelled eoc;

@@ -4,6 +4,7 @@
 use Rattle.std.specs.Prelude.{ℕ, ◌+◌, ◌==◌, ◌&&◌, not, nat_lt, Bool, List, length, drop, Option, None, Some, if◌then◌else◌}
 use Rattle.std.specs.List.{list_any, range_with_len}
 use Rattle.std.specs.Option.{option_or}
+use Rattle.jx_marker.specs.Codes.{SOC, SIZ}
 use Rattle.jx_marker.specs.declared.Segment.{Segment}
 use Rattle.jx_marker.specs.declared.Siz.{Siz}
 use Rattle.jx_marker.specs.Rules.{first_broken}
@@ -39,7 +40,7 @@ after_siz b = 2 + size_at (drop 2 b)
 
 -- rules 15 and 16, then those of SIZ
 unfoldable pub front_fault : List ℕ → Option StreamFault
-front_fault b = option_or (broken 15 0 (not (marker_at b 0 79))) (option_or (broken 16 2 (not (marker_at b 2 81))) (rule_at 2 (first_broken 1 (drop 2 b))))
+front_fault b = option_or (broken 15 0 (not (marker_at b 0 SOC))) (option_or (broken 16 2 (not (marker_at b 2 SIZ))) (rule_at 2 (first_broken 1 (drop 2 b))))
 
 -- limit 3: more than 65,535 tiles
 unfoldable pub tiles_fault : Siz → Option StreamFault

@@ -2,6 +2,7 @@
 use Rattle.std.specs.Prelude.{◌≡◌, ◌<◌, ℕ, zero, suc, ◌+◌, ◌-◌, ◌==◌, ◌&&◌, ◌||◌, not, nat_lt, nat_le, Bool, List, [], ◌∷◌, ◌++◌, length, drop, Option, None, if◌then◌else◌, slice_index}
 use Rattle.std.specs.List.{list_any, filter}
 use Rattle.std.specs.Option.{option_or, is_some}
+use Rattle.jx_marker.specs.Codes.{SOT, EOC}
 use Rattle.jx_marker.specs.declared.Sot.{Sot}
 use Rattle.jx_marker.specs.Rules.{first_broken}
 use Rattle.jx_marker.specs.Segments.{size_at, body_at}
@@ -58,7 +59,7 @@ tables_say counts told sot = is_out_of_turn sot (slice_index counts sot.tile) (n
 
 -- what is violated where a tile-part is due: rule 23, where neither SOT nor EOC stands there, then the rules 1 to 14
 unfoldable pub start_fault : ℕ → List ℕ → ℕ → Option StreamFault
-start_fault comps b at = option_or (broken 23 at (not (marker_at b at 144 || marker_at b at 217))) (rule_at at (first_broken comps (drop at b)))
+start_fault comps b at = option_or (broken 23 at (not (marker_at b at SOT || marker_at b at EOC))) (rule_at at (first_broken comps (drop at b)))
 
 -- what is violated by a SOT: rule 20, a tile that isn't there, then the rules 21 and 22
 unfoldable pub sot_fault : ℕ → List ℕ → ℕ → Sot → Bool → Option StreamFault
@@ -68,7 +69,7 @@ sot_fault tiles b at sot out = option_or (option_or (broken 20 at (nat_le tiles 
 -- overlaps the header; else rule 22, where SOD ends past the tile-part
 unfoldable pub sod_fault : List ℕ → ℕ → Sot → ℕ → Option StreamFault
 sod_fault b at sot sod =
-    if sot.psot == 0 then broken 23 (length b - 2) (not (marker_at b (length b - 2) 217) || nat_lt (length b - 2) (sod + 2))
+    if sot.psot == 0 then broken 23 (length b - 2) (not (marker_at b (length b - 2) EOC) || nat_lt (length b - 2) (sod + 2))
     else broken 22 at (nat_lt (at + sot.psot) (sod + 2))
 
 -- where a tile-part ends: where Psot says, or two bytes before the file's end
@@ -110,7 +111,7 @@ end_of_part p = p.body.at + p.body.length
 
 -- the tile-parts end at this place, with EOC or with a rule that is violated
 unfoldable pub parts_stop : ℕ → ℕ → List ℕ → List Part → ℕ → Bool
-parts_stop comps tiles b parts at = marker_at b at 217 || is_some (fault_after comps tiles b parts at)
+parts_stop comps tiles b parts at = marker_at b at EOC || is_some (fault_after comps tiles b parts at)
 
 -- tile-parts, and the place after them
 pub record Parts : Type 0 where
@@ -131,7 +132,7 @@ parts_from comps tiles b at = longest_parts comps tiles b (length b) [] at
 -- what is violated where the tile-parts from a place on stop
 abbrev pub parts_fault : ℕ → ℕ → List ℕ → ℕ → Option StreamFault
 parts_fault comps tiles b at =
-    if marker_at b (parts_from comps tiles b at).end 217 then None
+    if marker_at b (parts_from comps tiles b at).end EOC then None
     else fault_after comps tiles b (parts_from comps tiles b at).parts (parts_from comps tiles b at).end
 
 -- tables by tiles: how many tile-parts each had, and a TNsot that it told, or 0

@@ -1,6 +1,7 @@
 ghost use Rattle.std.specs.Prelude.{◌≡◌, ◌≢◌, ◌≤◌, ◌<◌, ◌+◌, ◌-◌, ◌^◌, ◌==◌, ◌&&◌, not, nat_lt, true, false, length, drop, slice_index, slice_set, IfOk, IfErr, MatchOption, Some, None, ℕ, [], if◌then◌else◌};
 ghost use Rattle.jx_marker.specs.declared.Segment.{Segment};
 ghost use Rattle.jx_marker.specs.declared.Sot.{Sot};
+ghost use Rattle.jx_marker.specs.Codes.{EOC};
 ghost use Rattle.jx_marker.specs.Segments.{segment_at};
 ghost use Rattle.std.specs.List.{All};
 ghost use Rattle.jx_stream.specs.declared.parts.Part.{Part};
@@ -10,13 +11,9 @@ ghost use Rattle.jx_stream.specs.Parts.{marker_at, sot_in, after_sot, kind_of, s
 
 use crate::headers::{HeaderKind, fault_of, read_header, violated};
 use crate::{Body, Segments, StreamFault};
+use jx_marker::codes::{EOC, SOT};
 use jx_marker::{Segment, Sot, read_segment};
 use std::alloc::Global;
-
-/// The second byte of EOC.
-const EOC: u8 = 217;
-/// The second byte of SOT.
-const SOT: u8 = 144;
 
 /// One tile-part.
 #[derive(Drop)]
@@ -55,7 +52,7 @@ fn sot_of(segment: &Segment) -> Option<Sot>
 fn read_sot(alloc: Global, bytes: &[u8], at: usize, comps: u16) -> Result<(Sot, usize), StreamFault>
     requires place { at ≤ length bytes.now }
     requires fits { length bytes.now ≤ 2 ^ 28 }
-    requires goes_on { marker_at bytes.now at 217 ≡ false }
+    requires goes_on { marker_at bytes.now at EOC ≡ false }
     ensures answer { Answers result (start_fault comps bytes.now at) (λ r. (r.0 ≡ sot_in bytes.now at) × (r.1 ≡ after_sot bytes.now at)) }
     ensures within { IfOk result (λ r. (at < r.1) × (r.1 ≤ length bytes.now)) }
 {
@@ -166,7 +163,7 @@ fn read_part(
 ) -> Result<Part, StreamFault>
     requires place { at ≤ length bytes.now }
     requires fits { length bytes.now ≤ 2 ^ 28 }
-    requires goes_on { marker_at bytes.now at 217 ≡ false }
+    requires goes_on { marker_at bytes.now at EOC ≡ false }
     requires slots { length seen.old ≡ slot_count comps }
     requires fresh { (slot : ℕ) → slice_index seen.old slot ≤ at }
     requires tables { length told.now ≡ length counts.now }

@@ -22,13 +22,10 @@ use crate::parts::{Part, has_marker, read_parts};
 use crate::tiles::tiles_of;
 use crate::{Segments, Stream, StreamFault, Tile, Tiles};
 use jx_geom::{Canvas, tiles};
+use jx_marker::codes::{SIZ, SOC};
 use jx_marker::{Segment, Siz, read_segment};
 use std::alloc::{AllocError, Global};
 
-/// The second byte of SOC.
-const SOC: u8 = 79;
-/// The second byte of SIZ.
-const SIZ: u8 = 81;
 /// The most tiles.
 const TILES: u64 = 65_535;
 

@@ -1,6 +1,7 @@
 use Rattle.std.proofs.Common.{◌≡◌, ◌+◌, ◌∙◌, ap, arith, get_or, sym}
 use Rattle.std.proofs.lemmas.Bool.Decides.{nat_tests}
 use Rattle.byteorder.specs.Endian.{big_from}
+use Rattle.jx_marker.specs.Codes.{PPM, PPT, SOT}
 use Rattle.jx_marker.specs.declared.Segment.TheVariants as segment
 use Rattle.jx_marker.specs.Segments.{value_of}
 use Rattle.jx_marker.specs.Values.{index_at, quant_at, shape_at}
@@ -53,11 +54,11 @@ bounds-body-index_size c =
 
 pub read_sot-requires : goal.read_sot-requires
 read_sot-requires c =
-    let is : c.args.code ≡ 144 = sot_left c.args.code c.requires.marker
+    let is : c.args.code ≡ SOT = sot_left c.args.code c.requires.marker
     (grind (arith, nat_tests, c.in_default)) (grind (arith, nat_tests, c.in_default)) (grind (arith, nat_tests, c.in_default))
     (grind (arith, nat_tests, c.in_default)) (grind (arith, nat_tests, c.in_default)) (grind (arith, nat_tests, c.in_default))
     (grind (arith, nat_tests, c.in_default)) (grind (arith, nat_tests, c.in_default)) (grind (arith, nat_tests, c.in_default))
-    (grind (arith, nat_tests, c.in_default)) (ne_eqb c.args.code 96 c.requires.not_ppm) (ne_eqb c.args.code 97 c.requires.not_ppt)
+    (grind (arith, nat_tests, c.in_default)) (ne_eqb c.args.code PPM c.requires.not_ppm) (ne_eqb c.args.code PPT c.requires.not_ppt)
     (grind (arith, nat_tests, c.in_default)) (grind (arith, nat_tests, c.in_default)) in
     omega (arith, c.requires.sot is)
 
@@ -111,10 +112,10 @@ returns-in_ok-bytes_of-in-85 c = ap segment.Tlm c.in_ok-bytes_of-in-85.ensures �
 
 pub returns-in_default : goal.returns-in_default
 returns-in_default c =
-    let is : c.args.code ≡ 144 = sot_left c.args.code c.requires.marker
+    let is : c.args.code ≡ SOT = sot_left c.args.code c.requires.marker
     (grind (arith, nat_tests, c.in_default)) (grind (arith, nat_tests, c.in_default)) (grind (arith, nat_tests, c.in_default))
     (grind (arith, nat_tests, c.in_default)) (grind (arith, nat_tests, c.in_default)) (grind (arith, nat_tests, c.in_default))
     (grind (arith, nat_tests, c.in_default)) (grind (arith, nat_tests, c.in_default)) (grind (arith, nat_tests, c.in_default))
-    (grind (arith, nat_tests, c.in_default)) (ne_eqb c.args.code 96 c.requires.not_ppm) (ne_eqb c.args.code 97 c.requires.not_ppt)
+    (grind (arith, nat_tests, c.in_default)) (ne_eqb c.args.code PPM c.requires.not_ppm) (ne_eqb c.args.code PPT c.requires.not_ppt)
     (grind (arith, nat_tests, c.in_default)) (grind (arith, nat_tests, c.in_default)) in
     ap segment.Sot c.read_sot.ensures ∙ sym (ap (λ k. value_of c.args.comps k c.args.body.now) is)

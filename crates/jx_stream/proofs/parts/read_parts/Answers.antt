@@ -6,6 +6,7 @@ use Rattle.jx_stream.specs.Parts.{fault_after, marker_at, part_fault, tables_say
 use Rattle.jx_stream.proofs.FaultLemmas.{cause_same}
 use Rattle.jx_stream.proofs.PartLemmas.{parts_end, parts_refused, parts_more, turn_at, tracks_more}
 use Rattle.jx_stream.proofs.parts.read_parts.Goals as goal
+use Rattle.jx_marker.specs.Codes.{EOC}
 
 pub returns-then-has_marker-clause-answer : goal.returns-then-has_marker-clause-answer
 returns-then-has_marker-clause-answer c =
@@ -27,7 +28,7 @@ parts-preserved c =
     let sizes : length c.parts.told ≡ length c.parts.counts = c.parts.auto.told ∙ c.requires.tables ∙ sym c.parts.auto.counts in
     let clear : fault_after c.args.comps (length c.args.counts.now) c.args.bytes.now c.parts.parts.items c.parts.place ≡ None =
     sym (turn_at c.args.comps (length c.args.counts.now) c.args.bytes.now c.parts.parts.items c.parts.counts c.parts.told c.parts.place c.parts.auto.counts sizes c.parts.invariant.tracks) ∙ c.in_ok-part.ensures.answer.0 in
-    let goes : marker_at c.args.bytes.now c.parts.place 217 ≡ false = sym c.has_marker.ensures ∙ c.if-has_marker.false in
+    let goes : marker_at c.args.bytes.now c.parts.place EOC ≡ false = sym c.has_marker.ensures ∙ c.if-has_marker.false in
     record {
       within = omega (arith, c.end_of_part-place.ensures, c.in_ok-part.ensures.within.1);
       same = parts_more c.args.comps (length c.args.counts.now) c.args.bytes.now c.args.at c.parts.parts.items c.parts.place c.parts.invariant.same c.push.new.self.items c.in_ok-part.part c.end_of_part-place.result

@@ -1,4 +1,4 @@
-use Rattle.std.proofs.Common.{◌∙◌, ◌∷◌, [], length, arith, ap, List}
+use Rattle.std.proofs.Common.{◌∷◌, [], length, arith, ap, List}
 use Rattle.std.proofs.lemmas.List.{length-append}
 use Rattle.jx_stream.specs.declared.tiles.Draft.{Draft}
 use Rattle.jx_stream.proofs.TileLemmas.{empties_more}

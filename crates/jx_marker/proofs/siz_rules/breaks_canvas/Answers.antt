@@ -4,7 +4,7 @@ use Rattle.std.specs.List.{list_all}
 use Rattle.jx_marker.specs.Values.{values_from, comp_size_at}
 use Rattle.jx_marker.specs.Rules.{axis_fits, comp_size_fits}
 use Rattle.jx_marker.proofs.RuleLemmas.{canvas_broken}
-use Rattle.jx_marker.proofs.rules.breaks_canvas.Goals as goal
+use Rattle.jx_marker.proofs.siz_rules.breaks_canvas.Goals as goal
 
 pub returns : goal.returns
 returns c =
