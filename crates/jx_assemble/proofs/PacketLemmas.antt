@@ -6,7 +6,8 @@ use Rattle.std.proofs.lemmas.List.FromFn.{get_or-map-range_with_len, length-map-
 use Rattle.jx_base.specs.declared.pieces.Block.{Block}
 use Rattle.jx_geom.specs.Geometry.{Geometry}
 use Rattle.jx_stream.specs.declared.Stream.{Stream}
-use Rattle.jx_gather.specs.Written.{Written, eph_bytes, packet_bytes, sop_bytes}
+use Rattle.jx_marker.specs.Codes.{eph_spelling}
+use Rattle.jx_gather.specs.Written.{Written, packet_bytes, sop_bytes}
 use Rattle.jx_assemble.specs.Own.{IsSending}
 use Rattle.jx_assemble.specs.declared.sending.Sending.{Sending}
 use Rattle.jx_assemble.proofs.SendingsLemmas.{IsSendingOf}
@@ -33,10 +34,10 @@ row_of {X} f n i rows is lt = ap (λ (xs : List (List X)). slice_index_or xs i [
 pub packet_long : (w : Written) (number : ℕ) → length (packet_bytes number w) ≡ ((if w.sop then 6 else 0) + (if w.eph then 2 else 0)) + length w.header + length w.bytes
 packet_long w number = by w.sop w.eph
   where
-    by : (a b : Bool) → length (cond a (sop_bytes number) [] ++ (w.header ++ (cond b eph_bytes [] ++ w.bytes))) ≡ (cond a 6 0 + cond b 2 0) + length w.header + length w.bytes
-    by true true = let e : length (w.header ++ (eph_bytes ++ w.bytes)) ≡ length w.header + length (eph_bytes ++ w.bytes) = length-append w.header (eph_bytes ++ w.bytes) in omega arith
+    by : (a b : Bool) → length (cond a (sop_bytes number) [] ++ (w.header ++ (cond b eph_spelling [] ++ w.bytes))) ≡ (cond a 6 0 + cond b 2 0) + length w.header + length w.bytes
+    by true true = let e : length (w.header ++ (eph_spelling ++ w.bytes)) ≡ length w.header + length (eph_spelling ++ w.bytes) = length-append w.header (eph_spelling ++ w.bytes) in omega arith
     by true false = let e : length (w.header ++ w.bytes) ≡ length w.header + length w.bytes = length-append w.header w.bytes in omega arith
-    by false true = let e : length (w.header ++ (eph_bytes ++ w.bytes)) ≡ length w.header + length (eph_bytes ++ w.bytes) = length-append w.header (eph_bytes ++ w.bytes) in omega arith
+    by false true = let e : length (w.header ++ (eph_spelling ++ w.bytes)) ≡ length w.header + length (eph_spelling ++ w.bytes) = length-append w.header (eph_spelling ++ w.bytes) in omega arith
     by false false = let e : length (w.header ++ w.bytes) ≡ length w.header + length w.bytes = length-append w.header w.bytes in omega arith
 
 -- four lists appended one after another

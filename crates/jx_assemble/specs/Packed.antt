@@ -13,7 +13,8 @@ use Rattle.jx_stream.specs.Params.{header_of}
 use Rattle.jx_stream.specs.Shapes.{layers_of, style_of}
 use Rattle.jx_stream.specs.Spells.{TilePart}
 use Rattle.jx_gather.specs.Cells.{precinct_bands}
-use Rattle.jx_gather.specs.Written.{Packets, Written, bytes_from, eph_bytes, packet_bytes, sop_bytes}
+use Rattle.jx_marker.specs.Codes.{eph_spelling}
+use Rattle.jx_gather.specs.Written.{Packets, Written, bytes_from, packet_bytes, sop_bytes}
 use Rattle.jx_plan.specs.declared.Marks.{Marks as Asked}
 use Rattle.jx_plan.specs.Groups.{groups_of}
 use Rattle.jx_assemble.specs.Own.{leaf_bytes, own_header, own_leaves}
@@ -42,7 +43,7 @@ abbrev pub sop_of : Bool → ℕ → List ℕ
 sop_of sop number = if sop then sop_bytes number else []
 
 abbrev pub eph_of : Bool → List ℕ
-eph_of eph = if eph then eph_bytes else []
+eph_of eph = if eph then eph_spelling else []
 
 -- how many bytes they take
 abbrev pub marks_length : Asked → ℕ

@@ -1,9 +1,8 @@
 -- A packet that is written stands in front of what follows it: its marks, header and coded bytes are told apart again.
-use Rattle.std.proofs.Common.{◌≡◌, ℕ, zero, suc, ◌+◌, ◌*◌, ◌/◌, ◌%◌, ◌<◌, ◌≤◌, ◌==◌, ◌&&◌, nat_lt, Bool, true, false, List, [], ◌∷◌, ◌++◌, length, take, drop, refl, sym, ap, ◌∙◌, subst, cond, arith, Some, None, inl, inr, find, slice_index, append_assoc, append-nil, length-append, length-drop, Ok}
+use Rattle.std.proofs.Common.{◌≡◌, ℕ, zero, suc, ◌+◌, ◌%◌, ◌<◌, ◌≤◌, ◌==◌, ◌&&◌, nat_lt, Bool, true, false, List, [], ◌∷◌, ◌++◌, length, take, drop, refl, sym, ap, ◌∙◌, subst, cond, arith, Some, None, inl, inr, find, slice_index, append_assoc, append-nil, length-append, length-drop, Ok}
 use Rattle.std.specs.List.{range_with_len}
 use Rattle.std.proofs.lemmas.Bool.{cases_eq}
 use Rattle.std.proofs.lemmas.Bool.Decides.{nat_tests}
-use Rattle.std.proofs.lemmas.Nat.{div-add-mod'}
 use Rattle.std.proofs.lemmas.List.{take-append-le, drop-append-le}
 use Rattle.std.proofs.lemmas.List.Sums.{sum_by-cons}
 use Rattle.std.proofs.Math.Seq.{take-append_seam, drop-append_seam}
@@ -13,10 +12,11 @@ use Rattle.jx_tagtree.proofs.LawLemmas.{ends_at, clean_pair}
 use Rattle.jx_head.specs.declared.Part.{Part}
 use Rattle.jx_head.specs.Packet.{State, IsPacket, header_bits, bands_bits}
 use Rattle.jx_order.specs.declared.names.PacketName.{PacketName}
-use Rattle.jx_gather.specs.Data.{begins_with, has_sop, sop_fault, sop_length, eph_length, header_in, front_length, parts_length, is_marked, first_mark, marks_fault, body_fault}
+use Rattle.jx_gather.specs.Data.{begins_with, has_sop, sop_fault, sop_length, eph_length, header_in, front_length, parts_length, is_marked, first_mark, marks_fault, body_fault, number_at}
 use Rattle.jx_gather.specs.Cuts.{Cut, IsCut}
-use Rattle.jx_gather.specs.Written.{Written, sop_bytes, eph_bytes, packet_bytes, AreClear}
+use Rattle.jx_gather.specs.Written.{Written, sop_bytes, packet_bytes, AreClear}
 use Rattle.jx_gather.proofs.MarkLemmas.{later_mark}
+use Rattle.jx_marker.specs.Codes.{SOP, EPH, eph_spelling}
 
 -- ---- headers
 -- a header has a byte, and no marker stands in front of it
@@ -94,10 +94,10 @@ pieces_start (p ∷ parts) bytes clear long = by p.length refl (λ bs c l. piece
         again bytes (subst (λ (n : ℕ). AreClear parts (drop n bytes)) e clear.1) (let sum : parts_length (p ∷ parts) ≡ p.length + parts_length parts = parts_sum p parts in omega arith)
     by (suc m) e again = piece_starts m bytes (subst (λ (n : ℕ). HasNoMarker 0 (take n bytes)) e clear.0)
 
-piece_no_mark : (bytes rest : List ℕ) → StartsPiece bytes → begins_with rest 146 ≡ false → begins_with (bytes ++ rest) 146 ≡ false
+piece_no_mark : (bytes rest : List ℕ) → StartsPiece bytes → begins_with rest EPH ≡ false → begins_with (bytes ++ rest) EPH ≡ false
 piece_no_mark [] rest s none = none
-piece_no_mark (byte ∷ []) rest s none = not_first byte (slice_index (byte ∷ rest) 1) 146 s
-piece_no_mark (byte ∷ next ∷ more) rest s none = not_next byte next 146 143 s (omega arith)
+piece_no_mark (byte ∷ []) rest s none = not_first byte (slice_index (byte ∷ rest) 1) EPH s
+piece_no_mark (byte ∷ next ∷ more) rest s none = not_next byte next EPH 143 s (omega arith)
 
 -- rule 30
 none_found : (p : ℕ → Bool) (a n : ℕ) → ((i : ℕ) → i < n → p (a + i) ≡ false) → find p (range_with_len a n) ≡ None
@@ -144,19 +144,19 @@ pub record Front (c : Bool) (number : ℕ) (tail w : List ℕ) : Type 0 where
   pub header : header_in w ≡ tail
   pub length_is : sop_length w ≡ length {A = ℕ} (cond c (sop_bytes number) [])
 
-two_bytes : (n : ℕ) → (n / 256 * 256 + n % 256 == n) ≡ true
-two_bytes n = let e : n / 256 * 256 + n % 256 ≡ n = div-add-mod' n 256 in grind (arith, nat_tests)
+two_bytes : (number : ℕ) → (number_at (sop_bytes number) 4 == number % 65536) ≡ true
+two_bytes number = let e : number_at (sop_bytes number) 4 ≡ number % 65536 = omega arith in grind (arith, nat_tests)
 
 sop_long : (n : ℕ) → nat_lt (suc (suc (suc (suc (suc (suc n)))))) 6 ≡ false
 sop_long n = grind (arith, nat_tests)
 
 front_is : (c : Bool) (number : ℕ) (tail : List ℕ) → has_sop tail ≡ false → Front c number tail (cond c (sop_bytes number) [] ++ tail)
 unfolding sop_fault header_in
-front_is true number tail none = record { fault = rw (sop_long (length tail), two_bytes (number % 65536)) refl; header = refl; length_is = refl }
+front_is true number tail none = record { fault = rw (sop_long (length tail), two_bytes number) refl; header = refl; length_is = refl }
 front_is false number tail none = record { fault = rw none refl; header = rw none refl; length_is = rw none refl }
 
 -- ---- EPH
-eph_is : (c : Bool) (tail : List ℕ) → begins_with tail 146 ≡ false → eph_length (cond c eph_bytes [] ++ tail) ≡ length {A = ℕ} (cond c eph_bytes [])
+eph_is : (c : Bool) (tail : List ℕ) → begins_with tail EPH ≡ false → eph_length (cond c eph_spelling [] ++ tail) ≡ length {A = ℕ} (cond c eph_spelling [])
 eph_is true tail none = refl
 eph_is false tail none = rw none refl
 
@@ -198,28 +198,28 @@ same_size false n m = refl
 
 pub packet_size : (n m : ℕ) (x : Written) → length (packet_bytes n x) ≡ length (packet_bytes m x)
 packet_size n m x =
-    let tail : List ℕ = x.header ++ (cond x.eph eph_bytes [] ++ x.bytes) in
+    let tail : List ℕ = x.header ++ (cond x.eph eph_spelling [] ++ x.bytes) in
     length-append (cond x.sop (sop_bytes n) []) tail ∙ ap (λ (k : ℕ). k + length tail) (same_size x.sop n m) ∙ sym (length-append (cond x.sop (sop_bytes m) []) tail)
 
 pub packet_some : (n : ℕ) (x : Written) → StartsClear x.header → 0 < length (packet_bytes n x)
 packet_some n x s =
     let some : 0 < length x.header = starts_some x.header s in
-    let tail : List ℕ = cond x.eph eph_bytes [] ++ x.bytes in
+    let tail : List ℕ = cond x.eph eph_spelling [] ++ x.bytes in
     omega (arith, length-append (cond x.sop (sop_bytes n) []) (x.header ++ tail), length-append x.header tail)
 
 pub cut_stands : (number : ℕ) (p : PacketName) (x : Written) (k after : State) (rest : List ℕ) → ((more : List ℕ) → IsPacket (x.header ++ more) k x.parts (length x.header) after)
-    → length x.bytes ≡ parts_length x.parts → AreClear x.parts x.bytes → begins_with rest 146 ≡ false → IsCut (packet_bytes number x ++ rest) number k (cut_with p x after)
+    → length x.bytes ≡ parts_length x.parts → AreClear x.parts x.bytes → begins_with rest EPH ≡ false → IsCut (packet_bytes number x ++ rest) number k (cut_with p x after)
 unfolding front_length
 cut_stands number p x k after rest stands long clear none =
     let w : List ℕ = packet_bytes number x ++ rest in
     let a : List ℕ = cond x.sop (sop_bytes number) [] in
-    let e : List ℕ = cond x.eph eph_bytes [] in
+    let e : List ℕ = cond x.eph eph_spelling [] in
     let behind : List ℕ = x.bytes ++ rest in
     let tail : List ℕ = x.header ++ (e ++ behind) in
     let starts = header_starts x.header k x.parts after stands in
     let whole : w ≡ a ++ tail = by_marks a x.header e x.bytes rest in
     let fronts : Front x.sop number tail w =
-    subst (λ (l : List ℕ). Front x.sop number tail l) (sym whole) (front_is x.sop number tail (header_no_mark x.header (e ++ behind) 145 starts (omega arith))) in
+    subst (λ (l : List ℕ). Front x.sop number tail l) (sym whole) (front_is x.sop number tail (header_no_mark x.header (e ++ behind) SOP starts (omega arith))) in
     let after_header : drop (length x.header) (header_in w) ≡ e ++ behind = ap (drop (length x.header)) fronts.header ∙ drop-append_seam x.header (e ++ behind) in
     let eph : eph_length (drop (length x.header) (header_in w)) ≡ length e =
     ap (λ (l : List ℕ). eph_length l) after_header ∙ eph_is x.eph behind (piece_no_mark x.bytes rest (pieces_start x.parts x.bytes clear long) none) in

@@ -17,28 +17,29 @@ use Rattle.jx_geom.specs.Precincts.{HasPrecinct}
 use Rattle.jx_gather.specs.Data.{window, due, behind, begins_with}
 use Rattle.jx_gather.specs.Cuts.{Cut, Left, IsCut, IsTurn, AreCuts, names_of, number_of}
 use Rattle.jx_gather.specs.Gathered.{IsCutUp, IsListOf, start}
-use Rattle.jx_gather.specs.Written.{Written, Packets, packet_bytes, sop_bytes, eph_bytes, next_layer, IsWritten, AreWritten, bytes_from, AreFilled, IsLaid, cut_at, cuts_at, packets_in}
+use Rattle.jx_gather.specs.Written.{Written, Packets, packet_bytes, sop_bytes, next_layer, IsWritten, AreWritten, bytes_from, AreFilled, IsLaid, cut_at, cuts_at, packets_in}
 use Rattle.jx_gather.proofs.FrontLemmas.{StartsClear, header_starts, header_no_mark, cut_stands, packet_size, packet_some}
 use Rattle.jx_gather.proofs.TurnLemmas.{Precincts, Listed, Turned, start_turned, own_turned, other_turned, each_precinct, has_precinct, due_named, layer_is, layer_after}
 use Rattle.jx_base.proofs.Lists.{push_on}
+use Rattle.jx_marker.specs.Codes.{EPH, eph_spelling}
 
 -- ---- bytes
 -- what follows a packet is no EPH
-after_packet : (c : Bool) (number : ℕ) (h tail : List ℕ) → StartsClear h → begins_with (cond c (sop_bytes number) [] ++ (h ++ tail)) 146 ≡ false
+after_packet : (c : Bool) (number : ℕ) (h tail : List ℕ) → StartsClear h → begins_with (cond c (sop_bytes number) [] ++ (h ++ tail)) EPH ≡ false
 after_packet true number h tail s = refl
-after_packet false number h tail s = header_no_mark h tail 146 s (omega arith)
+after_packet false number h tail s = header_no_mark h tail EPH s (omega arith)
 
-packets_start : (ps : Packets) (number : ℕ) (list : List PacketName) → ((q : PacketName) (more : List PacketName) → list ≡ q ∷ more → IsWritten ps q) → begins_with (bytes_from ps number list) 146 ≡ false
+packets_start : (ps : Packets) (number : ℕ) (list : List PacketName) → ((q : PacketName) (more : List PacketName) → list ≡ q ∷ more → IsWritten ps q) → begins_with (bytes_from ps number list) EPH ≡ false
 packets_start ps number [] written = refl
 packets_start ps number (q ∷ list) written =
     let x : Written = ps.written q in
     let is : IsWritten ps q = written q list refl in
-    let tail : List ℕ = cond x.eph eph_bytes [] ++ x.bytes in
+    let tail : List ℕ = cond x.eph eph_spelling [] ++ x.bytes in
     let rest : List ℕ = bytes_from ps (number + 1) list in
     let a : List ℕ = cond x.sop (sop_bytes number) [] in
     let whole : packet_bytes number x ++ rest ≡ a ++ (x.header ++ (tail ++ rest)) =
     append_assoc a (x.header ++ tail) rest ∙ ap (λ (l : List ℕ). a ++ l) (append_assoc x.header tail rest) in
-    ap (λ (l : List ℕ). begins_with l 146) whole
+    ap (λ (l : List ℕ). begins_with l EPH) whole
     ∙ after_packet x.sop number x.header (tail ++ rest) (header_starts x.header (ps.before q) x.parts (ps.before (next_layer q)) is.header)
 
 -- the data of a tile-part behind a packet
@@ -108,7 +109,7 @@ abbrev next_left : Geometry → Packets → PacketName → Left → Body → Lis
 next_left g ps p old body later = record { bodies = behind body (cut_at ps p).count ∷ later; states = set old.states (number_of g p) (ps.before (next_layer p)) }
 
 turn_made : (b : List ℕ) (s : Stream) (t : ℕ) (ps : Packets) (p : PacketName) (number : ℕ) (old : Left) (body : Body) (later : List Body) (rest : List ℕ) → Due s t ps old.states p
-    → due old.bodies ≡ body ∷ later → window b body ≡ packet_bytes number (ps.written p) ++ rest → begins_with rest 146 ≡ false
+    → due old.bodies ≡ body ∷ later → window b body ≡ packet_bytes number (ps.written p) ++ rest → begins_with rest EPH ≡ false
     → IsTurn b (geometry s t) number old (cut_at ps p) (next_left (geometry s t) ps p old body later)
 turn_made b s t ps p number old body later rest d first is none = record {
   body = body;
@@ -184,7 +185,7 @@ fills_part b s t ps list (p ∷ names) groups l again number (body ∷ bodies) d
     let long : body.length ≡ length (packet_bytes number x) + length rest = filled.1 ∙ length-append (packet_bytes number x) rest in
     let stand : due old.bodies ≡ body ∷ bodies = first ∙ due_some body bodies (omega arith) in
     let on : list ≡ (done ++ p ∷ []) ++ later = e ∙ sym (push_on done later p) in
-    let more : begins_with rest 146 ≡ false = packets_start ps (number + 1) names
+    let more : begins_with rest EPH ≡ false = packets_start ps (number + 1) names
     (λ q others is. (let f : list ≡ (done ++ p ∷ []) ++ (q ∷ (others ++ packets_in groups)) = on ∙ ap (λ (ns : List PacketName). (done ++ p ∷ []) ++ (ns ++ packets_in groups)) is in
     l.written.each q (due_named g (layers_of s t) list (done ++ p ∷ []) (others ++ packets_in groups) q l.listed f))) in
     let next : Left = next_left g ps p old body bodies in

@@ -30,6 +30,7 @@ pub mod LeafLemmas
 pub mod CarryLemmas
 pub mod KeptLemmas
 pub mod EitherLemmas
+pub mod FillLemmas
 pub mod PlannedLemmas
 pub mod LayersFew
 pub mod CutRuns

@@ -66,7 +66,7 @@ of_shape {Y} f tile s c precincts blocks empty = elim (cases_lt 0 (size_of (comp
 ]
 
 -- of a tile
-of_tile : {Y : Type 0} (f : ℕ → ℕ → List Y) (g : Geometry)
+pub of_tile : {Y : Type 0} (f : ℕ → ℕ → List Y) (g : Geometry)
     → ((c : ℕ) → size_of (component_rect (rect_of_tile g) (shape_of g c)) ≡ 0 → (r : ℕ) → f c r ≡ [])
     → flat_map (by_resolution f) (resolutions_of g) ≡ joined (λ c. joined (f c) 0 ((shape_of g c).levels + 1)) 0 (length g.shapes)
 unfolding all_resolutions

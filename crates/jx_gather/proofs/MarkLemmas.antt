@@ -1,5 +1,5 @@
 -- What the rules on coded bytes say of them, where none is violated.
-use Rattle.std.proofs.Common.{◌≡◌, ℕ, zero, suc, ◌+◌, ◌<◌, ◌≤◌, ◌==◌, ◌&&◌, ◌||◌, nat_lt, Bool, true, false, List, [], ◌∷◌, length, take, drop, refl, sym, ap, ◌∙◌, subst, cond, arith, Some, None, inl, inr, ◌⊎◌, Option, get_or, find, slice_index}
+use Rattle.std.proofs.Common.{◌≡◌, ℕ, suc, ◌+◌, ◌<◌, ◌≤◌, ◌==◌, ◌&&◌, ◌||◌, nat_lt, Bool, true, false, List, [], ◌∷◌, length, take, drop, refl, sym, ap, ◌∙◌, subst, arith, Some, None, inl, inr, ◌⊎◌, Option, get_or, find, slice_index}
 use Rattle.std.specs.List.{range_with_len}
 use Rattle.std.specs.Option.{option_or}
 use Rattle.std.proofs.lemmas.Bool.{eq-eqb, and_cases, or_parts, ltb-false, both_ways, true≢false}
@@ -8,6 +8,8 @@ use Rattle.jx_head.specs.declared.Part.{Part}
 use Rattle.jx_stream.specs.declared.faults.StreamFault.{StreamFault}
 use Rattle.jx_stream.specs.Faults.{broken}
 use Rattle.jx_gather.specs.Data.{front_length, parts_length, is_marked, first_mark, rule_30, marks_fault, body_fault}
+use Rattle.std.proofs.lemmas.List.FromFn.{get_or-range_with_len, length-range_with_len}
+use Rattle.jx_base.proofs.Lists.{find_none}
 
 -- ---- faults one after another
 or_first : (a b : Option StreamFault) → option_or a b ≡ None → a ≡ None
@@ -19,20 +21,11 @@ or_later None b h = h
 or_later (Some f) b h = absurd cc
 
 -- ---- rule 30
-find_none : {X : Type 0} (p : X → Bool) (x : X) (xs : List X) → find p (x ∷ xs) ≡ None → (p x ≡ false) × (find p xs ≡ None)
-find_none p x xs h = by (p x) h
-  where
-    by : (b : Bool) → cond b (Some x) (find p xs) ≡ None → (b ≡ false) × (find p xs ≡ None)
-    by true h = absurd cc
-    by false h = (refl, h)
-
 -- none of a range
 range_none : (p : ℕ → Bool) (a n i : ℕ) → find p (range_with_len a n) ≡ None → i < n → p (a + i) ≡ false
-range_none p a zero i h lt = absurd (omega arith)
-range_none p a (suc n) zero h lt = let e : a ≡ a + 0 = omega arith in subst (λ (m : ℕ). p m ≡ false) e (find_none p a (range_with_len (a + 1) n) h).0
-range_none p a (suc n) (suc i) h lt =
-    let e : a + 1 + i ≡ a + suc i = omega arith in
-    subst (λ (m : ℕ). p m ≡ false) e (range_none p (a + 1) n i (find_none p a (range_with_len (a + 1) n) h).1 (omega arith))
+range_none p a n i h lt =
+    let inside : i < length (range_with_len a n) = subst (λ (k : ℕ). i < k) (sym (length-range_with_len a n)) lt in
+    subst (λ (m : ℕ). p m ≡ false) (get_or-range_with_len a n i 0 lt) (find_none p (range_with_len a n) h i 0 inside)
 
 -- what stands after FF
 abbrev MayFollow : List ℕ → Type 0

@@ -7,6 +7,7 @@ use Rattle.jx_stream.specs.declared.Body.{Body}
 use Rattle.jx_stream.specs.declared.faults.StreamFault.{StreamFault}
 use Rattle.jx_stream.specs.declared.faults.StreamFault.TheVariants as fault
 use Rattle.jx_stream.specs.Faults.{broken}
+use Rattle.jx_marker.specs.Codes.{SOP, EPH}
 
 -- the bytes of data that are left of a tile-part
 abbrev pub window : List ℕ → Body → List ℕ
@@ -37,7 +38,7 @@ number_at w i = slice_index w i * 256 + slice_index w (i + 1)
 
 -- A.8.1: SOP stands in front of a packet
 abbrev pub has_sop : List ℕ → Bool
-has_sop w = begins_with w 145
+has_sop w = begins_with w SOP
 
 -- rule 26 for a SOP that is cut short, then rule 29: its length isn't 4, or its number isn't the packet's modulo 65,536
 unfoldable pub sop_fault : List ℕ → ℕ → ℕ → Option StreamFault
@@ -49,7 +50,7 @@ sop_length w = if has_sop w then 6 else 0
 
 -- A.8.2: EPH stands behind a packet header
 abbrev pub eph_length : List ℕ → ℕ
-eph_length w = if begins_with w 146 then 2 else 0
+eph_length w = if begins_with w EPH then 2 else 0
 
 -- what follows SOP, where one stands there
 unfoldable pub header_in : List ℕ → List ℕ

@@ -1,7 +1,7 @@
 -- Tile data as a writer makes them: each packet has SOP or not, a header, EPH or not and its coded bytes (ITU-T T.800, A.8 and
 -- B.10); a tile's packets stand one after another, and tile-parts are cut between them (A.4.2). A precinct's packets are a
 -- chain over the layers, whatever stands between them.
-use Rattle.std.specs.Prelude.{◌≡◌, ◌+◌, ◌/◌, ◌%◌, ℕ, Bool, List, [], ◌∷◌, ◌++◌, length, map, take, drop, if◌then◌else◌}
+use Rattle.std.specs.Prelude.{◌≡◌, ◌+◌, ◌%◌, ℕ, Bool, List, [], ◌∷◌, ◌++◌, length, map, take, drop, if◌then◌else◌}
 use Rattle.jx_base.specs.declared.pieces.Block.{Block}
 use Rattle.jx_base.specs.Joined.{joined}
 use Rattle.jx_base.specs.Markers.{HasNoMarker}
@@ -20,13 +20,11 @@ use Rattle.jx_gather.specs.Data.{window, parts_length}
 use Rattle.jx_gather.specs.Cuts.{Cut}
 use Rattle.jx_gather.specs.Blocks.{founds_of, tile_blocks}
 use Rattle.jx_gather.specs.Gathered.{IsListOf}
+use Rattle.jx_marker.specs.Codes.{sop_spelling, eph_spelling}
 
--- A.8.1, A.8.2: the bytes of the SOP of a packet with a number in its tile, and of EPH
+-- A.8.1: the SOP of a packet with a number in its tile, which is told in two bytes
 abbrev pub sop_bytes : ℕ → List ℕ
-sop_bytes number = 255 ∷ 145 ∷ 0 ∷ 4 ∷ number % 65536 / 256 ∷ number % 65536 % 256 ∷ []
-
-abbrev pub eph_bytes : List ℕ
-eph_bytes = 255 ∷ 146 ∷ []
+sop_bytes number = sop_spelling (number % 65536)
 
 -- what is written of a packet: SOP or not, its header, EPH or not, the parts of which the header tells, and their coded bytes
 pub record Written : Type 0 where
@@ -37,7 +35,7 @@ pub record Written : Type 0 where
   pub bytes : List ℕ
 
 abbrev pub packet_bytes : ℕ → Written → List ℕ
-packet_bytes number w = (if w.sop then sop_bytes number else []) ++ (w.header ++ ((if w.eph then eph_bytes else []) ++ w.bytes))
+packet_bytes number w = (if w.sop then sop_bytes number else []) ++ (w.header ++ ((if w.eph then eph_spelling else []) ++ w.bytes))
 
 -- a tile's packets, in whatever order: what is written of each, and the state of its precinct before it
 pub record Packets : Type 0 where

@@ -6,11 +6,7 @@ ghost use Rattle.jx_gather.specs.Data.{begins_with, number_at, sop_fault, sop_le
 
 use crate::StreamFault;
 use jx_head::Part;
-
-/// The second byte of SOP.
-const SOP: u8 = 145;
-/// The second byte of EPH.
-const EPH: u8 = 146;
+use jx_marker::codes::{EPH, SOP};
 
 /// The refusal of a rule that is violated at a place.
 pub(crate) fn violated(number: u8, at: usize) -> StreamFault

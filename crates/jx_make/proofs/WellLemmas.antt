@@ -1,6 +1,7 @@
 -- A made file is well formed, and within the limits.
 use Rattle.std.proofs.Common.{◌≡◌, ℕ, ◌+◌, ◌^◌, ◌≤◌, ◌<◌, List, [], ◌∷◌, ◌++◌, length, refl, sym, subst, arith, append-nil, length-append, Result, Ok, Err, IfOk}
 use Rattle.jx_geom.specs.Geometry.{Geometry}
+use Rattle.jx_marker.specs.Codes.{EOC}
 use Rattle.jx_marker.specs.Values.{canvas_bytes}
 use Rattle.jx_order.specs.declared.names.PacketName.{PacketName}
 use Rattle.jx_order.specs.Packets.{AreCovered, IsOrder}
@@ -22,12 +23,12 @@ use Rattle.jx_make.proofs.ReadLemmas.{geometry_is, one_number, read_made, totals
 use Rattle.jx_make.proofs.WrittenLemmas.{all_filled, all_written}
 
 -- ---- how long it is
-behind_124 : (w h : ℕ) (body : List ℕ) → length (file_with w h body) ≡ 124 + length ((body ++ []) ++ (255 ∷ 217 ∷ []))
+behind_124 : (w h : ℕ) (body : List ℕ) → length (file_with w h body) ≡ 124 + length ((body ++ []) ++ (0xFF ∷ EOC ∷ []))
 unfolding file_with canvas_bytes
 behind_124 w h body = omega arith
 
 pub file_long : (w h : ℕ) (body : List ℕ) → length (file_with w h body) ≡ 126 + length body
-file_long w h body = omega (arith, behind_124 w h body, length-append (body ++ []) (255 ∷ 217 ∷ []), length-append body [])
+file_long w h body = omega (arith, behind_124 w h body, length-append (body ++ []) (0xFF ∷ EOC ∷ []), length-append body [])
 
 -- ---- its one tile
 tile_is : (w h size : ℕ) → tile_at (stream_made w h size) 0 ≡ tile_made size

@@ -15,6 +15,7 @@ use Rattle.jx_head.specs.declared.BandCells.{BandCells}
 use Rattle.jx_head.specs.LeavesFit.{parts_at}
 use Rattle.jx_head.specs.Precinct.{fresh_state}
 use Rattle.jx_head.proofs.AgreeLemmas.{written_is_read}
+use Rattle.jx_marker.specs.Codes.{EOC}
 use Rattle.jx_marker.specs.Values.{canvas_bytes}
 use Rattle.jx_order.specs.declared.names.PacketName.{PacketName}
 use Rattle.jx_order.specs.Packets.{IsPacket as IsNamed}
@@ -31,7 +32,8 @@ use Rattle.jx_make.specs.Made.{bands_made, body_made, data_made, file_with, head
 use Rattle.jx_make.specs.Packets.{layer_names, names_made, one_name, packets_made, resolution_names}
 use Rattle.jx_make.specs.Reading.{stream_made, tile_made}
 use Rattle.jx_make.proofs.DrawnFits.{drawn_clear}
-use Rattle.jx_make.proofs.FillLemmas.{Fills, leaves_filled}
+use Rattle.jx_gather.proofs.FillLemmas.{Fills}
+use Rattle.jx_make.proofs.FillLemmas.{leaves_filled}
 use Rattle.jx_make.proofs.GeometryLemmas.{level_5, precincts_made, three_shapes}
 use Rattle.jx_make.proofs.OrderLemmas.{packet_fields}
 use Rattle.jx_make.proofs.PrecinctLemmas.{bands_in_range, leaves_fit, leaves_typed}
@@ -167,13 +169,13 @@ module _ (seed w h : ℕ) where
       any_number 0 (joined layer_names 0 12) ∙ flat_joined layer_names 12 ∙ joined_same (λ l. flat_map bytes_at (layer_names l)) (layer_made seed w h) 12 (λ l lt. layer_flat l)
 
 -- ---- where they stand
-rest_of_file : (w h : ℕ) (body : List ℕ) → drop 124 (file_with w h body) ≡ (body ++ []) ++ (255 ∷ 217 ∷ [])
+rest_of_file : (w h : ℕ) (body : List ℕ) → drop 124 (file_with w h body) ≡ (body ++ []) ++ (0xFF ∷ EOC ∷ [])
 unfolding file_with canvas_bytes
 rest_of_file w h body = refl
 
 data_window : (w h : ℕ) (body : List ℕ) → take (length body) (drop 124 (file_with w h body)) ≡ body
 data_window w h body =
-    ap (take (length body)) (rest_of_file w h body) ∙ ap (λ (xs : List ℕ). take (length body) (xs ++ (255 ∷ 217 ∷ []))) (append-nil body) ∙ take-append_seam body (255 ∷ 217 ∷ [])
+    ap (take (length body)) (rest_of_file w h body) ∙ ap (λ (xs : List ℕ). take (length body) (xs ++ (0xFF ∷ EOC ∷ []))) (append-nil body) ∙ take-append_seam body (0xFF ∷ EOC ∷ [])
 
 pub all_filled : (seed w h : ℕ) → AreFilled (file_with w h (body_made seed w h)) (packets_made seed w h) 0 (tile_made (length (body_made seed w h))).bodies (names_made ∷ [])
 all_filled seed w h = (
