@@ -1,10 +1,10 @@
 -- Columns that are significant throughout, in which only a refinement pass asks.
-use Rattle.std.proofs.Common.{◌≡◌, ◌<◌, ◌≤◌, ◌+◌, ◌-◌, ◌*◌, ◌/◌, ◌%◌, ◌==◌, ◌&&◌, ℕ, zero, suc, min, Bool, true, false, not, refl, sym, ap, ◌∙◌, arith, subst, if◌then◌else◌}
+use Rattle.std.proofs.Common.{◌≡◌, ◌<◌, ◌≤◌, ◌+◌, ◌-◌, ◌*◌, ◌/◌, ◌%◌, ◌==◌, ◌&&◌, ℕ, zero, suc, min, Bool, true, false, refl, sym, ap, ◌∙◌, arith, if◌then◌else◌}
 use Rattle.std.specs.Prelude.{nat_le}
 use Rattle.jx_grid.specs.declared.question.Plane.{Plane}
 use Rattle.jx_grid.specs.Cells.{Cells, coef_at, significant}
 use Rattle.jx_grid.specs.Near.{one_if}
-use Rattle.jx_grid.specs.Asking.{Asking, Told}
+use Rattle.jx_grid.specs.Asking.{Told}
 use Rattle.jx_grid.specs.Pass.{pass_at, scanned, significance_at, usual_at, cleanup_at, run_at, is_quiet, is_run}
 use Rattle.jx_flags.specs.Marks.{mark, word}
 use Rattle.jx_flags.specs.Numbers.{first_of}

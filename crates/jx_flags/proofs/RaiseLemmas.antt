@@ -1,5 +1,5 @@
 -- Words of six rows where a place becomes significant, in its own stripe and in the one beside it.
-use Rattle.std.proofs.Common.{◌≡◌, ◌<◌, ◌+◌, ◌-◌, ◌*◌, ◌/◌, ◌%◌, ℕ, zero, suc, true, false, refl, sym, ◌∙◌, arith, subst, inl, inr, length, get_or, set, List}
+use Rattle.std.proofs.Common.{◌≡◌, ◌<◌, ◌+◌, ◌*◌, ◌/◌, ◌%◌, ℕ, zero, suc, true, false, refl, sym, ◌∙◌, arith, subst, inl, inr, length, get_or, set, List}
 use Rattle.std.specs.Prelude.{◌⊎◌}
 use Rattle.std.proofs.lemmas.Bool.{cases_eq}
 use Rattle.std.proofs.lemmas.List.{get_or-set_same, get_or-set_other, length-set}

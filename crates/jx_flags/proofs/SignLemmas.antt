@@ -1,10 +1,9 @@
 -- The signs of neighbours, by what a window shows of them.
-use Rattle.std.proofs.Common.{◌≡◌, ◌≤◌, ◌+◌, ◌-◌, ◌*◌, ◌/◌, ◌%◌, ◌==◌, ◌&&◌, ◌||◌, ℕ, Bool, true, false, not, refl, sym, ap, ◌∙◌, arith, inl, inr, IsTrue, if◌then◌else◌}
-use Rattle.std.specs.Prelude.{◌<◌}
+use Rattle.std.proofs.Common.{◌≡◌, ◌≤◌, ◌+◌, ◌-◌, ◌*◌, ◌/◌, ◌%◌, ◌==◌, ◌&&◌, ◌||◌, ℕ, Bool, true, false, not, refl, sym, ap, ◌∙◌, arith, if◌then◌else◌}
 use Rattle.std.proofs.lemmas.Bool.{true≢false}
 use Rattle.jx_grid.specs.declared.coef.Coef.{Coef}
 use Rattle.jx_grid.specs.Cells.{Cells, zero_coef, coef_at, significant}
-use Rattle.jx_grid.specs.Near.{one_if, one_at, coef_near, is_unseen, across_of, down_of, leaning}
+use Rattle.jx_grid.specs.Near.{one_if, one_at, coef_near, across_of, down_of, leaning}
 use Rattle.jx_flags.specs.Marks.{is_outside}
 use Rattle.jx_flags.specs.Windows.{nine}
 use Rattle.jx_flags.specs.Signs.{leaned}

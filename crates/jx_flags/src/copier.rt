@@ -3,9 +3,9 @@ ghost use Rattle.jx_grid.specs.Reading.{fresh_reading, read_symbol};
 ghost use Rattle.jx_flags.specs.InStep.{Copying, renewed_both};
 
 use crate::pen::Pen;
-use crate::reader::Reader;
 use jx_base::{NoMemory, Style};
 use jx_grid::{Question, Source};
+use jx_passdec::Reader;
 use std::marker::Model;
 
 /// Answers by the decisions of a segment, and writes each answer into another segment.

@@ -9,10 +9,10 @@ use crate::FlagGrid;
 use crate::decoder::Decoder;
 use crate::field::Field;
 use crate::labels::labels_of;
-use crate::reader::Reader;
 use jx_base::NoMemory;
 use jx_grid::{BadSymbol, Coded};
 use jx_mq::Contexts;
+use jx_passdec::Reader;
 use std::alloc::Global;
 
 /// The coefficients that coded passes give.

@@ -8,10 +8,10 @@ ghost use Rattle.jx_passdec.specs.Short.{AreShort, with_bits};
 ghost use Rattle.jx_base.specs.Passes.{is_causal, has_symbols};
 
 use crate::field::Field;
-use crate::reader::Reader;
 use crate::scan::run_pass;
 use jx_base::{Band, NoMemory, Style, ends_segment, is_raw};
 use jx_grid::ask_symbol;
+use jx_passdec::Reader;
 use std::marker::Model;
 
 /// A block of which some passes were decoded.

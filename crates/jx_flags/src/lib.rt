@@ -13,7 +13,6 @@ mod field;
 mod grid;
 mod labels;
 mod pen;
-mod reader;
 mod recode;
 mod recoder;
 mod runs;

@@ -12,11 +12,11 @@ use crate::copier::Copier;
 use crate::field::Field;
 use crate::labels::labels_of;
 use crate::pen::Pen;
-use crate::reader::Reader;
 use crate::recoder::Recoder;
 use jx_base::{NoMemory, Style, is_raw};
 use jx_grid::Coded;
 use jx_mq::Contexts;
+use jx_passdec::Reader;
 use std::alloc::Global;
 
 /// A block that is coded anew.

@@ -7,3 +7,4 @@ mod reader;
 
 pub use decode::{Decoded, decode_passes, sound};
 pub use jx_grid::{BadSymbol, Coded, Coef, Grid, Segments};
+pub use reader::Reader;

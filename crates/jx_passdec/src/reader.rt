@@ -79,6 +79,7 @@ impl<'a> Source for Reader<'a> {
 
     ghost is_sure = { true };
 
+    #[inline(always)]
     fn ask(&mut self, question: Question) -> Result<bool, NoMemory> {
         if self.is_raw {
             return Ok(self.bits.bit());
