@@ -1,17 +1,18 @@
 //! How far a run is, for people: one line on standard error that is written over.
 
-ghost use Rattle.std.specs.Prelude.{◌≡◌, false, IfOk, None, Some, string_bytes};
+ghost use Rattle.std.specs.Prelude.{◌≡◌, false, IfErr, IfOk, None, Some, codes, string_bytes};
+ghost use Rattle.std.specs.Str.{bytes_eq};
 ghost use Rattle.jx_outside.specs.Shown.{grouped, last_three, progress_text};
 
 use crate::gate::Gate;
 use std::alloc::{AllocError, Global};
-use std::env::Env;
+use std::env::VarError;
+use std::fmt;
 use std::fmt::{Display, Formatter};
 use std::io::Eprint;
 use std::sync::atomic::Ordering::SeqCst;
 use std::sync::atomic::{AtomicU32, AtomicU64};
 use std::time::{Clock, Instant};
-use std::{env, fmt};
 
 /// A number's last three digits.
 #[derive(Clone, Copy)]
@@ -142,9 +143,12 @@ impl<'a, R: Clock + Eprint> Gate for Progress<'a, R> {
     }
 }
 
-/// Whether progress is asked for, by the variable JX_PROGRESS.
-pub fn is_asked<R: Env + Alloc>(rt: &R) -> bool {
-    match env::var(rt, "JX_PROGRESS") {
+/// Whether progress is asked for, by what is found of the variable JX_PROGRESS: it is there, and says 1.
+pub fn is_asked(found: &Result<String, VarError>) -> bool
+    ensures there { IfOk found.now (λ value. result ≡ bytes_eq (string_bytes value) (codes "1")) }
+    ensures missing { IfErr found.now (λ _. result ≡ false) }
+{
+    match found {
         Ok(value) => value.as_str() == "1",
         Err(_) => false,
     }

@@ -1,9 +1,10 @@
 //! The line of progress, over a clock that is set by hand.
 
 use crate::checks::equal;
-use jx_outside::{Gate, Progress, progress_line};
+use jx_outside::{Gate, Progress, is_asked, progress_line};
 use std::alloc::Global;
 use std::cell::{Cell, RefCell};
+use std::env::VarError;
 use std::fmt::Display;
 use std::io;
 use std::io::{Eprint, ErrorKind};
@@ -93,5 +94,15 @@ fn digits_stand_in_threes(rt: HostRuntime) -> Result<(), Fail> {
         let line = progress_line(rt.alloc(), done, all)?;
         equal(&rt, line.as_str(), text);
     }
+    Ok(())
+}
+
+#[test]
+fn asked_by_one_alone(rt: HostRuntime) -> Result<(), Fail> {
+    for (value, asked) in [("1", true), ("0", false), ("", false), ("11", false)] {
+        let found = Ok(value.to_string(rt.alloc())?);
+        equal(&rt, is_asked(&found), asked);
+    }
+    equal(&rt, is_asked(&Err(VarError::NotPresent)), false);
     Ok(())
 }

@@ -125,7 +125,8 @@ fn start<R: Threads + Wait + Sync + Eprint + Clock, F: Files, S: Sink>(
 fn main(rt: HostRuntime) -> ExitCode {
     let mut files = StdFiles::new(&rt);
     let mut say = StdSink::new(&rt);
-    let progress = Progress::new(&rt, rt.alloc(), is_asked(&rt));
+    let asked = env::var(&rt, "JX_PROGRESS");
+    let progress = Progress::new(&rt, rt.alloc(), is_asked(&asked));
     match start(
         &rt,
         rt.alloc(),
