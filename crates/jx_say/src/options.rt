@@ -57,8 +57,8 @@ fn listed(
 /// How many options there are.
 pub(crate) const COUNT: usize = 11;
 
-/// The option of a number, in the order of the help.
-pub(crate) fn option_text(number: usize) -> OptionText {
+/// The order of packets, precincts, layers and tile-parts.
+fn parting_text(number: usize) -> OptionText {
     match number {
         0 => listed(
             "order",
@@ -78,12 +78,18 @@ pub(crate) fn option_text(number: usize) -> OptionText {
             PACKING,
             "keep, one, cuts:N,N.. (a new layer at each of\nthese coding passes, 1 to 220, rising), or\nplanes:N (one for each N bit-planes, 1 to 74)\ndefault keep; as in --layers planes:2",
         ),
-        3 => listed(
+        _ => listed(
             "tile-parts",
             "BY",
             &PARTS,
             "none, r, l or c: a new tile-part for each\nresolution, layer or component\ndefault none; as in --tile-parts r",
         ),
+    }
+}
+
+/// The marks that help readers.
+fn mark_text(number: usize) -> OptionText {
+    match number {
         4 => option("sop", "", PACKING, "an SOP segment before each packet"),
         5 => option(
             "eph",
@@ -91,18 +97,18 @@ pub(crate) fn option_text(number: usize) -> OptionText {
             PACKING,
             "an EPH marker behind each packet header",
         ),
-        6 => option(
+        _ => option(
             "plt",
             "",
             PACKING,
             "packet lengths in the tile-parts' headers",
         ),
-        7 => option(
-            "style",
-            "NAMES",
-            CODING,
-            "keep, none, or names with + between them:\nbypass, reset, terminate, causal, segment\ndefault keep; as in --style terminate+reset",
-        ),
+    }
+}
+
+/// The workers and the windows.
+fn work_text(number: usize) -> OptionText {
+    match number {
         8 => option(
             "threads",
             "N",
@@ -122,4 +128,23 @@ pub(crate) fn option_text(number: usize) -> OptionText {
             "bytes of several such blocks together\n1 to 268435456, the default",
         ),
     }
+}
+
+/// The option of a number, in the order of the help.
+pub(crate) fn option_text(number: usize) -> OptionText {
+    if number < 4 {
+        return parting_text(number);
+    }
+    if number < 7 {
+        return mark_text(number);
+    }
+    if number > 7 {
+        return work_text(number);
+    }
+    option(
+        "style",
+        "NAMES",
+        CODING,
+        "keep, none, or names with + between them:\nbypass, reset, terminate, causal, segment\ndefault keep; as in --style terminate+reset",
+    )
 }
