@@ -4,6 +4,7 @@ use Rattle.std.specs.Option.{option_or}
 use Rattle.jx_geom.specs.Geometry.{Geometry}
 use Rattle.jx_head.specs.declared.Part.{Part}
 use Rattle.jx_head.specs.Packet.{State}
+use Rattle.jx_marker.specs.Codes.{SOC, SIZ, SOT, EOC}
 use Rattle.jx_marker.specs.declared.Segment.{Segment}
 use Rattle.jx_marker.specs.declared.Siz.{Siz}
 use Rattle.jx_marker.specs.declared.Sot.{Sot}
@@ -63,9 +64,9 @@ told_is f number place e = subst IsTold (sym e) tt
 front_told : (b : List ℕ) → AllTold (front_fault b)
 unfolding front_fault
 front_told b =
-    told_or (broken 15 0 (not (marker_at b 0 79))) (option_or (broken 16 2 (not (marker_at b 2 81))) (rule_at 2 (first_broken 1 (drop 2 b))))
-    (told_broken 15 0 (not (marker_at b 0 79)))
-    (told_or (broken 16 2 (not (marker_at b 2 81))) (rule_at 2 (first_broken 1 (drop 2 b))) (told_broken 16 2 (not (marker_at b 2 81))) (told_rule 2 (first_broken 1 (drop 2 b))))
+    told_or (broken 15 0 (not (marker_at b 0 SOC))) (option_or (broken 16 2 (not (marker_at b 2 SIZ))) (rule_at 2 (first_broken 1 (drop 2 b))))
+    (told_broken 15 0 (not (marker_at b 0 SOC)))
+    (told_or (broken 16 2 (not (marker_at b 2 SIZ))) (rule_at 2 (first_broken 1 (drop 2 b))) (told_broken 16 2 (not (marker_at b 2 SIZ))) (told_rule 2 (first_broken 1 (drop 2 b))))
 
 tiles_told : (siz : Siz) → AllTold (tiles_fault siz)
 unfolding tiles_fault
@@ -85,7 +86,7 @@ segment_told kind comps b before at =
 start_told : (comps : ℕ) (b : List ℕ) (at : ℕ) → AllTold (start_fault comps b at)
 unfolding start_fault
 start_told comps b at =
-    told_or (broken 23 at (not (marker_at b at 144 || marker_at b at 217))) (rule_at at (first_broken comps (drop at b))) (told_broken 23 at (not (marker_at b at 144 || marker_at b at 217)))
+    told_or (broken 23 at (not (marker_at b at SOT || marker_at b at EOC))) (rule_at at (first_broken comps (drop at b))) (told_broken 23 at (not (marker_at b at SOT || marker_at b at EOC)))
     (told_rule at (first_broken comps (drop at b)))
 
 sot_told : (tiles : ℕ) (b : List ℕ) (at : ℕ) (sot : Sot) (out : Bool) → AllTold (sot_fault tiles b at sot out)
@@ -97,8 +98,8 @@ sot_told tiles b at sot out =
 sod_told : (b : List ℕ) (at : ℕ) (sot : Sot) (sod : ℕ) → AllTold (sod_fault b at sot sod)
 unfolding sod_fault
 sod_told b at sot sod =
-    told_cond (sot.psot == 0) (broken 23 (length b - 2) (not (marker_at b (length b - 2) 217) || nat_lt (length b - 2) (sod + 2))) (broken 22 at (nat_lt (at + sot.psot) (sod + 2)))
-    (told_broken 23 (length b - 2) (not (marker_at b (length b - 2) 217) || nat_lt (length b - 2) (sod + 2))) (told_broken 22 at (nat_lt (at + sot.psot) (sod + 2)))
+    told_cond (sot.psot == 0) (broken 23 (length b - 2) (not (marker_at b (length b - 2) EOC) || nat_lt (length b - 2) (sod + 2))) (broken 22 at (nat_lt (at + sot.psot) (sod + 2)))
+    (told_broken 23 (length b - 2) (not (marker_at b (length b - 2) EOC) || nat_lt (length b - 2) (sod + 2))) (told_broken 22 at (nat_lt (at + sot.psot) (sod + 2)))
 
 entries_told : (o : Option Tile) → AllTold (rule_9_of o)
 entries_told None = tt

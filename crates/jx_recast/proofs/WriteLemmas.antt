@@ -2,6 +2,7 @@
 use Rattle.std.proofs.Common.{◌≡◌, ◌∙◌, ◌<◌, ◌≤◌, ◌+◌, ℕ, List, [], ◌∷◌, ◌++◌, length, refl, ap, sym, subst, arith, inl, inr, append_assoc, append-nil, length-append, Ok, Err, IsErrOf}
 use Rattle.std.specs.List.{concat}
 use Rattle.std.proofs.lemmas.Bool.{cases_lt}
+use Rattle.jx_marker.specs.Codes.{EOC}
 use Rattle.jx_marker.specs.Segments.{spelling}
 use Rattle.jx_marker.specs.declared.Segment.TheVariants as segment
 use Rattle.jx_outside.specs.Causes.{HasCause, Rose}
@@ -175,25 +176,25 @@ uncounted p count old now front = record {
   some = all_front old now front.bytes front.meaning;
 }
 
-eoc_begun : (p : Plan) (count : ℕ) (old now new : Meaning) → HasFront p (tile_number p.stream.siz) count old now → SomeFront now new (255 ∷ 217 ∷ []) → IsHaltedByFault p old new
+eoc_begun : (p : Plan) (count : ℕ) (old now new : Meaning) → HasFront p (tile_number p.stream.siz) count old now → SomeFront now new (0xFF ∷ EOC ∷ []) → IsHaltedByFault p old new
 eoc_begun p count old now new front some = record {
   bytes = front.bytes ++ spelling 1 segment.Eoc;
   of = inr (whole_file p count old now front);
   some = front_of_later old now new (front.bytes ++ spelling 1 segment.Eoc) front.bytes (spelling 1 segment.Eoc) refl front.meaning some;
 }
 
-pub eoc_cut : (p : Plan) (count : ℕ) (h : Halt) (old now new : Meaning) → HasFront p (tile_number p.stream.siz) count old now → IsFault h → SomeFront now new (255 ∷ 217 ∷ []) → IsHalted p h old new
+pub eoc_cut : (p : Plan) (count : ℕ) (h : Halt) (old now new : Meaning) → HasFront p (tile_number p.stream.siz) count old now → IsFault h → SomeFront now new (0xFF ∷ EOC ∷ []) → IsHalted p h old new
 eoc_cut p count (halt.Bad tile number) old now new front never some = absurd never
 eoc_cut p count (halt.TooLong tile) old now new front never some = absurd never
 eoc_cut p count halt.Failed old now new front fault some = eoc_begun p count old now new front some
 eoc_cut p count halt.NoMemory old now new front fault some = eoc_begun p count old now new front some
 
-pub whole_unfinished : (p : Plan) (count : ℕ) (h : Halt) (e : Refused) (old now new : Meaning) → HasFront p (tile_number p.stream.siz) count old now → h ≡ halt_of e → new ≡ after_write (255 ∷ 217 ∷ []) now
+pub whole_unfinished : (p : Plan) (count : ℕ) (h : Halt) (e : Refused) (old now new : Meaning) → HasFront p (tile_number p.stream.siz) count old now → h ≡ halt_of e → new ≡ after_write (0xFF ∷ EOC ∷ []) now
     → IsHalted p h old new
-whole_unfinished p count h refused.Failed old now new front is wrote = rw is (eoc_begun p count old now new front (all_front now new (255 ∷ 217 ∷ []) wrote))
-whole_unfinished p count h refused.NoMemory old now new front is wrote = rw is (eoc_begun p count old now new front (all_front now new (255 ∷ 217 ∷ []) wrote))
+whole_unfinished p count h refused.Failed old now new front is wrote = rw is (eoc_begun p count old now new front (all_front now new (0xFF ∷ EOC ∷ []) wrote))
+whole_unfinished p count h refused.NoMemory old now new front is wrote = rw is (eoc_begun p count old now new front (all_front now new (0xFF ∷ EOC ∷ []) wrote))
 
-pub whole_written : (p : Plan) (before bytes : ℕ) (old now new done : Meaning) → HasFront p (tile_number p.stream.siz) before old now → bytes ≡ before + 2 → new ≡ after_write (255 ∷ 217 ∷ []) now
+pub whole_written : (p : Plan) (before bytes : ℕ) (old now new done : Meaning) → HasFront p (tile_number p.stream.siz) before old now → bytes ≡ before + 2 → new ≡ after_write (0xFF ∷ EOC ∷ []) now
     → done ≡ after_finish new → HasWhole p bytes old done
 whole_written p before bytes old now new done front counted wrote finished =
     let all : new ≡ after_write (front.bytes ++ spelling 1 segment.Eoc) old =

@@ -1,5 +1,5 @@
 -- What is asked of a codestream: how it is to be written, and the rule by which its coding passes are put into layers.
-use Rattle.std.specs.Prelude.{◌≡◌, ◌<◌, ◌≤◌, ◌^◌, ℕ, List, Option, IfSome}
+use Rattle.std.specs.Prelude.{◌<◌, ◌≤◌, ◌^◌, List, Option, IfSome}
 use Rattle.jx_base.specs.declared.pieces.Block.{Block}
 use Rattle.jx_stream.specs.declared.Stream.{Stream}
 use Rattle.jx_layers.specs.declared.StreamFacts.{StreamFacts}

@@ -23,6 +23,7 @@ use crate::packed::Packed;
 use crate::rounds::{Round, made_round, packed_tiles};
 use jx_assemble::{main_header, main_view};
 use jx_block::Recoded;
+use jx_marker::codes;
 use jx_outside::{Files, Gate};
 use jx_plan::OutStream;
 use jx_store::Entry;
@@ -30,7 +31,7 @@ use std::alloc::Global;
 use std::sync::Wait;
 use std::thread::Threads;
 
-const EOC: [u8; 2] = [0xFF, 0xD9];
+const EOC: [u8; 2] = [0xFF, codes::EOC];
 
 /// What has been written before a tile: the number of its first code-block, and how many bytes.
 #[derive(Clone, Copy)]

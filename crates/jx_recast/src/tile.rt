@@ -1,19 +1,20 @@
 //! A tile that is ready to be written.
 
-ghost use Rattle.std.specs.Prelude.{◌≡◌, ◌<◌, ◌+◌, None, Some, map, IfErr, IfOk, IfSome};
+ghost use Rattle.std.specs.Prelude.{◌≡◌, ◌<◌, ◌+◌, Err, List, None, Some, map, IfErr, IfOk, IfSome};
 ghost use Rattle.std.specs.List.{concat};
 ghost use Rattle.jx_block.specs.Recoded.{WrittenBlock};
 ghost use Rattle.jx_store.specs.declared.event.Taped.{Taped};
 ghost use Rattle.jx_store.specs.declared.work.Named.{Named};
 ghost use Rattle.jx_stream.specs.First.{tile_number};
-ghost use Rattle.jx_assemble.specs.Tile.{AreMade, IsMade, blocks_in, first_block};
+ghost use Rattle.jx_base.specs.declared.pieces.Block.{Block};
+ghost use Rattle.jx_assemble.specs.Tile.{AreMade, AreValuesOf, IsMade, IsTile, IsTooLong, StandIn, blocks_in, first_block, made_in};
 ghost use Rattle.jx_recast.specs.MadeRounds.{AreOfBlocks, IsFirstUnmade, IsUnmadeAs};
-ghost use Rattle.jx_recast.specs.Rounds.{IsUnmadeTile, LeadOn};
+ghost use Rattle.jx_recast.specs.Rounds.{IsUnmadeTile, LeadOn, most_of_part};
 
 use crate::halt::Halt;
 use crate::making::Making;
 use crate::packed::Packed;
-use jx_assemble::{AssembleFault, TileOut, assemble_tile_with, pack_tile};
+use jx_assemble::{AssembleFault, assemble_tile_with, pack_tile};
 use jx_block::Recoded;
 use jx_block::laws::{written_is_sound, wrong_is_nothing};
 use jx_store::{Entry, Named};
@@ -43,53 +44,30 @@ fn first_unmade(entries: &[Entry<Recoded<'_>>]) -> Option<u32>
     None
 }
 
-/// A tile that is put together but for its coded bytes, of which these are the entries of its code-blocks.
-fn laid_tile<'a, 'b>(
+/// A tile of which all code-blocks are made, put together but for its coded bytes where it is alone in its round.
+fn packed<'a, 'b>(
     alloc: Global,
     making: &Making<'a, '_>,
     tile: u16,
     entries: &'a [Entry<Recoded<'b>>],
-) -> Result<TileOut<'a, 'b>, Halt>
+    alone: bool,
+) -> Result<Packed<'a, 'b>, AssembleFault>
     requires tile { tile < tile_number making.now.stream.siz }
-    requires entries { AreOfBlocks making.now (first_block making.now tile) (blocks_in making.now tile) entries.now }
-    ensures parts { IfOk result (λ out. LeadOn making.now tile (tile + 1) (map concat out)) }
-    ensures unmade { IfErr result (λ h. IsUnmadeTile making.now tile h) }
+    requires made { AreMade entries.now }
+    requires values { AreValuesOf making.now tile (made_in entries.now) }
+    ensures parts { IfOk result (λ out. (blocks : List Block) → StandIn blocks making.now tile (made_in entries.now) → IsTile making.now blocks tile most_of_part (map concat out)) }
+    ensures long { result ≡ Err AssembleFault.TooLong → (blocks : List Block) → StandIn blocks making.now tile (made_in entries.now) → IsTooLong making.now blocks tile most_of_part }
 {
-    written_is_sound();
-    wrong_is_nothing();
     let plan = making.plan();
-    if let Some(number) = first_unmade(entries) {
-        return Err(Halt::Bad { tile, number });
-    }
-    match pack_tile(alloc, plan, making.written(), tile, entries, u32::MAX) {
-        Ok(out) => Ok(out),
-        Err(AssembleFault::TooLong) => Err(Halt::TooLong { tile }),
-        Err(AssembleFault::NoMemory) => Err(Halt::NoMemory),
-    }
-}
-
-/// The tile-parts of a tile, of which these are the entries of its code-blocks.
-fn made_tile(
-    alloc: Global,
-    making: &Making<'_, '_>,
-    tile: u16,
-    entries: &[Entry<Recoded<'_>>],
-) -> Result<Vec<Vec<u8>>, Halt>
-    requires tile { tile < tile_number making.now.stream.siz }
-    requires entries { AreOfBlocks making.now (first_block making.now tile) (blocks_in making.now tile) entries.now }
-    ensures parts { IfOk result (λ parts. LeadOn making.now tile (tile + 1) (map (λ v. v.items) parts.items)) }
-    ensures unmade { IfErr result (λ h. IsUnmadeTile making.now tile h) }
-{
-    written_is_sound();
-    wrong_is_nothing();
-    let plan = making.plan();
-    if let Some(number) = first_unmade(entries) {
-        return Err(Halt::Bad { tile, number });
+    if alone {
+        return match pack_tile(alloc, plan, making.written(), tile, entries, u32::MAX) {
+            Ok(out) => Ok(Packed::laid(out)),
+            Err(fault) => Err(fault),
+        };
     }
     match assemble_tile_with(alloc, plan, making.written(), tile, entries, u32::MAX) {
-        Ok(parts) => Ok(parts),
-        Err(AssembleFault::TooLong) => Err(Halt::TooLong { tile }),
-        Err(AssembleFault::NoMemory) => Err(Halt::NoMemory),
+        Ok(parts) => Ok(Packed::whole(parts)),
+        Err(fault) => Err(fault),
     }
 }
 
@@ -107,14 +85,16 @@ pub fn packed_tile<'a, 'b>(
     ensures parts { IfOk result (λ out. LeadOn making.now tile (tile + 1) (map concat out)) }
     ensures unmade { IfErr result (λ h. IsUnmadeTile making.now tile h) }
 {
-    if alone {
-        return match laid_tile(alloc, making, tile, entries) {
-            Ok(out) => Ok(Packed::laid(out)),
-            Err(halt) => Err(halt),
-        };
+    written_is_sound();
+    wrong_is_nothing();
+    // For what is known of a plan.
+    let _plan = making.plan();
+    if let Some(number) = first_unmade(entries) {
+        return Err(Halt::Bad { tile, number });
     }
-    match made_tile(alloc, making, tile, entries) {
-        Ok(parts) => Ok(Packed::whole(parts)),
-        Err(halt) => Err(halt),
+    match packed(alloc, making, tile, entries, alone) {
+        Ok(out) => Ok(out),
+        Err(AssembleFault::TooLong) => Err(Halt::TooLong { tile }),
+        Err(AssembleFault::NoMemory) => Err(Halt::NoMemory),
     }
 }
