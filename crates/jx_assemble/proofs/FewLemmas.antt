@@ -1,10 +1,8 @@
 -- A tile has at most 2^22 packets where no limit is passed, since each stands once in its list.
-use Rattle.std.proofs.Common.{◌≡◌, ◌≢◌, ◌∙◌, ◌<◌, ◌≤◌, ◌+◌, ◌*◌, ◌/◌, ◌%◌, ◌^◌, eqb, ℕ, suc, true, arith, List, [], ◌∷◌, ◌++◌, length, map, refl, sym, ap, inl, inr, nat_lt, Option, Some, None, length-append}
+use Rattle.std.proofs.Common.{◌≡◌, ◌≢◌, ◌∙◌, ◌<◌, ◌≤◌, ◌+◌, ◌*◌, ◌/◌, ◌%◌, ◌^◌, eqb, ℕ, suc, true, arith, List, [], ◌∷◌, ◌++◌, length, map, refl, sym, ap, inl, inr, None, length-append}
 use Rattle.std.specs.List.{All, AllPairs, Contains, list_any}
 use Rattle.std.specs.Cmp.{unsigned_Decides}
-use Rattle.std.specs.Option.{option_or}
 use Rattle.std.proofs.lemmas.Bool.{cases_Bool, eqb-true}
-use Rattle.std.proofs.lemmas.Bool.Decides.{nat_tests}
 use Rattle.std.proofs.lemmas.List.Elements.{All-cons, All-nil}
 use Rattle.std.proofs.lemmas.List.Kept.{AllPairs-cons}
 use Rattle.std.proofs.lemmas.Map.Made.{IsDistinct-from_AllPairs}
@@ -13,10 +11,9 @@ use Rattle.std.proofs.lemmas.Nat.{div-mul-add, mod-mul-add}
 use Rattle.jx_base.proofs.Lists.{contains_head, contains_tail, pairs_head, pairs_tail}
 use Rattle.jx_base.proofs.Raster.{in_rows}
 use Rattle.jx_base.proofs.Sums.{sum_below_more}
-use Rattle.jx_base.specs.Joined.{sum_below}
 use Rattle.jx_geom.specs.Counts.{tile_precincts}
 use Rattle.jx_geom.specs.Geometry.{Geometry, rect_of_tile}
-use Rattle.jx_geom.specs.Precincts.{HasPrecinct, precinct_number}
+use Rattle.jx_geom.specs.Precincts.{precinct_number}
 use Rattle.jx_geom.proofs.PrecinctLemmas.{precinct_below, precinct_once}
 use Rattle.jx_order.specs.declared.names.PacketName.{PacketName}
 use Rattle.jx_order.specs.Packets.{IsPacket}
@@ -24,18 +21,15 @@ use Rattle.jx_order.proofs.OrderLemmas.{order_once, order_to, same_fields}
 use Rattle.jx_stream.specs.declared.Stream.{Stream}
 use Rattle.jx_stream.specs.First.{tile_number}
 use Rattle.jx_stream.specs.Shapes.{geometry, layers_of, tile_at}
-use Rattle.jx_stream.specs.declared.faults.StreamFault.{StreamFault}
-use Rattle.jx_gather.specs.Faults.{passed}
 use Rattle.jx_gather.specs.Gathered.{IsListOf}
-use Rattle.jx_gather.specs.Totals.{block_total, packet_total, tile_packets, totals_fault}
+use Rattle.jx_gather.specs.Totals.{tile_packets, totals_fault}
 use Rattle.jx_gather.specs.Written.{packets_in}
+use Rattle.jx_plan.proofs.ListedLemmas.{has_precinct, all_few as total_low}
+use Rattle.jx_gather.proofs.TotalLemmas.{packets_are as total_is}
 
 -- ---- packets as numbers
 abbrev number_of : Geometry → ℕ → PacketName → ℕ
 number_of g layers p = precinct_number g p.comp p.res p.precinct * layers + p.layer
-
-has_precinct : (g : Geometry) (layers : ℕ) (p : PacketName) → IsPacket g layers p → HasPrecinct g p.comp p.res p.precinct
-has_precinct g layers p is = record { resolution = is.resolution; precinct = is.precinct }
 
 two_parts : (a b layers x y : ℕ) → x < layers → y < layers → a * layers + x ≡ b * layers + y → (a ≡ b) × (x ≡ y)
 two_parts a b layers x y hx hy e = (
@@ -92,20 +86,6 @@ module _ (g : Geometry) (layers : ℕ) where
       map_long (y ∷ ys) = ap suc (map_long ys)
 
 -- ---- limit 6
-not_passed : (number found most : ℕ) → passed number found (nat_lt most found) ≡ None → found ≤ most
-not_passed number found most h = grind (arith, nat_tests)
-
-second_none : (first later : Option StreamFault) → option_or first later ≡ None → later ≡ None
-second_none None later h = h
-second_none (Some f) later h = absurd (cc)
-
-total_low : (s : Stream) → totals_fault s ≡ None → packet_total s ≤ 2 ^ 22
-unfolding totals_fault
-total_low s h = not_passed 6 (packet_total s) (2 ^ 22) (second_none (passed 5 (block_total s) (nat_lt (2 ^ 20) (block_total s))) (passed 6 (packet_total s) (nat_lt (2 ^ 22) (packet_total s))) h)
-
-total_is : (s : Stream) → packet_total s ≡ sum_below (tile_packets s) (tile_number s.siz)
-unfolding packet_total
-total_is s = refl
 
 pub few_packets : (s : Stream) (t : ℕ) (names : List PacketName) → totals_fault s ≡ None → t < tile_number s.siz → IsListOf s t names → length names ≤ 2 ^ 22
 few_packets s t names none inside order =

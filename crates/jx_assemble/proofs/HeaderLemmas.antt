@@ -1,16 +1,15 @@
 -- Segments of a header with PLT segments after them.
-use Rattle.std.proofs.Common.{◌≡◌, ◌∙◌, ◌<◌, ◌≤◌, ◌+◌, ◌==◌, ℕ, suc, true, false, arith, List, [], ◌∷◌, ◌++◌, length, refl, sym, ap, subst, inl, inr, append-nil, append_assoc}
+use Rattle.std.proofs.Common.{◌≡◌, ◌<◌, ◌≤◌, ◌+◌, ◌==◌, ℕ, suc, true, false, arith, List, [], ◌∷◌, ◌++◌, length, refl, sym, ap, subst, inl, inr, append-nil, append_assoc}
 use Rattle.std.specs.List.{AllByRecursion}
 use Rattle.std.proofs.lemmas.Bool.{cases_Bool}
 use Rattle.std.proofs.lemmas.Bool.Decides.{nat_tests}
 use Rattle.std.proofs.lemmas.List.Elements.{All-cons}
-use Rattle.jx_marker.specs.declared.Progression.{Progression}
 use Rattle.jx_marker.specs.declared.Segment.{Segment}
 use Rattle.jx_marker.specs.declared.Segment.TheVariants as segment
 use Rattle.jx_marker.specs.Ranges.{AreBytes, InRange}
 use Rattle.jx_stream.specs.declared.headers.HeaderKind.{HeaderKind}
 use Rattle.jx_stream.specs.Headers.{slot_of, stands_in}
-use Rattle.jx_stream.specs.Tiles.{entries_of, in_slot, joined}
+use Rattle.jx_stream.specs.Tiles.{in_slot, joined}
 use Rattle.jx_stream.specs.Spells.{AreSegments}
 use Rattle.jx_assemble.specs.Lengths.{numbered}
 
@@ -53,21 +52,6 @@ same_slots slot number (s ∷ own) held some = elim (cases_Bool (slot_of s == sl
 ]
 
 -- ---- progression entries
-pub joined_on : (xs ys : List Segment) → joined xs ≡ [] → joined ys ≡ [] → joined (xs ++ ys) ≡ []
-joined_on [] ys a b = b
-joined_on (x ∷ xs) ys a b =
-    let assoc : joined ((x ∷ xs) ++ ys) ≡ entries_of x ++ joined (xs ++ ys) = refl in
-    ap (λ (z : List Progression). entries_of x ++ z) (joined_on xs ys (later_none (entries_of x) (joined xs) a) b)
-    ∙ append-nil (entries_of x) ∙ first_none (entries_of x) (joined xs) a
-  where
-    later_none : (p q : List Progression) → p ++ q ≡ [] → q ≡ []
-    later_none [] q h = h
-    later_none (e ∷ p) q h = absurd (cc)
-
-    first_none : (p q : List Progression) → p ++ q ≡ [] → p ≡ []
-    first_none [] q h = refl
-    first_none (e ∷ p) q h = absurd (cc)
-
 pub lengths_none : (number : ℕ) (held : List (List ℕ)) → joined (numbered number held) ≡ []
 lengths_none number [] = refl
 lengths_none number (bytes ∷ held) = lengths_none (number + 1) held

@@ -4,7 +4,7 @@ use Rattle.std.proofs.Common.{◌≡◌, ◌∙◌, ◌<◌, ◌≤◌, ◌^◌,
 use Rattle.std.proofs.Math.Path.{fun_ext}
 use Rattle.std.specs.List.{All, list_any}
 use Rattle.std.proofs.lemmas.Option.{get_or_from_slice_get, slice_get_within}
-use Rattle.std.specs.Prelude.{IfSome, slice_get}
+use Rattle.std.specs.Prelude.{slice_get}
 use Rattle.jx_base.specs.declared.names.Band.{Band}
 use Rattle.jx_base.specs.declared.pieces.Block.{Block}
 use Rattle.jx_base.specs.declared.style.Style.{Style}
@@ -44,13 +44,15 @@ use Rattle.jx_plan.specs.Meaning.{Component, Meaning, Place, component_of, meani
 use Rattle.jx_plan.specs.Plan.{asked_of, headers_with}
 use Rattle.jx_plan.specs.Planned.{IsCrowded, IsFreeBy, MakesLayers, blocks_written, layers_of_rule}
 use Rattle.jx_plan.specs.Standing.{HeadersStand}
-use Rattle.jx_plan.specs.Wanted.{MayBeStyle, MayBeWanted, Wanted, marks_of}
+use Rattle.jx_plan.specs.Wanted.{MayBeWanted, Wanted, marks_of}
 use Rattle.jx_assemble.specs.Kept.{IsKeptIn}
 use Rattle.jx_assemble.specs.Ready.{AllShort, AreReady, IsTileReady, stream_read}
 use Rattle.jx_assemble.specs.SameHeaders.{HasHeadersOf}
 use Rattle.jx_assemble.specs.Told.{has_lengths, is_length}
 use Rattle.jx_assemble.specs.TileParts.{IsOutput}
 use Rattle.jx_assemble.proofs.OutputLemmas.{output_formed, output_gathered, output_headers, output_read, output_strict}
+use Rattle.jx_plan.proofs.ReadBackLemmas.{comps_are as comps_written}
+use Rattle.jx_plan.proofs.PlanLemmas.{style_few}
 
 -- the laws of written headers: they stand, are plain, and have their stream's tiles
 pub record HeaderLaws : Type 0 where
@@ -102,14 +104,6 @@ no_lengths ss none = ap (λ (f : Segment → Bool). list_any f ss) (fun_ext leng
 siz_written : (a : Asked) (s : Stream) → (stream_written a s).siz ≡ record s.siz { rsiz = 0 }
 unfolding stream_written
 siz_written a s = refl
-
-pub comps_written : (a : Asked) (s : Stream) → length (stream_written a s).siz.comps ≡ length s.siz.comps
-comps_written a s = ap (λ (z : Siz). length z.comps) (siz_written a s)
-
--- a style that may be wanted has six bits
-style_few : (o : Option Style) → IfSome o MayBeStyle → IfSome o (λ (style : Style). style.bits < 64)
-style_few None may = may
-style_few (Some style) may = may.few
 
 -- what headers say of the meaning is in SIZ, the parameters and the steps
 means : (siz other : Siz) (c d : ℕ → ℕ → Component) (e f : ℕ → ℕ → ℕ → Band → ℕ × ℕ) (sample : Place → Option Coef) → siz ≡ other → c ≡ d → e ≡ f

@@ -1,20 +1,17 @@
 -- The lengths of packets, and how many segments they take.
-use Rattle.std.proofs.Common.{◌≡◌, ◌⊎◌, inl, inr, ℕ, zero, suc, ◌+◌, ◌-◌, ◌*◌, ◌/◌, ◌%◌, ◌^◌, ◌<◌, ◌≤◌, nat_eq, nat_le, Bool, true, false, cond, List, [], ◌∷◌, ◌++◌, length, drop, take, get_or, refl, sym, ap, ◌∙◌, pow_mono, append_assoc, append-nil, arith}
+use Rattle.std.proofs.Common.{◌≡◌, inl, inr, ℕ, zero, suc, ◌+◌, ◌-◌, ◌*◌, ◌/◌, ◌%◌, ◌^◌, ◌<◌, ◌≤◌, nat_eq, nat_le, Bool, true, false, cond, List, [], ◌∷◌, ◌++◌, length, drop, take, get_or, refl, sym, ap, ◌∙◌, append_assoc, append-nil, arith}
 use Rattle.std.proofs.lemmas.List.{at_drop_all, at_drop_more}
 use Rattle.std.specs.Prelude.{sum_by}
 use Rattle.std.proofs.lemmas.Bool.{cases_lt}
 use Rattle.std.proofs.lemmas.Bool.Decides.{nat_tests}
 use Rattle.std.proofs.lemmas.List.Sums.{sum_by-cons}
-use Rattle.jx_head.specs.Words.{powers, size}
+use Rattle.jx_head.specs.Words.{size}
 use Rattle.jx_marker.specs.declared.Segment.TheVariants as segment
 use Rattle.jx_marker.specs.Segments.{spelling}
 use Rattle.jx_stream.specs.Spells.{all_bytes}
 use Rattle.jx_assemble.specs.Lengths.{filled, length_bytes, length_segments, length_size, numbered, septets}
-
-septets_long : (count n : ℕ) → length (septets count n) ≡ count
-septets_long zero n = refl
-septets_long (suc zero) n = refl
-septets_long (suc (suc count)) n = ap (λ (k : ℕ). suc k) (septets_long (suc count) n)
+use Rattle.jx_assemble.proofs.HeldLemmas.{septets_long}
+use Rattle.jx_head.proofs.PutLemmas.{size_small}
 
 -- the last of five groups of seven digits
 abbrev last_of : ℕ → List ℕ → List ℕ
@@ -63,37 +60,6 @@ filled_over held n rest lt =
     if_false (nat_le (length held + length (length_bytes n)) 65532) (filled (held ++ length_bytes n) rest) (held ∷ filled (length_bytes n) rest) over
 
 -- ---- how many segments there are
-powers_le : (n m : ℕ) → powers n m ≤ n
-powers_le zero m = omega arith
-powers_le (suc n) m = by (nat_le (2 ^ n) m) (powers_le n m)
-  where
-    by : (b : Bool) → powers n m ≤ n → powers n m + cond b 1 0 ≤ suc n
-    by true le = omega arith
-    by false le = omega arith
-
-powers_small : (n m w : ℕ) → m < 2 ^ w → powers n m ≤ w
-powers_small zero m w lt = omega arith
-powers_small (suc n) m w lt = by (cases_lt n w) (powers_small n m w lt)
-  where
-    step : (b : Bool) → powers n m ≤ n → n < w → powers n m + cond b 1 0 ≤ w
-    step true le l = omega arith
-    step false le l = omega arith
-
-    none : (b : Bool) → b ≡ false → powers n m ≤ w → powers n m + cond b 1 0 ≤ w
-    none false e i = omega arith
-    none true e i = absurd cc
-
-    by : (n < w) ⊎ (w ≤ n) → powers n m ≤ w → powers (suc n) m ≤ w
-    by (inl l) i = step (nat_le (2 ^ n) m) (powers_le n m) l
-    by (inr ge) i =
-        let p : 2 ^ w ≤ 2 ^ n = pow_mono ge in
-        let is : nat_le (2 ^ n) m ≡ false = (let l : m < 2 ^ n = omega arith in grind (arith, nat_tests)) in
-        none (nat_le (2 ^ n) m) is i
-
-size_small : (m w : ℕ) → m < 2 ^ w → size m ≤ w
-unfolding size
-size_small m w lt = powers_small 32 m w lt
-
 -- a length of w binary digits takes at most n bytes, seven in each
 size_in : (m w n : ℕ) → m < 2 ^ w → w ≤ 7 * n → 1 ≤ n → length_size m ≤ n
 size_in m w n lt le some = let s : size m ≤ w = size_small m w lt in grind (arith)

@@ -20,7 +20,8 @@ use Rattle.jx_assemble.specs.Lengths.{numbered}
 use Rattle.jx_assemble.specs.Ready.{AreShort}
 use Rattle.jx_plan.specs.declared.Marks.{Marks}
 use Rattle.jx_assemble.specs.TileParts.{packet_length, part_header, parts_with, tile_part}
-use Rattle.jx_assemble.proofs.HeaderLemmas.{joined_on, lengths_none, lengths_stand, segments_on}
+use Rattle.jx_assemble.proofs.HeaderLemmas.{lengths_none, lengths_stand, segments_on}
+use Rattle.jx_plan.proofs.ReadBackLemmas.{none_both as joined_on}
 use Rattle.jx_assemble.proofs.HeldLemmas.{held_by, held_few, held_fit, packets_long, segments_are}
 use Rattle.jx_assemble.proofs.FewLemmas.{AreFew}
 use Rattle.jx_assemble.proofs.TurnLemmas.{AreOf}

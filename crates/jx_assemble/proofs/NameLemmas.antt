@@ -5,7 +5,7 @@ use Rattle.std.proofs.lemmas.Bool.{cases_lt}
 use Rattle.jx_base.specs.Joined.{joined, sum_below}
 use Rattle.jx_base.specs.Places.{size_of}
 use Rattle.jx_base.proofs.Joined.{joined_none, joined_length, joined_at}
-use Rattle.jx_base.proofs.Sums.{sum_below_more, whole_sum}
+use Rattle.jx_base.proofs.Sums.{whole_sum}
 use Rattle.jx_geom.specs.Counts.{precinct_count, component_precincts, tile_precincts}
 use Rattle.jx_geom.specs.Geometry.{Geometry, no_shape, rect_of_tile, shape_of, precincts_in}
 use Rattle.jx_geom.specs.Precincts.{HasPrecinct, precinct_number}
@@ -16,6 +16,7 @@ use Rattle.jx_geom.proofs.PrecinctLemmas.{precinct_number_is}
 use Rattle.jx_order.specs.Steps.{name_of}
 use Rattle.jx_gather.proofs.ListedLemmas.{by_resolution, of_tile}
 use Rattle.jx_assemble.specs.Names.{component_names, one_name, resolution_names, tile_names}
+use Rattle.jx_gather.proofs.NumberLemmas.{precinct_within}
 
 -- ---- by resolutions
 no_names : (g : Geometry) (c r : ℕ) → size_of (component_rect (rect_of_tile g) (shape_of g c)) ≡ 0 → resolution_names g c r ≡ []
@@ -50,13 +51,6 @@ unfolding tile_names
 precincts_long g =
     joined_length (component_names g) (λ c. component_precincts (rect_of_tile g) (shape_of g c)) (length g.shapes) (component_long g)
     ∙ sym (whole_sum (component_precincts (rect_of_tile g)) g.shapes no_shape)
-
--- within its component
-precinct_within : (g : Geometry) (c r k : ℕ) → HasPrecinct g c r k
-    → sum_below (precinct_count (rect_of_tile g) (shape_of g c)) r + k < component_precincts (rect_of_tile g) (shape_of g c)
-unfolding component_precincts
-precinct_within g c r k h =
-    omega (arith, sum_below_more (precinct_count (rect_of_tile g) (shape_of g c)) r ((shape_of g c).levels + 1) (omega (arith, h.resolution.level)), h.precinct)
 
 in_resolution : (g : Geometry) (c r k : ℕ) → k < size_of (precincts_in g c r) → slice_get (resolution_names g c r) k ≡ Some (name_of 0 r c k)
 unfolding resolution_names

@@ -8,7 +8,7 @@ use Rattle.std.proofs.lemmas.List.Elements.{recursion_from_All}
 use Rattle.std.proofs.lemmas.List.FromFn.{length-map-range_with_len}
 use Rattle.jx_base.specs.declared.pieces.Block.{Block}
 use Rattle.jx_base.specs.Joined.{joined}
-use Rattle.jx_base.specs.Pieces.{PieceValue, ArePieces}
+use Rattle.jx_base.specs.Pieces.{PieceValue}
 use Rattle.jx_base.specs.Sound.{IsSound}
 use Rattle.jx_geom.specs.Counts.{tile_blocks}
 use Rattle.jx_geom.specs.Geometry.{Geometry, GeometryInRange, rect_of_tile}
@@ -27,6 +27,7 @@ use Rattle.jx_assemble.specs.Coded.{HasLayers}
 use Rattle.jx_assemble.specs.Own.{AreOwnBlocks, HasLeaves, IsSending, leaf_bytes, own_header, own_leaf, own_leaves}
 use Rattle.jx_assemble.specs.Sent.{AreSent, row_at, row_bytes, rows_of}
 use Rattle.jx_assemble.specs.declared.sent.Sent.{Sent}
+use Rattle.jx_gather.proofs.FitLemmas.{pieces_total}
 
 -- ---- what holds of each block
 abbrev IsSoundOf : Option Block → Type 0
@@ -57,9 +58,6 @@ own_has s g own n c r k layers range has are =
     }
 
 -- ---- few passes
-pieces_total : (style layer first last j : ℕ) (qs : List PieceValue) → ArePieces style layer first last qs → first + all_passes (map (part_in j) qs) ≡ last
-pieces_total style layer first last j [] a = let e : first ≡ last = a in omega arith
-pieces_total style layer first last j (q ∷ qs) a = let e : first + q.passes + all_passes (map (part_in j) qs) ≡ last = pieces_total style q.layer (first + q.passes) last j qs a.1 in omega arith
 
 few_passes : (j : ℕ) (o : Option Block) → IsSoundOf o → all_passes (leaf_from j o).parts < 2 ^ 16
 few_passes j None sound = omega arith

@@ -1,5 +1,5 @@
 -- What a plan gives for its tiles: headers that a file may be written from, and each tile's blocks as they are written.
-use Rattle.std.proofs.Common.{◌≡◌, ◌∙◌, ◌<◌, ◌≤◌, ◌+◌, ◌^◌, ℕ, arith, get_or, List, [], ◌∷◌, length, map, refl, sym, ap, subst, None, Some}
+use Rattle.std.proofs.Common.{◌≡◌, ◌∙◌, ◌<◌, ◌≤◌, ◌+◌, ◌^◌, ℕ, arith, get_or, List, [], ◌∷◌, length, map, sym, ap, subst, None, Some}
 use Rattle.std.specs.List.{All, slice_get}
 use Rattle.std.specs.Option.{option_map}
 use Rattle.std.proofs.lemmas.List.{length-map}
@@ -30,7 +30,11 @@ use Rattle.jx_assemble.specs.Assembled.{IsTooLong as HasMoreBytes}
 use Rattle.jx_assemble.specs.Own.{AreOwnBlocks}
 use Rattle.jx_assemble.specs.Ready.{AreReady}
 use Rattle.jx_assemble.specs.Tile.{AreAtMost, AreValuesOf, IsTile, IsTooLong, StandIn, block_written, blocks_in, first_block}
-use Rattle.jx_assemble.proofs.CountLemmas.{same_below, same_tile}
+use Rattle.jx_assemble.proofs.CountLemmas.{same_below}
+use Rattle.jx_plan.proofs.SameLemmas.{same_tile}
+use Rattle.jx_plan.proofs.ReadBackLemmas.{comps_are as written_comps}
+use Rattle.jx_plan.proofs.StreamLemmas.{canvas_stays as written_canvas}
+use Rattle.jx_plan.proofs.PlanLemmas.{same_tiles as written_tiles}
 
 -- ---- headers, by the law on those that are written
 abbrev pub WrittenReady : Type 0
@@ -41,18 +45,6 @@ WrittenReady =
 pub plan_ready : (p : Plan) → IsPlan p → WrittenReady → AreReady (marks_of p.wanted) (headers_of p)
 plan_ready p is written =
     written p.wanted p.layers p.stream is.some is.few is.wanted is.may.headers is.may.range is.may.totals (record { fits = is.fits; few = is.packets; parts = is.parts })
-
-written_canvas : (a : Asked) (s : Stream) → canvas_of (stream_written a s).siz ≡ canvas_of s.siz
-unfolding stream_written
-written_canvas a s = refl
-
-written_tiles : (a : Asked) (s : Stream) → tile_number (stream_written a s).siz ≡ tile_number s.siz
-unfolding stream_written
-written_tiles a s = refl
-
-written_comps : (a : Asked) (s : Stream) → length (stream_written a s).siz.comps ≡ length s.siz.comps
-unfolding stream_written
-written_comps a s = refl
 
 -- ---- a tile's blocks, by the laws on parameters that stay
 pub record ParametersStay : Type 0 where

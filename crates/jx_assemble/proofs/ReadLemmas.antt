@@ -8,10 +8,6 @@ use Rattle.std.proofs.lemmas.List.FromFn.{get_or-map-range_with_len, length-map-
 use Rattle.std.proofs.lemmas.Option.{slice_get-get_or, slice_get_past}
 use Rattle.jx_base.specs.declared.pieces.Block.{Block}
 use Rattle.jx_base.specs.Joined.{joined}
-use Rattle.jx_geom.specs.declared.shape.Canvas.{Canvas}
-use Rattle.jx_geom.specs.Counts.{tile_count}
-use Rattle.jx_geom.specs.Ranges.{CanvasInRange}
-use Rattle.jx_geom.proofs.TileLemmas.{place_in_one_tile}
 use Rattle.jx_marker.specs.declared.Progression.{Progression}
 use Rattle.jx_marker.specs.declared.Segment.{Segment}
 use Rattle.jx_marker.specs.declared.Segment.TheVariants as segment
@@ -46,6 +42,8 @@ use Rattle.jx_assemble.proofs.HeaderLemmas.{same_slots}
 use Rattle.jx_assemble.proofs.MadeLemmas.{header_is, made_entries, made_filled, made_long, made_notes, made_of}
 use Rattle.jx_assemble.proofs.PlaceLemmas.{AllOf, exact_all, none_lacks, parts_here, place_of, some_part, tile_bytes}
 use Rattle.jx_assemble.proofs.TurnLemmas.{AreOf, exact_parts}
+use Rattle.jx_plan.proofs.ReadBackLemmas.{tile_of_is}
+use Rattle.jx_plan.proofs.PlanLemmas.{some_tile}
 
 -- the tile-parts of a tile that are made of a list of its packets
 pub record IsCutInto (m : Marks) (s : Stream) (blocks : List Block) (t : ℕ) (parts : List TilePart) (groups : List (List PacketName)) : Type 0 where
@@ -55,21 +53,10 @@ pub record IsCutInto (m : Marks) (s : Stream) (blocks : List Block) (t : ℕ) (p
   pub are : parts ≡ tile_parts m s blocks t groups
 
 -- ---- the canvas
-tile_of_is : (main : List Segment) (parts : List Part) (tile : ℕ) → tile_of main parts tile ≡ tile_from main (parts_of tile parts)
-unfolding tile_of
-tile_of_is main parts tile = refl
 
-few_tiles : (siz : Siz) → tiles_fault siz ≡ None → tile_number siz ≤ 65535
+pub few_tiles : (siz : Siz) → tiles_fault siz ≡ None → tile_number siz ≤ 65535
 unfolding tiles_fault
 few_tiles siz h = grind (arith, nat_tests)
-
-pub some_tile : (c : Canvas) → CanvasInRange c → 0 < tile_count c
-some_tile c fit =
-    let one = place_in_one_tile c c.x0 c.y0 fit (record {
-      across = record { from = omega arith; below = omega (arith, fit.some_across) };
-      down = record { from = omega arith; below = omega (arith, fit.some_down) };
-    }) in
-    omega (arith, one.holds.0)
 
 -- ---- lists whose items a test can't tell apart
 find_alike : (p : Tile → Bool) (d : Tile) (xs ys : List Tile) → length xs ≡ length ys → ((i : ℕ) → i < length xs → p (get_or ys i d) ≡ p (get_or xs i d)) → find p xs ≡ None → find p ys ≡ None

@@ -2,7 +2,6 @@
 use Rattle.std.proofs.Common.{◌≡◌, ◌∙◌, ◌<◌, ◌≤◌, ◌+◌, ◌*◌, ℕ, true, false, arith, List, [], length, refl, sym, ap, subst, nat_lt, Option, Some, None, inl}
 use Rattle.std.specs.List.{All}
 use Rattle.std.specs.Option.{option_or}
-use Rattle.std.proofs.lemmas.Bool.Decides.{nat_tests}
 use Rattle.std.proofs.lemmas.Option.{slice_get-get_or}
 use Rattle.std.proofs.lemmas.List.Elements.{All-cons, All-nil}
 use Rattle.jx_base.specs.declared.names.Band.{Band}
@@ -12,14 +11,13 @@ use Rattle.jx_marker.specs.declared.Progression.{Progression}
 use Rattle.jx_marker.specs.declared.Quant.{Quant}
 use Rattle.jx_marker.specs.declared.Segment.{Segment}
 use Rattle.jx_marker.specs.declared.Shape.{Shape}
-use Rattle.jx_marker.specs.declared.Siz.{Siz}
 use Rattle.jx_marker.specs.Ranges.{InRange}
 use Rattle.jx_geom.specs.declared.shape.CompShape.{CompShape}
 use Rattle.jx_geom.specs.Geometry.{GeometryInRange, HasResolution, no_shape}
 use Rattle.jx_geom.specs.Ranges.{HasBand, ShapeInRange}
 use Rattle.jx_stream.specs.declared.headers.HeaderKind.TheVariants.{First, Main}
 use Rattle.jx_stream.specs.declared.Stream.{Stream}
-use Rattle.jx_stream.specs.First.{tile_number, tiles_fault}
+use Rattle.jx_stream.specs.First.{tile_number}
 use Rattle.jx_stream.specs.Headers.{has_slot}
 use Rattle.jx_stream.specs.InRange.{StreamInRange}
 use Rattle.jx_stream.specs.Params.{band_count, band_planes, chosen, cod_or, header_in, header_of, number_of, params_of, planes_at, planes_of, precincts_of, quant_at, quant_of, quant_or, shape_at, shape_of, shape_or, shift_at, shift_of, tile_planes}
@@ -35,10 +33,7 @@ use Rattle.jx_order.proofs.ExistLemmas.{orders_exist}
 use Rattle.jx_assemble.specs.Ready.{AreReady, HasList}
 use Rattle.jx_plan.specs.declared.Marks.{Marks}
 use Rattle.jx_assemble.proofs.CoverLemmas.{cover_all, has_cod}
-
-few : (siz : Siz) → tiles_fault siz ≡ None → tile_number siz ≤ 65535
-unfolding tiles_fault
-few siz h = grind (arith, nat_tests)
+use Rattle.jx_assemble.proofs.ReadLemmas.{few_tiles as few}
 
 planes_fit : (quants : Option Quant) (shapes : Option Shape) (shift number : ℕ) (quant : Quant) (shape : Shape) → quants ≡ Some quant → shapes ≡ Some shape
     → number < band_count (shape_or shapes).levels → All (λ (n : ℕ). nat_lt 74 n ≡ false) (band_planes quants shapes shift)

@@ -1,7 +1,6 @@
 -- The segments of a header are in their ranges.
-use Rattle.std.proofs.Common.{ℕ, List, [], ◌∷◌, ◌++◌, All}
+use Rattle.std.proofs.Common.{ℕ, List, [], ◌∷◌, ◌++◌}
 use Rattle.std.specs.List.{AllByRecursion}
-use Rattle.std.proofs.lemmas.List.Elements.{All-from_recursion}
 use Rattle.jx_marker.specs.declared.Segment.{Segment}
 use Rattle.jx_marker.specs.Ranges.{InRange}
 use Rattle.jx_stream.specs.declared.headers.HeaderKind.{HeaderKind}
@@ -10,6 +9,3 @@ use Rattle.jx_stream.specs.Spells.{AreSegments}
 each_in_range : (kind : HeaderKind) (comps : ℕ) (before segments : List Segment) → AreSegments kind comps before segments → AllByRecursion (InRange comps) segments
 each_in_range kind comps before [] are = tt
 each_in_range kind comps before (s ∷ ss) are = (are.0.range, each_in_range kind comps (before ++ s ∷ []) ss are.1)
-
-pub all_in_range : (kind : HeaderKind) (comps : ℕ) (before segments : List Segment) → AreSegments kind comps before segments → All (InRange comps) segments
-all_in_range kind comps before segments are = All-from_recursion (InRange comps) segments (each_in_range kind comps before segments are)

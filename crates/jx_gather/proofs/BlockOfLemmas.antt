@@ -1,5 +1,5 @@
 -- What holds of each block that is gathered.
-use Rattle.std.proofs.Common.{map, ◌≡◌, ℕ, zero, suc, ◌+◌, ◌<◌, ◌≤◌, ◌^◌, List, [], ◌∷◌, length, refl, sym, ap, ◌∙◌, subst, arith, Some, None, Option, All, append-nil}
+use Rattle.std.proofs.Common.{map, ◌≡◌, ℕ, ◌+◌, ◌<◌, ◌≤◌, ◌^◌, List, [], ◌∷◌, length, refl, sym, ap, ◌∙◌, subst, arith, Some, None, Option, All, append-nil}
 use Rattle.std.specs.Prelude.{slice_get}
 use Rattle.std.specs.List.{AllByRecursion, Contains}
 use Rattle.std.proofs.lemmas.List.Elements.{All-from_recursion}
@@ -39,6 +39,7 @@ use Rattle.jx_gather.proofs.LayersFew.{in_layer, Walk, layer_few, below_of, belo
 use Rattle.jx_gather.proofs.CutRuns.{cut_over}
 use Rattle.jx_gather.proofs.LeafLemmas.{LeafOf, block_leaf}
 use Rattle.jx_gather.proofs.SoundLemmas.{fresh_unknown, IsBegun, OfNumber, own_have, begun_leaves, read_begun}
+use Rattle.jx_geom.proofs.SameLemmas.{same_sum as sum_same}
 
 -- ---- one block
 none_mapped : (founds : List Found) → pieces_in founds ≡ [] → founds ≡ []
@@ -97,12 +98,6 @@ block_is b s t cuts left n h low is =
     }
 
 -- ---- all blocks
-sum_same : (f h : ℕ → ℕ) (n : ℕ) → ((i : ℕ) → i < n → f i ≡ h i) → sum_below f n ≡ sum_below h n
-sum_same f h zero same = refl
-sum_same f h (suc n) same =
-    let front : sum_below f n ≡ sum_below h n = sum_same f h n (λ i lt. same i (omega arith)) in
-    let last : f n ≡ h n = same n (omega arith) in
-    omega arith
 
 abbrev pub count_of : Stream → ℕ → ℕ
 count_of s t = count_in_tile (tile_rect (canvas_of s.siz) t) (shapes_of s t)

@@ -1,12 +1,11 @@
 -- In each layer a block's pieces are cut exactly after each pass that ends a segment.
-use Rattle.std.proofs.Common.{◌≡◌, ℕ, ◌+◌, ◌<◌, ◌≤◌, ◌==◌, nat_lt, List, [], ◌∷◌, ◌++◌, length, map, drop, set, refl, sym, ap, ◌∙◌, subst, arith, Some, inl, inr, append-nil}
+use Rattle.std.proofs.Common.{◌≡◌, ℕ, ◌+◌, ◌<◌, ◌≤◌, ◌==◌, nat_lt, List, [], ◌∷◌, ◌++◌, length, map, drop, refl, sym, ap, ◌∙◌, subst, arith, Some, inl, inr, append-nil}
 use Rattle.std.specs.Prelude.{slice_get}
 use Rattle.std.specs.List.{AllByRecursion}
 use Rattle.std.proofs.lemmas.Bool.{cases_lt, cases_eq, eq-eqb, ne_eqb, lt-ltb, le-ltb, cond-true, cond-false}
 use Rattle.std.proofs.lemmas.List.{map-append}
-use Rattle.std.proofs.lemmas.Option.{same_Some, slice_get_within}
+use Rattle.std.proofs.lemmas.Option.{same_Some}
 use Rattle.jx_base.specs.Pieces.{PieceValue}
-use Rattle.jx_base.proofs.Lists.{get-set_same, get-set_other}
 use Rattle.jx_geom.specs.Geometry.{Geometry, GeometryInRange}
 use Rattle.jx_head.specs.declared.Part.{Part}
 use Rattle.jx_head.specs.Parts.{cut}
@@ -25,8 +24,8 @@ use Rattle.jx_gather.specs.BlockOf.{passes_at, passes_below, pieces_at}
 use Rattle.jx_geom.proofs.PrecinctLemmas.{precinct_once}
 use Rattle.jx_gather.proofs.PartLemmas.{own_parts, known_in, packet_goes}
 use Rattle.jx_gather.proofs.GrowLemmas.{Apart, own_elsewhere}
-use Rattle.jx_gather.proofs.FewLemmas.{found_from, founds_layer, own_here, own_past, own_nothing}
-use Rattle.jx_gather.proofs.TrackLemmas.{AllFollow, Follows, turn_follows, turn_inside, parts_apart, parts_elsewhere, own_nil, own_cons}
+use Rattle.jx_gather.proofs.FewLemmas.{found_from, founds_layer, own_here, own_past, own_nothing, passes_cons as at_here, passes_past as at_past}
+use Rattle.jx_gather.proofs.TrackLemmas.{AllFollow, Follows, turn_follows, turn_inside, parts_apart, parts_elsewhere, own_nil, own_cons, here_after as state_here, other_after as state_other}
 use Rattle.jx_gather.proofs.LayersFew.{Walk, AreHigher, higher_from}
 use Rattle.jx_gather.proofs.CarryLemmas.{layer_here, layer_past, layer_nothing}
 use Rattle.jx_gather.proofs.PartCuts.{Cuts, packet_cut, goes_on}
@@ -78,12 +77,6 @@ AreAt m qs = AllByRecursion (λ (q : PieceValue). q.layer ≡ m) qs
 
 abbrev AreOver : ℕ → List PieceValue → Type 0
 AreOver m qs = AllByRecursion (λ (q : PieceValue). m < q.layer) qs
-
-pub at_here : (layer : ℕ) (q : PieceValue) (qs : List PieceValue) → q.layer ≡ layer → passes_at layer (q ∷ qs) ≡ q.passes + passes_at layer qs
-at_here layer q qs e = cond-true (q.layer == layer) (q.passes + passes_at layer qs) (passes_at layer qs) (eq-eqb q.layer layer e)
-
-pub at_past : (layer : ℕ) (q : PieceValue) (qs : List PieceValue) → (q.layer ≡ layer → ⊥) → passes_at layer (q ∷ qs) ≡ passes_at layer qs
-at_past layer q qs ne = cond-false (q.layer == layer) (q.passes + passes_at layer qs) (passes_at layer qs) (ne_eqb q.layer layer ne)
 
 below_here : (layer : ℕ) (q : PieceValue) (qs : List PieceValue) → q.layer < layer → passes_below layer (q ∷ qs) ≡ q.passes + passes_below layer qs
 below_here layer q qs lt = cond-true (nat_lt q.layer layer) (q.passes + passes_below layer qs) (passes_below layer qs) (lt-ltb q.layer layer lt)
@@ -217,19 +210,6 @@ higher_over b s g m c r k j number old (d ∷ cuts) new h has lt w high =
       | inr ne ↦ subst (AreOver m) (sym (own_elsewhere_in b s g c r k j number old d w.are.0 h has lt w.there.0 w.follow ne w.are.1)) tt
     ] in
     subst (AreOver m) (sym (own_found_join (leaf_number g c r k j) g d cuts)) (over_join m own (pieces_in (own_founds (leaf_number g c r k j) (founds_of g cuts))) first later)
-
-states_set : (b : List ℕ) (g : Geometry) (number : ℕ) (old : Left) (c : Cut) (new : Left) → IsTurn b g number old c new → new.states ≡ set old.states (number_of g c.name) c.after
-states_set b g number old c new t = ap (λ (l : Left). l.states) t.new_is
-
-state_here : (b : List ℕ) (g : Geometry) (number : ℕ) (old : Left) (c : Cut) (new : Left) → IsTurn b g number old c new → slice_get new.states (number_of g c.name) ≡ Some c.after
-state_here b g number old c new t =
-    ap (λ (l : List State). slice_get l (number_of g c.name)) (states_set b g number old c new t)
-    ∙ get-set_same old.states (number_of g c.name) c.after (slice_get_within old.states (number_of g c.name) t.state t.known)
-
-state_other : (b : List ℕ) (g : Geometry) (number : ℕ) (old : Left) (c : Cut) (new : Left) (i : ℕ) → IsTurn b g number old c new → (number_of g c.name ≡ i → ⊥) → slice_get new.states i ≡ slice_get old.states i
-state_other b g number old c new i t ne =
-    ap (λ (l : List State). slice_get l i) (states_set b g number old c new t)
-    ∙ get-set_other old.states (number_of g c.name) i c.after (λ (e : i ≡ number_of g c.name). ne (sym e))
 
 own_state : (b : List ℕ) (s : Stream) (g : Geometry) (number : ℕ) (old : Left) (c : Cut) (new : Left) → AllFollow s g old.states → HasPrecinct g c.name.comp c.name.res c.name.precinct
     → (t : IsTurn b g number old c new) → Follows s g c.name.comp c.name.res c.name.precinct t.state

@@ -37,7 +37,7 @@ use Rattle.jx_stream.specs.InRange.{StreamInRange}
 use Rattle.jx_stream.proofs.RangeLemmas.{read_in_range}
 use Rattle.jx_gather.proofs.ListLemmas.{few_components}
 use Rattle.jx_gather.proofs.PacketLemmas.{cut_made}
-use Rattle.jx_gather.proofs.TileLemmas.{cuts_on}
+use Rattle.jx_gather.proofs.TileLemmas.{cuts_on, names_on as names_more}
 use Rattle.jx_gather.proofs.TurnLemmas.{Precincts, Keeps, Listed, Known, listed, known_there, has_precinct, due_named}
 use Rattle.jx_gather.proofs.OnceLemmas.{Ready}
 use Rattle.jx_gather.proofs.ReadyLemmas.{ready}
@@ -180,10 +180,6 @@ end_by : (b : List ℕ) (s : Stream) (t : ℕ) (cuts : List Cut) (left : Left) �
 end_by b s t cuts left order are [] first = inl (cuts, record { order = subst (IsListOf s t) (append-nil (names_of cuts)) order; end = left; are = are; none_left = first })
 end_by b s t cuts left order are (body ∷ later) first =
     inr (fault.Rule 31 body.at, record { cuts = cuts; rest = []; order = order; left = left; are = are; stops = record { body = body; later = later; due_is = first; fault_is = refl } })
-
-names_more : (cuts : List Cut) (c : Cut) → names_of (cuts ++ c ∷ []) ≡ names_of cuts ++ c.name ∷ []
-names_more [] c = refl
-names_more (x ∷ cuts) c = ap (λ (xs : List PacketName). x.name ∷ xs) (names_more cuts c)
 
 tile_from : (b : List ℕ) (s : Stream) (t : ℕ) (list rest : List PacketName) (cuts : List Cut) (left : Left) → Reads b s t list → list ≡ names_of cuts ++ rest
     → AreCuts b (geometry s t) 0 (start s t) cuts left → TileOr b s t

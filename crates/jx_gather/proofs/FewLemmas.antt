@@ -17,7 +17,7 @@ use Rattle.jx_gather.proofs.PartLemmas.{own_parts, AreSteps, AreWithin, steps_fr
 use Rattle.jx_gather.proofs.GrowLemmas.{Apart}
 
 -- ---- parts
-steps_sum : (style first last : ℕ) (ps : List Part) → AreSteps style first last ps → first + passes_of ps ≡ last
+pub steps_sum : (style first last : ℕ) (ps : List Part) → AreSteps style first last ps → first + passes_of ps ≡ last
 steps_sum style first last [] a = let e : first ≡ last = a in omega arith
 steps_sum style first last (p ∷ ps) a = let e : first + p.passes + passes_of ps ≡ last = steps_sum style (first + p.passes) last ps a.1 in omega arith
 
@@ -83,10 +83,10 @@ pub packet_few : (bytes : List ℕ) (k : State) (parts : List Part) (used : ℕ)
 packet_few bytes k parts used after p i = subst (λ (l : List Part). passes_of (own_parts i l) ≤ 164) (sym p.parts_are) (header_few k p.header p.header.some p.is i)
 
 -- ---- the pieces of a packet
-passes_cons : (layer : ℕ) (p : PieceValue) (ps : List PieceValue) → p.layer ≡ layer → passes_at layer (p ∷ ps) ≡ p.passes + passes_at layer ps
+pub passes_cons : (layer : ℕ) (p : PieceValue) (ps : List PieceValue) → p.layer ≡ layer → passes_at layer (p ∷ ps) ≡ p.passes + passes_at layer ps
 passes_cons layer p ps e = cond-true (p.layer == layer) (p.passes + passes_at layer ps) (passes_at layer ps) (eq-eqb p.layer layer e)
 
-passes_past : (layer : ℕ) (p : PieceValue) (ps : List PieceValue) → (p.layer ≡ layer → ⊥) → passes_at layer (p ∷ ps) ≡ passes_at layer ps
+pub passes_past : (layer : ℕ) (p : PieceValue) (ps : List PieceValue) → (p.layer ≡ layer → ⊥) → passes_at layer (p ∷ ps) ≡ passes_at layer ps
 passes_past layer p ps ne = cond-false (p.layer == layer) (p.passes + passes_at layer ps) (passes_at layer ps) (ne_eqb p.layer layer ne)
 
 pub passes_join : (layer : ℕ) (ps qs : List PieceValue) → passes_at layer (ps ++ qs) ≡ passes_at layer ps + passes_at layer qs

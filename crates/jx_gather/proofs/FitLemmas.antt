@@ -39,7 +39,9 @@ use Rattle.jx_gather.specs.Carries.{block_in, part_of}
 use Rattle.jx_gather.specs.Planned.{part_in, leaf_from, leaf_in, leaves_in}
 use Rattle.jx_gather.proofs.CellLemmas.{pick, size_is, bands_of, cells_count}
 use Rattle.jx_geom.proofs.LeafLemmas.{name_here, name_later, leaf_of, leaf_is, leaf_there}
-use Rattle.jx_gather.proofs.CutRuns.{total, at_here, at_past}
+use Rattle.jx_gather.proofs.CutRuns.{total}
+use Rattle.jx_gather.proofs.FewLemmas.{passes_past as at_past}
+use Rattle.jx_gather.proofs.FewLemmas.{passes_cons as at_here}
 use Rattle.jx_gather.proofs.CarryLemmas.{layer_here, layer_past, layer_nothing}
 use Rattle.jx_gather.proofs.PlannedLemmas.{parts_of_pieces, leaves_long, sound_at}
 use Rattle.jx_stream.proofs.RangeLemmas.{read_in_range}
@@ -79,7 +81,7 @@ runs_from : (style layers j layer first last : ℕ) (qs : List PieceValue) → A
 runs_from style layers j layer first last [] a low = tt
 runs_from style layers j layer first last (q ∷ qs) a low = (a.0.layers, low.0, refl, a.0.begins, a.0.some, runs_from style layers j q.layer (first + q.passes) last qs a.1 low.1)
 
-pieces_total : (style layer first last j : ℕ) (qs : List PieceValue) → ArePieces style layer first last qs → first + all_passes (map (part_in j) qs) ≡ last
+pub pieces_total : (style layer first last j : ℕ) (qs : List PieceValue) → ArePieces style layer first last qs → first + all_passes (map (part_in j) qs) ≡ last
 pieces_total style layer first last j [] a = let e : first ≡ last = a in omega arith
 pieces_total style layer first last j (q ∷ qs) a = let e : first + q.passes + all_passes (map (part_in j) qs) ≡ last = pieces_total style q.layer (first + q.passes) last j qs a.1 in omega arith
 

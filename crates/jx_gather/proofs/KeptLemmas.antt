@@ -3,7 +3,6 @@ use Rattle.std.proofs.Common.{◌≡◌, ℕ, ◌+◌, ◌<◌, ◌≤◌, List,
 use Rattle.std.specs.Prelude.{slice_get}
 use Rattle.std.specs.List.{AllByRecursion}
 use Rattle.std.proofs.lemmas.List.Elements.{recursion_from_All}
-use Rattle.std.proofs.lemmas.Option.{get_or_from_slice_get, slice_get_within}
 use Rattle.jx_base.specs.declared.names.BlockName.{BlockName}
 use Rattle.jx_base.specs.declared.names.Rect.{Rect}
 use Rattle.jx_base.specs.declared.pieces.Block.{Block}
@@ -42,6 +41,7 @@ use Rattle.jx_stream.proofs.RangeLemmas.{read_in_range}
 use Rattle.jx_gather.proofs.ListLemmas.{few_components}
 use Rattle.jx_gather.proofs.TotalLemmas.{blocks_are, geometry_fits}
 use Rattle.jx_gather.proofs.TurnLemmas.{listed}
+use Rattle.jx_gather.proofs.PlannedLemmas.{sound_at}
 
 -- ---- the block of a name among those that the packets tell of
 laid_at : (s : Stream) (packets : ℕ → Packets) (groups : ℕ → List (List PacketName)) (n : BlockName) → IsBlock (canvas_of s.siz) (shapes_of s) n
@@ -135,10 +135,6 @@ found_kept s n blocks packets list (Some d) h has found is sound =
     ap (λ (i : ℕ). Some (block_with s g n (own_founds i (founds_of g (cuts_at packets list))))) (sym leaf.number)
     ∙ ap (λ (fs : List Found). Some (block_with s g n fs)) own
     ∙ ap (λ (x : Block). Some x) (block_kept s n number d is good)
-
-sound_at : (blocks : List Block) (i : ℕ) (d : Block) → All IsSound blocks → slice_get blocks i ≡ Some d → IsSound d
-sound_at blocks i d all found =
-    subst (λ (x : Block). IsSound x) (get_or_from_slice_get blocks i d d found) (all i d (slice_get_within blocks i d found))
 
 blocks_kept : (s : Stream) (blocks : List Block) (packets : ℕ → Packets) (groups : ℕ → List (List PacketName)) → AreBlocksOf s blocks → All IsSound blocks
     → ((t : ℕ) → t < tile_number s.siz → Kept s t blocks (packets t) (packets_in (groups t))) → laid_blocks s packets groups ≡ blocks

@@ -1,24 +1,16 @@
 -- What the rules on coded bytes say of them, where none is violated.
-use Rattle.std.proofs.Common.{◌≡◌, ℕ, suc, ◌+◌, ◌<◌, ◌≤◌, ◌==◌, ◌&&◌, ◌||◌, nat_lt, Bool, true, false, List, [], ◌∷◌, length, take, drop, refl, sym, ap, ◌∙◌, subst, arith, Some, None, inl, inr, ◌⊎◌, Option, get_or, find, slice_index}
+use Rattle.std.proofs.Common.{◌≡◌, ℕ, suc, ◌+◌, ◌<◌, ◌≤◌, ◌==◌, ◌&&◌, ◌||◌, nat_lt, Bool, false, List, [], ◌∷◌, length, take, drop, refl, sym, ap, ◌∙◌, subst, arith, Some, None, inl, inr, ◌⊎◌, Option, get_or, find, slice_index}
 use Rattle.std.specs.List.{range_with_len}
-use Rattle.std.specs.Option.{option_or}
 use Rattle.std.proofs.lemmas.Bool.{eq-eqb, and_cases, or_parts, ltb-false, both_ways, true≢false}
 use Rattle.jx_base.specs.Markers.{HasNoMarker}
 use Rattle.jx_head.specs.declared.Part.{Part}
-use Rattle.jx_stream.specs.declared.faults.StreamFault.{StreamFault}
 use Rattle.jx_stream.specs.Faults.{broken}
 use Rattle.jx_gather.specs.Data.{front_length, parts_length, is_marked, first_mark, rule_30, marks_fault, body_fault}
 use Rattle.std.proofs.lemmas.List.FromFn.{get_or-range_with_len, length-range_with_len}
 use Rattle.jx_base.proofs.Lists.{find_none}
+use Rattle.jx_stream.proofs.FaultLemmas.{none_later as or_later, none_first as or_first, broken_none}
 
 -- ---- faults one after another
-or_first : (a b : Option StreamFault) → option_or a b ≡ None → a ≡ None
-or_first None b h = refl
-or_first (Some f) b h = absurd cc
-
-or_later : (a b : Option StreamFault) → option_or a b ≡ None → b ≡ None
-or_later None b h = h
-or_later (Some f) b h = absurd cc
 
 -- ---- rule 30
 -- none of a range
@@ -64,7 +56,7 @@ unmarked bytes h =
     no_marker 0 bytes (λ (e : 0 ≡ 255). absurd (let e' : 0 ≡ 255 = e in omega arith))
     (λ (i : ℕ) (lt : i < length bytes). let e : 0 + i ≡ i = omega arith in subst (λ (m : ℕ). is_marked bytes m ≡ false) e (range_none (is_marked bytes) 0 (length bytes) i h lt))
 
-rule_none : (at : ℕ) (m : Option ℕ) → rule_30 at m ≡ None → m ≡ None
+pub rule_none : (at : ℕ) (m : Option ℕ) → rule_30 at m ≡ None → m ≡ None
 rule_none at None h = refl
 rule_none at (Some i) h = absurd cc
 
@@ -78,9 +70,6 @@ pub marks_later : (at : ℕ) (bytes : List ℕ) (p : Part) (parts : List Part) �
 marks_later at bytes p parts h = or_later (rule_30 at (first_mark (take p.length bytes))) (marks_fault (at + p.length) (drop p.length bytes) parts) h
 
 -- ---- rules 28 and 30 at a packet
-broken_none : (rule at : ℕ) (b : Bool) → broken rule at b ≡ None → b ≡ false
-broken_none rule at true h = absurd cc
-broken_none rule at false h = refl
 
 pub body_fits : (w : List ℕ) (at used : ℕ) (parts : List Part) → body_fault w at used parts ≡ None → front_length w used + parts_length parts ≤ length w
 unfolding body_fault

@@ -34,7 +34,7 @@ precincts_long s g =
     ∙ sym (whole_sum (component_precincts (rect_of_tile g)) g.shapes no_shape)
 
 -- within its component
-precinct_within : (g : Geometry) (c r k : ℕ) → HasPrecinct g c r k
+pub precinct_within : (g : Geometry) (c r k : ℕ) → HasPrecinct g c r k
     → sum_below (precinct_count (rect_of_tile g) (shape_of g c)) r + k < component_precincts (rect_of_tile g) (shape_of g c)
 unfolding component_precincts
 precinct_within g c r k h =

@@ -1,6 +1,5 @@
 -- One packet: its parts make a packet that was cut off, or what breaks a rule in it does so in the packet.
-use Rattle.std.proofs.Common.{◌≡◌, ℕ, ◌+◌, ◌≤◌, Bool, true, false, List, [], ◌∷◌, length, take, drop, Option, Some, None, refl, ap, subst, inl, inr, arith, length-append}
-use Rattle.std.specs.Option.{option_or}
+use Rattle.std.proofs.Common.{◌≡◌, ℕ, ◌+◌, ◌≤◌, Bool, true, false, List, [], ◌∷◌, length, take, drop, Some, None, refl, ap, subst, inl, inr, arith, length-append}
 use Rattle.jx_tagtree.specs.Header.{bits_of}
 use Rattle.jx_tagtree.proofs.LawLemmas.{ends_at}
 use Rattle.jx_head.specs.declared.Part.{Part}
@@ -11,6 +10,8 @@ use Rattle.jx_stream.specs.Faults.{broken}
 use Rattle.jx_gather.specs.Faults.{HasCause}
 use Rattle.jx_gather.specs.Data.{sop_fault, header_in, front_length, parts_length, first_mark, rule_30, marks_fault, body_fault}
 use Rattle.jx_gather.specs.Cuts.{Cut, IsCut, Breaks, BreaksHeader}
+use Rattle.jx_stream.proofs.FaultLemmas.{none_later, none_first, none_of_both}
+use Rattle.jx_gather.proofs.MarkLemmas.{rule_none as mark_none}
 
 pub cause_on : (P Q : StreamFault → Type 0) (e : StreamFault) → ((f : StreamFault) → P f → Q f) → HasCause P e → HasCause Q e
 cause_on P Q (fault.Rule number place) on h = on (fault.Rule number place) h
@@ -27,21 +28,6 @@ packet_within bytes k parts used after p =
 broken_none : (rule at : ℕ) (b : Bool) → broken rule at b ≡ None → broken rule 0 b ≡ None
 broken_none rule at true h = absurd (cc)
 broken_none rule at false h = refl
-
-none_first : (first later : Option StreamFault) → option_or first later ≡ None → first ≡ None
-none_first None later h = refl
-none_first (Some f) later h = absurd (cc)
-
-none_later : (first later : Option StreamFault) → option_or first later ≡ None → later ≡ None
-none_later None later h = h
-none_later (Some f) later h = absurd (cc)
-
-none_of_both : (first later : Option StreamFault) → first ≡ None → later ≡ None → option_or first later ≡ None
-none_of_both first later a b = rw a b
-
-mark_none : (at : ℕ) (mark : Option ℕ) → rule_30 at mark ≡ None → mark ≡ None
-mark_none at None h = refl
-mark_none at (Some i) h = absurd (cc)
 
 pub sop_anywhere : (w : List ℕ) (at number : ℕ) → sop_fault w at number ≡ None → sop_fault w 0 number ≡ None
 unfolding sop_fault

@@ -1,14 +1,16 @@
 -- The parts of a block in one packet are cut exactly after each pass that ends a segment.
-use Rattle.std.proofs.Common.{◌≡◌, ℕ, ◌+◌, ◌-◌, ◌<◌, ◌≤◌, ◌==◌, Bool, true, false, List, [], ◌∷◌, ◌++◌, length, map, refl, sym, ap, ◌∙◌, subst, cond, arith, inl, inr, ◌≢◌, MatchBool, get_or-set_other, length-append}
-use Rattle.std.proofs.lemmas.Bool.{cases_lt, cases_eq, eq-eqb, cond-true}
+use Rattle.std.proofs.Common.{◌≡◌, ℕ, ◌+◌, ◌-◌, ◌<◌, ◌≤◌, Bool, true, false, List, [], ◌∷◌, ◌++◌, length, map, refl, sym, ap, ◌∙◌, subst, cond, arith, inl, inr, MatchBool, length-append}
+use Rattle.std.proofs.lemmas.Bool.{cases_lt, cases_eq}
 use Rattle.jx_head.specs.declared.Part.{Part}
 use Rattle.jx_head.specs.declared.known.Known.{Known}
 use Rattle.jx_head.specs.Parts.{cut, AreParts}
 use Rattle.jx_head.specs.Written.{passes_of}
-use Rattle.jx_head.specs.Packet.{Cells, State, Values, Entry, nothing, contributes, block_at, block_after, unknown_block, IsIncluded, zero_planes, cells_first, cells_included, entry_after, IsEntry, AreEntries, parts_told, BandTold, AreBandsTold, bands_parts, Header, IsPacket}
+use Rattle.jx_head.specs.Packet.{Cells, State, Values, Entry, nothing, contributes, block_at, unknown_block, IsIncluded, zero_planes, entry_after, IsEntry, AreEntries, parts_told, BandTold, AreBandsTold, bands_parts, Header, IsPacket}
 use Rattle.jx_head.specs.Precinct.{all_blocks}
 use Rattle.jx_head.proofs.FreshLemmas.{block_left, block_right}
-use Rattle.jx_gather.proofs.PartLemmas.{own_parts, known_in, AreWithin, Goes, AreSteps, steps_from, cut_runs, own_none, own_left, own_right, entry_within, blocks_within, bands_within}
+use Rattle.jx_gather.proofs.PartLemmas.{own_parts, known_in, AreWithin, Goes, steps_from, cut_runs, own_none, own_left, own_right, entry_within, blocks_within, bands_within, own_all as own_same}
+use Rattle.jx_gather.proofs.FewLemmas.{steps_sum as steps_all}
+use Rattle.jx_head.proofs.WriteLemmas.{other_same as other_known}
 
 -- ---- the parts of a packet
 -- parts from a pass on that are cut at the ends of segments
@@ -22,10 +24,6 @@ runs_are lblock block first (run ∷ runs) [] a = absurd a
 runs_are lblock block first (run ∷ runs) (p ∷ ps) a =
     ap (λ (n : ℕ). n ∷ map (λ (q : Part). q.passes) ps) a.0.has ∙ ap (λ (ns : List ℕ). run ∷ ns) (runs_are lblock block (first + run) runs ps a.1)
 
-steps_all : (style first last : ℕ) (ps : List Part) → AreSteps style first last ps → first + passes_of ps ≡ last
-steps_all style first last [] a = let e : first ≡ last = a in omega arith
-steps_all style first last (p ∷ ps) a = let e : first + p.passes + passes_of ps ≡ last = steps_all style (first + p.passes) last ps a.1 in omega arith
-
 entry_cut : (v : Values) (style layer block leaf : ℕ) (cells : Cells) (e : Entry) → IsEntry v style layer block leaf cells e → Cuts style (block_at cells leaf).passes e.parts
 entry_cut v style layer block leaf cells e is = by (contributes e) is.told
   where
@@ -37,21 +35,6 @@ entry_cut v style layer block leaf cells e is = by (contributes e) is.told
         let same : e.passes ≡ passes_of e.parts = omega arith in
         runs_are (known.lblock + e.raise) block known.passes (cut style known.passes e.passes) e.parts h.parts ∙ ap (cut style known.passes) same
     by false n = subst (λ (x : Entry). Cuts style (block_at cells leaf).passes x.parts) (sym n) refl
-
-other_known : (v : Values) (layer leaf j : ℕ) (cells : Cells) (e : Entry) → j ≢ leaf → block_at (entry_after v layer leaf cells e) j ≡ block_at cells j
-other_known v layer leaf j cells e ne = by (contributes e)
-  where
-    by : (c : Bool) → block_at (cond c (cells_included v leaf (cells_first v layer leaf cells) e) (cells_first v layer leaf cells)) j ≡ block_at cells j
-    by true = get_or-set_other cells.blocks leaf j (block_after (block_at cells leaf) (zero_planes (block_at cells leaf).zero v.zeros leaf) e) unknown_block ne
-    by false = refl
-
-own_same : (block : ℕ) (ps : List Part) → AreWithin block (block + 1) ps → own_parts block ps ≡ ps
-own_same block [] a = refl
-own_same block (p ∷ ps) a =
-    let x : block ≤ p.block = a.0.above in
-    let y : p.block < block + 1 = a.0.below in
-    let same : p.block ≡ block = omega arith in
-    cond-true (p.block == block) (p ∷ own_parts block ps) (own_parts block ps) (eq-eqb p.block block same) ∙ ap (λ (l : List Part). p ∷ l) (own_same block ps a.1)
 
 blocks_cut : (v : Values) (style layer base stop leaf j : ℕ) (cells : Cells) (es : List Entry) → AreEntries v style layer base stop leaf cells es → leaf ≤ j → j < stop
     → Cuts style (block_at cells j).passes (own_parts (base + j) (parts_told es))

@@ -1,5 +1,5 @@
 -- What a packet's header tells of one block of its precinct.
-use Rattle.std.proofs.Common.{◌≡◌, ℕ, zero, suc, ◌+◌, ◌-◌, ◌*◌, ◌<◌, ◌≤◌, ◌^◌, ◌==◌, nat_lt, Bool, true, false, List, [], ◌∷◌, ◌++◌, length, refl, sym, ap, ◌∙◌, subst, cond, arith, append-nil, Some, None, inl, inr, ◌⊎◌, ◌≢◌, length-append, get_or, set, filter, All, MatchBool, if◌then◌else◌, get_or-set_same, get_or-set_other, Option}
+use Rattle.std.proofs.Common.{◌≡◌, ℕ, zero, suc, ◌+◌, ◌-◌, ◌*◌, ◌<◌, ◌≤◌, ◌^◌, ◌==◌, nat_lt, Bool, true, false, List, [], ◌∷◌, ◌++◌, length, refl, sym, ap, ◌∙◌, subst, cond, arith, append-nil, Some, None, inl, inr, ◌⊎◌, length-append, get_or, set, filter, All, MatchBool, if◌then◌else◌, get_or-set_same, Option}
 use Rattle.std.proofs.lemmas.Bool.{cases_lt, cases_eq, eq-eqb, ne_eqb, lt-ltb, le-ltb, cond-true, cond-false}
 use Rattle.std.proofs.lemmas.List.Elements.{filter-append}
 use Rattle.jx_base.specs.Passes.{end_pass}
@@ -16,6 +16,7 @@ use Rattle.jx_head.proofs.BlockLemmas.{told_is, block_made}
 use Rattle.jx_head.proofs.BandLemmas.{block_of, entry_size, entry_agrees, block_band}
 use Rattle.jx_head.proofs.FreshLemmas.{block_left, block_right}
 use Rattle.jx_head.proofs.PacketLemmas.{bits_few}
+use Rattle.jx_head.proofs.WriteLemmas.{other_same as entry_other}
 
 -- ---- parts
 -- those of one block
@@ -163,7 +164,7 @@ parts_within style lblock block first last (run ∷ runs) (p ∷ ps) a r =
     let some : 1 ≤ run = r.0 in
     (record { above = omega arith; below = omega arith; some = omega arith }, parts_within style lblock block (first + run) last runs ps a.1 r.2)
 
-own_all : (block : ℕ) (ps : List Part) → AreWithin block (block + 1) ps → own_parts block ps ≡ ps
+pub own_all : (block : ℕ) (ps : List Part) → AreWithin block (block + 1) ps → own_parts block ps ≡ ps
 own_all block [] a = refl
 own_all block (p ∷ ps) a =
     let x : block ≤ p.block = a.0.above in
@@ -207,13 +208,6 @@ entry_here v style layer block leaf cells e lt is = by (contributes e) is.told
         }) in
         subst (λ (k : Known). Goes style cells.planes e.parts known k) (sym same) goes
     by false n = inl (ap (λ (x : Entry). x.parts) n, refl)
-
-entry_other : (v : Values) (layer leaf j : ℕ) (cells : Cells) (e : Entry) → j ≢ leaf → block_at (entry_after v layer leaf cells e) j ≡ block_at cells j
-entry_other v layer leaf j cells e ne = by (contributes e)
-  where
-    by : (c : Bool) → block_at (cond c (cells_included v leaf (cells_first v layer leaf cells) e) (cells_first v layer leaf cells)) j ≡ block_at cells j
-    by true = get_or-set_other cells.blocks leaf j (block_after (block_at cells leaf) (zero_planes (block_at cells leaf).zero v.zeros leaf) e) unknown_block ne
-    by false = refl
 
 -- ---- the blocks of a band
 pub record SameCells (new old : Cells) : Type 0 where

@@ -66,7 +66,7 @@ parts_of_pieces layer j (q ∷ qs) = elim (cases_eq q.layer layer) [
   | inr ne ↦ in_past layer (part_in j q) (map (part_in j) qs) ne ∙ parts_of_pieces layer j qs ∙ sym (ap (map (part_of j)) (layer_past layer q qs ne))
 ]
 
-parts_over : (layer : ℕ) (leaf : ℕ → Leafed) (n a b : ℕ) → a + n ≡ b → parts_at layer (map leaf (range_with_len a n)) ≡ joined (λ j. parts_in layer (leaf j).parts) a b
+pub parts_over : (layer : ℕ) (leaf : ℕ → Leafed) (n a b : ℕ) → a + n ≡ b → parts_at layer (map leaf (range_with_len a n)) ≡ joined (λ j. parts_in layer (leaf j).parts) a b
 parts_over layer leaf zero a b e = sym (joined_none (λ j. parts_in layer (leaf j).parts) a b (omega arith))
 parts_over layer leaf (suc n) a b e =
     ap (λ (ps : List Part). parts_in layer (leaf a).parts ++ ps) (parts_over layer leaf n (a + 1) b (omega arith))
@@ -92,7 +92,7 @@ pieces_unmarked : (style layer first last : ℕ) (qs : List PieceValue) → AreP
 pieces_unmarked style layer first last [] a = tt
 pieces_unmarked style layer first last (q ∷ qs) a = (a.0.markers, pieces_unmarked style q.layer (first + q.passes) last qs a.1)
 
-layer_unmarked : (layer : ℕ) (qs : List PieceValue) → AreUnmarked qs → AreUnmarked (pieces_at layer qs)
+pub layer_unmarked : (layer : ℕ) (qs : List PieceValue) → AreUnmarked qs → AreUnmarked (pieces_at layer qs)
 layer_unmarked layer [] all = subst AreUnmarked (sym (layer_nothing layer)) tt
 layer_unmarked layer (q ∷ qs) all = elim (cases_eq q.layer layer) [
   | inl e ↦ subst AreUnmarked (sym (layer_here layer q qs e)) (all.0, layer_unmarked layer qs all.1)

@@ -55,6 +55,7 @@ use Rattle.jx_gather.proofs.TrackLemmas.{AreThere, Rise, AreAbove, Tracked, From
 use Rattle.jx_base.specs.Joined.{joined, joined_below}
 use Rattle.jx_base.proofs.Lists.{contains_head, contains_tail, pairs_tail, pairs_head}
 use Rattle.jx_base.specs.Bands.{bands_at}
+use Rattle.jx_geom.proofs.EmptyLemmas.{zero_left as product_zero}
 
 -- ---- a precinct before its first packet
 pub fresh_unknown : (bs : List BandCells) (j : ℕ) → get_or (all_blocks (fresh_bands bs)) j unknown_block ≡ unknown_block
@@ -83,10 +84,6 @@ name_res g c r k (b ∷ bands) j = elim (cases_lt j (size_of (cells_at g c r k b
   | inl lt ↦ ap (λ (n : BlockName). n.res) (name_here g c r k b bands j lt)
   | inr ge ↦ ap (λ (n : BlockName). n.res) (name_later g c r k b bands j ge) ∙ name_res g c r k bands (j - size_of (cells_at g c r k b))
 ]
-
--- and their planes
-product_zero : (m n : ℕ) → m ≡ 0 → m * n ≡ 0
-product_zero m n e = ap (λ (x : ℕ). x * n) e ∙ (let z : 0 * n ≡ 0 = omega arith in z)
 
 bands_planes : (s : Stream) (g : Geometry) (c r k : ℕ) (bands : List Band) (j : ℕ) → j < leaves_in g c r k bands →
     planes_of (fresh_bands (bands_of s g c r k bands)) j ≡ planes_at s g.tile c r (name_from g c r k bands j).band

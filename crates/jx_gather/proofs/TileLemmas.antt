@@ -80,7 +80,7 @@ cuts_on b g number old mid new (x ∷ cuts) c are turn =
     let same : number + suc (length cuts) ≡ number + 1 + length cuts = omega arith in
     (are.0, are.1, cuts_on b g (number + 1) are.0 mid new cuts c are.2 (subst N same turn))
 
-names_on : (cuts : List Cut) (c : Cut) → names_of (cuts ++ c ∷ []) ≡ names_of cuts ++ c.name ∷ []
+pub names_on : (cuts : List Cut) (c : Cut) → names_of (cuts ++ c ∷ []) ≡ names_of cuts ++ c.name ∷ []
 names_on [] c = refl
 names_on (x ∷ cuts) c = ap (λ (xs : List PacketName). x.name ∷ xs) (names_on cuts c)
 

@@ -32,7 +32,7 @@ record WithinTotals (s : Stream) : Type 0 where
   pub blocks : block_total s ≤ 2 ^ 20
   pub packets : packet_total s ≤ 2 ^ 22
 
-not_passed : (number found most : ℕ) → passed number found (nat_lt most found) ≡ None → found ≤ most
+pub not_passed : (number found most : ℕ) → passed number found (nat_lt most found) ≡ None → found ≤ most
 not_passed number found most h = grind (arith, nat_tests)
 
 first_none : (first later : Option StreamFault) → option_or first later ≡ None → (first ≡ None) × (later ≡ None)

@@ -67,15 +67,15 @@ follows_on s g c r k old after kept f = record {
 }
 
 -- the states after a turn
-states_after : (b : List ℕ) (g : Geometry) (number : ℕ) (old : Left) (c : Cut) (new : Left) → IsTurn b g number old c new → new.states ≡ set old.states (number_of g c.name) c.after
+pub states_after : (b : List ℕ) (g : Geometry) (number : ℕ) (old : Left) (c : Cut) (new : Left) → IsTurn b g number old c new → new.states ≡ set old.states (number_of g c.name) c.after
 states_after b g number old c new t = ap (λ (l : Left). l.states) t.new_is
 
-here_after : (b : List ℕ) (g : Geometry) (number : ℕ) (old : Left) (c : Cut) (new : Left) → IsTurn b g number old c new → slice_get new.states (number_of g c.name) ≡ Some c.after
+pub here_after : (b : List ℕ) (g : Geometry) (number : ℕ) (old : Left) (c : Cut) (new : Left) → IsTurn b g number old c new → slice_get new.states (number_of g c.name) ≡ Some c.after
 here_after b g number old c new t =
     ap (λ (l : List State). slice_get l (number_of g c.name)) (states_after b g number old c new t)
     ∙ get-set_same old.states (number_of g c.name) c.after (slice_get_within old.states (number_of g c.name) t.state t.known)
 
-other_after : (b : List ℕ) (g : Geometry) (number : ℕ) (old : Left) (c : Cut) (new : Left) (i : ℕ) → IsTurn b g number old c new → (number_of g c.name ≡ i → ⊥) → slice_get new.states i ≡ slice_get old.states i
+pub other_after : (b : List ℕ) (g : Geometry) (number : ℕ) (old : Left) (c : Cut) (new : Left) (i : ℕ) → IsTurn b g number old c new → (number_of g c.name ≡ i → ⊥) → slice_get new.states i ≡ slice_get old.states i
 other_after b g number old c new i t ne =
     ap (λ (l : List State). slice_get l i) (states_after b g number old c new t)
     ∙ get-set_other old.states (number_of g c.name) i c.after (λ (e : i ≡ number_of g c.name). ne (sym e))

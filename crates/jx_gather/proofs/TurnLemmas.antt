@@ -3,7 +3,6 @@ use Rattle.std.proofs.Common.{◌≡◌, ℕ, ◌+◌, ◌<◌, ◌≤◌, List,
 use Rattle.std.specs.Prelude.{◌↔◌, slice_get}
 use Rattle.std.specs.List.{AllPairs, Contains}
 use Rattle.std.proofs.lemmas.Bool.{cases_lt, cases_eq}
-use Rattle.std.proofs.lemmas.Option.{slice_get_within}
 use Rattle.std.proofs.lemmas.List.Elements.{Contains-append_left, Contains-append_right, Contains-append_cases, Contains-push, Contains-push_cases}
 use Rattle.jx_geom.specs.Geometry.{Geometry}
 use Rattle.jx_head.specs.declared.Part.{Part}
@@ -22,7 +21,8 @@ use Rattle.jx_geom.specs.Precincts.{HasPrecinct, precinct_number}
 use Rattle.jx_gather.specs.Data.{window, header_in, sop_length}
 use Rattle.jx_gather.specs.Cuts.{Cut, Left, IsTurn, AreCuts, names_of, number_of}
 use Rattle.jx_gather.specs.Gathered.{IsListOf, IsWhole, start}
-use Rattle.jx_base.proofs.Lists.{contains_cons, contains_head, contains_none, pairs_head, pairs_across, pairs_back, push_on, get-set_same, get-set_other}
+use Rattle.jx_base.proofs.Lists.{contains_cons, contains_head, contains_none, pairs_head, pairs_across, pairs_back, push_on, get-set_other}
+use Rattle.jx_gather.proofs.TrackLemmas.{here_after as after_there}
 
 -- ---- what is cited of a tile's precincts and of their states
 pub record Precincts (s : Stream) (g : Geometry) : Type 0 where
@@ -166,12 +166,6 @@ same_state k m e = cc
 pub turn_state : (b : List ℕ) (g : Geometry) (layers : ℕ) (done : List PacketName) (number : ℕ) (old : Left) (c : Cut) (new : Left) (state : State)
     → Turned g layers done old.states c.name.comp c.name.res c.name.precinct state → (t : IsTurn b g number old c new) → state ≡ t.state
 turn_state b g layers done number old c new state k t = same_state state t.state (sym k.known ∙ t.known)
-
--- its precinct's state afterwards
-after_there : (b : List ℕ) (g : Geometry) (number : ℕ) (old : Left) (c : Cut) (new : Left) → IsTurn b g number old c new → slice_get new.states (number_of g c.name) ≡ Some c.after
-after_there b g number old c new t =
-    ap (λ (x : Left). slice_get x.states (number_of g c.name)) t.new_is
-    ∙ get-set_same old.states (number_of g c.name) c.after (slice_get_within old.states (number_of g c.name) t.state t.known)
 
 pub own_turned : (b : List ℕ) (g : Geometry) (layers : ℕ) (list done rest : List PacketName) (number : ℕ) (old : Left) (c : Cut) (new : Left) (state : State) → Listed g layers list
     → list ≡ done ++ (c.name ∷ rest) → Turned g layers done old.states c.name.comp c.name.res c.name.precinct state → IsTurn b g number old c new

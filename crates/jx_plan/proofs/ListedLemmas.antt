@@ -1,5 +1,5 @@
 -- A tile has few packets, so a list that has each once is short.
-use Rattle.std.proofs.Common.{◌≡◌, ◌≢◌, ◌↔◌, inl, inr, ℕ, ◌+◌, ◌*◌, ◌<◌, ◌≤◌, ◌^◌, Bool, true, false, List, [], ◌∷◌, length, map, get_or, refl, sym, ap, ◌∙◌, subst, arith, nat_lt, Option, None, Some, All}
+use Rattle.std.proofs.Common.{◌≡◌, ◌≢◌, ◌↔◌, inl, inr, ℕ, ◌+◌, ◌*◌, ◌<◌, ◌≤◌, ◌^◌, Bool, true, false, List, [], ◌∷◌, length, map, get_or, refl, sym, ap, subst, arith, nat_lt, None, All}
 use Rattle.std.specs.List.{AllPairs, AllByRecursion, Contains, IsDistinct, list_any}
 use Rattle.std.proofs.Math.Dec.{eqb}
 use Rattle.std.proofs.lemmas.Bool.{cases_lt}
@@ -13,17 +13,16 @@ use Rattle.jx_geom.specs.Counts.{tile_precincts}
 use Rattle.jx_geom.specs.Geometry.{Geometry, rect_of_tile}
 use Rattle.jx_geom.specs.Precincts.{HasPrecinct, precinct_number}
 use Rattle.jx_geom.proofs.PrecinctLemmas.{precinct_below, precinct_once}
-use Rattle.std.specs.Option.{option_or}
 use Rattle.jx_base.specs.Joined.{sum_below}
 use Rattle.jx_stream.specs.declared.Stream.{Stream}
-use Rattle.jx_stream.specs.declared.faults.StreamFault.{StreamFault}
 use Rattle.jx_stream.specs.First.{tile_number}
 use Rattle.jx_gather.specs.Faults.{passed}
 use Rattle.jx_gather.specs.Totals.{block_total, packet_total, tile_packets, totals_fault}
-use Rattle.jx_gather.proofs.TotalLemmas.{packets_are}
+use Rattle.jx_gather.proofs.TotalLemmas.{packets_are, not_passed}
 use Rattle.jx_order.specs.Packets.{IsPacket}
-use Rattle.jx_order.specs.Steps.{name_of}
 use Rattle.jx_order.specs.declared.names.PacketName.{PacketName}
+use Rattle.jx_stream.proofs.FaultLemmas.{none_later as later_none}
+use Rattle.jx_order.proofs.OrderLemmas.{same_fields as same_name}
 
 -- all that are in a list
 pub All-contained : {X : Type 0} (P : X → Type 0) (xs : List X) → ((x : X) → Contains xs x → P x) → All P xs
@@ -45,13 +44,8 @@ apart a b n l m low high e = elim (cases_lt a b) [
   ]
 ]
 
-has_precinct : (g : Geometry) (layers : ℕ) (p : PacketName) → IsPacket g layers p → HasPrecinct g p.comp p.res p.precinct
+pub has_precinct : (g : Geometry) (layers : ℕ) (p : PacketName) → IsPacket g layers p → HasPrecinct g p.comp p.res p.precinct
 has_precinct g layers p is = record { resolution = is.resolution; precinct = is.precinct }
-
-same_name : (p q : PacketName) → p.layer ≡ q.layer → p.res ≡ q.res → p.comp ≡ q.comp → p.precinct ≡ q.precinct → p ≡ q
-same_name p q l r c k =
-    ap (λ (x : ℕ). name_of x p.res p.comp p.precinct) l ∙ ap (λ (x : ℕ). name_of q.layer x p.comp p.precinct) r
-    ∙ ap (λ (x : ℕ). name_of q.layer q.res x p.precinct) c ∙ ap (λ (x : ℕ). name_of q.layer q.res q.comp x) k
 
 number_once : (g : Geometry) (layers : ℕ) (p q : PacketName) → IsPacket g layers p → IsPacket g layers q → number g layers p ≡ number g layers q → p ≡ q
 unfolding number
@@ -112,14 +106,8 @@ few_names g layers ps every pairs =
     subst (λ (n : ℕ). n ≤ tile_precincts (rect_of_tile g) g.shapes * layers) (length-map ps (number g layers)) le
 
 -- ---- limit 6
-not_passed : (n found most : ℕ) → passed n found (nat_lt most found) ≡ None → found ≤ most
-not_passed n found most h = grind (arith, nat_tests)
 
-later_none : (first later : Option StreamFault) → option_or first later ≡ None → later ≡ None
-later_none None later h = h
-later_none (Some f) later h = absurd (cc)
-
-all_few : (s : Stream) → totals_fault s ≡ None → packet_total s ≤ 2 ^ 22
+pub all_few : (s : Stream) → totals_fault s ≡ None → packet_total s ≤ 2 ^ 22
 unfolding totals_fault
 all_few s h =
     not_passed 6 (packet_total s) (2 ^ 22) (later_none (passed 5 (block_total s) (nat_lt (2 ^ 20) (block_total s))) (passed 6 (packet_total s) (nat_lt (2 ^ 22) (packet_total s))) h)

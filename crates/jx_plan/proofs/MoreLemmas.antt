@@ -30,7 +30,7 @@ SlotsSame xs ys = (slot : ℕ) → gives slot ≡ true → in_slot slot xs ≡ i
 slots_alike : (xs ys : List Segment) → SlotsSame xs ys → HeadersAlike None None xs ys
 slots_alike xs ys h slot g = alike_to None None (in_slot slot xs) (in_slot slot ys) (in_slot slot ys) (h slot g) (alike_self (in_slot slot ys))
 
-or_same : (x y z w : Option Segment) → x ≡ z → y ≡ w → option_or x y ≡ option_or z w
+pub or_same : (x y z w : Option Segment) → x ≡ z → y ≡ w → option_or x y ≡ option_or z w
 or_same x y z w e d = rw (e, d) refl
 
 params_alike : (p q : Option Shape) (x y : Option Quant) (m n : ℕ) (u v : Option Cod) → p ≡ q → x ≡ y → m ≡ n → u ≡ v

@@ -10,7 +10,6 @@ use Rattle.jx_marker.specs.declared.Segment.{Segment}
 use Rattle.jx_marker.specs.declared.Segment.TheVariants as segment
 use Rattle.jx_marker.specs.declared.Cod.{Cod}
 use Rattle.jx_stream.specs.declared.headers.HeaderKind.TheVariants.{First}
-use Rattle.jx_stream.specs.declared.faults.StreamFault.{StreamFault}
 use Rattle.jx_stream.specs.declared.Tile.{Tile}
 use Rattle.jx_stream.specs.declared.Stream.{Stream}
 use Rattle.jx_stream.specs.Tiles.{joined, entry_in, or_list, in_slot}
@@ -28,6 +27,7 @@ use Rattle.jx_plan.proofs.RangeLemmas.{written_stands}
 use Rattle.jx_plan.proofs.ReadBackLemmas.{none_written, none_header, main_is, count_is}
 use Rattle.jx_plan.proofs.BlockLemmas.{totals_same}
 use Rattle.jx_plan.proofs.ViewLemmas.{written_shapes}
+use Rattle.jx_stream.proofs.FaultLemmas.{none_first as first_none}
 
 -- no PLT
 
@@ -63,10 +63,6 @@ header_plt : (a : Asked) (comps : ℕ) (t : Tile) → IsHeaded comps t → list_
 header_plt a comps t h = any_both (all_written a t.header) t.notes (no_plt a t.header) (plt_notes comps t.notes h.notes)
 
 -- limits 5 and 6
-
-first_none : (first later : Option StreamFault) → option_or first later ≡ None → first ≡ None
-first_none None later h = refl
-first_none (Some f) later h = absurd (cc)
 
 not_passed : (n : ℕ) → n ≤ 2 ^ 22 → passed 6 n (nat_lt (2 ^ 22) n) ≡ None
 not_passed n h = grind (arith, nat_tests)

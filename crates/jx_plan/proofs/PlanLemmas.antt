@@ -44,7 +44,7 @@ use Rattle.jx_layers.proofs.CausalLemmas.{none_at}
 use Rattle.jx_layers.proofs.FactLemmas.{layers_most}
 
 -- ---- the greatest number of layers
-some_tile : (c : Canvas) → CanvasInRange c → 0 < tile_count c
+pub some_tile : (c : Canvas) → CanvasInRange c → 0 < tile_count c
 some_tile c fit =
     let one = place_in_one_tile c c.x0 c.y0 fit (record {
       across = record { from = omega arith; below = omega (arith, fit.some_across) };
@@ -80,7 +80,7 @@ whole_at style blocks n b whole at inside =
     subst (λ (x : Block). breaks_plane style x ≡ false) (get_or_from_slice_get blocks n b b at) (none_at (breaks_plane style) blocks whole n b inside)
 
 -- ---- the headers that are written
-style_few : (o : Option Style) → IfSome o MayBeStyle → IfSome o (λ (style : Style). style.bits < 64)
+pub style_few : (o : Option Style) → IfSome o MayBeStyle → IfSome o (λ (style : Style). style.bits < 64)
 style_few None may = tt
 style_few (Some style) may = may.few
 

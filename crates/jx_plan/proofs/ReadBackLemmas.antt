@@ -67,7 +67,7 @@ no_notes : (more : List Segment) → All IsLength more → filter is_com more �
 no_notes [] h = refl
 no_notes (s ∷ ss) h = rw (plt_note s (All-head IsLength s ss h)) (no_notes ss (All-tail IsLength s ss h))
 
-none_both : (xs ys : List Segment) → joined xs ≡ [] → joined ys ≡ [] → joined (xs ++ ys) ≡ []
+pub none_both : (xs ys : List Segment) → joined xs ≡ [] → joined ys ≡ [] → joined (xs ++ ys) ≡ []
 none_both xs ys h k = flat_map-append entries_of xs ys ∙ ap (λ (es : List Progression). es ++ joined ys) h ∙ k
 
 pub none_header : (a : Asked) (comps : ℕ) (t : Tile) → IsHeaded comps t → joined (tile_header a t) ≡ []
@@ -114,7 +114,7 @@ tile_with_more a comps main t own headed h =
     let is = tile_read a comps main t own h.more headed h.first h.asides h.later in
     record { more = h.more; asides = h.asides; header = ap (λ (x : Tile). x.header) is; progressions = ap (λ (x : Tile). x.progressions) is }
 
-tile_of_is : (main : List Segment) (parts : List Part) (t : ℕ) → tile_of main parts t ≡ tile_from main (parts_of t parts)
+pub tile_of_is : (main : List Segment) (parts : List Part) (t : ℕ) → tile_of main parts t ≡ tile_from main (parts_of t parts)
 unfolding tile_of
 tile_of_is main parts t = refl
 
@@ -126,7 +126,7 @@ pub count_is : (a : Asked) (s : Stream) → length (stream_written a s).tiles �
 unfolding stream_written
 count_is a s = length-map s.tiles (tile_written a s.main)
 
-comps_are : (a : Asked) (s : Stream) → length (stream_written a s).siz.comps ≡ length s.siz.comps
+pub comps_are : (a : Asked) (s : Stream) → length (stream_written a s).siz.comps ≡ length s.siz.comps
 unfolding stream_written
 comps_are a s = refl
 

@@ -14,11 +14,11 @@ use Rattle.jx_geom.specs.Numbering.{blocks_of_all}
 use Rattle.jx_geom.specs.Same.{AllSameBlocks, SameBlocks}
 use Rattle.jx_geom.proofs.SameLemmas.{same_sum}
 
-same_component : (tile : Rect) (s t : CompShape) → SameBlocks s t → component_rect tile s ≡ component_rect tile t
+pub same_component : (tile : Rect) (s t : CompShape) → SameBlocks s t → component_rect tile s ≡ component_rect tile t
 unfolding component_rect
 same_component tile s t h = rw (h.step_across, h.step_down) refl
 
-same_level : (s t : CompShape) (r : ℕ) (b : Band) → SameBlocks s t → band_level s r b ≡ band_level t r b
+pub same_level : (s t : CompShape) (r : ℕ) (b : Band) → SameBlocks s t → band_level s r b ≡ band_level t r b
 same_level s t r LL h = h.levels
 same_level s t r HL h = ap (λ n. n - r + 1) h.levels
 same_level s t r LH h = ap (λ n. n - r + 1) h.levels
@@ -28,22 +28,22 @@ same_band : (tile : Rect) (s t : CompShape) (r : ℕ) (b : Band) → SameBlocks 
 unfolding band_rect
 same_band tile s t r b h = rw (same_component tile s t h, same_level s t r b h) refl
 
-same_count : (tile : Rect) (s t : CompShape) (r : ℕ) (b : Band) → SameBlocks s t → r ≤ s.levels → block_count tile s r b ≡ block_count tile t r b
+pub same_count : (tile : Rect) (s t : CompShape) (r : ℕ) (b : Band) → SameBlocks s t → r ≤ s.levels → block_count tile s r b ≡ block_count tile t r b
 unfolding block_cells
 same_count tile s t r b h le = rw (same_band tile s t r b h, h.across r le, h.down r le) refl
 
-same_resolution : (tile : Rect) (s t : CompShape) (r : ℕ) → SameBlocks s t → r ≤ s.levels → resolution_blocks tile s r ≡ resolution_blocks tile t r
+pub same_resolution : (tile : Rect) (s t : CompShape) (r : ℕ) → SameBlocks s t → r ≤ s.levels → resolution_blocks tile s r ≡ resolution_blocks tile t r
 unfolding resolution_blocks
 same_resolution tile s t r h le =
     rw (same_count tile s t r LL h le, same_count tile s t r HL h le, same_count tile s t r LH h le, same_count tile s t r HH h le) refl
 
-same_blocks : (tile : Rect) (s t : CompShape) → SameBlocks s t → component_blocks tile s ≡ component_blocks tile t
+pub same_blocks : (tile : Rect) (s t : CompShape) → SameBlocks s t → component_blocks tile s ≡ component_blocks tile t
 unfolding component_blocks
 same_blocks tile s t h =
     same_sum (resolution_blocks tile s) (resolution_blocks tile t) (s.levels + 1) (λ r lt. same_resolution tile s t r h (omega arith))
     ∙ ap (λ n. sum_below (resolution_blocks tile t) (n + 1)) h.levels
 
-same_tile : (tile : Rect) (xs ys : List CompShape) → AllSameBlocks xs ys → tile_blocks tile xs ≡ tile_blocks tile ys
+pub same_tile : (tile : Rect) (xs ys : List CompShape) → AllSameBlocks xs ys → tile_blocks tile xs ≡ tile_blocks tile ys
 same_tile tile xs ys h =
     whole_sum (component_blocks tile) xs no_shape
     ∙ same_sum (λ i. component_blocks tile (get_or xs i no_shape)) (λ i. component_blocks tile (get_or ys i no_shape)) (length xs)

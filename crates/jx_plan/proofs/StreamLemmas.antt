@@ -28,6 +28,7 @@ use Rattle.jx_plan.specs.Asides.{IsAside}
 use Rattle.jx_plan.specs.Standing.{IsNote, IsHeaded, HeadersStand}
 use Rattle.jx_plan.proofs.AlikeLemmas.{HeadersAlike, IsThere, shape_same, quant_same, shift_same, step_same, planes_same, shapes_same}
 use Rattle.jx_plan.proofs.WrittenLemmas.{alike_written, alike_to, slot_written, slot_more, cod_kept}
+use Rattle.jx_plan.proofs.MoreLemmas.{or_same}
 
 note_aside : (comps : ℕ) (s : Segment) → IsNote comps s → IsAside comps s
 note_aside comps (segment.Com bytes) h = record { range = h.range; is = refl }
@@ -56,9 +57,6 @@ slots_alike a xs ys h slot g = alike_to a.precincts a.style (in_slot slot xs) (o
 or_map : (f : Segment → Segment) (x y : Option Segment) → option_or (option_map f x) (option_map f y) ≡ option_map f (option_or x y)
 or_map f None y = refl
 or_map f (Some s) y = refl
-
-or_same : (x y z w : Option Segment) → x ≡ z → y ≡ w → option_or x y ≡ option_or z w
-or_same x y z w e d = rw (e, d) refl
 
 pub cod_slots : (a : Asked) (own other main there : List Segment) → SlotsWritten a own other → SlotsWritten a main there → cod_of own main ≡ option_map (cod_written a) (cod_of other there)
 cod_slots a own other main there here mains =

@@ -7,6 +7,7 @@ use Rattle.std.proofs.lemmas.List.Elements.{All-nil, All-cons}
 use Rattle.jx_stream.specs.declared.Stream.{Stream}
 use Rattle.jx_stream.specs.declared.Tile.{Tile}
 use Rattle.jx_plan.specs.Fits.{first_zero, has_zero, tile_has_zero}
+use Rattle.jx_layers.proofs.CausalLemmas.{none_at}
 
 none_before : {X : Type 0} (p : X → Bool) (xs : List X) → length xs ≤ position_or_len p xs → All (λ (x : X). p x ≡ false) xs
 none_before {X} p [] h = All-nil (λ (x : X). p x ≡ false)
@@ -20,9 +21,6 @@ past m n h = elim (cases_Bool (nat_lt m n)) [
   | inl t ↦ absurd (let e = rw t at h in cc)
   | inr f ↦ grind (arith, nat_tests)
 ]
-
-pub none_at : {X : Type 0} (p : X → Bool) (xs : List X) → position p xs ≡ None → All (λ (x : X). p x ≡ false) xs
-none_at {X} p xs h = none_before p xs (past (position_or_len p xs) (length xs) h)
 
 -- neither in the main header nor in a tile's
 pub record IsClear (ps : Option (List ℕ)) (s : Stream) : Type 0 where

@@ -37,7 +37,7 @@ choice_number number place e = cc
 choice_place : (number place : ℕ) → unplanned.Choice number place ≡ unplanned.Choice 6 0 → place ≡ 0
 choice_place number place e = cc
 
-makes_layers : (o : Option Rule) (s : Stream) (blocks : List Block) → IfSome o (λ r. (1 ≤ layers_by r (facts_of s blocks)) × (layers_by r (facts_of s blocks) < 2 ^ 16)) → MakesLayers o s blocks
+pub makes_layers : (o : Option Rule) (s : Stream) (blocks : List Block) → IfSome o (λ r. (1 ≤ layers_by r (facts_of s blocks)) × (layers_by r (facts_of s blocks) < 2 ^ 16)) → MakesLayers o s blocks
 makes_layers None s blocks h = tt
 makes_layers (Some r) s blocks h = h
 

@@ -35,6 +35,7 @@ use Rattle.jx_recast.specs.Rewritten.{CanBePlanned, IsRight, IsSpoiled, Reads, h
 use Rattle.jx_recast.proofs.ToldLemmas.{stop_told}
 use Rattle.jx_recast.proofs.FrontLemmas.{one_tile, tiles_stay}
 use Rattle.jx_recast.proofs.WrongLemmas.{all_right, first_or_none, right_or_wrong, wrong_or_right}
+use Rattle.jx_recast.proofs.MadeVerdictLemmas.{makes_layers}
 
 -- what the laws of the crates below say
 pub record Laws : Type 0 where
@@ -56,11 +57,6 @@ short_or_not (p ∷ ps) = elim (cases_lt p.sot.psot 4294967296) [
   ]
   | inr many ↦ inr (λ (short : AreShort (p ∷ ps)). omega (arith, short.0, many))
 ]
-
--- planners make layers of a stream, and by a rule that there is nothing is in the way of a plan
-makes_layers : (o : Option Rule) (s : Stream) (blocks : List Block) → IfSome o (λ r. (1 ≤ layers_by r (facts_of s blocks)) × (layers_by r (facts_of s blocks) < 2 ^ 16)) → MakesLayers o s blocks
-makes_layers None s blocks made = tt
-makes_layers (Some r) s blocks made = made
 
 can_of : (aim : Aim) (s : Stream) (blocks : List Block) (o : Option Rule) → rule_in aim s blocks ≡ o → MakesLayers o s blocks → CanBePlannedBy o s blocks aim.wanted → CanBePlanned aim s blocks
 can_of aim s blocks None e made never = absurd never

@@ -13,7 +13,7 @@ use Rattle.jx_assemble.specs.Tile.{AreAtMost}
 use Rattle.jx_assemble.specs.declared.tile_part.PartOut.{PartOut}
 use Rattle.jx_assemble.proofs.AssembledLemmas.{tile_bytes, too_long}
 use Rattle.jx_assemble.proofs.CutLemmas.{same_fault}
-use Rattle.jx_assemble.proofs.SegmentLemmas.{all_in_range}
+use Rattle.jx_stream.proofs.SegmentLemmas.{segments_fit as all_in_range}
 use Rattle.jx_assemble.specs.declared.tile.AssembleFault.TheVariants.{TooLong}
 use Rattle.jx_assemble.proofs.assemble.pack_values.Goals as goal
 

@@ -2,7 +2,7 @@ use Rattle.std.proofs.Common.{ℕ, List, [], length, subst, sym, All}
 use Rattle.jx_marker.specs.declared.Segment.{Segment}
 use Rattle.jx_marker.specs.Ranges.{InRange}
 use Rattle.jx_stream.specs.declared.headers.HeaderKind.TheVariants.{Main}
-use Rattle.jx_assemble.proofs.SegmentLemmas.{all_in_range}
+use Rattle.jx_stream.proofs.SegmentLemmas.{segments_fit as all_in_range}
 use Rattle.jx_assemble.proofs.front.header_bytes.Goals as goal
 
 pub put_segments-requires : goal.put_segments-requires
