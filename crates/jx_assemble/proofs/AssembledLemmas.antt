@@ -1,5 +1,5 @@
 -- The packets made from the blocks of a tile are those of the whole codestream's blocks.
-use Rattle.std.proofs.Common.{◌≡◌, ℕ, zero, suc, ◌+◌, ◌<◌, List, [], ◌∷◌, ◌++◌, length, map, refl, sym, ap, ◌∙◌, subst, arith, All, Option, Result, Ok, Err, IfOk}
+use Rattle.std.proofs.Common.{◌≡◌, ℕ, zero, suc, ◌+◌, ◌<◌, List, [], ◌∷◌, ◌++◌, length, map, refl, sym, ap, ◌∙◌, subst, arith, All, Option}
 use Rattle.std.specs.Prelude.{slice_get}
 use Rattle.std.specs.List.{AllByRecursion, range_with_len}
 use Rattle.std.proofs.lemmas.List.Elements.{recursion_from_All}
@@ -131,8 +131,3 @@ pub too_long : (m : Asked) (s : Stream) (g : Geometry) (blocks own : List Block)
     → All (IsPacket g (layers_of s g.tile)) names → IsListOf s g.tile names → (AreAtMost most (own_parts m s g own names) → ⊥) → IsTooLong m s blocks g.tile most
 too_long m s g blocks own names most e range are each listed long =
     record { parts = own_parts m s g own names; are = tile_parts_are m s g blocks own names e range are each listed; long = long }
-
--- ---- from a call's result
-pub ok_both : {T E : Type 0} (r : Result T E) (P Q R : T → Type 0) → ((x : T) → P x → Q x → R x) → IfOk r P → IfOk r Q → IfOk r R
-ok_both (Ok x) P Q R f p q = f x p q
-ok_both (Err e) P Q R f p q = tt

@@ -6,8 +6,7 @@ use Rattle.jx_geom.specs.Counts.{tile_blocks}
 use Rattle.jx_geom.specs.Numbering.{blocks_below}
 use Rattle.jx_geom.specs.Rects.{tile_rect}
 use Rattle.jx_geom.specs.Same.{AllSameBlocks}
-use Rattle.jx_geom.proofs.SameLemmas.{same_sum}
-use Rattle.jx_plan.proofs.SameLemmas.{same_tile}
+use Rattle.jx_geom.proofs.SameLemmas.{same_sum, same_tile}
 
 pub same_below : (c : Canvas) (xs ys : ℕ → List CompShape) (t : ℕ) → ((n : ℕ) → n < t → AllSameBlocks (xs n) (ys n)) → blocks_below c xs t ≡ blocks_below c ys t
 same_below c xs ys t h =

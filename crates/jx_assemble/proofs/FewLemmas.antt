@@ -1,5 +1,5 @@
 -- A tile has at most 2^22 packets where no limit is passed, since each stands once in its list.
-use Rattle.std.proofs.Common.{◌≡◌, ◌≢◌, ◌∙◌, ◌<◌, ◌≤◌, ◌+◌, ◌*◌, ◌/◌, ◌%◌, ◌^◌, eqb, ℕ, suc, true, arith, List, [], ◌∷◌, ◌++◌, length, map, refl, sym, ap, inl, inr, None, length-append}
+use Rattle.std.proofs.Common.{◌≡◌, ◌≢◌, ◌<◌, ◌≤◌, ◌+◌, ◌*◌, ◌^◌, eqb, ℕ, suc, true, arith, List, [], ◌∷◌, ◌++◌, length, map, refl, ap, inl, inr, None, length-append}
 use Rattle.std.specs.List.{All, AllPairs, Contains, list_any}
 use Rattle.std.specs.Cmp.{unsigned_Decides}
 use Rattle.std.proofs.lemmas.Bool.{cases_Bool, eqb-true}
@@ -7,9 +7,8 @@ use Rattle.std.proofs.lemmas.List.Elements.{All-cons, All-nil}
 use Rattle.std.proofs.lemmas.List.Kept.{AllPairs-cons}
 use Rattle.std.proofs.lemmas.Map.Made.{IsDistinct-from_AllPairs}
 use Rattle.std.proofs.lemmas.Map.Steps.{length-le_from_distinct_below}
-use Rattle.std.proofs.lemmas.Nat.{div-mul-add, mod-mul-add}
+use Rattle.std.proofs.lemmas.Nat.{same_from_place, mul-add-lt}
 use Rattle.jx_base.proofs.Lists.{contains_head, contains_tail, pairs_head, pairs_tail}
-use Rattle.jx_base.proofs.Raster.{in_rows}
 use Rattle.jx_base.proofs.Sums.{sum_below_more}
 use Rattle.jx_geom.specs.Counts.{tile_precincts}
 use Rattle.jx_geom.specs.Geometry.{Geometry, rect_of_tile}
@@ -31,15 +30,9 @@ use Rattle.jx_gather.proofs.TotalLemmas.{packets_are as total_is}
 abbrev number_of : Geometry → ℕ → PacketName → ℕ
 number_of g layers p = precinct_number g p.comp p.res p.precinct * layers + p.layer
 
-two_parts : (a b layers x y : ℕ) → x < layers → y < layers → a * layers + x ≡ b * layers + y → (a ≡ b) × (x ≡ y)
-two_parts a b layers x y hx hy e = (
-  sym (div-mul-add a layers x hx) ∙ ap (λ (n : ℕ). n / layers) e ∙ div-mul-add b layers y hy,
-  sym (mod-mul-add a layers x hx) ∙ ap (λ (n : ℕ). n % layers) e ∙ mod-mul-add b layers y hy,
-)
-
 one_number : (g : Geometry) (layers : ℕ) (p q : PacketName) → IsPacket g layers p → IsPacket g layers q → number_of g layers p ≡ number_of g layers q → p ≡ q
 one_number g layers p q hp hq e =
-    let parts = two_parts (precinct_number g p.comp p.res p.precinct) (precinct_number g q.comp q.res q.precinct) layers p.layer q.layer hp.layer hq.layer e in
+    let parts = same_from_place (precinct_number g p.comp p.res p.precinct) p.layer (precinct_number g q.comp q.res q.precinct) q.layer layers hp.layer hq.layer e in
     let fields = precinct_once g p.comp p.res p.precinct q.comp q.res q.precinct (has_precinct g layers p hp) (has_precinct g layers q hq) parts.0 in
     same_fields p q parts.1 fields.1 fields.0 fields.2
 
@@ -65,7 +58,7 @@ module _ (g : Geometry) (layers : ℕ) where
   number_low : (p : PacketName) → IsPacket g layers p → number_of g layers p < tile_precincts (rect_of_tile g) g.shapes * layers
   number_low p is =
       let low = precinct_below g p.comp p.res p.precinct (has_precinct g layers p is) in
-      let rows = in_rows (precinct_number g p.comp p.res p.precinct) p.layer layers (tile_precincts (rect_of_tile g) g.shapes) low is.layer in
+      let rows = mul-add-lt (precinct_number g p.comp p.res p.precinct) layers p.layer (tile_precincts (rect_of_tile g) g.shapes) low is.layer in
       omega (arith, rows)
 
   numbers_low : (xs : List PacketName) → ArePackets xs → (q : ℕ) → list_any (eqb q) (map (number_of g layers) xs) ≡ true → q < tile_precincts (rect_of_tile g) g.shapes * layers

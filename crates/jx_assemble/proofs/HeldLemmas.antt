@@ -9,11 +9,12 @@ use Rattle.jx_marker.specs.Ranges.{AreBytes, InRange}
 use Rattle.jx_head.specs.Words.{size}
 use Rattle.jx_head.proofs.PutLemmas.{size_le, size_small}
 use Rattle.jx_order.specs.declared.names.PacketName.{PacketName}
-use Rattle.jx_gather.specs.Written.{Written, Packets, packet_bytes, bytes_from}
+use Rattle.jx_gather.specs.Written.{Packets, packet_bytes, bytes_from}
 use Rattle.jx_assemble.specs.Told.{length_total}
 use Rattle.jx_assemble.specs.Lengths.{length_size, septets, length_bytes, filled, numbered, length_segments}
 use Rattle.jx_assemble.specs.TileParts.{packet_length}
 use Rattle.jx_assemble.proofs.HeaderLemmas.{IsHeld, lengths_range, numbered_long}
+use Rattle.jx_gather.proofs.FrontLemmas.{packet_size}
 
 -- ---- one length
 pub septets_long : (count n : ℕ) → length (septets count n) ≡ count
@@ -127,13 +128,7 @@ segments_range comps lengths count short =
     subst P (sym (segments_are true lengths)) (All-from_recursion (InRange comps) (numbered 0 (held_by true lengths)) (lengths_range comps 0 (held_by true lengths) (omega (arith, few)) (held_fit true lengths)))
 
 -- ---- packets' lengths come to those of the data, whatever the packets' numbers are
-pub same_long : (w : Written) (i j : ℕ) → length (packet_bytes i w) ≡ length (packet_bytes j w)
-same_long w i j = elim (cases_Bool w.sop) [
-  | inl t ↦ rw t refl
-  | inr f ↦ rw f refl
-]
-
 pub packets_long : (ps : Packets) (number : ℕ) (names : List PacketName) → length_total (map (packet_length ps) names) ≡ length (bytes_from ps number names)
 packets_long ps number [] = refl
 packets_long ps number (p ∷ names) =
-    omega (arith, length-append (packet_bytes number (ps.written p)) (bytes_from ps (number + 1) names), same_long (ps.written p) 0 number, packets_long ps (number + 1) names)
+    omega (arith, length-append (packet_bytes number (ps.written p)) (bytes_from ps (number + 1) names), packet_size 0 number (ps.written p), packets_long ps (number + 1) names)

@@ -1,6 +1,6 @@
 -- The headers that are written are such as a file may be written from, and the file that is written from them has its input's blocks as
 -- they are written, and its meaning.
-use Rattle.std.proofs.Common.{◌≡◌, ◌∙◌, ◌<◌, ◌≤◌, ◌^◌, ℕ, Bool, false, arith, List, [], length, map, refl, sym, ap, subst, Option, None, Some}
+use Rattle.std.proofs.Common.{◌≡◌, ◌∙◌, ◌<◌, ◌≤◌, ◌^◌, ℕ, false, arith, List, [], length, map, refl, sym, ap, subst, Option, None, Some}
 use Rattle.std.proofs.Math.Path.{fun_ext}
 use Rattle.std.specs.List.{All, list_any}
 use Rattle.std.proofs.lemmas.Option.{get_or_from_slice_get, slice_get_within}
@@ -12,7 +12,6 @@ use Rattle.jx_base.specs.Sound.{IsSound}
 use Rattle.jx_grid.specs.declared.coef.Coef.{Coef}
 use Rattle.jx_marker.specs.declared.Cod.{Cod}
 use Rattle.jx_marker.specs.declared.Segment.{Segment}
-use Rattle.jx_marker.specs.declared.Segment.TheVariants as segment
 use Rattle.jx_marker.specs.declared.Siz.{Siz}
 use Rattle.jx_stream.specs.declared.headers.HeaderKind.TheVariants.{First}
 use Rattle.jx_stream.specs.declared.Stream.{Stream}
@@ -48,7 +47,7 @@ use Rattle.jx_plan.specs.Wanted.{MayBeWanted, Wanted, marks_of}
 use Rattle.jx_assemble.specs.Kept.{IsKeptIn}
 use Rattle.jx_assemble.specs.Ready.{AllShort, AreReady, IsTileReady, stream_read}
 use Rattle.jx_assemble.specs.SameHeaders.{HasHeadersOf}
-use Rattle.jx_assemble.specs.Told.{has_lengths, is_length}
+use Rattle.jx_assemble.specs.Told.{has_lengths}
 use Rattle.jx_assemble.specs.TileParts.{IsOutput}
 use Rattle.jx_assemble.proofs.OutputLemmas.{output_formed, output_gathered, output_headers, output_read, output_strict}
 use Rattle.jx_plan.proofs.ReadBackLemmas.{comps_are as comps_written}
@@ -93,13 +92,8 @@ pub record LayerLaws : Type 0 where
       → IsAsked b (style_for style b) (ends_of rule layers blocks number b)
   pub final : (asked : Option Style) (ends : List LayerEnd) (b : Block) (layer : ℕ) → IsAsked b (style_for asked b) ends → is_wrong asked b ≡ false → HasFirstLayers asked ends b layer
 
--- both tests are for PLT
-length_is : (s : Segment) → is_length s ≡ is_plt s
-length_is (segment.Plt bytes) = refl
-length_is _ = refl
-
 no_lengths : (ss : List Segment) → list_any is_plt ss ≡ false → has_lengths ss ≡ false
-no_lengths ss none = ap (λ (f : Segment → Bool). list_any f ss) (fun_ext length_is) ∙ none
+no_lengths ss none = none
 
 siz_written : (a : Asked) (s : Stream) → (stream_written a s).siz ≡ record s.siz { rsiz = 0 }
 unfolding stream_written

@@ -1,5 +1,5 @@
 -- The parts of a block as those of a leaf.
-use Rattle.std.proofs.Common.{◌≡◌, ℕ, zero, suc, ◌+◌, ◌-◌, ◌≤◌, List, [], ◌∷◌, ◌++◌, length, map, drop, refl, sym, ap, ◌∙◌, arith, Some}
+use Rattle.std.proofs.Common.{◌≡◌, ℕ, ◌+◌, ◌-◌, ◌≤◌, List, [], ◌∷◌, ◌++◌, length, map, drop, refl, sym, ap, ◌∙◌, arith, Some}
 use Rattle.std.specs.List.{AllByRecursion, range_with_len}
 use Rattle.std.proofs.lemmas.List.{append-nil, drop_all, length-drop, length-take, map-append}
 use Rattle.std.proofs.lemmas.List.Elements.{recursion_from_All}
@@ -14,6 +14,7 @@ use Rattle.jx_assemble.specs.Coded.{ArePartsOf, IsInside}
 use Rattle.jx_assemble.specs.Leaves.{part_at}
 use Rattle.jx_block.specs.declared.OutPart.{OutPart}
 use Rattle.jx_block.specs.Recoding.{part_bytes, piece_of}
+use Rattle.jx_base.proofs.Lists.{range_push}
 
 pub between_long : (bytes : List ℕ) (p : OutPart) → IsInside bytes p → length (part_bytes bytes p) ≡ p.to - p.from
 between_long bytes p is =
@@ -39,13 +40,6 @@ parts_are j b bytes parts are =
     same_parts j bytes parts (recursion_from_All (IsInside bytes) parts are.inside) ∙ ap (map (part_in j)) (sym are.pieces)
 
 -- ---- leaves one after another
-pub range_push : (a n : ℕ) → range_with_len a (n + 1) ≡ range_with_len a n ++ (a + n) ∷ []
-range_push a zero = let e : a ≡ a + 0 = omega arith in ap (λ (x : ℕ). x ∷ []) e
-range_push a (suc n) =
-    let e : a + 1 + n ≡ a + suc n = omega arith in
-    let m : suc n + 1 ≡ suc (n + 1) = omega arith in
-    ap (range_with_len a) m ∙ ap (λ (xs : List ℕ). a ∷ xs) (range_push (a + 1) n ∙ ap (λ (x : ℕ). range_with_len (a + 1) n ++ x ∷ []) e)
-
 pub leaf_next : {X : Type 0} (f : ℕ → X) (xs ys : List X) (n : ℕ) (x : X) → xs ≡ map f (range_with_len 0 n) → x ≡ f n → ys ≡ xs ++ x ∷ [] → ys ≡ map f (range_with_len 0 (n + 1))
 leaf_next {X} f xs ys n x before is made =
     made ∙ ap (λ (zs : List X). zs ++ x ∷ []) before ∙ ap (λ (z : X). map f (range_with_len 0 n) ++ z ∷ []) is

@@ -1,8 +1,8 @@
 -- The lengths of packets, and how many segments they take.
-use Rattle.std.proofs.Common.{◌≡◌, inl, inr, ℕ, zero, suc, ◌+◌, ◌-◌, ◌*◌, ◌/◌, ◌%◌, ◌^◌, ◌<◌, ◌≤◌, nat_eq, nat_le, Bool, true, false, cond, List, [], ◌∷◌, ◌++◌, length, drop, take, get_or, refl, sym, ap, ◌∙◌, append_assoc, append-nil, arith}
+use Rattle.std.proofs.Common.{◌≡◌, inl, inr, ℕ, zero, suc, ◌+◌, ◌-◌, ◌*◌, ◌/◌, ◌%◌, ◌^◌, ◌<◌, ◌≤◌, nat_eq, nat_le, true, false, List, [], ◌∷◌, ◌++◌, length, drop, take, get_or, refl, sym, ap, ◌∙◌, append_assoc, append-nil, arith}
 use Rattle.std.proofs.lemmas.List.{at_drop_all, at_drop_more}
 use Rattle.std.specs.Prelude.{sum_by}
-use Rattle.std.proofs.lemmas.Bool.{cases_lt}
+use Rattle.std.proofs.lemmas.Bool.{cases_lt, cond-false, cond-true}
 use Rattle.std.proofs.lemmas.Bool.Decides.{nat_tests}
 use Rattle.std.proofs.lemmas.List.Sums.{sum_by-cons}
 use Rattle.jx_head.specs.Words.{size}
@@ -40,24 +40,16 @@ groups_last size n a b c d e some few ea eb ec ed ee =
 pub long : (n : ℕ) → length (length_bytes n) ≡ length_size n
 long n = septets_long (length_size n) n
 
-if_true : {X : Type 0} (b : Bool) (x y : X) → b ≡ true → cond b x y ≡ x
-if_true true x y e = refl
-if_true false x y e = grind arith
-
-if_false : {X : Type 0} (b : Bool) (x y : X) → b ≡ false → cond b x y ≡ y
-if_false true x y e = grind arith
-if_false false x y e = refl
-
 -- a length that has room, and one that has none
 pub filled_on : (held : List ℕ) (n : ℕ) (rest : List ℕ) → length held + length_size n ≤ 65532 → filled held (n ∷ rest) ≡ filled (held ++ length_bytes n) rest
 filled_on held n rest le =
     let fits : nat_le (length held + length (length_bytes n)) 65532 ≡ true = (let e : length (length_bytes n) ≡ length_size n = long n in grind (arith, nat_tests)) in
-    if_true (nat_le (length held + length (length_bytes n)) 65532) (filled (held ++ length_bytes n) rest) (held ∷ filled (length_bytes n) rest) fits
+    cond-true (nat_le (length held + length (length_bytes n)) 65532) (filled (held ++ length_bytes n) rest) (held ∷ filled (length_bytes n) rest) fits
 
 pub filled_over : (held : List ℕ) (n : ℕ) (rest : List ℕ) → 65532 < length held + length_size n → filled held (n ∷ rest) ≡ held ∷ filled (length_bytes n) rest
 filled_over held n rest lt =
     let over : nat_le (length held + length (length_bytes n)) 65532 ≡ false = (let e : length (length_bytes n) ≡ length_size n = long n in grind (arith, nat_tests)) in
-    if_false (nat_le (length held + length (length_bytes n)) 65532) (filled (held ++ length_bytes n) rest) (held ∷ filled (length_bytes n) rest) over
+    cond-false (nat_le (length held + length (length_bytes n)) 65532) (filled (held ++ length_bytes n) rest) (held ∷ filled (length_bytes n) rest) over
 
 -- ---- how many segments there are
 -- a length of w binary digits takes at most n bytes, seven in each

@@ -12,11 +12,10 @@ use Rattle.jx_geom.specs.Precincts.{HasPrecinct, precinct_number}
 use Rattle.jx_geom.specs.Rects.{component_rect}
 use Rattle.jx_geom.specs.Resolutions.{resolutions_of}
 use Rattle.jx_geom.proofs.EmptyLemmas.{some_precinct}
-use Rattle.jx_geom.proofs.PrecinctLemmas.{precinct_number_is}
+use Rattle.jx_geom.proofs.PrecinctLemmas.{precinct_number_is, precinct_within}
 use Rattle.jx_order.specs.Steps.{name_of}
 use Rattle.jx_gather.proofs.ListedLemmas.{by_resolution, of_tile}
 use Rattle.jx_assemble.specs.Names.{component_names, one_name, resolution_names, tile_names}
-use Rattle.jx_gather.proofs.NumberLemmas.{precinct_within}
 
 -- ---- by resolutions
 no_names : (g : Geometry) (c r : ℕ) → size_of (component_rect (rect_of_tile g) (shape_of g c)) ≡ 0 → resolution_names g c r ≡ []

@@ -215,7 +215,7 @@ pub output_headers : (m : Marks) (s : Stream) (blocks : List Block) (b : List �
 output_headers m s blocks b out ready short = same_headers m s blocks b out.parts (groups_in m s blocks b out) ready (cut_in m s blocks b out ready) short out.bytes
 
 -- ---- one file
-one_tile : (m : Marks) (s : Stream) (blocks : List Block) (t : ℕ) (xs ys : List TilePart) → AreTilePartsOf m s blocks t xs → AreTilePartsOf m s blocks t ys → xs ≡ ys
+pub one_tile : (m : Marks) (s : Stream) (blocks : List Block) (t : ℕ) (xs ys : List TilePart) → AreTilePartsOf m s blocks t xs → AreTilePartsOf m s blocks t ys → xs ≡ ys
 one_tile m s blocks t xs ys one other =
     let same : one.names ≡ other.names = one_order (geometry s t) (layers_of s t) (tile_at s t).progressions (length (tile_at s t).progressions) one.names other.names one.order other.order in
     one.are ∙ ap (λ (z : List PacketName). tile_parts m s blocks t (groups_of m.parts z)) same ∙ sym other.are

@@ -92,9 +92,6 @@ module _ (m : Asked) (s : Stream) (g : Geometry) (own : List Block) (part parts 
       (ap (λ (xs : List ℕ). xs ++ body) (put ∙ ap (λ (t : ℕ). spelling comps (segment.Sot (sot_of t size part parts)) ++ (header ++ sod)) et)
       ∙ append_assoc sot (header ++ sod) body ∙ ap (λ (xs : List ℕ). sot ++ xs) (append_assoc header sod body))
 
-pub below_part : (most a b : ℕ) → most < a → a ≤ b → most < b
-below_part most a b lt le = omega arith
-
 pub below_same : (most a b c : ℕ) → b < a → b ≡ most → a ≡ c → most < c
 below_same most a b c lt eb ea = omega arith
 

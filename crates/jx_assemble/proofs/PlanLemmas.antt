@@ -31,10 +31,9 @@ use Rattle.jx_assemble.specs.Own.{AreOwnBlocks}
 use Rattle.jx_assemble.specs.Ready.{AreReady}
 use Rattle.jx_assemble.specs.Tile.{AreAtMost, AreValuesOf, IsTile, IsTooLong, StandIn, block_written, blocks_in, first_block}
 use Rattle.jx_assemble.proofs.CountLemmas.{same_below}
-use Rattle.jx_plan.proofs.SameLemmas.{same_tile}
 use Rattle.jx_plan.proofs.ReadBackLemmas.{comps_are as written_comps}
-use Rattle.jx_plan.proofs.StreamLemmas.{canvas_stays as written_canvas}
-use Rattle.jx_plan.proofs.PlanLemmas.{same_tiles as written_tiles}
+use Rattle.jx_plan.proofs.StreamLemmas.{canvas_stays as written_canvas, tile_number_stays as written_tiles}
+use Rattle.jx_geom.proofs.SameLemmas.{same_tile}
 
 -- ---- headers, by the law on those that are written
 abbrev pub WrittenReady : Type 0

@@ -1,9 +1,8 @@
 -- A file that is written from headers and tile-parts spells the stream of these headers with the tile-parts, and nothing is
 -- violated in its headers.
-use Rattle.std.proofs.Common.{◌≡◌, ◌∙◌, ◌<◌, ◌≤◌, ◌+◌, ℕ, suc, Bool, false, arith, List, [], ◌∷◌, ◌++◌, length, map, drop, get_or, refl, sym, ap, subst, inl, inr, nat_lt, Option, None}
+use Rattle.std.proofs.Common.{◌≡◌, ◌∙◌, ◌<◌, ◌+◌, ℕ, suc, Bool, false, arith, List, [], ◌∷◌, ◌++◌, length, map, drop, get_or, refl, sym, ap, subst, inl, inr, nat_lt, Option, None}
 use Rattle.std.specs.List.{filter, find, flat_map, slice_get}
 use Rattle.std.proofs.lemmas.Bool.{cases_Bool, cases_lt}
-use Rattle.std.proofs.lemmas.Bool.Decides.{nat_tests}
 use Rattle.std.proofs.lemmas.List.FromFn.{get_or-map-range_with_len, length-map-range_with_len}
 use Rattle.std.proofs.lemmas.Option.{slice_get-get_or, slice_get_past}
 use Rattle.jx_base.specs.declared.pieces.Block.{Block}
@@ -11,14 +10,13 @@ use Rattle.jx_base.specs.Joined.{joined}
 use Rattle.jx_marker.specs.declared.Progression.{Progression}
 use Rattle.jx_marker.specs.declared.Segment.{Segment}
 use Rattle.jx_marker.specs.declared.Segment.TheVariants as segment
-use Rattle.jx_marker.specs.declared.Siz.{Siz}
 use Rattle.jx_marker.specs.Segments.{spelling}
 use Rattle.jx_order.specs.declared.names.PacketName.{PacketName}
 use Rattle.jx_stream.specs.declared.Body.{Body}
 use Rattle.jx_stream.specs.declared.parts.Part.{Part}
 use Rattle.jx_stream.specs.declared.Stream.{Stream}
 use Rattle.jx_stream.specs.declared.Tile.{Tile}
-use Rattle.jx_stream.specs.First.{canvas_of, tile_number, tiles_fault}
+use Rattle.jx_stream.specs.First.{canvas_of, tile_number}
 use Rattle.jx_stream.specs.Params.{header_in, header_of, limit_4_of, tile_has_too_few, tile_planes}
 use Rattle.jx_stream.specs.Parts.{parts_of}
 use Rattle.jx_stream.specs.Read.{IsRead}
@@ -42,8 +40,8 @@ use Rattle.jx_assemble.proofs.HeaderLemmas.{same_slots}
 use Rattle.jx_assemble.proofs.MadeLemmas.{header_is, made_entries, made_filled, made_long, made_notes, made_of}
 use Rattle.jx_assemble.proofs.PlaceLemmas.{AllOf, exact_all, none_lacks, parts_here, place_of, some_part, tile_bytes}
 use Rattle.jx_assemble.proofs.TurnLemmas.{AreOf, exact_parts}
-use Rattle.jx_plan.proofs.ReadBackLemmas.{tile_of_is}
 use Rattle.jx_plan.proofs.PlanLemmas.{some_tile}
+use Rattle.jx_stream.proofs.RangeLemmas.{tile_of_is, few_tiles}
 
 -- the tile-parts of a tile that are made of a list of its packets
 pub record IsCutInto (m : Marks) (s : Stream) (blocks : List Block) (t : ℕ) (parts : List TilePart) (groups : List (List PacketName)) : Type 0 where
@@ -51,12 +49,6 @@ pub record IsCutInto (m : Marks) (s : Stream) (blocks : List Block) (t : ℕ) (p
   pub some : 0 < length groups
   pub few : length groups < 256
   pub are : parts ≡ tile_parts m s blocks t groups
-
--- ---- the canvas
-
-pub few_tiles : (siz : Siz) → tiles_fault siz ≡ None → tile_number siz ≤ 65535
-unfolding tiles_fault
-few_tiles siz h = grind (arith, nat_tests)
 
 -- ---- lists whose items a test can't tell apart
 find_alike : (p : Tile → Bool) (d : Tile) (xs ys : List Tile) → length xs ≡ length ys → ((i : ℕ) → i < length xs → p (get_or ys i d) ≡ p (get_or xs i d)) → find p xs ≡ None → find p ys ≡ None

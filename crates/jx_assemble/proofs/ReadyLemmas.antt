@@ -1,5 +1,5 @@
 -- Headers that a file may be written from are within the ranges that geometry and the packets ask for.
-use Rattle.std.proofs.Common.{◌≡◌, ◌∙◌, ◌<◌, ◌≤◌, ◌+◌, ◌*◌, ℕ, true, false, arith, List, [], length, refl, sym, ap, subst, nat_lt, Option, Some, None, inl}
+use Rattle.std.proofs.Common.{◌≡◌, ◌∙◌, ◌<◌, ◌≤◌, ◌+◌, ◌*◌, ℕ, true, false, arith, List, [], length, refl, sym, ap, subst, nat_lt, Option, Some, inl}
 use Rattle.std.specs.List.{All}
 use Rattle.std.specs.Option.{option_or}
 use Rattle.std.proofs.lemmas.Option.{slice_get-get_or}
@@ -8,7 +8,6 @@ use Rattle.jx_base.specs.declared.names.Band.{Band}
 use Rattle.jx_base.proofs.Lists.{All-flat}
 use Rattle.jx_marker.specs.declared.Cod.{Cod}
 use Rattle.jx_marker.specs.declared.Progression.{Progression}
-use Rattle.jx_marker.specs.declared.Quant.{Quant}
 use Rattle.jx_marker.specs.declared.Segment.{Segment}
 use Rattle.jx_marker.specs.declared.Shape.{Shape}
 use Rattle.jx_marker.specs.Ranges.{InRange}
@@ -20,11 +19,11 @@ use Rattle.jx_stream.specs.declared.Stream.{Stream}
 use Rattle.jx_stream.specs.First.{tile_number}
 use Rattle.jx_stream.specs.Headers.{has_slot}
 use Rattle.jx_stream.specs.InRange.{StreamInRange}
-use Rattle.jx_stream.specs.Params.{band_count, band_planes, chosen, cod_or, header_in, header_of, number_of, params_of, planes_at, planes_of, precincts_of, quant_at, quant_of, quant_or, shape_at, shape_of, shape_or, shift_at, shift_of, tile_planes}
+use Rattle.jx_stream.specs.Params.{band_planes, chosen, cod_or, header_in, header_of, number_of, params_of, planes_at, precincts_of, quant_at, quant_of, shape_at, shape_of, shape_or, shift_at, shift_of, tile_planes}
 use Rattle.jx_stream.specs.Shapes.{geometry, layers_of, no_size, no_tile, shape_in, size_of, tile_at}
 use Rattle.jx_stream.specs.Tiles.{entry_of, in_slot}
-use Rattle.jx_stream.proofs.PlaneLemmas.{all_planes, band_fits, number_inside, tile_fits}
-use Rattle.jx_stream.proofs.RangeLemmas.{shapes_at, shapes_length}
+use Rattle.jx_stream.proofs.PlaneLemmas.{all_planes, number_inside, tile_fits}
+use Rattle.jx_stream.proofs.RangeLemmas.{shapes_at, shapes_length, few_tiles, planes_fit}
 use Rattle.jx_stream.proofs.SegmentLemmas.{chosen_fits, chosen_there, cod_there, defaults_there, IsCoded, IsQuantized, IsShaped, or_chosen, or_there, quant_there, segments_fit, shape_there, slot_chosen, slot_there}
 use Rattle.jx_stream.proofs.ShapeLemmas.{shape_fits, siz_is, SizFits}
 use Rattle.jx_gather.specs.Gathered.{IsWhole}
@@ -33,14 +32,6 @@ use Rattle.jx_order.proofs.ExistLemmas.{orders_exist}
 use Rattle.jx_assemble.specs.Ready.{AreReady, HasList}
 use Rattle.jx_plan.specs.declared.Marks.{Marks}
 use Rattle.jx_assemble.proofs.CoverLemmas.{cover_all, has_cod}
-use Rattle.jx_assemble.proofs.ReadLemmas.{few_tiles as few}
-
-planes_fit : (quants : Option Quant) (shapes : Option Shape) (shift number : ℕ) (quant : Quant) (shape : Shape) → quants ≡ Some quant → shapes ≡ Some shape
-    → number < band_count (shape_or shapes).levels → All (λ (n : ℕ). nat_lt 74 n ≡ false) (band_planes quants shapes shift)
-    → planes_of (quant_or quants) (shape_or shapes).levels shift number ≤ 74
-planes_fit None shapes shift number quant shape q e inside h = absurd (cc)
-planes_fit (Some x) None shift number quant shape q e inside h = absurd (cc)
-planes_fit (Some x) (Some y) shift number quant shape q e inside h = band_fits x y shift number inside h
 
 module _ (m : Marks) (s : Stream) (ready : AreReady m s) where
   abbrev comps : ℕ
@@ -120,7 +111,7 @@ module _ (m : Marks) (s : Stream) (ready : AreReady m s) where
     canvas = sized.canvas;
     some_comps = sized.some;
     few_comps = sized.few;
-    few_tiles = few s.siz ready.few_tiles;
+    few_tiles = few_tiles s.siz ready.few_tiles;
     tiles = ready.count;
     shapes = λ t inside c within.
         let near : c < comps = omega (arith, shapes_length s t) in

@@ -1,11 +1,11 @@
 -- What is sent of the precincts of a tile.
 use Rattle.std.proofs.Common.{◌≡◌, ℕ, zero, suc, ◌+◌, ◌<◌, List, [], ◌∷◌, ◌++◌, length, take, get_or, ◌∙◌, ap, sym, subst, refl, arith, append-nil, append_assoc, Option, Some, None}
 use Rattle.std.specs.List.{flat_map, slice_get}
+use Rattle.std.proofs.lemmas.Option.{same_Some}
 use Rattle.jx_base.specs.declared.pieces.Block.{Block}
 use Rattle.jx_base.specs.Joined.{joined}
 use Rattle.jx_base.specs.Places.{size_of}
 use Rattle.jx_base.proofs.Joined.{joined_none, joined_next}
-use Rattle.jx_base.proofs.Lists.{some_same}
 use Rattle.jx_geom.specs.declared.table.Resolution.{Resolution}
 use Rattle.jx_geom.specs.Geometry.{Geometry, precincts_in}
 use Rattle.jx_geom.specs.Precincts.{HasPrecinct, precinct_number}
@@ -74,7 +74,7 @@ named_at s g own datas [] [] i n are is = absurd cc
 named_at s g own datas [] (p ∷ list) i n are is = absurd are
 named_at s g own datas (m ∷ names) [] i n are is = absurd are
 named_at s g own datas (m ∷ names) (p ∷ list) zero n are is =
-    subst (λ (x : PacketName). IsSending s g own datas x.comp x.res x.precinct p) (some_same m n is) are.0
+    subst (λ (x : PacketName). IsSending s g own datas x.comp x.res x.precinct p) (same_Some m n is) are.0
 named_at s g own datas (m ∷ names) (p ∷ list) (suc i) n are is = named_at s g own datas names list i n are.1 is
 
 pub sending_there : (s : Stream) (g : Geometry) (own : List Block) (datas : List (List ℕ)) (list : List Sending) (c r k : ℕ) → AreSendings s g own datas (tile_names g) list → HasPrecinct g c r k

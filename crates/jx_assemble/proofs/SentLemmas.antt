@@ -19,9 +19,6 @@ use Rattle.jx_block.specs.declared.OutPart.{OutPart}
 use Rattle.jx_block.specs.Recoding.{part_bytes, piece_of}
 use Rattle.jx_assemble.specs.declared.sent.Sent.{Sent}
 
-one_sent : ℕ → OutPart → Sent
-one_sent block p = record { block = block; part = p }
-
 -- one part, then the others
 pub sent_next : (layer block : ℕ) (p : OutPart) (parts : List OutPart) → sent_in layer block (p ∷ parts) ≡ sent_in layer block (p ∷ []) ++ sent_in layer block parts
 sent_next layer block p parts = by (p.layer == layer)

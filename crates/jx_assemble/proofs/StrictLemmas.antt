@@ -7,7 +7,7 @@ use Rattle.jx_order.specs.declared.names.PacketName.{PacketName}
 use Rattle.jx_stream.specs.declared.Stream.{Stream}
 use Rattle.jx_stream.specs.Spells.{all_bytes}
 use Rattle.jx_gather.specs.Written.{Packets, bytes_from}
-use Rattle.jx_assemble.specs.Told.{has_lengths, is_length}
+use Rattle.jx_assemble.specs.Told.{has_lengths}
 use Rattle.jx_assemble.specs.Lengths.{numbered}
 use Rattle.jx_assemble.specs.Ready.{AreShort}
 use Rattle.jx_assemble.specs.Strict.{AreStrictParts}
@@ -16,14 +16,15 @@ use Rattle.jx_assemble.specs.TileParts.{packet_length, packets_of, part_header, 
 use Rattle.jx_assemble.proofs.HeldLemmas.{held_by}
 use Rattle.jx_assemble.proofs.MadeLemmas.{header_is, lengths_short, own_at, part_long}
 use Rattle.jx_assemble.proofs.TellLemmas.{held_none, held_told, lengths_found}
+use Rattle.jx_plan.specs.Asides.{is_plt}
 
 own_none : (own : List Segment) (part : ℕ) → has_lengths own ≡ false → has_lengths (own_at part own) ≡ false
 own_none own zero none = none
 own_none own (suc part) none = refl
 
-found_in : (m : Marks) (own : List Segment) (part : ℕ) (lengths : List ℕ) → has_lengths own ≡ false → filter is_length (part_header m own part lengths) ≡ numbered 0 (held_by m.plt lengths)
+found_in : (m : Marks) (own : List Segment) (part : ℕ) (lengths : List ℕ) → has_lengths own ≡ false → filter is_plt (part_header m own part lengths) ≡ numbered 0 (held_by m.plt lengths)
 found_in m own part lengths none =
-    ap (λ (z : List Segment). filter is_length z) (header_is m own part lengths) ∙ lengths_found (own_at part own) (held_by m.plt lengths) (own_none own part none)
+    ap (λ (z : List Segment). filter is_plt z) (header_is m own part lengths) ∙ lengths_found (own_at part own) (held_by m.plt lengths) (own_none own part none)
 
 pub strict_made : (m : Marks) (comps t : ℕ) (own : List Segment) (ps : Packets) (count part number : ℕ) (groups : List (List PacketName)) → has_lengths own ≡ false
     → AreShort (parts_with m comps t own ps part count number groups) → AreStrictParts m.plt comps t count part ps number groups (parts_with m comps t own ps part count number groups)

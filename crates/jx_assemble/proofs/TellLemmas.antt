@@ -10,9 +10,10 @@ use Rattle.jx_marker.specs.declared.Segment.{Segment}
 use Rattle.jx_marker.specs.declared.Segment.TheVariants as segment
 use Rattle.jx_head.specs.Words.{size}
 use Rattle.jx_head.proofs.PutLemmas.{size_fits, size_le}
-use Rattle.jx_assemble.specs.Told.{flat, has_lengths, is_length, length_total, lengths_from}
+use Rattle.jx_assemble.specs.Told.{flat, has_lengths, length_total, lengths_from}
 use Rattle.jx_assemble.specs.Lengths.{filled, length_bytes, length_size, numbered, septets}
 use Rattle.jx_assemble.proofs.HeldLemmas.{held_by}
+use Rattle.jx_plan.specs.Asides.{is_plt}
 
 -- ---- one length
 power_some : (k : ℕ) → 0 < 128 ^ k
@@ -106,14 +107,14 @@ held_none true lengths asked = absurd (cc)
 held_none false lengths asked = refl
 
 -- ---- the PLT segments of a header
-lengths_kept : (number : ℕ) (held : List (List ℕ)) → filter is_length (numbered number held) ≡ numbered number held
+lengths_kept : (number : ℕ) (held : List (List ℕ)) → filter is_plt (numbered number held) ≡ numbered number held
 lengths_kept number [] = refl
 lengths_kept number (bytes ∷ held) = ap (λ (z : List Segment). segment.Plt (number ∷ bytes) ∷ z) (lengths_kept (number + 1) held)
 
-none_kept : (ss : List Segment) → has_lengths ss ≡ false → filter is_length ss ≡ []
+none_kept : (ss : List Segment) → has_lengths ss ≡ false → filter is_plt ss ≡ []
 none_kept [] h = refl
-none_kept (s ∷ ss) h = let both = or_parts (is_length s) (has_lengths ss) h in rw both.0 (none_kept ss both.1)
+none_kept (s ∷ ss) h = let both = or_parts (is_plt s) (has_lengths ss) h in rw both.0 (none_kept ss both.1)
 
-pub lengths_found : (own : List Segment) (held : List (List ℕ)) → has_lengths own ≡ false → filter is_length (own ++ numbered 0 held) ≡ numbered 0 held
+pub lengths_found : (own : List Segment) (held : List (List ℕ)) → has_lengths own ≡ false → filter is_plt (own ++ numbered 0 held) ≡ numbered 0 held
 lengths_found own held none =
-    filter-append is_length own (numbered 0 held) ∙ ap (λ (z : List Segment). z ++ filter is_length (numbered 0 held)) (none_kept own none) ∙ lengths_kept 0 held
+    filter-append is_plt own (numbered 0 held) ∙ ap (λ (z : List Segment). z ++ filter is_plt (numbered 0 held)) (none_kept own none) ∙ lengths_kept 0 held

@@ -11,9 +11,10 @@ use Rattle.jx_stream.specs.First.{tile_number}
 use Rattle.jx_stream.specs.Spells.{TilePart, file_bytes, part_bytes}
 use Rattle.jx_gather.specs.Written.{Packets, IsLaid, bytes_from}
 use Rattle.jx_assemble.specs.Lengths.{numbered}
-use Rattle.jx_assemble.specs.Told.{flat, is_length, lengths_from}
+use Rattle.jx_assemble.specs.Told.{flat, lengths_from}
 use Rattle.jx_assemble.specs.Ready.{cod_at}
 use Rattle.jx_assemble.specs.TileParts.{packet_length}
+use Rattle.jx_plan.specs.Asides.{is_plt}
 
 -- a tile-part of a tile with these packets, of which the first has a number in its tile
 pub record IsStrictPart (plt : Bool) (comps t count part : ℕ) (packets : Packets) (number : ℕ) (names : List PacketName) (p : TilePart) : Type 0 where
@@ -25,7 +26,7 @@ pub record IsStrictPart (plt : Bool) (comps t count part : ℕ) (packets : Packe
   pub body : p.body ≡ bytes_from packets number names
   -- the PLT segments, numbered from 0, with what stands behind their numbers
   pub held : List (List ℕ)
-  pub segments : filter is_length p.header ≡ numbered 0 held
+  pub segments : filter is_plt p.header ≡ numbered 0 held
   pub lengths : plt ≡ true → lengths_from 0 (flat held) ≡ map (packet_length packets) names
   pub none : plt ≡ false → held ≡ []
 

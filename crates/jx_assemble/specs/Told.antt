@@ -1,8 +1,8 @@
 -- What PLT segments tell (ITU-T T.800, A.7.3), and which of a header's segments are such.
-use Rattle.std.specs.Prelude.{ℕ, ◌+◌, ◌-◌, ◌*◌, nat_lt, Bool, true, false, List, [], ◌∷◌, if◌then◌else◌}
+use Rattle.std.specs.Prelude.{ℕ, ◌+◌, ◌-◌, ◌*◌, nat_lt, Bool, List, [], ◌∷◌, if◌then◌else◌}
 use Rattle.std.specs.List.{flat_map, list_any}
 use Rattle.jx_marker.specs.declared.Segment.{Segment}
-use Rattle.jx_marker.specs.declared.Segment.TheVariants as segment
+use Rattle.jx_plan.specs.Asides.{is_plt}
 
 -- the lengths that bytes tell, of which the first so far has a value: seven bits in each byte, and the last byte of each
 -- length is below 128
@@ -16,12 +16,8 @@ abbrev pub flat : List (List ℕ) → List ℕ
 flat held = flat_map (λ (bytes : List ℕ). bytes) held
 
 -- some of a header's segments is PLT
-abbrev pub is_length : Segment → Bool
-is_length (segment.Plt bytes) = true
-is_length _ = false
-
 abbrev pub has_lengths : List Segment → Bool
-has_lengths segments = list_any is_length segments
+has_lengths segments = list_any is_plt segments
 
 -- what lengths come to
 abbrev pub length_total : List ℕ → ℕ

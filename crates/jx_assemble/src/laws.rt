@@ -13,6 +13,7 @@ ghost use Rattle.jx_stream.specs.First.{tile_number};
 ghost use Rattle.jx_stream.specs.InRange.{StreamInRange};
 ghost use Rattle.jx_stream.specs.Read.{IsRead};
 ghost use Rattle.jx_stream.specs.Shapes.{geometry};
+ghost use Rattle.jx_stream.specs.Spells.{TilePart};
 ghost use Rattle.jx_gather.specs.Accepted.{IsAccepted};
 ghost use Rattle.jx_gather.specs.Another.{HaveSameBlocks};
 ghost use Rattle.jx_gather.specs.BlockOf.{AreBlocksOf};
@@ -33,7 +34,7 @@ ghost use Rattle.jx_plan.specs.Plan.{headers_with};
 ghost use Rattle.jx_plan.specs.Planned.{IsFreeBy, MakesLayers, blocks_written, layers_of_rule};
 ghost use Rattle.jx_plan.specs.Wanted.{MayBeWanted, Wanted, marks_of};
 ghost use Rattle.jx_plan.specs.Standing.{HeadersStand};
-ghost use Rattle.jx_assemble.specs.TileParts.{IsOutput};
+ghost use Rattle.jx_assemble.specs.TileParts.{AreTilePartsOf, IsOutput};
 
 use jx_block::laws::first_layers_are_final;
 use jx_layers::laws::{breaks_are_told, jobs_have_these_ends};
@@ -108,10 +109,13 @@ pub fn lengths_are_told()
     ensures { (lengths : List ℕ) → All (λ (n : ℕ). n < 2 ^ 32) lengths → lengths_from 0 (flat_map length_bytes lengths) ≡ lengths }
 {}
 
-/// Headers and code-blocks give one file, and no other.
+/// Headers and code-blocks give one file, and no other; a tile of it has one list of tile-parts, since its progression entries send
+/// its packets in one order (T.800, A.6.6 and B.12).
 pub fn one_output()
     ensures some { (m : Marks) (s : Stream) (blocks : List Block) → AreReady m s → (b : List ℕ) × IsOutput m s blocks b }
     ensures one { (m : Marks) (s : Stream) (blocks : List Block) (b c : List ℕ) → IsOutput m s blocks b → IsOutput m s blocks c → b ≡ c }
+    ensures parts { (m : Marks) (s : Stream) (blocks : List Block) (t : ℕ) (xs ys : List TilePart) → AreTilePartsOf m s blocks t xs → AreTilePartsOf m s blocks t ys
+        → xs ≡ ys }
 {}
 
 /// The headers that are written, with 1 to 65,535 layers, are such as a file may be written from, where nothing is in the way: no

@@ -1,6 +1,6 @@
 -- What a quotient rounded up keeps: it is the least, it grows with its dividend, and it nests.
-use Rattle.std.proofs.Common.{◌≡◌, ℕ, ◌+◌, ◌*◌, ◌≤◌, ◌<◌, arith}
-use Rattle.std.proofs.Math.Nat.{mul-le-mul_right, one-le-mul}
+use Rattle.std.proofs.Common.{ℕ, ◌+◌, ◌*◌, ◌≤◌, ◌<◌, arith}
+use Rattle.std.proofs.Math.Nat.{mul-le-mul_right}
 use Rattle.std.proofs.lemmas.Grind.{div_ceil_times}
 use Rattle.jx_base.specs.Numbers.{ceil_of, IsCeiling}
 
@@ -51,15 +51,3 @@ ceil_le_self a b h =
     ceil_least a b a h reaches
 
 -- two divisions, one after the other, are one
-pub ceil_nests : (a b c : ℕ) → 0 < b → 0 < c → ceil_of (ceil_of a b) c ≡ ceil_of a (b * c)
-ceil_nests a b c hb hc =
-    let hbc : 0 < b * c = one-le-mul hb hc in
-    let up : ceil_of a b ≤ ceil_of (ceil_of a b) c * c = ceil_reaches (ceil_of a b) c hc in
-    let far : a ≤ (ceil_of (ceil_of a b) c * c) * b = ceil_from a b (ceil_of (ceil_of a b) c * c) hb up in
-    let far' : a ≤ ceil_of (ceil_of a b) c * (b * c) = omega arith in
-    let one : ceil_of a (b * c) ≤ ceil_of (ceil_of a b) c = ceil_least a (b * c) (ceil_of (ceil_of a b) c) hbc far' in
-    let reach : a ≤ ceil_of a (b * c) * (b * c) = ceil_reaches a (b * c) hbc in
-    let reach' : a ≤ (ceil_of a (b * c) * c) * b = omega arith in
-    let mid : ceil_of a b ≤ ceil_of a (b * c) * c = ceil_least a b (ceil_of a (b * c) * c) hb reach' in
-    let two : ceil_of (ceil_of a b) c ≤ ceil_of a (b * c) = ceil_least (ceil_of a b) c (ceil_of a (b * c)) hc mid in
-    omega arith

@@ -53,15 +53,6 @@ pub makes_next : {X : Type 0} (xs ys : List X) (f : ℕ → List X) (a b : ℕ) 
     → xs ≡ joined f a b → ys ≡ xs ++ f b → ys ≡ joined f a (b + 1)
 makes_next xs ys f a b h before step = step ∙ (ap (λ zs. zs ++ f b) before ∙ sym (joined_next f a b h))
 
-pub makes_all : {X : Type 0} (xs : List X) (f : ℕ → List X) (a b n : ℕ) → a ≤ n → b ≤ n → n ≤ max a b
-    → xs ≡ joined f a n → xs ≡ joined f a b
-makes_all xs f a b n ha hb hn before = elim (cases_lt a b) [
-  | inl some ↦ let e : n ≡ b = omega arith in before ∙ ap (λ m. joined f a m) e
-  | inr none ↦
-      let e : n ≤ a = omega arith in
-      before ∙ (joined_none f a n e ∙ sym (joined_none f a b none))
-]
-
 -- what a joined list has, and back
 below_has : {X : Type 0} (f : ℕ → List X) (a n : ℕ) (x : X) → Contains (joined_below f a n) x → (i : ℕ) × (i < n) × Contains (f (a + i)) x
 below_has f a zero x h = absurd (omega (arith, h.1))
@@ -141,7 +132,7 @@ below_all : {X : Type 0} (P : X → Type 0) (f : ℕ → List X) (a n : ℕ) →
 below_all P f a zero each = λ k d lt. absurd (omega arith)
 below_all P f a (suc n) each = All-append P (joined_below f a n) (f (a + n)) (below_all P f a n (λ (i : ℕ) (lt : i < n). each i (omega arith))) (each n (omega arith))
 
-joined_all : {X : Type 0} (P : X → Type 0) (f : ℕ → List X) (n : ℕ) → ((i : ℕ) → i < n → All P (f i)) → All P (joined f 0 n)
+pub joined_all : {X : Type 0} (P : X → Type 0) (f : ℕ → List X) (n : ℕ) → ((i : ℕ) → i < n → All P (f i)) → All P (joined f 0 n)
 unfolding joined
 joined_all {X} P f n each = below_all P f 0 (n - 0) (λ (i : ℕ) (lt : i < n - 0).
     (let e : i ≡ 0 + i = omega arith in

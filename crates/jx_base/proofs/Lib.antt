@@ -1,5 +1,10 @@
 pub mod Ceilings
 pub mod Joined
 pub mod Lists
+pub mod Markers
+pub mod PieceLemmas
+pub mod Powers
 pub mod Raster
 pub mod Sums
+pub mod Tests
+pub mod Texts

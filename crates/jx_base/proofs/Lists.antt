@@ -1,11 +1,12 @@
 -- Lists item by item: what a list has, what holds of each item and of each pair, and lists one after another.
-use Rattle.std.proofs.Common.{◌≡◌, ◌≢◌, ℕ, zero, suc, ◌+◌, ◌-◌, ◌<◌, List, [], ◌∷◌, ◌++◌, inl, inr, ◌⊎◌, ◌∙◌, ap, sym, subst, refl, add-one, arith, length, get_or, set, append_assoc, length-append, Bool, true, false, Option, Some, None}
+use Rattle.std.proofs.Common.{◌≡◌, ◌≢◌, ℕ, zero, suc, ◌+◌, ◌-◌, ◌<◌, ◌≤◌, List, [], ◌∷◌, ◌++◌, inl, inr, ◌⊎◌, ◌∙◌, ap, sym, subst, refl, add-one, arith, length, get_or, set, append_assoc, length-append, Bool, true, false, Option, Some, None}
 use Rattle.std.specs.List.{All, AllPairs, Contains, find, flat_map, list_all, list_any, range_with_len, slice_get}
 use Rattle.std.proofs.Math.ListN.{get_or-append}
 use Rattle.std.proofs.Math.Seq.{get_or-append_right}
 use Rattle.std.proofs.lemmas.Bool.{cases_lt, cases_Bool, and_parts, or_parts}
 use Rattle.std.proofs.lemmas.List.{get_or_append_left}
 use Rattle.std.proofs.lemmas.List.Elements.{All-nil, All-cons, Contains-append_right, Contains-get_or}
+use Rattle.std.proofs.lemmas.Option.{get_or_from_slice_get, none-some, same_Some, slice_get_within}
 
 -- ---- what a list has, by its first item
 at_cons : {X : Type 0} (x : X) (xs : List X) (y : X) (k : ℕ) → k < length (x ∷ xs) → get_or (x ∷ xs) k y ≡ y → (x ≡ y) ⊎ Contains xs y
@@ -38,6 +39,44 @@ range_next i n h =
     let e : n - i ≡ suc (n - (i + 1)) = omega arith in
     ap (λ (m : ℕ). range_with_len i m) e
 
+pub range_push : (a n : ℕ) → range_with_len a (n + 1) ≡ range_with_len a n ++ (a + n) ∷ []
+range_push a zero = let e : a ≡ a + 0 = omega arith in ap (λ (x : ℕ). x ∷ []) e
+range_push a (suc n) =
+    let e : a + 1 + n ≡ a + suc n = omega arith in
+    let m : suc n + 1 ≡ suc (n + 1) = omega arith in
+    ap (range_with_len a) m ∙ ap (λ (xs : List ℕ). a ∷ xs) (range_push (a + 1) n ∙ ap (λ (x : ℕ). range_with_len (a + 1) n ++ x ∷ []) e)
+
+-- ---- the first number of a range that passes a test
+pub find_on : (f : ℕ → Bool) (n k more : ℕ) → k ≡ suc more → f n ≡ false → find f (range_with_len n k) ≡ find f (range_with_len (n + 1) more)
+find_on f n k more is test = rw (is, test) refl
+
+pub find_in : (f : ℕ → Bool) (a k n : ℕ) → find f (range_with_len a k) ≡ Some n → (a ≤ n) × (n < a + k) × (f n ≡ true)
+find_in f a zero n e = absurd (none-some n e)
+find_in f a (suc k) n e = elim (cases_Bool (f a)) [
+  | inl t ↦
+      let is : a ≡ n = same_Some a n (rw t at e) in
+      (omega (arith, is), omega (arith, is), subst (λ m. f m ≡ true) is t)
+  | inr t ↦
+      let more = find_in f (a + 1) k n (rw t at e) in
+      (omega (arith, more.0), omega (arith, more.1), more.2)
+]
+
+pub find_first : (f : ℕ → Bool) (a k n : ℕ) → a ≤ n → n < a + k → f n ≡ true → ((m : ℕ) → m < n → f m ≡ true → ⊥) → find f (range_with_len a k) ≡ Some n
+find_first f a zero n from below test first = absurd (omega arith)
+find_first f a (suc k) n from below test first = elim (cases_Bool (f a)) [
+  | inl t ↦ elim (cases_lt a n) [
+    | inl lt ↦ absurd (first a lt t)
+    | inr ge ↦ let is : a ≡ n = omega arith in rw t (ap Some is)
+  ]
+  | inr t ↦ elim (cases_lt a n) [
+    | inl lt ↦ rw t (find_first f (a + 1) k n (omega arith) (omega arith) test first)
+    | inr ge ↦
+        let is : a ≡ n = omega arith in
+        let no_test : f n ≡ false = subst (λ m. f m ≡ false) is t in
+        absurd (cc)
+  ]
+]
+
 -- ---- lists one after another
 -- an item of a list that is followed by another, and of the other
 pub get_left : {X : Type 0} (xs ys : List X) (i : ℕ) → i < length xs → slice_get (xs ++ ys) i ≡ slice_get xs i
@@ -63,11 +102,13 @@ tail_same x y xs ys e = cc
 pub some_none : {X : Type 0} (x : X) → Some x ≡ None → ⊥
 some_none x e = cc
 
-pub none_some : {X : Type 0} (x : X) → None ≡ Some x → ⊥
-none_some x e = cc
+-- ---- what holds of each item holds of that at a place
+pub all_at : {X : Type 0} (P : X → Type 0) (xs : List X) (i : ℕ) (x : X) → All P xs → slice_get xs i ≡ Some x → P x
+all_at P xs i x each is = subst P (get_or_from_slice_get xs i x x is) (each i x (slice_get_within xs i x is))
 
-pub some_same : {X : Type 0} (x y : X) → Some x ≡ Some y → x ≡ y
-some_same x y e = cc
+pub all_from : {X : Type 0} (P : X → Type 0) (xs : List X) → ((i : ℕ) (x : X) → slice_get xs i ≡ Some x → P x) → All P xs
+all_from P [] each = All-nil P
+all_from P (x ∷ xs) each = All-cons P x xs (each 0 x refl) (all_from P xs (λ i y is. each (suc i) y is))
 
 -- ---- an item that is set
 pub get-set_same : {X : Type 0} (xs : List X) (i : ℕ) (y : X) → i < length xs → slice_get (set xs i y) i ≡ Some y

@@ -2,7 +2,7 @@
 use Rattle.std.proofs.Common.{◌≡◌, ℕ, ◌+◌, ◌-◌, ◌*◌, ◌/◌, ◌%◌, ◌≤◌, ◌<◌, inl, inr, arith, ap}
 use Rattle.std.proofs.Math.Nat.{mul-le-mul_right}
 use Rattle.std.proofs.lemmas.Bool.{cases_lt}
-use Rattle.std.proofs.lemmas.Nat.{div_below, div-mul-add, mod-mul-add, div-add-mod'}
+use Rattle.std.proofs.lemmas.Nat.{div_below, div-mul-add, mod-mul-add, div-add-mod', mul-add-lt}
 use Rattle.jx_base.specs.declared.names.Rect.{Rect}
 use Rattle.jx_base.specs.Places.{InRect, length_of, size_of, column_at, row_at, number_at}
 
@@ -27,17 +27,11 @@ raster_in r n h = record {
   down = record { from = omega arith; below = omega (arith, row_below n (length_of r.x) (length_of r.y) h) };
 }
 
-pub in_rows : (a b w h : ℕ) → a < h → b < w → a * w + b < w * h
-in_rows a b w h ha hb =
-    let next : a + 1 ≤ h = omega arith in
-    let step : (a + 1) * w ≤ h * w = mul-le-mul_right w next in
-    omega arith
-
 pub number_below : (r : Rect) (x y : ℕ) → InRect r x y → number_at r x y < size_of r
 number_below r x y i =
     let column : x - r.x.low < length_of r.x = omega (arith, i.across.from, i.across.below) in
     let row : y - r.y.low < length_of r.y = omega (arith, i.down.from, i.down.below) in
-    in_rows (y - r.y.low) (x - r.x.low) (length_of r.x) (length_of r.y) row column
+    mul-add-lt (y - r.y.low) (length_of r.x) (x - r.x.low) (length_of r.y) row column
 
 pub number_column : (r : Rect) (x y : ℕ) → InRect r x y → column_at r (number_at r x y) ≡ x
 number_column r x y i =

@@ -11,3 +11,4 @@ pub mod Passes
 pub mod Pieces
 pub mod RawBits
 pub mod Sound
+pub mod Texts

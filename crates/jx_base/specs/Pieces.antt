@@ -1,5 +1,5 @@
 -- The coded bytes of a code-block (ITU-T T.800, B.10): pieces, each of one packet and one segment.
-use Rattle.std.specs.Prelude.{ℕ, ◌+◌, ◌<◌, ◌≤◌, ◌≡◌, false, List, [], ◌∷◌, length, sum_by}
+use Rattle.std.specs.Prelude.{ℕ, ◌+◌, ◌<◌, ◌≤◌, ◌≡◌, ◌==◌, nat_lt, false, if◌then◌else◌, List, [], ◌∷◌, length, sum_by}
 use Rattle.jx_base.specs.declared.pieces.Piece.{Piece}
 use Rattle.jx_base.specs.Passes.{end_pass}
 use Rattle.jx_base.specs.Markers.{HasNoMarker}
@@ -34,3 +34,13 @@ ArePieces style layer first passes (p ∷ ps) = IsPieceOf style layer first p ×
 -- how many bytes they have together
 abbrev pub bytes_in : List PieceValue → ℕ
 bytes_in pieces = sum_by (λ (p : PieceValue). length p.bytes) pieces
+
+-- how many passes pieces of a layer have
+abbrev pub passes_at : ℕ → List PieceValue → ℕ
+passes_at layer [] = 0
+passes_at layer (p ∷ pieces) = if p.layer == layer then p.passes + passes_at layer pieces else passes_at layer pieces
+
+-- and those of the layers before it
+abbrev pub passes_below : ℕ → List PieceValue → ℕ
+passes_below layer [] = 0
+passes_below layer (p ∷ pieces) = if nat_lt p.layer layer then p.passes + passes_below layer pieces else passes_below layer pieces

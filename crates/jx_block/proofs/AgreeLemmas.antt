@@ -1,12 +1,13 @@
 -- Segments that are the same to a decoder which looked at so many bytes of one of them.
 use Rattle.std.proofs.Common.{◌≡◌, ◌<◌, ◌≤◌, ◌+◌, ◌-◌, ◌==◌, ℕ, zero, suc, Bool, true, false, ◌&&◌, nat_lt, List, [], ◌∷◌, ◌++◌, length, take, get_or, min, replicate, inl, inr, ◌∙◌, ap, sym, subst, refl, arith}
-use Rattle.std.proofs.lemmas.Bool.{cases_lt, cases_Bool, cond-true, cond-false, eqb-true, lt-ltb, ne_eqb}
+use Rattle.std.proofs.lemmas.Bool.{cases_lt, cases_Bool, cond-true, cond-false, eqb-true, lt-ltb}
 use Rattle.std.proofs.lemmas.List.{get_or-take, get_or_append_left, get_or-append_right}
 use Rattle.jx_base.specs.MqReading.{mq_byte}
 use Rattle.jx_base.specs.RawBits.{bits_of, raw_width, raw_bits, raw_bits_after, raw_looked, raw_looked_after}
 use Rattle.jx_mq.proofs.Segments.{left_out}
 use Rattle.jx_raw.proofs.Reading.{length-bits_of}
 use Rattle.jx_block.specs.Segments.{less_last_ff}
+use Rattle.jx_passenc.proofs.WroteLemmas.{isnt_none}
 
 -- the second segment has the bytes that were looked at in the first, FF past its end, and the raw bits that these bytes have
 pub record Agrees (s t : List ℕ) (looked : ℕ) : Type 0 where
@@ -32,11 +33,8 @@ agrees_reader s t n looked h most i lt = elim (cases_lt i (length s)) [
 ]
 
 -- ---- the first bytes of a segment have its first bits
-nonzero : (n : ℕ) → (suc n == 0) ≡ false
-nonzero n = ne_eqb (suc n) 0 (λ (e : suc n ≡ 0). omega arith)
-
 looked_step : (before byte : ℕ) (rest : List ℕ) (n : ℕ) → raw_looked_after before (byte ∷ rest) (suc n) ≡ 1 + raw_looked_after byte rest (suc n - raw_width before)
-looked_step before byte rest n = cond-false (suc n == 0) 0 (1 + raw_looked_after byte rest (suc n - raw_width before)) (nonzero n)
+looked_step before byte rest n = cond-false (suc n == 0) 0 (1 + raw_looked_after byte rest (suc n - raw_width before)) (isnt_none n)
 
 -- a bit of a byte, and one of the bytes behind it
 bit_here : (w byte n : ℕ) (bits : List Bool) → n < w → get_or (bits_of w byte ++ bits) n true ≡ get_or (bits_of w byte) n true

@@ -1,9 +1,9 @@
 -- What a block that is coded anew becomes, and where nothing can be made of it.
 use Rattle.std.proofs.Common.{◌≡◌, ℕ, List, ◌∙◌, ap, sym, refl, Option, Some, None, true, is_some, is_none}
 use Rattle.std.proofs.lemmas.Bool.{and_from, and_parts, true≢false}
+use Rattle.std.proofs.lemmas.Option.{same_Some}
 use Rattle.jx_base.specs.declared.pieces.Block.{Block}
 use Rattle.jx_base.specs.declared.style.Style.{Style}
-use Rattle.jx_base.proofs.Lists.{some_same}
 use Rattle.jx_grid.specs.Needs.{written}
 use Rattle.jx_block.specs.declared.LayerEnd.{LayerEnd}
 use Rattle.jx_block.specs.declared.job.Job.{Job}
@@ -51,7 +51,7 @@ pub is_anew : (b : Block) (style : Style) (ends : List LayerEnd) (r : Recoding) 
 is_anew b style ends r e = by (wrong_in b) refl
   where
     by : (w : Option ℕ) → wrong_in b ≡ w → IsAnew b style ends r
-    by None h = record { right = h; is = some_same r (recoding_of b (Some style) ends (anew b style)) (e ∙ right_recoding b style ends h) }
+    by None h = record { right = h; is = same_Some r (recoding_of b (Some style) ends (anew b style)) (e ∙ right_recoding b style ends h) }
     by (Some pass) h = let z : Some r ≡ None = e ∙ wrong_recoding b style ends pass h in absurd (cc)
 
 -- a job of which a style is asked, where each symbol is right

@@ -5,20 +5,20 @@ use Rattle.std.specs.List.{All, concat}
 use Rattle.std.proofs.lemmas.Bool.{cases_lt, cond-true, cond-false, lt-ltb, le-ltb}
 use Rattle.std.proofs.lemmas.List.{drop-take, take-take}
 use Rattle.std.proofs.lemmas.List.Elements.{All-nil, All-cons, All-head, All-tail}
-use Rattle.jx_base.specs.Pieces.{PieceValue, ArePieces, IsInOneSegment}
+use Rattle.jx_base.specs.Pieces.{PieceValue, ArePieces, IsInOneSegment, passes_below}
 use Rattle.jx_head.specs.Parts.{cut}
 use Rattle.jx_block.specs.declared.LayerEnd.{LayerEnd}
 use Rattle.jx_block.specs.FirstLayers.{pieces_below, sent_below}
 use Rattle.jx_block.specs.Jobs.{AreEnds}
-use Rattle.jx_block.specs.Laws.{passes_below}
 use Rattle.jx_block.specs.Segments.{bytes_before, ends_below, segments_of}
 use Rattle.jx_block.proofs.EndLemmas.{below_grows}
 use Rattle.jx_block.proofs.FrontLemmas.{front, front_all, front_before, front_bytes, front_long, sent_high, sent_low}
-use Rattle.jx_block.proofs.GroupLemmas.{pieces_end, segments_are}
+use Rattle.jx_block.proofs.GroupLemmas.{segments_are}
 use Rattle.jx_block.proofs.PartLemmas.{ends_within}
 use Rattle.jx_block.proofs.RegroupLemmas.{HaveBytes, Sends, regroup}
 use Rattle.jx_block.proofs.RoomLemmas.{before_more}
 use Rattle.jx_block.proofs.ShareLemmas.{earlier_below, exact, from_ends, more_ends, of_layer, parts_all}
+use Rattle.jx_base.proofs.PieceLemmas.{pieces_end}
 
 -- ---- one piece
 below_in : (m : ℕ) (p : PieceValue) (ps : List PieceValue) → p.layer < m

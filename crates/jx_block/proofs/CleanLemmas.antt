@@ -12,6 +12,7 @@ use Rattle.jx_block.specs.Segments.{bytes_before, less_last_ff, sent_by_pieces}
 use Rattle.jx_block.specs.Tables.{bytes_joined}
 use Rattle.jx_block.proofs.CopyLemmas.{take_nil}
 use Rattle.jx_block.proofs.SentLemmas.{sent_in, sent_out, sent_none}
+use Rattle.jx_base.proofs.Markers.{append_clean, clean_after}
 
 no_ff : ◌≡◌ {A = ℕ} 0 255 → ⊥
 no_ff e = omega arith
@@ -19,17 +20,9 @@ no_ff e = omega arith
 pub none_clean : HasNoMarker 0 []
 none_clean = no_ff
 
--- ---- bytes without markers, parts of them and one after another
-after : (x y : ℕ) (xs : List ℕ) → HasNoMarker x xs → (y ≡ 255 → ⊥) → HasNoMarker y xs
-after x y [] h ne = ne
-after x y (b ∷ bs) h ne = (λ (e : y ≡ 255). absurd (ne e), h.1)
-
-pub append_clean : (x : ℕ) (xs ys : List ℕ) → HasNoMarker x xs → HasNoMarker 0 ys → HasNoMarker x (xs ++ ys)
-append_clean x [] ys h k = after 0 x ys k h
-append_clean x (b ∷ bs) ys h k = (h.0, append_clean b bs ys h.1 k)
-
+-- ---- bytes without markers, parts of them and one clean_after another
 pub drop_clean : (n x : ℕ) (xs : List ℕ) → HasNoMarker x xs → HasNoMarker 0 (drop n xs)
-drop_clean zero x xs h = after x 0 xs h no_ff
+drop_clean zero x xs h = clean_after x 0 xs h no_ff
 drop_clean (suc n) x [] h = no_ff
 drop_clean (suc n) x (b ∷ bs) h = drop_clean n b bs h.1
 

@@ -1,20 +1,17 @@
 -- Bytes from a place up to another, out of pieces one behind another.
-use Rattle.std.proofs.Common.{◌≡◌, ℕ, zero, suc, ◌+◌, ◌-◌, ◌≤◌, List, [], ◌∷◌, ◌++◌, ◌∙◌, ap, sym, refl, arith, length, take, drop, append_assoc, length-append, Result, Ok, Err, OnErr}
+use Rattle.std.proofs.Common.{◌≡◌, ℕ, zero, suc, ◌+◌, ◌-◌, ◌≤◌, List, [], ◌∷◌, ◌++◌, ◌∙◌, ap, sym, refl, arith, length, take, drop, append_assoc, length-append}
 use Rattle.std.proofs.lemmas.List.{length-take, take-append-le}
+use Rattle.std.proofs.Math.Seq.{drop-nil}
 
 pub take_nil : (n : ℕ) → ◌≡◌ {A = List ℕ} (take n []) []
 take_nil zero = refl
 take_nil (suc n) = refl
 
-drop_nil : (n : ℕ) → ◌≡◌ {A = List ℕ} (drop n []) []
-drop_nil zero = refl
-drop_nil (suc n) = refl
-
 -- what is taken of two lists
 pub part_split : (b rest : List ℕ) (skip left : ℕ)
     → take left (drop skip (b ++ rest)) ≡ take left (drop skip b) ++ take (left - length (take left (drop skip b))) (drop (skip - length b) rest)
 part_split [] rest skip left =
-    let z : take left (drop skip []) ≡ [] = ap (take left) (drop_nil skip) ∙ take_nil left in
+    let z : take left (drop skip []) ≡ [] = ap (take left) (drop-nil skip) ∙ take_nil left in
     let e : left - 0 ≡ left = omega arith in
     let f : skip - 0 ≡ skip = omega arith in
     rw z (rw (e, f) refl)
@@ -53,7 +50,3 @@ before_next first out more some h e =
     let l : length (take (length first) out) ≡ length first = ap (λ (m : List ℕ). length m) h in
     let within : length first ≤ length out = omega (arith, length-take (length first) out) in
     ap (take (length first)) e ∙ take-append-le (length first) out some within ∙ h
-
-pub on_err : {T E P : Type 0} (r : Result T E) → P → OnErr r P
-on_err (Ok x) p = tt
-on_err (Err e) p = p

@@ -3,10 +3,10 @@ use Rattle.std.proofs.Common.{◌≡◌, ℕ, zero, suc, ◌+◌, ◌-◌, ◌<�
 use Rattle.std.specs.List.{filter}
 use Rattle.std.proofs.lemmas.Bool.{cases_lt, cases_eq, cases_Bool, cond-true, cond-false, eq-eqb, ne_eqb, lt-ltb, le-ltb}
 use Rattle.jx_base.specs.Passes.{end_pass}
-use Rattle.jx_base.specs.Pieces.{PieceValue, ArePieces}
+use Rattle.jx_base.specs.Pieces.{PieceValue, ArePieces, passes_at, passes_below}
 use Rattle.jx_head.specs.Parts.{cut, one_more}
 use Rattle.jx_base.proofs.Lists.{head_same, tail_same}
-use Rattle.jx_block.specs.Laws.{passes_at, passes_below, AreCutAtEnds, AreCutInLayers}
+use Rattle.jx_block.specs.Laws.{AreCutAtEnds, AreCutInLayers}
 
 -- ---- the first of the runs into which passes are cut
 record First (style first n : ℕ) : Type 0 where

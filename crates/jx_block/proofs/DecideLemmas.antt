@@ -41,12 +41,6 @@ kept_parts b ends are own =
     parts_everywhere (sent_by_pieces b.pieces) (sent_in b None ends (own_segments b)) b.style.bits 0 b.passes ends are
     (λ (n : ℕ) le. sym (cond-true (has_own_ends b.pieces ends) (sent_by_pieces b.pieces n) (looks b n) own))
 
-pub looked_parts : (b : Block) (ends : List LayerEnd) → AreEnds 0 0 b.passes ends → has_own_ends b.pieces ends ≡ false
-    → parts_after b.style.bits (sent_by_looks b.style.bits b.passes (own_segments b) (own_looked b)) 0 ends ≡ parts_after b.style.bits (sent_in b None ends (own_segments b)) 0 ends
-looked_parts b ends are own =
-    parts_everywhere (looks b) (sent_in b None ends (own_segments b)) b.style.bits 0 b.passes ends are
-    (λ (n : ℕ) le. sym (cond-false (has_own_ends b.pieces ends) (sent_by_pieces b.pieces n) (looks b n) own))
-
 pub cut_parts : (b : Block) (ends : List LayerEnd) → ArePieces b.style.bits 0 0 b.passes b.pieces → AreEnds 0 0 b.passes ends → has_own_ends b.pieces ends ≡ false
     → are_cut b.style.bits b.passes ends ≡ true
     → parts_after b.style.bits (sent_by_pieces b.pieces) 0 ends ≡ parts_after b.style.bits (sent_in b None ends (own_segments b)) 0 ends
@@ -102,15 +96,6 @@ pub few_of : (wide high : ℕ) (c : Coding) (ss slices : List (List ℕ)) (passe
     → AreFew c.style slices looked
 few_of wide high c ss slices passes looked e f = rw (e, f) (looked_few wide high c ss passes)
 
-pub looks_same : (b : Block) (wide high : ℕ) (ss slices : List (List ℕ)) (looked : List ℕ) → wide ≡ length_of b.rect.x → high ≡ length_of b.rect.y → ss ≡ own_segments b
-    → slices ≡ ss → looked ≡ (decoded wide high (coding_in b b.style.bits) ss b.passes).looked
-    → map (sent_by_looks b.style.bits b.passes slices looked) (range_with_len 0 (b.passes + 1))
-    ≡ map (sent_by_looks b.style.bits b.passes (own_segments b) (own_looked b)) (range_with_len 0 (b.passes + 1))
-looks_same b wide high ss slices looked w h own e f =
-    let same : slices ≡ own_segments b = e ∙ own in
-    let same' : looked ≡ own_looked b = f ∙ rw (w, h, own) refl in
-    rw (same, same') refl
-
 pub slice_few : (b : Block) (ps : List Piece) → IsSound b → map value_of ps ≡ b.pieces → All (λ (p : Piece). p.first + p.passes < 2 ^ 16) ps
 slice_few b ps sound e =
     let P : List PieceValue → Type 0 = λ qs. ArePieces b.style.bits 0 0 b.passes qs in
@@ -123,9 +108,6 @@ joined_long b ps whole sound e f =
     omega (arith, sound.bytes)
 
 -- ---- the same of any segments
-pub segments_short : (ss : List (List ℕ)) → bytes_before ss (length ss) ≤ 2 ^ 28 → AreShort ss
-segments_short ss le = all_short ss (omega (arith, all_before ss))
-
 pub groups_most : (style : ℕ) (ps : List PieceValue) (ss : List (List ℕ)) → ss ≡ groups style ps → bytes_in ps ≤ 2 ^ 28 → bytes_before ss (length ss) ≤ 2 ^ 28
 groups_most style ps ss e le =
     let sum : sum_by (λ (t : List ℕ). length t) ss ≡ bytes_in ps = ap (sum_by (λ (t : List ℕ). length t)) e ∙ groups_total style ps in
@@ -142,15 +124,6 @@ pub looked_few_in : (b : Block) (style found : Style) (ss slices : List (List �
     → AreFew style.bits slices looked
 looked_few_in b style found ss slices looked e f g =
     subst (λ (s : Style). AreFew s.bits slices looked) e (few_of (length_of b.rect.x) (length_of b.rect.y) (coding_in b found.bits) ss slices b.passes looked f g)
-
-pub looked_table : (b : Block) (style found : Style) (ss segments slices : List (List ℕ)) (looked : List ℕ) → found ≡ style → segments ≡ ss → slices ≡ segments
-    → looked ≡ (decoded_in b found.bits segments).looked
-    → map (sent_by_looks style.bits b.passes slices looked) (range_with_len 0 (b.passes + 1))
-    ≡ map (sent_by_looks style.bits b.passes ss (decoded_in b style.bits ss).looked) (range_with_len 0 (b.passes + 1))
-looked_table b style found ss segments slices looked e f g h =
-    let same : slices ≡ ss = g ∙ f in
-    let same' : looked ≡ (decoded_in b style.bits ss).looked = h ∙ ap (λ (s : Style). (decoded_in b s.bits segments).looked) e ∙ ap (λ (t : List (List ℕ)). (decoded_in b style.bits t).looked) f in
-    rw (same, same') refl
 
 pub own_table : (b : Block) (ss : List (List ℕ)) → IsSound b → ss ≡ groups b.style.bits b.pieces
     → map (sent_by_looks b.style.bits b.passes ss (decoded_in b b.style.bits ss).looked) (range_with_len 0 (b.passes + 1))

@@ -9,7 +9,7 @@ use Rattle.jx_base.specs.declared.pieces.Piece.{Piece}
 use Rattle.jx_base.specs.Pieces.{PieceValue, value_of, ArePieces}
 use Rattle.jx_block.specs.Groups.{onto_first, joined_on, ends_it, groups, groups_left, is_last_of_segment, goes_on}
 use Rattle.jx_block.specs.Tables.{is_last_of_layer, bytes_joined}
-use Rattle.jx_block.proofs.GroupLemmas.{pieces_end}
+use Rattle.jx_base.proofs.PieceLemmas.{pieces_end}
 
 -- the first of them and the others
 pub drop_one : (ps : List Piece) (at : ℕ) (d : Piece) → at < length ps → map value_of (drop at ps) ≡ value_of (get_or ps at d) ∷ map value_of (drop (at + 1) ps)

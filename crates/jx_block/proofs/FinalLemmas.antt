@@ -4,13 +4,13 @@ use Rattle.std.specs.List.{concat}
 use Rattle.std.proofs.lemmas.Bool.{cases_eq, cond-true, cond-false, true≢false}
 use Rattle.jx_base.specs.declared.pieces.Block.{Block}
 use Rattle.jx_base.specs.declared.style.Style.{Style}
-use Rattle.jx_base.specs.Pieces.{ArePieces, PieceValue}
+use Rattle.jx_base.specs.Pieces.{ArePieces, PieceValue, passes_below}
 use Rattle.jx_base.specs.Places.{length_of}
 use Rattle.jx_base.specs.Sound.{IsSound}
 use Rattle.jx_block.specs.declared.LayerEnd.{LayerEnd}
 use Rattle.jx_block.specs.FirstLayers.{HasFirstLayers, KeepsValues, cells_after, first_cells, pieces_below, sent_below}
 use Rattle.jx_block.specs.Jobs.{IsAsked}
-use Rattle.jx_block.specs.Laws.{KeepsFirst, decoded_first, passes_below}
+use Rattle.jx_block.specs.Laws.{KeepsFirst, decoded_first}
 use Rattle.jx_block.specs.Recoding.{Recoding, coding_in, decoded_in, has_own_ends, is_kept_whole, new_style, own_segments, piece_of, pieces_of, recoding, sent_in}
 use Rattle.jx_block.specs.Segments.{bytes_before, ends_below, segments_of, sent_by_looks, sent_by_pieces}
 use Rattle.jx_block.specs.Written.{block_with, is_wrong, style_for}

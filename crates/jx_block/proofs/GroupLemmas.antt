@@ -6,6 +6,7 @@ use Rattle.jx_base.specs.Pieces.{PieceValue, ArePieces}
 use Rattle.jx_block.specs.Groups.{onto_first, joined_on, ends_it, groups}
 use Rattle.jx_block.specs.Segments.{ends_below, segment_count, segment_at, segments_of}
 use Rattle.jx_block.proofs.EndLemmas.{below_ended, below_still, below_grows, below_within, count_is}
+use Rattle.jx_base.proofs.PieceLemmas.{pieces_end}
 
 -- ---- the segment of a number
 abbrev segs : ℕ → List PieceValue → ℕ → ℕ → List (List ℕ)
@@ -64,10 +65,6 @@ segs_on style a n p ps e =
     cc
 
 -- ---- pieces from a pass on
-pub pieces_end : (style layer first passes : ℕ) (ps : List PieceValue) → ArePieces style layer first passes ps → first ≤ passes
-pieces_end style layer first passes [] are = let e : first ≡ passes = are in omega arith
-pieces_end style layer first passes (p ∷ ps) are = let h : first + p.passes ≤ passes = pieces_end style p.layer (first + p.passes) passes ps are.1 in omega arith
-
 segs_are : (style layer first passes : ℕ) (p : PieceValue) (ps : List PieceValue) → ArePieces style layer first passes (p ∷ ps)
     → segs style (p ∷ ps) (ends_below style first) (ends_below style (passes - 1) + 1 - ends_below style first) ≡ groups style (p ∷ ps)
 segs_are style layer first passes p [] are =

@@ -22,9 +22,6 @@ at_last xs n k e =
     let z : k - k ≡ 0 = omega arith in
     get_or-append_right xs (n ∷ []) k k 0 e (omega arith) ∙ ap (λ (i : ℕ). get_or (n ∷ []) i 0) z
 
-at_before : (xs : List ℕ) (n i : ℕ) → i < length xs → get_or (xs ++ n ∷ []) i 0 ≡ get_or xs i 0
-at_before xs n i lt = get_or_append_left xs (n ∷ []) 0 i lt
-
 -- a pass within its segment
 within_runs : (c : Coding) (pass : ℕ) (d : Decoding) → IsSeen d.reading.mq → length d.looked ≡ pass
     → ((i : ℕ) → i + 1 < pass → end_pass c.style i ≡ false → get_or d.looked i 0 ≤ get_or d.looked (i + 1) 0)
@@ -44,14 +41,14 @@ within_runs c pass d seen long grows last =
       long = length_more d.looked (looked_of r) ∙ ap suc long;
       grows = λ (i : ℕ) (lt : i + 1 < suc pass) (flat : end_pass c.style i ≡ false). elim (cases_eq (i + 1) pass) [
         | inl here ↦
-            let back : get_or (d.looked ++ looked_of r ∷ []) i 0 ≡ get_or d.looked i 0 = at_before d.looked (looked_of r) i (omega arith) in
+            let back : get_or (d.looked ++ looked_of r ∷ []) i 0 ≡ get_or d.looked i 0 = get_or_append_left d.looked ((looked_of r) ∷ []) 0 i (omega arith) in
             let new : get_or (d.looked ++ looked_of r ∷ []) (i + 1) 0 ≡ looked_of r = at_last d.looked (looked_of r) (i + 1) (omega arith) in
             let own : get_or d.looked i 0 ≡ looked_of d.reading = last i (sym here) flat in
             let more : looked_of d.reading ≤ looked_of r = all.more in
             omega arith
         | inr other ↦
-            let back : get_or (d.looked ++ looked_of r ∷ []) i 0 ≡ get_or d.looked i 0 = at_before d.looked (looked_of r) i (omega arith) in
-            let next : get_or (d.looked ++ looked_of r ∷ []) (i + 1) 0 ≡ get_or d.looked (i + 1) 0 = at_before d.looked (looked_of r) (i + 1) (omega arith) in
+            let back : get_or (d.looked ++ looked_of r ∷ []) i 0 ≡ get_or d.looked i 0 = get_or_append_left d.looked ((looked_of r) ∷ []) 0 i (omega arith) in
+            let next : get_or (d.looked ++ looked_of r ∷ []) (i + 1) 0 ≡ get_or d.looked (i + 1) 0 = get_or_append_left d.looked ((looked_of r) ∷ []) 0 (i + 1) (omega arith) in
             let old : get_or d.looked i 0 ≤ get_or d.looked (i + 1) 0 = grows i (omega arith) flat in
             omega arith
       ];

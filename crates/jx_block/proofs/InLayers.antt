@@ -4,11 +4,11 @@ use Rattle.std.specs.List.{All}
 use Rattle.std.proofs.lemmas.Bool.{cases_Bool, cond-true, cond-false, eqb-true, ne_eqb}
 use Rattle.jx_base.specs.declared.pieces.Block.{Block}
 use Rattle.jx_base.specs.declared.style.Style.{Style}
-use Rattle.jx_base.specs.Pieces.{ArePieces, PieceValue}
+use Rattle.jx_base.specs.Pieces.{ArePieces, PieceValue, passes_at}
 use Rattle.jx_base.specs.Sound.{IsSound}
 use Rattle.jx_block.specs.declared.LayerEnd.{LayerEnd}
 use Rattle.jx_block.specs.Jobs.{AreEnds, IsAsked}
-use Rattle.jx_block.specs.Laws.{AreCutInLayers, asked_at, passes_at}
+use Rattle.jx_block.specs.Laws.{AreCutInLayers, asked_at}
 use Rattle.jx_block.specs.Recoding.{Recoding, layer_ends, new_style, pieces_of, recoding}
 use Rattle.jx_block.specs.Written.{block_with, is_wrong, own_cells, style_for, written_in}
 use Rattle.jx_block.proofs.GroupLemmas.{none_left}

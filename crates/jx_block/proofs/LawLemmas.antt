@@ -3,11 +3,11 @@ use Rattle.std.proofs.Common.{◌≡◌, ℕ, List, [], ◌∙◌, ap, sym, subs
 use Rattle.std.specs.List.{All, concat}
 use Rattle.std.proofs.lemmas.Bool.{cond-true, cond-false}
 use Rattle.std.proofs.lemmas.List.Concat.{length-flat_map, concat_is}
+use Rattle.std.proofs.lemmas.Option.{same_Some}
 use Rattle.jx_base.specs.declared.pieces.Block.{Block}
 use Rattle.jx_base.specs.Pieces.{PieceValue, bytes_in}
 use Rattle.jx_base.specs.Places.{length_of}
 use Rattle.jx_base.specs.Sound.{IsSound}
-use Rattle.jx_base.proofs.Lists.{some_same}
 use Rattle.jx_block.specs.declared.LayerEnd.{LayerEnd}
 use Rattle.jx_block.specs.Jobs.{IsAsked, AreEnds}
 use Rattle.jx_block.specs.Laws.{AreCutAtEnds, IsWithin}
@@ -28,7 +28,7 @@ pub kept_pieces : (b : Block) (r : Recoding) → IsSound b → AreCutAtEnds b.st
 unfolding recoding
 kept_pieces b r sound cuts e =
     let ends = layer_ends b.pieces in
-    let is : r ≡ recoding_of b None ends (own_segments b) = some_same r (recoding_of b None ends (own_segments b)) e in
+    let is : r ≡ recoding_of b None ends (own_segments b) = same_Some r (recoding_of b None ends (own_segments b)) e in
     let whole : List ℕ = concat (own_segments b) in
     let rise : AreEnds 0 0 b.passes ends = own_ends_rise b.style.bits 0 0 b.passes b.pieces sound.pieces in
     let parts : parts_after b.style.bits (sent_in b None ends (own_segments b)) 0 ends ≡ map _ b.pieces =
@@ -63,7 +63,7 @@ kept_rises b ends sound false e =
 pub kept_within : (b : Block) (ends : List LayerEnd) (r : Recoding) → IsAsked b None ends → Some r ≡ recoding b None ends → All (IsWithin (length r.bytes)) r.parts
 unfolding recoding
 kept_within b ends r asked e =
-    let is : r ≡ recoding_of b None ends (own_segments b) = some_same r (recoding_of b None ends (own_segments b)) e in
+    let is : r ≡ recoding_of b None ends (own_segments b) = same_Some r (recoding_of b None ends (own_segments b)) e in
     let P : Recoding → Type 0 = λ q. All (IsWithin (length q.bytes)) q.parts in
     subst P (sym is)
     (parts_within b.style.bits b.passes (length (concat (own_segments b))) (sent_in b None ends (own_segments b)) 0 0 ends

@@ -6,7 +6,7 @@ use Rattle.std.proofs.lemmas.List.{length-reverse}
 use Rattle.jx_base.specs.declared.pieces.Block.{Block}
 use Rattle.jx_base.specs.declared.style.Style.{Style}
 use Rattle.jx_base.specs.MqTable.{MqContexts, mq_fresh, mq_row_of}
-use Rattle.jx_base.specs.MqWriting.{MqGiven, Decided, Renewed, MqWriter, mq_after_bit, mq_bits, mq_by_newest, mq_byte_out, mq_carried, mq_flushed, mq_given_out, mq_is_mps, mq_last_number, mq_newest, mq_part, mq_raised, mq_renormalized, mq_shifted, mq_trimmed, mq_write, mq_writer, mq_written_from, mq_wrote}
+use Rattle.jx_base.specs.MqWriting.{MqGiven, Decided, Renewed, MqWriter, mq_after_bit, mq_bits, mq_by_newest, mq_byte_out, mq_carried, mq_flushed, mq_given_out, mq_is_mps, mq_last_number, mq_newest, mq_part, mq_renormalized, mq_shifted, mq_trimmed, mq_write, mq_writer, mq_written_from, mq_wrote}
 use Rattle.jx_base.specs.Passes.{end_pass, raw_pass}
 use Rattle.jx_base.specs.RawBits.{byte_of, raw_width, raw_write_after}
 use Rattle.jx_base.specs.Sound.{IsSound}
@@ -20,12 +20,10 @@ use Rattle.jx_block.proofs.AnewLemmas.{anew, is_anew}
 use Rattle.jx_block.proofs.CoefLemmas.{own_cells_size}
 use Rattle.jx_block.proofs.FewLemmas.{AllFew, needs_few}
 use Rattle.jx_block.proofs.WrittenLemmas.{needs_long, none_written}
+use Rattle.jx_mq.proofs.Lengths.{raised_long}
+use Rattle.jx_mq.proofs.Segments.{trimmed_length}
 
 -- ---- bytes of the arithmetic coder
-raised_long : (bytes : List ℕ) → length (mq_raised bytes) ≡ length bytes
-raised_long [] = refl
-raised_long (byte ∷ older) = refl
-
 newest_long : (w : MqWriter) → length (mq_by_newest w).bytes ≤ suc (length w.bytes)
 newest_long w = elim (cases_Bool (mq_newest w.bytes == 255)) [
   | inl t ↦ rw t (omega arith)
@@ -90,19 +88,12 @@ flushed_long w =
     let b = given_out_long (mq_given_out last) in
     omega arith
 
-trimmed_long : (bytes : List ℕ) → length (mq_trimmed bytes) ≤ length bytes
-trimmed_long [] = omega arith
-trimmed_long (byte ∷ older) = elim (cases_Bool (byte == 255)) [
-  | inl t ↦ rw t (omega arith)
-  | inr f ↦ rw f (omega arith)
-]
-
 mq_long : (x : MqContexts) (given : List MqGiven) → length (mq_write x given) ≤ 15 * length given + 3
 mq_long x given =
     let w : MqWriter = (mq_written_from mq_writer x given).writer in
     let a = from_long mq_writer x given in
     let b = flushed_long w in
-    let d = trimmed_long (mq_flushed w) in
+    let d = trimmed_length (mq_flushed w) in
     omega (arith, length-drop 1 (reverse (mq_trimmed (mq_flushed w))), length-reverse (mq_trimmed (mq_flushed w)))
 
 -- ---- raw bytes

@@ -1,9 +1,9 @@
 -- The decoder has looked at no more bytes of a pass's segment than it has.
-use Rattle.std.proofs.Common.{◌≡◌, ℕ, zero, suc, ◌+◌, ◌-◌, ◌≤◌, ◌==◌, min, Bool, true, false, ◌||◌, List, [], ◌∷◌, ◌++◌, inl, inr, ◌∙◌, ap, sym, subst, refl, add-one, arith, length, drop, get_or, if◌then◌else◌}
+use Rattle.std.proofs.Common.{◌≡◌, ℕ, zero, suc, ◌+◌, ◌-◌, ◌≤◌, ◌==◌, min, Bool, true, false, ◌||◌, List, [], ◌∷◌, ◌++◌, inl, inr, ◌∙◌, ap, sym, subst, refl, add-one, arith, length, drop, get_or}
 use Rattle.std.proofs.lemmas.Bool.{cases_lt, cases_eq, cases_Bool, ne_eqb}
 use Rattle.std.proofs.lemmas.List.{get_or_append_left, get_or-append_right}
 use Rattle.jx_base.specs.Passes.{end_pass, resets, is_causal}
-use Rattle.jx_base.specs.RawBits.{raw_bits, raw_looked_after, raw_width}
+use Rattle.jx_base.specs.RawBits.{raw_bits}
 use Rattle.jx_grid.specs.Asking.{Asking, Told, Ask, told}
 use Rattle.jx_grid.specs.Pass.{pass_of}
 use Rattle.jx_grid.specs.Symbol.{symbol_asked}
@@ -12,6 +12,7 @@ use Rattle.jx_grid.specs.Reading.{Reading, Coding, Decoding, after_bit, read_ans
 use Rattle.jx_block.specs.Segments.{ends_below, segment_count}
 use Rattle.jx_block.specs.Tables.{AreFew}
 use Rattle.jx_block.proofs.EndLemmas.{below_ended, below_still}
+use Rattle.jx_passdec.proofs.Firsts.{looked_most as raw_most}
 
 -- ---- a coder stays in its segment
 after_segment : (r : Reading) (label : ℕ) → (after_bit r label).segment ≡ r.segment
@@ -37,12 +38,6 @@ symbol_segment style pass r = elim (cases_Bool (ends_by_symbol style pass)) [
 ]
 
 -- ---- and looks at what is there
-raw_most : (before : ℕ) (segment : List ℕ) (n : ℕ) → raw_looked_after before segment n ≤ length segment
-raw_most before [] n = omega arith
-raw_most before (byte ∷ rest) n =
-    let h = raw_most byte rest (n - raw_width before) in
-    elim (n == 0) as (λ v. (if v then 0 else 1 + raw_looked_after byte rest (n - raw_width before)) ≤ suc (length rest)) [ true ↦ omega arith | false ↦ omega arith ]
-
 min_most : (a b : ℕ) → min a b ≤ b
 min_most a b = omega arith
 

@@ -3,14 +3,15 @@ use Rattle.std.proofs.Common.{◌≡◌, ℕ, ◌≤◌, ◌^◌, ◌==◌, true
 use Rattle.std.specs.List.{All, concat}
 use Rattle.std.proofs.lemmas.Bool.{and_parts, cases_Bool, cond-true, cond-false, eq-eqb, eqb-true, true≢false}
 use Rattle.std.proofs.lemmas.List.Concat.{length-flat_map}
+use Rattle.std.proofs.lemmas.Option.{same_Some}
 use Rattle.jx_base.specs.declared.pieces.Block.{Block}
 use Rattle.jx_base.specs.declared.style.Style.{Style}
-use Rattle.jx_base.specs.Pieces.{ArePieces, PieceValue, bytes_in}
+use Rattle.jx_base.specs.Pieces.{ArePieces, PieceValue, bytes_in, passes_at}
 use Rattle.jx_base.specs.Sound.{IsSound}
-use Rattle.jx_base.proofs.Lists.{some_none, some_same}
+use Rattle.jx_base.proofs.Lists.{some_none}
 use Rattle.jx_block.specs.declared.LayerEnd.{LayerEnd}
 use Rattle.jx_block.specs.Jobs.{IsAsked, KeepsCausal}
-use Rattle.jx_block.specs.Laws.{AreCutInLayers, passes_at}
+use Rattle.jx_block.specs.Laws.{AreCutInLayers}
 use Rattle.jx_block.specs.Recoding.{Recoding, decoded_in, layer_ends, new_segments, new_style, option_recoding, own_segments, pieces_of, recoding, recoding_of, sent_in, wrong_in}
 use Rattle.jx_block.specs.Segments.{segments_of}
 use Rattle.jx_block.specs.Written.{block_with, is_wrong, own_cells, style_for, written_as, written_in}
@@ -36,7 +37,7 @@ is_from b style ends r e = by (new_segments b style) e
   where
     by : (found : Option (List (List ℕ))) → Some r ≡ option_recoding b style ends found → IsFrom b style ends r
     by None h = absurd (some_none r h)
-    by (Some ss) h = record { segments = ss; is = some_same r (recoding_of b style ends ss) h }
+    by (Some ss) h = record { segments = ss; is = same_Some r (recoding_of b style ends ss) h }
 
 pub made_style : (b : Block) (style : Option Style) (ends : List LayerEnd) (r : Recoding) → Some r ≡ recoding b style ends → r.style ≡ new_style b style
 made_style b style ends r e = ap (λ (q : Recoding). q.style) (is_from b style ends r e).is

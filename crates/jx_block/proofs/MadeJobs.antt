@@ -55,9 +55,6 @@ job_few j new parts h = by_few j.block.now j.style new h.asked.sound h.few
 pub kept_bytes : (j : Job) (new : List ℕ) → IsSound j.block.now → j.style ≡ None → bytes_by j.block.now j.style new ≡ bytes_joined j.block.now.pieces
 kept_bytes j new sound e = ap (λ (s : Option Style). bytes_by j.block.now s new) e ∙ own_bytes j.block.now sound
 
-pub new_bytes : (j : Job) (style : Style) (new : List ℕ) → j.style ≡ Some style → bytes_by j.block.now j.style new ≡ new
-new_bytes j style new e = ap (λ (s : Option Style). bytes_by j.block.now s new) e
-
 -- ---- a block without passes
 no_ends : (layer passes : ℕ) (ends : List LayerEnd) → AreEnds layer passes 0 ends → ends ≡ []
 no_ends layer passes [] are = refl

@@ -1,5 +1,5 @@
 -- Where the layers of the input ended.
-use Rattle.std.proofs.Common.{◌≡◌, ℕ, ◌+◌, ◌≤◌, ◌==◌, Bool, true, false, ◌&&◌, ◌||◌, List, [], ◌∷◌, inl, inr, ◌∙◌, ap, sym, refl}
+use Rattle.std.proofs.Common.{◌≡◌, ℕ, ◌+◌, ◌≤◌, ◌==◌, Bool, false, ◌&&◌, ◌||◌, List, [], ◌∷◌, inl, inr, ◌∙◌, ap, sym, refl}
 use Rattle.std.specs.List.{list_all}
 use Rattle.std.proofs.lemmas.Bool.{cases_Bool}
 use Rattle.jx_base.specs.Pieces.{PieceValue}
@@ -16,19 +16,6 @@ own_step p (q ∷ rest) n = elim (cases_Bool (p.layer == q.layer)) [
   | inl t ↦ rw t refl
   | inr f ↦ rw f refl
 ]
-
-swapped : (a b c : Bool) → ((a || b) || c) ≡ (b || (a || c))
-swapped true true c = refl
-swapped true false c = refl
-swapped false true c = refl
-swapped false false c = refl
-
--- the loop's step, where the layer ended and where it didn't
-pub own_noted : (p : PieceValue) (rest : List PieceValue) (n : ℕ) (before after whole : Bool) → is_last_of_layer (p ∷ rest) ≡ true → after ≡ ((p.first + p.passes == n) || before)
-    → (before || is_own_end (p ∷ rest) n) ≡ whole → (after || is_own_end rest n) ≡ whole
-own_noted p rest n before after whole last is h =
-    let step : is_own_end (p ∷ rest) n ≡ ((p.first + p.passes == n) || is_own_end rest n) = own_step p rest n ∙ ap (λ (b : Bool). (b && (p.first + p.passes == n)) || is_own_end rest n) last in
-    ap (λ (b : Bool). b || is_own_end rest n) is ∙ swapped (p.first + p.passes == n) before (is_own_end rest n) ∙ ap (λ (b : Bool). before || b) (sym step) ∙ h
 
 pub own_passed : (p : PieceValue) (rest : List PieceValue) (n : ℕ) (before whole : Bool) → is_last_of_layer (p ∷ rest) ≡ false
     → (before || is_own_end (p ∷ rest) n) ≡ whole → (before || is_own_end rest n) ≡ whole

@@ -6,11 +6,11 @@ use Rattle.std.proofs.lemmas.Bool.{cases_eq, cases_Bool, cond-true, cond-false, 
 use Rattle.std.proofs.lemmas.List.{drop-drop, map-append}
 use Rattle.std.proofs.lemmas.List.FromFn.{length-map-range_with_len}
 use Rattle.std.proofs.lemmas.List.Sums.{sum_by-cons}
+use Rattle.std.proofs.lemmas.Option.{same_Some}
 use Rattle.jx_base.specs.declared.pieces.Block.{Block}
 use Rattle.jx_base.specs.Passes.{end_pass}
 use Rattle.jx_base.specs.Pieces.{PieceValue, ArePieces, IsInOneSegment}
 use Rattle.jx_base.specs.Sound.{IsSound}
-use Rattle.jx_base.proofs.Lists.{some_same}
 use Rattle.jx_head.specs.Parts.{cut}
 use Rattle.jx_block.specs.declared.LayerEnd.{LayerEnd}
 use Rattle.jx_block.specs.Jobs.{IsAsked}
@@ -20,13 +20,14 @@ use Rattle.jx_block.specs.Segments.{ends_below, segment_at, segment_count, segme
 use Rattle.jx_block.proofs.DecideLemmas.{looks, own_looked}
 use Rattle.jx_block.proofs.DropLemmas.{left_all, left_ended, left_on}
 use Rattle.jx_block.proofs.EndLemmas.{below_ended, below_still, below_grows, below_within, count_is}
-use Rattle.jx_block.proofs.GroupLemmas.{pieces_end, none_left, segments_are}
+use Rattle.jx_block.proofs.GroupLemmas.{none_left, segments_are}
 use Rattle.jx_block.proofs.LawLemmas.{kept_rises}
 use Rattle.jx_block.proofs.PartLemmas.{IsCut}
 use Rattle.jx_block.proofs.RoomLemmas.{before_more}
 use Rattle.jx_block.proofs.SentLemmas.{same_at_cuts}
 use Rattle.jx_block.proofs.SoundLemmas.{kept_sound}
 use Rattle.jx_block.proofs.WithinLemmas.{looks_all, looks_cut}
+use Rattle.jx_base.proofs.PieceLemmas.{pieces_end}
 
 -- ---- bytes between places
 segment_is : (ss : List (List ℕ)) (a : ℕ) → take (length (get_or ss a [])) (drop (bytes_before ss a) (concat ss)) ≡ get_or ss a []
@@ -214,7 +215,7 @@ kept_sends b ends sound = record {
 pub kept_have : (b : Block) (ends : List LayerEnd) (r : Recoding) → Some r ≡ recoding b None ends → HaveBytes (sent_in b None ends (own_segments b)) (concat (own_segments b)) (pieces_of r)
 unfolding recoding
 kept_have b ends r e =
-    let is : r ≡ recoding_of b None ends (own_segments b) = some_same r (recoding_of b None ends (own_segments b)) e in
+    let is : r ≡ recoding_of b None ends (own_segments b) = same_Some r (recoding_of b None ends (own_segments b)) e in
     let P : Recoding → Type 0 = λ q. HaveBytes (sent_in b None ends (own_segments b)) (concat (own_segments b)) (pieces_of q) in
     subst P (sym is) (parts_have b.style.bits (sent_in b None ends (own_segments b)) (concat (own_segments b)) 0 ends)
 

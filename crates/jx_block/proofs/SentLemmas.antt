@@ -11,8 +11,9 @@ use Rattle.jx_block.specs.Segments.{ends_below, segments_of, bytes_before, less_
 use Rattle.jx_block.proofs.EndLemmas.{below_ended, below_still, below_grows, below_within, below_more}
 use Rattle.jx_block.specs.Groups.{onto_first, joined_on, ends_it, groups}
 use Rattle.jx_block.specs.Tables.{rows}
-use Rattle.jx_block.proofs.GroupLemmas.{pieces_end, segments_are}
+use Rattle.jx_block.proofs.GroupLemmas.{segments_are}
 use Rattle.jx_block.proofs.PartLemmas.{IsCut}
+use Rattle.jx_base.proofs.PieceLemmas.{pieces_end}
 
 -- ---- by pieces
 abbrev ended_by : ℕ → PieceValue → Bool
@@ -28,7 +29,7 @@ pub sent_out : (n : ℕ) (p : PieceValue) (ps : List PieceValue) → n < p.first
 unfolding sent_by_pieces
 sent_out n p ps lt = ap bytes_in (cond-false (ended_by n p) (p ∷ filter (ended_by n) ps) (filter (ended_by n) ps) (lt-leb (p.first + p.passes) n lt))
 
-sent_nil : (n : ℕ) → sent_by_pieces [] n ≡ 0
+pub sent_nil : (n : ℕ) → sent_by_pieces [] n ≡ 0
 unfolding sent_by_pieces
 sent_nil n = refl
 

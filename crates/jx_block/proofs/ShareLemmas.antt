@@ -2,27 +2,25 @@
 use Rattle.std.proofs.Common.{◌≡◌, ℕ, ◌+◌, ◌-◌, ◌<◌, ◌≤◌, ◌==◌, nat_lt, true, false, List, [], ◌∷◌, ◌++◌, inl, inr, ◌∙◌, ap, sym, subst, refl, arith, map}
 use Rattle.std.specs.Prelude.{if◌then◌else◌}
 use Rattle.std.specs.List.{All}
-use Rattle.std.proofs.lemmas.Bool.{cases_lt, cases_eq, cases_Bool, cond-true, cond-false, eq-eqb, ne_eqb, eqb-true, lt-ltb, le-ltb}
+use Rattle.std.proofs.lemmas.Bool.{cases_lt, cases_eq, cases_Bool, cond-true, cond-false, eq-eqb, ne_eqb, eqb-true, lt-ltb}
 use Rattle.std.proofs.lemmas.List.{append-nil, map-append}
 use Rattle.std.proofs.lemmas.List.Elements.{All-nil, All-cons, All-head, All-tail, All-append}
-use Rattle.jx_base.specs.Pieces.{PieceValue, ArePieces}
+use Rattle.jx_base.specs.Pieces.{PieceValue, ArePieces, passes_at, passes_below}
 use Rattle.jx_head.specs.Parts.{cut}
 use Rattle.jx_block.specs.declared.LayerEnd.{LayerEnd}
 use Rattle.jx_block.specs.Jobs.{AreEnds}
-use Rattle.jx_block.specs.Laws.{AreCutInLayers, passes_at, passes_below}
+use Rattle.jx_block.specs.Laws.{AreCutInLayers}
 use Rattle.jx_block.specs.Recoding.{layer_ends, layer_parts, parts_after, piece_of}
 use Rattle.jx_block.proofs.CutLemmas.{CutFrom, runs_at, at_here, at_other}
 use Rattle.jx_block.proofs.KeptLemmas.{HeadAt, head_at}
 use Rattle.jx_block.proofs.SoundLemmas.{Exact, cut_exact, exact_end}
+use Rattle.jx_base.proofs.PieceLemmas.{below_here}
 
 -- ---- pieces of later layers alone
 record NoneAt (m : ℕ) (ps : List PieceValue) : Type 0 where
   passes : passes_at m ps ≡ 0
   runs : runs_at m ps ≡ []
   below : passes_below m ps ≡ 0
-
-below_here : (m : ℕ) (p : PieceValue) (ps : List PieceValue) → m ≤ p.layer → passes_below m (p ∷ ps) ≡ passes_below m ps
-below_here m p ps le = cond-false (nat_lt p.layer m) (p.passes + passes_below m ps) (passes_below m ps) (le-ltb p.layer m le)
 
 none_later : (m : ℕ) (ps : List PieceValue) → All (λ (p : PieceValue). m < p.layer) ps → NoneAt m ps
 none_later m [] later = record { passes = refl; runs = refl; below = refl }

@@ -3,13 +3,13 @@ use Rattle.std.proofs.Common.{◌≡◌, ℕ, zero, suc, ◌+◌, ◌-◌, ◌<�
 use Rattle.std.specs.List.{concat}
 use Rattle.std.proofs.lemmas.Bool.{cases_lt, cases_eq, cases_Bool, cond-true, cond-false, or_parts, eqb-false}
 use Rattle.std.proofs.lemmas.List.{drop-take, map-append}
+use Rattle.std.proofs.lemmas.Option.{same_Some}
 use Rattle.jx_base.specs.declared.pieces.Block.{Block}
 use Rattle.jx_base.specs.Markers.{HasNoMarker}
 use Rattle.jx_base.specs.Passes.{end_pass}
 use Rattle.jx_base.specs.Pieces.{PieceValue, IsPieceOf, ArePieces, IsInOneSegment}
 use Rattle.jx_base.specs.Places.{length_of}
 use Rattle.jx_base.specs.Sound.{IsSound}
-use Rattle.jx_base.proofs.Lists.{some_same}
 use Rattle.jx_head.specs.Parts.{cut, one_more}
 use Rattle.jx_block.specs.declared.LayerEnd.{LayerEnd}
 use Rattle.jx_block.specs.Jobs.{IsAsked, AreEnds}
@@ -24,7 +24,8 @@ use Rattle.jx_block.proofs.GroupLemmas.{segments_are}
 use Rattle.jx_block.proofs.LookedLemmas.{looked_few}
 use Rattle.jx_block.proofs.OwnBytes.{own_bytes}
 use Rattle.jx_block.proofs.PartLemmas.{ends_within}
-use Rattle.jx_block.proofs.WithinLemmas.{alone, longer, less_most, looks_all, looks_cut, looks_in}
+use Rattle.jx_block.proofs.WithinLemmas.{less_most, looks_all, looks_cut, looks_in}
+use Rattle.jx_base.proofs.PieceLemmas.{alone, longer, pieces_lower}
 
 -- ---- runs of passes as they are cut
 abbrev pub Exact : ℕ → ℕ → ℕ → List ℕ → Type 0
@@ -87,13 +88,7 @@ layer_sound style all sent bytes layer first last (run ∷ runs) rest clean le h
       layer_sound style all sent bytes layer (first + run) last runs rest clean le h.2 are,
     )
 
--- a lower layer before
-lower : (style below layer first all : ℕ) (ps : List PieceValue) → below ≤ layer → ArePieces style layer first all ps → ArePieces style below first all ps
-lower style below layer first all [] le are = are
-lower style below layer first all (p ∷ ps) le are =
-    let at : layer ≤ p.layer = are.0.layers in
-    (record { layers = omega arith; begins = are.0.begins; some = are.0.some; segment = are.0.segment; markers = are.0.markers }, are.1)
-
+-- a pieces_lower layer before
 pub parts_sound : (style all : ℕ) (sent : ℕ → ℕ) (bytes : List ℕ) (layer first : ℕ) (ends : List LayerEnd) → Clean all sent bytes → AreEnds layer first all ends
     → ArePieces style layer first all (map (piece_of bytes) (parts_after style sent first ends))
 parts_sound style all sent bytes layer first [] clean are = are
@@ -105,13 +100,13 @@ parts_sound style all sent bytes layer first (e ∷ ends) clean are =
     let later : ArePieces style (e.layer + 1) e.passes all (map (piece_of bytes) (parts_after style sent e.passes ends)) =
     parts_sound style all sent bytes (e.layer + 1) e.passes ends clean are.2 in
     let rest : ArePieces style e.layer e.passes all (map (piece_of bytes) (parts_after style sent e.passes ends)) =
-    lower style e.layer (e.layer + 1) e.passes all (map (piece_of bytes) (parts_after style sent e.passes ends)) (omega arith) later in
+    pieces_lower style e.layer (e.layer + 1) e.passes all (map (piece_of bytes) (parts_after style sent e.passes ends)) (omega arith) later in
     let runs : Exact style first e.passes (cut style first (e.passes - first)) =
     subst (λ (n : ℕ). Exact style first n (cut style first (e.passes - first))) sum (cut_exact style first (e.passes - first)) in
     let here = layer_sound style all sent bytes e.layer first e.passes (cut style first (e.passes - first)) (map (piece_of bytes) (parts_after style sent e.passes ends)) clean le runs rest in
     subst (λ (ps : List PieceValue). ArePieces style layer first all ps)
     (sym (map-append (piece_of bytes) (layer_parts sent e.layer first (cut style first (e.passes - first))) (parts_after style sent e.passes ends)))
-    (lower style layer e.layer first all
+    (pieces_lower style layer e.layer first all
     (map (piece_of bytes) (layer_parts sent e.layer first (cut style first (e.passes - first))) ++ map (piece_of bytes) (parts_after style sent e.passes ends)) at here)
 
 -- ---- what is sent of a kept block is clean
@@ -165,7 +160,7 @@ kept_clean b ends sound false e n le =
 pub kept_sound : (b : Block) (ends : List LayerEnd) (r : Recoding) → IsAsked b None ends → Some r ≡ recoding b None ends → ArePieces b.style.bits 0 0 b.passes (pieces_of r)
 unfolding recoding
 kept_sound b ends r asked e =
-    let is : r ≡ recoding_of b None ends (own_segments b) = some_same r (recoding_of b None ends (own_segments b)) e in
+    let is : r ≡ recoding_of b None ends (own_segments b) = same_Some r (recoding_of b None ends (own_segments b)) e in
     let P : Recoding → Type 0 = λ q. ArePieces b.style.bits 0 0 b.passes (pieces_of q) in
     subst P (sym is)
     (parts_sound b.style.bits b.passes (sent_in b None ends (own_segments b)) (concat (own_segments b)) 0 0 ends

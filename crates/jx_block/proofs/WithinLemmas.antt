@@ -16,21 +16,13 @@ use Rattle.jx_block.proofs.EndLemmas.{below_ended, below_still, below_within}
 use Rattle.jx_block.proofs.GrowLemmas.{AreGrowing}
 use Rattle.jx_block.proofs.PartLemmas.{ends_within}
 use Rattle.jx_block.proofs.RoomLemmas.{before_more, before_most}
-use Rattle.jx_block.proofs.SentLemmas.{sent_in, sent_out, sent_all}
+use Rattle.jx_block.proofs.SentLemmas.{sent_in, sent_out, sent_all, sent_nil}
+use Rattle.jx_base.proofs.PieceLemmas.{alone, longer}
 
 -- ---- runs of passes as they are cut
 abbrev Runs : ℕ → ℕ → ℕ → List ℕ → Type 0
 Runs style first last [] = first ≤ last
 Runs style first last (run ∷ runs) = IsInOneSegment style first run × Runs style (first + run) last runs
-
-pub alone : (style first : ℕ) → IsInOneSegment style first 1
-alone style first pass le lt = absurd (omega arith)
-
-pub longer : (style first run : ℕ) → end_pass style first ≡ false → IsInOneSegment style (first + 1) run → IsInOneSegment style first (suc run)
-longer style first run flat one pass le lt = elim (cases_eq pass first) [
-  | inl here ↦ rw here flat
-  | inr other ↦ one pass (omega arith) (omega arith)
-]
 
 runs_more : (style first last : ℕ) (runs : List ℕ) → end_pass style first ≡ false → Runs style (first + 1) last runs → Runs style first last (one_more runs)
 runs_more style first last [] flat h = (alone style first, h)
@@ -83,10 +75,6 @@ parts_within style all total sent layer first (e ∷ ends) rises are =
     (parts_within style all total sent (e.layer + 1) e.passes ends rises are.2)
 
 -- ---- the pieces' numbers
-sent_nil : (n : ℕ) → sent_by_pieces [] n ≡ 0
-unfolding sent_by_pieces
-sent_nil n = refl
-
 pieces_grow : (ps : List PieceValue) (n m : ℕ) → n ≤ m → sent_by_pieces ps n ≤ sent_by_pieces ps m
 pieces_grow [] n m le = omega (arith, sent_nil n, sent_nil m)
 pieces_grow (p ∷ ps) n m le =

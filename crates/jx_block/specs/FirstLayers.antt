@@ -5,10 +5,10 @@ use Rattle.std.specs.List.{filter}
 use Rattle.jx_base.specs.declared.pieces.Block.{Block}
 use Rattle.jx_base.specs.declared.style.Style.{Style}
 use Rattle.jx_base.specs.Passes.{is_causal}
-use Rattle.jx_base.specs.Pieces.{PieceValue}
+use Rattle.jx_base.specs.Pieces.{PieceValue, passes_below}
 use Rattle.jx_grid.specs.Cells.{Cells}
 use Rattle.jx_block.specs.declared.LayerEnd.{LayerEnd}
-use Rattle.jx_block.specs.Laws.{decoded_first, passes_below}
+use Rattle.jx_block.specs.Laws.{decoded_first}
 use Rattle.jx_block.specs.Recoding.{is_kept_whole, own_segments}
 use Rattle.jx_block.specs.Segments.{segments_of}
 use Rattle.jx_block.specs.Written.{style_for, written_in}

@@ -1,10 +1,10 @@
 -- Pieces as packets cut them (ITU-T T.800, B.10.7), parts within bytes, and a block's first passes.
-use Rattle.std.specs.Prelude.{◌≡◌, ◌⊎◌, ◌≤◌, ◌%◌, ℕ, ◌+◌, ◌-◌, ◌==◌, nat_lt, true, List, [], ◌∷◌, map, if◌then◌else◌}
+use Rattle.std.specs.Prelude.{◌≡◌, ◌⊎◌, ◌≤◌, ◌%◌, ℕ, ◌+◌, ◌-◌, ◌==◌, true, List, [], ◌∷◌, map, if◌then◌else◌}
 use Rattle.std.specs.List.{filter}
 use Rattle.jx_base.specs.declared.pieces.Block.{Block}
 use Rattle.jx_base.specs.declared.style.Style.{Style}
 use Rattle.jx_base.specs.Passes.{end_pass, is_causal}
-use Rattle.jx_base.specs.Pieces.{PieceValue}
+use Rattle.jx_base.specs.Pieces.{PieceValue, passes_at, passes_below}
 use Rattle.jx_base.specs.Places.{length_of}
 use Rattle.jx_grid.specs.Reading.{Decoding, decoded}
 use Rattle.jx_head.specs.Parts.{cut}
@@ -17,15 +17,6 @@ abbrev pub AreCutAtEnds : ℕ → List PieceValue → Type 0
 AreCutAtEnds style [] = Unit {0}
 AreCutAtEnds style (p ∷ []) = Unit {0}
 AreCutAtEnds style (p ∷ q ∷ ps) = (p.layer ≡ q.layer → end_pass style (p.first + p.passes - 1) ≡ true) × AreCutAtEnds style (q ∷ ps)
-
--- how many passes pieces of a layer have, and those of the layers before it
-abbrev pub passes_at : ℕ → List PieceValue → ℕ
-passes_at layer [] = 0
-passes_at layer (p ∷ pieces) = if p.layer == layer then p.passes + passes_at layer pieces else passes_at layer pieces
-
-abbrev pub passes_below : ℕ → List PieceValue → ℕ
-passes_below layer [] = 0
-passes_below layer (p ∷ pieces) = if nat_lt p.layer layer then p.passes + passes_below layer pieces else passes_below layer pieces
 
 -- how many passes are asked in a layer, after some passes
 abbrev pub asked_at : ℕ → ℕ → List LayerEnd → ℕ

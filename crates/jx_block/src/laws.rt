@@ -3,11 +3,11 @@
 ghost use Rattle.std.specs.Prelude.{◌≡◌, ◌≢◌, ◌≤◌, ◌<◌, ◌^◌, ℕ, true, false, List, [], All, length, Option, Some, None};
 ghost use Rattle.jx_base.specs.declared.pieces.Block.{Block};
 ghost use Rattle.jx_base.specs.declared.style.Style.{Style};
-ghost use Rattle.jx_base.specs.Pieces.{ArePieces, PieceValue};
+ghost use Rattle.jx_base.specs.Pieces.{ArePieces, PieceValue, passes_at};
 ghost use Rattle.jx_base.specs.Sound.{IsSound};
 ghost use Rattle.jx_block.specs.declared.LayerEnd.{LayerEnd};
 ghost use Rattle.jx_block.specs.Jobs.{IsAsked, KeepsCausal};
-ghost use Rattle.jx_block.specs.Laws.{AreCutAtEnds, AreCutInLayers, IsWithin, KeepsFirst, asked_at, decoded_first, passes_at};
+ghost use Rattle.jx_block.specs.Laws.{AreCutAtEnds, AreCutInLayers, IsWithin, KeepsFirst, asked_at, decoded_first};
 ghost use Rattle.jx_block.specs.FirstLayers.{HasFirstLayers};
 ghost use Rattle.jx_block.specs.Recoded.{is_bad, recoding_in};
 ghost use Rattle.jx_block.specs.declared.job.Job.{Job};

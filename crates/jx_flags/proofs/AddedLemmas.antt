@@ -9,7 +9,7 @@ use Rattle.jx_grid.specs.Reading.{zeros}
 use Rattle.jx_flags.specs.Marks.{mark, word, wide_of, is_outside, power}
 use Rattle.jx_flags.proofs.MarkLemmas.{mark_le, mark_other, mark_here, mark_there, mark_kept, mark_out, mark_in, not_inside, IsWholeAt}
 
-four : (a b c d e f g h : ℕ) → a ≡ e → b ≡ f → c ≡ g → d ≡ h → a + 8 * b + 64 * c + 512 * d ≡ e + 8 * f + 64 * g + 512 * h
+pub four : (a b c d e f g h : ℕ) → a ≡ e → b ≡ f → c ≡ g → d ≡ h → a + 8 * b + 64 * c + 512 * d ≡ e + 8 * f + 64 * g + 512 * h
 four a b c d e f g h p q r s = omega arith
 
 -- another word

@@ -1,5 +1,6 @@
 -- A grid that the coefficients may become answers each question of a pass as it was answered when they were made.
 use Rattle.std.proofs.Common.{◌≡◌, ◌≤◌, ◌<◌, ◌+◌, ◌*◌, ◌/◌, ◌%◌, ◌==◌, nat_lt, nat_le, ℕ, zero, suc, Bool, true, false, not, ◌&&◌, ◌||◌, refl, ap, ◌∙◌, arith, if◌then◌else◌}
+use Rattle.std.proofs.lemmas.Bool.{ltb-false, not-true, and_parts}
 use Rattle.jx_grid.specs.declared.coef.Coef.{Coef}
 use Rattle.jx_grid.specs.declared.question.Plane.{Plane}
 use Rattle.jx_grid.specs.declared.question.Question.{Question}
@@ -14,10 +15,10 @@ use Rattle.jx_grid.proofs.Told.{told_then}
 use Rattle.jx_passenc.proofs.FrontLemmas.{IsClean, more_seen, sign_bit_seen, sign_seen}
 use Rattle.jx_passenc.proofs.GridLemmas.{IsFront, AreClean, IsIn, seen_at, front_same, front_next}
 use Rattle.jx_passenc.proofs.LeafLemmas.{IsBack, leaves_told}
-use Rattle.jx_passenc.proofs.StepLemmas.{or_right, and_right, not_true, no_less, clean_at}
+use Rattle.jx_passenc.proofs.StepLemmas.{or_right, clean_at}
 use Rattle.jx_passenc.proofs.RunBackLemmas.{IsRun, is_one, number_is, zero_seen, first_none, named_is}
 use Rattle.jx_passenc.proofs.WroteLemmas.{or_false}
-use Rattle.jx_passenc.proofs.PassBackLemmas.{place_back}
+use Rattle.jx_passenc.proofs.PassBackLemmas.{place_back, room}
 use Rattle.jx_passenc.proofs.BackLemmas.{tree_of}
 use Rattle.jx_base.specs.Passes.{is_causal}
 
@@ -74,14 +75,14 @@ significance_shows ask g k m x y s c i a =
     let p : Bool = significant old || is_decided k old in
     let l : Bool = label_at k m x y == 0 in
     shows_if ask g k.planes s (p || l) (Told m) (bit_of k m x y) (λ e f. tt)
-    (λ e. bit_shows ask g k m x y s c i a (no_less k.number old.planes (or_right (significant old) (is_decided k old) (or_false p l e))))
+    (λ e. bit_shows ask g k m x y s c i a (ltb-false k.number old.planes (or_right (significant old) (is_decided k old) (or_false p l e))))
 
 usual_shows : {S : Type 0} (ask : S → Question → Bool × S) (g : Cells) (k : Plane) (m : Cells) (x y : ℕ) (s : S) → IsScan k → IsIn m x y
     → AreClean k.planes (k.number + 1) m → Shows ask g k.planes (usual_at k m x y) s
 usual_shows ask g k m x y s c i a =
     let old : Coef = coef_at m x y in
     shows_if ask g k.planes s (significant old || is_decided k old) (Told m) (bit_of k m x y) (λ e f. tt)
-    (λ e. bit_shows ask g k m x y s c i a (no_less k.number old.planes (or_right (significant old) (is_decided k old) e)))
+    (λ e. bit_shows ask g k m x y s c i a (ltb-false k.number old.planes (or_right (significant old) (is_decided k old) e)))
 
 refinement_shows : {S : Type 0} (ask : S → Question → Bool × S) (g : Cells) (k : Plane) (m : Cells) (x y : ℕ) (s : S) → IsScan k → IsIn m x y
     → AreClean k.planes (k.number + 1) m → Shows ask g k.planes (refinement_at k m x y) s
@@ -92,7 +93,7 @@ refinement_shows ask g k m x y s c i a =
     let cl : IsClean k.planes (k.number + 1) old = clean_at k m x y a in
     shows_if ask g k.planes s (significant old && not (is_decided k old)) (Ask q (λ bit. Told (changed m x y (with_bit k bit)))) (Told m)
     (λ e f.
-    let u = no_less k.number old.planes (not_true (is_decided k old) (and_right (significant old) (not (is_decided k old)) e)) in
+    let u = ltb-false k.number old.planes (not-true (is_decided k old) ((and_parts (significant old) (not (is_decided k old)) e).1)) in
     (more_seen k b old (coef_at g x y) c u cl (seen_at k.planes m x y (with_bit k b old) g a.whole i f), tt))
     (λ e f. tt)
 
@@ -136,9 +137,6 @@ place_shows ask g pass k m x y s c i a =
 record AreShown {S : Type 0} (ask : S → Question → Bool × S) (planes : ℕ) (m : Cells) (t : Asking Cells) (s : S) : Type 0 where
   pub front : IsFront planes m (told ask t s).0
   pub shows : (g : Cells) → Shows ask g planes t s
-
-room : (vw vh w h n count : ℕ) → vw ≡ w → vh ≡ h → n + suc count ≤ w * h → n + 1 + count ≤ vw * vh
-room vw vh w h n count e f l = rw (e, f) (omega arith)
 
 scan_shows : {S : Type 0} (ask : S → Question → Bool × S) (pass : ℕ) (k : Plane) (count n : ℕ) (m : Cells) (s : S) → IsScan k
     → AreClean k.planes (k.number + 1) m → n + count ≤ m.width * m.height → AreShown ask k.planes m (scanned pass k count n m) s

@@ -35,10 +35,6 @@ pub copied_reads : {A : Type 0} (t : Asking A) (s : Copying) → ((told copy_ans
 copied_reads (Told a) s = refl
 copied_reads (Ask q k) s = copied_reads (k (read_answer s.reading q).0) (copy_answer s q).1
 
-copied_answers : {A : Type 0} (g : Cells) (t : Asking A) (s : Copying) → AnswersAs copy_answer g t s → AnswersAs read_answer g t s.reading
-copied_answers g (Told a) s h = tt
-copied_answers g (Ask q k) s h = (h.0, copied_answers g (k (read_answer s.reading q).0) (copy_answer s q).1 h.1)
-
 -- what is written, where a grid answers as was read
 pub copied_writes : {A : Type 0} (g : Cells) (t : Asking A) (s : Copying) → AnswersAs copy_answer g t s
     → aimed g (told copy_answer t s).1.writing ≡ (told write_answer t (aimed g s.writing)).1

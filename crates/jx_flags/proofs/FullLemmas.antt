@@ -5,12 +5,14 @@ use Rattle.jx_grid.specs.declared.question.Plane.{Plane}
 use Rattle.jx_grid.specs.Cells.{Cells, coef_at, significant}
 use Rattle.jx_grid.specs.Near.{one_if}
 use Rattle.jx_grid.specs.Asking.{Told}
-use Rattle.jx_grid.specs.Pass.{pass_at, scanned, significance_at, usual_at, cleanup_at, run_at, is_quiet, is_run}
+use Rattle.jx_grid.specs.Pass.{pass_at, scanned, usual_at, cleanup_at, run_at, is_quiet, is_run}
 use Rattle.jx_flags.specs.Marks.{mark, word}
 use Rattle.jx_flags.specs.Numbers.{first_of}
 use Rattle.jx_flags.proofs.MarkLemmas.{mark_le, mark_there}
 use Rattle.jx_flags.proofs.ScanLemmas.{nth_is}
 use Rattle.jx_flags.proofs.QuietLemmas.{none_asked, first_kind}
+use Rattle.jx_flags.proofs.SignificanceLemmas.{significance_marked}
+use Rattle.jx_flags.proofs.TreeLemmas.{usual_marked}
 
 row_full : (m : ℕ → ℕ) (t r y : ℕ) → ((n : ℕ) → m n ≤ 1) → 0 < t → r < 4 → y + 1 ≡ 4 * t - 3 + r
     → m (4 * t - 3) + 8 * m (4 * t - 2) + 64 * m (4 * t - 1) + 512 * m (4 * t) ≡ 585 → m (y + 1) ≡ 1
@@ -42,12 +44,6 @@ full_at g t x y r p l e a b z =
     one_true (significant (coef_at g x y))
     (sym (mark_there g x y a b) ∙ row_full (λ (n : ℕ). mark g (x + 1) n) t r y (λ n. mark_le g (x + 1) n) p l (omega arith) z)
 
-no_significance : (k : Plane) (g : Cells) (x y : ℕ) → significant (coef_at g x y) ≡ true → significance_at k g x y ≡ Told g
-no_significance k g x y e = rw e refl
-
-no_usual : (k : Plane) (g : Cells) (x y : ℕ) → significant (coef_at g x y) ≡ true → usual_at k g x y ≡ Told g
-no_usual k g x y e = rw e refl
-
 not_quiet : (k : Plane) (g : Cells) (x y : ℕ) → significant (coef_at g x y) ≡ true → is_quiet k g x y ≡ false
 not_quiet k g x y e = rw e refl
 
@@ -62,7 +58,7 @@ not_run k g x y e =
     (third_false (y % 4 == 0) (nat_le (y + 4) g.height) (is_quiet k g x (y + 1)) (is_quiet k g x (y + 2)) (is_quiet k g x (y + 3)))
 
 no_cleanup : (k : Plane) (g : Cells) (x y : ℕ) → significant (coef_at g x y) ≡ true → cleanup_at k g x y ≡ Told g
-no_cleanup k g x y e = ap (λ (b : Bool). if b then run_at k g x y else usual_at k g x y) (not_run k g x y e) ∙ no_usual k g x y e
+no_cleanup k g x y e = ap (λ (b : Bool). if b then run_at k g x y else usual_at k g x y) (not_run k g x y e) ∙ usual_marked k g x y e
 
 third_kind : (pass : ℕ) (k : Plane) (g : Cells) (x y : ℕ) → pass % 3 ≡ 0 → pass_at pass k g x y ≡ cleanup_at k g x y
 third_kind pass k g x y e = rw e refl
@@ -73,7 +69,7 @@ full_first pass k g x top rows e p t r z =
     none_asked pass k g rows (first_of g x top rows) (λ i l.
     nth_is pass k g g x top rows i refl refl p t r l
     ∙ (first_kind pass k g x (top + i) e
-    ∙ no_significance k g x (top + i) (full_at g (top / 4 + 1) x (top + i) i (omega arith) (omega arith) (omega arith) p (omega arith) z)))
+    ∙ significance_marked k g x (top + i) (full_at g (top / 4 + 1) x (top + i) i (omega arith) (omega arith) (omega arith) p (omega arith) z)))
 
 pub full_third : (pass : ℕ) (k : Plane) (g : Cells) (x top rows : ℕ) → pass % 3 ≡ 0 → x < g.width → top % 4 ≡ 0 → rows ≡ min 4 (g.height - top)
     → word g (top / 4 + 1) (x + 1) ≡ 585 → scanned pass k rows (first_of g x top rows) g ≡ Told g

@@ -1,17 +1,17 @@
 -- Marks of single places.
-use Rattle.std.proofs.Common.{◌≡◌, ◌<◌, ◌≤◌, ◌+◌, ◌-◌, ◌*◌, ◌/◌, ◌==◌, ◌||◌, ℕ, Bool, true, false, refl, sym, ap, ◌∙◌, arith, subst, inl, inr, length, if◌then◌else◌}
+use Rattle.std.proofs.Common.{◌≡◌, ◌<◌, ◌≤◌, ◌+◌, ◌-◌, ◌*◌, ◌==◌, ◌||◌, ℕ, Bool, true, false, refl, sym, ap, ◌∙◌, arith, subst, inl, inr, length, if◌then◌else◌}
 use Rattle.std.specs.Prelude.{nat_lt}
 use Rattle.std.proofs.lemmas.Bool.{cases_eq, cases_Bool}
 use Rattle.std.proofs.lemmas.Bool.Decides.{nat_tests}
 use Rattle.std.proofs.lemmas.List.{get_or-set_same, get_or-set_other}
-use Rattle.std.proofs.lemmas.Nat.{div-mul-add}
+use Rattle.std.proofs.lemmas.Nat.{same_from_place}
 use Rattle.std.proofs.Math.Nat.{mul-le-mul_right}
 use Rattle.jx_grid.specs.declared.coef.Coef.{Coef}
 use Rattle.jx_grid.specs.Cells.{Cells, zero_coef, coef_at, with_coef, significant}
 use Rattle.jx_grid.specs.Near.{one_if}
 use Rattle.jx_flags.specs.Marks.{mark, is_outside}
 
-one_le : (b : Bool) → one_if b ≤ 1
+pub one_le : (b : Bool) → one_if b ≤ 1
 one_le true = omega arith
 one_le false = omega arith
 
@@ -53,14 +53,8 @@ unfolding mark
 mark_out g c r e = rw e refl
 
 -- places stand apart in the list of rows
-same_row : (w a b c d : ℕ) → a < w → c < w → b * w + a ≡ d * w + c → b ≡ d
-same_row w a b c d p q e = sym (div-mul-add b w a p) ∙ (ap (λ (n : ℕ). n / w) e ∙ div-mul-add d w c q)
-
 pub same_place : (w a b c d : ℕ) → a < w → c < w → b * w + a ≡ d * w + c → (a ≡ c) × (b ≡ d)
-same_place w a b c d p q e =
-    let r = same_row w a b c d p q e in
-    let f : d * w + a ≡ d * w + c = subst (λ (n : ℕ). n * w + a ≡ d * w + c) r e in
-    (omega arith, r)
+same_place w a b c d p q e = let r = same_from_place b a d c w p q e in (r.1, r.0)
 
 -- another place
 elsewhere : (g : Cells) (x y : ℕ) (coef : Coef) (c r : ℕ) → x < g.width → IsInside g c r → ((c ≡ x + 1) → (r ≡ y + 1) → ⊥)

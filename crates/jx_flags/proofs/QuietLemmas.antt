@@ -1,5 +1,5 @@
 -- Columns in which a pass asks nothing.
-use Rattle.std.proofs.Common.{◌≡◌, ◌<◌, ◌+◌, ◌-◌, ◌*◌, ◌/◌, ◌%◌, ◌==◌, ◌||◌, ℕ, zero, suc, min, Bool, true, false, refl, sym, ap, ◌∙◌, arith, if◌then◌else◌}
+use Rattle.std.proofs.Common.{◌≡◌, ◌<◌, ◌+◌, ◌-◌, ◌*◌, ◌/◌, ◌%◌, ℕ, zero, suc, min, Bool, true, false, refl, sym, ap, ◌∙◌, arith}
 use Rattle.jx_base.specs.declared.names.Band.{Band}
 use Rattle.jx_base.specs.declared.names.Band.TheVariants.{LL, HL, LH, HH}
 use Rattle.jx_grid.specs.declared.question.Plane.{Plane}
@@ -7,13 +7,15 @@ use Rattle.jx_grid.specs.Cells.{Cells, coef_at, significant}
 use Rattle.jx_grid.specs.Near.{one_if}
 use Rattle.jx_grid.specs.Labels.{significance_row}
 use Rattle.jx_grid.specs.Asking.{Asking, Told, and_then}
-use Rattle.jx_grid.specs.Pass.{pass_at, pass_at_nth, scanned, significance_at, refinement_at, label_at, bit_of, is_decided}
+use Rattle.jx_grid.specs.Pass.{pass_at, pass_at_nth, scanned, significance_at, refinement_at, label_at}
 use Rattle.jx_flags.specs.Marks.{mark, word, power}
 use Rattle.jx_flags.specs.Numbers.{first_of}
 use Rattle.jx_flags.specs.Windows.{window, nine, label_of}
 use Rattle.jx_flags.proofs.MarkLemmas.{mark_there}
 use Rattle.jx_flags.proofs.ScanLemmas.{nth_is}
 use Rattle.jx_flags.proofs.WindowLemmas.{nine_at, label_is}
+use Rattle.jx_flags.proofs.SignificanceLemmas.{significance_none}
+use Rattle.jx_flags.proofs.RefineLemmas.{refinement_unmarked}
 
 -- places that ask nothing
 pub none_asked : (pass : ℕ) (k : Plane) (g : Cells) (count n : ℕ) → ((i : ℕ) → i < count → pass_at_nth pass k g (n + i) ≡ Told g) → scanned pass k count n g ≡ Told g
@@ -31,12 +33,6 @@ empty_label HL = refl
 empty_label LH = refl
 empty_label HH = refl
 
-or_true : (a b : Bool) → (a || b || true) ≡ true
-or_true true true = refl
-or_true true false = refl
-or_true false true = refl
-or_true false false = refl
-
 no_quotient : (r : ℕ) → 0 / power r % 512 ≡ 0
 no_quotient zero = refl
 no_quotient (suc zero) = refl
@@ -49,13 +45,6 @@ unlabelled k g t x y r p l e z =
     let n : nine g k.causal x y ≡ 0 = sym (nine_at g k.causal t x y r p l e) ∙ (ap (λ (w : ℕ). w / power r % 512) z ∙ no_quotient r) in
     sym (label_is k g x y) ∙ (ap (λ (m : ℕ). label_of k.band m) n ∙ empty_label k.band)
 
-passed : (k : Plane) (g : Cells) (x y : ℕ) → label_at k g x y ≡ 0 → significance_at k g x y ≡ Told g
-passed k g x y e =
-    let a = significant (coef_at g x y) in
-    let b = is_decided k (coef_at g x y) in
-    ap (λ (n : ℕ). if a || b || n == 0 then Told g else bit_of k g x y) e
-    ∙ ap (λ (c : Bool). if c then Told g else bit_of k g x y) (or_true a b)
-
 -- the word of a column is 0
 row_clear : (m : ℕ → ℕ) (t r y : ℕ) → 0 < t → r < 4 → y + 1 ≡ 4 * t - 3 + r → m (4 * t - 3) + 8 * m (4 * t - 2) + 64 * m (4 * t - 1) + 512 * m (4 * t) ≡ 0 → m (y + 1) ≡ 0
 row_clear m t zero y p l e z = let f : y + 1 ≡ 4 * t - 3 = omega arith in rw f (omega arith)
@@ -67,9 +56,6 @@ row_clear m t (suc (suc (suc (suc r)))) y p l e z = absurd (omega arith)
 not_one : (b : Bool) → one_if b ≡ 0 → b ≡ false
 not_one true e = absurd (omega arith)
 not_one false e = refl
-
-unrefined : (k : Plane) (g : Cells) (x y : ℕ) → significant (coef_at g x y) ≡ false → refinement_at k g x y ≡ Told g
-unrefined k g x y e = rw e refl
 
 insignificant : (g : Cells) (t x y r : ℕ) → 0 < t → r < 4 → y ≡ 4 * t - 4 + r → x < g.width → y < g.height → word g t (x + 1) ≡ 0 → significant (coef_at g x y) ≡ false
 insignificant g t x y r p l e a b z =
@@ -87,7 +73,7 @@ clear_window pass k g x top rows e p t r z =
     none_asked pass k g rows (first_of g x top rows) (λ i l.
     nth_is pass k g g x top rows i refl refl p t r l
     ∙ (first_kind pass k g x (top + i) e
-    ∙ passed k g x (top + i) (unlabelled k g (top / 4 + 1) x (top + i) i (omega arith) (omega arith) (omega arith) z)))
+    ∙ significance_none k g x (top + i) (unlabelled k g (top / 4 + 1) x (top + i) i (omega arith) (omega arith) (omega arith) z)))
 
 pub clear_word : (pass : ℕ) (k : Plane) (g : Cells) (x top rows : ℕ) → pass % 3 ≡ 2 → x < g.width → top % 4 ≡ 0 → rows ≡ min 4 (g.height - top)
     → word g (top / 4 + 1) (x + 1) ≡ 0 → scanned pass k rows (first_of g x top rows) g ≡ Told g
@@ -95,4 +81,4 @@ clear_word pass k g x top rows e p t r z =
     none_asked pass k g rows (first_of g x top rows) (λ i l.
     nth_is pass k g g x top rows i refl refl p t r l
     ∙ (second_kind pass k g x (top + i) e
-    ∙ unrefined k g x (top + i) (insignificant g (top / 4 + 1) x (top + i) i (omega arith) (omega arith) (omega arith) p (omega arith) z)))
+    ∙ refinement_unmarked k g x (top + i) (insignificant g (top / 4 + 1) x (top + i) i (omega arith) (omega arith) (omega arith) p (omega arith) z)))

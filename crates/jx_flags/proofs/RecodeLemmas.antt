@@ -1,6 +1,5 @@
 -- Passes that are decoded and coded in step.
 use Rattle.std.proofs.Common.{◌≡◌, ◌<◌, ◌≤◌, ◌+◌, ◌-◌, ◌/◌, ◌==◌, ℕ, zero, suc, Bool, List, [], ◌++◌, refl, sym, ap, ◌∙◌, arith, subst}
-use Rattle.std.proofs.lemmas.Bool.Decides.{nat_tests}
 use Rattle.std.proofs.lemmas.List.{append-nil}
 use Rattle.jx_base.specs.MqTable.{mq_fresh}
 use Rattle.jx_base.specs.Passes.{raw_pass, is_causal}
@@ -16,7 +15,7 @@ use Rattle.jx_passenc.proofs.GridLemmas.{IsFront, AreClean, front_same, front_ne
 use Rattle.jx_passenc.proofs.LeafLemmas.{IsBack, leaves_told}
 use Rattle.jx_passenc.proofs.BackLemmas.{tree_of}
 use Rattle.jx_passenc.proofs.PassBackLemmas.{pass_back, clean_more, one_scan, zeros_clean, refollowed}
-use Rattle.jx_passenc.proofs.WroteLemmas.{step_done, step_kind}
+use Rattle.jx_passenc.proofs.WroteLemmas.{step_done, step_kind, last_test}
 use Rattle.jx_passenc.proofs.SegmentLemmas.{segments_finished}
 use Rattle.jx_flags.specs.InStep.{Copying, copy_answer, Recoding, begun, copied, checked, marked, ended, recoded_pass, recoded_from, to_recode}
 use Rattle.jx_flags.proofs.AnswerLemmas.{pass_shows}
@@ -95,9 +94,6 @@ recoded_done width height c d segments passes h e =
     m.done g f ∙ (sym (ap N a) ∙ sym (segments_finished d.style g (needs d g passes) 0 mq_fresh []))
 
 -- passes one after the other
-last_test : (end pass : ℕ) → pass < end → (end - (pass + 1) == 0) ≡ (pass + 1 == end)
-last_test end pass h = grind (arith, nat_tests)
-
 pub recoded_more : (c d : Coding) (end pass : ℕ) (r : Recoding) → pass < end
     → recoded_from c d (end - pass) pass r ≡ recoded_from c d (end - (pass + 1)) (pass + 1) (recoded_pass c d (pass + 1 == end) pass r)
 unfolding recoded_from

@@ -1,5 +1,6 @@
 -- What a refinement pass asks at a place.
 use Rattle.std.proofs.Common.{◌≡◌, ◌&&◌, ℕ, Bool, true, false, not, refl, sym, ap, ◌∙◌, if◌then◌else◌}
+use Rattle.std.proofs.lemmas.Bool.{and_right}
 use Rattle.jx_grid.specs.declared.coef.Coef.{Coef}
 use Rattle.jx_grid.specs.declared.question.Plane.{Plane}
 use Rattle.jx_grid.specs.declared.question.Question.{Question}
@@ -9,10 +10,6 @@ use Rattle.jx_grid.specs.Near.{has_near}
 use Rattle.jx_grid.specs.Labels.{refinement_row}
 use Rattle.jx_grid.specs.Asking.{Asking, Told, Ask, told}
 use Rattle.jx_grid.specs.Pass.{is_decided, is_refined, changed, with_bit, question, shift_of, refinement_label_at, refinement_at}
-
-second_false : (a : Bool) → (a && false) ≡ false
-second_false true = refl
-second_false false = refl
 
 asked : Plane → Cells → ℕ → ℕ → Asking Cells
 asked k g x y = Ask (question k (refinement_label_at k g x y) false (Bit x y)) (λ bit. Told (changed g x y (with_bit k bit)))
@@ -30,7 +27,7 @@ unfolding asked
 refinement_done k g x y e =
     let a = significant (coef_at g x y) in
     ap (λ (b : Bool). if a && not b then asked k g x y else Told g) e
-    ∙ ap (λ (b : Bool). if b then asked k g x y else Told g) (second_false a)
+    ∙ ap (λ (b : Bool). if b then asked k g x y else Told g) (and_right a false refl)
 
 refinement_asked : (k : Plane) (g : Cells) (x y : ℕ) → significant (coef_at g x y) ≡ true → is_decided k (coef_at g x y) ≡ false → refinement_at k g x y ≡ asked k g x y
 unfolding asked

@@ -1,7 +1,7 @@
 -- Whether the run mode begins, by a window.
 use Rattle.std.proofs.Common.{◌≡◌, ◌<◌, ◌≤◌, ◌+◌, ◌-◌, ◌*◌, ◌/◌, ◌%◌, ◌==◌, ◌&&◌, ℕ, zero, suc, Bool, true, false, not, refl, sym, ◌∙◌, arith, subst, inl, inr}
 use Rattle.std.specs.Prelude.{nat_le}
-use Rattle.std.proofs.lemmas.Bool.{cases_Bool, true≢false}
+use Rattle.std.proofs.lemmas.Bool.{cases_Bool, eqb-true, leb-true, true≢false}
 use Rattle.std.proofs.lemmas.Bool.Decides.{nat_tests}
 use Rattle.jx_base.specs.declared.names.Band.{Band}
 use Rattle.jx_base.specs.declared.names.Band.TheVariants.{LL, HL, LH, HH}
@@ -35,14 +35,7 @@ label_zero band n e = row_zero band (sides_in n) (upright_in n) (diagonals_in n)
 no_digits : (n : ℕ) → n < 512 → sides_in n + upright_in n + diagonals_in n ≡ 0 → n / 16 % 2 ≡ 0 → n ≡ 0
 no_digits n l e f = omega arith
 
--- tests
-is_same : (m n : ℕ) → (m == n) ≡ true → m ≡ n
-is_same m n e = grind (arith, nat_tests)
-
-is_least : (m n : ℕ) → nat_le m n ≡ true → m ≤ n
-is_least m n e = grind (arith, nat_tests)
-
-not_false : {A : Type 0} → false ≡ true → A
+pub not_false : {A : Type 0} → false ≡ true → A
 not_false e = absurd (true≢false (sym e))
 
 three : (s d z : Bool) → (not s && not d && z) ≡ true → (s ≡ false) × (z ≡ true)
@@ -67,7 +60,7 @@ sees_nothing k g t x y r p l e a b q =
     let w : v % 512 ≡ n = nine_at g k.causal t x y r p l e in
     let parts = three s d z q in
     let u : s ≡ false = parts.0 in
-    let j : label_at k g x y ≡ 0 = is_same (label_at k g x y) 0 parts.1 in
+    let j : label_at k g x y ≡ 0 = eqb-true (label_at k g x y) 0 parts.1 in
     let m = label_zero k.band n (label_is k g x y ∙ j) in
     let h : n / 16 % 2 ≡ 0 = zero_tested (n / 16 % 2) (omega arith) (here_is g k.causal x y a b ∙ u) in
     let i : n < 512 = subst (λ (c : ℕ). c < 512) w (omega arith) in
@@ -107,8 +100,8 @@ five false h p q r t e = not_false e
 run_sees : (k : Plane) (g : Cells) (x y t : ℕ) → x < g.width → t ≡ y / 4 + 1 → is_run k g x y ≡ true → window g k.causal t x ≡ 0
 run_sees k g x y t a e q =
     let m = five (y % 4 == 0) (nat_le (y + 4) g.height) (is_quiet k g x y) (is_quiet k g x (y + 1)) (is_quiet k g x (y + 2)) (is_quiet k g x (y + 3)) q in
-    let first : y % 4 ≡ 0 = is_same (y % 4) 0 m.0 in
-    let h : y + 4 ≤ g.height = is_least (y + 4) g.height m.1.0 in
+    let first : y % 4 ≡ 0 = eqb-true (y % 4) 0 m.0 in
+    let h : y + 4 ≤ g.height = leb-true (y + 4) g.height m.1.0 in
     both_halves (window g k.causal t x) (window_most g k.causal t x)
     (sees_nothing k g t x y 0 (omega arith) (omega arith) (omega arith) a (omega arith) m.1.1.0)
     (sees_nothing k g t x (y + 3) 3 (omega arith) (omega arith) (omega arith) a (omega arith) m.1.1.1)

@@ -1,5 +1,5 @@
 -- Places one after the other, column by column of a stripe, and stripe by stripe.
-use Rattle.std.proofs.Common.{◌≡◌, ◌<◌, ◌≤◌, ◌+◌, ◌-◌, ◌*◌, ◌/◌, ◌%◌, ℕ, zero, suc, min, Bool, refl, sym, ap, ◌∙◌, arith, inl, inr}
+use Rattle.std.proofs.Common.{◌≡◌, ◌<◌, ◌≤◌, ◌+◌, ◌-◌, ◌*◌, ◌/◌, ◌%◌, ℕ, zero, suc, min, Bool, refl, sym, ap, ◌∙◌, arith, inl, inr, mul-add}
 use Rattle.std.specs.Prelude.{◌⊎◌}
 use Rattle.std.proofs.lemmas.Bool.{cases_lt}
 use Rattle.std.proofs.lemmas.Nat.{div-mul-add, mod-mul-add}
@@ -129,9 +129,6 @@ none_left : {S : Type 0} (ask : S → Question → Bool × S) (pass : ℕ) (k : 
 none_left ask pass k c n m g s (inl e) = rw e refl
 none_left ask pass k c n m g s (inr e) = rw e refl
 
-spread : (w a b : ℕ) → w * (a + b) ≡ w * a + w * b
-spread w a b = omega arith
-
 last_or : (w h q : ℕ) → 4 * q < h → (w * (h - 4 * (q + 1)) ≡ 0) ⊎ (4 * q * w + w * min 4 (h - 4 * q) ≡ 4 * (q + 1) * w)
 last_or w h q p =
     elim (cases_lt (h - 4 * q) 4) [
@@ -151,7 +148,7 @@ stripes_more {S = S} ask pass k f g q s p a b =
     let rows : ℕ = min 4 (f.height - 4 * q) in
     let rest : ℕ = w * (f.height - 4 * (q + 1)) in
     let e : f.height - 4 * q ≡ rows + (f.height - 4 * (q + 1)) = omega arith in
-    let c : w * (f.height - 4 * q) ≡ w * rows + rest = ap (λ (n : ℕ). w * n) e ∙ spread w rows (f.height - 4 * (q + 1)) in
+    let c : w * (f.height - 4 * q) ≡ w * rows + rest = ap (λ (n : ℕ). w * n) e ∙ mul-add w rows (f.height - 4 * (q + 1)) in
     let i : g.width * min 4 (g.height - 4 * q) ≡ w * rows =
     ap (λ (n : ℕ). n * min 4 (g.height - 4 * q)) a ∙ ap (λ (n : ℕ). w * min 4 (n - 4 * q)) b in
     let j : 4 * q * g.width ≡ 4 * q * w = ap (λ (n : ℕ). 4 * q * n) a in

@@ -11,6 +11,7 @@ use Rattle.jx_flags.specs.Marks.{mark, word}
 use Rattle.jx_flags.specs.Windows.{below, six, window}
 use Rattle.jx_flags.proofs.MarkLemmas.{mark_other, mark_there}
 use Rattle.jx_flags.proofs.StepLemmas.{bit_keeps}
+use Rattle.jx_flags.proofs.AddedLemmas.{four}
 
 same_here : (g : Cells) (x y : ℕ) (coef : Coef) → significant coef ≡ significant (coef_at g x y)
     → significant (coef_at (with_coef g x y coef) x y) ≡ significant (coef_at g x y)
@@ -36,10 +37,6 @@ mark_same g x y coef c r a b e =
       | inr p ↦ mark_other g x y coef c r a (λ d _. p d)
     ]
 
--- grids with the same marks
-four_same : (a b c d e f g h : ℕ) → a ≡ e → b ≡ f → c ≡ g → d ≡ h → a + 8 * b + 64 * c + 512 * d ≡ e + 8 * f + 64 * g + 512 * h
-four_same a b c d e f g h p q r s = omega arith
-
 three_same : (a b c d e f : ℕ) → a ≡ d → b ≡ e → c ≡ f → a + 8 * b + 32768 * c ≡ d + 8 * e + 32768 * f
 three_same a b c d e f p q r = omega arith
 
@@ -48,7 +45,7 @@ columns_same a b c d e f p q r = omega arith
 
 word_same : (h g : Cells) (t c : ℕ) → ((m n : ℕ) → mark h m n ≡ mark g m n) → word h t c ≡ word g t c
 word_same h g t c s =
-    four_same (mark h c (4 * t - 3)) (mark h c (4 * t - 2)) (mark h c (4 * t - 1)) (mark h c (4 * t))
+    four (mark h c (4 * t - 3)) (mark h c (4 * t - 2)) (mark h c (4 * t - 1)) (mark h c (4 * t))
     (mark g c (4 * t - 3)) (mark g c (4 * t - 2)) (mark g c (4 * t - 1)) (mark g c (4 * t))
     (s c (4 * t - 3)) (s c (4 * t - 2)) (s c (4 * t - 1)) (s c (4 * t))
 

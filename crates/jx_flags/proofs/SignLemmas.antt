@@ -3,12 +3,12 @@ use Rattle.std.proofs.Common.{◌≡◌, ◌≤◌, ◌+◌, ◌-◌, ◌*◌, �
 use Rattle.std.proofs.lemmas.Bool.{true≢false}
 use Rattle.jx_grid.specs.declared.coef.Coef.{Coef}
 use Rattle.jx_grid.specs.Cells.{Cells, zero_coef, coef_at, significant}
-use Rattle.jx_grid.specs.Near.{one_if, one_at, coef_near, across_of, down_of, leaning}
+use Rattle.jx_grid.specs.Near.{one_at, coef_near, across_of, down_of, leaning}
 use Rattle.jx_flags.specs.Marks.{is_outside}
 use Rattle.jx_flags.specs.Windows.{nine}
 use Rattle.jx_flags.specs.Signs.{leaned}
 use Rattle.jx_flags.proofs.MarkLemmas.{IsInside, not_inside}
-use Rattle.jx_flags.proofs.WindowLemmas.{one_le_one}
+use Rattle.jx_flags.proofs.WindowLemmas.{one_le_one, one_tested}
 
 -- the digits of the four neighbours that count
 record HasFour (b d f h n : ℕ) : Type 0 where
@@ -35,21 +35,17 @@ four_at g causal x y =
     (one_le_one g causal y x (y + 1)) (one_le_one g causal y (x + 1) (y + 1)) (one_le_one g causal y (x + 2) (y + 1))
     (one_le_one g causal y x (y + 2)) (one_le_one g causal y (x + 1) (y + 2)) (one_le_one g causal y (x + 2) (y + 2)) refl
 
-is_one : (b : Bool) → (one_if b == 1) ≡ b
-is_one true = refl
-is_one false = refl
-
 pub up_is : (g : Cells) (causal : Bool) (x y : ℕ) → (nine g causal x y / 2 % 2 == 1) ≡ significant (coef_near g causal y (x + 1) y)
-up_is g causal x y = ap (λ (n : ℕ). n == 1) (four_at g causal x y).up ∙ is_one (significant (coef_near g causal y (x + 1) y))
+up_is g causal x y = ap (λ (n : ℕ). n == 1) (four_at g causal x y).up ∙ one_tested (significant (coef_near g causal y (x + 1) y))
 
 pub left_is : (g : Cells) (causal : Bool) (x y : ℕ) → (nine g causal x y / 8 % 2 == 1) ≡ significant (coef_near g causal y x (y + 1))
-left_is g causal x y = ap (λ (n : ℕ). n == 1) (four_at g causal x y).left ∙ is_one (significant (coef_near g causal y x (y + 1)))
+left_is g causal x y = ap (λ (n : ℕ). n == 1) (four_at g causal x y).left ∙ one_tested (significant (coef_near g causal y x (y + 1)))
 
 pub right_is : (g : Cells) (causal : Bool) (x y : ℕ) → (nine g causal x y / 32 % 2 == 1) ≡ significant (coef_near g causal y (x + 2) (y + 1))
-right_is g causal x y = ap (λ (n : ℕ). n == 1) (four_at g causal x y).right ∙ is_one (significant (coef_near g causal y (x + 2) (y + 1)))
+right_is g causal x y = ap (λ (n : ℕ). n == 1) (four_at g causal x y).right ∙ one_tested (significant (coef_near g causal y (x + 2) (y + 1)))
 
 pub down_is : (g : Cells) (causal : Bool) (x y : ℕ) → (nine g causal x y / 128 % 2 == 1) ≡ significant (coef_near g causal y (x + 1) (y + 2))
-down_is g causal x y = ap (λ (n : ℕ). n == 1) (four_at g causal x y).down ∙ is_one (significant (coef_near g causal y (x + 1) (y + 2)))
+down_is g causal x y = ap (λ (n : ℕ). n == 1) (four_at g causal x y).down ∙ one_tested (significant (coef_near g causal y (x + 1) (y + 2)))
 
 -- what is seen to be significant stands in the block
 inside_seen : (hidden outside : Bool) (c : Coef) → significant (if outside || hidden then zero_coef else c) ≡ true → outside ≡ false

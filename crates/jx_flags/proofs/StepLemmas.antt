@@ -1,10 +1,10 @@
 -- How significant a coefficient is after a step.
-use Rattle.std.proofs.Common.{◌≡◌, ◌<◌, ◌+◌, ◌^◌, ◌==◌, ℕ, zero, suc, Bool, true, false, not, refl, arith, IsTrue}
+use Rattle.std.proofs.Common.{◌≡◌, ◌+◌, ◌^◌, ◌==◌, ℕ, Bool, true, false, not, refl, arith, IsTrue}
 use Rattle.std.proofs.lemmas.Bool.Decides.{nat_tests}
 use Rattle.jx_grid.specs.declared.coef.Coef.{Coef}
 use Rattle.jx_grid.specs.declared.question.Plane.{Plane}
 use Rattle.jx_grid.specs.Cells.{significant}
-use Rattle.jx_grid.specs.Pass.{shift_of, with_bit, with_sign}
+use Rattle.jx_grid.specs.Pass.{shift_of, with_bit}
 
 more_tested : (m n : ℕ) → not (m == 0) ≡ true → not (m + n == 0) ≡ not (m == 0)
 more_tested m n e = grind (arith, nat_tests)
@@ -12,13 +12,3 @@ more_tested m n e = grind (arith, nat_tests)
 pub bit_keeps : (k : Plane) (bit : Bool) (c : Coef) → (IsTrue bit → IsTrue (significant c)) → significant (with_bit k bit c) ≡ significant c
 bit_keeps k false c h = refl
 bit_keeps k true c h = more_tested c.bits (2 ^ shift_of k) (h refl)
-
-some_tested : (n : ℕ) → 0 < n → not (n == 0) ≡ true
-some_tested n h = grind (arith, nat_tests)
-
-pub pow_some : (s : ℕ) → 0 < 2 ^ s
-pow_some zero = omega arith
-pow_some (suc s) = let h = pow_some s in omega arith
-
-pub sign_raises : (k : Plane) (negative : Bool) (c : Coef) → significant (with_sign k negative c) ≡ true
-sign_raises k negative c = let p = pow_some (shift_of k) in some_tested (c.bits + 2 ^ shift_of k) (omega arith)

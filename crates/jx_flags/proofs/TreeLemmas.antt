@@ -1,19 +1,16 @@
 -- Which of its trees of questions a pass has at a place.
 use Rattle.std.proofs.Common.{◌≡◌, ◌||◌, ℕ, Bool, true, false, refl, ap, ◌∙◌, if◌then◌else◌}
+use Rattle.std.proofs.lemmas.Bool.{or_right}
 use Rattle.jx_grid.specs.declared.question.Plane.{Plane}
 use Rattle.jx_grid.specs.Cells.{Cells, coef_at, significant}
 use Rattle.jx_grid.specs.Asking.{Told}
 use Rattle.jx_grid.specs.Pass.{is_decided, bit_of, usual_at, is_run, run_at, cleanup_at}
 
-second_true : (a : Bool) → (a || true) ≡ true
-second_true true = refl
-second_true false = refl
-
 pub usual_done : (k : Plane) (g : Cells) (x y : ℕ) → is_decided k (coef_at g x y) ≡ true → usual_at k g x y ≡ Told g
 usual_done k g x y e =
     let a = significant (coef_at g x y) in
     ap (λ (b : Bool). if a || b then Told g else bit_of k g x y) e
-    ∙ ap (λ (b : Bool). if b then Told g else bit_of k g x y) (second_true a)
+    ∙ ap (λ (b : Bool). if b then Told g else bit_of k g x y) (or_right a true refl)
 
 pub usual_marked : (k : Plane) (g : Cells) (x y : ℕ) → significant (coef_at g x y) ≡ true → usual_at k g x y ≡ Told g
 usual_marked k g x y e =

@@ -1,7 +1,7 @@
 -- What a window shows of a place.
 use Rattle.std.proofs.Common.{◌≡◌, ◌<◌, ◌≤◌, ◌+◌, ◌-◌, ◌*◌, ◌/◌, ◌%◌, ◌^◌, ◌==◌, ◌||◌, ◌&&◌, ℕ, zero, suc, Bool, true, false, refl, sym, ap, ◌∙◌, arith, inl, inr, if◌then◌else◌}
 use Rattle.std.specs.Prelude.{nat_lt}
-use Rattle.std.proofs.lemmas.Bool.{cases_eq}
+use Rattle.std.proofs.lemmas.Bool.{cases_eq, eqb-true, le-ltb, lt-ltb}
 use Rattle.std.proofs.lemmas.Bool.Decides.{nat_tests}
 use Rattle.jx_grid.specs.declared.coef.Coef.{Coef}
 use Rattle.jx_grid.specs.declared.question.Plane.{Plane}
@@ -10,7 +10,7 @@ use Rattle.jx_grid.specs.Near.{one_if, one_at, coef_near, sides_of, upright_of, 
 use Rattle.jx_grid.specs.Pass.{label_at}
 use Rattle.jx_flags.specs.Marks.{mark, is_outside, power}
 use Rattle.jx_flags.specs.Windows.{below, six, window, nine, label_of, sides_in, upright_in, diagonals_in}
-use Rattle.jx_flags.proofs.MarkLemmas.{mark_le, mark_there}
+use Rattle.jx_flags.proofs.MarkLemmas.{mark_le, mark_there, one_le}
 
 pub digit_is : (r : ℕ) → r < 4 → 1 * 2 ^ (3 * r) % 65536 ≡ power r
 digit_is zero h = refl
@@ -42,19 +42,12 @@ both_false true true h = absurd (h refl refl)
 both_false true false h = refl
 both_false false q h = refl
 
-is_equal : (m n : ℕ) → (m == n) ≡ true → m ≡ n
-is_equal m n e = grind (arith, nat_tests)
-
 not_last : (causal : Bool) (y r : ℕ) → (y % 4 ≡ 3 → r ≡ y + 2 → ⊥) → (causal && y % 4 == 3 && r == y + 2) ≡ false
-not_last true y r h = both_false (y % 4 == 3) (r == y + 2) (λ p q. h (is_equal (y % 4) 3 p) (is_equal r (y + 2) q))
+not_last true y r h = both_false (y % 4 == 3) (r == y + 2) (λ p q. h (eqb-true (y % 4) 3 p) (eqb-true r (y + 2) q))
 not_last false y r h = refl
 
-le_of : (b : Bool) → one_if b ≤ 1
-le_of true = omega arith
-le_of false = omega arith
-
 pub one_le_one : (g : Cells) (causal : Bool) (y c r : ℕ) → one_at g causal y c r ≤ 1
-one_le_one g causal y c r = le_of (significant (coef_near g causal y c r))
+one_le_one g causal y c r = one_le (significant (coef_near g causal y c r))
 
 -- six digits of three columns, and three rows of them
 digits : (d e f g h i w : ℕ) → d < 8 → e < 8 → f < 8 → g < 8 → h < 8 → i < 8 → w ≡ d + 8 * e + 64 * f + 512 * g + 4096 * h + 32768 * i
@@ -222,17 +215,11 @@ unfolding label_of
 label_is k g x y = rw (sides_are g k.causal x y, upright_are g k.causal x y, diagonals_are g k.causal x y) refl
 
 -- whether a neighbour is significant
-none_tested : (m : ℕ) → m ≡ 0 → nat_lt 0 m ≡ false
-none_tested m h = grind (arith, nat_tests)
-
-some_tested : (m : ℕ) → 0 < m → nat_lt 0 m ≡ true
-some_tested m h = grind (arith, nat_tests)
-
 agree : (m n : ℕ) → (m ≡ 0 → n ≡ 0) → (n ≡ 0 → m ≡ 0) → nat_lt 0 m ≡ nat_lt 0 n
 agree m n p q =
     elim (cases_eq m 0) [
-      | inl e ↦ none_tested m e ∙ sym (none_tested n (p e))
-      | inr e ↦ some_tested m (omega arith) ∙ sym (some_tested n (elim (cases_eq n 0) [ inl f ↦ absurd (e (q f)) | inr f ↦ omega arith ]))
+      | inl e ↦ le-ltb 0 m (omega (arith, e)) ∙ sym (le-ltb 0 n (omega (arith, p e)))
+      | inr e ↦ lt-ltb 0 m (omega arith) ∙ sym (lt-ltb 0 n (elim (cases_eq n 0) [ inl f ↦ absurd (e (q f)) | inr f ↦ omega arith ]))
     ]
 
 some : (a b c d e f g h i n : ℕ) → a ≤ 1 → b ≤ 1 → c ≤ 1 → d ≤ 1 → e ≤ 1 → f ≤ 1 → g ≤ 1 → h ≤ 1 → i ≤ 1
@@ -257,7 +244,7 @@ near_is g causal x y =
     (one_le_one g causal y x (y + 2)) (one_le_one g causal y (x + 1) (y + 2)) (one_le_one g causal y (x + 2) (y + 2)) refl
 
 -- whether the place itself is
-one_tested : (b : Bool) → (one_if b == 1) ≡ b
+pub one_tested : (b : Bool) → (one_if b == 1) ≡ b
 one_tested true = refl
 one_tested false = refl
 

@@ -5,7 +5,7 @@ use Rattle.std.specs.List.{AllByRecursion, Contains}
 use Rattle.std.proofs.lemmas.List.Elements.{All-from_recursion}
 use Rattle.jx_base.specs.declared.names.BlockName.{BlockName}
 use Rattle.jx_base.specs.declared.pieces.Block.{Block}
-use Rattle.jx_base.specs.Pieces.{PieceValue}
+use Rattle.jx_base.specs.Pieces.{PieceValue, passes_at, passes_below}
 use Rattle.jx_base.specs.Joined.{joined, sum_below}
 use Rattle.jx_base.proofs.Joined.{joined_length, joined_at}
 use Rattle.jx_geom.specs.Geometry.{Geometry, HasBlock, rect_of_tile, shape_of}
@@ -29,7 +29,7 @@ use Rattle.jx_geom.specs.Precincts.{leaf_number}
 use Rattle.jx_gather.specs.Cuts.{Cut, Left, names_of}
 use Rattle.jx_gather.specs.Blocks.{Found, founds_of, own_founds, pieces_in, zero_from, block_of}
 use Rattle.jx_gather.specs.Gathered.{IsListOf, IsCutUp, AreTileBlocks, IsGathered, start}
-use Rattle.jx_gather.specs.BlockOf.{passes_at, passes_below, pieces_at, AreCutAtEnds, IsBlockOf, IsFoundOf, AreBlocksOf}
+use Rattle.jx_gather.specs.BlockOf.{pieces_at, AreCutAtEnds, IsBlockOf, IsFoundOf, AreBlocksOf}
 use Rattle.jx_gather.proofs.NumberLemmas.{precinct_there}
 use Rattle.jx_gather.proofs.BlockLemmas.{blocks_long, block_there}
 use Rattle.jx_gather.proofs.PartLemmas.{known_in}

@@ -2,10 +2,10 @@
 use Rattle.std.proofs.Common.{◌≡◌, ℕ, ◌+◌, ◌<◌, ◌≤◌, ◌==◌, nat_lt, List, [], ◌∷◌, ◌++◌, length, map, drop, refl, sym, ap, ◌∙◌, subst, arith, Some, inl, inr, append-nil}
 use Rattle.std.specs.Prelude.{slice_get}
 use Rattle.std.specs.List.{AllByRecursion}
-use Rattle.std.proofs.lemmas.Bool.{cases_lt, cases_eq, eq-eqb, ne_eqb, lt-ltb, le-ltb, cond-true, cond-false}
+use Rattle.std.proofs.lemmas.Bool.{cases_lt, cases_eq, eq-eqb, ne_eqb, lt-ltb, cond-true, cond-false}
 use Rattle.std.proofs.lemmas.List.{map-append}
 use Rattle.std.proofs.lemmas.Option.{same_Some}
-use Rattle.jx_base.specs.Pieces.{PieceValue}
+use Rattle.jx_base.specs.Pieces.{PieceValue, passes_at, passes_below}
 use Rattle.jx_geom.specs.Geometry.{Geometry, GeometryInRange}
 use Rattle.jx_head.specs.declared.Part.{Part}
 use Rattle.jx_head.specs.Parts.{cut}
@@ -20,15 +20,16 @@ use Rattle.jx_geom.specs.Precincts.{HasPrecinct, precinct_number, leaf_number}
 use Rattle.jx_gather.specs.Data.{window, header_in}
 use Rattle.jx_gather.specs.Cuts.{Cut, Left, IsTurn, number_of}
 use Rattle.jx_gather.specs.Blocks.{Found, founds_from, founds_in, founds_of, own_founds, pieces_in}
-use Rattle.jx_gather.specs.BlockOf.{passes_at, passes_below, pieces_at}
+use Rattle.jx_gather.specs.BlockOf.{pieces_at}
 use Rattle.jx_geom.proofs.PrecinctLemmas.{precinct_once}
 use Rattle.jx_gather.proofs.PartLemmas.{own_parts, known_in, packet_goes}
 use Rattle.jx_gather.proofs.GrowLemmas.{Apart, own_elsewhere}
 use Rattle.jx_gather.proofs.FewLemmas.{found_from, founds_layer, own_here, own_past, own_nothing, passes_cons as at_here, passes_past as at_past}
-use Rattle.jx_gather.proofs.TrackLemmas.{AllFollow, Follows, turn_follows, turn_inside, parts_apart, parts_elsewhere, own_nil, own_cons, here_after as state_here, other_after as state_other}
+use Rattle.jx_gather.proofs.TrackLemmas.{AllFollow, turn_follows, turn_inside, parts_apart, parts_elsewhere, own_nil, own_cons, here_after as state_here, other_after as state_other, own_follows}
 use Rattle.jx_gather.proofs.LayersFew.{Walk, AreHigher, higher_from}
 use Rattle.jx_gather.proofs.CarryLemmas.{layer_here, layer_past, layer_nothing}
 use Rattle.jx_gather.proofs.PartCuts.{Cuts, packet_cut, goes_on}
+use Rattle.jx_base.proofs.PieceLemmas.{below_here as below_past}
 
 -- ---- pieces of a packet
 abbrev pub total : List PieceValue → ℕ
@@ -80,9 +81,6 @@ AreOver m qs = AllByRecursion (λ (q : PieceValue). m < q.layer) qs
 
 below_here : (layer : ℕ) (q : PieceValue) (qs : List PieceValue) → q.layer < layer → passes_below layer (q ∷ qs) ≡ q.passes + passes_below layer qs
 below_here layer q qs lt = cond-true (nat_lt q.layer layer) (q.passes + passes_below layer qs) (passes_below layer qs) (lt-ltb q.layer layer lt)
-
-below_past : (layer : ℕ) (q : PieceValue) (qs : List PieceValue) → layer ≤ q.layer → passes_below layer (q ∷ qs) ≡ passes_below layer qs
-below_past layer q qs le = cond-false (nat_lt q.layer layer) (q.passes + passes_below layer qs) (passes_below layer qs) (le-ltb q.layer layer le)
 
 -- what pieces before others, all of one layer, add in a layer
 record Adds (layer : ℕ) (ps qs : List PieceValue) (pieces : List PieceValue) (below at : ℕ) : Type 0 where
@@ -211,12 +209,6 @@ higher_over b s g m c r k j number old (d ∷ cuts) new h has lt w high =
     ] in
     subst (AreOver m) (sym (own_found_join (leaf_number g c r k j) g d cuts)) (over_join m own (pieces_in (own_founds (leaf_number g c r k j) (founds_of g cuts))) first later)
 
-own_state : (b : List ℕ) (s : Stream) (g : Geometry) (number : ℕ) (old : Left) (c : Cut) (new : Left) → AllFollow s g old.states → HasPrecinct g c.name.comp c.name.res c.name.precinct
-    → (t : IsTurn b g number old c new) → Follows s g c.name.comp c.name.res c.name.precinct t.state
-own_state b s g number old c new all there t =
-    let f = all c.name.comp c.name.res c.name.precinct there in
-    subst (λ (x : State). Follows s g c.name.comp c.name.res c.name.precinct x) (same_Some f.state t.state (sym f.known ∙ t.known)) f.is
-
 -- one packet of a precinct
 record Turned (g : Geometry) (style : ℕ) (d : Cut) (number j : ℕ) (state : State) : Type 0 where
   pub own : passes_list (pieces_in (own_founds number (founds_in g d))) ≡ cut style (known_in state.bands j).passes (total (pieces_in (own_founds number (founds_in g d))))
@@ -225,7 +217,7 @@ record Turned (g : Geometry) (style : ℕ) (d : Cut) (number j : ℕ) (state : S
 turned : (b : List ℕ) (s : Stream) (g : Geometry) (number j : ℕ) (old : Left) (d : Cut) (next : Left) → GeometryInRange g → AllFollow s g old.states → HasPrecinct g d.name.comp d.name.res d.name.precinct
     → (t : IsTurn b g number old d next) → j < leaves g d.name.comp d.name.res d.name.precinct → Turned g (style_of s g.tile d.name.comp) d (leaf_number g d.name.comp d.name.res d.name.precinct j) j t.state
 turned b s g number j old d next h follow own t lt =
-    let f = own_state b s g number old d next follow own t in
+    let f = own_follows b s g number old d next follow own t in
     let bytes : List ℕ = header_in (window b t.body) in
     let leaf : ℕ = leaf_number g d.name.comp d.name.res d.name.precinct j in
     let inside : j < length (all_blocks t.state.bands) = subst (λ (n : ℕ). j < n) (sym f.count) lt in

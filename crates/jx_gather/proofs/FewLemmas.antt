@@ -2,7 +2,7 @@
 use Rattle.std.proofs.Common.{◌≡◌, ℕ, ◌+◌, ◌≤◌, ◌==◌, Bool, true, false, List, [], ◌∷◌, ◌++◌, length, drop, take, refl, sym, ap, ◌∙◌, subst, cond, arith, inl, inr, MatchBool}
 use Rattle.std.specs.List.{AllByRecursion, filter}
 use Rattle.std.proofs.lemmas.Bool.{cases_lt, cases_eq, eq-eqb, ne_eqb, cond-true, cond-false}
-use Rattle.jx_base.specs.Pieces.{PieceValue}
+use Rattle.jx_base.specs.Pieces.{PieceValue, passes_at}
 use Rattle.jx_geom.specs.Geometry.{Geometry}
 use Rattle.jx_head.specs.declared.Part.{Part}
 use Rattle.jx_head.specs.Parts.{cut}
@@ -12,7 +12,6 @@ use Rattle.jx_head.specs.Precinct.{all_blocks}
 use Rattle.jx_order.specs.declared.names.PacketName.{PacketName}
 use Rattle.jx_geom.specs.Precincts.{leaf_number}
 use Rattle.jx_gather.specs.Blocks.{Found, zero_in, founds_from, own_founds, pieces_in}
-use Rattle.jx_gather.specs.BlockOf.{passes_at}
 use Rattle.jx_gather.proofs.PartLemmas.{own_parts, AreSteps, AreWithin, steps_from, cut_runs, own_none, own_left, own_right, entry_within, blocks_within, bands_within}
 use Rattle.jx_gather.proofs.GrowLemmas.{Apart}
 

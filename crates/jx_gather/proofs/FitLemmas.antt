@@ -13,7 +13,7 @@ use Rattle.jx_base.specs.declared.names.Rect.{Rect}
 use Rattle.jx_base.specs.declared.names.BlockName.{BlockName}
 use Rattle.jx_base.specs.declared.pieces.Block.{Block}
 use Rattle.jx_base.specs.Bands.{bands_at}
-use Rattle.jx_base.specs.Pieces.{PieceValue, ArePieces, bytes_in}
+use Rattle.jx_base.specs.Pieces.{PieceValue, ArePieces, bytes_in, passes_at, passes_below}
 use Rattle.jx_base.specs.Places.{size_of}
 use Rattle.jx_base.specs.Sound.{IsSound}
 use Rattle.jx_geom.specs.Geometry.{Geometry, GeometryInRange, HasBlock}
@@ -34,7 +34,7 @@ use Rattle.jx_stream.specs.InRange.{StreamInRange}
 use Rattle.jx_geom.specs.Precincts.{leaves, leaves_in as count_in}
 use Rattle.jx_gather.specs.Cells.{sizes_of, precinct_bands}
 use Rattle.jx_geom.specs.Precincts.{HasPrecinct, cells_at, name_from, leaf_name, leaf_number}
-use Rattle.jx_gather.specs.BlockOf.{passes_at, passes_below, pieces_at, AreCutAtEnds, IsFoundOf, AreBlocksOf}
+use Rattle.jx_gather.specs.BlockOf.{pieces_at, AreCutAtEnds, IsFoundOf, AreBlocksOf}
 use Rattle.jx_gather.specs.Carries.{block_in, part_of}
 use Rattle.jx_gather.specs.Planned.{part_in, leaf_from, leaf_in, leaves_in}
 use Rattle.jx_gather.proofs.CellLemmas.{pick, size_is, bands_of, cells_count}

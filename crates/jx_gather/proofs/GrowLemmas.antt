@@ -17,13 +17,7 @@ use Rattle.jx_gather.specs.Data.{parts_length, marks_fault}
 use Rattle.jx_gather.specs.Blocks.{Found, zero_in, founds_from, own_founds, pieces_in, passes_in, zero_from}
 use Rattle.jx_gather.proofs.PartLemmas.{own_parts, AreSteps, Goes}
 use Rattle.jx_gather.proofs.MarkLemmas.{mark_here, marks_later}
-
--- ---- pieces in order
-pub pieces_lower : (style low layer first last : ℕ) (ps : List PieceValue) → low ≤ layer → ArePieces style layer first last ps → ArePieces style low first last ps
-pieces_lower style low layer first last [] le are = are
-pieces_lower style low layer first last (p ∷ ps) le are =
-    let from : layer ≤ p.layer = are.0.layers in
-    (record { layers = omega arith; begins = are.0.begins; some = are.0.some; segment = are.0.segment; markers = are.0.markers }, are.1)
+use Rattle.jx_base.proofs.PieceLemmas.{pieces_lower}
 
 pub pieces_join : (style low layer first mid last : ℕ) (ps qs : List PieceValue) → low ≤ layer → AllByRecursion (λ (p : PieceValue). p.layer ≤ layer) ps → ArePieces style low first mid ps → ArePieces style layer mid last qs →
     ArePieces style low first last (ps ++ qs)

@@ -3,7 +3,7 @@ use Rattle.std.proofs.Common.{◌≡◌, ℕ, ◌+◌, ◌<◌, ◌≤◌, List,
 use Rattle.std.specs.List.{AllByRecursion, Contains}
 use Rattle.std.proofs.lemmas.Bool.{cases_eq}
 use Rattle.std.proofs.lemmas.List.{map-append}
-use Rattle.jx_base.specs.Pieces.{PieceValue}
+use Rattle.jx_base.specs.Pieces.{PieceValue, passes_at}
 use Rattle.jx_base.proofs.Lists.{contains_head, contains_tail}
 use Rattle.jx_geom.specs.Geometry.{Geometry, GeometryInRange}
 use Rattle.jx_head.specs.Packet.{State}
@@ -16,7 +16,6 @@ use Rattle.jx_geom.specs.Precincts.{HasPrecinct, precinct_number, leaf_number}
 use Rattle.jx_gather.specs.Data.{window, header_in}
 use Rattle.jx_gather.specs.Cuts.{Cut, Left, IsTurn, AreCuts, names_of, number_of}
 use Rattle.jx_gather.specs.Blocks.{Found, founds_from, founds_in, founds_of, own_founds, pieces_in}
-use Rattle.jx_gather.specs.BlockOf.{passes_at}
 use Rattle.jx_geom.proofs.PrecinctLemmas.{precinct_once}
 use Rattle.jx_gather.proofs.PartLemmas.{own_parts}
 use Rattle.jx_gather.proofs.GrowLemmas.{own_elsewhere}

@@ -3,7 +3,6 @@ use Rattle.std.proofs.Common.{◌≡◌, ℕ, zero, suc, ◌+◌, ◌-◌, ◌<�
 use Rattle.std.specs.List.{flat_map, Contains}
 use Rattle.std.proofs.Math.Seq.{take-length}
 use Rattle.std.proofs.lemmas.Bool.{cases_lt}
-use Rattle.std.proofs.lemmas.Bool.Decides.{nat_tests}
 use Rattle.std.proofs.lemmas.Grind.{flat_map-append}
 use Rattle.std.proofs.lemmas.List.{take_more}
 use Rattle.std.proofs.lemmas.List.Elements.{Contains-get_or}
@@ -20,7 +19,7 @@ use Rattle.jx_geom.specs.Geometry.{Geometry, HasResolution, rect_of_tile, shape_
 use Rattle.jx_geom.specs.Rects.{component_rect}
 use Rattle.jx_geom.specs.Resolutions.{all_resolutions, component_resolutions, one_behind, resolutions_behind, resolutions_of}
 use Rattle.jx_geom.proofs.EmptyLemmas.{some_block, some_precinct}
-use Rattle.jx_geom.proofs.TableLemmas.{listed}
+use Rattle.jx_geom.proofs.TableLemmas.{listed, none_behind, some_resolutions}
 use Rattle.jx_stream.specs.declared.Stream.{Stream}
 use Rattle.jx_gather.specs.Blocks.{band_blocks, component_blocks, one_block, resolution_blocks, tile_blocks}
 use Rattle.jx_gather.specs.Cells.{fresh_component, fresh_precincts, fresh_resolution, one_precinct}
@@ -42,27 +41,18 @@ flat_joined : {X Y : Type 0} (f : X → List Y) (h : ℕ → List X) (n : ℕ) �
 unfolding joined
 flat_joined f h n = flat_below f h 0 (n - 0)
 
-behind_none : (tile : Rect) (s : CompShape) (c precincts blocks : ℕ) → size_of (component_rect tile s) ≡ 0 → resolutions_behind tile s c precincts blocks ≡ []
-unfolding resolutions_behind
-behind_none tile s c precincts blocks none = grind (arith, nat_tests)
-
-behind_some : (tile : Rect) (s : CompShape) (c precincts blocks : ℕ) → 0 < size_of (component_rect tile s)
-    → resolutions_behind tile s c precincts blocks ≡ joined (one_behind tile s c precincts blocks) 0 (s.levels + 1)
-unfolding resolutions_behind
-behind_some tile s c precincts blocks some = grind (arith, nat_tests)
-
 -- of a component
 of_shape : {Y : Type 0} (f : ℕ → ℕ → List Y) (tile : Rect) (s : CompShape) (c precincts blocks : ℕ)
     → (size_of (component_rect tile s) ≡ 0 → (r : ℕ) → f c r ≡ [])
     → flat_map (by_resolution f) (resolutions_behind tile s c precincts blocks) ≡ joined (f c) 0 (s.levels + 1)
 of_shape {Y} f tile s c precincts blocks empty = elim (cases_lt 0 (size_of (component_rect tile s))) [
   | inl some ↦
-      ap (flat_map (by_resolution f)) (behind_some tile s c precincts blocks some)
+      ap (flat_map (by_resolution f)) (some_resolutions tile s c precincts blocks some)
       ∙ flat_joined (by_resolution f) (one_behind tile s c precincts blocks) (s.levels + 1)
       ∙ joined_same (λ r. flat_map (by_resolution f) (one_behind tile s c precincts blocks r)) (f c) (s.levels + 1) (λ r lt. append-nil (f c r))
   | inr none ↦
       let zero_size : size_of (component_rect tile s) ≡ 0 = omega (arith, none) in
-      ap (flat_map (by_resolution f)) (behind_none tile s c precincts blocks zero_size) ∙ sym (joined_empty (f c) 0 (s.levels + 1) (empty zero_size))
+      ap (flat_map (by_resolution f)) (none_behind tile s c precincts blocks zero_size) ∙ sym (joined_empty (f c) 0 (s.levels + 1) (empty zero_size))
 ]
 
 -- of a tile

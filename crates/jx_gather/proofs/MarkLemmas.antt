@@ -10,8 +10,6 @@ use Rattle.std.proofs.lemmas.List.FromFn.{get_or-range_with_len, length-range_wi
 use Rattle.jx_base.proofs.Lists.{find_none}
 use Rattle.jx_stream.proofs.FaultLemmas.{none_later as or_later, none_first as or_first, broken_none}
 
--- ---- faults one after another
-
 -- ---- rule 30
 -- none of a range
 range_none : (p : ℕ → Bool) (a n i : ℕ) → find p (range_with_len a n) ≡ None → i < n → p (a + i) ≡ false

@@ -7,10 +7,10 @@ use Rattle.jx_geom.specs.Geometry.{Geometry, no_shape, shape_of, rect_of_tile, p
 use Rattle.jx_stream.specs.declared.Stream.{Stream}
 use Rattle.jx_gather.specs.Cells.{one_precinct, fresh_precinct, fresh_resolution, fresh_component, fresh_precincts}
 use Rattle.jx_geom.specs.Precincts.{HasPrecinct, precinct_number}
-use Rattle.jx_geom.proofs.PrecinctLemmas.{precinct_number_is}
+use Rattle.jx_geom.proofs.PrecinctLemmas.{precinct_number_is, precinct_within}
 use Rattle.jx_base.specs.Joined.{joined, sum_below}
 use Rattle.jx_base.proofs.Joined.{joined_length, joined_at}
-use Rattle.jx_base.proofs.Sums.{sum_below_more, whole_sum}
+use Rattle.jx_base.proofs.Sums.{whole_sum}
 
 one_long : (s : Stream) (g : Geometry) (c r n : ℕ) → sum_below (λ i. length (one_precinct s g c r i)) n ≡ n
 one_long s g c r zero = refl
@@ -32,13 +32,6 @@ unfolding fresh_precincts
 precincts_long s g =
     joined_length (fresh_component s g) (λ c. component_precincts (rect_of_tile g) (shape_of g c)) (length g.shapes) (component_long s g)
     ∙ sym (whole_sum (component_precincts (rect_of_tile g)) g.shapes no_shape)
-
--- within its component
-pub precinct_within : (g : Geometry) (c r k : ℕ) → HasPrecinct g c r k
-    → sum_below (precinct_count (rect_of_tile g) (shape_of g c)) r + k < component_precincts (rect_of_tile g) (shape_of g c)
-unfolding component_precincts
-precinct_within g c r k h =
-    omega (arith, sum_below_more (precinct_count (rect_of_tile g) (shape_of g c)) r ((shape_of g c).levels + 1) (omega (arith, h.resolution.level)), h.precinct)
 
 in_resolution : (s : Stream) (g : Geometry) (c r k : ℕ) → k < size_of (precincts_in g c r) → slice_get (fresh_resolution s g c r) k ≡ Some (fresh_precinct s g c r k)
 unfolding fresh_resolution

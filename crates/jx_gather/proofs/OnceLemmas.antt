@@ -3,6 +3,7 @@ use Rattle.std.proofs.Common.{◌≡◌, ℕ, suc, ◌+◌, ◌<◌, Bool, true,
 use Rattle.std.specs.Prelude.{slice_get}
 use Rattle.std.specs.Option.{option_or}
 use Rattle.std.proofs.lemmas.Bool.{cases_lt}
+use Rattle.std.proofs.lemmas.Option.{none-some, same_Some}
 use Rattle.jx_base.specs.declared.pieces.Block.{Block}
 use Rattle.jx_geom.specs.Geometry.{Geometry}
 use Rattle.jx_head.specs.declared.Part.{Part}
@@ -26,20 +27,20 @@ use Rattle.jx_gather.specs.Blocks.{founds_of, tile_blocks}
 use Rattle.jx_gather.specs.Gathered.{IsListOf, IsWhole, IsCutUp, AreTileBlocks, IsGathered, IsUncovered, BreaksTile, BreaksData, IsBroken, start}
 use Rattle.jx_gather.proofs.TurnLemmas.{Precincts, Keeps, Listed, listed, AllKnown, AreInTurn, are_in_turn, known_there, has_precinct, due_named}
 use Rattle.jx_base.proofs.Joined.{joined_same}
-use Rattle.jx_base.proofs.Lists.{some_none, none_some, some_same, head_same, tail_same}
+use Rattle.jx_base.proofs.Lists.{some_none, head_same, tail_same}
 
 -- ---- where a test is violated is no matter of the place
 both_clear : (m n a b : ℕ) (x y : Bool) (f : StreamFault) → option_or (broken m a x) (broken n a y) ≡ Some f → option_or (broken m b x) (broken n b y) ≡ None → ⊥
 both_clear m n a b true y f h k = some_none (fault.Rule m b) k
 both_clear m n a b false true f h k = some_none (fault.Rule n b) k
-both_clear m n a b false false f h k = none_some f h
+both_clear m n a b false false f h k = none-some f h
 
 pub sop_clear : (w : List ℕ) (a b number : ℕ) (f : StreamFault) → sop_fault w a number ≡ Some f → sop_fault w b number ≡ None → ⊥
 unfolding sop_fault
 sop_clear w a b number f h k = both_clear 26 29 a b _ _ f h k
 
 marks_clear : (a b : ℕ) (bytes : List ℕ) (parts : List Part) (f : StreamFault) → marks_fault a bytes parts ≡ Some f → marks_fault b bytes parts ≡ None → ⊥
-marks_clear a b bytes [] f h k = none_some f h
+marks_clear a b bytes [] f h k = none-some f h
 marks_clear a b bytes (p ∷ parts) f h k =
     by (first_mark (take p.length bytes)) (marks_fault (a + p.length) (drop p.length bytes) parts) (marks_fault (b + p.length) (drop p.length bytes) parts)
     (marks_clear (a + p.length) (b + p.length) (drop p.length bytes) parts f) h k
@@ -116,11 +117,11 @@ body_breaks_once w at k f g is x y =
     let one = one_header (header_in w) k x.parts y.parts x.used y.used x.after y.after is.bands x.header y.header in
     let P : ℕ → Type 0 = λ u. body_fault w at u x.parts ≡ Some f in
     let Q : List Part → Type 0 = λ ps. body_fault w at y.used ps ≡ Some f in
-    some_same f g (sym (subst Q one.parts_are (subst P one.used_is x.body)) ∙ y.body)
+    same_Some f g (sym (subst Q one.parts_are (subst P one.used_is x.body)) ∙ y.body)
 
 pub breaks_once : (w : List ℕ) (at number : ℕ) (k : State) (f g : StreamFault) → IsState k → Breaks w at number k f → Breaks w at number k g → f ≡ g
 breaks_once w at number k f g is x y = elim x [
-  | inl p ↦ elim y [ inl q ↦ some_same f g (sym p ∙ q) | inr q ↦ absurd (some_none f (sym p ∙ q.0)) ]
+  | inl p ↦ elim y [ inl q ↦ same_Some f g (sym p ∙ q) | inr q ↦ absurd (some_none f (sym p ∙ q.0)) ]
   | inr p ↦ elim y [
     | inl q ↦ absurd (some_none g (sym q ∙ p.0))
     | inr q ↦ elim p.1 [
@@ -151,7 +152,7 @@ turn_once b g number old c d new other en t is u =
     let body : u.body ≡ t.body = sym (first_due t.body u.body t.later u.later both) in
     let later : t.later ≡ u.later = rest_due t.body u.body t.later u.later both in
     let found : slice_get old.states (number_of g c.name) ≡ Some u.state = ap (λ (n : PacketName). slice_get old.states (number_of g n)) (sym en) ∙ u.known in
-    let state : u.state ≡ t.state = some_same u.state t.state (sym found ∙ t.known) in
+    let state : u.state ≡ t.state = same_Some u.state t.state (sym found ∙ t.known) in
     let P : Body → Type 0 = λ x. IsCut (window b x) number u.state d in
     let Q : State → Type 0 = λ x. IsCut (window b t.body) number x d in
     let cut : c ≡ d = cut_once (window b t.body) number t.state c d is (sym en) t.cut (subst Q state (subst P body u.cut)) in
@@ -172,7 +173,7 @@ pub due_once : (b : List ℕ) (g : Geometry) (number : ℕ) (left : Left) (p : P
 due_once b g number left p f h sure x y =
     let both : x.body ∷ x.later ≡ y.body ∷ y.later = sym x.due_is ∙ y.due_is in
     let body : y.body ≡ x.body = sym (first_due x.body y.body x.later y.later both) in
-    let state : y.state ≡ x.state = some_same y.state x.state (sym y.known ∙ x.known) in
+    let state : y.state ≡ x.state = same_Some y.state x.state (sym y.known ∙ x.known) in
     let P : Body → Type 0 = λ w. Breaks (window b w) w.at number y.state h in
     let Q : State → Type 0 = λ w. Breaks (window b x.body) x.body.at number w h in
     breaks_once (window b x.body) x.body.at number x.state f h (sure x.state x.known) x.breaks (subst Q state (subst P body y.breaks))
@@ -182,7 +183,7 @@ pub due_no_turn : (b : List ℕ) (g : Geometry) (number : ℕ) (left : Left) (f 
 due_no_turn b g number left f c new sure x t =
     let both : x.body ∷ x.later ≡ t.body ∷ t.later = sym x.due_is ∙ t.due_is in
     let body : x.body ≡ t.body = first_due x.body t.body x.later t.later both in
-    let state : x.state ≡ t.state = some_same x.state t.state (sym x.known ∙ t.known) in
+    let state : x.state ≡ t.state = same_Some x.state t.state (sym x.known ∙ t.known) in
     let P : Body → Type 0 = λ w. Breaks (window b w) w.at number x.state f in
     let Q : State → Type 0 = λ w. Breaks (window b t.body) t.body.at number w f in
     breaks_not_cut (window b t.body) t.body.at number t.state f c (sure t.state t.known) (subst Q state (subst P body x.breaks)) t.cut
@@ -271,7 +272,7 @@ sure_rest : (s : Stream) (g : Geometry) (layers : ℕ) (list done rest : List Pa
 sure_rest s g layers list done [] left h e all = tt
 sure_rest s g layers list done (p ∷ rest) left h e all = λ state found.
     let k = all p.comp p.res p.precinct (has_precinct g layers p (due_named g layers list done rest p h e)) in
-    let same : k.state ≡ state = some_same k.state state (sym k.turned.known ∙ found) in
+    let same : k.state ≡ state = same_Some k.state state (sym k.turned.known ∙ found) in
     let I : State → Type 0 = λ x. IsState x in
     subst I same k.is
 
@@ -433,7 +434,7 @@ data_once b s f h r x y = elim (cases_lt x.tile y.tile) [
 
 pub broken_once : (b : List ℕ) (s : Stream) (f h : StreamFault) → (totals_fault s ≡ None → Ready b s) → IsBroken b s f → IsBroken b s h → f ≡ h
 broken_once b s f h r x y = elim x [
-  | inl p ↦ elim y [ inl q ↦ some_same f h (sym p ∙ q) | inr q ↦ absurd (some_none f (sym p ∙ q.0)) ]
+  | inl p ↦ elim y [ inl q ↦ same_Some f h (sym p ∙ q) | inr q ↦ absurd (some_none f (sym p ∙ q.0)) ]
   | inr p ↦ elim y [
     | inl q ↦ absurd (some_none h (sym q ∙ p.0))
     | inr q ↦ elim p.1 [

@@ -17,6 +17,7 @@ use Rattle.jx_head.proofs.BandLemmas.{block_of, entry_size, entry_agrees, block_
 use Rattle.jx_head.proofs.FreshLemmas.{block_left, block_right}
 use Rattle.jx_head.proofs.PacketLemmas.{bits_few}
 use Rattle.jx_head.proofs.WriteLemmas.{other_same as entry_other}
+use Rattle.jx_base.proofs.PieceLemmas.{alone, longer}
 
 -- ---- parts
 -- those of one block
@@ -71,21 +72,11 @@ abbrev pub AreRuns : ℕ → ℕ → ℕ → List ℕ → Type 0
 AreRuns style first last [] = first ≡ last
 AreRuns style first last (run ∷ runs) = (1 ≤ run) × IsInOneSegment style first run × AreRuns style (first + run) last runs
 
-one_run : (style first : ℕ) → IsInOneSegment style first 1
-one_run style first pass ge lt = absurd (omega arith)
-
-more_run : (style first run : ℕ) → end_pass style first ≡ false → IsInOneSegment style (first + 1) run → IsInOneSegment style first (suc run)
-more_run style first run e h pass ge lt = by (cases_lt first pass)
-  where
-    by : (first < pass) ⊎ (pass ≤ first) → end_pass style pass ≡ false
-    by (inl l) = h pass (omega arith) (omega arith)
-    by (inr l) = let same : first ≡ pass = omega arith in subst (λ (n : ℕ). end_pass style n ≡ false) same e
-
 more_runs : (style first last : ℕ) (runs : List ℕ) → end_pass style first ≡ false → AreRuns style (first + 1) last runs → AreRuns style first last (one_more runs)
-more_runs style first last [] e r = (omega arith, one_run style first, r)
+more_runs style first last [] e r = (omega arith, alone style first, r)
 more_runs style first last (run ∷ runs) e r =
     let same : first + 1 + run ≡ first + suc run = omega arith in
-    (omega arith, more_run style first run e r.1, subst (λ (n : ℕ). AreRuns style n last runs) same r.2)
+    (omega arith, longer style first run e r.1, subst (λ (n : ℕ). AreRuns style n last runs) same r.2)
 
 pub cut_runs : (style first n : ℕ) → AreRuns style first (first + n) (cut style first n)
 cut_runs style first zero = omega arith
@@ -94,7 +85,7 @@ cut_runs style first (suc n) = by (end_pass style first) refl
   where
     by : (b : Bool) → end_pass style first ≡ b → AreRuns style (first + 1) (first + suc n) (cut style (first + 1) n) →
         AreRuns style first (first + suc n) (cond b (1 ∷ cut style (first + 1) n) (one_more (cut style (first + 1) n)))
-    by true e r = (omega arith, one_run style first, r)
+    by true e r = (omega arith, alone style first, r)
     by false e r = more_runs style first (first + suc n) (cut style (first + 1) n) e r
 
 pub steps_from : (style lblock block first last : ℕ) (runs : List ℕ) (ps : List Part) → AreParts lblock block first runs ps → AreRuns style first last runs → AreSteps style first last ps

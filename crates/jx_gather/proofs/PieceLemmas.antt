@@ -18,11 +18,6 @@ abbrev passes_of : Option Block → ℕ
 passes_of None = 0
 passes_of (Some b) = b.passes
 
-get_inside : (xs : List Block) (i : ℕ) → i < length xs → (b : Block) × (slice_get xs i ≡ Some b)
-get_inside [] i h = absurd (omega arith)
-get_inside (x ∷ xs) zero h = (x, refl)
-get_inside (x ∷ xs) (suc i) h = get_inside xs i (omega arith)
-
 get_within : (xs : List Block) (i : ℕ) (b : Block) → slice_get xs i ≡ Some b → i < length xs
 get_within [] i b h = absurd (cc)
 get_within (x ∷ xs) zero b h = omega arith

@@ -31,7 +31,6 @@ pub record IsOfBlock (g : Geometry) (f : Found) : Type 0 where
   pub there : HasBlock g name
   pub number : number_in_tile g name ≡ f.number
 
--- ---- lists
 -- ---- one piece
 made : Stream → Geometry → BlockName → ℕ → ℕ → List PieceValue → Block
 made s g n z passes pieces = record {

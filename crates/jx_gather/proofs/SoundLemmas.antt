@@ -1,9 +1,9 @@
 -- Each block of a tile that is cut into packets is sound.
-use Rattle.std.proofs.Common.{◌≡◌, ℕ, zero, suc, ◌+◌, ◌-◌, ◌*◌, ◌^◌, ◌<◌, ◌≤◌, ◌==◌, nat_lt, Bool, true, false, List, [], ◌∷◌, ◌++◌, length, filter, replicate, refl, sym, ap, ◌∙◌, subst, cond, arith, None, inl, inr, ◌⊎◌, All, get_or, append-nil, if◌then◌else◌}
+use Rattle.std.proofs.Common.{◌≡◌, ℕ, ◌+◌, ◌-◌, ◌*◌, ◌^◌, ◌<◌, ◌≤◌, ◌==◌, nat_lt, Bool, true, false, List, [], ◌∷◌, ◌++◌, length, filter, replicate, refl, sym, ap, ◌∙◌, subst, cond, arith, None, inl, inr, ◌⊎◌, All, get_or, append-nil, if◌then◌else◌}
 use Rattle.std.specs.List.{AllByRecursion, AllPairs, Contains}
 use Rattle.std.proofs.lemmas.Bool.{cases_lt, cases_eq, eqb-true, eq-eqb, ne_eqb, lt-ltb, le-ltb, cond-true, cond-false}
 use Rattle.std.proofs.lemmas.List.{length-replicate}
-use Rattle.std.proofs.lemmas.List.Elements.{All-from_recursion, All-weaker, All-append, Contains-append_left}
+use Rattle.std.proofs.lemmas.List.Elements.{All-from_recursion, All-weaker, Contains-append_left}
 use Rattle.std.proofs.lemmas.Option.{get_or_from_slice_get}
 use Rattle.jx_base.specs.declared.names.Band.{Band}
 use Rattle.jx_base.specs.declared.names.BlockName.{BlockName}
@@ -52,10 +52,10 @@ use Rattle.jx_gather.proofs.PartLemmas.{known_in, planes_of}
 use Rattle.jx_gather.proofs.PutLemmas.{Tiled, IsOfBlock, put_found}
 use Rattle.jx_gather.proofs.GrowLemmas.{Gained, Grows, pieces_sum, bytes_own}
 use Rattle.jx_gather.proofs.TrackLemmas.{AreThere, Rise, AreAbove, Tracked, FromLeaf, AreFromLeaves, start_follow, track, founds_leaves, together, cuts_take}
-use Rattle.jx_base.specs.Joined.{joined, joined_below}
 use Rattle.jx_base.proofs.Lists.{contains_head, contains_tail, pairs_tail, pairs_head}
 use Rattle.jx_base.specs.Bands.{bands_at}
 use Rattle.jx_geom.proofs.EmptyLemmas.{zero_left as product_zero}
+use Rattle.jx_base.proofs.Joined.{joined_all}
 
 -- ---- a precinct before its first packet
 pub fresh_unknown : (bs : List BandCells) (j : ℕ) → get_or (all_blocks (fresh_bands bs)) j unknown_block ≡ unknown_block
@@ -370,18 +370,6 @@ pub sound_blocks : (b : List ℕ) (s : Stream) (t : ℕ) (cuts : List Cut) → I
     All IsSound (tile_blocks s (geometry s t) (founds_of (geometry s t) cuts))
 sound_blocks b s t cuts read short tile totals up =
     sound_cuts b s t cuts up.end (read_begun b s t cuts [] up.end read short tile totals (subst (λ (l : List PacketName). IsListOf s t l) (sym (append-nil (names_of cuts))) up.order) up.are)
-
--- what holds of each item of each list
-below_all : {X : Type 0} (P : X → Type 0) (f : ℕ → List X) (a n : ℕ) → ((i : ℕ) → i < n → All P (f (a + i))) → All P (joined_below f a n)
-below_all P f a zero each = λ k d lt. absurd (omega arith)
-below_all P f a (suc n) each = All-append P (joined_below f a n) (f (a + n)) (below_all P f a n (λ (i : ℕ) (lt : i < n). each i (omega arith))) (each n (omega arith))
-
-joined_all : {X : Type 0} (P : X → Type 0) (f : ℕ → List X) (n : ℕ) → ((i : ℕ) → i < n → All P (f i)) → All P (joined f 0 n)
-unfolding joined
-joined_all {X} P f n each = below_all P f 0 (n - 0) (λ (i : ℕ) (lt : i < n - 0).
-    (let e : i ≡ 0 + i = omega arith in
-    let Q : ℕ → Type 0 = λ (m : ℕ). All P (f m) in
-    subst Q e (each i (omega arith))))
 
 pub sound_gathered : (b : List ℕ) (s : Stream) (blocks : List Block) → IsRead b s → length b ≤ 2 ^ 28 → totals_fault s ≡ None → IsGathered b s blocks → All IsSound blocks
 sound_gathered b s blocks read short totals g =

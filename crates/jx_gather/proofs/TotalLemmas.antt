@@ -1,5 +1,5 @@
 -- Totals over the tiles and components of a stream in range, and what the limits on them say of one tile.
-use Rattle.std.proofs.Common.{◌≡◌, ◌<◌, ◌≤◌, ◌*◌, ◌^◌, ℕ, arith, length, refl, nat_lt, Option, Some, None}
+use Rattle.std.proofs.Common.{◌≡◌, ◌<◌, ◌≤◌, ◌^◌, ℕ, arith, length, refl, nat_lt, Option, Some, None}
 use Rattle.std.specs.Option.{option_or}
 use Rattle.std.proofs.lemmas.Bool.Decides.{nat_tests}
 use Rattle.jx_base.specs.declared.names.Rect.{Rect}
@@ -17,6 +17,7 @@ use Rattle.jx_gather.specs.Totals.{block_total, tile_packets, packet_total, tota
 use Rattle.jx_stream.proofs.RangeLemmas.{shapes_length}
 use Rattle.jx_base.specs.Joined.{sum_below}
 use Rattle.jx_base.proofs.Sums.{sum_below_more}
+use Rattle.jx_tagtree.proofs.ShapeLemmas.{le_product}
 
 pub blocks_are : (s : Stream) → block_total s ≡ blocks_below (canvas_of s.siz) (shapes_of s) (tile_number s.siz)
 unfolding block_total
@@ -45,9 +46,6 @@ within_totals s h =
     let both = first_none (passed 5 (block_total s) (nat_lt (2 ^ 20) (block_total s))) (passed 6 (packet_total s) (nat_lt (2 ^ 22) (packet_total s))) h in
     record { blocks = not_passed 5 (block_total s) (2 ^ 20) both.0; packets = not_passed 6 (packet_total s) (2 ^ 22) both.1 }
 
-some_times : (a b : ℕ) → 1 ≤ b → a ≤ a * b
-some_times a b h = grind arith
-
 pub tile_within : (s : Stream) (t : ℕ) → StreamInRange s → totals_fault s ≡ None → t < tile_number s.siz → WithinLimits (canvas_of s.siz) t (shapes_of s t)
 tile_within s t range none inside =
     let all = within_totals s none in
@@ -56,7 +54,7 @@ tile_within s t range none inside =
     let packets = sum_below_more (tile_packets s) t (tile_number s.siz) inside in
     record {
       blocks = omega (arith, blocks, blocks_are s, all.blocks);
-      precincts = omega (arith, packets, packets_are s, all.packets, some_times (tile_precincts rect (shapes_of s t)) (layers_of s t) (range.some_layers t inside));
+      precincts = omega (arith, packets, packets_are s, all.packets, le_product (tile_precincts rect (shapes_of s t)) (layers_of s t) (range.some_layers t inside));
     }
 
 pub few_shapes : (s : Stream) (t : ℕ) → StreamInRange s → length (shapes_of s t) ≤ 2 ^ 14

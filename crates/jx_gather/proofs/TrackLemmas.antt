@@ -96,7 +96,7 @@ turn_follows b s g number old c new all t d r k there = by (cases_eq (number_of 
         }
     by (inr ne) f = record { state = f.state; known = other_after b g number old c new (precinct_number g d r k) t ne ∙ f.known; is = f.is }
 
-own_follows : (b : List ℕ) (s : Stream) (g : Geometry) (number : ℕ) (old : Left) (c : Cut) (new : Left) → AllFollow s g old.states → HasPrecinct g c.name.comp c.name.res c.name.precinct →
+pub own_follows : (b : List ℕ) (s : Stream) (g : Geometry) (number : ℕ) (old : Left) (c : Cut) (new : Left) → AllFollow s g old.states → HasPrecinct g c.name.comp c.name.res c.name.precinct →
     (t : IsTurn b g number old c new) → Follows s g c.name.comp c.name.res c.name.precinct t.state
 own_follows b s g number old c new all there t =
     let f = all c.name.comp c.name.res c.name.precinct there in

@@ -1,11 +1,11 @@
 -- What holds of the blocks that are gathered: there is one for each name, at its number, with the rect, the planes and the
 -- style that the headers say; its pieces lie in layers of its tile; in one layer it has at most 164 passes, cut at the ends of
 -- segments; without pieces all its planes are zero planes (ITU-T T.800, B.7, B.10 and Table B.4).
-use Rattle.std.specs.Prelude.{◌≡◌, ◌+◌, ◌<◌, ◌≤◌, ◌==◌, nat_lt, ℕ, List, [], ◌∷◌, length, map, slice_get, Option, Some, None, if◌then◌else◌}
+use Rattle.std.specs.Prelude.{◌≡◌, ◌<◌, ◌≤◌, ◌==◌, ℕ, List, [], length, map, slice_get, Option, Some, None}
 use Rattle.std.specs.List.{All, filter}
 use Rattle.jx_base.specs.declared.names.BlockName.{BlockName}
 use Rattle.jx_base.specs.declared.pieces.Block.{Block}
-use Rattle.jx_base.specs.Pieces.{PieceValue}
+use Rattle.jx_base.specs.Pieces.{PieceValue, passes_at, passes_below}
 use Rattle.jx_geom.specs.Rects.{block_rect}
 use Rattle.jx_geom.specs.Geometry.{rect_of_tile, shape_of}
 use Rattle.jx_geom.specs.Numbering.{IsBlock, block_number}
@@ -15,16 +15,6 @@ use Rattle.jx_stream.specs.First.{canvas_of}
 use Rattle.jx_stream.specs.Params.{planes_at}
 use Rattle.jx_stream.specs.Shapes.{geometry, shapes_of, layers_of, style_of}
 use Rattle.jx_gather.specs.Totals.{block_total}
-
--- how many passes pieces of a layer have
-abbrev pub passes_at : ℕ → List PieceValue → ℕ
-passes_at layer [] = 0
-passes_at layer (p ∷ pieces) = if p.layer == layer then p.passes + passes_at layer pieces else passes_at layer pieces
-
--- and those of the layers before it
-abbrev pub passes_below : ℕ → List PieceValue → ℕ
-passes_below layer [] = 0
-passes_below layer (p ∷ pieces) = if nat_lt p.layer layer then p.passes + passes_below layer pieces else passes_below layer pieces
 
 -- the pieces of a layer
 unfoldable pub pieces_at : ℕ → List PieceValue → List PieceValue

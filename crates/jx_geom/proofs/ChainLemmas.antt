@@ -4,13 +4,13 @@ use Rattle.std.proofs.lemmas.Bool.{cases_lt}
 use Rattle.std.proofs.lemmas.Bool.Decides.{nat_tests}
 use Rattle.jx_base.proofs.Sums.{sum_below_next}
 use Rattle.std.specs.List.{Contains, slice_get}
-use Rattle.std.proofs.lemmas.Option.{get_or_from_slice_get, slice_get_within}
+use Rattle.std.proofs.lemmas.Option.{get_or_from_slice_get, same_Some, slice_get_within}
 use Rattle.std.proofs.Math.Seq.{take-length}
 use Rattle.jx_base.specs.declared.names.Rect.{Rect}
 use Rattle.jx_base.specs.Joined.{joined, sum_below}
 use Rattle.jx_base.specs.Places.{size_of}
 use Rattle.jx_base.proofs.Joined.{joined_none, joined_next}
-use Rattle.jx_base.proofs.Lists.{some_same, some_none}
+use Rattle.jx_base.proofs.Lists.{some_none}
 use Rattle.jx_geom.specs.declared.shape.CompShape.{CompShape}
 use Rattle.jx_geom.specs.declared.table.Resolution.{Resolution}
 use Rattle.jx_geom.specs.declared.search.Counted.{Counted}
@@ -52,15 +52,15 @@ chain_holds key count [] a b n i e chain lt at next = absurd (some_none e (sym a
 chain_holds key count (x ∷ []) a b n zero e chain lt at next =
     let P : Resolution → Type 0 = λ y. n < key y + count y in
     let whole : a + count x ≡ b = chain.1 in
-    subst P (some_same x e at) (omega (arith, chain.0))
+    subst P (same_Some x e at) (omega (arith, chain.0))
 chain_holds key count (x ∷ y ∷ ys) a b n zero e chain lt at next =
     let P : Resolution → Type 0 = λ z. n < key z + count z in
-    subst P (some_same x e at) (omega (arith, chain.0, chain.1.0, next y refl))
+    subst P (same_Some x e at) (omega (arith, chain.0, chain.1.0, next y refl))
 chain_holds key count (x ∷ xs) a b n (suc i) e chain lt at next = chain_holds key count xs (a + count x) b n i e chain.1 lt at next
 
 chain_first : (key count : Resolution → ℕ) (xs : List Resolution) (a b : ℕ) (e : Resolution) → Chain key count xs a b → slice_get xs 0 ≡ Some e → key e ≡ a
 chain_first key count [] a b e chain at = absurd (some_none e (sym at))
-chain_first key count (x ∷ xs) a b e chain at = let P : Resolution → Type 0 = λ y. key y ≡ a in subst P (some_same x e at) chain.0
+chain_first key count (x ∷ xs) a b e chain at = let P : Resolution → Type 0 = λ y. key y ≡ a in subst P (same_Some x e at) chain.0
 
 chain_some : (key count : Resolution → ℕ) (xs : List Resolution) (a b : ℕ) → Chain key count xs a b → a < b → 0 < length xs
 chain_some key count [] a b chain lt = absurd (omega (arith, chain))

@@ -12,6 +12,7 @@ use Rattle.jx_geom.specs.Sets.{InComponent, InResolution, InBand, InCell, InPrec
 use Rattle.jx_geom.specs.Counts.{precinct_count, block_count}
 use Rattle.jx_geom.proofs.SetLemmas.{resolution_to, resolution_from, band_rect_to, band_rect_from, cell_of_place, place_of_cell, cells_over, precinct_part_to, precinct_part_from}
 use Rattle.jx_base.proofs.Raster.{raster_in, number_below, number_column, number_row, raster_one}
+use Rattle.jx_base.proofs.Powers.{div_longer}
 
 -- a cell of a rect's cells, where a place of the rect lies in it
 cell_from : (places : Rect) (wide high u v x y : ℕ) → InRect places x y → InCell wide high u v x y → InRect (cells_over places wide high) u v
@@ -166,21 +167,14 @@ part_cell tile s r HL x y h le there i = high_cell tile s r 1 0 x y h there le (
 part_cell tile s r LH x y h le there i = high_cell tile s r 0 1 x y h there le (omega arith) (omega arith) i
 part_cell tile s r HH x y h le there i = high_cell tile s r 1 1 x y h there le (omega arith) (omega arith) i
 
--- a block's cell names the cell of a precinct that holds it
-coarser : (x w p : ℕ) → w ≤ p → x / 2 ^ p ≡ x / 2 ^ w / 2 ^ (p - w)
-coarser x w p le =
-    let whole : w + (p - w) ≡ p = omega arith in
-    let steps : x / 2 ^ w / 2 ^ (p - w) ≡ x / 2 ^ (w + (p - w)) = shr-shr x w (p - w) in
-    sym (rw whole at steps)
-
 pub in_part_cell : (s : CompShape) (r u v m n x y : ℕ) → InCell (block_across s r) (block_down s r) u v x y
     → InCell (part_across s r) (part_down s r) m n x y
     → (m ≡ u / 2 ^ (part_across s r - block_across s r)) × (n ≡ v / 2 ^ (part_down s r - block_down s r))
 in_part_cell s r u v m n x y fine coarse =
     let across : block_across s r ≤ part_across s r = omega arith in
     let down : block_down s r ≤ part_down s r = omega arith in (
-      sym coarse.column ∙ coarser x (block_across s r) (part_across s r) across ∙ ap (λ q. q / 2 ^ (part_across s r - block_across s r)) fine.column,
-      sym coarse.row ∙ coarser y (block_down s r) (part_down s r) down ∙ ap (λ q. q / 2 ^ (part_down s r - block_down s r)) fine.row,
+      sym coarse.column ∙ div_longer x (block_across s r) (part_across s r) across ∙ ap (λ q. q / 2 ^ (part_across s r - block_across s r)) fine.column,
+      sym coarse.row ∙ div_longer y (block_down s r) (part_down s r) down ∙ ap (λ q. q / 2 ^ (part_down s r - block_down s r)) fine.row,
     )
 
 -- the precincts whose part has a place of one block's cell are one

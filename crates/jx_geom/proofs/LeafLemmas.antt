@@ -365,7 +365,7 @@ leaves_limited g c r k h there = omega (arith, leaves_within g c r k h there, re
 -- back: each block of the tile is a leaf
 
 -- the raster number of the place of a number
-back_number : (r : Rect) (i : ℕ) → i < size_of r → number_at r (column_at r i) (row_at r i) ≡ i
+pub back_number : (r : Rect) (i : ℕ) → i < size_of r → number_at r (column_at r i) (row_at r i) ≡ i
 back_number r i lt =
     let there = raster_in r i lt in
     raster_one r (number_at r (column_at r i) (row_at r i)) i (number_column r (column_at r i) (row_at r i) there) (number_row r (column_at r i) (row_at r i) there)

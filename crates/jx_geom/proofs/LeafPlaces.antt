@@ -5,7 +5,7 @@ use Rattle.jx_base.specs.declared.names.Band.TheVariants.{LL, HL, LH, HH}
 use Rattle.jx_base.specs.declared.names.BlockName.{BlockName}
 use Rattle.jx_base.specs.declared.names.Rect.{Rect}
 use Rattle.jx_base.specs.Places.{InRect, size_of, column_at, row_at, number_at}
-use Rattle.jx_base.proofs.Raster.{raster_in, number_below, number_column, number_row, raster_one}
+use Rattle.jx_base.proofs.Raster.{raster_in, number_below, number_column, number_row}
 use Rattle.jx_geom.specs.declared.shape.CompShape.{CompShape}
 use Rattle.jx_geom.specs.Counts.{block_count}
 use Rattle.jx_geom.specs.Geometry.{Geometry, HasBlock, blocks_in}
@@ -15,13 +15,7 @@ use Rattle.jx_geom.specs.Precincts.{HasPrecinct, IsLeaf, cells_at, leaves, leaf_
 use Rattle.jx_geom.specs.Ranges.{ShapeInRange, HasBand}
 use Rattle.jx_geom.specs.Rects.{block_cells, precinct_cells, precinct_blocks, part_across, part_down, block_across, block_down}
 use Rattle.jx_geom.proofs.LawLemmas.{block_in_one_precinct, precinct_blocks_to, in_part_cell}
-use Rattle.jx_geom.proofs.LeafLemmas.{bands_low, bands_high, named, name_here, name_later, leaves_low, leaves_high, leaf_is}
-
--- a number of the raster, to its place and back
-number_again : (r : Rect) (i : ℕ) → i < size_of r → number_at r (column_at r i) (row_at r i) ≡ i
-number_again r i lt =
-    let there = raster_in r i lt in
-    raster_one r (number_at r (column_at r i) (row_at r i)) i (number_column r (column_at r i) (row_at r i) there) (number_row r (column_at r i) (row_at r i) there)
+use Rattle.jx_geom.proofs.LeafLemmas.{bands_low, bands_high, named, name_here, name_later, leaves_low, leaves_high, leaf_is, back_number}
 
 -- the cell of the precinct that has a block's cell: that of the block's column and row, coarser
 abbrev pub home_column : Rect → CompShape → ℕ → Band → ℕ → ℕ
@@ -49,7 +43,7 @@ block_home tile s r b i h le there lt =
     let mine = in_part_cell s r u v (column_at pc one.number) (row_at pc one.number) some.0 some.1 some.2.1 some.2.0.cell in
     let P : ℕ → Type 0 = λ m. InRect pc m (row_at pc one.number) in
     let Q : ℕ → Type 0 = λ n. InRect pc (home_column tile s r b i) n in
-    let again = number_again pc one.number one.holds.0 in
+    let again = back_number pc one.number one.holds.0 in
     let same : one.number ≡ number_at pc (home_column tile s r b i) (home_row tile s r b i) =
     sym again ∙ ap (λ m. number_at pc m (row_at pc one.number)) mine.0 ∙ ap (λ n. number_at pc (home_column tile s r b i) n) mine.1 in
     let R : ℕ → Type 0 = λ k. IsHome tile s r b i k in
@@ -104,7 +98,7 @@ part_again part all i lt cell =
     let column = number_column part (column_at all i) (row_at all i) cell in
     let row = number_row part (column_at all i) (row_at all i) cell in
     ap (λ u. number_at all u (row_at part (number_at part (column_at all i) (row_at all i)))) column
-    ∙ ap (λ v. number_at all (column_at all i) v) row ∙ number_again all i lt
+    ∙ ap (λ v. number_at all (column_at all i) v) row ∙ back_number all i lt
 
 -- so a block is the leaf behind those of earlier bands, by its place in its precinct's part of its band
 abbrev pub place_in_part : Geometry → BlockName → ℕ → ℕ

@@ -1,5 +1,5 @@
 -- The numbers of a precinct's blocks by a first number and a step for each band.
-use Rattle.std.proofs.Common.{◌≡◌, ℕ, ◌+◌, ◌-◌, ◌*◌, ◌/◌, ◌%◌, ◌≤◌, ◌<◌, List, [], ◌∷◌, max, inl, inr, ◌∙◌, ap, sym, subst, arith}
+use Rattle.std.proofs.Common.{◌≡◌, ℕ, ◌+◌, ◌-◌, ◌*◌, ◌/◌, ◌%◌, ◌≤◌, ◌<◌, List, [], ◌∷◌, max, inl, inr, ◌∙◌, ap, sym, subst, arith, add-mul}
 use Rattle.std.proofs.lemmas.Bool.{cases_lt}
 use Rattle.std.proofs.lemmas.Bool.Decides.{nat_tests}
 use Rattle.jx_base.specs.declared.names.Band.{Band}
@@ -75,9 +75,6 @@ leaf_split g c r k j h there lt =
     subst Q leaf.res (subst P leaf.comp whole)
 
 -- a block of a part
-product_of_sum : (a b n : ℕ) → (a + b) * n ≡ a * n + b * n
-product_of_sum a b n = grind arith
-
 pub part_index : (cells all : Rect) (p : Part) (before j : ℕ) → InRect all cells.x.low cells.y.low → j < size_of cells
     → p.wide ≡ length_of cells.x → p.stride ≡ length_of all.x → p.first ≡ before + number_at all cells.x.low cells.y.low
     → part_at p j ≡ before + number_at all (column_at cells j) (row_at cells j)
@@ -88,7 +85,7 @@ part_index cells all p before j corner lt wide stride first =
     let rest : j % max p.wide 1 ≡ j % length_of cells.x = ap (λ n. j % n) w in
     let rows : row_at cells j - all.y.low ≡ (cells.y.low - all.y.low) + j / length_of cells.x = omega (arith, corner.down.from) in
     let product : (row_at cells j - all.y.low) * length_of all.x ≡ (cells.y.low - all.y.low) * length_of all.x + j / length_of cells.x * length_of all.x =
-    ap (λ n. n * length_of all.x) rows ∙ product_of_sum (cells.y.low - all.y.low) (j / length_of cells.x) (length_of all.x) in
+    ap (λ n. n * length_of all.x) rows ∙ add-mul (cells.y.low - all.y.low) (j / length_of cells.x) (length_of all.x) in
     let step : j / max p.wide 1 * p.stride ≡ j / length_of cells.x * length_of all.x = ap (λ n. n * p.stride) quotient ∙ ap (λ n. j / length_of cells.x * n) stride in
     omega (arith, corner.across.from)
 

@@ -15,7 +15,7 @@ unfolding precinct_number
 precinct_number_is g c r k le = omega (arith, front_sum (component_precincts (rect_of_tile g)) g.shapes no_shape c le)
 
 -- within its component
-precinct_within : (g : Geometry) (c r k : ℕ) → HasPrecinct g c r k
+pub precinct_within : (g : Geometry) (c r k : ℕ) → HasPrecinct g c r k
     → sum_below (precinct_count (rect_of_tile g) (shape_of g c)) r + k < component_precincts (rect_of_tile g) (shape_of g c)
 unfolding component_precincts
 precinct_within g c r k h =

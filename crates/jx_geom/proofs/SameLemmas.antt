@@ -16,17 +16,17 @@ use Rattle.jx_geom.specs.Geometry.{HasBlock, no_shape}
 use Rattle.jx_geom.specs.Numbering.{IsBlock, block_number, number_in_tile}
 use Rattle.jx_geom.specs.Same.{AllSameBlocks, SameBlocks}
 
-same_component : (tile : Rect) (s t : CompShape) → SameBlocks s t → component_rect tile s ≡ component_rect tile t
+pub same_component : (tile : Rect) (s t : CompShape) → SameBlocks s t → component_rect tile s ≡ component_rect tile t
 unfolding component_rect
 same_component tile s t h = rw (h.step_across, h.step_down) refl
 
-same_level : (s t : CompShape) (r : ℕ) (b : Band) → SameBlocks s t → band_level s r b ≡ band_level t r b
+pub same_level : (s t : CompShape) (r : ℕ) (b : Band) → SameBlocks s t → band_level s r b ≡ band_level t r b
 same_level s t r LL h = h.levels
 same_level s t r HL h = ap (λ n. n - r + 1) h.levels
 same_level s t r LH h = ap (λ n. n - r + 1) h.levels
 same_level s t r HH h = ap (λ n. n - r + 1) h.levels
 
-same_band : (tile : Rect) (s t : CompShape) (r : ℕ) (b : Band) → SameBlocks s t → band_rect tile s r b ≡ band_rect tile t r b
+pub same_band : (tile : Rect) (s t : CompShape) (r : ℕ) (b : Band) → SameBlocks s t → band_rect tile s r b ≡ band_rect tile t r b
 unfolding band_rect
 same_band tile s t r b h = rw (same_component tile s t h, same_level s t r b h) refl
 
@@ -38,10 +38,10 @@ same_rect : (tile : Rect) (s t : CompShape) (r : ℕ) (b : Band) (i : ℕ) → S
 unfolding block_rect
 same_rect tile s t r b i h le = rw (same_band tile s t r b h, same_cells tile s t r b h le, h.across r le, h.down r le) refl
 
-same_count : (tile : Rect) (s t : CompShape) (r : ℕ) (b : Band) → SameBlocks s t → r ≤ s.levels → block_count tile s r b ≡ block_count tile t r b
+pub same_count : (tile : Rect) (s t : CompShape) (r : ℕ) (b : Band) → SameBlocks s t → r ≤ s.levels → block_count tile s r b ≡ block_count tile t r b
 same_count tile s t r b h le = rw (same_cells tile s t r b h le) refl
 
-same_resolution : (tile : Rect) (s t : CompShape) (r : ℕ) → SameBlocks s t → r ≤ s.levels → resolution_blocks tile s r ≡ resolution_blocks tile t r
+pub same_resolution : (tile : Rect) (s t : CompShape) (r : ℕ) → SameBlocks s t → r ≤ s.levels → resolution_blocks tile s r ≡ resolution_blocks tile t r
 unfolding resolution_blocks
 same_resolution tile s t r h le =
     rw (same_count tile s t r LL h le, same_count tile s t r HL h le, same_count tile s t r LH h le, same_count tile s t r HH h le) refl
@@ -53,7 +53,7 @@ same_sum f h (suc n) e =
     let before : sum_below f n ≡ sum_below h n = same_sum f h n (λ i lt. e i (omega arith)) in
     omega (arith, e n (omega arith))
 
-same_component_blocks : (tile : Rect) (s t : CompShape) → SameBlocks s t → component_blocks tile s ≡ component_blocks tile t
+pub same_component_blocks : (tile : Rect) (s t : CompShape) → SameBlocks s t → component_blocks tile s ≡ component_blocks tile t
 unfolding component_blocks
 same_component_blocks tile s t h =
     same_sum (resolution_blocks tile s) (resolution_blocks tile t) (s.levels + 1) (λ r lt. same_resolution tile s t r h (omega arith))
@@ -67,7 +67,7 @@ same_front tile xs ys n h le =
     (λ i lt. same_component_blocks tile (get_or xs i no_shape) (get_or ys i no_shape) (h.each i (omega arith)))
     ∙ sym (front_sum (component_blocks tile) ys no_shape n (omega (arith, h.long)))
 
-same_tile : (tile : Rect) (xs ys : List CompShape) → AllSameBlocks xs ys → tile_blocks tile xs ≡ tile_blocks tile ys
+pub same_tile : (tile : Rect) (xs ys : List CompShape) → AllSameBlocks xs ys → tile_blocks tile xs ≡ tile_blocks tile ys
 same_tile tile xs ys h =
     ap (λ zs. tile_blocks tile zs) (sym (take-length xs))
     ∙ same_front tile xs ys (length xs) h (omega arith)

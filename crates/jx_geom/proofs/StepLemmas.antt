@@ -6,7 +6,7 @@ use Rattle.jx_base.specs.Places.{span_of, length_of}
 use Rattle.jx_base.proofs.Ceilings.{ceil_least, ceil_from}
 use Rattle.jx_geom.specs.Spans.{scaled}
 
-one_step : (n : ℕ) → ceil_of n 1 ≡ n
+pub one_step : (n : ℕ) → ceil_of n 1 ≡ n
 unfolding ceil_of
 one_step n = omega arith
 

@@ -19,9 +19,9 @@ use Rattle.jx_geom.specs.Geometry.{Geometry, GeometryInRange, HasResolution, no_
 use Rattle.jx_geom.specs.Numbering.{number_in_tile}
 use Rattle.jx_geom.specs.Precincts.{HasPrecinct, precinct_number}
 use Rattle.jx_base.specs.declared.names.BlockName.{BlockName}
-use Rattle.jx_base.proofs.Lists.{contains_cons, contains_none, some_same}
+use Rattle.jx_base.proofs.Lists.{contains_cons, contains_none}
 use Rattle.jx_base.proofs.Sums.{sum_below_grows}
-use Rattle.std.proofs.lemmas.Option.{get_or_from_slice_get, slice_get_within}
+use Rattle.std.proofs.lemmas.Option.{get_or_from_slice_get, same_Some, slice_get_within}
 
 -- one more component
 pub precincts_more : (tile : Rect) (shapes : List CompShape) (c : ℕ) → c < length shapes
@@ -79,7 +79,7 @@ place_there tile shapes c lt =
     ∙ joined_at (one_place tile shapes) (λ i. length (one_place tile shapes i)) (length shapes) c 0 (λ i. refl) lt (omega arith)
 
 -- those of a component
-some_resolutions : (tile : Rect) (s : CompShape) (c precincts blocks : ℕ) → 0 < size_of (component_rect tile s)
+pub some_resolutions : (tile : Rect) (s : CompShape) (c precincts blocks : ℕ) → 0 < size_of (component_rect tile s)
     → resolutions_behind tile s c precincts blocks ≡ joined (one_behind tile s c precincts blocks) 0 (s.levels + 1)
 unfolding resolutions_behind
 some_resolutions tile s c precincts blocks some = grind (arith, nat_tests)
@@ -144,7 +144,7 @@ table_entry tile shapes places list c r ep el lt le some =
     record {
       place = slice_get_within places c (place_of tile shapes c) first;
       below = slice_get_within list (slice_index places c + r) (resolution_at tile shapes c r) at;
-      only = λ x e. some_same x (resolution_at tile shapes c r) (sym e ∙ at);
+      only = λ x e. same_Some x (resolution_at tile shapes c r) (sym e ∙ at);
     }
 
 pub at_precincts : (g : Geometry) (c r k : ℕ) → (resolution_at (rect_of_tile g) g.shapes c r).precincts_before + k ≡ precinct_number g c r k
@@ -169,7 +169,7 @@ before_few g c r h there =
 one_has : (x e : Resolution) → Contains (x ∷ []) e → x ≡ e
 one_has x e h = elim (contains_cons x [] e h) [ inl same ↦ same | inr none ↦ absurd (contains_none e none) ]
 
-none_behind : (tile : Rect) (s : CompShape) (c precincts blocks : ℕ) → size_of (component_rect tile s) ≡ 0 → resolutions_behind tile s c precincts blocks ≡ []
+pub none_behind : (tile : Rect) (s : CompShape) (c precincts blocks : ℕ) → size_of (component_rect tile s) ≡ 0 → resolutions_behind tile s c precincts blocks ≡ []
 unfolding resolutions_behind
 none_behind tile s c precincts blocks none = grind (arith, nat_tests)
 

@@ -1,7 +1,7 @@
 -- A tile's rect holds the places of its cell in the grid of tiles, and each place of the picture lies in one.
 use Rattle.std.proofs.Common.{◌≡◌, ℕ, ◌+◌, ◌-◌, ◌*◌, ◌/◌, ◌%◌, ◌≤◌, ◌<◌, ◌↔◌, ◌∙◌, min, max, refl, arith, sym}
 use Rattle.std.proofs.Math.Nat.{div-eq_of_lt-le}
-use Rattle.std.proofs.lemmas.Nat.{div-mul-add, mod-mul-add}
+use Rattle.std.proofs.lemmas.Nat.{div-mul-add, mod-mul-add, mul-add-lt}
 use Rattle.jx_base.specs.declared.names.Rect.{Rect}
 use Rattle.jx_base.specs.Places.{InSpan, InRect, ExactlyOne, span_of}
 use Rattle.jx_base.proofs.Ceilings.{ceil_above}
@@ -12,7 +12,7 @@ use Rattle.jx_geom.specs.Rects.{tile_rect, tiles_across, tiles_down}
 use Rattle.jx_geom.specs.Counts.{tile_count}
 use Rattle.jx_geom.specs.Sets.{InPicture, InTile, HasPlace}
 use Rattle.jx_geom.proofs.SpanLemmas.{in_cell_low, in_cell_high, tile_span_fits, TileSpanFits}
-use Rattle.jx_base.proofs.Raster.{row_below, column_below, in_rows, same_number}
+use Rattle.jx_base.proofs.Raster.{row_below, column_below, same_number}
 
 tile_span_to : (start end offset size p x : ℕ) → 0 < size → offset ≤ start → InSpan (tile_span start end offset size p) x
     → InSpan (span_of start end) x × ((x - offset) / size ≡ p)
@@ -91,7 +91,7 @@ place_in_one_tile c x y h i =
     record {
       number = (y - c.ty) / c.th * tiles_across c + (x - c.tx) / c.tw;
       holds = (
-        in_rows ((y - c.ty) / c.th) ((x - c.tx) / c.tw) (tiles_across c) (tiles_down c) row column,
+        mul-add-lt ((y - c.ty) / c.th) (tiles_across c) ((x - c.tx) / c.tw) (tiles_down c) row column,
         record { place = i; column = sym rest; row = sym quotient },
       );
       only = λ m p. same_number m ((y - c.ty) / c.th * tiles_across c + (x - c.tx) / c.tw) (tiles_across c)

@@ -1,6 +1,7 @@
 -- The run mode of cleanup passes.
-use Rattle.std.proofs.Common.{◌≡◌, ◌<◌, ◌+◌, ◌-◌, ◌%◌, ℕ, zero, suc, refl, arith, Bool, true, false, IsTrue, ◌==◌, ◌&&◌, not, nat_le}
+use Rattle.std.proofs.Common.{◌≡◌, ◌<◌, ◌+◌, ◌-◌, ◌%◌, ℕ, zero, suc, refl, arith, true, false, IsTrue, ◌==◌, ◌&&◌, not, nat_le}
 use Rattle.std.proofs.lemmas.Bool.Decides.{nat_tests}
+use Rattle.std.proofs.lemmas.Bool.{and_parts}
 use Rattle.jx_grid.specs.declared.coef.Coef.{Coef}
 use Rattle.jx_grid.specs.declared.question.Plane.{Plane}
 use Rattle.jx_grid.specs.Cells.{Cells, coef_at, significant}
@@ -13,14 +14,6 @@ zeroed_more k count i g x y h =
     let f : y + (i + 1) ≡ y + i + 1 = omega arith in
     rw (e, f) refl
 
-and_left : (a b : Bool) → a && b ≡ true → a ≡ true
-and_left true b h = refl
-and_left false b h = h
-
-and_right : (a b : Bool) → a && b ≡ true → b ≡ true
-and_right true b h = h
-and_right false b h = elim b as (λ v. v ≡ true) [ true ↦ refl | false ↦ h ]
-
 zero_bits : (n : ℕ) → not (not (n == 0)) ≡ true → n ≡ 0
 zero_bits n h = grind (arith, nat_tests)
 
@@ -30,7 +23,7 @@ quiet_bits k g x y h =
     let a = not (significant c) in
     let b = not (is_decided k c) in
     let l = label_at k g x y == 0 in
-    zero_bits c.bits (and_left a b (and_left (a && b) l h))
+    zero_bits c.bits (and_parts a b (and_parts (a && b) l h).0).0
 
 at_number : (k : Plane) (g : Cells) (x y n : ℕ) → is_quiet k g x y ≡ true → is_quiet k g x (y + 1) ≡ true → is_quiet k g x (y + 2) ≡ true
     → is_quiet k g x (y + 3) ≡ true → n < 4 → (coef_at g x (y + n)).bits ≡ 0
@@ -48,7 +41,7 @@ run_quiet k g x y n h l =
     let b = is_quiet k g x (y + 1) in
     let c = is_quiet k g x (y + 2) in
     let d = is_quiet k g x (y + 3) in
-    let abc = and_left (p && a && b && c) d h in
-    let ab = and_left (p && a && b) c abc in
-    let pa = and_left (p && a) b ab in
-    at_number k g x y n (and_right p a pa) (and_right (p && a) b ab) (and_right (p && a && b) c abc) (and_right (p && a && b && c) d h) l
+    let abc = (and_parts (p && a && b && c) d h).0 in
+    let ab = (and_parts (p && a && b) c abc).0 in
+    let pa = (and_parts (p && a) b ab).0 in
+    at_number k g x y n ((and_parts p a pa).1) ((and_parts (p && a) b ab).1) ((and_parts (p && a && b) c abc).1) ((and_parts (p && a && b && c) d h).1) l

@@ -3,7 +3,7 @@
 use Rattle.std.proofs.Common.{◌≡◌, ◌≢◌, ℕ, zero, suc, ◌+◌, ◌-◌, ◌*◌, ◌^◌, ◌<◌, ◌≤◌, ◌==◌, nat_lt, min, Bool, true, false, ◌||◌, List, [], ◌∷◌, ◌++◌, length, take, drop, map, get_or, replicate, refl, sym, ap, ◌∙◌, subst, cond, arith, append_assoc, length-append, length-drop, length-take, get_or-set_same, inl, inr}
 use Rattle.std.specs.Bool.{MatchBool}
 use Rattle.std.proofs.lemmas.Bool.Decides.{nat_tests}
-use Rattle.std.proofs.lemmas.Bool.{cases_lt}
+use Rattle.std.proofs.lemmas.Bool.{cases_eq, cases_lt, or_parts}
 use Rattle.std.proofs.lemmas.List.{get_or-map, length-map, get_or_past, length-replicate}
 use Rattle.jx_tagtree.specs.Shape.{IsShape}
 use Rattle.jx_tagtree.specs.Leaves.{least_leaf}
@@ -19,7 +19,7 @@ use Rattle.jx_head.specs.Written.{Leafed, first_layer, zero_leaf, first_leaves, 
 use Rattle.jx_head.specs.Writable.{no_leaf, leaf_at, SameSize}
 use Rattle.jx_head.specs.LeavesFit.{LeavesFit, FitsLeaf, FitBand, FitBands, AllShort, InTypes, parts_at, header_at, IsPlan}
 use Rattle.jx_head.specs.ReadBack.{IsOneReading}
-use Rattle.jx_head.proofs.BandLemmas.{block_of, entry_agrees, entry_size, entry_kept, same_or}
+use Rattle.jx_head.proofs.BandLemmas.{block_of, entry_agrees, entry_size, entry_kept}
 use Rattle.jx_head.proofs.FreshLemmas.{fresh_is, unknown_at, some_cells}
 use Rattle.jx_head.proofs.PacketLemmas.{stands_there, one_header}
 use Rattle.jx_head.proofs.WriteLemmas.{entry_next, entries_end, behind_same, other_same, no_size}
@@ -89,7 +89,7 @@ going_next v style layers layer base at cells leaves lt small g =
       agree = entry_agrees v layer at cells e (block_of cells at g.trees inside) g.agree;
       values = subst (λ (n : ℕ). AreLeafValues layers n v leaves) (sym size.planes) g.values;
       fits = subst (λ (n : ℕ). (i : ℕ) → i < length leaves → IsFit style layers n (base + i) (leaf_at leaves i)) (sym size.planes) g.fits;
-      done = λ i lt'. elim (same_or i at) [
+      done = λ i lt'. elim (cases_eq i at) [
         | inl is ↦ subst (λ (n : ℕ). IsTold (layer + 1) (block_at (entry_after v layer at cells e) n) (leaf_at leaves n)) (sym is)
             (known_here v style layers layer (base + at) at cells (leaf_at leaves at) inside (zero_here v style layers layer base at cells leaves lt g) (g.fits at lt) (g.due at (omega arith) lt))
         | inr ne ↦ subst (λ (k : Known). IsTold (layer + 1) k (leaf_at leaves i)) (sym (other_same v layer at i cells e ne)) (g.done i (below i at lt' ne))
@@ -263,26 +263,22 @@ bands_agree style layers layer base (cells ∷ bands) leaves few small b =
     }
 
 -- ---- a layer in which no block contributes
-or_false : (a b : Bool) → (a || b) ≡ false → (a ≡ false) × (b ≡ false)
-or_false true b e = absurd cc
-or_false false b e = (refl, e)
-
 some_none : (layer : ℕ) (leaves : List Leafed) (i : ℕ) → some_in layer leaves ≡ false → passes_of (parts_in layer (leaf_at leaves i).parts) ≡ 0
 some_none layer [] i e = refl
-some_none layer (l ∷ ls) zero e = let o = (or_false (nat_lt 0 (passes_of (parts_in layer l.parts))) (some_in layer ls) e).0 in grind (arith, nat_tests)
-some_none layer (l ∷ ls) (suc i) e = some_none layer ls i (or_false (nat_lt 0 (passes_of (parts_in layer l.parts))) (some_in layer ls) e).1
+some_none layer (l ∷ ls) zero e = let o = (or_parts (nat_lt 0 (passes_of (parts_in layer l.parts))) (some_in layer ls) e).0 in grind (arith, nat_tests)
+some_none layer (l ∷ ls) (suc i) e = some_none layer ls i (or_parts (nat_lt 0 (passes_of (parts_in layer l.parts))) (some_in layer ls) e).1
 
 some_take : (layer n : ℕ) (leaves : List Leafed) → some_in layer leaves ≡ false → some_in layer (take n leaves) ≡ false
 some_take layer zero leaves e = refl
 some_take layer (suc n) [] e = refl
 some_take layer (suc n) (l ∷ ls) e =
-    let o = or_false (nat_lt 0 (passes_of (parts_in layer l.parts))) (some_in layer ls) e in
+    let o = or_parts (nat_lt 0 (passes_of (parts_in layer l.parts))) (some_in layer ls) e in
     ap (λ (b : Bool). b || some_in layer (take n ls)) o.0 ∙ some_take layer n ls o.1
 
 some_drop : (layer n : ℕ) (leaves : List Leafed) → some_in layer leaves ≡ false → some_in layer (drop n leaves) ≡ false
 some_drop layer zero leaves e = e
 some_drop layer (suc n) [] e = refl
-some_drop layer (suc n) (l ∷ ls) e = some_drop layer n ls (or_false (nat_lt 0 (passes_of (parts_in layer l.parts))) (some_in layer ls) e).1
+some_drop layer (suc n) (l ∷ ls) e = some_drop layer n ls (or_parts (nat_lt 0 (passes_of (parts_in layer l.parts))) (some_in layer ls) e).1
 
 parts_none : (layer : ℕ) (leaves : List Leafed) → ((i : ℕ) → i < length leaves → parts_in layer (leaf_at leaves i).parts ≡ []) → parts_at layer leaves ≡ []
 parts_none layer [] each = refl

@@ -1,8 +1,8 @@
 -- Queries of tag trees, read without their values.
 use Rattle.std.proofs.Common.{◌≡◌, ℕ, zero, suc, ◌+◌, ◌-◌, ◌<◌, ◌≤◌, min, nat_lt, Bool, true, false, ◌&&◌, List, [], ◌∷◌, ◌++◌, length, refl, sym, ap, ◌∙◌, subst, cond, arith, append_assoc, length-append, Some, None, Ok, Err, Result}
 use Rattle.std.specs.Prelude.{Option, option_map, option_and_then}
-use Rattle.std.proofs.lemmas.Bool.Decides.{nat_tests}
 use Rattle.std.proofs.lemmas.List.{append-nil}
+use Rattle.std.proofs.lemmas.Bool.{ltb-false, ltb-true}
 use Rattle.jx_tagtree.specs.declared.BitFault.{BitFault}
 use Rattle.jx_tagtree.specs.declared.node.Node.{Node}
 use Rattle.jx_tagtree.specs.Header.{Reading, to_come, advance, Took}
@@ -152,18 +152,6 @@ bit_frame from to b e same = took_frame from to (b ∷ [], e, same)
 abbrev pub zeros_is : ℕ → Tree → List Bool → Zeros
 zeros_is z tree rest = record { zeros = z; tree = tree; rest = rest }
 
-nat_lt-true : (a b : ℕ) → a < b → nat_lt a b ≡ true
-nat_lt-true a b h = grind (arith, nat_tests)
-
-nat_lt-false : (a b : ℕ) → b ≤ a → nat_lt a b ≡ false
-nat_lt-false a b h = grind (arith, nat_tests)
-
-lt-of : (a b : ℕ) → nat_lt a b ≡ true → a < b
-lt-of a b h = grind (arith, nat_tests)
-
-le-of : (a b : ℕ) → nat_lt a b ≡ false → b ≤ a
-le-of a b h = grind (arith, nat_tests)
-
 -- how many questions are left where n are known not to be below
 abbrev left : ℕ → ℕ → ℕ → ℕ
 left more m n = min more (m + 1 - n)
@@ -203,14 +191,14 @@ zeros_made values leaf (suc more) n tree rest l v le =
         choose leaf n more (asked_is b (tree_after values tree leaf (n + 1)) (all_bits values (tree_after values tree leaf (n + 1)) (asked leaf (n + 1) (left more (values leaf) (n + 1))) ++ rest))
         ≡ Some (zeros_is (min (values leaf) (n + suc more)) (after_all values (tree_after values tree leaf (n + 1)) (asked leaf (n + 1) (left more (values leaf) (n + 1)))) rest)
     by again true e =
-        let lt : values leaf < n + 1 = lt-of (values leaf) (n + 1) e in
+        let lt : values leaf < n + 1 = ltb-true (values leaf) (n + 1) e in
         let none : left more (values leaf) (n + 1) ≡ 0 = omega arith in
         let z : n ≡ min (values leaf) (n + suc more) = omega arith in
         ap (λ (j : ℕ). Some (zeros_is n (tree_after values tree leaf (n + 1)) (all_bits values (tree_after values tree leaf (n + 1)) (asked leaf (n + 1) j) ++ rest))) none
         ∙ ap (λ (k : ℕ). Some (zeros_is k (tree_after values tree leaf (n + 1)) rest)) z
         ∙ ap (λ (j : ℕ). Some (zeros_is (min (values leaf) (n + suc more)) (after_all values (tree_after values tree leaf (n + 1)) (asked leaf (n + 1) j)) rest)) (sym none)
     by again false e =
-        let ge : n + 1 ≤ values leaf = le-of (values leaf) (n + 1) e in
+        let ge : n + 1 ≤ values leaf = ltb-false (values leaf) (n + 1) e in
         let z : min (values leaf) (n + 1 + more) ≡ min (values leaf) (n + suc more) = omega arith in
         again ge ∙ ap (λ (k : ℕ). Some (zeros_is k (after_all values (tree_after values tree leaf (n + 1)) (asked leaf (n + 1) (left more (values leaf) (n + 1)))) rest)) z
 
@@ -262,7 +250,7 @@ zeros_go values leaf (suc more) n tree bits z l h v =
         subst (λ (x : Zeros). ZerosGo values leaf (suc more) n tree bits x) is (record {
           before = r.before;
           read = λ le. (
-              let lt : values leaf < n + 1 = lt-of (values leaf) (n + 1) (sym r.below_is ∙ e) in
+              let lt : values leaf < n + 1 = ltb-true (values leaf) (n + 1) (sym r.below_is ∙ e) in
               let one : left (suc more) (values leaf) n ≡ 1 = omega arith in
               record {
                 zeros_are = omega arith;
@@ -277,7 +265,7 @@ zeros_go values leaf (suc more) n tree bits z l h v =
     more_go : (a : Asked) → ask tree leaf (n + 1) bits ≡ Some a → a.below ≡ false → ZerosGo values leaf more (n + 1) a.tree a.rest z → ZerosGo values leaf (suc more) n tree bits z
     more_go a eq e g =
         let r = ask_read tree leaf (n + 1) l values bits a eq g.before in
-        let ge : n + 1 ≤ values leaf = le-of (values leaf) (n + 1) (sym r.below_is ∙ e) in
+        let ge : n + 1 ≤ values leaf = ltb-false (values leaf) (n + 1) (sym r.below_is ∙ e) in
         let s : ZerosRead values leaf more (n + 1) a.tree a.rest z = g.read ge in
         let zs : z.zeros ≡ min (values leaf) (n + 1 + more) = s.zeros_are in
         let k = left more (values leaf) (n + 1) in

@@ -2,7 +2,7 @@
 use Rattle.std.proofs.Common.{◌≡◌, ℕ, zero, suc, ◌+◌, ◌-◌, ◌*◌, ◌<◌, ◌≤◌, ◌^◌, min, nat_le, Bool, true, false, List, [], ◌∷◌, ◌++◌, length, refl, sym, ap, ◌∙◌, subst, cond, arith, append_assoc, Some, None, Ok, Err, Result, inl, inr, ◌⊎◌, length-set, length-append, get_or, set, ◌≢◌, get_or-set_same, get_or-set_other}
 use Rattle.std.specs.Prelude.{Option}
 use Rattle.std.specs.Bool.{MatchBool}
-use Rattle.std.proofs.lemmas.Bool.{cases_lt}
+use Rattle.std.proofs.lemmas.Bool.{cases_eq, cases_lt, leb-false, leb-true}
 use Rattle.std.proofs.lemmas.List.{set_past, get_or_default, append-nil}
 use Rattle.jx_base.specs.Passes.{end_pass}
 use Rattle.jx_tagtree.specs.Header.{low_bits}
@@ -23,7 +23,7 @@ use Rattle.jx_head.specs.Packet.{Cells, Values, Agree, Entry, nothing, contribut
 use Rattle.jx_head.specs.Kept.{AreTrees, IsLeafOf, IsKnown, IsBand, IsSilent}
 use Rattle.jx_head.specs.Scan.{Found, or_bits, and_then, Asked, scan_first, Zeros, scan_zeros, scan_entry, Told, told_of, and_told, scan_included, scan_block, AllTold, after_told, and_parts, scan_blocks, scan_band, BandsRead, after_band, and_band, scan_bands}
 use Rattle.jx_head.proofs.AskLemmas.{asked_is, ask_past, after_leaf, after_agrees}
-use Rattle.jx_head.proofs.BlockLemmas.{IsBlockOf, told_is, on_zeros, on_first, first_leaf, first_agrees, zero_leaf, zero_read, below_counted, reaches_counted, counted, entry_breaks, TooMany, block_made, block_over, BlockRead, block_read, FirstRead, first_read, le-is, lt-is}
+use Rattle.jx_head.proofs.BlockLemmas.{IsBlockOf, told_is, on_zeros, on_first, first_leaf, first_agrees, zero_leaf, zero_read, below_counted, reaches_counted, counted, entry_breaks, TooMany, block_made, block_over, BlockRead, block_read, FirstRead, first_read}
 
 -- ---- trees stay trees
 asked_agree : (values : ℕ → ℕ) (leaf n more : ℕ) (tree : Tree) → IsLeafOf tree leaf → ValuesOf tree values → ValuesOf (after_all values tree (asked leaf n more)) values
@@ -225,11 +225,11 @@ block_breaks style layer block leaf cells bits b h = by (scan_first (block_at ce
         scan_zeros (block_at cells leaf).zero cells.zeros leaf cells.planes s.rest ≡ Some z → (c : Bool) → nat_le cells.planes z.zeros ≡ c →
         cond c (Err Planes) (and_told (told_of (record cells { first = s.tree; zeros = z.tree }) leaf z.zeros) (scan_entry style block cells.planes z.zeros (block_at cells leaf) z.rest)) ≡ Err Planes →
         SomeBreak layer leaf cells bits
-    over s eq e z was true c h = whole s eq e z was (λ v a. inl (reach s z was (le-is cells.planes z.zeros c) v a))
+    over s eq e z was true c h = whole s eq e z was (λ v a. inl (reach s z was (leb-true cells.planes z.zeros c) v a))
     over s eq e z was false c h =
         let i = inner style cells.planes z.zeros (block_at cells leaf) (told_of (record cells { first = s.tree; zeros = z.tree }) leaf z.zeros) z.rest (scan_entry style block cells.planes z.zeros (block_at cells leaf) z.rest) h in
         let m = entry_breaks style block cells.planes z.zeros (block_at cells leaf) z.rest i in
-        whole s eq e z was (λ v a. inr (pass s z was (lt-is cells.planes z.zeros c) m v a))
+        whole s eq e z was (λ v a. inr (pass s z was (leb-false cells.planes z.zeros c) m v a))
 
     zeros : (s : Asked) → scan_first (block_at cells leaf).zero cells.first leaf layer bits ≡ Some s → s.below ≡ true → (o : Option Zeros) →
         scan_zeros (block_at cells leaf).zero cells.zeros leaf cells.planes s.rest ≡ o → and_then (or_bits o) (on_zeros style block leaf (record cells { first = s.tree })) ≡ Err Planes →
@@ -624,17 +624,8 @@ known_after style block planes z known e more is few le small =
     let l : known.lblock + e.raise ≤ length (told_bits known.lblock e) = entry_lblock style block planes z known e is in
     record { passes = omega arith; lblock = omega arith }
 
-pub same_or : (i j : ℕ) → (i ≡ j) ⊎ (i ≢ j)
-same_or i j = elim (cases_lt i j) [
-  | inl lt ↦ inr (λ (e : i ≡ j). (let f : i ≡ j = e in omega arith))
-  | inr ge ↦ elim (cases_lt j i) [
-    | inl gt ↦ inr (λ (e : i ≡ j). (let f : i ≡ j = e in omega arith))
-    | inr le ↦ inl (omega arith)
-  ]
-]
-
 blocks_after_set : (cells : Cells) (leaf : ℕ) (known : Known) → ((i : ℕ) → IsKnown (block_at cells i)) → IsKnown known → (i : ℕ) → IsKnown (get_or (set cells.blocks leaf known) i unknown_block)
-blocks_after_set cells leaf known all here i = by (cases_lt leaf (length cells.blocks)) (same_or i leaf)
+blocks_after_set cells leaf known all here i = by (cases_lt leaf (length cells.blocks)) (cases_eq i leaf)
   where
     by : (leaf < length cells.blocks) ⊎ (length cells.blocks ≤ leaf) → (i ≡ leaf) ⊎ (i ≢ leaf) → IsKnown (get_or (set cells.blocks leaf known) i unknown_block)
     by (inl lt) (inl e) = subst (λ (k : Known). IsKnown k) (sym (ap (λ (j : ℕ). get_or (set cells.blocks leaf known) j unknown_block) e ∙ get_or-set_same cells.blocks leaf known unknown_block lt)) here
@@ -684,9 +675,6 @@ block_band style layer block leaf cells bits t b lt small h =
 parts_parts : (ps qs : List Part) (r : Result AllTold HeadFault) → and_parts ps (and_parts qs r) ≡ and_parts (ps ++ qs) r
 parts_parts ps qs (Err e) = refl
 parts_parts ps qs (Ok a) = ap (λ (l : List Part). Ok (all_is l a.cells a.rest)) (sym (append_assoc ps qs a.parts))
-
-pub blocks_start : (ps : List Part) (r : Result AllTold HeadFault) → and_parts ps r ≡ and_parts ps r
-blocks_start ps r = refl
 
 pub blocks_step : (whole : Result AllTold HeadFault) (begun now new : List Part) (style layer base left leaf : ℕ) (cells after : Cells) (bits rest : List Bool) (e : Entry) → 0 < left →
     and_parts begun whole ≡ and_parts now (scan_blocks style layer base left leaf cells bits) → scan_block style layer (base + leaf) leaf cells bits ≡ Ok (told_is e after rest) → new ≡ now ++ e.parts →

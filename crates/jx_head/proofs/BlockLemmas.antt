@@ -2,7 +2,7 @@
 use Rattle.std.proofs.Common.{◌≡◌, ℕ, ◌+◌, ◌-◌, ◌<◌, ◌≤◌, min, nat_lt, nat_le, Bool, true, false, List, [], ◌∷◌, ◌++◌, refl, sym, ap, ◌∙◌, subst, cond, arith, append_assoc, Some, None, Ok, Err, Result, inl, inr, ◌⊎◌}
 use Rattle.std.specs.Prelude.{Option, option_map, option_and_then}
 use Rattle.std.specs.Bool.{MatchBool}
-use Rattle.std.proofs.lemmas.Bool.Decides.{nat_tests}
+use Rattle.std.proofs.lemmas.Bool.{le-leb, le-ltb, leb-false, lt-leb, lt-ltb, ltb-false, ltb-true}
 use Rattle.jx_tagtree.specs.TagTree.{Tree, ValuesOf, tree_after}
 use Rattle.jx_tagtree.specs.Questions.{Question, all_bits, after_all}
 use Rattle.jx_head.specs.declared.Part.{Part}
@@ -120,30 +120,6 @@ zero_leaf None tree leaf planes bits z l h = zeros_leaf leaf planes 0 tree bits 
 zero_leaf (Some n) tree leaf planes bits z l h = let is : zeros_is n tree bits ≡ z = cc in subst (λ (x : Zeros). IsLeafOf x.tree leaf) is l
 
 -- ---- what it has where it is included
-pub nat_lt-false : (a b : ℕ) → b ≤ a → nat_lt a b ≡ false
-nat_lt-false a b h = grind (arith, nat_tests)
-
-pub nat_lt-true : (a b : ℕ) → a < b → nat_lt a b ≡ true
-nat_lt-true a b h = grind (arith, nat_tests)
-
-pub nat_le-true : (a b : ℕ) → a ≤ b → nat_le a b ≡ true
-nat_le-true a b h = grind (arith, nat_tests)
-
-pub nat_le-false : (a b : ℕ) → b < a → nat_le a b ≡ false
-nat_le-false a b h = grind (arith, nat_tests)
-
-pub lt-of : (a b : ℕ) → nat_lt a b ≡ true → a < b
-lt-of a b h = grind (arith, nat_tests)
-
-pub le-of : (a b : ℕ) → nat_lt a b ≡ false → b ≤ a
-le-of a b h = grind (arith, nat_tests)
-
-pub le-is : (a b : ℕ) → nat_le a b ≡ true → a ≤ b
-le-is a b h = grind (arith, nat_tests)
-
-pub lt-is : (a b : ℕ) → nat_le a b ≡ false → b < a
-lt-is a b h = grind (arith, nat_tests)
-
 -- after the code word of the passes
 abbrev pub on_passes : ℕ → ℕ → ℕ → ℕ → Known → Found ℕ → Result (Found Entry) HeadFault
 on_passes style block planes z known p = cond (nat_lt (most_passes planes z) (known.passes + p.value)) (Err Planes) (or_bits (scan_lengths style block known p.value p.rest))
@@ -167,14 +143,14 @@ entry_made style block planes z known e rest is =
     let behind = raise_word e.raise ++ length_bits (known.lblock + e.raise) e.parts in
     ap (λ (l : List Bool). scan_entry style block planes z known l) (append_assoc (pass_word e.passes) behind rest)
     ∙ ap (λ (o : Option (Found ℕ)). and_then (or_bits o) (on_passes style block planes z known)) (passes_made e.passes (behind ++ rest) is.count)
-    ∙ ap (λ (b : Bool). cond b (Err Planes) (or_bits (scan_lengths style block known e.passes (behind ++ rest)))) (nat_lt-false (most_passes planes z) (known.passes + e.passes) is.few)
+    ∙ ap (λ (b : Bool). cond b (Err Planes) (or_bits (scan_lengths style block known e.passes (behind ++ rest)))) (le-ltb (most_passes planes z) (known.passes + e.passes) is.few)
     ∙ ap or_bits (lengths_made style block known e rest is.parts)
 
 pub entry_over : (style block planes z : ℕ) (known : Known) (n : ℕ) (rest : List Bool) → IsCount n → most_passes planes z < known.passes + n →
     scan_entry style block planes z known (pass_word n ++ rest) ≡ Err Planes
 entry_over style block planes z known n rest is over =
     ap (λ (o : Option (Found ℕ)). and_then (or_bits o) (on_passes style block planes z known)) (passes_made n rest is)
-    ∙ ap (λ (b : Bool). cond b (Err Planes) (or_bits (scan_lengths style block known n rest))) (nat_lt-true (most_passes planes z) (known.passes + n) over)
+    ∙ ap (λ (b : Bool). cond b (Err Planes) (or_bits (scan_lengths style block known n rest))) (lt-ltb (most_passes planes z) (known.passes + n) over)
 
 pub record EntryRead (style block planes z : ℕ) (known : Known) (bits : List Bool) (f : Found Entry) : Type 0 where
   pub is : IsIncluded style block planes z known f.value
@@ -207,7 +183,7 @@ entry_read style block planes z known bits f below h = by (scan_passes bits) ref
     pick : (p : Found ℕ) → PassesRead bits p → (b : Bool) → nat_lt (most_passes planes z) (known.passes + p.value) ≡ b →
         cond b (Err Planes) (or_bits (scan_lengths style block known p.value p.rest)) ≡ Ok f → EntryRead style block planes z known bits f
     pick p r true e h = absurd cc
-    pick p r false e h = more p r (le-of (most_passes planes z) (known.passes + p.value) e) (scan_raise p.rest) refl h
+    pick p r false e h = more p r (ltb-false (most_passes planes z) (known.passes + p.value) e) (scan_raise p.rest) refl h
 
     by : (o : Option (Found ℕ)) → scan_passes bits ≡ o → and_then (or_bits o) (on_passes style block planes z known) ≡ Ok f → EntryRead style block planes z known bits f
     by None eq h = absurd cc
@@ -230,7 +206,7 @@ entry_breaks style block planes z known bits h = by (scan_passes bits) refl h
   where
     pick : (p : Found ℕ) → PassesRead bits p → (b : Bool) → nat_lt (most_passes planes z) (known.passes + p.value) ≡ b →
         cond b (Err Planes) (or_bits (scan_lengths style block known p.value p.rest)) ≡ Err Planes → TooMany planes z known bits
-    pick p r true e h = record { passes = p.value; count = r.count; over = lt-of (most_passes planes z) (known.passes + p.value) e; rest = p.rest; stands = r.bits_are }
+    pick p r true e h = record { passes = p.value; count = r.count; over = ltb-true (most_passes planes z) (known.passes + p.value) e; rest = p.rest; stands = r.bits_are }
     pick p r false e h = absurd (only_bits (scan_lengths style block known p.value p.rest) h)
 
     by : (o : Option (Found ℕ)) → scan_passes bits ≡ o → and_then (or_bits o) (on_passes style block planes z known) ≡ Err Planes → TooMany planes z known bits
@@ -268,7 +244,7 @@ included_made v style block leaf cells e rest l a is =
     ∙ ap (λ (o : Option Zeros). and_then (or_bits o) (on_zeros style block leaf cells)) (zero_made known.zero v.zeros cells.zeros leaf cells.planes (told ++ rest) l a)
     ∙ ap (λ (n : ℕ). on_zeros style block leaf cells (zeros_is n tree (told ++ rest))) same
     ∙ ap (λ (b : Bool). cond b (Err Planes) (and_told (told_of (record cells { zeros = tree }) leaf (zero_planes known.zero v.zeros leaf)) (scan_entry style block cells.planes (zero_planes known.zero v.zeros leaf) known (told ++ rest))))
-    (nat_le-false cells.planes (zero_planes known.zero v.zeros leaf) is.below)
+    (lt-leb cells.planes (zero_planes known.zero v.zeros leaf) is.below)
     ∙ ap (and_told (told_of (record cells { zeros = tree }) leaf (zero_planes known.zero v.zeros leaf))) (entry_made style block cells.planes (zero_planes known.zero v.zeros leaf) known e rest is)
 
 pub block_made : (v : Values) (style layer block leaf : ℕ) (cells : Cells) (e : Entry) (rest : List Bool) → IsBlockOf cells leaf → Agree cells v → IsEntry v style layer block leaf cells e →
@@ -314,7 +290,7 @@ block_over v style layer block leaf cells bits b a breaks =
         ap (λ (q : List Bool). scan_included style block leaf cells' q) r.stands
         ∙ ap (λ (o : Option Zeros). and_then (or_bits o) (on_zeros style block leaf cells')) (zero_made known.zero v.zeros cells.zeros leaf cells.planes r.rest b.in_zeros a.in_zeros)
         ∙ ap (λ (x : Bool). cond x (Err Planes) (and_told (told_of (record cells' { zeros = zs.tree }) leaf zs.zeros) (scan_entry style block cells.planes zs.zeros known zs.rest)))
-        (nat_le-true cells.planes z (counted_reaches known.zero v.zeros leaf cells.planes r.reach))
+        (le-leb cells.planes z (counted_reaches known.zero v.zeros leaf cells.planes r.reach))
 
     pass : PassesPlanes v leaf cells breaks.behind → scan_included style block leaf (record cells { first = first_after (block_at cells leaf).zero v.first cells.first leaf layer }) breaks.behind ≡ Err Planes
     pass r =
@@ -326,7 +302,7 @@ block_over v style layer block leaf cells bits b a breaks =
         ap (λ (q : List Bool). scan_included style block leaf cells' q) r.stands
         ∙ ap (λ (o : Option Zeros). and_then (or_bits o) (on_zeros style block leaf cells')) (zero_made known.zero v.zeros cells.zeros leaf cells.planes behind b.in_zeros a.in_zeros)
         ∙ ap (λ (n : ℕ). on_zeros style block leaf cells' (zeros_is n tree behind)) (counted_below known.zero v.zeros leaf cells.planes r.below)
-        ∙ ap (λ (x : Bool). cond x (Err Planes) (and_told (told_of (record cells' { zeros = tree }) leaf z) (scan_entry style block cells.planes z known behind))) (nat_le-false cells.planes z r.below)
+        ∙ ap (λ (x : Bool). cond x (Err Planes) (and_told (told_of (record cells' { zeros = tree }) leaf z) (scan_entry style block cells.planes z known behind))) (lt-leb cells.planes z r.below)
         ∙ ap (and_told (told_of (record cells' { zeros = tree }) leaf z)) (entry_over style block cells.planes z known r.passes r.rest r.count r.over)
 
     by : ReachesPlanes v leaf cells breaks.behind ⊎ PassesPlanes v leaf cells breaks.behind →
@@ -380,7 +356,7 @@ included_read v style block leaf cells bits t l h a = by (scan_zeros (block_at c
         cond b (Err Planes) (and_told (told_of (record cells { zeros = z.tree }) leaf z.zeros) (scan_entry style block cells.planes z.zeros (block_at cells leaf) z.rest)) ≡ Ok t →
         IncludedRead v style block leaf cells bits t
     pick z eq true e h = absurd cc
-    pick z eq false e h = last z eq (lt-is cells.planes z.zeros e) (scan_entry style block cells.planes z.zeros (block_at cells leaf) z.rest) refl h
+    pick z eq false e h = last z eq (leb-false cells.planes z.zeros e) (scan_entry style block cells.planes z.zeros (block_at cells leaf) z.rest) refl h
 
     by : (o : Option Zeros) → scan_zeros (block_at cells leaf).zero cells.zeros leaf cells.planes bits ≡ o → and_then (or_bits o) (on_zeros style block leaf cells) ≡ Ok t →
         IncludedRead v style block leaf cells bits t
@@ -400,7 +376,7 @@ block_read v style layer block leaf cells bits t b h a = by (scan_first (block_a
         let i : IncludedRead v style block leaf (record cells { first = s.tree }) s.rest t = included_read v style block leaf (record cells { first = s.tree }) s.rest t b.in_zeros h a.in_zeros in
         let in_first : ValuesOf s.tree v.first = subst (λ (x : Tree). ValuesOf x v.first) i.first_is a.in_first in
         let r = first_read (block_at cells leaf).zero v.first cells.first leaf layer bits s b.in_first eq in_first in
-        let c : contributes t.entry ≡ true = nat_lt-true 0 t.entry.passes (i.is.count.some) in
+        let c : contributes t.entry ≡ true = lt-ltb 0 t.entry.passes (i.is.count.some) in
         let below : s.below ≡ contributes t.entry = e ∙ sym c in
         let known = block_at cells leaf in
         let body = included_bits v leaf cells t.entry in

@@ -1,5 +1,5 @@
 -- Where there are bits enough a tag tree's queries find theirs.
-use Rattle.std.proofs.Common.{◌≡◌, ℕ, zero, suc, ◌+◌, ◌-◌, ◌*◌, ◌≤◌, max, Bool, true, false, List, [], ◌∷◌, length, refl, sym, ap, ◌∙◌, subst, cond, arith, Some}
+use Rattle.std.proofs.Common.{◌≡◌, ℕ, zero, suc, ◌+◌, ◌-◌, ◌*◌, ◌≤◌, max, Bool, true, false, List, [], ◌∷◌, length, refl, sym, ap, ◌∙◌, subst, cond, arith, Some, mul-le-mul_left}
 use Rattle.std.specs.Prelude.{Option, option_map, option_and_then}
 use Rattle.jx_tagtree.specs.declared.node.Node.{Node}
 use Rattle.jx_tagtree.specs.Shape.{way}
@@ -87,16 +87,12 @@ ask_long tree leaf t most bits few le =
     }
 
 -- ---- zero planes
-mul_up : (k a b : ℕ) → a ≤ b → k * a ≤ k * b
-mul_up zero a b le = omega arith
-mul_up (suc k) a b le = let i : k * a ≤ k * b = mul_up k a b le in omega arith
-
 pub zeros_long : (leaf top most more n steps : ℕ) (tree : Tree) (bits : List Bool) → length (way tree.wide tree.high leaf) ≡ steps → steps * top ≤ most → n + more ≤ top → more * most ≤ length bits →
     (z : Zeros) × (scan_more_zeros tree leaf n more bits ≡ Some z)
 zeros_long leaf top most zero n steps tree bits e few le enough = (record { zeros = n; tree = tree; rest = bits }, refl)
 zeros_long leaf top most (suc more) n steps tree bits e few le enough =
     let whole : most + more * most ≤ length bits = omega arith in
-    let up : steps * (n + 1) ≤ steps * top = mul_up steps (n + 1) top (omega arith) in
+    let up : steps * (n + 1) ≤ steps * top = mul-le-mul_left steps (omega arith) in
     let fit : steps * (n + 1) ≤ most = omega arith in
     let a = ask_long tree leaf (n + 1) most bits (subst (λ (k : ℕ). k * (n + 1) ≤ most) (sym e) fit) (omega arith) in
     let l : length bits ≤ most + length a.found.rest = a.long in

@@ -1,5 +1,5 @@
 -- The layers to which some block contributes, noted block by block.
-use Rattle.std.proofs.Common.{◌≡◌, ℕ, ◌+◌, ◌<◌, ◌≤◌, ◌||◌, nat_lt, Bool, true, false, List, ◌∷◌, length, get_or, drop, replicate, map, refl, sym, ap, ◌∙◌, subst, add-one}
+use Rattle.std.proofs.Common.{◌≡◌, ℕ, ◌+◌, ◌<◌, ◌≤◌, ◌||◌, nat_lt, Bool, false, List, ◌∷◌, length, get_or, drop, replicate, map, sym, ap, ◌∙◌, subst, add-one}
 use Rattle.std.proofs.Math.Bool.{or_assoc}
 use Rattle.std.proofs.Math.ListN.{drop_of_length-le}
 use Rattle.std.proofs.Math.Seq.{drop-cons}
@@ -8,10 +8,7 @@ use Rattle.jx_head.specs.declared.Leaf.{Leaf}
 use Rattle.jx_head.specs.declared.Part.{Part}
 use Rattle.jx_head.specs.Leafs.{leaf_of}
 use Rattle.jx_head.specs.Written.{parts_in, passes_of, some_in}
-
-or_none : (b : Bool) → (b || false) ≡ b
-or_none true = refl
-or_none false = refl
+use Rattle.jx_base.proofs.Tests.{or_false}
 
 -- none is noted at first
 pub noted_none : (layers layer : ℕ) (some : List Bool) (all : Bool) → some ≡ replicate layers false → layer < layers → (get_or some layer false || all) ≡ all
@@ -34,4 +31,4 @@ noted_next layer i leaves leaf parts before after all lt is same e h =
 -- all are
 pub noted_all : (layer i : ℕ) (leaves : List Leaf) (before all : Bool) → length leaves ≤ i → (before || some_in layer (map leaf_of (drop i leaves))) ≡ all → before ≡ all
 noted_all layer i leaves before all done h =
-    sym (or_none before) ∙ (sym (ap (λ (list : List Leaf). before || some_in layer (map leaf_of list)) (drop_of_length-le leaves done)) ∙ h)
+    sym (or_false before) ∙ (sym (ap (λ (list : List Leaf). before || some_in layer (map leaf_of list)) (drop_of_length-le leaves done)) ∙ h)

@@ -1,5 +1,5 @@
 -- The bands of a precinct that is written.
-use Rattle.std.proofs.Common.{◌≡◌, ℕ, zero, suc, ◌+◌, ◌-◌, ◌*◌, ◌^◌, ◌<◌, ◌≤◌, ◌==◌, nat_le, min, Bool, true, false, List, [], ◌∷◌, ◌++◌, length, take, drop, map, replicate, get_or, set, refl, sym, ap, ◌∙◌, subst, cond, arith, append_assoc, length-set, length-append, length-drop, length-take, inl, inr}
+use Rattle.std.proofs.Common.{◌≡◌, ℕ, zero, suc, ◌+◌, ◌-◌, ◌*◌, ◌^◌, ◌<◌, ◌≤◌, ◌==◌, nat_le, min, Bool, true, false, List, [], ◌∷◌, ◌++◌, length, take, drop, map, replicate, get_or, set, refl, sym, ap, ◌∙◌, subst, cond, arith, append_assoc, length-set, length-append, length-drop, length-take, inl, inr, drop-drop}
 use Rattle.std.proofs.lemmas.List.{append-nil, take_all, drop_all, take-map, drop-map, length-replicate, get_or_default, get_or-replicate, get_or_past, drop-append-le, take-append-le}
 use Rattle.std.proofs.Math.Seq.{drop-append_seam, get_or-append_seam}
 use Rattle.std.proofs.Math.ListN.{get_or-append}
@@ -19,7 +19,7 @@ use Rattle.jx_head.specs.LeavesFit.{LeavesFit, LeavesInRange, FitsLeaf, FitBand,
 use Rattle.jx_head.proofs.CursorLemmas.{cursor_more}
 use Rattle.jx_head.proofs.FreshLemmas.{some_cells, unknown_at}
 use Rattle.jx_head.proofs.WriteLemmas.{due_split}
-use Rattle.jx_head.specs.Writable.{IsDue, IsWrites, BandsDone, AreDue, tolds_of, head_of, heads_of, AreFirst, AllFew, AllBytes, HeaderDone, AreMade, leaf_at, all_passes, passes_from}
+use Rattle.jx_head.specs.Writable.{IsDue, IsWrites, AreDue, tolds_of, head_of, heads_of, AreFirst, AllFew, AllBytes, HeaderDone, AreMade, leaf_at, all_passes, passes_from}
 
 -- ---- a list at a place
 pub record Place (A : Type 0) (xs : List A) (at : ℕ) (y x : A) : Type 0 where
@@ -49,20 +49,11 @@ unfolding blocks_of
 blocks_of-snoc [] w = omega arith
 blocks_of-snoc (x ∷ xs) w = let i : blocks_of (xs ++ w ∷ []) ≡ blocks_of xs + length w.blocks = blocks_of-snoc xs w in omega arith
 
-drop_nil : {A : Type 0} (n : ℕ) → drop {A = A} n [] ≡ []
-drop_nil zero = refl
-drop_nil (suc n) = refl
-
-drop_drop : {A : Type 0} (n m : ℕ) (xs : List A) → drop n (drop m xs) ≡ drop (m + n) xs
-drop_drop n zero xs = let e : n ≡ 0 + n = omega arith in ap (λ (k : ℕ). drop k xs) e
-drop_drop {A} n (suc m) [] = drop_nil {A = A} n ∙ sym (drop_nil {A = A} (suc m + n))
-drop_drop n (suc m) (x ∷ xs) = drop_drop n m xs ∙ (let e : suc (m + n) ≡ suc m + n = omega arith in ap (λ (k : ℕ). drop k (x ∷ xs)) e)
-
 due_snoc : (layer : ℕ) (ws : List Writes) (w : Writes) (leaves : List Leafed) → AreDue layer ws leaves → IsWrites layer (take (length w.blocks) (drop (blocks_of ws) leaves)) w → AreDue layer (ws ++ w ∷ []) leaves
 unfolding blocks_of
 due_snoc layer [] w leaves d i = (i, tt)
 due_snoc layer (x ∷ xs) w leaves d i =
-    (d.0, due_snoc layer xs w (drop (length x.blocks) leaves) d.1 (subst (λ (l : List Leafed). IsWrites layer (take (length w.blocks) l) w) (sym (drop_drop (blocks_of xs) (length x.blocks) leaves)) i))
+    (d.0, due_snoc layer xs w (drop (length x.blocks) leaves) d.1 (subst (λ (l : List Leafed). IsWrites layer (take (length w.blocks) l) w) (sym (drop-drop (blocks_of xs) (length x.blocks) leaves)) i))
 
 heads_set : (ws : List Writes) (at : ℕ) (y x : Writes) → at < length ws → x ≡ get_or ws at x → head_of y ≡ head_of x → heads_of (set ws at y) ≡ heads_of ws
 heads_set [] at y x lt e h = absurd (omega arith)
@@ -100,7 +91,7 @@ bands_next layer at base next_base leaves start ws begun bits next x y l lt is i
     let others = drop n mine in
     let told : BandTold = record { values = values_of x; entries = entries_written layer x.blocks (take n mine) } in
     let tolds = tolds_of layer behind others in
-    let left : drop next_base leaves ≡ others = ap (λ (k : ℕ). drop k leaves) base' ∙ sym (drop_drop n base leaves) in
+    let left : drop next_base leaves ≡ others = ap (λ (k : ℕ). drop k leaves) base' ∙ sym (drop-drop n base leaves) in
     let bits1 = band_bits layer (cells_of x) told in
     let due_now : AreDue layer (x ∷ behind) mine = subst (λ (q : List Writes). AreDue layer q mine) p.here l.due in
     let same_base : base ≡ blocks_of (take at ws) = l.base_is in
@@ -131,19 +122,6 @@ bands_due layer at base leaves start ws begun bits x l lt is =
     let p = place ws at x x lt is in
     let d : AreDue layer (x ∷ drop (at + 1) ws) (drop base leaves) = subst (λ (q : List Writes). AreDue layer q (drop base leaves)) p.here l.due in
     d.0
-
--- when each band was written
-pub bands_end : (layer at base : ℕ) (leaves : List Leafed) (start ws : List Writes) (begun bits : List Bool) → length ws ≤ at → BandsLoop layer at base leaves start ws begun bits → BandsDone layer leaves start ws begun bits
-bands_end layer at base leaves start ws begun bits ge l =
-    let none = drop_all at ws ge in
-    let whole = take_all at ws ge in
-    record {
-      bits_are = sym (append-nil bits) ∙ ap (λ (q : List Writes). bits ++ bands_bits layer (map cells_of q) (tolds_of layer q (drop base leaves))) (sym none) ∙ l.bits_are;
-      after_are = sym (append-nil (map cells_of ws)) ∙ ap (λ (q : List Writes). map cells_of q ++ []) (sym whole)
-          ∙ ap (λ (q : List Writes). map cells_of (take at ws) ++ bands_after layer (map cells_of q) (tolds_of layer q (drop base leaves))) (sym none) ∙ l.after_are;
-      due = subst (λ (q : List Writes). AreDue (layer + 1) q leaves) whole l.done;
-      heads = l.heads;
-    }
 
 -- the leaves of a part of the blocks
 pub part_leaves : (leaves : List Leaf) (base n m : ℕ) → m ≡ n → map leaf_of (take m (drop base leaves)) ≡ take n (drop base (map leaf_of leaves))
@@ -275,35 +253,10 @@ first_snoc : (layers : ℕ) (ws : List Writes) (w : Writes) (leaves : List Leafe
 unfolding blocks_of
 first_snoc layers [] w leaves f e = (e, tt)
 first_snoc layers (x ∷ xs) w leaves f e =
-    (f.0, first_snoc layers xs w (drop (length x.blocks) leaves) f.1 (e ∙ ap (λ (l : List Leafed). first_leaves layers (take (length w.blocks) l)) (sym (drop_drop (blocks_of xs) (length x.blocks) leaves))))
+    (f.0, first_snoc layers xs w (drop (length x.blocks) leaves) f.1 (e ∙ ap (λ (l : List Leafed). first_leaves layers (take (length w.blocks) l)) (sym (drop-drop (blocks_of xs) (length x.blocks) leaves))))
 
 drop_get : (bands : List BandCells) (at : ℕ) (d : BandCells) → at < length bands → drop at bands ≡ get_or bands at d ∷ drop (at + 1) bands
 drop_get bands at d lt = (place bands at (get_or bands at d) (get_or bands at d) lt (get_or_default bands at d (get_or bands at d) lt)).here
-
-pub making_room : (layers at base : ℕ) (bands : List BandCells) (leaves : List Leafed) (made : List Writes) (d : BandCells) → Making layers at base bands leaves made → at < length bands →
-    base + (get_or bands at d).wide * (get_or bands at d).high ≤ length leaves
-making_room layers at base bands leaves made d m lt =
-    let e : cells_in (drop at bands) ≡ (get_or bands at d).wide * (get_or bands at d).high + cells_in (drop (at + 1) bands) = ap cells_in (drop_get bands at d lt) in
-    let l : base + cells_in (drop at bands) ≡ length leaves = m.left in
-    omega arith
-
-pub making_skip : (layers at base : ℕ) (bands : List BandCells) (leaves : List Leafed) (made : List Writes) (d : BandCells) → Making layers at base bands leaves made → at < length bands → (get_or bands at d).wide ≡ 0 →
-    Making layers (at + 1) base bands leaves made
-making_skip layers at base bands leaves made d m lt none =
-    let b = get_or bands at d in
-    let here = drop_get bands at d lt in
-    let zero_area : b.wide * b.high ≡ 0 = ap (λ (n : ℕ). n * b.high) none ∙ (let z : 0 * b.high ≡ 0 = omega arith in z) in
-    let e : cells_in (drop at bands) ≡ b.wide * b.high + cells_in (drop (at + 1) bands) = ap cells_in here in
-    let t : (b.wide == 0) ≡ true = grind (arith, nat_tests) in
-    let l : base + cells_in (drop at bands) ≡ length leaves = m.left in
-    let is : base ≡ blocks_of made = m.base_is in
-    record {
-      cells = ap (λ (l : List Cells). map cells_of made ++ l) (sym (ap fresh_bands here ∙ ap (λ (x : Bool). cond x (fresh_bands (drop (at + 1) bands)) (fresh_cells b ∷ fresh_bands (drop (at + 1) bands))) t)) ∙ m.cells;
-      due = m.due;
-      first = m.first;
-      base_is = omega arith;
-      left = omega arith;
-    }
 
 pub making_next : (layers at base : ℕ) (bands : List BandCells) (leaves : List Leafed) (made : List Writes) (y : Writes) (d : BandCells) → Making layers at base bands leaves made → at < length bands → IsBandCells (get_or bands at d) →
     0 < (get_or bands at d).wide → (get_or bands at d).wide * (get_or bands at d).high ≤ 2 ^ 20 → AllFew leaves → AllBytes leaves →
@@ -360,16 +313,6 @@ header_empty layer leaves ws bits bytes d none is e = record {
   after_are = ap (λ (b : Bool). cond b (bands_after layer (map cells_of ws) (tolds_of layer ws leaves)) (map cells_of ws)) (sym none);
   due = due_empty layer ws leaves d;
   heads = refl;
-}
-
-pub header_some : (layer : ℕ) (leaves : List Leafed) (start ws : List Writes) (first bits : List Bool) (bytes : List ℕ) → some_in layer leaves ≡ true → first ≡ true ∷ [] → BandsDone layer leaves start ws first bits → bytes ≡ bytes_of bits →
-    HeaderDone layer leaves start ws bytes
-header_some layer leaves start ws first bits bytes some is d e = record {
-  bytes_are = e ∙ ap bytes_of (d.bits_are ∙ ap (λ (l : List Bool). l ++ bands_bits layer (map cells_of start) (tolds_of layer start leaves)) is
-      ∙ ap (λ (b : Bool). cond b (true ∷ bands_bits layer (map cells_of start) (tolds_of layer start leaves)) (false ∷ [])) (sym some));
-  after_are = d.after_are ∙ ap (λ (b : Bool). cond b (bands_after layer (map cells_of start) (tolds_of layer start leaves)) (map cells_of start)) (sym some);
-  due = d.due;
-  heads = d.heads;
 }
 
 -- ---- what is told of the bands is what is written

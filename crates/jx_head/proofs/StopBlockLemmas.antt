@@ -1,6 +1,7 @@
 -- The same of whole blocks.
 use Rattle.std.proofs.Common.{◌≡◌, ℕ, ◌<◌, nat_le, Bool, true, false, List, ◌++◌, refl, ap, ◌∙◌, subst, cond, Some, None, Ok, Err, Result, inl, inr, ◌⊎◌}
 use Rattle.std.specs.Prelude.{Option}
+use Rattle.std.proofs.lemmas.Bool.{leb-false, lt-leb}
 use Rattle.jx_tagtree.specs.TagTree.{Tree, ValuesOf}
 use Rattle.jx_tagtree.proofs.QuestionLemmas.{known_values}
 use Rattle.jx_head.specs.declared.HeadFault.{HeadFault}
@@ -9,7 +10,7 @@ use Rattle.jx_head.specs.Packet.{Cells, Values, Agree, Entry, nothing, block_at,
 use Rattle.jx_head.specs.Unread.{IsCutOf, ToldStops, Stops}
 use Rattle.jx_head.specs.Scan.{Found, or_bits, and_then, Asked, scan_first, Zeros, scan_zeros, scan_entry, Told, told_of, and_told, scan_included, scan_block}
 use Rattle.jx_head.proofs.AskLemmas.{zeros_is}
-use Rattle.jx_head.proofs.BlockLemmas.{IsBlockOf, told_is, on_zeros, on_first, first_made, first_read, FirstRead, first_leaf, zero_made, zero_read, zero_leaf, counted, counted_below, below_counted, nat_le-false, lt-is}
+use Rattle.jx_head.proofs.BlockLemmas.{IsBlockOf, told_is, on_zeros, on_first, first_made, first_read, FirstRead, first_leaf, zero_made, zero_read, zero_leaf, counted, counted_below, below_counted}
 use Rattle.jx_head.proofs.StopLemmas.{first_none, first_stop, SomeZeros, zero_none, zero_stop, EntryStops, entry_none, entry_stop}
 
 -- ---- where it isn't read it stops, for some values
@@ -57,7 +58,7 @@ included_none style block leaf cells first bits b h = by (scan_zeros (block_at c
     pick z was true c h = absurd (let x : Planes ≡ Bits = cc in cc)
     pick z was false c h =
         let i = inner (told_of (record cells { first = first; zeros = z.tree }) leaf z.zeros) (scan_entry style block cells.planes z.zeros (block_at cells leaf) z.rest) h in
-        told_stops style block leaf cells bits z b was (lt-is cells.planes z.zeros c) (entry_none style block cells.planes z.zeros (block_at cells leaf) z.rest i)
+        told_stops style block leaf cells bits z b was (leb-false cells.planes z.zeros c) (entry_none style block cells.planes z.zeros (block_at cells leaf) z.rest i)
 
     by : (o : Option Zeros) → scan_zeros (block_at cells leaf).zero cells.zeros leaf cells.planes bits ≡ o →
         and_then (or_bits o) (on_zeros style block leaf (record cells { first = first })) ≡ Err Bits → SomeTold style block leaf cells bits
@@ -115,7 +116,7 @@ block_stop v style layer block leaf cells bits b a s = by s
         ap (λ (q : List Bool). scan_included style block leaf cells' q) t.stands
         ∙ ap (λ (o : Option Zeros). and_then (or_bits o) (on_zeros style block leaf cells')) (zero_made known.zero v.zeros cells.zeros leaf cells.planes t.behind b.in_zeros a.in_zeros)
         ∙ ap (λ (n : ℕ). on_zeros style block leaf cells' (zeros_is n tree t.behind)) (counted_below known.zero v.zeros leaf cells.planes t.below)
-        ∙ ap (λ (x : Bool). cond x (Err Planes) (and_told (told_of (record cells' { zeros = tree }) leaf z) (scan_entry style block cells.planes z known t.behind))) (nat_le-false cells.planes z t.below)
+        ∙ ap (λ (x : Bool). cond x (Err Planes) (and_told (told_of (record cells' { zeros = tree }) leaf z) (scan_entry style block cells.planes z known t.behind))) (lt-leb cells.planes z t.below)
         ∙ ap (and_told (told_of (record cells' { zeros = tree }) leaf z)) (entry_stop style block cells.planes z known t.behind t.stops)
 
     behind_first : (behind : List Bool) → IsCutOf (zero_bits (block_at cells leaf).zero v.zeros cells.zeros leaf cells.planes) behind ⊎ ToldStops v style block leaf cells behind →

@@ -2,6 +2,7 @@
 use Rattle.std.proofs.Common.{◌≡◌, ℕ, ◌+◌, ◌*◌, ◌≤◌, nat_lt, Bool, true, false, List, [], ◌∷◌, ◌++◌, length, replicate, refl, sym, ap, ◌∙◌, cond, arith, append_assoc, Some, None, Err, inl, inr, ◌⊎◌}
 use Rattle.std.specs.Prelude.{Option, option_map, option_and_then}
 use Rattle.std.proofs.lemmas.List.{append-nil}
+use Rattle.std.proofs.lemmas.Bool.{le-ltb, ltb-false}
 use Rattle.jx_tagtree.specs.Shape.{way}
 use Rattle.jx_tagtree.specs.TagTree.{Tree, ValuesOf, query}
 use Rattle.jx_tagtree.proofs.QuestionLemmas.{known_values}
@@ -16,7 +17,7 @@ use Rattle.jx_head.specs.Unread.{IsCutOf, PassesStop, HasPasses, RaiseStops, Par
 use Rattle.jx_head.specs.Scan.{Found, or_bits, and_then, scan_passes, scan_raise, scan_parts, Asked, ask, scan_first, Zeros, scan_more_zeros, scan_zeros, entry_of, scan_lengths, scan_entry}
 use Rattle.jx_head.proofs.WordLemmas.{passes_made, passes_read, PassesRead, raise_made, raise_read}
 use Rattle.jx_head.proofs.AskLemmas.{asked_is, ask_made, ask_read, ask_tree, AskRead, zeros_is}
-use Rattle.jx_head.proofs.BlockLemmas.{on_passes, on_raise, first_made, first_read, FirstRead, first_leaf, zero_made, zero_read, ZeroRead, zero_leaf, counted, nat_lt-false, le-of}
+use Rattle.jx_head.proofs.BlockLemmas.{on_passes, on_raise, first_made, first_read, FirstRead, first_leaf, zero_made, zero_read, ZeroRead, zero_leaf, counted}
 use Rattle.jx_head.proofs.FrontLemmas.{front_of, none_left, padded, padded_long, padded_split, passes_none_of, passes_stop, raise_none, raise_stops, parts_none, parts_stop}
 use Rattle.jx_head.proofs.LongLemmas.{AskLong, ask_long, zeros_long}
 
@@ -146,7 +147,7 @@ entry_none style block planes z known bits h = by (scan_passes bits) refl h
     pick : (p : Found ℕ) → PassesRead bits p → (b : Bool) → nat_lt (most_passes planes z) (known.passes + p.value) ≡ b →
         cond b (Err Planes) (or_bits (scan_lengths style block known p.value p.rest)) ≡ Err Bits → EntryStops style block planes z known bits
     pick p r true e h = absurd (let x : Planes ≡ Bits = cc in cc)
-    pick p r false e h = end p r (le-of (most_passes planes z) (known.passes + p.value) e) (scan_raise p.rest) refl h
+    pick p r false e h = end p r (ltb-false (most_passes planes z) (known.passes + p.value) e) (scan_raise p.rest) refl h
 
     by : (o : Option (Found ℕ)) → scan_passes bits ≡ o → and_then (or_bits o) (on_passes style block planes z known) ≡ Err Bits → EntryStops style block planes z known bits
     by None eq h = inl (passes_none_of bits eq)
@@ -159,7 +160,7 @@ entry_stop style block planes z known bits s = by s
     after n behind x =
         ap (λ (l : List Bool). scan_entry style block planes z known l) x.stands
         ∙ ap (λ (o : Option (Found ℕ)). and_then (or_bits o) (on_passes style block planes z known)) (passes_made n behind x.count)
-        ∙ ap (λ (b : Bool). cond b (Err Planes) (or_bits (scan_lengths style block known n behind))) (nat_lt-false (most_passes planes z) (known.passes + n) x.few)
+        ∙ ap (λ (b : Bool). cond b (Err Planes) (or_bits (scan_lengths style block known n behind))) (le-ltb (most_passes planes z) (known.passes + n) x.few)
 
     by : EntryStops style block planes z known bits → scan_entry style block planes z known bits ≡ Err Bits
     by (inl p) = ap (λ (o : Option (Found ℕ)). and_then (or_bits o) (on_passes style block planes z known)) (passes_stop bits p)

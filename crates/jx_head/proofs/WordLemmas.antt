@@ -392,9 +392,6 @@ pub record Taking (width taken value : ℕ) (bits left : List Bool) : Type 0 whe
   pub value_is : value ≡ number_of taken bits
   pub short : value < 2 ^ 32
 
-pub taking_start : (width : ℕ) (bits : List Bool) → Taking width 0 0 bits bits
-taking_start width bits = record { within = omega arith; left_is = refl; there = omega arith; value_is = refl; short = omega arith }
-
 pub taking_bit : (width taken value next : ℕ) (bits left : List Bool) (b : Bool) (rest : List Bool) → Taking width taken value bits left → taken < width → left ≡ b ∷ rest → next ≡ 2 * value + cond b 1 0 →
     (next ≡ number_of (taken + 1) bits) × (next < 2 ^ 32 → Taking width (taken + 1) next bits rest)
 taking_bit width taken value next bits left b rest t lt is e =

@@ -1,7 +1,7 @@
 -- Headers that are written.
 use Rattle.std.proofs.Common.{◌≡◌, ◌≢◌, ℕ, zero, suc, ◌+◌, ◌*◌, ◌^◌, ◌<◌, ◌≤◌, ◌==◌, nat_le, Bool, true, false, List, [], ◌∷◌, ◌++◌, length, drop, map, get_or, set, refl, sym, ap, ◌∙◌, subst, cond, arith, append_assoc, get_or-set_same, get_or-set_other, length-set, inl, inr, ◌⊎◌}
 use Rattle.std.proofs.lemmas.Bool.Decides.{nat_tests}
-use Rattle.std.proofs.lemmas.Bool.{cases_lt}
+use Rattle.std.proofs.lemmas.Bool.{cases_eq, cases_lt}
 use Rattle.std.proofs.lemmas.List.{get_or-map, length-map, get_or_past, append-nil}
 use Rattle.jx_tagtree.specs.Shape.{IsShape}
 use Rattle.jx_tagtree.specs.Leaves.{least_leaf}
@@ -14,7 +14,7 @@ use Rattle.jx_head.specs.Packet.{Cells, Values, Entry, contributes, unknown_bloc
 use Rattle.jx_head.specs.Written.{Leafed, Writes, zero_leaf, zero_leaves, parts_in, passes_of, raise_of, entry_written, entries_written, least_of, cells_of, values_of}
 use Rattle.jx_head.specs.Leafs.{leaf_of}
 use Rattle.jx_head.specs.Writable.{no_leaf, leaf_at, passes_from, IsCursor, IsDue, AreWrites, IsWrites, IsPartly, SameSize}
-use Rattle.jx_head.proofs.BandLemmas.{entry_size, same_or}
+use Rattle.jx_head.proofs.BandLemmas.{entry_size}
 use Rattle.jx_head.proofs.PutLemmas.{same_least, size_le}
 
 -- ---- passes that are due
@@ -102,9 +102,6 @@ behind_same v layer i cells e = by (contributes e)
 pub record Writing (v : Values) (layer i : ℕ) (cells : Cells) (leaves : List Leafed) (bits : List Bool) (begun : List Bool) (start : Cells) : Type 0 where
   pub bits_are : bits ++ blocks_bits v layer i cells (entries_written layer (drop i cells.blocks) (drop i leaves)) ≡ begun ++ blocks_bits v layer 0 start (entries_written layer start.blocks leaves)
   pub after_is : blocks_after v layer i cells (entries_written layer (drop i cells.blocks) (drop i leaves)) ≡ blocks_after v layer 0 start (entries_written layer start.blocks leaves)
-
-pub writing_start : (v : Values) (layer : ℕ) (cells : Cells) (leaves : List Leafed) (bits : List Bool) → Writing v layer 0 cells leaves bits bits cells
-writing_start v layer cells leaves bits = record { bits_are = refl; after_is = refl }
 
 pub writing_next : (v : Values) (layer i : ℕ) (cells after : Cells) (leaves : List Leafed) (bits next begun : List Bool) (start : Cells) → i < length cells.blocks → length leaves ≡ length cells.blocks →
     Writing v layer i cells leaves bits begun start →
@@ -197,7 +194,7 @@ partly_next v layer i m leaves w new lt p first zeros is cursors moved =
     let other : (j : ℕ) → j ≢ i → get_or new.cursors j 0 ≡ get_or w.cursors j 0 = λ (j : ℕ) (ne : j ≢ i). ap (λ (l : List ℕ). get_or l j 0) cursors ∙ get_or-set_other w.cursors i j m 0 ne in
     record {
       are = still_writes leaves new w first zeros size long p.are;
-      done = λ j lt'. elim (same_or j i) [
+      done = λ j lt'. elim (cases_eq j i) [
         | inl e' ↦ subst (λ (n : ℕ). IsDue (layer + 1) (get_or new.blocks n unknown_block) (get_or new.cursors n 0) (leaf_at leaves n)) (sym e')
             (subst (λ (k : Known). IsDue (layer + 1) k (get_or new.cursors i 0) (leaf_at leaves i)) (sym (at i))
             (subst (λ (k : ℕ). IsDue (layer + 1) (block_at (entry_after v layer i (cells_of w) e) i) k (leaf_at leaves i)) (sym here)
@@ -222,9 +219,6 @@ same_size v layer i e new w old is s =
 
 pub no_size : (c : Cells) → SameSize c c
 no_size c = record { wide = refl; high = refl; zeros_wide = refl; zeros_high = refl; long = refl; planes = refl }
-
-pub partly_start : (layer : ℕ) (leaves : List Leafed) (w : Writes) → IsWrites layer leaves w → IsPartly layer 0 leaves w
-partly_start layer leaves w i = record { are = i.are; done = λ j lt. absurd (omega arith); due = λ j ge. i.due j }
 
 -- past the last block there is nothing
 pub partly_end : (layer at : ℕ) (leaves : List Leafed) (w : Writes) → length leaves ≤ at → IsPartly layer at leaves w → IsWrites (layer + 1) leaves w
@@ -255,9 +249,6 @@ pub record Loop (layer at : ℕ) (leaves : List Leafed) (start w : Writes) (begu
   pub first : w.first.leaves ≡ start.first.leaves
   pub zeros : w.zeros.leaves ≡ start.zeros.leaves
   pub size : SameSize (cells_of w) (cells_of start)
-
-pub loop_start : (layer : ℕ) (leaves : List Leafed) (w : Writes) (bits : List Bool) → IsWrites layer leaves w → Loop layer 0 leaves w w bits bits
-loop_start layer leaves w bits i = record { partly = partly_start layer leaves w i; writing = writing_start (values_of w) layer (cells_of w) leaves bits; first = refl; zeros = refl; size = no_size (cells_of w) }
 
 pub loop_values : (layer at : ℕ) (leaves : List Leafed) (start w : Writes) (begun bits : List Bool) → Loop layer at leaves start w begun bits → values_of w ≡ values_of start
 loop_values layer at leaves start w begun bits l = same_values w start l.first l.zeros l.size

@@ -4,12 +4,13 @@
 use Rattle.std.specs.Prelude.{◌≡◌, ℕ, ◌+◌, ◌^◌, ◌<◌, ◌≤◌, Bool, true, List, [], ◌∷◌, ◌++◌, length, replicate, take, slice_index, Err, ◌⊎◌}
 use Rattle.jx_tagtree.specs.declared.BitFault.{BitFault}
 use Rattle.jx_tagtree.specs.declared.BitFault.TheVariants.{Ended}
-use Rattle.jx_tagtree.specs.Header.{low_bits, bits_after, bits_of, last_after, end_after}
+use Rattle.jx_tagtree.specs.Header.{low_bits, bits_after, bits_of, end_after}
 use Rattle.jx_head.specs.declared.Part.{Part}
 use Rattle.jx_head.specs.declared.known.Known.{Known}
 use Rattle.jx_head.specs.Words.{IsCount, pass_word, raise_word}
 use Rattle.jx_head.specs.Parts.{cut, width, AreParts, length_bits}
 use Rattle.jx_head.specs.Packet.{Cells, State, Values, Agree, Entry, block_at, first_bits, IsInclusion, zero_bits, zero_planes, most_passes, blocks_bits, blocks_after, AreEntries, BandStands, Header, header_bits, IsToldOf, IsPacket}
+use Rattle.jx_base.specs.Markers.{last_after}
 
 -- B.10.1: why bits end before the bytes do: n bytes give them all, the last of these is FF, and the bit that is stuffed into the
 -- byte after it is 1.

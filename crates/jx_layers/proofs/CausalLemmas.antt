@@ -72,14 +72,14 @@ broken (Some style) b h keeps = refuted (is_causal style.bits) (is_causal b.styl
 ])
 
 -- ---- all blocks
-none_before : {X : Type 0} (p : X → Bool) (xs : List X) → length xs ≤ position_or_len p xs → All (λ (x : X). p x ≡ false) xs
+pub none_before : {X : Type 0} (p : X → Bool) (xs : List X) → length xs ≤ position_or_len p xs → All (λ (x : X). p x ≡ false) xs
 none_before {X} p [] h = All-nil (λ (x : X). p x ≡ false)
 none_before {X} p (x ∷ xs) h = elim (cases_Bool (p x)) [
   | inl t ↦ absurd (let e = rw t at h in omega (arith, e))
   | inr f ↦ All-cons (λ (y : X). p y ≡ false) x xs f (none_before p xs (let e = rw f at h in omega (arith, e)))
 ]
 
-past : (m n : ℕ) → (cond (nat_lt m n) (Some m) None) ≡ None → n ≤ m
+pub past : (m n : ℕ) → (cond (nat_lt m n) (Some m) None) ≡ None → n ≤ m
 past m n h = elim (cases_Bool (nat_lt m n)) [
   | inl t ↦ absurd (let e = rw t at h in cc)
   | inr f ↦ grind (arith, nat_tests)

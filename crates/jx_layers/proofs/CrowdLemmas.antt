@@ -1,17 +1,11 @@
 -- The search for a block of which a layer has too many passes.
-use Rattle.std.proofs.Common.{◌≡◌, ◌<◌, ◌≤◌, ◌+◌, ◌∙◌, ap, sym, subst, refl, arith, ℕ, zero, suc, List, [], ◌∷◌, length, inl, inr, slice_index_or, None, Some}
+use Rattle.std.proofs.Common.{◌≡◌, ◌<◌, ◌≤◌, ◌+◌, ◌∙◌, ap, sym, subst, arith, ℕ, List, length, inl, inr, slice_index_or, Some}
 use Rattle.std.specs.List.{slice_get}
 use Rattle.std.proofs.lemmas.Bool.{cases_lt}
-use Rattle.std.proofs.lemmas.Option.{slice_get-get_or}
+use Rattle.std.proofs.lemmas.Option.{slice_get-get_or, slice_get_past}
 use Rattle.jx_block.specs.declared.job.Job.{Job}
 use Rattle.jx_layers.specs.Layers.{HasMany}
 use Rattle.jx_layers.specs.Crowded.{IsCrowded}
-
--- a list has nothing past its end
-nothing_past : {X : Type 0} (xs : List X) (n : ℕ) → length xs ≤ n → slice_get xs n ≡ None
-nothing_past [] n le = refl
-nothing_past (x ∷ xs) zero le = absurd (omega arith)
-nothing_past (x ∷ xs) (suc n) le = nothing_past xs n (omega arith)
 
 -- none before n is crowded
 abbrev pub NoneBefore : List Job → ℕ → Type 0
@@ -20,7 +14,7 @@ NoneBefore jobs n = (k : ℕ) → k < n → IsCrowded (slice_get jobs k) → ⊥
 pub none_crowded : (jobs : List Job) (n : ℕ) → length jobs ≤ n → NoneBefore jobs n → (k : ℕ) → IsCrowded (slice_get jobs k) → ⊥
 none_crowded jobs n le none k crowded = elim (cases_lt k n) [
   | inl lt ↦ none k lt crowded
-  | inr ge ↦ subst IsCrowded (nothing_past jobs k (omega arith)) crowded
+  | inr ge ↦ subst IsCrowded (slice_get_past jobs k (omega arith)) crowded
 ]
 
 pub is_crowded : (jobs : List Job) (n : ℕ) (job : Job) → n < length jobs → job ≡ slice_index_or jobs n job → HasMany 0 job.ends → IsCrowded (slice_get jobs n)

@@ -2,8 +2,8 @@
 use Rattle.std.proofs.Common.{◌≡◌, ◌<◌, ◌≤◌, ◌+◌, ap, arith, ℕ, zero, suc, List, [], ◌∷◌, map, inl, inr, Some}
 use Rattle.std.specs.List.{slice_get, range_with_len}
 use Rattle.std.proofs.lemmas.Bool.{cases_lt, cases_eq}
+use Rattle.std.proofs.lemmas.Option.{none-some, same_Some}
 use Rattle.jx_base.specs.declared.pieces.Block.{Block}
-use Rattle.jx_base.proofs.Lists.{none_some, some_same}
 use Rattle.jx_stream.specs.declared.Stream.{Stream}
 use Rattle.jx_stream.specs.First.{tile_number}
 use Rattle.jx_stream.specs.Shapes.{layers_of}
@@ -39,6 +39,6 @@ layers_reached s some =
     record { at = r.at; from = r.from; below = omega (arith, r.below); is = r.is }
 
 pub planes_most : (blocks : List Block) (n : ℕ) (b : Block) → slice_get blocks n ≡ Some b → b.planes ≤ most_planes blocks
-planes_most [] n b is = absurd (none_some b is)
-planes_most (x ∷ blocks) zero b is = omega (arith, ap (λ (y : Block). y.planes) (some_same x b is))
+planes_most [] n b is = absurd (none-some b is)
+planes_most (x ∷ blocks) zero b is = omega (arith, ap (λ (y : Block). y.planes) (same_Some x b is))
 planes_most (x ∷ blocks) (suc n) b is = omega (arith, planes_most blocks n b is)

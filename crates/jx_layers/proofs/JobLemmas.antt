@@ -6,8 +6,8 @@ use Rattle.std.proofs.lemmas.List.Sums.{sum_by_more}
 use Rattle.jx_base.specs.declared.pieces.Block.{Block}
 use Rattle.jx_base.specs.declared.style.Style.{Style}
 use Rattle.jx_base.specs.Sound.{IsSound}
-use Rattle.std.proofs.lemmas.Option.{get_or_from_slice_get}
-use Rattle.jx_base.proofs.Lists.{get_left, get_right, some_same, none_some}
+use Rattle.std.proofs.lemmas.Option.{get_or_from_slice_get, none-some, same_Some}
+use Rattle.jx_base.proofs.Lists.{get_left, get_right}
 use Rattle.jx_block.specs.declared.job.Job.{Job}
 use Rattle.jx_layers.specs.Rule.{Rule}
 use Rattle.jx_layers.specs.Layers.{AreJobs, IsJobOf, asked_before}
@@ -29,7 +29,7 @@ few_asked blocks (suc n) d sound le =
     subst (λ m. asked_before blocks m ≤ 220 * m) next (omega (arith, before, more, few))
 
 pub no_jobs : (style : Option Style) (rule : Rule) (layers : ℕ) (blocks : List Block) → AreFirst style rule layers blocks 0 []
-no_jobs style rule layers blocks = record { all = refl; each = λ number b job block is. absurd (none_some job is) }
+no_jobs style rule layers blocks = record { all = refl; each = λ number b job block is. absurd (none-some job is) }
 
 pub all_jobs : (style : Option Style) (rule : Rule) (layers : ℕ) (blocks : List Block) (n : ℕ) (jobs : List Job) → AreFirst style rule layers blocks n jobs → n ≡ length blocks → AreJobs style rule layers blocks jobs
 all_jobs style rule layers blocks n jobs first is = record { all = first.all ∙ is; each = first.each }
@@ -41,8 +41,8 @@ of_blocks style rule layers asked blocks n b job is from =
     record { number_is = from_it.number_is; block_is = from_it.block_is; style_is = from_it.style_is; ends = from_it.ends; layers_are = from_it.layers_are }
 
 last_is : (job found : Job) (k : ℕ) → slice_get (job ∷ []) k ≡ Some found → (k ≡ 0) × (job ≡ found)
-last_is job found zero e = (refl, some_same job found e)
-last_is job found (suc k) e = absurd (none_some found e)
+last_is job found zero e = (refl, same_Some job found e)
+last_is job found (suc k) e = absurd (none-some found e)
 
 one_more : (style : Option Style) (rule : Rule) (layers : ℕ) (blocks : List Block) (n : ℕ) (d : Block) (jobs : List Job) (job : Job) → n < length blocks → AreFirst style rule layers blocks n jobs → IsJobOf style rule layers blocks n (slice_index_or blocks n d) job
     → AreFirst style rule layers blocks (n + 1) (jobs ++ job ∷ [])

@@ -14,10 +14,7 @@ use Rattle.jx_block.specs.declared.LayerEnd.{LayerEnd}
 use Rattle.jx_block.specs.declared.job.Job.{Job}
 use Rattle.jx_block.specs.Jobs.{AreEnds}
 use Rattle.jx_block.specs.Written.{style_for}
-
-pub pieces_reach : (style layer first passes : ℕ) (ps : List PieceValue) → ArePieces style layer first passes ps → first ≤ passes
-pieces_reach style layer first passes [] are = omega (arith, are)
-pieces_reach style layer first passes (p ∷ ps) are = omega (arith, pieces_reach style p.layer (first + p.passes) passes ps are.1)
+use Rattle.jx_base.proofs.PieceLemmas.{pieces_end}
 
 -- a lower layer before them serves too
 pieces_low : (style layer first passes : ℕ) (ps : List PieceValue) → ArePieces style layer first passes ps → ArePieces style 0 first passes ps
@@ -33,7 +30,7 @@ left_first b n p left are = are.pieces.0.begins
 
 pub left_few : (b : Block) (n : ℕ) (p : PieceValue) (left : List PieceValue) → IsSound b → AreLeft b n (p ∷ left) → p.first + p.passes ≤ 220
 left_few b n p left sound are =
-    let reach = pieces_reach b.style.bits p.layer (n + p.passes) b.passes left are.pieces.1 in
+    let reach = pieces_end b.style.bits p.layer (n + p.passes) b.passes left are.pieces.1 in
     omega (arith, reach, are.pieces.0.begins, sound.few, sound.planes)
 
 pub left_layer : (b : Block) (n : ℕ) (p : PieceValue) (left : List PieceValue) → AreLeft b n (p ∷ left) → (pass : ℕ) → p.first ≤ pass → pass < p.first + p.passes → layer_in b.pieces pass ≡ p.layer
@@ -97,7 +94,7 @@ pub asked_most : (b : Block) (n i : ℕ) (items : List Piece) (d : Piece) (start
 asked_most b n i items d start before now lt are before_is most =
     let p : PieceValue = value_of (slice_index_or items i d) in
     let at : AreLeft b n (p ∷ map value_of (drop (i + 1) items)) = piece_at b n i items d lt are in
-    let reach = pieces_reach b.style.bits p.layer (n + p.passes) b.passes (map value_of (drop (i + 1) items)) at.pieces.1 in
+    let reach = pieces_end b.style.bits p.layer (n + p.passes) b.passes (map value_of (drop (i + 1) items)) at.pieces.1 in
     omega (arith, reach, before_is, most)
 
 -- ---- what a loop over pieces asks, and what it leaves

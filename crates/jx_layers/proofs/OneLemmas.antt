@@ -13,16 +13,13 @@ use Rattle.jx_block.specs.declared.job.Job.{Job}
 use Rattle.jx_block.specs.Jobs.{AreEnds}
 use Rattle.jx_block.specs.Recoding.{layer_ends}
 use Rattle.jx_block.proofs.KeptLemmas.{own_ends_rise}
-use Rattle.jx_layers.proofs.LeftLemmas.{pieces_reach}
 use Rattle.jx_layers.specs.Rule.{Rule}
 use Rattle.jx_layers.specs.Rule.Rule.{Keep}
 use Rattle.jx_layers.specs.Layers.{IsJobOf, Divide, answer_at, greatest_to, layer_at, layer_in}
+use Rattle.jx_base.proofs.PieceLemmas.{pieces_end}
+use Rattle.jx_block.proofs.PartLemmas.{ends_within}
 
 -- ---- one list of ends
-ends_reach : (low first n : ℕ) (ends : List LayerEnd) → AreEnds low first n ends → first ≤ n
-ends_reach low first n [] are = omega (arith, are)
-ends_reach low first n (e ∷ ends) are = omega (arith, are.1, ends_reach (e.layer + 1) e.passes n ends are.2)
-
 -- the layer of the first pass of some ends
 first_above : (f : ℕ → ℕ) (low first n : ℕ) (ends : List LayerEnd) → first < n → AreEnds low first n ends → Divide f first ends → low ≤ f first
 first_above f low first n [] lt are divide = absurd (omega (arith, are))
@@ -41,12 +38,12 @@ same_end a b layer passes =
 
 pub one_ends : (f : ℕ → ℕ) (low high first n : ℕ) (a b : List LayerEnd) → AreEnds low first n a → AreEnds high first n b → Divide f first a → Divide f first b → a ≡ b
 one_ends f low high first n [] [] are_a are_b in_a in_b = refl
-one_ends f low high first n [] (h ∷ b) are_a are_b in_a in_b = absurd (omega (arith, are_a, are_b.1, ends_reach (h.layer + 1) h.passes n b are_b.2))
-one_ends f low high first n (e ∷ a) [] are_a are_b in_a in_b = absurd (omega (arith, are_b, are_a.1, ends_reach (e.layer + 1) e.passes n a are_a.2))
+one_ends f low high first n [] (h ∷ b) are_a are_b in_a in_b = absurd (omega (arith, are_a, are_b.1, ends_within (h.layer + 1) h.passes n b are_b.2))
+one_ends f low high first n (e ∷ a) [] are_a are_b in_a in_b = absurd (omega (arith, are_b, are_a.1, ends_within (e.layer + 1) e.passes n a are_a.2))
 one_ends f low high first n (e ∷ a) (h ∷ b) are_a are_b in_a in_b =
     let layer : e.layer ≡ h.layer = sym (in_a.0 first (omega arith) are_a.1) ∙ in_b.0 first (omega arith) are_b.1 in
-    let reach_a = ends_reach (e.layer + 1) e.passes n a are_a.2 in
-    let reach_b = ends_reach (h.layer + 1) h.passes n b are_b.2 in
+    let reach_a = ends_within (e.layer + 1) e.passes n a are_a.2 in
+    let reach_b = ends_within (h.layer + 1) h.passes n b are_b.2 in
     elim (cases_lt e.passes h.passes) [
       | inl lt ↦ absurd (not_before f first n h.passes e a are_a.2 in_a.1 reach_b (λ pass from below. in_b.0 pass from below ∙ sym layer) are_a.1 lt)
       | inr le ↦ elim (cases_lt h.passes e.passes) [
@@ -129,7 +126,7 @@ own_divide g style low start n p [] are before is =
 own_divide g style low start n p (q ∷ ps) are before is =
     let begins = are.1.0.begins in
     let moved : ArePieces style p.layer q.first n (q ∷ ps) = subst (λ k. ArePieces style p.layer k n (q ∷ ps)) (sym begins) are.1 in
-    let reach : p.first + p.passes ≤ n = pieces_reach style p.layer (p.first + p.passes) n (q ∷ ps) are.1 in
+    let reach : p.first + p.passes ≤ n = pieces_end style p.layer (p.first + p.passes) n (q ∷ ps) are.1 in
     let in_p : (pass : ℕ) → start ≤ pass → pass < p.first + p.passes → g pass ≡ p.layer = λ pass from below. elim (cases_lt pass p.first) [ inl lt ↦ before pass from lt | inr ge ↦ is pass ge (omega arith) ∙ here p (q ∷ ps) pass below ] in
     let past_p : (pass : ℕ) → q.first ≤ pass → pass < n → g pass ≡ layer_in (q ∷ ps) pass = λ pass from below. is pass (omega (arith, begins)) below ∙ later p (q ∷ ps) pass (omega (arith, begins)) in
     elim (cases_eq p.layer q.layer) [

@@ -1,62 +1,30 @@
 -- Which texts say numbers, and which numbers.
-use Rattle.std.proofs.Common.{◌≡◌, ◌<◌, ◌≤◌, ◌+◌, ◌/◌, ◌%◌, ◌∙◌, ap, sym, subst, refl, arith, ℕ, zero, suc, nat_lt, eqb, Bool, true, false, List, [], ◌∷◌, ◌++◌, Option, None, Some, inl, inr, length, map, find, drop, take, take-append-drop}
+use Rattle.std.proofs.Common.{◌≡◌, ◌<◌, ◌≤◌, ◌+◌, ◌/◌, ◌%◌, ◌∙◌, ap, sym, subst, refl, arith, ℕ, zero, suc, nat_lt, eqb, true, false, List, [], ◌∷◌, ◌++◌, Option, None, Some, inl, inr, length, map}
 use Rattle.std.specs.Str.{bytes_eq}
-use Rattle.std.specs.List.{All, range_with_len, join_with_byte, starts_with}
+use Rattle.std.specs.List.{All, join_with_byte}
 use Rattle.std.specs.Option.{option_map, option_and_then}
 use Rattle.std.specs.Fmt.{decimal}
-use Rattle.std.proofs.Math.Seq.{drop-append_seam, take-append_seam}
 use Rattle.std.proofs.lemmas.Bool.{cases_Bool, cases_lt, ne_eqb}
 use Rattle.std.proofs.lemmas.Bool.Decides.{nat_tests}
-use Rattle.std.proofs.lemmas.Fmt.{decimal_injective}
+use Rattle.std.proofs.lemmas.Fmt.{decimal_injective, decimal_digit}
 use Rattle.std.proofs.lemmas.List.Elements.{All-nil, All-cons}
 use Rattle.std.proofs.lemmas.List.Splits.{join_with_byte-slice_split, length-slice_split, slice_split_at, slice_split_none}
 use Rattle.std.proofs.lemmas.Slice.Eq.{bytes_eq-Decides}
 use Rattle.std.specs.Prelude.{codes}
 use Rattle.std.proofs.lemmas.List.{length-map}
+use Rattle.std.proofs.lemmas.Option.{none-some, same_Some}
 use Rattle.jx_base.specs.Numbers.{ceil_of}
 use Rattle.jx_base.proofs.Ceilings.{ceil_of_is_ceiling}
 use Rattle.jx_layers.specs.declared.StreamFacts.{StreamFacts}
 use Rattle.jx_layers.specs.Rule.Rule.{Cuts, Planes}
 use Rattle.jx_layers.specs.Planners.{cuts_of, planes_of, where_fits}
-use Rattle.jx_base.proofs.Lists.{none_some, some_same}
-use Rattle.jx_layers.proofs.TextLemmas.{one_digit, two_digits, three_digits}
-use Rattle.jx_layers.specs.Texts.{AreRising, AreCuts, after, number_in, if_above, in_front, rising_in, parts_of, cuts_after, cuts_in, cuts_text, planes_in, planes_text}
-
--- ---- a number that is found in a range
-find_in : (f : ℕ → Bool) (a k n : ℕ) → find f (range_with_len a k) ≡ Some n → (a ≤ n) × (n < a + k) × (f n ≡ true)
-find_in f a zero n e = absurd (none_some n e)
-find_in f a (suc k) n e = elim (cases_Bool (f a)) [
-  | inl t ↦
-      let is : a ≡ n = some_same a n (rw t at e) in
-      (omega (arith, is), omega (arith, is), subst (λ m. f m ≡ true) is t)
-  | inr t ↦
-      let more = find_in f (a + 1) k n (rw t at e) in
-      (omega (arith, more.0), omega (arith, more.1), more.2)
-]
-
-find_first : (f : ℕ → Bool) (a k n : ℕ) → a ≤ n → n < a + k → f n ≡ true → ((m : ℕ) → m < n → f m ≡ true → ⊥) → find f (range_with_len a k) ≡ Some n
-find_first f a zero n from below test first = absurd (omega arith)
-find_first f a (suc k) n from below test first = elim (cases_Bool (f a)) [
-  | inl t ↦ elim (cases_lt a n) [
-    | inl lt ↦ absurd (first a lt t)
-    | inr ge ↦ let is : a ≡ n = omega arith in rw t (ap Some is)
-  ]
-  | inr t ↦ elim (cases_lt a n) [
-    | inl lt ↦ rw t (find_first f (a + 1) k n (omega arith) (omega arith) test first)
-    | inr ge ↦
-        let is : a ≡ n = omega arith in
-        let no_test : f n ≡ false = subst (λ m. f m ≡ false) is t in
-        absurd (cc)
-  ]
-]
+use Rattle.jx_layers.proofs.TextLemmas.{two_digits, three_digits}
+use Rattle.jx_layers.specs.Texts.{AreRising, AreCuts, if_above, in_front, rising_in, parts_of, cuts_after, cuts_in, cuts_text, planes_in, planes_text}
+use Rattle.jx_base.proofs.Lists.{find_first}
+use Rattle.jx_base.specs.Texts.{after, number_in}
+use Rattle.jx_base.proofs.Texts.{after_read, number_read}
 
 -- ---- a number and its digits
-pub number_read : (most n : ℕ) (text : List ℕ) → number_in most text ≡ Some n → (1 ≤ n) × (n ≤ most) × (text ≡ decimal n)
-unfolding number_in
-number_read most n text e =
-    let at = find_in (λ m. bytes_eq (decimal m) text) 1 most n e in
-    (at.0, omega (arith, at.1), sym ((bytes_eq-Decides (decimal n) text).0 at.2))
-
 pub number_spelled : (most n : ℕ) → most < 1000 → 1 ≤ n → n ≤ most → number_in most (decimal n) ≡ Some n
 unfolding number_in
 number_spelled most n small some within =
@@ -75,7 +43,7 @@ whole_none = All-nil (λ x. eqb x 44 ≡ false)
 
 digits_whole : (n : ℕ) → n < 1000 → AreWhole (decimal n)
 digits_whole n small = elim (cases_lt n 10) [
-  | inl one ↦ subst AreWhole (one_digit n one) (whole_on (48 + n) [] (omega arith) whole_none)
+  | inl one ↦ subst AreWhole (sym (decimal_digit n one)) (whole_on (48 + n) [] (omega arith) whole_none)
   | inr more ↦ elim (cases_lt n 100) [
     | inl two ↦ subst AreWhole (two_digits n more two) (whole_on (48 + n / 10) ((48 + n % 10) ∷ []) (omega arith) (whole_on (48 + n % 10) [] (omega arith) whole_none))
     | inr three ↦ subst AreWhole (three_digits n three small)
@@ -108,44 +76,30 @@ pub record IsRead (last room : ℕ) (parts : List (List ℕ)) (list : List ℕ) 
   pub parts_are : parts ≡ map decimal list
 
 rising_read : (last room : ℕ) (parts : List (List ℕ)) (list : List ℕ) → rising_in last room parts ≡ Some list → IsRead last room parts list
-rising_read last room [] list e = subst (IsRead last room []) (some_same [] list e) (record { rising = tt; few = omega arith; parts_are = refl })
-rising_read last zero (text ∷ parts) list e = absurd (none_some list e)
+rising_read last room [] list e = subst (IsRead last room []) (same_Some [] list e) (record { rising = tt; few = omega arith; parts_are = refl })
+rising_read last zero (text ∷ parts) list e = absurd (none-some list e)
 rising_read last (suc room) (text ∷ parts) list e = with_number (number_in 220 text) refl e (λ n more f. rising_read n room parts more f)
   where
     with_more : (n : ℕ) (o : Option (List ℕ)) → rising_in n room parts ≡ o → last < n → n ≤ 220 → text ≡ decimal n → option_map (λ tail. n ∷ tail) o ≡ Some list → ((more : List ℕ) → rising_in n room parts ≡ Some more → IsRead n room parts more)
         → IsRead last (suc room) (text ∷ parts) list
-    with_more n None is lt le digits f next = absurd (none_some list f)
+    with_more n None is lt le digits f next = absurd (none-some list f)
     with_more n (Some more) is lt le digits f next =
         let r = next more is in
-        subst (IsRead last (suc room) (text ∷ parts)) (some_same (n ∷ more) list f)
+        subst (IsRead last (suc room) (text ∷ parts)) (same_Some (n ∷ more) list f)
         (record { rising = (lt, le, r.rising); few = omega (arith, r.few); parts_are = ap (λ t. t ∷ parts) digits ∙ ap (λ p. decimal n ∷ p) r.parts_are })
 
     with_number : (o : Option ℕ) → number_in 220 text ≡ o → in_front (if_above last o) (λ n. rising_in n room parts) ≡ Some list → ((n : ℕ) (more : List ℕ) → rising_in n room parts ≡ Some more → IsRead n room parts more)
         → IsRead last (suc room) (text ∷ parts) list
-    with_number None is f next = absurd (none_some list f)
+    with_number None is f next = absurd (none-some list f)
     with_number (Some n) is f next = elim (cases_Bool (nat_lt last n)) [
       | inl t ↦
           let r = number_read 220 n text is in
           let lt : last < n = grind (arith, nat_tests) in
           with_more n (rising_in n room parts) refl lt r.1 r.2 (rw t at f) (next n)
-      | inr t ↦ let g : None ≡ Some list = rw t at f in absurd (none_some list g)
+      | inr t ↦ let g : None ≡ Some list = rw t at f in absurd (none-some list g)
     ]
 
 -- ---- beginnings
-after_spelled : (start rest : List ℕ) → after start (start ++ rest) ≡ Some rest
-after_spelled start rest =
-    let front : starts_with eqb (start ++ rest) start ≡ true = (bytes_eq-Decides start (take (length start) (start ++ rest))).1 (sym (take-append_seam start rest)) in
-    rw front (ap Some (drop-append_seam start rest))
-
-after_read : (start text rest : List ℕ) → after start text ≡ Some rest → text ≡ start ++ rest
-after_read start text rest e = elim (cases_Bool (starts_with eqb text start)) [
-  | inl t ↦
-      let is : drop (length start) text ≡ rest = some_same _ rest (rw t at e) in
-      let front : start ≡ take (length start) text = (bytes_eq-Decides start (take (length start) text)).0 t in
-      sym (take-append-drop (length start) text) ∙ ap (λ xs. xs ++ drop (length start) text) (sym front) ∙ ap (λ ys. start ++ ys) is
-  | inr t ↦ let g : None ≡ Some rest = rw t at e in absurd (none_some rest g)
-]
-
 -- what follows a beginning, where something is made of it
 pub record Follows {X : Type 0} (start text : List ℕ) (made : List ℕ → Option X) (x : X) : Type 0 where
   pub rest : List ℕ
@@ -156,7 +110,7 @@ follows : {X : Type 0} (start text : List ℕ) (made : List ℕ → Option X) (x
 follows {X} start text made x e = by (after start text) refl e
   where
     by : (o : Option (List ℕ)) → after start text ≡ o → option_and_then made o ≡ Some x → Follows start text made x
-    by None is f = absurd (none_some x f)
+    by None is f = absurd (none-some x f)
     by (Some rest) is f = record { rest = rest; text_is = after_read start text rest is; made_is = f }
 
 -- ---- all of it

@@ -1,15 +1,12 @@
 -- Decimal numbers of one to three digits, and texts that are cut at commas.
-use Rattle.std.proofs.Common.{◌≡◌, ◌<◌, ◌≤◌, ◌+◌, ◌/◌, ◌%◌, sym, ℕ, List, [], ◌∷◌, refl, arith, suc, Bool, false, find, length, take, drop, eqb, subst, drop-drop, take_all}
-use Rattle.std.specs.List.{range_with_len, position_or_len}
+use Rattle.std.proofs.Common.{◌≡◌, ◌<◌, ◌≤◌, ◌+◌, ◌/◌, ◌%◌, ℕ, List, [], ◌∷◌, refl, arith, length, take, drop, eqb, subst, drop-drop, take_all}
+use Rattle.std.specs.List.{position_or_len}
 use Rattle.std.proofs.lemmas.List.Splits.{slice_split_first, slice_split_none}
 use Rattle.std.proofs.lemmas.List.Sums.{fails_before_first}
 use Rattle.jx_layers.specs.Texts.{parts_of}
 use Rattle.std.specs.Fmt.{decimal}
 use Rattle.std.proofs.lemmas.Grind.{common_steps}
 use Rattle.std.proofs.lemmas.Fmt.{decimal_digit, decimal_step}
-
-pub one_digit : (n : ℕ) → n < 10 → (48 + n) ∷ [] ≡ decimal n
-one_digit n small = sym (decimal_digit n small)
 
 pub two_digits : (n : ℕ) → 10 ≤ n → n < 100 → (48 + n / 10) ∷ (48 + n % 10) ∷ [] ≡ decimal n
 two_digits n large small = rw (decimal_step n large (omega arith), decimal_digit (n / 10) (omega arith)) refl
@@ -18,10 +15,6 @@ pub three_digits : (n : ℕ) → 100 ≤ n → n < 1000 → (48 + n / 100) ∷ (
 three_digits n large small =
     let e : n / 10 / 10 ≡ n / 100 = omega arith in
     rw (decimal_step n (omega arith) (omega arith), ← two_digits (n / 10) (omega arith) (omega arith), e) refl
-
--- a search in a range, past a number that isn't looked for
-pub find_on : (f : ℕ → Bool) (n k more : ℕ) → k ≡ suc more → f n ≡ false → find f (range_with_len n k) ≡ find f (range_with_len (n + 1) more)
-find_on f n k more is test = rw (is, test) refl
 
 -- a text is cut at its first comma
 pub part_first : (text front back rest : List ℕ) (place : ℕ) → place ≡ position_or_len (λ b. eqb b 44) text → front ≡ take place text → back ≡ drop place text → 1 ≤ length back

@@ -1,9 +1,9 @@
 -- The words by which a planner is chosen and told its rule: decimal numbers, in digits without a sign or a leading zero.
-use Rattle.std.specs.Prelude.{◌<◌, ◌≤◌, ℕ, zero, suc, nat_lt, eqb, List, [], ◌∷◌, ◌++◌, length, map, drop, find, Option, None, Some, if◌then◌else◌, codes}
-use Rattle.std.specs.Str.{bytes_eq}
-use Rattle.std.specs.List.{join_with_byte, range_with_len, slice_split, starts_with}
+use Rattle.std.specs.Prelude.{◌<◌, ◌≤◌, ℕ, zero, suc, nat_lt, eqb, List, [], ◌∷◌, ◌++◌, length, map, Option, None, Some, if◌then◌else◌, codes}
+use Rattle.std.specs.List.{join_with_byte, slice_split}
 use Rattle.std.specs.Option.{option_map, option_and_then}
 use Rattle.std.specs.Fmt.{decimal}
+use Rattle.jx_base.specs.Texts.{after, number_in}
 
 -- numbers that rise from above one, each at most 220
 abbrev pub AreRising : ℕ → List ℕ → Type 0
@@ -23,15 +23,7 @@ cuts_text list = codes "cuts:" ++ join_with_byte 44 (map decimal list)
 abbrev pub planes_text : ℕ → List ℕ
 planes_text q = codes "planes:" ++ decimal q
 
--- what stands after a beginning
-abbrev pub after : List ℕ → List ℕ → Option (List ℕ)
-after start text = if starts_with eqb text start then Some (drop (length start) text) else None
-
--- the number from 1 to `most` of which the digits are a text
-unfoldable pub number_in : ℕ → List ℕ → Option ℕ
-number_in most text = find (λ n. bytes_eq (decimal n) text) (range_with_len 1 most)
-
--- such a number up to 220 that is above another
+-- a number from 1 to 220 that is above another
 abbrev pub if_above : ℕ → Option ℕ → Option ℕ
 if_above last None = None
 if_above last (Some n) = if nat_lt last n then Some n else None

@@ -6,7 +6,8 @@ ghost use Rattle.std.specs.Option.{option_map};
 ghost use Rattle.std.specs.List.{position_or_len};
 ghost use Rattle.std.specs.Fmt.{decimal};
 ghost use Rattle.jx_layers.specs.Cuts.{list_of, more_parts, AreRefused, GoOn};
-ghost use Rattle.jx_layers.specs.Texts.{cut_in, cuts_after, cuts_in, number_in, planes_in, after, parts_of};
+ghost use Rattle.jx_layers.specs.Texts.{cut_in, cuts_after, cuts_in, planes_in, parts_of};
+ghost use Rattle.jx_base.specs.Texts.{after, number_in};
 
 /// Numbers in order, at most 32.
 #[derive(Clone, Copy)]
@@ -61,7 +62,7 @@ impl Cuts {
 }
 
 /// Whether a text is a number's digits.
-#[tactic(auto, using(crate::proofs::TextLemmas::one_digit, crate::proofs::TextLemmas::two_digits, crate::proofs::TextLemmas::three_digits))]
+#[tactic(auto, using(std::proofs::lemmas::Fmt::decimal_digit, crate::proofs::TextLemmas::two_digits, crate::proofs::TextLemmas::three_digits))]
 fn is_decimal(number: u8, text: &[u8]) -> bool
     ensures { result ≡ bytes_eq (decimal number) text.now }
 {
@@ -76,7 +77,7 @@ fn is_decimal(number: u8, text: &[u8]) -> bool
 
 /// The number from 1 to `most` of which a text is the digits, without a sign or a leading zero. There are so few that each
 /// is tried.
-#[tactic(auto, unfolding(crate::specs::Texts::number_in))]
+#[tactic(auto, unfolding(jx_base::specs::Texts::number_in))]
 fn number_in(most: u8, text: &[u8]) -> Option<u8>
     requires { most < 255 }
     ensures value { result ≡ number_in most text.now }

@@ -19,6 +19,7 @@ use Rattle.jx_make.specs.Random.{number_at, numbers_at, state_after}
 use Rattle.jx_make.specs.Drawn.{drawn_at, first_pass, first_state, layer_pieces, lowered, pass_bytes, pass_count, passes_bytes, passes_in, past_pass, past_passes, piece_in, stuffed, without_end, without_markers, zero_planes}
 use Rattle.jx_make.specs.Made.{leaf_of_drawn}
 use Rattle.jx_make.proofs.DrawnLemmas.{first_all, first_few, first_grows, first_none}
+use Rattle.jx_base.proofs.Markers.{append_clean}
 
 -- ---- the bytes of passes
 marked_long : (before : ℕ) (bytes : List ℕ) → length (without_markers before bytes) ≡ length bytes
@@ -66,22 +67,13 @@ pass_clear before (byte ∷ bytes) ne = some before byte bytes
     some b y [] = (λ e. lowered_low (stuffed b y) (stuffed_low b y e), lowered_not (stuffed b y))
     some b y (z ∷ rest) = (λ e. stuffed_low b y e, some (stuffed b y) z rest)
 
--- whatever stands before, if it isn't FF
-any_before : (before : ℕ) (bytes : List ℕ) → before ≢ 255 → HasNoMarker 0 bytes → HasNoMarker before bytes
-any_before before [] ne h = ne
-any_before before (byte ∷ bytes) ne h = (λ e. absurd (ne e), h.1)
-
-join_clear : (before : ℕ) (xs ys : List ℕ) → HasNoMarker before xs → HasNoMarker 0 ys → HasNoMarker before (xs ++ ys)
-join_clear before [] ys h k = any_before before ys h k
-join_clear before (x ∷ xs) ys h k = (h.0, join_clear x xs ys h.1 k)
-
 pub one_clear : (x : ℕ) → HasNoMarker 0 (pass_bytes x)
 unfolding pass_bytes
 one_clear x = pass_clear 0 (map (λ (b : ℕ). b % 256) (numbers_at (state_after x) (number_at x % 24))) (λ e. omega arith)
 
 passes_clear : (x n : ℕ) → HasNoMarker 0 (passes_bytes x n)
 passes_clear x zero = λ e. omega arith
-passes_clear x (suc n) = join_clear 0 (pass_bytes x) (passes_bytes (past_pass x) n) (one_clear x) (passes_clear (past_pass x) n)
+passes_clear x (suc n) = append_clean 0 (pass_bytes x) (passes_bytes (past_pass x) n) (one_clear x) (passes_clear (past_pass x) n)
 
 -- ---- the pieces of layers
 first_next : (n a : ℕ) → first_pass n a + passes_in n a ≡ first_pass n (a + 1)

@@ -12,7 +12,7 @@ use Rattle.jx_base.specs.declared.names.Band.TheVariants.{LL, HL, LH, HH}
 use Rattle.jx_base.specs.Joined.{sum_below}
 use Rattle.jx_base.specs.Numbers.{ceil_of}
 use Rattle.jx_base.specs.Places.{length_of, size_of, span_of, rect_of}
-use Rattle.jx_base.proofs.Ceilings.{ceil_above, ceil_least, ceil_le_self, ceil_reaches}
+use Rattle.jx_base.proofs.Ceilings.{ceil_above, ceil_least, ceil_le_self}
 use Rattle.jx_geom.specs.declared.shape.Canvas.{Canvas}
 use Rattle.jx_geom.specs.declared.shape.CompShape.{CompShape}
 use Rattle.jx_geom.specs.Spans.{tile_span, tiles_along, scaled, band_span, cells}
@@ -26,12 +26,6 @@ use Rattle.jx_geom.proofs.SpanLemmas.{cells_high, cells_high_none, cells_low}
 use Rattle.jx_make.specs.Headers.{AreSizes, canvas_made, geometry_made, shape_made}
 
 -- ---- the tile
-ceil_one : (n : ℕ) → ceil_of n 1 ≡ n
-ceil_one n =
-    let le : ceil_of n 1 ≤ n = ceil_le_self n 1 (omega arith) in
-    let reaches : n ≤ ceil_of n 1 * 1 = ceil_reaches n 1 (omega arith) in
-    omega arith
-
 -- one tile along a direction
 one_along : (w : ℕ) → 1 ≤ w → tiles_along w 0 w ≡ 1
 one_along w some =

@@ -1,16 +1,10 @@
 -- Lists that a loop makes one item after another.
-use Rattle.std.proofs.Common.{◌≡◌, ◌∙◌, ℕ, zero, suc, ◌+◌, List, [], ◌∷◌, ◌++◌, map, sym, ap, arith, append_assoc, append-nil}
+use Rattle.std.proofs.Common.{◌≡◌, ◌∙◌, ℕ, ◌+◌, List, [], ◌∷◌, ◌++◌, map, sym, ap, arith, append_assoc, append-nil}
 use Rattle.std.specs.List.{range_with_len}
 use Rattle.std.proofs.lemmas.List.{map-append}
 use Rattle.jx_base.specs.Joined.{joined}
 use Rattle.jx_base.proofs.Joined.{appends_next, appends_none}
-
-pub range_push : (a n : ℕ) → range_with_len a (n + 1) ≡ range_with_len a n ++ (a + n) ∷ []
-range_push a zero = let e : a ≡ a + 0 = omega arith in ap (λ (x : ℕ). x ∷ []) e
-range_push a (suc n) =
-    let e : a + 1 + n ≡ a + suc n = omega arith in
-    let m : suc n + 1 ≡ suc (n + 1) = omega arith in
-    ap (range_with_len a) m ∙ ap (λ (xs : List ℕ). a ∷ xs) (range_push (a + 1) n ∙ ap (λ (x : ℕ). range_with_len (a + 1) n ++ x ∷ []) e)
+use Rattle.jx_base.proofs.Lists.{range_push}
 
 -- the next item of a list that is made by numbers
 pub next_made : {X Y : Type 0} (view : X → Y) (f : ℕ → Y) (xs ys : List X) (n : ℕ) (x : X) → map view xs ≡ map f (range_with_len 0 n) → view x ≡ f n → ys ≡ xs ++ x ∷ []

@@ -1,6 +1,7 @@
 -- A made file spells its stream: none of the rules 1 to 24 is violated, and none of the limits 3 to 6 is passed.
-use Rattle.std.proofs.Common.{◌≡◌, ℕ, ◌+◌, ◌*◌, ◌^◌, ◌≤◌, ◌<◌, List, [], ◌∷◌, length, refl, arith, inl, false, None, find}
+use Rattle.std.proofs.Common.{◌≡◌, ℕ, ◌+◌, ◌*◌, ◌^◌, ◌≤◌, ◌<◌, List, [], ◌∷◌, length, refl, subst, arith, inl, false, None, find}
 use Rattle.std.proofs.lemmas.Bool.Decides.{nat_tests}
+use Rattle.jx_geom.specs.Geometry.{Geometry, HasResolution, rect_of_tile}
 use Rattle.jx_geom.specs.Rects.{tile_rect}
 use Rattle.jx_geom.specs.Counts.{tile_blocks, tile_precincts}
 use Rattle.jx_base.specs.Joined.{sum_below}
@@ -21,7 +22,7 @@ use Rattle.jx_gather.specs.Totals.{block_total, packet_total, tile_packets, tota
 use Rattle.jx_make.specs.Headers.{AreSizes, canvas_made, geometry_made, main_made, siz_made}
 use Rattle.jx_make.specs.Made.{file_with, part_with}
 use Rattle.jx_make.specs.Reading.{stream_made, tile_made}
-use Rattle.jx_make.proofs.GeometryLemmas.{count_one, limits_made, one_tile, precincts_limited, shapes_made}
+use Rattle.jx_make.proofs.GeometryLemmas.{count_one, level_5, limits_made, one_tile, precincts_limited, shapes_made, three_shapes}
 use Rattle.jx_make.proofs.RangeLemmas.{cod_in_range, com_in_range, qcd_in_range, siz_in_range}
 
 main_stands : AreSegments Main 3 [] main_made
@@ -89,10 +90,6 @@ read_made w h body sizes few = record {
 
 -- ---- the geometry, and how many blocks and packets there are
 
-shapes_are : (w h size : ℕ) → shapes_of (stream_made w h size) 0 ≡ shapes_made
-unfolding shapes_in stream_made
-shapes_are w h size = refl
-
 pub geometry_is : (w h size : ℕ) → geometry (stream_made w h size) 0 ≡ geometry_made w h
 unfolding shapes_in stream_made geometry_made
 geometry_is w h size = refl
@@ -104,6 +101,17 @@ layers_are w h size = refl
 pub one_number : (w h size : ℕ) → AreSizes w h → tile_number (stream_made w h size).siz ≡ 1
 unfolding stream_made
 one_number w h size sizes = count_one w h sizes
+
+-- no resolution above 5, and at most 18 precincts
+pub few_levels : (w h size c r : ℕ) → HasResolution (geometry (stream_made w h size) 0) c r → r ≤ 5
+few_levels w h size c r has =
+    let P : Geometry → Type 0 = λ g. HasResolution g c r in
+    let there : HasResolution (geometry_made w h) c r = subst P (geometry_is w h size) has in
+    level_5 w h c r (three_shapes w h c there.component) there.level
+
+pub few_precincts : (w h size : ℕ) → AreSizes w h → tile_precincts (rect_of_tile (geometry (stream_made w h size) 0)) (geometry (stream_made w h size) 0).shapes ≤ 18
+unfolding shapes_in stream_made
+few_precincts w h size sizes = precincts_limited w h sizes
 
 sum_one : (f : ℕ → ℕ) (n : ℕ) → n ≡ 1 → sum_below f n ≡ f 0
 sum_one f n e = rw e (omega arith)

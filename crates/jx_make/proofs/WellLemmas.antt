@@ -1,5 +1,5 @@
 -- A made file is well formed, and within the limits.
-use Rattle.std.proofs.Common.{◌≡◌, ℕ, ◌+◌, ◌^◌, ◌≤◌, ◌<◌, List, [], ◌∷◌, ◌++◌, length, refl, sym, subst, arith, append-nil, length-append, Result, Ok, Err, IfOk}
+use Rattle.std.proofs.Common.{◌≡◌, ℕ, ◌+◌, ◌^◌, ◌≤◌, ◌<◌, List, [], ◌∷◌, ◌++◌, length, sym, subst, arith, append-nil, length-append}
 use Rattle.jx_geom.specs.Geometry.{Geometry}
 use Rattle.jx_marker.specs.Codes.{EOC}
 use Rattle.jx_marker.specs.Values.{canvas_bytes}
@@ -8,7 +8,6 @@ use Rattle.jx_order.specs.Packets.{AreCovered, IsOrder}
 use Rattle.jx_stream.specs.declared.Stream.{Stream}
 use Rattle.jx_stream.specs.First.{tile_number}
 use Rattle.jx_stream.specs.Read.{IsRead}
-use Rattle.jx_stream.specs.Shapes.{tile_at}
 use Rattle.jx_gather.specs.Accepted.{IsAccepted}
 use Rattle.jx_gather.specs.Gathered.{IsListOf, IsWhole}
 use Rattle.jx_gather.specs.WellFormed.{IsWellFormed}
@@ -17,7 +16,7 @@ use Rattle.jx_gather.proofs.LaidTiles.{laid_gathered}
 use Rattle.jx_make.specs.Headers.{AreSizes}
 use Rattle.jx_make.specs.Made.{body_made, file_made, file_with}
 use Rattle.jx_make.specs.Packets.{names_made, packets_made}
-use Rattle.jx_make.specs.Reading.{entry_made, stream_made, tile_made}
+use Rattle.jx_make.specs.Reading.{entry_made, stream_made}
 use Rattle.jx_make.proofs.OrderLemmas.{cover_made, order_made}
 use Rattle.jx_make.proofs.ReadLemmas.{geometry_is, one_number, read_made, totals_within}
 use Rattle.jx_make.proofs.WrittenLemmas.{all_filled, all_written}
@@ -31,10 +30,6 @@ pub file_long : (w h : ℕ) (body : List ℕ) → length (file_with w h body) �
 file_long w h body = omega (arith, behind_124 w h body, length-append (body ++ []) (0xFF ∷ EOC ∷ []), length-append body [])
 
 -- ---- its one tile
-tile_is : (w h size : ℕ) → tile_at (stream_made w h size) 0 ≡ tile_made size
-unfolding stream_made
-tile_is w h size = refl
-
 whole_0 : (w h size : ℕ) → AreSizes w h → IsWhole (stream_made w h size) 0
 unfolding stream_made
 whole_0 w h size sizes =
@@ -91,10 +86,6 @@ made_formed seed w h sizes short =
     record { stream = stream_made w h (length (body_made seed w h)); spelled = is.read.spelled; blocks = is.blocks; gathered = is.gathered }
 
 -- ---- what a call gives
-pub lift_ok : {X E : Type 0} (P Q : X → Type 0) (r : Result X E) → ((x : X) → P x → Q x) → IfOk r P → IfOk r Q
-lift_ok P Q (Ok x) f p = f x p
-lift_ok P Q (Err e) f p = tt
-
 pub body_few : (seed w h : ℕ) → length (body_made seed w h) ≤ 268435330 → length (file_made seed w h) ≤ 2 ^ 28
 unfolding file_made
 body_few seed w h few = omega (arith, file_long w h (body_made seed w h))

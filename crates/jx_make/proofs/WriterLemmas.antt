@@ -5,7 +5,7 @@ use Rattle.std.specs.List.{range_with_len}
 use Rattle.std.proofs.lemmas.List.{map-append}
 use Rattle.jx_head.specs.Written.{Plan}
 use Rattle.jx_make.specs.Making.{Making, three_made, writers_made}
-use Rattle.jx_make.proofs.ListLemmas.{range_push}
+use Rattle.jx_base.proofs.Lists.{range_push}
 
 abbrev pub Three : Type 0
 Three = Plan × Plan × Plan

@@ -5,9 +5,13 @@ ghost use Rattle.std.specs.List.{All};
 ghost use Rattle.jx_base.specs.declared.pieces.Block.{Block};
 ghost use Rattle.jx_base.specs.Markers.{HasNoMarker};
 ghost use Rattle.jx_base.specs.Sound.{IsSound};
+ghost use Rattle.jx_geom.specs.Counts.{tile_precincts};
+ghost use Rattle.jx_geom.specs.Geometry.{HasResolution, rect_of_tile};
 ghost use Rattle.jx_gather.specs.Accepted.{IsAccepted};
 ghost use Rattle.jx_gather.specs.BlockOf.{AreBlocksOf};
 ghost use Rattle.jx_gather.specs.WellFormed.{IsWellFormed};
+ghost use Rattle.jx_stream.specs.First.{tile_number};
+ghost use Rattle.jx_stream.specs.Shapes.{geometry};
 ghost use Rattle.jx_make.specs.Drawn.{first_pass, pass_bytes};
 ghost use Rattle.jx_make.specs.Headers.{AreSizes};
 ghost use Rattle.jx_make.specs.Made.{body_made, file_made};
@@ -35,4 +39,12 @@ pub fn passes_hold_no_marker()
 /// Whatever code-blocks are read of a made file, none has a style bit, and none more than 37 coding passes.
 pub fn made_blocks_are_plain()
     ensures { (w h size : ℕ) (blocks : List Block) → AreSizes w h → AreBlocksOf (stream_made w h size) blocks → All IsSound blocks → All IsPlain blocks }
+{}
+
+/// The stream that is read of a made file has one tile, in it at most 18 precincts (T.800, B.6), so as many packets in each layer, and no
+/// resolution above 5 (B.5).
+pub fn made_geometry()
+    ensures tiles { (w h size : ℕ) → AreSizes w h → tile_number (stream_made w h size).siz ≡ 1 }
+    ensures precincts { (w h size : ℕ) → AreSizes w h → tile_precincts (rect_of_tile (geometry (stream_made w h size) 0)) (geometry (stream_made w h size) 0).shapes ≤ 18 }
+    ensures levels { (w h size c r : ℕ) → HasResolution (geometry (stream_made w h size) 0) c r → r ≤ 5 }
 {}

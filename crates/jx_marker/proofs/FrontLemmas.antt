@@ -1,8 +1,9 @@
 -- A marker, a length and what follows, in front of other bytes.
-use Rattle.std.proofs.Common.{◌≡◌, ◌≤◌, ◌+◌, ◌-◌, ℕ, suc, List, ◌∷◌, ◌++◌, [], length, arith, append_assoc, refl, ap₂, Bool, true, false, ◌&&◌, ◌==◌, not, None, slice_index, ltb, length-append}
+use Rattle.std.proofs.Common.{◌≡◌, ◌≤◌, ◌+◌, ◌-◌, ℕ, suc, List, ◌∷◌, ◌++◌, [], length, arith, append_assoc, refl, ap₂, true, false, ◌&&◌, ◌==◌, not, None, slice_index, ltb, length-append}
 use Rattle.std.proofs.lemmas.Bool.Decides.{nat_tests}
 use Rattle.std.proofs.lemmas.List.{take_at}
 use Rattle.std.specs.List.{AllByRecursion, flat_map}
+use Rattle.std.proofs.lemmas.Bool.{and_right}
 use Rattle.byteorder.specs.Endian.{big_from}
 use Rattle.byteorder.specs.Numbers.{big_from-cons, big_number-reads_back}
 use Rattle.jx_marker.specs.Codes.{PPM, PPT, SOT}
@@ -66,10 +67,6 @@ front_packed : (code : ℕ) (tail : List ℕ) → (code == PPM) ≡ false → (c
 unfolding breaks_14
 front_packed code tail not_ppm not_ppt = rw (not_ppm, not_ppt) (grind (arith, nat_tests))
 
-pub all_false : (x : Bool) → (x && false) ≡ false
-all_false true = refl
-all_false false = refl
-
 front_long : (comps code x y : ℕ) (tail : List ℕ) (n : ℕ) → length_at (255 ∷ code ∷ x ∷ y ∷ tail) ≡ n → n ≤ 2 + length tail → least_length comps code ≤ n
     → ((code == SOT) && not (n == 10)) ≡ false → breaks_1 comps (255 ∷ code ∷ x ∷ y ∷ tail) ≡ false
 unfolding breaks_1
@@ -78,7 +75,7 @@ front_long comps code x y tail n is room least sot =
     let two : ltb (length (255 ∷ code ∷ x ∷ y ∷ tail)) 4 ≡ false = grind (arith, nat_tests) in
     let three : ltb (length (255 ∷ code ∷ x ∷ y ∷ tail)) (2 + n) ≡ false = grind (arith, nat_tests) in
     let four : ltb n (least_length comps code) ≡ false = grind (arith, nat_tests) in
-    rw (is, one, two, three, four, sot) (all_false (has_length code))
+    rw (is, one, two, three, four, sot) (and_right (has_length code) false refl)
 
 pub whole_read : (comps code : ℕ) (body rest : List ℕ) (segment : Segment) → IsWhole comps code body → value_of comps code body ≡ segment
     → StandsAt comps (with_length code body ++ rest) segment (length (with_length code body))

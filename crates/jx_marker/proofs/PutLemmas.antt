@@ -1,5 +1,5 @@
 -- How long what follows a segment's length is.
-use Rattle.std.proofs.Common.{◌≡◌, ◌≤◌, ◌<◌, ◌+◌, ◌*◌, ℕ, List, ◌∷◌, ◌++◌, [], length, arith, append_assoc, append-nil, get_or, add-one, Result, Ok, Err, OnOk, refl, ap, length-append, ltb, leb, take, drop, sym, ◌∙◌}
+use Rattle.std.proofs.Common.{◌≡◌, ◌≤◌, ◌<◌, ◌+◌, ◌*◌, ℕ, List, ◌∷◌, ◌++◌, [], length, arith, append_assoc, append-nil, get_or, add-one, refl, ap, length-append, ltb, leb, take, drop, sym, ◌∙◌}
 use Rattle.std.proofs.Math.Seq.{take-append_seam, take-suc}
 use Rattle.std.proofs.lemmas.List.{take-append-drop, take_all}
 use Rattle.std.proofs.lemmas.Bool.Decides.{nat_tests}
@@ -77,10 +77,6 @@ pub fronted_as : (code size : ℕ) (out middle new body : List ℕ) → middle �
     → new ≡ out ++ with_length code body
 fronted_as code size out middle new body first then_body same = then_body ∙ ap (λ (front : List ℕ). front ++ body) first ∙ fronted code size out body same
 
-pub four_appended : (out a b c d first second third last : List ℕ) → first ≡ out ++ a → second ≡ first ++ b → third ≡ second ++ c → last ≡ third ++ d
-    → last ≡ out ++ (a ++ (b ++ (c ++ d)))
-four_appended out a b c d first second third last e1 e2 e3 e4 = rw (e4, e3, e2, e1) (simp append_assoc)
-
 -- what one call appends after the others
 pub after : (out so_far last new more : List ℕ) → last ≡ out ++ so_far → new ≡ last ++ more → new ≡ out ++ (so_far ++ more)
 after out so_far last new more before e = e ∙ (ap (λ (front : List ℕ). front ++ more) before ∙ append_assoc out so_far more)
@@ -102,7 +98,3 @@ each_next {A} bytes_of values i none out last new lt before e =
 pub each_all : {A : Type 0} (bytes_of : A → List ℕ) (values : List A) (i : ℕ) (out new : List ℕ) → length values ≤ i
     → new ≡ out ++ flat_map bytes_of (take i values) → new ≡ out ++ flat_map bytes_of values
 each_all {A} bytes_of values i out new done e = e ∙ ap (λ (list : List A). out ++ flat_map bytes_of list) (take_all i values done)
-
-pub on_ok : {T E P Q : Type 0} (r : Result T E) → (P → Q) → OnOk r P → OnOk r Q
-on_ok (Ok value) f p = f p
-on_ok (Err e) f p = p

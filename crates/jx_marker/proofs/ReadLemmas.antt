@@ -149,17 +149,17 @@ cod_range body are h = record {
   shape = shape_range (slice_index body 0) 5 body are h.shape;
 }
 
-pick : (b : Bool) → (cond {A = ℕ} b 1 2 ≡ 1) ⊎ (cond {A = ℕ} b 1 2 ≡ 2)
+pub pick : (b : Bool) → (cond {A = ℕ} b 1 2 ≡ 1) ⊎ (cond {A = ℕ} b 1 2 ≡ 2)
 pick true = inl refl
 pick false = inr refl
 
-index_narrow : (comps : ℕ) → (index_size comps ≡ 1) ⊎ (index_size comps ≡ 2)
+pub index_narrow : (comps : ℕ) → (index_size comps ≡ 1) ⊎ (index_size comps ≡ 2)
 index_narrow comps = pick (ltb comps 257)
 
-entry_narrow : (sqcd : ℕ) → (entry_size sqcd ≡ 1) ⊎ (entry_size sqcd ≡ 2)
+pub entry_narrow : (sqcd : ℕ) → (entry_size sqcd ≡ 1) ⊎ (entry_size sqcd ≡ 2)
 entry_narrow sqcd = pick (sqcd % 32 == 0)
 
-index_most : (comps : ℕ) → index_size comps ≤ 2
+pub index_most : (comps : ℕ) → index_size comps ≤ 2
 index_most comps = elim (index_narrow comps) [ inl e ↦ omega arith | inr e ↦ omega arith ]
 
 index_word : (comps : ℕ) (body : List ℕ) → AreBytes body → index_at comps 0 body < 2 ^ 16

@@ -26,6 +26,7 @@ use Rattle.jx_marker.proofs.RuleLemmas.{siz_rules, cod_rules, coc_rules, qcd_rul
 use Rattle.jx_marker.proofs.PutLemmas.{length_siz, length_cod, length_quant, length_qcc, length_poc, length_progression, most_comps}
 use Rattle.jx_marker.proofs.FrontLemmas.{whole_read, values_read, slice_past, big_from_past}
 use Rattle.std.proofs.lemmas.Bool.{eq-eqb, le-leb, lt-ltb, lt-leb, and_from}
+use Rattle.jx_marker.proofs.ReadLemmas.{entry_narrow, index_most, index_narrow}
 
 -- SIZ
 
@@ -243,18 +244,8 @@ cod_is_read comps cod rest range =
 
 -- a component's index
 
-pick : (b : Bool) → (cond {A = ℕ} b 1 2 ≡ 1) ⊎ (cond {A = ℕ} b 1 2 ≡ 2)
-pick true = inl refl
-pick false = inr refl
-
-one_or_two : (comps : ℕ) → (index_size comps ≡ 1) ⊎ (index_size comps ≡ 2)
-one_or_two comps = pick (ltb comps 257)
-
 index_fits : (comps comp : ℕ) → comp < comps → comp < 2 ^ 16 → comp < 256 ^ index_size comps
 index_fits comps comp below word = grind (arith, nat_tests)
-
-narrow_index : (comps : ℕ) → index_size comps ≤ 2
-narrow_index comps = elim (one_or_two comps) [ inl e ↦ omega arith | inr e ↦ omega arith ]
 
 mul_some : (n size : ℕ) → 0 < n → size ≤ n * size
 mul_some n size some = let one = mul-le-mul_right size some in omega (arith, one)
@@ -316,7 +307,7 @@ coc_is_read comps comp shape rest range =
     let size : length body ≡ index_size comps + (6 + length shape.precincts)
     = omega (arith, length-append (index_bytes comps comp) (precinct_bit shape ∷ shape_bytes shape), index_length comps comp) in
     let count = most_precincts shape range.fits in
-    let narrow = narrow_index comps in
+    let narrow = index_most comps in
     whole_read comps COC body rest (segment.Coc comp shape) (record {
       follows = refl;
       not_ppm = refl;
@@ -329,11 +320,8 @@ coc_is_read comps comp shape rest range =
 
 -- QCD and QCC
 
-entry_size_is : (sqcd : ℕ) → (entry_size sqcd ≡ 1) ⊎ (entry_size sqcd ≡ 2)
-entry_size_is sqcd = pick (sqcd % 32 == 0)
-
 entry_sizes : (sqcd : ℕ) → (1 ≤ entry_size sqcd) × (entry_size sqcd ≤ 2)
-entry_sizes sqcd = elim (entry_size_is sqcd) [ inl e ↦ (omega arith, omega arith) | inr e ↦ (omega arith, omega arith) ]
+entry_sizes sqcd = elim (entry_narrow sqcd) [ inl e ↦ (omega arith, omega arith) | inr e ↦ (omega arith, omega arith) ]
 
 number_read : (size : ℕ) (front rest : List ℕ) (value : ℕ) → value < 256 ^ size → entry_at size (length front) (front ++ (big_bytes size value ++ rest)) ≡ value
 number_read size front rest value fits =
@@ -426,7 +414,7 @@ rgn_is_read comps comp shift rest range =
     = ap not (and_from (length body == index_size comps + 2) (slice_index body (index_size comps) == 0) (eq-eqb (length body) (index_size comps + 2) size) (eq-eqb (slice_index body (index_size comps)) 0 style)) in
     let index : index_at comps 0 body ≡ comp = index_read comps comp (0 ∷ shift ∷ []) (index_fits comps comp range.index range.word) in
     let twelfth : breaks_12 comps RGN body ≡ false = ap (λ (n : ℕ). leb comps n) index ∙ lt-leb comps comp range.index in
-    let narrow = narrow_index comps in
+    let narrow = index_most comps in
     let here : 1 + index_size comps ≡ length (index_bytes comps comp) + 1 = omega (arith, index_length comps comp) in
     let shift_is : slice_index body (1 + index_size comps) ≡ shift = ap (λ (n : ℕ). slice_index body n) here ∙ slice_past (index_bytes comps comp) (0 ∷ shift ∷ []) 1 in
     whole_read comps RGN body rest (segment.Rgn comp shift) (record {
@@ -478,7 +466,7 @@ progression_zero_2 comps is entry rest range =
     rw is (same_progression (progression_at_size 2 0 (progression_bytes_size 2 entry ++ rest)) entry refl cs lye refl ce refl)
 
 progression_zero : (comps : ℕ) (entry : Progression) (rest : List ℕ) → ProgressionInRange comps entry → progression_at comps 0 (progression_bytes comps entry ++ rest) ≡ entry
-progression_zero comps entry rest range = elim (one_or_two comps) [ inl e ↦ progression_zero_1 comps e entry rest range | inr e ↦ progression_zero_2 comps e entry rest range ]
+progression_zero comps entry rest range = elim (index_narrow comps) [ inl e ↦ progression_zero_1 comps e entry rest range | inr e ↦ progression_zero_2 comps e entry rest range ]
 
 progression_shift : (comps : ℕ) (front xs : List ℕ) → progression_at comps (length front) (front ++ xs) ≡ progression_at comps 0 xs
 progression_shift comps front xs =

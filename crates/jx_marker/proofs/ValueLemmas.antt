@@ -7,12 +7,6 @@ pub length_values : {A : Type 0} (value_at : ℕ → List ℕ → A) (size n at 
 length_values value_at size zero at bytes = refl
 length_values value_at size (suc n) at bytes = let e = length_values value_at size n (at + size) bytes in omega (arith, e)
 
--- the first of those that are left
-pub values_left : {A : Type 0} (value_at : ℕ → List ℕ → A) (size count i at : ℕ) (bytes : List ℕ) → i < count
-    → values_from value_at size (count - i) at bytes ≡ value_at at bytes ∷ values_from value_at size (count - (i + 1)) (at + size) bytes
-values_left value_at size count i at bytes more =
-    let one : count - i ≡ suc (count - (i + 1)) = omega arith in rw one refl
-
 -- one more value
 pub values_more : {A : Type 0} (value_at : ℕ → List ℕ → A) (size count i at : ℕ) (bytes : List ℕ) (so_far : List A) → i < count
     → so_far ++ values_from value_at size (count - i) at bytes ≡ (so_far ++ value_at at bytes ∷ []) ++ values_from value_at size (count - (i + 1)) (at + size) bytes

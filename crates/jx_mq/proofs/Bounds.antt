@@ -1,31 +1,14 @@
 -- The encoder's registers stay within their bounds.
-use Rattle.std.proofs.Common.{◌≡◌, ◌≢◌, ◌<◌, ◌≤◌, ◌+◌, ◌-◌, ◌*◌, ◌/◌, ◌^◌, ℕ, suc, Bool, true, false, List, [], ◌∷◌, refl, arith, eqb, ltb, inl, inr, if◌then◌else◌}
-use Rattle.std.proofs.lemmas.Bool.{cases_lt, cases_eq, lt-ltb, le-ltb}
-use Rattle.std.proofs.lemmas.Bool.Decides.{nat_tests}
+use Rattle.std.proofs.Common.{◌≡◌, ◌≢◌, ◌<◌, ◌≤◌, ◌+◌, ◌-◌, ◌*◌, ◌/◌, ◌^◌, ℕ, suc, Bool, true, false, List, [], ◌∷◌, refl, arith, ltb, inl, inr, if◌then◌else◌}
+use Rattle.std.proofs.lemmas.Bool.{cases_lt, cases_eq, lt-ltb, le-ltb, ne_eqb, eq-eqb}
 use Rattle.std.proofs.lemmas.Nat.{mul-le}
 use Rattle.std.proofs.Math.Nat.{two-pow-succ}
 use Rattle.jx_base.specs.MqWriting.{MqWriter, mq_plain, mq_stuffed, mq_byte_out, mq_shifted, mq_lower, mq_upper, mq_part}
 use Rattle.jx_mq.specs.Coding.{AreGiven, IsFull, IsBounded, IsCoding}
 
-pub no_byte : (byte : ℕ) → byte ≢ 255 → eqb byte 255 ≡ false
-no_byte byte ne = grind (arith, nat_tests)
-
-pub is_byte : (byte : ℕ) → byte ≡ 255 → eqb byte 255 ≡ true
-is_byte byte e = grind (arith, nat_tests)
-
 -- at CT 0 the bounds are those of C and A
 at_zero : (n ct : ℕ) → ct ≡ 0 → n * 2 ^ ct ≡ n
 at_zero n ct e = rw e (omega arith)
-
-pub is_zero : (n : ℕ) → n ≡ 0 → eqb n 0 ≡ true
-is_zero n e = grind (arith, nat_tests)
-
-pub isnt_zero : (n : ℕ) → n ≢ 0 → eqb n 0 ≡ false
-isnt_zero n ne = grind (arith, nat_tests)
-
-given_newest : (byte : ℕ) (older : List ℕ) → AreGiven (byte ∷ older) → byte < 256
-given_newest byte [] h = omega arith
-given_newest byte (before ∷ older) h = h.0
 
 given_more : (byte next : ℕ) (older : List ℕ) → AreGiven (byte ∷ older) → next < 256 → (byte ≡ 255 → next ≤ 143) → AreGiven (next ∷ byte ∷ older)
 given_more byte next older h fits few = (fits, few, h)
@@ -73,17 +56,17 @@ byte_out_at a c ct byte older zero_ct h =
     let room : c + a ≤ 150994944 = rw (at_zero (c + a) ct zero_ct) at h.room in
     let some = h.some in
     elim (cases_eq byte 255) [
-      | inl ff ↦ rw (is_byte byte ff) (stuffed_coding a c ct byte older h.some h.width room h.given ff)
+      | inl ff ↦ rw (eq-eqb byte 255 ff) (stuffed_coding a c ct byte older h.some h.width room h.given ff)
       | inr ne ↦
           elim (cases_lt c 134217728) [
-            | inl less ↦ rw (no_byte byte ne, lt-ltb c 134217728 less) (plain_coding a c ct byte older h.some h.width less h.given ne)
+            | inl less ↦ rw (ne_eqb byte 255 ne, lt-ltb c 134217728 less) (plain_coding a c ct byte older h.some h.width less h.given ne)
             | inr carry ↦
                 let free : IsFull (byte ∷ older) → ⊥ = λ full. let most : c + a ≤ 134217728 = rw (at_zero (c + a) ct zero_ct) at (h.tight full) in omega arith in
                 let given : AreGiven ((byte + 1) ∷ older) = raised_given byte older h.given free ne in
                 elim (cases_eq (byte + 1) 255) [
-                  | inl ff ↦ rw (no_byte byte ne, le-ltb c 134217728 carry, is_byte (byte + 1) ff)
+                  | inl ff ↦ rw (ne_eqb byte 255 ne, le-ltb c 134217728 carry, eq-eqb (byte + 1) 255 ff)
                       (stuffed_coding a (c - 134217728) ct (byte + 1) older h.some h.width (omega arith) given ff)
-                  | inr more ↦ rw (no_byte byte ne, le-ltb c 134217728 carry, no_byte (byte + 1) more)
+                  | inr more ↦ rw (ne_eqb byte 255 ne, le-ltb c 134217728 carry, ne_eqb (byte + 1) 255 more)
                       (plain_coding a (c - 134217728) ct (byte + 1) older h.some h.width (omega arith) given more)
                 ]
           ]
@@ -118,8 +101,8 @@ shifted_coding w less h =
     let b = doubled_bounded w less h in
     let some = h.due in
     elim (cases_eq (w.ct - 1) 0) [
-      | inl none ↦ rw (is_zero (w.ct - 1) none) (byte_out_coding (2 * w.a) (2 * w.c) (w.ct - 1) w.bytes none b)
-      | inr ne ↦ rw (isnt_zero (w.ct - 1) ne) (record { bounded = b; due = omega arith })
+      | inl none ↦ rw (eq-eqb (w.ct - 1) 0 none) (byte_out_coding (2 * w.a) (2 * w.c) (w.ct - 1) w.bytes none b)
+      | inr ne ↦ rw (ne_eqb (w.ct - 1) 0 ne) (record { bounded = b; due = omega arith })
     ]
 
 lower_coding : (w : MqWriter) (qe : ℕ) → 0 < qe → qe < w.a → IsCoding w → IsCoding (mq_lower w qe)

@@ -1,11 +1,11 @@
 -- What a shift and a byte given out do to the ends of the interval.
 use Rattle.std.proofs.Common.{◌≡◌, ◌≢◌, ◌<◌, ◌≤◌, ◌+◌, ◌-◌, ◌*◌, ◌/◌, ◌%◌, ◌^◌, ℕ, suc, List, [], ◌∷◌, refl, ◌∙◌, arith, inl, inr}
-use Rattle.std.proofs.lemmas.Bool.{cases_lt, cases_eq, lt-ltb, le-ltb}
+use Rattle.std.proofs.lemmas.Bool.{cases_lt, cases_eq, lt-ltb, le-ltb, ne_eqb, eq-eqb}
 use Rattle.std.proofs.Math.Nat.{two-pow-succ}
 use Rattle.jx_base.specs.MqWriting.{MqWriter, mq_newest, mq_plain, mq_stuffed, mq_byte_out}
 use Rattle.jx_mq.specs.Coding.{AreGiven}
 use Rattle.jx_mq.specs.Fraction.{span, value, low, scale}
-use Rattle.jx_mq.proofs.Bounds.{coder, no_byte, is_byte}
+use Rattle.jx_mq.proofs.Bounds.{coder}
 
 -- a byte was given out, and the one before it may have taken a carry
 pub record GivesOut (w after : MqWriter) (newest byte before : ℕ) (older : List ℕ) : Type 0 where
@@ -40,8 +40,8 @@ plain_gives a c byte older ne = record {
   least = omega arith;
   most = omega arith;
   a = refl;
-  low_is = rw (no_byte byte ne) (plain_low (value (byte ∷ older)) c);
-  scale_is = rw (no_byte byte ne) (omega arith);
+  low_is = rw (ne_eqb byte 255 ne) (plain_low (value (byte ∷ older)) c);
+  scale_is = rw (ne_eqb byte 255 ne) (omega arith);
   rest = omega arith;
   ct_least = omega arith;
   ct_most = omega arith;
@@ -55,8 +55,8 @@ stuffed_gives a c byte older ff = record {
   least = omega arith;
   most = omega arith;
   a = refl;
-  low_is = rw (is_byte byte ff) (stuffed_low (value (byte ∷ older)) c);
-  scale_is = rw (is_byte byte ff) (omega arith);
+  low_is = rw (eq-eqb byte 255 ff) (stuffed_low (value (byte ∷ older)) c);
+  scale_is = rw (eq-eqb byte 255 ff) (omega arith);
   rest = omega arith;
   ct_least = omega arith;
   ct_most = omega arith;
@@ -88,15 +88,15 @@ gives_at : (a c byte : ℕ) (older : List ℕ) → HasGivenOut (coder a c 0 (byt
 unfolding HasGivenOut
 gives_at a c byte older =
     elim (cases_eq byte 255) [
-      | inl ff ↦ rw (is_byte byte ff) (byte, (c / 1048576, (byte, (older, stuffed_gives a c byte older ff))))
+      | inl ff ↦ rw (eq-eqb byte 255 ff) (byte, (c / 1048576, (byte, (older, stuffed_gives a c byte older ff))))
       | inr ne ↦
           elim (cases_lt c 134217728) [
-            | inl less ↦ rw (no_byte byte ne, lt-ltb c 134217728 less) (byte, (c / 524288, (byte, (older, plain_gives a c byte older ne))))
+            | inl less ↦ rw (ne_eqb byte 255 ne, lt-ltb c 134217728 less) (byte, (c / 524288, (byte, (older, plain_gives a c byte older ne))))
             | inr carry ↦
                 elim (cases_eq (byte + 1) 255) [
-                  | inl ff ↦ rw (no_byte byte ne, le-ltb c 134217728 carry, is_byte (byte + 1) ff)
+                  | inl ff ↦ rw (ne_eqb byte 255 ne, le-ltb c 134217728 carry, eq-eqb (byte + 1) 255 ff)
                       (byte, ((c - 134217728) / 1048576, (byte + 1, (older, carried_gives a c byte _ older _ carry (stuffed_gives a (c - 134217728) (byte + 1) older ff)))))
-                  | inr more ↦ rw (no_byte byte ne, le-ltb c 134217728 carry, no_byte (byte + 1) more)
+                  | inr more ↦ rw (ne_eqb byte 255 ne, le-ltb c 134217728 carry, ne_eqb (byte + 1) 255 more)
                       (byte, ((c - 134217728) / 524288, (byte + 1, (older, carried_gives a c byte _ older _ carry (plain_gives a (c - 134217728) (byte + 1) older more)))))
                 ]
           ]

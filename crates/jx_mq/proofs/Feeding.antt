@@ -1,13 +1,13 @@
 -- A byte taken by the decoder, and a shift of both registers.
 use Rattle.std.proofs.Common.{◌≡◌, ◌≢◌, ◌<◌, ◌≤◌, ◌+◌, ◌-◌, ◌*◌, ◌%◌, ◌^◌, ℕ, zero, suc, List, refl, ◌∙◌, add-one, arith, ◌⊎◌, inl, inr}
-use Rattle.std.proofs.lemmas.Bool.{cases_lt, cases_eq, lt-ltb, le-ltb}
+use Rattle.std.proofs.lemmas.Bool.{cases_lt, cases_eq, lt-ltb, le-ltb, ne_eqb, eq-eqb}
 use Rattle.std.proofs.lemmas.Nat.{pow-add}
 use Rattle.std.proofs.Math.Nat.{two-pow-succ, mod-eq_of_lt}
 use Rattle.jx_base.specs.MqReading.{MqReader, mq_byte, mq_byte_in, mq_shifted_in, mq_refilled}
 use Rattle.jx_base.specs.MqWriting.{MqWriter, mq_byte_out, mq_shifted, mq_renormalized}
 use Rattle.jx_mq.specs.Coding.{IsCoding}
 use Rattle.jx_mq.specs.Fraction.{span, value, low, scale, front}
-use Rattle.jx_mq.proofs.Bounds.{coder, no_byte, is_byte, is_zero, isnt_zero, shifted_coding}
+use Rattle.jx_mq.proofs.Bounds.{coder, shifted_coding}
 use Rattle.jx_mq.proofs.Renormals.{renormalized_more, renormalized_done}
 use Rattle.jx_mq.proofs.Refills.{refilled_more, refilled_done}
 use Rattle.jx_mq.proofs.Ends.{HasGivenOut, gives_out, doubled_ends}
@@ -19,19 +19,19 @@ in_marker : (s : List ℕ) (r : MqReader) → r.c < 2147483648 → mq_byte s r.p
     mq_byte_in s r ≡ record r { c = r.c + 65280; ct = 8; looked = r.place + 2 }
 in_marker s r room ff high =
     let less : r.c + 65280 < 4294967296 = omega arith in
-    rw (is_byte (mq_byte s r.place) ff, add-one r.place, lt-ltb 143 (mq_byte s (suc r.place)) high, mod-eq_of_lt less) refl
+    rw (eq-eqb (mq_byte s r.place) 255 ff, add-one r.place, lt-ltb 143 (mq_byte s (suc r.place)) high, mod-eq_of_lt less) refl
 
 in_stuffed : (s : List ℕ) (r : MqReader) → r.c < 2147483648 → mq_byte s r.place ≡ 255 → mq_byte s (suc r.place) ≤ 143 →
     mq_byte_in s r ≡ record r { c = r.c + mq_byte s (suc r.place) * 512; ct = 7; place = suc r.place; looked = r.place + 2 }
 in_stuffed s r room ff small =
     let less : r.c + mq_byte s (suc r.place) * 512 < 4294967296 = omega arith in
-    rw (is_byte (mq_byte s r.place) ff, add-one r.place, le-ltb 143 (mq_byte s (suc r.place)) small, mod-eq_of_lt less) refl
+    rw (eq-eqb (mq_byte s r.place) 255 ff, add-one r.place, le-ltb 143 (mq_byte s (suc r.place)) small, mod-eq_of_lt less) refl
 
 in_plain : (s : List ℕ) (r : MqReader) → r.c < 2147483648 → mq_byte s r.place ≢ 255 → mq_byte s (suc r.place) < 256 →
     mq_byte_in s r ≡ record r { c = r.c + mq_byte s (suc r.place) * 256; ct = 8; place = suc r.place; looked = r.place + 2 }
 in_plain s r room ne fits =
     let less : r.c + mq_byte s (suc r.place) * 256 < 4294967296 = omega arith in
-    rw (no_byte (mq_byte s r.place) ne, add-one r.place, mod-eq_of_lt less) refl
+    rw (ne_eqb (mq_byte s r.place) 255 ne, add-one r.place, mod-eq_of_lt less) refl
 
 -- a byte was taken
 pub record Fed (w : MqWriter) (r : MqReader) (byte : ℕ → ℕ) (last most : ℕ) : Type 0 where
@@ -41,10 +41,10 @@ pub record Fed (w : MqWriter) (r : MqReader) (byte : ℕ → ℕ) (last most : �
   pub less : r.c < most + 131072
 
 span_ff : (b : ℕ) → b ≡ 255 → span b ≡ 7
-span_ff b e = rw (is_byte b e) refl
+span_ff b e = rw (eq-eqb b 255 e) refl
 
 span_other : (b : ℕ) → b ≢ 255 → span b ≡ 8
-span_other b ne = rw (no_byte b ne) refl
+span_other b ne = rw (ne_eqb b 255 ne) refl
 
 fed_stuffed : (s : List ℕ) (w : MqWriter) (r : MqReader) (last v : ℕ) → r.ct ≡ 0 → r.c < 2147483648 → mq_byte s r.place ≡ 255 → mq_byte s (suc r.place) ≤ 143 → suc r.place < last →
     Inside (mq_byte s) last r.place v (scale w + 0) → r.a ≡ w.a → r.c + low w * 65536 ≡ v * 65536 → Fed w (mq_byte_in s r) (mq_byte s) last r.c
@@ -215,9 +215,9 @@ shifted_doubles w less h =
     let moved : MqWriter = coder (2 * w.a) (2 * w.c) (w.ct - 1) w.bytes in
     let doubles : Doubles w (coder (2 * w.a) (2 * w.c) (w.ct - 1) w.bytes) = record { a = refl; low_is = ends.0; scale_is = ends.1 } in
     elim (cases_eq (w.ct - 1) 0) [
-      | inl none ↦ rw (is_zero (w.ct - 1) none)
+      | inl none ↦ rw (eq-eqb (w.ct - 1) 0 none)
           (given_doubles w moved (mq_byte_out moved) (gives_out (2 * w.a) (2 * w.c) (w.ct - 1) w.bytes none b.given) doubles)
-      | inr ne ↦ rw (isnt_zero (w.ct - 1) ne) doubles
+      | inr ne ↦ rw (ne_eqb (w.ct - 1) 0 ne) doubles
     ]
 
 doubled_code : (c l v ct : ℕ) → 0 < ct → ct ≤ 8 → c + l * 65536 ≡ v * 2 ^ (16 - ct) → 2 * c + 2 * l * 65536 ≡ v * 2 ^ (16 - (ct - 1))
@@ -255,8 +255,8 @@ shift_follows s w r last v segment h less fits f =
           let fed = feed s w r last v segment none (omega arith) f in
           let some = fed.some in
           let after = follows_below w (mq_byte_in s r) (mq_byte s) last fed.v h fits fed.follows in
-          rw (is_zero r.ct none) (record { v = fed.v; follows = both_doubled w (mq_shifted w) (mq_byte_in s r) (mq_byte s) last fed.v d (omega arith) (omega arith) fed.follows })
-      | inr ne ↦ rw (isnt_zero r.ct ne) (record { v = v; follows = both_doubled w (mq_shifted w) r (mq_byte s) last v d (omega arith) (omega arith) f })
+          rw (eq-eqb r.ct 0 none) (record { v = fed.v; follows = both_doubled w (mq_shifted w) (mq_byte_in s r) (mq_byte s) last fed.v d (omega arith) (omega arith) fed.follows })
+      | inr ne ↦ rw (ne_eqb r.ct 0 ne) (record { v = v; follows = both_doubled w (mq_shifted w) r (mq_byte s) last v d (omega arith) (omega arith) f })
     ]
 
 -- and so does a renormalization

@@ -1,11 +1,11 @@
 -- The finished bytes lie in the interval of each state that led to them, at every length that a decoder may look at.
-use Rattle.std.proofs.Common.{◌≡◌, ◌<◌, ◌≤◌, ◌+◌, ◌-◌, ◌*◌, ◌^◌, ℕ, zero, suc, List, ◌∷◌, refl, ◌∙◌, arith, inl, inr}
-use Rattle.std.proofs.lemmas.Bool.{cases_lt, cases_eq}
+use Rattle.std.proofs.Common.{◌≡◌, ◌<◌, ◌≤◌, ◌+◌, ◌-◌, ◌*◌, ◌^◌, ℕ, zero, suc, List, ◌∷◌, refl, ◌∙◌, arith, inl, inr, lt_of_mul-lt-mul_right}
+use Rattle.std.proofs.lemmas.Bool.{cases_lt, cases_eq, eq-eqb, ne_eqb}
 use Rattle.std.proofs.lemmas.Nat.{pow_pos, pow-add, mul-le}
 use Rattle.jx_base.specs.MqWriting.{MqWriter, mq_byte_out, mq_shifted, mq_renormalized, mq_lower, mq_upper}
 use Rattle.jx_mq.specs.Coding.{IsCoding}
 use Rattle.jx_mq.specs.Fraction.{value, size, low, scale, front}
-use Rattle.jx_mq.proofs.Bounds.{coder, is_zero, isnt_zero, shifted_coding}
+use Rattle.jx_mq.proofs.Bounds.{coder, shifted_coding}
 use Rattle.jx_mq.proofs.Renormals.{renormalized_more, renormalized_done}
 use Rattle.jx_mq.proofs.Ends.{GivesOut, HasGivenOut, gives_out, doubled_ends}
 
@@ -14,9 +14,6 @@ mul_less x y t less some =
     let more : (x + 1) * t ≤ y * t = mul-le (x + 1) t y t (omega arith) (omega arith) in
     let e : (x + 1) * t ≡ x * t + t = grind arith in
     omega arith
-
-pub cancel_less : (x y t : ℕ) → x * t < y * t → x < y
-cancel_less x y t less = elim (cases_lt x y) [ inl h ↦ h | inr h ↦ absurd (let more = mul-le y t x t h (omega arith) in omega arith) ]
 
 pub cancel_most : (x y t : ℕ) → 0 < t → x * t ≤ y * t → x ≤ y
 cancel_most x y t some most = elim (cases_lt y x) [ inl h ↦ absurd (let more = mul_less y x t h some in omega arith) | inr h ↦ h ]
@@ -71,7 +68,7 @@ scaled_less : (l s v n m : ℕ) → (l * 2 ^ m) * 2 ^ s < v * 2 ^ (n + m) → l 
 scaled_less l s v n m less =
     let e : (l * 2 ^ m) * 2 ^ s ≡ (l * 2 ^ s) * 2 ^ m = grind arith in
     let f : v * 2 ^ (n + m) ≡ (v * 2 ^ n) * 2 ^ m = rw pow-add (grind arith) in
-    cancel_less (l * 2 ^ s) (v * 2 ^ n) (2 ^ m) (rw (e, f) at less)
+    lt_of_mul-lt-mul_right (2 ^ m) (rw (e, f) at less)
 
 scaled_most : (l a s v n m : ℕ) → v * 2 ^ (n + m) ≤ (l * 2 ^ m + a * 2 ^ m) * 2 ^ s → v * 2 ^ n ≤ (l + a) * 2 ^ s
 scaled_most l a s v n m most =
@@ -152,8 +149,8 @@ fits_shifted w byte last less h fits =
     let doubled : FitsIn (coder (2 * w.a) (2 * w.c) (w.ct - 1) w.bytes) byte last =
     elim (cases_eq (w.ct - 1) 0) [
       | inl none ↦ fits_given_out (coder (2 * w.a) (2 * w.c) (w.ct - 1) w.bytes) (mq_byte_out (coder (2 * w.a) (2 * w.c) (w.ct - 1) w.bytes)) byte last
-          (gives_out (2 * w.a) (2 * w.c) (w.ct - 1) w.bytes none b.given) (rw (is_zero (w.ct - 1) none) at fits)
-      | inr ne ↦ rw (isnt_zero (w.ct - 1) ne) at fits
+          (gives_out (2 * w.a) (2 * w.c) (w.ct - 1) w.bytes none b.given) (rw (eq-eqb (w.ct - 1) 0 none) at fits)
+      | inr ne ↦ rw (ne_eqb (w.ct - 1) 0 ne) at fits
     ] in
     (doubled.0, (doubled.1.0, fits_doubled w byte last doubled.0 due b.ct doubled.1.1))
 

@@ -1,12 +1,12 @@
 -- The decoder follows the encoder: its C is the fraction that it took, less the lower end.
-use Rattle.std.proofs.Common.{◌≡◌, ◌<◌, ◌≤◌, ◌+◌, ◌-◌, ◌*◌, ◌/◌, ◌^◌, ℕ, Bool, true, false, not, refl, ap, ◌∙◌, arith, ltb, inl, inr}
+use Rattle.std.proofs.Common.{◌≡◌, ◌<◌, ◌≤◌, ◌+◌, ◌-◌, ◌*◌, ◌/◌, ◌^◌, ℕ, Bool, true, false, not, refl, ap, ◌∙◌, arith, ltb, inl, inr, lt_of_mul-lt-mul_right}
 use Rattle.std.proofs.lemmas.Bool.{cases_lt, lt-ltb, le-ltb}
 use Rattle.std.proofs.lemmas.Nat.{pow_pos, pow-add, mul-le}
 use Rattle.jx_base.specs.MqReading.{MqReader, mq_is_low, mq_reads_mps, mq_chosen}
 use Rattle.jx_base.specs.MqWriting.{MqWriter, mq_lower, mq_upper, mq_part}
 use Rattle.jx_mq.specs.Coding.{IsCoding}
 use Rattle.jx_mq.specs.Fraction.{low, scale}
-use Rattle.jx_mq.proofs.Fitting.{mul_less, cancel_less, FitsIn}
+use Rattle.jx_mq.proofs.Fitting.{mul_less, FitsIn}
 use Rattle.jx_mq.proofs.Fronts.{Taken, between}
 
 pub record Follows (w : MqWriter) (r : MqReader) (byte : ℕ → ℕ) (last v : ℕ) : Type 0 where
@@ -19,13 +19,13 @@ pub record Follows (w : MqWriter) (r : MqReader) (byte : ℕ → ℕ) (last v : 
 taken_least : (l v n ct : ℕ) → l * 2 ^ (n + ct) < (v + 1) * 2 ^ n → l * 2 ^ ct ≤ v
 taken_least l v n ct less =
     let e : l * 2 ^ (n + ct) ≡ (l * 2 ^ ct) * 2 ^ n = rw pow-add (grind arith) in
-    let h : l * 2 ^ ct < v + 1 = cancel_less (l * 2 ^ ct) (v + 1) (2 ^ n) (rw e at less) in
+    let h : l * 2 ^ ct < v + 1 = lt_of_mul-lt-mul_right (2 ^ n) (rw e at less) in
     omega arith
 
 taken_most : (u v n ct : ℕ) → v * 2 ^ n < u * 2 ^ (n + ct) → v < u * 2 ^ ct
 taken_most u v n ct less =
     let e : u * 2 ^ (n + ct) ≡ (u * 2 ^ ct) * 2 ^ n = rw pow-add (grind arith) in
-    cancel_less v (u * 2 ^ ct) (2 ^ n) (rw e at less)
+    lt_of_mul-lt-mul_right (2 ^ n) (rw e at less)
 
 sixteen : (u ct : ℕ) → ct ≤ 8 → (u * 2 ^ ct) * 2 ^ (16 - ct) ≡ u * 65536
 sixteen u ct most =

@@ -1,11 +1,11 @@
 -- The first bytes of a segment as a fraction: what a decoder has taken.
-use Rattle.std.proofs.Common.{◌≡◌, ◌<◌, ◌≤◌, ◌+◌, ◌-◌, ◌*◌, ◌^◌, ℕ, zero, suc, refl, arith, ◌⊎◌, inl, inr}
+use Rattle.std.proofs.Common.{◌≡◌, ◌<◌, ◌≤◌, ◌+◌, ◌-◌, ◌*◌, ◌^◌, ℕ, zero, suc, refl, arith, ◌⊎◌, inl, inr, lt_of_mul-lt-mul_right}
 use Rattle.std.proofs.lemmas.Bool.{cases_lt}
 use Rattle.std.proofs.lemmas.Nat.{pow_pos, pow-add, mul-le}
 use Rattle.jx_base.specs.MqWriting.{MqWriter, mq_newest}
 use Rattle.jx_mq.specs.Coding.{AreGiven, IsCoding}
 use Rattle.jx_mq.specs.Fraction.{span, value, size, low, scale, front}
-use Rattle.jx_mq.proofs.Fitting.{mul_less, cancel_less, grown_size, FitsIn}
+use Rattle.jx_mq.proofs.Fitting.{mul_less, grown_size, FitsIn}
 
 -- what an encoder gave out, followed by FF for ever
 pub record IsSegment (byte : ℕ → ℕ) (last : ℕ) : Type 0 where
@@ -95,7 +95,7 @@ inside_most v vl t tl n e grows upper =
     let second : (vl * 2 ^ n) * 2 ^ t < ((vl + 1) * 2 ^ n) * 2 ^ t = mul_less (vl * 2 ^ n) ((vl + 1) * 2 ^ n) (2 ^ t) (omega arith) (pow_pos t) in
     let third : ((vl + 1) * 2 ^ n) * 2 ^ t ≤ (e * 2 ^ tl) * 2 ^ t = mul-le ((vl + 1) * 2 ^ n) (2 ^ t) (e * 2 ^ tl) (2 ^ t) upper (omega arith) in
     let same : (e * 2 ^ tl) * 2 ^ t ≡ (e * 2 ^ t) * 2 ^ tl = grind arith in
-    cancel_less (v * 2 ^ n) (e * 2 ^ t) (2 ^ tl) (omega arith)
+    lt_of_mul-lt-mul_right (2 ^ tl) (omega arith)
 
 past_least : (l v vl t n j : ℕ) → v + 1 ≡ (vl + 1) * 2 ^ j → l * 2 ^ t < (vl + 1) * 2 ^ n → l * 2 ^ (t + j) < (v + 1) * 2 ^ n
 past_least l v vl t n j e less =

@@ -19,7 +19,7 @@ use Rattle.jx_mq.proofs.Flushing.{widened, flush_fits, flushed_given, flushed_is
 use Rattle.jx_mq.proofs.Fronts.{IsSegment, byte_fits, Taken}
 use Rattle.jx_mq.proofs.Following.{Follows, decides}
 use Rattle.jx_mq.proofs.Feeding.{feed, FollowsOn, renormalization_follows}
-use Rattle.jx_mq.proofs.Segments.{in_order, segment_of, segment_front, trimmed_markers}
+use Rattle.jx_mq.proofs.Segments.{in_order, segment_of, trimmed_markers, trimmed_front}
 
 renormalized_coder : (n : ℕ) (w : MqWriter) → IsCoding w → w.a < 65536 → 32768 ≤ w.a * 2 ^ n → IsCoder (mq_renormalized n w)
 unfolding mq_renormalized
@@ -139,7 +139,7 @@ follows_all (Decided label bit ∷ given) s w x r last v segment h is f =
 follows_all (Renewed ∷ given) s w x r last v segment h is f = follows_all given s w mq_fresh r last v segment h is f
 
 -- the decoder's registers before its first byte in, and the scale in which they stand
-first_reader : List ℕ → MqReader
+unfoldable pub first_reader : List ℕ → MqReader
 first_reader s = record { a = 32768; c = mq_byte s 0 * 65536; ct = 0; place = 0; looked = 1 }
 
 first_writer : MqWriter
@@ -198,7 +198,7 @@ read_back_at : (x : MqContexts) (given : List MqGiven) (w : MqWriter) (bytes : L
     IsReadBack (mq_decisions (in_order (mq_trimmed bytes)) x (mq_asked given)) (mq_bits given) (mq_contexts_after x given)
 read_back_at x given w bytes last e h some long =
     let segment = segment_of bytes last h some long in
-    let is : front (mq_byte (in_order (mq_trimmed bytes))) last ≡ mq_flushed (mq_written_from mq_writer x given).writer = segment_front bytes last h long ∙ sym e in
+    let is : front (mq_byte (in_order (mq_trimmed bytes))) last ≡ mq_flushed (mq_written_from mq_writer x given).writer = trimmed_front bytes last h long ∙ sym e in
     let start = start_follows (in_order (mq_trimmed bytes)) last segment in
     follows_all given (in_order (mq_trimmed bytes)) mq_writer x (mq_reader (in_order (mq_trimmed bytes))) last start.v segment start_coder is start.follows
 

@@ -1,12 +1,11 @@
 -- How many bytes decisions make.
-use Rattle.std.proofs.Common.{◌≡◌, ◌≢◌, ◌<◌, ◌≤◌, ◌+◌, ◌-◌, ◌*◌, ◌/◌, ◌^◌, ℕ, zero, suc, Bool, true, false, List, [], ◌∷◌, length, reverse, refl, ap, sym, ◌∙◌, arith, ltb, inl, inr, if◌then◌else◌, ◌==◌, Result, Ok, Err, OnErr, length-drop}
-use Rattle.std.proofs.lemmas.Bool.{cases_lt}
+use Rattle.std.proofs.Common.{◌≡◌, ◌≢◌, ◌<◌, ◌≤◌, ◌+◌, ◌-◌, ◌*◌, ◌/◌, ◌^◌, ℕ, zero, suc, Bool, true, false, List, [], ◌∷◌, length, reverse, refl, ap, sym, ◌∙◌, arith, ltb, inl, inr, if◌then◌else◌, ◌==◌, length-drop}
+use Rattle.std.proofs.lemmas.Bool.{cases_lt, ne_eqb, eq-eqb}
 use Rattle.std.proofs.lemmas.List.{length-reverse}
 use Rattle.jx_base.specs.MqTable.{MqContexts, mq_fresh, mq_row_of}
 use Rattle.jx_base.specs.MqWriting.{MqWriter, MqGiven, Decided, Renewed, mq_writer, mq_newest, mq_raised, mq_plain, mq_stuffed, mq_carried, mq_by_newest, mq_byte_out, mq_shifted, mq_renormalized, mq_lower, mq_upper, mq_part, mq_written, mq_last_number, mq_given_out, mq_flushed, mq_trimmed, mq_segment, mq_is_mps, mq_wrote, mq_after_bit, mq_written_from, mq_write}
 use Rattle.jx_mq.specs.Coding.{AreGiven, IsCoder, IsRenormalizing}
 use Rattle.jx_mq.specs.Shifting.{IsShort}
-use Rattle.jx_mq.proofs.Bounds.{no_byte, is_zero, isnt_zero}
 use Rattle.jx_mq.proofs.Renormals.{renormalized_more, renormalized_done}
 
 -- a byte more, and CT is what it takes
@@ -19,7 +18,7 @@ either_more : (test : Bool) (w x y : MqWriter) → OneMore w x → OneMore w y �
 either_more true w x y p q = p
 either_more false w x y p q = q
 
-raised_long : (bytes : List ℕ) → length (mq_raised bytes) ≡ length bytes
+pub raised_long : (bytes : List ℕ) → length (mq_raised bytes) ≡ length bytes
 raised_long [] = refl
 raised_long (byte ∷ older) = refl
 
@@ -58,8 +57,8 @@ given_few w moved out same ct more =
     let least = more.least in
     let most = more.most in
     elim (cases_lt 0 moved.ct) [
-      | inl some ↦ rw (isnt_zero moved.ct (omega arith)) (record { least = omega arith; most = omega arith; ct = λ h. omega arith })
-      | inr none ↦ rw (is_zero moved.ct (omega arith)) (record { least = omega arith; most = omega arith; ct = λ h. omega arith })
+      | inl some ↦ rw (ne_eqb moved.ct 0 (omega arith)) (record { least = omega arith; most = omega arith; ct = λ h. omega arith })
+      | inr none ↦ rw (eq-eqb moved.ct 0 (omega arith)) (record { least = omega arith; most = omega arith; ct = λ h. omega arith })
     ]
 
 shifted_few : (w : MqWriter) → Few 1 w (mq_shifted w)
@@ -200,14 +199,10 @@ pub refused_last : (limit : ℕ) (w last once twice : MqWriter) (newest : ℕ) (
 refused_last limit w last once twice newest older h e f g bytes ne refused =
     let some = given_some w.bytes h.coding.bounded.given in
     let all : newest ∷ reverse older ≡ mq_flushed w = sym bytes ∙ ap (λ (x : MqWriter). x.bytes) g ∙ ap (λ (x : MqWriter). (mq_given_out x).bytes) f ∙ ap (λ (x : MqWriter). (mq_given_out (mq_given_out x)).bytes) e in
-    let kept : length (mq_trimmed (newest ∷ reverse older)) ≡ length (newest ∷ reverse older) = rw (no_byte newest ne) refl in
+    let kept : length (mq_trimmed (newest ∷ reverse older)) ≡ length (newest ∷ reverse older) = rw (ne_eqb newest 255 ne) refl in
     let whole = segment_long w in
     let trimmed : length (mq_trimmed (mq_flushed w)) ≡ length (mq_trimmed (newest ∷ reverse older)) = ap (λ (x : List ℕ). length (mq_trimmed x)) (sym all) in
     let turned : length (reverse older) ≡ length older = length-reverse older in
     let flushed = flushed_long w in
     let same : length (newest ∷ reverse older) ≡ length (mq_flushed w) = ap (λ (x : List ℕ). length x) all in
     omega arith
-
-pub on_err : {T E P : Type 0} (r : Result T E) → P → OnErr r P
-on_err (Ok x) p = tt
-on_err (Err e) p = p

@@ -1,12 +1,12 @@
 -- Decisions depend on the bytes looked at alone.
 use Rattle.std.proofs.Common.{◌≡◌, ◌<◌, ◌≤◌, ◌+◌, ◌-◌, ◌*◌, ◌%◌, ℕ, zero, suc, Bool, true, false, List, [], ◌∷◌, ◌++◌, length, take, refl, ap, ◌∙◌, arith, ltb, inl, inr, if◌then◌else◌, ◌==◌}
-use Rattle.std.proofs.lemmas.Bool.{cases_lt, cases_eq}
+use Rattle.std.proofs.lemmas.Bool.{cases_lt, cases_eq, eq-eqb, ne_eqb}
 use Rattle.std.proofs.lemmas.List.{get_or-take, take_all}
 use Rattle.jx_base.specs.MqTable.{MqContexts, mq_fresh, mq_row_of}
 use Rattle.jx_base.specs.MqReading.{MqReader, MqAsked, Under, Anew, MqDecisions, mq_byte, mq_byte_in, mq_reader, mq_shifted_in, mq_refilled, mq_is_low, mq_chosen, mq_read, mq_bit, mq_after, mq_decisions_from, mq_decisions, mq_looked}
-use Rattle.jx_mq.proofs.Bounds.{is_zero, isnt_zero}
 use Rattle.jx_mq.proofs.Refills.{refilled_more, refilled_done}
 use Rattle.jx_mq.proofs.Segments.{left_out}
+use Rattle.jx_mq.proofs.Inversion.{first_reader}
 
 -- what was looked at reaches at most one byte past the current one
 pub record IsSeen (r : MqReader) : Type 0 where
@@ -17,7 +17,7 @@ pub record Sees (before after : MqReader) : Type 0 where
   pub more : before.looked ≤ after.looked
   pub seen : IsSeen after
 
-sees_if : (test : Bool) (before x y : MqReader) → Sees before x → Sees before y → Sees before (if test then x else y)
+pub sees_if : (test : Bool) (before x y : MqReader) → Sees before x → Sees before y → Sees before (if test then x else y)
 sees_if true before x y p q = p
 sees_if false before x y p q = q
 
@@ -34,7 +34,7 @@ stuffed next r = record r { c = (r.c + next * 512) % 4294967296; ct = 7; place =
 abbrev plain : ℕ → MqReader → MqReader
 plain next r = record r { c = (r.c + next * 256) % 4294967296; ct = 8; place = r.place + 1; looked = r.place + 2 }
 
-sees_in : (s : List ℕ) (r : MqReader) → IsSeen r → Sees r (mq_byte_in s r)
+pub sees_in : (s : List ℕ) (r : MqReader) → IsSeen r → Sees r (mq_byte_in s r)
 sees_in s r h =
     let near = h.near in
     let next : ℕ = mq_byte s (r.place + 1) in
@@ -66,23 +66,23 @@ same_in s t r same =
     let e = looked_in s r in
     rw (same r.place (omega arith), same (r.place + 1) (omega arith)) refl
 
-sees_shift : (s : List ℕ) (r : MqReader) → IsSeen r → Sees r (mq_shifted_in s r)
+pub sees_shift : (s : List ℕ) (r : MqReader) → IsSeen r → Sees r (mq_shifted_in s r)
 sees_shift s r h =
     elim (cases_eq r.ct 0) [
-      | inl none ↦ let in_sees = sees_in s r h in rw (is_zero r.ct none) (record { more = in_sees.more; seen = record { near = in_sees.seen.near } })
-      | inr ne ↦ rw (isnt_zero r.ct ne) (record { more = omega arith; seen = record { near = h.near } })
+      | inl none ↦ let in_sees = sees_in s r h in rw (eq-eqb r.ct 0 none) (record { more = in_sees.more; seen = record { near = in_sees.seen.near } })
+      | inr ne ↦ rw (ne_eqb r.ct 0 ne) (record { more = omega arith; seen = record { near = h.near } })
     ]
 
 same_shift : (s t : List ℕ) (r : MqReader) → Agree s t (mq_shifted_in s r).looked → mq_shifted_in t r ≡ mq_shifted_in s r
 same_shift s t r same =
     elim (cases_eq r.ct 0) [
       | inl none ↦
-          let here : Agree s t (mq_byte_in s r).looked = rw (is_zero r.ct none) at same in
-          rw (is_zero r.ct none, same_in s t r here) refl
-      | inr ne ↦ rw (isnt_zero r.ct ne) refl
+          let here : Agree s t (mq_byte_in s r).looked = rw (eq-eqb r.ct 0 none) at same in
+          rw (eq-eqb r.ct 0 none, same_in s t r here) refl
+      | inr ne ↦ rw (ne_eqb r.ct 0 ne) refl
     ]
 
-sees_refill : (n : ℕ) (s : List ℕ) (r : MqReader) → IsSeen r → Sees r (mq_refilled s n r)
+pub sees_refill : (n : ℕ) (s : List ℕ) (r : MqReader) → IsSeen r → Sees r (mq_refilled s n r)
 unfolding mq_refilled
 sees_refill zero s r h = record { more = omega arith; seen = h }
 sees_refill (suc n) s r h =
@@ -105,12 +105,12 @@ same_refill (suc n) s t r h same =
       | inr most ↦ rw (refilled_done s (suc n) r most, refilled_done t (suc n) r most) refl
     ]
 
-chosen_seen : (r : MqReader) (qe : ℕ) → IsSeen r → Sees r (mq_chosen r qe)
+pub chosen_seen : (r : MqReader) (qe : ℕ) → IsSeen r → Sees r (mq_chosen r qe)
 chosen_seen r qe h =
     sees_if (mq_is_low r qe) r (record r { a = qe }) (record r { a = r.a - qe; c = r.c - qe * 65536 })
     (record { more = omega arith; seen = record { near = h.near } }) (record { more = omega arith; seen = record { near = h.near } })
 
-sees_read : (s : List ℕ) (r : MqReader) (qe : ℕ) → IsSeen r → Sees r (mq_read s r qe)
+pub sees_read : (s : List ℕ) (r : MqReader) (qe : ℕ) → IsSeen r → Sees r (mq_read s r qe)
 sees_read s r qe h =
     let chosen = chosen_seen r qe h in
     sees_more r (mq_chosen r qe) (mq_read s r qe) chosen (sees_refill 15 s (mq_chosen r qe) chosen.seen)
@@ -138,14 +138,11 @@ same_all (Under label ∷ asked) s t r x h same =
     rw (here, same_all asked s t (mq_read s r (mq_row_of x label).qe) (mq_after r x label) first.seen same) refl
 same_all (Anew ∷ asked) s t r x h same = same_all asked s t r mq_fresh h same
 
-first_reader : List ℕ → MqReader
-first_reader s = record { a = 32768; c = mq_byte s 0 * 65536; ct = 0; place = 0; looked = 1 }
-
 first_seen : (s : List ℕ) → Sees (first_reader s) (mq_byte_in s (first_reader s))
 unfolding first_reader
 first_seen s = sees_in s (first_reader s) (record { near = omega arith })
 
-start_seen : (s : List ℕ) → IsSeen (mq_reader s)
+pub start_seen : (s : List ℕ) → IsSeen (mq_reader s)
 unfolding first_reader
 start_seen s = let h = first_seen s in record { near = h.seen.near }
 

@@ -2,17 +2,18 @@
 use Rattle.std.proofs.Common.{◌≡◌, ◌<◌, ◌≤◌, ◌+◌, ◌-◌, ◌*◌, ◌^◌, ℕ, zero, suc, Bool, refl, ap, sym, ◌∙◌, arith}
 use Rattle.std.proofs.lemmas.Nat.{pow_pos, mul-le}
 use Rattle.std.proofs.Math.Nat.{le-mul_of_pos_right, mul-pos, pow-le-pow_right}
+use Rattle.std.proofs.lemmas.Bool.{eq-eqb, ne_eqb}
 use Rattle.jx_base.specs.MqWriting.{MqWriter, mq_byte_out, mq_shifted, mq_renormalized, mq_part, mq_written}
 use Rattle.jx_mq.specs.Coding.{IsBounded, IsCoding, IsCoder, IsRenormalizing}
 use Rattle.jx_mq.specs.Shifting.{IsShort, mq_moved_by}
-use Rattle.jx_mq.proofs.Bounds.{is_zero, isnt_zero, byte_out_coding}
+use Rattle.jx_mq.proofs.Bounds.{byte_out_coding}
 use Rattle.jx_mq.proofs.Refills.{twice_is}
 use Rattle.jx_mq.proofs.Renormals.{renormalized_more, renormalized_done, byte_out_a}
 use Rattle.jx_mq.proofs.Shifts.{below_half, power_split}
 
 -- a shift that gives out no byte
 shifted_is : (w : MqWriter) → 1 < w.ct → mq_shifted w ≡ record w { a = 2 * w.a; c = 2 * w.c; ct = w.ct - 1 }
-shifted_is w more = rw (isnt_zero (w.ct - 1) (omega arith)) refl
+shifted_is w more = rw (ne_eqb (w.ct - 1) 0 (omega arith)) refl
 
 by_none : (w : MqWriter) → mq_moved_by 0 w ≡ w
 by_none w =
@@ -43,7 +44,7 @@ renormalized_by (suc k) n w room less =
 
 -- a shift that gives out a byte
 shifted_out : (w : MqWriter) → w.ct - 1 ≡ 0 → mq_shifted w ≡ mq_byte_out (record w { a = 2 * w.a; c = 2 * w.c; ct = w.ct - 1 })
-shifted_out w none = rw (is_zero (w.ct - 1) none) refl
+shifted_out w none = rw (eq-eqb (w.ct - 1) 0 none) refl
 
 moved_once : (j : ℕ) (w : MqWriter) → record w { a = 2 * (w.a * 2 ^ j); c = 2 * (w.c * 2 ^ j); ct = w.ct - j - 1 } ≡ mq_moved_by (suc j) w
 moved_once j w =

@@ -1,16 +1,9 @@
 -- The shifts that bring A back to bit 15.
-use Rattle.std.proofs.Common.{◌≡◌, ◌<◌, ◌≤◌, ◌*◌, ◌^◌, ℕ, zero, suc, Bool, true, false, List, refl, ap, sym, ◌∙◌, arith, leb, inl, inr, if◌then◌else◌, ◌==◌}
-use Rattle.std.proofs.lemmas.Bool.{cases_lt}
-use Rattle.std.proofs.lemmas.Bool.Decides.{nat_tests}
+use Rattle.std.proofs.Common.{◌≡◌, ◌<◌, ◌≤◌, ◌*◌, ◌^◌, ℕ, zero, suc, Bool, true, false, List, refl, ap, sym, ◌∙◌, arith, inl, inr, if◌then◌else◌, ◌==◌}
+use Rattle.std.proofs.lemmas.Bool.{cases_lt, lt-leb, le-leb}
 use Rattle.std.proofs.Math.Nat.{two-pow-succ}
 use Rattle.jx_base.specs.MqReading.{MqReader, mq_byte_in, mq_shifted_in, mq_refilled}
 use Rattle.jx_mq.specs.Decoding.{IsWithin, IsRefilling}
-
-pub isnt_reached : (a : ℕ) → a < 32768 → leb 32768 a ≡ false
-isnt_reached a less = grind (arith, nat_tests)
-
-pub is_reached : (a : ℕ) → 32768 ≤ a → leb 32768 a ≡ true
-is_reached a most = grind (arith, nat_tests)
 
 pub twice_is : (a n : ℕ) → 2 * a * 2 ^ n ≡ a * 2 ^ suc n
 twice_is a n = rw two-pow-succ (grind arith)
@@ -18,12 +11,12 @@ twice_is a n = rw two-pow-succ (grind arith)
 -- the registers shifted, where A has no bit 15
 pub refilled_more : (bytes : List ℕ) (n : ℕ) (r : MqReader) → r.a < 32768 → mq_refilled bytes (suc n) r ≡ mq_refilled bytes n (mq_shifted_in bytes r)
 unfolding mq_refilled
-refilled_more bytes n r less = rw (isnt_reached r.a less) refl
+refilled_more bytes n r less = rw (lt-leb 32768 r.a less) refl
 
 pub refilled_done : (bytes : List ℕ) (n : ℕ) (r : MqReader) → 32768 ≤ r.a → mq_refilled bytes n r ≡ r
 unfolding mq_refilled
 refilled_done bytes zero r most = refl
-refilled_done bytes (suc n) r most = rw (is_reached r.a most) refl
+refilled_done bytes (suc n) r most = rw (le-leb 32768 r.a most) refl
 
 if_a : (test : Bool) (x y : MqReader) (a : ℕ) → x.a ≡ a → y.a ≡ a → (if test then x else y).a ≡ a
 if_a true x y a p q = p
@@ -57,18 +50,3 @@ refilling_begins bytes r within some room = record {
   some = some;
   room = room;
 }
-
-pub refilling_goes_on : (bytes : List ℕ) (first r : MqReader) → r.a < 32768 → IsWithin bytes (mq_shifted_in bytes r) → IsRefilling bytes first r → IsRefilling bytes first (mq_shifted_in bytes r)
-refilling_goes_on bytes first r less within h =
-    let e = shifted_a bytes r in
-    let some = h.some in
-    record {
-      leads = λ n enough. let more : 32768 ≤ r.a * 2 ^ suc n = rw (← twice_is r.a n, ← e) enough in sym (refilled_more bytes n r less) ∙ h.leads (suc n) more;
-      within = within;
-      some = rw e (omega arith);
-      room = rw e (omega arith);
-    }
-
-pub refilling_ends : (bytes : List ℕ) (first r : MqReader) → 32768 ≤ r.a → IsRefilling bytes first r → r ≡ mq_refilled bytes 15 first
-unfolding mq_refilled
-refilling_ends bytes first r most h = h.leads 0 (omega arith)

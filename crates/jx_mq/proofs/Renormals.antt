@@ -1,20 +1,19 @@
 -- The shifts that bring the encoder's A back to bit 15, and its last number.
 use Rattle.std.proofs.Common.{◌≡◌, ◌<◌, ◌≤◌, ◌+◌, ◌-◌, ◌*◌, ◌/◌, ◌%◌, ◌^◌, ℕ, zero, suc, Bool, true, false, refl, ap, sym, ◌∙◌, arith, ltb, inl, inr, if◌then◌else◌, ◌==◌, bit_or}
-use Rattle.std.proofs.lemmas.Bool.{cases_lt}
+use Rattle.std.proofs.lemmas.Bool.{cases_lt, lt-leb, le-leb}
 use Rattle.std.proofs.lemmas.Nat.{or_block, or_comm, or_of_16, le_or_r}
 use Rattle.jx_base.specs.MqWriting.{MqWriter, mq_newest, mq_plain, mq_stuffed, mq_carried, mq_by_newest, mq_byte_out, mq_shifted, mq_renormalized}
 use Rattle.jx_mq.specs.Coding.{IsCoding, IsRenormalizing}
-use Rattle.jx_mq.proofs.Refills.{is_reached, isnt_reached, twice_is}
-use Rattle.jx_mq.proofs.Bounds.{shifted_coding}
+use Rattle.jx_mq.proofs.Refills.{twice_is}
 
 pub renormalized_more : (n : ℕ) (w : MqWriter) → w.a < 32768 → mq_renormalized (suc n) w ≡ mq_renormalized n (mq_shifted w)
 unfolding mq_renormalized
-renormalized_more n w less = rw (isnt_reached w.a less) refl
+renormalized_more n w less = rw (lt-leb 32768 w.a less) refl
 
 pub renormalized_done : (n : ℕ) (w : MqWriter) → 32768 ≤ w.a → mq_renormalized n w ≡ w
 unfolding mq_renormalized
 renormalized_done zero w most = refl
-renormalized_done (suc n) w most = rw (is_reached w.a most) refl
+renormalized_done (suc n) w most = rw (le-leb 32768 w.a most) refl
 
 if_a : (test : Bool) (x y : MqWriter) (a : ℕ) → x.a ≡ a → y.a ≡ a → (if test then x else y).a ≡ a
 if_a true x y a p q = p
@@ -52,18 +51,6 @@ renormalizing_begins w coding room = record {
   coding = coding;
   room = room;
 }
-
-pub renormalizing_goes_on : (first w : MqWriter) → w.a < 32768 → IsRenormalizing first w → IsRenormalizing first (mq_shifted w)
-renormalizing_goes_on first w less h =
-    let e = shifted_a w in
-    record {
-      leads = λ n enough. let more : 32768 ≤ w.a * 2 ^ suc n = rw (← twice_is w.a n, ← e) enough in sym (renormalized_more n w less) ∙ h.leads (suc n) more;
-      coding = shifted_coding w less h.coding;
-      room = rw e (omega arith);
-    }
-
-pub renormalizing_ends : (first w : MqWriter) → 32768 ≤ w.a → IsRenormalizing first w → w ≡ mq_renormalized 15 first
-renormalizing_ends first w most h = sym (renormalized_done 0 w most) ∙ h.leads 0 (omega arith)
 
 -- sixteen low bits set
 pub filled : (c : ℕ) → bit_or c 65535 ≡ c / 65536 * 65536 + 65535

@@ -1,13 +1,12 @@
 -- The written segment and the bytes given out are one list.
 use Rattle.std.proofs.Common.{◌≡◌, ◌≢◌, ◌<◌, ◌≤◌, ◌-◌, ℕ, zero, suc, List, [], ◌∷◌, ◌++◌, length, drop, reverse, refl, sym, ◌∙◌, arith, inl, inr, append_assoc, length-append, length-drop}
-use Rattle.std.proofs.lemmas.Bool.{cases_lt, cases_eq}
+use Rattle.std.proofs.lemmas.Bool.{cases_lt, cases_eq, ne_eqb, eq-eqb}
 use Rattle.std.proofs.lemmas.List.{append-nil, reverse-append, length-reverse, drop-append-le, get_or_push, get_or_append_left, get_or_past}
 use Rattle.jx_base.specs.Markers.{HasNoMarker}
 use Rattle.jx_base.specs.MqReading.{mq_byte}
 use Rattle.jx_base.specs.MqWriting.{mq_newest, mq_trimmed}
 use Rattle.jx_mq.specs.Coding.{AreGiven}
 use Rattle.jx_mq.specs.Fraction.{front}
-use Rattle.jx_mq.proofs.Bounds.{no_byte, is_byte}
 use Rattle.jx_mq.proofs.Fronts.{IsSegment}
 
 -- the bytes in their order, without the one before the first
@@ -52,23 +51,23 @@ left_out bytes place =
           ]
     ]
 
-trimmed_front : (bytes : List ℕ) (count : ℕ) → AreGiven bytes → suc count ≡ length bytes → front (mq_byte (in_order (mq_trimmed bytes))) count ≡ bytes
+pub trimmed_front : (bytes : List ℕ) (count : ℕ) → AreGiven bytes → suc count ≡ length bytes → front (mq_byte (in_order (mq_trimmed bytes))) count ≡ bytes
 trimmed_front [] count given long = absurd given
-trimmed_front (byte ∷ []) count given long = rw (no_byte byte (λ e. omega arith)) (front_of (byte ∷ []) count given long)
+trimmed_front (byte ∷ []) count given long = rw (ne_eqb byte 255 (λ e. omega arith)) (front_of (byte ∷ []) count given long)
 trimmed_front (byte ∷ before ∷ older) count given long =
     elim (cases_eq byte 255) [
       | inl ff ↦
           let same : front (mq_byte (in_order (before ∷ older))) count ≡ front (mq_byte (in_order (byte ∷ before ∷ older))) count =
           front_same (mq_byte (in_order (before ∷ older))) (mq_byte (in_order (byte ∷ before ∷ older))) count
           (λ i less. rw (order_more byte before older, ff) (sym (left_out (in_order (before ∷ older)) i))) in
-          rw (is_byte byte ff) (same ∙ front_of (byte ∷ before ∷ older) count given long)
-      | inr ne ↦ rw (no_byte byte ne) (front_of (byte ∷ before ∷ older) count given long)
+          rw (eq-eqb byte 255 ff) (same ∙ front_of (byte ∷ before ∷ older) count given long)
+      | inr ne ↦ rw (ne_eqb byte 255 ne) (front_of (byte ∷ before ∷ older) count given long)
     ]
 
-trimmed_length : (bytes : List ℕ) → length (mq_trimmed bytes) ≤ length bytes
+pub trimmed_length : (bytes : List ℕ) → length (mq_trimmed bytes) ≤ length bytes
 trimmed_length [] = omega arith
 trimmed_length (byte ∷ older) =
-    elim (cases_eq byte 255) [ inl ff ↦ rw (is_byte byte ff) (omega arith) | inr ne ↦ rw (no_byte byte ne) (omega arith) ]
+    elim (cases_eq byte 255) [ inl ff ↦ rw (eq-eqb byte 255 ff) (omega arith) | inr ne ↦ rw (ne_eqb byte 255 ne) (omega arith) ]
 
 -- what was given out, read as a segment
 pub segment_of : (bytes : List ℕ) (last : ℕ) → AreGiven bytes → 0 < last → suc last ≡ length bytes → IsSegment (mq_byte (in_order (mq_trimmed bytes))) last
@@ -77,9 +76,6 @@ segment_of bytes last given some long = record {
   given = rw (trimmed_front bytes last given long) given;
   tail = λ i past. get_or_past (in_order (mq_trimmed bytes)) i 255 (let shorter = trimmed_length bytes in rw (order_length (mq_trimmed bytes)) (omega arith));
 }
-
-pub segment_front : (bytes : List ℕ) (last : ℕ) → AreGiven bytes → suc last ≡ length bytes → front (mq_byte (in_order (mq_trimmed bytes))) last ≡ bytes
-segment_front bytes last given long = trimmed_front bytes last given long
 
 markers_before : (bytes after : List ℕ) → AreGiven bytes → HasNoMarker (mq_newest bytes) after → HasNoMarker 0 (in_order bytes ++ after)
 markers_before [] after given h = absurd given
@@ -93,9 +89,9 @@ no_markers bytes given ne = rw append-nil at (markers_before bytes [] given ne)
 
 pub trimmed_markers : (bytes : List ℕ) → AreGiven bytes → HasNoMarker 0 (in_order (mq_trimmed bytes))
 trimmed_markers [] given = absurd given
-trimmed_markers (byte ∷ []) given = rw (no_byte byte (λ e. omega arith)) (no_markers (byte ∷ []) given (λ e. omega arith))
+trimmed_markers (byte ∷ []) given = rw (ne_eqb byte 255 (λ e. omega arith)) (no_markers (byte ∷ []) given (λ e. omega arith))
 trimmed_markers (byte ∷ before ∷ older) given =
     elim (cases_eq byte 255) [
-      | inl ff ↦ rw (is_byte byte ff) (no_markers (before ∷ older) given.2 (λ e. let small = given.1 e in omega arith))
-      | inr ne ↦ rw (no_byte byte ne) (no_markers (byte ∷ before ∷ older) given ne)
+      | inl ff ↦ rw (eq-eqb byte 255 ff) (no_markers (before ∷ older) given.2 (λ e. let small = given.1 e in omega arith))
+      | inr ne ↦ rw (ne_eqb byte 255 ne) (no_markers (byte ∷ before ∷ older) given ne)
     ]

@@ -1,6 +1,6 @@
 -- Many shifts of the decoder's registers at once.
 use Rattle.std.proofs.Common.{◌≡◌, ◌<◌, ◌≤◌, ◌+◌, ◌-◌, ◌*◌, ◌%◌, ◌^◌, ℕ, zero, suc, Bool, true, false, List, refl, ap, sym, ◌∙◌, arith, ltb, inl, inr, if◌then◌else◌, ◌==◌}
-use Rattle.std.proofs.lemmas.Bool.{cases_lt}
+use Rattle.std.proofs.lemmas.Bool.{cases_lt, eq-eqb, ne_eqb}
 use Rattle.std.proofs.lemmas.Bool.Decides.{nat_tests}
 use Rattle.std.proofs.lemmas.Nat.{mul-mod_first, pow_pos, mul-le, leading_top, pow-add}
 use Rattle.std.proofs.Math.Nat.{two-pow-succ, pow-le-pow_right, mul-le-mul_right, mul-lt-mul_of_pos_right, mul-pos}
@@ -8,7 +8,6 @@ use Rattle.std.specs.Int.Count.{count_leading_zeros}
 use Rattle.jx_base.specs.MqReading.{MqReader, mq_byte, mq_byte_in, mq_shifted_in, mq_refilled, mq_chosen, mq_read}
 use Rattle.jx_mq.specs.Decoding.{IsWithin, IsRefilling}
 use Rattle.jx_mq.specs.Shifting.{mq_shifted_by, IsShort}
-use Rattle.jx_mq.proofs.Bounds.{is_zero, isnt_zero}
 use Rattle.jx_mq.proofs.Refills.{refilled_more, refilled_done, byte_in_a, twice_is}
 
 -- C shifted once and then k times, in a register of 32 bits
@@ -19,7 +18,7 @@ shifted_again c k =
 
 -- a shift where no byte is due
 shifted_in_is : (bytes : List ℕ) (r : MqReader) → 0 < r.ct → mq_shifted_in bytes r ≡ record r { a = 2 * r.a; c = 2 * r.c % 4294967296; ct = r.ct - 1 }
-shifted_in_is bytes r some = rw (isnt_zero r.ct (omega arith)) refl
+shifted_in_is bytes r some = rw (ne_eqb r.ct 0 (omega arith)) refl
 
 by_none : (r : MqReader) → r.c < 4294967296 → mq_shifted_by 0 r ≡ r
 by_none r fits =
@@ -77,7 +76,7 @@ refilled_fed bytes n r none less =
     let a = byte_in_a bytes r in
     let ct = byte_in_ct bytes r in
     let fed : mq_shifted_in bytes r ≡ mq_shifted_in bytes (mq_byte_in bytes r) =
-    rw (is_zero r.ct none, isnt_zero (mq_byte_in bytes r).ct (omega arith)) refl in
+    rw (eq-eqb r.ct 0 none, ne_eqb (mq_byte_in bytes r).ct 0 (omega arith)) refl in
     refilled_more bytes n (mq_byte_in bytes r) (omega arith) ∙ rw fed refl ∙ sym (refilled_more bytes n r less)
 
 product_of : (i j n : ℕ) → i + j ≡ n → 2 ^ i * 2 ^ j ≡ 2 ^ n

@@ -2,11 +2,11 @@
 use Rattle.std.proofs.Common.{◌≡◌, ◌<◌, ◌≤◌, ◌+◌, ◌-◌, ◌*◌, ◌%◌, ℕ, zero, suc, Bool, true, false, not, List, [], ◌∷◌, get_or, map, refl, ap, sym, ◌∙◌, arith, if◌then◌else◌}
 use Rattle.std.proofs.lemmas.List.{map-set}
 use Rattle.std.proofs.Math.ListN.{set, get_or-map}
+use Rattle.std.proofs.lemmas.Bool.{lt-leb}
 use Rattle.jx_mq.specs.declared.table.TheConstants.{ROWS}
 use Rattle.jx_base.specs.MqTable.{MqRow, mq_rows, mq_row_at, mq_row_of, mq_mps, mq_moved, mq_adapted}
 use Rattle.jx_mq.specs.States.{state_of, row_in, symbol_in, contexts_of, MqMoves, mq_moves, moves_from, moves_of}
 use Rattle.jx_mq.proofs.Rows.{row_in_range}
-use Rattle.jx_mq.proofs.Refills.{isnt_reached}
 
 abbrev pub as_moves : ℕ × ℕ × ℕ → MqMoves
 as_moves (qe, after_mps, after_lps) = mq_moves qe after_mps after_lps
@@ -76,7 +76,7 @@ adapted_mps a states label qe after_mps after_lps e few =
     let qe_is : qe ≡ row.qe = ap (λ (m : MqMoves). m.qe) e in
     let next : after_mps ≡ state_of row.nmps (mq_mps (contexts_of states) label) = ap (λ (m : MqMoves). m.after_mps) e in
     let less : a - row.qe < 32768 = rw (← qe_is) few in
-    rw (next, isnt_reached (a - row.qe) less) (contexts_moved states label row.nmps (mq_mps (contexts_of states) label))
+    rw (next, lt-leb 32768 (a - row.qe) less) (contexts_moved states label row.nmps (mq_mps (contexts_of states) label))
 
 pub adapted_lps : (a : ℕ) (states : List ℕ) (label qe after_mps after_lps : ℕ) → mq_moves qe after_mps after_lps ≡ moves_of (contexts_of states) label →
     contexts_of (set states label after_lps) ≡ mq_adapted a (contexts_of states) label false

@@ -15,9 +15,6 @@ pub record CoveredBelow (layers : ℕ) (entries : List Progression) (q : Resolut
   pub each : (j : ℕ) → j < i → row_end layers (entry_at entries j) q ≤ n
   pub least : (m : ℕ) → ((j : ℕ) → j < i → row_end layers (entry_at entries j) q ≤ m) → n ≤ m
 
-pub covered_none : (layers : ℕ) (entries : List Progression) (q : Resolution) → CoveredBelow layers entries q 0 0
-covered_none layers entries q = record { each = λ j lt. absurd (omega arith); least = λ m h. omega arith }
-
 pub covered_next : (layers : ℕ) (entries : List Progression) (q : Resolution) (n i end new : ℕ) → CoveredBelow layers entries q n i
     → end ≡ row_end layers (entry_at entries i) q → new ≡ max n end → CoveredBelow layers entries q new (i + 1)
 covered_next layers entries q n i end new h e is = record {
@@ -33,10 +30,6 @@ covered_next layers entries q n i end new h e is = record {
       let own : row_end layers (entry_at entries i) q ≤ m = all i (omega arith) in
       omega arith);
 }
-
-pub covered_all : (layers : ℕ) (entries : List Progression) (q : Resolution) (n : ℕ) → CoveredBelow layers entries q n (length entries)
-    → IsCoveredTo layers entries q n
-covered_all layers entries q n h = record { each = h.each; least = h.least }
 
 -- some entry goes past a layer, or none does
 search_below : (f : ℕ → ℕ) (l n : ℕ) → ((i : ℕ) × (i < n) × (l < f i)) ⊎ ((i : ℕ) → i < n → f i ≤ l)

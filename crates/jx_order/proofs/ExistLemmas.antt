@@ -15,7 +15,7 @@ use Rattle.jx_order.specs.Steps.{all_heads}
 use Rattle.jx_order.proofs.KeyLemmas.{same_place}
 use Rattle.jx_order.proofs.LessLemmas.{less_trans}
 use Rattle.jx_order.proofs.OrderLemmas.{contains_or, same_fields}
-use Rattle.jx_order.proofs.SortLemmas.{exact_names, names_of}
+use Rattle.jx_order.proofs.SortLemmas.{exact_names, names_of, one_name_pairs}
 
 -- ---- of two keys of one length one is less, or they are one
 less_or : (xs ys : List ℕ) → length xs ≡ length ys → IsLess xs ys ⊎ ((xs ≡ ys) ⊎ IsLess ys xs)
@@ -98,13 +98,10 @@ record Inserted (g : Geometry) (layers : ℕ) (o : Order) (x : PacketName) (ys :
   pub to : (p : PacketName) → Contains list p → (x ≡ p) ⊎ Contains ys p
   pub from : (p : PacketName) → (x ≡ p) ⊎ Contains ys p → Contains list p
 
-one_pairs : (g : Geometry) (o : Order) (x : PacketName) → AllPairs (ComesBefore g o) (x ∷ [])
-one_pairs g o x i j d lt below = absurd (omega arith)
-
 pairs_cons : (g : Geometry) (o : Order) (x : PacketName) (ys : List PacketName) → ((y : PacketName) → Contains ys y → ComesBefore g o x y)
     → AllPairs (ComesBefore g o) ys → AllPairs (ComesBefore g o) (x ∷ ys)
 pairs_cons g o x ys first rest =
-    pairs_append (ComesBefore g o) (x ∷ []) ys (one_pairs g o x) rest (λ a b ha hb. elim (contains_cons x [] a ha) [
+    pairs_append (ComesBefore g o) (x ∷ []) ys (one_name_pairs g o x) rest (λ a b ha hb. elim (contains_cons x [] a ha) [
       | inl same ↦
           let P : PacketName → Type 0 = λ v. ComesBefore g o v b in
           subst P same (first b hb)
@@ -118,7 +115,7 @@ insert : (g : Geometry) (layers : ℕ) (o : Order) (x : PacketName) (ys : List P
     → ((p : PacketName) → Contains ys p → IsPacket g layers p) → AllPairs (ComesBefore g o) ys → Inserted g layers o x ys
 insert g layers o x [] range hx are sorted = record {
   list = x ∷ [];
-  sorted = one_pairs g o x;
+  sorted = one_name_pairs g o x;
   to = λ p h. contains_cons x [] p h;
   from = λ p h. elim h [
     | inl same ↦

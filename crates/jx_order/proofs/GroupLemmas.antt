@@ -1,6 +1,6 @@
 -- What an entry lists: the packets that it covers from the first layer that wasn't sent, each once. Each stands together with a first one.
-use Rattle.std.proofs.Common.{◌≡◌, ℕ, ◌-◌, ◌≤◌, ◌<◌, Bool, true, false, cond, List, [], ◌∷◌, inl, inr, ◌∙◌, ap, sym, subst, refl, arith, length, get_or, min, slice_index}
-use Rattle.std.proofs.lemmas.Bool.{cases_Bool, cases_lt}
+use Rattle.std.proofs.Common.{◌≡◌, ℕ, ◌-◌, ◌≤◌, ◌<◌, true, false, List, [], ◌∷◌, inl, inr, ◌∙◌, ap, sym, subst, refl, arith, length, get_or, min, slice_index}
+use Rattle.std.proofs.lemmas.Bool.{cases_Bool, cases_lt, cond-false, cond-true, both_ways}
 use Rattle.std.proofs.lemmas.Bool.Decides.{nat_tests}
 use Rattle.std.proofs.lemmas.List.{get_or_past}
 use Rattle.std.specs.List.{All, Contains}
@@ -21,43 +21,34 @@ use Rattle.jx_order.proofs.OrderLemmas.{same_fields}
 use Rattle.jx_order.proofs.SpreadLemmas.{Some, joined_long}
 use Rattle.jx_order.proofs.RowLemmas.{end_from, end_to, index_of, packet_row, row_index, row_packet}
 
--- ---- by cases on a test
-pick_true : {X : Type 0} (b : Bool) (x y : X) → b ≡ true → cond b x y ≡ x
-pick_true true x y h = refl
-pick_true false x y h = absurd (cc)
-
-pick_false : {X : Type 0} (b : Bool) (x y : X) → b ≡ false → cond b x y ≡ y
-pick_false true x y h = absurd (cc)
-pick_false false x y h = refl
-
 pub layers_are : (o : Order) (q : Resolution) (from to : ℕ) → by_layer o ≡ true → row_heads o q from to ≡ joined (one_layer_head q) from to
 unfolding row_heads
-layers_are o q from to h = pick_true (by_layer o) _ _ h
+layers_are o q from to h = cond-true (by_layer o) _ _ h
 
 pub precincts_are : (o : Order) (q : Resolution) (from to : ℕ) → by_layer o ≡ false → from < to → row_heads o q from to ≡ joined (one_precinct_head q from) 0 q.precincts
 unfolding row_heads
-precincts_are o q from to h lt = pick_false (by_layer o) _ _ h ∙ (grind (arith, nat_tests))
+precincts_are o q from to h lt = cond-false (by_layer o) _ _ h ∙ (grind (arith, nat_tests))
 
 pub no_heads : (o : Order) (q : Resolution) (from to : ℕ) → by_layer o ≡ false → to ≤ from → row_heads o q from to ≡ []
 unfolding row_heads
-no_heads o q from to h le = pick_false (by_layer o) _ _ h ∙ (grind (arith, nat_tests))
+no_heads o q from to h le = cond-false (by_layer o) _ _ h ∙ (grind (arith, nat_tests))
 
 pub layer_names : (g : Geometry) (o : Order) (end : ℕ) (x : PacketName) → by_layer o ≡ true
     → group_names g o end x ≡ joined (one_precinct x) 0 (count_of g x.comp x.res)
 unfolding group_names
-layer_names g o end x h = pick_true (by_layer o) _ _ h
+layer_names g o end x h = cond-true (by_layer o) _ _ h
 
 pub precinct_names : (g : Geometry) (o : Order) (end : ℕ) (x : PacketName) → by_layer o ≡ false → group_names g o end x ≡ joined (one_layer x) x.layer end
 unfolding group_names
-precinct_names g o end x h = pick_false (by_layer o) _ _ h
+precinct_names g o end x h = cond-false (by_layer o) _ _ h
 
 pub layer_size : (g : Geometry) (o : Order) (end : ℕ) (x : PacketName) → by_layer o ≡ true → group_size g o end x ≡ count_of g x.comp x.res
 unfolding group_size
-layer_size g o end x h = pick_true (by_layer o) _ _ h
+layer_size g o end x h = cond-true (by_layer o) _ _ h
 
 pub precinct_size : (g : Geometry) (o : Order) (end : ℕ) (x : PacketName) → by_layer o ≡ false → group_size g o end x ≡ end - x.layer
 unfolding group_size
-precinct_size g o end x h = pick_false (by_layer o) _ _ h
+precinct_size g o end x h = cond-false (by_layer o) _ _ h
 
 pub count_is : (g : Geometry) (c r : ℕ) → HasResolution g c r → count_of g c r ≡ size_of (precincts_in g c r)
 unfolding count_of
@@ -155,9 +146,6 @@ row_below g i some = elim (cases_lt i (length (resolutions_of g))) [
       absurd (omega arith)
 ]
 
-not_both : (b : Bool) → b ≡ true → b ≡ false → ⊥
-not_both b h k = cc
-
 row_layers : (g : Geometry) (layers : ℕ) (e : Progression) (sent : List ℕ) (o : Order) (i : ℕ) (x : PacketName) → by_layer o ≡ true
     → Contains (row_heads o (row_of g i) (slice_index sent i) (row_end layers e (row_of g i))) x → FirstAt g layers e sent o i x
 row_layers g layers e sent o i x h c =
@@ -170,7 +158,7 @@ row_layers g layers e sent o i x h c =
     subst P (sym same) (record {
       due = record { below = row_below g i some; comp = refl; res = refl; precinct = some; from = j.from; to = j.below };
       precinct = λ k. refl;
-      layer = λ k. absurd (not_both (by_layer o) h k);
+      layer = λ k. absurd (both_ways (by_layer o) k h);
     })
 
 row_precincts : (g : Geometry) (layers : ℕ) (e : Progression) (sent : List ℕ) (o : Order) (i : ℕ) (x : PacketName) → by_layer o ≡ false
@@ -185,7 +173,7 @@ row_precincts g layers e sent o i x h c = elim (cases_lt (slice_index sent i) (r
       let P : PacketName → Type 0 = λ y. FirstAt g layers e sent o i y in
       subst P (sym same) (record {
         due = record { below = row_below g i (omega (arith, j.below)); comp = refl; res = refl; precinct = j.below; from = omega arith; to = some };
-        precinct = λ k. absurd (not_both (by_layer o) k h);
+        precinct = λ k. absurd (both_ways (by_layer o) h k);
         layer = λ k. refl;
       })
   | inr none ↦
@@ -317,11 +305,11 @@ stands_in g o end x p c =
       | inl h ↦
           let j = joined_has (one_precinct x) 0 (count_of g x.comp x.res) p (subst C (layer_names g o end x h) c) in
           subst P (sym (one_has (name_of x.layer x.res x.comp j.number) p j.has))
-          (record { layer = λ k. (j.below, refl); precinct = λ k. absurd (not_both (by_layer o) h k) })
+          (record { layer = λ k. (j.below, refl); precinct = λ k. absurd (both_ways (by_layer o) k h) })
       | inr h ↦
           let j = joined_has (one_layer x) x.layer end p (subst C (precinct_names g o end x h) c) in
           subst P (sym (one_has (name_of j.number x.res x.comp x.precinct) p j.has))
-          (record { layer = λ k. absurd (not_both (by_layer o) k h); precinct = λ k. (j.from, j.below, refl) })
+          (record { layer = λ k. absurd (both_ways (by_layer o) h k); precinct = λ k. (j.from, j.below, refl) })
     ]
 
 pub name_listed : (g : Geometry) (layers : ℕ) (e : Progression) (sent : List ℕ) (o : Order) (x p : PacketName) → Listed g layers e sent x
@@ -348,7 +336,7 @@ in_layer g layers e sent p l h =
     record {
       first = name_of p.layer p.res p.comp 0;
       there = head_from g layers e sent (name_of p.layer p.res p.comp 0) (layer_listed g layers e sent p 0 l (omega arith))
-          (record { precinct = λ k. refl; layer = λ k. absurd (not_both (by_layer (order_of e.order)) h k) });
+          (record { precinct = λ k. refl; layer = λ k. absurd (both_ways (by_layer (order_of e.order)) k h) });
       has = subst C (sym (layer_names g (order_of e.order) (min e.lye layers) (name_of p.layer p.res p.comp 0) h))
           (joined_from (one_precinct (name_of p.layer p.res p.comp 0)) 0 (count_of g p.comp p.res) p
           (record { number = p.precinct; from = omega arith; below = lt; has = contains_head p [] }));
@@ -370,7 +358,7 @@ in_precinct g layers e sent p l h =
     record {
       first = name_of (sent_at g sent p.comp p.res) p.res p.comp p.precinct;
       there = head_from g layers e sent (name_of (sent_at g sent p.comp p.res) p.res p.comp p.precinct) first
-          (record { precinct = λ k. absurd (not_both (by_layer (order_of e.order)) k h); layer = λ k. refl });
+          (record { precinct = λ k. absurd (both_ways (by_layer (order_of e.order)) h k); layer = λ k. refl });
       has = subst C (sym (precinct_names g (order_of e.order) (min e.lye layers) (name_of (sent_at g sent p.comp p.res) p.res p.comp p.precinct) h))
           (joined_from (one_layer (name_of (sent_at g sent p.comp p.res) p.res p.comp p.precinct)) (sent_at g sent p.comp p.res) (min e.lye layers) p
           (record { number = p.layer; from = unsent; below = below; has = contains_head p [] }));

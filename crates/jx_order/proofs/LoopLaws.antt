@@ -1,9 +1,9 @@
 -- The order of a tile's packets is what the loops of its entries run through.
-use Rattle.std.proofs.Common.{◌≡◌, ℕ, zero, suc, ◌==◌, Bool, true, false, ◌&&◌, ◌||◌, not, List, [], ◌∷◌, ◌++◌, inl, inr, ◌⊎◌, refl, arith, ap, sym, subst, length, take, drop}
-use Rattle.std.proofs.lemmas.Bool.Decides.{nat_tests}
+use Rattle.std.proofs.Common.{◌≡◌, ℕ, zero, suc, ◌==◌, Bool, true, false, ◌&&◌, ◌||◌, not, List, [], ◌∷◌, ◌++◌, inl, inr, refl, ap, sym, subst, length, take, drop}
 use Rattle.std.proofs.lemmas.List.Kept.{AllPairs-filter}
 use Rattle.std.proofs.Math.Seq.{take-append_seam, drop-append_seam}
 use Rattle.std.specs.List.{AllPairs, Contains}
+use Rattle.std.proofs.lemmas.Bool.{and_parts, eqb-true, or_cases, or_right, eq-eqb}
 use Rattle.jx_base.proofs.Lists.{contains_cons, contains_head, contains_tail, contains_none}
 use Rattle.jx_geom.specs.Geometry.{Geometry, GeometryInRange}
 use Rattle.jx_marker.specs.declared.Progression.{Progression}
@@ -14,7 +14,6 @@ use Rattle.jx_order.specs.Orders.{ComesBefore, order_of}
 use Rattle.jx_order.specs.Packets.{Sends, IsOrder, entry_at}
 use Rattle.jx_order.specs.Loops.{loops, is_same, was_sent, sent_by, all_loops}
 use Rattle.jx_order.proofs.OrderLemmas.{same_fields, one_order}
-use Rattle.jx_order.proofs.PlaceLemmas.{and_both}
 use Rattle.jx_order.proofs.NestLemmas.{kept_to, kept_from}
 use Rattle.jx_order.proofs.MemberLemmas.{InLoops, is_packet, is_covered, in_loops}
 use Rattle.jx_order.proofs.LayerLoops.{lrcp_sorted, lrcp_has, lrcp_from, rlcp_sorted, rlcp_has, rlcp_from}
@@ -43,38 +42,24 @@ loops_from g layers e Pcrl range p i = pcrl_from g layers e range p i
 loops_from g layers e Cprl range p i = cprl_from g layers e range p i
 
 -- ---- what was sent
-eq_to : (a b : ℕ) → (a == b) ≡ true → a ≡ b
-eq_to a b h = grind (arith, nat_tests)
-
-eq_refl : (a : ℕ) → (a == a) ≡ true
-eq_refl a = grind (arith, nat_tests)
-
 same_to : (p q : PacketName) → is_same p q ≡ true → p ≡ q
 same_to p q h =
-    let a = and_both (p.layer == q.layer) ((p.res == q.res) && ((p.comp == q.comp) && (p.precinct == q.precinct))) h in
-    let b = and_both (p.res == q.res) ((p.comp == q.comp) && (p.precinct == q.precinct)) a.1 in
-    let c = and_both (p.comp == q.comp) (p.precinct == q.precinct) b.1 in
-    same_fields p q (eq_to p.layer q.layer a.0) (eq_to p.res q.res b.0) (eq_to p.comp q.comp c.0) (eq_to p.precinct q.precinct c.1)
+    let a = and_parts (p.layer == q.layer) ((p.res == q.res) && ((p.comp == q.comp) && (p.precinct == q.precinct))) h in
+    let b = and_parts (p.res == q.res) ((p.comp == q.comp) && (p.precinct == q.precinct)) a.1 in
+    let c = and_parts (p.comp == q.comp) (p.precinct == q.precinct) b.1 in
+    same_fields p q (eqb-true p.layer q.layer a.0) (eqb-true p.res q.res b.0) (eqb-true p.comp q.comp c.0) (eqb-true p.precinct q.precinct c.1)
 
 same_refl : (p : PacketName) → is_same p p ≡ true
 same_refl p =
-    let l = eq_refl p.layer in
-    let r = eq_refl p.res in
-    let c = eq_refl p.comp in
-    let k = eq_refl p.precinct in
+    let l = eq-eqb p.layer p.layer refl in
+    let r = eq-eqb p.res p.res refl in
+    let c = eq-eqb p.comp p.comp refl in
+    let k = eq-eqb p.precinct p.precinct refl in
     rw (l, r, c, k) refl
-
-or_split : (a b : Bool) → (a || b) ≡ true → (a ≡ true) ⊎ (b ≡ true)
-or_split true b h = inl refl
-or_split false b h = inr h
-
-or_right : (a b : Bool) → b ≡ true → (a || b) ≡ true
-or_right true b h = refl
-or_right false b h = h
 
 sent_to : (before : List PacketName) (p : PacketName) → was_sent before p ≡ true → Contains before p
 sent_to [] p h = absurd cc
-sent_to (q ∷ before) p h = elim (or_split (is_same q p) (was_sent before p) h) [
+sent_to (q ∷ before) p h = elim (or_cases (is_same q p) (was_sent before p) h) [
   | inl same ↦ subst (λ (x : PacketName). Contains (q ∷ before) x) (same_to q p same) (contains_head q before)
   | inr rest ↦ contains_tail q before p (sent_to before p rest)
 ]

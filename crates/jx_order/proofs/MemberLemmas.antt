@@ -1,7 +1,7 @@
 -- The packets that the loops of an entry run through are those of the tile that it covers.
 use Rattle.std.proofs.Common.{◌≡◌, ◌≢◌, ℕ, ◌≤◌, ◌<◌, Bool, true, false, nat_le, [], inl, inr, ◌⊎◌, refl, arith, ap, sym, subst, length, min, cond}
 use Rattle.std.specs.List.{Contains}
-use Rattle.std.proofs.lemmas.Bool.{cases_eq}
+use Rattle.std.proofs.lemmas.Bool.{cases_eq, le-leb, leb-true}
 use Rattle.std.proofs.lemmas.Bool.Decides.{nat_tests}
 use Rattle.jx_base.specs.Places.{size_of}
 use Rattle.jx_base.specs.Joined.{JoinedAt}
@@ -14,7 +14,6 @@ use Rattle.jx_order.specs.Packets.{IsPacket, Covers}
 use Rattle.jx_order.specs.Steps.{name_of}
 use Rattle.jx_order.specs.Loops.{layer_stop, comp_stop, precincts_of, one_packet, precincts_loop, comps_loop}
 use Rattle.jx_order.proofs.OrderLemmas.{same_fields}
-use Rattle.jx_order.proofs.PlaceLemmas.{le_to, le_from}
 
 -- ---- the numbers of a packet that is run through
 pub record InLoops (g : Geometry) (layers : ℕ) (e : Progression) (p : PacketName) : Type 0 where
@@ -51,12 +50,12 @@ pub precincts_to : (g : Geometry) (c r k : ℕ) → k < precincts_of g c r → (
 precincts_to g c r k lt = by (nat_le r (shape_of g c).levels) refl lt
   where
     by : (b : Bool) → nat_le r (shape_of g c).levels ≡ b → k < cond b (size_of (precincts_in g c r)) 0 → (r ≤ (shape_of g c).levels) × (k < size_of (precincts_in g c r))
-    by true e less = (le_to r (shape_of g c).levels e, less)
+    by true e less = (leb-true r (shape_of g c).levels e, less)
     by false e less = absurd (omega arith)
 
 pub precincts_from : (g : Geometry) (c r k : ℕ) → r ≤ (shape_of g c).levels → k < size_of (precincts_in g c r) → k < precincts_of g c r
 precincts_from g c r k le lt =
-    let e : precincts_of g c r ≡ size_of (precincts_in g c r) = ap (λ (b : Bool). let n : ℕ = cond b (size_of (precincts_in g c r)) 0 in n) (le_from r (shape_of g c).levels le) in
+    let e : precincts_of g c r ≡ size_of (precincts_in g c r) = ap (λ (b : Bool). let n : ℕ = cond b (size_of (precincts_in g c r)) 0 in n) (le-leb r (shape_of g c).levels le) in
     omega arith
 
 pub is_packet : (g : Geometry) (layers : ℕ) (e : Progression) (p : PacketName) → InLoops g layers e p → IsPacket g layers p

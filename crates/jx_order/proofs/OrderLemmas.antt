@@ -13,8 +13,6 @@ use Rattle.jx_order.specs.Steps.{name_of}
 use Rattle.jx_order.proofs.LessLemmas.{less_both}
 use Rattle.jx_base.proofs.Lists.{pairs_append, contains_cons, contains_head, contains_tail, contains_none, one_sorted, pairs_apart}
 
--- ---- lists by their first item
--- ---- two lists that are sorted by a relation that never holds both ways, and have the same items, are one
 -- ---- names can be told apart
 pub same_fields : (p q : PacketName) → p.layer ≡ q.layer → p.res ≡ q.res → p.comp ≡ q.comp → p.precinct ≡ q.precinct → p ≡ q
 same_fields p q el er ec ek =

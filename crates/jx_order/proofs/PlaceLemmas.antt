@@ -1,6 +1,7 @@
 -- The places at which a resolution's precincts begin, and these precincts.
-use Rattle.std.proofs.Common.{◌≡◌, ℕ, ◌-◌, ◌≤◌, ◌<◌, Bool, true, false, ◌&&◌, nat_le, nat_lt, length, refl, arith, ap, sym, subst, ◌∙◌}
+use Rattle.std.proofs.Common.{◌≡◌, ℕ, ◌-◌, ◌≤◌, ◌<◌, true, ◌&&◌, nat_le, nat_lt, length, arith, ap, sym, subst, ◌∙◌}
 use Rattle.std.proofs.lemmas.Bool.Decides.{nat_tests}
+use Rattle.std.proofs.lemmas.Bool.{and_from, and_parts, le-leb, leb-true}
 use Rattle.jx_base.specs.declared.names.Rect.{Rect}
 use Rattle.jx_base.specs.declared.names.Span.{Span}
 use Rattle.jx_base.specs.Places.{InSpan, InRect, column_at, row_at, number_at, size_of}
@@ -45,30 +46,17 @@ unfolding component_rect resolution_rect precinct_cells precinct_row_point
 row_back tile s r x h from b i = stands_back tile.y s.dy (s.levels - r) (exponent_down s r) h.numbers.step_down x from b i
 
 -- ---- tests
-pub and_both : (a b : Bool) → (a && b) ≡ true → (a ≡ true) × (b ≡ true)
-and_both true b h = (refl, h)
-and_both false b h = absurd cc
-
-pub and_join : (a b : Bool) → a ≡ true → b ≡ true → (a && b) ≡ true
-and_join a b e f = ap (λ (x : Bool). x && b) e ∙ f
-
-pub le_to : (a b : ℕ) → nat_le a b ≡ true → a ≤ b
-le_to a b h = grind (arith, nat_tests)
-
-pub le_from : (a b : ℕ) → a ≤ b → nat_le a b ≡ true
-le_from a b h = grind (arith, nat_tests)
-
 in_to : (s : Span) (n : ℕ) → is_in s n ≡ true → InSpan s n
 in_to s n h =
-    let b = and_both (nat_le s.low n) (nat_lt n s.high) h in
+    let b = and_parts (nat_le s.low n) (nat_lt n s.high) h in
     let test : nat_lt n s.high ≡ true = b.1 in
-    record { from = le_to s.low n b.0; below = grind (arith, nat_tests) }
+    record { from = leb-true s.low n b.0; below = grind (arith, nat_tests) }
 
 in_from : (s : Span) (n : ℕ) → InSpan s n → is_in s n ≡ true
 in_from s n i =
     let below : n < s.high = i.below in
     let test : nat_lt n s.high ≡ true = grind (arith, nat_tests) in
-    and_join (nat_le s.low n) (nat_lt n s.high) (le_from s.low n i.from) test
+    and_from (nat_le s.low n) (nat_lt n s.high) (le-leb s.low n i.from) test
 
 -- ---- in both
 -- a precinct begins at the place that is visited
@@ -82,17 +70,17 @@ pub visited_at : (g : Geometry) (c r y x : ℕ) → GeometryInRange g → c < le
 unfolding is_visited precinct_at
 visited_at g c r y x range hc hy hx h =
     let s = range.shapes c hc in
-    let b = and_both (nat_le r (shape_of g c).levels) (is_row g c r y && is_column g c r x) h in
-    let d = and_both (is_row g c r y) (is_column g c r x) b.1 in
-    let down = and_both (begins_at (rect_of_tile g).y.low (resolution_rect (rect_of_tile g) (shape_of g c) r).y.low (shape_of g c).dy ((shape_of g c).levels - r) (exponent_down (shape_of g c) r) y)
+    let b = and_parts (nat_le r (shape_of g c).levels) (is_row g c r y && is_column g c r x) h in
+    let d = and_parts (is_row g c r y) (is_column g c r x) b.1 in
+    let down = and_parts (begins_at (rect_of_tile g).y.low (resolution_rect (rect_of_tile g) (shape_of g c) r).y.low (shape_of g c).dy ((shape_of g c).levels - r) (exponent_down (shape_of g c) r) y)
     (is_in (precincts_in g c r).y (precinct_row g c r y)) d.0 in
-    let across = and_both (begins_at (rect_of_tile g).x.low (resolution_rect (rect_of_tile g) (shape_of g c) r).x.low (shape_of g c).dx ((shape_of g c).levels - r) (exponent_across (shape_of g c) r) x)
+    let across = and_parts (begins_at (rect_of_tile g).x.low (resolution_rect (rect_of_tile g) (shape_of g c) r).x.low (shape_of g c).dx ((shape_of g c).levels - r) (exponent_across (shape_of g c) r) x)
     (is_in (precincts_in g c r).x (precinct_column g c r x)) d.1 in
     let iy = in_to (precincts_in g c r).y (precinct_row g c r y) down.1 in
     let ix = in_to (precincts_in g c r).x (precinct_column g c r x) across.1 in
     let i : InRect (precincts_in g c r) (precinct_column g c r x) (precinct_row g c r y) = record { across = ix; down = iy } in
     record {
-      resolution = record { component = hc; level = le_to r (shape_of g c).levels b.0 };
+      resolution = record { component = hc; level = leb-true r (shape_of g c).levels b.0 };
       precinct = number_below (precincts_in g c r) (precinct_column g c r x) (precinct_row g c r y) i;
       across = ap (λ (u : ℕ). precinct_column_point (rect_of_tile g) (shape_of g c) r u) (number_column (precincts_in g c r) (precinct_column g c r x) (precinct_row g c r y) i)
           ∙ column_back (rect_of_tile g) (shape_of g c) r x s hx across.0 ix;
@@ -123,16 +111,16 @@ at_place g c r k range has lt =
       across = subst (λ (n : ℕ). InSpan all.x n) (sym eu) i.across;
       down = subst (λ (n : ℕ). InSpan all.y n) (sym ev) i.down;
     } in
-    let row : is_row g c r y ≡ true = and_join
+    let row : is_row g c r y ≡ true = and_from
     (begins_at (rect_of_tile g).y.low (resolution_rect (rect_of_tile g) (shape_of g c) r).y.low (shape_of g c).dy ((shape_of g c).levels - r) (exponent_down (shape_of g c) r) y)
     (is_in all.y (precinct_row g c r y)) v.begins (in_from all.y (precinct_row g c r y) inside.down) in
-    let column : is_column g c r x ≡ true = and_join
+    let column : is_column g c r x ≡ true = and_from
     (begins_at (rect_of_tile g).x.low (resolution_rect (rect_of_tile g) (shape_of g c) r).x.low (shape_of g c).dx ((shape_of g c).levels - r) (exponent_across (shape_of g c) r) x)
     (is_in all.x (precinct_column g c r x)) u.begins (in_from all.x (precinct_column g c r x) inside.across) in
     record {
       down = v.inside;
       across = u.inside;
-      visited = and_join (nat_le r (shape_of g c).levels) (is_row g c r y && is_column g c r x) (le_from r (shape_of g c).levels has.level) (and_join (is_row g c r y) (is_column g c r x) row column);
+      visited = and_from (nat_le r (shape_of g c).levels) (is_row g c r y && is_column g c r x) (le-leb r (shape_of g c).levels has.level) (and_from (is_row g c r y) (is_column g c r x) row column);
       precinct = raster_one all (number_at all (precinct_column g c r x) (precinct_row g c r y)) k
           (number_column all (precinct_column g c r x) (precinct_row g c r y) inside ∙ eu) (number_row all (precinct_column g c r x) (precinct_row g c r y) inside ∙ ev);
     }

@@ -247,7 +247,7 @@ precinct_rises g Rpcl x i j h lt = inr (refl, inr (refl, inr (refl, inr (refl, i
 precinct_rises g Pcrl x i j h lt = inr (refl, inr (refl, inr (refl, inr (refl, inl lt))))
 precinct_rises g Cprl x i j h lt = inr (refl, inr (refl, inr (refl, inr (refl, inl lt))))
 
-one_name_pairs : (g : Geometry) (o : Order) (p : PacketName) → AllPairs (ComesBefore g o) (p ∷ [])
+pub one_name_pairs : (g : Geometry) (o : Order) (p : PacketName) → AllPairs (ComesBefore g o) (p ∷ [])
 one_name_pairs g o p i j d lt below = absurd (omega arith)
 
 moved_before : (g : Geometry) (o : Order) (x y p q : PacketName) → x ≡ p → y ≡ q → ComesBefore g o p q → ComesBefore g o x y

@@ -1,6 +1,6 @@
 -- The table of the layers that were sent, and one more entry.
-use Rattle.std.proofs.Common.{◌≡◌, ◌≢◌, ℕ, suc, ◌+◌, ◌≤◌, ◌<◌, List, [], ◌++◌, inl, inr, ◌∙◌, ap, sym, subst, refl, add-one, arith, max, length, take, drop, get_or-set_same, get_or-set_other, slice_index, slice_set, length-set}
-use Rattle.std.proofs.lemmas.Bool.{cases_eq, cases_lt}
+use Rattle.std.proofs.Common.{◌≡◌, ℕ, suc, ◌+◌, ◌≤◌, ◌<◌, List, ◌++◌, inl, inr, ◌∙◌, ap, sym, subst, add-one, arith, max, length, take, drop, slice_index}
+use Rattle.std.proofs.lemmas.Bool.{cases_lt}
 use Rattle.std.proofs.lemmas.List.{take-append-drop}
 use Rattle.std.proofs.lemmas.List.Elements.{Contains-append_left, Contains-append_right, Contains-append_cases}
 use Rattle.std.proofs.Math.Seq.{take-append_seam, drop-append_seam}
@@ -18,25 +18,6 @@ pub record MarkedTo (f : ℕ → ℕ) (before now : List ℕ) (n : ℕ) : Type 0
   pub done : (i : ℕ) → i < n → slice_index now i ≡ max (slice_index before i) (f i)
   pub rest : (i : ℕ) → n ≤ i → slice_index now i ≡ slice_index before i
   pub long : length now ≡ length before
-
-pub marked_none : (f : ℕ → ℕ) (before : List ℕ) → MarkedTo f before before 0
-marked_none f before = record { done = λ i lt. absurd (omega arith); rest = λ i le. refl; long = refl }
-
-pub marked_next : (f : ℕ → ℕ) (before old now : List ℕ) (n : ℕ) → n < length old → now ≡ slice_set old n (max (slice_index old n) (f n))
-    → MarkedTo f before old n → MarkedTo f before now (n + 1)
-marked_next f before old now n lt e m =
-    let same : slice_index now n ≡ max (slice_index old n) (f n) = rw e (get_or-set_same old n (max (slice_index old n) (f n)) 0 lt) in
-    let other : (i : ℕ) → i ≢ n → slice_index now i ≡ slice_index old i = λ i ne. rw e (get_or-set_other old n i (max (slice_index old n) (f n)) 0 ne) in
-    record {
-      done = λ i below. elim (cases_eq i n) [
-        | inl at ↦
-            let P : ℕ → Type 0 = λ j. slice_index now j ≡ max (slice_index before j) (f j) in
-            subst P (sym at) (same ∙ ap (λ v. max v (f n)) (m.rest n (omega arith)))
-        | inr ne ↦ other i ne ∙ m.done i (omega arith)
-      ];
-      rest = λ i le. other i (λ at. omega arith) ∙ m.rest i (omega arith);
-      long = rw e (length-set _ _ _) ∙ m.long;
-    }
 
 -- ---- an entry that covers a packet goes past its layer, and back
 goes_past : (g : Geometry) (layers : ℕ) (e : Progression) (p : PacketName) → IsPacket g layers p → Covers e p
@@ -115,12 +96,6 @@ table_next g layers e sent now old new front table lists marked p packet =
             omega arith
       ],
     )
-
-pub table_none : (g : Geometry) (layers : ℕ) (sent : List ℕ) → ((i : ℕ) → slice_index sent i ≡ 0) → IsTable g layers [] sent
-table_none g layers sent h p packet = (
-  λ less. (let e : sent_at g sent p.comp p.res ≡ 0 = h (index_of g p.comp p.res) in absurd (omega arith)),
-  λ there. absurd (omega (arith, there.1)),
-)
 
 -- ---- at the end
 pub all_there : (g : Geometry) (layers : ℕ) (entries : List Progression) (list : List PacketName) → IsOrder g layers entries (length entries) list

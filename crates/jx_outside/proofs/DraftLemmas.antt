@@ -3,9 +3,6 @@ use Rattle.std.proofs.Common.{◌≡◌, List, [], ◌∷◌, ◌++◌, ℕ, ref
 use Rattle.std.specs.Path.{path_with_file_name}
 use Rattle.jx_outside.specs.Drafts.{IsLed, led}
 
-pub led_nowhere : (name path : List ℕ) → path ≡ name → IsLed name path
-led_nowhere name path e = record { links = []; target_is = e }
-
 led_push : (name link : List ℕ) (links : List (List ℕ)) → led name (links ++ link ∷ []) ≡ path_with_file_name (led name links) link
 led_push name link [] = refl
 led_push name link (x ∷ links) = led_push (path_with_file_name name x) link links

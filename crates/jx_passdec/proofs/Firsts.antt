@@ -12,7 +12,7 @@ pub first_is : (bits : List Bool) → first_or_one bits ≡ get_or bits 0 true
 first_is [] = refl
 first_is (bit ∷ bits) = refl
 
-looked_most : (before : ℕ) (segment : List ℕ) (n : ℕ) → raw_looked_after before segment n ≤ length segment
+pub looked_most : (before : ℕ) (segment : List ℕ) (n : ℕ) → raw_looked_after before segment n ≤ length segment
 looked_most before [] n = omega arith
 looked_most before (byte ∷ rest) n =
     let h = looked_most byte rest (n - raw_width before) in

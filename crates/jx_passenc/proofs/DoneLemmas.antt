@@ -1,7 +1,7 @@
 -- What passes have done at a place.
 use Rattle.std.proofs.Common.{◌≡◌, ◌≢◌, ◌<◌, ◌≤◌, ◌+◌, ◌-◌, ◌*◌, ◌%◌, ◌^◌, ◌==◌, nat_lt, ℕ, zero, suc, Bool, true, false, not, ◌&&◌, ◌||◌, get_or, refl, sym, ap, ◌∙◌, arith, subst, inl, inr, if◌then◌else◌}
 use Rattle.std.proofs.lemmas.Bool.Decides.{nat_tests}
-use Rattle.std.proofs.lemmas.Bool.{cases_lt}
+use Rattle.std.proofs.lemmas.Bool.{cases_Bool, cases_lt, not_from_false}
 use Rattle.std.proofs.lemmas.Nat.{pow_pos}
 use Rattle.jx_grid.specs.declared.coef.Coef.{Coef}
 use Rattle.jx_grid.specs.declared.question.Plane.{Plane}
@@ -14,7 +14,7 @@ use Rattle.jx_passenc.proofs.GridLemmas.{IsFront, AreClean, IsIn, IsWhole, here_
 use Rattle.jx_passenc.proofs.LeafLemmas.{AllLeaves}
 use Rattle.jx_passenc.proofs.StepLemmas.{no_bits, clean_at}
 use Rattle.jx_passenc.proofs.RunBackLemmas.{IsRun, is_one, zero_rows, number_is, named_cells}
-use Rattle.jx_passenc.proofs.ReadyLemmas.{which}
+use Rattle.jx_passenc.proofs.FollowLemmas.{some_bits}
 
 -- the coefficient of a number was decided in the plane; it was, if it is significant
 abbrev pub IsDone : Plane → Cells → ℕ → Type 0
@@ -40,13 +40,6 @@ and_false : (a b : Bool) → a && b ≡ false → b ≡ true → a ≡ false
 and_false true b h e = absurd (cc)
 and_false false b h e = refl
 
-no_bits_of : (n : ℕ) → not (n == 0) ≡ false → n ≡ 0
-no_bits_of n h = no_bits n h
-
-not_false : (b : Bool) → b ≡ false → not b ≡ true
-not_false true h = absurd (cc)
-not_false false h = refl
-
 planes_of : (k : Plane) (b : Bool) (c : Coef) → (with_bit k b c).planes ≡ k.number + 1
 planes_of k b c = refl
 
@@ -56,9 +49,9 @@ refinement_settles k m x y w i =
     let c : Coef = coef_at m x y in
     leaves_if (significant c && not (is_decided k c)) _ (Told m) (λ v. IsSettled k v (place_of m x y))
     (λ e. λ b. λ n. done_with k m x y (with_bit k b c) w i (planes_of k b c))
-    (λ e. λ n. elim (which (is_decided k c)) [
+    (λ e. λ n. elim (cases_Bool (is_decided k c)) [
       | inl d ↦ greater k.number c.planes d
-      | inr d ↦ absurd (n (no_bits_of c.bits (and_false (significant c) (not (is_decided k c)) e (not_false (is_decided k c) d))))
+      | inr d ↦ absurd (n (no_bits c.bits (and_false (significant c) (not (is_decided k c)) e (not_from_false (is_decided k c) d))))
     ])
 
 bit_done : (k : Plane) (m : Cells) (x y : ℕ) → IsWhole m → IsIn m x y → (b : Bool)
@@ -70,16 +63,13 @@ or_cases : (a b : Bool) → a || b ≡ true → b ≡ false → a ≡ true
 or_cases true b h e = refl
 or_cases false b h e = absurd (cc)
 
-some_of : (n : ℕ) → not (n == 0) ≡ true → n ≢ 0
-some_of n h = grind (arith, nat_tests)
-
 usual_done : (k : Plane) (m : Cells) (x y : ℕ) → IsWhole m → IsIn m x y → IsSettled k m (place_of m x y) → AllLeaves (usual_at k m x y) (λ v. IsDone k v (place_of m x y))
 usual_done k m x y w i s =
     let c : Coef = coef_at m x y in
     leaves_if (significant c || is_decided k c) (Told m) (bit_of k m x y) (λ v. IsDone k v (place_of m x y))
-    (λ e. elim (which (is_decided k c)) [
+    (λ e. elim (cases_Bool (is_decided k c)) [
       | inl d ↦ greater k.number c.planes d
-      | inr d ↦ s (some_of c.bits (or_cases (significant c) (is_decided k c) e d))
+      | inr d ↦ s (some_bits c.bits (or_cases (significant c) (is_decided k c) e d))
     ])
     (λ e. λ b. bit_done k m x y w i b)
 

@@ -1,7 +1,7 @@
 -- What a grid's answers make of another grid may still become it.
 use Rattle.std.proofs.Common.{◌≡◌, ◌≢◌, ◌<◌, ◌≤◌, ◌+◌, ◌*◌, ◌%◌, ◌==◌, nat_lt, nat_le, ℕ, zero, suc, Bool, true, false, not, ◌&&◌, ◌||◌, List, length, get_or, set, refl, sym, ap, arith, subst, inl, inr, lit≤, if◌then◌else◌}
 use Rattle.std.proofs.lemmas.Bool.Decides.{nat_tests}
-use Rattle.std.proofs.lemmas.Bool.{cases_eq}
+use Rattle.std.proofs.lemmas.Bool.{cases_eq, ltb-false, not-true, and_parts, ltb-true}
 use Rattle.std.proofs.lemmas.List.{get_or-set_same, get_or-set_other, length-set}
 use Rattle.jx_grid.specs.declared.coef.Coef.{Coef}
 use Rattle.jx_grid.specs.declared.question.Plane.{Plane}
@@ -12,7 +12,7 @@ use Rattle.jx_grid.specs.Needs.{bit_at_place, first_of_four, followed}
 use Rattle.jx_passenc.proofs.FrontLemmas.{IsBefore, IsClean, zero_clean, sign_clean}
 use Rattle.jx_passenc.proofs.GridLemmas.{IsFront, AreClean, IsIn, IsWhole, index_in, with_clean, below_with, above_with}
 use Rattle.jx_passenc.proofs.StayLemmas.{IsDue, zero_stays, sign_stays, more_stays}
-use Rattle.jx_passenc.proofs.StepLemmas.{and_left, and_right, not_true, no_bits, no_less, clean_at, or_right}
+use Rattle.jx_passenc.proofs.StepLemmas.{no_bits, clean_at, or_right}
 use Rattle.jx_passenc.proofs.RunBackLemmas.{IsLeft, left_same, IsRun, is_one}
 use Rattle.jx_passenc.proofs.WroteLemmas.{or_false}
 
@@ -105,14 +105,14 @@ significance_stays k m g x y s i d =
     let l : Bool = label_at k m x y == 0 in
     stays_if k g (p || l) (Told m) (bit_of k m x y) (λ e. d.front)
     (λ e. bit_stays k m g x y s i d (no_bits c.bits (or_false (significant c) (is_decided k c) (or_false p l e)))
-    (no_less k.number c.planes (or_right (significant c) (is_decided k c) (or_false p l e))))
+    (ltb-false k.number c.planes (or_right (significant c) (is_decided k c) (or_false p l e))))
 
 usual_stays : (k : Plane) (m g : Cells) (x y : ℕ) → IsScan k → IsIn m x y → AreDue k m g → Stays k g (usual_at k m x y)
 usual_stays k m g x y s i d =
     let c : Coef = coef_at m x y in
     stays_if k g (significant c || is_decided k c) (Told m) (bit_of k m x y) (λ e. d.front)
     (λ e. bit_stays k m g x y s i d (no_bits c.bits (or_false (significant c) (is_decided k c) e))
-    (no_less k.number c.planes (or_right (significant c) (is_decided k c) e)))
+    (ltb-false k.number c.planes (or_right (significant c) (is_decided k c) e)))
 
 pub some_bits : (n : ℕ) → not (n == 0) ≡ true → n ≢ 0
 some_bits n h = grind (arith, nat_tests)
@@ -122,9 +122,9 @@ refinement_stays k m g x y s i d =
     let c : Coef = coef_at m x y in
     stays_if k g (significant c && not (is_decided k c)) _ (Told m)
     (λ e.
-    let u = no_less k.number c.planes (not_true (is_decided k c) (and_right (significant c) (not (is_decided k c)) e)) in
+    let u = ltb-false k.number c.planes (not-true (is_decided k c) ((and_parts (significant c) (not (is_decided k c)) e).1)) in
     with_stays k.planes m g x y (with_bit k (bit_at_place g (shift_of k) x y) c) d.clean.whole i d.front
-    (more_stays k (bit_at_place g (shift_of k) x y) c (coef_at g x y) s (due_at k m g x y i d u) (some_bits c.bits (and_left (significant c) (not (is_decided k c)) e)) refl))
+    (more_stays k (bit_at_place g (shift_of k) x y) c (coef_at g x y) s (due_at k m g x y i d u) (some_bits c.bits ((and_parts (significant c) (not (is_decided k c)) e).0)) refl))
     (λ e. d.front)
 
 -- the first of four that has the bit
@@ -214,9 +214,6 @@ named_stays k m g x y n s p d r l f =
     (λ j v. left_same k (coef_at m x (y + j)) (coef_at q x (y + j)) (above_with m x (y + n) (y + j) (with_sign k negative c) (omega arith) (omega arith)) (r.left j (omega arith)))
     f.off
 
-four_or_less : (f : ℕ) → nat_lt f 4 ≡ true → f < 4
-four_or_less f h = grind (arith, nat_tests)
-
 first_most : (a b c d : Bool) → (if a then 0 else if b then 1 else if c then 2 else if d then 3 else 4) ≤ 4
 first_most true b c d = lit≤ tt
 first_most false true c d = lit≤ tt
@@ -233,7 +230,7 @@ run_stays k m g x y s p d r =
     let h = first_facts g (shift_of k) x y in
     stays_if k g (nat_lt f 4) (place_at k m x y) (Told (zeroed k 4 m x y))
     (λ e.
-    let l = four_or_less f e in
+    let l = ltb-true f 4 e in
     let P : ℕ → Type 0 = λ n. Stays k g (named_at k m x y n) in
     subst P (sym (number_of_first f l)) (named_stays k m g x y f s p d r l h))
     (λ e.

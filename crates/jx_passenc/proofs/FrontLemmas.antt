@@ -1,10 +1,12 @@
 -- Coefficients that others may become: their decided bits and signs stay.
 use Rattle.std.proofs.Common.{◌≡◌, ◌≢◌, ◌≤◌, ◌+◌, ◌-◌, ◌/◌, ◌%◌, ◌^◌, ◌==◌, ℕ, Bool, true, false, refl, sym, ap, ◌∙◌, arith, subst}
 use Rattle.std.proofs.Math.Nat.{zero-div}
+use Rattle.std.proofs.lemmas.Bool.{true≢false}
 use Rattle.jx_grid.specs.declared.coef.Coef.{Coef}
 use Rattle.jx_grid.specs.declared.question.Plane.{Plane}
 use Rattle.jx_grid.specs.Pass.{IsScan, shift_of, with_bit, with_sign}
-use Rattle.jx_passenc.proofs.PowerLemmas.{div_longer, zeros_less, bit_off, bit_on, above_same, zeros_kept}
+use Rattle.jx_passenc.proofs.PowerLemmas.{zeros_less, bit_off, bit_on, above_same, zeros_kept}
+use Rattle.jx_base.proofs.Powers.{div_longer}
 
 -- the decided bits of a are those of b, and so is its sign where they show it
 pub record IsBefore (planes : ℕ) (a b : Coef) : Type 0 where
@@ -106,11 +108,8 @@ sign_bit_seen k negative c b s u h p =
     let n = s.number in
     bit_seen k (with_sign k negative c) b 0 p refl ∙ bit_on c.bits (shift_of k) (k.planes - c.planes) (omega arith) h.low
 
-cc_zero : true ≡ false → ⊥
-cc_zero h = cc
-
 isnt : (n : ℕ) → (n % 2 == 1) ≡ true → n ≢ 0
-isnt n h e = cc_zero (sym h ∙ ap (λ (x : ℕ). x % 2 == 1) e)
+isnt n h e = true≢false (sym h ∙ ap (λ (x : ℕ). x % 2 == 1) e)
 
 pub sign_seen : (k : Plane) (negative : Bool) (c b : Coef) → IsScan k → c.planes ≤ k.number → IsClean k.planes (k.number + 1) c
     → IsBefore k.planes (with_sign k negative c) b → b.negative ≡ negative

@@ -28,7 +28,7 @@ place_back pass k m x y s i a =
     (λ e. if_back k.planes (k.number + 1) m (pass % 3 == 2) (refinement_at k m x y) (cleanup_at k m x y)
     (λ f. refinement_back k m x y s i a) (λ f. cleanup_back k m x y s i a))
 
-room : (vw vh w h n count : ℕ) → vw ≡ w → vh ≡ h → n + suc count ≤ w * h → n + 1 + count ≤ vw * vh
+pub room : (vw vh w h n count : ℕ) → vw ≡ w → vh ≡ h → n + suc count ≤ w * h → n + 1 + count ≤ vw * vh
 room vw vh w h n count e f l = rw (e, f) (omega arith)
 
 scanned_back : (pass : ℕ) (k : Plane) (count n : ℕ) (m : Cells) → IsScan k → AreClean k.planes (k.number + 1) m → n + count ≤ m.width * m.height

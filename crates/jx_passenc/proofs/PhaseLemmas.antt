@@ -1,5 +1,5 @@
 -- What whole passes have done.
-use Rattle.std.proofs.Common.{◌≡◌, ◌<◌, ◌≤◌, ◌+◌, ◌*◌, ◌/◌, ◌%◌, ◌==◌, ℕ, zero, suc, Bool, true, false, length, get_or, refl, sym, ap, ◌∙◌, arith, subst, inl, inr, if◌then◌else◌}
+use Rattle.std.proofs.Common.{◌≡◌, ◌<◌, ◌≤◌, ◌+◌, ◌*◌, ◌/◌, ◌%◌, ◌==◌, ℕ, zero, suc, Bool, true, false, length, get_or, refl, sym, ap, ◌∙◌, arith, subst, inl, inr, if◌then◌else◌, mul-le-mul_right}
 use Rattle.std.proofs.lemmas.Bool.{cases_lt}
 use Rattle.std.proofs.lemmas.Nat.{div-add-mod'}
 use Rattle.std.proofs.Math.Nat.{mod-lt, div-lt_iff_lt-mul, mul-le-mul_right}
@@ -54,14 +54,11 @@ settled_next k w h m v t i a b l s =
 abbrev index_of : ℕ → ℕ → ℕ → ℕ
 index_of w h n = scan_row w h n * w + scan_column w h n
 
-times : (a b w : ℕ) → a ≤ b → a * w ≤ b * w
-times a b w l = mul-le-mul_right w l
-
 index_less : (w h n : ℕ) → n < w * h → index_of w h n < h * w
 index_less w h n l =
     let a = column_inside w h n l in
     let b = row_inside w h n l in
-    let m = times (scan_row w h n + 1) h w (omega arith) in
+    let m : (scan_row w h n + 1) * w ≤ h * w = mul-le-mul_right w (omega arith) in
     omega arith
 
 -- a pass over the places: what holds of the grid, and of each place once it was scanned

@@ -1,15 +1,12 @@
 -- Numbers by powers of two.
 use Rattle.std.proofs.Common.{◌≡◌, ◌<◌, ◌≤◌, ◌+◌, ◌-◌, ◌*◌, ◌/◌, ◌%◌, ◌^◌, ◌==◌, ℕ, suc, true, false, refl, sym, ap, ◌∙◌, arith, subst}
 use Rattle.std.proofs.lemmas.Nat.{pow_pos, pow-add, div-mul-add, div-add-mod'}
-use Rattle.std.proofs.Math.Nat.{div-div-eq-div-mul, mul-mod_left, two-pow-succ}
+use Rattle.std.proofs.Math.Nat.{mul-mod_left, two-pow-succ}
 use Rattle.std.proofs.Math.Pow.{pow_mono}
 
 -- a longer power
 pub longer : (t s : ℕ) → t ≤ s → 2 ^ s ≡ 2 ^ t * 2 ^ (s - t)
 longer t s h = let e : s ≡ t + (s - t) = omega arith in subst (λ (n : ℕ). 2 ^ n ≡ 2 ^ t * 2 ^ (s - t)) (sym e) (pow-add 2 t (s - t))
-
-pub div_longer : (n t s : ℕ) → t ≤ s → n / 2 ^ s ≡ n / 2 ^ t / 2 ^ (s - t)
-div_longer n t s h = ap (λ (p : ℕ). n / p) (longer t s h) ∙ sym (div-div-eq-div-mul n (2 ^ t) (2 ^ (s - t)))
 
 -- what ends with zeros is a multiple
 pub multiple : (n e : ℕ) → n % 2 ^ e ≡ 0 → n ≡ n / 2 ^ e * 2 ^ e
@@ -27,7 +24,7 @@ zeros_less n t s l h =
     ap (λ (x : ℕ). x % 2 ^ t) e ∙ mul-mod_left (q * 2 ^ (s - t)) (2 ^ t)
 
 -- a bit above zeros
-twice : (q a : ℕ) → q * (a + a) ≡ q * 2 * a + 0
+pub twice : (q a : ℕ) → q * (a + a) ≡ q * 2 * a + 0
 twice q a = omega arith
 
 even_above : (n s e : ℕ) → s < e → n % 2 ^ e ≡ 0 → n / 2 ^ s % 2 ≡ 0

@@ -1,6 +1,7 @@
 -- Written segments are read back pass by pass.
-use Rattle.std.proofs.Common.{◌≡◌, ◌+◌, ◌-◌, ◌==◌, ℕ, suc, Bool, true, false, ◌||◌, List, [], ◌∷◌, ◌++◌, drop, refl, sym, ap, subst, ◌∙◌, arith, inl, inr, ◌⊎◌, if◌then◌else◌}
+use Rattle.std.proofs.Common.{◌≡◌, ◌+◌, ◌-◌, ◌==◌, ℕ, suc, Bool, true, false, ◌||◌, List, [], ◌∷◌, ◌++◌, drop, refl, sym, ap, subst, ◌∙◌, arith, inl, inr, if◌then◌else◌}
 use Rattle.std.specs.Bool.{MatchBool}
+use Rattle.std.proofs.lemmas.Bool.{cases_Bool}
 use Rattle.jx_base.specs.MqTable.{MqContexts}
 use Rattle.jx_base.specs.MqWriting.{MqGiven}
 use Rattle.jx_base.specs.Passes.{raw_pass, end_pass}
@@ -26,15 +27,11 @@ pub record Started (style pass : ℕ) (x : MqContexts) (begun : List MqGiven) (p
   pub gives : Gives (fresh_reading (raw_pass style pass) (first_segment segments) x) begun
   pub ready : Ready style pass passes (read_all (fresh_reading (raw_pass style pass) (first_segment segments) x) begun) (drop 1 segments)
 
-pub which : (b : Bool) → (b ≡ true) ⊎ (b ≡ false)
-which true = inl refl
-which false = inr refl
-
 or_last : (a : Bool) → a || true ≡ true
 or_last true = refl
 or_last false = refl
 
--- the segments of passes of which the first one ends its segment, or doesn't
+-- the segments of passes of cases_Bool the first one ends its segment, or doesn't
 abbrev segments_if : Bool → ℕ → ℕ → MqContexts → List MqGiven → List (List MqGiven) → List (List ℕ)
 segments_if ends style pass x all more =
     if ends then segment_of (raw_pass style pass) x all ∷ segments_from style (pass + 1) (contexts_after (raw_pass style pass) x all) [] more
@@ -101,7 +98,7 @@ pub started : AreInverse → (style : ℕ) (given : List MqGiven) (more : List (
 started i style given [] pass x begun =
     joined_up style pass x begun given [] true (or_last (end_pass style pass)) (started_end i style pass x begun given [])
 started i style given (next ∷ more) pass x begun =
-    elim (which (end_pass style pass || false)) [
+    elim (cases_Bool (end_pass style pass || false)) [
       | inl e ↦ joined_up style pass x begun given (next ∷ more) true e (started_end i style pass x begun given (next ∷ more))
       | inr e ↦ joined_up style pass x begun given (next ∷ more) false e
           (started_on style pass x begun given (next ∷ more) (or_false (end_pass style pass) false e) (started i style next more (pass + 1) x (begun ++ given)))

@@ -1,6 +1,6 @@
 -- The run mode goes the same way again where a grid answers that its result may become.
 use Rattle.std.proofs.Common.{◌≡◌, ◌<◌, ◌≤◌, ◌+◌, ◌%◌, ◌==◌, nat_lt, nat_le, ℕ, zero, suc, Bool, true, false, not, ◌&&◌, refl, sym, ap, ◌∙◌, arith, subst, lit<, if◌then◌else◌}
-use Rattle.std.proofs.lemmas.Bool.Decides.{nat_tests}
+use Rattle.std.proofs.lemmas.Bool.{leb-true, ltb-false, not-true, and_parts}
 use Rattle.jx_grid.specs.declared.coef.Coef.{Coef}
 use Rattle.jx_grid.specs.declared.question.Plane.{Plane}
 use Rattle.jx_grid.specs.Cells.{Cells, coef_at, significant}
@@ -10,7 +10,7 @@ use Rattle.jx_grid.specs.Needs.{bit_at_place, first_of_four, followed}
 use Rattle.jx_passenc.proofs.FrontLemmas.{zero_before, sign_before, zero_clean, sign_clean, more_seen, sign_bit_seen, sign_seen}
 use Rattle.jx_passenc.proofs.GridLemmas.{IsFront, AreClean, IsIn, front_same, front_next, with_front, with_clean, seen_at, below_with, above_with}
 use Rattle.jx_passenc.proofs.LeafLemmas.{AllLeaves, IsBack}
-use Rattle.jx_passenc.proofs.StepLemmas.{and_left, and_right, not_true, no_bits, no_less, clean_at, if_back, PassBack, usual_back}
+use Rattle.jx_passenc.proofs.StepLemmas.{no_bits, clean_at, if_back, PassBack, usual_back}
 
 -- a coefficient that is left to the cleanup pass and insignificant
 pub record IsLeft (k : Plane) (c : Coef) : Type 0 where
@@ -22,10 +22,10 @@ quiet_left k g x y h =
     let c : Coef = coef_at g x y in
     let a : Bool = not (significant c) in
     let b : Bool = not (is_decided k c) in
-    let ab = and_left (a && b) (label_at k g x y == 0) h in
+    let ab = (and_parts (a && b) (label_at k g x y == 0) h).0 in
     record {
-      bits = no_bits c.bits (not_true (significant c) (and_left a b ab));
-      planes = no_less k.number c.planes (not_true (is_decided k c) (and_right a b ab));
+      bits = no_bits c.bits (not-true (significant c) ((and_parts a b ab).0));
+      planes = ltb-false k.number c.planes (not-true (is_decided k c) ((and_parts a b ab).1));
     }
 
 -- the four places of a run
@@ -44,9 +44,6 @@ pub record IsRun (k : Plane) (g : Cells) (x y : ℕ) : Type 0 where
   pub rows : y + 4 ≤ g.height
   pub left : AreLeft k g x y
 
-pub low_enough : (a b : ℕ) → nat_le a b ≡ true → a ≤ b
-low_enough a b h = grind (arith, nat_tests)
-
 pub is_one : (k : Plane) (g : Cells) (x y : ℕ) → is_run k g x y ≡ true → IsRun k g x y
 is_one k g x y h =
     let t : Bool = y % 4 == 0 in
@@ -55,13 +52,13 @@ is_one k g x y h =
     let b : Bool = is_quiet k g x (y + 1) in
     let c : Bool = is_quiet k g x (y + 2) in
     let d : Bool = is_quiet k g x (y + 3) in
-    let abc = and_left (t && w && a && b && c) d h in
-    let ab = and_left (t && w && a && b) c abc in
-    let pa = and_left (t && w && a) b ab in
-    let p = and_left (t && w) a pa in
+    let abc = (and_parts (t && w && a && b && c) d h).0 in
+    let ab = (and_parts (t && w && a && b) c abc).0 in
+    let pa = (and_parts (t && w && a) b ab).0 in
+    let p = (and_parts (t && w) a pa).0 in
     record {
-      rows = low_enough (y + 4) g.height (and_right t w p);
-      left = λ n l. left_at k g x y n (and_right (t && w) a pa) (and_right (t && w && a) b ab) (and_right (t && w && a && b) c abc) (and_right (t && w && a && b && c) d h) l;
+      rows = leb-true (y + 4) g.height ((and_parts t w p).1);
+      left = λ n l. left_at k g x y n ((and_parts (t && w) a pa).1) ((and_parts (t && w && a) b ab).1) ((and_parts (t && w && a && b) c abc).1) ((and_parts (t && w && a && b && c) d h).1) l;
     }
 
 -- rows that are decided to be 0

@@ -6,8 +6,9 @@ use Rattle.std.proofs.Math.Nat.{zero-div, two-pow-succ}
 use Rattle.jx_grid.specs.declared.coef.Coef.{Coef}
 use Rattle.jx_grid.specs.declared.question.Plane.{Plane}
 use Rattle.jx_grid.specs.Pass.{IsScan, shift_of, with_bit, with_sign}
-use Rattle.jx_passenc.proofs.PowerLemmas.{div_longer, multiple}
+use Rattle.jx_passenc.proofs.PowerLemmas.{multiple, twice}
 use Rattle.jx_passenc.proofs.FrontLemmas.{IsBefore, bit_in, low_of}
+use Rattle.jx_base.proofs.Powers.{div_longer}
 
 half_of : (g s : ℕ) → g / 2 ^ suc s ≡ g / 2 ^ s / 2
 half_of g s =
@@ -15,21 +16,18 @@ half_of g s =
     let P : ℕ → Type 0 = λ n. g / 2 ^ suc s ≡ g / 2 ^ s / 2 ^ n in
     subst P e (div_longer g s (suc s) (omega arith))
 
-twice_of : (q a : ℕ) → q * (a + a) ≡ q * 2 * a + 0
-twice_of q a = omega arith
-
 top_of : (c s : ℕ) → c % 2 ^ suc s ≡ 0 → c / 2 ^ s ≡ c / 2 ^ suc s * 2
 top_of c s z =
     let m = multiple c (suc s) z in
     let q : ℕ = c / 2 ^ suc s in
-    let d : c ≡ q * 2 * 2 ^ s + 0 = m ∙ (ap (λ (x : ℕ). q * x) (two-pow-succ s) ∙ twice_of q (2 ^ s)) in
+    let d : c ≡ q * 2 * 2 ^ s + 0 = m ∙ (ap (λ (x : ℕ). q * x) (two-pow-succ s) ∙ twice q (2 ^ s)) in
     ap (λ (x : ℕ). x / 2 ^ s) d ∙ div-mul-add (q * 2) (2 ^ s) 0 (pow_pos s)
 
 top_more : (c s : ℕ) → c % 2 ^ suc s ≡ 0 → (c + 2 ^ s) / 2 ^ s ≡ c / 2 ^ suc s * 2 + 1
 top_more c s z =
     let m = multiple c (suc s) z in
     let q : ℕ = c / 2 ^ suc s in
-    let d : c ≡ q * 2 * 2 ^ s + 0 = m ∙ (ap (λ (x : ℕ). q * x) (two-pow-succ s) ∙ twice_of q (2 ^ s)) in
+    let d : c ≡ q * 2 * 2 ^ s + 0 = m ∙ (ap (λ (x : ℕ). q * x) (two-pow-succ s) ∙ twice q (2 ^ s)) in
     let e : c + 2 ^ s ≡ (q * 2 + 1) * 2 ^ s + 0 = omega arith in
     ap (λ (x : ℕ). x / 2 ^ s) e ∙ div-mul-add (q * 2 + 1) (2 ^ s) 0 (pow_pos s)
 
@@ -89,7 +87,7 @@ sign_stays k c g s d h = record {
   sign = λ n. refl;
 }
 
-zero_times : (n : ℕ) → 0 * n ≡ 0
+pub zero_times : (n : ℕ) → 0 * n ≡ 0
 zero_times n = omega arith
 
 shows : (k : Plane) (c g : Coef) → IsScan k → IsDue k c g → c.bits ≢ 0 → c.bits / 2 ^ (k.planes - c.planes) ≢ 0

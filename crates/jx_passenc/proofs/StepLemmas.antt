@@ -1,6 +1,7 @@
 -- A pass at a place goes the same way again where a grid answers that its result may become.
-use Rattle.std.proofs.Common.{◌≡◌, ◌≤◌, ◌+◌, ◌*◌, ◌==◌, nat_lt, ℕ, Bool, true, false, not, ◌&&◌, ◌||◌, refl, sym, ap, ◌∙◌, arith, if◌then◌else◌}
+use Rattle.std.proofs.Common.{◌≡◌, ◌≤◌, ◌+◌, ◌*◌, ◌==◌, ℕ, Bool, true, false, not, ◌&&◌, ◌||◌, refl, ap, ◌∙◌, arith, if◌then◌else◌}
 use Rattle.std.proofs.lemmas.Bool.Decides.{nat_tests}
+use Rattle.std.proofs.lemmas.Bool.{ltb-false, not-true, and_parts}
 use Rattle.jx_grid.specs.declared.coef.Coef.{Coef}
 use Rattle.jx_grid.specs.declared.question.Plane.{Plane}
 use Rattle.jx_grid.specs.Cells.{Cells, coef_at, significant}
@@ -16,23 +17,8 @@ pub or_right : (a b : Bool) → a || b ≡ false → b ≡ false
 or_right true b h = absurd (cc)
 or_right false b h = h
 
-pub and_left : (a b : Bool) → a && b ≡ true → a ≡ true
-and_left true b h = refl
-and_left false b h = h
-
-pub and_right : (a b : Bool) → a && b ≡ true → b ≡ true
-and_right true b h = h
-and_right false b h = absurd (cc)
-
-pub not_true : (b : Bool) → not b ≡ true → b ≡ false
-not_true true h = sym h
-not_true false h = refl
-
 pub no_bits : (n : ℕ) → not (n == 0) ≡ false → n ≡ 0
 no_bits n h = grind (arith, nat_tests)
-
-pub no_less : (a b : ℕ) → nat_lt a b ≡ false → b ≤ a
-no_less a b h = grind (arith, nat_tests)
 
 pub clean_at : (k : Plane) (m : Cells) (x y : ℕ) → AreClean k.planes (k.number + 1) m → IsClean k.planes (k.number + 1) (coef_at m x y)
 clean_at k m x y a = a.at (y * m.width + x)
@@ -84,14 +70,14 @@ significance_back k m x y s i a =
     let l : Bool = label_at k m x y == 0 in
     if_back k.planes (k.number + 1) m (p || l) (Told m) (bit_of k m x y) (λ e. back_told k.planes (k.number + 1) m a)
     (λ e. bit_back k m x y s i a (no_bits c.bits (or_false (significant c) (is_decided k c) (or_false p l e)))
-    (no_less k.number c.planes (or_right (significant c) (is_decided k c) (or_false p l e))))
+    (ltb-false k.number c.planes (or_right (significant c) (is_decided k c) (or_false p l e))))
 
 pub usual_back : (k : Plane) (m : Cells) (x y : ℕ) → IsScan k → IsIn m x y → AreClean k.planes (k.number + 1) m → PassBack k m (usual_at k m x y)
 usual_back k m x y s i a =
     let c : Coef = coef_at m x y in
     if_back k.planes (k.number + 1) m (significant c || is_decided k c) (Told m) (bit_of k m x y) (λ e. back_told k.planes (k.number + 1) m a)
     (λ e. bit_back k m x y s i a (no_bits c.bits (or_false (significant c) (is_decided k c) e))
-    (no_less k.number c.planes (or_right (significant c) (is_decided k c) e)))
+    (ltb-false k.number c.planes (or_right (significant c) (is_decided k c) e)))
 
 pub refinement_back : (k : Plane) (m : Cells) (x y : ℕ) → IsScan k → IsIn m x y → AreClean k.planes (k.number + 1) m → PassBack k m (refinement_at k m x y)
 refinement_back k m x y s i a =
@@ -99,7 +85,7 @@ refinement_back k m x y s i a =
     let cl : IsClean k.planes (k.number + 1) c = clean_at k m x y a in
     if_back k.planes (k.number + 1) m (significant c && not (is_decided k c)) _ (Told m)
     (λ e. λ b.
-    let u = no_less k.number c.planes (not_true (is_decided k c) (and_right (significant c) (not (is_decided k c)) e)) in
+    let u = ltb-false k.number c.planes (not-true (is_decided k c) ((and_parts (significant c) (not (is_decided k c)) e).1)) in
     record {
       front = with_front k.planes m x y (with_bit k b c) a.whole i (more_before k b c s u cl);
       clean = with_clean k.planes (k.number + 1) m x y (with_bit k b c) i a (more_clean k b c s u cl);

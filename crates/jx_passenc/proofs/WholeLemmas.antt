@@ -1,7 +1,6 @@
 -- Whole planes: where a grid answers that was decided in them all, the passes of any style make it.
 use Rattle.std.proofs.Common.{◌≡◌, ◌≢◌, ◌<◌, ◌≤◌, ◌+◌, ◌-◌, ◌*◌, ◌/◌, ◌%◌, ◌^◌, ◌==◌, ℕ, zero, suc, Bool, true, false, List, [], ◌∷◌, length, get_or, refl, sym, ap, ◌∙◌, arith, subst, inl, inr}
-use Rattle.std.proofs.lemmas.Bool.Decides.{nat_tests}
-use Rattle.std.proofs.lemmas.Bool.{cases_eq}
+use Rattle.std.proofs.lemmas.Bool.{cases_Bool, cases_eq, eq-eqb, eqb-false, eqb-true}
 use Rattle.jx_grid.specs.declared.coef.Coef.{Coef}
 use Rattle.jx_grid.specs.declared.question.Plane.{Plane}
 use Rattle.jx_grid.specs.Cells.{Cells, zero_coef}
@@ -20,8 +19,8 @@ use Rattle.jx_passenc.proofs.BackLemmas.{tree_of, opened_cells}
 use Rattle.jx_passenc.proofs.DoneLemmas.{AreNeat}
 use Rattle.jx_passenc.proofs.FollowLemmas.{AreDue, place_stays}
 use Rattle.jx_passenc.proofs.PhaseLemmas.{IsAt, at_next, at_step, same_length, in_place, leaves_followed, AllSettled, AllDone, any_pass, refinement_pass, cleanup_pass, size_is}
-use Rattle.jx_passenc.proofs.ReadyLemmas.{which}
 use Rattle.jx_base.specs.Passes.{is_causal}
+use Rattle.jx_passenc.proofs.StayLemmas.{zero_times}
 
 due_next : (k : Plane) (m v g : Cells) (t : Asking Cells) → AreDue k m g → IsBack k.planes (k.number + 1) m t v → IsFront k.planes v g → AreDue k v g
 due_next k m v g t d b f =
@@ -72,26 +71,17 @@ later c w h pass v a f = record {
   neat = a.neat;
 }
 
-is_test : (n m : ℕ) → (n == m) ≡ true → n ≡ m
-is_test n m h = grind (arith, nat_tests)
-
-isnt_test : (n m : ℕ) → (n == m) ≡ false → n ≢ m
-isnt_test n m h = grind (arith, nat_tests)
-
 one_more : (pass : ℕ) → (pass % 3 == 1) ≡ false → (pass % 3 == 2) ≡ false → pass % 3 ≡ 0
 one_more pass e f =
-    let a = isnt_test (pass % 3) 1 e in
-    let b = isnt_test (pass % 3) 2 f in
+    let a = eqb-false (pass % 3) 1 e in
+    let b = eqb-false (pass % 3) 2 f in
     omega arith
 
 next_clean : (c : Coding) (pass : ℕ) (v : Cells) → AreClean c.planes ((pass + 2) / 3 + 1) v → AreClean c.planes ((pass + 1 + 1) / 3 + 1) v
 next_clean c pass v a = clean_more c.planes ((pass + 2) / 3 + 1) ((pass + 1 + 1) / 3 + 1) v (omega arith) a
 
 not_test : (n m : ℕ) → n ≢ m → (n == m) ≡ true → ⊥
-not_test n m h e = h (is_test n m e)
-
-as_test : (n m : ℕ) → n ≡ m → (n == m) ≡ true
-as_test n m h = grind (arith, nat_tests)
+not_test n m h e = h (eqb-true n m e)
 
 phase_next : (c : Coding) (w h pass : ℕ) (m : Cells) → IsScan (plane_at c pass) → Phase c w h pass m → AllLeaves (tree_of c pass m) (Phase c w h (pass + 1))
 phase_next c w h pass m s p =
@@ -99,9 +89,9 @@ phase_next c w h pass m s p =
     let t : Asking Cells = scanned pass k (w * h) 0 m in
     let Q : Cells → Type 0 = Phase c w h (pass + 1) in
     let go : AllLeaves t Q =
-    elim (which (pass % 3 == 1)) [
+    elim (cases_Bool (pass % 3 == 1)) [
       | inl e ↦ (
-          let r = is_test (pass % 3) 1 e in
+          let r = eqb-true (pass % 3) 1 e in
           leaves_more t (IsAt k w h) Q
           (λ v a. record {
             here = later c w h pass v a (λ i l. let q = a.least i l in omega arith);
@@ -109,9 +99,9 @@ phase_next c w h pass m s p =
             settled = λ z. absurd (not_test ((pass + 1) % 3) 0 (omega arith) z);
           })
           (any_pass pass k w h m s p.here))
-      | inr e ↦ elim (which (pass % 3 == 2)) [
+      | inr e ↦ elim (cases_Bool (pass % 3 == 2)) [
         | inl f ↦ (
-            let r = is_test (pass % 3) 2 f in
+            let r = eqb-true (pass % 3) 2 f in
             let n : (pass + 2) / 3 ≡ (pass + 1 + 2) / 3 = omega arith in
             leaves_more t (λ v. IsAt k w h v × AllSettled k v) Q
             (λ v a. record {
@@ -128,7 +118,7 @@ phase_next c w h pass m s p =
               clean = next_clean c pass v a.0.clean;
               settled = λ z. absurd (not_test ((pass + 1) % 3) 0 (omega arith) z);
             })
-            (cleanup_pass pass k w h m e f s p.here (p.settled (as_test (pass % 3) 0 r))))
+            (cleanup_pass pass k w h m e f s p.here (p.settled (eq-eqb (pass % 3) 0 r))))
       ]
     ] in
     subst (λ (x : Asking Cells). AllLeaves x Q) (tree_is c w h pass m p.here.width p.here.height) go
@@ -203,11 +193,8 @@ coef_same a b n q p =
     let H = λ (x : ℕ). record a { negative = b.negative; bits = b.bits; planes = x } in
     ap F n ∙ (ap G q ∙ ap H p)
 
-zero_product : (n : ℕ) → 0 * n ≡ 0
-zero_product n = omega arith
-
 shown_by : (n e : ℕ) → n % 2 ^ e ≡ 0 → n ≢ 0 → n / 2 ^ e ≢ 0
-shown_by n e z h q = h (multiple n e z ∙ (ap (λ (x : ℕ). x * 2 ^ e) q ∙ zero_product (2 ^ e)))
+shown_by n e z h q = h (multiple n e z ∙ (ap (λ (x : ℕ). x * 2 ^ e) q ∙ zero_times (2 ^ e)))
 
 one_coef : (planes most : ℕ) (a b g : Coef) → IsClean planes most a → IsClean planes most b → most ≤ a.planes → most ≤ b.planes → IsBefore planes a g → IsBefore planes b g
     → (a.bits ≡ 0 → a.negative ≡ false) → (b.bits ≡ 0 → b.negative ≡ false) → a ≡ b

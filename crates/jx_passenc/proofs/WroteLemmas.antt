@@ -196,7 +196,7 @@ pub step_target : (c : Coding) (last : Bool) (pass : ℕ) (e : Encoding) → (af
 step_target c last pass e =
     step_target_if c.style (end_pass c.style pass || last) pass (after_pass c pass e) ∙ wrote_target (pass_needs c e.writing.target pass e.cells) e.writing
 
-last_test : (end pass : ℕ) → pass < end → (end - (pass + 1) == 0) ≡ (pass + 1 == end)
+pub last_test : (end pass : ℕ) → pass < end → (end - (pass + 1) == 0) ≡ (pass + 1 == end)
 last_test end pass h = grind (arith, nat_tests)
 
 -- one more pass of those up to an end

@@ -1,9 +1,9 @@
 -- Headers that say the same of coding, quantization and the region's shift, but for precincts and style, give a tile the same steps and
 -- planes, and the same shapes with the precincts that are asked.
-use Rattle.std.proofs.Common.{◌≡◌, ◌<◌, ◌+◌, ◌*◌, ◌∙◌, ℕ, Bool, true, false, arith, List, [], ◌∷◌, map, length, refl, sym, ap, Option, Some, None}
-use Rattle.std.specs.List.{flat_map, list_any, range_with_len}
+use Rattle.std.proofs.Common.{◌≡◌, ◌+◌, ◌*◌, ◌∙◌, ℕ, true, arith, List, [], ◌∷◌, map, length, refl, sym, ap, Option, Some, None}
+use Rattle.std.specs.List.{range_with_len}
 use Rattle.std.specs.Option.{option_or, option_map, is_some}
-use Rattle.std.proofs.lemmas.Bool.Decides.{nat_tests}
+use Rattle.std.proofs.lemmas.Bool.{true≢false}
 use Rattle.jx_base.specs.declared.names.Band.{Band}
 use Rattle.jx_base.specs.declared.style.Style.{Style}
 use Rattle.jx_marker.specs.declared.Segment.{Segment}
@@ -17,6 +17,7 @@ use Rattle.jx_stream.specs.Tiles.{in_slot}
 use Rattle.jx_stream.specs.Params.{chosen, shape_in, quant_in, shift_in, shape_of, quant_of, shift_of, has_too_few, shape_or, precincts_of, band_planes, header_has_too_few, header_planes, step_by, planes_by}
 use Rattle.jx_stream.specs.Shapes.{comp_shape, shapes_in, size_in}
 use Rattle.jx_plan.specs.Headers.{comp_written, shape_written}
+use Rattle.jx_stream.proofs.BareLemmas.{any_same, flat_same, own_gives}
 
 -- two segments, each there or not, that say the same, but for the precincts and the style that are asked
 pub record AreAlike (ps : Option (List ℕ)) (st : Option Style) (o p : Option Segment) : Type 0 where
@@ -25,29 +26,15 @@ pub record AreAlike (ps : Option (List ℕ)) (st : Option Style) (o p : Option S
   pub quant : quant_in o ≡ quant_in p
   pub shift : shift_in o ≡ shift_in p
 
-true_false : true ≡ false → ⊥
-true_false e = absurd (cc)
-
 alike_or : (ps : Option (List ℕ)) (st : Option Style) (a b c d : Option Segment) → AreAlike ps st a b → AreAlike ps st c d → AreAlike ps st (option_or a c) (option_or b d)
 alike_or ps st None None c d h k = k
-alike_or ps st None (Some t) c d h k = absurd (true_false (sym h.some))
-alike_or ps st (Some s) None c d h k = absurd (true_false h.some)
+alike_or ps st None (Some t) c d h k = absurd (true≢false (sym h.some))
+alike_or ps st (Some s) None c d h k = absurd (true≢false h.some)
 alike_or ps st (Some s) (Some t) c d h k = h
 
 -- so do two headers
 abbrev pub HeadersAlike : Option (List ℕ) → Option Style → List Segment → List Segment → Type 0
 HeadersAlike ps st xs ys = (slot : ℕ) → gives slot ≡ true → AreAlike ps st (in_slot slot xs) (in_slot slot ys)
-
-own_gives : (k comp : ℕ) → 4 < k → gives (k + 3 * comp) ≡ true
-own_gives k comp h = grind (arith, nat_tests)
-
-any_same : (f g : ℕ → Bool) (xs : List ℕ) → ((x : ℕ) → f x ≡ g x) → list_any f xs ≡ list_any g xs
-any_same f g [] h = refl
-any_same f g (x ∷ xs) h = rw (h x, any_same f g xs h) refl
-
-flat_same : (f g : ℕ → List ℕ) (xs : List ℕ) → ((x : ℕ) → f x ≡ g x) → flat_map f xs ≡ flat_map g xs
-flat_same f g [] h = refl
-flat_same f g (x ∷ xs) h = rw (h x, flat_same f g xs h) refl
 
 map_both : (f g : ℕ → CompShape) (k : CompShape → CompShape) (xs : List ℕ) → ((x : ℕ) → f x ≡ k (g x)) → map f xs ≡ map k (map g xs)
 map_both f g k [] h = refl
@@ -93,7 +80,7 @@ comp_is : (ps : Option (List ℕ)) (st : Option Style) (size : CompSize) (o : Op
     → comp_of size (shape_or (option_map (shape_written ps st) o)) ≡ comp_written ps (comp_of size (shape_or o))
 comp_is None st size None there = refl
 comp_is None st size (Some shape) there = refl
-comp_is (Some items) st size None there = absurd (true_false (sym there))
+comp_is (Some items) st size None there = absurd (true≢false (sym there))
 comp_is (Some items) st size (Some shape) there = refl
 
 module _ (ps : Option (List ℕ)) (st : Option Style) (own other main there : List Segment) (here : HeadersAlike ps st own other) (mains : HeadersAlike ps st main there) where

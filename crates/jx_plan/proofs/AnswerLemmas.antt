@@ -30,7 +30,8 @@ use Rattle.jx_plan.specs.Steps.{IsSameAt}
 use Rattle.jx_plan.specs.Wanted.{MayBeWanted, Wanted}
 use Rattle.jx_plan.proofs.FitLemmas.{all_at, all_made}
 use Rattle.jx_plan.proofs.LayerLaws.{CrowdLaws}
-use Rattle.jx_plan.proofs.PlanLemmas.{headers_in_range, headers_pass, same_tiles}
+use Rattle.jx_plan.proofs.PlanLemmas.{headers_in_range, headers_pass}
+use Rattle.jx_plan.proofs.StreamLemmas.{tile_number_stays}
 
 abbrev Or : Type 0 → Type 0
 Or P = P ⊎ (P → ⊥)
@@ -120,7 +121,7 @@ module _ (crowds : CrowdLaws) (s : Stream) (blocks : List Block) (w : Wanted) (m
         elim (parted_or w.parts made range pass) [
           | inl all ↦ inl (record {
             whole = whole;
-            free = record { fits = fits; few = few; parts = λ t inside. all t (omega (arith, inside, same_tiles (asked_of w layers) s)) };
+            free = record { fits = fits; few = few; parts = λ t inside. all t (omega (arith, inside, tile_number_stays (asked_of w layers) s)) };
             uncrowded = uncrowded;
           })
           | inr place ↦ inr (

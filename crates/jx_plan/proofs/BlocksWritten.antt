@@ -1,5 +1,5 @@
 -- The code-blocks of the stream that is written: each is its stream's own, as it is written in the layers that a rule gives it.
-use Rattle.std.proofs.Common.{◌≡◌, ◌∙◌, ◌<◌, ◌≤◌, ◌+◌, ◌==◌, nat_lt, ℕ, false, List, [], ◌∷◌, length, cond, refl, sym, ap, subst, arith, slice_index_or, Option, None, Some}
+use Rattle.std.proofs.Common.{◌≡◌, ◌∙◌, ◌<◌, ◌≤◌, ℕ, false, List, length, refl, sym, ap, subst, arith, slice_index_or, Option, None, Some}
 use Rattle.std.specs.List.{All, slice_get}
 use Rattle.std.specs.Option.{option_map}
 use Rattle.std.proofs.lemmas.List.Elements.{All-weaker}
@@ -9,19 +9,18 @@ use Rattle.jx_base.specs.declared.pieces.Block.{Block}
 use Rattle.jx_base.specs.declared.style.Style.{Style}
 use Rattle.jx_base.specs.Pieces.{PieceValue}
 use Rattle.jx_base.specs.Sound.{IsSound}
-use Rattle.jx_base.proofs.Lists.{same_gets}
+use Rattle.jx_base.proofs.Lists.{same_gets, all_at}
 use Rattle.jx_geom.specs.Numbering.{IsBlock, block_number}
-use Rattle.jx_head.specs.Parts.{cut}
 use Rattle.jx_stream.specs.declared.Stream.{Stream}
 use Rattle.jx_stream.specs.First.{canvas_of}
 use Rattle.jx_stream.specs.Params.{planes_at}
 use Rattle.jx_stream.specs.Shapes.{layers_of, shapes_of, style_of}
 use Rattle.jx_gather.specs.Another.{rect_in}
 use Rattle.jx_gather.specs.BlockOf.{AreBlocksOf, IsBlockOf, IsFoundOf, pieces_at}
-use Rattle.jx_gather.specs.BlockOf.{AreCutAtEnds as AreCutAsRead, passes_at as passes_of_layer, passes_below as passes_before_layer}
+use Rattle.jx_gather.specs.BlockOf.{AreCutAtEnds as AreCutAsRead}
 use Rattle.jx_block.specs.declared.LayerEnd.{LayerEnd}
 use Rattle.jx_block.specs.Jobs.{IsAsked}
-use Rattle.jx_block.specs.Laws.{AreCutInLayers, asked_at, passes_at, passes_below}
+use Rattle.jx_block.specs.Laws.{AreCutInLayers, asked_at}
 use Rattle.jx_block.specs.Written.{is_wrong, style_for, written_in}
 use Rattle.jx_layers.specs.Causal.{first_broken}
 use Rattle.jx_layers.specs.Facts.{most_layers}
@@ -41,26 +40,14 @@ use Rattle.jx_plan.proofs.PlanLemmas.{block_at, some_layers, sound_at, whole_at}
 use Rattle.jx_plan.proofs.StreamLemmas.{canvas_stays, layers_are, planes_stay, style_stays}
 use Rattle.jx_plan.proofs.ViewLemmas.{written_shapes}
 
--- ---- how pieces are cut, in the words of two crates
-at_same : (layer : ℕ) (ps : List PieceValue) → passes_of_layer layer ps ≡ passes_at layer ps
-at_same layer [] = refl
-at_same layer (p ∷ ps) = ap (λ (n : ℕ). cond (p.layer == layer) (p.passes + n) n) (at_same layer ps)
-
-below_same : (layer : ℕ) (ps : List PieceValue) → passes_before_layer layer ps ≡ passes_below layer ps
-below_same layer [] = refl
-below_same layer (p ∷ ps) = ap (λ (n : ℕ). cond (nat_lt p.layer layer) (p.passes + n) n) (below_same layer ps)
-
-cut_same : (style layer : ℕ) (ps : List PieceValue) → cut style (passes_before_layer layer ps) (passes_of_layer layer ps) ≡ cut style (passes_below layer ps) (passes_at layer ps)
-cut_same style layer ps =
-    ap (λ (n : ℕ). cut style n (passes_of_layer layer ps)) (below_same layer ps) ∙ ap (cut style (passes_below layer ps)) (at_same layer ps)
-
+-- ---- how pieces are cut, as they are read and as they are written
 cut_as_read : (style : ℕ) (ps : List PieceValue) → AreCutAsRead style ps → AreCutInLayers style ps
 unfolding pieces_at
-cut_as_read style ps cuts layer = cuts layer ∙ cut_same style layer ps
+cut_as_read style ps cuts layer = cuts layer
 
 cut_as_written : (style : ℕ) (ps : List PieceValue) → AreCutInLayers style ps → AreCutAsRead style ps
 unfolding pieces_at
-cut_as_written style ps cuts layer = cuts layer ∙ sym (cut_same style layer ps)
+cut_as_written style ps cuts layer = cuts layer
 
 -- ---- one block
 -- the other stream has the block of a name too, in the style that is asked
@@ -90,7 +77,7 @@ module _ (own : InLayers) (asked : Option Style) where
     style = ap (λ (x : Style). x.bits) (style_of_written asked ends b is_so.right) ∙ ap (λ (bits : ℕ). (style_written asked (record { bits = bits })).bits) is.style ∙ to.style;
     empty = λ none. own.zero asked ends b ∙ is.empty (own.empty asked ends b is_so.may none) ∙ sym (own.planes asked ends b);
     layers = own.layers asked ends b (layers_of other n.tile) is_so.may is_so.right is_so.below;
-    few = λ layer. omega (arith, is_so.few layer, at_same layer (written_in asked ends b).pieces, own.each asked ends b layer is_so.may is_so.right);
+    few = λ layer. omega (arith, is_so.few layer, own.each asked ends b layer is_so.may is_so.right);
     cuts = cut_as_written (written_in asked ends b).style.bits (written_in asked ends b).pieces (own.cuts asked ends b is_so.may is_so.right);
   }
 
@@ -98,9 +85,6 @@ found_of : (s other : Stream) (n : BlockName) (f : Block → Block) (o : Option 
     → IsFoundOf other n (option_map f o)
 found_of s other n f None each is = is
 found_of s other n f (Some b) each is = each b refl is
-
-at_item : {X : Type 0} (P : X → Type 0) (xs : List X) (i : ℕ) (x : X) → All P xs → slice_get xs i ≡ Some x → P x
-at_item P xs i x each is = subst P (get_or_from_slice_get xs i x x is) (each i x (slice_get_within xs i x is))
 
 -- ---- the blocks by a rule
 module _ (ends : EndLaws) (w : Wanted) (r : Rule) (s : Stream) (blocks : List Block) (some : 1 ≤ layers_of_rule r s blocks) (sound : All IsSound blocks)
@@ -132,7 +116,7 @@ module _ (own : InLayers) (ends : EndLaws) (written : WrittenLaws) (crowds : Cro
   writable : (n : BlockName) (i : ℕ) (b : Block) → slice_get blocks i ≡ Some b → IsWritable w.style (layers_of other n.tile) b (ends_of r layers blocks i b)
   writable n i b is = record {
     may = may_be_written ends w r s blocks some sound whole i b is;
-    right = at_item (λ (x : Block). is_wrong w.style x ≡ false) blocks i b right is;
+    right = all_at (λ (x : Block). is_wrong w.style x ≡ false) blocks i b right is;
     below = subst (λ (most : ℕ). All (λ (e : LayerEnd). e.layer < most) (ends_of r layers blocks i b)) (sym (layers_are a s stand n.tile)) (ends.written r layers blocks i b some);
     few = λ layer. crowds.few r layers blocks i b layer uncrowded is;
   }

@@ -1,9 +1,10 @@
 -- Of a rule and a stream there is one answer at most: nothing is in the way of its plan, or one cause is.
 use Rattle.std.proofs.Common.{◌≡◌, ◌<◌, ◌≤◌, ◌∙◌, ap, sym, subst, refl, arith, ℕ, List, map, inl, inr, Option, None, Some}
 use Rattle.std.proofs.lemmas.Bool.{cases_lt}
+use Rattle.std.proofs.lemmas.Option.{same_Some}
 use Rattle.jx_base.specs.declared.pieces.Block.{Block}
 use Rattle.jx_base.specs.declared.style.Style.{Style}
-use Rattle.jx_base.proofs.Lists.{some_none, some_same}
+use Rattle.jx_base.proofs.Lists.{some_none}
 use Rattle.jx_stream.specs.declared.Stream.{Stream}
 use Rattle.jx_stream.specs.First.{tile_number}
 use Rattle.jx_gather.specs.Totals.{packet_total}
@@ -21,7 +22,7 @@ use Rattle.jx_plan.specs.Planned.{CanBePlannedBy, HasLaterCause, HasPlanCause, I
 use Rattle.jx_layers.specs.Rule.{Rule}
 use Rattle.jx_plan.specs.Wanted.{Wanted}
 use Rattle.jx_plan.proofs.LayerLaws.{CrowdLaws, WrittenLaws}
-use Rattle.jx_plan.proofs.PlanLemmas.{same_tiles}
+use Rattle.jx_plan.proofs.StreamLemmas.{tile_number_stays}
 
 same_choice : (a b c d : ℕ) → a ≡ b → c ≡ d → ◌≡◌ {A = PlanFault} (fault.Choice a c) (fault.Choice b d)
 same_choice a b c d e h = rw (e, h) refl
@@ -118,7 +119,7 @@ module _ (s : Stream) (w : Wanted) (layers : ℕ) where
 
   free_parts : (place : ℕ) → IsFree s w layers → HasManyPartsAt s w layers place → ⊥
   free_parts place free many =
-      let inside : place < tile_number s.siz = omega (arith, many.many.inside, same_tiles (asked_of w layers) s) in
+      let inside : place < tile_number s.siz = omega (arith, many.many.inside, tile_number_stays (asked_of w layers) s) in
       parted_few w.parts (headers_with w layers s) place many.many (free.parts place inside)
 
   few_many : (place found : ℕ) → HasManyPartsAt s w layers place → PassesPackets s w layers found → ⊥
@@ -127,7 +128,7 @@ module _ (s : Stream) (w : Wanted) (layers : ℕ) where
 -- ---- choice 4
 module _ (crowds : CrowdLaws) (r : Rule) (s : Stream) (blocks : List Block) where
   one_crowded : (c d : ℕ) → IsCrowded r s blocks (Some c) → IsCrowded r s blocks (Some d) → c ≡ d
-  one_crowded c d x y = some_same c d (crowds.one r (layers_of_rule r s blocks) blocks (Some c) (Some d) x y)
+  one_crowded c d x y = same_Some c d (crowds.one r (layers_of_rule r s blocks) blocks (Some c) (Some d) x y)
 
   none_crowded : (c : ℕ) → IsCrowded r s blocks (Some c) → IsCrowded r s blocks None → ⊥
   none_crowded c x y = some_none c (crowds.one r (layers_of_rule r s blocks) blocks (Some c) None x y)

@@ -1,9 +1,9 @@
 -- Whether precincts fit: what is known byte by byte, component by component and tile by tile.
-use Rattle.std.proofs.Common.{◌≡◌, ◌<◌, ◌≤◌, ◌+◌, ◌*◌, ◌==◌, ◌||◌, ◌∙◌, nat_eq, ap, sym, subst, refl, arith, ℕ, suc, not, Bool, true, false, List, [], ◌∷◌, drop, length, map, nat_lt, inl, inr, slice_index, slice_index_or, Option, None, Some}
+use Rattle.std.proofs.Common.{◌≡◌, ◌<◌, ◌≤◌, ◌+◌, ◌*◌, ◌==◌, ◌||◌, ◌∙◌, nat_eq, ap, sym, subst, refl, arith, ℕ, suc, not, Bool, true, false, List, [], ◌∷◌, drop, length, map, nat_lt, inl, inr, slice_index, slice_index_or, Option, None, Some, below_more}
 use Rattle.std.specs.List.{All, list_any, position, position_or_len, range_with_len}
 use Rattle.std.specs.Option.{option_or}
 use Rattle.std.specs.Bool.{Decides}
-use Rattle.std.proofs.lemmas.Bool.{cases_lt, eq-eqb, eqb-true}
+use Rattle.std.proofs.lemmas.Bool.{cases_lt, eq-eqb, eqb-true, or_parts}
 use Rattle.std.proofs.lemmas.Bool.Decides.{nat_tests}
 use Rattle.std.proofs.lemmas.List.{get_or-map, get_or_default}
 use Rattle.std.proofs.lemmas.List.Elements.{All-head, All-tail}
@@ -30,6 +30,7 @@ use Rattle.jx_plan.specs.Fits.{Fits, KeepsBlocks, has_zero, shape_has_zero, tile
 use Rattle.jx_plan.specs.Headers.{bytes_for, comp_written, item_at}
 use Rattle.jx_plan.specs.Standing.{HeadersStand, IsHeaded}
 use Rattle.jx_plan.specs.Steps.{IsKnown, IsSameAt, is_coding}
+use Rattle.jx_stream.proofs.BareLemmas.{map_same}
 
 -- ---- bytes
 pub zero_above : (items : List ℕ) (shape : Shape) → 0 < length items
@@ -103,23 +104,7 @@ no_place {X} p xs d none =
           rw test refl
     ]
 
--- one more
-pub next_below : (P : ℕ → Type 0) (n : ℕ) → ((k : ℕ) → k < n → P k) → P n → (k : ℕ) → k < n + 1 → P k
-next_below P n below here k lt = elim (cases_lt k n) [
-  | inl before ↦ below k before
-  | inr ge ↦ (let same : n ≡ k = omega arith in subst P same here)
-]
-
 -- ---- components
-pub same_made : (items : List ℕ) (s : CompShape) → ((r : ℕ) → r ≤ s.levels → IsSameAt s (comp_written (Some items) s) r) → SameBlocks s (comp_written (Some items) s)
-same_made items s each = record {
-  step_across = refl;
-  step_down = refl;
-  levels = refl;
-  across = λ r le. (each r le).0;
-  down = λ r le. (each r le).1;
-}
-
 pub same_at : (items : List ℕ) (s : CompShape) (r : ℕ) → SameBlocks s (comp_written (Some items) s) → r ≤ s.levels → IsSameAt s (comp_written (Some items) s) r
 same_at items s r same le = (same.across r le, same.down r le)
 
@@ -151,7 +136,7 @@ module _ (precincts : Option (List ℕ)) (xs : List CompShape) (n : ℕ) (d : Co
 
   pub all_next : CompKeeps precincts (slice_index_or xs n d) → ((c : ℕ) → c < n → CompKeeps precincts (slice_index_or xs c no_shape)) → (c : ℕ) → c < n + 1
       → CompKeeps precincts (slice_index_or xs c no_shape)
-  all_next keeps before = next_below (λ (c : ℕ). CompKeeps precincts (slice_index_or xs c no_shape)) n before (subst (CompKeeps precincts) at_none keeps)
+  all_next keeps before = below_more (λ (c : ℕ). CompKeeps precincts (slice_index_or xs c no_shape)) n before (subst (CompKeeps precincts) at_none keeps)
 
 pub all_done : (precincts : Option (List ℕ)) (xs : List CompShape) (n : ℕ) → length xs ≤ n → ((c : ℕ) → c < n → CompKeeps precincts (slice_index_or xs c no_shape))
     → AllSameBlocks xs (map (comp_written precincts) xs)
@@ -192,17 +177,9 @@ other_slot (segment.Qcc c quant) n comp h e = grind (arith, nat_tests)
 other_slot (segment.Rgn c shift) n comp h e = grind (arith, nat_tests)
 other_slot _ n comp h e = grind (arith, nat_tests)
 
-first_false : (a b : Bool) → (a || b) ≡ false → a ≡ false
-first_false false b h = refl
-first_false true b h = absurd (cc)
-
-later_false : (a b : Bool) → (a || b) ≡ false → b ≡ false
-later_false false b h = h
-later_false true b h = absurd (cc)
-
 empty_slot : (n : ℕ) (ss : List Segment) → ((s : Segment) → is_coding s ≡ false → (slot_of s == n) ≡ false) → list_any is_coding ss ≡ false → in_slot n ss ≡ None
 empty_slot n [] apart none = refl
-empty_slot n (s ∷ ss) apart none = rw (apart s (first_false (is_coding s) (list_any is_coding ss) none)) (empty_slot n ss apart (later_false (is_coding s) (list_any is_coding ss) none))
+empty_slot n (s ∷ ss) apart none = rw (apart s ((or_parts (is_coding s) (list_any is_coding ss) none).0)) (empty_slot n ss apart ((or_parts (is_coding s) (list_any is_coding ss) none).1))
 
 shape_from_main : (own main : List Segment) (c : ℕ) → list_any is_coding own ≡ false → shape_of own main c ≡ shape_in (option_or (in_slot (5 + 3 * c) main) (in_slot 1 main))
 shape_from_main own main c none =
@@ -210,10 +187,6 @@ shape_from_main own main c none =
 
 shape_alike : (own other main : List Segment) (c : ℕ) → list_any is_coding own ≡ false → list_any is_coding other ≡ false → shape_of own main c ≡ shape_of other main c
 shape_alike own other main c h k = shape_from_main own main c h ∙ sym (shape_from_main other main c k)
-
-map_same : (f g : ℕ → CompShape) (xs : List ℕ) → ((x : ℕ) → f x ≡ g x) → map f xs ≡ map g xs
-map_same f g [] h = refl
-map_same f g (x ∷ xs) h = rw (h x, map_same f g xs h) refl
 
 comp_alike : (s : Stream) (t u c : ℕ) → list_any is_coding (header_of s t) ≡ false → list_any is_coding (header_of s u) ≡ false → comp_shape (headers_at s t) c ≡ comp_shape (headers_at s u) c
 comp_alike s t u c h k = rw (shape_alike (header_of s t) (header_of s u) s.main c h k) refl

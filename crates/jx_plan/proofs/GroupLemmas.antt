@@ -1,13 +1,14 @@
 -- The packets of a tile, cut into tile-parts.
 use Rattle.std.proofs.Common.{◌-◌, get_or, ◌==◌, if◌then◌else◌, ◌≡◌, ◌+◌, ◌<◌, ◌≤◌, ◌∙◌, ap, sym, subst, refl, arith, ℕ, zero, suc, Bool, true, false, List, [], ◌∷◌, ◌++◌, length, drop, take, inl, inr, Some}
-use Rattle.std.specs.List.{All, AllByRecursion, Contains, slice_get}
+use Rattle.std.specs.List.{All, AllByRecursion, AllPairs, Contains, slice_get}
 use Rattle.std.proofs.Math.Dec.{eqb}
 use Rattle.std.proofs.lemmas.Bool.{cases_eq}
 use Rattle.std.proofs.Math.Seq.{drop-cons}
 use Rattle.std.proofs.lemmas.List.{drop-drop, drop_all, length-drop, length-take-le}
 use Rattle.std.proofs.lemmas.List.Elements.{Contains-push}
 use Rattle.std.proofs.lemmas.Bool.Decides.{nat_tests}
-use Rattle.jx_base.proofs.Lists.{All-left, All-right, contains_cons, contains_none, some_same}
+use Rattle.std.proofs.lemmas.Option.{same_Some}
+use Rattle.jx_base.proofs.Lists.{All-left, All-right, contains_cons, contains_head, contains_none, contains_tail, pairs_head, pairs_tail}
 use Rattle.jx_order.specs.declared.names.PacketName.{PacketName}
 use Rattle.jx_plan.specs.declared.PartChoice.{PartChoice}
 use Rattle.jx_plan.specs.declared.PartChoice.TheVariants as part
@@ -63,14 +64,10 @@ groups_full parts p (q ∷ names) =
       | inr ne ↦ let one : AreFull ((p ∷ []) ∷ groups) = (omega arith, groups_full parts q names) in subst AreFull (sym (put_other parts p q names groups ne)) one
     ]
 
-pub more_full : (parts : PartChoice) (names : List PacketName) → AreFull (more_groups parts names)
-more_full parts [] = tt
-more_full parts (p ∷ names) = groups_full parts p names
-
 full_at : (groups : List (List PacketName)) (i : ℕ) → AreFull groups → slice_get groups i ≡ Some [] → ⊥
 full_at [] i full e = absurd (cc)
 full_at (names ∷ groups) zero full e =
-    let none : names ≡ [] = some_same names [] e in
+    let none : names ≡ [] = same_Some names [] e in
     let some : 0 < length names = full.0 in
     let empty : length names ≡ 0 = ap length none in
     omega arith
@@ -107,9 +104,31 @@ pub groups_few : (parts : PartChoice) (names : List PacketName) → length (grou
 groups_few parts [] = omega arith
 groups_few parts (p ∷ names) = let few = (counted parts p names).1 in omega arith
 
-pub more_few : (parts : PartChoice) (names : List PacketName) → length (more_groups parts names) ≤ length names
-more_few parts [] = omega arith
-more_few parts (p ∷ names) = let few = (counted parts p names).1 in omega arith
+-- ---- by resolution, where it never falls
+abbrev Rises : PacketName → PacketName → Type 0
+Rises p q = p.res ≤ q.res
+
+-- those from a packet on have at most the resolutions from its own on
+rising_from : (n : ℕ) (p : PacketName) (names : List PacketName) → AllPairs Rises (p ∷ names) → ((x : PacketName) → Contains (p ∷ names) x → x.res < n)
+    → length (groups_of part.Resolution (p ∷ names)) + p.res ≤ n
+rising_from n p [] sorted below = omega (arith, below p (contains_head p []))
+rising_from n p (q ∷ names) sorted below =
+    let groups : List (List PacketName) = groups_of part.Resolution (q ∷ names) in
+    let later : length groups + q.res ≤ n = rising_from n q names (pairs_tail Rises p (q ∷ names) sorted) (λ x has. below x (contains_tail p (q ∷ names) x has)) in
+    let le : p.res ≤ q.res = pairs_head Rises p (q ∷ names) q sorted (contains_head q names) in
+    elim (cases_eq p.res q.res) [
+      | inl e ↦
+          let same : length (groups_of part.Resolution (p ∷ q ∷ names)) ≡ length groups =
+          ap length (put_same part.Resolution p q names groups e) ∙ first_count p groups (some_group part.Resolution (q ∷ names)) in
+          omega (arith, same, later, e)
+      | inr ne ↦
+          let next : length (groups_of part.Resolution (p ∷ q ∷ names)) ≡ suc (length groups) = ap length (put_other part.Resolution p q names groups ne) in
+          omega (arith, next, later, le, ne)
+    ]
+
+pub rising_few : (names : List PacketName) (n : ℕ) → 1 ≤ n → AllPairs Rises names → ((p : PacketName) → Contains names p → p.res < n) → length (groups_of part.Resolution names) ≤ n
+rising_few [] n some sorted below = omega (arith, some)
+rising_few (p ∷ names) n some sorted below = omega (arith, rising_from n p names sorted below)
 
 -- ---- nothing is asked
 pub one_group : (names : List PacketName) → groups_of part.None names ≡ names ∷ []
@@ -195,7 +214,7 @@ are_cut parts (p ∷ q ∷ names) =
 
 one_at : (parts : PartChoice) (groups : List (List PacketName)) (i : ℕ) (group : List PacketName) → AreCut parts groups → slice_get groups i ≡ Some group → HasOneKey parts group
 one_at parts [] i group cut e = absurd (cc)
-one_at parts (names ∷ groups) zero group cut e = subst (HasOneKey parts) (some_same names group e) cut.0
+one_at parts (names ∷ groups) zero group cut e = subst (HasOneKey parts) (same_Some names group e) cut.0
 one_at parts (names ∷ groups) (suc i) group cut e = one_at parts groups i group cut.2 e
 
 key_in : (parts : PartChoice) (k : ℕ) (names : List PacketName) (p : PacketName) → HaveKey parts k names → Contains names p → key_of parts p ≡ k

@@ -1,12 +1,13 @@
 -- A tile has few packets, so a list that has each once is short.
-use Rattle.std.proofs.Common.{◌≡◌, ◌≢◌, ◌↔◌, inl, inr, ℕ, ◌+◌, ◌*◌, ◌<◌, ◌≤◌, ◌^◌, Bool, true, false, List, [], ◌∷◌, length, map, get_or, refl, sym, ap, subst, arith, nat_lt, None, All}
+use Rattle.std.proofs.Common.{◌≡◌, ◌≢◌, ◌↔◌, ℕ, ◌+◌, ◌*◌, ◌<◌, ◌≤◌, ◌^◌, Bool, true, false, List, [], ◌∷◌, length, map, get_or, refl, sym, ap, subst, arith, nat_lt, None, All}
 use Rattle.std.specs.List.{AllPairs, AllByRecursion, Contains, IsDistinct, list_any}
 use Rattle.std.proofs.Math.Dec.{eqb}
-use Rattle.std.proofs.lemmas.Bool.{cases_lt}
+use Rattle.std.proofs.lemmas.Bool.{ne_eqb}
 use Rattle.std.proofs.lemmas.Bool.Decides.{nat_tests}
 use Rattle.std.proofs.lemmas.List.{length-map}
 use Rattle.std.proofs.lemmas.List.Elements.{Contains-get_or}
 use Rattle.std.proofs.lemmas.Map.Steps.{length-le_from_distinct_below}
+use Rattle.std.proofs.lemmas.Nat.{same_from_place}
 use Rattle.jx_base.proofs.Lists.{contains_head, contains_tail, pairs_head, pairs_tail}
 use Rattle.jx_base.proofs.Sums.{sum_below_more}
 use Rattle.jx_geom.specs.Counts.{tile_precincts}
@@ -35,15 +36,6 @@ number g layers p = precinct_number g p.comp p.res p.precinct * layers + p.layer
 times_more : (a b n : ℕ) → a < b → a * n + n ≤ b * n
 times_more a b n lt = grind arith
 
-apart : (a b n l m : ℕ) → l < n → m < n → a * n + l ≡ b * n + m → a ≡ b
-apart a b n l m low high e = elim (cases_lt a b) [
-  | inl lt ↦ let h : a * n + n ≤ b * n = times_more a b n lt in absurd (omega arith)
-  | inr ge ↦ elim (cases_lt b a) [
-    | inl lt ↦ let h : b * n + n ≤ a * n = times_more b a n lt in absurd (omega arith)
-    | inr le ↦ omega arith
-  ]
-]
-
 pub has_precinct : (g : Geometry) (layers : ℕ) (p : PacketName) → IsPacket g layers p → HasPrecinct g p.comp p.res p.precinct
 has_precinct g layers p is = record { resolution = is.resolution; precinct = is.precinct }
 
@@ -52,7 +44,7 @@ unfolding number
 number_once g layers p q is is' e =
     let a : ℕ = precinct_number g p.comp p.res p.precinct in
     let b : ℕ = precinct_number g q.comp q.res q.precinct in
-    let same : a ≡ b = apart a b layers p.layer q.layer is.layer is'.layer e in
+    let same : a ≡ b = (same_from_place a p.layer b q.layer layers is.layer is'.layer e).0 in
     let product : a * layers ≡ b * layers = ap (λ (n : ℕ). n * layers) same in
     let one = precinct_once g p.comp p.res p.precinct q.comp q.res q.precinct (has_precinct g layers p is) (has_precinct g layers q is') same in
     same_name p q (omega arith) one.1 one.0 one.2
@@ -65,14 +57,11 @@ number_below g layers p is =
     times_more (precinct_number g p.comp p.res p.precinct) (tile_precincts (rect_of_tile g) g.shapes) layers (precinct_below g p.comp p.res p.precinct (has_precinct g layers p is)) in
     omega arith
 
-eqb_no : (a b : ℕ) → (a ≡ b → ⊥) → eqb a b ≡ false
-eqb_no a b ne = grind (arith, nat_tests)
-
 others : (g : Geometry) (layers : ℕ) (p : PacketName) (ps : List PacketName) → IsPacket g layers p → ((q : PacketName) → Contains ps q → IsPacket g layers q) → ((q : PacketName) → Contains ps q → p ≢ q)
     → AllByRecursion (λ (n : ℕ). eqb (number g layers p) n ≡ false) (map (number g layers) ps)
 others g layers p [] is each ne = tt
 others g layers p (q ∷ ps) is each ne = (
-  eqb_no (number g layers p) (number g layers q) (λ (e : number g layers p ≡ number g layers q). ne q (contains_head q ps) (number_once g layers p q is (each q (contains_head q ps)) e)),
+  ne_eqb (number g layers p) (number g layers q) (λ (e : number g layers p ≡ number g layers q). ne q (contains_head q ps) (number_once g layers p q is (each q (contains_head q ps)) e)),
   others g layers p ps is (λ x has. each x (contains_tail q ps x has)) (λ x has. ne x (contains_tail q ps x has)),
 )
 

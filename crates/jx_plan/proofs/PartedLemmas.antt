@@ -1,5 +1,5 @@
 -- Tiles that are cut into few tile-parts, or many.
-use Rattle.std.proofs.Common.{◌≡◌, ◌<◌, ◌≤◌, ap, subst, arith, false, nat_lt, ℕ, List, length}
+use Rattle.std.proofs.Common.{◌≡◌, ◌≤◌, ap, subst, arith, false, nat_lt, ℕ, List, length}
 use Rattle.std.proofs.lemmas.Bool.Decides.{nat_tests}
 use Rattle.jx_order.specs.declared.names.PacketName.{PacketName}
 use Rattle.jx_order.proofs.OrderLemmas.{one_order}
@@ -8,7 +8,7 @@ use Rattle.jx_stream.specs.Shapes.{geometry, layers_of, tile_at}
 use Rattle.jx_gather.specs.Gathered.{IsListOf}
 use Rattle.jx_plan.specs.declared.PartChoice.{PartChoice}
 use Rattle.jx_plan.specs.declared.PartChoice.TheVariants as part
-use Rattle.jx_plan.specs.Groups.{HasFewParts, HasManyParts, groups_of, most_parts}
+use Rattle.jx_plan.specs.Groups.{HasFewParts, groups_of, most_parts}
 use Rattle.jx_plan.proofs.GroupLemmas.{one_group}
 
 -- a tile has one list of packets
@@ -16,9 +16,6 @@ pub few_by : (parts : PartChoice) (s : Stream) (t : ℕ) (names : List PacketNam
 few_by parts s t names order few = λ others is.
     let same : names ≡ others = one_order (geometry s t) (layers_of s t) (tile_at s t).progressions (length (tile_at s t).progressions) names others order is in
     subst (λ (xs : List PacketName). length (groups_of parts xs) ≤ most_parts) same few
-
-pub many_by : (parts : PartChoice) (s : Stream) (t : ℕ) (names : List PacketName) → IsListOf s t names → most_parts < length (groups_of parts names) → HasManyParts parts s t
-many_by parts s t names order many = record { names = names; order = order; many = many }
 
 -- nothing is asked
 pub few_undivided : (s : Stream) (t : ℕ) → HasFewParts part.None s t

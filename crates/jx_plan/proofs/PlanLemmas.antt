@@ -1,5 +1,5 @@
 -- What a plan stands on: how many layers a stream has, a block at its number, and the headers that are written.
-use Rattle.std.proofs.Common.{◌≡◌, ◌<◌, ◌≤◌, ◌^◌, ◌∙◌, ap, sym, subst, refl, arith, ℕ, false, List, length, nat_lt, Option, None, Some}
+use Rattle.std.proofs.Common.{◌≡◌, ◌<◌, ◌≤◌, ◌^◌, ◌∙◌, ap, sym, subst, arith, ℕ, false, List, length, nat_lt, Option, None, Some}
 use Rattle.std.specs.List.{All, slice_get}
 use Rattle.std.specs.Option.{IfSome, MatchOption}
 use Rattle.std.proofs.lemmas.Bool.Decides.{nat_tests}
@@ -30,7 +30,7 @@ use Rattle.jx_layers.specs.Facts.{most_layers}
 use Rattle.jx_plan.specs.Fits.{Fits}
 use Rattle.jx_plan.specs.declared.PartChoice.{PartChoice}
 use Rattle.jx_plan.specs.Groups.{HasFewParts, IsPartedAt}
-use Rattle.jx_plan.specs.Headers.{Asked, MayBeAsked, stream_written}
+use Rattle.jx_plan.specs.Headers.{MayBeAsked}
 use Rattle.jx_plan.specs.Plan.{MayBePlanned, asked_of, headers_with, most_packets}
 use Rattle.jx_plan.specs.Wanted.{MayBeStyle, MayBeWanted, Wanted}
 use Rattle.jx_plan.proofs.BlockLemmas.{blocks_are}
@@ -42,6 +42,7 @@ use Rattle.jx_plan.proofs.PlainLemmas.{blocks_pass, totals_plain}
 use Rattle.jx_plan.proofs.RangeLemmas.{written_in_range}
 use Rattle.jx_layers.proofs.CausalLemmas.{none_at}
 use Rattle.jx_layers.proofs.FactLemmas.{layers_most}
+use Rattle.jx_plan.proofs.StreamLemmas.{tile_number_stays}
 
 -- ---- the greatest number of layers
 pub some_tile : (c : Canvas) → CanvasInRange c → 0 < tile_count c
@@ -87,10 +88,6 @@ style_few (Some style) may = may.few
 may_ask : (w : Wanted) (layers : ℕ) → MayBeWanted w → 1 ≤ layers → layers < 2 ^ 16 → MayBeAsked (asked_of w layers)
 may_ask w layers wanted some few = record { some = some; few = few; order = wanted.order; bytes = wanted.bytes; style = style_few w.style wanted.style }
 
-pub same_tiles : (a : Asked) (s : Stream) → tile_number (stream_written a s).siz ≡ tile_number s.siz
-unfolding stream_written
-same_tiles a s = refl
-
 module _ (w : Wanted) (layers : ℕ) (s other : Stream) (stand : HeadersStand s) (range : StreamInRange s) (wanted : MayBeWanted w) (fits : Fits w.precincts s) (some : 1 ≤ layers)
     (few : layers < 2 ^ 16) (is : other ≡ headers_with w layers s) where
   pub headers_in_range : StreamInRange other
@@ -101,13 +98,13 @@ module _ (w : Wanted) (layers : ℕ) (s other : Stream) (stand : HeadersStand s)
 
   pub headers_whole : (t : ℕ) → t < tile_number other.siz → IsWhole other t
   headers_whole t inside =
-      let there : t < tile_number s.siz = omega (arith, inside, ap (λ (x : Stream). tile_number x.siz) is, same_tiles (asked_of w layers) s) in
+      let there : t < tile_number s.siz = omega (arith, inside, ap (λ (x : Stream). tile_number x.siz) is, tile_number_stays (asked_of w layers) s) in
       subst (λ (x : Stream). IsWhole x t) (sym is) (written_whole (asked_of w layers) s t (may_ask w layers wanted some few) fits.above stand range there)
 
 pub few_made : (w : Wanted) (layers : ℕ) (s other : Stream) → other ≡ headers_with w layers s → ((t : ℕ) → t < tile_number other.siz → HasFewParts w.parts other t)
     → (t : ℕ) → t < tile_number s.siz → HasFewParts w.parts (headers_with w layers s) t
 few_made w layers s other is few t inside =
-    let there : t < tile_number other.siz = omega (arith, inside, ap (λ (x : Stream). tile_number x.siz) is, same_tiles (asked_of w layers) s) in
+    let there : t < tile_number other.siz = omega (arith, inside, ap (λ (x : Stream). tile_number x.siz) is, tile_number_stays (asked_of w layers) s) in
     subst (λ (x : Stream). HasFewParts w.parts x t) is (few t there)
 
 abbrev FewOf : PartChoice → Stream → Type 0

@@ -23,6 +23,7 @@ use Rattle.jx_plan.specs.ReadBack.{HaveHeaders}
 use Rattle.jx_plan.specs.Standing.{IsHeaded, HeadersStand}
 use Rattle.jx_plan.proofs.WrittenLemmas.{slot_more}
 use Rattle.jx_plan.proofs.StreamLemmas.{notes_aside, tile_is}
+use Rattle.jx_stream.proofs.RangeLemmas.{tile_of_is}
 
 -- no POC is written
 
@@ -113,10 +114,6 @@ pub tile_with_more : (a : Asked) (comps : ℕ) (main : List Segment) (t : Tile) 
 tile_with_more a comps main t own headed h =
     let is = tile_read a comps main t own h.more headed h.first h.asides h.later in
     record { more = h.more; asides = h.asides; header = ap (λ (x : Tile). x.header) is; progressions = ap (λ (x : Tile). x.progressions) is }
-
-pub tile_of_is : (main : List Segment) (parts : List Part) (t : ℕ) → tile_of main parts t ≡ tile_from main (parts_of t parts)
-unfolding tile_of
-tile_of_is main parts t = refl
 
 pub main_is : (a : Asked) (s : Stream) → (stream_written a s).main ≡ all_written a s.main
 unfolding stream_written

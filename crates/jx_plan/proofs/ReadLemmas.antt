@@ -1,5 +1,5 @@
 -- The headers of a stream that was read stand in its file.
-use Rattle.std.proofs.Common.{◌≡◌, ◌∙◌, ◌==◌, ◌+◌, not, if◌then◌else◌, ℕ, Bool, true, false, arith, List, [], ◌∷◌, ◌++◌, drop, length, get_or, refl, ap, subst}
+use Rattle.std.proofs.Common.{◌≡◌, ◌∙◌, ◌==◌, ◌+◌, not, if◌then◌else◌, ℕ, Bool, true, false, List, [], ◌∷◌, ◌++◌, drop, length, get_or, refl, ap, subst}
 use Rattle.std.specs.List.{All, filter, range_with_len}
 use Rattle.std.proofs.lemmas.Bool.{or_parts, not-false, eqb-true}
 use Rattle.std.proofs.lemmas.List.Elements.{All-same, All-map, All-filter, All-drop, filter-append, filter_passes}
@@ -19,9 +19,6 @@ use Rattle.jx_stream.proofs.SegmentLemmas.{HasFitting, parts_fit, headers_fit}
 use Rattle.jx_plan.specs.Standing.{IsNote, IsHeaded, HeadersStand}
 
 -- the first tile-part of a tile has the number 0
-
-none_before : (n m : ℕ) (own : List Part) → n ≡ m → own ≡ [] → m ≡ length own → n ≡ 0
-none_before n m own e none count = omega (arith, e, count, ap length none)
 
 first_number : (comps tiles t : ℕ) (before : List Part) (p : TilePart) → parts_of t before ≡ [] → p.sot.tile ≡ t → IsTilePart comps tiles before p → p.sot.part ≡ 0
 first_number comps tiles t before p none same is =

@@ -16,7 +16,7 @@ use Rattle.jx_stream.specs.First.{canvas_of, tile_number}
 use Rattle.jx_stream.specs.Shapes.{shapes_of}
 use Rattle.jx_gather.specs.BlockOf.{AreBlocksOf, IsBlockOf, IsFoundOf}
 use Rattle.jx_plan.specs.Plan.{IsPlan, Plan}
-use Rattle.jx_plan.specs.TileJobs.{AreJobsBelow, AreTileJobs}
+use Rattle.jx_plan.specs.TileJobs.{AreJobsBelow}
 use Rattle.jx_plan.proofs.BlockLemmas.{blocks_are}
 use Rattle.jx_plan.proofs.PlanLemmas.{few_blocks}
 
@@ -68,25 +68,6 @@ jobs_below p tile plan inside =
         | inr later ↦ later
       ];
     }
-
-pub jobs_of_tile : (jobs : List Job) (tile first end : ℕ) → first ≤ end → AreJobsBelow jobs tile first → AreJobsBelow jobs (tile + 1) end → AreTileJobs jobs tile first end
-jobs_of_tile jobs tile first end order low high = record {
-  order = order;
-  inside = high.inside;
-  own = λ n job at. (
-    λ both. omega (arith, low.behind n job at both.0, high.before n job at both.1),
-    λ same. (
-      elim (cases_lt n first) [
-        | inl less ↦ absurd (omega (arith, same, low.before n job at less))
-        | inr from ↦ from
-      ],
-      elim (cases_lt n end) [
-        | inl below ↦ below
-        | inr past ↦ absurd (omega (arith, same, high.behind n job at past))
-      ],
-    ),
-  );
-}
 
 -- ---- where a search stands
 there : (jobs : List Job) (n : ℕ) (job : Job) → n < length jobs → job ≡ slice_index_or jobs n job → slice_get jobs n ≡ Some job

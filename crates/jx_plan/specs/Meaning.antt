@@ -1,10 +1,9 @@
 -- What a codestream means: its canvas, how each tile-component is transformed and quantized, and at each place of each band the sign,
 -- the magnitude bits and the decoded planes of the coefficient (ITU-T T.800, A.5, A.6, B.3 to B.7, D and E). How it is packed, and in
 -- which style its code-blocks are coded, isn't part of it.
-use Rattle.std.specs.Prelude.{ℕ, ◌+◌, ◌-◌, ◌==◌, nat_le, nat_lt, Bool, ◌&&◌, List, find, if◌then◌else◌, Option}
+use Rattle.std.specs.Prelude.{ℕ, ◌+◌, ◌-◌, ◌==◌, Bool, ◌&&◌, List, find, if◌then◌else◌, Option}
 use Rattle.std.specs.Option.{option_map}
 use Rattle.jx_base.specs.declared.names.Band.{Band}
-use Rattle.jx_base.specs.declared.names.Span.{Span}
 use Rattle.jx_base.specs.declared.pieces.Block.{Block}
 use Rattle.jx_grid.specs.declared.coef.Coef.{Coef}
 use Rattle.jx_grid.specs.Cells.{coef_at}
@@ -14,6 +13,7 @@ use Rattle.jx_marker.specs.declared.Siz.{Siz}
 use Rattle.jx_stream.specs.declared.Params.{Params}
 use Rattle.jx_stream.specs.declared.Stream.{Stream}
 use Rattle.jx_stream.specs.Params.{params_of, step_of}
+use Rattle.jx_order.specs.Loops.{is_in}
 
 -- a place of a band: tile, component, resolution and band, and the column and the row in it
 pub record Place : Type 0 where
@@ -24,9 +24,6 @@ pub record Place : Type 0 where
   pub x : ℕ
   pub y : ℕ
 
-abbrev pub spans : Span → ℕ → Bool
-spans s n = nat_le s.low n && nat_lt n s.high
-
 abbrev pub is_band : Band → Band → Bool
 is_band a b = off_across a == off_across b && off_down a == off_down b
 
@@ -34,7 +31,7 @@ is_band a b = off_across a == off_across b && off_down a == off_down b
 abbrev pub lies_in : Place → Block → Bool
 lies_in p b =
     (p.tile == b.name.tile && (p.comp == b.name.comp && p.res == b.name.res))
-    && (is_band p.band b.name.band && (spans b.rect.x p.x && spans b.rect.y p.y))
+    && (is_band p.band b.name.band && (is_in b.rect.x p.x && is_in b.rect.y p.y))
 
 -- planes are decoded from the highest one of the band on: the zero planes too, where the block has a pass
 abbrev pub planes_decoded : Block → Coef → ℕ

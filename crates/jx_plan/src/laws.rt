@@ -1,7 +1,7 @@
 //! Laws over what is planned: the headers that are written, and the plans. The functions do nothing: their contracts carry the laws.
 
 ghost use Rattle.std.specs.Prelude.{◌≡◌, ◌≤◌, ◌<◌, ◌^◌, ◌++◌, ◌⊎◌, ◌∷◌, ℕ, List, [], None, Some, false, find, length, map, slice_get, Option};
-ghost use Rattle.std.specs.List.{All, Contains, list_any};
+ghost use Rattle.std.specs.List.{All, AllPairs, Contains, list_any};
 ghost use Rattle.jx_base.specs.declared.names.Band.{Band};
 ghost use Rattle.jx_base.specs.declared.style.Style.{Style};
 ghost use Rattle.jx_marker.specs.declared.Segment.{Segment};
@@ -74,6 +74,11 @@ pub fn parameters_stay()
     ensures layers { (a : Asked) (s : Stream) (t : ℕ) → HeadersStand s → layers_of (stream_written a s) t ≡ a.layers }
     ensures styles { (a : Asked) (s : Stream) (t c : ℕ) → HeadersStand s → style_of (stream_written a s) t c ≡ (style_written a.style (record { bits = style_of s t c })).bits }
     ensures tiles { (a : Asked) (s : Stream) → tile_number (stream_written a s).siz ≡ tile_number s.siz }
+{}
+
+/// A stream whose precincts are kept has them: none gives an exponent 0 above resolution 0, and its code-blocks stay (T.800, A.6.1 and B.7).
+pub fn kept_precincts_fit()
+    ensures { (s : Stream) → HeadersStand s → Fits None s }
 {}
 
 /// COM and PLT segments may follow in the header of a tile's first tile-part, and stand alone in that of a later one (T.800, A.3).
@@ -212,7 +217,8 @@ pub fn one_answer()
 }
 
 /// Tile-parts have a tile's packets in their order; those of one agree in what is asked, and the last of one and the first of the
-/// next don't. Where nothing is asked there is one. Only the tile-part of a tile without packets is empty.
+/// next don't. Where nothing is asked there is one. Only the tile-part of a tile without packets is empty. By resolution a tile
+/// of n resolutions has at most n, where no packet has a lower resolution than one before it, as in RLCP and RPCL (T.800, B.12.1).
 pub fn groups_are_cut()
     ensures stay { (parts : PartChoice) (names : List PacketName) → packets_in (groups_of parts names) ≡ names }
     ensures agree { (parts : PartChoice) (names group : List PacketName) (i : ℕ) (p q : PacketName) → slice_get (groups_of parts names) i ≡ Some group
@@ -221,4 +227,6 @@ pub fn groups_are_cut()
         → groups_of parts names ≡ before ++ ((xs ++ p ∷ []) ∷ (q ∷ ys) ∷ after) → key_of parts p ≡ key_of parts q → ⊥ }
     ensures one { (names : List PacketName) → groups_of part_choice.None names ≡ names ∷ [] }
     ensures full { (parts : PartChoice) (names : List PacketName) (i : ℕ) → slice_get (groups_of parts names) i ≡ Some [] → names ≡ [] }
+    ensures few { (names : List PacketName) (n : ℕ) → 1 ≤ n → AllPairs (λ (p q : PacketName). p.res ≤ q.res) names → ((p : PacketName) → Contains names p → p.res < n)
+        → length (groups_of part_choice.Resolution names) ≤ n }
 {}

@@ -6,10 +6,11 @@ use Rattle.std.proofs.lemmas.Option.{slice_get-get_or}
 use Rattle.atomic_table.specs.Seated.{TableId}
 use Rattle.jx_store.specs.Order.{numbers}
 use Rattle.jx_store.specs.Setup.{Setup, end_of}
+use Rattle.jx_store.proofs.NumberLemmas.{length_numbered, number_at}
 use Rattle.jx_ring.specs.declared.view.Taken.{Taken}
 use Rattle.jx_ring.specs.Passes.{PassView}
 use Rattle.jx_pool.specs.Workers.{IsFree, IsDone}
-use Rattle.jx_pool.proofs.TapeLemmas.{number_at, long, some_of, any_all}
+use Rattle.jx_pool.proofs.TapeLemmas.{some_of, any_all}
 
 module _ (p : Setup) (table : TableId) (workers : ℕ) where
   -- a new store's passes
@@ -21,7 +22,7 @@ module _ (p : Setup) (table : TableId) (workers : ℕ) where
       let at = slice_get-get_or passes k d lt in
       let is = fresh k d lt in
       let number = number_at (λ (q : PassView). q.worker) passes 0 threads k (get_or passes k d) dealt at in
-      let wide = long 0 threads (λ (q : PassView). q.worker) passes dealt in
+      let wide = length_numbered (λ (q : PassView). q.worker) passes 0 threads dealt in
       let low = is.3 in
       record {
         mine = is.0;

@@ -1,42 +1,22 @@
 -- From the entries of a store to the tape of jobs.
-use Rattle.std.proofs.Common.{◌≡◌, ℕ, zero, suc, ◌+◌, ◌-◌, ◌<◌, ◌≤◌, ◌^◌, true, Some, None, List, [], ◌∷◌, map, length, get_or, refl, sym, ap, subst, ◌∙◌, arith}
+use Rattle.std.proofs.Common.{◌≡◌, ℕ, suc, ◌+◌, ◌-◌, ◌<◌, ◌≤◌, ◌^◌, true, Some, None, List, [], ◌∷◌, map, length, get_or, refl, sym, ap, subst, ◌∙◌, arith}
 use Rattle.std.specs.List.{All, Any, slice_get}
 use Rattle.std.specs.Option.{option_map}
-use Rattle.std.proofs.lemmas.List.Elements.{All-nil, All-cons, All-contains}
-use Rattle.std.proofs.lemmas.List.{length-map}
-use Rattle.std.proofs.lemmas.Option.{none-some, same_Some, slice_get_within, get_or_from_slice_get, slice_get-get_or, slice_get-map}
-use Rattle.jx_base.proofs.Lists.{head_same, tail_same}
+use Rattle.std.proofs.lemmas.List.Elements.{All-contains}
+use Rattle.std.proofs.lemmas.Option.{same_Some, slice_get_within, get_or_from_slice_get, slice_get-get_or, slice_get-map}
+use Rattle.jx_base.proofs.Lists.{all_from}
 use Rattle.jx_store.specs.declared.event.Taped.{Taped}
 use Rattle.jx_store.specs.declared.work.Named.{Named}
 use Rattle.jx_store.specs.declared.work.Named.TheVariants.{Made, Bad, Short}
 use Rattle.jx_store.specs.Order.{numbers}
 use Rattle.jx_store.specs.Setup.{Within}
 use Rattle.jx_store.specs.Valid.{IsOf}
-use Rattle.jx_ring.proofs.Dealing.{numbers_first}
-use Rattle.jx_ring.proofs.Closes.{long_numbers}
+use Rattle.jx_store.proofs.NumberLemmas.{length_numbered, number_at}
 use Rattle.jx_block.specs.declared.job.Job.{Job}
 use Rattle.jx_block.specs.Recoded.{WrittenBlock, recoding_in, is_bad}
 use Rattle.jx_block.proofs.AnewLemmas.{bad_is}
 use Rattle.jx_pool.specs.Tapes.{AreAsked, IsJob, IsTape, IsTapeOf, answer_of, named_as, bounds, size_of}
 use Rattle.jx_pool.specs.Committed.{IsCommitted, IsRight}
-
--- the number at a place of numbers from a on
-pub number_at : {X : Type 0} (f : X → ℕ) (xs : List X) (a n i : ℕ) (x : X) → map f xs ≡ numbers a n → slice_get xs i ≡ Some x → f x ≡ a + i
-number_at f [] a n i x e at = absurd (none-some x at)
-number_at f (y ∷ ys) a zero i x e at = absurd (let l = ap (λ (l : List ℕ). length l) e in omega (arith, l))
-number_at f (y ∷ ys) a (suc n) zero x e at =
-    let h = head_same (f y) a (map f ys) (numbers (a + 1) n) (e ∙ numbers_first a n) in
-    let s = ap f (same_Some y x at) in
-    omega (arith, h, s)
-number_at f (y ∷ ys) a (suc n) (suc i) x e at =
-    let t = tail_same (f y) a (map f ys) (numbers (a + 1) n) (e ∙ numbers_first a n) in
-    let below = number_at f ys (a + 1) n i x t at in
-    omega (arith, below)
-
--- what holds of each item by its place
-pub all_at : {X : Type 0} (P : X → Type 0) (xs : List X) → ((i : ℕ) (x : X) → slice_get xs i ≡ Some x → P x) → All P xs
-all_at P [] each = All-nil P
-all_at P (x ∷ xs) each = All-cons P x xs (each 0 x refl) (all_at P xs (λ i y at. each (suc i) y at))
 
 -- two lists that are the same by functions of their items, place by place
 pub same_items : {X Y Z : Type 0} (f : X → Z) (g : Y → Z) (xs : List X) (ys : List Y) → length xs ≡ length ys → ((i : ℕ) (x : X) (y : Y) → slice_get xs i ≡ Some x → slice_get ys i ≡ Some y → f x ≡ g y) → map f xs ≡ map g ys
@@ -56,9 +36,6 @@ some_of P (x ∷ xs) some all = (0, x, omega arith, refl, All-contains P (x ∷ 
 -- an item with two properties
 pub any_all : {X : Type 0} (P Q : X → Type 0) (xs : List X) → All P xs → Any Q xs → (x : X) × P x × Q x
 any_all P Q xs all any = (any.1, All-contains P xs any.1 all (any.0, any.2, any.3), any.4)
-
-pub long : {X : Type 0} (a n : ℕ) (f : X → ℕ) (xs : List X) → map f xs ≡ numbers a n → length xs ≡ n
-long a n f xs e = sym (length-map xs f) ∙ ap (λ (l : List ℕ). length l) e ∙ long_numbers a n
 
 module _ (first i k : ℕ) (jobs : List Job) (j : Job) (place : k ≡ first + i) (at : slice_get jobs i ≡ Some j) (number : j.number ≡ k) where
   same_job : (x : Job) → slice_get jobs (k - first) ≡ Some x → x ≡ j
@@ -87,14 +64,14 @@ pub tape_is : (jobs : List Job) (first threads window most : ℕ) (entries : Lis
     → All (λ (t : Taped (Named WrittenBlock)). IsRight t.named) entries → IsTape jobs first threads window most entries
 tape_is jobs first threads window most entries asked order each right = record {
   order = order;
-  answers = same_items (λ (t : Taped (Named WrittenBlock)). t.named) answer_of entries jobs (long first (length jobs) (λ (t : Taped (Named WrittenBlock)). t.number) entries order)
+  answers = same_items (λ (t : Taped (Named WrittenBlock)). t.named) answer_of entries jobs (length_numbered (λ (t : Taped (Named WrittenBlock)). t.number) entries first (length jobs) order)
       (λ i t j at there.
       let place = number_at (λ (t : Taped (Named WrittenBlock)). t.number) entries first (length jobs) i t order at in
       answered first i t.number jobs j place there ((asked i j there).numbered ∙ sym place) t.named (each i t at).3
       (All-contains (λ (t : Taped (Named WrittenBlock)). IsRight t.named) entries t right (i, slice_get_within entries i t at, get_or_from_slice_get entries i t t at)));
-  workers = all_at (λ (t : Taped (Named WrittenBlock)). t.worker < threads) entries (λ i t at. (each i t at).0);
-  within = all_at (λ (t : Taped (Named WrittenBlock)). Within (bounds first window most jobs) t.seen t.number) entries (λ i t at. (each i t at).2);
-  from = all_at (λ (t : Taped (Named WrittenBlock)). first ≤ t.seen) entries (λ i t at. (each i t at).1);
+  workers = all_from (λ (t : Taped (Named WrittenBlock)). t.worker < threads) entries (λ i t at. (each i t at).0);
+  within = all_from (λ (t : Taped (Named WrittenBlock)). Within (bounds first window most jobs) t.seen t.number) entries (λ i t at. (each i t at).2);
+  from = all_from (λ (t : Taped (Named WrittenBlock)). first ≤ t.seen) entries (λ i t at. (each i t at).1);
 }
 
 -- ---- what a worker knows of a number
@@ -127,11 +104,6 @@ module _ (first : ℕ) (jobs : List Job) (k n : ℕ) (d : Job) where
 pub few_bytes : (first : ℕ) (jobs : List Job) → AreAsked first jobs → All (λ (j : Job). size_of j ≤ 2 ^ 28) jobs
 few_bytes first jobs asked k d lt = (asked k (get_or jobs k d) (slice_get-get_or jobs k d lt)).asked.sound.bytes
 
--- no jobs
-pub tape_of_none : (jobs : List Job) (first threads window most : ℕ) → length jobs ≡ 0 → IsTape jobs first threads window most []
-tape_of_none [] first threads window most none = record { order = refl; answers = refl; workers = All-nil _; within = All-nil _; from = All-nil _ }
-tape_of_none (j ∷ js) first threads window most none = absurd (omega (arith, none))
-
 pub one_tape : (jobs : List Job) (a b : List (Taped (Named WrittenBlock))) → IsTapeOf jobs a → IsTapeOf jobs b
     → map (λ (t : Taped (Named WrittenBlock)). t.named) a ≡ map (λ (t : Taped (Named WrittenBlock)). t.named) b
 one_tape jobs a b x y = x.is.answers ∙ sym y.is.answers
@@ -142,7 +114,7 @@ pub entry_at : (jobs : List Job) (first threads window most : ℕ) (entries : Li
 entry_at jobs first threads window most entries i j tape there =
     let f : Taped (Named WrittenBlock) → Named WrittenBlock = λ t. t.named in
     let lt : i < length jobs = slice_get_within jobs i j there in
-    let long_is = long first (length jobs) (λ (t : Taped (Named WrittenBlock)). t.number) entries tape.order in
+    let long_is = length_numbered (λ (t : Taped (Named WrittenBlock)). t.number) entries first (length jobs) tape.order in
     let t : Taped (Named WrittenBlock) = get_or entries i (record { number = 0; worker = 0; seen = 0; named = answer_of j }) in
     let at = slice_get-get_or entries i (record { number = 0; worker = 0; seen = 0; named = answer_of j }) (omega (arith, lt, long_is)) in
     let a = slice_get-map f entries i ∙ ap (option_map f) at in

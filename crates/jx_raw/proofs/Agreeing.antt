@@ -7,7 +7,7 @@ use Rattle.jx_raw.proofs.Reading.{length-bits_of}
 use Rattle.jx_raw.proofs.Looking.{looked_some, pads, cut_bits}
 
 -- for more bits no fewer bytes are looked at
-looked_grows : (before : ℕ) (bytes : List ℕ) (m n : ℕ) → m ≤ n → raw_looked_after before bytes m ≤ raw_looked_after before bytes n
+pub looked_grows : (before : ℕ) (bytes : List ℕ) (m n : ℕ) → m ≤ n → raw_looked_after before bytes m ≤ raw_looked_after before bytes n
 looked_grows before [] m n le = omega arith
 looked_grows before (byte ∷ rest) zero n le = omega arith
 looked_grows before (byte ∷ rest) (suc m) n le =

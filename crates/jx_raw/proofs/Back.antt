@@ -1,13 +1,13 @@
 -- What was written is read back.
 use Rattle.std.proofs.Common.{◌≡◌, ◌≢◌, ◌<◌, ◌≤◌, ◌+◌, ◌-◌, ◌*◌, ◌%◌, ◌^◌, ℕ, zero, suc, Bool, true, false, inl, inr, List, [], ◌∷◌, ◌++◌, length, take, drop, replicate, refl, ap, sym, ◌∙◌, arith, eqb, if◌then◌else◌, ◌==◌, append_assoc, length-append, length-drop, length-take}
 use Rattle.std.proofs.lemmas.Bool.Decides.{nat_tests}
-use Rattle.std.proofs.lemmas.Bool.{cases_lt, cases_eq}
+use Rattle.std.proofs.lemmas.Bool.{cases_lt, cases_eq, ne_eqb}
 use Rattle.std.proofs.lemmas.Nat.{shl_whole}
 use Rattle.std.proofs.lemmas.List.{append-nil, take_at, drop_at, take_all, drop_all, take-append-drop}
 use Rattle.std.proofs.Math.Nat.{two-pow-succ, mod-eq_of_lt}
-use Rattle.jx_base.specs.Markers.{HasNoMarker}
+use Rattle.jx_base.specs.Markers.{HasNoMarker, last_after}
 use Rattle.jx_base.specs.RawBits.{raw_width, raw_bits_after, bits_of, raw_read, byte_of, raw_write_after, raw_write}
-use Rattle.jx_raw.specs.RawWriting.{last_after, AreStuffed, bits_written, IsBegun}
+use Rattle.jx_raw.specs.RawWriting.{AreStuffed, bits_written, IsBegun}
 use Rattle.jx_raw.proofs.Reading.{length-bits_of, room}
 use Rattle.jx_raw.proofs.Bytes.{number-bits_of, byte-bits_of, byte-below, bits-byte_of}
 
@@ -155,11 +155,8 @@ read_back bits =
 seven_bits : (width byte : ℕ) → width ≡ 7 → byte < 2 ^ width → byte ≤ 143
 seven_bits width byte seven below = let less : byte < 2 ^ 7 = rw seven at below in omega arith
 
-isnt_eq : (before : ℕ) → before ≢ 255 → eqb before 255 ≡ false
-isnt_eq before ne = grind (arith, nat_tests)
-
 last_marker : (before : ℕ) → HasNoMarker before (if before == 255 then 0 ∷ [] else [])
-last_marker before = elim (cases_eq before 255) [ inl e ↦ rw e ((λ _. omega arith), (λ h. omega arith)) | inr ne ↦ rw (isnt_eq before ne) ne ]
+last_marker before = elim (cases_eq before 255) [ inl e ↦ rw e ((λ _. omega arith), (λ h. omega arith)) | inr ne ↦ rw (ne_eqb before 255 ne) ne ]
 
 no_marker : (n before : ℕ) (bits : List Bool) → length bits < n → HasNoMarker before (raw_write_after n before bits)
 no_marker zero before bits less = absurd (omega arith)

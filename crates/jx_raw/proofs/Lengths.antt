@@ -1,5 +1,5 @@
 -- How many bytes raw bits make.
-use Rattle.std.proofs.Common.{◌≡◌, ◌<◌, ◌≤◌, ◌+◌, ◌-◌, ◌*◌, ◌/◌, ◌^◌, ℕ, zero, suc, Bool, true, false, inl, inr, List, [], ◌∷◌, ◌++◌, length, take, drop, refl, arith, eqb, ◌==◌, if◌then◌else◌, Result, Ok, Err, OnErr, Vec, vec_len, vec_capacity, length-append, length-drop}
+use Rattle.std.proofs.Common.{◌≡◌, ◌<◌, ◌≤◌, ◌+◌, ◌-◌, ◌*◌, ◌/◌, ◌^◌, ℕ, zero, suc, Bool, true, false, inl, inr, List, [], ◌∷◌, ◌++◌, length, take, drop, refl, arith, eqb, ◌==◌, if◌then◌else◌, Vec, vec_len, vec_capacity, length-append, length-drop}
 use Rattle.std.proofs.lemmas.Bool.Decides.{nat_tests}
 use Rattle.std.proofs.lemmas.Bool.{cases_lt}
 use Rattle.std.proofs.lemmas.List.{take_all, drop_all}
@@ -69,10 +69,6 @@ one_longer bytes partial count width bit full h =
     let least = at_least (bytes ++ byte ∷ []) 0 0 (raw_width byte) (whole bytes partial count width bit full h) in
     let long : length (bytes ++ byte ∷ []) ≡ length bytes + 1 = rw length-append refl in
     rw (← whole_bits bytes partial count width bit full h) (omega arith)
-
-pub on_err : {T E P : Type 0} (r : Result T E) → P → OnErr r P
-on_err (Ok x) p = tt
-on_err (Err e) p = p
 
 -- a push that is refused for want of room
 pub refused : {Z : Type 0} (bytes : Vec ℕ Z) (all : List ℕ) (byte : ℕ) → all ≡ bytes.items ++ byte ∷ [] → vec_capacity bytes ≤ vec_len bytes → vec_capacity bytes < length all

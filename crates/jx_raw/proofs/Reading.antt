@@ -1,8 +1,8 @@
 -- Lemmas on the reader's registers.
-use Rattle.std.proofs.Common.{◌≡◌, ◌<◌, ◌≤◌, ◌+◌, ◌-◌, ◌/◌, ◌%◌, ◌^◌, ℕ, zero, suc, false, List, [], ◌∷◌, length, get_or, drop, refl, ap, add-one, arith, eqb, bit_and, length-append}
+use Rattle.std.proofs.Common.{◌≡◌, ◌<◌, ◌≤◌, ◌+◌, ◌-◌, ◌/◌, ◌%◌, ◌^◌, ℕ, zero, suc, false, List, [], ◌∷◌, length, get_or, refl, ap, add-one, arith, eqb, bit_and, length-append}
 use Rattle.std.proofs.lemmas.Bool.Decides.{nat_tests}
 use Rattle.std.proofs.lemmas.Nat.{and_mask}
-use Rattle.std.proofs.lemmas.List.{drop_more, drop_all}
+use Rattle.std.proofs.lemmas.List.{drop_more}
 use Rattle.jx_base.specs.RawBits.{raw_width, raw_bits_after, bits_of, raw_looked_after}
 use Rattle.jx_raw.specs.RawReading.{IsReading, IsAt, bits_left, first_or_one}
 
@@ -19,32 +19,17 @@ first_left bytes place current (suc left) some =
     let e : suc left - 1 ≡ left = omega arith in
     rw (e, lowest (current / 2 ^ left)) refl
 
-pub rest_left : (bytes : List ℕ) (place current left : ℕ) → 0 < left → bits_left bytes place current (left - 1) ≡ drop 1 (bits_left bytes place current left)
-rest_left bytes place current zero some = absurd (omega arith)
-rest_left bytes place current (suc left) some =
-    let e : suc left - 1 ≡ left = omega arith in
-    rw e refl
-
 pub IsAt-step : (before : ℕ) (bytes : List ℕ) (place current left : ℕ) → 0 < left → IsAt before bytes place current left → IsAt before bytes place current (left - 1)
 IsAt-step before bytes zero current left some h = absurd (omega arith)
 IsAt-step before [] (suc place) current left some h = h
 IsAt-step before (byte ∷ rest) (suc zero) current left some h = (h.0, omega arith)
 IsAt-step before (byte ∷ rest) (suc (suc place)) current left some h = IsAt-step byte rest (suc place) current left some h
 
-pub end_left : (bytes : List ℕ) (current : ℕ) → bits_left bytes (length bytes) current 0 ≡ []
-end_left bytes current = rw (drop_all (length bytes) bytes (omega arith)) refl
-
 pub next_left : (bytes : List ℕ) (place current : ℕ) → place < length bytes → bits_left bytes place current 0 ≡ bits_left bytes (place + 1) (get_or bytes place 0) (raw_width current)
 next_left bytes place current inside = rw (drop_more bytes place 0 inside) refl
 
 pub room : (before : ℕ) → (7 ≤ raw_width before) × (raw_width before ≤ 8)
 room before = (grind (arith, nat_tests), grind (arith, nat_tests))
-
-pub IsAt-within : (before : ℕ) (bytes : List ℕ) (place current left : ℕ) → IsAt before bytes place current left → (place ≤ length bytes) × (left < 8)
-IsAt-within before bytes zero current left h = (omega arith, omega arith)
-IsAt-within before [] (suc place) current left h = absurd h
-IsAt-within before (byte ∷ rest) (suc zero) current left h = let w = room before in (omega arith, omega arith)
-IsAt-within before (byte ∷ rest) (suc (suc place)) current left h = let more = IsAt-within byte rest (suc place) current left h in (omega arith, omega arith)
 
 IsAt-suc : (before : ℕ) (bytes : List ℕ) (place current : ℕ) → place < length bytes → IsAt before bytes place current 0 → IsAt before bytes (suc place) (get_or bytes place 0) (raw_width current - 1)
 IsAt-suc before [] place current inside h = absurd (omega arith)

@@ -5,8 +5,10 @@ use Rattle.std.proofs.lemmas.List.{append-nil}
 use Rattle.std.proofs.Math.Nat.{two-pow-succ}
 use mir.Val.{bool_byte}
 use Rattle.jx_base.specs.RawBits.{raw_width, raw_bits_after, raw_bits, bits_of}
-use Rattle.jx_raw.specs.RawWriting.{last_after, AreStuffed, bits_written, IsBegun}
+use Rattle.jx_raw.specs.RawWriting.{AreStuffed, bits_written, IsBegun}
 use Rattle.jx_raw.proofs.Reading.{room}
+use Rattle.jx_base.specs.Markers.{last_after}
+use Rattle.jx_base.proofs.Markers.{last_push}
 
 abbrev pub one_if : Bool → ℕ
 one_if bit = bool_byte bit
@@ -28,10 +30,6 @@ bits_push (suc count) n bit =
     let apart : suc count ≡ 1 + count = omega arith in
     rw (apart, ← shr-shr (n * 2 + one_if bit) 1 count, half_again n bit) refl in
     rw (e, bits_push count n bit) refl
-
-pub last_push : (before : ℕ) (bytes : List ℕ) (byte : ℕ) → last_after before (bytes ++ byte ∷ []) ≡ byte
-last_push before [] byte = refl
-last_push before (b ∷ rest) byte = last_push b rest byte
 
 bits_after_push : (before : ℕ) (bytes : List ℕ) (byte : ℕ) → raw_bits_after before (bytes ++ byte ∷ []) ≡ raw_bits_after before bytes ++ bits_of (raw_width (last_after before bytes)) byte
 bits_after_push before [] byte = append-nil (bits_of (raw_width before) byte)

@@ -1,16 +1,12 @@
 -- What contracts see of a writer of raw bits, and how its registers stand for it.
 use Rattle.std.specs.Prelude.{◌≡◌, ◌<◌, ℕ, ◌^◌, Bool, List, [], ◌∷◌, ◌++◌}
 use Rattle.jx_base.specs.RawBits.{raw_width, raw_bits, bits_of}
+use Rattle.jx_base.specs.Markers.{last_after}
 
 -- the bits written, and how many bytes the segment can have before more memory is needed
 pub record RawBegun : Type 0 where
   pub bits : List Bool
   pub limit : ℕ
-
--- the last byte, or the one before the first
-abbrev pub last_after : ℕ → List ℕ → ℕ
-last_after before [] = before
-last_after before (byte ∷ rest) = last_after byte rest
 
 -- each byte has no more bits than its place allows
 abbrev pub AreStuffed : ℕ → List ℕ → Type 0

@@ -16,6 +16,7 @@ use Rattle.jx_stream.specs.Spells.{TilePart, all_bytes, part_bytes}
 use Rattle.jx_gather.specs.Gathered.{IsGathered}
 use Rattle.jx_gather.specs.Totals.{block_total, totals_fault}
 use Rattle.jx_layers.specs.Rule.{Rule}
+use Rattle.jx_plan.specs.declared.Marks.{Marks}
 use Rattle.jx_plan.specs.Plan.{IsPlan, Plan, headers_with}
 use Rattle.jx_plan.specs.Planned.{IsFreeBy, IsPlanned, IsPlannedBy, MakesLayers, blocks_written, layers_of_rule}
 use Rattle.jx_plan.specs.Wanted.{MayBeWanted, Wanted, marks_of}
@@ -36,7 +37,7 @@ use Rattle.jx_recast.specs.declared.status.Status.TheVariants as status
 use Rattle.jx_recast.specs.declared.status.TapeEntry.{TapeEntry}
 use Rattle.jx_recast.specs.Tapes.{IsRunTape, IsTapeOf}
 use Rattle.jx_words.specs.Words.{Text, Work}
-use Rattle.jx_recast.proofs.FrontLemmas.{at_most_short, comps_stay, one_tile, tiles_stay}
+use Rattle.jx_recast.proofs.FrontLemmas.{at_most_short, comps_stay, tiles_stay}
 use Rattle.jx_recast.proofs.ProgressLemmas.{all_front}
 use Rattle.jx_recast.proofs.WrongLemmas.{all_right, right_or_wrong}
 
@@ -110,6 +111,7 @@ pub record Laws : Type 0 where
       → IsRead input before → length input ≤ 2 ^ 28 → totals_fault before ≡ None → IsGathered input before blocks → MakesLayers (Some rule) before blocks
       → MayBeWanted w → IsFreeBy rule before blocks w → All (λ (b : Block). is_wrong w.style b ≡ false) blocks → AllShort is.parts (tile_number before.siz)
       → (after : Stream) × IsKeptIn w rule before after blocks out
+  pub parts : (m : Marks) (s : Stream) (blocks : List Block) (t : ℕ) (xs ys : List TilePart) → AreTilePartsOf m s blocks t xs → AreTilePartsOf m s blocks t ys → xs ≡ ys
 
 -- ---- what stands of the file of an input that was planned
 module _ (laws : Laws) (aim : Aim) (input : List ℕ) (s : Stream) (blocks : List Block) (jobs : List Job) (reads : Reads input s blocks) (within : length input ≤ most_bytes)
@@ -141,7 +143,7 @@ module _ (laws : Laws) (aim : Aim) (input : List ℕ) (s : Stream) (blocks : Lis
 
   none_long : (n : ℕ) (bytes : List ℕ) → IsShortFront plan n bytes → (t : ℕ) → t < n → IsLong w can.by s blocks t → ⊥
   none_long n bytes front t lt long =
-      long.long (subst AreShort (one_tile (marks_of w) headers written_blocks t (front.parts t) long.parts (are_of t (front.parts t) (front.are t lt)) long.are) (front.short t lt))
+      long.long (subst AreShort (laws.parts (marks_of w) headers written_blocks t (front.parts t) long.parts (are_of t (front.parts t) (front.are t lt)) long.are) (front.short t lt))
 
   none_spoiled : (n : ℕ) (bytes : List ℕ) → IsShortFront plan n bytes → (t : ℕ) → t < n → IsSpoiled w can.by s blocks t → ⊥
   none_spoiled n bytes front t lt (inl wrong) = right_or_wrong w s blocks t wrong.0 (front.right t lt) wrong.1

@@ -3,8 +3,8 @@ use Rattle.std.proofs.Common.{◌≡◌, ◌∙◌, ◌<◌, ◌≤◌, ◌+◌,
 use Rattle.std.specs.List.{slice_get}
 use Rattle.std.proofs.lemmas.Bool.{cases_eq, cases_lt}
 use Rattle.std.proofs.lemmas.List.{drop-drop, drop-map, drop-take, length-take-le, take-map, take-take}
-use Rattle.std.proofs.lemmas.Option.{slice_get-get_or}
-use Rattle.jx_base.proofs.Lists.{get_left, get_right, none_some, some_same}
+use Rattle.std.proofs.lemmas.Option.{none-some, same_Some, slice_get-get_or}
+use Rattle.jx_base.proofs.Lists.{get_left, get_right}
 use Rattle.jx_base.proofs.Sums.{sum_below_grows}
 use Rattle.jx_block.specs.declared.job.Job.{Job}
 use Rattle.jx_block.specs.Recoded.{WrittenBlock}
@@ -14,15 +14,14 @@ use Rattle.jx_pool.specs.Tapes.{answer_of}
 use Rattle.jx_stream.specs.First.{tile_number}
 use Rattle.jx_plan.specs.Plan.{IsPlan, Plan}
 use Rattle.jx_assemble.specs.Tile.{blocks_in, first_block}
-use Rattle.jx_gather.proofs.TotalLemmas.{blocks_are}
 use Rattle.jx_recast.specs.MadeRounds.{AreCounts, AreOfBlocks, AreOfRound, IsExtent}
 use Rattle.jx_recast.specs.Rounds.{BeginsRound, IsInRound, IsPlace}
-use Rattle.jx_recast.proofs.FrontLemmas.{block_next, jobs_few, round_full}
+use Rattle.jx_recast.proofs.FrontLemmas.{block_next, blocks_are, jobs_few, round_full}
 
 -- ---- no tile yet, and one tile more
 pub of_none : (p : Plan) (tile : ℕ) → tile < tile_number p.stream.siz → AreOfRound p tile [] 0
 of_none p tile inside = record {
-  counts_are = record { inside = omega (arith, inside); each = λ i count is. absurd (none_some count is) };
+  counts_are = record { inside = omega (arith, inside); each = λ i count is. absurd (none-some count is) };
   blocks_are =
       let same : first_block p tile + 0 ≡ first_block p tile = omega arith in
       let place : tile ≡ tile + 0 = omega arith in
@@ -31,8 +30,8 @@ of_none p tile inside = record {
 }
 
 only_one : (x count i : ℕ) → slice_get (x ∷ []) i ≡ Some count → (i ≡ 0) × (x ≡ count)
-only_one x count zero is = (refl, some_same x count is)
-only_one x count (suc i) is = absurd (none_some count is)
+only_one x count zero is = (refl, same_Some x count is)
+only_one x count (suc i) is = absurd (none-some count is)
 
 counts_next : (p : Plan) (tile count : ℕ) (counts : List ℕ) → AreCounts p tile counts → tile + length counts < tile_number p.stream.siz → count ≡ blocks_in p (tile + length counts) → AreCounts p tile (counts ++ count ∷ [])
 counts_next p tile count counts are inside is = record {

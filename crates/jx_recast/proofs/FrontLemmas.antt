@@ -12,24 +12,20 @@ use Rattle.jx_base.proofs.Joined.{joined_next, joined_none, joined_same}
 use Rattle.jx_base.proofs.Sums.{sum_below_more, sum_below_next}
 use Rattle.jx_base.specs.declared.pieces.Block.{Block}
 use Rattle.std.specs.Option.{option_or}
+use Rattle.jx_geom.specs.Numbering.{blocks_below}
 use Rattle.jx_gather.specs.Faults.{passed}
 use Rattle.jx_gather.specs.Totals.{block_total, packet_total, totals_fault}
-use Rattle.jx_gather.proofs.TotalLemmas.{blocks_are}
 use Rattle.jx_stream.specs.declared.faults.StreamFault.{StreamFault}
-use Rattle.jx_order.proofs.OrderLemmas.{one_order}
-use Rattle.jx_order.specs.declared.names.PacketName.{PacketName}
 use Rattle.jx_stream.specs.declared.Stream.{Stream}
-use Rattle.jx_stream.specs.First.{tile_number}
-use Rattle.jx_stream.specs.Shapes.{geometry, layers_of, tile_at}
+use Rattle.jx_stream.specs.First.{canvas_of, tile_number}
+use Rattle.jx_stream.specs.Shapes.{shapes_of}
 use Rattle.jx_stream.specs.Spells.{TilePart, part_bytes}
-use Rattle.jx_plan.specs.declared.Marks.{Marks}
-use Rattle.jx_plan.specs.Groups.{groups_of}
 use Rattle.jx_plan.specs.Headers.{stream_written}
 use Rattle.jx_plan.specs.Plan.{IsPlan, MayBePlanned, Plan, headers_of, headers_with}
 use Rattle.jx_plan.specs.Wanted.{Wanted, marks_of}
 use Rattle.jx_assemble.specs.Ready.{AreShort}
 use Rattle.jx_assemble.specs.Tile.{AreAtMost, IsTile, blocks_in, first_block, main_bytes}
-use Rattle.jx_assemble.specs.TileParts.{AreTilePartsOf, tile_parts}
+use Rattle.jx_assemble.specs.TileParts.{AreTilePartsOf}
 use Rattle.jx_recast.specs.MadeRounds.{parts_of}
 use Rattle.jx_recast.specs.Rounds.{BeginsRound, IsInRound, IsRightTile, IsShortFront, IsSpoiledFrom, IsUnmade, IsUnmadeTile, LeadOn, blocks_of, most_of_part, with_parts}
 use Rattle.jx_recast.specs.declared.halt.Halt.{Halt}
@@ -134,6 +130,11 @@ round_full p t start held is many = rw (add-one, is) (grind (arith, nat_tests))
 pub block_next : (p : Plan) (t block : ℕ) → block ≡ first_block p t → block + blocks_in p t ≡ first_block p (t + 1)
 block_next p t block is = omega (arith, is, sum_below_next (blocks_in p) t)
 
+-- all blocks are those of the tiles
+pub blocks_are : (s : Stream) → block_total s ≡ blocks_below (canvas_of s.siz) (shapes_of s) (tile_number s.siz)
+unfolding block_total
+blocks_are s = refl
+
 not_passed : (number found most : ℕ) → passed number found (nat_lt most found) ≡ None → found ≤ most
 not_passed number found most h = grind (arith, nat_tests)
 
@@ -174,12 +175,6 @@ unmade_of p start at held pieces (halt.TooLong tile) inside round lead spoiled =
 })
 unmade_of p start at held pieces halt.Failed inside round lead never = absurd never
 unmade_of p start at held pieces halt.NoMemory inside round lead free = tt
-
--- ---- a tile has one list of tile-parts
-pub one_tile : (m : Marks) (s : Stream) (blocks : List Block) (t : ℕ) (xs ys : List TilePart) → AreTilePartsOf m s blocks t xs → AreTilePartsOf m s blocks t ys → xs ≡ ys
-one_tile m s blocks t xs ys one other =
-    let same : one.names ≡ other.names = one_order (geometry s t) (layers_of s t) (tile_at s t).progressions (length (tile_at s t).progressions) one.names other.names one.order other.order in
-    one.are ∙ ap (λ (z : List PacketName). tile_parts m s blocks t (groups_of m.parts z)) same ∙ sym other.are
 
 -- ---- the headers that are written have the tiles and components of their stream
 pub tiles_stay : (w : Wanted) (layers : ℕ) (s : Stream) → tile_number (headers_with w layers s).siz ≡ tile_number s.siz

@@ -14,12 +14,10 @@ use Rattle.jx_plan.specs.declared.faults.PlanFault.{PlanFault}
 use Rattle.jx_plan.specs.declared.faults.PlanFault.TheVariants as unplanned
 use Rattle.jx_plan.specs.Plan.{MayBePlanned}
 use Rattle.jx_plan.specs.Planned.{HasPlanCause, MakesLayers}
-use Rattle.jx_plan.proofs.PlanLemmas.{gathered_may}
 use Rattle.jx_make.specs.Headers.{AreSizes}
 use Rattle.jx_make.specs.Made.{body_made}
 use Rattle.jx_make.specs.Plain.{IsPlain}
 use Rattle.jx_make.specs.Reading.{stream_made}
-use Rattle.jx_make.proofs.PlainLemmas.{all_plain}
 use Rattle.jx_words.specs.MakeWords.{Make, MayBeMade}
 use Rattle.jx_recast.specs.Aims.{Aim, MayBeAimed, rule_in}
 use Rattle.jx_recast.specs.MadeVerdict.{HasNoRule}
@@ -29,7 +27,7 @@ use Rattle.jx_recast.specs.Rewritten.{IsBad, IsTooLong, IsUnplanned, IsWrongBloc
 use Rattle.jx_recast.specs.declared.status.Status.TheVariants as status
 use Rattle.jx_recast.proofs.AcceptedLemmas.{AllAccepted}
 use Rattle.jx_recast.proofs.OneVerdictLemmas.{Laws, reads_on}
-use Rattle.jx_recast.proofs.PlannedMade.{never_wrong, only_rule}
+use Rattle.jx_recast.proofs.PlannedMade.{MadeLaws, never_wrong, only_rule}
 
 choice_number : (number place : ℕ) → unplanned.Choice number place ≡ unplanned.Choice 6 0 → number ≡ 6
 choice_number number place e = cc
@@ -41,7 +39,7 @@ pub makes_layers : (o : Option Rule) (s : Stream) (blocks : List Block) → IfSo
 makes_layers None s blocks h = tt
 makes_layers (Some r) s blocks h = h
 
-module _ (laws : Laws) (law : AllAccepted) (rule : List ℕ → StreamFacts → Option Rule) (m : Make) (may : MayBeMade m) where
+module _ (laws : Laws) (law : AllAccepted) (made_laws : MadeLaws) (rule : List ℕ → StreamFacts → Option Rule) (m : Make) (may : MayBeMade m) where
   abbrev aim : Aim
   aim = aim_made rule
 
@@ -59,7 +57,7 @@ module _ (laws : Laws) (law : AllAccepted) (rule : List ℕ → StreamFacts → 
 
   may_be_planned : (s : Stream) (blocks : List Block) → length (input_of m) ≤ most_bytes → Reads (input_of m) s blocks → MayBePlanned made blocks
   may_be_planned s blocks short reads =
-      subst (λ (x : Stream). MayBePlanned x blocks) (same_stream s blocks short reads) (gathered_may (input_of m) s blocks reads.read short reads.totals reads.gathered)
+      subst (λ (x : Stream). MayBePlanned x blocks) (same_stream s blocks short reads) (made_laws.may (input_of m) s blocks reads.read short reads.totals reads.gathered)
 
   without_rule : (e : PlanFault) → length (input_of m) ≤ most_bytes → MayBeAimed aim → (e ≡ unplanned.NoMemory → ⊥) → IsUnplanned aim (input_of m) e
       → HasNoRule aim (input_of m) × (e ≡ unplanned.Choice 6 0)
@@ -68,7 +66,7 @@ module _ (laws : Laws) (law : AllAccepted) (rule : List ℕ → StreamFacts → 
       let P : Stream → Type 0 = λ s. HasPlanCause (rule_in aim s is.blocks) s is.blocks wanted_made e in
       let cause : HasPlanCause (rule_in aim made is.blocks) made is.blocks wanted_made e = subst P same is.cause in
       let makes : MakesLayers (rule_in aim made is.blocks) made is.blocks = makes_layers (rule_in aim made is.blocks) made is.blocks (aimed.layers (facts_of made is.blocks)) in
-      let lacks = only_rule m.width m.height (length (body_made m.seed m.width m.height)) is.blocks sizes (may_be_planned is.stream is.blocks short is.reads) (rule_in aim made is.blocks) e makes caused cause in
+      let lacks = only_rule made_laws m.width m.height (length (body_made m.seed m.width m.height)) is.blocks sizes (may_be_planned is.stream is.blocks short is.reads) (rule_in aim made is.blocks) e makes caused cause in
       let Q : Stream → Type 0 = λ s. rule_in aim s is.blocks ≡ None in
       (record { stream = is.stream; blocks = is.blocks; reads = is.reads; none = subst Q (sym same) lacks.0 }, lacks.1)
 
@@ -91,7 +89,7 @@ module _ (laws : Laws) (law : AllAccepted) (rule : List ℕ → StreamFacts → 
   plain : (s : Stream) (blocks : List Block) → length (input_of m) ≤ most_bytes → Reads (input_of m) s blocks → All IsPlain blocks
   plain s blocks short reads =
       let is : MayBePlanned made blocks = may_be_planned s blocks short reads in
-      all_plain m.width m.height (length (body_made m.seed m.width m.height)) blocks sizes is.blocks_are is.sound
+      made_laws.plain m.width m.height (length (body_made m.seed m.width m.height)) blocks sizes is.blocks_are is.sound
 
   right : (blocks : List Block) (number : ℕ) (o : Option Block) → All IsPlain blocks → slice_get blocks number ≡ o → IsWrongBlock wanted_made o → ⊥
   right blocks number None all at wrong = wrong

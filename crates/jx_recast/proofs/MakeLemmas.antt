@@ -12,7 +12,7 @@ use Rattle.jx_words.specs.Words.{MayBeWork, Work}
 use Rattle.jx_recast.specs.Aims.{Aim}
 use Rattle.jx_recast.specs.Filed.{IsAnswered}
 use Rattle.jx_recast.specs.MakeRun.{AreTold, EndsMade, IsLastMade, IsReadyToSay, TellsMade, aim_made, input_of, make_line, wanted_made, work_made}
-use Rattle.jx_recast.specs.Outcome.{EndsAs, IsCutShort, IsLimited, IsMade, Leaves, Says, line_of}
+use Rattle.jx_recast.specs.Outcome.{EndsAs, IsCutShort, IsLimited, IsMade, Leaves, Says}
 use Rattle.jx_recast.specs.declared.status.Status.{Status}
 use Rattle.jx_recast.specs.declared.status.Status.TheVariants as status
 use Rattle.jx_recast.specs.declared.status.TapeEntry.{TapeEntry}
@@ -93,18 +93,6 @@ same_line (status.Block number) blocks a b c d e f same = refl
 same_line status.ReadFault blocks a b c d e f same = refl
 same_line status.WriteFault blocks a b c d e f same = refl
 same_line status.NoMemory blocks a b c d e f same = refl
-
--- a status without numbers of the output has the line that it has for other words
-pub other_line : (s : Status) (blocks a b c : ℕ) → (s ≡ status.Done → ⊥) → make_line s blocks a b c ≡ line_of s blocks 0
-other_line status.Done blocks a b c other = absurd (other refl)
-other_line status.Words blocks a b c other = refl
-other_line (status.Rule number place) blocks a b c other = refl
-other_line (status.Limit number found) blocks a b c other = refl
-other_line (status.Choice number place) blocks a b c other = refl
-other_line (status.Block number) blocks a b c other = refl
-other_line status.ReadFault blocks a b c other = refl
-other_line status.WriteFault blocks a b c other = refl
-other_line status.NoMemory blocks a b c other = refl
 
 pub made_said : (m : Make) (rule : Rules) (s late : Status) (blocks before after total : ℕ) (entries : List TapeEntry) (fault_before fault_now : ℕ) (files : Meaning) (old new : Option (List ℕ))
     → IsReadyToSay m rule s blocks before after total entries → EndsAs s (make_line s blocks before after total) late old new fault_before fault_now

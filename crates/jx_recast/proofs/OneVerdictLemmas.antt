@@ -11,6 +11,7 @@ use Rattle.jx_stream.specs.Read.{IsRead}
 use Rattle.jx_stream.specs.Spells.{Spells, TilePart}
 use Rattle.jx_gather.specs.Gathered.{IsBroken, IsGathered}
 use Rattle.jx_gather.specs.Totals.{totals_fault}
+use Rattle.jx_plan.specs.declared.Marks.{Marks}
 use Rattle.jx_plan.specs.declared.faults.PlanFault.{PlanFault}
 use Rattle.jx_plan.specs.declared.faults.PlanFault.TheVariants as unplanned
 use Rattle.jx_layers.specs.Rule.{Rule}
@@ -24,7 +25,7 @@ use Rattle.jx_recast.specs.Aims.{Aim, rule_in}
 use Rattle.jx_recast.specs.Judged.{BreaksTiles}
 use Rattle.jx_recast.specs.Outcome.{Verdict, most_bytes}
 use Rattle.jx_recast.specs.Rewritten.{CanBePlanned, IsBad, IsLong, IsRewritten, IsRight, IsSpoiled, IsTooLong, IsUnplanned, IsWrongAt, Reads, headers_of}
-use Rattle.jx_recast.proofs.FrontLemmas.{one_tile, tiles_stay}
+use Rattle.jx_recast.proofs.FrontLemmas.{tiles_stay}
 use Rattle.jx_recast.proofs.WrongLemmas.{one_wrong, right_in_all, right_or_wrong}
 
 -- what the laws of the crates below say
@@ -38,6 +39,7 @@ pub record Laws : Type 0 where
   pub free : (s : Stream) (blocks : List Block) (w : Wanted) (o : Option Rule) (e : PlanFault) → CanBePlannedBy o s blocks w → HasPlanCause o s blocks w e → e ≡ unplanned.NoMemory
   pub cause : (s : Stream) (blocks : List Block) (w : Wanted) (o : Option Rule) (e f : PlanFault) → (e ≡ unplanned.NoMemory → ⊥) → (f ≡ unplanned.NoMemory → ⊥) → HasPlanCause o s blocks w e
       → HasPlanCause o s blocks w f → e ≡ f
+  pub parts : (m : Marks) (s : Stream) (blocks : List Block) (t : ℕ) (xs ys : List TilePart) → AreTilePartsOf m s blocks t xs → AreTilePartsOf m s blocks t ys → xs ≡ ys
 
 -- violated or passed first, in the headers or the tile data
 abbrev Stops : List ℕ → StreamFault → Type 0
@@ -104,14 +106,14 @@ record IsLongAt (w : Wanted) (r : Rule) (s : Stream) (blocks : List Block) (t : 
   pub lowest : (n : ℕ) → n < t → IsSpoiled w r s blocks n → ⊥
 
 module _ (w : Wanted) (r : Rule) (s : Stream) (blocks : List Block) where
-  short_or_long : (t : ℕ) (parts : List TilePart) → AreTilePartsOf (marks_of w) (headers_of w r s blocks) (blocks_written w r s blocks) t parts → AreShort parts → IsLong w r s blocks t → ⊥
-  short_or_long t parts are short long =
-      long.long (subst AreShort (one_tile (marks_of w) (headers_of w r s blocks) (blocks_written w r s blocks) t parts long.parts are long.are) short)
+  short_or_long : Laws → (t : ℕ) (parts : List TilePart) → AreTilePartsOf (marks_of w) (headers_of w r s blocks) (blocks_written w r s blocks) t parts → AreShort parts → IsLong w r s blocks t → ⊥
+  short_or_long laws t parts are short long =
+      long.long (subst AreShort (laws.parts (marks_of w) (headers_of w r s blocks) (blocks_written w r s blocks) t parts long.parts are long.are) short)
 
-  written_or_spoiled : (t : ℕ) (parts : List TilePart) → IsRight w s blocks t → AreTilePartsOf (marks_of w) (headers_of w r s blocks) (blocks_written w r s blocks) t parts → AreShort parts
+  written_or_spoiled : Laws → (t : ℕ) (parts : List TilePart) → IsRight w s blocks t → AreTilePartsOf (marks_of w) (headers_of w r s blocks) (blocks_written w r s blocks) t parts → AreShort parts
       → IsSpoiled w r s blocks t → ⊥
-  written_or_spoiled t parts right are short (inl wrong) = right_or_wrong w s blocks t wrong.0 right wrong.1
-  written_or_spoiled t parts right are short (inr long) = short_or_long t parts are short long
+  written_or_spoiled laws t parts right are short (inl wrong) = right_or_wrong w s blocks t wrong.0 right wrong.1
+  written_or_spoiled laws t parts right are short (inr long) = short_or_long laws t parts are short long
 
   spoiled_once : (t u : ℕ) → IsSpoiledAt w r s blocks t → IsSpoiledAt w r s blocks u → t ≡ u
   spoiled_once t u x y = elim (cases_lt t u) [
@@ -138,12 +140,12 @@ module _ (w : Wanted) (r : Rule) (s : Stream) (blocks : List Block) where
       let same : t ≡ u = spoiled_once t u (bad_spoiled t n x) (long_spoiled u y) in
       right_or_wrong w s blocks u n y.is.right (subst (λ (i : ℕ). IsWrongAt w s blocks i n) same x.is)
 
-fine_of : (aim : Aim) (input out : List ℕ) (is : IsRewritten aim input out) → IsFine aim.wanted is.can.by is.stream is.blocks
-fine_of aim input out is = record {
+fine_of : Laws → (aim : Aim) (input out : List ℕ) (is : IsRewritten aim input out) → IsFine aim.wanted is.can.by is.stream is.blocks
+fine_of laws aim input out is = record {
   none = λ t lt spoiled.
       let there : t < tile_number (headers_of aim.wanted is.can.by is.stream is.blocks).siz =
       subst (λ (n : ℕ). t < n) (sym (tiles_stay aim.wanted (layers_of_rule is.can.by is.stream is.blocks) is.stream)) lt in
-      written_or_spoiled aim.wanted is.can.by is.stream is.blocks t (is.output.parts t) (right_in_all aim.wanted is.stream is.blocks t is.right) (is.output.are t there) (is.short t lt) spoiled;
+      written_or_spoiled aim.wanted is.can.by is.stream is.blocks laws t (is.output.parts t) (right_in_all aim.wanted is.stream is.blocks t is.right) (is.output.are t there) (is.short t lt) spoiled;
 }
 
 long_at : (aim : Aim) (input : List ℕ) (t : ℕ) (is : IsTooLong aim input t) → IsLongAt aim.wanted is.can.by is.stream is.blocks t
@@ -209,12 +211,12 @@ module _ (laws : Laws) (aim : Aim) (input : List ℕ) (short : length input ≤ 
   fine_or_long : (out : List ℕ) (t : ℕ) → IsRewritten aim input out → IsTooLong aim input t → ⊥
   fine_or_long out t x y =
       let there : IsLongAt aim.wanted x.can.by x.stream x.blocks t = long_here x.stream y.stream x.blocks y.blocks x.reads y.reads x.can y.can t (long_at aim input t y) in
-      (fine_of aim input out x).none t there.inside (inr there.is)
+      (fine_of laws aim input out x).none t there.inside (inr there.is)
 
   fine_or_bad : (out : List ℕ) (n : ℕ) → IsRewritten aim input out → IsBad aim input n → ⊥
   fine_or_bad out n x y =
       let there : IsBadAt aim.wanted x.can.by x.stream x.blocks y.tile n = bad_here x.stream y.stream x.blocks y.blocks x.reads y.reads x.can y.can y.tile n (bad_at aim input n y) in
-      (fine_of aim input out x).none y.tile there.inside (inl (n, there.is))
+      (fine_of laws aim input out x).none y.tile there.inside (inl (n, there.is))
 
   -- the cause, of the stream that is read
   cause_here : (s : Stream) (blocks : List Block) (e : PlanFault) → Reads input s blocks → IsUnplanned aim input e → HasPlanCause (rule_in aim s blocks) s blocks aim.wanted e

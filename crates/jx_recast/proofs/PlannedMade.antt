@@ -1,9 +1,8 @@
 -- What isn't in the way of a plan of a generated codestream, with the options of `make` and whatever rule of layers: choices 1 to 5,
 -- limit 7, and wrong segmentation symbols.
-use Rattle.std.proofs.Common.{◌≡◌, ◌∙◌, ◌⊎◌, ℕ, zero, suc, ◌+◌, ◌*◌, ◌^◌, ◌≤◌, ◌<◌, ◌&&◌, nat_le, Bool, true, false, List, [], ◌∷◌, length, map, take, drop, get_or, All, refl, ap, subst, arith, inl, inr, Option, None, Some, if◌then◌else◌}
+use Rattle.std.proofs.Common.{◌≡◌, ◌∙◌, ◌⊎◌, ℕ, zero, suc, ◌+◌, ◌*◌, ◌^◌, ◌≤◌, ◌<◌, ◌&&◌, nat_le, Bool, true, false, List, [], ◌∷◌, length, map, take, drop, get_or, All, refl, subst, arith, inl, inr, Option, None, Some, if◌then◌else◌}
 use Rattle.std.specs.Prelude.{is_some, slice_get}
 use Rattle.std.specs.List.{AllByRecursion, AllPairs, Contains, range_with_len}
-use Rattle.std.proofs.lemmas.Bool.{cases_eq}
 use Rattle.std.proofs.lemmas.List.FromFn.{length-range_with_len}
 use Rattle.std.proofs.lemmas.List.Quantifiers.{position-Some}
 use Rattle.std.proofs.lemmas.List.Sums.{count_by-le-length}
@@ -12,23 +11,24 @@ use Rattle.std.proofs.lemmas.Option.{get_or_from_slice_get, slice_get_within}
 use Rattle.jx_base.specs.declared.pieces.Block.{Block}
 use Rattle.jx_base.specs.declared.style.Style.{Style}
 use Rattle.jx_base.specs.Passes.{has_symbols}
+use Rattle.jx_base.specs.Sound.{IsSound}
 use Rattle.jx_base.specs.Joined.{sum_below}
-use Rattle.jx_base.proofs.Lists.{contains_head, contains_tail, pairs_head, pairs_tail}
-use Rattle.jx_geom.specs.Geometry.{Geometry}
+use Rattle.jx_geom.specs.Geometry.{Geometry, HasResolution, rect_of_tile}
 use Rattle.jx_geom.specs.Counts.{tile_precincts}
-use Rattle.jx_geom.specs.Rects.{tile_rect}
 use Rattle.jx_grid.specs.Reading.{Coding, Decoding, Reading, at_start, decoded, first_segment, fresh_reading, opened, read_bits, read_from, read_pass, read_symbol}
 use Rattle.jx_grid.specs.Segments.{begins}
 use Rattle.jx_base.specs.Passes.{raw_pass}
 use Rattle.jx_marker.specs.declared.Progression.{Progression}
 use Rattle.jx_order.specs.declared.names.PacketName.{PacketName}
 use Rattle.jx_order.specs.Orders.{ComesBefore, order_of}
-use Rattle.jx_order.specs.Packets.{IsPacket, Sends}
+use Rattle.jx_order.specs.Packets.{Sends}
 use Rattle.jx_stream.specs.declared.Stream.{Stream}
 use Rattle.jx_stream.specs.First.{tile_number}
+use Rattle.jx_stream.specs.Read.{IsRead}
 use Rattle.jx_stream.specs.Shapes.{geometry, shapes_in}
-use Rattle.jx_gather.specs.Gathered.{IsListOf}
-use Rattle.jx_gather.specs.Totals.{packet_total, tile_packets}
+use Rattle.jx_gather.specs.BlockOf.{AreBlocksOf}
+use Rattle.jx_gather.specs.Gathered.{IsGathered, IsListOf}
+use Rattle.jx_gather.specs.Totals.{packet_total, tile_packets, totals_fault}
 use Rattle.jx_block.specs.declared.LayerEnd.{LayerEnd}
 use Rattle.jx_block.specs.Recoding.{own_segments, wrong_in}
 use Rattle.jx_block.specs.Written.{is_wrong, style_for}
@@ -40,20 +40,30 @@ use Rattle.jx_plan.specs.declared.faults.PlanFault.{PlanFault}
 use Rattle.jx_plan.specs.declared.faults.PlanFault.TheVariants as fault
 use Rattle.jx_plan.specs.declared.PartChoice.TheVariants as part
 use Rattle.jx_plan.specs.Fits.{AreUnfit, Fits, IsUnfit}
-use Rattle.jx_plan.specs.Groups.{HasManyParts, groups_of, most_parts, with_first}
+use Rattle.jx_plan.specs.Groups.{HasManyParts, groups_of}
 use Rattle.jx_plan.specs.Headers.{stream_written}
 use Rattle.jx_plan.specs.Plan.{MayBePlanned, headers_with, most_packets}
 use Rattle.jx_plan.specs.Planned.{HasPlanCause, IsUnplannedBy, LacksPlan, MakesLayers}
 use Rattle.jx_plan.specs.Causes.{IsPlaneBroken}
-use Rattle.jx_plan.proofs.FitLemmas.{kept_fits}
-use Rattle.jx_plan.proofs.GroupLemmas.{put_other, put_same}
-use Rattle.jx_make.specs.Headers.{AreSizes, canvas_made, geometry_made}
+use Rattle.jx_plan.specs.Standing.{HeadersStand}
+use Rattle.jx_make.specs.Headers.{AreSizes}
 use Rattle.jx_make.specs.Plain.{IsPlain}
 use Rattle.jx_make.specs.Reading.{stream_made}
-use Rattle.jx_make.proofs.GeometryLemmas.{level_5, precincts_limited, shapes_made, three_shapes}
-use Rattle.jx_make.proofs.PlainLemmas.{all_plain}
-use Rattle.jx_make.proofs.ReadLemmas.{one_number}
 use Rattle.jx_recast.specs.MakeRun.{wanted_made}
+
+-- the resolution doesn't fall
+abbrev Rises : PacketName → PacketName → Type 0
+Rises p q = p.res ≤ q.res
+
+-- what the laws of the crates below say of what may be planned, and of what is generated
+pub record MadeLaws : Type 0 where
+  pub may : (b : List ℕ) (s : Stream) (blocks : List Block) → IsRead b s → length b ≤ 2 ^ 28 → totals_fault s ≡ None → IsGathered b s blocks → MayBePlanned s blocks
+  pub fit : (s : Stream) → HeadersStand s → Fits None s
+  pub few : (names : List PacketName) (n : ℕ) → 1 ≤ n → AllPairs Rises names → ((p : PacketName) → Contains names p → p.res < n) → length (groups_of part.Resolution names) ≤ n
+  pub plain : (w h size : ℕ) (blocks : List Block) → AreSizes w h → AreBlocksOf (stream_made w h size) blocks → All IsSound blocks → All IsPlain blocks
+  pub tiles : (w h size : ℕ) → AreSizes w h → tile_number (stream_made w h size).siz ≡ 1
+  pub precincts : (w h size : ℕ) → AreSizes w h → tile_precincts (rect_of_tile (geometry (stream_made w h size) 0)) (geometry (stream_made w h size) 0).shapes ≤ 18
+  pub levels : (w h size c r : ℕ) → HasResolution (geometry (stream_made w h size) 0) c r → r ≤ 5
 
 abbrev asked : Style
 asked = record { bits = 33 }
@@ -79,21 +89,23 @@ not_unfit s number place fits (inr changed) = changed.1.changed (fits.blocks pla
 one_of_sum : (f : ℕ → ℕ) (n : ℕ) → n ≡ 1 → sum_below f n ≡ f 0
 one_of_sum f n e = rw e (omega arith)
 
-headers_number : (w h size layers : ℕ) → AreSizes w h → tile_number (headers_with wanted_made layers (stream_made w h size)).siz ≡ 1
+headers_number : MadeLaws → (w h size layers : ℕ) → AreSizes w h → tile_number (headers_with wanted_made layers (stream_made w h size)).siz ≡ 1
 unfolding stream_written stream_made
-headers_number w h size layers sizes = one_number w h size sizes
+headers_number laws w h size layers sizes = laws.tiles w h size sizes
 
-packets_own : (w h size layers : ℕ) → tile_packets (headers_with wanted_made layers (stream_made w h size)) 0 ≡ tile_precincts (tile_rect (canvas_made w h) 0) shapes_made * layers
+packets_own : (w h size layers : ℕ) → tile_packets (headers_with wanted_made layers (stream_made w h size)) 0
+    ≡ tile_precincts (rect_of_tile (geometry (stream_made w h size) 0)) (geometry (stream_made w h size) 0).shapes * layers
 unfolding shapes_in stream_written stream_made
 packets_own w h size layers = refl
 
-few_packets : (w h size layers : ℕ) → AreSizes w h → layers < 2 ^ 16 → packet_total (headers_with wanted_made layers (stream_made w h size)) ≤ most_packets
+few_packets : MadeLaws → (w h size layers : ℕ) → AreSizes w h → layers < 2 ^ 16 → packet_total (headers_with wanted_made layers (stream_made w h size)) ≤ most_packets
 unfolding packet_total
-few_packets w h size layers sizes few =
+few_packets laws w h size layers sizes few =
     let s : Stream = headers_with wanted_made layers (stream_made w h size) in
-    let one : packet_total s ≡ tile_packets s 0 = one_of_sum (tile_packets s) (tile_number s.siz) (headers_number w h size layers sizes) in
-    let product : tile_precincts (tile_rect (canvas_made w h) 0) shapes_made * layers ≤ 18 * 65535 =
-    mul-le (tile_precincts (tile_rect (canvas_made w h) 0) shapes_made) layers 18 65535 (precincts_limited w h sizes) (omega (arith, few)) in
+    let g : Geometry = geometry (stream_made w h size) 0 in
+    let one : packet_total s ≡ tile_packets s 0 = one_of_sum (tile_packets s) (tile_number s.siz) (headers_number laws w h size layers sizes) in
+    let product : tile_precincts (rect_of_tile g) g.shapes * layers ≤ 18 * 65535 =
+    mul-le (tile_precincts (rect_of_tile g) g.shapes) layers 18 65535 (laws.precincts w h size sizes) (omega (arith, few)) in
     omega (arith, one, packets_own w h size layers, product)
 
 -- ---- choice 4: a block has at most 37 passes
@@ -118,40 +130,12 @@ not_crowded r layers blocks number (Some b) plain at crowded =
     not_many 0 b.passes (ends_of r layers blocks number b) (omega (arith, is.few)) (few_by _ b.passes layers) crowded
 
 -- ---- choice 5: in RPCL the resolutions rise, and there are 6
-abbrev Rises : PacketName → PacketName → Type 0
-Rises p q = p.res ≤ q.res
-
-first_long : (p : PacketName) (groups : List (List PacketName)) → 1 ≤ length groups → length (with_first p groups) ≡ length groups
-first_long p [] some = absurd (omega (arith, some))
-first_long p (names ∷ groups) some = refl
-
-groups_few : (p : PacketName) (names : List PacketName) → AllPairs Rises (p ∷ names) → ((x : PacketName) → Contains (p ∷ names) x → x.res ≤ 5)
-    → (1 ≤ length (groups_of part.Resolution (p ∷ names))) × (length (groups_of part.Resolution (p ∷ names)) + p.res ≤ 6)
-groups_few p [] sorted few = (omega arith, omega (arith, few p (contains_head p [])))
-groups_few p (q ∷ names) sorted few =
-    let groups : List (List PacketName) = groups_of part.Resolution (q ∷ names) in
-    let later = groups_few q names (pairs_tail Rises p (q ∷ names) sorted) (λ x has. few x (contains_tail p (q ∷ names) x has)) in
-    let le : p.res ≤ q.res = pairs_head Rises p (q ∷ names) q sorted (contains_head q names) in
-    elim (cases_eq p.res q.res) [
-      | inl e ↦
-          let long : length (groups_of part.Resolution (p ∷ q ∷ names)) ≡ length groups =
-          ap (λ (gs : List (List PacketName)). length gs) (put_same part.Resolution p q names groups e) ∙ first_long p groups later.0 in
-          (omega (arith, long, later.0), omega (arith, long, later.1, e))
-      | inr ne ↦
-          let long : length (groups_of part.Resolution (p ∷ q ∷ names)) ≡ suc (length groups) = ap (λ (gs : List (List PacketName)). length gs) (put_other part.Resolution p q names groups ne) in
-          (omega (arith, long), omega (arith, long, later.1, le, ne))
-    ]
-
-rising_few : (names : List PacketName) → AllPairs Rises names → ((x : PacketName) → Contains names x → x.res ≤ 5) → length (groups_of part.Resolution names) ≤ most_parts
-rising_few [] sorted few = omega arith
-rising_few (p ∷ names) sorted few = omega (arith, (groups_few p names sorted few).1)
-
 by_resolution : (g : Geometry) (p q : PacketName) → ComesBefore g (order_of 2) p q → Rises p q
 by_resolution g p q (inl lt) = omega (arith, lt)
 by_resolution g p q (inr more) = omega (arith, more.0)
 
-headers_geometry : (w h size layers : ℕ) → geometry (headers_with wanted_made layers (stream_made w h size)) 0 ≡ geometry_made w h
-unfolding shapes_in stream_written stream_made geometry_made
+headers_geometry : (w h size layers : ℕ) → geometry (headers_with wanted_made layers (stream_made w h size)) 0 ≡ geometry (stream_made w h size) 0
+unfolding shapes_in stream_written stream_made
 headers_geometry w h size layers = refl
 
 -- the one entry of the headers that are written
@@ -168,50 +152,48 @@ one_entry : (w h size layers : ℕ) (names : List PacketName) → IsListOf (head
 unfolding stream_written stream_made
 one_entry w h size layers names is = record { k = is.0; none = is.1; sends = is.2 }
 
-res_few : (w h layers : ℕ) (p : PacketName) → IsPacket (geometry_made w h) layers p → p.res ≤ 5
-res_few w h layers p is = level_5 w h p.comp p.res (three_shapes w h p.comp is.resolution.component) is.resolution.level
-
-sent_few : (w h layers : ℕ) (names : List PacketName) → IsSent (geometry_made w h) layers names → length (groups_of part.Resolution names) ≤ most_parts
-sent_few w h layers names is =
-    let g : Geometry = geometry_made w h in
+sent_few : MadeLaws → (w h size layers : ℕ) (names : List PacketName) → IsSent (geometry (stream_made w h size) 0) layers names → length (groups_of part.Resolution names) ≤ 6
+sent_few laws w h size layers names is =
+    let g : Geometry = geometry (stream_made w h size) 0 in
     let list : List PacketName = drop is.k names in
     let whole : list ≡ names = all_left is.k names is.none in
     let sorted : AllPairs Rises list = λ i j d lt below. by_resolution g _ _ (is.sends.sorted i j d lt below) in
-    subst (λ (xs : List PacketName). length (groups_of part.Resolution xs) ≤ most_parts) whole
-    (rising_few list sorted (λ x has. res_few w h layers x ((is.sends.exact x).0 has).0))
+    let level : (p : PacketName) → Contains list p → p.res < 6 =
+    λ p has. let le : p.res ≤ 5 = laws.levels w h size p.comp p.res ((is.sends.exact p).0 has).0.resolution in omega (arith, le) in
+    subst (λ (xs : List PacketName). length (groups_of part.Resolution xs) ≤ 6) whole (laws.few list 6 (omega arith) sorted level)
   where
     all_left : (k : ℕ) (xs : List PacketName) → take k xs ≡ [] → drop k xs ≡ xs
     all_left zero xs e = refl
     all_left (suc k) [] e = refl
     all_left (suc k) (x ∷ xs) e = absurd (cc)
 
-few_parts : (w h size layers : ℕ) (names : List PacketName) → IsListOf (headers_with wanted_made layers (stream_made w h size)) 0 names → length (groups_of part.Resolution names) ≤ most_parts
-few_parts w h size layers names is =
+few_parts : MadeLaws → (w h size layers : ℕ) (names : List PacketName) → IsListOf (headers_with wanted_made layers (stream_made w h size)) 0 names → length (groups_of part.Resolution names) ≤ 6
+few_parts laws w h size layers names is =
     let P : Geometry → Type 0 = λ g. IsSent g layers names in
-    sent_few w h layers names (subst P (headers_geometry w h size layers) (one_entry w h size layers names is))
+    sent_few laws w h size layers names (subst P (headers_geometry w h size layers) (one_entry w h size layers names is))
 
-not_parted : (w h size layers t : ℕ) → AreSizes w h → t < tile_number (headers_with wanted_made layers (stream_made w h size)).siz
+not_parted : MadeLaws → (w h size layers t : ℕ) → AreSizes w h → t < tile_number (headers_with wanted_made layers (stream_made w h size)).siz
     → HasManyParts part.Resolution (headers_with wanted_made layers (stream_made w h size)) t → ⊥
-not_parted w h size layers t sizes inside many =
+not_parted laws w h size layers t sizes inside many =
     let s : Stream = headers_with wanted_made layers (stream_made w h size) in
-    let first : t ≡ 0 = omega (arith, inside, headers_number w h size layers sizes) in
+    let first : t ≡ 0 = omega (arith, inside, headers_number laws w h size layers sizes) in
     let P : ℕ → Type 0 = λ n. IsListOf s n many.names in
-    let few : length (groups_of part.Resolution many.names) ≤ most_parts = few_parts w h size layers many.names (subst P first many.order) in
+    let few : length (groups_of part.Resolution many.names) ≤ 6 = few_parts laws w h size layers many.names (subst P first many.order) in
     omega (arith, few, many.many)
 
 -- ---- why nothing is planned
-module _ (w h size : ℕ) (blocks : List Block) (sizes : AreSizes w h) (may : MayBePlanned (stream_made w h size) blocks) where
+module _ (laws : MadeLaws) (w h size : ℕ) (blocks : List Block) (sizes : AreSizes w h) (may : MayBePlanned (stream_made w h size) blocks) where
   abbrev own : Stream
   own = stream_made w h size
 
   plain : All IsPlain blocks
-  plain = all_plain w h size blocks sizes may.blocks_are may.sound
+  plain = laws.plain w h size blocks sizes may.blocks_are may.sound
 
   by_rule : (r : Rule) (e : PlanFault) → MakesLayers (Some r) own blocks → (e ≡ fault.NoMemory → ⊥) → IsUnplannedBy r own blocks wanted_made e → ⊥
   by_rule r (fault.Choice number place) makes caused (inl four) = not_crowded r _ blocks place (slice_get blocks place) plain refl four.1.lowest.0
-  by_rule r (fault.Choice number place) makes caused (inr five) = not_parted w h size _ place sizes five.1.many.many.inside five.1.many.many.many
+  by_rule r (fault.Choice number place) makes caused (inr five) = not_parted laws w h size _ place sizes five.1.many.many.inside five.1.many.many.many
   by_rule r (fault.Limit number found) makes caused seven =
-      let few = few_packets w h size _ sizes makes.1 in
+      let few = few_packets laws w h size _ sizes makes.1 in
       omega (arith, few, seven.1.count, seven.1.many)
   by_rule r fault.NoMemory makes caused is = caused refl
 
@@ -224,7 +206,7 @@ module _ (w h size : ℕ) (blocks : List Block) (sizes : AreSizes w h) (may : Ma
   lacking (Some r) e makes caused lacks = absurd (by_rule r e makes caused lacks)
 
   fits : Fits None own
-  fits = kept_fits own may.headers
+  fits = laws.fit own may.headers
 
   unfit : (e : PlanFault) → (e ≡ fault.NoMemory → ⊥) → AreUnfit own None e → ⊥
   unfit (fault.Choice number place) caused is = not_unfit own number place fits is

@@ -39,10 +39,6 @@ has_written_all old new bytes rest so_far none =
     let whole : bytes ≡ so_far.front = simp append-nil at (so_far.whole ∙ ap (λ (r : List ℕ). so_far.front ++ r) none) in
     so_far.meaning ∙ ap (λ (front : List ℕ). after_write front old) (sym whole)
 
-pub has_read_none : (left : Option (List ℕ)) → HasRead left left []
-has_read_none None = refl
-has_read_none (Some left) = refl
-
 pub has_read_more : (old now : Option (List ℕ)) (bytes piece : List ℕ) (n : ℕ) → HasRead old now bytes
     → IfSome now (λ rest. piece ≡ take n rest) → HasRead old (option_map (drop n) now) (bytes ++ piece)
 has_read_more old None bytes piece n so_far cut = so_far
@@ -69,19 +65,6 @@ takes_none (Some left) n room into takes none some = elim (takes.end none) [ inl
 pub takes_front : (left : Option (List ℕ)) (n room : ℕ) (into : List ℕ) → IfSome left (λ l. Takes l n room into) → IfSome left (λ l. take n into ≡ take n l)
 takes_front None n room into takes = tt
 takes_front (Some left) n room into takes = takes.bytes
-
-pub cut_in_two : (bytes first later : List ℕ) (i : ℕ) → first ≡ take i bytes → later ≡ drop i bytes → bytes ≡ first ++ later
-cut_in_two bytes first later i front back = rw (front, back, take-append-drop) refl
-
-pub front_of_first : (old new : Meaning) (bytes first later : List ℕ) → bytes ≡ first ++ later → SomeFront old new first → SomeFront old new bytes
-front_of_first old new bytes first later cut (rest, done) = (
-  rest ++ later,
-  record {
-    front = done.front;
-    whole = cut ∙ (ap (λ (piece : List ℕ). piece ++ later) done.whole ∙ append_assoc done.front rest later);
-    meaning = done.meaning;
-  },
-)
 
 pub front_of_later : (old now new : Meaning) (bytes first later : List ℕ) → bytes ≡ first ++ later → now ≡ after_write first old → SomeFront now new later → SomeFront old new bytes
 front_of_later old now new bytes first later cut wrote (rest, done) = (

@@ -1,8 +1,8 @@
 -- A file that is read to where its bytes stay.
-use Rattle.std.proofs.Common.{◌≡◌, ◌<◌, ◌≤◌, ◌+◌, ◌∙◌, ◌++◌, ℕ, zero, suc, List, [], length, take, drop, Option, None, Some, Result, Ok, Err, ap, refl, sym, subst, arith, IfOk, IfSome}
+use Rattle.std.proofs.Common.{◌≡◌, ◌<◌, ◌≤◌, ◌+◌, ◌∙◌, ◌++◌, ℕ, List, [], length, take, drop, Option, None, Some, Result, Ok, Err, ap, sym, subst, arith, IfOk, IfSome}
 use Rattle.std.specs.Option.{option_map}
 use Rattle.std.proofs.lemmas.List.{length-take-le, take-take}
-use Rattle.std.proofs.Math.Seq.{take-append-add}
+use Rattle.std.proofs.Math.Seq.{take-append-add, drop-nil}
 use Rattle.jx_outside.specs.Device.{Meaning, Takes, after_read}
 use Rattle.jx_recast.specs.Progress.{HasRead}
 use Rattle.jx_recast.proofs.ProgressLemmas.{has_read_more, takes_front, takes_none}
@@ -31,14 +31,10 @@ read_answer (Ok n) was now before after piece filled fits whole ok within takes 
     subst (λ (m : Meaning). HasRead old m.left (take (filled + n) after)) (sym ok) (has_read_on old was.left before after piece filled n fits within whole takes so_far)
 read_answer (Err e) was now before after piece filled fits whole ok within takes = tt
 
-drop_none : (n : ℕ) → ◌≡◌ {A = List ℕ} (drop n []) []
-drop_none zero = refl
-drop_none (suc n) = refl
-
 -- nothing came where there was room, and nothing is left
 end_stays : (left : Option (List ℕ)) (n : ℕ) → IfSome left (λ rest. rest ≡ []) → IfSome (option_map (drop n) left) (λ rest. rest ≡ [])
 end_stays None n none = tt
-end_stays (Some rest) n none = ap (drop n) none ∙ drop_none n
+end_stays (Some rest) n none = ap (drop n) none ∙ drop-nil n
 
 pub read_end : {E : Type 0} (r : Result ℕ E) (was now : Meaning) (piece : List ℕ) → IfOk r (λ n. now ≡ after_read n was) → 0 < length piece
     → IfOk r (λ n. IfSome was.left (λ l. Takes l n (length piece) piece)) → IfOk r (λ n. n ≡ 0 → IfSome now.left (λ rest. rest ≡ []))

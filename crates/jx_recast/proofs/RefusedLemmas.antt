@@ -1,17 +1,13 @@
 -- What becomes of an input that is refused, or isn't planned: nothing is made.
 use Rattle.std.proofs.Common.{◌≡◌, ◌⊎◌, ◌<◌, ◌≤◌, ℕ, List, [], length, Option, None, Some, refl, sym, subst, arith, inl, inr}
-use Rattle.std.specs.List.{All}
 use Rattle.jx_base.specs.declared.pieces.Block.{Block}
 use Rattle.jx_base.specs.declared.style.Style.{Style}
-use Rattle.jx_base.specs.Sound.{IsSound}
 use Rattle.jx_outside.specs.Device.{Meaning}
 use Rattle.jx_stream.specs.declared.faults.StreamFault.{StreamFault}
 use Rattle.jx_stream.specs.declared.faults.StreamFault.TheVariants as fault
 use Rattle.jx_stream.specs.declared.Stream.{Stream}
 use Rattle.jx_stream.specs.FirstViolated.{IsFirst}
 use Rattle.jx_stream.specs.Read.{IsRead}
-use Rattle.jx_stream.proofs.RangeLemmas.{read_in_range}
-use Rattle.jx_gather.specs.BlockOf.{AreBlocksOf}
 use Rattle.jx_gather.specs.Faults.{HasCause}
 use Rattle.jx_gather.specs.Gathered.{IsBroken, IsGathered}
 use Rattle.jx_gather.specs.Totals.{totals_fault}
@@ -20,10 +16,8 @@ use Rattle.jx_plan.specs.declared.faults.PlanFault.{PlanFault}
 use Rattle.jx_plan.specs.declared.faults.PlanFault.TheVariants as unplanned
 use Rattle.jx_plan.specs.Causes.{IsPlaneBroken}
 use Rattle.jx_plan.specs.Fits.{AreUnfit}
-use Rattle.jx_plan.specs.Plan.{MayBePlanned}
 use Rattle.jx_plan.specs.Planned.{HasPlanCause, IsUnplannedBy, LacksPlan}
 use Rattle.jx_plan.specs.Wanted.{Wanted}
-use Rattle.jx_plan.proofs.ReadLemmas.{read_stands}
 use Rattle.jx_recast.specs.Aims.{Aim, rule_in}
 use Rattle.jx_recast.specs.Filed.{IsAnswered, blocks_told, told_by, told_of_plan}
 use Rattle.jx_recast.specs.Judged.{IsInputCause}
@@ -169,13 +163,9 @@ pub header_refused : (name : Text) (work : Work) (aim : Aim) (input : List ℕ) 
     → IsAnswered name work aim input (told_by f) 0 0 [] mm mm
 header_refused name work aim input f mm within first = refused name work aim input f mm within (header_cause input f first)
 
--- ---- what was read may be planned
+-- ---- what was read
 pub reads_of : (input : List ℕ) (s : Stream) (blocks : List Block) → IsRead input s → totals_fault s ≡ None → IsGathered input s blocks → Reads input s blocks
 reads_of input s blocks read totals gathered = record { read = read; totals = totals; gathered = gathered }
-
-pub may_be_planned : (input : List ℕ) (s : Stream) (blocks : List Block) → IsRead input s → totals_fault s ≡ None → AreBlocksOf s blocks → All IsSound blocks → MayBePlanned s blocks
-may_be_planned input s blocks read totals are sound =
-    record { headers = read_stands input s read; range = read_in_range input s read; totals = totals; blocks_are = are; sound = sound }
 
 -- ---- what is told of an input or a plan is no fault of a device, and doesn't speak of the words
 IsTold : Status → Type 0

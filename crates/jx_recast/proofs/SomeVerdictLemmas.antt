@@ -1,5 +1,5 @@
 -- Each input has a verdict.
-use Rattle.std.proofs.Common.{◌≡◌, ◌⊎◌, ◌≤◌, ◌<◌, ◌^◌, inl, inr, refl, sym, subst, arith, List, [], ◌∷◌, ℕ, Option, None, Some, IfSome, length}
+use Rattle.std.proofs.Common.{◌≡◌, ◌⊎◌, ◌≤◌, ◌<◌, ◌^◌, inl, inr, refl, sym, subst, arith, List, [], ◌∷◌, ℕ, Option, None, Some, length}
 use Rattle.std.proofs.lemmas.Bool.{cases_lt}
 use Rattle.jx_base.specs.declared.pieces.Block.{Block}
 use Rattle.jx_marker.specs.Ranges.{AreBytes}
@@ -18,7 +18,7 @@ use Rattle.jx_plan.specs.declared.Marks.{Marks}
 use Rattle.jx_plan.specs.declared.faults.PlanFault.{PlanFault}
 use Rattle.jx_plan.specs.declared.faults.PlanFault.TheVariants as unplanned
 use Rattle.jx_layers.specs.Facts.{facts_of}
-use Rattle.jx_layers.specs.Rule.{Rule, layers_by}
+use Rattle.jx_layers.specs.Rule.{Rule}
 use Rattle.jx_plan.specs.Causes.{IsFree}
 use Rattle.jx_plan.specs.Plan.{MayBePlanned, headers_with}
 use Rattle.jx_plan.specs.Planned.{CanBePlannedBy, HasPlanCause, MakesLayers, blocks_written, layers_of_rule}
@@ -33,7 +33,7 @@ use Rattle.jx_recast.specs.Judged.{BreaksTiles}
 use Rattle.jx_recast.specs.Outcome.{Verdict, most_bytes}
 use Rattle.jx_recast.specs.Rewritten.{CanBePlanned, IsRight, IsSpoiled, Reads, headers_of}
 use Rattle.jx_recast.proofs.ToldLemmas.{stop_told}
-use Rattle.jx_recast.proofs.FrontLemmas.{one_tile, tiles_stay}
+use Rattle.jx_recast.proofs.FrontLemmas.{tiles_stay}
 use Rattle.jx_recast.proofs.WrongLemmas.{all_right, first_or_none, right_or_wrong, wrong_or_right}
 use Rattle.jx_recast.proofs.MadeVerdictLemmas.{makes_layers}
 
@@ -47,6 +47,7 @@ pub record Laws : Type 0 where
   pub ready : (w : Wanted) (layers : ℕ) (s : Stream) → 1 ≤ layers → layers < 2 ^ 16 → MayBeWanted w → HeadersStand s → StreamInRange s → totals_fault s ≡ None
       → IsFree s w layers → AreReady (marks_of w) (headers_with w layers s)
   pub output : (m : Marks) (s : Stream) (blocks : List Block) → AreReady m s → (b : List ℕ) × IsOutput m s blocks b
+  pub parts : (m : Marks) (s : Stream) (blocks : List Block) (t : ℕ) (xs ys : List TilePart) → AreTilePartsOf m s blocks t xs → AreTilePartsOf m s blocks t ys → xs ≡ ys
 
 short_or_not : (parts : List TilePart) → AreShort parts ⊎ (AreShort parts → ⊥)
 short_or_not [] = inl tt
@@ -63,7 +64,7 @@ can_of aim s blocks None e made never = absurd never
 can_of aim s blocks (Some r) e made free = record { by = r; is = e; layers = made; free = free }
 
 -- a tile is written, or it has a block that is wrong, or else a tile-part that is too long
-module _ (w : Wanted) (r : Rule) (s : Stream) (blocks : List Block) (t : ℕ) (parts : List TilePart) (are : AreTilePartsOf (marks_of w) (headers_of w r s blocks) (blocks_written w r s blocks) t parts) where
+module _ (laws : Laws) (w : Wanted) (r : Rule) (s : Stream) (blocks : List Block) (t : ℕ) (parts : List TilePart) (are : AreTilePartsOf (marks_of w) (headers_of w r s blocks) (blocks_written w r s blocks) t parts) where
   abbrev Written : Type 0
   Written = IsRight w s blocks t × AreShort parts
 
@@ -78,7 +79,7 @@ module _ (w : Wanted) (r : Rule) (s : Stream) (blocks : List Block) (t : ℕ) (p
 
   unspoiled : Written → IsSpoiled w r s blocks t → ⊥
   unspoiled is (inl wrong) = right_or_wrong w s blocks t wrong.0 is.0 wrong.1
-  unspoiled is (inr long) = long.long (subst AreShort (one_tile (marks_of w) (headers_of w r s blocks) (blocks_written w r s blocks) t parts long.parts are long.are) is.1)
+  unspoiled is (inr long) = long.long (subst AreShort (laws.parts (marks_of w) (headers_of w r s blocks) (blocks_written w r s blocks) t parts long.parts are long.are) is.1)
 
   spoiled_or_not : IsSpoiled w r s blocks t ⊎ (IsSpoiled w r s blocks t → ⊥)
   spoiled_or_not = elim written_or_not [
@@ -116,11 +117,11 @@ module _ (laws : Laws) (aim : Aim) (may : MayBeAimed aim) (input : List ℕ) (sh
       let out = laws.output (marks_of w) (headers_of w r s blocks) (blocks_written w r s blocks) (ready s blocks plan can) in
       let are : (t : ℕ) → t < tile_number s.siz → AreTilePartsOf (marks_of w) (headers_of w r s blocks) (blocks_written w r s blocks) t (out.1.parts t) =
       λ t lt. out.1.are t (subst (λ (n : ℕ). t < n) (sym (tiles_stay w (layers_of_rule r s blocks) s)) lt) in
-      elim (first_or_none (λ (t : ℕ). IsSpoiled w r s blocks t) 0 (tile_number s.siz) (λ t from lt. spoiled_or_not w r s blocks t (out.1.parts t) (are t (omega (arith, lt))))) [
+      elim (first_or_none (λ (t : ℕ). IsSpoiled w r s blocks t) 0 (tile_number s.siz) (λ t from lt. spoiled_or_not laws w r s blocks t (out.1.parts t) (are t (omega (arith, lt))))) [
         | inl first ↦ spoiled_by s blocks first.0 reads can (omega (arith, first.1.below)) first.1.is (λ n lt spoiled. first.1.lowest n (omega arith) lt spoiled)
         | inr none ↦
             let each : (t : ℕ) → t < tile_number s.siz → IsRight w s blocks t × AreShort (out.1.parts t) =
-            λ t lt. written_of w r s blocks t (out.1.parts t) (are t lt) (none t (omega arith) (omega (arith, lt))) in (
+            λ t lt. written_of laws w r s blocks t (out.1.parts t) (are t lt) (none t (omega arith) (omega (arith, lt))) in (
               status.Done,
               (
                 short,

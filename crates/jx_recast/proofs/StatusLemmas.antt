@@ -1,5 +1,5 @@
 -- Which statuses are faults of a device, or speak of the words.
-use Rattle.std.proofs.Common.{◌≡◌, ◌∙◌, Bool, true, false, ℕ, List, Option, sym, subst, inl, inr, refl}
+use Rattle.std.proofs.Common.{◌≡◌, ◌∙◌, ℕ, List, Option, sym, subst, inl, inr, refl}
 use Rattle.jx_outside.specs.Causes.{Rose}
 use Rattle.jx_recast.specs.Filed.{status_of}
 use Rattle.jx_recast.specs.Outcome.{EndsAs}
@@ -62,6 +62,3 @@ pub memory_said : (late : Status) (line : List ℕ) (before now : Option (List �
 memory_said late line before now fault_before fault_now (inl said) failed = absurd (memory_unwritten late said.0 failed)
 memory_said late line before now fault_before fault_now (inr (inl fault)) failed = fault.2
 memory_said late line before now fault_before fault_now (inr (inr short)) failed = absurd (memory_unwritten late short.0 failed)
-
-pub good_or_bad : (b : Bool) → b ≡ true → b ≡ false → ⊥
-good_or_bad b good bad = cc

@@ -1,10 +1,11 @@
 -- From what is made of the blocks of a round to the tape of a run.
-use Rattle.std.proofs.Common.{◌≡◌, ◌∙◌, ◌<◌, ◌≤◌, ◌+◌, ◌-◌, ◌^◌, ℕ, zero, suc, true, is_some, List, [], ◌∷◌, ◌++◌, length, map, take, drop, refl, ap, sym, subst, arith, inl, inr, Some, append_assoc, append-nil, length-append, length-take, slice_index_or}
+use Rattle.std.proofs.Common.{◌≡◌, ◌∙◌, ◌<◌, ◌≤◌, ◌+◌, ◌-◌, ◌^◌, ℕ, suc, true, is_some, List, [], ◌∷◌, ◌++◌, length, map, take, drop, refl, ap, sym, subst, arith, inl, inr, Some, append_assoc, append-nil, length-append, length-take, slice_index_or}
 use Rattle.std.specs.List.{All, list_any, slice_get, sum}
 use Rattle.std.proofs.lemmas.List.{drop_all, drop-drop, drop-map, drop-take, length-map, map-append, take-map, take-take}
 use Rattle.std.proofs.lemmas.List.Elements.{All-append, All-cons, All-map, All-nil}
 use Rattle.std.proofs.Math.Seq.{drop-cons}
-use Rattle.std.proofs.lemmas.Option.{slice_get_within}
+use Rattle.std.specs.Option.{option_map}
+use Rattle.std.proofs.lemmas.Option.{same_Some, slice_get-map, slice_get_cases, slice_get_within}
 use Rattle.std.proofs.lemmas.Simd.{map-map}
 use Rattle.jx_base.specs.declared.pieces.Block.{Block}
 use Rattle.jx_base.specs.Pieces.{bytes_in}
@@ -14,12 +15,9 @@ use Rattle.jx_store.specs.declared.event.Taped.{Taped}
 use Rattle.jx_store.specs.declared.work.Named.{Named}
 use Rattle.jx_store.specs.Order.{numbers}
 use Rattle.jx_store.specs.Setup.{Within}
-use Rattle.jx_pool.specs.Tapes.{AreAsked, IsJob, answer_of, bounds, size_of}
-use Rattle.jx_pool.proofs.TapeLemmas.{long, number_at, same_items}
-use Rattle.jx_ring.proofs.Dealing.{numbers_first}
-use Rattle.jx_base.proofs.Lists.{some_same}
+use Rattle.jx_pool.specs.Tapes.{AreAsked, answer_of, bounds, size_of}
+use Rattle.jx_base.proofs.Lists.{all_at, all_from, same_gets}
 use Rattle.jx_stream.specs.First.{tile_number}
-use Rattle.jx_gather.proofs.TotalLemmas.{blocks_are}
 use Rattle.jx_assemble.specs.Tile.{first_block}
 use Rattle.jx_plan.specs.Plan.{IsPlan, Plan}
 use Rattle.jx_words.specs.Words.{MayBeWork, Work}
@@ -27,42 +25,44 @@ use Rattle.jx_recast.specs.MadeRounds.{AreMadeAlone, AreOfBlocks, AreUnshared, I
 use Rattle.jx_recast.specs.Rounds.{AreAnswers, HasTape, IsPlace}
 use Rattle.jx_recast.specs.Tapes.{IsTapeOf, setup_of}
 use Rattle.jx_recast.specs.declared.status.TapeEntry.{TapeEntry}
-use Rattle.jx_recast.proofs.TileLemmas.{all_at, all_from, get_drop, get_take}
+use Rattle.jx_recast.proofs.FrontLemmas.{blocks_are}
+use Rattle.jx_recast.proofs.TileLemmas.{get_drop, get_take}
 
--- ---- numbers from one on
-pub numbers_then : (a n m : ℕ) → numbers a n ++ numbers (a + n) m ≡ numbers a (n + m)
-numbers_then a n zero =
-    let count : n ≡ n + 0 = omega arith in
-    append-nil (numbers a n) ∙ ap (numbers a) count
-numbers_then a n (suc m) =
-    let here : (a + n) + m ≡ a + (n + m) = omega arith in
-    let count : suc (n + m) ≡ n + suc m = omega arith in
-    sym (append_assoc (numbers a n) (numbers (a + n) m) (((a + n) + m) ∷ [])) ∙ ap (λ (xs : List ℕ). xs ++ ((a + n) + m) ∷ []) (numbers_then a n m)
-    ∙ ap (λ (x : ℕ). numbers a (n + m) ++ x ∷ []) here ∙ ap (numbers a) count
+-- ---- numbers from one on: what the law of the store says of them
+pub record NumberLaws : Type 0 where
+  pub count : (a n : ℕ) → length (numbers a n) ≡ n
+  pub at : (a n i : ℕ) → i < n → slice_get (numbers a n) i ≡ Some (a + i)
+  pub more : (a n m : ℕ) → numbers a n ++ numbers (a + n) m ≡ numbers a (n + m)
 
-asked_later : (first : ℕ) (j : Job) (js : List Job) → AreAsked first (j ∷ js) → AreAsked (first + 1) js
-asked_later first j js asked i x at =
-    let place : first + suc i ≡ (first + 1) + i = omega arith in
-    subst (λ (n : ℕ). IsJob n x) place (asked (suc i) x at)
+module _ (laws : NumberLaws) where
+  length_numbered : {X : Type 0} (f : X → ℕ) (xs : List X) (a n : ℕ) → map f xs ≡ numbers a n → length xs ≡ n
+  length_numbered f xs a n e = sym (length-map xs f) ∙ ap (λ (l : List ℕ). length l) e ∙ laws.count a n
 
-asked_numbers : (first : ℕ) (jobs : List Job) → AreAsked first jobs → map (λ (j : Job). j.number) jobs ≡ numbers first (length jobs)
-asked_numbers first [] asked = refl
-asked_numbers first (j ∷ js) asked =
-    let here : j.number ≡ first = omega (arith, (asked 0 j refl).numbered) in
-    ap (λ (n : ℕ). n ∷ map (λ (x : Job). x.number) js) here ∙ ap (λ (ns : List ℕ). first ∷ ns) (asked_numbers (first + 1) js (asked_later first j js asked)) ∙ sym (numbers_first first (length js))
+  number_at : {X : Type 0} (f : X → ℕ) (xs : List X) (a n i : ℕ) (x : X) → map f xs ≡ numbers a n → slice_get xs i ≡ Some x → f x ≡ a + i
+  number_at f xs a n i x e at =
+      let inside : i < n = omega (arith, slice_get_within xs i x at, length_numbered f xs a n e) in
+      same_Some (f x) (a + i) (sym (slice_get-map f xs i ∙ ap (option_map f) at) ∙ ap (λ (l : List ℕ). slice_get l i) e ∙ laws.at a n i inside)
+
+  numbered : {X : Type 0} (f : X → ℕ) (xs : List X) (a : ℕ) → ((i : ℕ) (x : X) → slice_get xs i ≡ Some x → f x ≡ a + i) → map f xs ≡ numbers a (length xs)
+  numbered f xs a each = same_gets (map f xs) (numbers a (length xs)) (length-map xs f ∙ sym (laws.count a (length xs))) (λ i lt.
+      let inside : i < length xs = omega (arith, lt, length-map xs f) in
+      elim (slice_get_cases xs i).1 [
+        | inl there ↦ slice_get-map f xs i ∙ ap (option_map f) there.2 ∙ ap Some (each i there.0 there.2) ∙ sym (laws.at a (length xs) i inside)
+        | inr past ↦ absurd (omega (arith, past.0, inside))
+      ])
 
 -- ---- what one thread makes of jobs is a tape of them, too
-pub alone_is_tape : (jobs : List Job) (first : ℕ) (work : Work) (entries : List (Taped (Named WrittenBlock))) → AreAsked first jobs → MayBeWork work → AreMadeAlone jobs entries → IsTapeFrom jobs first work entries
-alone_is_tape jobs first work entries asked may alone =
+pub alone_is_tape : NumberLaws → (jobs : List Job) (first : ℕ) (work : Work) (entries : List (Taped (Named WrittenBlock))) → AreAsked first jobs → MayBeWork work → AreMadeAlone jobs entries → IsTapeFrom jobs first work entries
+alone_is_tape laws jobs first work entries asked may alone =
     let number : Taped (Named WrittenBlock) → ℕ = λ t. t.number in
-    let order : map number entries ≡ numbers first (length jobs) = alone.numbers_are ∙ asked_numbers first jobs asked in
+    let order : map number entries ≡ numbers first (length jobs) = alone.numbers_are ∙ numbered laws (λ (j : Job). j.number) jobs first (λ i j at. (asked i j at).numbered) in
     record {
       order = order;
       answers = alone.answers;
       workers = λ k d lt. omega (arith, alone.workers k d lt, may.some_threads);
       within = λ k d lt. (omega (arith, alone.seen k d lt), omega (arith, alone.seen k d lt, may.some_window), inl (alone.seen k d lt));
       from = all_from (λ (t : Taped (Named WrittenBlock)). first ≤ t.seen) entries (λ i t at.
-          omega (arith, number_at number entries first (length jobs) i t order at, all_at (λ (x : Taped (Named WrittenBlock)). x.seen ≡ x.number) entries i t alone.seen at));
+          omega (arith, number_at laws number entries first (length jobs) i t order at, all_at (λ (x : Taped (Named WrittenBlock)). x.seen ≡ x.number) entries i t alone.seen at));
     }
 
 -- jobs of which workers make something are shared
@@ -122,8 +122,12 @@ cut_same xs first count seen m from within =
     ∙ ap (take m) (drop-drop a first xs) ∙ ap (λ (n : ℕ). take m (drop n xs)) here
 
 sizes_same : (p : Plan) → IsPlan p → map size_of p.jobs ≡ map (λ (b : Block). bytes_in b.pieces) p.blocks
-sizes_same p plan = same_items size_of (λ (b : Block). bytes_in b.pieces) p.jobs p.blocks plan.all (λ i j b at there.
-    ap (λ (x : Block). bytes_in x.pieces) (some_same j.block.now b (sym (plan.each i j at).block_is ∙ there)))
+sizes_same p plan =
+    let size : Block → ℕ = λ b. bytes_in b.pieces in
+    same_gets (map size_of p.jobs) (map size p.blocks) (length-map p.jobs size_of ∙ plan.all ∙ sym (length-map p.blocks size)) (λ i lt. elim (slice_get_cases p.jobs i).1 [
+      | inl there ↦ slice_get-map size_of p.jobs i ∙ ap (option_map size_of) there.2 ∙ sym (slice_get-map size p.blocks i ∙ ap (option_map size) (plan.each i there.0 there.2).block_is)
+      | inr past ↦ absurd (omega (arith, past.0, lt, length-map p.jobs size_of))
+    ])
 
 round_sizes : (p : Plan) (first count : ℕ) (jobs : List Job) → IsPlan p → jobs ≡ take count (drop first p.jobs) → map size_of jobs ≡ take count (drop first (map (λ (b : Block). bytes_in b.pieces) p.blocks))
 round_sizes p first count jobs plan is =
@@ -149,10 +153,10 @@ jobs_asked p first count jobs plan is inside i j at =
     let there : slice_get p.jobs (first + i) ≡ Some j = sym (get_take count (drop first p.jobs) i below ∙ get_drop first p.jobs i (first + i) refl) ∙ here in
     record { numbered = (plan.each (first + i) j there).number_is; asked = (plan.each (first + i) j there).asked }
 
-module _ (p : Plan) (work : Work) (first count : ℕ) (jobs : List Job) (entries : List (Taped (Named WrittenBlock))) (plan : IsPlan p) (is : jobs ≡ take count (drop first p.jobs)) (all : length jobs ≡ count)
+module _ (laws : NumberLaws) (p : Plan) (work : Work) (first count : ℕ) (jobs : List Job) (entries : List (Taped (Named WrittenBlock))) (plan : IsPlan p) (is : jobs ≡ take count (drop first p.jobs)) (all : length jobs ≡ count)
     (inside : first + count ≤ length p.jobs) (tape : IsTapeFrom jobs first work entries) where
   answers_count : length entries ≡ count
-  answers_count = long first (length jobs) (λ (t : Taped (Named WrittenBlock)). t.number) entries tape.order ∙ all
+  answers_count = length_numbered laws (λ (t : Taped (Named WrittenBlock)). t.number) entries first (length jobs) tape.order ∙ all
 
   pub answers_of : AreOfBlocks p first count entries
   answers_of = record { count_is = answers_count; answers = tape.answers ∙ ap (map answer_of) is }
@@ -164,7 +168,7 @@ module _ (p : Plan) (work : Work) (first count : ℕ) (jobs : List Job) (entries
     answers = tape.answers ∙ ap (map answer_of) is ∙ ap (λ (n : ℕ). map answer_of (take n (drop first p.jobs))) (sym answers_count);
     workers = tape.workers;
     seen = all_from (λ (t : Taped (Named WrittenBlock)). Within (setup_of work p.blocks) t.seen t.number) entries (λ i t at.
-        let number : t.number ≡ first + i = number_at (λ (x : Taped (Named WrittenBlock)). x.number) entries first (length jobs) i t tape.order at in
+        let number : t.number ≡ first + i = number_at laws (λ (x : Taped (Named WrittenBlock)). x.number) entries first (length jobs) i t tape.order at in
         within_run p work first count t.seen t.number jobs plan is (all_at (λ (x : Taped (Named WrittenBlock)). first ≤ x.seen) entries i t tape.from at)
         (omega (arith, number, slice_get_within entries i t at, answers_count))
         (all_at (λ (x : Taped (Named WrittenBlock)). Within (bounds first work.window work.most jobs) x.seen x.number) entries i t tape.within at));
@@ -177,9 +181,9 @@ tape_none work blocks = record { order = refl; few = omega arith; workers = All-
 pub first_tape : (p : Plan) (work : Work) (tape : List TapeEntry) → tape ≡ [] → HasTape p work 0 tape
 first_tape p work tape none = subst (HasTape p work 0) (sym none) (record { of = tape_none work p.blocks; long = refl })
 
-pub tapes_on : (p : Plan) (work : Work) (first next : ℕ) (entries : List (Taped (Named WrittenBlock))) (more : List TapeEntry) → IsPlan p → AreAnswers p work first entries → next ≡ first + length entries
+pub tapes_on : NumberLaws → (p : Plan) (work : Work) (first next : ℕ) (entries : List (Taped (Named WrittenBlock))) (more : List TapeEntry) → IsPlan p → AreAnswers p work first entries → next ≡ first + length entries
     → more ≡ map entry_of entries → TapesOn p work first next more
-tapes_on p work first next entries more plan are count is tape so_far =
+tapes_on laws p work first next entries more plan are count is tape so_far =
     let number : TapeEntry → ℕ = λ t. t.number in
     let long_is : length more ≡ length entries = ap length is ∙ length-map entries entry_of in
     let all : length (tape ++ more) ≡ length tape + length more = length-append tape more in
@@ -189,7 +193,7 @@ tapes_on p work first next entries more plan are count is tape so_far =
     record {
       of = record {
         order = map-append number tape more ∙ ap (λ (ns : List ℕ). ns ++ map number more) so_far.of.order ∙ ap (λ (ns : List ℕ). numbers 0 (length tape) ++ ns) (here ∙ ap (λ (n : ℕ). numbers n (length entries)) begins)
-            ∙ numbers_then 0 (length tape) (length entries) ∙ ap (numbers 0) ends;
+            ∙ laws.more 0 (length tape) (length entries) ∙ ap (numbers 0) ends;
         few = omega (arith, all, long_is, so_far.long, are.within, plan.all);
         workers = All-append (λ (t : TapeEntry). t.worker < work.threads) tape more so_far.of.workers
             (subst (λ (ts : List TapeEntry). All (λ (t : TapeEntry). t.worker < work.threads) ts) (sym is) (All-map (λ (t : TapeEntry). t.worker < work.threads) entry_of entries are.workers));
@@ -199,11 +203,6 @@ tapes_on p work first next entries more plan are count is tape so_far =
       };
       long = omega (arith, all, long_is, so_far.long, count);
     }
-
-pub tapes_as : (p : Plan) (work : Work) (first next last : ℕ) (entries more : List TapeEntry) → last ≡ next → more ≡ entries → TapesOn p work first next entries → TapesOn p work first last more
-tapes_as p work first next last entries more place is on =
-    let there : TapesOn p work first last entries = subst (λ (n : ℕ). TapesOn p work first n entries) (sym place) on in
-    subst (TapesOn p work first last) (sym is) there
 
 pub whole_tape : (p : Plan) (work : Work) (tile block : ℕ) (tape : List TapeEntry) → IsPlan p → IsPlace p tile block → tile_number p.stream.siz ≤ tile → HasTape p work block tape
     → length tape ≡ length p.blocks

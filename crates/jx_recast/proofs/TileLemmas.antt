@@ -4,13 +4,12 @@ use Rattle.std.specs.List.{All, slice_get}
 use Rattle.std.specs.Option.{option_map}
 use Rattle.std.proofs.lemmas.Bool.{cases_Bool, cond-false, cond-true, eqb-true}
 use Rattle.std.proofs.lemmas.List.{take_all}
-use Rattle.std.proofs.lemmas.List.Elements.{All-cons, All-head, All-tail}
-use Rattle.std.proofs.lemmas.Option.{get_or_from_slice_get, slice_get-map, slice_get_cases, slice_get_within}
+use Rattle.std.proofs.lemmas.List.Elements.{All-cons, All-head, All-nil, All-tail}
+use Rattle.std.proofs.lemmas.Option.{none-some, same_Some, slice_get-map, slice_get_cases, slice_get_within}
 use Rattle.jx_base.specs.declared.pieces.Block.{Block}
 use Rattle.jx_base.specs.declared.style.Style.{Style}
 use Rattle.jx_base.specs.Pieces.{PieceValue}
 use Rattle.jx_base.specs.Sound.{IsSound}
-use Rattle.jx_base.proofs.Lists.{none_some, some_same}
 use Rattle.jx_block.specs.declared.LayerEnd.{LayerEnd}
 use Rattle.jx_block.specs.declared.job.Job.{Job}
 use Rattle.jx_block.specs.Jobs.{IsAsked}
@@ -26,20 +25,11 @@ use Rattle.jx_assemble.specs.Tile.{AreMade, AreValuesOf, IsMade, StandIn, block_
 use Rattle.jx_recast.specs.MadeRounds.{AreOfBlocks, IsFirstUnmade, IsUnmadeAs}
 use Rattle.jx_recast.specs.Rewritten.{IsWrongBlock}
 use Rattle.jx_recast.specs.Rounds.{IsRightTile, IsWrongTile, blocks_of}
+use Rattle.jx_base.proofs.Lists.{all_at}
 
 -- ---- an item and all items
-pub all_at : {X : Type 0} (P : X → Type 0) (xs : List X) (i : ℕ) (x : X) → All P xs → slice_get xs i ≡ Some x → P x
-all_at P xs i x each is = subst P (get_or_from_slice_get xs i x x is) (each i x (slice_get_within xs i x is))
-
-all_none : {X : Type 0} (P : X → Type 0) → All P []
-all_none P = λ k d lt. absurd (omega (arith, lt))
-
-pub all_from : {X : Type 0} (P : X → Type 0) (xs : List X) → ((i : ℕ) (x : X) → slice_get xs i ≡ Some x → P x) → All P xs
-all_from P [] each = all_none P
-all_from P (x ∷ xs) each = All-cons P x xs (each 0 x refl) (all_from P xs (λ i y is. each (suc i) y is))
-
 all_mapped : {X Y : Type 0} (P : Y → Type 0) (f : X → Y) (xs : List X) → ((i : ℕ) (x : X) → slice_get xs i ≡ Some x → P (f x)) → All P (map f xs)
-all_mapped P f [] each = all_none P
+all_mapped P f [] each = All-nil P
 all_mapped P f (x ∷ xs) each = All-cons P (f x) (map f xs) (each 0 x refl) (all_mapped P f xs (λ i y is. each (suc i) y is))
 
 mapped_at : {X Y : Type 0} (f : X → Y) (xs : List X) (i : ℕ) (x : X) → slice_get xs i ≡ Some x → slice_get (map f xs) i ≡ Some (f x)
@@ -72,10 +62,10 @@ own_at p number j plan there =
 
 -- ---- pieces lie in the layers that end
 pub in_layers : (n : ℕ) (ps : List PieceValue) → All (λ (e : LayerEnd). e.layer < n) (layer_ends ps) → All (λ (q : PieceValue). q.layer < n) ps
-in_layers n [] each = all_none (λ (q : PieceValue). q.layer < n)
+in_layers n [] each = All-nil (λ (q : PieceValue). q.layer < n)
 in_layers n (p ∷ []) each =
     let here : p.layer < n = All-head (λ (e : LayerEnd). e.layer < n) (record { layer = p.layer; passes = p.first + p.passes }) [] each in
-    All-cons (λ (q : PieceValue). q.layer < n) p [] here (all_none (λ (q : PieceValue). q.layer < n))
+    All-cons (λ (q : PieceValue). q.layer < n) p [] here (All-nil (λ (q : PieceValue). q.layer < n))
 in_layers n (p ∷ q ∷ ps) each =
     let P : LayerEnd → Type 0 = λ e. e.layer < n in
     let Q : PieceValue → Type 0 = λ x. x.layer < n in
@@ -106,7 +96,7 @@ asked_is p number j own = ap (λ (s : Option Style). recoding j.block.now s j.en
 right_at : BlockLaws → (p : Plan) (number : ℕ) (j : Job) (r : Recoding) → IsOwn p number j → recoding_in j ≡ Some r → IsWrongBlock p.wanted (slice_get p.blocks number) → ⊥
 right_at laws p number j r own is wrong =
     let here : is_wrong p.wanted.style j.block.now ≡ true = subst (IsWrongBlock p.wanted) own.stands wrong in
-    none_some r (sym (laws.wrong p.wanted.style j.block.now j.ends here) ∙ sym (asked_is p number j own) ∙ is)
+    none-some r (sym (laws.wrong p.wanted.style j.block.now j.ends here) ∙ sym (asked_is p number j own) ∙ is)
 
 wrong_at : BlockLaws → (p : Plan) (number : ℕ) (j : Job) → IsOwn p number j → recoding_in j ≡ None → IsWrongBlock p.wanted (slice_get p.blocks number)
 wrong_at laws p number j own none =
@@ -142,8 +132,8 @@ record IsAnswerAt (p : Plan) (number : ℕ) (t : Taped (Named WrittenBlock)) : T
   pub answer : t.named ≡ answer_of job
 
 some_mapped : {X Y : Type 0} (f : X → Y) (o : Option X) (y : Y) → option_map f o ≡ Some y → (x : X) × (o ≡ Some x) × (y ≡ f x)
-some_mapped f None y e = absurd (none_some y e)
-some_mapped f (Some x) y e = (x, refl, sym (some_same (f x) y e))
+some_mapped f None y e = absurd (none-some y e)
+some_mapped f (Some x) y e = (x, refl, sym (same_Some (f x) y e))
 
 answer_at : (p : Plan) (first count i : ℕ) (entries : List (Taped (Named WrittenBlock))) (t : Taped (Named WrittenBlock)) → AreOfBlocks p first count entries → slice_get entries i ≡ Some t
     → IsAnswerAt p (first + i) t
@@ -190,10 +180,10 @@ record IsMadeAt (entries : List (Taped (Named WrittenBlock))) (i : ℕ) (r : Wri
   pub made : entry.named ≡ Made r
 
 made_at : (entries : List (Taped (Named WrittenBlock))) (i : ℕ) (r : WrittenBlock) → AreMade entries → slice_get (made_in entries) i ≡ Some r → IsMadeAt entries i r
-made_at [] i r each is = absurd (none_some r is)
+made_at [] i r each is = absurd (none-some r is)
 made_at (t ∷ ts) zero r each is =
     let first = made_rest t ts each in
-    let same : first.0 ≡ r = some_same first.0 r (sym (ap (λ (xs : List WrittenBlock). slice_get xs 0) first.2) ∙ is) in
+    let same : first.0 ≡ r = same_Some first.0 r (sym (ap (λ (xs : List WrittenBlock). slice_get xs 0) first.2) ∙ is) in
     record { entry = t; there = refl; made = first.1 ∙ ap Made same }
 made_at (t ∷ ts) (suc i) r each is =
     let first = made_rest t ts each in

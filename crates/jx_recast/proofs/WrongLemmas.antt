@@ -1,10 +1,9 @@
 -- A tile's code-blocks of which a segmentation symbol is wrong: whether there are any, and the lowest one.
-use Rattle.std.proofs.Common.{◌≡◌, ◌∙◌, ◌⊎◌, ◌<◌, ◌≤◌, ◌+◌, ℕ, zero, suc, true, false, List, length, slice_index_or, refl, ap, sym, subst, arith, inl, inr, Option, None, Some, slice_get}
+use Rattle.std.proofs.Common.{◌≡◌, ◌∙◌, ◌⊎◌, ◌<◌, ◌≤◌, ◌+◌, ℕ, zero, suc, true, false, List, length, slice_index_or, refl, sym, subst, arith, inl, inr, Option, None, Some, slice_get}
 use Rattle.std.specs.List.{All}
 use Rattle.std.proofs.lemmas.Bool.{cases_Bool, cases_eq, cases_lt}
 use Rattle.std.proofs.lemmas.Option.{get_or_from_slice_get, slice_get-get_or, slice_get_within}
 use Rattle.jx_base.specs.declared.pieces.Block.{Block}
-use Rattle.jx_base.specs.declared.style.Style.{Style}
 use Rattle.jx_base.specs.Joined.{sum_below}
 use Rattle.jx_block.specs.Written.{is_wrong}
 use Rattle.jx_geom.specs.Numbering.{blocks_below}
@@ -12,9 +11,9 @@ use Rattle.jx_stream.specs.declared.Stream.{Stream}
 use Rattle.jx_stream.specs.First.{canvas_of, tile_number}
 use Rattle.jx_stream.specs.Shapes.{shapes_of}
 use Rattle.jx_gather.specs.Totals.{block_total}
-use Rattle.jx_gather.proofs.TotalLemmas.{blocks_are}
 use Rattle.jx_plan.specs.Wanted.{Wanted}
 use Rattle.jx_recast.specs.Rewritten.{IsRight, IsWrongAt, IsWrongBlock, blocks_in_tile, first_in_tile}
+use Rattle.jx_recast.proofs.FrontLemmas.{blocks_are}
 
 -- ---- the first of some numbers of which something holds
 pub record IsFirstFrom (P : ℕ → Type 0) (low count number : ℕ) : Type 0 where
@@ -96,13 +95,3 @@ right_in_all w s blocks t each n from below wrong = here (slice_get blocks n) re
         let same : slice_index_or blocks n b ≡ b = get_or_from_slice_get blocks n b b e in
         let clear : is_wrong w.style b ≡ false = subst (λ (x : Block). is_wrong w.style x ≡ false) same right in
         cc
-
--- ---- without a style no block is coded anew, so none is wrong
-never_wrong : (w : Wanted) (o : Option Block) → w.style ≡ None → IsWrongBlock w o → ⊥
-never_wrong w None none never = never
-never_wrong w (Some b) none wrong =
-    let clear : is_wrong w.style b ≡ false = ap (λ (asked : Option Style). is_wrong asked b) none in
-    cc
-
-pub kept_blocks_are_right : (w : Wanted) (s : Stream) (blocks : List Block) (t : ℕ) → w.style ≡ None → IsRight w s blocks t
-kept_blocks_are_right w s blocks t none n from below wrong = never_wrong w (slice_get blocks n) none wrong

@@ -15,6 +15,7 @@ use jx_base::{NoMemory, Piece};
 use jx_block::{BlockFault, Job, Recoded, recode};
 use jx_outside::Gate;
 use jx_pool::{Tape, recode_all};
+use jx_store::laws::numbers_count_up;
 use jx_store::{Claim, Entry, Named, Taped};
 use jx_words::Work;
 use std::alloc::Global;
@@ -152,7 +153,7 @@ fn made_by_workers<'a, R: Threads + Wait + Sync, G: Gate + Sync>(
 
 /// Makes of blocks what is asked of them, or finds that a segmentation symbol is wrong: by workers where one of them is coded anew and
 /// their pieces have at most 2^28 bytes, else one after another, by worker 0. `first` is the number of the first job.
-#[tactic(auto, using(crate::proofs::TapedLemmas::alone_is_tape, crate::proofs::TapedLemmas::shared_none))]
+#[tactic(auto, using(crate::proofs::TapedLemmas::shared_none))]
 pub fn made_blocks<'a, R: Threads + Wait + Sync, G: Gate + Sync>(
     crew: &Crew<'_, R, G>,
     alloc: Global,
@@ -165,6 +166,7 @@ pub fn made_blocks<'a, R: Threads + Wait + Sync, G: Gate + Sync>(
     ensures tape { IfOk result (λ entries. IsTapeFrom jobs.entry.now first crew.now.work entries.items) }
     ensures alone { IfOk result (λ entries. AreUnshared jobs.entry.now → AreMadeAlone jobs.entry.now entries.items) }
 {
+    numbers_count_up();
     if is_anew(jobs) && is_light(jobs) {
         return made_by_workers(crew, alloc, jobs, first);
     }

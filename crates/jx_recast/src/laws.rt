@@ -13,8 +13,8 @@ ghost use Rattle.jx_recast.specs.Outcome.{Verdict, most_bytes};
 
 use jx_assemble::laws::{one_output, written_is_ready};
 use jx_gather::laws::{never_both, one_gathering, one_of_both, one_violation};
-use jx_make::laws::made_is_well_formed;
-use jx_plan::laws::{gathered_may_be_planned, one_answer};
+use jx_make::laws::{made_blocks_are_plain, made_geometry, made_is_well_formed};
+use jx_plan::laws::{gathered_may_be_planned, groups_are_cut, kept_precincts_fit, one_answer};
 use jx_stream::laws::{one_first, one_stream, violated_or_spelled};
 
 /// An input has at most one verdict.
@@ -28,6 +28,7 @@ pub fn one_verdict()
     one_gathering();
     never_both();
     one_answer();
+    one_output();
 }
 
 /// An input has a verdict, where the planners make 1 to 65,535 layers.
@@ -56,6 +57,7 @@ pub fn made_is_accepted()
     one_gathering();
     never_both();
     one_answer();
+    one_output();
 }
 
 /// A generated codestream, with the options of `make` and planners that make 1 to 65,535 layers: no limit is passed, no code-block is wrong, and
@@ -68,6 +70,11 @@ pub fn made_is_planned()
     ensures blocks { (rule : List ℕ → StreamFacts → Option Rule) (m : Make) (number : ℕ) → MayBeMade m → Verdict (aim_made rule) (input_of m) (status.Block number) → ⊥ }
 {
     made_is_well_formed();
+    made_blocks_are_plain();
+    made_geometry();
+    gathered_may_be_planned();
+    kept_precincts_fit();
+    groups_are_cut();
     one_stream();
     one_first();
     violated_or_spelled();
@@ -75,4 +82,5 @@ pub fn made_is_planned()
     one_gathering();
     never_both();
     one_answer();
+    one_output();
 }

@@ -16,11 +16,11 @@ use crate::device::MOST;
 use crate::file::write_file;
 use crate::halt::Halt;
 use crate::{Status, TapeEntry};
-use jx_assemble::laws::rewritten_is_read;
+use jx_assemble::laws::{one_output, rewritten_is_read};
 use jx_gather::{Block, gather};
 use jx_layers::{LayerPlanner, shortened};
 use jx_outside::{Files, Gate};
-use jx_plan::laws::plans_write_these_blocks;
+use jx_plan::laws::{gathered_may_be_planned, plans_write_these_blocks};
 use jx_plan::{Options, OutStream, PlanFault, plan_served};
 use jx_stream::{Stream, StreamFault, read_stream};
 use std::alloc::Global;
@@ -151,6 +151,7 @@ fn write_blocks<R: Threads + Wait + Sync, G: Gate + Sync, F: Files>(
 {
     plans_write_these_blocks();
     rewritten_is_read();
+    one_output();
     match plan_served(alloc, stream, shortened(blocks), options, planners) {
         Ok(plan) => write_plan(crew, alloc, files, to, &plan),
         Err(fault) => unplanned_by(alloc, fault, blocks.len() as u32),
@@ -178,6 +179,7 @@ fn rewrite<R: Threads + Wait + Sync, G: Gate + Sync, F: Files>(
     ensures read { (result.status ≡ Status.ReadFault → ⊥) × (result.status ≡ Status.Words → ⊥) }
     ensures other { F.read_faults files.new ≡ F.read_faults files.old }
 {
+    gathered_may_be_planned();
     match gather(alloc, input, stream) {
         Ok(blocks) => write_blocks(crew, alloc, files, stream, &blocks, to, options, planners),
         Err(fault) => refused_by(alloc, fault),

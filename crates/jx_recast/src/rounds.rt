@@ -16,6 +16,7 @@ use jx_base::NoMemory;
 use jx_block::Recoded;
 use jx_outside::Gate;
 use jx_store::Entry;
+use jx_store::laws::numbers_count_up;
 use std::alloc::Global;
 use std::sync::Wait;
 use std::thread::Threads;
@@ -99,6 +100,7 @@ fn round_blocks<'a, R: Threads + Wait + Sync, G: Gate + Sync>(
     ensures tape { IfOk result (λ entries. TapesOn making.now crew.now.work first (first + count) (map entry_of entries.items)) }
     ensures of { IfOk result (λ entries. AreOfBlocks making.now first count entries.items) }
 {
+    numbers_count_up();
     let jobs = making.jobs_from(first, count);
     made_blocks(crew, alloc, jobs, first)
 }

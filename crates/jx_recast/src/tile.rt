@@ -45,7 +45,7 @@ fn first_unmade(entries: &[Entry<Recoded<'_>>]) -> Option<u32>
 }
 
 /// A tile of which all code-blocks are made, put together but for its coded bytes where it is alone in its round.
-fn packed<'a, 'b>(
+fn pack_made<'a, 'b>(
     alloc: Global,
     making: &Making<'a, '_>,
     tile: u16,
@@ -92,7 +92,7 @@ pub fn packed_tile<'a, 'b>(
     if let Some(number) = first_unmade(entries) {
         return Err(Halt::Bad { tile, number });
     }
-    match packed(alloc, making, tile, entries, alone) {
+    match pack_made(alloc, making, tile, entries, alone) {
         Ok(out) => Ok(out),
         Err(AssembleFault::TooLong) => Err(Halt::TooLong { tile }),
         Err(AssembleFault::NoMemory) => Err(Halt::NoMemory),

@@ -4,7 +4,7 @@ use Rattle.std.specs.Prelude.{Option, None, option_to_list}
 use Rattle.std.specs.Global.{Vec}
 use Rattle.std.specs.List.{sum_by}
 use Rattle.std.proofs.lemmas.Bool.{cases_eq, cases_lt}
-use Rattle.std.proofs.lemmas.List.{length-append}
+use Rattle.std.proofs.lemmas.List.{nil_from_length}
 use Rattle.std.proofs.lemmas.List.Sums.{sum_by-cons}
 use mathlib.Core.Option.{some}
 use lib.ListN.{get_elem?}
@@ -13,6 +13,7 @@ use Rattle.jx_store.specs.declared.event.Taped.{Taped}
 use Rattle.jx_store.specs.declared.work.Named.{Named}
 use Rattle.jx_store.specs.Setup.{Setup}
 use Rattle.jx_store.specs.Order.{numbers}
+use Rattle.jx_store.proofs.NumberLemmas.{length_numbers}
 use Rattle.jx_ring.specs.declared.view.Taken.{Taken}
 use Rattle.jx_ring.specs.declared.view.RingView.{RingView}
 use Rattle.jx_ring.specs.declared.view.Place.{Place}
@@ -27,17 +28,9 @@ use Rattle.jx_ring.proofs.Rolls.{claims_with}
 abbrev open_claim : Taken → ℕ
 open_claim t = cond (eqb t.kind 0) 1 0
 
-long_zero : {X : Type 0} (xs : List X) → length xs ≡ 0 → xs ≡ []
-long_zero [] e = refl
-long_zero (x ∷ xs) e = absurd (omega (arith, e))
-
-sum_ones : {X : Type 0} (xs : List X) → sum_by (λ _. 1) xs ≡ length xs
+pub sum_ones : {X : Type 0} (xs : List X) → sum_by (λ _. 1) xs ≡ length xs
 sum_ones [] = refl
 sum_ones (x ∷ xs) = (let c = sum_by-cons (λ (_ : _). 1) x xs in let below = sum_ones xs in omega (arith, c, below))
-
-pub long_numbers : (a n : ℕ) → length (numbers a n) ≡ n
-long_numbers a zero = refl
-long_numbers a (suc n) = (let l = length-append (numbers a n) ((a + n) ∷ []) in let below = long_numbers a n in omega (arith, l, below))
 
 finished_none : (xs : List Taken) → All (λ t. 0 < t.kind) xs → sum_by open_claim xs ≡ 0
 finished_none [] all = refl
@@ -63,9 +56,9 @@ module _ {V : Type 0} (p : Setup) (workers : ℕ) (Ok : ℕ → Named V → Type
       → (j : ℕ) (x : RingView) → get_elem? s.views j ≡ some x → j ≢ id → IsSpent x
   alone s r id v at all j x atx ne =
       let f : RingView → ℕ = λ (y : RingView). sum_by (λ (_ : ℕ). 1) y.stands in
-      let whole = r.roster.stand (λ _. 1) in let l = long_numbers 0 workers in let o = sum_ones (numbers 0 workers) in
+      let whole = r.roster.stand (λ _. 1) in let l = length_numbers 0 workers in let o = sum_ones (numbers 0 workers) in
       let both = sum_alone f s.views id j v x at atx ne in let mine = sum_ones v.stands in let his = sum_ones x.stands in
-      (r.roster.own j x atx).0 (long_zero x.stands (omega (arith, whole, l, o, both, mine, his, all)))
+      (r.roster.own j x atx).0 (nil_from_length x.stands (omega (arith, whole, l, o, both, mine, his, all)))
 
   odd_else : (d n k : ℕ) (c : Phase V) → k ≢ d → InPhase p Ok d n k c → odd c ≡ 0
   odd_else d n k free ne i = refl

@@ -3,16 +3,12 @@ use Rattle.std.proofs.Common.{◌≡◌, ℕ, zero, suc, ◌+◌, ◌-◌, ◌<�
 use mathlib.Core.List.{reverse-cons}
 use Rattle.std.proofs.lemmas.List.{map-append, reverse-append}
 use Rattle.jx_store.specs.Order.{numbers}
+use Rattle.jx_store.proofs.NumberLemmas.{numbers_first}
 use Rattle.jx_ring.specs.Rule.{counting_down}
 
 pub count_step : (n : ℕ) → 0 < n → counting_down n ≡ (n - 1) ∷ counting_down (n - 1)
 count_step zero pos = absurd (omega arith)
 count_step (suc n) pos = (let e : n ≡ suc n - 1 = omega arith in ap (λ (k : ℕ). k ∷ counting_down k) e)
-
--- a number before a list of them
-pub numbers_first : (a n : ℕ) → numbers a (suc n) ≡ a ∷ numbers (a + 1) n
-numbers_first a zero = (let e : a + 0 ≡ a = omega arith in ap (λ (k : ℕ). k ∷ []) e)
-numbers_first a (suc n) = (let e : a + suc n ≡ a + 1 + n = omega arith in ap (λ (l : List ℕ). l ++ (a + suc n) ∷ []) (numbers_first a n) ∙ ap (λ (k : ℕ). a ∷ (numbers (a + 1) n ++ k ∷ [])) e)
 
 pub map_reverse : {X Y : Type 0} (f : X → Y) (xs : List X) → map f (reverse xs) ≡ reverse (map f xs)
 map_reverse f [] = refl

@@ -23,8 +23,8 @@ use Rattle.jx_ring.specs.Rule.{Ring}
 use Rattle.jx_ring.specs.Closing.{IsLast, IsWhole, Shut}
 use Rattle.jx_ring.specs.Passes.{PassView}
 use Rattle.jx_ring.proofs.Looks.{half}
-use Rattle.jx_ring.proofs.Closes.{shuts}
-use Rattle.jx_ring.proofs.Dealing.{numbers_first}
+use Rattle.jx_ring.proofs.Closes.{shuts, sum_ones}
+use Rattle.jx_store.proofs.NumberLemmas.{numbers_first}
 
 pub numbered : {X : Type 0} (f : X → ℕ) (xs : List X) (a : ℕ) → ((i : ℕ) (x : X) → get_elem? xs i ≡ some x → f x ≡ a + i) → map f xs ≡ numbers a (length xs)
 numbered f [] a each = refl
@@ -37,10 +37,6 @@ pub slice_at : {X : Type 0} (xs : List X) (i : ℕ) (x : X) → slice_get xs i �
 slice_at [] i x at = absurd (none-some x at)
 slice_at (y ∷ ys) zero x at = ap some (same_Some y x at)
 slice_at (y ∷ ys) (suc i) x at = slice_at ys i x at
-
-pub ones : {X : Type 0} (xs : List X) → sum_by (λ _. 1) xs ≡ length xs
-ones [] = refl
-ones (x ∷ xs) = (let c = sum_by-cons (λ (_ : _). 1) x xs in let below = ones xs in omega (arith, c, below))
 
 pub sum_cong : {X : Type 0} (f g : X → ℕ) (xs : List X) → ((x : X) → f x ≡ g x) → sum_by f xs ≡ sum_by g xs
 sum_cong f g [] same = refl
@@ -137,7 +133,7 @@ module _ {V : Type 0} (p : Setup) (Ok : ℕ → Named V → Type 0) where
         within = λ i t at. (let e = w.ok.each i t (slice_at tape i t at) in subst (Within p t.seen) (sym e.number) e.within);
         valid = λ i t at. (let e = w.ok.each i t (slice_at tape i t at) in subst (λ (k : ℕ). Ok k t.named) (sym e.number) e.valid);
         same = same;
-        count = (let s = same (λ _. 1) in let l = ones (map taken tape) in let m = length-map tape taken in let c = sum_cong (λ (q : PassView). sum_by (λ (_ : Taken). 1) q.claims) (λ (q : PassView). length q.claims) passes (λ q. ones q.claims) in omega (arith, s, l, m, c));
+        count = (let s = same (λ _. 1) in let l = sum_ones (map taken tape) in let m = length-map tape taken in let c = sum_cong (λ (q : PassView). sum_by (λ (_ : Taken). 1) q.claims) (λ (q : PassView). length q.claims) passes (λ q. sum_ones q.claims) in omega (arith, s, l, m, c));
         by_whom = λ i t at. who passes tape i t same last.mine (slice_at tape i t at);
         whole = λ some_pass. (
             let a = last.next some_pass.0 some_pass.1 some_pass.2 in let e = ap (λ (q : PassView). q.next) some_pass.3 ∙ some_pass.4 in

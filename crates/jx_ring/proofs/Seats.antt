@@ -1,5 +1,5 @@
 -- The first view, the split of a seat and the join of two keep the rule.
-use Rattle.std.proofs.Common.{◌≡◌, ◌≢◌, ℕ, zero, suc, ◌+◌, ◌-◌, ◌*◌, ◌%◌, ◌<◌, ◌≤◌, ◌⊎◌, All, List, [], ◌∷◌, ◌++◌, length, get_or, take, drop, set, refl, sym, ap, subst, ◌∙◌, inl, inr, ⊎_elim, arith}
+use Rattle.std.proofs.Common.{◌≡◌, ◌≢◌, ℕ, zero, suc, ◌+◌, ◌-◌, ◌*◌, ◌%◌, ◌<◌, ◌≤◌, ◌⊎◌, List, [], ◌∷◌, ◌++◌, length, get_or, take, drop, set, refl, sym, ap, subst, ◌∙◌, inl, inr, ⊎_elim, arith}
 use Rattle.std.specs.Prelude.{Option, None, Contains, option_to_list, vec_capacity}
 use Rattle.std.specs.Global.{Vec}
 use Rattle.std.specs.List.{sum_by}
@@ -8,7 +8,7 @@ use Rattle.std.proofs.lemmas.Nat.{mod_below}
 use Rattle.std.proofs.lemmas.Option.{none-some}
 use Rattle.std.proofs.lemmas.List.{length-map}
 use Rattle.std.proofs.lemmas.List.Sums.{sum_by-cons, sum_by-append, sum_by_push}
-use Rattle.std.proofs.lemmas.List.Elements.{All-append, Contains-append_left}
+use Rattle.std.proofs.lemmas.List.Elements.{All-append, All-nil, Contains-append_left}
 use mathlib.Core.Option.{some, some-injective, some-ne-none}
 use lib.ListN.{get_elem?}
 use Rattle.atomic_table.specs.Table.{Splits, Joins, opening}
@@ -27,6 +27,7 @@ use Rattle.jx_ring.specs.Passes.{Blank, Row}
 use Rattle.jx_ring.proofs.Counts.{sum_set, sum_same}
 use Rattle.jx_ring.proofs.Cells.{looked}
 use Rattle.jx_ring.proofs.Rolls.{claims_with}
+use Rattle.jx_base.proofs.Lists.{contains_none}
 
 pub counts_down : (F : ℕ → ℕ) (n : ℕ) → sum_by F (counting_down n) ≡ sum_by F (numbers 0 n)
 counts_down F zero = refl
@@ -36,12 +37,6 @@ pub ends_at_zero : (n : ℕ) → 0 < n → Contains (counting_down n) 0
 ends_at_zero zero pos = absurd (omega arith)
 ends_at_zero (suc zero) pos = (0, omega arith, refl)
 ends_at_zero (suc (suc n)) pos = (let below = ends_at_zero (suc n) (omega arith) in let lt = below.1 in (suc below.0, omega (arith, lt), below.2))
-
-no_item : {X : Type 0} (x : X) → Contains [] x → ⊥
-no_item x c = (let lt = c.1 in omega (arith, lt))
-
-all_none : {X : Type 0} (P : X → Type 0) → All P []
-all_none P k d lt = absurd (omega (arith, lt))
 
 pub first_nil : {X : Type 0} (xs ys : List X) → xs ++ ys ≡ [] → xs ≡ []
 first_nil [] ys e = refl
@@ -97,7 +92,7 @@ module _ {V : Type 0} (p : Setup) (workers : ℕ) (Ok : ℕ → Named V → Type
         committed = λ k e. absurd (none-some k e);
         holds = λ k e. absurd (none-some k e);
         drains = λ k e. absurd (none-some k e);
-        finished = all_none (λ (t : Taken). 0 < t.kind);
+        finished = All-nil (λ (t : Taken). 0 < t.kind);
       })
       go (suc j) x at = absurd (some-ne-none x (sym at))
 
@@ -116,7 +111,7 @@ module _ {V : Type 0} (p : Setup) (workers : ℕ) (Ok : ℕ → Named V → Type
       let rest_is : left.stands ≡ more = ap (drop 1) list in let one_is : right.stands ≡ k ∷ [] = ap (take 1) list in let me_is : right.worker ≡ k = ap (λ (l : List ℕ). get_or l 0 0) list in
       let mine : Knows d n ph r.tape id left = record { drained = known.drained; next = known.next; committed = known.committed; holds = known.holds; drains = known.drains; finished = known.finished } in
       let Q = looked p Ok d n id ph r.tape s.words s.homes s.views left P mine in
-      let fresh : (j : ℕ) → Knows d n ph r.tape j right = λ j. record { drained = known.drained; next = known.next; committed = known.committed; holds = λ t e. absurd (none-some t e); drains = λ l e. absurd (none-some l e); finished = all_none (λ (t : Taken). 0 < t.kind) } in
+      let fresh : (j : ℕ) → Knows d n ph r.tape j right = λ j. record { drained = known.drained; next = known.next; committed = known.committed; holds = λ t e. absurd (none-some t e); drains = λ l e. absurd (none-some l e); finished = All-nil (λ (t : Taken). 0 < t.kind) } in
       record {
         drained = d;
         next = n;
@@ -150,7 +145,7 @@ module _ {V : Type 0} (p : Setup) (workers : ℕ) (Ok : ℕ → Named V → Type
           own = λ j x e. ⊎_elim
               (λ (y : get_elem? (set s.views id left) j ≡ some x). ⊎_elim
               (λ (z : (j ≡ id) × (left ≡ x)). subst (λ (u : RingView). (u.stands ≡ [] → IsSpent u) × ((u.stands ≡ []) ⊎ Contains u.stands u.worker)) z.1
-              ((λ no. absurd (no_item v.worker (subst (λ (l : List ℕ). Contains l v.worker) (sym rest_is ∙ no) own))), inr (subst (λ (l : List ℕ). Contains l v.worker) (sym rest_is) own)))
+              ((λ no. absurd (contains_none v.worker (subst (λ (l : List ℕ). Contains l v.worker) (sym rest_is ∙ no) own))), inr (subst (λ (l : List ℕ). Contains l v.worker) (sym rest_is) own)))
               (λ (z : (j ≢ id) × (get_elem? s.views j ≡ some x)). r.roster.own j x z.1)
               (at_set s.views id j left x y))
               (λ (y : right ≡ x). subst (λ (u : RingView). (u.stands ≡ [] → IsSpent u) × ((u.stands ≡ []) ⊎ Contains u.stands u.worker)) y
@@ -176,7 +171,7 @@ module _ {V : Type 0} (p : Setup) (workers : ℕ) (Ok : ℕ → Named V → Type
         drains = λ l e. absurd (none-some l e);
         finished = All-append (λ (t : Taken). 0 < t.kind) v.done w.done known.finished known'.finished;
       } in
-      let gone : Knows d n ph r.tape other spent_view = record { drained = omega arith; next = omega arith; committed = λ t e. absurd (none-some t e); holds = λ t e. absurd (none-some t e); drains = λ l e. absurd (none-some l e); finished = all_none (λ (t : Taken). 0 < t.kind) } in
+      let gone : Knows d n ph r.tape other spent_view = record { drained = omega arith; next = omega arith; committed = λ t e. absurd (none-some t e); holds = λ t e. absurd (none-some t e); drains = λ l e. absurd (none-some l e); finished = All-nil (λ (t : Taken). 0 < t.kind) } in
       record {
         drained = d;
         next = n;

@@ -1,5 +1,5 @@
 -- What lies where in a closed table.
-use Rattle.std.proofs.Common.{◌≡◌, ℕ, ◌+◌, ◌%◌, ◌<◌, ◌≤◌, List, [], ◌∷◌, length, refl, sym, ap, ◌∙◌, inl, inr, arith}
+use Rattle.std.proofs.Common.{◌≡◌, ℕ, ◌+◌, ◌%◌, ◌<◌, ◌≤◌, List, sym, ap, ◌∙◌, inl, inr, arith}
 use Rattle.std.specs.Global.{Vec}
 use Rattle.std.proofs.lemmas.Bool.{cases_lt}
 use mathlib.Core.Option.{some, some-injective}
@@ -12,10 +12,6 @@ use Rattle.jx_ring.specs.declared.view.Place.{Place}
 use Rattle.jx_ring.specs.declared.view.Place.TheVariants.{Empty, Full, Tape}
 use Rattle.jx_ring.specs.Closing.{Shut}
 use Rattle.jx_ring.proofs.Gathers.{other_place}
-
-pub nil_of : {X : Type 0} (xs : List X) → length xs ≡ 0 → xs ≡ []
-nil_of [] e = refl
-nil_of (x ∷ xs) e = absurd (omega (arith, e))
 
 module _ {V : Type 0} where
   abbrev tape_in : Vec (Taped (Named V)) → Place V → Vec (Taped (Named V))

@@ -3,7 +3,7 @@ use Rattle.std.proofs.Common.{◌≡◌, ◌≢◌, ℕ, ◌+◌, ◌-◌, ◌%�
 use Rattle.std.specs.Prelude.{Option, Some, None, slice_get}
 use Rattle.std.proofs.Math.Path.{fun_ext}
 use Rattle.std.proofs.lemmas.Bool.Decides.{nat_tests}
-use Rattle.std.proofs.lemmas.Bool.{cases_lt}
+use Rattle.std.proofs.lemmas.Bool.{cases_lt, eqb-true}
 use Rattle.jx_store.specs.declared.event.Event.TheVariants.{Claim, Commit, Drain}
 use Rattle.jx_store.specs.declared.event.Slot.{Slot}
 use Rattle.jx_store.specs.declared.event.Slot.TheVariants.{Empty, Held, Parked}
@@ -22,9 +22,6 @@ unchanged : {X : Type 0} (b : Bool) (x y : X) → (b ≡ true → y ≡ x) → c
 unchanged true x y e = sym (e refl)
 unchanged false x y e = refl
 
-none_there : (k n : ℕ) → (k == n) ≡ true → k ≡ n
-none_there k n e = grind (arith, nat_tests)
-
 -- the numbers of a core, as its invariant keeps them
 pub record Fits {V : Type 0} (c : Shown V) : Type 0 where
   pub some : 0 < c.setup.window
@@ -41,7 +38,7 @@ module _ {V : Type 0} where
       let held : (λ (k : ℕ). held_in (slot_of c.drained (c.next + 1) c.setup.window (set c.slots (c.next % c.setup.window) (Held w c.drained)) k)) ≡ put s.held c.next (Some (record { worker = w; seen = c.drained })) =
       fun_ext (λ k. ap held_in (at k) ∙ through held_in (k == c.next) _ _) in
       let parked : (λ (k : ℕ). parked_in (slot_of c.drained (c.next + 1) c.setup.window (set c.slots (c.next % c.setup.window) (Held w c.drained)) k)) ≡ s.parked =
-      fun_ext (λ k. ap parked_in (at k) ∙ through parked_in (k == c.next) _ _ ∙ unchanged (k == c.next) None (s.parked k) (λ e. ap parked_in (slot_out c.drained c.next c.setup.window c.slots k (inr (let i = none_there k c.next e in omega arith))))) in
+      fun_ext (λ k. ap parked_in (at k) ∙ through parked_in (k == c.next) _ _ ∙ unchanged (k == c.next) None (s.parked k) (λ e. ap parked_in (slot_out c.drained c.next c.setup.window c.slots k (inr (let i = eqb-true k c.next e in omega arith))))) in
       cc
 
   pub commits : (c : Shown V) (w k seen : ℕ) (v : V) → Fits c → c.drained ≤ k → k < c.next → slice_get c.slots (k % c.setup.window) ≡ Some (Held w seen)
@@ -63,7 +60,7 @@ module _ {V : Type 0} where
       let at : (j : ℕ) → slot_of (c.drained + 1) c.next c.setup.window (set c.slots (c.drained % c.setup.window) Empty) j ≡ cond (j == c.drained) None (slot_of c.drained c.next c.setup.window c.slots j) = λ j. slot_drained c.drained c.next c.setup.window c.slots Empty j f.some f.slots f.near some in
       let here : slot_of c.drained c.next c.setup.window c.slots c.drained ≡ Some (Parked w seen v) = slot_in c.drained c.next c.setup.window c.slots c.drained (omega arith) some ∙ is in
       let held : (λ (j : ℕ). held_in (slot_of (c.drained + 1) c.next c.setup.window (set c.slots (c.drained % c.setup.window) Empty) j)) ≡ s.held =
-      fun_ext (λ j. ap held_in (at j) ∙ through held_in (j == c.drained) _ _ ∙ unchanged (j == c.drained) None (s.held j) (λ e. ap s.held (none_there j c.drained e) ∙ ap held_in here)) in
+      fun_ext (λ j. ap held_in (at j) ∙ through held_in (j == c.drained) _ _ ∙ unchanged (j == c.drained) None (s.held j) (λ e. ap s.held (eqb-true j c.drained e) ∙ ap held_in here)) in
       let parked : (λ (j : ℕ). parked_in (slot_of (c.drained + 1) c.next c.setup.window (set c.slots (c.drained % c.setup.window) Empty) j)) ≡ put s.parked c.drained None =
       fun_ext (λ j. ap parked_in (at j) ∙ through parked_in (j == c.drained) _ _) in
       cc

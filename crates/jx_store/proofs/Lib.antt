@@ -11,3 +11,4 @@ pub mod Replays
 pub mod Made
 pub mod Below
 pub mod Deals
+pub mod NumberLemmas

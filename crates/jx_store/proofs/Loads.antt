@@ -4,12 +4,9 @@ use Rattle.std.specs.Prelude.{Some, slice_get}
 use Rattle.std.specs.List.{sum}
 use Rattle.std.proofs.Math.Seq.{take-suc}
 use Rattle.std.proofs.lemmas.Option.{same_Some}
-use Rattle.std.proofs.lemmas.List.Sums.{sum_by-cons, sum_by_more, sum_by_more_le}
+use Rattle.std.proofs.lemmas.List.Sums.{sum_by-cons, sum_by_more}
 use Rattle.jx_store.specs.Setup.{Setup, load}
 use Rattle.jx_store.specs.Shown.{sums_from, gaps_from, items_of}
-
-sum_cons : (x : ℕ) (xs : List ℕ) → sum (x ∷ xs) ≡ x + sum xs
-sum_cons x xs = sum_by-cons (λ (y : ℕ). y) x xs
 
 gaps_of_sums : (a b : ℕ) (xs : List ℕ) → gaps_from a (sums_from (a + b) xs) ≡ b ∷ xs
 gaps_of_sums a b [] = (let e : a + b - a ≡ b = omega arith in ap (λ (x : ℕ). x ∷ []) e)
@@ -22,13 +19,13 @@ items_of_sums a (x ∷ xs) = gaps_of_sums a x xs
 
 pub sums_push : (a : ℕ) (xs : List ℕ) (x : ℕ) → sums_from a (xs ++ x ∷ []) ≡ sums_from a xs ++ (a + sum xs + x) ∷ []
 sums_push a [] x = (let e : a + x ≡ a + sum [] + x = omega arith in ap (λ (y : ℕ). a ∷ y ∷ []) e)
-sums_push a (y ∷ ys) x = (let c = sum_cons y ys in let e : a + y + sum ys + x ≡ a + sum (y ∷ ys) + x = omega (arith, c) in ap (λ (l : List ℕ). a ∷ l) (sums_push (a + y) ys x ∙ ap (λ (z : ℕ). sums_from (a + y) ys ++ z ∷ []) e))
+sums_push a (y ∷ ys) x = (let c = sum_by-cons (λ (y : ℕ). y) y ys in let e : a + y + sum ys + x ≡ a + sum (y ∷ ys) + x = omega (arith, c) in ap (λ (l : List ℕ). a ∷ l) (sums_push (a + y) ys x ∙ ap (λ (z : ℕ). sums_from (a + y) ys ++ z ∷ []) e))
 
 pub sums_at : (a : ℕ) (xs : List ℕ) (i : ℕ) → i ≤ length xs → slice_get (sums_from a xs) i ≡ Some (a + sum (take i xs))
 sums_at a [] zero le = ap Some (omega arith)
 sums_at a [] (suc i) le = absurd (omega arith)
 sums_at a (x ∷ xs) zero le = ap Some (omega arith)
-sums_at a (x ∷ xs) (suc i) le = (let c = sum_cons x (take i xs) in sums_at (a + x) xs i (omega arith) ∙ ap Some (omega (arith, c)))
+sums_at a (x ∷ xs) (suc i) le = (let c = sum_by-cons (λ (y : ℕ). y) x (take i xs) in sums_at (a + x) xs i (omega arith) ∙ ap Some (omega (arith, c)))
 
 pub sums_length : (a : ℕ) (xs : List ℕ) → length (sums_from a xs) ≡ length xs + 1
 sums_length a [] = refl
@@ -38,7 +35,7 @@ pub sum_stretch : (xs : List ℕ) (i n : ℕ) → sum (take i xs) + sum (take n 
 sum_stretch xs zero n = (let e : 0 + n ≡ n = omega arith in let z : sum (take 0 xs) ≡ 0 = refl in let w : sum (take n (drop 0 xs)) ≡ sum (take n xs) = refl in rw e (omega (arith, z, w)))
 sum_stretch [] (suc i) zero = (let e : suc i + 0 ≡ suc i = omega arith in rw e refl)
 sum_stretch [] (suc i) (suc n) = (let e : suc i + suc n ≡ suc (i + suc n) = omega arith in rw e refl)
-sum_stretch (x ∷ xs) (suc i) n = (let below = sum_stretch xs i n in let a = sum_cons x (take i xs) in let b = sum_cons x (take (i + n) xs) in let e : suc i + n ≡ suc (i + n) = omega arith in rw e (omega (arith, below, a, b)))
+sum_stretch (x ∷ xs) (suc i) n = (let below = sum_stretch xs i n in let a = sum_by-cons (λ (y : ℕ). y) x (take i xs) in let b = sum_by-cons (λ (y : ℕ). y) x (take (i + n) xs) in let e : suc i + n ≡ suc (i + n) = omega arith in rw e (omega (arith, below, a, b)))
 
 -- a load is a difference of two running sums
 pub load_is : (p : Setup) (a b : ℕ) → p.first ≤ a → a ≤ b → sum (take (a - p.first) p.sizes) + load p a b ≡ sum (take (b - p.first) p.sizes)
@@ -47,7 +44,7 @@ load_is p a b low le = sum_stretch p.sizes (a - p.first) (b - a) ∙ (let e : a 
 sum_more : (xs : List ℕ) (i : ℕ) → sum (take i xs) ≤ sum (take (i + 1) xs)
 sum_more xs zero = omega arith
 sum_more [] (suc i) = omega arith
-sum_more (x ∷ xs) (suc i) = (let below = sum_more xs i in let a = sum_cons x (take i xs) in let b = sum_cons x (take (i + 1) xs) in let e : suc i + 1 ≡ suc (i + 1) = omega arith in rw e (omega (arith, below, a, b)))
+sum_more (x ∷ xs) (suc i) = (let below = sum_more xs i in let a = sum_by-cons (λ (y : ℕ). y) x (take i xs) in let b = sum_by-cons (λ (y : ℕ). y) x (take (i + 1) xs) in let e : suc i + 1 ≡ suc (i + 1) = omega arith in rw e (omega (arith, below, a, b)))
 
 -- without its first number a stretch weighs no more
 pub load_rest : (p : Setup) (a b : ℕ) → p.first ≤ a → a < b → load p (a + 1) b ≤ load p a b
@@ -84,6 +81,3 @@ sums_grow xs sums i x d lt at is =
 
 pub total_grow : (xs : List ℕ) (i x d : ℕ) → i < length xs → x ≡ get_or xs i d → sum (take (i + 1) xs) ≡ sum (take i xs) + x
 total_grow xs i x d lt at = sum_by_more (λ (y : ℕ). y) xs i d lt ∙ ap (λ (y : ℕ). sum (take i xs) + y) (sym at)
-
-pub total_fits : (xs : List ℕ) (i x d : ℕ) → i < length xs → x ≡ get_or xs i d → sum (take i xs) + x ≤ sum xs
-total_fits xs i x d lt at = (let h = sum_by_more_le (λ (y : ℕ). y) xs i d lt in omega (arith, h, at))

@@ -2,8 +2,8 @@
 use Rattle.std.proofs.Common.{◌≡◌, ◌≢◌, ℕ, zero, suc, ◌+◌, ◌-◌, ◌<◌, ◌≤◌, ◌==◌, ◌⊎◌, true, false, cond, List, [], ◌∷◌, ◌++◌, map, length, refl, sym, ap, subst, ◌∙◌, inl, inr, arith}
 use Rattle.std.specs.Prelude.{Option, Some, None}
 use Rattle.std.proofs.lemmas.Bool.{cases_eq, cases_lt, false≢true}
-use Rattle.std.proofs.lemmas.List.{length_push}
 use Rattle.std.proofs.lemmas.Bool.Decides.{nat_tests}
+use Rattle.std.proofs.lemmas.List.{length-map}
 use Rattle.jx_store.specs.declared.event.Event.{Event}
 use Rattle.jx_store.specs.declared.event.Event.TheVariants.{Claim, Commit, Drain}
 use Rattle.jx_store.specs.declared.event.Reply.{Reply}
@@ -16,6 +16,7 @@ use Rattle.jx_store.specs.Order.{InOrder, numbers}
 use Rattle.jx_store.specs.Busy.{one_if, busy}
 use Rattle.jx_store.specs.Kept.{Kept, drains}
 use Rattle.jx_store.specs.Shown.{Shown, state_of, parked_in}
+use Rattle.jx_store.proofs.NumberLemmas.{length_numbers}
 use Rattle.jx_store.proofs.Windows.{slot_out}
 use Rattle.jx_store.proofs.Runs.{always_in_order, on_each, cond_cases, put_same, put_other, not_both}
 
@@ -63,14 +64,6 @@ module _ {X : Type 0} where
       let e : a + suc n ≡ a + 1 + n = omega arith in
       let same : one_if (m (a + suc n)) ≡ one_if (m (a + 1 + n)) = ap (λ (k : ℕ). one_if (m k)) e in
       omega (arith, below, same)
-
-length_numbers : (a n : ℕ) → length (numbers a n) ≡ n
-length_numbers a zero = refl
-length_numbers a (suc n) = (let e = length_push (numbers a n) (a + n) in let below = length_numbers a n in omega (arith, e, below))
-
-length_map : {X Y : Type 0} (f : X → Y) (xs : List X) → length (map f xs) ≡ length xs
-length_map f [] = refl
-length_map f (x ∷ xs) = ap suc (length_map f xs)
 
 module _ {V : Type 0} where
   -- what a reply tells of the event
@@ -197,7 +190,7 @@ module _ {V : Type 0} where
       let end = all_drained p claims commits s h idle e in
       let long : length (map (λ (t : Taped V). t.number) s.tape) ≡ length (numbers s.setup.first (s.drained - s.setup.first)) = ap length o.tape in
       let c = h.claims_is in
-      let l1 = length_map (λ (t : Taped V). t.number) s.tape in
+      let l1 = length-map s.tape (λ (t : Taped V). t.number) in
       let l2 = length_numbers s.setup.first (s.drained - s.setup.first) in
       omega (arith, long, l1, l2, c, end)
 

@@ -3,11 +3,10 @@ use Rattle.std.proofs.Common.{◌≡◌, ◌≢◌, ℕ, ◌+◌, ◌*◌, ◌/�
 use Rattle.std.specs.Prelude.{Some, None, slice_get}
 use Rattle.std.proofs.lemmas.Bool.{cases_eq, cases_lt}
 use Rattle.std.proofs.lemmas.Bool.Decides.{nat_tests}
-use Rattle.std.proofs.lemmas.Grind.{common_steps}
-use Rattle.std.proofs.lemmas.Option.{gets}
 use Rattle.std.proofs.lemmas.Nat.{mod_below}
 use Rattle.jx_store.specs.declared.event.Slot.{Slot}
 use Rattle.jx_store.specs.Shown.{slot_of}
+use Rattle.jx_base.proofs.Lists.{get-set_same, get-set_other}
 
 same_round : (w i j q p : ℕ) → w * q + i % w ≡ i → w * p + j % w ≡ j → i % w ≡ j % w → i ≤ j → j < i + w → (q < p) ⊎ (p ≤ q) → i ≡ j
 same_round w i j q p ei ej e le lt (inl more) = let m = mul-le-mul_left w more in absurd (omega (arith, m))
@@ -19,19 +18,12 @@ one_place w i j some le lt e = same_round w i j (i / w) (j / w) (omega arith) (o
 pub apart : (d w i j : ℕ) → 0 < w → d ≤ i → d ≤ j → i < d + w → j < d + w → i ≢ j → i % w ≢ j % w
 apart d w i j some di dj iw jw ne e = elim (cases_lt i j) [ inl lt ↦ ne (one_place w i j some (omega arith) (omega arith) e) | inr le ↦ ne (sym (one_place w j i some le (omega arith) (sym e))) ]
 
-module _ {X : Type 0} where
-  pub get_set_same : (xs : List X) (i : ℕ) (x : X) → i < length xs → slice_get (set xs i x) i ≡ Some x
-  get_set_same xs i x lt = grind (arith, common_steps, gets)
-
-  pub get_set_other : (xs : List X) (i j : ℕ) (x : X) → j ≢ i → slice_get (set xs i x) j ≡ slice_get xs j
-  get_set_other xs i j x ne = grind (arith, common_steps, gets)
-
 module _ {V : Type 0} where
   same_slot : (d n w : ℕ) (slots : List (Slot V)) (j : ℕ) (x : Slot V) (k : ℕ) → (d ≤ k → k < n → k % w ≢ j % w)
       → slot_of d n w (set slots (j % w) x) k ≡ slot_of d n w slots k
   same_slot d n w slots j x k ne =
       elim (cases_lt k n) [
-        | inl kn ↦ elim (cases_lt k d) [ inl below ↦ grind (arith, nat_tests) | inr dk ↦ rw (get_set_other slots (j % w) (k % w) x (ne dk kn)) refl ]
+        | inl kn ↦ elim (cases_lt k d) [ inl below ↦ grind (arith, nat_tests) | inr dk ↦ rw (get-set_other slots (j % w) (k % w) x (ne dk kn)) refl ]
         | inr out ↦ grind (arith, nat_tests)
       ]
 
@@ -40,7 +32,7 @@ module _ {V : Type 0} where
       → slot_of d n w (set slots (j % w) x) k ≡ cond (k == j) (Some x) (slot_of d n w slots k)
   slot_set d n w slots j x k some long near dj jn =
       elim (cases_eq k j) [
-        | inl e ↦ (let at = get_set_same slots (j % w) x (omega (arith, mod_below j w some)) in grind (arith, nat_tests, at, e))
+        | inl e ↦ (let at = get-set_same slots (j % w) x (omega (arith, mod_below j w some)) in grind (arith, nat_tests, at, e))
         | inr ne ↦ (let same = same_slot d n w slots j x k (λ dk kn. apart d w k j some dk dj (omega arith) (omega arith) ne) in grind (arith, nat_tests, same))
       ]
 

@@ -11,16 +11,10 @@ use Rattle.jx_geom.specs.Ranges.{HasBand}
 use Rattle.jx_geom.specs.Rects.{band_level}
 use Rattle.jx_stream.specs.Params.{number_of, band_count, level_of}
 use Rattle.jx_stream.specs.BandNumbers.{numbers_at, all_numbers}
-
-range_more : (a n : ℕ) → range_with_len a (n + 1) ≡ range_with_len a n ++ (a + n) ∷ []
-range_more a zero = let e : a ≡ a + 0 = omega arith in ap (λ (k : ℕ). k ∷ []) e
-range_more a (suc n) =
-    let size : suc n + 1 ≡ suc (n + 1) = omega arith in
-    let last : (a + 1) + n ≡ a + suc n = omega arith in
-    ap (λ (k : ℕ). range_with_len a k) size ∙ ap (λ (xs : List ℕ). a ∷ xs) (range_more (a + 1) n) ∙ ap (λ (k : ℕ). a ∷ (range_with_len (a + 1) n ++ k ∷ [])) last
+use Rattle.jx_base.proofs.Lists.{range_push}
 
 range_up : (n : ℕ) → range_with_len 0 (n + 1) ≡ range_with_len 0 n ++ n ∷ []
-range_up n = let last : 0 + n ≡ n = omega arith in range_more 0 n ∙ ap (λ (k : ℕ). range_with_len 0 n ++ k ∷ []) last
+range_up n = let last : 0 + n ≡ n = omega arith in range_push 0 n ∙ ap (λ (k : ℕ). range_with_len 0 n ++ k ∷ []) last
 
 three_on : (xs : List ℕ) (a b c : ℕ) → ((xs ++ a ∷ []) ++ b ∷ []) ++ c ∷ [] ≡ xs ++ a ∷ b ∷ c ∷ []
 three_on [] a b c = refl

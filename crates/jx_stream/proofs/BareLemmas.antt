@@ -14,19 +14,19 @@ use Rattle.jx_stream.specs.Params.{chosen, shape_of, quant_of, shift_of, cod_of,
 use Rattle.jx_stream.specs.Shapes.{comp_shape, shapes_in}
 use Rattle.std.proofs.lemmas.Bool.{cases_Bool, or_parts, eqb-true}
 
-any_same : (f g : ℕ → Bool) (xs : List ℕ) → ((x : ℕ) → f x ≡ g x) → list_any f xs ≡ list_any g xs
+pub any_same : (f g : ℕ → Bool) (xs : List ℕ) → ((x : ℕ) → f x ≡ g x) → list_any f xs ≡ list_any g xs
 any_same f g [] h = refl
 any_same f g (x ∷ xs) h = rw (h x, any_same f g xs h) refl
 
-flat_same : (f g : ℕ → List ℕ) (xs : List ℕ) → ((x : ℕ) → f x ≡ g x) → flat_map f xs ≡ flat_map g xs
+pub flat_same : (f g : ℕ → List ℕ) (xs : List ℕ) → ((x : ℕ) → f x ≡ g x) → flat_map f xs ≡ flat_map g xs
 flat_same f g [] h = refl
 flat_same f g (x ∷ xs) h = rw (h x, flat_same f g xs h) refl
 
-map_same : (f g : ℕ → CompShape) (xs : List ℕ) → ((x : ℕ) → f x ≡ g x) → map f xs ≡ map g xs
+pub map_same : (f g : ℕ → CompShape) (xs : List ℕ) → ((x : ℕ) → f x ≡ g x) → map f xs ≡ map g xs
 map_same f g [] h = refl
 map_same f g (x ∷ xs) h = rw (h x, map_same f g xs h) refl
 
-own_gives : (k comp : ℕ) → 4 < k → gives (k + 3 * comp) ≡ true
+pub own_gives : (k comp : ℕ) → 4 < k → gives (k + 3 * comp) ≡ true
 own_gives k comp h = grind (arith, nat_tests)
 
 module _ (own : List Segment) (bare : IsBare own) where

@@ -124,12 +124,6 @@ lacks_by_counts parts counts told tiles found tracks size is =
     fill_by_all (λ (tile : ℕ). length (parts_of tile parts)) counts tiles 0 size (λ k inside. tracks.count k (omega arith)) in
     sym (is ∙ ap (λ (x : List ℕ). list_any (λ (n : ℕ). n == 0) x) counted ∙ any_mapped (λ (n : ℕ). n == 0) (λ (tile : ℕ). length (parts_of tile parts)) (range_with_len 0 tiles))
 
-pub tracks_none : (counts told : List ℕ) → ((tile : ℕ) → get_or counts tile 0 ≡ 0) → ((tile : ℕ) → get_or told tile 0 ≡ 0) → Tracks [] counts told
-tracks_none counts told zeros none = record {
-  count = λ tile inside. zeros tile;
-  others = λ tile number inside. rw (none tile) refl;
-}
-
 -- the rest of the file
 
 pub later_tiles : (siz : Siz) (b : List ℕ) (start : ℕ) (e : StreamFault) → IsCause e (tiles_fault siz) → IsCause e (later_fault siz b start)

@@ -28,12 +28,12 @@ use Rattle.jx_stream.specs.Read.{IsRead}
 use Rattle.jx_stream.specs.FirstViolated.{main_bytes, front_bytes, sot_bytes, header_bytes, AreNamed, AreParts, IsHeader, IsWhole, IsInSiz, IsInMain, IsAtFirstSot, IsAtPart, IsAtSot, IsInHeader, IsAtSod, IsAtEoc, IsShort, IsOver, IsFirst}
 use Rattle.jx_stream.proofs.FaultLemmas.{none_of_both, broken_false}
 use Rattle.jx_stream.proofs.HeaderLemmas.{stops_at_fault, stopped_fault}
-use Rattle.jx_stream.proofs.PartLemmas.{or_is_true, parts_on, go_on, stop_at_fault, fault_at_end}
+use Rattle.jx_stream.proofs.PartLemmas.{parts_on, go_on, stop_at_fault, fault_at_end}
 use Rattle.jx_stream.proofs.SpellLemmas.{regroup, marker_there}
 use Rattle.jx_stream.proofs.OneLemmas.{stands_there, drop_on, header_walked, header_read, header_clear}
 use Rattle.jx_stream.proofs.PartsReadLemmas.{sod_stands, sot_size, SotRead, sot_read, ends_named, part_read}
 use Rattle.jx_stream.proofs.UniqueLemmas.{front_read, first_is, BodyOver, body_over, body_read, stream_made, is_read, clear_limits}
-use Rattle.std.proofs.lemmas.Bool.{cases_Bool}
+use Rattle.std.proofs.lemmas.Bool.{cases_Bool, or_right}
 
 pub some_first : (x later : Option StreamFault) (f : StreamFault) → x ≡ Some f → option_or x later ≡ Some f
 some_first x later f h = rw h refl
@@ -252,7 +252,7 @@ eoc_starts : (comps : ℕ) (b : List ℕ) (at : ℕ) → marker_at b at EOC ≡ 
 unfolding start_fault
 eoc_starts comps b at h =
     let rules = (stands_there comps b at segment.Eoc (drop (at + 2) b) tt (marker_there b at EOC h (omega arith))).rules in
-    let either : (marker_at b at SOT || marker_at b at EOC) ≡ true = ap (λ x. marker_at b at SOT || x) h ∙ or_is_true (marker_at b at SOT) in
+    let either : (marker_at b at SOT || marker_at b at EOC) ≡ true = ap (λ x. marker_at b at SOT || x) h ∙ or_right (marker_at b at SOT) true refl in
     none_of_both (broken 23 at (not (marker_at b at SOT || marker_at b at EOC))) (rule_at at (first_broken comps (drop at b)))
     (broken_false 23 at (not (marker_at b at SOT || marker_at b at EOC)) (ap not either)) (ap (rule_at at) rules)
 

@@ -1,5 +1,5 @@
 -- Headers and the tables of their slots.
-use Rattle.std.proofs.Common.{◌≡◌, ◌≢◌, ◌∙◌, ◌<◌, ◌≤◌, ◌+◌, ◌-◌, ◌==◌, ◌||◌, ◌&&◌, ℕ, zero, suc, Bool, true, false, nat_lt, arith, List, [], ◌∷◌, ◌++◌, length, drop, get_or, refl, sym, ap, subst, Some, None, cond, Result, Err, ◌⊎◌, inl, inr}
+use Rattle.std.proofs.Common.{◌≡◌, ◌≢◌, ◌∙◌, ◌<◌, ◌≤◌, ◌+◌, ◌-◌, ◌==◌, ◌||◌, ◌&&◌, ℕ, zero, suc, Bool, true, false, nat_lt, arith, List, [], ◌∷◌, ◌++◌, length, drop, get_or, refl, sym, ap, subst, Some, None, cond, Result, Err, inl, inr}
 use Rattle.std.proofs.Math.ListN.{set}
 use Rattle.std.proofs.lemmas.Bool.Decides.{nat_tests}
 use Rattle.std.proofs.lemmas.List.Folds.{list_any-append}
@@ -20,7 +20,8 @@ use Rattle.jx_stream.specs.declared.headers.Header.{Header}
 use Rattle.jx_stream.specs.Faults.{fault_of, IsCause}
 use Rattle.jx_stream.specs.Headers.{stands_in, ends_header, slot_of, slot_count, has_slot, is_second, early_fault, segment_fault, stops, longest, header_at, header_fault, Marks}
 use Rattle.jx_stream.proofs.FaultLemmas.{broken_false, broken_true}
-use Rattle.std.proofs.lemmas.Bool.{cases_Bool, eq-eqb, ne_eqb}
+use Rattle.std.proofs.lemmas.Bool.{cases_Bool, cases_eq, eq-eqb, ne_eqb, or_right, le-ltb}
+use Rattle.jx_base.proofs.Tests.{or_false}
 
 -- SOT and SOD may stand again
 pub ends_once : (before : List Segment) (s : Segment) → ends_header s ≡ true → is_second before s ≡ false
@@ -179,40 +180,20 @@ module _ (kind : HeaderKind) (comps : ℕ) (b : List ℕ) (start : ℕ) (before 
 
 -- the table of the header's slots
 
-none_yet : (a b : ℕ) → a < b → (a == b) ≡ false
-none_yet a b h = grind (arith, nat_tests)
-
-pub marks_none : (start : ℕ) (seen : List ℕ) → ((slot : ℕ) → get_or seen slot 0 < start) → Marks start [] seen
-marks_none start seen h = record {
-  each = λ slot some inside. none_yet (get_or seen slot 0) start (h slot);
-  most = λ slot. omega (arith, h slot);
-}
-
-or_false : (x : Bool) → (x || false) ≡ x
-or_false true = refl
-or_false false = refl
-
-or_true : (x : Bool) → (x || true) ≡ true
-or_true true = refl
-or_true false = refl
-
 has_more : (slot : ℕ) (before : List Segment) (s : Segment) → has_slot slot (before ++ s ∷ []) ≡ (has_slot slot before || (slot_of s == slot))
 has_more slot before s = list_any-append (λ (x : Segment). slot_of x == slot) before (s ∷ []) ∙ ap (λ (x : Bool). has_slot slot before || x) (or_false (slot_of s == slot))
 
 has_this : (slot : ℕ) (before : List Segment) (s : Segment) → slot_of s ≡ slot → has_slot slot (before ++ s ∷ []) ≡ true
-has_this slot before s h = has_more slot before s ∙ rw (eq-eqb (slot_of s) slot h) (or_true (has_slot slot before))
+has_this slot before s h = has_more slot before s ∙ rw (eq-eqb (slot_of s) slot h) (or_right (has_slot slot before) true refl)
 
 has_other : (slot : ℕ) (before : List Segment) (s : Segment) → slot_of s ≢ slot → has_slot slot (before ++ s ∷ []) ≡ has_slot slot before
 has_other slot before s h = has_more slot before s ∙ rw (ne_eqb (slot_of s) slot h) (or_false (has_slot slot before))
-
-same_or_not : (a b : ℕ) → (a ≡ b) ⊎ (a ≢ b)
-same_or_not a b = grind (arith, nat_tests)
 
 marks_slot : (start : ℕ) (before : List Segment) (s : Segment) (seen : List ℕ) → slot_of s < length seen → Marks start before seen
     → Marks start (before ++ s ∷ []) (set seen (slot_of s) start)
 marks_slot start before s seen inside marks = record {
   each = λ slot some within.
-      elim (same_or_not slot (slot_of s)) [
+      elim (cases_eq slot (slot_of s)) [
         | inl e ↦
             rw (get_or-set_at seen (slot_of s) slot start 0 e inside) (eq-eqb start start refl ∙ sym (has_this slot before s (sym e)))
         | inr n ↦
@@ -221,7 +202,7 @@ marks_slot start before s seen inside marks = record {
             rw (get_or-set_other seen (slot_of s) slot start 0 n) (marks.each slot some within_old ∙ sym (has_other slot before s other))
       ];
   most = λ slot.
-      elim (same_or_not slot (slot_of s)) [
+      elim (cases_eq slot (slot_of s)) [
         | inl e ↦ rw (get_or-set_at seen (slot_of s) slot start 0 e inside) (omega arith)
         | inr n ↦ rw (get_or-set_other seen (slot_of s) slot start 0 n) (marks.most slot)
       ];
@@ -235,9 +216,6 @@ marks_free start before s seen free marks = record {
   most = marks.most;
 }
 
-not_above : (n : ℕ) → n ≡ 0 → nat_lt 0 n ≡ false
-not_above n h = grind (arith, nat_tests)
-
 above : (n : ℕ) → n ≢ 0 → nat_lt 0 n ≡ true
 above n h = grind (arith, nat_tests)
 
@@ -245,9 +223,9 @@ pub marks_more : (start : ℕ) (before : List Segment) (s : Segment) (seen after
     → after ≡ cond (nat_lt 0 (slot_of s)) (set seen (slot_of s) start) seen → Marks start before seen → Marks start (before ++ s ∷ []) after
 marks_more start before s seen after inside e marks =
     let P : List ℕ → Type 0 = λ x. Marks start (before ++ s ∷ []) x in
-    elim (same_or_not (slot_of s) 0) [
+    elim (cases_eq (slot_of s) 0) [
       | inl free ↦
-          let is : seen ≡ after = sym (e ∙ ap (λ (x : Bool). cond x (set seen (slot_of s) start) seen) (not_above (slot_of s) free)) in
+          let is : seen ≡ after = sym (e ∙ ap (λ (x : Bool). cond x (set seen (slot_of s) start) seen) (le-ltb 0 (slot_of s) (omega (arith, free)))) in
           subst P is (marks_free start before s seen free marks)
       | inr taken ↦
           let is : set seen (slot_of s) start ≡ after = sym (e ∙ ap (λ (x : Bool). cond x (set seen (slot_of s) start) seen) (above (slot_of s) taken)) in
@@ -258,8 +236,8 @@ marks_more start before s seen after inside e marks =
 pub second_is : (start : ℕ) (before : List Segment) (s : Segment) (seen : List ℕ) (found : Bool) → slot_of s < length seen → Marks start before seen
     → found ≡ (nat_lt 0 (slot_of s) && (get_or seen (slot_of s) 0 == start)) → is_second before s ≡ found
 second_is start before s seen found inside marks e =
-    elim (same_or_not (slot_of s) 0) [
-      | inl free ↦ rw (e, not_above (slot_of s) free) refl
+    elim (cases_eq (slot_of s) 0) [
+      | inl free ↦ rw (e, le-ltb 0 (slot_of s) (omega (arith, free))) refl
       | inr taken ↦
           let some : 0 < slot_of s = omega arith in
           rw (e, marks.each (slot_of s) some inside) refl

@@ -1,9 +1,8 @@
 -- The table of a header's slots, one segment more.
-use Rattle.std.proofs.Common.{◌≡◌, ◌≢◌, ◌∙◌, ◌<◌, ◌≤◌, ◌+◌, ◌-◌, ◌==◌, ◌&&◌, ℕ, zero, suc, Bool, true, false, nat_lt, arith, List, [], ◌∷◌, ◌++◌, length, take, get_or, refl, sym, ap, subst, Option, Some, None, cond, ◌⊎◌, inl, inr}
+use Rattle.std.proofs.Common.{◌≡◌, ◌≢◌, ◌∙◌, ◌<◌, ◌≤◌, ◌+◌, ◌-◌, ◌==◌, ◌&&◌, ℕ, zero, suc, Bool, true, false, nat_lt, arith, List, [], ◌∷◌, ◌++◌, length, take, get_or, refl, sym, ap, subst, Option, Some, None, cond, inl, inr}
 use Rattle.std.specs.List.{slice_get}
 use Rattle.std.specs.Option.{option_or}
 use Rattle.std.proofs.Math.ListN.{set}
-use Rattle.std.proofs.lemmas.Bool.Decides.{nat_tests}
 use Rattle.std.proofs.lemmas.List.{get_or-set_other, length-set, length-take, take_more}
 use Rattle.std.proofs.lemmas.List.Folds.{find-append}
 use Rattle.std.proofs.lemmas.Grind.{get_or-set_at}
@@ -11,7 +10,7 @@ use Rattle.jx_marker.specs.declared.Segment.{Segment}
 use Rattle.jx_stream.specs.Headers.{slot_of}
 use Rattle.jx_stream.specs.Tiles.{in_slot}
 use Rattle.jx_stream.specs.Index.{entry_at, Indexes}
-use Rattle.std.proofs.lemmas.Bool.{eq-eqb, ne_eqb, cases_lt, lt-ltb, le-ltb}
+use Rattle.std.proofs.lemmas.Bool.{cases_eq, cases_lt, eq-eqb, le-ltb, lt-ltb, ne_eqb}
 
 get_old : (xs ys : List Segment) (k : ℕ) → k < length xs → slice_get (xs ++ ys) k ≡ slice_get xs k
 get_old [] ys k h = absurd (omega arith)
@@ -26,9 +25,6 @@ get_some : (xs : List Segment) (k : ℕ) → k < length xs → (y : Segment) × 
 get_some [] k h = absurd (omega arith)
 get_some (x ∷ xs) zero h = (x, refl)
 get_some (x ∷ xs) (suc k) h = get_some xs k (omega arith)
-
-equal_or_not : (a b : ℕ) → (a ≡ b) ⊎ (a ≢ b)
-equal_or_not a b = grind (arith, nat_tests)
 
 in_more : (slot : ℕ) (xs : List Segment) (s : Segment) → in_slot slot (xs ++ s ∷ []) ≡ option_or (in_slot slot xs) (cond (slot_of s == slot) (Some s) None)
 in_more slot xs s = find-append (λ (x : Segment). slot_of x == slot) xs (s ∷ [])
@@ -51,7 +47,7 @@ entry_some xs n h most =
 
 entry_old : (xs : List Segment) (s : Segment) (n : ℕ) → n ≤ length xs → entry_at (xs ++ s ∷ []) n ≡ entry_at xs n
 entry_old xs s n most =
-    elim (equal_or_not n 0) [
+    elim (cases_eq n 0) [
       | inl e ↦ entry_none (xs ++ s ∷ []) n e ∙ sym (entry_none xs n e)
       | inr h ↦ let within : n - 1 < length xs = omega arith in rw (ne_eqb n 0 h) (get_old xs (s ∷ []) (n - 1) within)
     ]
@@ -84,14 +80,14 @@ module _ (xs : List Segment) (s : Segment) (table : List ℕ) (right : Indexes x
   entered : slot_of s < length table → get_or table (slot_of s) 0 ≡ 0 → Indexes (xs ++ s ∷ []) (set table (slot_of s) (length xs + 1))
   entered inside h slot within =
       let within_old : slot < length table = omega (arith, length-set {A = ℕ} table (slot_of s) (length xs + 1)) in
-      elim (equal_or_not slot (slot_of s)) [
+      elim (cases_eq slot (slot_of s)) [
         | inl e ↦ rw (get_or-set_at table (slot_of s) slot (length xs + 1) 0 e inside) (entry_new xs s ∙ sym (free_slot inside h) ∙ ap (λ (n : ℕ). in_slot n (xs ++ s ∷ [])) (sym e))
         | inr n ↦ rw (get_or-set_other table (slot_of s) slot (length xs + 1) 0 n) (kept_slot slot within_old (λ e. n (sym e)))
       ]
 
   entered_small : slot_of s < length table → IsSmall (length xs + 1) (set table (slot_of s) (length xs + 1))
   entered_small inside slot =
-      elim (equal_or_not slot (slot_of s)) [
+      elim (cases_eq slot (slot_of s)) [
         | inl e ↦ rw (get_or-set_at table (slot_of s) slot (length xs + 1) 0 e inside) (omega arith)
         | inr n ↦ rw (get_or-set_other table (slot_of s) slot (length xs + 1) 0 n) (omega (arith, small slot))
       ]
@@ -102,10 +98,10 @@ module _ (xs : List Segment) (s : Segment) (table : List ℕ) (right : Indexes x
   index_more after is =
       elim (cases_lt (slot_of s) (length table)) [
         | inl inside ↦
-            elim (equal_or_not (get_or table (slot_of s) 0) 0) [
+            elim (cases_eq (get_or table (slot_of s) 0) 0) [
               | inl free ↦ rw (is, lt-ltb (slot_of s) (length table) inside, eq-eqb (get_or table (slot_of s) 0) 0 free) (entered inside free, entered_small inside)
               | inr taken ↦ rw (is, lt-ltb (slot_of s) (length table) inside, ne_eqb (get_or table (slot_of s) 0) 0 taken) (
-                (λ slot within. elim (equal_or_not slot (slot_of s)) [
+                (λ slot within. elim (cases_eq slot (slot_of s)) [
                   | inl e ↦ taken_slot slot within (λ zero_there. taken (ap (λ (n : ℕ). get_or table n 0) (sym e) ∙ zero_there))
                   | inr n ↦ kept_slot slot within (λ e. n (sym e))
                 ]),
@@ -125,9 +121,6 @@ index_on all place s table after inside is size right small next =
     let small_front : IsSmall (length (take place all)) table = subst (λ (n : ℕ). IsSmall n table) (sym size) small in
     let here = index_more (take place all) s table right small_front after (next ∙ ap (λ (n : ℕ). cond (nat_lt (slot_of s) (length table) && (get_or table (slot_of s) 0 == 0)) (set table (slot_of s) (n + 1)) table) (sym size)) in
     (subst (λ (x : List Segment). Indexes x after) (sym more) here.0, subst (λ (n : ℕ). IsSmall (n + 1) after) size here.1)
-
-pub index_none : (all : List Segment) (table : List ℕ) (count : ℕ) → length table ≡ count → ((slot : ℕ) → slot < count → get_or table slot 0 ≡ 0) → Indexes (take 0 all) table
-index_none all table count size zeros slot inside = entry_none [] (get_or table slot 0) (zeros slot (omega arith))
 
 pub size_after : (slot n : ℕ) (found : Bool) (table after : List ℕ) → after ≡ cond found (set table slot n) table → length after ≡ length table
 size_after slot n true table after is = rw is (length-set {A = ℕ} table slot n)

@@ -1,5 +1,5 @@
 -- Tile-parts and the tables of their tiles.
-use Rattle.std.proofs.Common.{◌≡◌, ◌≢◌, ◌∙◌, ◌<◌, ◌≤◌, ◌+◌, ◌-◌, ◌==◌, ◌||◌, ◌&&◌, ℕ, zero, suc, Bool, true, false, not, nat_lt, nat_le, arith, List, [], ◌∷◌, ◌++◌, length, drop, get_or, refl, sym, ap, Option, Some, None, cond, Result, Err, ◌⊎◌, inl, inr}
+use Rattle.std.proofs.Common.{◌≡◌, ◌≢◌, ◌∙◌, ◌<◌, ◌≤◌, ◌+◌, ◌-◌, ◌==◌, ◌||◌, ◌&&◌, ℕ, zero, suc, Bool, true, false, not, nat_lt, nat_le, arith, List, [], ◌∷◌, ◌++◌, length, drop, get_or, refl, sym, ap, Option, Some, None, cond, Result, Err, inl, inr}
 use Rattle.std.specs.Option.{option_or, is_some}
 use Rattle.std.proofs.Math.ListN.{set}
 use Rattle.std.proofs.lemmas.Bool.Decides.{nat_tests}
@@ -25,37 +25,13 @@ use Rattle.jx_stream.specs.Parts.{marker_at, sot_in, after_sot, kind_of, parts_o
 use Rattle.jx_stream.proofs.FaultLemmas.{cause_first, cause_later, none_first, none_later, broken_none}
 use Rattle.jx_stream.proofs.HeaderLemmas.{size_is_two, longest_rises}
 use Rattle.jx_stream.specs.declared.headers.HeaderKind.{HeaderKind}
-use Rattle.std.proofs.lemmas.Bool.{and_parts, eqb-true, leb-false, not-false, eq-eqb, ne_eqb, cases_Bool}
+use Rattle.std.proofs.lemmas.Bool.{and_parts, cases_Bool, cases_eq, eq-eqb, eqb-true, leb-false, ne_eqb, not-false, or_right, or_parts, ltb-false, ltb-true}
+use Rattle.jx_base.proofs.Tests.{or_false}
+use Rattle.jx_marker.proofs.RuleLemmas.{both}
 
-not_below : (a b : ℕ) → nat_lt b a ≡ false → a ≤ b
-not_below a b h = grind (arith, nat_tests)
-
-or_none : (x y : Bool) → (x || y) ≡ false → y ≡ false
-or_none true y h = absurd (cc)
-or_none false y h = h
-
-pub or_is_true : (x : Bool) → (x || true) ≡ true
-or_is_true true = refl
-or_is_true false = refl
-
-none_is : (x : Option StreamFault) → is_some x ≡ false → x ≡ None
+pub none_is : (x : Option StreamFault) → is_some x ≡ false → x ≡ None
 none_is None h = refl
 none_is (Some e) h = absurd (cc)
-
-or_false : (x : Bool) → (x || false) ≡ x
-or_false true = refl
-or_false false = refl
-
-or_left : (x y : Bool) → (x || y) ≡ false → x ≡ false
-or_left true y h = absurd (cc)
-or_left false y h = refl
-
-and_first : (x y : Bool) → x ≡ true → (x && y) ≡ false → y ≡ false
-and_first true y t h = h
-and_first false y t h = absurd (cc)
-
-above_zero : (n : ℕ) → nat_lt 0 n ≡ true → 0 < n
-above_zero n h = grind (arith, nat_tests)
 
 -- where the marker stands, the segment is a SOT
 pub sot_stands : (comps : ℕ) (b : List ℕ) (at : ℕ) → marker_at b at SOT ≡ true → segment_at comps (drop at b) ≡ segment.Sot (sot_in b at)
@@ -137,8 +113,8 @@ pub sod_within : (b : List ℕ) (at : ℕ) (sot : Sot) (sod : ℕ) → sod_fault
 unfolding sod_fault
 sod_within b at sot sod h =
     elim (cases_Bool (sot.psot == 0)) [
-      | inl t ↦ rw t (not_below (sod + 2) (length b - 2) (or_none (not (marker_at b (length b - 2) EOC)) (nat_lt (length b - 2) (sod + 2)) (broken_none 23 (length b - 2) _ (rw t at h))))
-      | inr f ↦ rw f (not_below (sod + 2) (at + sot.psot) (broken_none 22 at _ (rw f at h)))
+      | inl t ↦ rw t (ltb-false (length b - 2) (sod + 2) ((or_parts (not (marker_at b (length b - 2) EOC)) (nat_lt (length b - 2) (sod + 2)) (broken_none 23 (length b - 2) _ (rw t at h))).1))
+      | inr f ↦ rw f (ltb-false (at + sot.psot) (sod + 2) (broken_none 22 at _ (rw f at h)))
     ]
 
 pub part_rises : (comps tiles : ℕ) (b : List ℕ) (out : Bool) (at : ℕ) → part_fault comps tiles b out at ≡ None → at < end_of_part (part_at comps b at)
@@ -179,7 +155,7 @@ stop_at_eoc comps tiles b parts at h = rw h refl
 
 pub stop_at_fault : (comps tiles : ℕ) (b : List ℕ) (parts : List Part) (at : ℕ) (e : StreamFault) → fault_after comps tiles b parts at ≡ Some e → parts_stop comps tiles b parts at ≡ true
 unfolding parts_stop
-stop_at_fault comps tiles b parts at e h = rw h (or_is_true (marker_at b at EOC))
+stop_at_fault comps tiles b parts at e h = rw h (or_right (marker_at b at EOC) true refl)
 
 pub go_on : (comps tiles : ℕ) (b : List ℕ) (parts : List Part) (at : ℕ) → marker_at b at EOC ≡ false → fault_after comps tiles b parts at ≡ None → parts_stop comps tiles b parts at ≡ false
 unfolding parts_stop
@@ -187,7 +163,7 @@ go_on comps tiles b parts at goes clear = rw (goes, clear) refl
 
 pub goes_clear : (comps tiles : ℕ) (b : List ℕ) (parts : List Part) (at : ℕ) → parts_stop comps tiles b parts at ≡ false → fault_after comps tiles b parts at ≡ None
 unfolding parts_stop
-goes_clear comps tiles b parts at h = none_is (fault_after comps tiles b parts at) (or_none (marker_at b at EOC) (is_some (fault_after comps tiles b parts at)) h)
+goes_clear comps tiles b parts at h = none_is (fault_after comps tiles b parts at) ((or_parts (marker_at b at EOC) (is_some (fault_after comps tiles b parts at)) h).1)
 
 marker_past : (b : List ℕ) (at code : ℕ) → length b ≤ at → marker_at b at code ≡ false
 marker_past b at code h = rw (get_or_past b at 0 h) refl
@@ -274,9 +250,6 @@ module _ (comps tiles : ℕ) (b : List ℕ) (start : ℕ) (parts : List Part) (a
 
 -- the tables after one tile-part more
 
-equal_or_not : (a b : ℕ) → (a ≡ b) ⊎ (a ≢ b)
-equal_or_not a b = grind (arith, nat_tests)
-
 pub own_more : (tile : ℕ) (parts : List Part) (p : Part) → p.sot.tile ≡ tile → parts_of tile (parts ++ p ∷ []) ≡ parts_of tile parts ++ p ∷ []
 own_more tile parts p h = filter-append (λ (x : Part). x.sot.tile == tile) parts (p ∷ []) ∙ rw (eq-eqb p.sot.tile tile h) refl
 
@@ -294,10 +267,10 @@ pub record InTurn (sot : Sot) (count : ℕ) (other : Bool) : Type 0 where
 
 in_turn : (sot : Sot) (count : ℕ) (other : Bool) → is_out_of_turn sot count other ≡ false → InTurn sot count other
 in_turn sot count other h = record {
-  number = eqb-true sot.part count (not-false (sot.part == count) (or_left (not (sot.part == count)) (nat_lt 0 sot.parts && (nat_le sot.parts sot.part || other)) h));
+  number = eqb-true sot.part count (not-false (sot.part == count) ((or_parts (not (sot.part == count)) (nat_lt 0 sot.parts && (nat_le sot.parts sot.part || other)) h).0));
   same = λ some.
-      let rest = or_none (not (sot.part == count)) (nat_lt 0 sot.parts && (nat_le sot.parts sot.part || other)) h in
-      or_none (nat_le sot.parts sot.part) other (and_first (nat_lt 0 sot.parts) (nat_le sot.parts sot.part || other) some rest);
+      let rest = (or_parts (not (sot.part == count)) (nat_lt 0 sot.parts && (nat_le sot.parts sot.part || other)) h).1 in
+      (or_parts (nat_le sot.parts sot.part) other (both (nat_lt 0 sot.parts) (nat_le sot.parts sot.part || other) some rest)).1;
 }
 
 told_joins : (told parts number : ℕ) → 0 < parts → (nat_lt 0 told && not (told == parts)) ≡ false
@@ -309,7 +282,7 @@ module _ (parts : List Part) (p : Part) (counts told : List ℕ) (inside : p.sot
   counted : (tile : ℕ) → tile < length (set counts p.sot.tile (p.sot.part + 1)) → get_or (set counts p.sot.tile (p.sot.part + 1)) tile 0 ≡ length (parts_of tile (parts ++ p ∷ []))
   counted tile within =
       let within_old : tile < length counts = omega (arith, length-set {A = ℕ} counts p.sot.tile (p.sot.part + 1)) in
-      elim (equal_or_not tile p.sot.tile) [
+      elim (cases_eq tile p.sot.tile) [
         | inl e ↦
             rw (get_or-set_at counts p.sot.tile tile (p.sot.part + 1) 0 e inside, own_more tile parts p (sym e))
             (omega (arith, turn.number, length-append (parts_of tile parts) (p ∷ []), ap (λ (t : ℕ). length (parts_of t parts)) e))
@@ -323,7 +296,7 @@ module _ (parts : List Part) (p : Part) (counts told : List ℕ) (inside : p.sot
   kept_told : nat_lt 0 p.sot.parts ≡ false → (tile number : ℕ) → tile < length told
       → told_other number (parts_of tile (parts ++ p ∷ [])) ≡ (nat_lt 0 (get_or told tile 0) && not (get_or told tile 0 == number))
   kept_told none tile number within =
-      elim (equal_or_not p.sot.tile tile) [
+      elim (cases_eq p.sot.tile tile) [
         | inl e ↦ rw (own_more tile parts p e) (other_more number (parts_of tile parts) p ∙ rw none (or_false (told_other number (parts_of tile parts)) ∙ tracks.others tile number within))
         | inr n ↦ rw (own_same tile parts p n) (tracks.others tile number within)
       ]
@@ -333,8 +306,8 @@ module _ (parts : List Part) (p : Part) (counts told : List ℕ) (inside : p.sot
   new_told some tile number within =
       let within_old : tile < length told = omega (arith, length-set {A = ℕ} told p.sot.tile p.sot.parts) in
       let inside_told : p.sot.tile < length told = omega arith in
-      let positive : 0 < p.sot.parts = above_zero p.sot.parts some in
-      elim (equal_or_not tile p.sot.tile) [
+      let positive : 0 < p.sot.parts = ltb-true 0 p.sot.parts some in
+      elim (cases_eq tile p.sot.tile) [
         | inl e ↦
             let old = told_before tile number within_old in
             let agrees : (nat_lt 0 (get_or told tile 0) && not (get_or told tile 0 == p.sot.parts)) ≡ false =

@@ -15,7 +15,7 @@ use Rattle.jx_stream.specs.Spells.{TilePart, all_bytes, head_bytes, part_bytes, 
 use Rattle.jx_stream.proofs.PartLemmas.{sot_stands, start_clear, part_none, part_is, parts_stopped, parts_on, stop_at_eoc, go_on}
 use Rattle.jx_stream.proofs.SpellLemmas.{regroup, same_part}
 use Rattle.jx_stream.proofs.OneLemmas.{stands_there, drop_on, header_read, header_clear}
-use Rattle.std.proofs.lemmas.Bool.{cases_Bool, eq-eqb, ne_eqb, le-ltb, lt-leb}
+use Rattle.std.proofs.lemmas.Bool.{cases_Bool, eq-eqb, ne_eqb, le-ltb, lt-leb, and_right}
 
 -- which marker stands at a place
 
@@ -25,15 +25,11 @@ marker_is b at code rest h =
     let second : get_or b (at + 1) 0 ≡ code = sym (get_or-drop at b 1 0) ∙ ap (λ (x : List ℕ). get_or x 1 0) h in
     rw (eq-eqb (get_or b at 0) 255 first, eq-eqb (get_or b (at + 1) 0) code second) refl
 
-and_false : (x : Bool) → (x && false) ≡ false
-and_false true = refl
-and_false false = refl
-
 pub marker_is_not : (b : List ℕ) (at code other : ℕ) (rest : List ℕ) → drop at b ≡ 255 ∷ code ∷ rest → code ≢ other → marker_at b at other ≡ false
 marker_is_not b at code other rest h differs =
     let second : get_or b (at + 1) 0 ≡ code = sym (get_or-drop at b 1 0) ∙ ap (λ (x : List ℕ). get_or x 1 0) h in
     let no_such : (get_or b (at + 1) 0 == other) ≡ false = ne_eqb (get_or b (at + 1) 0) other (λ e. differs (sym second ∙ e)) in
-    ap (λ (x : Bool). (get_or b at 0 == 255) && x) no_such ∙ and_false (get_or b at 0 == 255)
+    ap (λ (x : Bool). (get_or b at 0 == 255) && x) no_such ∙ and_right (get_or b at 0 == 255) false refl
 
 pub sod_stands : (sot : Sot) → stands_in (kind_of sot) segment.Sod ≡ true
 sod_stands sot =
@@ -130,7 +126,7 @@ module _ (comps tiles : ℕ) (b : List ℕ) (before : List Part) (at : ℕ) (p :
   not_short = elim ends [
     | inl named ↦
         let long : 14 ≤ p.sot.psot = omega (arith, named, whole, after) in
-        ap (λ (x : Bool). nat_lt 0 p.sot.psot && x) (le-ltb p.sot.psot 14 long) ∙ and_false (nat_lt 0 p.sot.psot)
+        ap (λ (x : Bool). nat_lt 0 p.sot.psot && x) (le-ltb p.sot.psot 14 long) ∙ and_right (nat_lt 0 p.sot.psot) false refl
     | inr last ↦ let none : p.sot.psot ≤ 0 = omega (arith, last.0) in rw (le-ltb 0 p.sot.psot none) refl
   ]
 

@@ -1,8 +1,8 @@
 -- Lists of lists, and the planes of every band of a stream that was read.
 use Rattle.std.proofs.Common.{◌≡◌, ◌∙◌, ◌<◌, ◌≤◌, ℕ, false, arith, List, refl, subst, nat_lt, Option, Some, None}
 use Rattle.std.specs.List.{All, flat_map, find, range_with_len}
-use Rattle.std.proofs.lemmas.Bool.Decides.{nat_tests}
 use Rattle.std.proofs.lemmas.List.FromFn.{get_or-map-range_with_len, length-map-range_with_len, get_or-range_with_len, length-range_with_len}
+use Rattle.std.proofs.lemmas.Bool.{ltb-false}
 use Rattle.jx_base.specs.declared.names.Band.{Band}
 use Rattle.jx_base.specs.declared.names.Band.TheVariants.{LL, HL, LH, HH}
 use Rattle.jx_marker.specs.declared.Segment.{Segment}
@@ -12,9 +12,6 @@ use Rattle.jx_geom.specs.Ranges.{HasBand}
 use Rattle.jx_stream.specs.declared.Tile.{Tile}
 use Rattle.jx_stream.specs.Params.{band_count, number_of, planes_of, quant_of, shape_of, shift_of, band_planes, tile_planes, limit_4_of, planes_fault}
 use Rattle.jx_base.proofs.Lists.{find_none, All-flat}
-
-is_most : (n : ℕ) → nat_lt 74 n ≡ false → n ≤ 74
-is_most n h = grind (arith, nat_tests)
 
 limit_none : (o : Option ℕ) → limit_4_of o ≡ None → o ≡ None
 limit_none None h = refl
@@ -37,7 +34,7 @@ pub band_fits : (quant : Quant) (shape : Shape) (shift number : ℕ) → number 
 band_fits quant shape shift number inside h =
     let f : ℕ → ℕ = planes_of quant shape.levels shift in
     let P : ℕ → Type 0 = λ n. nat_lt 74 n ≡ false in
-    is_most (f number) (subst P (get_or-map-range_with_len f 0 (band_count shape.levels) number number 0 inside (omega arith))
+    ltb-false 74 (f number) (subst P (get_or-map-range_with_len f 0 (band_count shape.levels) number number 0 inside (omega arith))
     (h number 0 (omega (arith, length-map-range_with_len f 0 (band_count shape.levels)))))
 
 pub number_inside : (levels r : ℕ) (b : Band) → r ≤ levels → HasBand r b → number_of r b < band_count levels

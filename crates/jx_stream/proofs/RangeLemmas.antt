@@ -45,15 +45,15 @@ pub shapes_at : (s : Stream) (t c : ℕ) (d : CompShape) → c < length s.siz.co
 unfolding shapes_in
 shapes_at s t c d inside = get_or-map-range_with_len (shape_in s t) 0 (length s.siz.comps) c c d inside (omega arith)
 
-tile_of_is : (main : List Segment) (parts : List Part) (t : ℕ) → tile_of main parts t ≡ tile_from main (parts_of t parts)
+pub tile_of_is : (main : List Segment) (parts : List Part) (t : ℕ) → tile_of main parts t ≡ tile_from main (parts_of t parts)
 unfolding tile_of
 tile_of_is main parts t = refl
 
-few : (siz : Siz) → tiles_fault siz ≡ None → tile_number siz ≤ 65535
+pub few_tiles : (siz : Siz) → tiles_fault siz ≡ None → tile_number siz ≤ 65535
 unfolding tiles_fault
-few siz h = grind (arith, nat_tests)
+few_tiles siz h = grind (arith, nat_tests)
 
-planes_fit : (quants : Option Quant) (shapes : Option Shape) (shift number : ℕ) (quant : Quant) (shape : Shape) → quants ≡ Some quant → shapes ≡ Some shape
+pub planes_fit : (quants : Option Quant) (shapes : Option Shape) (shift number : ℕ) (quant : Quant) (shape : Shape) → quants ≡ Some quant → shapes ≡ Some shape
     → number < band_count (shape_or shapes).levels → All (λ (n : ℕ). nat_lt 74 n ≡ false) (band_planes quants shapes shift)
     → planes_of (quant_or quants) (shape_or shapes).levels shift number ≤ 74
 planes_fit None shapes shift number quant shape q e inside h = absurd (cc)
@@ -149,7 +149,7 @@ module _ (b : List ℕ) (s : Stream) (read : IsRead b s) where
     canvas = sized.canvas;
     some_comps = sized.some;
     few_comps = sized.few;
-    few_tiles = few s.siz read.tiles;
+    few_tiles = few_tiles s.siz read.tiles;
     tiles = count_is;
     shapes = λ t inside c within.
         let near : c < length s.siz.comps = omega (arith, shapes_length s t) in

@@ -16,9 +16,6 @@ any_here f i n h t = ap (λ (x : List ℕ). list_any f x) (range_next i n h) ∙
 pub any_later : (f : ℕ → Bool) (i n : ℕ) → i < n → f i ≡ false → list_any f (range_with_len i (n - i)) ≡ list_any f (range_with_len (i + 1) (n - (i + 1)))
 any_later f i n h t = ap (λ (x : List ℕ). list_any f x) (range_next i n h) ∙ rw t refl
 
-pub mapped_here : (p : ℕ → Bool) (g : ℕ → ℕ) (i n : ℕ) → i < n → p (g i) ≡ true → find p (map g (range_with_len i (n - i))) ≡ Some (g i)
-mapped_here p g i n h t = ap (λ (x : List ℕ). find p (map g x)) (range_next i n h) ∙ rw t refl
-
 pub mapped_later : (p : ℕ → Bool) (g : ℕ → ℕ) (i n : ℕ) → i < n → p (g i) ≡ false → find p (map g (range_with_len i (n - i))) ≡ find p (map g (range_with_len (i + 1) (n - (i + 1))))
 mapped_later p g i n h t = ap (λ (x : List ℕ). find p (map g x)) (range_next i n h) ∙ rw t refl
 

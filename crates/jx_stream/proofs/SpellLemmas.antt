@@ -26,12 +26,8 @@ use Rattle.jx_stream.specs.Parts.{marker_at, sot_in, after_sot, kind_of, comes_o
 use Rattle.jx_stream.specs.Spells.{TilePart, all_bytes, head_bytes, part_bytes, part_of, placed, AreSegments, IsTilePart, AreTileParts}
 use Rattle.jx_stream.proofs.FaultLemmas.{none_first, none_later, broken_none, rule_none}
 use Rattle.jx_stream.proofs.HeaderLemmas.{longest_stops, longest_goes, stops_past, size_is_two}
-use Rattle.jx_stream.proofs.PartLemmas.{sot_stands, sod_within, parts_stopped, parts_going, stop_at_eoc, stop_past, goes_clear, part_rises}
-use Rattle.std.proofs.lemmas.Bool.{or_parts, not-false, leb-false, ltb-false, and_parts, eqb-true, cases_Bool}
-
-not_some : (x : Option StreamFault) → is_some x ≡ false → x ≡ None
-not_some None h = refl
-not_some (Some e) h = absurd (cc)
+use Rattle.jx_stream.proofs.PartLemmas.{sot_stands, sod_within, parts_stopped, parts_going, stop_at_eoc, stop_past, goes_clear, part_rises, none_is}
+use Rattle.std.proofs.lemmas.Bool.{or_parts, not-false, leb-false, ltb-false, and_parts, eqb-true, cases_Bool, eq-eqb}
 
 -- a place of a header at which nothing is violated
 
@@ -57,7 +53,7 @@ going : (kind : HeaderKind) (comps : ℕ) (b : List ℕ) (before : List Segment)
 unfolding stops
 going kind comps b before at h =
     let p = or_parts (is_some (segment_fault kind comps b before at)) (ends_header (segment_at comps (drop at b))) h in
-    (not_some (segment_fault kind comps b before at) p.0, p.1)
+    (none_is (segment_fault kind comps b before at) p.0, p.1)
 
 pub begins_at : (comps : ℕ) (b : List ℕ) (at : ℕ) → AreBytes b → first_broken comps (drop at b) ≡ None
     → BeginsWith comps (drop at b) (segment_at comps (drop at b)) (drop (size_at (drop at b)) (drop at b))
@@ -225,13 +221,10 @@ start_rules comps b at h goes =
       rule_none at (first_broken comps (drop at b)) (none_later (broken 23 at (not (marker_at b at SOT || marker_at b at EOC))) (rule_at at (first_broken comps (drop at b))) h),
     )
 
-zero_is : (n : ℕ) → n ≡ 0 → (n == 0) ≡ true
-zero_is n h = grind (arith, nat_tests)
-
 sod_last : (b : List ℕ) (at : ℕ) (sot : Sot) (sod : ℕ) → sod_fault b at sot sod ≡ None → sot.psot ≡ 0 → marker_at b (length b - 2) EOC ≡ true
 unfolding sod_fault
 sod_last b at sot sod h none =
-    let here : (sot.psot == 0) ≡ true = zero_is sot.psot none in
+    let here : (sot.psot == 0) ≡ true = eq-eqb sot.psot 0 none in
     not-false (marker_at b (length b - 2) EOC) (or_parts (not (marker_at b (length b - 2) EOC)) (nat_lt (length b - 2) (sod + 2)) (broken_none 23 (length b - 2) (not (marker_at b (length b - 2) EOC) || nat_lt (length b - 2) (sod + 2)) (rw here at h))).0
 
 -- where a tile-part ends: Psot says, or EOC stands at the end of the file
@@ -350,7 +343,7 @@ module _ (comps : ℕ) (b : List ℕ) (at : ℕ) (sot : Sot) (header : Header) (
   is_part tiles before range header tile turn = record { range = range; header = header; tile = tile; turn = turn }
 
   is_long : sot.psot ≡ 0 → end_of b at sot ≡ length b - 2
-  is_long h = rw (zero_is sot.psot h) refl
+  is_long h = rw (eq-eqb sot.psot 0 h) refl
 
   names_length : (sot.psot == 0) ≡ false → sot.psot ≡ length (part_bytes comps written_of)
   names_length h =

@@ -4,8 +4,10 @@ use Rattle.std.proofs.lemmas.List.{append-nil, drop_at, take-append-drop, drop-a
 use Rattle.std.proofs.lemmas.Bool.Decides.{nat_tests}
 use Rattle.jx_tagtree.specs.declared.BitFault.{BitFault}
 use Rattle.jx_tagtree.specs.declared.BitFault.TheVariants.{Ended, Stuffed}
-use Rattle.jx_tagtree.specs.Header.{Bits, room, is_stuffed, low_bits, before_all, none_after_stuffed, bits_after, bits_of, last_after, bytes_for, end_after, past_last_ff}
+use Rattle.jx_tagtree.specs.Header.{Bits, room, is_stuffed, low_bits, before_all, none_after_stuffed, bits_after, bits_of, bytes_for, end_after, past_last_ff}
 use Rattle.jx_tagtree.specs.Place.{count, Stands}
+use Rattle.jx_base.specs.Markers.{last_after}
+use Rattle.jx_base.proofs.Markers.{last_push}
 
 abbrev bits_with : List Bool → BitFault → Bits
 bits_with l f = record { bits = l; fault = f }
@@ -43,10 +45,6 @@ bits_after-append before (x ∷ xs) ys clean =
 
 pub room-le : (before : ℕ) → room before ≤ 8
 room-le before = grind (arith, nat_tests)
-
-pub last_after-append : (before : ℕ) (xs : List ℕ) (b : ℕ) → last_after before (xs ++ b ∷ []) ≡ b
-last_after-append before [] b = refl
-last_after-append before (x ∷ xs) b = last_after-append x xs b
 
 -- one more byte, whose stuffed bit isn't 1
 pub bits_after-push : (before : ℕ) (xs : List ℕ) (b : ℕ) → (bits_after before xs).fault ≡ Ended → is_stuffed (last_after before xs) b ≡ false →
@@ -116,7 +114,7 @@ Stands-byte bytes used last b left s cut plain enough =
       record {
         within = omega (arith, length-drop used bytes);
         small = smaller;
-        is_last = sym (ap (last_after 0) more ∙ last_after-append 0 (take used bytes) b);
+        is_last = sym (ap (last_after 0) more ∙ last_push 0 (take used bytes) b);
         clean = ap (λ (r : Bits). r.fault) pushed;
         some_left = omega arith;
         begun = λ h. let e : used + 1 - 1 ≡ used = omega arith in rw e (omega arith);

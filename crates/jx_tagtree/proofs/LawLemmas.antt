@@ -9,9 +9,11 @@ use Rattle.std.proofs.lemmas.Bool.Decides.{nat_tests}
 use Rattle.std.proofs.lemmas.Bool.{cases_eq, cases_lt}
 use Rattle.jx_tagtree.specs.declared.BitFault.{BitFault}
 use Rattle.jx_tagtree.specs.declared.BitFault.TheVariants.{Ended, Stuffed}
-use Rattle.jx_tagtree.specs.Header.{Bits, room, is_stuffed, low_bits, before_all, none_after_stuffed, bits_after, bits_of, last_after, number_of, bytes_from, bytes_of, bytes_for, end_after, past_last_ff, IsWritten, ReadsBack, EndsAt}
-use Rattle.jx_tagtree.proofs.HeaderLemmas.{length-low_bits, clean_first, bits_after-append, bits_after-push, bytes_for-cut, last_after-append, room-le, take-push}
+use Rattle.jx_tagtree.specs.Header.{Bits, room, is_stuffed, low_bits, before_all, none_after_stuffed, bits_after, bits_of, number_of, bytes_from, bytes_of, bytes_for, end_after, past_last_ff, IsWritten, ReadsBack, EndsAt}
+use Rattle.jx_tagtree.proofs.HeaderLemmas.{length-low_bits, clean_first, bits_after-append, bits_after-push, bytes_for-cut, room-le, take-push}
 use Rattle.jx_tagtree.proofs.WriterLemmas.{not_stuffed, room-pos}
+use Rattle.jx_base.specs.Markers.{last_after}
+use Rattle.jx_base.proofs.Markers.{last_push}
 
 -- a number of n bits is below 2 to n
 pub number_of-lt : (n : ℕ) (bits : List Bool) → number_of n bits < 2 ^ n
@@ -320,7 +322,7 @@ ends_past bytes n u b rest c is cut plain =
     let pushed : bits_of (take (u + 1) bytes) ≡ record { bits = (bits_of (take u bytes)).bits ++ low_bits (room (last_after 0 (take u bytes))) b; fault = Ended } =
     ap bits_of more ∙ bits_after-push 0 (take u bytes) b c.clean (subst (λ (z : ℕ). is_stuffed z b ≡ false) (sym is) plain) in
     let long : length (low_bits (room (last_after 0 (take u bytes))) b) ≡ 7 = length-low_bits (room (last_after 0 (take u bytes))) b ∙ ap room is in
-    let last : last_after 0 (take (u + 1) bytes) ≡ b = ap (last_after 0) more ∙ last_after-append 0 (take u bytes) b in
+    let last : last_after 0 (take (u + 1) bytes) ≡ b = ap (last_after 0) more ∙ last_push 0 (take u bytes) b in
     let some : 0 < length (drop u bytes) = rw cut (omega arith) in
     let few : length c.filling < 8 = c.few in
     record {
@@ -476,7 +478,7 @@ ends_only bytes n (suc u) enough e =
             let clean_w : (bits_of (take (w + 1) bytes)).fault ≡ Ended = subst (λ (k : ℕ). (bits_of (take k bytes)).fault ≡ Ended) at_w l.clean in
             let within_w : w + 1 ≤ length bytes = (let i : u + 1 ≤ length bytes = within in omega arith) in
             let m : LastByte bytes w = last_byte bytes w within_w clean_w in
-            let ff : m.byte ≡ 255 = sym (last_after-append 0 (take w bytes) m.byte) ∙ ap (last_after 0) (sym m.more) ∙ ap (λ (k : ℕ). last_after 0 (take k bytes)) (sym at_w) ∙ is in
+            let ff : m.byte ≡ 255 = sym (last_push 0 (take w bytes) m.byte) ∙ ap (last_after 0) (sym m.more) ∙ ap (λ (k : ℕ). last_after 0 (take k bytes)) (sym at_w) ∙ is in
             let r : room (last_after 0 (take w bytes)) ≡ 8 = room_other (last_after 0 (take w bytes)) (before_ff (last_after 0 (take w bytes)) m.byte m.plain ff) in
             let yes : (last_after 0 (take u bytes) == 255) ≡ true = grind (arith, nat_tests) in
             let f : length e.filling < 15 = subst (λ (b : Bool). length e.filling < cond b 15 8) yes few in

@@ -1,9 +1,8 @@
 -- The values of nodes, and what a query writes.
-use Rattle.std.proofs.Common.{◌/◌, ◌%◌, ◌≡◌, ◌≢◌, ℕ, zero, suc, ◌+◌, ◌-◌, ◌*◌, ◌^◌, ◌<◌, ◌≤◌, ◌==◌, ◌||◌, min, max, Bool, true, false, List, [], ◌∷◌, ◌++◌, length, get_or, set, take, drop, replicate, refl, sym, ap, ◌∙◌, subst, cond, arith, ◌⊎◌, inl, inr}
+use Rattle.std.proofs.Common.{◌/◌, ◌%◌, ◌≡◌, ℕ, zero, suc, ◌+◌, ◌-◌, ◌*◌, ◌^◌, ◌<◌, ◌≤◌, ◌==◌, ◌||◌, min, max, Bool, true, false, List, [], ◌∷◌, ◌++◌, length, get_or, set, take, drop, replicate, refl, sym, ap, ◌∙◌, subst, cond, arith, ◌⊎◌, inl, inr}
 use Rattle.std.proofs.lemmas.List.{drop_more, get_or_default, get_or-take, length-take-le, drop_all, get_or_past, length-replicate, get_or-replicate}
 use Rattle.std.proofs.lemmas.Grind.{same_number_lists}
-use Rattle.std.proofs.lemmas.Bool.Decides.{nat_tests}
-use Rattle.std.proofs.lemmas.Bool.{cases_eq, cases_lt}
+use Rattle.std.proofs.lemmas.Bool.{cases_eq, cases_lt, ne_eqb, or_right, eq-eqb}
 use Rattle.std.proofs.lemmas.Nat.{div_below, mod_below, mul-le, mul-add-lt, div-mul-add, mod-mul-add, div-add-mod'}
 use Rattle.jx_tagtree.specs.declared.node.Node.{Node}
 use Rattle.jx_tagtree.specs.declared.shape.Level.{Level}
@@ -12,11 +11,12 @@ use Rattle.jx_tagtree.specs.TagTree.{unknown, node_at, node_bits, node_after, Wa
 use Rattle.jx_tagtree.specs.Leaves.{passes, least_from, least_leaf, AreLeaves, IsLeast, Written, told, told_after}
 use Rattle.jx_tagtree.specs.KeptLeaves.{leaves_in, AreNodeValues, KeepsLeaves}
 use Rattle.jx_tagtree.proofs.ShapeLemmas.{IsLevel-base, InLevel-base, IsLevel-over, InLevel-parent, way_begin, way_next}
-use Rattle.jx_tagtree.proofs.WayLemmas.{IsWay, at_top, under, way_is}
-use Rattle.jx_tagtree.proofs.TagLemmas.{way_below, way_le}
+use Rattle.jx_tagtree.proofs.WayLemmas.{IsWay, at_top, under, way_is, way_under}
+use Rattle.jx_tagtree.proofs.TagLemmas.{way_le}
+use Rattle.jx_base.proofs.Tests.{or_false}
 
 -- ---- what a query writes
-way_here : (way : List ℕ) (place : ℕ) → place ≤ length way → 0 < place → drop (place - 1) way ≡ get_or way (place - 1) 0 ∷ drop place way
+pub way_here : (way : List ℕ) (place : ℕ) → place ≤ length way → 0 < place → drop (place - 1) way ≡ get_or way (place - 1) 0 ∷ drop place way
 way_here way place le some =
     let lt : place - 1 < length way = omega arith in
     let back : place - 1 + 1 ≡ place = omega arith in
@@ -58,20 +58,13 @@ walk-same f g t nodes (n ∷ over) same =
     ∙ ap (step g t n) (walk-same f g t nodes over (λ k lt. same (suc k) (omega arith)))
 
 -- ---- which leaves are under a node
-not_here : (m n : ℕ) → m ≢ n → (m == n) ≡ false
-not_here m n ne = grind (arith, nat_tests)
-
-or_false : (b : Bool) → (b || false) ≡ b
-or_false true = refl
-or_false false = refl
-
 -- a way that begins above a node doesn't pass it
 passes-above : (m : ℕ) (l : Level) (node n : ℕ) → IsLevel m l → InLevel l node → n < l.first → passes n (way_from m l node) ≡ false
-passes-above zero l node n s i lt = let first : l.first ≤ node = i.first in let no : (node == n) ≡ false = not_here node n (λ e. omega arith) in ap (λ (b : Bool). b || false) no
+passes-above zero l node n s i lt = let first : l.first ≤ node = i.first in let no : (node == n) ≡ false = ne_eqb node n (λ e. omega arith) in ap (λ (b : Bool). b || false) no
 passes-above (suc m) l node n s i lt =
     let first : l.first ≤ node = i.first in
     let last : node < l.first + l.wide * l.high = i.last in
-    let no : (node == n) ≡ false = not_here node n (λ e. omega arith) in
+    let no : (node == n) ≡ false = ne_eqb node n (λ e. omega arith) in
     by (is_root l) no (passes-above m (over l) (parent_at l node) n (IsLevel-over m l s) (InLevel-parent (suc m) l node s i) (omega arith))
   where
     by : (b : Bool) → (node == n) ≡ false → passes n (way_from m (over l) (parent_at l node)) ≡ false → passes n (cond b (node ∷ []) (node ∷ way_from m (over l) (parent_at l node))) ≡ false
@@ -92,17 +85,14 @@ passes-leaf wide high l n s lt n_lt =
     by true rest = or_false (l == n)
     by false rest = ap (λ (c : Bool). (l == n) || c) rest ∙ or_false (l == n)
 
-same_here : (n : ℕ) → (n == n) ≡ true
-same_here n = grind (arith, nat_tests)
-
 passes-first : (up : ℕ → ℕ) (top n : ℕ) (ways : List ℕ) → IsWay up top n ways → passes n ways ≡ true
-passes-first up top _ _ at_top = ap (λ (b : Bool). b || false) (same_here top)
-passes-first up top _ _ (under {n} {over} lt w) = ap (λ (b : Bool). b || passes n over) (same_here n)
+passes-first up top _ _ at_top = ap (λ (b : Bool). b || false) (eq-eqb top top refl)
+passes-first up top _ _ (under {n} {over} lt w) = ap (λ (b : Bool). b || passes n over) (eq-eqb n n refl)
 
 -- a way that passes a node passes its parent
 passes-parent : (up : ℕ → ℕ) (top a : ℕ) (ways : List ℕ) → IsWay up top a ways → (n : ℕ) → n < top → passes n ways ≡ true → passes (up n) ways ≡ true
 passes-parent up top _ _ at_top n lt h =
-    let no : (top == n) ≡ false = not_here top n (λ e. omega arith) in
+    let no : (top == n) ≡ false = ne_eqb top n (λ e. omega arith) in
     let none : passes n (top ∷ []) ≡ false = ap (λ (b : Bool). b || false) no in
     absurd (let e : true ≡ false = sym h ∙ none in cc)
 passes-parent up top _ _ (under {n = m} {over} m_lt w) n lt h = by (m == n) refl (cases_eq m n) (λ k. passes-parent up top (up m) over w n lt k) (passes-first up top (up m) over w)
@@ -114,7 +104,7 @@ passes-parent up top _ _ (under {n = m} {over} m_lt w) n lt h = by (m == n) refl
     by : (b : Bool) → (m == n) ≡ b → (m ≡ n) ⊎ (m ≡ n → ⊥) → (passes n over ≡ true → passes (up n) over ≡ true) → passes (up m) over ≡ true → passes (up n) (m ∷ over) ≡ true
     by b e (inl same) again first = ap (λ (c : Bool). (m == up n) || c) (subst (λ (q : ℕ). passes (up q) over ≡ true) same first) ∙ or_true (m == up n)
     by b e (inr ne) again first =
-        let no : (m == n) ≡ false = not_here m n ne in
+        let no : (m == n) ≡ false = ne_eqb m n ne in
         let rest : passes n over ≡ true = sym (ap (λ (c : Bool). c || passes n over) no) ∙ h in
         ap (λ (c : Bool). (m == up n) || c) (again rest) ∙ or_true (m == up n)
 
@@ -153,7 +143,7 @@ least_past : (ways : ℕ → List ℕ) (n first : ℕ) (leaves : List ℕ) → n
     least_from ways n first leaves ≡ 2 ^ 32 - 1
 least_past ways n first [] lt own = refl
 least_past ways n first (leaf ∷ leaves) lt own =
-    let no : passes n (ways first) ≡ false = own first (omega arith) (omega arith) ∙ not_here first n (λ e. omega arith) in
+    let no : passes n (ways first) ≡ false = own first (omega arith) (omega arith) ∙ ne_eqb first n (λ e. omega arith) in
     ap (λ (b : Bool). cond b (min leaf (least_from ways n (first + 1) leaves)) (least_from ways n (first + 1) leaves)) no
     ∙ least_past ways n (first + 1) leaves (omega arith) (λ l le l_lt. own l (omega arith) (omega arith))
 
@@ -162,14 +152,14 @@ least_own : (ways : ℕ → List ℕ) (first k : ℕ) (leaves : List ℕ) → k 
 least_own ways first k [] lt fit own = absurd (omega arith)
 least_own ways first zero (leaf ∷ leaves) lt fit own =
     let here : first + 0 ≡ first = omega arith in
-    let yes : passes (first + 0) (ways first) ≡ true = own first (omega arith) (omega arith) ∙ ap (λ (q : ℕ). first == q) here ∙ same_here first in
+    let yes : passes (first + 0) (ways first) ≡ true = own first (omega arith) (omega arith) ∙ ap (λ (q : ℕ). first == q) here ∙ eq-eqb first first refl in
     let rest : least_from ways (first + 0) (first + 1) leaves ≡ 2 ^ 32 - 1 = least_past ways (first + 0) (first + 1) leaves (omega arith) (λ l le l_lt. own l (omega arith) (omega arith)) in
     let fits : leaf < 2 ^ 32 = fit 0 in
     let least : min leaf (2 ^ 32 - 1) ≡ leaf = omega arith in
     ap (λ (b : Bool). cond b (min leaf (least_from ways (first + 0) (first + 1) leaves)) (least_from ways (first + 0) (first + 1) leaves)) yes
     ∙ ap (λ (q : ℕ). min leaf q) rest ∙ least
 least_own ways first (suc k) (leaf ∷ leaves) lt fit own =
-    let no : passes (first + suc k) (ways first) ≡ false = own first (omega arith) (omega arith) ∙ not_here first (first + suc k) (λ e. omega arith) in
+    let no : passes (first + suc k) (ways first) ≡ false = own first (omega arith) (omega arith) ∙ ne_eqb first (first + suc k) (λ e. omega arith) in
     let shift : first + suc k ≡ first + 1 + k = omega arith in
     ap (λ (b : Bool). cond b (min leaf (least_from ways (first + suc k) (first + 1) leaves)) (least_from ways (first + suc k) (first + 1) leaves)) no
     ∙ ap (λ (q : ℕ). least_from ways q (first + 1) leaves) shift
@@ -199,33 +189,6 @@ lowered_begin wide high leaves values long top = record {
   ];
   each = λ n le. (let e : get_or values n 0 ≡ 2 ^ 32 - 1 = top n le in let h : least_from (way wide high) n 0 leaves ≤ 2 ^ 32 - 1 = least_from-le (way wide high) n 0 leaves in omega arith);
 }
-
-pub lowered_next : (wide high : ℕ) (leaves : List ℕ) (count : ℕ) (values new : List ℕ) → count < length leaves → Lowered wide high leaves count values → length new ≡ length values →
-    ((n : ℕ) → n < length values → get_or new n 0 ≡ cond (passes n (way wide high count)) (min (get_or values n 0) (get_or leaves count 0)) (get_or values n 0)) →
-    Lowered wide high leaves (count + 1) new
-lowered_next wide high leaves count values new lt l same each =
-    let long : length values ≡ root wide high + 1 = l.long in
-    record {
-      long = same ∙ long;
-      fit = λ n. elim (cases_lt n (length values)) [
-        | inl n_lt ↦ fits n (passes n (way wide high count)) (each n n_lt) (l.fit n)
-        | inr ge ↦ (let e : get_or new n 0 ≡ 0 = get_or_past new n 0 (omega arith) in omega arith)
-      ];
-      each = λ n le. by n (passes n (way wide high count)) (each n (omega arith))
-          (sym (ap (λ (r : List ℕ). min (get_or values n 0) (least_from (way wide high) n count r)) (drop_more leaves count 0 lt)) ∙ l.each n le);
-    }
-  where
-    fits : (n : ℕ) (b : Bool) → get_or new n 0 ≡ cond b (min (get_or values n 0) (get_or leaves count 0)) (get_or values n 0) → get_or values n 0 ≤ 2 ^ 32 - 1 → get_or new n 0 ≤ 2 ^ 32 - 1
-    fits n true e le = let e' : get_or new n 0 ≡ min (get_or values n 0) (get_or leaves count 0) = e in omega arith
-    fits n false e le = let e' : get_or new n 0 ≡ get_or values n 0 = e in omega arith
-
-    by : (n : ℕ) (b : Bool) → get_or new n 0 ≡ cond b (min (get_or values n 0) (get_or leaves count 0)) (get_or values n 0) →
-        min (get_or values n 0) (cond b (min (get_or leaves count 0) (least_from (way wide high) n (count + 1) (drop (count + 1) leaves))) (least_from (way wide high) n (count + 1) (drop (count + 1) leaves))) ≡ least_leaf wide high leaves n →
-        min (get_or new n 0) (least_from (way wide high) n (count + 1) (drop (count + 1) leaves)) ≡ least_leaf wide high leaves n
-    by n true e h = let e' : get_or new n 0 ≡ min (get_or values n 0) (get_or leaves count 0) = e in
-        let r : ℕ = least_from (way wide high) n (count + 1) (drop (count + 1) leaves) in
-        (let regroup : min (get_or new n 0) r ≡ min (get_or values n 0) (min (get_or leaves count 0) r) = omega arith in regroup) ∙ h
-    by n false e h = ap (λ (q : ℕ). min q (least_from (way wide high) n (count + 1) (drop (count + 1) leaves))) e ∙ h
 
 pub lowered_end : (wide high : ℕ) (leaves : List ℕ) (count : ℕ) (values : List ℕ) → length leaves ≤ count → Lowered wide high leaves count values → AreNodeValues wide high leaves values
 lowered_end wide high leaves count values all l = record {
@@ -263,7 +226,7 @@ all_highest wide high leaves count values size e = lowered_begin wide high leave
 pub way_range : (wide high leaf : ℕ) (ways values : List ℕ) → IsShape wide high → leaf < wide * high → ways ≡ way wide high leaf → length values ≡ root wide high + 1 →
     (k : ℕ) → k < length ways → get_or ways k 0 < length values
 way_range wide high leaf ways values s lt e long k k_lt =
-    let le : get_or ways k 0 ≤ root wide high = way_below (parent wide high) (root wide high) leaf ways (subst (λ (w : List ℕ). IsWay (parent wide high) (root wide high) leaf w) (sym e) (way_is wide high leaf s lt)) k k_lt in
+    let le : get_or ways k 0 ≤ root wide high = way_under (parent wide high) (root wide high) leaf ways (subst (λ (w : List ℕ). IsWay (parent wide high) (root wide high) leaf w) (sym e) (way_is wide high leaf s lt)) k k_lt in
     omega arith
 
 pub made_keeps : (wide high : ℕ) (leaves values : List ℕ) (nodes : List Node) → IsShape wide high → length leaves ≡ wide * high → ((i : ℕ) → get_or leaves i 0 < 2 ^ 32) → AreNodeValues wide high leaves values →
@@ -288,7 +251,7 @@ module _ (wide high leaf t : ℕ) (values : List ℕ) (nodes : List Node) (keeps
       way_range' : (wide high leaf : ℕ) (ways : List ℕ) (values : List Node) → IsShape wide high → leaf < wide * high → ways ≡ way wide high leaf → length values ≡ root wide high + 1 →
           (k : ℕ) → k < length ways → get_or ways k 0 < length values
       way_range' wide high leaf ways values s lt e long k k_lt =
-          let le : get_or ways k 0 ≤ root wide high = way_below (parent wide high) (root wide high) leaf ways (subst (λ (w : List ℕ). IsWay (parent wide high) (root wide high) leaf w) (sym e) (way_is wide high leaf s lt)) k k_lt in
+          let le : get_or ways k 0 ≤ root wide high = way_under (parent wide high) (root wide high) leaf ways (subst (λ (w : List ℕ). IsWay (parent wide high) (root wide high) leaf w) (sym e) (way_is wide high leaf s lt)) k k_lt in
           omega arith
 
   pub told_values : (slice : List ℕ) → slice ≡ values → (k : ℕ) → k < length ways → get_or ways k 0 < length slice
@@ -345,16 +308,12 @@ child l p some_wide i =
     half_of n = omega arith
 
 passes-own : (m : ℕ) (l : Level) (n : ℕ) → passes n (way_from m l n) ≡ true
-passes-own zero l n = ap (λ (b : Bool). b || false) (same_here n)
+passes-own zero l n = ap (λ (b : Bool). b || false) (eq-eqb n n refl)
 passes-own (suc m) l n = by (is_root l)
   where
     by : (b : Bool) → passes n (cond b (n ∷ []) (n ∷ way_from m (over l) (parent_at l n))) ≡ true
-    by true = ap (λ (c : Bool). c || false) (same_here n)
-    by false = ap (λ (c : Bool). c || passes n (way_from m (over l) (parent_at l n))) (same_here n)
-
-true_or : (b c : Bool) → c ≡ true → (b || c) ≡ true
-true_or true c h = refl
-true_or false c h = h
+    by true = ap (λ (c : Bool). c || false) (eq-eqb n n refl)
+    by false = ap (λ (c : Bool). c || passes n (way_from m (over l) (parent_at l n))) (eq-eqb n n refl)
 
 -- a node from a level on is on the way of a node of that level
 has_under : (m : ℕ) (l : Level) (n : ℕ) → IsLevel m l → l.first ≤ n → n ≤ root_from m l → (q : ℕ) × InLevel l q × (passes n (way_from m l q) ≡ true)
@@ -382,7 +341,7 @@ has_under (suc m) l n s le top =
         let r = again t in
         let c = child l r.0 s.some_wide r.1 in
         let rest : passes n (way_from m (over l) (parent_at l c.0)) ≡ true = subst (λ (p : ℕ). passes n (way_from m (over l) p) ≡ true) (sym c.2) r.2 in
-        (c.0, c.1, ap (passes n) (way_next m l c.0 e) ∙ true_or (c.0 == n) (passes n (way_from m (over l) (parent_at l c.0))) rest)
+        (c.0, c.1, ap (passes n) (way_next m l c.0 e) ∙ or_right (c.0 == n) (passes n (way_from m (over l) (parent_at l c.0))) rest)
 
 -- a leaf is under each node
 leaf_under : (wide high n : ℕ) → IsShape wide high → n ≤ root wide high → (l : ℕ) × (l < wide * high) × (passes n (way wide high l) ≡ true)

@@ -1,7 +1,7 @@
 -- Laws of queries.
-use Rattle.std.proofs.Common.{◌≡◌, ◌&&◌, ℕ, zero, suc, ◌+◌, ◌*◌, ◌<◌, ◌≤◌, max, nat_lt, nat_le, not, Bool, true, false, List, [], ◌∷◌, ◌++◌, length, get_or, map, replicate, refl, sym, ap, ◌∙◌, subst, cond, arith, append_assoc, Some, ◌⊎◌, inl, inr}
+use Rattle.std.proofs.Common.{◌≡◌, ◌&&◌, ℕ, zero, suc, ◌+◌, ◌*◌, ◌<◌, ◌≤◌, max, nat_lt, nat_le, not, Bool, true, false, List, [], ◌∷◌, ◌++◌, length, get_or, map, replicate, refl, sym, ap, ◌∙◌, subst, cond, arith, append_assoc, Some, inl, inr}
 use Rattle.std.proofs.lemmas.List.{append_cancel_right, length-replicate, get_or-replicate, get_or_past}
-use Rattle.std.proofs.lemmas.Bool.{cases_lt}
+use Rattle.std.proofs.lemmas.Bool.{cases_Bool, cases_lt}
 use Rattle.std.proofs.lemmas.Bool.Decides.{nat_tests}
 use Rattle.jx_tagtree.specs.declared.node.Node.{Node}
 use Rattle.jx_tagtree.specs.Shape.{IsShape, root, parent, way}
@@ -57,12 +57,8 @@ completed-other : (nodes : List Node) (n : ℕ) → (node_at nodes n).settled �
 unfolding completed
 completed-other nodes n e = ap (λ (b : Bool). cond b (node_at nodes n).known (greatest nodes)) e
 
-either : (b : Bool) → (b ≡ true) ⊎ (b ≡ false)
-either true = inl refl
-either false = inr refl
-
 completed-le : (nodes : List Node) (n : ℕ) → completed nodes n ≤ greatest nodes
-completed-le nodes n = elim (either (node_at nodes n).settled) [
+completed-le nodes n = elim (cases_Bool (node_at nodes n).settled) [
   | inl e ↦ (let s : completed nodes n ≡ (node_at nodes n).known = completed-settled nodes n e in let h : (node_at nodes n).known ≤ greatest nodes = greatest-ge nodes n in omega arith)
   | inr e ↦ (let s : completed nodes n ≡ greatest nodes = completed-other nodes n e in omega arith)
 ]
@@ -71,7 +67,7 @@ pub known_values : (tree : Tree) → IsTree tree → (values : ℕ → ℕ) × V
 known_values tree is = (
   completed tree.nodes,
   record {
-    are = λ n lt. elim (either (node_at tree.nodes n).settled) [
+    are = λ n lt. elim (cases_Bool (node_at tree.nodes n).settled) [
       | inl e ↦
           (let s = is.sound n lt e in
           let here : completed tree.nodes n ≡ (node_at tree.nodes n).known = completed-settled tree.nodes n e in
@@ -83,7 +79,7 @@ known_values tree is = (
           let le : completed tree.nodes (parent tree.wide tree.high n) ≤ greatest tree.nodes = completed-le tree.nodes (parent tree.wide tree.high n) in
           omega arith)
     ];
-    agree = λ n. elim (either (node_at tree.nodes n).settled) [
+    agree = λ n. elim (cases_Bool (node_at tree.nodes n).settled) [
       | inl e ↦
           (let here : completed tree.nodes n ≡ (node_at tree.nodes n).known = completed-settled tree.nodes n e in
           record { known = omega arith; settled = λ h. sym here })

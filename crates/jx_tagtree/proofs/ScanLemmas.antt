@@ -4,10 +4,11 @@ use Rattle.std.specs.Prelude.{Option, option_map}
 use Rattle.jx_tagtree.specs.Header.{Took, Reading, to_come, advance}
 use Rattle.std.specs.Prelude.{option_and_then}
 use Rattle.std.proofs.Common.{drop, get_or, set}
-use Rattle.std.proofs.lemmas.List.{drop_more, get_or_default}
+use Rattle.std.proofs.lemmas.List.{get_or_default}
 use Rattle.jx_tagtree.specs.declared.node.Node.{Node}
 use Rattle.jx_tagtree.specs.TagTree.{node_at, unknown}
 use Rattle.jx_tagtree.specs.Scan.{Zeros, scan, more_zeros, Found, scan_one, Scanned, scanned, scan_node, scan_way}
+use Rattle.jx_tagtree.proofs.LeafLemmas.{way_here}
 
 abbrev reading_at : Reading → ℕ → Reading
 reading_at r n = record r { taken = n }
@@ -30,9 +31,6 @@ Took-then from mid to t u =
       u.2 ∙ ap (λ (r : Reading). advance r (length u.0)) t.2 ∙ ap (λ (n : ℕ). reading_at from n) sum,
     )
 
-pub Took-none : (from : Reading) → Took from from
-Took-none from = let same : from.taken ≡ from.taken + 0 = omega arith in ([], refl, ap (λ (n : ℕ). reading_at from n) same)
-
 -- one more zero
 pub scan_zero : (start known threshold : ℕ) (rest : List Bool) → start ≤ known → known < threshold →
     option_map (more_zeros (known - start)) (scan (threshold - known) (false ∷ rest)) ≡ option_map (more_zeros (known + 1 - start)) (scan (threshold - (known + 1)) rest)
@@ -46,12 +44,6 @@ scan_zero start known threshold rest begun lt =
         ap (λ (n : ℕ). let w : Zeros = record { zeros = n; one = z.one; rest = z.rest } in Some w) sum
 
 -- ---- a way, from its end on
-way_at : (way : List ℕ) (place : ℕ) → place ≤ length way → 0 < place → drop (place - 1) way ≡ get_or way (place - 1) 0 ∷ drop place way
-way_at way place le some =
-    let lt : place - 1 < length way = omega arith in
-    let back : place - 1 + 1 ≡ place = omega arith in
-    drop_more way (place - 1) 0 lt ∙ ap (λ (k : ℕ). get_or way (place - 1) 0 ∷ drop k way) back
-
 abbrev at_place : List Node → ℕ → List Bool → Scanned
 at_place nodes above rest = record { nodes = nodes; known = above; rest = rest }
 
@@ -64,7 +56,7 @@ one_more : (t : ℕ) (begin : List Node) (way : List ℕ) (place at : ℕ) (bits
     scan_way t begin (drop (place - 1) way) bits ≡ option_map (scanned at (at_place nodes above rest)) f
 one_more t begin way place at bits nodes above rest node f le some here lt read before scan =
     let node_is : node_at nodes at ≡ node = get_or_default nodes at unknown node lt ∙ sym read in
-    ap (λ (w : List ℕ). scan_way t begin w bits) (way_at way place le some)
+    ap (λ (w : List ℕ). scan_way t begin w bits) (way_here way place le some)
     ∙ ap (λ (n : ℕ). option_and_then (scan_node t n) (scan_way t begin (drop place way) bits)) (sym here)
     ∙ ap (option_and_then (scan_node t at)) before
     ∙ ap (λ (y : Node). option_map (scanned at (at_place nodes above rest)) (scan_one t y above rest)) node_is

@@ -15,7 +15,7 @@ pos_right : (a b : ℕ) → 1 ≤ a * b → 1 ≤ b
 pos_right a zero h = let e : a * 0 ≡ 0 = omega arith in omega arith
 pos_right a (suc b) h = omega arith
 
-le_product : (a b : ℕ) → 1 ≤ b → a ≤ a * b
+pub le_product : (a b : ℕ) → 1 ≤ b → a ≤ a * b
 le_product a zero h = absurd (omega arith)
 le_product a (suc b) h = let e : a * suc b ≡ a + a * b = omega arith in omega arith
 
@@ -96,12 +96,6 @@ InLevel-parent n l node s i =
 pub not_top : (l : Level) (n : ℕ) → IsLevel n l → is_root l ≡ false → (m : ℕ) × (n ≡ suc m)
 not_top l zero s top = absurd (let t : is_root l ≡ true = root_at_zero l s in cc)
 not_top l (suc m) s top = (m, refl)
-
-pub level_wide : (n : ℕ) (l : Level) → IsLevel n l → l.wide ≤ 2 ^ 20
-level_wide n l s = let w : l.wide ≤ l.wide * l.high = le_product l.wide l.high s.some_high in let f : l.wide * l.high ≤ 2 ^ 20 = s.few in omega arith
-
-pub level_high : (n : ℕ) (l : Level) → IsLevel n l → l.high ≤ 2 ^ 20
-level_high n l s = let w : l.high ≤ l.wide * l.high = le_product' l.wide l.high s.some_wide in let f : l.wide * l.high ≤ 2 ^ 20 = s.few in omega arith
 
 pub level_first : (n : ℕ) (l : Level) → IsLevel n l → l.first ≤ 20 * 2 ^ 20
 level_first n l s =
@@ -256,13 +250,3 @@ rise_next top counter l r is =
       is_level = subst (λ (k : ℕ). IsLevel k (over l)) left' (IsLevel-over m.0 l (subst (λ (k : ℕ). IsLevel k l) left r.is_level));
       same = ap (λ (k : ℕ). root_from k (over l)) (sym left') ∙ sym (ap (λ (b : Bool). cond b l.first (root_from m.0 (over l))) is) ∙ ap (λ (k : ℕ). root_from k l) (sym left) ∙ r.same;
     }
-
-pub rise_end : (top counter : ℕ) (l : Level) → Rises top counter l → is_root l ≡ true → l.first ≡ top
-rise_end top counter l r is = at (20 - counter) ∙ r.same
-  where
-    at : (n : ℕ) → l.first ≡ root_from n l
-    at zero = refl
-    at (suc n) = sym (ap (λ (b : Bool). cond b l.first (root_from n (over l))) is)
-
-pub rise_last : (top counter : ℕ) (l : Level) → Rises top counter l → 20 ≤ counter → l.first ≡ top
-rise_last top counter l r le = let none : 20 - counter ≡ 0 = omega arith in ap (λ (k : ℕ). root_from k l) (sym none) ∙ r.same

@@ -1,5 +1,5 @@
 -- What a query reads, against the values of the nodes.
-use Rattle.std.proofs.Common.{◌&&◌, ◌||◌, ◌≡◌, ◌≢◌, ℕ, zero, suc, ◌+◌, ◌-◌, ◌*◌, ◌<◌, ◌≤◌, min, max, nat_lt, nat_le, not, Bool, true, false, List, [], ◌∷◌, ◌++◌, length, get_or, set, drop, replicate, refl, sym, ap, ◌∙◌, subst, cond, arith, append_assoc, Some, None, ◌⊎◌, inl, inr}
+use Rattle.std.proofs.Common.{◌&&◌, ◌||◌, ◌≡◌, ◌≢◌, ℕ, zero, suc, ◌+◌, ◌-◌, ◌*◌, ◌<◌, ◌≤◌, min, max, nat_lt, nat_le, Bool, true, false, List, [], ◌∷◌, ◌++◌, length, get_or, set, drop, replicate, refl, sym, ap, ◌∙◌, subst, cond, arith, append_assoc, Some, None, ◌⊎◌, inl, inr}
 use Rattle.std.specs.Prelude.{Option, option_map, option_and_then}
 use Rattle.std.proofs.lemmas.List.{get_or-set_same, get_or-set_other, set-get_or, length-set, append_cancel_right}
 use Rattle.std.proofs.lemmas.Bool.Decides.{nat_tests}
@@ -10,20 +10,9 @@ use Rattle.jx_tagtree.specs.Scan.{Zeros, scan, more_zeros, Found, found, scan_on
 use Rattle.jx_tagtree.specs.Kept.{KeepsTree, IsWayIn}
 use Rattle.jx_tagtree.specs.Header.{Took, Reading, to_come, advance}
 use Rattle.jx_tagtree.specs.Shape.{root, parent, way}
-use Rattle.jx_tagtree.proofs.WayLemmas.{IsWay, at_top, under, way_is}
-
-pub not_false : (b : Bool) → not b ≡ false → b ≡ true
-not_false true h = refl
-not_false false h = absurd (let x : true ≡ false = h in cc)
-
-pub not_true : (b : Bool) → not b ≡ true → b ≡ false
-not_true true h = absurd (let x : false ≡ true = h in cc)
-not_true false h = refl
+use Rattle.jx_tagtree.proofs.WayLemmas.{IsWay, at_top, under, way_is, way_under}
 
 -- ---- the bits of one node
-ones : Bool → List Bool
-ones b = cond b (true ∷ []) []
-
 -- what was scanned stood there
 scan_ok : (n : ℕ) (bits : List Bool) (z : Zeros) → scan n bits ≡ Some z →
     (bits ≡ replicate z.zeros false ++ cond z.one (true ∷ []) [] ++ z.rest) × (z.one ≡ true → z.zeros < n) × (z.one ≡ false → z.zeros ≡ n)
@@ -559,13 +548,6 @@ part_sound up top t nodes bits _ _ at_top long sound (suc zero) r h = let is : s
 part_sound up top t nodes bits _ _ at_top long sound (suc (suc k)) r h = let is : scanned_of nodes 0 bits ≡ r = cc in subst (λ (s : Scanned). (length s.nodes ≡ length nodes) × Sound up top s.nodes) is (refl, sound)
 part_sound up top t nodes bits _ _ (under {n} {over} lt w) long sound (suc k) r h = part_sound up top t nodes bits (up n) over w long sound k r h
 
--- every node of a way is one of the tree's
-pub way_below : (up : ℕ → ℕ) (top n : ℕ) (ways : List ℕ) → IsWay up top n ways → (k : ℕ) → k < length ways → get_or ways k 0 ≤ top
-way_below up top _ _ at_top zero lt = omega arith
-way_below up top _ _ at_top (suc k) lt = absurd (omega arith)
-way_below up top _ _ (under {n} {over} lt w) zero k_lt = omega arith
-way_below up top _ _ (under {n} {over} lt w) (suc k) k_lt = way_below up top (up n) over w k (omega arith)
-
 abbrev pub tree_of : ℕ → ℕ → List Node → Tree
 tree_of wide high nodes = record { wide = wide; high = high; nodes = nodes }
 
@@ -577,7 +559,7 @@ module _ (wide high leaf t : ℕ) (inside : leaf < wide * high) (nodes : List No
   long_enough = let e : length nodes ≡ root wide high + 1 = keeps.long in omega arith
 
   pub in_range : (k : ℕ) → k < length (way wide high leaf) → get_or (way wide high leaf) k 0 < length nodes
-  in_range k lt = let le : get_or (way wide high leaf) k 0 ≤ root wide high = way_below (parent wide high) (root wide high) leaf (way wide high leaf) here k lt in
+  in_range k lt = let le : get_or (way wide high leaf) k 0 ≤ root wide high = way_under (parent wide high) (root wide high) leaf (way wide high leaf) here k lt in
       let e : length nodes ≡ root wide high + 1 = keeps.long in omega arith
 
   pub part_keeps : (bits : List Bool) (new : List Node) → PartRead t nodes (way wide high leaf) bits new → KeepsTree wide high new
@@ -674,7 +656,7 @@ module _ (nodes : List Node) (leaf : ℕ) (ways : List ℕ) (w : IsWayIn nodes l
   long_there = let e : length nodes ≡ root w.wide w.high + 1 = w.tree.long in omega arith
 
   pub way_range : (k : ℕ) → k < length ways → get_or ways k 0 < length nodes
-  way_range k lt = let le : get_or ways k 0 ≤ root w.wide w.high = way_below (parent w.wide w.high) (root w.wide w.high) leaf ways way_there k lt in
+  way_range k lt = let le : get_or ways k 0 ≤ root w.wide w.high = way_under (parent w.wide w.high) (root w.wide w.high) leaf ways way_there k lt in
       let e : length nodes ≡ root w.wide w.high + 1 = w.tree.long in omega arith
 
   -- all its nodes were read

@@ -50,7 +50,7 @@ unfolding way root parent
 way_is wide high leaf s h = climbs (parent_from 20 (base wide high)) (root_from 20 (base wide high)) 20 (base wide high) leaf (IsLevel-base wide high s) (InLevel-base wide high leaf h) (λ q le. refl) refl
 
 -- ---- the fields of a way
-way_under : (up : ℕ → ℕ) (top n : ℕ) (ways : List ℕ) → IsWay up top n ways → (k : ℕ) → k < length ways → get_or ways k 0 ≤ top
+pub way_under : (up : ℕ → ℕ) (top n : ℕ) (ways : List ℕ) → IsWay up top n ways → (k : ℕ) → k < length ways → get_or ways k 0 ≤ top
 way_under up top _ _ at_top zero lt = omega arith
 way_under up top _ _ at_top (suc k) lt = absurd (omega arith)
 way_under up top _ _ (under {n} {over} lt w) zero k_lt = omega arith

@@ -1,13 +1,15 @@
 -- Bits that are put into bytes.
-use Rattle.std.proofs.Common.{◌≡◌, ℕ, zero, suc, ◌+◌, ◌-◌, ◌*◌, ◌/◌, ◌%◌, ◌^◌, ◌<◌, ◌≤◌, ◌==◌, nat_le, Bool, true, false, ◌&&◌, List, [], ◌∷◌, ◌++◌, length, drop, get_or, refl, sym, ap, ◌∙◌, subst, cond, arith, append_assoc, length-append, add-one}
+use Rattle.std.proofs.Common.{◌≡◌, ℕ, zero, suc, ◌+◌, ◌-◌, ◌*◌, ◌/◌, ◌%◌, ◌^◌, ◌<◌, ◌≤◌, ◌==◌, nat_le, Bool, true, false, ◌&&◌, List, [], ◌∷◌, ◌++◌, length, drop, get_or, refl, sym, ap, ◌∙◌, subst, cond, arith, append_assoc, length-append, add-one, mod-eq_of_lt}
 use Rattle.std.proofs.lemmas.List.{append-nil, drop_at, drop_all}
 use Rattle.std.proofs.lemmas.Nat.{mod-pow-add, shr-shr, pow-add}
 use Rattle.std.proofs.Math.Nat.{two-pow-succ, mod-eq_of_lt}
 use Rattle.std.proofs.lemmas.Bool.Decides.{nat_tests}
 use Rattle.jx_tagtree.specs.declared.BitFault.TheVariants.{Ended}
-use Rattle.jx_tagtree.specs.Header.{Bits, room, is_stuffed, low_bits, bits_after, bits_of, last_after, number_of, bytes_from, bytes_of}
+use Rattle.jx_tagtree.specs.Header.{Bits, room, is_stuffed, low_bits, bits_after, bits_of, number_of, bytes_from, bytes_of}
 use Rattle.jx_tagtree.specs.Place.{Fills, given, closed}
-use Rattle.jx_tagtree.proofs.HeaderLemmas.{length-low_bits, clean_first, bits_after-push, last_after-append}
+use Rattle.jx_tagtree.proofs.HeaderLemmas.{length-low_bits, clean_first, bits_after-push}
+use Rattle.jx_base.specs.Markers.{last_after}
+use Rattle.jx_base.proofs.Markers.{last_push}
 
 -- the number of a bit
 abbrev pub as_number : Bool → ℕ
@@ -97,9 +99,6 @@ byte_fits before byte small plain = by (before == 255) plain
     by true h = let lt : byte < 128 = grind (arith, nat_tests) in lt
     by false h = small
 
-mod_small : (b m : ℕ) → b < m → b % m ≡ b
-mod_small b m lt = mod-eq_of_lt lt
-
 -- whole bytes are written again as they are
 pub bytes_from-whole : (fuel before : ℕ) (bytes : List ℕ) (tail : List Bool) → (bits_after before bytes).fault ≡ Ended → ((i : ℕ) → get_or bytes i 0 < 256) →
     length ((bits_after before bytes).bits ++ tail) < fuel →
@@ -117,7 +116,7 @@ bytes_from-whole (suc fuel) before (b ∷ bytes) tail clean small enough =
     let some : 0 < room before = room-pos before in
     let long : length ((bits_after before (b ∷ bytes)).bits ++ tail) ≡ room before + length rest = ap length whole ∙ counted in
     let byte : number_of (room before) (low_bits (room before) b ++ rest) ≡ b =
-    number_of-low_bits (room before) b rest ∙ mod_small b (2 ^ room before) (byte_fits before b (small 0) h.0) in
+    number_of-low_bits (room before) b rest ∙ mod-eq_of_lt (byte_fits before b (small 0) h.0) in
     let more : 0 < length (low_bits (room before) b ++ rest) = omega arith in
     let left : length rest < fuel = omega arith in
     let r = bytes_from-whole fuel b bytes tail rest_clean (λ i. small (suc i)) left in (
@@ -153,7 +152,7 @@ Fills-byte bytes last current filled next b w full e small =
     let pushed : bits_of (bytes ++ next ∷ []) ≡ record { bits = (bits_of bytes).bits ++ low_bits (room (last_after 0 bytes)) next; fault = Ended } =
     bits_after-push 0 bytes next w.clean (subst (λ (z : ℕ). is_stuffed z next ≡ false) w.is_last plain) in (
       record {
-        is_last = sym (last_after-append 0 bytes next);
+        is_last = sym (last_push 0 bytes next);
         clean = ap (λ (r : Bits). r.fault) pushed;
         are_bytes = λ i. bytes_more bytes next w.are_bytes small i;
         short = room-pos next;
@@ -195,7 +194,7 @@ closed-filled bytes last current filled byte w some e =
     let apart : filled + (room last - filled) ≡ room last = omega arith in
     let some_bits : 0 < length tail = omega arith in
     let few_bits : length tail ≤ room last = omega arith in
-    let whole : current % 2 ^ filled ≡ current = mod_small current (2 ^ filled) w.fits in
+    let whole : current % 2 ^ filled ≡ current = mod-eq_of_lt w.fits in
     let number : number_of (room last) tail ≡ byte =
     ap (λ (n : ℕ). number_of n tail) (sym apart) ∙ number_of-short filled (room last - filled) current ∙ ap (λ (n : ℕ). n * 2 ^ (room last - filled)) whole ∙ sym e in
     sym (r.2 ∙ ap (λ (z : ℕ). bytes ++ bytes_from r.0 z tail) lead

@@ -2,6 +2,7 @@
 use Rattle.std.specs.Prelude.{◌≡◌, ◌≢◌, ◌<◌, ◌≤◌, replicate, slice_index, ℕ, zero, suc, ◌+◌, ◌-◌, ◌/◌, ◌%◌, ◌^◌, ◌==◌, nat_le, Bool, true, false, ◌&&◌, List, [], ◌∷◌, ◌++◌, length, take, drop, if◌then◌else◌, Option, Some, None, Result, Ok, Err}
 use Rattle.jx_tagtree.specs.declared.BitFault.{BitFault}
 use Rattle.jx_tagtree.specs.declared.BitFault.TheVariants.{Ended, Stuffed}
+use Rattle.jx_base.specs.Markers.{last_after}
 
 -- the bits of some bytes, and the fault that stands after them
 pub record Bits : Type 0 where
@@ -38,11 +39,6 @@ bits_after before (byte ∷ bytes) =
 -- the bits of a header's bytes without the stuffed ones
 abbrev pub bits_of : List ℕ → Bits
 bits_of bytes = bits_after 0 bytes
-
--- the last byte of some bytes, or the one before them
-abbrev pub last_after : ℕ → List ℕ → ℕ
-last_after before [] = before
-last_after before (byte ∷ bytes) = last_after byte bytes
 
 -- how many bytes have the first n bits of the bytes that stand after a byte
 abbrev pub bytes_for : ℕ → List ℕ → ℕ → ℕ

@@ -1,7 +1,8 @@
 -- What is true of a reader's fields.
 use Rattle.std.specs.Prelude.{◌≡◌, ℕ, ◌+◌, ◌-◌, ◌^◌, ◌<◌, ◌≤◌, Bool, List, [], ◌∷◌, ◌++◌, length, take, drop, slice_index, if◌then◌else◌, ◌==◌}
-use Rattle.jx_tagtree.specs.Header.{bits_of, last_after, low_bits, room}
+use Rattle.jx_tagtree.specs.Header.{bits_of, low_bits, room}
 use Rattle.jx_tagtree.specs.declared.BitFault.TheVariants.{Ended}
+use Rattle.jx_base.specs.Markers.{last_after}
 
 -- how many bits the first n bytes have
 abbrev pub count : List ℕ → ℕ → ℕ

@@ -1,12 +1,10 @@
 -- Which words are good, by what clap finds in those from the command's name on.
 use Rattle.std.proofs.Common.{◌≡◌, ◌∙◌, ◌&&◌, ap, true, false, Bool, List, [], drop, length, eqb, refl, subst, sym}
+use Rattle.std.proofs.lemmas.Bool.{and_left}
 use Rattle.clap.specs.Words.{Text, fault_of}
 use Rattle.jx_words.specs.Command.{transcode}
 use Rattle.jx_words.specs.Words.{Given, Request, are_values, given_in, is_good, names_command, request_by, request_of}
 use Rattle.jx_words.proofs.CommandLemmas.{asked_by, unasked_by}
-
-no_first : (named rest : Bool) → named ≡ false → (named && rest) ≡ false
-no_first named rest is = rw is refl
 
 all_three : {X : Type 0} (named : Bool) (faults : List X) (said b : Bool) → named ≡ true → faults ≡ [] → said ≡ b → (named && (eqb (length faults) 0 && said)) ≡ b
 all_three named faults said b is none same = rw is (asked_by faults said b none same)
@@ -27,7 +25,7 @@ bad_by words rest is some =
 
 pub unnamed : (words : List Text) → names_command words ≡ false → is_good words ≡ false
 unfolding is_good
-unnamed words is = no_first (names_command words) _ is
+unnamed words is = and_left (names_command words) _ is
 
 pub requested : (words rest : List Text) (g : Given) (r : Request) → rest ≡ drop 1 words → g ≡ given_in rest → r ≡ request_by g → r ≡ request_of words
 unfolding request_of

@@ -6,6 +6,7 @@ use Rattle.std.specs.Fmt.{decimal}
 use Rattle.std.proofs.lemmas.Bool.{cases_Bool, cases_lt}
 use Rattle.std.proofs.lemmas.List.{append_assoc}
 use Rattle.std.proofs.lemmas.Slice.Eq.{bytes_eq-Decides}
+use Rattle.std.proofs.lemmas.Fmt.{decimal_digit}
 use Rattle.clap.specs.Words.{fault_of}
 use Rattle.clap.proofs.OnLiterals.{clap_on_literals}
 use Rattle.jx_base.specs.declared.style.Style.{Style}
@@ -13,12 +14,13 @@ use Rattle.jx_plan.specs.Wanted.{MayBeStyle}
 use Rattle.jx_plan.specs.declared.PartChoice.{PartChoice}
 use Rattle.jx_plan.specs.declared.PartChoice.TheVariants as parts
 use Rattle.jx_words.specs.Command.{transcode, with_flag, with_option, with_place}
-use Rattle.jx_words.specs.Values.{ArePrecincts, number_in, order_said, parts_said, precincts_in, precincts_said, precincts_text, style_said, style_text, value_in, whole_choices}
+use Rattle.jx_words.specs.Values.{ArePrecincts, order_said, parts_said, precincts_in, precincts_said, precincts_text, style_said, style_text, value_in, whole_choices}
 use Rattle.jx_words.specs.Words.{Asks, Given, MayBeAsked, MayBeWork, Request, Text, Work, are_values, given_by, given_in, is_good, request_of, wanted_by, work_by}
-use Rattle.jx_words.proofs.ItemLemmas.{one_digit, two_digits}
+use Rattle.jx_words.proofs.ItemLemmas.{two_digits}
 use Rattle.jx_words.proofs.NumberLemmas.{number_spelled}
 use Rattle.jx_words.proofs.SpellLemmas.{precincts_spelled, first_byte}
 use Rattle.jx_words.proofs.StyleLemmas.{style_spelled}
+use Rattle.jx_base.specs.Texts.{number_in}
 
 -- ---- words, and what clap makes of them
 abbrev flag_words : Bool → Text → List Text → List Text
@@ -91,7 +93,7 @@ precincts_word (Some (byte ∷ bytes)) = precincts_text (byte ∷ bytes)
 -- precincts begin with a digit
 digit_first : (n : ℕ) (more : List ℕ) → n < 16 → slice_index_or (decimal n ++ more) 0 0 ≤ 57
 digit_first n more small = elim (cases_lt n 10) [
-  | inl one ↦ subst (λ text. slice_index_or (text ++ more) 0 0 ≤ 57) (one_digit n one) (omega arith)
+  | inl one ↦ subst (λ text. slice_index_or (text ++ more) 0 0 ≤ 57) (sym (decimal_digit n one)) (omega arith)
   | inr two ↦ subst (λ text. slice_index_or (text ++ more) 0 0 ≤ 57) (two_digits n two small) (omega arith)
 ]
 

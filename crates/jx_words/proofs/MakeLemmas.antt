@@ -8,11 +8,12 @@ use Rattle.std.proofs.lemmas.Slice.Eq.{bytes_eq-Decides}
 use Rattle.clap.specs.Words.{fault_of}
 use Rattle.clap.proofs.OnLiterals.{clap_on_literals}
 use Rattle.jx_words.specs.Command.{with_place}
-use Rattle.jx_words.specs.Values.{number_in}
 use Rattle.jx_words.specs.Words.{Text, is_good, names_command}
 use Rattle.jx_words.specs.MakeWords.{Make, MayBeMade, are_numbers, is_make, is_taken, made_in, make, make_of, seed_said, side_said}
 use Rattle.jx_words.specs.MakeFound.{AsksMake, make_by, texts_of, under}
-use Rattle.jx_words.proofs.NumberLemmas.{number_read, number_spelled}
+use Rattle.jx_words.proofs.NumberLemmas.{number_spelled}
+use Rattle.jx_base.specs.Texts.{number_in}
+use Rattle.jx_base.proofs.Texts.{number_read}
 
 -- ---- numbers that are said, or their defaults
 number_within : (most default : ℕ) (text : Text) → default ≤ most → unwrap_or (number_in most text) default ≤ most

@@ -7,16 +7,11 @@ use Rattle.std.proofs.lemmas.Bool.{cases_lt}
 use Rattle.std.proofs.lemmas.Fmt.{decimal-digits_value, decimal_digit, decimal_injective, decimal_is_IsNumeral, first_decimal, parse-decimal}
 use Rattle.std.proofs.lemmas.Slice.Eq.{bytes_eq-Decides}
 use Rattle.std.proofs.lemmas.Str.Parse.{IsNumeralModel, digit_at, numerals_by_value, parse_plain, tells_all_ascii_digits}
-use Rattle.jx_words.specs.Values.{number_in}
-use Rattle.jx_words.proofs.FindLemmas.{find_first, find_in, find_none}
+use Rattle.jx_words.proofs.FindLemmas.{find_none}
+use Rattle.jx_base.proofs.Lists.{find_first}
+use Rattle.jx_base.specs.Texts.{number_in}
 
 -- ---- a number and its digits
-pub number_read : (most n : ℕ) (text : List ℕ) → number_in most text ≡ Some n → (1 ≤ n) × (n ≤ most) × (text ≡ decimal n)
-unfolding number_in
-number_read most n text e =
-    let at = find_in (λ m. bytes_eq (decimal m) text) 1 most n e in
-    (at.0, omega (arith, at.1), sym ((bytes_eq-Decides (decimal n) text).0 at.2))
-
 pub number_spelled : (most n : ℕ) → most < 2 ^ 64 → 1 ≤ n → n ≤ most → number_in most (decimal n) ≡ Some n
 unfolding number_in
 number_spelled most n small some within =

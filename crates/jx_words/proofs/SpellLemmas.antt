@@ -5,17 +5,17 @@ use Rattle.std.specs.List.{All, join_with_byte, slice_split}
 use Rattle.std.specs.Option.{option_map}
 use Rattle.std.specs.Fmt.{decimal}
 use Rattle.std.proofs.lemmas.Bool.{cases_lt, ne_eqb}
-use Rattle.std.proofs.lemmas.Fmt.{decimal_injective}
+use Rattle.std.proofs.lemmas.Fmt.{decimal_injective, decimal_digit}
 use Rattle.std.proofs.lemmas.List.{length-map}
 use Rattle.std.proofs.lemmas.List.Elements.{All-nil, All-cons, All-append}
 use Rattle.std.proofs.lemmas.List.Splits.{join_with_byte-slice_split, slice_split_at, slice_split_none}
 use Rattle.std.proofs.lemmas.Slice.Eq.{bytes_eq-Decides}
-use Rattle.jx_base.proofs.Lists.{none_some, some_same}
+use Rattle.std.proofs.lemmas.Option.{none-some, same_Some}
 use Rattle.jx_marker.specs.Ranges.{AreBytes}
 use Rattle.jx_words.specs.Values.{ArePrecincts, in_front, item_in, item_text, items_in, parts_of, precincts_in, precincts_text}
-use Rattle.jx_words.proofs.FindLemmas.{find_in, find_first}
-use Rattle.jx_words.proofs.ItemLemmas.{one_digit, two_digits}
+use Rattle.jx_words.proofs.ItemLemmas.{two_digits}
 use Rattle.jx_words.proofs.ListLemmas.{some_part}
+use Rattle.jx_base.proofs.Lists.{find_first, find_in}
 
 -- ---- digits are neither commas nor `x`
 abbrev HasNo : ℕ → List ℕ → Type 0
@@ -30,7 +30,7 @@ no_more c b text apart low high more = All-cons (λ x. eqb x c ≡ false) b text
 
 digits_only : (c n : ℕ) → IsNoDigit c → n < 16 → HasNo c (decimal n)
 digits_only c n apart small = elim (cases_lt n 10) [
-  | inl one ↦ subst (HasNo c) (one_digit n one) (no_more c (48 + n) [] apart (omega arith) (omega arith) (All-nil (λ x. eqb x c ≡ false)))
+  | inl one ↦ subst (HasNo c) (sym (decimal_digit n one)) (no_more c (48 + n) [] apart (omega arith) (omega arith) (All-nil (λ x. eqb x c ≡ false)))
   | inr two ↦ subst (HasNo c) (two_digits n two small)
       (no_more c 49 ((38 + n) ∷ []) apart (omega arith) (omega arith) (no_more c (38 + n) [] apart (omega arith) (omega arith) (All-nil (λ x. eqb x c ≡ false))))
 ]
@@ -103,21 +103,21 @@ record IsRead (room : ℕ) (parts : List (List ℕ)) (bytes : List ℕ) : Type 0
 
 items_read : (room : ℕ) (parts : List (List ℕ)) (bytes : List ℕ) → items_in room parts ≡ Some bytes → IsRead room parts bytes
 unfolding items_in
-items_read room [] bytes e = subst (IsRead room []) (some_same [] bytes e) (record { each = All-nil (λ b. b < 256); few = omega arith; parts_are = refl })
-items_read zero (text ∷ parts) bytes e = absurd (none_some bytes e)
+items_read room [] bytes e = subst (IsRead room []) (same_Some [] bytes e) (record { each = All-nil (λ b. b < 256); few = omega arith; parts_are = refl })
+items_read zero (text ∷ parts) bytes e = absurd (none-some bytes e)
 items_read (suc room) (text ∷ parts) bytes e = with_byte (item_in text) refl e (λ more f. items_read room parts more f)
   where
     with_more : (byte : ℕ) (o : Option (List ℕ)) → items_in room parts ≡ o → byte < 256 → text ≡ item_text byte → option_map (λ tail. byte ∷ tail) o ≡ Some bytes → ((more : List ℕ) → items_in room parts ≡ Some more → IsRead room parts more)
         → IsRead (suc room) (text ∷ parts) bytes
-    with_more byte None is small spelled f next = absurd (none_some bytes f)
+    with_more byte None is small spelled f next = absurd (none-some bytes f)
     with_more byte (Some more) is small spelled f next =
         let r = next more is in
-        subst (IsRead (suc room) (text ∷ parts)) (some_same (byte ∷ more) bytes f)
+        subst (IsRead (suc room) (text ∷ parts)) (same_Some (byte ∷ more) bytes f)
         (record { each = All-cons (λ b. b < 256) byte more small r.each; few = omega (arith, r.few); parts_are = ap (λ t. t ∷ parts) spelled ∙ ap (λ p. item_text byte ∷ p) r.parts_are })
 
     with_byte : (o : Option ℕ) → item_in text ≡ o → in_front o (items_in room parts) ≡ Some bytes → ((more : List ℕ) → items_in room parts ≡ Some more → IsRead room parts more)
         → IsRead (suc room) (text ∷ parts) bytes
-    with_byte None is f next = absurd (none_some bytes f)
+    with_byte None is f next = absurd (none-some bytes f)
     with_byte (Some byte) is f next =
         let r = item_read byte text is in
         with_more byte (items_in room parts) refl r.0 r.1 f next

@@ -9,7 +9,7 @@ use Rattle.std.proofs.lemmas.Bool.{agree_below, agree_below_at, and_parts, cases
 use Rattle.std.proofs.lemmas.Nat.{or_disjoint}
 use Rattle.std.proofs.lemmas.List.Sums.{AllPass-from_list_all, sum_by-cons}
 use Rattle.std.proofs.lemmas.List.Elements.{All-cons, All-contains, All-nil}
-use Rattle.jx_base.proofs.Lists.{none_some, some_same}
+use Rattle.std.proofs.lemmas.Option.{none-some, same_Some}
 use Rattle.jx_base.specs.Passes.{bypasses, has_symbols, is_causal, resets, terminates}
 use Rattle.jx_base.specs.declared.style.Style.{Style}
 use Rattle.jx_plan.specs.Wanted.{MayBeStyle}
@@ -114,9 +114,6 @@ added name bits bit at few free new =
     }
 
 -- ---- bits that are taken one after another
-sum_cons : (n : ℕ) (list : List ℕ) → sum (n ∷ list) ≡ n + sum list
-sum_cons n list = sum_by-cons (λ n. n) n list
-
 record Agree (bits : ℕ) (done : List ℕ) : Type 0 where
   total : sum done ≡ bits
   few : bits < 64
@@ -141,7 +138,7 @@ agree_more : (name : List ℕ) (bits bit : ℕ) (done : List ℕ) → Agree bits
 agree_more name bits bit done a at new =
     let is = added name bits bit at a.few a.free new in
     record {
-      total = omega (arith, a.total, sum_cons bit done);
+      total = omega (arith, a.total, sum_by-cons (λ (y : ℕ). y) bit done);
       few = is.few;
       free = is.free;
       same = λ p listed. is.kept p listed ∙ swapped (has bits p.1) (eqb p.1 bit) (list_any (eqb p.1) done) (a.same p listed);
@@ -157,7 +154,7 @@ refused done bit (Some more) there = rw there refl
 taken : (done : List ℕ) (bit : ℕ) (o : Option (List ℕ)) → list_any (eqb bit) done ≡ false → option_and_then (after (bit ∷ done)) o ≡ option_and_then (after done) (option_map (λ more. bit ∷ more) o)
 taken done bit None new = refl
 taken done bit (Some more) new =
-    let same : sum (bit ∷ done) + sum more ≡ sum done + sum (bit ∷ more) = omega (arith, sum_cons bit done, sum_cons bit more) in
+    let same : sum (bit ∷ done) + sum more ≡ sum done + sum (bit ∷ more) = omega (arith, sum_by-cons (λ (y : ℕ). y) bit done, sum_by-cons (λ (y : ℕ). y) bit more) in
     rw new (ap (λ n. if are_new (bit ∷ done) more then Some n else None) same)
 
 with_is : (names : List (List ℕ)) (bits : ℕ) (done : List ℕ) → Agree bits done → with_names names bits ≡ option_and_then (after done) (bits_in names)
@@ -195,16 +192,16 @@ record AreRead (names : List (List ℕ)) (bits : List ℕ) : Type 0 where
 
 bits_read : (names : List (List ℕ)) (bits : List ℕ) → bits_in names ≡ Some bits → AreRead names bits
 unfolding bits_in
-bits_read [] bits e = subst (AreRead []) (some_same [] bits e) (record { among = λ p listed. refl; once = refl })
+bits_read [] bits e = subst (AreRead []) (same_Some [] bits e) (record { among = λ p listed. refl; once = refl })
 bits_read (name ∷ names) bits e = by (value_in style_names name) (found_at style_names name) (bits_in names) refl e (λ more is. bits_read names more is)
   where
     by : (o : Option ℕ) → IfSome o (λ bit. Contains style_names (name, bit)) → (m : Option (List ℕ)) → bits_in names ≡ m → in_front o m ≡ Some bits → ((more : List ℕ) → bits_in names ≡ Some more → AreRead names more)
         → AreRead (name ∷ names) bits
-    by None at m is f next = absurd (none_some bits f)
-    by (Some bit) at None is f next = absurd (none_some bits f)
+    by None at m is f next = absurd (none-some bits f)
+    by (Some bit) at None is f next = absurd (none-some bits f)
     by (Some bit) at (Some more) is f next =
         let r = next more is in
-        subst (AreRead (name ∷ names)) (some_same (bit ∷ more) bits f)
+        subst (AreRead (name ∷ names)) (same_Some (bit ∷ more) bits f)
         (record { among = λ p listed. rw (one_name p (name, bit) listed at, r.among p listed) refl; once = rw (r.among (name, bit) at, r.once) refl })
 
 style_each : (names : List (List ℕ)) → style_of names ≡ option_map made_of (option_and_then (after []) (bits_in names))

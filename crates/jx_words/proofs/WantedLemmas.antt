@@ -5,12 +5,13 @@ use Rattle.std.proofs.lemmas.List.Elements.{All-nil}
 use Rattle.jx_marker.specs.Ranges.{AreBytes}
 use Rattle.jx_base.specs.declared.style.Style.{Style}
 use Rattle.jx_plan.specs.Wanted.{MayBeStyle, MayBeWanted}
-use Rattle.jx_words.specs.Values.{ArePrecincts, number_in, order_said, orders, precincts_in, precincts_said, style_said, value_in, whole_choices}
+use Rattle.jx_words.specs.Values.{ArePrecincts, order_said, orders, precincts_in, precincts_said, style_said, value_in, whole_choices}
 use Rattle.jx_words.specs.Words.{Given, MayBeAsked, MayBeWork, given_in, request_by, request_of, wanted_by, work_by}
-use Rattle.jx_words.proofs.NumberLemmas.{number_read}
 use Rattle.jx_words.proofs.SpellLemmas.{precincts_read}
 use Rattle.jx_words.proofs.StyleLemmas.{IsGood, style_good}
 use Rattle.jx_words.proofs.ValueLemmas.{found}
+use Rattle.jx_base.specs.Texts.{number_in}
+use Rattle.jx_base.proofs.Texts.{number_read}
 
 -- ---- values that are said, or their defaults
 else_none : {X : Type 0} (P : X → Type 0) (o : Option (Option X)) → IfSome o (λ v. IfSome v P) → IfSome (unwrap_or o None) P

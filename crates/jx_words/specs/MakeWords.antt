@@ -3,8 +3,8 @@ use Rattle.std.specs.Prelude.{◌≤◌, ◌<◌, ◌^◌, ◌-◌, ℕ, ◌&&�
 use Rattle.std.specs.Str.{bytes_eq}
 use Rattle.clap.specs.Words.{App, fault_of, first_of, matches_of, new_app}
 use Rattle.jx_words.specs.Command.{with_place}
-use Rattle.jx_words.specs.Values.{number_in}
 use Rattle.jx_words.specs.Words.{Text}
+use Rattle.jx_base.specs.Texts.{number_in}
 
 pub record Make : Type 0 where
   pub seed : ℕ

@@ -1,12 +1,7 @@
 -- Texts that are cut.
-use Rattle.std.specs.Prelude.{ℕ, ◌+◌, ◌==◌, eqb, bit_and, bit_or, List, [], ◌∷◌, length, drop, Option, None, Some, if◌then◌else◌, ◌++◌, option_and_then, option_map}
+use Rattle.std.specs.Prelude.{ℕ, ◌+◌, ◌==◌, bit_and, bit_or, List, [], ◌∷◌, length, Option, None, Some, if◌then◌else◌, ◌++◌, option_and_then, option_map}
 use Rattle.std.specs.Borrow.{Bor}
-use Rattle.std.specs.List.{starts_with}
 use Rattle.jx_words.specs.Values.{items_in, parts_of, style_names, value_in}
-
--- what stands after a beginning
-abbrev pub after : List ℕ → List ℕ → Option (List ℕ)
-after start text = if starts_with eqb text start then Some (drop (length start) text) else None
 
 -- what stands between the separators of what is left of a text
 abbrev pub more_parts : ℕ → Option (Bor (List ℕ)) → List (List ℕ)

@@ -9,6 +9,7 @@ use Rattle.jx_base.specs.Passes.{bypasses, has_symbols, is_causal, resets, termi
 use Rattle.jx_marker.specs.Ranges.{AreBytes}
 use Rattle.jx_plan.specs.declared.PartChoice.{PartChoice}
 use Rattle.jx_plan.specs.declared.PartChoice.TheVariants as parts
+use Rattle.jx_base.specs.Texts.{number_in}
 
 -- what stands beside a text in a list
 abbrev pub value_in : {X : Type 0} → List (List ℕ × X) → List ℕ → Option X
@@ -104,12 +105,6 @@ pub record HasNamed (names : List (List ℕ)) (style : Style) : Type 0 where
   pub terminate : terminates style.bits ≡ list_any (bytes_eq (codes "terminate")) names
   pub causal : is_causal style.bits ≡ list_any (bytes_eq (codes "causal")) names
   pub segment : has_symbols style.bits ≡ list_any (bytes_eq (codes "segment")) names
-
--- ---- numbers
-
--- the number from 1 to `most` of which the digits are a text
-unfoldable pub number_in : ℕ → List ℕ → Option ℕ
-number_in most text = find (λ n. bytes_eq (decimal n) text) (range_with_len 1 most)
 
 -- ---- what a value says, where it is one of its option's values
 

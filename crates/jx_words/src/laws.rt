@@ -7,8 +7,9 @@ ghost use Rattle.jx_base.specs.declared.style.Style.{Style};
 ghost use Rattle.jx_plan.specs.Wanted.{MayBeStyle, MayBeWanted};
 ghost use Rattle.jx_words.specs.MakeFound.{AsksMake};
 ghost use Rattle.jx_words.specs.MakeWords.{Make, MayBeMade, is_make, make_of};
-ghost use Rattle.jx_words.specs.Values.{ArePrecincts, HasNamed, number_in, parts_of, precincts_in, precincts_text, style_said, style_text};
+ghost use Rattle.jx_words.specs.Values.{ArePrecincts, HasNamed, parts_of, precincts_in, precincts_text, style_said, style_text};
 ghost use Rattle.jx_words.specs.Words.{Asks, MayBeAsked, MayBeWork, Request, Text, is_good, request_of};
+ghost use Rattle.jx_base.specs.Texts.{number_in};
 
 /// A text says precincts exactly where it spells 1 to 33 of them, and says no others (ITU-T T.800, Table A.21).
 pub fn precincts_are_spelled()

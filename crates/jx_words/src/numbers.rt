@@ -1,7 +1,7 @@
 //! Numbers in decimal digits.
 
 ghost use Rattle.std.specs.Prelude.{◌≡◌, ◌≤◌, ◌↔◌, IsTrue, slice_index};
-ghost use Rattle.jx_words.specs.Values.{number_in};
+ghost use Rattle.jx_base.specs.Texts.{number_in};
 
 /// Whether a word begins with a digit that isn't 0.
 fn begins_well(word: &str) -> bool

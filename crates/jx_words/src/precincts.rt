@@ -3,8 +3,8 @@
 ghost use Rattle.std.specs.Prelude.{◌≡◌, ◌<◌, IfOk, Some, option_map};
 ghost use Rattle.std.specs.Fmt.{decimal};
 ghost use Rattle.std.specs.Str.{bytes_eq};
-ghost use Rattle.jx_words.specs.Parts.{after};
 ghost use Rattle.jx_words.specs.Values.{item_in, item_text, precincts_in};
+ghost use Rattle.jx_base.specs.Texts.{after};
 
 use crate::parts::first_part;
 use jx_base::NoMemory;
@@ -18,7 +18,7 @@ fn after<'a>(start: &[u8], text: &'a [u8]) -> Option<&'a [u8]>
 }
 
 /// What stands after an exponent's digits.
-#[tactic(auto, using(crate::proofs::ItemLemmas::one_digit, crate::proofs::ItemLemmas::two_digits))]
+#[tactic(auto, using(std::proofs::lemmas::Fmt::decimal_digit, crate::proofs::ItemLemmas::two_digits))]
 fn after_exponent<'a>(exponent: u8, text: &'a [u8]) -> Option<&'a [u8]>
     requires { exponent < 16 }
     ensures { option_map (λ rest. rest.now) result ≡ after (decimal exponent) text.entry.now }

@@ -1,12 +1,13 @@
 use Rattle.std.proofs.Common.{◌≡◌, ◌∙◌, ◌≤◌, ◌^◌, IfOk, List, ℕ, ap, sym, subst, arith, length}
 use Rattle.std.specs.Global.{Vec}
+use Rattle.std.proofs.lemmas.Result.{IfOk-weaker}
 use Rattle.jx_gather.specs.Accepted.{IsAccepted}
 use Rattle.jx_gather.specs.WellFormed.{IsWellFormed}
 use Rattle.jx_make.specs.Headers.{AreSizes}
 use Rattle.jx_make.specs.Made.{body_made, file_made, file_with}
 use Rattle.jx_make.specs.Making.{Making}
 use Rattle.jx_make.specs.Reading.{stream_made}
-use Rattle.jx_make.proofs.WellLemmas.{body_few, lift_ok, made_accepted, made_formed}
+use Rattle.jx_make.proofs.WellLemmas.{body_few, made_accepted, made_formed}
 use Rattle.jx_make.proofs.make.Goals as goal
 
 abbrev IsMade : ℕ → ℕ → ℕ → Vec ℕ → Type 0
@@ -26,8 +27,7 @@ returns-clause-short c =
     let long : length c.in_ok-body.body.items ≤ 268435330 = omega (arith, c.if-len-gt-MOST.false, c.len.ensures, c.in_ok-body.body.ok.0) in
     let few : length (file_made c.args.seed c.args.width c.args.height) ≤ 2 ^ 28 =
     body_few c.args.seed c.args.width c.args.height (subst (λ (xs : List ℕ). length xs ≤ 268435330) body long) in
-    lift_ok (IsMade c.args.seed c.args.width c.args.height) (λ (v : Vec ℕ). length v.items ≤ 2 ^ 28) c.file.result
-    (λ v is. subst (λ (xs : List ℕ). length xs ≤ 2 ^ 28) (sym is) few) (returns-clause-made c)
+    IfOk-weaker c.file.result (IsMade c.args.seed c.args.width c.args.height) (λ (v : Vec ℕ). length v.items ≤ 2 ^ 28) (λ v is. subst (λ (xs : List ℕ). length xs ≤ 2 ^ 28) (sym is) few) (returns-clause-made c)
 
 pub returns-clause-well_formed : goal.returns-clause-well_formed
 returns-clause-well_formed c =
@@ -37,8 +37,7 @@ returns-clause-well_formed c =
     let few : length (file_made c.args.seed c.args.width c.args.height) ≤ 2 ^ 28 =
     body_few c.args.seed c.args.width c.args.height (subst (λ (xs : List ℕ). length xs ≤ 268435330) body long) in
     let sizes : AreSizes c.args.width c.args.height = record { wide = c.requires.wide; most_wide = c.requires.most_wide; high = c.requires.high; most_high = c.requires.most_high } in
-    lift_ok (IsMade c.args.seed c.args.width c.args.height) (λ (v : Vec ℕ). IsWellFormed v.items) c.file.result
-    (λ v is. subst (λ (xs : List ℕ). IsWellFormed xs) (sym is) (made_formed c.args.seed c.args.width c.args.height sizes few)) (returns-clause-made c)
+    IfOk-weaker c.file.result (IsMade c.args.seed c.args.width c.args.height) (λ (v : Vec ℕ). IsWellFormed v.items) (λ v is. subst (λ (xs : List ℕ). IsWellFormed xs) (sym is) (made_formed c.args.seed c.args.width c.args.height sizes few)) (returns-clause-made c)
 
 pub returns-clause-accepted : goal.returns-clause-accepted
 returns-clause-accepted c =
@@ -49,5 +48,4 @@ returns-clause-accepted c =
     body_few c.args.seed c.args.width c.args.height (subst (λ (xs : List ℕ). length xs ≤ 268435330) body long) in
     let sizes : AreSizes c.args.width c.args.height = record { wide = c.requires.wide; most_wide = c.requires.most_wide; high = c.requires.high; most_high = c.requires.most_high } in
     let size : ℕ = length (body_made c.args.seed c.args.width c.args.height) in
-    lift_ok (IsMade c.args.seed c.args.width c.args.height) (λ (v : Vec ℕ). IsAccepted v.items (stream_made c.args.width c.args.height size)) c.file.result
-    (λ v is. subst (λ (xs : List ℕ). IsAccepted xs (stream_made c.args.width c.args.height size)) (sym is) (made_accepted c.args.seed c.args.width c.args.height sizes few)) (returns-clause-made c)
+    IfOk-weaker c.file.result (IsMade c.args.seed c.args.width c.args.height) (λ (v : Vec ℕ). IsAccepted v.items (stream_made c.args.width c.args.height size)) (λ v is. subst (λ (xs : List ℕ). IsAccepted xs (stream_made c.args.width c.args.height size)) (sym is) (made_accepted c.args.seed c.args.width c.args.height sizes few)) (returns-clause-made c)

@@ -1,4 +1,4 @@
-use Rattle.jx_assemble.proofs.OutputLemmas.{one_output, output_exists}
+use Rattle.jx_assemble.proofs.OutputLemmas.{one_output, one_tile, output_exists}
 use Rattle.jx_assemble.proofs.laws.one_output.Goals as goal
 
 pub returns-clause-some : goal.returns-clause-some
@@ -6,3 +6,6 @@ returns-clause-some c = output_exists
 
 pub returns-clause-one : goal.returns-clause-one
 returns-clause-one c = one_output
+
+pub returns-clause-parts : goal.returns-clause-parts
+returns-clause-parts c = one_tile

@@ -1,12 +1,12 @@
-use Rattle.std.proofs.Common.{◌≡◌, ◌+◌, ◌++◌, ◌∙◌, ℕ, List, map, length, ap}
+use Rattle.std.proofs.Common.{◌≡◌, ◌+◌, ◌++◌, ◌∙◌, ℕ, List, map, length, ap, lt_of_lt_of_le}
 use Rattle.jx_base.specs.declared.pieces.Block.{Block}
 use Rattle.jx_marker.specs.declared.Segment.TheVariants as segment
 use Rattle.jx_marker.specs.Segments.{spelling}
 use Rattle.jx_stream.specs.Spells.{TilePart, all_bytes}
-use Rattle.jx_assemble.specs.Packed.{own_length, own_part, total}
+use Rattle.jx_assemble.specs.Packed.{own_part, total}
 use Rattle.jx_assemble.proofs.CutLemmas.{same_fault}
 use Rattle.jx_assemble.specs.declared.tile.AssembleFault.TheVariants.{TooLong}
-use Rattle.jx_assemble.proofs.PartLemmas.{at_most_same, below_part, below_same, front_put, part_header_is, part_least, part_size}
+use Rattle.jx_assemble.proofs.PartLemmas.{at_most_same, below_same, front_put, part_header_is, part_least, part_size}
 use Rattle.jx_assemble.proofs.tile_part.pack_part.Goals as goal
 
 pub returns-in-Err-clause-long : goal.returns-in-Err-clause-long
@@ -14,9 +14,7 @@ returns-in-Err-clause-long g c e =
     let s = c.args.stream.now in
     let geom = c.args.geom.now in
     let own : List Block = map g.B.Coded.block c.args.values.now in
-    below_part c.args.most (total (map (own_length c.args.marks s geom own) c.args.names.now))
-    (own_part c.args.marks s geom own c.args.place.part c.args.place.parts c.args.place.packet c.args.names.now).sot.psot
-    (c.lengths_of.ensures.long (same_fault c.lengths_of.result c.in-Err.fault TooLong c.in-Err.is e)) (part_least c.args.marks s geom own c.args.place.part c.args.place.parts c.args.place.packet c.args.names.now)
+    lt_of_lt_of_le (c.lengths_of.ensures.long (same_fault c.lengths_of.result c.in-Err.fault TooLong c.in-Err.is e)) (part_least c.args.marks s geom own c.args.place.part c.args.place.parts c.args.place.packet c.args.names.now)
 
 pub returns-then-size-from-clause-long : goal.returns-then-size-from-clause-long
 returns-then-size-from-clause-long g c e =

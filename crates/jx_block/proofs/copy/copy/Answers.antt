@@ -2,9 +2,10 @@ use Rattle.std.proofs.Common.{◌≡◌, ◌≤◌, ◌<◌, ◌+◌, ◌++◌, 
 use Rattle.jx_base.specs.declared.pieces.Piece.{Piece}
 use Rattle.jx_base.specs.Pieces.{value_of}
 use Rattle.jx_block.specs.Tables.{bytes_joined}
-use Rattle.jx_block.proofs.CopyLemmas.{copied_next, copied_room, before_next, on_err}
+use Rattle.jx_block.proofs.CopyLemmas.{copied_next, copied_room, before_next}
 use Rattle.jx_block.proofs.DropLemmas.{joined_one, first_piece}
 use Rattle.jx_block.proofs.copy.copy.Goals as goal
+use Rattle.jx_base.proofs.Tests.{on_err}
 
 pub loop-piece-preserved : goal.loop-piece-preserved
 loop-piece-preserved c =

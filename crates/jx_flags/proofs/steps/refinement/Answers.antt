@@ -1,15 +1,11 @@
-use Rattle.std.proofs.Common.{◌≡◌, ◌≤◌, ◌∙◌, ℕ, false, ap, arith, refl, sym}
-use Rattle.std.specs.Prelude.{nat_lt}
-use Rattle.std.proofs.lemmas.Bool.Decides.{nat_tests}
+use Rattle.std.proofs.Common.{◌∙◌, ap, refl, sym}
+use Rattle.std.proofs.lemmas.Bool.{ltb-false}
 use Rattle.jx_grid.specs.declared.coef.Coef.{Coef}
 use Rattle.jx_grid.specs.Cells.{Cells, coef_at}
 use Rattle.jx_grid.specs.Asking.{Asking, told}
 use Rattle.jx_grid.specs.Pass.{is_decided}
 use Rattle.jx_flags.proofs.RefineLemmas.{refinement_unmarked, refinement_done, refinement_label_is, refinement_told}
 use Rattle.jx_flags.proofs.steps.refinement.Goals as goal
-
-undecided : (m n : ℕ) → nat_lt m n ≡ false → n ≤ m
-undecided m n e = grind (arith, nat_tests)
 
 pub put_bit-requires : goal.put_bit-requires
 put_bit-requires g c =
@@ -20,7 +16,7 @@ put_bit-requires g c =
       scan = c.requires.scan;
       place = c.requires.place;
       within = c.requires.within;
-      undecided = λ _. undecided c.args.plane.number (coef_at c.args.field.now c.args.x c.args.y).planes d;
+      undecided = λ _. ltb-false c.args.plane.number (coef_at c.args.field.now c.args.x c.args.y).planes d;
       significant = λ _. sym c.is_marked.ensures ∙ c.if-not-is_marked.false;
     }
 

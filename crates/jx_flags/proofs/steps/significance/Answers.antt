@@ -3,9 +3,10 @@ use Rattle.jx_grid.specs.declared.coef.Coef.{Coef}
 use Rattle.jx_grid.specs.Cells.{Cells, coef_at}
 use Rattle.jx_grid.specs.Asking.{Asking, Told, told}
 use Rattle.jx_grid.specs.Pass.{is_decided, significance_at}
-use Rattle.jx_flags.proofs.SignificanceLemmas.{bits_none, significance_marked, significance_done, significance_none, significance_asked}
+use Rattle.jx_flags.proofs.SignificanceLemmas.{significance_marked, significance_done, significance_none, significance_asked}
 use Rattle.jx_flags.proofs.steps.significance.Goals.{then-label-eq0-via-then-label-eq0, then-label-eq0-via-else-label-eq0+then-is_done}
 use Rattle.jx_flags.proofs.steps.significance.Goals as goal
+use Rattle.jx_passenc.proofs.StepLemmas.{no_bits}
 
 pub decide_bit-requires : goal.decide_bit-requires
 decide_bit-requires g c =
@@ -17,7 +18,7 @@ decide_bit-requires g c =
       scan = c.requires.scan;
       place = c.requires.place;
       within = c.requires.within;
-      insignificant = bits_none (coef_at c.args.field.now c.args.x c.args.y).bits (sym c.is_marked.ensures ∙ c.if-is_marked.false);
+      insignificant = no_bits (coef_at c.args.field.now c.args.x c.args.y).bits (sym c.is_marked.ensures ∙ c.if-is_marked.false);
       few = omega arith;
       label = c.label-label.ensures.label;
     }

@@ -3,9 +3,9 @@ use Rattle.jx_grid.specs.declared.coef.Coef.{Coef}
 use Rattle.jx_grid.specs.Cells.{Cells, coef_at}
 use Rattle.jx_grid.specs.Asking.{Asking, told}
 use Rattle.jx_grid.specs.Pass.{is_decided}
-use Rattle.jx_flags.proofs.SignificanceLemmas.{bits_none}
 use Rattle.jx_flags.proofs.TreeLemmas.{usual_done, usual_marked, usual_asked}
 use Rattle.jx_flags.proofs.steps.usual.Goals as goal
+use Rattle.jx_passenc.proofs.StepLemmas.{no_bits}
 
 pub decide_bit-requires : goal.decide_bit-requires
 decide_bit-requires g c =
@@ -17,7 +17,7 @@ decide_bit-requires g c =
       scan = c.requires.scan;
       place = c.requires.place;
       within = c.requires.within;
-      insignificant = bits_none (coef_at c.args.field.now c.args.x c.args.y).bits (sym c.is_marked.ensures ∙ c.if-is_marked.false);
+      insignificant = no_bits (coef_at c.args.field.now c.args.x c.args.y).bits (sym c.is_marked.ensures ∙ c.if-is_marked.false);
       few = omega arith;
       label = c.label-label.ensures.label;
     }

@@ -1,8 +1,8 @@
 use Rattle.std.proofs.Common.{◌≡◌, ◌+◌, ◌-◌, ◌∙◌, sym, suc, arith}
 use Rattle.std.specs.Str.{bytes_eq}
 use Rattle.std.specs.Fmt.{decimal}
-use Rattle.jx_layers.proofs.TextLemmas.{find_on}
 use Rattle.jx_layers.proofs.texts.number_in.Goals as goal
+use Rattle.jx_base.proofs.Lists.{find_on}
 
 pub loop-number-preserved : goal.loop-number-preserved
 loop-number-preserved c =

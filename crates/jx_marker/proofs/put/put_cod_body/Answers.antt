@@ -1,12 +1,13 @@
 use Rattle.std.proofs.Common.{◌∙◌, ◌++◌, ◌∷◌, [], ap}
+use Rattle.std.proofs.lemmas.Result.{on_ok_weaker}
 use Rattle.byteorder.specs.Endian.{big_bytes}
 use Rattle.jx_marker.specs.Values.{shape_bytes}
-use Rattle.jx_marker.proofs.PutLemmas.{after, front_kept, kept, on_ok}
+use Rattle.jx_marker.proofs.PutLemmas.{after, front_kept, kept}
 use Rattle.jx_marker.proofs.put.put_cod_body.Goals as goal
 
 pub returns-clause-ok : goal.returns-clause-ok
 returns-clause-ok c =
-    on_ok c.put_shape.result (λ e. (after c.args.out.now.items (c.scod.result ∷ c.args.cod.now.order ∷ []) c.extend_from_slice.new.self.items c.put_shape.new.out.items ((big_bytes 2 c.args.cod.now.layers) ++ ((c.args.cod.now.transform ∷ []) ++ (shape_bytes c.args.cod.now.shape))) c.in_ok-extend_from_slice.ensures.items (after c.extend_from_slice.new.self.items (big_bytes 2 c.args.cod.now.layers) c.put_u16.new.out.items c.put_shape.new.out.items ((c.args.cod.now.transform ∷ []) ++ (shape_bytes c.args.cod.now.shape)) c.in_ok-put_u16.ensures.ok (after c.put_u16.new.out.items (c.args.cod.now.transform ∷ []) c.push.new.self.items c.put_shape.new.out.items (shape_bytes c.args.cod.now.shape) c.in_ok-push.ensures.items e))) ∙ ap (λ n. c.args.out.now.items ++ n ∷ c.args.cod.now.order ∷ (big_bytes 2 c.args.cod.now.layers ++ c.args.cod.now.transform ∷ shape_bytes c.args.cod.now.shape)) c.scod.ensures) c.put_shape.ensures.ok
+    on_ok_weaker c.put_shape.result (λ e. (after c.args.out.now.items (c.scod.result ∷ c.args.cod.now.order ∷ []) c.extend_from_slice.new.self.items c.put_shape.new.out.items ((big_bytes 2 c.args.cod.now.layers) ++ ((c.args.cod.now.transform ∷ []) ++ (shape_bytes c.args.cod.now.shape))) c.in_ok-extend_from_slice.ensures.items (after c.extend_from_slice.new.self.items (big_bytes 2 c.args.cod.now.layers) c.put_u16.new.out.items c.put_shape.new.out.items ((c.args.cod.now.transform ∷ []) ++ (shape_bytes c.args.cod.now.shape)) c.in_ok-put_u16.ensures.ok (after c.put_u16.new.out.items (c.args.cod.now.transform ∷ []) c.push.new.self.items c.put_shape.new.out.items (shape_bytes c.args.cod.now.shape) c.in_ok-push.ensures.items e))) ∙ ap (λ n. c.args.out.now.items ++ n ∷ c.args.cod.now.order ∷ (big_bytes 2 c.args.cod.now.layers ++ c.args.cod.now.transform ∷ shape_bytes c.args.cod.now.shape)) c.scod.ensures) c.put_shape.ensures.ok
 
 pub returns-clause-front : goal.returns-clause-front
 returns-clause-front c =

@@ -1,9 +1,9 @@
-use Rattle.std.proofs.Common.{Some, ap, List}
+use Rattle.std.proofs.Common.{ap, below_more, List, Some}
 use Rattle.std.specs.List.{list_any}
 use Rattle.jx_marker.specs.declared.Segment.{Segment}
 use Rattle.jx_plan.specs.Fits.{KeepsBlocks}
 use Rattle.jx_plan.specs.Steps.{is_coding}
-use Rattle.jx_plan.proofs.FitLemmas.{known_next, next_below}
+use Rattle.jx_plan.proofs.FitLemmas.{known_next}
 use Rattle.jx_plan.proofs.fitting.first_changed.Goals as goal
 
 pub loop-tile-preserved : goal.loop-tile-preserved
@@ -15,5 +15,5 @@ loop-tile-preserved c =
     record {
       known = known_next precincts s t c.loop-tile.known c.is_known-known.result (list_any is_coding c.header_of.result.now) c.is_known-known.ensures
           (ap (λ (xs : List Segment). list_any is_coding xs) c.header_of.ensures) keeps c.loop-tile.invariant.known;
-      below = next_below (KeepsBlocks precincts s) t c.loop-tile.invariant.below keeps;
+      below = below_more (KeepsBlocks precincts s) t c.loop-tile.invariant.below keeps;
     }

@@ -1,4 +1,4 @@
-use Rattle.jx_plan.proofs.GroupLemmas.{empty_group, groups_agree, groups_differ, groups_stay, one_group}
+use Rattle.jx_plan.proofs.GroupLemmas.{empty_group, groups_agree, groups_differ, groups_stay, one_group, rising_few}
 use Rattle.jx_plan.proofs.laws.groups_are_cut.Goals as goal
 
 pub returns-clause-stay : goal.returns-clause-stay
@@ -15,3 +15,6 @@ returns-clause-one c = one_group
 
 pub returns-clause-full : goal.returns-clause-full
 returns-clause-full c = empty_group
+
+pub returns-clause-few : goal.returns-clause-few
+returns-clause-few c = rising_few

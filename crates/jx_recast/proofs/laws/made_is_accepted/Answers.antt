@@ -13,6 +13,7 @@ returns-clause-rules c =
       broken = c.one_violation.ensures;
       free = c.one_answer.ensures.free;
       cause = c.one_answer.ensures.cause;
+      parts = c.one_output.ensures.parts;
     } in
     no_rule laws c.made_is_well_formed.ensures.accepted
 
@@ -27,5 +28,6 @@ returns-clause-limits c =
       broken = c.one_violation.ensures;
       free = c.one_answer.ensures.free;
       cause = c.one_answer.ensures.cause;
+      parts = c.one_output.ensures.parts;
     } in
     seven_alone laws c.made_is_well_formed.ensures.accepted

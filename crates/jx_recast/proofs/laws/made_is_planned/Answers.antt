@@ -1,9 +1,19 @@
 use Rattle.jx_recast.proofs.MadeVerdictLemmas.{no_block, no_choice, no_limit}
 use Rattle.jx_recast.proofs.OneVerdictLemmas.{Laws}
+use Rattle.jx_recast.proofs.PlannedMade.{MadeLaws}
 use Rattle.jx_recast.proofs.laws.made_is_planned.Goals as goal
 
 pub returns-clause-limits : goal.returns-clause-limits
 returns-clause-limits c rule m number found may aimed short =
+    let made : MadeLaws = record {
+      may = c.gathered_may_be_planned.ensures;
+      fit = c.kept_precincts_fit.ensures;
+      few = c.groups_are_cut.ensures.few;
+      plain = c.made_blocks_are_plain.ensures;
+      tiles = c.made_geometry.ensures.tiles;
+      precincts = c.made_geometry.ensures.precincts;
+      levels = c.made_geometry.ensures.levels;
+    } in
     let laws : Laws = record {
       one_stream = c.one_stream.ensures;
       read = c.violated_or_spelled.ensures.never_both;
@@ -13,11 +23,21 @@ returns-clause-limits c rule m number found may aimed short =
       broken = c.one_violation.ensures;
       free = c.one_answer.ensures.free;
       cause = c.one_answer.ensures.cause;
+      parts = c.one_output.ensures.parts;
     } in
-    no_limit laws c.made_is_well_formed.ensures.accepted rule m may number found aimed short
+    no_limit laws c.made_is_well_formed.ensures.accepted made rule m may number found aimed short
 
 pub returns-clause-choices : goal.returns-clause-choices
 returns-clause-choices c rule m number place may aimed =
+    let made : MadeLaws = record {
+      may = c.gathered_may_be_planned.ensures;
+      fit = c.kept_precincts_fit.ensures;
+      few = c.groups_are_cut.ensures.few;
+      plain = c.made_blocks_are_plain.ensures;
+      tiles = c.made_geometry.ensures.tiles;
+      precincts = c.made_geometry.ensures.precincts;
+      levels = c.made_geometry.ensures.levels;
+    } in
     let laws : Laws = record {
       one_stream = c.one_stream.ensures;
       read = c.violated_or_spelled.ensures.never_both;
@@ -27,11 +47,21 @@ returns-clause-choices c rule m number place may aimed =
       broken = c.one_violation.ensures;
       free = c.one_answer.ensures.free;
       cause = c.one_answer.ensures.cause;
+      parts = c.one_output.ensures.parts;
     } in
-    no_choice laws c.made_is_well_formed.ensures.accepted rule m may number place aimed
+    no_choice laws c.made_is_well_formed.ensures.accepted made rule m may number place aimed
 
 pub returns-clause-blocks : goal.returns-clause-blocks
 returns-clause-blocks c rule m number may =
+    let made : MadeLaws = record {
+      may = c.gathered_may_be_planned.ensures;
+      fit = c.kept_precincts_fit.ensures;
+      few = c.groups_are_cut.ensures.few;
+      plain = c.made_blocks_are_plain.ensures;
+      tiles = c.made_geometry.ensures.tiles;
+      precincts = c.made_geometry.ensures.precincts;
+      levels = c.made_geometry.ensures.levels;
+    } in
     let laws : Laws = record {
       one_stream = c.one_stream.ensures;
       read = c.violated_or_spelled.ensures.never_both;
@@ -41,5 +71,6 @@ returns-clause-blocks c rule m number may =
       broken = c.one_violation.ensures;
       free = c.one_answer.ensures.free;
       cause = c.one_answer.ensures.cause;
+      parts = c.one_output.ensures.parts;
     } in
-    no_block laws c.made_is_well_formed.ensures.accepted rule m may number
+    no_block laws c.made_is_well_formed.ensures.accepted made rule m may number

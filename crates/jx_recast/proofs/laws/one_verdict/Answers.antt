@@ -13,5 +13,6 @@ returns c =
       broken = c.one_violation.ensures;
       free = c.one_answer.ensures.free;
       cause = c.one_answer.ensures.cause;
+      parts = c.one_output.ensures.parts;
     } in
     lemmas.one_verdict laws

@@ -11,5 +11,6 @@ returns c =
       planned = c.one_answer.ensures.some;
       ready = c.written_is_ready.ensures;
       output = c.one_output.ensures.some;
+      parts = c.one_output.ensures.parts;
     } in
     lemmas.some_verdict laws

@@ -1,7 +1,8 @@
 use Rattle.std.proofs.Common.{inr, map, refl, string_bytes, sym}
+use Rattle.std.proofs.lemmas.Bool.{both_ways}
 use Rattle.jx_recast.proofs.RunLemmas.{outcome_beside, outcome_good, outcome_memory, refused_failed}
 use Rattle.jx_recast.proofs.SaidLemmas.{unsaid}
-use Rattle.jx_recast.proofs.StatusLemmas.{good_or_bad, memory_said}
+use Rattle.jx_recast.proofs.StatusLemmas.{memory_said}
 use Rattle.jx_recast.proofs.program.run_lent.Goals as goal
 
 pub returns-in-Ok-clause-outcome : goal.returns-in-Ok-clause-outcome
@@ -24,7 +25,7 @@ pub returns-in-Ok-clause-unsaid : goal.returns-in-Ok-clause-unsaid
 returns-in-Ok-clause-unsaid g c = c.run_request.ensures.unsaid
 
 pub returns-in-Ok-clause-idle : goal.returns-in-Ok-clause-idle
-returns-in-Ok-clause-idle g c = λ bad. absurd (good_or_bad _ c.in-Ok.ensures.good bad)
+returns-in-Ok-clause-idle g c = λ bad. absurd (both_ways _ bad c.in-Ok.ensures.good)
 
 pub returns-in-Err-Words-clause-read : goal.returns-in-Err-Words-clause-read
 returns-in-Err-Words-clause-read g c = λ failed. absurd (c.run_beside.ensures.read failed)

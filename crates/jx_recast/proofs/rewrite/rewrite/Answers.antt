@@ -1,10 +1,10 @@
 use Rattle.std.proofs.Common.{refl}
-use Rattle.jx_recast.proofs.RefusedLemmas.{input_unread, input_unwritten, may_be_planned, reads_of, tiles_refused}
+use Rattle.jx_recast.proofs.RefusedLemmas.{input_unread, input_unwritten, reads_of, tiles_refused}
 use Rattle.jx_recast.proofs.rewrite.rewrite.Goals as goal
 
 pub write_blocks-requires-clause-may : goal.write_blocks-requires-clause-may
 write_blocks-requires-clause-may g c =
-    λ lifetimes within. rw c.deref.ensures.value (may_be_planned c.args.input.now c.args.stream.now c.in-Ok.blocks.items c.requires.read c.in-Ok.ensures.totals c.in-Ok.ensures.blocks c.in-Ok.ensures.sound)
+    λ lifetimes within. rw c.deref.ensures.value (c.gathered_may_be_planned.ensures c.args.input.now c.args.stream.now c.in-Ok.blocks.items c.requires.read c.requires.within c.in-Ok.ensures.totals c.in-Ok.ensures.gathered)
 
 pub returns-in-Ok-clause-answer : goal.returns-in-Ok-clause-answer
 returns-in-Ok-clause-answer g c =

@@ -9,7 +9,7 @@ overflow_cast-blocks g c = omega (arith, planned_few c.args.stream.now c.args.bl
 
 pub returns-in-Ok-clause-answer : goal.returns-in-Ok-clause-answer
 returns-in-Ok-clause-answer g c =
-    let laws : Laws = record { blocks = c.plans_write_these_blocks.ensures.blocks; free = c.plans_write_these_blocks.ensures.free; keeps = c.rewritten_is_read.ensures } in
+    let laws : Laws = record { blocks = c.plans_write_these_blocks.ensures.blocks; free = c.plans_write_these_blocks.ensures.free; keeps = c.rewritten_is_read.ensures; parts = c.one_output.ensures.parts } in
     λ input within reads. answered_by_plan laws c.args.to.now c.args.crew.now.work _ input c.args.stream.now c.args.blocks.now c.in-Ok.plan
     c.write_plan.result.status c.write_plan.result.blocks c.write_plan.result.bytes c.write_plan.result.tape.items _ _ c.requires.wanted (rw (sym c.shortened.ensures) c.in-Ok.ensures.planned) c.write_plan.ensures.answer within reads
 

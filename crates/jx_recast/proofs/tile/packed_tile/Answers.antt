@@ -18,11 +18,11 @@ returns-in-Some-clause-unmade c =
     let p : Plan = c.args.making.now in
     (refl, tile_wrong laws p c.args.tile (blocks_in p c.args.tile) c.args.entries.now c.plan-plan.ensures.plan c.requires.entries c.in-Some.number c.in-Some.ensures.unmade refl)
 
-pub packed-requires-clause-made : goal.packed-requires-clause-made
-packed-requires-clause-made c = c.first_unmade.ensures.made c.in_default.is
+pub pack_made-requires-clause-made : goal.pack_made-requires-clause-made
+pack_made-requires-clause-made c = c.first_unmade.ensures.made c.in_default.is
 
-pub packed-requires-clause-values : goal.packed-requires-clause-values
-packed-requires-clause-values c =
+pub pack_made-requires-clause-values : goal.pack_made-requires-clause-values
+pack_made-requires-clause-values c =
     let laws : BlockLaws = record {
       sound = c.written_is_sound.ensures.sound;
       layers = c.written_is_sound.ensures.layers;

@@ -1,9 +1,10 @@
 use Rattle.std.proofs.Common.{◌≡◌, ◌∙◌, ◌-◌, ◌<◌, ◌≤◌, ap, sym, refl, arith, max, nat_lt, length, get_or, set, length-set}
+use Rattle.std.proofs.lemmas.Bool.{not-false, not-true}
 use Rattle.jx_tagtree.specs.declared.node.Node.{Node}
 use Rattle.jx_tagtree.specs.TagTree.{node_at}
 use Rattle.jx_tagtree.specs.Header.{to_come, fault_of}
 use Rattle.jx_tagtree.proofs.ScanLemmas.{Took-then, way_more, way_none}
-use Rattle.jx_tagtree.proofs.TagLemmas.{at_same, not_false, not_true, way_range, way_whole, way_stopped}
+use Rattle.jx_tagtree.proofs.TagLemmas.{at_same, way_range, way_whole, way_stopped}
 use Rattle.jx_tagtree.proofs.reading.read_way.Goals as goal
 
 pub index-requires : goal.index-requires
@@ -43,7 +44,7 @@ loop-place-preserved c =
       read = rw c.max-above.ensures (way_more c.args.threshold c.args.nodes.now.items c.args.way.now c.loop-place.place c.at-at.result (to_come c.args.bits.now) c.loop-place.nodes.items
           c.loop-place.above (to_come c.loop-place.bits) c.index.result.now c.in-Ok.node (to_come c.read_node.new.bits)
           within some at_is (omega arith) c.index.ensures c.loop-place.invariant.read c.in-Ok.ensures.ok);
-      settled = λ lt. ap (λ (y : Node). y.settled) written ∙ not_false c.in-Ok.node.settled c.if-not-node.false;
+      settled = λ lt. ap (λ (y : Node). y.settled) written ∙ not-false c.in-Ok.node.settled c.if-not-node.false;
     }
 
 pub returns-then-not-node-clause-ok : goal.returns-then-not-node-clause-ok
@@ -61,7 +62,7 @@ returns-then-not-node-clause-ok c =
     (way_more c.args.threshold c.args.nodes.now.items c.args.way.now c.loop-place.place c.at-at.result (to_come c.args.bits.now) c.loop-place.nodes.items
     c.loop-place.above (to_come c.loop-place.bits) c.index.result.now c.in-Ok.node (to_come c.read_node.new.bits)
     within some at_is (omega arith) c.index.ensures c.loop-place.invariant.read c.in-Ok.ensures.ok)
-    (ap (λ (y : Node). y.settled) written ∙ not_true c.in-Ok.node.settled c.if-not-node.true)
+    (ap (λ (y : Node). y.settled) written ∙ not-true c.in-Ok.node.settled c.if-not-node.true)
 
 pub returns-then-not-node-clause-took : goal.returns-then-not-node-clause-took
 returns-then-not-node-clause-took c = Took-then c.args.bits.now c.loop-place.bits c.read_node.new.bits c.loop-place.invariant.took c.in-Ok.ensures.took

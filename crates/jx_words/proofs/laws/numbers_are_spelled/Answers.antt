@@ -1,5 +1,6 @@
-use Rattle.jx_words.proofs.NumberLemmas.{number_read, number_spelled}
+use Rattle.jx_words.proofs.NumberLemmas.{number_spelled}
 use Rattle.jx_words.proofs.laws.numbers_are_spelled.Goals as goal
+use Rattle.jx_base.proofs.Texts.{number_read}
 
 pub returns-clause-spelled : goal.returns-clause-spelled
 returns-clause-spelled c = λ most n few some within. number_spelled most n few some within

@@ -1,6 +1,6 @@
 use Rattle.std.proofs.Common.{arith, sym}
-use Rattle.jx_words.proofs.NumberLemmas.{number_read}
 use Rattle.jx_words.proofs.numbers.number_in.Goals as goal
+use Rattle.jx_base.proofs.Texts.{number_read}
 
 pub overflow_cast-result : goal.overflow_cast-result
 overflow_cast-result c =

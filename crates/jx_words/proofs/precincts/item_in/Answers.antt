@@ -1,8 +1,8 @@
 use Rattle.std.proofs.Common.{◌≡◌, ◌+◌, ◌-◌, ◌∙◌, sym, suc, refl, arith}
 use Rattle.std.specs.Str.{bytes_eq}
 use Rattle.jx_words.specs.Values.{item_in, item_text}
-use Rattle.jx_words.proofs.ItemLemmas.{find_on}
 use Rattle.jx_words.proofs.precincts.item_in.Goals as goal
+use Rattle.jx_base.proofs.Lists.{find_on}
 
 pub loop-byte-init : goal.loop-byte-init
 unfolding item_in

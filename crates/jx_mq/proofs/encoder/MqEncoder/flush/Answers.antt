@@ -1,8 +1,9 @@
 use Rattle.std.proofs.Common.{◌≡◌, ◌≢◌, ◌≤◌, ◌∷◌, length, reverse, vec_len, vec_capacity, ap, sym, arith}
 use Rattle.jx_base.specs.MqWriting.{mq_last_number}
 use Rattle.jx_mq.specs.Coding.{MqCoding}
-use Rattle.jx_mq.proofs.Lengths.{refused_first, refused_second, refused_last, on_err}
+use Rattle.jx_mq.proofs.Lengths.{refused_first, refused_second, refused_last}
 use Rattle.jx_mq.proofs.encoder.MqEncoder.flush.Goals as goal
+use Rattle.jx_base.proofs.Tests.{on_err}
 
 pub returns-in_err-give_out-clause-room : goal.returns-in_err-give_out-clause-room
 returns-in_err-give_out-clause-room c =

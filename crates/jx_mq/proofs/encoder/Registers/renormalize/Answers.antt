@@ -5,8 +5,9 @@ use Rattle.jx_mq.specs.Shifting.{mq_moved_by}
 use Rattle.jx_mq.proofs.Renormals.{renormalizing_begins, byte_out_a}
 use Rattle.jx_mq.proofs.Shifts.{short_of, short_rest}
 use Rattle.jx_mq.proofs.Outs.{few_of, c_room, renormalizing_by, renormalized_last, coder_last}
-use Rattle.jx_mq.proofs.Lengths.{renormalizing_least, on_err}
+use Rattle.jx_mq.proofs.Lengths.{renormalizing_least}
 use Rattle.jx_mq.proofs.encoder.Registers.renormalize.Goals as goal
+use Rattle.jx_base.proofs.Tests.{on_err}
 
 pub overflow_sub-left : goal.overflow_sub-left
 overflow_sub-left c =

@@ -2,9 +2,10 @@ use Rattle.std.proofs.Common.{◌≡◌, ◌≤◌, ◌+◌, ◌*◌, length, ve
 use Rattle.std.proofs.lemmas.Bool.Decides.{nat_tests}
 use Rattle.jx_base.specs.RawBits.{raw_width}
 use Rattle.jx_raw.proofs.Writing.{more_bits, whole, whole_bits}
-use Rattle.jx_raw.proofs.Lengths.{one_longer, on_err}
+use Rattle.jx_raw.proofs.Lengths.{one_longer}
 use Rattle.jx_raw.proofs.writer.RawWriter.bit.Goals as goal
 use Rattle.jx_raw.proofs.writer.RawWriter.bit.Goals.{then-byte, else-byte}
+use Rattle.jx_base.proofs.Tests.{on_err}
 
 pub returns-then-self-clause-bits : goal.returns-then-self-clause-bits
 returns-then-self-clause-bits c =

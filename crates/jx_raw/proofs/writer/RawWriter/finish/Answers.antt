@@ -1,7 +1,8 @@
 use Rattle.std.proofs.Common.{sym, arith}
 use Rattle.jx_raw.proofs.Back.{shifted_whole, finished_begun, finished_stuffed, finished_plain}
-use Rattle.jx_raw.proofs.Lengths.{refused, on_err}
+use Rattle.jx_raw.proofs.Lengths.{refused}
 use Rattle.jx_raw.proofs.writer.RawWriter.finish.Goals as goal
+use Rattle.jx_base.proofs.Tests.{on_err}
 
 pub returns-then-count-gt0-clause-segment : goal.returns-then-count-gt0-clause-segment
 returns-then-count-gt0-clause-segment c =

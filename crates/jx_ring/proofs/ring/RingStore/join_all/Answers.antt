@@ -1,10 +1,10 @@
 use Rattle.std.proofs.Common.{◌≡◌, ℕ, List, [], ◌∷◌, ◌++◌, All, ap, sym, subst, ◌∙◌, arith, append_assoc, length}
 use Rattle.std.specs.Prelude.{None}
+use Rattle.std.proofs.lemmas.List.{nil_from_length}
 use Rattle.jx_ring.specs.declared.view.Taken.{Taken}
 use Rattle.jx_ring.specs.Passes.{PassView, out}
 use Rattle.jx_ring.specs.Closing.{IsLast}
 use Rattle.jx_ring.proofs.Joining.{all_mid, last_one, last_more}
-use Rattle.jx_ring.proofs.Shelves.{nil_of}
 use Rattle.jx_ring.proofs.Seats.{first_nil}
 use Rattle.jx_ring.proofs.ring.RingStore.join_all.Goals as goal
 
@@ -64,5 +64,5 @@ loop-pass-preserved g c =
 pub returns : goal.returns
 returns g c =
     let i = c.loop-pass.invariant in let ds : List PassView = i.some.0 in let rest : List PassView = c.loop-pass.passes.items in
-    let nil = nil_of rest (sym c.loop-pass.passes.ok.0 ∙ c.in_default-pop.ensures.cases.0) in
+    let nil = nil_from_length rest (sym c.loop-pass.passes.ok.0 ∙ c.in_default-pop.ensures.cases.0) in
     (i.table, subst (λ (l : List PassView). IsLast l c.loop-pass.seat.me.0) (sym (i.some.1 ∙ ap (λ (l : List PassView). l ++ ds) nil)) i.some.2)
