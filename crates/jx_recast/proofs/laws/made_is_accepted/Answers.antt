@@ -2,32 +2,21 @@ use Rattle.jx_recast.proofs.AcceptedLemmas.{no_rule, seven_alone}
 use Rattle.jx_recast.proofs.OneVerdictLemmas.{Laws}
 use Rattle.jx_recast.proofs.laws.made_is_accepted.Goals as goal
 
+laws : goal.After-one_output → Laws
+laws c = record {
+  one_stream = c.one_stream.ensures;
+  read = c.violated_or_spelled.ensures.never_both;
+  gathered = c.never_both.ensures;
+  one_blocks = c.one_gathering.ensures;
+  first = c.one_first.ensures;
+  broken = c.one_violation.ensures;
+  free = c.one_answer.ensures.free;
+  cause = c.one_answer.ensures.cause;
+  parts = c.one_output.ensures.parts;
+}
+
 pub returns-clause-rules : goal.returns-clause-rules
-returns-clause-rules c =
-    let laws : Laws = record {
-      one_stream = c.one_stream.ensures;
-      read = c.violated_or_spelled.ensures.never_both;
-      gathered = c.never_both.ensures;
-      one_blocks = c.one_gathering.ensures;
-      first = c.one_first.ensures;
-      broken = c.one_violation.ensures;
-      free = c.one_answer.ensures.free;
-      cause = c.one_answer.ensures.cause;
-      parts = c.one_output.ensures.parts;
-    } in
-    no_rule laws c.made_is_well_formed.ensures.accepted
+returns-clause-rules c = no_rule (laws c) c.made_is_well_formed.ensures.accepted
 
 pub returns-clause-limits : goal.returns-clause-limits
-returns-clause-limits c =
-    let laws : Laws = record {
-      one_stream = c.one_stream.ensures;
-      read = c.violated_or_spelled.ensures.never_both;
-      gathered = c.never_both.ensures;
-      one_blocks = c.one_gathering.ensures;
-      first = c.one_first.ensures;
-      broken = c.one_violation.ensures;
-      free = c.one_answer.ensures.free;
-      cause = c.one_answer.ensures.cause;
-      parts = c.one_output.ensures.parts;
-    } in
-    seven_alone laws c.made_is_well_formed.ensures.accepted
+returns-clause-limits c = seven_alone (laws c) c.made_is_well_formed.ensures.accepted
