@@ -47,7 +47,6 @@ use Rattle.jx_plan.specs.Wanted.{MayBeWanted, Wanted, marks_of}
 use Rattle.jx_assemble.specs.Kept.{IsKeptIn}
 use Rattle.jx_assemble.specs.Ready.{AllShort, AreReady, IsTileReady, stream_read}
 use Rattle.jx_assemble.specs.SameHeaders.{HasHeadersOf}
-use Rattle.jx_assemble.specs.Told.{has_lengths}
 use Rattle.jx_assemble.specs.TileParts.{IsOutput}
 use Rattle.jx_assemble.proofs.OutputLemmas.{output_formed, output_gathered, output_headers, output_read, output_strict}
 use Rattle.jx_plan.proofs.ReadBackLemmas.{comps_are as comps_written}
@@ -91,9 +90,6 @@ pub record LayerLaws : Type 0 where
   pub asked : (style : Option Style) (rule : Rule) (layers : ℕ) (blocks : List Block) (number : ℕ) (b : Block) → 1 ≤ layers → IsSound b → breaks_plane style b ≡ false
       → IsAsked b (style_for style b) (ends_of rule layers blocks number b)
   pub final : (asked : Option Style) (ends : List LayerEnd) (b : Block) (layer : ℕ) → IsAsked b (style_for asked b) ends → is_wrong asked b ≡ false → HasFirstLayers asked ends b layer
-
-no_lengths : (ss : List Segment) → list_any is_plt ss ≡ false → has_lengths ss ≡ false
-no_lengths ss none = none
 
 siz_written : (a : Asked) (s : Stream) → (stream_written a s).siz ≡ record s.siz { rsiz = 0 }
 unfolding stream_written
@@ -144,7 +140,7 @@ module _ (laws : HeaderLaws) (w : Wanted) (layers : ℕ) (s : Stream) (some : 1 
       record {
         header = subst P (sym (comps_written a s)) (laws.header a s t stand may_be above lt);
         entries = laws.entries a s t stand lt;
-        lengths = no_lengths (header_of it t) (laws.lengths a s t stand lt);
+        lengths = laws.lengths a s t stand lt;
         progressions = laws.order a s t stand lt;
         sop = ap (λ (c : Cod). c.sop) (laws.cods a s t stand);
         eph = ap (λ (c : Cod). c.eph) (laws.cods a s t stand);

@@ -20,7 +20,7 @@ no_ff e = omega arith
 pub none_clean : HasNoMarker 0 []
 none_clean = no_ff
 
--- ---- bytes without markers, parts of them and one clean_after another
+-- ---- bytes without markers, parts of them and one after another
 pub drop_clean : (n x : ℕ) (xs : List ℕ) → HasNoMarker x xs → HasNoMarker 0 (drop n xs)
 drop_clean zero x xs h = clean_after x 0 xs h no_ff
 drop_clean (suc n) x [] h = no_ff

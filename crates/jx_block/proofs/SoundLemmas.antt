@@ -88,7 +88,7 @@ layer_sound style all sent bytes layer first last (run ∷ runs) rest clean le h
       layer_sound style all sent bytes layer (first + run) last runs rest clean le h.2 are,
     )
 
--- a pieces_lower layer before
+-- a lower layer before
 pub parts_sound : (style all : ℕ) (sent : ℕ → ℕ) (bytes : List ℕ) (layer first : ℕ) (ends : List LayerEnd) → Clean all sent bytes → AreEnds layer first all ends
     → ArePieces style layer first all (map (piece_of bytes) (parts_after style sent first ends))
 parts_sound style all sent bytes layer first [] clean are = are

@@ -31,7 +31,7 @@ or_last : (a : Bool) → a || true ≡ true
 or_last true = refl
 or_last false = refl
 
--- the segments of passes of cases_Bool the first one ends its segment, or doesn't
+-- the segments of passes of which the first one ends its segment, or doesn't
 abbrev segments_if : Bool → ℕ → ℕ → MqContexts → List MqGiven → List (List MqGiven) → List (List ℕ)
 segments_if ends style pass x all more =
     if ends then segment_of (raw_pass style pass) x all ∷ segments_from style (pass + 1) (contexts_after (raw_pass style pass) x all) [] more
