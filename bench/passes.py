@@ -25,28 +25,28 @@ from regroup import RUNS, made_picture
 LINES = """jx_base:
 jx_marker: jx_base byteorder
 jx_geom: jx_base
-jx_order: jx_base jx_geom jx_marker
+jx_progression: jx_base jx_geom jx_marker
 jx_tagtree: jx_base
-jx_head: jx_base jx_tagtree
+jx_packet_header: jx_base jx_tagtree
 jx_raw: jx_base
 jx_mq: jx_base
-jx_grid: jx_base
-jx_passdec: jx_base jx_grid jx_mq jx_raw
-jx_passenc: jx_base jx_grid jx_mq jx_raw jx_passdec
-jx_flags: jx_base jx_grid jx_mq jx_raw jx_passdec jx_passenc
-jx_stream: jx_base jx_marker jx_geom thiserror
-jx_gather: jx_base jx_marker jx_geom jx_order jx_tagtree jx_head jx_stream
+jx_tier1_specs: jx_base
+jx_passdec: jx_base jx_tier1_specs jx_mq jx_raw
+jx_passenc: jx_base jx_tier1_specs jx_mq jx_raw jx_passdec
+jx_tier1: jx_base jx_tier1_specs jx_mq jx_raw jx_passdec jx_passenc
+jx_codestream: jx_base jx_marker jx_geom thiserror
+jx_tier2_reader: jx_base jx_marker jx_geom jx_progression jx_tagtree jx_packet_header jx_codestream
 """
 
 PROGRAM = r'''//! Decodes and codes every code-block of a codestream.
 #![tactic(auto)]
 
 use jx_base::{Block, NoMemory};
-use jx_gather::gather;
-use jx_grid::{Coded, Segments};
+use jx_tier2_reader::gather;
+use jx_tier1_specs::{Coded, Segments};
 use jx_DECODER::decode_FORM;
 use jx_ENCODER::encode_FORM;
-use jx_stream::read_stream;
+use jx_codestream::read_stream;
 use std::alloc::Global;
 use std::env;
 use std::fs;

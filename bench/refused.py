@@ -6,7 +6,7 @@ usage: bench/refused.py PROGRAM
 `rt try --fail-alloc N` of the kit refuses one allocation of one run, builds the program anew for it, and has no such word for files; so
 this script compiles a small C library (with `cc`) that stands between the program and the C library by LD_PRELOAD, counts what the program
 itself asks for, and refuses the Nth: memory, a thread, and the calls on files, these with EIO and with ENOMEM. Calls within the C library
-(the ends of a thread, say) aren't refused. Calls on the planned faults of files in memory are tests of jx_recast and jx_outside.
+(the ends of a thread, say) aren't refused. Calls on the planned faults of files in memory are tests of jx_transcode and jx_io.
 
 Of each run is asked: it ends with its own status, line and file, or, refused memory, with 9 and `no memory` or nothing said; refused a call
 on a file, with 7 and `read fault` or with 8 and nothing said, as the call belongs to input or output; after a refusal an older OUT is

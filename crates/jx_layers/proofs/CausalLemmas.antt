@@ -8,9 +8,9 @@ use Rattle.jx_base.specs.declared.pieces.Block.{Block}
 use Rattle.jx_base.specs.declared.style.Style.{Style}
 use Rattle.jx_base.specs.Passes.{is_causal}
 use Rattle.jx_base.specs.Sound.{IsSound}
-use Rattle.jx_block.specs.declared.job.Job.{Job}
-use Rattle.jx_block.specs.Jobs.{IsAsked, KeepsCausal}
-use Rattle.jx_block.specs.Written.{style_for}
+use Rattle.jx_codeblock.specs.declared.job.Job.{Job}
+use Rattle.jx_codeblock.specs.Jobs.{IsAsked, KeepsCausal}
+use Rattle.jx_codeblock.specs.Written.{style_for}
 use Rattle.jx_layers.specs.Causal.{breaks_plane, differ}
 use Rattle.jx_layers.specs.Layers.{IsJobOf}
 use Rattle.jx_layers.specs.Rule.{Rule}

@@ -3,7 +3,7 @@ use Rattle.std.proofs.Common.{◌≡◌, ◌<◌, ◌≤◌, ◌+◌, ◌∙◌,
 use Rattle.std.specs.List.{slice_get}
 use Rattle.std.proofs.lemmas.Bool.{cases_lt}
 use Rattle.std.proofs.lemmas.Option.{slice_get-get_or, slice_get_past}
-use Rattle.jx_block.specs.declared.job.Job.{Job}
+use Rattle.jx_codeblock.specs.declared.job.Job.{Job}
 use Rattle.jx_layers.specs.Layers.{HasMany}
 use Rattle.jx_layers.specs.Crowded.{IsCrowded}
 

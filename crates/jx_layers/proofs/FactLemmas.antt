@@ -4,9 +4,9 @@ use Rattle.std.specs.List.{slice_get, range_with_len}
 use Rattle.std.proofs.lemmas.Bool.{cases_lt, cases_eq}
 use Rattle.std.proofs.lemmas.Option.{none-some, same_Some}
 use Rattle.jx_base.specs.declared.pieces.Block.{Block}
-use Rattle.jx_stream.specs.declared.Stream.{Stream}
-use Rattle.jx_stream.specs.First.{tile_number}
-use Rattle.jx_stream.specs.Shapes.{layers_of}
+use Rattle.jx_codestream.specs.declared.Stream.{Stream}
+use Rattle.jx_codestream.specs.First.{tile_number}
+use Rattle.jx_codestream.specs.Shapes.{layers_of}
 use Rattle.jx_layers.specs.Rule.{greatest}
 use Rattle.jx_layers.specs.Facts.{IsReached, most_layers, most_planes}
 

@@ -8,7 +8,7 @@ use Rattle.jx_base.specs.declared.style.Style.{Style}
 use Rattle.jx_base.specs.Sound.{IsSound}
 use Rattle.std.proofs.lemmas.Option.{get_or_from_slice_get, none-some, same_Some}
 use Rattle.jx_base.proofs.Lists.{get_left, get_right}
-use Rattle.jx_block.specs.declared.job.Job.{Job}
+use Rattle.jx_codeblock.specs.declared.job.Job.{Job}
 use Rattle.jx_layers.specs.Rule.{Rule}
 use Rattle.jx_layers.specs.Layers.{AreJobs, IsJobOf, asked_before}
 use Rattle.jx_layers.specs.Sent.{AreFirst, IsJobFrom}

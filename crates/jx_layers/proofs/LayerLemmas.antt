@@ -9,11 +9,11 @@ use Rattle.jx_base.specs.declared.pieces.Block.{Block}
 use Rattle.jx_base.specs.declared.style.Style.{Style}
 use Rattle.jx_base.specs.Pieces.{PieceValue}
 use Rattle.jx_base.specs.Sound.{IsSound}
-use Rattle.jx_block.specs.declared.LayerEnd.{LayerEnd}
-use Rattle.jx_block.specs.declared.job.Job.{Job}
-use Rattle.jx_block.specs.Jobs.{AreEnds, IsAsked}
-use Rattle.jx_block.specs.Recoding.{layer_ends}
-use Rattle.jx_block.specs.Written.{style_for}
+use Rattle.jx_codeblock.specs.declared.LayerEnd.{LayerEnd}
+use Rattle.jx_codeblock.specs.declared.job.Job.{Job}
+use Rattle.jx_codeblock.specs.Jobs.{AreEnds, IsAsked}
+use Rattle.jx_codeblock.specs.Recoding.{layer_ends}
+use Rattle.jx_codeblock.specs.Written.{style_for}
 use Rattle.jx_layers.specs.Causal.{breaks_plane}
 use Rattle.jx_layers.specs.Rule.{Rule}
 use Rattle.jx_layers.specs.Rule.Rule.{Keep}

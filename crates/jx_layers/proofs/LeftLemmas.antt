@@ -10,10 +10,10 @@ use Rattle.jx_base.specs.Sound.{IsSound}
 use Rattle.jx_layers.specs.Layers.{Divide, greatest_to, layer_in}
 use Rattle.jx_layers.specs.Sent.{AreLeft, AreSent, IsJobFrom, answered}
 use Rattle.jx_layers.specs.Rule.{Rule}
-use Rattle.jx_block.specs.declared.LayerEnd.{LayerEnd}
-use Rattle.jx_block.specs.declared.job.Job.{Job}
-use Rattle.jx_block.specs.Jobs.{AreEnds}
-use Rattle.jx_block.specs.Written.{style_for}
+use Rattle.jx_codeblock.specs.declared.LayerEnd.{LayerEnd}
+use Rattle.jx_codeblock.specs.declared.job.Job.{Job}
+use Rattle.jx_codeblock.specs.Jobs.{AreEnds}
+use Rattle.jx_codeblock.specs.Written.{style_for}
 use Rattle.jx_base.proofs.PieceLemmas.{pieces_end}
 
 -- a lower layer before them serves too

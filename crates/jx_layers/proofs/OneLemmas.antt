@@ -8,16 +8,16 @@ use Rattle.jx_base.specs.declared.pieces.Block.{Block}
 use Rattle.jx_base.specs.declared.style.Style.{Style}
 use Rattle.jx_base.specs.Pieces.{PieceValue, ArePieces}
 use Rattle.jx_base.specs.Sound.{IsSound}
-use Rattle.jx_block.specs.declared.LayerEnd.{LayerEnd}
-use Rattle.jx_block.specs.declared.job.Job.{Job}
-use Rattle.jx_block.specs.Jobs.{AreEnds}
-use Rattle.jx_block.specs.Recoding.{layer_ends}
-use Rattle.jx_block.proofs.KeptLemmas.{own_ends_rise}
+use Rattle.jx_codeblock.specs.declared.LayerEnd.{LayerEnd}
+use Rattle.jx_codeblock.specs.declared.job.Job.{Job}
+use Rattle.jx_codeblock.specs.Jobs.{AreEnds}
+use Rattle.jx_codeblock.specs.Recoding.{layer_ends}
+use Rattle.jx_codeblock.proofs.KeptLemmas.{own_ends_rise}
 use Rattle.jx_layers.specs.Rule.{Rule}
 use Rattle.jx_layers.specs.Rule.Rule.{Keep}
 use Rattle.jx_layers.specs.Layers.{IsJobOf, Divide, answer_at, greatest_to, layer_at, layer_in}
 use Rattle.jx_base.proofs.PieceLemmas.{pieces_end}
-use Rattle.jx_block.proofs.PartLemmas.{ends_within}
+use Rattle.jx_codeblock.proofs.PartLemmas.{ends_within}
 
 -- ---- one list of ends
 -- the layer of the first pass of some ends

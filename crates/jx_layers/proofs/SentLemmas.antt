@@ -1,8 +1,8 @@
 -- Passes that are put into layers one after another.
 use Rattle.std.proofs.Common.{◌≡◌, ◌<◌, ◌≤◌, ◌+◌, ◌∙◌, ap, sym, subst, refl, arith, ℕ, zero, suc, List, [], ◌∷◌, ◌++◌, inl, inr}
 use Rattle.std.proofs.lemmas.Bool.{cases_lt}
-use Rattle.jx_block.specs.declared.LayerEnd.{LayerEnd}
-use Rattle.jx_block.specs.Jobs.{AreEnds}
+use Rattle.jx_codeblock.specs.declared.LayerEnd.{LayerEnd}
+use Rattle.jx_codeblock.specs.Jobs.{AreEnds}
 use Rattle.jx_layers.specs.Layers.{greatest_to, Divide}
 use Rattle.jx_layers.specs.Sent.{LieIn, AreSent}
 

@@ -4,10 +4,10 @@ use Rattle.std.specs.List.{slice_get}
 use Rattle.std.specs.Option.{option_map}
 use Rattle.jx_base.specs.declared.pieces.Block.{Block}
 use Rattle.jx_base.specs.declared.style.Style.{Style}
-use Rattle.jx_block.specs.declared.LayerEnd.{LayerEnd}
-use Rattle.jx_block.specs.declared.job.Job.{Job}
-use Rattle.jx_block.specs.Recoding.{recoding}
-use Rattle.jx_block.specs.Written.{block_asked, block_with, style_for, written_in}
+use Rattle.jx_codeblock.specs.declared.LayerEnd.{LayerEnd}
+use Rattle.jx_codeblock.specs.declared.job.Job.{Job}
+use Rattle.jx_codeblock.specs.Recoding.{recoding}
+use Rattle.jx_codeblock.specs.Written.{block_asked, block_with, style_for, written_in}
 use Rattle.jx_layers.specs.Rule.{Rule}
 use Rattle.jx_layers.specs.Layers.{AreJobs, IsJobOf, ends_of, written_by, written_from}
 use Rattle.jx_layers.proofs.LayerLemmas.{job_ends}

@@ -1,7 +1,7 @@
 -- The blocks of which some layer has over 164 passes.
 use Rattle.std.specs.Prelude.{◌<◌, ℕ, List, Option, None, Some, slice_get}
 use Rattle.jx_base.specs.declared.pieces.Block.{Block}
-use Rattle.jx_block.specs.declared.job.Job.{Job}
+use Rattle.jx_codeblock.specs.declared.job.Job.{Job}
 use Rattle.jx_layers.specs.Rule.{Rule}
 use Rattle.jx_layers.specs.Layers.{HasMany, ends_of}
 

@@ -2,9 +2,9 @@
 use Rattle.std.specs.Prelude.{◌≡◌, ◌≤◌, ◌<◌, ℕ, List, length, map}
 use Rattle.std.specs.List.{range_with_len}
 use Rattle.jx_base.specs.declared.pieces.Block.{Block}
-use Rattle.jx_stream.specs.declared.Stream.{Stream}
-use Rattle.jx_stream.specs.First.{tile_number}
-use Rattle.jx_stream.specs.Shapes.{layers_of}
+use Rattle.jx_codestream.specs.declared.Stream.{Stream}
+use Rattle.jx_codestream.specs.First.{tile_number}
+use Rattle.jx_codestream.specs.Shapes.{layers_of}
 use Rattle.jx_layers.specs.declared.StreamFacts.{StreamFacts}
 use Rattle.jx_layers.specs.Rule.{greatest}
 

@@ -5,10 +5,10 @@ use Rattle.std.specs.List.{filter, list_any, range_with_len}
 use Rattle.jx_base.specs.declared.pieces.Block.{Block}
 use Rattle.jx_base.specs.declared.style.Style.{Style}
 use Rattle.jx_base.specs.Pieces.{PieceValue}
-use Rattle.jx_block.specs.declared.job.Job.{Job}
-use Rattle.jx_block.specs.declared.LayerEnd.{LayerEnd}
-use Rattle.jx_block.specs.Jobs.{AreEnds}
-use Rattle.jx_block.specs.Written.{style_for, written_in}
+use Rattle.jx_codeblock.specs.declared.job.Job.{Job}
+use Rattle.jx_codeblock.specs.declared.LayerEnd.{LayerEnd}
+use Rattle.jx_codeblock.specs.Jobs.{AreEnds}
+use Rattle.jx_codeblock.specs.Written.{style_for, written_in}
 use Rattle.jx_layers.specs.declared.PassFacts.{PassFacts}
 use Rattle.jx_layers.specs.Rule.{Rule, answer}
 

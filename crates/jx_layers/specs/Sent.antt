@@ -3,10 +3,10 @@ use Rattle.std.specs.Prelude.{◌≡◌, ◌<◌, ◌≤◌, ℕ, zero, suc, ◌
 use Rattle.jx_base.specs.declared.pieces.Block.{Block}
 use Rattle.jx_base.specs.declared.style.Style.{Style}
 use Rattle.jx_base.specs.Pieces.{ArePieces, PieceValue}
-use Rattle.jx_block.specs.declared.LayerEnd.{LayerEnd}
-use Rattle.jx_block.specs.declared.job.Job.{Job}
-use Rattle.jx_block.specs.Jobs.{AreEnds}
-use Rattle.jx_block.specs.Written.{style_for}
+use Rattle.jx_codeblock.specs.declared.LayerEnd.{LayerEnd}
+use Rattle.jx_codeblock.specs.declared.job.Job.{Job}
+use Rattle.jx_codeblock.specs.Jobs.{AreEnds}
+use Rattle.jx_codeblock.specs.Written.{style_for}
 use Rattle.jx_layers.specs.Rule.{Rule, answer}
 use Rattle.jx_layers.specs.Layers.{IsJobOf, Divide, facts_of, greatest_to, layer_in}
 

@@ -11,7 +11,7 @@ use crate::causal::style_for;
 use crate::sending::Sending;
 use crate::{LayerPlanner, PassFacts};
 use jx_base::{Block, NoMemory, Piece, Style};
-use jx_block::Job;
+use jx_codeblock::Job;
 use std::alloc::Global;
 
 /// One question: the answer, cut down to the last layer.

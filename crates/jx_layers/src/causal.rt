@@ -1,7 +1,7 @@
 //! The style that is asked of code-blocks.
 
 ghost use Rattle.std.specs.Prelude.{◌≡◌, ◌≤◌, ◌^◌, length};
-ghost use Rattle.jx_block.specs.Written.{style_for};
+ghost use Rattle.jx_codeblock.specs.Written.{style_for};
 ghost use Rattle.jx_layers.specs.Causal.{breaks_plane, first_broken};
 
 use jx_base::{Block, Style};

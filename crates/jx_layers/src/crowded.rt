@@ -5,7 +5,7 @@ ghost use Rattle.std.specs.Bool.{Decides};
 ghost use Rattle.jx_layers.specs.Layers.{HasMany};
 ghost use Rattle.jx_layers.specs.Crowded.{IsLowestCrowded};
 
-use jx_block::{Job, LayerEnd};
+use jx_codeblock::{Job, LayerEnd};
 
 /// Whether some layer has over 164 passes.
 fn has_many(ends: &[LayerEnd]) -> bool

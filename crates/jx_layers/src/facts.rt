@@ -1,14 +1,14 @@
 //! What a planner is told of a codestream.
 
 ghost use Rattle.std.specs.Prelude.{◌≡◌, ◌<◌, ◌≤◌, ◌^◌, length, IfOk};
-ghost use Rattle.jx_stream.specs.First.{tile_number};
-ghost use Rattle.jx_stream.specs.InRange.{StreamInRange};
-ghost use Rattle.jx_stream.specs.Shapes.{layers_of};
+ghost use Rattle.jx_codestream.specs.First.{tile_number};
+ghost use Rattle.jx_codestream.specs.InRange.{StreamInRange};
+ghost use Rattle.jx_codestream.specs.Shapes.{layers_of};
 ghost use Rattle.jx_layers.specs.Facts.{facts_of, most_layers, most_planes};
 
 use crate::StreamFacts;
 use jx_base::{Block, NoMemory};
-use jx_stream::{MainView, Stream};
+use jx_codestream::{MainView, Stream};
 use std::alloc::Global;
 
 /// How many tiles the picture has, at most 65,535.

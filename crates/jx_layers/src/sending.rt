@@ -1,12 +1,12 @@
 //! The layers of a code-block's passes, put together pass by pass.
 
 ghost use Rattle.std.specs.Prelude.{◌≡◌, ◌+◌, ◌<◌, ℕ, OnOk, IfOk};
-ghost use Rattle.jx_block.specs.Jobs.{AreEnds};
+ghost use Rattle.jx_codeblock.specs.Jobs.{AreEnds};
 ghost use Rattle.jx_layers.specs.Layers.{Divide, greatest_to};
 ghost use Rattle.jx_layers.specs.Sent.{AreSent};
 
 use jx_base::NoMemory;
-use jx_block::{Ends, LayerEnd};
+use jx_codeblock::{Ends, LayerEnd};
 use std::alloc::Global;
 
 /// The passes of a block up to one.

@@ -1,13 +1,13 @@
 //! Headers of small precincts, both ways, and what a precinct keeps from one to the next.
 ghost use Rattle.std.specs.Prelude.{◌≡◌, ◌<◌, ◌+◌, ◌*◌, ◌^◌, IsTrue, OnOk, map, length};
-ghost use Rattle.jx_head.specs.Precinct.{CellsInRange, IsState, cells_in};
-ghost use Rattle.jx_head.specs.Leafs.{leaf_of};
-ghost use Rattle.jx_head.specs.LeavesFit.{LeavesInRange};
-ghost use Rattle.jx_head.specs.Writable.{AllFew, all_passes};
+ghost use Rattle.jx_packet_header.specs.Precinct.{CellsInRange, IsState, cells_in};
+ghost use Rattle.jx_packet_header.specs.Leafs.{leaf_of};
+ghost use Rattle.jx_packet_header.specs.LeavesFit.{LeavesInRange};
+ghost use Rattle.jx_packet_header.specs.Writable.{AllFew, all_passes};
 
 use crate::checks::{check, equal};
 use jx_base::{Style, ends_segment, is_raw};
-use jx_head::{BandCells, Leaf, Part, Precinct, PrecinctOut};
+use jx_packet_header::{BandCells, Leaf, Part, Precinct, PrecinctOut};
 use std::alloc::{AllocError, Global};
 use std::process::Abort;
 use std::test::Fail;

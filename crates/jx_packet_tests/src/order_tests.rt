@@ -7,7 +7,7 @@ use crate::checks::{check, equal, equal_at};
 use crate::geometries::{WHOLE, geometry, shape};
 use jx_geom::{Canvas, CompShape, TileGeom};
 use jx_marker::Progression;
-use jx_order::{OrderFault, PacketName, packets};
+use jx_progression::{OrderFault, PacketName, packets};
 use std::alloc::{AllocError, Global};
 use std::process::Abort;
 use std::test::Fail;

@@ -2,8 +2,8 @@
 use Rattle.std.proofs.Common.{◌≡◌, ◌+◌, ◌-◌, ◌<◌, ◌≤◌, ◌^◌, ◌==◌, ℕ, suc, Bool, true, false, List, [], ◌∷◌, ◌++◌, length, refl, ap, arith, map, drop, zero, Bor, lit<, get_or, if◌then◌else◌}
 use Rattle.std.proofs.lemmas.List.{drop_all}
 use Rattle.std.proofs.lemmas.List.Elements.{All-cons, All-nil}
-use Rattle.jx_grid.specs.Segments.{bytes_of}
-use Rattle.jx_grid.specs.Reading.{first_segment}
+use Rattle.jx_tier1_specs.specs.Segments.{bytes_of}
+use Rattle.jx_tier1_specs.specs.Reading.{first_segment}
 use Rattle.jx_passdec.specs.Short.{AreShort}
 use Rattle.jx_base.specs.RawBits.{raw_looked, raw_looked_after, raw_width}
 use Rattle.jx_raw.specs.RawReading.{first_or_one}

@@ -1,6 +1,6 @@
 -- Passes one after the other.
 use Rattle.std.proofs.Common.{◌≡◌, ◌<◌, ◌≤◌, ◌+◌, ◌-◌, ℕ, suc, refl, arith}
-use Rattle.jx_grid.specs.Reading.{Coding, Decoding, read_from, read_pass}
+use Rattle.jx_tier1_specs.specs.Reading.{Coding, Decoding, read_from, read_pass}
 
 pub read_more : (c : Coding) (end pass : ℕ) (d : Decoding) → pass < end
     → read_from c (end - pass) pass d ≡ read_from c (end - (pass + 1)) (pass + 1) (read_pass c pass d)

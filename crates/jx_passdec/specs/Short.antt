@@ -1,6 +1,6 @@
 -- Segments whose lengths are counted in 32 bits.
-use Rattle.jx_grid.specs.Cells.{Cells}
-use Rattle.jx_grid.specs.Reading.{Reading, Decoding}
+use Rattle.jx_tier1_specs.specs.Cells.{Cells}
+use Rattle.jx_tier1_specs.specs.Reading.{Reading, Decoding}
 use Rattle.std.specs.Prelude.{ℕ, ◌^◌, ◌<◌, List, All, length}
 
 abbrev pub AreShort : List (List ℕ) → Type 0

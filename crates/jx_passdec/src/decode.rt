@@ -1,14 +1,14 @@
 ghost use Rattle.std.specs.Prelude.{◌≡◌, ◌-◌, ◌*◌, ◌^◌, ◌<◌, ◌≤◌, ℕ, List, map, IfOk, OnOk, MatchOption};
-ghost use Rattle.jx_grid.specs.Cells.{Cells, HasSize, AreWithin};
-ghost use Rattle.jx_grid.specs.Segments.{bytes_of};
-ghost use Rattle.jx_grid.specs.Reading.{Decoding, coding_of, at_start, read_from, decoded};
+ghost use Rattle.jx_tier1_specs.specs.Cells.{Cells, HasSize, AreWithin};
+ghost use Rattle.jx_tier1_specs.specs.Segments.{bytes_of};
+ghost use Rattle.jx_tier1_specs.specs.Reading.{Decoding, coding_of, at_start, read_from, decoded};
 ghost use Rattle.jx_passdec.specs.Short.{AreShort};
 
 use crate::decoder::Decoder;
 use crate::reader::Reader;
 use jx_base::NoMemory;
-use jx_grid::{BadSymbol, Coded, Grid};
 use jx_mq::Contexts;
+use jx_tier1_specs::{BadSymbol, Coded, Grid};
 use std::alloc::Global;
 
 /// The coefficients that coded passes give.
@@ -42,7 +42,7 @@ fn start<'a>(
 }
 
 /// Decodes the passes of a block.
-#[tactic(auto, using(crate::proofs::ReadMore::read_more, crate::proofs::ReadMore::read_done, jx_grid::proofs::Places::within_more))]
+#[tactic(auto, using(crate::proofs::ReadMore::read_more, crate::proofs::ReadMore::read_done, jx_tier1_specs::proofs::Places::within_more))]
 fn run<'a>(decoder: &mut Decoder<'a>, coded: &Coded) -> Result<(), NoMemory>
     requires some { 1 ≤ coded.now.planes }
     requires planes { coded.now.planes ≤ 74 }
@@ -62,7 +62,7 @@ fn run<'a>(decoder: &mut Decoder<'a>, coded: &Coded) -> Result<(), NoMemory>
 
 /// The coefficients of a block of at most 1,024 by 1,024 places, from its coded passes (T.800, Annex
 /// D). Each segment has fewer than 2^32 bytes; one that isn't there is taken as one of no bytes.
-#[tactic(auto, unfolding(jx_grid::specs::Reading::decoded), using(jx_grid::proofs::Places::zeros_within))]
+#[tactic(auto, unfolding(jx_tier1_specs::specs::Reading::decoded), using(jx_tier1_specs::proofs::Places::zeros_within))]
 pub fn decode_passes(
     alloc: Global,
     width: u16,

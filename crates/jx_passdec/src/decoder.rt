@@ -1,14 +1,14 @@
 ghost use Rattle.std.specs.Prelude.{◌≡◌, ◌+◌, ◌++◌, ◌∷◌, [], ◌/◌, ◌%◌, ◌^◌, ◌==◌, ◌&&◌, ◌<◌, ℕ, length, drop, All, OnOk, IfOk, IsOk};
-ghost use Rattle.jx_grid.specs.Cells.{Cells, HasSize, AreWithin, IsKept};
-ghost use Rattle.jx_grid.specs.Pass.{IsScan, plane_of};
-ghost use Rattle.jx_grid.specs.Segments.{begins};
-ghost use Rattle.jx_grid.specs.Reading.{Decoding, coding_of, first_segment, opened, read_bits, read_symbol, looked_of, read_within, read_pass, first_wrong};
+ghost use Rattle.jx_tier1_specs.specs.Cells.{Cells, HasSize, AreWithin, IsKept};
+ghost use Rattle.jx_tier1_specs.specs.Pass.{IsScan, plane_of};
+ghost use Rattle.jx_tier1_specs.specs.Segments.{begins};
+ghost use Rattle.jx_tier1_specs.specs.Reading.{Decoding, coding_of, first_segment, opened, read_bits, read_symbol, looked_of, read_within, read_pass, first_wrong};
 ghost use Rattle.jx_passdec.specs.Short.{AreShort, with_bits};
 ghost use Rattle.jx_base.specs.Passes.{is_causal, has_symbols};
 
 use crate::reader::Reader;
 use jx_base::{Band, NoMemory, Style, ends_segment, is_raw};
-use jx_grid::{Grid, ask_symbol, run_pass};
+use jx_tier1_specs::{Grid, ask_symbol, run_pass};
 use std::marker::Model;
 
 /// A block of which some passes were decoded.
@@ -24,8 +24,8 @@ pub struct Decoder<'a> {
 
 impl<'a> Model for Decoder<'a> {
     ghost use Rattle.std.specs.Prelude.{map, drop};
-    ghost use Rattle.jx_grid.specs.Segments.{bytes_of};
-    ghost use Rattle.jx_grid.specs.Reading.{Decoding};
+    ghost use Rattle.jx_tier1_specs.specs.Segments.{bytes_of};
+    ghost use Rattle.jx_tier1_specs.specs.Reading.{Decoding};
 
     ghost Value = { Decoding };
 

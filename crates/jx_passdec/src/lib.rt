@@ -6,5 +6,5 @@ mod decoder;
 mod reader;
 
 pub use decode::{Decoded, decode_passes, sound};
-pub use jx_grid::{BadSymbol, Coded, Coef, Grid, Segments};
+pub use jx_tier1_specs::{BadSymbol, Coded, Coef, Grid, Segments};
 pub use reader::Reader;

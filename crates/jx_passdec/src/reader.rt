@@ -1,11 +1,11 @@
 ghost use Rattle.std.specs.Prelude.{◌≡◌, ◌^◌, ◌<◌, ℕ, length};
 ghost use Rattle.jx_base.specs.MqTable.{MqContexts, mq_fresh};
-ghost use Rattle.jx_grid.specs.Reading.{Reading, fresh_reading, read_answer, looked_of};
+ghost use Rattle.jx_tier1_specs.specs.Reading.{Reading, fresh_reading, read_answer, looked_of};
 
 use jx_base::NoMemory;
-use jx_grid::{Question, Source};
 use jx_mq::{Contexts, MqDecoder};
 use jx_raw::RawReader;
+use jx_tier1_specs::{Question, Source};
 use std::marker::Model;
 
 /// Reads the decisions of one segment: by the arithmetic decoder, or as raw bits.
@@ -19,7 +19,7 @@ pub struct Reader<'a> {
 
 impl<'a> Model for Reader<'a> {
     ghost use Rattle.std.specs.Prelude.{◌≡◌, ◌^◌, ◌<◌, length};
-    ghost use Rattle.jx_grid.specs.Reading.{Reading};
+    ghost use Rattle.jx_tier1_specs.specs.Reading.{Reading};
 
     ghost Value = { Reading };
 
@@ -73,7 +73,7 @@ impl<'a> Reader<'a> {
 #[tactic(auto, using(crate::proofs::Firsts::first_is))]
 impl<'a> Source for Reader<'a> {
     ghost use Rattle.std.specs.Prelude.{true};
-    ghost use Rattle.jx_grid.specs.Reading.{read_answer};
+    ghost use Rattle.jx_tier1_specs.specs.Reading.{read_answer};
 
     ghost ask = { read_answer };
 

@@ -5,13 +5,13 @@ use Rattle.std.specs.Bool.{MatchBool}
 use Rattle.jx_base.specs.MqTable.{mq_fresh}
 use Rattle.jx_base.specs.MqWriting.{MqGiven, Renewed}
 use Rattle.jx_base.specs.Passes.{raw_pass, end_pass, resets, is_causal}
-use Rattle.jx_grid.specs.Cells.{Cells}
-use Rattle.jx_grid.specs.Asking.{Asking, told}
-use Rattle.jx_grid.specs.Pass.{pass_of}
-use Rattle.jx_grid.specs.Symbol.{symbol_asked}
-use Rattle.jx_grid.specs.Segments.{begins}
-use Rattle.jx_grid.specs.Reading.{Reading, Coding, Decoding, opened, read_answer, read_bits, read_symbol, read_within, read_pass, read_from, first_wrong, ends_by_symbol, looked_of, zeros, at_start}
-use Rattle.jx_grid.specs.Needs.{followed, called_for, followed_pass, followed_from, renewal, symbol_needs, pass_needs, needs_from, segments_from, written, is_last}
+use Rattle.jx_tier1_specs.specs.Cells.{Cells}
+use Rattle.jx_tier1_specs.specs.Asking.{Asking, told}
+use Rattle.jx_tier1_specs.specs.Pass.{pass_of}
+use Rattle.jx_tier1_specs.specs.Symbol.{symbol_asked}
+use Rattle.jx_tier1_specs.specs.Segments.{begins}
+use Rattle.jx_tier1_specs.specs.Reading.{Reading, Coding, Decoding, opened, read_answer, read_bits, read_symbol, read_within, read_pass, read_from, first_wrong, ends_by_symbol, looked_of, zeros, at_start}
+use Rattle.jx_tier1_specs.specs.Needs.{followed, called_for, followed_pass, followed_from, renewal, symbol_needs, pass_needs, needs_from, segments_from, written, is_last}
 use Rattle.jx_passenc.proofs.GivesLemmas.{read_all, Gives, read_all_more, read_all_raw, gives_more, AreInverse, told_follows}
 use Rattle.jx_passenc.proofs.ReadyLemmas.{Ready, started, next_if, begins_next, opened_if}
 

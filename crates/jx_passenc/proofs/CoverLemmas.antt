@@ -2,7 +2,7 @@
 use Rattle.std.proofs.Common.{◌≡◌, ◌<◌, ◌+◌, ◌-◌, ◌*◌, ◌/◌, ◌%◌, ℕ, min, ap, ◌∙◌, arith}
 use Rattle.std.proofs.lemmas.Nat.{div-mul-add, mod-mul-add, div-add-mod'}
 use Rattle.std.proofs.Math.Nat.{mul-le-mul_right, mul-le-mul_left}
-use Rattle.jx_grid.specs.Pass.{stripe_rows, scan_column, scan_row}
+use Rattle.jx_tier1_specs.specs.Pass.{stripe_rows, scan_column, scan_row}
 
 -- the number of a place
 pub record IsScanned (w h x y : ℕ) : Type 0 where

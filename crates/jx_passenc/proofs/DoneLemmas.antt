@@ -3,11 +3,11 @@ use Rattle.std.proofs.Common.{◌≡◌, ◌≢◌, ◌<◌, ◌≤◌, ◌+◌,
 use Rattle.std.proofs.lemmas.Bool.Decides.{nat_tests}
 use Rattle.std.proofs.lemmas.Bool.{cases_Bool, cases_lt, not_from_false}
 use Rattle.std.proofs.lemmas.Nat.{pow_pos}
-use Rattle.jx_grid.specs.declared.coef.Coef.{Coef}
-use Rattle.jx_grid.specs.declared.question.Plane.{Plane}
-use Rattle.jx_grid.specs.Cells.{Cells, zero_coef, coef_at, with_coef, significant}
-use Rattle.jx_grid.specs.Asking.{Asking, Told}
-use Rattle.jx_grid.specs.Pass.{IsScan, shift_of, is_decided, with_bit, with_sign, changed, label_at, sign_of, bit_of, significance_at, refinement_at, usual_at, is_run, zeroed, number_in_run, place_at, run_at, cleanup_at, pass_at}
+use Rattle.jx_tier1_specs.specs.declared.coef.Coef.{Coef}
+use Rattle.jx_tier1_specs.specs.declared.question.Plane.{Plane}
+use Rattle.jx_tier1_specs.specs.Cells.{Cells, zero_coef, coef_at, with_coef, significant}
+use Rattle.jx_tier1_specs.specs.Asking.{Asking, Told}
+use Rattle.jx_tier1_specs.specs.Pass.{IsScan, shift_of, is_decided, with_bit, with_sign, changed, label_at, sign_of, bit_of, significance_at, refinement_at, usual_at, is_run, zeroed, number_in_run, place_at, run_at, cleanup_at, pass_at}
 use Rattle.jx_passenc.proofs.PowerLemmas.{multiple}
 use Rattle.jx_passenc.proofs.FrontLemmas.{IsBefore, IsClean, zero_clean, sign_clean}
 use Rattle.jx_passenc.proofs.GridLemmas.{IsFront, AreClean, IsIn, IsWhole, here_with, with_clean, set_at, index_in}

@@ -3,12 +3,12 @@ use Rattle.std.proofs.Common.{◌≡◌, ◌≢◌, ◌<◌, ◌≤◌, ◌+◌,
 use Rattle.std.proofs.lemmas.Bool.Decides.{nat_tests}
 use Rattle.std.proofs.lemmas.Bool.{cases_eq, ltb-false, not-true, and_parts, ltb-true}
 use Rattle.std.proofs.lemmas.List.{get_or-set_same, get_or-set_other, length-set}
-use Rattle.jx_grid.specs.declared.coef.Coef.{Coef}
-use Rattle.jx_grid.specs.declared.question.Plane.{Plane}
-use Rattle.jx_grid.specs.Cells.{Cells, zero_coef, coef_at, with_coef, significant}
-use Rattle.jx_grid.specs.Asking.{Asking, Told}
-use Rattle.jx_grid.specs.Pass.{IsScan, shift_of, is_decided, with_bit, with_sign, changed, label_at, sign_of, bit_of, significance_at, refinement_at, usual_at, is_run, zeroed, number_in_run, named_at, place_at, run_at, cleanup_at, pass_at}
-use Rattle.jx_grid.specs.Needs.{bit_at_place, first_of_four, followed}
+use Rattle.jx_tier1_specs.specs.declared.coef.Coef.{Coef}
+use Rattle.jx_tier1_specs.specs.declared.question.Plane.{Plane}
+use Rattle.jx_tier1_specs.specs.Cells.{Cells, zero_coef, coef_at, with_coef, significant}
+use Rattle.jx_tier1_specs.specs.Asking.{Asking, Told}
+use Rattle.jx_tier1_specs.specs.Pass.{IsScan, shift_of, is_decided, with_bit, with_sign, changed, label_at, sign_of, bit_of, significance_at, refinement_at, usual_at, is_run, zeroed, number_in_run, named_at, place_at, run_at, cleanup_at, pass_at}
+use Rattle.jx_tier1_specs.specs.Needs.{bit_at_place, first_of_four, followed}
 use Rattle.jx_passenc.proofs.FrontLemmas.{IsBefore, IsClean, zero_clean, sign_clean}
 use Rattle.jx_passenc.proofs.GridLemmas.{IsFront, AreClean, IsIn, IsWhole, index_in, with_clean, below_with, above_with}
 use Rattle.jx_passenc.proofs.StayLemmas.{IsDue, zero_stays, sign_stays, more_stays}

@@ -2,9 +2,9 @@
 use Rattle.std.proofs.Common.{◌≡◌, ◌≢◌, ◌≤◌, ◌+◌, ◌-◌, ◌/◌, ◌%◌, ◌^◌, ◌==◌, ℕ, Bool, true, false, refl, sym, ap, ◌∙◌, arith, subst}
 use Rattle.std.proofs.Math.Nat.{zero-div}
 use Rattle.std.proofs.lemmas.Bool.{true≢false}
-use Rattle.jx_grid.specs.declared.coef.Coef.{Coef}
-use Rattle.jx_grid.specs.declared.question.Plane.{Plane}
-use Rattle.jx_grid.specs.Pass.{IsScan, shift_of, with_bit, with_sign}
+use Rattle.jx_tier1_specs.specs.declared.coef.Coef.{Coef}
+use Rattle.jx_tier1_specs.specs.declared.question.Plane.{Plane}
+use Rattle.jx_tier1_specs.specs.Pass.{IsScan, shift_of, with_bit, with_sign}
 use Rattle.jx_passenc.proofs.PowerLemmas.{zeros_less, bit_off, bit_on, above_same, zeros_kept}
 use Rattle.jx_base.proofs.Powers.{div_longer}
 

@@ -4,11 +4,11 @@ use Rattle.jx_base.specs.MqTable.{MqContexts, mq_fresh, mq_row_of}
 use Rattle.jx_base.specs.MqReading.{MqReader, mq_reader, mq_bit, mq_after, mq_read, mq_decisions_from, mq_decisions}
 use Rattle.jx_base.specs.MqWriting.{MqGiven, Decided, Renewed, mq_write, mq_contexts_after, mq_asked, mq_bits}
 use Rattle.jx_base.specs.RawBits.{raw_bits, raw_read, raw_write}
-use Rattle.jx_grid.specs.declared.question.Question.{Question}
-use Rattle.jx_grid.specs.Cells.{Cells}
-use Rattle.jx_grid.specs.Asking.{Asking, Told, Ask, told}
-use Rattle.jx_grid.specs.Reading.{Reading, fresh_reading, coded_bit, after_bit, turned_over, read_answer}
-use Rattle.jx_grid.specs.Needs.{answer_of, followed, called_for, renewed_by, segment_of, contexts_after}
+use Rattle.jx_tier1_specs.specs.declared.question.Question.{Question}
+use Rattle.jx_tier1_specs.specs.Cells.{Cells}
+use Rattle.jx_tier1_specs.specs.Asking.{Asking, Told, Ask, told}
+use Rattle.jx_tier1_specs.specs.Reading.{Reading, fresh_reading, coded_bit, after_bit, turned_over, read_answer}
+use Rattle.jx_tier1_specs.specs.Needs.{answer_of, followed, called_for, renewed_by, segment_of, contexts_after}
 
 -- a reader after a list of decisions and resets
 abbrev pub read_all : Reading → List MqGiven → Reading

@@ -1,9 +1,9 @@
 -- What holds wherever a procedure ends.
 use Rattle.std.proofs.Common.{◌≡◌, ℕ, Bool, refl, ap, ◌∙◌}
-use Rattle.jx_grid.specs.declared.question.Question.{Question}
-use Rattle.jx_grid.specs.Cells.{Cells}
-use Rattle.jx_grid.specs.Asking.{Asking, Told, Ask, and_then, told}
-use Rattle.jx_grid.specs.Needs.{answer_of, followed}
+use Rattle.jx_tier1_specs.specs.declared.question.Question.{Question}
+use Rattle.jx_tier1_specs.specs.Cells.{Cells}
+use Rattle.jx_tier1_specs.specs.Asking.{Asking, Told, Ask, and_then, told}
+use Rattle.jx_tier1_specs.specs.Needs.{answer_of, followed}
 use Rattle.jx_passenc.proofs.GridLemmas.{IsFront, AreClean, front_same, front_next}
 
 abbrev pub AllLeaves : Asking Cells → (Cells → Type 0) → Type 0

@@ -3,16 +3,16 @@ use Rattle.std.proofs.Common.{◌≡◌, ◌<◌, ◌≤◌, ◌+◌, ◌-◌, �
 use Rattle.std.proofs.lemmas.List.{length-replicate}
 use Rattle.std.proofs.Math.Nat.{zero-mod}
 use Rattle.jx_base.specs.declared.names.Band.{Band}
-use Rattle.jx_grid.specs.declared.coef.Coef.{Coef}
-use Rattle.jx_grid.specs.declared.question.Plane.{Plane}
-use Rattle.jx_grid.specs.Cells.{Cells, zero_coef}
-use Rattle.jx_grid.specs.Asking.{told}
-use Rattle.jx_grid.specs.Pass.{IsScan, scan_column, scan_row, significance_at, refinement_at, cleanup_at, pass_at, pass_at_nth, scanned, plane_of, pass_of}
-use Rattle.jx_grid.specs.Segments.{begins}
-use Rattle.jx_grid.specs.Reading.{Reading, Coding, Decoding, opened, renewed, read_answer, read_pass, read_from, zeros, at_start, decoded}
-use Rattle.jx_grid.specs.Needs.{followed, followed_pass, followed_from}
+use Rattle.jx_tier1_specs.specs.declared.coef.Coef.{Coef}
+use Rattle.jx_tier1_specs.specs.declared.question.Plane.{Plane}
+use Rattle.jx_tier1_specs.specs.Cells.{Cells, zero_coef}
+use Rattle.jx_tier1_specs.specs.Asking.{told}
+use Rattle.jx_tier1_specs.specs.Pass.{IsScan, scan_column, scan_row, significance_at, refinement_at, cleanup_at, pass_at, pass_at_nth, scanned, plane_of, pass_of}
+use Rattle.jx_tier1_specs.specs.Segments.{begins}
+use Rattle.jx_tier1_specs.specs.Reading.{Reading, Coding, Decoding, opened, renewed, read_answer, read_pass, read_from, zeros, at_start, decoded}
+use Rattle.jx_tier1_specs.specs.Needs.{followed, followed_pass, followed_from}
 use Rattle.jx_passenc.specs.Alike.{HasPasses, AreAlike}
-use Rattle.jx_grid.proofs.Scanning.{column_inside, row_inside}
+use Rattle.jx_tier1_specs.proofs.Scanning.{column_inside, row_inside}
 use Rattle.jx_passenc.proofs.FrontLemmas.{IsClean}
 use Rattle.jx_passenc.proofs.GridLemmas.{IsFront, AreClean, IsIn, front_same, front_next}
 use Rattle.jx_passenc.proofs.LeafLemmas.{IsBack, Back, back_told, back_then, leaves_told}

@@ -3,12 +3,12 @@ use Rattle.std.proofs.Common.{◌≡◌, ◌<◌, ◌≤◌, ◌+◌, ◌*◌, �
 use Rattle.std.proofs.lemmas.Bool.{cases_lt}
 use Rattle.std.proofs.lemmas.Nat.{div-add-mod'}
 use Rattle.std.proofs.Math.Nat.{mod-lt, div-lt_iff_lt-mul, mul-le-mul_right}
-use Rattle.jx_grid.specs.declared.question.Plane.{Plane}
-use Rattle.jx_grid.specs.Cells.{Cells, zero_coef}
-use Rattle.jx_grid.specs.Asking.{Asking, Told, Ask}
-use Rattle.jx_grid.specs.Pass.{IsScan, scan_column, scan_row, significance_at, refinement_at, cleanup_at, pass_at, pass_at_nth, scanned}
-use Rattle.jx_grid.specs.Needs.{answer_of, followed}
-use Rattle.jx_grid.proofs.Scanning.{column_inside, row_inside}
+use Rattle.jx_tier1_specs.specs.declared.question.Plane.{Plane}
+use Rattle.jx_tier1_specs.specs.Cells.{Cells, zero_coef}
+use Rattle.jx_tier1_specs.specs.Asking.{Asking, Told, Ask}
+use Rattle.jx_tier1_specs.specs.Pass.{IsScan, scan_column, scan_row, significance_at, refinement_at, cleanup_at, pass_at, pass_at_nth, scanned}
+use Rattle.jx_tier1_specs.specs.Needs.{answer_of, followed}
+use Rattle.jx_tier1_specs.proofs.Scanning.{column_inside, row_inside}
 use Rattle.jx_passenc.proofs.GridLemmas.{IsFront, AreClean, IsIn, index_in}
 use Rattle.jx_passenc.proofs.LeafLemmas.{AllLeaves, leaves_more, leaves_then, IsBack}
 use Rattle.jx_passenc.proofs.PassBackLemmas.{place_back}

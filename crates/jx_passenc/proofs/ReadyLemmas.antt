@@ -5,9 +5,9 @@ use Rattle.std.proofs.lemmas.Bool.{cases_Bool}
 use Rattle.jx_base.specs.MqTable.{MqContexts}
 use Rattle.jx_base.specs.MqWriting.{MqGiven}
 use Rattle.jx_base.specs.Passes.{raw_pass, end_pass}
-use Rattle.jx_grid.specs.Segments.{begins}
-use Rattle.jx_grid.specs.Reading.{Reading, Decoding, fresh_reading, first_segment}
-use Rattle.jx_grid.specs.Needs.{segment_of, contexts_after, segments_from, is_last}
+use Rattle.jx_tier1_specs.specs.Segments.{begins}
+use Rattle.jx_tier1_specs.specs.Reading.{Reading, Decoding, fresh_reading, first_segment}
+use Rattle.jx_tier1_specs.specs.Needs.{segment_of, contexts_after, segments_from, is_last}
 use Rattle.jx_passenc.proofs.KindLemmas.{same_kind}
 use Rattle.jx_passenc.proofs.WroteLemmas.{or_false, isnt_none}
 use Rattle.jx_passenc.proofs.GivesLemmas.{read_all, Gives, read_all_more, read_all_raw, gives_first, gives_more, AreInverse, segment_gives, segment_contexts}

@@ -1,12 +1,12 @@
 -- The run mode goes the same way again where a grid answers that its result may become.
 use Rattle.std.proofs.Common.{◌≡◌, ◌<◌, ◌≤◌, ◌+◌, ◌%◌, ◌==◌, nat_lt, nat_le, ℕ, zero, suc, Bool, true, false, not, ◌&&◌, refl, sym, ap, ◌∙◌, arith, subst, lit<, if◌then◌else◌}
 use Rattle.std.proofs.lemmas.Bool.{leb-true, ltb-false, not-true, and_parts}
-use Rattle.jx_grid.specs.declared.coef.Coef.{Coef}
-use Rattle.jx_grid.specs.declared.question.Plane.{Plane}
-use Rattle.jx_grid.specs.Cells.{Cells, coef_at, significant}
-use Rattle.jx_grid.specs.Asking.{Told}
-use Rattle.jx_grid.specs.Pass.{IsScan, shift_of, is_decided, with_bit, with_sign, changed, label_at, is_quiet, is_run, zeroed, number_in_run, named_at, place_at, run_at, usual_at, cleanup_at}
-use Rattle.jx_grid.specs.Needs.{bit_at_place, first_of_four, followed}
+use Rattle.jx_tier1_specs.specs.declared.coef.Coef.{Coef}
+use Rattle.jx_tier1_specs.specs.declared.question.Plane.{Plane}
+use Rattle.jx_tier1_specs.specs.Cells.{Cells, coef_at, significant}
+use Rattle.jx_tier1_specs.specs.Asking.{Told}
+use Rattle.jx_tier1_specs.specs.Pass.{IsScan, shift_of, is_decided, with_bit, with_sign, changed, label_at, is_quiet, is_run, zeroed, number_in_run, named_at, place_at, run_at, usual_at, cleanup_at}
+use Rattle.jx_tier1_specs.specs.Needs.{bit_at_place, first_of_four, followed}
 use Rattle.jx_passenc.proofs.FrontLemmas.{zero_before, sign_before, zero_clean, sign_clean, more_seen, sign_bit_seen, sign_seen}
 use Rattle.jx_passenc.proofs.GridLemmas.{IsFront, AreClean, IsIn, front_same, front_next, with_front, with_clean, seen_at, below_with, above_with}
 use Rattle.jx_passenc.proofs.LeafLemmas.{AllLeaves, IsBack}

@@ -4,8 +4,8 @@ use Rattle.std.proofs.lemmas.List.{append-nil}
 use Rattle.jx_base.specs.MqTable.{MqContexts, mq_fresh}
 use Rattle.jx_base.specs.MqWriting.{MqWriter, MqGiven, Decided, Renewed, mq_writer, mq_wrote, mq_after_bit, mq_written_from, mq_bits}
 use Rattle.jx_base.specs.Passes.{raw_pass, end_pass}
-use Rattle.jx_grid.specs.Cells.{Cells}
-use Rattle.jx_grid.specs.Needs.{segment_of, renewed_by, contexts_after, segments_from, is_last}
+use Rattle.jx_tier1_specs.specs.Cells.{Cells}
+use Rattle.jx_tier1_specs.specs.Needs.{segment_of, renewed_by, contexts_after, segments_from, is_last}
 use Rattle.jx_passenc.specs.Writing.{Writing, wrote, fresh_writing, segment_by, finished_from}
 use Rattle.jx_passenc.proofs.KindLemmas.{same_kind}
 use Rattle.jx_passenc.proofs.WroteLemmas.{made, wrote_more, wrote_target, or_false}

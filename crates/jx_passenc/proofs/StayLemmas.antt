@@ -3,9 +3,9 @@ use Rattle.std.proofs.Common.{◌≡◌, ◌≢◌, ◌≤◌, ◌+◌, ◌-◌,
 use Rattle.std.proofs.lemmas.Bool.Decides.{nat_tests}
 use Rattle.std.proofs.lemmas.Nat.{pow_pos, div-mul-add}
 use Rattle.std.proofs.Math.Nat.{zero-div, two-pow-succ}
-use Rattle.jx_grid.specs.declared.coef.Coef.{Coef}
-use Rattle.jx_grid.specs.declared.question.Plane.{Plane}
-use Rattle.jx_grid.specs.Pass.{IsScan, shift_of, with_bit, with_sign}
+use Rattle.jx_tier1_specs.specs.declared.coef.Coef.{Coef}
+use Rattle.jx_tier1_specs.specs.declared.question.Plane.{Plane}
+use Rattle.jx_tier1_specs.specs.Pass.{IsScan, shift_of, with_bit, with_sign}
 use Rattle.jx_passenc.proofs.PowerLemmas.{multiple, twice}
 use Rattle.jx_passenc.proofs.FrontLemmas.{IsBefore, bit_in, low_of}
 use Rattle.jx_base.proofs.Powers.{div_longer}

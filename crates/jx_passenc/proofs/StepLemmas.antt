@@ -2,12 +2,12 @@
 use Rattle.std.proofs.Common.{◌≡◌, ◌≤◌, ◌+◌, ◌*◌, ◌==◌, ℕ, Bool, true, false, not, ◌&&◌, ◌||◌, refl, ap, ◌∙◌, arith, if◌then◌else◌}
 use Rattle.std.proofs.lemmas.Bool.Decides.{nat_tests}
 use Rattle.std.proofs.lemmas.Bool.{ltb-false, not-true, and_parts}
-use Rattle.jx_grid.specs.declared.coef.Coef.{Coef}
-use Rattle.jx_grid.specs.declared.question.Plane.{Plane}
-use Rattle.jx_grid.specs.Cells.{Cells, coef_at, significant}
-use Rattle.jx_grid.specs.Asking.{Asking, Told}
-use Rattle.jx_grid.specs.Pass.{IsScan, shift_of, is_decided, with_bit, with_sign, changed, label_at, sign_of, bit_of, significance_at, refinement_at, usual_at}
-use Rattle.jx_grid.specs.Needs.{bit_at_place, followed}
+use Rattle.jx_tier1_specs.specs.declared.coef.Coef.{Coef}
+use Rattle.jx_tier1_specs.specs.declared.question.Plane.{Plane}
+use Rattle.jx_tier1_specs.specs.Cells.{Cells, coef_at, significant}
+use Rattle.jx_tier1_specs.specs.Asking.{Asking, Told}
+use Rattle.jx_tier1_specs.specs.Pass.{IsScan, shift_of, is_decided, with_bit, with_sign, changed, label_at, sign_of, bit_of, significance_at, refinement_at, usual_at}
+use Rattle.jx_tier1_specs.specs.Needs.{bit_at_place, followed}
 use Rattle.jx_passenc.proofs.FrontLemmas.{IsClean, zero_before, more_before, sign_before, zero_clean, more_clean, sign_clean, more_seen, sign_bit_seen, sign_seen}
 use Rattle.jx_passenc.proofs.GridLemmas.{AreClean, IsIn, with_front, with_clean, seen_at}
 use Rattle.jx_passenc.proofs.LeafLemmas.{AllLeaves, IsBack, Back, back_told}

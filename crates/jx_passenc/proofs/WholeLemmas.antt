@@ -1,14 +1,14 @@
 -- Whole planes: where a grid answers that was decided in them all, the passes of any style make it.
 use Rattle.std.proofs.Common.{◌≡◌, ◌≢◌, ◌<◌, ◌≤◌, ◌+◌, ◌-◌, ◌*◌, ◌/◌, ◌%◌, ◌^◌, ◌==◌, ℕ, zero, suc, Bool, true, false, List, [], ◌∷◌, length, get_or, refl, sym, ap, ◌∙◌, arith, subst, inl, inr}
 use Rattle.std.proofs.lemmas.Bool.{cases_Bool, cases_eq, eq-eqb, eqb-false, eqb-true}
-use Rattle.jx_grid.specs.declared.coef.Coef.{Coef}
-use Rattle.jx_grid.specs.declared.question.Plane.{Plane}
-use Rattle.jx_grid.specs.Cells.{Cells, zero_coef}
-use Rattle.jx_grid.specs.Asking.{Asking, told}
-use Rattle.jx_grid.specs.Pass.{IsScan, scan_column, scan_row, pass_at_nth, scanned, plane_of, pass_of}
-use Rattle.jx_grid.specs.Segments.{begins}
-use Rattle.jx_grid.specs.Reading.{Reading, Coding, Decoding, opened, renewed, read_answer, read_pass, read_from, zeros, at_start, decoded}
-use Rattle.jx_grid.specs.Needs.{followed, followed_pass, followed_from}
+use Rattle.jx_tier1_specs.specs.declared.coef.Coef.{Coef}
+use Rattle.jx_tier1_specs.specs.declared.question.Plane.{Plane}
+use Rattle.jx_tier1_specs.specs.Cells.{Cells, zero_coef}
+use Rattle.jx_tier1_specs.specs.Asking.{Asking, told}
+use Rattle.jx_tier1_specs.specs.Pass.{IsScan, scan_column, scan_row, pass_at_nth, scanned, plane_of, pass_of}
+use Rattle.jx_tier1_specs.specs.Segments.{begins}
+use Rattle.jx_tier1_specs.specs.Reading.{Reading, Coding, Decoding, opened, renewed, read_answer, read_pass, read_from, zeros, at_start, decoded}
+use Rattle.jx_tier1_specs.specs.Needs.{followed, followed_pass, followed_from}
 use Rattle.jx_passenc.specs.Alike.{HasPasses, AreOfOneBlock}
 use Rattle.jx_passenc.proofs.PowerLemmas.{multiple}
 use Rattle.jx_passenc.proofs.FrontLemmas.{IsBefore, IsClean}

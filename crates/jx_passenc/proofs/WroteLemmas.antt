@@ -5,12 +5,12 @@ use Rattle.std.proofs.lemmas.List.{append-nil}
 use Rattle.jx_base.specs.MqTable.{MqContexts, mq_fresh}
 use Rattle.jx_base.specs.MqWriting.{MqWriter, MqGiven, Decided, Renewed, mq_wrote, mq_after_bit}
 use Rattle.jx_base.specs.Passes.{raw_pass, end_pass, resets, is_causal}
-use Rattle.jx_grid.specs.Cells.{Cells}
-use Rattle.jx_grid.specs.Asking.{Asking, Told, Ask, told}
-use Rattle.jx_grid.specs.Pass.{pass_of}
-use Rattle.jx_grid.specs.Symbol.{symbol_asked}
-use Rattle.jx_grid.specs.Reading.{Coding, turned_over, ends_by_symbol}
-use Rattle.jx_grid.specs.Needs.{answer_of, followed, called_for, followed_pass, renewal, symbol_needs, pass_needs, needs_from, is_last}
+use Rattle.jx_tier1_specs.specs.Cells.{Cells}
+use Rattle.jx_tier1_specs.specs.Asking.{Asking, Told, Ask, told}
+use Rattle.jx_tier1_specs.specs.Pass.{pass_of}
+use Rattle.jx_tier1_specs.specs.Symbol.{symbol_asked}
+use Rattle.jx_tier1_specs.specs.Reading.{Coding, turned_over, ends_by_symbol}
+use Rattle.jx_tier1_specs.specs.Needs.{answer_of, followed, called_for, followed_pass, renewal, symbol_needs, pass_needs, needs_from, is_last}
 use Rattle.jx_passenc.specs.Writing.{Writing, write_answer, wrote, after_coded, fresh_writing, segment_by, finished_from}
 use Rattle.jx_passenc.specs.Encoding.{Encoding, after_bits, after_symbol, after_pass, closed, after_step}
 use Rattle.jx_passenc.proofs.KindLemmas.{same_kind}

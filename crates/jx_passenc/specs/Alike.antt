@@ -1,6 +1,6 @@
 -- What two styles must share so that the passes of one make what those of the other made.
 use Rattle.std.specs.Prelude.{ℕ, ◌≡◌, ◌≤◌, ◌-◌, ◌*◌, ◌%◌}
-use Rattle.jx_grid.specs.Reading.{Coding}
+use Rattle.jx_tier1_specs.specs.Reading.{Coding}
 use Rattle.jx_base.specs.Passes.{is_causal}
 
 -- how many passes coded planes can have (D.3)

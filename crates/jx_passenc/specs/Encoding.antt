@@ -2,13 +2,13 @@
 use Rattle.std.specs.Prelude.{ℕ, ◌+◌, Bool, List, [], ◌∷◌, ◌++◌, if◌then◌else◌, ◌||◌}
 use Rattle.jx_base.specs.MqTable.{mq_fresh}
 use Rattle.jx_base.specs.Passes.{raw_pass, end_pass, resets, is_causal}
-use Rattle.jx_grid.specs.Cells.{Cells}
-use Rattle.jx_grid.specs.Asking.{told}
-use Rattle.jx_grid.specs.Pass.{pass_of}
-use Rattle.jx_grid.specs.Symbol.{symbol_asked}
-use Rattle.jx_grid.specs.Reading.{Coding, ends_by_symbol}
+use Rattle.jx_tier1_specs.specs.Cells.{Cells}
+use Rattle.jx_tier1_specs.specs.Asking.{told}
+use Rattle.jx_tier1_specs.specs.Pass.{pass_of}
+use Rattle.jx_tier1_specs.specs.Symbol.{symbol_asked}
+use Rattle.jx_tier1_specs.specs.Reading.{Coding, ends_by_symbol}
 use Rattle.jx_passenc.specs.Writing.{Writing, fresh_writing, write_answer, wrote, segment_by}
-use Rattle.jx_grid.specs.Needs.{followed_pass, pass_needs}
+use Rattle.jx_tier1_specs.specs.Needs.{followed_pass, pass_needs}
 
 -- the coefficients so far, the coder, and the segments that are done
 pub record Encoding : Type 0 where

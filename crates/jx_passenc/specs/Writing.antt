@@ -4,10 +4,10 @@ use Rattle.jx_base.specs.MqTable.{MqContexts, mq_fresh}
 use Rattle.jx_base.specs.MqWriting.{MqWriter, MqGiven, Decided, Renewed, mq_writer, mq_wrote, mq_after_bit, mq_segment}
 use Rattle.jx_base.specs.RawBits.{raw_write}
 use Rattle.jx_base.specs.Passes.{raw_pass, end_pass}
-use Rattle.jx_grid.specs.declared.question.Question.{Question}
-use Rattle.jx_grid.specs.Cells.{Cells}
-use Rattle.jx_grid.specs.Reading.{turned_over}
-use Rattle.jx_grid.specs.Needs.{answer_of, is_last}
+use Rattle.jx_tier1_specs.specs.declared.question.Question.{Question}
+use Rattle.jx_tier1_specs.specs.Cells.{Cells}
+use Rattle.jx_tier1_specs.specs.Reading.{turned_over}
+use Rattle.jx_tier1_specs.specs.Needs.{answer_of, is_last}
 
 -- the grid that answers, and a coder within a segment: whether it is raw, the encoder's registers or the raw bits, the contexts
 pub record Writing : Type 0 where

@@ -1,19 +1,19 @@
 ghost use Rattle.std.specs.Prelude.{◌≡◌, ◌+◌, ◌-◌, ◌*◌, ◌++◌, ◌<◌, ◌≤◌, ℕ, map, IfOk, OnOk};
 ghost use Rattle.jx_base.specs.Passes.{raw_pass};
-ghost use Rattle.jx_grid.specs.Cells.{Cells, HasSize, AreWithin};
-ghost use Rattle.jx_grid.specs.Reading.{coding_of};
-ghost use Rattle.jx_grid.specs.Needs.{needs_from, written};
+ghost use Rattle.jx_tier1_specs.specs.Cells.{Cells, HasSize, AreWithin};
+ghost use Rattle.jx_tier1_specs.specs.Reading.{coding_of};
+ghost use Rattle.jx_tier1_specs.specs.Needs.{needs_from, written};
 ghost use Rattle.jx_passenc.specs.Writing.{finished_from};
 ghost use Rattle.jx_passenc.specs.Encoding.{Encoding};
 
 use crate::encoder::Encoder;
 use crate::writer::Writer;
 use jx_base::{Band, NoMemory, Style, is_raw};
-use jx_grid::Grid;
+use jx_tier1_specs::Grid;
 use std::alloc::Global;
 
 /// Codes the passes of a block.
-#[tactic(auto, using(crate::proofs::WroteLemmas::step_more, crate::proofs::WroteLemmas::step_end, crate::proofs::WroteLemmas::step_kind, crate::proofs::WroteLemmas::step_target, jx_grid::proofs::Places::within_more))]
+#[tactic(auto, using(crate::proofs::WroteLemmas::step_more, crate::proofs::WroteLemmas::step_end, crate::proofs::WroteLemmas::step_kind, crate::proofs::WroteLemmas::step_target, jx_tier1_specs::proofs::Places::within_more))]
 fn run<'a>(
     encoder: &mut Encoder<'a>,
     alloc: Global,
@@ -41,7 +41,7 @@ fn run<'a>(
 /// places (T.800, Annex D). `planes` is the number of coded planes, 1 to 74, and there are at most
 /// 3·planes − 2 passes. The segments are those of the decisions that the grid calls for; the grid is
 /// one that such passes decode to where it fits them.
-#[tactic(auto, using(crate::proofs::SegmentLemmas::segments_finished, jx_grid::proofs::Places::zeros_within))]
+#[tactic(auto, using(crate::proofs::SegmentLemmas::segments_finished, jx_tier1_specs::proofs::Places::zeros_within))]
 pub fn encode_passes(
     alloc: Global,
     grid: &Grid,

@@ -1,15 +1,15 @@
 ghost use Rattle.std.specs.Prelude.{◌≡◌, ◌+◌, ◌-◌, ◌/◌, ◌<◌, ◌≤◌, ◌++◌, ◌∷◌, [], ◌||◌, ℕ, Bool, List, if◌then◌else◌, OnOk};
 ghost use Rattle.jx_base.specs.Passes.{raw_pass, end_pass, is_causal};
-ghost use Rattle.jx_grid.specs.Cells.{Cells, HasSize, AreWithin, IsKept};
-ghost use Rattle.jx_grid.specs.Pass.{IsScan, plane_of};
-ghost use Rattle.jx_grid.specs.Reading.{coding_of};
-ghost use Rattle.jx_grid.specs.Needs.{pass_needs, followed_pass};
+ghost use Rattle.jx_tier1_specs.specs.Cells.{Cells, HasSize, AreWithin, IsKept};
+ghost use Rattle.jx_tier1_specs.specs.Pass.{IsScan, plane_of};
+ghost use Rattle.jx_tier1_specs.specs.Reading.{coding_of};
+ghost use Rattle.jx_tier1_specs.specs.Needs.{pass_needs, followed_pass};
 ghost use Rattle.jx_passenc.specs.Writing.{Writing, wrote, fresh_writing, segment_by};
 ghost use Rattle.jx_passenc.specs.Encoding.{Encoding, after_bits, after_symbol, closed, after_pass, after_step};
 
 use crate::writer::Writer;
 use jx_base::{Band, NoMemory, Style, ends_segment, is_raw};
-use jx_grid::{Grid, ask_symbol, run_pass};
+use jx_tier1_specs::{Grid, ask_symbol, run_pass};
 use std::alloc::Global;
 use std::marker::Model;
 

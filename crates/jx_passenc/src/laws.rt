@@ -1,9 +1,9 @@
 //! Laws of coded passes, over their definitions alone.
 
 ghost use Rattle.std.specs.Prelude.{◌≡◌, ◌≤◌, ℕ, List, None};
-ghost use Rattle.jx_grid.specs.Cells.{Cells};
-ghost use Rattle.jx_grid.specs.Reading.{Coding, zeros, decoded};
-ghost use Rattle.jx_grid.specs.Needs.{followed_from, written, Fits};
+ghost use Rattle.jx_tier1_specs.specs.Cells.{Cells};
+ghost use Rattle.jx_tier1_specs.specs.Reading.{Coding, zeros, decoded};
+ghost use Rattle.jx_tier1_specs.specs.Needs.{followed_from, written, Fits};
 ghost use Rattle.jx_passenc.specs.Alike.{HasPasses, AreAlike, AreOfOneBlock, EndsPlane};
 
 /// The segments that are written for a grid are read back: the first passes of them give what the

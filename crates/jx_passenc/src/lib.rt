@@ -7,4 +7,4 @@ pub mod laws;
 mod writer;
 
 pub use encode::encode_passes;
-pub use jx_grid::Grid;
+pub use jx_tier1_specs::Grid;

@@ -4,9 +4,9 @@ ghost use Rattle.jx_base.specs.MqWriting.{mq_writer};
 ghost use Rattle.jx_passenc.specs.Writing.{Writing, fresh_writing, after_coded, segment_by};
 
 use jx_base::NoMemory;
-use jx_grid::{Grid, Question, Source, answer};
 use jx_mq::{Contexts, MqEncoder};
 use jx_raw::RawWriter;
+use jx_tier1_specs::{Grid, Question, Source, answer};
 use std::alloc::Global;
 use std::marker::Model;
 

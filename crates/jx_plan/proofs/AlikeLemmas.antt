@@ -12,12 +12,12 @@ use Rattle.jx_marker.specs.declared.CompSize.{CompSize}
 use Rattle.jx_marker.specs.declared.Shape.{Shape}
 use Rattle.jx_marker.specs.declared.Quant.{Quant}
 use Rattle.jx_geom.specs.declared.shape.CompShape.{CompShape}
-use Rattle.jx_stream.specs.Index.{gives}
-use Rattle.jx_stream.specs.Tiles.{in_slot}
-use Rattle.jx_stream.specs.Params.{chosen, shape_in, quant_in, shift_in, shape_of, quant_of, shift_of, has_too_few, shape_or, precincts_of, band_planes, header_has_too_few, header_planes, step_by, planes_by}
-use Rattle.jx_stream.specs.Shapes.{comp_shape, shapes_in, size_in}
+use Rattle.jx_codestream.specs.Index.{gives}
+use Rattle.jx_codestream.specs.Tiles.{in_slot}
+use Rattle.jx_codestream.specs.Params.{chosen, shape_in, quant_in, shift_in, shape_of, quant_of, shift_of, has_too_few, shape_or, precincts_of, band_planes, header_has_too_few, header_planes, step_by, planes_by}
+use Rattle.jx_codestream.specs.Shapes.{comp_shape, shapes_in, size_in}
 use Rattle.jx_plan.specs.Headers.{comp_written, shape_written}
-use Rattle.jx_stream.proofs.BareLemmas.{any_same, flat_same, own_gives}
+use Rattle.jx_codestream.proofs.BareLemmas.{any_same, flat_same, own_gives}
 
 -- two segments, each there or not, that say the same, but for the precincts and the style that are asked
 pub record AreAlike (ps : Option (List ℕ)) (st : Option Style) (o p : Option Segment) : Type 0 where

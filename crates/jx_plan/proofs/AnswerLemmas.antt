@@ -6,16 +6,16 @@ use Rattle.jx_geom.specs.declared.shape.CompShape.{CompShape}
 use Rattle.jx_geom.specs.Geometry.{no_shape}
 use Rattle.jx_geom.specs.Rects.{block_across, block_down}
 use Rattle.jx_geom.specs.Same.{SameBlocks}
-use Rattle.jx_order.specs.declared.names.PacketName.{PacketName}
-use Rattle.jx_order.proofs.ExistLemmas.{orders_exist}
-use Rattle.jx_order.proofs.OrderLemmas.{one_order}
-use Rattle.jx_stream.specs.declared.Stream.{Stream}
-use Rattle.jx_stream.specs.First.{tile_number}
-use Rattle.jx_stream.specs.InRange.{StreamInRange}
-use Rattle.jx_stream.specs.Shapes.{geometry, layers_of, shapes_of, tile_at}
-use Rattle.jx_gather.specs.Totals.{packet_total, totals_fault}
-use Rattle.jx_gather.proofs.CoverEither.{search_first}
-use Rattle.jx_gather.proofs.TotalLemmas.{geometry_fits}
+use Rattle.jx_progression.specs.declared.names.PacketName.{PacketName}
+use Rattle.jx_progression.proofs.ExistLemmas.{orders_exist}
+use Rattle.jx_progression.proofs.OrderLemmas.{one_order}
+use Rattle.jx_codestream.specs.declared.Stream.{Stream}
+use Rattle.jx_codestream.specs.First.{tile_number}
+use Rattle.jx_codestream.specs.InRange.{StreamInRange}
+use Rattle.jx_codestream.specs.Shapes.{geometry, layers_of, shapes_of, tile_at}
+use Rattle.jx_tier2_reader.specs.Totals.{packet_total, totals_fault}
+use Rattle.jx_tier2_reader.proofs.CoverEither.{search_first}
+use Rattle.jx_tier2_reader.proofs.TotalLemmas.{geometry_fits}
 use Rattle.jx_plan.specs.declared.PartChoice.{PartChoice}
 use Rattle.jx_plan.specs.declared.faults.PlanFault.{PlanFault}
 use Rattle.jx_plan.specs.declared.faults.PlanFault.TheVariants as fault

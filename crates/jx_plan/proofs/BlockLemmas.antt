@@ -9,12 +9,12 @@ use Rattle.jx_geom.specs.Geometry.{Geometry, shape_of}
 use Rattle.jx_geom.specs.Numbering.{IsBlock, block_number, blocks_of_all}
 use Rattle.jx_geom.specs.Same.{AllSameBlocks}
 use Rattle.jx_geom.proofs.SameLemmas.{same_there, same_places, same_block_number}
-use Rattle.jx_stream.specs.declared.Stream.{Stream}
-use Rattle.jx_stream.specs.First.{canvas_of, tile_number}
-use Rattle.jx_stream.specs.Params.{planes_at}
-use Rattle.jx_stream.specs.Shapes.{shapes_of, geometry, layers_of, style_of}
-use Rattle.jx_gather.specs.Totals.{block_total}
-use Rattle.jx_gather.specs.Another.{rect_in, HaveSameBlocks}
+use Rattle.jx_codestream.specs.declared.Stream.{Stream}
+use Rattle.jx_codestream.specs.First.{canvas_of, tile_number}
+use Rattle.jx_codestream.specs.Params.{planes_at}
+use Rattle.jx_codestream.specs.Shapes.{shapes_of, geometry, layers_of, style_of}
+use Rattle.jx_tier2_reader.specs.Totals.{block_total}
+use Rattle.jx_tier2_reader.specs.Another.{rect_in, HaveSameBlocks}
 use Rattle.jx_plan.proofs.SameLemmas.{same_of_all}
 
 pub blocks_are : (s : Stream) → block_total s ≡ blocks_of_all (canvas_of s.siz) (shapes_of s)

@@ -11,17 +11,17 @@ use Rattle.jx_base.specs.Pieces.{PieceValue}
 use Rattle.jx_base.specs.Sound.{IsSound}
 use Rattle.jx_base.proofs.Lists.{same_gets, all_at}
 use Rattle.jx_geom.specs.Numbering.{IsBlock, block_number}
-use Rattle.jx_stream.specs.declared.Stream.{Stream}
-use Rattle.jx_stream.specs.First.{canvas_of}
-use Rattle.jx_stream.specs.Params.{planes_at}
-use Rattle.jx_stream.specs.Shapes.{layers_of, shapes_of, style_of}
-use Rattle.jx_gather.specs.Another.{rect_in}
-use Rattle.jx_gather.specs.BlockOf.{AreBlocksOf, IsBlockOf, IsFoundOf, pieces_at}
-use Rattle.jx_gather.specs.BlockOf.{AreCutAtEnds as AreCutAsRead}
-use Rattle.jx_block.specs.declared.LayerEnd.{LayerEnd}
-use Rattle.jx_block.specs.Jobs.{IsAsked}
-use Rattle.jx_block.specs.Laws.{AreCutInLayers, asked_at}
-use Rattle.jx_block.specs.Written.{is_wrong, style_for, written_in}
+use Rattle.jx_codestream.specs.declared.Stream.{Stream}
+use Rattle.jx_codestream.specs.First.{canvas_of}
+use Rattle.jx_codestream.specs.Params.{planes_at}
+use Rattle.jx_codestream.specs.Shapes.{layers_of, shapes_of, style_of}
+use Rattle.jx_tier2_reader.specs.Another.{rect_in}
+use Rattle.jx_tier2_reader.specs.BlockOf.{AreBlocksOf, IsBlockOf, IsFoundOf, pieces_at}
+use Rattle.jx_tier2_reader.specs.BlockOf.{AreCutAtEnds as AreCutAsRead}
+use Rattle.jx_codeblock.specs.declared.LayerEnd.{LayerEnd}
+use Rattle.jx_codeblock.specs.Jobs.{IsAsked}
+use Rattle.jx_codeblock.specs.Laws.{AreCutInLayers, asked_at}
+use Rattle.jx_codeblock.specs.Written.{is_wrong, style_for, written_in}
 use Rattle.jx_layers.specs.Causal.{first_broken}
 use Rattle.jx_layers.specs.Facts.{most_layers}
 use Rattle.jx_layers.specs.Layers.{ends_of, written_by}

@@ -5,10 +5,10 @@ use Rattle.std.proofs.lemmas.Option.{same_Some}
 use Rattle.jx_base.specs.declared.pieces.Block.{Block}
 use Rattle.jx_base.specs.declared.style.Style.{Style}
 use Rattle.jx_base.proofs.Lists.{some_none}
-use Rattle.jx_stream.specs.declared.Stream.{Stream}
-use Rattle.jx_stream.specs.First.{tile_number}
-use Rattle.jx_gather.specs.Totals.{packet_total}
-use Rattle.jx_block.specs.Written.{block_asked}
+use Rattle.jx_codestream.specs.declared.Stream.{Stream}
+use Rattle.jx_codestream.specs.First.{tile_number}
+use Rattle.jx_tier2_reader.specs.Totals.{packet_total}
+use Rattle.jx_codeblock.specs.Written.{block_asked}
 use Rattle.jx_plan.specs.declared.PartChoice.{PartChoice}
 use Rattle.jx_plan.specs.declared.faults.PlanFault.{PlanFault}
 use Rattle.jx_plan.specs.declared.faults.PlanFault.TheVariants as fault

@@ -3,14 +3,14 @@ use Rattle.std.proofs.Common.{◌≡◌, ◌<◌, ℕ, arith, List, [], ◌∷�
 use Rattle.jx_marker.specs.declared.Cod.{Cod}
 use Rattle.jx_marker.specs.declared.Progression.{Progression}
 use Rattle.jx_geom.specs.Geometry.{Geometry, ShapesInRange}
-use Rattle.jx_order.specs.declared.names.PacketName.{PacketName}
-use Rattle.jx_order.specs.Packets.{IsPacket, Covers, AreCovered}
-use Rattle.jx_stream.specs.declared.Stream.{Stream}
-use Rattle.jx_stream.specs.Tiles.{entry_of}
-use Rattle.jx_stream.specs.First.{tile_number}
-use Rattle.jx_stream.specs.Shapes.{geometry, layers_of}
-use Rattle.jx_stream.specs.InRange.{StreamInRange}
-use Rattle.jx_gather.specs.Gathered.{IsWhole}
+use Rattle.jx_progression.specs.declared.names.PacketName.{PacketName}
+use Rattle.jx_progression.specs.Packets.{IsPacket, Covers, AreCovered}
+use Rattle.jx_codestream.specs.declared.Stream.{Stream}
+use Rattle.jx_codestream.specs.Tiles.{entry_of}
+use Rattle.jx_codestream.specs.First.{tile_number}
+use Rattle.jx_codestream.specs.Shapes.{geometry, layers_of}
+use Rattle.jx_codestream.specs.InRange.{StreamInRange}
+use Rattle.jx_tier2_reader.specs.Gathered.{IsWhole}
 use Rattle.jx_plan.specs.Headers.{Asked, MayBeAsked, cod_written, stream_written}
 use Rattle.jx_plan.specs.Fits.{first_zero}
 use Rattle.jx_plan.specs.Standing.{HeadersStand}

@@ -18,19 +18,19 @@ use Rattle.jx_marker.specs.declared.Segment.TheVariants as segment
 use Rattle.jx_marker.specs.declared.Shape.{Shape}
 use Rattle.jx_marker.specs.Ranges.{InRange}
 use Rattle.jx_marker.specs.Rules.{has_zero_exponent}
-use Rattle.jx_stream.specs.declared.headers.HeaderKind.TheVariants.{First, Main}
-use Rattle.jx_stream.specs.declared.Stream.{Stream}
-use Rattle.jx_stream.specs.Headers.{slot_of}
-use Rattle.jx_stream.specs.Params.{header_of, precinct_of, precincts_of, shape_in, shape_of}
-use Rattle.jx_stream.specs.Shapes.{comp_shape, no_tile, shapes_in, shapes_of}
-use Rattle.jx_stream.specs.Params.{headers_at}
-use Rattle.jx_stream.specs.Tiles.{in_slot}
-use Rattle.jx_stream.proofs.SegmentLemmas.{segments_fit}
+use Rattle.jx_codestream.specs.declared.headers.HeaderKind.TheVariants.{First, Main}
+use Rattle.jx_codestream.specs.declared.Stream.{Stream}
+use Rattle.jx_codestream.specs.Headers.{slot_of}
+use Rattle.jx_codestream.specs.Params.{header_of, precinct_of, precincts_of, shape_in, shape_of}
+use Rattle.jx_codestream.specs.Shapes.{comp_shape, no_tile, shapes_in, shapes_of}
+use Rattle.jx_codestream.specs.Params.{headers_at}
+use Rattle.jx_codestream.specs.Tiles.{in_slot}
+use Rattle.jx_codestream.proofs.SegmentLemmas.{segments_fit}
 use Rattle.jx_plan.specs.Fits.{Fits, KeepsBlocks, has_zero, shape_has_zero, tile_has_zero}
 use Rattle.jx_plan.specs.Headers.{bytes_for, comp_written, item_at}
 use Rattle.jx_plan.specs.Standing.{HeadersStand, IsHeaded}
 use Rattle.jx_plan.specs.Steps.{IsKnown, IsSameAt, is_coding}
-use Rattle.jx_stream.proofs.BareLemmas.{map_same}
+use Rattle.jx_codestream.proofs.BareLemmas.{map_same}
 
 -- ---- bytes
 pub zero_above : (items : List ℕ) (shape : Shape) → 0 < length items

@@ -6,12 +6,12 @@ use Rattle.jx_base.specs.declared.pieces.Block.{Block}
 use Rattle.jx_base.specs.declared.style.Style.{Style}
 use Rattle.jx_base.specs.Pieces.{PieceValue, passes_at}
 use Rattle.jx_base.specs.Sound.{IsSound}
-use Rattle.jx_block.specs.declared.LayerEnd.{LayerEnd}
-use Rattle.jx_block.specs.declared.job.Job.{Job}
-use Rattle.jx_block.specs.Jobs.{IsAsked}
-use Rattle.jx_block.specs.Laws.{AreCutInLayers, asked_at}
-use Rattle.jx_block.specs.Recoding.{layer_ends}
-use Rattle.jx_block.specs.Written.{block_asked, is_wrong, own_cells, style_for, written_as, written_in}
+use Rattle.jx_codeblock.specs.declared.LayerEnd.{LayerEnd}
+use Rattle.jx_codeblock.specs.declared.job.Job.{Job}
+use Rattle.jx_codeblock.specs.Jobs.{IsAsked}
+use Rattle.jx_codeblock.specs.Laws.{AreCutInLayers, asked_at}
+use Rattle.jx_codeblock.specs.Recoding.{layer_ends}
+use Rattle.jx_codeblock.specs.Written.{block_asked, is_wrong, own_cells, style_for, written_as, written_in}
 use Rattle.jx_layers.specs.Causal.{breaks_plane}
 use Rattle.jx_layers.specs.Crowded.{IsLowestCrowded, IsLowestCrowdedBlock}
 use Rattle.jx_layers.specs.Layers.{AreJobs, ends_of, written_by}

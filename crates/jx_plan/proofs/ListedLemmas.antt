@@ -15,15 +15,15 @@ use Rattle.jx_geom.specs.Geometry.{Geometry, rect_of_tile}
 use Rattle.jx_geom.specs.Precincts.{HasPrecinct, precinct_number}
 use Rattle.jx_geom.proofs.PrecinctLemmas.{precinct_below, precinct_once}
 use Rattle.jx_base.specs.Joined.{sum_below}
-use Rattle.jx_stream.specs.declared.Stream.{Stream}
-use Rattle.jx_stream.specs.First.{tile_number}
-use Rattle.jx_gather.specs.Faults.{passed}
-use Rattle.jx_gather.specs.Totals.{block_total, packet_total, tile_packets, totals_fault}
-use Rattle.jx_gather.proofs.TotalLemmas.{packets_are, not_passed}
-use Rattle.jx_order.specs.Packets.{IsPacket}
-use Rattle.jx_order.specs.declared.names.PacketName.{PacketName}
-use Rattle.jx_stream.proofs.FaultLemmas.{none_later as later_none}
-use Rattle.jx_order.proofs.OrderLemmas.{same_fields as same_name}
+use Rattle.jx_codestream.specs.declared.Stream.{Stream}
+use Rattle.jx_codestream.specs.First.{tile_number}
+use Rattle.jx_tier2_reader.specs.Faults.{passed}
+use Rattle.jx_tier2_reader.specs.Totals.{block_total, packet_total, tile_packets, totals_fault}
+use Rattle.jx_tier2_reader.proofs.TotalLemmas.{packets_are, not_passed}
+use Rattle.jx_progression.specs.Packets.{IsPacket}
+use Rattle.jx_progression.specs.declared.names.PacketName.{PacketName}
+use Rattle.jx_codestream.proofs.FaultLemmas.{none_later as later_none}
+use Rattle.jx_progression.proofs.OrderLemmas.{same_fields as same_name}
 
 -- all that are in a list
 pub All-contained : {X : Type 0} (P : X → Type 0) (xs : List X) → ((x : X) → Contains xs x → P x) → All P xs

@@ -9,17 +9,17 @@ use Rattle.jx_base.specs.declared.names.Rect.{Rect}
 use Rattle.jx_base.specs.declared.pieces.Block.{Block}
 use Rattle.jx_base.specs.declared.style.Style.{Style}
 use Rattle.jx_base.specs.Sound.{IsSound}
-use Rattle.jx_grid.specs.declared.coef.Coef.{Coef}
-use Rattle.jx_grid.specs.Cells.{Cells, coef_at}
-use Rattle.jx_block.specs.declared.LayerEnd.{LayerEnd}
-use Rattle.jx_block.specs.Written.{own_cells, written_in}
+use Rattle.jx_tier1_specs.specs.declared.coef.Coef.{Coef}
+use Rattle.jx_tier1_specs.specs.Cells.{Cells, coef_at}
+use Rattle.jx_codeblock.specs.declared.LayerEnd.{LayerEnd}
+use Rattle.jx_codeblock.specs.Written.{own_cells, written_in}
 use Rattle.jx_layers.specs.Causal.{breaks_plane, first_broken}
 use Rattle.jx_layers.proofs.CausalLemmas.{none_at}
 use Rattle.jx_layers.specs.Layers.{ends_of, written_by, written_from}
 use Rattle.jx_layers.specs.Rule.{Rule}
 use Rattle.jx_marker.specs.declared.Siz.{Siz}
-use Rattle.jx_stream.specs.declared.Stream.{Stream}
-use Rattle.jx_stream.specs.Params.{params_of, step_of}
+use Rattle.jx_codestream.specs.declared.Stream.{Stream}
+use Rattle.jx_codestream.specs.Params.{params_of, step_of}
 use Rattle.jx_plan.specs.Asides.{IsWithMore}
 use Rattle.jx_plan.specs.Headers.{Asked, stream_written}
 use Rattle.jx_plan.specs.Meaning.{Component, Meaning, Place, component_of, lies_in, meaning_of, sample_at, sample_in}

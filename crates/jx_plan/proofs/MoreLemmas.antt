@@ -11,14 +11,14 @@ use Rattle.jx_marker.specs.declared.Siz.{Siz}
 use Rattle.jx_marker.specs.declared.Shape.{Shape}
 use Rattle.jx_marker.specs.declared.Quant.{Quant}
 use Rattle.jx_marker.specs.declared.Cod.{Cod}
-use Rattle.jx_stream.specs.declared.Params.{Params}
-use Rattle.jx_stream.specs.declared.Tile.{Tile}
-use Rattle.jx_stream.specs.declared.Stream.{Stream}
-use Rattle.jx_stream.specs.Index.{gives}
-use Rattle.jx_stream.specs.Tiles.{in_slot}
-use Rattle.jx_stream.specs.First.{canvas_of}
-use Rattle.jx_stream.specs.Params.{shape_of, quant_of, shift_of, cod_in, cod_of, shape_or, quant_or, cod_or, params_from, params_by, step_by, planes_by, header_in, header_of, params_of, step_of, planes_at, tile_has_too_few, tile_planes, planes_fault, limit_4_of}
-use Rattle.jx_stream.specs.Shapes.{shapes_of, layers_of, style_of, tile_at, no_tile}
+use Rattle.jx_codestream.specs.declared.Params.{Params}
+use Rattle.jx_codestream.specs.declared.Tile.{Tile}
+use Rattle.jx_codestream.specs.declared.Stream.{Stream}
+use Rattle.jx_codestream.specs.Index.{gives}
+use Rattle.jx_codestream.specs.Tiles.{in_slot}
+use Rattle.jx_codestream.specs.First.{canvas_of}
+use Rattle.jx_codestream.specs.Params.{shape_of, quant_of, shift_of, cod_in, cod_of, shape_or, quant_or, cod_or, params_from, params_by, step_by, planes_by, header_in, header_of, params_of, step_of, planes_at, tile_has_too_few, tile_planes, planes_fault, limit_4_of}
+use Rattle.jx_codestream.specs.Shapes.{shapes_of, layers_of, style_of, tile_at, no_tile}
 use Rattle.jx_plan.specs.Asides.{IsAside, IsTileWithMore, IsWithMore}
 use Rattle.jx_plan.proofs.AlikeLemmas.{HeadersAlike, none_asked, none_changed, shape_same, quant_same, shift_same, step_same, planes_same, shapes_same, too_few_same, bands_same}
 use Rattle.jx_plan.proofs.WrittenLemmas.{slot_more, alike_to, alike_self}

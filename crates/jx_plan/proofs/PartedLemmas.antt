@@ -1,11 +1,11 @@
 -- Tiles that are cut into few tile-parts, or many.
 use Rattle.std.proofs.Common.{◌≡◌, ◌≤◌, ap, subst, arith, false, nat_lt, ℕ, List, length}
 use Rattle.std.proofs.lemmas.Bool.Decides.{nat_tests}
-use Rattle.jx_order.specs.declared.names.PacketName.{PacketName}
-use Rattle.jx_order.proofs.OrderLemmas.{one_order}
-use Rattle.jx_stream.specs.declared.Stream.{Stream}
-use Rattle.jx_stream.specs.Shapes.{geometry, layers_of, tile_at}
-use Rattle.jx_gather.specs.Gathered.{IsListOf}
+use Rattle.jx_progression.specs.declared.names.PacketName.{PacketName}
+use Rattle.jx_progression.proofs.OrderLemmas.{one_order}
+use Rattle.jx_codestream.specs.declared.Stream.{Stream}
+use Rattle.jx_codestream.specs.Shapes.{geometry, layers_of, tile_at}
+use Rattle.jx_tier2_reader.specs.Gathered.{IsListOf}
 use Rattle.jx_plan.specs.declared.PartChoice.{PartChoice}
 use Rattle.jx_plan.specs.declared.PartChoice.TheVariants as part
 use Rattle.jx_plan.specs.Groups.{HasFewParts, groups_of, most_parts}

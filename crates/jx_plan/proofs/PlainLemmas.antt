@@ -9,15 +9,15 @@ use Rattle.std.proofs.lemmas.Option.{slice_get-get_or}
 use Rattle.jx_marker.specs.declared.Segment.{Segment}
 use Rattle.jx_marker.specs.declared.Segment.TheVariants as segment
 use Rattle.jx_marker.specs.declared.Cod.{Cod}
-use Rattle.jx_stream.specs.declared.headers.HeaderKind.TheVariants.{First}
-use Rattle.jx_stream.specs.declared.Tile.{Tile}
-use Rattle.jx_stream.specs.declared.Stream.{Stream}
-use Rattle.jx_stream.specs.Tiles.{joined, entry_in, or_list, in_slot}
-use Rattle.jx_stream.specs.Params.{cod_of, cod_or, header_in, header_of}
-use Rattle.jx_stream.specs.Spells.{AreSegments}
-use Rattle.jx_stream.specs.Shapes.{tile_at, no_tile}
-use Rattle.jx_gather.specs.Faults.{passed}
-use Rattle.jx_gather.specs.Totals.{block_total, packet_total, totals_fault}
+use Rattle.jx_codestream.specs.declared.headers.HeaderKind.TheVariants.{First}
+use Rattle.jx_codestream.specs.declared.Tile.{Tile}
+use Rattle.jx_codestream.specs.declared.Stream.{Stream}
+use Rattle.jx_codestream.specs.Tiles.{joined, entry_in, or_list, in_slot}
+use Rattle.jx_codestream.specs.Params.{cod_of, cod_or, header_in, header_of}
+use Rattle.jx_codestream.specs.Spells.{AreSegments}
+use Rattle.jx_codestream.specs.Shapes.{tile_at, no_tile}
+use Rattle.jx_tier2_reader.specs.Faults.{passed}
+use Rattle.jx_tier2_reader.specs.Totals.{block_total, packet_total, totals_fault}
 use Rattle.jx_plan.specs.Headers.{Asked, MayBeAsked, cod_written, written, is_written, all_written, tile_header, stream_written}
 use Rattle.jx_plan.specs.Asides.{is_plt}
 use Rattle.jx_plan.specs.Fits.{Fits, first_zero}
@@ -27,7 +27,7 @@ use Rattle.jx_plan.proofs.RangeLemmas.{written_stands}
 use Rattle.jx_plan.proofs.ReadBackLemmas.{none_written, none_header, main_is, count_is}
 use Rattle.jx_plan.proofs.BlockLemmas.{totals_same}
 use Rattle.jx_plan.proofs.ViewLemmas.{written_shapes}
-use Rattle.jx_stream.proofs.FaultLemmas.{none_first as first_none}
+use Rattle.jx_codestream.proofs.FaultLemmas.{none_first as first_none}
 
 -- no PLT
 

@@ -14,17 +14,17 @@ use Rattle.jx_geom.specs.Counts.{tile_count}
 use Rattle.jx_geom.specs.Numbering.{IsBlock, block_number}
 use Rattle.jx_geom.proofs.NumberLemmas.{block_number_taken}
 use Rattle.jx_geom.proofs.TileLemmas.{place_in_one_tile}
-use Rattle.jx_stream.specs.declared.Stream.{Stream}
-use Rattle.jx_stream.specs.First.{canvas_of, tile_number}
-use Rattle.jx_stream.specs.Shapes.{shapes_of}
-use Rattle.jx_stream.specs.InRange.{StreamInRange}
-use Rattle.jx_gather.specs.BlockOf.{AreBlocksOf, IsBlockOf, IsFoundOf}
-use Rattle.jx_stream.specs.Read.{IsRead}
-use Rattle.jx_stream.proofs.RangeLemmas.{read_in_range}
-use Rattle.jx_gather.specs.Gathered.{IsGathered, IsWhole}
-use Rattle.jx_gather.proofs.BlockOfLemmas.{blocks_of_stream}
-use Rattle.jx_gather.proofs.SoundLemmas.{sound_gathered}
-use Rattle.jx_gather.specs.Totals.{block_total, packet_total, totals_fault}
+use Rattle.jx_codestream.specs.declared.Stream.{Stream}
+use Rattle.jx_codestream.specs.First.{canvas_of, tile_number}
+use Rattle.jx_codestream.specs.Shapes.{shapes_of}
+use Rattle.jx_codestream.specs.InRange.{StreamInRange}
+use Rattle.jx_tier2_reader.specs.BlockOf.{AreBlocksOf, IsBlockOf, IsFoundOf}
+use Rattle.jx_codestream.specs.Read.{IsRead}
+use Rattle.jx_codestream.proofs.RangeLemmas.{read_in_range}
+use Rattle.jx_tier2_reader.specs.Gathered.{IsGathered, IsWhole}
+use Rattle.jx_tier2_reader.proofs.BlockOfLemmas.{blocks_of_stream}
+use Rattle.jx_tier2_reader.proofs.SoundLemmas.{sound_gathered}
+use Rattle.jx_tier2_reader.specs.Totals.{block_total, packet_total, totals_fault}
 use Rattle.jx_layers.specs.Causal.{breaks_plane, first_broken}
 use Rattle.jx_layers.specs.Facts.{most_layers}
 use Rattle.jx_plan.specs.Fits.{Fits}
@@ -35,7 +35,7 @@ use Rattle.jx_plan.specs.Plan.{MayBePlanned, asked_of, headers_with, most_packet
 use Rattle.jx_plan.specs.Wanted.{MayBeStyle, MayBeWanted, Wanted}
 use Rattle.jx_plan.proofs.BlockLemmas.{blocks_are}
 use Rattle.jx_plan.proofs.ReadLemmas.{read_stands}
-use Rattle.jx_gather.specs.Faults.{passed}
+use Rattle.jx_tier2_reader.specs.Faults.{passed}
 use Rattle.jx_plan.specs.Standing.{HeadersStand}
 use Rattle.jx_plan.proofs.CoverLemmas.{written_whole}
 use Rattle.jx_plan.proofs.PlainLemmas.{blocks_pass, totals_plain}

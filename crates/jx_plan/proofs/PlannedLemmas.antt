@@ -5,10 +5,10 @@ use Rattle.std.proofs.lemmas.Option.{slice_get-get_or, slice_get_within}
 use Rattle.jx_base.specs.declared.pieces.Block.{Block}
 use Rattle.jx_base.specs.declared.style.Style.{Style}
 use Rattle.jx_base.specs.Sound.{IsSound}
-use Rattle.jx_stream.specs.declared.Stream.{Stream}
-use Rattle.jx_block.specs.declared.LayerEnd.{LayerEnd}
-use Rattle.jx_block.specs.declared.job.Job.{Job}
-use Rattle.jx_block.specs.Written.{style_for}
+use Rattle.jx_codestream.specs.declared.Stream.{Stream}
+use Rattle.jx_codeblock.specs.declared.LayerEnd.{LayerEnd}
+use Rattle.jx_codeblock.specs.declared.job.Job.{Job}
+use Rattle.jx_codeblock.specs.Written.{style_for}
 use Rattle.jx_layers.specs.declared.StreamFacts.{StreamFacts}
 use Rattle.jx_layers.specs.Causal.{first_broken}
 use Rattle.jx_layers.specs.Facts.{facts_of}

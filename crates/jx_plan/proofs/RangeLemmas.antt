@@ -18,17 +18,17 @@ use Rattle.jx_marker.specs.Ranges.{SizInRange}
 use Rattle.jx_geom.specs.declared.shape.CompShape.{CompShape}
 use Rattle.jx_geom.specs.Ranges.{ShapeInRange}
 use Rattle.jx_geom.specs.Geometry.{Geometry, ShapesInRange, HasResolution, no_shape}
-use Rattle.jx_stream.specs.declared.headers.HeaderKind.TheVariants.{Main, First}
-use Rattle.jx_stream.specs.declared.Tile.{Tile}
-use Rattle.jx_stream.specs.declared.Stream.{Stream}
-use Rattle.jx_stream.specs.Tiles.{in_slot, entry_of, entry_in, or_list}
-use Rattle.jx_stream.specs.Params.{cod_in, tile_has_too_few, tile_planes, limit_4_of, cod_of, shape_or, shape_at, params_of, precincts_of, header_in, header_of}
-use Rattle.jx_stream.specs.First.{tiles_fault, lacks_default}
-use Rattle.jx_stream.specs.Shapes.{geometry, shape_in, shapes_of, size_of, no_size, style_of, tile_at, no_tile}
-use Rattle.jx_stream.specs.InRange.{StreamInRange}
-use Rattle.jx_stream.proofs.SegmentLemmas.{defaults_there}
-use Rattle.jx_stream.proofs.ShapeLemmas.{siz_is, shape_fits}
-use Rattle.jx_stream.proofs.RangeLemmas.{shapes_length, shapes_at}
+use Rattle.jx_codestream.specs.declared.headers.HeaderKind.TheVariants.{Main, First}
+use Rattle.jx_codestream.specs.declared.Tile.{Tile}
+use Rattle.jx_codestream.specs.declared.Stream.{Stream}
+use Rattle.jx_codestream.specs.Tiles.{in_slot, entry_of, entry_in, or_list}
+use Rattle.jx_codestream.specs.Params.{cod_in, tile_has_too_few, tile_planes, limit_4_of, cod_of, shape_or, shape_at, params_of, precincts_of, header_in, header_of}
+use Rattle.jx_codestream.specs.First.{tiles_fault, lacks_default}
+use Rattle.jx_codestream.specs.Shapes.{geometry, shape_in, shapes_of, size_of, no_size, style_of, tile_at, no_tile}
+use Rattle.jx_codestream.specs.InRange.{StreamInRange}
+use Rattle.jx_codestream.proofs.SegmentLemmas.{defaults_there}
+use Rattle.jx_codestream.proofs.ShapeLemmas.{siz_is, shape_fits}
+use Rattle.jx_codestream.proofs.RangeLemmas.{shapes_length, shapes_at}
 use Rattle.jx_plan.specs.Headers.{Asked, MayBeAsked, cod_written, comp_written, all_written, tile_header, tile_written, stream_written}
 use Rattle.jx_plan.specs.Fits.{first_zero, tile_has_zero}
 use Rattle.jx_plan.specs.Standing.{IsNote, IsHeaded, HeadersStand}

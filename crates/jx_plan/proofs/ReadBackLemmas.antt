@@ -9,21 +9,21 @@ use Rattle.std.proofs.lemmas.List.Elements.{All-head, All-tail}
 use Rattle.jx_marker.specs.declared.Segment.{Segment}
 use Rattle.jx_marker.specs.declared.Segment.TheVariants as segment
 use Rattle.jx_marker.specs.declared.Progression.{Progression}
-use Rattle.jx_stream.specs.declared.parts.Part.{Part}
-use Rattle.jx_stream.specs.declared.Body.{Body}
-use Rattle.jx_stream.specs.declared.Tile.{Tile}
-use Rattle.jx_stream.specs.declared.Stream.{Stream}
-use Rattle.jx_stream.specs.Parts.{parts_of}
-use Rattle.jx_stream.specs.First.{tile_number}
-use Rattle.jx_stream.specs.Shapes.{tile_at, no_tile}
-use Rattle.jx_stream.specs.Tiles.{in_slot, entries_of, joined, is_com, entry_in, or_list, headers_of, first_header, first_place, progressions_of, tile_from, tile_of, tiles_of}
+use Rattle.jx_codestream.specs.declared.parts.Part.{Part}
+use Rattle.jx_codestream.specs.declared.Body.{Body}
+use Rattle.jx_codestream.specs.declared.Tile.{Tile}
+use Rattle.jx_codestream.specs.declared.Stream.{Stream}
+use Rattle.jx_codestream.specs.Parts.{parts_of}
+use Rattle.jx_codestream.specs.First.{tile_number}
+use Rattle.jx_codestream.specs.Shapes.{tile_at, no_tile}
+use Rattle.jx_codestream.specs.Tiles.{in_slot, entries_of, joined, is_com, entry_in, or_list, headers_of, first_header, first_place, progressions_of, tile_from, tile_of, tiles_of}
 use Rattle.jx_plan.specs.Headers.{Asked, written, is_written, all_written, tile_header, tile_written, stream_written}
 use Rattle.jx_plan.specs.Asides.{IsAside, is_aside, is_plt, IsTileWithMore, IsWithMore}
 use Rattle.jx_plan.specs.ReadBack.{HaveHeaders}
 use Rattle.jx_plan.specs.Standing.{IsHeaded, HeadersStand}
 use Rattle.jx_plan.proofs.WrittenLemmas.{slot_more}
 use Rattle.jx_plan.proofs.StreamLemmas.{notes_aside, tile_is}
-use Rattle.jx_stream.proofs.RangeLemmas.{tile_of_is}
+use Rattle.jx_codestream.proofs.RangeLemmas.{tile_of_is}
 
 -- no POC is written
 

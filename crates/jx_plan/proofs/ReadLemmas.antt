@@ -6,16 +6,16 @@ use Rattle.std.proofs.lemmas.List.Elements.{All-same, All-map, All-filter, All-d
 use Rattle.std.proofs.lemmas.List.FromFn.{length-map-range_with_len}
 use Rattle.jx_marker.specs.declared.Segment.{Segment}
 use Rattle.jx_marker.specs.Ranges.{InRange}
-use Rattle.jx_stream.specs.declared.headers.HeaderKind.{HeaderKind}
-use Rattle.jx_stream.specs.declared.headers.HeaderKind.TheVariants.{First, Later}
-use Rattle.jx_stream.specs.declared.parts.Part.{Part}
-use Rattle.jx_stream.specs.declared.Stream.{Stream}
-use Rattle.jx_stream.specs.Parts.{parts_of}
-use Rattle.jx_stream.specs.Tiles.{is_com, headers_of, first_header, tile_of, tiles_of}
-use Rattle.jx_stream.specs.First.{tile_number}
-use Rattle.jx_stream.specs.Spells.{TilePart, part_of, part_bytes, placed, first_sot, AreSegments, AreTileParts, IsTilePart}
-use Rattle.jx_stream.specs.Read.{IsRead}
-use Rattle.jx_stream.proofs.SegmentLemmas.{HasFitting, parts_fit, headers_fit}
+use Rattle.jx_codestream.specs.declared.headers.HeaderKind.{HeaderKind}
+use Rattle.jx_codestream.specs.declared.headers.HeaderKind.TheVariants.{First, Later}
+use Rattle.jx_codestream.specs.declared.parts.Part.{Part}
+use Rattle.jx_codestream.specs.declared.Stream.{Stream}
+use Rattle.jx_codestream.specs.Parts.{parts_of}
+use Rattle.jx_codestream.specs.Tiles.{is_com, headers_of, first_header, tile_of, tiles_of}
+use Rattle.jx_codestream.specs.First.{tile_number}
+use Rattle.jx_codestream.specs.Spells.{TilePart, part_of, part_bytes, placed, first_sot, AreSegments, AreTileParts, IsTilePart}
+use Rattle.jx_codestream.specs.Read.{IsRead}
+use Rattle.jx_codestream.proofs.SegmentLemmas.{HasFitting, parts_fit, headers_fit}
 use Rattle.jx_plan.specs.Standing.{IsNote, IsHeaded, HeadersStand}
 
 -- the first tile-part of a tile has the number 0

@@ -11,10 +11,10 @@ use Rattle.jx_marker.specs.declared.Segment.{Segment}
 use Rattle.jx_marker.specs.declared.Segment.TheVariants as segment
 use Rattle.jx_marker.specs.declared.Shape.{Shape}
 use Rattle.jx_marker.specs.Ranges.{InRange, AreBytes, ShapeInRange}
-use Rattle.jx_stream.specs.declared.headers.HeaderKind.{HeaderKind}
-use Rattle.jx_stream.specs.declared.headers.HeaderKind.TheVariants.{Main, First, Later}
-use Rattle.jx_stream.specs.Headers.{slot_of, has_slot, is_second, stands_in, ends_header}
-use Rattle.jx_stream.specs.Spells.{IsSegment, AreSegments}
+use Rattle.jx_codestream.specs.declared.headers.HeaderKind.{HeaderKind}
+use Rattle.jx_codestream.specs.declared.headers.HeaderKind.TheVariants.{Main, First, Later}
+use Rattle.jx_codestream.specs.Headers.{slot_of, has_slot, is_second, stands_in, ends_header}
+use Rattle.jx_codestream.specs.Spells.{IsSegment, AreSegments}
 use Rattle.jx_plan.specs.Headers.{Asked, MayBeAsked, item_at, bytes_for, order_written, precincts_written, shape_written, style_written, written, is_written, all_written}
 use Rattle.jx_plan.specs.Fits.{shape_has_zero, has_zero}
 use Rattle.jx_plan.specs.Asides.{IsAside}

@@ -13,16 +13,16 @@ use Rattle.jx_marker.specs.declared.Quant.{Quant}
 use Rattle.jx_marker.specs.declared.Cod.{Cod}
 use Rattle.jx_marker.specs.Ranges.{InRange}
 use Rattle.jx_geom.specs.declared.shape.CompShape.{CompShape}
-use Rattle.jx_stream.specs.declared.headers.HeaderKind.TheVariants.{Main, First}
-use Rattle.jx_stream.specs.declared.Tile.{Tile}
-use Rattle.jx_stream.specs.declared.Stream.{Stream}
-use Rattle.jx_stream.specs.Index.{gives}
-use Rattle.jx_stream.specs.declared.Params.{Params}
-use Rattle.jx_stream.specs.Tiles.{in_slot}
-use Rattle.jx_stream.specs.First.{canvas_of, tile_number}
-use Rattle.jx_stream.specs.Params.{chosen, precincts_of, shape_of, quant_of, shift_of, cod_in, cod_of, shape_or, quant_or, cod_or, params_from, params_by, header_in, header_of, params_of, step_of, planes_at}
-use Rattle.jx_stream.specs.Shapes.{shapes_of, geometry, layers_of, style_of, tile_at, no_tile}
-use Rattle.jx_stream.proofs.SegmentLemmas.{segments_fit, defaults_there, slot_chosen, or_chosen, slot_there, or_there, chosen_fits, chosen_there, IsShaped, shape_there, IsCoded, cod_there}
+use Rattle.jx_codestream.specs.declared.headers.HeaderKind.TheVariants.{Main, First}
+use Rattle.jx_codestream.specs.declared.Tile.{Tile}
+use Rattle.jx_codestream.specs.declared.Stream.{Stream}
+use Rattle.jx_codestream.specs.Index.{gives}
+use Rattle.jx_codestream.specs.declared.Params.{Params}
+use Rattle.jx_codestream.specs.Tiles.{in_slot}
+use Rattle.jx_codestream.specs.First.{canvas_of, tile_number}
+use Rattle.jx_codestream.specs.Params.{chosen, precincts_of, shape_of, quant_of, shift_of, cod_in, cod_of, shape_or, quant_or, cod_or, params_from, params_by, header_in, header_of, params_of, step_of, planes_at}
+use Rattle.jx_codestream.specs.Shapes.{shapes_of, geometry, layers_of, style_of, tile_at, no_tile}
+use Rattle.jx_codestream.proofs.SegmentLemmas.{segments_fit, defaults_there, slot_chosen, or_chosen, slot_there, or_there, chosen_fits, chosen_there, IsShaped, shape_there, IsCoded, cod_there}
 use Rattle.jx_plan.specs.Headers.{Asked, cod_written, comp_written, exponents_written, params_written, precincts_written, shape_written, style_written, written, all_written, tile_header, tile_written, stream_written}
 use Rattle.jx_plan.specs.Asides.{IsAside}
 use Rattle.jx_plan.specs.Standing.{IsNote, IsHeaded, HeadersStand}

@@ -6,15 +6,15 @@ use Rattle.std.proofs.lemmas.Option.{slice_get-get_or, slice_get_within}
 use Rattle.jx_base.proofs.Sums.{sum_below_grows, sum_below_more}
 use Rattle.jx_base.specs.declared.names.BlockName.{BlockName}
 use Rattle.jx_base.specs.declared.pieces.Block.{Block}
-use Rattle.jx_block.specs.declared.job.Job.{Job}
+use Rattle.jx_codeblock.specs.declared.job.Job.{Job}
 use Rattle.jx_geom.specs.Counts.{tile_blocks}
 use Rattle.jx_geom.specs.Numbering.{IsBlock, block_number, blocks_below, geometry_of}
 use Rattle.jx_geom.specs.Rects.{tile_rect}
 use Rattle.jx_geom.proofs.NumberLemmas.{block_number_taken, number_in_tile_below}
-use Rattle.jx_stream.specs.declared.Stream.{Stream}
-use Rattle.jx_stream.specs.First.{canvas_of, tile_number}
-use Rattle.jx_stream.specs.Shapes.{shapes_of}
-use Rattle.jx_gather.specs.BlockOf.{AreBlocksOf, IsBlockOf, IsFoundOf}
+use Rattle.jx_codestream.specs.declared.Stream.{Stream}
+use Rattle.jx_codestream.specs.First.{canvas_of, tile_number}
+use Rattle.jx_codestream.specs.Shapes.{shapes_of}
+use Rattle.jx_tier2_reader.specs.BlockOf.{AreBlocksOf, IsBlockOf, IsFoundOf}
 use Rattle.jx_plan.specs.Plan.{IsPlan, Plan}
 use Rattle.jx_plan.specs.TileJobs.{AreJobsBelow}
 use Rattle.jx_plan.proofs.BlockLemmas.{blocks_are}

@@ -10,13 +10,13 @@ use Rattle.jx_geom.specs.Counts.{tile_count, tile_precincts}
 use Rattle.jx_geom.specs.Geometry.{Geometry}
 use Rattle.jx_geom.specs.Same.{AllSameBlocks}
 use Rattle.jx_marker.specs.declared.Progression.{Progression}
-use Rattle.jx_order.specs.Packets.{AreCovered}
-use Rattle.jx_stream.specs.declared.Stream.{Stream}
-use Rattle.jx_stream.specs.First.{canvas_of, tile_number}
-use Rattle.jx_stream.specs.Shapes.{shapes_of, geometry, layers_of, tile_at}
-use Rattle.jx_gather.specs.Totals.{block_total, tile_packets, packet_total, totals_fault}
-use Rattle.jx_gather.specs.Another.{HasSameBlock, HaveSameBlocks}
-use Rattle.jx_gather.specs.Gathered.{IsWhole}
+use Rattle.jx_progression.specs.Packets.{AreCovered}
+use Rattle.jx_codestream.specs.declared.Stream.{Stream}
+use Rattle.jx_codestream.specs.First.{canvas_of, tile_number}
+use Rattle.jx_codestream.specs.Shapes.{shapes_of, geometry, layers_of, tile_at}
+use Rattle.jx_tier2_reader.specs.Totals.{block_total, tile_packets, packet_total, totals_fault}
+use Rattle.jx_tier2_reader.specs.Another.{HasSameBlock, HaveSameBlocks}
+use Rattle.jx_tier2_reader.specs.Gathered.{IsWhole}
 use Rattle.jx_plan.specs.Headers.{Asked, stream_written}
 use Rattle.jx_plan.specs.Asides.{IsWithMore}
 use Rattle.jx_plan.specs.Fits.{Fits}

@@ -10,12 +10,12 @@ use Rattle.jx_base.specs.declared.style.Style.{Style}
 use Rattle.jx_marker.specs.declared.Segment.{Segment}
 use Rattle.jx_marker.specs.declared.Segment.TheVariants as segment
 use Rattle.jx_marker.specs.declared.Siz.{Siz}
-use Rattle.jx_stream.specs.declared.Tile.{Tile}
-use Rattle.jx_stream.specs.declared.Stream.{Stream}
-use Rattle.jx_stream.specs.Headers.{slot_of, has_slot}
-use Rattle.jx_stream.specs.Index.{gives}
-use Rattle.jx_stream.specs.Tiles.{in_slot, entry_in}
-use Rattle.jx_stream.specs.Params.{cod_in, shape_in}
+use Rattle.jx_codestream.specs.declared.Tile.{Tile}
+use Rattle.jx_codestream.specs.declared.Stream.{Stream}
+use Rattle.jx_codestream.specs.Headers.{slot_of, has_slot}
+use Rattle.jx_codestream.specs.Index.{gives}
+use Rattle.jx_codestream.specs.Tiles.{in_slot, entry_in}
+use Rattle.jx_codestream.specs.Params.{cod_in, shape_in}
 use Rattle.jx_plan.specs.Headers.{Asked, cod_written, item_at, written, is_written, all_written, tile_over, stream_written}
 use Rattle.jx_plan.specs.Asides.{IsAside, is_aside}
 use Rattle.jx_plan.proofs.AlikeLemmas.{AreAlike, none_asked}

@@ -1,8 +1,8 @@
 -- Where no precinct that is written would have an exponent 0 above resolution 0.
 use Rattle.std.proofs.Common.{◌≡◌, ℕ, Bool, true, false, cond, List, refl, Option, None, Some}
 use Rattle.std.specs.List.{All, list_any, position}
-use Rattle.jx_stream.specs.declared.Stream.{Stream}
-use Rattle.jx_stream.specs.declared.Tile.{Tile}
+use Rattle.jx_codestream.specs.declared.Stream.{Stream}
+use Rattle.jx_codestream.specs.declared.Tile.{Tile}
 use Rattle.jx_plan.specs.Fits.{first_zero, has_zero, tile_has_zero}
 use Rattle.jx_layers.proofs.CausalLemmas.{none_at}
 

@@ -4,9 +4,9 @@ use Rattle.std.specs.List.{All}
 use Rattle.jx_marker.specs.declared.Segment.{Segment}
 use Rattle.jx_marker.specs.declared.Segment.TheVariants as segment
 use Rattle.jx_marker.specs.Ranges.{InRange}
-use Rattle.jx_stream.specs.declared.Tile.{Tile}
-use Rattle.jx_stream.specs.declared.Stream.{Stream}
-use Rattle.jx_stream.specs.Shapes.{tile_at}
+use Rattle.jx_codestream.specs.declared.Tile.{Tile}
+use Rattle.jx_codestream.specs.declared.Stream.{Stream}
+use Rattle.jx_codestream.specs.Shapes.{tile_at}
 
 abbrev pub is_aside : Segment → Bool
 is_aside (segment.Com bytes) = true

@@ -6,10 +6,10 @@ use Rattle.jx_marker.specs.Rules.{has_zero_exponent}
 use Rattle.jx_marker.specs.declared.Segment.{Segment}
 use Rattle.jx_marker.specs.declared.Segment.TheVariants as segment
 use Rattle.jx_marker.specs.declared.Shape.{Shape}
-use Rattle.jx_stream.specs.declared.Stream.{Stream}
-use Rattle.jx_stream.specs.declared.Tile.{Tile}
-use Rattle.jx_stream.specs.First.{tile_number}
-use Rattle.jx_stream.specs.Shapes.{shapes_of}
+use Rattle.jx_codestream.specs.declared.Stream.{Stream}
+use Rattle.jx_codestream.specs.declared.Tile.{Tile}
+use Rattle.jx_codestream.specs.First.{tile_number}
+use Rattle.jx_codestream.specs.Shapes.{shapes_of}
 use Rattle.jx_plan.specs.declared.faults.PlanFault.{PlanFault}
 use Rattle.jx_plan.specs.declared.faults.PlanFault.TheVariants as fault
 use Rattle.jx_plan.specs.Headers.{comp_written, precincts_written}

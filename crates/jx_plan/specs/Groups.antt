@@ -1,10 +1,10 @@
 -- Where a tile is cut into tile-parts: a new one begins where two packets that follow each other differ in the resolution, layer or
 -- component that is asked. A tile without packets has one empty tile-part (ITU-T T.800, A.4.2 and B.12).
 use Rattle.std.specs.Prelude.{◌<◌, ◌≤◌, ◌==◌, ℕ, List, [], ◌∷◌, length, if◌then◌else◌}
-use Rattle.jx_order.specs.declared.names.PacketName.{PacketName}
-use Rattle.jx_stream.specs.declared.Stream.{Stream}
-use Rattle.jx_stream.specs.First.{tile_number}
-use Rattle.jx_gather.specs.Gathered.{IsListOf}
+use Rattle.jx_progression.specs.declared.names.PacketName.{PacketName}
+use Rattle.jx_codestream.specs.declared.Stream.{Stream}
+use Rattle.jx_codestream.specs.First.{tile_number}
+use Rattle.jx_tier2_reader.specs.Gathered.{IsListOf}
 use Rattle.jx_plan.specs.declared.PartChoice.{PartChoice}
 use Rattle.jx_plan.specs.declared.PartChoice.TheVariants as part
 

@@ -11,11 +11,11 @@ use Rattle.jx_marker.specs.declared.Segment.{Segment}
 use Rattle.jx_marker.specs.declared.Segment.TheVariants as segment
 use Rattle.jx_marker.specs.declared.Cod.{Cod}
 use Rattle.jx_marker.specs.declared.Progression.{Progression}
-use Rattle.jx_stream.specs.declared.Tile.{Tile}
-use Rattle.jx_stream.specs.declared.Stream.{Stream}
-use Rattle.jx_stream.specs.declared.Params.{Params}
-use Rattle.jx_stream.specs.Params.{precincts_of}
-use Rattle.jx_stream.specs.Tiles.{in_slot, entry_in, or_list}
+use Rattle.jx_codestream.specs.declared.Tile.{Tile}
+use Rattle.jx_codestream.specs.declared.Stream.{Stream}
+use Rattle.jx_codestream.specs.declared.Params.{Params}
+use Rattle.jx_codestream.specs.Params.{precincts_of}
+use Rattle.jx_codestream.specs.Tiles.{in_slot, entry_in, or_list}
 
 -- what is asked of the headers: order, precincts and style as Wanted has them
 pub record Asked : Type 0 where

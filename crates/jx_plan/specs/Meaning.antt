@@ -5,15 +5,15 @@ use Rattle.std.specs.Prelude.{ℕ, ◌+◌, ◌-◌, ◌==◌, Bool, ◌&&◌, L
 use Rattle.std.specs.Option.{option_map}
 use Rattle.jx_base.specs.declared.names.Band.{Band}
 use Rattle.jx_base.specs.declared.pieces.Block.{Block}
-use Rattle.jx_grid.specs.declared.coef.Coef.{Coef}
-use Rattle.jx_grid.specs.Cells.{coef_at}
-use Rattle.jx_block.specs.Written.{own_cells}
+use Rattle.jx_tier1_specs.specs.declared.coef.Coef.{Coef}
+use Rattle.jx_tier1_specs.specs.Cells.{coef_at}
+use Rattle.jx_codeblock.specs.Written.{own_cells}
 use Rattle.jx_geom.specs.Rects.{off_across, off_down}
 use Rattle.jx_marker.specs.declared.Siz.{Siz}
-use Rattle.jx_stream.specs.declared.Params.{Params}
-use Rattle.jx_stream.specs.declared.Stream.{Stream}
-use Rattle.jx_stream.specs.Params.{params_of, step_of}
-use Rattle.jx_order.specs.Loops.{is_in}
+use Rattle.jx_codestream.specs.declared.Params.{Params}
+use Rattle.jx_codestream.specs.declared.Stream.{Stream}
+use Rattle.jx_codestream.specs.Params.{params_of, step_of}
+use Rattle.jx_progression.specs.Loops.{is_in}
 
 -- a place of a band: tile, component, resolution and band, and the column and the row in it
 pub record Place : Type 0 where

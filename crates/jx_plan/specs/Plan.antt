@@ -5,15 +5,15 @@ use Rattle.std.specs.List.{All}
 use Rattle.jx_base.specs.declared.pieces.Block.{Block}
 use Rattle.jx_base.specs.declared.style.Style.{Style}
 use Rattle.jx_base.specs.Sound.{IsSound}
-use Rattle.jx_stream.specs.declared.Stream.{Stream}
-use Rattle.jx_stream.specs.InRange.{StreamInRange}
-use Rattle.jx_gather.specs.BlockOf.{AreBlocksOf}
-use Rattle.jx_gather.specs.Totals.{packet_total, totals_fault}
-use Rattle.jx_block.specs.declared.job.Job.{Job}
-use Rattle.jx_block.specs.declared.LayerEnd.{LayerEnd}
-use Rattle.jx_block.specs.Jobs.{IsAsked}
-use Rattle.jx_block.specs.Written.{style_for}
-use Rattle.jx_stream.specs.First.{tile_number}
+use Rattle.jx_codestream.specs.declared.Stream.{Stream}
+use Rattle.jx_codestream.specs.InRange.{StreamInRange}
+use Rattle.jx_tier2_reader.specs.BlockOf.{AreBlocksOf}
+use Rattle.jx_tier2_reader.specs.Totals.{packet_total, totals_fault}
+use Rattle.jx_codeblock.specs.declared.job.Job.{Job}
+use Rattle.jx_codeblock.specs.declared.LayerEnd.{LayerEnd}
+use Rattle.jx_codeblock.specs.Jobs.{IsAsked}
+use Rattle.jx_codeblock.specs.Written.{style_for}
+use Rattle.jx_codestream.specs.First.{tile_number}
 use Rattle.jx_layers.specs.Causal.{first_broken}
 use Rattle.jx_layers.specs.Crowded.{IsLowestCrowded}
 use Rattle.jx_plan.specs.Fits.{Fits}

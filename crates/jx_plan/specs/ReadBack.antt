@@ -2,9 +2,9 @@
 use Rattle.std.specs.Prelude.{◌≡◌, ℕ, true, List, ◌++◌, drop}
 use Rattle.std.specs.List.{All}
 use Rattle.jx_marker.specs.declared.Segment.{Segment}
-use Rattle.jx_stream.specs.declared.parts.Part.{Part}
-use Rattle.jx_stream.specs.declared.Tile.{Tile}
-use Rattle.jx_stream.specs.Tiles.{headers_of, first_header}
+use Rattle.jx_codestream.specs.declared.parts.Part.{Part}
+use Rattle.jx_codestream.specs.declared.Tile.{Tile}
+use Rattle.jx_codestream.specs.Tiles.{headers_of, first_header}
 use Rattle.jx_plan.specs.Headers.{Asked, tile_header}
 use Rattle.jx_plan.specs.Asides.{is_plt, IsAside}
 

@@ -4,13 +4,13 @@ use Rattle.std.specs.Prelude.{◌≡◌, ℕ, true, false, [], length, find, Non
 use Rattle.std.specs.List.{All}
 use Rattle.jx_marker.specs.declared.Segment.{Segment}
 use Rattle.jx_marker.specs.Ranges.{InRange, SizInRange}
-use Rattle.jx_stream.specs.declared.headers.HeaderKind.TheVariants.{Main, First}
-use Rattle.jx_stream.specs.declared.Tile.{Tile}
-use Rattle.jx_stream.specs.declared.Stream.{Stream}
-use Rattle.jx_stream.specs.Tiles.{is_com}
-use Rattle.jx_stream.specs.First.{tile_number, tiles_fault, lacks_default}
-use Rattle.jx_stream.specs.Params.{tile_has_too_few, planes_fault}
-use Rattle.jx_stream.specs.Spells.{AreSegments}
+use Rattle.jx_codestream.specs.declared.headers.HeaderKind.TheVariants.{Main, First}
+use Rattle.jx_codestream.specs.declared.Tile.{Tile}
+use Rattle.jx_codestream.specs.declared.Stream.{Stream}
+use Rattle.jx_codestream.specs.Tiles.{is_com}
+use Rattle.jx_codestream.specs.First.{tile_number, tiles_fault, lacks_default}
+use Rattle.jx_codestream.specs.Params.{tile_has_too_few, planes_fault}
+use Rattle.jx_codestream.specs.Spells.{AreSegments}
 
 -- a COM segment
 pub record IsNote (comps : ℕ) (s : Segment) : Type 0 where

@@ -5,10 +5,10 @@ use Rattle.jx_geom.specs.declared.shape.CompShape.{CompShape}
 use Rattle.jx_geom.specs.Rects.{block_across, block_down}
 use Rattle.jx_marker.specs.declared.Segment.{Segment}
 use Rattle.jx_marker.specs.declared.Segment.TheVariants as segment
-use Rattle.jx_stream.specs.declared.Stream.{Stream}
-use Rattle.jx_stream.specs.Params.{header_of}
-use Rattle.jx_gather.specs.Totals.{packet_total}
-use Rattle.jx_block.specs.declared.job.Job.{Job}
+use Rattle.jx_codestream.specs.declared.Stream.{Stream}
+use Rattle.jx_codestream.specs.Params.{header_of}
+use Rattle.jx_tier2_reader.specs.Totals.{packet_total}
+use Rattle.jx_codeblock.specs.declared.job.Job.{Job}
 use Rattle.jx_plan.specs.declared.faults.PlanFault.{PlanFault}
 use Rattle.jx_plan.specs.declared.faults.PlanFault.TheVariants as fault
 use Rattle.jx_layers.specs.Crowded.{IsLowestCrowded}

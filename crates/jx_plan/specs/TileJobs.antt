@@ -1,6 +1,6 @@
 -- The jobs of a tile: those of its code-blocks.
 use Rattle.std.specs.Prelude.{◌≡◌, ◌<◌, ◌≤◌, ◌↔◌, ℕ, List, length, Some, slice_get}
-use Rattle.jx_block.specs.declared.job.Job.{Job}
+use Rattle.jx_codeblock.specs.declared.job.Job.{Job}
 
 -- the jobs from one on below another are those of a tile, and no other job is
 pub record AreTileJobs (jobs : List Job) (tile first end : ℕ) : Type 0 where

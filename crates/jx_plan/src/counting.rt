@@ -1,9 +1,9 @@
 //! How many packets and tile-parts are written.
 
 ghost use Rattle.std.specs.Prelude.{◌≡◌, ◌<◌, ◌≤◌, ℕ, IfErr, IfOk, OnOk, None};
-ghost use Rattle.jx_gather.specs.Totals.{packet_total, totals_fault};
-ghost use Rattle.jx_stream.specs.First.{tile_number};
-ghost use Rattle.jx_stream.specs.InRange.{StreamInRange};
+ghost use Rattle.jx_tier2_reader.specs.Totals.{packet_total, totals_fault};
+ghost use Rattle.jx_codestream.specs.First.{tile_number};
+ghost use Rattle.jx_codestream.specs.InRange.{StreamInRange};
 ghost use Rattle.jx_plan.specs.Fits.{Fits};
 ghost use Rattle.jx_plan.specs.Groups.{HasFewParts};
 ghost use Rattle.jx_plan.specs.Plan.{headers_with, most_packets};
@@ -15,8 +15,8 @@ use crate::headers::{HeaderMarks, write_headers};
 use crate::parting::first_parted;
 use crate::{Options, PlanFault};
 use jx_base::NoMemory;
-use jx_gather::count_all;
-use jx_stream::Stream;
+use jx_codestream::Stream;
+use jx_tier2_reader::count_all;
 use std::alloc::Global;
 
 /// The packets of a stream, one for each precinct and layer (ITU-T T.800, B.9): what limit 7 speaks of where the stream is

@@ -6,9 +6,9 @@ ghost use Rattle.std.specs.Bool.{Decides};
 ghost use Rattle.jx_geom.specs.Geometry.{ShapesInRange};
 ghost use Rattle.jx_geom.specs.Same.{AllSameBlocks, SameBlocks};
 ghost use Rattle.jx_marker.specs.Rules.{has_zero_exponent};
-ghost use Rattle.jx_stream.specs.First.{tile_number};
-ghost use Rattle.jx_stream.specs.InRange.{StreamInRange};
-ghost use Rattle.jx_stream.specs.Params.{header_of, precincts_of};
+ghost use Rattle.jx_codestream.specs.First.{tile_number};
+ghost use Rattle.jx_codestream.specs.InRange.{StreamInRange};
+ghost use Rattle.jx_codestream.specs.Params.{header_of, precincts_of};
 ghost use Rattle.jx_plan.specs.Choices.{bytes_in};
 ghost use Rattle.jx_plan.specs.Fits.{AreUnfit, Fits, IsChangedAt, KeepsBlocks, first_zero, has_zero, shape_has_zero, tile_has_zero};
 ghost use Rattle.jx_plan.specs.Headers.{bytes_for, comp_written, item_at};
@@ -17,10 +17,10 @@ ghost use Rattle.jx_plan.specs.Steps.{IsKnown, IsSameAt, is_coding};
 
 use crate::{PlanFault, PrecinctChoice};
 use jx_base::NoMemory;
+use jx_codestream::{MainView, Stream, Tile};
 use jx_geom::CompShape;
 use jx_layers::tile_count;
 use jx_marker::{Segment, Shape};
-use jx_stream::{MainView, Stream, Tile};
 use std::alloc::Global;
 
 /// The byte of a resolution, of which the last stands for all above.

@@ -3,13 +3,13 @@
 ghost use Rattle.std.specs.Prelude.{◌≡◌, ◌++◌, ◌+◌, ◌<◌, ◌==◌, IfOk, OnOk, Some, length, map};
 ghost use Rattle.std.specs.List.{range_with_len};
 ghost use Rattle.std.specs.Option.{option_to_list};
-ghost use Rattle.jx_stream.specs.Headers.{slot_of};
-ghost use Rattle.jx_stream.specs.Tiles.{entry_in, in_slot, or_list};
+ghost use Rattle.jx_codestream.specs.Headers.{slot_of};
+ghost use Rattle.jx_codestream.specs.Tiles.{entry_in, in_slot, or_list};
 ghost use Rattle.jx_plan.specs.Headers.{all_written, bytes_for, cod_written, is_written, item_at, order_written, precincts_written, shape_written, stream_written, style_written, tile_over, written};
 
 use jx_base::{NoMemory, Style};
+use jx_codestream::{Bodies, Entries, Segments, Stream, Tile, Tiles};
 use jx_marker::{Bytes, Cod, Progression, Segment, Shape, Siz};
-use jx_stream::{Bodies, Entries, Segments, Stream, Tile, Tiles};
 use std::alloc::Global;
 use std::marker::Model;
 

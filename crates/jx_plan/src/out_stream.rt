@@ -4,16 +4,16 @@ ghost use Rattle.std.specs.Prelude.{◌≡◌, ◌<◌, ◌≤◌, ◌+◌, ◌^
 ghost use Rattle.jx_geom.specs.Counts.{tile_blocks};
 ghost use Rattle.jx_geom.specs.Numbering.{blocks_below};
 ghost use Rattle.jx_geom.specs.Rects.{tile_rect};
-ghost use Rattle.jx_stream.specs.First.{canvas_of, tile_number};
-ghost use Rattle.jx_stream.specs.Shapes.{shapes_of};
+ghost use Rattle.jx_codestream.specs.First.{canvas_of, tile_number};
+ghost use Rattle.jx_codestream.specs.Shapes.{shapes_of};
 ghost use Rattle.jx_plan.specs.Plan.{IsPlan, headers_of};
 ghost use Rattle.jx_plan.specs.TileJobs.{AreJobsBelow, AreTileJobs};
 ghost use Rattle.jx_plan.specs.Wanted.{marks_of};
 
 use crate::{Marks, Options};
 use jx_base::Block;
-use jx_block::Job;
-use jx_stream::Stream;
+use jx_codeblock::Job;
+use jx_codestream::Stream;
 use std::marker::Model;
 
 /// What is planned of a codestream: the headers that are written, and what is asked of each code-block.

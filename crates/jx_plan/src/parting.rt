@@ -2,21 +2,21 @@
 
 ghost use Rattle.std.specs.Prelude.{◌≡◌, ◌∷◌, ◌<◌, ◌≤◌, ◌-◌, ◌^◌, false, true, ℕ, None, drop, length, take, IfOk, MatchOption};
 ghost use Rattle.std.specs.List.{All};
-ghost use Rattle.jx_order.specs.Packets.{IsPacket};
-ghost use Rattle.jx_stream.specs.First.{tile_number};
-ghost use Rattle.jx_stream.specs.InRange.{StreamInRange};
-ghost use Rattle.jx_stream.specs.Params.{headers_at};
-ghost use Rattle.jx_stream.specs.Shapes.{geometry, layers_of, tile_at};
-ghost use Rattle.jx_gather.specs.Gathered.{IsListOf, IsWhole};
-ghost use Rattle.jx_gather.specs.Totals.{totals_fault};
+ghost use Rattle.jx_progression.specs.Packets.{IsPacket};
+ghost use Rattle.jx_codestream.specs.First.{tile_number};
+ghost use Rattle.jx_codestream.specs.InRange.{StreamInRange};
+ghost use Rattle.jx_codestream.specs.Params.{headers_at};
+ghost use Rattle.jx_codestream.specs.Shapes.{geometry, layers_of, tile_at};
+ghost use Rattle.jx_tier2_reader.specs.Gathered.{IsListOf, IsWhole};
+ghost use Rattle.jx_tier2_reader.specs.Totals.{totals_fault};
 ghost use Rattle.jx_plan.specs.Groups.{HasFewParts, HasManyParts, IsPartedAt, groups_of, key_of, more_groups};
 
 use crate::PartChoice;
 use jx_base::NoMemory;
+use jx_codestream::{MainView, Stream, Tile, TileView};
 use jx_geom::TileGeom;
 use jx_layers::tile_count;
-use jx_order::{PacketName, packets};
-use jx_stream::{MainView, Stream, Tile, TileView};
+use jx_progression::{PacketName, packets};
 use std::alloc::Global;
 
 /// A tile of a stream.

@@ -13,17 +13,17 @@ ghost use Rattle.jx_plan.specs.Plan.{IsJob, MayBePlanned};
 ghost use Rattle.jx_plan.specs.Planned.{ArePlanned, HasLaterCause, HasPlanCause, IsPlanned, IsUnplanned, chosen};
 ghost use Rattle.jx_plan.specs.Steps.{IsTooMuch};
 ghost use Rattle.jx_plan.specs.Wanted.{MayBeWanted};
-ghost use Rattle.jx_block.specs.declared.job.Job.{Job as job_asked};
-ghost use Rattle.jx_block.specs.declared.LayerEnd.{LayerEnd};
+ghost use Rattle.jx_codeblock.specs.declared.job.Job.{Job as job_asked};
+ghost use Rattle.jx_codeblock.specs.declared.LayerEnd.{LayerEnd};
 
 use crate::counting::{check_parts, plan_headers};
 use crate::fitting::check_precincts;
 use crate::{Options, OutStream, PlanFault};
 use jx_base::{Block, Style};
-use jx_block::Job;
+use jx_codeblock::Job;
+use jx_codestream::Stream;
 use jx_layers::laws::crowds_are_told;
 use jx_layers::{LayerPlanner, StreamFacts, ask_jobs, facts_of, first_broken, first_crowded};
-use jx_stream::Stream;
 use std::alloc::Global;
 
 /// The number of layers of the rule that a planner makes of the words.

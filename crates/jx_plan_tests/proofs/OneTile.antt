@@ -11,17 +11,17 @@ use Rattle.jx_base.specs.Sound.{IsSound}
 use Rattle.jx_geom.specs.Counts.{tile_blocks}
 use Rattle.jx_geom.specs.Geometry.{rect_of_tile}
 use Rattle.jx_geom.specs.Numbering.{blocks_below}
-use Rattle.jx_stream.specs.declared.Stream.{Stream}
-use Rattle.jx_stream.specs.First.{canvas_of, tile_number}
-use Rattle.jx_stream.specs.Shapes.{geometry, shapes_of}
-use Rattle.jx_gather.specs.BlockOf.{AreBlocksOf}
-use Rattle.jx_gather.proofs.TotalLemmas.{blocks_are}
-use Rattle.jx_block.specs.declared.job.Job.{Job}
-use Rattle.jx_block.specs.Jobs.{IsAsked}
-use Rattle.jx_block.specs.Recoded.{WrittenBlock}
+use Rattle.jx_codestream.specs.declared.Stream.{Stream}
+use Rattle.jx_codestream.specs.First.{canvas_of, tile_number}
+use Rattle.jx_codestream.specs.Shapes.{geometry, shapes_of}
+use Rattle.jx_tier2_reader.specs.BlockOf.{AreBlocksOf}
+use Rattle.jx_tier2_reader.proofs.TotalLemmas.{blocks_are}
+use Rattle.jx_codeblock.specs.declared.job.Job.{Job}
+use Rattle.jx_codeblock.specs.Jobs.{IsAsked}
+use Rattle.jx_codeblock.specs.Recoded.{WrittenBlock}
 use Rattle.jx_plan.specs.Plan.{IsPlan, Plan}
-use Rattle.jx_assemble.specs.Assembled.{AreOwn}
-use Rattle.jx_assemble.specs.Tile.{AreValuesOf, block_written, first_block}
+use Rattle.jx_tier2_writer.specs.Assembled.{AreOwn}
+use Rattle.jx_tier2_writer.specs.Tile.{AreValuesOf, block_written, first_block}
 
 abbrev pub job_of : WrittenBlock → Job
 job_of r = r.job

@@ -1,22 +1,22 @@
 //! A codestream of one tile put together again.
 
 ghost use Rattle.std.specs.Prelude.{◌≡◌, ◌<◌, length, IfOk};
-ghost use Rattle.jx_stream.specs.First.{tile_number};
+ghost use Rattle.jx_codestream.specs.First.{tile_number};
 ghost use Rattle.jx_plan.specs.Plan.{MayBePlanned, headers_of};
 ghost use Rattle.jx_plan.specs.Wanted.{MayBeWanted};
-ghost use Rattle.jx_assemble.specs.Tile.{AreMade, AreValuesOf, made_in};
+ghost use Rattle.jx_tier2_writer.specs.Tile.{AreMade, AreValuesOf, made_in};
 
 use crate::checks::equal;
 use crate::hex::bytes_of;
 use crate::planned::{input, keeper};
 use crate::values::bare_values;
-use jx_assemble::{AssembleFault, TileOut, assemble_tile, main_header, main_view, pack_tile};
 use jx_base::{Block, NoMemory};
-use jx_block::Recoded;
+use jx_codeblock::Recoded;
+use jx_codestream::{MainView, Stream};
 use jx_layers::{LayerPlanner, tile_count};
 use jx_plan::{Options, OrderChoice, OutStream, PartChoice, PrecinctChoice, plan};
 use jx_store::Entry;
-use jx_stream::{MainView, Stream};
+use jx_tier2_writer::{AssembleFault, TileOut, assemble_tile, main_header, main_view, pack_tile};
 use std::alloc::{AllocError, Global};
 use std::test::Fail;
 

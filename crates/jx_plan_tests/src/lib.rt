@@ -1,5 +1,5 @@
-//! Tests of the words of command lines, of plans, and of tiles that are put together, over public calls of jx_words, jx_plan and
-//! jx_assemble, of what the program can't show; tests/tables has the others. They stand in a crate of their own: an edit here proves
+//! Tests of the words of command lines, of plans, and of tiles that are put together, over public calls of jx_cli, jx_plan and
+//! jx_tier2_writer, of what the program can't show; tests/tables has the others. They stand in a crate of their own: an edit here proves
 //! no library anew, and their check proves none once more.
 #![tactic(auto)]
 

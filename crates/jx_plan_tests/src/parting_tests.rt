@@ -1,8 +1,8 @@
 //! Lists of packets, cut into tile-parts.
 
 use crate::checks::equal;
-use jx_order::PacketName;
 use jx_plan::{PartChoice, count_parts, part_end};
+use jx_progression::PacketName;
 use std::alloc::{AllocError, Global};
 use std::process::Abort;
 use std::test::Fail;

@@ -8,13 +8,13 @@ ghost use Rattle.jx_plan.specs.Wanted.{MayBeStyle, MayBeWanted};
 
 use crate::hex::bytes_of;
 use jx_base::{Block, NoMemory, Style};
-use jx_block::Job;
-use jx_gather::gather;
+use jx_codeblock::Job;
+use jx_codestream::{Stream, Tile, read_stream};
 use jx_layers::{CutLayers, KeepLayers, LayerPlanner, OneLayer, TableLayers, tile_count};
 use jx_plan::{
     Options, OrderChoice, OutStream, PartChoice, PlanFault, PrecinctChoice, plan, plan_served,
 };
-use jx_stream::{Stream, Tile, read_stream};
+use jx_tier2_reader::gather;
 use std::alloc::{AllocError, Global};
 
 /// What is asked of a file. Nothing is marked or cut.

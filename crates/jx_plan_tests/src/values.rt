@@ -4,13 +4,13 @@ ghost use Rattle.std.specs.Prelude.{◌≡◌, map, [], IfOk};
 ghost use Rattle.std.specs.List.{All};
 ghost use Rattle.jx_base.specs.declared.pieces.Block.{Block};
 ghost use Rattle.jx_base.specs.Sound.{IsSound};
-ghost use Rattle.jx_block.specs.declared.job.Job.{Job};
-ghost use Rattle.jx_block.specs.Jobs.{IsAsked};
-ghost use Rattle.jx_block.specs.Recoded.{WrittenBlock};
-ghost use Rattle.jx_assemble.specs.Tile.{AreMade, block_written, made_in};
+ghost use Rattle.jx_codeblock.specs.declared.job.Job.{Job};
+ghost use Rattle.jx_codeblock.specs.Jobs.{IsAsked};
+ghost use Rattle.jx_codeblock.specs.Recoded.{WrittenBlock};
+ghost use Rattle.jx_tier2_writer.specs.Tile.{AreMade, block_written, made_in};
 
 use jx_base::NoMemory;
-use jx_block::{Job, Recoded, recode};
+use jx_codeblock::{Job, Recoded, recode};
 use jx_store::{Claim, Entry, Named};
 use std::alloc::Global;
 

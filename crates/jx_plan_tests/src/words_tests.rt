@@ -1,8 +1,8 @@
 //! Rows of words, and what is read of them.
 
 use crate::checks::equal;
+use jx_cli::{Request, WordsFault, read_make, read_words};
 use jx_plan::OrderChoice;
-use jx_words::{Request, WordsFault, read_make, read_words};
 use std::alloc::{AllocError, Global};
 use std::test::Fail;
 

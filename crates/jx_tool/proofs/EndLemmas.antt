@@ -1,15 +1,15 @@
 -- A run that ends before it begins, for want of memory.
 use Rattle.std.proofs.Common.{◌≡◌, ◌∙◌, ap, subst, ℕ, List, [], Option, inl, refl}
-use Rattle.jx_outside.specs.Device.{Meaning}
+use Rattle.jx_io.specs.Device.{Meaning}
 use Rattle.jx_layers.specs.declared.StreamFacts.{StreamFacts}
 use Rattle.jx_layers.specs.Rule.{Rule}
-use Rattle.jx_recast.specs.declared.status.Status.{Status}
-use Rattle.jx_recast.specs.declared.status.Status.TheVariants as status
-use Rattle.jx_recast.specs.declared.status.TapeEntry.{TapeEntry}
-use Rattle.jx_words.specs.Words.{Text}
-use Rattle.jx_recast.specs.Outcome.{number_of}
-use Rattle.jx_recast.specs.Runs.{Outcome}
-use Rattle.jx_recast.proofs.RunLemmas.{outcome_memory}
+use Rattle.jx_transcode.specs.declared.status.Status.{Status}
+use Rattle.jx_transcode.specs.declared.status.Status.TheVariants as status
+use Rattle.jx_transcode.specs.declared.status.TapeEntry.{TapeEntry}
+use Rattle.jx_cli.specs.Words.{Text}
+use Rattle.jx_transcode.specs.Outcome.{number_of}
+use Rattle.jx_transcode.specs.Runs.{Outcome}
+use Rattle.jx_transcode.proofs.RunLemmas.{outcome_memory}
 use Rattle.jx_tool.specs.Ended.{IsEnded}
 
 unbegun : (words : List Text) (rule : List ℕ → StreamFacts → Option Rule) (files : Meaning) (said : Option (List ℕ)) → Outcome words rule status.NoMemory 0 [] files files said said

@@ -3,14 +3,14 @@ use Rattle.std.specs.Prelude.{◌≡◌, ℕ, List, [], map, Option, Result, Ok,
 use Rattle.std.specs.declared.string.String.{String}
 use Rattle.std.specs.declared.vec.IntoIter.{IntoIter}
 use Rattle.std.specs.Vec.Iter.{into_iter_items}
-use Rattle.jx_outside.specs.Device.{Meaning}
+use Rattle.jx_io.specs.Device.{Meaning}
 use Rattle.jx_layers.specs.declared.StreamFacts.{StreamFacts}
 use Rattle.jx_layers.specs.Rule.{Rule}
-use Rattle.jx_recast.specs.declared.status.Status.{Status}
-use Rattle.jx_recast.specs.declared.status.TapeEntry.{TapeEntry}
-use Rattle.jx_words.specs.Words.{Text}
-use Rattle.jx_recast.specs.Outcome.{number_of}
-use Rattle.jx_recast.specs.Runs.{Outcome}
+use Rattle.jx_transcode.specs.declared.status.Status.{Status}
+use Rattle.jx_transcode.specs.declared.status.TapeEntry.{TapeEntry}
+use Rattle.jx_cli.specs.Words.{Text}
+use Rattle.jx_transcode.specs.Outcome.{number_of}
+use Rattle.jx_transcode.specs.Runs.{Outcome}
 
 -- the words that the system gives: all of them, in their order; none where one is no text
 abbrev pub words_in : {A Z E : Type 0} → Result (IntoIter (String A) Z) E → List Text

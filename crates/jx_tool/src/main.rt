@@ -6,13 +6,13 @@ ghost use Rattle.std.specs.Process.{exit_status};
 ghost use Rattle.std.specs.IoError.{error_kind};
 ghost use Rattle.std.specs.Vec.Iter.{into_iter_items};
 ghost use Rattle.jx_plan.specs.Planned.{chosen};
-ghost use Rattle.jx_words.specs.Words.{is_good, request_of};
+ghost use Rattle.jx_cli.specs.Words.{is_good, request_of};
 ghost use Rattle.jx_tool.specs.Ended.{IsEnded, words_in};
 
+use jx_io::{Files, Progress, Sink, StdFiles, StdSink, is_asked};
 use jx_layers::{CutLayers, KeepLayers, LayerPlanner, OneLayer, PlaneLayers};
-use jx_outside::{Files, Progress, Sink, StdFiles, StdSink, is_asked};
-use jx_recast::{Status, run};
-use jx_say::{Refusal, explain};
+use jx_messages::{Refusal, explain};
+use jx_transcode::{Status, run};
 use std::alloc::{AllocError, Global};
 use std::env::Args;
 use std::io::{Eprint, ErrorKind};

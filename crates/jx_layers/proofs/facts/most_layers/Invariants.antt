@@ -1,5 +1,5 @@
 use Rattle.std.proofs.Common.{◌≡◌, ◌-◌, max}
-use Rattle.jx_stream.specs.First.{tile_number}
+use Rattle.jx_codestream.specs.First.{tile_number}
 use Rattle.jx_layers.specs.Rule.{greatest}
 use Rattle.jx_layers.specs.Facts.{tile_layers}
 use Rattle.jx_layers.proofs.facts.most_layers.Given as goal

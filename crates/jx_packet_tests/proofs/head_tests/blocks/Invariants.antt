@@ -1,5 +1,5 @@
 use Rattle.std.proofs.Common.{◌≡◌, ◌+◌, drop}
-use Rattle.jx_head.specs.Precinct.{cells_in}
+use Rattle.jx_packet_header.specs.Precinct.{cells_in}
 use Rattle.jx_packet_tests.proofs.head_tests.blocks.Given as goal
 
 abbrev pub invariant-loop-cells : goal.invariant-loop-cells

@@ -1,5 +1,5 @@
 use Rattle.std.proofs.Common.{◌≡◌}
-use Rattle.jx_head.specs.Precinct.{IsState}
+use Rattle.jx_packet_header.specs.Precinct.{IsState}
 use Rattle.jx_packet_tests.proofs.head_tests.both_ways.Given as goal
 
 abbrev pub invariant-packets : goal.invariant-packets

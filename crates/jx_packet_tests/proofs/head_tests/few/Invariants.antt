@@ -1,6 +1,6 @@
 use Rattle.std.proofs.Common.{map, drop}
-use Rattle.jx_head.specs.Leafs.{leaf_of}
-use Rattle.jx_head.specs.Writable.{AllFew}
+use Rattle.jx_packet_header.specs.Leafs.{leaf_of}
+use Rattle.jx_packet_header.specs.Writable.{AllFew}
 use Rattle.jx_packet_tests.proofs.head_tests.few.Given as goal
 
 abbrev pub invariant-loop-leaf : goal.invariant-loop-leaf

@@ -1,5 +1,5 @@
 use Rattle.std.proofs.Common.{◌≡◌, ◌+◌, ◌<◌, ◌^◌, drop}
-use Rattle.jx_head.specs.Writable.{all_passes}
+use Rattle.jx_packet_header.specs.Writable.{all_passes}
 use Rattle.jx_packet_tests.proofs.head_tests.few_passes.Given as goal
 
 abbrev pub invariant-loop-part : goal.invariant-loop-part

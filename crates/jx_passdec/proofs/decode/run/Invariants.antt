@@ -1,6 +1,6 @@
 use Rattle.std.proofs.Common.{◌≡◌, ◌-◌, ◌+◌, ◌/◌}
-use Rattle.jx_grid.specs.Cells.{HasSize, AreWithin}
-use Rattle.jx_grid.specs.Reading.{coding_of, read_from}
+use Rattle.jx_tier1_specs.specs.Cells.{HasSize, AreWithin}
+use Rattle.jx_tier1_specs.specs.Reading.{coding_of, read_from}
 use Rattle.jx_passdec.specs.Short.{AreShort}
 use Rattle.jx_passdec.proofs.decode.run.Given as goal
 

@@ -1,7 +1,7 @@
 use Rattle.std.proofs.Common.{[], ◌∙◌, ap, sym}
 use Rattle.jx_base.specs.MqTable.{mq_fresh}
-use Rattle.jx_grid.specs.Reading.{coding_of}
-use Rattle.jx_grid.specs.Needs.{needs}
+use Rattle.jx_tier1_specs.specs.Reading.{coding_of}
+use Rattle.jx_tier1_specs.specs.Needs.{needs}
 use Rattle.jx_passenc.specs.Encoding.{Encoding}
 use Rattle.jx_passenc.proofs.SegmentLemmas.{segments_finished}
 use Rattle.jx_passenc.proofs.encode.encode_passes.Goals as goal

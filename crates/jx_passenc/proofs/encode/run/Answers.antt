@@ -1,8 +1,8 @@
 use Rattle.std.proofs.Common.{◌-◌, ◌+◌, ◌/◌, ◌++◌, ◌==◌, ◌∙◌, ap, sym, arith, Bool, ℕ}
-use Rattle.jx_grid.specs.Cells.{Cells}
-use Rattle.jx_grid.specs.Reading.{Coding, coding_of}
-use Rattle.jx_grid.specs.Needs.{needs_from}
-use Rattle.jx_grid.proofs.Places.{within_more}
+use Rattle.jx_tier1_specs.specs.Cells.{Cells}
+use Rattle.jx_tier1_specs.specs.Reading.{Coding, coding_of}
+use Rattle.jx_tier1_specs.specs.Needs.{needs_from}
+use Rattle.jx_tier1_specs.proofs.Places.{within_more}
 use Rattle.jx_passenc.specs.Writing.{finished_from}
 use Rattle.jx_passenc.specs.Encoding.{Encoding}
 use Rattle.jx_passenc.proofs.WroteLemmas.{step_more, step_end, step_kind, step_target}

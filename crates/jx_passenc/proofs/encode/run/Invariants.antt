@@ -1,8 +1,8 @@
 use Rattle.std.proofs.Common.{◌≡◌, ◌-◌, ◌+◌, ◌/◌, ◌++◌}
 use Rattle.jx_base.specs.Passes.{raw_pass}
-use Rattle.jx_grid.specs.Cells.{HasSize, AreWithin}
-use Rattle.jx_grid.specs.Reading.{coding_of}
-use Rattle.jx_grid.specs.Needs.{needs_from}
+use Rattle.jx_tier1_specs.specs.Cells.{HasSize, AreWithin}
+use Rattle.jx_tier1_specs.specs.Reading.{coding_of}
+use Rattle.jx_tier1_specs.specs.Needs.{needs_from}
 use Rattle.jx_passenc.specs.Writing.{finished_from}
 use Rattle.jx_passenc.proofs.encode.run.Given as goal
 

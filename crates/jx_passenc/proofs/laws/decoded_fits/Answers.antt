@@ -1,7 +1,7 @@
 use Rattle.std.proofs.Common.{◌∙◌, ap, arith, ℕ, refl}
-use Rattle.jx_grid.specs.Cells.{Cells}
-use Rattle.jx_grid.specs.Reading.{zeros, decoded}
-use Rattle.jx_grid.specs.Needs.{followed_from}
+use Rattle.jx_tier1_specs.specs.Cells.{Cells}
+use Rattle.jx_tier1_specs.specs.Reading.{zeros, decoded}
+use Rattle.jx_tier1_specs.specs.Needs.{followed_from}
 use Rattle.jx_passenc.proofs.PassBackLemmas.{refollowed}
 use Rattle.jx_passenc.proofs.laws.decoded_fits.Goals as goal
 

@@ -1,7 +1,7 @@
 use Rattle.std.proofs.Common.{◌≡◌, ◌∙◌, subst, ℕ, List}
-use Rattle.jx_grid.specs.Cells.{Cells}
-use Rattle.jx_grid.specs.Reading.{zeros, decoded}
-use Rattle.jx_grid.specs.Needs.{followed_from, written}
+use Rattle.jx_tier1_specs.specs.Cells.{Cells}
+use Rattle.jx_tier1_specs.specs.Reading.{zeros, decoded}
+use Rattle.jx_tier1_specs.specs.Needs.{followed_from, written}
 use Rattle.jx_passenc.proofs.laws.recoding_keeps_whole_planes.Goals as goal
 
 pub returns : goal.returns

@@ -1,7 +1,7 @@
 use Rattle.std.proofs.Common.{◌∙◌, ap, arith, ℕ}
-use Rattle.jx_grid.specs.Cells.{Cells}
-use Rattle.jx_grid.specs.Reading.{zeros, decoded}
-use Rattle.jx_grid.specs.Needs.{followed_from}
+use Rattle.jx_tier1_specs.specs.Cells.{Cells}
+use Rattle.jx_tier1_specs.specs.Reading.{zeros, decoded}
+use Rattle.jx_tier1_specs.specs.Needs.{followed_from}
 use Rattle.jx_passenc.proofs.WholeLemmas.{made_again}
 use Rattle.jx_passenc.proofs.laws.whole_planes_fit.Goals as goal
 

@@ -1,5 +1,5 @@
 use Rattle.std.proofs.Common.{◌∙◌, arith}
-use Rattle.jx_grid.specs.Reading.{decoded}
+use Rattle.jx_tier1_specs.specs.Reading.{decoded}
 use Rattle.jx_passenc.proofs.GivesLemmas.{AreInverse}
 use Rattle.jx_passenc.proofs.BackLemmas.{all_read}
 use Rattle.jx_passenc.proofs.laws.written_is_read_back.Goals as goal

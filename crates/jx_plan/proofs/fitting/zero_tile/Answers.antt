@@ -1,5 +1,5 @@
 use Rattle.std.proofs.Common.{rules, ◌≡◌, ◌<◌, ◌≤◌, Some, length, true, arith}
-use Rattle.jx_stream.specs.Shapes.{no_tile}
+use Rattle.jx_codestream.specs.Shapes.{no_tile}
 use Rattle.jx_plan.specs.Fits.{tile_has_zero}
 use Rattle.jx_plan.proofs.FitLemmas.{no_place, place_at}
 use Rattle.jx_plan.proofs.fitting.zero_tile.Goals as goal

@@ -1,5 +1,5 @@
 use Rattle.std.proofs.Common.{◌≡◌, ◌<◌, ℕ, false, Some, slice_index_or}
-use Rattle.jx_stream.specs.Shapes.{no_tile}
+use Rattle.jx_codestream.specs.Shapes.{no_tile}
 use Rattle.jx_plan.specs.Fits.{tile_has_zero}
 use Rattle.jx_plan.proofs.fitting.zero_tile.Given as goal
 

@@ -1,5 +1,5 @@
 use Rattle.std.proofs.Common.{◌≡◌, drop}
-use Rattle.jx_stream.specs.Tiles.{in_slot}
+use Rattle.jx_codestream.specs.Tiles.{in_slot}
 use Rattle.jx_plan.proofs.headers.cod_entry.Given as goal
 
 abbrev pub invariant-loop-segment : goal.invariant-loop-segment

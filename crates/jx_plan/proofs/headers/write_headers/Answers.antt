@@ -1,7 +1,7 @@
 use Rattle.std.proofs.Common.{◌≡◌, ◌++◌, ◌∙◌, List, ap, map, sym}
 use Rattle.jx_marker.specs.declared.Segment.{Segment}
-use Rattle.jx_stream.specs.declared.Tile.{Tile}
-use Rattle.jx_stream.specs.Tiles.{entry_in, in_slot}
+use Rattle.jx_codestream.specs.declared.Tile.{Tile}
+use Rattle.jx_codestream.specs.Tiles.{entry_in, in_slot}
 use Rattle.jx_plan.specs.Headers.{all_written, tile_over}
 use Rattle.jx_plan.proofs.WrittenLemmas.{stream_is}
 use Rattle.jx_plan.proofs.headers.write_headers.Goals as goal

@@ -2,10 +2,10 @@ use Rattle.std.proofs.Common.{◌∙◌, ◌≤◌, ◌^◌, List, ap, length, s
 use Rattle.jx_geom.specs.declared.shape.Canvas.{Canvas}
 use Rattle.jx_geom.specs.declared.shape.CompShape.{CompShape}
 use Rattle.jx_geom.specs.Geometry.{WithinLimits}
-use Rattle.jx_stream.specs.First.{canvas_of}
-use Rattle.jx_stream.specs.Shapes.{shapes_in, shapes_of}
-use Rattle.jx_stream.specs.TileHeaders.{TileHeaders}
-use Rattle.jx_gather.proofs.TotalLemmas.{few_shapes, tile_within}
+use Rattle.jx_codestream.specs.First.{canvas_of}
+use Rattle.jx_codestream.specs.Shapes.{shapes_in, shapes_of}
+use Rattle.jx_codestream.specs.TileHeaders.{TileHeaders}
+use Rattle.jx_tier2_reader.proofs.TotalLemmas.{few_shapes, tile_within}
 use Rattle.jx_plan.proofs.parting.geometry_of.Goals as goal
 
 pub new-requires-clause-limits : goal.new-requires-clause-limits

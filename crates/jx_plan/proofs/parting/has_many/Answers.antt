@@ -1,7 +1,7 @@
 use Rattle.std.proofs.Common.{◌≡◌, ◌∙◌, ap, length, subst, List, ℕ}
 use Rattle.jx_geom.specs.Geometry.{Geometry}
-use Rattle.jx_order.specs.declared.names.PacketName.{PacketName}
-use Rattle.jx_gather.specs.Gathered.{IsListOf}
+use Rattle.jx_progression.specs.declared.names.PacketName.{PacketName}
+use Rattle.jx_tier2_reader.specs.Gathered.{IsListOf}
 use Rattle.jx_plan.specs.Groups.{groups_of}
 use Rattle.jx_plan.proofs.PartedLemmas.{few_by, not_over}
 use Rattle.jx_plan.proofs.parting.has_many.Goals as goal

@@ -1,10 +1,10 @@
 use Rattle.std.proofs.Common.{◌≡◌, ◌≤◌, ◌*◌, ◌∙◌, ℕ, length, ap, subst, arith, All}
 use Rattle.jx_geom.specs.Counts.{tile_precincts}
 use Rattle.jx_geom.specs.Geometry.{Geometry, rect_of_tile}
-use Rattle.jx_order.specs.Packets.{IsPacket}
-use Rattle.jx_stream.specs.Shapes.{layers_in, layers_of}
-use Rattle.jx_stream.specs.TileHeaders.{TileHeaders}
-use Rattle.jx_gather.specs.Totals.{tile_packets}
+use Rattle.jx_progression.specs.Packets.{IsPacket}
+use Rattle.jx_codestream.specs.Shapes.{layers_in, layers_of}
+use Rattle.jx_codestream.specs.TileHeaders.{TileHeaders}
+use Rattle.jx_tier2_reader.specs.Totals.{tile_packets}
 use Rattle.jx_plan.proofs.ListedLemmas.{All-contained, few_names, packets_few}
 use Rattle.jx_plan.proofs.parting.names_of.Goals as goal
 

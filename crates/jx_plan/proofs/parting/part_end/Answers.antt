@@ -1,5 +1,5 @@
 use Rattle.std.proofs.Common.{◌≡◌, arith, drop, length}
-use Rattle.jx_order.specs.declared.names.PacketName.{PacketName}
+use Rattle.jx_progression.specs.declared.names.PacketName.{PacketName}
 use Rattle.jx_plan.proofs.GroupLemmas.{part_is, run_none, run_of, run_stops}
 use Rattle.jx_plan.proofs.parting.part_end.Goals as goal
 

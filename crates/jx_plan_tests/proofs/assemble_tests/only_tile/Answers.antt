@@ -1,8 +1,8 @@
 use Rattle.std.proofs.Common.{◌∙◌, List, All, subst, sym}
-use Rattle.jx_block.specs.declared.job.Job.{Job}
-use Rattle.jx_block.specs.Jobs.{IsAsked}
-use Rattle.jx_assemble.specs.Tile.{AreValuesOf, made_in}
-use Rattle.jx_assemble.proofs.EntryLemmas.{Entry}
+use Rattle.jx_codeblock.specs.declared.job.Job.{Job}
+use Rattle.jx_codeblock.specs.Jobs.{IsAsked}
+use Rattle.jx_tier2_writer.specs.Tile.{AreValuesOf, made_in}
+use Rattle.jx_tier2_writer.proofs.EntryLemmas.{Entry}
 use Rattle.jx_plan_tests.proofs.OneTile.{all_asked, bare_values}
 use Rattle.jx_plan_tests.proofs.assemble_tests.only_tile.Goals as goal
 

@@ -1,9 +1,9 @@
 use Rattle.std.proofs.Common.{◌≡◌, List, ◌∷◌, [], ◌++◌, subst, sym}
 use Rattle.std.proofs.lemmas.List.Elements.{All-push}
 use Rattle.jx_base.specs.Sound.{IsSound}
-use Rattle.jx_block.specs.Recoded.{WrittenBlock}
-use Rattle.jx_assemble.specs.Tile.{AreMade, IsMade, made_in}
-use Rattle.jx_assemble.proofs.EntryLemmas.{Entry, is_made, made_more}
+use Rattle.jx_codeblock.specs.Recoded.{WrittenBlock}
+use Rattle.jx_tier2_writer.specs.Tile.{AreMade, IsMade, made_in}
+use Rattle.jx_tier2_writer.proofs.EntryLemmas.{Entry, is_made, made_more}
 use Rattle.jx_plan_tests.proofs.OneTile.{IsBare, bare_next, jobs_next}
 use Rattle.jx_plan_tests.proofs.values.bare_values.Goals as goal
 

@@ -1,6 +1,6 @@
 use Rattle.std.proofs.Common.{◌≡◌, ◌++◌, All, map, drop}
 use Rattle.jx_base.specs.Sound.{IsSound}
-use Rattle.jx_assemble.specs.Tile.{AreMade, block_written, made_in}
+use Rattle.jx_tier2_writer.specs.Tile.{AreMade, block_written, made_in}
 use Rattle.jx_plan_tests.proofs.OneTile.{IsBare, job_of}
 use Rattle.jx_plan_tests.proofs.values.bare_values.Given as goal
 

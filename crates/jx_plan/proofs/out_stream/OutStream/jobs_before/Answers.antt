@@ -1,8 +1,8 @@
 use Rattle.std.proofs.Common.{ℕ, List, arith, subst, sym}
-use Rattle.jx_block.specs.declared.job.Job.{Job}
+use Rattle.jx_codeblock.specs.declared.job.Job.{Job}
 use Rattle.jx_geom.specs.Numbering.{blocks_below}
-use Rattle.jx_stream.specs.First.{canvas_of}
-use Rattle.jx_stream.specs.Shapes.{shapes_of}
+use Rattle.jx_codestream.specs.First.{canvas_of}
+use Rattle.jx_codestream.specs.Shapes.{shapes_of}
 use Rattle.jx_plan.specs.TileJobs.{AreJobsBelow}
 use Rattle.jx_plan.proofs.TileJobLemmas.{few_below, jobs_below}
 use Rattle.jx_plan.proofs.out_stream.OutStream.jobs_before.Goals as goal

@@ -1,8 +1,0 @@
-use Rattle.jx_assemble.proofs.HeldLemmas.{segments_few, segments_range}
-use Rattle.jx_assemble.proofs.laws.lengths_fit.Goals as goal
-
-pub returns-clause-few : goal.returns-clause-few
-returns-clause-few c = segments_few
-
-pub returns-clause-range : goal.returns-clause-range
-returns-clause-range c = segments_range

@@ -1,5 +1,0 @@
-use Rattle.jx_assemble.proofs.FewLemmas.{few_packets}
-use Rattle.jx_assemble.proofs.laws.tile_has_few_packets.Goals as goal
-
-pub returns : goal.returns
-returns c = few_packets

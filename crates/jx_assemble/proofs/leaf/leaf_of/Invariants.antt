@@ -1,6 +1,0 @@
-use Rattle.std.proofs.Common.{◌≡◌, ◌++◌, map, drop}
-use Rattle.jx_assemble.specs.Leaves.{part_at}
-use Rattle.jx_assemble.proofs.leaf.leaf_of.Given as goal
-
-abbrev pub invariant-loop-part : goal.invariant-loop-part
-invariant-loop-part g l = l.parts.items ++ map (part_at l.leaf) (drop l.part-index l.list) ≡ map (part_at l.leaf) l.list

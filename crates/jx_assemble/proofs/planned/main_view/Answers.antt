@@ -1,5 +1,0 @@
-use Rattle.jx_plan.specs.Wanted.{marks_of}
-use Rattle.jx_assemble.proofs.planned.main_view.Goals as goal
-
-pub main_view-requires : goal.main_view-requires
-main_view-requires c = c.ready_is_in_range.ensures.stream (marks_of c.args.plan.now.wanted) c.ready_headers.result.now c.ready_headers.ensures.ready

@@ -1,6 +1,0 @@
-use Rattle.std.proofs.Common.{◌≡◌, ℕ, [], length}
-use Rattle.jx_assemble.specs.Sent.{row_at, rows_of}
-use Rattle.jx_assemble.proofs.sending.empty_rows.Given as goal
-
-abbrev pub invariant-loop : goal.invariant-loop
-invariant-loop l = (length l.rows.items ≡ l.counter) × ((n : ℕ) → row_at (rows_of l.rows.items) n ≡ [])

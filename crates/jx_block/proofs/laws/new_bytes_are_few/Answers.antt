@@ -1,5 +1,0 @@
-use Rattle.jx_block.proofs.LengthLemmas.{anew_bytes}
-use Rattle.jx_block.proofs.laws.new_bytes_are_few.Goals as goal
-
-pub returns : goal.returns
-returns c b style ends r asked e = anew_bytes b style ends r asked e

@@ -1,0 +1,94 @@
+-- What is asked may be wanted.
+use Rattle.std.proofs.Common.{◌≡◌, ◌<◌, ◌≤◌, ◌⊎◌, subst, sym, drop, refl, arith, ℕ, List, [], Option, None, Some, IfSome, inl, inr, unwrap_or}
+use Rattle.std.specs.Option.{option_map, option_or}
+use Rattle.std.proofs.lemmas.List.Elements.{All-nil}
+use Rattle.jx_marker.specs.Ranges.{AreBytes}
+use Rattle.jx_base.specs.declared.style.Style.{Style}
+use Rattle.jx_plan.specs.Wanted.{MayBeStyle, MayBeWanted}
+use Rattle.jx_cli.specs.Values.{ArePrecincts, order_said, orders, precincts_in, precincts_said, style_said, value_in, whole_choices}
+use Rattle.jx_cli.specs.Words.{Given, MayBeAsked, MayBeWork, given_in, request_by, request_of, wanted_by, work_by}
+use Rattle.jx_cli.proofs.SpellLemmas.{precincts_read}
+use Rattle.jx_cli.proofs.StyleLemmas.{IsGood, style_good}
+use Rattle.jx_cli.proofs.ValueLemmas.{found}
+use Rattle.jx_base.specs.Texts.{number_in}
+use Rattle.jx_base.proofs.Texts.{number_read}
+
+-- ---- values that are said, or their defaults
+else_none : {X : Type 0} (P : X → Type 0) (o : Option (Option X)) → IfSome o (λ v. IfSome v P) → IfSome (unwrap_or o None) P
+else_none P None all = tt
+else_none P (Some v) all = all
+
+order_few : (text : List ℕ) → IfSome (unwrap_or (order_said text) None) (λ order. order ≤ 4)
+order_few text = else_none (λ order. order ≤ 4) (order_said text) (found (λ v. IfSome v (λ order. order ≤ 4)) orders text (tt, (omega arith, (omega arith, (omega arith, (omega arith, (omega arith, tt)))))))
+
+-- no bytes, or those of 1 to 33 resolutions
+abbrev ArePerhaps : List ℕ → Type 0
+ArePerhaps bytes = (bytes ≡ []) ⊎ ArePrecincts bytes
+
+precincts_few : (text : List ℕ) → IfSome (precincts_said text) (λ v. IfSome v ArePerhaps)
+precincts_few text = by (value_in whole_choices text) (found (λ v. IfSome v ArePerhaps) whole_choices text (tt, (inl refl, tt))) (precincts_in text) refl
+  where
+    spelled : (o : Option (List ℕ)) → precincts_in text ≡ o → IfSome (option_map Some o) (λ v. IfSome v ArePerhaps)
+    spelled None is = tt
+    spelled (Some bytes) is = inr (precincts_read text bytes is).0
+
+    by : (listed : Option (Option (List ℕ))) → IfSome listed (λ v. IfSome v ArePerhaps) → (o : Option (List ℕ)) → precincts_in text ≡ o → IfSome (option_or listed (option_map Some o)) (λ v. IfSome v ArePerhaps)
+    by None all o is = spelled o is
+    by (Some v) all o is = all
+
+precincts_asked : (text : List ℕ) → IfSome (unwrap_or (precincts_said text) None) ArePerhaps
+precincts_asked text = else_none ArePerhaps (precincts_said text) (precincts_few text)
+
+are_bytes : (o : Option (List ℕ)) → IfSome o ArePerhaps → IfSome o AreBytes
+are_bytes None may = tt
+are_bytes (Some bytes) (inl none) = subst AreBytes (sym none) (All-nil (λ b. b < 256))
+are_bytes (Some bytes) (inr are) = are.each
+
+style_few : (text : List ℕ) → IfSome (unwrap_or (style_said text) None) MayBeStyle
+style_few text = else_none MayBeStyle (style_said text) (by (style_said text) (style_good text))
+  where
+    by : (o : Option (Option Style)) → IfSome o (λ v. IfSome v (IsGood text)) → IfSome o (λ v. IfSome v MayBeStyle)
+    by None good = tt
+    by (Some None) good = tt
+    by (Some (Some style)) good = good.0
+
+pub given_may_be : (g : Given) → MayBeWanted (wanted_by g)
+unfolding wanted_by
+given_may_be g = record { order = order_few g.order; bytes = are_bytes (unwrap_or (precincts_said g.precincts) None) (precincts_asked g.precincts); style = style_few g.style }
+
+-- a number that is said, or the default
+abbrev IsWithin : ℕ → ℕ → Type 0
+IsWithin most n = (1 ≤ n) × (n ≤ most)
+
+number_within : (most default : ℕ) (text : List ℕ) → IsWithin most default → IsWithin most (unwrap_or (number_in most text) default)
+number_within most default text may = by (number_in most text) refl
+  where
+    by : (o : Option ℕ) → number_in most text ≡ o → IsWithin most (unwrap_or o default)
+    by None is = may
+    by (Some n) is =
+        let read = number_read most n text is in
+        (read.0, read.1)
+
+pub work_may_be : (g : Given) → MayBeWork (work_by g)
+unfolding work_by
+work_may_be g =
+    let threads = number_within 64 1 g.threads (omega arith, omega arith) in
+    let window = number_within 1024 64 g.window (omega arith, omega arith) in
+    let most = number_within 268435456 268435456 g.window_bytes (omega arith, omega arith) in
+    record { some_threads = threads.0; few_threads = threads.1; some_window = window.0; few_window = window.1; some_most = most.0; few_most = most.1 }
+
+pub may_be_wanted : (words : List (List ℕ)) → MayBeWanted (request_of words).wanted
+unfolding request_of
+may_be_wanted words = given_may_be _
+
+pub may_be_work : (words : List (List ℕ)) → MayBeWork (request_of words).work
+unfolding request_of
+may_be_work words = work_may_be _
+
+request_asked : (g : Given) → MayBeAsked (request_by g)
+unfolding wanted_by
+request_asked g = record { order = order_few g.order; precincts = precincts_asked g.precincts; style = style_few g.style; work = work_may_be g }
+
+pub asked : (words : List (List ℕ)) → MayBeAsked (request_of words)
+unfolding request_of
+asked words = request_asked (given_in (drop 1 words))

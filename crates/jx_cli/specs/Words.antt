@@ -1,0 +1,143 @@
+-- What the words of the command line ask for.
+use Rattle.std.specs.Prelude.{◌≡◌, ◌≤◌, ◌^◌, ◌⊎◌, IfSome, true, ℕ, ◌&&◌, Bool, List, [], length, drop, slice_index_or, codes, eqb, Option, is_some, None, unwrap_or}
+use Rattle.std.specs.Str.{bytes_eq}
+use Rattle.clap.specs.Words.{fault_of, first_of, matches_of}
+use Rattle.jx_plan.specs.Wanted.{MayBeStyle, Wanted}
+use Rattle.jx_plan.specs.declared.PartChoice.TheVariants as parts
+use Rattle.jx_cli.specs.Command.{transcode}
+use Rattle.jx_cli.specs.Values.{ArePrecincts, bytes_said, order_said, parts_said, precincts_said, style_said, threads_said, window_said}
+
+-- the bytes of a word
+abbrev pub Text : Type 0
+Text = List ℕ
+
+-- how the work is done: so many workers recode blocks; so many blocks may stand between claim and sequence; and so many bytes
+-- the pieces of several such blocks may have together
+pub record Work : Type 0 where
+  pub threads : ℕ
+  pub window : ℕ
+  pub most : ℕ
+
+-- work that words can ask for
+pub record MayBeWork (w : Work) : Type 0 where
+  pub some_threads : 1 ≤ w.threads
+  pub few_threads : w.threads ≤ 64
+  pub some_window : 1 ≤ w.window
+  pub few_window : w.window ≤ 1024
+  pub some_most : 1 ≤ w.most
+  pub few_most : w.most ≤ 2 ^ 28
+
+-- the input's name and the output's, how the codestream is to be written, and how the work is done
+pub record Request : Type 0 where
+  pub from : Text
+  pub to : Text
+  pub wanted : Wanted
+  pub work : Work
+
+-- what clap finds in the words from the command's name on, with the values of options that aren't among them
+pub record Given : Type 0 where
+  pub from : Text
+  pub to : Text
+  pub order : Text
+  pub precincts : Text
+  pub layers : Text
+  pub style : Text
+  pub parts : Text
+  pub sop : Bool
+  pub eph : Bool
+  pub plt : Bool
+  pub threads : Text
+  pub window : Text
+  pub window_bytes : Text
+
+-- the text that stands under a name, else a default
+abbrev pub text_of : (Text → Option Text) → Text → Text → Text
+text_of found name default = unwrap_or (found name) default
+
+-- clap gives a flag the text `true` where it is among the words
+abbrev pub flag_of : (Text → Option Text) → Text → Bool
+flag_of found name = bytes_eq (text_of found name (codes "false")) (codes "true")
+
+-- clap refuses words without `in` and `out`
+unfoldable pub given_by : (Text → Option Text) → Given
+given_by found = record {
+  from = text_of found (codes "in") [];
+  to = text_of found (codes "out") [];
+  order = text_of found (codes "order") (codes "keep");
+  precincts = text_of found (codes "precincts") (codes "keep");
+  layers = text_of found (codes "layers") (codes "keep");
+  style = text_of found (codes "style") (codes "keep");
+  parts = text_of found (codes "tile-parts") (codes "none");
+  sop = flag_of found (codes "sop");
+  eph = flag_of found (codes "eph");
+  plt = flag_of found (codes "plt");
+  threads = text_of found (codes "threads") (codes "1");
+  window = text_of found (codes "window") (codes "64");
+  window_bytes = text_of found (codes "window-bytes") (codes "268435456");
+}
+
+-- the text that clap finds under a name
+abbrev pub found_in : List Text → Text → Option Text
+found_in words name = first_of name (matches_of transcode words)
+
+abbrev pub given_in : List Text → Given
+given_in words = given_by (found_in words)
+
+-- the values that say how the work is done
+abbrev pub is_work : Given → Bool
+is_work g = is_some (threads_said g.threads) && (is_some (window_said g.window) && is_some (bytes_said g.window_bytes))
+
+-- each value is one of its option's
+unfoldable pub are_values : Given → Bool
+are_values g = is_some (order_said g.order) && (is_some (precincts_said g.precincts) && (is_some (parts_said g.parts) && (is_some (style_said g.style) && is_work g)))
+
+unfoldable pub wanted_by : Given → Wanted
+wanted_by g = record {
+  order = unwrap_or (order_said g.order) None;
+  precincts = unwrap_or (precincts_said g.precincts) None;
+  style = unwrap_or (style_said g.style) None;
+  layers = g.layers;
+  parts = unwrap_or (parts_said g.parts) parts.None;
+  sop = g.sop;
+  eph = g.eph;
+  plt = g.plt;
+}
+
+unfoldable pub work_by : Given → Work
+work_by g = record {
+  threads = unwrap_or (threads_said g.threads) 1;
+  window = unwrap_or (window_said g.window) 64;
+  most = unwrap_or (bytes_said g.window_bytes) 268435456;
+}
+
+abbrev pub request_by : Given → Request
+request_by g = record { from = g.from; to = g.to; wanted = wanted_by g; work = work_by g }
+
+abbrev pub names_command : List Text → Bool
+names_command words = bytes_eq (slice_index_or words 1 []) (codes "transcode")
+
+-- clap refuses none of the words from the command's name on
+abbrev pub are_taken : List Text → Bool
+are_taken words = eqb (length (fault_of transcode words)) 0
+
+-- the words are the program's name, the command's, and words that clap takes, with values that are their options'
+unfoldable pub is_good : List Text → Bool
+is_good words = names_command words && (are_taken (drop 1 words) && are_values (given_in (drop 1 words)))
+
+-- what good words ask for
+unfoldable pub request_of : List Text → Request
+request_of words = request_by (given_in (drop 1 words))
+
+-- a request that words can make: by one of the five orders, with the precincts of 1 to 33 resolutions and a style of five bits; the words
+-- for the planners of layers are any text
+pub record MayBeAsked (r : Request) : Type 0 where
+  pub order : IfSome r.wanted.order (λ order. order ≤ 4)
+  pub precincts : IfSome r.wanted.precincts (λ bytes. (bytes ≡ []) ⊎ ArePrecincts bytes)
+  pub style : IfSome r.wanted.style MayBeStyle
+  pub work : MayBeWork r.work
+
+-- good words that make a request
+pub record Asks (r : Request) : Type 0 where
+  pub words : List Text
+  pub good : is_good words ≡ true
+  pub made : request_of words ≡ r

@@ -1,0 +1,102 @@
+//! The words of the command lines `jx transcode` and `jx make`, read with clap.
+#![tactic(auto)]
+
+ghost use Rattle.std.specs.Prelude.{◌≡◌};
+
+mod command;
+mod given;
+pub mod laws;
+mod make;
+mod numbers;
+mod parts;
+mod precincts;
+mod reading;
+mod styles;
+mod values;
+
+use jx_plan::Options;
+pub use make::{Make, read_make};
+pub use reading::read_words;
+use std::marker::Model;
+
+/// How the work is done.
+#[derive(Clone, Copy, Debug)]
+pub struct Work {
+    /// How many workers recode blocks, 1 to 64.
+    pub threads: u32,
+    /// How many blocks may stand between claim and sequence, 1 to 1,024.
+    pub window: u32,
+    /// How many bytes the pieces of several such blocks may have together, 1 to 2^28.
+    pub most: u32,
+}
+
+impl Model for Work {
+    ghost use Rattle.jx_cli.specs.Words.{Work};
+
+    ghost Value = { Work };
+
+    ghost view = { λ w. record { threads = w.threads; window = w.window; most = w.most } };
+
+    ghost inverse = { λ w. record { threads = w.threads; window = w.window; most = w.most } };
+}
+
+/// What good words ask for.
+#[derive(Drop)]
+pub struct Request {
+    /// The name of the input.
+    pub from: String,
+    /// The name of the output.
+    pub to: String,
+    /// How the codestream is to be written.
+    pub options: Options,
+    /// How the work is done.
+    pub work: Work,
+}
+
+impl Model for Request {
+    ghost use Rattle.std.specs.String.{string_bytes};
+    ghost use Rattle.jx_cli.specs.Words.{Request};
+
+    ghost Value = { Request };
+
+    ghost view = { λ r. record { from = string_bytes r.from; to = string_bytes r.to; wanted = r.options; work = r.work } };
+}
+
+impl Request {
+    /// The name of the input.
+    pub fn from(&self) -> &str
+        ensures { result.now ≡ self.now.from }
+    {
+        self.from.as_str()
+    }
+
+    /// The name of the output.
+    pub fn to(&self) -> &str
+        ensures { result.now ≡ self.now.to }
+    {
+        self.to.as_str()
+    }
+
+    /// How the codestream is to be written.
+    pub fn options(&self) -> &Options
+        ensures { result.now ≡ self.now.wanted }
+    {
+        &self.options
+    }
+
+    /// How the work is done.
+    pub fn work(&self) -> Work
+        ensures { result ≡ self.now.work }
+    {
+        self.work
+    }
+}
+
+/// Why words aren't read.
+#[derive(Clone, Copy, Debug, PartialEq, Eq)]
+pub enum WordsFault {
+    /// They aren't good words.
+    Words,
+    /// There was no memory.
+    NoMemory,
+}

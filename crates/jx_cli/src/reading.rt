@@ -1,0 +1,138 @@
+//! The request that words make.
+
+ghost use Rattle.std.specs.Prelude.{◌≡◌, ◌≤◌, true, false, IfOk, IfSome, None, Err, length, map, string_bytes};
+ghost use Rattle.jx_plan.specs.Choices.{bytes_in, order_in};
+ghost use Rattle.jx_plan.specs.Wanted.{MayBeWanted};
+ghost use Rattle.jx_cli.specs.Words.{MayBeWork, are_values, is_good, is_work, names_command, request_by, request_of, work_by};
+
+use crate::given::{Given, given_in};
+use crate::numbers::number_in;
+use crate::values::{order_said, parts_said, precincts_said, style_said};
+use crate::{Request, WordsFault, Work};
+use jx_base::{NoMemory, Style};
+use jx_plan::{Options, OrderChoice, PartChoice, PrecinctChoice};
+use std::alloc::Global;
+
+/// How the work is to be done.
+#[tactic(auto, unfolding(crate::specs::Words::work_by))]
+fn work_by(given: &Given<'_>) -> Option<Work>
+    ensures some { IfSome result (λ w. (is_work given.now ≡ true) × (w ≡ work_by given.now)) }
+    ensures none { result ≡ None → is_work given.now ≡ false }
+{
+    let threads = number_in(64, given.threads)?;
+    let window = number_in(1_024, given.window)?;
+    let most = number_in(268_435_456, given.window_bytes)?;
+    Some(Work {
+        threads,
+        window,
+        most,
+    })
+}
+
+/// The request with these values.
+fn made(
+    alloc: Global,
+    given: &Given<'_>,
+    order: OrderChoice,
+    precincts: PrecinctChoice,
+    parts: PartChoice,
+    style: Option<Style>,
+    work: Work,
+) -> Result<Request, NoMemory>
+    ensures { IfOk result (λ r. r ≡ record {
+      from = given.now.from;
+      to = given.now.to;
+      wanted = record {
+        order = order_in order;
+        precincts = bytes_in precincts;
+        style = style;
+        layers = given.now.layers;
+        parts = parts;
+        sop = given.now.sop;
+        eph = given.now.eph;
+        plt = given.now.plt;
+      };
+      work = work;
+    }) }
+{
+    Ok(Request {
+        from: String::from_str(alloc, given.from)?,
+        to: String::from_str(alloc, given.to)?,
+        options: Options {
+            order,
+            precincts,
+            style,
+            layers: String::from_str(alloc, given.layers)?,
+            parts,
+            sop: given.sop,
+            eph: given.eph,
+            plt: given.plt,
+        },
+        work,
+    })
+}
+
+/// The request that is made by what was given.
+#[tactic(auto, unfolding(crate::specs::Words::are_values, crate::specs::Words::wanted_by))]
+fn request_by(alloc: Global, given: &Given<'_>) -> Result<Request, WordsFault>
+    ensures good { IfOk result (λ _. are_values given.now ≡ true) }
+    ensures value { IfOk result (λ r. r ≡ request_by given.now) }
+    ensures words { result ≡ Err WordsFault.Words → are_values given.now ≡ false }
+{
+    let Some(order) = order_said(given.order) else {
+        return Err(WordsFault::Words);
+    };
+    let Some(parts) = parts_said(given.parts) else {
+        return Err(WordsFault::Words);
+    };
+    let Some(style) = style_said(given.style) else {
+        return Err(WordsFault::Words);
+    };
+    let Some(work) = work_by(given) else {
+        return Err(WordsFault::Words);
+    };
+    let precincts = match precincts_said(alloc, given.precincts) {
+        Ok(Some(precincts)) => precincts,
+        Ok(None) => return Err(WordsFault::Words),
+        Err(NoMemory) => return Err(WordsFault::NoMemory),
+    };
+    match made(alloc, given, order, precincts, parts, style, work) {
+        Ok(request) => Ok(request),
+        Err(NoMemory) => Err(WordsFault::NoMemory),
+    }
+}
+
+/// Whether the second word is the command's name.
+fn names_command(words: &[String]) -> bool
+    ensures names { result ≡ names_command (map string_bytes words.now) }
+    ensures there { result ≡ true → 2 ≤ length words.now }
+{
+    if words.len() < 2 {
+        return false;
+    }
+    words[1].as_str() == "transcode"
+}
+
+/// Reads the words of the command line, the program's name among them.
+///
+/// They name the command `transcode`, and clap reads the words behind it: the names of the input and the output, and the options
+/// of which the values are checked here.
+///
+/// # Errors
+/// `Words` where they aren't good words, `NoMemory` where there was no memory.
+#[tactic(auto, unfolding(crate::specs::Words::is_good, crate::specs::Words::request_of))]
+pub fn read_words(alloc: Global, words: &[String]) -> Result<Request, WordsFault>
+    ensures good { IfOk result (λ _. is_good (map string_bytes words.now) ≡ true) }
+    ensures value { IfOk result (λ r. r ≡ request_of (map string_bytes words.now)) }
+    ensures wanted { IfOk result (λ r. MayBeWanted r.wanted) }
+    ensures work { IfOk result (λ r. MayBeWork r.work) }
+    ensures words { result ≡ Err WordsFault.Words → is_good (map string_bytes words.now) ≡ false }
+{
+    if !names_command(words) {
+        return Err(WordsFault::Words);
+    }
+    match given_in(alloc, words.split_at(1).1) {
+        Ok(given) => request_by(alloc, &given),
+        Err(fault) => Err(fault),
+    }
+}

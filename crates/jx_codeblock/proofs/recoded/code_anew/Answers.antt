@@ -1,0 +1,25 @@
+use Rattle.std.proofs.Common.{◌∙◌, ◌≤◌, ◌^◌, ap, sym, subst, length, map, List, ℕ}
+use Rattle.std.specs.List.{concat}
+use Rattle.jx_codeblock.proofs.LengthLemmas.{anew_few}
+use Rattle.jx_codeblock.proofs.MadeJobs.{anew_made}
+use Rattle.jx_codeblock.proofs.recoded.code_anew.Goals as goal
+
+pub parts_of-requires-clause-few : goal.parts_of-requires-clause-few
+parts_of-requires-clause-few c =
+    let b = c.args.job.now.block.now in
+    let is = ap (map (λ l. l.items)) c.deref-2.ensures.value ∙ c.in_ok-lists.ensures.lists in
+    subst (λ (ss : List (List ℕ)). length (concat ss) ≤ 2 ^ 28) (sym is) (anew_few b c.args.style c.requires.asked.sound)
+
+pub invariant_of-result : goal.invariant_of-result
+invariant_of-result c =
+    let is = ap (map (λ l. l.items)) c.deref-2.ensures.value ∙ c.in_ok-lists.ensures.lists in
+    let was = ap (map (λ l. l.items)) c.deref.ensures.value ∙ c.in_ok-lists.ensures.lists in
+    anew_made c.args.job.now c.args.style c.as_slice.result.now _ _ _ _ c.requires.asked c.requires.style c.in_ok-lists.ensures.right
+    c.as_slice.ensures was is (c.in_ok-made.ensures.bytes ∙ c.in_ok-bytes.ensures) (c.in_ok-made.ensures.parts ∙ c.in_ok-parts.ensures)
+
+pub returns-clause-recoding : goal.returns-clause-recoding
+returns-clause-recoding c =
+    let is = ap (map (λ l. l.items)) c.deref-2.ensures.value ∙ c.in_ok-lists.ensures.lists in
+    let was = ap (map (λ l. l.items)) c.deref.ensures.value ∙ c.in_ok-lists.ensures.lists in
+    (anew_made c.args.job.now c.args.style c.as_slice.result.now _ _ _ _ c.requires.asked c.requires.style c.in_ok-lists.ensures.right
+    c.as_slice.ensures was is (c.in_ok-made.ensures.bytes ∙ c.in_ok-bytes.ensures) (c.in_ok-made.ensures.parts ∙ c.in_ok-parts.ensures)).is

@@ -1,5 +1,0 @@
-use Rattle.jx_passdec.specs.Short.{AreShort}
-use Rattle.jx_coder_tests.proofs.samples.gathered.Given as goal
-
-abbrev pub invariant-loop-list : goal.invariant-loop-list
-invariant-loop-list l = AreShort l.segments

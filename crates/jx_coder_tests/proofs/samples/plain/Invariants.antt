@@ -1,5 +1,0 @@
-use Rattle.std.proofs.Common.{◌≡◌}
-use Rattle.jx_coder_tests.proofs.samples.plain.Given as goal
-
-abbrev pub invariant-loop-n : goal.invariant-loop-n
-invariant-loop-n l = (l.grid.width ≡ l.width) × (l.grid.height ≡ l.height)

@@ -1,0 +1,31 @@
+-- Inner: a header's segments by their slots.
+use Rattle.std.specs.Prelude.{◌≡◌, ◌<◌, ℕ, ◌-◌, ◌==◌, ◌||◌, nat_lt, Bool, true, List, length, Option, None, Some, if◌then◌else◌, slice_index, Vec}
+use Rattle.std.specs.List.{slice_get, list_any}
+use Rattle.jx_marker.specs.declared.Segment.{Segment}
+use Rattle.jx_codestream.specs.Headers.{slot_of}
+use Rattle.jx_codestream.specs.Tiles.{in_slot}
+
+-- the segment before this number of places, or none for 0
+abbrev pub entry_at : List Segment → ℕ → Option Segment
+entry_at segments n = if n == 0 then None else slice_get segments (n - 1)
+
+-- the table has for each slot the number after the place of its first segment, or 0
+abbrev pub Indexes : List Segment → List ℕ → Type 0
+Indexes segments table = (slot : ℕ) → slot < length table → entry_at segments (slice_index table slot) ≡ in_slot slot segments
+
+-- the items that are held, or others where none are
+abbrev pub held_or : {X Z : Type 0} → Option (Vec X Z) → List X → List X
+held_or None others = others
+held_or (Some held) others = held.items
+
+-- a slot of the segments that give parameters: COD, QCD, COC, QCC, RGN
+abbrev pub gives : ℕ → Bool
+gives slot = (slot == 1) || ((slot == 2) || nat_lt 4 slot)
+
+-- some segment gives parameters
+abbrev pub has_giving : List Segment → Bool
+has_giving segments = list_any (λ (s : Segment). gives (slot_of s)) segments
+
+-- a bare header has no segment that gives parameters
+abbrev pub IsBare : List Segment → Type 0
+IsBare segments = (slot : ℕ) → gives slot ≡ true → in_slot slot segments ≡ None

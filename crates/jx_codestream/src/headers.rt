@@ -1,0 +1,189 @@
+ghost use Rattle.std.specs.Prelude.{◌≡◌, ◌≤◌, ◌<◌, ◌+◌, ◌*◌, ◌^◌, ◌==◌, ◌&&◌, length, drop, slice_index, slice_set, nat_lt, IfOk, OnOk, ℕ, if◌then◌else◌};
+ghost use Rattle.std.specs.Option.{option_or};
+ghost use Rattle.jx_marker.specs.Ranges.{InRange};
+ghost use Rattle.jx_marker.specs.Segments.{segment_at, size_at};
+ghost use Rattle.jx_codestream.specs.Faults.{Answers, fault_of};
+ghost use Rattle.jx_codestream.specs.Headers.{stands_in, ends_header, slot_of, slot_count, early_fault, header_at, header_fault, Marks};
+
+use crate::{Segments, StreamFault};
+use jx_marker::{Rule, Segment, read_segment};
+use std::alloc::Global;
+
+/// Which header it is.
+#[derive(Clone, Copy, Debug, PartialEq, Eq)]
+pub enum HeaderKind {
+    /// The main header.
+    Main,
+    /// The header of a tile's first tile-part.
+    First,
+    /// The header of a later tile-part.
+    Later,
+}
+
+/// The segments of a header, and the place of the marker that ends it.
+#[derive(Drop)]
+pub struct Header {
+    pub segments: Segments,
+    pub end: usize,
+}
+
+/// A rule that is violated at a place.
+pub fn violated(number: u8, place: usize) -> StreamFault
+    requires { place ≤ 2 ^ 28 }
+    ensures { result ≡ StreamFault.Rule number place }
+{
+    StreamFault::Rule {
+        number,
+        place: place as u32,
+    }
+}
+
+fn ends_header(segment: &Segment) -> bool
+    ensures { result ≡ ends_header segment.now }
+{
+    matches!(segment, Segment::Sot(_) | Segment::Sod)
+}
+
+fn stands_in_main(segment: &Segment) -> bool
+    ensures { result ≡ stands_in HeaderKind.Main segment.now }
+{
+    match segment {
+        Segment::Soc | Segment::Siz(_) | Segment::Plt(_) | Segment::Sod | Segment::Eoc => false,
+        _ => true,
+    }
+}
+
+fn stands_in_first(segment: &Segment) -> bool
+    ensures { result ≡ stands_in HeaderKind.First segment.now }
+{
+    match segment {
+        Segment::Cod(_) | Segment::Coc { .. } | Segment::Qcd(_) => true,
+        Segment::Qcc { .. } | Segment::Rgn { .. } => true,
+        _ => stands_in_later(segment),
+    }
+}
+
+fn stands_in_later(segment: &Segment) -> bool
+    ensures { result ≡ stands_in HeaderKind.Later segment.now }
+{
+    match segment {
+        Segment::Poc(_) | Segment::Plt(_) | Segment::Com(_) => true,
+        Segment::Skipped(_) | Segment::Sod => true,
+        _ => false,
+    }
+}
+
+fn stands_in(kind: HeaderKind, segment: &Segment) -> bool
+    ensures { result ≡ stands_in kind segment.now }
+{
+    match kind {
+        HeaderKind::Main => stands_in_main(segment),
+        HeaderKind::First => stands_in_first(segment),
+        HeaderKind::Later => stands_in_later(segment),
+    }
+}
+
+/// The number of a segment's kind, or of its kind and component, where a header has it once at most, else 0.
+pub fn slot_of(segment: &Segment) -> usize
+    ensures { result ≡ slot_of segment.now }
+{
+    match segment {
+        Segment::Cod(_) => 1,
+        Segment::Qcd(_) => 2,
+        Segment::Poc(_) => 3,
+        Segment::Crg(_) => 4,
+        Segment::Coc { comp, .. } => 5 + 3 * usize::from(*comp),
+        Segment::Qcc { comp, .. } => 6 + 3 * usize::from(*comp),
+        Segment::Rgn { comp, .. } => 7 + 3 * usize::from(*comp),
+        _ => 0,
+    }
+}
+
+/// Why no segment is read at a place.
+pub fn fault_of(rule: Rule, at: usize) -> StreamFault
+    requires { at ≤ 2 ^ 28 }
+    ensures { result ≡ fault_of rule at }
+{
+    match rule {
+        Rule::Broken(number) => violated(number, at),
+        Rule::NoMemory => StreamFault::NoMemory,
+    }
+}
+
+/// The segment at a place of a header and the place after it, where none of the rules 1 to 14 and 19 is violated.
+pub fn segment_in(
+    alloc: Global,
+    bytes: &[u8],
+    at: usize,
+    kind: HeaderKind,
+    comps: u16,
+) -> Result<(Segment, usize), StreamFault>
+    requires place { at ≤ length bytes.now }
+    requires fits { length bytes.now ≤ 2 ^ 28 }
+    ensures answer { Answers result (early_fault kind comps bytes.now at) (λ r. r.0 ≡ segment_at comps (drop at bytes.now)) }
+    ensures after { IfOk result (λ r. (r.1 ≡ at + size_at (drop at bytes.now)) × (r.1 ≤ length bytes.now)) }
+    ensures range { IfOk result (λ r. InRange comps r.0) }
+{
+    match read_segment(alloc, bytes, at, comps) {
+        Ok((segment, next)) => {
+            if stands_in(kind, &segment) {
+                return Ok((segment, next));
+            }
+            drop(segment);
+            Err(violated(19, at))
+        }
+        Err(rule) => Err(fault_of(rule, at)),
+    }
+}
+
+/// Whether a segment of this slot stands in the header already. From now on one does.
+fn mark(slot: usize, start: u32, seen: &mut [u32]) -> bool
+    requires { slot < length seen.old }
+    ensures found { result ≡ (nat_lt 0 slot && (slice_index seen.old slot == start)) }
+    ensures after { seen.new ≡ (if nat_lt 0 slot then slice_set seen.old slot start else seen.old) }
+{
+    if slot == 0 {
+        return false;
+    }
+    let found = seen[slot] == start;
+    seen[slot] = start;
+    found
+}
+
+/// The header from a place on. `seen` is a table by slots, for which no place of the file is too small.
+pub fn read_header(
+    alloc: Global,
+    bytes: &[u8],
+    at: usize,
+    kind: HeaderKind,
+    comps: u16,
+    seen: &mut [u32],
+) -> Result<Header, StreamFault>
+    requires place { at ≤ length bytes.now }
+    requires fits { length bytes.now ≤ 2 ^ 28 }
+    requires slots { length seen.old ≡ slot_count comps }
+    requires fresh { (slot : ℕ) → slice_index seen.old slot < at }
+    ensures answer { Answers result (header_fault kind comps bytes.now at) (λ header. header ≡ header_at kind comps bytes.now at) }
+    ensures within { IfOk result (λ header. (at ≤ header.end) × (header.end + 2 ≤ length bytes.now)) }
+    ensures marks { IfOk result (λ header. Marks at header.segments seen.new) }
+{
+    let start = at as u32;
+    let mut segments = Vec::new(alloc);
+    let mut place = at;
+    'segments: loop {
+        let (segment, next) = segment_in(alloc, bytes, place, kind, comps)?;
+        if ends_header(&segment) {
+            drop(segment);
+            return Ok(Header {
+                segments: Segments::new(segments),
+                end: place,
+            });
+        }
+        if mark(slot_of(&segment), start, seen) {
+            drop(segment);
+            return Err(violated(18, place));
+        }
+        segments.push(segment)?;
+        place = next;
+    }
+}

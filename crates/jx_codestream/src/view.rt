@@ -1,0 +1,285 @@
+//! What the headers say of a tile, each answer in constant time.
+
+ghost use Rattle.std.specs.Prelude.{◌≡◌, ◌≤◌, ◌<◌, length, IfOk, []};
+ghost use Rattle.jx_geom.specs.Geometry.{ShapesInRange};
+ghost use Rattle.jx_geom.specs.Ranges.{CanvasInRange, HasBand, ShapeInRange};
+ghost use Rattle.jx_codestream.specs.First.{canvas_of, tile_number};
+ghost use Rattle.jx_codestream.specs.InRange.{HeadersInRange, StreamInRange};
+ghost use Rattle.jx_codestream.specs.Params.{headers_at, params_by, params_in, planes_in, step_in};
+ghost use Rattle.jx_codestream.specs.Shapes.{comp_shape, layers_in, shapes_in, size_in, style_in};
+ghost use Rattle.jx_codestream.specs.TileHeaders.{with_own};
+
+use crate::component::{params_by, planes_by, step_by};
+use crate::index::Index;
+use crate::precedence::{cod_of, shape_of};
+use crate::reading::canvas_of;
+use crate::{Params, Stream};
+use jx_base::{Band, NoMemory, Style};
+use jx_geom::{Canvas, CompShape};
+use jx_marker::{CompSize, Segment, Siz};
+use std::alloc::Global;
+use std::marker::Model;
+
+/// The main header with its tables: made once for a picture, and lent to the views of its tiles.
+#[derive(Drop)]
+pub struct MainView<'a> {
+    siz: &'a Siz,
+    index: Index<'a>,
+    shapes: Vec<CompShape>,
+}
+
+impl<'a> Model for MainView<'a> {
+    ghost use Rattle.std.specs.Prelude.{◌≡◌, ◌≤◌, length, []};
+    ghost use Rattle.jx_codestream.specs.TileHeaders.{MainHeaders};
+    ghost use Rattle.jx_codestream.specs.Shapes.{shapes_in};
+
+    ghost Value = { MainHeaders };
+
+    ghost view = { λ m. record { siz = m.siz.now; main = m.index.segments.now } };
+
+    ghost invariant = { λ m. (m.shapes.items ≡ shapes_in (record { siz = m.siz.now; main = m.index.segments.now; own = [] })) × (length m.siz.now.comps ≤ 16384) };
+}
+
+/// What the headers say of a tile (ITU-T T.800, A.6). A tile whose header gives no parameter borrows the tables of the
+/// main header; one that gives some has its own.
+#[derive(Drop)]
+pub struct TileView<'a> {
+    main: &'a MainView<'a>,
+    own: Index<'a>,
+    shapes: Option<Vec<CompShape>>,
+}
+
+impl<'a> Model for TileView<'a> {
+    ghost use Rattle.std.specs.Prelude.{◌≡◌, []};
+    ghost use Rattle.jx_codestream.specs.TileHeaders.{TileHeaders, with_own};
+    ghost use Rattle.jx_codestream.specs.Shapes.{shapes_in};
+    ghost use Rattle.jx_codestream.specs.Index.{held_or};
+    ghost use Rattle.jx_codestream.specs.InRange.{HeadersInRange};
+
+    ghost Value = { TileHeaders };
+
+    ghost view = { λ t. with_own t.main.now t.own.segments.now };
+
+    ghost invariant = { λ t. HeadersInRange (with_own t.main.now t.own.segments.now)
+        × (held_or t.shapes (shapes_in (with_own t.main.now [])) ≡ shapes_in (with_own t.main.now t.own.segments.now)) };
+}
+
+/// How many components there are.
+fn count_of(siz: &Siz) -> u16
+    requires { length siz.now.comps ≤ 16384 }
+    ensures { result ≡ length siz.now.comps }
+{
+    siz.comps.as_slice().len() as u16
+}
+
+/// A component's subsampling.
+fn size_of(siz: &Siz, comp: u16) -> CompSize
+    ensures { result ≡ size_in siz.now comp }
+{
+    match siz.comps.as_slice().get(usize::from(comp)) {
+        Some(size) => *size,
+        None => CompSize {
+            ssiz: 0,
+            dx: 1,
+            dy: 1,
+        },
+    }
+}
+
+/// The shape of a component.
+fn comp_shape(siz: &Siz, own: &Index, main: &Index, comp: u16) -> CompShape
+    ensures { result ≡ comp_shape (record { siz = siz.now; main = main.now.segments.now; own = own.now.segments.now }) comp }
+{
+    let size = size_of(siz, comp);
+    let params = params_by(own, main, comp);
+    let precincts = params.precincts;
+    CompShape {
+        dx: size.dx,
+        dy: size.dy,
+        levels: params.levels,
+        xcb: params.xcb,
+        ycb: params.ycb,
+        precincts,
+    }
+}
+
+/// The shapes of all components.
+fn shapes_of(
+    alloc: Global,
+    siz: &Siz,
+    own: &Index,
+    main: &Index,
+) -> Result<Vec<CompShape>, NoMemory>
+    requires { length siz.now.comps ≤ 16384 }
+    ensures { IfOk result (λ shapes. shapes.items ≡ shapes_in (record { siz = siz.now; main = main.now.segments.now; own = own.now.segments.now })) }
+{
+    let mut shapes = Vec::new(alloc);
+    for comp in 0..count_of(siz) {
+        shapes.push(comp_shape(siz, own, main, comp))?;
+    }
+    Ok(shapes)
+}
+
+impl<'a> MainView<'a> {
+    /// The view of a picture's SIZ and of the segments after it in the main header.
+    pub fn new(alloc: Global, siz: &'a Siz, main: &'a [Segment]) -> Result<Self, NoMemory>
+        requires { length siz.now.comps ≤ 16384 }
+        ensures { IfOk result (λ view. view ≡ record { siz = siz.entry.now; main = main.entry.now }) }
+    {
+        let index = Index::new(alloc, main, count_of(siz))?;
+        let shapes = shapes_of(alloc, siz, &Index::listed(&[]), &index)?;
+        Ok(MainView { siz, index, shapes })
+    }
+
+    /// How many components there are.
+    fn comps(&self) -> u16
+        ensures value { result ≡ length self.now.siz.comps }
+        ensures bound { result ≤ 16384 }
+    {
+        count_of(self.siz)
+    }
+
+    fn siz(&self) -> &Siz
+        ensures { result.now ≡ self.now.siz }
+    {
+        self.siz
+    }
+
+    fn index(&self) -> &Index<'a>
+        ensures { result.now.segments.now ≡ self.now.main }
+    {
+        &self.index
+    }
+
+    /// The shapes of a tile whose header gives no parameter.
+    fn shapes(&self) -> &[CompShape]
+        ensures { result.now ≡ shapes_in (with_own self.now []) }
+    {
+        &self.shapes
+    }
+}
+
+impl<'a> TileView<'a> {
+    /// The view of a tile whose first tile-part has these segments in its header.
+    pub fn new(
+        alloc: Global,
+        main: &'a MainView<'a>,
+        header: &'a [Segment],
+    ) -> Result<Self, NoMemory>
+        requires { HeadersInRange (with_own main.now header.now) }
+        ensures { IfOk result (λ view. view ≡ with_own main.entry.now header.entry.now) }
+    {
+        let own = Index::new(alloc, header, main.comps())?;
+        if own.bare {
+            return Ok(TileView {
+                main,
+                own,
+                shapes: None,
+            });
+        }
+        let shapes = shapes_of(alloc, main.siz(), &own, main.index())?;
+        Ok(TileView {
+            main,
+            own,
+            shapes: Some(shapes),
+        })
+    }
+
+    /// How many components there are, 1 to 16,384.
+    pub fn comps(&self) -> u16
+        ensures value { result ≡ length self.now.siz.comps }
+        ensures range { (1 ≤ result) × (result ≤ 16384) }
+    {
+        self.main.comps()
+    }
+
+    /// The picture and its tiles on the reference grid.
+    pub fn canvas(&self) -> Canvas
+        ensures value { result ≡ canvas_of self.now.siz }
+        ensures range { CanvasInRange result }
+    {
+        canvas_of(self.main.siz())
+    }
+
+    /// The parameters of a component.
+    pub fn params(&self, comp: u16) -> Params
+        ensures { result ≡ params_in self.now comp }
+    {
+        params_by(&self.own, self.main.index(), comp)
+    }
+
+    /// How all components are divided.
+    pub fn shapes(&self) -> &[CompShape]
+        ensures value { result.now ≡ shapes_in self.now }
+        ensures range { ShapesInRange result.now }
+    {
+        match &self.shapes {
+            Some(shapes) => shapes.as_slice(),
+            None => self.main.shapes(),
+        }
+    }
+
+    /// The number of layers, at least 1.
+    pub fn layers(&self) -> u16
+        ensures value { result ≡ layers_in self.now }
+        ensures range { 1 ≤ result }
+    {
+        match cod_of(&self.own, self.main.index()) {
+            Some(cod) => cod.layers,
+            None => 0,
+        }
+    }
+
+    /// The style of a component's code-blocks.
+    pub fn style(&self, comp: u16) -> Style
+        ensures { result.bits ≡ style_in self.now comp }
+    {
+        match shape_of(&self.own, self.main.index(), comp) {
+            Some(shape) => Style { bits: shape.style },
+            None => Style { bits: 0 },
+        }
+    }
+
+    /// The exponent and the mantissa of the step of a band (T.800, E.1).
+    pub fn step(&self, comp: u16, res: u8, band: Band) -> (u8, u16)
+        requires { HasBand res band }
+        ensures exponent { result.0 ≡ (step_in self.now comp res band).0 }
+        ensures mantissa { result.1 ≡ (step_in self.now comp res band).1 }
+    {
+        step_by(&self.own, self.main.index(), comp, res, band)
+    }
+
+    /// The planes of a band, the shift of a region of interest among them; at most 74 where there is such a band.
+    pub fn planes(&self, comp: u16, res: u8, band: Band) -> u32
+        requires { HasBand res band }
+        ensures value { result ≡ planes_in self.now comp res band }
+        ensures range { comp < length self.now.siz.comps → res ≤ (params_in self.now comp).levels → result ≤ 74 }
+    {
+        planes_by(&self.own, self.main.index(), comp, res, band)
+    }
+}
+
+impl Stream {
+    /// The view of the main header.
+    pub fn main_view<'a>(&'a self, alloc: Global) -> Result<MainView<'a>, NoMemory>
+        requires { StreamInRange self.now }
+        ensures { IfOk result (λ view. view ≡ record { siz = self.entry.now.siz; main = self.entry.now.main }) }
+    {
+        MainView::new(alloc, &self.siz, self.main.as_slice())
+    }
+
+    /// The view of a tile, over that of the main header.
+    pub fn tile_view<'a>(
+        &'a self,
+        alloc: Global,
+        main: &'a MainView<'a>,
+        tile: u16,
+    ) -> Result<TileView<'a>, NoMemory>
+        requires main { main.now ≡ record { siz = self.now.siz; main = self.now.main } }
+        requires range { StreamInRange self.now }
+        requires tile { tile < tile_number self.now.siz }
+        ensures { IfOk result (λ view. view ≡ headers_at self.entry.now tile) }
+    {
+        TileView::new(alloc, main, self.header(tile))
+    }
+}

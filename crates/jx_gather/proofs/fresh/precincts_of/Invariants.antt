@@ -1,8 +1,0 @@
-use Rattle.std.proofs.Common.{◌≡◌, take}
-use Rattle.std.specs.List.{flat_map}
-use Rattle.jx_gather.specs.Cells.{fresh_resolution}
-use Rattle.jx_gather.proofs.ListedLemmas.{by_resolution}
-use Rattle.jx_gather.proofs.fresh.precincts_of.Given as goal
-
-abbrev pub invariant-loop-row : goal.invariant-loop-row
-invariant-loop-row l = l.list.items ≡ flat_map (by_resolution (fresh_resolution l.stream l.geom)) (take l.row-index l.rows)

@@ -1,7 +1,0 @@
-use Rattle.std.specs.List.{All}
-use Rattle.jx_base.specs.Sound.{IsSound}
-use Rattle.jx_gather.specs.Joined.{IsGatheredTo}
-use Rattle.jx_gather.proofs.gathering.gather_tiles.Given as goal
-
-abbrev pub invariant-loop-tile : goal.invariant-loop-tile
-invariant-loop-tile l = IsGatheredTo l.bytes l.stream l.tile l.blocks.items × All IsSound l.blocks.items

@@ -1,8 +1,0 @@
-use Rattle.jx_gather.proofs.FitLemmas.{blocks_fit}
-use Rattle.jx_gather.proofs.laws.blocks_fit.Goals as goal
-
-pub returns-clause-fit : goal.returns-clause-fit
-returns-clause-fit c = λ b s t blocks comp res precinct read none inside are sound has. (blocks_fit b s t blocks comp res precinct read none inside are sound has).0
-
-pub returns-clause-types : goal.returns-clause-types
-returns-clause-types c = λ b s t blocks comp res precinct read none inside are sound has. (blocks_fit b s t blocks comp res precinct read none inside are sound has).1

@@ -1,5 +1,0 @@
-use Rattle.jx_gather.proofs.AnotherLemmas.{blocks_of_other}
-use Rattle.jx_gather.proofs.laws.blocks_of_another.Goals as goal
-
-pub returns : goal.returns
-returns c = blocks_of_other

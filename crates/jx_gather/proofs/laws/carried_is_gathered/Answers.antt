@@ -1,5 +1,0 @@
-use Rattle.jx_gather.proofs.KeptLemmas.{carried_gathered}
-use Rattle.jx_gather.proofs.laws.carried_is_gathered.Goals as goal
-
-pub returns : goal.returns
-returns c = carried_gathered

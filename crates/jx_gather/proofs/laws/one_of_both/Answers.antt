@@ -1,8 +1,0 @@
-use Rattle.jx_gather.proofs.EitherLemmas.{OrdersExist}
-use Rattle.jx_gather.proofs.EitherLemmas as lemmas
-use Rattle.jx_gather.proofs.laws.one_of_both.Goals as goal
-
-pub returns : goal.returns
-returns c =
-    let orders : OrdersExist = record { exist = c.orders_exist.ensures } in
-    lemmas.one_of_both orders

@@ -1,5 +1,0 @@
-use Rattle.jx_gather.proofs.TileLemmas.{last_ends}
-use Rattle.jx_gather.proofs.tile.end_of_data.Goals as goal
-
-pub returns-in-Some : goal.returns-in-Some
-returns-in-Some c = last_ends c.args.bodies.now c.in-Some.body.now c.in-Some.ensures.value

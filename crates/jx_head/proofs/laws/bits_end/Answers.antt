@@ -1,5 +1,0 @@
-use Rattle.jx_head.proofs.StuffedLemmas.{stuffed_or}
-use Rattle.jx_head.proofs.laws.bits_end.Goals as goal
-
-pub returns : goal.returns
-returns c = λ bytes. stuffed_or 0 bytes

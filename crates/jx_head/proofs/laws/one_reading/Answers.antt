@@ -1,5 +1,0 @@
-use Rattle.jx_head.proofs.PacketLemmas.{one_header}
-use Rattle.jx_head.proofs.laws.one_reading.Goals as goal
-
-pub returns : goal.returns
-returns c = λ bytes k parts others used ends after others_after is p q. one_header bytes k parts others used ends after others_after is.bands p q

@@ -1,5 +1,0 @@
-use Rattle.jx_head.proofs.WordLemmas.{one_word}
-use Rattle.jx_head.proofs.laws.passes_are_told_apart.Goals as goal
-
-pub returns : goal.returns
-returns c = one_word

@@ -1,5 +1,0 @@
-use Rattle.jx_head.proofs.PacketLemmas.{header_agrees_after}
-use Rattle.jx_head.proofs.laws.values_agree_after.Goals as goal
-
-pub returns : goal.returns
-returns c = header_agrees_after

@@ -1,4 +1,0 @@
-use Rattle.jx_head.proofs.parts.+first_run.Given as goal
-
-abbrev pub decreases-first_run : goal.decreases-first_run
-decreases-first_run l = l.left

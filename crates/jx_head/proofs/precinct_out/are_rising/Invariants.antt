@@ -1,7 +1,0 @@
-use Rattle.std.proofs.Common.{drop, map}
-use Rattle.jx_head.specs.Leafs.{leaf_of}
-use Rattle.jx_head.specs.Writable.{AreRising}
-use Rattle.jx_head.proofs.precinct_out.are_rising.Given as goal
-
-abbrev pub invariant-loop-leaf : goal.invariant-loop-leaf
-invariant-loop-leaf l = AreRising (map leaf_of (drop l.leaf-index l.leaves)) → AreRising (map leaf_of l.leaves)

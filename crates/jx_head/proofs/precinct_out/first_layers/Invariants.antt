@@ -1,7 +1,0 @@
-use Rattle.std.proofs.Common.{◌≡◌, ◌++◌, map, drop}
-use Rattle.jx_head.specs.Written.{first_leaves}
-use Rattle.jx_head.specs.Leafs.{leaf_of}
-use Rattle.jx_head.proofs.precinct_out.first_layers.Given as goal
-
-abbrev pub invariant-loop-leaf : goal.invariant-loop-leaf
-invariant-loop-leaf l = l.first.items ++ first_leaves l.layers (map leaf_of (drop l.leaf-index l.leaves)) ≡ first_leaves l.layers (map leaf_of l.leaves)

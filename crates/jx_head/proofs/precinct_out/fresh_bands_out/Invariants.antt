@@ -1,7 +1,0 @@
-use Rattle.std.proofs.Common.{map}
-use Rattle.jx_head.specs.Leafs.{leaf_of}
-use Rattle.jx_head.proofs.PlanLemmas.{Making}
-use Rattle.jx_head.proofs.precinct_out.fresh_bands_out.Given as goal
-
-abbrev pub invariant-loop-cells : goal.invariant-loop-cells
-invariant-loop-cells l = Making l.layers l.cells-index l.base l.bands (map leaf_of l.leaves) l.made.items

@@ -1,5 +1,0 @@
-use Rattle.jx_make.proofs.DrawnFits.{one_clear}
-use Rattle.jx_make.proofs.laws.passes_hold_no_marker.Goals as goal
-
-pub returns : goal.returns
-returns c = one_clear

@@ -1,5 +1,0 @@
-use Rattle.jx_make.proofs.DrawnLemmas.{pass_layer}
-use Rattle.jx_make.proofs.laws.passes_lie_in_layers.Goals as goal
-
-pub returns : goal.returns
-returns c = pass_layer

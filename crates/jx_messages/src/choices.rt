@@ -1,0 +1,123 @@
+//! The choices in words, with what to ask instead.
+ghost use Rattle.std.specs.Prelude.{◌≡◌, IfOk, string_bytes};
+ghost use Rattle.jx_messages.specs.Choices.{causal_words, choice_words, crowded_words, cut_words, header_words, long_words, no_rule_words, option_words, size_words, zero_words};
+
+use std::alloc::{AllocError, Global};
+
+/// A style with another vertically causal bit than a block can have.
+fn causal(alloc: Global, place: u32, style: &str) -> Result<String, AllocError>
+    ensures { IfOk result (λ text. string_bytes text ≡ causal_words place style.now) }
+{
+    format!(in alloc;
+        "jx: --style {style} would turn causal on or off for code-block {place},\n    whose coding passes end within a bit-plane, where that can't be done:\n    add or drop causal, or use --style keep\n    (T.800 D.7; choice 1)\n"
+    )
+}
+
+/// Precincts that would change the size of code-blocks.
+fn size(alloc: Global, place: u32, list: &str) -> Result<String, AllocError>
+    ensures { IfOk result (λ text. string_bytes text ≡ size_words place list.now) }
+{
+    format!(in alloc;
+        "jx: --precincts {list} would change the size of code-blocks\n    in tile {place}, and with it the coded bytes:\n    use keep, max or larger exponents (T.800 B.7; choice 2)\n"
+    )
+}
+
+/// Where a choice about headers stands.
+#[tactic(auto, unfolding(crate::specs::Choices::header_words))]
+fn header(alloc: Global, place: u32) -> Result<String, AllocError>
+    ensures { IfOk result (λ text. string_bytes text ≡ header_words place) }
+{
+    if place == 0 {
+        return String::from_str(alloc, "the main header or tile 0");
+    }
+    format!(in alloc; "tile {place}")
+}
+
+/// A precinct exponent that would be 0 in some header.
+fn zero_in(alloc: Global, at: &str, list: &str) -> Result<String, AllocError>
+    ensures { IfOk result (λ text. string_bytes text ≡ zero_words at.now list.now) }
+{
+    format!(in alloc;
+        "jx: --precincts {list} would give {at}\n    an exponent 0 above resolution 0, the lowest:\n    use 1 or more behind the first item\n    (T.800 A.6.1, Table A.21; choice 3)\n"
+    )
+}
+
+/// A precinct exponent that would be 0.
+fn zero(alloc: Global, place: u32, list: &str) -> Result<String, AllocError>
+    ensures { IfOk result (λ text. string_bytes text ≡ zero_words (header_words place) list.now) }
+{
+    let at = header(alloc, place)?;
+    zero_in(alloc, at.as_str(), list)
+}
+
+/// Too many coding passes in a layer.
+fn crowded(alloc: Global, place: u32, rule: &str) -> Result<String, AllocError>
+    ensures { IfOk result (λ text. string_bytes text ≡ crowded_words place rule.now) }
+{
+    format!(in alloc;
+        "jx: --layers {rule} would put over 164 coding passes\n    of code-block {place} into one layer, more than a packet header can tell:\n    use more layers, as in --layers planes:8 (T.800 B.10.6; choice 4)\n"
+    )
+}
+
+/// Too many tile-parts.
+fn cut(alloc: Global, place: u32, by: &str) -> Result<String, AllocError>
+    ensures { IfOk result (λ text. string_bytes text ≡ cut_words place by.now) }
+{
+    format!(in alloc;
+        "jx: --tile-parts {by} would cut tile {place} into over 255 tile-parts:\n    use another --order, another --tile-parts, or none\n    (T.800 A.4.2; choice 5)\n"
+    )
+}
+
+/// Words that are no rule for layers.
+fn no_rule(alloc: Global, rule: &str) -> Result<String, AllocError>
+    ensures { IfOk result (λ text. string_bytes text ≡ no_rule_words rule.now) }
+{
+    format!(in alloc;
+        "jx: --layers {rule} is no rule for layers: use keep, one,\n    cuts:N,N.. with 1 to 32 rising passes from 1 to 220,\n    or planes:N with N from 1 to 74 (choice 6)\n"
+    )
+}
+
+/// A tile-part that would be too long.
+fn long(alloc: Global, place: u32) -> Result<String, AllocError>
+    ensures { IfOk result (λ text. string_bytes text ≡ long_words place) }
+{
+    format!(in alloc;
+        "jx: a tile-part of tile {place} would have 4 GiB or more:\n    cut the tile by --tile-parts r, l or c (T.800 A.4.2; choice 7)\n"
+    )
+}
+
+/// The option that a choice is about.
+#[tactic(auto, unfolding(crate::specs::Choices::option_words))]
+pub(crate) fn option_of(number: u8) -> &'static str
+    ensures { result.now ≡ option_words number }
+{
+    match number {
+        1 => "--style",
+        2 => "--precincts",
+        3 => "--precincts",
+        4 => "--layers",
+        6 => "--layers",
+        _ => "--tile-parts",
+    }
+}
+
+/// A choice in words, 1 to 7, with the value of the option that it is about.
+#[tactic(auto, unfolding(crate::specs::Choices::choice_words))]
+pub(crate) fn choice_text(
+    alloc: Global,
+    number: u8,
+    place: u32,
+    value: &str,
+) -> Result<String, AllocError>
+    ensures { IfOk result (λ text. string_bytes text ≡ choice_words number place value.now) }
+{
+    match number {
+        1 => causal(alloc, place, value),
+        2 => size(alloc, place, value),
+        3 => zero(alloc, place, value),
+        4 => crowded(alloc, place, value),
+        5 => cut(alloc, place, value),
+        6 => no_rule(alloc, value),
+        _ => long(alloc, place),
+    }
+}

@@ -1,0 +1,219 @@
+//! How the program is called: help, usage, and what is wrong with words.
+ghost use Rattle.std.specs.Prelude.{IfOk, string_bytes};
+ghost use Rattle.jx_messages.specs.Sentences.{EndsLine};
+
+use crate::forms::value_text;
+use crate::options::{COUNT, OptionText, option_text};
+use clap::error::ErrorKind;
+use clap::{Arg, ArgAction, Command, Error};
+use std::alloc::{AllocError, Global};
+
+static VERSION: &str = "0.9";
+
+static ABOUT: &str = "Changes how a JPEG 2000 codestream is packed, and no coefficient of it.";
+
+static MORE: &str = "\
+One line on standard output says how it went, a sentence on standard error
+why it was refused. jx transcode --help says all options, with examples.";
+
+static TRANSCODE: &str = "Writes a codestream packed anew: order, layers, precincts, style";
+
+static EXAMPLES: &str = "\
+Examples:
+  jx transcode in.j2k out.j2k --order rpcl --plt --tile-parts r
+  jx transcode in.j2k out.j2k --layers planes:2
+  jx transcode in.j2k out.j2k --style terminate+reset --threads 4
+
+The picture is the same in each: no coefficient changes. A JP2 file isn't
+read: take the codestream out of its box first. docs/RULES.md has all rules
+and limits.";
+
+static MAKE: &str = "Makes a test picture in memory, transcodes it and says one line";
+
+static CHECK: &str = "\
+It shows whether an installation works: no file is read or written, and the
+line is the same on every machine.
+
+Example:
+  jx make 5 1 1
+says
+  make: 3 blocks, 1101 bytes in, 293 bytes out, sum 14543
+which are the picture's code-blocks, the bytes before and after, and the sum
+of those after. jx make 1 2048 1536 takes longer, and shows how fast it is.";
+
+static USAGE: &str = "\
+Usage: jx transcode IN OUT [OPTIONS]
+       jx make SEED WIDTH HEIGHT
+
+jx --help says what they do, jx transcode --help all options.";
+
+/// An option as clap takes it.
+fn arg_of<'a>(alloc: Global, text: OptionText) -> Arg<'a> {
+    let arg = Arg::new(alloc, text.name)
+        .long(text.name)
+        .help(text.help)
+        .help_heading(text.heading);
+    if text.value.is_empty() {
+        return arg.action(ArgAction::SetTrue);
+    }
+    let arg = arg.value_name(text.value).action(ArgAction::Set);
+    if text.listed.is_empty() {
+        return arg;
+    }
+    arg.value_parser(text.listed).hide_possible_values(true)
+}
+
+/// With a word that has to be there.
+fn with_place<'a>(
+    alloc: Global,
+    command: Command<'a>,
+    name: &'a str,
+    value: &'a str,
+    help: &'a str,
+) -> Result<Command<'a>, AllocError> {
+    let place = Arg::new(alloc, name)
+        .required(true)
+        .value_name(value)
+        .help(help)
+        .action(ArgAction::Set);
+    command.arg(place)
+}
+
+/// With the names of the input and the output.
+fn with_places<'a>(alloc: Global, command: Command<'a>) -> Result<Command<'a>, AllocError> {
+    let read = "the codestream that is read";
+    let written = "the file that is written; an older one stands until it is whole";
+    let command = with_place(alloc, command, "in", "IN", read)?;
+    with_place(alloc, command, "out", "OUT", written)
+}
+
+/// With the options.
+fn with_options<'a>(alloc: Global, command: Command<'a>) -> Result<Command<'a>, AllocError> {
+    let mut command = command;
+    for number in 0..COUNT {
+        command = command.arg(arg_of(alloc, option_text(number)))?;
+    }
+    Ok(command)
+}
+
+/// The command `transcode`, with its help.
+fn transcode<'a>(alloc: Global) -> Result<Command<'a>, AllocError> {
+    let command = Command::new(alloc, "transcode")
+        .about(TRANSCODE)
+        .after_help(EXAMPLES);
+    let command = with_places(alloc, command)?;
+    with_options(alloc, command)
+}
+
+/// The command `make`, with its help.
+fn make<'a>(alloc: Global) -> Result<Command<'a>, AllocError> {
+    let seed = "which picture: a number from 0 to 18446744073709551615";
+    let command = Command::new(alloc, "make").about(MAKE).after_help(CHECK);
+    let command = with_place(alloc, command, "seed", "SEED", seed)?;
+    let command = with_place(alloc, command, "width", "WIDTH", "its columns, 1 to 4096")?;
+    with_place(alloc, command, "height", "HEIGHT", "its rows, 1 to 4096")
+}
+
+/// The program without its commands.
+fn bare<'a>(alloc: Global) -> Result<Command<'a>, AllocError> {
+    // The name is the same whatever file the program lies in.
+    let command = Command::new(alloc, "jx").bin_name("jx")?;
+    Ok(
+        command
+            .version(VERSION)
+            .about(ABOUT)
+            .after_help(MORE)
+            .subcommand_required(true)
+            .arg_required_else_help(true),
+    )
+}
+
+/// With a command that was just made.
+fn with_command<'a>(
+    command: Command<'a>,
+    made: Result<Command<'a>, AllocError>,
+) -> Result<Command<'a>, AllocError> {
+    command.subcommand(made?)
+}
+
+/// The program, with its help.
+fn program<'a>(alloc: Global) -> Result<Command<'a>, AllocError> {
+    let command = bare(alloc)?;
+    let command = with_command(command, transcode(alloc))?;
+    with_command(command, make(alloc))
+}
+
+/// A text with one line feed at its end.
+fn ended(alloc: Global, text: &str) -> Result<String, AllocError>
+    ensures { IfOk result (λ text. EndsLine (string_bytes text)) }
+{
+    let line = match text.strip_suffix('\n') {
+        Some(line) => line,
+        None => text,
+    };
+    format!(in alloc; "{line}\n")
+}
+
+/// A text without clap's own usage.
+fn without_usage(text: &str) -> &str {
+    let mut what = text;
+    if let Some((before, _)) = what.split_once("\n\nUsage:") {
+        what = before;
+    }
+    if let Some((before, _)) = what.split_once("\n\nFor more information") {
+        what = before;
+    }
+    what
+}
+
+/// What is wrong, without clap's own usage, and then the usage.
+fn mistake(alloc: Global, text: &str) -> Result<String, AllocError>
+    ensures { IfOk result (λ text. EndsLine (string_bytes text)) }
+{
+    let what = without_usage(text);
+    let text = format!(in alloc; "{what}\n\n{USAGE}")?;
+    ended(alloc, text.as_str())
+}
+
+/// What is wrong with words that clap takes, and then the usage.
+fn wrong_value(alloc: Global, words: &[String]) -> Result<String, AllocError>
+    ensures { IfOk result (λ text. EndsLine (string_bytes text)) }
+{
+    let text = value_text(alloc, words)?;
+    mistake(alloc, text.as_str())
+}
+
+/// What clap says of these words: the help or the version as they are, a mistake with the usage.
+fn told(alloc: Global, error: &Error) -> Result<String, AllocError>
+    ensures { IfOk result (λ text. EndsLine (string_bytes text)) }
+{
+    let text = format!(in alloc; "{error}")?;
+    match error.kind() {
+        ErrorKind::DisplayHelp
+        | ErrorKind::DisplayVersion
+        | ErrorKind::DisplayHelpOnMissingArgumentOrSubcommand
+        | ErrorKind::OutOfMemory => ended(alloc, text.as_str()),
+        _ => mistake(alloc, text.as_str()),
+    }
+}
+
+/// Which of the words are wrong, and why; the help where it was asked for, or where there are none.
+///
+/// # Errors
+///
+/// `AllocError` where memory is refused.
+pub(crate) fn words_text(alloc: Global, words: &[String]) -> Result<String, AllocError>
+    ensures { IfOk result (λ text. EndsLine (string_bytes text)) }
+{
+    if words.is_empty() {
+        return mistake(
+            alloc,
+            "error: a word of the command line is no text (UTF-8)",
+        );
+    }
+    let command = program(alloc)?;
+    match command.try_get_matches_from(words) {
+        Ok(_) => wrong_value(alloc, words),
+        Err(error) => told(alloc, &error),
+    }
+}

@@ -1,5 +1,0 @@
-use Rattle.jx_order.proofs.RiseLemmas.{order_rises}
-use Rattle.jx_order.proofs.laws.layers_rise.Goals as goal
-
-pub returns : goal.returns
-returns c = order_rises

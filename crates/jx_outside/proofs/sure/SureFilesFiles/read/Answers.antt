@@ -1,7 +1,0 @@
-use Rattle.jx_outside.specs.Stored.{meaning_of}
-use Rattle.jx_outside.proofs.ThereLemmas.{there_read}
-use Rattle.jx_outside.proofs.sure.SureFilesFiles.read.Goals as goal
-
--- what was there still is
-pub returns-clause-opens : goal.returns-clause-opens
-returns-clause-opens c = there_read (meaning_of c.args.self.now.store) (meaning_of c.read.new.self) c.read.result c.read.ensures.read

@@ -1,0 +1,189 @@
+ghost use Rattle.std.specs.Prelude.{◌≡◌, ◌<◌, ◌≤◌, ◌+◌, ◌-◌, ◌^◌, true, length, IfOk, IfErr, OnOk};
+ghost use Rattle.jx_tagtree.specs.Header.{to_come};
+ghost use Rattle.jx_packet_header.specs.Packet.{Cells, most_passes};
+ghost use Rattle.jx_packet_header.specs.Scan.{scan_entry, scan_included, scan_block, scan_band};
+ghost use Rattle.jx_packet_header.specs.Frame.{frame};
+ghost use Rattle.jx_packet_header.specs.Kept.{IsKnown, IsBand, IsSilent};
+ghost use Rattle.jx_packet_header.specs.Said.{Refuses, EntrySaid, BlockSaid, BandSaid};
+
+use crate::parts::read_parts;
+use crate::query::{read_inclusion, read_zero};
+use crate::words::{read_passes, read_raise};
+use crate::{HeadFault, Known, Part};
+use jx_base::Style;
+use jx_tagtree::{BitReader, TagReader};
+use std::marker::Model;
+
+/// What headers have told of a band that has blocks.
+#[derive(Drop)]
+pub(crate) struct Band {
+    /// The tag tree of the layers in which blocks are included first.
+    pub(crate) first: TagReader,
+    /// The tag tree of their zero planes.
+    pub(crate) zeros: TagReader,
+    pub(crate) planes: u32,
+    pub(crate) blocks: Vec<Known>,
+    /// Whether some block was included.
+    pub(crate) included: bool,
+}
+
+impl Model for Band {
+    ghost use Rattle.std.specs.Prelude.{◌≡◌, false};
+    ghost use Rattle.jx_packet_header.specs.Packet.{Cells};
+    ghost use Rattle.jx_packet_header.specs.Kept.{NoneIncluded};
+
+    ghost Value = { Cells };
+
+    ghost view = { λ b. record { first = b.first; zeros = b.zeros; planes = b.planes; blocks = b.blocks.items } };
+
+    ghost invariant = { λ b. b.included ≡ false → NoneIncluded b.blocks.items };
+}
+
+/// The most passes that a block of so many planes may have.
+pub(crate) fn limit(planes: u32, zero: u32) -> u32
+    requires below { zero < planes }
+    requires planes { planes ≤ 255 }
+    ensures { result ≡ most_passes planes zero }
+{
+    3 * (planes - zero) - 2
+}
+
+/// Reads what a header has of a block that it includes, and appends its parts. It gives what is known
+/// of the block afterwards.
+fn read_entry(
+    style: Style,
+    block: u32,
+    planes: u32,
+    zero: u32,
+    known: Known,
+    bits: &mut BitReader<'_>,
+    parts: &mut Vec<Part>,
+) -> Result<Known, HeadFault>
+    requires below { zero < planes }
+    requires planes { planes ≤ 255 }
+    requires known { IsKnown known }
+    requires few { (frame bits.old).total < 2 ^ 67 }
+    ensures ok { IfOk result (λ after. EntrySaid (scan_entry style.bits block planes zero known (to_come bits.old)) known zero after parts.old.items parts.new.items (to_come bits.new)) }
+    ensures frame { OnOk result (frame bits.new ≡ frame bits.old) }
+    ensures err { IfErr result (λ e. Refuses e (scan_entry style.bits block planes zero known (to_come bits.old))) }
+{
+    let passes = match read_passes(bits) {
+        Ok(passes) => passes,
+        Err(fault) => return Err(fault),
+    };
+    if u32::from(known.passes) + u32::from(passes) > limit(planes, zero) {
+        return Err(HeadFault::Planes);
+    }
+    let raise = match read_raise(bits) {
+        Ok(raise) => raise,
+        Err(fault) => return Err(fault),
+    };
+    let lblock = known.lblock + raise;
+    match read_parts(style, lblock, block, known.passes, passes, bits, parts) {
+        Ok(()) => Ok(Known {
+            zero: Some(zero as u8),
+            passes: known.passes + passes,
+            lblock,
+        }),
+        Err(fault) => Err(fault),
+    }
+}
+
+/// Reads what a header has of a block that it includes, after its inclusion.
+fn read_included(
+    band: &mut Band,
+    style: Style,
+    block: u32,
+    leaf: u32,
+    bits: &mut BitReader<'_>,
+    parts: &mut Vec<Part>,
+) -> Result<(), HeadFault>
+    requires band { IsBand band.old }
+    requires leaf { leaf < length band.old.blocks }
+    requires few { (frame bits.old).total < 2 ^ 67 }
+    ensures ok { OnOk result (BlockSaid (scan_included style.bits block leaf band.old (to_come bits.old)) parts.old.items parts.new.items band.new (to_come bits.new)) }
+    ensures frame { OnOk result (frame bits.new ≡ frame bits.old) }
+    ensures err { IfErr result (λ e. Refuses e (scan_included style.bits block leaf band.old (to_come bits.old))) }
+{
+    let known = band.blocks[leaf as usize];
+    let zero = match read_zero(&mut band.zeros, known.zero, leaf, band.planes, bits) {
+        Ok(zero) => zero,
+        Err(fault) => return Err(fault),
+    };
+    if zero >= band.planes {
+        return Err(HeadFault::Planes);
+    }
+    match read_entry(style, block, band.planes, zero, known, bits, parts) {
+        Ok(after) => {
+            band.included = true;
+            band.blocks[leaf as usize] = after;
+            Ok(())
+        }
+        Err(fault) => Err(fault),
+    }
+}
+
+/// Reads what a header of a layer has of a block, and appends its parts.
+pub(crate) fn read_block(
+    band: &mut Band,
+    style: Style,
+    layer: u16,
+    block: u32,
+    leaf: u32,
+    bits: &mut BitReader<'_>,
+    parts: &mut Vec<Part>,
+) -> Result<(), HeadFault>
+    requires band { IsBand band.old }
+    requires leaf { leaf < length band.old.blocks }
+    requires few { (frame bits.old).total < 2 ^ 67 }
+    ensures ok { OnOk result (BlockSaid (scan_block style.bits layer block leaf band.old (to_come bits.old)) parts.old.items parts.new.items band.new (to_come bits.new)) }
+    ensures frame { OnOk result (frame bits.new ≡ frame bits.old) }
+    ensures err { IfErr result (λ e. Refuses e (scan_block style.bits layer block leaf band.old (to_come bits.old))) }
+{
+    let zero = band.blocks[leaf as usize].zero;
+    match read_inclusion(&mut band.first, zero, leaf, layer, bits) {
+        Ok(true) => read_included(band, style, block, leaf, bits, parts),
+        Ok(false) => Ok(()),
+        Err(fault) => Err(fault),
+    }
+}
+
+/// Whether a header of a layer has no bit of any of a band's blocks from here on, as none was included and
+/// what is known of the root says that none is now.
+fn is_silent(band: &Band, layer: u16) -> bool
+    ensures { result ≡ true → IsSilent layer band.now }
+{
+    !band.included && band.first.is_past(u32::from(layer) + 1)
+}
+
+/// Reads what a header of a layer has of a band, whose first block has the number `base`, and appends
+/// the parts.
+pub(crate) fn read_band(
+    band: &mut Band,
+    style: Style,
+    layer: u16,
+    base: u32,
+    bits: &mut BitReader<'_>,
+    parts: &mut Vec<Part>,
+) -> Result<(), HeadFault>
+    requires band { IsBand band.old }
+    requires room { base + length band.old.blocks < 2 ^ 32 }
+    requires few { (frame bits.old).total < 2 ^ 67 }
+    ensures ok { OnOk result (BandSaid (scan_band style.bits layer base band.old (to_come bits.old)) parts.old.items parts.new.items band.new (to_come bits.new)) }
+    ensures kept { OnOk result (IsBand band.new) }
+    ensures long { OnOk result (length band.new.blocks ≡ length band.old.blocks) }
+    ensures frame { OnOk result (frame bits.new ≡ frame bits.old) }
+    ensures err { IfErr result (λ e. Refuses e (scan_band style.bits layer base band.old (to_come bits.old))) }
+{
+    let count = band.blocks.len() as u32;
+    for leaf in 0..count {
+        if is_silent(band, layer) {
+            return Ok(());
+        }
+        match read_block(band, style, layer, base + leaf, leaf, bits, parts) {
+            Ok(()) => {}
+            Err(fault) => return Err(fault),
+        }
+    }
+    Ok(())
+}

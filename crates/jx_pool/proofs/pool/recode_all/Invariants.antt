@@ -1,5 +1,0 @@
-use Rattle.jx_pool.specs.Tapes.{bounds}
-use Rattle.jx_pool.proofs.pool.recode_all.Given as goal
-
-abbrev pub ghosts-tape_of : goal.ghosts-tape_of
-ghosts-tape_of g a = record { setup = bounds a.limits.first a.limits.window a.limits.most a.jobs.now; workers = a.limits.threads; jobs = a.jobs.now }

@@ -1,5 +1,0 @@
-use Rattle.jx_pool.specs.Workers.{IsFree}
-use Rattle.jx_pool.proofs.workers.work.Given as goal
-
-abbrev pub invariant-loop : goal.invariant-loop
-invariant-loop g l = (goal.iterator-loop g).can_next l.iterator' × (goal.iterator-loop g).is_finite l.iterator' × IsFree g.N.Bounds.setup l.initial.pass.table g.N.Bounds.workers l.pass

@@ -1,0 +1,363 @@
+-- First packets in the order of their numbers, each with those that stand together with it, are packets in the order of their keys.
+use Rattle.std.proofs.Common.{◌≡◌, ◌≢◌, ℕ, ◌+◌, ◌<◌, Bool, true, false, List, [], ◌∷◌, inl, inr, ◌⊎◌, ◌↔◌, ◌∙◌, ap, sym, subst, refl, arith, length, get_or, min, slice_index}
+use Rattle.std.proofs.lemmas.Bool.{cases_Bool, cases_lt}
+use Rattle.std.proofs.lemmas.Bool.Decides.{nat_tests}
+use Rattle.std.proofs.lemmas.List.Elements.{Contains-get_or}
+use Rattle.std.proofs.lemmas.List.Sorted.{Contains-permutation, IsPermutation-sym}
+use Rattle.std.proofs.lemmas.Map.Keys.{IsDistinct-IsPermutation, IsDistinct-from_apart, apart_from_distinct}
+use Rattle.std.specs.List.{All, AllPairs, Contains, flat_map}
+use Rattle.std.specs.List.Sorted.{IsPermutation}
+use Rattle.jx_base.proofs.Joined.{joined_pairs}
+use Rattle.jx_base.proofs.Lists.{pairs_from_next}
+use Rattle.jx_geom.specs.declared.table.Resolution.{Resolution}
+use Rattle.jx_geom.specs.Geometry.{Geometry, GeometryInRange}
+use Rattle.jx_geom.specs.Resolutions.{resolutions_of}
+use Rattle.jx_marker.specs.declared.Progression.{Progression}
+use Rattle.jx_progression.specs.declared.names.PacketName.{PacketName}
+use Rattle.jx_progression.specs.declared.names.Order.{Order}
+use Rattle.jx_progression.specs.declared.names.Order.TheVariants.{Lrcp, Rlcp, Rpcl, Pcrl, Cprl}
+use Rattle.jx_progression.specs.Orders.{IsLess, ComesBefore, order_of, across_of, down_of}
+use Rattle.jx_progression.specs.Packets.{IsPacket}
+use Rattle.jx_progression.specs.Steps.{AreSorted, Lists, across_or, all_heads, by_layer, count_of, down_or, group_names, group_size, heads_at, name_of, numbers_of, one_layer, one_layer_head, one_precinct, one_precinct_head, precinct_key, row_end, row_heads, row_of, sent_at, sort_key}
+use Rattle.jx_progression.proofs.FlatLemmas.{flat_from, flat_has, flat_pairs}
+use Rattle.jx_progression.proofs.GroupLemmas.{IsFirst, Listed, count_is, head_to, in_group, layer_names, layers_are, name_listed, no_heads, one_has, precinct_names, precincts_are, row_has, some_names, stands_in}
+use Rattle.jx_progression.proofs.KeyLemmas.{same_place}
+use Rattle.jx_progression.proofs.LessLemmas.{drop_zero, less_more, less_trans}
+use Rattle.jx_progression.proofs.OrderLemmas.{same_fields, same_or}
+use Rattle.jx_progression.proofs.RowLemmas.{rows_once}
+
+-- ---- none is listed twice
+abbrev pub Apart : PacketName → PacketName → Type 0
+Apart x y = x ≢ y
+
+one_pairs : (x : PacketName) → AllPairs Apart (x ∷ [])
+one_pairs x i j d lt below = absurd (omega arith)
+
+layers_apart : (q : Resolution) (m n : ℕ) (x y : PacketName) → m < n → Contains (one_layer_head q m) x → Contains (one_layer_head q n) y → Apart x y
+layers_apart q m n x y lt hx hy same =
+    let ex : x.layer ≡ m = ap (λ (w : PacketName). w.layer) (one_has (name_of m q.res q.comp 0) x hx) in
+    let ey : y.layer ≡ n = ap (λ (w : PacketName). w.layer) (one_has (name_of n q.res q.comp 0) y hy) in
+    omega (arith, ap (λ (w : PacketName). w.layer) same)
+
+precincts_apart : (q : Resolution) (from m n : ℕ) (x y : PacketName) → m < n → Contains (one_precinct_head q from m) x
+    → Contains (one_precinct_head q from n) y → Apart x y
+precincts_apart q from m n x y lt hx hy same =
+    let ex : x.precinct ≡ m = ap (λ (w : PacketName). w.precinct) (one_has (name_of from q.res q.comp m) x hx) in
+    let ey : y.precinct ≡ n = ap (λ (w : PacketName). w.precinct) (one_has (name_of from q.res q.comp n) y hy) in
+    omega (arith, ap (λ (w : PacketName). w.precinct) same)
+
+row_apart : (o : Order) (q : Resolution) (from to : ℕ) → AllPairs Apart (row_heads o q from to)
+row_apart o q from to =
+    let P : List PacketName → Type 0 = λ xs. AllPairs Apart xs in
+    elim (cases_Bool (by_layer o)) [
+      | inl h ↦
+          subst P (sym (layers_are o q from to h)) (joined_pairs Apart (one_layer_head q) from to (λ n. one_pairs (name_of n q.res q.comp 0)) (layers_apart q))
+      | inr h ↦ elim (cases_lt from to) [
+        | inl some ↦
+            subst P (sym (precincts_are o q from to h some))
+            (joined_pairs Apart (one_precinct_head q from) 0 q.precincts (λ n. one_pairs (name_of from q.res q.comp n)) (precincts_apart q from))
+        | inr none ↦ subst P (sym (no_heads o q from to h none)) (λ m n d lt below. absurd (omega arith))
+      ]
+    ]
+
+rows_apart : (g : Geometry) (layers : ℕ) (e : Progression) (sent : List ℕ) (i j : ℕ) (x y : PacketName) → i < j
+    → Contains (heads_at g layers e sent i) x → Contains (heads_at g layers e sent j) y → Apart x y
+rows_apart g layers e sent i j x y lt hx hy same =
+    let a = (row_has g layers e sent (order_of e.order) i x hx).due in
+    let b = (row_has g layers e sent (order_of e.order) j y hy).due in
+    let one : i ≡ j = rows_once g i j a.below b.below (sym a.comp ∙ ap (λ (w : PacketName). w.comp) same ∙ b.comp)
+    (sym a.res ∙ ap (λ (w : PacketName). w.res) same ∙ b.res) in
+    omega arith
+
+all_apart : (g : Geometry) (layers : ℕ) (e : Progression) (sent : List ℕ) → AllPairs Apart (all_heads g layers e sent)
+unfolding all_heads
+all_apart g layers e sent =
+    joined_pairs Apart (heads_at g layers e sent) 0 (length (resolutions_of g))
+    (λ i. row_apart (order_of e.order) (row_of g i) (slice_index sent i) (row_end layers e (row_of g i)))
+    (rows_apart g layers e sent)
+
+-- ---- nor after a change of places
+abbrev decided : (x y : PacketName) → (x ≡ y) ⊎ (x ≢ y) → Bool
+decided x y (inl e) = true
+decided x y (inr other) = false
+
+abbrev is_one : PacketName → PacketName → Bool
+is_one x y = decided x y (same_or x y)
+
+decided_false : (x y : PacketName) (d : (x ≡ y) ⊎ (x ≢ y)) → Apart x y → decided x y d ≡ false
+decided_false x y (inl e) h = absurd (h e)
+decided_false x y (inr other) h = refl
+
+decided_other : (x y : PacketName) (d : (x ≡ y) ⊎ (x ≢ y)) → decided x y d ≡ false → Apart x y
+decided_other x y (inl e) h = absurd (cc)
+decided_other x y (inr other) h = other
+
+decided_flips : (x y : PacketName) (d : (x ≡ y) ⊎ (x ≢ y)) (f : (y ≡ x) ⊎ (y ≢ x)) → decided x y d ≡ decided y x f
+decided_flips x y (inl e) (inl f) = refl
+decided_flips x y (inl e) (inr f) = absurd (f (sym e))
+decided_flips x y (inr e) (inl f) = absurd (e (sym f))
+decided_flips x y (inr e) (inr f) = refl
+
+pairs_permuted : (xs ys : List PacketName) → IsPermutation xs ys → AllPairs Apart xs → AllPairs Apart ys
+pairs_permuted xs ys moved h =
+    let flips : (x y : PacketName) → is_one x y ≡ is_one y x = λ x y. decided_flips x y (same_or x y) (same_or y x) in
+    let before = IsDistinct-from_apart is_one xs (λ i j d lt below.
+    decided_false (get_or xs i d) (get_or xs j d) (same_or (get_or xs i d) (get_or xs j d)) (h i j d lt below)) in
+    let after = IsDistinct-IsPermutation is_one flips xs ys moved before in
+    λ i j d lt below. decided_other (get_or ys i d) (get_or ys j d) (same_or (get_or ys i d) (get_or ys j d))
+    (apart_from_distinct is_one ys i j d after lt below)
+
+-- ---- the numbers that are sorted by are those that the packets of a group share
+abbrev head_of : Geometry → Order → PacketName → List ℕ
+head_of g Lrcp p = p.layer ∷ p.res ∷ p.comp ∷ 0 ∷ []
+head_of g Rlcp p = p.res ∷ p.layer ∷ p.comp ∷ 0 ∷ []
+head_of g Rpcl p = p.res ∷ down_of g p ∷ across_of g p ∷ p.comp ∷ []
+head_of g Pcrl p = down_of g p ∷ across_of g p ∷ p.comp ∷ p.res ∷ []
+head_of g Cprl p = p.comp ∷ down_of g p ∷ across_of g p ∷ p.res ∷ []
+
+pub head_less : (g : Geometry) (o : Order) (p q : PacketName) → IsLess (head_of g o p) (head_of g o q) → ComesBefore g o p q
+head_less g Lrcp p q h =
+    less_more (p.layer ∷ p.res ∷ p.comp ∷ []) (q.layer ∷ q.res ∷ q.comp ∷ []) (p.precinct ∷ []) (q.precinct ∷ [])
+    (drop_zero p.layer p.res p.comp q.layer q.res q.comp h)
+head_less g Rlcp p q h =
+    less_more (p.res ∷ p.layer ∷ p.comp ∷ []) (q.res ∷ q.layer ∷ q.comp ∷ []) (p.precinct ∷ []) (q.precinct ∷ [])
+    (drop_zero p.res p.layer p.comp q.res q.layer q.comp h)
+head_less g Rpcl p q h = less_more (head_of g Rpcl p) (head_of g Rpcl q) (p.layer ∷ []) (q.layer ∷ []) h
+head_less g Pcrl p q h = less_more (head_of g Pcrl p) (head_of g Pcrl q) (p.layer ∷ []) (q.layer ∷ []) h
+head_less g Cprl p q h = less_more (head_of g Cprl p) (head_of g Cprl q) (p.layer ∷ []) (q.layer ∷ []) h
+
+across_there : (g : Geometry) (layers : ℕ) (p : PacketName) → IsPacket g layers p → across_or g p ≡ across_of g p
+unfolding across_or
+across_there g layers p h =
+    let lt : p.precinct < count_of g p.comp p.res = omega (arith, h.precinct, count_is g p.comp p.res h.resolution) in
+    grind (arith, nat_tests)
+
+down_there : (g : Geometry) (layers : ℕ) (p : PacketName) → IsPacket g layers p → down_or g p ≡ down_of g p
+unfolding down_or
+down_there g layers p h =
+    let lt : p.precinct < count_of g p.comp p.res = omega (arith, h.precinct, count_is g p.comp p.res h.resolution) in
+    grind (arith, nat_tests)
+
+key_is : (g : Geometry) (layers : ℕ) (o : Order) (p : PacketName) → IsPacket g layers p → numbers_of (sort_key g o p) ≡ head_of g o p
+unfolding sort_key
+key_is g layers Lrcp p h = refl
+key_is g layers Rlcp p h = refl
+key_is g layers Rpcl p h =
+    ap (λ x. numbers_of (precinct_key Rpcl p x (down_or g p))) (across_there g layers p h) ∙ ap (λ y. numbers_of (precinct_key Rpcl p (across_of g p) y)) (down_there g layers p h)
+key_is g layers Pcrl p h =
+    ap (λ x. numbers_of (precinct_key Pcrl p x (down_or g p))) (across_there g layers p h) ∙ ap (λ y. numbers_of (precinct_key Pcrl p (across_of g p) y)) (down_there g layers p h)
+key_is g layers Cprl p h =
+    ap (λ x. numbers_of (precinct_key Cprl p x (down_or g p))) (across_there g layers p h) ∙ ap (λ y. numbers_of (precinct_key Cprl p (across_of g p) y)) (down_there g layers p h)
+
+layer_shares : (g : Geometry) (o : Order) (x : PacketName) (k : ℕ) → by_layer o ≡ true → head_of g o (name_of x.layer x.res x.comp k) ≡ head_of g o x
+layer_shares g Lrcp x k h = refl
+layer_shares g Rlcp x k h = refl
+layer_shares g Rpcl x k h = absurd (cc)
+layer_shares g Pcrl x k h = absurd (cc)
+layer_shares g Cprl x k h = absurd (cc)
+
+precinct_shares : (g : Geometry) (o : Order) (x : PacketName) (n : ℕ) → by_layer o ≡ false → head_of g o (name_of n x.res x.comp x.precinct) ≡ head_of g o x
+precinct_shares g Lrcp x n h = absurd (cc)
+precinct_shares g Rlcp x n h = absurd (cc)
+precinct_shares g Rpcl x n h = refl
+precinct_shares g Pcrl x n h = refl
+precinct_shares g Cprl x n h = refl
+
+shares : (g : Geometry) (o : Order) (end : ℕ) (x p : PacketName) → Contains (group_names g o end x) p → head_of g o p ≡ head_of g o x
+shares g o end x p c =
+    let s = stands_in g o end x p c in
+    elim (cases_Bool (by_layer o)) [
+      | inl h ↦ ap (λ (q : PacketName). head_of g o q) (s.layer h).1 ∙ layer_shares g o x p.precinct h
+      | inr h ↦ ap (λ (q : PacketName). head_of g o q) (s.precinct h).2 ∙ precinct_shares g o x p.layer h
+    ]
+
+-- ---- two first packets of one key are one
+record Heads (a b c d a' b' c' d' : ℕ) : Type 0 where
+  pub first : a ≡ a'
+  pub second : b ≡ b'
+  pub third : c ≡ c'
+  pub fourth : d ≡ d'
+
+four : (a b c d a' b' c' d' : ℕ) → (a ∷ b ∷ c ∷ d ∷ []) ≡ (a' ∷ b' ∷ c' ∷ d' ∷ []) → Heads a b c d a' b' c' d'
+four a b c d a' b' c' d' e = record { first = cc; second = cc; third = cc; fourth = cc }
+
+-- the layer, resolution and component of packets with one head
+record SameRow (p q : PacketName) : Type 0 where
+  pub comp : p.comp ≡ q.comp
+  pub res : p.res ≡ q.res
+
+head_row : (g : Geometry) (o : Order) (p q : PacketName) → head_of g o p ≡ head_of g o q → SameRow p q
+head_row g Lrcp p q e = let f = four p.layer p.res p.comp 0 q.layer q.res q.comp 0 e in record { comp = f.third; res = f.second }
+head_row g Rlcp p q e = let f = four p.res p.layer p.comp 0 q.res q.layer q.comp 0 e in record { comp = f.third; res = f.first }
+head_row g Rpcl p q e =
+    let f = four p.res (down_of g p) (across_of g p) p.comp q.res (down_of g q) (across_of g q) q.comp e in record { comp = f.fourth; res = f.first }
+head_row g Pcrl p q e =
+    let f = four (down_of g p) (across_of g p) p.comp p.res (down_of g q) (across_of g q) q.comp q.res e in record { comp = f.third; res = f.fourth }
+head_row g Cprl p q e =
+    let f = four p.comp (down_of g p) (across_of g p) p.res q.comp (down_of g q) (across_of g q) q.res e in record { comp = f.first; res = f.fourth }
+
+head_layer : (g : Geometry) (o : Order) (p q : PacketName) → by_layer o ≡ true → head_of g o p ≡ head_of g o q → p.layer ≡ q.layer
+head_layer g Lrcp p q h e = (four p.layer p.res p.comp 0 q.layer q.res q.comp 0 e).first
+head_layer g Rlcp p q h e = (four p.res p.layer p.comp 0 q.res q.layer q.comp 0 e).second
+head_layer g Rpcl p q h e = absurd (cc)
+head_layer g Pcrl p q h e = absurd (cc)
+head_layer g Cprl p q h e = absurd (cc)
+
+head_precinct : (g : Geometry) (layers : ℕ) (o : Order) (p q : PacketName) → GeometryInRange g → IsPacket g layers p → IsPacket g layers q
+    → by_layer o ≡ false → head_of g o p ≡ head_of g o q → p.precinct ≡ q.precinct
+head_precinct g layers Lrcp p q range hp hq h e = absurd (cc)
+head_precinct g layers Rlcp p q range hp hq h e = absurd (cc)
+head_precinct g layers Rpcl p q range hp hq h e =
+    let f = four p.res (down_of g p) (across_of g p) p.comp q.res (down_of g q) (across_of g q) q.comp e in
+    same_place g layers p q range hp hq f.fourth f.first f.third f.second
+head_precinct g layers Pcrl p q range hp hq h e =
+    let f = four (down_of g p) (across_of g p) p.comp p.res (down_of g q) (across_of g q) q.comp q.res e in
+    same_place g layers p q range hp hq f.third f.fourth f.second f.first
+head_precinct g layers Cprl p q range hp hq h e =
+    let f = four p.comp (down_of g p) (across_of g p) p.res q.comp (down_of g q) (across_of g q) q.res e in
+    same_place g layers p q range hp hq f.first f.fourth f.third f.second
+
+-- first packets of one head
+one_first : (g : Geometry) (layers : ℕ) (e : Progression) (sent : List ℕ) (o : Order) (x y : PacketName) → GeometryInRange g
+    → Listed g layers e sent x → Listed g layers e sent y → IsFirst g sent o x → IsFirst g sent o y → head_of g o x ≡ head_of g o y → x ≡ y
+one_first g layers e sent o x y range lx ly fx fy same =
+    let row = head_row g o x y same in
+    elim (cases_Bool (by_layer o)) [
+      | inl h ↦ same_fields x y (head_layer g o x y h same) row.res row.comp (fx.precinct h ∙ sym (fy.precinct h))
+      | inr h ↦
+          let layer : x.layer ≡ y.layer =
+          fx.layer h ∙ ap (λ c. sent_at g sent c x.res) row.comp ∙ ap (λ r. sent_at g sent y.comp r) row.res ∙ sym (fy.layer h) in
+          same_fields x y layer row.res row.comp (head_precinct g layers o x y range lx.0 ly.0 h same)
+    ]
+
+-- ---- packets of one group
+layer_rises : (g : Geometry) (o : Order) (x : PacketName) (i j : ℕ) → by_layer o ≡ true → i < j
+    → ComesBefore g o (name_of x.layer x.res x.comp i) (name_of x.layer x.res x.comp j)
+layer_rises g Lrcp x i j h lt = inr (refl, inr (refl, inr (refl, inl lt)))
+layer_rises g Rlcp x i j h lt = inr (refl, inr (refl, inr (refl, inl lt)))
+layer_rises g Rpcl x i j h lt = absurd (cc)
+layer_rises g Pcrl x i j h lt = absurd (cc)
+layer_rises g Cprl x i j h lt = absurd (cc)
+
+precinct_rises : (g : Geometry) (o : Order) (x : PacketName) (i j : ℕ) → by_layer o ≡ false → i < j
+    → ComesBefore g o (name_of i x.res x.comp x.precinct) (name_of j x.res x.comp x.precinct)
+precinct_rises g Lrcp x i j h lt = absurd (cc)
+precinct_rises g Rlcp x i j h lt = absurd (cc)
+precinct_rises g Rpcl x i j h lt = inr (refl, inr (refl, inr (refl, inr (refl, inl lt))))
+precinct_rises g Pcrl x i j h lt = inr (refl, inr (refl, inr (refl, inr (refl, inl lt))))
+precinct_rises g Cprl x i j h lt = inr (refl, inr (refl, inr (refl, inr (refl, inl lt))))
+
+pub one_name_pairs : (g : Geometry) (o : Order) (p : PacketName) → AllPairs (ComesBefore g o) (p ∷ [])
+one_name_pairs g o p i j d lt below = absurd (omega arith)
+
+moved_before : (g : Geometry) (o : Order) (x y p q : PacketName) → x ≡ p → y ≡ q → ComesBefore g o p q → ComesBefore g o x y
+moved_before g o x y p q ex ey h =
+    let P : PacketName → Type 0 = λ v. ComesBefore g o v q in
+    let Q : PacketName → Type 0 = λ w. ComesBefore g o x w in
+    subst Q (sym ey) (subst P (sym ex) h)
+
+names_rise : (g : Geometry) (o : Order) (end : ℕ) (x : PacketName) → AllPairs (ComesBefore g o) (group_names g o end x)
+names_rise g o end x =
+    let P : List PacketName → Type 0 = λ xs. AllPairs (ComesBefore g o) xs in
+    elim (cases_Bool (by_layer o)) [
+      | inl h ↦
+          subst P (sym (layer_names g o end x h))
+          (joined_pairs (ComesBefore g o) (one_precinct x) 0 (count_of g x.comp x.res) (λ k. one_name_pairs g o (name_of x.layer x.res x.comp k))
+          (λ i j a b lt ha hb. moved_before g o a b (name_of x.layer x.res x.comp i) (name_of x.layer x.res x.comp j) (one_has _ a ha) (one_has _ b hb)
+          (layer_rises g o x i j h lt)))
+      | inr h ↦
+          subst P (sym (precinct_names g o end x h))
+          (joined_pairs (ComesBefore g o) (one_layer x) x.layer end (λ l. one_name_pairs g o (name_of l x.res x.comp x.precinct))
+          (λ i j a b lt ha hb. moved_before g o a b (name_of i x.res x.comp x.precinct) (name_of j x.res x.comp x.precinct) (one_has _ a ha) (one_has _ b hb)
+          (precinct_rises g o x i j h lt)))
+    ]
+
+-- ---- what is listed and sorted is what the entry sends
+abbrev pub names_of : Geometry → ℕ → Progression → List PacketName → List PacketName
+names_of g layers e ys = flat_map (group_names g (order_of e.order) (min e.lye layers)) ys
+
+abbrev Before : Geometry → Order → PacketName → PacketName → Type 0
+Before g o x y = IsLess (head_of g o x) (head_of g o y)
+
+pub exact_names : (g : Geometry) (layers : ℕ) (e : Progression) (sent : List ℕ) (ys : List PacketName)
+    → ((x : PacketName) → Contains ys x → Contains (all_heads g layers e sent) x)
+    → ((x : PacketName) → Contains (all_heads g layers e sent) x → Contains ys x)
+    → (p : PacketName) → Contains (names_of g layers e ys) p ↔ Listed g layers e sent p
+exact_names g layers e sent ys to from p = (
+  λ h. (let n = flat_has (group_names g (order_of e.order) (min e.lye layers)) ys p h in
+      name_listed g layers e sent (order_of e.order) n.0 p (head_to g layers e sent n.0 (to n.0 n.1)).0 n.2),
+  λ h. (let i = in_group g layers e sent p h in
+      flat_from (group_names g (order_of e.order) (min e.lye layers)) ys i.first p (from i.first i.there) i.has),
+)
+
+heads_sorted : (g : Geometry) (layers : ℕ) (e : Progression) (sent : List ℕ) (ys : List PacketName) → GeometryInRange g
+    → ((x : PacketName) → Contains ys x → Contains (all_heads g layers e sent) x) → AllPairs Apart ys → AreSorted g (order_of e.order) ys
+    → AllPairs (Before g (order_of e.order)) ys
+heads_sorted g layers e sent ys range to apart sorted =
+    pairs_from_next (Before g (order_of e.order))
+    (λ x y z. less_trans (head_of g (order_of e.order) x) (head_of g (order_of e.order) y) (head_of g (order_of e.order) z)) ys (λ k d below.
+    (let here : k < length ys = omega arith in
+    let a = head_to g layers e sent (get_or ys k d) (to (get_or ys k d) (Contains-get_or ys k d here)) in
+    let b = head_to g layers e sent (get_or ys (k + 1) d) (to (get_or ys (k + 1) d) (Contains-get_or ys (k + 1) d below)) in
+    let ex = key_is g layers (order_of e.order) (get_or ys k d) a.0.0 in
+    let ey = key_is g layers (order_of e.order) (get_or ys (k + 1) d) b.0.0 in
+    let P : List ℕ → Type 0 = λ v. IsLess v (numbers_of (sort_key g (order_of e.order) (get_or ys (k + 1) d))) in
+    let Q : List ℕ → Type 0 = λ w. IsLess (head_of g (order_of e.order) (get_or ys k d)) w in
+    elim (sorted k d below) [
+      | inl less ↦ subst Q ey (subst P ex less)
+      | inr same ↦
+          absurd (apart k (k + 1) d (omega arith) below (one_first g layers e sent (order_of e.order) (get_or ys k d) (get_or ys (k + 1) d) range a.0 b.0 a.1 b.1
+          (sym ex ∙ same ∙ ey)))
+    ]))
+
+between : (g : Geometry) (o : Order) (end : ℕ) (x y p q : PacketName) → Before g o x y → Contains (group_names g o end x) p
+    → Contains (group_names g o end y) q → ComesBefore g o p q
+between g o end x y p q less cp cq =
+    let P : List ℕ → Type 0 = λ v. IsLess v (head_of g o y) in
+    let Q : List ℕ → Type 0 = λ w. IsLess (head_of g o p) w in
+    head_less g o p q (subst Q (sym (shares g o end y q cq)) (subst P (sym (shares g o end x p cp)) less))
+
+pub sorted_lists : (g : Geometry) (layers : ℕ) (e : Progression) (sent : List ℕ) (xs ys : List PacketName) → GeometryInRange g
+    → xs ≡ all_heads g layers e sent → IsPermutation xs ys → AreSorted g (order_of e.order) ys → Lists g layers e sent (names_of g layers e ys)
+sorted_lists g layers e sent xs ys range made moved sorted =
+    let C : PacketName → List PacketName → Type 0 = λ q l. Contains l q in
+    let to : (x : PacketName) → Contains ys x → Contains (all_heads g layers e sent) x = λ x h.
+    subst (C x) made (Contains-permutation ys xs x (IsPermutation-sym xs ys moved) h) in
+    let from : (x : PacketName) → Contains (all_heads g layers e sent) x → Contains ys x = λ x h.
+    Contains-permutation xs ys x moved (subst (C x) (sym made) h) in
+    let P : List PacketName → Type 0 = λ l. AllPairs Apart l in
+    let apart : AllPairs Apart ys = pairs_permuted xs ys moved (subst P (sym made) (all_apart g layers e sent)) in
+    record {
+      exact = exact_names g layers e sent ys to from;
+      sorted = flat_pairs (Before g (order_of e.order)) (ComesBefore g (order_of e.order)) (group_names g (order_of e.order) (min e.lye layers)) ys
+          (heads_sorted g layers e sent ys range to apart sorted) (λ x h. names_rise g (order_of e.order) (min e.lye layers) x)
+          (λ x y p q hx hy r cp cq. between g (order_of e.order) (min e.lye layers) x y p q r cp cq);
+    }
+
+-- none of them stands for nothing
+pub some_each : (g : Geometry) (layers : ℕ) (e : Progression) (sent : List ℕ) (xs ys : List PacketName) → xs ≡ all_heads g layers e sent
+    → IsPermutation xs ys → All (λ x. 0 < group_size g (order_of e.order) (min e.lye layers) x) ys
+some_each g layers e sent xs ys made moved k d lt =
+    let C : List PacketName → Type 0 = λ l. Contains l (get_or ys k d) in
+    some_names g layers e sent (order_of e.order) (get_or ys k d)
+    (head_to g layers e sent (get_or ys k d) (subst C made (Contains-permutation ys xs (get_or ys k d) (IsPermutation-sym xs ys moved) (Contains-get_or ys k d lt)))).0
+
+-- ---- the same of an order and an end that are these
+pub entry_some : (g : Geometry) (layers : ℕ) (e : Progression) (sent : List ℕ) (o : Order) (end : ℕ) (xs ys zs : List PacketName) → o ≡ order_of e.order
+    → end ≡ min e.lye layers → xs ≡ all_heads g layers e sent → IsPermutation xs ys → zs ≡ ys → All (λ x. 0 < group_size g o end x) zs
+entry_some g layers e sent o end xs ys zs eo ee made moved same =
+    let P : Order → Type 0 = λ v. All (λ x. 0 < group_size g v end x) zs in
+    let Q : ℕ → Type 0 = λ n. All (λ x. 0 < group_size g (order_of e.order) n x) zs in
+    let R : List PacketName → Type 0 = λ l. All (λ x. 0 < group_size g (order_of e.order) (min e.lye layers) x) l in
+    subst P (sym eo) (subst Q (sym ee) (subst R (sym same) (some_each g layers e sent xs ys made moved)))
+
+pub entry_lists : (g : Geometry) (layers : ℕ) (e : Progression) (sent : List ℕ) (o : Order) (end : ℕ) (xs ys zs names : List PacketName) → GeometryInRange g
+    → o ≡ order_of e.order → end ≡ min e.lye layers → xs ≡ all_heads g layers e sent → IsPermutation xs ys → AreSorted g o ys → zs ≡ ys
+    → names ≡ flat_map (group_names g o end) zs → Lists g layers e sent names
+entry_lists g layers e sent o end xs ys zs names range eo ee made moved sorted same is =
+    let P : Order → Type 0 = λ v. AreSorted g v ys in
+    let L : List PacketName → Type 0 = λ l. Lists g layers e sent l in
+    let named : names ≡ names_of g layers e ys =
+    is ∙ ap (λ (l : List PacketName). flat_map (group_names g o end) l) same ∙ ap (λ (v : Order). flat_map (group_names g v end) ys) eo
+    ∙ ap (λ n. flat_map (group_names g (order_of e.order) n) ys) ee in
+    subst L (sym named) (sorted_lists g layers e sent xs ys range made moved (subst P eo sorted))

@@ -1,5 +1,0 @@
-use Rattle.jx_stream.proofs.FrontLemmas as front
-use Rattle.jx_stream.proofs.laws.one_first.Goals as goal
-
-pub returns : goal.returns
-returns c = front.one_first

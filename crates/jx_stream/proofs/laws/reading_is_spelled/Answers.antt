@@ -1,5 +1,0 @@
-use Rattle.jx_stream.proofs.WholeLemmas.{whole_spelled}
-use Rattle.jx_stream.proofs.laws.reading_is_spelled.Goals as goal
-
-pub returns : goal.returns
-returns c = whole_spelled

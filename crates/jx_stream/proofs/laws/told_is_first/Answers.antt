@@ -1,5 +1,0 @@
-use Rattle.jx_stream.proofs.FrontLemmas as front
-use Rattle.jx_stream.proofs.laws.told_is_first.Goals as goal
-
-pub returns : goal.returns
-returns c = front.told_is_first

@@ -1,6 +1,0 @@
-use Rattle.std.proofs.Common.{◌≡◌, drop}
-use Rattle.jx_stream.specs.Tiles.{in_slot}
-use Rattle.jx_stream.proofs.tiles.in_slot.Given as goal
-
-abbrev pub invariant-loop-segment : goal.invariant-loop-segment
-invariant-loop-segment l = in_slot l.slot l.segments ≡ in_slot l.slot (drop l.segment-index l.segments)

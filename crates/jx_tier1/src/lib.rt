@@ -1,0 +1,28 @@
+//! Decoding and coding of coded passes (ITU-T T.800, Annex D) in the fast form: the significance of a
+//! block is kept packed, one word for each column of a stripe, and labels are read from a table.
+#![tactic(auto)]
+
+mod answers;
+mod coefs;
+mod copier;
+mod decode;
+mod decoder;
+mod encode;
+mod encoder;
+mod field;
+mod grid;
+mod labels;
+mod pen;
+mod recode;
+mod recoder;
+mod runs;
+mod scan;
+mod signs;
+mod steps;
+mod writer;
+
+pub use decode::{FlagDecoded, decode_flags, sound_flags};
+pub use encode::encode_flags;
+pub use grid::FlagGrid;
+pub use jx_tier1_specs::{BadSymbol, Coded, Coef, Segments};
+pub use recode::{FlagRecoded, recode_flags};

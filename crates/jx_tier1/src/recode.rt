@@ -1,0 +1,164 @@
+ghost use Rattle.std.specs.Prelude.{◌≡◌, ◌-◌, ◌*◌, ◌^◌, ◌<◌, ◌≤◌, ℕ, List, map, IfOk, OnOk};
+ghost use Rattle.jx_base.specs.Passes.{is_causal};
+ghost use Rattle.jx_tier1_specs.specs.Cells.{Cells, HasSize, AreWithin};
+ghost use Rattle.jx_tier1_specs.specs.Segments.{bytes_of};
+ghost use Rattle.jx_tier1_specs.specs.Reading.{coding_of, decoded};
+ghost use Rattle.jx_tier1_specs.specs.Needs.{written};
+ghost use Rattle.jx_tier1.specs.Labels.{AreLabels};
+ghost use Rattle.jx_tier1.specs.InStep.{Recoding, recoded_from, to_recode};
+ghost use Rattle.jx_passdec.specs.Short.{AreShort};
+
+use crate::copier::Copier;
+use crate::field::Field;
+use crate::labels::labels_of;
+use crate::pen::Pen;
+use crate::recoder::Recoder;
+use jx_base::{NoMemory, Style, is_raw};
+use jx_mq::Contexts;
+use jx_passdec::Reader;
+use jx_tier1_specs::Coded;
+use std::alloc::Global;
+
+/// A block that is coded anew.
+#[derive(Drop)]
+pub struct FlagRecoded {
+    /// Its segments in the new style.
+    pub segments: Vec<Vec<u8>>,
+    /// The first pass whose segmentation symbol wasn't 1010 in the old style (T.800 D.5).
+    pub wrong: Option<u16>,
+}
+
+/// How many bytes the first segment of a style may have. More are no harm.
+fn room_of(segments: &[&[u8]], style: Style) -> usize {
+    let mut bytes = 64usize;
+    if style.terminate() {
+        return bytes;
+    }
+    for segment in segments {
+        bytes = bytes.saturating_add(segment.len());
+    }
+    bytes
+}
+
+/// A block of which no pass was decoded.
+fn start<'a>(
+    alloc: Global,
+    width: u16,
+    height: u16,
+    style: Style,
+    segments: &'a [&'a [u8]],
+) -> Result<Recoder<'a>, NoMemory>
+    ensures recoding { IfOk result (λ r. r ≡ to_recode width height style.bits (map bytes_of segments.entry.now)) }
+{
+    let room = room_of(segments, style);
+    let field = Field::new(alloc, width, height)?;
+    let pen = Pen::new(alloc, is_raw(style, 0), room)?;
+    Ok(Recoder {
+        field,
+        copier: Copier {
+            reader: Reader::new(false, &[], Contexts::new()),
+            pen,
+        },
+        segments,
+        next: 0,
+        wrong: None,
+        done: Vec::new(alloc),
+    })
+}
+
+/// What a block gives whose passes were decoded and coded.
+fn end(recoder: Recoder) -> FlagRecoded
+    ensures segments { map (λ s. s.items) result.segments.items ≡ recoder.entry.done }
+    ensures wrong { result.wrong ≡ recoder.entry.wrong }
+{
+    FlagRecoded {
+        segments: recoder.done,
+        wrong: recoder.wrong,
+    }
+}
+
+/// Decodes the passes of a block and codes them.
+#[tactic(auto, using(crate::proofs::RecodeLemmas::recoded_more, crate::proofs::RecodeLemmas::recoded_end, jx_tier1_specs::proofs::Places::within_more))]
+fn run<'a>(
+    recoder: &mut Recoder<'a>,
+    alloc: Global,
+    labels: &[u8],
+    coded: &Coded,
+    style: Style,
+) -> Result<(), NoMemory>
+    requires labels { AreLabels coded.now.band labels.now }
+    requires some { 1 ≤ coded.now.planes }
+    requires planes { coded.now.planes ≤ 74 }
+    requires passes { coded.now.passes ≤ 3 * coded.now.planes - 2 }
+    requires size { HasSize recoder.old.cells }
+    requires within { AreWithin coded.now.planes 1 recoder.old.cells }
+    requires rest { AreShort recoder.old.rest }
+    ensures { let planes = coded.now.planes in let band = coded.now.band in
+        OnOk result (recoder.new ≡ recoded_from (coding_of band coded.now.style.bits planes) (coding_of band style.bits planes) coded.now.passes 0 recoder.old) }
+{
+    for pass in 0..coded.passes {
+        recoder.pass(
+            alloc,
+            labels,
+            coded.band,
+            coded.style,
+            style,
+            coded.planes,
+            pass,
+            pass + 1 == coded.passes,
+        )?;
+    }
+    Ok(())
+}
+
+/// The same from a table of labels that it makes.
+fn run_block<'a>(
+    recoder: &mut Recoder<'a>,
+    alloc: Global,
+    coded: &Coded,
+    style: Style,
+) -> Result<(), NoMemory>
+    requires some { 1 ≤ coded.now.planes }
+    requires planes { coded.now.planes ≤ 74 }
+    requires passes { coded.now.passes ≤ 3 * coded.now.planes - 2 }
+    requires size { HasSize recoder.old.cells }
+    requires within { AreWithin coded.now.planes 1 recoder.old.cells }
+    requires rest { AreShort recoder.old.rest }
+    ensures { let planes = coded.now.planes in let band = coded.now.band in
+        OnOk result (recoder.new ≡ recoded_from (coding_of band coded.now.style.bits planes) (coding_of band style.bits planes) coded.now.passes 0 recoder.old) }
+{
+    let labels = labels_of(alloc, coded.band)?;
+    run(recoder, alloc, &labels, coded, style)
+}
+
+/// The segments in another style of a block of at most 1,024 by 1,024 places, from its coded passes
+/// (T.800, Annex D), which are decoded and coded in step. Each segment has fewer than 2^32 bytes; one
+/// that isn't there is taken as one of no bytes. Both styles agree on causal contexts, so that each
+/// decision is coded as it is read. The segments are those of the coefficients, whatever the
+/// segmentation symbols.
+pub fn recode_flags(
+    alloc: Global,
+    width: u16,
+    height: u16,
+    coded: &Coded,
+    style: Style,
+) -> Result<FlagRecoded, NoMemory>
+    requires wide { width ≤ 1024 }
+    requires high { height ≤ 1024 }
+    requires some { 1 ≤ coded.now.planes }
+    requires planes { coded.now.planes ≤ 74 }
+    requires passes { coded.now.passes ≤ 3 * coded.now.planes - 2 }
+    requires segments { AreShort coded.now.segments }
+    requires causal { is_causal style.bits ≡ is_causal coded.now.style.bits }
+    ensures segments { let c = coding_of coded.now.band coded.now.style.bits coded.now.planes in
+        let d = coding_of coded.now.band style.bits coded.now.planes in
+        IfOk result (λ r. map (λ s. s.items) r.segments.items ≡ written d (decoded width height c coded.now.segments coded.now.passes).cells coded.now.passes) }
+    ensures wrong { let c = coding_of coded.now.band coded.now.style.bits coded.now.planes in
+        IfOk result (λ r. r.wrong ≡ (decoded width height c coded.now.segments coded.now.passes).wrong) }
+{
+    let mut recoder = start(alloc, width, height, style, coded.segments.as_slice())?;
+    let result = run_block(&mut recoder, alloc, coded, style);
+    let recoded = end(recoder);
+    result?;
+    Ok(recoded)
+}

@@ -1,0 +1,149 @@
+-- The tile-parts that are made of a tile's packets: their headers, their lengths, and their data in the file.
+use Rattle.std.proofs.Common.{◌≡◌, ◌∙◌, ◌<◌, ◌≤◌, ◌+◌, ◌^◌, ◌==◌, ℕ, zero, suc, false, arith, List, [], ◌∷◌, ◌++◌, length, map, take, drop, refl, sym, ap, subst, append_assoc, length-append, take_at, cond}
+use Rattle.std.specs.List.{filter, flat_map}
+use Rattle.std.proofs.lemmas.List.Elements.{filter-append}
+use Rattle.jx_marker.specs.declared.Segment.{Segment}
+use Rattle.jx_marker.specs.declared.Segment.TheVariants as segment
+use Rattle.jx_marker.specs.Segments.{spelling}
+use Rattle.jx_progression.specs.declared.names.PacketName.{PacketName}
+use Rattle.jx_codestream.specs.declared.headers.HeaderKind.{HeaderKind}
+use Rattle.jx_codestream.specs.declared.headers.HeaderKind.TheVariants.{First, Later}
+use Rattle.std.proofs.lemmas.Bool.Decides.{nat_tests}
+use Rattle.jx_codestream.specs.declared.parts.Part.{Part}
+use Rattle.jx_codestream.specs.Tiles.{headers_of, is_com, joined}
+use Rattle.jx_codestream.specs.Parts.{kind_of}
+use Rattle.jx_codestream.specs.Spells.{TilePart, AreSegments, all_bytes, head_bytes, part_bytes, placed}
+use Rattle.jx_codestream.proofs.OneLemmas.{drop_on}
+use Rattle.jx_tier2_reader.specs.Written.{Packets, AreFilled, bytes_from}
+use Rattle.jx_tier2_writer.specs.Told.{length_total}
+use Rattle.jx_tier2_writer.specs.Lengths.{numbered}
+use Rattle.jx_tier2_writer.specs.Ready.{AreShort}
+use Rattle.jx_plan.specs.declared.Marks.{Marks}
+use Rattle.jx_tier2_writer.specs.TileParts.{packet_length, part_header, parts_with, tile_part}
+use Rattle.jx_tier2_writer.proofs.HeaderLemmas.{lengths_none, lengths_stand, segments_on}
+use Rattle.jx_plan.proofs.ReadBackLemmas.{none_both as joined_on}
+use Rattle.jx_tier2_writer.proofs.HeldLemmas.{held_by, held_few, held_fit, packets_long, segments_are}
+use Rattle.jx_tier2_writer.proofs.FewLemmas.{AreFew}
+use Rattle.jx_tier2_writer.proofs.TurnLemmas.{AreOf}
+
+-- the tile's own header, in the first tile-part alone
+abbrev pub own_at : ℕ → List Segment → List Segment
+own_at zero own = own
+own_at (suc part) own = []
+
+pub header_is : (m : Marks) (own : List Segment) (part : ℕ) (lengths : List ℕ) → part_header m own part lengths ≡ own_at part own ++ numbered 0 (held_by m.plt lengths)
+header_is m own zero lengths = ap (λ (z : List Segment). own ++ z) (segments_are m.plt lengths)
+header_is m own (suc part) lengths = segments_are m.plt lengths
+
+-- ---- headers
+header_fits : (m : Marks) (comps t part parts : ℕ) (own : List Segment) (lengths body : List ℕ) → AreSegments First comps [] own → length lengths ≤ 2 ^ 22 → length_total lengths < 2 ^ 32
+    → let p = tile_part comps t part parts (part_header m own part lengths) body in AreSegments (kind_of p.sot) comps [] p.header
+header_fits m comps t zero parts own lengths body fit count short =
+    let P : List Segment → Type 0 = λ z. AreSegments First comps [] z in
+    subst P (sym (header_is m own zero lengths)) (segments_on First comps [] own (numbered 0 (held_by m.plt lengths)) fit
+    (lengths_stand First comps 0 own (held_by m.plt lengths) (λ bytes. refl) (omega (arith, held_few m.plt lengths count short)) (held_fit m.plt lengths)))
+header_fits m comps t (suc part) parts own lengths body fit count short =
+    let P : List Segment → Type 0 = λ z. AreSegments Later comps [] z in
+    let Q : HeaderKind → Type 0 = λ k. AreSegments k comps [] (part_header m own (suc part) lengths) in
+    let none : (suc part == 0) ≡ false = not_first part in
+    let kind : cond (suc part == 0) First Later ≡ Later = rw none refl in
+    subst Q (sym kind) (subst P (sym (header_is m own (suc part) lengths)) (lengths_stand Later comps 0 [] (held_by m.plt lengths) (λ bytes. refl) (omega (arith, held_few m.plt lengths count short)) (held_fit m.plt lengths)))
+  where
+    not_first : (k : ℕ) → (suc k == 0) ≡ false
+    not_first k = grind (arith, nat_tests)
+
+-- ---- lengths
+pub part_long : (comps t part parts : ℕ) (header : List Segment) (body : List ℕ) → 14 + length (all_bytes comps header) + length body ≡ length (part_bytes comps (tile_part comps t part parts header body))
+part_long comps t part parts header body =
+    let p : TilePart = tile_part comps t part parts header body in
+    let front : length (head_bytes comps p) ≡ 12 + length (all_bytes comps header ++ spelling comps segment.Sod) = omega arith in
+    omega (arith, length-append (head_bytes comps p) body, front, length-append (all_bytes comps header) (spelling comps segment.Sod))
+
+pub lengths_short : (ps : Packets) (number header : ℕ) (names : List PacketName) → 14 + header + length (bytes_from ps number names) < 2 ^ 32 → length_total (map (packet_length ps) names) < 2 ^ 32
+lengths_short ps number header names h = omega (arith, packets_long ps number names)
+
+lengths_count : (ps : Packets) (names : List PacketName) → length (map (packet_length ps) names) ≡ length names
+lengths_count ps [] = refl
+lengths_count ps (p ∷ names) = ap suc (lengths_count ps names)
+
+module _ (m : Marks) (comps t : ℕ) (own : List Segment) (ps : Packets) (parts : ℕ) where
+  pub made_of : (part number : ℕ) (groups : List (List PacketName)) → AreSegments First comps [] own → AreFew groups → AreShort (parts_with m comps t own ps part parts number groups)
+      → AreOf comps t parts part (parts_with m comps t own ps part parts number groups)
+  made_of part number [] fit few short = tt
+  made_of part number (names ∷ groups) fit few short =
+      let lengths : List ℕ = map (packet_length ps) names in
+      let header : List Segment = part_header m own part lengths in
+      let body : List ℕ = bytes_from ps number names in
+      let count : length lengths ≤ 2 ^ 22 = omega (arith, lengths_count ps names, few.0) in
+      let low : length_total lengths < 2 ^ 32 = lengths_short ps number (length (all_bytes comps header)) names short.0 in (
+        record {
+          tile = refl;
+          part_is = refl;
+          parts = refl;
+          header = header_fits m comps t part parts own lengths body fit count low;
+          long = part_long comps t part parts header body;
+          short = short.0;
+        },
+        made_of (part + 1) (number + length names) groups fit few.1 short.1,
+      )
+
+  pub made_long : (part number : ℕ) (groups : List (List PacketName)) → length (parts_with m comps t own ps part parts number groups) ≡ length groups
+  made_long part number [] = refl
+  made_long part number (names ∷ groups) = ap suc (made_long (part + 1) (number + length names) groups)
+
+  -- ---- no POC
+  header_entries : (part : ℕ) (lengths : List ℕ) → joined own ≡ [] → joined (part_header m own part lengths) ≡ []
+  header_entries part lengths none =
+      let P : List Segment → Type 0 = λ z. joined z ≡ [] in
+      subst P (sym (header_is m own part lengths)) (joined_on (own_at part own) (numbered 0 (held_by m.plt lengths)) (at part) (lengths_none 0 (held_by m.plt lengths)))
+    where
+      at : (k : ℕ) → joined (own_at k own) ≡ []
+      at zero = none
+      at (suc k) = refl
+
+  pub made_entries : (part number at : ℕ) (groups : List (List PacketName)) → joined own ≡ [] → joined (headers_of (placed comps at (parts_with m comps t own ps part parts number groups))) ≡ []
+  made_entries part number at [] none = refl
+  made_entries part number at (names ∷ groups) none =
+      let lengths : List ℕ = map (packet_length ps) names in
+      let p : TilePart = tile_part comps t part parts (part_header m own part lengths) (bytes_from ps number names) in
+      joined_on (part_header m own part lengths) (headers_of (placed comps (at + length (part_bytes comps p)) (parts_with m comps t own ps (part + 1) parts (number + length names) groups)))
+      (header_entries part lengths none) (made_entries (part + 1) (number + length names) (at + length (part_bytes comps p)) groups none)
+
+  -- ---- no COM in later tile-parts
+  later_header : (part : ℕ) (lengths : List ℕ) → 0 < part → part_header m own part lengths ≡ numbered 0 (held_by m.plt lengths)
+  later_header zero lengths some = absurd (omega arith)
+  later_header (suc part) lengths some = header_is m own (suc part) lengths
+
+  no_notes : (k : ℕ) (held : List (List ℕ)) → filter is_com (numbered k held) ≡ []
+  no_notes k [] = refl
+  no_notes k (bytes ∷ held) = no_notes (k + 1) held
+
+  pub made_notes : (part number at : ℕ) (groups : List (List PacketName)) → 0 < part → filter is_com (headers_of (placed comps at (parts_with m comps t own ps part parts number groups))) ≡ []
+  made_notes part number at [] some = refl
+  made_notes part number at (names ∷ groups) some =
+      let lengths : List ℕ = map (packet_length ps) names in
+      let p : TilePart = tile_part comps t part parts (part_header m own part lengths) (bytes_from ps number names) in
+      let later : List Segment = headers_of (placed comps (at + length (part_bytes comps p)) (parts_with m comps t own ps (part + 1) parts (number + length names) groups)) in
+      filter-append is_com (part_header m own part lengths) later
+      ∙ ap (λ (z : List Segment). filter is_com z ++ filter is_com later) (later_header part lengths some)
+      ∙ ap (λ (z : List Segment). z ++ filter is_com later) (no_notes 0 (held_by m.plt lengths))
+      ∙ made_notes (part + 1) (number + length names) (at + length (part_bytes comps p)) groups (omega arith)
+
+  -- ---- data
+  pub made_filled : (b : List ℕ) (part number at : ℕ) (groups : List (List PacketName)) (more : List ℕ)
+      → drop at b ≡ flat_map (part_bytes comps) (parts_with m comps t own ps part parts number groups) ++ more
+      → AreFilled b ps number (map (λ (p : Part). p.body) (placed comps at (parts_with m comps t own ps part parts number groups))) groups
+  made_filled b part number at [] more h = tt
+  made_filled b part number at (names ∷ groups) more h =
+      let body : List ℕ = bytes_from ps number names in
+      let p : TilePart = tile_part comps t part parts (part_header m own part (map (packet_length ps) names)) body in
+      let later : List TilePart = parts_with m comps t own ps (part + 1) parts (number + length names) groups in
+      let after : List ℕ = flat_map (part_bytes comps) later ++ more in
+      let whole : drop at b ≡ part_bytes comps p ++ after = h ∙ append_assoc (part_bytes comps p) (flat_map (part_bytes comps) later) more in
+      let split : drop at b ≡ head_bytes comps p ++ (body ++ after) = whole ∙ append_assoc (head_bytes comps p) body after in
+      let there : drop (at + length (head_bytes comps p)) b ≡ body ++ after = drop_on b at (length (head_bytes comps p)) (head_bytes comps p) (body ++ after) split refl in
+      let next : drop (at + length (part_bytes comps p)) b ≡ after = drop_on b at (length (part_bytes comps p)) (part_bytes comps p) after whole refl in (
+        ap (λ (z : List ℕ). take (length body) z) there ∙ take_at body after (length body) refl,
+        refl,
+        made_filled b (part + 1) (number + length names) (at + length (part_bytes comps p)) groups more next,
+      )

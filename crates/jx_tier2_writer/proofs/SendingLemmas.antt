@@ -1,0 +1,29 @@
+-- What is sent of a precinct.
+use Rattle.std.proofs.Common.{◌≡◌, ℕ, zero, suc, ◌+◌, List, [], ◌∷◌, ◌++◌, refl, sym, ap, ◌∙◌, subst, arith}
+use Rattle.std.specs.Global.{Vec}
+use Rattle.std.proofs.lemmas.List.Elements.{All-from_recursion}
+use Rattle.jx_base.specs.Joined.{joined}
+use Rattle.jx_base.proofs.Joined.{joined_next}
+use Rattle.jx_tier2_writer.specs.Sent.{AreSent, IsSent, row_at, rows_of}
+use Rattle.jx_tier2_writer.specs.declared.sent.Sent.{Sent}
+
+pub none_more : (vecs : List (Vec Sent)) (v : Vec Sent) → v.items ≡ [] → ((l : ℕ) → row_at (rows_of vecs) l ≡ []) → (l : ℕ) → row_at (rows_of (vecs ++ v ∷ [])) l ≡ []
+none_more [] v none before zero = none
+none_more [] v none before (suc l) = refl
+none_more (w ∷ vecs) v none before zero = before 0
+none_more (w ∷ vecs) v none before (suc l) = none_more vecs v none (λ i. before (suc i)) l
+
+pub one_pushed : {X : Type 0} (a b : List X) (x : X) → a ≡ [] → b ≡ a ++ x ∷ [] → b ≡ x ∷ []
+one_pushed {X} a b x none one = one ∙ ap (λ (xs : List X). xs ++ x ∷ []) none
+
+pub three_pushed : {X : Type 0} (a b c d : List X) (x y z : X) → a ≡ [] → b ≡ a ++ x ∷ [] → c ≡ b ++ y ∷ [] → d ≡ c ++ z ∷ [] → d ≡ x ∷ y ∷ z ∷ []
+three_pushed {X} a b c d x y z none one two three =
+    three ∙ ap (λ (xs : List X). xs ++ z ∷ []) (two ∙ ap (λ (xs : List X). xs ++ y ∷ []) (one_pushed a b x none one))
+
+-- the bytes of one leaf more
+pub bytes_next : (f : ℕ → List ℕ) (old new last : List ℕ) (n : ℕ) → new ≡ old ++ last → old ≡ joined f 0 n → last ≡ f n → new ≡ joined f 0 (n + 1)
+bytes_next f old new last n made before is =
+    made ∙ ap (λ (xs : List ℕ). xs ++ last) before ∙ ap (λ (xs : List ℕ). joined f 0 n ++ xs) is ∙ sym (joined_next f 0 n (omega arith))
+
+pub none_sent : (datas : List (List ℕ)) (row : List Sent) → row ≡ [] → AreSent datas row
+none_sent datas row none = subst (AreSent datas) (sym none) (All-from_recursion (IsSent datas) [] tt)

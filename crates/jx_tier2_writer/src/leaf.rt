@@ -1,0 +1,66 @@
+//! The blocks of a precinct as leaves of its tag trees.
+
+ghost use Rattle.std.specs.Prelude.{◌≡◌, ◌≤◌, ◌<◌, ◌^◌, ℕ, length, map, Some, IfOk};
+ghost use Rattle.jx_geom.specs.Precincts.{HasPrecinct, leaf_number, leaves};
+ghost use Rattle.jx_packet_header.specs.Leafs.{leaf_of};
+ghost use Rattle.jx_tier2_reader.specs.Planned.{leaf_from};
+ghost use Rattle.jx_tier2_writer.specs.Leaves.{part_at};
+ghost use Rattle.jx_tier2_writer.specs.Own.{own_leaves};
+
+use crate::parts::Coded;
+use crate::sent::block_at;
+use jx_base::NoMemory;
+use jx_codeblock::OutPart;
+use jx_geom::TileGeom;
+use jx_packet_header::{Leaf, Part};
+use std::alloc::Global;
+
+/// A part as a header tells of it, with its layer.
+fn part_at(part: &OutPart, block: u32) -> (u16, Part)
+    requires { part.now.from ≤ part.now.to }
+    ensures { result ≡ part_at block part.now }
+{
+    let told = Part {
+        block,
+        first: part.first,
+        passes: part.passes,
+        length: part.to - part.from,
+    };
+    (part.layer, told)
+}
+
+/// A block as the leaf of a number.
+fn leaf_of<B: Coded>(alloc: Global, block: &B, leaf: u32) -> Result<Leaf, NoMemory>
+    ensures { IfOk result (λ made. leaf_of made ≡ leaf_from leaf (Some (B.block block.now))) }
+{
+    let mut parts = Vec::new(alloc);
+    let list = block.parts();
+    for part in list {
+        parts.push(part_at(part, leaf))?;
+    }
+    let zero = block.zero();
+    Ok(Leaf { zero, parts })
+}
+
+/// The leaves of a precinct, from the blocks of its tile.
+pub(crate) fn leaves_of<B: Coded>(
+    alloc: Global,
+    geom: &TileGeom,
+    comp: u16,
+    res: u8,
+    precinct: u32,
+    values: &[B],
+) -> Result<Vec<Leaf>, NoMemory>
+    requires precinct { HasPrecinct geom.now comp res precinct }
+    requires few { leaves geom.now comp res precinct ≤ 2 ^ 20 }
+    requires all { (j : ℕ) → j < leaves geom.now comp res precinct → leaf_number geom.now comp res precinct j < length values.now }
+    ensures { IfOk result (λ made. map leaf_of made.items ≡ own_leaves geom.now (map B.block values.now) comp res precinct) }
+{
+    let leaves = geom.leaves(comp, res, precinct);
+    let mut made = Vec::new(alloc);
+    for leaf in 0..leaves.count() as u32 {
+        let block = block_at(values, leaves.number(leaf));
+        made.push(leaf_of(alloc, block, leaf)?)?;
+    }
+    Ok(made)
+}

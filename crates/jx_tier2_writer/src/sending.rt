@@ -1,0 +1,235 @@
+//! What is sent of a precinct, layer by layer (ITU-T T.800, B.9 and B.10).
+
+ghost use Rattle.std.specs.Prelude.{◌≡◌, ◌<◌, ◌++◌, ◌∷◌, [], ℕ, length, map, IfOk, OnOk};
+ghost use Rattle.std.specs.List.{range_with_len};
+ghost use Rattle.jx_base.specs.Joined.{joined};
+ghost use Rattle.jx_geom.specs.Geometry.{GeometryInRange};
+ghost use Rattle.jx_geom.specs.Precincts.{HasPrecinct, cells_at, leaves};
+ghost use Rattle.jx_geom.specs.Ranges.{HasBand};
+ghost use Rattle.jx_packet_header.specs.LeavesFit.{header_at};
+ghost use Rattle.jx_codestream.specs.First.{tile_number};
+ghost use Rattle.jx_codestream.specs.InRange.{StreamInRange};
+ghost use Rattle.jx_codestream.specs.Params.{headers_at, planes_at};
+ghost use Rattle.jx_codestream.specs.Shapes.{geometry};
+ghost use Rattle.jx_tier2_reader.specs.Cells.{precinct_bands, sizes_of};
+ghost use Rattle.jx_tier2_writer.specs.Own.{AreOwnBlocks, HasLeaves, IsSending, leaf_bytes};
+ghost use Rattle.jx_tier2_writer.specs.Silent.{empty_header};
+ghost use Rattle.jx_tier2_writer.specs.Sent.{AreSent, row_at, row_bytes, rows_of};
+
+use crate::leaf::leaves_of;
+use crate::parts::Coded;
+use crate::rows::Rows;
+use crate::sent::{Sent, put_block};
+use crate::silent::{are_silent, silent_headers};
+use jx_base::{Band, NoMemory, Rect};
+use jx_codestream::{Stream, TileView};
+use jx_geom::TileGeom;
+use jx_packet_header::{BandCells, PrecinctOut};
+use std::alloc::Global;
+
+/// The headers of a precinct's packets, and the parts of its blocks that each tells of.
+#[derive(Drop)]
+pub(crate) struct Sending {
+    pub(crate) headers: Rows<u8>,
+    pub(crate) sent: Rows<Sent>,
+}
+
+/// No part, for each layer.
+#[tactic(auto, using(crate::proofs::SendingLemmas::none_more))]
+fn empty_rows(alloc: Global, layers: u16) -> Result<Vec<Vec<Sent>>, NoMemory>
+    ensures long { IfOk result (λ rows. length rows.items ≡ layers) }
+    ensures none { IfOk result (λ rows. (l : ℕ) → row_at (rows_of rows.items) l ≡ []) }
+{
+    let mut rows = Vec::with_capacity(alloc, usize::from(layers))?;
+    for _ in 0..layers {
+        rows.push(Vec::new(alloc))?;
+    }
+    Ok(rows)
+}
+
+/// The parts of a precinct's blocks, layer by layer. A block costs as much as it has parts.
+fn parts_of<B: Coded>(
+    alloc: Global,
+    geom: &TileGeom,
+    comp: u16,
+    res: u8,
+    precinct: u32,
+    layers: u16,
+    values: &[B],
+) -> Result<Vec<Vec<Sent>>, NoMemory>
+    requires { HasLeaves geom.now (map B.block values.now) layers comp res precinct }
+    ensures long { IfOk result (λ rows. length rows.items ≡ layers) }
+    ensures bytes { IfOk result (λ rows. (l : ℕ) → row_bytes (map B.bytes values.now) (row_at (rows_of rows.items) l)
+        ≡ joined (leaf_bytes geom.now (map B.block values.now) comp res precinct l) 0 (leaves geom.now comp res precinct)) }
+    ensures sent { IfOk result (λ rows. (l : ℕ) → AreSent (map B.bytes values.now) (row_at (rows_of rows.items) l)) }
+{
+    let leaves = geom.leaves(comp, res, precinct);
+    let mut rows = empty_rows(alloc, layers)?;
+    for leaf in 0..leaves.count() as u32 {
+        put_block(&mut rows, values, leaves.number(leaf) as u32)?;
+    }
+    Ok(rows)
+}
+
+/// The same rows in one buffer.
+fn flat_rows(alloc: Global, rows: &[Vec<Sent>]) -> Result<Rows<Sent>, NoMemory>
+    ensures { IfOk result (λ made. made ≡ rows_of rows.now) }
+{
+    let mut made = Rows::new(alloc);
+    for row in rows {
+        made.push(row.as_slice())?;
+    }
+    Ok(made)
+}
+
+/// The headers of a precinct of which none was written, layer by layer.
+fn headers_of(alloc: Global, precinct: PrecinctOut, layers: u16) -> Result<Rows<u8>, NoMemory>
+    requires next { precinct.next ≡ 0 }
+    requires layers { precinct.layers ≡ layers }
+    ensures { IfOk result (λ rows. rows ≡ map (header_at layers precinct.style precinct.bands precinct.leaves) (range_with_len 0 layers)) }
+{
+    let mut out = precinct;
+    let mut rows = Rows::new(alloc);
+    let mut header = Vec::new(alloc);
+    for layer in 0..layers {
+        header.clear();
+        out.write_header(layer, &mut header)?;
+        rows.push(&header)?;
+    }
+    Ok(rows)
+}
+
+/// What is sent of a precinct of which no block has a part.
+fn silent_sending(alloc: Global, layers: u16) -> Result<Sending, NoMemory>
+    ensures headers { IfOk result (λ p. p.headers ≡ map empty_header (range_with_len 0 layers)) }
+    ensures long { IfOk result (λ p. length p.sent ≡ layers) }
+    ensures none { IfOk result (λ p. (l : ℕ) → row_at p.sent l ≡ []) }
+{
+    let rows = empty_rows(alloc, layers)?;
+    let sent = flat_rows(alloc, &rows)?;
+    let headers = silent_headers(alloc, layers)?;
+    Ok(Sending { headers, sent })
+}
+
+/// Appends how many blocks a precinct has in a band.
+fn push_cells(
+    stream: &Stream,
+    view: &TileView<'_>,
+    geom: &TileGeom,
+    comp: u16,
+    res: u8,
+    precinct: u32,
+    band: Band,
+    bands: &mut Vec<BandCells>,
+) -> Result<(), NoMemory>
+    requires view { view.now ≡ headers_at stream.now geom.now.tile }
+    requires precinct { HasPrecinct geom.now comp res precinct }
+    requires band { HasBand res band }
+    ensures { OnOk result (bands.new.items ≡ bands.old.items ++ sizes_of (cells_at geom.now comp res precinct band) (planes_at stream.now geom.now.tile comp res band) ∷ []) }
+{
+    let planes = view.planes(comp, res, band);
+    let cells = geom.blocks(comp, res, band, precinct);
+    bands.push(sizes_of(cells, planes))?;
+    Ok(())
+}
+
+/// How many blocks some cells are, side by side and one above another.
+fn sizes_of(cells: Rect, planes: u32) -> BandCells
+    ensures { result ≡ sizes_of cells planes }
+{
+    let wide = cells.x.high.saturating_sub(cells.x.low);
+    let high = cells.y.high.saturating_sub(cells.y.low);
+    if wide == 0 || high == 0 {
+        return BandCells {
+            wide: 0,
+            high: 0,
+            planes,
+        };
+    }
+    BandCells { wide, high, planes }
+}
+
+/// How many blocks a precinct has in each of its bands.
+fn cells_of(
+    alloc: Global,
+    stream: &Stream,
+    view: &TileView<'_>,
+    geom: &TileGeom,
+    comp: u16,
+    res: u8,
+    precinct: u32,
+) -> Result<Vec<BandCells>, NoMemory>
+    requires view { view.now ≡ headers_at stream.now geom.now.tile }
+    requires precinct { HasPrecinct geom.now comp res precinct }
+    ensures { IfOk result (λ bands. bands.items ≡ precinct_bands stream.now geom.now comp res precinct) }
+{
+    let mut bands = Vec::new(alloc);
+    let list = &mut bands;
+    if res == 0 {
+        push_cells(stream, view, geom, comp, res, precinct, Band::LL, list)?;
+        return Ok(bands);
+    }
+    push_cells(stream, view, geom, comp, res, precinct, Band::HL, list)?;
+    push_cells(stream, view, geom, comp, res, precinct, Band::LH, list)?;
+    push_cells(stream, view, geom, comp, res, precinct, Band::HH, list)?;
+    Ok(bands)
+}
+
+/// What is sent of a precinct whose tag trees are written, from the blocks of its tile.
+fn written_sending<B: Coded>(
+    alloc: Global,
+    stream: &Stream,
+    view: &TileView<'_>,
+    geom: &TileGeom,
+    comp: u16,
+    res: u8,
+    precinct: u32,
+    values: &[B],
+) -> Result<Sending, NoMemory>
+    requires view { view.now ≡ headers_at stream.now geom.now.tile }
+    requires range { StreamInRange stream.now }
+    requires tile { geom.now.tile < tile_number stream.now.siz }
+    requires geometry { geom.now ≡ geometry stream.now geom.now.tile }
+    requires limits { GeometryInRange geom.now }
+    requires precinct { HasPrecinct geom.now comp res precinct }
+    requires own { AreOwnBlocks stream.now geom.now (map B.block values.now) }
+    ensures { IfOk result (λ p. IsSending stream.now geom.now (map B.block values.now) (map B.bytes values.now) comp res precinct p) }
+{
+    let layers = view.layers();
+    let cells = cells_of(alloc, stream, view, geom, comp, res, precinct)?;
+    let leaves = leaves_of(alloc, geom, comp, res, precinct, values)?;
+    let style = view.style(comp);
+    let out = PrecinctOut::new(alloc, &cells, style, layers, leaves)?;
+    let headers = headers_of(alloc, out, layers)?;
+    let rows = parts_of(alloc, geom, comp, res, precinct, layers, values)?;
+    let sent = flat_rows(alloc, &rows)?;
+    Ok(Sending { headers, sent })
+}
+
+/// What is sent of a precinct, from the blocks of its tile. Where no block has a part no tag tree is built.
+pub(crate) fn sending_of<B: Coded>(
+    alloc: Global,
+    stream: &Stream,
+    view: &TileView<'_>,
+    geom: &TileGeom,
+    comp: u16,
+    res: u8,
+    precinct: u32,
+    values: &[B],
+) -> Result<Sending, NoMemory>
+    requires view { view.now ≡ headers_at stream.now geom.now.tile }
+    requires range { StreamInRange stream.now }
+    requires tile { geom.now.tile < tile_number stream.now.siz }
+    requires geometry { geom.now ≡ geometry stream.now geom.now.tile }
+    requires limits { GeometryInRange geom.now }
+    requires precinct { HasPrecinct geom.now comp res precinct }
+    requires own { AreOwnBlocks stream.now geom.now (map B.block values.now) }
+    ensures { IfOk result (λ p. IsSending stream.now geom.now (map B.block values.now) (map B.bytes values.now) comp res precinct p) }
+{
+    if are_silent(geom, comp, res, precinct, values) {
+        let layers = view.layers();
+        let sending = silent_sending(alloc, layers)?;
+        return Ok(sending);
+    }
+    written_sending(alloc, stream, view, geom, comp, res, precinct, values)
+}

@@ -1,0 +1,360 @@
+-- What becomes of an input, from what became of its plan.
+use Rattle.std.proofs.Common.{◌≡◌, ◌∙◌, ◌⊎◌, ◌<◌, ◌≤◌, ◌+◌, ◌^◌, nat_le, ℕ, zero, suc, false, List, [], ◌++◌, length, map, Option, None, Some, refl, ap, sym, subst, arith, inl, inr, append_assoc, append-nil}
+use Rattle.std.specs.List.{All, flat_map}
+use Rattle.std.proofs.lemmas.Bool.{cases_Bool, cases_lt}
+use Rattle.jx_base.specs.declared.pieces.Block.{Block}
+use Rattle.jx_base.specs.Joined.{joined}
+use Rattle.jx_codeblock.specs.declared.job.Job.{Job}
+use Rattle.jx_codeblock.specs.Written.{block_asked, is_wrong}
+use Rattle.jx_marker.specs.Segments.{spelling}
+use Rattle.jx_marker.specs.declared.Segment.TheVariants as segment
+use Rattle.jx_io.specs.Device.{Meaning, after_create}
+use Rattle.jx_codestream.specs.declared.Stream.{Stream}
+use Rattle.jx_codestream.specs.First.{tile_number}
+use Rattle.jx_codestream.specs.Read.{IsRead}
+use Rattle.jx_codestream.specs.Spells.{TilePart, all_bytes, part_bytes}
+use Rattle.jx_tier2_reader.specs.Gathered.{IsGathered}
+use Rattle.jx_tier2_reader.specs.Totals.{block_total, totals_fault}
+use Rattle.jx_layers.specs.Rule.{Rule}
+use Rattle.jx_plan.specs.declared.Marks.{Marks}
+use Rattle.jx_plan.specs.Plan.{IsPlan, Plan, headers_with}
+use Rattle.jx_plan.specs.Planned.{IsFreeBy, IsPlanned, IsPlannedBy, MakesLayers, blocks_written, layers_of_rule}
+use Rattle.jx_plan.specs.Wanted.{MayBeWanted, Wanted, marks_of}
+use Rattle.jx_tier2_writer.specs.Kept.{IsKeptIn}
+use Rattle.jx_tier2_writer.specs.Ready.{AllShort, AreShort}
+use Rattle.jx_tier2_writer.specs.Tile.{IsTooLong, blocks_in, main_bytes}
+use Rattle.jx_tier2_writer.specs.TileParts.{AreTilePartsOf, IsOutput}
+use Rattle.jx_transcode.specs.Aims.{Aim, rule_in}
+use Rattle.jx_transcode.specs.Filed.{IsAnswered, IsFileBegun, IsFileHalted, IsFileMade, IsFileStopped, IsPlanAnswered, status_of}
+use Rattle.jx_transcode.specs.Outcome.{IsBegun, IsCutShort, IsStopped, IsVerdict, Leaves, most_bytes}
+use Rattle.jx_transcode.specs.Rewritten.{CanBePlanned, HasBlocks, IsBad, IsCut, IsCutByBlock, IsFront, IsFrontOf, IsKept, IsLong, IsRewritten, IsRight, IsSpoiled, Reads, Round, headers_of, next_round, round_of}
+use Rattle.jx_transcode.specs.Rewritten.{IsTooLong as IsTooLongAt}
+use Rattle.jx_transcode.specs.Rounds.{IsHaltedAt, IsRoundFront, IsShortFront, IsWholeFile, most_of_part}
+use Rattle.jx_transcode.specs.declared.halt.Halt.{Halt}
+use Rattle.jx_transcode.specs.declared.halt.Halt.TheVariants as halt
+use Rattle.jx_transcode.specs.declared.status.Status.{Status}
+use Rattle.jx_transcode.specs.declared.status.Status.TheVariants as status
+use Rattle.jx_transcode.specs.declared.status.TapeEntry.{TapeEntry}
+use Rattle.jx_transcode.specs.Tapes.{IsRunTape, IsTapeOf}
+use Rattle.jx_cli.specs.Words.{Text, Work}
+use Rattle.jx_transcode.proofs.FrontLemmas.{at_most_short, comps_stay, tiles_stay}
+use Rattle.jx_transcode.proofs.ProgressLemmas.{all_front}
+use Rattle.jx_transcode.proofs.WrongLemmas.{all_right, right_or_wrong}
+
+-- ---- a plan was written, or its file halted
+pub plan_written : (p : Plan) (name : Text) (work : Work) (blocks bytes : ℕ) (tape : List TapeEntry) (old new : Meaning) → IsPlan p → blocks ≡ length p.jobs → IsTapeOf work p.blocks tape
+    → length tape ≡ length p.blocks → IsFileMade p name bytes old new → IsPlanAnswered name work p status.Done blocks bytes tape old new
+plan_written p name work blocks bytes tape old new plan count of whole made =
+    record { plan = plan; count = count ∙ plan.all; tape = of; whole = λ done. whole; either = inl (record { done = refl; file = made }) }
+
+halted_undone : (h : Halt) → status_of h ≡ status.Done → ⊥
+halted_undone (halt.Bad tile number) e = cc
+halted_undone (halt.TooLong tile) e = cc
+halted_undone halt.Failed e = cc
+halted_undone halt.NoMemory e = cc
+
+pub plan_halted : (p : Plan) (name : Text) (work : Work) (s : Status) (h : Halt) (blocks bytes : ℕ) (tape : List TapeEntry) (old new : Meaning) → IsPlan p → s ≡ status_of h → blocks ≡ length p.jobs
+    → IsTapeOf work p.blocks tape → IsFileHalted p name h old new → IsPlanAnswered name work p s blocks bytes tape old new
+plan_halted p name work s h blocks bytes tape old new plan is count of halted = record {
+  plan = plan;
+  count = count ∙ plan.all;
+  tape = of;
+  whole = λ done. absurd (halted_undone h (sym is ∙ done));
+  either = inr (record { why = h; status_is = is; file = halted });
+}
+
+-- ---- a plan by its stream, its blocks, what is wanted, its layers and its jobs
+abbrev plan_of : Stream → List Block → Wanted → ℕ → List Job → Plan
+plan_of s blocks w layers jobs = record { stream = s; blocks = blocks; wanted = w; layers = layers; jobs = jobs }
+
+same_plan : (s s' : Stream) (b b' : List Block) (w w' : Wanted) (l l' : ℕ) (jobs : List Job) → s ≡ s' → b ≡ b' → w ≡ w' → l ≡ l' → plan_of s b w l jobs ≡ plan_of s' b' w' l' jobs
+same_plan s s' b b' w w' l l' jobs e f g h = rw (e, f, g, h) refl
+
+plan_is : (r : Rule) (s : Stream) (blocks : List Block) (w : Wanted) (p : Plan) → IsPlannedBy r s blocks w p → p ≡ plan_of s blocks w (layers_of_rule r s blocks) p.jobs
+plan_is r s blocks w p planned = same_plan p.stream s p.blocks blocks p.wanted w p.layers (layers_of_rule r s blocks) p.jobs planned.stream planned.blocks_are planned.wanted planned.layers
+
+-- ---- rounds begin no later than their tiles, and later for later tiles
+next_start : (counts : ℕ → ℕ) (t : ℕ) (r : Round) → ((next_round counts t r).start ≡ t + 1) ⊎ ((next_round counts t r).start ≡ r.start)
+next_start counts t r = elim (cases_Bool (nat_le 4096 (r.before + counts t))) [
+  | inl full ↦ inl (rw full refl)
+  | inr more ↦ inr (rw more refl)
+]
+
+start_below : (counts : ℕ → ℕ) (t : ℕ) → (round_of counts t).start ≤ t
+start_below counts zero = omega arith
+start_below counts (suc t) = elim (next_start counts t (round_of counts t)) [
+  | inl next ↦ omega (arith, next)
+  | inr same ↦ omega (arith, same, start_below counts t)
+]
+
+start_grows : (counts : ℕ → ℕ) (a t : ℕ) → a ≤ t → (round_of counts a).start ≤ (round_of counts t).start
+start_grows counts a zero le = let e : a ≡ 0 = omega arith in rw e (omega arith)
+start_grows counts a (suc t) le = elim (cases_lt a (suc t)) [
+  | inl lt ↦ elim (next_start counts t (round_of counts t)) [
+    | inl next ↦ omega (arith, next, start_below counts a)
+    | inr same ↦ omega (arith, same, start_grows counts a t (omega arith))
+  ]
+  | inr ge ↦ let e : a ≡ suc t = omega arith in rw e (omega arith)
+]
+
+joined_file : (a b c d e : List ℕ) → ((a ++ (b ++ c)) ++ d) ++ e ≡ a ++ (b ++ (c ++ (d ++ (e ++ []))))
+joined_file a b c d e =
+    append_assoc (a ++ (b ++ c)) d e ∙ append_assoc a (b ++ c) (d ++ e) ∙ ap (λ (x : List ℕ). a ++ x) (append_assoc b c (d ++ e))
+    ∙ ap (λ (x : List ℕ). a ++ (b ++ (c ++ (d ++ x)))) (sym (append-nil e))
+
+-- ---- what the laws of the crates below say of a plan by a rule, and of a file that is written anew
+pub record Laws : Type 0 where
+  pub blocks : (s : Stream) (blocks : List Block) (w : Wanted) (r : Rule) (p : Plan) → IsPlan p → IsPlannedBy r s blocks w p → map block_asked p.jobs ≡ blocks_written w r s blocks
+  pub free : (s : Stream) (blocks : List Block) (w : Wanted) (r : Rule) (p : Plan) → IsPlan p → IsPlannedBy r s blocks w p → IsFreeBy r s blocks w
+  pub keeps : (w : Wanted) (rule : Rule) (before : Stream) (blocks : List Block) (input out : List ℕ)
+      (is : IsOutput (marks_of w) (headers_with w (layers_of_rule rule before blocks) before) (blocks_written w rule before blocks) out)
+      → IsRead input before → length input ≤ 2 ^ 28 → totals_fault before ≡ None → IsGathered input before blocks → MakesLayers (Some rule) before blocks
+      → MayBeWanted w → IsFreeBy rule before blocks w → All (λ (b : Block). is_wrong w.style b ≡ false) blocks → AllShort is.parts (tile_number before.siz)
+      → (after : Stream) × IsKeptIn w rule before after blocks out
+  pub parts : (m : Marks) (s : Stream) (blocks : List Block) (t : ℕ) (xs ys : List TilePart) → AreTilePartsOf m s blocks t xs → AreTilePartsOf m s blocks t ys → xs ≡ ys
+
+-- ---- what stands of the file of an input that was planned
+module _ (laws : Laws) (aim : Aim) (input : List ℕ) (s : Stream) (blocks : List Block) (jobs : List Job) (reads : Reads input s blocks) (within : length input ≤ most_bytes)
+    (may : MayBeWanted aim.wanted) (can : CanBePlanned aim s blocks) (same : map block_asked jobs ≡ blocks_written aim.wanted can.by s blocks) (all : length blocks ≡ block_total s) where
+  abbrev w : Wanted
+  w = aim.wanted
+
+  abbrev layers : ℕ
+  layers = layers_of_rule can.by s blocks
+
+  abbrev plan : Plan
+  plan = plan_of s blocks w layers jobs
+
+  abbrev tiles : ℕ
+  tiles = tile_number s.siz
+
+  abbrev headers : Stream
+  headers = headers_of w can.by s blocks
+
+  abbrev written_blocks : List Block
+  written_blocks = blocks_written w can.by s blocks
+
+  -- tile-parts of the plan's blocks are those of the blocks that the rule says
+  are_of : (t : ℕ) (parts : List TilePart) → AreTilePartsOf (marks_of w) headers (map block_asked jobs) t parts → AreTilePartsOf (marks_of w) headers written_blocks t parts
+  are_of t parts are = subst (λ (bs : List Block). AreTilePartsOf (marks_of w) headers bs t parts) same are
+
+  front_of : (n : ℕ) (bytes : List ℕ) → IsShortFront plan n bytes → IsFront w can.by s blocks n bytes
+  front_of n bytes front = record { parts = front.parts; right = front.right; are = λ t lt. are_of t (front.parts t) (front.are t lt); bytes_are = front.bytes_are }
+
+  none_long : (n : ℕ) (bytes : List ℕ) → IsShortFront plan n bytes → (t : ℕ) → t < n → IsLong w can.by s blocks t → ⊥
+  none_long n bytes front t lt long =
+      long.long (subst AreShort (laws.parts (marks_of w) headers written_blocks t (front.parts t) long.parts (are_of t (front.parts t) (front.are t lt)) long.are) (front.short t lt))
+
+  none_spoiled : (n : ℕ) (bytes : List ℕ) → IsShortFront plan n bytes → (t : ℕ) → t < n → IsSpoiled w can.by s blocks t → ⊥
+  none_spoiled n bytes front t lt (inl wrong) = right_or_wrong w s blocks t wrong.0 (front.right t lt) wrong.1
+  none_spoiled n bytes front t lt (inr long) = none_long n bytes front t lt long
+
+  long_of : (t : ℕ) → IsRight w s blocks t → IsTooLong plan (map block_asked jobs) t most_of_part → IsLong w can.by s blocks t
+  long_of t right is = record { right = right; parts = is.parts; are = are_of t is.parts is.are; long = λ short. is.long (at_most_short is.parts short) }
+
+  abbrev output_of : (out : List ℕ) (whole : IsWholeFile plan out) → IsOutput (marks_of w) headers written_blocks out
+  output_of out whole =
+      let h : Stream = headers in
+      let parts : ℕ → List TilePart = whole.tiles.parts in
+      let count : tile_number h.siz ≡ tiles = tiles_stay w layers s in
+      let comps : length h.siz.comps ≡ length s.siz.comps = comps_stay w layers s in
+      let body : ℕ → ℕ → List ℕ = λ k n. flat_map (part_bytes k) (joined parts 0 n) in
+      record {
+        parts = parts;
+        are = λ t lt. are_of t (parts t) (whole.tiles.are t (subst (λ (n : ℕ). t < n) count lt));
+        bytes = whole.bytes_are ∙ ap (λ (b : List ℕ). b ++ spelling 1 segment.Eoc) whole.tiles.bytes_are
+            ∙ ap (λ (k : ℕ). (main_bytes h ++ body k tiles) ++ spelling 1 segment.Eoc) (sym comps)
+            ∙ ap (λ (n : ℕ). (main_bytes h ++ body (length h.siz.comps) n) ++ spelling 1 segment.Eoc) (sym count)
+            ∙ joined_file (spelling 1 segment.Soc) (spelling 1 (segment.Siz h.siz)) (all_bytes (length h.siz.comps) h.main) (body (length h.siz.comps) (tile_number h.siz)) (spelling 1 segment.Eoc);
+      }
+
+  right_of : (out : List ℕ) → IsWholeFile plan out → All (λ (b : Block). is_wrong w.style b ≡ false) blocks
+  right_of out whole = all_right w s blocks all whole.tiles.right
+
+  pub rewritten_of : (out : List ℕ) → IsWholeFile plan out → IsRewritten aim input out
+  rewritten_of out whole =
+      record { stream = s; blocks = blocks; reads = reads; can = can; right = right_of out whole; output = output_of out whole; short = whole.tiles.short }
+
+  kept_of : (out : List ℕ) → IsWholeFile plan out → IsKept aim input out
+  kept_of out whole =
+      let small : length input ≤ 2 ^ 28 = within in
+      let kept = laws.keeps w can.by s blocks input out (output_of out whole) reads.read small reads.totals reads.gathered can.layers may can.free (right_of out whole) whole.tiles.short in
+      record { before = s; after = kept.0; blocks = blocks; reads = reads; by = can.by; is = can.is; kept = kept.1 }
+
+  counted : (n : ℕ) → n ≡ length blocks → HasBlocks input n
+  counted n is = record { stream = s; blocks = blocks; reads = reads; count_is = is }
+
+  -- whole rounds, whose tiles are all written
+  rounds_of : (bytes : List ℕ) → IsRoundFront plan bytes → IsFrontOf aim input bytes
+  rounds_of bytes front = record {
+    stream = s;
+    blocks = blocks;
+    reads = reads;
+    can = can;
+    tiles = front.tiles;
+    inside = front.inside;
+    front = front_of front.tiles bytes front.front;
+    before = λ t inside spoiled. elim (cases_lt t front.tiles) [
+      | inl lt ↦ absurd (none_spoiled front.tiles bytes front.front t lt spoiled)
+      | inr ge ↦ elim front.ends [
+        | inl begins ↦
+            let here : (round_of (blocks_in plan) front.tiles).start ≡ front.tiles = ap (λ (r : Round). r.start) begins in
+            omega (arith, here, start_grows (blocks_in plan) front.tiles t ge)
+        | inr past ↦ absurd (omega (arith, past, ge, inside))
+      ]
+    ];
+  }
+
+  either_of : (bytes : List ℕ) → IsRoundFront plan bytes ⊎ IsWholeFile plan bytes → IsFrontOf aim input bytes ⊎ IsRewritten aim input bytes
+  either_of bytes (inl front) = inl (rounds_of bytes front)
+  either_of bytes (inr whole) = inr (rewritten_of bytes whole)
+
+  begun_short : (name : Text) (n : ℕ) (old new : Meaning) → n ≡ length blocks → IsFileBegun plan name old new → IsCutShort name aim input n old new
+  begun_short name n old new is file =
+      inr (inr (record { within = within; count = counted n is; bytes = file.bytes; of = either_of file.bytes file.of; begun = file.begun }))
+
+  -- a tile isn't written
+  start_is : (why : Halt) (t : ℕ) (bytes : List ℕ) (is : IsHaltedAt plan why t bytes) → (round_of (blocks_in plan) t).start ≡ is.start
+  start_is why t bytes is = ap (λ (r : Round). r.start) is.round
+
+  lowest_of : (why : Halt) (t : ℕ) (bytes : List ℕ) → IsHaltedAt plan why t bytes → (n : ℕ) → n < t → IsSpoiled w can.by s blocks n → ⊥
+  lowest_of why t bytes is n lt spoiled = none_spoiled t is.below.0 is.below.1 n lt spoiled
+
+  bad_of : (t number : ℕ) (bytes : List ℕ) → IsHaltedAt plan (halt.Bad t number) t bytes → IsBad aim input number
+  bad_of t number bytes is = record {
+    stream = s;
+    blocks = blocks;
+    reads = reads;
+    can = can;
+    tile = t;
+    inside = is.inside;
+    is = is.spoiled.1;
+    lowest = lowest_of (halt.Bad t number) t bytes is;
+  }
+
+  too_long_of : (t : ℕ) (bytes : List ℕ) → IsHaltedAt plan (halt.TooLong t) t bytes → IsTooLongAt aim input t
+  too_long_of t bytes is = record {
+    stream = s;
+    blocks = blocks;
+    reads = reads;
+    can = can;
+    inside = is.inside;
+    is = long_of t is.spoiled.1 is.spoiled.2;
+    lowest = lowest_of (halt.TooLong t) t bytes is;
+  }
+
+  start_front : (why : Halt) (t : ℕ) (bytes : List ℕ) → IsHaltedAt plan why t bytes → IsFront w can.by s blocks (round_of (blocks_in plan) t).start bytes
+  start_front why t bytes is = subst (λ (n : ℕ). IsFront w can.by s blocks n bytes) (sym (start_is why t bytes is)) (front_of is.start bytes is.front)
+
+  cut_of : (t : ℕ) (bytes : List ℕ) → IsHaltedAt plan (halt.TooLong t) t bytes → IsCut aim input t bytes
+  cut_of t bytes is = record { stream = s; blocks = blocks; reads = reads; can = can; front = start_front (halt.TooLong t) t bytes is }
+
+  cut_by : (t number : ℕ) (bytes : List ℕ) → IsHaltedAt plan (halt.Bad t number) t bytes → IsCutByBlock aim input number bytes
+  cut_by t number bytes is = record {
+    stream = s;
+    blocks = blocks;
+    reads = reads;
+    can = can;
+    tile = t;
+    from = is.spoiled.1.from;
+    below = is.spoiled.1.below;
+    front = start_front (halt.Bad t number) t bytes is;
+  }
+
+  cut_front : (why : Halt) (t : ℕ) (bytes : List ℕ) → IsHaltedAt plan why t bytes → IsFrontOf aim input bytes
+  cut_front why t bytes is = record {
+    stream = s;
+    blocks = blocks;
+    reads = reads;
+    can = can;
+    tiles = is.start;
+    inside = omega (arith, start_is why t bytes is, start_below (blocks_in plan) t, is.inside);
+    front = front_of is.start bytes is.front;
+    before = λ n inside spoiled. elim (cases_lt n t) [
+      | inl lt ↦ absurd (lowest_of why t bytes is n lt spoiled)
+      | inr ge ↦ omega (arith, start_is why t bytes is, start_grows (blocks_in plan) t n ge)
+    ];
+  }
+
+  stopped_begun : (name : Text) (bytes : List ℕ) (old new : Meaning) → IsStopped name bytes old new → IsBegun name bytes old new
+  stopped_begun name bytes old new stopped =
+      let front = all_front (after_create name stopped.0) new bytes stopped.2 in
+      inr (inl (stopped.0, front.0, stopped.1, front.1))
+
+  stopped_short : (name : Text) (n : ℕ) (why : Halt) (t : ℕ) (old new : Meaning) → n ≡ length blocks → IsFileStopped plan name why t old new → IsCutShort name aim input n old new
+  stopped_short name n why t old new is file = inr (inr (record {
+    within = within;
+    count = counted n is;
+    bytes = file.bytes;
+    of = inl (cut_front why t file.bytes file.is);
+    begun = stopped_begun name file.bytes old new file.stopped;
+  }))
+
+  module _ (name : Text) (work : Work) (n bytes : ℕ) (tape : List TapeEntry) (old new : Meaning) (count : n ≡ length blocks) (of : IsTapeOf work blocks tape) where
+    taped : IsRunTape work input tape
+    taped = inr (record { stream = s; blocks = blocks; reads = reads; of = of })
+
+    begun : (st : Status) → (IsVerdict st → ⊥) → Leaves name aim input st n bytes old new → IsFileBegun plan name old new → IsAnswered name work aim input st n bytes tape old new
+    begun st free leaves file = record {
+      verdict = λ v. absurd (free v);
+      leaves = leaves;
+      unsaid = begun_short name n old new count file;
+      tape = taped;
+      whole = λ done. absurd (free (subst IsVerdict (sym done) tt));
+    }
+
+    halted : (h : Halt) → IsFileHalted plan name h old new → IsAnswered name work aim input (status_of h) n bytes tape old new
+    halted (halt.Bad t number) file = record {
+      verdict = λ v. (within, bad_of t number file.bytes file.is);
+      leaves = record { bytes = file.bytes; is = cut_by t number file.bytes file.is; stopped = file.stopped; count = counted n count };
+      unsaid = stopped_short name n (halt.Bad t number) t old new count file;
+      tape = taped;
+      whole = λ done. absurd (halted_undone (halt.Bad t number) done);
+    }
+    halted (halt.TooLong t) file = record {
+      verdict = λ v. (within, inl (refl, too_long_of t file.bytes file.is));
+      leaves = inl (refl, record { bytes = file.bytes; is = cut_of t file.bytes file.is; stopped = file.stopped; count = counted n count });
+      unsaid = stopped_short name n (halt.TooLong t) t old new count file;
+      tape = taped;
+      whole = λ done. absurd (halted_undone (halt.TooLong t) done);
+    }
+    halted halt.Failed file = begun status.WriteFault (λ v. v) (begun_short name n old new count file) file
+    halted halt.NoMemory file = begun status.NoMemory (λ v. v) (begun_short name n old new count file) file
+
+    written : length tape ≡ length blocks → IsFileMade plan name bytes old new → IsAnswered name work aim input status.Done n bytes tape old new
+    written whole file = record {
+      verdict = λ v. (within, file.bytes, rewritten_of file.bytes file.whole);
+      leaves = record { out = file.bytes; is = rewritten_of file.bytes file.whole; made = file.made; kept = kept_of file.bytes file.whole; count = counted n count; long = file.count_is };
+      unsaid = inr (inr (record { within = within; count = counted n count; bytes = file.bytes; of = inr (rewritten_of file.bytes file.whole); begun = inr (inr file.made) }));
+      tape = taped;
+      whole = λ done. counted (length tape) whole;
+    }
+
+  pub answered : (name : Text) (work : Work) (st : Status) (n bytes : ℕ) (tape : List TapeEntry) (old new : Meaning) → IsPlanAnswered name work plan st n bytes tape old new
+      → IsAnswered name work aim input st n bytes tape old new
+  answered name work st n bytes tape old new is = elim is.either [
+    | inl file ↦ subst (λ (x : Status). IsAnswered name work aim input x n bytes tape old new) (sym file.done) (written name work n bytes tape old new is.count is.tape (is.whole file.done) file.file)
+    | inr file ↦ subst (λ (x : Status). IsAnswered name work aim input x n bytes tape old new) (sym file.status_is) (halted name work n bytes tape old new is.count is.tape file.why file.file)
+  ]
+
+answered_by_rule : Laws → (name : Text) (work : Work) (aim : Aim) (input : List ℕ) (s : Stream) (blocks : List Block) (p : Plan) (st : Status) (n bytes : ℕ) (tape : List TapeEntry) (old new : Meaning)
+    → MayBeWanted aim.wanted → (r : Rule) → rule_in aim s blocks ≡ Some r → IsPlannedBy r s blocks aim.wanted p → IsPlanAnswered name work p st n bytes tape old new → length input ≤ most_bytes
+    → Reads input s blocks → IsAnswered name work aim input st n bytes tape old new
+answered_by_rule laws name work aim input s blocks p st n bytes tape old new may r is planned done within reads =
+    let same : p ≡ plan_of s blocks aim.wanted (layers_of_rule r s blocks) p.jobs = plan_is r s blocks aim.wanted p planned in
+    let own : IsPlanAnswered name work (plan_of s blocks aim.wanted (layers_of_rule r s blocks) p.jobs) st n bytes tape old new = subst (λ (q : Plan). IsPlanAnswered name work q st n bytes tape old new) same done in
+    let can : CanBePlanned aim s blocks = record { by = r; is = is; layers = (own.plan.some, own.plan.few); free = laws.free s blocks aim.wanted r p done.plan planned } in
+    answered laws aim input s blocks p.jobs reads within may can (laws.blocks s blocks aim.wanted r p done.plan planned) own.plan.may.blocks_are.all name work st n bytes tape old new own
+
+answered_by : Laws → (name : Text) (work : Work) (aim : Aim) (input : List ℕ) (s : Stream) (blocks : List Block) (p : Plan) (st : Status) (n bytes : ℕ) (tape : List TapeEntry) (old new : Meaning)
+    → MayBeWanted aim.wanted → (o : Option Rule) → rule_in aim s blocks ≡ o → IsPlanned o s blocks aim.wanted p → IsPlanAnswered name work p st n bytes tape old new → length input ≤ most_bytes
+    → Reads input s blocks → IsAnswered name work aim input st n bytes tape old new
+answered_by laws name work aim input s blocks p st n bytes tape old new may None is planned done within reads = absurd planned
+answered_by laws name work aim input s blocks p st n bytes tape old new may (Some r) is planned done within reads =
+    answered_by_rule laws name work aim input s blocks p st n bytes tape old new may r is planned done within reads
+
+pub answered_by_plan : Laws → (name : Text) (work : Work) (aim : Aim) (input : List ℕ) (s : Stream) (blocks : List Block) (p : Plan) (st : Status) (n bytes : ℕ) (tape : List TapeEntry) (old new : Meaning)
+    → MayBeWanted aim.wanted → IsPlanned (rule_in aim s blocks) s blocks aim.wanted p → IsPlanAnswered name work p st n bytes tape old new → length input ≤ most_bytes → Reads input s blocks
+    → IsAnswered name work aim input st n bytes tape old new
+answered_by_plan laws name work aim input s blocks p st n bytes tape old new may planned done within reads =
+    answered_by laws name work aim input s blocks p st n bytes tape old new may (rule_in aim s blocks) refl planned done within reads

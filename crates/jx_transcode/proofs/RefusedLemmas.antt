@@ -1,0 +1,212 @@
+-- What becomes of an input that is refused, or isn't planned: nothing is made.
+use Rattle.std.proofs.Common.{◌≡◌, ◌⊎◌, ◌<◌, ◌≤◌, ℕ, List, [], length, Option, None, Some, refl, sym, subst, arith, inl, inr}
+use Rattle.jx_base.specs.declared.pieces.Block.{Block}
+use Rattle.jx_base.specs.declared.style.Style.{Style}
+use Rattle.jx_io.specs.Device.{Meaning}
+use Rattle.jx_codestream.specs.declared.faults.StreamFault.{StreamFault}
+use Rattle.jx_codestream.specs.declared.faults.StreamFault.TheVariants as fault
+use Rattle.jx_codestream.specs.declared.Stream.{Stream}
+use Rattle.jx_codestream.specs.FirstViolated.{IsFirst}
+use Rattle.jx_codestream.specs.Read.{IsRead}
+use Rattle.jx_tier2_reader.specs.Faults.{HasCause}
+use Rattle.jx_tier2_reader.specs.Gathered.{IsBroken, IsGathered}
+use Rattle.jx_tier2_reader.specs.Totals.{totals_fault}
+use Rattle.jx_layers.specs.Rule.{Rule}
+use Rattle.jx_plan.specs.declared.faults.PlanFault.{PlanFault}
+use Rattle.jx_plan.specs.declared.faults.PlanFault.TheVariants as unplanned
+use Rattle.jx_plan.specs.Causes.{IsPlaneBroken}
+use Rattle.jx_plan.specs.Fits.{AreUnfit}
+use Rattle.jx_plan.specs.Planned.{HasPlanCause, IsUnplannedBy, LacksPlan}
+use Rattle.jx_plan.specs.Wanted.{Wanted}
+use Rattle.jx_transcode.specs.Aims.{Aim, rule_in}
+use Rattle.jx_transcode.specs.Filed.{IsAnswered, blocks_told, told_by, told_of_plan}
+use Rattle.jx_transcode.specs.Judged.{IsInputCause}
+use Rattle.jx_transcode.specs.Outcome.{IsCutShort, most_bytes}
+use Rattle.jx_transcode.specs.Rewritten.{HasBlocks, IsUnplanned, Reads}
+use Rattle.jx_transcode.specs.declared.status.Status.{Status}
+use Rattle.jx_transcode.specs.declared.status.Status.TheVariants as status
+use Rattle.jx_cli.specs.Words.{Text, Work}
+use Rattle.jx_transcode.proofs.DoneLemmas.{undone}
+use Rattle.jx_transcode.proofs.ToldLemmas.{stop_told}
+use Rattle.jx_transcode.proofs.WriteLemmas.{untouched}
+
+-- ---- nothing was made
+refused_short : (name : Text) (aim : Aim) (input : List ℕ) (mm : Meaning) → IsCutShort name aim input 0 mm mm
+refused_short name aim input mm = inl (refl, untouched mm)
+
+no_plan : (name : Text) (work : Work) (aim : Aim) (input : List ℕ) (mm : Meaning) → IsAnswered name work aim input status.NoMemory 0 0 [] mm mm
+no_plan name work aim input mm =
+    record { verdict = λ v. absurd v; leaves = refused_short name aim input mm; unsaid = refused_short name aim input mm; tape = inl refl; whole = λ done. absurd (undone status.NoMemory tt done) }
+
+-- there is no limit but 7, and choice 7 isn't among the choices of a plan
+IsBelow : PlanFault → Type 0
+IsBelow (unplanned.Choice number place) = number < 7
+IsBelow (unplanned.Limit number found) = number ≡ 7
+IsBelow unplanned.NoMemory = Unit {0}
+
+broken_below : (style : Option Style) (blocks : List Block) (e : PlanFault) → IsPlaneBroken style blocks e → IsBelow e
+unfolding IsBelow
+broken_below style blocks (unplanned.Choice number place) is = omega (arith, is.0)
+broken_below style blocks (unplanned.Limit number found) is = absurd is
+broken_below style blocks unplanned.NoMemory is = tt
+
+unfit_below : (s : Stream) (precincts : Option (List ℕ)) (e : PlanFault) → AreUnfit s precincts e → IsBelow e
+unfolding IsBelow
+unfit_below s precincts (unplanned.Choice number place) (inl above) = omega (arith, above.0)
+unfit_below s precincts (unplanned.Choice number place) (inr changed) = omega (arith, changed.0)
+unfit_below s precincts (unplanned.Limit number found) is = absurd is
+unfit_below s precincts unplanned.NoMemory is = tt
+
+by_below : (r : Rule) (s : Stream) (blocks : List Block) (w : Wanted) (e : PlanFault) → IsUnplannedBy r s blocks w e → IsBelow e
+unfolding IsBelow
+by_below r s blocks w (unplanned.Choice number place) (inl crowded) = omega (arith, crowded.0)
+by_below r s blocks w (unplanned.Choice number place) (inr parted) = omega (arith, parted.0)
+by_below r s blocks w (unplanned.Limit number found) is = is.0
+by_below r s blocks w unplanned.NoMemory is = tt
+
+six : 6 < 7
+six = omega arith
+
+lacks_below : (o : Option Rule) (s : Stream) (blocks : List Block) (w : Wanted) (e : PlanFault) → LacksPlan o s blocks w e → IsBelow e
+unfolding IsBelow
+lacks_below None s blocks w e is = rw is.1 six
+lacks_below (Some r) s blocks w e is = by_below r s blocks w e is
+
+cause_below : (o : Option Rule) (s : Stream) (blocks : List Block) (w : Wanted) (e : PlanFault) → HasPlanCause o s blocks w e → IsBelow e
+cause_below o s blocks w e (inl broken) = broken_below w.style blocks e broken
+cause_below o s blocks w e (inr (whole, inl unfit)) = unfit_below s w.precincts e unfit
+cause_below o s blocks w e (inr (whole, inr lacks)) = lacks_below o s blocks w e lacks
+
+choice_below : (o : Option Rule) (s : Stream) (blocks : List Block) (w : Wanted) (number place : ℕ) → HasPlanCause o s blocks w (unplanned.Choice number place) → number < 7
+unfolding IsBelow
+choice_below o s blocks w number place cause = cause_below o s blocks w (unplanned.Choice number place) cause
+
+pub limit_seven : (o : Option Rule) (s : Stream) (blocks : List Block) (w : Wanted) (number found : ℕ) → HasPlanCause o s blocks w (unplanned.Limit number found) → number ≡ 7
+unfolding IsBelow
+limit_seven o s blocks w number found cause = cause_below o s blocks w (unplanned.Limit number found) cause
+
+is_unplanned : (aim : Aim) (input : List ℕ) (s : Stream) (blocks : List Block) (e : PlanFault) → HasPlanCause (rule_in aim s blocks) s blocks aim.wanted e → Reads input s blocks → IsUnplanned aim input e
+is_unplanned aim input s blocks e cause reads = record { stream = s; blocks = blocks; reads = reads; cause = cause }
+
+has_blocks : (input : List ℕ) (s : Stream) (blocks : List Block) (n : ℕ) → n ≡ length blocks → Reads input s blocks → HasBlocks input n
+has_blocks input s blocks n count reads = record { stream = s; blocks = blocks; reads = reads; count_is = count }
+
+over_short : (name : Text) (aim : Aim) (input : List ℕ) (s : Stream) (blocks : List Block) (e : PlanFault) (n : ℕ) (mm : Meaning) → (e ≡ unplanned.NoMemory → ⊥) → HasPlanCause (rule_in aim s blocks) s blocks aim.wanted e → n ≡ length blocks
+    → length input ≤ most_bytes → Reads input s blocks → IsCutShort name aim input n mm mm
+over_short name aim input s blocks e n mm caused cause count within reads = inr (inl (record {
+  within = within;
+  why = e;
+  is = is_unplanned aim input s blocks e cause reads;
+  caused = caused;
+  count = has_blocks input s blocks n count reads;
+  same = untouched mm;
+}))
+
+pub answered_unplanned : (name : Text) (work : Work) (aim : Aim) (input : List ℕ) (s : Stream) (blocks : List Block) (e : PlanFault) (n : ℕ) (mm : Meaning) → HasPlanCause (rule_in aim s blocks) s blocks aim.wanted e → n ≡ length blocks
+    → length input ≤ most_bytes → Reads input s blocks → IsAnswered name work aim input (told_of_plan e) (blocks_told e n) 0 [] mm mm
+answered_unplanned name work aim input s blocks (unplanned.Limit number found) n mm cause count within reads = record {
+  verdict = λ v. inr (within, is_unplanned aim input s blocks (unplanned.Limit number found) cause reads);
+  leaves = (inl (limit_seven (rule_in aim s blocks) s blocks aim.wanted number found cause, has_blocks input s blocks n count reads), untouched mm);
+  unsaid = over_short name aim input s blocks (unplanned.Limit number found) n mm (λ e. cc) cause count within reads;
+  tape = inl refl;
+  whole = λ done. absurd (undone (status.Limit number found) tt done);
+}
+answered_unplanned name work aim input s blocks (unplanned.Choice number place) n mm cause count within reads = record {
+  verdict = λ v. (within, inr (is_unplanned aim input s blocks (unplanned.Choice number place) cause reads));
+  leaves = inr (choice_below (rule_in aim s blocks) s blocks aim.wanted number place cause, has_blocks input s blocks n count reads, untouched mm);
+  unsaid = over_short name aim input s blocks (unplanned.Choice number place) n mm (λ e. cc) cause count within reads;
+  tape = inl refl;
+  whole = λ done. absurd (undone (status.Choice number place) tt done);
+}
+answered_unplanned name work aim input s blocks unplanned.NoMemory n mm cause count within reads = no_plan name work aim input mm
+
+pub refused : (name : Text) (work : Work) (aim : Aim) (input : List ℕ) (f : StreamFault) (mm : Meaning) → length input ≤ most_bytes → IsInputCause input f
+    → IsAnswered name work aim input (told_by f) 0 0 [] mm mm
+refused name work aim input (fault.Rule number place) mm within cause =
+    record { verdict = λ v. (within, cause); leaves = (refl, untouched mm); unsaid = refused_short name aim input mm; tape = inl refl; whole = λ done. absurd (undone (status.Rule number place) tt done) }
+refused name work aim input (fault.Limit number found) mm within cause = record {
+  verdict = λ v. inl (inr (within, cause));
+  leaves = (inr (stop_told input (fault.Limit number found) cause, refl), untouched mm);
+  unsaid = refused_short name aim input mm;
+  tape = inl refl;
+  whole = λ done. absurd (undone (status.Limit number found) tt done);
+}
+refused name work aim input fault.NoMemory mm within cause = no_plan name work aim input mm
+
+pub too_long : (name : Text) (work : Work) (aim : Aim) (input : List ℕ) (mm : Meaning) → most_bytes < length input → IsAnswered name work aim input (status.Limit 1 268435457) 0 0 [] mm mm
+too_long name work aim input mm long =
+    record { verdict = λ v. inl (inl (long, refl, refl)); leaves = (inr (omega arith, refl), untouched mm); unsaid = refused_short name aim input mm; tape = inl refl; whole = λ done. absurd (undone (status.Limit 1 268435457) tt done) }
+
+tile_cause : (input : List ℕ) (s : Stream) (e : StreamFault) → IsRead input s → HasCause (IsBroken input s) e → IsInputCause input e
+tile_cause input s (fault.Rule number place) read broken = inr (record { stream = s; read = read; broken = broken })
+tile_cause input s (fault.Limit number found) read broken = inr (record { stream = s; read = read; broken = broken })
+tile_cause input s fault.NoMemory read broken = tt
+
+no_rule : (number place : ℕ) → fault.Rule number place ≡ fault.NoMemory → ⊥
+no_rule number place e = cc
+
+no_limit : (number found : ℕ) → fault.Limit number found ≡ fault.NoMemory → ⊥
+no_limit number found e = cc
+
+header_cause : (input : List ℕ) (e : StreamFault) → (e ≡ fault.NoMemory) ⊎ IsFirst input e → IsInputCause input e
+header_cause input (fault.Rule number place) (inl e) = absurd (no_rule number place e)
+header_cause input (fault.Rule number place) (inr first) = inl first
+header_cause input (fault.Limit number found) (inl e) = absurd (no_limit number found e)
+header_cause input (fault.Limit number found) (inr first) = inl first
+header_cause input fault.NoMemory h = tt
+
+pub tiles_refused : (name : Text) (work : Work) (aim : Aim) (input : List ℕ) (s : Stream) (f : StreamFault) (mm : Meaning) → length input ≤ most_bytes → IsRead input s → HasCause (IsBroken input s) f
+    → IsAnswered name work aim input (told_by f) 0 0 [] mm mm
+tiles_refused name work aim input s f mm within read broken = refused name work aim input f mm within (tile_cause input s f read broken)
+
+pub header_refused : (name : Text) (work : Work) (aim : Aim) (input : List ℕ) (f : StreamFault) (mm : Meaning) → length input ≤ most_bytes → (f ≡ fault.NoMemory) ⊎ IsFirst input f
+    → IsAnswered name work aim input (told_by f) 0 0 [] mm mm
+header_refused name work aim input f mm within first = refused name work aim input f mm within (header_cause input f first)
+
+-- ---- what was read
+pub reads_of : (input : List ℕ) (s : Stream) (blocks : List Block) → IsRead input s → totals_fault s ≡ None → IsGathered input s blocks → Reads input s blocks
+reads_of input s blocks read totals gathered = record { read = read; totals = totals; gathered = gathered }
+
+-- ---- what is told of an input or a plan is no fault of a device, and doesn't speak of the words
+IsTold : Status → Type 0
+IsTold status.Done = Unit {0}
+IsTold status.Words = ⊥
+IsTold (status.Rule number place) = Unit {0}
+IsTold (status.Limit number found) = Unit {0}
+IsTold (status.Choice number place) = Unit {0}
+IsTold (status.Block number) = Unit {0}
+IsTold status.ReadFault = ⊥
+IsTold status.WriteFault = ⊥
+IsTold status.NoMemory = Unit {0}
+
+input_told : (f : StreamFault) → IsTold (told_by f)
+unfolding IsTold
+input_told (fault.Rule number place) = tt
+input_told (fault.Limit number found) = tt
+input_told fault.NoMemory = tt
+
+plan_told : (e : PlanFault) → IsTold (told_of_plan e)
+unfolding IsTold
+plan_told (unplanned.Limit number found) = tt
+plan_told (unplanned.Choice number place) = tt
+plan_told unplanned.NoMemory = tt
+
+told_unwritten : (s : Status) → IsTold s → s ≡ status.WriteFault → ⊥
+unfolding IsTold
+told_unwritten s told failed = subst IsTold failed told
+
+told_unread : (s : Status) → IsTold s → (s ≡ status.ReadFault → ⊥) × (s ≡ status.Words → ⊥)
+unfolding IsTold
+told_unread s told = (λ failed. subst IsTold failed told, λ words. subst IsTold words told)
+
+pub input_unwritten : (f : StreamFault) (s : Status) → s ≡ told_by f → s ≡ status.WriteFault → ⊥
+input_unwritten f s is = told_unwritten s (subst IsTold (sym is) (input_told f))
+
+pub input_unread : (f : StreamFault) (s : Status) → s ≡ told_by f → (s ≡ status.ReadFault → ⊥) × (s ≡ status.Words → ⊥)
+input_unread f s is = told_unread s (subst IsTold (sym is) (input_told f))
+
+pub plan_unwritten : (e : PlanFault) (s : Status) → s ≡ told_of_plan e → s ≡ status.WriteFault → ⊥
+plan_unwritten e s is = told_unwritten s (subst IsTold (sym is) (plan_told e))
+
+pub plan_unread : (e : PlanFault) (s : Status) → s ≡ told_of_plan e → (s ≡ status.ReadFault → ⊥) × (s ≡ status.Words → ⊥)
+plan_unread e s is = told_unread s (subst IsTold (sym is) (plan_told e))

@@ -1,0 +1,52 @@
+use Rattle.std.proofs.Common.{arith, refl, ◌≤◌, length}
+use Rattle.jx_transcode.specs.Outcome.{most_bytes}
+use Rattle.jx_transcode.proofs.RefusedLemmas.{header_refused, input_unread, input_unwritten, too_long}
+use Rattle.jx_transcode.proofs.StatusLemmas.{limit_unread, limit_unwritten}
+use Rattle.jx_transcode.proofs.rewrite.answer.Goals as goal
+
+pub returns-in-Err-clause-answer : goal.returns-in-Err-clause-answer
+returns-in-Err-clause-answer g c =
+    let within : length c.args.input.now ≤ most_bytes = omega (arith, c.if-input-ge-MOST.false) in
+    rw (c.refused_by.ensures.status, c.refused_by.ensures.none.0, c.refused_by.ensures.none.1, c.refused_by.ensures.tape) (header_refused _ _ _ c.args.input.now c.in-Err.fault _ within (c.in-Err.ensures.first c.in-Err.fault refl))
+
+pub returns-in-Ok-clause-answer : goal.returns-in-Ok-clause-answer
+returns-in-Ok-clause-answer g c = c.rewrite.ensures.answer
+
+pub returns-in-Ok-clause-long : goal.returns-in-Ok-clause-long
+returns-in-Ok-clause-long g c = λ long. absurd (omega (arith, long, c.if-input-ge-MOST.false))
+
+pub returns-in-Ok-clause-cause : goal.returns-in-Ok-clause-cause
+returns-in-Ok-clause-cause g c = c.rewrite.ensures.cause
+
+pub returns-in-Ok-clause-read : goal.returns-in-Ok-clause-read
+returns-in-Ok-clause-read g c = c.rewrite.ensures.read
+
+pub returns-in-Ok-clause-other : goal.returns-in-Ok-clause-other
+returns-in-Ok-clause-other g c = c.rewrite.ensures.other
+
+pub returns-in-Err-clause-long : goal.returns-in-Err-clause-long
+returns-in-Err-clause-long g c = λ long. c.refused_by.ensures.tape
+
+pub returns-in-Err-clause-cause : goal.returns-in-Err-clause-cause
+returns-in-Err-clause-cause g c = λ failed. absurd (input_unwritten c.in-Err.fault _ c.refused_by.ensures.status failed)
+
+pub returns-in-Err-clause-read : goal.returns-in-Err-clause-read
+returns-in-Err-clause-read g c = input_unread c.in-Err.fault _ c.refused_by.ensures.status
+
+pub returns-in-Err-clause-other : goal.returns-in-Err-clause-other
+returns-in-Err-clause-other g c = refl
+
+pub returns-then-input-ge-MOST-clause-answer : goal.returns-then-input-ge-MOST-clause-answer
+returns-then-input-ge-MOST-clause-answer g c = rw (c.refused.ensures.status, c.refused.ensures.none.0, c.refused.ensures.none.1, c.refused.ensures.tape) (too_long _ _ _ c.args.input.now _ (omega (arith, c.if-input-ge-MOST.true)))
+
+pub returns-then-input-ge-MOST-clause-long : goal.returns-then-input-ge-MOST-clause-long
+returns-then-input-ge-MOST-clause-long g c = λ long. c.refused.ensures.tape
+
+pub returns-then-input-ge-MOST-clause-cause : goal.returns-then-input-ge-MOST-clause-cause
+returns-then-input-ge-MOST-clause-cause g c = λ failed. absurd (limit_unwritten _ _ _ c.refused.ensures.status failed)
+
+pub returns-then-input-ge-MOST-clause-read : goal.returns-then-input-ge-MOST-clause-read
+returns-then-input-ge-MOST-clause-read g c = limit_unread _ _ _ c.refused.ensures.status
+
+pub returns-then-input-ge-MOST-clause-other : goal.returns-then-input-ge-MOST-clause-other
+returns-then-input-ge-MOST-clause-other g c = refl

@@ -1,0 +1,22 @@
+-- What is asked of a codestream: how it is to be written, and the rule by which its coding passes are put into layers.
+use Rattle.std.specs.Prelude.{◌<◌, ◌≤◌, ◌^◌, List, Option, IfSome}
+use Rattle.jx_base.specs.declared.pieces.Block.{Block}
+use Rattle.jx_codestream.specs.declared.Stream.{Stream}
+use Rattle.jx_layers.specs.declared.StreamFacts.{StreamFacts}
+use Rattle.jx_layers.specs.Facts.{facts_of}
+use Rattle.jx_layers.specs.Rule.{Rule, layers_by}
+use Rattle.jx_plan.specs.Wanted.{MayBeWanted, Wanted}
+
+pub record Aim : Type 0 where
+  pub wanted : Wanted
+  -- what the first planner that serves the words of layers makes of them for a stream; nothing where none serves them, or it makes none
+  pub rule : StreamFacts → Option Rule
+
+-- the rule for a stream with its blocks
+abbrev pub rule_in : Aim → Stream → List Block → Option Rule
+rule_in aim s blocks = aim.rule (facts_of s blocks)
+
+-- planners make 1 to 65,535 layers
+pub record MayBeAimed (aim : Aim) : Type 0 where
+  pub may : MayBeWanted aim.wanted
+  pub layers : (facts : StreamFacts) → IfSome (aim.rule facts) (λ r. (1 ≤ layers_by r facts) × (layers_by r facts < 2 ^ 16))

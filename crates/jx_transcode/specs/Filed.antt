@@ -1,0 +1,94 @@
+-- What a whole file, or one that was halted, leaves under a name.
+use Rattle.std.specs.Prelude.{◌≡◌, ◌⊎◌, ℕ, List, length}
+use Rattle.jx_io.specs.Device.{Meaning}
+use Rattle.jx_transcode.specs.Aims.{Aim}
+use Rattle.jx_plan.specs.declared.faults.PlanFault.{PlanFault}
+use Rattle.jx_plan.specs.declared.faults.PlanFault.TheVariants as unplanned
+use Rattle.jx_plan.specs.Plan.{IsPlan, Plan}
+use Rattle.jx_transcode.specs.Outcome.{IsBegun, IsCutShort, IsMade, IsStopped, IsVerdict, Leaves, Verdict}
+use Rattle.jx_transcode.specs.Rounds.{IsHaltedAt, IsRoundFront, IsWholeFile}
+use Rattle.jx_cli.specs.Words.{Text}
+use Rattle.jx_cli.specs.Words.{Work}
+use Rattle.jx_transcode.specs.declared.status.TapeEntry.{TapeEntry}
+use Rattle.jx_transcode.specs.Rewritten.{HasBlocks}
+use Rattle.jx_transcode.specs.Tapes.{IsRunTape, IsTapeOf}
+use Rattle.jx_transcode.specs.declared.halt.Halt.{Halt}
+use Rattle.jx_transcode.specs.declared.halt.Halt.TheVariants as halt
+use Rattle.jx_transcode.specs.declared.status.Status.{Status}
+use Rattle.jx_transcode.specs.declared.status.Status.TheVariants as status
+use Rattle.jx_codestream.specs.declared.faults.StreamFault.{StreamFault}
+use Rattle.jx_codestream.specs.declared.faults.StreamFault.TheVariants as fault
+
+pub record IsFileMade (p : Plan) (name : Text) (count : ℕ) (old new : Meaning) : Type 0 where
+  pub bytes : List ℕ
+  pub whole : IsWholeFile p bytes
+  pub made : IsMade name bytes old new
+  pub count_is : count ≡ length bytes
+
+pub record IsFileBegun (p : Plan) (name : Text) (old new : Meaning) : Type 0 where
+  pub bytes : List ℕ
+  pub of : IsRoundFront p bytes ⊎ IsWholeFile p bytes
+  pub begun : IsBegun name bytes old new
+
+pub record IsFileStopped (p : Plan) (name : Text) (why : Halt) (tile : ℕ) (old new : Meaning) : Type 0 where
+  pub bytes : List ℕ
+  pub is : IsHaltedAt p why tile bytes
+  pub stopped : IsStopped name bytes old new
+
+abbrev pub IsFileHalted : Plan → Text → Halt → Meaning → Meaning → Type 0
+IsFileHalted p name (halt.Bad tile number) old new = IsFileStopped p name (halt.Bad tile number) tile old new
+IsFileHalted p name (halt.TooLong tile) old new = IsFileStopped p name (halt.TooLong tile) tile old new
+IsFileHalted p name halt.Failed old new = IsFileBegun p name old new
+IsFileHalted p name halt.NoMemory old new = IsFileBegun p name old new
+
+-- what becomes of an input whose bytes were read
+pub record IsAnswered (name : Text) (work : Work) (aim : Aim) (input : List ℕ) (s : Status) (blocks bytes : ℕ) (entries : List TapeEntry) (old new : Meaning) : Type 0 where
+  pub verdict : IsVerdict s → Verdict aim input s
+  pub leaves : Leaves name aim input s blocks bytes old new
+  pub unsaid : IsCutShort name aim input blocks old new
+  pub tape : IsRunTape work input entries
+  pub whole : s ≡ status.Done → HasBlocks input (length entries)
+
+-- the status of a file that wasn't written to its end, and that of an input in which something is violated or passed
+abbrev pub status_of : Halt → Status
+status_of (halt.Bad tile number) = status.Block number
+status_of (halt.TooLong tile) = status.Choice 7 tile
+status_of halt.Failed = status.WriteFault
+status_of halt.NoMemory = status.NoMemory
+
+abbrev pub told_by : StreamFault → Status
+told_by (fault.Rule number place) = status.Rule number place
+told_by (fault.Limit number found) = status.Limit number found
+told_by fault.NoMemory = status.NoMemory
+
+-- and of an input that isn't planned, with the blocks that are told
+abbrev pub told_of_plan : PlanFault → Status
+told_of_plan (unplanned.Limit number found) = status.Limit number found
+told_of_plan (unplanned.Choice number place) = status.Choice number place
+told_of_plan unplanned.NoMemory = status.NoMemory
+
+abbrev pub blocks_told : PlanFault → ℕ → ℕ
+blocks_told (unplanned.Limit number found) blocks = blocks
+blocks_told (unplanned.Choice number place) blocks = blocks
+blocks_told unplanned.NoMemory blocks = 0
+
+-- words that are no command, or that couldn't be read
+abbrev pub IsUnread : Status → ℕ → Type 0
+IsUnread s blocks = ((s ≡ status.Words) ⊎ (s ≡ status.NoMemory)) × (blocks ≡ 0)
+
+-- what becomes of a plan: a whole file, or one that was halted
+pub record IsPlanWritten (p : Plan) (name : Text) (s : Status) (bytes : ℕ) (old new : Meaning) : Type 0 where
+  pub done : s ≡ status.Done
+  pub file : IsFileMade p name bytes old new
+
+pub record IsPlanHalted (p : Plan) (name : Text) (s : Status) (old new : Meaning) : Type 0 where
+  pub why : Halt
+  pub status_is : s ≡ status_of why
+  pub file : IsFileHalted p name why old new
+
+pub record IsPlanAnswered (name : Text) (work : Work) (p : Plan) (s : Status) (blocks bytes : ℕ) (entries : List TapeEntry) (old new : Meaning) : Type 0 where
+  pub plan : IsPlan p
+  pub count : blocks ≡ length p.blocks
+  pub tape : IsTapeOf work p.blocks entries
+  pub whole : s ≡ status.Done → length entries ≡ length p.blocks
+  pub either : IsPlanWritten p name s bytes old new ⊎ IsPlanHalted p name s old new

@@ -1,0 +1,227 @@
+-- How a run ends over words of `transcode` and over other words: the verdict on the words and the input, the line said, and what stands
+-- afterwards.
+use Rattle.std.specs.Prelude.{◌≡◌, ◌⊎◌, ℕ, ◌+◌, ◌^◌, ◌<◌, ◌≤◌, List, [], ◌++◌, length, Option, IfSome, codes}
+use Rattle.std.specs.Option.{option_map}
+use Rattle.std.specs.Fmt.{decimal}
+use Rattle.jx_io.specs.Causes.{Rose}
+use Rattle.jx_io.specs.Device.{Meaning, joined, after_create, after_write, after_finish}
+use Rattle.jx_transcode.specs.declared.status.Status.{Status}
+use Rattle.jx_transcode.specs.declared.status.Status.TheVariants as status
+use Rattle.jx_cli.specs.Words.{Text, Request}
+use Rattle.jx_transcode.specs.declared.status.TapeEntry.{TapeEntry}
+use Rattle.jx_transcode.specs.Tapes.{IsRunTape}
+use Rattle.jx_transcode.specs.Rewritten.{HasBlocks, IsBad, IsCut, IsCutByBlock, IsFrontOf, IsKept, IsRewritten, IsTooLong, IsUnplanned}
+use Rattle.jx_plan.specs.declared.faults.PlanFault.{PlanFault}
+use Rattle.jx_plan.specs.declared.faults.PlanFault.TheVariants as unplanned
+use Rattle.jx_layers.specs.declared.StreamFacts.{StreamFacts}
+use Rattle.jx_layers.specs.Rule.{Rule}
+use Rattle.jx_transcode.specs.Aims.{Aim}
+use Rattle.jx_transcode.specs.Progress.{HasWritten}
+use Rattle.jx_transcode.specs.Judged.{Violates, Passes}
+
+-- the most bytes that an input may have
+abbrev pub most_bytes : ℕ
+most_bytes = 2 ^ 28
+
+-- the number with which the program ends
+abbrev pub number_of : Status → ℕ
+number_of status.Done = 0
+number_of status.Words = 2
+number_of (status.Rule number place) = 3
+number_of (status.Limit number found) = 4
+number_of status.ReadFault = 7
+number_of status.WriteFault = 8
+number_of status.NoMemory = 9
+number_of (status.Choice number place) = 5
+number_of (status.Block number) = 6
+
+-- the status speaks of the words and the input, and not of a fault or of memory
+abbrev pub IsVerdict : Status → Type 0
+IsVerdict status.Done = Unit {0}
+IsVerdict status.Words = Unit {0}
+IsVerdict (status.Rule number place) = Unit {0}
+IsVerdict (status.Limit number found) = Unit {0}
+IsVerdict (status.Choice number place) = Unit {0}
+IsVerdict (status.Block number) = Unit {0}
+IsVerdict status.ReadFault = ⊥
+IsVerdict status.WriteFault = ⊥
+IsVerdict status.NoMemory = ⊥
+
+-- limit 1 is passed, or a limit that is passed first in the headers or the tile data
+abbrev pub PassesLimit : List ℕ → ℕ → ℕ → Type 0
+PassesLimit input number found =
+    ((most_bytes < length input) × (number ≡ 1) × (found ≡ most_bytes + 1))
+    ⊎ ((length input ≤ most_bytes) × Passes input number found)
+
+-- the status that an input has where the words are good and nothing fails: limit 1, then the first rule that it violates or limit that it
+-- passes in its headers or its tile data, then choice 1, choice 3, choice 2, choice 6, limit 7, choice 4 and choice 5, then tile by tile a
+-- block that is coded anew and has a wrong segmentation symbol, and a tile-part that would be too long
+abbrev pub Verdict : Aim → List ℕ → Status → Type 0
+Verdict aim input status.Done = (length input ≤ most_bytes) × (out : List ℕ) × IsRewritten aim input out
+Verdict aim input (status.Rule number place) = (length input ≤ most_bytes) × Violates input number place
+Verdict aim input (status.Limit number found) = PassesLimit input number found ⊎ ((length input ≤ most_bytes) × IsUnplanned aim input (unplanned.Limit number found))
+Verdict aim input (status.Choice number place) = (length input ≤ most_bytes) × (((number ≡ 7) × IsTooLong aim input place) ⊎ IsUnplanned aim input (unplanned.Choice number place))
+Verdict aim input (status.Block number) = (length input ≤ most_bytes) × IsBad aim input number
+Verdict aim input status.Words = ⊥
+Verdict aim input status.ReadFault = ⊥
+Verdict aim input status.WriteFault = ⊥
+Verdict aim input status.NoMemory = ⊥
+
+-- the line that a status has, with its numbers: those of the code-blocks and of the bytes written after Done
+abbrev pub line_of : Status → ℕ → ℕ → List ℕ
+line_of status.Done blocks bytes = codes "done: " ++ (decimal blocks ++ (codes " blocks, " ++ (decimal bytes ++ codes " bytes\n")))
+line_of status.Words blocks bytes = codes "words\n"
+line_of (status.Rule number place) blocks bytes = codes "rule " ++ (decimal number ++ (codes " at " ++ (decimal place ++ codes "\n")))
+line_of (status.Limit number found) blocks bytes = codes "limit " ++ (decimal number ++ (codes ": " ++ (decimal found ++ codes "\n")))
+line_of (status.Choice number place) blocks bytes = codes "choice " ++ (decimal number ++ (codes " at " ++ (decimal place ++ codes "\n")))
+line_of (status.Block number) blocks bytes = codes "block " ++ (decimal number ++ codes "\n")
+line_of status.ReadFault blocks bytes = codes "read fault\n"
+line_of status.WriteFault blocks bytes = []
+line_of status.NoMemory blocks bytes = codes "no memory\n"
+
+-- the text so far with this line at its end, where it is told
+abbrev pub said_after : List ℕ → Option (List ℕ) → Option (List ℕ)
+said_after line said = option_map (λ text. text ++ line) said
+
+-- what was said: the line; nothing after a write fault; and for want of memory either
+abbrev pub Says : Status → List ℕ → Option (List ℕ) → Option (List ℕ) → Type 0
+Says status.WriteFault line old new = new ≡ old
+Says status.NoMemory line old new = (new ≡ old) ⊎ (new ≡ said_after line old)
+Says status.Done line old new = new ≡ said_after line old
+Says status.Words line old new = new ≡ said_after line old
+Says (status.Rule number place) line old new = new ≡ said_after line old
+Says (status.Limit number found) line old new = new ≡ said_after line old
+Says (status.Choice number place) line old new = new ≡ said_after line old
+Says (status.Block number) line old new = new ≡ said_after line old
+Says status.ReadFault line old new = new ≡ said_after line old
+
+-- nothing was made
+pub record IsUntouched (old new : Meaning) : Type 0 where
+  pub holds : (name : List ℕ) → new.holds name ≡ old.holds name
+  pub making : new.making ≡ old.making
+  pub written : new.written ≡ old.written
+
+-- the whole file was made, and is found under its name
+abbrev pub IsMade : Text → List ℕ → Meaning → Meaning → Type 0
+IsMade name bytes old new = (m : Meaning) × IsUntouched old m × (new ≡ after_finish (after_write bytes (after_create name m)))
+
+-- a front of the file was made, and it wasn't finished
+abbrev pub IsPartlyMade : Text → List ℕ → Meaning → Meaning → Type 0
+IsPartlyMade name bytes old new = (m : Meaning) × (rest : List ℕ) × IsUntouched old m × HasWritten (after_create name m) new bytes rest
+
+-- just these bytes of the file were made, and it wasn't finished
+abbrev pub IsStopped : Text → List ℕ → Meaning → Meaning → Type 0
+IsStopped name bytes old new = (m : Meaning) × IsUntouched old m × (new ≡ after_write bytes (after_create name m))
+
+-- nothing of the file, a front or all of it was made
+abbrev pub IsBegun : Text → List ℕ → Meaning → Meaning → Type 0
+IsBegun name bytes old new = IsUntouched old new ⊎ (IsPartlyMade name bytes old new ⊎ IsMade name bytes old new)
+
+-- nothing was made, and the input wasn't accepted
+abbrev pub IsRefused : ℕ → Meaning → Meaning → Type 0
+IsRefused blocks old new = (blocks ≡ 0) × IsUntouched old new
+
+-- the input was accepted, and its output begun: what was written is a front of whole rounds, or of the whole file
+pub record IsAborted (name : Text) (aim : Aim) (input : List ℕ) (blocks : ℕ) (old new : Meaning) : Type 0 where
+  pub within : length input ≤ most_bytes
+  pub count : HasBlocks input blocks
+  pub bytes : List ℕ
+  pub of : IsFrontOf aim input bytes ⊎ IsRewritten aim input bytes
+  pub begun : IsBegun name bytes old new
+
+-- nothing was made of an input that isn't planned
+pub record IsOver (aim : Aim) (input : List ℕ) (blocks : ℕ) (old new : Meaning) : Type 0 where
+  pub within : length input ≤ most_bytes
+  pub why : PlanFault
+  pub is : IsUnplanned aim input why
+  pub caused : why ≡ unplanned.NoMemory → ⊥
+  pub count : HasBlocks input blocks
+  pub same : IsUntouched old new
+
+-- nothing was made, or the input was accepted and its output begun
+abbrev pub IsCutShort : Text → Aim → List ℕ → ℕ → Meaning → Meaning → Type 0
+IsCutShort name aim input blocks old new = IsRefused blocks old new ⊎ (IsOver aim input blocks old new ⊎ IsAborted name aim input blocks old new)
+
+-- the file was made whole
+pub record IsWhole (name : Text) (aim : Aim) (input : List ℕ) (blocks bytes : ℕ) (old new : Meaning) : Type 0 where
+  pub out : List ℕ
+  pub is : IsRewritten aim input out
+  pub made : IsMade name out old new
+  pub kept : IsKept aim input out
+  pub count : HasBlocks input blocks
+  pub long : bytes ≡ length out
+
+-- a tile-part was too long: the rounds before its tile's were written
+pub record IsStoppedAt (name : Text) (aim : Aim) (input : List ℕ) (tile blocks : ℕ) (old new : Meaning) : Type 0 where
+  pub bytes : List ℕ
+  pub is : IsCut aim input tile bytes
+  pub stopped : IsStopped name bytes old new
+  pub count : HasBlocks input blocks
+
+-- a block was wrong: the rounds before that of its tile were written
+pub record IsStoppedByBlock (name : Text) (aim : Aim) (input : List ℕ) (number blocks : ℕ) (old new : Meaning) : Type 0 where
+  pub bytes : List ℕ
+  pub is : IsCutByBlock aim input number bytes
+  pub stopped : IsStopped name bytes old new
+  pub count : HasBlocks input blocks
+
+-- limit 7 alone is passed by an input that was accepted
+abbrev pub IsLimited : List ℕ → ℕ → ℕ → Type 0
+IsLimited input number blocks = ((number ≡ 7) × HasBlocks input blocks) ⊎ ((number < 7) × (blocks ≡ 0))
+
+-- what stands after a status, the blocks that are told, and the bytes of the output after Done
+abbrev pub Leaves : Text → Aim → List ℕ → Status → ℕ → ℕ → Meaning → Meaning → Type 0
+Leaves name aim input status.Done blocks bytes old new = IsWhole name aim input blocks bytes old new
+Leaves name aim input status.Words blocks bytes old new = IsRefused blocks old new
+Leaves name aim input (status.Rule number place) blocks bytes old new = IsRefused blocks old new
+Leaves name aim input (status.Limit number found) blocks bytes old new = IsLimited input number blocks × IsUntouched old new
+Leaves name aim input (status.Choice number place) blocks bytes old new =
+    ((number ≡ 7) × IsStoppedAt name aim input place blocks old new) ⊎ ((number < 7) × HasBlocks input blocks × IsUntouched old new)
+Leaves name aim input (status.Block number) blocks bytes old new = IsStoppedByBlock name aim input number blocks old new
+Leaves name aim input status.ReadFault blocks bytes old new = IsRefused blocks old new
+Leaves name aim input status.WriteFault blocks bytes old new = IsCutShort name aim input blocks old new
+Leaves name aim input status.NoMemory blocks bytes old new = IsCutShort name aim input blocks old new
+
+-- what good words ask for, with the rule that the planners make of their words of layers
+abbrev pub aim_of : Request → (List ℕ → StreamFacts → Option Rule) → Aim
+aim_of request rule = record { wanted = request.wanted; rule = rule request.wanted.layers }
+
+-- how a run over good words ends on an input, which is what the file named IN holds at the beginning, where that is told
+pub record EndsOn (request : Request) (rule : List ℕ → StreamFacts → Option Rule) (input : List ℕ) (s : Status) (blocks bytes : ℕ) (entries : List TapeEntry) (old new : Meaning) : Type 0 where
+  pub told : IfSome (joined (old.holds request.from)) (λ bytes. input ≡ bytes)
+  pub verdict : IsVerdict s → Verdict (aim_of request rule) input s
+  pub leaves : Leaves request.to (aim_of request rule) input s blocks bytes old new
+  -- the tape has the entries of the first blocks, in their order, each once, by workers and inside windows that were asked for
+  pub tape : IsRunTape request.work input entries
+  -- and those of all blocks after Done
+  pub whole : s ≡ status.Done → HasBlocks input (length entries)
+
+-- how the files are left by a run over good words, before anything is said; `bytes` is the output's length after Done
+pub record EndsFiles (request : Request) (rule : List ℕ → StreamFacts → Option Rule) (s : Status) (blocks bytes : ℕ) (entries : List TapeEntry) (old new : Meaning) : Type 0 where
+  pub input : List ℕ
+  pub files : EndsOn request rule input s blocks bytes entries old new
+  -- what stands where its line isn't said
+  pub unsaid : IsCutShort request.to (aim_of request rule) input blocks old new
+
+-- how a run over good words ends
+pub record Ends (request : Request) (rule : List ℕ → StreamFacts → Option Rule) (s : Status) (blocks : ℕ) (entries : List TapeEntry) (old new : Meaning) (before now : Option (List ℕ)) : Type 0 where
+  pub input : List ℕ
+  pub bytes : ℕ
+  pub files : EndsOn request rule input s blocks bytes entries old new
+  pub said : Says s (line_of s blocks bytes) before now
+
+-- how a run over other words ends
+pub record EndsAtWords (s : Status) (blocks : ℕ) (entries : List TapeEntry) (old new : Meaning) (before now : Option (List ℕ)) : Type 0 where
+  pub words : (s ≡ status.Words) ⊎ ((s ≡ status.WriteFault) ⊎ (s ≡ status.NoMemory))
+  pub files : new ≡ old
+  pub none : blocks ≡ 0
+  pub tape : entries ≡ []
+  pub said : Says s (line_of s 0 0) before now
+
+-- the status after a line was said: the same where it was said; a write fault exactly where the sink's count rose; and
+-- else want of memory
+abbrev pub EndsAs : Status → List ℕ → Status → Option (List ℕ) → Option (List ℕ) → ℕ → ℕ → Type 0
+EndsAs s line late before now fault_before fault_now =
+    ((late ≡ s) × Says s line before now × (fault_now ≡ fault_before))
+    ⊎ (((late ≡ status.WriteFault) × (now ≡ before) × Rose fault_before fault_now)
+    ⊎ ((late ≡ status.NoMemory) × (now ≡ before) × (fault_now ≡ fault_before)))

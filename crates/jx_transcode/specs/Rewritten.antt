@@ -1,0 +1,192 @@
+-- The file to which an input is rewritten: its headers as they are written, and its code-blocks, each kept byte for byte or coded anew in
+-- the style that is asked, packed anew in the layers of a rule (ITU-T T.800, A, B and D). And what stands of it where the run ends early.
+use Rattle.std.specs.Prelude.{◌≡◌, ◌<◌, ◌≤◌, ◌+◌, ◌⊎◌, ℕ, zero, suc, nat_le, true, false, List, ◌++◌, length, slice_get, Option, None, Some, if◌then◌else◌}
+use Rattle.std.specs.List.{All, flat_map}
+use Rattle.jx_base.specs.declared.pieces.Block.{Block}
+use Rattle.jx_base.specs.Joined.{joined}
+use Rattle.jx_geom.specs.Counts.{tile_blocks}
+use Rattle.jx_geom.specs.Numbering.{blocks_below}
+use Rattle.jx_geom.specs.Rects.{tile_rect}
+use Rattle.jx_codestream.specs.declared.Stream.{Stream}
+use Rattle.jx_codestream.specs.First.{canvas_of, tile_number}
+use Rattle.jx_codestream.specs.Read.{IsRead}
+use Rattle.jx_codestream.specs.Shapes.{shapes_of}
+use Rattle.jx_codestream.specs.Spells.{TilePart, part_bytes}
+use Rattle.jx_tier2_reader.specs.Gathered.{IsGathered}
+use Rattle.jx_tier2_reader.specs.Totals.{totals_fault}
+use Rattle.jx_plan.specs.declared.faults.PlanFault.{PlanFault}
+use Rattle.jx_codeblock.specs.Written.{is_wrong}
+use Rattle.jx_layers.specs.Rule.{Rule}
+use Rattle.jx_plan.specs.Plan.{headers_with}
+use Rattle.jx_plan.specs.Planned.{HasPlanCause, IsFreeBy, MakesLayers, blocks_written, layers_of_rule}
+use Rattle.jx_plan.specs.Wanted.{Wanted, marks_of}
+use Rattle.jx_tier2_writer.specs.Kept.{IsKeptIn}
+use Rattle.jx_tier2_writer.specs.Ready.{AllShort, AreShort}
+use Rattle.jx_tier2_writer.specs.Tile.{main_bytes}
+use Rattle.jx_tier2_writer.specs.TileParts.{AreTilePartsOf, IsOutput}
+use Rattle.jx_transcode.specs.Aims.{Aim, rule_in}
+
+-- an input that is read whole: a well-formed codestream within the limits, with its blocks
+pub record Reads (input : List ℕ) (s : Stream) (blocks : List Block) : Type 0 where
+  pub read : IsRead input s
+  pub totals : totals_fault s ≡ None
+  pub gathered : IsGathered input s blocks
+
+-- the headers that are written, with the layers of a rule
+abbrev pub headers_of : Wanted → Rule → Stream → List Block → Stream
+headers_of w r s blocks = headers_with w (layers_of_rule r s blocks) s
+
+-- there is a rule, and nothing is in the way of a plan by it
+pub record CanBePlanned (aim : Aim) (s : Stream) (blocks : List Block) : Type 0 where
+  pub by : Rule
+  pub is : rule_in aim s blocks ≡ Some by
+  pub layers : MakesLayers (Some by) s blocks
+  pub free : IsFreeBy by s blocks aim.wanted
+
+-- why an input isn't planned: choice 1, choice 3, choice 2, choice 6, limit 7, choice 4 or choice 5
+pub record IsUnplanned (aim : Aim) (input : List ℕ) (why : PlanFault) : Type 0 where
+  pub stream : Stream
+  pub blocks : List Block
+  pub reads : Reads input stream blocks
+  pub cause : HasPlanCause (rule_in aim stream blocks) stream blocks aim.wanted why
+
+-- the blocks of a tile: the number of the first, and how many there are
+abbrev pub first_in_tile : Stream → ℕ → ℕ
+first_in_tile s t = blocks_below (canvas_of s.siz) (shapes_of s) t
+
+abbrev pub blocks_in_tile : Stream → ℕ → ℕ
+blocks_in_tile s t = tile_blocks (tile_rect (canvas_of s.siz) t) (shapes_of s t)
+
+-- D.5: a block that is coded anew, and of which a segmentation symbol is wrong
+abbrev pub IsWrongBlock : Wanted → Option Block → Type 0
+IsWrongBlock w None = ⊥
+IsWrongBlock w (Some b) = is_wrong w.style b ≡ true
+
+-- the lowest one of a tile
+pub record IsWrongAt (w : Wanted) (s : Stream) (blocks : List Block) (t number : ℕ) : Type 0 where
+  pub from : first_in_tile s t ≤ number
+  pub below : number < first_in_tile s t + blocks_in_tile s t
+  pub wrong : IsWrongBlock w (slice_get blocks number)
+  pub lowest : (n : ℕ) → first_in_tile s t ≤ n → n < number → IsWrongBlock w (slice_get blocks n) → ⊥
+
+-- a tile that has none
+abbrev pub IsRight : Wanted → Stream → List Block → ℕ → Type 0
+IsRight w s blocks t = (n : ℕ) → first_in_tile s t ≤ n → n < first_in_tile s t + blocks_in_tile s t → IsWrongBlock w (slice_get blocks n) → ⊥
+
+-- such a tile that has a tile-part of 2^32 bytes or more
+pub record IsLong (w : Wanted) (r : Rule) (s : Stream) (blocks : List Block) (t : ℕ) : Type 0 where
+  pub right : IsRight w s blocks t
+  pub parts : List TilePart
+  pub are : AreTilePartsOf (marks_of w) (headers_of w r s blocks) (blocks_written w r s blocks) t parts
+  pub long : AreShort parts → ⊥
+
+-- a tile that isn't written
+abbrev pub IsSpoiled : Wanted → Rule → Stream → List Block → ℕ → Type 0
+IsSpoiled w r s blocks t = ((number : ℕ) × IsWrongAt w s blocks t number) ⊎ IsLong w r s blocks t
+
+-- the lowest one has a block that is wrong
+pub record IsBad (aim : Aim) (input : List ℕ) (number : ℕ) : Type 0 where
+  pub stream : Stream
+  pub blocks : List Block
+  pub reads : Reads input stream blocks
+  pub can : CanBePlanned aim stream blocks
+  pub tile : ℕ
+  pub inside : tile < tile_number stream.siz
+  pub is : IsWrongAt aim.wanted stream blocks tile number
+  pub lowest : (n : ℕ) → n < tile → IsSpoiled aim.wanted can.by stream blocks n → ⊥
+
+-- the lowest one is too long
+pub record IsTooLong (aim : Aim) (input : List ℕ) (t : ℕ) : Type 0 where
+  pub stream : Stream
+  pub blocks : List Block
+  pub reads : Reads input stream blocks
+  pub can : CanBePlanned aim stream blocks
+  pub inside : t < tile_number stream.siz
+  pub is : IsLong aim.wanted can.by stream blocks t
+  pub lowest : (n : ℕ) → n < t → IsSpoiled aim.wanted can.by stream blocks n → ⊥
+
+-- the file that is written of an input: the one that its blocks, as they are written, make with its headers
+pub record IsRewritten (aim : Aim) (input out : List ℕ) : Type 0 where
+  pub stream : Stream
+  pub blocks : List Block
+  pub reads : Reads input stream blocks
+  pub can : CanBePlanned aim stream blocks
+  pub right : All (λ (b : Block). is_wrong aim.wanted.style b ≡ false) blocks
+  pub output : IsOutput (marks_of aim.wanted) (headers_of aim.wanted can.by stream blocks) (blocks_written aim.wanted can.by stream blocks) out
+  pub short : AllShort output.parts (tile_number stream.siz)
+
+-- rounds: tiles are written in rounds, of which each ends with the first tile at which it has 4,096 blocks, or with the last tile
+abbrev pub most_of_round : ℕ
+most_of_round = 4096
+
+-- the round of a tile: where it begins, and the blocks that it has before the tile
+pub record Round : Type 0 where
+  pub start : ℕ
+  pub before : ℕ
+
+abbrev pub next_round : (ℕ → ℕ) → ℕ → Round → Round
+next_round counts t r = if nat_le most_of_round (r.before + counts t) then record { start = t + 1; before = 0 } else record { start = r.start; before = r.before + counts t }
+
+abbrev pub round_of : (ℕ → ℕ) → ℕ → Round
+round_of counts zero = record { start = 0; before = 0 }
+round_of counts (suc t) = next_round counts t (round_of counts t)
+
+abbrev pub round_start : Stream → ℕ → ℕ
+round_start s t = (round_of (blocks_in_tile s) t).start
+
+-- the main header and the tile-parts of the first tiles, in which no block is wrong
+pub record IsFront (w : Wanted) (r : Rule) (s : Stream) (blocks : List Block) (tiles : ℕ) (bytes : List ℕ) : Type 0 where
+  pub parts : ℕ → List TilePart
+  pub right : (t : ℕ) → t < tiles → IsRight w s blocks t
+  pub are : (t : ℕ) → t < tiles → AreTilePartsOf (marks_of w) (headers_of w r s blocks) (blocks_written w r s blocks) t (parts t)
+  pub bytes_are : bytes ≡ main_bytes (headers_of w r s blocks) ++ flat_map (part_bytes (length s.siz.comps)) (joined parts 0 tiles)
+
+-- what a run may have written of an input before it is done: whole rounds, of which none has a tile that isn't written
+pub record IsFrontOf (aim : Aim) (input bytes : List ℕ) : Type 0 where
+  pub stream : Stream
+  pub blocks : List Block
+  pub reads : Reads input stream blocks
+  pub can : CanBePlanned aim stream blocks
+  pub tiles : ℕ
+  pub inside : tiles ≤ tile_number stream.siz
+  pub front : IsFront aim.wanted can.by stream blocks tiles bytes
+  pub before : (t : ℕ) → t < tile_number stream.siz → IsSpoiled aim.wanted can.by stream blocks t → tiles ≤ round_start stream t
+
+-- what it has written where a tile is too long: the rounds before that tile's
+pub record IsCut (aim : Aim) (input : List ℕ) (t : ℕ) (bytes : List ℕ) : Type 0 where
+  pub stream : Stream
+  pub blocks : List Block
+  pub reads : Reads input stream blocks
+  pub can : CanBePlanned aim stream blocks
+  pub front : IsFront aim.wanted can.by stream blocks (round_start stream t) bytes
+
+-- and where a block is wrong: the rounds before that of its tile
+pub record IsCutByBlock (aim : Aim) (input : List ℕ) (number : ℕ) (bytes : List ℕ) : Type 0 where
+  pub stream : Stream
+  pub blocks : List Block
+  pub reads : Reads input stream blocks
+  pub can : CanBePlanned aim stream blocks
+  pub tile : ℕ
+  pub from : first_in_tile stream tile ≤ number
+  pub below : number < first_in_tile stream tile + blocks_in_tile stream tile
+  pub front : IsFront aim.wanted can.by stream blocks (round_start stream tile) bytes
+
+-- how many blocks an input has
+pub record HasBlocks (input : List ℕ) (count : ℕ) : Type 0 where
+  pub stream : Stream
+  pub blocks : List Block
+  pub reads : Reads input stream blocks
+  pub count_is : count ≡ length blocks
+
+-- what the written file keeps: it is a well-formed codestream, and strictly made; it has the input's blocks, each with its name, place,
+-- planes, zero planes and passes, and with its style and coded bytes where it isn't coded anew, in the layers of the rule; SIZ but for Rsiz;
+-- each component's parameters but for the order, the layers, the precincts and the style, and steps; and it means the same; the first layers
+-- of a block give its passes their final values
+pub record IsKept (aim : Aim) (input out : List ℕ) : Type 0 where
+  pub before : Stream
+  pub after : Stream
+  pub blocks : List Block
+  pub reads : Reads input before blocks
+  pub by : Rule
+  pub is : rule_in aim before blocks ≡ Some by
+  pub kept : IsKeptIn aim.wanted by before after blocks out

@@ -1,0 +1,86 @@
+//! Laws over what becomes of an input. The functions do nothing but cite the laws of the crates below: their contracts carry the laws.
+ghost use Rattle.std.specs.Prelude.{◌≡◌, ◌⊎◌, ◌≤◌, ℕ, List, Option, length};
+ghost use Rattle.jx_layers.specs.declared.StreamFacts.{StreamFacts};
+ghost use Rattle.jx_layers.specs.Rule.{Rule};
+ghost use Rattle.jx_marker.specs.Ranges.{AreBytes};
+ghost use Rattle.jx_transcode.specs.Aims.{Aim, MayBeAimed};
+ghost use Rattle.jx_cli.specs.MakeWords.{Make, MayBeMade};
+ghost use Rattle.jx_transcode.specs.declared.status.Status.{Status};
+ghost use Rattle.jx_transcode.specs.declared.status.Status.TheVariants as status;
+ghost use Rattle.jx_transcode.specs.MadeVerdict.{HasNoRule};
+ghost use Rattle.jx_transcode.specs.MakeRun.{aim_made, input_of};
+ghost use Rattle.jx_transcode.specs.Outcome.{Verdict, most_bytes};
+
+use jx_codestream::laws::{one_first, one_stream, violated_or_spelled};
+use jx_generate::laws::{made_blocks_are_plain, made_geometry, made_is_well_formed};
+use jx_plan::laws::{gathered_may_be_planned, groups_are_cut, kept_precincts_fit, one_answer};
+use jx_tier2_reader::laws::{never_both, one_gathering, one_of_both, one_violation};
+use jx_tier2_writer::laws::{one_output, written_is_ready};
+
+/// An input has at most one verdict.
+pub fn one_verdict()
+    ensures { (aim : Aim) (input : List ℕ) (s t : Status) → Verdict aim input s → Verdict aim input t → s ≡ t }
+{
+    one_stream();
+    one_first();
+    violated_or_spelled();
+    one_violation();
+    one_gathering();
+    never_both();
+    one_answer();
+    one_output();
+}
+
+/// An input has a verdict, where the planners make 1 to 65,535 layers.
+pub fn some_verdict()
+    ensures { (aim : Aim) (input : List ℕ) → MayBeAimed aim → AreBytes input → (s : Status) × Verdict aim input s }
+{
+    violated_or_spelled();
+    one_of_both();
+    gathered_may_be_planned();
+    one_answer();
+    written_is_ready();
+    one_output();
+}
+
+/// A generated codestream violates no rule, and passes no limit but that on packets of the output.
+pub fn made_is_accepted()
+    ensures rules { (aim : Aim) (m : Make) (number place : ℕ) → MayBeMade m → Verdict aim (input_of m) (status.Rule number place) → ⊥ }
+    ensures limits { (aim : Aim) (m : Make) (number found : ℕ) → MayBeMade m → length (input_of m) ≤ most_bytes
+        → Verdict aim (input_of m) (status.Limit number found) → number ≡ 7 }
+{
+    made_is_well_formed();
+    one_stream();
+    one_first();
+    violated_or_spelled();
+    one_violation();
+    one_gathering();
+    never_both();
+    one_answer();
+    one_output();
+}
+
+/// A generated codestream, with the options of `make` and planners that make 1 to 65,535 layers: no limit is passed, no code-block is wrong, and
+/// no choice is in the way but choice 7 and, where there is no rule of layers, choice 6.
+pub fn made_is_planned()
+    ensures limits { (rule : List ℕ → StreamFacts → Option Rule) (m : Make) (number found : ℕ) → MayBeMade m → MayBeAimed (aim_made rule) → length (input_of m) ≤ most_bytes
+        → Verdict (aim_made rule) (input_of m) (status.Limit number found) → ⊥ }
+    ensures choices { (rule : List ℕ → StreamFacts → Option Rule) (m : Make) (number place : ℕ) → MayBeMade m → MayBeAimed (aim_made rule)
+        → Verdict (aim_made rule) (input_of m) (status.Choice number place) → (number ≡ 7) ⊎ ((number ≡ 6) × (place ≡ 0) × HasNoRule (aim_made rule) (input_of m)) }
+    ensures blocks { (rule : List ℕ → StreamFacts → Option Rule) (m : Make) (number : ℕ) → MayBeMade m → Verdict (aim_made rule) (input_of m) (status.Block number) → ⊥ }
+{
+    made_is_well_formed();
+    made_blocks_are_plain();
+    made_geometry();
+    gathered_may_be_planned();
+    kept_precincts_fit();
+    groups_are_cut();
+    one_stream();
+    one_first();
+    violated_or_spelled();
+    one_violation();
+    one_gathering();
+    never_both();
+    one_answer();
+    one_output();
+}

@@ -1,0 +1,64 @@
+/// How a run ended.
+#[derive(Clone, Copy, Debug, PartialEq, Eq)]
+pub enum Status {
+    /// The output was written, and the line was said.
+    Done,
+    /// The words are no command.
+    Words,
+    /// The input violates a rule: its number, and the place of the byte.
+    Rule { number: u8, place: u32 },
+    /// A limit was passed: its number, and what was counted.
+    Limit { number: u8, found: u128 },
+    /// The output can't be had: the number of the choice, and the block or tile.
+    Choice { number: u8, place: u32 },
+    /// A block was to be coded anew, and one of its segmentation symbols is wrong: its number.
+    Block { number: u32 },
+    /// The input couldn't be opened or read.
+    ReadFault,
+    /// The output couldn't be created, written or finished, or the line couldn't be said.
+    WriteFault,
+    /// Memory was refused.
+    NoMemory,
+}
+
+impl Status {
+    ghost use Rattle.std.specs.Prelude.{◌≡◌};
+    ghost use Rattle.jx_transcode.specs.Outcome.{number_of};
+
+    /// The number with which the program ends.
+    pub fn number(self) -> u8
+        ensures { result ≡ number_of self }
+    {
+        match self {
+            Status::Done => 0,
+            Status::Words => 2,
+            Status::Rule { .. } => 3,
+            Status::Limit { .. } => 4,
+            Status::Choice { .. } => 5,
+            Status::Block { .. } => 6,
+            Status::ReadFault => 7,
+            Status::WriteFault => 8,
+            Status::NoMemory => 9,
+        }
+    }
+}
+
+/// Which worker had a block, and the first block that wasn't in sequence when it was claimed. A block of a round in which none is coded
+/// anew was had by worker 0, alone.
+#[derive(Clone, Copy, Debug, PartialEq, Eq)]
+pub struct TapeEntry {
+    pub number: u32,
+    pub worker: u32,
+    pub seen: u32,
+}
+
+/// What a run tells its caller.
+#[derive(Debug, Drop)]
+pub struct Report {
+    /// How the run ended.
+    pub status: Status,
+    /// The code-blocks of the input once it was accepted, else 0.
+    pub blocks: u32,
+    /// The blocks of all rounds that were written, in their order.
+    pub tape: Vec<TapeEntry>,
+}

@@ -1,5 +1,0 @@
-use Rattle.jx_words.proofs.MakeLemmas.{apart}
-use Rattle.jx_words.proofs.laws.commands_are_apart.Goals as goal
-
-pub returns : goal.returns
-returns c = λ words good. apart words good

@@ -1,8 +1,0 @@
-use Rattle.jx_words.proofs.WantedLemmas.{may_be_wanted, may_be_work}
-use Rattle.jx_words.proofs.laws.requests_may_be_wanted.Goals as goal
-
-pub returns-clause-wanted : goal.returns-clause-wanted
-returns-clause-wanted c = λ words. may_be_wanted words
-
-pub returns-clause-work : goal.returns-clause-work
-returns-clause-work c = λ words. may_be_work words

@@ -1,0 +1,72 @@
+//! The call that recodes the blocks of some jobs.
+ghost use Rattle.std.specs.Prelude.{◌≡◌, ◌<◌, ◌≤◌, ◌+◌, ◌^◌, IfOk, length, map};
+ghost use Rattle.std.specs.List.{sum};
+ghost use Rattle.jx_workers.specs.Tapes.{AreAsked, IsTape, size_of};
+
+use crate::recoder::{Recoder, are_right};
+use crate::sizes::sizes_of;
+use crate::workers::{Limits, tape_of};
+use jx_base::NoMemory;
+use jx_codeblock::{Job, Recoded};
+use jx_io::Gate;
+use jx_store::Entry;
+use std::alloc::Global;
+use std::marker::Brand;
+use std::sync::Wait;
+use std::thread::Threads;
+
+/// What workers made of some jobs, in the order of the jobs.
+#[derive(Drop)]
+pub struct Tape<'a> {
+    /// For each job its number, the worker that had it, the first number that wasn't drained when it was
+    /// claimed, and the block as it is written, or its number where it is bad.
+    pub entries: Vec<Entry<Recoded<'a>>>,
+}
+
+/// Makes of each job's block what the job asks for, by `threads` workers, of which each takes the next job
+/// that none has. Of several blocks between claim and sequence there are at most `window`, and their
+/// pieces have at most `most` bytes; one alone may have more. The gate is told of each block before and
+/// after a worker has it in hand. The numbers of the jobs go from `first` on and end at 2^20; `threads` is
+/// 1 to 64, `window` 1 to 1,024 and `most` 1 to 2^28, and all pieces have at most 2^28 bytes.
+///
+/// The tape says of each job what it asks for, or that it is bad: that it is to be coded anew, and one of
+/// its segmentation symbols is wrong (T.800 D.5). It is refused for want of memory alone.
+pub fn recode_all<'a, R: Threads + Wait + Sync, G: Gate + Sync>(
+    rt: &R,
+    alloc: Global,
+    jobs: &'a [Job<'a>],
+    first: u32,
+    threads: u32,
+    window: u32,
+    most: u32,
+    gate: &G,
+) -> Result<Tape<'a>, NoMemory>
+    requires jobs { AreAsked first jobs.now }
+    requires count { first + length jobs.now ≤ 2 ^ 20 }
+    requires sizes { sum (map size_of jobs.now) ≤ 2 ^ 28 }
+    requires threads { (0 < threads) × (threads ≤ 64) }
+    requires windows { (0 < window) × (window ≤ 1024) × (0 < most) × (most ≤ 2 ^ 28) }
+    ensures { IfOk result (λ tape. IsTape jobs.now first threads window most tape.entries.items) }
+{
+    if jobs.is_empty() {
+        return Ok(Tape {
+            entries: Vec::new(alloc),
+        });
+    }
+    let sizes = sizes_of(alloc, jobs)?;
+    let recoder = Recoder::new(alloc, first, jobs);
+    let limits = Limits::new(first, window, most, threads);
+    let entries = tape_of::<Recoded<'a>, Brand, R, G, Recoder<'a>>(
+        rt,
+        alloc,
+        jobs,
+        sizes.as_slice(),
+        limits,
+        &recoder,
+        gate,
+    )?;
+    if !are_right(entries.as_slice()) {
+        return Err(NoMemory);
+    }
+    Ok(Tape { entries })
+}

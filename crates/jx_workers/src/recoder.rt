@@ -1,0 +1,93 @@
+//! What a worker makes of a claim: the recoding of the job under its number.
+ghost use Rattle.std.specs.Prelude.{◌≡◌, ◌+◌, ◌<◌, ◌≤◌, true, All, length};
+ghost use Rattle.jx_store.specs.declared.event.Taped.{Taped};
+ghost use Rattle.jx_store.specs.declared.work.Named.{Named};
+ghost use Rattle.jx_codeblock.specs.Recoded.{WrittenBlock, is_bad};
+ghost use Rattle.jx_workers.specs.Tapes.{AreAsked, IsJob};
+ghost use Rattle.jx_workers.specs.Committed.{IsCommitted, IsRight};
+
+use crate::workers::Maker;
+use jx_codeblock::laws::bad_is_nothing;
+use jx_codeblock::{BlockFault, Job, Recoded, recode};
+use jx_store::{Claim, Entry, Named};
+use std::alloc::Global;
+use std::marker::Model;
+
+/// The jobs of the numbers from a first one on.
+#[derive(Drop)]
+pub(crate) struct Recoder<'a> {
+    alloc: Global,
+    first: u32,
+    jobs: &'a [Job<'a>],
+}
+
+impl<'a> Model for Recoder<'a> {
+    ghost use Rattle.jx_workers.specs.Tapes.{AreAsked, Asked};
+
+    ghost Value = { Asked };
+
+    ghost view = { λ r. record { first = r.first; jobs = r.jobs.now } };
+
+    ghost invariant = { λ r. AreAsked r.first r.jobs.now };
+}
+
+impl<'a> Recoder<'a> {
+    pub(crate) fn new(alloc: Global, first: u32, jobs: &'a [Job<'a>]) -> Recoder<'a>
+        requires { AreAsked first jobs.now }
+        ensures { result ≡ record { first = first; jobs = jobs.now } }
+    {
+        Recoder { alloc, first, jobs }
+    }
+}
+
+// What is made of a job: its recoding, or its number where a segmentation symbol is wrong, or where memory
+// is refused.
+fn answer<'a>(alloc: Global, claim: &Claim, job: &'a Job<'a>) -> Named<Recoded<'a>>
+    requires { IsJob claim.now.number job.now }
+    ensures { IsCommitted job.now result }
+{
+    bad_is_nothing();
+    match recode(alloc, claim, job) {
+        Ok(made) => Named::Made(made),
+        Err(BlockFault::BadSegmentation(number)) => Named::Bad(number),
+        Err(BlockFault::NoMemory) => Named::Short(claim.number()),
+    }
+}
+
+impl<'a> Maker<Recoded<'a>> for Recoder<'a> {
+    ghost first = { λ r. r.first };
+
+    ghost jobs = { λ r. r.jobs };
+
+    fn make(&self, claim: &Claim) -> Named<Recoded<'a>> {
+        let place = (claim.number() - self.first) as usize;
+        answer(self.alloc, claim, &self.jobs[place])
+    }
+}
+
+// Whether something was made of a job, or its block is bad.
+fn is_right<'a>(named: &Named<Recoded<'a>>) -> bool
+    ensures { result ≡ true → IsRight named.now }
+{
+    match named {
+        Named::Made(made) => {
+            // Its parts are those of the job's recoding.
+            let _ = made.parts();
+            true
+        }
+        Named::Bad(_) => true,
+        Named::Short(_) => false,
+    }
+}
+
+/// Whether no worker was refused memory.
+pub(crate) fn are_right<'a>(entries: &[Entry<Recoded<'a>>]) -> bool
+    ensures { result ≡ true → All (λ (t : Taped (Named WrittenBlock)). IsRight t.named) entries.now }
+{
+    for entry in entries {
+        if !is_right(&entry.named) {
+            return false;
+        }
+    }
+    true
+}

@@ -1,0 +1,171 @@
+//! Workers over any values: each claims a number, makes its value and commits it, until all are claimed.
+ghost use Rattle.std.specs.Prelude.{◌≡◌, ℕ, List, ◌<◌, ◌≤◌, ◌+◌, ◌^◌, All, IfOk, Some, length, map, slice_get, vec_len};
+ghost use Rattle.std.specs.List.{sum};
+ghost use Rattle.jx_store.specs.declared.event.Taped.{Taped};
+ghost use Rattle.jx_store.specs.declared.work.Named.{Named};
+ghost use Rattle.jx_store.specs.Order.{numbers};
+ghost use Rattle.jx_store.specs.Setup.{Within};
+ghost use Rattle.jx_store.specs.Valid.{IsOf};
+ghost use Rattle.jx_workers.specs.Workers.{IsFree, IsDone};
+
+use jx_base::NoMemory;
+use jx_io::Gate;
+use jx_ring::{Pass, RingStore};
+use jx_store::{Bounds, Claim, ClaimAnswer, Entry, Named, Work};
+use std::alloc::Global;
+use std::sync::Wait;
+use std::thread;
+use std::thread::Threads;
+
+/// What makes the value of a number.
+pub(crate) trait Maker<V: Work> {
+    /// The first number.
+    ghost first: { Self → ℕ };
+
+    /// The job of each number from the first on.
+    ghost jobs: { Self → List V.Job };
+
+    /// The value under the number of a claim.
+    fn make(&self, claim: &Claim) -> Named<V>
+        requires { (first self.now ≤ claim.now.number) × (claim.now.number < first self.now + length (jobs self.now)) }
+        ensures { IsOf V.number V.job V.bad (first self.now) (jobs self.now) claim.now.number result };
+}
+
+/// What a store is made with, beside its jobs and their sizes.
+#[derive(Clone, Copy)]
+pub(crate) struct Limits {
+    /// The first number.
+    first: u32,
+    /// How many numbers may stand between claim and sequence.
+    window: u32,
+    /// How much the sizes of several numbers between claim and sequence may be.
+    most: u32,
+    /// How many workers there are.
+    threads: u32,
+}
+
+impl Limits {
+    pub(crate) fn new(first: u32, window: u32, most: u32, threads: u32) -> Limits
+        ensures { result ≡ record { first = first; window = window; most = most; threads = threads } }
+    {
+        Limits {
+            first,
+            window,
+            most,
+            threads,
+        }
+    }
+}
+
+// Claims and commits until all are claimed.
+fn work<V: Work, N: Bounds<V::Job>, R: Wait, G: Gate, M: Maker<V>>(
+    rt: &R,
+    store: &RingStore<V, N>,
+    pass: &mut Pass<V, N>,
+    maker: &M,
+    gate: &G,
+)
+    requires named { (M.first maker.now ≡ N.setup.first) × (M.jobs maker.now ≡ N.jobs) × (length N.jobs ≡ length N.setup.sizes) }
+    requires free { IsFree N.setup store.now.table.shared.table_id N.workers pass.old }
+    ensures { IsDone N.setup store.now.table.shared.table_id N.workers pass.new }
+{
+    for _ in rt.forever() {
+        match store.claim(rt, pass) {
+            ClaimAnswer::Claim(claim) => {
+                let number = claim.number();
+                gate.enter(number);
+                let named = maker.make(&claim);
+                gate.leave(number);
+                store.commit(rt, pass, claim, named);
+            }
+            ClaimAnswer::Full {
+                next: _,
+                drained: _,
+            } => {}
+            ClaimAnswer::AllClaimed => return,
+        }
+    }
+    unreachable!()
+}
+
+// A worker for each pass.
+fn all_work<
+    V: Work + Send,
+    N: Bounds<V::Job> + Send + Sync,
+    R: Threads + Wait + Sync,
+    G: Gate + Sync,
+    M: Maker<V> + Sync,
+>(rt: &R, store: &RingStore<V, N>, passes: &mut [Pass<V, N>], maker: &M, gate: &G)
+    requires some { 0 < length passes.old }
+    requires named { (M.first maker.now ≡ N.setup.first) × (M.jobs maker.now ≡ N.jobs) × (length N.jobs ≡ length N.setup.sizes) }
+    requires free { All (IsFree N.setup store.now.table.shared.table_id N.workers) passes.old }
+    ensures { All (IsDone N.setup store.now.table.shared.table_id N.workers) passes.new }
+{
+    let threads = passes.len();
+    thread::for_each_mut(
+        rt,
+        passes,
+        threads,
+        &|_, pass: &mut Pass<V, N>|
+            requires named { (M.first maker.now ≡ N.setup.first) × (M.jobs maker.now ≡ N.jobs) × (length N.jobs ≡ length N.setup.sizes) }
+            requires free { IsFree N.setup store.now.table.shared.table_id N.workers pass.old }
+            ensures { IsDone N.setup pass.old.table N.workers pass.new }
+        { work(rt, store, pass, maker, gate) },
+    );
+}
+
+// The tape, once all workers were told that all numbers are claimed.
+fn collect<V: Work, N: Bounds<V::Job>>(
+    store: RingStore<V, N>,
+    passes: Vec<Pass<V, N>>,
+) -> Vec<Entry<V>>
+    requires count { vec_len passes ≡ N.workers }
+    requires some { 0 < length passes.items }
+    requires done { All (IsDone N.setup store.table.shared.table_id N.workers) passes.items }
+    ensures order { map (λ t. t.number) result.items ≡ numbers N.setup.first (length N.setup.sizes) }
+    ensures each { (i : ℕ) (t : Taped (Named V)) → slice_get result.items i ≡ Some t →
+        (t.worker < N.workers) × (N.setup.first ≤ t.seen) × Within N.setup t.seen t.number × IsOf V.number V.job V.bad N.setup.first N.jobs t.number t.named }
+{
+    store.into_tape(passes)
+}
+
+/// The tape of these jobs, which several threads make. It takes all memory of the store at once, and is
+/// refused for want of it alone.
+pub(crate) fn tape_of<
+    V: Work + Send,
+    N: Bounds<V::Job> + Send + Sync,
+    R: Threads + Wait + Sync,
+    G: Gate + Sync,
+    M: Maker<V> + Sync,
+>(
+    rt: &R,
+    alloc: Global,
+    jobs: &[V::Job],
+    sizes: &[u32],
+    limits: Limits,
+    maker: &M,
+    gate: &G,
+) -> Result<Vec<Entry<V>>, NoMemory>
+    requires bounds { (N.setup ≡ record { first = limits.first; sizes = sizes.now; window = limits.window; most = limits.most }) × (N.workers ≡ limits.threads) × (N.jobs ≡ jobs.now) }
+    requires maker { (M.first maker.now ≡ limits.first) × (M.jobs maker.now ≡ jobs.now) }
+    requires count { (0 < length sizes.now) × (limits.first + length sizes.now ≤ 2 ^ 20) × (length jobs.now ≡ length sizes.now) }
+    requires sizes { sum sizes.now ≤ 2 ^ 28 }
+    requires window { (0 < limits.window) × (limits.window ≤ 1024) }
+    requires most { (0 < limits.most) × (limits.most ≤ 2 ^ 28) }
+    requires threads { (0 < limits.threads) × (limits.threads ≤ 64) }
+    ensures order { IfOk result (λ tape. map (λ t. t.number) tape.items ≡ numbers limits.first (length jobs.now)) }
+    ensures each { IfOk result (λ tape. (i : ℕ) (t : Taped (Named V)) → slice_get tape.items i ≡ Some t →
+        (t.worker < limits.threads) × (limits.first ≤ t.seen) × Within N.setup t.seen t.number × IsOf V.number V.job V.bad limits.first jobs.now t.number t.named) }
+{
+    let (store, mut passes) = RingStore::<V, N>::new(
+        alloc,
+        jobs,
+        sizes,
+        limits.first,
+        limits.window,
+        limits.most,
+        limits.threads,
+    )?;
+    all_work(rt, &store, passes.as_mut_slice(), maker, gate);
+    Ok(collect(store, passes))
+}
