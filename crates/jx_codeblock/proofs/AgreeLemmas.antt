@@ -2,8 +2,8 @@
 use Rattle.std.proofs.Common.{◌≡◌, ◌<◌, ◌≤◌, ◌+◌, ◌-◌, ◌==◌, ℕ, zero, suc, Bool, true, false, ◌&&◌, nat_lt, List, [], ◌∷◌, ◌++◌, length, take, get_or, min, replicate, inl, inr, ◌∙◌, ap, sym, subst, refl, arith}
 use Rattle.std.proofs.lemmas.Bool.{cases_lt, cases_Bool, cond-true, cond-false, eqb-true, lt-ltb}
 use Rattle.std.proofs.lemmas.List.{get_or-take, get_or_append_left, get_or-append_right}
-use Rattle.jx_base.specs.MqReading.{mq_byte}
-use Rattle.jx_base.specs.RawBits.{bits_of, raw_width, raw_bits, raw_bits_after, raw_looked, raw_looked_after}
+use Rattle.jx_coder_specs.specs.MqReading.{mq_byte}
+use Rattle.jx_coder_specs.specs.RawBits.{bits_of, raw_width, raw_bits, raw_bits_after, raw_looked, raw_looked_after}
 use Rattle.jx_mq.proofs.Segments.{left_out}
 use Rattle.jx_raw.proofs.Reading.{length-bits_of}
 use Rattle.jx_codeblock.specs.Segments.{less_last_ff}

@@ -1,7 +1,7 @@
 -- How many decisions the passes of a block ask for.
 use Rattle.std.proofs.Common.{◌≡◌, ℕ, zero, suc, ◌+◌, ◌-◌, ◌*◌, ◌%◌, ◌≤◌, ◌==◌, ◌||◌, ◌&&◌, not, Bool, true, false, List, [], ◌∷◌, ◌++◌, inl, inr, ◌∙◌, subst, refl, arith, length, length-append, if◌then◌else◌}
 use Rattle.std.proofs.lemmas.Bool.{cases_Bool}
-use Rattle.jx_base.specs.MqWriting.{MqGiven}
+use Rattle.jx_coder_specs.specs.MqWriting.{MqGiven}
 use Rattle.jx_base.specs.Passes.{is_causal, raw_pass, resets}
 use Rattle.jx_tier1_specs.specs.declared.question.Plane.{Plane}
 use Rattle.jx_tier1_specs.specs.declared.question.About.TheVariants.{Bit}

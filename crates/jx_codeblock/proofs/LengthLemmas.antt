@@ -5,10 +5,10 @@ use Rattle.std.proofs.lemmas.Bool.{cases_Bool, cases_eq, cond-true, cond-false}
 use Rattle.std.proofs.lemmas.List.{length-reverse}
 use Rattle.jx_base.specs.declared.pieces.Block.{Block}
 use Rattle.jx_base.specs.declared.style.Style.{Style}
-use Rattle.jx_base.specs.MqTable.{MqContexts, mq_fresh, mq_row_of}
-use Rattle.jx_base.specs.MqWriting.{MqGiven, Decided, Renewed, MqWriter, mq_after_bit, mq_bits, mq_by_newest, mq_byte_out, mq_carried, mq_flushed, mq_given_out, mq_is_mps, mq_last_number, mq_newest, mq_part, mq_renormalized, mq_shifted, mq_trimmed, mq_write, mq_writer, mq_written_from, mq_wrote}
+use Rattle.jx_coder_specs.specs.MqTable.{MqContexts, mq_fresh, mq_row_of}
+use Rattle.jx_coder_specs.specs.MqWriting.{MqGiven, Decided, Renewed, MqWriter, mq_after_bit, mq_bits, mq_by_newest, mq_byte_out, mq_carried, mq_flushed, mq_given_out, mq_is_mps, mq_last_number, mq_newest, mq_part, mq_renormalized, mq_shifted, mq_trimmed, mq_write, mq_writer, mq_written_from, mq_wrote}
 use Rattle.jx_base.specs.Passes.{end_pass, raw_pass}
-use Rattle.jx_base.specs.RawBits.{byte_of, raw_width, raw_write_after}
+use Rattle.jx_coder_specs.specs.RawBits.{byte_of, raw_width, raw_write_after}
 use Rattle.jx_base.specs.Sound.{IsSound}
 use Rattle.jx_tier1_specs.specs.Cells.{Cells}
 use Rattle.jx_tier1_specs.specs.Needs.{contexts_after, is_last, needs, segment_of, segments_from, written}

@@ -3,7 +3,7 @@ use Rattle.std.proofs.Common.{◌≡◌, ℕ, zero, suc, ◌+◌, ◌-◌, ◌�
 use Rattle.std.proofs.lemmas.Bool.{cases_lt, cases_eq, cases_Bool, ne_eqb}
 use Rattle.std.proofs.lemmas.List.{get_or_append_left, get_or-append_right}
 use Rattle.jx_base.specs.Passes.{end_pass, resets, is_causal}
-use Rattle.jx_base.specs.RawBits.{raw_bits}
+use Rattle.jx_coder_specs.specs.RawBits.{raw_bits}
 use Rattle.jx_tier1_specs.specs.Asking.{Asking, Told, Ask, told}
 use Rattle.jx_tier1_specs.specs.Pass.{pass_of}
 use Rattle.jx_tier1_specs.specs.Symbol.{symbol_asked}

@@ -3,9 +3,9 @@ use Rattle.std.proofs.Common.{◌≡◌, ℕ, ◌-◌, ◌≤◌, min, Bool, Lis
 use Rattle.std.proofs.lemmas.Bool.{cases_Bool}
 use Rattle.std.proofs.lemmas.List.{length-drop}
 use Rattle.jx_base.specs.Passes.{resets}
-use Rattle.jx_base.specs.MqTable.{mq_row_of}
-use Rattle.jx_base.specs.MqReading.{mq_read}
-use Rattle.jx_base.specs.RawBits.{raw_bits, raw_looked}
+use Rattle.jx_coder_specs.specs.MqTable.{mq_row_of}
+use Rattle.jx_coder_specs.specs.MqReading.{mq_read}
+use Rattle.jx_coder_specs.specs.RawBits.{raw_bits, raw_looked}
 use Rattle.jx_mq.proofs.Looking.{IsSeen, start_seen, sees_read}
 use Rattle.jx_tier1_specs.specs.Asking.{Asking, Told, Ask, told}
 use Rattle.jx_tier1_specs.specs.Symbol.{symbol_asked}

@@ -2,9 +2,9 @@
 use Rattle.std.proofs.Common.{◌≡◌, ◌≤◌, ◌-◌, ℕ, zero, suc, Bool, true, false, List, [], ◌∷◌, ◌++◌, length, drop, get_or, min, inl, inr, ◌∙◌, ap, sym, subst, refl, arith}
 use Rattle.std.proofs.lemmas.Bool.{cases_Bool, both_ways}
 use Rattle.jx_base.specs.Passes.{resets}
-use Rattle.jx_base.specs.MqTable.{MqContexts, mq_fresh, mq_row_of}
-use Rattle.jx_base.specs.MqReading.{MqReader, MqAsked, Under, Anew, MqDecisions, mq_reader, mq_read, mq_after, mq_decisions}
-use Rattle.jx_base.specs.RawBits.{raw_bits, raw_looked}
+use Rattle.jx_coder_specs.specs.MqTable.{MqContexts, mq_fresh, mq_row_of}
+use Rattle.jx_coder_specs.specs.MqReading.{MqReader, MqAsked, Under, Anew, MqDecisions, mq_reader, mq_read, mq_after, mq_decisions}
+use Rattle.jx_coder_specs.specs.RawBits.{raw_bits, raw_looked}
 use Rattle.jx_mq.proofs.Looking.{IsSeen, same_decisions, in_parts}
 use Rattle.jx_raw.proofs.Looking.{looked_most}
 use Rattle.jx_tier1_specs.specs.Asking.{Asking, Told, Ask, told}

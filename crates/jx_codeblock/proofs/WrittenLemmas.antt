@@ -2,8 +2,8 @@
 use Rattle.std.proofs.Common.{◌≡◌, ℕ, zero, suc, ◌+◌, ◌-◌, ◌≤◌, ◌||◌, Bool, true, false, List, [], ◌∷◌, ◌++◌, inl, inr, ◌∙◌, ap, sym, subst, refl, arith, length}
 use Rattle.std.proofs.lemmas.Bool.{cases_Bool, cond-true, cond-false, or_left, or_right}
 use Rattle.jx_base.specs.Markers.{HasNoMarker}
-use Rattle.jx_base.specs.MqTable.{MqContexts, mq_fresh}
-use Rattle.jx_base.specs.MqWriting.{MqGiven, mq_bits}
+use Rattle.jx_coder_specs.specs.MqTable.{MqContexts, mq_fresh}
+use Rattle.jx_coder_specs.specs.MqWriting.{MqGiven, mq_bits}
 use Rattle.jx_base.specs.Passes.{end_pass, raw_pass}
 use Rattle.jx_mq.proofs.Inversion.{write_no_marker}
 use Rattle.jx_raw.proofs.Back.{written_no_marker}

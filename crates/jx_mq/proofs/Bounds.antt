@@ -3,7 +3,7 @@ use Rattle.std.proofs.Common.{◌≡◌, ◌≢◌, ◌<◌, ◌≤◌, ◌+◌,
 use Rattle.std.proofs.lemmas.Bool.{cases_lt, cases_eq, lt-ltb, le-ltb, ne_eqb, eq-eqb}
 use Rattle.std.proofs.lemmas.Nat.{mul-le}
 use Rattle.std.proofs.Math.Nat.{two-pow-succ}
-use Rattle.jx_base.specs.MqWriting.{MqWriter, mq_plain, mq_stuffed, mq_byte_out, mq_shifted, mq_lower, mq_upper, mq_part}
+use Rattle.jx_coder_specs.specs.MqWriting.{MqWriter, mq_plain, mq_stuffed, mq_byte_out, mq_shifted, mq_lower, mq_upper, mq_part}
 use Rattle.jx_mq.specs.Coding.{AreGiven, IsFull, IsBounded, IsCoding}
 
 -- at CT 0 the bounds are those of C and A

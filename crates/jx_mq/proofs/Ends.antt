@@ -2,7 +2,7 @@
 use Rattle.std.proofs.Common.{◌≡◌, ◌≢◌, ◌<◌, ◌≤◌, ◌+◌, ◌-◌, ◌*◌, ◌/◌, ◌%◌, ◌^◌, ℕ, suc, List, [], ◌∷◌, refl, ◌∙◌, arith, inl, inr}
 use Rattle.std.proofs.lemmas.Bool.{cases_lt, cases_eq, lt-ltb, le-ltb, ne_eqb, eq-eqb}
 use Rattle.std.proofs.Math.Nat.{two-pow-succ}
-use Rattle.jx_base.specs.MqWriting.{MqWriter, mq_newest, mq_plain, mq_stuffed, mq_byte_out}
+use Rattle.jx_coder_specs.specs.MqWriting.{MqWriter, mq_newest, mq_plain, mq_stuffed, mq_byte_out}
 use Rattle.jx_mq.specs.Coding.{AreGiven}
 use Rattle.jx_mq.specs.Fraction.{span, value, low, scale}
 use Rattle.jx_mq.proofs.Bounds.{coder}

@@ -3,8 +3,8 @@ use Rattle.std.proofs.Common.{◌≡◌, ◌≢◌, ◌<◌, ◌≤◌, ◌+◌,
 use Rattle.std.proofs.lemmas.Bool.{cases_lt, cases_eq, lt-ltb, le-ltb, ne_eqb, eq-eqb}
 use Rattle.std.proofs.lemmas.Nat.{pow-add}
 use Rattle.std.proofs.Math.Nat.{two-pow-succ, mod-eq_of_lt}
-use Rattle.jx_base.specs.MqReading.{MqReader, mq_byte, mq_byte_in, mq_shifted_in, mq_refilled}
-use Rattle.jx_base.specs.MqWriting.{MqWriter, mq_byte_out, mq_shifted, mq_renormalized}
+use Rattle.jx_coder_specs.specs.MqReading.{MqReader, mq_byte, mq_byte_in, mq_shifted_in, mq_refilled}
+use Rattle.jx_coder_specs.specs.MqWriting.{MqWriter, mq_byte_out, mq_shifted, mq_renormalized}
 use Rattle.jx_mq.specs.Coding.{IsCoding}
 use Rattle.jx_mq.specs.Fraction.{span, value, low, scale, front}
 use Rattle.jx_mq.proofs.Bounds.{coder, shifted_coding}

@@ -2,7 +2,7 @@
 use Rattle.std.proofs.Common.{◌≡◌, ◌<◌, ◌≤◌, ◌+◌, ◌-◌, ◌*◌, ◌^◌, ℕ, zero, suc, List, ◌∷◌, refl, ◌∙◌, arith, inl, inr, lt_of_mul-lt-mul_right}
 use Rattle.std.proofs.lemmas.Bool.{cases_lt, cases_eq, eq-eqb, ne_eqb}
 use Rattle.std.proofs.lemmas.Nat.{pow_pos, pow-add, mul-le}
-use Rattle.jx_base.specs.MqWriting.{MqWriter, mq_byte_out, mq_shifted, mq_renormalized, mq_lower, mq_upper}
+use Rattle.jx_coder_specs.specs.MqWriting.{MqWriter, mq_byte_out, mq_shifted, mq_renormalized, mq_lower, mq_upper}
 use Rattle.jx_mq.specs.Coding.{IsCoding}
 use Rattle.jx_mq.specs.Fraction.{value, size, low, scale, front}
 use Rattle.jx_mq.proofs.Bounds.{coder, shifted_coding}

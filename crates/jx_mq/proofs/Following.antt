@@ -2,8 +2,8 @@
 use Rattle.std.proofs.Common.{◌≡◌, ◌<◌, ◌≤◌, ◌+◌, ◌-◌, ◌*◌, ◌/◌, ◌^◌, ℕ, Bool, true, false, not, refl, ap, ◌∙◌, arith, ltb, inl, inr, lt_of_mul-lt-mul_right}
 use Rattle.std.proofs.lemmas.Bool.{cases_lt, lt-ltb, le-ltb}
 use Rattle.std.proofs.lemmas.Nat.{pow_pos, pow-add, mul-le}
-use Rattle.jx_base.specs.MqReading.{MqReader, mq_is_low, mq_reads_mps, mq_chosen}
-use Rattle.jx_base.specs.MqWriting.{MqWriter, mq_lower, mq_upper, mq_part}
+use Rattle.jx_coder_specs.specs.MqReading.{MqReader, mq_is_low, mq_reads_mps, mq_chosen}
+use Rattle.jx_coder_specs.specs.MqWriting.{MqWriter, mq_lower, mq_upper, mq_part}
 use Rattle.jx_mq.specs.Coding.{IsCoding}
 use Rattle.jx_mq.specs.Fraction.{low, scale}
 use Rattle.jx_mq.proofs.Fitting.{mul_less, FitsIn}

@@ -2,7 +2,7 @@
 use Rattle.std.proofs.Common.{◌≡◌, ◌<◌, ◌≤◌, ◌+◌, ◌-◌, ◌*◌, ◌^◌, ℕ, zero, suc, refl, arith, ◌⊎◌, inl, inr, lt_of_mul-lt-mul_right}
 use Rattle.std.proofs.lemmas.Bool.{cases_lt}
 use Rattle.std.proofs.lemmas.Nat.{pow_pos, pow-add, mul-le}
-use Rattle.jx_base.specs.MqWriting.{MqWriter, mq_newest}
+use Rattle.jx_coder_specs.specs.MqWriting.{MqWriter, mq_newest}
 use Rattle.jx_mq.specs.Coding.{AreGiven, IsCoding}
 use Rattle.jx_mq.specs.Fraction.{span, value, size, low, scale, front}
 use Rattle.jx_mq.proofs.Fitting.{mul_less, grown_size, FitsIn}

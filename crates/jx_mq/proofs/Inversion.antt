@@ -4,9 +4,9 @@ use Rattle.std.proofs.lemmas.Bool.{cases_lt}
 use Rattle.std.proofs.lemmas.Nat.{pow-add}
 use Rattle.std.proofs.Math.Nat.{mod-eq_of_lt}
 use Rattle.jx_base.specs.Markers.{HasNoMarker}
-use Rattle.jx_base.specs.MqTable.{MqContexts, mq_fresh, mq_row_of, mq_mps}
-use Rattle.jx_base.specs.MqReading.{MqReader, MqAsked, Under, MqDecisions, mq_byte, mq_byte_in, mq_reader, mq_reads_mps, mq_chosen, mq_read, mq_bit, mq_after, mq_decisions_from, mq_decisions}
-use Rattle.jx_base.specs.MqWriting.{MqWriter, MqGiven, Decided, Renewed, mq_writer, mq_shifted, mq_renormalized, mq_lower, mq_upper, mq_part, mq_flushed, mq_trimmed, mq_is_mps, mq_wrote, mq_after_bit, mq_written_from, mq_write, mq_contexts_after, mq_asked, mq_bits, mq_write_each, mq_bits_each, mq_contexts_left, mq_contexts_each}
+use Rattle.jx_coder_specs.specs.MqTable.{MqContexts, mq_fresh, mq_row_of, mq_mps}
+use Rattle.jx_coder_specs.specs.MqReading.{MqReader, MqAsked, Under, MqDecisions, mq_byte, mq_byte_in, mq_reader, mq_reads_mps, mq_chosen, mq_read, mq_bit, mq_after, mq_decisions_from, mq_decisions}
+use Rattle.jx_coder_specs.specs.MqWriting.{MqWriter, MqGiven, Decided, Renewed, mq_writer, mq_shifted, mq_renormalized, mq_lower, mq_upper, mq_part, mq_flushed, mq_trimmed, mq_is_mps, mq_wrote, mq_after_bit, mq_written_from, mq_write, mq_contexts_after, mq_asked, mq_bits, mq_write_each, mq_bits_each, mq_contexts_left, mq_contexts_each}
 use Rattle.jx_mq.specs.Coding.{AreGiven, IsCoding, IsCoder}
 use Rattle.jx_mq.specs.Fraction.{front}
 use Rattle.jx_mq.proofs.Rows.{row_in_range}

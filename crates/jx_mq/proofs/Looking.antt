@@ -2,8 +2,8 @@
 use Rattle.std.proofs.Common.{◌≡◌, ◌<◌, ◌≤◌, ◌+◌, ◌-◌, ◌*◌, ◌%◌, ℕ, zero, suc, Bool, true, false, List, [], ◌∷◌, ◌++◌, length, take, refl, ap, ◌∙◌, arith, ltb, inl, inr, if◌then◌else◌, ◌==◌}
 use Rattle.std.proofs.lemmas.Bool.{cases_lt, cases_eq, eq-eqb, ne_eqb}
 use Rattle.std.proofs.lemmas.List.{get_or-take, take_all}
-use Rattle.jx_base.specs.MqTable.{MqContexts, mq_fresh, mq_row_of}
-use Rattle.jx_base.specs.MqReading.{MqReader, MqAsked, Under, Anew, MqDecisions, mq_byte, mq_byte_in, mq_reader, mq_shifted_in, mq_refilled, mq_is_low, mq_chosen, mq_read, mq_bit, mq_after, mq_decisions_from, mq_decisions, mq_looked}
+use Rattle.jx_coder_specs.specs.MqTable.{MqContexts, mq_fresh, mq_row_of}
+use Rattle.jx_coder_specs.specs.MqReading.{MqReader, MqAsked, Under, Anew, MqDecisions, mq_byte, mq_byte_in, mq_reader, mq_shifted_in, mq_refilled, mq_is_low, mq_chosen, mq_read, mq_bit, mq_after, mq_decisions_from, mq_decisions, mq_looked}
 use Rattle.jx_mq.proofs.Refills.{refilled_more, refilled_done}
 use Rattle.jx_mq.proofs.Segments.{left_out}
 use Rattle.jx_mq.proofs.Inversion.{first_reader}

@@ -3,7 +3,7 @@ use Rattle.std.proofs.Common.{◌≡◌, ◌<◌, ◌≤◌, ◌+◌, ◌-◌, �
 use Rattle.std.proofs.lemmas.Nat.{pow_pos, mul-le}
 use Rattle.std.proofs.Math.Nat.{le-mul_of_pos_right, mul-pos, pow-le-pow_right}
 use Rattle.std.proofs.lemmas.Bool.{eq-eqb, ne_eqb}
-use Rattle.jx_base.specs.MqWriting.{MqWriter, mq_byte_out, mq_shifted, mq_renormalized, mq_part, mq_written}
+use Rattle.jx_coder_specs.specs.MqWriting.{MqWriter, mq_byte_out, mq_shifted, mq_renormalized, mq_part, mq_written}
 use Rattle.jx_mq.specs.Coding.{IsBounded, IsCoding, IsCoder, IsRenormalizing}
 use Rattle.jx_mq.specs.Shifting.{IsShort, mq_moved_by}
 use Rattle.jx_mq.proofs.Bounds.{byte_out_coding}

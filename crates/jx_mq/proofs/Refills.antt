@@ -2,7 +2,7 @@
 use Rattle.std.proofs.Common.{◌≡◌, ◌<◌, ◌≤◌, ◌*◌, ◌^◌, ℕ, zero, suc, Bool, true, false, List, refl, ap, sym, ◌∙◌, arith, inl, inr, if◌then◌else◌, ◌==◌}
 use Rattle.std.proofs.lemmas.Bool.{cases_lt, lt-leb, le-leb}
 use Rattle.std.proofs.Math.Nat.{two-pow-succ}
-use Rattle.jx_base.specs.MqReading.{MqReader, mq_byte_in, mq_shifted_in, mq_refilled}
+use Rattle.jx_coder_specs.specs.MqReading.{MqReader, mq_byte_in, mq_shifted_in, mq_refilled}
 use Rattle.jx_mq.specs.Decoding.{IsWithin, IsRefilling}
 
 pub twice_is : (a n : ℕ) → 2 * a * 2 ^ n ≡ a * 2 ^ suc n

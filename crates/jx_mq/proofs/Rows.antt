@@ -1,7 +1,7 @@
 -- What holds of every row of the table.
 use Rattle.std.proofs.Common.{◌≡◌, ◌<◌, ◌≤◌, ℕ, zero, suc, Bool, true, false, List, [], ◌∷◌, ◌&&◌, get_or, refl, arith, ltb, leb}
 use Rattle.std.proofs.lemmas.Bool.Decides.{nat_tests}
-use Rattle.jx_base.specs.MqTable.{MqRow, mq_row, mq_rows, mq_row_at}
+use Rattle.jx_coder_specs.specs.MqTable.{MqRow, mq_row, mq_rows, mq_row_at}
 use Rattle.std.proofs.lemmas.Bool.{and_parts}
 
 holds_of : (MqRow → Bool) → List MqRow → Bool

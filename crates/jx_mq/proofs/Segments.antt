@@ -3,8 +3,8 @@ use Rattle.std.proofs.Common.{◌≡◌, ◌≢◌, ◌<◌, ◌≤◌, ◌-◌,
 use Rattle.std.proofs.lemmas.Bool.{cases_lt, cases_eq, ne_eqb, eq-eqb}
 use Rattle.std.proofs.lemmas.List.{append-nil, reverse-append, length-reverse, drop-append-le, get_or_push, get_or_append_left, get_or_past}
 use Rattle.jx_base.specs.Markers.{HasNoMarker}
-use Rattle.jx_base.specs.MqReading.{mq_byte}
-use Rattle.jx_base.specs.MqWriting.{mq_newest, mq_trimmed}
+use Rattle.jx_coder_specs.specs.MqReading.{mq_byte}
+use Rattle.jx_coder_specs.specs.MqWriting.{mq_newest, mq_trimmed}
 use Rattle.jx_mq.specs.Coding.{AreGiven}
 use Rattle.jx_mq.specs.Fraction.{front}
 use Rattle.jx_mq.proofs.Fronts.{IsSegment}

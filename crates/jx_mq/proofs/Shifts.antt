@@ -5,7 +5,7 @@ use Rattle.std.proofs.lemmas.Bool.Decides.{nat_tests}
 use Rattle.std.proofs.lemmas.Nat.{mul-mod_first, pow_pos, mul-le, leading_top, pow-add}
 use Rattle.std.proofs.Math.Nat.{two-pow-succ, pow-le-pow_right, mul-le-mul_right, mul-lt-mul_of_pos_right, mul-pos}
 use Rattle.std.specs.Int.Count.{count_leading_zeros}
-use Rattle.jx_base.specs.MqReading.{MqReader, mq_byte, mq_byte_in, mq_shifted_in, mq_refilled, mq_chosen, mq_read}
+use Rattle.jx_coder_specs.specs.MqReading.{MqReader, mq_byte, mq_byte_in, mq_shifted_in, mq_refilled, mq_chosen, mq_read}
 use Rattle.jx_mq.specs.Decoding.{IsWithin, IsRefilling}
 use Rattle.jx_mq.specs.Shifting.{mq_shifted_by, IsShort}
 use Rattle.jx_mq.proofs.Refills.{refilled_more, refilled_done, byte_in_a, twice_is}

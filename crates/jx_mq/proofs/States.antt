@@ -4,7 +4,7 @@ use Rattle.std.proofs.lemmas.List.{map-set}
 use Rattle.std.proofs.Math.ListN.{set, get_or-map}
 use Rattle.std.proofs.lemmas.Bool.{lt-leb}
 use Rattle.jx_mq.specs.declared.table.TheConstants.{ROWS}
-use Rattle.jx_base.specs.MqTable.{MqRow, mq_rows, mq_row_at, mq_row_of, mq_mps, mq_moved, mq_adapted}
+use Rattle.jx_coder_specs.specs.MqTable.{MqRow, mq_rows, mq_row_at, mq_row_of, mq_mps, mq_moved, mq_adapted}
 use Rattle.jx_mq.specs.States.{state_of, row_in, symbol_in, contexts_of, MqMoves, mq_moves, moves_from, moves_of}
 use Rattle.jx_mq.proofs.Rows.{row_in_range}
 

@@ -1,6 +1,6 @@
 -- What contracts see of an encoder, and the bounds of its registers.
 use Rattle.std.specs.Prelude.{◌≡◌, ◌<◌, ◌≤◌, ◌+◌, ◌*◌, ◌^◌, ℕ, List, [], ◌∷◌}
-use Rattle.jx_base.specs.MqWriting.{MqWriter, mq_renormalized}
+use Rattle.jx_coder_specs.specs.MqWriting.{MqWriter, mq_renormalized}
 
 -- the registers, and how many bytes the segment can have before more memory is needed
 pub record MqCoding : Type 0 where

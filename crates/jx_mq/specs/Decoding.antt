@@ -1,6 +1,6 @@
 -- What contracts see of a decoder, and the bounds of its registers.
 use Rattle.std.specs.Prelude.{◌≡◌, ◌<◌, ◌≤◌, ◌+◌, ◌*◌, ◌^◌, ℕ, List, length}
-use Rattle.jx_base.specs.MqReading.{MqReader, mq_refilled}
+use Rattle.jx_coder_specs.specs.MqReading.{MqReader, mq_refilled}
 
 -- the segment, and the registers
 pub record MqDecoding : Type 0 where

@@ -1,6 +1,6 @@
 -- Bytes as a binary fraction, and the encoder's interval in its scale.
 use Rattle.std.specs.Prelude.{ℕ, zero, suc, ◌+◌, ◌-◌, ◌*◌, ◌^◌, ◌==◌, List, [], ◌∷◌, if◌then◌else◌}
-use Rattle.jx_base.specs.MqWriting.{MqWriter, mq_newest}
+use Rattle.jx_coder_specs.specs.MqWriting.{MqWriter, mq_newest}
 
 -- how many places the byte after this one is further: a byte after FF begins one place earlier
 abbrev pub span : ℕ → ℕ

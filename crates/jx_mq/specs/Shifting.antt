@@ -1,7 +1,7 @@
 -- Shifts by many places at once, as the code has them.
 use Rattle.std.specs.Prelude.{◌<◌, ◌≤◌, ◌-◌, ◌*◌, ◌%◌, ◌^◌, ℕ}
-use Rattle.jx_base.specs.MqReading.{MqReader}
-use Rattle.jx_base.specs.MqWriting.{MqWriter}
+use Rattle.jx_coder_specs.specs.MqReading.{MqReader}
+use Rattle.jx_coder_specs.specs.MqWriting.{MqWriter}
 
 -- the decoder's registers after k shifts for which no byte is due
 abbrev pub mq_shifted_by : ℕ → MqReader → MqReader

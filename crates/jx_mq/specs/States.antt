@@ -1,6 +1,6 @@
 -- One number for the row and the more probable symbol of a label.
 use Rattle.std.specs.Prelude.{ℕ, ◌+◌, ◌*◌, ◌/◌, ◌%◌, ◌==◌, Bool, not, List, map, slice_index_or, if◌then◌else◌}
-use Rattle.jx_base.specs.MqTable.{MqContexts, mq_row_at, mq_mps}
+use Rattle.jx_coder_specs.specs.MqTable.{MqContexts, mq_row_at, mq_mps}
 
 abbrev pub state_of : ℕ → Bool → ℕ
 state_of row symbol = 2 * row + (if symbol then 1 else 0)

@@ -1,5 +1,5 @@
 ghost use Rattle.std.specs.Prelude.{◌≡◌, ◌-◌, ◌<◌, ◌≤◌, ℕ, All, length, true};
-ghost use Rattle.jx_base.specs.MqTable.{MqContexts, mq_fresh, mq_mps, mq_adapted};
+ghost use Rattle.jx_coder_specs.specs.MqTable.{MqContexts, mq_fresh, mq_mps, mq_adapted};
 ghost use Rattle.jx_mq.specs.States.{contexts_of, mq_moves, moves_of};
 
 use crate::table::{Row, row_at};

@@ -1,6 +1,6 @@
 ghost use Rattle.std.specs.Prelude.{◌≡◌, ◌+◌, ◌*◌, ◌^◌, ◌<◌, ◌≤◌, ℕ, min, length};
-ghost use Rattle.jx_base.specs.MqTable.{MqContexts, mq_row_of};
-ghost use Rattle.jx_base.specs.MqReading.{MqReader, mq_byte, mq_byte_in, mq_reader, mq_refilled, mq_is_low, mq_reads_mps, mq_chosen, mq_read, mq_bit, mq_after};
+ghost use Rattle.jx_coder_specs.specs.MqTable.{MqContexts, mq_row_of};
+ghost use Rattle.jx_coder_specs.specs.MqReading.{MqReader, mq_byte, mq_byte_in, mq_reader, mq_refilled, mq_is_low, mq_reads_mps, mq_chosen, mq_read, mq_bit, mq_after};
 ghost use Rattle.jx_mq.specs.Decoding.{MqDecoding, IsWithin, IsReading};
 ghost use Rattle.jx_mq.specs.Shifting.{mq_shifted_by};
 

@@ -1,6 +1,6 @@
 ghost use Rattle.std.specs.Prelude.{◌≡◌, ◌+◌, ◌-◌, ◌*◌, ◌^◌, ◌<◌, ◌≤◌, ℕ, [], ◌∷◌, length, reverse, vec_len, vec_capacity, IfOk, OnOk, OnErr};
-ghost use Rattle.jx_base.specs.MqTable.{MqContexts};
-ghost use Rattle.jx_base.specs.MqWriting.{MqWriter, mq_writer, mq_plain, mq_stuffed, mq_byte_out, mq_renormalized, mq_part, mq_wrote, mq_after_bit, mq_last_number, mq_given_out, mq_segment};
+ghost use Rattle.jx_coder_specs.specs.MqTable.{MqContexts};
+ghost use Rattle.jx_coder_specs.specs.MqWriting.{MqWriter, mq_writer, mq_plain, mq_stuffed, mq_byte_out, mq_renormalized, mq_part, mq_wrote, mq_after_bit, mq_last_number, mq_given_out, mq_segment};
 ghost use Rattle.jx_mq.specs.Coding.{MqCoding, given, IsCoding, IsCoder};
 ghost use Rattle.jx_mq.specs.Shifting.{mq_moved_by};
 

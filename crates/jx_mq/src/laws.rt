@@ -2,9 +2,9 @@
 
 ghost use Rattle.std.specs.Prelude.{◌≡◌, ◌<◌, ◌≤◌, ◌+◌, ◌*◌, ◌/◌, ℕ, List, [], ◌∷◌, ◌++◌, length, map, take};
 ghost use Rattle.jx_base.specs.Markers.{HasNoMarker};
-ghost use Rattle.jx_base.specs.MqTable.{MqContexts};
-ghost use Rattle.jx_base.specs.MqReading.{MqReader, MqAsked, MqDecisions, mq_byte, mq_decisions, mq_decisions_from, mq_looked};
-ghost use Rattle.jx_base.specs.MqWriting.{MqWriter, MqGiven, mq_written_from, mq_write, mq_contexts_after, mq_asked, mq_bits, mq_write_each, mq_bits_each, mq_contexts_left, mq_contexts_each};
+ghost use Rattle.jx_coder_specs.specs.MqTable.{MqContexts};
+ghost use Rattle.jx_coder_specs.specs.MqReading.{MqReader, MqAsked, MqDecisions, mq_byte, mq_decisions, mq_decisions_from, mq_looked};
+ghost use Rattle.jx_coder_specs.specs.MqWriting.{MqWriter, MqGiven, mq_written_from, mq_write, mq_contexts_after, mq_asked, mq_bits, mq_write_each, mq_bits_each, mq_contexts_left, mq_contexts_each};
 
 /// What the encoder writes of a list of decisions and resets, from any contexts, is read back by
 /// the decoder from the same contexts: the same bits, and the same contexts after. So are many

@@ -5,7 +5,7 @@ use Rattle.std.proofs.lemmas.List.Elements.{All-cons, All-nil}
 use Rattle.jx_tier1_specs.specs.Segments.{bytes_of}
 use Rattle.jx_tier1_specs.specs.Reading.{first_segment}
 use Rattle.jx_passdec.specs.Short.{AreShort}
-use Rattle.jx_base.specs.RawBits.{raw_looked, raw_looked_after, raw_width}
+use Rattle.jx_coder_specs.specs.RawBits.{raw_looked, raw_looked_after, raw_width}
 use Rattle.jx_raw.specs.RawReading.{first_or_one}
 
 pub first_is : (bits : List Bool) → first_or_one bits ≡ get_or bits 0 true

@@ -1,5 +1,5 @@
 ghost use Rattle.std.specs.Prelude.{◌≡◌, ◌^◌, ◌<◌, ℕ, length};
-ghost use Rattle.jx_base.specs.MqTable.{MqContexts, mq_fresh};
+ghost use Rattle.jx_coder_specs.specs.MqTable.{MqContexts, mq_fresh};
 ghost use Rattle.jx_tier1_specs.specs.Reading.{Reading, fresh_reading, read_answer, looked_of};
 
 use jx_base::NoMemory;

@@ -2,8 +2,8 @@
 use Rattle.std.proofs.Common.{◌≡◌, ◌≤◌, ◌+◌, ℕ, zero, suc, Bool, true, false, ◌||◌, List, [], ◌∷◌, ◌++◌, refl, sym, ap, subst, ◌∙◌, arith, if◌then◌else◌, Option, Some, None}
 use Rattle.std.proofs.lemmas.List.{append-nil}
 use Rattle.std.specs.Bool.{MatchBool}
-use Rattle.jx_base.specs.MqTable.{mq_fresh}
-use Rattle.jx_base.specs.MqWriting.{MqGiven, Renewed}
+use Rattle.jx_coder_specs.specs.MqTable.{mq_fresh}
+use Rattle.jx_coder_specs.specs.MqWriting.{MqGiven, Renewed}
 use Rattle.jx_base.specs.Passes.{raw_pass, end_pass, resets, is_causal}
 use Rattle.jx_tier1_specs.specs.Cells.{Cells}
 use Rattle.jx_tier1_specs.specs.Asking.{Asking, told}

@@ -1,9 +1,9 @@
 -- What a reader gives of a written segment.
 use Rattle.std.proofs.Common.{◌≡◌, ◌≤◌, ℕ, zero, suc, Bool, true, false, ◌&&◌, not, List, [], ◌∷◌, ◌++◌, length, take, drop, replicate, refl, ap, ◌∙◌, arith, if◌then◌else◌}
-use Rattle.jx_base.specs.MqTable.{MqContexts, mq_fresh, mq_row_of}
-use Rattle.jx_base.specs.MqReading.{MqReader, mq_reader, mq_bit, mq_after, mq_read, mq_decisions_from, mq_decisions}
-use Rattle.jx_base.specs.MqWriting.{MqGiven, Decided, Renewed, mq_write, mq_contexts_after, mq_asked, mq_bits}
-use Rattle.jx_base.specs.RawBits.{raw_bits, raw_read, raw_write}
+use Rattle.jx_coder_specs.specs.MqTable.{MqContexts, mq_fresh, mq_row_of}
+use Rattle.jx_coder_specs.specs.MqReading.{MqReader, mq_reader, mq_bit, mq_after, mq_read, mq_decisions_from, mq_decisions}
+use Rattle.jx_coder_specs.specs.MqWriting.{MqGiven, Decided, Renewed, mq_write, mq_contexts_after, mq_asked, mq_bits}
+use Rattle.jx_coder_specs.specs.RawBits.{raw_bits, raw_read, raw_write}
 use Rattle.jx_tier1_specs.specs.declared.question.Question.{Question}
 use Rattle.jx_tier1_specs.specs.Cells.{Cells}
 use Rattle.jx_tier1_specs.specs.Asking.{Asking, Told, Ask, told}

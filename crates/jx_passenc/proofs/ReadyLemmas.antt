@@ -2,8 +2,8 @@
 use Rattle.std.proofs.Common.{◌≡◌, ◌+◌, ◌-◌, ◌==◌, ℕ, suc, Bool, true, false, ◌||◌, List, [], ◌∷◌, ◌++◌, drop, refl, sym, ap, subst, ◌∙◌, arith, inl, inr, if◌then◌else◌}
 use Rattle.std.specs.Bool.{MatchBool}
 use Rattle.std.proofs.lemmas.Bool.{cases_Bool}
-use Rattle.jx_base.specs.MqTable.{MqContexts}
-use Rattle.jx_base.specs.MqWriting.{MqGiven}
+use Rattle.jx_coder_specs.specs.MqTable.{MqContexts}
+use Rattle.jx_coder_specs.specs.MqWriting.{MqGiven}
 use Rattle.jx_base.specs.Passes.{raw_pass, end_pass}
 use Rattle.jx_tier1_specs.specs.Segments.{begins}
 use Rattle.jx_tier1_specs.specs.Reading.{Reading, Decoding, fresh_reading, first_segment}

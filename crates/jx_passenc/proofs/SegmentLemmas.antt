@@ -1,8 +1,8 @@
 -- An encoder's segments are those of the decisions.
 use Rattle.std.proofs.Common.{◌≡◌, ◌+◌, ℕ, Bool, true, false, ◌||◌, List, [], ◌∷◌, ◌++◌, refl, sym, ap, ◌∙◌, append_assoc, if◌then◌else◌}
 use Rattle.std.proofs.lemmas.List.{append-nil}
-use Rattle.jx_base.specs.MqTable.{MqContexts, mq_fresh}
-use Rattle.jx_base.specs.MqWriting.{MqWriter, MqGiven, Decided, Renewed, mq_writer, mq_wrote, mq_after_bit, mq_written_from, mq_bits}
+use Rattle.jx_coder_specs.specs.MqTable.{MqContexts, mq_fresh}
+use Rattle.jx_coder_specs.specs.MqWriting.{MqWriter, MqGiven, Decided, Renewed, mq_writer, mq_wrote, mq_after_bit, mq_written_from, mq_bits}
 use Rattle.jx_base.specs.Passes.{raw_pass, end_pass}
 use Rattle.jx_tier1_specs.specs.Cells.{Cells}
 use Rattle.jx_tier1_specs.specs.Needs.{segment_of, renewed_by, contexts_after, segments_from, is_last}

@@ -1,6 +1,6 @@
 -- Passes as an encoder codes them.
 use Rattle.std.specs.Prelude.{ℕ, ◌+◌, Bool, List, [], ◌∷◌, ◌++◌, if◌then◌else◌, ◌||◌}
-use Rattle.jx_base.specs.MqTable.{mq_fresh}
+use Rattle.jx_coder_specs.specs.MqTable.{mq_fresh}
 use Rattle.jx_base.specs.Passes.{raw_pass, end_pass, resets, is_causal}
 use Rattle.jx_tier1_specs.specs.Cells.{Cells}
 use Rattle.jx_tier1_specs.specs.Asking.{told}

@@ -1,8 +1,8 @@
 -- Coded passes as an encoder writes them, one decision after the other.
 use Rattle.std.specs.Prelude.{ℕ, ◌+◌, Bool, ◌||◌, List, [], ◌∷◌, ◌++◌, if◌then◌else◌}
-use Rattle.jx_base.specs.MqTable.{MqContexts, mq_fresh}
-use Rattle.jx_base.specs.MqWriting.{MqWriter, MqGiven, Decided, Renewed, mq_writer, mq_wrote, mq_after_bit, mq_segment}
-use Rattle.jx_base.specs.RawBits.{raw_write}
+use Rattle.jx_coder_specs.specs.MqTable.{MqContexts, mq_fresh}
+use Rattle.jx_coder_specs.specs.MqWriting.{MqWriter, MqGiven, Decided, Renewed, mq_writer, mq_wrote, mq_after_bit, mq_segment}
+use Rattle.jx_coder_specs.specs.RawBits.{raw_write}
 use Rattle.jx_base.specs.Passes.{raw_pass, end_pass}
 use Rattle.jx_tier1_specs.specs.declared.question.Question.{Question}
 use Rattle.jx_tier1_specs.specs.Cells.{Cells}

@@ -1,6 +1,6 @@
 ghost use Rattle.std.specs.Prelude.{◌≡◌, ◌<◌, ℕ, [], OnOk, IfOk};
-ghost use Rattle.jx_base.specs.MqTable.{MqContexts, mq_fresh};
-ghost use Rattle.jx_base.specs.MqWriting.{mq_writer};
+ghost use Rattle.jx_coder_specs.specs.MqTable.{MqContexts, mq_fresh};
+ghost use Rattle.jx_coder_specs.specs.MqWriting.{mq_writer};
 ghost use Rattle.jx_passenc.specs.Writing.{Writing, fresh_writing, after_coded, segment_by};
 
 use jx_base::NoMemory;

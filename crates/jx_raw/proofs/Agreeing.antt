@@ -2,7 +2,7 @@
 use Rattle.std.proofs.Common.{◌≡◌, ◌≤◌, ◌+◌, ◌-◌, ℕ, zero, suc, Bool, true, List, [], ◌∷◌, ◌++◌, length, take, drop, replicate, inl, inr, refl, ap, sym, ◌∙◌, arith, append_assoc, length-append}
 use Rattle.std.proofs.lemmas.Bool.{cases_Bool, cond-true, cond-false}
 use Rattle.std.specs.Prelude.{◌==◌, get_or}
-use Rattle.jx_base.specs.RawBits.{raw_width, raw_bits_after, raw_bits, bits_of, raw_read, raw_looked_after, raw_looked}
+use Rattle.jx_coder_specs.specs.RawBits.{raw_width, raw_bits_after, raw_bits, bits_of, raw_read, raw_looked_after, raw_looked}
 use Rattle.jx_raw.proofs.Reading.{length-bits_of}
 use Rattle.jx_raw.proofs.Looking.{looked_some, pads, cut_bits}
 

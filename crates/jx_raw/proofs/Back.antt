@@ -6,7 +6,7 @@ use Rattle.std.proofs.lemmas.Nat.{shl_whole}
 use Rattle.std.proofs.lemmas.List.{append-nil, take_at, drop_at, take_all, drop_all, take-append-drop}
 use Rattle.std.proofs.Math.Nat.{two-pow-succ, mod-eq_of_lt}
 use Rattle.jx_base.specs.Markers.{HasNoMarker, last_after}
-use Rattle.jx_base.specs.RawBits.{raw_width, raw_bits_after, bits_of, raw_read, byte_of, raw_write_after, raw_write}
+use Rattle.jx_coder_specs.specs.RawBits.{raw_width, raw_bits_after, bits_of, raw_read, byte_of, raw_write_after, raw_write}
 use Rattle.jx_raw.specs.RawWriting.{AreStuffed, bits_written, IsBegun}
 use Rattle.jx_raw.proofs.Reading.{length-bits_of, room}
 use Rattle.jx_raw.proofs.Bytes.{number-bits_of, byte-bits_of, byte-below, bits-byte_of}

@@ -2,7 +2,7 @@
 use Rattle.std.proofs.Common.{◌≡◌, ◌<◌, ◌≤◌, ◌+◌, ◌-◌, ◌*◌, ◌/◌, ◌%◌, ◌^◌, ℕ, zero, suc, Bool, true, false, cond, ◌⊎◌, inl, inr, List, [], ◌∷◌, ◌++◌, length, replicate, refl, arith, eqb}
 use Rattle.std.proofs.lemmas.Nat.{pow_pos, pow-add, mod-pow-add, shl_below, shr_high, shr_split}
 use Rattle.std.proofs.Math.Nat.{two-pow-succ, mod-eq_of_lt, mod-lt}
-use Rattle.jx_base.specs.RawBits.{bits_of, number_of, byte_of}
+use Rattle.jx_coder_specs.specs.RawBits.{bits_of, number_of, byte_of}
 use Rattle.jx_raw.proofs.Reading.{length-bits_of, room}
 
 bit_weight : (q weight r : ℕ) → cond (eqb (q % 2) 1) weight 0 + r ≡ (q % 2 ^ 1) * weight + r

@@ -3,7 +3,7 @@ use Rattle.std.proofs.Common.{◌≡◌, ◌<◌, ◌≤◌, ◌+◌, ◌-◌, �
 use Rattle.std.proofs.lemmas.Bool.Decides.{nat_tests}
 use Rattle.std.proofs.lemmas.Bool.{cases_lt}
 use Rattle.std.proofs.lemmas.List.{take_all, drop_all}
-use Rattle.jx_base.specs.RawBits.{raw_width, byte_of, number_of, raw_write_after, raw_write}
+use Rattle.jx_coder_specs.specs.RawBits.{raw_width, byte_of, number_of, raw_write_after, raw_write}
 use Rattle.jx_raw.specs.RawWriting.{bits_written, IsBegun}
 use Rattle.jx_raw.proofs.Reading.{room}
 use Rattle.jx_raw.proofs.Back.{even_not_ff, tail_of}

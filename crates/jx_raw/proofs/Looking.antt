@@ -4,7 +4,7 @@ use Rattle.std.proofs.lemmas.Bool.{cases_lt}
 use Rattle.std.proofs.lemmas.Bool.Decides.{nat_tests}
 use Rattle.std.proofs.lemmas.List.{take-append-le}
 use Rattle.std.proofs.Math.Seq.{take-append-add}
-use Rattle.jx_base.specs.RawBits.{raw_width, raw_bits_after, raw_bits, bits_of, raw_read, raw_looked_after, raw_looked}
+use Rattle.jx_coder_specs.specs.RawBits.{raw_width, raw_bits_after, raw_bits, bits_of, raw_read, raw_looked_after, raw_looked}
 use Rattle.jx_raw.specs.RawReading.{first_or_one}
 use Rattle.jx_raw.proofs.Reading.{length-bits_of, room}
 

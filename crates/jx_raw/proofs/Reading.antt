@@ -3,7 +3,7 @@ use Rattle.std.proofs.Common.{◌≡◌, ◌<◌, ◌≤◌, ◌+◌, ◌-◌, �
 use Rattle.std.proofs.lemmas.Bool.Decides.{nat_tests}
 use Rattle.std.proofs.lemmas.Nat.{and_mask}
 use Rattle.std.proofs.lemmas.List.{drop_more}
-use Rattle.jx_base.specs.RawBits.{raw_width, raw_bits_after, bits_of, raw_looked_after}
+use Rattle.jx_coder_specs.specs.RawBits.{raw_width, raw_bits_after, bits_of, raw_looked_after}
 use Rattle.jx_raw.specs.RawReading.{IsReading, IsAt, bits_left, first_or_one}
 
 pub lowest : (n : ℕ) → bit_and n 1 ≡ n % 2

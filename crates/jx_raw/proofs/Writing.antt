@@ -4,7 +4,7 @@ use Rattle.std.proofs.lemmas.Nat.{shr-shr}
 use Rattle.std.proofs.lemmas.List.{append-nil}
 use Rattle.std.proofs.Math.Nat.{two-pow-succ}
 use mir.Val.{bool_byte}
-use Rattle.jx_base.specs.RawBits.{raw_width, raw_bits_after, raw_bits, bits_of}
+use Rattle.jx_coder_specs.specs.RawBits.{raw_width, raw_bits_after, raw_bits, bits_of}
 use Rattle.jx_raw.specs.RawWriting.{AreStuffed, bits_written, IsBegun}
 use Rattle.jx_raw.proofs.Reading.{room}
 use Rattle.jx_base.specs.Markers.{last_after}

@@ -1,6 +1,6 @@
 -- What contracts see of a reader of raw bits, and how its registers stand for it.
 use Rattle.std.specs.Prelude.{◌≡◌, ◌<◌, ◌≤◌, ℕ, zero, suc, Bool, true, List, [], ◌∷◌, ◌++◌, length, drop}
-use Rattle.jx_base.specs.RawBits.{raw_width, raw_bits_after, bits_of}
+use Rattle.jx_coder_specs.specs.RawBits.{raw_width, raw_bits_after, bits_of}
 
 -- the segment, and the bits that weren't read
 pub record RawReading : Type 0 where

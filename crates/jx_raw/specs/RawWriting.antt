@@ -1,6 +1,6 @@
 -- What contracts see of a writer of raw bits, and how its registers stand for it.
 use Rattle.std.specs.Prelude.{◌≡◌, ◌<◌, ℕ, ◌^◌, Bool, List, [], ◌∷◌, ◌++◌}
-use Rattle.jx_base.specs.RawBits.{raw_width, raw_bits, bits_of}
+use Rattle.jx_coder_specs.specs.RawBits.{raw_width, raw_bits, bits_of}
 use Rattle.jx_base.specs.Markers.{last_after}
 
 -- the bits written, and how many bytes the segment can have before more memory is needed

@@ -2,7 +2,7 @@
 
 ghost use Rattle.std.specs.Prelude.{◌≡◌, ◌≤◌, ℕ, ◌+◌, ◌-◌, ◌/◌, Bool, List, [], ◌∷◌, ◌++◌, length, take, drop};
 ghost use Rattle.jx_base.specs.Markers.{HasNoMarker};
-ghost use Rattle.jx_base.specs.RawBits.{raw_bits, raw_read, raw_looked, raw_write};
+ghost use Rattle.jx_coder_specs.specs.RawBits.{raw_bits, raw_read, raw_looked, raw_write};
 ghost use Rattle.jx_raw.specs.RawReading.{first_or_one};
 
 /// What was written of some bits is read back, and has no FF before a byte above 8F and none at

@@ -1,5 +1,5 @@
 ghost use Rattle.std.specs.Prelude.{◌≡◌, ◌<◌, ◌≤◌, ℕ, Bool, List, [], ◌∷◌, ◌++◌, length, vec_capacity, IfOk, OnOk, OnErr};
-ghost use Rattle.jx_base.specs.RawBits.{raw_write};
+ghost use Rattle.jx_coder_specs.specs.RawBits.{raw_write};
 ghost use Rattle.jx_raw.specs.RawWriting.{RawBegun, bits_written, IsBegun};
 
 use jx_base::NoMemory;

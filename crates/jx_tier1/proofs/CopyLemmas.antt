@@ -1,8 +1,8 @@
 -- What is copied while it is read is what an encoder writes of the grid that comes of it.
 use Rattle.std.proofs.Common.{◌≡◌, ◌+◌, ℕ, Bool, true, false, List, [], ◌∷◌, ◌++◌, ◌||◌, drop, refl, sym, ap, ◌∙◌, if◌then◌else◌}
 use Rattle.jx_base.specs.declared.names.Band.{Band}
-use Rattle.jx_base.specs.MqTable.{MqContexts, mq_fresh}
-use Rattle.jx_base.specs.MqWriting.{MqWriter}
+use Rattle.jx_coder_specs.specs.MqTable.{MqContexts, mq_fresh}
+use Rattle.jx_coder_specs.specs.MqWriting.{MqWriter}
 use Rattle.jx_base.specs.Passes.{raw_pass, end_pass, resets, is_causal}
 use Rattle.jx_tier1_specs.specs.Cells.{Cells}
 use Rattle.jx_tier1_specs.specs.Asking.{Asking, Told, Ask, told}

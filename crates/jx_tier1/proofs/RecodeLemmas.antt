@@ -1,7 +1,7 @@
 -- Passes that are decoded and coded in step.
 use Rattle.std.proofs.Common.{◌≡◌, ◌<◌, ◌≤◌, ◌+◌, ◌-◌, ◌/◌, ◌==◌, ℕ, zero, suc, Bool, List, [], ◌++◌, refl, sym, ap, ◌∙◌, arith, subst}
 use Rattle.std.proofs.lemmas.List.{append-nil}
-use Rattle.jx_base.specs.MqTable.{mq_fresh}
+use Rattle.jx_coder_specs.specs.MqTable.{mq_fresh}
 use Rattle.jx_base.specs.Passes.{raw_pass, is_causal}
 use Rattle.jx_tier1_specs.specs.Cells.{Cells}
 use Rattle.jx_tier1_specs.specs.Asking.{Asking}

@@ -1,5 +1,5 @@
 ghost use Rattle.std.specs.Prelude.{◌≡◌, ◌+◌, ◌-◌, ◌*◌, ◌++◌, [], ◌<◌, ◌≤◌, ℕ, map, IfOk, OnOk};
-ghost use Rattle.jx_base.specs.MqTable.{mq_fresh};
+ghost use Rattle.jx_coder_specs.specs.MqTable.{mq_fresh};
 ghost use Rattle.jx_base.specs.Passes.{raw_pass};
 ghost use Rattle.jx_tier1_specs.specs.Cells.{Cells, HasSize, AreWithin};
 ghost use Rattle.jx_tier1_specs.specs.Reading.{coding_of, zeros};

@@ -1,6 +1,6 @@
 ghost use Rattle.std.specs.Prelude.{◌≡◌, ◌<◌, ℕ, [], OnOk, IfOk};
-ghost use Rattle.jx_base.specs.MqTable.{MqContexts, mq_fresh};
-ghost use Rattle.jx_base.specs.MqWriting.{mq_writer};
+ghost use Rattle.jx_coder_specs.specs.MqTable.{MqContexts, mq_fresh};
+ghost use Rattle.jx_coder_specs.specs.MqWriting.{mq_writer};
 ghost use Rattle.jx_tier1_specs.specs.Asking.{told};
 ghost use Rattle.jx_tier1_specs.specs.Symbol.{symbol_bit, symbol_asked};
 ghost use Rattle.jx_tier1_specs.specs.Reading.{turned_over};

@@ -1,9 +1,9 @@
 -- The coefficients that coded passes give: each pass reads its decisions from its segment (ITU-T T.800, D.3, D.4, D.6).
 use Rattle.std.specs.Prelude.{ℕ, zero, suc, ◌+◌, ◌-◌, ◌*◌, ◌%◌, min, ◌==◌, Bool, true, false, ◌&&◌, not, List, [], ◌∷◌, ◌++◌, length, drop, slice_index_or, replicate, if◌then◌else◌, Option, Some, None}
 use Rattle.jx_base.specs.declared.names.Band.{Band}
-use Rattle.jx_base.specs.MqTable.{MqContexts, mq_fresh, mq_row_of}
-use Rattle.jx_base.specs.MqReading.{MqReader, mq_reader, mq_bit, mq_after, mq_read}
-use Rattle.jx_base.specs.RawBits.{raw_bits, raw_looked}
+use Rattle.jx_coder_specs.specs.MqTable.{MqContexts, mq_fresh, mq_row_of}
+use Rattle.jx_coder_specs.specs.MqReading.{MqReader, mq_reader, mq_bit, mq_after, mq_read}
+use Rattle.jx_coder_specs.specs.RawBits.{raw_bits, raw_looked}
 use Rattle.jx_base.specs.Passes.{raw_pass, resets, is_causal, has_symbols}
 use Rattle.jx_tier1_specs.specs.declared.question.Question.{Question}
 use Rattle.jx_tier1_specs.specs.Cells.{Cells, zero_coef}

@@ -1,5 +1,5 @@
 use Rattle.std.proofs.Common.{[], ◌∙◌, ap, sym}
-use Rattle.jx_base.specs.MqTable.{mq_fresh}
+use Rattle.jx_coder_specs.specs.MqTable.{mq_fresh}
 use Rattle.jx_tier1_specs.specs.Reading.{coding_of}
 use Rattle.jx_tier1_specs.specs.Needs.{needs}
 use Rattle.jx_passenc.specs.Encoding.{Encoding}

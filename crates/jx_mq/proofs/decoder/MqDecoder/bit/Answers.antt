@@ -1,5 +1,5 @@
 use Rattle.std.proofs.Common.{◌≡◌, ◌≤◌, ap, arith}
-use Rattle.jx_base.specs.MqTable.{mq_row_of}
+use Rattle.jx_coder_specs.specs.MqTable.{mq_row_of}
 use Rattle.jx_mq.specs.declared.decoder.MqDecoder.TheInside.{Inside}
 use Rattle.jx_mq.specs.States.{MqMoves}
 use Rattle.jx_mq.proofs.Shifts.{kept_read}

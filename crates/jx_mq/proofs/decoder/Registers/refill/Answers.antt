@@ -1,5 +1,5 @@
 use Rattle.std.proofs.Common.{◌≡◌, ◌<◌, ap, arith}
-use Rattle.jx_base.specs.MqReading.{MqReader, mq_byte_in}
+use Rattle.jx_coder_specs.specs.MqReading.{MqReader, mq_byte_in}
 use Rattle.jx_mq.specs.Shifting.{mq_shifted_by}
 use Rattle.jx_mq.proofs.Refills.{refilling_begins, byte_in_a}
 use Rattle.jx_mq.proofs.Shifts.{short_of, half_of, short_rest, byte_in_ct, refilling_by, refilled_last}

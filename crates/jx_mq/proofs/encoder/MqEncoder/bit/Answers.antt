@@ -1,6 +1,6 @@
 use Rattle.std.proofs.Common.{◌≡◌, ◌≤◌, Bool, true, false, not, if◌then◌else◌, refl, ap, arith}
 use mathlib.Core.Bool.{beq}
-use Rattle.jx_base.specs.MqTable.{mq_row_of, mq_mps}
+use Rattle.jx_coder_specs.specs.MqTable.{mq_row_of, mq_mps}
 use Rattle.jx_mq.specs.declared.encoder.MqEncoder.TheInside.{Inside}
 use Rattle.jx_mq.proofs.Bounds.{part_coding}
 use Rattle.jx_mq.specs.Coding.{MqCoding}

@@ -1,5 +1,5 @@
 use Rattle.std.proofs.Common.{◌≡◌, ◌≢◌, ◌≤◌, ◌∷◌, length, reverse, vec_len, vec_capacity, ap, sym, arith}
-use Rattle.jx_base.specs.MqWriting.{mq_last_number}
+use Rattle.jx_coder_specs.specs.MqWriting.{mq_last_number}
 use Rattle.jx_mq.specs.Coding.{MqCoding}
 use Rattle.jx_mq.proofs.Lengths.{refused_first, refused_second, refused_last}
 use Rattle.jx_mq.proofs.encoder.MqEncoder.flush.Goals as goal

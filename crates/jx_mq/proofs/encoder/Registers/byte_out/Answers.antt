@@ -1,5 +1,5 @@
 use Rattle.std.proofs.Common.{◌∷◌, reverse, ap, sym, ◌∙◌}
-use Rattle.jx_base.specs.MqWriting.{MqWriter}
+use Rattle.jx_coder_specs.specs.MqWriting.{MqWriter}
 use Rattle.jx_mq.proofs.Flushing.{byte_out_free}
 use Rattle.jx_mq.proofs.encoder.Registers.byte_out.Goals as goal
 

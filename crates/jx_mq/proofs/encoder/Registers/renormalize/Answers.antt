@@ -1,5 +1,5 @@
 use Rattle.std.proofs.Common.{◌≡◌, ◌<◌, ◌≤◌, length, ap, arith}
-use Rattle.jx_base.specs.MqWriting.{mq_byte_out}
+use Rattle.jx_coder_specs.specs.MqWriting.{mq_byte_out}
 use Rattle.jx_mq.specs.Coding.{MqCoding}
 use Rattle.jx_mq.specs.Shifting.{mq_moved_by}
 use Rattle.jx_mq.proofs.Renormals.{renormalizing_begins, byte_out_a}

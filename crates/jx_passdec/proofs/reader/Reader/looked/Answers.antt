@@ -1,5 +1,5 @@
 use Rattle.std.proofs.Common.{rules, ◌-◌, length}
-use Rattle.jx_base.specs.RawBits.{raw_bits}
+use Rattle.jx_coder_specs.specs.RawBits.{raw_bits}
 use Rattle.jx_passdec.proofs.Firsts.{looked_short}
 use Rattle.jx_passdec.proofs.reader.Reader.looked.Goals as goal
 

@@ -1,6 +1,6 @@
 use Rattle.std.proofs.Common.{◌≡◌, ◌-◌, arith}
 use Rattle.std.proofs.lemmas.Bool.Decides.{nat_tests}
-use Rattle.jx_base.specs.RawBits.{raw_width}
+use Rattle.jx_coder_specs.specs.RawBits.{raw_width}
 use Rattle.jx_raw.proofs.Reading.{first_left, step, next}
 use Rattle.jx_raw.proofs.reader.RawReader.bit.Goals as goal
 use Rattle.jx_raw.proofs.reader.RawReader.bit.Goals.{then-self-2, else-self-2}

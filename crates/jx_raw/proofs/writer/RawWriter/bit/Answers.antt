@@ -1,6 +1,6 @@
 use Rattle.std.proofs.Common.{◌≡◌, ◌≤◌, ◌+◌, ◌*◌, length, vec_len, vec_capacity, arith}
 use Rattle.std.proofs.lemmas.Bool.Decides.{nat_tests}
-use Rattle.jx_base.specs.RawBits.{raw_width}
+use Rattle.jx_coder_specs.specs.RawBits.{raw_width}
 use Rattle.jx_raw.proofs.Writing.{more_bits, whole, whole_bits}
 use Rattle.jx_raw.proofs.Lengths.{one_longer}
 use Rattle.jx_raw.proofs.writer.RawWriter.bit.Goals as goal

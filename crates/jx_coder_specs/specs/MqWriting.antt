@@ -1,7 +1,7 @@
 -- The segment that the arithmetic encoder makes of decisions: ITU-T T.800, Annex C.2.
 use Rattle.std.specs.Prelude.{ℕ, zero, suc, ◌+◌, ◌-◌, ◌*◌, ◌/◌, ◌%◌, ◌^◌, ◌==◌, nat_lt, nat_le, Bool, not, List, [], ◌∷◌, drop, reverse, if◌then◌else◌}
-use Rattle.jx_base.specs.MqTable.{MqContexts, mq_fresh, mq_row_of, mq_mps, mq_adapted}
-use Rattle.jx_base.specs.MqReading.{MqAsked, Under, Anew, mq_decisions}
+use Rattle.jx_coder_specs.specs.MqTable.{MqContexts, mq_fresh, mq_row_of, mq_mps, mq_adapted}
+use Rattle.jx_coder_specs.specs.MqReading.{MqAsked, Under, Anew, mq_decisions}
 
 -- The registers A, C and CT, and the bytes so far, the newest (B) first; the oldest is the byte 0 before the first
 pub record MqWriter : Type 0 where

@@ -1,6 +1,6 @@
 -- What the arithmetic decoder makes of a segment: ITU-T T.800, Annex C.3.
 use Rattle.std.specs.Prelude.{ℕ, zero, suc, ◌+◌, ◌-◌, ◌*◌, ◌/◌, ◌%◌, min, ◌==◌, nat_lt, nat_le, Bool, not, List, [], ◌∷◌, length, slice_index_or, if◌then◌else◌}
-use Rattle.jx_base.specs.MqTable.{MqContexts, mq_fresh, mq_row_of, mq_mps, mq_adapted}
+use Rattle.jx_coder_specs.specs.MqTable.{MqContexts, mq_fresh, mq_row_of, mq_mps, mq_adapted}
 
 -- The registers A, C (of 32 bits) and CT, the place of the current byte B, and how many bytes were read or compared
 pub record MqReader : Type 0 where
