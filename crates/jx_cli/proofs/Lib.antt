@@ -1,14 +1,14 @@
-pub mod CommandLemmas
-pub mod CommandWordLemmas
-pub mod FindLemmas
-pub mod GoodLemmas
-pub mod ItemLemmas
-pub mod ListLemmas
-pub mod MadeLemmas
-pub mod MakeLemmas
-pub mod NumberLemmas
-pub mod PartLemmas
-pub mod SpellLemmas
-pub mod StyleLemmas
-pub mod ValueLemmas
-pub mod WantedLemmas
+mod CommandLemmas
+mod CommandWordLemmas
+mod FindLemmas
+mod GoodLemmas
+mod ItemLemmas
+mod ListLemmas
+mod MadeLemmas
+mod MakeLemmas
+mod NumberLemmas
+mod PartLemmas
+mod SpellLemmas
+mod StyleLemmas
+mod ValueLemmas
+mod WantedLemmas

@@ -1,38 +1,38 @@
-pub mod AgreeLemmas
+mod AgreeLemmas
 pub mod AnewLemmas
-pub mod AnewParts
-pub mod BelowLemmas
-pub mod CleanLemmas
-pub mod CoefLemmas
-pub mod CopyLemmas
-pub mod CutLemmas
-pub mod DecideLemmas
-pub mod DropLemmas
-pub mod EarlyLemmas
-pub mod EndLemmas
-pub mod FewLemmas
-pub mod FinalLemmas
-pub mod FirstLemmas
-pub mod FrontLemmas
-pub mod GroupLemmas
-pub mod GrowLemmas
-pub mod InLayers
+mod AnewParts
+mod BelowLemmas
+mod CleanLemmas
+mod CoefLemmas
+mod CopyLemmas
+mod CutLemmas
+mod DecideLemmas
+mod DropLemmas
+mod EarlyLemmas
+mod EndLemmas
+mod FewLemmas
+mod FinalLemmas
+mod FirstLemmas
+mod FrontLemmas
+mod GroupLemmas
+mod GrowLemmas
+mod InLayers
 pub mod KeptLemmas
-pub mod LawLemmas
-pub mod LengthLemmas
-pub mod LookedLemmas
-pub mod MadeBlocks
-pub mod MadeJobs
-pub mod NewParts
-pub mod OwnBytes
-pub mod OwnLemmas
+mod LawLemmas
+mod LengthLemmas
+mod LookedLemmas
+mod MadeBlocks
+mod MadeJobs
+mod NewParts
+mod OwnBytes
+mod OwnLemmas
 pub mod PartLemmas
-pub mod RegroupLemmas
-pub mod RoomLemmas
-pub mod SeenLemmas
-pub mod SentLemmas
-pub mod ShareLemmas
-pub mod SoundLemmas
-pub mod TwinLemmas
-pub mod WithinLemmas
-pub mod WrittenLemmas
+mod RegroupLemmas
+mod RoomLemmas
+mod SeenLemmas
+mod SentLemmas
+mod ShareLemmas
+mod SoundLemmas
+mod TwinLemmas
+mod WithinLemmas
+mod WrittenLemmas

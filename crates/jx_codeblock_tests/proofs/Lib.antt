@@ -1,2 +1,2 @@
-pub mod PoolLemmas
-pub mod Samples
+mod PoolLemmas
+mod Samples

@@ -1,23 +1,23 @@
 pub mod FaultLemmas
-pub mod HeaderLemmas
-pub mod PartLemmas
-pub mod TileLemmas
-pub mod IndexLemmas
-pub mod ScanLemmas
-pub mod FirstLemmas
-pub mod SpellLemmas
-pub mod WholeLemmas
+mod HeaderLemmas
+mod PartLemmas
+mod TileLemmas
+mod IndexLemmas
+mod ScanLemmas
+mod FirstLemmas
+mod SpellLemmas
+mod WholeLemmas
 pub mod OneLemmas
-pub mod PartsReadLemmas
-pub mod UniqueLemmas
-pub mod FrontLemmas
-pub mod ViolatedLemmas
+mod PartsReadLemmas
+mod UniqueLemmas
+mod FrontLemmas
+mod ViolatedLemmas
 pub mod SegmentLemmas
 pub mod ShapeLemmas
 pub mod PlaneLemmas
-pub mod EntryLemmas
+mod EntryLemmas
 pub mod RangeLemmas
 pub mod BareLemmas
-pub mod ViewLemmas
+mod ViewLemmas
 pub mod KindLemmas
-pub mod BandLemmas
+mod BandLemmas

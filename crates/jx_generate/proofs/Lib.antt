@@ -1,14 +1,14 @@
-pub mod DrawnLemmas
-pub mod ListLemmas
-pub mod GeometryLemmas
-pub mod DrawnFits
-pub mod PrecinctLemmas
-pub mod PictureLemmas
-pub mod WriterLemmas
-pub mod RangeLemmas
-pub mod ReadLemmas
-pub mod OrderLemmas
-pub mod FillLemmas
-pub mod WrittenLemmas
-pub mod WellLemmas
-pub mod PlainLemmas
+mod DrawnLemmas
+mod ListLemmas
+mod GeometryLemmas
+mod DrawnFits
+mod PrecinctLemmas
+mod PictureLemmas
+mod WriterLemmas
+mod RangeLemmas
+mod ReadLemmas
+mod OrderLemmas
+mod FillLemmas
+mod WrittenLemmas
+mod WellLemmas
+mod PlainLemmas

@@ -1,18 +1,18 @@
-pub mod ChainLemmas
-pub mod ComponentLemmas
+mod ChainLemmas
+mod ComponentLemmas
 pub mod CountLemmas
 pub mod EmptyLemmas
-pub mod LawLemmas
+mod LawLemmas
 pub mod LeafLemmas
-pub mod LeafPlaces
+mod LeafPlaces
 pub mod NumberLemmas
-pub mod NumberedLeaves
+mod NumberedLeaves
 pub mod PrecinctLemmas
-pub mod RectLemmas
+mod RectLemmas
 pub mod SameLemmas
-pub mod SetLemmas
+mod SetLemmas
 pub mod SizeLemmas
 pub mod SpanLemmas
-pub mod StepLemmas
+mod StepLemmas
 pub mod TableLemmas
 pub mod TileLemmas

@@ -1,3 +1,3 @@
-pub mod ThereLemmas
-pub mod PlanLemmas
-pub mod DraftLemmas
+mod ThereLemmas
+mod PlanLemmas
+mod DraftLemmas

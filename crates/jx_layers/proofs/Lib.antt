@@ -1,13 +1,13 @@
-pub mod TextLemmas
-pub mod CutLemmas
-pub mod SpellLemmas
-pub mod SentLemmas
-pub mod LeftLemmas
-pub mod JobLemmas
+mod TextLemmas
+mod CutLemmas
+mod SpellLemmas
+mod SentLemmas
+mod LeftLemmas
+mod JobLemmas
 pub mod OneLemmas
-pub mod CrowdLemmas
-pub mod LayerLemmas
-pub mod WrittenLemmas
-pub mod LowestLemmas
+mod CrowdLemmas
+mod LayerLemmas
+mod WrittenLemmas
+mod LowestLemmas
 pub mod FactLemmas
 pub mod CausalLemmas

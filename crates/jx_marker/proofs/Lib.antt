@@ -1,9 +1,9 @@
-pub mod ValueLemmas
+mod ValueLemmas
 pub mod RuleLemmas
-pub mod PutLemmas
-pub mod ClearLemmas
-pub mod FrontLemmas
+mod PutLemmas
+mod ClearLemmas
+mod FrontLemmas
 pub mod SpelledLemmas
-pub mod CutLemmas
+mod CutLemmas
 pub mod ReadLemmas
-pub mod OneLemmas
+mod OneLemmas

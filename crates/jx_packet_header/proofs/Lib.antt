@@ -1,24 +1,24 @@
-pub mod WordLemmas
-pub mod FrontLemmas
-pub mod LongLemmas
-pub mod MadeLemmas
-pub mod NotedLemmas
-pub mod ZerosLemmas
-pub mod AskLemmas
+mod WordLemmas
+mod FrontLemmas
+mod LongLemmas
+mod MadeLemmas
+mod NotedLemmas
+mod ZerosLemmas
+mod AskLemmas
 pub mod BlockLemmas
-pub mod StopLemmas
-pub mod StopBlockLemmas
+mod StopLemmas
+mod StopBlockLemmas
 pub mod BandLemmas
-pub mod BandLoopLemmas
+mod BandLoopLemmas
 pub mod PacketLemmas
-pub mod KindLemmas
-pub mod StuffedLemmas
-pub mod StopBandLemmas
+mod KindLemmas
+mod StuffedLemmas
+mod StopBandLemmas
 pub mod FreshLemmas
 pub mod PutLemmas
 pub mod WriteLemmas
-pub mod EntryLemmas
+mod EntryLemmas
 pub mod PlanLemmas
 pub mod LayerLemmas
 pub mod AgreeLemmas
-pub mod CursorLemmas
+mod CursorLemmas

@@ -1,19 +1,19 @@
 pub mod BackLemmas
-pub mod CoverLemmas
-pub mod DoneLemmas
-pub mod FollowLemmas
+mod CoverLemmas
+mod DoneLemmas
+mod FollowLemmas
 pub mod FrontLemmas
-pub mod GivesLemmas
+mod GivesLemmas
 pub mod GridLemmas
-pub mod KindLemmas
+mod KindLemmas
 pub mod LeafLemmas
 pub mod PassBackLemmas
-pub mod PhaseLemmas
-pub mod PowerLemmas
-pub mod ReadyLemmas
+mod PhaseLemmas
+mod PowerLemmas
+mod ReadyLemmas
 pub mod RunBackLemmas
 pub mod SegmentLemmas
-pub mod StayLemmas
+mod StayLemmas
 pub mod StepLemmas
-pub mod WholeLemmas
+mod WholeLemmas
 pub mod WroteLemmas

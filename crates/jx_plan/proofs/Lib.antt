@@ -1,27 +1,27 @@
-pub mod AlikeLemmas
-pub mod WrittenLemmas
-pub mod StandLemmas
-pub mod ZeroLemmas
-pub mod ReadLemmas
+mod AlikeLemmas
+mod WrittenLemmas
+mod StandLemmas
+mod ZeroLemmas
+mod ReadLemmas
 pub mod StreamLemmas
-pub mod RangeLemmas
-pub mod MoreLemmas
+mod RangeLemmas
+mod MoreLemmas
 pub mod ReadBackLemmas
-pub mod CoverLemmas
-pub mod SameLemmas
-pub mod BlockLemmas
-pub mod ViewLemmas
-pub mod PlainLemmas
-pub mod LayerLaws
+mod CoverLemmas
+mod SameLemmas
+mod BlockLemmas
+mod ViewLemmas
+mod PlainLemmas
+mod LayerLaws
 pub mod PlanLemmas
-pub mod TileJobLemmas
-pub mod BlocksWritten
-pub mod MeaningLemmas
-pub mod CauseLemmas
-pub mod ChosenLemmas
-pub mod AnswerLemmas
-pub mod PlannedLemmas
-pub mod FitLemmas
+mod TileJobLemmas
+mod BlocksWritten
+mod MeaningLemmas
+mod CauseLemmas
+mod ChosenLemmas
+mod AnswerLemmas
+mod PlannedLemmas
+mod FitLemmas
 pub mod ListedLemmas
 pub mod GroupLemmas
-pub mod PartedLemmas
+mod PartedLemmas

@@ -1,1 +1,1 @@
-pub mod OneTile
+mod OneTile

@@ -1,21 +1,21 @@
 pub mod ExistLemmas
-pub mod LessLemmas
-pub mod LoopLemmas
-pub mod SpreadLemmas
+mod LessLemmas
+mod LoopLemmas
+mod SpreadLemmas
 pub mod OrderLemmas
-pub mod KeyLemmas
-pub mod RowLemmas
-pub mod FlatLemmas
-pub mod GroupLemmas
-pub mod SortLemmas
-pub mod TableLemmas
-pub mod CoveredLemmas
+mod KeyLemmas
+mod RowLemmas
+mod FlatLemmas
+mod GroupLemmas
+mod SortLemmas
+mod TableLemmas
+mod CoveredLemmas
 pub mod RiseLemmas
-pub mod BeginLemmas
-pub mod PlaceLemmas
-pub mod PointLemmas
-pub mod NestLemmas
-pub mod MemberLemmas
-pub mod LayerLoops
-pub mod PlaceLoops
-pub mod LoopLaws
+mod BeginLemmas
+mod PlaceLemmas
+mod PointLemmas
+mod NestLemmas
+mod MemberLemmas
+mod LayerLoops
+mod PlaceLoops
+mod LoopLaws

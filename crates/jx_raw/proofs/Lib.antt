@@ -1,7 +1,7 @@
 pub mod Agreeing
 pub mod Back
-pub mod Bytes
-pub mod Lengths
+mod Bytes
+mod Lengths
 pub mod Looking
 pub mod Reading
-pub mod Writing
+mod Writing

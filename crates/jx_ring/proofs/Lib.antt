@@ -1,18 +1,18 @@
-pub mod Counts
-pub mod Cells
-pub mod Rolls
-pub mod Looks
-pub mod Claiming
-pub mod Asking
-pub mod Committing
-pub mod Draining
-pub mod Seats
-pub mod Shelves
-pub mod Carrying
-pub mod Dealing
-pub mod Joining
-pub mod Closes
-pub mod Gathers
-pub mod Ends
-pub mod Events
-pub mod Shown
+mod Counts
+mod Cells
+mod Rolls
+mod Looks
+mod Claiming
+mod Asking
+mod Committing
+mod Draining
+mod Seats
+mod Shelves
+mod Carrying
+mod Dealing
+mod Joining
+mod Closes
+mod Gathers
+mod Ends
+mod Events
+mod Shown

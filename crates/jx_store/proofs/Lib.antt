@@ -1,14 +1,14 @@
 pub mod Loads
 pub mod Windows
 pub mod Changes
-pub mod Runs
-pub mod Tally
-pub mod Sharing
-pub mod Valids
-pub mod Records
-pub mod Refusals
-pub mod Replays
-pub mod Made
-pub mod Below
-pub mod Deals
+mod Runs
+mod Tally
+mod Sharing
+mod Valids
+mod Records
+mod Refusals
+mod Replays
+mod Made
+mod Below
+mod Deals
 pub mod NumberLemmas

@@ -1,1 +1,1 @@
-pub mod Passes
+mod Passes

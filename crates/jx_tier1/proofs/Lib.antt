@@ -1,25 +1,25 @@
-pub mod AddedLemmas
-pub mod AnswerLemmas
-pub mod CopyLemmas
-pub mod EndLemmas
-pub mod FourLemmas
-pub mod FullLemmas
-pub mod JoinedLemmas
-pub mod LabelLemmas
-pub mod MarkLemmas
-pub mod QuietLemmas
-pub mod RaiseLemmas
-pub mod RunLemmas
-pub mod RunTold
-pub mod RecodeLemmas
-pub mod RefineLemmas
-pub mod ScanLemmas
-pub mod SeenLemmas
-pub mod SignLemmas
-pub mod SignificanceLemmas
-pub mod SixLemmas
-pub mod StepLemmas
-pub mod StripeLemmas
-pub mod ToldLemmas
-pub mod TreeLemmas
-pub mod WindowLemmas
+mod AddedLemmas
+mod AnswerLemmas
+mod CopyLemmas
+mod EndLemmas
+mod FourLemmas
+mod FullLemmas
+mod JoinedLemmas
+mod LabelLemmas
+mod MarkLemmas
+mod QuietLemmas
+mod RaiseLemmas
+mod RunLemmas
+mod RunTold
+mod RecodeLemmas
+mod RefineLemmas
+mod ScanLemmas
+mod SeenLemmas
+mod SignLemmas
+mod SignificanceLemmas
+mod SixLemmas
+mod StepLemmas
+mod StripeLemmas
+mod ToldLemmas
+mod TreeLemmas
+mod WindowLemmas

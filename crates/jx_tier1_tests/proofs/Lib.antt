@@ -1,1 +1,1 @@
-pub mod ShortLemmas
+mod ShortLemmas

@@ -1,42 +1,42 @@
-pub mod GatherLemmas
-pub mod DataLemmas
-pub mod PacketLemmas
-pub mod PieceLemmas
-pub mod PartLemmas
-pub mod BodyLemmas
-pub mod PutLemmas
-pub mod MarkLemmas
-pub mod GrowLemmas
-pub mod NumberLemmas
-pub mod BlockLemmas
+mod GatherLemmas
+mod DataLemmas
+mod PacketLemmas
+mod PieceLemmas
+mod PartLemmas
+mod BodyLemmas
+mod PutLemmas
+mod MarkLemmas
+mod GrowLemmas
+mod NumberLemmas
+mod BlockLemmas
 pub mod CellLemmas
 pub mod FreshLemmas
-pub mod TurnLemmas
-pub mod OnceLemmas
-pub mod TrackLemmas
+mod TurnLemmas
+mod OnceLemmas
+mod TrackLemmas
 pub mod SoundLemmas
 pub mod TotalLemmas
-pub mod CoveredLemmas
-pub mod ReadyLemmas
-pub mod TileLemmas
+mod CoveredLemmas
+mod ReadyLemmas
+mod TileLemmas
 pub mod ListLemmas
 pub mod FrontLemmas
-pub mod LaidLemmas
+mod LaidLemmas
 pub mod LaidTiles
 pub mod LaidBlocks
-pub mod FewLemmas
+mod FewLemmas
 pub mod BlockOfLemmas
-pub mod LeafLemmas
+mod LeafLemmas
 pub mod CarryLemmas
-pub mod KeptLemmas
-pub mod EitherLemmas
+mod KeptLemmas
+mod EitherLemmas
 pub mod FillLemmas
 pub mod PlannedLemmas
-pub mod LayersFew
-pub mod CutRuns
+mod LayersFew
+mod CutRuns
 pub mod FitLemmas
 pub mod PlanLemmas
 pub mod ListedLemmas
 pub mod CoverEither
-pub mod PartCuts
+mod PartCuts
 pub mod AnotherLemmas

@@ -1,33 +1,33 @@
-pub mod HeaderLemmas
-pub mod AlikeLemmas
-pub mod HeldLemmas
-pub mod FewLemmas
-pub mod TurnLemmas
-pub mod PlaceLemmas
-pub mod MadeLemmas
-pub mod SameLemmas
-pub mod CoverLemmas
-pub mod ReadyLemmas
-pub mod ReadLemmas
-pub mod TellLemmas
-pub mod StrictLemmas
-pub mod OutputLemmas
-pub mod KeptLemmas
-pub mod AssembledLemmas
-pub mod CountLemmas
-pub mod CutLemmas
+mod HeaderLemmas
+mod AlikeLemmas
+mod HeldLemmas
+mod FewLemmas
+mod TurnLemmas
+mod PlaceLemmas
+mod MadeLemmas
+mod SameLemmas
+mod CoverLemmas
+mod ReadyLemmas
+mod ReadLemmas
+mod TellLemmas
+mod StrictLemmas
+mod OutputLemmas
+mod KeptLemmas
+mod AssembledLemmas
+mod CountLemmas
+mod CutLemmas
 pub mod EntryLemmas
-pub mod LeafLemmas
-pub mod LengthLemmas
-pub mod NameLemmas
-pub mod OwnLemmas
-pub mod PacketLemmas
-pub mod PartLemmas
-pub mod PieceLemmas
-pub mod PlanLemmas
-pub mod RowsLemmas
-pub mod SegmentLemmas
-pub mod SendingLemmas
-pub mod SendingsLemmas
-pub mod SentLemmas
-pub mod SilentLemmas
+mod LeafLemmas
+mod LengthLemmas
+mod NameLemmas
+mod OwnLemmas
+mod PacketLemmas
+mod PartLemmas
+mod PieceLemmas
+mod PlanLemmas
+mod RowsLemmas
+mod SegmentLemmas
+mod SendingLemmas
+mod SendingsLemmas
+mod SentLemmas
+mod SilentLemmas

@@ -1,1 +1,1 @@
-pub mod EndLemmas
+mod EndLemmas

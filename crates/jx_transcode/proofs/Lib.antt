@@ -1,25 +1,25 @@
-pub mod DoneLemmas
-pub mod ProgressLemmas
-pub mod ReadLemmas
-pub mod SaidLemmas
-pub mod TileLemmas
-pub mod TapedLemmas
-pub mod FrontLemmas
-pub mod ExtentLemmas
-pub mod WriteLemmas
-pub mod PartLemmas
-pub mod PackedLemmas
-pub mod AnswerLemmas
-pub mod RefusedLemmas
-pub mod OutcomeLemmas
-pub mod OneVerdictLemmas
-pub mod ToldLemmas
-pub mod SomeVerdictLemmas
-pub mod StatusLemmas
-pub mod EntryLemmas
-pub mod WrongLemmas
-pub mod MakeLemmas
+mod DoneLemmas
+mod ProgressLemmas
+mod ReadLemmas
+mod SaidLemmas
+mod TileLemmas
+mod TapedLemmas
+mod FrontLemmas
+mod ExtentLemmas
+mod WriteLemmas
+mod PartLemmas
+mod PackedLemmas
+mod AnswerLemmas
+mod RefusedLemmas
+mod OutcomeLemmas
+mod OneVerdictLemmas
+mod ToldLemmas
+mod SomeVerdictLemmas
+mod StatusLemmas
+mod EntryLemmas
+mod WrongLemmas
+mod MakeLemmas
 pub mod RunLemmas
-pub mod AcceptedLemmas
-pub mod PlannedMade
-pub mod MadeVerdictLemmas
+mod AcceptedLemmas
+mod PlannedMade
+mod MadeVerdictLemmas

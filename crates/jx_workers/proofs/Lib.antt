@@ -1,2 +1,2 @@
-pub mod TapeLemmas
-pub mod PassLemmas
+mod TapeLemmas
+mod PassLemmas
