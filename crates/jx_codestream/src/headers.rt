@@ -1,3 +1,5 @@
+//! The main header and the headers of tile-parts (T.800, A.2, A.3): their segments, and the first rule that one of them violates.
+
 ghost use Rattle.std.specs.Prelude.{◌≡◌, ◌≤◌, ◌<◌, ◌+◌, ◌*◌, ◌^◌, ◌==◌, ◌&&◌, length, drop, slice_index, slice_set, nat_lt, IfOk, OnOk, ℕ, if◌then◌else◌};
 ghost use Rattle.std.specs.Option.{option_or};
 ghost use Rattle.jx_marker.specs.Ranges.{InRange};

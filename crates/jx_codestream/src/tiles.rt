@@ -1,3 +1,5 @@
+//! What the tile-parts of a tile say together.
+
 ghost use Rattle.std.specs.Prelude.{◌≡◌, ◌≤◌, ◌<◌, ◌+◌, ◌==◌, ◌++◌, ◌∷◌, [], List, length, map, IfOk, OnOk, ℕ, MatchOption, Some, None, if◌then◌else◌, slice_index_or};
 ghost use Rattle.std.specs.List.{filter, flat_map};
 ghost use Rattle.std.specs.Option.{option_to_list};

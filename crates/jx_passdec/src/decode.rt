@@ -1,3 +1,5 @@
+//! A code-block decoded by the plain form of the coding passes.
+
 ghost use Rattle.std.specs.Prelude.{◌≡◌, ◌-◌, ◌*◌, ◌^◌, ◌<◌, ◌≤◌, ℕ, List, map, IfOk, OnOk, MatchOption};
 ghost use Rattle.jx_tier1_specs.specs.Cells.{Cells, HasSize, AreWithin};
 ghost use Rattle.jx_tier1_specs.specs.Segments.{bytes_of};

@@ -1,3 +1,5 @@
+//! One coding pass after another, decoded.
+
 ghost use Rattle.std.specs.Prelude.{◌≡◌, ◌+◌, ◌++◌, ◌∷◌, [], ◌/◌, ◌%◌, ◌^◌, ◌==◌, ◌&&◌, ◌<◌, ℕ, length, drop, All, OnOk, IfOk, IsOk};
 ghost use Rattle.jx_tier1_specs.specs.Cells.{Cells, HasSize, AreWithin, IsKept};
 ghost use Rattle.jx_tier1_specs.specs.Pass.{IsScan, plane_of};

@@ -1,3 +1,5 @@
+//! The decisions of one segment, read by either coder.
+
 ghost use Rattle.std.specs.Prelude.{◌≡◌, ◌^◌, ◌<◌, ℕ, length};
 ghost use Rattle.jx_coder_specs.specs.MqTable.{MqContexts, mq_fresh};
 ghost use Rattle.jx_tier1_specs.specs.Reading.{Reading, fresh_reading, read_answer, looked_of};

@@ -1,3 +1,5 @@
+//! A code-block coded by the plain form of the coding passes.
+
 ghost use Rattle.std.specs.Prelude.{◌≡◌, ◌+◌, ◌-◌, ◌*◌, ◌++◌, ◌<◌, ◌≤◌, ℕ, map, IfOk, OnOk};
 ghost use Rattle.jx_base.specs.Passes.{raw_pass};
 ghost use Rattle.jx_tier1_specs.specs.Cells.{Cells, HasSize, AreWithin};

@@ -1,3 +1,5 @@
+//! Decisions of one segment, each written into another.
+
 ghost use Rattle.std.specs.Prelude.{◌≡◌, ◌^◌, ◌<◌, ℕ, length, IfOk, OnOk};
 ghost use Rattle.jx_tier1_specs.specs.Reading.{fresh_reading, read_symbol};
 ghost use Rattle.jx_tier1.specs.InStep.{Copying, renewed_both};

@@ -1,3 +1,5 @@
+//! A code-block coded.
+
 ghost use Rattle.std.specs.Prelude.{◌≡◌, ◌+◌, ◌-◌, ◌*◌, ◌++◌, [], ◌<◌, ◌≤◌, ℕ, map, IfOk, OnOk};
 ghost use Rattle.jx_coder_specs.specs.MqTable.{mq_fresh};
 ghost use Rattle.jx_base.specs.Passes.{raw_pass};

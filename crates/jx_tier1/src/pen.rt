@@ -1,3 +1,5 @@
+//! Decisions that are given, written into one segment by either coder.
+
 ghost use Rattle.std.specs.Prelude.{◌≡◌, ◌<◌, ℕ, [], OnOk, IfOk};
 ghost use Rattle.jx_coder_specs.specs.MqTable.{MqContexts, mq_fresh};
 ghost use Rattle.jx_coder_specs.specs.MqWriting.{mq_writer};

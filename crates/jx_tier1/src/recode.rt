@@ -1,3 +1,5 @@
+//! A code-block decoded and coded anew in one walk.
+
 ghost use Rattle.std.specs.Prelude.{◌≡◌, ◌-◌, ◌*◌, ◌^◌, ◌<◌, ◌≤◌, ℕ, List, map, IfOk, OnOk};
 ghost use Rattle.jx_base.specs.Passes.{is_causal};
 ghost use Rattle.jx_tier1_specs.specs.Cells.{Cells, HasSize, AreWithin};

@@ -1,3 +1,5 @@
+//! One coding pass after another, decoded and coded in step.
+
 ghost use Rattle.std.specs.Prelude.{◌≡◌, ◌+◌, ◌++◌, ◌∷◌, [], ◌/◌, ◌%◌, ◌^◌, ◌==◌, ◌&&◌, ◌||◌, ◌<◌, ℕ, length, drop, OnOk, IfOk};
 ghost use Rattle.jx_base.specs.Passes.{raw_pass, is_causal, has_symbols};
 ghost use Rattle.jx_tier1_specs.specs.Cells.{Cells, HasSize, AreWithin, IsKept};

@@ -1,3 +1,5 @@
+//! The decisions that a grid calls for, written into one segment by either coder.
+
 ghost use Rattle.std.specs.Prelude.{◌≡◌, ◌<◌, ℕ, [], OnOk, IfOk};
 ghost use Rattle.jx_coder_specs.specs.MqTable.{MqContexts, mq_fresh};
 ghost use Rattle.jx_coder_specs.specs.MqWriting.{mq_writer};

@@ -1,3 +1,5 @@
+//! What is seen of a place's neighbours, with causal contexts or without (T.800, D.3.1, D.7).
+
 ghost use Rattle.std.specs.Prelude.{◌≡◌, ◌+◌, ◌<◌, ◌≤◌, ℤ, pos, negsuc, ◌≤ℤ◌};
 ghost use Rattle.jx_tier1_specs.specs.Cells.{Cells, IsPlace};
 ghost use Rattle.jx_tier1_specs.specs.Near.{coef_near, one_at, sides_of, upright_of, diagonals_of, has_near, leaning, across_of, down_of};

@@ -1,3 +1,5 @@
+//! Scan, labels and segments.
+
 use crate::checks::{check, equal, equal_at, given};
 use jx_base::Band;
 use jx_tier1_specs::{

@@ -1,3 +1,5 @@
+//! The plain form, decoding.
+
 ghost use Rattle.std.specs.Prelude.{◌≡◌, ◌-◌, ◌*◌, ◌^◌, ◌<◌, ◌≤◌, ℕ, length, IfOk};
 
 use crate::checks::{check, equal, equal_at, given};

@@ -1,3 +1,5 @@
+//! The plain form, coding.
+
 ghost use Rattle.std.specs.Prelude.{◌≡◌, ◌-◌, ◌*◌, ◌^◌, ◌<◌, ◌≤◌, ℕ, length, IfOk};
 ghost use Rattle.jx_tier1_specs.specs.Cells.{Cells, HasSize};
 
