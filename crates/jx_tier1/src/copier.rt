@@ -6,8 +6,7 @@ ghost use Rattle.jx_tier1.specs.InStep.{Copying, renewed_both};
 
 use crate::pen::Pen;
 use jx_base::{NoMemory, Style};
-use jx_passdec::Reader;
-use jx_tier1_specs::{Question, Source};
+use jx_tier1_specs::{Question, Reader, Source};
 use std::marker::Model;
 
 /// Answers by the decisions of a segment, and writes each answer into another segment.

@@ -6,14 +6,13 @@ ghost use Rattle.jx_tier1_specs.specs.Pass.{IsScan, plane_of};
 ghost use Rattle.jx_tier1_specs.specs.Segments.{begins};
 ghost use Rattle.jx_tier1_specs.specs.Reading.{Decoding, coding_of, first_segment, opened, read_bits, read_symbol, looked_of, read_within, read_pass, first_wrong};
 ghost use Rattle.jx_tier1.specs.Labels.{AreLabels};
-ghost use Rattle.jx_passdec.specs.Short.{AreShort, with_bits};
+ghost use Rattle.jx_tier1_specs.specs.Short.{AreShort, with_bits};
 ghost use Rattle.jx_base.specs.Passes.{is_causal, has_symbols};
 
 use crate::field::Field;
 use crate::scan::run_pass;
 use jx_base::{Band, NoMemory, Style, ends_segment, is_raw};
-use jx_passdec::Reader;
-use jx_tier1_specs::ask_symbol;
+use jx_tier1_specs::{Reader, ask_symbol};
 use std::marker::Model;
 
 /// A block of which some passes were decoded.
