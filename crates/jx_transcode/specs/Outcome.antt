@@ -8,15 +8,15 @@ use Rattle.jx_io.specs.Device.{Meaning, joined, after_create, after_write, after
 use Rattle.jx_transcode.specs.declared.status.Status.{Status}
 use Rattle.jx_transcode.specs.declared.status.Status.TheVariants as status
 use Rattle.jx_cli.specs.Words.{Text, Request}
-use Rattle.jx_transcode.specs.declared.status.TapeEntry.{TapeEntry}
-use Rattle.jx_transcode.specs.Tapes.{IsRunTape}
+use Rattle.jx_rounds.specs.declared.tape.TapeEntry.{TapeEntry}
+use Rattle.jx_transcode.specs.RunTapes.{IsRunTape}
 use Rattle.jx_transcode.specs.Rewritten.{HasBlocks, IsBad, IsCut, IsCutByBlock, IsFrontOf, IsKept, IsRewritten, IsTooLong, IsUnplanned}
 use Rattle.jx_plan.specs.declared.faults.PlanFault.{PlanFault}
 use Rattle.jx_plan.specs.declared.faults.PlanFault.TheVariants as unplanned
 use Rattle.jx_layers.specs.declared.StreamFacts.{StreamFacts}
 use Rattle.jx_layers.specs.Rule.{Rule}
 use Rattle.jx_transcode.specs.Aims.{Aim}
-use Rattle.jx_transcode.specs.Progress.{HasWritten}
+use Rattle.jx_rounds.specs.Progress.{HasWritten}
 use Rattle.jx_transcode.specs.Judged.{Violates, Passes}
 
 -- the most bytes that an input may have

@@ -1,5 +1,5 @@
 use Rattle.std.proofs.Common.{rules, ◌≡◌, ◌∙◌, ◌+◌}
-use Rattle.jx_transcode.proofs.WriteLemmas.{eoc_cut, refused_cause, uncounted, whole_unfinished, whole_written}
+use Rattle.jx_rounds.proofs.WriteLemmas.{eoc_cut, refused_cause, uncounted, whole_unfinished, whole_written}
 use Rattle.jx_transcode.proofs.file.write_end.Goals as goal
 
 pub returns-in_default-clause-err : goal.returns-in_default-clause-err

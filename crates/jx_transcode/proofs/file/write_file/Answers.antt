@@ -1,5 +1,5 @@
-use Rattle.jx_transcode.proofs.TapedLemmas.{tape_none}
-use Rattle.jx_transcode.proofs.WriteLemmas.{nothing_begun}
+use Rattle.jx_rounds.proofs.TapedLemmas.{tape_none}
+use Rattle.jx_transcode.proofs.FileLemmas.{nothing_begun}
 use Rattle.jx_transcode.proofs.file.write_file.Goals as goal
 
 pub returns-in_default-clause-err : goal.returns-in_default-clause-err

@@ -1,6 +1,7 @@
 use Rattle.std.proofs.lemmas.Result.{IfErr-weaker, IfOk-weaker}
-use Rattle.jx_transcode.proofs.TapedLemmas.{tape_none}
-use Rattle.jx_transcode.proofs.WriteLemmas.{file_halted, file_made, file_uncreated, halt_fault, nothing_begun, refused_cause, unrisen}
+use Rattle.jx_rounds.proofs.TapedLemmas.{tape_none}
+use Rattle.jx_transcode.proofs.FileLemmas.{file_halted, file_made, file_uncreated, nothing_begun}
+use Rattle.jx_rounds.proofs.WriteLemmas.{halt_fault, refused_cause, unrisen}
 use Rattle.jx_transcode.proofs.file.write_new.Goals as goal
 
 pub returns-in_default-clause-err : goal.returns-in_default-clause-err
