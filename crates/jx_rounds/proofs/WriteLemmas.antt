@@ -1,24 +1,23 @@
 -- What has been written of a file, step by step.
-use Rattle.std.proofs.Common.{◌≡◌, ◌∙◌, ◌<◌, ◌≤◌, ◌+◌, ℕ, List, [], ◌∷◌, ◌++◌, length, refl, ap, sym, subst, arith, inl, inr, append_assoc, append-nil, length-append, Ok, Err, IsErrOf}
+use Rattle.std.proofs.Common.{◌≡◌, ◌∙◌, ◌<◌, ◌≤◌, ◌+◌, ℕ, List, Option, [], ◌∷◌, ◌++◌, length, refl, ap, sym, subst, arith, inl, inr, append_assoc, append-nil, length-append, Ok, Err, IsErrOf}
 use Rattle.std.specs.List.{concat}
 use Rattle.std.proofs.lemmas.Bool.{cases_lt}
 use Rattle.jx_marker.specs.Codes.{EOC}
 use Rattle.jx_marker.specs.Segments.{spelling}
 use Rattle.jx_marker.specs.declared.Segment.TheVariants as segment
 use Rattle.jx_io.specs.Causes.{HasCause, Rose}
-use Rattle.jx_io.specs.Device.{Meaning, after_finish, after_write}
 use Rattle.jx_io.specs.declared.refused.Refused.{Refused}
 use Rattle.jx_io.specs.declared.refused.Refused.TheVariants as refused
 use Rattle.jx_codestream.specs.First.{tile_number}
 use Rattle.jx_plan.specs.Plan.{Plan, headers_of}
 use Rattle.jx_tier2_writer.specs.Tile.{main_bytes}
 use Rattle.jx_rounds.specs.Halts.{halt_of}
-use Rattle.jx_rounds.specs.Progress.{SomeFront}
+use Rattle.jx_rounds.specs.Taken.{SomeFront, followed_by}
 use Rattle.jx_rounds.specs.Rounds.{BeginsRound, EndsRound, HasFront, HasRounds, HasWhole, IsCutAfter, IsFault, IsHalted, IsHaltedByFault, IsHaltedTile, IsPlace, IsShortFront, IsSpoiledAfter, IsUnmade, IsUnwritten, IsWholeFile, LeadOn, LeadsBy}
 use Rattle.jx_rounds.specs.declared.halt.Halt.{Halt}
 use Rattle.jx_rounds.specs.declared.halt.Halt.TheVariants as halt
 use Rattle.jx_rounds.proofs.FrontLemmas.{front_none, round_none}
-use Rattle.jx_rounds.proofs.ProgressLemmas.{all_front, both_written, front_of_later, no_front, nothing_written}
+use Rattle.jx_rounds.proofs.TakenLemmas.{all_front, both_written, front_of_later, no_front, nothing_written}
 
 -- ---- leading on
 leads_none : (p : Plan) (t : ℕ) → LeadsBy p t t []
@@ -28,16 +27,16 @@ leads_then : (p : Plan) (a b c : ℕ) (more later : List ℕ) → LeadsBy p a b 
 leads_then p a b c more later first next bytes front = subst (IsShortFront p c) (append_assoc bytes more later) (next (bytes ++ more) (first bytes front))
 
 -- ---- one round
-pub cut_none : (p : Plan) (start : ℕ) (m : Meaning) → start < tile_number p.stream.siz → BeginsRound p start → IsCutAfter p start m m
-cut_none p start m inside begins = record { more = []; next = start; lead = leads_none p start; inside = omega arith; ends = inl begins; some = no_front m [] }
+pub cut_none : (p : Plan) (start : ℕ) (w : Option (List ℕ)) → start < tile_number p.stream.siz → BeginsRound p start → IsCutAfter p start w w
+cut_none p start w inside begins = record { more = []; next = start; lead = leads_none p start; inside = omega arith; ends = inl begins; some = no_front w [] }
 
-pub unmade_unwritten : (p : Plan) (start : ℕ) (h : Halt) (m : Meaning) → start < tile_number p.stream.siz → BeginsRound p start → IsUnmade p start h → IsUnwritten p start h m m
-unmade_unwritten p start (halt.Bad tile number) m inside begins spoiled = record { more = []; from = start; lead = leads_none p start; meaning = nothing_written m; spoiled = spoiled }
-unmade_unwritten p start (halt.TooLong tile) m inside begins spoiled = record { more = []; from = start; lead = leads_none p start; meaning = nothing_written m; spoiled = spoiled }
-unmade_unwritten p start halt.Failed m inside begins never = absurd never
-unmade_unwritten p start halt.NoMemory m inside begins free = cut_none p start m inside begins
+pub unmade_unwritten : (p : Plan) (start : ℕ) (h : Halt) (w : Option (List ℕ)) → start < tile_number p.stream.siz → BeginsRound p start → IsUnmade p start h → IsUnwritten p start h w w
+unmade_unwritten p start (halt.Bad tile number) w inside begins spoiled = record { more = []; from = start; lead = leads_none p start; written = nothing_written w; spoiled = spoiled }
+unmade_unwritten p start (halt.TooLong tile) w inside begins spoiled = record { more = []; from = start; lead = leads_none p start; written = nothing_written w; spoiled = spoiled }
+unmade_unwritten p start halt.Failed w inside begins never = absurd never
+unmade_unwritten p start halt.NoMemory w inside begins free = cut_none p start w inside begins
 
-pub cut_round : (p : Plan) (start next block : ℕ) (pieces : List (List ℕ)) (h : Halt) (old new : Meaning) → IsPlace p next block → EndsRound p next → LeadOn p start next pieces
+pub cut_round : (p : Plan) (start next block : ℕ) (pieces : List (List ℕ)) (h : Halt) (old new : Option (List ℕ)) → IsPlace p next block → EndsRound p next → LeadOn p start next pieces
     → IsFault h → SomeFront old new (concat pieces) → IsUnwritten p start h old new
 cut_round p start next block pieces (halt.Bad tile number) old new place ends lead never some = absurd never
 cut_round p start next block pieces (halt.TooLong tile) old new place ends lead never some = absurd never
@@ -46,38 +45,38 @@ cut_round p start next block pieces halt.Failed old new place ends lead fault so
 cut_round p start next block pieces halt.NoMemory old new place ends lead fault some =
     record { more = concat pieces; next = next; lead = lead; inside = place.inside; ends = ends; some = some }
 
-pub round_written : (p : Plan) (start next before count : ℕ) (pieces : List (List ℕ)) (old new : Meaning) → LeadOn p start next pieces → new ≡ after_write (concat pieces) old
+pub round_written : (p : Plan) (start next before count : ℕ) (pieces : List (List ℕ)) (old new : Option (List ℕ)) → LeadOn p start next pieces → new ≡ followed_by (concat pieces) old
     → count ≡ before + length (concat pieces) → HasRounds p start next before count old new
-round_written p start next before count pieces old new lead wrote counted = record { more = concat pieces; lead = lead; meaning = wrote; count_is = counted }
+round_written p start next before count pieces old new lead wrote counted = record { more = concat pieces; lead = lead; written = wrote; count_is = counted }
 
 -- ---- rounds, one after another
-pub rounds_none : (p : Plan) (header : ℕ) (m : Meaning) → HasRounds p 0 0 header header m m
-rounds_none p header m = record { more = []; lead = leads_none p 0; meaning = nothing_written m; count_is = omega arith }
+pub rounds_none : (p : Plan) (header : ℕ) (w : Option (List ℕ)) → HasRounds p 0 0 header header w w
+rounds_none p header w = record { more = []; lead = leads_none p 0; written = nothing_written w; count_is = omega arith }
 
-pub rounds_then : (p : Plan) (a b c n k l : ℕ) (old now new : Meaning) → HasRounds p a b n k old now → HasRounds p b c k l now new → HasRounds p a c n l old new
+pub rounds_then : (p : Plan) (a b c n k l : ℕ) (old now new : Option (List ℕ)) → HasRounds p a b n k old now → HasRounds p b c k l now new → HasRounds p a c n l old new
 rounds_then p a b c n k l old now new first later = record {
   more = first.more ++ later.more;
   lead = leads_then p a b c first.more later.more first.lead later.lead;
-  meaning = both_written old now new (first.more ++ later.more) first.more later.more refl first.meaning later.meaning;
+  written = both_written old now new (first.more ++ later.more) first.more later.more refl first.written later.written;
   count_is = omega (arith, first.count_is, later.count_is, length-append first.more later.more);
 }
 
-pub rounds_all : (p : Plan) (tile tiles block n k : ℕ) (old new : Meaning) → IsPlace p tile block → tiles ≡ tile_number p.stream.siz → tiles ≤ tile → HasRounds p 0 tile n k old new
+pub rounds_all : (p : Plan) (tile tiles block n k : ℕ) (old new : Option (List ℕ)) → IsPlace p tile block → tiles ≡ tile_number p.stream.siz → tiles ≤ tile → HasRounds p 0 tile n k old new
     → HasRounds p 0 (tile_number p.stream.siz) n k old new
 rounds_all p tile tiles block n k old new place is all rounds =
     let same : tile ≡ tile_number p.stream.siz = omega (arith, place.inside, is, all) in
     subst (λ (t : ℕ). HasRounds p 0 t n k old new) same rounds
 
-spoiled_after : (p : Plan) (mid n k : ℕ) (h : Halt) (tile : ℕ) (old now new : Meaning) → HasRounds p 0 mid n k old now → IsSpoiledAfter p mid h tile now new → IsSpoiledAfter p 0 h tile old new
+spoiled_after : (p : Plan) (mid n k : ℕ) (h : Halt) (tile : ℕ) (old now new : Option (List ℕ)) → HasRounds p 0 mid n k old now → IsSpoiledAfter p mid h tile now new → IsSpoiledAfter p 0 h tile old new
 spoiled_after p mid n k h tile old now new first later = record {
   more = first.more ++ later.more;
   from = later.from;
   lead = leads_then p 0 mid later.from first.more later.more first.lead later.lead;
-  meaning = both_written old now new (first.more ++ later.more) first.more later.more refl first.meaning later.meaning;
+  written = both_written old now new (first.more ++ later.more) first.more later.more refl first.written later.written;
   spoiled = later.spoiled;
 }
 
-pub unwritten_after : (p : Plan) (mid n k : ℕ) (h : Halt) (old now new : Meaning) → HasRounds p 0 mid n k old now → IsUnwritten p mid h now new → IsUnwritten p 0 h old new
+pub unwritten_after : (p : Plan) (mid n k : ℕ) (h : Halt) (old now new : Option (List ℕ)) → HasRounds p 0 mid n k old now → IsUnwritten p mid h now new → IsUnwritten p 0 h old new
 unwritten_after p mid n k (halt.Bad tile number) old now new first later = spoiled_after p mid n k (halt.Bad tile number) tile old now new first later
 unwritten_after p mid n k (halt.TooLong tile) old now new first later = spoiled_after p mid n k (halt.TooLong tile) tile old now new first later
 unwritten_after p mid n k halt.Failed old now new first later = record {
@@ -86,7 +85,7 @@ unwritten_after p mid n k halt.Failed old now new first later = record {
   lead = leads_then p 0 mid later.next first.more later.more first.lead later.lead;
   inside = later.inside;
   ends = later.ends;
-  some = front_of_later old now new (first.more ++ later.more) first.more later.more refl first.meaning later.some;
+  some = front_of_later old now new (first.more ++ later.more) first.more later.more refl first.written later.some;
 }
 unwritten_after p mid n k halt.NoMemory old now new first later = record {
   more = first.more ++ later.more;
@@ -94,7 +93,7 @@ unwritten_after p mid n k halt.NoMemory old now new first later = record {
   lead = leads_then p 0 mid later.next first.more later.more first.lead later.lead;
   inside = later.inside;
   ends = later.ends;
-  some = front_of_later old now new (first.more ++ later.more) first.more later.more refl first.meaning later.some;
+  some = front_of_later old now new (first.more ++ later.more) first.more later.more refl first.written later.some;
 }
 
 pub begins_at : (p : Plan) (tile : ℕ) → EndsRound p tile → tile < tile_number p.stream.siz → BeginsRound p tile
@@ -111,7 +110,7 @@ first_ends p = inl (round_none p)
 header_front : (p : Plan) (header : List ℕ) → header ≡ main_bytes (headers_of p) → IsShortFront p 0 header
 header_front p header is = subst (IsShortFront p 0) (sym is) (front_none p)
 
-pub header_cut : (p : Plan) (header : List ℕ) (h : Halt) (old new : Meaning) → header ≡ main_bytes (headers_of p) → IsFault h → SomeFront old new header → IsHalted p h old new
+pub header_cut : (p : Plan) (header : List ℕ) (h : Halt) (old new : Option (List ℕ)) → header ≡ main_bytes (headers_of p) → IsFault h → SomeFront old new header → IsHalted p h old new
 header_cut p header (halt.Bad tile number) old new is never some = absurd never
 header_cut p header (halt.TooLong tile) old new is never some = absurd never
 header_cut p header halt.Failed old new is fault some =
@@ -119,23 +118,23 @@ header_cut p header halt.Failed old new is fault some =
 header_cut p header halt.NoMemory old new is fault some =
     record { bytes = header; of = inl (record { tiles = 0; inside = omega arith; front = header_front p header is; ends = first_ends p }); some = some }
 
-pub front_after : (p : Plan) (header : List ℕ) (tile bytes : ℕ) (old now new : Meaning) → header ≡ main_bytes (headers_of p) → now ≡ after_write header old
+pub front_after : (p : Plan) (header : List ℕ) (tile bytes : ℕ) (old now new : Option (List ℕ)) → header ≡ main_bytes (headers_of p) → now ≡ followed_by header old
     → HasRounds p 0 tile (length header) bytes now new → HasFront p tile bytes old new
 front_after p header tile bytes old now new is wrote rounds = record {
   bytes = header ++ rounds.more;
   front = rounds.lead header (header_front p header is);
-  meaning = both_written old now new (header ++ rounds.more) header rounds.more refl wrote rounds.meaning;
+  written = both_written old now new (header ++ rounds.more) header rounds.more refl wrote rounds.written;
   count_is = omega (arith, rounds.count_is, length-append header rounds.more);
 }
 
-cut_after_header : (p : Plan) (header : List ℕ) (old now new : Meaning) → header ≡ main_bytes (headers_of p) → now ≡ after_write header old → IsCutAfter p 0 now new → IsHaltedByFault p old new
+cut_after_header : (p : Plan) (header : List ℕ) (old now new : Option (List ℕ)) → header ≡ main_bytes (headers_of p) → now ≡ followed_by header old → IsCutAfter p 0 now new → IsHaltedByFault p old new
 cut_after_header p header old now new is wrote cut = record {
   bytes = header ++ cut.more;
   of = inl (record { tiles = cut.next; inside = cut.inside; front = cut.lead header (header_front p header is); ends = cut.ends });
   some = front_of_later old now new (header ++ cut.more) header cut.more refl wrote cut.some;
 }
 
-spoiled_after_header : (p : Plan) (header : List ℕ) (h : Halt) (tile : ℕ) (old now new : Meaning) → header ≡ main_bytes (headers_of p) → now ≡ after_write header old → IsSpoiledAfter p 0 h tile now new
+spoiled_after_header : (p : Plan) (header : List ℕ) (h : Halt) (tile : ℕ) (old now new : Option (List ℕ)) → header ≡ main_bytes (headers_of p) → now ≡ followed_by header old → IsSpoiledAfter p 0 h tile now new
     → IsHaltedTile p h tile old new
 spoiled_after_header p header h tile old now new is wrote after =
     let front : IsShortFront p after.from (header ++ after.more) = after.lead header (header_front p header is) in
@@ -150,55 +149,47 @@ spoiled_after_header p header h tile old now new is wrote after =
         round = after.spoiled.round;
         below = after.spoiled.below (header ++ after.more) front;
       };
-      meaning = both_written old now new (header ++ after.more) header after.more refl wrote after.meaning;
+      written = both_written old now new (header ++ after.more) header after.more refl wrote after.written;
     }
 
-pub halted_after : (p : Plan) (header : List ℕ) (h : Halt) (old now new : Meaning) → header ≡ main_bytes (headers_of p) → now ≡ after_write header old → IsUnwritten p 0 h now new → IsHalted p h old new
+pub halted_after : (p : Plan) (header : List ℕ) (h : Halt) (old now new : Option (List ℕ)) → header ≡ main_bytes (headers_of p) → now ≡ followed_by header old → IsUnwritten p 0 h now new → IsHalted p h old new
 halted_after p header (halt.Bad tile number) old now new is wrote after = spoiled_after_header p header (halt.Bad tile number) tile old now new is wrote after
 halted_after p header (halt.TooLong tile) old now new is wrote after = spoiled_after_header p header (halt.TooLong tile) tile old now new is wrote after
 halted_after p header halt.Failed old now new is wrote cut = cut_after_header p header old now new is wrote cut
 halted_after p header halt.NoMemory old now new is wrote cut = cut_after_header p header old now new is wrote cut
 
 -- ---- EOC
-whole_file : (p : Plan) (count : ℕ) (old now : Meaning) (front : HasFront p (tile_number p.stream.siz) count old now) → IsWholeFile p (front.bytes ++ spelling 1 segment.Eoc)
+whole_file : (p : Plan) (count : ℕ) (old now : Option (List ℕ)) (front : HasFront p (tile_number p.stream.siz) count old now) → IsWholeFile p (front.bytes ++ spelling 1 segment.Eoc)
 whole_file p count old now front = record { front = front.bytes; tiles = front.front; bytes_are = refl }
 
-pub uncounted : (p : Plan) (count : ℕ) (old now : Meaning) → HasFront p (tile_number p.stream.siz) count old now → IsHaltedByFault p old now
+pub uncounted : (p : Plan) (count : ℕ) (old now : Option (List ℕ)) → HasFront p (tile_number p.stream.siz) count old now → IsHaltedByFault p old now
 uncounted p count old now front = record {
   bytes = front.bytes;
   of = inl (record { tiles = tile_number p.stream.siz; inside = omega arith; front = front.front; ends = inr refl });
-  some = all_front old now front.bytes front.meaning;
+  some = all_front old now front.bytes front.written;
 }
 
-eoc_begun : (p : Plan) (count : ℕ) (old now new : Meaning) → HasFront p (tile_number p.stream.siz) count old now → SomeFront now new (0xFF ∷ EOC ∷ []) → IsHaltedByFault p old new
+eoc_begun : (p : Plan) (count : ℕ) (old now new : Option (List ℕ)) → HasFront p (tile_number p.stream.siz) count old now → SomeFront now new (0xFF ∷ EOC ∷ []) → IsHaltedByFault p old new
 eoc_begun p count old now new front some = record {
   bytes = front.bytes ++ spelling 1 segment.Eoc;
   of = inr (whole_file p count old now front);
-  some = front_of_later old now new (front.bytes ++ spelling 1 segment.Eoc) front.bytes (spelling 1 segment.Eoc) refl front.meaning some;
+  some = front_of_later old now new (front.bytes ++ spelling 1 segment.Eoc) front.bytes (spelling 1 segment.Eoc) refl front.written some;
 }
 
-pub eoc_cut : (p : Plan) (count : ℕ) (h : Halt) (old now new : Meaning) → HasFront p (tile_number p.stream.siz) count old now → IsFault h → SomeFront now new (0xFF ∷ EOC ∷ []) → IsHalted p h old new
+pub eoc_cut : (p : Plan) (count : ℕ) (h : Halt) (old now new : Option (List ℕ)) → HasFront p (tile_number p.stream.siz) count old now → IsFault h → SomeFront now new (0xFF ∷ EOC ∷ []) → IsHalted p h old new
 eoc_cut p count (halt.Bad tile number) old now new front never some = absurd never
 eoc_cut p count (halt.TooLong tile) old now new front never some = absurd never
 eoc_cut p count halt.Failed old now new front fault some = eoc_begun p count old now new front some
 eoc_cut p count halt.NoMemory old now new front fault some = eoc_begun p count old now new front some
 
-pub whole_unfinished : (p : Plan) (count : ℕ) (h : Halt) (e : Refused) (old now new : Meaning) → HasFront p (tile_number p.stream.siz) count old now → h ≡ halt_of e → new ≡ after_write (0xFF ∷ EOC ∷ []) now
-    → IsHalted p h old new
-whole_unfinished p count h refused.Failed old now new front is wrote = rw is (eoc_begun p count old now new front (all_front now new (0xFF ∷ EOC ∷ []) wrote))
-whole_unfinished p count h refused.NoMemory old now new front is wrote = rw is (eoc_begun p count old now new front (all_front now new (0xFF ∷ EOC ∷ []) wrote))
-
-pub whole_written : (p : Plan) (before bytes : ℕ) (old now new done : Meaning) → HasFront p (tile_number p.stream.siz) before old now → bytes ≡ before + 2 → new ≡ after_write (0xFF ∷ EOC ∷ []) now
-    → done ≡ after_finish new → HasWhole p bytes old done
-whole_written p before bytes old now new done front counted wrote finished =
-    let all : new ≡ after_write (front.bytes ++ spelling 1 segment.Eoc) old =
-    both_written old now new (front.bytes ++ spelling 1 segment.Eoc) front.bytes (spelling 1 segment.Eoc) refl front.meaning wrote in
-    record {
-      bytes = front.bytes ++ spelling 1 segment.Eoc;
-      whole = whole_file p before old now front;
-      meaning = finished ∙ ap after_finish all;
-      count_is = omega (arith, counted, front.count_is, length-append front.bytes (spelling 1 segment.Eoc));
-    }
+pub whole_written : (p : Plan) (before bytes : ℕ) (old now new : Option (List ℕ)) → HasFront p (tile_number p.stream.siz) before old now → bytes ≡ before + 2 → new ≡ followed_by (0xFF ∷ EOC ∷ []) now
+    → HasWhole p bytes old new
+whole_written p before bytes old now new front counted wrote = record {
+  bytes = front.bytes ++ spelling 1 segment.Eoc;
+  whole = whole_file p before old now front;
+  written = both_written old now new (front.bytes ++ spelling 1 segment.Eoc) front.bytes (spelling 1 segment.Eoc) refl front.written wrote;
+  count_is = omega (arith, counted, front.count_is, length-append front.bytes (spelling 1 segment.Eoc));
+}
 
 -- ---- a call that was refused
 pub halt_fault : (h : Halt) (e : Refused) → h ≡ halt_of e → IsFault h

@@ -1,5 +1,6 @@
 pub mod Tiles
-pub mod Progress
+pub mod Taken
+pub mod FileBytes
 pub mod Tapes
 pub mod Halts
 pub mod Rounds

@@ -1,5 +1,5 @@
 -- What has been written of a plan, tile by tile: the main header, and the tile-parts of the first tiles; and where a round ends.
-use Rattle.std.specs.Prelude.{◌≡◌, ◌⊎◌, ◌<◌, ◌≤◌, ◌+◌, ◌-◌, ◌^◌, ℕ, List, ◌++◌, drop, length, map, take, if◌then◌else◌, ◌==◌}
+use Rattle.std.specs.Prelude.{◌≡◌, ◌⊎◌, ◌<◌, ◌≤◌, ◌+◌, ◌-◌, ◌^◌, ℕ, List, Option, ◌++◌, drop, length, map, take, if◌then◌else◌, ◌==◌}
 use Rattle.std.specs.List.{All, concat, flat_map}
 use Rattle.jx_base.specs.Joined.{joined}
 use Rattle.jx_base.specs.declared.pieces.Block.{Block}
@@ -11,7 +11,6 @@ use Rattle.jx_store.specs.Setup.{Within}
 use Rattle.jx_workers.specs.Tapes.{answer_of}
 use Rattle.jx_marker.specs.Segments.{spelling}
 use Rattle.jx_marker.specs.declared.Segment.TheVariants as segment
-use Rattle.jx_io.specs.Device.{Meaning, after_finish, after_write}
 use Rattle.jx_codeblock.specs.Written.{block_asked}
 use Rattle.jx_plan.specs.Plan.{Plan, headers_of}
 use Rattle.jx_cli.specs.Words.{Work}
@@ -21,7 +20,7 @@ use Rattle.jx_codestream.specs.Spells.{TilePart, part_bytes}
 use Rattle.jx_tier2_writer.specs.Ready.{AreShort}
 use Rattle.jx_tier2_writer.specs.Tile.{IsTooLong, blocks_in, first_block, main_bytes}
 use Rattle.jx_tier2_writer.specs.TileParts.{AreTilePartsOf}
-use Rattle.jx_rounds.specs.Progress.{SomeFront}
+use Rattle.jx_rounds.specs.Taken.{SomeFront, followed_by}
 use Rattle.jx_rounds.specs.Tiles.{IsRight, IsWrongAt, round_of}
 use Rattle.jx_rounds.specs.Tapes.{IsTapeOf, setup_of}
 use Rattle.jx_rounds.specs.declared.tape.TapeEntry.{TapeEntry}
@@ -98,10 +97,10 @@ pub record IsRoundFront (p : Plan) (bytes : List ℕ) : Type 0 where
   pub ends : EndsRound p tiles
 
 -- the front has been written that ends before a tile, of so many bytes
-pub record HasFront (p : Plan) (tile count : ℕ) (old new : Meaning) : Type 0 where
+pub record HasFront (p : Plan) (tile count : ℕ) (old new : Option (List ℕ)) : Type 0 where
   pub bytes : List ℕ
   pub front : IsShortFront p tile bytes
-  pub meaning : new ≡ after_write bytes old
+  pub written : new ≡ followed_by bytes old
   pub count_is : count ≡ length bytes
 
 -- all tiles and EOC
@@ -128,18 +127,18 @@ pub record IsHaltedAt (p : Plan) (why : Halt) (tile : ℕ) (bytes : List ℕ) : 
   pub below : (more : List ℕ) × IsShortFront p tile more
 
 -- why rounds aren't written, and what has been
-pub record IsHaltedTile (p : Plan) (why : Halt) (tile : ℕ) (old new : Meaning) : Type 0 where
+pub record IsHaltedTile (p : Plan) (why : Halt) (tile : ℕ) (old new : Option (List ℕ)) : Type 0 where
   pub bytes : List ℕ
   pub is : IsHaltedAt p why tile bytes
-  pub meaning : new ≡ after_write bytes old
+  pub written : new ≡ followed_by bytes old
 
 -- a front of whole rounds, or of the file
-pub record IsHaltedByFault (p : Plan) (old new : Meaning) : Type 0 where
+pub record IsHaltedByFault (p : Plan) (old new : Option (List ℕ)) : Type 0 where
   pub bytes : List ℕ
   pub of : IsRoundFront p bytes ⊎ IsWholeFile p bytes
   pub some : SomeFront old new bytes
 
-abbrev pub IsHalted : Plan → Halt → Meaning → Meaning → Type 0
+abbrev pub IsHalted : Plan → Halt → Option (List ℕ) → Option (List ℕ) → Type 0
 IsHalted p (halt.Bad tile number) old new = IsHaltedTile p (halt.Bad tile number) tile old new
 IsHalted p (halt.TooLong tile) old new = IsHaltedTile p (halt.TooLong tile) tile old new
 IsHalted p halt.Failed old new = IsHaltedByFault p old new
@@ -171,22 +170,22 @@ abbrev pub LeadsBy : Plan → ℕ → ℕ → List ℕ → Type 0
 LeadsBy p tile next more = (bytes : List ℕ) → IsShortFront p tile bytes → IsShortFront p next (bytes ++ more)
 
 -- the tiles from one on below another have been written, after so many bytes
-pub record HasRounds (p : Plan) (start tile before count : ℕ) (old new : Meaning) : Type 0 where
+pub record HasRounds (p : Plan) (start tile before count : ℕ) (old new : Option (List ℕ)) : Type 0 where
   pub more : List ℕ
   pub lead : LeadsBy p start tile more
-  pub meaning : new ≡ after_write more old
+  pub written : new ≡ followed_by more old
   pub count_is : count ≡ before + length more
 
 -- a tile isn't written, and the rounds before its own have been
-pub record IsSpoiledAfter (p : Plan) (start : ℕ) (why : Halt) (tile : ℕ) (old new : Meaning) : Type 0 where
+pub record IsSpoiledAfter (p : Plan) (start : ℕ) (why : Halt) (tile : ℕ) (old new : Option (List ℕ)) : Type 0 where
   pub more : List ℕ
   pub from : ℕ
   pub lead : LeadsBy p start from more
-  pub meaning : new ≡ after_write more old
+  pub written : new ≡ followed_by more old
   pub spoiled : IsSpoiledFrom p from why tile
 
 -- a front of some rounds has been written
-pub record IsCutAfter (p : Plan) (start : ℕ) (old new : Meaning) : Type 0 where
+pub record IsCutAfter (p : Plan) (start : ℕ) (old new : Option (List ℕ)) : Type 0 where
   pub more : List ℕ
   pub next : ℕ
   pub lead : LeadsBy p start next more
@@ -195,7 +194,7 @@ pub record IsCutAfter (p : Plan) (start : ℕ) (old new : Meaning) : Type 0 wher
   pub some : SomeFront old new more
 
 -- why rounds aren't written
-abbrev pub IsUnwritten : Plan → ℕ → Halt → Meaning → Meaning → Type 0
+abbrev pub IsUnwritten : Plan → ℕ → Halt → Option (List ℕ) → Option (List ℕ) → Type 0
 IsUnwritten p start (halt.Bad tile number) old new = IsSpoiledAfter p start (halt.Bad tile number) tile old new
 IsUnwritten p start (halt.TooLong tile) old new = IsSpoiledAfter p start (halt.TooLong tile) tile old new
 IsUnwritten p start halt.Failed old new = IsCutAfter p start old new
@@ -209,10 +208,10 @@ IsFault halt.Failed = Unit {0}
 IsFault halt.NoMemory = Unit {0}
 
 -- the whole file has been written
-pub record HasWhole (p : Plan) (count : ℕ) (old new : Meaning) : Type 0 where
+pub record HasWhole (p : Plan) (count : ℕ) (old new : Option (List ℕ)) : Type 0 where
   pub bytes : List ℕ
   pub whole : IsWholeFile p bytes
-  pub meaning : new ≡ after_finish (after_write bytes old)
+  pub written : new ≡ followed_by bytes old
   pub count_is : count ≡ length bytes
 
 -- a front with one tile more

@@ -4,19 +4,22 @@
 
 mod buffer;
 mod crew;
+mod file_writer;
 mod halt;
 mod making;
-mod output;
+mod memory_writer;
 mod packed;
 mod rounds;
 mod tape;
 mod tile;
 mod write;
+mod writer;
 
-pub use buffer::{ENOUGH, put};
+pub use buffer::ENOUGH;
 pub use crew::Crew;
 pub use halt::{Halt, halt_of};
 pub use making::Making;
-pub use output::write_all;
+pub use memory_writer::MemoryWriter;
 pub use tape::TapeEntry;
-pub use write::write_rounds;
+pub use write::write_codestream;
+pub use writer::ByteWriter;

@@ -40,7 +40,7 @@ use Rattle.jx_transcode.specs.RunTapes.{IsRunTape}
 use Rattle.jx_rounds.specs.Tapes.{IsTapeOf}
 use Rattle.jx_cli.specs.Words.{Text, Work}
 use Rattle.jx_rounds.proofs.FrontLemmas.{at_most_short, comps_stay, tiles_stay}
-use Rattle.jx_rounds.proofs.ProgressLemmas.{all_front}
+use Rattle.jx_rounds.proofs.TakenLemmas.{all_front}
 use Rattle.jx_transcode.proofs.WrongLemmas.{all_right, right_or_wrong}
 
 -- ---- a plan was written, or its file halted

@@ -1,7 +1,7 @@
 mod DoneLemmas
 mod ReadLemmas
 mod SaidLemmas
-mod FileLemmas
+mod FiledLemmas
 mod AnswerLemmas
 mod RefusedLemmas
 mod OutcomeLemmas

@@ -4,7 +4,7 @@ use Rattle.std.specs.Option.{option_map}
 use Rattle.std.proofs.lemmas.List.{length-take-le, take-append-drop, take-take, take_all}
 use Rattle.std.proofs.Math.Seq.{take-append-add, take-append_seam, drop-nil}
 use Rattle.jx_io.specs.Device.{Meaning, Takes, after_read}
-use Rattle.jx_transcode.specs.Reading.{HasRead}
+use Rattle.jx_transcode.specs.Progress.{HasRead}
 
 -- ---- what was read, and what is left
 pub has_read_more : (old now : Option (List ℕ)) (bytes piece : List ℕ) (n : ℕ) → HasRead old now bytes

@@ -14,7 +14,7 @@ use Rattle.jx_transcode.specs.declared.status.Status.TheVariants as status
 use Rattle.jx_rounds.specs.declared.tape.TapeEntry.{TapeEntry}
 use Rattle.jx_transcode.proofs.MakeLemmas.{made_said, refused_ready}
 use Rattle.jx_transcode.proofs.OutcomeLemmas.{ends_said, ends_unread, unread_said}
-use Rattle.jx_transcode.proofs.FileLemmas.{untouched}
+use Rattle.jx_transcode.proofs.FiledLemmas.{untouched}
 
 -- words that are good for `transcode` aren't for `make`
 pub outcome_good : (words : List Text) (rule : List ℕ → StreamFacts → Option Rule) (s : Status) (blocks : ℕ) (entries : List TapeEntry) (old new : Meaning) (before now : Option (List ℕ))

@@ -4,7 +4,7 @@ pub mod RunTapes
 pub mod Outcome
 pub mod MakeRun
 pub mod Runs
-pub mod Reading
+pub mod Progress
 pub mod Judged
 pub mod Filed
 pub mod MadeVerdict

@@ -16,7 +16,7 @@ use Rattle.jx_plan.specs.declared.faults.PlanFault.TheVariants as unplanned
 use Rattle.jx_layers.specs.declared.StreamFacts.{StreamFacts}
 use Rattle.jx_layers.specs.Rule.{Rule}
 use Rattle.jx_transcode.specs.Aims.{Aim}
-use Rattle.jx_rounds.specs.Progress.{HasWritten}
+use Rattle.jx_transcode.specs.Progress.{HasWritten}
 use Rattle.jx_transcode.specs.Judged.{Violates, Passes}
 
 -- the most bytes that an input may have

@@ -3,7 +3,7 @@
 ghost use Rattle.std.specs.Prelude.{◌≡◌, ◌+◌, ◌<◌, ◌≤◌, ℕ, List, [], Option, Err, length, take, vec_len, IfOk, OnErr, OnOk, IfSome, IsTrue};
 ghost use Rattle.jx_io.specs.Causes.{HasCause};
 ghost use Rattle.jx_io.specs.Device.{Allows};
-ghost use Rattle.jx_transcode.specs.Reading.{HasRead, SameButLeft};
+ghost use Rattle.jx_transcode.specs.Progress.{HasRead, SameButLeft};
 ghost use Rattle.jx_rounds.specs.Progress.{SomeFront};
 
 use jx_io::{Files, Refused};

@@ -1,4 +1,4 @@
-use Rattle.jx_rounds.proofs.ProgressLemmas.{no_front}
+use Rattle.jx_rounds.proofs.TakenLemmas.{no_front}
 use Rattle.jx_rounds.proofs.buffer.put_piece.Goals as goal
 
 pub returns-in-Ok-clause-ok : goal.returns-in-Ok-clause-ok

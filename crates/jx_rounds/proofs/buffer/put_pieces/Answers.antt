@@ -1,14 +1,14 @@
 use Rattle.std.proofs.Common.{rules, ◌≤◌, ◌∙◌, [], length, refl, slice_index_or}
 use Rattle.std.proofs.lemmas.List.{drop_all}
-use Rattle.jx_rounds.proofs.PartLemmas.{making_stays, nothing_gone, piece_cut_off, piece_put, pieces_cut, pieces_put}
+use Rattle.jx_rounds.proofs.PartLemmas.{nothing_gone, piece_cut_off, piece_put, pieces_cut, pieces_put}
 use Rattle.jx_rounds.proofs.buffer.put_pieces.Goals as goal
 
 pub loop-piece-init : goal.loop-piece-init
-loop-piece-init g c = record { so_far = nothing_gone _ _ _ (rw c.requires.empty refl); making = c.requires.making; same = refl; other = refl }
+loop-piece-init g c = record { so_far = nothing_gone _ _ _ (rw c.requires.empty refl); may = c.requires.may; same = refl; other = refl }
 
 pub returns-in-Err-clause-front : goal.returns-in-Err-clause-front
 returns-in-Err-clause-front g c =
-    piece_cut_off _ (g.F.Files.meaning c.loop-piece.files) _ _ c.loop-piece.buffer.items _ _ _ c.loop-piece.invariant.so_far
+    piece_cut_off _ (g.W.ByteWriter.written c.loop-piece.writer) _ _ c.loop-piece.buffer.items _ _ _ c.loop-piece.invariant.so_far
     (pieces_cut (slice_index_or c.args.tile.now c.args.part []) c.loop-piece.piece (search rules)) c.in-Err.ensures.front
 
 pub returns-in-Err-clause-cause : goal.returns-in-Err-clause-cause
@@ -16,9 +16,9 @@ returns-in-Err-clause-cause g c = rw (← c.loop-piece.invariant.same) c.in-Err.
 
 pub loop-piece-preserved : goal.loop-piece-preserved
 loop-piece-preserved g c = record {
-  so_far = piece_put _ (g.F.Files.meaning c.loop-piece.files) _ _ c.loop-piece.buffer.items _ _ _ c.put_piece.new.buffer.items c.loop-piece.invariant.so_far
+  so_far = piece_put _ (g.W.ByteWriter.written c.loop-piece.writer) _ _ c.loop-piece.buffer.items _ _ _ c.put_piece.new.buffer.items c.loop-piece.invariant.so_far
       (pieces_cut (slice_index_or c.args.tile.now c.args.part []) c.loop-piece.piece (search rules)) c.in-Ok.ensures.ok;
-  making = making_stays (g.F.Files.meaning c.loop-piece.files) _ _ _ c.in-Ok.ensures.ok c.loop-piece.invariant.making;
+  may = rw c.put_piece.ensures.other c.loop-piece.invariant.may;
   same = c.in-Ok.ensures.same ∙ c.loop-piece.invariant.same;
   other = c.put_piece.ensures.other ∙ c.loop-piece.invariant.other;
 }

@@ -1,4 +1,4 @@
-use Rattle.jx_rounds.proofs.ProgressLemmas.{no_front}
+use Rattle.jx_rounds.proofs.TakenLemmas.{no_front}
 use Rattle.jx_rounds.proofs.write.put_round.Goals as goal
 
 pub returns-in_default-clause-front : goal.returns-in_default-clause-front

@@ -4,10 +4,10 @@ use Rattle.jx_rounds.proofs.WriteLemmas.{cut_none, cut_round, round_written, unm
 use Rattle.jx_rounds.proofs.write.write_round.Goals as goal
 
 pub returns-in_default-clause-err : goal.returns-in_default-clause-err
-returns-in_default-clause-err g c = cut_none c.args.making.now c.args.mark.tile (g.F.Files.meaning c.args.files.now) c.requires.tile c.requires.begins
+returns-in_default-clause-err g c = cut_none c.args.making.now c.args.mark.tile (g.W.ByteWriter.written c.args.writer.now) c.requires.tile c.requires.begins
 
 pub returns-in-Err-clause-err : goal.returns-in-Err-clause-err
-returns-in-Err-clause-err g c = unmade_unwritten c.args.making.now c.args.mark.tile c.in-Err.halt (g.F.Files.meaning c.args.files.now) c.requires.tile c.requires.begins c.in-Err.ensures.unmade
+returns-in-Err-clause-err g c = unmade_unwritten c.args.making.now c.args.mark.tile c.in-Err.halt (g.W.ByteWriter.written c.args.writer.now) c.requires.tile c.requires.begins c.in-Err.ensures.unmade
 
 pub returns-clause-ok : goal.returns-clause-ok
 returns-clause-ok g c = IfOk-weaker c.put_round.result _ _ (λ next is. rw is.0 (round_written c.args.making.now c.args.mark.tile c.in-Ok.round.extent.tile c.args.mark.bytes next.bytes (parts_of c.in-Ok-packed_tiles.tiles.items) _ _

@@ -5,12 +5,12 @@ use Rattle.jx_rounds.proofs.write.write_tiles.Goals as goal
 
 pub loop-mark-init : goal.loop-mark-init
 loop-mark-init g c = record {
-  rounds = rounds_none c.args.making.now c.args.header (g.F.Files.meaning c.args.files.now);
+  rounds = rounds_none c.args.making.now c.args.header (g.W.ByteWriter.written c.args.writer.now);
   place = first_place c.args.making.now;
   ends = first_ends c.args.making.now;
   tape = first_tape c.args.making.now c.args.crew.now.work c.args.tape.now.items c.requires.empty;
   buffer = c.requires.buffer;
-  making = c.requires.making;
+  may = c.requires.may;
   same = refl;
   other = refl;
 }
@@ -21,8 +21,8 @@ write_round-requires-clause-begins g c =
 
 pub returns-in-Err-clause-err : goal.returns-in-Err-clause-err
 returns-in-Err-clause-err g c =
-    unwritten_after c.args.making.now c.loop-mark.mark.tile c.args.header c.loop-mark.mark.bytes c.in-Err.halt (g.F.Files.meaning c.args.files.now) (g.F.Files.meaning c.loop-mark.files)
-    (g.F.Files.meaning c.write_round.new.files) c.loop-mark.invariant.rounds c.in-Err.ensures.err
+    unwritten_after c.args.making.now c.loop-mark.mark.tile c.args.header c.loop-mark.mark.bytes c.in-Err.halt (g.W.ByteWriter.written c.args.writer.now) (g.W.ByteWriter.written c.loop-mark.writer)
+    (g.W.ByteWriter.written c.write_round.new.writer) c.loop-mark.invariant.rounds c.in-Err.ensures.err
 
 pub returns-in-Err-clause-tape : goal.returns-in-Err-clause-tape
 returns-in-Err-clause-tape g c = rw c.in-Err.ensures.kept c.loop-mark.invariant.tape.of
@@ -32,20 +32,20 @@ returns-in-Err-clause-cause g c = λ failed. rw (← c.loop-mark.invariant.same)
 
 pub loop-mark-preserved : goal.loop-mark-preserved
 loop-mark-preserved g c = record {
-  rounds = rounds_then c.args.making.now 0 c.loop-mark.mark.tile c.in-Ok.next.tile c.args.header c.loop-mark.mark.bytes c.in-Ok.next.bytes (g.F.Files.meaning c.args.files.now) (g.F.Files.meaning c.loop-mark.files)
-      (g.F.Files.meaning c.write_round.new.files) c.loop-mark.invariant.rounds c.in-Ok.ensures.ok;
+  rounds = rounds_then c.args.making.now 0 c.loop-mark.mark.tile c.in-Ok.next.tile c.args.header c.loop-mark.mark.bytes c.in-Ok.next.bytes (g.W.ByteWriter.written c.args.writer.now) (g.W.ByteWriter.written c.loop-mark.writer)
+      (g.W.ByteWriter.written c.write_round.new.writer) c.loop-mark.invariant.rounds c.in-Ok.ensures.ok;
   place = c.in-Ok.ensures.place;
   ends = c.in-Ok.ensures.ends;
   tape = c.in-Ok.ensures.tape;
   buffer = c.in-Ok.ensures.buffer;
-  making = c.in-Ok.ensures.making;
+  may = rw c.write_round.ensures.other c.loop-mark.invariant.may;
   same = c.in-Ok.ensures.same ∙ c.loop-mark.invariant.same;
   other = c.write_round.ensures.other ∙ c.loop-mark.invariant.other;
 }
 
 pub returns-clause-ok : goal.returns-clause-ok
 returns-clause-ok g c =
-    rounds_all c.args.making.now c.loop-mark.mark.tile c.tile_count-tiles.result c.loop-mark.mark.block c.args.header c.loop-mark.mark.bytes (g.F.Files.meaning c.args.files.now) (g.F.Files.meaning c.loop-mark.files)
+    rounds_all c.args.making.now c.loop-mark.mark.tile c.tile_count-tiles.result c.loop-mark.mark.block c.args.header c.loop-mark.mark.bytes (g.W.ByteWriter.written c.args.writer.now) (g.W.ByteWriter.written c.loop-mark.writer)
     c.loop-mark.invariant.place c.tile_count-tiles.ensures.count (omega (arith, c.loop-mark-test.false)) c.loop-mark.invariant.rounds
 
 pub returns-clause-tape : goal.returns-clause-tape

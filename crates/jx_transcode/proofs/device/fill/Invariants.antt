@@ -1,6 +1,6 @@
 use Rattle.std.proofs.Common.{◌≡◌, ◌≤◌, ◌-◌, IsTrue, take, vec_len}
 use Rattle.jx_io.specs.Device.{Allows}
-use Rattle.jx_transcode.specs.Reading.{SameButLeft, HasRead}
+use Rattle.jx_transcode.specs.Progress.{SameButLeft, HasRead}
 use Rattle.jx_transcode.proofs.device.fill.Given as goal
 
 abbrev pub invariant-loop-filled : goal.invariant-loop-filled
