@@ -10,7 +10,7 @@ pub returns-in-Some-clause-front : goal.returns-in-Some-clause-front
 returns-in-Some-clause-front g c = rw c.in-Some.ensures at c.put.ensures.front
 
 pub write_out-requires : goal.write_out-requires
-write_out-requires g c = rw c.put_pieces.ensures.other c.requires.may
+write_out-requires g c = record { may = rw c.put_pieces.ensures.other c.requires.may }
 
 pub returns-clause-ok : goal.returns-clause-ok
 returns-clause-ok g c = on_ok_weaker c.write_out.result (λ wrote. part_put _ _ _ _ _ c.in-Ok.ensures.ok wrote) c.write_out.ensures.ok

@@ -3,7 +3,7 @@ use Rattle.std.proofs.lemmas.Result.{IfErr-weaker, IfOk-weaker, on_ok_weaker}
 use Rattle.jx_rounds.proofs.write.write_codestream.Goals as goal
 
 pub write_end-requires : goal.write_end-requires
-write_end-requires g c = rw c.write_rounds.ensures.other c.requires.may
+write_end-requires g c = record { may = rw c.write_rounds.ensures.other c.requires.may }
 
 pub returns-in-Ok-clause-ok : goal.returns-in-Ok-clause-ok
 returns-in-Ok-clause-ok g c = IfOk-weaker c.write_end.result _ _ (λ bytes whole. whole c.args.making.now (g.W.ByteWriter.written c.args.writer.now) c.in-Ok.ensures.ok) c.write_end.ensures.ok
