@@ -5,7 +5,7 @@ use Rattle.jx_layers.specs.declared.StreamFacts.{StreamFacts}
 use Rattle.jx_layers.specs.Rule.{Rule}
 use Rattle.jx_transcode.specs.declared.status.Status.{Status}
 use Rattle.jx_transcode.specs.declared.status.Status.TheVariants as status
-use Rattle.jx_transcode.specs.declared.status.TapeEntry.{TapeEntry}
+use Rattle.jx_rounds.specs.declared.tape.TapeEntry.{TapeEntry}
 use Rattle.jx_cli.specs.Words.{Text}
 use Rattle.jx_transcode.specs.Outcome.{number_of}
 use Rattle.jx_transcode.specs.Runs.{Outcome}

@@ -27,18 +27,20 @@ use Rattle.jx_tier2_writer.specs.TileParts.{AreTilePartsOf, IsOutput}
 use Rattle.jx_transcode.specs.Aims.{Aim, rule_in}
 use Rattle.jx_transcode.specs.Filed.{IsAnswered, IsFileBegun, IsFileHalted, IsFileMade, IsFileStopped, IsPlanAnswered, status_of}
 use Rattle.jx_transcode.specs.Outcome.{IsBegun, IsCutShort, IsStopped, IsVerdict, Leaves, most_bytes}
-use Rattle.jx_transcode.specs.Rewritten.{CanBePlanned, HasBlocks, IsBad, IsCut, IsCutByBlock, IsFront, IsFrontOf, IsKept, IsLong, IsRewritten, IsRight, IsSpoiled, Reads, Round, headers_of, next_round, round_of}
+use Rattle.jx_transcode.specs.Rewritten.{CanBePlanned, HasBlocks, IsBad, IsCut, IsCutByBlock, IsFront, IsFrontOf, IsKept, IsLong, IsRewritten, IsSpoiled, Reads, headers_of}
+use Rattle.jx_rounds.specs.Tiles.{IsRight, Round, next_round, round_of}
 use Rattle.jx_transcode.specs.Rewritten.{IsTooLong as IsTooLongAt}
-use Rattle.jx_transcode.specs.Rounds.{IsHaltedAt, IsRoundFront, IsShortFront, IsWholeFile, most_of_part}
-use Rattle.jx_transcode.specs.declared.halt.Halt.{Halt}
-use Rattle.jx_transcode.specs.declared.halt.Halt.TheVariants as halt
+use Rattle.jx_rounds.specs.Rounds.{IsHaltedAt, IsRoundFront, IsShortFront, IsWholeFile, most_of_part}
+use Rattle.jx_rounds.specs.declared.halt.Halt.{Halt}
+use Rattle.jx_rounds.specs.declared.halt.Halt.TheVariants as halt
 use Rattle.jx_transcode.specs.declared.status.Status.{Status}
 use Rattle.jx_transcode.specs.declared.status.Status.TheVariants as status
-use Rattle.jx_transcode.specs.declared.status.TapeEntry.{TapeEntry}
-use Rattle.jx_transcode.specs.Tapes.{IsRunTape, IsTapeOf}
+use Rattle.jx_rounds.specs.declared.tape.TapeEntry.{TapeEntry}
+use Rattle.jx_transcode.specs.RunTapes.{IsRunTape}
+use Rattle.jx_rounds.specs.Tapes.{IsTapeOf}
 use Rattle.jx_cli.specs.Words.{Text, Work}
-use Rattle.jx_transcode.proofs.FrontLemmas.{at_most_short, comps_stay, tiles_stay}
-use Rattle.jx_transcode.proofs.ProgressLemmas.{all_front}
+use Rattle.jx_rounds.proofs.FrontLemmas.{at_most_short, comps_stay, tiles_stay}
+use Rattle.jx_rounds.proofs.TakenLemmas.{all_front}
 use Rattle.jx_transcode.proofs.WrongLemmas.{all_right, right_or_wrong}
 
 -- ---- a plan was written, or its file halted

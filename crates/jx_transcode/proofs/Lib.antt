@@ -1,14 +1,7 @@
 mod DoneLemmas
-mod ProgressLemmas
 mod ReadLemmas
 mod SaidLemmas
-mod TileLemmas
-mod TapedLemmas
-mod FrontLemmas
-mod ExtentLemmas
-mod WriteLemmas
-mod PartLemmas
-mod PackedLemmas
+mod FiledLemmas
 mod AnswerLemmas
 mod RefusedLemmas
 mod OutcomeLemmas
@@ -16,7 +9,6 @@ mod OneVerdictLemmas
 mod ToldLemmas
 mod SomeVerdictLemmas
 mod StatusLemmas
-mod EntryLemmas
 mod WrongLemmas
 mod MakeLemmas
 pub mod RunLemmas

@@ -23,7 +23,8 @@ use Rattle.jx_transcode.specs.Aims.{Aim, MayBeAimed, rule_in}
 use Rattle.jx_transcode.specs.MadeVerdict.{HasNoRule}
 use Rattle.jx_transcode.specs.MakeRun.{aim_made, input_of, wanted_made}
 use Rattle.jx_transcode.specs.Outcome.{Verdict, most_bytes}
-use Rattle.jx_transcode.specs.Rewritten.{IsBad, IsTooLong, IsUnplanned, IsWrongBlock, Reads}
+use Rattle.jx_transcode.specs.Rewritten.{IsBad, IsTooLong, IsUnplanned, Reads}
+use Rattle.jx_rounds.specs.Tiles.{IsWrongBlock}
 use Rattle.jx_transcode.specs.declared.status.Status.TheVariants as status
 use Rattle.jx_transcode.proofs.AcceptedLemmas.{AllAccepted}
 use Rattle.jx_transcode.proofs.OneVerdictLemmas.{Laws, reads_on}

@@ -15,7 +15,7 @@ use Rattle.jx_transcode.specs.MakeRun.{AreTold, EndsMade, IsLastMade, IsReadyToS
 use Rattle.jx_transcode.specs.Outcome.{EndsAs, IsCutShort, IsLimited, IsMade, Leaves, Says}
 use Rattle.jx_transcode.specs.declared.status.Status.{Status}
 use Rattle.jx_transcode.specs.declared.status.Status.TheVariants as status
-use Rattle.jx_transcode.specs.declared.status.TapeEntry.{TapeEntry}
+use Rattle.jx_rounds.specs.declared.tape.TapeEntry.{TapeEntry}
 use Rattle.jx_transcode.proofs.DoneLemmas.{IsOther, undone, unfailed}
 
 abbrev pub Rules : Type 0

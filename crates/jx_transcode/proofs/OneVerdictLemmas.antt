@@ -24,8 +24,9 @@ use Rattle.jx_transcode.specs.declared.status.Status.TheVariants as status
 use Rattle.jx_transcode.specs.Aims.{Aim, rule_in}
 use Rattle.jx_transcode.specs.Judged.{BreaksTiles}
 use Rattle.jx_transcode.specs.Outcome.{Verdict, most_bytes}
-use Rattle.jx_transcode.specs.Rewritten.{CanBePlanned, IsBad, IsLong, IsRewritten, IsRight, IsSpoiled, IsTooLong, IsUnplanned, IsWrongAt, Reads, headers_of}
-use Rattle.jx_transcode.proofs.FrontLemmas.{tiles_stay}
+use Rattle.jx_transcode.specs.Rewritten.{CanBePlanned, IsBad, IsLong, IsRewritten, IsSpoiled, IsTooLong, IsUnplanned, Reads, headers_of}
+use Rattle.jx_rounds.specs.Tiles.{IsRight, IsWrongAt}
+use Rattle.jx_rounds.proofs.FrontLemmas.{tiles_stay}
 use Rattle.jx_transcode.proofs.WrongLemmas.{one_wrong, right_in_all, right_or_wrong}
 
 -- what the laws of the crates below say

@@ -1,12 +1,40 @@
 -- A file that is read to where its bytes stay.
-use Rattle.std.proofs.Common.{◌≡◌, ◌<◌, ◌≤◌, ◌+◌, ◌∙◌, ◌++◌, ℕ, List, [], length, take, drop, Option, None, Some, Result, Ok, Err, ap, sym, subst, arith, IfOk, IfSome}
+use Rattle.std.proofs.Common.{◌≡◌, ◌<◌, ◌≤◌, ◌+◌, ◌∙◌, ◌++◌, ℕ, List, [], length, take, drop, Option, None, Some, Result, Ok, Err, ap, sym, subst, arith, append_assoc, append-nil, IfOk, IfSome, inl, inr}
 use Rattle.std.specs.Option.{option_map}
-use Rattle.std.proofs.lemmas.List.{length-take-le, take-take}
-use Rattle.std.proofs.Math.Seq.{take-append-add, drop-nil}
+use Rattle.std.proofs.lemmas.List.{length-take-le, take-append-drop, take-take, take_all}
+use Rattle.std.proofs.Math.Seq.{take-append-add, take-append_seam, drop-nil}
 use Rattle.jx_io.specs.Device.{Meaning, Takes, after_read}
 use Rattle.jx_transcode.specs.Progress.{HasRead}
-use Rattle.jx_transcode.proofs.ProgressLemmas.{has_read_more, takes_front, takes_none}
 
+-- ---- what was read, and what is left
+pub has_read_more : (old now : Option (List ℕ)) (bytes piece : List ℕ) (n : ℕ) → HasRead old now bytes
+    → IfSome now (λ rest. piece ≡ take n rest) → HasRead old (option_map (drop n) now) (bytes ++ piece)
+has_read_more old None bytes piece n so_far cut = so_far
+has_read_more old (Some rest) bytes piece n so_far cut =
+    so_far ∙ ap (λ (r : List ℕ). Some r) (rw (cut, append_assoc, take-append-drop) refl)
+
+-- all of it was read
+pub has_read_end : (old now : Option (List ℕ)) (bytes : List ℕ) (most : ℕ) → HasRead old now bytes → length bytes ≤ most
+    → IfSome now (λ rest. rest ≡ []) → IfSome old (λ left. bytes ≡ take most left)
+has_read_end old None bytes most so_far fits end = rw so_far tt
+has_read_end old (Some rest) bytes most so_far fits end = rw (so_far, end, append-nil) (sym (take_all most bytes fits))
+
+-- no more is asked for
+pub has_read_full : (old now : Option (List ℕ)) (bytes : List ℕ) (most : ℕ) → HasRead old now bytes → length bytes ≡ most → IfSome old (λ left. bytes ≡ take most left)
+has_read_full old None bytes most so_far full = rw so_far tt
+has_read_full old (Some rest) bytes most so_far full = rw (so_far, ← full, take-append_seam) refl
+
+-- where there was room and nothing came, nothing is left
+pub takes_none : (left : Option (List ℕ)) (n room : ℕ) (into : List ℕ) → IfSome left (λ l. Takes l n room into) → n ≡ 0 → 0 < room → IfSome left (λ rest. rest ≡ [])
+takes_none None n room into takes none some = tt
+takes_none (Some left) n room into takes none some = elim (takes.end none) [ inl no_room ↦ absurd (omega arith) | inr end ↦ end ]
+
+-- what was taken is a front of what is left
+pub takes_front : (left : Option (List ℕ)) (n room : ℕ) (into : List ℕ) → IfSome left (λ l. Takes l n room into) → IfSome left (λ l. take n into ≡ take n l)
+takes_front None n room into takes = tt
+takes_front (Some left) n room into takes = takes.bytes
+
+-- ---- to where it stays
 -- the filled bytes of a buffer, and some of those that were read behind them
 front_of_both : (before after piece : List ℕ) (filled n : ℕ) → filled ≤ length before → n ≤ length piece → take (filled + length piece) after ≡ take filled before ++ piece
     → take (filled + n) after ≡ take filled before ++ take n piece

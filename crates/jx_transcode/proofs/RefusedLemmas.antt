@@ -28,7 +28,7 @@ use Rattle.jx_transcode.specs.declared.status.Status.TheVariants as status
 use Rattle.jx_cli.specs.Words.{Text, Work}
 use Rattle.jx_transcode.proofs.DoneLemmas.{undone}
 use Rattle.jx_transcode.proofs.ToldLemmas.{stop_told}
-use Rattle.jx_transcode.proofs.WriteLemmas.{untouched}
+use Rattle.jx_transcode.proofs.FiledLemmas.{untouched}
 
 -- ---- nothing was made
 refused_short : (name : Text) (aim : Aim) (input : List ℕ) (mm : Meaning) → IsCutShort name aim input 0 mm mm

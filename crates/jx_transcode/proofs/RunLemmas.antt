@@ -11,10 +11,10 @@ use Rattle.jx_transcode.specs.Outcome.{Ends, EndsAs, EndsAtWords, line_of}
 use Rattle.jx_transcode.specs.Runs.{EndsBeside, Outcome}
 use Rattle.jx_transcode.specs.declared.status.Status.{Status}
 use Rattle.jx_transcode.specs.declared.status.Status.TheVariants as status
-use Rattle.jx_transcode.specs.declared.status.TapeEntry.{TapeEntry}
+use Rattle.jx_rounds.specs.declared.tape.TapeEntry.{TapeEntry}
 use Rattle.jx_transcode.proofs.MakeLemmas.{made_said, refused_ready}
 use Rattle.jx_transcode.proofs.OutcomeLemmas.{ends_said, ends_unread, unread_said}
-use Rattle.jx_transcode.proofs.WriteLemmas.{untouched}
+use Rattle.jx_transcode.proofs.FiledLemmas.{untouched}
 
 -- words that are good for `transcode` aren't for `make`
 pub outcome_good : (words : List Text) (rule : List ℕ → StreamFacts → Option Rule) (s : Status) (blocks : ℕ) (entries : List TapeEntry) (old new : Meaning) (before now : Option (List ℕ))

@@ -31,9 +31,10 @@ use Rattle.jx_transcode.specs.declared.status.Status.TheVariants as status
 use Rattle.jx_transcode.specs.Aims.{Aim, MayBeAimed, rule_in}
 use Rattle.jx_transcode.specs.Judged.{BreaksTiles}
 use Rattle.jx_transcode.specs.Outcome.{Verdict, most_bytes}
-use Rattle.jx_transcode.specs.Rewritten.{CanBePlanned, IsRight, IsSpoiled, Reads, headers_of}
+use Rattle.jx_transcode.specs.Rewritten.{CanBePlanned, IsSpoiled, Reads, headers_of}
+use Rattle.jx_rounds.specs.Tiles.{IsRight}
 use Rattle.jx_transcode.proofs.ToldLemmas.{stop_told}
-use Rattle.jx_transcode.proofs.FrontLemmas.{tiles_stay}
+use Rattle.jx_rounds.proofs.FrontLemmas.{tiles_stay}
 use Rattle.jx_transcode.proofs.WrongLemmas.{all_right, first_or_none, right_or_wrong, wrong_or_right}
 use Rattle.jx_transcode.proofs.MadeVerdictLemmas.{makes_layers}
 

@@ -3,8 +3,8 @@ use Rattle.std.proofs.Common.{◌≡◌, ◌∙◌, ℕ, List, Option, sym, subs
 use Rattle.jx_io.specs.Causes.{Rose}
 use Rattle.jx_transcode.specs.Filed.{status_of}
 use Rattle.jx_transcode.specs.Outcome.{EndsAs}
-use Rattle.jx_transcode.specs.declared.halt.Halt.{Halt}
-use Rattle.jx_transcode.specs.declared.halt.Halt.TheVariants as halt
+use Rattle.jx_rounds.specs.declared.halt.Halt.{Halt}
+use Rattle.jx_rounds.specs.declared.halt.Halt.TheVariants as halt
 use Rattle.jx_transcode.specs.declared.status.Status.{Status}
 use Rattle.jx_transcode.specs.declared.status.Status.TheVariants as status
 

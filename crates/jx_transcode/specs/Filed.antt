@@ -6,14 +6,15 @@ use Rattle.jx_plan.specs.declared.faults.PlanFault.{PlanFault}
 use Rattle.jx_plan.specs.declared.faults.PlanFault.TheVariants as unplanned
 use Rattle.jx_plan.specs.Plan.{IsPlan, Plan}
 use Rattle.jx_transcode.specs.Outcome.{IsBegun, IsCutShort, IsMade, IsStopped, IsVerdict, Leaves, Verdict}
-use Rattle.jx_transcode.specs.Rounds.{IsHaltedAt, IsRoundFront, IsWholeFile}
+use Rattle.jx_rounds.specs.Rounds.{IsHaltedAt, IsRoundFront, IsWholeFile}
 use Rattle.jx_cli.specs.Words.{Text}
 use Rattle.jx_cli.specs.Words.{Work}
-use Rattle.jx_transcode.specs.declared.status.TapeEntry.{TapeEntry}
+use Rattle.jx_rounds.specs.declared.tape.TapeEntry.{TapeEntry}
 use Rattle.jx_transcode.specs.Rewritten.{HasBlocks}
-use Rattle.jx_transcode.specs.Tapes.{IsRunTape, IsTapeOf}
-use Rattle.jx_transcode.specs.declared.halt.Halt.{Halt}
-use Rattle.jx_transcode.specs.declared.halt.Halt.TheVariants as halt
+use Rattle.jx_transcode.specs.RunTapes.{IsRunTape}
+use Rattle.jx_rounds.specs.Tapes.{IsTapeOf}
+use Rattle.jx_rounds.specs.declared.halt.Halt.{Halt}
+use Rattle.jx_rounds.specs.declared.halt.Halt.TheVariants as halt
 use Rattle.jx_transcode.specs.declared.status.Status.{Status}
 use Rattle.jx_transcode.specs.declared.status.Status.TheVariants as status
 use Rattle.jx_codestream.specs.declared.faults.StreamFault.{StreamFault}

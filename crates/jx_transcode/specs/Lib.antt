@@ -1,14 +1,10 @@
 pub mod Aims
 pub mod Rewritten
-pub mod Tapes
+pub mod RunTapes
 pub mod Outcome
 pub mod MakeRun
 pub mod Runs
 pub mod Progress
 pub mod Judged
-pub mod Rounds
-pub mod MadeRounds
 pub mod Filed
-pub mod Halts
 pub mod MadeVerdict
-pub mod PackedTiles

@@ -14,10 +14,10 @@ use Rattle.jx_cli.specs.Words.{Work}
 use Rattle.jx_transcode.specs.Aims.{Aim}
 use Rattle.jx_transcode.specs.Outcome.{IsLimited, IsVerdict, Says, Verdict, line_of}
 use Rattle.jx_transcode.specs.Rewritten.{HasBlocks, IsKept, IsRewritten}
-use Rattle.jx_transcode.specs.Tapes.{IsRunTape}
+use Rattle.jx_transcode.specs.RunTapes.{IsRunTape}
 use Rattle.jx_transcode.specs.declared.status.Status.{Status}
 use Rattle.jx_transcode.specs.declared.status.Status.TheVariants as status
-use Rattle.jx_transcode.specs.declared.status.TapeEntry.{TapeEntry}
+use Rattle.jx_rounds.specs.declared.tape.TapeEntry.{TapeEntry}
 
 -- what `--order rpcl --layers one --style bypass+segment --tile-parts r --plt` asks for (T.800, Tables A.16 and A.19)
 abbrev pub wanted_made : Wanted

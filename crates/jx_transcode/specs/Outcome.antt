@@ -8,8 +8,8 @@ use Rattle.jx_io.specs.Device.{Meaning, joined, after_create, after_write, after
 use Rattle.jx_transcode.specs.declared.status.Status.{Status}
 use Rattle.jx_transcode.specs.declared.status.Status.TheVariants as status
 use Rattle.jx_cli.specs.Words.{Text, Request}
-use Rattle.jx_transcode.specs.declared.status.TapeEntry.{TapeEntry}
-use Rattle.jx_transcode.specs.Tapes.{IsRunTape}
+use Rattle.jx_rounds.specs.declared.tape.TapeEntry.{TapeEntry}
+use Rattle.jx_transcode.specs.RunTapes.{IsRunTape}
 use Rattle.jx_transcode.specs.Rewritten.{HasBlocks, IsBad, IsCut, IsCutByBlock, IsFrontOf, IsKept, IsRewritten, IsTooLong, IsUnplanned}
 use Rattle.jx_plan.specs.declared.faults.PlanFault.{PlanFault}
 use Rattle.jx_plan.specs.declared.faults.PlanFault.TheVariants as unplanned

@@ -16,7 +16,3 @@ pub record HasWritten (old new : Meaning) (bytes rest : List ℕ) : Type 0 where
   pub front : List ℕ
   pub whole : bytes ≡ front ++ rest
   pub meaning : new ≡ after_write front old
-
--- the device has taken a front of these bytes
-abbrev pub SomeFront : Meaning → Meaning → List ℕ → Type 0
-SomeFront old new bytes = (rest : List ℕ) × HasWritten old new bytes rest

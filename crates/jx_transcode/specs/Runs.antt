@@ -8,7 +8,7 @@ use Rattle.jx_cli.specs.Words.{Text, is_good, request_of}
 use Rattle.jx_transcode.specs.MakeRun.{EndsMade}
 use Rattle.jx_transcode.specs.Outcome.{Ends, EndsAtWords}
 use Rattle.jx_transcode.specs.declared.status.Status.{Status}
-use Rattle.jx_transcode.specs.declared.status.TapeEntry.{TapeEntry}
+use Rattle.jx_rounds.specs.declared.tape.TapeEntry.{TapeEntry}
 
 -- how a run ends over words that aren't good for `transcode`
 pub record EndsBeside (words : List Text) (rule : List ℕ → StreamFacts → Option Rule) (s : Status) (blocks : ℕ) (entries : List TapeEntry) (old new : Meaning) (before now : Option (List ℕ)) : Type 0 where

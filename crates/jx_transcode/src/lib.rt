@@ -2,22 +2,16 @@
 //! bytes written, the line said and the status.
 #![tactic(auto)]
 
-mod buffer;
-mod crew;
 mod device;
 mod file;
-mod halt;
 pub mod laws;
 mod lines;
 mod make;
-mod making;
-mod packed;
 mod program;
 mod rewrite;
-mod rounds;
 mod say;
 mod status;
-mod tile;
 
+pub use jx_rounds::TapeEntry;
 pub use program::run;
-pub use status::{Report, Status, TapeEntry};
+pub use status::{Report, Status};

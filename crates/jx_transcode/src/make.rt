@@ -10,16 +10,16 @@ ghost use Rattle.jx_transcode.specs.MakeRun.{EndsMade, IsLastMade, IsReadyToSay,
 ghost use Rattle.jx_transcode.specs.Outcome.{EndsAs};
 ghost use Rattle.jx_transcode.specs.Runs.{EndsBeside};
 
-use crate::crew::Crew;
 use crate::lines::make_line;
 use crate::rewrite::answer;
 use crate::say::{refuse, say_line};
-use crate::{Report, Status, TapeEntry};
+use crate::{Report, Status};
 use jx_base::Style;
 use jx_cli::{Make, WordsFault, Work, read_make};
 use jx_io::{Files, Gate, Sink, SureFiles};
 use jx_layers::LayerPlanner;
 use jx_plan::{Options, OrderChoice, PartChoice, PrecinctChoice};
+use jx_rounds::{Crew, TapeEntry};
 use std::alloc::{AllocError, Global};
 use std::sync::Wait;
 use std::thread::Threads;

@@ -7,7 +7,6 @@ ghost use Rattle.jx_cli.specs.Words.{MayBeWork, is_good, request_of};
 ghost use Rattle.jx_transcode.specs.Outcome.{EndsAs, Ends, EndsFiles, IsUntouched, IsVerdict, line_of};
 ghost use Rattle.jx_transcode.specs.Runs.{Outcome};
 
-use crate::crew::Crew;
 use crate::device::{MOST, read_all};
 use crate::lines::line_of;
 use crate::make::run_beside;
@@ -19,6 +18,7 @@ use jx_cli::{Request, WordsFault, read_words};
 use jx_io::{Files, Gate, Refused, Sink};
 use jx_layers::LayerPlanner;
 use jx_plan::Options;
+use jx_rounds::Crew;
 use std::alloc::Global;
 use std::sync::Wait;
 use std::thread::Threads;

@@ -11,16 +11,15 @@ ghost use Rattle.jx_transcode.specs.Filed.{IsAnswered, IsPlanAnswered, blocks_to
 ghost use Rattle.jx_transcode.specs.Outcome.{most_bytes};
 ghost use Rattle.jx_transcode.specs.Rewritten.{Reads};
 
-use crate::crew::Crew;
 use crate::device::MOST;
 use crate::file::write_file;
-use crate::halt::Halt;
-use crate::{Status, TapeEntry};
+use crate::Status;
 use jx_codestream::{Stream, StreamFault, read_stream};
 use jx_io::{Files, Gate};
 use jx_layers::{LayerPlanner, shortened};
 use jx_plan::laws::{gathered_may_be_planned, plans_write_these_blocks};
 use jx_plan::{Options, OutStream, PlanFault, plan_served};
+use jx_rounds::{Crew, Halt, TapeEntry};
 use jx_tier2_reader::{Block, gather};
 use jx_tier2_writer::laws::{one_output, rewritten_is_read};
 use std::alloc::Global;

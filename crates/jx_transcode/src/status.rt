@@ -1,3 +1,7 @@
+//! How a run ended, and what it tells.
+
+use jx_rounds::TapeEntry;
+
 /// How a run ended.
 #[derive(Clone, Copy, Debug, PartialEq, Eq)]
 pub enum Status {
@@ -41,15 +45,6 @@ impl Status {
             Status::NoMemory => 9,
         }
     }
-}
-
-/// Which worker had a block, and the first block that wasn't in sequence when it was claimed. A block of a round in which none is coded
-/// anew was had by worker 0, alone.
-#[derive(Clone, Copy, Debug, PartialEq, Eq)]
-pub struct TapeEntry {
-    pub number: u32,
-    pub worker: u32,
-    pub seen: u32,
 }
 
 /// What a run tells its caller.

@@ -1,4 +1,5 @@
-//! Tests of whole runs of the transcoder, and of the sentences that are said of refusals, over public calls of jx_transcode and jx_messages.
+//! Tests of whole runs of the transcoder, and of the sentences that are said of refusals, over public calls of jx_transcode,
+//! jx_rounds and jx_messages.
 //! They show what the program can't: calls of a device that fail, what a report tells, gates and planners. What it can is in tests/tables.
 #![tactic(auto)]
 
@@ -24,3 +25,5 @@ mod runs;
 mod say_tests;
 #[cfg(test)]
 mod style_tests;
+#[cfg(test)]
+mod writer_tests;

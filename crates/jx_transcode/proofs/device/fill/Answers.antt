@@ -1,6 +1,6 @@
 use Rattle.std.proofs.Common.{rules, ◌+◌, ℕ, arith, take}
 use Rattle.std.proofs.lemmas.List.{length-take-le}
-use Rattle.jx_transcode.proofs.ProgressLemmas.{has_read_end, has_read_full}
+use Rattle.jx_transcode.proofs.ReadLemmas.{has_read_end, has_read_full}
 use Rattle.jx_transcode.proofs.device.fill.Goals as goal
 
 pub returns-then-count-eq0-clause-bytes : goal.returns-then-count-eq0-clause-bytes

@@ -1,6 +1,6 @@
 use Rattle.std.proofs.Common.{arith, refl, sym}
 use Rattle.jx_transcode.proofs.AnswerLemmas.{Laws, answered_by_plan}
-use Rattle.jx_transcode.proofs.FrontLemmas.{planned_few}
+use Rattle.jx_rounds.proofs.FrontLemmas.{planned_few}
 use Rattle.jx_transcode.proofs.RefusedLemmas.{answered_unplanned, plan_unread, plan_unwritten}
 use Rattle.jx_transcode.proofs.rewrite.write_blocks.Goals as goal
 

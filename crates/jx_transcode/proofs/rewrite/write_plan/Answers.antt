@@ -2,9 +2,9 @@ use Rattle.std.proofs.Common.{List, length, ap, arith}
 use Rattle.std.specs.Prelude.{Err}
 use Rattle.jx_codeblock.specs.declared.job.Job.{Job}
 use Rattle.jx_transcode.proofs.AnswerLemmas.{plan_halted, plan_written}
-use Rattle.jx_transcode.proofs.FrontLemmas.{jobs_few}
+use Rattle.jx_rounds.proofs.FrontLemmas.{jobs_few}
 use Rattle.jx_transcode.proofs.StatusLemmas.{done_unread, done_unwritten, halted_failed, halted_unread}
-use Rattle.jx_transcode.specs.declared.halt.Halt.{Halt}
+use Rattle.jx_rounds.specs.declared.halt.Halt.{Halt}
 use Rattle.jx_transcode.proofs.rewrite.write_plan.Goals as goal
 
 pub overflow_cast-blocks : goal.overflow_cast-blocks

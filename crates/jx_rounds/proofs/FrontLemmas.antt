@@ -1,0 +1,196 @@
+-- Fronts of a file, tile by tile, and the rounds in which they are written.
+use Rattle.std.proofs.Common.{◌≡◌, ◌∙◌, ◌<◌, ◌≤◌, ◌+◌, ◌^◌, nat_lt, ℕ, List, [], ◌∷◌, ◌++◌, length, map, refl, ap, sym, subst, arith, inl, inr, append_assoc, append-nil, add-one, Option, None, Some}
+use Rattle.std.specs.List.{concat, flat_map}
+use Rattle.std.proofs.lemmas.Bool.{cases_eq}
+use Rattle.std.proofs.lemmas.Bool.Decides.{nat_tests}
+use Rattle.std.proofs.lemmas.Grind.{flat_map-append}
+use Rattle.std.proofs.lemmas.List.Concat.{concat_is}
+use Rattle.std.proofs.lemmas.List.Elements.{All-cons, All-head, All-tail}
+use Rattle.std.proofs.lemmas.List.Folds.{concat-append, flat_map-map}
+use Rattle.jx_base.specs.Joined.{joined}
+use Rattle.jx_base.proofs.Joined.{joined_next, joined_none, joined_same}
+use Rattle.jx_base.proofs.Sums.{sum_below_more, sum_below_next}
+use Rattle.jx_base.specs.declared.pieces.Block.{Block}
+use Rattle.std.specs.Option.{option_or}
+use Rattle.jx_geom.specs.Numbering.{blocks_below}
+use Rattle.jx_tier2_reader.specs.Faults.{passed}
+use Rattle.jx_tier2_reader.specs.Totals.{block_total, packet_total, totals_fault}
+use Rattle.jx_codestream.specs.declared.faults.StreamFault.{StreamFault}
+use Rattle.jx_codestream.specs.declared.Stream.{Stream}
+use Rattle.jx_codestream.specs.First.{canvas_of, tile_number}
+use Rattle.jx_codestream.specs.Shapes.{shapes_of}
+use Rattle.jx_codestream.specs.Spells.{TilePart, part_bytes}
+use Rattle.jx_plan.specs.Headers.{stream_written}
+use Rattle.jx_plan.specs.Plan.{IsPlan, MayBePlanned, Plan, headers_of, headers_with}
+use Rattle.jx_plan.specs.Wanted.{Wanted, marks_of}
+use Rattle.jx_tier2_writer.specs.Ready.{AreShort}
+use Rattle.jx_tier2_writer.specs.Tile.{AreAtMost, IsTile, blocks_in, first_block, main_bytes}
+use Rattle.jx_tier2_writer.specs.TileParts.{AreTilePartsOf}
+use Rattle.jx_rounds.specs.MadeRounds.{parts_of}
+use Rattle.jx_rounds.specs.Rounds.{BeginsRound, IsInRound, IsRightTile, IsShortFront, IsSpoiledFrom, IsUnmade, IsUnmadeTile, LeadOn, blocks_of, most_of_part, with_parts}
+use Rattle.jx_rounds.specs.declared.halt.Halt.{Halt}
+use Rattle.jx_rounds.specs.declared.halt.Halt.TheVariants as halt
+
+-- ---- lengths of tile-parts
+pub short_at_most : (parts : List TilePart) → AreAtMost most_of_part parts → AreShort parts
+short_at_most [] each = tt
+short_at_most (p ∷ ps) each =
+    let here : p.sot.psot ≤ 4294967295 = All-head (λ (part : TilePart). part.sot.psot ≤ most_of_part) p ps each in
+    (omega (arith, here), short_at_most ps (All-tail (λ (part : TilePart). part.sot.psot ≤ most_of_part) p ps each))
+
+pub at_most_short : (parts : List TilePart) → AreShort parts → AreAtMost most_of_part parts
+at_most_short [] short = λ k d lt. absurd (omega (arith, lt))
+at_most_short (p ∷ ps) short =
+    let here : p.sot.psot < 4294967296 = short.0 in
+    All-cons (λ (part : TilePart). part.sot.psot ≤ most_of_part) p ps (omega (arith, here)) (at_most_short ps short.1)
+
+-- ---- a front, with one tile more
+own_parts : (parts : ℕ → List TilePart) (at : ℕ) (next : List TilePart) → with_parts parts at next at ≡ next
+own_parts parts at next = grind (arith, nat_tests)
+
+other_parts : (parts : ℕ → List TilePart) (at : ℕ) (next : List TilePart) (t : ℕ) → t < at → with_parts parts at next t ≡ parts t
+other_parts parts at next t h = grind (arith, nat_tests)
+
+pub front_none : (p : Plan) → IsShortFront p 0 (main_bytes (headers_of p))
+front_none p =
+    let none : joined {X = TilePart} (λ (t : ℕ). []) 0 0 ≡ [] = joined_none (λ (t : ℕ). []) 0 0 (omega arith) in
+    let bytes : List TilePart → List ℕ = flat_map (part_bytes (length p.stream.siz.comps)) in
+    record {
+      parts = λ t. [];
+      right = λ t h. absurd (omega (arith, h));
+      are = λ t h. absurd (omega (arith, h));
+      short = λ t h. absurd (omega (arith, h));
+      bytes_are = sym (ap (λ (ps : List TilePart). main_bytes (headers_of p) ++ bytes ps) none ∙ append-nil (main_bytes (headers_of p)));
+    }
+
+-- the bytes of tile-parts, joined
+parts_joined : (comps : ℕ) (parts : List TilePart) → concat (map (part_bytes comps) parts) ≡ flat_map (part_bytes comps) parts
+parts_joined comps parts = concat_is (map (part_bytes comps) parts) ∙ flat_map-map (λ (x : List ℕ). x) (part_bytes comps) parts
+
+front_with : (p : Plan) (t : ℕ) (bytes : List ℕ) (own : List TilePart) → IsShortFront p t bytes → IsRightTile p t → AreTilePartsOf (marks_of p.wanted) (headers_of p) (blocks_of p) t own → AreShort own
+    → IsShortFront p (t + 1) (bytes ++ flat_map (part_bytes (length p.stream.siz.comps)) own)
+front_with p t bytes own done right are short =
+    let parts : ℕ → List TilePart = with_parts done.parts t own in
+    let f : TilePart → List ℕ = part_bytes (length p.stream.siz.comps) in
+    let main : List ℕ = main_bytes (headers_of p) in
+    let front : joined parts 0 t ≡ joined done.parts 0 t = joined_same parts done.parts t (λ i h. other_parts done.parts t own i h) in
+    let last : parts t ≡ own = own_parts done.parts t own in
+    let all : joined parts 0 (t + 1) ≡ joined done.parts 0 t ++ own =
+    joined_next parts 0 t (omega arith) ∙ ap (λ (xs : List TilePart). xs ++ parts t) front ∙ ap (λ (xs : List TilePart). joined done.parts 0 t ++ xs) last in
+    record {
+      parts = parts;
+      right = λ i h. elim (cases_eq i t) [
+        | inl e ↦ subst (IsRightTile p) (sym e) right
+        | inr e ↦ done.right i (omega (arith, h, e))
+      ];
+      are = λ i h. elim (cases_eq i t) [
+        | inl e ↦ subst (λ (n : ℕ). AreTilePartsOf (marks_of p.wanted) (headers_of p) (blocks_of p) n (parts n)) (sym e) (subst (AreTilePartsOf (marks_of p.wanted) (headers_of p) (blocks_of p) t) (sym last) are)
+        | inr e ↦ subst (AreTilePartsOf (marks_of p.wanted) (headers_of p) (blocks_of p) i) (sym (other_parts done.parts t own i (omega (arith, h, e)))) (done.are i (omega (arith, h, e)))
+      ];
+      short = λ i h. elim (cases_eq i t) [
+        | inl e ↦ subst (λ (n : ℕ). AreShort (parts n)) (sym e) (subst AreShort (sym last) short)
+        | inr e ↦ subst AreShort (sym (other_parts done.parts t own i (omega (arith, h, e)))) (done.short i (omega (arith, h, e)))
+      ];
+      bytes_are = ap (λ (b : List ℕ). b ++ flat_map f own) done.bytes_are ∙ append_assoc main (flat_map f (joined done.parts 0 t)) (flat_map f own)
+          ∙ ap (λ (b : List ℕ). main ++ b) (sym (flat_map-append f (joined done.parts 0 t) own)) ∙ ap (λ (ps : List TilePart). main ++ flat_map f ps) (sym all);
+    }
+
+pub tile_leads : (p : Plan) (t : ℕ) (pieces : List (List ℕ)) → IsRightTile p t → IsTile p (blocks_of p) t most_of_part pieces → LeadOn p t (t + 1) pieces
+tile_leads p t pieces right tile bytes front =
+    let whole : concat pieces ≡ flat_map (part_bytes (length p.stream.siz.comps)) tile.parts = ap concat tile.bytes_are ∙ parts_joined (length p.stream.siz.comps) tile.parts in
+    subst (λ (more : List ℕ). IsShortFront p (t + 1) (bytes ++ more)) (sym whole) (front_with p t bytes tile.parts front right tile.are (short_at_most tile.parts tile.short))
+
+pub lead_none : (p : Plan) (t : ℕ) → LeadOn p t t []
+lead_none p t bytes front = subst (IsShortFront p t) (sym (append-nil bytes)) front
+
+lead_next : (p : Plan) (from t next : ℕ) (pieces more : List (List ℕ)) → LeadOn p from t pieces → LeadOn p t next more → LeadOn p from next (pieces ++ more)
+lead_next p from t next pieces more first later bytes front =
+    let both : bytes ++ concat (pieces ++ more) ≡ (bytes ++ concat pieces) ++ concat more =
+    ap (λ (b : List ℕ). bytes ++ b) (concat-append pieces more) ∙ sym (append_assoc bytes (concat pieces) (concat more)) in
+    subst (IsShortFront p next) (sym both) (later (bytes ++ concat pieces) (first bytes front))
+
+pub lead_tile : (p : Plan) (from t next : ℕ) (tiles : List (List (List (List ℕ)))) (tile : List (List (List ℕ))) (all : List (List (List (List ℕ)))) → all ≡ tiles ++ tile ∷ []
+    → LeadOn p from t (parts_of tiles) → LeadOn p t next (map concat tile) → LeadOn p from next (parts_of all)
+lead_tile p from t next tiles tile all is first later =
+    let both : parts_of all ≡ parts_of tiles ++ map concat tile =
+    ap parts_of is ∙ flat_map-append (map concat) tiles (tile ∷ []) ∙ ap (λ (parts : List (List ℕ)). parts_of tiles ++ parts) (append-nil (map concat tile)) in
+    subst (LeadOn p from next) (sym both) (lead_next p from t next (parts_of tiles) (map concat tile) first later)
+
+-- ---- rounds
+pub round_none : (p : Plan) → BeginsRound p 0
+round_none p = refl
+
+pub round_more : (p : Plan) (t start held : ℕ) → IsInRound p t start held → held + blocks_in p t < 4096 → IsInRound p (t + 1) start (held + blocks_in p t)
+round_more p t start held is few = rw (add-one, is) (grind (arith, nat_tests))
+
+pub round_full : (p : Plan) (t start held : ℕ) → IsInRound p t start held → 4096 ≤ held + blocks_in p t → BeginsRound p (t + 1)
+round_full p t start held is many = rw (add-one, is) (grind (arith, nat_tests))
+
+-- ---- numbers of blocks
+pub block_next : (p : Plan) (t block : ℕ) → block ≡ first_block p t → block + blocks_in p t ≡ first_block p (t + 1)
+block_next p t block is = omega (arith, is, sum_below_next (blocks_in p) t)
+
+-- all blocks are those of the tiles
+pub blocks_are : (s : Stream) → block_total s ≡ blocks_below (canvas_of s.siz) (shapes_of s) (tile_number s.siz)
+unfolding block_total
+blocks_are s = refl
+
+not_passed : (number found most : ℕ) → passed number found (nat_lt most found) ≡ None → found ≤ most
+not_passed number found most h = grind (arith, nat_tests)
+
+first_none : (first later : Option StreamFault) → option_or first later ≡ None → first ≡ None
+first_none None later h = refl
+first_none (Some f) later h = absurd (cc)
+
+totals_few : (s : Stream) → totals_fault s ≡ None → block_total s ≤ 2 ^ 20
+unfolding totals_fault
+totals_few s h =
+    not_passed 5 (block_total s) (2 ^ 20) (first_none (passed 5 (block_total s) (nat_lt (2 ^ 20) (block_total s))) (passed 6 (packet_total s) (nat_lt (2 ^ 22) (packet_total s))) h)
+
+pub block_few : (p : Plan) (t : ℕ) → IsPlan p → t < tile_number p.stream.siz → first_block p t + blocks_in p t ≤ 1048576
+block_few p t plan inside =
+    let few : block_total p.stream ≤ 1048576 = totals_few p.stream plan.may.totals in
+    omega (arith, sum_below_more (blocks_in p) t (tile_number p.stream.siz) inside, blocks_are p.stream, few)
+
+pub blocks_few : (p : Plan) (t : ℕ) → IsPlan p → t < tile_number p.stream.siz → first_block p t + blocks_in p t ≤ length p.jobs
+blocks_few p t plan inside =
+    omega (arith, sum_below_more (blocks_in p) t (tile_number p.stream.siz) inside, blocks_are p.stream, plan.all, plan.may.blocks_are.all)
+
+-- ---- a round that isn't made
+pub unmade_of : (p : Plan) (start at held : ℕ) (pieces : List (List ℕ)) (h : Halt) → at < tile_number p.stream.siz → IsInRound p at start held → LeadOn p start at pieces
+    → IsUnmadeTile p at h → IsUnmade p start h
+unmade_of p start at held pieces (halt.Bad tile number) inside round lead spoiled = subst (λ (n : ℕ). IsSpoiledFrom p start (halt.Bad n number) n) (sym spoiled.0) (record {
+  inside = inside;
+  spoiled = (refl, spoiled.1);
+  held = held;
+  round = round;
+  below = λ bytes front. (bytes ++ concat pieces, lead bytes front);
+})
+unmade_of p start at held pieces (halt.TooLong tile) inside round lead spoiled = subst (λ (n : ℕ). IsSpoiledFrom p start (halt.TooLong n) n) (sym spoiled.0) (record {
+  inside = inside;
+  spoiled = (refl, spoiled.1, spoiled.2);
+  held = held;
+  round = round;
+  below = λ bytes front. (bytes ++ concat pieces, lead bytes front);
+})
+unmade_of p start at held pieces halt.Failed inside round lead never = absurd never
+unmade_of p start at held pieces halt.NoMemory inside round lead free = tt
+
+-- ---- the headers that are written have the tiles and components of their stream
+pub tiles_stay : (w : Wanted) (layers : ℕ) (s : Stream) → tile_number (headers_with w layers s).siz ≡ tile_number s.siz
+unfolding stream_written
+tiles_stay w layers s = refl
+
+pub comps_stay : (w : Wanted) (layers : ℕ) (s : Stream) → length (headers_with w layers s).siz.comps ≡ length s.siz.comps
+unfolding stream_written
+comps_stay w layers s = refl
+
+pub jobs_few : (p : Plan) → IsPlan p → length p.jobs ≤ 1048576
+jobs_few p plan =
+    let few : block_total p.stream ≤ 1048576 = totals_few p.stream plan.may.totals in
+    omega (arith, few, plan.all, plan.may.blocks_are.all)
+
+pub planned_few : (s : Stream) (blocks : List Block) → MayBePlanned s blocks → length blocks ≤ 1048576
+planned_few s blocks may =
+    let few : block_total s ≤ 1048576 = totals_few s may.totals in
+    omega (arith, few, may.blocks_are.all)

@@ -1,0 +1,10 @@
+mod EntryLemmas
+mod ExtentLemmas
+pub mod FileLemmas
+pub mod FrontLemmas
+mod PackedLemmas
+mod PartLemmas
+pub mod TakenLemmas
+pub mod TapedLemmas
+mod TileLemmas
+pub mod WriteLemmas

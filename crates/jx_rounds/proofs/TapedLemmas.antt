@@ -1,0 +1,212 @@
+-- From what is made of the blocks of a round to the tape of a run.
+use Rattle.std.proofs.Common.{◌≡◌, ◌∙◌, ◌<◌, ◌≤◌, ◌+◌, ◌-◌, ◌^◌, ℕ, suc, true, is_some, List, [], ◌∷◌, ◌++◌, length, map, take, drop, refl, ap, sym, subst, arith, inl, inr, Some, append_assoc, append-nil, length-append, length-take, slice_index_or}
+use Rattle.std.specs.List.{All, list_any, slice_get, sum}
+use Rattle.std.proofs.lemmas.List.{drop_all, drop-drop, drop-map, drop-take, length-map, map-append, take-map, take-take}
+use Rattle.std.proofs.lemmas.List.Elements.{All-append, All-cons, All-map, All-nil}
+use Rattle.std.proofs.Math.Seq.{drop-cons}
+use Rattle.std.specs.Option.{option_map}
+use Rattle.std.proofs.lemmas.Option.{same_Some, slice_get-map, slice_get_cases, slice_get_within}
+use Rattle.std.proofs.lemmas.Simd.{map-map}
+use Rattle.jx_base.specs.declared.pieces.Block.{Block}
+use Rattle.jx_base.specs.Pieces.{bytes_in}
+use Rattle.jx_codeblock.specs.declared.job.Job.{Job}
+use Rattle.jx_codeblock.specs.Recoded.{WrittenBlock}
+use Rattle.jx_store.specs.declared.event.Taped.{Taped}
+use Rattle.jx_store.specs.declared.work.Named.{Named}
+use Rattle.jx_store.specs.Order.{numbers}
+use Rattle.jx_store.specs.Setup.{Within}
+use Rattle.jx_workers.specs.Tapes.{AreAsked, answer_of, bounds, size_of}
+use Rattle.jx_base.proofs.Lists.{all_at, all_from, same_gets}
+use Rattle.jx_codestream.specs.First.{tile_number}
+use Rattle.jx_tier2_writer.specs.Tile.{first_block}
+use Rattle.jx_plan.specs.Plan.{IsPlan, Plan}
+use Rattle.jx_cli.specs.Words.{MayBeWork, Work}
+use Rattle.jx_rounds.specs.MadeRounds.{AreMadeAlone, AreOfBlocks, AreUnshared, IsTapeFrom, TapesOn, entry_of}
+use Rattle.jx_rounds.specs.Rounds.{AreAnswers, HasTape, IsPlace}
+use Rattle.jx_rounds.specs.Tapes.{IsTapeOf, setup_of}
+use Rattle.jx_rounds.specs.declared.tape.TapeEntry.{TapeEntry}
+use Rattle.jx_rounds.proofs.FrontLemmas.{blocks_are}
+use Rattle.jx_rounds.proofs.TileLemmas.{get_drop, get_take}
+
+-- ---- numbers from one on: what the law of the store says of them
+pub record NumberLaws : Type 0 where
+  pub count : (a n : ℕ) → length (numbers a n) ≡ n
+  pub at : (a n i : ℕ) → i < n → slice_get (numbers a n) i ≡ Some (a + i)
+  pub more : (a n m : ℕ) → numbers a n ++ numbers (a + n) m ≡ numbers a (n + m)
+
+module _ (laws : NumberLaws) where
+  length_numbered : {X : Type 0} (f : X → ℕ) (xs : List X) (a n : ℕ) → map f xs ≡ numbers a n → length xs ≡ n
+  length_numbered f xs a n e = sym (length-map xs f) ∙ ap (λ (l : List ℕ). length l) e ∙ laws.count a n
+
+  number_at : {X : Type 0} (f : X → ℕ) (xs : List X) (a n i : ℕ) (x : X) → map f xs ≡ numbers a n → slice_get xs i ≡ Some x → f x ≡ a + i
+  number_at f xs a n i x e at =
+      let inside : i < n = omega (arith, slice_get_within xs i x at, length_numbered f xs a n e) in
+      same_Some (f x) (a + i) (sym (slice_get-map f xs i ∙ ap (option_map f) at) ∙ ap (λ (l : List ℕ). slice_get l i) e ∙ laws.at a n i inside)
+
+  numbered : {X : Type 0} (f : X → ℕ) (xs : List X) (a : ℕ) → ((i : ℕ) (x : X) → slice_get xs i ≡ Some x → f x ≡ a + i) → map f xs ≡ numbers a (length xs)
+  numbered f xs a each = same_gets (map f xs) (numbers a (length xs)) (length-map xs f ∙ sym (laws.count a (length xs))) (λ i lt.
+      let inside : i < length xs = omega (arith, lt, length-map xs f) in
+      elim (slice_get_cases xs i).1 [
+        | inl there ↦ slice_get-map f xs i ∙ ap (option_map f) there.2 ∙ ap Some (each i there.0 there.2) ∙ sym (laws.at a (length xs) i inside)
+        | inr past ↦ absurd (omega (arith, past.0, inside))
+      ])
+
+-- ---- what one thread makes of jobs is a tape of them, too
+pub alone_is_tape : NumberLaws → (jobs : List Job) (first : ℕ) (work : Work) (entries : List (Taped (Named WrittenBlock))) → AreAsked first jobs → MayBeWork work → AreMadeAlone jobs entries → IsTapeFrom jobs first work entries
+alone_is_tape laws jobs first work entries asked may alone =
+    let number : Taped (Named WrittenBlock) → ℕ = λ t. t.number in
+    let order : map number entries ≡ numbers first (length jobs) = alone.numbers_are ∙ numbered laws (λ (j : Job). j.number) jobs first (λ i j at. (asked i j at).numbered) in
+    record {
+      order = order;
+      answers = alone.answers;
+      workers = λ k d lt. omega (arith, alone.workers k d lt, may.some_threads);
+      within = λ k d lt. (omega (arith, alone.seen k d lt), omega (arith, alone.seen k d lt, may.some_window), inl (alone.seen k d lt));
+      from = all_from (λ (t : Taped (Named WrittenBlock)). first ≤ t.seen) entries (λ i t at.
+          omega (arith, number_at laws number entries first (length jobs) i t order at, all_at (λ (x : Taped (Named WrittenBlock)). x.seen ≡ x.number) entries i t alone.seen at));
+    }
+
+-- jobs of which workers make something are shared
+pub shared_none : (jobs : List Job) (entries : List (Taped (Named WrittenBlock))) → list_any (λ (j : Job). is_some j.style) jobs ≡ true → sum (map size_of jobs) ≤ 2 ^ 28 → AreUnshared jobs → AreMadeAlone jobs entries
+shared_none jobs entries anew light (inl kept) = absurd (cc)
+shared_none jobs entries anew light (inr heavy) = absurd (omega (arith, light, heavy))
+
+-- ---- jobs, one after another
+mapped_next : {X Y Z : Type 0} (f : X → Z) (g : Y → Z) (xs more : List X) (x : X) (ys : List Y) (i : ℕ) (y : Y) → map f xs ++ map g (drop i ys) ≡ map g ys → i < length ys → y ≡ slice_index_or ys i y
+    → more ≡ xs ++ x ∷ [] → f x ≡ g y → map f more ++ map g (drop (i + 1) ys) ≡ map g ys
+mapped_next f g xs more x ys i y so_far lt is push same =
+    let next : suc i ≡ i + 1 = omega arith in
+    let first : drop i ys ≡ y ∷ drop (i + 1) ys = drop-cons ys i y lt ∙ ap (λ z. z ∷ drop (suc i) ys) (sym is) ∙ ap (λ (n : ℕ). y ∷ drop n ys) next in
+    ap (λ zs. map f zs ++ map g (drop (i + 1) ys)) push ∙ ap (λ zs. zs ++ map g (drop (i + 1) ys)) (map-append f xs (x ∷ [])) ∙ append_assoc (map f xs) (f x ∷ []) (map g (drop (i + 1) ys))
+    ∙ ap (λ z. map f xs ++ (z ∷ map g (drop (i + 1) ys))) same ∙ sym (ap (λ zs. map f xs ++ map g zs) first) ∙ so_far
+
+all_next : {X : Type 0} (P : X → Type 0) (xs more : List X) (x : X) → All P xs → more ≡ xs ++ x ∷ [] → P x → All P more
+all_next P xs more x each push here = subst (All P) (sym push) (All-append P xs (x ∷ []) each (All-cons P x [] here (All-nil P)))
+
+pub record AreAloneSoFar (jobs : List Job) (i : ℕ) (entries : List (Taped (Named WrittenBlock))) : Type 0 where
+  pub numbers_are : map (λ (t : Taped (Named WrittenBlock)). t.number) entries ++ map (λ (j : Job). j.number) (drop i jobs) ≡ map (λ (j : Job). j.number) jobs
+  pub answers : map (λ (t : Taped (Named WrittenBlock)). t.named) entries ++ map answer_of (drop i jobs) ≡ map answer_of jobs
+  pub workers : All (λ (t : Taped (Named WrittenBlock)). t.worker ≡ 0) entries
+  pub seen : All (λ (t : Taped (Named WrittenBlock)). t.seen ≡ t.number) entries
+
+pub alone_none : (jobs : List Job) → AreAloneSoFar jobs 0 []
+alone_none jobs = record { numbers_are = refl; answers = refl; workers = All-nil _; seen = All-nil _ }
+
+pub alone_next : (jobs : List Job) (i : ℕ) (entries more : List (Taped (Named WrittenBlock))) (t : Taped (Named WrittenBlock)) (j : Job) → AreAloneSoFar jobs i entries → i < length jobs → j ≡ slice_index_or jobs i j
+    → more ≡ entries ++ t ∷ [] → t ≡ record { number = j.number; worker = 0; seen = j.number; named = answer_of j } → AreAloneSoFar jobs (i + 1) more
+alone_next jobs i entries more t j so_far lt is push made = record {
+  numbers_are = mapped_next (λ (x : Taped (Named WrittenBlock)). x.number) (λ (x : Job). x.number) entries more t jobs i j so_far.numbers_are lt is push (ap (λ (x : Taped (Named WrittenBlock)). x.number) made);
+  answers = mapped_next (λ (x : Taped (Named WrittenBlock)). x.named) answer_of entries more t jobs i j so_far.answers lt is push (ap (λ (x : Taped (Named WrittenBlock)). x.named) made);
+  workers = all_next (λ (x : Taped (Named WrittenBlock)). x.worker ≡ 0) entries more t so_far.workers push (ap (λ (x : Taped (Named WrittenBlock)). x.worker) made);
+  seen = all_next (λ (x : Taped (Named WrittenBlock)). x.seen ≡ x.number) entries more t so_far.seen push
+      (ap (λ (x : Taped (Named WrittenBlock)). x.seen) made ∙ sym (ap (λ (x : Taped (Named WrittenBlock)). x.number) made));
+}
+
+pub alone_all : (jobs : List Job) (i : ℕ) (entries : List (Taped (Named WrittenBlock))) → AreAloneSoFar jobs i entries → length jobs ≤ i → AreMadeAlone jobs entries
+alone_all jobs i entries so_far past =
+    let none : drop i jobs ≡ [] = drop_all i jobs past in
+    record {
+      numbers_are = sym (append-nil (map (λ (t : Taped (Named WrittenBlock)). t.number) entries)) ∙ sym (ap (λ (js : List Job). map (λ (t : Taped (Named WrittenBlock)). t.number) entries ++ map (λ (j : Job). j.number) js) none) ∙ so_far.numbers_are;
+      answers = sym (append-nil (map (λ (t : Taped (Named WrittenBlock)). t.named) entries)) ∙ sym (ap (λ (js : List Job). map (λ (t : Taped (Named WrittenBlock)). t.named) entries ++ map answer_of js) none) ∙ so_far.answers;
+      workers = so_far.workers;
+      seen = so_far.seen;
+    }
+
+-- ---- the windows of a round are those of the run
+cut_same : (xs : List ℕ) (first count seen m : ℕ) → first ≤ seen → seen + m ≤ first + count → take m (drop (seen - first) (take count (drop first xs))) ≡ take m (drop seen xs)
+cut_same xs first count seen m from within =
+    let a : ℕ = seen - first in
+    let b : ℕ = count - a in
+    let whole : count ≡ a + b = omega (arith, from, within) in
+    let here : first + a ≡ seen = omega (arith, from) in
+    ap (λ (n : ℕ). take m (drop a (take n (drop first xs)))) whole ∙ ap (take m) (drop-take a b (drop first xs)) ∙ take-take m b (drop a (drop first xs)) (omega (arith, from, within))
+    ∙ ap (take m) (drop-drop a first xs) ∙ ap (λ (n : ℕ). take m (drop n xs)) here
+
+sizes_same : (p : Plan) → IsPlan p → map size_of p.jobs ≡ map (λ (b : Block). bytes_in b.pieces) p.blocks
+sizes_same p plan =
+    let size : Block → ℕ = λ b. bytes_in b.pieces in
+    same_gets (map size_of p.jobs) (map size p.blocks) (length-map p.jobs size_of ∙ plan.all ∙ sym (length-map p.blocks size)) (λ i lt. elim (slice_get_cases p.jobs i).1 [
+      | inl there ↦ slice_get-map size_of p.jobs i ∙ ap (option_map size_of) there.2 ∙ sym (slice_get-map size p.blocks i ∙ ap (option_map size) (plan.each i there.0 there.2).block_is)
+      | inr past ↦ absurd (omega (arith, past.0, lt, length-map p.jobs size_of))
+    ])
+
+round_sizes : (p : Plan) (first count : ℕ) (jobs : List Job) → IsPlan p → jobs ≡ take count (drop first p.jobs) → map size_of jobs ≡ take count (drop first (map (λ (b : Block). bytes_in b.pieces) p.blocks))
+round_sizes p first count jobs plan is =
+    ap (map size_of) is ∙ sym (take-map size_of count (drop first p.jobs)) ∙ ap (take count) (sym (drop-map size_of first p.jobs)) ∙ ap (λ (sizes : List ℕ). take count (drop first sizes)) (sizes_same p plan)
+
+within_run : (p : Plan) (work : Work) (first count seen number : ℕ) (jobs : List Job) → IsPlan p → jobs ≡ take count (drop first p.jobs) → first ≤ seen → number < first + count
+    → Within (bounds first work.window work.most jobs) seen number → Within (setup_of work p.blocks) seen number
+within_run p work first count seen number jobs plan is from below within =
+    let sizes : List ℕ = map (λ (b : Block). bytes_in b.pieces) p.blocks in
+    let m : ℕ = (number + 1) - seen in
+    let less : seen ≤ number = within.0 in
+    let whole : seen ≡ seen - 0 = omega arith in
+    let here : take m (drop (seen - first) (map size_of jobs)) ≡ take m (drop (seen - 0) sizes) =
+    ap (λ (xs : List ℕ). take m (drop (seen - first) xs)) (round_sizes p first count jobs plan is) ∙ cut_same sizes first count seen m from (omega (arith, less, below))
+    ∙ ap (λ (n : ℕ). take m (drop n sizes)) whole in
+    (within.0, within.1, elim within.2 [ inl alone ↦ inl alone | inr light ↦ inr (subst (λ (xs : List ℕ). sum xs ≤ work.most) here light) ])
+
+-- ---- what a round's tape says, by the numbers of all blocks
+pub jobs_asked : (p : Plan) (first count : ℕ) (jobs : List Job) → IsPlan p → jobs ≡ take count (drop first p.jobs) → first + count ≤ length p.jobs → AreAsked first jobs
+jobs_asked p first count jobs plan is inside i j at =
+    let here : slice_get (take count (drop first p.jobs)) i ≡ Some j = ap (λ (js : List Job). slice_get js i) (sym is) ∙ at in
+    let below : i < count = omega (arith, slice_get_within (take count (drop first p.jobs)) i j here, length-take count (drop first p.jobs)) in
+    let there : slice_get p.jobs (first + i) ≡ Some j = sym (get_take count (drop first p.jobs) i below ∙ get_drop first p.jobs i (first + i) refl) ∙ here in
+    record { numbered = (plan.each (first + i) j there).number_is; asked = (plan.each (first + i) j there).asked }
+
+module _ (laws : NumberLaws) (p : Plan) (work : Work) (first count : ℕ) (jobs : List Job) (entries : List (Taped (Named WrittenBlock))) (plan : IsPlan p) (is : jobs ≡ take count (drop first p.jobs)) (all : length jobs ≡ count)
+    (inside : first + count ≤ length p.jobs) (tape : IsTapeFrom jobs first work entries) where
+  answers_count : length entries ≡ count
+  answers_count = length_numbered laws (λ (t : Taped (Named WrittenBlock)). t.number) entries first (length jobs) tape.order ∙ all
+
+  pub answers_of : AreOfBlocks p first count entries
+  answers_of = record { count_is = answers_count; answers = tape.answers ∙ ap (map answer_of) is }
+
+  pub answers_are : AreAnswers p work first entries
+  answers_are = record {
+    order = tape.order ∙ ap (numbers first) (all ∙ sym answers_count);
+    within = omega (arith, inside, answers_count);
+    answers = tape.answers ∙ ap (map answer_of) is ∙ ap (λ (n : ℕ). map answer_of (take n (drop first p.jobs))) (sym answers_count);
+    workers = tape.workers;
+    seen = all_from (λ (t : Taped (Named WrittenBlock)). Within (setup_of work p.blocks) t.seen t.number) entries (λ i t at.
+        let number : t.number ≡ first + i = number_at laws (λ (x : Taped (Named WrittenBlock)). x.number) entries first (length jobs) i t tape.order at in
+        within_run p work first count t.seen t.number jobs plan is (all_at (λ (x : Taped (Named WrittenBlock)). first ≤ x.seen) entries i t tape.from at)
+        (omega (arith, number, slice_get_within entries i t at, answers_count))
+        (all_at (λ (x : Taped (Named WrittenBlock)). Within (bounds first work.window work.most jobs) x.seen x.number) entries i t tape.within at));
+  }
+
+-- ---- from tape to tape
+pub tape_none : (work : Work) (blocks : List Block) → IsTapeOf work blocks []
+tape_none work blocks = record { order = refl; few = omega arith; workers = All-nil _; within = All-nil _ }
+
+pub first_tape : (p : Plan) (work : Work) (tape : List TapeEntry) → tape ≡ [] → HasTape p work 0 tape
+first_tape p work tape none = subst (HasTape p work 0) (sym none) (record { of = tape_none work p.blocks; long = refl })
+
+pub tapes_on : NumberLaws → (p : Plan) (work : Work) (first next : ℕ) (entries : List (Taped (Named WrittenBlock))) (more : List TapeEntry) → IsPlan p → AreAnswers p work first entries → next ≡ first + length entries
+    → more ≡ map entry_of entries → TapesOn p work first next more
+tapes_on laws p work first next entries more plan are count is tape so_far =
+    let number : TapeEntry → ℕ = λ t. t.number in
+    let long_is : length more ≡ length entries = ap length is ∙ length-map entries entry_of in
+    let all : length (tape ++ more) ≡ length tape + length more = length-append tape more in
+    let here : map number more ≡ numbers first (length entries) = ap (map number) is ∙ map-map number entry_of entries ∙ are.order in
+    let begins : first ≡ 0 + length tape = omega (arith, so_far.long) in
+    let ends : length tape + length entries ≡ length (tape ++ more) = omega (arith, all, long_is) in
+    record {
+      of = record {
+        order = map-append number tape more ∙ ap (λ (ns : List ℕ). ns ++ map number more) so_far.of.order ∙ ap (λ (ns : List ℕ). numbers 0 (length tape) ++ ns) (here ∙ ap (λ (n : ℕ). numbers n (length entries)) begins)
+            ∙ laws.more 0 (length tape) (length entries) ∙ ap (numbers 0) ends;
+        few = omega (arith, all, long_is, so_far.long, are.within, plan.all);
+        workers = All-append (λ (t : TapeEntry). t.worker < work.threads) tape more so_far.of.workers
+            (subst (λ (ts : List TapeEntry). All (λ (t : TapeEntry). t.worker < work.threads) ts) (sym is) (All-map (λ (t : TapeEntry). t.worker < work.threads) entry_of entries are.workers));
+        within = All-append (λ (t : TapeEntry). Within (setup_of work p.blocks) t.seen t.number) tape more so_far.of.within
+            (subst (λ (ts : List TapeEntry). All (λ (t : TapeEntry). Within (setup_of work p.blocks) t.seen t.number) ts) (sym is)
+            (All-map (λ (t : TapeEntry). Within (setup_of work p.blocks) t.seen t.number) entry_of entries are.seen));
+      };
+      long = omega (arith, all, long_is, so_far.long, count);
+    }
+
+pub whole_tape : (p : Plan) (work : Work) (tile block : ℕ) (tape : List TapeEntry) → IsPlan p → IsPlace p tile block → tile_number p.stream.siz ≤ tile → HasTape p work block tape
+    → length tape ≡ length p.blocks
+whole_tape p work tile block tape plan place past whole =
+    let last : tile ≡ tile_number p.stream.siz = omega (arith, place.inside, past) in
+    let all : block ≡ length p.blocks = place.block_is ∙ ap (first_block p) last ∙ sym (blocks_are p.stream) ∙ sym plan.may.blocks_are.all in
+    whole.long ∙ all

@@ -1,0 +1,11 @@
+use Rattle.jx_rounds.proofs.WriteLemmas.{halt_fault, refused_cause, unrisen}
+use Rattle.jx_rounds.proofs.buffer.put.Goals as goal
+
+pub returns-in-Ok-clause-same : goal.returns-in-Ok-clause-same
+returns-in-Ok-clause-same g c = unrisen _ _ _ c.in-Ok.ensures.cause
+
+pub returns-in-Err-clause-fault : goal.returns-in-Err-clause-fault
+returns-in-Err-clause-fault g c = halt_fault c.halt_of.result c.in-Err.refused c.halt_of.ensures
+
+pub returns-in-Err-clause-cause : goal.returns-in-Err-clause-cause
+returns-in-Err-clause-cause g c = refused_cause _ _ c.halt_of.result c.in-Err.refused c.halt_of.ensures c.in-Err.ensures.cause

@@ -1,0 +1,32 @@
+use Rattle.std.proofs.Common.{rules, ◌≤◌, ◌∙◌, length, refl}
+use Rattle.std.proofs.lemmas.List.{drop_all}
+use Rattle.jx_rounds.proofs.PartLemmas.{tiles_cut}
+use Rattle.jx_rounds.proofs.TakenLemmas.{front_after, has_taken_all, has_taken_more, has_taken_none}
+use Rattle.jx_rounds.proofs.buffer.put_tiles.Goals as goal
+
+pub loop-tile-init : goal.loop-tile-init
+loop-tile-init g c = record { so_far = has_taken_none _ _; empty = c.requires.empty; may = c.requires.may; same = refl; other = refl }
+
+pub returns-in-Err-clause-front : goal.returns-in-Err-clause-front
+returns-in-Err-clause-front g c =
+    front_after _ (g.W.ByteWriter.written c.loop-tile.writer) _ _ _ _ _ c.loop-tile.invariant.so_far (tiles_cut c.args.tiles.now c.loop-tile.tile-index c.tile-item.result (search rules) c.tile-item.is) c.in-Err.ensures.front
+
+pub returns-in-Err-clause-cause : goal.returns-in-Err-clause-cause
+returns-in-Err-clause-cause g c = rw (← c.loop-tile.invariant.same) c.in-Err.ensures.cause
+
+pub loop-tile-preserved : goal.loop-tile-preserved
+loop-tile-preserved g c = record {
+  so_far = has_taken_more _ (g.W.ByteWriter.written c.loop-tile.writer) _ _ _ _ _ c.loop-tile.invariant.so_far (tiles_cut c.args.tiles.now c.loop-tile.tile-index c.tile-item.result (search rules) c.tile-item.is) c.in-Ok.ensures.ok;
+  empty = c.in-Ok.ensures.empty;
+  may = rw c.put_tile.ensures.other c.loop-tile.invariant.may;
+  same = c.in-Ok.ensures.same ∙ c.loop-tile.invariant.same;
+  other = c.put_tile.ensures.other ∙ c.loop-tile.invariant.other;
+}
+
+pub returns-clause-ok : goal.returns-clause-ok
+returns-clause-ok g c =
+    let end : length c.args.tiles.now ≤ c.loop-tile.tile-index = search rules in
+    has_taken_all _ _ _ _ c.loop-tile.invariant.so_far (rw (drop_all c.loop-tile.tile-index c.args.tiles.now end) refl)
+
+pub returns-clause-front : goal.returns-clause-front
+returns-clause-front g c = (_, c.loop-tile.invariant.so_far)

@@ -1,0 +1,210 @@
+//! Rounds of tiles: consecutive ones, up to the first at which a round has 4,096 code-blocks, or up to the last tile.
+
+ghost use Rattle.std.specs.Prelude.{◌≡◌, ◌<◌, ◌≤◌, ◌+◌, ◌^◌, ℕ, [], length, map, IfOk, IfErr, OnOk};
+ghost use Rattle.jx_codestream.specs.First.{tile_number};
+ghost use Rattle.jx_tier2_writer.specs.Tile.{blocks_in, first_block};
+ghost use Rattle.jx_cli.specs.Words.{MayBeWork};
+ghost use Rattle.jx_rounds.specs.MadeRounds.{AreOfBlocks, IsExtent, TapesOn, entry_of, parts_of};
+ghost use Rattle.jx_rounds.specs.Rounds.{BeginsRound, EndsRound, IsPlace, IsUnmade, IsUnmadeTile, LeadOn};
+
+use crate::crew::{Crew, made_blocks};
+use crate::halt::Halt;
+use crate::making::Making;
+use crate::packed::Packed;
+use crate::tile::packed_tile;
+use jx_base::NoMemory;
+use jx_codeblock::Recoded;
+use jx_io::Gate;
+use jx_store::Entry;
+use jx_store::laws::numbers_count_up;
+use std::alloc::Global;
+use std::sync::Wait;
+use std::thread::Threads;
+
+const MOST_BLOCKS: u32 = 4096;
+
+/// How many code-blocks each tile of a round has, and all of them; the tile after it, and the number of that tile's first code-block.
+#[derive(Drop)]
+pub struct Extent {
+    pub counts: Vec<u32>,
+    pub blocks: u32,
+    pub tile: u16,
+    pub block: u32,
+}
+
+/// A round as it is made: its tiles, and the entries of its code-blocks.
+#[derive(Drop)]
+pub struct Round<'a> {
+    pub extent: Extent,
+    pub entries: Vec<Entry<Recoded<'a>>>,
+}
+
+/// Puts into an empty list how many code-blocks each tile of the round has that begins at a tile: how many all of them have.
+fn put_counts(making: &Making<'_, '_>, tile: u16, each: &mut Vec<u32>) -> Result<u32, NoMemory>
+    requires tile { tile < tile_number making.now.stream.siz }
+    requires begins { BeginsRound making.now tile }
+    requires empty { each.old.items ≡ [] }
+    ensures { IfOk result (λ all. IsExtent making.now tile each.new.items all) }
+{
+    let mut all = 0;
+    for at in tile..making.tile_count() {
+        let count = making.blocks_in(at);
+        each.push(count)?;
+        all += count;
+        if all >= MOST_BLOCKS {
+            return Ok(all);
+        }
+    }
+    Ok(all)
+}
+
+/// The round that begins at a tile, of which `block` is the number of the first code-block.
+fn extent_of(
+    alloc: Global,
+    making: &Making<'_, '_>,
+    tile: u16,
+    block: u32,
+) -> Result<Extent, NoMemory>
+    requires tile { tile < tile_number making.now.stream.siz }
+    requires block { block ≡ first_block making.now tile }
+    requires begins { BeginsRound making.now tile }
+    ensures extent { IfOk result (λ e. IsExtent making.now tile e.counts.items e.blocks) }
+    ensures tile { IfOk result (λ e. e.tile ≡ tile + length e.counts.items) }
+    ensures block { IfOk result (λ e. e.block ≡ block + e.blocks) }
+    ensures within { IfOk result (λ e. e.block ≤ length making.now.jobs) }
+    ensures few { IfOk result (λ e. e.block ≤ 2 ^ 20) }
+{
+    let _ = making.jobs();
+    let mut counts = Vec::new(alloc);
+    let all = put_counts(making, tile, &mut counts)?;
+    let next = tile + counts.len() as u16;
+    Ok(Extent {
+        counts,
+        blocks: all,
+        tile: next,
+        block: block + all,
+    })
+}
+
+/// What is made of so many code-blocks from one on.
+fn round_blocks<'a, R: Threads + Wait + Sync, G: Gate + Sync>(
+    crew: &Crew<'_, R, G>,
+    alloc: Global,
+    making: &Making<'a, '_>,
+    first: u32,
+    count: u32,
+) -> Result<Vec<Entry<Recoded<'a>>>, NoMemory>
+    requires within { first + count ≤ length making.now.jobs }
+    requires few { first + count ≤ 2 ^ 20 }
+    requires work { MayBeWork crew.now.work }
+    ensures tape { IfOk result (λ entries. TapesOn making.now crew.now.work first (first + count) (map entry_of entries.items)) }
+    ensures of { IfOk result (λ entries. AreOfBlocks making.now first count entries.items) }
+{
+    numbers_count_up();
+    let jobs = making.jobs_from(first, count);
+    made_blocks(crew, alloc, jobs, first)
+}
+
+/// Puts a tile that is ready to be written behind others, of whose code-blocks these are the entries.
+fn push_packed<'a, 'b>(
+    alloc: Global,
+    making: &Making<'a, '_>,
+    tile: u16,
+    entries: &'a [Entry<Recoded<'b>>],
+    alone: bool,
+    tiles: &mut Vec<Packed<'a, 'b>>,
+) -> Result<(), Halt>
+    requires tile { tile < tile_number making.now.stream.siz }
+    requires entries { AreOfBlocks making.now (first_block making.now tile) (blocks_in making.now tile) entries.now }
+    ensures lead { OnOk result ((first : ℕ) → LeadOn making.now first tile (parts_of tiles.old.items) → LeadOn making.now first (tile + 1) (parts_of tiles.new.items)) }
+    ensures unmade { IfErr result (λ h. IsUnmadeTile making.now tile h) }
+{
+    let out = match packed_tile(alloc, making, tile, entries, alone) {
+        Ok(out) => out,
+        Err(halt) => return Err(halt),
+    };
+    if tiles.push(out).is_err() {
+        return Err(Halt::NoMemory);
+    }
+    Ok(())
+}
+
+/// Puts the tiles of a round that begins at a tile into an empty list, of whose code-blocks these are the entries.
+fn push_tiles<'a, 'b>(
+    alloc: Global,
+    making: &Making<'a, '_>,
+    tile: u16,
+    extent: &Extent,
+    entries: &'a [Entry<Recoded<'b>>],
+    tiles: &mut Vec<Packed<'a, 'b>>,
+) -> Result<(), Halt>
+    requires extent { IsExtent making.now tile extent.now.counts.items extent.now.blocks }
+    requires tile { extent.now.tile ≡ tile + length extent.now.counts.items }
+    requires few { extent.now.blocks ≤ 2 ^ 20 }
+    requires entries { AreOfBlocks making.now (first_block making.now tile) extent.now.blocks entries.now }
+    requires empty { tiles.old.items ≡ [] }
+    ensures parts { OnOk result (LeadOn making.now tile extent.now.tile (parts_of tiles.new.items)) }
+    ensures unmade { IfErr result (λ h. IsUnmade making.now tile h) }
+{
+    let alone = extent.counts.len() == 1;
+    let mut from = 0;
+    for at in tile..extent.tile {
+        let to = from + extent.counts[(at - tile) as usize] as usize;
+        match push_packed(alloc, making, at, &entries[from..to], alone, tiles) {
+            Ok(()) => {}
+            Err(halt) => return Err(halt),
+        }
+        from = to;
+    }
+    Ok(())
+}
+
+/// The tiles of a round that begins at a tile, of whose code-blocks these are the entries: each is ready to be written.
+pub fn packed_tiles<'a, 'b>(
+    alloc: Global,
+    making: &Making<'a, '_>,
+    tile: u16,
+    extent: &Extent,
+    entries: &'a [Entry<Recoded<'b>>],
+) -> Result<Vec<Packed<'a, 'b>>, Halt>
+    requires extent { IsExtent making.now tile extent.now.counts.items extent.now.blocks }
+    requires tile { extent.now.tile ≡ tile + length extent.now.counts.items }
+    requires few { extent.now.blocks ≤ 2 ^ 20 }
+    requires entries { AreOfBlocks making.now (first_block making.now tile) extent.now.blocks entries.now }
+    ensures parts { IfOk result (λ tiles. LeadOn making.now tile extent.now.tile (parts_of tiles.items)) }
+    ensures unmade { IfErr result (λ h. IsUnmade making.now tile h) }
+{
+    let mut tiles = Vec::new(alloc);
+    match push_tiles(alloc, making, tile, extent, entries, &mut tiles) {
+        Ok(()) => Ok(tiles),
+        Err(halt) => Err(halt),
+    }
+}
+
+/// The round that begins at a tile, of which `block` is the number of the first code-block.
+pub fn made_round<'a, R: Threads + Wait + Sync, G: Gate + Sync>(
+    crew: &Crew<'_, R, G>,
+    alloc: Global,
+    making: &Making<'a, '_>,
+    tile: u16,
+    block: u32,
+) -> Result<Round<'a>, NoMemory>
+    requires tile { tile < tile_number making.now.stream.siz }
+    requires block { block ≡ first_block making.now tile }
+    requires begins { BeginsRound making.now tile }
+    requires work { MayBeWork crew.now.work }
+    ensures extent { IfOk result (λ r. IsExtent making.now tile r.extent.counts.items r.extent.blocks) }
+    ensures tile { IfOk result (λ r. r.extent.tile ≡ tile + length r.extent.counts.items) }
+    ensures few { IfOk result (λ r. r.extent.blocks ≤ 2 ^ 20) }
+    ensures entries { IfOk result (λ r. AreOfBlocks making.now block r.extent.blocks r.entries.items) }
+    ensures later { IfOk result (λ r. tile < r.extent.tile) }
+    ensures place { IfOk result (λ r. IsPlace making.now r.extent.tile r.extent.block) }
+    ensures ends { IfOk result (λ r. EndsRound making.now r.extent.tile) }
+    ensures tape { IfOk result (λ r. TapesOn making.now crew.now.work block r.extent.block (map entry_of r.entries.items)) }
+{
+    let extent = extent_of(alloc, making, tile, block)?;
+    match round_blocks(crew, alloc, making, block, extent.blocks) {
+        Ok(entries) => Ok(Round { extent, entries }),
+        Err(refused) => Err(refused),
+    }
+}

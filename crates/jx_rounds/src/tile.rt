@@ -1,0 +1,100 @@
+//! A tile that is ready to be written.
+
+ghost use Rattle.std.specs.Prelude.{◌≡◌, ◌<◌, ◌+◌, Err, List, None, Some, map, IfErr, IfOk, IfSome};
+ghost use Rattle.std.specs.List.{concat};
+ghost use Rattle.jx_codeblock.specs.Recoded.{WrittenBlock};
+ghost use Rattle.jx_store.specs.declared.event.Taped.{Taped};
+ghost use Rattle.jx_store.specs.declared.work.Named.{Named};
+ghost use Rattle.jx_codestream.specs.First.{tile_number};
+ghost use Rattle.jx_base.specs.declared.pieces.Block.{Block};
+ghost use Rattle.jx_tier2_writer.specs.Tile.{AreMade, AreValuesOf, IsMade, IsTile, IsTooLong, StandIn, blocks_in, first_block, made_in};
+ghost use Rattle.jx_rounds.specs.MadeRounds.{AreOfBlocks, IsFirstUnmade, IsUnmadeAs};
+ghost use Rattle.jx_rounds.specs.Rounds.{IsUnmadeTile, LeadOn, most_of_part};
+
+use crate::halt::Halt;
+use crate::making::Making;
+use crate::packed::Packed;
+use jx_codeblock::Recoded;
+use jx_codeblock::laws::{written_is_sound, wrong_is_nothing};
+use jx_store::{Entry, Named};
+use jx_tier2_writer::{AssembleFault, assemble_tile_with, pack_tile};
+use std::alloc::Global;
+
+/// The number of a block of which nothing was made.
+fn unmade(named: &Named<Recoded<'_>>) -> Option<u32>
+    ensures made { result ≡ None → IsMade named.now }
+    ensures unmade { IfSome result (λ number. IsUnmadeAs named.now number) }
+{
+    match named {
+        Named::Made(_) => None,
+        Named::Bad(number) | Named::Short(number) => Some(*number),
+    }
+}
+
+/// The first block of which nothing was made.
+fn first_unmade(entries: &[Entry<Recoded<'_>>]) -> Option<u32>
+    ensures made { result ≡ None → AreMade entries.now }
+    ensures unmade { IfSome result (λ number. IsFirstUnmade entries.now number) }
+{
+    for entry in entries {
+        if let Some(number) = unmade(&entry.named) {
+            return Some(number);
+        }
+    }
+    None
+}
+
+/// A tile of which all code-blocks are made, put together but for its coded bytes where it is alone in its round.
+fn pack_made<'a, 'b>(
+    alloc: Global,
+    making: &Making<'a, '_>,
+    tile: u16,
+    entries: &'a [Entry<Recoded<'b>>],
+    alone: bool,
+) -> Result<Packed<'a, 'b>, AssembleFault>
+    requires tile { tile < tile_number making.now.stream.siz }
+    requires made { AreMade entries.now }
+    requires values { AreValuesOf making.now tile (made_in entries.now) }
+    ensures parts { IfOk result (λ out. (blocks : List Block) → StandIn blocks making.now tile (made_in entries.now) → IsTile making.now blocks tile most_of_part (map concat out)) }
+    ensures long { result ≡ Err AssembleFault.TooLong → (blocks : List Block) → StandIn blocks making.now tile (made_in entries.now) → IsTooLong making.now blocks tile most_of_part }
+{
+    let plan = making.plan();
+    if alone {
+        return match pack_tile(alloc, plan, making.written(), tile, entries, u32::MAX) {
+            Ok(out) => Ok(Packed::laid(out)),
+            Err(fault) => Err(fault),
+        };
+    }
+    match assemble_tile_with(alloc, plan, making.written(), tile, entries, u32::MAX) {
+        Ok(parts) => Ok(Packed::whole(parts)),
+        Err(fault) => Err(fault),
+    }
+}
+
+/// A tile that is ready to be written, of which these are the entries of its code-blocks: put together but for its coded bytes where it
+/// is alone in its round.
+pub fn packed_tile<'a, 'b>(
+    alloc: Global,
+    making: &Making<'a, '_>,
+    tile: u16,
+    entries: &'a [Entry<Recoded<'b>>],
+    alone: bool,
+) -> Result<Packed<'a, 'b>, Halt>
+    requires tile { tile < tile_number making.now.stream.siz }
+    requires entries { AreOfBlocks making.now (first_block making.now tile) (blocks_in making.now tile) entries.now }
+    ensures parts { IfOk result (λ out. LeadOn making.now tile (tile + 1) (map concat out)) }
+    ensures unmade { IfErr result (λ h. IsUnmadeTile making.now tile h) }
+{
+    written_is_sound();
+    wrong_is_nothing();
+    // For what is known of a plan.
+    let _plan = making.plan();
+    if let Some(number) = first_unmade(entries) {
+        return Err(Halt::Bad { tile, number });
+    }
+    match pack_made(alloc, making, tile, entries, alone) {
+        Ok(out) => Ok(out),
+        Err(AssembleFault::TooLong) => Err(Halt::TooLong { tile }),
+        Err(AssembleFault::NoMemory) => Err(Halt::NoMemory),
+    }
+}

@@ -1,0 +1,258 @@
+//! A codestream, written round by round.
+
+ghost use Rattle.std.specs.Prelude.{◌≡◌, ◌<◌, ◌≤◌, ◌+◌, ℕ, List, Option, [], ◌++◌, length, map, vec_capacity, vec_len, IfOk, IfErr, OnErr, OnOk, IsErrOf};
+ghost use Rattle.std.specs.List.{concat};
+ghost use Rattle.jx_io.specs.Causes.{Rose};
+ghost use Rattle.jx_plan.specs.Plan.{Plan, headers_of};
+ghost use Rattle.jx_codestream.specs.First.{tile_number};
+ghost use Rattle.jx_tier2_writer.specs.Tile.{first_block, main_bytes};
+ghost use Rattle.jx_cli.specs.Words.{MayBeWork};
+ghost use Rattle.jx_rounds.specs.MadeRounds.{entry_of, parts_of};
+ghost use Rattle.jx_rounds.specs.Taken.{SomeFront, followed_by};
+ghost use Rattle.jx_rounds.specs.Rounds.{BeginsRound, EndsRound, HasFront, HasRounds, HasTape, HasWhole, IsFault, IsHalted, IsPlace, IsUnwritten};
+ghost use Rattle.jx_rounds.specs.Tapes.{IsTapeOf};
+
+use crate::TapeEntry;
+use crate::buffer::{count_bytes, put, put_tiles};
+use crate::crew::Crew;
+use crate::halt::Halt;
+use crate::making::Making;
+use crate::packed::Packed;
+use crate::rounds::{Round, made_round, packed_tiles};
+use crate::writer::ByteWriter;
+use jx_codeblock::Recoded;
+use jx_io::Gate;
+use jx_marker::codes;
+use jx_store::Entry;
+use std::alloc::Global;
+use std::sync::Wait;
+use std::thread::Threads;
+
+const EOC: [u8; 2] = [0xFF, codes::EOC];
+
+/// What has been written before a tile: the number of its first code-block, and how many bytes.
+#[derive(Clone, Copy)]
+pub struct Mark {
+    pub tile: u16,
+    pub block: u32,
+    pub bytes: usize,
+}
+
+/// What the tape says of a block.
+fn told_of(entry: &Entry<Recoded<'_>>) -> TapeEntry
+    ensures { result ≡ entry_of entry.now }
+{
+    TapeEntry {
+        number: entry.number,
+        worker: entry.worker,
+        seen: entry.seen,
+    }
+}
+
+/// Puts what the tape says of a round's blocks behind those of the rounds before it.
+fn put_entries(tape: &mut Vec<TapeEntry>, entries: &[Entry<Recoded<'_>>])
+    requires { vec_len tape.old + length entries.now ≤ vec_capacity tape.old }
+    ensures { tape.new.items ≡ tape.old.items ++ map entry_of entries.now }
+{
+    for entry in entries {
+        tape.push_reserved(told_of(entry));
+    }
+}
+
+/// Writes the tiles of a round, and puts its entries on the tape once they are written.
+fn put_round<W: ByteWriter>(
+    writer: &mut W,
+    mark: Mark,
+    round: &Round<'_>,
+    tiles: &[Packed<'_, '_>],
+    tape: &mut Vec<TapeEntry>,
+    buffer: &mut Vec<u8>,
+) -> Result<Mark, Halt>
+    requires may { W.can_write (W.kept writer.old) }
+    requires buffer { buffer.old.items ≡ [] }
+    ensures ok { IfOk result (λ next. (next.tile ≡ round.now.extent.tile) × (next.block ≡ round.now.extent.block) × (next.bytes ≡ mark.bytes + length (concat (parts_of tiles.now)))
+        × (W.written writer.new ≡ followed_by (concat (parts_of tiles.now)) (W.written writer.old)) × (tape.new.items ≡ tape.old.items ++ map entry_of round.now.entries.items)) }
+    ensures kept { OnErr result (tape.new.items ≡ tape.old.items) }
+    ensures buffer { OnOk result (buffer.new.items ≡ []) }
+    ensures front { SomeFront (W.written writer.old) (W.written writer.new) (concat (parts_of tiles.now)) }
+    ensures fault { IfErr result (λ h. IsFault h) }
+    ensures cause { IsErrOf result Halt.Failed → Rose (W.faults writer.old) (W.faults writer.new) }
+    ensures same { OnOk result (W.faults writer.new ≡ W.faults writer.old) }
+    ensures other { W.kept writer.new ≡ W.kept writer.old }
+{
+    let Some(bytes) = count_bytes(mark.bytes, tiles) else {
+        return Err(Halt::NoMemory);
+    };
+    if tape.reserve(round.entries.len()).is_err() {
+        return Err(Halt::NoMemory);
+    }
+    match put_tiles(writer, tiles, buffer) {
+        Ok(()) => {
+            put_entries(tape, &round.entries);
+            Ok(Mark {
+                tile: round.extent.tile,
+                block: round.extent.block,
+                bytes,
+            })
+        }
+        Err(halt) => Err(halt),
+    }
+}
+
+/// Writes the round that begins at a tile, and puts its entries on the tape once it is written.
+fn write_round<R: Threads + Wait + Sync, G: Gate + Sync, W: ByteWriter>(
+    crew: &Crew<'_, R, G>,
+    alloc: Global,
+    writer: &mut W,
+    making: &Making<'_, '_>,
+    mark: Mark,
+    tape: &mut Vec<TapeEntry>,
+    buffer: &mut Vec<u8>,
+) -> Result<Mark, Halt>
+    requires may { W.can_write (W.kept writer.old) }
+    requires tile { mark.tile < tile_number making.now.stream.siz }
+    requires block { mark.block ≡ first_block making.now mark.tile }
+    requires begins { BeginsRound making.now mark.tile }
+    requires work { MayBeWork crew.now.work }
+    requires tape { HasTape making.now crew.now.work mark.block tape.old.items }
+    requires buffer { buffer.old.items ≡ [] }
+    ensures ok { IfOk result (λ next. HasRounds making.now mark.tile next.tile mark.bytes next.bytes (W.written writer.old) (W.written writer.new)) }
+    ensures later { IfOk result (λ next. mark.tile < next.tile) }
+    ensures place { IfOk result (λ next. IsPlace making.now next.tile next.block) }
+    ensures ends { IfOk result (λ next. EndsRound making.now next.tile) }
+    ensures tape { IfOk result (λ next. HasTape making.now crew.now.work next.block tape.new.items) }
+    ensures kept { OnErr result (tape.new.items ≡ tape.old.items) }
+    ensures buffer { OnOk result (buffer.new.items ≡ []) }
+    ensures err { IfErr result (λ h. IsUnwritten making.now mark.tile h (W.written writer.old) (W.written writer.new)) }
+    ensures cause { IsErrOf result Halt.Failed → Rose (W.faults writer.old) (W.faults writer.new) }
+    ensures same { OnOk result (W.faults writer.new ≡ W.faults writer.old) }
+    ensures other { W.kept writer.new ≡ W.kept writer.old }
+{
+    let Ok(round) = made_round(crew, alloc, making, mark.tile, mark.block) else {
+        return Err(Halt::NoMemory);
+    };
+    let tiles = match packed_tiles(alloc, making, mark.tile, &round.extent, &round.entries) {
+        Ok(tiles) => tiles,
+        Err(halt) => return Err(halt),
+    };
+    put_round(writer, mark, &round, &tiles, tape, buffer)
+}
+
+/// Writes all rounds after `header` bytes: how many there are then.
+fn write_tiles<R: Threads + Wait + Sync, G: Gate + Sync, W: ByteWriter>(
+    crew: &Crew<'_, R, G>,
+    alloc: Global,
+    writer: &mut W,
+    making: &Making<'_, '_>,
+    header: usize,
+    tape: &mut Vec<TapeEntry>,
+    buffer: &mut Vec<u8>,
+) -> Result<usize, Halt>
+    requires may { W.can_write (W.kept writer.old) }
+    requires work { MayBeWork crew.now.work }
+    requires empty { tape.old.items ≡ [] }
+    requires buffer { buffer.old.items ≡ [] }
+    ensures ok { IfOk result (λ bytes. HasRounds making.now 0 (tile_number making.now.stream.siz) header bytes (W.written writer.old) (W.written writer.new)) }
+    ensures err { IfErr result (λ h. IsUnwritten making.now 0 h (W.written writer.old) (W.written writer.new)) }
+    ensures tape { IsTapeOf crew.now.work making.now.blocks tape.new.items }
+    ensures whole { OnOk result (length tape.new.items ≡ length making.now.blocks) }
+    ensures cause { IsErrOf result Halt.Failed → Rose (W.faults writer.old) (W.faults writer.new) }
+    ensures same { OnOk result (W.faults writer.new ≡ W.faults writer.old) }
+    ensures other { W.kept writer.new ≡ W.kept writer.old }
+{
+    let tiles = making.tile_count();
+    let mut mark = Mark {
+        tile: 0,
+        block: 0,
+        bytes: header,
+    };
+    while mark.tile < tiles {
+        mark = match write_round(crew, alloc, writer, making, mark, tape, buffer) {
+            Ok(next) => next,
+            Err(halt) => return Err(halt),
+        };
+    }
+    Ok(mark.bytes)
+}
+
+/// Writes the main header and all rounds.
+fn write_rounds<R: Threads + Wait + Sync, G: Gate + Sync, W: ByteWriter>(
+    crew: &Crew<'_, R, G>,
+    alloc: Global,
+    writer: &mut W,
+    making: &Making<'_, '_>,
+    header: &[u8],
+    tape: &mut Vec<TapeEntry>,
+    buffer: &mut Vec<u8>,
+) -> Result<usize, Halt>
+    requires may { W.can_write (W.kept writer.old) }
+    requires header { header.now ≡ main_bytes (headers_of making.now) }
+    requires work { MayBeWork crew.now.work }
+    requires empty { tape.old.items ≡ [] }
+    requires buffer { buffer.old.items ≡ [] }
+    ensures ok { IfOk result (λ bytes. HasFront making.now (tile_number making.now.stream.siz) bytes (W.written writer.old) (W.written writer.new)) }
+    ensures err { IfErr result (λ h. IsHalted making.now h (W.written writer.old) (W.written writer.new)) }
+    ensures tape { IsTapeOf crew.now.work making.now.blocks tape.new.items }
+    ensures whole { OnOk result (length tape.new.items ≡ length making.now.blocks) }
+    ensures cause { IsErrOf result Halt.Failed → Rose (W.faults writer.old) (W.faults writer.new) }
+    ensures same { OnOk result (W.faults writer.new ≡ W.faults writer.old) }
+    ensures other { W.kept writer.new ≡ W.kept writer.old }
+{
+    match put(writer, header) {
+        Ok(()) => write_tiles(crew, alloc, writer, making, header.len(), tape, buffer),
+        Err(halt) => Err(halt),
+    }
+}
+
+/// Writes EOC after `before` bytes.
+fn write_end<W: ByteWriter>(writer: &mut W, before: usize) -> Result<usize, Halt>
+    requires may { W.can_write (W.kept writer.old) }
+    ensures ok { IfOk result (λ bytes. (p : Plan) (first : Option (List ℕ)) → HasFront p (tile_number p.stream.siz) before first (W.written writer.old) → HasWhole p bytes first (W.written writer.new)) }
+    ensures err { IfErr result (λ h. (p : Plan) (first : Option (List ℕ)) → HasFront p (tile_number p.stream.siz) before first (W.written writer.old) → IsHalted p h first (W.written writer.new)) }
+    ensures cause { IsErrOf result Halt.Failed → Rose (W.faults writer.old) (W.faults writer.new) }
+    ensures same { OnOk result (W.faults writer.new ≡ W.faults writer.old) }
+    ensures other { W.kept writer.new ≡ W.kept writer.old }
+{
+    let Some(bytes) = before.checked_add(EOC.len()) else {
+        return Err(Halt::NoMemory);
+    };
+    match put(writer, &EOC) {
+        Ok(()) => Ok(bytes),
+        Err(halt) => Err(halt),
+    }
+}
+
+/// Writes the codestream of a plan, of which `header` is the main header: how many bytes it has. `tape` gets the entries of each round's
+/// code-blocks once the round is written.
+///
+/// The main header, each tile-part and EOC begin with a write of their own, and a tile-part of 65,536 bytes or more may come in several,
+/// through `buffer`. The code-blocks of a round are made, and its tile-parts are packed, before a byte of it is written. After an `Err`
+/// what was written is a front of the codestream; after `Bad` and `TooLong` it is just the main header and the rounds before that of the
+/// tile.
+pub fn write_codestream<R: Threads + Wait + Sync, G: Gate + Sync, W: ByteWriter>(
+    crew: &Crew<'_, R, G>,
+    alloc: Global,
+    writer: &mut W,
+    making: &Making<'_, '_>,
+    header: &[u8],
+    tape: &mut Vec<TapeEntry>,
+    buffer: &mut Vec<u8>,
+) -> Result<usize, Halt>
+    requires may { W.can_write (W.kept writer.old) }
+    requires header { header.now ≡ main_bytes (headers_of making.now) }
+    requires work { MayBeWork crew.now.work }
+    requires empty { tape.old.items ≡ [] }
+    requires buffer { buffer.old.items ≡ [] }
+    ensures ok { IfOk result (λ bytes. HasWhole making.now bytes (W.written writer.old) (W.written writer.new)) }
+    ensures err { IfErr result (λ h. IsHalted making.now h (W.written writer.old) (W.written writer.new)) }
+    ensures tape { IsTapeOf crew.now.work making.now.blocks tape.new.items }
+    ensures whole { OnOk result (length tape.new.items ≡ length making.now.blocks) }
+    ensures cause { IsErrOf result Halt.Failed → Rose (W.faults writer.old) (W.faults writer.new) }
+    ensures same { OnOk result (W.faults writer.new ≡ W.faults writer.old) }
+    ensures other { W.kept writer.new ≡ W.kept writer.old }
+{
+    match write_rounds(crew, alloc, writer, making, header, tape, buffer) {
+        Ok(before) => write_end(writer, before),
+        Err(halt) => Err(halt),
+    }
+}

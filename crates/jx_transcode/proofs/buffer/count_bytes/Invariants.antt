@@ -1,7 +1,0 @@
-use Rattle.std.proofs.Common.{◌≡◌, ◌+◌, drop, length}
-use Rattle.std.specs.List.{concat}
-use Rattle.jx_transcode.specs.MadeRounds.{parts_of}
-use Rattle.jx_transcode.proofs.buffer.count_bytes.Given as goal
-
-abbrev pub invariant-loop-tile : goal.invariant-loop-tile
-invariant-loop-tile l = l.count + length (concat (parts_of (drop l.tile-index l.tiles))) ≡ l.before + length (concat (parts_of l.tiles))

@@ -1,5 +1,0 @@
-use Rattle.jx_transcode.proofs.TapedLemmas.{AreAloneSoFar}
-use Rattle.jx_transcode.proofs.crew.put_alone.Given as goal
-
-abbrev pub invariant-loop-job : goal.invariant-loop-job
-invariant-loop-job l = AreAloneSoFar l.jobs l.job-index l.entries.items

@@ -1,5 +1,0 @@
-use Rattle.jx_transcode.proofs.PackedLemmas.{ones_joined}
-use Rattle.jx_transcode.proofs.packed.Packed.whole.Goals as goal
-
-pub returns : goal.returns
-returns c = ones_joined (λ v. v.items) c.args.parts.items
