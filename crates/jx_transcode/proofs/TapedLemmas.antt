@@ -20,7 +20,7 @@ use Rattle.jx_base.proofs.Lists.{all_at, all_from, same_gets}
 use Rattle.jx_codestream.specs.First.{tile_number}
 use Rattle.jx_tier2_writer.specs.Tile.{first_block}
 use Rattle.jx_plan.specs.Plan.{IsPlan, Plan}
-use Rattle.jx_cli.specs.Words.{MayBeWork, Work}
+use Rattle.jx_options.specs.Work.{MayBeWork, Work}
 use Rattle.jx_transcode.specs.MadeRounds.{AreMadeAlone, AreOfBlocks, AreUnshared, IsTapeFrom, TapesOn, entry_of}
 use Rattle.jx_transcode.specs.Rounds.{AreAnswers, HasTape, IsPlace}
 use Rattle.jx_transcode.specs.Tapes.{IsTapeOf, setup_of}

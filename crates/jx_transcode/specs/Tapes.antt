@@ -6,7 +6,7 @@ use Rattle.jx_base.specs.Pieces.{bytes_in}
 use Rattle.jx_store.specs.Order.{numbers}
 use Rattle.jx_store.specs.Setup.{Setup, Within}
 use Rattle.jx_codestream.specs.declared.Stream.{Stream}
-use Rattle.jx_cli.specs.Words.{Work}
+use Rattle.jx_options.specs.Work.{Work}
 use Rattle.jx_transcode.specs.declared.status.TapeEntry.{TapeEntry}
 use Rattle.jx_transcode.specs.Rewritten.{Reads}
 

@@ -7,7 +7,7 @@ ghost use Rattle.jx_io.specs.Device.{Meaning, after_write};
 ghost use Rattle.jx_plan.specs.Plan.{IsPlan, Plan, headers_of};
 ghost use Rattle.jx_codestream.specs.First.{tile_number};
 ghost use Rattle.jx_tier2_writer.specs.Tile.{first_block, main_bytes};
-ghost use Rattle.jx_cli.specs.Words.{MayBeWork};
+ghost use Rattle.jx_options.specs.Work.{MayBeWork};
 ghost use Rattle.jx_transcode.specs.Filed.{IsFileHalted, IsFileMade};
 ghost use Rattle.jx_transcode.specs.MadeRounds.{entry_of, parts_of};
 ghost use Rattle.jx_transcode.specs.Progress.{SomeFront};
