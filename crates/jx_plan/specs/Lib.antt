@@ -1,6 +1,4 @@
 pub mod Headers
-pub mod Wanted
-pub mod Choices
 pub mod Fits
 pub mod Groups
 pub mod Standing

@@ -17,7 +17,7 @@ use Rattle.jx_progression.specs.declared.names.PacketName.{PacketName}
 use Rattle.jx_tier2_reader.specs.Gathered.{IsListOf}
 use Rattle.jx_tier2_reader.specs.Totals.{totals_fault}
 use Rattle.jx_tier2_writer.specs.Told.{has_lengths}
-use Rattle.jx_plan.specs.declared.Marks.{Marks}
+use Rattle.jx_options.specs.declared.Marks.{Marks}
 use Rattle.jx_plan.specs.Groups.{HasFewParts}
 
 -- what SOP and EPH a tile's COD, or else the main one, announces
