@@ -11,9 +11,9 @@ ghost use Rattle.jx_transcode.specs.Filed.{IsAnswered, IsPlanAnswered, blocks_to
 ghost use Rattle.jx_transcode.specs.Outcome.{most_bytes};
 ghost use Rattle.jx_transcode.specs.Rewritten.{Reads};
 
+use crate::Status;
 use crate::device::MOST;
 use crate::file::write_file;
-use crate::Status;
 use jx_codestream::{Stream, StreamFault, read_stream};
 use jx_io::{Files, Gate};
 use jx_layers::{LayerPlanner, shortened};
