@@ -1,4 +1,4 @@
--- Inner: a header's segments by their slots.
+-- A header's segments by their slots.
 use Rattle.std.specs.Prelude.{◌≡◌, ◌<◌, ℕ, ◌-◌, ◌==◌, ◌||◌, nat_lt, Bool, true, List, length, Option, None, Some, if◌then◌else◌, slice_index, Vec}
 use Rattle.std.specs.List.{slice_get, list_any}
 use Rattle.jx_marker.specs.declared.Segment.{Segment}

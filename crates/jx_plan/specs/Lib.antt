@@ -3,10 +3,11 @@ pub mod Fits
 pub mod Groups
 pub mod Standing
 pub mod Asides
-pub mod ReadBack
 pub mod Plan
-pub mod TileJobs
 pub mod Meaning
 pub mod Causes
 pub mod Planned
+-- Inner: no other crate cites these.
+pub mod ReadBack
+pub mod TileJobs
 pub mod Steps

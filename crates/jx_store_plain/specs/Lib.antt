@@ -1,3 +1,4 @@
+-- Inner: no other crate cites these.
 pub mod Shown
 pub mod Notes
 pub mod ShownNotes
