@@ -4,7 +4,6 @@ ghost use Rattle.std.specs.Prelude.{◌≡◌, ◌+◌, ◌<◌, ◌≤◌, ℕ,
 ghost use Rattle.jx_io.specs.Causes.{HasCause};
 ghost use Rattle.jx_io.specs.Device.{Allows};
 ghost use Rattle.jx_transcode.specs.Progress.{HasRead, SameButLeft};
-ghost use Rattle.jx_rounds.specs.Progress.{SomeFront};
 
 use jx_io::{Files, Refused};
 use std::alloc::Global;
