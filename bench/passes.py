@@ -28,12 +28,12 @@ jx_geom: jx_base
 jx_progression: jx_base jx_geom jx_marker
 jx_tagtree: jx_base
 jx_packet_header: jx_base jx_tagtree
-jx_raw: jx_base
-jx_mq: jx_base
-jx_tier1_specs: jx_base
-jx_passdec: jx_base jx_tier1_specs jx_mq jx_raw
-jx_passenc: jx_base jx_tier1_specs jx_mq jx_raw jx_passdec
-jx_tier1: jx_base jx_tier1_specs jx_mq jx_raw jx_passdec jx_passenc
+jx_coder_specs:
+jx_raw: jx_base jx_coder_specs
+jx_mq: jx_base jx_coder_specs
+jx_tier1_specs: jx_base jx_coder_specs jx_mq jx_raw
+jx_tier1_plain: jx_base jx_coder_specs jx_mq jx_raw jx_tier1_specs
+jx_tier1: jx_base jx_coder_specs jx_mq jx_raw jx_tier1_specs
 jx_codestream: jx_base jx_marker jx_geom thiserror
 jx_tier2_reader: jx_base jx_marker jx_geom jx_progression jx_tagtree jx_packet_header jx_codestream
 """
@@ -43,9 +43,8 @@ PROGRAM = r'''//! Decodes and codes every code-block of a codestream.
 
 use jx_base::{Block, NoMemory};
 use jx_tier2_reader::gather;
+use jx_CRATE::{decode_FORM, encode_FORM};
 use jx_tier1_specs::{Coded, Segments};
-use jx_DECODER::decode_FORM;
-use jx_ENCODER::encode_FORM;
 use jx_codestream::read_stream;
 use std::alloc::Global;
 use std::env;
@@ -116,8 +115,8 @@ fn main(rt: HostRuntime) -> anyhow::Result<()> {
 '''
 
 FORMS = {
-    "fast": {"DECODER": "flags", "ENCODER": "flags", "FORM": "flags"},
-    "plain": {"DECODER": "passdec", "ENCODER": "passenc", "FORM": "passes"},
+    "fast": {"CRATE": "tier1", "FORM": "flags"},
+    "plain": {"CRATE": "tier1_plain", "FORM": "passes"},
 }
 
 

@@ -3,7 +3,7 @@
 
 usage: bench/stores.py [NUMBERS]
 
-Makes a repository in a temporary folder, with copies of jx_base, jx_store and jx_ring and a program over both stores,
+Makes a repository in a temporary folder, with copies of jx_base, jx_store, jx_store_plain and jx_ring and a program over both stores,
 runs it by `rt try`, and prints microseconds for each number, the median of three runs. A thread claims a number, commits
 that its job is short of memory, and goes on until all are claimed; then the tape is made. Only Python's standard library
 is needed, and `rt`.
@@ -18,7 +18,8 @@ import tempfile
 PROGRAM = r'''//! Claims and commits of empty work on both stores.
 use jx_base::NoMemory;
 use jx_ring::RingStore;
-use jx_store::{Blanks, ClaimAnswer, LockStore, Named, Work};
+use jx_store::{ClaimAnswer, Named, Work};
+use jx_store_plain::{Blanks, LockStore};
 use std::alloc::Global;
 use std::marker::Brand;
 use std::sync::Wait;
@@ -121,12 +122,12 @@ def main():
     top = os.path.dirname(os.path.dirname(os.path.abspath(__file__)))
     with tempfile.TemporaryDirectory() as folder:
         os.makedirs(os.path.join(folder, "crates", "stores", "src"))
-        for name in ("jx_base", "jx_store", "jx_ring"):
+        for name in ("jx_base", "jx_store", "jx_store_plain", "jx_ring"):
             ignore = shutil.ignore_patterns("out")
             shutil.copytree(os.path.join(top, "crates", name), os.path.join(folder, "crates", name), ignore=ignore)
         shutil.copy(os.path.join(top, "HANDLES"), folder)
         with open(os.path.join(folder, "crates.txt"), "w") as f:
-            f.write("jx_base:\njx_store: jx_base\njx_ring: jx_base jx_store atomic_table\nstores: jx_base jx_store jx_ring anyhow\n")
+            f.write("jx_base:\njx_store: jx_base\njx_store_plain: jx_base jx_store\njx_ring: jx_base jx_store atomic_table\nstores: jx_base jx_store jx_store_plain jx_ring anyhow\n")
         with open(os.path.join(folder, "crates", "stores", "src", "main.rt"), "w") as f:
             f.write(PROGRAM.replace("NUMBERS_u32", f"{numbers}_u32").replace("//! Claims", "#![tactic(auto)]\n//! Claims", 0))
         run = subprocess.run(["rt", "try", "--seconds", "600"], cwd=os.path.join(folder, "crates", "stores"), capture_output=True, text=True)

@@ -3,6 +3,7 @@ pub mod Bands
 pub mod Joined
 pub mod Markers
 pub mod Numbers
+pub mod OrderNumbers
 pub mod Places
 pub mod Passes
 pub mod Pieces

@@ -1,3 +1,5 @@
+//! Want of memory, the one answer without a cause in a contract.
+
 ghost use Rattle.std.specs.Prelude.{◌≡◌};
 
 use std::alloc::{AllocError, AllocFailed};

@@ -1,3 +1,5 @@
+//! A code-block's style (T.800, Table A.19): which coding passes are raw, and which end a segment (D.4, D.6).
+
 ghost use Rattle.std.specs.Prelude.{◌≡◌};
 ghost use Rattle.jx_base.specs.Passes.{bypasses, resets, terminates, is_causal, has_symbols, raw_pass, end_pass};
 

@@ -1,14 +1,6 @@
 mod CommandLemmas
 mod CommandWordLemmas
-mod FindLemmas
 mod GoodLemmas
-mod ItemLemmas
-mod ListLemmas
 mod MadeLemmas
 mod MakeLemmas
-mod NumberLemmas
-mod PartLemmas
-mod SpellLemmas
-mod StyleLemmas
-mod ValueLemmas
 mod WantedLemmas

@@ -10,16 +10,17 @@ use Rattle.std.proofs.lemmas.Fmt.{decimal_digit}
 use Rattle.clap.specs.Words.{fault_of}
 use Rattle.clap.proofs.OnLiterals.{clap_on_literals}
 use Rattle.jx_base.specs.declared.style.Style.{Style}
-use Rattle.jx_plan.specs.Wanted.{MayBeStyle}
-use Rattle.jx_plan.specs.declared.PartChoice.{PartChoice}
-use Rattle.jx_plan.specs.declared.PartChoice.TheVariants as parts
+use Rattle.jx_options.specs.Wanted.{MayBeStyle}
+use Rattle.jx_options.specs.declared.PartChoice.{PartChoice}
+use Rattle.jx_options.specs.declared.PartChoice.TheVariants as parts
 use Rattle.jx_cli.specs.Command.{transcode, with_flag, with_option, with_place}
-use Rattle.jx_cli.specs.Values.{ArePrecincts, order_said, parts_said, precincts_in, precincts_said, precincts_text, style_said, style_text, value_in, whole_choices}
-use Rattle.jx_cli.specs.Words.{Asks, Given, MayBeAsked, MayBeWork, Request, Text, Work, are_values, given_by, given_in, is_good, request_of, wanted_by, work_by}
-use Rattle.jx_cli.proofs.ItemLemmas.{two_digits}
-use Rattle.jx_cli.proofs.NumberLemmas.{number_spelled}
-use Rattle.jx_cli.proofs.SpellLemmas.{precincts_spelled, first_byte}
-use Rattle.jx_cli.proofs.StyleLemmas.{style_spelled}
+use Rattle.jx_options.specs.Values.{ArePrecincts, order_said, parts_said, precincts_in, precincts_said, precincts_text, style_said, style_text, value_in, whole_choices}
+use Rattle.jx_cli.specs.Words.{Asks, Given, MayBeAsked, Request, Text, are_values, given_by, given_in, is_good, request_of, wanted_by, work_by}
+use Rattle.jx_options.specs.Work.{MayBeWork, Work}
+use Rattle.jx_options.proofs.ItemLemmas.{two_digits}
+use Rattle.jx_options.proofs.NumberLemmas.{number_spelled}
+use Rattle.jx_options.proofs.SpellLemmas.{precincts_spelled, first_byte}
+use Rattle.jx_options.proofs.StyleLemmas.{style_spelled}
 use Rattle.jx_base.specs.Texts.{number_in}
 
 -- ---- words, and what clap makes of them

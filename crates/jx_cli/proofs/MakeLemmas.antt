@@ -9,9 +9,10 @@ use Rattle.clap.specs.Words.{fault_of}
 use Rattle.clap.proofs.OnLiterals.{clap_on_literals}
 use Rattle.jx_cli.specs.Command.{with_place}
 use Rattle.jx_cli.specs.Words.{Text, is_good, names_command}
-use Rattle.jx_cli.specs.MakeWords.{Make, MayBeMade, are_numbers, is_make, is_taken, made_in, make, make_of, seed_said, side_said}
+use Rattle.jx_cli.specs.MakeWords.{Make, MayBeMade, are_numbers, is_make, is_taken, made_in, make, make_of}
+use Rattle.jx_options.specs.Values.{seed_said, side_said}
 use Rattle.jx_cli.specs.MakeFound.{AsksMake, make_by, texts_of, under}
-use Rattle.jx_cli.proofs.NumberLemmas.{number_spelled}
+use Rattle.jx_options.proofs.NumberLemmas.{number_spelled}
 use Rattle.jx_base.specs.Texts.{number_in}
 use Rattle.jx_base.proofs.Texts.{number_read}
 

@@ -4,12 +4,13 @@ use Rattle.std.specs.Option.{option_map, option_or}
 use Rattle.std.proofs.lemmas.List.Elements.{All-nil}
 use Rattle.jx_marker.specs.Ranges.{AreBytes}
 use Rattle.jx_base.specs.declared.style.Style.{Style}
-use Rattle.jx_plan.specs.Wanted.{MayBeStyle, MayBeWanted}
-use Rattle.jx_cli.specs.Values.{ArePrecincts, order_said, orders, precincts_in, precincts_said, style_said, value_in, whole_choices}
-use Rattle.jx_cli.specs.Words.{Given, MayBeAsked, MayBeWork, given_in, request_by, request_of, wanted_by, work_by}
-use Rattle.jx_cli.proofs.SpellLemmas.{precincts_read}
-use Rattle.jx_cli.proofs.StyleLemmas.{IsGood, style_good}
-use Rattle.jx_cli.proofs.ValueLemmas.{found}
+use Rattle.jx_options.specs.Wanted.{MayBeStyle, MayBeWanted}
+use Rattle.jx_options.specs.Values.{ArePrecincts, order_said, orders, precincts_in, precincts_said, style_said, value_in, whole_choices}
+use Rattle.jx_cli.specs.Words.{Given, MayBeAsked, given_in, request_by, request_of, wanted_by, work_by}
+use Rattle.jx_options.specs.Work.{MayBeWork}
+use Rattle.jx_options.proofs.SpellLemmas.{precincts_read}
+use Rattle.jx_options.proofs.StyleLemmas.{IsGood, style_good}
+use Rattle.jx_options.proofs.ValueLemmas.{found}
 use Rattle.jx_base.specs.Texts.{number_in}
 use Rattle.jx_base.proofs.Texts.{number_read}
 

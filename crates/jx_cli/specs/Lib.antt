@@ -1,7 +1,6 @@
+pub mod MakeWords
+pub mod Words
+-- Inner: no other crate cites these.
 pub mod Command
 pub mod CommandWords
 pub mod MakeFound
-pub mod MakeWords
-pub mod Parts
-pub mod Values
-pub mod Words

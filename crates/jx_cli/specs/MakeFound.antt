@@ -1,7 +1,8 @@
 -- What clap finds in the words of `jx make`, and the words that ask for a codestream.
 use Rattle.std.specs.Prelude.{◌≡◌, true, ◌&&◌, Bool, List, [], codes, is_some, Option, unwrap_or}
 use Rattle.clap.specs.Words.{App, first_of, matches_of}
-use Rattle.jx_cli.specs.MakeWords.{Make, is_make, is_taken, make, make_of, seed_said, side_said}
+use Rattle.jx_cli.specs.MakeWords.{Make, is_make, is_taken, make, make_of}
+use Rattle.jx_options.specs.Values.{seed_said, side_said}
 use Rattle.jx_cli.specs.Words.{Text, text_of}
 
 -- the text that clap finds under each name, in words for a command

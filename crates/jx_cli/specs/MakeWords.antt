@@ -1,10 +1,10 @@
 -- What the words of `jx make` ask for: the codestream of a seed, of so many columns and rows.
-use Rattle.std.specs.Prelude.{◌≤◌, ◌<◌, ◌^◌, ◌-◌, ℕ, ◌&&◌, Bool, List, [], length, drop, slice_index_or, codes, eqb, is_some, Option, Some, if◌then◌else◌, unwrap_or}
+use Rattle.std.specs.Prelude.{◌≤◌, ◌<◌, ◌^◌, ℕ, ◌&&◌, Bool, List, [], length, drop, slice_index_or, codes, eqb, is_some, unwrap_or}
 use Rattle.std.specs.Str.{bytes_eq}
 use Rattle.clap.specs.Words.{App, fault_of, first_of, matches_of, new_app}
 use Rattle.jx_cli.specs.Command.{with_place}
 use Rattle.jx_cli.specs.Words.{Text}
-use Rattle.jx_base.specs.Texts.{number_in}
+use Rattle.jx_options.specs.Values.{seed_said, side_said}
 
 pub record Make : Type 0 where
   pub seed : ℕ
@@ -26,13 +26,6 @@ make = with_place (codes "height") (with_place (codes "width") (with_place (code
 -- the text that clap finds under a name
 abbrev pub made_in : List Text → Text → Text
 made_in words name = unwrap_or (first_of name (matches_of make words)) []
-
--- a number below 2^64 in its decimal digits, 0 among them
-abbrev pub seed_said : Text → Option ℕ
-seed_said text = if bytes_eq text (codes "0") then Some 0 else number_in (2 ^ 64 - 1) text
-
-abbrev pub side_said : Text → Option ℕ
-side_said text = number_in 4096 text
 
 abbrev pub names_make : List Text → Bool
 names_make words = bytes_eq (slice_index_or words 1 []) (codes "make")

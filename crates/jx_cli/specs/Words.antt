@@ -1,31 +1,16 @@
 -- What the words of the command line ask for.
-use Rattle.std.specs.Prelude.{◌≡◌, ◌≤◌, ◌^◌, ◌⊎◌, IfSome, true, ℕ, ◌&&◌, Bool, List, [], length, drop, slice_index_or, codes, eqb, Option, is_some, None, unwrap_or}
+use Rattle.std.specs.Prelude.{◌≡◌, ◌≤◌, ◌⊎◌, IfSome, true, ℕ, ◌&&◌, Bool, List, [], length, drop, slice_index_or, codes, eqb, Option, is_some, None, unwrap_or}
 use Rattle.std.specs.Str.{bytes_eq}
 use Rattle.clap.specs.Words.{fault_of, first_of, matches_of}
-use Rattle.jx_plan.specs.Wanted.{MayBeStyle, Wanted}
-use Rattle.jx_plan.specs.declared.PartChoice.TheVariants as parts
+use Rattle.jx_options.specs.Wanted.{MayBeStyle, Wanted}
+use Rattle.jx_options.specs.Work.{MayBeWork, Work}
+use Rattle.jx_options.specs.declared.PartChoice.TheVariants as parts
 use Rattle.jx_cli.specs.Command.{transcode}
-use Rattle.jx_cli.specs.Values.{ArePrecincts, bytes_said, order_said, parts_said, precincts_said, style_said, threads_said, window_said}
+use Rattle.jx_options.specs.Values.{ArePrecincts, bytes_said, order_said, parts_said, precincts_said, style_said, threads_said, window_said}
 
 -- the bytes of a word
 abbrev pub Text : Type 0
 Text = List ℕ
-
--- how the work is done: so many workers recode blocks; so many blocks may stand between claim and sequence; and so many bytes
--- the pieces of several such blocks may have together
-pub record Work : Type 0 where
-  pub threads : ℕ
-  pub window : ℕ
-  pub most : ℕ
-
--- work that words can ask for
-pub record MayBeWork (w : Work) : Type 0 where
-  pub some_threads : 1 ≤ w.threads
-  pub few_threads : w.threads ≤ 64
-  pub some_window : 1 ≤ w.window
-  pub few_window : w.window ≤ 1024
-  pub some_most : 1 ≤ w.most
-  pub few_most : w.most ≤ 2 ^ 28
 
 -- the input's name and the output's, how the codestream is to be written, and how the work is done
 pub record Request : Type 0 where

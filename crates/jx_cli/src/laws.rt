@@ -1,34 +1,11 @@
-//! Laws over the definitions: which texts say precincts, styles and numbers, and which; which requests words make, and
-//! which pictures they ask for. They run no code.
+//! Laws over the definitions: which requests words make, and which pictures they ask for. They run no code.
 
-ghost use Rattle.std.specs.Prelude.{◌≡◌, ◌≤◌, ◌<◌, ◌^◌, ℕ, List, Some, false, true};
-ghost use Rattle.std.specs.Fmt.{decimal};
-ghost use Rattle.jx_base.specs.declared.style.Style.{Style};
-ghost use Rattle.jx_plan.specs.Wanted.{MayBeStyle, MayBeWanted};
+ghost use Rattle.std.specs.Prelude.{◌≡◌, List, false, true};
+ghost use Rattle.jx_options.specs.Wanted.{MayBeWanted};
 ghost use Rattle.jx_cli.specs.MakeFound.{AsksMake};
 ghost use Rattle.jx_cli.specs.MakeWords.{Make, MayBeMade, is_make, make_of};
-ghost use Rattle.jx_cli.specs.Values.{ArePrecincts, HasNamed, parts_of, precincts_in, precincts_text, style_said, style_text};
-ghost use Rattle.jx_cli.specs.Words.{Asks, MayBeAsked, MayBeWork, Request, Text, is_good, request_of};
-ghost use Rattle.jx_base.specs.Texts.{number_in};
-
-/// A text says precincts exactly where it spells 1 to 33 of them, and says no others (ITU-T T.800, Table A.21).
-pub fn precincts_are_spelled()
-    ensures spelled { (bytes : List ℕ) → ArePrecincts bytes → precincts_in (precincts_text bytes) ≡ Some bytes }
-    ensures read { (text bytes : List ℕ) → precincts_in text ≡ Some bytes → ArePrecincts bytes × (text ≡ precincts_text bytes) }
-{}
-
-/// Each style of five bits is said by a text; the style that a text says is such a style, with the bits that it names (ITU-T T.800,
-/// Table A.19).
-pub fn styles_are_spelled()
-    ensures spelled { (style : Style) → MayBeStyle style → style_said (style_text style) ≡ Some (Some style) }
-    ensures read { (text : List ℕ) (style : Style) → style_said text ≡ Some (Some style) → MayBeStyle style × HasNamed (parts_of 43 text) style }
-{}
-
-/// A text says a number exactly where it has the digits of one from 1 up to the greatest, and says no other.
-pub fn numbers_are_spelled()
-    ensures spelled { (most n : ℕ) → most < 2 ^ 64 → 1 ≤ n → n ≤ most → number_in most (decimal n) ≡ Some n }
-    ensures read { (most n : ℕ) (text : List ℕ) → number_in most text ≡ Some n → (1 ≤ n) × (n ≤ most) × (text ≡ decimal n) }
-{}
+ghost use Rattle.jx_cli.specs.Words.{Asks, MayBeAsked, Request, Text, is_good, request_of};
+ghost use Rattle.jx_options.specs.Work.{MayBeWork};
 
 /// What words ask for is an order and a style that there are, exponents that are bytes, and work within its bounds.
 pub fn requests_may_be_wanted()

@@ -7,38 +7,12 @@ mod command;
 mod given;
 pub mod laws;
 mod make;
-mod numbers;
-mod parts;
-mod precincts;
 mod reading;
-mod styles;
-mod values;
 
-use jx_plan::Options;
+use jx_options::{Options, Work};
 pub use make::{Make, read_make};
 pub use reading::read_words;
 use std::marker::Model;
-
-/// How the work is done.
-#[derive(Clone, Copy, Debug)]
-pub struct Work {
-    /// How many workers recode blocks, 1 to 64.
-    pub threads: u32,
-    /// How many blocks may stand between claim and sequence, 1 to 1,024.
-    pub window: u32,
-    /// How many bytes the pieces of several such blocks may have together, 1 to 2^28.
-    pub most: u32,
-}
-
-impl Model for Work {
-    ghost use Rattle.jx_cli.specs.Words.{Work};
-
-    ghost Value = { Work };
-
-    ghost view = { λ w. record { threads = w.threads; window = w.window; most = w.most } };
-
-    ghost inverse = { λ w. record { threads = w.threads; window = w.window; most = w.most } };
-}
 
 /// What good words ask for.
 #[derive(Drop)]

@@ -3,13 +3,13 @@
 ghost use Rattle.std.specs.Prelude.{◌≡◌, ◌≤◌, true, false, IfOk, IfSome, None, Err, length, map, string_bytes};
 ghost use Rattle.clap.specs.Words.{first_value, found_of};
 ghost use Rattle.jx_cli.specs.MakeFound.{are_said, is_asked, make_by, texts_of};
-ghost use Rattle.jx_cli.specs.MakeWords.{MayBeMade, is_make, make, make_of, names_make, seed_said};
+ghost use Rattle.jx_cli.specs.MakeWords.{MayBeMade, is_make, make, make_of, names_make};
 
 use crate::WordsFault;
 use crate::command::make;
 use crate::given::{matches_in, text_of};
-use crate::numbers::{long_number_in, number_in};
 use clap::ArgMatches;
+use jx_options::{seed_said, side_said};
 use std::alloc::Global;
 use std::marker::Model;
 
@@ -34,16 +34,6 @@ impl Model for Make {
     ghost inverse = { λ m. record { seed = m.seed; width = m.width; height = m.height } };
 }
 
-/// The number below 2^64 that a word says in decimal digits, without a sign or a leading zero.
-fn seed_said(word: &str) -> Option<u64>
-    ensures { result ≡ seed_said word.now }
-{
-    if word == "0" {
-        return Some(0);
-    }
-    long_number_in(u64::MAX, word)
-}
-
 /// The numbers that were found.
 #[tactic(auto, unfolding(crate::specs::MakeFound::are_said, crate::specs::MakeFound::make_by))]
 fn make_by(matches: &ArgMatches<'_>) -> Option<Make>
@@ -51,8 +41,8 @@ fn make_by(matches: &ArgMatches<'_>) -> Option<Make>
     ensures none { result ≡ None → are_said (first_value (found_of matches.now)) ≡ false }
 {
     let seed = seed_said(text_of(matches, "seed", ""))?;
-    let width = number_in(4_096, text_of(matches, "width", ""))?;
-    let height = number_in(4_096, text_of(matches, "height", ""))?;
+    let width = side_said(text_of(matches, "width", ""))?;
+    let height = side_said(text_of(matches, "height", ""))?;
     Some(Make {
         seed,
         width,

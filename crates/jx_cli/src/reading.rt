@@ -1,16 +1,18 @@
 //! The request that words make.
 
 ghost use Rattle.std.specs.Prelude.{◌≡◌, ◌≤◌, true, false, IfOk, IfSome, None, Err, length, map, string_bytes};
-ghost use Rattle.jx_plan.specs.Choices.{bytes_in, order_in};
-ghost use Rattle.jx_plan.specs.Wanted.{MayBeWanted};
-ghost use Rattle.jx_cli.specs.Words.{MayBeWork, are_values, is_good, is_work, names_command, request_by, request_of, work_by};
+ghost use Rattle.jx_options.specs.Choices.{bytes_in, order_in};
+ghost use Rattle.jx_options.specs.Wanted.{MayBeWanted};
+ghost use Rattle.jx_cli.specs.Words.{are_values, is_good, is_work, names_command, request_by, request_of, work_by};
+ghost use Rattle.jx_options.specs.Work.{MayBeWork};
 
 use crate::given::{Given, given_in};
-use crate::numbers::number_in;
-use crate::values::{order_said, parts_said, precincts_said, style_said};
-use crate::{Request, WordsFault, Work};
+use crate::{Request, WordsFault};
 use jx_base::{NoMemory, Style};
-use jx_plan::{Options, OrderChoice, PartChoice, PrecinctChoice};
+use jx_options::{
+    Options, OrderChoice, PartChoice, PrecinctChoice, Work, bytes_said, order_said, parts_said,
+    precincts_said, style_said, threads_said, window_said,
+};
 use std::alloc::Global;
 
 /// How the work is to be done.
@@ -19,9 +21,9 @@ fn work_by(given: &Given<'_>) -> Option<Work>
     ensures some { IfSome result (λ w. (is_work given.now ≡ true) × (w ≡ work_by given.now)) }
     ensures none { result ≡ None → is_work given.now ≡ false }
 {
-    let threads = number_in(64, given.threads)?;
-    let window = number_in(1_024, given.window)?;
-    let most = number_in(268_435_456, given.window_bytes)?;
+    let threads = threads_said(given.threads)?;
+    let window = window_said(given.window)?;
+    let most = bytes_said(given.window_bytes)?;
     Some(Work {
         threads,
         window,

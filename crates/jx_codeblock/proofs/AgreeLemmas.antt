@@ -7,7 +7,7 @@ use Rattle.jx_coder_specs.specs.RawBits.{bits_of, raw_width, raw_bits, raw_bits_
 use Rattle.jx_mq.proofs.Segments.{left_out}
 use Rattle.jx_raw.proofs.Reading.{length-bits_of}
 use Rattle.jx_codeblock.specs.Segments.{less_last_ff}
-use Rattle.jx_passenc.proofs.WroteLemmas.{isnt_none}
+use Rattle.jx_tier1_specs.proofs.WroteLemmas.{isnt_none}
 
 -- the second segment has the bytes that were looked at in the first, FF past its end, and the raw bits that these bytes have
 pub record Agrees (s t : List ℕ) (looked : ℕ) : Type 0 where

@@ -8,8 +8,8 @@ use Rattle.jx_base.specs.Sound.{IsSound}
 use Rattle.jx_tier1_specs.specs.Cells.{Cells, HasSize}
 use Rattle.jx_tier1_specs.specs.Reading.{Coding, decoded, read_from}
 use Rattle.jx_tier1_specs.specs.Needs.{written}
-use Rattle.jx_passenc.specs.Alike.{HasPasses, AreAlike, AreOfOneBlock, EndsPlane}
-use Rattle.jx_passenc.proofs.PassBackLemmas.{refollowed}
+use Rattle.jx_tier1_specs.specs.Alike.{HasPasses, AreAlike, AreOfOneBlock, EndsPlane}
+use Rattle.jx_tier1_specs.proofs.PassBackLemmas.{refollowed}
 use Rattle.jx_codeblock.specs.declared.LayerEnd.{LayerEnd}
 use Rattle.jx_codeblock.specs.Jobs.{IsAsked}
 use Rattle.jx_codeblock.specs.Laws.{KeepsFirst, decoded_first}

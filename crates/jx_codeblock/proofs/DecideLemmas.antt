@@ -14,7 +14,7 @@ use Rattle.jx_base.specs.Places.{length_of}
 use Rattle.jx_base.specs.Sound.{IsSound}
 use Rattle.jx_tier1_specs.specs.Reading.{Coding, decoded}
 use Rattle.jx_tier1_specs.specs.Segments.{bytes_of}
-use Rattle.jx_passdec.specs.Short.{AreShort}
+use Rattle.jx_tier1_specs.specs.Short.{AreShort}
 use Rattle.jx_codeblock.specs.declared.LayerEnd.{LayerEnd}
 use Rattle.jx_codeblock.specs.Groups.{groups}
 use Rattle.jx_codeblock.specs.Segments.{bytes_before, sent_by_looks, sent_by_pieces}

@@ -12,7 +12,7 @@ use Rattle.jx_tier1_specs.specs.Reading.{Reading, Coding, Decoding, after_bit, r
 use Rattle.jx_codeblock.specs.Segments.{ends_below, segment_count}
 use Rattle.jx_codeblock.specs.Tables.{AreFew}
 use Rattle.jx_codeblock.proofs.EndLemmas.{below_ended, below_still}
-use Rattle.jx_passdec.proofs.Firsts.{looked_most as raw_most}
+use Rattle.jx_tier1_specs.proofs.Firsts.{looked_most as raw_most}
 
 -- ---- a coder stays in its segment
 after_segment : (r : Reading) (label : ℕ) → (after_bit r label).segment ≡ r.segment

@@ -1,3 +1,5 @@
+//! Why nothing is made of a job.
+
 ghost use Rattle.std.specs.Prelude.{◌≡◌};
 ghost use Rattle.jx_codeblock.specs.declared.faults.BlockFault.TheVariants.{NoMemory as out_of_memory};
 

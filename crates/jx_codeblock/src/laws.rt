@@ -96,10 +96,10 @@ pub fn coded_anew_keeps_coefficients()
         Some r ≡ recoding b (Some style) ends → first ≤ b.passes → KeepsFirst b style first →
         (decoded_first b style.bits (segments_of style.bits b.passes (pieces_of r)) first).cells ≡ (decoded_first b b.style.bits (own_segments b) first).cells }
 {
-    jx_passenc::laws::written_is_read_back();
-    jx_passenc::laws::decoded_fits();
-    jx_passenc::laws::recoding_keeps_coefficients();
-    jx_passenc::laws::recoding_keeps_whole_planes();
+    jx_tier1_specs::laws::written_is_read_back();
+    jx_tier1_specs::laws::decoded_fits();
+    jx_tier1_specs::laws::recoding_keeps_coefficients();
+    jx_tier1_specs::laws::recoding_keeps_whole_planes();
 }
 
 /// Nothing is made of a block exactly where it is to be coded anew and one of its segmentation symbols is

@@ -3,7 +3,7 @@
 ghost use Rattle.std.specs.Prelude.{◌≡◌, ◌≤◌, ◌+◌, ◌-◌, ◌^◌, length, map, IfOk};
 ghost use Rattle.std.specs.List.{range_with_len};
 ghost use Rattle.jx_base.specs.Sound.{IsSound};
-ghost use Rattle.jx_passdec.specs.Short.{AreShort};
+ghost use Rattle.jx_tier1_specs.specs.Short.{AreShort};
 ghost use Rattle.jx_codeblock.specs.Recoding.{own_segments, decoded_in, wrong_in};
 ghost use Rattle.jx_codeblock.specs.Groups.{groups};
 ghost use Rattle.jx_codeblock.specs.Segments.{bytes_before, sent_by_looks};

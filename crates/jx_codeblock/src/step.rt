@@ -4,7 +4,7 @@ ghost use Rattle.std.specs.Prelude.{◌≡◌, ◌≢◌, ◌≤◌, ◌-◌, ma
 ghost use Rattle.jx_base.specs.Sound.{IsSound};
 ghost use Rattle.jx_base.specs.Passes.{is_causal};
 ghost use Rattle.jx_tier1_specs.specs.Needs.{written};
-ghost use Rattle.jx_passdec.specs.Short.{AreShort};
+ghost use Rattle.jx_tier1_specs.specs.Short.{AreShort};
 ghost use Rattle.jx_codeblock.specs.Recoded.{HasCause};
 ghost use Rattle.jx_codeblock.specs.Recoding.{own_segments, coding_in, decoded_in, wrong_in};
 ghost use Rattle.jx_codeblock.specs.Groups.{groups};

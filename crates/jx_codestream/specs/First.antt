@@ -19,7 +19,7 @@ use Rattle.jx_codestream.specs.declared.headers.Header.{Header}
 use Rattle.jx_codestream.specs.declared.parts.Part.{Part}
 use Rattle.jx_codestream.specs.declared.Stream.{Stream}
 use Rattle.jx_codestream.specs.Faults.{broken, rule_at}
-use Rattle.jx_codestream.specs.Headers.{header_at, header_fault, has_slot}
+use Rattle.jx_codestream.specs.Headers.{cod_slot, header_at, header_fault, has_slot, qcd_slot}
 use Rattle.jx_codestream.specs.Parts.{marker_at, parts_of, Parts, parts_from, parts_fault}
 use Rattle.jx_codestream.specs.Tiles.{tiles_of}
 use Rattle.jx_codestream.specs.Params.{entries_fault, planes_fault}
@@ -48,7 +48,7 @@ tiles_fault siz = if nat_lt 65535 (tile_number siz) then Some (fault.Limit 3 (ti
 
 -- rule 17: no COD or no QCD among these
 abbrev pub lacks_default : List Segment → Bool
-lacks_default main = not (has_slot 1 main && has_slot 2 main)
+lacks_default main = not (has_slot cod_slot main && has_slot qcd_slot main)
 
 -- the main header after SIZ, and where its first SOT stands
 abbrev pub main_header : ℕ → List ℕ → ℕ → Header

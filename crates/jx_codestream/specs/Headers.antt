@@ -50,16 +50,40 @@ stands_in Main s = stands_in_main s
 stands_in First s = stands_in_first s || stands_in_later s
 stands_in Later s = stands_in_later s
 
--- a number for each kind of segment, or kind and component, that a header has once at most; 0 for the others
+-- a number for each kind of segment, or kind and component, that a header has once at most (rule 18); 0 for the others
+abbrev pub other_slot : ℕ
+other_slot = 0
+
+abbrev pub cod_slot : ℕ
+cod_slot = 1
+
+abbrev pub qcd_slot : ℕ
+qcd_slot = 2
+
+abbrev pub poc_slot : ℕ
+poc_slot = 3
+
+abbrev pub crg_slot : ℕ
+crg_slot = 4
+
+abbrev pub coc_slot : ℕ → ℕ
+coc_slot comp = 5 + 3 * comp
+
+abbrev pub qcc_slot : ℕ → ℕ
+qcc_slot comp = 6 + 3 * comp
+
+abbrev pub rgn_slot : ℕ → ℕ
+rgn_slot comp = 7 + 3 * comp
+
 abbrev pub slot_of : Segment → ℕ
-slot_of (segment.Cod cod) = 1
-slot_of (segment.Qcd quant) = 2
-slot_of (segment.Poc entries) = 3
-slot_of (segment.Crg bytes) = 4
-slot_of (segment.Coc comp shape) = 5 + 3 * comp
-slot_of (segment.Qcc comp quant) = 6 + 3 * comp
-slot_of (segment.Rgn comp shift) = 7 + 3 * comp
-slot_of _ = 0
+slot_of (segment.Cod cod) = cod_slot
+slot_of (segment.Qcd quant) = qcd_slot
+slot_of (segment.Poc entries) = poc_slot
+slot_of (segment.Crg bytes) = crg_slot
+slot_of (segment.Coc comp shape) = coc_slot comp
+slot_of (segment.Qcc comp quant) = qcc_slot comp
+slot_of (segment.Rgn comp shift) = rgn_slot comp
+slot_of _ = other_slot
 
 -- how many such numbers there are
 abbrev pub slot_count : ℕ → ℕ

@@ -1,8 +1,8 @@
--- Inner: a header's segments by their slots.
+-- A header's segments by their slots.
 use Rattle.std.specs.Prelude.{◌≡◌, ◌<◌, ℕ, ◌-◌, ◌==◌, ◌||◌, nat_lt, Bool, true, List, length, Option, None, Some, if◌then◌else◌, slice_index, Vec}
 use Rattle.std.specs.List.{slice_get, list_any}
 use Rattle.jx_marker.specs.declared.Segment.{Segment}
-use Rattle.jx_codestream.specs.Headers.{slot_of}
+use Rattle.jx_codestream.specs.Headers.{cod_slot, crg_slot, qcd_slot, slot_of}
 use Rattle.jx_codestream.specs.Tiles.{in_slot}
 
 -- the segment before this number of places, or none for 0
@@ -20,7 +20,7 @@ held_or (Some held) others = held.items
 
 -- a slot of the segments that give parameters: COD, QCD, COC, QCC, RGN
 abbrev pub gives : ℕ → Bool
-gives slot = (slot == 1) || ((slot == 2) || nat_lt 4 slot)
+gives slot = (slot == cod_slot) || ((slot == qcd_slot) || nat_lt crg_slot slot)
 
 -- some segment gives parameters
 abbrev pub has_giving : List Segment → Bool

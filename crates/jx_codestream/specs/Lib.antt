@@ -6,7 +6,6 @@ pub mod Parts
 pub mod Tiles
 pub mod TileHeaders
 pub mod Params
-pub mod BandNumbers
 pub mod Shapes
 pub mod Index
 pub mod First
@@ -14,3 +13,5 @@ pub mod Spells
 pub mod Read
 pub mod FirstViolated
 pub mod InRange
+-- Inner: no other crate cites these.
+pub mod BandNumbers

@@ -14,6 +14,7 @@ use Rattle.jx_codestream.specs.declared.Stream.{Stream}
 use Rattle.jx_codestream.specs.declared.Params.{Params}
 use Rattle.jx_codestream.specs.declared.faults.StreamFault.{StreamFault}
 use Rattle.jx_codestream.specs.declared.faults.StreamFault.TheVariants as fault
+use Rattle.jx_codestream.specs.Headers.{coc_slot, cod_slot, qcc_slot, qcd_slot, rgn_slot}
 use Rattle.jx_codestream.specs.Tiles.{in_slot}
 use Rattle.jx_codestream.specs.TileHeaders.{TileHeaders}
 
@@ -42,19 +43,19 @@ chosen own default tile main = option_or (in_slot own tile) (option_or (in_slot 
 
 -- tile COC, tile COD, main COC, main COD
 abbrev pub shape_of : List Segment → List Segment → ℕ → Option Shape
-shape_of tile main comp = shape_in (chosen (5 + 3 * comp) 1 tile main)
+shape_of tile main comp = shape_in (chosen (coc_slot comp) cod_slot tile main)
 
 -- tile QCC, tile QCD, main QCC, main QCD
 abbrev pub quant_of : List Segment → List Segment → ℕ → Option Quant
-quant_of tile main comp = quant_in (chosen (6 + 3 * comp) 2 tile main)
+quant_of tile main comp = quant_in (chosen (qcc_slot comp) qcd_slot tile main)
 
 -- tile RGN, main RGN, or no shift
 abbrev pub shift_of : List Segment → List Segment → ℕ → ℕ
-shift_of tile main comp = shift_in (option_or (in_slot (7 + 3 * comp) tile) (in_slot (7 + 3 * comp) main))
+shift_of tile main comp = shift_in (option_or (in_slot (rgn_slot comp) tile) (in_slot (rgn_slot comp) main))
 
 -- order, layers and component transform: the tile's COD, else the main one
 abbrev pub cod_of : List Segment → List Segment → Option Cod
-cod_of tile main = cod_in (option_or (in_slot 1 tile) (in_slot 1 main))
+cod_of tile main = cod_in (option_or (in_slot cod_slot tile) (in_slot cod_slot main))
 
 -- the number of a band among those of its component: LL, then HL, LH, HH of each resolution upwards
 abbrev pub number_of : ℕ → Band → ℕ

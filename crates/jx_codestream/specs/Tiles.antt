@@ -8,7 +8,7 @@ use Rattle.jx_marker.specs.declared.Cod.{Cod}
 use Rattle.jx_codestream.specs.declared.parts.Part.{Part}
 use Rattle.jx_codestream.specs.declared.Tile.{Tile}
 use Rattle.jx_codestream.specs.declared.tiles.Draft.{Draft}
-use Rattle.jx_codestream.specs.Headers.{slot_of}
+use Rattle.jx_codestream.specs.Headers.{cod_slot, slot_of}
 use Rattle.jx_codestream.specs.Parts.{parts_of}
 
 -- the segment of a slot in a header
@@ -56,7 +56,7 @@ or_list (entry ∷ entries) second = entry ∷ entries
 -- the tile's own entries, joined over its tile-parts, else the main header's, else the one of its COD, else of the main COD
 abbrev pub progressions_of : List Segment → List Part → List Progression
 progressions_of main own =
-    or_list (joined (headers_of own)) (or_list (joined main) (or_list (entry_in (in_slot 1 (first_header own))) (entry_in (in_slot 1 main))))
+    or_list (joined (headers_of own)) (or_list (joined main) (or_list (entry_in (in_slot cod_slot (first_header own))) (entry_in (in_slot cod_slot main))))
 
 -- the tile of these tile-parts
 abbrev pub tile_from : List Segment → List Part → Tile

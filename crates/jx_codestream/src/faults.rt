@@ -1,3 +1,5 @@
+//! Why a codestream isn't read: a rule at a place, a limit, or want of memory.
+
 ghost use Rattle.std.specs.Prelude.{◌≡◌};
 ghost use Rattle.jx_codestream.specs.declared.faults.StreamFault.TheVariants.{NoMemory as out_of_memory};
 

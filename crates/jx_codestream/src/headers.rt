@@ -1,3 +1,5 @@
+//! The main header and the headers of tile-parts (T.800, A.2, A.3): their segments, and the first rule that one of them violates.
+
 ghost use Rattle.std.specs.Prelude.{◌≡◌, ◌≤◌, ◌<◌, ◌+◌, ◌*◌, ◌^◌, ◌==◌, ◌&&◌, length, drop, slice_index, slice_set, nat_lt, IfOk, OnOk, ℕ, if◌then◌else◌};
 ghost use Rattle.std.specs.Option.{option_or};
 ghost use Rattle.jx_marker.specs.Ranges.{InRange};
@@ -5,7 +7,7 @@ ghost use Rattle.jx_marker.specs.Segments.{segment_at, size_at};
 ghost use Rattle.jx_codestream.specs.Faults.{Answers, fault_of};
 ghost use Rattle.jx_codestream.specs.Headers.{stands_in, ends_header, slot_of, slot_count, early_fault, header_at, header_fault, Marks};
 
-use crate::{Segments, StreamFault};
+use crate::{Segments, StreamFault, slots};
 use jx_marker::{Rule, Segment, read_segment};
 use std::alloc::Global;
 
@@ -88,14 +90,14 @@ pub fn slot_of(segment: &Segment) -> usize
     ensures { result ≡ slot_of segment.now }
 {
     match segment {
-        Segment::Cod(_) => 1,
-        Segment::Qcd(_) => 2,
-        Segment::Poc(_) => 3,
-        Segment::Crg(_) => 4,
-        Segment::Coc { comp, .. } => 5 + 3 * usize::from(*comp),
-        Segment::Qcc { comp, .. } => 6 + 3 * usize::from(*comp),
-        Segment::Rgn { comp, .. } => 7 + 3 * usize::from(*comp),
-        _ => 0,
+        Segment::Cod(_) => slots::COD,
+        Segment::Qcd(_) => slots::QCD,
+        Segment::Poc(_) => slots::POC,
+        Segment::Crg(_) => slots::CRG,
+        Segment::Coc { comp, .. } => slots::coc(*comp),
+        Segment::Qcc { comp, .. } => slots::qcc(*comp),
+        Segment::Rgn { comp, .. } => slots::rgn(*comp),
+        _ => slots::OTHER,
     }
 }
 
@@ -142,7 +144,7 @@ fn mark(slot: usize, start: u32, seen: &mut [u32]) -> bool
     ensures found { result ≡ (nat_lt 0 slot && (slice_index seen.old slot == start)) }
     ensures after { seen.new ≡ (if nat_lt 0 slot then slice_set seen.old slot start else seen.old) }
 {
-    if slot == 0 {
+    if slot == slots::OTHER {
         return false;
     }
     let found = seen[slot] == start;

@@ -6,6 +6,7 @@ ghost use Rattle.jx_codestream.specs.Index.{Indexes, IsBare, gives, has_giving, 
 ghost use Rattle.jx_codestream.specs.Tiles.{in_slot};
 
 use crate::headers::slot_of;
+use crate::slots;
 use crate::tiles::in_slot;
 use jx_marker::Segment;
 use std::alloc::{AllocError, Global};
@@ -89,7 +90,7 @@ fn found_by<'a>(table: &[usize], segments: &'a [Segment], slot: usize) -> Option
 fn gives(slot: usize) -> bool
     ensures { result ≡ gives slot }
 {
-    slot == 1 || slot == 2 || slot > 4
+    slot == slots::COD || slot == slots::QCD || slot > slots::CRG
 }
 
 /// Whether a segment of the header gives parameters.
@@ -120,7 +121,7 @@ fn table_of(alloc: Global, segments: &[Segment], comps: u16) -> Result<Vec<usize
     ensures right { IfOk result (λ table. Indexes segments.now table.items) }
     ensures count { IfOk result (λ table. length table.items ≡ slot_count comps) }
 {
-    let mut table = zeros(alloc, 5 + 3 * usize::from(comps))?;
+    let mut table = zeros(alloc, slots::count(comps))?;
     for (place, segment) in segments.iter().enumerate() {
         enter(slot_of(segment), place, &mut table);
     }

@@ -19,7 +19,7 @@ ghost use Rattle.jx_geom.specs.declared.shape.CompShape.{CompShape};
 ghost use Rattle.jx_geom.specs.Ranges.{CanvasInRange, HasBand};
 ghost use Rattle.jx_geom.specs.Rects.{band_level};
 ghost use Rattle.jx_base.specs.declared.names.Band.{Band};
-ghost use Rattle.jx_codestream.specs.Headers.{slot_of};
+ghost use Rattle.jx_codestream.specs.Headers.{coc_slot, cod_slot, crg_slot, poc_slot, qcc_slot, qcd_slot, rgn_slot, slot_of};
 ghost use Rattle.jx_codestream.specs.Kinds.{IsCoc, IsCod, IsCrg, IsPoc, IsQcc, IsQcd, IsRgn};
 ghost use Rattle.jx_codestream.specs.BandNumbers.{all_numbers};
 
@@ -77,13 +77,13 @@ pub fn siz_is_in_range()
 
 /// The numbers by which a header's segments are found tell their kind, and their component.
 pub fn slots_are_kinds()
-    ensures cod { (s : Segment) → (slot_of s ≡ 1 → IsCod s) × (IsCod s → slot_of s ≡ 1) }
-    ensures qcd { (s : Segment) → (slot_of s ≡ 2 → IsQcd s) × (IsQcd s → slot_of s ≡ 2) }
-    ensures poc { (s : Segment) → (slot_of s ≡ 3 → IsPoc s) × (IsPoc s → slot_of s ≡ 3) }
-    ensures crg { (s : Segment) → (slot_of s ≡ 4 → IsCrg s) × (IsCrg s → slot_of s ≡ 4) }
-    ensures coc { (s : Segment) (comp : ℕ) → (slot_of s ≡ 5 + 3 * comp → IsCoc comp s) × (IsCoc comp s → slot_of s ≡ 5 + 3 * comp) }
-    ensures qcc { (s : Segment) (comp : ℕ) → (slot_of s ≡ 6 + 3 * comp → IsQcc comp s) × (IsQcc comp s → slot_of s ≡ 6 + 3 * comp) }
-    ensures rgn { (s : Segment) (comp : ℕ) → (slot_of s ≡ 7 + 3 * comp → IsRgn comp s) × (IsRgn comp s → slot_of s ≡ 7 + 3 * comp) }
+    ensures cod { (s : Segment) → (slot_of s ≡ cod_slot → IsCod s) × (IsCod s → slot_of s ≡ cod_slot) }
+    ensures qcd { (s : Segment) → (slot_of s ≡ qcd_slot → IsQcd s) × (IsQcd s → slot_of s ≡ qcd_slot) }
+    ensures poc { (s : Segment) → (slot_of s ≡ poc_slot → IsPoc s) × (IsPoc s → slot_of s ≡ poc_slot) }
+    ensures crg { (s : Segment) → (slot_of s ≡ crg_slot → IsCrg s) × (IsCrg s → slot_of s ≡ crg_slot) }
+    ensures coc { (s : Segment) (comp : ℕ) → (slot_of s ≡ coc_slot comp → IsCoc comp s) × (IsCoc comp s → slot_of s ≡ coc_slot comp) }
+    ensures qcc { (s : Segment) (comp : ℕ) → (slot_of s ≡ qcc_slot comp → IsQcc comp s) × (IsQcc comp s → slot_of s ≡ qcc_slot comp) }
+    ensures rgn { (s : Segment) (comp : ℕ) → (slot_of s ≡ rgn_slot comp → IsRgn comp s) × (IsRgn comp s → slot_of s ≡ rgn_slot comp) }
 {}
 
 /// The bands of a component, by resolution and in their order, have the numbers from 0 to 3 times the levels, and the

@@ -12,6 +12,7 @@ mod parts;
 mod precedence;
 mod queries;
 mod reading;
+mod slots;
 mod steps;
 mod tiles;
 mod view;

@@ -1,3 +1,5 @@
+//! Lists of segments and of tile data, which contracts see as lists.
+
 ghost use Rattle.std.specs.Prelude.{◌≡◌, IfOk};
 
 use crate::{Body, Tile};

@@ -1,3 +1,5 @@
+//! Tile-parts (T.800, A.4.2): SOT, header and data of each.
+
 ghost use Rattle.std.specs.Prelude.{◌≡◌, ◌≢◌, ◌≤◌, ◌<◌, ◌+◌, ◌-◌, ◌^◌, ◌==◌, ◌&&◌, not, nat_lt, true, false, length, drop, slice_index, slice_set, IfOk, IfErr, MatchOption, Some, None, ℕ, [], if◌then◌else◌};
 ghost use Rattle.jx_marker.specs.declared.Segment.{Segment};
 ghost use Rattle.jx_marker.specs.declared.Sot.{Sot};

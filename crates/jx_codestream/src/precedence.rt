@@ -8,12 +8,8 @@ ghost use Rattle.jx_codestream.specs.Params.{chosen, cod_of, quant_of, shape_of,
 ghost use Rattle.jx_codestream.specs.Tiles.{in_slot};
 
 use crate::index::Index;
+use crate::slots;
 use jx_marker::{Cod, Quant, Segment, Shape};
-
-/// The slots of COD and QCD.
-const COD: usize = 1;
-
-const QCD: usize = 2;
 
 /// The first that is there.
 fn first_of<'a>(tile: &'a Index<'a>, main: &'a Index<'a>, slot: usize) -> Option<&'a Segment>
@@ -52,7 +48,7 @@ fn chosen<'a>(
 pub fn shape_of<'a>(tile: &'a Index<'a>, main: &'a Index<'a>, comp: u16) -> Option<&'a Shape>
     ensures { MatchOption result (shape_of tile.now.segments.now main.now.segments.now comp ≡ None) (λ shape. shape_of tile.now.segments.now main.now.segments.now comp ≡ Some shape.now) }
 {
-    match chosen(tile, main, 5 + 3 * usize::from(comp), COD) {
+    match chosen(tile, main, slots::coc(comp), slots::COD) {
         Some(Segment::Cod(cod)) => Some(&cod.shape),
         Some(Segment::Coc { shape, .. }) => Some(shape),
         _ => None,
@@ -63,7 +59,7 @@ pub fn shape_of<'a>(tile: &'a Index<'a>, main: &'a Index<'a>, comp: u16) -> Opti
 pub fn quant_of<'a>(tile: &'a Index<'a>, main: &'a Index<'a>, comp: u16) -> Option<&'a Quant>
     ensures { MatchOption result (quant_of tile.now.segments.now main.now.segments.now comp ≡ None) (λ quant. quant_of tile.now.segments.now main.now.segments.now comp ≡ Some quant.now) }
 {
-    match chosen(tile, main, 6 + 3 * usize::from(comp), QCD) {
+    match chosen(tile, main, slots::qcc(comp), slots::QCD) {
         Some(Segment::Qcd(quant)) => Some(quant),
         Some(Segment::Qcc { quant, .. }) => Some(quant),
         _ => None,
@@ -74,7 +70,7 @@ pub fn quant_of<'a>(tile: &'a Index<'a>, main: &'a Index<'a>, comp: u16) -> Opti
 pub fn shift_of(tile: &Index, main: &Index, comp: u16) -> u8
     ensures { result ≡ shift_of tile.now.segments.now main.now.segments.now comp }
 {
-    match first_of(tile, main, 7 + 3 * usize::from(comp)) {
+    match first_of(tile, main, slots::rgn(comp)) {
         Some(segment) => shift_in(segment),
         None => 0,
     }
@@ -93,7 +89,7 @@ fn shift_in(segment: &Segment) -> u8
 pub fn cod_of<'a>(tile: &'a Index<'a>, main: &'a Index<'a>) -> Option<&'a Cod>
     ensures { MatchOption result (cod_of tile.now.segments.now main.now.segments.now ≡ None) (λ cod. cod_of tile.now.segments.now main.now.segments.now ≡ Some cod.now) }
 {
-    match first_of(tile, main, COD) {
+    match first_of(tile, main, slots::COD) {
         Some(Segment::Cod(cod)) => Some(cod),
         _ => None,
     }

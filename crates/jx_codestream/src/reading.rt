@@ -1,3 +1,5 @@
+//! A codestream from its first byte to EOC: SIZ, the main header, all tile-parts.
+
 ghost use Rattle.std.specs.Prelude.{◌≡◌, ◌≢◌, ◌⊎◌, ◌≤◌, ◌<◌, ◌+◌, ◌-◌, ◌*◌, ◌^◌, ◌==◌, ◌&&◌, not, nat_lt, length, drop, slice_index, IfOk, IfErr, Ok, Err, ℕ, [], true};
 ghost use Rattle.std.specs.List.{All, list_any};
 ghost use Rattle.std.specs.Option.{option_or};
@@ -10,7 +12,7 @@ ghost use Rattle.jx_codestream.specs.Faults.{Answers};
 ghost use Rattle.jx_codestream.specs.Spells.{Spells};
 ghost use Rattle.jx_codestream.specs.Read.{IsRead};
 ghost use Rattle.jx_codestream.specs.FirstViolated.{IsFirst};
-ghost use Rattle.jx_codestream.specs.Headers.{slot_count};
+ghost use Rattle.jx_codestream.specs.Headers.{cod_slot, qcd_slot, slot_count};
 ghost use Rattle.jx_codestream.specs.Parts.{Tracks, end_of_part};
 ghost use Rattle.jx_codestream.specs.Params.{entries_fault, planes_fault};
 ghost use Rattle.jx_codestream.specs.First.{canvas_of, tile_number, siz_of, after_siz, front_fault, tiles_fault, lacks_default, main_header, main_fault, parts_after, lacks_part, body_fault, stream_from, stream_in, parameters_fault, later_fault, first_fault};
@@ -20,7 +22,7 @@ use crate::headers::{Header, HeaderKind, fault_of, read_header, violated};
 use crate::index::Index;
 use crate::parts::{Part, has_marker, read_parts};
 use crate::tiles::tiles_of;
-use crate::{Segments, Stream, StreamFault, Tile, Tiles};
+use crate::{Segments, Stream, StreamFault, Tile, Tiles, slots};
 use jx_geom::{Canvas, tiles};
 use jx_marker::codes::{SIZ, SOC};
 use jx_marker::{Segment, Siz, read_segment};
@@ -89,10 +91,10 @@ fn count_tiles(siz: &Siz) -> Result<usize, StreamFault>
 
 /// Whether the header from `start` on has a COD and a QCD.
 fn has_defaults(start: usize, seen: &[u32]) -> bool
-    requires { 2 < length seen.now }
-    ensures { result ≡ ((slice_index seen.now 1 == start) && (slice_index seen.now 2 == start)) }
+    requires { qcd_slot < length seen.now }
+    ensures { result ≡ ((slice_index seen.now cod_slot == start) && (slice_index seen.now qcd_slot == start)) }
 {
-    seen[1] as usize == start && seen[2] as usize == start
+    seen[slots::COD] as usize == start && seen[slots::QCD] as usize == start
 }
 
 /// The main header, after which the first SOT stands.
@@ -170,7 +172,7 @@ fn read_headers(
         (λ r. (r.0 ≡ main_header comps bytes.now start) × (r.1.items ≡ (parts_after comps count bytes.now start).parts)) }
     ensures tiles { IfOk result (λ r. All (λ (part : Part). part.sot.tile < count) r.1.items) }
 {
-    let mut seen = vec![in alloc; 0u32; 5 + 3 * usize::from(comps)]?;
+    let mut seen = vec![in alloc; 0u32; slots::count(comps)]?;
     let mut counts = vec![in alloc; 0u16; count]?;
     let mut told = vec![in alloc; 0u8; count]?;
     read_body(

@@ -1,3 +1,5 @@
+//! What the tile-parts of a tile say together.
+
 ghost use Rattle.std.specs.Prelude.{◌≡◌, ◌≤◌, ◌<◌, ◌+◌, ◌==◌, ◌++◌, ◌∷◌, [], List, length, map, IfOk, OnOk, ℕ, MatchOption, Some, None, if◌then◌else◌, slice_index_or};
 ghost use Rattle.std.specs.List.{filter, flat_map};
 ghost use Rattle.std.specs.Option.{option_to_list};
@@ -5,13 +7,13 @@ ghost use Rattle.std.specs.List.{All};
 ghost use Rattle.jx_marker.specs.declared.Segment.{Segment};
 ghost use Rattle.jx_codestream.specs.declared.tiles.Draft.{Draft};
 ghost use Rattle.jx_codestream.specs.declared.parts.Part.{Part};
-ghost use Rattle.jx_codestream.specs.Headers.{slot_of};
+ghost use Rattle.jx_codestream.specs.Headers.{cod_slot, slot_of};
 ghost use Rattle.jx_codestream.specs.Tiles.{in_slot, joined, is_com, entry_in, entries_of, or_list, tile_from, tiles_of, Collects};
 ghost use Rattle.jx_codestream.specs.Parts.{parts_of};
 
 use crate::headers::slot_of;
 use crate::parts::Part;
-use crate::{Bodies, Body, Entries, Segments, Tile};
+use crate::{Bodies, Body, Entries, Segments, Tile, slots};
 use jx_marker::{Progression, Segment};
 use std::alloc::{AllocError, Global};
 
@@ -126,9 +128,9 @@ fn collect_parts(alloc: Global, parts: Vec<Part>, count: usize) -> Result<Vec<Dr
 
 /// The entry that a header's COD stands for.
 fn cod_entry(segments: &[Segment]) -> Option<Progression>
-    ensures { option_to_list result ≡ entry_in (in_slot 1 segments.now) }
+    ensures { option_to_list result ≡ entry_in (in_slot cod_slot segments.now) }
 {
-    match in_slot(1, segments) {
+    match in_slot(slots::COD, segments) {
         Some(Segment::Cod(cod)) => Some(Progression {
             rs: 0,
             cs: 0,
@@ -159,7 +161,7 @@ fn progressions(
     main: &Entries,
     default: &Entries,
 ) -> Result<Entries, AllocError>
-    ensures { IfOk result (λ entries. entries ≡ or_list own.items (or_list main.now (or_list (entry_in (in_slot 1 header.now)) default.now))) }
+    ensures { IfOk result (λ entries. entries ≡ or_list own.items (or_list main.now (or_list (entry_in (in_slot cod_slot header.now)) default.now))) }
 {
     if !own.is_empty() {
         return Entries::new(own);
@@ -178,7 +180,7 @@ impl Draft {
     /// The tile, with the main header's entries and the one of the main COD.
     fn finish(self, alloc: Global, main: &Entries, default: &Entries) -> Result<Tile, AllocError>
         ensures { IfOk result (λ tile. (own : List Part) (segments : List Segment) → Collects own self → main.now ≡ joined segments
-            → default.now ≡ entry_in (in_slot 1 segments) → tile ≡ tile_from segments own) }
+            → default.now ≡ entry_in (in_slot cod_slot segments) → tile ≡ tile_from segments own) }
     {
         let Draft {
             place,
@@ -215,7 +217,7 @@ fn finish_all(
     default: &Entries,
 ) -> Result<Vec<Tile>, AllocError>
     ensures count { IfOk result (λ tiles. length tiles.items ≡ length drafts.items) }
-    ensures each { IfOk result (λ tiles. (segments : List Segment) → main.now ≡ joined segments → default.now ≡ entry_in (in_slot 1 segments)
+    ensures each { IfOk result (λ tiles. (segments : List Segment) → main.now ≡ joined segments → default.now ≡ entry_in (in_slot cod_slot segments)
         → (tile : ℕ) (other : Draft) (another : Tile) (own : List Part) → tile < length drafts.items
         → Collects own (slice_index_or drafts.items tile other) → slice_index_or tiles.items tile another ≡ tile_from segments own) }
 {

@@ -1,9 +1,10 @@
-pub mod Random
-pub mod Drawn
 pub mod Headers
 pub mod Made
+pub mod Reading
+pub mod Plain
+-- Inner: no other crate cites these.
+pub mod Random
+pub mod Drawn
 pub mod Values
 pub mod Making
-pub mod Reading
 pub mod Packets
-pub mod Plain

@@ -2,15 +2,16 @@
 pub mod Ranges
 pub mod Spans
 pub mod Rects
-pub mod Sets
 pub mod Sizes
 pub mod Counts
 pub mod Geometry
-pub mod Grids
 pub mod Leaves
-pub mod LeafPlaces
 pub mod Numbering
 pub mod Precincts
 pub mod Resolutions
 pub mod Same
+-- Inner: no other crate cites these.
+pub mod Sets
+pub mod Grids
+pub mod LeafPlaces
 pub mod Search

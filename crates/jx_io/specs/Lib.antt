@@ -1,6 +1,7 @@
 pub mod Causes
 pub mod Device
 pub mod Stored
+-- Inner: no other crate cites these.
 pub mod Planned
 pub mod MemPlan
 pub mod SinkPlan

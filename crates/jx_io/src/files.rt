@@ -1,3 +1,5 @@
+//! The trait of a device with files.
+
 ghost use Rattle.std.specs.Prelude.{◌≡◌, ◌≢◌, ◌≤◌, ◌<◌, ℕ, List, Some, None, length, take, IfOk, OnOk, OnErr, IfSome, IsTrue};
 ghost use Rattle.jx_io.specs.Causes.{HasCause};
 ghost use Rattle.jx_io.specs.Device.{Meaning, Takes, after_open, after_read, after_create, after_write, after_finish, Allows};

@@ -1,3 +1,5 @@
+//! The trait of a gate, which is told of a run's code-blocks.
+
 /// What is told of a run's code-blocks: how many there are, then each that a worker has in hand, then that
 /// all is over. It is called by several threads at once, has no faults, and no contract speaks of what it
 /// does.

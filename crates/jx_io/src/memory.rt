@@ -1,3 +1,5 @@
+//! Files in memory that can be made to fail.
+
 ghost use Rattle.std.specs.Prelude.{Err, ◌≡◌, ◌≢◌, ◌++◌, ◌≤◌, ◌<◌, [], ◌∷◌, ⊤, Some, None, length, take, IfOk, IfSome, OnOk, OnErr};
 ghost use Rattle.std.specs.Option.{option_map};
 ghost use Rattle.jx_io.specs.Device.{Allows, Takes, after_create, after_finish, after_open, after_put, after_read, after_write};

@@ -1,3 +1,5 @@
+//! The file that is made: a draft beside its name until it is finished.
+
 ghost use Rattle.std.specs.Prelude.{◌≡◌, ◌≤◌, ◌<◌, length, None, IfOk, IfSome, OnErr, OnOk};
 ghost use Rattle.std.specs.Path.{path_buf_bytes};
 ghost use Rattle.jx_io.specs.Drafts.{IsBeside, IsDraftFor, IsLed};

@@ -1,3 +1,5 @@
+//! Which calls are to fail, for devices in memory.
+
 ghost use Rattle.std.specs.Prelude.{◌≡◌, ◌↔◌, IsTrue, OnOk, OnErr, [], ◌∷◌, ◌++◌, Contains};
 ghost use Rattle.jx_io.specs.Planned.{Counts, next_of};
 

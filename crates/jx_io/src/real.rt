@@ -1,3 +1,5 @@
+//! The files of the system.
+
 ghost use Rattle.std.specs.Prelude.{None, ⊤, false, is_some, ◌≡◌, ◌≤◌};
 ghost use Rattle.jx_io.specs.Causes.{Rose};
 

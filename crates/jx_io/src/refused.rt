@@ -1,3 +1,5 @@
+//! Why a call of the outside did nothing.
+
 ghost use Rattle.std.specs.Prelude.{◌≡◌};
 ghost use Rattle.jx_io.specs.declared.refused.Refused.TheVariants.{NoMemory};
 

@@ -1,3 +1,5 @@
+//! The trait of a sink for text.
+
 ghost use Rattle.std.specs.Prelude.{◌≡◌, ◌++◌, ℕ, List, Option, OnOk, OnErr};
 ghost use Rattle.std.specs.Option.{option_map};
 ghost use Rattle.jx_io.specs.Causes.{HasCause};

@@ -1,3 +1,5 @@
+//! Sinks that keep their text.
+
 ghost use Rattle.std.specs.Prelude.{Err, ◌≡◌, ◌++◌, [], ◌∷◌, List, ℕ, Some, OnOk, OnErr, string_bytes};
 ghost use Rattle.jx_io.specs.Causes.{HasCause};
 

@@ -1,3 +1,5 @@
+//! Files as they are kept in memory.
+
 ghost use Rattle.std.specs.Prelude.{◌≡◌, ◌≢◌, ◌≤◌, ℕ, List, Some, None, false, length, take, drop, min, IfOk, IfSome, OnOk, OnErr, []};
 ghost use Rattle.std.specs.Option.{option_map};
 ghost use Rattle.jx_io.specs.Device.{Takes, after_create, after_finish, after_open, after_put, after_read, after_write};

@@ -1,3 +1,5 @@
+//! Files in memory of which no call fails but for want of it.
+
 ghost use Rattle.std.specs.Prelude.{Err, ◌≡◌, ⊤, Some, OnOk, OnErr};
 ghost use Rattle.std.specs.Option.{option_map};
 ghost use Rattle.jx_io.specs.Device.{IsThere, after_put};

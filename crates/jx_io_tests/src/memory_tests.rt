@@ -1,3 +1,5 @@
+//! Files and sinks in memory.
+
 ghost use Rattle.std.specs.Prelude.{ℕ, List};
 
 use crate::checks::{check, equal, equal_at};

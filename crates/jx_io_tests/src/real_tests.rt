@@ -1,3 +1,5 @@
+//! The files of the system, in a folder of their own.
+
 ghost use Rattle.std.specs.Prelude.{◌≡◌, ℕ, List, IsTrue, OnOk};
 
 use crate::checks::check;

@@ -1,3 +1,5 @@
+//! A shorter borrow of code-blocks.
+
 ghost use Rattle.std.specs.Prelude.{◌≡◌};
 
 use jx_base::Block;

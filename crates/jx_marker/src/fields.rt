@@ -1,3 +1,5 @@
+//! The values that stand in the bytes of a segment (T.800, A.5 to A.9).
+
 ghost use Rattle.std.specs.Prelude.{◌≡◌, ◌+◌, ◌-◌, ◌*◌, ◌/◌, ◌≤◌, ◌<◌, length, drop, slice_index, IfOk};
 ghost use Rattle.byteorder.specs.Endian.{big_from};
 ghost use Rattle.jx_marker.specs.Markers.{index_size, entry_size, progression_size};

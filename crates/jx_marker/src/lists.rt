@@ -1,3 +1,5 @@
+//! Bytes and numbers of a segment, which contracts see as lists.
+
 ghost use Rattle.std.specs.Prelude.{◌≡◌, IfOk, length};
 
 use crate::{CompSize, Progression};

@@ -1,3 +1,5 @@
+//! Which markers have a length, and the sizes that depend on the number of components or on the quantization style.
+
 ghost use Rattle.std.specs.Prelude.{◌≡◌, ◌≤◌};
 ghost use Rattle.jx_marker.specs.Markers.{has_length, stands_alone, index_size, entry_size, progression_size};
 

@@ -1,3 +1,5 @@
+//! Numbers of one, two and four bytes, the highest first.
+
 ghost use Rattle.std.specs.Prelude.{◌≡◌, ◌+◌, ◌≤◌, ◌<◌, ◌^◌, ◌++◌, length, OnOk, OnErr};
 ghost use Rattle.byteorder.specs.Endian.{big_from, big_bytes};
 

@@ -1,3 +1,5 @@
+//! Marker segments as they are written.
+
 ghost use Rattle.std.specs.Prelude.{◌≡◌, ◌+◌, ◌*◌, ◌<◌, ◌≤◌, ◌++◌, ◌∷◌, [], ◌^◌, length, take, OnOk, OnErr, true, false};
 ghost use Rattle.std.specs.List.{All, flat_map};
 ghost use Rattle.byteorder.specs.Endian.{big_bytes};

@@ -1,3 +1,5 @@
+//! The marker segment at a place, or the first rule that the place violates.
+
 ghost use Rattle.std.specs.Prelude.{Err, Ok, List, ◌⊎◌, ◌≡◌, ◌≢◌, ◌+◌, ◌-◌, ◌/◌, ◌*◌, ◌≤◌, ◌<◌, ◌++◌, length, drop, Some, None, IfOk, true, false, slice_index, ℕ};
 ghost use Rattle.jx_marker.specs.declared.Segment.{Segment};
 ghost use Rattle.jx_marker.specs.Markers.{has_length, index_size};

@@ -1,3 +1,4 @@
+-- Inner: no other crate cites these.
 pub mod Choices
 pub mod Limits
 pub mod Names

@@ -1,7 +1,8 @@
 -- How many bytes decisions make.
-use Rattle.std.proofs.Common.{◌≡◌, ◌≢◌, ◌<◌, ◌≤◌, ◌+◌, ◌-◌, ◌*◌, ◌/◌, ◌^◌, ℕ, zero, suc, Bool, true, false, List, [], ◌∷◌, length, reverse, refl, ap, sym, ◌∙◌, arith, ltb, inl, inr, if◌then◌else◌, ◌==◌, length-drop}
+use Rattle.std.proofs.Common.{◌≡◌, ◌≢◌, ◌<◌, ◌≤◌, ◌+◌, ◌-◌, ◌*◌, ◌/◌, ◌^◌, ℕ, zero, suc, Bool, true, false, List, [], ◌∷◌, ◌++◌, length, drop, reverse, refl, ap, sym, ◌∙◌, arith, ltb, inl, inr, if◌then◌else◌, ◌==◌, length-drop}
 use Rattle.std.proofs.lemmas.Bool.{cases_lt, ne_eqb, eq-eqb}
-use Rattle.std.proofs.lemmas.List.{length-reverse}
+use mathlib.Core.List.{reverse-cons}
+use Rattle.std.proofs.lemmas.List.{length-reverse, reverse-reverse}
 use Rattle.jx_coder_specs.specs.MqTable.{MqContexts, mq_fresh, mq_row_of}
 use Rattle.jx_coder_specs.specs.MqWriting.{MqWriter, MqGiven, Decided, Renewed, mq_writer, mq_newest, mq_raised, mq_plain, mq_stuffed, mq_carried, mq_by_newest, mq_byte_out, mq_shifted, mq_renormalized, mq_lower, mq_upper, mq_part, mq_written, mq_last_number, mq_given_out, mq_flushed, mq_trimmed, mq_segment, mq_is_mps, mq_wrote, mq_after_bit, mq_written_from, mq_write}
 use Rattle.jx_mq.specs.Coding.{AreGiven, IsCoder, IsRenormalizing}
@@ -206,3 +207,24 @@ refused_last limit w last once twice newest older h e f g bytes ne refused =
     let flushed = flushed_long w in
     let same : length (newest ∷ reverse older) ≡ length (mq_flushed w) = ap (λ (x : List ℕ). length x) all in
     omega arith
+
+-- the bytes of a segment from those that were given out and the newest
+flushed_by : (w last once twice : MqWriter) → last ≡ record w { c = mq_last_number w } → once ≡ mq_given_out last → twice ≡ mq_given_out once → twice.bytes ≡ mq_flushed w
+flushed_by w last once twice e f g =
+    ap (λ (x : MqWriter). x.bytes) g ∙ ap (λ (x : MqWriter). (mq_given_out x).bytes) f ∙ ap (λ (x : MqWriter). (mq_given_out (mq_given_out x)).bytes) e
+
+pub segment_whole : (w last once twice : MqWriter) (newest : ℕ) (older : List ℕ) → last ≡ record w { c = mq_last_number w } → once ≡ mq_given_out last → twice ≡ mq_given_out once →
+    twice.bytes ≡ newest ∷ reverse older → newest ≢ 255 → mq_segment w ≡ drop 1 (older ++ newest ∷ [])
+segment_whole w last once twice newest older e f g bytes ne =
+    let all : mq_flushed w ≡ newest ∷ reverse older = sym (flushed_by w last once twice e f g) ∙ bytes in
+    let kept : mq_trimmed (newest ∷ reverse older) ≡ newest ∷ reverse older = rw (ne_eqb newest 255 ne) refl in
+    let turned : reverse (newest ∷ reverse older) ≡ older ++ newest ∷ [] = reverse-cons newest (reverse older) ∙ ap (λ (x : List ℕ). x ++ newest ∷ []) (reverse-reverse older) in
+    ap (λ (x : List ℕ). drop 1 (reverse (mq_trimmed x))) all ∙ ap (λ (x : List ℕ). drop 1 (reverse x)) kept ∙ ap (λ (x : List ℕ). drop 1 x) turned
+
+pub segment_trimmed : (w last once twice : MqWriter) (newest : ℕ) (older : List ℕ) → last ≡ record w { c = mq_last_number w } → once ≡ mq_given_out last → twice ≡ mq_given_out once →
+    twice.bytes ≡ newest ∷ reverse older → newest ≡ 255 → mq_segment w ≡ drop 1 older
+segment_trimmed w last once twice newest older e f g bytes is =
+    let all : mq_flushed w ≡ newest ∷ reverse older = sym (flushed_by w last once twice e f g) ∙ bytes in
+    let cut : mq_trimmed (newest ∷ reverse older) ≡ reverse older = rw (eq-eqb newest 255 is) refl in
+    let turned : reverse (reverse older) ≡ older = reverse-reverse older in
+    ap (λ (x : List ℕ). drop 1 (reverse (mq_trimmed x))) all ∙ ap (λ (x : List ℕ). drop 1 (reverse x)) cut ∙ ap (λ (x : List ℕ). drop 1 x) turned

@@ -1,9 +1,9 @@
 -- Many shifts of the encoder's registers at once.
-use Rattle.std.proofs.Common.{◌≡◌, ◌<◌, ◌≤◌, ◌+◌, ◌-◌, ◌*◌, ◌^◌, ℕ, zero, suc, Bool, refl, ap, sym, ◌∙◌, arith}
+use Rattle.std.proofs.Common.{◌≡◌, ◌<◌, ◌≤◌, ◌+◌, ◌-◌, ◌*◌, ◌^◌, ℕ, zero, suc, refl, ap, sym, ◌∙◌, arith}
 use Rattle.std.proofs.lemmas.Nat.{pow_pos, mul-le}
 use Rattle.std.proofs.Math.Nat.{le-mul_of_pos_right, mul-pos, pow-le-pow_right}
 use Rattle.std.proofs.lemmas.Bool.{eq-eqb, ne_eqb}
-use Rattle.jx_coder_specs.specs.MqWriting.{MqWriter, mq_byte_out, mq_shifted, mq_renormalized, mq_part, mq_written}
+use Rattle.jx_coder_specs.specs.MqWriting.{MqWriter, mq_byte_out, mq_shifted, mq_renormalized}
 use Rattle.jx_mq.specs.Coding.{IsBounded, IsCoding, IsCoder, IsRenormalizing}
 use Rattle.jx_mq.specs.Shifting.{IsShort, mq_moved_by}
 use Rattle.jx_mq.proofs.Bounds.{byte_out_coding}
@@ -130,7 +130,3 @@ coder_last first w left room short h =
       low = short.enough;
       high = short.few;
     }
-
--- no shift where A keeps bit 15
-pub kept_written : (w now : MqWriter) (qe : ℕ) (is_mps : Bool) → now ≡ mq_part w qe is_mps → 32768 ≤ now.a → now ≡ mq_written w qe is_mps
-kept_written w now qe is_mps e most = sym (renormalized_done 15 now most) ∙ ap (λ (x : MqWriter). mq_renormalized 15 x) e

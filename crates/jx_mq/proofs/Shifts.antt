@@ -1,11 +1,11 @@
 -- Many shifts of the decoder's registers at once.
-use Rattle.std.proofs.Common.{◌≡◌, ◌<◌, ◌≤◌, ◌+◌, ◌-◌, ◌*◌, ◌%◌, ◌^◌, ℕ, zero, suc, Bool, true, false, List, refl, ap, sym, ◌∙◌, arith, ltb, inl, inr, if◌then◌else◌, ◌==◌}
+use Rattle.std.proofs.Common.{◌≡◌, ◌<◌, ◌≤◌, ◌+◌, ◌-◌, ◌*◌, ◌/◌, ◌%◌, ◌^◌, ℕ, zero, suc, Bool, true, false, List, refl, ap, sym, ◌∙◌, arith, ltb, inl, inr, if◌then◌else◌, ◌==◌}
 use Rattle.std.proofs.lemmas.Bool.{cases_lt, eq-eqb, ne_eqb}
 use Rattle.std.proofs.lemmas.Bool.Decides.{nat_tests}
 use Rattle.std.proofs.lemmas.Nat.{mul-mod_first, pow_pos, mul-le, leading_top, pow-add}
-use Rattle.std.proofs.Math.Nat.{two-pow-succ, pow-le-pow_right, mul-le-mul_right, mul-lt-mul_of_pos_right, mul-pos}
+use Rattle.std.proofs.Math.Nat.{two-pow-succ, mul-le-mul_right, mul-lt-mul_of_pos_right, mul-pos}
 use Rattle.std.specs.Int.Count.{count_leading_zeros}
-use Rattle.jx_coder_specs.specs.MqReading.{MqReader, mq_byte, mq_byte_in, mq_shifted_in, mq_refilled, mq_chosen, mq_read}
+use Rattle.jx_coder_specs.specs.MqReading.{MqReader, mq_byte, mq_byte_in, mq_shifted_in, mq_refilled}
 use Rattle.jx_mq.specs.Decoding.{IsWithin, IsRefilling}
 use Rattle.jx_mq.specs.Shifting.{mq_shifted_by, IsShort}
 use Rattle.jx_mq.proofs.Refills.{refilled_more, refilled_done, byte_in_a, twice_is}
@@ -88,25 +88,48 @@ power_split a i j n e =
     let p : a * 2 ^ i * 2 ^ j ≡ a * (2 ^ i * 2 ^ j) = grind arith in
     p ∙ ap (λ (m : ℕ). a * m) (product_of i j n e)
 
--- how many shifts A needs, by its leading zeros
-pub short_of : (a : ℕ) → 0 < a → a < 65536 → (16 ≤ count_leading_zeros 32 a) × IsShort a (count_leading_zeros 32 a - 16)
-short_of a some room =
-    let top = leading_top 32 a some (omega arith) in
+-- A number in the upper half of 32 bits, shifted
+pub record IsWide (a by : ℕ) : Type 0 where
+  pub whole : a * 2 ^ by % 4294967296 ≡ a * 2 ^ by
+  pub upper : a * 2 ^ by / 65536 ≡ a / 65536 * 2 ^ by
+  pub wide : a * 2 ^ by % 65536 ≡ 0
+
+pub wide_shifted : (a by : ℕ) → a % 65536 ≡ 0 → a / 65536 * 2 ^ by < 65536 → IsWide a by
+wide_shifted a by wide room =
+    let e : a ≡ a / 65536 * 65536 = omega arith in
+    let f : a / 65536 * 65536 * 2 ^ by ≡ a / 65536 * 2 ^ by * 65536 = grind arith in
+    let g : a * 2 ^ by ≡ a / 65536 * 2 ^ by * 65536 = ap (λ (n : ℕ). n * 2 ^ by) e ∙ f in
+    record { whole = omega arith; upper = omega arith; wide = omega arith }
+
+-- how many shifts A needs, by the leading zeros of such a number
+pub short_of : (a : ℕ) → a % 65536 ≡ 0 → 0 < a → a < 4294967296 → IsShort (a / 65536) (count_leading_zeros 32 a)
+short_of a wide some room =
+    let top = leading_top 32 a some room in
     let j : ℕ = top.0 in
     let sum = top.1 in
     let least = top.2 in
     let most = top.3 in
-    let below : j < 16 = elim (cases_lt j 16) [
-      | inl less ↦ less
-      | inr more ↦ absurd (let big : 2 ^ 16 ≤ 2 ^ j = pow-le-pow_right {n = 2} (omega arith) more in omega arith)
+    let left : count_leading_zeros 32 a ≡ 31 - j = omega arith in
+    let low : 2 ^ j * 2 ^ (31 - j) ≤ a * 2 ^ (31 - j) = mul-le-mul_right (2 ^ (31 - j)) least in
+    let high : a * 2 ^ (31 - j) < 2 ^ suc j * 2 ^ (31 - j) = mul-lt-mul_of_pos_right most (pow_pos (31 - j)) in
+    let low_is : 2 ^ j * 2 ^ (31 - j) ≡ 2147483648 = product_of j (31 - j) 31 (omega arith) in
+    let high_is : 2 ^ suc j * 2 ^ (31 - j) ≡ 4294967296 = product_of (suc j) (31 - j) 32 (omega arith) in
+    let e : a ≡ a / 65536 * 65536 = omega arith in
+    let f : a / 65536 * 65536 * 2 ^ (31 - j) ≡ a / 65536 * 2 ^ (31 - j) * 65536 = grind arith in
+    let g : a * 2 ^ (31 - j) ≡ a / 65536 * 2 ^ (31 - j) * 65536 = ap (λ (n : ℕ). n * 2 ^ (31 - j)) e ∙ f in
+    let short : IsShort (a / 65536) (31 - j) = record { enough = omega (arith, low, low_is, g); few = omega (arith, high, high_is, g) } in
+    rw left short
+
+pub short_some : (a n : ℕ) → IsShort a n → (0 < a) × (a < 65536)
+short_some a n short =
+    let one = pow_pos n in
+    let least : a * 1 ≤ a * 2 ^ n = mul-le a 1 a (2 ^ n) (omega arith) (omega arith) in
+    let few = short.few in
+    let some : 0 < a = elim (cases_lt 0 a) [
+      | inl some ↦ some
+      | inr none ↦ absurd (let e : a ≡ 0 = omega arith in let enough = rw e at short.enough in omega arith)
     ] in
-    let left : count_leading_zeros 32 a - 16 ≡ 15 - j = omega arith in
-    let low : 2 ^ j * 2 ^ (15 - j) ≤ a * 2 ^ (15 - j) = mul-le-mul_right (2 ^ (15 - j)) least in
-    let high : a * 2 ^ (15 - j) < 2 ^ suc j * 2 ^ (15 - j) = mul-lt-mul_of_pos_right most (pow_pos (15 - j)) in
-    let low_is : 2 ^ j * 2 ^ (15 - j) ≡ 32768 = product_of j (15 - j) 15 (omega arith) in
-    let high_is : 2 ^ suc j * 2 ^ (15 - j) ≡ 65536 = product_of (suc j) (15 - j) 16 (omega arith) in
-    let short : IsShort a (15 - j) = record { enough = omega (arith, low, low_is); few = omega (arith, high, high_is) } in
-    (omega arith, rw left short)
+    (some, omega arith)
 
 -- A after fewer shifts than it needs
 pub half_of : (a ct left : ℕ) → ct < left → IsShort a left → a * 2 ^ ct < 32768
@@ -148,7 +171,3 @@ refilled_last bytes first r left fits room short h =
     let e : left + 0 ≡ left = omega arith in
     let all : 32768 ≤ r.a * 2 ^ (left + 0) = rw e short.enough in
     sym (refilled_done bytes 0 (mq_shifted_by left r) short.enough) ∙ sym (refilled_by bytes left 0 r fits room short.few) ∙ h.leads (left + 0) all
-
--- no shift where A keeps bit 15
-pub kept_read : (bytes : List ℕ) (r now : MqReader) (qe : ℕ) → now ≡ mq_chosen r qe → 32768 ≤ now.a → now ≡ mq_read bytes r qe
-kept_read bytes r now qe e most = sym (refilled_done bytes 15 now most) ∙ ap (λ (x : MqReader). mq_refilled bytes 15 x) e

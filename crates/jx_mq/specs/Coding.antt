@@ -1,11 +1,16 @@
 -- What contracts see of an encoder, and the bounds of its registers.
-use Rattle.std.specs.Prelude.{◌≡◌, ◌<◌, ◌≤◌, ◌+◌, ◌*◌, ◌^◌, ℕ, List, [], ◌∷◌}
+use Rattle.std.specs.Prelude.{◌≡◌, ◌<◌, ◌≤◌, ◌+◌, ◌*◌, ◌/◌, ◌^◌, ℕ, List, [], ◌∷◌, reverse}
 use Rattle.jx_coder_specs.specs.MqWriting.{MqWriter, mq_renormalized}
+use Rattle.jx_mq.specs.declared.encoder.Registers.{Registers}
 
 -- the registers, and how many bytes the segment can have before more memory is needed
 pub record MqCoding : Type 0 where
   pub writer : MqWriter
   pub limit : ℕ
+
+-- the registers that the code's stand for, with the older bytes: its A is in the upper half of 32 bits
+abbrev pub writer_of : Registers → List ℕ → MqWriter
+writer_of r older = record { a = r.a / 65536; c = r.c; ct = r.ct; bytes = r.newest ∷ reverse older }
 
 -- what a byte given out depends on and changes
 abbrev pub given : ℕ → ℕ → List ℕ → MqWriter

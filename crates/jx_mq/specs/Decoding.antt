@@ -1,11 +1,16 @@
 -- What contracts see of a decoder, and the bounds of its registers.
-use Rattle.std.specs.Prelude.{◌≡◌, ◌<◌, ◌≤◌, ◌+◌, ◌*◌, ◌^◌, ℕ, List, length}
+use Rattle.std.specs.Prelude.{◌≡◌, ◌<◌, ◌≤◌, ◌+◌, ◌*◌, ◌/◌, ◌^◌, ℕ, List, length}
 use Rattle.jx_coder_specs.specs.MqReading.{MqReader, mq_refilled}
+use Rattle.jx_mq.specs.declared.decoder.Registers.{Registers}
 
 -- the segment, and the registers
 pub record MqDecoding : Type 0 where
   pub bytes : List ℕ
   pub reader : MqReader
+
+-- the registers that the code's stand for: its A is in the upper half of 32 bits
+abbrev pub reader_of : Registers → MqReader
+reader_of r = record { a = r.a / 65536; c = r.c; ct = r.ct; place = r.place; looked = r.looked }
 
 -- the current byte is one of the segment's, or the first one past its end
 pub record IsWithin (bytes : List ℕ) (r : MqReader) : Type 0 where

@@ -1,6 +1,6 @@
 -- One number for the row and the more probable symbol of a label.
-use Rattle.std.specs.Prelude.{ℕ, ◌+◌, ◌*◌, ◌/◌, ◌%◌, ◌==◌, Bool, not, List, map, slice_index_or, if◌then◌else◌}
-use Rattle.jx_coder_specs.specs.MqTable.{MqContexts, mq_row_at, mq_mps}
+use Rattle.std.specs.Prelude.{◌≡◌, ◌<◌, ℕ, ◌+◌, ◌-◌, ◌*◌, ◌/◌, ◌%◌, ◌==◌, nat_le, Bool, true, false, not, List, map, if◌then◌else◌}
+use Rattle.jx_coder_specs.specs.MqTable.{MqContexts, mq_row_at}
 
 abbrev pub state_of : ℕ → Bool → ℕ
 state_of row symbol = 2 * row + (if symbol then 1 else 0)
@@ -15,21 +15,16 @@ symbol_in state = state % 2 == 1
 abbrev pub contexts_of : List ℕ → MqContexts
 contexts_of states = record { rows = map (λ s. row_in s) states; symbols = map (λ s. symbol_in s) states }
 
--- Qe, and the states after the more probable symbol and after the less probable one
-pub record MqMoves : Type 0 where
-  pub qe : ℕ
-  pub after_mps : ℕ
-  pub after_lps : ℕ
+-- the state after a decision that is the more probable symbol, or isn't, and left A in some width: nothing moves where A keeps bit 15
+abbrev pub next_state : ℕ → ℕ → Bool → ℕ
+next_state state a is_mps =
+    let row = mq_row_at (row_in state) in
+    let symbol = symbol_in state in
+    if nat_le 32768 a then state
+    else if is_mps then state_of row.nmps symbol
+    else state_of row.nlps (if row.switches then not symbol else symbol)
 
-abbrev pub mq_moves : ℕ → ℕ → ℕ → MqMoves
-mq_moves qe after_mps after_lps = record { qe = qe; after_mps = after_mps; after_lps = after_lps }
-
--- the moves from a row and a symbol
-abbrev pub moves_from : ℕ → Bool → MqMoves
-moves_from number symbol =
-    let row = mq_row_at number in
-    mq_moves row.qe (state_of row.nmps symbol) (state_of row.nlps (if row.switches then not symbol else symbol))
-
--- the moves of a label
-abbrev pub moves_of : MqContexts → ℕ → MqMoves
-moves_of x label = moves_from (slice_index_or x.rows label 0) (mq_mps x label)
+-- what a decision leaves of A: the more probable symbol's part keeps bit 15 where A without Qe has it, the other one never does
+pub record IsNarrowed (before qe after : ℕ) (is_mps : Bool) : Type 0 where
+  pub mps : is_mps ≡ true → nat_le 32768 after ≡ nat_le 32768 (before - qe)
+  pub lps : is_mps ≡ false → after < 32768

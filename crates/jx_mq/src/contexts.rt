@@ -1,8 +1,8 @@
-ghost use Rattle.std.specs.Prelude.{◌≡◌, ◌-◌, ◌<◌, ◌≤◌, ℕ, All, length, true};
-ghost use Rattle.jx_coder_specs.specs.MqTable.{MqContexts, mq_fresh, mq_mps, mq_adapted};
-ghost use Rattle.jx_mq.specs.States.{contexts_of, mq_moves, moves_of};
+ghost use Rattle.std.specs.Prelude.{◌≡◌, ◌/◌, ◌<◌, ℕ, All, slice_index_or};
+ghost use Rattle.jx_coder_specs.specs.MqTable.{MqContexts, mq_fresh, mq_row_of, mq_mps, mq_adapted};
+ghost use Rattle.jx_mq.specs.States.{contexts_of, row_in, symbol_in, IsNarrowed};
 
-use crate::table::{Row, row_at};
+use crate::table::state_after;
 use std::marker::Model;
 
 /// The adaptive state of the 19 labels: each label's row in the table of estimates, and its more
@@ -32,38 +32,27 @@ impl Contexts {
         Contexts { states }
     }
 
-    /// The estimate of a label, which is below 19.
+    /// The state of a label, which is below 19.
     #[inline(always)]
-    pub(crate) fn row(&self, label: u8) -> Row
+    pub(crate) fn state(&self, label: u8) -> u8
         requires { label < 19 }
-        ensures row { mq_moves result.qe result.after_mps result.after_lps ≡ moves_of self.now label }
-        ensures some { 0 < result.qe }
-        ensures most { result.qe ≤ 22017 }
-        ensures after_mps { result.after_mps < 94 }
-        ensures after_lps { result.after_lps < 94 }
+        ensures row { row_in result ≡ slice_index_or self.now.rows label 0 }
+        ensures symbol { symbol_in result ≡ mq_mps self.now label }
+        ensures known { result < 94 }
     {
-        row_at(self.states[label as usize])
+        self.states[label as usize]
     }
 
-    /// The more probable symbol of a label, which is below 19.
+    /// Moves a label, whose state is given, after a decision that is the more probable symbol, or
+    /// isn't. A is the part's width before its shifts, in the upper half of 32 bits.
     #[inline(always)]
-    pub(crate) fn symbol(&self, label: u8) -> bool
-        requires { label < 19 }
-        ensures { result ≡ mq_mps self.now label }
-    {
-        self.states[label as usize] % 2 == 1
-    }
-
-    /// Moves a label after a decision that is the more probable symbol, or isn't. The former moves
-    /// it only where A loses bit 15.
-    #[inline(always)]
-    pub(crate) fn adapt(&mut self, label: u8, row: Row, is_mps: bool)
+    pub(crate) fn adapt(&mut self, label: u8, state: u8, a: u32, is_mps: bool)
         requires label { label < 19 }
-        requires row { mq_moves row.qe row.after_mps row.after_lps ≡ moves_of self.old label }
-        requires after_mps { row.after_mps < 94 }
-        requires after_lps { row.after_lps < 94 }
-        ensures { (a : ℕ) → (is_mps ≡ true → a - row.qe < 32768) → self.new ≡ mq_adapted a self.old label is_mps }
+        requires row { row_in state ≡ slice_index_or self.old.rows label 0 }
+        requires symbol { symbol_in state ≡ mq_mps self.old label }
+        requires known { state < 94 }
+        ensures { (before : ℕ) → IsNarrowed before (mq_row_of self.old label).qe (a / 65536) is_mps → self.new ≡ mq_adapted before self.old label is_mps }
     {
-        self.states[label as usize] = if is_mps { row.after_mps } else { row.after_lps };
+        self.states[label as usize] = state_after(state, a, is_mps);
     }
 }

@@ -1,11 +1,12 @@
-ghost use Rattle.std.specs.Prelude.{◌≡◌, ◌+◌, ◌*◌, ◌^◌, ◌<◌, ◌≤◌, ℕ, min, length};
-ghost use Rattle.jx_coder_specs.specs.MqTable.{MqContexts, mq_row_of};
-ghost use Rattle.jx_coder_specs.specs.MqReading.{MqReader, mq_byte, mq_byte_in, mq_reader, mq_refilled, mq_is_low, mq_reads_mps, mq_chosen, mq_read, mq_bit, mq_after};
-ghost use Rattle.jx_mq.specs.Decoding.{MqDecoding, IsWithin, IsReading};
-ghost use Rattle.jx_mq.specs.Shifting.{mq_shifted_by};
+ghost use Rattle.std.specs.Prelude.{◌≡◌, ◌*◌, ◌/◌, ◌%◌, ◌^◌, ◌<◌, ◌≤◌, min, length};
+ghost use Rattle.jx_coder_specs.specs.MqTable.{mq_row_of};
+ghost use Rattle.jx_coder_specs.specs.MqReading.{mq_byte, mq_byte_in, mq_reader, mq_refilled, mq_is_low, mq_reads_mps, mq_chosen, mq_read, mq_bit, mq_after};
+ghost use Rattle.jx_mq.specs.Decoding.{MqDecoding, reader_of, IsWithin, IsReading};
+ghost use Rattle.jx_mq.specs.Shifting.{mq_shifted_by, IsShort};
 
 use crate::choice::either;
 use crate::contexts::Contexts;
+use crate::table::width_of;
 use std::marker::Model;
 
 /// The byte at a place, and FF past the end.
@@ -19,31 +20,10 @@ fn byte_at(bytes: &[u8], place: usize) -> u8
     }
 }
 
-/// What BYTEIN makes of C and of the place of the byte B, with CT between them (Annex C.3.4). All
-/// come and go as values, so a caller can keep its registers in the machine's.
-#[cold]
-#[inline(never)]
-fn fed(c: u32, place: usize, bytes: &[u8]) -> (u32, u32, usize)
-    requires { place ≤ length bytes.now }
-    ensures place { result.2 ≤ length bytes.now }
-    ensures forward { place ≤ result.2 }
-    ensures ct { result.1 ≤ 8 }
-    ensures registers { (a ct looked : ℕ) → record { a = a; c = result.0; ct = result.1; place = result.2; looked = place + 2 } ≡
-        mq_byte_in bytes.now (record { a = a; c = c; ct = ct; place = place; looked = looked }) }
-{
-    let current = byte_at(bytes, place);
-    let next = byte_at(bytes, place + 1);
-    if current != 0xFF {
-        return (c.wrapping_add(next as u32 * 256), 8, place + 1);
-    }
-    if next > 0x8F {
-        return (c.wrapping_add(0xFF00), 8, place);
-    }
-    (c.wrapping_add(next as u32 * 512), 7, place + 1)
-}
-
-/// The registers A, C and CT, the place of the byte B, and how many bytes were read or compared.
-#[derive(Drop)]
+/// The registers A (in the upper half of 32 bits), C and CT, the place of the byte B, and how many
+/// bytes were read or compared. They come and go as values, so a caller can keep its own in the
+/// machine's.
+#[derive(Clone, Copy, Drop)]
 struct Registers {
     a: u32,
     c: u32,
@@ -52,83 +32,132 @@ struct Registers {
     looked: usize,
 }
 
-impl Model for Registers {
-    ghost Value = { MqReader };
-
-    ghost view = { λ r. record { a = r.a; c = r.c; ct = r.ct; place = r.place; looked = r.looked } };
-}
-
 impl Registers {
     /// BYTEIN (Annex C.3.4).
-    #[inline(always)]
-    fn byte_in(&mut self, bytes: &[u8])
-        requires { IsWithin bytes.now self.old }
-        ensures registers { self.new ≡ mq_byte_in bytes.now self.old }
-        ensures within { IsWithin bytes.now self.new }
+    fn fed(self, bytes: &[u8]) -> Registers
+        requires { IsWithin bytes.now (reader_of self) }
+        ensures registers { reader_of result ≡ mq_byte_in bytes.now (reader_of self) }
+        ensures a { result.a ≡ self.a }
+        ensures within { IsWithin bytes.now (reader_of result) }
     {
-        let (c, ct, place) = fed(self.c, self.place, bytes);
-        self.looked = self.place + 2;
-        self.c = c;
-        self.ct = ct;
-        self.place = place;
+        let current = byte_at(bytes, self.place);
+        let next = byte_at(bytes, self.place + 1);
+        let mut fed = self;
+        fed.looked = self.place + 2;
+        if current != 0xFF {
+            fed.c = self.c.wrapping_add(next as u32 * 256);
+            fed.ct = 8;
+            fed.place = self.place + 1;
+        } else if next > 0x8F {
+            fed.c = self.c.wrapping_add(0xFF00);
+            fed.ct = 8;
+        } else {
+            fed.c = self.c.wrapping_add(next as u32 * 512);
+            fed.ct = 7;
+            fed.place = self.place + 1;
+        }
+        fed
     }
 
     /// Shifts of RENORMD for which no byte is due.
     #[inline(always)]
-    fn shift(&mut self, by: u32)
-        requires due { by ≤ self.old.ct }
-        requires ct { self.old.ct ≤ 8 }
-        requires room { self.old.a * 2 ^ by < 65536 }
-        ensures registers { self.new ≡ mq_shifted_by by self.old }
-        ensures fits { self.old.c < 4294967296 }
+    fn shifted(self, by: u32) -> Registers
+        requires due { by ≤ self.ct }
+        requires ct { self.ct ≤ 8 }
+        requires wide { self.a % 65536 ≡ 0 }
+        requires room { self.a / 65536 * 2 ^ by < 65536 }
+        ensures registers { reader_of result ≡ mq_shifted_by by (reader_of self) }
+        ensures wide { result.a % 65536 ≡ 0 }
+        ensures fits { self.c < 4294967296 }
     {
-        self.a <<= by;
-        self.c <<= by;
-        self.ct -= by;
+        Registers {
+            a: self.a << by,
+            c: self.c << by,
+            ct: self.ct - by,
+            place: self.place,
+            looked: self.looked,
+        }
     }
 
-    /// RENORMD (Annex C.3.3). A byte is read once a shift needs it, and no sooner.
-    #[inline(always)]
-    fn refill(&mut self, bytes: &[u8])
-        requires within { IsWithin bytes.now self.old }
-        requires some { 0 < self.old.a }
-        requires room { self.old.a < 65536 }
-        ensures registers { self.new ≡ mq_refilled bytes.now 15 self.old }
-        ensures reading { IsReading bytes.now self.new }
+    /// RENORMD (Annex C.3.3) by so many shifts, as A needs, of which CT has no room for all. A byte
+    /// is read once a shift needs it, and no sooner.
+    #[cold]
+    #[inline(never)]
+    fn fed_by(self, shifts: u32, bytes: &[u8]) -> Registers
+        requires within { IsWithin bytes.now (reader_of self) }
+        requires wide { self.a % 65536 ≡ 0 }
+        requires shifts { IsShort (self.a / 65536) shifts }
+        ensures registers { reader_of result ≡ mq_refilled bytes.now 15 (reader_of self) }
+        ensures wide { result.a % 65536 ≡ 0 }
+        ensures reading { IsReading bytes.now (reader_of result) }
     {
-        let mut left = self.a.leading_zeros() - 16;
-        while left > self.ct {
-            let ready = self.ct;
-            self.shift(ready);
-            self.byte_in(bytes);
+        let mut now = self;
+        let mut left = shifts;
+        while left > now.ct {
+            let ready = now.ct;
+            now = now.shifted(ready).fed(bytes);
             left -= ready;
         }
-        self.shift(left);
+        now.shifted(left)
     }
 
-    /// Whether the code lies in the lower part of the interval.
+    /// RENORMD (Annex C.3.3). Where A has bit 15 there are no shifts.
     #[inline(always)]
-    fn is_low(&self, qe: u32) -> bool
-        requires { qe < 65536 }
-        ensures { result ≡ mq_is_low self.now qe }
+    fn refilled(self, bytes: &[u8]) -> Registers
+        requires within { IsWithin bytes.now (reader_of self) }
+        requires wide { self.a % 65536 ≡ 0 }
+        requires some { 0 < self.a }
+        ensures registers { reader_of result ≡ mq_refilled bytes.now 15 (reader_of self) }
+        ensures wide { result.a % 65536 ≡ 0 }
+        ensures reading { IsReading bytes.now (reader_of result) }
     {
-        self.c < qe << 16
+        let shifts = self.a.leading_zeros();
+        if shifts > self.ct {
+            self.fed_by(shifts, bytes)
+        } else {
+            self.shifted(shifts)
+        }
     }
 
-    /// Narrows the interval to the part in which the code lies, and says whether that part is the
-    /// more probable symbol's (Annex C.3.2).
+    /// Whether the code lies in the lower part of the interval, whose width is in the upper half of
+    /// 32 bits.
     #[inline(always)]
-    fn choose(&mut self, qe: u32) -> bool
-        requires most { qe ≤ self.old.a }
-        requires room { self.old.a < 65536 }
-        ensures is_mps { result ≡ mq_reads_mps self.old qe }
-        ensures registers { self.new ≡ mq_chosen self.old qe }
+    fn is_low(self, qe: u32) -> bool
+        requires { qe % 65536 ≡ 0 }
+        ensures { result ≡ mq_is_low (reader_of self) (qe / 65536) }
     {
-        let rest = self.a - qe;
+        self.c < qe
+    }
+
+    /// Whether the code lies in the part of the more probable symbol (Annex C.3.2).
+    #[inline(always)]
+    fn reads_mps(self, qe: u32) -> bool
+        requires wide { self.a % 65536 ≡ 0 }
+        requires wide_qe { qe % 65536 ≡ 0 }
+        requires most { qe ≤ self.a }
+        ensures { result ≡ mq_reads_mps (reader_of self) (qe / 65536) }
+    {
+        self.is_low(qe) == (self.a - qe < qe)
+    }
+
+    /// The interval narrowed to the part in which the code lies (Annex C.3.2).
+    #[inline(always)]
+    fn chosen(self, qe: u32) -> Registers
+        requires wide { self.a % 65536 ≡ 0 }
+        requires wide_qe { qe % 65536 ≡ 0 }
+        requires most { qe ≤ self.a }
+        ensures registers { reader_of result ≡ mq_chosen (reader_of self) (qe / 65536) }
+        ensures wide { result.a % 65536 ≡ 0 }
+    {
         let is_low = self.is_low(qe);
-        self.c -= either(is_low, 0, qe << 16);
-        self.a = either(is_low, qe, rest);
-        is_low == (rest < qe)
+        let above = self.c.wrapping_sub(qe);
+        Registers {
+            a: either(is_low, qe, self.a - qe),
+            c: either(is_low, self.c, above),
+            ct: self.ct,
+            place: self.place,
+            looked: self.looked,
+        }
     }
 }
 
@@ -142,9 +171,9 @@ pub struct MqDecoder<'a> {
 impl<'a> Model for MqDecoder<'a> {
     ghost Value = { MqDecoding };
 
-    ghost view = { λ d. record { bytes = d.bytes.now; reader = d.registers } };
+    ghost view = { λ d. record { bytes = d.bytes.now; reader = reader_of d.registers } };
 
-    ghost invariant = { λ d. IsReading d.bytes.now d.registers };
+    ghost invariant = { λ d. (d.registers.a % 65536 ≡ 0) × IsReading d.bytes.now (reader_of d.registers) };
 }
 
 impl<'a> MqDecoder<'a> {
@@ -153,14 +182,14 @@ impl<'a> MqDecoder<'a> {
         ensures bytes { result.bytes ≡ bytes.now }
         ensures reader { result.reader ≡ mq_reader bytes.now }
     {
-        let mut registers = Registers {
-            a: 0x8000,
+        let first = Registers {
+            a: 0x8000_0000,
             c: byte_at(bytes, 0) as u32 * 65536,
             ct: 0,
             place: 0,
             looked: 1,
         };
-        registers.byte_in(bytes);
+        let mut registers = first.fed(bytes);
         registers.c = registers.c << 7;
         registers.ct -= 7;
         MqDecoder { bytes, registers }
@@ -175,16 +204,13 @@ impl<'a> MqDecoder<'a> {
         ensures bytes { self.new.bytes ≡ self.old.bytes }
         ensures reader { self.new.reader ≡ mq_read self.old.bytes self.old.reader (mq_row_of contexts.old label).qe }
     {
-        let row = contexts.row(label);
-        let symbol = contexts.symbol(label);
-        let qe = row.qe as u32;
-        let is_mps = self.registers.choose(qe);
-        if self.registers.a >= 0x8000 {
-            return symbol;
-        }
-        contexts.adapt(label, row, is_mps);
-        self.registers.refill(self.bytes);
-        symbol == is_mps
+        let state = contexts.state(label);
+        let qe = width_of(state);
+        let is_mps = self.registers.reads_mps(qe);
+        let part = self.registers.chosen(qe);
+        contexts.adapt(label, state, part.a, is_mps);
+        self.registers = part.refilled(self.bytes);
+        (state % 2 == 1) == is_mps
     }
 
     /// How many bytes of the segment were read or compared so far.

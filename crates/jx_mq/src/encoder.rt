@@ -1,179 +1,187 @@
-ghost use Rattle.std.specs.Prelude.{◌≡◌, ◌+◌, ◌-◌, ◌*◌, ◌^◌, ◌<◌, ◌≤◌, ℕ, [], ◌∷◌, length, reverse, vec_len, vec_capacity, IfOk, OnOk, OnErr};
-ghost use Rattle.jx_coder_specs.specs.MqTable.{MqContexts};
-ghost use Rattle.jx_coder_specs.specs.MqWriting.{MqWriter, mq_writer, mq_plain, mq_stuffed, mq_byte_out, mq_renormalized, mq_part, mq_wrote, mq_after_bit, mq_last_number, mq_given_out, mq_segment};
-ghost use Rattle.jx_mq.specs.Coding.{MqCoding, given, IsCoding, IsCoder};
-ghost use Rattle.jx_mq.specs.Shifting.{mq_moved_by};
+ghost use Rattle.std.specs.Prelude.{◌≡◌, ◌-◌, ◌*◌, ◌/◌, ◌%◌, ◌^◌, ◌<◌, ◌≤◌, ◌==◌, ℕ, List, [], ◌∷◌, length, reverse, vec_len, vec_capacity, IfOk, OnOk, OnErr};
+ghost use Rattle.jx_coder_specs.specs.MqWriting.{mq_writer, mq_byte_out, mq_renormalized, mq_part, mq_wrote, mq_after_bit, mq_last_number, mq_given_out, mq_segment};
+ghost use Rattle.jx_mq.specs.Coding.{MqCoding, given, writer_of, IsCoding, IsCoder};
+ghost use Rattle.jx_mq.specs.Shifting.{mq_moved_by, IsShort};
 
-use crate::choice::either;
+use crate::choice::{by_bit, unless};
 use crate::contexts::Contexts;
+use crate::table::width_of;
 use jx_base::NoMemory;
 use std::alloc::Global;
 use std::marker::Model;
 
-/// Gives out eight bits of C.
-fn plain(c: u32, newest: u8, older: &mut Vec<u8>) -> Result<(u32, u32, u8), NoMemory>
-    requires { c < 134217728 }
-    ensures registers { IfOk result (λ r. given r.0 r.1 (r.2 ∷ reverse older.new.items) ≡ mq_plain (given c 0 (newest ∷ reverse older.old.items))) }
-    ensures limit { OnOk result (vec_capacity older.old ≤ vec_capacity older.new) }
-    ensures room { OnErr result (vec_capacity older.old ≤ vec_len older.old) }
-{
-    older.push(newest)?;
-    Ok((c % 0x8_0000, 8, (c >> 19) as u8))
-}
-
-/// Gives out seven bits of C, and the carry above them.
-fn stuffed(c: u32, newest: u8, older: &mut Vec<u8>) -> Result<(u32, u32, u8), NoMemory>
-    requires { c < 268435456 }
-    ensures registers { IfOk result (λ r. given r.0 r.1 (r.2 ∷ reverse older.new.items) ≡ mq_stuffed (given c 0 (newest ∷ reverse older.old.items))) }
-    ensures limit { OnOk result (vec_capacity older.old ≤ vec_capacity older.new) }
-    ensures room { OnErr result (vec_capacity older.old ≤ vec_len older.old) }
-{
-    older.push(newest)?;
-    Ok((c % 0x10_0000, 7, (c >> 20) as u8))
-}
-
-/// What BYTEOUT makes of C and of the newest byte, with CT between them (Annex C.2.7). The registers
-/// come and go as values, so a caller can keep its own in the machine's.
-#[cold]
-#[inline(never)]
+/// What BYTEOUT makes of C and of the newest byte, with CT between them (Annex C.2.7): the carry
+/// goes into the newest byte, and a byte after FF has seven bits.
 fn given_out(c: u32, newest: u8, older: &mut Vec<u8>) -> Result<(u32, u32, u8), NoMemory>
     requires { c < 268435456 }
     ensures registers { IfOk result (λ r. given r.0 r.1 (r.2 ∷ reverse older.new.items) ≡ mq_byte_out (given c 0 (newest ∷ reverse older.old.items))) }
     ensures limit { OnOk result (vec_capacity older.old ≤ vec_capacity older.new) }
     ensures room { OnErr result (vec_capacity older.old ≤ vec_len older.old) }
 {
-    if newest == 0xFF {
-        return stuffed(c, newest, older);
+    let carry = if newest == 0xFF { 0 } else { c >> 27 };
+    let byte = newest + carry as u8;
+    let rest = c - carry * 0x800_0000;
+    older.push(byte)?;
+    if byte == 0xFF {
+        return Ok((rest % 0x10_0000, 7, (rest >> 20) as u8));
     }
-    if c < 0x800_0000 {
-        return plain(c, newest, older);
-    }
-    if newest == 0xFE {
-        return stuffed(c - 0x800_0000, 0xFF, older);
-    }
-    plain(c - 0x800_0000, newest + 1, older)
+    Ok((rest % 0x8_0000, 8, (rest >> 19) as u8))
 }
 
-/// The registers A, C and CT, the newest byte B, and the older ones with the byte 0 before the
-/// first.
-#[derive(Drop)]
+/// The registers A (in the upper half of 32 bits), C and CT, and the newest byte B. They come and go
+/// as values, so a caller can keep its own in the machine's. The older bytes stand in a list, with
+/// the byte 0 before the first.
+#[derive(Clone, Copy, Drop)]
 struct Registers {
     a: u32,
     c: u32,
     ct: u32,
     newest: u8,
-    older: Vec<u8>,
-}
-
-impl Model for Registers {
-    ghost Value = { MqCoding };
-
-    ghost view = { λ r. record {
-      writer = record { a = r.a; c = r.c; ct = r.ct; bytes = r.newest ∷ reverse r.older.items };
-      limit = vec_capacity r.older;
-    } };
 }
 
 impl Registers {
     /// The registers at the start (Annex C.2.8).
     #[inline(always)]
-    fn restart(&mut self)
-        ensures { self.new.writer ≡ mq_writer }
+    fn first() -> Registers
+        ensures registers { writer_of result [] ≡ mq_writer }
+        ensures wide { result.a % 65536 ≡ 0 }
     {
-        self.a = 0x8000;
-        self.c = 0;
-        self.ct = 12;
-        self.newest = 0;
-        self.older.clear();
+        Registers {
+            a: 0x8000_0000,
+            c: 0,
+            ct: 12,
+            newest: 0,
+        }
     }
 
     /// BYTEOUT (Annex C.2.7).
-    #[inline(always)]
-    fn byte_out(&mut self) -> Result<(), NoMemory>
-        requires { self.old.writer.c < 268435456 }
-        ensures registers { OnOk result (self.new.writer ≡ mq_byte_out self.old.writer) }
-        ensures limit { OnOk result (self.old.limit ≤ self.new.limit) }
-        ensures room { OnErr result (self.old.limit < length self.old.writer.bytes) }
+    fn byte_out(self, older: &mut Vec<u8>) -> Result<Registers, NoMemory>
+        requires { self.c < 268435456 }
+        ensures registers { IfOk result (λ r. writer_of r older.new.items ≡ mq_byte_out (writer_of self older.old.items)) }
+        ensures a { IfOk result (λ r. r.a ≡ self.a) }
+        ensures limit { OnOk result (vec_capacity older.old ≤ vec_capacity older.new) }
+        ensures room { OnErr result (vec_capacity older.old ≤ vec_len older.old) }
     {
-        let (c, ct, newest) = given_out(self.c, self.newest, &mut self.older)?;
-        self.c = c;
-        self.ct = ct;
-        self.newest = newest;
-        Ok(())
+        let (c, ct, newest) = given_out(self.c, self.newest, older)?;
+        Ok(Registers {
+            a: self.a,
+            c,
+            ct,
+            newest,
+        })
     }
 
     /// Shifts of RENORME, before a byte is given out.
     #[inline(always)]
-    fn shift(&mut self, by: u32)
-        requires due { by ≤ self.old.writer.ct }
-        requires ct { self.old.writer.ct ≤ 12 }
-        requires narrow { self.old.writer.a * 2 ^ by < 65536 }
-        requires room { self.old.writer.c * 2 ^ by < 268435456 }
-        ensures { self.new ≡ record self.old { writer = mq_moved_by by self.old.writer } }
+    fn shifted(self, by: u32) -> Registers
+        requires due { by ≤ self.ct }
+        requires ct { self.ct ≤ 12 }
+        requires wide { self.a % 65536 ≡ 0 }
+        requires narrow { self.a / 65536 * 2 ^ by < 65536 }
+        requires room { self.c * 2 ^ by < 268435456 }
+        ensures registers { (older : List ℕ) → writer_of result older ≡ mq_moved_by by (writer_of self older) }
+        ensures wide { result.a % 65536 ≡ 0 }
     {
-        self.a <<= by;
-        self.c <<= by;
-        self.ct -= by;
+        Registers {
+            a: self.a << by,
+            c: self.c << by,
+            ct: self.ct - by,
+            newest: self.newest,
+        }
     }
 
-    /// RENORME (Annex C.2.6). A byte is given out as soon as it is whole.
-    #[inline(always)]
-    fn renormalize(&mut self) -> Result<(), NoMemory>
-        requires coding { IsCoding self.old.writer }
-        requires room { self.old.writer.a < 65536 }
-        ensures registers { OnOk result (self.new.writer ≡ mq_renormalized 15 self.old.writer) }
-        ensures coder { OnOk result (IsCoder self.new.writer) }
-        ensures limit { OnOk result (self.old.limit ≤ self.new.limit) }
-        ensures room { OnErr result (self.old.limit < length (mq_renormalized 15 self.old.writer).bytes) }
+    /// RENORME (Annex C.2.6) by so many shifts, as A needs, of which at least one gives out a byte. A
+    /// byte is given out as soon as it is whole.
+    #[cold]
+    #[inline(never)]
+    fn given_by(self, shifts: u32, older: &mut Vec<u8>) -> Result<Registers, NoMemory>
+        requires coding { IsCoding (writer_of self older.old.items) }
+        requires wide { self.a % 65536 ≡ 0 }
+        requires shifts { IsShort (self.a / 65536) shifts }
+        ensures registers { IfOk result (λ r. writer_of r older.new.items ≡ mq_renormalized 15 (writer_of self older.old.items)) }
+        ensures coder { IfOk result (λ r. IsCoder (writer_of r older.new.items)) }
+        ensures wide { IfOk result (λ r. r.a % 65536 ≡ 0) }
+        ensures limit { OnOk result (vec_capacity older.old ≤ vec_capacity older.new) }
+        ensures room { OnErr result (vec_capacity older.old < length (mq_renormalized 15 (writer_of self older.old.items)).bytes) }
     {
-        let mut left = self.a.leading_zeros() - 16;
-        while left >= self.ct {
-            let ready = self.ct;
-            self.shift(ready);
-            self.byte_out()?;
+        let mut now = self;
+        let mut left = shifts;
+        while left >= now.ct {
+            let ready = now.ct;
+            let moved = now.shifted(ready);
+            now = moved.byte_out(older)?;
             left -= ready;
         }
-        self.shift(left);
-        Ok(())
+        Ok(now.shifted(left))
     }
 
-    /// Narrows the interval to a symbol's part (Annex C.2.4 and C.2.5).
+    /// RENORME (Annex C.2.6). Where A has bit 15 there are no shifts.
     #[inline(always)]
-    fn narrow(&mut self, qe: u32, is_mps: bool)
-        requires some { 0 < qe }
-        requires most { qe < self.old.writer.a }
-        requires coding { IsCoding self.old.writer }
-        ensures registers { self.new ≡ record self.old { writer = mq_part self.old.writer qe is_mps } }
+    fn renormalized(self, older: &mut Vec<u8>) -> Result<Registers, NoMemory>
+        requires coding { IsCoding (writer_of self older.old.items) }
+        requires wide { self.a % 65536 ≡ 0 }
+        ensures registers { IfOk result (λ r. writer_of r older.new.items ≡ mq_renormalized 15 (writer_of self older.old.items)) }
+        ensures coder { IfOk result (λ r. IsCoder (writer_of r older.new.items)) }
+        ensures wide { IfOk result (λ r. r.a % 65536 ≡ 0) }
+        ensures limit { OnOk result (vec_capacity older.old ≤ vec_capacity older.new) }
+        ensures room { OnErr result (vec_capacity older.old < length (mq_renormalized 15 (writer_of self older.old.items)).bytes) }
+    {
+        let shifts = self.a.leading_zeros();
+        if shifts >= self.ct {
+            return self.given_by(shifts, older);
+        }
+        Ok(self.shifted(shifts))
+    }
+
+    /// The interval narrowed to a symbol's part (Annex C.2.4 and C.2.5). Qe is in the upper half of
+    /// 32 bits, and `lps` is 0 for the more probable symbol and 1 for the other.
+    #[inline(always)]
+    fn narrowed(self, qe: u32, lps: u32) -> Registers
+        requires wide { self.a % 65536 ≡ 0 }
+        requires wide_qe { qe % 65536 ≡ 0 }
+        requires most { qe ≤ self.a }
+        requires bit { lps < 2 }
+        requires room { self.c < 268435456 }
+        ensures registers { (older : List ℕ) → writer_of result older ≡ mq_part (writer_of self older) (qe / 65536) (lps == 0) }
+        ensures wide { result.a % 65536 ≡ 0 }
     {
         let rest = self.a - qe;
-        let is_low = is_mps == (rest < qe);
-        self.c += either(is_low, 0, qe);
-        self.a = either(is_low, qe, rest);
+        let low = lps ^ (rest < qe) as u32;
+        Registers {
+            a: by_bit(low, qe, rest),
+            c: self.c + unless(low, qe >> 16),
+            ct: self.ct,
+            newest: self.newest,
+        }
     }
 
     /// SETBITS (Annex C.2.9).
     #[tactic(auto, using(crate::proofs::Renormals::filled))]
-    fn set_bits(&mut self)
-        requires { IsCoding self.old.writer }
-        ensures { self.new ≡ record self.old { writer = record self.old.writer { c = mq_last_number self.old.writer } } }
+    fn set_bits(self) -> Registers
+        requires room { self.c < 268435456 }
+        requires wide { self.a % 65536 ≡ 0 }
+        ensures { (older : List ℕ) → writer_of result older ≡ record (writer_of self older) { c = mq_last_number (writer_of self older) } }
     {
-        let end = self.c + self.a;
-        self.c |= 0xFFFF;
-        if self.c >= end {
-            self.c -= 0x8000;
+        let end = self.c + (self.a >> 16);
+        let mut last = self;
+        last.c |= 0xFFFF;
+        if last.c >= end {
+            last.c -= 0x8000;
         }
+        last
     }
 
     /// A step of FLUSH: C is shifted by CT and given out (Annex C.2.9).
-    fn give_out(&mut self) -> Result<(), NoMemory>
-        requires room { self.old.writer.c * 2 ^ self.old.writer.ct < 268435456 }
-        requires ct { self.old.writer.ct ≤ 12 }
-        ensures registers { OnOk result (self.new.writer ≡ mq_given_out self.old.writer) }
-        ensures limit { OnOk result (self.old.limit ≤ self.new.limit) }
-        ensures room { OnErr result (self.old.limit < length self.old.writer.bytes) }
+    fn give_out(self, older: &mut Vec<u8>) -> Result<Registers, NoMemory>
+        requires room { self.c * 2 ^ self.ct < 268435456 }
+        requires ct { self.ct ≤ 12 }
+        ensures registers { IfOk result (λ r. writer_of r older.new.items ≡ mq_given_out (writer_of self older.old.items)) }
+        ensures limit { OnOk result (vec_capacity older.old ≤ vec_capacity older.new) }
+        ensures room { OnErr result (vec_capacity older.old ≤ vec_len older.old) }
     {
-        self.c <<= self.ct;
-        self.byte_out()
+        let mut moved = self;
+        moved.c <<= self.ct;
+        moved.byte_out(older)
     }
 }
 
@@ -181,14 +189,15 @@ impl Registers {
 #[derive(Drop)]
 pub struct MqEncoder {
     registers: Registers,
+    older: Vec<u8>,
 }
 
 impl Model for MqEncoder {
     ghost Value = { MqCoding };
 
-    ghost view = { λ e. record { writer = e.registers.writer; limit = e.registers.limit - 1 } };
+    ghost view = { λ e. record { writer = writer_of e.registers e.older.items; limit = vec_capacity e.older - 1 } };
 
-    ghost invariant = { λ e. IsCoder e.registers.writer };
+    ghost invariant = { λ e. (e.registers.a % 65536 ≡ 0) × IsCoder (writer_of e.registers e.older.items) };
 }
 
 impl MqEncoder {
@@ -218,13 +227,8 @@ impl MqEncoder {
         ensures limit { result.limit ≡ vec_capacity older - 1 }
     {
         MqEncoder {
-            registers: Registers {
-                a: 0x8000,
-                c: 0,
-                ct: 12,
-                newest: 0,
-                older,
-            },
+            registers: Registers::first(),
+            older,
         }
     }
 
@@ -239,19 +243,21 @@ impl MqEncoder {
         ensures limit { OnOk result (self.old.limit ≤ self.new.limit) }
         ensures room { OnErr result (self.old.limit < length (mq_segment (mq_wrote self.old.writer contexts.old label bit))) }
     {
-        let row = contexts.row(label);
-        let is_mps = contexts.symbol(label) == bit;
-        let qe = row.qe as u32;
-        self.registers.narrow(qe, is_mps);
-        if self.registers.a >= 0x8000 {
-            return Ok(());
+        let state = contexts.state(label);
+        let lps = (state % 2) as u32 ^ bit as u32;
+        let part = self.registers.narrowed(width_of(state), lps);
+        contexts.adapt(label, state, part.a, lps == 0);
+        match part.renormalized(&mut self.older) {
+            Ok(registers) => {
+                self.registers = registers;
+                Ok(())
+            }
+            Err(refused) => {
+                self.registers = Registers::first();
+                self.older.clear();
+                Err(refused)
+            }
         }
-        contexts.adapt(label, row, is_mps);
-        if let Err(refused) = self.registers.renormalize() {
-            self.registers.restart();
-            return Err(refused);
-        }
-        Ok(())
     }
 
     /// The segment of all decisions (Annex C.2.9): its last byte is never FF. It is refused only where
@@ -260,17 +266,15 @@ impl MqEncoder {
         ensures segment { IfOk result (λ bytes. bytes.items ≡ mq_segment self.writer) }
         ensures room { OnErr result (self.limit < length (mq_segment self.writer)) }
     {
-        let MqEncoder { mut registers } = self;
-        registers.set_bits();
-        registers.give_out()?;
-        registers.give_out()?;
-        let Registers {
-            newest,
+        let MqEncoder {
+            registers,
             mut older,
-            ..
-        } = registers;
-        if newest != 0xFF {
-            older.push(newest)?;
+        } = self;
+        let last = registers.set_bits();
+        let once = last.give_out(&mut older)?;
+        let twice = once.give_out(&mut older)?;
+        if twice.newest != 0xFF {
+            older.push(twice.newest)?;
         }
         older.remove(0);
         Ok(older)

@@ -1,3 +1,5 @@
+//! What packet headers have of the code-blocks of a band, read (T.800, B.10).
+
 ghost use Rattle.std.specs.Prelude.{◌≡◌, ◌<◌, ◌≤◌, ◌+◌, ◌-◌, ◌^◌, true, length, IfOk, IfErr, OnOk};
 ghost use Rattle.jx_tagtree.specs.Header.{to_come};
 ghost use Rattle.jx_packet_header.specs.Packet.{Cells, most_passes};

@@ -1,3 +1,5 @@
+//! What packet headers have of the code-blocks of a band, written (T.800, B.10).
+
 ghost use Rattle.std.specs.Prelude.{◌≡◌, ◌<◌, ◌≤◌, ◌+◌, ◌*◌, ◌^◌, ◌++◌, ◌-◌, [], true, length, take, drop, map, ℕ, IfOk, OnOk, slice_index, slice_index_or, slice_set};
 ghost use Rattle.jx_tagtree.specs.Questions.{all_bits, after_all};
 ghost use Rattle.jx_packet_header.specs.Packet.{Entry, asked, block_at, first_bits, first_after, zero_bits, zero_after, told_bits, block_after, entry_bits, entry_after, blocks_bits, blocks_after};

@@ -1,3 +1,5 @@
+//! What packet headers have told of a code-block.
+
 /// What headers have told of a block (T.800 B.10).
 #[derive(Clone, Copy, Debug, PartialEq, Eq)]
 pub struct Known {

@@ -1,3 +1,5 @@
+//! Where the coding passes of a code-block in a packet are cut, and the lengths of the parts (T.800, B.10.7).
+
 ghost use Rattle.std.specs.Prelude.{◌≡◌, ◌∷◌, ◌<◌, ◌≤◌, ◌+◌, ◌-◌, ◌^◌, IfOk, IfErr, OnOk};
 ghost use Rattle.jx_tagtree.specs.Header.{to_come};
 ghost use Rattle.jx_packet_header.specs.Words.{size};

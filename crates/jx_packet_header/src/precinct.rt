@@ -1,3 +1,5 @@
+//! The headers of a precinct's packets, read layer by layer (T.800, B.10).
+
 ghost use Rattle.std.specs.Prelude.{◌≡◌, ◌<◌, ◌≤◌, ◌+◌, ◌*◌, ◌^◌, ℕ, List, length, IfOk, IfErr, OnOk, MatchResult, Some, slice_index_or};
 ghost use Rattle.jx_tagtree.specs.Header.{to_come};
 ghost use Rattle.jx_packet_header.specs.Packet.{Cells, State, IsPacket, BreaksPlanes, unknown_block};

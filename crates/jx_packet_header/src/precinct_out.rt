@@ -1,3 +1,5 @@
+//! The headers of a precinct's packets, written layer by layer (T.800, B.10).
+
 ghost use Rattle.std.specs.Prelude.{◌≡◌, ◌<◌, ◌≤◌, ◌+◌, ◌*◌, ◌^◌, ◌++◌, ◌||◌, nat_lt, false, true, slice_index_or, map, List, ℕ, length, vec_len, vec_capacity, IfOk, OnOk, OnErr};
 ghost use Rattle.jx_packet_header.specs.Precinct.{IsBandCells, CellsInRange, cells_in};
 ghost use Rattle.jx_packet_header.specs.Written.{first_leaves, zero_leaves, parts_in, passes_of, some_in, next_header, state_of};

@@ -1,3 +1,5 @@
+//! Code words of a packet header, written: numbers, ones, the number of passes, the raise of Lblock (T.800, B.10.6, B.10.7).
+
 ghost use Rattle.std.specs.Prelude.{◌≡◌, ◌<◌, ◌≤◌, ◌+◌, ◌-◌, ◌*◌, ◌/◌, ◌%◌, ◌^◌, ◌==◌, ◌++◌, OnOk, replicate, true};
 ghost use Rattle.jx_tagtree.specs.Header.{low_bits};
 ghost use Rattle.jx_packet_header.specs.Words.{pass_word, raise_word, size};

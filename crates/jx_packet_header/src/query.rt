@@ -1,3 +1,5 @@
+//! A code-block's inclusion and its zero planes, read from the tag trees (T.800, B.10.4, B.10.5).
+
 ghost use Rattle.std.specs.Prelude.{◌≡◌, ◌<◌, ◌^◌, Some, None, IfOk, IfErr, OnOk};
 ghost use Rattle.jx_tagtree.specs.Header.{to_come};
 ghost use Rattle.jx_packet_header.specs.Scan.{ask, scan_first, scan_more_zeros, scan_zeros};

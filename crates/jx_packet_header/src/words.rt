@@ -1,3 +1,5 @@
+//! Code words of a packet header, read: numbers, the number of passes, the raise of Lblock (T.800, B.10.6, B.10.7).
+
 ghost use Rattle.std.specs.Prelude.{◌≡◌, ◌∷◌, [], ◌<◌, ◌+◌, ◌*◌, if◌then◌else◌, ◌^◌, Some, None, IfOk, IfErr, OnOk};
 ghost use Rattle.jx_tagtree.specs.Header.{to_come};
 ghost use Rattle.jx_packet_header.specs.Scan.{scan_number, scan_passes, scan_passes_2, scan_passes_4, scan_raise};

@@ -16,7 +16,7 @@ use Rattle.jx_codestream.specs.Shapes.{geometry, layers_of, shapes_of, tile_at}
 use Rattle.jx_tier2_reader.specs.Totals.{packet_total, totals_fault}
 use Rattle.jx_tier2_reader.proofs.CoverEither.{search_first}
 use Rattle.jx_tier2_reader.proofs.TotalLemmas.{geometry_fits}
-use Rattle.jx_plan.specs.declared.PartChoice.{PartChoice}
+use Rattle.jx_options.specs.declared.PartChoice.{PartChoice}
 use Rattle.jx_plan.specs.declared.faults.PlanFault.{PlanFault}
 use Rattle.jx_plan.specs.declared.faults.PlanFault.TheVariants as fault
 use Rattle.jx_layers.specs.Causal.{first_broken}
@@ -27,7 +27,7 @@ use Rattle.jx_plan.specs.Headers.{comp_written}
 use Rattle.jx_plan.specs.Plan.{MayBePlanned, asked_of, headers_with, most_packets}
 use Rattle.jx_plan.specs.Planned.{CanBePlannedBy, HasPlanCause, IsCrowded, MakesLayers, layers_of_rule}
 use Rattle.jx_plan.specs.Steps.{IsSameAt}
-use Rattle.jx_plan.specs.Wanted.{MayBeWanted, Wanted}
+use Rattle.jx_options.specs.Wanted.{MayBeWanted, Wanted}
 use Rattle.jx_plan.proofs.FitLemmas.{all_at, all_made}
 use Rattle.jx_plan.proofs.LayerLaws.{CrowdLaws}
 use Rattle.jx_plan.proofs.PlanLemmas.{headers_in_range, headers_pass}

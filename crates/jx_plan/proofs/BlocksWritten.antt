@@ -33,7 +33,7 @@ use Rattle.jx_plan.specs.Headers.{Asked, style_written}
 use Rattle.jx_plan.specs.Plan.{MayBePlanned, asked_of, headers_with}
 use Rattle.jx_plan.specs.Planned.{IsCrowded, blocks_written, layers_of_rule}
 use Rattle.jx_plan.specs.Standing.{HeadersStand}
-use Rattle.jx_plan.specs.Wanted.{Wanted}
+use Rattle.jx_options.specs.Wanted.{Wanted}
 use Rattle.jx_plan.proofs.BlockLemmas.{number_same, rect_same, there, totals_same}
 use Rattle.jx_plan.proofs.LayerLaws.{CrowdLaws, EndLaws, InLayers, KeepsOwn, WrittenLaws}
 use Rattle.jx_plan.proofs.PlanLemmas.{block_at, some_layers, sound_at, whole_at}

@@ -10,8 +10,8 @@ use Rattle.std.proofs.lemmas.Bool.Decides.{nat_tests}
 use Rattle.std.proofs.lemmas.Option.{same_Some}
 use Rattle.jx_base.proofs.Lists.{All-left, All-right, contains_cons, contains_head, contains_none, contains_tail, pairs_head, pairs_tail}
 use Rattle.jx_progression.specs.declared.names.PacketName.{PacketName}
-use Rattle.jx_plan.specs.declared.PartChoice.{PartChoice}
-use Rattle.jx_plan.specs.declared.PartChoice.TheVariants as part
+use Rattle.jx_options.specs.declared.PartChoice.{PartChoice}
+use Rattle.jx_options.specs.declared.PartChoice.TheVariants as part
 use Rattle.jx_tier2_reader.specs.Written.{packets_in}
 use Rattle.jx_plan.specs.Groups.{groups_of, key_of, more_groups, put_before, with_first}
 

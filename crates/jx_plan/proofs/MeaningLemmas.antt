@@ -26,7 +26,7 @@ use Rattle.jx_plan.specs.Meaning.{Component, Meaning, Place, component_of, lies_
 use Rattle.jx_plan.specs.Plan.{asked_of, headers_with}
 use Rattle.jx_plan.specs.Planned.{blocks_written, layers_of_rule}
 use Rattle.jx_plan.specs.Standing.{HeadersStand}
-use Rattle.jx_plan.specs.Wanted.{Wanted}
+use Rattle.jx_options.specs.Wanted.{Wanted}
 use Rattle.jx_plan.proofs.LayerLaws.{CellLaws, EndLaws}
 use Rattle.jx_plan.proofs.MoreLemmas.{params_with_more, step_with_more}
 use Rattle.jx_plan.proofs.StreamLemmas.{params_stay, step_stays}

@@ -6,8 +6,8 @@ use Rattle.jx_progression.proofs.OrderLemmas.{one_order}
 use Rattle.jx_codestream.specs.declared.Stream.{Stream}
 use Rattle.jx_codestream.specs.Shapes.{geometry, layers_of, tile_at}
 use Rattle.jx_tier2_reader.specs.Gathered.{IsListOf}
-use Rattle.jx_plan.specs.declared.PartChoice.{PartChoice}
-use Rattle.jx_plan.specs.declared.PartChoice.TheVariants as part
+use Rattle.jx_options.specs.declared.PartChoice.{PartChoice}
+use Rattle.jx_options.specs.declared.PartChoice.TheVariants as part
 use Rattle.jx_plan.specs.Groups.{HasFewParts, groups_of, most_parts}
 use Rattle.jx_plan.proofs.GroupLemmas.{one_group}
 

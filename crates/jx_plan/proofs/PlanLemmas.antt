@@ -28,11 +28,11 @@ use Rattle.jx_tier2_reader.specs.Totals.{block_total, packet_total, totals_fault
 use Rattle.jx_layers.specs.Causal.{breaks_plane, first_broken}
 use Rattle.jx_layers.specs.Facts.{most_layers}
 use Rattle.jx_plan.specs.Fits.{Fits}
-use Rattle.jx_plan.specs.declared.PartChoice.{PartChoice}
+use Rattle.jx_options.specs.declared.PartChoice.{PartChoice}
 use Rattle.jx_plan.specs.Groups.{HasFewParts, IsPartedAt}
 use Rattle.jx_plan.specs.Headers.{MayBeAsked}
 use Rattle.jx_plan.specs.Plan.{MayBePlanned, asked_of, headers_with, most_packets}
-use Rattle.jx_plan.specs.Wanted.{MayBeStyle, MayBeWanted, Wanted}
+use Rattle.jx_options.specs.Wanted.{MayBeStyle, MayBeWanted, Wanted}
 use Rattle.jx_plan.proofs.BlockLemmas.{blocks_are}
 use Rattle.jx_plan.proofs.ReadLemmas.{read_stands}
 use Rattle.jx_tier2_reader.specs.Faults.{passed}

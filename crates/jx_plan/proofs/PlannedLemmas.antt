@@ -19,7 +19,7 @@ use Rattle.jx_plan.specs.Fits.{Fits}
 use Rattle.jx_plan.specs.Plan.{IsJob}
 use Rattle.jx_plan.specs.Planned.{ArePlanned, IsUnplannedBy, LacksPlan, layers_of_rule}
 use Rattle.jx_plan.specs.Steps.{IsTooMuch}
-use Rattle.jx_plan.specs.Wanted.{Wanted}
+use Rattle.jx_options.specs.Wanted.{Wanted}
 use Rattle.jx_layers.specs.Rule.{Rule}
 use Rattle.jx_layers.proofs.CausalLemmas.{asked_of}
 use Rattle.jx_layers.proofs.OneLemmas.{layers_below}

@@ -11,7 +11,7 @@ use Rattle.jx_layers.specs.Causal.{first_broken}
 use Rattle.jx_plan.specs.Fits.{Fits}
 use Rattle.jx_plan.specs.Groups.{HasFewParts, IsPartedAt}
 use Rattle.jx_plan.specs.Plan.{headers_with, most_packets}
-use Rattle.jx_plan.specs.Wanted.{Wanted}
+use Rattle.jx_options.specs.Wanted.{Wanted}
 
 -- limit 7, of so many layers
 pub record PassesPackets (s : Stream) (w : Wanted) (layers found : ℕ) : Type 0 where

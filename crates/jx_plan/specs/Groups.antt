@@ -5,8 +5,8 @@ use Rattle.jx_progression.specs.declared.names.PacketName.{PacketName}
 use Rattle.jx_codestream.specs.declared.Stream.{Stream}
 use Rattle.jx_codestream.specs.First.{tile_number}
 use Rattle.jx_tier2_reader.specs.Gathered.{IsListOf}
-use Rattle.jx_plan.specs.declared.PartChoice.{PartChoice}
-use Rattle.jx_plan.specs.declared.PartChoice.TheVariants as part
+use Rattle.jx_options.specs.declared.PartChoice.{PartChoice}
+use Rattle.jx_options.specs.declared.PartChoice.TheVariants as part
 
 -- what the packets of a tile-part have in common
 abbrev pub key_of : PartChoice → PacketName → ℕ

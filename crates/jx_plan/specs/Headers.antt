@@ -11,6 +11,7 @@ use Rattle.jx_marker.specs.declared.Segment.{Segment}
 use Rattle.jx_marker.specs.declared.Segment.TheVariants as segment
 use Rattle.jx_marker.specs.declared.Cod.{Cod}
 use Rattle.jx_marker.specs.declared.Progression.{Progression}
+use Rattle.jx_codestream.specs.Headers.{cod_slot}
 use Rattle.jx_codestream.specs.declared.Tile.{Tile}
 use Rattle.jx_codestream.specs.declared.Stream.{Stream}
 use Rattle.jx_codestream.specs.declared.Params.{Params}
@@ -92,7 +93,7 @@ tile_over a entries t = record {
   place = 0;
   header = tile_header a t;
   notes = [];
-  progressions = or_list (entry_in (in_slot 1 (tile_header a t))) entries;
+  progressions = or_list (entry_in (in_slot cod_slot (tile_header a t))) entries;
   bodies = [];
 }
 
@@ -102,7 +103,7 @@ tile_written a main t = record {
   place = 0;
   header = tile_header a t;
   notes = [];
-  progressions = or_list (entry_in (in_slot 1 (tile_header a t))) (entry_in (in_slot 1 (all_written a main)));
+  progressions = or_list (entry_in (in_slot cod_slot (tile_header a t))) (entry_in (in_slot cod_slot (all_written a main)));
   bodies = [];
 }
 

@@ -1,14 +1,13 @@
 pub mod Headers
-pub mod Wanted
-pub mod Choices
 pub mod Fits
 pub mod Groups
 pub mod Standing
 pub mod Asides
-pub mod ReadBack
 pub mod Plan
-pub mod TileJobs
 pub mod Meaning
 pub mod Causes
 pub mod Planned
+-- Inner: no other crate cites these.
+pub mod ReadBack
+pub mod TileJobs
 pub mod Steps

@@ -19,7 +19,7 @@ use Rattle.jx_layers.specs.Crowded.{IsLowestCrowded}
 use Rattle.jx_plan.specs.Fits.{Fits}
 use Rattle.jx_plan.specs.Groups.{HasFewParts}
 use Rattle.jx_plan.specs.Headers.{Asked, stream_written}
-use Rattle.jx_plan.specs.Wanted.{MayBeWanted, Wanted}
+use Rattle.jx_options.specs.Wanted.{MayBeWanted, Wanted}
 use Rattle.jx_plan.specs.Standing.{HeadersStand}
 
 -- a stream that was read, with its blocks

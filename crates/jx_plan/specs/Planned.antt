@@ -17,7 +17,7 @@ use Rattle.jx_layers.specs.Facts.{facts_of}
 use Rattle.jx_plan.specs.Fits.{AreUnfit, Fits}
 use Rattle.jx_plan.specs.Causes.{HasManyPartsAt, IsFree, IsPlaneBroken, PassesPackets}
 use Rattle.jx_plan.specs.Plan.{Plan, headers_with, most_packets}
-use Rattle.jx_plan.specs.Wanted.{Wanted}
+use Rattle.jx_options.specs.Wanted.{Wanted}
 
 -- so many layers and these jobs, by the rule that there is
 abbrev pub ArePlanned : Option Style → Option Rule → StreamFacts → List Block → ℕ → List Job → Type 0

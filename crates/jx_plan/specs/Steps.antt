@@ -15,7 +15,7 @@ use Rattle.jx_layers.specs.Crowded.{IsLowestCrowded}
 use Rattle.jx_plan.specs.Fits.{KeepsBlocks}
 use Rattle.jx_plan.specs.Causes.{HasManyPartsAt, PassesPackets}
 use Rattle.jx_plan.specs.Plan.{headers_with, most_packets}
-use Rattle.jx_plan.specs.Wanted.{Wanted}
+use Rattle.jx_options.specs.Wanted.{Wanted}
 
 -- a block has the same exponents at a resolution
 abbrev pub IsSameAt : CompShape → CompShape → ℕ → Type 0

@@ -9,7 +9,7 @@ ghost use Rattle.jx_plan.specs.Groups.{HasFewParts};
 ghost use Rattle.jx_plan.specs.Plan.{headers_with, most_packets};
 ghost use Rattle.jx_plan.specs.Standing.{HeadersStand};
 ghost use Rattle.jx_plan.specs.Steps.{IsOverPackets, IsOverParts};
-ghost use Rattle.jx_plan.specs.Wanted.{MayBeWanted};
+ghost use Rattle.jx_options.specs.Wanted.{MayBeWanted};
 
 use crate::headers::{HeaderMarks, write_headers};
 use crate::parting::first_parted;

@@ -1,3 +1,5 @@
+//! Why a codestream isn't written as it is asked.
+
 ghost use Rattle.std.specs.Prelude.{◌≡◌};
 ghost use Rattle.jx_plan.specs.declared.faults.PlanFault.TheVariants.{NoMemory as out_of_memory};
 

@@ -9,7 +9,7 @@ ghost use Rattle.jx_marker.specs.Rules.{has_zero_exponent};
 ghost use Rattle.jx_codestream.specs.First.{tile_number};
 ghost use Rattle.jx_codestream.specs.InRange.{StreamInRange};
 ghost use Rattle.jx_codestream.specs.Params.{header_of, precincts_of};
-ghost use Rattle.jx_plan.specs.Choices.{bytes_in};
+ghost use Rattle.jx_options.specs.Choices.{bytes_in};
 ghost use Rattle.jx_plan.specs.Fits.{AreUnfit, Fits, IsChangedAt, KeepsBlocks, first_zero, has_zero, shape_has_zero, tile_has_zero};
 ghost use Rattle.jx_plan.specs.Headers.{bytes_for, comp_written, item_at};
 ghost use Rattle.jx_plan.specs.Standing.{HeadersStand};

@@ -3,7 +3,7 @@
 ghost use Rattle.std.specs.Prelude.{◌≡◌, ◌++◌, ◌+◌, ◌<◌, ◌==◌, IfOk, OnOk, Some, length, map};
 ghost use Rattle.std.specs.List.{range_with_len};
 ghost use Rattle.std.specs.Option.{option_to_list};
-ghost use Rattle.jx_codestream.specs.Headers.{slot_of};
+ghost use Rattle.jx_codestream.specs.Headers.{cod_slot, slot_of};
 ghost use Rattle.jx_codestream.specs.Tiles.{entry_in, in_slot, or_list};
 ghost use Rattle.jx_plan.specs.Headers.{all_written, bytes_for, cod_written, is_written, item_at, order_written, precincts_written, shape_written, stream_written, style_written, tile_over, written};
 
@@ -214,7 +214,7 @@ fn entry_of(segment: &Segment) -> Option<Progression>
 
 /// The entry that a header's COD stands for.
 fn cod_entry(segments: &[Segment]) -> Option<Progression>
-    ensures { option_to_list result ≡ entry_in (in_slot 1 segments.now) }
+    ensures { option_to_list result ≡ entry_in (in_slot cod_slot segments.now) }
 {
     for segment in segments {
         if is_cod(segment) {
@@ -237,7 +237,7 @@ fn one_entry(alloc: Global, entry: Option<Progression>) -> Result<Entries, NoMem
 
 /// The one entry of a tile with this header, else that of the main header.
 fn tile_entries(alloc: Global, header: &[Segment], default: &Entries) -> Result<Entries, NoMemory>
-    ensures { IfOk result (λ entries. entries ≡ or_list (entry_in (in_slot 1 header.now)) default.now) }
+    ensures { IfOk result (λ entries. entries ≡ or_list (entry_in (in_slot cod_slot header.now)) default.now) }
 {
     let entry = cod_entry(header);
     if entry.is_some() {
@@ -292,7 +292,7 @@ fn tiles_under(
     tiles: &[Tile],
     asked: &HeaderMarks<'_>,
 ) -> Result<Vec<Tile>, NoMemory>
-    ensures { IfOk result (λ copies. copies.items ≡ map (tile_over asked.now (entry_in (in_slot 1 main.now))) tiles.now) }
+    ensures { IfOk result (λ copies. copies.items ≡ map (tile_over asked.now (entry_in (in_slot cod_slot main.now))) tiles.now) }
 {
     let default = one_entry(alloc, cod_entry(main))?;
     write_tiles(alloc, tiles, asked, &default)

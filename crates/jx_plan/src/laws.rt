@@ -5,6 +5,7 @@ ghost use Rattle.std.specs.List.{All, AllPairs, Contains, list_any};
 ghost use Rattle.jx_base.specs.declared.names.Band.{Band};
 ghost use Rattle.jx_base.specs.declared.style.Style.{Style};
 ghost use Rattle.jx_marker.specs.declared.Segment.{Segment};
+ghost use Rattle.jx_codestream.specs.Headers.{cod_slot};
 ghost use Rattle.jx_codestream.specs.declared.headers.HeaderKind.TheVariants.{First, Later};
 ghost use Rattle.jx_tier2_reader.specs.Another.{HaveSameBlocks};
 ghost use Rattle.jx_tier2_reader.specs.BlockOf.{AreBlocksOf};
@@ -29,11 +30,11 @@ ghost use Rattle.jx_plan.specs.Standing.{HeadersStand, IsHeaded};
 ghost use Rattle.jx_base.specs.declared.pieces.Block.{Block};
 ghost use Rattle.jx_base.specs.Sound.{IsSound};
 ghost use Rattle.jx_progression.specs.declared.names.PacketName.{PacketName};
-ghost use Rattle.jx_plan.specs.declared.PartChoice.{PartChoice};
-ghost use Rattle.jx_plan.specs.declared.PartChoice.TheVariants as part_choice;
+ghost use Rattle.jx_options.specs.declared.PartChoice.{PartChoice};
+ghost use Rattle.jx_options.specs.declared.PartChoice.TheVariants as part_choice;
 ghost use Rattle.jx_plan.specs.Fits.{Fits, first_zero};
 ghost use Rattle.jx_plan.specs.Groups.{groups_of, key_of};
-ghost use Rattle.jx_plan.specs.Wanted.{MayBeWanted, Wanted};
+ghost use Rattle.jx_options.specs.Wanted.{MayBeWanted, Wanted};
 ghost use Rattle.jx_plan.specs.declared.faults.PlanFault.{PlanFault};
 ghost use Rattle.jx_plan.specs.declared.faults.PlanFault.TheVariants as plan_fault;
 ghost use Rattle.jx_codeblock.specs.Written.{block_asked, is_wrong};
@@ -190,7 +191,7 @@ pub fn written_headers_are_plain()
     ensures entries { (a : Asked) (s : Stream) (t : ℕ) → HeadersStand s → t < length s.tiles → joined (header_of (stream_written a s) t) ≡ [] }
     ensures lengths { (a : Asked) (s : Stream) (t : ℕ) → HeadersStand s → t < length s.tiles → list_any is_plt (header_of (stream_written a s) t) ≡ false }
     ensures order { (a : Asked) (s : Stream) (t : ℕ) → HeadersStand s → t < length s.tiles → (tile_at (stream_written a s) t).progressions
-        ≡ or_list (entry_in (in_slot 1 (header_of (stream_written a s) t))) (entry_in (in_slot 1 (stream_written a s).main)) }
+        ≡ or_list (entry_in (in_slot cod_slot (header_of (stream_written a s) t))) (entry_in (in_slot cod_slot (stream_written a s).main)) }
     ensures cods { (a : Asked) (s : Stream) (t : ℕ) → HeadersStand s
         → cod_or (cod_of (header_of (stream_written a s) t) (stream_written a s).main) ≡ cod_written a (cod_or (cod_of (header_of s t) s.main)) }
     ensures limits { (a : Asked) (s : Stream) → Fits a.precincts s → HeadersStand s → totals_fault s ≡ None → packet_total (stream_written a s) ≤ 2 ^ 22

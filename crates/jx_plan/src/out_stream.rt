@@ -8,7 +8,7 @@ ghost use Rattle.jx_codestream.specs.First.{canvas_of, tile_number};
 ghost use Rattle.jx_codestream.specs.Shapes.{shapes_of};
 ghost use Rattle.jx_plan.specs.Plan.{IsPlan, headers_of};
 ghost use Rattle.jx_plan.specs.TileJobs.{AreJobsBelow, AreTileJobs};
-ghost use Rattle.jx_plan.specs.Wanted.{marks_of};
+ghost use Rattle.jx_options.specs.Wanted.{marks_of};
 
 use crate::{Marks, Options};
 use jx_base::Block;

@@ -12,7 +12,7 @@ ghost use Rattle.jx_plan.specs.Fits.{Fits};
 ghost use Rattle.jx_plan.specs.Plan.{IsJob, MayBePlanned};
 ghost use Rattle.jx_plan.specs.Planned.{ArePlanned, HasLaterCause, HasPlanCause, IsPlanned, IsUnplanned, chosen};
 ghost use Rattle.jx_plan.specs.Steps.{IsTooMuch};
-ghost use Rattle.jx_plan.specs.Wanted.{MayBeWanted};
+ghost use Rattle.jx_options.specs.Wanted.{MayBeWanted};
 ghost use Rattle.jx_codeblock.specs.declared.job.Job.{Job as job_asked};
 ghost use Rattle.jx_codeblock.specs.declared.LayerEnd.{LayerEnd};
 

@@ -3,7 +3,7 @@
 ghost use Rattle.std.specs.Prelude.{◌≡◌, ◌<◌, length, IfOk};
 ghost use Rattle.jx_codestream.specs.First.{tile_number};
 ghost use Rattle.jx_plan.specs.Plan.{MayBePlanned, headers_of};
-ghost use Rattle.jx_plan.specs.Wanted.{MayBeWanted};
+ghost use Rattle.jx_options.specs.Wanted.{MayBeWanted};
 ghost use Rattle.jx_tier2_writer.specs.Tile.{AreMade, AreValuesOf, made_in};
 
 use crate::checks::equal;
@@ -14,7 +14,8 @@ use jx_base::{Block, NoMemory};
 use jx_codeblock::Recoded;
 use jx_codestream::{MainView, Stream};
 use jx_layers::{LayerPlanner, tile_count};
-use jx_plan::{Options, OrderChoice, OutStream, PartChoice, PrecinctChoice, plan};
+use jx_options::{Options, OrderChoice, PartChoice, PrecinctChoice};
+use jx_plan::{OutStream, plan};
 use jx_store::Entry;
 use jx_tier2_writer::{AssembleFault, TileOut, assemble_tile, main_header, main_view, pack_tile};
 use std::alloc::{AllocError, Global};

@@ -1,7 +1,8 @@
 //! Lists of packets, cut into tile-parts.
 
 use crate::checks::equal;
-use jx_plan::{PartChoice, count_parts, part_end};
+use jx_options::PartChoice;
+use jx_plan::{count_parts, part_end};
 use jx_progression::PacketName;
 use std::alloc::{AllocError, Global};
 use std::process::Abort;

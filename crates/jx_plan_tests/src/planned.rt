@@ -2,18 +2,17 @@
 
 ghost use Rattle.std.specs.Prelude.{◌≤◌, IfOk, IfSome};
 ghost use Rattle.jx_marker.specs.Ranges.{AreBytes};
-ghost use Rattle.jx_plan.specs.Choices.{bytes_in, order_in};
+ghost use Rattle.jx_options.specs.Choices.{bytes_in, order_in};
 ghost use Rattle.jx_plan.specs.Plan.{MayBePlanned};
-ghost use Rattle.jx_plan.specs.Wanted.{MayBeStyle, MayBeWanted};
+ghost use Rattle.jx_options.specs.Wanted.{MayBeStyle, MayBeWanted};
 
 use crate::hex::bytes_of;
 use jx_base::{Block, NoMemory, Style};
 use jx_codeblock::Job;
 use jx_codestream::{Stream, Tile, read_stream};
 use jx_layers::{CutLayers, KeepLayers, LayerPlanner, OneLayer, TableLayers, tile_count};
-use jx_plan::{
-    Options, OrderChoice, OutStream, PartChoice, PlanFault, PrecinctChoice, plan, plan_served,
-};
+use jx_options::{Options, OrderChoice, PartChoice, PrecinctChoice};
+use jx_plan::{OutStream, PlanFault, plan, plan_served};
 use jx_tier2_reader::gather;
 use std::alloc::{AllocError, Global};
 

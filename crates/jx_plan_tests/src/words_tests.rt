@@ -2,7 +2,7 @@
 
 use crate::checks::equal;
 use jx_cli::{Request, WordsFault, read_make, read_words};
-use jx_plan::OrderChoice;
+use jx_options::OrderChoice;
 use std::alloc::{AllocError, Global};
 use std::test::Fail;
 

@@ -18,7 +18,7 @@ use Rattle.jx_progression.specs.declared.names.Order.{Order}
 use Rattle.jx_progression.specs.declared.names.Order.TheVariants.{Lrcp, Rlcp, Rpcl, Pcrl, Cprl}
 use Rattle.jx_progression.specs.Orders.{IsLess, ComesBefore, order_of, across_of, down_of}
 use Rattle.jx_progression.specs.Packets.{IsPacket}
-use Rattle.jx_progression.specs.Steps.{AreSorted, Lists, across_or, all_heads, by_layer, count_of, down_or, group_names, group_size, heads_at, name_of, numbers_of, one_layer, one_layer_head, one_precinct, one_precinct_head, precinct_key, row_end, row_heads, row_of, sent_at, sort_key}
+use Rattle.jx_progression.specs.Steps.{AreSorted, Lists, across_or, all_heads, by_layer, count_of, down_or, group_names, group_size, heads_at, name_of, numbers_of, one_layer, one_layer_head, one_precinct, one_precinct_head, row_end, row_heads, row_of, sent_at, sort_key}
 use Rattle.jx_progression.proofs.FlatLemmas.{flat_from, flat_has, flat_pairs}
 use Rattle.jx_progression.proofs.GroupLemmas.{IsFirst, Listed, count_is, head_to, in_group, layer_names, layers_are, name_listed, no_heads, one_has, precinct_names, precincts_are, row_has, some_names, stands_in}
 use Rattle.jx_progression.proofs.KeyLemmas.{same_place}
@@ -143,11 +143,11 @@ unfolding sort_key
 key_is g layers Lrcp p h = refl
 key_is g layers Rlcp p h = refl
 key_is g layers Rpcl p h =
-    ap (λ x. numbers_of (precinct_key Rpcl p x (down_or g p))) (across_there g layers p h) ∙ ap (λ y. numbers_of (precinct_key Rpcl p (across_of g p) y)) (down_there g layers p h)
+    ap (λ x. p.res ∷ down_or g p ∷ x ∷ p.comp ∷ []) (across_there g layers p h) ∙ ap (λ y. p.res ∷ y ∷ across_of g p ∷ p.comp ∷ []) (down_there g layers p h)
 key_is g layers Pcrl p h =
-    ap (λ x. numbers_of (precinct_key Pcrl p x (down_or g p))) (across_there g layers p h) ∙ ap (λ y. numbers_of (precinct_key Pcrl p (across_of g p) y)) (down_there g layers p h)
+    ap (λ x. down_or g p ∷ x ∷ p.comp ∷ p.res ∷ []) (across_there g layers p h) ∙ ap (λ y. y ∷ across_of g p ∷ p.comp ∷ p.res ∷ []) (down_there g layers p h)
 key_is g layers Cprl p h =
-    ap (λ x. numbers_of (precinct_key Cprl p x (down_or g p))) (across_there g layers p h) ∙ ap (λ y. numbers_of (precinct_key Cprl p (across_of g p) y)) (down_there g layers p h)
+    ap (λ x. p.comp ∷ down_or g p ∷ x ∷ p.res ∷ []) (across_there g layers p h) ∙ ap (λ y. p.comp ∷ y ∷ across_of g p ∷ p.res ∷ []) (down_there g layers p h)
 
 layer_shares : (g : Geometry) (o : Order) (x : PacketName) (k : ℕ) → by_layer o ≡ true → head_of g o (name_of x.layer x.res x.comp k) ≡ head_of g o x
 layer_shares g Lrcp x k h = refl

@@ -89,22 +89,12 @@ across_or g p = if nat_lt p.precinct (count_of g p.comp p.res) then across_of g 
 unfoldable pub down_or : Geometry → PacketName → ℕ
 down_or g p = if nat_lt p.precinct (count_of g p.comp p.res) then down_of g p else 0
 
-abbrev pub layer_key : Order → PacketName → Key
-layer_key Lrcp p = record { first = p.layer; second = p.res; third = p.comp; fourth = 0 }
-layer_key Rlcp p = record { first = p.res; second = p.layer; third = p.comp; fourth = 0 }
-layer_key Rpcl p = record { first = p.layer; second = p.res; third = p.comp; fourth = 0 }
-layer_key Pcrl p = record { first = p.layer; second = p.res; third = p.comp; fourth = 0 }
-layer_key Cprl p = record { first = p.layer; second = p.res; third = p.comp; fourth = 0 }
-
-abbrev pub precinct_key : Order → PacketName → ℕ → ℕ → Key
-precinct_key Lrcp p x y = record { first = p.res; second = y; third = x; fourth = p.comp }
-precinct_key Rlcp p x y = record { first = p.res; second = y; third = x; fourth = p.comp }
-precinct_key Rpcl p x y = record { first = p.res; second = y; third = x; fourth = p.comp }
-precinct_key Pcrl p x y = record { first = y; second = x; third = p.comp; fourth = p.res }
-precinct_key Cprl p x y = record { first = p.comp; second = y; third = x; fourth = p.res }
-
 unfoldable pub sort_key : Geometry → Order → PacketName → Key
-sort_key g o p = (if by_layer o then layer_key o p else precinct_key o p (across_or g p) (down_or g p))
+sort_key g Lrcp p = record { first = p.layer; second = p.res; third = p.comp; fourth = 0 }
+sort_key g Rlcp p = record { first = p.res; second = p.layer; third = p.comp; fourth = 0 }
+sort_key g Rpcl p = record { first = p.res; second = down_or g p; third = across_or g p; fourth = p.comp }
+sort_key g Pcrl p = record { first = down_or g p; second = across_or g p; third = p.comp; fourth = p.res }
+sort_key g Cprl p = record { first = p.comp; second = down_or g p; third = across_or g p; fourth = p.res }
 
 abbrev pub numbers_of : Key → List ℕ
 numbers_of k = k.first ∷ k.second ∷ k.third ∷ k.fourth ∷ []

@@ -2,6 +2,7 @@
 //! spread from it.
 
 ghost use Rattle.std.specs.Prelude.{◌≡◌, ◌≤◌, ◌++◌, IfOk, OnOk, drop, length, min, take};
+ghost use Rattle.jx_base.specs.OrderNumbers.{IsOrderNumber};
 ghost use Rattle.std.specs.List.Sorted.{IsPermutation};
 ghost use Rattle.jx_base.specs.Joined.{joined};
 ghost use Rattle.jx_geom.specs.Geometry.{GeometryInRange};
@@ -126,7 +127,7 @@ pub(crate) fn push_entry(
     sent: &[u16],
     list: &mut Vec<PacketName>,
 ) -> Result<(), NoMemory>
-    requires order { entry.order ≤ 4 }
+    requires order { IsOrderNumber entry.order }
     requires places { HasPlaces geom.now sent.now }
     ensures front { OnOk result (take (length list.old.items) list.new.items ≡ list.old.items) }
     ensures lists { OnOk result (Lists geom.now layers entry sent.now (drop (length list.old.items) list.new.items)) }

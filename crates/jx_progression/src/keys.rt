@@ -1,9 +1,10 @@
 //! What an entry's groups are sorted by: a layer of a resolution stands together, or a precinct.
 
-ghost use Rattle.std.specs.Prelude.{◌≡◌, ◌≤◌, ◌<◌};
+ghost use Rattle.std.specs.Prelude.{◌≡◌, ◌<◌};
+ghost use Rattle.jx_base.specs.OrderNumbers.{IsOrderNumber};
 ghost use Rattle.jx_geom.specs.Geometry.{HasResolution, precincts_in};
 ghost use Rattle.jx_progression.specs.Orders.{order_of};
-ghost use Rattle.jx_progression.specs.Steps.{across_or, by_layer, count_of, down_or, layer_key, precinct_key, sort_key};
+ghost use Rattle.jx_progression.specs.Steps.{across_or, by_layer, count_of, down_or, sort_key};
 
 use crate::names::{Order, PacketName};
 use jx_geom::TileGeom;
@@ -19,7 +20,7 @@ pub(crate) struct Key {
 
 /// The order of a number.
 pub(crate) fn order_from(number: u8) -> Order
-    requires { number ≤ 4 }
+    requires { IsOrderNumber number }
     ensures { result ≡ order_of number }
 {
     match number {
@@ -27,7 +28,8 @@ pub(crate) fn order_from(number: u8) -> Order
         1 => Order::Rlcp,
         2 => Order::Rpcl,
         3 => Order::Pcrl,
-        _ => Order::Cprl,
+        4 => Order::Cprl,
+        _ => unreachable!(),
     }
 }
 
@@ -80,40 +82,28 @@ fn keyed(first: u32, second: u32, third: u32, fourth: u16) -> Key
     }
 }
 
-/// The key of the packets of a layer of a resolution.
-fn layer_key(order: Order, name: PacketName) -> Key
-    ensures { result ≡ layer_key order name }
+/// What a packet is sorted by: the numbers of its layer and resolution, or where its precinct stands.
+#[tactic(auto, unfolding(crate::specs::Steps::sort_key))]
+pub(crate) fn sort_key(geom: &TileGeom, order: Order, name: PacketName) -> Key
+    ensures { result ≡ sort_key geom.now order name }
 {
     let layer = u32::from(name.layer);
     let res = u32::from(name.res);
     let comp = u32::from(name.comp);
     match order {
+        Order::Lrcp => keyed(layer, res, comp, 0),
         Order::Rlcp => keyed(res, layer, comp, 0),
-        Order::Lrcp | Order::Rpcl | Order::Pcrl | Order::Cprl => keyed(layer, res, comp, 0),
+        Order::Rpcl => {
+            let (x, y) = position(geom, name);
+            keyed(res, y, x, name.comp)
+        }
+        Order::Pcrl => {
+            let (x, y) = position(geom, name);
+            keyed(y, x, comp, u16::from(name.res))
+        }
+        Order::Cprl => {
+            let (x, y) = position(geom, name);
+            keyed(comp, y, x, u16::from(name.res))
+        }
     }
-}
-
-/// The key of the packets of a precinct that stands at a place of the reference grid.
-fn precinct_key(order: Order, name: PacketName, x: u32, y: u32) -> Key
-    ensures { result ≡ precinct_key order name x y }
-{
-    let res = u16::from(name.res);
-    let comp = u32::from(name.comp);
-    match order {
-        Order::Pcrl => keyed(y, x, comp, res),
-        Order::Cprl => keyed(comp, y, x, res),
-        Order::Lrcp | Order::Rlcp | Order::Rpcl => keyed(u32::from(name.res), y, x, name.comp),
-    }
-}
-
-/// What a packet is sorted by: positions only where the packets of a precinct stand together.
-#[tactic(auto, unfolding(crate::specs::Steps::sort_key))]
-pub(crate) fn sort_key(geom: &TileGeom, order: Order, name: PacketName) -> Key
-    ensures { result ≡ sort_key geom.now order name }
-{
-    if by_layer(order) {
-        return layer_key(order, name);
-    }
-    let (x, y) = position(geom, name);
-    precinct_key(order, name, x, y)
 }

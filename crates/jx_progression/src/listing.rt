@@ -1,6 +1,7 @@
 //! The list of a tile's packets.
 
-ghost use Rattle.std.specs.Prelude.{◌≡◌, ◌≢◌, ◌≤◌, ◌↔◌, ℕ, IfOk, OnOk, length, slice_index};
+ghost use Rattle.std.specs.Prelude.{◌≡◌, ◌≢◌, ◌↔◌, ℕ, IfOk, OnOk, length, slice_index};
+ghost use Rattle.jx_base.specs.OrderNumbers.{IsOrderNumber};
 ghost use Rattle.std.specs.List.{All, AllPairs, Contains};
 ghost use Rattle.jx_progression.specs.declared.names.PacketName.{PacketName};
 ghost use Rattle.jx_progression.specs.Packets.{AreCovered, HasUncovered, IsOrder, IsPacket};
@@ -26,7 +27,7 @@ pub fn packets(
     layers: u16,
     entries: &[Progression],
 ) -> Result<Vec<PacketName>, OrderFault>
-    requires { All (λ e. e.order ≤ 4) entries.now }
+    requires { All (λ e. IsOrderNumber e.order) entries.now }
     ensures order { IfOk result (λ list. IsOrder geom.now layers entries.now (length entries.now) list.items) }
     ensures whole { OnOk result (AreCovered geom.now layers entries.now) }
     ensures every { IfOk result (λ list. (p : PacketName) → Contains list.items p ↔ IsPacket geom.now layers p) }
@@ -46,7 +47,7 @@ fn list_covered(
     layers: u16,
     entries: &[Progression],
 ) -> Result<Vec<PacketName>, NoMemory>
-    requires entries { All (λ e. e.order ≤ 4) entries.now }
+    requires entries { All (λ e. IsOrderNumber e.order) entries.now }
     requires whole { AreCovered geom.now layers entries.now }
     ensures order { IfOk result (λ list. IsOrder geom.now layers entries.now (length entries.now) list.items) }
     ensures every { IfOk result (λ list. (p : PacketName) → Contains list.items p ↔ IsPacket geom.now layers p) }
@@ -74,7 +75,7 @@ fn list_all(
     entries: &[Progression],
     sent: &mut [u16],
 ) -> Result<Vec<PacketName>, NoMemory>
-    requires entries { All (λ e. e.order ≤ 4) entries.now }
+    requires entries { All (λ e. IsOrderNumber e.order) entries.now }
     requires places { HasPlaces geom.now sent.old }
     requires none { (i : ℕ) → slice_index sent.old i ≡ 0 }
     ensures { IfOk result (λ list. IsOrder geom.now layers entries.now (length entries.now) list.items) }

@@ -1,2 +1,3 @@
 pub mod RawReading
+-- Inner: no other crate cites these.
 pub mod RawWriting

@@ -1,3 +1,5 @@
+//! Raw bits, read (T.800, D.6).
+
 ghost use Rattle.std.specs.Prelude.{◌≡◌, ℕ, ◌-◌, List, length, drop};
 ghost use Rattle.jx_coder_specs.specs.RawBits.{raw_bits, raw_looked};
 ghost use Rattle.jx_raw.specs.RawReading.{RawReading, IsReading, bits_left, first_or_one};

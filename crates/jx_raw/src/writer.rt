@@ -1,3 +1,5 @@
+//! Raw bits, written (T.800, D.6).
+
 ghost use Rattle.std.specs.Prelude.{◌≡◌, ◌<◌, ◌≤◌, ℕ, Bool, List, [], ◌∷◌, ◌++◌, length, vec_capacity, IfOk, OnOk, OnErr};
 ghost use Rattle.jx_coder_specs.specs.RawBits.{raw_write};
 ghost use Rattle.jx_raw.specs.RawWriting.{RawBegun, bits_written, IsBegun};

@@ -22,7 +22,7 @@ use Rattle.jx_codestream.specs.Shapes.{shapes_of}
 use Rattle.jx_codestream.specs.Spells.{TilePart, part_bytes}
 use Rattle.jx_plan.specs.Headers.{stream_written}
 use Rattle.jx_plan.specs.Plan.{IsPlan, MayBePlanned, Plan, headers_of, headers_with}
-use Rattle.jx_plan.specs.Wanted.{Wanted, marks_of}
+use Rattle.jx_options.specs.Wanted.{Wanted, marks_of}
 use Rattle.jx_tier2_writer.specs.Ready.{AreShort}
 use Rattle.jx_tier2_writer.specs.Tile.{AreAtMost, IsTile, blocks_in, first_block, main_bytes}
 use Rattle.jx_tier2_writer.specs.TileParts.{AreTilePartsOf}

@@ -20,13 +20,13 @@ use Rattle.jx_base.proofs.Lists.{all_at, all_from, same_gets}
 use Rattle.jx_codestream.specs.First.{tile_number}
 use Rattle.jx_tier2_writer.specs.Tile.{first_block}
 use Rattle.jx_plan.specs.Plan.{IsPlan, Plan}
-use Rattle.jx_cli.specs.Words.{MayBeWork, Work}
+use Rattle.jx_options.specs.Work.{MayBeWork, Work}
+use Rattle.jx_rounds.proofs.FrontLemmas.{blocks_are}
+use Rattle.jx_rounds.proofs.TileLemmas.{get_drop, get_take}
 use Rattle.jx_rounds.specs.MadeRounds.{AreMadeAlone, AreOfBlocks, AreUnshared, IsTapeFrom, TapesOn, entry_of}
 use Rattle.jx_rounds.specs.Rounds.{AreAnswers, HasTape, IsPlace}
 use Rattle.jx_rounds.specs.Tapes.{IsTapeOf, setup_of}
 use Rattle.jx_rounds.specs.declared.tape.TapeEntry.{TapeEntry}
-use Rattle.jx_rounds.proofs.FrontLemmas.{blocks_are}
-use Rattle.jx_rounds.proofs.TileLemmas.{get_drop, get_take}
 
 -- ---- numbers from one on: what the law of the store says of them
 pub record NumberLaws : Type 0 where

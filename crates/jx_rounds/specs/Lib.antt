@@ -4,5 +4,6 @@ pub mod FileBytes
 pub mod Tapes
 pub mod Halts
 pub mod Rounds
+-- Inner: no other crate cites these.
 pub mod MadeRounds
 pub mod PackedTiles

@@ -8,7 +8,7 @@ use Rattle.jx_store.specs.declared.work.Named.{Named}
 use Rattle.jx_store.specs.declared.work.Named.TheVariants.{Bad, Short}
 use Rattle.jx_workers.specs.Tapes.{IsTape, answer_of, size_of}
 use Rattle.jx_codestream.specs.First.{tile_number}
-use Rattle.jx_cli.specs.Words.{Work}
+use Rattle.jx_options.specs.Work.{Work}
 use Rattle.jx_plan.specs.Plan.{Plan}
 use Rattle.jx_tier2_writer.specs.Tile.{AreMade, blocks_in, first_block}
 use Rattle.jx_rounds.specs.Rounds.{EndsRound, HasTape, IsInRound}

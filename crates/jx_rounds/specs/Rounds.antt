@@ -13,8 +13,8 @@ use Rattle.jx_marker.specs.Segments.{spelling}
 use Rattle.jx_marker.specs.declared.Segment.TheVariants as segment
 use Rattle.jx_codeblock.specs.Written.{block_asked}
 use Rattle.jx_plan.specs.Plan.{Plan, headers_of}
-use Rattle.jx_cli.specs.Words.{Work}
-use Rattle.jx_plan.specs.Wanted.{marks_of}
+use Rattle.jx_options.specs.Work.{Work}
+use Rattle.jx_options.specs.Wanted.{marks_of}
 use Rattle.jx_codestream.specs.First.{tile_number}
 use Rattle.jx_codestream.specs.Spells.{TilePart, part_bytes}
 use Rattle.jx_tier2_writer.specs.Ready.{AreShort}

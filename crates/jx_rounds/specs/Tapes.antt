@@ -5,7 +5,7 @@ use Rattle.jx_base.specs.declared.pieces.Block.{Block}
 use Rattle.jx_base.specs.Pieces.{bytes_in}
 use Rattle.jx_store.specs.Order.{numbers}
 use Rattle.jx_store.specs.Setup.{Setup, Within}
-use Rattle.jx_cli.specs.Words.{Work}
+use Rattle.jx_options.specs.Work.{Work}
 use Rattle.jx_rounds.specs.declared.tape.TapeEntry.{TapeEntry}
 
 -- all blocks as one store would have them: their numbers from 0 on, the bytes of their pieces, and both windows

@@ -8,13 +8,13 @@ ghost use Rattle.jx_store.specs.declared.event.Taped.{Taped};
 ghost use Rattle.jx_store.specs.declared.work.Named.{Named};
 ghost use Rattle.jx_codeblock.specs.Recoded.{WrittenBlock};
 ghost use Rattle.jx_workers.specs.Tapes.{AreAsked, answer_of, size_of};
-ghost use Rattle.jx_cli.specs.Words.{MayBeWork};
+ghost use Rattle.jx_options.specs.Work.{MayBeWork};
 ghost use Rattle.jx_rounds.specs.MadeRounds.{AreMadeAlone, AreUnshared, IsTapeFrom};
 
 use jx_base::{NoMemory, Piece};
-use jx_cli::Work;
 use jx_codeblock::{BlockFault, Job, Recoded, recode};
 use jx_io::Gate;
+use jx_options::Work;
 use jx_store::laws::numbers_count_up;
 use jx_store::{Claim, Entry, Named, Taped};
 use jx_workers::{Tape, recode_all};

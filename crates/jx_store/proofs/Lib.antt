@@ -1,14 +1,5 @@
 pub mod Loads
 pub mod Windows
 pub mod Changes
-mod Runs
-mod Tally
-mod Sharing
-mod Valids
-mod Records
-mod Refusals
-mod Replays
-mod Made
-mod Below
-mod Deals
+pub mod Runs
 pub mod NumberLemmas

@@ -6,7 +6,7 @@ use Rattle.std.proofs.Math.Seq.{take-suc}
 use Rattle.std.proofs.lemmas.Option.{same_Some}
 use Rattle.std.proofs.lemmas.List.Sums.{sum_by-cons, sum_by_more}
 use Rattle.jx_store.specs.Setup.{Setup, load}
-use Rattle.jx_store.specs.Shown.{sums_from, gaps_from, items_of}
+use Rattle.jx_store.specs.Sums.{sums_from, gaps_from, items_of}
 
 gaps_of_sums : (a b : ℕ) (xs : List ℕ) → gaps_from a (sums_from (a + b) xs) ≡ b ∷ xs
 gaps_of_sums a b [] = (let e : a + b - a ≡ b = omega arith in ap (λ (x : ℕ). x ∷ []) e)

@@ -1,7 +1,5 @@
 -- A value that is of a number.
 use Rattle.std.specs.Prelude.{◌≡◌, ℕ, ◌-◌, Bool, true, List, Some, slice_get}
-use Rattle.jx_store.specs.Machine.{State, Done}
-use Rattle.jx_store.specs.declared.event.Taped.{Taped}
 use Rattle.jx_store.specs.declared.work.Named.{Named}
 use Rattle.jx_store.specs.declared.work.Named.TheVariants.{Made, Bad, Short}
 
@@ -10,8 +8,3 @@ abbrev pub IsOf : {V J : Type 0} → (V → ℕ) → (V → J) → (J → Bool) 
 IsOf number job bad first jobs k (Made v) = (number v ≡ k) × (slice_get jobs (k - first) ≡ Some (job v))
 IsOf {V} {J} number job bad first jobs k (Bad j) = (j ≡ k) × ((x : J) × (slice_get jobs (k - first) ≡ Some x) × (bad x ≡ true))
 IsOf number job bad first jobs k (Short j) = j ≡ k
-
--- each value that is parked or on the tape is of its number
-pub record AllOf {V : Type 0} (P : ℕ → V → Type 0) (s : State V) : Type 0 where
-  pub parks : (k : ℕ) (d : Done V) → s.parked k ≡ Some d → P k d.value
-  pub tape : (i : ℕ) (t : Taped V) → slice_get s.tape i ≡ Some t → P t.number t.named

@@ -39,11 +39,3 @@ pub struct Taped<V> {
     pub seen: u32,
     pub named: V,
 }
-
-/// A place of the window.
-#[derive(Drop)]
-pub enum Slot<V> {
-    Empty,
-    Held { worker: u32, seen: u32 },
-    Parked { worker: u32, seen: u32, value: V },
-}

@@ -2,7 +2,7 @@
 ghost use Rattle.std.specs.Prelude.{◌≡◌, ◌<◌, ◌≤◌, ◌+◌, ◌^◌, IfOk, length};
 ghost use Rattle.std.specs.List.{sum};
 ghost use Rattle.jx_store.specs.Setup.{load, end_of, is_over};
-ghost use Rattle.jx_store.specs.Shown.{sums_from};
+ghost use Rattle.jx_store.specs.Sums.{sums_from};
 
 use jx_base::NoMemory;
 use std::alloc::Global;
@@ -21,7 +21,7 @@ pub struct Sums {
 impl Model for Sums {
     ghost use Rattle.std.specs.Prelude.{◌≡◌, ◌<◌, ◌≤◌, ◌+◌, ◌^◌, length};
     ghost use Rattle.jx_store.specs.Setup.{Setup};
-    ghost use Rattle.jx_store.specs.Shown.{items_of, sums_from};
+    ghost use Rattle.jx_store.specs.Sums.{items_of, sums_from};
 
     ghost Value = { Setup };
 

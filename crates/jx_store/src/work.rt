@@ -1,7 +1,6 @@
 //! What a store holds: the results of jobs, under names.
-ghost use Rattle.std.specs.Prelude.{◌≡◌, ◌≤◌, ℕ, Bool, List, []};
+ghost use Rattle.std.specs.Prelude.{◌≡◌, ℕ, Bool, List, []};
 ghost use Rattle.jx_store.specs.Setup.{Setup};
-ghost use Rattle.jx_store.specs.Made.{one_made};
 
 use crate::event::Taped;
 use std::marker::Brand;
@@ -34,22 +33,11 @@ pub enum Named<V> {
     Short(u32),
 }
 
-// One where a value was made.
-pub(crate) fn one_made<V>(named: &Named<V>) -> u64
-    ensures is { result ≡ one_made named.now }
-    ensures few { result ≤ 1 }
-{
-    match named {
-        Named::Made(_) => 1,
-        Named::Bad(_) | Named::Short(_) => 0,
-    }
-}
-
 /// An entry of a store's tape: its number, the worker that claimed it, the first number that wasn't
 /// drained when it was claimed, and what this worker committed under it.
 pub type Entry<V> = Taped<Named<V>>;
 
-/// A name for the bounds that a store is made with: what `LockStore::new` is given, as far as the
+/// A name for the bounds that a store is made with: what its `new` is given, as far as the
 /// contracts of the store's calls speak of it.
 pub trait Bounds<J> {
     /// The first number, the sizes and the two windows.

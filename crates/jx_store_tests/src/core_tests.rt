@@ -2,7 +2,8 @@
 
 use crate::checks::{check, equal};
 use crate::works::{ALL_CLAIMED, full};
-use jx_store::{Core, Event, Reply, Sums};
+use jx_store::{Event, Reply, Sums};
+use jx_store_plain::Core;
 use std::process::Abort;
 use std::test::Fail;
 

@@ -8,7 +8,8 @@ use crate::works::{
     lines, written,
 };
 use jx_base::NoMemory;
-use jx_store::{Blanks, Bounds, History, Kind, LockStore, Pass, Step, Told, Work};
+use jx_store::{Bounds, Work};
+use jx_store_plain::{Blanks, History, Kind, LockStore, Pass, Step, Told};
 use std::alloc::Global;
 use std::marker::Brand;
 use std::process::Abort;

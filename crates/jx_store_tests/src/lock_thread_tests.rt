@@ -5,7 +5,8 @@ ghost use Rattle.std.specs.List.{sum};
 
 use crate::works::{Limits, Line, Maker, Plain, Plains, blanks, expect_whole, lines, many};
 use jx_base::NoMemory;
-use jx_store::{Blanks, Bounds, ClaimAnswer, LockStore, Pass, Work};
+use jx_store::{Bounds, ClaimAnswer, Work};
+use jx_store_plain::{Blanks, LockStore, Pass};
 use std::alloc::Global;
 use std::marker::Brand;
 use std::sync::Wait;

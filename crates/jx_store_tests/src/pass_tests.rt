@@ -8,7 +8,8 @@ use crate::works::{
     commits, full, is_refused, lines, written,
 };
 use jx_base::NoMemory;
-use jx_store::{Blanks, Bounds, LockStore, Named, Pass, Work};
+use jx_store::{Bounds, Named, Work};
+use jx_store_plain::{Blanks, LockStore, Pass};
 use std::alloc::Global;
 use std::marker::Brand;
 use std::process::Abort;

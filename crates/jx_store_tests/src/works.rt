@@ -6,7 +6,8 @@ ghost use Rattle.jx_store.specs.Valid.{IsOf};
 
 use crate::checks::{check, check_at, equal, equal_at};
 use jx_base::NoMemory;
-use jx_store::{Blanks, Bounds, Claim, ClaimAnswer, Entry, LockStore, Named, Pass, Reply, Work};
+use jx_store::{Bounds, Claim, ClaimAnswer, Entry, Named, Reply, Work};
+use jx_store_plain::{Blanks, LockStore, Pass};
 use std::alloc::Global;
 use std::process::Abort;
 use std::sync::Wait;

@@ -1,9 +1,10 @@
 pub mod Header
-pub mod Place
 pub mod Shape
 pub mod TagTree
-pub mod Kept
 pub mod Leaves
-pub mod KeptLeaves
 pub mod Questions
 pub mod Scan
+-- Inner: no other crate cites these.
+pub mod Place
+pub mod Kept
+pub mod KeptLeaves

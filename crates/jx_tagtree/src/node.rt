@@ -1,3 +1,5 @@
+//! What is known of a node of a tag tree.
+
 ghost use Rattle.std.specs.Prelude.{◌≡◌, IfOk, replicate, false};
 
 use jx_base::NoMemory;

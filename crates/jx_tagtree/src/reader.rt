@@ -1,3 +1,5 @@
+//! The bits of a packet header, read (T.800, B.10.1).
+
 ghost use Rattle.std.specs.Prelude.{◌/◌, ◌%◌, ◌^◌, ◌==◌, ◌≡◌, ◌∷◌, [], ◌<◌, ◌≤◌, ◌+◌, IfOk, IfErr, OnOk, OnErr, drop, false, length, nat_le};
 ghost use Rattle.jx_tagtree.specs.Header.{Bits, Reading, bits_after, is_stuffed, start_of, to_come, fault_of, advance, refuse, end_of, room};
 

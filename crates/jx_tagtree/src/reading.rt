@@ -1,3 +1,5 @@
+//! The bits of a tag tree on the way from its root to a leaf, read (T.800, B.10.2).
+
 ghost use Rattle.std.specs.Prelude.{◌≡◌, ◌+◌, ◌-◌, ◌<◌, ◌≤◌, ◌++◌, max, Some, None, IfOk, IfErr, length, slice_index, ℕ};
 ghost use Rattle.jx_tagtree.specs.Header.{Took, to_come, fault_of, exhausted};
 ghost use Rattle.jx_tagtree.specs.Scan.{scan, scan_one, scan_way, Zeros, Found, Scanned, PartRead, WayRead};

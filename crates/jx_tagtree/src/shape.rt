@@ -1,3 +1,5 @@
+//! The levels of a tag tree, and the nodes on the way to a leaf (T.800, B.10.2).
+
 ghost use Rattle.std.specs.Prelude.{◌≡◌, ℕ, ◌+◌, ◌-◌, ◌*◌, ◌/◌, ◌^◌, ◌<◌, ◌≤◌, ◌↔◌, List, [], ◌∷◌, ◌++◌, length, slice_index, IsTrue, IfOk};
 ghost use Rattle.jx_tagtree.specs.Shape.{IsShape, IsLevel, is_root, over, levels_of, node_in, way, root};
 

@@ -1,3 +1,5 @@
+//! A tag tree that is written.
+
 ghost use Rattle.std.specs.Prelude.{◌≡◌, ◌*◌, ◌<◌, ◌≤◌, ◌++◌, ◌-◌, ◌^◌, replicate, length, OnOk, IfOk};
 ghost use Rattle.jx_tagtree.specs.Shape.{IsShape, levels_of};
 ghost use Rattle.jx_tagtree.specs.Leaves.{Written, untold, told, told_after};

@@ -1,3 +1,5 @@
+//! The bits of a packet header, written (T.800, B.10.1).
+
 ghost use Rattle.std.specs.Prelude.{◌/◌, ◌%◌, ◌*◌, ◌^◌, ◌==◌, ◌≡◌, ◌∷◌, ◌++◌, [], ◌<◌, ◌≤◌, ◌+◌, ◌-◌, Bool, IfOk, IfErr, OnOk, OnErr, if◌then◌else◌};
 ghost use Rattle.jx_tagtree.specs.Header.{bytes_of, room};
 ghost use Rattle.jx_tagtree.specs.Place.{Fills, given, closed};

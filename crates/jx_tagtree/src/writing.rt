@@ -1,3 +1,5 @@
+//! The bits of a tag tree on the way from its root to a leaf, written (T.800, B.10.2).
+
 ghost use Rattle.std.specs.Prelude.{◌≡◌, ◌+◌, ◌-◌, ◌*◌, ◌<◌, ◌≤◌, ◌++◌, ◌∷◌, [], min, max, nat_lt, Bool, true, false, IfOk, OnOk, length, slice_index, replicate, ℕ, if◌then◌else◌};
 ghost use Rattle.jx_tagtree.specs.TagTree.{node_bits, node_after, Walk, walk};
 ghost use Rattle.jx_tagtree.specs.Leaves.{passes};

@@ -12,14 +12,14 @@ use Rattle.jx_tier1_specs.specs.Reading.{Coding}
 use Rattle.jx_tier1_specs.specs.Needs.{answer_of, bit_at_place, first_of_four, followed}
 use Rattle.jx_tier1_specs.proofs.Scanning.{column_inside, row_inside}
 use Rattle.jx_tier1_specs.proofs.Told.{told_then}
-use Rattle.jx_passenc.proofs.FrontLemmas.{IsClean, more_seen, sign_bit_seen, sign_seen}
-use Rattle.jx_passenc.proofs.GridLemmas.{IsFront, AreClean, IsIn, seen_at, front_same, front_next}
-use Rattle.jx_passenc.proofs.LeafLemmas.{IsBack, leaves_told}
-use Rattle.jx_passenc.proofs.StepLemmas.{or_right, clean_at}
-use Rattle.jx_passenc.proofs.RunBackLemmas.{IsRun, is_one, number_is, zero_seen, first_none, named_is}
-use Rattle.jx_passenc.proofs.WroteLemmas.{or_false}
-use Rattle.jx_passenc.proofs.PassBackLemmas.{place_back, room}
-use Rattle.jx_passenc.proofs.BackLemmas.{tree_of}
+use Rattle.jx_tier1_specs.proofs.FrontLemmas.{IsClean, more_seen, sign_bit_seen, sign_seen}
+use Rattle.jx_tier1_specs.proofs.GridLemmas.{IsFront, AreClean, IsIn, seen_at, front_same, front_next}
+use Rattle.jx_tier1_specs.proofs.LeafLemmas.{IsBack, leaves_told}
+use Rattle.jx_tier1_specs.proofs.StepLemmas.{or_right, clean_at}
+use Rattle.jx_tier1_specs.proofs.RunBackLemmas.{IsRun, is_one, number_is, zero_seen, first_none, named_is}
+use Rattle.jx_tier1_specs.proofs.WroteLemmas.{or_false}
+use Rattle.jx_tier1_specs.proofs.PassBackLemmas.{place_back, room}
+use Rattle.jx_tier1_specs.proofs.BackLemmas.{tree_of}
 use Rattle.jx_base.specs.Passes.{is_causal}
 
 -- a grid answers each question of a procedure as someone else does

@@ -10,11 +10,11 @@ use Rattle.jx_tier1_specs.specs.Pass.{pass_of}
 use Rattle.jx_tier1_specs.specs.Segments.{begins}
 use Rattle.jx_tier1_specs.specs.Symbol.{symbol_asked}
 use Rattle.jx_tier1_specs.specs.Reading.{Reading, Coding, Decoding, fresh_reading, first_segment, opened, read_answer, read_symbol, read_within, read_pass, turned_over, ends_by_symbol, first_wrong, looked_of}
-use Rattle.jx_passenc.specs.Alike.{AreAlike}
-use Rattle.jx_passenc.specs.Writing.{Writing, write_answer, after_coded, fresh_writing, segment_by}
-use Rattle.jx_passenc.specs.Encoding.{Encoding, renewed_writing, after_bits, after_symbol, after_pass, closed, after_step}
-use Rattle.jx_passenc.proofs.BackLemmas.{tree_of}
-use Rattle.jx_passenc.proofs.WroteLemmas.{made, told_wrote, pass_wrote}
+use Rattle.jx_tier1_specs.specs.Alike.{AreAlike}
+use Rattle.jx_tier1_specs.specs.Writing.{Writing, write_answer, after_coded, fresh_writing, segment_by}
+use Rattle.jx_tier1_specs.specs.Encoding.{Encoding, renewed_writing, after_bits, after_symbol, after_pass, closed, after_step}
+use Rattle.jx_tier1_specs.proofs.BackLemmas.{tree_of}
+use Rattle.jx_tier1_specs.proofs.WroteLemmas.{made, told_wrote, pass_wrote}
 use Rattle.jx_tier1.specs.InStep.{Copying, copy_answer, Recoding, begun, renewed_both, copied, checked, marked, ended, recoded_pass}
 use Rattle.jx_tier1.proofs.AnswerLemmas.{AnswersAs, answers_follow}
 

@@ -8,15 +8,15 @@ use Rattle.jx_tier1_specs.specs.Asking.{Asking}
 use Rattle.jx_tier1_specs.specs.Pass.{IsScan, plane_of}
 use Rattle.jx_tier1_specs.specs.Reading.{Coding, Decoding, read_pass, read_from, zeros, decoded}
 use Rattle.jx_tier1_specs.specs.Needs.{needs, needs_from, written}
-use Rattle.jx_passenc.specs.Alike.{HasPasses, AreAlike}
-use Rattle.jx_passenc.specs.Writing.{Writing, fresh_writing, finished_from}
-use Rattle.jx_passenc.specs.Encoding.{Encoding, after_step}
-use Rattle.jx_passenc.proofs.GridLemmas.{IsFront, AreClean, front_same, front_next}
-use Rattle.jx_passenc.proofs.LeafLemmas.{IsBack, leaves_told}
-use Rattle.jx_passenc.proofs.BackLemmas.{tree_of}
-use Rattle.jx_passenc.proofs.PassBackLemmas.{pass_back, clean_more, one_scan, zeros_clean, refollowed}
-use Rattle.jx_passenc.proofs.WroteLemmas.{step_done, step_kind, last_test}
-use Rattle.jx_passenc.proofs.SegmentLemmas.{segments_finished}
+use Rattle.jx_tier1_specs.specs.Alike.{HasPasses, AreAlike}
+use Rattle.jx_tier1_specs.specs.Writing.{Writing, fresh_writing, finished_from}
+use Rattle.jx_tier1_specs.specs.Encoding.{Encoding, after_step}
+use Rattle.jx_tier1_specs.proofs.GridLemmas.{IsFront, AreClean, front_same, front_next}
+use Rattle.jx_tier1_specs.proofs.LeafLemmas.{IsBack, leaves_told}
+use Rattle.jx_tier1_specs.proofs.BackLemmas.{tree_of}
+use Rattle.jx_tier1_specs.proofs.PassBackLemmas.{pass_back, clean_more, one_scan, zeros_clean, refollowed}
+use Rattle.jx_tier1_specs.proofs.WroteLemmas.{step_done, step_kind, last_test}
+use Rattle.jx_tier1_specs.proofs.SegmentLemmas.{segments_finished}
 use Rattle.jx_tier1.specs.InStep.{Copying, copy_answer, Recoding, begun, copied, checked, marked, ended, recoded_pass, recoded_from, to_recode}
 use Rattle.jx_tier1.proofs.AnswerLemmas.{pass_shows}
 use Rattle.jx_tier1.proofs.CopyLemmas.{aimed, encoding_of, copier_at, pass_encodes, decoding_of, pass_decodes}

@@ -10,8 +10,8 @@ use Rattle.jx_tier1_specs.specs.Pass.{pass_of}
 use Rattle.jx_tier1_specs.specs.Segments.{begins}
 use Rattle.jx_tier1_specs.specs.Symbol.{symbol_asked}
 use Rattle.jx_tier1_specs.specs.Reading.{Reading, Coding, fresh_reading, first_segment, renewed, read_answer, read_symbol, turned_over, ends_by_symbol, first_wrong, zeros}
-use Rattle.jx_passenc.specs.Writing.{Writing, fresh_writing, after_coded, write_answer, segment_by}
-use Rattle.jx_passenc.specs.Encoding.{renewed_writing}
+use Rattle.jx_tier1_specs.specs.Writing.{Writing, fresh_writing, after_coded, write_answer, segment_by}
+use Rattle.jx_tier1_specs.specs.Encoding.{renewed_writing}
 
 -- the grid of a writing that asks none
 abbrev pub no_grid : Cells

@@ -1,3 +1,4 @@
+-- Inner: no other crate cites these.
 pub mod InStep
 pub mod Joined
 pub mod Labels

@@ -1,3 +1,5 @@
+//! What a grid of coefficients answers to the questions of coding passes.
+
 ghost use Rattle.std.specs.Prelude.{◌≡◌, ◌+◌, ◌^◌, ◌/◌, ◌%◌, ◌<◌, ◌≤◌, ◌==◌};
 ghost use Rattle.jx_tier1_specs.specs.Needs.{bit_at_place, first_of_four, answer_of};
 

@@ -1,3 +1,5 @@
+//! A list of coefficients: their bits, planes and signs apart.
+
 ghost use Rattle.std.specs.Prelude.{◌≡◌, ◌<◌, length, IfOk, replicate, slice_index_or, slice_set};
 ghost use Rattle.jx_tier1_specs.specs.Cells.{zero_coef};
 

@@ -1,11 +1,12 @@
+//! Decisions of one segment, each written into another.
+
 ghost use Rattle.std.specs.Prelude.{◌≡◌, ◌^◌, ◌<◌, ℕ, length, IfOk, OnOk};
 ghost use Rattle.jx_tier1_specs.specs.Reading.{fresh_reading, read_symbol};
 ghost use Rattle.jx_tier1.specs.InStep.{Copying, renewed_both};
 
 use crate::pen::Pen;
 use jx_base::{NoMemory, Style};
-use jx_passdec::Reader;
-use jx_tier1_specs::{Question, Source};
+use jx_tier1_specs::{Question, Reader, Source};
 use std::marker::Model;
 
 /// Answers by the decisions of a segment, and writes each answer into another segment.

@@ -1,9 +1,11 @@
+//! A code-block decoded.
+
 ghost use Rattle.std.specs.Prelude.{◌≡◌, ◌-◌, ◌*◌, ◌^◌, ◌<◌, ◌≤◌, ℕ, List, map, IfOk, OnOk, MatchOption};
 ghost use Rattle.jx_tier1_specs.specs.Cells.{Cells, HasSize, AreWithin};
 ghost use Rattle.jx_tier1_specs.specs.Segments.{bytes_of};
 ghost use Rattle.jx_tier1_specs.specs.Reading.{Decoding, coding_of, at_start, read_from, decoded};
 ghost use Rattle.jx_tier1.specs.Labels.{AreLabels};
-ghost use Rattle.jx_passdec.specs.Short.{AreShort};
+ghost use Rattle.jx_tier1_specs.specs.Short.{AreShort};
 
 use crate::FlagGrid;
 use crate::decoder::Decoder;
@@ -11,8 +13,7 @@ use crate::field::Field;
 use crate::labels::labels_of;
 use jx_base::NoMemory;
 use jx_mq::Contexts;
-use jx_passdec::Reader;
-use jx_tier1_specs::{BadSymbol, Coded};
+use jx_tier1_specs::{BadSymbol, Coded, Reader};
 use std::alloc::Global;
 
 /// The coefficients that coded passes give.
@@ -65,7 +66,7 @@ fn end(decoder: Decoder) -> FlagDecoded
 }
 
 /// Decodes the passes of a block.
-#[tactic(auto, using(jx_passdec::proofs::ReadMore::read_more, jx_passdec::proofs::ReadMore::read_done, jx_tier1_specs::proofs::Places::within_more))]
+#[tactic(auto, using(jx_tier1_specs::proofs::ReadMore::read_more, jx_tier1_specs::proofs::ReadMore::read_done, jx_tier1_specs::proofs::Places::within_more))]
 fn run<'a>(decoder: &mut Decoder<'a>, labels: &[u8], coded: &Coded) -> Result<(), NoMemory>
     requires labels { AreLabels coded.now.band labels.now }
     requires some { 1 ≤ coded.now.planes }

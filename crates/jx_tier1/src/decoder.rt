@@ -1,17 +1,18 @@
+//! One coding pass after another, decoded.
+
 ghost use Rattle.std.specs.Prelude.{◌≡◌, ◌+◌, ◌++◌, ◌∷◌, [], ◌/◌, ◌%◌, ◌^◌, ◌==◌, ◌&&◌, ◌<◌, ℕ, length, drop, All, OnOk, IfOk, IsOk};
 ghost use Rattle.jx_tier1_specs.specs.Cells.{Cells, HasSize, AreWithin, IsKept};
 ghost use Rattle.jx_tier1_specs.specs.Pass.{IsScan, plane_of};
 ghost use Rattle.jx_tier1_specs.specs.Segments.{begins};
 ghost use Rattle.jx_tier1_specs.specs.Reading.{Decoding, coding_of, first_segment, opened, read_bits, read_symbol, looked_of, read_within, read_pass, first_wrong};
 ghost use Rattle.jx_tier1.specs.Labels.{AreLabels};
-ghost use Rattle.jx_passdec.specs.Short.{AreShort, with_bits};
+ghost use Rattle.jx_tier1_specs.specs.Short.{AreShort, with_bits};
 ghost use Rattle.jx_base.specs.Passes.{is_causal, has_symbols};
 
 use crate::field::Field;
 use crate::scan::run_pass;
 use jx_base::{Band, NoMemory, Style, ends_segment, is_raw};
-use jx_passdec::Reader;
-use jx_tier1_specs::ask_symbol;
+use jx_tier1_specs::{Reader, ask_symbol};
 use std::marker::Model;
 
 /// A block of which some passes were decoded.

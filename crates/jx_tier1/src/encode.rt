@@ -1,3 +1,5 @@
+//! A code-block coded.
+
 ghost use Rattle.std.specs.Prelude.{◌≡◌, ◌+◌, ◌-◌, ◌*◌, ◌++◌, [], ◌<◌, ◌≤◌, ℕ, map, IfOk, OnOk};
 ghost use Rattle.jx_coder_specs.specs.MqTable.{mq_fresh};
 ghost use Rattle.jx_base.specs.Passes.{raw_pass};
@@ -5,8 +7,8 @@ ghost use Rattle.jx_tier1_specs.specs.Cells.{Cells, HasSize, AreWithin};
 ghost use Rattle.jx_tier1_specs.specs.Reading.{coding_of, zeros};
 ghost use Rattle.jx_tier1_specs.specs.Needs.{needs_from, written};
 ghost use Rattle.jx_tier1.specs.Labels.{AreLabels};
-ghost use Rattle.jx_passenc.specs.Writing.{fresh_writing, finished_from};
-ghost use Rattle.jx_passenc.specs.Encoding.{Encoding};
+ghost use Rattle.jx_tier1_specs.specs.Writing.{fresh_writing, finished_from};
+ghost use Rattle.jx_tier1_specs.specs.Encoding.{Encoding};
 
 use crate::FlagGrid;
 use crate::encoder::Encoder;
@@ -39,7 +41,7 @@ fn end(encoder: Encoder) -> Vec<Vec<u8>>
 }
 
 /// Codes the passes of a block.
-#[tactic(auto, using(jx_passenc::proofs::WroteLemmas::step_more, jx_passenc::proofs::WroteLemmas::step_end, jx_passenc::proofs::WroteLemmas::step_kind, jx_passenc::proofs::WroteLemmas::step_target, jx_tier1_specs::proofs::Places::within_more))]
+#[tactic(auto, using(jx_tier1_specs::proofs::WroteLemmas::step_more, jx_tier1_specs::proofs::WroteLemmas::step_end, jx_tier1_specs::proofs::WroteLemmas::step_kind, jx_tier1_specs::proofs::WroteLemmas::step_target, jx_tier1_specs::proofs::Places::within_more))]
 fn run<'a>(
     encoder: &mut Encoder<'a>,
     alloc: Global,

@@ -1,3 +1,5 @@
+//! One coding pass after another, coded.
+
 ghost use Rattle.std.specs.Prelude.{◌≡◌, ◌+◌, ◌-◌, ◌/◌, ◌<◌, ◌≤◌, ◌++◌, ◌∷◌, [], ◌||◌, ℕ, Bool, List, if◌then◌else◌, OnOk};
 ghost use Rattle.jx_base.specs.Passes.{raw_pass, end_pass, is_causal};
 ghost use Rattle.jx_tier1_specs.specs.Cells.{Cells, HasSize, AreWithin, IsKept};
@@ -5,8 +7,8 @@ ghost use Rattle.jx_tier1_specs.specs.Pass.{IsScan, plane_of};
 ghost use Rattle.jx_tier1_specs.specs.Reading.{coding_of};
 ghost use Rattle.jx_tier1_specs.specs.Needs.{pass_needs, followed_pass};
 ghost use Rattle.jx_tier1.specs.Labels.{AreLabels};
-ghost use Rattle.jx_passenc.specs.Writing.{Writing, wrote, fresh_writing, segment_by};
-ghost use Rattle.jx_passenc.specs.Encoding.{Encoding, after_bits, after_symbol, closed, after_pass, after_step};
+ghost use Rattle.jx_tier1_specs.specs.Writing.{Writing, wrote, fresh_writing, segment_by};
+ghost use Rattle.jx_tier1_specs.specs.Encoding.{Encoding, after_bits, after_symbol, closed, after_pass, after_step};
 
 use crate::field::Field;
 use crate::scan::run_pass;
@@ -27,7 +29,7 @@ pub struct Encoder<'a> {
 
 impl<'a> Model for Encoder<'a> {
     ghost use Rattle.std.specs.Prelude.{map};
-    ghost use Rattle.jx_passenc.specs.Encoding.{Encoding};
+    ghost use Rattle.jx_tier1_specs.specs.Encoding.{Encoding};
 
     ghost Value = { Encoding };
 

@@ -1,3 +1,5 @@
+//! Coefficients with marks of what is significant, a word for each column of a stripe.
+
 ghost use Rattle.std.specs.Prelude.{◌≡◌, ◌+◌, ◌-◌, ◌*◌, ◌/◌, ◌%◌, ◌<◌, ◌≤◌, true, false, length, slice_index_or, slice_set, IfOk};
 ghost use Rattle.jx_tier1_specs.specs.Cells.{Cells, coef_at, with_coef, significant, IsPlace, HasSize};
 ghost use Rattle.jx_tier1_specs.specs.Reading.{zeros};

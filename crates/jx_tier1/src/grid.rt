@@ -1,3 +1,5 @@
+//! The coefficients of a code-block.
+
 ghost use Rattle.std.specs.Prelude.{◌≡◌, ◌+◌, ◌*◌, ◌<◌, ◌≤◌, length, IfOk, replicate};
 ghost use Rattle.jx_tier1_specs.specs.Cells.{Cells, zero_coef, coef_at, with_coef};
 

@@ -1,3 +1,5 @@
+//! Context labels of first bits, by a table of 512 (T.800, Table D.1).
+
 ghost use Rattle.std.specs.Prelude.{◌≡◌, ◌+◌, ◌/◌, ◌%◌, ◌<◌, ◌≤◌, ◌==◌, IfOk};
 ghost use Rattle.jx_tier1_specs.specs.Cells.{Cells, coef_at, significant, IsPlace};
 ghost use Rattle.jx_tier1_specs.specs.Near.{has_near};

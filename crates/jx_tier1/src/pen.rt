@@ -1,10 +1,12 @@
+//! Decisions that are given, written into one segment by either coder.
+
 ghost use Rattle.std.specs.Prelude.{◌≡◌, ◌<◌, ℕ, [], OnOk, IfOk};
 ghost use Rattle.jx_coder_specs.specs.MqTable.{MqContexts, mq_fresh};
 ghost use Rattle.jx_coder_specs.specs.MqWriting.{mq_writer};
 ghost use Rattle.jx_tier1_specs.specs.Asking.{told};
 ghost use Rattle.jx_tier1_specs.specs.Symbol.{symbol_bit, symbol_asked};
 ghost use Rattle.jx_tier1_specs.specs.Reading.{turned_over};
-ghost use Rattle.jx_passenc.specs.Writing.{Writing, fresh_writing, after_coded, write_answer, segment_by};
+ghost use Rattle.jx_tier1_specs.specs.Writing.{Writing, fresh_writing, after_coded, write_answer, segment_by};
 ghost use Rattle.jx_tier1.specs.InStep.{no_grid};
 
 use jx_base::NoMemory;
@@ -24,7 +26,7 @@ pub struct Pen {
 }
 
 impl Model for Pen {
-    ghost use Rattle.jx_passenc.specs.Writing.{Writing};
+    ghost use Rattle.jx_tier1_specs.specs.Writing.{Writing};
     ghost use Rattle.jx_tier1.specs.InStep.{no_grid};
 
     ghost Value = { Writing };

@@ -1,3 +1,5 @@
+//! A code-block decoded and coded anew in one walk.
+
 ghost use Rattle.std.specs.Prelude.{◌≡◌, ◌-◌, ◌*◌, ◌^◌, ◌<◌, ◌≤◌, ℕ, List, map, IfOk, OnOk};
 ghost use Rattle.jx_base.specs.Passes.{is_causal};
 ghost use Rattle.jx_tier1_specs.specs.Cells.{Cells, HasSize, AreWithin};
@@ -6,7 +8,7 @@ ghost use Rattle.jx_tier1_specs.specs.Reading.{coding_of, decoded};
 ghost use Rattle.jx_tier1_specs.specs.Needs.{written};
 ghost use Rattle.jx_tier1.specs.Labels.{AreLabels};
 ghost use Rattle.jx_tier1.specs.InStep.{Recoding, recoded_from, to_recode};
-ghost use Rattle.jx_passdec.specs.Short.{AreShort};
+ghost use Rattle.jx_tier1_specs.specs.Short.{AreShort};
 
 use crate::copier::Copier;
 use crate::field::Field;
@@ -15,8 +17,7 @@ use crate::pen::Pen;
 use crate::recoder::Recoder;
 use jx_base::{NoMemory, Style, is_raw};
 use jx_mq::Contexts;
-use jx_passdec::Reader;
-use jx_tier1_specs::Coded;
+use jx_tier1_specs::{Coded, Reader};
 use std::alloc::Global;
 
 /// A block that is coded anew.

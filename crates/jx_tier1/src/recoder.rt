@@ -1,3 +1,5 @@
+//! One coding pass after another, decoded and coded in step.
+
 ghost use Rattle.std.specs.Prelude.{◌≡◌, ◌+◌, ◌++◌, ◌∷◌, [], ◌/◌, ◌%◌, ◌^◌, ◌==◌, ◌&&◌, ◌||◌, ◌<◌, ℕ, length, drop, OnOk, IfOk};
 ghost use Rattle.jx_base.specs.Passes.{raw_pass, is_causal, has_symbols};
 ghost use Rattle.jx_tier1_specs.specs.Cells.{Cells, HasSize, AreWithin, IsKept};
@@ -5,8 +7,8 @@ ghost use Rattle.jx_tier1_specs.specs.Pass.{IsScan, plane_of};
 ghost use Rattle.jx_tier1_specs.specs.Reading.{coding_of, first_segment, read_symbol, first_wrong, ends_by_symbol};
 ghost use Rattle.jx_tier1.specs.Labels.{AreLabels};
 ghost use Rattle.jx_tier1.specs.InStep.{Recoding, begun, copied, checked, marked, ended, recoded_pass};
-ghost use Rattle.jx_passenc.specs.Writing.{fresh_writing, segment_by};
-ghost use Rattle.jx_passdec.specs.Short.{AreShort};
+ghost use Rattle.jx_tier1_specs.specs.Writing.{fresh_writing, segment_by};
+ghost use Rattle.jx_tier1_specs.specs.Short.{AreShort};
 
 use crate::copier::Copier;
 use crate::field::Field;

@@ -1,3 +1,5 @@
+//! The run mode of cleanup passes (T.800, D.3.4).
+
 ghost use Rattle.std.specs.Prelude.{◌≡◌, ◌+◌, ◌-◌, ◌/◌, ◌%◌, ◌<◌, ◌≤◌, ℕ, true, false, IfOk, OnOk, IsTrue, IsOk};
 ghost use Rattle.jx_tier1_specs.specs.Cells.{Cells, coef_at, significant, IsPlace, AreWithin, IsKept};
 ghost use Rattle.jx_tier1_specs.specs.Asking.{told};

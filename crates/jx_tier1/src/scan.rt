@@ -1,3 +1,5 @@
+//! A coding pass over a code-block, stripe by stripe (T.800, D.1).
+
 ghost use Rattle.std.specs.Prelude.{◌≡◌, ◌+◌, ◌-◌, ◌*◌, ◌/◌, ◌%◌, ◌<◌, ◌≤◌, ℕ, min, IfOk, OnOk, IsTrue, true, IsOk};
 ghost use Rattle.jx_tier1_specs.specs.Cells.{Cells, HasSize, IsPlace, AreWithin, IsKept};
 ghost use Rattle.jx_tier1_specs.specs.Asking.{Told, told};

@@ -1,3 +1,5 @@
+//! Context labels of signs (T.800, Tables D.2, D.3).
+
 ghost use Rattle.std.specs.Prelude.{◌≡◌, ◌+◌, ◌/◌, ◌%◌, ◌<◌, ◌≤◌, ℤ, pos, negsuc, ◌≤ℤ◌, Bool, ◌&&◌, not};
 ghost use Rattle.jx_tier1_specs.specs.Cells.{Cells, IsPlace, significant};
 ghost use Rattle.jx_tier1_specs.specs.Near.{coef_near, leaning, across_of, down_of};

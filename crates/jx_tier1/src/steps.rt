@@ -1,3 +1,5 @@
+//! What a coding pass decides at a place (T.800, D.3).
+
 ghost use Rattle.std.specs.Prelude.{◌≡◌, ◌+◌, ◌-◌, ◌/◌, ◌^◌, ◌<◌, ◌≤◌, ℕ, Bool, true, false, ◌&&◌, ◌||◌, ◌==◌, not, nat_lt, nat_le, if◌then◌else◌, IfOk, OnOk, IsTrue, IsOk};
 ghost use Rattle.jx_tier1_specs.specs.Cells.{Cells, coef_at, significant, IsPlace, IsWithin, AreWithin, IsKept};
 ghost use Rattle.jx_tier1_specs.specs.Asking.{told};

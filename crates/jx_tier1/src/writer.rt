@@ -1,7 +1,9 @@
+//! The decisions that a grid calls for, written into one segment by either coder.
+
 ghost use Rattle.std.specs.Prelude.{◌≡◌, ◌<◌, ℕ, [], OnOk, IfOk};
 ghost use Rattle.jx_coder_specs.specs.MqTable.{MqContexts, mq_fresh};
 ghost use Rattle.jx_coder_specs.specs.MqWriting.{mq_writer};
-ghost use Rattle.jx_passenc.specs.Writing.{Writing, fresh_writing, after_coded, segment_by};
+ghost use Rattle.jx_tier1_specs.specs.Writing.{Writing, fresh_writing, after_coded, segment_by};
 
 use crate::FlagGrid;
 use crate::answers::answer;
@@ -24,7 +26,7 @@ pub struct Writer<'a> {
 }
 
 impl<'a> Model for Writer<'a> {
-    ghost use Rattle.jx_passenc.specs.Writing.{Writing};
+    ghost use Rattle.jx_tier1_specs.specs.Writing.{Writing};
 
     ghost Value = { Writing };
 
@@ -82,7 +84,7 @@ impl<'a> Writer<'a> {
 
 impl<'a> Source for Writer<'a> {
     ghost use Rattle.std.specs.Prelude.{false};
-    ghost use Rattle.jx_passenc.specs.Writing.{write_answer};
+    ghost use Rattle.jx_tier1_specs.specs.Writing.{write_answer};
 
     ghost ask = { write_answer };
 

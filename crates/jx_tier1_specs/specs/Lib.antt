@@ -1,9 +1,13 @@
+pub mod Alike
 pub mod Asking
 pub mod Cells
+pub mod Encoding
 pub mod Labels
 pub mod Near
 pub mod Needs
 pub mod Pass
 pub mod Reading
 pub mod Segments
+pub mod Short
 pub mod Symbol
+pub mod Writing

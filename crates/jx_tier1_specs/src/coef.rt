@@ -1,3 +1,5 @@
+//! A quantized coefficient, as far as it was decoded.
+
 ghost use Rattle.std.specs.Prelude.{◌≡◌};
 ghost use Rattle.jx_tier1_specs.specs.Cells.{significant};
 

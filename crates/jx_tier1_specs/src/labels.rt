@@ -1,3 +1,5 @@
+//! Context labels (T.800, Tables D.1 to D.4).
+
 ghost use Rattle.std.specs.Prelude.{◌≡◌, ◌+◌, ◌<◌, ◌≤◌, ℤ, pos, negsuc, ◌≤ℤ◌};
 ghost use Rattle.jx_tier1_specs.specs.Labels.{label_in, low_rows, diagonal_rows, significance_row, sign_row, refinement_row};
 

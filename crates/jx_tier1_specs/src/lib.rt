@@ -1,27 +1,21 @@
-//! Coefficients of a code-block, the labels of their decisions, and the three coding passes of a plane
-//! (ITU-T T.800, Annex D), over whoever answers for the decisions: a decoder that reads them, or a
-//! grid that calls for them.
+//! What the coding passes of a code-block are (ITU-T T.800, Annex D): coefficients, the labels of
+//! decisions, the questions that a pass asks of whoever answers for them, the reader of segments that
+//! both forms of the passes ask, and the laws that recoding rests on.
 #![tactic(auto)]
 
-mod answers;
 mod coded;
 mod coef;
-mod grid;
 mod labels;
-mod near;
+pub mod laws;
 mod question;
-mod runs;
-mod scan;
+mod reader;
 mod source;
-mod steps;
 mod symbol;
 
-pub use answers::answer;
 pub use coded::{BadSymbol, Coded, Segments};
 pub use coef::Coef;
-pub use grid::Grid;
 pub use labels::{refinement_label, sign_label, significance_label};
 pub use question::{About, Plane, Question};
-pub use scan::{place, run_pass};
+pub use reader::Reader;
 pub use source::Source;
 pub use symbol::ask_symbol;

@@ -1,3 +1,5 @@
+//! The questions of coding passes, one for each decision.
+
 use jx_base::Band;
 
 /// What a coding pass scans: a coded plane of a block.

@@ -1,3 +1,5 @@
+//! The trait of a source of decisions.
+
 ghost use Rattle.std.specs.Prelude.{◌≡◌, ◌<◌, ℕ, Bool, true, IfOk, IsOk, OnOk};
 
 use crate::Question;

@@ -1,3 +1,5 @@
+//! The segmentation symbol (T.800, D.5).
+
 ghost use Rattle.std.specs.Prelude.{◌≡◌, IfOk, OnOk, true, IsOk};
 ghost use Rattle.jx_tier1_specs.specs.Asking.{told};
 ghost use Rattle.jx_tier1_specs.specs.Symbol.{symbol_bit, symbol_asked};

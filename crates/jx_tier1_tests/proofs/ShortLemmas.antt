@@ -1,7 +1,7 @@
 -- Segments whose lengths are counted in 32 bits.
 use Rattle.std.proofs.Common.{◌<◌, ◌^◌, ◌++◌, ◌∷◌, [], ℕ, List, length}
 use Rattle.std.proofs.lemmas.List.Elements.{All-append, All-cons, All-nil}
-use Rattle.jx_passdec.specs.Short.{AreShort}
+use Rattle.jx_tier1_specs.specs.Short.{AreShort}
 
 pub short_none : AreShort []
 short_none = All-nil (λ (t : List ℕ). length t < 2 ^ 32)

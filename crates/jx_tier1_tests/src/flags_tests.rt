@@ -1,13 +1,13 @@
+//! The fast form of the coding passes.
+
 ghost use Rattle.std.specs.Prelude.{◌≡◌, ◌-◌, ◌*◌, ◌^◌, ◌<◌, ◌≤◌, ℕ, length, IfOk};
 ghost use Rattle.jx_tier1_specs.specs.Cells.{Cells, HasSize};
 
 use crate::checks::{check, equal, given};
 use crate::samples::{gathered, nth, one, plain};
 use jx_base::{Band, NoMemory, Style};
-use jx_passdec::{Decoded, decode_passes};
-use jx_passenc::encode_passes;
 use jx_tier1::{Coded, Coef, FlagDecoded, FlagGrid, decode_flags, encode_flags, sound_flags};
-use jx_tier1_specs::{Grid, place};
+use jx_tier1_plain::{Decoded, Grid, decode_passes, encode_passes, place};
 use std::alloc::Global;
 use std::test::Fail;
 

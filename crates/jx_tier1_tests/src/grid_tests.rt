@@ -1,8 +1,9 @@
+//! Scan, labels and segments.
+
 use crate::checks::{check, equal, equal_at, given};
 use jx_base::Band;
-use jx_tier1_specs::{
-    Coef, Grid, Segments, place, refinement_label, sign_label, significance_label,
-};
+use jx_tier1_plain::{Grid, place};
+use jx_tier1_specs::{Coef, Segments, refinement_label, sign_label, significance_label};
 use std::test::Fail;
 
 // A block 5 wide and 6 high: columns 0 to 4 of rows 0 to 3, then columns 0 to 4 of rows 4 and 5.

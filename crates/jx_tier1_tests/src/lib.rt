@@ -7,15 +7,15 @@ mod checks;
 #[cfg(test)]
 mod coder_rows;
 #[cfg(test)]
+mod decode_tests;
+#[cfg(test)]
+mod encode_tests;
+#[cfg(test)]
 mod flags_tests;
 #[cfg(test)]
 mod grid_tests;
 #[cfg(test)]
 mod mq_tests;
-#[cfg(test)]
-mod passdec_tests;
-#[cfg(test)]
-mod passenc_tests;
 #[cfg(test)]
 mod raw_tests;
 #[cfg(test)]

@@ -1,3 +1,5 @@
+//! The arithmetic coder, by the sequence of ITU-T T.88, H.2.
+
 ghost use Rattle.std.specs.Prelude.{◌<◌};
 
 use crate::checks::{check, check_at, equal, equal_at};

@@ -1,3 +1,5 @@
+//! Raw bits.
+
 ghost use Rattle.std.specs.Prelude.{◌<◌};
 
 use crate::checks::{check, check_at, equal, equal_at};

@@ -3,14 +3,14 @@
 ghost use Rattle.std.specs.Prelude.{◌≡◌, ◌≤◌, ◌<◌, ◌^◌, length, IfOk};
 ghost use Rattle.jx_base.specs.Passes.{is_causal};
 ghost use Rattle.jx_tier1_specs.specs.Cells.{HasSize};
-ghost use Rattle.jx_passdec.specs.Short.{AreShort};
+ghost use Rattle.jx_tier1_specs.specs.Short.{AreShort};
 
 use crate::checks::{check, equal, given};
 use crate::flags_tests::are_same;
 use crate::samples::{gathered, next, one};
 use jx_base::{Band, NoMemory, Style};
 use jx_tier1::{Coded, Coef, FlagGrid, FlagRecoded, decode_flags, encode_flags, recode_flags};
-use jx_tier1_specs::place;
+use jx_tier1_plain::place;
 use std::alloc::Global;
 use std::test::Fail;
 

@@ -2,10 +2,11 @@
 
 ghost use Rattle.std.specs.Prelude.{◌<◌, ◌≤◌, ◌^◌, length, IfOk};
 ghost use Rattle.jx_tier1_specs.specs.Cells.{HasSize};
-ghost use Rattle.jx_passdec.specs.Short.{AreShort};
+ghost use Rattle.jx_tier1_specs.specs.Short.{AreShort};
 
 use jx_base::NoMemory;
-use jx_tier1_specs::{Coef, Grid, Segments, place};
+use jx_tier1_plain::{Grid, place};
+use jx_tier1_specs::{Coef, Segments};
 use std::alloc::Global;
 
 /// The next of a row of numbers that look random.
@@ -15,7 +16,7 @@ pub(crate) fn next(x: u64) -> u64 {
 }
 
 /// One segment.
-#[tactic(auto, using(jx_passdec::proofs::Firsts::one_short))]
+#[tactic(auto, using(jx_tier1_specs::proofs::Firsts::one_short))]
 pub(crate) fn one<'a>(alloc: Global, bytes: &'a [u8]) -> Result<Segments<'a>, NoMemory>
     requires { length bytes.now < 2 ^ 32 }
     ensures { IfOk result (λ s. AreShort s) }

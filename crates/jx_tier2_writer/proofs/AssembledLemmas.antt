@@ -30,7 +30,7 @@ use Rattle.jx_tier2_writer.specs.Packed.{own_body, own_length, own_packet, own_p
 use Rattle.jx_tier2_writer.specs.Sent.{layer_bytes}
 use Rattle.jx_tier2_writer.specs.TileParts.{AreTilePartsOf, packet_length, packet_of, packets_of, part_header, parts_with, tile_part, tile_parts}
 use Rattle.jx_tier2_writer.specs.Tile.{AreAtMost}
-use Rattle.jx_plan.specs.declared.Marks.{Marks as Asked}
+use Rattle.jx_options.specs.declared.Marks.{Marks as Asked}
 use Rattle.jx_plan.specs.Groups.{groups_of}
 use Rattle.jx_plan.proofs.GroupLemmas.{groups_all}
 

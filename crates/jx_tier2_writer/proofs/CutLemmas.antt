@@ -6,7 +6,7 @@ use Rattle.jx_geom.specs.Geometry.{Geometry}
 use Rattle.jx_progression.specs.declared.names.PacketName.{PacketName}
 use Rattle.jx_codestream.specs.declared.Stream.{Stream}
 use Rattle.jx_codestream.specs.Spells.{TilePart, part_bytes}
-use Rattle.jx_plan.specs.declared.Marks.{Marks as Asked}
+use Rattle.jx_options.specs.declared.Marks.{Marks as Asked}
 use Rattle.jx_plan.specs.Groups.{groups_of, more_groups}
 use Rattle.jx_plan.proofs.GroupLemmas.{more_cut, none_left, part_length}
 use Rattle.jx_tier2_writer.specs.Packed.{own_part, own_parts, parts_from}

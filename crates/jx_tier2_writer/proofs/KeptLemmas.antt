@@ -34,7 +34,7 @@ use Rattle.jx_codeblock.specs.Written.{is_wrong, style_for}
 use Rattle.jx_layers.specs.Causal.{breaks_plane, first_broken}
 use Rattle.jx_layers.specs.Layers.{ends_of}
 use Rattle.jx_layers.specs.Rule.{Rule}
-use Rattle.jx_plan.specs.declared.Marks.{Marks}
+use Rattle.jx_options.specs.declared.Marks.{Marks}
 use Rattle.jx_plan.specs.Asides.{is_plt}
 use Rattle.jx_plan.specs.Fits.{Fits, first_zero}
 use Rattle.jx_plan.specs.Headers.{Asked, MayBeAsked, cod_written, comp_written, params_written, stream_written}
@@ -43,7 +43,7 @@ use Rattle.jx_plan.specs.Meaning.{Component, Meaning, Place, component_of, meani
 use Rattle.jx_plan.specs.Plan.{asked_of, headers_with}
 use Rattle.jx_plan.specs.Planned.{IsCrowded, IsFreeBy, MakesLayers, blocks_written, layers_of_rule}
 use Rattle.jx_plan.specs.Standing.{HeadersStand}
-use Rattle.jx_plan.specs.Wanted.{MayBeWanted, Wanted, marks_of}
+use Rattle.jx_options.specs.Wanted.{MayBeWanted, Wanted, marks_of}
 use Rattle.jx_tier2_writer.specs.Kept.{IsKeptIn}
 use Rattle.jx_tier2_writer.specs.Ready.{AllShort, AreReady, IsTileReady, stream_read}
 use Rattle.jx_tier2_writer.specs.SameHeaders.{HasHeadersOf}

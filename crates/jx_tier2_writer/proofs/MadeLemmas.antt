@@ -18,7 +18,7 @@ use Rattle.jx_tier2_reader.specs.Written.{Packets, AreFilled, bytes_from}
 use Rattle.jx_tier2_writer.specs.Told.{length_total}
 use Rattle.jx_tier2_writer.specs.Lengths.{numbered}
 use Rattle.jx_tier2_writer.specs.Ready.{AreShort}
-use Rattle.jx_plan.specs.declared.Marks.{Marks}
+use Rattle.jx_options.specs.declared.Marks.{Marks}
 use Rattle.jx_tier2_writer.specs.TileParts.{packet_length, part_header, parts_with, tile_part}
 use Rattle.jx_tier2_writer.proofs.HeaderLemmas.{lengths_none, lengths_stand, segments_on}
 use Rattle.jx_plan.proofs.ReadBackLemmas.{none_both as joined_on}

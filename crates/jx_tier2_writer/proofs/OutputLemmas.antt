@@ -35,7 +35,7 @@ use Rattle.jx_tier2_writer.proofs.MadeLemmas.{made_long}
 use Rattle.jx_tier2_writer.proofs.StrictLemmas.{has_eph, has_sop, strict_made}
 use Rattle.jx_marker.specs.declared.Cod.{Cod}
 use Rattle.jx_codestream.specs.Params.{cod_or, header_in, header_of}
-use Rattle.jx_plan.specs.declared.Marks.{Marks}
+use Rattle.jx_options.specs.declared.Marks.{Marks}
 use Rattle.jx_plan.specs.Groups.{HasFewParts, groups_of}
 use Rattle.jx_plan.proofs.GroupLemmas.{groups_stay, some_group}
 use Rattle.jx_tier2_writer.specs.TileParts.{AreTilePartsOf, IsOutput, packets_of, tile_parts}

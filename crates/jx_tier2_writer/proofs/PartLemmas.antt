@@ -11,7 +11,7 @@ use Rattle.jx_progression.specs.declared.names.PacketName.{PacketName}
 use Rattle.jx_codestream.specs.declared.Stream.{Stream}
 use Rattle.jx_codestream.specs.Spells.{TilePart, all_bytes, part_bytes}
 use Rattle.jx_tier2_reader.specs.Written.{bytes_from, packet_bytes}
-use Rattle.jx_plan.specs.declared.Marks.{Marks as Asked}
+use Rattle.jx_options.specs.declared.Marks.{Marks as Asked}
 use Rattle.jx_tier2_writer.specs.Packed.{own_length, own_packet, own_packets, own_part, total}
 use Rattle.jx_tier2_writer.specs.TileParts.{part_header}
 use Rattle.jx_codestream.specs.Params.{header_of}

@@ -24,7 +24,7 @@ use Rattle.jx_plan.specs.Headers.{Asked, comp_written, stream_written}
 use Rattle.jx_plan.specs.Causes.{IsFree}
 use Rattle.jx_plan.specs.Plan.{IsPlan, Plan, asked_of, headers_of, headers_with}
 use Rattle.jx_plan.specs.Standing.{HeadersStand}
-use Rattle.jx_plan.specs.Wanted.{MayBeWanted, Wanted, marks_of}
+use Rattle.jx_options.specs.Wanted.{MayBeWanted, Wanted, marks_of}
 use Rattle.jx_tier2_writer.specs.Assembled.{AreOwn, AreTileBytes}
 use Rattle.jx_tier2_writer.specs.Assembled.{IsTooLong as HasMoreBytes}
 use Rattle.jx_tier2_writer.specs.Own.{AreOwnBlocks}

@@ -30,7 +30,7 @@ use Rattle.jx_tier2_reader.specs.Gathered.{IsListOf}
 use Rattle.jx_tier2_reader.specs.Written.{AreFilled, Packets, bytes_from, packets_in}
 use Rattle.jx_tier2_writer.specs.Lengths.{numbered}
 use Rattle.jx_tier2_writer.specs.Ready.{AllShort, AreReady, AreShort, stream_read}
-use Rattle.jx_plan.specs.declared.Marks.{Marks}
+use Rattle.jx_options.specs.declared.Marks.{Marks}
 use Rattle.jx_tier2_writer.specs.TileParts.{packet_length, packets_of, part_header, parts_with, tile_part, tile_parts}
 use Rattle.jx_tier2_writer.specs.SameHeaders.{IsWithLengths}
 use Rattle.jx_tier2_writer.proofs.HeldLemmas.{held_by}

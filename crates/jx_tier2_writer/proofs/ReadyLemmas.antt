@@ -30,7 +30,7 @@ use Rattle.jx_tier2_reader.specs.Gathered.{IsWhole}
 use Rattle.jx_tier2_reader.proofs.TotalLemmas.{geometry_fits}
 use Rattle.jx_progression.proofs.ExistLemmas.{orders_exist}
 use Rattle.jx_tier2_writer.specs.Ready.{AreReady, HasList}
-use Rattle.jx_plan.specs.declared.Marks.{Marks}
+use Rattle.jx_options.specs.declared.Marks.{Marks}
 use Rattle.jx_tier2_writer.proofs.CoverLemmas.{cover_all, has_cod}
 
 module _ (m : Marks) (s : Stream) (ready : AreReady m s) where

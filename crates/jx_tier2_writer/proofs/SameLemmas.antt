@@ -36,7 +36,7 @@ use Rattle.jx_tier2_reader.specs.Faults.{passed}
 use Rattle.jx_tier2_reader.specs.Written.{Written}
 use Rattle.jx_tier2_reader.proofs.AnotherLemmas.{blocks_of_other}
 use Rattle.jx_base.specs.Pieces.{PieceValue}
-use Rattle.jx_plan.specs.declared.Marks.{Marks}
+use Rattle.jx_options.specs.declared.Marks.{Marks}
 use Rattle.jx_tier2_writer.specs.TileParts.{packet_of, packets_of, state_before}
 use Rattle.jx_tier2_writer.proofs.AlikeLemmas.{AreAlike, params_alike, planes_alike, shapes_alike, step_alike}
 

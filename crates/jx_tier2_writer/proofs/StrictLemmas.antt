@@ -11,7 +11,7 @@ use Rattle.jx_tier2_writer.specs.Told.{has_lengths}
 use Rattle.jx_tier2_writer.specs.Lengths.{numbered}
 use Rattle.jx_tier2_writer.specs.Ready.{AreShort}
 use Rattle.jx_tier2_writer.specs.Strict.{AreStrictParts}
-use Rattle.jx_plan.specs.declared.Marks.{Marks}
+use Rattle.jx_options.specs.declared.Marks.{Marks}
 use Rattle.jx_tier2_writer.specs.TileParts.{packet_length, packets_of, part_header, parts_with}
 use Rattle.jx_tier2_writer.proofs.HeldLemmas.{held_by}
 use Rattle.jx_tier2_writer.proofs.MadeLemmas.{header_is, lengths_short, own_at, part_long}

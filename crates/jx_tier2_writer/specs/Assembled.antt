@@ -8,7 +8,7 @@ use Rattle.jx_codestream.specs.declared.Stream.{Stream}
 use Rattle.jx_codestream.specs.First.{canvas_of}
 use Rattle.jx_codestream.specs.Shapes.{geometry, shapes_of}
 use Rattle.jx_codestream.specs.Spells.{TilePart, part_bytes}
-use Rattle.jx_plan.specs.declared.Marks.{Marks}
+use Rattle.jx_options.specs.declared.Marks.{Marks}
 use Rattle.jx_tier2_writer.specs.Tile.{AreAtMost}
 use Rattle.jx_tier2_writer.specs.TileParts.{AreTilePartsOf}
 

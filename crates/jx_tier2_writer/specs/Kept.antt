@@ -15,7 +15,7 @@ use Rattle.jx_layers.specs.Layers.{ends_of}
 use Rattle.jx_layers.specs.Rule.{Rule}
 use Rattle.jx_plan.specs.Plan.{asked_of}
 use Rattle.jx_plan.specs.Planned.{blocks_written, layers_of_rule}
-use Rattle.jx_plan.specs.Wanted.{Wanted}
+use Rattle.jx_options.specs.Wanted.{Wanted}
 use Rattle.jx_tier2_writer.specs.Strict.{IsStrict}
 
 -- the stream that is read of the new file, in the layers of a rule, beside the one before: a well-formed codestream, strictly made, with

@@ -1,4 +1,9 @@
 pub mod Assembled
+pub mod TileParts
+pub mod Ready
+pub mod Tile
+pub mod Kept
+-- Inner: no other crate cites these.
 pub mod Coded
 pub mod Leaves
 pub mod Lengths
@@ -9,10 +14,6 @@ pub mod Pieces
 pub mod Rows
 pub mod Sent
 pub mod Silent
-pub mod TileParts
 pub mod Told
-pub mod Ready
 pub mod Strict
 pub mod SameHeaders
-pub mod Tile
-pub mod Kept

@@ -10,7 +10,7 @@ use Rattle.jx_codestream.specs.declared.Stream.{Stream}
 use Rattle.jx_codestream.specs.Shapes.{layers_of}
 use Rattle.jx_tier2_reader.specs.Written.{Packets, packet_bytes}
 use Rattle.jx_codeblock.specs.Recoded.{WrittenBlock}
-use Rattle.jx_plan.specs.declared.Marks.{Marks as Asked}
+use Rattle.jx_options.specs.declared.Marks.{Marks as Asked}
 use Rattle.jx_tier2_writer.specs.Names.{AreSendings, tile_names}
 use Rattle.jx_tier2_writer.specs.Packed.{own_packets}
 use Rattle.jx_tier2_writer.specs.Tile.{block_written}

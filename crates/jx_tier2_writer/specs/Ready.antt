@@ -4,6 +4,7 @@ use Rattle.std.specs.Prelude.{◌≡◌, ◌<◌, ◌^◌, ℕ, false, List, [],
 use Rattle.jx_base.specs.Joined.{joined}
 use Rattle.jx_marker.specs.declared.Cod.{Cod}
 use Rattle.jx_marker.specs.Ranges.{SizInRange}
+use Rattle.jx_codestream.specs.Headers.{cod_slot}
 use Rattle.jx_codestream.specs.declared.headers.HeaderKind.TheVariants.{Main, First}
 use Rattle.jx_codestream.specs.declared.Stream.{Stream}
 use Rattle.jx_codestream.specs.First.{tile_number, tiles_fault, lacks_default}
@@ -16,7 +17,7 @@ use Rattle.jx_progression.specs.declared.names.PacketName.{PacketName}
 use Rattle.jx_tier2_reader.specs.Gathered.{IsListOf}
 use Rattle.jx_tier2_reader.specs.Totals.{totals_fault}
 use Rattle.jx_tier2_writer.specs.Told.{has_lengths}
-use Rattle.jx_plan.specs.declared.Marks.{Marks}
+use Rattle.jx_options.specs.declared.Marks.{Marks}
 use Rattle.jx_plan.specs.Groups.{HasFewParts}
 
 -- what SOP and EPH a tile's COD, or else the main one, announces
@@ -33,7 +34,7 @@ pub record IsTileReady (m : Marks) (s : Stream) (t : ℕ) : Type 0 where
   pub header : AreSegments First (length s.siz.comps) [] (header_of s t)
   pub entries : entries_joined (header_of s t) ≡ []
   pub lengths : has_lengths (header_of s t) ≡ false
-  pub progressions : (tile_at s t).progressions ≡ or_list (entry_in (in_slot 1 (header_of s t))) (entry_in (in_slot 1 s.main))
+  pub progressions : (tile_at s t).progressions ≡ or_list (entry_in (in_slot cod_slot (header_of s t))) (entry_in (in_slot cod_slot s.main))
   -- A.8: Scod says what stands in the tile's data
   pub sop : (cod_at s t).sop ≡ m.sop
   pub eph : (cod_at s t).eph ≡ m.eph

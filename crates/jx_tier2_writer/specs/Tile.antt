@@ -19,7 +19,7 @@ use Rattle.jx_store.specs.declared.event.Taped.{Taped}
 use Rattle.jx_store.specs.declared.work.Named.{Named}
 use Rattle.jx_store.specs.declared.work.Named.TheVariants.{Made, Bad, Short}
 use Rattle.jx_plan.specs.Plan.{Plan, headers_of}
-use Rattle.jx_plan.specs.Wanted.{marks_of}
+use Rattle.jx_options.specs.Wanted.{marks_of}
 use Rattle.jx_tier2_writer.specs.TileParts.{AreTilePartsOf}
 
 -- A.2: the main header

@@ -19,7 +19,7 @@ use Rattle.jx_tier2_reader.specs.Carries.{bytes_of}
 use Rattle.jx_tier2_reader.specs.Planned.{leaves_in}
 use Rattle.jx_tier2_reader.specs.Written.{Written, Packets, packet_bytes, bytes_from}
 use Rattle.jx_tier2_reader.specs.Gathered.{IsListOf}
-use Rattle.jx_plan.specs.declared.Marks.{Marks}
+use Rattle.jx_options.specs.declared.Marks.{Marks}
 use Rattle.jx_plan.specs.Groups.{groups_of}
 use Rattle.jx_tier2_writer.specs.Lengths.{length_segments}
 

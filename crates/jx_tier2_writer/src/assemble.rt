@@ -29,7 +29,8 @@ use crate::tile_part::{PartOut, PartPlace, pack_part};
 use jx_base::NoMemory;
 use jx_codestream::{Stream, TileView};
 use jx_geom::TileGeom;
-use jx_plan::{Marks, count_parts, names_of, part_end};
+use jx_options::Marks;
+use jx_plan::{count_parts, names_of, part_end};
 use jx_progression::PacketName;
 use std::alloc::Global;
 

@@ -26,13 +26,13 @@ ghost use Rattle.jx_tier2_writer.specs.Ready.{AllShort, AreReady, HasList, strea
 ghost use Rattle.jx_tier2_writer.specs.SameHeaders.{HasHeadersOf};
 ghost use Rattle.jx_tier2_writer.specs.Strict.{IsStrict};
 ghost use Rattle.jx_tier2_writer.specs.Told.{length_total, lengths_from};
-ghost use Rattle.jx_plan.specs.declared.Marks.{Marks};
+ghost use Rattle.jx_options.specs.declared.Marks.{Marks};
 ghost use Rattle.jx_layers.specs.Rule.{Rule};
 ghost use Rattle.jx_plan.specs.Causes.{IsFree};
 ghost use Rattle.jx_codeblock.specs.Written.{is_wrong};
 ghost use Rattle.jx_plan.specs.Plan.{headers_with};
 ghost use Rattle.jx_plan.specs.Planned.{IsFreeBy, MakesLayers, blocks_written, layers_of_rule};
-ghost use Rattle.jx_plan.specs.Wanted.{MayBeWanted, Wanted, marks_of};
+ghost use Rattle.jx_options.specs.Wanted.{MayBeWanted, Wanted, marks_of};
 ghost use Rattle.jx_plan.specs.Standing.{HeadersStand};
 ghost use Rattle.jx_tier2_writer.specs.TileParts.{AreTilePartsOf, IsOutput};
 

@@ -17,7 +17,7 @@ use jx_base::NoMemory;
 use jx_codestream::Stream;
 use jx_geom::TileGeom;
 use jx_marker::{eph, sop};
-use jx_plan::Marks;
+use jx_options::Marks;
 use jx_progression::PacketName;
 
 /// What is sent of the precinct of a packet.

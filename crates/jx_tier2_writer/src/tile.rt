@@ -13,7 +13,7 @@ use crate::sending::Sending;
 use jx_base::NoMemory;
 use jx_codestream::Stream;
 use jx_geom::TileGeom;
-use jx_plan::Marks;
+use jx_options::Marks;
 use jx_progression::PacketName;
 use std::alloc::Global;
 

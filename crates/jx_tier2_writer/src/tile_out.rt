@@ -13,7 +13,7 @@ use jx_base::NoMemory;
 use jx_codeblock::Recoded;
 use jx_codestream::Stream;
 use jx_geom::TileGeom;
-use jx_plan::Marks;
+use jx_options::Marks;
 use std::marker::Model;
 
 /// A tile that is ready to be written: its tile-parts, with all but the coded bytes put together. Contracts see each tile-part as

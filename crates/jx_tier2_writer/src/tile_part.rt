@@ -25,7 +25,7 @@ use jx_base::NoMemory;
 use jx_codestream::Stream;
 use jx_geom::TileGeom;
 use jx_marker::{Segment, Sot, put_segment};
-use jx_plan::Marks;
+use jx_options::Marks;
 use jx_progression::PacketName;
 use std::alloc::Global;
 

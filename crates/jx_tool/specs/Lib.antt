@@ -1,1 +1,2 @@
+-- Inner: no other crate cites these.
 pub mod Ended

@@ -16,10 +16,10 @@ use Rattle.jx_codestream.specs.Spells.{TilePart, all_bytes, part_bytes}
 use Rattle.jx_tier2_reader.specs.Gathered.{IsGathered}
 use Rattle.jx_tier2_reader.specs.Totals.{block_total, totals_fault}
 use Rattle.jx_layers.specs.Rule.{Rule}
-use Rattle.jx_plan.specs.declared.Marks.{Marks}
+use Rattle.jx_options.specs.declared.Marks.{Marks}
 use Rattle.jx_plan.specs.Plan.{IsPlan, Plan, headers_with}
 use Rattle.jx_plan.specs.Planned.{IsFreeBy, IsPlanned, IsPlannedBy, MakesLayers, blocks_written, layers_of_rule}
-use Rattle.jx_plan.specs.Wanted.{MayBeWanted, Wanted, marks_of}
+use Rattle.jx_options.specs.Wanted.{MayBeWanted, Wanted, marks_of}
 use Rattle.jx_tier2_writer.specs.Kept.{IsKeptIn}
 use Rattle.jx_tier2_writer.specs.Ready.{AllShort, AreShort}
 use Rattle.jx_tier2_writer.specs.Tile.{IsTooLong, blocks_in, main_bytes}
@@ -35,12 +35,13 @@ use Rattle.jx_rounds.specs.declared.halt.Halt.{Halt}
 use Rattle.jx_rounds.specs.declared.halt.Halt.TheVariants as halt
 use Rattle.jx_transcode.specs.declared.status.Status.{Status}
 use Rattle.jx_transcode.specs.declared.status.Status.TheVariants as status
-use Rattle.jx_rounds.specs.declared.tape.TapeEntry.{TapeEntry}
-use Rattle.jx_transcode.specs.RunTapes.{IsRunTape}
-use Rattle.jx_rounds.specs.Tapes.{IsTapeOf}
-use Rattle.jx_cli.specs.Words.{Text, Work}
+use Rattle.jx_cli.specs.Words.{Text}
+use Rattle.jx_options.specs.Work.{Work}
 use Rattle.jx_rounds.proofs.FrontLemmas.{at_most_short, comps_stay, tiles_stay}
 use Rattle.jx_rounds.proofs.TakenLemmas.{all_front}
+use Rattle.jx_rounds.specs.Tapes.{IsTapeOf}
+use Rattle.jx_rounds.specs.declared.tape.TapeEntry.{TapeEntry}
+use Rattle.jx_transcode.specs.RunTapes.{IsRunTape}
 use Rattle.jx_transcode.proofs.WrongLemmas.{all_right, right_or_wrong}
 
 -- ---- a plan was written, or its file halted

@@ -6,9 +6,9 @@ use Rattle.jx_io.specs.Device.{Meaning}
 use Rattle.jx_io.specs.Stored.{empty}
 use Rattle.jx_layers.specs.declared.StreamFacts.{StreamFacts}
 use Rattle.jx_layers.specs.Rule.{Rule}
-use Rattle.jx_plan.specs.Wanted.{MayBeWanted, Wanted}
+use Rattle.jx_options.specs.Wanted.{MayBeWanted, Wanted}
 use Rattle.jx_cli.specs.MakeWords.{Make}
-use Rattle.jx_cli.specs.Words.{MayBeWork, Work}
+use Rattle.jx_options.specs.Work.{MayBeWork, Work}
 use Rattle.jx_transcode.specs.Aims.{Aim}
 use Rattle.jx_transcode.specs.Filed.{IsAnswered}
 use Rattle.jx_transcode.specs.MakeRun.{AreTold, EndsMade, IsLastMade, IsReadyToSay, TellsMade, aim_made, input_of, make_line, wanted_made, work_made}

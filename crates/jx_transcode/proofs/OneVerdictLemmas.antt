@@ -11,12 +11,12 @@ use Rattle.jx_codestream.specs.Read.{IsRead}
 use Rattle.jx_codestream.specs.Spells.{Spells, TilePart}
 use Rattle.jx_tier2_reader.specs.Gathered.{IsBroken, IsGathered}
 use Rattle.jx_tier2_reader.specs.Totals.{totals_fault}
-use Rattle.jx_plan.specs.declared.Marks.{Marks}
+use Rattle.jx_options.specs.declared.Marks.{Marks}
 use Rattle.jx_plan.specs.declared.faults.PlanFault.{PlanFault}
 use Rattle.jx_plan.specs.declared.faults.PlanFault.TheVariants as unplanned
 use Rattle.jx_layers.specs.Rule.{Rule}
 use Rattle.jx_plan.specs.Planned.{CanBePlannedBy, HasPlanCause, blocks_written, layers_of_rule}
-use Rattle.jx_plan.specs.Wanted.{Wanted, marks_of}
+use Rattle.jx_options.specs.Wanted.{Wanted, marks_of}
 use Rattle.jx_tier2_writer.specs.Ready.{AreShort}
 use Rattle.jx_tier2_writer.specs.TileParts.{AreTilePartsOf}
 use Rattle.jx_transcode.specs.declared.status.Status.{Status}

@@ -5,12 +5,13 @@ use Rattle.std.proofs.lemmas.Bool.{cases_lt}
 use Rattle.jx_io.specs.Device.{Meaning, joined}
 use Rattle.jx_layers.specs.declared.StreamFacts.{StreamFacts}
 use Rattle.jx_layers.specs.Rule.{Rule}
-use Rattle.jx_plan.specs.Wanted.{Wanted}
+use Rattle.jx_options.specs.Wanted.{Wanted}
 use Rattle.jx_transcode.specs.Aims.{Aim}
 use Rattle.jx_transcode.specs.declared.status.Status.{Status}
 use Rattle.jx_transcode.specs.declared.status.Status.TheVariants as status
 use Rattle.jx_transcode.specs.Filed.{IsAnswered, IsUnread}
-use Rattle.jx_cli.specs.Words.{Text, Request, Work}
+use Rattle.jx_cli.specs.Words.{Request, Text}
+use Rattle.jx_options.specs.Work.{Work}
 use Rattle.jx_rounds.specs.declared.tape.TapeEntry.{TapeEntry}
 use Rattle.jx_transcode.specs.Outcome.{IsBegun, IsCutShort, IsLimited, IsMade, IsRefused, IsStopped, IsUntouched, IsVerdict, Leaves, Verdict, Ends, EndsFiles, EndsAtWords, EndsAs, PassesLimit, aim_of, line_of, most_bytes}
 use Rattle.jx_transcode.proofs.DoneLemmas.{undone}

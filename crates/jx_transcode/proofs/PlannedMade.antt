@@ -38,7 +38,7 @@ use Rattle.jx_layers.specs.Layers.{HasMany, ends_by, ends_of, passes_to}
 use Rattle.jx_layers.specs.Rule.{Rule}
 use Rattle.jx_plan.specs.declared.faults.PlanFault.{PlanFault}
 use Rattle.jx_plan.specs.declared.faults.PlanFault.TheVariants as fault
-use Rattle.jx_plan.specs.declared.PartChoice.TheVariants as part
+use Rattle.jx_options.specs.declared.PartChoice.TheVariants as part
 use Rattle.jx_plan.specs.Fits.{AreUnfit, Fits, IsUnfit}
 use Rattle.jx_plan.specs.Groups.{HasManyParts, groups_of}
 use Rattle.jx_plan.specs.Headers.{stream_written}

@@ -17,7 +17,7 @@ use Rattle.jx_plan.specs.declared.faults.PlanFault.TheVariants as unplanned
 use Rattle.jx_plan.specs.Causes.{IsPlaneBroken}
 use Rattle.jx_plan.specs.Fits.{AreUnfit}
 use Rattle.jx_plan.specs.Planned.{HasPlanCause, IsUnplannedBy, LacksPlan}
-use Rattle.jx_plan.specs.Wanted.{Wanted}
+use Rattle.jx_options.specs.Wanted.{Wanted}
 use Rattle.jx_transcode.specs.Aims.{Aim, rule_in}
 use Rattle.jx_transcode.specs.Filed.{IsAnswered, blocks_told, told_by, told_of_plan}
 use Rattle.jx_transcode.specs.Judged.{IsInputCause}
@@ -25,7 +25,8 @@ use Rattle.jx_transcode.specs.Outcome.{IsCutShort, most_bytes}
 use Rattle.jx_transcode.specs.Rewritten.{HasBlocks, IsUnplanned, Reads}
 use Rattle.jx_transcode.specs.declared.status.Status.{Status}
 use Rattle.jx_transcode.specs.declared.status.Status.TheVariants as status
-use Rattle.jx_cli.specs.Words.{Text, Work}
+use Rattle.jx_cli.specs.Words.{Text}
+use Rattle.jx_options.specs.Work.{Work}
 use Rattle.jx_transcode.proofs.DoneLemmas.{undone}
 use Rattle.jx_transcode.proofs.ToldLemmas.{stop_told}
 use Rattle.jx_transcode.proofs.FiledLemmas.{untouched}

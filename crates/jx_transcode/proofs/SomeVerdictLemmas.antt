@@ -14,7 +14,7 @@ use Rattle.jx_codestream.specs.Spells.{TilePart}
 use Rattle.jx_tier2_reader.specs.Either.{HasBlocks, HasFault}
 use Rattle.jx_tier2_reader.specs.Gathered.{IsBroken, IsGathered}
 use Rattle.jx_tier2_reader.specs.Totals.{totals_fault}
-use Rattle.jx_plan.specs.declared.Marks.{Marks}
+use Rattle.jx_options.specs.declared.Marks.{Marks}
 use Rattle.jx_plan.specs.declared.faults.PlanFault.{PlanFault}
 use Rattle.jx_plan.specs.declared.faults.PlanFault.TheVariants as unplanned
 use Rattle.jx_layers.specs.Facts.{facts_of}
@@ -23,7 +23,7 @@ use Rattle.jx_plan.specs.Causes.{IsFree}
 use Rattle.jx_plan.specs.Plan.{MayBePlanned, headers_with}
 use Rattle.jx_plan.specs.Planned.{CanBePlannedBy, HasPlanCause, MakesLayers, blocks_written, layers_of_rule}
 use Rattle.jx_plan.specs.Standing.{HeadersStand}
-use Rattle.jx_plan.specs.Wanted.{MayBeWanted, Wanted, marks_of}
+use Rattle.jx_options.specs.Wanted.{MayBeWanted, Wanted, marks_of}
 use Rattle.jx_tier2_writer.specs.Ready.{AreReady, AreShort}
 use Rattle.jx_tier2_writer.specs.TileParts.{AreTilePartsOf, IsOutput}
 use Rattle.jx_transcode.specs.declared.status.Status.{Status}

@@ -11,9 +11,9 @@ use Rattle.jx_codestream.specs.declared.Stream.{Stream}
 use Rattle.jx_codestream.specs.First.{canvas_of, tile_number}
 use Rattle.jx_codestream.specs.Shapes.{shapes_of}
 use Rattle.jx_tier2_reader.specs.Totals.{block_total}
-use Rattle.jx_plan.specs.Wanted.{Wanted}
-use Rattle.jx_rounds.specs.Tiles.{IsRight, IsWrongAt, IsWrongBlock, blocks_in_tile, first_in_tile}
+use Rattle.jx_options.specs.Wanted.{Wanted}
 use Rattle.jx_rounds.proofs.FrontLemmas.{blocks_are}
+use Rattle.jx_rounds.specs.Tiles.{IsRight, IsWrongAt, IsWrongBlock, blocks_in_tile, first_in_tile}
 
 -- ---- the first of some numbers of which something holds
 pub record IsFirstFrom (P : ℕ → Type 0) (low count number : ℕ) : Type 0 where

@@ -5,7 +5,7 @@ use Rattle.jx_codestream.specs.declared.Stream.{Stream}
 use Rattle.jx_layers.specs.declared.StreamFacts.{StreamFacts}
 use Rattle.jx_layers.specs.Facts.{facts_of}
 use Rattle.jx_layers.specs.Rule.{Rule, layers_by}
-use Rattle.jx_plan.specs.Wanted.{MayBeWanted, Wanted}
+use Rattle.jx_options.specs.Wanted.{MayBeWanted, Wanted}
 
 pub record Aim : Type 0 where
   pub wanted : Wanted

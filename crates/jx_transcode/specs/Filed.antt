@@ -8,7 +8,7 @@ use Rattle.jx_plan.specs.Plan.{IsPlan, Plan}
 use Rattle.jx_transcode.specs.Outcome.{IsBegun, IsCutShort, IsMade, IsStopped, IsVerdict, Leaves, Verdict}
 use Rattle.jx_rounds.specs.Rounds.{IsHaltedAt, IsRoundFront, IsWholeFile}
 use Rattle.jx_cli.specs.Words.{Text}
-use Rattle.jx_cli.specs.Words.{Work}
+use Rattle.jx_options.specs.Work.{Work}
 use Rattle.jx_rounds.specs.declared.tape.TapeEntry.{TapeEntry}
 use Rattle.jx_transcode.specs.Rewritten.{HasBlocks}
 use Rattle.jx_transcode.specs.RunTapes.{IsRunTape}

@@ -1,9 +1,10 @@
+pub mod Outcome
+pub mod Runs
+-- Inner: no other crate cites these.
 pub mod Aims
 pub mod Rewritten
 pub mod RunTapes
-pub mod Outcome
 pub mod MakeRun
-pub mod Runs
 pub mod Progress
 pub mod Judged
 pub mod Filed

@@ -7,10 +7,10 @@ use Rattle.jx_io.specs.Device.{Meaning}
 use Rattle.jx_layers.specs.declared.StreamFacts.{StreamFacts}
 use Rattle.jx_layers.specs.Rule.{Rule}
 use Rattle.jx_generate.specs.Made.{file_made}
-use Rattle.jx_plan.specs.Wanted.{Wanted}
-use Rattle.jx_plan.specs.declared.PartChoice.TheVariants as parts
+use Rattle.jx_options.specs.Wanted.{Wanted}
+use Rattle.jx_options.specs.declared.PartChoice.TheVariants as parts
 use Rattle.jx_cli.specs.MakeWords.{Make}
-use Rattle.jx_cli.specs.Words.{Work}
+use Rattle.jx_options.specs.Work.{Work}
 use Rattle.jx_transcode.specs.Aims.{Aim}
 use Rattle.jx_transcode.specs.Outcome.{IsLimited, IsVerdict, Says, Verdict, line_of}
 use Rattle.jx_transcode.specs.Rewritten.{HasBlocks, IsKept, IsRewritten}

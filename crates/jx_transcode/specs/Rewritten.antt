@@ -15,7 +15,7 @@ use Rattle.jx_codeblock.specs.Written.{is_wrong}
 use Rattle.jx_layers.specs.Rule.{Rule}
 use Rattle.jx_plan.specs.Plan.{headers_with}
 use Rattle.jx_plan.specs.Planned.{HasPlanCause, IsFreeBy, MakesLayers, blocks_written, layers_of_rule}
-use Rattle.jx_plan.specs.Wanted.{Wanted, marks_of}
+use Rattle.jx_options.specs.Wanted.{Wanted, marks_of}
 use Rattle.jx_tier2_writer.specs.Kept.{IsKeptIn}
 use Rattle.jx_tier2_writer.specs.Ready.{AllShort, AreShort}
 use Rattle.jx_tier2_writer.specs.Tile.{main_bytes}

@@ -2,7 +2,7 @@
 use Rattle.std.specs.Prelude.{◌≡◌, ◌⊎◌, ℕ, List, []}
 use Rattle.jx_base.specs.declared.pieces.Block.{Block}
 use Rattle.jx_codestream.specs.declared.Stream.{Stream}
-use Rattle.jx_cli.specs.Words.{Work}
+use Rattle.jx_options.specs.Work.{Work}
 use Rattle.jx_transcode.specs.Rewritten.{Reads}
 use Rattle.jx_rounds.specs.Tapes.{IsTapeOf}
 use Rattle.jx_rounds.specs.declared.tape.TapeEntry.{TapeEntry}

@@ -2,11 +2,12 @@
 
 ghost use Rattle.std.specs.Prelude.{◌≡◌, [], length, IfOk, IfErr, OnOk, IsErrOf, IsTrue};
 ghost use Rattle.jx_io.specs.Causes.{Rose};
+ghost use Rattle.jx_cli.specs.Words.{Text};
 ghost use Rattle.jx_io.specs.Device.{Meaning, after_create};
+ghost use Rattle.jx_options.specs.Work.{MayBeWork};
 ghost use Rattle.jx_plan.specs.Plan.{IsPlan, headers_of};
-ghost use Rattle.jx_tier2_writer.specs.Tile.{main_bytes};
-ghost use Rattle.jx_cli.specs.Words.{MayBeWork, Text};
 ghost use Rattle.jx_rounds.specs.Tapes.{IsTapeOf};
+ghost use Rattle.jx_tier2_writer.specs.Tile.{main_bytes};
 ghost use Rattle.jx_transcode.specs.Filed.{IsFileHalted, IsFileMade};
 
 use jx_io::{Files, Gate};

@@ -1,9 +1,10 @@
 ghost use Rattle.std.specs.Prelude.{◌≡◌, ◌<◌, ◌⊎◌, true, false, map, take, IfOk, IfSome, string_bytes};
 ghost use Rattle.jx_plan.specs.Planned.{chosen};
-ghost use Rattle.jx_plan.specs.Wanted.{MayBeWanted};
+ghost use Rattle.jx_options.specs.Wanted.{MayBeWanted};
 ghost use Rattle.jx_io.specs.Causes.{HasCause, Rose};
 ghost use Rattle.jx_io.specs.Device.{Allows, joined};
-ghost use Rattle.jx_cli.specs.Words.{MayBeWork, is_good, request_of};
+ghost use Rattle.jx_cli.specs.Words.{is_good, request_of};
+ghost use Rattle.jx_options.specs.Work.{MayBeWork};
 ghost use Rattle.jx_transcode.specs.Outcome.{EndsAs, Ends, EndsFiles, IsUntouched, IsVerdict, line_of};
 ghost use Rattle.jx_transcode.specs.Runs.{Outcome};
 
@@ -17,7 +18,7 @@ use jx_cli::laws::commands_are_apart;
 use jx_cli::{Request, WordsFault, read_words};
 use jx_io::{Files, Gate, Refused, Sink};
 use jx_layers::LayerPlanner;
-use jx_plan::Options;
+use jx_options::Options;
 use jx_rounds::Crew;
 use std::alloc::Global;
 use std::sync::Wait;

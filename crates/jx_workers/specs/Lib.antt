@@ -1,3 +1,4 @@
-pub mod Workers
 pub mod Tapes
+-- Inner: no other crate cites these.
+pub mod Workers
 pub mod Committed

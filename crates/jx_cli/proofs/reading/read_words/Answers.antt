@@ -1,8 +1,9 @@
 use Rattle.std.proofs.Common.{◌≡◌, ◌∙◌, ap, false, map, string_bytes, subst, sym, true}
 use Rattle.std.proofs.lemmas.List.{drop-map}
 use Rattle.std.proofs.lemmas.Result.{IfOk-weaker}
-use Rattle.jx_plan.specs.Wanted.{MayBeWanted}
-use Rattle.jx_cli.specs.Words.{MayBeWork, Request, names_command}
+use Rattle.jx_options.specs.Wanted.{MayBeWanted}
+use Rattle.jx_cli.specs.Words.{Request, names_command}
+use Rattle.jx_options.specs.Work.{MayBeWork}
 use Rattle.jx_cli.proofs.CommandLemmas.{same_fault}
 use Rattle.jx_cli.proofs.GoodLemmas.{bad_by, good_by, requested, unnamed}
 use Rattle.jx_cli.proofs.WantedLemmas.{given_may_be, work_may_be}

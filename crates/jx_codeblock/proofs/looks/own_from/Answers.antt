@@ -1,7 +1,7 @@
 use Rattle.std.proofs.Common.{◌≡◌, ◌∙◌, ap, sym, subst, List, ℕ}
 use Rattle.std.proofs.lemmas.Result.{IfOk-weaker}
 use Rattle.jx_tier1_specs.specs.Reading.{Decoding}
-use Rattle.jx_passdec.specs.Short.{AreShort}
+use Rattle.jx_tier1_specs.specs.Short.{AreShort}
 use Rattle.jx_codeblock.specs.Recoding.{decoded_in, own_segments, wrong_in}
 use Rattle.jx_codeblock.proofs.DecideLemmas.{groups_short, own_same}
 use Rattle.jx_codeblock.proofs.looks.own_from.Goals as goal

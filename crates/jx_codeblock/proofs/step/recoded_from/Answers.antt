@@ -2,7 +2,7 @@ use Rattle.std.proofs.Common.{◌≡◌, ◌∙◌, ap, sym, subst, map, List, �
 use Rattle.std.proofs.lemmas.Result.{IfOk-weaker}
 use Rattle.jx_tier1_specs.specs.Needs.{written}
 use Rattle.jx_tier1_specs.specs.Reading.{Decoding}
-use Rattle.jx_passdec.specs.Short.{AreShort}
+use Rattle.jx_tier1_specs.specs.Short.{AreShort}
 use Rattle.jx_codeblock.specs.Recoding.{coding_in, decoded_in, own_segments, wrong_in}
 use Rattle.jx_codeblock.proofs.DecideLemmas.{groups_short, own_same}
 use Rattle.jx_codeblock.proofs.step.recoded_from.Goals as goal

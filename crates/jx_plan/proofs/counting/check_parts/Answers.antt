@@ -1,5 +1,5 @@
 use Rattle.std.proofs.Common.{rules, ◌≡◌, ◌<◌, ◌^◌, ap}
-use Rattle.jx_plan.specs.Wanted.{Wanted}
+use Rattle.jx_options.specs.Wanted.{Wanted}
 use Rattle.jx_plan.proofs.PlanLemmas.{few_made, headers_in_range, headers_pass, headers_whole, none_parted}
 use Rattle.jx_plan.proofs.counting.check_parts.Goals as goal
 

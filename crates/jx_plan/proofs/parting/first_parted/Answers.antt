@@ -1,5 +1,5 @@
 use Rattle.std.proofs.Common.{subst, sym}
-use Rattle.jx_plan.specs.declared.PartChoice.{PartChoice}
+use Rattle.jx_options.specs.declared.PartChoice.{PartChoice}
 use Rattle.jx_plan.specs.Groups.{HasFewParts}
 use Rattle.jx_plan.proofs.PartedLemmas.{few_undivided}
 use Rattle.jx_plan.proofs.parting.first_parted.Goals as goal

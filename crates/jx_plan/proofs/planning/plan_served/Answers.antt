@@ -2,7 +2,7 @@ use Rattle.std.proofs.Common.{◌<◌, ◌≤◌, ◌∙◌, ap, subst, sym, ari
 use Rattle.jx_layers.specs.Facts.{facts_of}
 use Rattle.jx_layers.specs.Rule.{Rule}
 use Rattle.jx_plan.specs.Planned.{HasPlanCause, IsPlanned}
-use Rattle.jx_plan.specs.Wanted.{Wanted}
+use Rattle.jx_options.specs.Wanted.{Wanted}
 use Rattle.jx_plan.proofs.ChosenLemmas.{chosen_here, chosen_none, chosen_past}
 use Rattle.jx_plan.proofs.planning.plan_served.Goals as goal
 

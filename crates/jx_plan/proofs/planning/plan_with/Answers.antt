@@ -1,6 +1,6 @@
 use Rattle.std.proofs.Common.{◌≡◌, ap, inr, rules}
 use Rattle.std.proofs.lemmas.Result.{IfErr-weaker}
-use Rattle.jx_plan.specs.Wanted.{Wanted}
+use Rattle.jx_options.specs.Wanted.{Wanted}
 use Rattle.jx_plan.proofs.LayerLaws.{CrowdLaws}
 use Rattle.jx_plan.proofs.PlanLemmas.{few_blocks}
 use Rattle.jx_plan.proofs.PlannedLemmas.{planned_below, planned_each, too_much}

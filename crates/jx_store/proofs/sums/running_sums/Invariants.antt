@@ -1,6 +1,6 @@
 use Rattle.std.proofs.Common.{◌≡◌, ◌≤◌, ◌+◌, length, take, vec_len, vec_capacity}
 use Rattle.std.specs.List.{sum}
-use Rattle.jx_store.specs.Shown.{sums_from}
+use Rattle.jx_store.specs.Sums.{sums_from}
 use Rattle.jx_store.proofs.sums.running_sums.Given as goal
 
 abbrev pub invariant-loop-size : goal.invariant-loop-size

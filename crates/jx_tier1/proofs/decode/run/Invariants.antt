@@ -1,7 +1,7 @@
 use Rattle.std.proofs.Common.{◌≡◌, ◌-◌, ◌+◌, ◌/◌}
 use Rattle.jx_tier1_specs.specs.Cells.{HasSize, AreWithin}
 use Rattle.jx_tier1_specs.specs.Reading.{coding_of, read_from}
-use Rattle.jx_passdec.specs.Short.{AreShort}
+use Rattle.jx_tier1_specs.specs.Short.{AreShort}
 use Rattle.jx_tier1.proofs.decode.run.Given as goal
 
 abbrev pub invariant-loop-pass : goal.invariant-loop-pass

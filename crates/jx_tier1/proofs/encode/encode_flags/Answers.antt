@@ -3,7 +3,7 @@ use Rattle.jx_coder_specs.specs.MqTable.{mq_fresh}
 use Rattle.jx_tier1_specs.specs.Reading.{Coding, coding_of}
 use Rattle.jx_tier1_specs.specs.Needs.{needs}
 use Rattle.jx_tier1_specs.proofs.Places.{zeros_within}
-use Rattle.jx_passenc.proofs.SegmentLemmas.{segments_finished}
+use Rattle.jx_tier1_specs.proofs.SegmentLemmas.{segments_finished}
 use Rattle.jx_tier1.proofs.encode.encode_flags.Goals as goal
 
 pub run_block-result-requires : goal.run_block-result-requires

@@ -3,9 +3,9 @@ use Rattle.jx_tier1_specs.specs.Cells.{Cells}
 use Rattle.jx_tier1_specs.specs.Reading.{Coding, coding_of}
 use Rattle.jx_tier1_specs.specs.Needs.{needs_from}
 use Rattle.jx_tier1_specs.proofs.Places.{within_more}
-use Rattle.jx_passenc.specs.Writing.{finished_from}
-use Rattle.jx_passenc.specs.Encoding.{Encoding}
-use Rattle.jx_passenc.proofs.WroteLemmas.{step_more, step_end, step_kind, step_target}
+use Rattle.jx_tier1_specs.specs.Writing.{finished_from}
+use Rattle.jx_tier1_specs.specs.Encoding.{Encoding}
+use Rattle.jx_tier1_specs.proofs.WroteLemmas.{step_more, step_end, step_kind, step_target}
 use Rattle.jx_tier1.proofs.encode.run.Goals as goal
 
 pub loop-pass-preserved : goal.loop-pass-preserved

@@ -3,7 +3,7 @@ use Rattle.jx_base.specs.Passes.{raw_pass}
 use Rattle.jx_tier1_specs.specs.Cells.{HasSize, AreWithin}
 use Rattle.jx_tier1_specs.specs.Reading.{coding_of}
 use Rattle.jx_tier1_specs.specs.Needs.{needs_from}
-use Rattle.jx_passenc.specs.Writing.{finished_from}
+use Rattle.jx_tier1_specs.specs.Writing.{finished_from}
 use Rattle.jx_tier1.proofs.encode.run.Given as goal
 
 abbrev pub invariant-loop-pass : goal.invariant-loop-pass

@@ -1,7 +1,7 @@
 use Rattle.std.proofs.Common.{◌≡◌, ◌-◌, ◌+◌, ◌/◌}
 use Rattle.jx_tier1_specs.specs.Cells.{HasSize, AreWithin}
 use Rattle.jx_tier1_specs.specs.Reading.{coding_of}
-use Rattle.jx_passdec.specs.Short.{AreShort}
+use Rattle.jx_tier1_specs.specs.Short.{AreShort}
 use Rattle.jx_tier1.specs.InStep.{recoded_from}
 use Rattle.jx_tier1.proofs.recode.run.Given as goal
 

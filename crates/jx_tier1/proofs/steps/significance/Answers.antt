@@ -6,7 +6,7 @@ use Rattle.jx_tier1_specs.specs.Pass.{is_decided, significance_at}
 use Rattle.jx_tier1.proofs.SignificanceLemmas.{significance_marked, significance_done, significance_none, significance_asked}
 use Rattle.jx_tier1.proofs.steps.significance.Goals.{then-label-eq0-via-then-label-eq0, then-label-eq0-via-else-label-eq0+then-is_done}
 use Rattle.jx_tier1.proofs.steps.significance.Goals as goal
-use Rattle.jx_passenc.proofs.StepLemmas.{no_bits}
+use Rattle.jx_tier1_specs.proofs.StepLemmas.{no_bits}
 
 pub decide_bit-requires : goal.decide_bit-requires
 decide_bit-requires g c =

@@ -5,7 +5,7 @@ use Rattle.jx_tier1_specs.specs.Asking.{Asking, told}
 use Rattle.jx_tier1_specs.specs.Pass.{is_decided}
 use Rattle.jx_tier1.proofs.TreeLemmas.{usual_done, usual_marked, usual_asked}
 use Rattle.jx_tier1.proofs.steps.usual.Goals as goal
-use Rattle.jx_passenc.proofs.StepLemmas.{no_bits}
+use Rattle.jx_tier1_specs.proofs.StepLemmas.{no_bits}
 
 pub decide_bit-requires : goal.decide_bit-requires
 decide_bit-requires g c =

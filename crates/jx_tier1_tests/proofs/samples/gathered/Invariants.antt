@@ -1,4 +1,4 @@
-use Rattle.jx_passdec.specs.Short.{AreShort}
+use Rattle.jx_tier1_specs.specs.Short.{AreShort}
 use Rattle.jx_tier1_tests.proofs.samples.gathered.Given as goal
 
 abbrev pub invariant-loop-list : goal.invariant-loop-list

@@ -1,4 +1,4 @@
-use Rattle.jx_plan.specs.Wanted.{marks_of}
+use Rattle.jx_options.specs.Wanted.{marks_of}
 use Rattle.jx_tier2_writer.proofs.planned.main_view.Goals as goal
 
 pub main_view-requires : goal.main_view-requires

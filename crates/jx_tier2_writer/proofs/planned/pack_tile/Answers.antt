@@ -5,7 +5,7 @@ use Rattle.jx_base.specs.declared.pieces.Block.{Block}
 use Rattle.jx_codeblock.specs.Recoded.{WrittenBlock}
 use Rattle.jx_codestream.specs.declared.Stream.{Stream}
 use Rattle.jx_codestream.specs.Shapes.{geometry}
-use Rattle.jx_plan.specs.declared.Marks.{Marks}
+use Rattle.jx_options.specs.declared.Marks.{Marks}
 use Rattle.jx_plan.specs.Plan.{Plan, headers_of}
 use Rattle.jx_tier2_writer.specs.Assembled.{AreOwn, AreTileBytes}
 use Rattle.jx_tier2_writer.specs.Assembled.{IsTooLong as HasMoreBytes}

@@ -1,6 +1,6 @@
 use Rattle.std.proofs.Common.{sym, subst}
 use Rattle.jx_codestream.specs.declared.Stream.{Stream}
-use Rattle.jx_plan.specs.Wanted.{marks_of}
+use Rattle.jx_options.specs.Wanted.{marks_of}
 use Rattle.jx_tier2_writer.specs.Ready.{AreReady}
 use Rattle.jx_tier2_writer.proofs.PlanLemmas.{plan_ready}
 use Rattle.jx_tier2_writer.proofs.planned.ready_headers.Goals as goal

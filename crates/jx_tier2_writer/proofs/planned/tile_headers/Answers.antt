@@ -3,7 +3,7 @@ use Rattle.jx_base.specs.declared.pieces.Block.{Block}
 use Rattle.jx_codestream.specs.declared.Stream.{Stream}
 use Rattle.jx_codestream.specs.First.{tile_number}
 use Rattle.jx_codestream.specs.Shapes.{geometry}
-use Rattle.jx_plan.specs.Wanted.{marks_of}
+use Rattle.jx_options.specs.Wanted.{marks_of}
 use Rattle.jx_tier2_writer.specs.Assembled.{AreOwn}
 use Rattle.jx_tier2_writer.specs.Own.{AreOwnBlocks}
 use Rattle.jx_tier2_writer.specs.Tile.{block_written, made_in}

@@ -1,6 +1,6 @@
 use Rattle.std.proofs.Common.{◌≡◌, ◌+◌, ◌-◌, ◌<◌, ◌≤◌, ◌^◌, arith, subst}
 use Rattle.jx_store.specs.Setup.{Setup, end_of}
-use Rattle.jx_store.specs.Shown.{items_of}
+use Rattle.jx_store.specs.Sums.{items_of}
 use Rattle.jx_store.proofs.Loads.{sums_long}
 use Rattle.jx_store.proofs.sums.Sums.end.Goals as goal
 

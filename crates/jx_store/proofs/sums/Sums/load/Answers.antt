@@ -2,7 +2,7 @@ use Rattle.std.proofs.Common.{◌≡◌, ℕ, List, ◌≤◌, ◌+◌, ◌-◌,
 use Rattle.std.specs.Prelude.{slice_get}
 use Rattle.std.proofs.lemmas.Option.{slice_get_read}
 use Rattle.jx_store.specs.Setup.{Setup, load, end_of}
-use Rattle.jx_store.specs.Shown.{sums_from, items_of}
+use Rattle.jx_store.specs.Sums.{sums_from, items_of}
 use Rattle.jx_store.proofs.Loads.{sums_long, load_read}
 use Rattle.jx_store.proofs.sums.Sums.load.Goals as goal
 

@@ -1,6 +1,6 @@
 use Rattle.std.proofs.Common.{ℕ, List, length, arith, ap, sym, ◌∙◌}
 use Rattle.jx_store.specs.Setup.{Setup}
-use Rattle.jx_store.specs.Shown.{items_of, sums_from}
+use Rattle.jx_store.specs.Sums.{items_of, sums_from}
 use Rattle.jx_store.proofs.Loads.{items_of_sums}
 use Rattle.jx_store.proofs.sums.Sums.new.Goals as goal
 

@@ -1,7 +1,7 @@
 use Rattle.std.proofs.Common.{◌∙◌, ap}
 use Rattle.jx_tier1_specs.specs.Reading.{coding_of}
-use Rattle.jx_passenc.specs.Encoding.{Encoding, after_symbol}
-use Rattle.jx_passenc.proofs.WroteLemmas.{pass_wrote}
+use Rattle.jx_tier1_specs.specs.Encoding.{Encoding, after_symbol}
+use Rattle.jx_tier1_specs.proofs.WroteLemmas.{pass_wrote}
 use Rattle.jx_tier1.proofs.encoder.Encoder.pass_within.Goals as goal
 
 pub returns-clause-encoding : goal.returns-clause-encoding

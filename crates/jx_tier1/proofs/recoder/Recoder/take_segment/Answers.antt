@@ -1,8 +1,8 @@
 use Rattle.std.proofs.Common.{[], ◌<◌, ◌^◌, List, ℕ, Bor, map, drop, length, refl}
 use Rattle.std.proofs.lemmas.List.Elements.{All-drop}
 use Rattle.jx_tier1_specs.specs.Segments.{bytes_of}
-use Rattle.jx_passdec.specs.Short.{AreShort}
-use Rattle.jx_passdec.proofs.Firsts.{first_there, rest_after, short_first}
+use Rattle.jx_tier1_specs.specs.Short.{AreShort}
+use Rattle.jx_tier1_specs.proofs.Firsts.{first_there, rest_after, short_first}
 use Rattle.jx_tier1.proofs.recoder.Recoder.take_segment.Goals as goal
 
 pub returns-then-self-clause-recoding : goal.returns-then-self-clause-recoding

@@ -1,0 +1,8 @@
+mod FindLemmas
+pub mod ItemLemmas
+mod ListLemmas
+pub mod NumberLemmas
+mod PartLemmas
+pub mod SpellLemmas
+pub mod StyleLemmas
+pub mod ValueLemmas

@@ -1,0 +1,37 @@
+-- How a codestream is to be written.
+use Rattle.std.specs.Prelude.{◌≡◌, ◌≤◌, ◌<◌, ℕ, ◌/◌, ◌%◌, Bool, List, Option, IfSome}
+use Rattle.jx_base.specs.declared.style.Style.{Style}
+use Rattle.jx_marker.specs.Ranges.{AreBytes}
+use Rattle.jx_options.specs.declared.Marks.{Marks}
+use Rattle.jx_options.specs.declared.PartChoice.{PartChoice}
+
+pub record Wanted : Type 0 where
+  -- the progression order of each tile, by its number (Table A.16); none where each tile keeps that of its COD
+  pub order : Option ℕ
+  -- the precincts' exponents (Table A.21), a byte for each resolution from 0 up, of which the last stands for all above; without
+  -- bytes every exponent is 15; none where precincts are kept
+  pub precincts : Option (List ℕ)
+  -- the style in which all code-blocks are coded (Table A.19); none where each component keeps its own
+  pub style : Option Style
+  -- the words for the planners of layers
+  pub layers : List ℕ
+  -- where a tile is cut into tile-parts
+  pub parts : PartChoice
+  pub sop : Bool
+  pub eph : Bool
+  pub plt : Bool
+
+-- a style has six bits, and predictable termination isn't asked (bit 4)
+pub record MayBeStyle (style : Style) : Type 0 where
+  pub few : style.bits < 64
+  pub free : style.bits / 16 % 2 ≡ 0
+
+-- there is such an order and such a style, and exponents have four bits
+pub record MayBeWanted (w : Wanted) : Type 0 where
+  pub order : IfSome w.order (λ (order : ℕ). order ≤ 4)
+  pub bytes : IfSome w.precincts AreBytes
+  pub style : IfSome w.style MayBeStyle
+
+-- what stands in the tile-parts beside headers and blocks, and where they begin
+abbrev pub marks_of : Wanted → Marks
+marks_of w = record { sop = w.sop; eph = w.eph; plt = w.plt; parts = w.parts }

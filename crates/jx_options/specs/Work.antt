@@ -1,0 +1,18 @@
+-- How the work is done.
+use Rattle.std.specs.Prelude.{◌≤◌, ◌^◌, ℕ}
+
+-- so many workers recode blocks; so many blocks may stand between claim and sequence; and so many bytes the pieces of several such
+-- blocks may have together
+pub record Work : Type 0 where
+  pub threads : ℕ
+  pub window : ℕ
+  pub most : ℕ
+
+-- work that words can ask for
+pub record MayBeWork (w : Work) : Type 0 where
+  pub some_threads : 1 ≤ w.threads
+  pub few_threads : w.threads ≤ 64
+  pub some_window : 1 ≤ w.window
+  pub few_window : w.window ≤ 1024
+  pub some_most : 1 ≤ w.most
+  pub few_most : w.most ≤ 2 ^ 28

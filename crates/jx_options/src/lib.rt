@@ -1,0 +1,51 @@
+//! The options of the command line: what each is called, what its values say, and what is asked by all of them (ITU-T T.800).
+#![tactic(auto)]
+
+ghost use Rattle.std.specs.Prelude.{◌≡◌};
+
+pub mod laws;
+mod names;
+mod numbers;
+mod options;
+mod parts;
+mod precincts;
+mod rows;
+mod styles;
+mod values;
+mod work;
+
+pub use names::OptionName;
+pub use numbers::{long_number_in, number_in};
+pub use options::{Options, OrderChoice, PrecinctChoice};
+pub use rows::{OptionRow, SEEDS, SIDES};
+pub use values::{
+    bytes_said, order_said, parts_said, precincts_said, seed_said, side_said, style_said,
+    threads_said, window_said,
+};
+pub use work::Work;
+
+/// Where a tile is cut into tile-parts (ITU-T T.800, A.4.2).
+#[derive(Clone, Copy, Debug, PartialEq, Eq)]
+pub enum PartChoice {
+    /// Nowhere.
+    None,
+    /// Between packets of different resolutions.
+    Resolution,
+    /// Between packets of different layers.
+    Layer,
+    /// Between packets of different components.
+    Component,
+}
+
+/// What stands in the tile-parts of the written file beside headers and code-blocks, and where they begin.
+#[derive(Clone, Copy, Debug, PartialEq, Eq)]
+pub struct Marks {
+    /// Whether an SOP segment stands before each packet (ITU-T T.800, A.8.1).
+    pub sop: bool,
+    /// Whether an EPH marker follows each packet header (A.8.2).
+    pub eph: bool,
+    /// Whether PLT segments give the lengths of the packets (A.7.3).
+    pub plt: bool,
+    /// Where a tile is cut into tile-parts (A.4.2).
+    pub parts: PartChoice,
+}

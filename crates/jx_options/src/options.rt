@@ -1,0 +1,102 @@
+//! How a codestream is to be written.
+
+ghost use Rattle.std.specs.Prelude.{◌≡◌};
+ghost use Rattle.jx_options.specs.Choices.{bytes_in, lent, order_in};
+ghost use Rattle.jx_options.specs.Wanted.{marks_of};
+
+use crate::{Marks, PartChoice};
+use jx_base::Style;
+use std::marker::Model;
+
+/// The progression order of the written file (ITU-T T.800, Table A.16).
+#[derive(Clone, Copy, Debug, PartialEq, Eq)]
+pub enum OrderChoice {
+    /// Each tile keeps the order of its COD.
+    Keep,
+    /// This order's number in each tile, 0 to 4.
+    Order(u8),
+}
+
+/// The precincts of the written file (ITU-T T.800, Table A.21).
+#[derive(Drop)]
+pub enum PrecinctChoice {
+    /// Each component keeps its own.
+    Keep,
+    /// Every exponent is 15; no bytes are written.
+    Max,
+    /// One byte for each resolution from 0 up, the width's exponent in the low four bits and the height's in the high four; the
+    /// last byte stands for all resolutions above.
+    List(Vec<u8>),
+}
+
+/// How a codestream is to be written.
+#[derive(Drop)]
+pub struct Options {
+    /// The order of the packets.
+    pub order: OrderChoice,
+    /// The precincts.
+    pub precincts: PrecinctChoice,
+    /// The style in which all code-blocks are coded (ITU-T T.800, Table A.19), with bits 4, 6 and 7 clear; none where each component
+    /// keeps its own.
+    pub style: Option<Style>,
+    /// The words for the planners of layers.
+    pub layers: String,
+    /// Where tile-parts begin.
+    pub parts: PartChoice,
+    /// Whether an SOP segment stands before each packet (ITU-T T.800, A.8.1).
+    pub sop: bool,
+    /// Whether an EPH marker follows each packet header (A.8.2).
+    pub eph: bool,
+    /// Whether PLT segments give the lengths of the packets (A.7.3).
+    pub plt: bool,
+}
+
+impl Model for Options {
+    ghost use Rattle.std.specs.String.{string_bytes};
+    ghost use Rattle.jx_options.specs.Choices.{bytes_in, order_in};
+    ghost use Rattle.jx_options.specs.Wanted.{Wanted};
+
+    ghost Value = { Wanted };
+
+    ghost view = { λ o. record { order = order_in o.order; precincts = bytes_in o.precincts; style = o.style; layers = string_bytes o.layers; parts = o.parts; sop = o.sop; eph = o.eph; plt = o.plt } };
+}
+
+impl OrderChoice {
+    /// The number of the order that is asked (ITU-T T.800, Table A.16); none where each tile keeps its own.
+    pub fn number(self) -> Option<u8>
+        ensures { result ≡ order_in self }
+    {
+        match self {
+            OrderChoice::Keep => None,
+            OrderChoice::Order(number) => Some(number),
+        }
+    }
+}
+
+impl PrecinctChoice {
+    /// The exponents that are asked, a byte for each resolution from 0 up, of which the last stands for all above; without bytes
+    /// every exponent is 15 (ITU-T T.800, Table A.21). None where precincts are kept.
+    pub fn bytes(&self) -> Option<&[u8]>
+        ensures { lent result ≡ bytes_in self.now }
+    {
+        match self {
+            PrecinctChoice::Keep => None,
+            PrecinctChoice::Max => Some(&[]),
+            PrecinctChoice::List(bytes) => Some(bytes),
+        }
+    }
+}
+
+impl Options {
+    /// What stands in the tile-parts beside headers and code-blocks, and where they begin.
+    pub fn marks(&self) -> Marks
+        ensures { result ≡ marks_of self.now }
+    {
+        Marks {
+            sop: self.sop,
+            eph: self.eph,
+            plt: self.plt,
+            parts: self.parts,
+        }
+    }
+}

@@ -1,6 +1,0 @@
--- What a history shows.
-use Rattle.jx_store.specs.declared.history.History.{History}
-use Rattle.jx_store.specs.Notes.{Notes}
-
-abbrev pub shown : History → Notes
-shown h = record { steps = h.steps.items; full = h.full; all = h.all }

@@ -1,0 +1,11 @@
+mod Windows
+mod Changes
+mod Tally
+mod Sharing
+mod Valids
+mod Records
+mod Refusals
+mod Replays
+mod Made
+mod Below
+mod Deals
