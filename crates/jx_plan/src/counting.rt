@@ -13,9 +13,10 @@ ghost use Rattle.jx_options.specs.Wanted.{MayBeWanted};
 
 use crate::headers::{HeaderMarks, write_headers};
 use crate::parting::first_parted;
-use crate::{Options, PlanFault};
+use crate::PlanFault;
 use jx_base::NoMemory;
 use jx_codestream::Stream;
+use jx_options::Options;
 use jx_tier2_reader::count_all;
 use std::alloc::Global;
 

@@ -15,12 +15,13 @@ ghost use Rattle.jx_plan.specs.Headers.{bytes_for, comp_written, item_at};
 ghost use Rattle.jx_plan.specs.Standing.{HeadersStand};
 ghost use Rattle.jx_plan.specs.Steps.{IsKnown, IsSameAt, is_coding};
 
-use crate::{PlanFault, PrecinctChoice};
+use crate::PlanFault;
 use jx_base::NoMemory;
 use jx_codestream::{MainView, Stream, Tile};
 use jx_geom::CompShape;
 use jx_layers::tile_count;
 use jx_marker::{Segment, Shape};
+use jx_options::PrecinctChoice;
 use std::alloc::Global;
 
 /// The byte of a resolution, of which the last stands for all above.

@@ -10,10 +10,10 @@ ghost use Rattle.jx_plan.specs.Plan.{IsPlan, headers_of};
 ghost use Rattle.jx_plan.specs.TileJobs.{AreJobsBelow, AreTileJobs};
 ghost use Rattle.jx_options.specs.Wanted.{marks_of};
 
-use crate::{Marks, Options};
 use jx_base::Block;
 use jx_codeblock::Job;
 use jx_codestream::Stream;
+use jx_options::{Marks, Options};
 use std::marker::Model;
 
 /// What is planned of a codestream: the headers that are written, and what is asked of each code-block.

@@ -11,11 +11,11 @@ ghost use Rattle.jx_tier2_reader.specs.Gathered.{IsListOf, IsWhole};
 ghost use Rattle.jx_tier2_reader.specs.Totals.{totals_fault};
 ghost use Rattle.jx_plan.specs.Groups.{HasFewParts, HasManyParts, IsPartedAt, groups_of, key_of, more_groups};
 
-use crate::PartChoice;
 use jx_base::NoMemory;
 use jx_codestream::{MainView, Stream, Tile, TileView};
 use jx_geom::TileGeom;
 use jx_layers::tile_count;
+use jx_options::PartChoice;
 use jx_progression::{PacketName, packets};
 use std::alloc::Global;
 

@@ -18,12 +18,13 @@ ghost use Rattle.jx_codeblock.specs.declared.LayerEnd.{LayerEnd};
 
 use crate::counting::{check_parts, plan_headers};
 use crate::fitting::check_precincts;
-use crate::{Options, OutStream, PlanFault};
+use crate::{OutStream, PlanFault};
 use jx_base::{Block, Style};
 use jx_codeblock::Job;
 use jx_codestream::Stream;
 use jx_layers::laws::crowds_are_told;
 use jx_layers::{LayerPlanner, StreamFacts, ask_jobs, facts_of, first_broken, first_crowded};
+use jx_options::Options;
 use std::alloc::Global;
 
 /// The number of layers of the rule that a planner makes of the words.

@@ -1,5 +1,5 @@
 -- A file that is made, as a writer of bytes.
-use Rattle.std.proofs.Common.{◌≡◌, ◌∙◌, ℕ, Bool, List, [], ◌++◌, Option, None, Some, refl, ap, sym}
+use Rattle.std.proofs.Common.{◌≡◌, ℕ, Bool, List, ◌++◌, Option, None, Some, refl, ap}
 use Rattle.std.specs.Option.{option_map}
 use Rattle.jx_io.specs.Device.{Meaning, Named, after_write, appended}
 use Rattle.jx_rounds.specs.FileBytes.{bytes_made, bytes_of, emptied, told_beside}

@@ -6,7 +6,7 @@ ghost use Rattle.jx_io.specs.Causes.{Rose};
 ghost use Rattle.jx_plan.specs.Plan.{Plan, headers_of};
 ghost use Rattle.jx_codestream.specs.First.{tile_number};
 ghost use Rattle.jx_tier2_writer.specs.Tile.{first_block, main_bytes};
-ghost use Rattle.jx_cli.specs.Words.{MayBeWork};
+ghost use Rattle.jx_options.specs.Work.{MayBeWork};
 ghost use Rattle.jx_rounds.specs.MadeRounds.{entry_of, parts_of};
 ghost use Rattle.jx_rounds.specs.Taken.{SomeFront, followed_by};
 ghost use Rattle.jx_rounds.specs.Rounds.{BeginsRound, EndsRound, HasFront, HasRounds, HasTape, HasWhole, IsFault, IsHalted, IsPlace, IsUnwritten};

@@ -1,16 +1,12 @@
 -- The file to which an input is rewritten: its headers as they are written, and its code-blocks, each kept byte for byte or coded anew in
 -- the style that is asked, packed anew in the layers of a rule (ITU-T T.800, A, B and D). And what stands of it where the run ends early.
-use Rattle.std.specs.Prelude.{◌≡◌, ◌<◌, ◌≤◌, ◌+◌, ◌⊎◌, ℕ, zero, suc, nat_le, true, false, List, ◌++◌, length, slice_get, Option, None, Some, if◌then◌else◌}
+use Rattle.std.specs.Prelude.{◌≡◌, ◌<◌, ◌≤◌, ◌+◌, ◌⊎◌, ℕ, false, List, ◌++◌, length, None, Some}
 use Rattle.std.specs.List.{All, flat_map}
 use Rattle.jx_base.specs.declared.pieces.Block.{Block}
 use Rattle.jx_base.specs.Joined.{joined}
-use Rattle.jx_geom.specs.Counts.{tile_blocks}
-use Rattle.jx_geom.specs.Numbering.{blocks_below}
-use Rattle.jx_geom.specs.Rects.{tile_rect}
 use Rattle.jx_codestream.specs.declared.Stream.{Stream}
-use Rattle.jx_codestream.specs.First.{canvas_of, tile_number}
+use Rattle.jx_codestream.specs.First.{tile_number}
 use Rattle.jx_codestream.specs.Read.{IsRead}
-use Rattle.jx_codestream.specs.Shapes.{shapes_of}
 use Rattle.jx_codestream.specs.Spells.{TilePart, part_bytes}
 use Rattle.jx_tier2_reader.specs.Gathered.{IsGathered}
 use Rattle.jx_tier2_reader.specs.Totals.{totals_fault}

@@ -1,5 +1,4 @@
 use Rattle.std.proofs.Common.{◌∙◌, IsTrue, ap, subst, sym}
-use Rattle.std.proofs.lemmas.Result.{IfErr-weaker, IfOk-weaker}
 use Rattle.jx_rounds.specs.FileBytes.{Device}
 use Rattle.jx_rounds.proofs.WriteLemmas.{refused_cause}
 use Rattle.jx_transcode.proofs.FiledLemmas.{file_halted, file_made, file_unfinished}
