@@ -1,7 +1,9 @@
 -- The command `transcode` as clap is told of it.
-use Rattle.std.specs.Prelude.{true, Some, codes}
+use Rattle.std.specs.Prelude.{Bool, true, false, Some, List, [], ◌∷◌, codes}
 use Rattle.clap.specs.Words.{App, Rule, Text, new_app, new_rule, with_rule}
 use Rattle.clap.specs.declared.builder.ArgAction.TheVariants.{Set, SetTrue}
+use Rattle.jx_options.specs.declared.names.OptionName.{OptionName}
+use Rattle.jx_options.specs.Names.{all_names, is_flag, name_of}
 
 -- a word that has to be there
 abbrev pub place_rule : Text → Rule
@@ -27,16 +29,15 @@ with_flag name app = with_rule app (flag_rule name)
 abbrev pub with_places : App → App
 with_places app = with_place (codes "out") (with_place (codes "in") app)
 
--- what is asked of the written file
-abbrev pub with_packing : App → App
-with_packing app = with_option (codes "style") (with_option (codes "layers") (with_option (codes "tile-parts") (with_option (codes "precincts") (with_option (codes "order") app))))
+-- an option, by whether it stands alone
+abbrev pub with_named : Bool → Text → App → App
+with_named true name app = with_flag name app
+with_named false name app = with_option name app
 
-abbrev pub with_marks : App → App
-with_marks app = with_flag (codes "plt") (with_flag (codes "eph") (with_flag (codes "sop") app))
-
--- how the work is done
-abbrev pub with_work : App → App
-with_work app = with_option (codes "window-bytes") (with_option (codes "window") (with_option (codes "threads") app))
+-- with the options of a list
+abbrev pub with_options : List OptionName → App → App
+with_options [] app = app
+with_options (name ∷ names) app = with_options names (with_named (is_flag name) (name_of name) app)
 
 unfoldable pub transcode : App
-transcode = with_work (with_marks (with_packing (with_places (new_app (codes "transcode")))))
+transcode = with_options all_names (with_places (new_app (codes "transcode")))

@@ -1,9 +1,14 @@
 -- The words of a command, by the way in which it takes them.
-use Rattle.std.specs.Prelude.{List, [], ◌∷◌}
+use Rattle.std.specs.Prelude.{Bool, true, false, List, [], ◌∷◌}
 use Rattle.clap.specs.Words.{App, Rule, Text}
 use Rattle.jx_cli.specs.declared.command.Kind.{Kind}
 use Rattle.jx_cli.specs.declared.command.Kind.TheVariants as kind
 use Rattle.jx_cli.specs.Command.{flag_rule, option_rule, place_rule, with_flag, with_option, with_place}
+
+-- an option, by whether it stands alone
+abbrev pub kind_by : Bool → Kind
+kind_by true = kind.Flag
+kind_by false = kind.Option
 
 abbrev pub rule_by : Kind → Text → Rule
 rule_by kind.Place name = place_rule name

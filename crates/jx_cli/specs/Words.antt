@@ -6,6 +6,9 @@ use Rattle.jx_options.specs.Wanted.{MayBeStyle, Wanted}
 use Rattle.jx_options.specs.Work.{MayBeWork, Work}
 use Rattle.jx_options.specs.declared.PartChoice.TheVariants as parts
 use Rattle.jx_cli.specs.Command.{transcode}
+use Rattle.jx_options.specs.declared.names.OptionName.{OptionName}
+use Rattle.jx_options.specs.declared.names.OptionName.TheVariants as option
+use Rattle.jx_options.specs.Names.{default_of, name_of}
 use Rattle.jx_options.specs.Values.{ArePrecincts, bytes_said, order_said, parts_said, precincts_said, style_said, threads_said, window_said}
 
 -- the bytes of a word
@@ -39,26 +42,30 @@ pub record Given : Type 0 where
 abbrev pub text_of : (Text → Option Text) → Text → Text → Text
 text_of found name default = unwrap_or (found name) default
 
+-- the text of an option, else what stands for it where it isn't among the words
+abbrev pub said_of : (Text → Option Text) → OptionName → Text
+said_of found name = text_of found (name_of name) (default_of name)
+
 -- clap gives a flag the text `true` where it is among the words
-abbrev pub flag_of : (Text → Option Text) → Text → Bool
-flag_of found name = bytes_eq (text_of found name (codes "false")) (codes "true")
+abbrev pub flag_of : (Text → Option Text) → OptionName → Bool
+flag_of found name = bytes_eq (said_of found name) (codes "true")
 
 -- clap refuses words without `in` and `out`
 unfoldable pub given_by : (Text → Option Text) → Given
 given_by found = record {
   from = text_of found (codes "in") [];
   to = text_of found (codes "out") [];
-  order = text_of found (codes "order") (codes "keep");
-  precincts = text_of found (codes "precincts") (codes "keep");
-  layers = text_of found (codes "layers") (codes "keep");
-  style = text_of found (codes "style") (codes "keep");
-  parts = text_of found (codes "tile-parts") (codes "none");
-  sop = flag_of found (codes "sop");
-  eph = flag_of found (codes "eph");
-  plt = flag_of found (codes "plt");
-  threads = text_of found (codes "threads") (codes "1");
-  window = text_of found (codes "window") (codes "64");
-  window_bytes = text_of found (codes "window-bytes") (codes "268435456");
+  order = said_of found option.Order;
+  precincts = said_of found option.Precincts;
+  layers = said_of found option.Layers;
+  style = said_of found option.Style;
+  parts = said_of found option.TileParts;
+  sop = flag_of found option.Sop;
+  eph = flag_of found option.Eph;
+  plt = flag_of found option.Plt;
+  threads = said_of found option.Threads;
+  window = said_of found option.Window;
+  window_bytes = said_of found option.WindowBytes;
 }
 
 -- the text that clap finds under a name

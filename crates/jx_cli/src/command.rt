@@ -2,11 +2,13 @@
 
 ghost use Rattle.std.specs.Prelude.{◌≡◌, IfOk, false, map};
 ghost use Rattle.clap.specs.Words.{app_of, rule_of};
-ghost use Rattle.jx_cli.specs.Command.{transcode, with_marks, with_packing, with_places, with_work};
-ghost use Rattle.jx_cli.specs.CommandWords.{rule_by, with_words};
+ghost use Rattle.jx_cli.specs.Command.{transcode, with_options, with_places};
+ghost use Rattle.jx_cli.specs.CommandWords.{kind_by, rule_by, with_words};
 ghost use Rattle.jx_cli.specs.MakeWords.{make};
+ghost use Rattle.jx_options.specs.Names.{is_flag, name_of};
 
 use clap::{Arg, ArgAction, Command};
+use jx_options::OptionName;
 use std::alloc::{AllocError, Global};
 
 /// How a command takes a word.
@@ -56,35 +58,37 @@ fn with_places<'a>(alloc: Global, command: Command<'a>) -> Result<Command<'a>, A
     with_words(alloc, command, Kind::Place, &["in", "out"])
 }
 
-/// With the options that say how the file is written.
-fn with_packing<'a>(alloc: Global, command: Command<'a>) -> Result<Command<'a>, AllocError>
-    ensures { IfOk result (λ c. app_of c ≡ with_packing (app_of command.entry)) }
+/// How an option is taken.
+fn kind_of(option: OptionName) -> Kind
+    ensures { result ≡ kind_by (is_flag option) }
 {
-    with_words(
-        alloc,
-        command,
-        Kind::Option,
-        &["order", "precincts", "tile-parts", "layers", "style"],
-    )
+    if option.is_flag() {
+        Kind::Flag
+    } else {
+        Kind::Option
+    }
 }
 
-/// With the marks that the file may have.
-fn with_marks<'a>(alloc: Global, command: Command<'a>) -> Result<Command<'a>, AllocError>
-    ensures { IfOk result (λ c. app_of c ≡ with_marks (app_of command.entry)) }
+/// An option's name, for as long as it is asked.
+fn name_of<'a>(option: OptionName) -> &'a str
+    ensures { result.now ≡ name_of option }
 {
-    with_words(alloc, command, Kind::Flag, &["sop", "eph", "plt"])
+    option.text()
 }
 
-/// With the options that say how the work is done.
-fn with_work<'a>(alloc: Global, command: Command<'a>) -> Result<Command<'a>, AllocError>
-    ensures { IfOk result (λ c. app_of c ≡ with_work (app_of command.entry)) }
+/// With the options of a list.
+fn with_options<'a>(
+    alloc: Global,
+    command: Command<'a>,
+    options: &[OptionName],
+) -> Result<Command<'a>, AllocError>
+    ensures { IfOk result (λ c. app_of c ≡ with_options options.now (app_of command.entry)) }
 {
-    with_words(
-        alloc,
-        command,
-        Kind::Option,
-        &["threads", "window", "window-bytes"],
-    )
+    let Some((option, rest)) = options.split_first() else {
+        return Ok(command);
+    };
+    let command = command.arg(arg_of(alloc, kind_of(*option), name_of(*option)))?;
+    with_options(alloc, command, rest)
 }
 
 /// The command `transcode`.
@@ -93,9 +97,7 @@ pub(crate) fn transcode<'a>(alloc: Global) -> Result<Command<'a>, AllocError>
 {
     let command = Command::new(alloc, "transcode");
     let command = with_places(alloc, command)?;
-    let command = with_packing(alloc, command)?;
-    let command = with_marks(alloc, command)?;
-    with_work(alloc, command)
+    with_options(alloc, command, OptionName::all())
 }
 
 /// The command `make`, of three words.

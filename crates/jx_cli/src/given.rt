@@ -5,12 +5,13 @@ ghost use Rattle.std.specs.Str.{bytes_eq};
 ghost use Rattle.clap.specs.Words.{app_of, fault_of, first_value, found_of, is_simple_and_free};
 ghost use Rattle.jx_cli.specs.Command.{transcode};
 ghost use Rattle.jx_cli.specs.MakeFound.{texts_of};
-ghost use Rattle.jx_cli.specs.Words.{flag_of, given_by, given_in, text_of};
+ghost use Rattle.jx_cli.specs.Words.{flag_of, given_by, given_in, said_of, text_of};
 
 use crate::WordsFault;
 use crate::command::transcode;
 use clap::error::ErrorKind;
 use clap::{ArgMatches, Command};
+use jx_options::OptionName;
 use std::alloc::Global;
 use std::marker::Model;
 
@@ -64,11 +65,18 @@ pub(crate) fn text_of<'a>(matches: &ArgMatches<'a>, name: &str, default: &'a str
     }
 }
 
-/// Whether a flag was found.
-fn flag_of(matches: &ArgMatches<'_>, name: &str) -> bool
-    ensures { result ≡ flag_of (first_value (found_of matches.now)) name.now }
+/// The text of an option, else what stands for it where it isn't among the words.
+fn said_of<'a>(matches: &ArgMatches<'a>, option: OptionName) -> &'a str
+    ensures { result.now ≡ said_of (first_value (found_of matches.now)) option }
 {
-    text_of(matches, name, "false") == "true"
+    text_of(matches, option.text(), option.default())
+}
+
+/// Whether a flag was found.
+fn flag_of(matches: &ArgMatches<'_>, option: OptionName) -> bool
+    ensures { result ≡ flag_of (first_value (found_of matches.now)) option }
+{
+    said_of(matches, option) == "true"
 }
 
 /// All that was found.
@@ -79,17 +87,17 @@ fn given_by<'a>(matches: &ArgMatches<'a>) -> Given<'a>
     Given {
         from: text_of(matches, "in", ""),
         to: text_of(matches, "out", ""),
-        order: text_of(matches, "order", "keep"),
-        precincts: text_of(matches, "precincts", "keep"),
-        layers: text_of(matches, "layers", "keep"),
-        style: text_of(matches, "style", "keep"),
-        parts: text_of(matches, "tile-parts", "none"),
-        sop: flag_of(matches, "sop"),
-        eph: flag_of(matches, "eph"),
-        plt: flag_of(matches, "plt"),
-        threads: text_of(matches, "threads", "1"),
-        window: text_of(matches, "window", "64"),
-        window_bytes: text_of(matches, "window-bytes", "268435456"),
+        order: said_of(matches, OptionName::Order),
+        precincts: said_of(matches, OptionName::Precincts),
+        layers: said_of(matches, OptionName::Layers),
+        style: said_of(matches, OptionName::Style),
+        parts: said_of(matches, OptionName::TileParts),
+        sop: flag_of(matches, OptionName::Sop),
+        eph: flag_of(matches, OptionName::Eph),
+        plt: flag_of(matches, OptionName::Plt),
+        threads: said_of(matches, OptionName::Threads),
+        window: said_of(matches, OptionName::Window),
+        window_bytes: said_of(matches, OptionName::WindowBytes),
     }
 }
 
