@@ -8,7 +8,7 @@ use Rattle.jx_codestream.specs.declared.Stream.{Stream}
 use Rattle.jx_codestream.specs.First.{canvas_of}
 use Rattle.jx_codestream.specs.Shapes.{shapes_of}
 use Rattle.jx_codeblock.specs.Written.{is_wrong}
-use Rattle.jx_plan.specs.Wanted.{Wanted}
+use Rattle.jx_options.specs.Wanted.{Wanted}
 
 -- the blocks of a tile: the number of the first, and how many there are
 abbrev pub first_in_tile : Stream → ℕ → ℕ
