@@ -3,9 +3,10 @@ ghost use Rattle.std.specs.Prelude.{IfOk, string_bytes};
 ghost use Rattle.jx_messages.specs.Sentences.{EndsLine};
 
 use crate::forms::value_text;
-use crate::options::{COUNT, OptionText, option_text};
+use crate::options::{OptionText, option_text};
 use clap::error::ErrorKind;
 use clap::{Arg, ArgAction, Command, Error};
+use jx_options::OptionName;
 use std::alloc::{AllocError, Global};
 
 static VERSION: &str = "0.9";
@@ -90,8 +91,8 @@ fn with_places<'a>(alloc: Global, command: Command<'a>) -> Result<Command<'a>, A
 /// With the options.
 fn with_options<'a>(alloc: Global, command: Command<'a>) -> Result<Command<'a>, AllocError> {
     let mut command = command;
-    for number in 0..COUNT {
-        command = command.arg(arg_of(alloc, option_text(number)))?;
+    for option in OptionName::all() {
+        command = command.arg(arg_of(alloc, option_text(*option)))?;
     }
     Ok(command)
 }
