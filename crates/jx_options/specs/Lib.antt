@@ -2,6 +2,6 @@ pub mod Choices
 pub mod Values
 pub mod Wanted
 pub mod Work
--- Inner: no other crate cites these.
 pub mod Names
+-- Inner: no other crate cites these.
 pub mod Parts
