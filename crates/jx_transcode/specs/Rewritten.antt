@@ -20,6 +20,7 @@ use Rattle.jx_tier2_writer.specs.Kept.{IsKeptIn}
 use Rattle.jx_tier2_writer.specs.Ready.{AllShort, AreShort}
 use Rattle.jx_tier2_writer.specs.Tile.{main_bytes}
 use Rattle.jx_tier2_writer.specs.TileParts.{AreTilePartsOf, IsOutput}
+use Rattle.jx_rounds.specs.Tiles.{IsRight, IsWrongAt, blocks_in_tile, first_in_tile, round_of}
 use Rattle.jx_transcode.specs.Aims.{Aim, rule_in}
 
 -- an input that is read whole: a well-formed codestream within the limits, with its blocks
