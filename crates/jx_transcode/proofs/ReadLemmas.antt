@@ -1,5 +1,5 @@
 -- A file that is read to where its bytes stay.
-use Rattle.std.proofs.Common.{◌≡◌, ◌<◌, ◌≤◌, ◌+◌, ◌∙◌, ◌++◌, ℕ, List, [], length, take, drop, Option, None, Some, Result, Ok, Err, ap, sym, subst, arith, append_assoc, append-nil, IfOk, IfSome, inl, inr}
+use Rattle.std.proofs.Common.{◌≡◌, ◌<◌, ◌≤◌, ◌+◌, ◌∙◌, ◌++◌, ℕ, List, [], length, take, drop, Option, None, Some, Result, Ok, Err, refl, ap, sym, subst, arith, append_assoc, append-nil, IfOk, IfSome, inl, inr}
 use Rattle.std.specs.Option.{option_map}
 use Rattle.std.proofs.lemmas.List.{length-take-le, take-append-drop, take-take, take_all}
 use Rattle.std.proofs.Math.Seq.{take-append-add, take-append_seam, drop-nil}
