@@ -8,7 +8,7 @@ use Rattle.jx_codeblock.specs.declared.job.Job.{Job}
 use Rattle.jx_codeblock.specs.Written.{block_asked, is_wrong}
 use Rattle.jx_marker.specs.Segments.{spelling}
 use Rattle.jx_marker.specs.declared.Segment.TheVariants as segment
-use Rattle.jx_io.specs.Device.{Meaning, after_create}
+use Rattle.jx_io.specs.Device.{Meaning}
 use Rattle.jx_codestream.specs.declared.Stream.{Stream}
 use Rattle.jx_codestream.specs.First.{tile_number}
 use Rattle.jx_codestream.specs.Read.{IsRead}
@@ -38,7 +38,6 @@ use Rattle.jx_transcode.specs.declared.status.Status.TheVariants as status
 use Rattle.jx_cli.specs.Words.{Text}
 use Rattle.jx_options.specs.Work.{Work}
 use Rattle.jx_rounds.proofs.FrontLemmas.{at_most_short, comps_stay, tiles_stay}
-use Rattle.jx_rounds.proofs.TakenLemmas.{all_front}
 use Rattle.jx_rounds.specs.Tapes.{IsTapeOf}
 use Rattle.jx_rounds.specs.declared.tape.TapeEntry.{TapeEntry}
 use Rattle.jx_transcode.specs.RunTapes.{IsRunTape}
@@ -281,8 +280,7 @@ module _ (laws : Laws) (aim : Aim) (input : List ℕ) (s : Stream) (blocks : Lis
 
   stopped_begun : (name : Text) (bytes : List ℕ) (old new : Meaning) → IsStopped name bytes old new → IsBegun name bytes old new
   stopped_begun name bytes old new stopped =
-      let front = all_front (after_create name stopped.0) new bytes stopped.2 in
-      inr (inl (stopped.0, front.0, stopped.1, front.1))
+      inr (inl (stopped.0, [], stopped.1, record { front = bytes; whole = sym (append-nil bytes); meaning = stopped.2 }))
 
   stopped_short : (name : Text) (n : ℕ) (why : Halt) (t : ℕ) (old new : Meaning) → n ≡ length blocks → IsFileStopped plan name why t old new → IsCutShort name aim input n old new
   stopped_short name n why t old new is file = inr (inr (record {
