@@ -11,9 +11,9 @@ ghost use Rattle.jx_plan.specs.Standing.{HeadersStand};
 ghost use Rattle.jx_plan.specs.Steps.{IsOverPackets, IsOverParts};
 ghost use Rattle.jx_options.specs.Wanted.{MayBeWanted};
 
+use crate::PlanFault;
 use crate::headers::{HeaderMarks, write_headers};
 use crate::parting::first_parted;
-use crate::PlanFault;
 use jx_base::NoMemory;
 use jx_codestream::Stream;
 use jx_options::Options;
