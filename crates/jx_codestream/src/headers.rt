@@ -29,9 +29,9 @@ pub struct Header {
     pub end: usize,
 }
 
-/// A rule that is violated at a place.
+/// The refusal of a rule, 1 to 31, that is violated at a place.
 pub fn violated(number: u8, place: usize) -> StreamFault
-    requires { place ≤ 2 ^ 28 }
+    requires { place < 2 ^ 32 }
     ensures { result ≡ StreamFault.Rule number place }
 {
     StreamFault::Rule {

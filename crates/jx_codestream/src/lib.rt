@@ -18,11 +18,12 @@ mod tiles;
 mod view;
 
 pub use faults::StreamFault;
+pub use headers::violated;
 use jx_base::Style;
 use jx_marker::Siz;
 pub use lists::{Bodies, Entries, Segments, Tiles};
 pub use reading::read_stream;
-pub use view::{MainView, TileView};
+pub use view::{MainView, TileView, comps_of};
 
 /// The data of one tile-part: where it stands in the file.
 #[derive(Clone, Copy, Debug, PartialEq, Eq)]

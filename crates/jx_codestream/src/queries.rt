@@ -1,17 +1,37 @@
-//! The parameters of a tile-component of a stream.
+//! The tiles of a stream, and the parameters of a tile-component.
 
-ghost use Rattle.std.specs.Prelude.{◌≡◌};
+ghost use Rattle.std.specs.Prelude.{◌≡◌, ◌<◌, length};
 ghost use Rattle.jx_geom.specs.Ranges.{HasBand};
+ghost use Rattle.jx_codestream.specs.First.{tile_number};
+ghost use Rattle.jx_codestream.specs.InRange.{StreamInRange};
 ghost use Rattle.jx_codestream.specs.Params.{header_of, params_of, planes_at, step_of};
+ghost use Rattle.jx_codestream.specs.Shapes.{tile_at};
 
 use crate::component::{params_by, planes_by, step_by};
 use crate::index::Index;
-use crate::{Params, Stream};
+use crate::{Params, Stream, Tile};
 use jx_base::Band;
 use jx_marker::Segment;
 
 impl Stream {
-    pub(crate) fn header(&self, tile: u16) -> &[Segment]
+    /// How many tiles the picture has, at most 65,535 (T.800, B.3).
+    pub fn tile_count(&self) -> u16
+        requires { StreamInRange self.now }
+        ensures { result ≡ tile_number self.now.siz }
+    {
+        self.tiles.as_slice().len() as u16
+    }
+
+    /// The tile of a number.
+    pub fn tile(&self, tile: u16) -> &Tile
+        requires { tile < length self.now.tiles }
+        ensures { result.now ≡ tile_at self.now tile }
+    {
+        &self.tiles.as_slice()[usize::from(tile)]
+    }
+
+    /// The segments of the header of a tile's first tile-part (T.800, A.3); none where the tile isn't there.
+    pub fn header(&self, tile: u16) -> &[Segment]
         ensures { result.now ≡ header_of self.now tile }
     {
         match self.tiles.as_slice().get(usize::from(tile)) {

@@ -22,6 +22,7 @@ use crate::headers::{Header, HeaderKind, fault_of, read_header, violated};
 use crate::index::Index;
 use crate::parts::{Part, has_marker, read_parts};
 use crate::tiles::tiles_of;
+use crate::view::comps_of;
 use crate::{Segments, Stream, StreamFault, Tile, Tiles, slots};
 use jx_geom::{Canvas, tiles};
 use jx_marker::codes::{SIZ, SOC};
@@ -206,7 +207,7 @@ fn count_comps(siz: &Siz) -> u16
     requires { siz_fits siz.now ≡ true }
     ensures { result ≡ length siz.now.comps }
 {
-    siz.comps.as_slice().len() as u16
+    comps_of(siz)
 }
 
 /// The stream after its SIZ.

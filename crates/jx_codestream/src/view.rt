@@ -64,8 +64,8 @@ impl<'a> Model for TileView<'a> {
         × (held_or t.shapes (shapes_in (with_own t.main.now [])) ≡ shapes_in (with_own t.main.now t.own.segments.now)) };
 }
 
-/// How many components there are.
-fn count_of(siz: &Siz) -> u16
+/// How many components a picture has, at most 16,384.
+pub fn comps_of(siz: &Siz) -> u16
     requires { length siz.now.comps ≤ 16384 }
     ensures { result ≡ length siz.now.comps }
 {
@@ -114,7 +114,7 @@ fn shapes_of(
     ensures { IfOk result (λ shapes. shapes.items ≡ shapes_in (record { siz = siz.now; main = main.now.segments.now; own = own.now.segments.now })) }
 {
     let mut shapes = Vec::new(alloc);
-    for comp in 0..count_of(siz) {
+    for comp in 0..comps_of(siz) {
         shapes.push(comp_shape(siz, own, main, comp))?;
     }
     Ok(shapes)
@@ -126,7 +126,7 @@ impl<'a> MainView<'a> {
         requires { length siz.now.comps ≤ 16384 }
         ensures { IfOk result (λ view. view ≡ record { siz = siz.entry.now; main = main.entry.now }) }
     {
-        let index = Index::new(alloc, main, count_of(siz))?;
+        let index = Index::new(alloc, main, comps_of(siz))?;
         let shapes = shapes_of(alloc, siz, &Index::listed(&[]), &index)?;
         Ok(MainView { siz, index, shapes })
     }
@@ -136,7 +136,7 @@ impl<'a> MainView<'a> {
         ensures value { result ≡ length self.now.siz.comps }
         ensures bound { result ≤ 16384 }
     {
-        count_of(self.siz)
+        comps_of(self.siz)
     }
 
     fn siz(&self) -> &Siz

@@ -13,7 +13,7 @@ use Rattle.jx_codestream.specs.First.{canvas_of, tile_number}
 use Rattle.jx_codestream.specs.Params.{planes_at}
 use Rattle.jx_codestream.specs.Shapes.{geometry, shapes_of, style_of}
 use Rattle.jx_tier2_reader.specs.BlockOf.{AreBlocksOf, IsBlockOf, IsFoundOf}
-use Rattle.jx_tier2_reader.proofs.TotalLemmas.{blocks_are}
+use Rattle.jx_tile.proofs.TotalLemmas.{blocks_are}
 use Rattle.jx_generate.specs.Headers.{AreSizes, geometry_made}
 use Rattle.jx_generate.specs.Plain.{IsPlain}
 use Rattle.jx_generate.specs.Reading.{stream_made}

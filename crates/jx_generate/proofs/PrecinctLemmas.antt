@@ -17,7 +17,7 @@ use Rattle.jx_packet_header.specs.LeavesFit.{AllShort, FitBand, FitBands, FitsLe
 use Rattle.jx_packet_header.proofs.PlanLemmas.{fit_range}
 use Rattle.jx_packet_header.specs.Precinct.{AreBandCells, CellsInRange, IsBandCells, cells_in}
 use Rattle.jx_packet_header.specs.Written.{Leafed}
-use Rattle.jx_tier2_reader.specs.Cells.{sizes_of}
+use Rattle.jx_tile.specs.Cells.{sizes_of}
 use Rattle.jx_tier2_reader.proofs.CellLemmas.{pick, size_is}
 use Rattle.jx_generate.specs.Drawn.{state_before}
 use Rattle.jx_generate.specs.Headers.{AreSizes, geometry_made}

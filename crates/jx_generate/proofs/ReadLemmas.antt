@@ -17,8 +17,8 @@ use Rattle.jx_codestream.specs.Spells.{AreSegments, IsTilePart, Spells, first_so
 use Rattle.jx_codestream.specs.Tiles.{tile_of, tiles_of}
 use Rattle.std.specs.Prelude.{nat_lt}
 use Rattle.std.specs.Option.{option_or}
-use Rattle.jx_tier2_reader.specs.Faults.{passed}
-use Rattle.jx_tier2_reader.specs.Totals.{block_total, packet_total, tile_packets, totals_fault}
+use Rattle.jx_tile.specs.Faults.{passed}
+use Rattle.jx_tile.specs.Totals.{block_total, packet_total, tile_packets, totals_fault}
 use Rattle.jx_generate.specs.Headers.{AreSizes, canvas_made, geometry_made, main_made, siz_made}
 use Rattle.jx_generate.specs.Made.{file_with, part_with}
 use Rattle.jx_generate.specs.Reading.{stream_made, tile_made}

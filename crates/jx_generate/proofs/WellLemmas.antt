@@ -9,7 +9,7 @@ use Rattle.jx_codestream.specs.declared.Stream.{Stream}
 use Rattle.jx_codestream.specs.First.{tile_number}
 use Rattle.jx_codestream.specs.Read.{IsRead}
 use Rattle.jx_tier2_reader.specs.Accepted.{IsAccepted}
-use Rattle.jx_tier2_reader.specs.Gathered.{IsListOf, IsWhole}
+use Rattle.jx_tile.specs.Covered.{IsListOf, IsWhole}
 use Rattle.jx_tier2_reader.specs.WellFormed.{IsWellFormed}
 use Rattle.jx_tier2_reader.specs.Written.{IsLaid, laid_blocks}
 use Rattle.jx_tier2_reader.proofs.LaidTiles.{laid_gathered}

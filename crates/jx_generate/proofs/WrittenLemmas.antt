@@ -23,7 +23,8 @@ use Rattle.jx_progression.specs.Steps.{name_of}
 use Rattle.jx_codestream.specs.declared.Stream.{Stream}
 use Rattle.jx_codestream.specs.Params.{planes_at, planes_of, number_of}
 use Rattle.jx_codestream.specs.Shapes.{geometry, layers_of, style_of}
-use Rattle.jx_tier2_reader.specs.Cells.{fresh_precinct, precinct_bands, sizes_of}
+use Rattle.jx_tile.specs.Cells.{precinct_bands, sizes_of}
+use Rattle.jx_tier2_reader.specs.Fresh.{fresh_precinct}
 use Rattle.jx_tier2_reader.specs.Written.{AreFilled, AreWritten, IsWritten, bytes_from, packet_bytes}
 use Rattle.jx_tier2_reader.proofs.PlannedLemmas.{parts_of_pieces}
 use Rattle.jx_generate.specs.Drawn.{state_before}

@@ -11,7 +11,7 @@ use Rattle.jx_packet_header.specs.Written.{Leafed}
 use Rattle.jx_packet_header.specs.LeavesFit.{header_at}
 use Rattle.jx_codestream.specs.Spells.{TilePart, file_bytes}
 use Rattle.jx_tier2_reader.specs.BlockOf.{pieces_at}
-use Rattle.jx_tier2_reader.specs.Cells.{sizes_of}
+use Rattle.jx_tile.specs.Cells.{sizes_of}
 use Rattle.jx_tier2_reader.specs.Planned.{part_in}
 use Rattle.jx_generate.specs.Drawn.{Drawn, block_drawn}
 use Rattle.jx_generate.specs.Headers.{geometry_made, main_made, siz_made}

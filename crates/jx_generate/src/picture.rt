@@ -5,7 +5,7 @@ ghost use Rattle.std.specs.List.{All};
 ghost use Rattle.jx_geom.specs.Leaves.{AreLeaves};
 ghost use Rattle.jx_geom.specs.Precincts.{cells_at, leaf_number, leaves};
 ghost use Rattle.jx_geom.specs.Ranges.{HasBand};
-ghost use Rattle.jx_tier2_reader.specs.Cells.{sizes_of};
+ghost use Rattle.jx_tile.specs.Cells.{sizes_of};
 ghost use Rattle.jx_tier2_reader.specs.Planned.{part_in};
 ghost use Rattle.jx_packet_header.specs.Leafs.{leaf_of};
 ghost use Rattle.jx_generate.specs.Drawn.{block_drawn};
@@ -16,9 +16,10 @@ ghost use Rattle.jx_generate.specs.Values.{drawn_of, piece_of};
 
 use crate::drawing::{DrawnBlock, DrawnPiece, draw_blocks};
 use crate::geometry::{count, geometry};
-use jx_base::{Band, NoMemory, Rect, Style};
+use jx_base::{Band, NoMemory, Style};
 use jx_geom::{Leaves, TileGeom};
 use jx_packet_header::{BandCells, Leaf, Part, PrecinctOut};
+use jx_tile::sizes_of;
 use std::alloc::Global;
 use std::marker::Model;
 
@@ -95,26 +96,6 @@ fn leaf_from(alloc: Global, block: &DrawnBlock, leaf: u32) -> Result<Leaf, NoMem
         zero: block.zero,
         parts,
     })
-}
-
-/// How many blocks some cells of a band are, side by side and one above another.
-fn sizes_of(cells: Rect) -> BandCells
-    ensures { result ≡ sizes_of cells 13 }
-{
-    let wide = cells.x.high.saturating_sub(cells.x.low);
-    let high = cells.y.high.saturating_sub(cells.y.low);
-    if wide == 0 || high == 0 {
-        return BandCells {
-            wide: 0,
-            high: 0,
-            planes: 13,
-        };
-    }
-    BandCells {
-        wide,
-        high,
-        planes: 13,
-    }
 }
 
 impl Picture {
@@ -202,25 +183,21 @@ impl Picture {
         requires band { HasBand res band }
         ensures { OnOk result (bands.new.items ≡ bands.old.items ++ sizes_of (cells_at (geometry_made self.now.width self.now.height) comp res 0 band) 13 ∷ []) }
     {
-        bands.push(sizes_of(self.geom.blocks(comp, res, band, 0)))?;
+        bands.push(sizes_of(self.geom.blocks(comp, res, band, 0), 13))?;
         Ok(())
     }
 
     /// How many blocks each band of a resolution has.
-    #[tactic(auto, unfolding(crate::specs::Made::bands_made))]
     fn bands(&self, alloc: Global, comp: u16, res: u8) -> Result<Vec<BandCells>, NoMemory>
         requires comp { comp < 3 }
         requires res { res ≤ 5 }
         ensures { IfOk result (λ bands. bands.items ≡ bands_made self.now.width self.now.height comp res) }
     {
         let mut bands = Vec::new(alloc);
-        if res == 0 {
-            self.push_band(comp, res, Band::LL, &mut bands)?;
-            return Ok(bands);
+        let kinds = Band::of_resolution(res);
+        for band in kinds {
+            self.push_band(comp, res, *band, &mut bands)?;
         }
-        self.push_band(comp, res, Band::HL, &mut bands)?;
-        self.push_band(comp, res, Band::LH, &mut bands)?;
-        self.push_band(comp, res, Band::HH, &mut bands)?;
         Ok(bands)
     }
 

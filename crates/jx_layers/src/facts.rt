@@ -11,14 +11,6 @@ use jx_base::{Block, NoMemory};
 use jx_codestream::{MainView, Stream};
 use std::alloc::Global;
 
-/// How many tiles the picture has, at most 65,535.
-pub fn tile_count(stream: &Stream) -> u16
-    requires { StreamInRange stream.now }
-    ensures { result ≡ tile_number stream.now.siz }
-{
-    stream.tiles.as_slice().len() as u16
-}
-
 /// The layers of a tile.
 fn layers_of(
     alloc: Global,
@@ -43,7 +35,7 @@ fn most_layers(alloc: Global, stream: &Stream, main: &MainView<'_>) -> Result<u1
     ensures { IfOk result (λ most. most ≡ most_layers stream.now) }
 {
     let mut most = 0;
-    for tile in 0..tile_count(stream) {
+    for tile in 0..stream.tile_count() {
         let layers = layers_of(alloc, stream, main, tile)?;
         if layers > most {
             most = layers;

@@ -20,7 +20,7 @@ pub use asking::ask_jobs;
 pub use causal::{first_broken, style_for};
 pub use crowded::first_crowded;
 pub use cutting::CutLayers;
-pub use facts::{facts_of, tile_count};
+pub use facts::facts_of;
 pub use keep::{KeepLayers, OneLayer};
 pub use lending::shortened;
 pub use planes::PlaneLayers;

@@ -13,9 +13,9 @@ use Rattle.jx_codestream.specs.declared.Stream.{Stream}
 use Rattle.jx_codestream.specs.First.{tile_number}
 use Rattle.jx_codestream.specs.InRange.{StreamInRange}
 use Rattle.jx_codestream.specs.Shapes.{geometry, layers_of, shapes_of, tile_at}
-use Rattle.jx_tier2_reader.specs.Totals.{packet_total, totals_fault}
+use Rattle.jx_tile.specs.Totals.{packet_total, totals_fault}
 use Rattle.jx_tier2_reader.proofs.CoverEither.{search_first}
-use Rattle.jx_tier2_reader.proofs.TotalLemmas.{geometry_fits}
+use Rattle.jx_tile.proofs.TotalLemmas.{geometry_fits}
 use Rattle.jx_options.specs.declared.PartChoice.{PartChoice}
 use Rattle.jx_plan.specs.declared.faults.PlanFault.{PlanFault}
 use Rattle.jx_plan.specs.declared.faults.PlanFault.TheVariants as fault

@@ -13,7 +13,7 @@ use Rattle.jx_codestream.specs.declared.Stream.{Stream}
 use Rattle.jx_codestream.specs.First.{canvas_of, tile_number}
 use Rattle.jx_codestream.specs.Params.{planes_at}
 use Rattle.jx_codestream.specs.Shapes.{shapes_of, geometry, layers_of, style_of}
-use Rattle.jx_tier2_reader.specs.Totals.{block_total}
+use Rattle.jx_tile.specs.Totals.{block_total}
 use Rattle.jx_tier2_reader.specs.Another.{rect_in, HaveSameBlocks}
 use Rattle.jx_plan.proofs.SameLemmas.{same_of_all}
 

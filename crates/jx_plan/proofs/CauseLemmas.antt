@@ -7,7 +7,7 @@ use Rattle.jx_base.specs.declared.style.Style.{Style}
 use Rattle.jx_base.proofs.Lists.{some_none}
 use Rattle.jx_codestream.specs.declared.Stream.{Stream}
 use Rattle.jx_codestream.specs.First.{tile_number}
-use Rattle.jx_tier2_reader.specs.Totals.{packet_total}
+use Rattle.jx_tile.specs.Totals.{packet_total}
 use Rattle.jx_codeblock.specs.Written.{block_asked}
 use Rattle.jx_options.specs.declared.PartChoice.{PartChoice}
 use Rattle.jx_plan.specs.declared.faults.PlanFault.{PlanFault}

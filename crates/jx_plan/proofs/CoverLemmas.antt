@@ -10,7 +10,7 @@ use Rattle.jx_codestream.specs.Tiles.{entry_of}
 use Rattle.jx_codestream.specs.First.{tile_number}
 use Rattle.jx_codestream.specs.Shapes.{geometry, layers_of}
 use Rattle.jx_codestream.specs.InRange.{StreamInRange}
-use Rattle.jx_tier2_reader.specs.Gathered.{IsWhole}
+use Rattle.jx_tile.specs.Covered.{IsWhole}
 use Rattle.jx_plan.specs.Headers.{Asked, MayBeAsked, cod_written, stream_written}
 use Rattle.jx_plan.specs.Fits.{first_zero}
 use Rattle.jx_plan.specs.Standing.{HeadersStand}

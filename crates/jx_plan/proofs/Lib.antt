@@ -22,6 +22,5 @@ mod ChosenLemmas
 mod AnswerLemmas
 mod PlannedLemmas
 mod FitLemmas
-pub mod ListedLemmas
 pub mod GroupLemmas
 mod PartedLemmas

@@ -1,14 +1,14 @@
 -- Tiles that are cut into few tile-parts, or many.
-use Rattle.std.proofs.Common.{◌≡◌, ◌≤◌, ap, subst, arith, false, nat_lt, ℕ, List, length}
+use Rattle.std.proofs.Common.{◌≡◌, ◌≤◌, ap, subst, arith, false, true, nat_lt, ℕ, List, length}
 use Rattle.std.proofs.lemmas.Bool.Decides.{nat_tests}
 use Rattle.jx_progression.specs.declared.names.PacketName.{PacketName}
 use Rattle.jx_progression.proofs.OrderLemmas.{one_order}
 use Rattle.jx_codestream.specs.declared.Stream.{Stream}
 use Rattle.jx_codestream.specs.Shapes.{geometry, layers_of, tile_at}
-use Rattle.jx_tier2_reader.specs.Gathered.{IsListOf}
+use Rattle.jx_tile.specs.Covered.{IsListOf}
 use Rattle.jx_options.specs.declared.PartChoice.{PartChoice}
 use Rattle.jx_options.specs.declared.PartChoice.TheVariants as part
-use Rattle.jx_plan.specs.Groups.{HasFewParts, groups_of, most_parts}
+use Rattle.jx_plan.specs.Groups.{HasFewParts, HasManyParts, groups_of, most_parts}
 use Rattle.jx_plan.proofs.GroupLemmas.{one_group}
 
 -- a tile has one list of packets
@@ -26,3 +26,6 @@ few_undivided s t = λ names is.
 -- the count that was made isn't over the most
 pub not_over : (parts : PartChoice) (names : List PacketName) (count : ℕ) → count ≡ length (groups_of parts names) → nat_lt most_parts count ≡ false → length (groups_of parts names) ≤ most_parts
 not_over parts names count is under = grind (arith, nat_tests)
+
+pub many_by : (parts : PartChoice) (s : Stream) (t : ℕ) (names : List PacketName) (count : ℕ) → IsListOf s t names → count ≡ length (groups_of parts names) → nat_lt most_parts count ≡ true → HasManyParts parts s t
+many_by parts s t names count order is over = record { names = names; order = order; many = grind (arith, nat_tests) }

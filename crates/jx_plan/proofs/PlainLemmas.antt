@@ -16,8 +16,8 @@ use Rattle.jx_codestream.specs.Tiles.{joined, entry_in, or_list, in_slot}
 use Rattle.jx_codestream.specs.Params.{cod_of, cod_or, header_in, header_of}
 use Rattle.jx_codestream.specs.Spells.{AreSegments}
 use Rattle.jx_codestream.specs.Shapes.{tile_at, no_tile}
-use Rattle.jx_tier2_reader.specs.Faults.{passed}
-use Rattle.jx_tier2_reader.specs.Totals.{block_total, packet_total, totals_fault}
+use Rattle.jx_tile.specs.Faults.{passed}
+use Rattle.jx_tile.specs.Totals.{block_total, packet_total, totals_fault}
 use Rattle.jx_plan.specs.Headers.{Asked, MayBeAsked, cod_written, written, is_written, all_written, tile_header, stream_written}
 use Rattle.jx_plan.specs.Asides.{is_plt}
 use Rattle.jx_plan.specs.Fits.{Fits, first_zero}

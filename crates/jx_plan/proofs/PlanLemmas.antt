@@ -21,10 +21,11 @@ use Rattle.jx_codestream.specs.InRange.{StreamInRange}
 use Rattle.jx_tier2_reader.specs.BlockOf.{AreBlocksOf, IsBlockOf, IsFoundOf}
 use Rattle.jx_codestream.specs.Read.{IsRead}
 use Rattle.jx_codestream.proofs.RangeLemmas.{read_in_range}
-use Rattle.jx_tier2_reader.specs.Gathered.{IsGathered, IsWhole}
+use Rattle.jx_tile.specs.Covered.{IsWhole}
+use Rattle.jx_tier2_reader.specs.Gathered.{IsGathered}
 use Rattle.jx_tier2_reader.proofs.BlockOfLemmas.{blocks_of_stream}
 use Rattle.jx_tier2_reader.proofs.SoundLemmas.{sound_gathered}
-use Rattle.jx_tier2_reader.specs.Totals.{block_total, packet_total, totals_fault}
+use Rattle.jx_tile.specs.Totals.{block_total, packet_total, totals_fault}
 use Rattle.jx_layers.specs.Causal.{breaks_plane, first_broken}
 use Rattle.jx_layers.specs.Facts.{most_layers}
 use Rattle.jx_plan.specs.Fits.{Fits}
@@ -35,7 +36,7 @@ use Rattle.jx_plan.specs.Plan.{MayBePlanned, asked_of, headers_with, most_packet
 use Rattle.jx_options.specs.Wanted.{MayBeStyle, MayBeWanted, Wanted}
 use Rattle.jx_plan.proofs.BlockLemmas.{blocks_are}
 use Rattle.jx_plan.proofs.ReadLemmas.{read_stands}
-use Rattle.jx_tier2_reader.specs.Faults.{passed}
+use Rattle.jx_tile.specs.Faults.{passed}
 use Rattle.jx_plan.specs.Standing.{HeadersStand}
 use Rattle.jx_plan.proofs.CoverLemmas.{written_whole}
 use Rattle.jx_plan.proofs.PlainLemmas.{blocks_pass, totals_plain}

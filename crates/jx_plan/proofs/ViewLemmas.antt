@@ -14,9 +14,9 @@ use Rattle.jx_progression.specs.Packets.{AreCovered}
 use Rattle.jx_codestream.specs.declared.Stream.{Stream}
 use Rattle.jx_codestream.specs.First.{canvas_of, tile_number}
 use Rattle.jx_codestream.specs.Shapes.{shapes_of, geometry, layers_of, tile_at}
-use Rattle.jx_tier2_reader.specs.Totals.{block_total, tile_packets, packet_total, totals_fault}
+use Rattle.jx_tile.specs.Totals.{block_total, tile_packets, packet_total, totals_fault}
 use Rattle.jx_tier2_reader.specs.Another.{HasSameBlock, HaveSameBlocks}
-use Rattle.jx_tier2_reader.specs.Gathered.{IsWhole}
+use Rattle.jx_tile.specs.Covered.{IsWhole}
 use Rattle.jx_plan.specs.Headers.{Asked, stream_written}
 use Rattle.jx_plan.specs.Asides.{IsWithMore}
 use Rattle.jx_plan.specs.Fits.{Fits}

@@ -8,7 +8,7 @@ use Rattle.jx_base.specs.Sound.{IsSound}
 use Rattle.jx_codestream.specs.declared.Stream.{Stream}
 use Rattle.jx_codestream.specs.InRange.{StreamInRange}
 use Rattle.jx_tier2_reader.specs.BlockOf.{AreBlocksOf}
-use Rattle.jx_tier2_reader.specs.Totals.{packet_total, totals_fault}
+use Rattle.jx_tile.specs.Totals.{packet_total, totals_fault}
 use Rattle.jx_codeblock.specs.declared.job.Job.{Job}
 use Rattle.jx_codeblock.specs.declared.LayerEnd.{LayerEnd}
 use Rattle.jx_codeblock.specs.Jobs.{IsAsked}

@@ -5,7 +5,7 @@ use Rattle.jx_base.specs.declared.pieces.Block.{Block}
 use Rattle.jx_base.specs.declared.style.Style.{Style}
 use Rattle.jx_codeblock.specs.declared.job.Job.{Job}
 use Rattle.jx_codestream.specs.declared.Stream.{Stream}
-use Rattle.jx_tier2_reader.specs.Totals.{packet_total}
+use Rattle.jx_tile.specs.Totals.{packet_total}
 use Rattle.jx_layers.specs.declared.StreamFacts.{StreamFacts}
 use Rattle.jx_plan.specs.declared.faults.PlanFault.{PlanFault}
 use Rattle.jx_plan.specs.declared.faults.PlanFault.TheVariants as fault

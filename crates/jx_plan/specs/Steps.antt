@@ -7,7 +7,7 @@ use Rattle.jx_marker.specs.declared.Segment.{Segment}
 use Rattle.jx_marker.specs.declared.Segment.TheVariants as segment
 use Rattle.jx_codestream.specs.declared.Stream.{Stream}
 use Rattle.jx_codestream.specs.Params.{header_of}
-use Rattle.jx_tier2_reader.specs.Totals.{packet_total}
+use Rattle.jx_tile.specs.Totals.{packet_total}
 use Rattle.jx_codeblock.specs.declared.job.Job.{Job}
 use Rattle.jx_plan.specs.declared.faults.PlanFault.{PlanFault}
 use Rattle.jx_plan.specs.declared.faults.PlanFault.TheVariants as fault

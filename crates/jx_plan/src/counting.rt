@@ -1,7 +1,7 @@
 //! How many packets and tile-parts are written.
 
 ghost use Rattle.std.specs.Prelude.{◌≡◌, ◌<◌, ◌≤◌, ℕ, IfErr, IfOk, OnOk, None};
-ghost use Rattle.jx_tier2_reader.specs.Totals.{packet_total, totals_fault};
+ghost use Rattle.jx_tile.specs.Totals.{packet_total, totals_fault};
 ghost use Rattle.jx_codestream.specs.First.{tile_number};
 ghost use Rattle.jx_codestream.specs.InRange.{StreamInRange};
 ghost use Rattle.jx_plan.specs.Fits.{Fits};
@@ -17,7 +17,7 @@ use crate::parting::first_parted;
 use jx_base::NoMemory;
 use jx_codestream::Stream;
 use jx_options::Options;
-use jx_tier2_reader::count_all;
+use jx_tile::count_all;
 use std::alloc::Global;
 
 /// The packets of a stream, one for each precinct and layer (ITU-T T.800, B.9): what limit 7 speaks of where the stream is

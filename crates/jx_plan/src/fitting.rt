@@ -8,7 +8,7 @@ ghost use Rattle.jx_geom.specs.Same.{AllSameBlocks, SameBlocks};
 ghost use Rattle.jx_marker.specs.Rules.{has_zero_exponent};
 ghost use Rattle.jx_codestream.specs.First.{tile_number};
 ghost use Rattle.jx_codestream.specs.InRange.{StreamInRange};
-ghost use Rattle.jx_codestream.specs.Params.{header_of, precincts_of};
+ghost use Rattle.jx_codestream.specs.Params.{precincts_of};
 ghost use Rattle.jx_options.specs.Choices.{bytes_in};
 ghost use Rattle.jx_plan.specs.Fits.{AreUnfit, Fits, IsChangedAt, KeepsBlocks, first_zero, has_zero, shape_has_zero, tile_has_zero};
 ghost use Rattle.jx_plan.specs.Headers.{bytes_for, comp_written, item_at};
@@ -19,7 +19,6 @@ use crate::PlanFault;
 use jx_base::NoMemory;
 use jx_codestream::{MainView, Stream, Tile};
 use jx_geom::CompShape;
-use jx_layers::tile_count;
 use jx_marker::{Segment, Shape};
 use jx_options::PrecinctChoice;
 use std::alloc::Global;
@@ -190,16 +189,6 @@ fn tile_keeps(
     Ok(all_keep(view.shapes(), items))
 }
 
-/// The segments of the header of a tile's first tile-part.
-fn header_of(stream: &Stream, tile: u16) -> &[Segment]
-    ensures { result.now ≡ header_of stream.now tile }
-{
-    match stream.tiles.as_slice().get(usize::from(tile)) {
-        Some(tile) => tile.header.as_slice(),
-        None => &[],
-    }
-}
-
 /// A COD or COC is there.
 fn has_coding(header: &[Segment]) -> bool
     ensures { result ≡ list_any is_coding header.now }
@@ -227,7 +216,7 @@ fn known_keeps(
     requires known { IsKnown known (Some items.now) stream.now }
     ensures { IfOk result (λ keeps. Decides keeps (KeepsBlocks (Some items.now) stream.now tile)) }
 {
-    if known && !has_coding(header_of(stream, tile)) {
+    if known && !has_coding(stream.header(tile)) {
         return Ok(true);
     }
     tile_keeps(alloc, stream, main, tile, items)
@@ -251,11 +240,11 @@ fn first_changed(alloc: Global, stream: &Stream, items: &[u8]) -> Result<Option<
 {
     let main = stream.main_view(alloc)?;
     let mut known = false;
-    for tile in 0..tile_count(stream) {
+    for tile in 0..stream.tile_count() {
         if !known_keeps(alloc, stream, &main, tile, items, known)? {
             return Ok(Some(tile));
         }
-        known = is_known(known, header_of(stream, tile));
+        known = is_known(known, stream.header(tile));
     }
     Ok(None)
 }

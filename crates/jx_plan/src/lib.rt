@@ -13,5 +13,5 @@ mod planning;
 pub use faults::PlanFault;
 pub use fitting::check_precincts;
 pub use out_stream::OutStream;
-pub use parting::{count_parts, names_of, part_end};
+pub use parting::{count_parts, part_end};
 pub use planning::{plan, plan_served};

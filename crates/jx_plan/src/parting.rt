@@ -1,76 +1,18 @@
 //! The packets of a tile, and where it is cut into tile-parts (ITU-T T.800, A.4.2 and B.12).
 
-ghost use Rattle.std.specs.Prelude.{◌≡◌, ◌∷◌, ◌<◌, ◌≤◌, ◌-◌, ◌^◌, false, true, ℕ, None, drop, length, take, IfOk, MatchOption};
-ghost use Rattle.std.specs.List.{All};
-ghost use Rattle.jx_progression.specs.Packets.{IsPacket};
+ghost use Rattle.std.specs.Prelude.{◌≡◌, ◌∷◌, ◌<◌, ◌≤◌, ◌-◌, false, true, ℕ, None, drop, length, take, IfOk, MatchOption};
 ghost use Rattle.jx_codestream.specs.First.{tile_number};
 ghost use Rattle.jx_codestream.specs.InRange.{StreamInRange};
-ghost use Rattle.jx_codestream.specs.Params.{headers_at};
-ghost use Rattle.jx_codestream.specs.Shapes.{geometry, layers_of, tile_at};
-ghost use Rattle.jx_tier2_reader.specs.Gathered.{IsListOf, IsWhole};
-ghost use Rattle.jx_tier2_reader.specs.Totals.{totals_fault};
+ghost use Rattle.jx_tile.specs.Covered.{IsWhole};
+ghost use Rattle.jx_tile.specs.Totals.{totals_fault};
 ghost use Rattle.jx_plan.specs.Groups.{HasFewParts, HasManyParts, IsPartedAt, groups_of, key_of, more_groups};
 
 use jx_base::NoMemory;
-use jx_codestream::{MainView, Stream, Tile, TileView};
-use jx_geom::TileGeom;
-use jx_layers::tile_count;
+use jx_codestream::{MainView, Stream};
 use jx_options::PartChoice;
-use jx_progression::{PacketName, packets};
+use jx_progression::PacketName;
+use jx_tile::TileFrame;
 use std::alloc::Global;
-
-/// A tile of a stream.
-fn tile_at(stream: &Stream, tile: u16) -> &Tile
-    requires { tile < length stream.now.tiles }
-    ensures { result.now ≡ tile_at stream.now tile }
-{
-    &stream.tiles.as_slice()[usize::from(tile)]
-}
-
-/// The geometry of a tile.
-fn geometry_of(
-    alloc: Global,
-    stream: &Stream,
-    view: &TileView<'_>,
-    tile: u16,
-) -> Result<TileGeom, NoMemory>
-    requires view { view.now ≡ headers_at stream.now tile }
-    requires range { StreamInRange stream.now }
-    requires totals { totals_fault stream.now ≡ None }
-    requires tile { tile < tile_number stream.now.siz }
-    ensures { IfOk result (λ geom. geom ≡ geometry stream.now tile) }
-{
-    TileGeom::new(alloc, &view.canvas(), tile, view.shapes())
-}
-
-/// The packets of a tile whose entries cover them all, at most 2^22, in the order in which they are sent.
-///
-/// # Errors
-///
-/// `NoMemory` where memory is refused.
-pub fn names_of(
-    alloc: Global,
-    stream: &Stream,
-    view: &TileView<'_>,
-    geom: &TileGeom,
-) -> Result<Vec<PacketName>, NoMemory>
-    requires view { view.now ≡ headers_at stream.now geom.now.tile }
-    requires range { StreamInRange stream.now }
-    requires totals { totals_fault stream.now ≡ None }
-    requires tile { geom.now.tile < tile_number stream.now.siz }
-    requires geometry { geom.now ≡ geometry stream.now geom.now.tile }
-    requires whole { IsWhole stream.now geom.now.tile }
-    ensures order { IfOk result (λ list. IsListOf stream.now geom.now.tile list.items) }
-    ensures each { IfOk result (λ list. All (IsPacket geom.now (layers_of stream.now geom.now.tile)) list.items) }
-    ensures few { IfOk result (λ list. length list.items ≤ 2 ^ 22) }
-{
-    let tile = tile_at(stream, geom.number());
-    match packets(alloc, geom, view.layers(), tile.progressions.as_slice()) {
-        Ok(list) => Ok(list),
-        // No packet is uncovered, so memory was refused.
-        Err(_) => Err(NoMemory),
-    }
-}
 
 /// What the packets of a tile-part have in common.
 fn key_of(name: PacketName, parts: PartChoice) -> u16
@@ -132,9 +74,12 @@ fn has_many(
     ensures few { IfOk result (λ many. many ≡ false → HasFewParts parts written.now tile) }
     ensures many { IfOk result (λ many. many ≡ true → HasManyParts parts written.now tile) }
 {
-    let view = written.tile_view(alloc, main, tile)?;
-    let geom = geometry_of(alloc, written, &view, tile)?;
-    let names = names_of(alloc, written, &view, &geom)?;
+    let frame = TileFrame::new(alloc, written, main, tile)?;
+    let names = match frame.names(alloc) {
+        Ok(names) => names,
+        // No packet is uncovered, so memory was refused.
+        Err(_) => return Err(NoMemory),
+    };
     Ok(count_parts(names.as_slice(), parts) > 255)
 }
 
@@ -157,7 +102,7 @@ pub(crate) fn first_parted(
         return Ok(None);
     }
     let main = written.main_view(alloc)?;
-    for tile in 0..tile_count(written) {
+    for tile in 0..written.tile_count() {
         if has_many(alloc, written, &main, tile, parts)? {
             return Ok(Some(tile));
         }

@@ -13,7 +13,7 @@ use crate::values::bare_values;
 use jx_base::{Block, NoMemory};
 use jx_codeblock::Recoded;
 use jx_codestream::{MainView, Stream};
-use jx_layers::{LayerPlanner, tile_count};
+use jx_layers::LayerPlanner;
 use jx_options::{Options, OrderChoice, PartChoice, PrecinctChoice};
 use jx_plan::{OutStream, plan};
 use jx_store::Entry;
@@ -221,7 +221,7 @@ fn is_kept_of(
     requires may { MayBePlanned stream.now blocks.now }
     requires wanted { MayBeWanted options.now }
 {
-    if tile_count(stream) != 1 {
+    if stream.tile_count() != 1 {
         return None;
     }
     match keeper(alloc) {

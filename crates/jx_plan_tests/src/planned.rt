@@ -10,7 +10,7 @@ use crate::hex::bytes_of;
 use jx_base::{Block, NoMemory, Style};
 use jx_codeblock::Job;
 use jx_codestream::{Stream, Tile, read_stream};
-use jx_layers::{CutLayers, KeepLayers, LayerPlanner, OneLayer, TableLayers, tile_count};
+use jx_layers::{CutLayers, KeepLayers, LayerPlanner, OneLayer, TableLayers};
 use jx_options::{Options, OrderChoice, PartChoice, PrecinctChoice};
 use jx_plan::{OutStream, PlanFault, plan, plan_served};
 use jx_tier2_reader::gather;
@@ -185,7 +185,7 @@ fn are_ends(jobs: &[Job<'_>], want: &[[u32; 3]]) -> bool {
 fn are_tiles(plan: &OutStream<'_>, want: &[(u32, u32)]) -> bool {
     // For what is known of its value.
     let _ = plan.jobs();
-    let count = tile_count(plan.stream());
+    let count = plan.stream().tile_count();
     for tile in 0..count {
         if want.get(usize::from(tile)) != Some(&plan.tile_jobs(tile)) {
             return false;

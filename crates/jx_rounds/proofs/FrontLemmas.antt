@@ -13,8 +13,8 @@ use Rattle.jx_base.proofs.Sums.{sum_below_more, sum_below_next}
 use Rattle.jx_base.specs.declared.pieces.Block.{Block}
 use Rattle.std.specs.Option.{option_or}
 use Rattle.jx_geom.specs.Numbering.{blocks_below}
-use Rattle.jx_tier2_reader.specs.Faults.{passed}
-use Rattle.jx_tier2_reader.specs.Totals.{block_total, packet_total, totals_fault}
+use Rattle.jx_tile.specs.Faults.{passed}
+use Rattle.jx_tile.specs.Totals.{block_total, packet_total, totals_fault}
 use Rattle.jx_codestream.specs.declared.faults.StreamFault.{StreamFault}
 use Rattle.jx_codestream.specs.declared.Stream.{Stream}
 use Rattle.jx_codestream.specs.First.{canvas_of, tile_number}

@@ -3,22 +3,13 @@
 ghost use Rattle.std.specs.Prelude.{◌≡◌, ◌≤◌, ◌<◌, ◌+◌, drop, length, take};
 ghost use Rattle.jx_workers.specs.Tapes.{AreAsked};
 ghost use Rattle.jx_codestream.specs.First.{tile_number};
-ghost use Rattle.jx_codestream.specs.InRange.{StreamInRange};
 ghost use Rattle.jx_plan.specs.Plan.{IsPlan, headers_of};
 ghost use Rattle.jx_tier2_writer.specs.Tile.{blocks_in};
 
 use jx_codeblock::Job;
-use jx_codestream::{MainView, Stream};
+use jx_codestream::MainView;
 use jx_plan::OutStream;
 use std::marker::Model;
-
-/// How many tiles the picture of a stream has, at most 65,535.
-fn tiles_of(stream: &Stream) -> u16
-    requires { StreamInRange stream.now }
-    ensures { result ≡ tile_number stream.now.siz }
-{
-    stream.tiles.as_slice().len() as u16
-}
 
 /// A plan, with the view of the main header that is written.
 #[derive(Drop)]
@@ -88,7 +79,7 @@ impl<'a, 'p> Making<'a, 'p> {
         ensures plan { IsPlan self.now }
     {
         let _ = self.plan.jobs();
-        tiles_of(self.plan.stream())
+        self.plan.stream().tile_count()
     }
 
     /// How many code-blocks a tile has.

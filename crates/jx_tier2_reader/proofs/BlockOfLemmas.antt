@@ -23,17 +23,19 @@ use Rattle.jx_codestream.specs.First.{canvas_of, tile_number}
 use Rattle.jx_codestream.specs.Params.{planes_at}
 use Rattle.jx_codestream.specs.Read.{IsRead}
 use Rattle.jx_codestream.specs.Shapes.{geometry, shapes_of, layers_of, style_of, tile_at}
-use Rattle.jx_tier2_reader.specs.Totals.{totals_fault}
-use Rattle.jx_tier2_reader.specs.Cells.{fresh_precinct, precinct_bands}
+use Rattle.jx_tile.specs.Totals.{totals_fault}
+use Rattle.jx_tile.specs.Cells.{precinct_bands}
+use Rattle.jx_tier2_reader.specs.Fresh.{fresh_precinct}
 use Rattle.jx_geom.specs.Precincts.{leaf_number}
 use Rattle.jx_tier2_reader.specs.Cuts.{Cut, Left, names_of}
 use Rattle.jx_tier2_reader.specs.Blocks.{Found, founds_of, own_founds, pieces_in, zero_from, block_of}
-use Rattle.jx_tier2_reader.specs.Gathered.{IsListOf, IsCutUp, AreTileBlocks, IsGathered, start}
+use Rattle.jx_tile.specs.Covered.{IsListOf}
+use Rattle.jx_tier2_reader.specs.Gathered.{IsCutUp, AreTileBlocks, IsGathered, start}
 use Rattle.jx_tier2_reader.specs.BlockOf.{pieces_at, AreCutAtEnds, IsBlockOf, IsFoundOf, AreBlocksOf}
 use Rattle.jx_tier2_reader.proofs.NumberLemmas.{precinct_there}
 use Rattle.jx_tier2_reader.proofs.BlockLemmas.{blocks_long, block_there}
 use Rattle.jx_tier2_reader.proofs.PartLemmas.{known_in}
-use Rattle.jx_tier2_reader.proofs.TotalLemmas.{blocks_are}
+use Rattle.jx_tile.proofs.TotalLemmas.{blocks_are}
 use Rattle.jx_tier2_reader.proofs.TrackLemmas.{start_follow, FromLeaf}
 use Rattle.jx_tier2_reader.proofs.LayersFew.{in_layer, Walk, layer_few, below_of, below_own}
 use Rattle.jx_tier2_reader.proofs.CutRuns.{cut_over}

@@ -11,7 +11,8 @@ use Rattle.jx_packet_header.specs.Packet.{unknown_block}
 use Rattle.jx_packet_header.specs.Precinct.{cells_in, fresh_bands, fresh_cells, all_blocks}
 use Rattle.jx_codestream.specs.declared.Stream.{Stream}
 use Rattle.jx_codestream.specs.Params.{planes_at}
-use Rattle.jx_tier2_reader.specs.Cells.{sizes_of, precinct_bands, fresh_precinct}
+use Rattle.jx_tile.specs.Cells.{sizes_of, precinct_bands}
+use Rattle.jx_tier2_reader.specs.Fresh.{fresh_precinct}
 use Rattle.jx_geom.specs.Precincts.{cells_at}
 use Rattle.jx_geom.specs.Precincts.{leaves, leaves_in}
 use Rattle.jx_base.specs.Bands.{bands_at}

@@ -27,11 +27,12 @@ use Rattle.jx_codestream.specs.declared.faults.StreamFault.{StreamFault}
 use Rattle.jx_codestream.specs.declared.faults.StreamFault.TheVariants as fault
 use Rattle.jx_codestream.specs.Read.{IsRead}
 use Rattle.jx_codestream.specs.Shapes.{geometry, layers_of, tile_at}
-use Rattle.jx_tier2_reader.specs.Totals.{totals_fault}
+use Rattle.jx_tile.specs.Totals.{totals_fault}
 use Rattle.jx_tier2_reader.specs.Data.{window, due, behind, end_of_data, sop_fault, header_in, front_length, parts_length, body_fault}
 use Rattle.jx_tier2_reader.specs.Cuts.{Cut, Left, IsCut, BreaksHeader, Breaks, IsTurn, AreCuts, names_of, number_of, Stops}
 use Rattle.jx_tier2_reader.specs.Blocks.{founds_of, tile_blocks}
-use Rattle.jx_tier2_reader.specs.Gathered.{IsListOf, IsWhole, IsCutUp, AreTileBlocks, BreaksTile, start}
+use Rattle.jx_tile.specs.Covered.{IsListOf, IsWhole}
+use Rattle.jx_tier2_reader.specs.Gathered.{IsCutUp, AreTileBlocks, BreaksTile, start}
 use Rattle.jx_tier2_reader.specs.Either.{HasBlocks, HasFault}
 use Rattle.jx_codestream.specs.InRange.{StreamInRange}
 use Rattle.jx_codestream.proofs.RangeLemmas.{read_in_range}
@@ -41,7 +42,7 @@ use Rattle.jx_tier2_reader.proofs.TileLemmas.{cuts_on, names_on as names_more}
 use Rattle.jx_tier2_reader.proofs.TurnLemmas.{Precincts, Keeps, Listed, Known, listed, known_there, has_precinct, due_named}
 use Rattle.jx_tier2_reader.proofs.OnceLemmas.{Ready}
 use Rattle.jx_tier2_reader.proofs.ReadyLemmas.{ready}
-use Rattle.jx_tier2_reader.proofs.TotalLemmas.{geometry_fits}
+use Rattle.jx_tile.proofs.TotalLemmas.{geometry_fits}
 use Rattle.jx_tier2_reader.proofs.CoverEither.{search_first, cover_or}
 
 -- ---- a header

@@ -29,10 +29,10 @@ use Rattle.jx_codestream.specs.First.{canvas_of, tile_number}
 use Rattle.jx_codestream.specs.Params.{planes_at}
 use Rattle.jx_codestream.specs.Read.{IsRead}
 use Rattle.jx_codestream.specs.Shapes.{geometry, shapes_of, layers_of, style_of}
-use Rattle.jx_tier2_reader.specs.Totals.{totals_fault}
+use Rattle.jx_tile.specs.Totals.{totals_fault}
 use Rattle.jx_codestream.specs.InRange.{StreamInRange}
 use Rattle.jx_geom.specs.Precincts.{leaves, leaves_in as count_in}
-use Rattle.jx_tier2_reader.specs.Cells.{sizes_of, precinct_bands}
+use Rattle.jx_tile.specs.Cells.{sizes_of, precinct_bands}
 use Rattle.jx_geom.specs.Precincts.{HasPrecinct, cells_at, name_from, leaf_name, leaf_number}
 use Rattle.jx_tier2_reader.specs.BlockOf.{pieces_at, AreCutAtEnds, IsFoundOf, AreBlocksOf}
 use Rattle.jx_tier2_reader.specs.Carries.{block_in, part_of}
@@ -45,7 +45,7 @@ use Rattle.jx_tier2_reader.proofs.FewLemmas.{passes_cons as at_here}
 use Rattle.jx_tier2_reader.proofs.CarryLemmas.{layer_here, layer_past, layer_nothing}
 use Rattle.jx_tier2_reader.proofs.PlannedLemmas.{parts_of_pieces, leaves_long, sound_at}
 use Rattle.jx_codestream.proofs.RangeLemmas.{read_in_range}
-use Rattle.jx_tier2_reader.proofs.TotalLemmas.{geometry_fits}
+use Rattle.jx_tile.proofs.TotalLemmas.{geometry_fits}
 
 -- ---- the parts of a block
 passes_before_is : (layer j : ℕ) (qs : List PieceValue) → passes_before layer (map (part_in j) qs) ≡ passes_below layer qs

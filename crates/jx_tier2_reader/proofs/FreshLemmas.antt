@@ -13,7 +13,8 @@ use Rattle.jx_codestream.specs.First.{tile_number}
 use Rattle.jx_codestream.specs.Params.{planes_at}
 use Rattle.jx_codestream.specs.Shapes.{geometry, style_of}
 use Rattle.jx_codestream.specs.InRange.{StreamInRange}
-use Rattle.jx_tier2_reader.specs.Cells.{sizes_of, precinct_bands, fresh_precinct}
+use Rattle.jx_tile.specs.Cells.{sizes_of, precinct_bands}
+use Rattle.jx_tier2_reader.specs.Fresh.{fresh_precinct}
 use Rattle.jx_geom.specs.Precincts.{HasPrecinct, cells_at}
 use Rattle.jx_tier2_reader.proofs.CellLemmas.{bands_of, pick, cells_count}
 use Rattle.jx_geom.proofs.LeafLemmas.{Have, bands_have, leaves_limited}

@@ -9,13 +9,14 @@ use Rattle.jx_tier2_reader.proofs.SoundLemmas.{sound_blocks}
 use Rattle.jx_codestream.specs.declared.Stream.{Stream}
 use Rattle.jx_codestream.specs.First.{tile_number}
 use Rattle.jx_codestream.specs.declared.faults.StreamFault.{StreamFault}
-use Rattle.jx_tier2_reader.specs.Totals.{totals_fault}
+use Rattle.jx_tile.specs.Totals.{totals_fault}
 use Rattle.jx_codestream.specs.declared.faults.StreamFault.TheVariants as fault
-use Rattle.jx_tier2_reader.specs.Faults.{HasCause}
+use Rattle.jx_tile.specs.Faults.{HasCause}
 use Rattle.jx_codestream.specs.Read.{IsRead}
 use Rattle.jx_tier2_reader.specs.WellFormed.{IsWellFormed}
-use Rattle.jx_tier2_reader.specs.Gathered.{IsWhole, AreTileBlocks, IsGathered, IsUncovered, BreaksTile, BreaksData, IsBroken}
-use Rattle.jx_tier2_reader.specs.Joined.{IsGatheredTo, with_tile}
+use Rattle.jx_tile.specs.Covered.{IsUncovered, IsWhole, LacksPacket}
+use Rattle.jx_tier2_reader.specs.Gathered.{AreTileBlocks, IsGathered, BreaksTile, IsBroken}
+use Rattle.jx_tier2_reader.specs.Joined.{HasCuts, IsGatheredTo, RefusesTile, with_tile}
 use Rattle.jx_base.specs.Joined.{joined}
 use Rattle.jx_base.proofs.Joined.{joined_none, joined_next, joined_same}
 
@@ -51,27 +52,33 @@ pub gathered_all : (b : List ℕ) (s : Stream) (blocks : List Block) → ((t : �
     → IsGatheredTo b s (tile_number s.siz) blocks → IsGathered b s blocks
 gathered_all b s blocks whole done = record { whole = whole; tiles = done.tiles; are = done.are; blocks_are = done.blocks_are }
 
-pub tile_refused : (b : List ℕ) (s : Stream) (t : ℕ) (blocks : List Block) (f : StreamFault) → ((t : ℕ) → t < tile_number s.siz → IsWhole s t) → t < tile_number s.siz
-    → IsGatheredTo b s t blocks → BreaksTile b s t f → BreaksData b s f
-tile_refused b s t blocks f whole below done breaks = record {
-  whole = whole;
-  tile = t;
-  inside = below;
-  before = λ i h. ((done.are i h).0, (done.are i h).1);
-  breaks = breaks;
-}
+-- a refusal of a tile is one of the codestream, where the packets of all tiles are covered
+breaks_own : (b : List ℕ) (s : Stream) (t : ℕ) (f : StreamFault) → IsWhole s t → RefusesTile b s t f → BreaksTile b s t f
+breaks_own b s t f whole refused = elim refused [
+  | inl lacks ↦ absurd (lacks.some.2 (whole lacks.some.0 lacks.some.1))
+  | inr breaks ↦ breaks
+]
 
--- a refusal of a tile is one of the codestream
-pub cause_of_tile : (b : List ℕ) (s : Stream) (t : ℕ) (blocks : List Block) (e : StreamFault) → ((t : ℕ) → t < tile_number s.siz → IsWhole s t) → t < tile_number s.siz
-    → IsGatheredTo b s t blocks → HasCause (BreaksTile b s t) e → HasCause (BreaksData b s) e
-cause_of_tile b s t blocks (fault.Rule number place) whole below done breaks = tile_refused b s t blocks (fault.Rule number place) whole below done breaks
-cause_of_tile b s t blocks (fault.Limit number found) whole below done breaks = tile_refused b s t blocks (fault.Limit number found) whole below done breaks
-cause_of_tile b s t blocks fault.NoMemory whole below done breaks = tt
+tile_refused : (b : List ℕ) (s : Stream) (t : ℕ) (f : StreamFault) → totals_fault s ≡ None → t < tile_number s.siz → ((i : ℕ) → i < tile_number s.siz → IsWhole s i)
+    → ((i : ℕ) → i < t → HasCuts b s i) → RefusesTile b s t f → IsBroken b s f
+tile_refused b s t f none inside whole read refused =
+    inr (none, inr (record { whole = whole; tile = t; inside = inside; before = read; breaks = breaks_own b s t f (whole t inside) refused }))
 
-pub cause_of_data : (b : List ℕ) (s : Stream) (e : StreamFault) → totals_fault s ≡ None → HasCause (BreaksData b s) e → HasCause (IsBroken b s) e
-cause_of_data b s (fault.Rule number place) none breaks = inr (none, inr breaks)
-cause_of_data b s (fault.Limit number found) none breaks = inr (none, inr breaks)
-cause_of_data b s fault.NoMemory none breaks = tt
+pub cause_of_tile : (b : List ℕ) (s : Stream) (t : ℕ) (e : StreamFault) → totals_fault s ≡ None → t < tile_number s.siz → ((i : ℕ) → i < tile_number s.siz → IsWhole s i)
+    → ((i : ℕ) → i < t → HasCuts b s i) → HasCause (RefusesTile b s t) e → HasCause (IsBroken b s) e
+cause_of_tile b s t (fault.Rule number place) none inside whole read refused = tile_refused b s t (fault.Rule number place) none inside whole read refused
+cause_of_tile b s t (fault.Limit number found) none inside whole read refused = tile_refused b s t (fault.Limit number found) none inside whole read refused
+cause_of_tile b s t fault.NoMemory none inside whole read refused = tt
+
+pub cause_of_lack : (b : List ℕ) (s : Stream) (t : ℕ) (e : StreamFault) → HasCause (LacksPacket s t) e → HasCause (RefusesTile b s t) e
+cause_of_lack b s t (fault.Rule number place) lacks = inl lacks
+cause_of_lack b s t (fault.Limit number found) lacks = inl lacks
+cause_of_lack b s t fault.NoMemory lacks = tt
+
+pub cause_of_data : (b : List ℕ) (s : Stream) (t : ℕ) (e : StreamFault) → HasCause (BreaksTile b s t) e → HasCause (RefusesTile b s t) e
+cause_of_data b s t (fault.Rule number place) breaks = inr breaks
+cause_of_data b s t (fault.Limit number found) breaks = inr breaks
+cause_of_data b s t fault.NoMemory breaks = tt
 
 pub cause_of_cover : (b : List ℕ) (s : Stream) (e : StreamFault) → totals_fault s ≡ None → HasCause (IsUncovered s) e → HasCause (IsBroken b s) e
 cause_of_cover b s (fault.Rule number place) none breaks = inr (none, inl breaks)

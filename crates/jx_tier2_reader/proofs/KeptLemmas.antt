@@ -21,12 +21,13 @@ use Rattle.jx_codestream.specs.First.{canvas_of, tile_number}
 use Rattle.jx_codestream.specs.Params.{planes_at}
 use Rattle.jx_codestream.specs.Read.{IsRead}
 use Rattle.jx_codestream.specs.Shapes.{geometry, shapes_of, layers_of, style_of}
-use Rattle.jx_tier2_reader.specs.Totals.{totals_fault, block_total}
+use Rattle.jx_tile.specs.Totals.{totals_fault, block_total}
 use Rattle.jx_codestream.specs.InRange.{StreamInRange}
 use Rattle.jx_geom.specs.Precincts.{leaves}
 use Rattle.jx_geom.specs.Precincts.{HasPrecinct, leaf_number}
 use Rattle.jx_tier2_reader.specs.Blocks.{Found, founds_of, own_founds, pieces_in, passes_in, zero_from, block_with, block_of}
-use Rattle.jx_tier2_reader.specs.Gathered.{IsWhole, IsGathered}
+use Rattle.jx_tile.specs.Covered.{IsWhole}
+use Rattle.jx_tier2_reader.specs.Gathered.{IsGathered}
 use Rattle.jx_tier2_reader.specs.BlockOf.{pieces_at, IsBlockOf, IsFoundOf, AreBlocksOf}
 use Rattle.jx_tier2_reader.specs.Written.{Packets, IsLaid, cuts_at, laid_in, laid_blocks, packets_in}
 use Rattle.jx_tier2_reader.specs.Carries.{pieces_of, zero_of, AllCarry}
@@ -39,7 +40,7 @@ use Rattle.jx_tier2_reader.proofs.LaidTiles.{laid_gathered}
 use Rattle.jx_tier2_reader.proofs.LeafLemmas.{LeafOf, block_leaf}
 use Rattle.jx_codestream.proofs.RangeLemmas.{read_in_range}
 use Rattle.jx_tier2_reader.proofs.ListLemmas.{few_components}
-use Rattle.jx_tier2_reader.proofs.TotalLemmas.{blocks_are, geometry_fits}
+use Rattle.jx_tile.proofs.TotalLemmas.{blocks_are, geometry_fits}
 use Rattle.jx_tier2_reader.proofs.TurnLemmas.{listed}
 use Rattle.jx_tier2_reader.proofs.PlannedLemmas.{sound_at}
 

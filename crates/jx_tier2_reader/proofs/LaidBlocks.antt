@@ -16,7 +16,7 @@ use Rattle.jx_progression.specs.Steps.{name_of}
 use Rattle.jx_codestream.specs.declared.Stream.{Stream}
 use Rattle.jx_codestream.specs.Shapes.{geometry, layers_of}
 use Rattle.jx_geom.specs.Precincts.{leaves}
-use Rattle.jx_tier2_reader.specs.Cells.{fresh_precinct}
+use Rattle.jx_tier2_reader.specs.Fresh.{fresh_precinct}
 use Rattle.jx_geom.specs.Precincts.{HasPrecinct, precinct_number, leaf_number}
 use Rattle.jx_tier2_reader.specs.Cuts.{number_of}
 use Rattle.jx_tier2_reader.specs.Blocks.{Found, founds_in, founds_of, own_founds}

@@ -12,11 +12,12 @@ use Rattle.jx_progression.specs.Steps.{name_of}
 use Rattle.jx_codestream.specs.declared.Body.{Body}
 use Rattle.jx_codestream.specs.declared.Stream.{Stream}
 use Rattle.jx_codestream.specs.Shapes.{geometry, layers_of, tile_at}
-use Rattle.jx_tier2_reader.specs.Cells.{fresh_precinct}
+use Rattle.jx_tier2_reader.specs.Fresh.{fresh_precinct}
 use Rattle.jx_geom.specs.Precincts.{HasPrecinct}
 use Rattle.jx_tier2_reader.specs.Data.{window, due, behind, begins_with}
 use Rattle.jx_tier2_reader.specs.Cuts.{Cut, Left, IsCut, IsTurn, AreCuts, names_of, number_of}
-use Rattle.jx_tier2_reader.specs.Gathered.{IsCutUp, IsListOf, start}
+use Rattle.jx_tile.specs.Covered.{IsListOf}
+use Rattle.jx_tier2_reader.specs.Gathered.{IsCutUp, start}
 use Rattle.jx_tier2_reader.specs.Written.{Written, Packets, packet_bytes, sop_bytes, next_layer, IsWritten, AreWritten, bytes_from, AreFilled, IsLaid, cut_at, cuts_at, packets_in}
 use Rattle.jx_tier2_reader.proofs.FrontLemmas.{StartsClear, header_starts, header_no_mark, cut_stands, packet_size, packet_some}
 use Rattle.jx_tier2_reader.proofs.TurnLemmas.{Precincts, Listed, Turned, start_turned, own_turned, other_turned, each_precinct, has_precinct, due_named, layer_is, layer_after}

@@ -4,8 +4,9 @@ use Rattle.jx_progression.specs.declared.names.PacketName.{PacketName}
 use Rattle.jx_codestream.specs.declared.Stream.{Stream}
 use Rattle.jx_codestream.specs.First.{tile_number}
 use Rattle.jx_codestream.specs.Read.{IsRead}
-use Rattle.jx_tier2_reader.specs.Totals.{totals_fault}
-use Rattle.jx_tier2_reader.specs.Gathered.{IsWhole, IsCutUp, IsGathered}
+use Rattle.jx_tile.specs.Totals.{totals_fault}
+use Rattle.jx_tile.specs.Covered.{IsWhole}
+use Rattle.jx_tier2_reader.specs.Gathered.{IsCutUp, IsGathered}
 use Rattle.jx_tier2_reader.specs.Written.{Packets, IsLaid, cuts_at, laid_in, laid_blocks, packets_in}
 use Rattle.jx_codestream.proofs.RangeLemmas.{read_in_range}
 use Rattle.jx_tier2_reader.proofs.ReadyLemmas.{precincts}

@@ -15,8 +15,6 @@ mod TurnLemmas
 mod OnceLemmas
 mod TrackLemmas
 pub mod SoundLemmas
-pub mod TotalLemmas
-mod CoveredLemmas
 mod ReadyLemmas
 mod TileLemmas
 pub mod ListLemmas

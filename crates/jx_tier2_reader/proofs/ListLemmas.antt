@@ -1,9 +1,12 @@
 -- The lists of a tile that loops make.
-use Rattle.std.proofs.Common.{◌≡◌, ℕ, ◌<◌, ◌≤◌, List, [], ◌∷◌, ◌++◌, length, ◌∙◌, ap, sym, subst, refl, arith, append_assoc}
+use Rattle.std.proofs.Common.{◌≡◌, ℕ, ◌+◌, ◌<◌, ◌≤◌, List, [], ◌∷◌, ◌++◌, length, take, get_or, ◌∙◌, ap, sym, subst, refl, arith, append_assoc, append-nil}
+use Rattle.std.specs.List.{flat_map}
+use Rattle.std.proofs.Math.Seq.{take-length}
+use Rattle.std.proofs.lemmas.Grind.{flat_map-append}
+use Rattle.std.proofs.lemmas.List.{take_more}
 use Rattle.std.proofs.lemmas.List.{length-map}
 use Rattle.std.proofs.lemmas.List.FromFn.{length-range_with_len}
 use Rattle.jx_base.specs.declared.names.Band.{Band}
-use Rattle.jx_base.specs.declared.names.Band.TheVariants.{LL, HL, LH, HH}
 use Rattle.jx_base.specs.declared.names.BlockName.{BlockName}
 use Rattle.jx_base.specs.declared.style.Style.{Style}
 use Rattle.jx_base.specs.declared.pieces.Block.{Block}
@@ -15,13 +18,11 @@ use Rattle.jx_packet_header.specs.Precinct.{fresh_state}
 use Rattle.jx_codestream.specs.declared.Stream.{Stream}
 use Rattle.jx_codestream.specs.Params.{planes_at}
 use Rattle.jx_tier2_reader.specs.Blocks.{Found, own_founds, block_of, band_blocks, resolution_blocks}
-use Rattle.jx_tier2_reader.specs.Cells.{sizes_of, precinct_bands, fresh_precinct}
-use Rattle.jx_geom.specs.Precincts.{cells_at}
+use Rattle.jx_tile.specs.Cells.{precinct_bands}
+use Rattle.jx_tier2_reader.specs.Fresh.{fresh_precinct}
 use Rattle.jx_codestream.specs.InRange.{StreamInRange}
 use Rattle.jx_codestream.specs.Shapes.{geometry, shapes_of, shapes_in, style_of}
-use Rattle.jx_geom.proofs.LeafLemmas.{bands_low, bands_high}
-use Rattle.jx_tier2_reader.proofs.BlockLemmas.{blocks_low, blocks_high}
-use Rattle.jx_tier2_reader.proofs.CellLemmas.{bands_of}
+use Rattle.jx_base.specs.Bands.{bands_at}
 
 -- a tile has as many components as the picture
 pub few_components : (s : Stream) (g : Geometry) → StreamInRange s → g ≡ geometry s g.tile → length g.shapes ≤ 16384
@@ -32,44 +33,24 @@ few_components s g h e =
     length-map _ _ ∙ length-range_with_len 0 (length s.siz.comps) in
     subst P (sym e) (omega (arith, long, h.few_comps))
 
--- the bands of a precinct, one and three
-pub one_band : (s : Stream) (g : Geometry) (c r k planes : ℕ) (b : BandCells) → r ≡ 0 → planes ≡ planes_at s g.tile c r LL
-    → b ≡ sizes_of (cells_at g c r k LL) planes → b ∷ [] ≡ precinct_bands s g c r k
-unfolding precinct_bands
-one_band s g c r k planes b low e is =
-    ap (λ (x : BandCells). x ∷ []) (is ∙ ap (λ n. sizes_of (cells_at g c r k LL) n) e)
-    ∙ ap (λ (bands : List Band). bands_of s g c r k bands) (sym (bands_low r low))
-
-pub three_bands : (s : Stream) (g : Geometry) (c r k first second third : ℕ) (x y z : BandCells) → 0 < r
-    → first ≡ planes_at s g.tile c r HL → second ≡ planes_at s g.tile c r LH → third ≡ planes_at s g.tile c r HH
-    → x ≡ sizes_of (cells_at g c r k HL) first → y ≡ sizes_of (cells_at g c r k LH) second → z ≡ sizes_of (cells_at g c r k HH) third
-    → x ∷ y ∷ z ∷ [] ≡ precinct_bands s g c r k
-unfolding precinct_bands
-three_bands s g c r k first second third x y z some e e2 e3 is is2 is3 =
-    let ex : x ≡ sizes_of (cells_at g c r k HL) (planes_at s g.tile c r HL) = is ∙ ap (λ n. sizes_of (cells_at g c r k HL) n) e in
-    let ey : y ≡ sizes_of (cells_at g c r k LH) (planes_at s g.tile c r LH) = is2 ∙ ap (λ n. sizes_of (cells_at g c r k LH) n) e2 in
-    let ez : z ≡ sizes_of (cells_at g c r k HH) (planes_at s g.tile c r HH) = is3 ∙ ap (λ n. sizes_of (cells_at g c r k HH) n) e3 in
-    let all : x ∷ y ∷ z ∷ [] ≡ bands_of s g c r k (HL ∷ LH ∷ HH ∷ []) =
-    ap (λ (b : BandCells). b ∷ y ∷ z ∷ []) ex
-    ∙ ap (λ (b : BandCells). sizes_of (cells_at g c r k HL) (planes_at s g.tile c r HL) ∷ b ∷ z ∷ []) ey
-    ∙ ap (λ (b : BandCells). sizes_of (cells_at g c r k HL) (planes_at s g.tile c r HL) ∷ sizes_of (cells_at g c r k LH) (planes_at s g.tile c r LH) ∷ b ∷ []) ez in
-    all ∙ ap (λ (bands : List Band). bands_of s g c r k bands) (sym (bands_high r some))
-
 -- the blocks of a resolution, appended band by band
-pub appends_low : (s : Stream) (g : Geometry) (founds : List Found) (c r : ℕ) (old new : List Block) → r ≡ 0
-    → new ≡ old ++ band_blocks s g founds c r LL → new ≡ old ++ resolution_blocks s g founds c r
-appends_low s g founds c r old new low e = e ∙ ap (λ (bs : List Block). old ++ bs) (sym (blocks_low s g founds c r low))
+pub bands_first : {X : Type 0} (f : Band → List X) (base : List X) → base ≡ base ++ flat_map f []
+bands_first f base = sym (append-nil base)
 
-pub appends_high : (s : Stream) (g : Geometry) (founds : List Found) (c r : ℕ) (old one two new : List Block) → 0 < r
-    → one ≡ old ++ band_blocks s g founds c r HL → two ≡ one ++ band_blocks s g founds c r LH → new ≡ two ++ band_blocks s g founds c r HH
-    → new ≡ old ++ resolution_blocks s g founds c r
-appends_high s g founds c r old one two new some e e2 e3 =
-    let x = band_blocks s g founds c r HL in
-    let y = band_blocks s g founds c r LH in
-    let z = band_blocks s g founds c r HH in
-    let second : two ≡ (old ++ x) ++ y = e2 ∙ ap (λ (bs : List Block). bs ++ y) e in
-    let third : new ≡ ((old ++ x) ++ y) ++ z = e3 ∙ ap (λ (bs : List Block). bs ++ z) second in
-    third ∙ append_assoc (old ++ x) y z ∙ append_assoc old x (y ++ z) ∙ ap (λ (bs : List Block). old ++ bs) (sym (blocks_high s g founds c r some))
+pub bands_next : {X : Type 0} (f : Band → List X) (bands : List Band) (i : ℕ) (d : Band) (base old new : List X) → i < length bands
+    → old ≡ base ++ flat_map f (take i bands) → new ≡ old ++ f (get_or bands i d) → new ≡ base ++ flat_map f (take (i + 1) bands)
+bands_next {X} f bands i d base old new lt before step =
+    let own : List X = f (get_or bands i d) in
+    let more : flat_map f (take i bands) ++ own ≡ flat_map f (take (i + 1) bands) =
+    ap (λ (xs : List X). flat_map f (take i bands) ++ xs) (sym (append-nil own)) ∙ sym (flat_map-append f (take i bands) (get_or bands i d ∷ []))
+    ∙ ap (flat_map f) (sym (take_more bands i d lt)) in
+    step ∙ ap (λ (xs : List X). xs ++ own) before ∙ append_assoc base (flat_map f (take i bands)) own ∙ ap (λ (xs : List X). base ++ xs) more
+
+pub bands_last : (s : Stream) (g : Geometry) (c r : ℕ) (bands : List Band) (n : ℕ) (base new : List Block) → n ≡ length bands → bands ≡ bands_at r
+    → new ≡ base ++ flat_map (band_blocks s g [] c r) (take n bands) → new ≡ base ++ resolution_blocks s g [] c r
+unfolding resolution_blocks
+bands_last s g c r bands n base new all e h =
+    h ∙ ap (λ (m : ℕ). base ++ flat_map (band_blocks s g [] c r) (take m bands)) all ∙ ap (λ (bs : List Band). base ++ flat_map (band_blocks s g [] c r) bs) (take-length bands ∙ e)
 
 -- a precinct of these bands, and a block that has no pass
 pub fresh_from : (s : Stream) (g : Geometry) (c r k bits : ℕ) (bands : List BandCells) → bits ≡ style_of s g.tile c → bands ≡ precinct_bands s g c r k

@@ -22,7 +22,7 @@ use Rattle.jx_geom.proofs.EmptyLemmas.{some_block, some_precinct}
 use Rattle.jx_geom.proofs.TableLemmas.{listed, none_behind, some_resolutions}
 use Rattle.jx_codestream.specs.declared.Stream.{Stream}
 use Rattle.jx_tier2_reader.specs.Blocks.{band_blocks, component_blocks, one_block, resolution_blocks, tile_blocks}
-use Rattle.jx_tier2_reader.specs.Cells.{fresh_component, fresh_precincts, fresh_resolution, one_precinct}
+use Rattle.jx_tier2_reader.specs.Fresh.{fresh_component, fresh_precincts, fresh_resolution, one_precinct}
 
 -- what each resolution of a list has
 abbrev pub by_resolution : {Y : Type 0} → (ℕ → ℕ → List Y) → Resolution → List Y

@@ -5,7 +5,7 @@ use Rattle.jx_base.specs.Places.{size_of}
 use Rattle.jx_geom.specs.Counts.{precinct_count, component_precincts, tile_precincts}
 use Rattle.jx_geom.specs.Geometry.{Geometry, no_shape, shape_of, rect_of_tile, precincts_in}
 use Rattle.jx_codestream.specs.declared.Stream.{Stream}
-use Rattle.jx_tier2_reader.specs.Cells.{one_precinct, fresh_precinct, fresh_resolution, fresh_component, fresh_precincts}
+use Rattle.jx_tier2_reader.specs.Fresh.{one_precinct, fresh_precinct, fresh_resolution, fresh_component, fresh_precincts}
 use Rattle.jx_geom.specs.Precincts.{HasPrecinct, precinct_number}
 use Rattle.jx_geom.proofs.PrecinctLemmas.{precinct_number_is, precinct_within}
 use Rattle.jx_base.specs.Joined.{joined, sum_below}

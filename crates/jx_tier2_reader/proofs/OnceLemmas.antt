@@ -20,11 +20,12 @@ use Rattle.jx_codestream.specs.declared.faults.StreamFault.{StreamFault}
 use Rattle.jx_codestream.specs.declared.faults.StreamFault.TheVariants as fault
 use Rattle.jx_codestream.specs.Faults.{broken}
 use Rattle.jx_codestream.specs.Shapes.{geometry, layers_of, tile_at}
-use Rattle.jx_tier2_reader.specs.Totals.{totals_fault}
+use Rattle.jx_tile.specs.Totals.{totals_fault}
 use Rattle.jx_tier2_reader.specs.Data.{window, due, behind, end_of_data, sop_fault, header_in, first_mark, rule_30, marks_fault, body_fault, front_length, parts_length}
 use Rattle.jx_tier2_reader.specs.Cuts.{Cut, IsCut, BreaksHeader, BreaksBody, Breaks, Left, IsTurn, AreCuts, names_of, number_of, BreaksDue, IsLeftOver, Stops}
 use Rattle.jx_tier2_reader.specs.Blocks.{founds_of, tile_blocks}
-use Rattle.jx_tier2_reader.specs.Gathered.{IsListOf, IsWhole, IsCutUp, AreTileBlocks, IsGathered, IsUncovered, BreaksTile, BreaksData, IsBroken, start}
+use Rattle.jx_tile.specs.Covered.{IsListOf, IsWhole, IsUncovered}
+use Rattle.jx_tier2_reader.specs.Gathered.{IsCutUp, AreTileBlocks, IsGathered, BreaksTile, BreaksData, IsBroken, start}
 use Rattle.jx_tier2_reader.proofs.TurnLemmas.{Precincts, Keeps, Listed, listed, AllKnown, AreInTurn, are_in_turn, known_there, has_precinct, due_named}
 use Rattle.jx_base.proofs.Joined.{joined_same}
 use Rattle.jx_base.proofs.Lists.{some_none, head_same, tail_same}

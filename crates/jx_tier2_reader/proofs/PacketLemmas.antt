@@ -7,7 +7,7 @@ use Rattle.jx_packet_header.specs.Packet.{State, IsPacket, header_bits}
 use Rattle.jx_codestream.specs.declared.faults.StreamFault.{StreamFault}
 use Rattle.jx_codestream.specs.declared.faults.StreamFault.TheVariants as fault
 use Rattle.jx_codestream.specs.Faults.{broken}
-use Rattle.jx_tier2_reader.specs.Faults.{HasCause}
+use Rattle.jx_tile.specs.Faults.{HasCause}
 use Rattle.jx_tier2_reader.specs.Data.{sop_fault, header_in, front_length, parts_length, first_mark, rule_30, marks_fault, body_fault}
 use Rattle.jx_tier2_reader.specs.Cuts.{Cut, IsCut, Breaks, BreaksHeader}
 use Rattle.jx_codestream.proofs.FaultLemmas.{none_later, none_first, none_of_both}

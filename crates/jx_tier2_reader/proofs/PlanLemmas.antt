@@ -7,8 +7,9 @@ use Rattle.jx_codestream.specs.declared.Stream.{Stream}
 use Rattle.jx_codestream.specs.First.{tile_number}
 use Rattle.jx_codestream.specs.Read.{IsRead}
 use Rattle.jx_codestream.specs.Shapes.{tile_at}
-use Rattle.jx_tier2_reader.specs.Totals.{totals_fault}
-use Rattle.jx_tier2_reader.specs.Gathered.{IsListOf, IsWhole, IsGathered}
+use Rattle.jx_tile.specs.Totals.{totals_fault}
+use Rattle.jx_tile.specs.Covered.{IsListOf, IsWhole}
+use Rattle.jx_tier2_reader.specs.Gathered.{IsGathered}
 use Rattle.jx_tier2_reader.specs.BlockOf.{AreBlocksOf}
 use Rattle.jx_tier2_reader.specs.Written.{Packets, AreWritten, AreFilled, packets_in}
 use Rattle.jx_tier2_reader.specs.Carries.{AllCarry}

@@ -32,10 +32,10 @@ use Rattle.jx_codestream.specs.declared.Stream.{Stream}
 use Rattle.jx_codestream.specs.First.{canvas_of, tile_number}
 use Rattle.jx_codestream.specs.Read.{IsRead}
 use Rattle.jx_codestream.specs.Shapes.{geometry, shapes_of, layers_of, style_of}
-use Rattle.jx_tier2_reader.specs.Totals.{totals_fault}
+use Rattle.jx_tile.specs.Totals.{totals_fault}
 use Rattle.jx_codestream.specs.InRange.{StreamInRange}
 use Rattle.jx_geom.specs.Precincts.{leaves}
-use Rattle.jx_tier2_reader.specs.Cells.{precinct_bands}
+use Rattle.jx_tile.specs.Cells.{precinct_bands}
 use Rattle.jx_geom.specs.Precincts.{HasPrecinct, leaf_number}
 use Rattle.jx_tier2_reader.specs.Blocks.{told_zero, zero_in}
 use Rattle.jx_tier2_reader.specs.Written.{Written, Packets, next_layer, IsWritten, AreWritten}
@@ -46,7 +46,7 @@ use Rattle.jx_tier2_reader.proofs.FreshLemmas.{fresh_in_range}
 use Rattle.jx_tier2_reader.proofs.CarryLemmas.{layer_here, layer_past, layer_nothing}
 use Rattle.jx_tier2_reader.proofs.LaidBlocks.{joined_first}
 use Rattle.jx_codestream.proofs.RangeLemmas.{read_in_range}
-use Rattle.jx_tier2_reader.proofs.TotalLemmas.{geometry_fits}
+use Rattle.jx_tile.proofs.TotalLemmas.{geometry_fits}
 use Rattle.jx_tier2_reader.proofs.TurnLemmas.{has_precinct}
 use Rattle.jx_tier2_reader.proofs.FillLemmas.{AreUnmarked, Fills, fills_joined}
 

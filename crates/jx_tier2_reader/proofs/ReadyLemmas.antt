@@ -8,12 +8,12 @@ use Rattle.jx_codestream.specs.declared.faults.StreamFault.{StreamFault}
 use Rattle.jx_codestream.specs.Read.{IsRead}
 use Rattle.jx_codestream.specs.Shapes.{geometry}
 use Rattle.jx_codestream.specs.InRange.{StreamInRange}
-use Rattle.jx_tier2_reader.specs.Totals.{totals_fault}
+use Rattle.jx_tile.specs.Totals.{totals_fault}
 use Rattle.jx_codestream.specs.declared.faults.StreamFault.TheVariants as fault
-use Rattle.jx_tier2_reader.specs.Faults.{HasCause, IsMemory, IsOnly}
+use Rattle.jx_tile.specs.Faults.{HasCause, IsMemory, IsOnly}
 use Rattle.jx_tier2_reader.specs.Gathered.{IsGathered, IsBroken}
 use Rattle.jx_codestream.proofs.RangeLemmas.{read_in_range}
-use Rattle.jx_tier2_reader.proofs.TotalLemmas.{geometry_fits}
+use Rattle.jx_tile.proofs.TotalLemmas.{geometry_fits}
 use Rattle.jx_tier2_reader.proofs.NumberLemmas.{precinct_there}
 use Rattle.jx_geom.proofs.PrecinctLemmas.{precinct_once}
 use Rattle.jx_tier2_reader.proofs.FreshLemmas.{fresh_is_state}

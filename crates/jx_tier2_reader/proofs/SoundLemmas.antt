@@ -30,15 +30,17 @@ use Rattle.jx_codestream.specs.First.{tile_number}
 use Rattle.jx_codestream.specs.Params.{planes_at}
 use Rattle.jx_codestream.specs.Shapes.{geometry, layers_of, style_of, tile_at}
 use Rattle.jx_codestream.specs.Read.{IsRead}
-use Rattle.jx_tier2_reader.specs.Totals.{totals_fault}
+use Rattle.jx_tile.specs.Totals.{totals_fault}
 use Rattle.jx_codestream.specs.InRange.{StreamInRange}
 use Rattle.jx_tier2_reader.specs.InRange.{DataInRange}
 use Rattle.jx_geom.specs.Precincts.{leaves, leaves_in}
-use Rattle.jx_tier2_reader.specs.Cells.{sizes_of, precinct_bands, fresh_precinct}
+use Rattle.jx_tile.specs.Cells.{sizes_of, precinct_bands}
+use Rattle.jx_tier2_reader.specs.Fresh.{fresh_precinct}
 use Rattle.jx_geom.specs.Precincts.{HasPrecinct, cells_at, precinct_number, name_from, leaf_name, leaf_number}
 use Rattle.jx_tier2_reader.specs.Cuts.{Cut, Left, AreCuts, number_of, names_of}
 use Rattle.jx_tier2_reader.specs.Blocks.{Found, founds_of, own_founds, pieces_in, passes_in, zero_from, block_with, block_of, tile_blocks}
-use Rattle.jx_tier2_reader.specs.Gathered.{IsListOf, IsCutUp, IsGathered, start}
+use Rattle.jx_tile.specs.Covered.{IsListOf}
+use Rattle.jx_tier2_reader.specs.Gathered.{IsCutUp, IsGathered, start}
 use Rattle.jx_tier2_reader.specs.Put.{put_all}
 use Rattle.jx_tier2_reader.proofs.NumberLemmas.{precinct_there}
 use Rattle.jx_geom.proofs.PrecinctLemmas.{precinct_once}
@@ -46,7 +48,7 @@ use Rattle.jx_tier2_reader.proofs.CellLemmas.{bands_of}
 use Rattle.jx_geom.proofs.LeafLemmas.{name_here, name_later, leaf_there, leaf_is, number_once}
 use Rattle.jx_tier2_reader.proofs.BlockLemmas.{blocks_long, block_there, block_named, BlockAt}
 use Rattle.jx_codestream.proofs.RangeLemmas.{read_in_range}
-use Rattle.jx_tier2_reader.proofs.TotalLemmas.{geometry_fits}
+use Rattle.jx_tile.proofs.TotalLemmas.{geometry_fits}
 use Rattle.jx_tier2_reader.proofs.BodyLemmas.{read_data}
 use Rattle.jx_tier2_reader.proofs.PartLemmas.{known_in, planes_of}
 use Rattle.jx_tier2_reader.proofs.PutLemmas.{Tiled, IsOfBlock, put_found}

@@ -17,7 +17,7 @@ use Rattle.jx_codestream.specs.declared.Stream.{Stream}
 use Rattle.jx_codestream.specs.declared.faults.StreamFault.{StreamFault}
 use Rattle.jx_codestream.specs.declared.faults.StreamFault.TheVariants as fault
 use Rattle.jx_tier2_reader.specs.declared.packet.Packet.{Packet}
-use Rattle.jx_tier2_reader.specs.Faults.{HasCause}
+use Rattle.jx_tile.specs.Faults.{HasCause}
 use Rattle.jx_codestream.specs.Shapes.{geometry, layers_of, tile_at}
 use Rattle.jx_geom.specs.Precincts.{HasPrecinct, leaf_number}
 use Rattle.jx_geom.specs.Precincts.{leaves}
@@ -25,9 +25,10 @@ use Rattle.jx_tier2_reader.specs.Data.{window, due, behind, end_of_data, front_l
 use Rattle.jx_tier2_reader.specs.Cuts.{Cut, Left, IsCut, IsTurn, AreCuts, names_of, number_of, Breaks}
 use Rattle.jx_tier2_reader.specs.Blocks.{Found, founds_from, founds_in, founds_of, tile_blocks}
 use Rattle.jx_tier2_reader.specs.Put.{put_one, put_all}
-use Rattle.jx_tier2_reader.specs.Gathered.{IsListOf, AreTileBlocks, BreaksTile, start}
+use Rattle.jx_tile.specs.Covered.{IsListOf}
+use Rattle.jx_tier2_reader.specs.Gathered.{AreTileBlocks, BreaksTile, start}
 use Rattle.jx_tier2_reader.specs.Reading.{cut_of, CanPut, state_at, no_state, AreInside, IsFront, IsTask}
-use Rattle.jx_tier2_reader.proofs.TotalLemmas.{geometry_fits}
+use Rattle.jx_tile.proofs.TotalLemmas.{geometry_fits}
 use Rattle.jx_tier2_reader.proofs.CellLemmas.{leaf_count}
 use Rattle.jx_geom.proofs.LeafLemmas.{leaf_below}
 use Rattle.jx_tier2_reader.proofs.BlockLemmas.{blocks_long}

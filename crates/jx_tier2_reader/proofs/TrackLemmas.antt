@@ -15,7 +15,7 @@ use Rattle.jx_codestream.specs.declared.Body.{Body}
 use Rattle.jx_codestream.specs.declared.Stream.{Stream}
 use Rattle.jx_codestream.specs.Shapes.{style_of}
 use Rattle.jx_geom.specs.Precincts.{leaves}
-use Rattle.jx_tier2_reader.specs.Cells.{fresh_precinct, fresh_precincts}
+use Rattle.jx_tier2_reader.specs.Fresh.{fresh_precinct, fresh_precincts}
 use Rattle.jx_geom.specs.Precincts.{HasPrecinct, precinct_number, leaf_number}
 use Rattle.jx_tier2_reader.specs.Data.{window, due, behind, header_in, front_length, parts_length}
 use Rattle.jx_tier2_reader.specs.Cuts.{Cut, Left, IsTurn, AreCuts, number_of}

@@ -16,11 +16,12 @@ use Rattle.jx_progression.proofs.RiseLemmas.{order_rises}
 use Rattle.jx_codestream.specs.declared.Body.{Body}
 use Rattle.jx_codestream.specs.declared.Stream.{Stream}
 use Rattle.jx_codestream.specs.Shapes.{geometry, layers_of, tile_at, style_of}
-use Rattle.jx_tier2_reader.specs.Cells.{fresh_precinct, fresh_precincts}
+use Rattle.jx_tier2_reader.specs.Fresh.{fresh_precinct, fresh_precincts}
 use Rattle.jx_geom.specs.Precincts.{HasPrecinct, precinct_number}
 use Rattle.jx_tier2_reader.specs.Data.{window, header_in, sop_length}
 use Rattle.jx_tier2_reader.specs.Cuts.{Cut, Left, IsTurn, AreCuts, names_of, number_of}
-use Rattle.jx_tier2_reader.specs.Gathered.{IsListOf, IsWhole, start}
+use Rattle.jx_tile.specs.Covered.{IsListOf, IsWhole}
+use Rattle.jx_tier2_reader.specs.Gathered.{start}
 use Rattle.jx_base.proofs.Lists.{contains_cons, contains_head, contains_none, pairs_head, pairs_across, pairs_back, push_on, get-set_other}
 use Rattle.jx_tier2_reader.proofs.TrackLemmas.{here_after as after_there}
 

@@ -9,7 +9,7 @@ use Rattle.jx_codestream.specs.declared.Stream.{Stream}
 use Rattle.jx_codestream.specs.First.{canvas_of}
 use Rattle.jx_codestream.specs.Params.{planes_at}
 use Rattle.jx_codestream.specs.Shapes.{geometry, shapes_of, layers_of, style_of}
-use Rattle.jx_tier2_reader.specs.Totals.{block_total}
+use Rattle.jx_tile.specs.Totals.{block_total}
 
 abbrev pub rect_in : Stream → BlockName → Rect
 rect_in s n = block_rect (rect_of_tile (geometry s n.tile)) (shape_of (geometry s n.tile) n.comp) n.res n.band n.index

@@ -14,7 +14,7 @@ use Rattle.jx_codestream.specs.declared.Stream.{Stream}
 use Rattle.jx_codestream.specs.First.{canvas_of}
 use Rattle.jx_codestream.specs.Params.{planes_at}
 use Rattle.jx_codestream.specs.Shapes.{geometry, shapes_of, layers_of, style_of}
-use Rattle.jx_tier2_reader.specs.Totals.{block_total}
+use Rattle.jx_tile.specs.Totals.{block_total}
 
 -- the pieces of a layer
 unfoldable pub pieces_at : ℕ → List PieceValue → List PieceValue

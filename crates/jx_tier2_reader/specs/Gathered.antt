@@ -2,25 +2,17 @@
 use Rattle.std.specs.Prelude.{◌≡◌, ◌⊎◌, ◌<◌, ℕ, List, [], ◌++◌, length, None, Some}
 use Rattle.jx_base.specs.declared.pieces.Block.{Block}
 use Rattle.jx_progression.specs.declared.names.PacketName.{PacketName}
-use Rattle.jx_progression.specs.Packets.{IsOrder, AreCovered, HasUncovered}
 use Rattle.jx_codestream.specs.declared.Stream.{Stream}
 use Rattle.jx_codestream.specs.First.{tile_number}
 use Rattle.jx_codestream.specs.declared.faults.StreamFault.{StreamFault}
-use Rattle.jx_codestream.specs.declared.faults.StreamFault.TheVariants as fault
-use Rattle.jx_codestream.specs.Shapes.{geometry, layers_of, tile_at}
-use Rattle.jx_tier2_reader.specs.Totals.{totals_fault}
-use Rattle.jx_tier2_reader.specs.Cells.{fresh_precincts}
+use Rattle.jx_codestream.specs.Shapes.{geometry, tile_at}
+use Rattle.jx_tile.specs.Covered.{IsListOf, IsUncovered, IsWhole}
+use Rattle.jx_tile.specs.Totals.{totals_fault}
+use Rattle.jx_tier2_reader.specs.Fresh.{fresh_precincts}
 use Rattle.jx_tier2_reader.specs.Data.{due, end_of_data}
 use Rattle.jx_tier2_reader.specs.Cuts.{Cut, Left, AreCuts, names_of, Stops}
 use Rattle.jx_tier2_reader.specs.Blocks.{founds_of, tile_blocks}
 use Rattle.jx_base.specs.Joined.{joined}
-
--- B.12: the packets of a tile, in the order of its progression entries
-abbrev pub IsListOf : Stream → ℕ → List PacketName → Type 0
-IsListOf s t list = IsOrder (geometry s t) (layers_of s t) (tile_at s t).progressions (length (tile_at s t).progressions) list
-
-abbrev pub IsWhole : Stream → ℕ → Type 0
-IsWhole s t = AreCovered (geometry s t) (layers_of s t) (tile_at s t).progressions
 
 -- before the first packet
 abbrev pub start : Stream → ℕ → Left
@@ -43,14 +35,6 @@ pub record IsGathered (b : List ℕ) (s : Stream) (blocks : List Block) : Type 0
   pub tiles : ℕ → List Block
   pub are : (t : ℕ) → t < tile_number s.siz → AreTileBlocks b s t (tiles t)
   pub blocks_are : blocks ≡ joined tiles 0 (tile_number s.siz)
-
--- rule 25: the lowest tile of which some packet is covered by no entry
-pub record IsUncovered (s : Stream) (f : StreamFault) : Type 0 where
-  pub tile : ℕ
-  pub inside : tile < tile_number s.siz
-  pub some : HasUncovered (geometry s tile) (layers_of s tile) (tile_at s tile).progressions
-  pub lowest : (t : ℕ) → t < tile → IsWhole s t
-  pub fault_is : f ≡ fault.Rule 25 (tile_at s tile).place
 
 -- a tile's data are cut up to a packet in which a rule is violated, or a byte is left
 pub record BreaksTile (b : List ℕ) (s : Stream) (t : ℕ) (f : StreamFault) : Type 0 where

@@ -1,6 +1,4 @@
-pub mod Faults
-pub mod Totals
-pub mod Cells
+pub mod Fresh
 pub mod Data
 pub mod Cuts
 pub mod Gathered
@@ -13,10 +11,8 @@ pub mod Either
 pub mod Planned
 pub mod Another
 -- Inner: no other crate cites these.
-pub mod Coding
 pub mod Blocks
 pub mod InRange
 pub mod Put
 pub mod Reading
 pub mod Joined
-pub mod Covered

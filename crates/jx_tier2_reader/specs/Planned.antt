@@ -12,7 +12,7 @@ use Rattle.jx_progression.specs.Steps.{name_of}
 use Rattle.jx_codestream.specs.declared.Stream.{Stream}
 use Rattle.jx_codestream.specs.Shapes.{geometry, layers_of, style_of}
 use Rattle.jx_geom.specs.Precincts.{leaves}
-use Rattle.jx_tier2_reader.specs.Cells.{precinct_bands}
+use Rattle.jx_tile.specs.Cells.{precinct_bands}
 use Rattle.jx_geom.specs.Precincts.{HasPrecinct}
 use Rattle.jx_tier2_reader.specs.Written.{Packets}
 use Rattle.jx_tier2_reader.specs.Carries.{pieces_of, zero_of, block_in, part_of, bytes_of}

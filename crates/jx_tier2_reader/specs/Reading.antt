@@ -14,10 +14,11 @@ use Rattle.jx_geom.specs.Precincts.{leaf_number}
 use Rattle.jx_codestream.specs.Shapes.{geometry, tile_at}
 use Rattle.jx_tier2_reader.specs.Data.{due}
 use Rattle.jx_tier2_reader.specs.Cuts.{Cut, Left, AreCuts, names_of}
-use Rattle.jx_tier2_reader.specs.Gathered.{IsListOf, IsWhole, start}
+use Rattle.jx_tile.specs.Covered.{IsListOf, IsWhole}
+use Rattle.jx_tier2_reader.specs.Gathered.{start}
 use Rattle.jx_codestream.specs.InRange.{StreamInRange}
 use Rattle.jx_tier2_reader.specs.InRange.{DataInRange}
-use Rattle.jx_tier2_reader.specs.Totals.{totals_fault}
+use Rattle.jx_tile.specs.Totals.{totals_fault}
 use Rattle.jx_tier2_reader.specs.Blocks.{Found, zero_in, founds_of, tile_blocks}
 use Rattle.jx_tier2_reader.specs.Put.{put_all}
 

@@ -14,12 +14,12 @@ use Rattle.jx_codestream.specs.declared.Body.{Body}
 use Rattle.jx_codestream.specs.declared.Stream.{Stream}
 use Rattle.jx_codestream.specs.First.{tile_number}
 use Rattle.jx_codestream.specs.Shapes.{geometry, layers_of, tile_at}
-use Rattle.jx_tier2_reader.specs.Cells.{fresh_precinct}
+use Rattle.jx_tier2_reader.specs.Fresh.{fresh_precinct}
 use Rattle.jx_geom.specs.Precincts.{HasPrecinct}
 use Rattle.jx_tier2_reader.specs.Data.{window, parts_length}
 use Rattle.jx_tier2_reader.specs.Cuts.{Cut}
 use Rattle.jx_tier2_reader.specs.Blocks.{founds_of, tile_blocks}
-use Rattle.jx_tier2_reader.specs.Gathered.{IsListOf}
+use Rattle.jx_tile.specs.Covered.{IsListOf}
 use Rattle.jx_marker.specs.Codes.{sop_spelling, eph_spelling}
 
 -- A.8.1: the SOP of a packet with a number in its tile, which is told in two bytes

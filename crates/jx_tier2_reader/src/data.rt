@@ -1,23 +1,13 @@
 //! SOP, EPH and the coded bytes of packets (ITU-T T.800, A.8 and B.10).
 
 ghost use Rattle.std.specs.Prelude.{◌≡◌, ◌≢◌, ◌≤◌, ◌<◌, ◌+◌, ◌-◌, ◌^◌, length, IfErr, MatchOption};
-ghost use Rattle.jx_tier2_reader.specs.Faults.{Answers};
+ghost use Rattle.jx_tile.specs.Faults.{Answers};
 ghost use Rattle.jx_tier2_reader.specs.Data.{begins_with, number_at, sop_fault, sop_length, eph_length, header_in, front_length, parts_length, is_marked, has_mark_below, first_mark, marks_fault, body_fault};
 
 use crate::StreamFault;
+use jx_codestream::violated;
 use jx_marker::codes::{EPH, SOP};
 use jx_packet_header::Part;
-
-/// The refusal of a rule that is violated at a place.
-pub(crate) fn violated(number: u8, at: usize) -> StreamFault
-    requires { at < 2 ^ 32 }
-    ensures { result ≡ StreamFault.Rule number at }
-{
-    StreamFault::Rule {
-        number,
-        place: at as u32,
-    }
-}
 
 /// Whether the marker of this second byte, which isn't 0, stands in front.
 fn begins_with(bytes: &[u8], code: u8) -> bool

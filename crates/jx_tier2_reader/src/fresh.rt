@@ -1,108 +1,42 @@
 //! The precincts and the code-blocks of a tile of which no packet was read.
 
-ghost use Rattle.std.specs.Prelude.{◌≡◌, ◌<◌, ◌≤◌, ◌++◌, [], length, IfOk, OnOk};
-ghost use Rattle.jx_base.specs.Places.{size_of};
-ghost use Rattle.jx_geom.specs.Geometry.{GeometryInRange, HasResolution, precincts_in};
+ghost use Rattle.std.specs.Prelude.{◌≡◌, ◌++◌, [], IfOk, OnOk};
+ghost use Rattle.jx_geom.specs.Geometry.{HasResolution};
+ghost use Rattle.jx_geom.specs.Precincts.{HasPrecinct};
 ghost use Rattle.jx_geom.specs.Ranges.{HasBand};
 ghost use Rattle.jx_geom.specs.Resolutions.{resolutions_of};
-ghost use Rattle.jx_codestream.specs.First.{tile_number};
+ghost use Rattle.jx_tile.specs.Frame.{AreOfTile};
 ghost use Rattle.jx_tier2_reader.specs.Blocks.{band_blocks, resolution_blocks, tile_blocks};
-ghost use Rattle.jx_tier2_reader.specs.Cells.{fresh_precinct, fresh_precincts, fresh_resolution, sizes_of};
-ghost use Rattle.jx_geom.specs.Precincts.{HasPrecinct, cells_at};
-ghost use Rattle.jx_tier2_reader.specs.Coding.{IsCoding};
-ghost use Rattle.jx_codestream.specs.InRange.{StreamInRange};
-ghost use Rattle.jx_codestream.specs.Params.{headers_at};
-ghost use Rattle.jx_codestream.specs.Shapes.{geometry};
+ghost use Rattle.jx_tier2_reader.specs.Fresh.{fresh_precinct, fresh_precincts, fresh_resolution};
 
 use jx_base::{Band, Block, BlockName, NoMemory, Pieces, Rect, Style};
 use jx_codestream::{Stream, TileView};
 use jx_geom::{Resolution, TileGeom};
-use jx_packet_header::{BandCells, Precinct};
+use jx_packet_header::Precinct;
+use jx_tile::cells_of;
 use std::alloc::Global;
-
-/// How the code-blocks of a resolution are coded.
-#[derive(Clone, Copy)]
-struct Coding {
-    style: Style,
-    /// The planes of its bands in their order.
-    planes: [u32; 3],
-}
-
-fn coding_of(view: &TileView<'_>, comp: u16, res: u8) -> Coding
-    ensures { IsCoding view.now comp res result }
-{
-    let style = view.style(comp);
-    if res == 0 {
-        let planes = [view.planes(comp, res, Band::LL), 0, 0];
-        return Coding { style, planes };
-    }
-    let planes = [
-        view.planes(comp, res, Band::HL),
-        view.planes(comp, res, Band::LH),
-        view.planes(comp, res, Band::HH),
-    ];
-    Coding { style, planes }
-}
-
-/// How many code-blocks a precinct has in a band, side by side and one above another.
-fn sizes_of(
-    geom: &TileGeom,
-    comp: u16,
-    res: u8,
-    band: Band,
-    precinct: u32,
-    planes: u32,
-) -> BandCells
-    requires precinct { HasPrecinct geom.now comp res precinct }
-    requires band { HasBand res band }
-    ensures { result ≡ sizes_of (cells_at geom.now comp res precinct band) planes }
-{
-    let cells = geom.blocks(comp, res, band, precinct);
-    let wide = cells.x.high.saturating_sub(cells.x.low);
-    let high = cells.y.high.saturating_sub(cells.y.low);
-    if wide == 0 || high == 0 {
-        return BandCells {
-            wide: 0,
-            high: 0,
-            planes,
-        };
-    }
-    BandCells { wide, high, planes }
-}
 
 /// A precinct of which no packet was read.
 fn fresh_precinct(
     alloc: Global,
     stream: &Stream,
+    view: &TileView<'_>,
     geom: &TileGeom,
     comp: u16,
     res: u8,
     precinct: u32,
-    coding: Coding,
 ) -> Result<Precinct, NoMemory>
-    requires range { StreamInRange stream.now }
-    requires tile { geom.now.tile < tile_number stream.now.siz }
-    requires geometry { geom.now ≡ geometry stream.now geom.now.tile }
-    requires limits { GeometryInRange geom.now }
+    requires tile { AreOfTile stream.now view.now geom.now }
     requires precinct { HasPrecinct geom.now comp res precinct }
-    requires coding { IsCoding (headers_at stream.now geom.now.tile) comp res coding }
     ensures { IfOk result (λ p. p ≡ fresh_precinct stream.now geom.now comp res precinct) }
 {
-    let [first, second, third] = coding.planes;
-    if res == 0 {
-        let bands = [sizes_of(geom, comp, res, Band::LL, precinct, first)];
-        return Precinct::new(alloc, &bands, coding.style);
-    }
-    let bands = [
-        sizes_of(geom, comp, res, Band::HL, precinct, first),
-        sizes_of(geom, comp, res, Band::LH, precinct, second),
-        sizes_of(geom, comp, res, Band::HH, precinct, third),
-    ];
-    Precinct::new(alloc, &bands, coding.style)
+    let bands = cells_of(alloc, view, geom, comp, res, precinct)?;
+    let style = view.style(comp);
+    Precinct::new(alloc, &bands, style)
 }
 
 /// Appends the precincts of a resolution.
-#[tactic(auto, using(jx_base::proofs::Joined::joined_none, jx_base::proofs::Joined::joined_next), unfolding(crate::specs::Cells::fresh_resolution))]
+#[tactic(auto, using(jx_base::proofs::Joined::joined_none, jx_base::proofs::Joined::joined_next), unfolding(crate::specs::Fresh::fresh_resolution))]
 fn push_resolution(
     alloc: Global,
     stream: &Stream,
@@ -112,18 +46,14 @@ fn push_resolution(
     res: u8,
     list: &mut Vec<Precinct>,
 ) -> Result<(), NoMemory>
-    requires view { view.now ≡ headers_at stream.now geom.now.tile }
-    requires range { StreamInRange stream.now }
-    requires tile { geom.now.tile < tile_number stream.now.siz }
-    requires geometry { geom.now ≡ geometry stream.now geom.now.tile }
-    requires limits { GeometryInRange geom.now }
+    requires tile { AreOfTile stream.now view.now geom.now }
     requires res { HasResolution geom.now comp res }
     ensures { OnOk result (list.new.items ≡ list.old.items ++ fresh_resolution stream.now geom.now comp res) }
 {
-    let coding = coding_of(view, comp, res);
     let (columns, rows) = geom.precincts(comp, res);
     for precinct in 0..columns * rows {
-        list.push(fresh_precinct(alloc, stream, geom, comp, res, precinct, coding)?)?;
+        let fresh = fresh_precinct(alloc, stream, view, geom, comp, res, precinct)?;
+        list.push(fresh)?;
     }
     Ok(())
 }
@@ -135,11 +65,7 @@ pub(crate) fn precincts_of(
     view: &TileView<'_>,
     geom: &TileGeom,
 ) -> Result<Vec<Precinct>, NoMemory>
-    requires view { view.now ≡ headers_at stream.now geom.now.tile }
-    requires range { StreamInRange stream.now }
-    requires tile { geom.now.tile < tile_number stream.now.siz }
-    requires geometry { geom.now ≡ geometry stream.now geom.now.tile }
-    requires limits { GeometryInRange geom.now }
+    requires tile { AreOfTile stream.now view.now geom.now }
     ensures { IfOk result (λ list. list.items ≡ fresh_precincts stream.now geom.now) }
 {
     let rows = geom.resolutions();
@@ -185,10 +111,7 @@ fn push_band<'a>(
     band: Band,
     list: &mut Vec<Block<'a>>,
 ) -> Result<(), NoMemory>
-    requires view { view.now ≡ headers_at stream.now geom.now.tile }
-    requires range { StreamInRange stream.now }
-    requires tile { geom.now.tile < tile_number stream.now.siz }
-    requires geometry { geom.now ≡ geometry stream.now geom.now.tile }
+    requires tile { AreOfTile stream.now view.now geom.now }
     requires res { HasResolution geom.now comp res }
     requires band { HasBand res band }
     ensures { OnOk result (list.new.items ≡ list.old.items ++ band_blocks stream.now geom.now [] comp res band) }
@@ -221,32 +144,28 @@ fn push_bands<'a>(
     res: u8,
     list: &mut Vec<Block<'a>>,
 ) -> Result<(), NoMemory>
-    requires view { view.now ≡ headers_at stream.now geom.now.tile }
-    requires range { StreamInRange stream.now }
-    requires tile { geom.now.tile < tile_number stream.now.siz }
-    requires geometry { geom.now ≡ geometry stream.now geom.now.tile }
+    requires tile { AreOfTile stream.now view.now geom.now }
     requires res { HasResolution geom.now comp res }
     ensures { OnOk result (list.new.items ≡ list.old.items ++ resolution_blocks stream.now geom.now [] comp res) }
 {
-    if res == 0 {
-        return push_band(alloc, stream, view, geom, comp, res, Band::LL, list);
+    let bands = Band::of_resolution(res);
+    for band in bands {
+        push_band(alloc, stream, view, geom, comp, res, *band, list)?;
     }
-    push_band(alloc, stream, view, geom, comp, res, Band::HL, list)?;
-    push_band(alloc, stream, view, geom, comp, res, Band::LH, list)?;
-    push_band(alloc, stream, view, geom, comp, res, Band::HH, list)
+    Ok(())
 }
 
 /// How many code-blocks a tile has up to the end of a resolution.
 fn blocks_up_to(geom: &TileGeom, comp: u16, res: u8, before: u32) -> usize
     requires { HasResolution geom.now comp res }
 {
-    let before = before as usize;
-    if res == 0 {
-        return before + geom.block_grid(comp, res, Band::LL).count() as usize;
+    let mut count = before as usize;
+    let bands = Band::of_resolution(res);
+    for band in bands {
+        let own = geom.block_grid(comp, res, *band).count();
+        count = count.saturating_add(own as usize);
     }
-    let right = geom.block_grid(comp, res, Band::HL).count() as usize;
-    let low = geom.block_grid(comp, res, Band::LH).count() as usize;
-    before + right + low + geom.block_grid(comp, res, Band::HH).count() as usize
+    count
 }
 
 /// How many code-blocks a tile of these resolutions has, so that room for them is taken at once.
@@ -267,10 +186,7 @@ pub(crate) fn blocks_of<'a>(
     view: &TileView<'_>,
     geom: &TileGeom,
 ) -> Result<Vec<Block<'a>>, NoMemory>
-    requires view { view.now ≡ headers_at stream.now geom.now.tile }
-    requires range { StreamInRange stream.now }
-    requires tile { geom.now.tile < tile_number stream.now.siz }
-    requires geometry { geom.now ≡ geometry stream.now geom.now.tile }
+    requires tile { AreOfTile stream.now view.now geom.now }
     ensures { IfOk result (λ list. list.items ≡ tile_blocks stream.now geom.now []) }
 {
     let rows = geom.resolutions();

@@ -5,23 +5,22 @@ ghost use Rattle.std.specs.List.{All};
 ghost use Rattle.jx_base.specs.declared.pieces.Block.{Block};
 ghost use Rattle.jx_base.specs.Sound.{IsSound};
 ghost use Rattle.jx_codestream.specs.First.{tile_number};
-ghost use Rattle.jx_codestream.specs.declared.faults.StreamFault.{StreamFault};
-ghost use Rattle.jx_tier2_reader.specs.Faults.{HasCause, IsMemory, IsOnly};
-ghost use Rattle.jx_codestream.specs.Read.{IsRead};
 ghost use Rattle.jx_codestream.specs.InRange.{StreamInRange};
-ghost use Rattle.jx_tier2_reader.specs.Totals.{totals_fault};
+ghost use Rattle.jx_codestream.specs.Read.{IsRead};
+ghost use Rattle.jx_codestream.specs.declared.faults.StreamFault.{StreamFault};
+ghost use Rattle.jx_tile.specs.Covered.{IsWhole};
+ghost use Rattle.jx_tile.specs.Faults.{HasCause, IsMemory, IsOnly};
+ghost use Rattle.jx_tile.specs.Totals.{totals_fault};
 ghost use Rattle.jx_tier2_reader.specs.BlockOf.{AreBlocksOf};
-ghost use Rattle.jx_tier2_reader.specs.Gathered.{AreTileBlocks, BreaksData, BreaksTile, IsBroken, IsGathered, IsWhole};
-ghost use Rattle.jx_tier2_reader.specs.Joined.{IsGatheredTo};
+ghost use Rattle.jx_tier2_reader.specs.Gathered.{IsBroken, IsGathered};
+ghost use Rattle.jx_tier2_reader.specs.Joined.{HasCuts, RefusesTile};
 ghost use Rattle.jx_tier2_reader.specs.WellFormed.{IsWellFormed};
 
 use crate::StreamFault;
-use crate::covered::check_covered;
-use crate::shapes::tile_count;
 use crate::tile_blocks::gather_tile;
-use crate::totals::check_totals;
 use jx_base::{Block, NoMemory};
 use jx_codestream::{MainView, Stream};
+use jx_tile::{check_covered, check_totals};
 use std::alloc::Global;
 
 /// Moves the blocks of a tile behind those of the tiles before it. Those of the first tile aren't copied.
@@ -35,7 +34,32 @@ fn append<'a>(blocks: &mut Vec<Block<'a>>, mut next: Vec<Block<'a>>) -> Result<(
     Ok(blocks.append(&mut next)?)
 }
 
-/// The blocks of all tiles, where each packet is covered by an entry.
+/// What is refused first where a tile is refused and the tiles below it are read: rule 25 in the lowest tile that has a packet in
+/// no entry, this one or a later one, comes before the rules of tile data.
+fn first_refused(
+    alloc: Global,
+    bytes: &[u8],
+    stream: &Stream,
+    main: &MainView<'_>,
+    tile: u16,
+    fault: StreamFault,
+) -> StreamFault
+    requires main { main.now ≡ record { siz = stream.now.siz; main = stream.now.main } }
+    requires range { StreamInRange stream.now }
+    requires totals { totals_fault stream.now ≡ None }
+    requires tile { tile < tile_number stream.now.siz }
+    requires whole { (t : ℕ) → t < tile → IsWhole stream.now t }
+    requires read { (t : ℕ) → t < tile → HasCuts bytes.now stream.now t }
+    requires refused { HasCause (RefusesTile bytes.now stream.now tile) fault }
+    ensures { HasCause (IsBroken bytes.now stream.now) result }
+{
+    match check_covered(alloc, stream, main, tile) {
+        Ok(()) => fault,
+        Err(uncovered) => uncovered,
+    }
+}
+
+/// The blocks of all tiles. Each tile's headers and geometry are made once.
 fn gather_tiles<'a>(
     alloc: Global,
     bytes: &'a [u8],
@@ -47,23 +71,22 @@ fn gather_tiles<'a>(
     requires range { StreamInRange stream.now }
     requires fits { length bytes.now ≤ 2 ^ 28 }
     requires totals { totals_fault stream.now ≡ None }
-    requires whole { (t : ℕ) → t < tile_number stream.now.siz → IsWhole stream.now t }
     ensures gathered { IfOk result (λ blocks. IsGathered bytes.entry.now stream.now blocks.items) }
     ensures sound { IfOk result (λ blocks. All IsSound blocks.items) }
-    ensures broken { IfErr result (λ e. HasCause (BreaksData bytes.entry.now stream.now) e) }
+    ensures broken { IfErr result (λ e. HasCause (IsBroken bytes.entry.now stream.now) e) }
 {
     let mut blocks = Vec::new(alloc);
-    for tile in 0..tile_count(stream) {
+    for tile in 0..stream.tile_count() {
         match gather_tile(alloc, bytes, stream, main, tile) {
             Ok(next) => append(&mut blocks, next)?,
-            Err(fault) => return Err(fault),
+            Err(fault) => return Err(first_refused(alloc, bytes, stream, main, tile, fault)),
         }
     }
     Ok(blocks)
 }
 
-/// The same, with the limits and the cover of packets tested first.
-#[tactic(auto, using(crate::proofs::GatherLemmas::cause_of_data, crate::proofs::GatherLemmas::cause_of_cover, crate::proofs::GatherLemmas::cause_of_totals))]
+/// The same, with the limits tested first.
+#[tactic(auto, using(crate::proofs::GatherLemmas::cause_of_totals))]
 fn gather_first<'a>(
     alloc: Global,
     bytes: &'a [u8],
@@ -81,10 +104,6 @@ fn gather_first<'a>(
         Err(_) => return Err(StreamFault::NoMemory),
     };
     match check_totals(alloc, stream, &main) {
-        Ok(()) => {}
-        Err(fault) => return Err(fault),
-    }
-    match check_covered(alloc, stream, &main) {
         Ok(()) => {}
         Err(fault) => return Err(fault),
     }

@@ -2,7 +2,6 @@
 //! pieces of each block are joined.
 #![tactic(auto)]
 
-mod covered;
 mod data;
 mod fresh;
 mod gathering;
@@ -10,12 +9,9 @@ pub mod laws;
 mod packet;
 mod pieces;
 mod rest;
-mod shapes;
 mod tile;
 mod tile_blocks;
-mod totals;
 
 pub use gathering::gather;
 pub use jx_base::{Block, Piece, Pieces};
 pub use jx_codestream::StreamFault;
-pub use totals::count_all;

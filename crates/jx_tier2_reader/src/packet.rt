@@ -3,12 +3,13 @@
 ghost use Rattle.std.specs.Prelude.{◌≡◌, ◌≤◌, ◌<◌, ◌+◌, ◌^◌, length, IfOk, IfErr, OnOk};
 ghost use Rattle.jx_packet_header.specs.Packet.{IsPacket};
 ghost use Rattle.jx_packet_header.specs.Precinct.{IsState, all_blocks};
-ghost use Rattle.jx_tier2_reader.specs.Faults.{HasCause};
+ghost use Rattle.jx_tile.specs.Faults.{HasCause};
 ghost use Rattle.jx_tier2_reader.specs.Cuts.{IsCut, Breaks, BreaksHeader};
 ghost use Rattle.jx_tier2_reader.specs.Reading.{cut_of};
 
 use crate::StreamFault;
-use crate::data::{check_body, read_sop, violated};
+use crate::data::{check_body, read_sop};
+use jx_codestream::violated;
 use jx_packet_header::{HeadFault, Part, Precinct};
 use jx_progression::PacketName;
 

@@ -2,7 +2,7 @@
 
 ghost use Rattle.std.specs.Prelude.{◌≡◌, ◌≤◌, ◌<◌, ◌+◌, ◌-◌, ◌∷◌, ◌^◌, List, [], length, drop, slice_set, IfOk, IfErr, OnOk, MatchOption};
 ghost use Rattle.jx_packet_header.specs.Precinct.{IsState, all_blocks};
-ghost use Rattle.jx_tier2_reader.specs.Faults.{HasCause};
+ghost use Rattle.jx_tile.specs.Faults.{HasCause};
 ghost use Rattle.jx_tier2_reader.specs.Data.{behind, due};
 ghost use Rattle.jx_tier2_reader.specs.Cuts.{IsCut, Breaks};
 ghost use Rattle.jx_tier2_reader.specs.Reading.{cut_of, state_at};

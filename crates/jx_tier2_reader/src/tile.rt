@@ -1,26 +1,22 @@
 //! The packets of one tile (ITU-T T.800, B.9 to B.12).
 
-ghost use Rattle.std.specs.Prelude.{◌≡◌, ◌≤◌, ◌<◌, ◌+◌, ◌^◌, None, List, [], length, take, IfErr, OnOk};
-ghost use Rattle.jx_codestream.specs.First.{tile_number};
-ghost use Rattle.jx_tier2_reader.specs.Faults.{HasCause};
-ghost use Rattle.jx_codestream.specs.Params.{headers_at};
-ghost use Rattle.jx_codestream.specs.Shapes.{geometry, tile_at};
-ghost use Rattle.jx_tier2_reader.specs.Totals.{totals_fault};
+ghost use Rattle.std.specs.Prelude.{◌≡◌, ◌≤◌, ◌<◌, ◌+◌, ◌^◌, [], length, take, IfErr, OnOk};
+ghost use Rattle.jx_tile.specs.Faults.{HasCause};
+ghost use Rattle.jx_codestream.specs.Shapes.{tile_at};
+ghost use Rattle.jx_tile.specs.Frame.{AreOfTile};
 ghost use Rattle.jx_tier2_reader.specs.Data.{window, end_of_data};
 ghost use Rattle.jx_tier2_reader.specs.Blocks.{tile_blocks};
-ghost use Rattle.jx_tier2_reader.specs.Gathered.{AreTileBlocks, BreaksTile, IsListOf, IsWhole};
+ghost use Rattle.jx_tile.specs.Covered.{IsListOf, IsWhole};
+ghost use Rattle.jx_tier2_reader.specs.Gathered.{AreTileBlocks, BreaksTile};
 ghost use Rattle.jx_tier2_reader.specs.InRange.{DataInRange};
-ghost use Rattle.jx_codestream.specs.InRange.{StreamInRange};
 ghost use Rattle.jx_tier2_reader.specs.Reading.{AreInside, IsFront, IsTask};
 
 use crate::StreamFault;
-use crate::data::violated;
 use crate::fresh::precincts_of;
 use crate::pieces::put_pieces;
 use crate::rest::Rest;
-use crate::shapes::tile_at;
 use jx_base::Block;
-use jx_codestream::{Body, Stream, TileView};
+use jx_codestream::{Body, Stream, TileView, violated};
 use jx_geom::TileGeom;
 use jx_progression::PacketName;
 use std::alloc::Global;
@@ -132,11 +128,7 @@ pub(crate) fn read_tile<'a>(
     blocks: &mut Vec<Block<'a>>,
 ) -> Result<(), StreamFault>
     requires fits { length bytes.now ≤ 2 ^ 28 }
-    requires view { view.now ≡ headers_at stream.now geom.now.tile }
-    requires range { StreamInRange stream.now }
-    requires totals { totals_fault stream.now ≡ None }
-    requires tile { geom.now.tile < tile_number stream.now.siz }
-    requires geometry { geom.now ≡ geometry stream.now geom.now.tile }
+    requires tile { AreOfTile stream.now view.now geom.now }
     requires order { IsListOf stream.now geom.now.tile list.now }
     requires whole { IsWhole stream.now geom.now.tile }
     requires bodies { DataInRange bytes.now (tile_at stream.now geom.now.tile).bodies }
@@ -145,7 +137,7 @@ pub(crate) fn read_tile<'a>(
     ensures err { IfErr result (λ e. HasCause (BreaksTile bytes.now stream.now geom.now.tile) e) }
 {
     let precincts = precincts_of(alloc, stream, view, geom)?;
-    let bodies = tile_at(stream, geom.number()).bodies.as_slice();
+    let bodies = stream.tile(geom.number()).bodies.as_slice();
     let source = Source {
         bytes,
         stream,

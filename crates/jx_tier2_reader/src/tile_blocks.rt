@@ -1,51 +1,43 @@
 //! The code-blocks of one tile.
 
-ghost use Rattle.std.specs.Prelude.{◌≡◌, ◌≤◌, ◌<◌, ◌^◌, None, length, IfOk, IfErr};
+ghost use Rattle.std.specs.Prelude.{◌≡◌, ◌≤◌, ◌<◌, ◌^◌, None, length, IfOk, IfErr, OnOk};
 ghost use Rattle.std.specs.List.{All};
 ghost use Rattle.jx_base.specs.Sound.{IsSound};
 ghost use Rattle.jx_codestream.specs.First.{tile_number};
-ghost use Rattle.jx_tier2_reader.specs.Faults.{HasCause};
-ghost use Rattle.jx_codestream.specs.Read.{IsRead};
 ghost use Rattle.jx_codestream.specs.InRange.{StreamInRange};
-ghost use Rattle.jx_codestream.specs.Params.{headers_at};
-ghost use Rattle.jx_codestream.specs.Shapes.{geometry};
-ghost use Rattle.jx_tier2_reader.specs.Totals.{totals_fault};
-ghost use Rattle.jx_tier2_reader.specs.Gathered.{AreTileBlocks, BreaksTile, IsWhole};
+ghost use Rattle.jx_codestream.specs.Read.{IsRead};
+ghost use Rattle.jx_tile.specs.Covered.{IsWhole};
+ghost use Rattle.jx_tile.specs.Faults.{HasCause};
+ghost use Rattle.jx_tile.specs.Totals.{totals_fault};
+ghost use Rattle.jx_tier2_reader.specs.Gathered.{AreTileBlocks};
+ghost use Rattle.jx_tier2_reader.specs.Joined.{RefusesTile};
 
 use crate::StreamFault;
-use crate::covered::list_of;
 use crate::fresh::blocks_of;
-use crate::shapes::geometry_of;
 use crate::tile::read_tile;
 use jx_base::Block;
-use jx_codestream::{MainView, Stream, TileView};
-use jx_geom::TileGeom;
+use jx_codestream::{MainView, Stream};
+use jx_tile::TileFrame;
 use std::alloc::Global;
 
-/// Reads the blocks of a tile whose packets are covered, over its headers and geometry.
+/// Reads the blocks of a tile.
 fn read_blocks<'a>(
     alloc: Global,
     bytes: &'a [u8],
-    stream: &Stream,
-    view: &TileView<'_>,
-    geom: &TileGeom,
+    frame: &TileFrame<'_>,
 ) -> Result<Vec<Block<'a>>, StreamFault>
-    requires view { view.now ≡ headers_at stream.now geom.now.tile }
-    requires read { IsRead bytes.now stream.now }
-    requires range { StreamInRange stream.now }
+    requires read { IsRead bytes.now frame.now.stream }
     requires fits { length bytes.now ≤ 2 ^ 28 }
-    requires totals { totals_fault stream.now ≡ None }
-    requires tile { geom.now.tile < tile_number stream.now.siz }
-    requires geometry { geom.now ≡ geometry stream.now geom.now.tile }
-    requires whole { IsWhole stream.now geom.now.tile }
-    ensures blocks { IfOk result (λ blocks. AreTileBlocks bytes.entry.now stream.now geom.now.tile blocks.items) }
+    ensures blocks { IfOk result (λ blocks. AreTileBlocks bytes.entry.now frame.now.stream frame.now.number blocks.items) }
+    ensures whole { OnOk result (IsWhole frame.now.stream frame.now.number) }
     ensures sound { IfOk result (λ blocks. All IsSound blocks.items) }
-    ensures broken { IfErr result (λ e. HasCause (BreaksTile bytes.entry.now stream.now geom.now.tile) e) }
+    ensures broken { IfErr result (λ e. HasCause (RefusesTile bytes.entry.now frame.now.stream frame.now.number) e) }
 {
-    let list = match list_of(alloc, stream, view, geom) {
+    let list = match frame.names(alloc) {
         Ok(list) => list,
         Err(fault) => return Err(fault),
     };
+    let (stream, view, geom) = frame.parts();
     let mut blocks = blocks_of(alloc, stream, view, geom)?;
     match read_tile(alloc, bytes, stream, view, geom, &list, &mut blocks) {
         Ok(()) => Ok(blocks),
@@ -53,7 +45,7 @@ fn read_blocks<'a>(
     }
 }
 
-/// The blocks of a tile whose packets are covered by its progression entries.
+/// The blocks of a tile; what is refused first in it, rule 25 before the rules of its data.
 pub(crate) fn gather_tile<'a>(
     alloc: Global,
     bytes: &'a [u8],
@@ -67,15 +59,13 @@ pub(crate) fn gather_tile<'a>(
     requires fits { length bytes.now ≤ 2 ^ 28 }
     requires totals { totals_fault stream.now ≡ None }
     requires tile { tile < tile_number stream.now.siz }
-    requires whole { IsWhole stream.now tile }
     ensures blocks { IfOk result (λ blocks. AreTileBlocks bytes.entry.now stream.now tile blocks.items) }
+    ensures whole { OnOk result (IsWhole stream.now tile) }
     ensures sound { IfOk result (λ blocks. All IsSound blocks.items) }
-    ensures broken { IfErr result (λ e. HasCause (BreaksTile bytes.entry.now stream.now tile) e) }
+    ensures broken { IfErr result (λ e. HasCause (RefusesTile bytes.entry.now stream.now tile) e) }
 {
-    let view = stream.tile_view(alloc, main, tile)?;
-    let geom = geometry_of(alloc, stream, &view, tile)?;
-    let result = read_blocks(alloc, bytes, stream, &view, &geom);
-    drop(geom);
-    drop(view);
+    let frame = TileFrame::new(alloc, stream, main, tile)?;
+    let result = read_blocks(alloc, bytes, &frame);
+    drop(frame);
     result
 }

@@ -20,8 +20,8 @@ use Rattle.jx_codestream.specs.Params.{header_of}
 use Rattle.jx_codestream.specs.Shapes.{geometry, layers_of, shapes_of, style_of}
 use Rattle.jx_codestream.specs.Spells.{TilePart, part_bytes}
 use Rattle.jx_tier2_reader.specs.Carries.{block_in, bytes_of, pieces_of}
-use Rattle.jx_tier2_reader.specs.Cells.{precinct_bands}
-use Rattle.jx_tier2_reader.specs.Gathered.{IsListOf}
+use Rattle.jx_tile.specs.Cells.{precinct_bands}
+use Rattle.jx_tile.specs.Covered.{IsListOf}
 use Rattle.jx_tier2_reader.specs.Planned.{leaf_from, leaf_in, leaves_in}
 use Rattle.jx_tier2_reader.specs.Written.{bytes_from, packet_bytes}
 use Rattle.jx_tier2_writer.specs.Assembled.{AreOwn, AreTileBytes, IsTooLong}

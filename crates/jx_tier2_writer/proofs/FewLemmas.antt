@@ -20,11 +20,11 @@ use Rattle.jx_progression.proofs.OrderLemmas.{order_once, order_to, same_fields}
 use Rattle.jx_codestream.specs.declared.Stream.{Stream}
 use Rattle.jx_codestream.specs.First.{tile_number}
 use Rattle.jx_codestream.specs.Shapes.{geometry, layers_of, tile_at}
-use Rattle.jx_tier2_reader.specs.Gathered.{IsListOf}
-use Rattle.jx_tier2_reader.specs.Totals.{tile_packets, totals_fault}
+use Rattle.jx_tile.specs.Covered.{IsListOf}
+use Rattle.jx_tile.specs.Totals.{tile_packets, totals_fault}
 use Rattle.jx_tier2_reader.specs.Written.{packets_in}
-use Rattle.jx_plan.proofs.ListedLemmas.{has_precinct, all_few as total_low}
-use Rattle.jx_tier2_reader.proofs.TotalLemmas.{packets_are as total_is}
+use Rattle.jx_tile.proofs.FewPackets.{has_precinct, all_few as total_low}
+use Rattle.jx_tile.proofs.TotalLemmas.{packets_are as total_is}
 
 -- ---- packets as numbers
 abbrev number_of : Geometry → ℕ → PacketName → ℕ

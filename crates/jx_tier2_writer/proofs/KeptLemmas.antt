@@ -24,7 +24,7 @@ use Rattle.jx_codestream.specs.Tiles.{entry_in, in_slot, or_list}
 use Rattle.jx_codestream.specs.Tiles.{joined as entries_joined}
 use Rattle.jx_tier2_reader.specs.BlockOf.{AreBlocksOf}
 use Rattle.jx_tier2_reader.specs.Gathered.{IsGathered}
-use Rattle.jx_tier2_reader.specs.Totals.{packet_total, totals_fault}
+use Rattle.jx_tile.specs.Totals.{packet_total, totals_fault}
 use Rattle.jx_tier2_reader.proofs.BlockOfLemmas.{blocks_of_stream}
 use Rattle.jx_tier2_reader.proofs.SoundLemmas.{sound_gathered}
 use Rattle.jx_codeblock.specs.declared.LayerEnd.{LayerEnd}

@@ -18,9 +18,10 @@ use Rattle.jx_codestream.specs.Shapes.{geometry, layers_of, tile_at}
 use Rattle.jx_codestream.specs.Spells.{TilePart, file_bytes}
 use Rattle.jx_tier2_reader.specs.Accepted.{IsAccepted}
 use Rattle.jx_tier2_reader.specs.BlockOf.{AreBlocksOf}
-use Rattle.jx_tier2_reader.specs.Gathered.{IsGathered, IsListOf, IsWhole}
+use Rattle.jx_tile.specs.Covered.{IsListOf, IsWhole}
+use Rattle.jx_tier2_reader.specs.Gathered.{IsGathered}
 use Rattle.jx_tier2_reader.specs.Planned.{ArePlanned}
-use Rattle.jx_tier2_reader.specs.Totals.{totals_fault}
+use Rattle.jx_tile.specs.Totals.{totals_fault}
 use Rattle.jx_tier2_reader.specs.WellFormed.{IsWellFormed}
 use Rattle.jx_tier2_reader.specs.Written.{Packets, packets_in}
 use Rattle.jx_tier2_reader.specs.Another.{HaveSameBlocks}

@@ -20,7 +20,7 @@ use Rattle.jx_packet_header.specs.Writable.{AllFew, all_passes}
 use Rattle.jx_packet_header.specs.Written.{Leafed, Plan}
 use Rattle.jx_codestream.specs.declared.Stream.{Stream}
 use Rattle.jx_codestream.specs.Shapes.{layers_of, style_of}
-use Rattle.jx_tier2_reader.specs.Cells.{precinct_bands}
+use Rattle.jx_tile.specs.Cells.{precinct_bands}
 use Rattle.jx_tier2_reader.specs.Planned.{leaf_from, part_in}
 use Rattle.jx_tier2_reader.proofs.CellLemmas.{cells_count}
 use Rattle.jx_tier2_writer.specs.Coded.{HasLayers}

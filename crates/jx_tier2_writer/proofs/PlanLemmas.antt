@@ -18,7 +18,7 @@ use Rattle.jx_codestream.specs.First.{canvas_of, tile_number}
 use Rattle.jx_codestream.specs.InRange.{StreamInRange}
 use Rattle.jx_codestream.specs.Shapes.{geometry, layers_of, shapes_of}
 use Rattle.jx_codestream.specs.Spells.{part_bytes}
-use Rattle.jx_tier2_reader.specs.Totals.{totals_fault}
+use Rattle.jx_tile.specs.Totals.{totals_fault}
 use Rattle.jx_codeblock.specs.Recoded.{WrittenBlock}
 use Rattle.jx_plan.specs.Headers.{Asked, comp_written, stream_written}
 use Rattle.jx_plan.specs.Causes.{IsFree}

@@ -26,7 +26,7 @@ use Rattle.jx_codestream.specs.Tiles.{entry_in, first_header, headers_of, in_slo
 use Rattle.jx_codestream.specs.Tiles.{joined as entries_joined}
 use Rattle.jx_codestream.proofs.OneLemmas.{drop_on}
 use Rattle.jx_codestream.proofs.ShapeLemmas.{siz_is}
-use Rattle.jx_tier2_reader.specs.Gathered.{IsListOf}
+use Rattle.jx_tile.specs.Covered.{IsListOf}
 use Rattle.jx_tier2_reader.specs.Written.{AreFilled, Packets, bytes_from, packets_in}
 use Rattle.jx_tier2_writer.specs.Lengths.{numbered}
 use Rattle.jx_tier2_writer.specs.Ready.{AllShort, AreReady, AreShort, stream_read}

@@ -26,8 +26,8 @@ use Rattle.jx_codestream.proofs.PlaneLemmas.{all_planes, number_inside, tile_fit
 use Rattle.jx_codestream.proofs.RangeLemmas.{shapes_at, shapes_length, few_tiles, planes_fit}
 use Rattle.jx_codestream.proofs.SegmentLemmas.{chosen_fits, chosen_there, cod_there, defaults_there, IsCoded, IsQuantized, IsShaped, or_chosen, or_there, quant_there, segments_fit, shape_there, slot_chosen, slot_there}
 use Rattle.jx_codestream.proofs.ShapeLemmas.{shape_fits, siz_is, SizFits}
-use Rattle.jx_tier2_reader.specs.Gathered.{IsWhole}
-use Rattle.jx_tier2_reader.proofs.TotalLemmas.{geometry_fits}
+use Rattle.jx_tile.specs.Covered.{IsWhole}
+use Rattle.jx_tile.proofs.TotalLemmas.{geometry_fits}
 use Rattle.jx_progression.proofs.ExistLemmas.{orders_exist}
 use Rattle.jx_tier2_writer.specs.Ready.{AreReady, HasList}
 use Rattle.jx_options.specs.declared.Marks.{Marks}

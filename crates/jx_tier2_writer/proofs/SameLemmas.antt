@@ -28,11 +28,11 @@ use Rattle.jx_tier2_reader.specs.Another.{HaveSameBlocks, rect_in}
 use Rattle.jx_tier2_reader.specs.BlockOf.{AreBlocksOf}
 use Rattle.jx_tier2_reader.specs.Carries.{block_in, bytes_of, pieces_of}
 use Rattle.jx_tier2_reader.specs.BlockOf.{pieces_at}
-use Rattle.jx_tier2_reader.specs.Cells.{precinct_bands, sizes_of}
+use Rattle.jx_tile.specs.Cells.{precinct_bands, sizes_of}
 use Rattle.jx_geom.specs.Precincts.{cells_at}
 use Rattle.jx_tier2_reader.specs.Planned.{leaf_from, leaf_in, leaves_in}
-use Rattle.jx_tier2_reader.specs.Totals.{block_total, packet_total, tile_packets, totals_fault}
-use Rattle.jx_tier2_reader.specs.Faults.{passed}
+use Rattle.jx_tile.specs.Totals.{block_total, packet_total, tile_packets, totals_fault}
+use Rattle.jx_tile.specs.Faults.{passed}
 use Rattle.jx_tier2_reader.specs.Written.{Written}
 use Rattle.jx_tier2_reader.proofs.AnotherLemmas.{blocks_of_other}
 use Rattle.jx_base.specs.Pieces.{PieceValue}

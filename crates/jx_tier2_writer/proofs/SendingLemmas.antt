@@ -13,13 +13,6 @@ none_more [] v none before (suc l) = refl
 none_more (w ∷ vecs) v none before zero = before 0
 none_more (w ∷ vecs) v none before (suc l) = none_more vecs v none (λ i. before (suc i)) l
 
-pub one_pushed : {X : Type 0} (a b : List X) (x : X) → a ≡ [] → b ≡ a ++ x ∷ [] → b ≡ x ∷ []
-one_pushed {X} a b x none one = one ∙ ap (λ (xs : List X). xs ++ x ∷ []) none
-
-pub three_pushed : {X : Type 0} (a b c d : List X) (x y z : X) → a ≡ [] → b ≡ a ++ x ∷ [] → c ≡ b ++ y ∷ [] → d ≡ c ++ z ∷ [] → d ≡ x ∷ y ∷ z ∷ []
-three_pushed {X} a b c d x y z none one two three =
-    three ∙ ap (λ (xs : List X). xs ++ z ∷ []) (two ∙ ap (λ (xs : List X). xs ++ y ∷ []) (one_pushed a b x none one))
-
 -- the bytes of one leaf more
 pub bytes_next : (f : ℕ → List ℕ) (old new last : List ℕ) (n : ℕ) → new ≡ old ++ last → old ≡ joined f 0 n → last ≡ f n → new ≡ joined f 0 (n + 1)
 bytes_next f old new last n made before is =

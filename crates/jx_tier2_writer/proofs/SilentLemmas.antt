@@ -17,7 +17,7 @@ use Rattle.jx_codestream.specs.declared.Stream.{Stream}
 use Rattle.jx_codestream.specs.Shapes.{layers_of, style_of}
 use Rattle.jx_tier2_reader.specs.BlockOf.{pieces_at}
 use Rattle.jx_tier2_reader.specs.Carries.{pieces_of}
-use Rattle.jx_tier2_reader.specs.Cells.{precinct_bands}
+use Rattle.jx_tile.specs.Cells.{precinct_bands}
 use Rattle.jx_tier2_reader.specs.Planned.{part_in}
 use Rattle.jx_tier2_writer.specs.Own.{IsSending, leaf_bytes, own_header, own_leaf, own_leaves}
 use Rattle.jx_tier2_writer.specs.Sent.{layer_bytes, row_at, row_bytes}

@@ -13,7 +13,7 @@ use Rattle.jx_packet_header.specs.Written.{Leafed}
 use Rattle.jx_codestream.specs.declared.Stream.{Stream}
 use Rattle.jx_codestream.specs.Shapes.{layers_of, style_of}
 use Rattle.jx_tier2_reader.specs.Carries.{pieces_of}
-use Rattle.jx_tier2_reader.specs.Cells.{precinct_bands}
+use Rattle.jx_tile.specs.Cells.{precinct_bands}
 use Rattle.jx_tier2_reader.specs.Planned.{leaf_from}
 use Rattle.jx_tier2_writer.specs.Coded.{HasLayers}
 use Rattle.jx_tier2_writer.specs.Sent.{AreSent, layer_bytes, row_at, row_bytes}

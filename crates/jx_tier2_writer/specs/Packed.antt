@@ -12,7 +12,7 @@ use Rattle.jx_codestream.specs.declared.Stream.{Stream}
 use Rattle.jx_codestream.specs.Params.{header_of}
 use Rattle.jx_codestream.specs.Shapes.{layers_of, style_of}
 use Rattle.jx_codestream.specs.Spells.{TilePart}
-use Rattle.jx_tier2_reader.specs.Cells.{precinct_bands}
+use Rattle.jx_tile.specs.Cells.{precinct_bands}
 use Rattle.jx_marker.specs.Codes.{eph_spelling}
 use Rattle.jx_tier2_reader.specs.Written.{Packets, Written, bytes_from, packet_bytes, sop_bytes}
 use Rattle.jx_options.specs.declared.Marks.{Marks as Asked}

@@ -14,8 +14,8 @@ use Rattle.jx_codestream.specs.Params.{cod_of, cod_or, header_of, planes_fault, 
 use Rattle.jx_codestream.specs.Shapes.{tile_at}
 use Rattle.jx_codestream.specs.Spells.{TilePart, AreSegments, first_sot, placed}
 use Rattle.jx_progression.specs.declared.names.PacketName.{PacketName}
-use Rattle.jx_tier2_reader.specs.Gathered.{IsListOf}
-use Rattle.jx_tier2_reader.specs.Totals.{totals_fault}
+use Rattle.jx_tile.specs.Covered.{IsListOf}
+use Rattle.jx_tile.specs.Totals.{totals_fault}
 use Rattle.jx_tier2_writer.specs.Told.{has_lengths}
 use Rattle.jx_options.specs.declared.Marks.{Marks}
 use Rattle.jx_plan.specs.Groups.{HasFewParts}

@@ -14,11 +14,11 @@ use Rattle.jx_codestream.specs.First.{tile_number}
 use Rattle.jx_codestream.specs.Params.{header_of}
 use Rattle.jx_codestream.specs.Shapes.{geometry, layers_of, style_of}
 use Rattle.jx_codestream.specs.Spells.{TilePart, all_bytes, file_bytes}
-use Rattle.jx_tier2_reader.specs.Cells.{precinct_bands}
+use Rattle.jx_tile.specs.Cells.{precinct_bands}
 use Rattle.jx_tier2_reader.specs.Carries.{bytes_of}
 use Rattle.jx_tier2_reader.specs.Planned.{leaves_in}
 use Rattle.jx_tier2_reader.specs.Written.{Written, Packets, packet_bytes, bytes_from}
-use Rattle.jx_tier2_reader.specs.Gathered.{IsListOf}
+use Rattle.jx_tile.specs.Covered.{IsListOf}
 use Rattle.jx_options.specs.declared.Marks.{Marks}
 use Rattle.jx_plan.specs.Groups.{groups_of}
 use Rattle.jx_tier2_writer.specs.Lengths.{length_segments}

@@ -1,18 +1,16 @@
 //! The tile-parts of a tile, one after another (ITU-T T.800, A.4.2).
 
-ghost use Rattle.std.specs.Prelude.{◌≡◌, ◌≤◌, ◌<◌, ◌+◌, ◌^◌, ◌++◌, ◌∷◌, List, [], length, map, None, Err, IfOk, OnOk};
+ghost use Rattle.std.specs.Prelude.{◌≡◌, ◌≤◌, ◌<◌, ◌+◌, ◌^◌, ◌++◌, ◌∷◌, List, [], length, map, Err, IfOk, OnOk};
 ghost use Rattle.std.specs.List.{All, concat};
 ghost use Rattle.jx_base.specs.declared.pieces.Block.{Block};
 ghost use Rattle.jx_marker.specs.Ranges.{InRange};
 ghost use Rattle.jx_progression.specs.Packets.{IsPacket};
 ghost use Rattle.jx_codestream.specs.declared.headers.HeaderKind.TheVariants.{First};
-ghost use Rattle.jx_codestream.specs.First.{tile_number};
-ghost use Rattle.jx_codestream.specs.InRange.{StreamInRange};
-ghost use Rattle.jx_codestream.specs.Params.{header_of, headers_at};
-ghost use Rattle.jx_codestream.specs.Shapes.{geometry, layers_of};
+ghost use Rattle.jx_codestream.specs.Params.{header_of};
+ghost use Rattle.jx_codestream.specs.Shapes.{layers_of};
 ghost use Rattle.jx_codestream.specs.Spells.{AreSegments, part_bytes};
-ghost use Rattle.jx_tier2_reader.specs.Gathered.{IsWhole};
-ghost use Rattle.jx_tier2_reader.specs.Totals.{totals_fault};
+ghost use Rattle.jx_tile.specs.Covered.{IsListOf};
+ghost use Rattle.jx_tile.specs.Frame.{AreOfTile};
 ghost use Rattle.jx_plan.specs.Groups.{HasFewParts, groups_of};
 ghost use Rattle.jx_tier2_writer.specs.Assembled.{AreOwn, AreTileBytes, IsTooLong};
 ghost use Rattle.jx_tier2_writer.specs.Names.{AreSendings, tile_names};
@@ -30,7 +28,7 @@ use jx_base::NoMemory;
 use jx_codestream::{Stream, TileView};
 use jx_geom::TileGeom;
 use jx_options::Marks;
-use jx_plan::{count_parts, names_of, part_end};
+use jx_plan::{count_parts, part_end};
 use jx_progression::PacketName;
 use std::alloc::Global;
 
@@ -136,23 +134,22 @@ fn pack_named<B: Coded>(
     Ok(parts)
 }
 
-/// A tile laid out: `values` are its blocks by their numbers in the tile. `TooLong` comes exactly where one of its tile-parts has more
+/// A tile laid out: `names` are its packets in their order, `values` its blocks by their numbers in the tile. `TooLong` comes exactly where one of its tile-parts has more
 /// than `most` bytes. The time grows with the packets, and with the blocks and their parts.
 pub(crate) fn pack_values<B: Coded>(
     alloc: Global,
     stream: &Stream,
     view: &TileView<'_>,
     geom: &TileGeom,
+    names: Vec<PacketName>,
     values: &[B],
     marks: Marks,
     most: u32,
 ) -> Result<Layout, AssembleFault>
-    requires view { view.now ≡ headers_at stream.now geom.now.tile }
-    requires range { StreamInRange stream.now }
-    requires totals { totals_fault stream.now ≡ None }
-    requires tile { geom.now.tile < tile_number stream.now.siz }
-    requires geometry { geom.now ≡ geometry stream.now geom.now.tile }
-    requires whole { IsWhole stream.now geom.now.tile }
+    requires tile { AreOfTile stream.now view.now geom.now }
+    requires order { IsListOf stream.now geom.now.tile names.items }
+    requires each { All (IsPacket geom.now (layers_of stream.now geom.now.tile)) names.items }
+    requires short { length names.items ≤ 2 ^ 22 }
     requires header { AreSegments First (length stream.now.siz.comps) [] (header_of stream.now geom.now.tile) }
     requires own { AreOwnBlocks stream.now geom.now (map B.block values.now) }
     requires few { HasFewParts marks.parts stream.now geom.now.tile }
@@ -162,10 +159,6 @@ pub(crate) fn pack_values<B: Coded>(
     ensures long { result ≡ Err AssembleFault.TooLong → (blocks : List Block) → AreOwn stream.now geom.now.tile blocks (map B.block values.now)
         → IsTooLong marks stream.now blocks geom.now.tile most }
 {
-    let names = match names_of(alloc, stream, view, geom) {
-        Ok(names) => names,
-        Err(_) => return Err(AssembleFault::NoMemory),
-    };
     let list = match sendings_of(alloc, stream, view, geom, values) {
         Ok(list) => list,
         Err(_) => return Err(AssembleFault::NoMemory),

@@ -1,6 +1,6 @@
 //! The main header (ITU-T T.800, A.2).
 
-ghost use Rattle.std.specs.Prelude.{◌≡◌, ◌≤◌, ◌++◌, [], length, IfOk, OnOk};
+ghost use Rattle.std.specs.Prelude.{◌≡◌, ◌++◌, [], length, IfOk, OnOk};
 ghost use Rattle.jx_marker.specs.declared.Segment.TheVariants as segment;
 ghost use Rattle.jx_marker.specs.Ranges.{SizInRange};
 ghost use Rattle.jx_marker.specs.Segments.{spelling};
@@ -9,17 +9,9 @@ ghost use Rattle.jx_codestream.specs.Spells.{AreSegments, all_bytes};
 
 use crate::segments::put_segments;
 use jx_base::NoMemory;
-use jx_codestream::Stream;
+use jx_codestream::{Stream, comps_of};
 use jx_marker::{Segment, Siz, put_segment};
 use std::alloc::Global;
-
-/// How many components a picture has, at most 16,384.
-pub(crate) fn comps_of(siz: &Siz) -> u16
-    requires { length siz.now.comps ≤ 16384 }
-    ensures { result ≡ length siz.now.comps }
-{
-    siz.comps.as_slice().len() as u16
-}
 
 /// Appends SOC.
 fn put_soc(out: &mut Vec<u8>) -> Result<(), NoMemory>

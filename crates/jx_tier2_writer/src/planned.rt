@@ -6,11 +6,11 @@ ghost use Rattle.jx_base.specs.declared.pieces.Block.{Block};
 ghost use Rattle.jx_codestream.specs.declared.headers.HeaderKind.TheVariants.{First};
 ghost use Rattle.jx_codestream.specs.First.{tile_number};
 ghost use Rattle.jx_codestream.specs.InRange.{StreamInRange};
-ghost use Rattle.jx_codestream.specs.Params.{header_of, headers_at};
+ghost use Rattle.jx_codestream.specs.Params.{header_of};
 ghost use Rattle.jx_codestream.specs.Shapes.{geometry};
 ghost use Rattle.jx_codestream.specs.Spells.{AreSegments};
-ghost use Rattle.jx_tier2_reader.specs.Gathered.{IsWhole};
-ghost use Rattle.jx_tier2_reader.specs.Totals.{totals_fault};
+ghost use Rattle.jx_tile.specs.Covered.{IsWhole};
+ghost use Rattle.jx_tile.specs.Totals.{totals_fault};
 ghost use Rattle.jx_plan.specs.Groups.{HasFewParts};
 ghost use Rattle.jx_plan.specs.Plan.{IsPlan, headers_of};
 ghost use Rattle.jx_options.specs.Wanted.{marks_of};
@@ -29,12 +29,12 @@ use crate::tile_out::TileOut;
 use crate::whole::whole_parts;
 use jx_base::NoMemory;
 use jx_codeblock::Recoded;
-use jx_codestream::{MainView, Stream, TileView};
-use jx_geom::TileGeom;
+use jx_codestream::{MainView, Stream};
 use jx_options::Marks;
 use jx_plan::OutStream;
 use jx_plan::laws::parameters_stay;
 use jx_store::Entry;
+use jx_tile::TileFrame;
 use std::alloc::Global;
 
 /// The headers that are written; a file may be written from them.
@@ -66,22 +66,6 @@ pub fn main_view<'a>(alloc: Global, plan: &'a OutStream<'_>) -> Result<MainView<
     ready_headers(plan).main_view(alloc)
 }
 
-/// The geometry of a tile.
-fn geometry_of(
-    alloc: Global,
-    stream: &Stream,
-    view: &TileView<'_>,
-    tile: u16,
-) -> Result<TileGeom, NoMemory>
-    requires view { view.now ≡ headers_at stream.now tile }
-    requires range { StreamInRange stream.now }
-    requires totals { totals_fault stream.now ≡ None }
-    requires tile { tile < tile_number stream.now.siz }
-    ensures { IfOk result (λ geom. geom ≡ geometry stream.now tile) }
-{
-    TileGeom::new(alloc, &view.canvas(), tile, view.shapes())
-}
-
 /// A tile of a stream that is ready to be written, of which `blocks` are the blocks by their numbers in the tile. `TooLong` comes
 /// exactly where one of its tile-parts has more than `most` bytes.
 fn pack_stream<'a, 'b>(
@@ -106,15 +90,20 @@ fn pack_stream<'a, 'b>(
     ensures long { result ≡ Err AssembleFault.TooLong → (all : List Block) → AreOwn stream.entry.now tile all (blocks_lent blocks.entry.items)
         → HasMoreBytes marks stream.entry.now all tile most }
 {
-    let view = stream.tile_view(alloc, main, tile)?;
-    let geom = geometry_of(alloc, stream, &view, tile)?;
-    let layout = match pack_values(alloc, stream, &view, &geom, &blocks, marks, most) {
+    let frame = TileFrame::new(alloc, stream, main, tile)?;
+    let names = match frame.names(alloc) {
+        Ok(names) => names,
+        // No packet is uncovered, so memory was refused.
+        Err(_) => return Err(AssembleFault::NoMemory),
+    };
+    let (own, view, geom) = frame.parts();
+    let layout = match pack_values(alloc, own, view, geom, names, &blocks, marks, most) {
         Ok(layout) => layout,
         Err(fault) => return Err(fault),
     };
     Ok(TileOut {
         stream,
-        geom,
+        geom: frame.into_geometry(),
         blocks,
         marks,
         layout,

@@ -1,12 +1,9 @@
 //! What is sent of the precincts of a tile, in the order of their numbers.
 
-ghost use Rattle.std.specs.Prelude.{◌≡◌, ◌<◌, ◌++◌, List, map, IfOk, OnOk};
-ghost use Rattle.jx_geom.specs.Geometry.{GeometryInRange, HasResolution};
+ghost use Rattle.std.specs.Prelude.{◌++◌, List, map, IfOk, OnOk};
+ghost use Rattle.jx_geom.specs.Geometry.{HasResolution};
 ghost use Rattle.jx_progression.specs.declared.names.PacketName.{PacketName};
-ghost use Rattle.jx_codestream.specs.First.{tile_number};
-ghost use Rattle.jx_codestream.specs.InRange.{StreamInRange};
-ghost use Rattle.jx_codestream.specs.Params.{headers_at};
-ghost use Rattle.jx_codestream.specs.Shapes.{geometry};
+ghost use Rattle.jx_tile.specs.Frame.{AreOfTile};
 ghost use Rattle.jx_tier2_writer.specs.Names.{AreSendings, resolution_names, tile_names};
 ghost use Rattle.jx_tier2_writer.specs.Own.{AreOwnBlocks};
 
@@ -28,11 +25,7 @@ fn push_resolution<B: Coded>(
     values: &[B],
     list: &mut Vec<Sending>,
 ) -> Result<(), NoMemory>
-    requires view { view.now ≡ headers_at stream.now geom.now.tile }
-    requires range { StreamInRange stream.now }
-    requires tile { geom.now.tile < tile_number stream.now.siz }
-    requires geometry { geom.now ≡ geometry stream.now geom.now.tile }
-    requires limits { GeometryInRange geom.now }
+    requires tile { AreOfTile stream.now view.now geom.now }
     requires res { HasResolution geom.now comp res }
     requires own { AreOwnBlocks stream.now geom.now (map B.block values.now) }
     ensures { OnOk result ((names : List PacketName) → AreSendings stream.now geom.now (map B.block values.now) (map B.bytes values.now) names list.old.items
@@ -54,11 +47,7 @@ pub(crate) fn sendings_of<B: Coded>(
     geom: &TileGeom,
     values: &[B],
 ) -> Result<Vec<Sending>, NoMemory>
-    requires view { view.now ≡ headers_at stream.now geom.now.tile }
-    requires range { StreamInRange stream.now }
-    requires tile { geom.now.tile < tile_number stream.now.siz }
-    requires geometry { geom.now ≡ geometry stream.now geom.now.tile }
-    requires limits { GeometryInRange geom.now }
+    requires tile { AreOfTile stream.now view.now geom.now }
     requires own { AreOwnBlocks stream.now geom.now (map B.block values.now) }
     ensures { IfOk result (λ list. AreSendings stream.now geom.now (map B.block values.now) (map B.bytes values.now) (tile_names geom.now) list.items) }
 {

@@ -1,17 +1,11 @@
 //! What is sent of a precinct, layer by layer (ITU-T T.800, B.9 and B.10).
 
-ghost use Rattle.std.specs.Prelude.{◌≡◌, ◌<◌, ◌++◌, ◌∷◌, [], ℕ, length, map, IfOk, OnOk};
+ghost use Rattle.std.specs.Prelude.{◌≡◌, [], ℕ, length, map, IfOk};
 ghost use Rattle.std.specs.List.{range_with_len};
 ghost use Rattle.jx_base.specs.Joined.{joined};
-ghost use Rattle.jx_geom.specs.Geometry.{GeometryInRange};
-ghost use Rattle.jx_geom.specs.Precincts.{HasPrecinct, cells_at, leaves};
-ghost use Rattle.jx_geom.specs.Ranges.{HasBand};
+ghost use Rattle.jx_geom.specs.Precincts.{HasPrecinct, leaves};
 ghost use Rattle.jx_packet_header.specs.LeavesFit.{header_at};
-ghost use Rattle.jx_codestream.specs.First.{tile_number};
-ghost use Rattle.jx_codestream.specs.InRange.{StreamInRange};
-ghost use Rattle.jx_codestream.specs.Params.{headers_at, planes_at};
-ghost use Rattle.jx_codestream.specs.Shapes.{geometry};
-ghost use Rattle.jx_tier2_reader.specs.Cells.{precinct_bands, sizes_of};
+ghost use Rattle.jx_tile.specs.Frame.{AreOfTile};
 ghost use Rattle.jx_tier2_writer.specs.Own.{AreOwnBlocks, HasLeaves, IsSending, leaf_bytes};
 ghost use Rattle.jx_tier2_writer.specs.Silent.{empty_header};
 ghost use Rattle.jx_tier2_writer.specs.Sent.{AreSent, row_at, row_bytes, rows_of};
@@ -21,10 +15,11 @@ use crate::parts::Coded;
 use crate::rows::Rows;
 use crate::sent::{Sent, put_block};
 use crate::silent::{are_silent, silent_headers};
-use jx_base::{Band, NoMemory, Rect};
+use jx_base::NoMemory;
 use jx_codestream::{Stream, TileView};
 use jx_geom::TileGeom;
-use jx_packet_header::{BandCells, PrecinctOut};
+use jx_packet_header::PrecinctOut;
+use jx_tile::cells_of;
 use std::alloc::Global;
 
 /// The headers of a precinct's packets, and the parts of its blocks that each tells of.
@@ -111,70 +106,6 @@ fn silent_sending(alloc: Global, layers: u16) -> Result<Sending, NoMemory>
     Ok(Sending { headers, sent })
 }
 
-/// Appends how many blocks a precinct has in a band.
-fn push_cells(
-    stream: &Stream,
-    view: &TileView<'_>,
-    geom: &TileGeom,
-    comp: u16,
-    res: u8,
-    precinct: u32,
-    band: Band,
-    bands: &mut Vec<BandCells>,
-) -> Result<(), NoMemory>
-    requires view { view.now ≡ headers_at stream.now geom.now.tile }
-    requires precinct { HasPrecinct geom.now comp res precinct }
-    requires band { HasBand res band }
-    ensures { OnOk result (bands.new.items ≡ bands.old.items ++ sizes_of (cells_at geom.now comp res precinct band) (planes_at stream.now geom.now.tile comp res band) ∷ []) }
-{
-    let planes = view.planes(comp, res, band);
-    let cells = geom.blocks(comp, res, band, precinct);
-    bands.push(sizes_of(cells, planes))?;
-    Ok(())
-}
-
-/// How many blocks some cells are, side by side and one above another.
-fn sizes_of(cells: Rect, planes: u32) -> BandCells
-    ensures { result ≡ sizes_of cells planes }
-{
-    let wide = cells.x.high.saturating_sub(cells.x.low);
-    let high = cells.y.high.saturating_sub(cells.y.low);
-    if wide == 0 || high == 0 {
-        return BandCells {
-            wide: 0,
-            high: 0,
-            planes,
-        };
-    }
-    BandCells { wide, high, planes }
-}
-
-/// How many blocks a precinct has in each of its bands.
-fn cells_of(
-    alloc: Global,
-    stream: &Stream,
-    view: &TileView<'_>,
-    geom: &TileGeom,
-    comp: u16,
-    res: u8,
-    precinct: u32,
-) -> Result<Vec<BandCells>, NoMemory>
-    requires view { view.now ≡ headers_at stream.now geom.now.tile }
-    requires precinct { HasPrecinct geom.now comp res precinct }
-    ensures { IfOk result (λ bands. bands.items ≡ precinct_bands stream.now geom.now comp res precinct) }
-{
-    let mut bands = Vec::new(alloc);
-    let list = &mut bands;
-    if res == 0 {
-        push_cells(stream, view, geom, comp, res, precinct, Band::LL, list)?;
-        return Ok(bands);
-    }
-    push_cells(stream, view, geom, comp, res, precinct, Band::HL, list)?;
-    push_cells(stream, view, geom, comp, res, precinct, Band::LH, list)?;
-    push_cells(stream, view, geom, comp, res, precinct, Band::HH, list)?;
-    Ok(bands)
-}
-
 /// What is sent of a precinct whose tag trees are written, from the blocks of its tile.
 fn written_sending<B: Coded>(
     alloc: Global,
@@ -186,17 +117,13 @@ fn written_sending<B: Coded>(
     precinct: u32,
     values: &[B],
 ) -> Result<Sending, NoMemory>
-    requires view { view.now ≡ headers_at stream.now geom.now.tile }
-    requires range { StreamInRange stream.now }
-    requires tile { geom.now.tile < tile_number stream.now.siz }
-    requires geometry { geom.now ≡ geometry stream.now geom.now.tile }
-    requires limits { GeometryInRange geom.now }
+    requires tile { AreOfTile stream.now view.now geom.now }
     requires precinct { HasPrecinct geom.now comp res precinct }
     requires own { AreOwnBlocks stream.now geom.now (map B.block values.now) }
     ensures { IfOk result (λ p. IsSending stream.now geom.now (map B.block values.now) (map B.bytes values.now) comp res precinct p) }
 {
     let layers = view.layers();
-    let cells = cells_of(alloc, stream, view, geom, comp, res, precinct)?;
+    let cells = cells_of(alloc, view, geom, comp, res, precinct)?;
     let leaves = leaves_of(alloc, geom, comp, res, precinct, values)?;
     let style = view.style(comp);
     let out = PrecinctOut::new(alloc, &cells, style, layers, leaves)?;
@@ -217,11 +144,7 @@ pub(crate) fn sending_of<B: Coded>(
     precinct: u32,
     values: &[B],
 ) -> Result<Sending, NoMemory>
-    requires view { view.now ≡ headers_at stream.now geom.now.tile }
-    requires range { StreamInRange stream.now }
-    requires tile { geom.now.tile < tile_number stream.now.siz }
-    requires geometry { geom.now ≡ geometry stream.now geom.now.tile }
-    requires limits { GeometryInRange geom.now }
+    requires tile { AreOfTile stream.now view.now geom.now }
     requires precinct { HasPrecinct geom.now comp res precinct }
     requires own { AreOwnBlocks stream.now geom.now (map B.block values.now) }
     ensures { IfOk result (λ p. IsSending stream.now geom.now (map B.block values.now) (map B.bytes values.now) comp res precinct p) }

@@ -15,14 +15,13 @@ ghost use Rattle.jx_tier2_writer.specs.Names.{AreSendings, tile_names};
 ghost use Rattle.jx_tier2_writer.specs.Packed.{own_packets, own_part, own_segments, total};
 ghost use Rattle.jx_tier2_writer.specs.TileParts.{part_header};
 
-use crate::front::comps_of;
 use crate::lengths::put_lengths;
 use crate::parts::Coded;
 use crate::segments::put_segments;
 use crate::sending::Sending;
 use crate::tile::{AssembleFault, lengths_of};
 use jx_base::NoMemory;
-use jx_codestream::Stream;
+use jx_codestream::{Stream, comps_of};
 use jx_geom::TileGeom;
 use jx_marker::{Segment, Sot, put_segment};
 use jx_options::Marks;
@@ -51,14 +50,6 @@ pub(crate) struct PartOut {
     pub(crate) end: usize,
     /// How many bytes it has.
     pub(crate) size: u32,
-}
-
-/// The segments of a tile's own header.
-fn own_header(stream: &Stream, tile: u16) -> &[Segment]
-    requires { tile < length stream.now.tiles }
-    ensures { result.now ≡ header_of stream.now tile }
-{
-    stream.tiles.as_slice()[usize::from(tile)].header.as_slice()
 }
 
 /// Appends the tile's own segments, in its first tile-part.
@@ -108,7 +99,7 @@ fn header_bytes(
 {
     let comps = comps_of(&stream.siz);
     let mut bytes = Vec::new(alloc);
-    put_own(part, own_header(stream, tile), comps, &mut bytes)?;
+    put_own(part, stream.header(tile), comps, &mut bytes)?;
     put_plt(alloc, marks.plt, lengths, comps, &mut bytes)?;
     Ok(bytes)
 }

@@ -14,7 +14,7 @@ use Rattle.jx_codestream.specs.First.{tile_number}
 use Rattle.jx_codestream.specs.Read.{IsRead}
 use Rattle.jx_codestream.specs.Spells.{TilePart, all_bytes, part_bytes}
 use Rattle.jx_tier2_reader.specs.Gathered.{IsGathered}
-use Rattle.jx_tier2_reader.specs.Totals.{block_total, totals_fault}
+use Rattle.jx_tile.specs.Totals.{block_total, totals_fault}
 use Rattle.jx_layers.specs.Rule.{Rule}
 use Rattle.jx_options.specs.declared.Marks.{Marks}
 use Rattle.jx_plan.specs.Plan.{IsPlan, Plan, headers_with}

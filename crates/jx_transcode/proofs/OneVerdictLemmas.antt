@@ -10,7 +10,7 @@ use Rattle.jx_codestream.specs.FirstViolated.{IsFirst}
 use Rattle.jx_codestream.specs.Read.{IsRead}
 use Rattle.jx_codestream.specs.Spells.{Spells, TilePart}
 use Rattle.jx_tier2_reader.specs.Gathered.{IsBroken, IsGathered}
-use Rattle.jx_tier2_reader.specs.Totals.{totals_fault}
+use Rattle.jx_tile.specs.Totals.{totals_fault}
 use Rattle.jx_options.specs.declared.Marks.{Marks}
 use Rattle.jx_plan.specs.declared.faults.PlanFault.{PlanFault}
 use Rattle.jx_plan.specs.declared.faults.PlanFault.TheVariants as unplanned

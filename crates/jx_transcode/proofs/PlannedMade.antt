@@ -27,8 +27,9 @@ use Rattle.jx_codestream.specs.First.{tile_number}
 use Rattle.jx_codestream.specs.Read.{IsRead}
 use Rattle.jx_codestream.specs.Shapes.{geometry, shapes_in}
 use Rattle.jx_tier2_reader.specs.BlockOf.{AreBlocksOf}
-use Rattle.jx_tier2_reader.specs.Gathered.{IsGathered, IsListOf}
-use Rattle.jx_tier2_reader.specs.Totals.{packet_total, tile_packets, totals_fault}
+use Rattle.jx_tile.specs.Covered.{IsListOf}
+use Rattle.jx_tier2_reader.specs.Gathered.{IsGathered}
+use Rattle.jx_tile.specs.Totals.{packet_total, tile_packets, totals_fault}
 use Rattle.jx_codeblock.specs.declared.LayerEnd.{LayerEnd}
 use Rattle.jx_codeblock.specs.Recoding.{own_segments, wrong_in}
 use Rattle.jx_codeblock.specs.Written.{is_wrong, style_for}

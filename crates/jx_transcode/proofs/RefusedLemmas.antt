@@ -8,9 +8,9 @@ use Rattle.jx_codestream.specs.declared.faults.StreamFault.TheVariants as fault
 use Rattle.jx_codestream.specs.declared.Stream.{Stream}
 use Rattle.jx_codestream.specs.FirstViolated.{IsFirst}
 use Rattle.jx_codestream.specs.Read.{IsRead}
-use Rattle.jx_tier2_reader.specs.Faults.{HasCause}
+use Rattle.jx_tile.specs.Faults.{HasCause}
 use Rattle.jx_tier2_reader.specs.Gathered.{IsBroken, IsGathered}
-use Rattle.jx_tier2_reader.specs.Totals.{totals_fault}
+use Rattle.jx_tile.specs.Totals.{totals_fault}
 use Rattle.jx_layers.specs.Rule.{Rule}
 use Rattle.jx_plan.specs.declared.faults.PlanFault.{PlanFault}
 use Rattle.jx_plan.specs.declared.faults.PlanFault.TheVariants as unplanned

@@ -13,7 +13,7 @@ use Rattle.jx_codestream.specs.Read.{IsRead}
 use Rattle.jx_codestream.specs.Spells.{TilePart}
 use Rattle.jx_tier2_reader.specs.Either.{HasBlocks, HasFault}
 use Rattle.jx_tier2_reader.specs.Gathered.{IsBroken, IsGathered}
-use Rattle.jx_tier2_reader.specs.Totals.{totals_fault}
+use Rattle.jx_tile.specs.Totals.{totals_fault}
 use Rattle.jx_options.specs.declared.Marks.{Marks}
 use Rattle.jx_plan.specs.declared.faults.PlanFault.{PlanFault}
 use Rattle.jx_plan.specs.declared.faults.PlanFault.TheVariants as unplanned

@@ -24,9 +24,9 @@ use Rattle.jx_codestream.specs.Params.{limit_4_of, rule_9_of}
 use Rattle.jx_codestream.specs.Parts.{has_wrong_length, marker_at, sod_fault, sot_fault, start_fault}
 use Rattle.jx_tier2_reader.specs.Cuts.{Breaks, Left, Stops}
 use Rattle.jx_tier2_reader.specs.Data.{body_fault, first_mark, front_length, has_sop, marks_fault, number_at, parts_length, rule_30, sop_fault}
-use Rattle.jx_tier2_reader.specs.Faults.{passed}
+use Rattle.jx_tile.specs.Faults.{passed}
 use Rattle.jx_tier2_reader.specs.Gathered.{IsBroken}
-use Rattle.jx_tier2_reader.specs.Totals.{block_total, packet_total, totals_fault}
+use Rattle.jx_tile.specs.Totals.{block_total, packet_total, totals_fault}
 use Rattle.jx_transcode.specs.Judged.{BreaksTiles}
 
 abbrev pub IsTold : StreamFault → Type 0

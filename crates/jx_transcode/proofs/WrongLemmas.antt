@@ -10,7 +10,7 @@ use Rattle.jx_geom.specs.Numbering.{blocks_below}
 use Rattle.jx_codestream.specs.declared.Stream.{Stream}
 use Rattle.jx_codestream.specs.First.{canvas_of, tile_number}
 use Rattle.jx_codestream.specs.Shapes.{shapes_of}
-use Rattle.jx_tier2_reader.specs.Totals.{block_total}
+use Rattle.jx_tile.specs.Totals.{block_total}
 use Rattle.jx_options.specs.Wanted.{Wanted}
 use Rattle.jx_rounds.proofs.FrontLemmas.{blocks_are}
 use Rattle.jx_rounds.specs.Tiles.{IsRight, IsWrongAt, IsWrongBlock, blocks_in_tile, first_in_tile}

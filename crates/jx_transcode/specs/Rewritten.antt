@@ -9,7 +9,7 @@ use Rattle.jx_codestream.specs.First.{tile_number}
 use Rattle.jx_codestream.specs.Read.{IsRead}
 use Rattle.jx_codestream.specs.Spells.{TilePart, part_bytes}
 use Rattle.jx_tier2_reader.specs.Gathered.{IsGathered}
-use Rattle.jx_tier2_reader.specs.Totals.{totals_fault}
+use Rattle.jx_tile.specs.Totals.{totals_fault}
 use Rattle.jx_plan.specs.declared.faults.PlanFault.{PlanFault}
 use Rattle.jx_codeblock.specs.Written.{is_wrong}
 use Rattle.jx_layers.specs.Rule.{Rule}

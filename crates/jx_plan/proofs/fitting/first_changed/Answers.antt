@@ -13,7 +13,7 @@ loop-tile-preserved c =
     let t = c.loop-tile.tile in
     let keeps : KeepsBlocks precincts s t = c.in_ok-known_keeps.ensures.0 c.if-not-branch.false in
     record {
-      known = known_next precincts s t c.loop-tile.known c.is_known-known.result (list_any is_coding c.header_of.result.now) c.is_known-known.ensures
-          (ap (λ (xs : List Segment). list_any is_coding xs) c.header_of.ensures) keeps c.loop-tile.invariant.known;
+      known = known_next precincts s t c.loop-tile.known c.is_known-known.result (list_any is_coding c.header.result.now) c.is_known-known.ensures
+          (ap (λ (xs : List Segment). list_any is_coding xs) c.header.ensures) keeps c.loop-tile.invariant.known;
       below = below_more (KeepsBlocks precincts s) t c.loop-tile.invariant.below keeps;
     }

@@ -1,6 +1,6 @@
 use Rattle.std.proofs.Common.{◌∙◌, arith}
 use Rattle.jx_geom.specs.declared.table.Resolution.{Resolution}
-use Rattle.jx_tier2_reader.specs.Cells.{fresh_resolution}
+use Rattle.jx_tier2_reader.specs.Fresh.{fresh_resolution}
 use Rattle.jx_tier2_reader.proofs.ListedLemmas.{precincts_listed, row_there, rows_all, rows_next}
 use Rattle.jx_tier2_reader.proofs.fresh.precincts_of.Goals as goal
 

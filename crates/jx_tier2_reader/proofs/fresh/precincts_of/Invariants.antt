@@ -1,6 +1,6 @@
 use Rattle.std.proofs.Common.{◌≡◌, take}
 use Rattle.std.specs.List.{flat_map}
-use Rattle.jx_tier2_reader.specs.Cells.{fresh_resolution}
+use Rattle.jx_tier2_reader.specs.Fresh.{fresh_resolution}
 use Rattle.jx_tier2_reader.proofs.ListedLemmas.{by_resolution}
 use Rattle.jx_tier2_reader.proofs.fresh.precincts_of.Given as goal
 

@@ -16,20 +16,20 @@ loop-index-init c =
 pub overflow_cast-planes : goal.overflow_cast-planes
 overflow_cast-planes c =
     let s = c.args.stream.now in
-    let there = subst (λ (g : Geometry). HasResolution g c.args.comp c.args.res) c.requires.geometry c.requires.res in
+    let there = subst (λ (g : Geometry). HasResolution g c.args.comp c.args.res) c.requires.tile.geometry c.requires.res in
     omega (
       arith,
       c.planes-planes.ensures.value,
-      ap (λ (h : TileHeaders). planes_in h c.args.comp c.args.res c.args.band) c.requires.view,
-      c.requires.range.planes c.args.geom.now.tile c.args.comp c.args.res c.args.band c.requires.tile there c.requires.band,
+      ap (λ (h : TileHeaders). planes_in h c.args.comp c.args.res c.args.band) c.requires.tile.view,
+      c.requires.tile.range.planes c.args.geom.now.tile c.args.comp c.args.res c.args.band c.requires.tile.tile there c.requires.band,
     )
 
 pub loop-index-preserved : goal.loop-index-preserved
 loop-index-preserved c =
     let s = c.args.stream.now in
     let tile = sym c.number-tile.ensures in
-    let style = c.style-style.ensures ∙ ap (λ (h : TileHeaders). style_in h c.args.comp) c.requires.view ∙ ap (λ (t : ℕ). style_of s t c.args.comp) tile in
-    let planes = c.planes-planes.ensures.value ∙ ap (λ (h : TileHeaders). planes_in h c.args.comp c.args.res c.args.band) c.requires.view
+    let style = c.style-style.ensures ∙ ap (λ (h : TileHeaders). style_in h c.args.comp) c.requires.tile.view ∙ ap (λ (t : ℕ). style_of s t c.args.comp) tile in
+    let planes = c.planes-planes.ensures.value ∙ ap (λ (h : TileHeaders). planes_in h c.args.comp c.args.res c.args.band) c.requires.tile.view
     ∙ ap (λ (t : ℕ). planes_at s t c.args.comp c.args.res c.args.band) tile in
     let places = c.block-places.ensures (rect_of_tile c.args.geom.now) (shape_of c.args.geom.now c.args.comp) c.args.res c.args.band c.block_grid-grid.ensures in
     let block = fresh_is s c.args.geom.now c.args.comp c.args.res c.args.band c.loop-index.index c.number-tile.result c.planes-planes.result

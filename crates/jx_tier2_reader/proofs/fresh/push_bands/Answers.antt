@@ -1,25 +1,22 @@
-use Rattle.std.proofs.Common.{◌≡◌, ◌++◌, [], arith}
-use Rattle.std.proofs.lemmas.Result.{on_ok_weaker}
-use Rattle.jx_base.specs.declared.names.Band.TheVariants.{LL, HH}
-use Rattle.jx_tier2_reader.specs.Blocks.{band_blocks, resolution_blocks}
-use Rattle.jx_tier2_reader.proofs.ListLemmas.{appends_low, appends_high}
+use Rattle.std.proofs.Common.{arith, []}
+use Rattle.jx_base.specs.declared.names.Band.TheVariants.{LL}
+use Rattle.jx_tile.proofs.BandLemmas.{band_there}
+use Rattle.jx_tier2_reader.specs.Blocks.{band_blocks}
+use Rattle.jx_tier2_reader.proofs.ListLemmas.{bands_first, bands_next, bands_last}
 use Rattle.jx_tier2_reader.proofs.fresh.push_bands.Goals as goal
 
-pub returns-then-res-eq0 : goal.returns-then-res-eq0
-returns-then-res-eq0 c =
-    on_ok_weaker
-    {P = c.push_band.new.list.items ≡ c.args.list.now.items ++ band_blocks c.args.stream.now c.args.geom.now [] c.args.comp c.args.res LL}
-    {Q = c.push_band.new.list.items ≡ c.args.list.now.items ++ resolution_blocks c.args.stream.now c.args.geom.now [] c.args.comp c.args.res}
-    c.push_band.result
-    (appends_low c.args.stream.now c.args.geom.now [] c.args.comp c.args.res c.args.list.now.items c.push_band.new.list.items c.if-res-eq0.true)
-    c.push_band.ensures
+pub push_band-requires-clause-band : goal.push_band-requires-clause-band
+push_band-requires-clause-band c = band_there c.args.res c.of_resolution-bands.result.now c.loop-band.band-index LL c.of_resolution-bands.ensures c.loop-band-test.true
+
+pub loop-band-init : goal.loop-band-init
+loop-band-init c = bands_first (band_blocks c.args.stream.now c.args.geom.now [] c.args.comp c.args.res) c.args.list.now.items
+
+pub loop-band-preserved : goal.loop-band-preserved
+loop-band-preserved c =
+    bands_next (band_blocks c.args.stream.now c.args.geom.now [] c.args.comp c.args.res) c.of_resolution-bands.result.now c.loop-band.band-index LL c.args.list.now.items c.loop-band.list.items
+    c.push_band.new.list.items c.loop-band-test.true c.loop-band.invariant c.in_ok-push_band.ensures
 
 pub returns : goal.returns
 returns c =
-    on_ok_weaker
-    {P = c.push_band-4.new.list.items ≡ c.push_band-3.new.list.items ++ band_blocks c.args.stream.now c.args.geom.now [] c.args.comp c.args.res HH}
-    {Q = c.push_band-4.new.list.items ≡ c.args.list.now.items ++ resolution_blocks c.args.stream.now c.args.geom.now [] c.args.comp c.args.res}
-    c.push_band-4.result
-    (appends_high c.args.stream.now c.args.geom.now [] c.args.comp c.args.res c.args.list.now.items c.push_band-2.new.list.items c.push_band-3.new.list.items
-    c.push_band-4.new.list.items (omega arith) c.in_ok-push_band.ensures c.in_ok-push_band-2.ensures)
-    c.push_band-4.ensures
+    bands_last c.args.stream.now c.args.geom.now c.args.comp c.args.res c.of_resolution-bands.result.now c.loop-band.band-index c.args.list.now.items c.loop-band.list.items (omega arith)
+    c.of_resolution-bands.ensures c.loop-band.invariant

@@ -1,14 +1,8 @@
-use Rattle.std.proofs.Common.{◌≡◌, ◌++◌, subst, arith}
+use Rattle.std.proofs.Common.{◌≡◌, ◌++◌, arith}
 use Rattle.std.proofs.lemmas.Grind.{common_steps}
-use Rattle.jx_codestream.specs.TileHeaders.{TileHeaders}
-use Rattle.jx_tier2_reader.specs.Cells.{one_precinct}
-use Rattle.jx_tier2_reader.specs.Coding.{IsCoding}
+use Rattle.jx_tier2_reader.specs.Fresh.{one_precinct}
 use Rattle.jx_tier2_reader.proofs.fresh.push_resolution.Goals as goal
 use Rattle.jx_base.proofs.Joined.{appends_none, appends_next}
-
-pub fresh_precinct-requires-clause-coding : goal.fresh_precinct-requires-clause-coding
-fresh_precinct-requires-clause-coding c =
-    subst (λ (h : TileHeaders). IsCoding h c.args.comp c.args.res c.coding_of-coding.result) c.requires.view c.coding_of-coding.ensures
 
 pub loop-precinct-init : goal.loop-precinct-init
 loop-precinct-init c =

@@ -1,5 +1,5 @@
 use Rattle.std.proofs.Common.{◌≡◌, ◌++◌}
-use Rattle.jx_tier2_reader.specs.Cells.{one_precinct}
+use Rattle.jx_tier2_reader.specs.Fresh.{one_precinct}
 use Rattle.jx_tier2_reader.proofs.fresh.push_resolution.Given as goal
 use Rattle.jx_base.specs.Joined.{joined}
 

@@ -7,8 +7,5 @@ main_view-requires c = read_in_range c.args.bytes.now c.args.stream.now c.requir
 pub check_totals-requires-clause-range : goal.check_totals-requires-clause-range
 check_totals-requires-clause-range c = read_in_range c.args.bytes.now c.args.stream.now c.requires.read
 
-pub check_covered-requires-clause-range : goal.check_covered-requires-clause-range
-check_covered-requires-clause-range c = read_in_range c.args.bytes.now c.args.stream.now c.requires.read
-
 pub gather_tiles-requires-clause-range : goal.gather_tiles-requires-clause-range
 gather_tiles-requires-clause-range c = read_in_range c.args.bytes.now c.args.stream.now c.requires.read

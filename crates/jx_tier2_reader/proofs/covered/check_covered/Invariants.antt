@@ -1,6 +1,0 @@
-use Rattle.std.proofs.Common.{ℕ, ◌<◌}
-use Rattle.jx_tier2_reader.specs.Gathered.{IsWhole}
-use Rattle.jx_tier2_reader.proofs.covered.check_covered.Given as goal
-
-abbrev pub invariant-loop-tile : goal.invariant-loop-tile
-invariant-loop-tile l = (t : ℕ) → t < l.tile → IsWhole l.stream t
