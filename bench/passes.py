@@ -35,7 +35,8 @@ jx_tier1_specs: jx_base jx_coder_specs jx_mq jx_raw
 jx_tier1_plain: jx_base jx_coder_specs jx_mq jx_raw jx_tier1_specs
 jx_tier1: jx_base jx_coder_specs jx_mq jx_raw jx_tier1_specs
 jx_codestream: jx_base jx_marker jx_geom thiserror
-jx_tier2_reader: jx_base jx_marker jx_geom jx_progression jx_tagtree jx_packet_header jx_codestream
+jx_tile: jx_base jx_marker jx_geom jx_progression jx_tagtree jx_packet_header jx_codestream
+jx_tier2_reader: jx_base jx_marker jx_geom jx_progression jx_tagtree jx_packet_header jx_codestream jx_tile
 """
 
 PROGRAM = r'''//! Decodes and codes every code-block of a codestream.

@@ -17,7 +17,7 @@ mod TrackLemmas
 pub mod SoundLemmas
 mod ReadyLemmas
 mod TileLemmas
-pub mod ListLemmas
+mod ListLemmas
 pub mod FrontLemmas
 mod LaidLemmas
 pub mod LaidTiles
