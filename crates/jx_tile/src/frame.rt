@@ -95,7 +95,7 @@ impl<'a> TileFrame<'a> {
 
     /// The geometry alone, for who needs no more of the tile.
     pub fn into_geometry(self) -> TileGeom
-        ensures { result ≡ geometry self.stream self.number }
+        ensures { result ≡ geometry self.entry.stream self.entry.number }
     {
         self.geom
     }

@@ -1,4 +1,4 @@
-use Rattle.std.proofs.Common.{◌∙◌, ℕ, ap, arith}
+use Rattle.std.proofs.Common.{◌∙◌, ℕ, get_or, ap, arith}
 use Rattle.jx_base.specs.declared.names.Band.{Band}
 use Rattle.jx_base.specs.declared.names.Band.TheVariants.{LL}
 use Rattle.jx_base.specs.declared.names.Rect.{Rect}
@@ -20,7 +20,7 @@ loop-band-preserved c =
     let cells : Band → Rect = λ b. cells_at c.args.geom.now c.args.comp c.args.res c.args.precinct b in
     let planes : Band → ℕ = λ b. planes_in c.args.view.now c.args.comp c.args.res b in
     let own : Band → BandCells = λ b. sizes_of (cells b) (planes b) in
-    let here : Band = c.band in
+    let here : Band = get_or c.of_resolution-kinds.result.now c.loop-band.band-index LL in
     bands_next own c.of_resolution-kinds.result.now c.loop-band.band-index LL c.sizes_of.result c.loop-band.bands.items c.push.new.self.items c.loop-band-test.true c.loop-band.invariant
     (c.sizes_of.ensures ∙ ap (λ (x : Rect). sizes_of x c.planes-planes.result) c.blocks-cells.ensures.value ∙ ap (λ (n : ℕ). sizes_of (cells here) n) c.planes-planes.ensures.value) c.in_ok-push.ensures.items
 
