@@ -31,7 +31,7 @@ use Rattle.jx_tier2_reader.specs.Cuts.{Cut, Left, names_of}
 use Rattle.jx_tier2_reader.specs.Blocks.{Found, founds_of, own_founds, pieces_in, zero_from, block_of}
 use Rattle.jx_tile.specs.Covered.{IsListOf}
 use Rattle.jx_tier2_reader.specs.Gathered.{IsCutUp, AreTileBlocks, IsGathered, start}
-use Rattle.jx_tier2_reader.specs.BlockOf.{pieces_at, AreCutAtEnds, IsBlockOf, IsFoundOf, AreBlocksOf}
+use Rattle.jx_tier2_reader.specs.BlockOf.{pieces_at, AreCutAsRead, IsBlockOf, IsFoundOf, AreBlocksOf}
 use Rattle.jx_tier2_reader.proofs.NumberLemmas.{precinct_there}
 use Rattle.jx_tier2_reader.proofs.BlockLemmas.{blocks_long, block_there}
 use Rattle.jx_tier2_reader.proofs.PartLemmas.{known_in}
@@ -65,7 +65,7 @@ few_own b s t cuts left number layer h =
         (record { there = h.there; rise = h.rise; follow = start_follow s (geometry s t); are = h.are }))
 
 cut_own : (b : List ℕ) (s : Stream) (t : ℕ) (cuts : List Cut) (left : Left) (n : BlockName) → IsBegun b s t cuts left → HasBlock (geometry s t) n
-    → AreCutAtEnds (style_of s t n.comp) (pieces_in (own_founds (number_in_tile (geometry s t) n) (founds_of (geometry s t) cuts)))
+    → AreCutAsRead (style_of s t n.comp) (pieces_in (own_founds (number_in_tile (geometry s t) n) (founds_of (geometry s t) cuts)))
 cut_own b s t cuts left n h is layer =
     let g : Geometry = geometry s t in
     let leaf : LeafOf g n = block_leaf g n h.limits is in

@@ -17,7 +17,7 @@ use Rattle.jx_packet_header.specs.declared.BandCells.{BandCells}
 use Rattle.jx_packet_header.specs.Precinct.{fresh_state}
 use Rattle.jx_codestream.specs.declared.Stream.{Stream}
 use Rattle.jx_codestream.specs.Params.{planes_at}
-use Rattle.jx_tier2_reader.specs.Blocks.{Found, own_founds, block_of, band_blocks, resolution_blocks}
+use Rattle.jx_tier2_reader.specs.Blocks.{Found, own_founds, block_of, blocks_of_band, blocks_of_resolution}
 use Rattle.jx_tile.specs.Cells.{precinct_bands}
 use Rattle.jx_tier2_reader.specs.Fresh.{fresh_precinct}
 use Rattle.jx_codestream.specs.InRange.{StreamInRange}
@@ -47,10 +47,10 @@ bands_next {X} f bands i d base old new lt before step =
     step ∙ ap (λ (xs : List X). xs ++ own) before ∙ append_assoc base (flat_map f (take i bands)) own ∙ ap (λ (xs : List X). base ++ xs) more
 
 pub bands_last : (s : Stream) (g : Geometry) (c r : ℕ) (bands : List Band) (n : ℕ) (base new : List Block) → n ≡ length bands → bands ≡ bands_at r
-    → new ≡ base ++ flat_map (band_blocks s g [] c r) (take n bands) → new ≡ base ++ resolution_blocks s g [] c r
-unfolding resolution_blocks
+    → new ≡ base ++ flat_map (blocks_of_band s g [] c r) (take n bands) → new ≡ base ++ blocks_of_resolution s g [] c r
+unfolding blocks_of_resolution
 bands_last s g c r bands n base new all e h =
-    h ∙ ap (λ (m : ℕ). base ++ flat_map (band_blocks s g [] c r) (take m bands)) all ∙ ap (λ (bs : List Band). base ++ flat_map (band_blocks s g [] c r) bs) (take-length bands ∙ e)
+    h ∙ ap (λ (m : ℕ). base ++ flat_map (blocks_of_band s g [] c r) (take m bands)) all ∙ ap (λ (bs : List Band). base ++ flat_map (blocks_of_band s g [] c r) bs) (take-length bands ∙ e)
 
 -- a precinct of these bands, and a block that has no pass
 pub fresh_from : (s : Stream) (g : Geometry) (c r k bits : ℕ) (bands : List BandCells) → bits ≡ style_of s g.tile c → bands ≡ precinct_bands s g c r k

@@ -7,7 +7,7 @@ use Rattle.std.proofs.lemmas.List.Elements.{All-head, All-tail, All-cons, All-we
 use Rattle.std.proofs.lemmas.Option.{get_or_from_slice_get, slice_get-get_or, slice_get_within}
 use Rattle.jx_base.specs.declared.pieces.Block.{Block}
 use Rattle.jx_geom.specs.Geometry.{Geometry, GeometryInRange, rect_of_tile}
-use Rattle.jx_geom.specs.Counts.{tile_blocks as count_in_tile}
+use Rattle.jx_geom.specs.Counts.{blocks_of_tile as count_in_tile}
 use Rattle.jx_packet_header.specs.declared.Part.{Part}
 use Rattle.jx_packet_header.specs.Packet.{State}
 use Rattle.jx_packet_header.specs.Precinct.{IsState, all_blocks}
@@ -23,7 +23,7 @@ use Rattle.jx_geom.specs.Precincts.{HasPrecinct, leaf_number}
 use Rattle.jx_geom.specs.Precincts.{leaves}
 use Rattle.jx_tier2_reader.specs.Data.{window, due, behind, end_of_data, front_length, header_in, parts_length}
 use Rattle.jx_tier2_reader.specs.Cuts.{Cut, Left, IsCut, IsTurn, AreCuts, names_of, number_of, Breaks}
-use Rattle.jx_tier2_reader.specs.Blocks.{Found, founds_from, founds_in, founds_of, tile_blocks}
+use Rattle.jx_tier2_reader.specs.Blocks.{Found, founds_from, founds_in, founds_of, blocks_of_tile}
 use Rattle.jx_tier2_reader.specs.Put.{put_one, put_all}
 use Rattle.jx_tile.specs.Covered.{IsListOf}
 use Rattle.jx_tier2_reader.specs.Gathered.{AreTileBlocks, BreaksTile, start}
@@ -271,7 +271,7 @@ next_front b s g list number left blocks d packet after new more task lt front s
       cut = (let e : number ≡ 0 + length front.cuts = omega arith in subst M e step.cut);
       new_is = refl;
     } in
-    let base : List Block = tile_blocks s (geometry s t) [] in
+    let base : List Block = blocks_of_tile s (geometry s t) [] in
     record {
       cuts = front.cuts ++ c ∷ [];
       names = names_on front.cuts c ∙ ap (λ (xs : List PacketName). xs ++ p ∷ []) front.names ∙ sym (take_more list number d lt);
@@ -295,7 +295,7 @@ front_begun b s g list number left blocks task front =
     (subst L whole task.order) front.are
 
 front_blocks : (b : List ℕ) (s : Stream) (g : Geometry) (list : List PacketName) (number : ℕ) (left : Left) (blocks : List Block) → IsTask b s g list
-    → (front : IsFront b s g.tile (take number list) left blocks) → blocks ≡ tile_blocks s (geometry s g.tile) (founds_of (geometry s g.tile) front.cuts)
+    → (front : IsFront b s g.tile (take number list) left blocks) → blocks ≡ blocks_of_tile s (geometry s g.tile) (founds_of (geometry s g.tile) front.cuts)
 front_blocks b s g list number left blocks task front = front.blocks_are ∙ put_cuts b s g.tile front.cuts front.mid (front_begun b s g list number left blocks task front)
 
 front_few : (b : List ℕ) (s : Stream) (g : Geometry) (list : List PacketName) (number : ℕ) (left : Left) (blocks : List Block) → IsTask b s g list
@@ -307,7 +307,7 @@ front_few b s g list number left blocks task front =
 front_long : (b : List ℕ) (s : Stream) (t : ℕ) (done : List PacketName) (left : Left) (blocks : List Block) → IsFront b s t done left blocks
     → length blocks ≡ count_in_tile (rect_of_tile (geometry s t)) (geometry s t).shapes
 front_long b s t done left blocks front =
-    ap length front.blocks_are ∙ put_long (tile_blocks s (geometry s t) []) (founds_of (geometry s t) front.cuts) ∙ blocks_long s (geometry s t) []
+    ap length front.blocks_are ∙ put_long (blocks_of_tile s (geometry s t) []) (founds_of (geometry s t) front.cuts) ∙ blocks_long s (geometry s t) []
 
 founds_below : (g : Geometry) (p : PacketName) (k : State) (m count : ℕ) (bytes : List ℕ) (parts : List Part) → ((j : ℕ) → j < count → leaf_number g p.comp p.res p.precinct j < m)
     → All (λ (part : Part). part.block < count) parts → All (λ (f : Found). f.number < m) (founds_from g p k bytes parts)
@@ -360,7 +360,7 @@ all_read b s g list number left blocks task ge front none =
 
 -- no packet
 pub first_front : (b : List ℕ) (s : Stream) (g : Geometry) (left : Left) (blocks : List Block) → g ≡ geometry s g.tile → due left.bodies ≡ due (tile_at s g.tile).bodies
-    → left.states ≡ (start s g.tile).states → blocks ≡ tile_blocks s g [] → IsFront b s g.tile [] left blocks
+    → left.states ≡ (start s g.tile).states → blocks ≡ blocks_of_tile s g [] → IsFront b s g.tile [] left blocks
 unfolding founds_of
 first_front b s g left blocks geometry_is bodies states same = record {
   cuts = [];
@@ -369,7 +369,7 @@ first_front b s g left blocks geometry_is bodies states same = record {
   are = refl;
   due_are = sym bodies;
   states_are = sym states;
-  blocks_are = same ∙ ap (λ (x : Geometry). tile_blocks s x []) geometry_is;
+  blocks_are = same ∙ ap (λ (x : Geometry). blocks_of_tile s x []) geometry_is;
 }
 
 -- ---- after a packet

@@ -6,7 +6,7 @@ ghost use Rattle.jx_geom.specs.Precincts.{HasPrecinct};
 ghost use Rattle.jx_geom.specs.Ranges.{HasBand};
 ghost use Rattle.jx_geom.specs.Resolutions.{resolutions_of};
 ghost use Rattle.jx_tile.specs.Frame.{AreOfTile};
-ghost use Rattle.jx_tier2_reader.specs.Blocks.{band_blocks, resolution_blocks, tile_blocks};
+ghost use Rattle.jx_tier2_reader.specs.Blocks.{blocks_of_band, blocks_of_resolution, blocks_of_tile};
 ghost use Rattle.jx_tier2_reader.specs.Fresh.{fresh_precinct, fresh_precincts, fresh_resolution};
 
 use jx_base::{Band, Block, BlockName, NoMemory, Pieces, Rect, Style};
@@ -100,7 +100,7 @@ fn fresh_block<'a>(alloc: Global, block: BlockName, places: Rect, bits: Style, a
 }
 
 /// Appends the code-blocks of a band.
-#[tactic(auto, using(jx_base::proofs::Joined::joined_none, jx_base::proofs::Joined::joined_next), unfolding(crate::specs::Blocks::band_blocks))]
+#[tactic(auto, using(jx_base::proofs::Joined::joined_none, jx_base::proofs::Joined::joined_next), unfolding(crate::specs::Blocks::blocks_of_band))]
 fn push_band<'a>(
     alloc: Global,
     stream: &Stream,
@@ -114,7 +114,7 @@ fn push_band<'a>(
     requires tile { AreOfTile stream.now view.now geom.now }
     requires res { HasResolution geom.now comp res }
     requires band { HasBand res band }
-    ensures { OnOk result (list.new.items ≡ list.old.items ++ band_blocks stream.now geom.now [] comp res band) }
+    ensures { OnOk result (list.new.items ≡ list.old.items ++ blocks_of_band stream.now geom.now [] comp res band) }
 {
     let tile = geom.number();
     let style = view.style(comp);
@@ -146,7 +146,7 @@ fn push_bands<'a>(
 ) -> Result<(), NoMemory>
     requires tile { AreOfTile stream.now view.now geom.now }
     requires res { HasResolution geom.now comp res }
-    ensures { OnOk result (list.new.items ≡ list.old.items ++ resolution_blocks stream.now geom.now [] comp res) }
+    ensures { OnOk result (list.new.items ≡ list.old.items ++ blocks_of_resolution stream.now geom.now [] comp res) }
 {
     let bands = Band::of_resolution(res);
     for band in bands {
@@ -187,7 +187,7 @@ pub(crate) fn blocks_of<'a>(
     geom: &TileGeom,
 ) -> Result<Vec<Block<'a>>, NoMemory>
     requires tile { AreOfTile stream.now view.now geom.now }
-    ensures { IfOk result (λ list. list.items ≡ tile_blocks stream.now geom.now []) }
+    ensures { IfOk result (λ list. list.items ≡ blocks_of_tile stream.now geom.now []) }
 {
     let rows = geom.resolutions();
     let mut list = Vec::with_capacity(alloc, room_of(geom, rows))?;

@@ -6,7 +6,7 @@ use Rattle.jx_geom.specs.Counts.{tile_precincts}
 use Rattle.jx_geom.specs.Geometry.{Geometry, rect_of_tile}
 use Rattle.jx_marker.specs.declared.Progression.{Progression}
 use Rattle.jx_progression.specs.declared.names.PacketName.{PacketName}
-use Rattle.jx_progression.specs.Packets.{AreCovered, HasUncovered, IsOrder, IsPacket}
+use Rattle.jx_progression.specs.Packets.{AreCovered, HasUncovered, IsOrder, IsPacketName}
 use Rattle.jx_codestream.specs.declared.Tile.{Tile}
 use Rattle.jx_codestream.specs.declared.Stream.{Stream}
 use Rattle.jx_codestream.specs.First.{tile_number}
@@ -60,13 +60,13 @@ whole_of s t g layers entries tile is many at sent h =
     subst P is (subst Q many (subst R (sent ∙ ap (λ (x : Tile). x.progressions) at) h))
 
 pub every_of : (s : Stream) (t : ℕ) (g : Geometry) (layers : ℕ) (list : List PacketName) → g ≡ geometry s t → layers ≡ layers_of s t
-    → ((p : PacketName) → Contains list p ↔ IsPacket g layers p) → (p : PacketName) → Contains list p ↔ IsPacket (geometry s t) (layers_of s t) p
+    → ((p : PacketName) → Contains list p ↔ IsPacketName g layers p) → (p : PacketName) → Contains list p ↔ IsPacketName (geometry s t) (layers_of s t) p
 every_of s t g layers list is many h =
-    let P : Geometry → Type 0 = λ x. (p : PacketName) → Contains list p ↔ IsPacket x (layers_of s t) p in
-    let Q : ℕ → Type 0 = λ n. (p : PacketName) → Contains list p ↔ IsPacket g n p in
+    let P : Geometry → Type 0 = λ x. (p : PacketName) → Contains list p ↔ IsPacketName x (layers_of s t) p in
+    let Q : ℕ → Type 0 = λ n. (p : PacketName) → Contains list p ↔ IsPacketName g n p in
     subst P is (subst Q many h)
 
-pub few_of : (s : Stream) (t : ℕ) (list : List PacketName) → tile_packets s t ≤ 2 ^ 22 → ((p : PacketName) → Contains list p ↔ IsPacket (geometry s t) (layers_of s t) p)
+pub few_of : (s : Stream) (t : ℕ) (list : List PacketName) → tile_packets s t ≤ 2 ^ 22 → ((p : PacketName) → Contains list p ↔ IsPacketName (geometry s t) (layers_of s t) p)
     → AllPairs (λ p q. p ≢ q) list → length list ≤ 2 ^ 22
 few_of s t list few every once =
     let g : Geometry = geometry s t in

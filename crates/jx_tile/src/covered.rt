@@ -3,7 +3,7 @@
 ghost use Rattle.std.specs.Prelude.{◌≡◌, ◌≢◌, ◌<◌, ◌≤◌, ◌^◌, ◌↔◌, ℕ, None, length, IfOk, IfErr, OnOk};
 ghost use Rattle.std.specs.List.{All, AllPairs, Contains};
 ghost use Rattle.jx_progression.specs.declared.names.PacketName.{PacketName};
-ghost use Rattle.jx_progression.specs.Packets.{IsPacket};
+ghost use Rattle.jx_progression.specs.Packets.{IsPacketName};
 ghost use Rattle.jx_codestream.specs.First.{tile_number};
 ghost use Rattle.jx_codestream.specs.InRange.{StreamInRange};
 ghost use Rattle.jx_codestream.specs.Shapes.{geometry, layers_of};
@@ -35,9 +35,9 @@ impl<'a> TileFrame<'a> {
     pub fn names(&self, alloc: Global) -> Result<Vec<PacketName>, StreamFault>
         ensures order { IfOk result (λ list. IsListOf self.now.stream self.now.number list.items) }
         ensures whole { OnOk result (IsWhole self.now.stream self.now.number) }
-        ensures every { IfOk result (λ list. (p : PacketName) → Contains list.items p ↔ IsPacket (geometry self.now.stream self.now.number) (layers_of self.now.stream self.now.number) p) }
+        ensures every { IfOk result (λ list. (p : PacketName) → Contains list.items p ↔ IsPacketName (geometry self.now.stream self.now.number) (layers_of self.now.stream self.now.number) p) }
         ensures once { IfOk result (λ list. AllPairs (λ p q. p ≢ q) list.items) }
-        ensures each { IfOk result (λ list. All (IsPacket (geometry self.now.stream self.now.number) (layers_of self.now.stream self.now.number)) list.items) }
+        ensures each { IfOk result (λ list. All (IsPacketName (geometry self.now.stream self.now.number) (layers_of self.now.stream self.now.number)) list.items) }
         ensures few { IfOk result (λ list. length list.items ≤ 2 ^ 22) }
         ensures uncovered { IfErr result (λ fault. HasCause (LacksPacket self.now.stream self.now.number) fault) }
     {

@@ -4,7 +4,7 @@ use Rattle.std.specs.List.{concat}
 use Rattle.jx_base.specs.declared.pieces.Block.{Block}
 use Rattle.jx_codeblock.specs.Recoded.{WrittenBlock}
 use Rattle.jx_geom.specs.Geometry.{Geometry}
-use Rattle.jx_progression.specs.Packets.{IsPacket}
+use Rattle.jx_progression.specs.Packets.{IsPacketName}
 use Rattle.jx_codestream.specs.declared.Stream.{Stream}
 use Rattle.jx_codestream.specs.declared.headers.HeaderKind.TheVariants.{First}
 use Rattle.jx_codestream.specs.Params.{header_of}
@@ -14,7 +14,7 @@ use Rattle.jx_tile.specs.Covered.{IsListOf}
 use Rattle.jx_tile.specs.Frame.{TileOf}
 use Rattle.jx_tile.proofs.FrameLemmas.{frame_to, parts_from, parts_to}
 use Rattle.jx_plan.specs.Groups.{HasFewParts}
-use Rattle.jx_tier2_writer.specs.Assembled.{AreOwn, AreTileBytes, IsTooLong}
+use Rattle.jx_tier2_writer.specs.Assembled.{AreOwn, AreTileBytes, HasMoreBytes}
 use Rattle.jx_tier2_writer.specs.Own.{AreOwnBlocks}
 use Rattle.jx_tier2_writer.specs.Packed.{own_packets}
 use Rattle.jx_tier2_writer.specs.Pieces.{IsLayout, blocks_lent, bytes_lent, tile_pieces}
@@ -32,7 +32,7 @@ pack_values-requires-clause-order c =
 pub pack_values-requires-clause-each : goal.pack_values-requires-clause-each
 pack_values-requires-clause-each c =
     let f : TileOf = c.in_ok-frame.frame in
-    let P : Stream → Geometry → Type 0 = λ s g. All (IsPacket g (layers_of s g.tile)) c.in-Ok.names.items in
+    let P : Stream → Geometry → Type 0 = λ s g. All (IsPacketName g (layers_of s g.tile)) c.in-Ok.names.items in
     parts_to P c.parts.result.0.now f.stream c.parts.result.2.now (geometry f.stream f.number) c.parts.ensures.stream c.parts.ensures.geometry c.in-Ok.ensures.each
 
 pub pack_values-requires-clause-header : goal.pack_values-requires-clause-header
@@ -80,8 +80,8 @@ returns-in-Err-pack_values-clause-long c is all are =
     let refs : List (Bor WrittenBlock) = c.deref.result.now in
     let stream = c.parts.ensures.stream ∙ ap (λ (f : TileOf). f.stream) c.in_ok-frame.ensures in
     let same = c.parts.ensures.geometry ∙ ap (λ (f : TileOf). geometry f.stream f.number) c.in_ok-frame.ensures in
-    let P : Stream → Geometry → Type 0 = λ x g. (all : List Block) → AreOwn x g.tile all (blocks_lent refs) → IsTooLong c.args.marks x all g.tile c.args.most in
-    let Q : List (Bor WrittenBlock) → Type 0 = λ lent. (all : List Block) → AreOwn s c.args.tile all (blocks_lent lent) → IsTooLong c.args.marks s all c.args.tile c.args.most in
+    let P : Stream → Geometry → Type 0 = λ x g. (all : List Block) → AreOwn x g.tile all (blocks_lent refs) → HasMoreBytes c.args.marks x all g.tile c.args.most in
+    let Q : List (Bor WrittenBlock) → Type 0 = λ lent. (all : List Block) → AreOwn s c.args.tile all (blocks_lent lent) → HasMoreBytes c.args.marks s all c.args.tile c.args.most in
     let here : Q refs = parts_from P c.parts.result.0.now s c.parts.result.2.now (geometry s c.args.tile) stream same
     (c.pack_values.ensures.long (same_fault c.pack_values.result c.in-Err-pack_values.fault TooLong c.in-Err-pack_values.is is)) in
     subst Q c.deref.ensures.value here all are

@@ -1,6 +1,6 @@
 use Rattle.std.proofs.Common.{◌∙◌, ◌≤◌, ℕ, ap, sym, subst, List, Err, All}
 use Rattle.jx_marker.specs.declared.Progression.{Progression}
-use Rattle.jx_progression.specs.Packets.{IsPacket}
+use Rattle.jx_progression.specs.Packets.{IsPacketName}
 use Rattle.jx_codestream.specs.declared.Tile.{Tile}
 use Rattle.jx_codestream.specs.Shapes.{geometry, layers_in, layers_of}
 use Rattle.jx_tile.proofs.CoveredLemmas.{every_of, few_of, lacks_of, order_of, whole_of}
@@ -47,7 +47,7 @@ returns-in-Ok-clause-each c =
     let f = c.args.self.now in
     let layers = c.layers.ensures.value ∙ ap layers_in c.parts.ensures.view in
     let every = every_of f.stream f.number c.parts.result.2.now c.layers.result c.in-Ok.list.items c.parts.ensures.geometry layers c.in-Ok.ensures.every in
-    All-contained (IsPacket (geometry f.stream f.number) (layers_of f.stream f.number)) c.in-Ok.list.items (λ x has. (every x).0 has)
+    All-contained (IsPacketName (geometry f.stream f.number) (layers_of f.stream f.number)) c.in-Ok.list.items (λ x has. (every x).0 has)
 
 pub returns-in-Ok-clause-few : goal.returns-in-Ok-clause-few
 returns-in-Ok-clause-few c =
