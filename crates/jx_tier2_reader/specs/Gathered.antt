@@ -1,6 +1,7 @@
 -- The code-blocks of a codestream with their pieces, and the first rule that its tile data violate or limit that it passes.
 use Rattle.std.specs.Prelude.{◌≡◌, ◌⊎◌, ◌<◌, ℕ, List, [], ◌++◌, length, None, Some}
 use Rattle.jx_base.specs.declared.pieces.Block.{Block}
+use Rattle.jx_marker.specs.RuleNumbers.{UNCOVERED}
 use Rattle.jx_progression.specs.declared.names.PacketName.{PacketName}
 use Rattle.jx_progression.specs.Packets.{IsOrder, AreCovered, HasUncovered}
 use Rattle.jx_codestream.specs.declared.Stream.{Stream}
@@ -50,7 +51,7 @@ pub record IsUncovered (s : Stream) (f : StreamFault) : Type 0 where
   pub inside : tile < tile_number s.siz
   pub some : HasUncovered (geometry s tile) (layers_of s tile) (tile_at s tile).progressions
   pub lowest : (t : ℕ) → t < tile → IsWhole s t
-  pub fault_is : f ≡ fault.Rule 25 (tile_at s tile).place
+  pub fault_is : f ≡ fault.Rule UNCOVERED (tile_at s tile).place
 
 -- a tile's data are cut up to a packet in which a rule is violated, or a byte is left
 pub record BreaksTile (b : List ℕ) (s : Stream) (t : ℕ) (f : StreamFault) : Type 0 where

@@ -17,6 +17,7 @@ use crate::StreamFault;
 use crate::shapes::{geometry_of, tile_at, tile_count};
 use jx_codestream::{MainView, Stream, TileView};
 use jx_geom::TileGeom;
+use jx_marker::rule_numbers;
 use jx_progression::{OrderFault, PacketName, are_covered, packets};
 use std::alloc::Global;
 
@@ -42,7 +43,7 @@ pub(crate) fn list_of(
     match packets(alloc, geom, view.layers(), tile.progressions.as_slice()) {
         Ok(list) => Ok(list),
         Err(OrderFault::Uncovered) => Err(StreamFault::Rule {
-            number: 25,
+            number: rule_numbers::UNCOVERED,
             place: tile.place,
         }),
         Err(OrderFault::NoMemory) => Err(StreamFault::NoMemory),
@@ -73,7 +74,7 @@ fn check_tile(
         return Ok(());
     }
     Err(StreamFault::Rule {
-        number: 25,
+        number: rule_numbers::UNCOVERED,
         place: sent.place,
     })
 }

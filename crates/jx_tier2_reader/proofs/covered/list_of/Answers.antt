@@ -1,5 +1,6 @@
-use Rattle.std.proofs.Common.{◌∙◌, ◌≤◌, ◌↔◌, ℕ, ap, sym, subst, List, Err}
+use Rattle.std.proofs.Common.{◌∙◌, ◌↔◌, ℕ, ap, sym, subst, List, Err}
 use Rattle.std.specs.List.{All, Contains}
+use Rattle.jx_base.specs.OrderNumbers.{IsOrderNumber}
 use Rattle.jx_marker.specs.declared.Progression.{Progression}
 use Rattle.jx_progression.specs.declared.names.PacketName.{PacketName}
 use Rattle.jx_progression.specs.Packets.{IsPacket}
@@ -11,7 +12,7 @@ use Rattle.jx_tier2_reader.proofs.covered.list_of.Goals as goal
 pub packets-requires : goal.packets-requires
 packets-requires c =
     let s = c.args.stream.now in
-    let P : List Progression → Type 0 = λ x. All (λ (e : Progression). e.order ≤ 4) x in
+    let P : List Progression → Type 0 = λ x. All (λ (e : Progression). IsOrderNumber e.order) x in
     let tile = c.tile_at-tile.ensures ∙ ap (tile_at s) c.number.ensures in
     subst P (sym (c.as_slice.ensures ∙ ap (λ (x : Tile). x.progressions) tile)) (c.requires.range.orders c.args.geom.now.tile c.requires.tile)
 
