@@ -29,8 +29,8 @@ use Rattle.jx_layers.specs.Rule.{Rule}
 use Rattle.jx_layers.specs.Rule.Rule.{Keep}
 use Rattle.jx_layers.proofs.FactLemmas.{layers_most}
 use Rattle.jx_plan.specs.Fits.{Fits}
-use Rattle.jx_plan.specs.Headers.{Asked, style_written}
-use Rattle.jx_plan.specs.Plan.{MayBePlanned, asked_of, headers_with}
+use Rattle.jx_plan.specs.Headers.{HeaderOptions, style_written, with_layers}
+use Rattle.jx_plan.specs.Plan.{MayBePlanned, headers_with}
 use Rattle.jx_plan.specs.Planned.{IsCrowded, blocks_written, layers_of_rule}
 use Rattle.jx_plan.specs.Standing.{HeadersStand}
 use Rattle.jx_options.specs.Wanted.{Wanted}
@@ -100,8 +100,8 @@ module _ (own : InLayers) (ends : EndLaws) (written : WrittenLaws) (crowds : Cro
   abbrev layers : ℕ
   layers = layers_of_rule r s blocks
 
-  abbrev a : Asked
-  a = asked_of w layers
+  abbrev a : HeaderOptions
+  a = with_layers w layers
 
   abbrev other : Stream
   other = headers_with w layers s

@@ -93,7 +93,7 @@ impl<'a> OutStream<'a> {
     pub fn marks(&self) -> Marks
         ensures { result ≡ marks_of self.now.wanted }
     {
-        self.options.marks()
+        self.options.marks
     }
 
     /// The number of layers of each tile, 1 to 65,535.

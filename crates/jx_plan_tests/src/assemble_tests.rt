@@ -14,7 +14,7 @@ use jx_base::{Block, NoMemory};
 use jx_codeblock::Recoded;
 use jx_codestream::{MainView, Stream};
 use jx_layers::{LayerPlanner, tile_count};
-use jx_options::{Options, OrderChoice, PartChoice, PrecinctChoice};
+use jx_options::{Marks, Options, OrderChoice, PartChoice, PrecinctChoice};
 use jx_plan::{OutStream, plan};
 use jx_store::Entry;
 use jx_tier2_writer::{AssembleFault, TileOut, assemble_tile, main_header, main_view, pack_tile};
@@ -249,10 +249,12 @@ fn with_marks(alloc: Global, asked: Asked) -> Result<Options, AllocError>
         precincts: PrecinctChoice::Keep,
         style: None,
         layers,
-        parts,
-        sop,
-        eph,
-        plt,
+        marks: Marks {
+            sop,
+            eph,
+            plt,
+            parts,
+        },
     })
 }
 

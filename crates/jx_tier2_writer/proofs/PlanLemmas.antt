@@ -20,9 +20,9 @@ use Rattle.jx_codestream.specs.Shapes.{geometry, layers_of, shapes_of}
 use Rattle.jx_codestream.specs.Spells.{part_bytes}
 use Rattle.jx_tier2_reader.specs.Totals.{totals_fault}
 use Rattle.jx_codeblock.specs.Recoded.{WrittenBlock}
-use Rattle.jx_plan.specs.Headers.{Asked, comp_written, stream_written}
+use Rattle.jx_plan.specs.Headers.{HeaderOptions, comp_written, stream_written, with_layers}
 use Rattle.jx_plan.specs.Causes.{IsFree}
-use Rattle.jx_plan.specs.Plan.{IsPlan, Plan, asked_of, headers_of, headers_with}
+use Rattle.jx_plan.specs.Plan.{IsPlan, Plan, headers_of, headers_with}
 use Rattle.jx_plan.specs.Standing.{HeadersStand}
 use Rattle.jx_options.specs.Wanted.{MayBeWanted, Wanted, marks_of}
 use Rattle.jx_tier2_writer.specs.Assembled.{AreOwn, AreTileBytes}
@@ -47,12 +47,12 @@ plan_ready p is written =
 
 -- ---- a tile's blocks, by the laws on parameters that stay
 pub record ParametersStay : Type 0 where
-  pub shapes : (a : Asked) (s : Stream) (t : ℕ) → HeadersStand s → shapes_of (stream_written a s) t ≡ map (comp_written a.precincts) (shapes_of s t)
-  pub layers : (a : Asked) (s : Stream) (t : ℕ) → HeadersStand s → layers_of (stream_written a s) t ≡ a.layers
+  pub shapes : (a : HeaderOptions) (s : Stream) (t : ℕ) → HeadersStand s → shapes_of (stream_written a s) t ≡ map (comp_written a.wanted.precincts) (shapes_of s t)
+  pub layers : (a : HeaderOptions) (s : Stream) (t : ℕ) → HeadersStand s → layers_of (stream_written a s) t ≡ a.layers
 
 module _ (p : Plan) (is : IsPlan p) (stay : ParametersStay) where
-  abbrev a : Asked
-  a = asked_of p.wanted p.layers
+  abbrev a : HeaderOptions
+  a = with_layers p.wanted p.layers
 
   pub plan_inside : (t : ℕ) → t < tile_number p.stream.siz → t < tile_number (headers_of p).siz
   plan_inside t inside = let same : tile_number (headers_of p).siz ≡ tile_number p.stream.siz = written_tiles a p.stream in omega arith
@@ -111,7 +111,7 @@ is_tile p blocks t most bytes (is, few) = record {
   parts = is.parts;
   are = is.are;
   short = few;
-  bytes_are = is.bytes_are ∙ ap (λ (n : ℕ). map (part_bytes n) is.parts) (written_comps (asked_of p.wanted p.layers) p.stream);
+  bytes_are = is.bytes_are ∙ ap (λ (n : ℕ). map (part_bytes n) is.parts) (written_comps (with_layers p.wanted p.layers) p.stream);
 }
 
 pub is_too_long : (p : Plan) (blocks : List Block) (t most : ℕ) → HasMoreBytes (marks_of p.wanted) (headers_of p) blocks t most → IsTooLong p blocks t most
