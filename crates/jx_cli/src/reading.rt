@@ -10,8 +10,8 @@ use crate::given::{Given, given_in};
 use crate::{Request, WordsFault};
 use jx_base::{NoMemory, Style};
 use jx_options::{
-    Marks, Options, OrderChoice, PartChoice, PrecinctChoice, Work, bytes_said, order_said, parts_said,
-    precincts_said, style_said, threads_said, window_said,
+    Marks, Options, OrderChoice, PartChoice, PrecinctChoice, Work, bytes_said, order_said,
+    parts_said, precincts_said, style_said, threads_said, window_said,
 };
 use std::alloc::Global;
 

@@ -9,7 +9,7 @@ use Rattle.jx_marker.specs.declared.Segment.TheVariants as segment
 use Rattle.jx_marker.specs.Rules.{is_order, progression_fits}
 use Rattle.jx_marker.specs.Ranges.{InRange}
 use Rattle.jx_codestream.specs.declared.parts.Part.{Part}
-use Rattle.jx_codestream.specs.Tiles.{in_slot, entries_of, joined, entry_of, entry_in, headers_of, first_header, or_list, progressions_of}
+use Rattle.jx_codestream.specs.Tiles.{in_slot, entries_of, entries_joined, entry_of, entry_in, headers_of, first_header, or_list, progressions_of}
 use Rattle.jx_codestream.proofs.SegmentLemmas.{HasFitting, IsChosen, slot_chosen, headers_fit, first_fits}
 use Rattle.jx_base.proofs.Lists.{all_pass}
 use Rattle.std.proofs.lemmas.Bool.{leb-true, and_parts}
@@ -27,10 +27,10 @@ own_orders : (comps : ℕ) (s : Segment) → InRange comps s → All HasOrder (e
 own_orders comps (segment.Poc entries) r = All-weaker (λ (e : Progression). progression_fits e ≡ true) HasOrder one_order entries (all_pass progression_fits entries r.fits)
 own_orders comps _ r = All-nil HasOrder
 
-joined_orders : (comps : ℕ) (segments : List Segment) → All (InRange comps) segments → All HasOrder (joined segments)
+joined_orders : (comps : ℕ) (segments : List Segment) → All (InRange comps) segments → All HasOrder (entries_joined segments)
 joined_orders comps [] h = All-nil HasOrder
 joined_orders comps (s ∷ ss) h =
-    All-append HasOrder (entries_of s) (joined ss) (own_orders comps s (All-head (InRange comps) s ss h)) (joined_orders comps ss (All-tail (InRange comps) s ss h))
+    All-append HasOrder (entries_of s) (entries_joined ss) (own_orders comps s (All-head (InRange comps) s ss h)) (joined_orders comps ss (All-tail (InRange comps) s ss h))
 
 default_order : (comps : ℕ) (o : Option Segment) → IsChosen comps 1 1 o → All HasOrder (entry_in o)
 default_order comps None h = All-nil HasOrder
@@ -45,5 +45,5 @@ pub orders_fit : (comps : ℕ) (main : List Segment) (own : List Part) → All (
 orders_fit comps main own there here =
     let tile = default_order comps (in_slot 1 (first_header own)) (slot_chosen comps 1 1 1 (first_header own) (first_fits comps own here) (inl refl)) in
     let default = default_order comps (in_slot 1 main) (slot_chosen comps 1 1 1 main there (inl refl)) in
-    or_orders (joined (headers_of own)) _ (joined_orders comps (headers_of own) (headers_fit comps own here))
-    (or_orders (joined main) _ (joined_orders comps main there) (or_orders (entry_in (in_slot 1 (first_header own))) (entry_in (in_slot 1 main)) tile default))
+    or_orders (entries_joined (headers_of own)) _ (joined_orders comps (headers_of own) (headers_fit comps own here))
+    (or_orders (entries_joined main) _ (joined_orders comps main there) (or_orders (entry_in (in_slot 1 (first_header own))) (entry_in (in_slot 1 main)) tile default))

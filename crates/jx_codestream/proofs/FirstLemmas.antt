@@ -21,7 +21,7 @@ use Rattle.jx_codestream.specs.declared.parts.Part.{Part}
 use Rattle.jx_codestream.specs.declared.Stream.{Stream}
 use Rattle.jx_codestream.specs.declared.Tile.{Tile}
 use Rattle.jx_codestream.specs.Faults.{broken, fault_of, IsCause}
-use Rattle.jx_codestream.specs.Headers.{header_fault, slot_count, Marks}
+use Rattle.jx_codestream.specs.Headers.{header_fault, slot_count, MarksSlots}
 use Rattle.jx_codestream.specs.Parts.{marker_at, parts_of, parts_fault, parts_from, Tracks}
 use Rattle.jx_codestream.specs.Tiles.{tiles_of}
 use Rattle.jx_codestream.specs.Params.{entries_fault, planes_fault}
@@ -73,7 +73,7 @@ unfolding main_fault
 main_clear comps b start main clear is lacks =
     rw clear (broken_false NO_DEFAULTS (main_header comps b start).end (lacks_default (main_header comps b start).segments) (sym (ap (λ (h : Header). lacks_default h.segments) is) ∙ lacks))
 
-pub lacks_by_table : (comps start : ℕ) (segments : List Segment) (seen : List ℕ) (found : Bool) → Marks start segments seen → length seen ≡ slot_count comps
+pub lacks_by_table : (comps start : ℕ) (segments : List Segment) (seen : List ℕ) (found : Bool) → MarksSlots start segments seen → length seen ≡ slot_count comps
     → found ≡ ((get_or seen 1 0 == start) && (get_or seen 2 0 == start)) → lacks_default segments ≡ not found
 lacks_by_table comps start segments seen found marks size is =
     let first : 1 < length seen = omega arith in

@@ -19,7 +19,7 @@ use Rattle.jx_codestream.specs.declared.faults.StreamFault.TheVariants as fault
 use Rattle.jx_codestream.specs.declared.headers.HeaderKind.{HeaderKind}
 use Rattle.jx_codestream.specs.declared.headers.Header.{Header}
 use Rattle.jx_codestream.specs.Faults.{fault_of, IsCause}
-use Rattle.jx_codestream.specs.Headers.{stands_in, ends_header, slot_of, slot_count, has_slot, is_second, early_fault, segment_fault, stops, longest, header_at, header_fault, Marks}
+use Rattle.jx_codestream.specs.Headers.{stands_in, ends_header, slot_of, slot_count, has_slot, is_second, early_fault, segment_fault, stops, longest, header_at, header_fault, MarksSlots}
 use Rattle.jx_codestream.proofs.FaultLemmas.{broken_false, broken_true}
 use Rattle.std.proofs.lemmas.Bool.{cases_Bool, cases_eq, eq-eqb, ne_eqb, or_right, le-ltb}
 use Rattle.jx_base.proofs.Tests.{or_false}
@@ -190,8 +190,8 @@ has_this slot before s h = has_more slot before s ∙ rw (eq-eqb (slot_of s) slo
 has_other : (slot : ℕ) (before : List Segment) (s : Segment) → slot_of s ≢ slot → has_slot slot (before ++ s ∷ []) ≡ has_slot slot before
 has_other slot before s h = has_more slot before s ∙ rw (ne_eqb (slot_of s) slot h) (or_false (has_slot slot before))
 
-marks_slot : (start : ℕ) (before : List Segment) (s : Segment) (seen : List ℕ) → slot_of s < length seen → Marks start before seen
-    → Marks start (before ++ s ∷ []) (set seen (slot_of s) start)
+marks_slot : (start : ℕ) (before : List Segment) (s : Segment) (seen : List ℕ) → slot_of s < length seen → MarksSlots start before seen
+    → MarksSlots start (before ++ s ∷ []) (set seen (slot_of s) start)
 marks_slot start before s seen inside marks = record {
   each = λ slot some within.
       elim (cases_eq slot (slot_of s)) [
@@ -209,7 +209,7 @@ marks_slot start before s seen inside marks = record {
       ];
 }
 
-marks_free : (start : ℕ) (before : List Segment) (s : Segment) (seen : List ℕ) → slot_of s ≡ 0 → Marks start before seen → Marks start (before ++ s ∷ []) seen
+marks_free : (start : ℕ) (before : List Segment) (s : Segment) (seen : List ℕ) → slot_of s ≡ 0 → MarksSlots start before seen → MarksSlots start (before ++ s ∷ []) seen
 marks_free start before s seen free marks = record {
   each = λ slot some within.
       let other : slot_of s ≢ slot = λ e. absurd (omega arith) in
@@ -221,9 +221,9 @@ above : (n : ℕ) → n ≢ 0 → nat_lt 0 n ≡ true
 above n h = grind (arith, nat_tests)
 
 pub marks_more : (start : ℕ) (before : List Segment) (s : Segment) (seen after : List ℕ) → slot_of s < length seen
-    → after ≡ cond (nat_lt 0 (slot_of s)) (set seen (slot_of s) start) seen → Marks start before seen → Marks start (before ++ s ∷ []) after
+    → after ≡ cond (nat_lt 0 (slot_of s)) (set seen (slot_of s) start) seen → MarksSlots start before seen → MarksSlots start (before ++ s ∷ []) after
 marks_more start before s seen after inside e marks =
-    let P : List ℕ → Type 0 = λ x. Marks start (before ++ s ∷ []) x in
+    let P : List ℕ → Type 0 = λ x. MarksSlots start (before ++ s ∷ []) x in
     elim (cases_eq (slot_of s) 0) [
       | inl free ↦
           let is : seen ≡ after = sym (e ∙ ap (λ (x : Bool). cond x (set seen (slot_of s) start) seen) (le-ltb 0 (slot_of s) (omega (arith, free)))) in
@@ -234,7 +234,7 @@ marks_more start before s seen after inside e marks =
     ]
 
 -- the table answers rule 18
-pub second_is : (start : ℕ) (before : List Segment) (s : Segment) (seen : List ℕ) (found : Bool) → slot_of s < length seen → Marks start before seen
+pub second_is : (start : ℕ) (before : List Segment) (s : Segment) (seen : List ℕ) (found : Bool) → slot_of s < length seen → MarksSlots start before seen
     → found ≡ (nat_lt 0 (slot_of s) && (get_or seen (slot_of s) 0 == start)) → is_second before s ≡ found
 second_is start before s seen found inside marks e =
     elim (cases_eq (slot_of s) 0) [
@@ -253,17 +253,17 @@ slot_inside comps (segment.Rgn comp shift) range = omega (arith, range.index)
 slot_inside comps _ range = omega arith
 
 pub second_at : (comps start : ℕ) (before : List Segment) (s : Segment) (slot : ℕ) (seen : List ℕ) (found : Bool) → slot ≡ slot_of s → InRange comps s
-    → length seen ≡ slot_count comps → Marks start before seen
+    → length seen ≡ slot_count comps → MarksSlots start before seen
     → found ≡ (nat_lt 0 slot && (get_or seen slot 0 == start)) → is_second before s ≡ found
 second_at comps start before s slot seen found e range size marks answer =
     let inside : slot_of s < length seen = omega (arith, slot_inside comps s range) in
     second_is start before s seen found inside marks (answer ∙ ap (λ (n : ℕ). nat_lt 0 n && (get_or seen n 0 == start)) e)
 
 pub marks_at : (comps start : ℕ) (before items : List Segment) (s : Segment) (slot : ℕ) (seen after : List ℕ) → slot ≡ slot_of s → InRange comps s
-    → length seen ≡ slot_count comps → after ≡ cond (nat_lt 0 slot) (set seen slot start) seen → items ≡ before ++ s ∷ [] → Marks start before seen → Marks start items after
+    → length seen ≡ slot_count comps → after ≡ cond (nat_lt 0 slot) (set seen slot start) seen → items ≡ before ++ s ∷ [] → MarksSlots start before seen → MarksSlots start items after
 marks_at comps start before items s slot seen after e range size is all marks =
     let inside : slot_of s < length seen = omega (arith, slot_inside comps s range) in
-    let P : List Segment → Type 0 = λ x. Marks start x after in
+    let P : List Segment → Type 0 = λ x. MarksSlots start x after in
     subst P (sym all) (marks_more start before s seen after inside (is ∙ ap (λ (n : ℕ). cond (nat_lt 0 n) (set seen n start) seen) e) marks)
 
 -- the header goes on by the segment that was read

@@ -129,6 +129,6 @@ header_fault kind comps b at =
     segment_fault kind comps b (header_at kind comps b at).segments (header_at kind comps b at).end
 
 -- a table by slots that has the start of the header in those of its segments, and less in the others
-pub record Marks (start : ℕ) (before : List Segment) (seen : List ℕ) : Type 0 where
+pub record MarksSlots (start : ℕ) (before : List Segment) (seen : List ℕ) : Type 0 where
   pub each : (slot : ℕ) → 0 < slot → slot < length seen → (slice_index seen slot == start) ≡ has_slot slot before
   pub most : (slot : ℕ) → slice_index seen slot ≤ start

@@ -21,8 +21,8 @@ entries_of (segment.Poc entries) = entries
 entries_of _ = []
 
 -- the entries of all POC segments, joined
-abbrev pub joined : List Segment → List Progression
-joined segments = flat_map entries_of segments
+abbrev pub entries_joined : List Segment → List Progression
+entries_joined segments = flat_map entries_of segments
 
 abbrev pub is_com : Segment → Bool
 is_com (segment.Com bytes) = true
@@ -56,7 +56,7 @@ or_list (entry ∷ entries) second = entry ∷ entries
 -- the tile's own entries, joined over its tile-parts, else the main header's, else the one of its COD, else of the main COD
 abbrev pub progressions_of : List Segment → List Part → List Progression
 progressions_of main own =
-    or_list (joined (headers_of own)) (or_list (joined main) (or_list (entry_in (in_slot cod_slot (first_header own))) (entry_in (in_slot cod_slot main))))
+    or_list (entries_joined (headers_of own)) (or_list (entries_joined main) (or_list (entry_in (in_slot cod_slot (first_header own))) (entry_in (in_slot cod_slot main))))
 
 -- the tile of these tile-parts
 abbrev pub tile_from : List Segment → List Part → Tile
@@ -81,5 +81,5 @@ pub record Collects (own : List Part) (draft : Draft) : Type 0 where
   pub place : draft.place ≡ first_place own
   pub header : draft.header.items ≡ first_header own
   pub notes : draft.notes.items ≡ filter is_com (headers_of (drop 1 own))
-  pub entries : draft.entries.items ≡ joined (headers_of own)
+  pub entries : draft.entries.items ≡ entries_joined (headers_of own)
   pub bodies : draft.bodies.items ≡ map (λ (p : Part). p.body) own

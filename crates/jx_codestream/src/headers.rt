@@ -5,7 +5,7 @@ ghost use Rattle.std.specs.Option.{option_or};
 ghost use Rattle.jx_marker.specs.Ranges.{InRange};
 ghost use Rattle.jx_marker.specs.Segments.{segment_at, size_at};
 ghost use Rattle.jx_codestream.specs.Faults.{Answers, fault_of};
-ghost use Rattle.jx_codestream.specs.Headers.{stands_in, ends_header, slot_of, slot_count, early_fault, header_at, header_fault, Marks};
+ghost use Rattle.jx_codestream.specs.Headers.{stands_in, ends_header, slot_of, slot_count, early_fault, header_at, header_fault, MarksSlots};
 
 use crate::{Segments, StreamFault, slots};
 use jx_marker::{Rule, Segment, read_segment, rule_numbers};
@@ -167,7 +167,7 @@ pub fn read_header(
     requires fresh { (slot : ℕ) → slice_index seen.old slot < at }
     ensures answer { Answers result (header_fault kind comps bytes.now at) (λ header. header ≡ header_at kind comps bytes.now at) }
     ensures within { IfOk result (λ header. (at ≤ header.end) × (header.end + 2 ≤ length bytes.now)) }
-    ensures marks { IfOk result (λ header. Marks at header.segments seen.new) }
+    ensures marks { IfOk result (λ header. MarksSlots at header.segments seen.new) }
 {
     let start = at as u32;
     let mut segments = Vec::new(alloc);

@@ -8,14 +8,13 @@ ghost use Rattle.jx_marker.specs.Segments.{segment_at};
 ghost use Rattle.std.specs.List.{All};
 ghost use Rattle.jx_codestream.specs.declared.parts.Part.{Part};
 ghost use Rattle.jx_codestream.specs.Faults.{Answers};
-ghost use Rattle.jx_codestream.specs.Headers.{slot_count, Marks};
+ghost use Rattle.jx_codestream.specs.Headers.{slot_count, MarksSlots};
 ghost use Rattle.jx_codestream.specs.Parts.{marker_at, sot_in, after_sot, kind_of, start_fault, sot_fault, sod_fault, is_out_of_turn, has_wrong_length, end_of, part_at, part_fault, tables_say, parts_fault, parts_from, end_of_part, Tracks};
 
 use crate::headers::{HeaderKind, fault_of, read_header, violated};
 use crate::{Body, Segments, StreamFault};
 use jx_marker::codes::{EOC, SOT};
-use jx_marker::rule_numbers;
-use jx_marker::{Segment, Sot, read_segment};
+use jx_marker::{Segment, Sot, read_segment, rule_numbers};
 use std::alloc::Global;
 
 /// One tile-part.

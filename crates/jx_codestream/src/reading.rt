@@ -25,8 +25,7 @@ use crate::tiles::tiles_of;
 use crate::{Segments, Stream, StreamFault, Tile, Tiles, slots};
 use jx_geom::{Canvas, tiles};
 use jx_marker::codes::{SIZ, SOC};
-use jx_marker::rule_numbers;
-use jx_marker::{Segment, Siz, read_segment};
+use jx_marker::{Segment, Siz, read_segment, rule_numbers};
 use std::alloc::{AllocError, Global};
 
 /// The most tiles.

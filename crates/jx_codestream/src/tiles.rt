@@ -8,7 +8,7 @@ ghost use Rattle.jx_marker.specs.declared.Segment.{Segment};
 ghost use Rattle.jx_codestream.specs.declared.tiles.Draft.{Draft};
 ghost use Rattle.jx_codestream.specs.declared.parts.Part.{Part};
 ghost use Rattle.jx_codestream.specs.Headers.{cod_slot, slot_of};
-ghost use Rattle.jx_codestream.specs.Tiles.{in_slot, joined, is_com, entry_in, entries_of, or_list, tile_from, tiles_of, Collects};
+ghost use Rattle.jx_codestream.specs.Tiles.{in_slot, entries_joined, is_com, entry_in, entries_of, or_list, tile_from, tiles_of, Collects};
 ghost use Rattle.jx_codestream.specs.Parts.{parts_of};
 
 use crate::headers::slot_of;
@@ -41,7 +41,7 @@ pub fn in_slot(slot: usize, segments: &[Segment]) -> Option<&Segment>
 
 /// Appends the entries of all POC segments.
 fn push_entries(segments: &[Segment], entries: &mut Vec<Progression>) -> Result<(), AllocError>
-    ensures { OnOk result (entries.new.items ≡ entries.old.items ++ joined segments.now) }
+    ensures { OnOk result (entries.new.items ≡ entries.old.items ++ entries_joined segments.now) }
 {
     for segment in segments {
         if let Segment::Poc(more) = segment {
@@ -179,7 +179,7 @@ fn progressions(
 impl Draft {
     /// The tile, with the main header's entries and the one of the main COD.
     fn finish(self, alloc: Global, main: &Entries, default: &Entries) -> Result<Tile, AllocError>
-        ensures { IfOk result (λ tile. (own : List Part) (segments : List Segment) → Collects own self → main.now ≡ joined segments
+        ensures { IfOk result (λ tile. (own : List Part) (segments : List Segment) → Collects own self → main.now ≡ entries_joined segments
             → default.now ≡ entry_in (in_slot cod_slot segments) → tile ≡ tile_from segments own) }
     {
         let Draft {
@@ -202,7 +202,7 @@ impl Draft {
 
 /// The entries of the main header.
 fn main_entries(alloc: Global, main: &[Segment]) -> Result<Entries, AllocError>
-    ensures { IfOk result (λ entries. entries ≡ joined main.now) }
+    ensures { IfOk result (λ entries. entries ≡ entries_joined main.now) }
 {
     let mut entries = Vec::new(alloc);
     push_entries(main, &mut entries)?;
@@ -217,7 +217,7 @@ fn finish_all(
     default: &Entries,
 ) -> Result<Vec<Tile>, AllocError>
     ensures count { IfOk result (λ tiles. length tiles.items ≡ length drafts.items) }
-    ensures each { IfOk result (λ tiles. (segments : List Segment) → main.now ≡ joined segments → default.now ≡ entry_in (in_slot cod_slot segments)
+    ensures each { IfOk result (λ tiles. (segments : List Segment) → main.now ≡ entries_joined segments → default.now ≡ entry_in (in_slot cod_slot segments)
         → (tile : ℕ) (other : Draft) (another : Tile) (own : List Part) → tile < length drafts.items
         → Collects own (slice_index_or drafts.items tile other) → slice_index_or tiles.items tile another ≡ tile_from segments own) }
 {

@@ -7,7 +7,7 @@ use Rattle.jx_base.proofs.Lists.{contains_cons, contains_head, contains_none}
 use Rattle.jx_geom.specs.Geometry.{Geometry}
 use Rattle.jx_progression.specs.declared.names.PacketName.{PacketName}
 use Rattle.jx_progression.specs.Orders.{ComesBefore, order_of}
-use Rattle.jx_progression.specs.Packets.{AreCovered, Covers, IsOrder, IsPacket, Sends}
+use Rattle.jx_progression.specs.Packets.{AreCovered, Covers, IsOrder, IsPacketName, Sends}
 use Rattle.jx_progression.specs.Steps.{name_of}
 use Rattle.jx_progression.proofs.OrderLemmas.{same_fields}
 use Rattle.jx_generate.specs.Headers.{AreSizes, geometry_made}
@@ -92,14 +92,14 @@ names_sorted g =
     (λ l m x y lt hx hy. (let a = from_layer l x hx in let b = from_layer m y hy in inl (omega (arith, a.0, b.0))))
 
 -- ---- the packets of the tile
-packet_from : (w h : ℕ) (p : PacketName) → AreSizes w h → HasFields p → IsPacket (geometry_made w h) 12 p
+packet_from : (w h : ℕ) (p : PacketName) → AreSizes w h → HasFields p → IsPacketName (geometry_made w h) 12 p
 packet_from w h p sizes f = record {
   layer = f.layer;
   resolution = resolution_there w h p.comp p.res f.comp (omega (arith, f.res));
   precinct = omega (arith, f.precinct, precincts_made w h p.comp p.res sizes f.comp (omega (arith, f.res)));
 }
 
-pub packet_fields : (w h : ℕ) (p : PacketName) → AreSizes w h → IsPacket (geometry_made w h) 12 p → (p.res < 6) × (p.layer < 12) × (p.comp < 3) × (p.precinct ≡ 0)
+pub packet_fields : (w h : ℕ) (p : PacketName) → AreSizes w h → IsPacketName (geometry_made w h) 12 p → (p.res < 6) × (p.layer < 12) × (p.comp < 3) × (p.precinct ≡ 0)
 packet_fields w h p sizes is =
     let comp : p.comp < 3 = three_shapes w h p.comp is.resolution.component in
     let level : p.res ≤ 5 = level_5 w h p.comp p.res comp is.resolution.level in
@@ -108,7 +108,7 @@ packet_fields w h p sizes is =
 covers_all : (p : PacketName) → p.layer < 12 → p.res < 6 → Covers entry_made p
 covers_all p layer res = record { layer = layer; res_from = omega arith; res_below = omega arith; comp_from = omega arith; comp_below = inl refl }
 
-names_exact : (w h : ℕ) (p : PacketName) → AreSizes w h → IsPacket (geometry_made w h) 12 p → Contains names_made p
+names_exact : (w h : ℕ) (p : PacketName) → AreSizes w h → IsPacketName (geometry_made w h) 12 p → Contains names_made p
 names_exact w h p sizes is =
     let f = packet_fields w h p sizes is in
     let e : name_of p.layer p.res p.comp 0 ≡ p = same_fields (name_of p.layer p.res p.comp 0) p refl refl refl (sym f.3) in

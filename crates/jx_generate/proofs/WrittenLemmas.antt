@@ -18,7 +18,7 @@ use Rattle.jx_packet_header.proofs.AgreeLemmas.{written_is_read}
 use Rattle.jx_marker.specs.Codes.{EOC}
 use Rattle.jx_marker.specs.Values.{canvas_bytes}
 use Rattle.jx_progression.specs.declared.names.PacketName.{PacketName}
-use Rattle.jx_progression.specs.Packets.{IsPacket as IsNamed}
+use Rattle.jx_progression.specs.Packets.{IsPacketName}
 use Rattle.jx_progression.specs.Steps.{name_of}
 use Rattle.jx_codestream.specs.declared.Stream.{Stream}
 use Rattle.jx_codestream.specs.Params.{planes_at, planes_of, number_of}
@@ -47,7 +47,7 @@ data_filled seed w h c r layer =
     leaves_filled layer (leaf_made seed w h c r) (λ j. (leaf_drawn seed w h c r j).pieces) (leaves g c r 0)
     (λ j. parts_of_pieces layer j (leaf_drawn seed w h c r j).pieces) (λ j. drawn_clear (state_before seed (leaf_number g c r 0 j)))
 
-packet_written : (seed w h : ℕ) (p : PacketName) → AreSizes w h → IsNamed (geometry_made w h) 12 p → IsWritten (packets_made seed w h) p
+packet_written : (seed w h : ℕ) (p : PacketName) → AreSizes w h → IsPacketName (geometry_made w h) 12 p → IsWritten (packets_made seed w h) p
 unfolding packets_made header_made
 packet_written seed w h p sizes is =
     let f = packet_fields w h p sizes is in
@@ -121,8 +121,8 @@ all_written seed w h size sizes =
     let s : Stream = stream_made w h size in
     let same : geometry_made w h ≡ geometry s 0 = sym (geometry_is w h size) in
     let P : Geometry → Type 0 = λ g. (c r k : ℕ) → HasPrecinct g c r k → (packets_made seed w h).before (name_of 0 r c k) ≡ fresh_precinct s g c r k in
-    let Q : Geometry → Type 0 = λ g. (p : PacketName) → IsNamed g (layers_of s 0) p → IsWritten (packets_made seed w h) p in
-    let R : ℕ → Type 0 = λ n. (p : PacketName) → IsNamed (geometry_made w h) n p → IsWritten (packets_made seed w h) p in
+    let Q : Geometry → Type 0 = λ g. (p : PacketName) → IsPacketName g (layers_of s 0) p → IsWritten (packets_made seed w h) p in
+    let R : ℕ → Type 0 = λ n. (p : PacketName) → IsPacketName (geometry_made w h) n p → IsWritten (packets_made seed w h) p in
     record {
       first = subst P same (λ c r k has. fresh_is seed w h size c r k sizes has);
       each = subst Q same (subst R (sym (layers_are w h size)) (λ p is. packet_written seed w h p sizes is));

@@ -17,7 +17,7 @@ use Rattle.jx_codestream.specs.Params.{planes_at}
 use Rattle.jx_codestream.specs.Shapes.{layers_of, shapes_of, style_of}
 use Rattle.jx_tier2_reader.specs.Another.{rect_in}
 use Rattle.jx_tier2_reader.specs.BlockOf.{AreBlocksOf, IsBlockOf, IsFoundOf, pieces_at}
-use Rattle.jx_tier2_reader.specs.BlockOf.{AreCutAtEnds as AreCutAsRead}
+use Rattle.jx_tier2_reader.specs.BlockOf.{AreCutAsRead}
 use Rattle.jx_codeblock.specs.declared.LayerEnd.{LayerEnd}
 use Rattle.jx_codeblock.specs.Jobs.{IsAsked}
 use Rattle.jx_codeblock.specs.Laws.{AreCutInLayers, asked_at}

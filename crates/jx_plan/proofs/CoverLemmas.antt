@@ -4,7 +4,7 @@ use Rattle.jx_marker.specs.declared.Cod.{Cod}
 use Rattle.jx_marker.specs.declared.Progression.{Progression}
 use Rattle.jx_geom.specs.Geometry.{Geometry, ShapesInRange}
 use Rattle.jx_progression.specs.declared.names.PacketName.{PacketName}
-use Rattle.jx_progression.specs.Packets.{IsPacket, Covers, AreCovered}
+use Rattle.jx_progression.specs.Packets.{IsPacketName, Covers, AreCovered}
 use Rattle.jx_codestream.specs.declared.Stream.{Stream}
 use Rattle.jx_codestream.specs.Tiles.{entry_of}
 use Rattle.jx_codestream.specs.First.{tile_number}
@@ -17,7 +17,7 @@ use Rattle.jx_plan.specs.Standing.{HeadersStand}
 use Rattle.jx_plan.proofs.StreamLemmas.{coded_at, layers_are, tile_number_stays}
 use Rattle.jx_plan.proofs.RangeLemmas.{entries_are, written_in_range}
 
-covers : (g : Geometry) (layers : ℕ) (cod : Cod) (p : PacketName) → ShapesInRange g.shapes → layers ≡ cod.layers → IsPacket g layers p → Covers (entry_of cod) p
+covers : (g : Geometry) (layers : ℕ) (cod : Cod) (p : PacketName) → ShapesInRange g.shapes → layers ≡ cod.layers → IsPacketName g layers p → Covers (entry_of cod) p
 covers g layers cod p range same is = record {
   layer = let lt = is.layer in omega (arith, lt, same);
   res_from = omega arith;

@@ -20,7 +20,7 @@ use Rattle.jx_codestream.specs.First.{tile_number}
 use Rattle.jx_tier2_reader.specs.Faults.{passed}
 use Rattle.jx_tier2_reader.specs.Totals.{block_total, packet_total, tile_packets, totals_fault}
 use Rattle.jx_tier2_reader.proofs.TotalLemmas.{packets_are, not_passed}
-use Rattle.jx_progression.specs.Packets.{IsPacket}
+use Rattle.jx_progression.specs.Packets.{IsPacketName}
 use Rattle.jx_progression.specs.declared.names.PacketName.{PacketName}
 use Rattle.jx_codestream.proofs.FaultLemmas.{none_later as later_none}
 use Rattle.jx_progression.proofs.OrderLemmas.{same_fields as same_name}
@@ -36,10 +36,10 @@ number g layers p = precinct_number g p.comp p.res p.precinct * layers + p.layer
 times_more : (a b n : ℕ) → a < b → a * n + n ≤ b * n
 times_more a b n lt = grind arith
 
-pub has_precinct : (g : Geometry) (layers : ℕ) (p : PacketName) → IsPacket g layers p → HasPrecinct g p.comp p.res p.precinct
+pub has_precinct : (g : Geometry) (layers : ℕ) (p : PacketName) → IsPacketName g layers p → HasPrecinct g p.comp p.res p.precinct
 has_precinct g layers p is = record { resolution = is.resolution; precinct = is.precinct }
 
-number_once : (g : Geometry) (layers : ℕ) (p q : PacketName) → IsPacket g layers p → IsPacket g layers q → number g layers p ≡ number g layers q → p ≡ q
+number_once : (g : Geometry) (layers : ℕ) (p q : PacketName) → IsPacketName g layers p → IsPacketName g layers q → number g layers p ≡ number g layers q → p ≡ q
 unfolding number
 number_once g layers p q is is' e =
     let a : ℕ = precinct_number g p.comp p.res p.precinct in
@@ -49,7 +49,7 @@ number_once g layers p q is is' e =
     let one = precinct_once g p.comp p.res p.precinct q.comp q.res q.precinct (has_precinct g layers p is) (has_precinct g layers q is') same in
     same_name p q (omega arith) one.1 one.0 one.2
 
-number_below : (g : Geometry) (layers : ℕ) (p : PacketName) → IsPacket g layers p → number g layers p < tile_precincts (rect_of_tile g) g.shapes * layers
+number_below : (g : Geometry) (layers : ℕ) (p : PacketName) → IsPacketName g layers p → number g layers p < tile_precincts (rect_of_tile g) g.shapes * layers
 unfolding number
 number_below g layers p is =
     let low : p.layer < layers = is.layer in
@@ -57,7 +57,7 @@ number_below g layers p is =
     times_more (precinct_number g p.comp p.res p.precinct) (tile_precincts (rect_of_tile g) g.shapes) layers (precinct_below g p.comp p.res p.precinct (has_precinct g layers p is)) in
     omega arith
 
-others : (g : Geometry) (layers : ℕ) (p : PacketName) (ps : List PacketName) → IsPacket g layers p → ((q : PacketName) → Contains ps q → IsPacket g layers q) → ((q : PacketName) → Contains ps q → p ≢ q)
+others : (g : Geometry) (layers : ℕ) (p : PacketName) (ps : List PacketName) → IsPacketName g layers p → ((q : PacketName) → Contains ps q → IsPacketName g layers q) → ((q : PacketName) → Contains ps q → p ≢ q)
     → AllByRecursion (λ (n : ℕ). eqb (number g layers p) n ≡ false) (map (number g layers) ps)
 others g layers p [] is each ne = tt
 others g layers p (q ∷ ps) is each ne = (
@@ -65,7 +65,7 @@ others g layers p (q ∷ ps) is each ne = (
   others g layers p ps is (λ x has. each x (contains_tail q ps x has)) (λ x has. ne x (contains_tail q ps x has)),
 )
 
-distinct : (g : Geometry) (layers : ℕ) (ps : List PacketName) → ((q : PacketName) → Contains ps q → IsPacket g layers q) → AllPairs (λ p q. p ≢ q) ps → IsDistinct eqb (map (number g layers) ps)
+distinct : (g : Geometry) (layers : ℕ) (ps : List PacketName) → ((q : PacketName) → Contains ps q → IsPacketName g layers q) → AllPairs (λ p q. p ≢ q) ps → IsDistinct eqb (map (number g layers) ps)
 unfolding IsDistinct
 distinct g layers [] each pairs = tt
 distinct g layers (p ∷ ps) each pairs = (
@@ -73,7 +73,7 @@ distinct g layers (p ∷ ps) each pairs = (
   distinct g layers ps (λ x has. each x (contains_tail p ps x has)) (pairs_tail (λ p q. p ≢ q) p ps pairs),
 )
 
-below : (g : Geometry) (layers : ℕ) (ps : List PacketName) (n : ℕ) → ((q : PacketName) → Contains ps q → IsPacket g layers q) → list_any (eqb n) (map (number g layers) ps) ≡ true
+below : (g : Geometry) (layers : ℕ) (ps : List PacketName) (n : ℕ) → ((q : PacketName) → Contains ps q → IsPacketName g layers q) → list_any (eqb n) (map (number g layers) ps) ≡ true
     → n < tile_precincts (rect_of_tile g) g.shapes * layers
 below g layers [] n each any = absurd cc
 below g layers (p ∷ ps) n each any =
@@ -86,10 +86,10 @@ below g layers (p ∷ ps) n each any =
         subst (λ (m : ℕ). m < tile_precincts (rect_of_tile g) g.shapes * layers) (sym same) (number_below g layers p (each p (contains_head p ps)))
     by false e later found = later (cc)
 
-pub few_names : (g : Geometry) (layers : ℕ) (ps : List PacketName) → ((q : PacketName) → Contains ps q ↔ IsPacket g layers q) → AllPairs (λ p q. p ≢ q) ps
+pub few_names : (g : Geometry) (layers : ℕ) (ps : List PacketName) → ((q : PacketName) → Contains ps q ↔ IsPacketName g layers q) → AllPairs (λ p q. p ≢ q) ps
     → length ps ≤ tile_precincts (rect_of_tile g) g.shapes * layers
 few_names g layers ps every pairs =
-    let each : (q : PacketName) → Contains ps q → IsPacket g layers q = λ q has. (every q).0 has in
+    let each : (q : PacketName) → Contains ps q → IsPacketName g layers q = λ q has. (every q).0 has in
     let le : length (map (number g layers) ps) ≤ tile_precincts (rect_of_tile g) g.shapes * layers =
     length-le_from_distinct_below (map (number g layers) ps) (tile_precincts (rect_of_tile g) g.shapes * layers) (distinct g layers ps each pairs) (λ n any. below g layers ps n each any) in
     subst (λ (n : ℕ). n ≤ tile_precincts (rect_of_tile g) g.shapes * layers) (length-map ps (number g layers)) le

@@ -12,7 +12,7 @@ use Rattle.jx_marker.specs.declared.Cod.{Cod}
 use Rattle.jx_codestream.specs.declared.headers.HeaderKind.TheVariants.{First}
 use Rattle.jx_codestream.specs.declared.Tile.{Tile}
 use Rattle.jx_codestream.specs.declared.Stream.{Stream}
-use Rattle.jx_codestream.specs.Tiles.{joined, entry_in, or_list, in_slot}
+use Rattle.jx_codestream.specs.Tiles.{entries_joined, entry_in, or_list, in_slot}
 use Rattle.jx_codestream.specs.Params.{cod_of, cod_or, header_in, header_of}
 use Rattle.jx_codestream.specs.Spells.{AreSegments}
 use Rattle.jx_codestream.specs.Shapes.{tile_at, no_tile}
@@ -88,16 +88,16 @@ unfolding stream_written
 comps_at a s h = h.each
 
 module _ (a : HeaderOptions) (s : Stream) (stand : HeadersStand s) where
-  pub main_plain : joined (stream_written a s).main ≡ []
-  main_plain = ap joined (main_is a s) ∙ none_written a s.main
+  pub main_plain : entries_joined (stream_written a s).main ≡ []
+  main_plain = ap entries_joined (main_is a s) ∙ none_written a s.main
 
   header_is : (t : ℕ) → t < length s.tiles → header_of (stream_written a s) t ≡ tile_header a (tile_at s t)
   header_is t inside =
       let within : t < length (stream_written a s).tiles = omega (arith, count_is a s) in
       ap header_in (slice_get-get_or (stream_written a s).tiles t no_tile within) ∙ ap (λ (x : Tile). x.header) (tile_is a s stand t inside)
 
-  pub entries_plain : (t : ℕ) → t < length s.tiles → joined (header_of (stream_written a s) t) ≡ []
-  entries_plain t inside = ap joined (header_is t inside) ∙ none_header a (length s.siz.comps) (tile_at s t) (stand.each t no_tile inside)
+  pub entries_plain : (t : ℕ) → t < length s.tiles → entries_joined (header_of (stream_written a s) t) ≡ []
+  entries_plain t inside = ap entries_joined (header_is t inside) ∙ none_header a (length s.siz.comps) (tile_at s t) (stand.each t no_tile inside)
 
   pub lengths_plain : (t : ℕ) → t < length s.tiles → list_any is_plt (header_of (stream_written a s) t) ≡ false
   lengths_plain t inside = ap (λ (xs : List Segment). list_any is_plt xs) (header_is t inside) ∙ header_plt a (length s.siz.comps) (tile_at s t) (stand.each t no_tile inside)

@@ -16,7 +16,7 @@ use Rattle.jx_codestream.specs.declared.Stream.{Stream}
 use Rattle.jx_codestream.specs.Parts.{parts_of}
 use Rattle.jx_codestream.specs.First.{tile_number}
 use Rattle.jx_codestream.specs.Shapes.{tile_at, no_tile}
-use Rattle.jx_codestream.specs.Tiles.{in_slot, entries_of, joined, is_com, entry_in, or_list, headers_of, first_header, first_place, progressions_of, tile_from, tile_of, tiles_of}
+use Rattle.jx_codestream.specs.Tiles.{in_slot, entries_of, entries_joined, is_com, entry_in, or_list, headers_of, first_header, first_place, progressions_of, tile_from, tile_of, tiles_of}
 use Rattle.jx_plan.specs.Headers.{HeaderOptions, written, is_written, all_written, tile_header, tile_written, stream_written}
 use Rattle.jx_plan.specs.Asides.{IsAside, is_aside, is_plt, IsTileWithMore, IsWithMore}
 use Rattle.jx_plan.specs.ReadBack.{HaveHeaders}
@@ -33,7 +33,7 @@ no_entries a (segment.Cod cod) h = refl
 no_entries a (segment.Coc comp shape) h = refl
 no_entries a _ h = refl
 
-pub none_written : (a : HeaderOptions) (ss : List Segment) → joined (all_written a ss) ≡ []
+pub none_written : (a : HeaderOptions) (ss : List Segment) → entries_joined (all_written a ss) ≡ []
 none_written a [] = refl
 none_written a (s ∷ ss) = elim (cases_Bool (is_written s)) [
   | inl t ↦ rw (t, no_entries a s t) (none_written a ss)
@@ -45,7 +45,7 @@ none_aside (segment.Com bytes) h = refl
 none_aside (segment.Plt bytes) h = refl
 none_aside _ h = absurd (cc)
 
-none_asides : (comps : ℕ) (more : List Segment) → All (IsAside comps) more → joined more ≡ []
+none_asides : (comps : ℕ) (more : List Segment) → All (IsAside comps) more → entries_joined more ≡ []
 none_asides comps [] h = refl
 none_asides comps (s ∷ ss) h = rw (none_aside s (All-head (IsAside comps) s ss h).is) (none_asides comps ss (All-tail (IsAside comps) s ss h))
 
@@ -60,7 +60,7 @@ plt_note _ h = absurd (cc)
 abbrev IsLength : Segment → Type 0
 IsLength s = is_plt s ≡ true
 
-none_plts : (more : List Segment) → All IsLength more → joined more ≡ []
+none_plts : (more : List Segment) → All IsLength more → entries_joined more ≡ []
 none_plts [] h = refl
 none_plts (s ∷ ss) h = rw (plt_entries s (All-head IsLength s ss h)) (none_plts ss (All-tail IsLength s ss h))
 
@@ -68,10 +68,10 @@ no_notes : (more : List Segment) → All IsLength more → filter is_com more �
 no_notes [] h = refl
 no_notes (s ∷ ss) h = rw (plt_note s (All-head IsLength s ss h)) (no_notes ss (All-tail IsLength s ss h))
 
-pub none_both : (xs ys : List Segment) → joined xs ≡ [] → joined ys ≡ [] → joined (xs ++ ys) ≡ []
-none_both xs ys h k = flat_map-append entries_of xs ys ∙ ap (λ (es : List Progression). es ++ joined ys) h ∙ k
+pub none_both : (xs ys : List Segment) → entries_joined xs ≡ [] → entries_joined ys ≡ [] → entries_joined (xs ++ ys) ≡ []
+none_both xs ys h k = flat_map-append entries_of xs ys ∙ ap (λ (es : List Progression). es ++ entries_joined ys) h ∙ k
 
-pub none_header : (a : HeaderOptions) (comps : ℕ) (t : Tile) → IsHeaded comps t → joined (tile_header a t) ≡ []
+pub none_header : (a : HeaderOptions) (comps : ℕ) (t : Tile) → IsHeaded comps t → entries_joined (tile_header a t) ≡ []
 none_header a comps t headed = none_both (all_written a t.header) t.notes (none_written a t.header) (none_asides comps t.notes (notes_aside comps t.notes headed.notes))
 
 -- all headers are the first and the later ones
@@ -81,12 +81,12 @@ first_later (p ∷ later) = refl
 
 module _ (a : HeaderOptions) (comps : ℕ) (main : List Segment) (t : Tile) (own : List Part) (more : List Segment) (headed : IsHeaded comps t)
     (first : first_header own ≡ tile_header a t ++ more) (asides : All (IsAside comps) more) (later : All IsLength (headers_of (drop 1 own))) where
-  none_first : joined (first_header own) ≡ []
+  none_first : entries_joined (first_header own) ≡ []
   none_first =
-      ap joined first ∙ none_both (tile_header a t) more (none_header a comps t headed) (none_asides comps more asides)
+      ap entries_joined first ∙ none_both (tile_header a t) more (none_header a comps t headed) (none_asides comps more asides)
 
-  none_own : joined (headers_of own) ≡ []
-  none_own = ap joined (first_later own) ∙ none_both (first_header own) (headers_of (drop 1 own)) none_first (none_plts (headers_of (drop 1 own)) later)
+  none_own : entries_joined (headers_of own) ≡ []
+  none_own = ap entries_joined (first_later own) ∙ none_both (first_header own) (headers_of (drop 1 own)) none_first (none_plts (headers_of (drop 1 own)) later)
 
   slot_read : in_slot 1 (first_header own) ≡ in_slot 1 (tile_header a t)
   slot_read = ap (λ (xs : List Segment). in_slot 1 xs) first ∙ slot_more comps 1 (tile_header a t) more refl asides
@@ -96,7 +96,7 @@ module _ (a : HeaderOptions) (comps : ℕ) (main : List Segment) (t : Tile) (own
   by_cod es fs gs o h k e = rw (h, k, e) refl
 
   entries_read : progressions_of (all_written a main) own ≡ (tile_written a main t).progressions
-  entries_read = by_cod (joined (headers_of own)) (joined (all_written a main)) (entry_in (in_slot 1 (all_written a main))) (in_slot 1 (tile_header a t)) none_own (none_written a main) slot_read
+  entries_read = by_cod (entries_joined (headers_of own)) (entries_joined (all_written a main)) (entry_in (in_slot 1 (all_written a main))) (in_slot 1 (tile_header a t)) none_own (none_written a main) slot_read
 
   same_tile : (header other notes : List Segment) (place : ℕ) (entries others : List Progression) (bodies : List Body) → header ≡ other → notes ≡ [] → entries ≡ others
       → ◌≡◌ {A = Tile} (record { place = place; header = header; notes = notes; progressions = entries; bodies = bodies })

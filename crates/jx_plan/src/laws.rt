@@ -22,7 +22,7 @@ ghost use Rattle.jx_codestream.specs.Parts.{parts_of};
 ghost use Rattle.jx_codestream.specs.Read.{IsRead};
 ghost use Rattle.jx_codestream.specs.Shapes.{geometry, layers_of, shapes_of, style_of, tile_at};
 ghost use Rattle.jx_codestream.specs.Spells.{AreSegments};
-ghost use Rattle.jx_codestream.specs.Tiles.{entry_in, in_slot, joined, or_list, tile_from, tiles_of};
+ghost use Rattle.jx_codestream.specs.Tiles.{entry_in, in_slot, entries_joined, or_list, tile_from, tiles_of};
 ghost use Rattle.jx_plan.specs.Asides.{is_plt, IsAside, IsTileWithMore, IsWithMore};
 ghost use Rattle.jx_plan.specs.Headers.{HeaderOptions, MayBeInHeaders, all_written, cod_written, comp_written, params_written, stream_written, style_written, tile_written};
 ghost use Rattle.jx_plan.specs.ReadBack.{HaveHeaders};
@@ -185,10 +185,10 @@ pub fn written_is_read_back()
 /// precincts and the style that are asked (T.800, A.6.1 and A.6.6); and where its precincts fit, the limits 5 and 6 are those on its
 /// packets alone.
 pub fn written_headers_are_plain()
-    ensures main { (a : HeaderOptions) (s : Stream) → HeadersStand s → joined (stream_written a s).main ≡ [] }
+    ensures main { (a : HeaderOptions) (s : Stream) → HeadersStand s → entries_joined (stream_written a s).main ≡ [] }
     ensures header { (a : HeaderOptions) (s : Stream) (t : ℕ) → HeadersStand s → MayBeInHeaders a → first_zero a.wanted.precincts s ≡ None → t < length s.tiles
         → AreSegments First (length s.siz.comps) [] (header_of (stream_written a s) t) }
-    ensures entries { (a : HeaderOptions) (s : Stream) (t : ℕ) → HeadersStand s → t < length s.tiles → joined (header_of (stream_written a s) t) ≡ [] }
+    ensures entries { (a : HeaderOptions) (s : Stream) (t : ℕ) → HeadersStand s → t < length s.tiles → entries_joined (header_of (stream_written a s) t) ≡ [] }
     ensures lengths { (a : HeaderOptions) (s : Stream) (t : ℕ) → HeadersStand s → t < length s.tiles → list_any is_plt (header_of (stream_written a s) t) ≡ false }
     ensures order { (a : HeaderOptions) (s : Stream) (t : ℕ) → HeadersStand s → t < length s.tiles → (tile_at (stream_written a s) t).progressions
         ≡ or_list (entry_in (in_slot cod_slot (header_of (stream_written a s) t))) (entry_in (in_slot cod_slot (stream_written a s).main)) }

@@ -2,7 +2,7 @@
 
 ghost use Rattle.std.specs.Prelude.{◌≡◌, ◌∷◌, ◌<◌, ◌≤◌, ◌-◌, ◌^◌, false, true, ℕ, None, drop, length, take, IfOk, MatchOption};
 ghost use Rattle.std.specs.List.{All};
-ghost use Rattle.jx_progression.specs.Packets.{IsPacket};
+ghost use Rattle.jx_progression.specs.Packets.{IsPacketName};
 ghost use Rattle.jx_codestream.specs.First.{tile_number};
 ghost use Rattle.jx_codestream.specs.InRange.{StreamInRange};
 ghost use Rattle.jx_codestream.specs.Params.{headers_at};
@@ -61,7 +61,7 @@ pub fn names_of(
     requires geometry { geom.now ≡ geometry stream.now geom.now.tile }
     requires whole { IsWhole stream.now geom.now.tile }
     ensures order { IfOk result (λ list. IsListOf stream.now geom.now.tile list.items) }
-    ensures each { IfOk result (λ list. All (IsPacket geom.now (layers_of stream.now geom.now.tile)) list.items) }
+    ensures each { IfOk result (λ list. All (IsPacketName geom.now (layers_of stream.now geom.now.tile)) list.items) }
     ensures few { IfOk result (λ list. length list.items ≤ 2 ^ 22) }
 {
     let tile = tile_at(stream, geom.number());

@@ -6,7 +6,7 @@ use Rattle.jx_geom.specs.Geometry.{Geometry}
 use Rattle.jx_geom.specs.Resolutions.{resolutions_of}
 use Rattle.jx_marker.specs.declared.Progression.{Progression}
 use Rattle.jx_progression.specs.declared.names.PacketName.{PacketName}
-use Rattle.jx_progression.specs.Packets.{AreCovered, HasUncovered, IsCovered, IsPacket, entry_at}
+use Rattle.jx_progression.specs.Packets.{AreCovered, HasUncovered, IsCovered, IsPacketName, entry_at}
 use Rattle.jx_progression.specs.Steps.{IsCoveredTo, name_of, row_at, row_of, row_end}
 use Rattle.jx_progression.proofs.RowLemmas.{end_from, end_to, index_of, packet_row, row_packet}
 
@@ -43,7 +43,7 @@ search_below f l (suc n) = elim (cases_lt l (f n)) [
 ]
 
 -- the packets of resolutions that are covered in all layers
-pub row_covered : (g : Geometry) (layers : ℕ) (entries : List Progression) (p : PacketName) (n : ℕ) → IsPacket g layers p
+pub row_covered : (g : Geometry) (layers : ℕ) (entries : List Progression) (p : PacketName) (n : ℕ) → IsPacketName g layers p
     → IsCoveredTo layers entries (row_of g (index_of g p.comp p.res)) n → layers ≤ n → IsCovered entries p
 row_covered g layers entries p n packet to all =
     let row = packet_row g layers p packet in

@@ -10,7 +10,7 @@ use Rattle.jx_progression.specs.declared.names.PacketName.{PacketName}
 use Rattle.jx_progression.specs.declared.names.Order.{Order}
 use Rattle.jx_progression.specs.declared.names.Order.TheVariants.{Lrcp, Rlcp, Rpcl, Pcrl, Cprl}
 use Rattle.jx_progression.specs.Orders.{IsLess, ComesBefore, key_of, order_of, across_of, down_of}
-use Rattle.jx_progression.specs.Packets.{Covers, IsOrder, IsPacket, Sends, entry_at}
+use Rattle.jx_progression.specs.Packets.{Covers, IsOrder, IsPacketName, Sends, entry_at}
 use Rattle.jx_progression.specs.Steps.{all_heads}
 use Rattle.jx_progression.proofs.KeyLemmas.{same_place}
 use Rattle.jx_progression.proofs.LessLemmas.{less_trans}
@@ -65,7 +65,7 @@ five : (a b c d f a' b' c' d' f' : ℕ) → (a ∷ b ∷ c ∷ d ∷ f ∷ []) �
 five a b c d f a' b' c' d' f' e = record { first = cc; second = cc; third = cc; fourth = cc; fifth = cc }
 
 -- a key is that of one packet alone
-pub one_key : (g : Geometry) (layers : ℕ) (o : Order) (p q : PacketName) → GeometryInRange g → IsPacket g layers p → IsPacket g layers q
+pub one_key : (g : Geometry) (layers : ℕ) (o : Order) (p q : PacketName) → GeometryInRange g → IsPacketName g layers p → IsPacketName g layers q
     → key_of g o p ≡ key_of g o q → p ≡ q
 one_key g layers Lrcp p q range hp hq e =
     let k = four p.layer p.res p.comp p.precinct q.layer q.res q.comp q.precinct e in same_fields p q k.first k.second k.third k.fourth
@@ -81,7 +81,7 @@ one_key g layers Cprl p q range hp hq e =
     let k = five p.comp (down_of g p) (across_of g p) p.res p.layer q.comp (down_of g q) (across_of g q) q.res q.layer e in
     same_fields p q k.fifth k.fourth k.first (same_place g layers p q range hp hq k.first k.fourth k.third k.second)
 
-either_before : (g : Geometry) (layers : ℕ) (o : Order) (p q : PacketName) → GeometryInRange g → IsPacket g layers p → IsPacket g layers q
+either_before : (g : Geometry) (layers : ℕ) (o : Order) (p q : PacketName) → GeometryInRange g → IsPacketName g layers p → IsPacketName g layers q
     → ComesBefore g o p q ⊎ ((p ≡ q) ⊎ ComesBefore g o q p)
 either_before g layers o p q range hp hq = elim (less_or (key_of g o p) (key_of g o q) (key_long g o p q)) [
   | inl less ↦ inl less
@@ -111,8 +111,8 @@ pairs_cons g o x ys first rest =
 trans : (g : Geometry) (o : Order) (p q r : PacketName) → ComesBefore g o p q → ComesBefore g o q r → ComesBefore g o p r
 trans g o p q r = less_trans (key_of g o p) (key_of g o q) (key_of g o r)
 
-insert : (g : Geometry) (layers : ℕ) (o : Order) (x : PacketName) (ys : List PacketName) → GeometryInRange g → IsPacket g layers x
-    → ((p : PacketName) → Contains ys p → IsPacket g layers p) → AllPairs (ComesBefore g o) ys → Inserted g layers o x ys
+insert : (g : Geometry) (layers : ℕ) (o : Order) (x : PacketName) (ys : List PacketName) → GeometryInRange g → IsPacketName g layers x
+    → ((p : PacketName) → Contains ys p → IsPacketName g layers p) → AllPairs (ComesBefore g o) ys → Inserted g layers o x ys
 insert g layers o x [] range hx are sorted = record {
   list = x ∷ [];
   sorted = one_name_pairs g o x;
@@ -225,7 +225,7 @@ left_out g layers e before x xs r out = record {
 }
 
 sent_of : (g : Geometry) (layers : ℕ) (e : Progression) (before xs : List PacketName) → GeometryInRange g
-    → ((p : PacketName) → Contains xs p → IsPacket g layers p) → SentOf g layers e before xs
+    → ((p : PacketName) → Contains xs p → IsPacketName g layers p) → SentOf g layers e before xs
 sent_of g layers e before [] range are =
     let none : List PacketName = [] in record {
       list = [];
@@ -265,7 +265,7 @@ all_of layers = record { rs = 0; cs = 0; lye = layers; re = 33; ce = 0; order = 
 abbrev all_packets : Geometry → ℕ → List PacketName
 all_packets g layers = names_of g layers (all_of layers) (all_heads g layers (all_of layers) [])
 
-all_are : (g : Geometry) (layers : ℕ) (p : PacketName) → GeometryInRange g → Contains (all_packets g layers) p ↔ IsPacket g layers p
+all_are : (g : Geometry) (layers : ℕ) (p : PacketName) → GeometryInRange g → Contains (all_packets g layers) p ↔ IsPacketName g layers p
 all_are g layers p range =
     let exact = exact_names g layers (all_of layers) [] (all_heads g layers (all_of layers) []) (λ x h. h) (λ x h. h) p in (
       λ h. (exact.0 h).0,

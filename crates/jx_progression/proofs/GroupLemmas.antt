@@ -15,7 +15,7 @@ use Rattle.jx_marker.specs.declared.Progression.{Progression}
 use Rattle.jx_progression.specs.declared.names.PacketName.{PacketName}
 use Rattle.jx_progression.specs.declared.names.Order.{Order}
 use Rattle.jx_progression.specs.Orders.{order_of}
-use Rattle.jx_progression.specs.Packets.{IsPacket, Covers}
+use Rattle.jx_progression.specs.Packets.{IsPacketName, Covers}
 use Rattle.jx_progression.specs.Steps.{all_heads, by_layer, count_of, group_names, group_size, heads_at, name_of, no_resolution, one_layer, one_layer_head, one_precinct, one_precinct_head, row_end, row_heads, row_of, sent_at}
 use Rattle.jx_progression.proofs.OrderLemmas.{same_fields}
 use Rattle.jx_progression.proofs.SpreadLemmas.{Some, joined_long}
@@ -86,7 +86,7 @@ pub record IsDue (g : Geometry) (layers : ℕ) (e : Progression) (sent : List �
 
 -- ---- due packets are those that the entry lists
 abbrev pub Listed : Geometry → ℕ → Progression → List ℕ → PacketName → Type 0
-Listed g layers e sent p = IsPacket g layers p × Covers e p × (sent_at g sent p.comp p.res ≤ p.layer)
+Listed g layers e sent p = IsPacketName g layers p × Covers e p × (sent_at g sent p.comp p.res ≤ p.layer)
 
 due_at : (g : Geometry) (layers : ℕ) (e : Progression) (sent : List ℕ) (i l k : ℕ) → i < length (resolutions_of g) → k < (row_of g i).precincts
     → slice_index sent i ≤ l → l < row_end layers e (row_of g i) → Listed g layers e sent (name_of l (row_of g i).res (row_of g i).comp k)

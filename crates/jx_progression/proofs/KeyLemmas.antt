@@ -19,7 +19,7 @@ use Rattle.jx_geom.proofs.SpanLemmas.{cells_low, reference_latest}
 use Rattle.jx_progression.specs.declared.keys.Key.{Key}
 use Rattle.jx_progression.specs.declared.names.PacketName.{PacketName}
 use Rattle.jx_progression.specs.Orders.{IsLess, across_of, down_of}
-use Rattle.jx_progression.specs.Packets.{IsPacket}
+use Rattle.jx_progression.specs.Packets.{IsPacketName}
 use Rattle.jx_progression.specs.Steps.{numbers_of}
 use Rattle.jx_base.proofs.Raster.{raster_in, raster_one}
 
@@ -99,7 +99,7 @@ one_place g c r m n range h hm hn across down =
     (row_one (rect_of_tile g) (shape_of g c) r (row_at (precincts_in g c r) m) (row_at (precincts_in g c r) n) s im.down in_n.down down)
 
 -- the same with names of the component and resolution that are equal
-pub same_place : (g : Geometry) (layers : ℕ) (p q : PacketName) → GeometryInRange g → IsPacket g layers p → IsPacket g layers q
+pub same_place : (g : Geometry) (layers : ℕ) (p q : PacketName) → GeometryInRange g → IsPacketName g layers p → IsPacketName g layers q
     → p.comp ≡ q.comp → p.res ≡ q.res → across_of g p ≡ across_of g q → down_of g p ≡ down_of g q → p.precinct ≡ q.precinct
 same_place g layers p q range hp hq ec er across down =
     let A : ℕ → ℕ → Type 0 = λ c r. reference_across g p.comp p.res p.precinct ≡ reference_across g c r q.precinct in

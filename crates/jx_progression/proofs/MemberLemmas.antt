@@ -10,7 +10,7 @@ use Rattle.jx_base.proofs.Lists.{contains_cons, contains_head, contains_none}
 use Rattle.jx_geom.specs.Geometry.{Geometry, precincts_in, shape_of}
 use Rattle.jx_marker.specs.declared.Progression.{Progression}
 use Rattle.jx_progression.specs.declared.names.PacketName.{PacketName}
-use Rattle.jx_progression.specs.Packets.{IsPacket, Covers}
+use Rattle.jx_progression.specs.Packets.{IsPacketName, Covers}
 use Rattle.jx_progression.specs.Steps.{name_of}
 use Rattle.jx_progression.specs.Loops.{layer_stop, comp_stop, precincts_of, one_packet, precincts_loop, comps_loop}
 use Rattle.jx_progression.proofs.OrderLemmas.{same_fields}
@@ -58,7 +58,7 @@ precincts_from g c r k le lt =
     let e : precincts_of g c r ≡ size_of (precincts_in g c r) = ap (λ (b : Bool). let n : ℕ = cond b (size_of (precincts_in g c r)) 0 in n) (le-leb r (shape_of g c).levels le) in
     omega arith
 
-pub is_packet : (g : Geometry) (layers : ℕ) (e : Progression) (p : PacketName) → InLoops g layers e p → IsPacket g layers p
+pub is_packet : (g : Geometry) (layers : ℕ) (e : Progression) (p : PacketName) → InLoops g layers e p → IsPacketName g layers p
 is_packet g layers e p i =
     let l : p.layer < min e.lye layers = i.layer in
     let k = precincts_to g p.comp p.res p.precinct i.precinct in
@@ -73,7 +73,7 @@ is_covered g layers e p i =
     let l : p.layer < min e.lye layers = i.layer in
     record { layer = omega arith; res_from = i.res_from; res_below = i.res_below; comp_from = i.comp_from; comp_below = (comp_there g e p.comp i.comp_below).1 }
 
-pub in_loops : (g : Geometry) (layers : ℕ) (e : Progression) (p : PacketName) → IsPacket g layers p → Covers e p → InLoops g layers e p
+pub in_loops : (g : Geometry) (layers : ℕ) (e : Progression) (p : PacketName) → IsPacketName g layers p → Covers e p → InLoops g layers e p
 in_loops g layers e p h c =
     let a : p.layer < layers = h.layer in
     let b : p.layer < e.lye = c.layer in

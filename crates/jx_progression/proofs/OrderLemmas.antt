@@ -8,7 +8,7 @@ use Rattle.jx_geom.specs.Geometry.{Geometry}
 use Rattle.jx_marker.specs.declared.Progression.{Progression}
 use Rattle.jx_progression.specs.declared.names.PacketName.{PacketName}
 use Rattle.jx_progression.specs.Orders.{ComesBefore, order_of, key_of}
-use Rattle.jx_progression.specs.Packets.{IsPacket, Covers, Sends, IsOrder, entry_at}
+use Rattle.jx_progression.specs.Packets.{IsPacketName, Covers, Sends, IsOrder, entry_at}
 use Rattle.jx_progression.specs.Steps.{name_of}
 use Rattle.jx_progression.proofs.LessLemmas.{less_both}
 use Rattle.jx_base.proofs.Lists.{pairs_append, contains_cons, contains_head, contains_tail, contains_none, one_sorted, pairs_apart}
@@ -48,7 +48,7 @@ contains_or (x ∷ xs) p = elim (same_or x p) [
 
 -- ---- the members of an order
 pub record SentBy (g : Geometry) (layers : ℕ) (entries : List Progression) (n : ℕ) (p : PacketName) : Type 0 where
-  pub packet : IsPacket g layers p
+  pub packet : IsPacketName g layers p
   pub entry : ℕ
   pub below : entry < n
   pub covers : Covers (entry_at entries entry) p

@@ -9,7 +9,7 @@ use Rattle.jx_progression.specs.declared.names.PacketName.{PacketName}
 use Rattle.jx_progression.specs.declared.names.Order.{Order}
 use Rattle.jx_progression.specs.declared.names.Order.TheVariants.{Lrcp, Rlcp, Rpcl, Pcrl, Cprl}
 use Rattle.jx_progression.specs.Orders.{IsLess, ComesBefore, across_of, down_of, order_of}
-use Rattle.jx_progression.specs.Packets.{IsPacket, Covers, IsOrder, SamePrecinct, LayersRise, entry_at}
+use Rattle.jx_progression.specs.Packets.{IsPacketName, Covers, IsOrder, SamePrecinct, LayersRise, entry_at}
 use Rattle.jx_progression.proofs.OrderLemmas.{order_to, order_from}
 use Rattle.jx_base.proofs.Lists.{pairs_append}
 
@@ -79,7 +79,7 @@ covers_lower e p q same le h =
 
 -- across entries
 rise_between : (g : Geometry) (layers : ℕ) (entries : List Progression) (n : ℕ) (front : List PacketName) (p q : PacketName)
-    → IsOrder g layers entries n front → Contains front p → IsPacket g layers q → (Contains front q → ⊥) → SamePrecinct p q → p.layer < q.layer
+    → IsOrder g layers entries n front → Contains front p → IsPacketName g layers q → (Contains front q → ⊥) → SamePrecinct p q → p.layer < q.layer
 rise_between g layers entries n front p q h c is none same = elim (cases_lt p.layer q.layer) [
   | inl lt ↦ lt
   | inr le ↦

@@ -11,7 +11,7 @@ use Rattle.jx_geom.specs.Resolutions.{place_of, resolution_at, resolutions_of}
 use Rattle.jx_geom.proofs.TableLemmas.{IsListed, in_order, listed, precinct_listed}
 use Rattle.jx_marker.specs.declared.Progression.{Progression}
 use Rattle.jx_progression.specs.declared.names.PacketName.{PacketName}
-use Rattle.jx_progression.specs.Packets.{IsPacket}
+use Rattle.jx_progression.specs.Packets.{IsPacketName}
 use Rattle.jx_progression.specs.Steps.{name_of, no_resolution, row_of, row_end}
 
 -- ---- how far an entry goes
@@ -96,7 +96,7 @@ at_size : (g : Geometry) (c r : ℕ) → (resolution_at (rect_of_tile g) g.shape
 unfolding resolution_at
 at_size g c r = refl
 
-pub packet_row : (g : Geometry) (layers : ℕ) (p : PacketName) → IsPacket g layers p → RowOf g p
+pub packet_row : (g : Geometry) (layers : ℕ) (p : PacketName) → IsPacketName g layers p → RowOf g p
 packet_row g layers p h =
     let at = precinct_listed g p.comp p.res p.precinct (record { resolution = h.resolution; precinct = h.precinct }) in
     let e : row_of g (index_of g p.comp p.res) ≡ resolution_at (rect_of_tile g) g.shapes p.comp p.res =
@@ -132,7 +132,7 @@ rows_once g i j hi hj comp res = elim (cases_lt i j) [
 
 -- a resolution that has a precinct stands where its packets look for it
 pub row_packet : (g : Geometry) (layers i l k : ℕ) → i < length (resolutions_of g) → l < layers → k < (row_of g i).precincts
-    → IsPacket g layers (name_of l (row_of g i).res (row_of g i).comp k)
+    → IsPacketName g layers (name_of l (row_of g i).res (row_of g i).comp k)
 row_packet g layers i l k lt layer precinct =
     let is = row_listed g i lt in
     record { layer = layer; resolution = is.there; precinct = omega (arith, is.precincts) }

@@ -17,7 +17,7 @@ use Rattle.jx_progression.specs.declared.names.PacketName.{PacketName}
 use Rattle.jx_progression.specs.declared.names.Order.{Order}
 use Rattle.jx_progression.specs.declared.names.Order.TheVariants.{Lrcp, Rlcp, Rpcl, Pcrl, Cprl}
 use Rattle.jx_progression.specs.Orders.{IsLess, ComesBefore, order_of, across_of, down_of}
-use Rattle.jx_progression.specs.Packets.{IsPacket}
+use Rattle.jx_progression.specs.Packets.{IsPacketName}
 use Rattle.jx_progression.specs.Steps.{AreSorted, Lists, across_or, all_heads, by_layer, count_of, down_or, group_names, group_size, heads_at, name_of, numbers_of, one_layer, one_layer_head, one_precinct, one_precinct_head, row_end, row_heads, row_of, sent_at, sort_key}
 use Rattle.jx_progression.proofs.FlatLemmas.{flat_from, flat_has, flat_pairs}
 use Rattle.jx_progression.proofs.GroupLemmas.{IsFirst, Listed, count_is, head_to, in_group, layer_names, layers_are, name_listed, no_heads, one_has, precinct_names, precincts_are, row_has, some_names, stands_in}
@@ -126,19 +126,19 @@ head_less g Rpcl p q h = less_more (head_of g Rpcl p) (head_of g Rpcl q) (p.laye
 head_less g Pcrl p q h = less_more (head_of g Pcrl p) (head_of g Pcrl q) (p.layer ∷ []) (q.layer ∷ []) h
 head_less g Cprl p q h = less_more (head_of g Cprl p) (head_of g Cprl q) (p.layer ∷ []) (q.layer ∷ []) h
 
-across_there : (g : Geometry) (layers : ℕ) (p : PacketName) → IsPacket g layers p → across_or g p ≡ across_of g p
+across_there : (g : Geometry) (layers : ℕ) (p : PacketName) → IsPacketName g layers p → across_or g p ≡ across_of g p
 unfolding across_or
 across_there g layers p h =
     let lt : p.precinct < count_of g p.comp p.res = omega (arith, h.precinct, count_is g p.comp p.res h.resolution) in
     grind (arith, nat_tests)
 
-down_there : (g : Geometry) (layers : ℕ) (p : PacketName) → IsPacket g layers p → down_or g p ≡ down_of g p
+down_there : (g : Geometry) (layers : ℕ) (p : PacketName) → IsPacketName g layers p → down_or g p ≡ down_of g p
 unfolding down_or
 down_there g layers p h =
     let lt : p.precinct < count_of g p.comp p.res = omega (arith, h.precinct, count_is g p.comp p.res h.resolution) in
     grind (arith, nat_tests)
 
-key_is : (g : Geometry) (layers : ℕ) (o : Order) (p : PacketName) → IsPacket g layers p → numbers_of (sort_key g o p) ≡ head_of g o p
+key_is : (g : Geometry) (layers : ℕ) (o : Order) (p : PacketName) → IsPacketName g layers p → numbers_of (sort_key g o p) ≡ head_of g o p
 unfolding sort_key
 key_is g layers Lrcp p h = refl
 key_is g layers Rlcp p h = refl
@@ -203,7 +203,7 @@ head_layer g Rpcl p q h e = absurd (cc)
 head_layer g Pcrl p q h e = absurd (cc)
 head_layer g Cprl p q h e = absurd (cc)
 
-head_precinct : (g : Geometry) (layers : ℕ) (o : Order) (p q : PacketName) → GeometryInRange g → IsPacket g layers p → IsPacket g layers q
+head_precinct : (g : Geometry) (layers : ℕ) (o : Order) (p q : PacketName) → GeometryInRange g → IsPacketName g layers p → IsPacketName g layers q
     → by_layer o ≡ false → head_of g o p ≡ head_of g o q → p.precinct ≡ q.precinct
 head_precinct g layers Lrcp p q range hp hq h e = absurd (cc)
 head_precinct g layers Rlcp p q range hp hq h e = absurd (cc)

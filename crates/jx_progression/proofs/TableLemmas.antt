@@ -8,7 +8,7 @@ use Rattle.std.specs.List.{Contains}
 use Rattle.jx_geom.specs.Geometry.{Geometry}
 use Rattle.jx_marker.specs.declared.Progression.{Progression}
 use Rattle.jx_progression.specs.declared.names.PacketName.{PacketName}
-use Rattle.jx_progression.specs.Packets.{AreCovered, Covers, IsOrder, IsPacket, Sends, entry_at}
+use Rattle.jx_progression.specs.Packets.{AreCovered, Covers, IsOrder, IsPacketName, Sends, entry_at}
 use Rattle.jx_progression.specs.Steps.{IsMarked, IsTable, Lists, row_end, row_of, sent_at}
 use Rattle.jx_progression.proofs.OrderLemmas.{order_from}
 use Rattle.jx_progression.proofs.RowLemmas.{end_from, end_to, index_of, packet_row}
@@ -20,7 +20,7 @@ pub record MarkedTo (f : ℕ → ℕ) (before now : List ℕ) (n : ℕ) : Type 0
   pub long : length now ≡ length before
 
 -- ---- an entry that covers a packet goes past its layer, and back
-goes_past : (g : Geometry) (layers : ℕ) (e : Progression) (p : PacketName) → IsPacket g layers p → Covers e p
+goes_past : (g : Geometry) (layers : ℕ) (e : Progression) (p : PacketName) → IsPacketName g layers p → Covers e p
     → p.layer < row_end layers e (row_of g (index_of g p.comp p.res))
 goes_past g layers e p packet covers =
     let row = packet_row g layers p packet in
@@ -34,7 +34,7 @@ goes_past g layers e p packet covers =
       layer = packet.layer;
     })
 
-past_covers : (g : Geometry) (layers : ℕ) (e : Progression) (p : PacketName) → IsPacket g layers p
+past_covers : (g : Geometry) (layers : ℕ) (e : Progression) (p : PacketName) → IsPacketName g layers p
     → p.layer < row_end layers e (row_of g (index_of g p.comp p.res)) → Covers e p
 past_covers g layers e p packet lt =
     let row = packet_row g layers p packet in
@@ -99,7 +99,7 @@ table_next g layers e sent now old new front table lists marked p packet =
 
 -- ---- at the end
 pub all_there : (g : Geometry) (layers : ℕ) (entries : List Progression) (list : List PacketName) → IsOrder g layers entries (length entries) list
-    → AreCovered g layers entries → (p : PacketName) → IsPacket g layers p → Contains list p
+    → AreCovered g layers entries → (p : PacketName) → IsPacketName g layers p → Contains list p
 all_there g layers entries list order all p packet =
     let c = all p packet in
     order_from g layers entries (length entries) list order p (record { packet = packet; entry = c.0; below = c.1; covers = c.2 })

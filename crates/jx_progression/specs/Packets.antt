@@ -8,7 +8,7 @@ use Rattle.jx_progression.specs.declared.names.PacketName.{PacketName}
 use Rattle.jx_progression.specs.Orders.{ComesBefore, order_of}
 
 -- B.9: a packet of a tile of so many layers
-pub record IsPacket (g : Geometry) (layers : ℕ) (p : PacketName) : Type 0 where
+pub record IsPacketName (g : Geometry) (layers : ℕ) (p : PacketName) : Type 0 where
   pub layer : p.layer < layers
   pub resolution : HasResolution g p.comp p.res
   pub precinct : p.precinct < size_of (precincts_in g p.comp p.res)
@@ -25,7 +25,7 @@ pub record Covers (e : Progression) (p : PacketName) : Type 0 where
 -- B.12.2: what an entry sends after other packets: those that it covers, each once, in its order, without
 -- those that were sent before
 pub record Sends (g : Geometry) (layers : ℕ) (e : Progression) (before list : List PacketName) : Type 0 where
-  pub exact : (p : PacketName) → Contains list p ↔ (IsPacket g layers p × Covers e p × (Contains before p → ⊥))
+  pub exact : (p : PacketName) → Contains list p ↔ (IsPacketName g layers p × Covers e p × (Contains before p → ⊥))
   pub sorted : AllPairs (ComesBefore g (order_of e.order)) list
 
 -- an entry that covers nothing
@@ -47,11 +47,11 @@ IsCovered entries p = (i : ℕ) × (i < length entries) × Covers (entry_at entr
 
 -- each packet of the tile is covered
 abbrev pub AreCovered : Geometry → ℕ → List Progression → Type 0
-AreCovered g layers entries = (p : PacketName) → IsPacket g layers p → IsCovered entries p
+AreCovered g layers entries = (p : PacketName) → IsPacketName g layers p → IsCovered entries p
 
 -- some packet of the tile is in no entry
 abbrev pub HasUncovered : Geometry → ℕ → List Progression → Type 0
-HasUncovered g layers entries = (p : PacketName) × IsPacket g layers p × (IsCovered entries p → ⊥)
+HasUncovered g layers entries = (p : PacketName) × IsPacketName g layers p × (IsCovered entries p → ⊥)
 
 -- two packets of one precinct
 pub record SamePrecinct (p q : PacketName) : Type 0 where

@@ -10,7 +10,7 @@ use Rattle.jx_progression.specs.declared.names.Order.{Order}
 use Rattle.jx_progression.specs.declared.names.Order.TheVariants.{Lrcp, Rlcp, Rpcl, Pcrl, Cprl}
 use Rattle.jx_progression.specs.declared.keys.Key.{Key}
 use Rattle.jx_progression.specs.Orders.{ComesBefore, IsLess, across_of, down_of, order_of}
-use Rattle.jx_progression.specs.Packets.{Covers, IsPacket, entry_at}
+use Rattle.jx_progression.specs.Packets.{Covers, IsPacketName, entry_at}
 use Rattle.jx_base.specs.Joined.{joined}
 use Rattle.jx_base.specs.Places.{size_of}
 
@@ -112,11 +112,11 @@ HasPlaces g sent = length sent ≡ length (resolutions_of g)
 
 -- the packets in the list are those of the layers below what the table says
 abbrev pub IsTable : Geometry → ℕ → List PacketName → List ℕ → Type 0
-IsTable g layers list sent = (p : PacketName) → IsPacket g layers p → (p.layer < sent_at g sent p.comp p.res) ↔ Contains list p
+IsTable g layers list sent = (p : PacketName) → IsPacketName g layers p → (p.layer < sent_at g sent p.comp p.res) ↔ Contains list p
 
 -- what an entry lists: its packets of the layers from there on
 pub record Lists (g : Geometry) (layers : ℕ) (e : Progression) (sent : List ℕ) (list : List PacketName) : Type 0 where
-  pub exact : (p : PacketName) → Contains list p ↔ (IsPacket g layers p × Covers e p × (sent_at g sent p.comp p.res ≤ p.layer))
+  pub exact : (p : PacketName) → Contains list p ↔ (IsPacketName g layers p × Covers e p × (sent_at g sent p.comp p.res ≤ p.layer))
   pub sorted : AllPairs (ComesBefore g (order_of e.order)) list
 
 -- the table after an entry

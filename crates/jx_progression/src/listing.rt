@@ -4,7 +4,7 @@ ghost use Rattle.std.specs.Prelude.{◌≡◌, ◌≢◌, ◌↔◌, ℕ, IfOk, 
 ghost use Rattle.jx_base.specs.OrderNumbers.{IsOrderNumber};
 ghost use Rattle.std.specs.List.{All, AllPairs, Contains};
 ghost use Rattle.jx_progression.specs.declared.names.PacketName.{PacketName};
-ghost use Rattle.jx_progression.specs.Packets.{AreCovered, HasUncovered, IsOrder, IsPacket};
+ghost use Rattle.jx_progression.specs.Packets.{AreCovered, HasUncovered, IsOrder, IsPacketName};
 ghost use Rattle.jx_progression.specs.Steps.{HasPlaces};
 
 use crate::covered::are_covered;
@@ -30,7 +30,7 @@ pub fn packets(
     requires { All (λ e. IsOrderNumber e.order) entries.now }
     ensures order { IfOk result (λ list. IsOrder geom.now layers entries.now (length entries.now) list.items) }
     ensures whole { OnOk result (AreCovered geom.now layers entries.now) }
-    ensures every { IfOk result (λ list. (p : PacketName) → Contains list.items p ↔ IsPacket geom.now layers p) }
+    ensures every { IfOk result (λ list. (p : PacketName) → Contains list.items p ↔ IsPacketName geom.now layers p) }
     ensures once { IfOk result (λ list. AllPairs (λ p q. p ≢ q) list.items) }
     ensures uncovered { result ≡ Err OrderFault.Uncovered → HasUncovered geom.now layers entries.now }
 {
@@ -50,7 +50,7 @@ fn list_covered(
     requires entries { All (λ e. IsOrderNumber e.order) entries.now }
     requires whole { AreCovered geom.now layers entries.now }
     ensures order { IfOk result (λ list. IsOrder geom.now layers entries.now (length entries.now) list.items) }
-    ensures every { IfOk result (λ list. (p : PacketName) → Contains list.items p ↔ IsPacket geom.now layers p) }
+    ensures every { IfOk result (λ list. (p : PacketName) → Contains list.items p ↔ IsPacketName geom.now layers p) }
     ensures once { IfOk result (λ list. AllPairs (λ p q. p ≢ q) list.items) }
 {
     let mut sent = none_sent(alloc, geom)?;

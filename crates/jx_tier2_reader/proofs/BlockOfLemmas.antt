@@ -9,7 +9,7 @@ use Rattle.jx_base.specs.Pieces.{PieceValue, passes_at, passes_below}
 use Rattle.jx_base.specs.Joined.{joined, sum_below}
 use Rattle.jx_base.proofs.Joined.{joined_length, joined_at}
 use Rattle.jx_geom.specs.Geometry.{Geometry, HasBlock, rect_of_tile, shape_of}
-use Rattle.jx_geom.specs.Counts.{tile_blocks as count_in_tile}
+use Rattle.jx_geom.specs.Counts.{tile_blocks}
 use Rattle.jx_geom.specs.Rects.{tile_rect, block_rect}
 use Rattle.jx_geom.specs.Numbering.{block_number, blocks_below, number_in_tile}
 use Rattle.jx_geom.proofs.NumberLemmas.{number_in_tile_below}
@@ -29,7 +29,7 @@ use Rattle.jx_geom.specs.Precincts.{leaf_number}
 use Rattle.jx_tier2_reader.specs.Cuts.{Cut, Left, names_of}
 use Rattle.jx_tier2_reader.specs.Blocks.{Found, founds_of, own_founds, pieces_in, zero_from, block_of}
 use Rattle.jx_tier2_reader.specs.Gathered.{IsListOf, IsCutUp, AreTileBlocks, IsGathered, start}
-use Rattle.jx_tier2_reader.specs.BlockOf.{pieces_at, AreCutAtEnds, IsBlockOf, IsFoundOf, AreBlocksOf}
+use Rattle.jx_tier2_reader.specs.BlockOf.{pieces_at, AreCutAsRead, IsBlockOf, IsFoundOf, AreBlocksOf}
 use Rattle.jx_tier2_reader.proofs.NumberLemmas.{precinct_there}
 use Rattle.jx_tier2_reader.proofs.BlockLemmas.{blocks_long, block_there}
 use Rattle.jx_tier2_reader.proofs.PartLemmas.{known_in}
@@ -63,7 +63,7 @@ few_own b s t cuts left number layer h =
         (record { there = h.there; rise = h.rise; follow = start_follow s (geometry s t); are = h.are }))
 
 cut_own : (b : List ℕ) (s : Stream) (t : ℕ) (cuts : List Cut) (left : Left) (n : BlockName) → IsBegun b s t cuts left → HasBlock (geometry s t) n
-    → AreCutAtEnds (style_of s t n.comp) (pieces_in (own_founds (number_in_tile (geometry s t) n) (founds_of (geometry s t) cuts)))
+    → AreCutAsRead (style_of s t n.comp) (pieces_in (own_founds (number_in_tile (geometry s t) n) (founds_of (geometry s t) cuts)))
 cut_own b s t cuts left n h is layer =
     let g : Geometry = geometry s t in
     let leaf : LeafOf g n = block_leaf g n h.limits is in
@@ -100,7 +100,7 @@ block_is b s t cuts left n h low is =
 -- ---- all blocks
 
 abbrev pub count_of : Stream → ℕ → ℕ
-count_of s t = count_in_tile (tile_rect (canvas_of s.siz) t) (shapes_of s t)
+count_of s t = tile_blocks (tile_rect (canvas_of s.siz) t) (shapes_of s t)
 
 tile_long : (b : List ℕ) (s : Stream) (t : ℕ) (blocks : List Block) → AreTileBlocks b s t blocks → length blocks ≡ count_of s t
 tile_long b s t blocks are = ap (λ (l : List Block). length l) are.2 ∙ blocks_long s (geometry s t) (founds_of (geometry s t) are.0)

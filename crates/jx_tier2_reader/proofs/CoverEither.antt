@@ -5,7 +5,7 @@ use Rattle.jx_base.specs.Places.{size_of}
 use Rattle.jx_geom.specs.Geometry.{Geometry, shape_of, precincts_in}
 use Rattle.jx_marker.specs.declared.Progression.{Progression}
 use Rattle.jx_progression.specs.declared.names.PacketName.{PacketName}
-use Rattle.jx_progression.specs.Packets.{IsPacket as IsNamed, Covers, IsCovered, AreCovered, HasUncovered, entry_at}
+use Rattle.jx_progression.specs.Packets.{IsPacketName, Covers, IsCovered, AreCovered, HasUncovered, entry_at}
 use Rattle.jx_progression.specs.Steps.{name_of}
 
 -- ---- rule 25
@@ -86,7 +86,7 @@ covered_or entries p =
 
 -- a packet that is covered wherever it is one
 abbrev CoveredAt : Geometry → ℕ → List Progression → ℕ → ℕ → ℕ → ℕ → Type 0
-CoveredAt g layers entries c r k l = IsNamed g layers (name_of l r c k) → IsCovered entries (name_of l r c k)
+CoveredAt g layers entries c r k l = IsPacketName g layers (name_of l r c k) → IsCovered entries (name_of l r c k)
 
 abbrev Uncovered : Geometry → ℕ → List Progression → Type 0
 Uncovered g layers entries = HasUncovered g layers entries

@@ -30,7 +30,7 @@ use Rattle.jx_codestream.specs.Shapes.{geometry, layers_of, tile_at}
 use Rattle.jx_tier2_reader.specs.Totals.{totals_fault}
 use Rattle.jx_tier2_reader.specs.Data.{window, due, behind, end_of_data, sop_fault, header_in, front_length, parts_length, body_fault}
 use Rattle.jx_tier2_reader.specs.Cuts.{Cut, Left, IsCut, BreaksHeader, Breaks, IsTurn, AreCuts, names_of, number_of, Stops}
-use Rattle.jx_tier2_reader.specs.Blocks.{founds_of, tile_blocks}
+use Rattle.jx_tier2_reader.specs.Blocks.{founds_of, blocks_of_tile}
 use Rattle.jx_tier2_reader.specs.Gathered.{IsListOf, IsWhole, IsCutUp, AreTileBlocks, BreaksTile, start}
 use Rattle.jx_tier2_reader.specs.Either.{HasBlocks, HasFault}
 use Rattle.jx_codestream.specs.InRange.{StreamInRange}
@@ -247,7 +247,7 @@ abbrev TileList : List ℕ → Stream → ℕ → ℕ → Type 0
 TileList b s n t = t < n → (cuts : List Cut) × IsCutUp b s t cuts
 
 tile_with : (b : List ℕ) (s : Stream) (n t : ℕ) → TileList b s n t → (t < n) ⊎ (n ≤ t) → List Block
-tile_with b s n t cuts (inl lt) = tile_blocks s (geometry s t) (founds_of (geometry s t) (cuts lt).0)
+tile_with b s n t cuts (inl lt) = blocks_of_tile s (geometry s t) (founds_of (geometry s t) (cuts lt).0)
 tile_with b s n t cuts (inr ge) = []
 
 tile_is : (b : List ℕ) (s : Stream) (n t : ℕ) (cuts : TileList b s n t) (d : (t < n) ⊎ (n ≤ t)) → t < n → AreTileBlocks b s t (tile_with b s n t cuts d)

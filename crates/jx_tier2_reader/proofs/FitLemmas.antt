@@ -31,12 +31,12 @@ use Rattle.jx_codestream.specs.Read.{IsRead}
 use Rattle.jx_codestream.specs.Shapes.{geometry, shapes_of, layers_of, style_of}
 use Rattle.jx_tier2_reader.specs.Totals.{totals_fault}
 use Rattle.jx_codestream.specs.InRange.{StreamInRange}
-use Rattle.jx_geom.specs.Precincts.{leaves, leaves_in as count_in}
+use Rattle.jx_geom.specs.Precincts.{leaves, leaves_in}
 use Rattle.jx_tier2_reader.specs.Cells.{sizes_of, precinct_bands}
 use Rattle.jx_geom.specs.Precincts.{HasPrecinct, cells_at, name_from, leaf_name, leaf_number}
-use Rattle.jx_tier2_reader.specs.BlockOf.{pieces_at, AreCutAtEnds, IsFoundOf, AreBlocksOf}
+use Rattle.jx_tier2_reader.specs.BlockOf.{pieces_at, AreCutAsRead, IsFoundOf, AreBlocksOf}
 use Rattle.jx_tier2_reader.specs.Carries.{block_in, part_of}
-use Rattle.jx_tier2_reader.specs.Planned.{part_in, leaf_from, leaf_in, leaves_in}
+use Rattle.jx_tier2_reader.specs.Planned.{part_in, leaf_from, leaf_in, leaves_of_blocks}
 use Rattle.jx_tier2_reader.proofs.CellLemmas.{pick, size_is, bands_of, cells_count}
 use Rattle.jx_geom.proofs.LeafLemmas.{name_here, name_later, leaf_of, leaf_is, leaf_there}
 use Rattle.jx_tier2_reader.proofs.CutRuns.{total}
@@ -67,7 +67,7 @@ passes_mapped : (j : ℕ) (qs : List PieceValue) → map (λ (p : Part). p.passe
 passes_mapped j [] = refl
 passes_mapped j (q ∷ qs) = ap (λ (ns : List ℕ). q.passes ∷ ns) (passes_mapped j qs)
 
-layer_cut : (style j layer : ℕ) (qs : List PieceValue) → passes_at layer qs ≤ 164 → AreCutAtEnds style qs → IsLayerCut style layer (map (part_in j) qs)
+layer_cut : (style j layer : ℕ) (qs : List PieceValue) → passes_at layer qs ≤ 164 → AreCutAsRead style qs → IsLayerCut style layer (map (part_in j) qs)
 layer_cut style j layer qs few cuts =
     let parts : parts_in layer (map (part_in j) qs) ≡ map (part_of j) (pieces_at layer qs) = parts_of_pieces layer j qs in
     let sum : passes_of (parts_in layer (map (part_in j) qs)) ≡ passes_at layer qs = ap (λ (l : List Part). passes_of l) parts ∙ passes_total j (pieces_at layer qs) ∙ layer_total layer qs in
@@ -86,7 +86,7 @@ pieces_total style layer first last j [] a = let e : first ≡ last = a in omega
 pieces_total style layer first last j (q ∷ qs) a = let e : first + q.passes + all_passes (map (part_in j) qs) ≡ last = pieces_total style q.layer (first + q.passes) last j qs a.1 in omega arith
 
 fits_pieces : (style layers planes j z passes : ℕ) (qs : List PieceValue) → ArePieces style 0 0 passes qs → passes ≤ 3 * (planes - z) - 2 → AllByRecursion (λ (q : PieceValue). q.layer < layers) qs
-    → ((layer : ℕ) → passes_at layer qs ≤ 164) → AreCutAtEnds style qs → FitsLeaf style layers planes j (record { zero = z; parts = map (part_in j) qs }) (map (part_in j) qs)
+    → ((layer : ℕ) → passes_at layer qs ≤ 164) → AreCutAsRead style qs → FitsLeaf style layers planes j (record { zero = z; parts = map (part_in j) qs }) (map (part_in j) qs)
 fits_pieces style layers planes j z passes [] a most low few cuts = tt
 fits_pieces style layers planes j z passes (q ∷ qs) a most low few cuts =
     let sum : 0 + (q.passes + all_passes (map (part_in j) qs)) ≡ passes = pieces_total style 0 0 passes j (q ∷ qs) a in
@@ -120,7 +120,7 @@ block_fits s t c planes j n (Some d) et ec ep is sound =
     subst (λ (x : ℕ). AllByRecursion (λ (q : PieceValue). q.layer < layers_of s x) d.pieces) et (recursion_from_All (λ (q : PieceValue). q.layer < layers_of s n.tile) d.pieces is.layers) in
     record {
       fits = fits_pieces (style_of s t c) (layers_of s t) planes j d.zero d.passes d.pieces (subst (λ (x : ℕ). ArePieces x 0 0 d.passes d.pieces) style good.pieces) most low is.few
-          (subst (λ (x : ℕ). AreCutAtEnds x d.pieces) style is.cuts);
+          (subst (λ (x : ℕ). AreCutAsRead x d.pieces) style is.cuts);
       short = short_pieces j d.pieces good.bytes;
     }
 
@@ -191,14 +191,14 @@ planes_is cells planes = by (size_of cells == 0)
     by false = refl
 
 fit_bands : (s : Stream) (g : Geometry) (style layers c r k base : ℕ) (bands : List Band) (leaf : ℕ → Leafed)
-    → ((i : ℕ) → i < count_in g c r k bands → FitsLeaf style layers (planes_at s g.tile c r (name_from g c r k bands i).band) (base + i) (leaf (base + i)) (leaf (base + i)).parts)
-    → FitBands style layers base (bands_of s g c r k bands) (map leaf (range_with_len base (count_in g c r k bands)))
+    → ((i : ℕ) → i < leaves_in g c r k bands → FitsLeaf style layers (planes_at s g.tile c r (name_from g c r k bands i).band) (base + i) (leaf (base + i)) (leaf (base + i)).parts)
+    → FitBands style layers base (bands_of s g c r k bands) (map leaf (range_with_len base (leaves_in g c r k bands)))
 fit_bands s g style layers c r k base [] leaf each = tt
 fit_bands s g style layers c r k base (b ∷ bands) leaf each =
     let cells : Rect = cells_at g c r k b in
     let planes : ℕ = planes_at s g.tile c r b in
     let size : ℕ = size_of cells in
-    let rest : ℕ = count_in g c r k bands in
+    let rest : ℕ = leaves_in g c r k bands in
     let n : ℕ = (sizes_of cells planes).wide * (sizes_of cells planes).high in
     let n_is : n ≡ size = size_is cells planes in
     let front : List Leafed = map leaf (range_with_len base size) in
@@ -229,21 +229,21 @@ short_range a (suc n) leaf each =
     let here : a + 0 ≡ a = omega arith in
     (subst F here (each 0 (omega arith)), short_range (a + 1) n leaf (λ i lt. (let e : a + suc i ≡ a + 1 + i = omega arith in subst F e (each (suc i) (omega arith)))))
 
-precinct_fits : (s : Stream) (t : ℕ) (blocks : List Block) (c r k : ℕ) → Taken s t blocks c r k → FitBands (style_of s t c) (layers_of s t) 0 (precinct_bands s (geometry s t) c r k) (leaves_in s t blocks c r k)
-unfolding precinct_bands leaves_in leaf_name
+precinct_fits : (s : Stream) (t : ℕ) (blocks : List Block) (c r k : ℕ) → Taken s t blocks c r k → FitBands (style_of s t c) (layers_of s t) 0 (precinct_bands s (geometry s t) c r k) (leaves_of_blocks s t blocks c r k)
+unfolding precinct_bands leaves_of_blocks leaf_name
 precinct_fits s t blocks c r k h =
     let F : ℕ → ℕ → Type 0 = λ i x. FitsLeaf (style_of s t c) (layers_of s t) (planes_at s t c r (name_from (geometry s t) c r k (bands_at r) i).band) x (leaf_in s t blocks c r k x) (leaf_in s t blocks c r k x).parts in
     fit_bands s (geometry s t) (style_of s t c) (layers_of s t) c r k 0 (bands_at r) (leaf_in s t blocks c r k)
     (λ i lt. (let e : i ≡ 0 + i = omega arith in subst (F i) e (leaf_fit s t blocks c r k i h lt).fits))
 
-precinct_short : (s : Stream) (t : ℕ) (blocks : List Block) (c r k : ℕ) → Taken s t blocks c r k → AllShort (leaves_in s t blocks c r k)
-unfolding leaves_in
+precinct_short : (s : Stream) (t : ℕ) (blocks : List Block) (c r k : ℕ) → Taken s t blocks c r k → AllShort (leaves_of_blocks s t blocks c r k)
+unfolding leaves_of_blocks
 precinct_short s t blocks c r k h =
     short_range 0 (leaves (geometry s t) c r k) (leaf_in s t blocks c r k)
     (λ i lt. (let e : i ≡ 0 + i = omega arith in subst (λ (x : ℕ). HasShort (leaf_in s t blocks c r k x).parts) e (leaf_fit s t blocks c r k i h lt).short))
 
 pub blocks_fit : (b : List ℕ) (s : Stream) (t : ℕ) (blocks : List Block) (c r k : ℕ) → IsRead b s → totals_fault s ≡ None → t < tile_number s.siz → AreBlocksOf s blocks → All IsSound blocks → HasPrecinct (geometry s t) c r k
-    → LeavesFit (style_of s t c) (layers_of s t) (precinct_bands s (geometry s t) c r k) (leaves_in s t blocks c r k) × InTypes (layers_of s t) (leaves_in s t blocks c r k)
+    → LeavesFit (style_of s t c) (layers_of s t) (precinct_bands s (geometry s t) c r k) (leaves_of_blocks s t blocks c r k) × InTypes (layers_of s t) (leaves_of_blocks s t blocks c r k)
 blocks_fit b s t blocks c r k read none inside are sound has =
     let range : StreamInRange s = read_in_range b s read in
     let h : Taken s t blocks c r k = record { limits = geometry_fits s t range none inside; inside = inside; has = has; are = are; sound = sound } in (

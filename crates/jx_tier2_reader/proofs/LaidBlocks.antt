@@ -11,7 +11,7 @@ use Rattle.jx_geom.specs.Geometry.{Geometry, GeometryInRange}
 use Rattle.jx_packet_header.specs.Packet.{State}
 use Rattle.jx_packet_header.specs.Precinct.{all_blocks}
 use Rattle.jx_progression.specs.declared.names.PacketName.{PacketName}
-use Rattle.jx_progression.specs.Packets.{IsPacket as IsNamed}
+use Rattle.jx_progression.specs.Packets.{IsPacketName}
 use Rattle.jx_progression.specs.Steps.{name_of}
 use Rattle.jx_codestream.specs.declared.Stream.{Stream}
 use Rattle.jx_codestream.specs.Shapes.{geometry, layers_of}
@@ -44,7 +44,7 @@ joined_first f a b lt =
 
 -- ---- the states of a precinct
 -- the packets of a precinct that is there
-pub packet_named : (s : Stream) (t : ℕ) (c r k l : ℕ) → length (geometry s t).shapes ≤ 16384 → HasPrecinct (geometry s t) c r k → l < layers_of s t → IsNamed (geometry s t) (layers_of s t) (name_of l r c k)
+pub packet_named : (s : Stream) (t : ℕ) (c r k l : ℕ) → length (geometry s t).shapes ≤ 16384 → HasPrecinct (geometry s t) c r k → l < layers_of s t → IsPacketName (geometry s t) (layers_of s t) (name_of l r c k)
 packet_named s t c r k l few has lt =
     let below : c < length (geometry s t).shapes = has.resolution.component in
     record { layer = lt; resolution = has.resolution; precinct = has.precinct }
@@ -64,7 +64,7 @@ chain_follows s t ps c r k (suc l) w few has le =
     (chain_follows s t ps c r k l w few has (omega arith)))
 
 -- the blocks of which a packet tells are there
-pub packet_inside : (s : Stream) (t : ℕ) (ps : Packets) (p : PacketName) → AreWritten s t ps → length (geometry s t).shapes ≤ 16384 → IsNamed (geometry s t) (layers_of s t) p
+pub packet_inside : (s : Stream) (t : ℕ) (ps : Packets) (p : PacketName) → AreWritten s t ps → length (geometry s t).shapes ≤ 16384 → IsPacketName (geometry s t) (layers_of s t) p
     → AreInside (leaves (geometry s t) p.comp p.res p.precinct) (ps.written p).parts
 packet_inside s t ps p w few is =
     let g : Geometry = geometry s t in
@@ -170,7 +170,7 @@ joined_other s t ps list done rest p c r k j m h has lt e le other sent again =
     let g : Geometry = geometry s t in
     let layers : ℕ = layers_of s t in
     let number : ℕ = leaf_number g c r k j in
-    let named : IsNamed g layers p = due_named g layers list done rest p h.listed e in
+    let named : IsPacketName g layers p = due_named g layers list done rest p h.listed e in
     let x : Written = ps.written p in
     let none : own_founds number (founds_in g (cut_at ps p)) ≡ [] =
     own_elsewhere g p (ps.before (next_layer p)) number x.bytes x.parts

@@ -7,7 +7,7 @@ use Rattle.std.proofs.Math.Seq.{drop-append_seam}
 use Rattle.jx_geom.specs.Geometry.{Geometry}
 use Rattle.jx_packet_header.specs.Packet.{State}
 use Rattle.jx_progression.specs.declared.names.PacketName.{PacketName}
-use Rattle.jx_progression.specs.Packets.{IsPacket as IsNamed}
+use Rattle.jx_progression.specs.Packets.{IsPacketName}
 use Rattle.jx_progression.specs.Steps.{name_of}
 use Rattle.jx_codestream.specs.declared.Body.{Body}
 use Rattle.jx_codestream.specs.declared.Stream.{Stream}
@@ -80,7 +80,7 @@ start_stands s t ps list l c r k has = record {
 
 -- the packet that is due
 record Due (s : Stream) (t : ℕ) (ps : Packets) (states : List State) (p : PacketName) : Type 0 where
-  pub named : IsNamed (geometry s t) (layers_of s t) p
+  pub named : IsPacketName (geometry s t) (layers_of s t) p
   pub own : HasPrecinct (geometry s t) p.comp p.res p.precinct
   pub is : IsWritten ps p
   pub known : slice_get states (number_of (geometry s t) p) ≡ Some (ps.before p)
@@ -91,7 +91,7 @@ due_is : (s : Stream) (t : ℕ) (ps : Packets) (list done rest : List PacketName
 due_is s t ps list done rest p states l e st =
     let g : Geometry = geometry s t in
     let layers : ℕ = layers_of s t in
-    let named : IsNamed g layers p = due_named g layers list done rest p l.listed e in
+    let named : IsPacketName g layers p = due_named g layers list done rest p l.listed e in
     let own : HasPrecinct g p.comp p.res p.precinct = has_precinct g layers p named in
     let h : Held g ps layers done states p.comp p.res p.precinct = st p.comp p.res p.precinct own in
     let layer : h.state.layer ≡ p.layer = layer_is g layers list done rest p states h.state l.listed e h.turned in

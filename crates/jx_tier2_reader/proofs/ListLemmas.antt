@@ -14,7 +14,7 @@ use Rattle.jx_packet_header.specs.declared.BandCells.{BandCells}
 use Rattle.jx_packet_header.specs.Precinct.{fresh_state}
 use Rattle.jx_codestream.specs.declared.Stream.{Stream}
 use Rattle.jx_codestream.specs.Params.{planes_at}
-use Rattle.jx_tier2_reader.specs.Blocks.{Found, own_founds, block_of, band_blocks, resolution_blocks}
+use Rattle.jx_tier2_reader.specs.Blocks.{Found, own_founds, block_of, blocks_of_band, blocks_of_resolution}
 use Rattle.jx_tier2_reader.specs.Cells.{sizes_of, precinct_bands, fresh_precinct}
 use Rattle.jx_geom.specs.Precincts.{cells_at}
 use Rattle.jx_codestream.specs.InRange.{StreamInRange}
@@ -57,16 +57,16 @@ three_bands s g c r k first second third x y z some e e2 e3 is is2 is3 =
 
 -- the blocks of a resolution, appended band by band
 pub appends_low : (s : Stream) (g : Geometry) (founds : List Found) (c r : ℕ) (old new : List Block) → r ≡ 0
-    → new ≡ old ++ band_blocks s g founds c r LL → new ≡ old ++ resolution_blocks s g founds c r
+    → new ≡ old ++ blocks_of_band s g founds c r LL → new ≡ old ++ blocks_of_resolution s g founds c r
 appends_low s g founds c r old new low e = e ∙ ap (λ (bs : List Block). old ++ bs) (sym (blocks_low s g founds c r low))
 
 pub appends_high : (s : Stream) (g : Geometry) (founds : List Found) (c r : ℕ) (old one two new : List Block) → 0 < r
-    → one ≡ old ++ band_blocks s g founds c r HL → two ≡ one ++ band_blocks s g founds c r LH → new ≡ two ++ band_blocks s g founds c r HH
-    → new ≡ old ++ resolution_blocks s g founds c r
+    → one ≡ old ++ blocks_of_band s g founds c r HL → two ≡ one ++ blocks_of_band s g founds c r LH → new ≡ two ++ blocks_of_band s g founds c r HH
+    → new ≡ old ++ blocks_of_resolution s g founds c r
 appends_high s g founds c r old one two new some e e2 e3 =
-    let x = band_blocks s g founds c r HL in
-    let y = band_blocks s g founds c r LH in
-    let z = band_blocks s g founds c r HH in
+    let x = blocks_of_band s g founds c r HL in
+    let y = blocks_of_band s g founds c r LH in
+    let z = blocks_of_band s g founds c r HH in
     let second : two ≡ (old ++ x) ++ y = e2 ∙ ap (λ (bs : List Block). bs ++ y) e in
     let third : new ≡ ((old ++ x) ++ y) ++ z = e3 ∙ ap (λ (bs : List Block). bs ++ z) second in
     third ∙ append_assoc (old ++ x) y z ∙ append_assoc old x (y ++ z) ∙ ap (λ (bs : List Block). old ++ bs) (sym (blocks_high s g founds c r some))

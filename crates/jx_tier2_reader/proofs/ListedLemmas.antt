@@ -14,14 +14,14 @@ use Rattle.jx_base.specs.Places.{size_of}
 use Rattle.jx_base.proofs.Joined.{joined_none, joined_empty, joined_same}
 use Rattle.jx_geom.specs.declared.shape.CompShape.{CompShape}
 use Rattle.jx_geom.specs.declared.table.Resolution.{Resolution}
-use Rattle.jx_geom.specs.Counts.{precinct_count, block_count, tile_blocks as blocks_in_tile, tile_precincts}
+use Rattle.jx_geom.specs.Counts.{precinct_count, block_count, tile_blocks, tile_precincts}
 use Rattle.jx_geom.specs.Geometry.{Geometry, HasResolution, rect_of_tile, shape_of, precincts_in, blocks_in}
 use Rattle.jx_geom.specs.Rects.{component_rect}
 use Rattle.jx_geom.specs.Resolutions.{all_resolutions, component_resolutions, one_behind, resolutions_behind, resolutions_of}
 use Rattle.jx_geom.proofs.EmptyLemmas.{some_block, some_precinct}
 use Rattle.jx_geom.proofs.TableLemmas.{listed, none_behind, some_resolutions}
 use Rattle.jx_codestream.specs.declared.Stream.{Stream}
-use Rattle.jx_tier2_reader.specs.Blocks.{band_blocks, component_blocks, one_block, resolution_blocks, tile_blocks}
+use Rattle.jx_tier2_reader.specs.Blocks.{blocks_of_band, blocks_of_component, one_block, blocks_of_resolution, blocks_of_tile}
 use Rattle.jx_tier2_reader.specs.Cells.{fresh_component, fresh_precincts, fresh_resolution, one_precinct}
 
 -- what each resolution of a list has
@@ -63,7 +63,7 @@ unfolding all_resolutions
 of_tile f g empty =
     flat_joined (by_resolution f) (component_resolutions (rect_of_tile g) g.shapes) (length g.shapes)
     ∙ joined_same (λ c. flat_map (by_resolution f) (component_resolutions (rect_of_tile g) g.shapes c)) (λ c. joined (f c) 0 ((shape_of g c).levels + 1)) (length g.shapes)
-    (λ c lt. of_shape f (rect_of_tile g) (shape_of g c) c (tile_precincts (rect_of_tile g) (take c g.shapes)) (blocks_in_tile (rect_of_tile g) (take c g.shapes)) (empty c))
+    (λ c lt. of_shape f (rect_of_tile g) (shape_of g c) c (tile_precincts (rect_of_tile g) (take c g.shapes)) (tile_blocks (rect_of_tile g) (take c g.shapes)) (empty c))
 
 no_fresh : (s : Stream) (g : Geometry) (c r : ℕ) → size_of (component_rect (rect_of_tile g) (shape_of g c)) ≡ 0 → fresh_resolution s g c r ≡ []
 unfolding fresh_resolution
@@ -72,24 +72,24 @@ no_fresh s g c r e = elim (cases_lt 0 (precinct_count (rect_of_tile g) (shape_of
   | inr none ↦ joined_none (one_precinct s g c r) 0 (size_of (precincts_in g c r)) none
 ]
 
-no_band : (s : Stream) (g : Geometry) (c r : ℕ) (b : Band) → size_of (component_rect (rect_of_tile g) (shape_of g c)) ≡ 0 → band_blocks s g [] c r b ≡ []
-unfolding band_blocks
+no_band : (s : Stream) (g : Geometry) (c r : ℕ) (b : Band) → size_of (component_rect (rect_of_tile g) (shape_of g c)) ≡ 0 → blocks_of_band s g [] c r b ≡ []
+unfolding blocks_of_band
 no_band s g c r b e = elim (cases_lt 0 (block_count (rect_of_tile g) (shape_of g c) r b)) [
   | inl some ↦ absurd (omega (arith, e, some_block (rect_of_tile g) (shape_of g c) r b 0 some))
   | inr none ↦ joined_none (one_block s g [] c r b) 0 (size_of (blocks_in g c r b)) none
 ]
 
-no_resolution : (s : Stream) (g : Geometry) (c r : ℕ) → size_of (component_rect (rect_of_tile g) (shape_of g c)) ≡ 0 → resolution_blocks s g [] c r ≡ []
-unfolding resolution_blocks
-no_resolution s g c r e = flat_none (band_blocks s g [] c r) (bands_at r) (λ b. no_band s g c r b e)
+no_resolution : (s : Stream) (g : Geometry) (c r : ℕ) → size_of (component_rect (rect_of_tile g) (shape_of g c)) ≡ 0 → blocks_of_resolution s g [] c r ≡ []
+unfolding blocks_of_resolution
+no_resolution s g c r e = flat_none (blocks_of_band s g [] c r) (bands_at r) (λ b. no_band s g c r b e)
 
 pub precincts_listed : (s : Stream) (g : Geometry) → flat_map (by_resolution (fresh_resolution s g)) (resolutions_of g) ≡ fresh_precincts s g
 unfolding fresh_precincts fresh_component
 precincts_listed s g = of_tile (fresh_resolution s g) g (λ c e r. no_fresh s g c r e)
 
-pub blocks_listed : (s : Stream) (g : Geometry) → flat_map (by_resolution (resolution_blocks s g [])) (resolutions_of g) ≡ tile_blocks s g []
-unfolding tile_blocks component_blocks
-blocks_listed s g = of_tile (resolution_blocks s g []) g (λ c e r. no_resolution s g c r e)
+pub blocks_listed : (s : Stream) (g : Geometry) → flat_map (by_resolution (blocks_of_resolution s g [])) (resolutions_of g) ≡ blocks_of_tile s g []
+unfolding blocks_of_tile blocks_of_component
+blocks_listed s g = of_tile (blocks_of_resolution s g []) g (λ c e r. no_resolution s g c r e)
 
 -- the steps of a loop over the list
 pub row_there : (g : Geometry) (rows : List Resolution) (i : ℕ) (d : Resolution) → rows ≡ resolutions_of g → i < length rows

@@ -23,7 +23,7 @@ use Rattle.jx_codestream.specs.Shapes.{geometry, layers_of, tile_at}
 use Rattle.jx_tier2_reader.specs.Totals.{totals_fault}
 use Rattle.jx_tier2_reader.specs.Data.{window, due, behind, end_of_data, sop_fault, header_in, first_mark, rule_30, marks_fault, body_fault, front_length, parts_length}
 use Rattle.jx_tier2_reader.specs.Cuts.{Cut, IsCut, BreaksHeader, BreaksBody, Breaks, Left, IsTurn, AreCuts, names_of, number_of, BreaksDue, IsLeftOver, Stops}
-use Rattle.jx_tier2_reader.specs.Blocks.{founds_of, tile_blocks}
+use Rattle.jx_tier2_reader.specs.Blocks.{founds_of, blocks_of_tile}
 use Rattle.jx_tier2_reader.specs.Gathered.{IsListOf, IsWhole, IsCutUp, AreTileBlocks, IsGathered, IsUncovered, BreaksTile, BreaksData, IsBroken, start}
 use Rattle.jx_tier2_reader.proofs.TurnLemmas.{Precincts, Keeps, Listed, listed, AllKnown, AreInTurn, are_in_turn, known_there, has_precinct, due_named}
 use Rattle.jx_base.proofs.Joined.{joined_same}
@@ -391,7 +391,7 @@ ready_tile b s t r inside whole = record { places = r.places t inside; keeps = r
 tile_once : (b : List ℕ) (s : Stream) (t : ℕ) (xs ys : List Block) → IsReady b s t → AreTileBlocks b s t xs → AreTileBlocks b s t ys → xs ≡ ys
 tile_once b s t xs ys r x y =
     let same : x.0 ≡ y.0 = one_cut_up b s t x.0 y.0 r x.1 y.1 in
-    x.2 ∙ ap (λ (cuts : List Cut). tile_blocks s (geometry s t) (founds_of (geometry s t) cuts)) same ∙ sym y.2
+    x.2 ∙ ap (λ (cuts : List Cut). blocks_of_tile s (geometry s t) (founds_of (geometry s t) cuts)) same ∙ sym y.2
 
 -- the blocks are one list
 pub one_gathering : (b : List ℕ) (s : Stream) (xs ys : List Block) → Ready b s → IsGathered b s xs → IsGathered b s ys → xs ≡ ys

@@ -26,7 +26,7 @@ use Rattle.jx_packet_header.proofs.FreshLemmas.{block_left, block_right}
 use Rattle.jx_packet_header.proofs.LayerLemmas.{IsTold, IsFit, zero_told, fits_runs, in_none}
 use Rattle.jx_packet_header.proofs.PlanLemmas.{state_is}
 use Rattle.jx_progression.specs.declared.names.PacketName.{PacketName}
-use Rattle.jx_progression.specs.Packets.{IsPacket as IsNamed}
+use Rattle.jx_progression.specs.Packets.{IsPacketName}
 use Rattle.jx_progression.specs.Steps.{name_of}
 use Rattle.jx_codestream.specs.declared.Stream.{Stream}
 use Rattle.jx_codestream.specs.First.{canvas_of, tile_number}
@@ -41,7 +41,7 @@ use Rattle.jx_tier2_reader.specs.Blocks.{told_zero, zero_in}
 use Rattle.jx_tier2_reader.specs.Written.{Written, Packets, next_layer, IsWritten, AreWritten}
 use Rattle.jx_tier2_reader.specs.BlockOf.{pieces_at}
 use Rattle.jx_tier2_reader.specs.Carries.{pieces_of, block_in, carried, part_of, parts_of, bytes_of, Carries, AllCarry}
-use Rattle.jx_tier2_reader.specs.Planned.{part_in, leaf_in, leaves_in, IsPlanned, ArePlanned}
+use Rattle.jx_tier2_reader.specs.Planned.{part_in, leaf_in, leaves_of_blocks, IsPlanned, ArePlanned}
 use Rattle.jx_tier2_reader.proofs.FreshLemmas.{fresh_in_range}
 use Rattle.jx_tier2_reader.proofs.CarryLemmas.{layer_here, layer_past, layer_nothing}
 use Rattle.jx_tier2_reader.proofs.LaidBlocks.{joined_first}
@@ -78,8 +78,8 @@ same_joined f h (suc n) a b e same =
     joined_first f a b (omega arith) ∙ ap (λ (xs : List Part). xs ++ joined f (a + 1) b) (same a) ∙ ap (λ (xs : List Part). h a ++ xs) (same_joined f h n (a + 1) b (omega arith) same)
     ∙ sym (joined_first h a b (omega arith))
 
-planned_parts : (s : Stream) (t : ℕ) (blocks : List Block) (c r k l : ℕ) → parts_at l (leaves_in s t blocks c r k) ≡ joined (parts_of s t blocks (name_of l r c k)) 0 (leaves (geometry s t) c r k)
-unfolding leaves_in
+planned_parts : (s : Stream) (t : ℕ) (blocks : List Block) (c r k l : ℕ) → parts_at l (leaves_of_blocks s t blocks c r k) ≡ joined (parts_of s t blocks (name_of l r c k)) 0 (leaves (geometry s t) c r k)
+unfolding leaves_of_blocks
 planned_parts s t blocks c r k l =
     let n : ℕ = leaves (geometry s t) c r k in
     let e : 0 + n ≡ n = omega arith in
@@ -158,13 +158,13 @@ state_zero layers style l bands lvs j range fit types lt inside some =
     ap told_zero told.told.zero ∙ ap (λ (n : ℕ). told_zero (zero_told n leaf.zero leaf.parts)) at ∙ zero_known layers told.block l leaf.zero leaf.parts told.runs some
 
 -- ---- the leaves of a precinct
-pub leaves_long : (s : Stream) (t : ℕ) (blocks : List Block) (c r k : ℕ) → length (leaves_in s t blocks c r k) ≡ leaves (geometry s t) c r k
-unfolding leaves_in
+pub leaves_long : (s : Stream) (t : ℕ) (blocks : List Block) (c r k : ℕ) → length (leaves_of_blocks s t blocks c r k) ≡ leaves (geometry s t) c r k
+unfolding leaves_of_blocks
 leaves_long s t blocks c r k =
     length-map (range_with_len 0 (leaves (geometry s t) c r k)) (leaf_in s t blocks c r k) ∙ length-range_with_len 0 (leaves (geometry s t) c r k)
 
-leaves_are : (s : Stream) (t : ℕ) (blocks : List Block) (c r k j : ℕ) → j < leaves (geometry s t) c r k → leaf_at (leaves_in s t blocks c r k) j ≡ leaf_in s t blocks c r k j
-unfolding leaves_in
+leaves_are : (s : Stream) (t : ℕ) (blocks : List Block) (c r k j : ℕ) → j < leaves (geometry s t) c r k → leaf_at (leaves_of_blocks s t blocks c r k) j ≡ leaf_in s t blocks c r k j
+unfolding leaves_of_blocks
 leaves_are s t blocks c r k j lt =
     let e : 0 + j ≡ j = omega arith in get_or-map-range_with_len (leaf_in s t blocks c r k) 0 (leaves (geometry s t) c r k) j j no_leaf lt e
 
@@ -175,7 +175,7 @@ none_of j (q ∷ qs) e = absurd (cc)
 -- the leaves of each precinct fit
 abbrev pub PrecinctsFit : Stream → ℕ → List Block → Type 0
 PrecinctsFit s t blocks = (c r k : ℕ) → HasPrecinct (geometry s t) c r k
-    → LeavesFit (style_of s t c) (layers_of s t) (precinct_bands s (geometry s t) c r k) (leaves_in s t blocks c r k) × InTypes (layers_of s t) (leaves_in s t blocks c r k)
+    → LeavesFit (style_of s t c) (layers_of s t) (precinct_bands s (geometry s t) c r k) (leaves_of_blocks s t blocks c r k) × InTypes (layers_of s t) (leaves_of_blocks s t blocks c r k)
 
 -- ---- a packet
 module _ (s : Stream) (t : ℕ) (blocks : List Block) (ps : Packets) (range : StreamInRange s) (limits : GeometryInRange (geometry s t)) (inside : t < tile_number s.siz) (sound : All IsSound blocks)
@@ -183,11 +183,11 @@ module _ (s : Stream) (t : ℕ) (blocks : List Block) (ps : Packets) (range : St
   cells_range : (c r k : ℕ) → HasPrecinct (geometry s t) c r k → CellsInRange (precinct_bands s (geometry s t) c r k)
   cells_range c r k has = fresh_in_range s (geometry s t) c r k range limits inside refl has
 
-  planned_carries : (p : PacketName) → IsNamed (geometry s t) (layers_of s t) p → Carries s t blocks ps p
+  planned_carries : (p : PacketName) → IsPacketName (geometry s t) (layers_of s t) p → Carries s t blocks ps p
   planned_carries p is =
       let has : HasPrecinct (geometry s t) p.comp p.res p.precinct = has_precinct (geometry s t) (layers_of s t) p is in
       let plan : IsPlanned s t blocks ps p.comp p.res p.precinct = planned p.comp p.res p.precinct has in
-      let lvs : List Leafed = leaves_in s t blocks p.comp p.res p.precinct in
+      let lvs : List Leafed = leaves_of_blocks s t blocks p.comp p.res p.precinct in
       record {
         parts = plan.parts p.layer is.layer ∙ planned_parts s t blocks p.comp p.res p.precinct p.layer;
         bytes = plan.bytes p.layer is.layer;
@@ -202,12 +202,12 @@ module _ (s : Stream) (t : ℕ) (blocks : List Block) (ps : Packets) (range : St
             ∙ ap (λ (x : Leafed). x.zero) leaf);
       }
 
-  planned_written : (p : PacketName) → IsNamed (geometry s t) (layers_of s t) p → IsWritten ps p
+  planned_written : (p : PacketName) → IsPacketName (geometry s t) (layers_of s t) p → IsWritten ps p
   planned_written p is =
       let has : HasPrecinct (geometry s t) p.comp p.res p.precinct = has_precinct (geometry s t) (layers_of s t) p is in
       let plan : IsPlanned s t blocks ps p.comp p.res p.precinct = planned p.comp p.res p.precinct has in
       let carries : Carries s t blocks ps p = planned_carries p is in
-      let lvs : List Leafed = leaves_in s t blocks p.comp p.res p.precinct in
+      let lvs : List Leafed = leaves_of_blocks s t blocks p.comp p.res p.precinct in
       let layers : ℕ = layers_of s t in
       let style : ℕ = style_of s t p.comp in
       let bands : List BandCells = precinct_bands s (geometry s t) p.comp p.res p.precinct in

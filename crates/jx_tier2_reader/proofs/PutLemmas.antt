@@ -15,15 +15,15 @@ use Rattle.jx_geom.specs.Numbering.{number_in_tile}
 use Rattle.jx_codestream.specs.declared.Stream.{Stream}
 use Rattle.jx_codestream.specs.Params.{planes_at}
 use Rattle.jx_codestream.specs.Shapes.{style_of}
-use Rattle.jx_tier2_reader.specs.Blocks.{Found, own_founds, pieces_in, passes_in, zero_from, block_with, block_of, tile_blocks}
+use Rattle.jx_tier2_reader.specs.Blocks.{Found, own_founds, pieces_in, passes_in, zero_from, block_with, block_of, blocks_of_tile}
 use Rattle.jx_tier2_reader.specs.Put.{put_to, put_at, put_one, put_all}
 use Rattle.jx_base.proofs.Lists.{get-set_same, get-set_other, same_gets}
 
 -- the blocks of a tile are those of its names, whatever pieces they have
 pub record Tiled (s : Stream) (g : Geometry) : Type 0 where
-  pub long : (founds : List Found) → length (tile_blocks s g founds) ≡ length (tile_blocks s g [])
-  pub there : (founds : List Found) (n : BlockName) → HasBlock g n → slice_get (tile_blocks s g founds) (number_in_tile g n) ≡ Some (block_of s g founds n)
-  pub named : (i : ℕ) → i < length (tile_blocks s g []) → (n : BlockName) × (HasBlock g n × (number_in_tile g n ≡ i))
+  pub long : (founds : List Found) → length (blocks_of_tile s g founds) ≡ length (blocks_of_tile s g [])
+  pub there : (founds : List Found) (n : BlockName) → HasBlock g n → slice_get (blocks_of_tile s g founds) (number_in_tile g n) ≡ Some (block_of s g founds n)
+  pub named : (i : ℕ) → i < length (blocks_of_tile s g []) → (n : BlockName) × (HasBlock g n × (number_in_tile g n ≡ i))
 
 -- a piece of one of the tile's blocks
 pub record IsOfBlock (g : Geometry) (f : Found) : Type 0 where
@@ -73,46 +73,46 @@ put_here : (s : Stream) (g : Geometry) (n : BlockName) (done : List Found) (f : 
 put_here s g n done f e =
     put_with s g n (own_founds (number_in_tile g n) done) f ∙ ap (λ (l : List Found). block_with s g n l) (sym (own_same (number_in_tile g n) done f (sym e)))
 
-put_next : (s : Stream) (g : Geometry) (done : List Found) (f : Found) → Tiled s g → IsOfBlock g f → put_one (tile_blocks s g done) f ≡ tile_blocks s g (done ++ f ∷ [])
+put_next : (s : Stream) (g : Geometry) (done : List Found) (f : Found) → Tiled s g → IsOfBlock g f → put_one (blocks_of_tile s g done) f ≡ blocks_of_tile s g (done ++ f ∷ [])
 unfolding put_one
 put_next s g done f t o =
-    let old : slice_get (tile_blocks s g done) f.number ≡ Some (block_of s g done o.name) = subst (λ (i : ℕ). slice_get (tile_blocks s g done) i ≡ Some (block_of s g done o.name)) o.number (t.there done o.name o.there) in
-    let new : slice_get (tile_blocks s g (done ++ f ∷ [])) f.number ≡ Some (block_of s g (done ++ f ∷ []) o.name) =
-    subst (λ (i : ℕ). slice_get (tile_blocks s g (done ++ f ∷ [])) i ≡ Some (block_of s g (done ++ f ∷ []) o.name)) o.number (t.there (done ++ f ∷ []) o.name o.there) in
-    let lt : f.number < length (tile_blocks s g done) = slice_get_within (tile_blocks s g done) f.number (block_of s g done o.name) old in
+    let old : slice_get (blocks_of_tile s g done) f.number ≡ Some (block_of s g done o.name) = subst (λ (i : ℕ). slice_get (blocks_of_tile s g done) i ≡ Some (block_of s g done o.name)) o.number (t.there done o.name o.there) in
+    let new : slice_get (blocks_of_tile s g (done ++ f ∷ [])) f.number ≡ Some (block_of s g (done ++ f ∷ []) o.name) =
+    subst (λ (i : ℕ). slice_get (blocks_of_tile s g (done ++ f ∷ [])) i ≡ Some (block_of s g (done ++ f ∷ []) o.name)) o.number (t.there (done ++ f ∷ []) o.name o.there) in
+    let lt : f.number < length (blocks_of_tile s g done) = slice_get_within (blocks_of_tile s g done) f.number (block_of s g done o.name) old in
     let put = put_to (block_of s g done o.name) f in
-    let sized : length (set (tile_blocks s g done) f.number put) ≡ length (tile_blocks s g done) = length-set (tile_blocks s g done) f.number put in
-    let long : length (tile_blocks s g done) ≡ length (tile_blocks s g []) = t.long done in
-    let longer : length (tile_blocks s g (done ++ f ∷ [])) ≡ length (tile_blocks s g []) = t.long (done ++ f ∷ []) in
-    ap (λ (b : Option Block). put_at b (tile_blocks s g done) f) old
-    ∙ same_gets (set (tile_blocks s g done) f.number put) (tile_blocks s g (done ++ f ∷ [])) (omega arith)
-    (λ (i : ℕ) (below : i < length (set (tile_blocks s g done) f.number put)). at i (omega arith) (cases_eq i f.number) lt new)
+    let sized : length (set (blocks_of_tile s g done) f.number put) ≡ length (blocks_of_tile s g done) = length-set (blocks_of_tile s g done) f.number put in
+    let long : length (blocks_of_tile s g done) ≡ length (blocks_of_tile s g []) = t.long done in
+    let longer : length (blocks_of_tile s g (done ++ f ∷ [])) ≡ length (blocks_of_tile s g []) = t.long (done ++ f ∷ []) in
+    ap (λ (b : Option Block). put_at b (blocks_of_tile s g done) f) old
+    ∙ same_gets (set (blocks_of_tile s g done) f.number put) (blocks_of_tile s g (done ++ f ∷ [])) (omega arith)
+    (λ (i : ℕ) (below : i < length (set (blocks_of_tile s g done) f.number put)). at i (omega arith) (cases_eq i f.number) lt new)
   where
-    other : (i : ℕ) → (i ≡ f.number → ⊥) → (n : BlockName) × (HasBlock g n × (number_in_tile g n ≡ i)) → slice_get (tile_blocks s g done) i ≡ slice_get (tile_blocks s g (done ++ f ∷ [])) i
+    other : (i : ℕ) → (i ≡ f.number → ⊥) → (n : BlockName) × (HasBlock g n × (number_in_tile g n ≡ i)) → slice_get (blocks_of_tile s g done) i ≡ slice_get (blocks_of_tile s g (done ++ f ∷ [])) i
     other i ne n =
         let number : number_in_tile g n.0 ≡ i = n.1.1 in
         let apart : f.number ≡ number_in_tile g n.0 → ⊥ = λ (e : f.number ≡ number_in_tile g n.0). ne (sym (e ∙ number)) in
-        subst (λ (j : ℕ). slice_get (tile_blocks s g done) j ≡ slice_get (tile_blocks s g (done ++ f ∷ [])) j) number
+        subst (λ (j : ℕ). slice_get (blocks_of_tile s g done) j ≡ slice_get (blocks_of_tile s g (done ++ f ∷ [])) j) number
         (t.there done n.0 n.1.0
         ∙ ap (λ (l : List Found). Some (block_with s g n.0 l)) (sym (own_other (number_in_tile g n.0) done f apart))
         ∙ sym (t.there (done ++ f ∷ []) n.0 n.1.0))
 
-    at : (i : ℕ) → i < length (tile_blocks s g []) → (i ≡ f.number) ⊎ (i ≡ f.number → ⊥) → f.number < length (tile_blocks s g done) →
-        slice_get (tile_blocks s g (done ++ f ∷ [])) f.number ≡ Some (block_of s g (done ++ f ∷ []) o.name) →
-        slice_get (set (tile_blocks s g done) f.number (put_to (block_of s g done o.name) f)) i ≡ slice_get (tile_blocks s g (done ++ f ∷ [])) i
+    at : (i : ℕ) → i < length (blocks_of_tile s g []) → (i ≡ f.number) ⊎ (i ≡ f.number → ⊥) → f.number < length (blocks_of_tile s g done) →
+        slice_get (blocks_of_tile s g (done ++ f ∷ [])) f.number ≡ Some (block_of s g (done ++ f ∷ []) o.name) →
+        slice_get (set (blocks_of_tile s g done) f.number (put_to (block_of s g done o.name) f)) i ≡ slice_get (blocks_of_tile s g (done ++ f ∷ [])) i
     at i below (inl same) lt new =
-        subst (λ (j : ℕ). slice_get (set (tile_blocks s g done) f.number (put_to (block_of s g done o.name) f)) j ≡ slice_get (tile_blocks s g (done ++ f ∷ [])) j) (sym same)
-        (get-set_same (tile_blocks s g done) f.number (put_to (block_of s g done o.name) f) lt
+        subst (λ (j : ℕ). slice_get (set (blocks_of_tile s g done) f.number (put_to (block_of s g done o.name) f)) j ≡ slice_get (blocks_of_tile s g (done ++ f ∷ [])) j) (sym same)
+        (get-set_same (blocks_of_tile s g done) f.number (put_to (block_of s g done o.name) f) lt
         ∙ ap (λ (b : Block). Some b) (put_here s g o.name done f o.number)
         ∙ sym new)
-    at i below (inr ne) lt new = get-set_other (tile_blocks s g done) f.number i (put_to (block_of s g done o.name) f) ne ∙ other i ne (t.named i below)
+    at i below (inr ne) lt new = get-set_other (blocks_of_tile s g done) f.number i (put_to (block_of s g done o.name) f) ne ∙ other i ne (t.named i below)
 
-put_after : (s : Stream) (g : Geometry) (done founds : List Found) → Tiled s g → AllByRecursion (IsOfBlock g) founds → put_all (tile_blocks s g done) founds ≡ tile_blocks s g (done ++ founds)
-put_after s g done [] t all = ap (tile_blocks s g) (sym (append-nil done))
+put_after : (s : Stream) (g : Geometry) (done founds : List Found) → Tiled s g → AllByRecursion (IsOfBlock g) founds → put_all (blocks_of_tile s g done) founds ≡ blocks_of_tile s g (done ++ founds)
+put_after s g done [] t all = ap (blocks_of_tile s g) (sym (append-nil done))
 put_after s g done (f ∷ founds) t all =
     ap (λ (l : List Block). put_all l founds) (put_next s g done f t all.0)
     ∙ put_after s g (done ++ f ∷ []) founds t all.1
-    ∙ ap (tile_blocks s g) (append_assoc done (f ∷ []) founds)
+    ∙ ap (blocks_of_tile s g) (append_assoc done (f ∷ []) founds)
 
-pub put_found : (s : Stream) (g : Geometry) (founds : List Found) → Tiled s g → All (IsOfBlock g) founds → put_all (tile_blocks s g []) founds ≡ tile_blocks s g founds
+pub put_found : (s : Stream) (g : Geometry) (founds : List Found) → Tiled s g → All (IsOfBlock g) founds → put_all (blocks_of_tile s g []) founds ≡ blocks_of_tile s g founds
 put_found s g founds t all = put_after s g [] founds t (recursion_from_All (IsOfBlock g) founds all)

@@ -22,7 +22,7 @@ use Rattle.jx_packet_header.specs.Packet.{Cells, unknown_block}
 use Rattle.jx_packet_header.specs.Precinct.{fresh_cells, fresh_bands, all_blocks}
 use Rattle.jx_packet_header.proofs.FreshLemmas.{unknown_at, block_left, block_right}
 use Rattle.jx_progression.specs.declared.names.PacketName.{PacketName}
-use Rattle.jx_progression.specs.Packets.{IsPacket, SamePrecinct}
+use Rattle.jx_progression.specs.Packets.{IsPacketName, SamePrecinct}
 use Rattle.jx_progression.proofs.OrderLemmas.{order_to}
 use Rattle.jx_progression.proofs.RiseLemmas.{order_rises}
 use Rattle.jx_codestream.specs.declared.Stream.{Stream}
@@ -37,7 +37,7 @@ use Rattle.jx_geom.specs.Precincts.{leaves, leaves_in}
 use Rattle.jx_tier2_reader.specs.Cells.{sizes_of, precinct_bands, fresh_precinct}
 use Rattle.jx_geom.specs.Precincts.{HasPrecinct, cells_at, precinct_number, name_from, leaf_name, leaf_number}
 use Rattle.jx_tier2_reader.specs.Cuts.{Cut, Left, AreCuts, number_of, names_of}
-use Rattle.jx_tier2_reader.specs.Blocks.{Found, founds_of, own_founds, pieces_in, passes_in, zero_from, block_with, block_of, tile_blocks}
+use Rattle.jx_tier2_reader.specs.Blocks.{Found, founds_of, own_founds, pieces_in, passes_in, zero_from, block_with, block_of, blocks_of_tile}
 use Rattle.jx_tier2_reader.specs.Gathered.{IsListOf, IsCutUp, IsGathered, start}
 use Rattle.jx_tier2_reader.specs.Put.{put_all}
 use Rattle.jx_tier2_reader.proofs.NumberLemmas.{precinct_there}
@@ -157,10 +157,10 @@ pub record IsBegun (b : List ℕ) (s : Stream) (t : ℕ) (cuts : List Cut) (left
   pub are : AreCuts b (geometry s t) 0 (start s t) cuts left
   pub few : together (tile_at s t).bodies ≤ 2 ^ 28
 
-there_from : (g : Geometry) (layers : ℕ) (cuts : List Cut) → ((p : PacketName) → Contains (names_of cuts) p → IsPacket g layers p) → AreThere g cuts
+there_from : (g : Geometry) (layers : ℕ) (cuts : List Cut) → ((p : PacketName) → Contains (names_of cuts) p → IsPacketName g layers p) → AreThere g cuts
 there_from g layers [] all = tt
 there_from g layers (c ∷ cuts) all =
-    let is : IsPacket g layers c.name = all c.name (contains_head c.name (names_of cuts)) in (
+    let is : IsPacketName g layers c.name = all c.name (contains_head c.name (names_of cuts)) in (
       record { resolution = is.resolution; precinct = is.precinct },
       there_from g layers cuts (λ (p : PacketName) (h : Contains (names_of cuts) p). all p (contains_tail c.name (names_of cuts) p h)),
     )
@@ -317,15 +317,15 @@ sound_block b s t cuts left n h is =
         (known_in (fresh_precinct s (geometry s t) leaf.comp leaf.res leaf.precinct).bands leaf.block) (known_in tracked.after.bands leaf.block)) own tracked.grows)
 
 -- ---- all blocks of a tile
-pub sound_cuts : (b : List ℕ) (s : Stream) (t : ℕ) (cuts : List Cut) (left : Left) → IsBegun b s t cuts left → All IsSound (tile_blocks s (geometry s t) (founds_of (geometry s t) cuts))
+pub sound_cuts : (b : List ℕ) (s : Stream) (t : ℕ) (cuts : List Cut) (left : Left) → IsBegun b s t cuts left → All IsSound (blocks_of_tile s (geometry s t) (founds_of (geometry s t) cuts))
 sound_cuts b s t cuts left h i d lt =
     let at : BlockAt s (geometry s t) (founds_of (geometry s t) cuts) i = block_named s (geometry s t) (founds_of (geometry s t) cuts) i h.limits lt in
     let block : Block = block_of s (geometry s t) (founds_of (geometry s t) cuts) at.name in
-    subst (λ (x : Block). IsSound x) (sym (get_or_from_slice_get (tile_blocks s (geometry s t) (founds_of (geometry s t) cuts)) i block d at.found)) (sound_block b s t cuts left at.name h at.there)
+    subst (λ (x : Block). IsSound x) (sym (get_or_from_slice_get (blocks_of_tile s (geometry s t) (founds_of (geometry s t) cuts)) i block d at.found)) (sound_block b s t cuts left at.name h at.there)
 
 -- few passes
-pub passes_fit : (b : List ℕ) (s : Stream) (t : ℕ) (cuts : List Cut) (left : Left) → IsBegun b s t cuts left → All (λ (k : Block). k.passes < 2 ^ 16) (tile_blocks s (geometry s t) (founds_of (geometry s t) cuts))
-passes_fit b s t cuts left h = All-weaker IsSound (λ (k : Block). k.passes < 2 ^ 16) few (tile_blocks s (geometry s t) (founds_of (geometry s t) cuts)) (sound_cuts b s t cuts left h)
+pub passes_fit : (b : List ℕ) (s : Stream) (t : ℕ) (cuts : List Cut) (left : Left) → IsBegun b s t cuts left → All (λ (k : Block). k.passes < 2 ^ 16) (blocks_of_tile s (geometry s t) (founds_of (geometry s t) cuts))
+passes_fit b s t cuts left h = All-weaker IsSound (λ (k : Block). k.passes < 2 ^ 16) few (blocks_of_tile s (geometry s t) (founds_of (geometry s t) cuts)) (sound_cuts b s t cuts left h)
   where
     few : (k : Block) → IsSound k → k.passes < 2 ^ 16
     few k is =
@@ -354,7 +354,7 @@ of_blocks g (f ∷ founds) h all =
     )
 
 pub put_cuts : (b : List ℕ) (s : Stream) (t : ℕ) (cuts : List Cut) (left : Left) → IsBegun b s t cuts left →
-    put_all (tile_blocks s (geometry s t) []) (founds_of (geometry s t) cuts) ≡ tile_blocks s (geometry s t) (founds_of (geometry s t) cuts)
+    put_all (blocks_of_tile s (geometry s t) []) (founds_of (geometry s t) cuts) ≡ blocks_of_tile s (geometry s t) (founds_of (geometry s t) cuts)
 put_cuts b s t cuts left h =
     put_found s (geometry s t) (founds_of (geometry s t) cuts) (tiled s (geometry s t) h.limits)
     (All-from_recursion (IsOfBlock (geometry s t)) (founds_of (geometry s t) cuts) (of_blocks (geometry s t) (founds_of (geometry s t) cuts) h.limits (begun_leaves b s t cuts left h)))
@@ -367,7 +367,7 @@ read_begun b s t cuts rest left read short tile totals list are =
     begun b s t cuts rest left range (geometry_fits s t range totals tile) tile short (read_data b s t read tile) list are
 
 pub sound_blocks : (b : List ℕ) (s : Stream) (t : ℕ) (cuts : List Cut) → IsRead b s → length b ≤ 2 ^ 28 → t < tile_number s.siz → totals_fault s ≡ None → IsCutUp b s t cuts →
-    All IsSound (tile_blocks s (geometry s t) (founds_of (geometry s t) cuts))
+    All IsSound (blocks_of_tile s (geometry s t) (founds_of (geometry s t) cuts))
 sound_blocks b s t cuts read short tile totals up =
     sound_cuts b s t cuts up.end (read_begun b s t cuts [] up.end read short tile totals (subst (λ (l : List PacketName). IsListOf s t l) (sym (append-nil (names_of cuts))) up.order) up.are)
 

@@ -7,7 +7,7 @@ use Rattle.std.proofs.lemmas.List.Elements.{All-head, All-tail, All-cons, All-we
 use Rattle.std.proofs.lemmas.Option.{get_or_from_slice_get, slice_get-get_or, slice_get_within}
 use Rattle.jx_base.specs.declared.pieces.Block.{Block}
 use Rattle.jx_geom.specs.Geometry.{Geometry, GeometryInRange, rect_of_tile}
-use Rattle.jx_geom.specs.Counts.{tile_blocks as count_in_tile}
+use Rattle.jx_geom.specs.Counts.{tile_blocks}
 use Rattle.jx_packet_header.specs.declared.Part.{Part}
 use Rattle.jx_packet_header.specs.Packet.{State}
 use Rattle.jx_packet_header.specs.Precinct.{IsState, all_blocks}
@@ -23,7 +23,7 @@ use Rattle.jx_geom.specs.Precincts.{HasPrecinct, leaf_number}
 use Rattle.jx_geom.specs.Precincts.{leaves}
 use Rattle.jx_tier2_reader.specs.Data.{window, due, behind, end_of_data, front_length, header_in, parts_length}
 use Rattle.jx_tier2_reader.specs.Cuts.{Cut, Left, IsCut, IsTurn, AreCuts, names_of, number_of, Breaks}
-use Rattle.jx_tier2_reader.specs.Blocks.{Found, founds_from, founds_in, founds_of, tile_blocks}
+use Rattle.jx_tier2_reader.specs.Blocks.{Found, founds_from, founds_in, founds_of, blocks_of_tile}
 use Rattle.jx_tier2_reader.specs.Put.{put_one, put_all}
 use Rattle.jx_tier2_reader.specs.Gathered.{IsListOf, AreTileBlocks, BreaksTile, start}
 use Rattle.jx_tier2_reader.specs.Reading.{cut_of, CanPut, state_at, no_state, AreInside, IsFront, IsTask}
@@ -270,7 +270,7 @@ next_front b s g list number left blocks d packet after new more task lt front s
       cut = (let e : number ≡ 0 + length front.cuts = omega arith in subst M e step.cut);
       new_is = refl;
     } in
-    let base : List Block = tile_blocks s (geometry s t) [] in
+    let base : List Block = blocks_of_tile s (geometry s t) [] in
     record {
       cuts = front.cuts ++ c ∷ [];
       names = names_on front.cuts c ∙ ap (λ (xs : List PacketName). xs ++ p ∷ []) front.names ∙ sym (take_more list number d lt);
@@ -294,7 +294,7 @@ front_begun b s g list number left blocks task front =
     (subst L whole task.order) front.are
 
 front_blocks : (b : List ℕ) (s : Stream) (g : Geometry) (list : List PacketName) (number : ℕ) (left : Left) (blocks : List Block) → IsTask b s g list
-    → (front : IsFront b s g.tile (take number list) left blocks) → blocks ≡ tile_blocks s (geometry s g.tile) (founds_of (geometry s g.tile) front.cuts)
+    → (front : IsFront b s g.tile (take number list) left blocks) → blocks ≡ blocks_of_tile s (geometry s g.tile) (founds_of (geometry s g.tile) front.cuts)
 front_blocks b s g list number left blocks task front = front.blocks_are ∙ put_cuts b s g.tile front.cuts front.mid (front_begun b s g list number left blocks task front)
 
 front_few : (b : List ℕ) (s : Stream) (g : Geometry) (list : List PacketName) (number : ℕ) (left : Left) (blocks : List Block) → IsTask b s g list
@@ -304,9 +304,9 @@ front_few b s g list number left blocks task front =
     subst F (sym (front_blocks b s g list number left blocks task front)) (passes_fit b s g.tile front.cuts front.mid (front_begun b s g list number left blocks task front))
 
 front_long : (b : List ℕ) (s : Stream) (t : ℕ) (done : List PacketName) (left : Left) (blocks : List Block) → IsFront b s t done left blocks
-    → length blocks ≡ count_in_tile (rect_of_tile (geometry s t)) (geometry s t).shapes
+    → length blocks ≡ tile_blocks (rect_of_tile (geometry s t)) (geometry s t).shapes
 front_long b s t done left blocks front =
-    ap length front.blocks_are ∙ put_long (tile_blocks s (geometry s t) []) (founds_of (geometry s t) front.cuts) ∙ blocks_long s (geometry s t) []
+    ap length front.blocks_are ∙ put_long (blocks_of_tile s (geometry s t) []) (founds_of (geometry s t) front.cuts) ∙ blocks_long s (geometry s t) []
 
 founds_below : (g : Geometry) (p : PacketName) (k : State) (m count : ℕ) (bytes : List ℕ) (parts : List Part) → ((j : ℕ) → j < count → leaf_number g p.comp p.res p.precinct j < m)
     → All (λ (part : Part). part.block < count) parts → All (λ (f : Found). f.number < m) (founds_from g p k bytes parts)
@@ -331,11 +331,11 @@ can_put b s g list number left blocks d packet after new task lt front step =
     let is : IsReady g left.states step.n p = ready_at b s g list number left blocks d left.states step.n task lt front refl step.number_is in
     let range : GeometryInRange (geometry s g.tile) = geometry_fits s g.tile task.range task.totals task.below in
     let R : Geometry → Type 0 = λ x. GeometryInRange x in
-    let B : Geometry → Type 0 = λ x. length blocks ≡ count_in_tile (rect_of_tile x) x.shapes in
-    let long : length blocks ≡ count_in_tile (rect_of_tile g) g.shapes = subst B (sym task.geometry_is) (front_long b s g.tile (take number list) left blocks front) in
+    let B : Geometry → Type 0 = λ x. length blocks ≡ tile_blocks (rect_of_tile x) x.shapes in
+    let long : length blocks ≡ tile_blocks (rect_of_tile g) g.shapes = subst B (sym task.geometry_is) (front_long b s g.tile (take number list) left blocks front) in
     let C : ℕ → Type 0 = λ m. All (λ (part : Part). part.block < m) packet.parts.items in
     let low : (j : ℕ) → j < leaves g p.comp p.res p.precinct → leaf_number g p.comp p.res p.precinct j < length blocks = λ j lt.
-    (let below : leaf_number g p.comp p.res p.precinct j < count_in_tile (rect_of_tile g) g.shapes = leaf_below g p.comp p.res p.precinct j (subst R (sym task.geometry_is) range) is.precinct lt in omega arith) in
+    (let below : leaf_number g p.comp p.res p.precinct j < tile_blocks (rect_of_tile g) g.shapes = leaf_below g p.comp p.res p.precinct j (subst R (sym task.geometry_is) range) is.precinct lt in omega arith) in
     record {
       there = founds_below g p after (length blocks) (leaves g p.comp p.res p.precinct) packet.bytes.now packet.parts.items low
           (subst C is.leaves_are (parts_there b g number left p packet after new step));
@@ -359,7 +359,7 @@ all_read b s g list number left blocks task ge front none =
 
 -- no packet
 pub first_front : (b : List ℕ) (s : Stream) (g : Geometry) (left : Left) (blocks : List Block) → g ≡ geometry s g.tile → due left.bodies ≡ due (tile_at s g.tile).bodies
-    → left.states ≡ (start s g.tile).states → blocks ≡ tile_blocks s g [] → IsFront b s g.tile [] left blocks
+    → left.states ≡ (start s g.tile).states → blocks ≡ blocks_of_tile s g [] → IsFront b s g.tile [] left blocks
 unfolding founds_of
 first_front b s g left blocks geometry_is bodies states same = record {
   cuts = [];
@@ -368,7 +368,7 @@ first_front b s g left blocks geometry_is bodies states same = record {
   are = refl;
   due_are = sym bodies;
   states_are = sym states;
-  blocks_are = same ∙ ap (λ (x : Geometry). tile_blocks s x []) geometry_is;
+  blocks_are = same ∙ ap (λ (x : Geometry). blocks_of_tile s x []) geometry_is;
 }
 
 -- ---- after a packet

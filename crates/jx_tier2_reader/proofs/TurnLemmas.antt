@@ -9,7 +9,7 @@ use Rattle.jx_packet_header.specs.declared.Part.{Part}
 use Rattle.jx_packet_header.specs.Packet.{State, IsPacket}
 use Rattle.jx_packet_header.specs.Precinct.{IsState, all_blocks}
 use Rattle.jx_progression.specs.declared.names.PacketName.{PacketName}
-use Rattle.jx_progression.specs.Packets.{IsPacket as IsNamed, SamePrecinct, LayersRise, IsCovered}
+use Rattle.jx_progression.specs.Packets.{IsPacketName, SamePrecinct, LayersRise, IsCovered}
 use Rattle.jx_progression.specs.Steps.{name_of}
 use Rattle.jx_progression.proofs.OrderLemmas.{order_to, order_from}
 use Rattle.jx_progression.proofs.RiseLemmas.{order_rises}
@@ -41,16 +41,16 @@ pub record Keeps (b : List ℕ) : Type 0 where
 
 -- ---- a tile's list
 pub record Listed (g : Geometry) (layers : ℕ) (list : List PacketName) : Type 0 where
-  pub every : (p : PacketName) → Contains list p ↔ IsNamed g layers p
+  pub every : (p : PacketName) → Contains list p ↔ IsPacketName g layers p
   pub rise : LayersRise list
 
 pub listed : (s : Stream) (t : ℕ) (list : List PacketName) → IsListOf s t list → IsWhole s t → Listed (geometry s t) (layers_of s t) list
 listed s t list order whole =
     let entries = (tile_at s t).progressions in
-    let from : (p : PacketName) → Contains list p → IsNamed (geometry s t) (layers_of s t) p = λ p c.
+    let from : (p : PacketName) → Contains list p → IsPacketName (geometry s t) (layers_of s t) p = λ p c.
     (let sent = order_to (geometry s t) (layers_of s t) entries (length entries) list order p c in
     sent.packet) in
-    let to : (p : PacketName) → IsNamed (geometry s t) (layers_of s t) p → Contains list p = λ p is.
+    let to : (p : PacketName) → IsPacketName (geometry s t) (layers_of s t) p → Contains list p = λ p is.
     (let covered : IsCovered entries p = whole p is in
     order_from (geometry s t) (layers_of s t) entries (length entries) list order p
     (record { packet = is; entry = covered.0; below = covered.1; covers = covered.2 })) in
@@ -89,10 +89,10 @@ start_known s t layers p c r k has = record {
 }
 
 -- ---- a packet that is due
-pub has_precinct : (g : Geometry) (layers : ℕ) (p : PacketName) → IsNamed g layers p → HasPrecinct g p.comp p.res p.precinct
+pub has_precinct : (g : Geometry) (layers : ℕ) (p : PacketName) → IsPacketName g layers p → HasPrecinct g p.comp p.res p.precinct
 has_precinct g layers p is = record { resolution = is.resolution; precinct = is.precinct }
 
-pub due_named : (g : Geometry) (layers : ℕ) (list done rest : List PacketName) (p : PacketName) → Listed g layers list → list ≡ done ++ (p ∷ rest) → IsNamed g layers p
+pub due_named : (g : Geometry) (layers : ℕ) (list done rest : List PacketName) (p : PacketName) → Listed g layers list → list ≡ done ++ (p ∷ rest) → IsPacketName g layers p
 due_named g layers list done rest p h e =
     let P : List PacketName → Type 0 = λ xs. Contains xs p in
     (h.every p).0 (subst P (sym e) (Contains-append_right done (p ∷ rest) p (contains_head p rest)))
@@ -103,7 +103,7 @@ pub lower_done : (g : Geometry) (layers : ℕ) (list done rest : List PacketName
 lower_done g layers list done rest p l h e lt =
     let is = due_named g layers list done rest p h e in
     let q : PacketName = name_of l p.res p.comp p.precinct in
-    let named : IsNamed g layers q = record { layer = omega (arith, is.layer); resolution = is.resolution; precinct = is.precinct } in
+    let named : IsPacketName g layers q = record { layer = omega (arith, is.layer); resolution = is.resolution; precinct = is.precinct } in
     let C : List PacketName → Type 0 = λ xs. Contains xs q in
     let R : PacketName → PacketName → Type 0 = λ a b. (SamePrecinct a b → a.layer < b.layer) in
     let A : List PacketName → Type 0 = λ xs. AllPairs R xs in
@@ -230,7 +230,7 @@ other_turned b g layers done number old c new e r k state other t was =
     }
 
 -- what holds of the packet's own precinct and of each other holds of all
-pub each_precinct : (s : Stream) (g : Geometry) (layers : ℕ) (p : PacketName) (P : ℕ → ℕ → ℕ → Type 0) → Precincts s g → IsNamed g layers p
+pub each_precinct : (s : Stream) (g : Geometry) (layers : ℕ) (p : PacketName) (P : ℕ → ℕ → ℕ → Type 0) → Precincts s g → IsPacketName g layers p
     → P p.comp p.res p.precinct → ((d r k : ℕ) → HasPrecinct g d r k → (number_of g p ≡ precinct_number g d r k → ⊥) → P d r k)
     → (d r k : ℕ) → HasPrecinct g d r k → P d r k
 each_precinct s g layers p P places is here others d r k has = elim (cases_eq (number_of g p) (precinct_number g d r k)) [
@@ -248,7 +248,7 @@ pub turn_known : (b : List ℕ) (s : Stream) (g : Geometry) (layers : ℕ) (list
     → AllKnown s g layers done old.states → IsTurn b g number old c new → AllKnown s g layers (done ++ c.name ∷ []) new.states
 turn_known b s g layers list done rest number old c new places keeps h e all t =
     let p : PacketName = c.name in
-    let is : IsNamed g layers p = due_named g layers list done rest p h e in
+    let is : IsPacketName g layers p = due_named g layers list done rest p h e in
     each_precinct s g layers p (λ d r k. Known s g layers (done ++ p ∷ []) new.states d r k) places is
     (own_known b s g layers list done rest number old c new keeps h e (all p.comp p.res p.precinct (has_precinct g layers p is)) t)
     (λ d r k has other. (let was = all d r k has in record {

@@ -21,8 +21,8 @@ unfoldable pub pieces_at : ℕ → List PieceValue → List PieceValue
 pieces_at layer pieces = filter (λ (p : PieceValue). p.layer == layer) pieces
 
 -- in each layer the passes are cut into pieces exactly after each pass that ends a segment (B.10.7)
-abbrev pub AreCutAtEnds : ℕ → List PieceValue → Type 0
-AreCutAtEnds style pieces = (layer : ℕ) → map (λ (p : PieceValue). p.passes) (pieces_at layer pieces) ≡ cut style (passes_below layer pieces) (passes_at layer pieces)
+abbrev pub AreCutAsRead : ℕ → List PieceValue → Type 0
+AreCutAsRead style pieces = (layer : ℕ) → map (λ (p : PieceValue). p.passes) (pieces_at layer pieces) ≡ cut style (passes_below layer pieces) (passes_at layer pieces)
 
 pub record IsBlockOf (s : Stream) (n : BlockName) (block : Block) : Type 0 where
   pub name : block.name ≡ n
@@ -32,7 +32,7 @@ pub record IsBlockOf (s : Stream) (n : BlockName) (block : Block) : Type 0 where
   pub empty : block.pieces ≡ [] → block.zero ≡ block.planes
   pub layers : All (λ (p : PieceValue). p.layer < layers_of s n.tile) block.pieces
   pub few : (layer : ℕ) → passes_at layer block.pieces ≤ 164
-  pub cuts : AreCutAtEnds block.style.bits block.pieces
+  pub cuts : AreCutAsRead block.style.bits block.pieces
 
 abbrev pub IsFoundOf : Stream → BlockName → Option Block → Type 0
 IsFoundOf s n None = ⊥

@@ -87,14 +87,14 @@ block_of s g founds n = block_with s g n (own_founds (number_in_tile g n) founds
 abbrev pub one_block : Stream → Geometry → List Found → ℕ → ℕ → Band → ℕ → List Block
 one_block s g founds c r b i = block_of s g founds (record { tile = g.tile; comp = c; res = r; band = b; index = i }) ∷ []
 
-unfoldable pub band_blocks : Stream → Geometry → List Found → ℕ → ℕ → Band → List Block
-band_blocks s g founds c r b = joined (one_block s g founds c r b) 0 (size_of (blocks_in g c r b))
+unfoldable pub blocks_of_band : Stream → Geometry → List Found → ℕ → ℕ → Band → List Block
+blocks_of_band s g founds c r b = joined (one_block s g founds c r b) 0 (size_of (blocks_in g c r b))
 
-unfoldable pub resolution_blocks : Stream → Geometry → List Found → ℕ → ℕ → List Block
-resolution_blocks s g founds c r = flat_map (band_blocks s g founds c r) (bands_at r)
+unfoldable pub blocks_of_resolution : Stream → Geometry → List Found → ℕ → ℕ → List Block
+blocks_of_resolution s g founds c r = flat_map (blocks_of_band s g founds c r) (bands_at r)
 
-unfoldable pub component_blocks : Stream → Geometry → List Found → ℕ → List Block
-component_blocks s g founds c = joined (resolution_blocks s g founds c) 0 ((shape_of g c).levels + 1)
+unfoldable pub blocks_of_component : Stream → Geometry → List Found → ℕ → List Block
+blocks_of_component s g founds c = joined (blocks_of_resolution s g founds c) 0 ((shape_of g c).levels + 1)
 
-unfoldable pub tile_blocks : Stream → Geometry → List Found → List Block
-tile_blocks s g founds = joined (component_blocks s g founds) 0 (length g.shapes)
+unfoldable pub blocks_of_tile : Stream → Geometry → List Found → List Block
+blocks_of_tile s g founds = joined (blocks_of_component s g founds) 0 (length g.shapes)

@@ -8,7 +8,7 @@ use Rattle.jx_base.specs.Pieces.{PieceValue}
 use Rattle.jx_geom.specs.Numbering.{blocks_below}
 use Rattle.jx_packet_header.specs.declared.Part.{Part}
 use Rattle.jx_progression.specs.declared.names.PacketName.{PacketName}
-use Rattle.jx_progression.specs.Packets.{IsPacket as IsNamed}
+use Rattle.jx_progression.specs.Packets.{IsPacketName}
 use Rattle.jx_codestream.specs.declared.Stream.{Stream}
 use Rattle.jx_codestream.specs.First.{canvas_of}
 use Rattle.jx_codestream.specs.Shapes.{geometry, shapes_of, layers_of}
@@ -52,4 +52,4 @@ pub record Carries (s : Stream) (t : ℕ) (blocks : List Block) (ps : Packets) (
 
 -- all packets of a tile do
 abbrev pub AllCarry : Stream → ℕ → List Block → Packets → Type 0
-AllCarry s t blocks ps = (p : PacketName) → IsNamed (geometry s t) (layers_of s t) p → Carries s t blocks ps p
+AllCarry s t blocks ps = (p : PacketName) → IsPacketName (geometry s t) (layers_of s t) p → Carries s t blocks ps p

@@ -13,7 +13,7 @@ use Rattle.jx_tier2_reader.specs.Totals.{totals_fault}
 use Rattle.jx_tier2_reader.specs.Cells.{fresh_precincts}
 use Rattle.jx_tier2_reader.specs.Data.{due, end_of_data}
 use Rattle.jx_tier2_reader.specs.Cuts.{Cut, Left, AreCuts, names_of, Stops}
-use Rattle.jx_tier2_reader.specs.Blocks.{founds_of, tile_blocks}
+use Rattle.jx_tier2_reader.specs.Blocks.{founds_of, blocks_of_tile}
 use Rattle.jx_base.specs.Joined.{joined}
 
 -- B.12: the packets of a tile, in the order of its progression entries
@@ -36,7 +36,7 @@ pub record IsCutUp (b : List ℕ) (s : Stream) (t : ℕ) (cuts : List Cut) : Typ
 
 -- the blocks of a tile
 abbrev pub AreTileBlocks : List ℕ → Stream → ℕ → List Block → Type 0
-AreTileBlocks b s t blocks = (cuts : List Cut) × IsCutUp b s t cuts × (blocks ≡ tile_blocks s (geometry s t) (founds_of (geometry s t) cuts))
+AreTileBlocks b s t blocks = (cuts : List Cut) × IsCutUp b s t cuts × (blocks ≡ blocks_of_tile s (geometry s t) (founds_of (geometry s t) cuts))
 
 -- the blocks of a codestream, in the order of their numbers: each tile's packets are covered and read
 pub record IsGathered (b : List ℕ) (s : Stream) (blocks : List Block) : Type 0 where

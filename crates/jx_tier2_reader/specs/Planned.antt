@@ -28,17 +28,17 @@ abbrev pub leaf_in : Stream → ℕ → List Block → ℕ → ℕ → ℕ → �
 leaf_in s t blocks c r k j = leaf_from j (block_in s t blocks (name_of 0 r c k) j)
 
 -- those of a precinct
-unfoldable pub leaves_in : Stream → ℕ → List Block → ℕ → ℕ → ℕ → List Leafed
-leaves_in s t blocks c r k = map (leaf_in s t blocks c r k) (range_with_len 0 (leaves (geometry s t) c r k))
+unfoldable pub leaves_of_blocks : Stream → ℕ → List Block → ℕ → ℕ → ℕ → List Leafed
+leaves_of_blocks s t blocks c r k = map (leaf_in s t blocks c r k) (range_with_len 0 (leaves (geometry s t) c r k))
 
 -- one precinct of a tile is written from the blocks: in each layer the state before its packet, its header, of what parts the header
 -- tells, and the coded bytes
 pub record IsPlanned (s : Stream) (t : ℕ) (blocks : List Block) (ps : Packets) (c r k : ℕ) : Type 0 where
   pub before : (l : ℕ) → l ≤ layers_of s t
-      → ps.before (name_of l r c k) ≡ state_at (layers_of s t) (style_of s t c) (precinct_bands s (geometry s t) c r k) (leaves_in s t blocks c r k) l
+      → ps.before (name_of l r c k) ≡ state_at (layers_of s t) (style_of s t c) (precinct_bands s (geometry s t) c r k) (leaves_of_blocks s t blocks c r k) l
   pub headers : (l : ℕ) → l < layers_of s t
-      → (ps.written (name_of l r c k)).header ≡ header_at (layers_of s t) (style_of s t c) (precinct_bands s (geometry s t) c r k) (leaves_in s t blocks c r k) l
-  pub parts : (l : ℕ) → l < layers_of s t → (ps.written (name_of l r c k)).parts ≡ parts_at l (leaves_in s t blocks c r k)
+      → (ps.written (name_of l r c k)).header ≡ header_at (layers_of s t) (style_of s t c) (precinct_bands s (geometry s t) c r k) (leaves_of_blocks s t blocks c r k) l
+  pub parts : (l : ℕ) → l < layers_of s t → (ps.written (name_of l r c k)).parts ≡ parts_at l (leaves_of_blocks s t blocks c r k)
   pub bytes : (l : ℕ) → l < layers_of s t
       → (ps.written (name_of l r c k)).bytes ≡ joined (bytes_of s t blocks (name_of l r c k)) 0 (leaves (geometry s t) c r k)
 

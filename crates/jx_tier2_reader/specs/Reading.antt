@@ -18,7 +18,7 @@ use Rattle.jx_tier2_reader.specs.Gathered.{IsListOf, IsWhole, start}
 use Rattle.jx_codestream.specs.InRange.{StreamInRange}
 use Rattle.jx_tier2_reader.specs.InRange.{DataInRange}
 use Rattle.jx_tier2_reader.specs.Totals.{totals_fault}
-use Rattle.jx_tier2_reader.specs.Blocks.{Found, zero_in, founds_of, tile_blocks}
+use Rattle.jx_tier2_reader.specs.Blocks.{Found, zero_in, founds_of, blocks_of_tile}
 use Rattle.jx_tier2_reader.specs.Put.{put_all}
 
 abbrev pub cut_of : PacketName → Packet → State → Cut
@@ -61,7 +61,7 @@ pub record IsFront (b : List ℕ) (s : Stream) (t : ℕ) (done : List PacketName
   pub are : AreCuts b (geometry s t) 0 (start s t) cuts mid
   pub due_are : due mid.bodies ≡ due left.bodies
   pub states_are : mid.states ≡ left.states
-  pub blocks_are : blocks ≡ put_all (tile_blocks s (geometry s t) []) (founds_of (geometry s t) cuts)
+  pub blocks_are : blocks ≡ put_all (blocks_of_tile s (geometry s t) []) (founds_of (geometry s t) cuts)
 
 -- what a tile's packets are read by
 pub record IsTask (b : List ℕ) (s : Stream) (g : Geometry) (list : List PacketName) : Type 0 where

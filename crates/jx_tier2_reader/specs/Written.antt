@@ -8,7 +8,7 @@ use Rattle.jx_base.specs.Markers.{HasNoMarker}
 use Rattle.jx_packet_header.specs.declared.Part.{Part}
 use Rattle.jx_packet_header.specs.Packet.{State, IsPacket}
 use Rattle.jx_progression.specs.declared.names.PacketName.{PacketName}
-use Rattle.jx_progression.specs.Packets.{IsPacket as IsNamed}
+use Rattle.jx_progression.specs.Packets.{IsPacketName}
 use Rattle.jx_progression.specs.Steps.{name_of}
 use Rattle.jx_codestream.specs.declared.Body.{Body}
 use Rattle.jx_codestream.specs.declared.Stream.{Stream}
@@ -18,7 +18,7 @@ use Rattle.jx_tier2_reader.specs.Cells.{fresh_precinct}
 use Rattle.jx_geom.specs.Precincts.{HasPrecinct}
 use Rattle.jx_tier2_reader.specs.Data.{window, parts_length}
 use Rattle.jx_tier2_reader.specs.Cuts.{Cut}
-use Rattle.jx_tier2_reader.specs.Blocks.{founds_of, tile_blocks}
+use Rattle.jx_tier2_reader.specs.Blocks.{founds_of, blocks_of_tile}
 use Rattle.jx_tier2_reader.specs.Gathered.{IsListOf}
 use Rattle.jx_marker.specs.Codes.{sop_spelling, eph_spelling}
 
@@ -60,7 +60,7 @@ pub record IsWritten (ps : Packets) (p : PacketName) : Type 0 where
 -- all packets of a tile: each precinct begins fresh
 pub record AreWritten (s : Stream) (t : ℕ) (ps : Packets) : Type 0 where
   pub first : (c r k : ℕ) → HasPrecinct (geometry s t) c r k → ps.before (name_of 0 r c k) ≡ fresh_precinct s (geometry s t) c r k
-  pub each : (p : PacketName) → IsNamed (geometry s t) (layers_of s t) p → IsWritten ps p
+  pub each : (p : PacketName) → IsPacketName (geometry s t) (layers_of s t) p → IsWritten ps p
 
 -- packets one after another, from that of a number in its tile on
 abbrev pub bytes_from : Packets → ℕ → List PacketName → List ℕ
@@ -102,7 +102,7 @@ cuts_at ps list = map (cut_at ps) list
 
 -- the blocks of all tiles, as such packets tell of them
 abbrev pub laid_in : Stream → (ℕ → Packets) → (ℕ → List (List PacketName)) → ℕ → List Block
-laid_in s packets groups t = tile_blocks s (geometry s t) (founds_of (geometry s t) (cuts_at (packets t) (packets_in (groups t))))
+laid_in s packets groups t = blocks_of_tile s (geometry s t) (founds_of (geometry s t) (cuts_at (packets t) (packets_in (groups t))))
 
 unfoldable pub laid_blocks : Stream → (ℕ → Packets) → (ℕ → List (List PacketName)) → List Block
 laid_blocks s packets groups = joined (laid_in s packets groups) 0 (tile_number s.siz)

@@ -3,7 +3,7 @@
 ghost use Rattle.std.specs.Prelude.{◌≡◌, ◌≢◌, ◌<◌, ◌↔◌, ℕ, IfOk, IfErr, OnOk, None};
 ghost use Rattle.std.specs.List.{AllPairs, Contains};
 ghost use Rattle.jx_progression.specs.declared.names.PacketName.{PacketName};
-ghost use Rattle.jx_progression.specs.Packets.{HasUncovered, IsPacket};
+ghost use Rattle.jx_progression.specs.Packets.{HasUncovered, IsPacketName};
 ghost use Rattle.jx_codestream.specs.First.{tile_number};
 ghost use Rattle.jx_tier2_reader.specs.Faults.{HasCause};
 ghost use Rattle.jx_codestream.specs.InRange.{StreamInRange};
@@ -35,7 +35,7 @@ pub(crate) fn list_of(
     requires geometry { geom.now ≡ geometry stream.now geom.now.tile }
     ensures order { IfOk result (λ list. IsListOf stream.now geom.now.tile list.items) }
     ensures whole { OnOk result (IsWhole stream.now geom.now.tile) }
-    ensures every { IfOk result (λ list. (p : PacketName) → Contains list.items p ↔ IsPacket geom.now (layers_of stream.now geom.now.tile) p) }
+    ensures every { IfOk result (λ list. (p : PacketName) → Contains list.items p ↔ IsPacketName geom.now (layers_of stream.now geom.now.tile) p) }
     ensures once { IfOk result (λ list. AllPairs (λ p q. p ≢ q) list.items) }
     ensures uncovered { IfErr result (λ fault. HasCause (LacksPacket stream.now geom.now.tile) fault) }
 {

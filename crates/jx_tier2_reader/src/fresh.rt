@@ -6,7 +6,7 @@ ghost use Rattle.jx_geom.specs.Geometry.{GeometryInRange, HasResolution, precinc
 ghost use Rattle.jx_geom.specs.Ranges.{HasBand};
 ghost use Rattle.jx_geom.specs.Resolutions.{resolutions_of};
 ghost use Rattle.jx_codestream.specs.First.{tile_number};
-ghost use Rattle.jx_tier2_reader.specs.Blocks.{band_blocks, resolution_blocks, tile_blocks};
+ghost use Rattle.jx_tier2_reader.specs.Blocks.{blocks_of_band, blocks_of_resolution, blocks_of_tile};
 ghost use Rattle.jx_tier2_reader.specs.Cells.{fresh_precinct, fresh_precincts, fresh_resolution, sizes_of};
 ghost use Rattle.jx_geom.specs.Precincts.{HasPrecinct, cells_at};
 ghost use Rattle.jx_tier2_reader.specs.Coding.{IsCoding};
@@ -174,7 +174,7 @@ fn fresh_block<'a>(alloc: Global, block: BlockName, places: Rect, bits: Style, a
 }
 
 /// Appends the code-blocks of a band.
-#[tactic(auto, using(jx_base::proofs::Joined::joined_none, jx_base::proofs::Joined::joined_next), unfolding(crate::specs::Blocks::band_blocks))]
+#[tactic(auto, using(jx_base::proofs::Joined::joined_none, jx_base::proofs::Joined::joined_next), unfolding(crate::specs::Blocks::blocks_of_band))]
 fn push_band<'a>(
     alloc: Global,
     stream: &Stream,
@@ -191,7 +191,7 @@ fn push_band<'a>(
     requires geometry { geom.now ≡ geometry stream.now geom.now.tile }
     requires res { HasResolution geom.now comp res }
     requires band { HasBand res band }
-    ensures { OnOk result (list.new.items ≡ list.old.items ++ band_blocks stream.now geom.now [] comp res band) }
+    ensures { OnOk result (list.new.items ≡ list.old.items ++ blocks_of_band stream.now geom.now [] comp res band) }
 {
     let tile = geom.number();
     let style = view.style(comp);
@@ -226,7 +226,7 @@ fn push_bands<'a>(
     requires tile { geom.now.tile < tile_number stream.now.siz }
     requires geometry { geom.now ≡ geometry stream.now geom.now.tile }
     requires res { HasResolution geom.now comp res }
-    ensures { OnOk result (list.new.items ≡ list.old.items ++ resolution_blocks stream.now geom.now [] comp res) }
+    ensures { OnOk result (list.new.items ≡ list.old.items ++ blocks_of_resolution stream.now geom.now [] comp res) }
 {
     if res == 0 {
         return push_band(alloc, stream, view, geom, comp, res, Band::LL, list);
@@ -271,7 +271,7 @@ pub(crate) fn blocks_of<'a>(
     requires range { StreamInRange stream.now }
     requires tile { geom.now.tile < tile_number stream.now.siz }
     requires geometry { geom.now ≡ geometry stream.now geom.now.tile }
-    ensures { IfOk result (λ list. list.items ≡ tile_blocks stream.now geom.now []) }
+    ensures { IfOk result (λ list. list.items ≡ blocks_of_tile stream.now geom.now []) }
 {
     let rows = geom.resolutions();
     let mut list = Vec::with_capacity(alloc, room_of(geom, rows))?;

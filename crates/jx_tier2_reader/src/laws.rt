@@ -20,7 +20,7 @@ ghost use Rattle.jx_tier2_reader.specs.BlockOf.{AreBlocksOf};
 ghost use Rattle.jx_tier2_reader.specs.Cells.{precinct_bands};
 ghost use Rattle.jx_geom.specs.Precincts.{HasPrecinct};
 ghost use Rattle.jx_tier2_reader.specs.Carries.{AllCarry};
-ghost use Rattle.jx_tier2_reader.specs.Planned.{ArePlanned, leaves_in};
+ghost use Rattle.jx_tier2_reader.specs.Planned.{ArePlanned, leaves_of_blocks};
 ghost use Rattle.jx_tier2_reader.specs.WellFormed.{IsWellFormed};
 ghost use Rattle.jx_tier2_reader.specs.Written.{AreFilled, AreWritten, IsLaid, Packets, cuts_at, laid_blocks, packets_in};
 
@@ -97,9 +97,9 @@ pub fn blocks_of_another()
 pub fn blocks_fit()
     ensures fit { (b : List ℕ) (s : Stream) (t : ℕ) (blocks : List Block) (c r k : ℕ) → IsRead b s → totals_fault s ≡ None → t < tile_number s.siz → AreBlocksOf s blocks
         → All IsSound blocks → HasPrecinct (geometry s t) c r k
-        → LeavesFit (style_of s t c) (layers_of s t) (precinct_bands s (geometry s t) c r k) (leaves_in s t blocks c r k) }
+        → LeavesFit (style_of s t c) (layers_of s t) (precinct_bands s (geometry s t) c r k) (leaves_of_blocks s t blocks c r k) }
     ensures types { (b : List ℕ) (s : Stream) (t : ℕ) (blocks : List Block) (c r k : ℕ) → IsRead b s → totals_fault s ≡ None → t < tile_number s.siz → AreBlocksOf s blocks
-        → All IsSound blocks → HasPrecinct (geometry s t) c r k → InTypes (layers_of s t) (leaves_in s t blocks c r k) }
+        → All IsSound blocks → HasPrecinct (geometry s t) c r k → InTypes (layers_of s t) (leaves_of_blocks s t blocks c r k) }
 {}
 
 /// Packets of which each precinct's headers are written from the blocks, as `jx_packet_header` writes them, and whose coded bytes are those of

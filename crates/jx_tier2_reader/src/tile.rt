@@ -7,7 +7,7 @@ ghost use Rattle.jx_codestream.specs.Params.{headers_at};
 ghost use Rattle.jx_codestream.specs.Shapes.{geometry, tile_at};
 ghost use Rattle.jx_tier2_reader.specs.Totals.{totals_fault};
 ghost use Rattle.jx_tier2_reader.specs.Data.{window, end_of_data};
-ghost use Rattle.jx_tier2_reader.specs.Blocks.{tile_blocks};
+ghost use Rattle.jx_tier2_reader.specs.Blocks.{blocks_of_tile};
 ghost use Rattle.jx_tier2_reader.specs.Gathered.{AreTileBlocks, BreaksTile, IsListOf, IsWhole};
 ghost use Rattle.jx_tier2_reader.specs.InRange.{DataInRange};
 ghost use Rattle.jx_codestream.specs.InRange.{StreamInRange};
@@ -141,7 +141,7 @@ pub(crate) fn read_tile<'a>(
     requires order { IsListOf stream.now geom.now.tile list.now }
     requires whole { IsWhole stream.now geom.now.tile }
     requires bodies { DataInRange bytes.now (tile_at stream.now geom.now.tile).bodies }
-    requires blocks { blocks.old.items ≡ tile_blocks stream.now geom.now [] }
+    requires blocks { blocks.old.items ≡ blocks_of_tile stream.now geom.now [] }
     ensures ok { OnOk result (AreTileBlocks bytes.now stream.now geom.now.tile blocks.new.items) }
     ensures err { IfErr result (λ e. HasCause (BreaksTile bytes.now stream.now geom.now.tile) e) }
 {

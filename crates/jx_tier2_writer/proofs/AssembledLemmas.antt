@@ -12,7 +12,7 @@ use Rattle.jx_geom.specs.Precincts.{HasPrecinct, leaves, leaf_number}
 use Rattle.jx_geom.proofs.LeafLemmas.{leaf_below}
 use Rattle.jx_packet_header.specs.LeavesFit.{header_at}
 use Rattle.jx_packet_header.specs.Written.{Leafed}
-use Rattle.jx_progression.specs.Packets.{IsPacket}
+use Rattle.jx_progression.specs.Packets.{IsPacketName}
 use Rattle.jx_progression.specs.Steps.{name_of}
 use Rattle.jx_progression.specs.declared.names.PacketName.{PacketName}
 use Rattle.jx_codestream.specs.declared.Stream.{Stream}
@@ -22,15 +22,15 @@ use Rattle.jx_codestream.specs.Spells.{TilePart, part_bytes}
 use Rattle.jx_tier2_reader.specs.Carries.{block_in, bytes_of, pieces_of}
 use Rattle.jx_tier2_reader.specs.Cells.{precinct_bands}
 use Rattle.jx_tier2_reader.specs.Gathered.{IsListOf}
-use Rattle.jx_tier2_reader.specs.Planned.{leaf_from, leaf_in, leaves_in}
+use Rattle.jx_tier2_reader.specs.Planned.{leaf_from, leaf_in, leaves_of_blocks}
 use Rattle.jx_tier2_reader.specs.Written.{bytes_from, packet_bytes}
-use Rattle.jx_tier2_writer.specs.Assembled.{AreOwn, AreTileBytes, IsTooLong}
+use Rattle.jx_tier2_writer.specs.Assembled.{AreOwn, AreTileBytes, HasMoreBytes}
 use Rattle.jx_tier2_writer.specs.Own.{leaf_bytes, own_leaf, own_leaves}
 use Rattle.jx_tier2_writer.specs.Packed.{own_body, own_length, own_packet, own_packets, own_part, own_parts, packet_with, parts_from}
 use Rattle.jx_tier2_writer.specs.Sent.{layer_bytes}
 use Rattle.jx_tier2_writer.specs.TileParts.{AreTilePartsOf, packet_length, packet_of, packets_of, part_header, parts_with, tile_part, tile_parts}
 use Rattle.jx_tier2_writer.specs.Tile.{AreAtMost}
-use Rattle.jx_options.specs.declared.Marks.{Marks as Asked}
+use Rattle.jx_options.specs.declared.Marks.{Marks}
 use Rattle.jx_plan.specs.Groups.{groups_of}
 use Rattle.jx_plan.proofs.GroupLemmas.{groups_all}
 
@@ -51,8 +51,8 @@ map_same {X} f h a (suc n) each =
     ap (λ (x : X). x ∷ map f (range_with_len (a + 1) n)) first ∙ ap (λ (xs : List X). h a ∷ xs) rest
 
 same_leaves : (s : Stream) (t : ℕ) (blocks own : List Block) (c r k : ℕ) → GeometryInRange (geometry s t) → AreOwn s t blocks own → HasPrecinct (geometry s t) c r k
-    → leaves_in s t blocks c r k ≡ own_leaves (geometry s t) own c r k
-unfolding leaves_in own_leaves
+    → leaves_of_blocks s t blocks c r k ≡ own_leaves (geometry s t) own c r k
+unfolding leaves_of_blocks own_leaves
 same_leaves s t blocks own c r k range are has =
     map_same (leaf_in s t blocks c r k) (own_leaf (geometry s t) own c r k) 0 (leaves (geometry s t) c r k)
     (λ i lt. (let e : i ≡ 0 + i = omega arith in
@@ -67,7 +67,7 @@ same_body s t blocks own p range are has =
     (λ j lt. ap (λ (o : Option Block). layer_bytes p.layer (pieces_of o)) (same_block s t blocks own p j range are has lt))
 
 -- ---- a packet
-same_packet : (m : Asked) (s : Stream) (t : ℕ) (blocks own : List Block) (p : PacketName) (n : ℕ) → GeometryInRange (geometry s t) → AreOwn s t blocks own → IsPacket (geometry s t) (layers_of s t) p
+same_packet : (m : Marks) (s : Stream) (t : ℕ) (blocks own : List Block) (p : PacketName) (n : ℕ) → GeometryInRange (geometry s t) → AreOwn s t blocks own → IsPacketName (geometry s t) (layers_of s t) p
     → packet_bytes n (packet_of m s t blocks p) ≡ packet_bytes n (own_packet m s (geometry s t) own p)
 same_packet m s t blocks own p n range are is =
     let has : HasPrecinct (geometry s t) p.comp p.res p.precinct = record { resolution = is.resolution; precinct = is.precinct } in
@@ -75,16 +75,16 @@ same_packet m s t blocks own p n range are is =
     ap (λ (lvs : List Leafed). packet_with m n (header lvs) (joined (bytes_of s t blocks p) 0 (leaves (geometry s t) p.comp p.res p.precinct))) (same_leaves s t blocks own p.comp p.res p.precinct range are has)
     ∙ ap (λ (b : List ℕ). packet_with m n (header (own_leaves (geometry s t) own p.comp p.res p.precinct)) b) (same_body s t blocks own p range are has)
 
-same_bytes : (m : Asked) (s : Stream) (t : ℕ) (blocks own : List Block) (n : ℕ) (names : List PacketName) → GeometryInRange (geometry s t) → AreOwn s t blocks own
-    → AllByRecursion (IsPacket (geometry s t) (layers_of s t)) names → bytes_from (packets_of m s t blocks) n names ≡ bytes_from (own_packets m s (geometry s t) own) n names
+same_bytes : (m : Marks) (s : Stream) (t : ℕ) (blocks own : List Block) (n : ℕ) (names : List PacketName) → GeometryInRange (geometry s t) → AreOwn s t blocks own
+    → AllByRecursion (IsPacketName (geometry s t) (layers_of s t)) names → bytes_from (packets_of m s t blocks) n names ≡ bytes_from (own_packets m s (geometry s t) own) n names
 unfolding packets_of
 same_bytes m s t blocks own n [] range are each = refl
 same_bytes m s t blocks own n (p ∷ names) range are each =
     ap (λ (b : List ℕ). b ++ bytes_from (packets_of m s t blocks) (n + 1) names) (same_packet m s t blocks own p n range are each.0)
     ∙ ap (λ (b : List ℕ). packet_bytes n (own_packet m s (geometry s t) own p) ++ b) (same_bytes m s t blocks own (n + 1) names range are each.1)
 
-same_lengths : (m : Asked) (s : Stream) (t : ℕ) (blocks own : List Block) (names : List PacketName) → GeometryInRange (geometry s t) → AreOwn s t blocks own
-    → AllByRecursion (IsPacket (geometry s t) (layers_of s t)) names → map (packet_length (packets_of m s t blocks)) names ≡ map (own_length m s (geometry s t) own) names
+same_lengths : (m : Marks) (s : Stream) (t : ℕ) (blocks own : List Block) (names : List PacketName) → GeometryInRange (geometry s t) → AreOwn s t blocks own
+    → AllByRecursion (IsPacketName (geometry s t) (layers_of s t)) names → map (packet_length (packets_of m s t blocks)) names ≡ map (own_length m s (geometry s t) own) names
 unfolding packets_of
 same_lengths m s t blocks own [] range are each = refl
 same_lengths m s t blocks own (p ∷ names) range are each =
@@ -92,12 +92,12 @@ same_lengths m s t blocks own (p ∷ names) range are each =
     ∙ ap (λ (ns : List ℕ). own_length m s (geometry s t) own p ∷ ns) (same_lengths m s t blocks own names range are each.1)
 
 -- ---- the tile-parts
-same_parts : (m : Asked) (s : Stream) (t : ℕ) (blocks own : List Block) (part parts number : ℕ) (groups : List (List PacketName)) → GeometryInRange (geometry s t) → AreOwn s t blocks own
-    → AllByRecursion (λ (names : List PacketName). All (IsPacket (geometry s t) (layers_of s t)) names) groups
+same_parts : (m : Marks) (s : Stream) (t : ℕ) (blocks own : List Block) (part parts number : ℕ) (groups : List (List PacketName)) → GeometryInRange (geometry s t) → AreOwn s t blocks own
+    → AllByRecursion (λ (names : List PacketName). All (IsPacketName (geometry s t) (layers_of s t)) names) groups
     → parts_with m (length s.siz.comps) t (header_of s t) (packets_of m s t blocks) part parts number groups ≡ parts_from m s (geometry s t) own part parts number groups
 same_parts m s t blocks own part parts number [] range are each = refl
 same_parts m s t blocks own part parts number (names ∷ groups) range are each =
-    let rec : AllByRecursion (IsPacket (geometry s t) (layers_of s t)) names = recursion_from_All (IsPacket (geometry s t) (layers_of s t)) names each.0 in
+    let rec : AllByRecursion (IsPacketName (geometry s t) (layers_of s t)) names = recursion_from_All (IsPacketName (geometry s t) (layers_of s t)) names each.0 in
     let own_lengths : List ℕ = map (own_length m s (geometry s t) own) names in
     let later : List TilePart = parts_with m (length s.siz.comps) t (header_of s t) (packets_of m s t blocks) (part + 1) parts (number + length names) groups in
     ap (λ (ls : List ℕ). tile_part (length s.siz.comps) t part parts (part_header m (header_of s t) part ls) (bytes_from (packets_of m s t blocks) number names) ∷ later)
@@ -105,29 +105,29 @@ same_parts m s t blocks own part parts number (names ∷ groups) range are each 
     ∙ ap (λ (b : List ℕ). tile_part (length s.siz.comps) t part parts (part_header m (header_of s t) part own_lengths) b ∷ later) (same_bytes m s t blocks own number names range are rec)
     ∙ ap (λ (ps : List TilePart). own_part m s (geometry s t) own part parts number names ∷ ps) (same_parts m s t blocks own (part + 1) parts (number + length names) groups range are each.1)
 
-same_tile : (m : Asked) (s : Stream) (t : ℕ) (blocks own : List Block) (names : List PacketName) → GeometryInRange (geometry s t) → AreOwn s t blocks own
-    → All (IsPacket (geometry s t) (layers_of s t)) names → tile_parts m s blocks t (groups_of m.parts names) ≡ own_parts m s (geometry s t) own names
+same_tile : (m : Marks) (s : Stream) (t : ℕ) (blocks own : List Block) (names : List PacketName) → GeometryInRange (geometry s t) → AreOwn s t blocks own
+    → All (IsPacketName (geometry s t) (layers_of s t)) names → tile_parts m s blocks t (groups_of m.parts names) ≡ own_parts m s (geometry s t) own names
 same_tile m s t blocks own names range are each =
-    same_parts m s t blocks own 0 (length (groups_of m.parts names)) 0 (groups_of m.parts names) range are (groups_all (IsPacket (geometry s t) (layers_of s t)) m.parts names each)
+    same_parts m s t blocks own 0 (length (groups_of m.parts names)) 0 (groups_of m.parts names) range are (groups_all (IsPacketName (geometry s t) (layers_of s t)) m.parts names each)
 
-tile_parts_are : (m : Asked) (s : Stream) (g : Geometry) (blocks own : List Block) (names : List PacketName) → g ≡ geometry s g.tile → GeometryInRange g → AreOwn s g.tile blocks own
-    → All (IsPacket g (layers_of s g.tile)) names → IsListOf s g.tile names → AreTilePartsOf m s blocks g.tile (own_parts m s g own names)
+tile_parts_are : (m : Marks) (s : Stream) (g : Geometry) (blocks own : List Block) (names : List PacketName) → g ≡ geometry s g.tile → GeometryInRange g → AreOwn s g.tile blocks own
+    → All (IsPacketName g (layers_of s g.tile)) names → IsListOf s g.tile names → AreTilePartsOf m s blocks g.tile (own_parts m s g own names)
 tile_parts_are m s g blocks own names e range are each listed =
     let P : Geometry → Type 0 = λ x. GeometryInRange x in
-    let Q : Geometry → Type 0 = λ x. All (IsPacket x (layers_of s g.tile)) names in
+    let Q : Geometry → Type 0 = λ x. All (IsPacketName x (layers_of s g.tile)) names in
     record {
       names = names;
       order = listed;
       are = ap (λ (x : Geometry). own_parts m s x own names) e ∙ sym (same_tile m s g.tile blocks own names (subst P e range) are (subst Q e each));
     }
 
-pub tile_bytes : (m : Asked) (s : Stream) (g : Geometry) (blocks own : List Block) (names : List PacketName) (most : ℕ) (bytes : List (List ℕ)) → g ≡ geometry s g.tile → GeometryInRange g
-    → AreOwn s g.tile blocks own → All (IsPacket g (layers_of s g.tile)) names → IsListOf s g.tile names → bytes ≡ map (part_bytes (length s.siz.comps)) (own_parts m s g own names)
+pub tile_bytes : (m : Marks) (s : Stream) (g : Geometry) (blocks own : List Block) (names : List PacketName) (most : ℕ) (bytes : List (List ℕ)) → g ≡ geometry s g.tile → GeometryInRange g
+    → AreOwn s g.tile blocks own → All (IsPacketName g (layers_of s g.tile)) names → IsListOf s g.tile names → bytes ≡ map (part_bytes (length s.siz.comps)) (own_parts m s g own names)
     → AreAtMost most (own_parts m s g own names) → (is : AreTileBytes m s blocks g.tile bytes) × AreAtMost most is.parts
 tile_bytes m s g blocks own names most bytes e range are each listed is few =
     (record { parts = own_parts m s g own names; are = tile_parts_are m s g blocks own names e range are each listed; bytes_are = is }, few)
 
-pub too_long : (m : Asked) (s : Stream) (g : Geometry) (blocks own : List Block) (names : List PacketName) (most : ℕ) → g ≡ geometry s g.tile → GeometryInRange g → AreOwn s g.tile blocks own
-    → All (IsPacket g (layers_of s g.tile)) names → IsListOf s g.tile names → (AreAtMost most (own_parts m s g own names) → ⊥) → IsTooLong m s blocks g.tile most
+pub too_long : (m : Marks) (s : Stream) (g : Geometry) (blocks own : List Block) (names : List PacketName) (most : ℕ) → g ≡ geometry s g.tile → GeometryInRange g → AreOwn s g.tile blocks own
+    → All (IsPacketName g (layers_of s g.tile)) names → IsListOf s g.tile names → (AreAtMost most (own_parts m s g own names) → ⊥) → HasMoreBytes m s blocks g.tile most
 too_long m s g blocks own names most e range are each listed long =
     record { parts = own_parts m s g own names; are = tile_parts_are m s g blocks own names e range are each listed; long = long }

@@ -15,7 +15,7 @@ use Rattle.jx_geom.specs.Geometry.{Geometry, rect_of_tile}
 use Rattle.jx_geom.specs.Precincts.{precinct_number}
 use Rattle.jx_geom.proofs.PrecinctLemmas.{precinct_below, precinct_once}
 use Rattle.jx_progression.specs.declared.names.PacketName.{PacketName}
-use Rattle.jx_progression.specs.Packets.{IsPacket}
+use Rattle.jx_progression.specs.Packets.{IsPacketName}
 use Rattle.jx_progression.proofs.OrderLemmas.{order_once, order_to, same_fields}
 use Rattle.jx_codestream.specs.declared.Stream.{Stream}
 use Rattle.jx_codestream.specs.First.{tile_number}
@@ -30,7 +30,7 @@ use Rattle.jx_tier2_reader.proofs.TotalLemmas.{packets_are as total_is}
 abbrev number_of : Geometry → ℕ → PacketName → ℕ
 number_of g layers p = precinct_number g p.comp p.res p.precinct * layers + p.layer
 
-one_number : (g : Geometry) (layers : ℕ) (p q : PacketName) → IsPacket g layers p → IsPacket g layers q → number_of g layers p ≡ number_of g layers q → p ≡ q
+one_number : (g : Geometry) (layers : ℕ) (p q : PacketName) → IsPacketName g layers p → IsPacketName g layers q → number_of g layers p ≡ number_of g layers q → p ≡ q
 one_number g layers p q hp hq e =
     let parts = same_from_place (precinct_number g p.comp p.res p.precinct) p.layer (precinct_number g q.comp q.res q.precinct) q.layer layers hp.layer hq.layer e in
     let fields = precinct_once g p.comp p.res p.precinct q.comp q.res q.precinct (has_precinct g layers p hp) (has_precinct g layers q hq) parts.0 in
@@ -38,9 +38,9 @@ one_number g layers p q hp hq e =
 
 module _ (g : Geometry) (layers : ℕ) where
   abbrev ArePackets : List PacketName → Type 0
-  ArePackets xs = (p : PacketName) → Contains xs p → IsPacket g layers p
+  ArePackets xs = (p : PacketName) → Contains xs p → IsPacketName g layers p
 
-  apart_from : (x : PacketName) (xs : List PacketName) → IsPacket g layers x → ArePackets xs → ((y : PacketName) → Contains xs y → x ≢ y)
+  apart_from : (x : PacketName) (xs : List PacketName) → IsPacketName g layers x → ArePackets xs → ((y : PacketName) → Contains xs y → x ≢ y)
       → All (λ (n : ℕ). number_of g layers x ≢ n) (map (number_of g layers) xs)
   apart_from x [] is all apart = All-nil (λ (n : ℕ). number_of g layers x ≢ n)
   apart_from x (y ∷ ys) is all apart =
@@ -55,7 +55,7 @@ module _ (g : Geometry) (layers : ℕ) where
       (apart_from x xs (all x (contains_head x xs)) (λ p c. all p (contains_tail x xs p c)) (λ y c. pairs_head (λ (p q : PacketName). p ≢ q) x xs y h c))
       (numbers_apart xs (pairs_tail (λ (p q : PacketName). p ≢ q) x xs h) (λ p c. all p (contains_tail x xs p c)))
 
-  number_low : (p : PacketName) → IsPacket g layers p → number_of g layers p < tile_precincts (rect_of_tile g) g.shapes * layers
+  number_low : (p : PacketName) → IsPacketName g layers p → number_of g layers p < tile_precincts (rect_of_tile g) g.shapes * layers
   number_low p is =
       let low = precinct_below g p.comp p.res p.precinct (has_precinct g layers p is) in
       let rows = mul-add-lt (precinct_number g p.comp p.res p.precinct) layers p.layer (tile_precincts (rect_of_tile g) g.shapes) low is.layer in

@@ -9,7 +9,7 @@ use Rattle.jx_marker.specs.declared.Segment.TheVariants as segment
 use Rattle.jx_marker.specs.Ranges.{AreBytes, InRange}
 use Rattle.jx_codestream.specs.declared.headers.HeaderKind.{HeaderKind}
 use Rattle.jx_codestream.specs.Headers.{slot_of, stands_in}
-use Rattle.jx_codestream.specs.Tiles.{in_slot, joined}
+use Rattle.jx_codestream.specs.Tiles.{in_slot, entries_joined}
 use Rattle.jx_codestream.specs.Spells.{AreSegments}
 use Rattle.jx_tier2_writer.specs.Lengths.{numbered}
 
@@ -52,7 +52,7 @@ same_slots slot number (s ∷ own) held some = elim (cases_Bool (slot_of s == sl
 ]
 
 -- ---- progression entries
-pub lengths_none : (number : ℕ) (held : List (List ℕ)) → joined (numbered number held) ≡ []
+pub lengths_none : (number : ℕ) (held : List (List ℕ)) → entries_joined (numbered number held) ≡ []
 lengths_none number [] = refl
 lengths_none number (bytes ∷ held) = lengths_none (number + 1) held
 

@@ -21,7 +21,7 @@ use Rattle.jx_codestream.specs.Read.{IsRead}
 use Rattle.jx_codestream.specs.Shapes.{geometry, shapes_of, tile_at}
 use Rattle.jx_codestream.specs.Spells.{AreSegments}
 use Rattle.jx_codestream.specs.Tiles.{entry_in, in_slot, or_list}
-use Rattle.jx_codestream.specs.Tiles.{joined as entries_joined}
+use Rattle.jx_codestream.specs.Tiles.{entries_joined}
 use Rattle.jx_tier2_reader.specs.BlockOf.{AreBlocksOf}
 use Rattle.jx_tier2_reader.specs.Gathered.{IsGathered}
 use Rattle.jx_tier2_reader.specs.Totals.{packet_total, totals_fault}

@@ -10,7 +10,7 @@ use Rattle.jx_codestream.specs.declared.headers.HeaderKind.{HeaderKind}
 use Rattle.jx_codestream.specs.declared.headers.HeaderKind.TheVariants.{First, Later}
 use Rattle.std.proofs.lemmas.Bool.Decides.{nat_tests}
 use Rattle.jx_codestream.specs.declared.parts.Part.{Part}
-use Rattle.jx_codestream.specs.Tiles.{headers_of, is_com, joined}
+use Rattle.jx_codestream.specs.Tiles.{headers_of, is_com, entries_joined}
 use Rattle.jx_codestream.specs.Parts.{kind_of}
 use Rattle.jx_codestream.specs.Spells.{TilePart, AreSegments, all_bytes, head_bytes, part_bytes, placed}
 use Rattle.jx_codestream.proofs.OneLemmas.{drop_on}
@@ -92,16 +92,16 @@ module _ (m : Marks) (comps t : ℕ) (own : List Segment) (ps : Packets) (parts 
   made_long part number (names ∷ groups) = ap suc (made_long (part + 1) (number + length names) groups)
 
   -- ---- no POC
-  header_entries : (part : ℕ) (lengths : List ℕ) → joined own ≡ [] → joined (part_header m own part lengths) ≡ []
+  header_entries : (part : ℕ) (lengths : List ℕ) → entries_joined own ≡ [] → entries_joined (part_header m own part lengths) ≡ []
   header_entries part lengths none =
-      let P : List Segment → Type 0 = λ z. joined z ≡ [] in
+      let P : List Segment → Type 0 = λ z. entries_joined z ≡ [] in
       subst P (sym (header_is m own part lengths)) (joined_on (own_at part own) (numbered 0 (held_by m.plt lengths)) (at part) (lengths_none 0 (held_by m.plt lengths)))
     where
-      at : (k : ℕ) → joined (own_at k own) ≡ []
+      at : (k : ℕ) → entries_joined (own_at k own) ≡ []
       at zero = none
       at (suc k) = refl
 
-  pub made_entries : (part number at : ℕ) (groups : List (List PacketName)) → joined own ≡ [] → joined (headers_of (placed comps at (parts_with m comps t own ps part parts number groups))) ≡ []
+  pub made_entries : (part number at : ℕ) (groups : List (List PacketName)) → entries_joined own ≡ [] → entries_joined (headers_of (placed comps at (parts_with m comps t own ps part parts number groups))) ≡ []
   made_entries part number at [] none = refl
   made_entries part number at (names ∷ groups) none =
       let lengths : List ℕ = map (packet_length ps) names in

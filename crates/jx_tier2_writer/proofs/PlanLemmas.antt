@@ -26,7 +26,7 @@ use Rattle.jx_plan.specs.Plan.{IsPlan, Plan, headers_of, headers_with}
 use Rattle.jx_plan.specs.Standing.{HeadersStand}
 use Rattle.jx_options.specs.Wanted.{MayBeWanted, Wanted, marks_of}
 use Rattle.jx_tier2_writer.specs.Assembled.{AreOwn, AreTileBytes}
-use Rattle.jx_tier2_writer.specs.Assembled.{IsTooLong as HasMoreBytes}
+use Rattle.jx_tier2_writer.specs.Assembled.{HasMoreBytes}
 use Rattle.jx_tier2_writer.specs.Own.{AreOwnBlocks}
 use Rattle.jx_tier2_writer.specs.Ready.{AreReady}
 use Rattle.jx_tier2_writer.specs.Tile.{AreAtMost, AreValuesOf, IsTile, IsTooLong, StandIn, block_written, blocks_in, first_block}

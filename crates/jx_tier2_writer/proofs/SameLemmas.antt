@@ -30,7 +30,7 @@ use Rattle.jx_tier2_reader.specs.Carries.{block_in, bytes_of, pieces_of}
 use Rattle.jx_tier2_reader.specs.BlockOf.{pieces_at}
 use Rattle.jx_tier2_reader.specs.Cells.{precinct_bands, sizes_of}
 use Rattle.jx_geom.specs.Precincts.{cells_at}
-use Rattle.jx_tier2_reader.specs.Planned.{leaf_from, leaf_in, leaves_in}
+use Rattle.jx_tier2_reader.specs.Planned.{leaf_from, leaf_in, leaves_of_blocks}
 use Rattle.jx_tier2_reader.specs.Totals.{block_total, packet_total, tile_packets, totals_fault}
 use Rattle.jx_tier2_reader.specs.Faults.{passed}
 use Rattle.jx_tier2_reader.specs.Written.{Written}
@@ -127,8 +127,8 @@ module _ (s : Stream) (tiles : List Tile) (alike : (t : ℕ) → AreAlike (heade
     leaves_count : (c r k : ℕ) → leaves (geometry it t) c r k ≡ leaves (geometry s t) c r k
     leaves_count c r k = ap (λ (g : Geometry). leaves g c r k) (geometry_same t)
 
-    leaves_same : (c r k : ℕ) → leaves_in it t blocks c r k ≡ leaves_in s t blocks c r k
-    unfolding leaves_in
+    leaves_same : (c r k : ℕ) → leaves_of_blocks it t blocks c r k ≡ leaves_of_blocks s t blocks c r k
+    unfolding leaves_of_blocks
     leaves_same c r k =
         ap (λ (f : ℕ → Leafed). map f (range_with_len 0 (leaves (geometry it t) c r k))) (fun_ext (λ j. ap (leaf_from j) (block_same (name_of 0 r c k) j)))
         ∙ ap (λ (n : ℕ). map (leaf_in s t blocks c r k) (range_with_len 0 n)) (leaves_count c r k)

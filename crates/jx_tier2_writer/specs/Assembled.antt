@@ -24,7 +24,7 @@ pub record AreTileBytes (m : Marks) (s : Stream) (blocks : List Block) (t : ℕ)
   pub bytes_are : bytes ≡ map (part_bytes (length s.siz.comps)) parts
 
 -- one of the tile's tile-parts has more than so many bytes
-pub record IsTooLong (m : Marks) (s : Stream) (blocks : List Block) (t most : ℕ) : Type 0 where
+pub record HasMoreBytes (m : Marks) (s : Stream) (blocks : List Block) (t most : ℕ) : Type 0 where
   pub parts : List TilePart
   pub are : AreTilePartsOf m s blocks t parts
   pub long : AreAtMost most parts → ⊥

@@ -8,7 +8,7 @@ use Rattle.jx_codestream.specs.Headers.{cod_slot}
 use Rattle.jx_codestream.specs.declared.headers.HeaderKind.TheVariants.{Main, First}
 use Rattle.jx_codestream.specs.declared.Stream.{Stream}
 use Rattle.jx_codestream.specs.First.{tile_number, tiles_fault, lacks_default}
-use Rattle.jx_codestream.specs.Tiles.{joined as entries_joined}
+use Rattle.jx_codestream.specs.Tiles.{entries_joined}
 use Rattle.jx_codestream.specs.Tiles.{entry_in, in_slot, or_list, tiles_of}
 use Rattle.jx_codestream.specs.Params.{cod_of, cod_or, header_of, planes_fault, tile_has_too_few}
 use Rattle.jx_codestream.specs.Shapes.{tile_at}

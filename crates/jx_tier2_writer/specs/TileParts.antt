@@ -16,7 +16,7 @@ use Rattle.jx_codestream.specs.Shapes.{geometry, layers_of, style_of}
 use Rattle.jx_codestream.specs.Spells.{TilePart, all_bytes, file_bytes}
 use Rattle.jx_tier2_reader.specs.Cells.{precinct_bands}
 use Rattle.jx_tier2_reader.specs.Carries.{bytes_of}
-use Rattle.jx_tier2_reader.specs.Planned.{leaves_in}
+use Rattle.jx_tier2_reader.specs.Planned.{leaves_of_blocks}
 use Rattle.jx_tier2_reader.specs.Written.{Written, Packets, packet_bytes, bytes_from}
 use Rattle.jx_tier2_reader.specs.Gathered.{IsListOf}
 use Rattle.jx_options.specs.declared.Marks.{Marks}
@@ -27,16 +27,16 @@ use Rattle.jx_tier2_writer.specs.Lengths.{length_segments}
 abbrev pub packet_of : Marks → Stream → ℕ → List Block → PacketName → Written
 packet_of m s t blocks p = record {
   sop = m.sop;
-  header = header_at (layers_of s t) (style_of s t p.comp) (precinct_bands s (geometry s t) p.comp p.res p.precinct) (leaves_in s t blocks p.comp p.res p.precinct) p.layer;
+  header = header_at (layers_of s t) (style_of s t p.comp) (precinct_bands s (geometry s t) p.comp p.res p.precinct) (leaves_of_blocks s t blocks p.comp p.res p.precinct) p.layer;
   eph = m.eph;
-  parts = parts_at p.layer (leaves_in s t blocks p.comp p.res p.precinct);
+  parts = parts_at p.layer (leaves_of_blocks s t blocks p.comp p.res p.precinct);
   bytes = joined (bytes_of s t blocks p) 0 (leaves (geometry s t) p.comp p.res p.precinct);
 }
 
 -- the state of its precinct before it
 abbrev pub state_before : Stream → ℕ → List Block → PacketName → State
 state_before s t blocks p =
-    state_at (layers_of s t) (style_of s t p.comp) (precinct_bands s (geometry s t) p.comp p.res p.precinct) (leaves_in s t blocks p.comp p.res p.precinct) p.layer
+    state_at (layers_of s t) (style_of s t p.comp) (precinct_bands s (geometry s t) p.comp p.res p.precinct) (leaves_of_blocks s t blocks p.comp p.res p.precinct) p.layer
 
 unfoldable pub packets_of : Marks → Stream → ℕ → List Block → Packets
 packets_of m s t blocks = record { written = packet_of m s t blocks; before = state_before s t blocks }

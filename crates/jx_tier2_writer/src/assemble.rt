@@ -4,7 +4,7 @@ ghost use Rattle.std.specs.Prelude.{◌≡◌, ◌≤◌, ◌<◌, ◌+◌, ◌^
 ghost use Rattle.std.specs.List.{All, concat};
 ghost use Rattle.jx_base.specs.declared.pieces.Block.{Block};
 ghost use Rattle.jx_marker.specs.Ranges.{InRange};
-ghost use Rattle.jx_progression.specs.Packets.{IsPacket};
+ghost use Rattle.jx_progression.specs.Packets.{IsPacketName};
 ghost use Rattle.jx_codestream.specs.declared.headers.HeaderKind.TheVariants.{First};
 ghost use Rattle.jx_codestream.specs.First.{tile_number};
 ghost use Rattle.jx_codestream.specs.InRange.{StreamInRange};
@@ -14,7 +14,7 @@ ghost use Rattle.jx_codestream.specs.Spells.{AreSegments, part_bytes};
 ghost use Rattle.jx_tier2_reader.specs.Gathered.{IsWhole};
 ghost use Rattle.jx_tier2_reader.specs.Totals.{totals_fault};
 ghost use Rattle.jx_plan.specs.Groups.{HasFewParts, groups_of};
-ghost use Rattle.jx_tier2_writer.specs.Assembled.{AreOwn, AreTileBytes, IsTooLong};
+ghost use Rattle.jx_tier2_writer.specs.Assembled.{AreOwn, AreTileBytes, HasMoreBytes};
 ghost use Rattle.jx_tier2_writer.specs.Names.{AreSendings, tile_names};
 ghost use Rattle.jx_tier2_writer.specs.Own.{AreOwnBlocks};
 ghost use Rattle.jx_tier2_writer.specs.Packed.{own_packets, own_parts};
@@ -100,7 +100,7 @@ fn pack_named<B: Coded>(
     most: u32,
 ) -> Result<Vec<PartOut>, AssembleFault>
     requires list { AreSendings stream.now geom.now (map B.block values.now) (map B.bytes values.now) (tile_names geom.now) list.now }
-    requires each { All (IsPacket geom.now (layers_of stream.now geom.now.tile)) names.now }
+    requires each { All (IsPacketName geom.now (layers_of stream.now geom.now.tile)) names.now }
     requires few { length names.now ≤ 2 ^ 22 }
     requires parts { length (groups_of marks.parts names.now) ≤ 255 }
     requires comps { length stream.now.siz.comps ≤ 16384 }
@@ -160,7 +160,7 @@ pub(crate) fn pack_values<B: Coded>(
     ensures value { IfOk result (λ layout. (blocks : List Block) → AreOwn stream.now geom.now.tile blocks (map B.block values.now)
         → (is : AreTileBytes marks stream.now blocks geom.now.tile (map concat (tile_pieces (own_packets marks stream.now geom.now (map B.block values.now)) layout))) × AreAtMost most is.parts) }
     ensures long { result ≡ Err AssembleFault.TooLong → (blocks : List Block) → AreOwn stream.now geom.now.tile blocks (map B.block values.now)
-        → IsTooLong marks stream.now blocks geom.now.tile most }
+        → HasMoreBytes marks stream.now blocks geom.now.tile most }
 {
     let names = match names_of(alloc, stream, view, geom) {
         Ok(names) => names,

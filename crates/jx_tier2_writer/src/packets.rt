@@ -2,7 +2,7 @@
 
 ghost use Rattle.std.specs.Prelude.{◌≡◌, ◌≤◌, ◌<◌, ◌+◌, ◌++◌, ◌^◌, ℕ, List, length, map, OnOk};
 ghost use Rattle.jx_geom.specs.Precincts.{HasPrecinct};
-ghost use Rattle.jx_progression.specs.Packets.{IsPacket};
+ghost use Rattle.jx_progression.specs.Packets.{IsPacketName};
 ghost use Rattle.jx_codestream.specs.Shapes.{layers_of};
 ghost use Rattle.jx_tier2_reader.specs.Written.{packet_bytes};
 ghost use Rattle.jx_tier2_writer.specs.Names.{AreSendings, tile_names};
@@ -75,7 +75,7 @@ pub(crate) fn packet_length<B: Coded>(
     name: PacketName,
 ) -> u128
     requires list { AreSendings stream.now geom.now (map B.block values.now) (map B.bytes values.now) (tile_names geom.now) list.now }
-    requires there { IsPacket geom.now (layers_of stream.now geom.now.tile) name }
+    requires there { IsPacketName geom.now (layers_of stream.now geom.now.tile) name }
     ensures value { result ≡ length (packet_bytes 0 (own_packet marks stream.now geom.now (map B.block values.now) name)) }
     ensures bound { result ≤ 2 ^ 97 }
 {
@@ -132,7 +132,7 @@ pub(crate) fn put_packet<B: Coded>(
     out: &mut Vec<u8>,
 ) -> Result<(), NoMemory>
     requires list { AreSendings stream.now geom.now (map B.block values.now) (map B.bytes values.now) (tile_names geom.now) list.now }
-    requires there { IsPacket geom.now (layers_of stream.now geom.now.tile) name }
+    requires there { IsPacketName geom.now (layers_of stream.now geom.now.tile) name }
     ensures { OnOk result (out.new.items ≡ out.old.items ++ packet_bytes number (own_packet marks stream.now geom.now (map B.block values.now) name)) }
 {
     let sending = sending_at(stream, geom, values, list, name);

@@ -14,7 +14,7 @@ ghost use Rattle.jx_tier2_reader.specs.Totals.{totals_fault};
 ghost use Rattle.jx_plan.specs.Groups.{HasFewParts};
 ghost use Rattle.jx_plan.specs.Plan.{IsPlan, headers_of};
 ghost use Rattle.jx_options.specs.Wanted.{marks_of};
-ghost use Rattle.jx_tier2_writer.specs.Assembled.{AreOwn, AreTileBytes, IsTooLong as HasMoreBytes};
+ghost use Rattle.jx_tier2_writer.specs.Assembled.{AreOwn, AreTileBytes, HasMoreBytes};
 ghost use Rattle.jx_tier2_writer.specs.Own.{AreOwnBlocks};
 ghost use Rattle.jx_tier2_writer.specs.Pieces.{blocks_lent};
 ghost use Rattle.jx_tier2_writer.specs.Ready.{AreReady};

@@ -2,7 +2,7 @@
 
 ghost use Rattle.std.specs.Prelude.{◌≡◌, ◌≤◌, ◌<◌, List, map, Err, IfOk};
 ghost use Rattle.std.specs.List.{All};
-ghost use Rattle.jx_progression.specs.Packets.{IsPacket};
+ghost use Rattle.jx_progression.specs.Packets.{IsPacketName};
 ghost use Rattle.jx_codestream.specs.Shapes.{layers_of};
 ghost use Rattle.jx_tier2_writer.specs.Names.{AreSendings, tile_names};
 ghost use Rattle.jx_tier2_writer.specs.Packed.{own_length, total};
@@ -49,7 +49,7 @@ pub(crate) fn lengths_of<B: Coded>(
     most: u32,
 ) -> Result<Vec<u32>, AssembleFault>
     requires list { AreSendings stream.now geom.now (map B.block values.now) (map B.bytes values.now) (tile_names geom.now) list.now }
-    requires each { All (IsPacket geom.now (layers_of stream.now geom.now.tile)) names.now }
+    requires each { All (IsPacketName geom.now (layers_of stream.now geom.now.tile)) names.now }
     ensures value { IfOk result (λ lengths. lengths.items ≡ map (own_length marks stream.now geom.now (map B.block values.now)) names.now) }
     ensures few { IfOk result (λ lengths. total lengths.items ≤ most) }
     ensures long { result ≡ Err AssembleFault.TooLong → most < total (map (own_length marks stream.now geom.now (map B.block values.now)) names.now) }

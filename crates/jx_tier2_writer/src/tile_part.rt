@@ -5,7 +5,7 @@ ghost use Rattle.std.specs.List.{All};
 ghost use Rattle.jx_marker.specs.declared.Segment.TheVariants as segment;
 ghost use Rattle.jx_marker.specs.Ranges.{InRange};
 ghost use Rattle.jx_marker.specs.Segments.{spelling};
-ghost use Rattle.jx_progression.specs.Packets.{IsPacket};
+ghost use Rattle.jx_progression.specs.Packets.{IsPacketName};
 ghost use Rattle.jx_codestream.specs.Params.{header_of};
 ghost use Rattle.jx_codestream.specs.Shapes.{layers_of};
 ghost use Rattle.jx_codestream.specs.Spells.{all_bytes, part_bytes};
@@ -193,7 +193,7 @@ pub(crate) fn pack_part<B: Coded>(
     most: u32,
 ) -> Result<PartOut, AssembleFault>
     requires list { AreSendings stream.now geom.now (map B.block values.now) (map B.bytes values.now) (tile_names geom.now) list.now }
-    requires each { All (IsPacket geom.now (layers_of stream.now geom.now.tile)) names.now }
+    requires each { All (IsPacketName geom.now (layers_of stream.now geom.now.tile)) names.now }
     requires few { place.packet + length names.now ≤ 2 ^ 22 }
     requires comps { length stream.now.siz.comps ≤ 16384 }
     requires tile { geom.now.tile < length stream.now.tiles }

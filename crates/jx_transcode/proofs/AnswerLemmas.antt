@@ -29,7 +29,7 @@ use Rattle.jx_transcode.specs.Filed.{IsAnswered, IsFileBegun, IsFileHalted, IsFi
 use Rattle.jx_transcode.specs.Outcome.{IsBegun, IsCutShort, IsStopped, IsVerdict, Leaves, most_bytes}
 use Rattle.jx_transcode.specs.Rewritten.{CanBePlanned, HasBlocks, IsBad, IsCut, IsCutByBlock, IsFront, IsFrontOf, IsKept, IsLong, IsRewritten, IsSpoiled, Reads, headers_of}
 use Rattle.jx_rounds.specs.Tiles.{IsRight, Round, next_round, round_of}
-use Rattle.jx_transcode.specs.Rewritten.{IsTooLong as IsTooLongAt}
+use Rattle.jx_transcode.specs.Rewritten.{IsTooLongAt}
 use Rattle.jx_rounds.specs.Rounds.{IsHaltedAt, IsRoundFront, IsShortFront, IsWholeFile, most_of_part}
 use Rattle.jx_rounds.specs.declared.halt.Halt.{Halt}
 use Rattle.jx_rounds.specs.declared.halt.Halt.TheVariants as halt

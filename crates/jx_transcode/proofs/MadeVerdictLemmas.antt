@@ -23,7 +23,7 @@ use Rattle.jx_transcode.specs.Aims.{Aim, MayBeAimed, rule_in}
 use Rattle.jx_transcode.specs.MadeVerdict.{HasNoRule}
 use Rattle.jx_transcode.specs.MakeRun.{aim_made, input_of, wanted_made}
 use Rattle.jx_transcode.specs.Outcome.{Verdict, most_bytes}
-use Rattle.jx_transcode.specs.Rewritten.{IsBad, IsTooLong, IsUnplanned, Reads}
+use Rattle.jx_transcode.specs.Rewritten.{IsBad, IsTooLongAt, IsUnplanned, Reads}
 use Rattle.jx_rounds.specs.Tiles.{IsWrongBlock}
 use Rattle.jx_transcode.specs.declared.status.Status.TheVariants as status
 use Rattle.jx_transcode.proofs.AcceptedLemmas.{AllAccepted}
@@ -74,7 +74,7 @@ module _ (laws : Laws) (law : AllAccepted) (made_laws : MadeLaws) (rule : List �
   pub no_choice : (number place : ℕ) → MayBeAimed aim → Verdict aim (input_of m) (status.Choice number place) → (number ≡ 7) ⊎ ((number ≡ 6) × (place ≡ 0) × HasNoRule aim (input_of m))
   no_choice number place aimed verdict = by verdict.1
     where
-      by : ((number ≡ 7) × IsTooLong aim (input_of m) place) ⊎ IsUnplanned aim (input_of m) (unplanned.Choice number place) → (number ≡ 7) ⊎ ((number ≡ 6) × (place ≡ 0) × HasNoRule aim (input_of m))
+      by : ((number ≡ 7) × IsTooLongAt aim (input_of m) place) ⊎ IsUnplanned aim (input_of m) (unplanned.Choice number place) → (number ≡ 7) ⊎ ((number ≡ 6) × (place ≡ 0) × HasNoRule aim (input_of m))
       by (inl long) = inl long.0
       by (inr is) =
           let lacks = without_rule (unplanned.Choice number place) verdict.0 aimed (λ e. cc) is in

@@ -24,7 +24,7 @@ use Rattle.jx_transcode.specs.declared.status.Status.TheVariants as status
 use Rattle.jx_transcode.specs.Aims.{Aim, rule_in}
 use Rattle.jx_transcode.specs.Judged.{BreaksTiles}
 use Rattle.jx_transcode.specs.Outcome.{Verdict, most_bytes}
-use Rattle.jx_transcode.specs.Rewritten.{CanBePlanned, IsBad, IsLong, IsRewritten, IsSpoiled, IsTooLong, IsUnplanned, Reads, headers_of}
+use Rattle.jx_transcode.specs.Rewritten.{CanBePlanned, IsBad, IsLong, IsRewritten, IsSpoiled, IsTooLongAt, IsUnplanned, Reads, headers_of}
 use Rattle.jx_rounds.specs.Tiles.{IsRight, IsWrongAt}
 use Rattle.jx_rounds.proofs.FrontLemmas.{tiles_stay}
 use Rattle.jx_transcode.proofs.WrongLemmas.{one_wrong, right_in_all, right_or_wrong}
@@ -149,7 +149,7 @@ fine_of laws aim input out is = record {
       written_or_spoiled aim.wanted is.can.by is.stream is.blocks laws t (is.output.parts t) (right_in_all aim.wanted is.stream is.blocks t is.right) (is.output.are t there) (is.short t lt) spoiled;
 }
 
-long_at : (aim : Aim) (input : List ℕ) (t : ℕ) (is : IsTooLong aim input t) → IsLongAt aim.wanted is.can.by is.stream is.blocks t
+long_at : (aim : Aim) (input : List ℕ) (t : ℕ) (is : IsTooLongAt aim input t) → IsLongAt aim.wanted is.can.by is.stream is.blocks t
 long_at aim input t is = record { inside = is.inside; is = is.is; lowest = is.lowest }
 
 bad_at : (aim : Aim) (input : List ℕ) (number : ℕ) (is : IsBad aim input number) → IsBadAt aim.wanted is.can.by is.stream is.blocks is.tile number
@@ -191,10 +191,10 @@ module _ (laws : Laws) (aim : Aim) (input : List ℕ) (short : length input ≤ 
     bad_here : (u n : ℕ) → IsBadAt aim.wanted too.by t others u n → IsBadAt aim.wanted can.by s blocks u n
     bad_here u n is = here (λ r x b. IsBadAt aim.wanted r x b u n) is
 
-  too_long : (t u : ℕ) (x : IsTooLong aim input t) (y : IsTooLong aim input u) → IsLongAt aim.wanted x.can.by x.stream x.blocks u
+  too_long : (t u : ℕ) (x : IsTooLongAt aim input t) (y : IsTooLongAt aim input u) → IsLongAt aim.wanted x.can.by x.stream x.blocks u
   too_long t u x y = long_here x.stream y.stream x.blocks y.blocks x.reads y.reads x.can y.can u (long_at aim input u y)
 
-  same_long : (t u : ℕ) → IsTooLong aim input t → IsTooLong aim input u → t ≡ u
+  same_long : (t u : ℕ) → IsTooLongAt aim input t → IsTooLongAt aim input u → t ≡ u
   same_long t u x y =
       spoiled_once aim.wanted x.can.by x.stream x.blocks t u (long_spoiled aim.wanted x.can.by x.stream x.blocks t (long_at aim input t x))
       (long_spoiled aim.wanted x.can.by x.stream x.blocks u (too_long t u x y))
@@ -204,12 +204,12 @@ module _ (laws : Laws) (aim : Aim) (input : List ℕ) (short : length input ≤ 
       bad_once aim.wanted x.can.by x.stream x.blocks x.tile y.tile n k (bad_at aim input n x)
       (bad_here x.stream y.stream x.blocks y.blocks x.reads y.reads x.can y.can y.tile k (bad_at aim input k y))
 
-  one_spoils : (n t : ℕ) → IsBad aim input n → IsTooLong aim input t → ⊥
+  one_spoils : (n t : ℕ) → IsBad aim input n → IsTooLongAt aim input t → ⊥
   one_spoils n t x y =
       bad_or_long aim.wanted x.can.by x.stream x.blocks x.tile t n (bad_at aim input n x)
       (long_here x.stream y.stream x.blocks y.blocks x.reads y.reads x.can y.can t (long_at aim input t y))
 
-  fine_or_long : (out : List ℕ) (t : ℕ) → IsRewritten aim input out → IsTooLong aim input t → ⊥
+  fine_or_long : (out : List ℕ) (t : ℕ) → IsRewritten aim input out → IsTooLongAt aim input t → ⊥
   fine_or_long out t x y =
       let there : IsLongAt aim.wanted x.can.by x.stream x.blocks t = long_here x.stream y.stream x.blocks y.blocks x.reads y.reads x.can y.can t (long_at aim input t y) in
       (fine_of laws aim input out x).none t there.inside (inr there.is)

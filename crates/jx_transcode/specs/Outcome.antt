@@ -10,7 +10,7 @@ use Rattle.jx_transcode.specs.declared.status.Status.TheVariants as status
 use Rattle.jx_cli.specs.Words.{Text, Request}
 use Rattle.jx_rounds.specs.declared.tape.TapeEntry.{TapeEntry}
 use Rattle.jx_transcode.specs.RunTapes.{IsRunTape}
-use Rattle.jx_transcode.specs.Rewritten.{HasBlocks, IsBad, IsCut, IsCutByBlock, IsFrontOf, IsKept, IsRewritten, IsTooLong, IsUnplanned}
+use Rattle.jx_transcode.specs.Rewritten.{HasBlocks, IsBad, IsCut, IsCutByBlock, IsFrontOf, IsKept, IsRewritten, IsTooLongAt, IsUnplanned}
 use Rattle.jx_plan.specs.declared.faults.PlanFault.{PlanFault}
 use Rattle.jx_plan.specs.declared.faults.PlanFault.TheVariants as unplanned
 use Rattle.jx_layers.specs.declared.StreamFacts.{StreamFacts}
@@ -60,7 +60,7 @@ abbrev pub Verdict : Aim → List ℕ → Status → Type 0
 Verdict aim input status.Done = (length input ≤ most_bytes) × (out : List ℕ) × IsRewritten aim input out
 Verdict aim input (status.Rule number place) = (length input ≤ most_bytes) × Violates input number place
 Verdict aim input (status.Limit number found) = PassesLimit input number found ⊎ ((length input ≤ most_bytes) × IsUnplanned aim input (unplanned.Limit number found))
-Verdict aim input (status.Choice number place) = (length input ≤ most_bytes) × (((number ≡ 7) × IsTooLong aim input place) ⊎ IsUnplanned aim input (unplanned.Choice number place))
+Verdict aim input (status.Choice number place) = (length input ≤ most_bytes) × (((number ≡ 7) × IsTooLongAt aim input place) ⊎ IsUnplanned aim input (unplanned.Choice number place))
 Verdict aim input (status.Block number) = (length input ≤ most_bytes) × IsBad aim input number
 Verdict aim input status.Words = ⊥
 Verdict aim input status.ReadFault = ⊥

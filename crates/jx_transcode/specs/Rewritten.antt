@@ -70,7 +70,7 @@ pub record IsBad (aim : Aim) (input : List ℕ) (number : ℕ) : Type 0 where
   pub lowest : (n : ℕ) → n < tile → IsSpoiled aim.wanted can.by stream blocks n → ⊥
 
 -- the lowest one is too long
-pub record IsTooLong (aim : Aim) (input : List ℕ) (t : ℕ) : Type 0 where
+pub record IsTooLongAt (aim : Aim) (input : List ℕ) (t : ℕ) : Type 0 where
   pub stream : Stream
   pub blocks : List Block
   pub reads : Reads input stream blocks

@@ -1,5 +1,5 @@
 use Rattle.std.proofs.Common.{◌≡◌, ◌≤◌, length, ◌-◌}
-use Rattle.jx_codestream.specs.Headers.{longest, header_at, Marks}
+use Rattle.jx_codestream.specs.Headers.{longest, header_at, MarksSlots}
 use Rattle.jx_codestream.proofs.headers.read_header.Given as goal
 
 abbrev pub invariant-segments : goal.invariant-segments
@@ -7,7 +7,7 @@ invariant-segments l = record {
   from : l.at ≤ l.place;
   within : l.place ≤ length l.bytes;
   same : longest l.kind l.comps l.bytes (length l.bytes) l.segments.items l.place ≡ header_at l.kind l.comps l.bytes l.at;
-  marks : Marks l.at l.segments.items l.seen;
+  marks : MarksSlots l.at l.segments.items l.seen;
 }
 
 abbrev pub decreases-segments : goal.decreases-segments

@@ -1,7 +1,7 @@
 use Rattle.std.proofs.Common.{◌≡◌, ◌≤◌, ◌*◌, ◌∙◌, ℕ, length, ap, subst, arith, All}
 use Rattle.jx_geom.specs.Counts.{tile_precincts}
 use Rattle.jx_geom.specs.Geometry.{Geometry, rect_of_tile}
-use Rattle.jx_progression.specs.Packets.{IsPacket}
+use Rattle.jx_progression.specs.Packets.{IsPacketName}
 use Rattle.jx_codestream.specs.Shapes.{layers_in, layers_of}
 use Rattle.jx_codestream.specs.TileHeaders.{TileHeaders}
 use Rattle.jx_tier2_reader.specs.Totals.{tile_packets}
@@ -11,8 +11,8 @@ use Rattle.jx_plan.proofs.parting.names_of.Goals as goal
 pub returns-in-Ok-clause-each : goal.returns-in-Ok-clause-each
 returns-in-Ok-clause-each c =
     let layers : c.layers.result ≡ layers_of c.args.stream.now c.args.geom.now.tile = c.layers.ensures.value ∙ ap (λ (h : TileHeaders). layers_in h) c.requires.view in
-    let P : ℕ → Type 0 = λ n. All (IsPacket c.args.geom.now n) c.in-Ok.list.items in
-    subst P layers (All-contained (IsPacket c.args.geom.now c.layers.result) c.in-Ok.list.items (λ x has. (c.in-Ok.ensures.every x).0 has))
+    let P : ℕ → Type 0 = λ n. All (IsPacketName c.args.geom.now n) c.in-Ok.list.items in
+    subst P layers (All-contained (IsPacketName c.args.geom.now c.layers.result) c.in-Ok.list.items (λ x has. (c.in-Ok.ensures.every x).0 has))
 
 pub returns-in-Ok-clause-few : goal.returns-in-Ok-clause-few
 returns-in-Ok-clause-few c =

@@ -3,7 +3,7 @@ use Rattle.std.specs.List.{All, Contains}
 use Rattle.jx_base.specs.OrderNumbers.{IsOrderNumber}
 use Rattle.jx_marker.specs.declared.Progression.{Progression}
 use Rattle.jx_progression.specs.declared.names.PacketName.{PacketName}
-use Rattle.jx_progression.specs.Packets.{IsPacket}
+use Rattle.jx_progression.specs.Packets.{IsPacketName}
 use Rattle.jx_codestream.specs.declared.Tile.{Tile}
 use Rattle.jx_codestream.specs.Shapes.{layers_in, tile_at}
 use Rattle.jx_tier2_reader.proofs.CoveredLemmas.{lacks_here, order_here, whole_of}
@@ -37,7 +37,7 @@ returns-in-Ok-clause-whole c =
 
 pub returns-in-Ok-clause-every : goal.returns-in-Ok-clause-every
 returns-in-Ok-clause-every c =
-    subst (λ (n : ℕ). (p : PacketName) → Contains c.in-Ok.list.items p ↔ IsPacket c.args.geom.now n p) (c.layers.ensures.value ∙ ap layers_in c.requires.view) c.in-Ok.ensures.every
+    subst (λ (n : ℕ). (p : PacketName) → Contains c.in-Ok.list.items p ↔ IsPacketName c.args.geom.now n p) (c.layers.ensures.value ∙ ap layers_in c.requires.view) c.in-Ok.ensures.every
 
 pub returns-in-Ok-clause-once : goal.returns-in-Ok-clause-once
 returns-in-Ok-clause-once c = c.in-Ok.ensures.once

@@ -1,6 +1,6 @@
 use Rattle.std.proofs.Common.{◌∙◌, arith, []}
 use Rattle.jx_geom.specs.declared.table.Resolution.{Resolution}
-use Rattle.jx_tier2_reader.specs.Blocks.{resolution_blocks}
+use Rattle.jx_tier2_reader.specs.Blocks.{blocks_of_resolution}
 use Rattle.jx_tier2_reader.proofs.ListedLemmas.{blocks_listed, row_there, rows_all, rows_next}
 use Rattle.jx_tier2_reader.proofs.fresh.blocks_of.Goals as goal
 
@@ -15,10 +15,10 @@ push_bands-requires-clause-res c =
 pub loop-row-preserved : goal.loop-row-preserved
 unfolding none
 loop-row-preserved c =
-    rows_next (resolution_blocks c.args.stream.now c.args.geom.now []) c.resolutions-rows.result.now c.loop-row.row-index none c.loop-row.list.items c.push_bands.new.list.items
+    rows_next (blocks_of_resolution c.args.stream.now c.args.geom.now []) c.resolutions-rows.result.now c.loop-row.row-index none c.loop-row.list.items c.push_bands.new.list.items
     c.loop-row-test.true c.loop-row.invariant c.in_ok-push_bands.ensures
 
 pub returns : goal.returns
 returns c =
-    rows_all (resolution_blocks c.args.stream.now c.args.geom.now []) c.args.geom.now c.resolutions-rows.result.now c.loop-row.row-index c.loop-row.list.items (omega arith)
+    rows_all (blocks_of_resolution c.args.stream.now c.args.geom.now []) c.args.geom.now c.resolutions-rows.result.now c.loop-row.row-index c.loop-row.list.items (omega arith)
     c.resolutions-rows.ensures c.loop-row.invariant ∙ blocks_listed c.args.stream.now c.args.geom.now

@@ -5,7 +5,7 @@ use Rattle.jx_base.specs.declared.pieces.Block.{Block}
 use Rattle.jx_codeblock.specs.Recoded.{WrittenBlock}
 use Rattle.jx_geom.specs.Geometry.{Geometry}
 use Rattle.jx_codestream.specs.declared.Stream.{Stream}
-use Rattle.jx_tier2_writer.specs.Assembled.{AreOwn, AreTileBytes, IsTooLong}
+use Rattle.jx_tier2_writer.specs.Assembled.{AreOwn, AreTileBytes, HasMoreBytes}
 use Rattle.jx_tier2_writer.specs.Own.{AreOwnBlocks}
 use Rattle.jx_tier2_writer.specs.Packed.{own_packets}
 use Rattle.jx_tier2_writer.specs.Pieces.{IsLayout, blocks_lent, bytes_lent, tile_pieces}
@@ -31,7 +31,7 @@ returns-in-Err-clause-long c is all are =
     let s : Stream = c.args.stream.now in
     let geom : Geometry = c.in_ok-geom.geom in
     let e : geom.tile ≡ c.args.tile = ap (λ (x : Geometry). x.tile) c.in_ok-geom.ensures in
-    let P : ℕ → List (Bor WrittenBlock) → Type 0 = λ t refs. (all : List Block) → AreOwn s t all (blocks_lent refs) → IsTooLong c.args.marks s all t c.args.most in
+    let P : ℕ → List (Bor WrittenBlock) → Type 0 = λ t refs. (all : List Block) → AreOwn s t all (blocks_lent refs) → HasMoreBytes c.args.marks s all t c.args.most in
     subst (λ (t : ℕ). P t c.args.blocks.items) e
     (subst (λ (refs : List (Bor WrittenBlock)). P geom.tile refs) c.deref.ensures.value (c.pack_values.ensures.long (same_fault c.pack_values.result c.in-Err.fault TooLong c.in-Err.is is))) all are
 

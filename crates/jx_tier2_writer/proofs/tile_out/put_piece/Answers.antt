@@ -1,7 +1,7 @@
 use Rattle.std.proofs.Common.{◌≡◌, ◌∙◌, ◌+◌, ◌-◌, ◌<◌, ◌++◌, [], ℕ, List, length, map, ap, refl, sym, subst, arith, OnOk}
 use Rattle.std.specs.Prelude.{slice_index_or}
 use Rattle.jx_base.specs.declared.pieces.Block.{Block}
-use Rattle.jx_progression.specs.Packets.{IsPacket}
+use Rattle.jx_progression.specs.Packets.{IsPacketName}
 use Rattle.jx_progression.specs.declared.names.PacketName.{PacketName}
 use Rattle.jx_codestream.specs.Shapes.{layers_of}
 use Rattle.jx_tier2_reader.specs.Written.{packet_bytes}
@@ -35,7 +35,7 @@ put_packet-requires-clause-there g c =
     let number : ℕ = c.args.part.now.from + (c.args.piece - 1) in
     let below : number < length names =
     packet_below (own_packets c.args.marks c.args.stream.now c.args.geom.now own) names c.args.part.now c.requires.part c.args.piece number c.requires.piece (omega (arith, c.if-piece-eq0.false)) refl in
-    subst (IsPacket c.args.geom.now (layers_of c.args.stream.now c.args.geom.now.tile)) (sym c.index-name.ensures) (c.requires.layout.each number c.index-name.result.now below)
+    subst (IsPacketName c.args.geom.now (layers_of c.args.stream.now c.args.geom.now.tile)) (sym c.index-name.ensures) (c.requires.layout.each number c.index-name.result.now below)
 
 pub returns : goal.returns
 returns g c =
