@@ -18,9 +18,6 @@ pub record Wanted : Type 0 where
   -- what stands in the tile-parts beside headers and blocks, and where they begin
   pub marks : Marks
 
-abbrev pub marks_of : Wanted → Marks
-marks_of w = w.marks
-
 -- a style has six bits, and predictable termination isn't asked (bit 4)
 pub record MayBeStyle (style : Style) : Type 0 where
   pub few : style.bits < 64

@@ -43,7 +43,7 @@ use Rattle.jx_plan.specs.Meaning.{Component, Meaning, Place, component_of, meani
 use Rattle.jx_plan.specs.Plan.{headers_with}
 use Rattle.jx_plan.specs.Planned.{IsCrowded, IsFreeBy, MakesLayers, blocks_written, layers_of_rule}
 use Rattle.jx_plan.specs.Standing.{HeadersStand}
-use Rattle.jx_options.specs.Wanted.{MayBeWanted, Wanted, marks_of}
+use Rattle.jx_options.specs.Wanted.{MayBeWanted, Wanted}
 use Rattle.jx_tier2_writer.specs.Kept.{IsKeptIn}
 use Rattle.jx_tier2_writer.specs.Ready.{AllShort, AreReady, IsTileReady, stream_read}
 use Rattle.jx_tier2_writer.specs.SameHeaders.{HasHeadersOf}
@@ -119,7 +119,7 @@ module _ (laws : HeaderLaws) (w : Wanted) (layers : ℕ) (s : Stream) (some : 1 
   a = with_layers w layers
 
   abbrev m : Marks
-  m = marks_of w
+  m = w.marks
 
   abbrev it : Stream
   it = headers_with w layers s
@@ -167,7 +167,7 @@ all_at : (P : Block → Type 0) (blocks : List Block) (k : ℕ) (b : Block) → 
 all_at P blocks k b each is = subst P (get_or_from_slice_get blocks k b b is) (each k b (slice_get_within blocks k b is))
 
 module _ (laws : HeaderLaws) (keep : KeepLaws) (told : LayerLaws) (w : Wanted) (rule : Rule) (before : Stream) (blocks : List Block) (input out : List ℕ)
-    (is : IsOutput (marks_of w) (headers_with w (layers_of_rule rule before blocks) before) (blocks_written w rule before blocks) out) (read : IsRead input before)
+    (is : IsOutput w.marks (headers_with w (layers_of_rule rule before blocks) before) (blocks_written w rule before blocks) out) (read : IsRead input before)
     (small : length input ≤ 2 ^ 28) (none : totals_fault before ≡ None) (gathered : IsGathered input before blocks) (makes : MakesLayers (Some rule) before blocks)
     (may : MayBeWanted w) (free : IsFreeBy rule before blocks w) (right : All (λ (b : Block). is_wrong w.style b ≡ false) blocks)
     (short : AllShort is.parts (tile_number before.siz)) where
@@ -178,7 +178,7 @@ module _ (laws : HeaderLaws) (keep : KeepLaws) (told : LayerLaws) (w : Wanted) (
   b = with_layers w layers
 
   abbrev marks : Marks
-  marks = marks_of w
+  marks = w.marks
 
   abbrev written : Stream
   written = headers_with w layers before

@@ -24,7 +24,7 @@ use Rattle.jx_plan.specs.Headers.{HeaderOptions, comp_written, stream_written, w
 use Rattle.jx_plan.specs.Causes.{IsFree}
 use Rattle.jx_plan.specs.Plan.{IsPlan, Plan, headers_of, headers_with}
 use Rattle.jx_plan.specs.Standing.{HeadersStand}
-use Rattle.jx_options.specs.Wanted.{MayBeWanted, Wanted, marks_of}
+use Rattle.jx_options.specs.Wanted.{MayBeWanted, Wanted}
 use Rattle.jx_tier2_writer.specs.Assembled.{AreOwn, AreTileBytes}
 use Rattle.jx_tier2_writer.specs.Assembled.{HasMoreBytes}
 use Rattle.jx_tier2_writer.specs.Own.{AreOwnBlocks}
@@ -39,9 +39,9 @@ use Rattle.jx_geom.proofs.SameLemmas.{same_tile}
 abbrev pub WrittenReady : Type 0
 WrittenReady =
     (w : Wanted) (layers : ℕ) (s : Stream) → 1 ≤ layers → layers < 2 ^ 16 → MayBeWanted w → HeadersStand s → StreamInRange s → totals_fault s ≡ None → IsFree s w layers
-    → AreReady (marks_of w) (headers_with w layers s)
+    → AreReady w.marks (headers_with w layers s)
 
-pub plan_ready : (p : Plan) → IsPlan p → WrittenReady → AreReady (marks_of p.wanted) (headers_of p)
+pub plan_ready : (p : Plan) → IsPlan p → WrittenReady → AreReady p.wanted.marks (headers_of p)
 plan_ready p is written =
     written p.wanted p.layers p.stream is.some is.few is.wanted is.may.headers is.may.range is.may.totals (record { fits = is.fits; few = is.packets; parts = is.parts })
 
@@ -105,7 +105,7 @@ module _ (p : Plan) (is : IsPlan p) (stay : ParametersStay) where
           e ∙ each (get_or (v ∷ vs) i v) got ∙ sym (slice_get-map block_written (v ∷ vs) i ∙ ap (option_map block_written) got)
 
 -- ---- its tile-parts
-pub is_tile : (p : Plan) (blocks : List Block) (t most : ℕ) (bytes : List (List ℕ)) → (is : AreTileBytes (marks_of p.wanted) (headers_of p) blocks t bytes) × AreAtMost most is.parts
+pub is_tile : (p : Plan) (blocks : List Block) (t most : ℕ) (bytes : List (List ℕ)) → (is : AreTileBytes p.wanted.marks (headers_of p) blocks t bytes) × AreAtMost most is.parts
     → IsTile p blocks t most bytes
 is_tile p blocks t most bytes (is, few) = record {
   parts = is.parts;
@@ -114,5 +114,5 @@ is_tile p blocks t most bytes (is, few) = record {
   bytes_are = is.bytes_are ∙ ap (λ (n : ℕ). map (part_bytes n) is.parts) (written_comps (with_layers p.wanted p.layers) p.stream);
 }
 
-pub is_too_long : (p : Plan) (blocks : List Block) (t most : ℕ) → HasMoreBytes (marks_of p.wanted) (headers_of p) blocks t most → IsTooLong p blocks t most
+pub is_too_long : (p : Plan) (blocks : List Block) (t most : ℕ) → HasMoreBytes p.wanted.marks (headers_of p) blocks t most → IsTooLong p blocks t most
 is_too_long p blocks t most is = record { parts = is.parts; are = is.are; long = is.long }
