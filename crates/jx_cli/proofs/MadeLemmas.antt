@@ -9,6 +9,7 @@ use Rattle.std.proofs.lemmas.Slice.Eq.{bytes_eq-Decides}
 use Rattle.std.proofs.lemmas.Fmt.{decimal_digit}
 use Rattle.clap.specs.Words.{fault_of}
 use Rattle.clap.proofs.OnLiterals.{clap_on_literals}
+use Rattle.jx_base.specs.OrderNumbers.{IsOrderNumber}
 use Rattle.jx_base.specs.declared.style.Style.{Style}
 use Rattle.jx_options.specs.Wanted.{MayBeStyle}
 use Rattle.jx_options.specs.declared.PartChoice.{PartChoice}
@@ -65,7 +66,7 @@ abbrev order_word : Option ℕ → Text
 order_word None = codes "keep"
 order_word (Some order) = slice_index_or (codes "lrcp" ∷ codes "rlcp" ∷ codes "rpcl" ∷ codes "pcrl" ∷ codes "cprl" ∷ []) order []
 
-order_back : (order : Option ℕ) → IfSome order (λ n. n ≤ 4) → order_said (order_word order) ≡ Some order
+order_back : (order : Option ℕ) → IfSome order IsOrderNumber → order_said (order_word order) ≡ Some order
 order_back None few = refl
 order_back (Some zero) few = refl
 order_back (Some (suc zero)) few = refl
@@ -142,20 +143,20 @@ given_for r = record {
   precincts = precincts_word r.wanted.precincts;
   layers = r.wanted.layers;
   style = style_word r.wanted.style;
-  parts = parts_word r.wanted.parts;
-  sop = r.wanted.sop;
-  eph = r.wanted.eph;
-  plt = r.wanted.plt;
+  parts = parts_word r.wanted.marks.parts;
+  sop = r.wanted.marks.sop;
+  eph = r.wanted.marks.eph;
+  plt = r.wanted.marks.plt;
   threads = decimal r.work.threads;
   window = decimal r.work.window;
   window_bytes = decimal r.work.most;
 }
 
 abbrev words_for : Request → List Text
-words_for r = made_words (given_for r) r.wanted.sop r.wanted.eph r.wanted.plt
+words_for r = made_words (given_for r) r.wanted.marks.sop r.wanted.marks.eph r.wanted.marks.plt
 
 found_for : (r : Request) → given_in (words_for r) ≡ given_for r
-found_for r = made_found (given_for r) r.wanted.sop r.wanted.eph r.wanted.plt
+found_for r = made_found (given_for r) r.wanted.marks.sop r.wanted.marks.eph r.wanted.marks.plt
 
 threads_back : (w : Work) → MayBeWork w → number_in 64 (decimal w.threads) ≡ Some w.threads
 threads_back w may = number_spelled 64 w.threads (omega arith) may.some_threads may.few_threads
@@ -169,12 +170,12 @@ most_back w may = number_spelled 268435456 w.most (omega arith) may.some_most ma
 values_good : (r : Request) → MayBeAsked r → are_values (given_for r) ≡ true
 unfolding are_values
 values_good r may =
-    rw (order_back r.wanted.order may.order, precincts_back r.wanted.precincts may.precincts, parts_back r.wanted.parts, style_back r.wanted.style may.style, threads_back r.work may.work, window_back r.work may.work, most_back r.work may.work) refl
+    rw (order_back r.wanted.order may.order, precincts_back r.wanted.precincts may.precincts, parts_back r.wanted.marks.parts, style_back r.wanted.style may.style, threads_back r.work may.work, window_back r.work may.work, most_back r.work may.work) refl
 
 values_made : (r : Request) → MayBeAsked r → wanted_by (given_for r) ≡ r.wanted
 unfolding wanted_by
 values_made r may =
-    rw (order_back r.wanted.order may.order, precincts_back r.wanted.precincts may.precincts, parts_back r.wanted.parts, style_back r.wanted.style may.style) refl
+    rw (order_back r.wanted.order may.order, precincts_back r.wanted.precincts may.precincts, parts_back r.wanted.marks.parts, style_back r.wanted.style may.style) refl
 
 work_made : (r : Request) → MayBeAsked r → work_by (given_for r) ≡ r.work
 unfolding work_by
@@ -183,7 +184,7 @@ work_made r may = rw (threads_back r.work may.work, window_back r.work may.work,
 made_good : (r : Request) → MayBeAsked r → is_good ([] ∷ words_for r) ≡ true
 unfolding is_good
 made_good r may =
-    let none : eqb (length (fault_of transcode (words_for r))) 0 ≡ true = rw (made_taken (given_for r) r.wanted.sop r.wanted.eph r.wanted.plt) refl in
+    let none : eqb (length (fault_of transcode (words_for r))) 0 ≡ true = rw (made_taken (given_for r) r.wanted.marks.sop r.wanted.marks.eph r.wanted.marks.plt) refl in
     let values : are_values (given_in (words_for r)) ≡ true = rw (found_for r) (values_good r may) in
     rw (none, values) refl
 

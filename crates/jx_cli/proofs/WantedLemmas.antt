@@ -2,6 +2,7 @@
 use Rattle.std.proofs.Common.{◌≡◌, ◌<◌, ◌≤◌, ◌⊎◌, subst, sym, drop, refl, arith, ℕ, List, [], Option, None, Some, IfSome, inl, inr, unwrap_or}
 use Rattle.std.specs.Option.{option_map, option_or}
 use Rattle.std.proofs.lemmas.List.Elements.{All-nil}
+use Rattle.jx_base.specs.OrderNumbers.{IsOrderNumber}
 use Rattle.jx_marker.specs.Ranges.{AreBytes}
 use Rattle.jx_base.specs.declared.style.Style.{Style}
 use Rattle.jx_options.specs.Wanted.{MayBeStyle, MayBeWanted}
@@ -19,8 +20,8 @@ else_none : {X : Type 0} (P : X → Type 0) (o : Option (Option X)) → IfSome o
 else_none P None all = tt
 else_none P (Some v) all = all
 
-order_few : (text : List ℕ) → IfSome (unwrap_or (order_said text) None) (λ order. order ≤ 4)
-order_few text = else_none (λ order. order ≤ 4) (order_said text) (found (λ v. IfSome v (λ order. order ≤ 4)) orders text (tt, (omega arith, (omega arith, (omega arith, (omega arith, (omega arith, tt)))))))
+order_few : (text : List ℕ) → IfSome (unwrap_or (order_said text) None) IsOrderNumber
+order_few text = else_none IsOrderNumber (order_said text) (found (λ v. IfSome v IsOrderNumber) orders text (tt, (omega arith, (omega arith, (omega arith, (omega arith, (omega arith, tt)))))))
 
 -- no bytes, or those of 1 to 33 resolutions
 abbrev ArePerhaps : List ℕ → Type 0

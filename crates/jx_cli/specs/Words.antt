@@ -1,7 +1,8 @@
 -- What the words of the command line ask for.
-use Rattle.std.specs.Prelude.{◌≡◌, ◌≤◌, ◌⊎◌, IfSome, true, ℕ, ◌&&◌, Bool, List, [], length, drop, slice_index_or, codes, eqb, Option, is_some, None, unwrap_or}
+use Rattle.std.specs.Prelude.{◌≡◌, ◌⊎◌, IfSome, true, ℕ, ◌&&◌, Bool, List, [], length, drop, slice_index_or, codes, eqb, Option, is_some, None, unwrap_or}
 use Rattle.std.specs.Str.{bytes_eq}
 use Rattle.clap.specs.Words.{fault_of, first_of, matches_of}
+use Rattle.jx_base.specs.OrderNumbers.{IsOrderNumber}
 use Rattle.jx_options.specs.Wanted.{MayBeStyle, Wanted}
 use Rattle.jx_options.specs.Work.{MayBeWork, Work}
 use Rattle.jx_options.specs.declared.PartChoice.TheVariants as parts
@@ -89,10 +90,7 @@ wanted_by g = record {
   precincts = unwrap_or (precincts_said g.precincts) None;
   style = unwrap_or (style_said g.style) None;
   layers = g.layers;
-  parts = unwrap_or (parts_said g.parts) parts.None;
-  sop = g.sop;
-  eph = g.eph;
-  plt = g.plt;
+  marks = record { sop = g.sop; eph = g.eph; plt = g.plt; parts = unwrap_or (parts_said g.parts) parts.None };
 }
 
 unfoldable pub work_by : Given → Work
@@ -123,7 +121,7 @@ request_of words = request_by (given_in (drop 1 words))
 -- a request that words can make: by one of the five orders, with the precincts of 1 to 33 resolutions and a style of five bits; the words
 -- for the planners of layers are any text
 pub record MayBeAsked (r : Request) : Type 0 where
-  pub order : IfSome r.wanted.order (λ order. order ≤ 4)
+  pub order : IfSome r.wanted.order IsOrderNumber
   pub precincts : IfSome r.wanted.precincts (λ bytes. (bytes ≡ []) ⊎ ArePrecincts bytes)
   pub style : IfSome r.wanted.style MayBeStyle
   pub work : MayBeWork r.work

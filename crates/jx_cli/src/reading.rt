@@ -10,8 +10,8 @@ use crate::given::{Given, given_in};
 use crate::{Request, WordsFault};
 use jx_base::{NoMemory, Style};
 use jx_options::{
-    Options, OrderChoice, PartChoice, PrecinctChoice, Work, bytes_said, order_said, parts_said,
-    precincts_said, style_said, threads_said, window_said,
+    Marks, Options, OrderChoice, PartChoice, PrecinctChoice, Work, bytes_said, order_said,
+    parts_said, precincts_said, style_said, threads_said, window_said,
 };
 use std::alloc::Global;
 
@@ -49,10 +49,7 @@ fn made(
         precincts = bytes_in precincts;
         style = style;
         layers = given.now.layers;
-        parts = parts;
-        sop = given.now.sop;
-        eph = given.now.eph;
-        plt = given.now.plt;
+        marks = record { sop = given.now.sop; eph = given.now.eph; plt = given.now.plt; parts = parts };
       };
       work = work;
     }) }
@@ -65,10 +62,12 @@ fn made(
             precincts,
             style,
             layers: String::from_str(alloc, given.layers)?,
-            parts,
-            sop: given.sop,
-            eph: given.eph,
-            plt: given.plt,
+            marks: Marks {
+                sop: given.sop,
+                eph: given.eph,
+                plt: given.plt,
+                parts,
+            },
         },
         work,
     })

@@ -1,11 +1,12 @@
 -- The progression entries of a tile that was read name one of the five orders.
-use Rattle.std.proofs.Common.{◌≡◌, ◌≤◌, ◌==◌, ◌&&◌, ◌||◌, ℕ, true, List, [], ◌∷◌, nat_lt, nat_le, refl, inl, Option, Some, None}
+use Rattle.std.proofs.Common.{◌≡◌, ◌==◌, ◌&&◌, ◌||◌, ℕ, true, List, [], ◌∷◌, nat_lt, refl, inl, Option, Some, None}
 use Rattle.std.specs.List.{All}
 use Rattle.std.proofs.lemmas.List.Elements.{All-nil, All-cons, All-head, All-tail, All-append, All-weaker}
+use Rattle.jx_base.specs.OrderNumbers.{IsOrderNumber}
 use Rattle.jx_marker.specs.declared.Progression.{Progression}
 use Rattle.jx_marker.specs.declared.Segment.{Segment}
 use Rattle.jx_marker.specs.declared.Segment.TheVariants as segment
-use Rattle.jx_marker.specs.Rules.{progression_fits}
+use Rattle.jx_marker.specs.Rules.{is_order, progression_fits}
 use Rattle.jx_marker.specs.Ranges.{InRange}
 use Rattle.jx_codestream.specs.declared.parts.Part.{Part}
 use Rattle.jx_codestream.specs.Tiles.{in_slot, entries_of, entries_joined, entry_of, entry_in, headers_of, first_header, or_list, progressions_of}
@@ -14,13 +15,13 @@ use Rattle.jx_base.proofs.Lists.{all_pass}
 use Rattle.std.proofs.lemmas.Bool.{leb-true, and_parts}
 
 abbrev pub HasOrder : Progression → Type 0
-HasOrder e = e.order ≤ 4
+HasOrder e = IsOrderNumber e.order
 
 one_order : (e : Progression) → progression_fits e ≡ true → HasOrder e
 one_order e h =
-    let one = and_parts (nat_lt e.rs e.re) (((e.ce == 0) || nat_lt e.cs e.ce) && (nat_lt 0 e.lye && nat_le e.order 4)) h in
-    let two = and_parts ((e.ce == 0) || nat_lt e.cs e.ce) (nat_lt 0 e.lye && nat_le e.order 4) one.1 in
-    leb-true e.order 4 (and_parts (nat_lt 0 e.lye) (nat_le e.order 4) two.1).1
+    let one = and_parts (nat_lt e.rs e.re) (((e.ce == 0) || nat_lt e.cs e.ce) && (nat_lt 0 e.lye && is_order e.order)) h in
+    let two = and_parts ((e.ce == 0) || nat_lt e.cs e.ce) (nat_lt 0 e.lye && is_order e.order) one.1 in
+    leb-true e.order 4 (and_parts (nat_lt 0 e.lye) (is_order e.order) two.1).1
 
 own_orders : (comps : ℕ) (s : Segment) → InRange comps s → All HasOrder (entries_of s)
 own_orders comps (segment.Poc entries) r = All-weaker (λ (e : Progression). progression_fits e ≡ true) HasOrder one_order entries (all_pass progression_fits entries r.fits)

@@ -12,6 +12,7 @@ use Rattle.jx_marker.specs.declared.Rule.{Rule}
 use Rattle.jx_marker.specs.declared.Rule.TheVariants as rule
 use Rattle.jx_marker.specs.Rules.{first_broken}
 use Rattle.jx_marker.specs.Segments.{segment_at}
+use Rattle.jx_marker.specs.RuleNumbers.{NO_DEFAULTS, NO_PART, NO_SIZ, NO_SOC}
 use Rattle.jx_codestream.specs.declared.faults.StreamFault.{StreamFault}
 use Rattle.jx_codestream.specs.declared.faults.StreamFault.TheVariants as fault
 use Rattle.jx_codestream.specs.declared.headers.Header.{Header}
@@ -35,11 +36,11 @@ siz_stands b h =
     let e : get_or (drop 2 b) 1 0 ≡ SIZ = get_or-drop 2 b 1 0 ∙ eqb-true (get_or b 3 0) SIZ (and_parts (get_or b 2 0 == 255) (get_or b 3 0 == SIZ) h).1 in
     rw e refl
 
-pub front_15 : (b : List ℕ) → marker_at b 0 SOC ≡ false → front_fault b ≡ Some (fault.Rule 15 0)
+pub front_15 : (b : List ℕ) → marker_at b 0 SOC ≡ false → front_fault b ≡ Some (fault.Rule NO_SOC 0)
 unfolding front_fault
 front_15 b h = rw h refl
 
-pub front_16 : (b : List ℕ) → marker_at b 0 SOC ≡ true → marker_at b 2 SIZ ≡ false → front_fault b ≡ Some (fault.Rule 16 2)
+pub front_16 : (b : List ℕ) → marker_at b 0 SOC ≡ true → marker_at b 2 SIZ ≡ false → front_fault b ≡ Some (fault.Rule NO_SIZ 2)
 unfolding front_fault
 front_16 b soc h = rw (soc, h) refl
 
@@ -57,20 +58,20 @@ front_clear b soc siz h = rw (soc, siz, h) refl
 
 pub main_early : (comps : ℕ) (b : List ℕ) (start : ℕ) (e : StreamFault) → IsCause e (header_fault Main comps b start) → IsCause e (main_fault comps b start)
 unfolding main_fault
-main_early comps b start e h = cause_first e (header_fault Main comps b start) (broken 17 (main_header comps b start).end (lacks_default (main_header comps b start).segments)) h
+main_early comps b start e h = cause_first e (header_fault Main comps b start) (broken NO_DEFAULTS (main_header comps b start).end (lacks_default (main_header comps b start).segments)) h
 
 pub main_lacks : (comps : ℕ) (b : List ℕ) (start : ℕ) (main : Header) → header_fault Main comps b start ≡ None → main ≡ main_header comps b start → lacks_default main.segments ≡ true
-    → main_fault comps b start ≡ Some (fault.Rule 17 main.end)
+    → main_fault comps b start ≡ Some (fault.Rule NO_DEFAULTS main.end)
 unfolding main_fault
 main_lacks comps b start main clear is lacks =
-    rw clear (broken_true 17 (main_header comps b start).end (lacks_default (main_header comps b start).segments) (sym (ap (λ (h : Header). lacks_default h.segments) is) ∙ lacks)
-    ∙ ap (λ (h : Header). Some (fault.Rule 17 h.end)) (sym is))
+    rw clear (broken_true NO_DEFAULTS (main_header comps b start).end (lacks_default (main_header comps b start).segments) (sym (ap (λ (h : Header). lacks_default h.segments) is) ∙ lacks)
+    ∙ ap (λ (h : Header). Some (fault.Rule NO_DEFAULTS h.end)) (sym is))
 
 pub main_clear : (comps : ℕ) (b : List ℕ) (start : ℕ) (main : Header) → header_fault Main comps b start ≡ None → main ≡ main_header comps b start → lacks_default main.segments ≡ false
     → main_fault comps b start ≡ None
 unfolding main_fault
 main_clear comps b start main clear is lacks =
-    rw clear (broken_false 17 (main_header comps b start).end (lacks_default (main_header comps b start).segments) (sym (ap (λ (h : Header). lacks_default h.segments) is) ∙ lacks))
+    rw clear (broken_false NO_DEFAULTS (main_header comps b start).end (lacks_default (main_header comps b start).segments) (sym (ap (λ (h : Header). lacks_default h.segments) is) ∙ lacks))
 
 pub lacks_by_table : (comps start : ℕ) (segments : List Segment) (seen : List ℕ) (found : Bool) → MarksSlots start segments seen → length seen ≡ slot_count comps
     → found ≡ ((get_or seen 1 0 == start) && (get_or seen 2 0 == start)) → lacks_default segments ≡ not found
@@ -84,24 +85,24 @@ lacks_by_table comps start segments seen found marks size is =
 module _ (comps tiles : ℕ) (b : List ℕ) (start : ℕ) where
   pub body_main : (e : StreamFault) → IsCause e (main_fault comps b start) → IsCause e (body_fault comps tiles b start)
   unfolding body_fault
-  body_main e h = cause_first e (main_fault comps b start) (option_or (parts_fault comps tiles b (main_header comps b start).end) (broken 24 (parts_after comps tiles b start).end (lacks_part (parts_after comps tiles b start).parts tiles))) h
+  body_main e h = cause_first e (main_fault comps b start) (option_or (parts_fault comps tiles b (main_header comps b start).end) (broken NO_PART (parts_after comps tiles b start).end (lacks_part (parts_after comps tiles b start).parts tiles))) h
 
   pub body_parts : (e : StreamFault) (main : Header) → main_fault comps b start ≡ None → main ≡ main_header comps b start → IsCause e (parts_fault comps tiles b main.end) → IsCause e (body_fault comps tiles b start)
   unfolding body_fault
   body_parts e main clear is h =
-      cause_later e (main_fault comps b start) (option_or (parts_fault comps tiles b (main_header comps b start).end) (broken 24 (parts_after comps tiles b start).end (lacks_part (parts_after comps tiles b start).parts tiles))) clear
-      (cause_first e (parts_fault comps tiles b (main_header comps b start).end) (broken 24 (parts_after comps tiles b start).end (lacks_part (parts_after comps tiles b start).parts tiles))
+      cause_later e (main_fault comps b start) (option_or (parts_fault comps tiles b (main_header comps b start).end) (broken NO_PART (parts_after comps tiles b start).end (lacks_part (parts_after comps tiles b start).parts tiles))) clear
+      (cause_first e (parts_fault comps tiles b (main_header comps b start).end) (broken NO_PART (parts_after comps tiles b start).end (lacks_part (parts_after comps tiles b start).parts tiles))
       (cause_same e (parts_fault comps tiles b main.end) (parts_fault comps tiles b (main_header comps b start).end) (ap (λ (h : Header). parts_fault comps tiles b h.end) is) h))
 
   pub body_24 : (main : Header) (parts : List Part) (eoc : ℕ) → main_fault comps b start ≡ None → main ≡ main_header comps b start → parts_fault comps tiles b main.end ≡ None
-      → parts ≡ (parts_from comps tiles b main.end).parts → eoc ≡ (parts_from comps tiles b main.end).end → lacks_part parts tiles ≡ true → body_fault comps tiles b start ≡ Some (fault.Rule 24 eoc)
+      → parts ≡ (parts_from comps tiles b main.end).parts → eoc ≡ (parts_from comps tiles b main.end).end → lacks_part parts tiles ≡ true → body_fault comps tiles b start ≡ Some (fault.Rule NO_PART eoc)
   unfolding body_fault
   body_24 main parts eoc clear is none all end lacks =
       let no_part : parts_fault comps tiles b (main_header comps b start).end ≡ None = sym (ap (λ (h : Header). parts_fault comps tiles b h.end) is) ∙ none in
       let here : parts ≡ (parts_after comps tiles b start).parts = all ∙ ap (λ (h : Header). (parts_from comps tiles b h.end).parts) is in
       let stop : eoc ≡ (parts_after comps tiles b start).end = end ∙ ap (λ (h : Header). (parts_from comps tiles b h.end).end) is in
-      rw (clear, no_part) (broken_true 24 (parts_after comps tiles b start).end (lacks_part (parts_after comps tiles b start).parts tiles) (sym (ap (λ (x : List Part). lacks_part x tiles) here) ∙ lacks)
-      ∙ ap (λ (n : ℕ). Some (fault.Rule 24 n)) (sym stop))
+      rw (clear, no_part) (broken_true NO_PART (parts_after comps tiles b start).end (lacks_part (parts_after comps tiles b start).parts tiles) (sym (ap (λ (x : List Part). lacks_part x tiles) here) ∙ lacks)
+      ∙ ap (λ (n : ℕ). Some (fault.Rule NO_PART n)) (sym stop))
 
   pub body_clear : (main : Header) (parts : List Part) → main_fault comps b start ≡ None → main ≡ main_header comps b start → parts_fault comps tiles b main.end ≡ None
       → parts ≡ (parts_from comps tiles b main.end).parts → lacks_part parts tiles ≡ false → (body_fault comps tiles b start ≡ None) × (parts ≡ (parts_after comps tiles b start).parts)
@@ -109,7 +110,7 @@ module _ (comps tiles : ℕ) (b : List ℕ) (start : ℕ) where
   body_clear main parts clear is none all lacks =
       let no_part : parts_fault comps tiles b (main_header comps b start).end ≡ None = sym (ap (λ (h : Header). parts_fault comps tiles b h.end) is) ∙ none in
       let here : parts ≡ (parts_after comps tiles b start).parts = all ∙ ap (λ (h : Header). (parts_from comps tiles b h.end).parts) is in (
-        rw (clear, no_part) (broken_false 24 (parts_after comps tiles b start).end (lacks_part (parts_after comps tiles b start).parts tiles) (sym (ap (λ (x : List Part). lacks_part x tiles) here) ∙ lacks)),
+        rw (clear, no_part) (broken_false NO_PART (parts_after comps tiles b start).end (lacks_part (parts_after comps tiles b start).parts tiles) (sym (ap (λ (x : List Part). lacks_part x tiles) here) ∙ lacks)),
         here,
       )
 

@@ -11,6 +11,7 @@ use Rattle.jx_marker.specs.declared.Sot.{Sot}
 use Rattle.jx_marker.specs.Segments.{spelling}
 use Rattle.jx_marker.specs.Rules.{first_broken}
 use Rattle.jx_marker.specs.Ranges.{SizInRange, SotInRange}
+use Rattle.jx_marker.specs.RuleNumbers.{NO_DEFAULTS, NO_PART, PART_END}
 use Rattle.jx_codestream.specs.declared.faults.StreamFault.{StreamFault}
 use Rattle.jx_codestream.specs.declared.headers.HeaderKind.{HeaderKind}
 use Rattle.jx_codestream.specs.declared.headers.HeaderKind.TheVariants.{Main}
@@ -111,11 +112,11 @@ in_parameters siz b start s f few body same h =
 in_main : (comps tiles : ℕ) (b : List ℕ) (start : ℕ) (f : StreamFault) → main_fault comps b start ≡ Some f → body_fault comps tiles b start ≡ Some f
 unfolding body_fault
 in_main comps tiles b start f h =
-    some_first (main_fault comps b start) (option_or (parts_fault comps tiles b (main_header comps b start).end) (broken 24 (parts_after comps tiles b start).end (lacks_part (parts_after comps tiles b start).parts tiles))) f h
+    some_first (main_fault comps b start) (option_or (parts_fault comps tiles b (main_header comps b start).end) (broken NO_PART (parts_after comps tiles b start).end (lacks_part (parts_after comps tiles b start).parts tiles))) f h
 
 in_header : (comps : ℕ) (b : List ℕ) (start : ℕ) (f : StreamFault) → header_fault Main comps b start ≡ Some f → main_fault comps b start ≡ Some f
 unfolding main_fault
-in_header comps b start f h = some_first (header_fault Main comps b start) (broken 17 (main_header comps b start).end (lacks_default (main_header comps b start).segments)) f h
+in_header comps b start f h = some_first (header_fault Main comps b start) (broken NO_DEFAULTS (main_header comps b start).end (lacks_default (main_header comps b start).segments)) f h
 
 -- what is violated after segments that are spelled is violated in this header
 after_segments : (kind : HeaderKind) (comps : ℕ) (b : List ℕ) (start : ℕ) (before : List Segment) (tail : List ℕ) (f : StreamFault) → AreSegments kind comps [] before
@@ -136,27 +137,27 @@ main_over comps b main start sot tail are range there = record {
   header = header_read Main comps b main [] start (segment.Sot sot) tail are range refl refl there;
 }
 
-in_17 : (comps : ℕ) (b : List ℕ) (main : List Segment) (start : ℕ) (f : StreamFault) → MainOver comps b main start → broken 17 (start + length (all_bytes comps main)) (lacks_default main) ≡ Some f
+in_17 : (comps : ℕ) (b : List ℕ) (main : List Segment) (start : ℕ) (f : StreamFault) → MainOver comps b main start → broken NO_DEFAULTS (start + length (all_bytes comps main)) (lacks_default main) ≡ Some f
     → main_fault comps b start ≡ Some f
 unfolding main_fault
 in_17 comps b main start f over h =
-    none_before (header_fault Main comps b start) (broken 17 (main_header comps b start).end (lacks_default (main_header comps b start).segments)) over.clear
-    ∙ ap (λ (x : Header). broken 17 x.end (lacks_default x.segments)) over.header ∙ h
+    none_before (header_fault Main comps b start) (broken NO_DEFAULTS (main_header comps b start).end (lacks_default (main_header comps b start).segments)) over.clear
+    ∙ ap (λ (x : Header). broken NO_DEFAULTS x.end (lacks_default x.segments)) over.header ∙ h
 
 no_17 : (comps : ℕ) (b : List ℕ) (main : List Segment) (start : ℕ) → MainOver comps b main start → lacks_default main ≡ false → main_fault comps b start ≡ None
 unfolding main_fault
 no_17 comps b main start over defaults =
-    none_before (header_fault Main comps b start) (broken 17 (main_header comps b start).end (lacks_default (main_header comps b start).segments)) over.clear
-    ∙ ap (λ (x : Header). broken 17 x.end (lacks_default x.segments)) over.header ∙ broken_false 17 (start + length (all_bytes comps main)) (lacks_default main) defaults
+    none_before (header_fault Main comps b start) (broken NO_DEFAULTS (main_header comps b start).end (lacks_default (main_header comps b start).segments)) over.clear
+    ∙ ap (λ (x : Header). broken NO_DEFAULTS x.end (lacks_default x.segments)) over.header ∙ broken_false NO_DEFAULTS (start + length (all_bytes comps main)) (lacks_default main) defaults
 
 in_parts : (comps tiles : ℕ) (b : List ℕ) (main : List Segment) (start : ℕ) (f : StreamFault) → MainOver comps b main start → lacks_default main ≡ false
     → parts_fault comps tiles b (start + length (all_bytes comps main)) ≡ Some f → body_fault comps tiles b start ≡ Some f
 unfolding body_fault
 in_parts comps tiles b main start f over defaults h =
     none_before (main_fault comps b start)
-    (option_or (parts_fault comps tiles b (main_header comps b start).end) (broken 24 (parts_after comps tiles b start).end (lacks_part (parts_after comps tiles b start).parts tiles)))
+    (option_or (parts_fault comps tiles b (main_header comps b start).end) (broken NO_PART (parts_after comps tiles b start).end (lacks_part (parts_after comps tiles b start).parts tiles)))
     (no_17 comps b main start over defaults)
-    ∙ some_first (parts_fault comps tiles b (main_header comps b start).end) (broken 24 (parts_after comps tiles b start).end (lacks_part (parts_after comps tiles b start).parts tiles)) f
+    ∙ some_first (parts_fault comps tiles b (main_header comps b start).end) (broken NO_PART (parts_after comps tiles b start).end (lacks_part (parts_after comps tiles b start).parts tiles)) f
     (ap (λ (x : Header). parts_fault comps tiles b x.end) over.header ∙ h)
 
 -- tile-parts
@@ -253,8 +254,8 @@ unfolding start_fault
 eoc_starts comps b at h =
     let rules = (stands_there comps b at segment.Eoc (drop (at + 2) b) tt (marker_there b at EOC h (omega arith))).rules in
     let either : (marker_at b at SOT || marker_at b at EOC) ≡ true = ap (λ x. marker_at b at SOT || x) h ∙ or_right (marker_at b at SOT) true refl in
-    none_of_both (broken 23 at (not (marker_at b at SOT || marker_at b at EOC))) (rule_at at (first_broken comps (drop at b)))
-    (broken_false 23 at (not (marker_at b at SOT || marker_at b at EOC)) (ap not either)) (ap (rule_at at) rules)
+    none_of_both (broken PART_END at (not (marker_at b at SOT || marker_at b at EOC))) (rule_at at (first_broken comps (drop at b)))
+    (broken_false PART_END at (not (marker_at b at SOT || marker_at b at EOC)) (ap not either)) (ap (rule_at at) rules)
 
 start_goes : (comps : ℕ) (b : List ℕ) (at : ℕ) (f : StreamFault) → start_fault comps b at ≡ Some f → marker_at b at EOC ≡ false
 start_goes comps b at f h =
@@ -306,7 +307,7 @@ told_17 b f x =
     let place : start + length (all_bytes comps x.main) ≡ length (main_bytes x.siz x.main) = front.place ∙ sym (main_size x.siz x.main) in
     let over = main_over comps b x.main start x.sot x.begins.rest x.front.segments x.range front.there in
     front.first ∙ in_body x.siz b start f x.front.few (in_main comps (tile_number x.siz) b start f
-    (in_17 comps b x.main start f over (ap (λ (n : ℕ). broken 17 n (lacks_default x.main)) place ∙ x.first)))
+    (in_17 comps b x.main start f over (ap (λ (n : ℕ). broken NO_DEFAULTS n (lacks_default x.main)) place ∙ x.first)))
 
 told_part : (b : List ℕ) (f : StreamFault) → IsAtPart b f → first_fault b ≡ Some f
 told_part b f x =
@@ -402,15 +403,15 @@ whole_read b siz main parts rest is =
     }
 
 in_24 : (comps tiles : ℕ) (b : List ℕ) (main : List Segment) (parts : List TilePart) (start : ℕ) (f : StreamFault) → BodyOver comps tiles b main parts start
-    → broken 24 (start + length (all_bytes comps main) + length (flat_map (part_bytes comps) parts)) (lacks_part (placed comps (start + length (all_bytes comps main)) parts) tiles) ≡ Some f
+    → broken NO_PART (start + length (all_bytes comps main) + length (flat_map (part_bytes comps) parts)) (lacks_part (placed comps (start + length (all_bytes comps main)) parts) tiles) ≡ Some f
     → body_fault comps tiles b start ≡ Some f
 unfolding body_fault
 in_24 comps tiles b main parts start f over h =
-    let last = broken 24 (parts_after comps tiles b start).end (lacks_part (parts_after comps tiles b start).parts tiles) in
+    let last = broken NO_PART (parts_after comps tiles b start).end (lacks_part (parts_after comps tiles b start).parts tiles) in
     none_before (main_fault comps b start) (option_or (parts_fault comps tiles b (main_header comps b start).end) last) over.main_clear
     ∙ none_before (parts_fault comps tiles b (main_header comps b start).end) last over.parts_clear
-    ∙ ap (λ (n : ℕ). broken 24 n (lacks_part (parts_after comps tiles b start).parts tiles)) over.end
-    ∙ ap (λ (x : List Part). broken 24 (start + length (all_bytes comps main) + length (flat_map (part_bytes comps) parts)) (lacks_part x tiles)) over.all ∙ h
+    ∙ ap (λ (n : ℕ). broken NO_PART n (lacks_part (parts_after comps tiles b start).parts tiles)) over.end
+    ∙ ap (λ (x : List Part). broken NO_PART (start + length (all_bytes comps main) + length (flat_map (part_bytes comps) parts)) (lacks_part x tiles)) over.all ∙ h
 
 told_24 : (b : List ℕ) (f : StreamFault) → IsAtEoc b f → first_fault b ≡ Some f
 told_24 b f x =
@@ -418,9 +419,9 @@ told_24 b f x =
     let tiles = tile_number x.siz in
     let start = after_siz b in
     let read = whole_read b x.siz x.main x.parts x.rest x.whole in
-    let here : broken 24 (start + length (all_bytes comps x.main) + length (flat_map (part_bytes comps) x.parts)) (lacks_part (placed comps (start + length (all_bytes comps x.main)) x.parts) tiles) ≡ Some f =
-    ap (λ (n : ℕ). broken 24 n (lacks_part (placed comps (start + length (all_bytes comps x.main)) x.parts) tiles)) read.end
-    ∙ ap (λ (n : ℕ). broken 24 (length (front_bytes x.siz x.main x.parts)) (lacks_part (placed comps n x.parts) tiles)) read.front.place ∙ x.first in
+    let here : broken NO_PART (start + length (all_bytes comps x.main) + length (flat_map (part_bytes comps) x.parts)) (lacks_part (placed comps (start + length (all_bytes comps x.main)) x.parts) tiles) ≡ Some f =
+    ap (λ (n : ℕ). broken NO_PART n (lacks_part (placed comps (start + length (all_bytes comps x.main)) x.parts) tiles)) read.end
+    ∙ ap (λ (n : ℕ). broken NO_PART (length (front_bytes x.siz x.main x.parts)) (lacks_part (placed comps n x.parts) tiles)) read.front.place ∙ x.first in
     read.front.first ∙ in_body x.siz b start f x.whole.front.few (in_24 comps tiles b x.main x.parts start f read.over here)
 
 told_9 : (b : List ℕ) (f : StreamFault) → IsShort b f → first_fault b ≡ Some f

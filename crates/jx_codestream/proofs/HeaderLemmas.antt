@@ -13,6 +13,7 @@ use Rattle.jx_marker.specs.Rules.{first_broken, breaks_2, breaks_14, breaks_1}
 use Rattle.jx_marker.specs.Segments.{segment_at, size_at, code_at, length_at}
 use Rattle.jx_marker.specs.Markers.{has_length}
 use Rattle.jx_marker.specs.Ranges.{InRange}
+use Rattle.jx_marker.specs.RuleNumbers.{LENGTH, MISPLACED, TWICE}
 use Rattle.jx_codestream.specs.declared.faults.StreamFault.{StreamFault}
 use Rattle.jx_codestream.specs.declared.faults.StreamFault.TheVariants as fault
 use Rattle.jx_codestream.specs.declared.headers.HeaderKind.{HeaderKind}
@@ -35,7 +36,7 @@ pub early_clear : (kind : HeaderKind) (comps : ℕ) (b : List ℕ) (at : ℕ) �
 unfolding early_fault
 early_clear kind comps b at clear stands = rw (clear, stands) refl
 
-pub early_19 : (kind : HeaderKind) (comps : ℕ) (b : List ℕ) (at : ℕ) → first_broken comps (drop at b) ≡ None → stands_in kind (segment_at comps (drop at b)) ≡ false → early_fault kind comps b at ≡ Some (fault.Rule 19 at)
+pub early_19 : (kind : HeaderKind) (comps : ℕ) (b : List ℕ) (at : ℕ) → first_broken comps (drop at b) ≡ None → stands_in kind (segment_at comps (drop at b)) ≡ false → early_fault kind comps b at ≡ Some (fault.Rule MISPLACED at)
 unfolding early_fault
 early_19 kind comps b at clear stands = rw (clear, stands) refl
 
@@ -50,7 +51,7 @@ early_cause kind comps b at rule.NoMemory x is h = tt
 
 -- fewer bytes than a marker has
 
-end_breaks : (comps : ℕ) (rest : List ℕ) → rest ≡ [] → first_broken comps rest ≡ Some 1
+end_breaks : (comps : ℕ) (rest : List ℕ) → rest ≡ [] → first_broken comps rest ≡ Some LENGTH
 unfolding breaks_2 breaks_14 breaks_1
 end_breaks comps rest h = rw h refl
 
@@ -84,18 +85,18 @@ unfolding segment_fault
 fault_early kind comps b before at e h = rw h refl
 
 pub fault_second : (kind : HeaderKind) (comps : ℕ) (b : List ℕ) (before : List Segment) (at : ℕ) → early_fault kind comps b at ≡ None
-    → is_second before (segment_at comps (drop at b)) ≡ true → segment_fault kind comps b before at ≡ Some (fault.Rule 18 at)
+    → is_second before (segment_at comps (drop at b)) ≡ true → segment_fault kind comps b before at ≡ Some (fault.Rule TWICE at)
 unfolding segment_fault
-fault_second kind comps b before at clear second = rw (clear, broken_true 18 at _ second) refl
+fault_second kind comps b before at clear second = rw (clear, broken_true TWICE at _ second) refl
 
 pub fault_none : (kind : HeaderKind) (comps : ℕ) (b : List ℕ) (before : List Segment) (at : ℕ) → early_fault kind comps b at ≡ None
     → is_second before (segment_at comps (drop at b)) ≡ false → segment_fault kind comps b before at ≡ None
 unfolding segment_fault
-fault_none kind comps b before at clear second = rw (clear, broken_false 18 at _ second) refl
+fault_none kind comps b before at clear second = rw (clear, broken_false TWICE at _ second) refl
 
 pub stops_past : (kind : HeaderKind) (comps : ℕ) (b : List ℕ) (before : List Segment) (at : ℕ) → length b ≤ at → stops kind comps b before at ≡ true
 stops_past kind comps b before at h =
-    stops_at_fault kind comps b before at (fault.Rule 1 at) (fault_early kind comps b before at (fault.Rule 1 at) (early_broken kind comps b at 1 (end_breaks comps (drop at b) (drop_all at b h))))
+    stops_at_fault kind comps b before at (fault.Rule LENGTH at) (fault_early kind comps b before at (fault.Rule LENGTH at) (early_broken kind comps b at LENGTH (end_breaks comps (drop at b) (drop_all at b h))))
 
 pub longest_stops : (kind : HeaderKind) (comps : ℕ) (b : List ℕ) (n : ℕ) (before : List Segment) (at : ℕ) → stops kind comps b before at ≡ true
     → longest kind comps b n before at ≡ record { segments = before; end = at }
@@ -161,10 +162,10 @@ module _ (kind : HeaderKind) (comps : ℕ) (b : List ℕ) (start : ℕ) (before 
   read_early fault.NoMemory h = tt
 
   pub read_second : early_fault kind comps b at ≡ None → is_second before (segment_at comps (drop at b)) ≡ true
-      → header_fault kind comps b start ≡ Some (fault.Rule 18 at)
+      → header_fault kind comps b start ≡ Some (fault.Rule TWICE at)
   read_second clear second =
       let here = fault_second kind comps b before at clear second in
-      stopped_fault (stops_at_fault kind comps b before at (fault.Rule 18 at) here) ∙ here
+      stopped_fault (stops_at_fault kind comps b before at (fault.Rule TWICE at) here) ∙ here
 
   pub read_end : early_fault kind comps b at ≡ None → ends_header (segment_at comps (drop at b)) ≡ true
       → (header_fault kind comps b start ≡ None) × (header_at kind comps b start ≡ record { segments = before; end = at })

@@ -28,6 +28,7 @@ use Rattle.jx_codestream.specs.declared.headers.HeaderKind.{HeaderKind}
 use Rattle.std.proofs.lemmas.Bool.{and_parts, cases_Bool, cases_eq, eq-eqb, eqb-true, leb-false, ne_eqb, not-false, or_right, or_parts, ltb-false, ltb-true}
 use Rattle.jx_base.proofs.Tests.{or_false}
 use Rattle.jx_marker.proofs.RuleLemmas.{both}
+use Rattle.jx_marker.specs.RuleNumbers.{NO_TILE, PART_END, PART_LENGTH, PART_NUMBER}
 
 pub none_is : (x : Option StreamFault) → is_some x ≡ false → x ≡ None
 none_is None h = refl
@@ -52,7 +53,7 @@ pub start_clear : (comps : ℕ) (b : List ℕ) (at : ℕ) → marker_at b at SOT
 unfolding start_fault
 start_clear comps b at stands h = rw (stands, h) refl
 
-pub start_missing : (comps : ℕ) (b : List ℕ) (at : ℕ) → marker_at b at SOT ≡ false → marker_at b at EOC ≡ false → start_fault comps b at ≡ Some (fault.Rule 23 at)
+pub start_missing : (comps : ℕ) (b : List ℕ) (at : ℕ) → marker_at b at SOT ≡ false → marker_at b at EOC ≡ false → start_fault comps b at ≡ Some (fault.Rule PART_END at)
 unfolding start_fault
 start_missing comps b at lacks goes = rw (lacks, goes) refl
 
@@ -113,8 +114,8 @@ pub sod_within : (b : List ℕ) (at : ℕ) (sot : Sot) (sod : ℕ) → sod_fault
 unfolding sod_fault
 sod_within b at sot sod h =
     elim (cases_Bool (sot.psot == 0)) [
-      | inl t ↦ rw t (ltb-false (length b - 2) (sod + 2) ((or_parts (not (marker_at b (length b - 2) EOC)) (nat_lt (length b - 2) (sod + 2)) (broken_none 23 (length b - 2) _ (rw t at h))).1))
-      | inr f ↦ rw f (ltb-false (at + sot.psot) (sod + 2) (broken_none 22 at _ (rw f at h)))
+      | inl t ↦ rw t (ltb-false (length b - 2) (sod + 2) ((or_parts (not (marker_at b (length b - 2) EOC)) (nat_lt (length b - 2) (sod + 2)) (broken_none PART_END (length b - 2) _ (rw t at h))).1))
+      | inr f ↦ rw f (ltb-false (at + sot.psot) (sod + 2) (broken_none PART_LENGTH at _ (rw f at h)))
     ]
 
 pub part_rises : (comps tiles : ℕ) (b : List ℕ) (out : Bool) (at : ℕ) → part_fault comps tiles b out at ≡ None → at < end_of_part (part_at comps b at)
@@ -170,8 +171,8 @@ marker_past b at code h = rw (get_or_past b at 0 h) refl
 
 pub stop_past : (comps tiles : ℕ) (b : List ℕ) (parts : List Part) (at : ℕ) → length b ≤ at → parts_stop comps tiles b parts at ≡ true
 stop_past comps tiles b parts at h =
-    stop_at_fault comps tiles b parts at (fault.Rule 23 at)
-    (part_start comps tiles b (comes_out_of_turn parts (sot_in b at)) at (fault.Rule 23 at) (start_missing comps b at (marker_past b at SOT h) (marker_past b at EOC h)))
+    stop_at_fault comps tiles b parts at (fault.Rule PART_END at)
+    (part_start comps tiles b (comes_out_of_turn parts (sot_in b at)) at (fault.Rule PART_END at) (start_missing comps b at (marker_past b at SOT h) (marker_past b at EOC h)))
 
 pub parts_stopped : (comps tiles : ℕ) (b : List ℕ) (n : ℕ) (parts : List Part) (at : ℕ) → parts_stop comps tiles b parts at ≡ true
     → longest_parts comps tiles b n parts at ≡ record { parts = parts; end = at }
@@ -337,8 +338,8 @@ unfolding part_fault sot_fault
 turn_of comps tiles b out at h =
     let one = none_later (start_fault comps b at) (option_or (sot_fault tiles b at (sot_in b at) out) (option_or (header_fault (kind_of (sot_in b at)) comps b (after_sot b at)) (sod_fault b at (sot_in b at) (part_header comps b at).end))) h in
     let two = none_first (sot_fault tiles b at (sot_in b at) out) (option_or (header_fault (kind_of (sot_in b at)) comps b (after_sot b at)) (sod_fault b at (sot_in b at) (part_header comps b at).end)) one in
-    let three = none_first (option_or (broken 20 at (nat_le tiles (sot_in b at).tile)) (broken 21 at out)) (broken 22 at (has_wrong_length b at (sot_in b at))) two in
-    broken_none 21 at out (none_later (broken 20 at (nat_le tiles (sot_in b at).tile)) (broken 21 at out) three)
+    let three = none_first (option_or (broken NO_TILE at (nat_le tiles (sot_in b at).tile)) (broken PART_NUMBER at out)) (broken PART_LENGTH at (has_wrong_length b at (sot_in b at))) two in
+    broken_none PART_NUMBER at out (none_later (broken NO_TILE at (nat_le tiles (sot_in b at).tile)) (broken PART_NUMBER at out) three)
 
 sot_of_part : (comps : ℕ) (b : List ℕ) (at : ℕ) (p : Part) → p ≡ part_at comps b at → p.sot ≡ sot_in b at
 unfolding part_at

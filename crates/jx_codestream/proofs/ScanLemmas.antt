@@ -8,6 +8,7 @@ use Rattle.jx_codestream.specs.declared.Tile.{Tile}
 use Rattle.jx_codestream.specs.declared.faults.StreamFault.TheVariants as fault
 use Rattle.jx_codestream.specs.Params.{rule_9_of, limit_4_of, has_too_few, quant_of, shape_of, shift_of, band_planes, tile_has_too_few, tile_planes}
 use Rattle.jx_marker.specs.declared.Segment.{Segment}
+use Rattle.jx_marker.specs.RuleNumbers.{QUANTIZATION}
 use Rattle.jx_base.proofs.Lists.{range_next}
 
 pub any_here : (f : ℕ → Bool) (i n : ℕ) → i < n → f i ≡ true → list_any f (range_with_len i (n - i)) ≡ true
@@ -46,7 +47,7 @@ tile_next : (tiles : List Tile) (i : ℕ) (tile : Tile) → i < length tiles →
 tile_next tiles i tile h is = drop-cons tiles i tile h ∙ ap (λ (t : Tile). t ∷ drop (suc i) tiles) (sym is) ∙ ap (λ (n : ℕ). tile ∷ drop n tiles) (sym (add-one i))
 
 pub tile_here : (p : Tile → Bool) (tiles : List Tile) (i : ℕ) (tile : Tile) → i < length tiles → tile ≡ get_or tiles i tile → p tile ≡ true → find p tiles ≡ find p (drop i tiles)
-    → rule_9_of (find p tiles) ≡ Some (fault.Rule 9 tile.place)
+    → rule_9_of (find p tiles) ≡ Some (fault.Rule QUANTIZATION tile.place)
 tile_here p tiles i tile h is t same =
     ap rule_9_of (same ∙ ap (λ (x : List Tile). find p x) (tile_next tiles i tile h is)) ∙ rw t refl
 

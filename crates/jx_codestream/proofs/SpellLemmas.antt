@@ -15,6 +15,7 @@ use Rattle.jx_marker.specs.Ranges.{AreBytes, SotInRange}
 use Rattle.jx_marker.specs.Laws.{BeginsWith}
 use Rattle.jx_marker.proofs.SpelledLemmas.{segment_is_read}
 use Rattle.jx_marker.proofs.ReadLemmas.{segment_is_spelled}
+use Rattle.jx_marker.specs.RuleNumbers.{MISPLACED, NO_TILE, PART_END, PART_LENGTH, PART_NUMBER, TWICE}
 use Rattle.jx_codestream.specs.declared.faults.StreamFault.{StreamFault}
 use Rattle.jx_codestream.specs.declared.headers.HeaderKind.{HeaderKind}
 use Rattle.jx_codestream.specs.declared.headers.HeaderKind.TheVariants.{First, Later}
@@ -40,12 +41,12 @@ pub is_clear : (kind : HeaderKind) (comps : ℕ) (b : List ℕ) (before : List S
 unfolding segment_fault early_fault
 is_clear kind comps b before at h =
     let s = segment_at comps (drop at b) in
-    let early = none_first (option_or (rule_at at (first_broken comps (drop at b))) (broken 19 at (not (stands_in kind s)))) (broken 18 at (is_second before s)) h in
-    let second = none_later (option_or (rule_at at (first_broken comps (drop at b))) (broken 19 at (not (stands_in kind s)))) (broken 18 at (is_second before s)) h in
+    let early = none_first (option_or (rule_at at (first_broken comps (drop at b))) (broken MISPLACED at (not (stands_in kind s)))) (broken TWICE at (is_second before s)) h in
+    let second = none_later (option_or (rule_at at (first_broken comps (drop at b))) (broken MISPLACED at (not (stands_in kind s)))) (broken TWICE at (is_second before s)) h in
     record {
-      rules = rule_none at (first_broken comps (drop at b)) (none_first (rule_at at (first_broken comps (drop at b))) (broken 19 at (not (stands_in kind s))) early);
-      stands = not-false (stands_in kind s) (broken_none 19 at (not (stands_in kind s)) (none_later (rule_at at (first_broken comps (drop at b))) (broken 19 at (not (stands_in kind s))) early));
-      once = broken_none 18 at (is_second before s) second;
+      rules = rule_none at (first_broken comps (drop at b)) (none_first (rule_at at (first_broken comps (drop at b))) (broken MISPLACED at (not (stands_in kind s))) early);
+      stands = not-false (stands_in kind s) (broken_none MISPLACED at (not (stands_in kind s)) (none_later (rule_at at (first_broken comps (drop at b))) (broken MISPLACED at (not (stands_in kind s))) early));
+      once = broken_none TWICE at (is_second before s) second;
     }
 
 going : (kind : HeaderKind) (comps : ℕ) (b : List ℕ) (before : List Segment) (at : ℕ) → stops kind comps b before at ≡ false
@@ -198,14 +199,14 @@ record SotClear (tiles : ℕ) (b : List ℕ) (at : ℕ) (sot : Sot) (out : Bool)
 sot_clear : (tiles : ℕ) (b : List ℕ) (at : ℕ) (sot : Sot) (out : Bool) → sot_fault tiles b at sot out ≡ None → SotClear tiles b at sot out
 unfolding sot_fault
 sot_clear tiles b at sot out h =
-    let tile = broken 20 at (nat_le tiles sot.tile) in
-    let turn = broken 21 at out in
-    let size = broken 22 at (has_wrong_length b at sot) in
+    let tile = broken NO_TILE at (nat_le tiles sot.tile) in
+    let turn = broken PART_NUMBER at out in
+    let size = broken PART_LENGTH at (has_wrong_length b at sot) in
     let one = none_first (option_or tile turn) size h in
-    let two = or_parts (nat_lt 0 sot.psot && nat_lt sot.psot 14) (nat_lt (length b) (at + sot.psot)) (broken_none 22 at (has_wrong_length b at sot) (none_later (option_or tile turn) size h)) in
+    let two = or_parts (nat_lt 0 sot.psot && nat_lt sot.psot 14) (nat_lt (length b) (at + sot.psot)) (broken_none PART_LENGTH at (has_wrong_length b at sot) (none_later (option_or tile turn) size h)) in
     record {
-      tile = leb-false tiles sot.tile (broken_none 20 at (nat_le tiles sot.tile) (none_first tile turn one));
-      turn = broken_none 21 at out (none_later tile turn one);
+      tile = leb-false tiles sot.tile (broken_none NO_TILE at (nat_le tiles sot.tile) (none_first tile turn one));
+      turn = broken_none PART_NUMBER at out (none_later tile turn one);
       length = ltb-false (length b) (at + sot.psot) two.1;
     }
 
@@ -216,16 +217,16 @@ either_first false y f h = absurd (cc)
 pub start_rules : (comps : ℕ) (b : List ℕ) (at : ℕ) → start_fault comps b at ≡ None → marker_at b at EOC ≡ false → (marker_at b at SOT ≡ true) × (first_broken comps (drop at b) ≡ None)
 unfolding start_fault
 start_rules comps b at h goes =
-    let here = not-false (marker_at b at SOT || marker_at b at EOC) (broken_none 23 at (not (marker_at b at SOT || marker_at b at EOC)) (none_first (broken 23 at (not (marker_at b at SOT || marker_at b at EOC))) (rule_at at (first_broken comps (drop at b))) h)) in (
+    let here = not-false (marker_at b at SOT || marker_at b at EOC) (broken_none PART_END at (not (marker_at b at SOT || marker_at b at EOC)) (none_first (broken PART_END at (not (marker_at b at SOT || marker_at b at EOC))) (rule_at at (first_broken comps (drop at b))) h)) in (
       either_first (marker_at b at SOT) (marker_at b at EOC) goes here,
-      rule_none at (first_broken comps (drop at b)) (none_later (broken 23 at (not (marker_at b at SOT || marker_at b at EOC))) (rule_at at (first_broken comps (drop at b))) h),
+      rule_none at (first_broken comps (drop at b)) (none_later (broken PART_END at (not (marker_at b at SOT || marker_at b at EOC))) (rule_at at (first_broken comps (drop at b))) h),
     )
 
 sod_last : (b : List ℕ) (at : ℕ) (sot : Sot) (sod : ℕ) → sod_fault b at sot sod ≡ None → sot.psot ≡ 0 → marker_at b (length b - 2) EOC ≡ true
 unfolding sod_fault
 sod_last b at sot sod h none =
     let here : (sot.psot == 0) ≡ true = eq-eqb sot.psot 0 none in
-    not-false (marker_at b (length b - 2) EOC) (or_parts (not (marker_at b (length b - 2) EOC)) (nat_lt (length b - 2) (sod + 2)) (broken_none 23 (length b - 2) (not (marker_at b (length b - 2) EOC) || nat_lt (length b - 2) (sod + 2)) (rw here at h))).0
+    not-false (marker_at b (length b - 2) EOC) (or_parts (not (marker_at b (length b - 2) EOC)) (nat_lt (length b - 2) (sod + 2)) (broken_none PART_END (length b - 2) (not (marker_at b (length b - 2) EOC) || nat_lt (length b - 2) (sod + 2)) (rw here at h))).0
 
 -- where a tile-part ends: Psot says, or EOC stands at the end of the file
 record SodClear (b : List ℕ) (at : ℕ) (sot : Sot) (sod : ℕ) : Type 0 where

@@ -30,6 +30,7 @@ use Rattle.jx_codestream.proofs.OneLemmas.{stands_there, drop_on, header_read, h
 use Rattle.jx_codestream.proofs.PartsReadLemmas.{marker_is, parts_read}
 use Rattle.jx_codestream.proofs.WholeLemmas.{whole_spelled}
 use Rattle.jx_marker.specs.Ranges.{AreBytes, SizInRange}
+use Rattle.jx_marker.specs.RuleNumbers.{NO_DEFAULTS, NO_PART}
 use Rattle.std.proofs.lemmas.Bool.{cases_Bool}
 
 -- the main header, with a tile-part after it
@@ -74,8 +75,8 @@ body_over comps tiles b rest main parts start some are segments_fit defaults h =
     let end_is : (main_header comps b start).end ≡ place = ap (λ (x : Header). x.end) read.header in
     let after : parts_after comps tiles b start ≡ record { parts = placed comps place parts; end = end } = ap (λ (n : ℕ). parts_from comps tiles b n) end_is ∙ walked in
     record {
-      main_clear = none_of_both (header_fault Main comps b start) (broken 17 (main_header comps b start).end (lacks_default (main_header comps b start).segments)) read.clear
-          (broken_false 17 (main_header comps b start).end (lacks_default (main_header comps b start).segments) (ap lacks_default segments_are ∙ defaults));
+      main_clear = none_of_both (header_fault Main comps b start) (broken NO_DEFAULTS (main_header comps b start).end (lacks_default (main_header comps b start).segments)) read.clear
+          (broken_false NO_DEFAULTS (main_header comps b start).end (lacks_default (main_header comps b start).segments) (ap lacks_default segments_are ∙ defaults));
       parts_clear = ap (λ (x : Parts). cond (marker_at b x.end EOC) None (fault_after comps tiles b x.parts x.end)) after ∙ rw eoc refl;
       segments = segments_are;
       all = ap (λ (x : Parts). x.parts) after;
@@ -88,10 +89,10 @@ pub body_read : (comps tiles : ℕ) (b : List ℕ) (main : List Segment) (parts 
 unfolding body_fault
 body_read comps tiles b main parts start over each =
     none_of_both (main_fault comps b start)
-    (option_or (parts_fault comps tiles b (main_header comps b start).end) (broken 24 (parts_after comps tiles b start).end (lacks_part (parts_after comps tiles b start).parts tiles)))
+    (option_or (parts_fault comps tiles b (main_header comps b start).end) (broken NO_PART (parts_after comps tiles b start).end (lacks_part (parts_after comps tiles b start).parts tiles)))
     over.main_clear
-    (none_of_both (parts_fault comps tiles b (main_header comps b start).end) (broken 24 (parts_after comps tiles b start).end (lacks_part (parts_after comps tiles b start).parts tiles)) over.parts_clear
-    (broken_false 24 (parts_after comps tiles b start).end (lacks_part (parts_after comps tiles b start).parts tiles) (ap (λ (x : List Part). lacks_part x tiles) over.all ∙ each)))
+    (none_of_both (parts_fault comps tiles b (main_header comps b start).end) (broken NO_PART (parts_after comps tiles b start).end (lacks_part (parts_after comps tiles b start).parts tiles)) over.parts_clear
+    (broken_false NO_PART (parts_after comps tiles b start).end (lacks_part (parts_after comps tiles b start).parts tiles) (ap (λ (x : List Part). lacks_part x tiles) over.all ∙ each)))
 
 -- the front
 pub record FrontRead (b : List ℕ) (siz : Siz) (later : List ℕ) : Type 0 where

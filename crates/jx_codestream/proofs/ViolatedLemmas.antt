@@ -11,6 +11,7 @@ use Rattle.jx_marker.specs.declared.Sot.{Sot}
 use Rattle.jx_marker.specs.Segments.{spelling, segment_at, size_at}
 use Rattle.jx_marker.specs.Ranges.{AreBytes, SizInRange, SotInRange}
 use Rattle.jx_marker.specs.Laws.{BeginsWith}
+use Rattle.jx_marker.specs.RuleNumbers.{NO_DEFAULTS, NO_PART}
 use Rattle.jx_codestream.specs.declared.faults.StreamFault.{StreamFault}
 use Rattle.jx_codestream.specs.declared.faults.StreamFault.TheVariants as fault
 use Rattle.jx_codestream.specs.declared.headers.HeaderKind.TheVariants.{Main}
@@ -396,7 +397,7 @@ main_told b f range few m h =
     }
 
 defaults_told : (b : List ℕ) (f : StreamFault) → AreBytes b → MainClear b
-    → broken 17 (main_header (length (siz_of b).comps) b (after_siz b)).end (lacks_default (main_header (length (siz_of b).comps) b (after_siz b)).segments) ≡ Some f → IsAtFirstSot b f
+    → broken NO_DEFAULTS (main_header (length (siz_of b).comps) b (after_siz b)).end (lacks_default (main_header (length (siz_of b).comps) b (after_siz b)).segments) ≡ Some f → IsAtFirstSot b f
 defaults_told b f are m h =
     let siz = siz_of b in
     let comps = length siz.comps in
@@ -414,16 +415,16 @@ defaults_told b f are m h =
         rest = there.rest;
         bytes = main_front b m.spelled ∙ ap (λ (x : List ℕ). main_bytes siz main ++ x) there.spelled ∙ sym (front_rest siz main [] tail) ∙ sym (sot_rest siz main [] there.sot there.rest);
       };
-      first = ap (λ (n : ℕ). broken 17 n (lacks_default main)) (main_size siz main ∙ sym m.spelled.place) ∙ h;
+      first = ap (λ (n : ℕ). broken NO_DEFAULTS n (lacks_default main)) (main_size siz main ∙ sym m.spelled.place) ∙ h;
     }
 
 -- what is violated up to EOC, in the order of its tests
 abbrev InBody : ℕ → ℕ → List ℕ → ℕ → StreamFault → Type 0
 InBody comps tiles b start f =
     (header_fault Main comps b start ≡ Some f) ⊎ ((header_fault Main comps b start ≡ None)
-    × ((broken 17 (main_header comps b start).end (lacks_default (main_header comps b start).segments) ≡ Some f) ⊎ ((lacks_default (main_header comps b start).segments ≡ false)
+    × ((broken NO_DEFAULTS (main_header comps b start).end (lacks_default (main_header comps b start).segments) ≡ Some f) ⊎ ((lacks_default (main_header comps b start).segments ≡ false)
     × ((parts_fault comps tiles b (main_header comps b start).end ≡ Some f) ⊎ ((parts_fault comps tiles b (main_header comps b start).end ≡ None)
-    × (broken 24 (parts_after comps tiles b start).end (lacks_part (parts_after comps tiles b start).parts tiles) ≡ Some f))))))
+    × (broken NO_PART (parts_after comps tiles b start).end (lacks_part (parts_after comps tiles b start).parts tiles) ≡ Some f))))))
 
 pairs_of : (w y z : Option StreamFault) (number place : ℕ) (lacks : Bool) (f : StreamFault) → option_or (option_or w (broken number place lacks)) (option_or y z) ≡ Some f
     → (w ≡ Some f) ⊎ ((w ≡ None) × ((broken number place lacks ≡ Some f) ⊎ ((lacks ≡ false) × ((y ≡ Some f) ⊎ ((y ≡ None) × (z ≡ Some f))))))
@@ -434,10 +435,10 @@ pairs_of (Some e) y z number place lacks f h = inl h
 in_body : (comps tiles : ℕ) (b : List ℕ) (start : ℕ) (f : StreamFault) → body_fault comps tiles b start ≡ Some f → InBody comps tiles b start f
 unfolding body_fault main_fault
 in_body comps tiles b start f h =
-    pairs_of (header_fault Main comps b start) (parts_fault comps tiles b (main_header comps b start).end) (broken 24 (parts_after comps tiles b start).end (lacks_part (parts_after comps tiles b start).parts tiles))
+    pairs_of (header_fault Main comps b start) (parts_fault comps tiles b (main_header comps b start).end) (broken NO_PART (parts_after comps tiles b start).end (lacks_part (parts_after comps tiles b start).parts tiles))
     17 (main_header comps b start).end (lacks_default (main_header comps b start).segments) f h
 
-eoc_told : (b : List ℕ) (f : StreamFault) (siz : Siz) (main : List Segment) (res : Parts) (w : WholeSpelled b siz main res) → broken 24 res.end (lacks_part res.parts (tile_number siz)) ≡ Some f → IsAtEoc b f
+eoc_told : (b : List ℕ) (f : StreamFault) (siz : Siz) (main : List Segment) (res : Parts) (w : WholeSpelled b siz main res) → broken NO_PART res.end (lacks_part res.parts (tile_number siz)) ≡ Some f → IsAtEoc b f
 eoc_told b f siz main res w h =
     let comps = length siz.comps in
     let tiles = tile_number siz in
@@ -447,8 +448,8 @@ eoc_told b f siz main res w h =
       parts = w.parts;
       rest = w.rest;
       whole = w.whole;
-      first = ap (λ (n : ℕ). broken 24 n (lacks_part (placed comps (first_sot siz main) w.parts) tiles)) (front_size siz main w.parts ∙ sym w.end)
-          ∙ ap (λ (x : List Part). broken 24 res.end (lacks_part x tiles)) (sym w.all) ∙ h;
+      first = ap (λ (n : ℕ). broken NO_PART n (lacks_part (placed comps (first_sot siz main) w.parts) tiles)) (front_size siz main w.parts ∙ sym w.end)
+          ∙ ap (λ (x : List Part). broken NO_PART res.end (lacks_part x tiles)) (sym w.all) ∙ h;
     }
 
 body_told : (b : List ℕ) (f : StreamFault) → AreBytes b → FrontClear b → tiles_fault (siz_of b) ≡ None → body_fault (length (siz_of b).comps) (tile_number (siz_of b)) b (after_siz b) ≡ Some f → IsFirst b f

@@ -11,6 +11,7 @@ use Rattle.jx_marker.specs.Segments.{spelling, segment_at, size_at}
 use Rattle.jx_marker.specs.Rules.{first_broken}
 use Rattle.jx_marker.specs.Ranges.{AreBytes, SizInRange}
 use Rattle.jx_marker.specs.Laws.{BeginsWith}
+use Rattle.jx_marker.specs.RuleNumbers.{NO_DEFAULTS, NO_PART, NO_SIZ, NO_SOC}
 use Rattle.jx_codestream.specs.declared.headers.HeaderKind.TheVariants.{Main}
 use Rattle.jx_codestream.specs.declared.parts.Part.{Part}
 use Rattle.jx_codestream.specs.declared.Stream.{Stream}
@@ -36,13 +37,13 @@ pub record FrontClear (b : List ℕ) : Type 0 where
 pub front_is_clear : (b : List ℕ) → front_fault b ≡ None → FrontClear b
 unfolding front_fault
 front_is_clear b h =
-    let soc = broken 15 0 (not (marker_at b 0 SOC)) in
-    let siz = broken 16 2 (not (marker_at b 2 SIZ)) in
+    let soc = broken NO_SOC 0 (not (marker_at b 0 SOC)) in
+    let siz = broken NO_SIZ 2 (not (marker_at b 2 SIZ)) in
     let rules = rule_at 2 (first_broken 1 (drop 2 b)) in
     let later = none_later soc (option_or siz rules) h in
     record {
-      soc = not-false (marker_at b 0 SOC) (broken_none 15 0 (not (marker_at b 0 SOC)) (none_first soc (option_or siz rules) h));
-      siz = not-false (marker_at b 2 SIZ) (broken_none 16 2 (not (marker_at b 2 SIZ)) (none_first siz rules later));
+      soc = not-false (marker_at b 0 SOC) (broken_none NO_SOC 0 (not (marker_at b 0 SOC)) (none_first soc (option_or siz rules) h));
+      siz = not-false (marker_at b 2 SIZ) (broken_none NO_SIZ 2 (not (marker_at b 2 SIZ)) (none_first siz rules later));
       rules = rule_none 2 (first_broken 1 (drop 2 b)) (none_later siz rules later);
     }
 
@@ -56,16 +57,16 @@ pub body_is_clear : (comps tiles : ℕ) (b : List ℕ) (start : ℕ) → body_fa
 unfolding body_fault main_fault
 body_is_clear comps tiles b start h =
     let header = header_fault Main comps b start in
-    let lacks = broken 17 (main_header comps b start).end (lacks_default (main_header comps b start).segments) in
+    let lacks = broken NO_DEFAULTS (main_header comps b start).end (lacks_default (main_header comps b start).segments) in
     let parts = parts_fault comps tiles b (main_header comps b start).end in
-    let each = broken 24 (parts_after comps tiles b start).end (lacks_part (parts_after comps tiles b start).parts tiles) in
+    let each = broken NO_PART (parts_after comps tiles b start).end (lacks_part (parts_after comps tiles b start).parts tiles) in
     let main = none_first (option_or header lacks) (option_or parts each) h in
     let later = none_later (option_or header lacks) (option_or parts each) h in
     record {
       header = none_first header lacks main;
-      defaults = broken_none 17 (main_header comps b start).end (lacks_default (main_header comps b start).segments) (none_later header lacks main);
+      defaults = broken_none NO_DEFAULTS (main_header comps b start).end (lacks_default (main_header comps b start).segments) (none_later header lacks main);
       parts = none_first parts each later;
-      each = broken_none 24 (parts_after comps tiles b start).end (lacks_part (parts_after comps tiles b start).parts tiles) (none_later parts each later);
+      each = broken_none NO_PART (parts_after comps tiles b start).end (lacks_part (parts_after comps tiles b start).parts tiles) (none_later parts each later);
     }
 
 pub record FileClear (b : List ℕ) : Type 0 where

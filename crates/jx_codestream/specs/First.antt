@@ -10,6 +10,7 @@ use Rattle.jx_marker.specs.declared.Siz.{Siz}
 use Rattle.jx_marker.specs.Rules.{first_broken}
 use Rattle.jx_marker.specs.Segments.{size_at, body_at}
 use Rattle.jx_marker.specs.Values.{siz_at}
+use Rattle.jx_marker.specs.RuleNumbers.{NO_DEFAULTS, NO_PART, NO_SIZ, NO_SOC}
 use Rattle.jx_geom.specs.declared.shape.Canvas.{Canvas}
 use Rattle.jx_geom.specs.Counts.{tile_count}
 use Rattle.jx_codestream.specs.declared.faults.StreamFault.{StreamFault}
@@ -40,7 +41,7 @@ after_siz b = 2 + size_at (drop 2 b)
 
 -- rules 15 and 16, then those of SIZ
 unfoldable pub front_fault : List ℕ → Option StreamFault
-front_fault b = option_or (broken 15 0 (not (marker_at b 0 SOC))) (option_or (broken 16 2 (not (marker_at b 2 SIZ))) (rule_at 2 (first_broken 1 (drop 2 b))))
+front_fault b = option_or (broken NO_SOC 0 (not (marker_at b 0 SOC))) (option_or (broken NO_SIZ 2 (not (marker_at b 2 SIZ))) (rule_at 2 (first_broken 1 (drop 2 b))))
 
 -- limit 3: more than 65,535 tiles
 unfoldable pub tiles_fault : Siz → Option StreamFault
@@ -56,7 +57,7 @@ main_header comps b start = header_at Main comps b start
 
 unfoldable pub main_fault : ℕ → List ℕ → ℕ → Option StreamFault
 main_fault comps b start =
-    option_or (header_fault Main comps b start) (broken 17 (main_header comps b start).end (lacks_default (main_header comps b start).segments))
+    option_or (header_fault Main comps b start) (broken NO_DEFAULTS (main_header comps b start).end (lacks_default (main_header comps b start).segments))
 
 -- the tile-parts after the main header
 abbrev pub parts_after : ℕ → ℕ → List ℕ → ℕ → Parts
@@ -71,7 +72,7 @@ unfoldable pub body_fault : ℕ → ℕ → List ℕ → ℕ → Option StreamFa
 body_fault comps tiles b start =
     option_or (main_fault comps b start)
     (option_or (parts_fault comps tiles b (main_header comps b start).end)
-    (broken 24 (parts_after comps tiles b start).end (lacks_part (parts_after comps tiles b start).parts tiles)))
+    (broken NO_PART (parts_after comps tiles b start).end (lacks_part (parts_after comps tiles b start).parts tiles)))
 
 -- the stream of this SIZ whose main header goes on at a place
 unfoldable pub stream_from : Siz → List ℕ → ℕ → Stream

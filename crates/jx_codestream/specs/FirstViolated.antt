@@ -9,6 +9,7 @@ use Rattle.jx_marker.specs.declared.Siz.{Siz}
 use Rattle.jx_marker.specs.declared.Sot.{Sot}
 use Rattle.jx_marker.specs.Segments.{spelling}
 use Rattle.jx_marker.specs.Ranges.{SizInRange, SotInRange}
+use Rattle.jx_marker.specs.RuleNumbers.{NO_DEFAULTS, NO_PART}
 use Rattle.jx_codestream.specs.declared.faults.StreamFault.{StreamFault}
 use Rattle.jx_codestream.specs.declared.headers.HeaderKind.TheVariants.{Main}
 use Rattle.jx_codestream.specs.declared.parts.Part.{Part}
@@ -105,7 +106,7 @@ pub record IsAtFirstSot (b : List ℕ) (f : StreamFault) : Type 0 where
   pub front : IsMain siz main
   pub range : SotInRange sot
   pub begins : Begins b (sot_bytes siz main [] sot)
-  pub first : broken 17 (length (main_bytes siz main)) (lacks_default main) ≡ Some f
+  pub first : broken NO_DEFAULTS (length (main_bytes siz main)) (lacks_default main) ≡ Some f
 
 -- rule 23, then the rules 1 to 14 of SOT, where another tile-part is due
 pub record IsAtPart (b : List ℕ) (f : StreamFault) : Type 0 where
@@ -158,7 +159,7 @@ pub record IsAtEoc (b : List ℕ) (f : StreamFault) : Type 0 where
   pub parts : List TilePart
   pub rest : List ℕ
   pub whole : IsWhole b siz main parts rest
-  pub first : broken 24 (length (front_bytes siz main parts)) (lacks_part (placed (length siz.comps) (first_sot siz main) parts) (tile_number siz)) ≡ Some f
+  pub first : broken NO_PART (length (front_bytes siz main parts)) (lacks_part (placed (length siz.comps) (first_sot siz main) parts) (tile_number siz)) ≡ Some f
 
 -- rule 9 for too few entries, after EOC
 pub record IsShort (b : List ℕ) (f : StreamFault) : Type 0 where

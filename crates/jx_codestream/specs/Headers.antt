@@ -6,6 +6,7 @@ use Rattle.jx_marker.specs.declared.Segment.{Segment}
 use Rattle.jx_marker.specs.declared.Segment.TheVariants as segment
 use Rattle.jx_marker.specs.Rules.{first_broken}
 use Rattle.jx_marker.specs.Segments.{segment_at, size_at}
+use Rattle.jx_marker.specs.RuleNumbers.{MISPLACED, TWICE}
 use Rattle.jx_codestream.specs.declared.faults.StreamFault.{StreamFault}
 use Rattle.jx_codestream.specs.declared.headers.HeaderKind.{HeaderKind}
 use Rattle.jx_codestream.specs.declared.headers.HeaderKind.TheVariants.{Main, First, Later}
@@ -100,12 +101,12 @@ is_second before s = nat_lt 0 (slot_of s) && has_slot (slot_of s) before
 -- what is violated at a place of a header before rule 18 is tested
 unfoldable pub early_fault : HeaderKind → ℕ → List ℕ → ℕ → Option StreamFault
 early_fault kind comps b at = option_or (rule_at at (first_broken comps (drop at b)))
-    (broken 19 at (not (stands_in kind (segment_at comps (drop at b)))))
+    (broken MISPLACED at (not (stands_in kind (segment_at comps (drop at b)))))
 
 -- what is violated at a place of a header that has these segments before it: rules 1 to 14, then rule 19, then rule 18
 unfoldable pub segment_fault : HeaderKind → ℕ → List ℕ → List Segment → ℕ → Option StreamFault
 segment_fault kind comps b before at = option_or (early_fault kind comps b at)
-    (broken 18 at (is_second before (segment_at comps (drop at b))))
+    (broken TWICE at (is_second before (segment_at comps (drop at b))))
 
 -- the header ends at this place, or a rule is violated at it
 unfoldable pub stops : HeaderKind → ℕ → List ℕ → List Segment → ℕ → Bool

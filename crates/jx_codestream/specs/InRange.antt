@@ -1,6 +1,7 @@
 -- What holds of headers that were read: the ranges that geometry and the crates above ask for.
 use Rattle.std.specs.Prelude.{◌≡◌, ◌<◌, ◌≤◌, ◌^◌, ℕ, length}
 use Rattle.std.specs.List.{All}
+use Rattle.jx_base.specs.OrderNumbers.{IsOrderNumber}
 use Rattle.jx_base.specs.declared.names.Band.{Band}
 use Rattle.jx_geom.specs.Ranges.{CanvasInRange, HasBand}
 use Rattle.jx_geom.specs.Geometry.{ShapesInRange, HasResolution}
@@ -33,5 +34,5 @@ pub record StreamInRange (s : Stream) : Type 0 where
   pub some_layers : (t : ℕ) → t < tile_number s.siz → 1 ≤ layers_of s t
   pub few_layers : (t : ℕ) → t < tile_number s.siz → layers_of s t < 2 ^ 16
   pub style : (t c : ℕ) → t < tile_number s.siz → style_of s t c < 256
-  pub orders : (t : ℕ) → t < tile_number s.siz → All (λ (e : Progression). e.order ≤ 4) (tile_at s t).progressions
+  pub orders : (t : ℕ) → t < tile_number s.siz → All (λ (e : Progression). IsOrderNumber e.order) (tile_at s t).progressions
   pub planes : (t c r : ℕ) (b : Band) → t < tile_number s.siz → HasResolution (geometry s t) c r → HasBand r b → planes_at s t c r b ≤ 74

@@ -9,6 +9,7 @@ use Rattle.jx_marker.specs.declared.Segment.TheVariants as segment
 use Rattle.jx_marker.specs.declared.Shape.{Shape}
 use Rattle.jx_marker.specs.declared.Quant.{Quant}
 use Rattle.jx_marker.specs.declared.Cod.{Cod}
+use Rattle.jx_marker.specs.RuleNumbers.{QUANTIZATION}
 use Rattle.jx_codestream.specs.declared.Tile.{Tile}
 use Rattle.jx_codestream.specs.declared.Stream.{Stream}
 use Rattle.jx_codestream.specs.declared.Params.{Params}
@@ -122,7 +123,7 @@ tile_planes main comps tile = header_planes main comps tile.header
 -- rule 9 after EOC, at the first SOT of the lowest tile
 abbrev pub rule_9_of : Option Tile → Option StreamFault
 rule_9_of None = None
-rule_9_of (Some tile) = Some (fault.Rule 9 tile.place)
+rule_9_of (Some tile) = Some (fault.Rule QUANTIZATION tile.place)
 
 abbrev pub entries_fault : List Segment → ℕ → List Tile → Option StreamFault
 entries_fault main comps tiles = rule_9_of (find (tile_has_too_few main comps) tiles)

@@ -7,6 +7,7 @@ use Rattle.jx_marker.specs.declared.Sot.{Sot}
 use Rattle.jx_marker.specs.Rules.{first_broken}
 use Rattle.jx_marker.specs.Segments.{size_at, body_at}
 use Rattle.jx_marker.specs.Values.{sot_at}
+use Rattle.jx_marker.specs.RuleNumbers.{NO_TILE, PART_END, PART_LENGTH, PART_NUMBER}
 use Rattle.jx_codestream.specs.declared.faults.StreamFault.{StreamFault}
 use Rattle.jx_codestream.specs.declared.headers.HeaderKind.{HeaderKind}
 use Rattle.jx_codestream.specs.declared.headers.HeaderKind.TheVariants.{First, Later}
@@ -59,18 +60,18 @@ tables_say counts told sot = is_out_of_turn sot (slice_index counts sot.tile) (n
 
 -- what is violated where a tile-part is due: rule 23, where neither SOT nor EOC stands there, then the rules 1 to 14
 unfoldable pub start_fault : ℕ → List ℕ → ℕ → Option StreamFault
-start_fault comps b at = option_or (broken 23 at (not (marker_at b at SOT || marker_at b at EOC))) (rule_at at (first_broken comps (drop at b)))
+start_fault comps b at = option_or (broken PART_END at (not (marker_at b at SOT || marker_at b at EOC))) (rule_at at (first_broken comps (drop at b)))
 
 -- what is violated by a SOT: rule 20, a tile that isn't there, then the rules 21 and 22
 unfoldable pub sot_fault : ℕ → List ℕ → ℕ → Sot → Bool → Option StreamFault
-sot_fault tiles b at sot out = option_or (option_or (broken 20 at (nat_le tiles sot.tile)) (broken 21 at out)) (broken 22 at (has_wrong_length b at sot))
+sot_fault tiles b at sot out = option_or (option_or (broken NO_TILE at (nat_le tiles sot.tile)) (broken PART_NUMBER at out)) (broken PART_LENGTH at (has_wrong_length b at sot))
 
 -- what is violated at SOD, which stands at this place: with Psot 0 rule 23, where the file doesn't end with EOC or EOC
 -- overlaps the header; else rule 22, where SOD ends past the tile-part
 unfoldable pub sod_fault : List ℕ → ℕ → Sot → ℕ → Option StreamFault
 sod_fault b at sot sod =
-    if sot.psot == 0 then broken 23 (length b - 2) (not (marker_at b (length b - 2) EOC) || nat_lt (length b - 2) (sod + 2))
-    else broken 22 at (nat_lt (at + sot.psot) (sod + 2))
+    if sot.psot == 0 then broken PART_END (length b - 2) (not (marker_at b (length b - 2) EOC) || nat_lt (length b - 2) (sod + 2))
+    else broken PART_LENGTH at (nat_lt (at + sot.psot) (sod + 2))
 
 -- where a tile-part ends: where Psot says, or two bytes before the file's end
 abbrev pub end_of : List ℕ → ℕ → Sot → ℕ

@@ -2,7 +2,6 @@
 use Rattle.std.specs.Prelude.{◌≡◌, ℕ, ◌==◌, Bool, true, false, List, [], ◌∷◌, drop, map, Option, Some, find}
 use Rattle.std.specs.List.{filter, flat_map, range_with_len}
 use Rattle.jx_marker.specs.declared.Segment.{Segment}
-use Rattle.jx_marker.specs.declared.Segment.TheVariants as segment
 use Rattle.jx_marker.specs.declared.Progression.{Progression}
 use Rattle.jx_marker.specs.declared.Cod.{Cod}
 use Rattle.jx_codestream.specs.declared.parts.Part.{Part}
@@ -10,6 +9,7 @@ use Rattle.jx_codestream.specs.declared.Tile.{Tile}
 use Rattle.jx_codestream.specs.declared.tiles.Draft.{Draft}
 use Rattle.jx_codestream.specs.Headers.{cod_slot, slot_of}
 use Rattle.jx_codestream.specs.Parts.{parts_of}
+use Rattle.jx_marker.specs.declared.Segment.TheVariants as segment
 
 -- the segment of a slot in a header
 abbrev pub in_slot : ℕ → List Segment → Option Segment
@@ -20,7 +20,7 @@ abbrev pub entries_of : Segment → List Progression
 entries_of (segment.Poc entries) = entries
 entries_of _ = []
 
--- the entries of all POC segments, entries_joined
+-- the entries of all POC segments, joined
 abbrev pub entries_joined : List Segment → List Progression
 entries_joined segments = flat_map entries_of segments
 

@@ -9,7 +9,7 @@ use crate::index::Index;
 use crate::precedence::{quant_of, shape_of, shift_of};
 use crate::steps::planes_of;
 use crate::{StreamFault, Tile};
-use jx_marker::{Quant, Segment};
+use jx_marker::{Quant, Segment, rule_numbers};
 use std::alloc::{AllocError, Global};
 
 fn comp_has_too_few(tile: &Index, main: &Index, comp: u16) -> bool
@@ -108,7 +108,7 @@ pub fn check_entries(
     for tile in tiles {
         if is_short(alloc, main, comps, tile.header.as_slice(), bare)? {
             return Err(StreamFault::Rule {
-                number: 9,
+                number: rule_numbers::QUANTIZATION,
                 place: tile.place,
             });
         }

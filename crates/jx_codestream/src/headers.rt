@@ -8,7 +8,7 @@ ghost use Rattle.jx_codestream.specs.Faults.{Answers, fault_of};
 ghost use Rattle.jx_codestream.specs.Headers.{stands_in, ends_header, slot_of, slot_count, early_fault, header_at, header_fault, MarksSlots};
 
 use crate::{Segments, StreamFault, slots};
-use jx_marker::{Rule, Segment, read_segment};
+use jx_marker::{Rule, Segment, read_segment, rule_numbers};
 use std::alloc::Global;
 
 /// Which header it is.
@@ -132,7 +132,7 @@ pub fn segment_in(
                 return Ok((segment, next));
             }
             drop(segment);
-            Err(violated(19, at))
+            Err(violated(rule_numbers::MISPLACED, at))
         }
         Err(rule) => Err(fault_of(rule, at)),
     }
@@ -183,7 +183,7 @@ pub fn read_header(
         }
         if mark(slot_of(&segment), start, seen) {
             drop(segment);
-            return Err(violated(18, place));
+            return Err(violated(rule_numbers::TWICE, place));
         }
         segments.push(segment)?;
         place = next;

@@ -14,7 +14,7 @@ ghost use Rattle.jx_codestream.specs.Parts.{marker_at, sot_in, after_sot, kind_o
 use crate::headers::{HeaderKind, fault_of, read_header, violated};
 use crate::{Body, Segments, StreamFault};
 use jx_marker::codes::{EOC, SOT};
-use jx_marker::{Segment, Sot, read_segment};
+use jx_marker::{Segment, Sot, read_segment, rule_numbers};
 use std::alloc::Global;
 
 /// One tile-part.
@@ -59,7 +59,7 @@ fn read_sot(alloc: Global, bytes: &[u8], at: usize, comps: u16) -> Result<(Sot, 
     ensures within { IfOk result (λ r. (at < r.1) × (r.1 ≤ length bytes.now)) }
 {
     if !has_marker(bytes, at, SOT) {
-        return Err(violated(23, at));
+        return Err(violated(rule_numbers::PART_END, at));
     }
     match read_segment(alloc, bytes, at, comps) {
         Ok((segment, next)) => {
@@ -67,7 +67,7 @@ fn read_sot(alloc: Global, bytes: &[u8], at: usize, comps: u16) -> Result<(Sot, 
             drop(segment);
             match sot {
                 Some(sot) => Ok((sot, next)),
-                None => Err(violated(23, at)),
+                None => Err(violated(rule_numbers::PART_END, at)),
             }
         }
         Err(rule) => Err(fault_of(rule, at)),
@@ -108,13 +108,13 @@ fn check_sot(
 {
     let tile = usize::from(sot.tile);
     if tile >= counts.len() {
-        return Err(violated(20, at));
+        return Err(violated(rule_numbers::NO_TILE, at));
     }
     if is_out_of_turn(sot, counts[tile], told[tile]) {
-        return Err(violated(21, at));
+        return Err(violated(rule_numbers::PART_NUMBER, at));
     }
     if has_wrong_length(bytes, at, sot) {
-        return Err(violated(22, at));
+        return Err(violated(rule_numbers::PART_LENGTH, at));
     }
     Ok(())
 }
@@ -132,13 +132,13 @@ fn end_of(bytes: &[u8], at: usize, sot: Sot, sod: usize) -> Result<usize, Stream
     if sot.psot == 0 {
         let end = bytes.len() - 2;
         if !has_marker(bytes, end, EOC) || end < sod + 2 {
-            return Err(violated(23, end));
+            return Err(violated(rule_numbers::PART_END, end));
         }
         return Ok(end);
     }
     let end = at + sot.psot as usize;
     if end < sod + 2 {
-        return Err(violated(22, at));
+        return Err(violated(rule_numbers::PART_LENGTH, at));
     }
     Ok(end)
 }

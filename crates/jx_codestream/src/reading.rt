@@ -26,7 +26,7 @@ use crate::view::comps_of;
 use crate::{Segments, Stream, StreamFault, Tile, Tiles, slots};
 use jx_geom::{Canvas, tiles};
 use jx_marker::codes::{SIZ, SOC};
-use jx_marker::{Segment, Siz, read_segment};
+use jx_marker::{Segment, Siz, read_segment, rule_numbers};
 use std::alloc::{AllocError, Global};
 
 /// The most tiles.
@@ -56,16 +56,16 @@ fn read_front(alloc: Global, bytes: &[u8]) -> Result<(Siz, usize), StreamFault>
     ensures range { IfOk result (λ r. siz_fits r.0 ≡ true) }
 {
     if !has_marker(bytes, 0, SOC) {
-        return Err(violated(15, 0));
+        return Err(violated(rule_numbers::NO_SOC, 0));
     }
     if !has_marker(bytes, 2, SIZ) {
-        return Err(violated(16, 2));
+        return Err(violated(rule_numbers::NO_SIZ, 2));
     }
     match read_segment(alloc, bytes, 2, 1) {
         Ok((segment, next)) => {
             let Segment::Siz(siz) = segment else {
                 drop(segment);
-                return Err(violated(16, 2));
+                return Err(violated(rule_numbers::NO_SIZ, 2));
             };
             Ok((siz, next))
         }
@@ -116,7 +116,7 @@ fn read_main(
 {
     let main = read_header(alloc, bytes, start, HeaderKind::Main, comps, seen)?;
     if !has_defaults(start, seen) {
-        return Err(violated(17, main.end));
+        return Err(violated(rule_numbers::NO_DEFAULTS, main.end));
     }
     Ok(main)
 }
@@ -153,7 +153,7 @@ fn read_body(
     let main = read_main(alloc, bytes, start, comps, seen)?;
     let (parts, eoc) = read_parts(alloc, bytes, main.end, comps, seen, counts, told)?;
     if lacks_part(counts) {
-        return Err(violated(24, eoc));
+        return Err(violated(rule_numbers::NO_PART, eoc));
     }
     Ok((main, parts))
 }

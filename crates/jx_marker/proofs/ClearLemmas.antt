@@ -3,9 +3,11 @@ use Rattle.std.proofs.Common.{◌≡◌, ◌<◌, ◌≤◌, ◌+◌, ◌-◌, �
 use Rattle.std.specs.List.{list_all, list_any}
 use Rattle.std.proofs.lemmas.Bool.Decides.{nat_tests}
 use Rattle.byteorder.specs.Endian.{big_from}
+use Rattle.jx_base.specs.OrderNumbers.{IsOrderNumber}
 use Rattle.jx_marker.specs.Codes.{SIZ, COD, COC, TLM, PLM, PLT, QCD, QCC, RGN, POC, PPM, PPT, CRG, COM, SOT}
 use Rattle.jx_marker.specs.Markers.{has_length, index_size, entry_size, progression_size}
 use Rattle.jx_marker.specs.Values.{siz_at, poc_at, index_at}
+use Rattle.jx_marker.specs.RuleNumbers.{CAPABILITIES, CODING, COMPONENT, PRECINCTS, PROGRESSIONS, QUANTIZATION, REGION, SIZ_FIELDS, SIZ_LENGTH, STYLE}
 use Rattle.jx_marker.specs.Rules.{breaks_3, breaks_4, breaks_5, breaks_6, breaks_7, breaks_8, breaks_9, breaks_10, breaks_11, breaks_12, first_true, rules_inside, siz_fits, shape_fits, cod_fits, quant_fits, has_zero_exponent, progression_fits}
 use Rattle.jx_marker.proofs.RuleLemmas.{cleared, siz_rules, cod_rules, coc_rules, qcd_rules, qcc_rules, rgn_rules, poc_rules}
 use Rattle.std.proofs.lemmas.Bool.{or_parts, and_parts, not-false, leb-true, leb-false, ltb-true, eqb-true}
@@ -23,9 +25,9 @@ pub clear_siz : (comps : ℕ) (body : List ℕ) → first_true (rules_inside com
 unfolding breaks_3 breaks_4 breaks_5
 clear_siz comps body h =
     let all = rw siz_rules at h in
-    let third = cleared 3 (breaks_3 SIZ body) ((4, breaks_4 SIZ body) ∷ (5, breaks_5 SIZ body) ∷ []) all in
-    let fourth = cleared 4 (breaks_4 SIZ body) ((5, breaks_5 SIZ body) ∷ []) third.1 in
-    let fifth = cleared 5 (breaks_5 SIZ body) [] fourth.1 in
+    let third = cleared SIZ_LENGTH (breaks_3 SIZ body) ((SIZ_FIELDS, breaks_4 SIZ body) ∷ (CAPABILITIES, breaks_5 SIZ body) ∷ []) all in
+    let fourth = cleared SIZ_FIELDS (breaks_4 SIZ body) ((CAPABILITIES, breaks_5 SIZ body) ∷ []) third.1 in
+    let fifth = cleared CAPABILITIES (breaks_5 SIZ body) [] fourth.1 in
     let length_is = not-false _ third.0 in
     let rsiz_is = fifth.0 in
     record {
@@ -65,7 +67,7 @@ clear_shape flags at body h style above =
 
 pub record IsClearCod (body : List ℕ) : Type 0 where
   pub flags : slice_index body 0 < 8
-  pub order : slice_index body 1 ≤ 4
+  pub order : IsOrderNumber (slice_index body 1)
   pub layers : 0 < big_from 2 2 body
   pub transform : slice_index body 4 ≤ 1
   pub shape : IsClearShape (slice_index body 0) 5 body
@@ -74,9 +76,9 @@ pub clear_cod : (comps : ℕ) (body : List ℕ) → first_true (rules_inside com
 unfolding breaks_6 breaks_7 breaks_8
 clear_cod comps body h =
     let all = rw cod_rules at h in
-    let sixth = cleared 6 (breaks_6 comps COD body) ((7, breaks_7 comps COD body) ∷ (8, breaks_8 comps COD body) ∷ []) all in
-    let seventh = cleared 7 (breaks_7 comps COD body) ((8, breaks_8 comps COD body) ∷ []) sixth.1 in
-    let eighth = cleared 8 (breaks_8 comps COD body) [] seventh.1 in
+    let sixth = cleared CODING (breaks_6 comps COD body) ((STYLE, breaks_7 comps COD body) ∷ (PRECINCTS, breaks_8 comps COD body) ∷ []) all in
+    let seventh = cleared STYLE (breaks_7 comps COD body) ((PRECINCTS, breaks_8 comps COD body) ∷ []) sixth.1 in
+    let eighth = cleared PRECINCTS (breaks_8 comps COD body) [] seventh.1 in
     let fields = and_parts (cod_fits body) (shape_fits (slice_index body 0) 5 body) (not-false _ (or_parts _ _ sixth.0).0) in
     let flags = and_parts _ _ fields.0 in
     let order = and_parts _ _ flags.1 in
@@ -98,10 +100,10 @@ pub clear_coc : (comps : ℕ) (body : List ℕ) → first_true (rules_inside com
 unfolding breaks_6 breaks_7 breaks_8 breaks_12
 clear_coc comps body h =
     let all = rw coc_rules at h in
-    let sixth = cleared 6 (breaks_6 comps COC body) ((7, breaks_7 comps COC body) ∷ (8, breaks_8 comps COC body) ∷ (12, breaks_12 comps COC body) ∷ []) all in
-    let seventh = cleared 7 (breaks_7 comps COC body) ((8, breaks_8 comps COC body) ∷ (12, breaks_12 comps COC body) ∷ []) sixth.1 in
-    let eighth = cleared 8 (breaks_8 comps COC body) ((12, breaks_12 comps COC body) ∷ []) seventh.1 in
-    let twelfth = cleared 12 (breaks_12 comps COC body) [] eighth.1 in
+    let sixth = cleared CODING (breaks_6 comps COC body) ((STYLE, breaks_7 comps COC body) ∷ (PRECINCTS, breaks_8 comps COC body) ∷ (COMPONENT, breaks_12 comps COC body) ∷ []) all in
+    let seventh = cleared STYLE (breaks_7 comps COC body) ((PRECINCTS, breaks_8 comps COC body) ∷ (COMPONENT, breaks_12 comps COC body) ∷ []) sixth.1 in
+    let eighth = cleared PRECINCTS (breaks_8 comps COC body) ((COMPONENT, breaks_12 comps COC body) ∷ []) seventh.1 in
+    let twelfth = cleared COMPONENT (breaks_12 comps COC body) [] eighth.1 in
     let fields = and_parts _ (shape_fits (slice_index body (index_size comps)) (1 + index_size comps) body) (not-false _ sixth.0) in
     record {
       flags = ltb-true _ _ fields.0;
@@ -123,7 +125,7 @@ clear_quant at body h =
 pub clear_qcd : (comps : ℕ) (body : List ℕ) → first_true (rules_inside comps QCD body) ≡ None → IsClearQuant 0 body
 unfolding breaks_9
 clear_qcd comps body h =
-    let ninth = cleared 9 (breaks_9 comps QCD body) [] (rw qcd_rules at h) in
+    let ninth = cleared QUANTIZATION (breaks_9 comps QCD body) [] (rw qcd_rules at h) in
     clear_quant 0 body (not-false _ (or_parts _ _ ninth.0).0)
 
 pub record IsClearQcc (comps : ℕ) (body : List ℕ) : Type 0 where
@@ -133,8 +135,8 @@ pub record IsClearQcc (comps : ℕ) (body : List ℕ) : Type 0 where
 pub clear_qcc : (comps : ℕ) (body : List ℕ) → first_true (rules_inside comps QCC body) ≡ None → IsClearQcc comps body
 unfolding breaks_9 breaks_12
 clear_qcc comps body h =
-    let ninth = cleared 9 (breaks_9 comps QCC body) ((12, breaks_12 comps QCC body) ∷ []) (rw qcc_rules at h) in
-    let twelfth = cleared 12 (breaks_12 comps QCC body) [] ninth.1 in
+    let ninth = cleared QUANTIZATION (breaks_9 comps QCC body) ((COMPONENT, breaks_12 comps QCC body) ∷ []) (rw qcc_rules at h) in
+    let twelfth = cleared COMPONENT (breaks_12 comps QCC body) [] ninth.1 in
     record { quant = clear_quant (index_size comps) body (not-false _ ninth.0); index = leb-false _ _ twelfth.0 }
 
 pub record IsClearRgn (comps : ℕ) (body : List ℕ) : Type 0 where
@@ -145,8 +147,8 @@ pub record IsClearRgn (comps : ℕ) (body : List ℕ) : Type 0 where
 pub clear_rgn : (comps : ℕ) (body : List ℕ) → first_true (rules_inside comps RGN body) ≡ None → IsClearRgn comps body
 unfolding breaks_10 breaks_12
 clear_rgn comps body h =
-    let tenth = cleared 10 (breaks_10 comps RGN body) ((12, breaks_12 comps RGN body) ∷ []) (rw rgn_rules at h) in
-    let twelfth = cleared 12 (breaks_12 comps RGN body) [] tenth.1 in
+    let tenth = cleared REGION (breaks_10 comps RGN body) ((COMPONENT, breaks_12 comps RGN body) ∷ []) (rw rgn_rules at h) in
+    let twelfth = cleared COMPONENT (breaks_12 comps RGN body) [] tenth.1 in
     let fields = and_parts _ _ (not-false _ tenth.0) in
     record { size = eqb-true _ _ fields.0; style = eqb-true _ _ fields.1; index = leb-false _ _ twelfth.0 }
 
@@ -157,7 +159,7 @@ pub record IsClearPoc (comps : ℕ) (body : List ℕ) : Type 0 where
 pub clear_poc : (comps : ℕ) (body : List ℕ) → first_true (rules_inside comps POC body) ≡ None → IsClearPoc comps body
 unfolding breaks_11
 clear_poc comps body h =
-    let eleventh = cleared 11 (breaks_11 comps POC body) [] (rw poc_rules at h) in
+    let eleventh = cleared PROGRESSIONS (breaks_11 comps POC body) [] (rw poc_rules at h) in
     let fields = and_parts _ _ (not-false _ eleventh.0) in
     record { whole = eqb-true _ _ fields.0; fits = fields.1 }
 

@@ -12,6 +12,7 @@ use Rattle.jx_marker.specs.declared.Segment.{Segment}
 use Rattle.jx_marker.specs.Markers.{has_length, stands_alone, index_size, entry_size, progression_size}
 use Rattle.jx_marker.specs.Values.{values_from, comp_size_at, comp_size_bytes, siz_at, siz_bytes, canvas_bytes, shape_at, shape_bytes, precinct_bit, scod, cod_at, cod_bytes, index_at, index_bytes, entry_at, quant_at, quant_bytes, progression_at, progression_bytes, poc_at, poc_bytes, sot_at, sot_bytes}
 use Rattle.jx_marker.specs.Segments.{spelling, with_length, value_of, code_at, body_at, length_at, segment_at, size_at, alone}
+use Rattle.jx_marker.specs.RuleNumbers.{LENGTH_LISTS}
 use Rattle.jx_marker.specs.Rules.{first_true, rules_inside, first_broken, has_zero_exponent, least_length, breaks_2, breaks_13}
 use Rattle.jx_marker.specs.Ranges.{InRange, AreBytes, FitsLength, SizInRange, CompSizeInRange, ShapeInRange, CodInRange, CocInRange, QuantInRange, QccInRange, ProgressionInRange, PocInRange, SotInRange}
 use Rattle.jx_marker.specs.Laws.{BeginsWith, StandsAt}
@@ -387,21 +388,21 @@ read_plt : (comps : ℕ) (body : List ℕ) → IsSound comps PLT body → IsSpel
 unfolding breaks_13
 read_plt comps body h =
     let all = rw (plain_rules comps PLT body (record { siz = refl; cod = refl; coc = refl; qcd = refl; qcc = refl; rgn = refl; poc = refl })) at h.rules in
-    let long = or_parts (ltb (2 + length body) 3) false (cleared 13 (breaks_13 PLT body) [] all).0 in
+    let long = or_parts (ltb (2 + length body) 3) false (cleared LENGTH_LISTS (breaks_13 PLT body) [] all).0 in
     record { spelled = refl; range = record { some = not_short (length body) 1 long.0; count = h.fits; each = h.are_bytes } }
 
 read_plm : (comps : ℕ) (body : List ℕ) → IsSound comps PLM body → IsSpelled comps PLM body
 unfolding breaks_13
 read_plm comps body h =
     let all = rw (plain_rules comps PLM body (record { siz = refl; cod = refl; coc = refl; qcd = refl; qcc = refl; rgn = refl; poc = refl })) at h.rules in
-    let long = or_parts (ltb (2 + length body) 3) false (cleared 13 (breaks_13 PLM body) [] all).0 in
+    let long = or_parts (ltb (2 + length body) 3) false (cleared LENGTH_LISTS (breaks_13 PLM body) [] all).0 in
     record { spelled = refl; range = record { some = not_short (length body) 1 long.0; count = h.fits; each = h.are_bytes } }
 
 read_tlm : (comps : ℕ) (body : List ℕ) → IsSound comps TLM body → IsSpelled comps TLM body
 unfolding breaks_13
 read_tlm comps body h =
     let all = rw (plain_rules comps TLM body (record { siz = refl; cod = refl; coc = refl; qcd = refl; qcc = refl; rgn = refl; poc = refl })) at h.rules in
-    record { spelled = refl; range = record { some = not_short (length body) 2 (cleared 13 (breaks_13 TLM body) [] all).0; count = h.fits; each = h.are_bytes } }
+    record { spelled = refl; range = record { some = not_short (length body) 2 (cleared LENGTH_LISTS (breaks_13 TLM body) [] all).0; count = h.fits; each = h.are_bytes } }
 
 read_sot : (comps : ℕ) (body : List ℕ) → IsSound comps SOT body → IsSpelled comps SOT body
 read_sot comps body h = record { spelled = ap (with_length SOT) (sot_spelled body h.are_bytes (h.sot refl)); range = sot_range body h.are_bytes }

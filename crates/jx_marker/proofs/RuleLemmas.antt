@@ -8,34 +8,35 @@ use Rattle.std.specs.List.{list_all}
 use Rattle.jx_marker.specs.Values.{values_from, comp_size_at}
 use Rattle.jx_marker.proofs.ValueLemmas.{length_values}
 use Rattle.jx_marker.specs.Segments.{code_at, length_at, body_at}
+use Rattle.jx_marker.specs.RuleNumbers.{CAPABILITIES, CODING, COMPONENT, LENGTH, LENGTH_LISTS, MARKER, PACKED_HEADERS, PRECINCTS, PROGRESSIONS, QUANTIZATION, REGION, SIZ_FIELDS, SIZ_LENGTH, STYLE}
 use Rattle.jx_marker.specs.Rules.{breaks_1, breaks_2, breaks_3, breaks_4, breaks_5, breaks_6, breaks_7, breaks_8, breaks_9, breaks_10, breaks_11, breaks_12, breaks_13, breaks_14, first_true, rules_inside, first_broken, least_length, axis_fits, comp_size_fits}
 use Rattle.std.proofs.lemmas.Bool.{or_parts}
 
-pub siz_rules : (comps : ℕ) (body : List ℕ) → first_true (rules_inside comps SIZ body) ≡ first_true ((3, breaks_3 SIZ body) ∷ (4, breaks_4 SIZ body) ∷ (5, breaks_5 SIZ body) ∷ [])
+pub siz_rules : (comps : ℕ) (body : List ℕ) → first_true (rules_inside comps SIZ body) ≡ first_true ((SIZ_LENGTH, breaks_3 SIZ body) ∷ (SIZ_FIELDS, breaks_4 SIZ body) ∷ (CAPABILITIES, breaks_5 SIZ body) ∷ [])
 unfolding breaks_6 breaks_7 breaks_8 breaks_9 breaks_10 breaks_11 breaks_12 breaks_13
 siz_rules comps body = refl
 
-pub cod_rules : (comps : ℕ) (body : List ℕ) → first_true (rules_inside comps COD body) ≡ first_true ((6, breaks_6 comps COD body) ∷ (7, breaks_7 comps COD body) ∷ (8, breaks_8 comps COD body) ∷ [])
+pub cod_rules : (comps : ℕ) (body : List ℕ) → first_true (rules_inside comps COD body) ≡ first_true ((CODING, breaks_6 comps COD body) ∷ (STYLE, breaks_7 comps COD body) ∷ (PRECINCTS, breaks_8 comps COD body) ∷ [])
 unfolding breaks_3 breaks_4 breaks_5 breaks_9 breaks_10 breaks_11 breaks_12 breaks_13
 cod_rules comps body = refl
 
-pub coc_rules : (comps : ℕ) (body : List ℕ) → first_true (rules_inside comps COC body) ≡ first_true ((6, breaks_6 comps COC body) ∷ (7, breaks_7 comps COC body) ∷ (8, breaks_8 comps COC body) ∷ (12, breaks_12 comps COC body) ∷ [])
+pub coc_rules : (comps : ℕ) (body : List ℕ) → first_true (rules_inside comps COC body) ≡ first_true ((CODING, breaks_6 comps COC body) ∷ (STYLE, breaks_7 comps COC body) ∷ (PRECINCTS, breaks_8 comps COC body) ∷ (COMPONENT, breaks_12 comps COC body) ∷ [])
 unfolding breaks_3 breaks_4 breaks_5 breaks_9 breaks_10 breaks_11 breaks_13
 coc_rules comps body = refl
 
-pub qcd_rules : (comps : ℕ) (body : List ℕ) → first_true (rules_inside comps QCD body) ≡ first_true ((9, breaks_9 comps QCD body) ∷ [])
+pub qcd_rules : (comps : ℕ) (body : List ℕ) → first_true (rules_inside comps QCD body) ≡ first_true ((QUANTIZATION, breaks_9 comps QCD body) ∷ [])
 unfolding breaks_3 breaks_4 breaks_5 breaks_6 breaks_7 breaks_8 breaks_10 breaks_11 breaks_12 breaks_13
 qcd_rules comps body = refl
 
-pub qcc_rules : (comps : ℕ) (body : List ℕ) → first_true (rules_inside comps QCC body) ≡ first_true ((9, breaks_9 comps QCC body) ∷ (12, breaks_12 comps QCC body) ∷ [])
+pub qcc_rules : (comps : ℕ) (body : List ℕ) → first_true (rules_inside comps QCC body) ≡ first_true ((QUANTIZATION, breaks_9 comps QCC body) ∷ (COMPONENT, breaks_12 comps QCC body) ∷ [])
 unfolding breaks_3 breaks_4 breaks_5 breaks_6 breaks_7 breaks_8 breaks_10 breaks_11 breaks_13
 qcc_rules comps body = refl
 
-pub rgn_rules : (comps : ℕ) (body : List ℕ) → first_true (rules_inside comps RGN body) ≡ first_true ((10, breaks_10 comps RGN body) ∷ (12, breaks_12 comps RGN body) ∷ [])
+pub rgn_rules : (comps : ℕ) (body : List ℕ) → first_true (rules_inside comps RGN body) ≡ first_true ((REGION, breaks_10 comps RGN body) ∷ (COMPONENT, breaks_12 comps RGN body) ∷ [])
 unfolding breaks_3 breaks_4 breaks_5 breaks_6 breaks_7 breaks_8 breaks_9 breaks_11 breaks_13
 rgn_rules comps body = refl
 
-pub poc_rules : (comps : ℕ) (body : List ℕ) → first_true (rules_inside comps POC body) ≡ first_true ((11, breaks_11 comps POC body) ∷ [])
+pub poc_rules : (comps : ℕ) (body : List ℕ) → first_true (rules_inside comps POC body) ≡ first_true ((PROGRESSIONS, breaks_11 comps POC body) ∷ [])
 unfolding breaks_3 breaks_4 breaks_5 breaks_6 breaks_7 breaks_8 breaks_9 breaks_10 breaks_12 breaks_13
 poc_rules comps body = refl
 
@@ -49,7 +50,7 @@ pub record IsPlain (code : ℕ) : Type 0 where
   pub rgn : (code == RGN) ≡ false
   pub poc : (code == POC) ≡ false
 
-pub plain_rules : (comps code : ℕ) (body : List ℕ) → IsPlain code → first_true (rules_inside comps code body) ≡ first_true ((13, breaks_13 code body) ∷ [])
+pub plain_rules : (comps code : ℕ) (body : List ℕ) → IsPlain code → first_true (rules_inside comps code body) ≡ first_true ((LENGTH_LISTS, breaks_13 code body) ∷ [])
 unfolding breaks_3 breaks_4 breaks_5 breaks_6 breaks_7 breaks_8 breaks_9 breaks_10 breaks_11 breaks_12
 plain_rules comps code body plain = rw (plain.siz, plain.cod, plain.coc, plain.qcd, plain.qcc, plain.rgn, plain.poc) refl
 
@@ -83,9 +84,9 @@ pub record IsClear (comps : ℕ) (bytes : List ℕ) : Type 0 where
 pub clear : (comps : ℕ) (bytes : List ℕ) → first_broken comps bytes ≡ None → IsClear comps bytes
 clear comps bytes h =
     let inside : List (ℕ × Bool) = rules_inside comps (code_at bytes) (body_at bytes) in
-    let second = cleared 2 (breaks_2 bytes) ((14, breaks_14 bytes) ∷ (1, breaks_1 comps bytes) ∷ inside) h in
-    let fourteenth = cleared 14 (breaks_14 bytes) ((1, breaks_1 comps bytes) ∷ inside) second.1 in
-    let first = cleared 1 (breaks_1 comps bytes) inside fourteenth.1 in
+    let second = cleared MARKER (breaks_2 bytes) ((PACKED_HEADERS, breaks_14 bytes) ∷ (LENGTH, breaks_1 comps bytes) ∷ inside) h in
+    let fourteenth = cleared PACKED_HEADERS (breaks_14 bytes) ((LENGTH, breaks_1 comps bytes) ∷ inside) second.1 in
+    let first = cleared LENGTH (breaks_1 comps bytes) inside fourteenth.1 in
     record { marker = second.0; packed = fourteenth.0; long = first.0; inside = first.1 }
 
 pub clear_broken : (comps : ℕ) (bytes : List ℕ) → IsClear comps bytes → first_broken comps bytes ≡ None

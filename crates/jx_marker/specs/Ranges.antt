@@ -1,6 +1,7 @@
 -- The ranges in which a segment has a spelling.
 use Rattle.std.specs.Prelude.{◌≡◌, ◌<◌, ◌≤◌, ℕ, ◌+◌, ◌*◌, ◌^◌, ◌%◌, ◌==◌, true, false, List, length, drop, if◌then◌else◌}
 use Rattle.std.specs.List.{All, list_all, list_any}
+use Rattle.jx_base.specs.OrderNumbers.{IsOrderNumber}
 use Rattle.jx_marker.specs.declared.CompSize.{CompSize}
 use Rattle.jx_marker.specs.declared.Siz.{Siz}
 use Rattle.jx_marker.specs.declared.Shape.{Shape}
@@ -54,7 +55,7 @@ pub record ShapeInRange (shape : Shape) : Type 0 where
   pub above : list_any has_zero_exponent (drop 1 shape.precincts) ≡ false
 
 pub record CodInRange (cod : Cod) : Type 0 where
-  pub order : cod.order ≤ 4
+  pub order : IsOrderNumber cod.order
   pub some : 0 < cod.layers
   pub layers : cod.layers < 2 ^ 16
   pub transform : cod.transform ≤ 1

@@ -10,6 +10,7 @@ use Rattle.jx_marker.specs.declared.Progression.{Progression}
 use Rattle.jx_marker.specs.Markers.{has_length, stands_alone, index_size, entry_size, progression_size}
 use Rattle.jx_marker.specs.Values.{siz_at, poc_at, index_at}
 use Rattle.jx_marker.specs.Segments.{code_at, length_at, body_at}
+use Rattle.jx_marker.specs.RuleNumbers.{CAPABILITIES, CODING, COMPONENT, LENGTH, LENGTH_LISTS, MARKER, PACKED_HEADERS, PRECINCTS, PROGRESSIONS, QUANTIZATION, REGION, SIZ_FIELDS, SIZ_LENGTH, STYLE}
 use Rattle.jx_marker.specs.Codes.{SIZ, COD, COC, TLM, PLM, PLT, QCD, QCC, RGN, POC, SOT}
 
 -- rule 2: two bytes that are no marker (Table A.2), or SOP or EPH, which stand in tile data alone (A.8)
@@ -78,9 +79,13 @@ shape_fits flags at body = (length body == at + 5 + (if flags % 2 == 1 then 1 + 
     && (nat_le (slice_index body at) 32 && (nat_le (slice_index body (at + 1)) 8 && (nat_le (slice_index body (at + 2)) 8
     && (nat_le (slice_index body (at + 1) + slice_index body (at + 2)) 8 && nat_le (slice_index body (at + 4)) 1))))
 
+-- one of the five progression orders has this number (Table A.16)
+abbrev pub is_order : ℕ → Bool
+is_order number = nat_le number 4
+
 -- Scod's bits 3 to 7, the order, the layers and the component transform (Tables A.13, A.14)
 abbrev pub cod_fits : List ℕ → Bool
-cod_fits body = nat_lt (slice_index body 0) 8 && (nat_le (slice_index body 1) 4 && (nat_lt 0 (big_from 2 2 body) && nat_le (slice_index body 4) 1))
+cod_fits body = nat_lt (slice_index body 0) 8 && (is_order (slice_index body 1) && (nat_lt 0 (big_from 2 2 body) && nat_le (slice_index body 4) 1))
 
 -- rule 6: the length of COD or COC isn't that of its fields, or a field is out of its range (A.6.1, A.6.2)
 unfoldable pub breaks_6 : ℕ → ℕ → List ℕ → Bool
@@ -118,7 +123,7 @@ breaks_10 comps code body = (code == RGN) && not ((length body == index_size com
 
 -- an entry of POC that names some resolutions, components and layers, and one of the five orders
 abbrev pub progression_fits : Progression → Bool
-progression_fits entry = nat_lt entry.rs entry.re && (((entry.ce == 0) || nat_lt entry.cs entry.ce) && (nat_lt 0 entry.lye && nat_le entry.order 4))
+progression_fits entry = nat_lt entry.rs entry.re && (((entry.ce == 0) || nat_lt entry.cs entry.ce) && (nat_lt 0 entry.lye && is_order entry.order))
 
 -- rule 11: POC isn't whole entries, or one of them is out of range (A.6.6)
 unfoldable pub breaks_11 : ℕ → ℕ → List ℕ → Bool
@@ -139,13 +144,13 @@ first_true tests = option_map (λ (test : ℕ × Bool). test.0) (find (λ (test 
 -- the rules of a whole segment, in the order in which they are tested
 abbrev pub rules_inside : ℕ → ℕ → List ℕ → List (ℕ × Bool)
 rules_inside comps code body =
-    (3, breaks_3 code body) ∷ (4, breaks_4 code body) ∷ (5, breaks_5 code body) ∷ (6, breaks_6 comps code body)
-    ∷ (7, breaks_7 comps code body) ∷ (8, breaks_8 comps code body) ∷ (9, breaks_9 comps code body) ∷ (10, breaks_10 comps code body)
-    ∷ (11, breaks_11 comps code body) ∷ (13, breaks_13 code body) ∷ (12, breaks_12 comps code body) ∷ []
+    (SIZ_LENGTH, breaks_3 code body) ∷ (SIZ_FIELDS, breaks_4 code body) ∷ (CAPABILITIES, breaks_5 code body) ∷ (CODING, breaks_6 comps code body)
+    ∷ (STYLE, breaks_7 comps code body) ∷ (PRECINCTS, breaks_8 comps code body) ∷ (QUANTIZATION, breaks_9 comps code body) ∷ (REGION, breaks_10 comps code body)
+    ∷ (PROGRESSIONS, breaks_11 comps code body) ∷ (LENGTH_LISTS, breaks_13 code body) ∷ (COMPONENT, breaks_12 comps code body) ∷ []
 
 -- the rules 1 to 14, in the order in which they are tested at a place
 abbrev pub rules_at : ℕ → List ℕ → List (ℕ × Bool)
-rules_at comps bytes = (2, breaks_2 bytes) ∷ (14, breaks_14 bytes) ∷ (1, breaks_1 comps bytes) ∷ rules_inside comps (code_at bytes) (body_at bytes)
+rules_at comps bytes = (MARKER, breaks_2 bytes) ∷ (PACKED_HEADERS, breaks_14 bytes) ∷ (LENGTH, breaks_1 comps bytes) ∷ rules_inside comps (code_at bytes) (body_at bytes)
 
 -- the first rule that is violated at the front of these bytes
 abbrev pub first_broken : ℕ → List ℕ → Option ℕ

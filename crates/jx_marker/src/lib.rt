@@ -11,6 +11,7 @@ mod numbers;
 mod packets;
 mod put;
 mod read;
+pub mod rule_numbers;
 mod rules;
 mod siz_rules;
 
@@ -171,7 +172,7 @@ pub enum Segment {
 /// Why no segment was read.
 #[derive(Clone, Copy, Debug, PartialEq, Eq)]
 pub enum Rule {
-    /// The rule of this number, 1 to 14, is the first that the place violates.
+    /// The rule of this number, 1 to 14 (`rule_numbers`), is the first that the place violates.
     Broken(u8),
     /// Memory was refused.
     NoMemory,

@@ -5,7 +5,8 @@ ghost use Rattle.std.specs.List.{list_all, list_any};
 ghost use Rattle.jx_marker.specs.Markers.{has_length, stands_alone, index_size, entry_size, progression_size};
 ghost use Rattle.jx_marker.specs.Values.{values_from, progression_at, index_at};
 ghost use Rattle.jx_marker.specs.Segments.{length_at, body_at};
-ghost use Rattle.jx_marker.specs.Rules.{breaks_1, breaks_2, breaks_6, breaks_7, breaks_8, breaks_9, breaks_10, breaks_11, breaks_12, breaks_13, breaks_14, least_length, shape_fits, cod_fits, has_zero_exponent, quant_fits, progression_fits, first_true, rules_inside, first_broken};
+ghost use Rattle.jx_marker.specs.Rules.{breaks_1, breaks_2, breaks_6, breaks_7, breaks_8, breaks_9, breaks_10, breaks_11, breaks_12, breaks_13, breaks_14, least_length, shape_fits, cod_fits, has_zero_exponent, quant_fits, progression_fits, is_order, first_true, rules_inside, first_broken};
+ghost use Rattle.jx_marker.specs.RuleNumbers.{CODING, COMPONENT, LENGTH_LISTS, PRECINCTS, PROGRESSIONS, QUANTIZATION, REGION, STYLE};
 ghost use Rattle.jx_marker.specs.Codes.{SIZ, COD, COC, QCD, QCC, RGN, POC};
 
 use crate::Progression;
@@ -13,6 +14,10 @@ use crate::codes::{COC, COD, PLM, PLT, POC, PPM, PPT, QCC, QCD, RGN, SIZ, SOT, T
 use crate::fields::progression_at;
 use crate::markers::{entry_size, has_length, index_size, progression_size, stands_alone};
 use crate::numbers::{narrow_at, u16_at};
+use crate::rule_numbers::{
+    CODING, COMPONENT, LENGTH, LENGTH_LISTS, MARKER, PACKED_HEADERS, PRECINCTS, PROGRESSIONS,
+    QUANTIZATION, REGION, STYLE,
+};
 use crate::siz_rules::siz_rule;
 
 // Rule 2: no marker, or one that stands in tile data alone.
@@ -84,11 +89,18 @@ fn shape_fits(flags: u8, at: usize, body: &[u8]) -> bool
         && body[at + 4] <= 1
 }
 
+/// Whether one of the five progression orders has this number (Table A.16).
+fn is_order(number: u8) -> bool
+    ensures { result ≡ is_order number }
+{
+    number <= 4
+}
+
 fn cod_fits(body: &[u8]) -> bool
     requires { 6 ≤ length body.now }
     ensures { result ≡ cod_fits body.now }
 {
-    body[0] < 8 && body[1] <= 4 && u16_at(body, 2) > 0 && body[4] <= 1
+    body[0] < 8 && is_order(body[1]) && u16_at(body, 2) > 0 && body[4] <= 1
 }
 
 fn has_zero_exponent(sizes: u8) -> bool
@@ -145,16 +157,16 @@ fn breaks_index(comps: u16, body: &[u8]) -> bool
 #[tactic(auto, unfolding(crate::specs::Rules::breaks_6, crate::specs::Rules::breaks_7, crate::specs::Rules::breaks_8))]
 fn cod_rule(comps: u16, body: &[u8]) -> Option<u8>
     requires { 6 ≤ length body.now }
-    ensures { result ≡ first_true ((6, breaks_6 comps COD body.now) ∷ (7, breaks_7 comps COD body.now) ∷ (8, breaks_8 comps COD body.now) ∷ []) }
+    ensures { result ≡ first_true ((CODING, breaks_6 comps COD body.now) ∷ (STYLE, breaks_7 comps COD body.now) ∷ (PRECINCTS, breaks_8 comps COD body.now) ∷ []) }
 {
     if breaks_default_coding(comps, body) {
-        return Some(6);
+        return Some(CODING);
     }
     if breaks_style(5, body) {
-        return Some(7);
+        return Some(STYLE);
     }
     if breaks_precincts(5, body) {
-        return Some(8);
+        return Some(PRECINCTS);
     }
     None
 }
@@ -162,20 +174,20 @@ fn cod_rule(comps: u16, body: &[u8]) -> Option<u8>
 #[tactic(auto, unfolding(crate::specs::Rules::breaks_6, crate::specs::Rules::breaks_7, crate::specs::Rules::breaks_8, crate::specs::Rules::breaks_12))]
 fn coc_rule(comps: u16, body: &[u8]) -> Option<u8>
     requires { 2 + index_size comps ≤ length body.now }
-    ensures { result ≡ first_true ((6, breaks_6 comps COC body.now) ∷ (7, breaks_7 comps COC body.now) ∷ (8, breaks_8 comps COC body.now) ∷ (12, breaks_12 comps COC body.now) ∷ []) }
+    ensures { result ≡ first_true ((CODING, breaks_6 comps COC body.now) ∷ (STYLE, breaks_7 comps COC body.now) ∷ (PRECINCTS, breaks_8 comps COC body.now) ∷ (COMPONENT, breaks_12 comps COC body.now) ∷ []) }
 {
     if breaks_component_coding(comps, body) {
-        return Some(6);
+        return Some(CODING);
     }
     let at = 1 + index_size(comps);
     if breaks_style(at, body) {
-        return Some(7);
+        return Some(STYLE);
     }
     if breaks_precincts(at, body) {
-        return Some(8);
+        return Some(PRECINCTS);
     }
     if breaks_index(comps, body) {
-        return Some(12);
+        return Some(COMPONENT);
     }
     None
 }
@@ -194,21 +206,25 @@ fn quant_fits(at: usize, body: &[u8]) -> bool
 #[tactic(auto, unfolding(crate::specs::Rules::breaks_9))]
 fn qcd_rule(comps: u16, body: &[u8]) -> Option<u8>
     requires { 1 ≤ length body.now }
-    ensures { result ≡ first_true ((9, breaks_9 comps QCD body.now) ∷ []) }
+    ensures { result ≡ first_true ((QUANTIZATION, breaks_9 comps QCD body.now) ∷ []) }
 {
-    if quant_fits(0, body) { None } else { Some(9) }
+    if quant_fits(0, body) {
+        None
+    } else {
+        Some(QUANTIZATION)
+    }
 }
 
 #[tactic(auto, unfolding(crate::specs::Rules::breaks_9, crate::specs::Rules::breaks_12))]
 fn qcc_rule(comps: u16, body: &[u8]) -> Option<u8>
     requires { 1 + index_size comps ≤ length body.now }
-    ensures { result ≡ first_true ((9, breaks_9 comps QCC body.now) ∷ (12, breaks_12 comps QCC body.now) ∷ []) }
+    ensures { result ≡ first_true ((QUANTIZATION, breaks_9 comps QCC body.now) ∷ (COMPONENT, breaks_12 comps QCC body.now) ∷ []) }
 {
     if !quant_fits(index_size(comps), body) {
-        return Some(9);
+        return Some(QUANTIZATION);
     }
     if breaks_index(comps, body) {
-        return Some(12);
+        return Some(COMPONENT);
     }
     None
 }
@@ -216,14 +232,14 @@ fn qcc_rule(comps: u16, body: &[u8]) -> Option<u8>
 #[tactic(auto, unfolding(crate::specs::Rules::breaks_10, crate::specs::Rules::breaks_12))]
 fn rgn_rule(comps: u16, body: &[u8]) -> Option<u8>
     requires { 1 + index_size comps ≤ length body.now }
-    ensures { result ≡ first_true ((10, breaks_10 comps RGN body.now) ∷ (12, breaks_12 comps RGN body.now) ∷ []) }
+    ensures { result ≡ first_true ((REGION, breaks_10 comps RGN body.now) ∷ (COMPONENT, breaks_12 comps RGN body.now) ∷ []) }
 {
     let at = index_size(comps);
     if !(body.len() == at + 2 && body[at] == 0) {
-        return Some(10);
+        return Some(REGION);
     }
     if breaks_index(comps, body) {
-        return Some(12);
+        return Some(COMPONENT);
     }
     None
 }
@@ -234,7 +250,7 @@ fn progression_fits(entry: Progression) -> bool
     entry.rs < entry.re
         && (entry.ce == 0 || entry.cs < entry.ce)
         && entry.lye > 0
-        && entry.order <= 4
+        && is_order(entry.order)
 }
 
 #[tactic(auto, using(crate::proofs::ValueLemmas::all_left, crate::proofs::ValueLemmas::room_left))]
@@ -255,14 +271,14 @@ fn progressions_fit(comps: u16, body: &[u8], count: usize) -> bool
 
 #[tactic(auto, unfolding(crate::specs::Rules::breaks_11))]
 fn poc_rule(comps: u16, body: &[u8]) -> Option<u8>
-    ensures { result ≡ first_true ((11, breaks_11 comps POC body.now) ∷ []) }
+    ensures { result ≡ first_true ((PROGRESSIONS, breaks_11 comps POC body.now) ∷ []) }
 {
     let size = progression_size(comps);
     if body.len() % size != 0 {
-        return Some(11);
+        return Some(PROGRESSIONS);
     }
     if !progressions_fit(comps, body, body.len() / size) {
-        return Some(11);
+        return Some(PROGRESSIONS);
     }
     None
 }
@@ -270,14 +286,14 @@ fn poc_rule(comps: u16, body: &[u8]) -> Option<u8>
 // Rule 13: a list of lengths that is too short.
 #[tactic(auto, unfolding(crate::specs::Rules::breaks_13))]
 fn lengths_rule(code: u8, body: &[u8]) -> Option<u8>
-    ensures { result ≡ first_true ((13, breaks_13 code body.now) ∷ []) }
+    ensures { result ≡ first_true ((LENGTH_LISTS, breaks_13 code body.now) ∷ []) }
 {
     let broken = match code {
         PLM | PLT => body.is_empty(),
         TLM => body.len() < 2,
         _ => false,
     };
-    if broken { Some(13) } else { None }
+    if broken { Some(LENGTH_LISTS) } else { None }
 }
 
 /// The first of the rules 3 to 13 that a whole segment violates, by its marker's second byte and the
@@ -315,13 +331,13 @@ pub fn first_broken(comps: u16, bytes: &[u8]) -> Option<u8>
     ensures { result ≡ first_broken comps bytes.now }
 {
     if breaks_marker(bytes) {
-        return Some(2);
+        return Some(MARKER);
     }
     if breaks_packed(bytes) {
-        return Some(14);
+        return Some(PACKED_HEADERS);
     }
     if breaks_length(comps, bytes) {
-        return Some(1);
+        return Some(LENGTH);
     }
     if !has_length(bytes[1]) {
         return None;

@@ -5,11 +5,13 @@ ghost use Rattle.std.specs.List.{list_all};
 ghost use Rattle.byteorder.specs.Endian.{big_from};
 ghost use Rattle.jx_marker.specs.Values.{values_from, comp_size_at};
 ghost use Rattle.jx_marker.specs.Rules.{breaks_3, breaks_4, breaks_5, axis_fits, comp_size_fits, first_true};
+ghost use Rattle.jx_marker.specs.RuleNumbers.{CAPABILITIES, SIZ_FIELDS, SIZ_LENGTH};
 ghost use Rattle.jx_marker.specs.Codes.{SIZ};
 
 use crate::CompSize;
 use crate::fields::comp_size_at;
 use crate::numbers::{u16_at, u32_at};
+use crate::rule_numbers::{CAPABILITIES, SIZ_FIELDS, SIZ_LENGTH};
 
 // Rule 3: the length of SIZ isn't that of its components.
 #[tactic(auto, unfolding(crate::specs::Rules::breaks_3))]
@@ -94,16 +96,16 @@ fn breaks_capabilities(body: &[u8]) -> bool
 
 pub(crate) fn siz_rule(body: &[u8]) -> Option<u8>
     requires { 36 ≤ length body.now }
-    ensures { result ≡ first_true ((3, breaks_3 SIZ body.now) ∷ (4, breaks_4 SIZ body.now) ∷ (5, breaks_5 SIZ body.now) ∷ []) }
+    ensures { result ≡ first_true ((SIZ_LENGTH, breaks_3 SIZ body.now) ∷ (SIZ_FIELDS, breaks_4 SIZ body.now) ∷ (CAPABILITIES, breaks_5 SIZ body.now) ∷ []) }
 {
     if breaks_component_count(body) {
-        return Some(3);
+        return Some(SIZ_LENGTH);
     }
     if breaks_canvas(body) {
-        return Some(4);
+        return Some(SIZ_FIELDS);
     }
     if breaks_capabilities(body) {
-        return Some(5);
+        return Some(CAPABILITIES);
     }
     None
 }

@@ -37,14 +37,14 @@ fn no_value<'a>(
 
 /// What is wrong with a value of an option.
 fn option_text(alloc: Global, value: &str, option: OptionName) -> Result<String, AllocError> {
-    let row = option.row();
     let name = option.text();
-    let kind = row.value;
+    let kind = option.placeholder();
     let name = format!(in alloc; "--{name} <{kind}>")?;
-    if row.form.is_empty() {
-        return wrong_number(alloc, value, name.as_str(), row.values);
+    let form = option.form();
+    if form.is_empty() {
+        return wrong_number(alloc, value, name.as_str(), option.range());
     }
-    wrong(alloc, value, name.as_str(), row.form)
+    wrong(alloc, value, name.as_str(), form)
 }
 
 /// The options with values that clap doesn't look at, in the order in which they are told.

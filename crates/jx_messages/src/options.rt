@@ -1,4 +1,4 @@
-//! The help of each option: its name, its values where they are listed, and its heading are those of its row.
+//! The help of each option: its name, its values where they are listed, and its heading are those of jx_options.
 
 use jx_options::OptionName;
 
@@ -41,18 +41,17 @@ fn help_of(option: OptionName) -> &'static str {
         OptionName::WindowBytes => {
             "bytes of several such blocks together\n1 to 268435456, the default"
         }
-        OptionName::Sop | OptionName::Eph | OptionName::Plt => option.row().what,
+        OptionName::Sop | OptionName::Eph | OptionName::Plt => option.what(),
     }
 }
 
 /// An option with its help.
 pub(crate) fn option_text(option: OptionName) -> OptionText {
-    let row = option.row();
     OptionText {
         name: option.text(),
-        value: row.value,
+        value: option.placeholder(),
         listed: option.listed(),
-        heading: row.heading,
+        heading: option.heading(),
         help: help_of(option),
     }
 }

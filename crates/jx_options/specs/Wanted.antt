@@ -1,9 +1,9 @@
 -- How a codestream is to be written.
-use Rattle.std.specs.Prelude.{◌≡◌, ◌≤◌, ◌<◌, ℕ, ◌/◌, ◌%◌, Bool, List, Option, IfSome}
+use Rattle.std.specs.Prelude.{◌≡◌, ◌<◌, ℕ, ◌/◌, ◌%◌, List, Option, IfSome}
+use Rattle.jx_base.specs.OrderNumbers.{IsOrderNumber}
 use Rattle.jx_base.specs.declared.style.Style.{Style}
 use Rattle.jx_marker.specs.Ranges.{AreBytes}
 use Rattle.jx_options.specs.declared.Marks.{Marks}
-use Rattle.jx_options.specs.declared.PartChoice.{PartChoice}
 
 pub record Wanted : Type 0 where
   -- the progression order of each tile, by its number (Table A.16); none where each tile keeps that of its COD
@@ -15,11 +15,8 @@ pub record Wanted : Type 0 where
   pub style : Option Style
   -- the words for the planners of layers
   pub layers : List ℕ
-  -- where a tile is cut into tile-parts
-  pub parts : PartChoice
-  pub sop : Bool
-  pub eph : Bool
-  pub plt : Bool
+  -- what stands in the tile-parts beside headers and blocks, and where they begin
+  pub marks : Marks
 
 -- a style has six bits, and predictable termination isn't asked (bit 4)
 pub record MayBeStyle (style : Style) : Type 0 where
@@ -28,10 +25,6 @@ pub record MayBeStyle (style : Style) : Type 0 where
 
 -- there is such an order and such a style, and exponents have four bits
 pub record MayBeWanted (w : Wanted) : Type 0 where
-  pub order : IfSome w.order (λ (order : ℕ). order ≤ 4)
+  pub order : IfSome w.order IsOrderNumber
   pub bytes : IfSome w.precincts AreBytes
   pub style : IfSome w.style MayBeStyle
-
--- what stands in the tile-parts beside headers and blocks, and where they begin
-abbrev pub marks_of : Wanted → Marks
-marks_of w = record { sop = w.sop; eph = w.eph; plt = w.plt; parts = w.parts }

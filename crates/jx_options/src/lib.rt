@@ -17,7 +17,7 @@ mod work;
 pub use names::OptionName;
 pub use numbers::{long_number_in, number_in};
 pub use options::{Options, OrderChoice, PrecinctChoice};
-pub use rows::{OptionRow, SEEDS, SIDES};
+pub use rows::{SEEDS, SIDES};
 pub use values::{
     bytes_said, order_said, parts_said, precincts_said, seed_said, side_said, style_said,
     threads_said, window_said,

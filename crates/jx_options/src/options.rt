@@ -2,9 +2,8 @@
 
 ghost use Rattle.std.specs.Prelude.{◌≡◌};
 ghost use Rattle.jx_options.specs.Choices.{bytes_in, lent, order_in};
-ghost use Rattle.jx_options.specs.Wanted.{marks_of};
 
-use crate::{Marks, PartChoice};
+use crate::Marks;
 use jx_base::Style;
 use std::marker::Model;
 
@@ -41,14 +40,8 @@ pub struct Options {
     pub style: Option<Style>,
     /// The words for the planners of layers.
     pub layers: String,
-    /// Where tile-parts begin.
-    pub parts: PartChoice,
-    /// Whether an SOP segment stands before each packet (ITU-T T.800, A.8.1).
-    pub sop: bool,
-    /// Whether an EPH marker follows each packet header (A.8.2).
-    pub eph: bool,
-    /// Whether PLT segments give the lengths of the packets (A.7.3).
-    pub plt: bool,
+    /// What stands in the tile-parts beside headers and code-blocks, and where they begin.
+    pub marks: Marks,
 }
 
 impl Model for Options {
@@ -58,7 +51,7 @@ impl Model for Options {
 
     ghost Value = { Wanted };
 
-    ghost view = { λ o. record { order = order_in o.order; precincts = bytes_in o.precincts; style = o.style; layers = string_bytes o.layers; parts = o.parts; sop = o.sop; eph = o.eph; plt = o.plt } };
+    ghost view = { λ o. record { order = order_in o.order; precincts = bytes_in o.precincts; style = o.style; layers = string_bytes o.layers; marks = o.marks } };
 }
 
 impl OrderChoice {
@@ -83,20 +76,6 @@ impl PrecinctChoice {
             PrecinctChoice::Keep => None,
             PrecinctChoice::Max => Some(&[]),
             PrecinctChoice::List(bytes) => Some(bytes),
-        }
-    }
-}
-
-impl Options {
-    /// What stands in the tile-parts beside headers and code-blocks, and where they begin.
-    pub fn marks(&self) -> Marks
-        ensures { result ≡ marks_of self.now }
-    {
-        Marks {
-            sop: self.sop,
-            eph: self.eph,
-            plt: self.plt,
-            parts: self.parts,
         }
     }
 }

@@ -1,7 +1,8 @@
 //! Lists of packets: how many, and which stand at places.
 
-ghost use Rattle.std.specs.Prelude.{◌≤◌, IsTrue};
+ghost use Rattle.std.specs.Prelude.{IsTrue};
 ghost use Rattle.std.specs.List.{All};
+ghost use Rattle.jx_base.specs.OrderNumbers.{IsOrderNumber};
 
 use crate::checks::{check, equal, equal_at};
 use crate::geometries::{WHOLE, geometry, shape};
@@ -13,7 +14,7 @@ use std::process::Abort;
 use std::test::Fail;
 
 fn have_orders(entries: &[Progression]) -> bool
-    ensures { IsTrue result → All (λ e. e.order ≤ 4) entries.now }
+    ensures { IsTrue result → All (λ e. IsOrderNumber e.order) entries.now }
 {
     for entry in entries {
         if entry.order > 4 {

@@ -23,8 +23,8 @@ use Rattle.jx_layers.specs.Causal.{first_broken}
 use Rattle.jx_layers.specs.Rule.{Rule}
 use Rattle.jx_plan.specs.Fits.{Fits, IsUnfit, KeepsBlocks, first_zero}
 use Rattle.jx_plan.specs.Groups.{HasFewParts, HasManyParts, IsPartedAt, groups_of, most_parts}
-use Rattle.jx_plan.specs.Headers.{comp_written}
-use Rattle.jx_plan.specs.Plan.{MayBePlanned, asked_of, headers_with, most_packets}
+use Rattle.jx_plan.specs.Headers.{comp_written, with_layers}
+use Rattle.jx_plan.specs.Plan.{MayBePlanned, headers_with, most_packets}
 use Rattle.jx_plan.specs.Planned.{CanBePlannedBy, HasPlanCause, IsCrowded, MakesLayers, layers_of_rule}
 use Rattle.jx_plan.specs.Steps.{IsSameAt}
 use Rattle.jx_options.specs.Wanted.{MayBeWanted, Wanted}
@@ -118,10 +118,10 @@ module _ (crowds : CrowdLaws) (s : Stream) (blocks : List Block) (w : Wanted) (m
     by_parts few uncrowded =
         let range = headers_in_range w layers s made may.headers may.range wanted fits some little refl in
         let pass = headers_pass w layers s made may.headers may.range wanted fits some little refl may.totals few in
-        elim (parted_or w.parts made range pass) [
+        elim (parted_or w.marks.parts made range pass) [
           | inl all ↦ inl (record {
             whole = whole;
-            free = record { fits = fits; few = few; parts = λ t inside. all t (omega (arith, inside, tile_number_stays (asked_of w layers) s)) };
+            free = record { fits = fits; few = few; parts = λ t inside. all t (omega (arith, inside, tile_number_stays (with_layers w layers) s)) };
             uncrowded = uncrowded;
           })
           | inr place ↦ inr (

@@ -17,7 +17,7 @@ use Rattle.jx_codestream.specs.Params.{planes_at}
 use Rattle.jx_codestream.specs.Shapes.{layers_of, shapes_of, style_of}
 use Rattle.jx_tier2_reader.specs.Another.{rect_in}
 use Rattle.jx_tier2_reader.specs.BlockOf.{AreBlocksOf, IsBlockOf, IsFoundOf, pieces_at}
-use Rattle.jx_tier2_reader.specs.BlockOf.{AreCutAtEnds as AreCutAsRead}
+use Rattle.jx_tier2_reader.specs.BlockOf.{AreCutAsRead}
 use Rattle.jx_codeblock.specs.declared.LayerEnd.{LayerEnd}
 use Rattle.jx_codeblock.specs.Jobs.{IsAsked}
 use Rattle.jx_codeblock.specs.Laws.{AreCutInLayers, asked_at}
@@ -29,8 +29,8 @@ use Rattle.jx_layers.specs.Rule.{Rule}
 use Rattle.jx_layers.specs.Rule.Rule.{Keep}
 use Rattle.jx_layers.proofs.FactLemmas.{layers_most}
 use Rattle.jx_plan.specs.Fits.{Fits}
-use Rattle.jx_plan.specs.Headers.{Asked, style_written}
-use Rattle.jx_plan.specs.Plan.{MayBePlanned, asked_of, headers_with}
+use Rattle.jx_plan.specs.Headers.{HeaderOptions, style_written, with_layers}
+use Rattle.jx_plan.specs.Plan.{MayBePlanned, headers_with}
 use Rattle.jx_plan.specs.Planned.{IsCrowded, blocks_written, layers_of_rule}
 use Rattle.jx_plan.specs.Standing.{HeadersStand}
 use Rattle.jx_options.specs.Wanted.{Wanted}
@@ -100,8 +100,8 @@ module _ (own : InLayers) (ends : EndLaws) (written : WrittenLaws) (crowds : Cro
   abbrev layers : ℕ
   layers = layers_of_rule r s blocks
 
-  abbrev a : Asked
-  a = asked_of w layers
+  abbrev a : HeaderOptions
+  a = with_layers w layers
 
   abbrev other : Stream
   other = headers_with w layers s

@@ -10,6 +10,7 @@ use Rattle.jx_codestream.specs.First.{tile_number}
 use Rattle.jx_tile.specs.Totals.{packet_total}
 use Rattle.jx_codeblock.specs.Written.{block_asked}
 use Rattle.jx_options.specs.declared.PartChoice.{PartChoice}
+use Rattle.jx_plan.specs.Headers.{with_layers}
 use Rattle.jx_plan.specs.declared.faults.PlanFault.{PlanFault}
 use Rattle.jx_plan.specs.declared.faults.PlanFault.TheVariants as fault
 use Rattle.jx_layers.specs.Causal.{first_broken}
@@ -17,7 +18,7 @@ use Rattle.jx_plan.specs.Fits.{AreUnfit, Fits, IsUnfit}
 use Rattle.jx_plan.specs.Groups.{HasFewParts, IsPartedAt}
 use Rattle.jx_plan.specs.Causes.{HasManyPartsAt, IsFree, IsPlaneBroken, PassesPackets}
 use Rattle.jx_layers.specs.Layers.{AreJobs}
-use Rattle.jx_plan.specs.Plan.{IsPlan, Plan, asked_of, headers_of, headers_with, most_packets}
+use Rattle.jx_plan.specs.Plan.{IsPlan, Plan, headers_of, headers_with, most_packets}
 use Rattle.jx_plan.specs.Planned.{CanBePlannedBy, HasLaterCause, HasPlanCause, IsCrowded, IsFreeBy, IsPlanned, IsPlannedBy, IsUnplannedBy, LacksPlan, blocks_written, layers_of_rule}
 use Rattle.jx_layers.specs.Rule.{Rule}
 use Rattle.jx_options.specs.Wanted.{Wanted}
@@ -98,9 +99,9 @@ one_parted parts s c d x y = elim (cases_lt c d) [
 ]
 
 -- ---- nothing is in the way of a plan
-few_parts : (x y : Wanted) (s t : Stream) (n : ℕ) → x ≡ y → s ≡ t → HasFewParts x.parts s n → HasFewParts y.parts t n
+few_parts : (x y : Wanted) (s t : Stream) (n : ℕ) → x ≡ y → s ≡ t → HasFewParts x.marks.parts s n → HasFewParts y.marks.parts t n
 few_parts x y s t n e h few =
-    subst (λ (w : Wanted). HasFewParts w.parts t n) e (subst (λ (u : Stream). HasFewParts x.parts u n) h few)
+    subst (λ (w : Wanted). HasFewParts w.marks.parts t n) e (subst (λ (u : Stream). HasFewParts x.marks.parts u n) h few)
 
 module _ (s : Stream) (w : Wanted) (layers : ℕ) where
   plan_free : (p : Plan) → p.stream ≡ s → p.wanted ≡ w → p.layers ≡ layers → IsPlan p → IsFree s w layers
@@ -119,8 +120,8 @@ module _ (s : Stream) (w : Wanted) (layers : ℕ) where
 
   free_parts : (place : ℕ) → IsFree s w layers → HasManyPartsAt s w layers place → ⊥
   free_parts place free many =
-      let inside : place < tile_number s.siz = omega (arith, many.many.inside, tile_number_stays (asked_of w layers) s) in
-      parted_few w.parts (headers_with w layers s) place many.many (free.parts place inside)
+      let inside : place < tile_number s.siz = omega (arith, many.many.inside, tile_number_stays (with_layers w layers) s) in
+      parted_few w.marks.parts (headers_with w layers s) place many.many (free.parts place inside)
 
   few_many : (place found : ℕ) → HasManyPartsAt s w layers place → PassesPackets s w layers found → ⊥
   few_many place found parts passes = omega (arith, parts.few, passes.count, passes.many)
@@ -151,7 +152,7 @@ module _ (crowds : CrowdLaws) (s : Stream) (blocks : List Block) (w : Wanted) wh
   lacks_same (Some r) (fault.Choice a c) (fault.Choice b d) ne nf (inl x) (inr y) = absurd (none_crowded crowds r s blocks c x.1.lowest y.1.uncrowded)
   lacks_same (Some r) (fault.Choice a c) (fault.Choice b d) ne nf (inr x) (inl y) = absurd (none_crowded crowds r s blocks d y.1.lowest x.1.uncrowded)
   lacks_same (Some r) (fault.Choice a c) (fault.Choice b d) ne nf (inr x) (inr y) =
-      same_choice a b c d (x.0 ∙ sym y.0) (one_parted w.parts _ c d x.1.many.many y.1.many.many)
+      same_choice a b c d (x.0 ∙ sym y.0) (one_parted w.marks.parts _ c d x.1.many.many y.1.many.many)
   lacks_same (Some r) (fault.Choice a c) (fault.Limit b d) ne nf (inl x) hf = absurd (omega (arith, x.1.few, hf.1.count, hf.1.many))
   lacks_same (Some r) (fault.Choice a c) (fault.Limit b d) ne nf (inr x) hf = absurd (few_many s w _ c d x.1.many hf.1)
   lacks_same (Some r) (fault.Limit a c) (fault.Choice b d) ne nf he (inl y) = absurd (omega (arith, y.1.few, he.1.count, he.1.many))

@@ -11,7 +11,7 @@ use Rattle.jx_codestream.specs.First.{tile_number}
 use Rattle.jx_codestream.specs.Shapes.{geometry, layers_of}
 use Rattle.jx_codestream.specs.InRange.{StreamInRange}
 use Rattle.jx_tile.specs.Covered.{IsWhole}
-use Rattle.jx_plan.specs.Headers.{Asked, MayBeAsked, cod_written, stream_written}
+use Rattle.jx_plan.specs.Headers.{cod_written, stream_written, HeaderOptions, MayBeInHeaders}
 use Rattle.jx_plan.specs.Fits.{first_zero}
 use Rattle.jx_plan.specs.Standing.{HeadersStand}
 use Rattle.jx_plan.proofs.StreamLemmas.{coded_at, layers_are, tile_number_stays}
@@ -29,7 +29,7 @@ covers g layers cod p range same is = record {
 one_covers : (g : Geometry) (layers : ℕ) (cod : Cod) → ShapesInRange g.shapes → layers ≡ cod.layers → AreCovered g layers (entry_of cod ∷ [])
 one_covers g layers cod range same p is = (0, omega arith, covers g layers cod p range same is)
 
-pub written_whole : (a : Asked) (s : Stream) (t : ℕ) → MayBeAsked a → first_zero a.precincts s ≡ None → HeadersStand s → StreamInRange s → t < tile_number s.siz → IsWhole (stream_written a s) t
+pub written_whole : (a : HeaderOptions) (s : Stream) (t : ℕ) → MayBeInHeaders a → first_zero a.wanted.precincts s ≡ None → HeadersStand s → StreamInRange s → t < tile_number s.siz → IsWhole (stream_written a s) t
 written_whole a s t may none stand r inside =
     let w : Stream = stream_written a s in
     let cod : Cod = cod_written a (coded_at s stand t).cod in

@@ -21,9 +21,9 @@ use Rattle.jx_marker.specs.declared.Siz.{Siz}
 use Rattle.jx_codestream.specs.declared.Stream.{Stream}
 use Rattle.jx_codestream.specs.Params.{params_of, step_of}
 use Rattle.jx_plan.specs.Asides.{IsWithMore}
-use Rattle.jx_plan.specs.Headers.{Asked, stream_written}
+use Rattle.jx_plan.specs.Headers.{HeaderOptions, stream_written, with_layers}
 use Rattle.jx_plan.specs.Meaning.{Component, Meaning, Place, component_of, lies_in, meaning_of, sample_at, sample_in}
-use Rattle.jx_plan.specs.Plan.{asked_of, headers_with}
+use Rattle.jx_plan.specs.Plan.{headers_with}
 use Rattle.jx_plan.specs.Planned.{blocks_written, layers_of_rule}
 use Rattle.jx_plan.specs.Standing.{HeadersStand}
 use Rattle.jx_options.specs.Wanted.{Wanted}
@@ -83,7 +83,7 @@ components_same s other each = fun_ext (λ t. fun_ext (λ c. each t c))
 steps_same : (s other : Stream) → ((t c r : ℕ) (band : Band) → step_of other t c r band ≡ step_of s t c r band) → ◌≡◌ {A = ℕ → ℕ → ℕ → Band → ℕ × ℕ} (step_of other) (step_of s)
 steps_same s other each = fun_ext (λ t. fun_ext (λ c. fun_ext (λ r. fun_ext (λ band. each t c r band))))
 
-siz_same : (a : Asked) (s : Stream) → ◌≡◌ {A = Siz} (record (stream_written a s).siz { rsiz = 0 }) (record s.siz { rsiz = 0 })
+siz_same : (a : HeaderOptions) (s : Stream) → ◌≡◌ {A = Siz} (record (stream_written a s).siz { rsiz = 0 }) (record s.siz { rsiz = 0 })
 unfolding stream_written
 siz_same a s = refl
 
@@ -92,7 +92,7 @@ pub meaning_written : CellLaws → EndLaws → (w : Wanted) (r : Rule) (s : Stre
 unfolding meaning_of
 meaning_written laws ends w r s blocks some stand sound none =
     let layers : ℕ = layers_of_rule r s blocks in
-    let a : Asked = asked_of w layers in
+    let a : HeaderOptions = with_layers w layers in
     let other : Stream = headers_with w layers s in
     same_meaning _ _ _ _ (step_of other) (step_of s) (sample_at (blocks_written w r s blocks)) (sample_at blocks)
     (siz_same a s)

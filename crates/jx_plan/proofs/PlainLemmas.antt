@@ -7,7 +7,6 @@ use Rattle.std.proofs.lemmas.Bool.{cases_Bool}
 use Rattle.std.proofs.lemmas.List.Elements.{All-head, All-tail}
 use Rattle.std.proofs.lemmas.Option.{slice_get-get_or}
 use Rattle.jx_marker.specs.declared.Segment.{Segment}
-use Rattle.jx_marker.specs.declared.Segment.TheVariants as segment
 use Rattle.jx_marker.specs.declared.Cod.{Cod}
 use Rattle.jx_codestream.specs.declared.headers.HeaderKind.TheVariants.{First}
 use Rattle.jx_codestream.specs.declared.Tile.{Tile}
@@ -18,7 +17,7 @@ use Rattle.jx_codestream.specs.Spells.{AreSegments}
 use Rattle.jx_codestream.specs.Shapes.{tile_at, no_tile}
 use Rattle.jx_tile.specs.Faults.{passed}
 use Rattle.jx_tile.specs.Totals.{block_total, packet_total, totals_fault}
-use Rattle.jx_plan.specs.Headers.{Asked, MayBeAsked, cod_written, written, is_written, all_written, tile_header, stream_written}
+use Rattle.jx_plan.specs.Headers.{cod_written, written, is_written, all_written, tile_header, stream_written, HeaderOptions, MayBeInHeaders}
 use Rattle.jx_plan.specs.Asides.{is_plt}
 use Rattle.jx_plan.specs.Fits.{Fits, first_zero}
 use Rattle.jx_plan.specs.Standing.{IsNote, IsHeaded, HeadersStand}
@@ -28,16 +27,17 @@ use Rattle.jx_plan.proofs.ReadBackLemmas.{none_written, none_header, main_is, co
 use Rattle.jx_plan.proofs.BlockLemmas.{totals_same}
 use Rattle.jx_plan.proofs.ViewLemmas.{written_shapes}
 use Rattle.jx_codestream.proofs.FaultLemmas.{none_first as first_none}
+use Rattle.jx_marker.specs.declared.Segment.TheVariants as segment
 
 -- no PLT
 
-not_plt : (a : Asked) (s : Segment) → is_written s ≡ true → is_plt (written a s) ≡ false
+not_plt : (a : HeaderOptions) (s : Segment) → is_written s ≡ true → is_plt (written a s) ≡ false
 not_plt a (segment.Plt bytes) h = absurd (cc)
 not_plt a (segment.Cod cod) h = refl
 not_plt a (segment.Coc comp shape) h = refl
 not_plt a _ h = refl
 
-no_plt : (a : Asked) (ss : List Segment) → list_any is_plt (all_written a ss) ≡ false
+no_plt : (a : HeaderOptions) (ss : List Segment) → list_any is_plt (all_written a ss) ≡ false
 no_plt a [] = refl
 no_plt a (s ∷ ss) = elim (cases_Bool (is_written s)) [
   | inl t ↦ rw (t, not_plt a s t) (no_plt a ss)
@@ -59,7 +59,7 @@ any_both (x ∷ xs) ys h k = elim (cases_Bool (is_plt x)) [
   | inr f ↦ rw f (any_both xs ys (rw f at h) k)
 ]
 
-header_plt : (a : Asked) (comps : ℕ) (t : Tile) → IsHeaded comps t → list_any is_plt (tile_header a t) ≡ false
+header_plt : (a : HeaderOptions) (comps : ℕ) (t : Tile) → IsHeaded comps t → list_any is_plt (tile_header a t) ≡ false
 header_plt a comps t h = any_both (all_written a t.header) t.notes (no_plt a t.header) (plt_notes comps t.notes h.notes)
 
 -- limits 5 and 6
@@ -79,15 +79,15 @@ totals_from : (s w : Stream) → block_total w ≡ block_total s → totals_faul
 unfolding totals_fault
 totals_from s w e h le = both_pass (block_total w) (block_total s) (packet_total w) e (blocks_pass s h) le
 
-both_cods : (u v : Option Cod) (a : Asked) (cod : Cod) → u ≡ option_map (cod_written a) v → v ≡ Some cod → cod_or u ≡ cod_written a (cod_or v)
+both_cods : (u v : Option Cod) (a : HeaderOptions) (cod : Cod) → u ≡ option_map (cod_written a) v → v ≡ Some cod → cod_or u ≡ cod_written a (cod_or v)
 both_cods u v a cod e h = rw (e, h) refl
 
 -- the components are the same
-comps_at : (a : Asked) (s : Stream) → HeadersStand (stream_written a s) → All (IsHeaded (length s.siz.comps)) (stream_written a s).tiles
+comps_at : (a : HeaderOptions) (s : Stream) → HeadersStand (stream_written a s) → All (IsHeaded (length s.siz.comps)) (stream_written a s).tiles
 unfolding stream_written
 comps_at a s h = h.each
 
-module _ (a : Asked) (s : Stream) (stand : HeadersStand s) where
+module _ (a : HeaderOptions) (s : Stream) (stand : HeadersStand s) where
   pub main_plain : entries_joined (stream_written a s).main ≡ []
   main_plain = ap entries_joined (main_is a s) ∙ none_written a s.main
 
@@ -114,11 +114,11 @@ module _ (a : Asked) (s : Stream) (stand : HeadersStand s) where
       both_cods (cod_of (header_of (stream_written a s) t) (stream_written a s).main) (cod_of (header_of s t) s.main) a (coded_at s stand t).cod
       (cod_slots a (header_of (stream_written a s) t) (header_of s t) (stream_written a s).main s.main (own_slots a s stand t) (main_slots a s stand)) (coded_at s stand t).is
 
-  pub header_stands : (t : ℕ) → MayBeAsked a → first_zero a.precincts s ≡ None → t < length s.tiles → AreSegments First (length s.siz.comps) [] (header_of (stream_written a s) t)
+  pub header_stands : (t : ℕ) → MayBeInHeaders a → first_zero a.wanted.precincts s ≡ None → t < length s.tiles → AreSegments First (length s.siz.comps) [] (header_of (stream_written a s) t)
   header_stands t may none inside =
       let within : t < length (stream_written a s).tiles = omega (arith, count_is a s) in
       let is = ap (λ (x : Tile). x.header) (tile_is a s stand t inside) ∙ sym (header_is t inside) in
       subst (λ (xs : List Segment). AreSegments First (length s.siz.comps) [] xs) is (comps_at a s (written_stands a s may none stand) t no_tile within).header
 
-  pub totals_plain : Fits a.precincts s → totals_fault s ≡ None → packet_total (stream_written a s) ≤ 2 ^ 22 → totals_fault (stream_written a s) ≡ None
+  pub totals_plain : Fits a.wanted.precincts s → totals_fault s ≡ None → packet_total (stream_written a s) ≤ 2 ^ 22 → totals_fault (stream_written a s) ≡ None
   totals_plain fits h le = totals_from s (stream_written a s) (sym (totals_same s (stream_written a s) (canvas_stays a s) (written_shapes a s fits stand))) h le

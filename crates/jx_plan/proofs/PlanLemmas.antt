@@ -31,8 +31,8 @@ use Rattle.jx_layers.specs.Facts.{most_layers}
 use Rattle.jx_plan.specs.Fits.{Fits}
 use Rattle.jx_options.specs.declared.PartChoice.{PartChoice}
 use Rattle.jx_plan.specs.Groups.{HasFewParts, IsPartedAt}
-use Rattle.jx_plan.specs.Headers.{MayBeAsked}
-use Rattle.jx_plan.specs.Plan.{MayBePlanned, asked_of, headers_with, most_packets}
+use Rattle.jx_plan.specs.Headers.{MayBeInHeaders, with_layers}
+use Rattle.jx_plan.specs.Plan.{MayBePlanned, headers_with, most_packets}
 use Rattle.jx_options.specs.Wanted.{MayBeStyle, MayBeWanted, Wanted}
 use Rattle.jx_plan.proofs.BlockLemmas.{blocks_are}
 use Rattle.jx_plan.proofs.ReadLemmas.{read_stands}
@@ -86,27 +86,27 @@ pub style_few : (o : Option Style) → IfSome o MayBeStyle → IfSome o (λ (sty
 style_few None may = tt
 style_few (Some style) may = may.few
 
-may_ask : (w : Wanted) (layers : ℕ) → MayBeWanted w → 1 ≤ layers → layers < 2 ^ 16 → MayBeAsked (asked_of w layers)
+may_ask : (w : Wanted) (layers : ℕ) → MayBeWanted w → 1 ≤ layers → layers < 2 ^ 16 → MayBeInHeaders (with_layers w layers)
 may_ask w layers wanted some few = record { some = some; few = few; order = wanted.order; bytes = wanted.bytes; style = style_few w.style wanted.style }
 
 module _ (w : Wanted) (layers : ℕ) (s other : Stream) (stand : HeadersStand s) (range : StreamInRange s) (wanted : MayBeWanted w) (fits : Fits w.precincts s) (some : 1 ≤ layers)
     (few : layers < 2 ^ 16) (is : other ≡ headers_with w layers s) where
   pub headers_in_range : StreamInRange other
-  headers_in_range = subst StreamInRange (sym is) (written_in_range (asked_of w layers) s (may_ask w layers wanted some few) fits.above stand range)
+  headers_in_range = subst StreamInRange (sym is) (written_in_range (with_layers w layers) s (may_ask w layers wanted some few) fits.above stand range)
 
   pub headers_pass : totals_fault s ≡ None → packet_total (headers_with w layers s) ≤ most_packets → totals_fault other ≡ None
-  headers_pass totals packets = ap totals_fault is ∙ totals_plain (asked_of w layers) s stand fits totals packets
+  headers_pass totals packets = ap totals_fault is ∙ totals_plain (with_layers w layers) s stand fits totals packets
 
   pub headers_whole : (t : ℕ) → t < tile_number other.siz → IsWhole other t
   headers_whole t inside =
-      let there : t < tile_number s.siz = omega (arith, inside, ap (λ (x : Stream). tile_number x.siz) is, tile_number_stays (asked_of w layers) s) in
-      subst (λ (x : Stream). IsWhole x t) (sym is) (written_whole (asked_of w layers) s t (may_ask w layers wanted some few) fits.above stand range there)
+      let there : t < tile_number s.siz = omega (arith, inside, ap (λ (x : Stream). tile_number x.siz) is, tile_number_stays (with_layers w layers) s) in
+      subst (λ (x : Stream). IsWhole x t) (sym is) (written_whole (with_layers w layers) s t (may_ask w layers wanted some few) fits.above stand range there)
 
-pub few_made : (w : Wanted) (layers : ℕ) (s other : Stream) → other ≡ headers_with w layers s → ((t : ℕ) → t < tile_number other.siz → HasFewParts w.parts other t)
-    → (t : ℕ) → t < tile_number s.siz → HasFewParts w.parts (headers_with w layers s) t
+pub few_made : (w : Wanted) (layers : ℕ) (s other : Stream) → other ≡ headers_with w layers s → ((t : ℕ) → t < tile_number other.siz → HasFewParts w.marks.parts other t)
+    → (t : ℕ) → t < tile_number s.siz → HasFewParts w.marks.parts (headers_with w layers s) t
 few_made w layers s other is few t inside =
-    let there : t < tile_number other.siz = omega (arith, inside, ap (λ (x : Stream). tile_number x.siz) is, tile_number_stays (asked_of w layers) s) in
-    subst (λ (x : Stream). HasFewParts w.parts x t) is (few t there)
+    let there : t < tile_number other.siz = omega (arith, inside, ap (λ (x : Stream). tile_number x.siz) is, tile_number_stays (with_layers w layers) s) in
+    subst (λ (x : Stream). HasFewParts w.marks.parts x t) is (few t there)
 
 abbrev FewOf : PartChoice → Stream → Type 0
 FewOf parts s = (t : ℕ) → t < tile_number s.siz → HasFewParts parts s t

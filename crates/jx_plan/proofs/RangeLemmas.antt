@@ -1,5 +1,5 @@
 -- The stream that is written is in range, and its headers stand in its file.
-use Rattle.std.proofs.Common.{◌≡◌, ◌∙◌, ◌<◌, ◌≤◌, ℕ, false, arith, List, [], ◌∷◌, map, length, get_or, refl, sym, ap, subst, nat_lt, Option, Some, None, inl, inr}
+use Rattle.std.proofs.Common.{◌≡◌, ◌∙◌, ◌<◌, ℕ, false, arith, List, [], ◌∷◌, map, length, get_or, refl, sym, ap, subst, nat_lt, Option, Some, None, inl, inr}
 use Rattle.std.specs.Prelude.{IfSome}
 use Rattle.std.specs.List.{All, find, flat_map}
 use Rattle.std.specs.Option.{option_or, option_map}
@@ -7,6 +7,7 @@ use Rattle.std.proofs.lemmas.Bool.{cases_Bool}
 use Rattle.std.proofs.lemmas.List.{get_or-map, length-map}
 use Rattle.std.proofs.lemmas.Option.{slice_get-get_or}
 use Rattle.std.proofs.lemmas.List.Elements.{All-nil, All-cons, All-head, All-tail, All-map}
+use Rattle.jx_base.specs.OrderNumbers.{IsOrderNumber}
 use Rattle.jx_base.specs.declared.style.Style.{Style}
 use Rattle.jx_marker.specs.declared.Segment.{Segment}
 use Rattle.jx_marker.specs.declared.Segment.TheVariants as segment
@@ -29,7 +30,7 @@ use Rattle.jx_codestream.specs.InRange.{StreamInRange}
 use Rattle.jx_codestream.proofs.SegmentLemmas.{defaults_there}
 use Rattle.jx_codestream.proofs.ShapeLemmas.{siz_is, shape_fits}
 use Rattle.jx_codestream.proofs.RangeLemmas.{shapes_length, shapes_at}
-use Rattle.jx_plan.specs.Headers.{Asked, MayBeAsked, cod_written, comp_written, all_written, tile_header, tile_written, stream_written}
+use Rattle.jx_plan.specs.Headers.{HeaderOptions, MayBeInHeaders, cod_written, comp_written, all_written, tile_header, tile_written, stream_written}
 use Rattle.jx_plan.specs.Fits.{first_zero, tile_has_zero}
 use Rattle.jx_plan.specs.Standing.{IsNote, IsHeaded, HeadersStand}
 use Rattle.jx_plan.proofs.AlikeLemmas.{too_few_same, bands_same}
@@ -40,27 +41,27 @@ use Rattle.jx_plan.proofs.StreamLemmas.{notes_aside, slots_alike, tile_slots, co
 
 -- the headers
 
-tile_stands : (a : Asked) (comps : ℕ) (main : List Segment) (t : Tile) → MayBeAsked a → tile_has_zero a.precincts t ≡ false → IsHeaded comps t → IsHeaded comps (tile_written a main t)
+tile_stands : (a : HeaderOptions) (comps : ℕ) (main : List Segment) (t : Tile) → MayBeInHeaders a → tile_has_zero a.wanted.precincts t ≡ false → IsHeaded comps t → IsHeaded comps (tile_written a main t)
 tile_stands a comps main t may clear h = record {
   header = segments_more comps [] (all_written a t.header) t.notes (notes_aside comps t.notes h.notes) (segments_written a First comps [] [] t.header may clear (λ slot k. k) h.header);
   notes = All-nil (IsNote comps);
 }
 
-few_same : (a : Asked) (comps : ℕ) (main : List Segment) (t : Tile) → IsHeaded comps t
+few_same : (a : HeaderOptions) (comps : ℕ) (main : List Segment) (t : Tile) → IsHeaded comps t
     → tile_has_too_few (all_written a main) comps (tile_written a main t) ≡ tile_has_too_few main comps t
 unfolding tile_has_too_few
 few_same a comps main t h =
-    too_few_same a.precincts a.style (tile_header a t) t.header (all_written a main) main (slots_alike a (tile_header a t) t.header (tile_slots a comps t h))
+    too_few_same a.wanted.precincts a.wanted.style (tile_header a t) t.header (all_written a main) main (slots_alike a (tile_header a t) t.header (tile_slots a comps t h))
     (slots_alike a (all_written a main) main (λ slot g. slot_written a slot main g)) comps
 
-planes_same : (a : Asked) (comps : ℕ) (main : List Segment) (t : Tile) → IsHeaded comps t
+planes_same : (a : HeaderOptions) (comps : ℕ) (main : List Segment) (t : Tile) → IsHeaded comps t
     → tile_planes (all_written a main) comps (tile_written a main t) ≡ tile_planes main comps t
 unfolding tile_planes
 planes_same a comps main t h =
-    bands_same a.precincts a.style (tile_header a t) t.header (all_written a main) main (slots_alike a (tile_header a t) t.header (tile_slots a comps t h))
+    bands_same a.wanted.precincts a.wanted.style (tile_header a t) t.header (all_written a main) main (slots_alike a (tile_header a t) t.header (tile_slots a comps t h))
     (slots_alike a (all_written a main) main (λ slot g. slot_written a slot main g)) comps
 
-entries_kept : (a : Asked) (comps : ℕ) (main : List Segment) (tiles : List Tile) → All (IsHeaded comps) tiles → find (tile_has_too_few main comps) tiles ≡ None
+entries_kept : (a : HeaderOptions) (comps : ℕ) (main : List Segment) (tiles : List Tile) → All (IsHeaded comps) tiles → find (tile_has_too_few main comps) tiles ≡ None
     → find (tile_has_too_few (all_written a main) comps) (map (tile_written a main) tiles) ≡ None
 entries_kept a comps main [] h none = refl
 entries_kept a comps main (x ∷ xs) h none = elim (cases_Bool (tile_has_too_few main comps x)) [
@@ -68,13 +69,13 @@ entries_kept a comps main (x ∷ xs) h none = elim (cases_Bool (tile_has_too_few
   | inr f ↦ rw (few_same a comps main x (All-head (IsHeaded comps) x xs h), f) (entries_kept a comps main xs (All-tail (IsHeaded comps) x xs h) (rw f at none))
 ]
 
-all_planes_kept : (a : Asked) (comps : ℕ) (main : List Segment) (tiles : List Tile) → All (IsHeaded comps) tiles
+all_planes_kept : (a : HeaderOptions) (comps : ℕ) (main : List Segment) (tiles : List Tile) → All (IsHeaded comps) tiles
     → flat_map (tile_planes (all_written a main) comps) (map (tile_written a main) tiles) ≡ flat_map (tile_planes main comps) tiles
 all_planes_kept a comps main [] h = refl
 all_planes_kept a comps main (x ∷ xs) h =
     rw (planes_same a comps main x (All-head (IsHeaded comps) x xs h), all_planes_kept a comps main xs (All-tail (IsHeaded comps) x xs h)) refl
 
-both_there : (a : Asked) (main : List Segment) → lacks_default main ≡ false → lacks_default (all_written a main) ≡ false
+both_there : (a : HeaderOptions) (main : List Segment) → lacks_default main ≡ false → lacks_default (all_written a main) ≡ false
 both_there a main h =
     let both = defaults_there main h in
     rw (kind_written a 1 main refl, kind_written a 2 main refl, both.0, both.1) refl
@@ -86,11 +87,11 @@ few_tiles : (siz : Siz) → tiles_fault siz ≡ None → tiles_fault (record siz
 unfolding tiles_fault
 few_tiles siz h = h
 
-pub written_stands : (a : Asked) (s : Stream) → MayBeAsked a → first_zero a.precincts s ≡ None → HeadersStand s → HeadersStand (stream_written a s)
+pub written_stands : (a : HeaderOptions) (s : Stream) → MayBeInHeaders a → first_zero a.wanted.precincts s ≡ None → HeadersStand s → HeadersStand (stream_written a s)
 unfolding stream_written
 written_stands a s may none stand =
     let comps = length s.siz.comps in
-    let clear = is_clear a.precincts s none in
+    let clear = is_clear a.wanted.precincts s none in
     record {
       siz = siz_written s.siz stand.siz;
       few = few_tiles s.siz stand.few;
@@ -111,7 +112,7 @@ one_entry None (Some _) cod e = absurd (cc)
 one_entry (Some (segment.Cod other)) p cod e = let same : other ≡ cod = cc in ap (λ (x : Cod). entry_of x ∷ []) same
 one_entry (Some _) p cod e = absurd (cc)
 
-pub entries_are : (a : Asked) (s : Stream) (stand : HeadersStand s) (t : ℕ) → t < length s.tiles
+pub entries_are : (a : HeaderOptions) (s : Stream) (stand : HeadersStand s) (t : ℕ) → t < length s.tiles
     → (tile_at (stream_written a s) t).progressions ≡ entry_of (cod_written a (coded_at s stand t).cod) ∷ []
 entries_are a s stand t inside =
     let x : Tile = tile_at s t in
@@ -151,7 +152,7 @@ resolution_kept ps g h c r e has =
     ap (λ (xs : List CompShape). get_or xs c no_shape) e ∙ get_or-map (comp_written ps) g.shapes c no_shape no_shape inside in
     record { component = inside; level = omega (arith, has.level, ap (λ (x : CompShape). x.levels) at) }
 
-pub written_in_range : (a : Asked) (s : Stream) → MayBeAsked a → first_zero a.precincts s ≡ None → HeadersStand s → StreamInRange s → StreamInRange (stream_written a s)
+pub written_in_range : (a : HeaderOptions) (s : Stream) → MayBeInHeaders a → first_zero a.wanted.precincts s ≡ None → HeadersStand s → StreamInRange s → StreamInRange (stream_written a s)
 unfolding stream_written
 written_in_range a s may none stand r = record {
   canvas = r.canvas;
@@ -162,12 +163,12 @@ written_in_range a s may none stand r = record {
   shapes = λ t inside. shapes_in_range (stream_written a s) (written_stands a s may none stand) t;
   some_layers = λ t inside. omega (arith, layers_are a s stand t, may.some);
   few_layers = λ t inside. omega (arith, layers_are a s stand t, may.few);
-  style = λ t c inside. omega (arith, style_stays a s stand t c, style_kept a.style (style_of s t c) 256 (small_style a.style may.style) (r.style t c inside));
+  style = λ t c inside. omega (arith, style_stays a s stand t c, style_kept a.wanted.style (style_of s t c) 256 (small_style a.wanted.style may.style) (r.style t c inside));
   orders = λ t inside.
-      subst (λ (xs : List Progression). All (λ (e : Progression). e.order ≤ 4) xs) (sym (entries_are a s stand t (omega (arith, r.tiles))))
-      (All-cons (λ (e : Progression). e.order ≤ 4) (entry_of (cod_written a (coded_at s stand t).cod)) [] (order_kept a.order (coded_at s stand t).cod.order may.order (coded_at s stand t).fits.order)
-      (All-nil (λ (e : Progression). e.order ≤ 4)));
+      subst (λ (xs : List Progression). All (λ (e : Progression). IsOrderNumber e.order) xs) (sym (entries_are a s stand t (omega (arith, r.tiles))))
+      (All-cons (λ (e : Progression). IsOrderNumber e.order) (entry_of (cod_written a (coded_at s stand t).cod)) [] (order_kept a.wanted.order (coded_at s stand t).cod.order may.order (coded_at s stand t).fits.order)
+      (All-nil (λ (e : Progression). IsOrderNumber e.order)));
   planes = λ t c res band inside there has.
-      (let same : HasResolution (geometry s t) c res = resolution_kept a.precincts (geometry s t) (geometry (stream_written a s) t) c res (shapes_stay a s stand t) there in
+      (let same : HasResolution (geometry s t) c res = resolution_kept a.wanted.precincts (geometry s t) (geometry (stream_written a s) t) c res (shapes_stay a s stand t) there in
       omega (arith, planes_stay a s stand t c res band, r.planes t c res band inside same has));
 }

@@ -7,7 +7,6 @@ use Rattle.std.proofs.lemmas.List.{length-map}
 use Rattle.std.proofs.lemmas.List.FromFn.{get_or-map-range_with_len, length-map-range_with_len}
 use Rattle.std.proofs.lemmas.List.Elements.{All-head, All-tail}
 use Rattle.jx_marker.specs.declared.Segment.{Segment}
-use Rattle.jx_marker.specs.declared.Segment.TheVariants as segment
 use Rattle.jx_marker.specs.declared.Progression.{Progression}
 use Rattle.jx_codestream.specs.declared.parts.Part.{Part}
 use Rattle.jx_codestream.specs.declared.Body.{Body}
@@ -17,23 +16,24 @@ use Rattle.jx_codestream.specs.Parts.{parts_of}
 use Rattle.jx_codestream.specs.First.{tile_number}
 use Rattle.jx_codestream.specs.Shapes.{tile_at, no_tile}
 use Rattle.jx_codestream.specs.Tiles.{in_slot, entries_of, entries_joined, is_com, entry_in, or_list, headers_of, first_header, first_place, progressions_of, tile_from, tile_of, tiles_of}
-use Rattle.jx_plan.specs.Headers.{Asked, written, is_written, all_written, tile_header, tile_written, stream_written}
+use Rattle.jx_plan.specs.Headers.{written, is_written, all_written, tile_header, tile_written, stream_written, HeaderOptions}
 use Rattle.jx_plan.specs.Asides.{IsAside, is_aside, is_plt, IsTileWithMore, IsWithMore}
 use Rattle.jx_plan.specs.ReadBack.{HaveHeaders}
 use Rattle.jx_plan.specs.Standing.{IsHeaded, HeadersStand}
 use Rattle.jx_plan.proofs.WrittenLemmas.{slot_more}
 use Rattle.jx_plan.proofs.StreamLemmas.{notes_aside, tile_is}
 use Rattle.jx_codestream.proofs.RangeLemmas.{tile_of_is}
+use Rattle.jx_marker.specs.declared.Segment.TheVariants as segment
 
 -- no POC is written
 
-no_entries : (a : Asked) (s : Segment) → is_written s ≡ true → entries_of (written a s) ≡ []
+no_entries : (a : HeaderOptions) (s : Segment) → is_written s ≡ true → entries_of (written a s) ≡ []
 no_entries a (segment.Poc entries) h = absurd (cc)
 no_entries a (segment.Cod cod) h = refl
 no_entries a (segment.Coc comp shape) h = refl
 no_entries a _ h = refl
 
-pub none_written : (a : Asked) (ss : List Segment) → entries_joined (all_written a ss) ≡ []
+pub none_written : (a : HeaderOptions) (ss : List Segment) → entries_joined (all_written a ss) ≡ []
 none_written a [] = refl
 none_written a (s ∷ ss) = elim (cases_Bool (is_written s)) [
   | inl t ↦ rw (t, no_entries a s t) (none_written a ss)
@@ -71,7 +71,7 @@ no_notes (s ∷ ss) h = rw (plt_note s (All-head IsLength s ss h)) (no_notes ss 
 pub none_both : (xs ys : List Segment) → entries_joined xs ≡ [] → entries_joined ys ≡ [] → entries_joined (xs ++ ys) ≡ []
 none_both xs ys h k = flat_map-append entries_of xs ys ∙ ap (λ (es : List Progression). es ++ entries_joined ys) h ∙ k
 
-pub none_header : (a : Asked) (comps : ℕ) (t : Tile) → IsHeaded comps t → entries_joined (tile_header a t) ≡ []
+pub none_header : (a : HeaderOptions) (comps : ℕ) (t : Tile) → IsHeaded comps t → entries_joined (tile_header a t) ≡ []
 none_header a comps t headed = none_both (all_written a t.header) t.notes (none_written a t.header) (none_asides comps t.notes (notes_aside comps t.notes headed.notes))
 
 -- all headers are the first and the later ones
@@ -79,7 +79,7 @@ first_later : (own : List Part) → headers_of own ≡ first_header own ++ heade
 first_later [] = refl
 first_later (p ∷ later) = refl
 
-module _ (a : Asked) (comps : ℕ) (main : List Segment) (t : Tile) (own : List Part) (more : List Segment) (headed : IsHeaded comps t)
+module _ (a : HeaderOptions) (comps : ℕ) (main : List Segment) (t : Tile) (own : List Part) (more : List Segment) (headed : IsHeaded comps t)
     (first : first_header own ≡ tile_header a t ++ more) (asides : All (IsAside comps) more) (later : All IsLength (headers_of (drop 1 own))) where
   none_first : entries_joined (first_header own) ≡ []
   none_first =
@@ -109,21 +109,21 @@ module _ (a : Asked) (comps : ℕ) (main : List Segment) (t : Tile) (own : List 
       same_tile (first_header own) (tile_header a t ++ more) (filter is_com (headers_of (drop 1 own))) (first_place own) (progressions_of (all_written a main) own)
       (tile_written a main t).progressions (map (λ (p : Part). p.body) own) first (no_notes (headers_of (drop 1 own)) later) entries_read
 
-pub tile_with_more : (a : Asked) (comps : ℕ) (main : List Segment) (t : Tile) (own : List Part) → IsHeaded comps t → HaveHeaders a comps t own
+pub tile_with_more : (a : HeaderOptions) (comps : ℕ) (main : List Segment) (t : Tile) (own : List Part) → IsHeaded comps t → HaveHeaders a comps t own
     → IsTileWithMore comps (tile_written a main t) (tile_from (all_written a main) own)
 tile_with_more a comps main t own headed h =
     let is = tile_read a comps main t own h.more headed h.first h.asides h.later in
     record { more = h.more; asides = h.asides; header = ap (λ (x : Tile). x.header) is; progressions = ap (λ (x : Tile). x.progressions) is }
 
-pub main_is : (a : Asked) (s : Stream) → (stream_written a s).main ≡ all_written a s.main
+pub main_is : (a : HeaderOptions) (s : Stream) → (stream_written a s).main ≡ all_written a s.main
 unfolding stream_written
 main_is a s = refl
 
-pub count_is : (a : Asked) (s : Stream) → length (stream_written a s).tiles ≡ length s.tiles
+pub count_is : (a : HeaderOptions) (s : Stream) → length (stream_written a s).tiles ≡ length s.tiles
 unfolding stream_written
 count_is a s = length-map s.tiles (tile_written a s.main)
 
-pub comps_are : (a : Asked) (s : Stream) → length (stream_written a s).siz.comps ≡ length s.siz.comps
+pub comps_are : (a : HeaderOptions) (s : Stream) → length (stream_written a s).siz.comps ≡ length s.siz.comps
 unfolding stream_written
 comps_are a s = refl
 
@@ -131,7 +131,7 @@ one_to : (m n : ℕ) (t u o p : Tile) → m ≡ n → t ≡ u → o ≡ p → Is
 one_to m n t u o p e d k h = rw (e, d, k) h
 
 -- so the stream that is read has the headers of the one that is written
-module _ (a : Asked) (s other : Stream) (parts : List Part) (stand : HeadersStand s) (siz : other.siz ≡ (stream_written a s).siz) (main : other.main ≡ (stream_written a s).main)
+module _ (a : HeaderOptions) (s other : Stream) (parts : List Part) (stand : HeadersStand s) (siz : other.siz ≡ (stream_written a s).siz) (main : other.main ≡ (stream_written a s).main)
     (tiles : other.tiles ≡ tiles_of other.main parts (tile_number s.siz)) (each : (t : ℕ) → t < tile_number s.siz → HaveHeaders a (length s.siz.comps) (tile_at s t) (parts_of t parts)) where
   other_at : (t : ℕ) → t < tile_number s.siz → tile_at other t ≡ tile_from (all_written a s.main) (parts_of t parts)
   other_at t inside =

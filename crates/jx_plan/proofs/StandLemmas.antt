@@ -1,11 +1,12 @@
 -- What is written of a header is a header, and comments and packet lengths may follow it.
-use Rattle.std.proofs.Common.{◌≡◌, ◌<◌, ◌≤◌, ◌+◌, ◌-◌, ◌==◌, ℕ, false, nat_lt, min, cond, arith, List, [], ◌∷◌, ◌++◌, length, refl, sym, subst, Option, None, Some, inl, inr, ◌∙◌}
+use Rattle.std.proofs.Common.{◌≡◌, ◌<◌, ◌+◌, ◌-◌, ◌==◌, ℕ, false, nat_lt, min, cond, arith, List, [], ◌∷◌, ◌++◌, length, refl, sym, subst, Option, None, Some, inl, inr, ◌∙◌}
 use Rattle.std.specs.Prelude.{IfSome}
 use Rattle.std.specs.List.{All, list_any}
 use Rattle.std.proofs.lemmas.Bool.{cases_Bool, or_parts}
 use Rattle.std.proofs.lemmas.Bool.Decides.{nat_tests}
 use Rattle.std.proofs.lemmas.List.Elements.{All-head, All-tail}
 use Rattle.std.proofs.lemmas.List.FromFn.{get_or-map-range_with_len, length-map-range_with_len}
+use Rattle.jx_base.specs.OrderNumbers.{IsOrderNumber}
 use Rattle.jx_base.specs.declared.style.Style.{Style}
 use Rattle.jx_marker.specs.declared.Segment.{Segment}
 use Rattle.jx_marker.specs.declared.Segment.TheVariants as segment
@@ -15,7 +16,7 @@ use Rattle.jx_codestream.specs.declared.headers.HeaderKind.{HeaderKind}
 use Rattle.jx_codestream.specs.declared.headers.HeaderKind.TheVariants.{Main, First, Later}
 use Rattle.jx_codestream.specs.Headers.{slot_of, has_slot, is_second, stands_in, ends_header}
 use Rattle.jx_codestream.specs.Spells.{IsSegment, AreSegments}
-use Rattle.jx_plan.specs.Headers.{Asked, MayBeAsked, item_at, bytes_for, order_written, precincts_written, shape_written, style_written, written, is_written, all_written}
+use Rattle.jx_plan.specs.Headers.{HeaderOptions, MayBeInHeaders, item_at, bytes_for, order_written, precincts_written, shape_written, style_written, written, is_written, all_written}
 use Rattle.jx_plan.specs.Fits.{shape_has_zero, has_zero}
 use Rattle.jx_plan.specs.Asides.{IsAside}
 use Rattle.jx_plan.proofs.WrittenLemmas.{slot_kept}
@@ -37,7 +38,7 @@ has_neither slot (x ∷ xs) s h k =
     let e = or_parts (slot_of x == slot) (has_slot slot xs) h in
     rw e.0 (has_neither slot xs s e.1 k)
 
-fewer_both : (a : Asked) (xs ys : List Segment) (s : Segment) → Fewer xs ys → Fewer (xs ++ written a s ∷ []) (ys ++ s ∷ [])
+fewer_both : (a : HeaderOptions) (xs ys : List Segment) (s : Segment) → Fewer xs ys → Fewer (xs ++ written a s ∷ []) (ys ++ s ∷ [])
 fewer_both a xs ys s f slot h =
     let e = has_before slot ys s h in
     has_neither slot xs (written a s) (f slot e.0) (rw (slot_kept a s) e.1)
@@ -45,7 +46,7 @@ fewer_both a xs ys s f slot h =
 fewer_past : (xs ys : List Segment) (s : Segment) → Fewer xs ys → Fewer xs (ys ++ s ∷ [])
 fewer_past xs ys s f slot h = f slot (has_before slot ys s h).0
 
-once_kept : (a : Asked) (xs ys : List Segment) (s : Segment) → Fewer xs ys → is_second ys s ≡ false → is_second xs (written a s) ≡ false
+once_kept : (a : HeaderOptions) (xs ys : List Segment) (s : Segment) → Fewer xs ys → is_second ys s ≡ false → is_second xs (written a s) ≡ false
 once_kept a xs ys s f h = elim (cases_Bool (nat_lt 0 (slot_of s))) [
   | inl t ↦ rw (slot_kept a s, t) (f (slot_of s) (rw t at h))
   | inr n ↦ rw (slot_kept a s, n) refl
@@ -104,22 +105,22 @@ shape_kept ps st shape bytes few h r =
       above = h;
     }
 
-pub order_kept : (o : Option ℕ) (order : ℕ) → IfSome o (λ (n : ℕ). n ≤ 4) → order ≤ 4 → order_written o order ≤ 4
+pub order_kept : (o : Option ℕ) (order : ℕ) → IfSome o IsOrderNumber → IsOrderNumber order → IsOrderNumber (order_written o order)
 order_kept None order h le = le
 order_kept (Some new) order h le = h
 
-range_kept : (a : Asked) (comps : ℕ) (s : Segment) → MayBeAsked a → has_zero a.precincts s ≡ false → InRange comps s → InRange comps (written a s)
+range_kept : (a : HeaderOptions) (comps : ℕ) (s : Segment) → MayBeInHeaders a → has_zero a.wanted.precincts s ≡ false → InRange comps s → InRange comps (written a s)
 range_kept a comps (segment.Cod cod) may h r = record {
-  order = order_kept a.order cod.order may.order r.order;
+  order = order_kept a.wanted.order cod.order may.order r.order;
   some = may.some;
   layers = may.few;
   transform = r.transform;
-  shape = shape_kept a.precincts a.style cod.shape may.bytes may.style h r.shape;
+  shape = shape_kept a.wanted.precincts a.wanted.style cod.shape may.bytes may.style h r.shape;
 }
-range_kept a comps (segment.Coc comp shape) may h r = record { index = r.index; word = r.word; fits = shape_kept a.precincts a.style shape may.bytes may.style h r.fits }
+range_kept a comps (segment.Coc comp shape) may h r = record { index = r.index; word = r.word; fits = shape_kept a.wanted.precincts a.wanted.style shape may.bytes may.style h r.fits }
 range_kept a comps _ may h r = r
 
-stands_kept : (kind : HeaderKind) (a : Asked) (s : Segment) → stands_in kind (written a s) ≡ stands_in kind s
+stands_kept : (kind : HeaderKind) (a : HeaderOptions) (s : Segment) → stands_in kind (written a s) ≡ stands_in kind s
 stands_kept Main a (segment.Cod cod) = refl
 stands_kept First a (segment.Cod cod) = refl
 stands_kept Later a (segment.Cod cod) = refl
@@ -128,12 +129,12 @@ stands_kept First a (segment.Coc comp shape) = refl
 stands_kept Later a (segment.Coc comp shape) = refl
 stands_kept kind a _ = refl
 
-inside_kept : (a : Asked) (s : Segment) → ends_header (written a s) ≡ ends_header s
+inside_kept : (a : HeaderOptions) (s : Segment) → ends_header (written a s) ≡ ends_header s
 inside_kept a (segment.Cod cod) = refl
 inside_kept a (segment.Coc comp shape) = refl
 inside_kept a _ = refl
 
-segment_written : (a : Asked) (kind : HeaderKind) (comps : ℕ) (xs ys : List Segment) (s : Segment) → MayBeAsked a → has_zero a.precincts s ≡ false → Fewer xs ys
+segment_written : (a : HeaderOptions) (kind : HeaderKind) (comps : ℕ) (xs ys : List Segment) (s : Segment) → MayBeInHeaders a → has_zero a.wanted.precincts s ≡ false → Fewer xs ys
     → IsSegment kind comps ys s → IsSegment kind comps xs (written a s)
 segment_written a kind comps xs ys s may h f is = record {
   range = range_kept a comps s may h is.range;
@@ -142,11 +143,11 @@ segment_written a kind comps xs ys s may h f is = record {
   once = once_kept a xs ys s f is.once;
 }
 
-pub segments_written : (a : Asked) (kind : HeaderKind) (comps : ℕ) (xs ys ss : List Segment) → MayBeAsked a → list_any (has_zero a.precincts) ss ≡ false → Fewer xs ys
+pub segments_written : (a : HeaderOptions) (kind : HeaderKind) (comps : ℕ) (xs ys ss : List Segment) → MayBeInHeaders a → list_any (has_zero a.wanted.precincts) ss ≡ false → Fewer xs ys
     → AreSegments kind comps ys ss → AreSegments kind comps xs (all_written a ss)
 segments_written a kind comps xs ys [] may h f are = tt
 segments_written a kind comps xs ys (s ∷ ss) may h f are =
-    let clear = or_parts (has_zero a.precincts s) (list_any (has_zero a.precincts) ss) h in
+    let clear = or_parts (has_zero a.wanted.precincts s) (list_any (has_zero a.wanted.precincts) ss) h in
     elim (cases_Bool (is_written s)) [
       | inl t ↦ rw t (
         segment_written a kind comps xs ys s may clear.0 f are.0,

@@ -17,7 +17,7 @@ use Rattle.jx_codestream.specs.Shapes.{shapes_of, geometry, layers_of, tile_at}
 use Rattle.jx_tile.specs.Totals.{block_total, tile_packets, packet_total, totals_fault}
 use Rattle.jx_tier2_reader.specs.Another.{HasSameBlock, HaveSameBlocks}
 use Rattle.jx_tile.specs.Covered.{IsWhole}
-use Rattle.jx_plan.specs.Headers.{Asked, stream_written}
+use Rattle.jx_plan.specs.Headers.{stream_written, HeaderOptions}
 use Rattle.jx_plan.specs.Asides.{IsWithMore}
 use Rattle.jx_plan.specs.Fits.{Fits}
 use Rattle.jx_plan.specs.Standing.{HeadersStand}
@@ -27,12 +27,12 @@ use Rattle.jx_plan.proofs.BlockLemmas.{geometries, same_shapes, totals_same, blo
 
 -- the same blocks
 
-pub written_shapes : (a : Asked) (s : Stream) → Fits a.precincts s → HeadersStand s → (t : ℕ) → t < tile_number s.siz → AllSameBlocks (shapes_of s t) (shapes_of (stream_written a s) t)
+pub written_shapes : (a : HeaderOptions) (s : Stream) → Fits a.wanted.precincts s → HeadersStand s → (t : ℕ) → t < tile_number s.siz → AllSameBlocks (shapes_of s t) (shapes_of (stream_written a s) t)
 written_shapes a s fits stand t inside =
     let P : List CompShape → Type 0 = λ xs. AllSameBlocks (shapes_of s t) xs in
     subst P (sym (shapes_stay a s stand t)) (fits.blocks t inside)
 
-pub written_blocks : (a : Asked) (s : Stream) → a.style ≡ None → Fits a.precincts s → HeadersStand s
+pub written_blocks : (a : HeaderOptions) (s : Stream) → a.wanted.style ≡ None → Fits a.wanted.precincts s → HeadersStand s
     → ((t : ℕ) → t < tile_number s.siz → layers_of s t ≤ a.layers) → HaveSameBlocks s (stream_written a s)
 written_blocks a s none fits stand enough =
     blocks_same s (stream_written a s) (canvas_stays a s) (written_shapes a s fits stand) (planes_stay a s stand) (own_style a s stand none)

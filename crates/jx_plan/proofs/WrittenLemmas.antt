@@ -16,11 +16,11 @@ use Rattle.jx_codestream.specs.Headers.{slot_of, has_slot}
 use Rattle.jx_codestream.specs.Index.{gives}
 use Rattle.jx_codestream.specs.Tiles.{in_slot, entry_in}
 use Rattle.jx_codestream.specs.Params.{cod_in, shape_in}
-use Rattle.jx_plan.specs.Headers.{Asked, cod_written, item_at, written, is_written, all_written, tile_over, stream_written}
+use Rattle.jx_plan.specs.Headers.{HeaderOptions, cod_written, item_at, written, is_written, all_written, tile_over, stream_written}
 use Rattle.jx_plan.specs.Asides.{IsAside, is_aside}
 use Rattle.jx_plan.proofs.AlikeLemmas.{AreAlike, none_asked}
 
-pub slot_kept : (a : Asked) (s : Segment) → slot_of (written a s) ≡ slot_of s
+pub slot_kept : (a : HeaderOptions) (s : Segment) → slot_of (written a s) ≡ slot_of s
 slot_kept a (segment.Cod cod) = refl
 slot_kept a (segment.Coc comp shape) = refl
 slot_kept a _ = refl
@@ -34,7 +34,7 @@ left_out (segment.Tlm bytes) slot h g = grind (arith, nat_tests)
 left_out (segment.Skipped code) slot h g = grind (arith, nat_tests)
 left_out _ slot h g = absurd (cc)
 
-pub slot_written : (a : Asked) (slot : ℕ) (ss : List Segment) → gives slot ≡ true → in_slot slot (all_written a ss) ≡ option_map (written a) (in_slot slot ss)
+pub slot_written : (a : HeaderOptions) (slot : ℕ) (ss : List Segment) → gives slot ≡ true → in_slot slot (all_written a ss) ≡ option_map (written a) (in_slot slot ss)
 slot_written a slot [] g = refl
 slot_written a slot (s ∷ ss) g = elim (cases_Bool (is_written s)) [
   | inl t ↦ rw (t, slot_kept a s) (elim (cases_Bool (slot_of s == slot)) [
@@ -45,14 +45,14 @@ slot_written a slot (s ∷ ss) g = elim (cases_Bool (is_written s)) [
 ]
 
 -- so is the same kind there
-pub kind_written : (a : Asked) (slot : ℕ) (ss : List Segment) → gives slot ≡ true → has_slot slot (all_written a ss) ≡ has_slot slot ss
+pub kind_written : (a : HeaderOptions) (slot : ℕ) (ss : List Segment) → gives slot ≡ true → has_slot slot (all_written a ss) ≡ has_slot slot ss
 kind_written a slot [] g = refl
 kind_written a slot (s ∷ ss) g = elim (cases_Bool (is_written s)) [
   | inl t ↦ rw (t, slot_kept a s, kind_written a slot ss g) refl
   | inr f ↦ rw (f, left_out s slot f g) (kind_written a slot ss g)
 ]
 
-pub alike_written : (a : Asked) (o : Option Segment) → AreAlike a.precincts a.style (option_map (written a) o) o
+pub alike_written : (a : HeaderOptions) (o : Option Segment) → AreAlike a.wanted.precincts a.wanted.style (option_map (written a) o) o
 alike_written a None = record { some = refl; shape = refl; quant = refl; shift = refl }
 alike_written a (Some (segment.Cod cod)) = record { some = refl; shape = refl; quant = refl; shift = refl }
 alike_written a (Some (segment.Coc comp shape)) = record { some = refl; shape = refl; quant = refl; shift = refl }
@@ -61,7 +61,7 @@ alike_written a (Some _) = record { some = refl; shape = refl; quant = refl; shi
 pub alike_to : (ps : Option (List ℕ)) (st : Option Style) (o p q : Option Segment) → o ≡ p → AreAlike ps st p q → AreAlike ps st o q
 alike_to ps st o p q e h = rw e h
 
-pub cod_kept : (a : Asked) (o : Option Segment) → cod_in (option_map (written a) o) ≡ option_map (cod_written a) (cod_in o)
+pub cod_kept : (a : HeaderOptions) (o : Option Segment) → cod_in (option_map (written a) o) ≡ option_map (cod_written a) (cod_in o)
 cod_kept a None = refl
 cod_kept a (Some (segment.Cod cod)) = refl
 cod_kept a (Some (segment.Coc comp shape)) = refl
@@ -98,7 +98,7 @@ pub bytes_next : (items : List ℕ) (res : ℕ) → map (item_at items) (range_w
 bytes_next items res = map-range_with_len_more (item_at items) 0 res res (omega arith)
 
 -- the stream of such a main header and such tiles
-pub stream_is : (a : Asked) (s : Stream) (siz : Siz) (main : List Segment) (tiles : List Tile) → siz ≡ record s.siz { rsiz = 0 } → main ≡ all_written a s.main →
+pub stream_is : (a : HeaderOptions) (s : Stream) (siz : Siz) (main : List Segment) (tiles : List Tile) → siz ≡ record s.siz { rsiz = 0 } → main ≡ all_written a s.main →
     tiles ≡ map (tile_over a (entry_in (in_slot 1 main))) s.tiles → (let x : Stream = record { siz = siz; main = main; tiles = tiles } in x) ≡ stream_written a s
 unfolding stream_written
 stream_is a s siz main tiles e f g =

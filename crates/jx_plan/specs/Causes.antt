@@ -23,7 +23,7 @@ pub record PassesPackets (s : Stream) (w : Wanted) (layers found : ℕ) : Type 0
 pub record HasManyPartsAt (s : Stream) (w : Wanted) (layers place : ℕ) : Type 0 where
   pub fits : Fits w.precincts s
   pub few : packet_total (headers_with w layers s) ≤ most_packets
-  pub many : IsPartedAt w.parts (headers_with w layers s) place
+  pub many : IsPartedAt w.marks.parts (headers_with w layers s) place
 
 -- choice 1: the lowest block that would change its causal bit within a plane
 abbrev pub IsPlaneBroken : Option Style → List Block → PlanFault → Type 0
@@ -35,4 +35,4 @@ IsPlaneBroken style blocks fault.NoMemory = ⊥
 pub record IsFree (s : Stream) (w : Wanted) (layers : ℕ) : Type 0 where
   pub fits : Fits w.precincts s
   pub few : packet_total (headers_with w layers s) ≤ most_packets
-  pub parts : (t : ℕ) → t < tile_number s.siz → HasFewParts w.parts (headers_with w layers s) t
+  pub parts : (t : ℕ) → t < tile_number s.siz → HasFewParts w.marks.parts (headers_with w layers s) t

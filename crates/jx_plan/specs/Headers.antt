@@ -4,6 +4,7 @@
 use Rattle.std.specs.Prelude.{◌≤◌, ◌<◌, ◌^◌, ℕ, ◌+◌, ◌-◌, min, Bool, true, false, List, [], ◌∷◌, ◌++◌, length, map, Option, None, Some, IfSome, slice_index_or}
 use Rattle.std.specs.List.{filter, range_with_len}
 use Rattle.jx_base.specs.declared.style.Style.{Style}
+use Rattle.jx_base.specs.OrderNumbers.{IsOrderNumber}
 use Rattle.jx_geom.specs.declared.shape.CompShape.{CompShape}
 use Rattle.jx_marker.specs.Ranges.{AreBytes}
 use Rattle.jx_marker.specs.declared.Shape.{Shape}
@@ -11,6 +12,7 @@ use Rattle.jx_marker.specs.declared.Segment.{Segment}
 use Rattle.jx_marker.specs.declared.Segment.TheVariants as segment
 use Rattle.jx_marker.specs.declared.Cod.{Cod}
 use Rattle.jx_marker.specs.declared.Progression.{Progression}
+use Rattle.jx_options.specs.Wanted.{Wanted}
 use Rattle.jx_codestream.specs.Headers.{cod_slot}
 use Rattle.jx_codestream.specs.declared.Tile.{Tile}
 use Rattle.jx_codestream.specs.declared.Stream.{Stream}
@@ -18,21 +20,20 @@ use Rattle.jx_codestream.specs.declared.Params.{Params}
 use Rattle.jx_codestream.specs.Params.{precincts_of}
 use Rattle.jx_codestream.specs.Tiles.{in_slot, entry_in, or_list}
 
--- what is asked of the headers: order, precincts and style as Wanted has them
-pub record Asked : Type 0 where
-  pub sop : Bool
-  pub eph : Bool
+-- what is asked of the headers: what is wanted, and the number of layers that a planner makes of its words
+pub record HeaderOptions : Type 0 where
+  pub wanted : Wanted
   pub layers : ℕ
-  pub order : Option ℕ
-  pub precincts : Option (List ℕ)
-  pub style : Option Style
 
-pub record MayBeAsked (a : Asked) : Type 0 where
+abbrev pub with_layers : Wanted → ℕ → HeaderOptions
+with_layers w layers = record { wanted = w; layers = layers }
+
+pub record MayBeInHeaders (a : HeaderOptions) : Type 0 where
   pub some : 1 ≤ a.layers
   pub few : a.layers < 2 ^ 16
-  pub order : IfSome a.order (λ (order : ℕ). order ≤ 4)
-  pub bytes : IfSome a.precincts AreBytes
-  pub style : IfSome a.style (λ (style : Style). style.bits < 64)
+  pub order : IfSome a.wanted.order IsOrderNumber
+  pub bytes : IfSome a.wanted.precincts AreBytes
+  pub style : IfSome a.wanted.style (λ (style : Style). style.bits < 64)
 
 -- the byte of a resolution in a list, of which the last item stands for all above
 abbrev pub item_at : List ℕ → ℕ → ℕ
@@ -63,12 +64,12 @@ abbrev pub order_written : Option ℕ → ℕ → ℕ
 order_written None order = order
 order_written (Some new) order = new
 
-abbrev pub cod_written : Asked → Cod → Cod
-cod_written a cod = record cod { sop = a.sop; eph = a.eph; order = order_written a.order cod.order; layers = a.layers; shape = shape_written a.precincts a.style cod.shape }
+abbrev pub cod_written : HeaderOptions → Cod → Cod
+cod_written a cod = record cod { sop = a.wanted.marks.sop; eph = a.wanted.marks.eph; order = order_written a.wanted.order cod.order; layers = a.layers; shape = shape_written a.wanted.precincts a.wanted.style cod.shape }
 
-abbrev pub written : Asked → Segment → Segment
+abbrev pub written : HeaderOptions → Segment → Segment
 written a (segment.Cod cod) = segment.Cod (cod_written a cod)
-written a (segment.Coc comp shape) = segment.Coc comp (shape_written a.precincts a.style shape)
+written a (segment.Coc comp shape) = segment.Coc comp (shape_written a.wanted.precincts a.wanted.style shape)
 written a s = s
 
 abbrev pub is_written : Segment → Bool
@@ -80,15 +81,15 @@ is_written (segment.Skipped code) = false
 is_written _ = true
 
 -- the segments of a header in their order
-abbrev pub all_written : Asked → List Segment → List Segment
+abbrev pub all_written : HeaderOptions → List Segment → List Segment
 all_written a segments = map (written a) (filter is_written segments)
 
 -- that of a tile's first tile-part, up to PLT
-abbrev pub tile_header : Asked → Tile → List Segment
+abbrev pub tile_header : HeaderOptions → Tile → List Segment
 tile_header a t = all_written a t.header ++ t.notes
 
 -- a tile, with the one entry of its COD, else these
-abbrev pub tile_over : Asked → List Progression → Tile → Tile
+abbrev pub tile_over : HeaderOptions → List Progression → Tile → Tile
 tile_over a entries t = record {
   place = 0;
   header = tile_header a t;
@@ -98,7 +99,7 @@ tile_over a entries t = record {
 }
 
 -- a tile, with the one entry of its COD, else of the main one
-abbrev pub tile_written : Asked → List Segment → Tile → Tile
+abbrev pub tile_written : HeaderOptions → List Segment → Tile → Tile
 tile_written a main t = record {
   place = 0;
   header = tile_header a t;
@@ -107,7 +108,7 @@ tile_written a main t = record {
   bodies = [];
 }
 
-unfoldable pub stream_written : Asked → Stream → Stream
+unfoldable pub stream_written : HeaderOptions → Stream → Stream
 stream_written a s = record {
   siz = record s.siz { rsiz = 0 };
   main = all_written a s.main;
@@ -119,8 +120,8 @@ abbrev pub exponents_written : Option (List ℕ) → ℕ → List ℕ → List �
 exponents_written None levels exponents = exponents
 exponents_written (Some items) levels exponents = precincts_of (bytes_for items levels)
 
-abbrev pub params_written : Asked → Params → Params
-params_written a p = record p { order = order_written a.order p.order; layers = a.layers; precincts = exponents_written a.precincts p.levels p.precincts; style = style_written a.style p.style }
+abbrev pub params_written : HeaderOptions → Params → Params
+params_written a p = record p { order = order_written a.wanted.order p.order; layers = a.layers; precincts = exponents_written a.wanted.precincts p.levels p.precincts; style = style_written a.wanted.style p.style }
 
 -- and of its shape
 abbrev pub comp_written : Option (List ℕ) → CompShape → CompShape

@@ -18,7 +18,7 @@ use Rattle.jx_layers.specs.Causal.{first_broken}
 use Rattle.jx_layers.specs.Crowded.{IsLowestCrowded}
 use Rattle.jx_plan.specs.Fits.{Fits}
 use Rattle.jx_plan.specs.Groups.{HasFewParts}
-use Rattle.jx_plan.specs.Headers.{Asked, stream_written}
+use Rattle.jx_plan.specs.Headers.{stream_written, with_layers}
 use Rattle.jx_options.specs.Wanted.{MayBeWanted, Wanted}
 use Rattle.jx_plan.specs.Standing.{HeadersStand}
 
@@ -31,11 +31,8 @@ pub record MayBePlanned (s : Stream) (blocks : List Block) : Type 0 where
   pub sound : All IsSound blocks
 
 -- the headers that are written
-abbrev pub asked_of : Wanted → ℕ → Asked
-asked_of w layers = record { sop = w.sop; eph = w.eph; layers = layers; order = w.order; precincts = w.precincts; style = w.style }
-
 abbrev pub headers_with : Wanted → ℕ → Stream → Stream
-headers_with w layers s = stream_written (asked_of w layers) s
+headers_with w layers s = stream_written (with_layers w layers) s
 
 -- limit 7: the packets that are written
 abbrev pub most_packets : ℕ
@@ -74,4 +71,4 @@ pub record IsPlan (p : Plan) : Type 0 where
   -- choice 4
   pub uncrowded : IsLowestCrowded p.jobs None
   -- choice 5
-  pub parts : (t : ℕ) → t < tile_number p.stream.siz → HasFewParts p.wanted.parts (headers_of p) t
+  pub parts : (t : ℕ) → t < tile_number p.stream.siz → HasFewParts p.wanted.marks.parts (headers_of p) t

@@ -12,7 +12,7 @@ ghost use Rattle.jx_plan.specs.Steps.{IsOverPackets, IsOverParts};
 ghost use Rattle.jx_options.specs.Wanted.{MayBeWanted};
 
 use crate::PlanFault;
-use crate::headers::{HeaderMarks, write_headers};
+use crate::headers::write_headers;
 use crate::parting::first_parted;
 use jx_base::NoMemory;
 use jx_codestream::Stream;
@@ -35,26 +35,6 @@ pub(crate) fn count_packets(alloc: Global, stream: &Stream) -> Result<u128, NoMe
     Ok(packets)
 }
 
-/// The headers that are written as the options ask, with so many layers in each tile.
-fn written_with(
-    alloc: Global,
-    stream: &Stream,
-    options: &Options,
-    layers: u16,
-) -> Result<Stream, NoMemory>
-    ensures { IfOk result (λ written. written ≡ headers_with options.now layers stream.now) }
-{
-    let asked = HeaderMarks {
-        sop: options.sop,
-        eph: options.eph,
-        layers,
-        order: options.order.number(),
-        precincts: options.precincts.bytes(),
-        style: options.style,
-    };
-    write_headers(alloc, stream, asked)
-}
-
 /// The headers that are written as the options ask, with so many layers in each tile, at least 1.
 ///
 /// # Errors
@@ -75,7 +55,7 @@ pub(crate) fn plan_headers(
     ensures few { OnOk result (packet_total (headers_with options.now layers stream.now) ≤ most_packets) }
     ensures cause { IfErr result (λ e. IsOverPackets stream.now options.now layers e) }
 {
-    let written = written_with(alloc, stream, options, layers)?;
+    let written = write_headers(alloc, stream, options, layers)?;
     let packets = count_packets(alloc, &written)?;
     if packets > 1 << 22 {
         return Err(PlanFault::Limit {
@@ -106,10 +86,10 @@ pub(crate) fn check_parts(
     requires some { 1 ≤ layers }
     requires written { written.now ≡ headers_with options.now layers stream.now }
     requires few { packet_total (headers_with options.now layers stream.now) ≤ most_packets }
-    ensures few { OnOk result ((t : ℕ) → t < tile_number stream.now.siz → HasFewParts options.now.parts (headers_with options.now layers stream.now) t) }
+    ensures few { OnOk result ((t : ℕ) → t < tile_number stream.now.siz → HasFewParts options.now.marks.parts (headers_with options.now layers stream.now) t) }
     ensures cause { IfErr result (λ e. IsOverParts stream.now options.now layers e) }
 {
-    match first_parted(alloc, written, options.parts)? {
+    match first_parted(alloc, written, options.marks.parts)? {
         Some(tile) => Err(PlanFault::Choice {
             number: 5,
             place: u32::from(tile),

@@ -5,40 +5,14 @@ ghost use Rattle.std.specs.List.{range_with_len};
 ghost use Rattle.std.specs.Option.{option_to_list};
 ghost use Rattle.jx_codestream.specs.Headers.{cod_slot, slot_of};
 ghost use Rattle.jx_codestream.specs.Tiles.{entry_in, in_slot, or_list};
-ghost use Rattle.jx_plan.specs.Headers.{all_written, bytes_for, cod_written, is_written, item_at, order_written, precincts_written, shape_written, stream_written, style_written, tile_over, written};
+ghost use Rattle.jx_plan.specs.Headers.{all_written, bytes_for, cod_written, is_written, item_at, order_written, precincts_written, shape_written, stream_written, style_written, tile_over, with_layers, written};
+ghost use Rattle.jx_options.specs.Choices.{lent};
 
 use jx_base::{NoMemory, Style};
 use jx_codestream::{Bodies, Entries, Segments, Stream, Tile, Tiles};
 use jx_marker::{Bytes, Cod, Progression, Segment, Shape, Siz};
+use jx_options::Options;
 use std::alloc::Global;
-use std::marker::Model;
-
-/// What the headers of the written file are to say.
-#[derive(Drop)]
-pub(crate) struct HeaderMarks<'a> {
-    /// Each packet has an SOP segment, and COD says so (A.6.1, A.8.1).
-    pub sop: bool,
-    /// Each packet header has an EPH marker, and COD says so (A.6.1, A.8.2).
-    pub eph: bool,
-    /// The layers of each tile, at least 1.
-    pub layers: u16,
-    /// The progression order of each tile, 0 to 4; none where each tile keeps its own (Table A.16).
-    pub order: Option<u8>,
-    /// A byte of precincts for each resolution from 0 up, of which the last stands for all above; without bytes every exponent
-    /// is 15; none where precincts are kept (Table A.21).
-    pub precincts: Option<&'a [u8]>,
-    /// The style of all code-blocks, with bits 6 and 7 clear; none where each component keeps its own (Table A.19).
-    pub style: Option<Style>,
-}
-
-impl<'a> Model for HeaderMarks<'a> {
-    ghost use Rattle.std.specs.Option.{option_map};
-    ghost use Rattle.jx_plan.specs.Headers.{Asked};
-
-    ghost Value = { Asked };
-
-    ghost view = { λ marks. record { sop = marks.sop; eph = marks.eph; layers = marks.layers; order = marks.order; precincts = option_map (λ bytes. bytes.now) marks.precincts; style = marks.style } };
-}
 
 /// The segment is written: POC, packet and tile-part lengths and skipped markers aren't.
 fn is_written(segment: &Segment) -> bool
@@ -82,11 +56,11 @@ fn bytes_for(alloc: Global, items: &[u8], levels: u8) -> Result<Bytes, NoMemory>
     Ok(Bytes::new(bytes))
 }
 
-/// The precincts of a shape as they are written.
-fn copy_precincts(alloc: Global, shape: &Shape, asked: &HeaderMarks<'_>) -> Result<Bytes, NoMemory>
-    ensures { IfOk result (λ bytes. bytes ≡ precincts_written asked.now.precincts shape.now) }
+/// The precincts of a shape, with those that are asked, if any are.
+fn copy_precincts(alloc: Global, shape: &Shape, asked: Option<&[u8]>) -> Result<Bytes, NoMemory>
+    ensures { IfOk result (λ bytes. bytes ≡ precincts_written (lent asked) shape.now) }
 {
-    match asked.precincts {
+    match asked {
         Some(items) => bytes_for(alloc, items, shape.levels),
         None => shape.precincts.copy(),
     }
@@ -103,15 +77,15 @@ fn style_for(asked: Option<Style>, bits: u8) -> Style
 }
 
 /// A shape with the precincts and the style that are asked.
-fn copy_shape(alloc: Global, shape: &Shape, asked: &HeaderMarks<'_>) -> Result<Shape, NoMemory>
-    ensures { IfOk result (λ copy. copy ≡ shape_written asked.now.precincts asked.now.style shape.now) }
+fn copy_shape(alloc: Global, shape: &Shape, options: &Options) -> Result<Shape, NoMemory>
+    ensures { IfOk result (λ copy. copy ≡ shape_written options.now.precincts options.now.style shape.now) }
 {
-    let precincts = copy_precincts(alloc, shape, asked)?;
+    let precincts = copy_precincts(alloc, shape, options.precincts.bytes())?;
     Ok(Shape {
         levels: shape.levels,
         xcb: shape.xcb,
         ycb: shape.ycb,
-        style: style_for(asked.style, shape.style).bits,
+        style: style_for(options.style, shape.style).bits,
         wavelet: shape.wavelet,
         precincts,
     })
@@ -128,15 +102,15 @@ fn order_for(asked: Option<u8>, order: u8) -> u8
 }
 
 /// COD with its marks, order, layers, precincts and style as asked.
-fn copy_cod(alloc: Global, cod: &Cod, asked: &HeaderMarks<'_>) -> Result<Cod, NoMemory>
-    ensures { IfOk result (λ copy. copy ≡ cod_written asked.now cod.now) }
+fn copy_cod(alloc: Global, cod: &Cod, options: &Options, layers: u16) -> Result<Cod, NoMemory>
+    ensures { IfOk result (λ copy. copy ≡ cod_written (with_layers options.now layers) cod.now) }
 {
-    let shape = copy_shape(alloc, &cod.shape, asked)?;
+    let shape = copy_shape(alloc, &cod.shape, options)?;
     Ok(Cod {
-        sop: asked.sop,
-        eph: asked.eph,
-        order: order_for(asked.order, cod.order),
-        layers: asked.layers,
+        sop: options.marks.sop,
+        eph: options.marks.eph,
+        order: order_for(options.order.number(), cod.order),
+        layers,
         transform: cod.transform,
         shape,
     })
@@ -146,15 +120,16 @@ fn copy_cod(alloc: Global, cod: &Cod, asked: &HeaderMarks<'_>) -> Result<Cod, No
 fn copy_segment(
     alloc: Global,
     segment: &Segment,
-    asked: &HeaderMarks<'_>,
+    options: &Options,
+    layers: u16,
 ) -> Result<Segment, NoMemory>
-    ensures { IfOk result (λ copy. copy ≡ written asked.now segment.now) }
+    ensures { IfOk result (λ copy. copy ≡ written (with_layers options.now layers) segment.now) }
 {
     match segment {
-        Segment::Cod(cod) => Ok(Segment::Cod(copy_cod(alloc, cod, asked)?)),
+        Segment::Cod(cod) => Ok(Segment::Cod(copy_cod(alloc, cod, options, layers)?)),
         Segment::Coc { comp, shape } => Ok(Segment::Coc {
             comp: *comp,
-            shape: copy_shape(alloc, shape, asked)?,
+            shape: copy_shape(alloc, shape, options)?,
         }),
         _ => segment.copy(),
     }
@@ -164,14 +139,15 @@ fn copy_segment(
 fn push_written(
     alloc: Global,
     segments: &[Segment],
-    asked: &HeaderMarks<'_>,
+    options: &Options,
+    layers: u16,
     into: &mut Vec<Segment>,
 ) -> Result<(), NoMemory>
-    ensures { OnOk result (into.new.items ≡ into.old.items ++ all_written asked.now segments.now) }
+    ensures { OnOk result (into.new.items ≡ into.old.items ++ all_written (with_layers options.now layers) segments.now) }
 {
     for segment in segments {
         if is_written(segment) {
-            let copy = copy_segment(alloc, segment, asked)?;
+            let copy = copy_segment(alloc, segment, options, layers)?;
             into.push(copy)?;
         }
     }
@@ -251,13 +227,14 @@ fn tile_entries(alloc: Global, header: &[Segment], default: &Entries) -> Result<
 fn write_tile(
     alloc: Global,
     tile: &Tile,
-    asked: &HeaderMarks<'_>,
+    options: &Options,
+    layers: u16,
     default: &Entries,
 ) -> Result<Tile, NoMemory>
-    ensures { IfOk result (λ copy. copy ≡ tile_over asked.now default.now tile.now) }
+    ensures { IfOk result (λ copy. copy ≡ tile_over (with_layers options.now layers) default.now tile.now) }
 {
     let mut header = Vec::new(alloc);
-    push_written(alloc, tile.header.as_slice(), asked, &mut header)?;
+    push_written(alloc, tile.header.as_slice(), options, layers, &mut header)?;
     push_copies(tile.notes.as_slice(), &mut header)?;
     let progressions = tile_entries(alloc, &header, default)?;
     Ok(Tile {
@@ -272,14 +249,15 @@ fn write_tile(
 fn write_tiles(
     alloc: Global,
     tiles: &[Tile],
-    asked: &HeaderMarks<'_>,
+    options: &Options,
+    layers: u16,
     default: &Entries,
 ) -> Result<Vec<Tile>, NoMemory>
-    ensures { IfOk result (λ copies. copies.items ≡ map (tile_over asked.now default.now) tiles.now) }
+    ensures { IfOk result (λ copies. copies.items ≡ map (tile_over (with_layers options.now layers) default.now) tiles.now) }
 {
     let mut copies = Vec::new(alloc);
     for tile in tiles {
-        let copy = write_tile(alloc, tile, asked, default)?;
+        let copy = write_tile(alloc, tile, options, layers, default)?;
         copies.push(copy)?;
     }
     Ok(copies)
@@ -290,12 +268,13 @@ fn tiles_under(
     alloc: Global,
     main: &[Segment],
     tiles: &[Tile],
-    asked: &HeaderMarks<'_>,
+    options: &Options,
+    layers: u16,
 ) -> Result<Vec<Tile>, NoMemory>
-    ensures { IfOk result (λ copies. copies.items ≡ map (tile_over asked.now (entry_in (in_slot cod_slot main.now))) tiles.now) }
+    ensures { IfOk result (λ copies. copies.items ≡ map (tile_over (with_layers options.now layers) (entry_in (in_slot cod_slot main.now))) tiles.now) }
 {
     let default = one_entry(alloc, cod_entry(main))?;
-    write_tiles(alloc, tiles, asked, &default)
+    write_tiles(alloc, tiles, options, layers, &default)
 }
 
 /// SIZ with Rsiz 0: a file that is packed anew may leave the profile that Rsiz named (A.5.1).
@@ -307,10 +286,10 @@ fn write_siz(siz: &Siz) -> Result<Siz, NoMemory>
     Ok(copy)
 }
 
-/// The headers of the file that is written, as a stream without tile data: Rsiz is 0; POC, PLT, PLM, TLM and skipped
-/// markers are left out; each COD has SOP, EPH, order and layers as asked, and each COD and COC the precincts and the style; a
-/// tile's first header takes the COM segments of its later ones; all else is kept. Time and memory follow the bytes of the
-/// headers, the precincts that are written and the number of tiles.
+/// The headers of the file that is written as the options ask, with so many layers in each tile, at least 1, as a stream without
+/// tile data: Rsiz is 0; POC, PLT, PLM, TLM and skipped markers are left out; each COD has SOP, EPH, order and layers as asked,
+/// and each COD and COC the precincts and the style; a tile's first header takes the COM segments of its later ones; all else is
+/// kept. Time and memory follow the bytes of the headers, the precincts that are written and the number of tiles.
 ///
 /// # Errors
 ///
@@ -318,14 +297,15 @@ fn write_siz(siz: &Siz) -> Result<Siz, NoMemory>
 pub(crate) fn write_headers(
     alloc: Global,
     stream: &Stream,
-    asked: HeaderMarks<'_>,
+    options: &Options,
+    layers: u16,
 ) -> Result<Stream, NoMemory>
-    ensures { IfOk result (λ copy. copy ≡ stream_written asked.entry stream.now) }
+    ensures { IfOk result (λ copy. copy ≡ stream_written (with_layers options.now layers) stream.now) }
 {
     let siz = write_siz(&stream.siz)?;
     let mut main = Vec::new(alloc);
-    push_written(alloc, stream.main.as_slice(), &asked, &mut main)?;
-    let tiles = tiles_under(alloc, &main, stream.tiles.as_slice(), &asked)?;
+    push_written(alloc, stream.main.as_slice(), options, layers, &mut main)?;
+    let tiles = tiles_under(alloc, &main, stream.tiles.as_slice(), options, layers)?;
     Ok(Stream {
         siz,
         main: Segments::new(main),

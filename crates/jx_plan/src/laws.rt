@@ -25,19 +25,17 @@ ghost use Rattle.jx_codestream.specs.Shapes.{geometry, layers_of, shapes_of, sty
 ghost use Rattle.jx_codestream.specs.Spells.{AreSegments};
 ghost use Rattle.jx_codestream.specs.Tiles.{entry_in, in_slot, entries_joined, or_list, tile_from, tiles_of};
 ghost use Rattle.jx_plan.specs.Asides.{is_plt, IsAside, IsTileWithMore, IsWithMore};
-ghost use Rattle.jx_plan.specs.Headers.{Asked, MayBeAsked, all_written, cod_written, comp_written, params_written, stream_written, style_written, tile_written};
+ghost use Rattle.jx_plan.specs.Headers.{all_written, cod_written, comp_written, params_written, stream_written, style_written, tile_written, HeaderOptions, MayBeInHeaders};
 ghost use Rattle.jx_plan.specs.ReadBack.{HaveHeaders};
 ghost use Rattle.jx_plan.specs.Standing.{HeadersStand, IsHeaded};
 ghost use Rattle.jx_base.specs.declared.pieces.Block.{Block};
 ghost use Rattle.jx_base.specs.Sound.{IsSound};
 ghost use Rattle.jx_progression.specs.declared.names.PacketName.{PacketName};
 ghost use Rattle.jx_options.specs.declared.PartChoice.{PartChoice};
-ghost use Rattle.jx_options.specs.declared.PartChoice.TheVariants as part_choice;
 ghost use Rattle.jx_plan.specs.Fits.{Fits, first_zero};
 ghost use Rattle.jx_plan.specs.Groups.{groups_of, key_of};
 ghost use Rattle.jx_options.specs.Wanted.{MayBeWanted, Wanted};
 ghost use Rattle.jx_plan.specs.declared.faults.PlanFault.{PlanFault};
-ghost use Rattle.jx_plan.specs.declared.faults.PlanFault.TheVariants as plan_fault;
 ghost use Rattle.jx_codeblock.specs.Written.{block_asked, is_wrong};
 ghost use Rattle.jx_layers.specs.Causal.{first_broken};
 ghost use Rattle.jx_plan.specs.Meaning.{meaning_of};
@@ -45,6 +43,8 @@ ghost use Rattle.jx_plan.specs.Plan.{IsPlan, MayBePlanned, Plan, headers_with};
 ghost use Rattle.jx_plan.specs.Planned.{CanBePlannedBy, HasPlanCause, IsCrowded, IsFreeBy, IsPlanned, IsPlannedBy, MakesLayers, blocks_written, layers_of_rule};
 ghost use Rattle.jx_layers.specs.Rule.{Rule};
 ghost use Rattle.jx_layers.specs.Rule.Rule.{Keep};
+ghost use Rattle.jx_options.specs.declared.PartChoice.TheVariants as part_choice;
+ghost use Rattle.jx_plan.specs.declared.faults.PlanFault.TheVariants as plan_fault;
 
 use jx_codeblock::laws::{written_in_layers, written_in_own_layers};
 use jx_layers::laws::{blocks_are_written, crowds_are_told, jobs_have_these_ends};
@@ -58,24 +58,24 @@ pub fn read_headers_stand()
 /// above resolution 0 and a style of six bits: none of the rules 1 to 19 is violated (T.800, A.3 to A.9), and none of the limits 3
 /// and 4 is passed.
 pub fn written_headers_stand()
-    ensures { (a : Asked) (s : Stream) → MayBeAsked a → first_zero a.precincts s ≡ None → HeadersStand s → HeadersStand (stream_written a s) }
+    ensures { (a : HeaderOptions) (s : Stream) → MayBeInHeaders a → first_zero a.wanted.precincts s ≡ None → HeadersStand s → HeadersStand (stream_written a s) }
 {}
 
 /// The stream that is written is in range.
 pub fn written_is_in_range()
-    ensures { (a : Asked) (s : Stream) → MayBeAsked a → first_zero a.precincts s ≡ None → HeadersStand s → StreamInRange s → StreamInRange (stream_written a s) }
+    ensures { (a : HeaderOptions) (s : Stream) → MayBeInHeaders a → first_zero a.wanted.precincts s ≡ None → HeadersStand s → StreamInRange s → StreamInRange (stream_written a s) }
 {}
 
 /// The stream that is written has the parameters of its stream, but for the order, the layers, the precincts and the style (T.800, A.6).
 pub fn parameters_stay()
-    ensures params { (a : Asked) (s : Stream) (t c : ℕ) → HeadersStand s → params_of (stream_written a s) t c ≡ params_written a (params_of s t c) }
-    ensures steps { (a : Asked) (s : Stream) (t c r : ℕ) (band : Band) → HeadersStand s → step_of (stream_written a s) t c r band ≡ step_of s t c r band }
-    ensures planes { (a : Asked) (s : Stream) (t c r : ℕ) (band : Band) → HeadersStand s → planes_at (stream_written a s) t c r band ≡ planes_at s t c r band }
-    ensures shapes { (a : Asked) (s : Stream) (t : ℕ) → HeadersStand s → shapes_of (stream_written a s) t ≡ map (comp_written a.precincts) (shapes_of s t) }
-    ensures geometries { (a : Asked) (s : Stream) (t : ℕ) → HeadersStand s → geometry (stream_written a s) t ≡ record (geometry s t) { shapes = map (comp_written a.precincts) (shapes_of s t) } }
-    ensures layers { (a : Asked) (s : Stream) (t : ℕ) → HeadersStand s → layers_of (stream_written a s) t ≡ a.layers }
-    ensures styles { (a : Asked) (s : Stream) (t c : ℕ) → HeadersStand s → style_of (stream_written a s) t c ≡ (style_written a.style (record { bits = style_of s t c })).bits }
-    ensures tiles { (a : Asked) (s : Stream) → tile_number (stream_written a s).siz ≡ tile_number s.siz }
+    ensures params { (a : HeaderOptions) (s : Stream) (t c : ℕ) → HeadersStand s → params_of (stream_written a s) t c ≡ params_written a (params_of s t c) }
+    ensures steps { (a : HeaderOptions) (s : Stream) (t c r : ℕ) (band : Band) → HeadersStand s → step_of (stream_written a s) t c r band ≡ step_of s t c r band }
+    ensures planes { (a : HeaderOptions) (s : Stream) (t c r : ℕ) (band : Band) → HeadersStand s → planes_at (stream_written a s) t c r band ≡ planes_at s t c r band }
+    ensures shapes { (a : HeaderOptions) (s : Stream) (t : ℕ) → HeadersStand s → shapes_of (stream_written a s) t ≡ map (comp_written a.wanted.precincts) (shapes_of s t) }
+    ensures geometries { (a : HeaderOptions) (s : Stream) (t : ℕ) → HeadersStand s → geometry (stream_written a s) t ≡ record (geometry s t) { shapes = map (comp_written a.wanted.precincts) (shapes_of s t) } }
+    ensures layers { (a : HeaderOptions) (s : Stream) (t : ℕ) → HeadersStand s → layers_of (stream_written a s) t ≡ a.layers }
+    ensures styles { (a : HeaderOptions) (s : Stream) (t c : ℕ) → HeadersStand s → style_of (stream_written a s) t c ≡ (style_written a.wanted.style (record { bits = style_of s t c })).bits }
+    ensures tiles { (a : HeaderOptions) (s : Stream) → tile_number (stream_written a s).siz ≡ tile_number s.siz }
 {}
 
 /// A stream whose precincts are kept has them: none gives an exponent 0 above resolution 0, and its code-blocks stay (T.800, A.6.1 and B.7).
@@ -115,7 +115,7 @@ pub fn view_stays_with_more()
 /// The stream that is written has the code-blocks of its stream, where it can have the precincts that are asked, its style isn't changed,
 /// and no tile has fewer layers than it had (T.800, B.7). So has one with COM and PLT segments more.
 pub fn blocks_stay()
-    ensures written { (a : Asked) (s : Stream) → a.style ≡ None → Fits a.precincts s → HeadersStand s → ((t : ℕ) → t < tile_number s.siz → layers_of s t ≤ a.layers) → HaveSameBlocks s (stream_written a s) }
+    ensures written { (a : HeaderOptions) (s : Stream) → a.wanted.style ≡ None → Fits a.wanted.precincts s → HeadersStand s → ((t : ℕ) → t < tile_number s.siz → layers_of s t ≤ a.layers) → HaveSameBlocks s (stream_written a s) }
     ensures more { (s other : Stream) → IsWithMore s other → HaveSameBlocks s other }
     ensures through { (s between other : Stream) → HaveSameBlocks s between → HaveSameBlocks between other → HaveSameBlocks s other }
 {}
@@ -160,7 +160,7 @@ pub fn plans_write_these_blocks()
 
 /// The one entry of a tile that is written covers each of its packets (T.800, A.6.6 and B.12).
 pub fn written_is_covered()
-    ensures written { (a : Asked) (s : Stream) (t : ℕ) → MayBeAsked a → first_zero a.precincts s ≡ None → HeadersStand s → StreamInRange s → t < tile_number s.siz
+    ensures written { (a : HeaderOptions) (s : Stream) (t : ℕ) → MayBeInHeaders a → first_zero a.wanted.precincts s ≡ None → HeadersStand s → StreamInRange s → t < tile_number s.siz
         → IsWhole (stream_written a s) t }
     ensures more { (s other : Stream) (t : ℕ) → IsWithMore s other → t < length s.tiles → IsWhole s t → IsWhole other t }
 {}
@@ -175,9 +175,9 @@ pub fn totals_stay_with_more()
 /// What is written is read back: where a tile's tile-parts have its headers, they make the tile that is written, but for its place, its
 /// data and the segments that follow in its header; and the stream of such tiles is the one that is written, with these segments more.
 pub fn written_is_read_back()
-    ensures tile { (a : Asked) (comps : ℕ) (main : List Segment) (t : Tile) (own : List Part) → IsHeaded comps t → HaveHeaders a comps t own
+    ensures tile { (a : HeaderOptions) (comps : ℕ) (main : List Segment) (t : Tile) (own : List Part) → IsHeaded comps t → HaveHeaders a comps t own
         → IsTileWithMore comps (tile_written a main t) (tile_from (all_written a main) own) }
-    ensures stream { (a : Asked) (s other : Stream) (parts : List Part) → HeadersStand s → other.siz ≡ (stream_written a s).siz → other.main ≡ (stream_written a s).main
+    ensures stream { (a : HeaderOptions) (s other : Stream) (parts : List Part) → HeadersStand s → other.siz ≡ (stream_written a s).siz → other.main ≡ (stream_written a s).main
         → other.tiles ≡ tiles_of other.main parts (tile_number s.siz)
         → ((t : ℕ) → t < tile_number s.siz → HaveHeaders a (length s.siz.comps) (tile_at s t) (parts_of t parts)) → IsWithMore (stream_written a s) other }
 {}
@@ -186,16 +186,16 @@ pub fn written_is_read_back()
 /// precincts and the style that are asked (T.800, A.6.1 and A.6.6); and where its precincts fit, the limits 5 and 6 are those on its
 /// packets alone.
 pub fn written_headers_are_plain()
-    ensures main { (a : Asked) (s : Stream) → HeadersStand s → entries_joined (stream_written a s).main ≡ [] }
-    ensures header { (a : Asked) (s : Stream) (t : ℕ) → HeadersStand s → MayBeAsked a → first_zero a.precincts s ≡ None → t < length s.tiles
+    ensures main { (a : HeaderOptions) (s : Stream) → HeadersStand s → entries_joined (stream_written a s).main ≡ [] }
+    ensures header { (a : HeaderOptions) (s : Stream) (t : ℕ) → HeadersStand s → MayBeInHeaders a → first_zero a.wanted.precincts s ≡ None → t < length s.tiles
         → AreSegments First (length s.siz.comps) [] (header_of (stream_written a s) t) }
-    ensures entries { (a : Asked) (s : Stream) (t : ℕ) → HeadersStand s → t < length s.tiles → entries_joined (header_of (stream_written a s) t) ≡ [] }
-    ensures lengths { (a : Asked) (s : Stream) (t : ℕ) → HeadersStand s → t < length s.tiles → list_any is_plt (header_of (stream_written a s) t) ≡ false }
-    ensures order { (a : Asked) (s : Stream) (t : ℕ) → HeadersStand s → t < length s.tiles → (tile_at (stream_written a s) t).progressions
+    ensures entries { (a : HeaderOptions) (s : Stream) (t : ℕ) → HeadersStand s → t < length s.tiles → entries_joined (header_of (stream_written a s) t) ≡ [] }
+    ensures lengths { (a : HeaderOptions) (s : Stream) (t : ℕ) → HeadersStand s → t < length s.tiles → list_any is_plt (header_of (stream_written a s) t) ≡ false }
+    ensures order { (a : HeaderOptions) (s : Stream) (t : ℕ) → HeadersStand s → t < length s.tiles → (tile_at (stream_written a s) t).progressions
         ≡ or_list (entry_in (in_slot cod_slot (header_of (stream_written a s) t))) (entry_in (in_slot cod_slot (stream_written a s).main)) }
-    ensures cods { (a : Asked) (s : Stream) (t : ℕ) → HeadersStand s
+    ensures cods { (a : HeaderOptions) (s : Stream) (t : ℕ) → HeadersStand s
         → cod_or (cod_of (header_of (stream_written a s) t) (stream_written a s).main) ≡ cod_written a (cod_or (cod_of (header_of s t) s.main)) }
-    ensures limits { (a : Asked) (s : Stream) → Fits a.precincts s → HeadersStand s → totals_fault s ≡ None → packet_total (stream_written a s) ≤ 2 ^ 22
+    ensures limits { (a : HeaderOptions) (s : Stream) → Fits a.wanted.precincts s → HeadersStand s → totals_fault s ≡ None → packet_total (stream_written a s) ≤ 2 ^ 22
         → totals_fault (stream_written a s) ≡ None }
 {}
 

@@ -8,7 +8,6 @@ ghost use Rattle.jx_codestream.specs.First.{canvas_of, tile_number};
 ghost use Rattle.jx_codestream.specs.Shapes.{shapes_of};
 ghost use Rattle.jx_plan.specs.Plan.{IsPlan, headers_of};
 ghost use Rattle.jx_plan.specs.TileJobs.{AreJobsBelow, AreTileJobs};
-ghost use Rattle.jx_options.specs.Wanted.{marks_of};
 
 use jx_base::Block;
 use jx_codeblock::Job;
@@ -91,9 +90,9 @@ impl<'a> OutStream<'a> {
 
     /// What stands in its tile-parts beside headers and code-blocks, and where they begin.
     pub fn marks(&self) -> Marks
-        ensures { result ≡ marks_of self.now.wanted }
+        ensures { result ≡ self.now.wanted.marks }
     {
-        self.options.marks()
+        self.options.marks
     }
 
     /// The number of layers of each tile, 1 to 65,535.

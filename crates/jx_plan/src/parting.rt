@@ -1,6 +1,7 @@
 //! The packets of a tile, and where it is cut into tile-parts (ITU-T T.800, A.4.2 and B.12).
 
 ghost use Rattle.std.specs.Prelude.{◌≡◌, ◌∷◌, ◌<◌, ◌≤◌, ◌-◌, false, true, ℕ, None, drop, length, take, IfOk, MatchOption};
+ghost use Rattle.jx_progression.specs.Packets.{IsPacketName};
 ghost use Rattle.jx_codestream.specs.First.{tile_number};
 ghost use Rattle.jx_codestream.specs.InRange.{StreamInRange};
 ghost use Rattle.jx_tile.specs.Covered.{IsWhole};

@@ -1,20 +1,21 @@
 //! What tests ask of a file, and what they want of its plan.
 
-ghost use Rattle.std.specs.Prelude.{◌≤◌, IfOk, IfSome};
+ghost use Rattle.std.specs.Prelude.{IfOk, IfSome};
 ghost use Rattle.jx_marker.specs.Ranges.{AreBytes};
+ghost use Rattle.jx_base.specs.OrderNumbers.{IsOrderNumber};
 ghost use Rattle.jx_options.specs.Choices.{bytes_in, order_in};
 ghost use Rattle.jx_plan.specs.Plan.{MayBePlanned};
 ghost use Rattle.jx_options.specs.Wanted.{MayBeStyle, MayBeWanted};
 
 use crate::hex::bytes_of;
 use jx_base::{Block, NoMemory, Style};
-use jx_codeblock::Job;
 use jx_codestream::{Stream, Tile, read_stream};
 use jx_layers::{CutLayers, KeepLayers, LayerPlanner, OneLayer, TableLayers};
-use jx_options::{Options, OrderChoice, PartChoice, PrecinctChoice};
+use jx_options::{Options, OrderChoice, PartChoice, PrecinctChoice, Marks};
 use jx_plan::{OutStream, PlanFault, plan, plan_served};
-use jx_tier2_reader::gather;
 use std::alloc::{AllocError, Global};
+use jx_codeblock::Job;
+use jx_tier2_reader::gather;
 
 /// What is asked of a file. Nothing is marked or cut.
 #[derive(Clone, Copy)]
@@ -85,7 +86,7 @@ fn precincts_of(alloc: Global, ask: Option<&[u8]>) -> Result<PrecinctChoice, All
 }
 
 fn order_of(cprl: bool) -> OrderChoice
-    ensures { IfSome (order_in result) (λ order. order ≤ 4) }
+    ensures { IfSome (order_in result) IsOrderNumber }
 {
     if cprl {
         OrderChoice::Order(4)
@@ -104,10 +105,12 @@ fn options_of(alloc: Global, ask: &Ask) -> Result<Options, AllocError>
         precincts,
         style: style_of(ask.style),
         layers,
-        parts: PartChoice::None,
-        sop: false,
-        eph: false,
-        plt: false,
+        marks: Marks {
+            sop: false,
+            eph: false,
+            plt: false,
+            parts: PartChoice::None,
+        },
     })
 }
 

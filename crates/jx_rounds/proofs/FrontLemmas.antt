@@ -22,7 +22,7 @@ use Rattle.jx_codestream.specs.Shapes.{shapes_of}
 use Rattle.jx_codestream.specs.Spells.{TilePart, part_bytes}
 use Rattle.jx_plan.specs.Headers.{stream_written}
 use Rattle.jx_plan.specs.Plan.{IsPlan, MayBePlanned, Plan, headers_of, headers_with}
-use Rattle.jx_options.specs.Wanted.{Wanted, marks_of}
+use Rattle.jx_options.specs.Wanted.{Wanted}
 use Rattle.jx_tier2_writer.specs.Ready.{AreShort}
 use Rattle.jx_tier2_writer.specs.Tile.{AreAtMost, IsTile, blocks_in, first_block, main_bytes}
 use Rattle.jx_tier2_writer.specs.TileParts.{AreTilePartsOf}
@@ -67,7 +67,7 @@ front_none p =
 parts_joined : (comps : ℕ) (parts : List TilePart) → concat (map (part_bytes comps) parts) ≡ flat_map (part_bytes comps) parts
 parts_joined comps parts = concat_is (map (part_bytes comps) parts) ∙ flat_map-map (λ (x : List ℕ). x) (part_bytes comps) parts
 
-front_with : (p : Plan) (t : ℕ) (bytes : List ℕ) (own : List TilePart) → IsShortFront p t bytes → IsRightTile p t → AreTilePartsOf (marks_of p.wanted) (headers_of p) (blocks_of p) t own → AreShort own
+front_with : (p : Plan) (t : ℕ) (bytes : List ℕ) (own : List TilePart) → IsShortFront p t bytes → IsRightTile p t → AreTilePartsOf p.wanted.marks (headers_of p) (blocks_of p) t own → AreShort own
     → IsShortFront p (t + 1) (bytes ++ flat_map (part_bytes (length p.stream.siz.comps)) own)
 front_with p t bytes own done right are short =
     let parts : ℕ → List TilePart = with_parts done.parts t own in
@@ -84,8 +84,8 @@ front_with p t bytes own done right are short =
         | inr e ↦ done.right i (omega (arith, h, e))
       ];
       are = λ i h. elim (cases_eq i t) [
-        | inl e ↦ subst (λ (n : ℕ). AreTilePartsOf (marks_of p.wanted) (headers_of p) (blocks_of p) n (parts n)) (sym e) (subst (AreTilePartsOf (marks_of p.wanted) (headers_of p) (blocks_of p) t) (sym last) are)
-        | inr e ↦ subst (AreTilePartsOf (marks_of p.wanted) (headers_of p) (blocks_of p) i) (sym (other_parts done.parts t own i (omega (arith, h, e)))) (done.are i (omega (arith, h, e)))
+        | inl e ↦ subst (λ (n : ℕ). AreTilePartsOf p.wanted.marks (headers_of p) (blocks_of p) n (parts n)) (sym e) (subst (AreTilePartsOf p.wanted.marks (headers_of p) (blocks_of p) t) (sym last) are)
+        | inr e ↦ subst (AreTilePartsOf p.wanted.marks (headers_of p) (blocks_of p) i) (sym (other_parts done.parts t own i (omega (arith, h, e)))) (done.are i (omega (arith, h, e)))
       ];
       short = λ i h. elim (cases_eq i t) [
         | inl e ↦ subst (λ (n : ℕ). AreShort (parts n)) (sym e) (subst AreShort (sym last) short)

@@ -14,7 +14,6 @@ use Rattle.jx_marker.specs.declared.Segment.TheVariants as segment
 use Rattle.jx_codeblock.specs.Written.{block_asked}
 use Rattle.jx_plan.specs.Plan.{Plan, headers_of}
 use Rattle.jx_options.specs.Work.{Work}
-use Rattle.jx_options.specs.Wanted.{marks_of}
 use Rattle.jx_codestream.specs.First.{tile_number}
 use Rattle.jx_codestream.specs.Spells.{TilePart, part_bytes}
 use Rattle.jx_tier2_writer.specs.Ready.{AreShort}
@@ -60,7 +59,7 @@ pub record HasTape (p : Plan) (work : Work) (blocks : ℕ) (tape : List TapeEntr
 pub record IsShortFront (p : Plan) (tiles : ℕ) (bytes : List ℕ) : Type 0 where
   pub parts : ℕ → List TilePart
   pub right : (t : ℕ) → t < tiles → IsRightTile p t
-  pub are : (t : ℕ) → t < tiles → AreTilePartsOf (marks_of p.wanted) (headers_of p) (blocks_of p) t (parts t)
+  pub are : (t : ℕ) → t < tiles → AreTilePartsOf p.wanted.marks (headers_of p) (blocks_of p) t (parts t)
   pub short : (t : ℕ) → t < tiles → AreShort (parts t)
   pub bytes_are : bytes ≡ main_bytes (headers_of p) ++ flat_map (part_bytes (length p.stream.siz.comps)) (joined parts 0 tiles)
 

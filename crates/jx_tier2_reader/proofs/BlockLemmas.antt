@@ -9,8 +9,7 @@ use Rattle.jx_base.specs.declared.pieces.Block.{Block}
 use Rattle.jx_base.specs.Places.{size_of}
 use Rattle.jx_geom.specs.declared.shape.CompShape.{CompShape}
 use Rattle.jx_geom.specs.Rects.{tile_rect}
-use Rattle.jx_geom.specs.Counts.{block_count, blocks_before_band, tile_count}
-use Rattle.jx_geom.specs.Counts.{blocks_of_resolution as count_in_resolution, blocks_of_component as count_in_component, blocks_of_tile as count_in_tile}
+use Rattle.jx_geom.specs.Counts.{block_count, blocks_before_band, tile_count, blocks_of_resolution as count_in_resolution, blocks_of_component as count_in_component, blocks_of_tile as count_in_tile, resolution_blocks, component_blocks, tile_blocks}
 use Rattle.jx_geom.specs.Geometry.{Geometry, GeometryInRange, HasBlock, shape_of, rect_of_tile, blocks_in, no_shape}
 use Rattle.jx_geom.specs.Numbering.{number_in_tile, number_in_component, geometry_of, blocks_below, block_number}
 use Rattle.jx_geom.specs.Ranges.{HasBand}
@@ -62,7 +61,7 @@ blocks_high s g founds c r some =
     ∙ ap (λ (bs : List Block). blocks_of_band s g founds c r HL ++ (blocks_of_band s g founds c r LH ++ bs)) (append-nil (blocks_of_band s g founds c r HH))
 
 resolution_long : (s : Stream) (g : Geometry) (founds : List Found) (c r : ℕ)
-    → length (blocks_of_resolution s g founds c r) ≡ count_in_resolution (rect_of_tile g) (shape_of g c) r
+    → length (blocks_of_resolution s g founds c r) ≡ resolution_blocks (rect_of_tile g) (shape_of g c) r
 resolution_long s g founds c r = elim (cases_lt 0 r) [
   | inl some ↦
       let whole = resolution_high (rect_of_tile g) (shape_of g c) r some in
@@ -111,51 +110,51 @@ in_resolution s g founds c r HH i there lt =
     ∙ get_right (blocks_of_band s g founds c r LH) (blocks_of_band s g founds c r HH) m i (omega (arith, band_long s g founds c r LH))
     ∙ in_band s g founds c r HH i lt
 
-component_long : (s : Stream) (g : Geometry) (founds : List Found) (c : ℕ) → length (blocks_of_component s g founds c) ≡ count_in_component (rect_of_tile g) (shape_of g c)
-unfolding blocks_of_component count_in_component
+component_long : (s : Stream) (g : Geometry) (founds : List Found) (c : ℕ) → length (blocks_of_component s g founds c) ≡ component_blocks (rect_of_tile g) (shape_of g c)
+unfolding blocks_of_component component_blocks
 component_long s g founds c =
-    joined_length (blocks_of_resolution s g founds c) (count_in_resolution (rect_of_tile g) (shape_of g c)) ((shape_of g c).levels + 1) (resolution_long s g founds c)
+    joined_length (blocks_of_resolution s g founds c) (resolution_blocks (rect_of_tile g) (shape_of g c)) ((shape_of g c).levels + 1) (resolution_long s g founds c)
 
-pub blocks_long : (s : Stream) (g : Geometry) (founds : List Found) → length (blocks_of_tile s g founds) ≡ count_in_tile (rect_of_tile g) g.shapes
+pub blocks_long : (s : Stream) (g : Geometry) (founds : List Found) → length (blocks_of_tile s g founds) ≡ tile_blocks (rect_of_tile g) g.shapes
 unfolding blocks_of_tile
 blocks_long s g founds =
-    joined_length (blocks_of_component s g founds) (λ c. count_in_component (rect_of_tile g) (shape_of g c)) (length g.shapes) (component_long s g founds)
-    ∙ sym (whole_sum (count_in_component (rect_of_tile g)) g.shapes no_shape)
+    joined_length (blocks_of_component s g founds) (λ c. component_blocks (rect_of_tile g) (shape_of g c)) (length g.shapes) (component_long s g founds)
+    ∙ sym (whole_sum (component_blocks (rect_of_tile g)) g.shapes no_shape)
 
 in_component : (s : Stream) (g : Geometry) (founds : List Found) (n : BlockName) → HasBlock g n
     → slice_get (blocks_of_component s g founds n.comp) (number_in_component (rect_of_tile g) (shape_of g n.comp) n.res n.band n.index)
     ≡ Some (block_of s g founds (named g n.comp n.res n.band n.index))
 unfolding blocks_of_component
 in_component s g founds n h =
-    joined_at (blocks_of_resolution s g founds n.comp) (count_in_resolution (rect_of_tile g) (shape_of g n.comp)) ((shape_of g n.comp).levels + 1) n.res
+    joined_at (blocks_of_resolution s g founds n.comp) (resolution_blocks (rect_of_tile g) (shape_of g n.comp)) ((shape_of g n.comp).levels + 1) n.res
     (blocks_before_band (rect_of_tile g) (shape_of g n.comp) n.res n.band + n.index) (resolution_long s g founds n.comp)
     (omega (arith, h.resolution.level)) (omega (arith, band_within (rect_of_tile g) (shape_of g n.comp) n.res n.band h.band, h.index))
     ∙ in_resolution s g founds n.comp n.res n.band n.index h.band h.index
 
 within_component : (g : Geometry) (n : BlockName) → HasBlock g n
-    → number_in_component (rect_of_tile g) (shape_of g n.comp) n.res n.band n.index < count_in_component (rect_of_tile g) (shape_of g n.comp)
-unfolding count_in_component
+    → number_in_component (rect_of_tile g) (shape_of g n.comp) n.res n.band n.index < component_blocks (rect_of_tile g) (shape_of g n.comp)
+unfolding component_blocks
 within_component g n h =
     omega (
       arith,
-      sum_below_more (count_in_resolution (rect_of_tile g) (shape_of g n.comp)) n.res ((shape_of g n.comp).levels + 1) (omega (arith, h.resolution.level)),
+      sum_below_more (resolution_blocks (rect_of_tile g) (shape_of g n.comp)) n.res ((shape_of g n.comp).levels + 1) (omega (arith, h.resolution.level)),
       band_within (rect_of_tile g) (shape_of g n.comp) n.res n.band h.band,
       h.index,
     )
 
 -- a block's number as sums of terms by place
 number_is : (g : Geometry) (n : BlockName) → n.comp ≤ length g.shapes
-    → number_in_tile g n ≡ sum_below (λ c. count_in_component (rect_of_tile g) (shape_of g c)) n.comp
+    → number_in_tile g n ≡ sum_below (λ c. component_blocks (rect_of_tile g) (shape_of g c)) n.comp
     + number_in_component (rect_of_tile g) (shape_of g n.comp) n.res n.band n.index
 unfolding number_in_tile
-number_is g n le = omega (arith, front_sum (count_in_component (rect_of_tile g)) g.shapes no_shape n.comp le)
+number_is g n le = omega (arith, front_sum (component_blocks (rect_of_tile g)) g.shapes no_shape n.comp le)
 
 in_tile : (s : Stream) (g : Geometry) (founds : List Found) (n : BlockName) → HasBlock g n
     → slice_get (blocks_of_tile s g founds) (number_in_tile g n) ≡ Some (block_of s g founds (named g n.comp n.res n.band n.index))
 unfolding blocks_of_tile
 in_tile s g founds n h =
     ap (λ i. slice_get (joined (blocks_of_component s g founds) 0 (length g.shapes)) i) (number_is g n (omega (arith, h.resolution.component)))
-    ∙ joined_at (blocks_of_component s g founds) (λ c. count_in_component (rect_of_tile g) (shape_of g c)) (length g.shapes) n.comp
+    ∙ joined_at (blocks_of_component s g founds) (λ c. component_blocks (rect_of_tile g) (shape_of g c)) (length g.shapes) n.comp
     (number_in_component (rect_of_tile g) (shape_of g n.comp) n.res n.band n.index) (component_long s g founds) h.resolution.component (within_component g n h)
     ∙ in_component s g founds n h
 
@@ -166,14 +165,14 @@ block_there s g founds n h =
     subst P (sym h.tile) (in_tile s g founds n h)
 
 -- each number below the count of a tile's blocks is that of one of them
-pub number_named : (g : Geometry) (i : ℕ) → GeometryInRange g → i < count_in_tile (rect_of_tile g) g.shapes → (n : BlockName) × (HasBlock g n × (number_in_tile g n ≡ i))
+pub number_named : (g : Geometry) (i : ℕ) → GeometryInRange g → i < tile_blocks (rect_of_tile g) g.shapes → (n : BlockName) × (HasBlock g n × (number_in_tile g n ≡ i))
 unfolding block_number
 number_named g i h lt =
     let shapes : ℕ → List CompShape = λ t. g.shapes in
-    let more = sum_below_more (λ t. count_in_tile (tile_rect g.canvas t) g.shapes) g.tile (tile_count g.canvas) h.tile in
+    let more = sum_below_more (λ t. tile_blocks (tile_rect g.canvas t) g.shapes) g.tile (tile_count g.canvas) h.tile in
     let taken = block_number_taken g.canvas shapes (blocks_below g.canvas shapes g.tile + i) (omega arith) in
     let n = taken.0 in
-    let one = sum_once (λ t. count_in_tile (tile_rect g.canvas t) g.shapes) n.tile g.tile (number_in_tile (geometry_of g.canvas shapes n.tile) n) i
+    let one = sum_once (λ t. tile_blocks (tile_rect g.canvas t) g.shapes) n.tile g.tile (number_in_tile (geometry_of g.canvas shapes n.tile) n) i
     (number_in_tile_below (geometry_of g.canvas shapes n.tile) n taken.1.0.1) lt taken.1.1 in
     let P : ℕ → Type 0 = λ t. HasBlock (geometry_of g.canvas shapes t) n in
     let Q : ℕ → Type 0 = λ t. number_in_tile (geometry_of g.canvas shapes t) n ≡ i in

@@ -9,7 +9,7 @@ use Rattle.jx_base.specs.Pieces.{PieceValue, passes_at, passes_below}
 use Rattle.jx_base.specs.Joined.{joined, sum_below}
 use Rattle.jx_base.proofs.Joined.{joined_length, joined_at}
 use Rattle.jx_geom.specs.Geometry.{Geometry, HasBlock, rect_of_tile, shape_of}
-use Rattle.jx_geom.specs.Counts.{tile_blocks as count_in_tile}
+use Rattle.jx_geom.specs.Counts.{tile_blocks}
 use Rattle.jx_geom.specs.Rects.{tile_rect, block_rect}
 use Rattle.jx_geom.specs.Numbering.{block_number, blocks_below, number_in_tile}
 use Rattle.jx_geom.proofs.NumberLemmas.{number_in_tile_below}
@@ -102,7 +102,7 @@ block_is b s t cuts left n h low is =
 -- ---- all blocks
 
 abbrev pub count_of : Stream → ℕ → ℕ
-count_of s t = count_in_tile (tile_rect (canvas_of s.siz) t) (shapes_of s t)
+count_of s t = tile_blocks (tile_rect (canvas_of s.siz) t) (shapes_of s t)
 
 tile_long : (b : List ℕ) (s : Stream) (t : ℕ) (blocks : List Block) → AreTileBlocks b s t blocks → length blocks ≡ count_of s t
 tile_long b s t blocks are = ap (λ (l : List Block). length l) are.2 ∙ blocks_long s (geometry s t) (founds_of (geometry s t) are.0)

@@ -11,7 +11,6 @@ use Rattle.jx_tagtree.specs.Header.{bits_of, end_after, Reading, start_of}
 use Rattle.jx_geom.specs.Geometry.{Geometry, GeometryInRange}
 use Rattle.jx_packet_header.specs.declared.Part.{Part}
 use Rattle.jx_packet_header.specs.declared.HeadFault.{HeadFault}
-use Rattle.jx_packet_header.specs.declared.HeadFault.TheVariants as head
 use Rattle.jx_packet_header.specs.Packet.{State, IsPacket, header_bits}
 use Rattle.jx_packet_header.specs.Kept.{AreBands}
 use Rattle.jx_packet_header.specs.Frame.{frame}
@@ -24,7 +23,6 @@ use Rattle.jx_codestream.specs.declared.Body.{Body}
 use Rattle.jx_codestream.specs.declared.Stream.{Stream}
 use Rattle.jx_codestream.specs.First.{tile_number}
 use Rattle.jx_codestream.specs.declared.faults.StreamFault.{StreamFault}
-use Rattle.jx_codestream.specs.declared.faults.StreamFault.TheVariants as fault
 use Rattle.jx_codestream.specs.Read.{IsRead}
 use Rattle.jx_codestream.specs.Shapes.{geometry, layers_of, tile_at}
 use Rattle.jx_tile.specs.Totals.{totals_fault}
@@ -44,6 +42,8 @@ use Rattle.jx_tier2_reader.proofs.OnceLemmas.{Ready}
 use Rattle.jx_tier2_reader.proofs.ReadyLemmas.{ready}
 use Rattle.jx_tile.proofs.TotalLemmas.{geometry_fits}
 use Rattle.jx_tier2_reader.proofs.CoverEither.{search_first, cover_or}
+use Rattle.jx_packet_header.specs.declared.HeadFault.TheVariants as head
+use Rattle.jx_codestream.specs.declared.faults.StreamFault.TheVariants as fault
 
 -- ---- a header
 -- it stands there, or it breaks a rule

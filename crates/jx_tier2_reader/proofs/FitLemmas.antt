@@ -31,21 +31,19 @@ use Rattle.jx_codestream.specs.Read.{IsRead}
 use Rattle.jx_codestream.specs.Shapes.{geometry, shapes_of, layers_of, style_of}
 use Rattle.jx_tile.specs.Totals.{totals_fault}
 use Rattle.jx_codestream.specs.InRange.{StreamInRange}
-use Rattle.jx_geom.specs.Precincts.{leaves, leaves_of_blocks as count_in}
-use Rattle.jx_tile.specs.Cells.{sizes_of, precinct_bands}
-use Rattle.jx_geom.specs.Precincts.{HasPrecinct, cells_at, name_from, leaf_name, leaf_number}
+use Rattle.jx_geom.specs.Precincts.{leaves, leaves_of_blocks as count_in, HasPrecinct, cells_at, name_from, leaf_name, leaf_number, leaves_in}
 use Rattle.jx_tier2_reader.specs.BlockOf.{pieces_at, AreCutAsRead, IsFoundOf, AreBlocksOf}
 use Rattle.jx_tier2_reader.specs.Carries.{block_in, part_of}
 use Rattle.jx_tier2_reader.specs.Planned.{part_in, leaf_from, leaf_in, leaves_of_blocks}
 use Rattle.jx_tier2_reader.proofs.CellLemmas.{pick, size_is, bands_of, cells_count}
 use Rattle.jx_geom.proofs.LeafLemmas.{name_here, name_later, leaf_of, leaf_is, leaf_there}
 use Rattle.jx_tier2_reader.proofs.CutRuns.{total}
-use Rattle.jx_tier2_reader.proofs.FewLemmas.{passes_past as at_past}
-use Rattle.jx_tier2_reader.proofs.FewLemmas.{passes_cons as at_here}
+use Rattle.jx_tier2_reader.proofs.FewLemmas.{passes_past as at_past, passes_cons as at_here}
 use Rattle.jx_tier2_reader.proofs.CarryLemmas.{layer_here, layer_past, layer_nothing}
 use Rattle.jx_tier2_reader.proofs.PlannedLemmas.{parts_of_pieces, leaves_long, sound_at}
 use Rattle.jx_codestream.proofs.RangeLemmas.{read_in_range}
 use Rattle.jx_tile.proofs.TotalLemmas.{geometry_fits}
+use Rattle.jx_tile.specs.Cells.{sizes_of, precinct_bands}
 
 -- ---- the parts of a block
 passes_before_is : (layer j : ℕ) (qs : List PieceValue) → passes_before layer (map (part_in j) qs) ≡ passes_below layer qs
@@ -191,14 +189,14 @@ planes_is cells planes = by (size_of cells == 0)
     by false = refl
 
 fit_bands : (s : Stream) (g : Geometry) (style layers c r k base : ℕ) (bands : List Band) (leaf : ℕ → Leafed)
-    → ((i : ℕ) → i < count_in g c r k bands → FitsLeaf style layers (planes_at s g.tile c r (name_from g c r k bands i).band) (base + i) (leaf (base + i)) (leaf (base + i)).parts)
-    → FitBands style layers base (bands_of s g c r k bands) (map leaf (range_with_len base (count_in g c r k bands)))
+    → ((i : ℕ) → i < leaves_in g c r k bands → FitsLeaf style layers (planes_at s g.tile c r (name_from g c r k bands i).band) (base + i) (leaf (base + i)) (leaf (base + i)).parts)
+    → FitBands style layers base (bands_of s g c r k bands) (map leaf (range_with_len base (leaves_in g c r k bands)))
 fit_bands s g style layers c r k base [] leaf each = tt
 fit_bands s g style layers c r k base (b ∷ bands) leaf each =
     let cells : Rect = cells_at g c r k b in
     let planes : ℕ = planes_at s g.tile c r b in
     let size : ℕ = size_of cells in
-    let rest : ℕ = count_in g c r k bands in
+    let rest : ℕ = leaves_in g c r k bands in
     let n : ℕ = (sizes_of cells planes).wide * (sizes_of cells planes).high in
     let n_is : n ≡ size = size_is cells planes in
     let front : List Leafed = map leaf (range_with_len base size) in

@@ -14,7 +14,7 @@ use Rattle.jx_base.specs.Places.{size_of}
 use Rattle.jx_base.proofs.Joined.{joined_none, joined_empty, joined_same}
 use Rattle.jx_geom.specs.declared.shape.CompShape.{CompShape}
 use Rattle.jx_geom.specs.declared.table.Resolution.{Resolution}
-use Rattle.jx_geom.specs.Counts.{precinct_count, block_count, blocks_of_tile as blocks_in_tile, tile_precincts}
+use Rattle.jx_geom.specs.Counts.{precinct_count, block_count, blocks_of_tile as blocks_in_tile, tile_precincts, tile_blocks}
 use Rattle.jx_geom.specs.Geometry.{Geometry, HasResolution, rect_of_tile, shape_of, precincts_in, blocks_in}
 use Rattle.jx_geom.specs.Rects.{component_rect}
 use Rattle.jx_geom.specs.Resolutions.{all_resolutions, component_resolutions, one_behind, resolutions_behind, resolutions_of}
@@ -63,7 +63,7 @@ unfolding all_resolutions
 of_tile f g empty =
     flat_joined (by_resolution f) (component_resolutions (rect_of_tile g) g.shapes) (length g.shapes)
     ∙ joined_same (λ c. flat_map (by_resolution f) (component_resolutions (rect_of_tile g) g.shapes c)) (λ c. joined (f c) 0 ((shape_of g c).levels + 1)) (length g.shapes)
-    (λ c lt. of_shape f (rect_of_tile g) (shape_of g c) c (tile_precincts (rect_of_tile g) (take c g.shapes)) (blocks_in_tile (rect_of_tile g) (take c g.shapes)) (empty c))
+    (λ c lt. of_shape f (rect_of_tile g) (shape_of g c) c (tile_precincts (rect_of_tile g) (take c g.shapes)) (tile_blocks (rect_of_tile g) (take c g.shapes)) (empty c))
 
 no_fresh : (s : Stream) (g : Geometry) (c r : ℕ) → size_of (component_rect (rect_of_tile g) (shape_of g c)) ≡ 0 → fresh_resolution s g c r ≡ []
 unfolding fresh_resolution

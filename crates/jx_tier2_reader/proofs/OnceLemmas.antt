@@ -17,7 +17,6 @@ use Rattle.jx_codestream.specs.declared.Body.{Body}
 use Rattle.jx_codestream.specs.declared.Stream.{Stream}
 use Rattle.jx_codestream.specs.First.{tile_number}
 use Rattle.jx_codestream.specs.declared.faults.StreamFault.{StreamFault}
-use Rattle.jx_codestream.specs.declared.faults.StreamFault.TheVariants as fault
 use Rattle.jx_codestream.specs.Faults.{broken}
 use Rattle.jx_codestream.specs.Shapes.{geometry, layers_of, tile_at}
 use Rattle.jx_tile.specs.Totals.{totals_fault}
@@ -29,6 +28,7 @@ use Rattle.jx_tier2_reader.specs.Gathered.{IsCutUp, AreTileBlocks, IsGathered, B
 use Rattle.jx_tier2_reader.proofs.TurnLemmas.{Precincts, Keeps, Listed, listed, AllKnown, AreInTurn, are_in_turn, known_there, has_precinct, due_named}
 use Rattle.jx_base.proofs.Joined.{joined_same}
 use Rattle.jx_base.proofs.Lists.{some_none, head_same, tail_same}
+use Rattle.jx_codestream.specs.declared.faults.StreamFault.TheVariants as fault
 
 -- ---- where a test is violated is no matter of the place
 both_clear : (m n a b : ℕ) (x y : Bool) (f : StreamFault) → option_or (broken m a x) (broken n a y) ≡ Some f → option_or (broken m b x) (broken n b y) ≡ None → ⊥

@@ -33,10 +33,7 @@ use Rattle.jx_codestream.specs.Read.{IsRead}
 use Rattle.jx_tile.specs.Totals.{totals_fault}
 use Rattle.jx_codestream.specs.InRange.{StreamInRange}
 use Rattle.jx_tier2_reader.specs.InRange.{DataInRange}
-use Rattle.jx_geom.specs.Precincts.{leaves, leaves_in}
-use Rattle.jx_tile.specs.Cells.{sizes_of, precinct_bands}
-use Rattle.jx_tier2_reader.specs.Fresh.{fresh_precinct}
-use Rattle.jx_geom.specs.Precincts.{HasPrecinct, cells_at, precinct_number, name_from, leaf_name, leaf_number}
+use Rattle.jx_geom.specs.Precincts.{leaves, leaves_in, HasPrecinct, cells_at, precinct_number, name_from, leaf_name, leaf_number}
 use Rattle.jx_tier2_reader.specs.Cuts.{Cut, Left, AreCuts, number_of, names_of}
 use Rattle.jx_tier2_reader.specs.Blocks.{Found, founds_of, own_founds, pieces_in, passes_in, zero_from, block_with, block_of, blocks_of_tile}
 use Rattle.jx_tile.specs.Covered.{IsListOf}
@@ -58,6 +55,8 @@ use Rattle.jx_base.proofs.Lists.{contains_head, contains_tail, pairs_tail, pairs
 use Rattle.jx_base.specs.Bands.{bands_at}
 use Rattle.jx_geom.proofs.EmptyLemmas.{zero_left as product_zero}
 use Rattle.jx_base.proofs.Joined.{joined_all}
+use Rattle.jx_tile.specs.Cells.{sizes_of, precinct_bands}
+use Rattle.jx_tier2_reader.specs.Fresh.{fresh_precinct}
 
 -- ---- a precinct before its first packet
 pub fresh_unknown : (bs : List BandCells) (j : ℕ) → get_or (all_blocks (fresh_bands bs)) j unknown_block ≡ unknown_block

@@ -7,7 +7,7 @@ use Rattle.std.proofs.lemmas.List.Elements.{All-head, All-tail, All-cons, All-we
 use Rattle.std.proofs.lemmas.Option.{get_or_from_slice_get, slice_get-get_or, slice_get_within}
 use Rattle.jx_base.specs.declared.pieces.Block.{Block}
 use Rattle.jx_geom.specs.Geometry.{Geometry, GeometryInRange, rect_of_tile}
-use Rattle.jx_geom.specs.Counts.{blocks_of_tile as count_in_tile}
+use Rattle.jx_geom.specs.Counts.{blocks_of_tile as count_in_tile, tile_blocks}
 use Rattle.jx_packet_header.specs.declared.Part.{Part}
 use Rattle.jx_packet_header.specs.Packet.{State}
 use Rattle.jx_packet_header.specs.Precinct.{IsState, all_blocks}
@@ -15,12 +15,10 @@ use Rattle.jx_progression.specs.declared.names.PacketName.{PacketName}
 use Rattle.jx_codestream.specs.declared.Body.{Body}
 use Rattle.jx_codestream.specs.declared.Stream.{Stream}
 use Rattle.jx_codestream.specs.declared.faults.StreamFault.{StreamFault}
-use Rattle.jx_codestream.specs.declared.faults.StreamFault.TheVariants as fault
 use Rattle.jx_tier2_reader.specs.declared.packet.Packet.{Packet}
 use Rattle.jx_tile.specs.Faults.{HasCause}
 use Rattle.jx_codestream.specs.Shapes.{geometry, layers_of, tile_at}
-use Rattle.jx_geom.specs.Precincts.{HasPrecinct, leaf_number}
-use Rattle.jx_geom.specs.Precincts.{leaves}
+use Rattle.jx_geom.specs.Precincts.{HasPrecinct, leaf_number, leaves}
 use Rattle.jx_tier2_reader.specs.Data.{window, due, behind, end_of_data, front_length, header_in, parts_length}
 use Rattle.jx_tier2_reader.specs.Cuts.{Cut, Left, IsCut, IsTurn, AreCuts, names_of, number_of, Breaks}
 use Rattle.jx_tier2_reader.specs.Blocks.{Found, founds_from, founds_in, founds_of, blocks_of_tile}
@@ -38,6 +36,7 @@ use Rattle.jx_tier2_reader.proofs.SoundLemmas.{IsBegun, begun, passes_fit, put_c
 use Rattle.jx_tier2_reader.proofs.ReadyLemmas.{keeps, precincts}
 use Rattle.jx_tier2_reader.proofs.PacketLemmas.{cause_on}
 use Rattle.jx_tier2_reader.proofs.PieceLemmas.{one_long}
+use Rattle.jx_codestream.specs.declared.faults.StreamFault.TheVariants as fault
 
 -- ---- the data of tile-parts
 pub inside_due : (b : List ℕ) (bodies : List Body) (body : Body) (later : List Body) → AreInside b bodies → due bodies ≡ body ∷ later → AreInside b (body ∷ later)
@@ -305,7 +304,7 @@ front_few b s g list number left blocks task front =
     subst F (sym (front_blocks b s g list number left blocks task front)) (passes_fit b s g.tile front.cuts front.mid (front_begun b s g list number left blocks task front))
 
 front_long : (b : List ℕ) (s : Stream) (t : ℕ) (done : List PacketName) (left : Left) (blocks : List Block) → IsFront b s t done left blocks
-    → length blocks ≡ count_in_tile (rect_of_tile (geometry s t)) (geometry s t).shapes
+    → length blocks ≡ tile_blocks (rect_of_tile (geometry s t)) (geometry s t).shapes
 front_long b s t done left blocks front =
     ap length front.blocks_are ∙ put_long (blocks_of_tile s (geometry s t) []) (founds_of (geometry s t) front.cuts) ∙ blocks_long s (geometry s t) []
 
@@ -332,11 +331,11 @@ can_put b s g list number left blocks d packet after new task lt front step =
     let is : IsReady g left.states step.n p = ready_at b s g list number left blocks d left.states step.n task lt front refl step.number_is in
     let range : GeometryInRange (geometry s g.tile) = geometry_fits s g.tile task.range task.totals task.below in
     let R : Geometry → Type 0 = λ x. GeometryInRange x in
-    let B : Geometry → Type 0 = λ x. length blocks ≡ count_in_tile (rect_of_tile x) x.shapes in
-    let long : length blocks ≡ count_in_tile (rect_of_tile g) g.shapes = subst B (sym task.geometry_is) (front_long b s g.tile (take number list) left blocks front) in
+    let B : Geometry → Type 0 = λ x. length blocks ≡ tile_blocks (rect_of_tile x) x.shapes in
+    let long : length blocks ≡ tile_blocks (rect_of_tile g) g.shapes = subst B (sym task.geometry_is) (front_long b s g.tile (take number list) left blocks front) in
     let C : ℕ → Type 0 = λ m. All (λ (part : Part). part.block < m) packet.parts.items in
     let low : (j : ℕ) → j < leaves g p.comp p.res p.precinct → leaf_number g p.comp p.res p.precinct j < length blocks = λ j lt.
-    (let below : leaf_number g p.comp p.res p.precinct j < count_in_tile (rect_of_tile g) g.shapes = leaf_below g p.comp p.res p.precinct j (subst R (sym task.geometry_is) range) is.precinct lt in omega arith) in
+    (let below : leaf_number g p.comp p.res p.precinct j < tile_blocks (rect_of_tile g) g.shapes = leaf_below g p.comp p.res p.precinct j (subst R (sym task.geometry_is) range) is.precinct lt in omega arith) in
     record {
       there = founds_below g p after (length blocks) (leaves g p.comp p.res p.precinct) packet.bytes.now packet.parts.items low
           (subst C is.leaves_are (parts_there b g number left p packet after new step));

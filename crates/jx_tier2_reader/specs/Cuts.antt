@@ -1,6 +1,7 @@
 -- Tile data cut into packets (ITU-T T.800, B.9 and B.10): each has SOP or not, a header, EPH or not, and its coded bytes.
 use Rattle.std.specs.Prelude.{◌≡◌, ◌⊎◌, ℕ, ◌+◌, List, [], ◌∷◌, map, take, drop, None, Some, slice_get, slice_set}
 use Rattle.jx_geom.specs.Geometry.{Geometry}
+use Rattle.jx_marker.specs.RuleNumbers.{LEFT_OVER, PACKET_HEADER, PLANES}
 use Rattle.jx_packet_header.specs.declared.Part.{Part}
 use Rattle.jx_packet_header.specs.Packet.{State, IsPacket, BreaksPlanes}
 use Rattle.jx_progression.specs.declared.names.PacketName.{PacketName}
@@ -34,8 +35,8 @@ pub record IsCut (w : List ℕ) (number : ℕ) (k : State) (c : Cut) : Type 0 wh
 -- the header is none: rule 27, else rule 26, at the packet's first byte
 abbrev pub BreaksHeader : List ℕ → ℕ → State → StreamFault → Type 0
 BreaksHeader h at k f =
-    (BreaksPlanes h k × (f ≡ fault.Rule 27 at))
-    ⊎ ((BreaksPlanes h k → ⊥) × ((parts : List Part) (used : ℕ) (after : State) → IsPacket h k parts used after → ⊥) × (f ≡ fault.Rule 26 at))
+    (BreaksPlanes h k × (f ≡ fault.Rule PLANES at))
+    ⊎ ((BreaksPlanes h k → ⊥) × ((parts : List Part) (used : ℕ) (after : State) → IsPacket h k parts used after → ⊥) × (f ≡ fault.Rule PACKET_HEADER at))
 
 -- the coded bytes of a packet that has a header
 pub record BreaksBody (w : List ℕ) (at : ℕ) (k : State) (f : StreamFault) : Type 0 where
@@ -91,9 +92,9 @@ pub record IsLeftOver (left : Left) (f : StreamFault) : Type 0 where
   pub body : Body
   pub later : List Body
   pub due_is : due left.bodies ≡ body ∷ later
-  pub fault_is : f ≡ fault.Rule 31 body.at
+  pub fault_is : f ≡ fault.Rule LEFT_OVER body.at
 
 -- what is violated where these packets are still to come, in a tile whose data end at a place
 abbrev pub Stops : List ℕ → Geometry → ℕ → ℕ → Left → List PacketName → StreamFault → Type 0
 Stops b g end number left [] f = IsLeftOver left f
-Stops b g end number left (p ∷ rest) f = ((due left.bodies ≡ []) × (f ≡ fault.Rule 26 end)) ⊎ BreaksDue b g number left p f
+Stops b g end number left (p ∷ rest) f = ((due left.bodies ≡ []) × (f ≡ fault.Rule PACKET_HEADER end)) ⊎ BreaksDue b g number left p f

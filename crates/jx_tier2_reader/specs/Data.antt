@@ -8,6 +8,7 @@ use Rattle.jx_codestream.specs.declared.faults.StreamFault.{StreamFault}
 use Rattle.jx_codestream.specs.declared.faults.StreamFault.TheVariants as fault
 use Rattle.jx_codestream.specs.Faults.{broken}
 use Rattle.jx_marker.specs.Codes.{SOP, EPH}
+use Rattle.jx_marker.specs.RuleNumbers.{BLOCK_BYTES, PACKET_HEADER, PACKET_LENGTH, SOP_SEGMENT}
 
 -- the bytes of data that are left of a tile-part
 abbrev pub window : List ℕ → Body → List ℕ
@@ -42,8 +43,8 @@ has_sop w = begins_with w SOP
 
 -- rule 26 for a SOP that is cut short, then rule 29: its length isn't 4, or its number isn't the packet's modulo 65,536
 unfoldable pub sop_fault : List ℕ → ℕ → ℕ → Option StreamFault
-sop_fault w at number = option_or (broken 26 at (has_sop w && nat_lt (length w) 6))
-    (broken 29 at (has_sop w && (not (number_at w 2 == 4) || not (number_at w 4 == number % 65536))))
+sop_fault w at number = option_or (broken PACKET_HEADER at (has_sop w && nat_lt (length w) 6))
+    (broken SOP_SEGMENT at (has_sop w && (not (number_at w 2 == 4) || not (number_at w 4 == number % 65536))))
 
 abbrev pub sop_length : List ℕ → ℕ
 sop_length w = if has_sop w then 6 else 0
@@ -78,7 +79,7 @@ first_mark bytes = find (is_marked bytes) (range_with_len 0 (length bytes))
 
 abbrev pub rule_30 : ℕ → Option ℕ → Option StreamFault
 rule_30 at None = None
-rule_30 at (Some i) = Some (fault.Rule 30 (at + i))
+rule_30 at (Some i) = Some (fault.Rule BLOCK_BYTES (at + i))
 
 -- rule 30, in pieces one after another from a place on
 abbrev pub marks_fault : ℕ → List ℕ → List Part → Option StreamFault
@@ -88,5 +89,5 @@ marks_fault at bytes (p ∷ parts) = option_or (rule_30 at (first_mark (take p.l
 -- rule 28: the lengths pass the tile-part's end; then rule 30
 unfoldable pub body_fault : List ℕ → ℕ → ℕ → List Part → Option StreamFault
 body_fault w at used parts =
-    option_or (broken 28 at (nat_lt (length w) (front_length w used + parts_length parts)))
+    option_or (broken PACKET_LENGTH at (nat_lt (length w) (front_length w used + parts_length parts)))
     (marks_fault (at + front_length w used) (drop (front_length w used) w) parts)

@@ -7,6 +7,7 @@ ghost use Rattle.jx_tier2_reader.specs.Data.{begins_with, number_at, sop_fault, 
 use crate::StreamFault;
 use jx_codestream::violated;
 use jx_marker::codes::{EPH, SOP};
+use jx_marker::rule_numbers;
 use jx_packet_header::Part;
 
 /// Whether the marker of this second byte, which isn't 0, stands in front.
@@ -37,10 +38,10 @@ pub(crate) fn read_sop(bytes: &[u8], at: usize, number: usize) -> Result<usize, 
         return Ok(0);
     }
     if bytes.len() < 6 {
-        return Err(violated(26, at));
+        return Err(violated(rule_numbers::PACKET_HEADER, at));
     }
     if number_at(bytes, 2) != 4 || number_at(bytes, 4) != number % 65536 {
-        return Err(violated(29, at));
+        return Err(violated(rule_numbers::SOP_SEGMENT, at));
     }
     Ok(6)
 }
@@ -136,7 +137,7 @@ fn check_marks(bytes: &[u8], at: usize, parts: &[Part]) -> Result<(), StreamFaul
     for part in parts {
         let (piece, behind) = rest.split_at(part.length as usize);
         if let Some(i) = first_mark(piece) {
-            return Err(violated(30, place + i));
+            return Err(violated(rule_numbers::BLOCK_BYTES, place + i));
         }
         rest = behind;
         place += piece.len();
@@ -164,7 +165,7 @@ pub(crate) fn check_body(
     let front = front_length(bytes, sop, used);
     let coded = bytes.split_at(front).1;
     let Some(length) = parts_length(parts, coded.len()) else {
-        return Err(violated(28, at));
+        return Err(violated(rule_numbers::PACKET_LENGTH, at));
     };
     match check_marks(coded, at + front, parts) {
         Ok(()) => Ok((front, length)),

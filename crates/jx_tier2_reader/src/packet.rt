@@ -9,8 +9,9 @@ ghost use Rattle.jx_tier2_reader.specs.Reading.{cut_of};
 
 use crate::StreamFault;
 use crate::data::{check_body, read_sop};
-use jx_codestream::violated;
 use jx_packet_header::{HeadFault, Part, Precinct};
+use jx_codestream::violated;
+use jx_marker::rule_numbers;
 use jx_progression::PacketName;
 
 /// What stands in one packet.
@@ -43,8 +44,8 @@ fn read_head(
 {
     match precinct.read_header(layer, bytes) {
         Ok(read) => Ok(read),
-        Err(HeadFault::Bits) => Err(violated(26, at)),
-        Err(HeadFault::Planes) => Err(violated(27, at)),
+        Err(HeadFault::Bits) => Err(violated(rule_numbers::PACKET_HEADER, at)),
+        Err(HeadFault::Planes) => Err(violated(rule_numbers::PLANES, at)),
         Err(HeadFault::NoMemory) => Err(StreamFault::NoMemory),
     }
 }

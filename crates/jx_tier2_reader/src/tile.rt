@@ -18,6 +18,7 @@ use crate::rest::Rest;
 use jx_base::Block;
 use jx_codestream::{Body, Stream, TileView, violated};
 use jx_geom::TileGeom;
+use jx_marker::rule_numbers;
 use jx_progression::PacketName;
 use std::alloc::Global;
 
@@ -77,7 +78,7 @@ impl<'t, 'a> Source<'t, 'a> {
     {
         let name = self.list[number];
         let Some(body) = rest.due() else {
-            return Err(violated(26, self.end));
+            return Err(violated(rule_numbers::PACKET_HEADER, self.end));
         };
         let precinct = self
             .geom
@@ -110,7 +111,7 @@ impl<'t, 'a> Source<'t, 'a> {
             }
         }
         match rest.due() {
-            Some(body) => Err(violated(31, body.at as usize)),
+            Some(body) => Err(violated(rule_numbers::LEFT_OVER, body.at as usize)),
             None => Ok(()),
         }
     }

@@ -30,7 +30,7 @@ use Rattle.jx_tier2_writer.specs.Packed.{own_body, own_length, own_packet, own_p
 use Rattle.jx_tier2_writer.specs.Sent.{layer_bytes}
 use Rattle.jx_tier2_writer.specs.TileParts.{AreTilePartsOf, packet_length, packet_of, packets_of, part_header, parts_with, tile_part, tile_parts}
 use Rattle.jx_tier2_writer.specs.Tile.{AreAtMost}
-use Rattle.jx_options.specs.declared.Marks.{Marks as Asked}
+use Rattle.jx_options.specs.declared.Marks.{Marks}
 use Rattle.jx_plan.specs.Groups.{groups_of}
 use Rattle.jx_plan.proofs.GroupLemmas.{groups_all}
 
@@ -67,7 +67,7 @@ same_body s t blocks own p range are has =
     (λ j lt. ap (λ (o : Option Block). layer_bytes p.layer (pieces_of o)) (same_block s t blocks own p j range are has lt))
 
 -- ---- a packet
-same_packet : (m : Asked) (s : Stream) (t : ℕ) (blocks own : List Block) (p : PacketName) (n : ℕ) → GeometryInRange (geometry s t) → AreOwn s t blocks own → IsPacketName (geometry s t) (layers_of s t) p
+same_packet : (m : Marks) (s : Stream) (t : ℕ) (blocks own : List Block) (p : PacketName) (n : ℕ) → GeometryInRange (geometry s t) → AreOwn s t blocks own → IsPacketName (geometry s t) (layers_of s t) p
     → packet_bytes n (packet_of m s t blocks p) ≡ packet_bytes n (own_packet m s (geometry s t) own p)
 same_packet m s t blocks own p n range are is =
     let has : HasPrecinct (geometry s t) p.comp p.res p.precinct = record { resolution = is.resolution; precinct = is.precinct } in
@@ -75,7 +75,7 @@ same_packet m s t blocks own p n range are is =
     ap (λ (lvs : List Leafed). packet_with m n (header lvs) (joined (bytes_of s t blocks p) 0 (leaves (geometry s t) p.comp p.res p.precinct))) (same_leaves s t blocks own p.comp p.res p.precinct range are has)
     ∙ ap (λ (b : List ℕ). packet_with m n (header (own_leaves (geometry s t) own p.comp p.res p.precinct)) b) (same_body s t blocks own p range are has)
 
-same_bytes : (m : Asked) (s : Stream) (t : ℕ) (blocks own : List Block) (n : ℕ) (names : List PacketName) → GeometryInRange (geometry s t) → AreOwn s t blocks own
+same_bytes : (m : Marks) (s : Stream) (t : ℕ) (blocks own : List Block) (n : ℕ) (names : List PacketName) → GeometryInRange (geometry s t) → AreOwn s t blocks own
     → AllByRecursion (IsPacketName (geometry s t) (layers_of s t)) names → bytes_from (packets_of m s t blocks) n names ≡ bytes_from (own_packets m s (geometry s t) own) n names
 unfolding packets_of
 same_bytes m s t blocks own n [] range are each = refl
@@ -83,7 +83,7 @@ same_bytes m s t blocks own n (p ∷ names) range are each =
     ap (λ (b : List ℕ). b ++ bytes_from (packets_of m s t blocks) (n + 1) names) (same_packet m s t blocks own p n range are each.0)
     ∙ ap (λ (b : List ℕ). packet_bytes n (own_packet m s (geometry s t) own p) ++ b) (same_bytes m s t blocks own (n + 1) names range are each.1)
 
-same_lengths : (m : Asked) (s : Stream) (t : ℕ) (blocks own : List Block) (names : List PacketName) → GeometryInRange (geometry s t) → AreOwn s t blocks own
+same_lengths : (m : Marks) (s : Stream) (t : ℕ) (blocks own : List Block) (names : List PacketName) → GeometryInRange (geometry s t) → AreOwn s t blocks own
     → AllByRecursion (IsPacketName (geometry s t) (layers_of s t)) names → map (packet_length (packets_of m s t blocks)) names ≡ map (own_length m s (geometry s t) own) names
 unfolding packets_of
 same_lengths m s t blocks own [] range are each = refl
@@ -92,7 +92,7 @@ same_lengths m s t blocks own (p ∷ names) range are each =
     ∙ ap (λ (ns : List ℕ). own_length m s (geometry s t) own p ∷ ns) (same_lengths m s t blocks own names range are each.1)
 
 -- ---- the tile-parts
-same_parts : (m : Asked) (s : Stream) (t : ℕ) (blocks own : List Block) (part parts number : ℕ) (groups : List (List PacketName)) → GeometryInRange (geometry s t) → AreOwn s t blocks own
+same_parts : (m : Marks) (s : Stream) (t : ℕ) (blocks own : List Block) (part parts number : ℕ) (groups : List (List PacketName)) → GeometryInRange (geometry s t) → AreOwn s t blocks own
     → AllByRecursion (λ (names : List PacketName). All (IsPacketName (geometry s t) (layers_of s t)) names) groups
     → parts_with m (length s.siz.comps) t (header_of s t) (packets_of m s t blocks) part parts number groups ≡ parts_from m s (geometry s t) own part parts number groups
 same_parts m s t blocks own part parts number [] range are each = refl
@@ -105,12 +105,12 @@ same_parts m s t blocks own part parts number (names ∷ groups) range are each 
     ∙ ap (λ (b : List ℕ). tile_part (length s.siz.comps) t part parts (part_header m (header_of s t) part own_lengths) b ∷ later) (same_bytes m s t blocks own number names range are rec)
     ∙ ap (λ (ps : List TilePart). own_part m s (geometry s t) own part parts number names ∷ ps) (same_parts m s t blocks own (part + 1) parts (number + length names) groups range are each.1)
 
-same_tile : (m : Asked) (s : Stream) (t : ℕ) (blocks own : List Block) (names : List PacketName) → GeometryInRange (geometry s t) → AreOwn s t blocks own
+same_tile : (m : Marks) (s : Stream) (t : ℕ) (blocks own : List Block) (names : List PacketName) → GeometryInRange (geometry s t) → AreOwn s t blocks own
     → All (IsPacketName (geometry s t) (layers_of s t)) names → tile_parts m s blocks t (groups_of m.parts names) ≡ own_parts m s (geometry s t) own names
 same_tile m s t blocks own names range are each =
     same_parts m s t blocks own 0 (length (groups_of m.parts names)) 0 (groups_of m.parts names) range are (groups_all (IsPacketName (geometry s t) (layers_of s t)) m.parts names each)
 
-tile_parts_are : (m : Asked) (s : Stream) (g : Geometry) (blocks own : List Block) (names : List PacketName) → g ≡ geometry s g.tile → GeometryInRange g → AreOwn s g.tile blocks own
+tile_parts_are : (m : Marks) (s : Stream) (g : Geometry) (blocks own : List Block) (names : List PacketName) → g ≡ geometry s g.tile → GeometryInRange g → AreOwn s g.tile blocks own
     → All (IsPacketName g (layers_of s g.tile)) names → IsListOf s g.tile names → AreTilePartsOf m s blocks g.tile (own_parts m s g own names)
 tile_parts_are m s g blocks own names e range are each listed =
     let P : Geometry → Type 0 = λ x. GeometryInRange x in
@@ -121,13 +121,13 @@ tile_parts_are m s g blocks own names e range are each listed =
       are = ap (λ (x : Geometry). own_parts m s x own names) e ∙ sym (same_tile m s g.tile blocks own names (subst P e range) are (subst Q e each));
     }
 
-pub tile_bytes : (m : Asked) (s : Stream) (g : Geometry) (blocks own : List Block) (names : List PacketName) (most : ℕ) (bytes : List (List ℕ)) → g ≡ geometry s g.tile → GeometryInRange g
+pub tile_bytes : (m : Marks) (s : Stream) (g : Geometry) (blocks own : List Block) (names : List PacketName) (most : ℕ) (bytes : List (List ℕ)) → g ≡ geometry s g.tile → GeometryInRange g
     → AreOwn s g.tile blocks own → All (IsPacketName g (layers_of s g.tile)) names → IsListOf s g.tile names → bytes ≡ map (part_bytes (length s.siz.comps)) (own_parts m s g own names)
     → AreAtMost most (own_parts m s g own names) → (is : AreTileBytes m s blocks g.tile bytes) × AreAtMost most is.parts
 tile_bytes m s g blocks own names most bytes e range are each listed is few =
     (record { parts = own_parts m s g own names; are = tile_parts_are m s g blocks own names e range are each listed; bytes_are = is }, few)
 
-pub too_long : (m : Asked) (s : Stream) (g : Geometry) (blocks own : List Block) (names : List PacketName) (most : ℕ) → g ≡ geometry s g.tile → GeometryInRange g → AreOwn s g.tile blocks own
+pub too_long : (m : Marks) (s : Stream) (g : Geometry) (blocks own : List Block) (names : List PacketName) (most : ℕ) → g ≡ geometry s g.tile → GeometryInRange g → AreOwn s g.tile blocks own
     → All (IsPacketName g (layers_of s g.tile)) names → IsListOf s g.tile names → (AreAtMost most (own_parts m s g own names) → ⊥) → HasMoreBytes m s blocks g.tile most
 too_long m s g blocks own names most e range are each listed long =
     record { parts = own_parts m s g own names; are = tile_parts_are m s g blocks own names e range are each listed; long = long }

@@ -6,7 +6,7 @@ use Rattle.jx_geom.specs.Geometry.{Geometry}
 use Rattle.jx_progression.specs.declared.names.PacketName.{PacketName}
 use Rattle.jx_codestream.specs.declared.Stream.{Stream}
 use Rattle.jx_codestream.specs.Spells.{TilePart, part_bytes}
-use Rattle.jx_options.specs.declared.Marks.{Marks as Asked}
+use Rattle.jx_options.specs.declared.Marks.{Marks}
 use Rattle.jx_plan.specs.Groups.{groups_of, more_groups}
 use Rattle.jx_plan.proofs.GroupLemmas.{more_cut, none_left, part_length}
 use Rattle.jx_tier2_writer.specs.Packed.{own_part, own_parts, parts_from}
@@ -16,13 +16,13 @@ abbrev IsAtMost : ℕ → TilePart → Type 0
 IsAtMost most p = p.sot.psot ≤ most
 
 -- the bytes of the tile-parts before a packet, and what is known of those from it on
-pub record IsCut (m : Asked) (s : Stream) (g : Geometry) (own : List Block) (names : List PacketName) (most count part from : ℕ) (done : List (List ℕ)) : Type 0 where
+pub record IsCut (m : Marks) (s : Stream) (g : Geometry) (own : List Block) (names : List PacketName) (most count part from : ℕ) (done : List (List ℕ)) : Type 0 where
   pub bytes : done ++ map (part_bytes (length s.siz.comps)) (parts_from m s g own part count from (more_groups m.parts (drop from names)))
       ≡ map (part_bytes (length s.siz.comps)) (own_parts m s g own names)
   pub short : AreAtMost most (parts_from m s g own part count from (more_groups m.parts (drop from names))) → AreAtMost most (own_parts m s g own names)
   pub long : AreAtMost most (own_parts m s g own names) → AreAtMost most (parts_from m s g own part count from (more_groups m.parts (drop from names)))
 
-module _ (m : Asked) (s : Stream) (g : Geometry) (own : List Block) (names : List PacketName) (most count : ℕ) where
+module _ (m : Marks) (s : Stream) (g : Geometry) (own : List Block) (names : List PacketName) (most count : ℕ) where
   abbrev bytes_of : TilePart → List ℕ
   bytes_of = part_bytes (length s.siz.comps)
 
@@ -80,7 +80,7 @@ module _ (m : Asked) (s : Stream) (g : Geometry) (own : List Block) (names : Lis
       omega arith
 
 -- ---- a tile without packets
-module _ (m : Asked) (s : Stream) (g : Geometry) (own : List Block) (names : List PacketName) (none : names ≡ []) where
+module _ (m : Marks) (s : Stream) (g : Geometry) (own : List Block) (names : List PacketName) (none : names ≡ []) where
   abbrev empty : TilePart
   empty = own_part m s g own 0 1 0 names
 

@@ -21,7 +21,7 @@ use Rattle.jx_codestream.specs.Read.{IsRead}
 use Rattle.jx_codestream.specs.Shapes.{geometry, shapes_of, tile_at}
 use Rattle.jx_codestream.specs.Spells.{AreSegments}
 use Rattle.jx_codestream.specs.Tiles.{entry_in, in_slot, or_list}
-use Rattle.jx_codestream.specs.Tiles.{joined as entries_joined}
+use Rattle.jx_codestream.specs.Tiles.{entries_joined}
 use Rattle.jx_tier2_reader.specs.BlockOf.{AreBlocksOf}
 use Rattle.jx_tier2_reader.specs.Gathered.{IsGathered}
 use Rattle.jx_tile.specs.Totals.{packet_total, totals_fault}
@@ -37,13 +37,13 @@ use Rattle.jx_layers.specs.Rule.{Rule}
 use Rattle.jx_options.specs.declared.Marks.{Marks}
 use Rattle.jx_plan.specs.Asides.{is_plt}
 use Rattle.jx_plan.specs.Fits.{Fits, first_zero}
-use Rattle.jx_plan.specs.Headers.{Asked, MayBeAsked, cod_written, comp_written, params_written, stream_written}
+use Rattle.jx_plan.specs.Headers.{HeaderOptions, MayBeInHeaders, cod_written, comp_written, params_written, stream_written, with_layers}
 use Rattle.jx_plan.specs.Causes.{IsFree}
 use Rattle.jx_plan.specs.Meaning.{Component, Meaning, Place, component_of, meaning_of, sample_at}
-use Rattle.jx_plan.specs.Plan.{asked_of, headers_with}
+use Rattle.jx_plan.specs.Plan.{headers_with}
 use Rattle.jx_plan.specs.Planned.{IsCrowded, IsFreeBy, MakesLayers, blocks_written, layers_of_rule}
 use Rattle.jx_plan.specs.Standing.{HeadersStand}
-use Rattle.jx_options.specs.Wanted.{MayBeWanted, Wanted, marks_of}
+use Rattle.jx_options.specs.Wanted.{MayBeWanted, Wanted}
 use Rattle.jx_tier2_writer.specs.Kept.{IsKeptIn}
 use Rattle.jx_tier2_writer.specs.Ready.{AllShort, AreReady, IsTileReady, stream_read}
 use Rattle.jx_tier2_writer.specs.SameHeaders.{HasHeadersOf}
@@ -54,28 +54,28 @@ use Rattle.jx_plan.proofs.PlanLemmas.{style_few}
 
 -- the laws of written headers: they stand, are plain, and have their stream's tiles
 pub record HeaderLaws : Type 0 where
-  pub stand : (a : Asked) (s : Stream) → MayBeAsked a → first_zero a.precincts s ≡ None → HeadersStand s → HeadersStand (stream_written a s)
-  pub tiles : (a : Asked) (s : Stream) → tile_number (stream_written a s).siz ≡ tile_number s.siz
-  pub main : (a : Asked) (s : Stream) → HeadersStand s → entries_joined (stream_written a s).main ≡ []
-  pub header : (a : Asked) (s : Stream) (t : ℕ) → HeadersStand s → MayBeAsked a → first_zero a.precincts s ≡ None → t < length s.tiles
+  pub stand : (a : HeaderOptions) (s : Stream) → MayBeInHeaders a → first_zero a.wanted.precincts s ≡ None → HeadersStand s → HeadersStand (stream_written a s)
+  pub tiles : (a : HeaderOptions) (s : Stream) → tile_number (stream_written a s).siz ≡ tile_number s.siz
+  pub main : (a : HeaderOptions) (s : Stream) → HeadersStand s → entries_joined (stream_written a s).main ≡ []
+  pub header : (a : HeaderOptions) (s : Stream) (t : ℕ) → HeadersStand s → MayBeInHeaders a → first_zero a.wanted.precincts s ≡ None → t < length s.tiles
       → AreSegments First (length s.siz.comps) [] (header_of (stream_written a s) t)
-  pub entries : (a : Asked) (s : Stream) (t : ℕ) → HeadersStand s → t < length s.tiles → entries_joined (header_of (stream_written a s) t) ≡ []
-  pub lengths : (a : Asked) (s : Stream) (t : ℕ) → HeadersStand s → t < length s.tiles → list_any is_plt (header_of (stream_written a s) t) ≡ false
-  pub order : (a : Asked) (s : Stream) (t : ℕ) → HeadersStand s → t < length s.tiles → (tile_at (stream_written a s) t).progressions
+  pub entries : (a : HeaderOptions) (s : Stream) (t : ℕ) → HeadersStand s → t < length s.tiles → entries_joined (header_of (stream_written a s) t) ≡ []
+  pub lengths : (a : HeaderOptions) (s : Stream) (t : ℕ) → HeadersStand s → t < length s.tiles → list_any is_plt (header_of (stream_written a s) t) ≡ false
+  pub order : (a : HeaderOptions) (s : Stream) (t : ℕ) → HeadersStand s → t < length s.tiles → (tile_at (stream_written a s) t).progressions
       ≡ or_list (entry_in (in_slot 1 (header_of (stream_written a s) t))) (entry_in (in_slot 1 (stream_written a s).main))
-  pub cods : (a : Asked) (s : Stream) (t : ℕ) → HeadersStand s
+  pub cods : (a : HeaderOptions) (s : Stream) (t : ℕ) → HeadersStand s
       → cod_or (cod_of (header_of (stream_written a s) t) (stream_written a s).main) ≡ cod_written a (cod_or (cod_of (header_of s t) s.main))
-  pub limits : (a : Asked) (s : Stream) → Fits a.precincts s → HeadersStand s → totals_fault s ≡ None → packet_total (stream_written a s) ≤ 2 ^ 22
+  pub limits : (a : HeaderOptions) (s : Stream) → Fits a.wanted.precincts s → HeadersStand s → totals_fault s ≡ None → packet_total (stream_written a s) ≤ 2 ^ 22
       → totals_fault (stream_written a s) ≡ None
 
 -- and of what they keep
 pub record KeepLaws : Type 0 where
   pub read : (b : List ℕ) (s : Stream) → IsRead b s → HeadersStand s
-  pub params : (a : Asked) (s : Stream) (t c : ℕ) → HeadersStand s → params_of (stream_written a s) t c ≡ params_written a (params_of s t c)
-  pub steps : (a : Asked) (s : Stream) (t c r : ℕ) (band : Band) → HeadersStand s → step_of (stream_written a s) t c r band ≡ step_of s t c r band
-  pub planes : (a : Asked) (s : Stream) (t c r : ℕ) (band : Band) → HeadersStand s → planes_at (stream_written a s) t c r band ≡ planes_at s t c r band
-  pub places : (a : Asked) (s : Stream) (t : ℕ) → HeadersStand s
-      → geometry (stream_written a s) t ≡ record (geometry s t) { shapes = map (comp_written a.precincts) (shapes_of s t) }
+  pub params : (a : HeaderOptions) (s : Stream) (t c : ℕ) → HeadersStand s → params_of (stream_written a s) t c ≡ params_written a (params_of s t c)
+  pub steps : (a : HeaderOptions) (s : Stream) (t c r : ℕ) (band : Band) → HeadersStand s → step_of (stream_written a s) t c r band ≡ step_of s t c r band
+  pub planes : (a : HeaderOptions) (s : Stream) (t c r : ℕ) (band : Band) → HeadersStand s → planes_at (stream_written a s) t c r band ≡ planes_at s t c r band
+  pub places : (a : HeaderOptions) (s : Stream) (t : ℕ) → HeadersStand s
+      → geometry (stream_written a s) t ≡ record (geometry s t) { shapes = map (comp_written a.wanted.precincts) (shapes_of s t) }
   pub blocks : (w : Wanted) (r : Rule) (s : Stream) (blocks : List Block) → 1 ≤ layers_of_rule r s blocks → Fits w.precincts s → HeadersStand s
       → AreBlocksOf s blocks → All IsSound blocks → first_broken w.style blocks ≡ None → All (λ (b : Block). is_wrong w.style b ≡ false) blocks → IsCrowded r s blocks None
       → AreBlocksOf (headers_with w (layers_of_rule r s blocks) s) (blocks_written w r s blocks)
@@ -91,7 +91,7 @@ pub record LayerLaws : Type 0 where
       → IsAsked b (style_for style b) (ends_of rule layers blocks number b)
   pub final : (asked : Option Style) (ends : List LayerEnd) (b : Block) (layer : ℕ) → IsAsked b (style_for asked b) ends → is_wrong asked b ≡ false → HasFirstLayers asked ends b layer
 
-siz_written : (a : Asked) (s : Stream) → (stream_written a s).siz ≡ record s.siz { rsiz = 0 }
+siz_written : (a : HeaderOptions) (s : Stream) → (stream_written a s).siz ≡ record s.siz { rsiz = 0 }
 unfolding stream_written
 siz_written a s = refl
 
@@ -115,19 +115,19 @@ same_meaning s other blocks headers =
 
 module _ (laws : HeaderLaws) (w : Wanted) (layers : ℕ) (s : Stream) (some : 1 ≤ layers) (few : layers < 2 ^ 16) (may : MayBeWanted w) (stand : HeadersStand s)
     (none : totals_fault s ≡ None) (free : IsFree s w layers) where
-  abbrev a : Asked
-  a = asked_of w layers
+  abbrev a : HeaderOptions
+  a = with_layers w layers
 
   abbrev m : Marks
-  m = marks_of w
+  m = w.marks
 
   abbrev it : Stream
   it = headers_with w layers s
 
-  may_be : MayBeAsked a
+  may_be : MayBeInHeaders a
   may_be = record { some = some; few = few; order = may.order; bytes = may.bytes; style = style_few w.style may.style }
 
-  above : first_zero a.precincts s ≡ None
+  above : first_zero a.wanted.precincts s ≡ None
   above = free.fits.above
 
   tiles_are : tile_number it.siz ≡ tile_number s.siz
@@ -167,18 +167,18 @@ all_at : (P : Block → Type 0) (blocks : List Block) (k : ℕ) (b : Block) → 
 all_at P blocks k b each is = subst P (get_or_from_slice_get blocks k b b is) (each k b (slice_get_within blocks k b is))
 
 module _ (laws : HeaderLaws) (keep : KeepLaws) (told : LayerLaws) (w : Wanted) (rule : Rule) (before : Stream) (blocks : List Block) (input out : List ℕ)
-    (is : IsOutput (marks_of w) (headers_with w (layers_of_rule rule before blocks) before) (blocks_written w rule before blocks) out) (read : IsRead input before)
+    (is : IsOutput w.marks (headers_with w (layers_of_rule rule before blocks) before) (blocks_written w rule before blocks) out) (read : IsRead input before)
     (small : length input ≤ 2 ^ 28) (none : totals_fault before ≡ None) (gathered : IsGathered input before blocks) (makes : MakesLayers (Some rule) before blocks)
     (may : MayBeWanted w) (free : IsFreeBy rule before blocks w) (right : All (λ (b : Block). is_wrong w.style b ≡ false) blocks)
     (short : AllShort is.parts (tile_number before.siz)) where
   abbrev layers : ℕ
   layers = layers_of_rule rule before blocks
 
-  abbrev b : Asked
-  b = asked_of w layers
+  abbrev b : HeaderOptions
+  b = with_layers w layers
 
   abbrev marks : Marks
-  marks = marks_of w
+  marks = w.marks
 
   abbrev written : Stream
   written = headers_with w layers before

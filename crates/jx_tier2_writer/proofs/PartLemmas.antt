@@ -11,14 +11,14 @@ use Rattle.jx_progression.specs.declared.names.PacketName.{PacketName}
 use Rattle.jx_codestream.specs.declared.Stream.{Stream}
 use Rattle.jx_codestream.specs.Spells.{TilePart, all_bytes, part_bytes}
 use Rattle.jx_tier2_reader.specs.Written.{bytes_from, packet_bytes}
-use Rattle.jx_options.specs.declared.Marks.{Marks as Asked}
+use Rattle.jx_options.specs.declared.Marks.{Marks}
 use Rattle.jx_tier2_writer.specs.Packed.{own_length, own_packet, own_packets, own_part, total}
 use Rattle.jx_tier2_writer.specs.TileParts.{part_header}
 use Rattle.jx_codestream.specs.Params.{header_of}
 use Rattle.jx_tier2_writer.proofs.PacketLemmas.{packet_long}
 
 -- its packets' lengths make up its data
-pub packets_long : (m : Asked) (s : Stream) (g : Geometry) (own : List Block) (number : ℕ) (names : List PacketName)
+pub packets_long : (m : Marks) (s : Stream) (g : Geometry) (own : List Block) (number : ℕ) (names : List PacketName)
     → length (bytes_from (own_packets m s g own) number names) ≡ total (map (own_length m s g own) names)
 packets_long m s g own number [] = refl
 packets_long m s g own number (p ∷ names) =
@@ -45,7 +45,7 @@ part_is comps sot header body bytes is =
 abbrev sot_of : ℕ → ℕ → ℕ → ℕ → Sot
 sot_of tile size part parts = record { tile = tile; psot = size; part = part; parts = parts }
 
-module _ (m : Asked) (s : Stream) (g : Geometry) (own : List Block) (part parts number : ℕ) (names : List PacketName) where
+module _ (m : Marks) (s : Stream) (g : Geometry) (own : List Block) (part parts number : ℕ) (names : List PacketName) where
   abbrev comps : ℕ
   comps = length s.siz.comps
 

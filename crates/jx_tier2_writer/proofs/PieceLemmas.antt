@@ -10,7 +10,7 @@ use Rattle.jx_codestream.specs.declared.Stream.{Stream}
 use Rattle.jx_codestream.specs.Params.{header_of}
 use Rattle.jx_codestream.specs.Spells.{TilePart, part_bytes}
 use Rattle.jx_tier2_reader.specs.Written.{Packets, bytes_from, packet_bytes}
-use Rattle.jx_options.specs.declared.Marks.{Marks as Asked}
+use Rattle.jx_options.specs.declared.Marks.{Marks}
 use Rattle.jx_plan.proofs.GroupLemmas.{part_length}
 use Rattle.jx_tier2_writer.specs.Packed.{own_length, own_packets, own_part, own_parts}
 use Rattle.jx_tier2_writer.specs.Pieces.{IsPartOut, packet_pieces, part_pieces, pieces_with, tile_pieces}
@@ -63,7 +63,7 @@ module _ (ps : Packets) (names : List PacketName) (p : PartOut) (is : IsPartOut 
       ∙ ap (λ (n : ℕ). packet_bytes n (ps.written (slice_index_or names n d))) number_is
 
 -- ---- one that was put together
-module _ (m : Asked) (s : Stream) (g : Geometry) (own : List Block) (names : List PacketName) (part count from end : ℕ) (p : PartOut) where
+module _ (m : Marks) (s : Stream) (g : Geometry) (own : List Block) (names : List PacketName) (part count from end : ℕ) (p : PartOut) where
   abbrev packets : Packets
   packets = own_packets m s g own
 
@@ -98,7 +98,7 @@ pieces_push ps names parts more p e =
     ∙ map-append concat (pieces_with ps names parts) (part_pieces ps names p ∷ [])
 
 -- without packets it has one tile-part
-module _ (m : Asked) (s : Stream) (g : Geometry) (own : List Block) (names : List PacketName) (none : names ≡ []) (p : PartOut) (first : p.from ≡ 0) (last : p.end ≡ 0 + length names)
+module _ (m : Marks) (s : Stream) (g : Geometry) (own : List Block) (names : List PacketName) (none : names ≡ []) (p : PartOut) (first : p.from ≡ 0) (last : p.end ≡ 0 + length names)
     (bytes : p.front.items ++ bytes_from (own_packets m s g own) 0 names ≡ part_bytes (length s.siz.comps) (own_part m s g own 0 1 0 names)) where
   abbrev all_packets : Packets
   all_packets = own_packets m s g own

@@ -20,13 +20,13 @@ use Rattle.jx_codestream.specs.Shapes.{geometry, layers_of, shapes_of}
 use Rattle.jx_codestream.specs.Spells.{part_bytes}
 use Rattle.jx_tile.specs.Totals.{totals_fault}
 use Rattle.jx_codeblock.specs.Recoded.{WrittenBlock}
-use Rattle.jx_plan.specs.Headers.{Asked, comp_written, stream_written}
+use Rattle.jx_plan.specs.Headers.{HeaderOptions, comp_written, stream_written, with_layers}
 use Rattle.jx_plan.specs.Causes.{IsFree}
-use Rattle.jx_plan.specs.Plan.{IsPlan, Plan, asked_of, headers_of, headers_with}
+use Rattle.jx_plan.specs.Plan.{IsPlan, Plan, headers_of, headers_with}
 use Rattle.jx_plan.specs.Standing.{HeadersStand}
-use Rattle.jx_options.specs.Wanted.{MayBeWanted, Wanted, marks_of}
+use Rattle.jx_options.specs.Wanted.{MayBeWanted, Wanted}
 use Rattle.jx_tier2_writer.specs.Assembled.{AreOwn, AreTileBytes}
-use Rattle.jx_tier2_writer.specs.Assembled.{IsTooLong as HasMoreBytes}
+use Rattle.jx_tier2_writer.specs.Assembled.{HasMoreBytes}
 use Rattle.jx_tier2_writer.specs.Own.{AreOwnBlocks}
 use Rattle.jx_tier2_writer.specs.Ready.{AreReady}
 use Rattle.jx_tier2_writer.specs.Tile.{AreAtMost, AreValuesOf, IsTile, IsTooLong, StandIn, block_written, blocks_in, first_block}
@@ -39,20 +39,20 @@ use Rattle.jx_geom.proofs.SameLemmas.{same_tile}
 abbrev pub WrittenReady : Type 0
 WrittenReady =
     (w : Wanted) (layers : ℕ) (s : Stream) → 1 ≤ layers → layers < 2 ^ 16 → MayBeWanted w → HeadersStand s → StreamInRange s → totals_fault s ≡ None → IsFree s w layers
-    → AreReady (marks_of w) (headers_with w layers s)
+    → AreReady w.marks (headers_with w layers s)
 
-pub plan_ready : (p : Plan) → IsPlan p → WrittenReady → AreReady (marks_of p.wanted) (headers_of p)
+pub plan_ready : (p : Plan) → IsPlan p → WrittenReady → AreReady p.wanted.marks (headers_of p)
 plan_ready p is written =
     written p.wanted p.layers p.stream is.some is.few is.wanted is.may.headers is.may.range is.may.totals (record { fits = is.fits; few = is.packets; parts = is.parts })
 
 -- ---- a tile's blocks, by the laws on parameters that stay
 pub record ParametersStay : Type 0 where
-  pub shapes : (a : Asked) (s : Stream) (t : ℕ) → HeadersStand s → shapes_of (stream_written a s) t ≡ map (comp_written a.precincts) (shapes_of s t)
-  pub layers : (a : Asked) (s : Stream) (t : ℕ) → HeadersStand s → layers_of (stream_written a s) t ≡ a.layers
+  pub shapes : (a : HeaderOptions) (s : Stream) (t : ℕ) → HeadersStand s → shapes_of (stream_written a s) t ≡ map (comp_written a.wanted.precincts) (shapes_of s t)
+  pub layers : (a : HeaderOptions) (s : Stream) (t : ℕ) → HeadersStand s → layers_of (stream_written a s) t ≡ a.layers
 
 module _ (p : Plan) (is : IsPlan p) (stay : ParametersStay) where
-  abbrev a : Asked
-  a = asked_of p.wanted p.layers
+  abbrev a : HeaderOptions
+  a = with_layers p.wanted p.layers
 
   pub plan_inside : (t : ℕ) → t < tile_number p.stream.siz → t < tile_number (headers_of p).siz
   plan_inside t inside = let same : tile_number (headers_of p).siz ≡ tile_number p.stream.siz = written_tiles a p.stream in omega arith
@@ -105,14 +105,14 @@ module _ (p : Plan) (is : IsPlan p) (stay : ParametersStay) where
           e ∙ each (get_or (v ∷ vs) i v) got ∙ sym (slice_get-map block_written (v ∷ vs) i ∙ ap (option_map block_written) got)
 
 -- ---- its tile-parts
-pub is_tile : (p : Plan) (blocks : List Block) (t most : ℕ) (bytes : List (List ℕ)) → (is : AreTileBytes (marks_of p.wanted) (headers_of p) blocks t bytes) × AreAtMost most is.parts
+pub is_tile : (p : Plan) (blocks : List Block) (t most : ℕ) (bytes : List (List ℕ)) → (is : AreTileBytes p.wanted.marks (headers_of p) blocks t bytes) × AreAtMost most is.parts
     → IsTile p blocks t most bytes
 is_tile p blocks t most bytes (is, few) = record {
   parts = is.parts;
   are = is.are;
   short = few;
-  bytes_are = is.bytes_are ∙ ap (λ (n : ℕ). map (part_bytes n) is.parts) (written_comps (asked_of p.wanted p.layers) p.stream);
+  bytes_are = is.bytes_are ∙ ap (λ (n : ℕ). map (part_bytes n) is.parts) (written_comps (with_layers p.wanted p.layers) p.stream);
 }
 
-pub is_too_long : (p : Plan) (blocks : List Block) (t most : ℕ) → HasMoreBytes (marks_of p.wanted) (headers_of p) blocks t most → IsTooLong p blocks t most
+pub is_too_long : (p : Plan) (blocks : List Block) (t most : ℕ) → HasMoreBytes p.wanted.marks (headers_of p) blocks t most → IsTooLong p blocks t most
 is_too_long p blocks t most is = record { parts = is.parts; are = is.are; long = is.long }

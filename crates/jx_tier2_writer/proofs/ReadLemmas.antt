@@ -23,7 +23,7 @@ use Rattle.jx_codestream.specs.Read.{IsRead}
 use Rattle.jx_codestream.specs.Shapes.{no_tile, tile_at}
 use Rattle.jx_codestream.specs.Spells.{TilePart, all_bytes, file_bytes, first_sot, part_bytes, placed}
 use Rattle.jx_codestream.specs.Tiles.{entry_in, first_header, headers_of, in_slot, is_com, or_list, progressions_of, tile_from, tile_of}
-use Rattle.jx_codestream.specs.Tiles.{joined as entries_joined}
+use Rattle.jx_codestream.specs.Tiles.{entries_joined}
 use Rattle.jx_codestream.proofs.OneLemmas.{drop_on}
 use Rattle.jx_codestream.proofs.ShapeLemmas.{siz_is}
 use Rattle.jx_tile.specs.Covered.{IsListOf}

@@ -4,6 +4,7 @@ use Rattle.std.specs.List.{All}
 use Rattle.std.specs.Option.{option_or}
 use Rattle.std.proofs.lemmas.Option.{slice_get-get_or}
 use Rattle.std.proofs.lemmas.List.Elements.{All-cons, All-nil}
+use Rattle.jx_base.specs.OrderNumbers.{IsOrderNumber}
 use Rattle.jx_base.specs.declared.names.Band.{Band}
 use Rattle.jx_base.proofs.Lists.{All-flat}
 use Rattle.jx_marker.specs.declared.Cod.{Cod}
@@ -96,15 +97,15 @@ module _ (m : Marks) (s : Stream) (ready : AreReady m s) where
       (quantized_at t c inside).is (shaped_at t c inside).is (number_inside (shape_or (shape_at s t c)).levels r band level has) (bands_fit t c inside within)
 
   -- the one entry names one of the five orders
-  orders_fit : (t : ℕ) → t < tile_number s.siz → All (λ (e : Progression). e.order ≤ 4) (tile_at s t).progressions
+  orders_fit : (t : ℕ) → t < tile_number s.siz → All (λ (e : Progression). IsOrderNumber e.order) (tile_at s t).progressions
   orders_fit t inside =
       let found = has_cod (header_of s t) s.main both_there.0 in
       let coded = coded_at t inside in
       let both : Some found.cod ≡ Some coded.cod = sym found.is ∙ coded.is in
       let same : found.cod ≡ coded.cod = cc in
-      let low : found.cod.order ≤ 4 = omega (arith, ap (λ (x : Cod). x.order) same, coded.fits.order) in
-      subst (λ (z : List Progression). All (λ (e : Progression). e.order ≤ 4) z) (sym ((ready.tiles t inside).progressions ∙ found.entries))
-      (All-cons (λ (e : Progression). e.order ≤ 4) (entry_of found.cod) [] low (All-nil (λ (e : Progression). e.order ≤ 4)))
+      let low : IsOrderNumber found.cod.order = omega (arith, ap (λ (x : Cod). x.order) same, coded.fits.order) in
+      subst (λ (z : List Progression). All (λ (e : Progression). IsOrderNumber e.order) z) (sym ((ready.tiles t inside).progressions ∙ found.entries))
+      (All-cons (λ (e : Progression). IsOrderNumber e.order) (entry_of found.cod) [] low (All-nil (λ (e : Progression). IsOrderNumber e.order)))
 
   pub ready_in_range : StreamInRange s
   ready_in_range = record {

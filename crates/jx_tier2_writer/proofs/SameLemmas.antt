@@ -13,7 +13,16 @@ use Rattle.jx_geom.specs.Counts.{tile_precincts}
 use Rattle.jx_geom.specs.Rects.{block_rect, tile_rect}
 use Rattle.jx_geom.specs.Geometry.{Geometry, rect_of_tile, shape_of}
 use Rattle.jx_geom.specs.Numbering.{IsBlock, block_number, blocks_below, blocks_of_all}
-use Rattle.jx_geom.specs.Precincts.{leaf_number, leaves}
+use Rattle.jx_geom.specs.Precincts.{leaf_number, leaves, cells_at}
+use Rattle.jx_tier2_reader.specs.Planned.{leaf_from, leaf_in, leaves_of_blocks}
+use Rattle.jx_tile.specs.Totals.{block_total, packet_total, tile_packets, totals_fault}
+use Rattle.jx_tile.specs.Faults.{passed}
+use Rattle.jx_tier2_reader.specs.Written.{Written}
+use Rattle.jx_tier2_reader.proofs.AnotherLemmas.{blocks_of_other}
+use Rattle.jx_base.specs.Pieces.{PieceValue}
+use Rattle.jx_options.specs.declared.Marks.{Marks}
+use Rattle.jx_tier2_writer.specs.TileParts.{packet_of, packets_of, state_before}
+use Rattle.jx_tier2_writer.proofs.AlikeLemmas.{AreAlike, params_alike, planes_alike, shapes_alike, step_alike}
 use Rattle.jx_packet_header.specs.Packet.{State}
 use Rattle.jx_packet_header.specs.Written.{Leafed}
 use Rattle.jx_progression.specs.declared.names.PacketName.{PacketName}
@@ -25,20 +34,9 @@ use Rattle.jx_codestream.specs.First.{canvas_of, tile_number}
 use Rattle.jx_codestream.specs.Params.{header_in, header_of, params_of, planes_at, step_of}
 use Rattle.jx_codestream.specs.Shapes.{geometry, layers_of, shapes_of, style_of}
 use Rattle.jx_tier2_reader.specs.Another.{HaveSameBlocks, rect_in}
-use Rattle.jx_tier2_reader.specs.BlockOf.{AreBlocksOf}
-use Rattle.jx_tier2_reader.specs.Carries.{block_in, bytes_of, pieces_of}
-use Rattle.jx_tier2_reader.specs.BlockOf.{pieces_at}
+use Rattle.jx_tier2_reader.specs.BlockOf.{AreBlocksOf, pieces_at}
 use Rattle.jx_tile.specs.Cells.{precinct_bands, sizes_of}
-use Rattle.jx_geom.specs.Precincts.{cells_at}
-use Rattle.jx_tier2_reader.specs.Planned.{leaf_from, leaf_in, leaves_of_blocks}
-use Rattle.jx_tile.specs.Totals.{block_total, packet_total, tile_packets, totals_fault}
-use Rattle.jx_tile.specs.Faults.{passed}
-use Rattle.jx_tier2_reader.specs.Written.{Written}
-use Rattle.jx_tier2_reader.proofs.AnotherLemmas.{blocks_of_other}
-use Rattle.jx_base.specs.Pieces.{PieceValue}
-use Rattle.jx_options.specs.declared.Marks.{Marks}
-use Rattle.jx_tier2_writer.specs.TileParts.{packet_of, packets_of, state_before}
-use Rattle.jx_tier2_writer.proofs.AlikeLemmas.{AreAlike, params_alike, planes_alike, shapes_alike, step_alike}
+use Rattle.jx_tier2_reader.specs.Carries.{block_in, bytes_of, pieces_of}
 
 abbrev pub with_tiles : Stream → List Tile → Stream
 with_tiles s tiles = record { siz = s.siz; main = s.main; tiles = tiles }

@@ -8,12 +8,11 @@ use Rattle.jx_codestream.specs.Read.{IsRead}
 use Rattle.jx_codestream.specs.Shapes.{geometry, shapes_of}
 use Rattle.jx_tier2_reader.specs.Gathered.{IsGathered}
 use Rattle.jx_tier2_reader.specs.WellFormed.{IsWellFormed}
-use Rattle.jx_plan.specs.Headers.{comp_written, params_written}
+use Rattle.jx_plan.specs.Headers.{comp_written, params_written, with_layers}
 use Rattle.jx_plan.specs.Meaning.{meaning_of}
 use Rattle.jx_codeblock.specs.FirstLayers.{HasFirstLayers}
 use Rattle.jx_layers.specs.Layers.{ends_of}
 use Rattle.jx_layers.specs.Rule.{Rule}
-use Rattle.jx_plan.specs.Plan.{asked_of}
 use Rattle.jx_plan.specs.Planned.{blocks_written, layers_of_rule}
 use Rattle.jx_options.specs.Wanted.{Wanted}
 use Rattle.jx_tier2_writer.specs.Strict.{IsStrict}
@@ -26,9 +25,9 @@ pub record IsKeptIn (w : Wanted) (rule : Rule) (before after : Stream) (blocks :
   pub read : IsRead out after
   pub gathered : IsGathered out after (blocks_written w rule before blocks)
   pub formed : IsWellFormed out
-  pub strict : IsStrict w.plt out after
+  pub strict : IsStrict w.marks.plt out after
   pub siz : after.siz ≡ record before.siz { rsiz = 0 }
-  pub params : (t c : ℕ) → params_of after t c ≡ params_written (asked_of w (layers_of_rule rule before blocks)) (params_of before t c)
+  pub params : (t c : ℕ) → params_of after t c ≡ params_written (with_layers w (layers_of_rule rule before blocks)) (params_of before t c)
   pub steps : (t c r : ℕ) (band : Band) → step_of after t c r band ≡ step_of before t c r band
   pub planes : (t c r : ℕ) (band : Band) → planes_at after t c r band ≡ planes_at before t c r band
   pub places : (t : ℕ) → geometry after t ≡ record (geometry before t) { shapes = map (comp_written w.precincts) (shapes_of before t) }

@@ -10,7 +10,7 @@ use Rattle.jx_codestream.specs.declared.Stream.{Stream}
 use Rattle.jx_codestream.specs.Shapes.{layers_of}
 use Rattle.jx_tier2_reader.specs.Written.{Packets, packet_bytes}
 use Rattle.jx_codeblock.specs.Recoded.{WrittenBlock}
-use Rattle.jx_options.specs.declared.Marks.{Marks as Asked}
+use Rattle.jx_options.specs.declared.Marks.{Marks}
 use Rattle.jx_tier2_writer.specs.Names.{AreSendings, tile_names}
 use Rattle.jx_tier2_writer.specs.Packed.{own_packets}
 use Rattle.jx_tier2_writer.specs.Tile.{block_written}
@@ -40,7 +40,7 @@ abbrev pub tile_pieces : Packets → Layout → List (List (List ℕ))
 tile_pieces ps layout = pieces_with ps layout.names.items layout.parts.items
 
 -- a tile is laid out: its precincts are ready to be sent, and its packets stand in its tile-parts
-pub record IsLayout (m : Asked) (s : Stream) (g : Geometry) (own : List Block) (datas : List (List ℕ)) (layout : Layout) : Type 0 where
+pub record IsLayout (m : Marks) (s : Stream) (g : Geometry) (own : List Block) (datas : List (List ℕ)) (layout : Layout) : Type 0 where
   pub sent : AreSendings s g own datas (tile_names g) layout.list.items
   pub each : All (IsPacketName g (layers_of s g.tile)) layout.names.items
   pub few : length layout.names.items ≤ 2 ^ 22

@@ -19,7 +19,6 @@ use Rattle.jx_store.specs.declared.event.Taped.{Taped}
 use Rattle.jx_store.specs.declared.work.Named.{Named}
 use Rattle.jx_store.specs.declared.work.Named.TheVariants.{Made, Bad, Short}
 use Rattle.jx_plan.specs.Plan.{Plan, headers_of}
-use Rattle.jx_options.specs.Wanted.{marks_of}
 use Rattle.jx_tier2_writer.specs.TileParts.{AreTilePartsOf}
 
 -- A.2: the main header
@@ -74,12 +73,12 @@ AreAtMost most parts = All (λ (part : TilePart). part.sot.psot ≤ most) parts
 -- the tile-parts that a tile is written as
 pub record IsTile (p : Plan) (blocks : List Block) (t : ℕ) (most : ℕ) (bytes : List (List ℕ)) : Type 0 where
   pub parts : List TilePart
-  pub are : AreTilePartsOf (marks_of p.wanted) (headers_of p) blocks t parts
+  pub are : AreTilePartsOf p.wanted.marks (headers_of p) blocks t parts
   pub short : AreAtMost most parts
   pub bytes_are : bytes ≡ map (part_bytes (length p.stream.siz.comps)) parts
 
 -- one of them is longer
 pub record IsTooLong (p : Plan) (blocks : List Block) (t : ℕ) (most : ℕ) : Type 0 where
   pub parts : List TilePart
-  pub are : AreTilePartsOf (marks_of p.wanted) (headers_of p) blocks t parts
+  pub are : AreTilePartsOf p.wanted.marks (headers_of p) blocks t parts
   pub long : AreAtMost most parts → ⊥

@@ -33,7 +33,7 @@ ghost use Rattle.jx_plan.specs.Causes.{IsFree};
 ghost use Rattle.jx_codeblock.specs.Written.{is_wrong};
 ghost use Rattle.jx_plan.specs.Plan.{headers_with};
 ghost use Rattle.jx_plan.specs.Planned.{IsFreeBy, MakesLayers, blocks_written, layers_of_rule};
-ghost use Rattle.jx_options.specs.Wanted.{MayBeWanted, Wanted, marks_of};
+ghost use Rattle.jx_options.specs.Wanted.{MayBeWanted, Wanted};
 ghost use Rattle.jx_plan.specs.Standing.{HeadersStand};
 ghost use Rattle.jx_tier2_writer.specs.TileParts.{AreTilePartsOf, IsOutput};
 
@@ -124,7 +124,7 @@ pub fn one_output()
 /// A.6 and A.8).
 pub fn written_is_ready()
     ensures { (w : Wanted) (layers : ℕ) (s : Stream) → 1 ≤ layers → layers < 2 ^ 16 → MayBeWanted w → HeadersStand s → StreamInRange s → totals_fault s ≡ None
-        → IsFree s w layers → AreReady (marks_of w) (headers_with w layers s) }
+        → IsFree s w layers → AreReady w.marks (headers_with w layers s) }
 {
     written_headers_stand();
     written_headers_are_plain();
@@ -137,7 +137,7 @@ pub fn written_is_ready()
 /// code-block hold the passes that the rule puts there, with their final values.
 pub fn rewritten_is_read()
     ensures { (w : Wanted) (rule : Rule) (before : Stream) (blocks : List Block) (input out : List ℕ)
-        (is : IsOutput (marks_of w) (headers_with w (layers_of_rule rule before blocks) before) (blocks_written w rule before blocks) out)
+        (is : IsOutput w.marks (headers_with w (layers_of_rule rule before blocks) before) (blocks_written w rule before blocks) out)
         → IsRead input before → length input ≤ 2 ^ 28 → totals_fault before ≡ None → IsGathered input before blocks → MakesLayers (Some rule) before blocks
         → MayBeWanted w → IsFreeBy rule before blocks w → All (λ (b : Block). is_wrong w.style b ≡ false) blocks → AllShort is.parts (tile_number before.siz)
         → (after : Stream) × IsKeptIn w rule before after blocks out }

@@ -13,7 +13,6 @@ ghost use Rattle.jx_tile.specs.Covered.{IsWhole};
 ghost use Rattle.jx_tile.specs.Totals.{totals_fault};
 ghost use Rattle.jx_plan.specs.Groups.{HasFewParts};
 ghost use Rattle.jx_plan.specs.Plan.{IsPlan, headers_of};
-ghost use Rattle.jx_options.specs.Wanted.{marks_of};
 ghost use Rattle.jx_tier2_writer.specs.Assembled.{AreOwn, AreTileBytes, HasMoreBytes};
 ghost use Rattle.jx_tier2_writer.specs.Own.{AreOwnBlocks};
 ghost use Rattle.jx_tier2_writer.specs.Pieces.{blocks_lent};
@@ -24,12 +23,12 @@ use crate::assemble::pack_values;
 use crate::entries::blocks_of;
 use crate::front::header_bytes;
 use crate::laws::{ready_is_in_range, written_is_ready};
+use jx_codestream::{MainView, Stream};
 use crate::tile::AssembleFault;
 use crate::tile_out::TileOut;
 use crate::whole::whole_parts;
 use jx_base::NoMemory;
 use jx_codeblock::Recoded;
-use jx_codestream::{MainView, Stream};
 use jx_options::Marks;
 use jx_plan::OutStream;
 use jx_plan::laws::parameters_stay;
@@ -40,7 +39,7 @@ use std::alloc::Global;
 /// The headers that are written; a file may be written from them.
 fn ready_headers<'a>(plan: &'a OutStream<'_>) -> &'a Stream
     ensures value { result.now ≡ headers_of plan.now }
-    ensures ready { AreReady (marks_of plan.now.wanted) result.now }
+    ensures ready { AreReady plan.now.wanted.marks result.now }
     ensures plan { IsPlan plan.now }
 {
     written_is_ready();
@@ -115,7 +114,7 @@ fn tile_headers<'a>(plan: &'a OutStream<'_>, tile: u16, values: &[Entry<Recoded<
     requires tile { tile < tile_number plan.now.stream.siz }
     requires values { AreValuesOf plan.now tile (made_in values.now) }
     ensures value { result.now ≡ headers_of plan.now }
-    ensures ready { AreReady (marks_of plan.now.wanted) result.now }
+    ensures ready { AreReady plan.now.wanted.marks result.now }
     ensures range { StreamInRange result.now }
     ensures tile { tile < tile_number result.now.siz }
     ensures whole { IsWhole result.now tile }

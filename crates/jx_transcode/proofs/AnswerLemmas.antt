@@ -19,7 +19,7 @@ use Rattle.jx_layers.specs.Rule.{Rule}
 use Rattle.jx_options.specs.declared.Marks.{Marks}
 use Rattle.jx_plan.specs.Plan.{IsPlan, Plan, headers_with}
 use Rattle.jx_plan.specs.Planned.{IsFreeBy, IsPlanned, IsPlannedBy, MakesLayers, blocks_written, layers_of_rule}
-use Rattle.jx_options.specs.Wanted.{MayBeWanted, Wanted, marks_of}
+use Rattle.jx_options.specs.Wanted.{MayBeWanted, Wanted}
 use Rattle.jx_tier2_writer.specs.Kept.{IsKeptIn}
 use Rattle.jx_tier2_writer.specs.Ready.{AllShort, AreShort}
 use Rattle.jx_tier2_writer.specs.Tile.{IsTooLong, blocks_in, main_bytes}
@@ -29,7 +29,7 @@ use Rattle.jx_transcode.specs.Filed.{IsAnswered, IsFileBegun, IsFileHalted, IsFi
 use Rattle.jx_transcode.specs.Outcome.{IsBegun, IsCutShort, IsStopped, IsVerdict, Leaves, most_bytes}
 use Rattle.jx_transcode.specs.Rewritten.{CanBePlanned, HasBlocks, IsBad, IsCut, IsCutByBlock, IsFront, IsFrontOf, IsKept, IsLong, IsRewritten, IsSpoiled, Reads, headers_of}
 use Rattle.jx_rounds.specs.Tiles.{IsRight, Round, next_round, round_of}
-use Rattle.jx_transcode.specs.Rewritten.{IsTooLong as IsTooLongAt}
+use Rattle.jx_transcode.specs.Rewritten.{IsTooLongAt}
 use Rattle.jx_rounds.specs.Rounds.{IsHaltedAt, IsRoundFront, IsShortFront, IsWholeFile, most_of_part}
 use Rattle.jx_rounds.specs.declared.halt.Halt.{Halt}
 use Rattle.jx_rounds.specs.declared.halt.Halt.TheVariants as halt
@@ -109,7 +109,7 @@ pub record Laws : Type 0 where
   pub blocks : (s : Stream) (blocks : List Block) (w : Wanted) (r : Rule) (p : Plan) → IsPlan p → IsPlannedBy r s blocks w p → map block_asked p.jobs ≡ blocks_written w r s blocks
   pub free : (s : Stream) (blocks : List Block) (w : Wanted) (r : Rule) (p : Plan) → IsPlan p → IsPlannedBy r s blocks w p → IsFreeBy r s blocks w
   pub keeps : (w : Wanted) (rule : Rule) (before : Stream) (blocks : List Block) (input out : List ℕ)
-      (is : IsOutput (marks_of w) (headers_with w (layers_of_rule rule before blocks) before) (blocks_written w rule before blocks) out)
+      (is : IsOutput w.marks (headers_with w (layers_of_rule rule before blocks) before) (blocks_written w rule before blocks) out)
       → IsRead input before → length input ≤ 2 ^ 28 → totals_fault before ≡ None → IsGathered input before blocks → MakesLayers (Some rule) before blocks
       → MayBeWanted w → IsFreeBy rule before blocks w → All (λ (b : Block). is_wrong w.style b ≡ false) blocks → AllShort is.parts (tile_number before.siz)
       → (after : Stream) × IsKeptIn w rule before after blocks out
@@ -137,15 +137,15 @@ module _ (laws : Laws) (aim : Aim) (input : List ℕ) (s : Stream) (blocks : Lis
   written_blocks = blocks_written w can.by s blocks
 
   -- tile-parts of the plan's blocks are those of the blocks that the rule says
-  are_of : (t : ℕ) (parts : List TilePart) → AreTilePartsOf (marks_of w) headers (map block_asked jobs) t parts → AreTilePartsOf (marks_of w) headers written_blocks t parts
-  are_of t parts are = subst (λ (bs : List Block). AreTilePartsOf (marks_of w) headers bs t parts) same are
+  are_of : (t : ℕ) (parts : List TilePart) → AreTilePartsOf w.marks headers (map block_asked jobs) t parts → AreTilePartsOf w.marks headers written_blocks t parts
+  are_of t parts are = subst (λ (bs : List Block). AreTilePartsOf w.marks headers bs t parts) same are
 
   front_of : (n : ℕ) (bytes : List ℕ) → IsShortFront plan n bytes → IsFront w can.by s blocks n bytes
   front_of n bytes front = record { parts = front.parts; right = front.right; are = λ t lt. are_of t (front.parts t) (front.are t lt); bytes_are = front.bytes_are }
 
   none_long : (n : ℕ) (bytes : List ℕ) → IsShortFront plan n bytes → (t : ℕ) → t < n → IsLong w can.by s blocks t → ⊥
   none_long n bytes front t lt long =
-      long.long (subst AreShort (laws.parts (marks_of w) headers written_blocks t (front.parts t) long.parts (are_of t (front.parts t) (front.are t lt)) long.are) (front.short t lt))
+      long.long (subst AreShort (laws.parts w.marks headers written_blocks t (front.parts t) long.parts (are_of t (front.parts t) (front.are t lt)) long.are) (front.short t lt))
 
   none_spoiled : (n : ℕ) (bytes : List ℕ) → IsShortFront plan n bytes → (t : ℕ) → t < n → IsSpoiled w can.by s blocks t → ⊥
   none_spoiled n bytes front t lt (inl wrong) = right_or_wrong w s blocks t wrong.0 (front.right t lt) wrong.1
@@ -154,7 +154,7 @@ module _ (laws : Laws) (aim : Aim) (input : List ℕ) (s : Stream) (blocks : Lis
   long_of : (t : ℕ) → IsRight w s blocks t → IsTooLong plan (map block_asked jobs) t most_of_part → IsLong w can.by s blocks t
   long_of t right is = record { right = right; parts = is.parts; are = are_of t is.parts is.are; long = λ short. is.long (at_most_short is.parts short) }
 
-  abbrev output_of : (out : List ℕ) (whole : IsWholeFile plan out) → IsOutput (marks_of w) headers written_blocks out
+  abbrev output_of : (out : List ℕ) (whole : IsWholeFile plan out) → IsOutput w.marks headers written_blocks out
   output_of out whole =
       let h : Stream = headers in
       let parts : ℕ → List TilePart = whole.tiles.parts in

@@ -16,7 +16,7 @@ use Rattle.jx_plan.specs.declared.faults.PlanFault.{PlanFault}
 use Rattle.jx_plan.specs.declared.faults.PlanFault.TheVariants as unplanned
 use Rattle.jx_layers.specs.Rule.{Rule}
 use Rattle.jx_plan.specs.Planned.{CanBePlannedBy, HasPlanCause, blocks_written, layers_of_rule}
-use Rattle.jx_options.specs.Wanted.{Wanted, marks_of}
+use Rattle.jx_options.specs.Wanted.{Wanted}
 use Rattle.jx_tier2_writer.specs.Ready.{AreShort}
 use Rattle.jx_tier2_writer.specs.TileParts.{AreTilePartsOf}
 use Rattle.jx_transcode.specs.declared.status.Status.{Status}
@@ -107,11 +107,11 @@ record IsLongAt (w : Wanted) (r : Rule) (s : Stream) (blocks : List Block) (t : 
   pub lowest : (n : ℕ) → n < t → IsSpoiled w r s blocks n → ⊥
 
 module _ (w : Wanted) (r : Rule) (s : Stream) (blocks : List Block) where
-  short_or_long : Laws → (t : ℕ) (parts : List TilePart) → AreTilePartsOf (marks_of w) (headers_of w r s blocks) (blocks_written w r s blocks) t parts → AreShort parts → IsLong w r s blocks t → ⊥
+  short_or_long : Laws → (t : ℕ) (parts : List TilePart) → AreTilePartsOf w.marks (headers_of w r s blocks) (blocks_written w r s blocks) t parts → AreShort parts → IsLong w r s blocks t → ⊥
   short_or_long laws t parts are short long =
-      long.long (subst AreShort (laws.parts (marks_of w) (headers_of w r s blocks) (blocks_written w r s blocks) t parts long.parts are long.are) short)
+      long.long (subst AreShort (laws.parts w.marks (headers_of w r s blocks) (blocks_written w r s blocks) t parts long.parts are long.are) short)
 
-  written_or_spoiled : Laws → (t : ℕ) (parts : List TilePart) → IsRight w s blocks t → AreTilePartsOf (marks_of w) (headers_of w r s blocks) (blocks_written w r s blocks) t parts → AreShort parts
+  written_or_spoiled : Laws → (t : ℕ) (parts : List TilePart) → IsRight w s blocks t → AreTilePartsOf w.marks (headers_of w r s blocks) (blocks_written w r s blocks) t parts → AreShort parts
       → IsSpoiled w r s blocks t → ⊥
   written_or_spoiled laws t parts right are short (inl wrong) = right_or_wrong w s blocks t wrong.0 right wrong.1
   written_or_spoiled laws t parts right are short (inr long) = short_or_long laws t parts are short long

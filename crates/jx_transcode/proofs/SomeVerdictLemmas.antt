@@ -23,7 +23,7 @@ use Rattle.jx_plan.specs.Causes.{IsFree}
 use Rattle.jx_plan.specs.Plan.{MayBePlanned, headers_with}
 use Rattle.jx_plan.specs.Planned.{CanBePlannedBy, HasPlanCause, MakesLayers, blocks_written, layers_of_rule}
 use Rattle.jx_plan.specs.Standing.{HeadersStand}
-use Rattle.jx_options.specs.Wanted.{MayBeWanted, Wanted, marks_of}
+use Rattle.jx_options.specs.Wanted.{MayBeWanted, Wanted}
 use Rattle.jx_tier2_writer.specs.Ready.{AreReady, AreShort}
 use Rattle.jx_tier2_writer.specs.TileParts.{AreTilePartsOf, IsOutput}
 use Rattle.jx_transcode.specs.declared.status.Status.{Status}
@@ -46,7 +46,7 @@ pub record Laws : Type 0 where
   pub planned : (s : Stream) (blocks : List Block) (w : Wanted) (o : Option Rule) → MayBePlanned s blocks → MayBeWanted w → MakesLayers o s blocks
       → CanBePlannedBy o s blocks w ⊎ ((e : PlanFault) × (e ≡ unplanned.NoMemory → ⊥) × HasPlanCause o s blocks w e)
   pub ready : (w : Wanted) (layers : ℕ) (s : Stream) → 1 ≤ layers → layers < 2 ^ 16 → MayBeWanted w → HeadersStand s → StreamInRange s → totals_fault s ≡ None
-      → IsFree s w layers → AreReady (marks_of w) (headers_with w layers s)
+      → IsFree s w layers → AreReady w.marks (headers_with w layers s)
   pub output : (m : Marks) (s : Stream) (blocks : List Block) → AreReady m s → (b : List ℕ) × IsOutput m s blocks b
   pub parts : (m : Marks) (s : Stream) (blocks : List Block) (t : ℕ) (xs ys : List TilePart) → AreTilePartsOf m s blocks t xs → AreTilePartsOf m s blocks t ys → xs ≡ ys
 
@@ -65,7 +65,7 @@ can_of aim s blocks None e made never = absurd never
 can_of aim s blocks (Some r) e made free = record { by = r; is = e; layers = made; free = free }
 
 -- a tile is written, or it has a block that is wrong, or else a tile-part that is too long
-module _ (laws : Laws) (w : Wanted) (r : Rule) (s : Stream) (blocks : List Block) (t : ℕ) (parts : List TilePart) (are : AreTilePartsOf (marks_of w) (headers_of w r s blocks) (blocks_written w r s blocks) t parts) where
+module _ (laws : Laws) (w : Wanted) (r : Rule) (s : Stream) (blocks : List Block) (t : ℕ) (parts : List TilePart) (are : AreTilePartsOf w.marks (headers_of w r s blocks) (blocks_written w r s blocks) t parts) where
   abbrev Written : Type 0
   Written = IsRight w s blocks t × AreShort parts
 
@@ -80,7 +80,7 @@ module _ (laws : Laws) (w : Wanted) (r : Rule) (s : Stream) (blocks : List Block
 
   unspoiled : Written → IsSpoiled w r s blocks t → ⊥
   unspoiled is (inl wrong) = right_or_wrong w s blocks t wrong.0 is.0 wrong.1
-  unspoiled is (inr long) = long.long (subst AreShort (laws.parts (marks_of w) (headers_of w r s blocks) (blocks_written w r s blocks) t parts long.parts are long.are) is.1)
+  unspoiled is (inr long) = long.long (subst AreShort (laws.parts w.marks (headers_of w r s blocks) (blocks_written w r s blocks) t parts long.parts are long.are) is.1)
 
   spoiled_or_not : IsSpoiled w r s blocks t ⊎ (IsSpoiled w r s blocks t → ⊥)
   spoiled_or_not = elim written_or_not [
@@ -108,15 +108,15 @@ module _ (laws : Laws) (aim : Aim) (may : MayBeAimed aim) (input : List ℕ) (sh
       (status.Choice 7 t, (short, inl (refl, record { stream = s; blocks = blocks; reads = reads; can = can; inside = inside; is = long; lowest = lowest })))
 
   -- the headers that are written are such as a file may be written from
-  ready : (s : Stream) (blocks : List Block) → MayBePlanned s blocks → (can : CanBePlanned aim s blocks) → AreReady (marks_of aim.wanted) (headers_of aim.wanted can.by s blocks)
+  ready : (s : Stream) (blocks : List Block) → MayBePlanned s blocks → (can : CanBePlanned aim s blocks) → AreReady aim.wanted.marks (headers_of aim.wanted can.by s blocks)
   ready s blocks plan can = laws.ready aim.wanted (layers_of_rule can.by s blocks) s can.layers.0 can.layers.1 may.may plan.headers plan.range plan.totals can.free.free
 
   written : (s : Stream) (blocks : List Block) → Reads input s blocks → MayBePlanned s blocks → CanBePlanned aim s blocks → (st : Status) × Verdict aim input st
   written s blocks reads plan can =
       let w : Wanted = aim.wanted in
       let r : Rule = can.by in
-      let out = laws.output (marks_of w) (headers_of w r s blocks) (blocks_written w r s blocks) (ready s blocks plan can) in
-      let are : (t : ℕ) → t < tile_number s.siz → AreTilePartsOf (marks_of w) (headers_of w r s blocks) (blocks_written w r s blocks) t (out.1.parts t) =
+      let out = laws.output w.marks (headers_of w r s blocks) (blocks_written w r s blocks) (ready s blocks plan can) in
+      let are : (t : ℕ) → t < tile_number s.siz → AreTilePartsOf w.marks (headers_of w r s blocks) (blocks_written w r s blocks) t (out.1.parts t) =
       λ t lt. out.1.are t (subst (λ (n : ℕ). t < n) (sym (tiles_stay w (layers_of_rule r s blocks) s)) lt) in
       elim (first_or_none (λ (t : ℕ). IsSpoiled w r s blocks t) 0 (tile_number s.siz) (λ t from lt. spoiled_or_not laws w r s blocks t (out.1.parts t) (are t (omega (arith, lt))))) [
         | inl first ↦ spoiled_by s blocks first.0 reads can (omega (arith, first.1.below)) first.1.is (λ n lt spoiled. first.1.lowest n (omega arith) lt spoiled)

@@ -26,10 +26,7 @@ wanted_made = record {
   precincts = None;
   style = Some (record { bits = 33 });
   layers = codes "one";
-  parts = parts.Resolution;
-  sop = false;
-  eph = false;
-  plt = true;
+  marks = record { sop = false; eph = false; plt = true; parts = parts.Resolution };
 }
 
 -- and `--threads 4 --window 64`

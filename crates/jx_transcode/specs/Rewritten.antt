@@ -15,7 +15,7 @@ use Rattle.jx_codeblock.specs.Written.{is_wrong}
 use Rattle.jx_layers.specs.Rule.{Rule}
 use Rattle.jx_plan.specs.Plan.{headers_with}
 use Rattle.jx_plan.specs.Planned.{HasPlanCause, IsFreeBy, MakesLayers, blocks_written, layers_of_rule}
-use Rattle.jx_options.specs.Wanted.{Wanted, marks_of}
+use Rattle.jx_options.specs.Wanted.{Wanted}
 use Rattle.jx_tier2_writer.specs.Kept.{IsKeptIn}
 use Rattle.jx_tier2_writer.specs.Ready.{AllShort, AreShort}
 use Rattle.jx_tier2_writer.specs.Tile.{main_bytes}
@@ -51,7 +51,7 @@ pub record IsUnplanned (aim : Aim) (input : List ℕ) (why : PlanFault) : Type 0
 pub record IsLong (w : Wanted) (r : Rule) (s : Stream) (blocks : List Block) (t : ℕ) : Type 0 where
   pub right : IsRight w s blocks t
   pub parts : List TilePart
-  pub are : AreTilePartsOf (marks_of w) (headers_of w r s blocks) (blocks_written w r s blocks) t parts
+  pub are : AreTilePartsOf w.marks (headers_of w r s blocks) (blocks_written w r s blocks) t parts
   pub long : AreShort parts → ⊥
 
 -- a tile that isn't written
@@ -86,7 +86,7 @@ pub record IsRewritten (aim : Aim) (input out : List ℕ) : Type 0 where
   pub reads : Reads input stream blocks
   pub can : CanBePlanned aim stream blocks
   pub right : All (λ (b : Block). is_wrong aim.wanted.style b ≡ false) blocks
-  pub output : IsOutput (marks_of aim.wanted) (headers_of aim.wanted can.by stream blocks) (blocks_written aim.wanted can.by stream blocks) out
+  pub output : IsOutput aim.wanted.marks (headers_of aim.wanted can.by stream blocks) (blocks_written aim.wanted can.by stream blocks) out
   pub short : AllShort output.parts (tile_number stream.siz)
 
 -- the first tile of a tile's round
@@ -97,7 +97,7 @@ round_start s t = (round_of (blocks_in_tile s) t).start
 pub record IsFront (w : Wanted) (r : Rule) (s : Stream) (blocks : List Block) (tiles : ℕ) (bytes : List ℕ) : Type 0 where
   pub parts : ℕ → List TilePart
   pub right : (t : ℕ) → t < tiles → IsRight w s blocks t
-  pub are : (t : ℕ) → t < tiles → AreTilePartsOf (marks_of w) (headers_of w r s blocks) (blocks_written w r s blocks) t (parts t)
+  pub are : (t : ℕ) → t < tiles → AreTilePartsOf w.marks (headers_of w r s blocks) (blocks_written w r s blocks) t (parts t)
   pub bytes_are : bytes ≡ main_bytes (headers_of w r s blocks) ++ flat_map (part_bytes (length s.siz.comps)) (joined parts 0 tiles)
 
 -- what a run may have written of an input before it is done: whole rounds, of which none has a tile that isn't written

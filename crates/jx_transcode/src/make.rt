@@ -18,7 +18,7 @@ use jx_base::Style;
 use jx_cli::{Make, WordsFault, read_make};
 use jx_io::{Files, Gate, Sink, SureFiles};
 use jx_layers::LayerPlanner;
-use jx_options::{Options, OrderChoice, PartChoice, PrecinctChoice, Work};
+use jx_options::{Marks, Options, OrderChoice, PartChoice, PrecinctChoice, Work};
 use jx_rounds::{Crew, TapeEntry};
 use std::alloc::{AllocError, Global};
 use std::sync::Wait;
@@ -73,10 +73,12 @@ fn options(alloc: Global) -> Result<Options, AllocError>
         precincts: PrecinctChoice::Keep,
         style: Some(Style { bits: 33 }),
         layers: String::from_str(alloc, "one")?,
-        parts: PartChoice::Resolution,
-        sop: false,
-        eph: false,
-        plt: true,
+        marks: Marks {
+            sop: false,
+            eph: false,
+            plt: true,
+            parts: PartChoice::Resolution,
+        },
     })
 }
 

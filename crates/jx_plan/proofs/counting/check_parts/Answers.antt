@@ -21,6 +21,6 @@ first_parted-requires-clause-whole c =
 
 pub returns-in-None-clause-few : goal.returns-in-None-clause-few
 returns-in-None-clause-few c =
-    let parts : c.options.inside.parts ≡ c.args.options.now.parts = ap (λ (w : Wanted). w.parts) c.options.view_is in
+    let parts : c.options.inside.marks.parts ≡ c.args.options.now.marks.parts = ap (λ (w : Wanted). w.marks.parts) c.options.view_is in
     few_made c.args.options.now c.args.layers c.args.stream.now c.args.written.now c.requires.written
-    (none_parted c.options.inside.parts c.args.options.now.parts c.args.written.now c.in_ok-tile.field-0 parts c.in-None.is c.in_ok-tile.ensures)
+    (none_parted c.options.inside.marks.parts c.args.options.now.marks.parts c.args.written.now c.in_ok-tile.field-0 parts c.in-None.is c.in_ok-tile.ensures)

@@ -2,13 +2,13 @@ use Rattle.std.proofs.Common.{◌≡◌, ◌++◌, ◌∙◌, List, ap, map, sym
 use Rattle.jx_marker.specs.declared.Segment.{Segment}
 use Rattle.jx_codestream.specs.declared.Tile.{Tile}
 use Rattle.jx_codestream.specs.Tiles.{entry_in, in_slot}
-use Rattle.jx_plan.specs.Headers.{all_written, tile_over}
+use Rattle.jx_plan.specs.Headers.{all_written, tile_over, with_layers}
 use Rattle.jx_plan.proofs.WrittenLemmas.{stream_is}
 use Rattle.jx_plan.proofs.headers.write_headers.Goals as goal
 
 pub returns : goal.returns
 returns c =
-    let a = c.args.asked in
+    let a = with_layers c.args.options.now c.args.layers in
     let s = c.args.stream.now in
     let main : c.new.result ≡ all_written a s.main =
     c.new.ensures ∙ c.in_ok-push_written.ensures ∙ ap (λ (l : List Segment). l ++ all_written a c.as_slice.result.now) c.new-main.ensures.items ∙ ap (λ (l : List Segment). all_written a l) c.as_slice.ensures in

@@ -8,7 +8,7 @@ use Rattle.jx_codestream.specs.Shapes.{geometry}
 use Rattle.jx_options.specs.declared.Marks.{Marks}
 use Rattle.jx_plan.specs.Plan.{Plan, headers_of}
 use Rattle.jx_tier2_writer.specs.Assembled.{AreOwn, AreTileBytes}
-use Rattle.jx_tier2_writer.specs.Assembled.{IsTooLong as HasMoreBytes}
+use Rattle.jx_tier2_writer.specs.Assembled.{HasMoreBytes}
 use Rattle.jx_tier2_writer.specs.Own.{AreOwnBlocks}
 use Rattle.jx_tier2_writer.specs.Pieces.{blocks_lent}
 use Rattle.jx_tier2_writer.specs.Tile.{AreAtMost, IsTile, StandIn, block_written, made_in}

@@ -3,7 +3,6 @@ use Rattle.jx_base.specs.declared.pieces.Block.{Block}
 use Rattle.jx_codestream.specs.declared.Stream.{Stream}
 use Rattle.jx_codestream.specs.First.{tile_number}
 use Rattle.jx_codestream.specs.Shapes.{geometry}
-use Rattle.jx_options.specs.Wanted.{marks_of}
 use Rattle.jx_tier2_writer.specs.Assembled.{AreOwn}
 use Rattle.jx_tier2_writer.specs.Own.{AreOwnBlocks}
 use Rattle.jx_tier2_writer.specs.Tile.{block_written, made_in}
@@ -11,7 +10,7 @@ use Rattle.jx_tier2_writer.proofs.PlanLemmas.{ParametersStay, plan_inside, plan_
 use Rattle.jx_tier2_writer.proofs.planned.tile_headers.Goals as goal
 
 pub returns-clause-range : goal.returns-clause-range
-returns-clause-range c = c.ready_is_in_range.ensures.stream (marks_of c.args.plan.now.wanted) c.ready_headers.result.now c.ready_headers.ensures.ready
+returns-clause-range c = c.ready_is_in_range.ensures.stream c.args.plan.now.wanted.marks c.ready_headers.result.now c.ready_headers.ensures.ready
 
 pub returns-clause-tile : goal.returns-clause-tile
 returns-clause-tile c =
@@ -23,7 +22,7 @@ pub returns-clause-whole : goal.returns-clause-whole
 returns-clause-whole c =
     let stay : ParametersStay = record { shapes = c.parameters_stay.ensures.shapes; layers = c.parameters_stay.ensures.layers } in
     let P : Stream → Type 0 = λ s. c.args.tile < tile_number s.siz in
-    c.ready_is_in_range.ensures.whole (marks_of c.args.plan.now.wanted) c.ready_headers.result.now c.ready_headers.ensures.ready c.args.tile
+    c.ready_is_in_range.ensures.whole c.args.plan.now.wanted.marks c.ready_headers.result.now c.ready_headers.ensures.ready c.args.tile
     (subst P (sym c.ready_headers.ensures.value) (plan_inside c.args.plan.now c.ready_headers.ensures.plan stay c.args.tile c.requires.tile))
 
 pub returns-clause-own : goal.returns-clause-own
