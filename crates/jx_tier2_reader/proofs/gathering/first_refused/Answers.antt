@@ -5,5 +5,5 @@ pub returns-in-Ok : goal.returns-in-Ok
 returns-in-Ok c =
     cause_of_tile c.args.bytes.now c.args.stream.now c.args.tile c.args.fault c.requires.totals c.requires.tile c.in-Ok.ensures.whole c.requires.read c.requires.refused
 
-pub returns : goal.returns
-returns c = cause_of_cover c.args.bytes.now c.args.stream.now c.in-Err.uncovered c.requires.totals c.in-Err.ensures.uncovered
+pub returns-in-Err : goal.returns-in-Err
+returns-in-Err c = cause_of_cover c.args.bytes.now c.args.stream.now c.in-Err.uncovered c.requires.totals c.in-Err.ensures.uncovered
