@@ -1,6 +1,6 @@
 use Rattle.std.proofs.Common.{◌∙◌, ap, map, string_bytes}
 use Rattle.jx_tool.proofs.EndLemmas.{ended_by, ended_unbegun}
-use Rattle.jx_tool.proofs.end_of.Goals as goal
+use Rattle.jx_tool.proofs.ends.end_of.Goals as goal
 
 pub returns-in-Ok : goal.returns-in-Ok
 returns-in-Ok g c = ended_by _ _ _ c.run-report.result.status c.run-report.result.blocks c.run-report.result.tape.items _ _ _ _ _ (ap (map string_bytes) c.deref.ensures.value ∙ c.in-Ok.ensures.words)
