@@ -4,6 +4,7 @@ ghost use Rattle.std.specs.Prelude.{IfOk};
 ghost use Rattle.std.specs.Path.{path_buf_bytes};
 ghost use Rattle.jx_io.specs.Drafts.{IsLed};
 
+use std::alloc::AllocError;
 use std::fs::Metadata;
 use std::os::unix::fs::MetadataExt;
 use std::path::PathBuf;
@@ -53,7 +54,7 @@ pub(crate) fn followed<R: Disk + AllocGlobal>(rt: &R, name: &str) -> io::Result<
 }
 
 /// Whether both are one file.
-pub(crate) fn is_one(one: &Metadata, other: &Metadata) -> bool {
+fn is_one(one: &Metadata, other: &Metadata) -> bool {
     one.dev() == other.dev() && one.ino() == other.ino()
 }
 
@@ -68,12 +69,17 @@ fn names_output<R: Disk + AllocGlobal>(rt: &R, name: &str) -> io::Result<bool> {
 }
 
 /// Whether a name of an output stands for standard output: `-`, and `/dev/stdout` or the name of another descriptor of the same file.
-pub fn is_standard_output<R: Disk + AllocGlobal>(rt: &R, name: &str) -> bool {
+///
+/// # Errors
+///
+/// `AllocError` where memory is refused.
+pub fn is_standard_output<R: Disk + AllocGlobal>(rt: &R, name: &str) -> Result<bool, AllocError> {
     if name == "-" {
-        return true;
+        return Ok(true);
     }
     match names_output(rt, name) {
-        Ok(is_output) => is_output,
-        Err(_) => false,
+        Ok(is_output) => Ok(is_output),
+        Err(error) if error.kind() == io::ErrorKind::OutOfMemory => Err(AllocError),
+        Err(_) => Ok(false),
     }
 }

@@ -5,7 +5,7 @@ ghost use Rattle.std.specs.Path.{path_buf_bytes};
 ghost use Rattle.jx_io.specs.Drafts.{IsDraft, IsDraftFor};
 
 use crate::draft::{Draft, draft_new, draft_over};
-use crate::names::{followed, is_descriptor, is_one, is_standard_output};
+use crate::names::{followed, is_descriptor, is_standard_output};
 use crate::{Fault, Step};
 use std::fs::{File, Metadata, OpenOptions};
 use std::io::Write;
@@ -22,15 +22,9 @@ pub(crate) struct Output {
     draft: Option<Draft>,
 }
 
-/// Whether an open file is the one that is found at the end of a name's links. One that was removed, or never had a name, isn't.
-fn is_found<R: Disk>(rt: &R, target: &PathBuf, there: &Metadata) -> bool {
-    if is_descriptor(target) {
-        return false;
-    }
-    match fs::symlink_metadata(rt, target.as_path()) {
-        Ok(found) => is_one(&found, there),
-        Err(_) => false,
-    }
+/// Whether a file that was opened has a name at the end of its name's links. One that was removed, or never had a name, hasn't.
+fn is_found<R: Disk>(rt: &R, target: &PathBuf) -> bool {
+    !is_descriptor(target) && fs::symlink_metadata(rt, target.as_path()).is_ok()
 }
 
 /// Begins to write an open file as it stands. A plain one is emptied first.
@@ -61,7 +55,7 @@ fn over<R: Disk<File = File> + AllocGlobal>(
         Ok(there) => there,
         Err(error) => return Err(Fault::new(Step::Create, error)),
     };
-    if !there.is_file() || !is_found(rt, &target, &there) {
+    if !there.is_file() || !is_found(rt, &target) {
         return begin_on(file, &there);
     }
     match draft_over(rt, target, &file, &there, process) {
@@ -99,11 +93,15 @@ pub(crate) fn begin<R: Disk<File = File> + AllocGlobal>(
 ) -> Result<Output, Fault>
     ensures { IfOk result (λ output. IfSome output.draft (λ draft. IsDraftFor name.now (path_buf_bytes draft.name) (path_buf_bytes draft.target))) }
 {
-    if is_standard_output(rt, name) {
-        return Ok(Output {
-            file: None,
-            draft: None,
-        });
+    match is_standard_output(rt, name) {
+        Ok(true) => {
+            return Ok(Output {
+                file: None,
+                draft: None,
+            });
+        }
+        Ok(false) => {}
+        Err(error) => return Err(Fault::new(Step::Create, error.into())),
     }
     let target = match followed(rt, name) {
         Ok(target) => target,

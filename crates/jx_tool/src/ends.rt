@@ -8,7 +8,7 @@ ghost use Rattle.jx_plan.specs.Planned.{chosen};
 ghost use Rattle.jx_cli.specs.Words.{is_good, request_of};
 ghost use Rattle.jx_tool.specs.Ended.{IsEnded, IsHelped, IsSaid, words_in};
 
-use jx_cli::read_words;
+use jx_cli::{WordsFault, read_words};
 use jx_io::{Fault, Files, Progress, Refused, Sink, TellsFault, is_standard_output};
 use jx_layers::{CutLayers, KeepLayers, LayerPlanner, OneLayer, PlaneLayers};
 use jx_messages::{Refusal, explain, explain_fault, help_of};
@@ -51,18 +51,19 @@ fn words_of(alloc: Global, args: io::Result<Args>) -> Result<Vec<String>, Status
 }
 
 /// Whether the line that says how a run over these words went goes to standard error: where good words have the codestream written to
-/// standard output.
+/// standard output. An `Err` is want of memory.
 pub(crate) fn says_aside<R: Disk + AllocGlobal>(
     rt: &R,
     alloc: Global,
     args: io::Result<Args>,
-) -> bool {
+) -> Result<bool, AllocError> {
     let Ok(words) = words_of(alloc, args) else {
-        return false;
+        return Err(AllocError);
     };
     match read_words(alloc, &words) {
         Ok(request) => is_standard_output(rt, request.to()),
-        Err(_) => false,
+        Err(WordsFault::Words) => Ok(false),
+        Err(WordsFault::NoMemory) => Err(AllocError),
     }
 }
 

@@ -11,8 +11,11 @@ use std::process::ExitCode;
 use std::{env, process};
 
 fn main(rt: HostRuntime) -> ExitCode {
+    let Ok(is_aside) = says_aside(&rt, rt.alloc(), env::args(&rt)) else {
+        return ExitCode::from(Status::NoMemory.number());
+    };
     let mut files = StdFiles::new(&rt, process::id(rt.process()));
-    let mut say = StdSink::new(&rt, says_aside(&rt, rt.alloc(), env::args(&rt)));
+    let mut say = StdSink::new(&rt, is_aside);
     // one of several runs at a time has no terminal to read from
     let is_watched = rt.stdin().is_terminal() && rt.stderr().is_terminal();
     let asked = env::var(&rt, "JX_PROGRESS");
