@@ -46,7 +46,8 @@ pub(crate) fn shown_words(alloc: Global, words: &[String]) -> Result<Vec<String>
 {
     let mut texts = Vec::new(alloc);
     for word in words {
-        texts.push(shown(alloc, word.as_str())?)?;
+        let text = shown(alloc, word.as_str())?;
+        texts.push(text)?;
     }
     Ok(texts)
 }

@@ -1,4 +1,4 @@
-use Rattle.std.proofs.Common.{string_bytes, ◌≡◌, encode_utf8_all, chars, flat_map, ◌∙◌, ap, sym, map-id}
+use Rattle.std.proofs.Common.{string_bytes, ◌≡◌, ◌∷◌, [], encode_utf8_all, chars, flat_map, ◌∙◌, ap, sym, map-id, append-nil}
 use Rattle.std.proofs.lemmas.Grind.{flat_map-append}
 use Rattle.std.proofs.lemmas.Iterator.{YieldsList-from_chars}
 use Rattle.std.proofs.lemmas.Iterator.Consumers.{YieldsList-end}
@@ -8,7 +8,8 @@ use Rattle.jx_messages.proofs.shown.shown.Goals as goal
 
 pub loop-c-preserved : goal.loop-c-preserved
 loop-c-preserved c =
-    rw (flat_map-append, encodes-append, ← c.loop-c.invariant) c.in_ok-push_shown.ensures
+    let one : flat_map shown_char (c.in-Some.c ∷ []) ≡ shown_char c.in-Some.c = append-nil _ in
+    rw (flat_map-append, one, encodes-append, ← c.loop-c.invariant) c.in_ok-push_shown.ensures
 
 pub returns : goal.returns
 returns c =
