@@ -1,5 +1,5 @@
 -- Faults of files and of standard output in words, with what the system says of the cause.
-use Rattle.std.specs.Prelude.{ℕ, List, ◌++◌, codes, if◌then◌else◌}
+use Rattle.std.specs.Prelude.{List, ◌++◌, codes, if◌then◌else◌}
 use Rattle.jx_io.specs.declared.fault.Step.{Step}
 use Rattle.jx_io.specs.declared.fault.Step.TheVariants as step
 use Rattle.jx_messages.specs.Names.{name_in, names_make}

@@ -1,4 +1,4 @@
-use Rattle.std.proofs.Common.{string_bytes, ◌≡◌, ◌∷◌, [], encode_utf8_all, chars, flat_map, ◌∙◌, ap, sym, map-id, append-nil}
+use Rattle.std.proofs.Common.{◌≡◌, ◌∷◌, [], encode_utf8_all, flat_map, ◌∙◌, ap, sym, map-id, append-nil}
 use Rattle.std.proofs.lemmas.Grind.{flat_map-append}
 use Rattle.std.proofs.lemmas.Iterator.{YieldsList-from_chars}
 use Rattle.std.proofs.lemmas.Iterator.Consumers.{YieldsList-end}
