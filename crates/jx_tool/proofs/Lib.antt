@@ -1,2 +1,1 @@
 mod EndLemmas
-mod SaidLemmas
