@@ -221,10 +221,9 @@ def allowed(kind, own):
     """The statuses that a run may end with where a call of a kind is refused."""
     if kind == "memory":
         return {own, 9}
+    # (the mounts of OUT and of its folder are read too, and need not be known)
     if kind == "read":
-        return {7, 9}
-    if kind in ("thread", "unlink", "close"):
-        return {own, 7, 8, 9}
+        return {own, 7, 9}
     return {own, 7, 8, 9}
 
 

@@ -6,9 +6,13 @@
 //! blocks that workers have in hand, and [`Progress`] shows how many they are done with.
 #![tactic(auto)]
 
+mod draft;
+mod fault;
 mod files;
 mod gate;
+mod kept;
 mod memory;
+mod names;
 mod output;
 mod plan;
 mod progress;
@@ -19,9 +23,11 @@ mod spoken;
 mod store;
 mod sure;
 
+pub use fault::{Fault, Step, TellsFault};
 pub use files::Files;
 pub use gate::{Gate, NoGate};
 pub use memory::MemFiles;
+pub use names::is_standard_output;
 pub use plan::Call;
 pub use progress::{Progress, is_asked, progress_line};
 pub use real::{StdFiles, StdSink};

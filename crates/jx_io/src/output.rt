@@ -1,167 +1,175 @@
-//! The file that is made: a draft beside its name until it is finished.
+//! The file that is made: a draft beside its name until it is finished, or what is written as it stands.
 
 ghost use Rattle.std.specs.Prelude.{◌≡◌, ◌≤◌, ◌<◌, length, None, IfOk, IfSome, OnErr, OnOk};
 ghost use Rattle.std.specs.Path.{path_buf_bytes};
-ghost use Rattle.jx_io.specs.Drafts.{IsBeside, IsDraftFor, IsLed};
+ghost use Rattle.jx_io.specs.Drafts.{IsDraft, IsDraftFor};
 
-use crate::Refused;
-use std::fs::{File, OpenFile, OpenOptions, Permissions};
+use crate::draft::{Draft, draft_new, draft_over};
+use crate::names::{followed, is_descriptor, is_standard_output};
+use crate::{Fault, Step};
+use std::fs::{File, Metadata, OpenOptions};
 use std::io::Write;
 use std::path::PathBuf;
 use std::rt::Files as Disk;
 use std::{fs, io};
 
-// as many links as the system follows
-const MOST_LINKS: u32 = 40;
-
-const MOST_DRAFTS: u32 = 1_000;
-
-/// A new file, and the name that it is to have.
+/// The file of the system that is made: a draft beside its name until it is finished, that which stands under the name where no
+/// draft can or should take its place, or standard output.
 #[derive(Drop)]
-struct Draft {
-    name: PathBuf,
-    target: PathBuf,
-}
-
-/// The file of the system that is made: a draft beside its name until it is finished, or that
-/// which stands under the name where it is no plain file.
-#[derive(Drop)]
-pub(crate) struct Output<F: Drop> {
-    file: F,
+pub(crate) struct Output {
+    // none for standard output
+    file: Option<File>,
     draft: Option<Draft>,
 }
 
-fn refused(error: io::Error) -> Refused {
-    if error.kind() == io::ErrorKind::OutOfMemory {
-        Refused::NoMemory
-    } else {
-        Refused::Failed
-    }
+/// Whether a file that was opened has a name at the end of its name's links. One that was removed, or never had a name, hasn't.
+fn is_found<R: Disk>(rt: &R, target: &PathBuf) -> bool {
+    !is_descriptor(target) && fs::symlink_metadata(rt, target.as_path()).is_ok()
 }
 
-/// Where the links end that stand under a name. Nothing need be there.
-fn followed<R: Disk + AllocGlobal>(rt: &R, name: &str) -> Result<PathBuf, Refused>
-    ensures { IfOk result (λ path. IsLed name.now (path_buf_bytes path)) }
+/// Begins to write an open file as it stands. A plain one is emptied first.
+fn begin_on(file: File, there: &Metadata) -> Result<Output, Fault>
+    ensures { IfOk result (λ output. output.draft ≡ None) }
 {
-    let mut path = PathBuf::from_str(rt.alloc(), name)?;
-    for _ in 0..MOST_LINKS {
-        match fs::read_link(rt, path.as_path()) {
-            Ok(link) => path = path.with_file_name(rt.alloc(), link.as_str())?,
-            Err(error) => {
-                return match error.kind() {
-                    // it is no link, or nothing is there
-                    io::ErrorKind::InvalidInput | io::ErrorKind::NotFound => Ok(path),
-                    _ => Err(refused(error)),
-                };
-            }
-        }
-    }
-    Err(Refused::Failed)
-}
-
-/// A new file beside this one, with its name.
-fn beside<R: Disk + AllocGlobal>(rt: &R, target: &PathBuf) -> Result<(PathBuf, R::File), Refused>
-    ensures { IfOk result (λ made. IsBeside (path_buf_bytes made.0) (path_buf_bytes target.now)) }
-{
-    for number in 0..MOST_DRAFTS {
-        let text = format!(in rt.alloc(); ".jx-{number}.tmp")?;
-        let name = target.with_file_name(rt.alloc(), text.as_str())?;
-        match File::create_new(rt, name.as_path()) {
-            Ok(file) => return Ok((name, file)),
-            Err(error) if error.kind() == io::ErrorKind::AlreadyExists => {}
-            Err(error) => return Err(refused(error)),
-        }
-    }
-    Err(Refused::Failed)
-}
-
-/// Begins a draft for this name, with the permissions of what it is to replace.
-fn begin_draft<R: Disk + AllocGlobal>(
-    rt: &R,
-    name: &str,
-    permissions: Option<Permissions>,
-) -> Result<Output<R::File>, Refused>
-    ensures { IfOk result (λ output. IfSome output.draft (λ draft. IsDraftFor name.now (path_buf_bytes draft.name) (path_buf_bytes draft.target))) }
-{
-    let target = followed(rt, name)?;
-    if target.file_name().is_none() || target.as_str().ends_with('/') {
-        return Err(Refused::Failed);
-    }
-    let (name, file) = beside(rt, &target)?;
-    if let Some(permissions) = permissions {
-        if let Err(error) = file.set_permissions(permissions) {
-            let _ = fs::remove_file(rt, name.as_path());
-            return Err(refused(error));
+    if there.is_file() {
+        if let Err(error) = file.set_len(0) {
+            return Err(Fault::new(Step::WriteOn, error));
         }
     }
     Ok(Output {
-        file,
-        draft: Some(Draft { name, target }),
+        file: Some(file),
+        draft: None,
     })
 }
 
-/// Begins a file of a name under which this one is found.
-fn over<R: Disk + AllocGlobal>(
+/// Begins a file of a name whose links lead to this path, under which this one was found.
+fn over<R: Disk<File = File> + AllocGlobal>(
+    rt: &R,
+    target: PathBuf,
+    file: File,
+    process: u32,
+) -> Result<Output, Fault>
+    ensures { IfOk result (λ output. IfSome output.draft (IsDraft (path_buf_bytes target))) }
+{
+    let there = match file.metadata() {
+        Ok(there) => there,
+        Err(error) => return Err(Fault::new(Step::Create, error)),
+    };
+    if !there.is_file() || !is_found(rt, &target) {
+        return begin_on(file, &there);
+    }
+    match draft_over(rt, target, &file, &there, process) {
+        Ok((made, draft)) => Ok(Output {
+            file: Some(made),
+            draft: Some(draft),
+        }),
+        Err(fault) => Err(fault),
+    }
+}
+
+fn fresh<R: Disk<File = File> + AllocGlobal>(
+    rt: &R,
+    target: PathBuf,
+    process: u32,
+) -> Result<Output, Fault>
+    ensures { IfOk result (λ output. IfSome output.draft (IsDraft (path_buf_bytes target))) }
+{
+    match draft_new(rt, target, process) {
+        Ok((made, draft)) => Ok(Output {
+            file: Some(made),
+            draft: Some(draft),
+        }),
+        Err(fault) => Err(fault),
+    }
+}
+
+/// Begins a file of this name, for this process. Standard output, and what is there and is no plain file with a name, is written from
+/// now on. A plain file that is there stays as it is until `finish`. A draft stands under a name of its own, in the folder of the file
+/// that the name stands for, which it is to replace.
+pub(crate) fn begin<R: Disk<File = File> + AllocGlobal>(
     rt: &R,
     name: &str,
-    file: R::File,
-) -> Result<Output<R::File>, Refused>
+    process: u32,
+) -> Result<Output, Fault>
     ensures { IfOk result (λ output. IfSome output.draft (λ draft. IsDraftFor name.now (path_buf_bytes draft.name) (path_buf_bytes draft.target))) }
 {
-    match file.metadata() {
-        Err(error) => Err(refused(error)),
-        Ok(there) if there.is_file() => begin_draft(rt, name, Some(there.permissions())),
-        Ok(_) => Ok(Output { file, draft: None }),
-    }
-}
-
-/// Begins a file of this name. A plain file that is there stays as it is until `finish`. What is
-/// there and is no plain file is written from now on. A draft stands under a name of its own, in
-/// the folder of the file that the name stands for, which it is to replace.
-pub(crate) fn begin<R: Disk + AllocGlobal>(rt: &R, name: &str) -> Result<Output<R::File>, Refused>
-    ensures { IfOk result (λ output. IfSome output.draft (λ draft. IsDraftFor name.now (path_buf_bytes draft.name) (path_buf_bytes draft.target))) }
-{
-    match OpenOptions::new().write(true).open(rt, name) {
-        Ok(file) => over(rt, name, file),
-        Err(error) if error.kind() == io::ErrorKind::NotFound => begin_draft(rt, name, None),
-        Err(error) => Err(refused(error)),
-    }
-}
-
-impl<F: Write + OpenFile + Drop> Output<F> {
-    /// Appends the first of these bytes: how many, at least one where there is one; or none where it
-    /// took nothing of them.
-    pub(crate) fn write(&mut self, from: &[u8]) -> Option<usize>
-        ensures room { IfSome result (λ n. n ≤ length from.now) }
-        ensures some { IfSome result (λ n. 0 < length from.now → 0 < n) }
-    {
-        if let Ok(count) = self.file.write(from) {
-            if count > 0 || from.is_empty() {
-                return Some(count);
-            }
+    match is_standard_output(rt, name) {
+        Ok(true) => {
+            return Ok(Output {
+                file: None,
+                draft: None,
+            });
         }
-        None
+        Ok(false) => {}
+        Err(error) => return Err(Fault::new(Step::Create, error.into())),
+    }
+    let target = match followed(rt, name) {
+        Ok(target) => target,
+        Err(error) => return Err(Fault::new(Step::Create, error)),
+    };
+    match OpenOptions::new().write(true).open(rt, name) {
+        Ok(file) => over(rt, target, file, process),
+        Err(error) if error.kind() == io::ErrorKind::NotFound => fresh(rt, target, process),
+        Err(error) => Err(Fault::new(Step::Create, error)),
+    }
+}
+
+impl Output {
+    // what is being done while it is written
+    fn step(&self) -> Step {
+        if self.draft.is_some() {
+            Step::Write
+        } else {
+            Step::WriteOn
+        }
     }
 
-    /// Brings the file to its disk; a draft then takes its name, in place of what had it, and is a
-    /// draft no longer. After a failure all is as before.
-    pub(crate) fn finish<R: Disk>(&mut self, rt: &R) -> io::Result<()>
+    fn taken<R: Print>(&mut self, rt: &R, from: &[u8]) -> io::Result<usize>
+        ensures room { IfOk result (λ n. n ≤ length from.now) }
+        ensures same { self.new.draft ≡ self.old.draft }
+    {
+        match &mut self.file {
+            Some(file) => file.write(from),
+            None => rt.write_some(from),
+        }
+    }
+
+    /// Appends the first of these bytes: how many, at least one where there is one.
+    pub(crate) fn write<R: Print>(&mut self, rt: &R, from: &[u8]) -> Result<usize, Fault>
+        ensures room { IfOk result (λ n. n ≤ length from.now) }
+        ensures some { IfOk result (λ n. 0 < length from.now → 0 < n) }
+    {
+        match self.taken(rt, from) {
+            Ok(count) if count > 0 || from.is_empty() => Ok(count),
+            Ok(_) => Err(Fault::new(self.step(), io::ErrorKind::WriteZero.into())),
+            Err(error) => Err(Fault::new(self.step(), error)),
+        }
+    }
+
+    /// Brings the file to its disk; a draft then takes its name, in place of what had it, and is a draft no longer, but given back.
+    /// After a failure all is as before.
+    pub(crate) fn finish<R: Disk>(&mut self, rt: &R) -> Result<Option<Draft>, Fault>
         ensures ok { OnOk result (self.new ≡ record self.old { draft = None }) }
         ensures err { OnErr result (self.new ≡ self.old) }
     {
         self.bring()?;
         if let Some(draft) = &self.draft {
-            fs::rename(rt, draft.name.as_path(), draft.target.as_path())?;
+            if let Err(error) = fs::rename(rt, draft.name.as_path(), draft.target.as_path()) {
+                return Err(Fault::new(Step::Rename, error));
+            }
         }
-        self.draft = None;
-        Ok(())
+        Ok(self.draft.take())
     }
 
-    // what is no plain file need have no disk to be brought to
-    fn bring(&self) -> io::Result<()> {
-        match self.file.sync_all() {
-            Err(error) if self.draft.is_some() || error.kind() != io::ErrorKind::InvalidInput => {
-                Err(error)
+    // standard output is the caller's to bring to a disk, and what is no plain file need have none
+    fn bring(&self) -> Result<(), Fault> {
+        let Some(file) = &self.file else {
+            return Ok(());
+        };
+        match file.sync_all() {
+            Err(error) if self.draft.is_some() => Err(Fault::new(Step::Sync, error)),
+            Err(error) if error.kind() != io::ErrorKind::InvalidInput => {
+                Err(Fault::new(Step::WriteOn, error))
             }
             _ => Ok(()),
         }

@@ -1,6 +1,6 @@
 //! How far a run is, for people: one line on standard error that is written over.
 
-ghost use Rattle.std.specs.Prelude.{◌≡◌, false, IfErr, IfOk, None, Some, codes, string_bytes};
+ghost use Rattle.std.specs.Prelude.{◌≡◌, ◌≢◌, false, IfErr, IfOk, None, Some, codes, string_bytes};
 ghost use Rattle.std.specs.Str.{bytes_eq};
 ghost use Rattle.jx_io.specs.Shown.{grouped, last_three, progress_text};
 
@@ -143,13 +143,15 @@ impl<'a, R: Clock + Eprint> Gate for Progress<'a, R> {
     }
 }
 
-/// Whether progress is asked for, by what is found of the variable JX_PROGRESS: it is there, and says 1.
-pub fn is_asked(found: &Result<String, VarError>) -> bool
+/// Whether progress is asked for, by what is found of the variable JX_PROGRESS: it says 1, or isn't there while somebody looks on.
+pub fn is_asked(found: &Result<String, VarError>, is_watched: bool) -> bool
     ensures there { IfOk found.now (λ value. result ≡ bytes_eq (string_bytes value) (codes "1")) }
-    ensures missing { IfErr found.now (λ _. result ≡ false) }
+    ensures missing { IfErr found.now (λ error. error ≡ VarError.NotPresent → result ≡ is_watched) }
+    ensures unread { IfErr found.now (λ error. error ≢ VarError.NotPresent → result ≡ false) }
 {
     match found {
         Ok(value) => value.as_str() == "1",
+        Err(VarError::NotPresent) => is_watched,
         Err(_) => false,
     }
 }

@@ -189,7 +189,7 @@ fn sinks_keep_their_text(rt: HostRuntime) -> Result<(), Fail> {
 
 #[test]
 fn a_real_stream(rt: HostRuntime) -> Result<(), Fail> {
-    let mut sink = StdSink::new(&rt);
+    let mut sink = StdSink::new(&rt, false);
     say_twice(&mut sink)?;
     Ok(())
 }

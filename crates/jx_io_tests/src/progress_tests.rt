@@ -101,8 +101,15 @@ fn digits_stand_in_threes(rt: HostRuntime) -> Result<(), Fail> {
 fn asked_by_one_alone(rt: HostRuntime) -> Result<(), Fail> {
     for (value, asked) in [("1", true), ("0", false), ("", false), ("11", false)] {
         let found = Ok(value.to_string(rt.alloc())?);
-        equal(&rt, is_asked(&found), asked);
+        equal(&rt, is_asked(&found, !asked), asked);
     }
-    equal(&rt, is_asked(&Err(VarError::NotPresent)), false);
+    for is_watched in [false, true] {
+        equal(
+            &rt,
+            is_asked(&Err(VarError::NotPresent), is_watched),
+            is_watched,
+        );
+        equal(&rt, is_asked(&Err(VarError::NotUnicode), is_watched), false);
+    }
     Ok(())
 }

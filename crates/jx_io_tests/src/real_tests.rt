@@ -5,9 +5,9 @@ ghost use Rattle.std.specs.Prelude.{◌≡◌, ℕ, List, IsTrue, OnOk};
 use crate::checks::check;
 use crate::memory_tests::round_trip;
 use jx_io::*;
-use std::fs;
 use std::os::unix::fs::{PermissionsExt, symlink};
 use std::test::Fail;
+use std::{fs, process};
 
 // Each test ends by removing its folder, which is refused where anything is left in it.
 
@@ -87,7 +87,7 @@ enum Scene<'a> {
 
 // Whether a scene goes as it should. No other function has a device of its own, since a proof of its drop costs more than all else.
 fn is_played(rt: &HostRuntime, name: &str, scene: Scene<'_>) -> Result<bool, Fail> {
-    let mut files = StdFiles::new(rt);
+    let mut files = StdFiles::new(rt, process::id(rt.process()));
     played(rt, &mut files, name, scene)
 }
 

@@ -15,7 +15,7 @@ causal_words place value =
 -- other sizes of code-blocks
 abbrev pub size_words : ℕ → Text → Text
 size_words place value =
-    codes "jx: --precincts " ++ (value ++ (codes " would change the size of code-blocks\n    in tile " ++ (decimal place ++ codes ", and with it the coded bytes:\n    use keep, max or larger exponents (T.800 B.7; choice 2)\n")))
+    codes "jx: --precincts " ++ (value ++ (codes " would change the size of code-blocks\n    in tile " ++ (decimal place ++ codes ", and with it the coded bytes: use keep, or\n    the input's own exponents where its precincts cut its code-blocks, and\n    elsewhere such as don't cut them (T.800 B.7; choice 2)\n")))
 
 -- an exponent 0, in some header
 abbrev pub zero_words : Text → Text → Text

@@ -1,7 +1,10 @@
+pub mod Help
+pub mod Text
 -- Inner: no other crate cites these.
 pub mod Choices
+pub mod Faults
 pub mod Limits
 pub mod Names
 pub mod Rules
 pub mod Sentences
-pub mod Text
+pub mod Shown

@@ -7,7 +7,7 @@ use Rattle.jx_messages.specs.Choices.{choice_words, option_words}
 use Rattle.jx_messages.specs.Limits.{LimitRow, limit_words}
 use Rattle.jx_messages.specs.Names.{name_in, names_make, value_in}
 use Rattle.jx_messages.specs.Rules.{RuleRow, rule_words}
-use Rattle.jx_messages.specs.Text.{Text}
+use Rattle.jx_messages.specs.Text.{EndsLine, Text}
 
 -- what stands at a byte of the input, and what is wrong with it
 unfoldable pub rule_front : Text → Text → ℕ → Text → Text
@@ -56,10 +56,6 @@ write_sentence words =
 
 abbrev pub no_memory_sentence : Text
 no_memory_sentence = codes "jx: the system gave too little memory: close other programs\n"
-
--- a text that isn't empty and ends with a line feed
-abbrev pub EndsLine : Text → Type 0
-EndsLine text = (front : Text) × (text ≡ front ++ codes "\n")
 
 -- what is told of a refusal of a run on these words
 abbrev pub IsExplained : Refusal → List Text → Text → Type 0

@@ -18,7 +18,7 @@ fn size(alloc: Global, place: u32, list: &str) -> Result<String, AllocError>
     ensures { IfOk result (λ text. string_bytes text ≡ size_words place list.now) }
 {
     format!(in alloc;
-        "jx: --precincts {list} would change the size of code-blocks\n    in tile {place}, and with it the coded bytes:\n    use keep, max or larger exponents (T.800 B.7; choice 2)\n"
+        "jx: --precincts {list} would change the size of code-blocks\n    in tile {place}, and with it the coded bytes: use keep, or\n    the input's own exponents where its precincts cut its code-blocks, and\n    elsewhere such as don't cut them (T.800 B.7; choice 2)\n"
     )
 }
 

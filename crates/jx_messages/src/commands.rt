@@ -1,6 +1,6 @@
 //! How the program is called: help, usage, and what is wrong with words.
-ghost use Rattle.std.specs.Prelude.{IfOk, string_bytes};
-ghost use Rattle.jx_messages.specs.Sentences.{EndsLine};
+ghost use Rattle.std.specs.Prelude.{IfOk, IfSome, string_bytes};
+ghost use Rattle.jx_messages.specs.Text.{EndsLine};
 
 use crate::forms::value_text;
 use crate::options::{OptionText, option_text};
@@ -82,8 +82,9 @@ fn with_place<'a>(
 
 /// With the names of the input and the output.
 fn with_places<'a>(alloc: Global, command: Command<'a>) -> Result<Command<'a>, AllocError> {
-    let read = "the codestream that is read";
-    let written = "the file that is written; an older one stands until it is whole";
+    let read = "the codestream that is read; - is standard input";
+    let written =
+        "the file that is written; - is standard output;\nan older file stands until the new one is whole";
     let command = with_place(alloc, command, "in", "IN", read)?;
     with_place(alloc, command, "out", "OUT", written)
 }
@@ -124,8 +125,7 @@ fn bare<'a>(alloc: Global) -> Result<Command<'a>, AllocError> {
             .version(VERSION)
             .about(ABOUT)
             .after_help(MORE)
-            .subcommand_required(true)
-            .arg_required_else_help(true),
+            .subcommand_required(true),
     )
 }
 
@@ -190,15 +190,33 @@ fn told(alloc: Global, error: &Error) -> Result<String, AllocError>
 {
     let text = format!(in alloc; "{error}")?;
     match error.kind() {
-        ErrorKind::DisplayHelp
-        | ErrorKind::DisplayVersion
-        | ErrorKind::DisplayHelpOnMissingArgumentOrSubcommand
-        | ErrorKind::OutOfMemory => ended(alloc, text.as_str()),
+        ErrorKind::DisplayHelp | ErrorKind::DisplayVersion | ErrorKind::OutOfMemory => {
+            ended(alloc, text.as_str())
+        }
         _ => mistake(alloc, text.as_str()),
     }
 }
 
-/// Which of the words are wrong, and why; the help where it was asked for, or where there are none.
+/// The help or the version, where clap has these for the words.
+///
+/// # Errors
+///
+/// `AllocError` where memory is refused.
+pub(crate) fn shown_help(alloc: Global, words: &[String]) -> Result<Option<String>, AllocError>
+    ensures { IfOk result (λ text. IfSome text (λ text. EndsLine (string_bytes text))) }
+{
+    let command = program(alloc)?;
+    let Err(error) = command.try_get_matches_from(words) else {
+        return Ok(None);
+    };
+    match error.kind() {
+        ErrorKind::DisplayHelp | ErrorKind::DisplayVersion => Ok(Some(told(alloc, &error)?)),
+        ErrorKind::OutOfMemory => Err(AllocError),
+        _ => Ok(None),
+    }
+}
+
+/// Which of the words are wrong, and why.
 ///
 /// # Errors
 ///

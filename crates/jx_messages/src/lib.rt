@@ -4,13 +4,18 @@
 
 mod choices;
 mod commands;
+mod faults;
 mod forms;
+mod help;
 mod limits;
 mod options;
 mod rules;
 mod sentence;
+mod shown;
 mod words;
 
+pub use faults::explain_fault;
+pub use help::help_of;
 pub use sentence::explain;
 
 /// Why a run was refused.

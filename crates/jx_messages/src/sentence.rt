@@ -4,12 +4,14 @@ ghost use Rattle.jx_messages.specs.Limits.{limit_row};
 ghost use Rattle.jx_messages.specs.Names.{name_in};
 ghost use Rattle.jx_messages.specs.Rules.{rule_row};
 ghost use Rattle.jx_messages.specs.Sentences.{IsExplained, block_sentence, choice_sentence, limit_filled, limit_front, limit_sentence, no_memory_sentence, read_sentence, rule_filled, rule_front, rule_sentence, write_sentence};
+ghost use Rattle.jx_messages.specs.Shown.{shown_all};
 
 use crate::Refusal;
 use crate::choices::{choice_text, option_of};
 use crate::commands::words_text;
 use crate::limits::{LimitText, limit_text};
 use crate::rules::{RuleText, rule_text};
+use crate::shown::shown_words;
 use crate::words::{asked, name_at, names_make};
 use std::alloc::{AllocError, Global};
 
@@ -125,12 +127,8 @@ fn write_fault(alloc: Global, words: &[String]) -> Result<String, AllocError>
     )
 }
 
-/// Why a run on these words was refused, and what to ask instead: a few lines, each of which ends with a line feed.
-///
-/// # Errors
-///
-/// `AllocError` where memory is refused.
-pub fn explain(alloc: Global, refusal: Refusal, words: &[String]) -> Result<String, AllocError>
+/// Why a run was refused, over words that may be shown.
+fn explained(alloc: Global, refusal: Refusal, words: &[String]) -> Result<String, AllocError>
     ensures { IfOk result (λ text. IsExplained refusal (map string_bytes words.now) (string_bytes text)) }
 {
     match refusal {
@@ -146,4 +144,17 @@ pub fn explain(alloc: Global, refusal: Refusal, words: &[String]) -> Result<Stri
             "jx: the system gave too little memory: close other programs\n",
         ),
     }
+}
+
+/// Why a run on these words was refused, and what to ask instead: a few lines, each of which ends with a line feed. Control characters in the
+/// words are shown as `\x` and two digits.
+///
+/// # Errors
+///
+/// `AllocError` where memory is refused.
+pub fn explain(alloc: Global, refusal: Refusal, words: &[String]) -> Result<String, AllocError>
+    ensures { IfOk result (λ text. IsExplained refusal (shown_all (map string_bytes words.now)) (string_bytes text)) }
+{
+    let shown = shown_words(alloc, words)?;
+    explained(alloc, refusal, &shown)
 }

@@ -1,5 +1,6 @@
--- How the process ends: with the number of the status of a run over its words, with the planners of layers that there are.
-use Rattle.std.specs.Prelude.{◌≡◌, ℕ, List, [], map, Option, Result, Ok, Err, string_bytes}
+-- How the process ends: with the number of the status of a run over its words, with the planners of layers that there are, or with help.
+use Rattle.std.specs.Prelude.{◌≡◌, ◌⊎◌, ◌++◌, ℕ, List, [], map, true, Option, Result, Ok, Err, string_bytes}
+use Rattle.std.specs.Option.{option_map}
 use Rattle.std.specs.declared.string.String.{String}
 use Rattle.std.specs.declared.vec.IntoIter.{IntoIter}
 use Rattle.std.specs.Vec.Iter.{into_iter_items}
@@ -7,8 +8,11 @@ use Rattle.jx_io.specs.Device.{Meaning}
 use Rattle.jx_layers.specs.declared.StreamFacts.{StreamFacts}
 use Rattle.jx_layers.specs.Rule.{Rule}
 use Rattle.jx_transcode.specs.declared.status.Status.{Status}
+use Rattle.jx_transcode.specs.declared.status.Status.TheVariants as ending
 use Rattle.jx_rounds.specs.declared.tape.TapeEntry.{TapeEntry}
 use Rattle.jx_cli.specs.Words.{Text}
+use Rattle.jx_messages.specs.Help.{asks_help}
+use Rattle.jx_messages.specs.Text.{EndsLine}
 use Rattle.jx_transcode.specs.Outcome.{number_of}
 use Rattle.jx_transcode.specs.Runs.{Outcome}
 
@@ -23,4 +27,20 @@ pub record IsEnded (words : List Text) (rule : List ℕ → StreamFacts → Opti
   pub blocks : ℕ
   pub tape : List TapeEntry
   pub outcome : Outcome words rule status blocks tape old new before now
+  pub number_is : number ≡ number_of status
+
+-- a text was said whole, or nothing was, and the number is that of the status
+pub record IsSaid (status : Status) (text : Text) (before now : Option (List ℕ)) : Type 0 where
+  pub said : status ≡ ending.Done → now ≡ option_map (λ said. said ++ text) before
+  pub unsaid : (status ≡ ending.WriteFault) ⊎ (status ≡ ending.NoMemory) → now ≡ before
+  pub one_of : (status ≡ ending.Done) ⊎ ((status ≡ ending.WriteFault) ⊎ (status ≡ ending.NoMemory))
+
+-- the words ask for help, and lines of it were said, or couldn't be; no file was touched
+pub record IsHelped (words : List Text) (number : ℕ) (old new : Meaning) (before now : Option (List ℕ)) : Type 0 where
+  pub asked : asks_help words ≡ true
+  pub untouched : new ≡ old
+  pub text : Text
+  pub lines : EndsLine text
+  pub status : Status
+  pub said : IsSaid status text before now
   pub number_is : number ≡ number_of status

@@ -1,6 +1,6 @@
 use Rattle.std.specs.Path.{path_buf_bytes}
 use Rattle.jx_io.proofs.DraftLemmas.{led_on}
-use Rattle.jx_io.proofs.output.followed.Goals as goal
+use Rattle.jx_io.proofs.names.followed.Goals as goal
 
 pub loop-preserved : goal.loop-preserved
 loop-preserved g c =
