@@ -36,9 +36,9 @@ first_start ps (s ∷ starts) place h =
     omega arith
 
 -- ---- the piece that is found
-pub found_begins : (starts : List ℕ) (place count : ℕ) → ((k : ℕ) → k < count → get_or starts k 0 ≤ place) → get_or starts 0 0 ≤ place → get_or starts (count - 1) 0 ≤ place
-found_begins starts place zero below first = first
-found_begins starts place (suc count) below first = let e : suc count - 1 ≡ count = omega arith in rw e (below count (omega arith))
+pub found_begins : (starts : List ℕ) (place count k : ℕ) → k ≡ count - 1 → ((i : ℕ) → i < count → get_or starts i 0 ≤ place) → get_or starts 0 0 ≤ place → get_or starts k 0 ≤ place
+found_begins starts place zero k e below first = rw e first
+found_begins starts place (suc count) k e below first = let last : k ≡ count = omega arith in rw last (below count (omega arith))
 
 pub found_start : (ps : List PieceValue) (starts : List ℕ) (k : ℕ) → AreStarts ps starts → k ≤ length starts - 1 → get_or starts k 0 ≡ bytes_in (take k ps)
 found_start ps [] k h le = let z : k ≡ 0 = omega arith in rw z refl
@@ -79,6 +79,9 @@ left_next ps i start whole lt h =
     let e : bytes_in (map value_of (drop i ps)) ≡ length (first_piece ps i).bytes.now + bytes_in (map value_of (drop (i + 1) ps)) =
     ap bytes_in (drop_one ps i no_piece lt) ∙ sum_by-cons (λ (p : PieceValue). length p.bytes) (value_of (first_piece ps i)) (map value_of (drop (i + 1) ps)) in
     omega arith
+
+pub one_longer : (starts more : List ℕ) (i start : ℕ) → length starts ≡ i → more ≡ starts ++ start ∷ [] → length more ≡ i + 1
+one_longer starts more i start long e = ap (λ (l : List ℕ). length l) e ∙ length_push starts start ∙ ap (λ (n : ℕ). n + 1) long
 
 pub starts_next : (ps : List Piece) (starts more : List ℕ) (i start : ℕ) → length starts ≡ i → start + bytes_in (map value_of (drop i ps)) ≡ bytes_in (map value_of ps)
     → more ≡ starts ++ start ∷ [] → ((j : ℕ) → j < length starts → get_or starts j 0 ≡ bytes_in (take j (map value_of ps)))

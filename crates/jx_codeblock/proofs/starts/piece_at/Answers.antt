@@ -8,7 +8,7 @@ pub returns-clause-begins : goal.returns-clause-begins
 returns-clause-begins c =
     let parted = IsPartitionedBy-leb (λ (n : ℕ). n) c.args.starts.now c.args.place c.requires in
     let point = IsPartitionPoint-from_clause (λ (n : ℕ). leb n c.args.place) c.args.starts.now c.partition_point.result c.partition_point.ensures.partitioned parted (λ a r q k. search rules) in
-    found_begins c.args.starts.now c.args.place c.partition_point.result (λ (k : ℕ) lt. leb-true _ _ (point.0 k 0 (omega arith) lt))
+    found_begins c.args.starts.now c.args.place c.partition_point.result c.saturating_sub.result c.saturating_sub.ensures (λ (k : ℕ) lt. leb-true _ _ (point.0 k 0 (omega arith) lt))
 
 pub returns-clause-next : goal.returns-clause-next
 returns-clause-next c =
