@@ -2,7 +2,7 @@ use Rattle.jx_codeblock_tests.proofs.Samples.{spread_none, spread_next}
 use Rattle.jx_codeblock_tests.proofs.pieces_tests.thirteen_pieces.Goals as goal
 
 pub loop-pass-init : goal.loop-pass-init
-loop-pass-init c = rw c.new.ensures (spread_none c.args.style.bits)
+loop-pass-init c = rw c.new-pieces.ensures (spread_none c.args.style.bits)
 
 pub loop-pass-preserved : goal.loop-pass-preserved
 loop-pass-preserved c =
