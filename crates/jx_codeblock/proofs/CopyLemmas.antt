@@ -1,5 +1,5 @@
 -- Bytes from a place up to another, out of pieces one behind another.
-use Rattle.std.proofs.Common.{◌≡◌, ℕ, zero, suc, ◌+◌, ◌-◌, ◌≤◌, List, [], ◌∷◌, ◌++◌, ◌∙◌, ap, sym, refl, arith, length, take, drop, append_assoc, length-append}
+use Rattle.std.proofs.Common.{◌≡◌, ℕ, zero, suc, ◌+◌, ◌-◌, ◌≤◌, List, [], ◌∷◌, ◌++◌, ◌∙◌, ap, sym, refl, arith, length, take, drop, append_assoc, append-nil, length-append}
 use Rattle.std.proofs.lemmas.List.{length-take, take-append-le}
 use Rattle.std.proofs.Math.Seq.{drop-nil}
 
@@ -35,6 +35,12 @@ copied_next out more whole bytes rest all skip left skip' left' split before ste
     ∙ append_assoc out some (take (left - length some) (drop (skip - length bytes) rest))
     ∙ ap (λ (m : List ℕ). out ++ m) (sym (part_split bytes rest skip left))
     ∙ ap (λ (m : List ℕ). out ++ take left (drop skip m)) (sym split) ∙ before
+
+-- where nothing is left
+pub copied_done : (out whole rest : List ℕ) (skip left : ℕ) → out ++ take left (drop skip rest) ≡ whole → left ≡ 0 → out ≡ whole
+copied_done out whole rest skip left before none =
+    let e : out ++ take 0 (drop skip rest) ≡ whole = rw none at before in
+    sym (append-nil out) ∙ e
 
 pub copied_room : (out whole bytes rest all : List ℕ) (skip left : ℕ) → all ≡ bytes ++ rest → out ++ take left (drop skip all) ≡ whole
     → length out + length (take left (drop skip bytes)) ≤ length whole

@@ -20,6 +20,7 @@ use Rattle.jx_codeblock.specs.Groups.{groups}
 use Rattle.jx_codeblock.specs.Segments.{bytes_before, sent_by_looks, sent_by_pieces}
 use Rattle.jx_codeblock.specs.Recoding.{has_own_ends, own_segments, coding_in, decoded_in, parts_after, sent_in}
 use Rattle.jx_codeblock.specs.Jobs.{AreEnds}
+use Rattle.jx_codeblock.specs.Laws.{decoded_first}
 use Rattle.jx_codeblock.specs.Tables.{are_cut, at_place, rows, bytes_joined, AreFew}
 use Rattle.jx_codeblock.proofs.DropLemmas.{pieces_few}
 use Rattle.jx_codeblock.proofs.GroupLemmas.{segments_are}
@@ -120,14 +121,14 @@ own_same b style ss sound e f =
     ap (λ (s : Style). decoded_in b s.bits ss) e
     ∙ ap (λ (segments : List (List ℕ)). decoded_in b b.style.bits segments) (f ∙ sym (segments_are b.style.bits 0 b.passes b.pieces sound.pieces))
 
-pub looked_few_in : (b : Block) (style found : Style) (ss slices : List (List ℕ)) (looked : List ℕ) → found ≡ style → slices ≡ ss → looked ≡ (decoded_in b found.bits ss).looked
-    → AreFew style.bits slices looked
-looked_few_in b style found ss slices looked e f g =
-    subst (λ (s : Style). AreFew s.bits slices looked) e (few_of (length_of b.rect.x) (length_of b.rect.y) (coding_in b found.bits) ss slices b.passes looked f g)
+pub looked_few_in : (b : Block) (style found : Style) (last : ℕ) (ss slices : List (List ℕ)) (looked : List ℕ) → found ≡ style → slices ≡ ss
+    → looked ≡ (decoded_first b found.bits ss last).looked → AreFew style.bits slices looked
+looked_few_in b style found last ss slices looked e f g =
+    subst (λ (s : Style). AreFew s.bits slices looked) e (few_of (length_of b.rect.x) (length_of b.rect.y) (coding_in b found.bits) ss slices last looked f g)
 
-pub own_table : (b : Block) (ss : List (List ℕ)) → IsSound b → ss ≡ groups b.style.bits b.pieces
-    → map (sent_by_looks b.style.bits b.passes ss (decoded_in b b.style.bits ss).looked) (range_with_len 0 (b.passes + 1))
-    ≡ map (sent_by_looks b.style.bits b.passes (own_segments b) (own_looked b)) (range_with_len 0 (b.passes + 1))
-own_table b ss sound e =
+pub own_table : (b : Block) (last : ℕ) (ss : List (List ℕ)) → IsSound b → ss ≡ groups b.style.bits b.pieces
+    → map (sent_by_looks b.style.bits b.passes ss (decoded_first b b.style.bits ss last).looked) (range_with_len 0 (b.passes + 1))
+    ≡ map (sent_by_looks b.style.bits b.passes (own_segments b) (decoded_first b b.style.bits (own_segments b) last).looked) (range_with_len 0 (b.passes + 1))
+own_table b last ss sound e =
     let same : ss ≡ own_segments b = e ∙ sym (segments_are b.style.bits 0 b.passes b.pieces sound.pieces) in
     rw same refl

@@ -33,6 +33,7 @@ mod SeenLemmas
 mod SentLemmas
 mod ShareLemmas
 mod SoundLemmas
+mod StartLemmas
 mod TwinLemmas
 mod WithinLemmas
 mod WrittenLemmas

@@ -22,6 +22,7 @@ use Rattle.jx_codeblock.proofs.LengthLemmas.{anew_few}
 use Rattle.jx_codeblock.proofs.OwnBytes.{kept_by, own_bytes}
 use Rattle.jx_codeblock.proofs.PartLemmas.{ends_within}
 use Rattle.jx_codeblock.proofs.SoundLemmas.{kept_sound}
+use Rattle.jx_codeblock.proofs.StartLemmas.{no_starts}
 use Rattle.jx_codeblock.proofs.WrittenLemmas.{none_written}
 
 -- ---- in any style or none
@@ -41,15 +42,15 @@ by_few b None new sound le =
 by_few b (Some style) new sound le = le
 
 -- ---- of a job
-pub job_within : (j : Job) (new : List ℕ) (parts : List OutPart) → IsMade j new parts → All (IsWithin (length (made_recoding j new parts).bytes)) parts
-job_within j new parts h = all_within j.block.now j.style j.ends (made_recoding j new parts) h.asked h.is
+pub job_within : (j : Job) (new starts : List ℕ) (parts : List OutPart) → IsMade j new starts parts → All (IsWithin (length (made_recoding j new parts).bytes)) parts
+job_within j new starts parts h = all_within j.block.now j.style j.ends (made_recoding j new parts) h.asked h.is
 
-pub job_sound : (j : Job) (new : List ℕ) (parts : List OutPart) → IsMade j new parts
+pub job_sound : (j : Job) (new starts : List ℕ) (parts : List OutPart) → IsMade j new starts parts
     → ArePieces (made_recoding j new parts).style 0 0 j.block.now.passes (pieces_of (made_recoding j new parts))
-job_sound j new parts h = all_sound j.block.now j.style j.ends (made_recoding j new parts) h.asked h.is
+job_sound j new starts parts h = all_sound j.block.now j.style j.ends (made_recoding j new parts) h.asked h.is
 
-pub job_few : (j : Job) (new : List ℕ) (parts : List OutPart) → IsMade j new parts → length (made_recoding j new parts).bytes ≤ 2 ^ 28
-job_few j new parts h = by_few j.block.now j.style new h.asked.sound h.few
+pub job_few : (j : Job) (new starts : List ℕ) (parts : List OutPart) → IsMade j new starts parts → length (made_recoding j new parts).bytes ≤ 2 ^ 28
+job_few j new starts parts h = by_few j.block.now j.style new h.asked.sound h.few
 
 -- ---- the bytes that a job's parts are of
 pub kept_bytes : (j : Job) (new : List ℕ) → IsSound j.block.now → j.style ≡ None → bytes_by j.block.now j.style new ≡ bytes_joined j.block.now.pieces
@@ -90,14 +91,15 @@ nothing_made j new parts asked none e f = by j.style refl
         made_by j style new parts s (none_wrong j.block.now none) (e ∙ sym no_bytes) (f ∙ no_parts)
 
 -- from the lists that are written, and what is made of them
-pub anew_made : (j : Job) (style : Style) (ends : List LayerEnd) (lists again : List (List ℕ)) (new : List ℕ) (parts : List OutPart) → IsAsked j.block.now j.style j.ends
+pub anew_made : (j : Job) (style : Style) (ends : List LayerEnd) (lists again : List (List ℕ)) (new starts : List ℕ) (parts : List OutPart) → IsAsked j.block.now j.style j.ends
     → j.style ≡ Some style → wrong_in j.block.now ≡ None → ends ≡ j.ends → lists ≡ anew j.block.now style → again ≡ anew j.block.now style → new ≡ concat lists
-    → parts ≡ parts_after style.bits (sent_in j.block.now (Some style) ends again) 0 ends → IsMade j new parts
-anew_made j style ends lists again new parts asked s right same is was e f =
+    → starts ≡ [] → parts ≡ parts_after style.bits (sent_in j.block.now (Some style) ends again) 0 ends → IsMade j new starts parts
+anew_made j style ends lists again new starts parts asked s right same is was e none f =
     let bytes : new ≡ concat (anew j.block.now style) = e ∙ ap (λ (ss : List (List ℕ)). concat ss) is in
     let parts_are : parts ≡ parts_after style.bits (sent_in j.block.now (Some style) j.ends (anew j.block.now style)) 0 j.ends = f ∙ rw (same, was) refl in
     record {
       asked = asked;
       few = subst (λ (bs : List ℕ). length bs ≤ 2 ^ 28) (sym bytes) (anew_few j.block.now style asked.sound);
+      begins = no_starts j.block.now.pieces starts none;
       is = made_by j style new parts s right bytes parts_are;
     }

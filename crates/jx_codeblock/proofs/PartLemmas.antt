@@ -111,7 +111,7 @@ parts_everywhere s t style layer all ends are agree =
 abbrev pub IsCut : ℕ → ℕ → ℕ → Type 0
 IsCut style all n = (n ≡ 0) ⊎ (n ≡ all) ⊎ (end_pass style (n - 1) ≡ true)
 
-cut_from : (style all n : ℕ) → (n == all || end_pass style (n - 1)) ≡ true → IsCut style all n
+pub cut_from : (style all n : ℕ) → (n == all || end_pass style (n - 1)) ≡ true → IsCut style all n
 cut_from style all n h = elim (or_cases (n == all) (end_pass style (n - 1)) h) [
   | inl same ↦ inr (inl (eqb-true n all same))
   | inr ends ↦ inr (inr ends)

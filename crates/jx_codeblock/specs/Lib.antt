@@ -8,3 +8,5 @@ pub mod FirstLayers
 pub mod Segments
 pub mod Tables
 pub mod Groups
+pub mod Starts
+pub mod Held

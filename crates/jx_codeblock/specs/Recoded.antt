@@ -9,6 +9,7 @@ use Rattle.jx_codeblock.specs.declared.job.Job.{Job}
 use Rattle.jx_codeblock.specs.declared.OutPart.{OutPart}
 use Rattle.jx_codeblock.specs.Recoding.{Recoding, recoding, own_segments, new_style}
 use Rattle.jx_codeblock.specs.Jobs.{IsAsked}
+use Rattle.jx_codeblock.specs.Starts.{AreStarts}
 
 pub record WrittenBlock : Type 0 where
   pub job : Job
@@ -41,13 +42,15 @@ abbrev pub list_of : {A B : Type 0} → (A → List B) → Option A → List B
 list_of f None = []
 list_of f (Some a) = f a
 
--- the new bytes of a block, and its parts
+-- the new bytes of a block, where pieces begin of one that keeps its own, and its parts
 pub record MadeLists : Type 0 where
   pub bytes : List ℕ
+  pub starts : List ℕ
   pub parts : List OutPart
 
--- the job is a valid one, and these are its new bytes and its parts
-pub record IsMade (j : Job) (new : List ℕ) (parts : List OutPart) : Type 0 where
+-- the job is a valid one, and these are its new bytes, where its pieces begin, and its parts
+pub record IsMade (j : Job) (new starts : List ℕ) (parts : List OutPart) : Type 0 where
   pub asked : IsAsked j.block.now j.style j.ends
   pub few : length new ≤ 2 ^ 28
+  pub begins : AreStarts j.block.now.pieces starts
   pub is : Some (made_recoding j new parts) ≡ recoding_in j

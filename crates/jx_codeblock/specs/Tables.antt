@@ -1,5 +1,5 @@
 -- Numbers for each pass, as they are listed.
-use Rattle.std.specs.Prelude.{ℕ, ◌+◌, ◌-◌, ◌==◌, ◌≤◌, Bool, true, false, ◌||◌, not, List, [], ◌∷◌, ◌++◌, length, replicate, slice_index_or}
+use Rattle.std.specs.Prelude.{ℕ, ◌+◌, ◌-◌, ◌==◌, ◌≤◌, max, Bool, true, false, ◌||◌, not, if◌then◌else◌, List, [], ◌∷◌, ◌++◌, length, replicate, slice_index_or}
 use Rattle.std.specs.List.{flat_map, list_all, list_any}
 use Rattle.jx_base.specs.Pieces.{PieceValue}
 use Rattle.jx_base.specs.Passes.{end_pass}
@@ -32,6 +32,14 @@ is_cut style all e = e.passes == all || end_pass style (e.passes - 1)
 
 abbrev pub are_cut : ℕ → ℕ → List LayerEnd → Bool
 are_cut style all ends = list_all (is_cut style all) ends
+
+-- the last end that lies within a segment; 0 where none does
+abbrev pub end_within : ℕ → ℕ → LayerEnd → ℕ
+end_within style all e = if is_cut style all e then 0 else e.passes
+
+abbrev pub last_within : ℕ → ℕ → List LayerEnd → ℕ
+last_within style all [] = 0
+last_within style all (e ∷ ends) = max (end_within style all e) (last_within style all ends)
 
 -- a pass was looked at no further than to the end of its segment
 abbrev pub AreFew : ℕ → List (List ℕ) → List ℕ → Type 0

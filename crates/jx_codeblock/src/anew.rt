@@ -11,7 +11,7 @@ ghost use Rattle.jx_codeblock.specs.Segments.{bytes_before};
 ghost use Rattle.jx_codeblock.specs.Tables.{are_cut};
 
 use crate::looks::{looked_in, own_decoded};
-use crate::own::all_cut;
+use crate::own::{all_cut, last_within};
 use crate::parts::all_parts;
 use crate::sent::by_looks;
 use crate::{BlockFault, Job, LayerEnd, OutPart};
@@ -76,7 +76,7 @@ fn parts_by_ends(
     all_parts(alloc, style, ends, &table)
 }
 
-/// The parts of new segments, which are decoded.
+/// The parts of new segments, which are decoded to the last end that lies within one of them.
 fn parts_by_looks(
     alloc: Global,
     block: &Block<'_>,
@@ -90,7 +90,8 @@ fn parts_by_looks(
     requires few { bytes_before segments (length segments) ≤ 2 ^ 28 }
     ensures { IfOk result (λ parts. parts.items ≡ parts_after style.bits (sent_in block.now (Some style) ends.now segments.entry) 0 ends.now) }
 {
-    let table = looked_in(alloc, block, style, segments)?;
+    let last = last_within(style, block.passes, ends);
+    let table = looked_in(alloc, block, style, last, segments)?;
     all_parts(alloc, style, ends, &table)
 }
 

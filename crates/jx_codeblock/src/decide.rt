@@ -4,12 +4,13 @@ ghost use Rattle.std.specs.Prelude.{◌≡◌, ◌≤◌, ◌<◌, ◌+◌, ◌-
 ghost use Rattle.std.specs.List.{range_with_len};
 ghost use Rattle.jx_base.specs.Sound.{IsSound};
 ghost use Rattle.jx_codeblock.specs.Jobs.{AreEnds};
+ghost use Rattle.jx_codeblock.specs.Laws.{decoded_first};
 ghost use Rattle.jx_codeblock.specs.Recoding.{parts_after, sent_in, own_segments, has_own_ends, decoded_in};
 ghost use Rattle.jx_codeblock.specs.Groups.{groups};
 ghost use Rattle.jx_codeblock.specs.Segments.{sent_by_looks, sent_by_pieces};
 
 use crate::looks::looked_in;
-use crate::own::{all_cut, all_noted, own_ends};
+use crate::own::{all_cut, all_noted, last_within, own_ends};
 use crate::parts::all_parts;
 use crate::segments::{goes_on, joined, segments_apart, segments_in};
 use crate::sent::by_pieces;
@@ -28,38 +29,42 @@ fn has_own_ends(alloc: Global, block: &Block<'_>, ends: &[LayerEnd]) -> Result<b
 }
 
 /// How many bytes of a block are sent by the end of each number of passes, where those are that the
-/// decoder looked at in its own segments. Where each segment is one piece no byte is copied.
-fn looked_at(alloc: Global, block: &Block<'_>) -> Result<Vec<u32>, NoMemory>
+/// decoder looked at in its own segments, by the end of the first `last` passes. Where each segment is one
+/// piece no byte is copied.
+fn looked_at(alloc: Global, block: &Block<'_>, last: u16) -> Result<Vec<u32>, NoMemory>
     requires sound { IsSound block.now }
     requires some { 1 ≤ block.now.passes }
+    requires last { last ≤ block.now.passes }
     ensures { let segments = own_segments block.now in
         IfOk result (λ table. table.items ≡ map (sent_by_looks block.now.style.bits block.now.passes segments
-        (decoded_in block.now block.now.style.bits segments).looked) (range_with_len 0 (block.now.passes + 1))) }
+        (decoded_first block.now block.now.style.bits segments last).looked) (range_with_len 0 (block.now.passes + 1))) }
 {
     let pieces = block.pieces.as_slice();
     if !goes_on(block.style, pieces) {
         let segments = segments_apart(alloc, block.style, pieces)?;
-        return own_looked(alloc, block, segments);
+        return own_looked(alloc, block, last, segments);
     }
     let whole = joined(alloc, pieces)?;
     let segments = segments_in(alloc, block.style, pieces, &whole)?;
-    own_looked(alloc, block, segments)
+    own_looked(alloc, block, last, segments)
 }
 
 /// The same from segments that are the block's own.
 fn own_looked(
     alloc: Global,
     block: &Block<'_>,
+    last: u16,
     segments: Segments<'_>,
 ) -> Result<Vec<u32>, NoMemory>
     requires sound { IsSound block.now }
     requires some { 1 ≤ block.now.passes }
+    requires last { last ≤ block.now.passes }
     requires own { segments ≡ groups block.now.style.bits block.now.pieces }
     ensures { let segments = own_segments block.now in
         IfOk result (λ table. table.items ≡ map (sent_by_looks block.now.style.bits block.now.passes segments
-        (decoded_in block.now block.now.style.bits segments).looked) (range_with_len 0 (block.now.passes + 1))) }
+        (decoded_first block.now block.now.style.bits segments last).looked) (range_with_len 0 (block.now.passes + 1))) }
 {
-    looked_in(alloc, block, block.style, segments)
+    looked_in(alloc, block, block.style, last, segments)
 }
 
 /// The parts, where as many bytes are sent as the pieces have.
@@ -76,7 +81,8 @@ fn parts_by_pieces(
     all_parts(alloc, block.style, ends, &table)
 }
 
-/// The parts, where as many bytes are sent as the decoder looked at.
+/// The parts, where as many bytes are sent as the decoder looked at. It decodes to the last end that lies
+/// within a segment.
 fn parts_by_looks(
     alloc: Global,
     block: &Block<'_>,
@@ -89,7 +95,8 @@ fn parts_by_looks(
         IfOk result (λ parts. parts.items ≡ parts_after block.now.style.bits (sent_by_looks block.now.style.bits block.now.passes segments
         (decoded_in block.now block.now.style.bits segments).looked) 0 ends.now) }
 {
-    let table = looked_at(alloc, block)?;
+    let last = last_within(block.style, block.passes, ends);
+    let table = looked_at(alloc, block, last)?;
     all_parts(alloc, block.style, ends, &table)
 }
 

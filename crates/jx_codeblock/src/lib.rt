@@ -7,6 +7,7 @@ mod copy;
 mod decide;
 mod ends;
 mod faults;
+mod held;
 mod job;
 pub mod laws;
 mod looks;
@@ -16,6 +17,7 @@ mod parts;
 mod recoded;
 mod segments;
 mod sent;
+mod starts;
 mod step;
 
 pub use ends::Ends;

@@ -3,7 +3,7 @@
 ghost use Rattle.std.specs.Prelude.{◌≡◌, ◌<◌, ◌≤◌, ◌+◌, ◌==◌, ◌&&◌, ◌||◌, ℕ, false, map, drop, length, slice_index_or, IfOk};
 ghost use Rattle.std.specs.List.{list_all};
 ghost use Rattle.jx_base.specs.Pieces.{value_of};
-ghost use Rattle.jx_codeblock.specs.Tables.{is_own_end, is_last_of_layer, are_cut};
+ghost use Rattle.jx_codeblock.specs.Tables.{is_own_end, is_last_of_layer, are_cut, is_cut, end_within, last_within};
 
 use crate::LayerEnd;
 use jx_base::{NoMemory, Piece, Style, ends_segment};
@@ -87,14 +87,42 @@ pub(crate) fn all_noted(own: &[bool], ends: &[LayerEnd]) -> bool
     true
 }
 
+/// Whether an end is the block's last pass or the end of a segment.
+fn is_cut(style: Style, passes: u16, end: LayerEnd) -> bool
+    ensures { result ≡ is_cut style.bits passes end }
+{
+    end.passes == passes || ends_segment(style, end.passes.saturating_sub(1))
+}
+
 /// Whether each end is the block's last pass or the end of a segment.
 pub(crate) fn all_cut(style: Style, passes: u16, ends: &[LayerEnd]) -> bool
     ensures { result ≡ are_cut style.bits passes ends.now }
 {
     for end in ends {
-        if end.passes != passes && !ends_segment(style, end.passes.saturating_sub(1)) {
+        if !is_cut(style, passes, *end) {
             return false;
         }
     }
     true
+}
+
+/// How many passes are sent by an end that lies within a segment, and 0 by another.
+fn end_within(style: Style, passes: u16, end: LayerEnd) -> u16
+    ensures { result ≡ end_within style.bits passes end }
+{
+    if is_cut(style, passes, end) {
+        return 0;
+    }
+    end.passes
+}
+
+/// How many passes are sent by the last end that lies within a segment; 0 where none does.
+pub(crate) fn last_within(style: Style, passes: u16, ends: &[LayerEnd]) -> u16
+    ensures { result ≡ last_within style.bits passes ends.now }
+{
+    let mut last = 0;
+    for end in ends {
+        last = end_within(style, passes, *end).max(last);
+    }
+    last
 }

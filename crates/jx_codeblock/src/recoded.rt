@@ -13,8 +13,10 @@ ghost use Rattle.jx_codeblock.specs.Written.{block_with, own_cells};
 use crate::anew::{all_bytes, own_cells, parts_of as parts_anew};
 use crate::copy::{append_bytes, append_within};
 use crate::decide::parts_of;
+use crate::held::Held;
 use crate::laws::written_keeps_coefficients;
 use crate::made::Made;
+use crate::starts::starts_of;
 use crate::step::lists_in_step;
 use crate::{BlockFault, Job, OutPart};
 use jx_base::{NoMemory, Style};
@@ -24,7 +26,8 @@ use std::alloc::Global;
 use std::marker::Model;
 
 /// A block as it is written: what is asked of it by its job. A block that keeps its segments copies none
-/// of their bytes; one that is coded anew has its own.
+/// of their bytes, and has where its pieces begin, 4 bytes for each, where it has more than a few; one that is
+/// coded anew has its own.
 #[derive(Drop)]
 pub struct Recoded<'a> {
     job: &'a Job<'a>,
@@ -38,7 +41,7 @@ impl<'a> Model for Recoded<'a> {
 
     ghost view = { λ r. record { job = r.job.now; recoding = made_recoding r.job.now r.made.bytes r.made.parts } };
 
-    ghost invariant = { λ r. IsMade r.job.now r.made.bytes r.made.parts };
+    ghost invariant = { λ r. IsMade r.job.now r.made.bytes r.made.starts r.made.parts };
 }
 
 /// A block that keeps its segments.
@@ -49,7 +52,9 @@ fn keep<'a>(alloc: Global, job: &'a Job<'a>) -> Result<Recoded<'a>, NoMemory>
     ensures recoding { IfOk result (λ r. Some r.recoding ≡ recoding_in job.now) }
 {
     let parts = parts_of(alloc, job.block, job.ends.as_slice())?;
-    let made = Made::of(alloc, Vec::new(alloc), parts)?;
+    let pieces = job.block.pieces.as_slice();
+    let starts = starts_of(alloc, pieces)?;
+    let made = Made::of(alloc, Held::Own(starts), parts)?;
     Ok(Recoded { job, made })
 }
 
@@ -113,7 +118,7 @@ fn code_anew<'a>(alloc: Global, job: &'a Job<'a>, style: Style) -> Result<Recode
     let lists = new_lists(alloc, job, style)?;
     let bytes = all_bytes(alloc, &lists)?;
     let parts = parts_anew(alloc, block, style, job.ends.as_slice(), &lists)?;
-    let made = Made::of(alloc, bytes, parts)?;
+    let made = Made::of(alloc, Held::New(bytes), parts)?;
     Ok(Recoded { job, made })
 }
 
@@ -169,7 +174,10 @@ impl<'a> Recoded<'a> {
         ensures room { OnErr result (vec_capacity out.old < vec_len out.old + length (part_bytes self.now.recoding.bytes part.now)) }
     {
         match self.job.style {
-            None => append_bytes(self.job.block.pieces.as_slice(), part.from, part.to, out),
+            None => {
+                let pieces = self.job.block.pieces.as_slice();
+                append_bytes(pieces, self.made.starts(), part.from, part.to, out)
+            }
             Some(_) => append_within(self.made.bytes(), part.from, part.to, out),
         }
     }

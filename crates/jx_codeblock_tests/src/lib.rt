@@ -11,6 +11,8 @@ mod checks;
 #[cfg(test)]
 mod layer_tests;
 #[cfg(test)]
+mod pieces_tests;
+#[cfg(test)]
 mod pool_tests;
 #[cfg(test)]
 mod style_tests;

@@ -13,14 +13,14 @@ returns-clause-within c =
     let parts : List OutPart = c.self.inside.made.parts in
     let P : WrittenBlock → Type 0 = λ w. All (IsWithin (length w.recoding.bytes)) parts in
     let Q : List OutPart → Type 0 = λ ps. All (IsWithin (length c.args.self.now.recoding.bytes)) ps in
-    subst Q (sym c.parts.ensures) (subst P c.self.view_is (job_within c.self.inside.job.now c.self.inside.made.bytes parts c.self.invariant))
+    subst Q (sym c.parts.ensures) (subst P c.self.view_is (job_within c.self.inside.job.now c.self.inside.made.bytes c.self.inside.made.starts parts c.self.invariant))
 
 pub returns-clause-sound : goal.returns-clause-sound
 returns-clause-sound c =
     let P : WrittenBlock → Type 0 = λ w. ArePieces w.recoding.style 0 0 w.job.block.now.passes (pieces_of w.recoding) in
-    subst P c.self.view_is (job_sound c.self.inside.job.now c.self.inside.made.bytes c.self.inside.made.parts c.self.invariant)
+    subst P c.self.view_is (job_sound c.self.inside.job.now c.self.inside.made.bytes c.self.inside.made.starts c.self.inside.made.parts c.self.invariant)
 
 pub returns-clause-few : goal.returns-clause-few
 returns-clause-few c =
     let P : WrittenBlock → Type 0 = λ w. length w.recoding.bytes ≤ 2 ^ 28 in
-    subst P c.self.view_is (job_few c.self.inside.job.now c.self.inside.made.bytes c.self.inside.made.parts c.self.invariant)
+    subst P c.self.view_is (job_few c.self.inside.job.now c.self.inside.made.bytes c.self.inside.made.starts c.self.inside.made.parts c.self.invariant)
