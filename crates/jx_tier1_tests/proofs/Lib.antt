@@ -1,1 +1,2 @@
 mod ShortLemmas
+mod TableRows
