@@ -58,7 +58,7 @@ fn bytes_for(alloc: Global, items: &[u8], levels: u8) -> Result<Bytes, NoMemory>
 
 /// The precincts of a shape, with those that are asked, if any are.
 fn copy_precincts(alloc: Global, shape: &Shape, asked: Option<&[u8]>) -> Result<Bytes, NoMemory>
-    ensures { IfOk result (λ bytes. bytes ≡ precincts_written (lent asked) shape.now) }
+    ensures { IfOk result (λ bytes. bytes ≡ precincts_written (lent asked.entry) shape.now) }
 {
     match asked {
         Some(items) => bytes_for(alloc, items, shape.levels),

@@ -92,7 +92,8 @@ impl<'a> OutStream<'a> {
     pub fn marks(&self) -> Marks
         ensures { result ≡ self.now.wanted.marks }
     {
-        self.options.marks
+        let options = self.options;
+        options.marks
     }
 
     /// The number of layers of each tile, 1 to 65,535.
