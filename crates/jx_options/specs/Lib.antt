@@ -3,6 +3,6 @@ pub mod Values
 pub mod Wanted
 pub mod Work
 pub mod Names
-pub mod Rows
 -- Inner: no other crate cites these.
+pub mod Rows
 pub mod Parts

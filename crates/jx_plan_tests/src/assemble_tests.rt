@@ -9,16 +9,16 @@ ghost use Rattle.jx_tier2_writer.specs.Tile.{AreMade, AreValuesOf, made_in};
 use crate::checks::equal;
 use crate::hex::bytes_of;
 use crate::planned::{input, keeper};
+use crate::values::bare_values;
 use jx_base::{Block, NoMemory};
+use jx_codeblock::Recoded;
 use jx_codestream::{MainView, Stream};
-use jx_options::{Options, OrderChoice, PartChoice, PrecinctChoice, Marks};
+use jx_layers::LayerPlanner;
+use jx_options::{Marks, Options, OrderChoice, PartChoice, PrecinctChoice};
 use jx_plan::{OutStream, plan};
+use jx_store::Entry;
 use jx_tier2_writer::{AssembleFault, TileOut, assemble_tile, main_header, main_view, pack_tile};
 use std::alloc::{AllocError, Global};
-use crate::values::bare_values;
-use jx_codeblock::Recoded;
-use jx_layers::LayerPlanner;
-use jx_store::Entry;
 use std::test::Fail;
 
 /// The pieces of a tile: their bytes, one behind another, and how many each has.

@@ -9,13 +9,13 @@ ghost use Rattle.jx_options.specs.Wanted.{MayBeStyle, MayBeWanted};
 
 use crate::hex::bytes_of;
 use jx_base::{Block, NoMemory, Style};
+use jx_codeblock::Job;
 use jx_codestream::{Stream, Tile, read_stream};
 use jx_layers::{CutLayers, KeepLayers, LayerPlanner, OneLayer, TableLayers};
-use jx_options::{Options, OrderChoice, PartChoice, PrecinctChoice, Marks};
+use jx_options::{Marks, Options, OrderChoice, PartChoice, PrecinctChoice};
 use jx_plan::{OutStream, PlanFault, plan, plan_served};
-use std::alloc::{AllocError, Global};
-use jx_codeblock::Job;
 use jx_tier2_reader::gather;
+use std::alloc::{AllocError, Global};
 
 /// What is asked of a file. Nothing is marked or cut.
 #[derive(Clone, Copy)]

@@ -56,15 +56,15 @@ none = record { negative = true; bits = 0; planes = 1 }
 -- what two of them contribute (D.2)
 table_contributions :
     (leaning plus plus ∷ leaning minus plus ∷ leaning none plus ∷ leaning plus minus ∷ leaning minus minus ∷ leaning none minus ∷
-     leaning plus none ∷ leaning minus none ∷ leaning none none ∷ []) ≡
+    leaning plus none ∷ leaning minus none ∷ leaning none none ∷ []) ≡
     pos 1 ∷ pos 0 ∷ pos 1 ∷ pos 0 ∷ negsuc 0 ∷ negsuc 0 ∷ pos 1 ∷ negsuc 0 ∷ pos 0 ∷ []
 table_contributions = refl
 
 -- contributions of the sides in turn 1, 0, -1, and in each those of above and below (D.3)
 table_signs :
     (sign_row (pos 1) (pos 1) ∷ sign_row (pos 1) (pos 0) ∷ sign_row (pos 1) (negsuc 0) ∷
-     sign_row (pos 0) (pos 1) ∷ sign_row (pos 0) (pos 0) ∷ sign_row (pos 0) (negsuc 0) ∷
-     sign_row (negsuc 0) (pos 1) ∷ sign_row (negsuc 0) (pos 0) ∷ sign_row (negsuc 0) (negsuc 0) ∷ []) ≡
+    sign_row (pos 0) (pos 1) ∷ sign_row (pos 0) (pos 0) ∷ sign_row (pos 0) (negsuc 0) ∷
+    sign_row (negsuc 0) (pos 1) ∷ sign_row (negsuc 0) (pos 0) ∷ sign_row (negsuc 0) (negsuc 0) ∷ []) ≡
     (13, false) ∷ (12, false) ∷ (11, false) ∷ (10, false) ∷ (9, false) ∷ (10, true) ∷ (11, true) ∷ (12, true) ∷ (13, true) ∷ []
 table_signs = refl
 

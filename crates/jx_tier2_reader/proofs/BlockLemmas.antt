@@ -9,7 +9,7 @@ use Rattle.jx_base.specs.declared.pieces.Block.{Block}
 use Rattle.jx_base.specs.Places.{size_of}
 use Rattle.jx_geom.specs.declared.shape.CompShape.{CompShape}
 use Rattle.jx_geom.specs.Rects.{tile_rect}
-use Rattle.jx_geom.specs.Counts.{block_count, blocks_before_band, tile_count, blocks_of_resolution as count_in_resolution, blocks_of_component as count_in_component, blocks_of_tile as count_in_tile, resolution_blocks, component_blocks, tile_blocks}
+use Rattle.jx_geom.specs.Counts.{block_count, blocks_before_band, tile_count, resolution_blocks, component_blocks, tile_blocks}
 use Rattle.jx_geom.specs.Geometry.{Geometry, GeometryInRange, HasBlock, shape_of, rect_of_tile, blocks_in, no_shape}
 use Rattle.jx_geom.specs.Numbering.{number_in_tile, number_in_component, geometry_of, blocks_below, block_number}
 use Rattle.jx_geom.specs.Ranges.{HasBand}

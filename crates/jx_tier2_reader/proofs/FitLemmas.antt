@@ -31,7 +31,7 @@ use Rattle.jx_codestream.specs.Read.{IsRead}
 use Rattle.jx_codestream.specs.Shapes.{geometry, shapes_of, layers_of, style_of}
 use Rattle.jx_tile.specs.Totals.{totals_fault}
 use Rattle.jx_codestream.specs.InRange.{StreamInRange}
-use Rattle.jx_geom.specs.Precincts.{leaves, leaves_of_blocks as count_in, HasPrecinct, cells_at, name_from, leaf_name, leaf_number, leaves_in}
+use Rattle.jx_geom.specs.Precincts.{leaves, HasPrecinct, cells_at, name_from, leaf_name, leaf_number, leaves_in}
 use Rattle.jx_tier2_reader.specs.BlockOf.{pieces_at, AreCutAsRead, IsFoundOf, AreBlocksOf}
 use Rattle.jx_tier2_reader.specs.Carries.{block_in, part_of}
 use Rattle.jx_tier2_reader.specs.Planned.{part_in, leaf_from, leaf_in, leaves_of_blocks}

@@ -14,7 +14,7 @@ use Rattle.jx_base.specs.Places.{size_of}
 use Rattle.jx_base.proofs.Joined.{joined_none, joined_empty, joined_same}
 use Rattle.jx_geom.specs.declared.shape.CompShape.{CompShape}
 use Rattle.jx_geom.specs.declared.table.Resolution.{Resolution}
-use Rattle.jx_geom.specs.Counts.{precinct_count, block_count, blocks_of_tile as blocks_in_tile, tile_precincts, tile_blocks}
+use Rattle.jx_geom.specs.Counts.{precinct_count, block_count, tile_precincts, tile_blocks}
 use Rattle.jx_geom.specs.Geometry.{Geometry, HasResolution, rect_of_tile, shape_of, precincts_in, blocks_in}
 use Rattle.jx_geom.specs.Rects.{component_rect}
 use Rattle.jx_geom.specs.Resolutions.{all_resolutions, component_resolutions, one_behind, resolutions_behind, resolutions_of}

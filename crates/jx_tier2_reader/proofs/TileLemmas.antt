@@ -7,7 +7,7 @@ use Rattle.std.proofs.lemmas.List.Elements.{All-head, All-tail, All-cons, All-we
 use Rattle.std.proofs.lemmas.Option.{get_or_from_slice_get, slice_get-get_or, slice_get_within}
 use Rattle.jx_base.specs.declared.pieces.Block.{Block}
 use Rattle.jx_geom.specs.Geometry.{Geometry, GeometryInRange, rect_of_tile}
-use Rattle.jx_geom.specs.Counts.{blocks_of_tile as count_in_tile, tile_blocks}
+use Rattle.jx_geom.specs.Counts.{tile_blocks}
 use Rattle.jx_packet_header.specs.declared.Part.{Part}
 use Rattle.jx_packet_header.specs.Packet.{State}
 use Rattle.jx_packet_header.specs.Precinct.{IsState, all_blocks}

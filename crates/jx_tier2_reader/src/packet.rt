@@ -9,9 +9,9 @@ ghost use Rattle.jx_tier2_reader.specs.Reading.{cut_of};
 
 use crate::StreamFault;
 use crate::data::{check_body, read_sop};
-use jx_packet_header::{HeadFault, Part, Precinct};
 use jx_codestream::violated;
 use jx_marker::rule_numbers;
+use jx_packet_header::{HeadFault, Part, Precinct};
 use jx_progression::PacketName;
 
 /// What stands in one packet.

@@ -7,6 +7,7 @@ use Rattle.jx_geom.specs.Geometry.{Geometry, rect_of_tile}
 use Rattle.jx_marker.specs.declared.Progression.{Progression}
 use Rattle.jx_progression.specs.declared.names.PacketName.{PacketName}
 use Rattle.jx_progression.specs.Packets.{AreCovered, HasUncovered, IsOrder, IsPacketName}
+use Rattle.jx_marker.specs.RuleNumbers.{UNCOVERED}
 use Rattle.jx_codestream.specs.declared.Tile.{Tile}
 use Rattle.jx_codestream.specs.declared.Stream.{Stream}
 use Rattle.jx_codestream.specs.First.{tile_number}
@@ -41,14 +42,14 @@ order_of s t g layers entries tile list is many at sent h =
     subst P is (subst Q many (subst R (sent ∙ ap (λ (x : Tile). x.progressions) at) h))
 
 pub lacks_of : (s : Stream) (t : ℕ) (g : Geometry) (layers : ℕ) (entries : List Progression) (tile : Tile) → g ≡ geometry s t → layers ≡ layers_of s t → tile ≡ tile_at s t
-    → entries ≡ tile.progressions → HasUncovered g layers entries → LacksPacket s t (fault.Rule 25 tile.place)
+    → entries ≡ tile.progressions → HasUncovered g layers entries → LacksPacket s t (fault.Rule UNCOVERED tile.place)
 lacks_of s t g layers entries tile is many at sent h =
     let P : Geometry → Type 0 = λ x. HasUncovered x (layers_of s t) (tile_at s t).progressions in
     let Q : ℕ → Type 0 = λ n. HasUncovered g n (tile_at s t).progressions in
     let R : List Progression → Type 0 = λ x. HasUncovered g layers x in
     record {
       some = subst P is (subst Q many (subst R (sent ∙ ap (λ (x : Tile). x.progressions) at) h));
-      fault_is = ap (λ (x : Tile). fault.Rule 25 x.place) at;
+      fault_is = ap (λ (x : Tile). fault.Rule UNCOVERED x.place) at;
     }
 
 pub whole_of : (s : Stream) (t : ℕ) (g : Geometry) (layers : ℕ) (entries : List Progression) (tile : Tile) → g ≡ geometry s t → layers ≡ layers_of s t → tile ≡ tile_at s t

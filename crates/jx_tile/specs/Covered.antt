@@ -2,6 +2,7 @@
 use Rattle.std.specs.Prelude.{◌≡◌, ◌<◌, ℕ, List, length}
 use Rattle.jx_progression.specs.declared.names.PacketName.{PacketName}
 use Rattle.jx_progression.specs.Packets.{IsOrder, AreCovered, HasUncovered}
+use Rattle.jx_marker.specs.RuleNumbers.{UNCOVERED}
 use Rattle.jx_codestream.specs.declared.Stream.{Stream}
 use Rattle.jx_codestream.specs.First.{tile_number}
 use Rattle.jx_codestream.specs.declared.faults.StreamFault.{StreamFault}
@@ -18,7 +19,7 @@ IsWhole s t = AreCovered (geometry s t) (layers_of s t) (tile_at s t).progressio
 -- some packet of the tile is covered by no entry: the rule at its first SOT
 pub record LacksPacket (s : Stream) (t : ℕ) (f : StreamFault) : Type 0 where
   pub some : HasUncovered (geometry s t) (layers_of s t) (tile_at s t).progressions
-  pub fault_is : f ≡ fault.Rule 25 (tile_at s t).place
+  pub fault_is : f ≡ fault.Rule UNCOVERED (tile_at s t).place
 
 -- rule 25: the lowest tile of which some packet is covered by no entry
 pub record IsUncovered (s : Stream) (f : StreamFault) : Type 0 where
@@ -26,4 +27,4 @@ pub record IsUncovered (s : Stream) (f : StreamFault) : Type 0 where
   pub inside : tile < tile_number s.siz
   pub some : HasUncovered (geometry s tile) (layers_of s tile) (tile_at s tile).progressions
   pub lowest : (t : ℕ) → t < tile → IsWhole s t
-  pub fault_is : f ≡ fault.Rule 25 (tile_at s tile).place
+  pub fault_is : f ≡ fault.Rule UNCOVERED (tile_at s tile).place

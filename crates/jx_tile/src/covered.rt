@@ -4,6 +4,7 @@ ghost use Rattle.std.specs.Prelude.{◌≡◌, ◌≢◌, ◌<◌, ◌≤◌, �
 ghost use Rattle.std.specs.List.{All, AllPairs, Contains};
 ghost use Rattle.jx_progression.specs.declared.names.PacketName.{PacketName};
 ghost use Rattle.jx_progression.specs.Packets.{IsPacketName};
+ghost use Rattle.jx_marker.specs.RuleNumbers.{UNCOVERED};
 ghost use Rattle.jx_codestream.specs.First.{tile_number};
 ghost use Rattle.jx_codestream.specs.InRange.{StreamInRange};
 ghost use Rattle.jx_codestream.specs.Shapes.{geometry, layers_of};
@@ -13,15 +14,16 @@ ghost use Rattle.jx_tile.specs.Totals.{totals_fault};
 
 use crate::TileFrame;
 use jx_codestream::{MainView, Stream, StreamFault, Tile};
+use jx_marker::rule_numbers;
 use jx_progression::{OrderFault, PacketName, are_covered, packets};
 use std::alloc::Global;
 
 /// Rule 25 at a tile's first SOT.
 fn uncovered(tile: &Tile) -> StreamFault
-    ensures { result ≡ StreamFault.Rule 25 tile.now.place }
+    ensures { result ≡ StreamFault.Rule UNCOVERED tile.now.place }
 {
     StreamFault::Rule {
-        number: 25,
+        number: rule_numbers::UNCOVERED,
         place: tile.place,
     }
 }
