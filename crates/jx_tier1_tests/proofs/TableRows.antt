@@ -23,24 +23,28 @@ table_ll : labels LL ≡
     ((0 ∷ 1 ∷ 2 ∷ 2 ∷ 2 ∷ []) ∷ (3 ∷ 3 ∷ 3 ∷ 3 ∷ 3 ∷ []) ∷ (4 ∷ 4 ∷ 4 ∷ 4 ∷ 4 ∷ []) ∷ []) ∷
     ((5 ∷ 6 ∷ 6 ∷ 6 ∷ 6 ∷ []) ∷ (7 ∷ 7 ∷ 7 ∷ 7 ∷ 7 ∷ []) ∷ (7 ∷ 7 ∷ 7 ∷ 7 ∷ 7 ∷ []) ∷ []) ∷
     ((8 ∷ 8 ∷ 8 ∷ 8 ∷ 8 ∷ []) ∷ (8 ∷ 8 ∷ 8 ∷ 8 ∷ 8 ∷ []) ∷ (8 ∷ 8 ∷ 8 ∷ 8 ∷ 8 ∷ []) ∷ []) ∷ []
+unfolding significance_row
 table_ll = refl
 
 table_lh : labels LH ≡
     ((0 ∷ 1 ∷ 2 ∷ 2 ∷ 2 ∷ []) ∷ (3 ∷ 3 ∷ 3 ∷ 3 ∷ 3 ∷ []) ∷ (4 ∷ 4 ∷ 4 ∷ 4 ∷ 4 ∷ []) ∷ []) ∷
     ((5 ∷ 6 ∷ 6 ∷ 6 ∷ 6 ∷ []) ∷ (7 ∷ 7 ∷ 7 ∷ 7 ∷ 7 ∷ []) ∷ (7 ∷ 7 ∷ 7 ∷ 7 ∷ 7 ∷ []) ∷ []) ∷
     ((8 ∷ 8 ∷ 8 ∷ 8 ∷ 8 ∷ []) ∷ (8 ∷ 8 ∷ 8 ∷ 8 ∷ 8 ∷ []) ∷ (8 ∷ 8 ∷ 8 ∷ 8 ∷ 8 ∷ []) ∷ []) ∷ []
+unfolding significance_row
 table_lh = refl
 
 table_hl : labels HL ≡
     ((0 ∷ 1 ∷ 2 ∷ 2 ∷ 2 ∷ []) ∷ (5 ∷ 6 ∷ 6 ∷ 6 ∷ 6 ∷ []) ∷ (8 ∷ 8 ∷ 8 ∷ 8 ∷ 8 ∷ []) ∷ []) ∷
     ((3 ∷ 3 ∷ 3 ∷ 3 ∷ 3 ∷ []) ∷ (7 ∷ 7 ∷ 7 ∷ 7 ∷ 7 ∷ []) ∷ (8 ∷ 8 ∷ 8 ∷ 8 ∷ 8 ∷ []) ∷ []) ∷
     ((4 ∷ 4 ∷ 4 ∷ 4 ∷ 4 ∷ []) ∷ (7 ∷ 7 ∷ 7 ∷ 7 ∷ 7 ∷ []) ∷ (8 ∷ 8 ∷ 8 ∷ 8 ∷ 8 ∷ []) ∷ []) ∷ []
+unfolding significance_row
 table_hl = refl
 
 table_hh : labels HH ≡
     ((0 ∷ 3 ∷ 6 ∷ 8 ∷ 8 ∷ []) ∷ (1 ∷ 4 ∷ 7 ∷ 8 ∷ 8 ∷ []) ∷ (2 ∷ 5 ∷ 7 ∷ 8 ∷ 8 ∷ []) ∷ []) ∷
     ((1 ∷ 4 ∷ 7 ∷ 8 ∷ 8 ∷ []) ∷ (2 ∷ 5 ∷ 7 ∷ 8 ∷ 8 ∷ []) ∷ (2 ∷ 5 ∷ 7 ∷ 8 ∷ 8 ∷ []) ∷ []) ∷
     ((2 ∷ 5 ∷ 7 ∷ 8 ∷ 8 ∷ []) ∷ (2 ∷ 5 ∷ 7 ∷ 8 ∷ 8 ∷ []) ∷ (2 ∷ 5 ∷ 7 ∷ 8 ∷ 8 ∷ []) ∷ []) ∷ []
+unfolding significance_row
 table_hh = refl
 
 -- a neighbour that is significant and positive, one that is negative, and one that is insignificant
@@ -58,6 +62,7 @@ table_contributions :
     (leaning plus plus ∷ leaning minus plus ∷ leaning none plus ∷ leaning plus minus ∷ leaning minus minus ∷ leaning none minus ∷
     leaning plus none ∷ leaning minus none ∷ leaning none none ∷ []) ≡
     pos 1 ∷ pos 0 ∷ pos 1 ∷ pos 0 ∷ negsuc 0 ∷ negsuc 0 ∷ pos 1 ∷ negsuc 0 ∷ pos 0 ∷ []
+unfolding leaning
 table_contributions = refl
 
 -- contributions of the sides in turn 1, 0, -1, and in each those of above and below (D.3)
@@ -66,10 +71,12 @@ table_signs :
     sign_row (pos 0) (pos 1) ∷ sign_row (pos 0) (pos 0) ∷ sign_row (pos 0) (negsuc 0) ∷
     sign_row (negsuc 0) (pos 1) ∷ sign_row (negsuc 0) (pos 0) ∷ sign_row (negsuc 0) (negsuc 0) ∷ []) ≡
     (13, false) ∷ (12, false) ∷ (11, false) ∷ (10, false) ∷ (9, false) ∷ (10, true) ∷ (11, true) ∷ (12, true) ∷ (13, true) ∷ []
+unfolding sign_row
 table_signs = refl
 
 -- not refined before without and with a significant neighbour, and then refined before (D.4)
 table_refinements : (refinement_row false false ∷ refinement_row false true ∷ refinement_row true false ∷ refinement_row true true ∷ []) ≡ 14 ∷ 15 ∷ 16 ∷ 16 ∷ []
+unfolding refinement_row
 table_refinements = refl
 
 -- the columns of table C.2 in decimals
@@ -77,24 +84,28 @@ table_qe : map (λ (r : MqRow). r.qe) mq_rows ≡
     22017 ∷ 13313 ∷ 6145 ∷ 2753 ∷ 1313 ∷ 545 ∷ 22017 ∷ 21505 ∷ 18433 ∷ 14337 ∷ 12289 ∷ 9217 ∷ 7169 ∷ 5633 ∷ 22017 ∷ 21505 ∷
     20737 ∷ 18433 ∷ 14337 ∷ 13313 ∷ 12289 ∷ 10241 ∷ 9217 ∷ 8705 ∷ 7169 ∷ 6145 ∷ 5633 ∷ 5121 ∷ 4609 ∷ 4353 ∷ 2753 ∷ 2497 ∷
     2209 ∷ 1313 ∷ 1089 ∷ 673 ∷ 545 ∷ 321 ∷ 273 ∷ 133 ∷ 73 ∷ 37 ∷ 21 ∷ 9 ∷ 5 ∷ 1 ∷ 22017 ∷ []
+unfolding mq_rows
 table_qe = refl
 
 table_nmps : map (λ (r : MqRow). r.nmps) mq_rows ≡
     1 ∷ 2 ∷ 3 ∷ 4 ∷ 5 ∷ 38 ∷ 7 ∷ 8 ∷ 9 ∷ 10 ∷ 11 ∷ 12 ∷ 13 ∷ 29 ∷ 15 ∷ 16 ∷
     17 ∷ 18 ∷ 19 ∷ 20 ∷ 21 ∷ 22 ∷ 23 ∷ 24 ∷ 25 ∷ 26 ∷ 27 ∷ 28 ∷ 29 ∷ 30 ∷ 31 ∷ 32 ∷
     33 ∷ 34 ∷ 35 ∷ 36 ∷ 37 ∷ 38 ∷ 39 ∷ 40 ∷ 41 ∷ 42 ∷ 43 ∷ 44 ∷ 45 ∷ 45 ∷ 46 ∷ []
+unfolding mq_rows
 table_nmps = refl
 
 table_nlps : map (λ (r : MqRow). r.nlps) mq_rows ≡
     1 ∷ 6 ∷ 9 ∷ 12 ∷ 29 ∷ 33 ∷ 6 ∷ 14 ∷ 14 ∷ 14 ∷ 17 ∷ 18 ∷ 20 ∷ 21 ∷ 14 ∷ 14 ∷
     15 ∷ 16 ∷ 17 ∷ 18 ∷ 19 ∷ 19 ∷ 20 ∷ 21 ∷ 22 ∷ 23 ∷ 24 ∷ 25 ∷ 26 ∷ 27 ∷ 28 ∷ 29 ∷
     30 ∷ 31 ∷ 32 ∷ 33 ∷ 34 ∷ 35 ∷ 36 ∷ 37 ∷ 38 ∷ 39 ∷ 40 ∷ 41 ∷ 42 ∷ 43 ∷ 46 ∷ []
+unfolding mq_rows
 table_nlps = refl
 
 table_switch : map (λ (r : MqRow). r.switches) mq_rows ≡
     true ∷ false ∷ false ∷ false ∷ false ∷ false ∷ true ∷ false ∷ false ∷ false ∷ false ∷ false ∷ false ∷ false ∷ true ∷ false ∷
     false ∷ false ∷ false ∷ false ∷ false ∷ false ∷ false ∷ false ∷ false ∷ false ∷ false ∷ false ∷ false ∷ false ∷ false ∷ false ∷
     false ∷ false ∷ false ∷ false ∷ false ∷ false ∷ false ∷ false ∷ false ∷ false ∷ false ∷ false ∷ false ∷ false ∷ false ∷ []
+unfolding mq_rows
 table_switch = refl
 
 -- table D.7: label 0 begins in row 4, 17 (a run) in row 3, 18 (uniform) in row 46, all others in row 0, and each with symbol 0
