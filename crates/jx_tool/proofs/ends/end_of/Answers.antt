@@ -20,5 +20,5 @@ returns-in-Ok-Some g c =
     inr (helped_by _ _ c.as_str.result.now c.help.result _ _ _ _ (ap (map string_bytes) c.deref.ensures.value ∙ c.in-Ok.ensures.words) asked
     (subst EndsLine (sym c.as_str.ensures.value) lines) c.help.ensures (c.from-in-Ok-Some.ensures ∙ c.number-in-Ok-Some.ensures))
 
-pub returns : goal.returns
-returns g c = inl (ended_unbegun _ _ ending.NoMemory _ _ _ refl (c.from-in-Err-help_of.ensures ∙ c.number-in-Err-help_of.ensures))
+pub returns-in-Err-help_of : goal.returns-in-Err-help_of
+returns-in-Err-help_of g c = inl (ended_unbegun _ _ ending.NoMemory _ _ _ refl (c.from-in-Err-help_of.ensures ∙ c.number-in-Err-help_of.ensures))
