@@ -1,3 +1,4 @@
+mod BoxesLemmas
 mod CommandLemmas
 mod CommandWordLemmas
 mod GoodLemmas

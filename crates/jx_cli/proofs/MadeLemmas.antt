@@ -9,17 +9,18 @@ use Rattle.std.proofs.lemmas.Slice.Eq.{bytes_eq-Decides}
 use Rattle.std.proofs.lemmas.Fmt.{decimal_digit}
 use Rattle.clap.specs.Words.{fault_of}
 use Rattle.clap.proofs.OnLiterals.{clap_on_literals}
-use Rattle.jx_base.specs.OrderNumbers.{IsOrderNumber}
 use Rattle.jx_base.specs.declared.style.Style.{Style}
 use Rattle.jx_options.specs.Wanted.{MayBeStyle}
 use Rattle.jx_options.specs.declared.PartChoice.{PartChoice}
 use Rattle.jx_options.specs.declared.PartChoice.TheVariants as parts
 use Rattle.jx_cli.specs.Command.{transcode, with_flag, with_option, with_place}
-use Rattle.jx_options.specs.Values.{ArePrecincts, order_said, parts_said, precincts_in, precincts_said, precincts_text, style_said, style_text, value_in, whole_choices}
+use Rattle.jx_options.specs.Names.{parts_said}
+use Rattle.jx_options.specs.Values.{ArePrecincts, precincts_in, precincts_said, precincts_text, style_said, style_text, value_in, whole_choices}
 use Rattle.jx_cli.specs.Words.{Asks, Given, MayBeAsked, Request, Text, are_values, given_by, given_in, is_good, request_of, wanted_by, work_by}
 use Rattle.jx_options.specs.Work.{MayBeWork, Work}
 use Rattle.jx_options.proofs.ItemLemmas.{two_digits}
 use Rattle.jx_options.proofs.NumberLemmas.{number_spelled}
+use Rattle.jx_options.proofs.OrderWords.{order_back, order_word}
 use Rattle.jx_options.proofs.SpellLemmas.{precincts_spelled, first_byte}
 use Rattle.jx_options.proofs.StyleLemmas.{style_spelled}
 use Rattle.jx_base.specs.Texts.{number_in}
@@ -62,19 +63,6 @@ made_found g false false true = refl
 made_found g false false false = refl
 
 -- ---- the words of values
-abbrev order_word : Option ℕ → Text
-order_word None = codes "keep"
-order_word (Some order) = slice_index_or (codes "lrcp" ∷ codes "rlcp" ∷ codes "rpcl" ∷ codes "pcrl" ∷ codes "cprl" ∷ []) order []
-
-order_back : (order : Option ℕ) → IfSome order IsOrderNumber → order_said (order_word order) ≡ Some order
-order_back None few = refl
-order_back (Some zero) few = refl
-order_back (Some (suc zero)) few = refl
-order_back (Some (suc (suc zero))) few = refl
-order_back (Some (suc (suc (suc zero)))) few = refl
-order_back (Some (suc (suc (suc (suc zero))))) few = refl
-order_back (Some (suc (suc (suc (suc (suc n)))))) few = absurd (omega arith)
-
 abbrev parts_word : PartChoice → Text
 parts_word parts.None = codes "none"
 parts_word parts.Resolution = codes "r"

@@ -6,9 +6,11 @@ use Rattle.jx_base.specs.OrderNumbers.{IsOrderNumber}
 use Rattle.jx_marker.specs.Ranges.{AreBytes}
 use Rattle.jx_base.specs.declared.style.Style.{Style}
 use Rattle.jx_options.specs.Wanted.{MayBeStyle, MayBeWanted}
-use Rattle.jx_options.specs.Values.{ArePrecincts, order_said, orders, precincts_in, precincts_said, style_said, value_in, whole_choices}
+use Rattle.jx_options.specs.Names.{order_said}
+use Rattle.jx_options.specs.Values.{ArePrecincts, precincts_in, precincts_said, style_said, value_in, whole_choices}
 use Rattle.jx_cli.specs.Words.{Given, MayBeAsked, given_in, request_by, request_of, wanted_by, work_by}
 use Rattle.jx_options.specs.Work.{MayBeWork}
+use Rattle.jx_options.proofs.OrderWords.{order_few}
 use Rattle.jx_options.proofs.SpellLemmas.{precincts_read}
 use Rattle.jx_options.proofs.StyleLemmas.{IsGood, style_good}
 use Rattle.jx_options.proofs.ValueLemmas.{found}
@@ -20,8 +22,8 @@ else_none : {X : Type 0} (P : X → Type 0) (o : Option (Option X)) → IfSome o
 else_none P None all = tt
 else_none P (Some v) all = all
 
-order_few : (text : List ℕ) → IfSome (unwrap_or (order_said text) None) IsOrderNumber
-order_few text = else_none IsOrderNumber (order_said text) (found (λ v. IfSome v IsOrderNumber) orders text (tt, (omega arith, (omega arith, (omega arith, (omega arith, (omega arith, tt)))))))
+order_asked : (text : List ℕ) → IfSome (unwrap_or (order_said text) None) IsOrderNumber
+order_asked text = else_none IsOrderNumber (order_said text) (order_few text)
 
 -- no bytes, or those of 1 to 33 resolutions
 abbrev ArePerhaps : List ℕ → Type 0
@@ -56,7 +58,7 @@ style_few text = else_none MayBeStyle (style_said text) (by (style_said text) (s
 
 pub given_may_be : (g : Given) → MayBeWanted (wanted_by g)
 unfolding wanted_by
-given_may_be g = record { order = order_few g.order; bytes = are_bytes (unwrap_or (precincts_said g.precincts) None) (precincts_asked g.precincts); style = style_few g.style }
+given_may_be g = record { order = order_asked g.order; bytes = are_bytes (unwrap_or (precincts_said g.precincts) None) (precincts_asked g.precincts); style = style_few g.style }
 
 -- a number that is said, or the default
 abbrev IsWithin : ℕ → ℕ → Type 0
@@ -89,7 +91,7 @@ may_be_work words = work_may_be _
 
 request_asked : (g : Given) → MayBeAsked (request_by g)
 unfolding wanted_by
-request_asked g = record { order = order_few g.order; precincts = precincts_asked g.precincts; style = style_few g.style; work = work_may_be g }
+request_asked g = record { order = order_asked g.order; precincts = precincts_asked g.precincts; style = style_few g.style; work = work_may_be g }
 
 pub asked : (words : List (List ℕ)) → MayBeAsked (request_of words)
 unfolding request_of

@@ -1,3 +1,4 @@
+pub mod BoxesWords
 pub mod MakeWords
 pub mod Words
 -- Inner: no other crate cites these.

@@ -9,8 +9,8 @@ use Rattle.jx_options.specs.declared.PartChoice.TheVariants as parts
 use Rattle.jx_cli.specs.Command.{transcode}
 use Rattle.jx_options.specs.declared.names.OptionName.{OptionName}
 use Rattle.jx_options.specs.declared.names.OptionName.TheVariants as option
-use Rattle.jx_options.specs.Names.{default_of, name_of}
-use Rattle.jx_options.specs.Values.{ArePrecincts, bytes_said, order_said, parts_said, precincts_said, style_said, threads_said, window_said}
+use Rattle.jx_options.specs.Names.{bytes_said, name_of, order_said, parts_said, threads_said, window_said}
+use Rattle.jx_options.specs.Values.{ArePrecincts, precincts_said, style_said}
 
 -- the bytes of a word
 abbrev pub Text : Type 0
@@ -43,9 +43,9 @@ pub record Given : Type 0 where
 abbrev pub text_of : (Text → Option Text) → Text → Text → Text
 text_of found name default = unwrap_or (found name) default
 
--- the text of an option, else what stands for it where it isn't among the words
+-- the text of an option; where it isn't among the words clap gives the one that stands for it
 abbrev pub said_of : (Text → Option Text) → OptionName → Text
-said_of found name = text_of found (name_of name) (default_of name)
+said_of found name = text_of found (name_of name) []
 
 -- clap gives a flag the text `true` where it is among the words
 abbrev pub flag_of : (Text → Option Text) → OptionName → Bool

@@ -1,72 +1,58 @@
-//! The commands `transcode` and `make`, their words and their options.
+//! The commands `transcode`, `make` and `boxes`, their words and their options.
 
 ghost use Rattle.std.specs.Prelude.{◌≡◌, IfOk, false, map};
 ghost use Rattle.clap.specs.Words.{app_of, rule_of};
-ghost use Rattle.jx_cli.specs.Command.{transcode, with_options, with_places};
-ghost use Rattle.jx_cli.specs.CommandWords.{kind_by, rule_by, with_words};
+ghost use Rattle.jx_cli.specs.BoxesWords.{boxes};
+ghost use Rattle.jx_cli.specs.Command.{place_rule, transcode, with_options, with_places};
+ghost use Rattle.jx_cli.specs.CommandWords.{rule_by, with_words};
 ghost use Rattle.jx_cli.specs.MakeWords.{make};
-ghost use Rattle.jx_options.specs.Names.{is_flag, name_of};
+ghost use Rattle.jx_options.specs.Names.{default_of, is_flag, name_of};
 
 use clap::{Arg, ArgAction, Command};
 use jx_options::OptionName;
 use std::alloc::{AllocError, Global};
 
-/// How a command takes a word.
-#[derive(Clone, Copy)]
-enum Kind {
-    /// It has to be there.
-    Place,
-    /// It is an option that has one value.
-    Option,
-    /// It is an option that stands alone.
-    Flag,
-}
-
-/// A word as clap takes it.
-fn arg_of<'a>(alloc: Global, kind: Kind, name: &'a str) -> Arg<'a>
-    ensures rule { rule_of result ≡ rule_by kind name.entry.now }
+/// A word that has to be there, as clap takes it.
+fn place_of<'a>(alloc: Global, name: &'a str) -> Arg<'a>
+    ensures rule { rule_of result ≡ place_rule name.entry.now }
     ensures local { result.global ≡ false }
 {
-    let arg = Arg::new(alloc, name);
-    match kind {
-        Kind::Place => arg.required(true).action(ArgAction::Set),
-        Kind::Option => arg.long(name).action(ArgAction::Set),
-        Kind::Flag => arg.long(name).action(ArgAction::SetTrue),
+    Arg::new(alloc, name).required(true).action(ArgAction::Set)
+}
+
+/// An option as clap takes it: one that stands alone, or one that has a value, with what stands for it where it isn't among the words.
+fn arg_of<'a>(alloc: Global, alone: bool, name: &'a str, default: &'a str) -> Arg<'a>
+    ensures rule { rule_of result ≡ rule_by alone name.entry.now default.entry.now }
+    ensures local { result.global ≡ false }
+{
+    let arg = Arg::new(alloc, name).long(name);
+    if alone {
+        arg.action(ArgAction::SetTrue)
+    } else {
+        arg.action(ArgAction::Set).default_value(default)
     }
 }
 
-/// With the words of a list, each taken in the same way.
+/// With the words of a list, each of which has to be there.
 fn with_words<'a>(
     alloc: Global,
     command: Command<'a>,
-    kind: Kind,
     names: &[&'a str],
 ) -> Result<Command<'a>, AllocError>
-    ensures { IfOk result (λ c. app_of c ≡ with_words kind (map (λ name. name.now) names.now) (app_of command.entry)) }
+    ensures { IfOk result (λ c. app_of c ≡ with_words (map (λ name. name.now) names.now) (app_of command.entry)) }
 {
     let Some((name, rest)) = names.split_first() else {
         return Ok(command);
     };
-    let command = command.arg(arg_of(alloc, kind, name))?;
-    with_words(alloc, command, kind, rest)
+    let command = command.arg(place_of(alloc, name))?;
+    with_words(alloc, command, rest)
 }
 
 /// With the names of the input and the output.
 fn with_places<'a>(alloc: Global, command: Command<'a>) -> Result<Command<'a>, AllocError>
     ensures { IfOk result (λ c. app_of c ≡ with_places (app_of command.entry)) }
 {
-    with_words(alloc, command, Kind::Place, &["in", "out"])
-}
-
-/// How an option is taken.
-fn kind_of(option: OptionName) -> Kind
-    ensures { result ≡ kind_by (is_flag option) }
-{
-    if option.is_flag() {
-        Kind::Flag
-    } else {
-        Kind::Option
-    }
+    with_words(alloc, command, &["in", "out"])
 }
 
 /// An option's name, for as long as it is asked.
@@ -74,6 +60,13 @@ fn name_of<'a>(option: OptionName) -> &'a str
     ensures { result.now ≡ name_of option }
 {
     option.text()
+}
+
+/// What stands for it where it isn't among the words, for as long as it is asked.
+fn default_of<'a>(option: OptionName) -> &'a str
+    ensures { result.now ≡ default_of option }
+{
+    option.default()
 }
 
 /// With the options of a list.
@@ -87,7 +80,13 @@ fn with_options<'a>(
     let Some((option, rest)) = options.split_first() else {
         return Ok(command);
     };
-    let command = command.arg(arg_of(alloc, kind_of(*option), name_of(*option)))?;
+    let arg = arg_of(
+        alloc,
+        option.is_flag(),
+        name_of(*option),
+        default_of(*option),
+    );
+    let command = command.arg(arg)?;
     with_options(alloc, command, rest)
 }
 
@@ -105,5 +104,13 @@ pub(crate) fn make<'a>(alloc: Global) -> Result<Command<'a>, AllocError>
     ensures { IfOk result (λ c. app_of c ≡ make) }
 {
     let command = Command::new(alloc, "make");
-    with_words(alloc, command, Kind::Place, &["seed", "width", "height"])
+    with_words(alloc, command, &["seed", "width", "height"])
+}
+
+/// The command `boxes`, of one word.
+pub(crate) fn boxes<'a>(alloc: Global) -> Result<Command<'a>, AllocError>
+    ensures { IfOk result (λ c. app_of c ≡ boxes) }
+{
+    let command = Command::new(alloc, "boxes");
+    with_words(alloc, command, &["in"])
 }

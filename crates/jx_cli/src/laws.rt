@@ -2,6 +2,7 @@
 
 ghost use Rattle.std.specs.Prelude.{◌≡◌, List, false, true};
 ghost use Rattle.jx_options.specs.Wanted.{MayBeWanted};
+ghost use Rattle.jx_cli.specs.BoxesWords.{AsksBoxes, is_boxes};
 ghost use Rattle.jx_cli.specs.MakeFound.{AsksMake};
 ghost use Rattle.jx_cli.specs.MakeWords.{Make, MayBeMade, is_make, make_of};
 ghost use Rattle.jx_cli.specs.Words.{Asks, MayBeAsked, Request, Text, is_good, request_of};
@@ -27,7 +28,14 @@ pub fn make_has_words()
     ensures asked { (words : List Text) → is_make words ≡ true → MayBeMade (make_of words) }
 {}
 
-/// No words are good for both commands.
+/// Each name is asked for by some good words of `boxes`.
+pub fn boxes_have_words()
+    ensures { (name : Text) → AsksBoxes name }
+{}
+
+/// No words are good for two commands.
 pub fn commands_are_apart()
-    ensures { (words : List Text) → is_good words ≡ true → is_make words ≡ false }
+    ensures make { (words : List Text) → is_good words ≡ true → is_make words ≡ false }
+    ensures boxes { (words : List Text) → is_good words ≡ true → is_boxes words ≡ false }
+    ensures others { (words : List Text) → is_make words ≡ true → is_boxes words ≡ false }
 {}

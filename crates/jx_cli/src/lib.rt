@@ -1,14 +1,16 @@
-//! The words of the command lines `jx transcode` and `jx make`, read with clap.
+//! The words of the command lines `jx transcode`, `jx make` and `jx boxes`, read with clap.
 #![tactic(auto)]
 
 ghost use Rattle.std.specs.Prelude.{◌≡◌};
 
+mod boxes;
 mod command;
 mod given;
 pub mod laws;
 mod make;
 mod reading;
 
+pub use boxes::read_boxes;
 use jx_options::{Options, Work};
 pub use make::{Make, read_make};
 pub use reading::read_words;

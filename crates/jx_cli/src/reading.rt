@@ -1,19 +1,102 @@
 //! The request that words make.
 
-ghost use Rattle.std.specs.Prelude.{◌≡◌, ◌≤◌, true, false, IfOk, IfSome, None, Err, length, map, string_bytes};
+ghost use Rattle.std.specs.Prelude.{◌≡◌, ◌≢◌, ◌≤◌, [], true, false, IfOk, IfSome, None, Err, length, map, string_bytes};
+ghost use Rattle.clap.specs.Words.{fault_of, first_value, found_of};
+ghost use Rattle.jx_cli.specs.Command.{transcode};
 ghost use Rattle.jx_options.specs.Choices.{bytes_in, order_in};
 ghost use Rattle.jx_options.specs.Wanted.{MayBeWanted};
-ghost use Rattle.jx_cli.specs.Words.{are_values, is_good, is_work, names_command, request_by, request_of, work_by};
+ghost use Rattle.jx_cli.specs.Words.{are_values, given_by, given_in, is_good, is_work, names_command, request_by, request_of, work_by};
 ghost use Rattle.jx_options.specs.Work.{MayBeWork};
 
-use crate::given::{Given, given_in};
+use crate::command::transcode;
+use crate::given::{flag_of, matches_in, said_of, text_of};
 use crate::{Request, WordsFault};
+use clap::ArgMatches;
 use jx_base::{NoMemory, Style};
 use jx_options::{
-    Marks, Options, OrderChoice, PartChoice, PrecinctChoice, Work, bytes_said, order_said,
-    parts_said, precincts_said, style_said, threads_said, window_said,
+    Marks, OptionName, Options, OrderChoice, PartChoice, PrecinctChoice, Work, bytes_said,
+    order_said, parts_said, precincts_said, style_said, threads_said, window_said,
 };
 use std::alloc::Global;
+use std::marker::Model;
+
+/// The words that were given, with the values of options that aren't among them.
+#[derive(Drop)]
+struct Given<'a> {
+    from: &'a str,
+    to: &'a str,
+    order: &'a str,
+    precincts: &'a str,
+    layers: &'a str,
+    style: &'a str,
+    parts: &'a str,
+    sop: bool,
+    eph: bool,
+    plt: bool,
+    threads: &'a str,
+    window: &'a str,
+    window_bytes: &'a str,
+}
+
+impl<'a> Model for Given<'a> {
+    ghost use Rattle.jx_cli.specs.Words.{Given};
+
+    ghost Value = { Given };
+
+    ghost view = { λ g. record {
+      from = g.from.now;
+      to = g.to.now;
+      order = g.order.now;
+      precincts = g.precincts.now;
+      layers = g.layers.now;
+      style = g.style.now;
+      parts = g.parts.now;
+      sop = g.sop;
+      eph = g.eph;
+      plt = g.plt;
+      threads = g.threads.now;
+      window = g.window.now;
+      window_bytes = g.window_bytes.now;
+    } };
+}
+
+/// All that was found.
+#[tactic(auto, unfolding(crate::specs::Words::given_by))]
+fn given_by<'a>(matches: &ArgMatches<'a>) -> Given<'a>
+    ensures { result ≡ given_by (first_value (found_of matches.now)) }
+{
+    Given {
+        from: text_of(matches, "in", ""),
+        to: text_of(matches, "out", ""),
+        order: said_of(matches, OptionName::Order),
+        precincts: said_of(matches, OptionName::Precincts),
+        layers: said_of(matches, OptionName::Layers),
+        style: said_of(matches, OptionName::Style),
+        parts: said_of(matches, OptionName::TileParts),
+        sop: flag_of(matches, OptionName::Sop),
+        eph: flag_of(matches, OptionName::Eph),
+        plt: flag_of(matches, OptionName::Plt),
+        threads: said_of(matches, OptionName::Threads),
+        window: said_of(matches, OptionName::Window),
+        window_bytes: said_of(matches, OptionName::WindowBytes),
+    }
+}
+
+/// What the words ask for, of which the first is the command's name.
+fn given_in<'a>(alloc: Global, words: &'a [String]) -> Result<Given<'a>, WordsFault>
+    ensures taken { IfOk result (λ _. fault_of transcode (map string_bytes words.entry.now) ≡ []) }
+    ensures given { IfOk result (λ g. g ≡ given_in (map string_bytes words.entry.now)) }
+    ensures refused { result ≡ Err WordsFault.Words → fault_of transcode (map string_bytes words.entry.now) ≢ [] }
+{
+    let command = match transcode(alloc) {
+        Ok(command) => command,
+        Err(_) => return Err(WordsFault::NoMemory),
+    };
+    match matches_in(command, words) {
+        Ok(matches) => Ok(given_by(&matches)),
+        Err(fault) => Err(fault),
+    }
+}
 
 /// How the work is to be done.
 #[tactic(auto, unfolding(crate::specs::Words::work_by))]

@@ -11,7 +11,7 @@ use Rattle.jx_base.specs.Places.{length_of}
 use Rattle.jx_codeblock.specs.declared.LayerEnd.{LayerEnd}
 use Rattle.jx_codeblock.specs.Jobs.{IsAsked}
 use Rattle.jx_codeblock.specs.Laws.{IsWithin}
-use Rattle.jx_codeblock.specs.Recoding.{Recoding, recoding, coding_in, decoded_in, own_segments, pieces_of, sent_in}
+use Rattle.jx_codeblock.specs.Recoding.{Recoding, recoding, coding_in, decoded_in, own_segments, recoded_pieces, sent_in}
 use Rattle.jx_codeblock.specs.Segments.{bytes_before, segments_of}
 use Rattle.jx_codeblock.proofs.AnewLemmas.{anew, anew_looked, is_anew}
 use Rattle.jx_codeblock.proofs.GroupLemmas.{segments_are}
@@ -71,24 +71,24 @@ anew_within b style ends r asked e =
     (parts_within style.bits b.passes (length (concat (anew b style))) (sent_in b (Some style) ends (anew b style)) 0 0 ends (anew_rises b style ends) asked.layers)
 
 pub anew_sound : (b : Block) (style : Style) (ends : List LayerEnd) (r : Recoding) → IsAsked b (Some style) ends → Some r ≡ recoding b (Some style) ends
-    → ArePieces style.bits 0 0 b.passes (pieces_of r)
+    → ArePieces style.bits 0 0 b.passes (recoded_pieces r)
 anew_sound b style ends r asked e =
-    let P : Recoding → Type 0 = λ q. ArePieces style.bits 0 0 b.passes (pieces_of q) in
+    let P : Recoding → Type 0 = λ q. ArePieces style.bits 0 0 b.passes (recoded_pieces q) in
     subst P (sym (is_anew b style ends r e).is)
     (parts_sound style.bits b.passes (sent_in b (Some style) ends (anew b style)) (concat (anew b style)) 0 0 ends (anew_clean b style ends) asked.layers)
 
 pub anew_have : (b : Block) (style : Style) (ends : List LayerEnd) (r : Recoding) → Some r ≡ recoding b (Some style) ends
-    → HaveBytes (sent_in b (Some style) ends (anew b style)) (concat (anew b style)) (pieces_of r)
+    → HaveBytes (sent_in b (Some style) ends (anew b style)) (concat (anew b style)) (recoded_pieces r)
 anew_have b style ends r e =
-    let P : Recoding → Type 0 = λ q. HaveBytes (sent_in b (Some style) ends (anew b style)) (concat (anew b style)) (pieces_of q) in
+    let P : Recoding → Type 0 = λ q. HaveBytes (sent_in b (Some style) ends (anew b style)) (concat (anew b style)) (recoded_pieces q) in
     subst P (sym (is_anew b style ends r e).is) (parts_have style.bits (sent_in b (Some style) ends (anew b style)) (concat (anew b style)) 0 ends)
 
 pub anew_segments : (b : Block) (style : Style) (ends : List LayerEnd) (r : Recoding) → IsAsked b (Some style) ends → Some r ≡ recoding b (Some style) ends
-    → segments_of style.bits b.passes (pieces_of r) ≡ anew b style
+    → segments_of style.bits b.passes (recoded_pieces r) ≡ anew b style
 anew_segments b style ends r asked e =
     let sound = anew_sound b style ends r asked e in
-    segments_are style.bits 0 b.passes (pieces_of r) sound
-    ∙ regroup style.bits b.passes (anew b style) (sent_in b (Some style) ends (anew b style)) (anew_sends b style ends) 0 (pieces_of r) sound (anew_have b style ends r e)
+    segments_are style.bits 0 b.passes (recoded_pieces r) sound
+    ∙ regroup style.bits b.passes (anew b style) (sent_in b (Some style) ends (anew b style)) (anew_sends b style ends) 0 (recoded_pieces r) sound (anew_have b style ends r e)
     (none_written (coding_in b style.bits) (decoded_in b b.style.bits (own_segments b)).cells b.passes)
 
 pub few_before : (lists ss : List (List ℕ)) → ss ≡ lists → length (concat lists) ≤ 2 ^ 28 → bytes_before ss (length ss) ≤ 2 ^ 28

@@ -13,7 +13,7 @@ use Rattle.jx_tier1_specs.proofs.PassBackLemmas.{refollowed}
 use Rattle.jx_codeblock.specs.declared.LayerEnd.{LayerEnd}
 use Rattle.jx_codeblock.specs.Jobs.{IsAsked}
 use Rattle.jx_codeblock.specs.Laws.{KeepsFirst, decoded_first}
-use Rattle.jx_codeblock.specs.Recoding.{Recoding, recoding, coding_in, decoded_in, own_segments, pieces_of}
+use Rattle.jx_codeblock.specs.Recoding.{Recoding, recoding, coding_in, decoded_in, own_segments, recoded_pieces}
 use Rattle.jx_codeblock.specs.Segments.{segments_of}
 use Rattle.jx_codeblock.proofs.AnewLemmas.{anew}
 use Rattle.jx_codeblock.proofs.AnewParts.{anew_segments}
@@ -84,11 +84,11 @@ module _ (k : KeepsCells) (b : Block) (style : Style) (ends : List LayerEnd) (as
       positive (suc n) ne = omega arith
 
   pub keeps_cells : (r : Recoding) → Some r ≡ recoding b (Some style) ends
-      → (decoded_in b style.bits (segments_of style.bits b.passes (pieces_of r))).cells ≡ (decoded_in b b.style.bits (own_segments b)).cells
+      → (decoded_in b style.bits (segments_of style.bits b.passes (recoded_pieces r))).cells ≡ (decoded_in b b.style.bits (own_segments b)).cells
   keeps_cells r e = ap (λ (ss : List (List ℕ)). (decoded_in b style.bits ss).cells) (anew_segments b style ends r asked e) ∙ same_cells
 
   pub keeps_right : (r : Recoding) → Some r ≡ recoding b (Some style) ends
-      → (decoded_in b style.bits (segments_of style.bits b.passes (pieces_of r))).wrong ≡ None
+      → (decoded_in b style.bits (segments_of style.bits b.passes (recoded_pieces r))).wrong ≡ None
   keeps_right r e = ap (λ (ss : List (List ℕ)). (decoded_in b style.bits ss).wrong) (anew_segments b style ends r asked e) ∙ same_right
 
   -- the first passes
@@ -116,7 +116,7 @@ module _ (k : KeepsCells) (b : Block) (style : Style) (ends : List LayerEnd) (as
       positive (suc n) ne = omega arith
 
   pub keeps_first : (r : Recoding) (first : ℕ) → Some r ≡ recoding b (Some style) ends → first ≤ b.passes → KeepsFirst b style first
-      → (decoded_first b style.bits (segments_of style.bits b.passes (pieces_of r)) first).cells ≡ (decoded_first b b.style.bits (own_segments b) first).cells
+      → (decoded_first b style.bits (segments_of style.bits b.passes (recoded_pieces r)) first).cells ≡ (decoded_first b b.style.bits (own_segments b) first).cells
   keeps_first r first e le keeps = ap (λ (ss : List (List ℕ)). (decoded_first b style.bits ss first).cells) (anew_segments b style ends r asked e) ∙ first_cells first le keeps
 
 -- the coefficients of a block have its size

@@ -18,7 +18,7 @@ use Rattle.jx_tier1_specs.specs.Short.{AreShort}
 use Rattle.jx_codeblock.specs.declared.LayerEnd.{LayerEnd}
 use Rattle.jx_codeblock.specs.Groups.{groups}
 use Rattle.jx_codeblock.specs.Segments.{bytes_before, sent_by_looks, sent_by_pieces}
-use Rattle.jx_codeblock.specs.Recoding.{has_own_ends, own_segments, coding_in, decoded_in, parts_after, sent_in}
+use Rattle.jx_codeblock.specs.Recoding.{has_own_ends, own_segments, coding_in, decoded_in, layer_parts_after, sent_in}
 use Rattle.jx_codeblock.specs.Jobs.{AreEnds}
 use Rattle.jx_codeblock.specs.Laws.{decoded_first}
 use Rattle.jx_codeblock.specs.Tables.{are_cut, at_place, rows, bytes_joined, AreFew}
@@ -37,14 +37,14 @@ abbrev pub looks : Block → ℕ → ℕ
 looks b n = sent_by_looks b.style.bits b.passes (own_segments b) (own_looked b) n
 
 pub kept_parts : (b : Block) (ends : List LayerEnd) → AreEnds 0 0 b.passes ends → has_own_ends b.pieces ends ≡ true
-    → parts_after b.style.bits (sent_by_pieces b.pieces) 0 ends ≡ parts_after b.style.bits (sent_in b None ends (own_segments b)) 0 ends
+    → layer_parts_after b.style.bits (sent_by_pieces b.pieces) 0 ends ≡ layer_parts_after b.style.bits (sent_in b None ends (own_segments b)) 0 ends
 kept_parts b ends are own =
     parts_everywhere (sent_by_pieces b.pieces) (sent_in b None ends (own_segments b)) b.style.bits 0 b.passes ends are
     (λ (n : ℕ) le. sym (cond-true (has_own_ends b.pieces ends) (sent_by_pieces b.pieces n) (looks b n) own))
 
 pub cut_parts : (b : Block) (ends : List LayerEnd) → ArePieces b.style.bits 0 0 b.passes b.pieces → AreEnds 0 0 b.passes ends → has_own_ends b.pieces ends ≡ false
     → are_cut b.style.bits b.passes ends ≡ true
-    → parts_after b.style.bits (sent_by_pieces b.pieces) 0 ends ≡ parts_after b.style.bits (sent_in b None ends (own_segments b)) 0 ends
+    → layer_parts_after b.style.bits (sent_by_pieces b.pieces) 0 ends ≡ layer_parts_after b.style.bits (sent_in b None ends (own_segments b)) 0 ends
 cut_parts b ends pieces are own cuts =
     parts_at_cuts (sent_by_pieces b.pieces) (sent_in b None ends (own_segments b)) b.style.bits 0 b.passes ends are cuts
     (λ (n : ℕ) le cut.
@@ -53,7 +53,7 @@ cut_parts b ends pieces are own cuts =
 
 pub none_parts : (b : Block) (ends : List LayerEnd) → ArePieces b.style.bits 0 0 b.passes b.pieces → AreEnds 0 0 b.passes ends → has_own_ends b.pieces ends ≡ false
     → b.passes ≡ 0
-    → parts_after b.style.bits (sent_by_pieces b.pieces) 0 ends ≡ parts_after b.style.bits (sent_in b None ends (own_segments b)) 0 ends
+    → layer_parts_after b.style.bits (sent_by_pieces b.pieces) 0 ends ≡ layer_parts_after b.style.bits (sent_in b None ends (own_segments b)) 0 ends
 none_parts b ends pieces are own zero_passes =
     parts_everywhere (sent_by_pieces b.pieces) (sent_in b None ends (own_segments b)) b.style.bits 0 b.passes ends are
     (λ (n : ℕ) le.
@@ -62,13 +62,13 @@ none_parts b ends pieces are own zero_passes =
 
 -- over tables
 pub pieces_table : (b : Block) (ends : List LayerEnd) (table : List ℕ) → ArePieces b.style.bits 0 0 b.passes b.pieces → AreEnds 0 0 b.passes ends → table ≡ 0 ∷ rows 0 b.pieces
-    → parts_after b.style.bits (at_place table) 0 ends ≡ parts_after b.style.bits (sent_by_pieces b.pieces) 0 ends
+    → layer_parts_after b.style.bits (at_place table) 0 ends ≡ layer_parts_after b.style.bits (sent_by_pieces b.pieces) 0 ends
 pieces_table b ends table pieces are e =
     parts_everywhere (at_place table) (sent_by_pieces b.pieces) b.style.bits 0 b.passes ends are
     (λ (n : ℕ) le. ap (λ (l : List ℕ). get_or l n 0) e ∙ table_at b.style.bits 0 b.passes n b.pieces pieces le)
 
 pub listed_table : (f : ℕ → ℕ) (style passes : ℕ) (ends : List LayerEnd) (table : List ℕ) → AreEnds 0 0 passes ends → table ≡ map f (range_with_len 0 (passes + 1))
-    → parts_after style (at_place table) 0 ends ≡ parts_after style f 0 ends
+    → layer_parts_after style (at_place table) 0 ends ≡ layer_parts_after style f 0 ends
 listed_table f style passes ends table are e =
     parts_everywhere (at_place table) f style 0 passes ends are
     (λ (n : ℕ) le. ap (λ (l : List ℕ). get_or l n 0) e ∙ listed_at f 0 (passes + 1) n (omega arith) ∙ ap f (omega arith))

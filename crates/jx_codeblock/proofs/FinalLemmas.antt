@@ -11,7 +11,7 @@ use Rattle.jx_codeblock.specs.declared.LayerEnd.{LayerEnd}
 use Rattle.jx_codeblock.specs.FirstLayers.{HasFirstLayers, KeepsValues, cells_after, first_cells, pieces_below, sent_below}
 use Rattle.jx_codeblock.specs.Jobs.{IsAsked}
 use Rattle.jx_codeblock.specs.Laws.{KeepsFirst, decoded_first}
-use Rattle.jx_codeblock.specs.Recoding.{Recoding, coding_in, decoded_in, has_own_ends, is_kept_whole, new_style, own_segments, piece_of, pieces_of, recoding, sent_in}
+use Rattle.jx_codeblock.specs.Recoding.{Recoding, coding_in, decoded_in, has_own_ends, is_kept_whole, new_style, own_segments, piece_of, recoded_pieces, recoding, sent_in}
 use Rattle.jx_codeblock.specs.Segments.{bytes_before, ends_below, segments_of, sent_by_looks, sent_by_pieces}
 use Rattle.jx_codeblock.specs.Written.{block_with, is_wrong, style_for}
 use Rattle.jx_codeblock.proofs.BelowLemmas.{asked_below, below_are, below_have, below_most, front_segments, sent_most}
@@ -28,14 +28,14 @@ use Rattle.jx_codeblock.proofs.RegroupLemmas.{HaveBytes, Sends, kept_have, kept_
 abbrev pub FirstKeeps : Type 0
 FirstKeeps = (b : Block) → (style : Style) → (ends : List LayerEnd) → (r : Recoding) → (first : ℕ) → IsAsked b (Some style) ends → Some r ≡ recoding b (Some style) ends
     → first ≤ b.passes → KeepsFirst b style first
-    → (decoded_first b style.bits (segments_of style.bits b.passes (pieces_of r)) first).cells ≡ (decoded_first b b.style.bits (own_segments b) first).cells
+    → (decoded_first b style.bits (segments_of style.bits b.passes (recoded_pieces r)) first).cells ≡ (decoded_first b b.style.bits (own_segments b) first).cells
 
 -- ---- the definitions, opened
 first_are : (m : ℕ) (b : Block) (bits : ℕ) (r : Recoding) → r.style ≡ bits
-    → first_cells m (block_with b (Some r)) ≡ (decoded_first b bits (segments_of bits (passes_below m (pieces_of r)) (pieces_below m (pieces_of r))) (passes_below m (pieces_of r))).cells
+    → first_cells m (block_with b (Some r)) ≡ (decoded_first b bits (segments_of bits (passes_below m (recoded_pieces r)) (pieces_below m (recoded_pieces r))) (passes_below m (recoded_pieces r))).cells
 unfolding first_cells
 first_are m b bits r e =
-    ap (λ (s : ℕ). (decoded_first b s (segments_of s (passes_below m (pieces_of r)) (pieces_below m (pieces_of r))) (passes_below m (pieces_of r))).cells) e
+    ap (λ (s : ℕ). (decoded_first b s (segments_of s (passes_below m (recoded_pieces r)) (pieces_below m (recoded_pieces r))) (passes_below m (recoded_pieces r))).cells) e
 
 own_are : (m : ℕ) (b : Block)
     → first_cells m b ≡ (decoded_first b b.style.bits (segments_of b.style.bits (passes_below m b.pieces) (pieces_below m b.pieces)) (passes_below m b.pieces)).cells
@@ -43,9 +43,9 @@ unfolding first_cells
 own_are m b = refl
 
 after_are : (n : ℕ) (b : Block) (bits : ℕ) (r : Recoding) → r.style ≡ bits
-    → cells_after n (block_with b (Some r)) ≡ (decoded_first b bits (segments_of bits b.passes (pieces_of r)) n).cells
+    → cells_after n (block_with b (Some r)) ≡ (decoded_first b bits (segments_of bits b.passes (recoded_pieces r)) n).cells
 unfolding cells_after
-after_are n b bits r e = ap (λ (s : ℕ). (decoded_first b s (segments_of s b.passes (pieces_of r)) n).cells) e
+after_are n b bits r e = ap (λ (s : ℕ). (decoded_first b s (segments_of s b.passes (recoded_pieces r)) n).cells) e
 
 after_own : (n : ℕ) (b : Block) → cells_after n b ≡ (decoded_first b b.style.bits (own_segments b) n).cells
 unfolding cells_after
@@ -63,37 +63,37 @@ below_segments style passes ss sent sends m n ps are have e some =
 
 -- ---- what is made of a block
 module _ (b : Block) (style : Option Style) (ends : List LayerEnd) (r : Recoding) (asked : IsAsked b style ends) (is : Some r ≡ recoding b style ends) (m : ℕ) where
-  pub made_below : passes_below m (pieces_of r) ≡ sent_below m ends
+  pub made_below : passes_below m (recoded_pieces r) ≡ sent_below m ends
   made_below =
       let from = is_from b style ends r is in
-      let P : Recoding → Type 0 = λ q. passes_below m (pieces_of q) ≡ sent_below m ends in
+      let P : Recoding → Type 0 = λ q. passes_below m (recoded_pieces q) ≡ sent_below m ends in
       let count = asked_below (sent_in b style ends from.segments) (concat from.segments) (new_style b style) m 0 0 b.passes ends asked.layers in
       subst P (sym from.is) (omega arith)
 
-  made_most : passes_below m (pieces_of r) ≤ b.passes
+  made_most : passes_below m (recoded_pieces r) ≤ b.passes
   made_most = let most = sent_most m 0 0 b.passes ends asked.layers in omega (arith, made_below)
 
-  made_segments : (n : ℕ) → passes_below m (pieces_of r) ≡ n → 1 ≤ n → (s : IsSent b style ends r)
-      → segments_of (new_style b style) n (pieces_below m (pieces_of r))
+  made_segments : (n : ℕ) → passes_below m (recoded_pieces r) ≡ n → 1 ≤ n → (s : IsSent b style ends r)
+      → segments_of (new_style b style) n (pieces_below m (recoded_pieces r))
       ≡ front s.segments (ends_below (new_style b style) (n - 1)) (sent_in b style ends s.segments n - bytes_before s.segments (ends_below (new_style b style) (n - 1)))
   made_segments n e some s =
-      below_segments (new_style b style) b.passes s.segments (sent_in b style ends s.segments) s.sends m n (pieces_of r) (all_sound b style ends r asked is) s.have e some
+      below_segments (new_style b style) b.passes s.segments (sent_in b style ends s.segments) s.sends m n (recoded_pieces r) (all_sound b style ends r asked is) s.have e some
 
   -- the values that they have in the end
-  pub made_final : (n : ℕ) → passes_below m (pieces_of r) ≡ n → is_kept_whole b style ends ≡ false
+  pub made_final : (n : ℕ) → passes_below m (recoded_pieces r) ≡ n → is_kept_whole b style ends ≡ false
       → first_cells m (block_with b (Some r)) ≡ cells_after n (block_with b (Some r))
   made_final n e kept =
       let bits : ℕ = new_style b style in
       let s = is_sent b style ends r asked is in
       let in_bits : r.style ≡ bits = made_style b style ends r is in
-      let front_is : first_cells m (block_with b (Some r)) ≡ (decoded_first b bits (segments_of bits n (pieces_below m (pieces_of r))) n).cells =
-      first_are m b bits r in_bits ∙ ap (λ (k : ℕ). (decoded_first b bits (segments_of bits k (pieces_below m (pieces_of r))) k).cells) e in
+      let front_is : first_cells m (block_with b (Some r)) ≡ (decoded_first b bits (segments_of bits n (pieces_below m (recoded_pieces r))) n).cells =
+      first_are m b bits r in_bits ∙ ap (λ (k : ℕ). (decoded_first b bits (segments_of bits k (pieces_below m (recoded_pieces r))) k).cells) e in
       let whole_is : cells_after n (block_with b (Some r)) ≡ (decoded_first b bits s.segments n).cells =
       after_are n b bits r in_bits ∙ ap (λ (ss : List (List ℕ)). (decoded_first b bits ss n).cells) s.whole in
-      let same : (decoded_first b bits (segments_of bits n (pieces_below m (pieces_of r))) n).cells ≡ (decoded_first b bits s.segments n).cells =
+      let same : (decoded_first b bits (segments_of bits n (pieces_below m (recoded_pieces r))) n).cells ≡ (decoded_first b bits s.segments n).cells =
       elim (cases_eq n 0) [
         | inl none ↦
-            none_decoded (length_of b.rect.x) (length_of b.rect.y) (coding_in b bits) (coding_in b bits) (segments_of bits n (pieces_below m (pieces_of r))) s.segments n none
+            none_decoded (length_of b.rect.x) (length_of b.rect.y) (coding_in b bits) (coding_in b bits) (segments_of bits n (pieces_below m (recoded_pieces r))) s.segments n none
         | inr some ↦
             let most = made_most in
             ap (λ (ss : List (List ℕ)). (decoded_first b bits ss n).cells) (made_segments n e (omega arith) s)
@@ -118,24 +118,24 @@ own_have b ends sound own =
     (parts_have_own (sent_in b None ends (own_segments b)) (concat (own_segments b)) b.pieces)
 
 made_own : (b : Block) (style : Option Style) (ends : List LayerEnd) (r : Recoding) (m before : ℕ) → IsAsked b style ends → Some r ≡ recoding b style ends
-    → is_kept_whole b style ends ≡ true → passes_below m (pieces_of r) ≡ passes_below before b.pieces → first_cells m (block_with b (Some r)) ≡ first_cells before b
+    → is_kept_whole b style ends ≡ true → passes_below m (recoded_pieces r) ≡ passes_below before b.pieces → first_cells m (block_with b (Some r)) ≡ first_cells before b
 made_own b (Some style) ends r m before asked is kept e = absurd (true≢false (sym kept))
 made_own b None ends r m before asked is kept e =
     let bits : ℕ = b.style.bits in
     let front_is : first_cells m (block_with b (Some r))
-    ≡ (decoded_first b bits (segments_of bits (passes_below before b.pieces) (pieces_below m (pieces_of r))) (passes_below before b.pieces)).cells =
+    ≡ (decoded_first b bits (segments_of bits (passes_below before b.pieces) (pieces_below m (recoded_pieces r))) (passes_below before b.pieces)).cells =
     first_are m b b.style.bits r (made_style b None ends r is)
-    ∙ ap (λ (k : ℕ). (decoded_first b b.style.bits (segments_of b.style.bits k (pieces_below m (pieces_of r))) k).cells) e in
-    let same : (decoded_first b bits (segments_of bits (passes_below before b.pieces) (pieces_below m (pieces_of r))) (passes_below before b.pieces)).cells
+    ∙ ap (λ (k : ℕ). (decoded_first b b.style.bits (segments_of b.style.bits k (pieces_below m (recoded_pieces r))) k).cells) e in
+    let same : (decoded_first b bits (segments_of bits (passes_below before b.pieces) (pieces_below m (recoded_pieces r))) (passes_below before b.pieces)).cells
     ≡ (decoded_first b bits (segments_of bits (passes_below before b.pieces) (pieces_below before b.pieces)) (passes_below before b.pieces)).cells =
     elim (cases_eq (passes_below before b.pieces) 0) [
       | inl none ↦
           none_decoded (length_of b.rect.x) (length_of b.rect.y) (coding_in b b.style.bits) (coding_in b b.style.bits)
-          (segments_of b.style.bits (passes_below before b.pieces) (pieces_below m (pieces_of r))) (segments_of b.style.bits (passes_below before b.pieces) (pieces_below before b.pieces))
+          (segments_of b.style.bits (passes_below before b.pieces) (pieces_below m (recoded_pieces r))) (segments_of b.style.bits (passes_below before b.pieces) (pieces_below before b.pieces))
           (passes_below before b.pieces) none
       | inr some ↦
           let sends = kept_sends b ends asked.sound in
-          let one = below_segments b.style.bits b.passes (own_segments b) (sent_in b None ends (own_segments b)) sends m (passes_below before b.pieces) (pieces_of r)
+          let one = below_segments b.style.bits b.passes (own_segments b) (sent_in b None ends (own_segments b)) sends m (passes_below before b.pieces) (recoded_pieces r)
           (all_sound b None ends r asked is) (kept_have b ends r is) e (omega arith) in
           let other = below_segments b.style.bits b.passes (own_segments b) (sent_in b None ends (own_segments b)) sends before (passes_below before b.pieces) b.pieces
           asked.sound.pieces (own_have b ends asked.sound kept) refl (omega arith) in
@@ -150,9 +150,9 @@ made_same keeps b None ends r n asked is le values =
     after_are n b b.style.bits r (made_style b None ends r is)
     ∙ ap (λ (ss : List (List ℕ)). (decoded_first b b.style.bits ss n).cells) (kept_segments b ends r asked is) ∙ sym (after_own n b)
 made_same keeps b (Some style) ends r n asked is le values =
-    let none : n ≡ 0 → (decoded_first b style.bits (segments_of style.bits b.passes (pieces_of r)) n).cells ≡ (decoded_first b b.style.bits (own_segments b) n).cells =
-    λ (e : n ≡ 0). none_decoded (length_of b.rect.x) (length_of b.rect.y) (coding_in b style.bits) (coding_in b b.style.bits) (segments_of style.bits b.passes (pieces_of r)) (own_segments b) n e in
-    let values_are : (decoded_first b style.bits (segments_of style.bits b.passes (pieces_of r)) n).cells ≡ (decoded_first b b.style.bits (own_segments b) n).cells =
+    let none : n ≡ 0 → (decoded_first b style.bits (segments_of style.bits b.passes (recoded_pieces r)) n).cells ≡ (decoded_first b b.style.bits (own_segments b) n).cells =
+    λ (e : n ≡ 0). none_decoded (length_of b.rect.x) (length_of b.rect.y) (coding_in b style.bits) (coding_in b b.style.bits) (segments_of style.bits b.passes (recoded_pieces r)) (own_segments b) n e in
+    let values_are : (decoded_first b style.bits (segments_of style.bits b.passes (recoded_pieces r)) n).cells ≡ (decoded_first b b.style.bits (own_segments b) n).cells =
     elim values [
       | inl causal ↦ keeps b style ends r n asked is le (inl causal)
       | inr (inl e) ↦ none e

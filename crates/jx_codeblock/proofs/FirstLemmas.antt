@@ -9,7 +9,7 @@ use Rattle.jx_base.specs.Passes.{end_pass}
 use Rattle.jx_tier1_specs.specs.Reading.{Coding, decoded, read_from}
 use Rattle.jx_codeblock.specs.declared.LayerEnd.{LayerEnd}
 use Rattle.jx_codeblock.specs.Jobs.{IsAsked}
-use Rattle.jx_codeblock.specs.Recoding.{Recoding, new_style, own_segments, pieces_of, recoding, sent_in}
+use Rattle.jx_codeblock.specs.Recoding.{Recoding, new_style, own_segments, recoded_pieces, recoding, sent_in}
 use Rattle.jx_codeblock.specs.Segments.{bytes_before, ends_below, less_last_ff, segments_of, sent_by_looks}
 use Rattle.jx_codeblock.proofs.AnewLemmas.{anew}
 use Rattle.jx_codeblock.proofs.AnewParts.{anew_have, anew_segments, anew_sends}
@@ -24,8 +24,8 @@ use Rattle.jx_codeblock.proofs.WithinLemmas.{looks_in}
 pub record IsSent (b : Block) (style : Option Style) (ends : List LayerEnd) (r : Recoding) : Type 0 where
   pub segments : List (List ℕ)
   pub sends : Sends (new_style b style) b.passes segments (sent_in b style ends segments)
-  pub have : HaveBytes (sent_in b style ends segments) (concat segments) (pieces_of r)
-  pub whole : segments_of (new_style b style) b.passes (pieces_of r) ≡ segments
+  pub have : HaveBytes (sent_in b style ends segments) (concat segments) (recoded_pieces r)
+  pub whole : segments_of (new_style b style) b.passes (recoded_pieces r) ≡ segments
 
 pub is_sent : (b : Block) (style : Option Style) (ends : List LayerEnd) (r : Recoding) → IsAsked b style ends → Some r ≡ recoding b style ends → IsSent b style ends r
 is_sent b None ends r asked e = record {

@@ -9,7 +9,7 @@ use Rattle.jx_base.specs.Sound.{IsSound}
 use Rattle.jx_codeblock.specs.declared.LayerEnd.{LayerEnd}
 use Rattle.jx_codeblock.specs.Jobs.{AreEnds, IsAsked}
 use Rattle.jx_codeblock.specs.Laws.{AreCutInLayers, asked_at}
-use Rattle.jx_codeblock.specs.Recoding.{Recoding, layer_ends, new_style, pieces_of, recoding}
+use Rattle.jx_codeblock.specs.Recoding.{Recoding, layer_ends, new_style, recoded_pieces, recoding}
 use Rattle.jx_codeblock.specs.Written.{block_with, is_wrong, own_cells, style_for, written_in}
 use Rattle.jx_codeblock.proofs.GroupLemmas.{none_left}
 use Rattle.jx_codeblock.proofs.MadeBlocks.{AnewKeeps, in_has, made_cells, made_cut, made_ends, made_layers, made_sound, made_style, right_makes_some, style_asked}
@@ -50,9 +50,9 @@ in_kept ends b =
 pub in_empty : (asked : Option Style) (ends : List LayerEnd) (b : Block) → IsAsked b (style_for asked b) ends → (written_in asked ends b).pieces ≡ [] → b.pieces ≡ []
 in_empty asked ends b is =
     in_has (λ (c : Block). c.pieces ≡ [] → b.pieces ≡ []) asked ends b (λ none e. e)
-    (λ (r : Recoding) made (e : pieces_of r ≡ []).
+    (λ (r : Recoding) made (e : recoded_pieces r ≡ []).
     let style : Option Style = style_for asked b in
-    let are : ArePieces (new_style b style) 0 0 b.passes (pieces_of r) = all_sound b style ends r is made in
+    let are : ArePieces (new_style b style) 0 0 b.passes (recoded_pieces r) = all_sound b style ends r is made in
     let nothing : 0 ≡ b.passes = subst (λ (ps : List PieceValue). ArePieces (new_style b style) 0 0 b.passes ps) e are in
     none_left b.style.bits 0 0 b.passes b.pieces is.sound.pieces (omega arith))
 
@@ -102,6 +102,6 @@ in_each asked ends b layer is right =
     in_made (λ (c : Block). passes_at layer c.pieces ≡ asked_at layer 0 ends) asked ends b right
     (λ (r : Recoding) made.
     let style : Option Style = style_for asked b in
-    share_is (new_style b style) 0 0 b.passes layer (pieces_of r) (all_sound b style ends r is made)
+    share_is (new_style b style) 0 0 b.passes layer (recoded_pieces r) (all_sound b style ends r is made)
     ∙ ap (share layer 0) (made_ends b style ends r is made)
     ∙ share_asked layer 0 0 b.passes ends is.layers)

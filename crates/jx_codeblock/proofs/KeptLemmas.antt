@@ -7,10 +7,10 @@ use Rattle.jx_base.specs.Passes.{end_pass}
 use Rattle.jx_base.specs.Pieces.{PieceValue, IsPieceOf, ArePieces, IsInOneSegment}
 use Rattle.jx_packet_header.specs.Parts.{cut, one_more}
 use Rattle.jx_codeblock.specs.declared.LayerEnd.{LayerEnd}
-use Rattle.jx_codeblock.specs.declared.OutPart.{OutPart}
+use Rattle.jx_codeblock.specs.declared.LayerPart.{LayerPart}
 use Rattle.jx_codeblock.specs.Groups.{ends_it}
 use Rattle.jx_codeblock.specs.Segments.{sent_by_pieces}
-use Rattle.jx_codeblock.specs.Recoding.{layer_ends, has_own_ends, layer_parts, parts_after, part_bytes, piece_of}
+use Rattle.jx_codeblock.specs.Recoding.{layer_ends, has_own_ends, layer_parts, layer_parts_after, layer_part_bytes, piece_of}
 use Rattle.jx_codeblock.specs.Laws.{AreCutAtEnds}
 use Rattle.jx_codeblock.specs.Jobs.{AreEnds}
 use Rattle.jx_codeblock.proofs.SentLemmas.{sent_in, sent_none}
@@ -68,7 +68,7 @@ cut_first style first (suc n) more one ends =
     ∙ ap one_more rest ∙ ap (λ (k : ℕ). suc (suc n) ∷ cut style k more) f
 
 -- ---- one part for each piece
-abbrev pub part_for : (ℕ → ℕ) → PieceValue → OutPart
+abbrev pub part_for : (ℕ → ℕ) → PieceValue → LayerPart
 part_for sent p = record { layer = p.layer; first = p.first; passes = p.passes; from = sent p.first; to = sent (p.first + p.passes) }
 
 -- a layer's first piece, and the others
@@ -81,7 +81,7 @@ layer_first style sent layer first n last p is long ends le =
     ap (layer_parts sent p.layer first) e ∙ part_here p.layer first (suc n) is.begins long
   where
     part_here : (l f m : ℕ) → p.first ≡ first → p.passes ≡ suc n
-        → ◌≡◌ {A = List OutPart}
+        → ◌≡◌ {A = List LayerPart}
         (record { layer = p.layer; first = first; passes = suc n; from = sent first; to = sent (first + suc n) } ∷ layer_parts sent p.layer (first + suc n) (cut style (first + suc n) (last - (first + suc n))))
         (part_for sent p ∷ layer_parts sent p.layer (first + suc n) (cut style (first + suc n) (last - (first + suc n))))
     part_here l f m a b = rw (a, b) refl
@@ -95,7 +95,7 @@ layer_last style sent layer first n last p is long e =
     ap (layer_parts sent p.layer first) c ∙ part_here is.begins long
   where
     part_here : p.first ≡ first → p.passes ≡ suc n
-        → ◌≡◌ {A = List OutPart} (record { layer = p.layer; first = first; passes = suc n; from = sent first; to = sent (first + suc n) } ∷ []) (part_for sent p ∷ [])
+        → ◌≡◌ {A = List LayerPart} (record { layer = p.layer; first = first; passes = suc n; from = sent first; to = sent (first + suc n) } ∷ []) (part_for sent p ∷ [])
     part_here a b = rw (a, b) refl
 
 -- ---- the ends of some pieces' layers: the first is that of the first piece's layer
@@ -178,23 +178,23 @@ own_ends_rise style layer first passes (p ∷ q ∷ ps) are =
 
 -- ---- one part for each piece
 part_front : (style : ℕ) (sent : ℕ → ℕ) (layer first n : ℕ) (p : PieceValue) (ends : List LayerEnd) → IsPieceOf style layer first p → p.passes ≡ suc n
-    → end_pass style (first + n) ≡ true → HeadAt p.layer (first + suc n) ends → parts_after style sent first ends ≡ part_for sent p ∷ parts_after style sent (first + suc n) ends
+    → end_pass style (first + n) ≡ true → HeadAt p.layer (first + suc n) ends → layer_parts_after style sent first ends ≡ part_for sent p ∷ layer_parts_after style sent (first + suc n) ends
 part_front style sent layer first n p [] is long ends_it head = absurd head
 part_front style sent layer first n p (e ∷ ends) is long ends_it head =
     let le : first + suc n ≤ e.passes = head.1 in
     let step = layer_first style sent layer first n e.passes p is long ends_it le in
     let same : e.layer ≡ p.layer = head.0 in
-    rw same (ap (λ (parts : List OutPart). parts ++ parts_after style sent e.passes ends) step)
+    rw same (ap (λ (parts : List LayerPart). parts ++ layer_parts_after style sent e.passes ends) step)
 
 pub parts_own : (style : ℕ) (sent : ℕ → ℕ) (layer first passes : ℕ) (ps : List PieceValue) → ArePieces style layer first passes ps → AreCutAtEnds style ps
-    → parts_after style sent first (layer_ends ps) ≡ map (part_for sent) ps
+    → layer_parts_after style sent first (layer_ends ps) ≡ map (part_for sent) ps
 parts_own style sent layer first passes [] are cuts = refl
 parts_own style sent layer first passes (p ∷ []) are cuts =
     let begins : p.first ≡ first = are.0.begins in
     let some : 1 ≤ p.passes = are.0.some in
     let long : p.passes ≡ suc (p.passes - 1) = omega arith in
     let last : p.first + p.passes ≡ first + suc (p.passes - 1) = omega arith in
-    ap (λ (parts : List OutPart). parts ++ []) (layer_last style sent layer first (p.passes - 1) (p.first + p.passes) p are.0 long last)
+    ap (λ (parts : List LayerPart). parts ++ []) (layer_last style sent layer first (p.passes - 1) (p.first + p.passes) p are.0 long last)
 parts_own style sent layer first passes (p ∷ q ∷ ps) are cuts =
     let begins : p.first ≡ first = are.0.begins in
     let some : 1 ≤ p.passes = are.0.some in
@@ -202,7 +202,7 @@ parts_own style sent layer first passes (p ∷ q ∷ ps) are cuts =
     let last : p.first + p.passes ≡ first + suc (p.passes - 1) = omega arith in
     let next : first + p.passes ≡ first + suc (p.passes - 1) = omega arith in
     let e : LayerEnd = record { layer = p.layer; passes = p.first + p.passes } in
-    let more : parts_after style sent (first + p.passes) (layer_ends (q ∷ ps)) ≡ map (part_for sent) (q ∷ ps) =
+    let more : layer_parts_after style sent (first + p.passes) (layer_ends (q ∷ ps)) ≡ map (part_for sent) (q ∷ ps) =
     parts_own style sent p.layer (first + p.passes) passes (q ∷ ps) are.1 cuts.1 in
     let head : HeadAt q.layer (first + p.passes) (layer_ends (q ∷ ps)) = head_at style p.layer (first + p.passes) passes q ps are.1 in
     elim (cases_Bool (p.layer == q.layer)) [
@@ -213,17 +213,17 @@ parts_own style sent layer first passes (p ∷ q ∷ ps) are cuts =
           let ended' : end_pass style (first + (p.passes - 1)) ≡ true = rw there at ended in
           let head' : HeadAt p.layer (first + suc (p.passes - 1)) (layer_ends (q ∷ ps)) =
           head_same q.layer p.layer (first + p.passes) (first + suc (p.passes - 1)) (layer_ends (q ∷ ps)) head (sym same) (omega arith) in
-          ap (parts_after style sent first) (cond-true (p.layer == q.layer) (layer_ends (q ∷ ps)) (e ∷ layer_ends (q ∷ ps)) t)
+          ap (layer_parts_after style sent first) (cond-true (p.layer == q.layer) (layer_ends (q ∷ ps)) (e ∷ layer_ends (q ∷ ps)) t)
           ∙ part_front style sent layer first (p.passes - 1) p (layer_ends (q ∷ ps)) are.0 long ended' head'
-          ∙ ap (λ (n : ℕ). part_for sent p ∷ parts_after style sent n (layer_ends (q ∷ ps))) (sym next)
-          ∙ ap (λ (parts : List OutPart). part_for sent p ∷ parts) more
+          ∙ ap (λ (n : ℕ). part_for sent p ∷ layer_parts_after style sent n (layer_ends (q ∷ ps))) (sym next)
+          ∙ ap (λ (parts : List LayerPart). part_for sent p ∷ parts) more
       | inr f ↦
           let here : p.first + p.passes ≡ first + p.passes = omega arith in
-          ap (parts_after style sent first) (cond-false (p.layer == q.layer) (layer_ends (q ∷ ps)) (e ∷ layer_ends (q ∷ ps)) f)
-          ∙ ap (λ (parts : List OutPart). parts ++ parts_after style sent (p.first + p.passes) (layer_ends (q ∷ ps)))
+          ap (layer_parts_after style sent first) (cond-false (p.layer == q.layer) (layer_ends (q ∷ ps)) (e ∷ layer_ends (q ∷ ps)) f)
+          ∙ ap (λ (parts : List LayerPart). parts ++ layer_parts_after style sent (p.first + p.passes) (layer_ends (q ∷ ps)))
           (layer_last style sent layer first (p.passes - 1) (p.first + p.passes) p are.0 long last)
-          ∙ ap (λ (n : ℕ). part_for sent p ∷ parts_after style sent n (layer_ends (q ∷ ps))) here
-          ∙ ap (λ (parts : List OutPart). part_for sent p ∷ parts) more
+          ∙ ap (λ (n : ℕ). part_for sent p ∷ layer_parts_after style sent n (layer_ends (q ∷ ps))) here
+          ∙ ap (λ (parts : List LayerPart). part_for sent p ∷ parts) more
     ]
 
 -- ---- with the bytes of its piece
@@ -248,7 +248,7 @@ pieces_same style sent layer first passes (p ∷ ps) before whole are has e =
     let still : sent_by_pieces ps (p.first + p.passes) ≡ 0 = sent_none style p.layer (first + p.passes) passes (p.first + p.passes) ps are.1 (omega arith) in
     let inside : sent_by_pieces (p ∷ ps) (p.first + p.passes) ≡ length p.bytes + sent_by_pieces ps (p.first + p.passes) = sent_in (p.first + p.passes) p ps (omega arith) in
     let to : sent (p.first + p.passes) ≡ length before + length p.bytes = has (p.first + p.passes) (omega arith) ∙ omega arith in
-    let here : piece_of whole (part_for sent p) ≡ p = piece_same p (part_bytes whole (part_for sent p)) (cut_out (sent p.first) (sent (p.first + p.passes)) before p.bytes rest whole from to e) in
+    let here : piece_of whole (part_for sent p) ≡ p = piece_same p (layer_part_bytes whole (part_for sent p)) (cut_out (sent p.first) (sent (p.first + p.passes)) before p.bytes rest whole from to e) in
     let grown : length (before ++ p.bytes) ≡ length before + length p.bytes = length-append before p.bytes in
     let more : map (piece_of whole) (map (part_for sent) ps) ≡ ps =
     pieces_same style sent p.layer (first + p.passes) passes ps (before ++ p.bytes) whole are.1

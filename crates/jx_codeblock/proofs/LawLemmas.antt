@@ -11,7 +11,7 @@ use Rattle.jx_base.specs.Sound.{IsSound}
 use Rattle.jx_codeblock.specs.declared.LayerEnd.{LayerEnd}
 use Rattle.jx_codeblock.specs.Jobs.{IsAsked, AreEnds}
 use Rattle.jx_codeblock.specs.Laws.{AreCutAtEnds, IsWithin}
-use Rattle.jx_codeblock.specs.Recoding.{Recoding, recoding, recoding_of, layer_ends, own_segments, pieces_of, piece_of, parts_after, sent_in, has_own_ends, coding_in}
+use Rattle.jx_codeblock.specs.Recoding.{Recoding, recoding, recoding_of, layer_ends, own_segments, recoded_pieces, piece_of, layer_parts_after, sent_in, has_own_ends, coding_in}
 use Rattle.jx_codeblock.specs.Segments.{sent_by_pieces, bytes_before}
 use Rattle.jx_codeblock.proofs.DecideLemmas.{kept_parts, own_looked, looks}
 use Rattle.jx_codeblock.proofs.GrowLemmas.{looked_grows}
@@ -24,16 +24,16 @@ use Rattle.jx_codeblock.proofs.OwnBytes.{own_bytes}
 pub own_asked : (b : Block) → IsSound b → IsAsked b None (layer_ends b.pieces)
 own_asked b sound = record { sound = sound; layers = own_ends_rise b.style.bits 0 0 b.passes b.pieces sound.pieces; causal = tt }
 
-pub kept_pieces : (b : Block) (r : Recoding) → IsSound b → AreCutAtEnds b.style.bits b.pieces → Some r ≡ recoding b None (layer_ends b.pieces) → pieces_of r ≡ b.pieces
+pub kept_pieces : (b : Block) (r : Recoding) → IsSound b → AreCutAtEnds b.style.bits b.pieces → Some r ≡ recoding b None (layer_ends b.pieces) → recoded_pieces r ≡ b.pieces
 unfolding recoding
 kept_pieces b r sound cuts e =
     let ends = layer_ends b.pieces in
     let is : r ≡ recoding_of b None ends (own_segments b) = same_Some r (recoding_of b None ends (own_segments b)) e in
     let whole : List ℕ = concat (own_segments b) in
     let rise : AreEnds 0 0 b.passes ends = own_ends_rise b.style.bits 0 0 b.passes b.pieces sound.pieces in
-    let parts : parts_after b.style.bits (sent_in b None ends (own_segments b)) 0 ends ≡ map _ b.pieces =
+    let parts : layer_parts_after b.style.bits (sent_in b None ends (own_segments b)) 0 ends ≡ map _ b.pieces =
     sym (kept_parts b ends rise (own_are_own b.pieces)) ∙ parts_own b.style.bits (sent_by_pieces b.pieces) 0 0 b.passes b.pieces sound.pieces cuts in
-    ap pieces_of is
+    ap recoded_pieces is
     ∙ ap (map (piece_of whole)) parts
     ∙ pieces_same b.style.bits (sent_by_pieces b.pieces) 0 0 b.passes b.pieces [] whole sound.pieces (λ (n : ℕ) le. omega arith) (own_bytes b sound)
 

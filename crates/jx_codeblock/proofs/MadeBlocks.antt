@@ -12,7 +12,7 @@ use Rattle.jx_base.proofs.Lists.{some_none}
 use Rattle.jx_codeblock.specs.declared.LayerEnd.{LayerEnd}
 use Rattle.jx_codeblock.specs.Jobs.{IsAsked, KeepsCausal}
 use Rattle.jx_codeblock.specs.Laws.{AreCutInLayers}
-use Rattle.jx_codeblock.specs.Recoding.{Recoding, decoded_in, layer_ends, new_segments, new_style, option_recoding, own_segments, pieces_of, recoding, recoding_of, sent_in, wrong_in}
+use Rattle.jx_codeblock.specs.Recoding.{Recoding, decoded_in, layer_ends, new_segments, new_style, option_recoding, own_segments, recoded_pieces, recoding, recoding_of, sent_in, wrong_in}
 use Rattle.jx_codeblock.specs.Segments.{segments_of}
 use Rattle.jx_codeblock.specs.Written.{block_with, is_wrong, own_cells, style_for, written_as, written_in}
 use Rattle.jx_codeblock.proofs.AnewLemmas.{kept_some, right_some, wrong_none}
@@ -42,24 +42,24 @@ is_from b style ends r e = by (new_segments b style) e
 pub made_style : (b : Block) (style : Option Style) (ends : List LayerEnd) (r : Recoding) → Some r ≡ recoding b style ends → r.style ≡ new_style b style
 made_style b style ends r e = ap (λ (q : Recoding). q.style) (is_from b style ends r e).is
 
-pub made_ends : (b : Block) (style : Option Style) (ends : List LayerEnd) (r : Recoding) → IsAsked b style ends → Some r ≡ recoding b style ends → layer_ends (pieces_of r) ≡ ends
+pub made_ends : (b : Block) (style : Option Style) (ends : List LayerEnd) (r : Recoding) → IsAsked b style ends → Some r ≡ recoding b style ends → layer_ends (recoded_pieces r) ≡ ends
 made_ends b style ends r asked e =
     let from = is_from b style ends r e in
-    let P : Recoding → Type 0 = λ q. layer_ends (pieces_of q) ≡ ends in
+    let P : Recoding → Type 0 = λ q. layer_ends (recoded_pieces q) ≡ ends in
     subst P (sym from.is) (parts_end (sent_in b style ends from.segments) (concat from.segments) (new_style b style) 0 0 b.passes ends asked.layers)
 
-pub made_cut : (b : Block) (style : Option Style) (ends : List LayerEnd) (r : Recoding) → IsAsked b style ends → Some r ≡ recoding b style ends → AreCutInLayers r.style (pieces_of r)
+pub made_cut : (b : Block) (style : Option Style) (ends : List LayerEnd) (r : Recoding) → IsAsked b style ends → Some r ≡ recoding b style ends → AreCutInLayers r.style (recoded_pieces r)
 made_cut b style ends r asked e =
     let from = is_from b style ends r e in
-    let P : Recoding → Type 0 = λ q. AreCutInLayers q.style (pieces_of q) in
+    let P : Recoding → Type 0 = λ q. AreCutInLayers q.style (recoded_pieces q) in
     subst P (sym from.is) (parts_cut (sent_in b style ends from.segments) (concat from.segments) (new_style b style) b.passes ends asked.layers)
 
 -- its layers are among those that were asked
 pub made_layers : (P : ℕ → Type 0) (b : Block) (style : Option Style) (ends : List LayerEnd) (r : Recoding) → Some r ≡ recoding b style ends
-    → All (λ (e : LayerEnd). P e.layer) ends → All (λ (p : PieceValue). P p.layer) (pieces_of r)
+    → All (λ (e : LayerEnd). P e.layer) ends → All (λ (p : PieceValue). P p.layer) (recoded_pieces r)
 made_layers P b style ends r e each =
     let from = is_from b style ends r e in
-    let Q : Recoding → Type 0 = λ q. All (λ (p : PieceValue). P p.layer) (pieces_of q) in
+    let Q : Recoding → Type 0 = λ q. All (λ (p : PieceValue). P p.layer) (recoded_pieces q) in
     subst Q (sym from.is) (parts_all (sent_in b style ends from.segments) (concat from.segments) P (new_style b style) 0 ends each)
 
 -- ---- it is sound
@@ -69,7 +69,7 @@ bytes_together style passes ps are =
     ∙ length-flat_map (λ (p : PieceValue). p.bytes) ps
 
 segments_few : (b : Block) (style : Option Style) (ends : List LayerEnd) (r : Recoding) → IsAsked b style ends → Some r ≡ recoding b style ends
-    → length (concat (segments_of (new_style b style) b.passes (pieces_of r))) ≤ 2 ^ 28
+    → length (concat (segments_of (new_style b style) b.passes (recoded_pieces r))) ≤ 2 ^ 28
 segments_few b None ends r asked e =
     let own : length (concat (own_segments b)) ≡ bytes_in b.pieces = bytes_together b.style.bits b.passes b.pieces asked.sound.pieces in
     subst (λ (ss : List (List ℕ)). length (concat ss) ≤ 2 ^ 28) (sym (kept_segments b ends r asked e)) (omega (arith, asked.sound.bytes))
@@ -78,36 +78,36 @@ segments_few b (Some style) ends r asked e =
 
 pub made_sound : (b : Block) (style : Option Style) (ends : List LayerEnd) (r : Recoding) → IsAsked b style ends → Some r ≡ recoding b style ends → IsSound (block_with b (Some r))
 made_sound b style ends r asked e =
-    let are : ArePieces (new_style b style) 0 0 b.passes (pieces_of r) = all_sound b style ends r asked e in
+    let are : ArePieces (new_style b style) 0 0 b.passes (recoded_pieces r) = all_sound b style ends r asked e in
     let few = segments_few b style ends r asked e in
-    let same = bytes_together (new_style b style) b.passes (pieces_of r) are in
+    let same = bytes_together (new_style b style) b.passes (recoded_pieces r) are in
     record {
       size = asked.sound.size;
       planes = asked.sound.planes;
       zero = asked.sound.zero;
       few = asked.sound.few;
-      pieces = subst (λ (s : ℕ). ArePieces s 0 0 b.passes (pieces_of r)) (sym (made_style b style ends r e)) are;
+      pieces = subst (λ (s : ℕ). ArePieces s 0 0 b.passes (recoded_pieces r)) (sym (made_style b style ends r e)) are;
       bytes = omega arith;
     }
 
 pub made_shares : (b : Block) (style : Option Style) (ends : List LayerEnd) (r : Recoding) (layer : ℕ) → IsAsked b style ends → Some r ≡ recoding b style ends → layer_ends b.pieces ≡ ends
-    → passes_at layer (pieces_of r) ≡ passes_at layer b.pieces
+    → passes_at layer (recoded_pieces r) ≡ passes_at layer b.pieces
 made_shares b style ends r layer asked e own =
-    same_shares (new_style b style) b.style.bits b.passes layer (pieces_of r) b.pieces (all_sound b style ends r asked e) asked.sound.pieces
+    same_shares (new_style b style) b.style.bits b.passes layer (recoded_pieces r) b.pieces (all_sound b style ends r asked e) asked.sound.pieces
     (made_ends b style ends r asked e ∙ sym own)
 
 -- ---- it has the block's coefficients, where a block that is coded anew has
 abbrev pub AnewKeeps : Type 0
 AnewKeeps = (b : Block) → (style : Style) → (ends : List LayerEnd) → (r : Recoding) → IsAsked b (Some style) ends → Some r ≡ recoding b (Some style) ends
-    → (decoded_in b style.bits (segments_of style.bits b.passes (pieces_of r))).cells ≡ (decoded_in b b.style.bits (own_segments b)).cells
+    → (decoded_in b style.bits (segments_of style.bits b.passes (recoded_pieces r))).cells ≡ (decoded_in b b.style.bits (own_segments b)).cells
 
 pub made_cells : AnewKeeps → (b : Block) (style : Option Style) (ends : List LayerEnd) (r : Recoding) → IsAsked b style ends → Some r ≡ recoding b style ends
     → own_cells (block_with b (Some r)) ≡ own_cells b
 made_cells keeps b style ends r asked e =
-    ap (λ (s : ℕ). (decoded_in b s (segments_of s b.passes (pieces_of r))).cells) (made_style b style ends r e) ∙ by style asked e
+    ap (λ (s : ℕ). (decoded_in b s (segments_of s b.passes (recoded_pieces r))).cells) (made_style b style ends r e) ∙ by style asked e
   where
     by : (t : Option Style) → IsAsked b t ends → Some r ≡ recoding b t ends
-        → (decoded_in b (new_style b t) (segments_of (new_style b t) b.passes (pieces_of r))).cells ≡ own_cells b
+        → (decoded_in b (new_style b t) (segments_of (new_style b t) b.passes (recoded_pieces r))).cells ≡ own_cells b
     by None asked e = ap (λ (ss : List (List ℕ)). (decoded_in b b.style.bits ss).cells) (kept_segments b ends r asked e)
     by (Some s) asked e = keeps b s ends r asked e
 
@@ -191,7 +191,7 @@ written_kept b sound cuts =
     let ends : List LayerEnd = layer_ends b.pieces in
     let at_ends = cut_in_layers b.style.bits b.passes b.pieces sound.pieces cuts in
     written_has (λ (c : Block). c ≡ b) None b (λ none. absurd (kept_some b ends none))
-    (λ (r : Recoding) made. same_block b r.style (pieces_of r) (made_style b None ends r made) (kept_pieces b r sound at_ends made))
+    (λ (r : Recoding) made. same_block b r.style (recoded_pieces r) (made_style b None ends r made) (kept_pieces b r sound at_ends made))
 
 pub written_own : (b : Block) → IsSound b → AreCutInLayers b.style.bits b.pieces → written_as (Some b.style) b ≡ b
 unfolding written_as
@@ -204,9 +204,9 @@ written_own b sound cuts =
 pub written_empty : (asked : Option Style) (b : Block) → IsSound b → KeepsCausal b (style_for asked b) → (written_as asked b).pieces ≡ [] → b.pieces ≡ []
 written_empty asked b sound causal =
     written_has (λ (c : Block). c.pieces ≡ [] → b.pieces ≡ []) asked b (λ none e. e)
-    (λ (r : Recoding) made (e : pieces_of r ≡ []).
+    (λ (r : Recoding) made (e : recoded_pieces r ≡ []).
     let style : Option Style = style_for asked b in
-    let are : ArePieces (new_style b style) 0 0 b.passes (pieces_of r) = all_sound b style (layer_ends b.pieces) r (may_ask b style sound causal) made in
+    let are : ArePieces (new_style b style) 0 0 b.passes (recoded_pieces r) = all_sound b style (layer_ends b.pieces) r (may_ask b style sound causal) made in
     let nothing : 0 ≡ b.passes = subst (λ (ps : List PieceValue). ArePieces (new_style b style) 0 0 b.passes ps) e are in
     none_left b.style.bits 0 0 b.passes b.pieces sound.pieces (omega arith))
 

@@ -11,7 +11,7 @@ use Rattle.jx_tier1_specs.specs.Reading.{Coding, decoded}
 use Rattle.jx_codeblock.specs.declared.LayerEnd.{LayerEnd}
 use Rattle.jx_codeblock.specs.Jobs.{AreEnds}
 use Rattle.jx_codeblock.specs.Laws.{decoded_first}
-use Rattle.jx_codeblock.specs.Recoding.{coding_in, decoded_in, parts_after, sent_in}
+use Rattle.jx_codeblock.specs.Recoding.{coding_in, decoded_in, layer_parts_after, sent_in}
 use Rattle.jx_codeblock.specs.Segments.{sent_by_looks}
 use Rattle.jx_codeblock.specs.Tables.{are_cut, at_place, end_within, is_cut, last_within}
 use Rattle.jx_codeblock.proofs.DecideLemmas.{listed_table}
@@ -35,7 +35,7 @@ same_looks style passes n ss a b cut = elim (cases_eq n passes) [
 -- where no layer ends within a segment, from a table that is made without looking
 pub ends_parts : (b : Block) (style : Style) (ends : List LayerEnd) (ss : List (List ℕ)) (table : List ℕ) (seen : List (List ℕ)) (looked : List ℕ) → AreEnds 0 0 b.passes ends
     → are_cut style.bits b.passes ends ≡ true → seen ≡ ss → table ≡ map (sent_by_looks style.bits b.passes seen looked) (range_with_len 0 (b.passes + 1))
-    → parts_after style.bits (at_place table) 0 ends ≡ parts_after style.bits (sent_in b (Some style) ends ss) 0 ends
+    → layer_parts_after style.bits (at_place table) 0 ends ≡ layer_parts_after style.bits (sent_in b (Some style) ends ss) 0 ends
 ends_parts b style ends ss table seen looked are cuts same e =
     let e' : table ≡ map (sent_by_looks style.bits b.passes ss looked) (range_with_len 0 (b.passes + 1)) =
     e ∙ ap (λ (s : List (List ℕ)). map (sent_by_looks style.bits b.passes s looked) (range_with_len 0 (b.passes + 1))) same in
@@ -86,8 +86,8 @@ looks_front w h c ss last all (suc i) within le =
     looks_by c.style all (suc i) ss (decoded w h c ss last).looked (decoded w h c ss all).looked (rw back same)
 
 pub first_parts : (b : Block) (style last : ℕ) (ends : List LayerEnd) (ss : List (List ℕ)) → AreEnds 0 0 b.passes ends → last ≡ last_within style b.passes ends
-    → parts_after style (sent_by_looks style b.passes ss (decoded_first b style ss last).looked) 0 ends
-    ≡ parts_after style (sent_by_looks style b.passes ss (decoded_in b style ss).looked) 0 ends
+    → layer_parts_after style (sent_by_looks style b.passes ss (decoded_first b style ss last).looked) 0 ends
+    ≡ layer_parts_after style (sent_by_looks style b.passes ss (decoded_in b style ss).looked) 0 ends
 first_parts b style last ends ss are e =
     let within : last ≤ b.passes = rw e (last_most style 0 0 b.passes ends are) in
     parts_same (IsTold style b.passes last) (sent_by_looks style b.passes ss (decoded_first b style ss last).looked) (sent_by_looks style b.passes ss (decoded_in b style ss).looked)
@@ -102,7 +102,7 @@ first_parts b style last ends ss are e =
 -- from a table of what was looked at
 pub looks_parts : (b : Block) (style : Style) (last : ℕ) (ends : List LayerEnd) (ss : List (List ℕ)) (table : List ℕ) → AreEnds 0 0 b.passes ends
     → last ≡ last_within style.bits b.passes ends → table ≡ map (sent_by_looks style.bits b.passes ss (decoded_first b style.bits ss last).looked) (range_with_len 0 (b.passes + 1))
-    → parts_after style.bits (at_place table) 0 ends ≡ parts_after style.bits (sent_in b (Some style) ends ss) 0 ends
+    → layer_parts_after style.bits (at_place table) 0 ends ≡ layer_parts_after style.bits (sent_in b (Some style) ends ss) 0 ends
 looks_parts b style last ends ss table are far e =
     listed_table (sent_by_looks style.bits b.passes ss (decoded_first b style.bits ss last).looked) style.bits b.passes ends table are e
     ∙ first_parts b style.bits last ends ss are far

@@ -5,8 +5,8 @@ use Rattle.std.proofs.lemmas.Bool.{cases_Bool, cond-true, cond-false, and_parts,
 use Rattle.jx_base.specs.Passes.{end_pass}
 use Rattle.jx_packet_header.specs.Parts.{cut, one_more}
 use Rattle.jx_codeblock.specs.declared.LayerEnd.{LayerEnd}
-use Rattle.jx_codeblock.specs.declared.OutPart.{OutPart}
-use Rattle.jx_codeblock.specs.Recoding.{layer_parts, parts_after}
+use Rattle.jx_codeblock.specs.declared.LayerPart.{LayerPart}
+use Rattle.jx_codeblock.specs.Recoding.{layer_parts, layer_parts_after}
 use Rattle.jx_codeblock.specs.Jobs.{AreEnds}
 use Rattle.jx_codeblock.specs.Tables.{is_cut, are_cut}
 
@@ -57,8 +57,8 @@ cut_edges P style first (suc n) each last =
     ]
 
 -- ---- the same bytes where runs meet, the same parts
-part_same : (layer first run a b c d : ℕ) (xs ys : List OutPart) → a ≡ c → b ≡ d → xs ≡ ys
-    → ◌≡◌ {A = List OutPart} (record { layer = layer; first = first; passes = run; from = a; to = b } ∷ xs) (record { layer = layer; first = first; passes = run; from = c; to = d } ∷ ys)
+part_same : (layer first run a b c d : ℕ) (xs ys : List LayerPart) → a ≡ c → b ≡ d → xs ≡ ys
+    → ◌≡◌ {A = List LayerPart} (record { layer = layer; first = first; passes = run; from = a; to = b } ∷ xs) (record { layer = layer; first = first; passes = run; from = c; to = d } ∷ ys)
 part_same layer first run a b c d xs ys e f g = rw (e, f, g) refl
 
 layer_same : (s t : ℕ → ℕ) (layer first : ℕ) (runs : List ℕ) → s first ≡ t first → Edges (λ (m : ℕ). s m ≡ t m) first runs
@@ -81,7 +81,7 @@ ends_within layer passes all (e ∷ ends) are =
 
 pub parts_same : (U : ℕ → Type 0) (s t : ℕ → ℕ) (style layer first all : ℕ) (ends : List LayerEnd) → AreEnds layer first all ends
     → ((n : ℕ) → n ≤ all → U n → s n ≡ t n) → ((m : ℕ) → m < all → end_pass style m ≡ true → U (m + 1)) → U first → AtEnds U ends
-    → parts_after style s first ends ≡ parts_after style t first ends
+    → layer_parts_after style s first ends ≡ layer_parts_after style t first ends
 parts_same U s t style layer first all [] are agree cuts here at = refl
 parts_same U s t style layer first all (e ∷ ends) are agree cuts here at =
     let lt : first < e.passes = are.1 in
@@ -94,7 +94,7 @@ parts_same U s t style layer first all (e ∷ ends) are agree cuts here at =
     (subst (λ (n : ℕ). s n ≡ t n) sum last) in
     let one : layer_parts s e.layer first (cut style first (e.passes - first)) ≡ layer_parts t e.layer first (cut style first (e.passes - first)) =
     layer_same s t e.layer first (cut style first (e.passes - first)) (agree first (omega arith) here) edges in
-    let more : parts_after style s e.passes ends ≡ parts_after style t e.passes ends = parts_same U s t style (e.layer + 1) e.passes all ends are.2 agree cuts at.0 at.1 in
+    let more : layer_parts_after style s e.passes ends ≡ layer_parts_after style t e.passes ends = parts_same U s t style (e.layer + 1) e.passes all ends are.2 agree cuts at.0 at.1 in
     cc
 
 -- ---- where the numbers agree everywhere, and where they agree at the ends of segments
@@ -103,7 +103,7 @@ all_at [] = tt
 all_at (e ∷ ends) = (tt, all_at ends)
 
 pub parts_everywhere : (s t : ℕ → ℕ) (style layer all : ℕ) (ends : List LayerEnd) → AreEnds layer 0 all ends → ((n : ℕ) → n ≤ all → s n ≡ t n)
-    → parts_after style s 0 ends ≡ parts_after style t 0 ends
+    → layer_parts_after style s 0 ends ≡ layer_parts_after style t 0 ends
 parts_everywhere s t style layer all ends are agree =
     parts_same (λ (n : ℕ). Unit {0}) s t style layer 0 all ends are (λ (n : ℕ) le u. agree n le) (λ (m : ℕ) lt e. tt) tt (all_at ends)
 
@@ -124,7 +124,7 @@ cuts_at style all (e ∷ ends) h =
     (cut_from style all e.passes both.0, cuts_at style all ends both.1)
 
 pub parts_at_cuts : (s t : ℕ → ℕ) (style layer all : ℕ) (ends : List LayerEnd) → AreEnds layer 0 all ends → are_cut style all ends ≡ true
-    → ((n : ℕ) → n ≤ all → IsCut style all n → s n ≡ t n) → parts_after style s 0 ends ≡ parts_after style t 0 ends
+    → ((n : ℕ) → n ≤ all → IsCut style all n → s n ≡ t n) → layer_parts_after style s 0 ends ≡ layer_parts_after style t 0 ends
 parts_at_cuts s t style layer all ends are at agree =
     parts_same (IsCut style all) s t style layer 0 all ends are agree
     (λ (m : ℕ) lt e. let same : m ≡ m + 1 - 1 = omega arith in inr (inr (subst (λ (k : ℕ). end_pass style k ≡ true) same e))) (inl refl) (cuts_at style all ends at)

@@ -15,7 +15,7 @@ use Rattle.jx_packet_header.specs.Parts.{cut}
 use Rattle.jx_codeblock.specs.declared.LayerEnd.{LayerEnd}
 use Rattle.jx_codeblock.specs.Jobs.{IsAsked}
 use Rattle.jx_codeblock.specs.Groups.{ends_it, groups, groups_left}
-use Rattle.jx_codeblock.specs.Recoding.{Recoding, recoding, recoding_of, layer_parts, parts_after, piece_of, pieces_of, own_segments, sent_in, has_own_ends}
+use Rattle.jx_codeblock.specs.Recoding.{Recoding, recoding, recoding_of, layer_parts, layer_parts_after, piece_of, recoded_pieces, own_segments, sent_in, has_own_ends}
 use Rattle.jx_codeblock.specs.Segments.{ends_below, segment_at, segment_count, segments_of, bytes_before, sent_by_pieces}
 use Rattle.jx_codeblock.proofs.DecideLemmas.{looks, own_looked}
 use Rattle.jx_codeblock.proofs.DropLemmas.{left_all, left_ended, left_on}
@@ -170,12 +170,12 @@ layer_have : (sent : ℕ → ℕ) (bytes : List ℕ) (layer first : ℕ) (runs :
 layer_have sent bytes layer first [] rest have = have
 layer_have sent bytes layer first (run ∷ runs) rest have = (refl, layer_have sent bytes layer (first + run) runs rest have)
 
-pub parts_have : (style : ℕ) (sent : ℕ → ℕ) (bytes : List ℕ) (first : ℕ) (ends : List LayerEnd) → HaveBytes sent bytes (map (piece_of bytes) (parts_after style sent first ends))
+pub parts_have : (style : ℕ) (sent : ℕ → ℕ) (bytes : List ℕ) (first : ℕ) (ends : List LayerEnd) → HaveBytes sent bytes (map (piece_of bytes) (layer_parts_after style sent first ends))
 parts_have style sent bytes first [] = tt
 parts_have style sent bytes first (e ∷ ends) =
     subst (λ (ps : List PieceValue). HaveBytes sent bytes ps)
-    (sym (map-append (piece_of bytes) (layer_parts sent e.layer first (cut style first (e.passes - first))) (parts_after style sent e.passes ends)))
-    (layer_have sent bytes e.layer first (cut style first (e.passes - first)) (map (piece_of bytes) (parts_after style sent e.passes ends)) (parts_have style sent bytes e.passes ends))
+    (sym (map-append (piece_of bytes) (layer_parts sent e.layer first (cut style first (e.passes - first))) (layer_parts_after style sent e.passes ends)))
+    (layer_have sent bytes e.layer first (cut style first (e.passes - first)) (map (piece_of bytes) (layer_parts_after style sent e.passes ends)) (parts_have style sent bytes e.passes ends))
 
 -- ---- a kept block
 at_cut : (b : Block) (ends : List LayerEnd) (n : ℕ) → IsSound b → n ≤ b.passes → IsCut b.style.bits b.passes n → sent_in b None ends (own_segments b) n ≡ looks b n
@@ -212,17 +212,17 @@ kept_sends b ends sound = record {
       | inr ne ↦ looks_cut b.style.bits b.passes 0 (own_segments b) (own_looked b) ne (or_left (0 == 0) (end_pass b.style.bits (0 - 1)) refl)
     ]
 
-pub kept_have : (b : Block) (ends : List LayerEnd) (r : Recoding) → Some r ≡ recoding b None ends → HaveBytes (sent_in b None ends (own_segments b)) (concat (own_segments b)) (pieces_of r)
+pub kept_have : (b : Block) (ends : List LayerEnd) (r : Recoding) → Some r ≡ recoding b None ends → HaveBytes (sent_in b None ends (own_segments b)) (concat (own_segments b)) (recoded_pieces r)
 unfolding recoding
 kept_have b ends r e =
     let is : r ≡ recoding_of b None ends (own_segments b) = same_Some r (recoding_of b None ends (own_segments b)) e in
-    let P : Recoding → Type 0 = λ q. HaveBytes (sent_in b None ends (own_segments b)) (concat (own_segments b)) (pieces_of q) in
+    let P : Recoding → Type 0 = λ q. HaveBytes (sent_in b None ends (own_segments b)) (concat (own_segments b)) (recoded_pieces q) in
     subst P (sym is) (parts_have b.style.bits (sent_in b None ends (own_segments b)) (concat (own_segments b)) 0 ends)
 
 pub kept_segments : (b : Block) (ends : List LayerEnd) (r : Recoding) → IsAsked b None ends → Some r ≡ recoding b None ends
-    → segments_of b.style.bits b.passes (pieces_of r) ≡ own_segments b
+    → segments_of b.style.bits b.passes (recoded_pieces r) ≡ own_segments b
 kept_segments b ends r asked e =
     let sound = kept_sound b ends r asked e in
-    segments_are b.style.bits 0 b.passes (pieces_of r) sound
-    ∙ regroup b.style.bits b.passes (own_segments b) (sent_in b None ends (own_segments b)) (kept_sends b ends asked.sound) 0 (pieces_of r) sound (kept_have b ends r e)
+    segments_are b.style.bits 0 b.passes (recoded_pieces r) sound
+    ∙ regroup b.style.bits b.passes (own_segments b) (sent_in b None ends (own_segments b)) (kept_sends b ends asked.sound) 0 (recoded_pieces r) sound (kept_have b ends r e)
     (no_segments b asked.sound)

@@ -10,7 +10,7 @@ use Rattle.jx_packet_header.specs.Parts.{cut}
 use Rattle.jx_codeblock.specs.declared.LayerEnd.{LayerEnd}
 use Rattle.jx_codeblock.specs.Jobs.{AreEnds}
 use Rattle.jx_codeblock.specs.Laws.{AreCutInLayers}
-use Rattle.jx_codeblock.specs.Recoding.{layer_ends, layer_parts, parts_after, piece_of}
+use Rattle.jx_codeblock.specs.Recoding.{layer_ends, layer_parts, layer_parts_after, piece_of}
 use Rattle.jx_codeblock.proofs.CutLemmas.{CutFrom, runs_at, at_here, at_other}
 use Rattle.jx_codeblock.proofs.KeptLemmas.{HeadAt, head_at}
 use Rattle.jx_codeblock.proofs.SoundLemmas.{Exact, cut_exact, exact_end}
@@ -50,11 +50,11 @@ module _ (sent : ℕ → ℕ) (bytes : List ℕ) where
   of_layer layer first runs = map (piece_of bytes) (layer_parts sent layer first runs)
 
   abbrev pub from_ends : ℕ → ℕ → List LayerEnd → List PieceValue
-  from_ends style first ends = map (piece_of bytes) (parts_after style sent first ends)
+  from_ends style first ends = map (piece_of bytes) (layer_parts_after style sent first ends)
 
   pub more_ends : (style first : ℕ) (e : LayerEnd) (ends : List LayerEnd)
       → from_ends style first (e ∷ ends) ≡ of_layer e.layer first (cut style first (e.passes - first)) ++ from_ends style e.passes ends
-  more_ends style first e ends = map-append (piece_of bytes) (layer_parts sent e.layer first (cut style first (e.passes - first))) (parts_after style sent e.passes ends)
+  more_ends style first e ends = map-append (piece_of bytes) (layer_parts sent e.layer first (cut style first (e.passes - first))) (layer_parts_after style sent e.passes ends)
 
   -- their layers are those of the ends
   layer_all : (P : ℕ → Type 0) (layer first : ℕ) (runs : List ℕ) → P layer → All (λ (p : PieceValue). P p.layer) (of_layer layer first runs)

@@ -14,7 +14,7 @@ use Rattle.jx_packet_header.specs.Parts.{cut, one_more}
 use Rattle.jx_codeblock.specs.declared.LayerEnd.{LayerEnd}
 use Rattle.jx_codeblock.specs.Jobs.{IsAsked, AreEnds}
 use Rattle.jx_codeblock.specs.Groups.{groups}
-use Rattle.jx_codeblock.specs.Recoding.{Recoding, recoding, recoding_of, layer_parts, parts_after, piece_of, pieces_of, own_segments, sent_in, has_own_ends, coding_in}
+use Rattle.jx_codeblock.specs.Recoding.{Recoding, recoding, recoding_of, layer_parts, layer_parts_after, piece_of, recoded_pieces, own_segments, sent_in, has_own_ends, coding_in}
 use Rattle.jx_codeblock.specs.Segments.{ends_below, bytes_before, less_last_ff, sent_by_looks, sent_by_pieces}
 use Rattle.jx_codeblock.specs.Tables.{AreFew}
 use Rattle.jx_codeblock.proofs.CleanLemmas.{AllClean, drop_clean, front_clean, groups_clean, less_clean, pieces_clean, none_clean}
@@ -90,24 +90,24 @@ layer_sound style all sent bytes layer first last (run ∷ runs) rest clean le h
 
 -- a lower layer before
 pub parts_sound : (style all : ℕ) (sent : ℕ → ℕ) (bytes : List ℕ) (layer first : ℕ) (ends : List LayerEnd) → Clean all sent bytes → AreEnds layer first all ends
-    → ArePieces style layer first all (map (piece_of bytes) (parts_after style sent first ends))
+    → ArePieces style layer first all (map (piece_of bytes) (layer_parts_after style sent first ends))
 parts_sound style all sent bytes layer first [] clean are = are
 parts_sound style all sent bytes layer first (e ∷ ends) clean are =
     let at : layer ≤ e.layer = are.0 in
     let lt : first < e.passes = are.1 in
     let le : e.passes ≤ all = ends_within (e.layer + 1) e.passes all ends are.2 in
     let sum : first + (e.passes - first) ≡ e.passes = omega arith in
-    let later : ArePieces style (e.layer + 1) e.passes all (map (piece_of bytes) (parts_after style sent e.passes ends)) =
+    let later : ArePieces style (e.layer + 1) e.passes all (map (piece_of bytes) (layer_parts_after style sent e.passes ends)) =
     parts_sound style all sent bytes (e.layer + 1) e.passes ends clean are.2 in
-    let rest : ArePieces style e.layer e.passes all (map (piece_of bytes) (parts_after style sent e.passes ends)) =
-    pieces_lower style e.layer (e.layer + 1) e.passes all (map (piece_of bytes) (parts_after style sent e.passes ends)) (omega arith) later in
+    let rest : ArePieces style e.layer e.passes all (map (piece_of bytes) (layer_parts_after style sent e.passes ends)) =
+    pieces_lower style e.layer (e.layer + 1) e.passes all (map (piece_of bytes) (layer_parts_after style sent e.passes ends)) (omega arith) later in
     let runs : Exact style first e.passes (cut style first (e.passes - first)) =
     subst (λ (n : ℕ). Exact style first n (cut style first (e.passes - first))) sum (cut_exact style first (e.passes - first)) in
-    let here = layer_sound style all sent bytes e.layer first e.passes (cut style first (e.passes - first)) (map (piece_of bytes) (parts_after style sent e.passes ends)) clean le runs rest in
+    let here = layer_sound style all sent bytes e.layer first e.passes (cut style first (e.passes - first)) (map (piece_of bytes) (layer_parts_after style sent e.passes ends)) clean le runs rest in
     subst (λ (ps : List PieceValue). ArePieces style layer first all ps)
-    (sym (map-append (piece_of bytes) (layer_parts sent e.layer first (cut style first (e.passes - first))) (parts_after style sent e.passes ends)))
+    (sym (map-append (piece_of bytes) (layer_parts sent e.layer first (cut style first (e.passes - first))) (layer_parts_after style sent e.passes ends)))
     (pieces_lower style layer e.layer first all
-    (map (piece_of bytes) (layer_parts sent e.layer first (cut style first (e.passes - first))) ++ map (piece_of bytes) (parts_after style sent e.passes ends)) at here)
+    (map (piece_of bytes) (layer_parts sent e.layer first (cut style first (e.passes - first))) ++ map (piece_of bytes) (layer_parts_after style sent e.passes ends)) at here)
 
 -- ---- what is sent of a kept block is clean
 pub looks_clean : (style passes : ℕ) (ss : List (List ℕ)) (looked : List ℕ) → AllClean ss → AreFew style ss looked → Clean passes (sent_by_looks style passes ss looked) (concat ss)
@@ -157,11 +157,11 @@ kept_clean b ends sound false e n le =
     let few = looked_few (length_of b.rect.x) (length_of b.rect.y) (coding_in b b.style.bits) (own_segments b) b.passes in
     subst (λ (k : ℕ). HasNoMarker 0 (take k (concat (own_segments b)))) (sym at) (looks_clean b.style.bits b.passes (own_segments b) (own_looked b) clean few n le)
 
-pub kept_sound : (b : Block) (ends : List LayerEnd) (r : Recoding) → IsAsked b None ends → Some r ≡ recoding b None ends → ArePieces b.style.bits 0 0 b.passes (pieces_of r)
+pub kept_sound : (b : Block) (ends : List LayerEnd) (r : Recoding) → IsAsked b None ends → Some r ≡ recoding b None ends → ArePieces b.style.bits 0 0 b.passes (recoded_pieces r)
 unfolding recoding
 kept_sound b ends r asked e =
     let is : r ≡ recoding_of b None ends (own_segments b) = same_Some r (recoding_of b None ends (own_segments b)) e in
-    let P : Recoding → Type 0 = λ q. ArePieces b.style.bits 0 0 b.passes (pieces_of q) in
+    let P : Recoding → Type 0 = λ q. ArePieces b.style.bits 0 0 b.passes (recoded_pieces q) in
     subst P (sym is)
     (parts_sound b.style.bits b.passes (sent_in b None ends (own_segments b)) (concat (own_segments b)) 0 0 ends
     (kept_clean b ends asked.sound (has_own_ends b.pieces ends) refl) asked.layers)

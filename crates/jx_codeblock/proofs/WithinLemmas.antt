@@ -9,7 +9,7 @@ use Rattle.jx_packet_header.specs.Parts.{cut, one_more}
 use Rattle.jx_codeblock.specs.declared.LayerEnd.{LayerEnd}
 use Rattle.jx_codeblock.specs.Jobs.{AreEnds}
 use Rattle.jx_codeblock.specs.Laws.{IsWithin}
-use Rattle.jx_codeblock.specs.Recoding.{layer_parts, parts_after}
+use Rattle.jx_codeblock.specs.Recoding.{layer_parts, layer_parts_after}
 use Rattle.jx_codeblock.specs.Segments.{ends_below, bytes_before, less_last_ff, sent_by_looks, sent_by_pieces}
 use Rattle.jx_codeblock.specs.Tables.{AreFew}
 use Rattle.jx_codeblock.proofs.EndLemmas.{below_ended, below_still, below_within}
@@ -64,13 +64,13 @@ layer_within style all total sent layer first last (run ∷ runs) rises le h =
     (layer_within style all total sent layer (first + run) last runs rises le h.1)
 
 pub parts_within : (style all total : ℕ) (sent : ℕ → ℕ) (layer first : ℕ) (ends : List LayerEnd) → Rises style all total sent → AreEnds layer first all ends
-    → All (IsWithin total) (parts_after style sent first ends)
+    → All (IsWithin total) (layer_parts_after style sent first ends)
 parts_within style all total sent layer first [] rises are = All-nil (IsWithin total)
 parts_within style all total sent layer first (e ∷ ends) rises are =
     let lt : first < e.passes = are.1 in
     let le : e.passes ≤ all = ends_within (e.layer + 1) e.passes all ends are.2 in
     let sum : first + (e.passes - first) ≡ e.passes = omega arith in
-    All-append (IsWithin total) (layer_parts sent e.layer first (cut style first (e.passes - first))) (parts_after style sent e.passes ends)
+    All-append (IsWithin total) (layer_parts sent e.layer first (cut style first (e.passes - first))) (layer_parts_after style sent e.passes ends)
     (layer_within style all total sent e.layer first (first + (e.passes - first)) (cut style first (e.passes - first)) rises (omega arith) (cut_runs style first (e.passes - first)))
     (parts_within style all total sent (e.layer + 1) e.passes ends rises are.2)
 

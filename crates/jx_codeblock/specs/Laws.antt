@@ -9,7 +9,7 @@ use Rattle.jx_base.specs.Places.{length_of}
 use Rattle.jx_tier1_specs.specs.Reading.{Decoding, decoded}
 use Rattle.jx_packet_header.specs.Parts.{cut}
 use Rattle.jx_codeblock.specs.declared.LayerEnd.{LayerEnd}
-use Rattle.jx_codeblock.specs.declared.OutPart.{OutPart}
+use Rattle.jx_codeblock.specs.declared.LayerPart.{LayerPart}
 use Rattle.jx_codeblock.specs.Recoding.{coding_in}
 
 -- a piece that is followed by one of its own layer ends a segment
@@ -29,7 +29,7 @@ AreCutInLayers style pieces =
     (layer : ℕ) → map (λ (p : PieceValue). p.passes) (filter (λ (p : PieceValue). p.layer == layer) pieces) ≡ cut style (passes_below layer pieces) (passes_at layer pieces)
 
 -- a part of so many bytes
-pub record IsWithin (length : ℕ) (p : OutPart) : Type 0 where
+pub record IsWithin (length : ℕ) (p : LayerPart) : Type 0 where
   pub order : p.from ≤ p.to
   pub inside : p.to ≤ length
 

@@ -6,7 +6,7 @@ use Rattle.jx_base.specs.declared.style.Style.{Style}
 use Rattle.jx_codeblock.specs.declared.faults.BlockFault.{BlockFault}
 use Rattle.jx_codeblock.specs.declared.faults.BlockFault.TheVariants as fault
 use Rattle.jx_codeblock.specs.declared.job.Job.{Job}
-use Rattle.jx_codeblock.specs.declared.OutPart.{OutPart}
+use Rattle.jx_codeblock.specs.declared.LayerPart.{LayerPart}
 use Rattle.jx_codeblock.specs.Recoding.{Recoding, recoding, own_segments, new_style}
 use Rattle.jx_codeblock.specs.Jobs.{IsAsked}
 use Rattle.jx_codeblock.specs.Starts.{AreStarts}
@@ -34,7 +34,7 @@ bytes_by b None new = concat (own_segments b)
 bytes_by b (Some style) new = new
 
 -- the block with these bytes and parts
-abbrev pub made_recoding : Job → List ℕ → List OutPart → Recoding
+abbrev pub made_recoding : Job → List ℕ → List LayerPart → Recoding
 made_recoding j new parts = record { style = new_style j.block.now j.style; bytes = bytes_by j.block.now j.style new; parts = parts }
 
 -- a list of what there may be: none where there is nothing
@@ -46,10 +46,10 @@ list_of f (Some a) = f a
 pub record MadeLists : Type 0 where
   pub bytes : List ℕ
   pub starts : List ℕ
-  pub parts : List OutPart
+  pub parts : List LayerPart
 
 -- the job is a valid one, and these are its new bytes, where its pieces begin, and its parts
-pub record IsMade (j : Job) (new starts : List ℕ) (parts : List OutPart) : Type 0 where
+pub record IsMade (j : Job) (new starts : List ℕ) (parts : List LayerPart) : Type 0 where
   pub asked : IsAsked j.block.now j.style j.ends
   pub few : length new ≤ 2 ^ 28
   pub begins : AreStarts j.block.now.pieces starts

@@ -11,7 +11,7 @@ use Rattle.jx_packet_header.specs.Parts.{cut}
 use Rattle.jx_tier1_specs.specs.Reading.{Coding, Decoding, coding_of, decoded}
 use Rattle.jx_tier1_specs.specs.Needs.{written}
 use Rattle.jx_codeblock.specs.declared.LayerEnd.{LayerEnd}
-use Rattle.jx_codeblock.specs.declared.OutPart.{OutPart}
+use Rattle.jx_codeblock.specs.declared.LayerPart.{LayerPart}
 use Rattle.jx_codeblock.specs.Segments.{segments_of, sent_by_looks, sent_by_pieces}
 
 -- the layers in which a block has pieces, each with the passes that are sent by its end
@@ -65,27 +65,27 @@ sent_in b style ends segments n =
     else sent_by_looks (new_style b style) b.passes segments (decoded_in b (new_style b style) segments).looked n
 
 -- the parts of a layer: its passes are cut after each that ends a segment
-abbrev pub layer_parts : (ℕ → ℕ) → ℕ → ℕ → List ℕ → List OutPart
+abbrev pub layer_parts : (ℕ → ℕ) → ℕ → ℕ → List ℕ → List LayerPart
 layer_parts sent layer first [] = []
 layer_parts sent layer first (run ∷ runs) =
     record { layer = layer; first = first; passes = run; from = sent first; to = sent (first + run) } ∷ layer_parts sent layer (first + run) runs
 
 -- those of all layers, after some passes
-abbrev pub parts_after : ℕ → (ℕ → ℕ) → ℕ → List LayerEnd → List OutPart
-parts_after style sent first [] = []
-parts_after style sent first (e ∷ ends) = layer_parts sent e.layer first (cut style first (e.passes - first)) ++ parts_after style sent e.passes ends
+abbrev pub layer_parts_after : ℕ → (ℕ → ℕ) → ℕ → List LayerEnd → List LayerPart
+layer_parts_after style sent first [] = []
+layer_parts_after style sent first (e ∷ ends) = layer_parts sent e.layer first (cut style first (e.passes - first)) ++ layer_parts_after style sent e.passes ends
 
 -- a block as it is written
 pub record Recoding : Type 0 where
   pub style : ℕ
   pub bytes : List ℕ
-  pub parts : List OutPart
+  pub parts : List LayerPart
 
 abbrev pub recoding_of : Block → Option Style → List LayerEnd → List (List ℕ) → Recoding
 recoding_of b style ends segments = record {
   style = new_style b style;
   bytes = concat segments;
-  parts = parts_after (new_style b style) (sent_in b style ends segments) 0 ends;
+  parts = layer_parts_after (new_style b style) (sent_in b style ends segments) 0 ends;
 }
 
 abbrev pub option_recoding : Block → Option Style → List LayerEnd → Option (List (List ℕ)) → Option Recoding
@@ -97,11 +97,11 @@ unfoldable pub recoding : Block → Option Style → List LayerEnd → Option Re
 recoding b style ends = option_recoding b style ends (new_segments b style)
 
 -- the bytes of a part, and the part as a piece
-abbrev pub part_bytes : List ℕ → OutPart → List ℕ
-part_bytes bytes p = take (p.to - p.from) (drop p.from bytes)
+abbrev pub layer_part_bytes : List ℕ → LayerPart → List ℕ
+layer_part_bytes bytes p = take (p.to - p.from) (drop p.from bytes)
 
-abbrev pub piece_of : List ℕ → OutPart → PieceValue
-piece_of bytes p = record { layer = p.layer; first = p.first; passes = p.passes; bytes = part_bytes bytes p }
+abbrev pub piece_of : List ℕ → LayerPart → PieceValue
+piece_of bytes p = record { layer = p.layer; first = p.first; passes = p.passes; bytes = layer_part_bytes bytes p }
 
-abbrev pub pieces_of : Recoding → List PieceValue
-pieces_of r = map (piece_of r.bytes) r.parts
+abbrev pub recoded_pieces : Recoding → List PieceValue
+recoded_pieces r = map (piece_of r.bytes) r.parts

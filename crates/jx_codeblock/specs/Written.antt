@@ -6,7 +6,7 @@ use Rattle.jx_tier1_specs.specs.Cells.{Cells}
 use Rattle.jx_codeblock.specs.declared.job.Job.{Job}
 use Rattle.jx_codeblock.specs.declared.LayerEnd.{LayerEnd}
 use Rattle.jx_codeblock.specs.Recoded.{recoding_in}
-use Rattle.jx_codeblock.specs.Recoding.{Recoding, decoded_in, layer_ends, own_segments, pieces_of, recoding, wrong_in}
+use Rattle.jx_codeblock.specs.Recoding.{Recoding, decoded_in, layer_ends, own_segments, recoded_pieces, recoding, wrong_in}
 
 -- the style that is asked of a block: none where it has that style already, in all six bits
 abbrev pub style_for : Option Style → Block → Option Style
@@ -16,7 +16,7 @@ style_for (Some style) b = if style.bits == b.style.bits then None else Some sty
 -- a block with the style and the pieces in which it is written; where nothing can be made of it, as it is
 abbrev pub block_with : Block → Option Recoding → Block
 block_with b None = b
-block_with b (Some r) = record b { style = record { bits = r.style }; pieces = pieces_of r }
+block_with b (Some r) = record b { style = record { bits = r.style }; pieces = recoded_pieces r }
 
 -- a block as it is written, in layers that are asked of it
 unfoldable pub written_in : Option Style → List LayerEnd → Block → Block

@@ -6,7 +6,7 @@ ghost use Rattle.jx_base.specs.Sound.{IsSound};
 ghost use Rattle.jx_tier1_specs.specs.Cells.{HasSize};
 ghost use Rattle.jx_codeblock.specs.Jobs.{AreEnds};
 ghost use Rattle.jx_codeblock.specs.Recoded.{HasCause};
-ghost use Rattle.jx_codeblock.specs.Recoding.{parts_after, sent_in, own_segments, decoded_in, wrong_in};
+ghost use Rattle.jx_codeblock.specs.Recoding.{layer_parts_after, sent_in, own_segments, decoded_in, wrong_in};
 ghost use Rattle.jx_codeblock.specs.Segments.{bytes_before};
 ghost use Rattle.jx_codeblock.specs.Tables.{are_cut};
 
@@ -14,7 +14,7 @@ use crate::looks::{looked_in, own_decoded};
 use crate::own::{all_cut, last_within};
 use crate::parts::all_parts;
 use crate::sent::by_looks;
-use crate::{BlockFault, Job, LayerEnd, OutPart};
+use crate::{BlockFault, Job, LayerEnd, LayerPart};
 use jx_base::{Block, NoMemory, Style};
 use jx_tier1::{FlagGrid, Segments, sound_flags};
 use std::alloc::Global;
@@ -65,12 +65,12 @@ fn parts_by_ends(
     style: Style,
     ends: &[LayerEnd],
     segments: &Segments<'_>,
-) -> Result<Vec<OutPart>, NoMemory>
+) -> Result<Vec<LayerPart>, NoMemory>
     requires sound { IsSound block.now }
     requires ends { AreEnds 0 0 block.now.passes ends.now }
     requires cut { are_cut style.bits block.now.passes ends.now ≡ true }
     requires few { bytes_before segments.now (length segments.now) ≤ 2 ^ 28 }
-    ensures { IfOk result (λ parts. parts.items ≡ parts_after style.bits (sent_in block.now (Some style) ends.now segments.now) 0 ends.now) }
+    ensures { IfOk result (λ parts. parts.items ≡ layer_parts_after style.bits (sent_in block.now (Some style) ends.now segments.now) 0 ends.now) }
 {
     let table = by_looks(alloc, style, block.passes, segments.as_slice(), &[])?;
     all_parts(alloc, style, ends, &table)
@@ -83,12 +83,12 @@ fn parts_by_looks(
     style: Style,
     ends: &[LayerEnd],
     segments: Segments<'_>,
-) -> Result<Vec<OutPart>, NoMemory>
+) -> Result<Vec<LayerPart>, NoMemory>
     requires sound { IsSound block.now }
     requires some { 1 ≤ block.now.passes }
     requires ends { AreEnds 0 0 block.now.passes ends.now }
     requires few { bytes_before segments (length segments) ≤ 2 ^ 28 }
-    ensures { IfOk result (λ parts. parts.items ≡ parts_after style.bits (sent_in block.now (Some style) ends.now segments.entry) 0 ends.now) }
+    ensures { IfOk result (λ parts. parts.items ≡ layer_parts_after style.bits (sent_in block.now (Some style) ends.now segments.entry) 0 ends.now) }
 {
     let last = last_within(style, block.passes, ends);
     let table = looked_in(alloc, block, style, last, segments)?;
@@ -103,12 +103,12 @@ pub(crate) fn parts_of(
     style: Style,
     ends: &[LayerEnd],
     lists: &[Vec<u8>],
-) -> Result<Vec<OutPart>, NoMemory>
+) -> Result<Vec<LayerPart>, NoMemory>
     requires sound { IsSound block.now }
     requires some { 1 ≤ block.now.passes }
     requires ends { AreEnds 0 0 block.now.passes ends.now }
     requires few { length (concat (map (λ l. l.items) lists.now)) ≤ 2 ^ 28 }
-    ensures { IfOk result (λ parts. parts.items ≡ parts_after style.bits (sent_in block.now (Some style) ends.now (map (λ l. l.items) lists.now)) 0 ends.now) }
+    ensures { IfOk result (λ parts. parts.items ≡ layer_parts_after style.bits (sent_in block.now (Some style) ends.now (map (λ l. l.items) lists.now)) 0 ends.now) }
 {
     let segments = segments_of(alloc, lists)?;
     if all_cut(style, block.passes, ends) {

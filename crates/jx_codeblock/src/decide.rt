@@ -5,7 +5,7 @@ ghost use Rattle.std.specs.List.{range_with_len};
 ghost use Rattle.jx_base.specs.Sound.{IsSound};
 ghost use Rattle.jx_codeblock.specs.Jobs.{AreEnds};
 ghost use Rattle.jx_codeblock.specs.Laws.{decoded_first};
-ghost use Rattle.jx_codeblock.specs.Recoding.{parts_after, sent_in, own_segments, has_own_ends, decoded_in};
+ghost use Rattle.jx_codeblock.specs.Recoding.{layer_parts_after, sent_in, own_segments, has_own_ends, decoded_in};
 ghost use Rattle.jx_codeblock.specs.Groups.{groups};
 ghost use Rattle.jx_codeblock.specs.Segments.{sent_by_looks, sent_by_pieces};
 
@@ -14,7 +14,7 @@ use crate::own::{all_cut, all_noted, last_within, own_ends};
 use crate::parts::all_parts;
 use crate::segments::{goes_on, joined, segments_apart, segments_in};
 use crate::sent::by_pieces;
-use crate::{LayerEnd, OutPart};
+use crate::{LayerEnd, LayerPart};
 use jx_base::{Block, NoMemory};
 use jx_tier1_specs::Segments;
 use std::alloc::Global;
@@ -72,10 +72,10 @@ fn parts_by_pieces(
     alloc: Global,
     block: &Block<'_>,
     ends: &[LayerEnd],
-) -> Result<Vec<OutPart>, NoMemory>
+) -> Result<Vec<LayerPart>, NoMemory>
     requires sound { IsSound block.now }
     requires ends { AreEnds 0 0 block.now.passes ends.now }
-    ensures { IfOk result (λ parts. parts.items ≡ parts_after block.now.style.bits (sent_by_pieces block.now.pieces) 0 ends.now) }
+    ensures { IfOk result (λ parts. parts.items ≡ layer_parts_after block.now.style.bits (sent_by_pieces block.now.pieces) 0 ends.now) }
 {
     let table = by_pieces(alloc, block.pieces.as_slice())?;
     all_parts(alloc, block.style, ends, &table)
@@ -87,12 +87,12 @@ fn parts_by_looks(
     alloc: Global,
     block: &Block<'_>,
     ends: &[LayerEnd],
-) -> Result<Vec<OutPart>, NoMemory>
+) -> Result<Vec<LayerPart>, NoMemory>
     requires sound { IsSound block.now }
     requires some { 1 ≤ block.now.passes }
     requires ends { AreEnds 0 0 block.now.passes ends.now }
     ensures { let segments = own_segments block.now in
-        IfOk result (λ parts. parts.items ≡ parts_after block.now.style.bits (sent_by_looks block.now.style.bits block.now.passes segments
+        IfOk result (λ parts. parts.items ≡ layer_parts_after block.now.style.bits (sent_by_looks block.now.style.bits block.now.passes segments
         (decoded_in block.now block.now.style.bits segments).looked) 0 ends.now) }
 {
     let last = last_within(block.style, block.passes, ends);
@@ -106,10 +106,10 @@ pub(crate) fn parts_of(
     alloc: Global,
     block: &Block<'_>,
     ends: &[LayerEnd],
-) -> Result<Vec<OutPart>, NoMemory>
+) -> Result<Vec<LayerPart>, NoMemory>
     requires sound { IsSound block.now }
     requires ends { AreEnds 0 0 block.now.passes ends.now }
-    ensures { IfOk result (λ parts. parts.items ≡ parts_after block.now.style.bits (sent_in block.now None ends.now (own_segments block.now)) 0 ends.now) }
+    ensures { IfOk result (λ parts. parts.items ≡ layer_parts_after block.now.style.bits (sent_in block.now None ends.now (own_segments block.now)) 0 ends.now) }
 {
     if has_own_ends(alloc, block, ends)? {
         return parts_by_pieces(alloc, block, ends);

@@ -11,7 +11,7 @@ ghost use Rattle.jx_codeblock.specs.Laws.{AreCutAtEnds, AreCutInLayers, IsWithin
 ghost use Rattle.jx_codeblock.specs.FirstLayers.{HasFirstLayers};
 ghost use Rattle.jx_codeblock.specs.Recoded.{is_bad, recoding_in};
 ghost use Rattle.jx_codeblock.specs.declared.job.Job.{Job};
-ghost use Rattle.jx_codeblock.specs.Recoding.{Recoding, decoded_in, layer_ends, new_segments, own_segments, pieces_of, recoding, wrong_in};
+ghost use Rattle.jx_codeblock.specs.Recoding.{Recoding, decoded_in, layer_ends, new_segments, own_segments, recoded_pieces, recoding, wrong_in};
 ghost use Rattle.jx_codeblock.specs.Segments.{segments_of};
 ghost use Rattle.jx_codeblock.specs.Written.{block_with, is_wrong, own_cells, style_for, written_as, written_in};
 
@@ -26,7 +26,7 @@ pub fn own_layers_may_be_asked()
 #[tactic(auto, using(crate::proofs::LawLemmas::kept_pieces))]
 pub fn kept_is_kept()
     ensures { (b : Block) → (r : Recoding) → IsSound b → AreCutAtEnds b.style.bits b.pieces →
-        Some r ≡ recoding b None (layer_ends b.pieces) → pieces_of r ≡ b.pieces }
+        Some r ≡ recoding b None (layer_ends b.pieces) → recoded_pieces r ≡ b.pieces }
 {}
 
 /// Each part of a kept block lies within the block's bytes.
@@ -50,14 +50,14 @@ pub fn cut_in_layers_is_cut_at_ends()
 #[tactic(auto, using(crate::proofs::SoundLemmas::kept_sound))]
 pub fn kept_is_sound()
     ensures { (b : Block) → (ends : List LayerEnd) → (r : Recoding) → IsAsked b None ends → Some r ≡ recoding b None ends →
-        ArePieces b.style.bits 0 0 b.passes (pieces_of r) }
+        ArePieces b.style.bits 0 0 b.passes (recoded_pieces r) }
 {}
 
 /// A kept block has its own segments, whatever the layers.
 #[tactic(auto, using(crate::proofs::RegroupLemmas::kept_segments))]
 pub fn kept_has_its_segments()
     ensures { (b : Block) → (ends : List LayerEnd) → (r : Recoding) → IsAsked b None ends → Some r ≡ recoding b None ends →
-        segments_of b.style.bits b.passes (pieces_of r) ≡ own_segments b }
+        segments_of b.style.bits b.passes (recoded_pieces r) ≡ own_segments b }
 {}
 
 /// Each part of a block that is coded anew lies within the new bytes.
@@ -71,7 +71,7 @@ pub fn new_parts_lie_in_the_bytes()
 #[tactic(auto, using(crate::proofs::AnewParts::anew_sound))]
 pub fn coded_anew_is_sound()
     ensures { (b : Block) → (style : Style) → (ends : List LayerEnd) → (r : Recoding) → IsAsked b (Some style) ends →
-        Some r ≡ recoding b (Some style) ends → ArePieces style.bits 0 0 b.passes (pieces_of r) }
+        Some r ≡ recoding b (Some style) ends → ArePieces style.bits 0 0 b.passes (recoded_pieces r) }
 {}
 
 /// A block that is coded anew has the segments of its coefficients in the style that was asked, whatever
@@ -79,7 +79,7 @@ pub fn coded_anew_is_sound()
 #[tactic(auto, using(crate::proofs::AnewLemmas::new_are, crate::proofs::AnewParts::anew_segments))]
 pub fn coded_anew_has_new_segments()
     ensures { (b : Block) → (style : Style) → (ends : List LayerEnd) → (r : Recoding) → IsAsked b (Some style) ends →
-        Some r ≡ recoding b (Some style) ends → Some (segments_of style.bits b.passes (pieces_of r)) ≡ new_segments b (Some style) }
+        Some r ≡ recoding b (Some style) ends → Some (segments_of style.bits b.passes (recoded_pieces r)) ≡ new_segments b (Some style) }
 {}
 
 /// A block that is coded anew keeps its coefficients: its new segments decode to what its own decode to,
@@ -88,13 +88,13 @@ pub fn coded_anew_has_new_segments()
 pub fn coded_anew_keeps_coefficients()
     ensures cells { (b : Block) → (style : Style) → (ends : List LayerEnd) → (r : Recoding) → IsAsked b (Some style) ends →
         Some r ≡ recoding b (Some style) ends →
-        (decoded_in b style.bits (segments_of style.bits b.passes (pieces_of r))).cells ≡ (decoded_in b b.style.bits (own_segments b)).cells }
+        (decoded_in b style.bits (segments_of style.bits b.passes (recoded_pieces r))).cells ≡ (decoded_in b b.style.bits (own_segments b)).cells }
     ensures right { (b : Block) → (style : Style) → (ends : List LayerEnd) → (r : Recoding) → IsAsked b (Some style) ends →
         Some r ≡ recoding b (Some style) ends →
-        (decoded_in b style.bits (segments_of style.bits b.passes (pieces_of r))).wrong ≡ None }
+        (decoded_in b style.bits (segments_of style.bits b.passes (recoded_pieces r))).wrong ≡ None }
     ensures first { (b : Block) → (style : Style) → (ends : List LayerEnd) → (r : Recoding) → (first : ℕ) → IsAsked b (Some style) ends →
         Some r ≡ recoding b (Some style) ends → first ≤ b.passes → KeepsFirst b style first →
-        (decoded_first b style.bits (segments_of style.bits b.passes (pieces_of r)) first).cells ≡ (decoded_first b b.style.bits (own_segments b) first).cells }
+        (decoded_first b style.bits (segments_of style.bits b.passes (recoded_pieces r)) first).cells ≡ (decoded_first b b.style.bits (own_segments b) first).cells }
 {
     jx_tier1_specs::laws::written_is_read_back();
     jx_tier1_specs::laws::decoded_fits();
@@ -137,11 +137,11 @@ pub fn written_is_sound()
     ensures sound { (b : Block) → (style : Option Style) → (ends : List LayerEnd) → (r : Recoding) → IsAsked b style ends →
         Some r ≡ recoding b style ends → IsSound (block_with b (Some r)) }
     ensures cuts { (b : Block) → (style : Option Style) → (ends : List LayerEnd) → (r : Recoding) → IsAsked b style ends →
-        Some r ≡ recoding b style ends → AreCutInLayers r.style (pieces_of r) }
+        Some r ≡ recoding b style ends → AreCutInLayers r.style (recoded_pieces r) }
     ensures layers { (b : Block) → (style : Option Style) → (ends : List LayerEnd) → (r : Recoding) → IsAsked b style ends →
-        Some r ≡ recoding b style ends → layer_ends (pieces_of r) ≡ ends }
+        Some r ≡ recoding b style ends → layer_ends (recoded_pieces r) ≡ ends }
     ensures passes { (b : Block) → (style : Option Style) → (ends : List LayerEnd) → (r : Recoding) → (layer : ℕ) → IsAsked b style ends →
-        Some r ≡ recoding b style ends → layer_ends b.pieces ≡ ends → passes_at layer (pieces_of r) ≡ passes_at layer b.pieces }
+        Some r ≡ recoding b style ends → layer_ends b.pieces ≡ ends → passes_at layer (recoded_pieces r) ≡ passes_at layer b.pieces }
 {}
 
 /// In its own layers a sound block becomes one with the style that is asked, of which just the pieces are others; without a style, or

@@ -36,7 +36,7 @@ pub struct LayerEnd {
 
 /// What a layer has of a block within one segment.
 #[derive(Clone, Copy, Debug, PartialEq, Eq)]
-pub struct OutPart {
+pub struct LayerPart {
     /// The layer.
     pub layer: u16,
     /// The block's first pass of this part.

@@ -3,7 +3,7 @@
 ghost use Rattle.std.specs.Prelude.{◌≡◌, [], IfOk};
 ghost use Rattle.jx_codeblock.specs.Held.{new_bytes, own_starts};
 
-use crate::OutPart;
+use crate::LayerPart;
 use crate::held::Held;
 use jx_base::NoMemory;
 use std::alloc::Global;
@@ -12,7 +12,7 @@ use std::marker::Model;
 #[derive(Drop)]
 struct Lists {
     held: Held,
-    parts: Vec<OutPart>,
+    parts: Vec<LayerPart>,
 }
 
 /// The new bytes or where its own begin, and the parts of a block, behind one pointer: a picture may have a million of blocks without a pass, which have neither.
@@ -41,7 +41,7 @@ impl Made {
     }
 
     /// What is held and these parts.
-    pub(crate) fn of(alloc: Global, held: Held, parts: Vec<OutPart>) -> Result<Made, NoMemory>
+    pub(crate) fn of(alloc: Global, held: Held, parts: Vec<LayerPart>) -> Result<Made, NoMemory>
         ensures bytes { IfOk result (λ m. m.bytes ≡ new_bytes held) }
         ensures starts { IfOk result (λ m. m.starts ≡ own_starts held) }
         ensures parts { IfOk result (λ m. m.parts ≡ parts.items) }
@@ -72,7 +72,7 @@ impl Made {
         }
     }
 
-    pub(crate) fn parts(&self) -> &[OutPart]
+    pub(crate) fn parts(&self) -> &[LayerPart]
         ensures { result.now ≡ self.now.parts }
     {
         match &self.lists {

@@ -2,11 +2,11 @@
 
 ghost use Rattle.std.specs.Prelude.{◌≡◌, ◌≤◌, ◌<◌, ◌+◌, ◌-◌, ◌^◌, ◌++◌, ◌∷◌, OnOk, IfOk};
 ghost use Rattle.jx_packet_header.specs.Parts.{cut};
-ghost use Rattle.jx_codeblock.specs.Recoding.{layer_parts, parts_after};
+ghost use Rattle.jx_codeblock.specs.Recoding.{layer_parts, layer_parts_after};
 ghost use Rattle.jx_codeblock.specs.Tables.{at_place};
 
 use crate::sent::number_at;
-use crate::{LayerEnd, OutPart};
+use crate::{LayerEnd, LayerPart};
 use jx_base::{NoMemory, Style, ends_segment};
 use std::alloc::Global;
 
@@ -25,11 +25,11 @@ fn first_run(style: Style, first: u16, left: u16) -> u16
 }
 
 /// The part of a layer that has some passes, over a table of how many bytes are sent.
-fn part_of(layer: u16, first: u16, passes: u16, table: &[u32]) -> OutPart
+fn part_of(layer: u16, first: u16, passes: u16, table: &[u32]) -> LayerPart
     requires { first + passes < 2 ^ 16 }
     ensures { result ≡ record { layer = layer; first = first; passes = passes; from = at_place table.now first; to = at_place table.now (first + passes) } }
 {
-    OutPart {
+    LayerPart {
         layer,
         first,
         passes,
@@ -45,7 +45,7 @@ fn push_layer(
     first: u16,
     count: u16,
     table: &[u32],
-    parts: &mut Vec<OutPart>,
+    parts: &mut Vec<LayerPart>,
 ) -> Result<(), NoMemory>
     requires { first + count < 2 ^ 16 }
     ensures { OnOk result (parts.new.items ≡ parts.old.items ++ layer_parts (at_place table.now) layer first (cut style.bits first count)) }
@@ -67,7 +67,7 @@ fn push_end(
     end: LayerEnd,
     first: u16,
     table: &[u32],
-    parts: &mut Vec<OutPart>,
+    parts: &mut Vec<LayerPart>,
 ) -> Result<(), NoMemory>
     ensures { OnOk result (parts.new.items ≡ parts.old.items ++ layer_parts (at_place table.now) end.layer first (cut style.bits first (end.passes - first))) }
 {
@@ -81,8 +81,8 @@ pub(crate) fn all_parts(
     style: Style,
     ends: &[LayerEnd],
     table: &[u32],
-) -> Result<Vec<OutPart>, NoMemory>
-    ensures { IfOk result (λ parts. parts.items ≡ parts_after style.bits (at_place table.now) 0 ends.now) }
+) -> Result<Vec<LayerPart>, NoMemory>
+    ensures { IfOk result (λ parts. parts.items ≡ layer_parts_after style.bits (at_place table.now) 0 ends.now) }
 {
     let mut parts = Vec::new(alloc);
     let mut first = 0;

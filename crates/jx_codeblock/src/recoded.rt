@@ -6,7 +6,7 @@ ghost use Rattle.jx_base.specs.Sound.{IsSound};
 ghost use Rattle.jx_tier1_specs.specs.Needs.{written};
 ghost use Rattle.jx_codeblock.specs.Jobs.{IsAsked};
 ghost use Rattle.jx_codeblock.specs.Laws.{IsWithin};
-ghost use Rattle.jx_codeblock.specs.Recoding.{coding_in, decoded_in, own_segments, part_bytes, pieces_of, wrong_in};
+ghost use Rattle.jx_codeblock.specs.Recoding.{coding_in, decoded_in, own_segments, layer_part_bytes, recoded_pieces, wrong_in};
 ghost use Rattle.jx_codeblock.specs.Recoded.{recoding_in, is_bad, HasCause};
 ghost use Rattle.jx_codeblock.specs.Written.{block_with, own_cells};
 
@@ -18,7 +18,7 @@ use crate::laws::written_keeps_coefficients;
 use crate::made::Made;
 use crate::starts::starts_of;
 use crate::step::lists_in_step;
-use crate::{BlockFault, Job, OutPart};
+use crate::{BlockFault, Job, LayerPart};
 use jx_base::{NoMemory, Style};
 use jx_store::{Claim, Work};
 use jx_tier1::encode_flags;
@@ -156,22 +156,22 @@ impl<'a> Recoded<'a> {
 
     /// The parts of the layers, in their order. Their places are those of the block's bytes, at most 2^28,
     /// within which they lie. As pieces they are again those of a sound block.
-    pub fn parts(&self) -> &[OutPart]
+    pub fn parts(&self) -> &[LayerPart]
         ensures value { result.now ≡ self.now.recoding.parts }
         ensures recoding { Some self.now.recoding ≡ recoding_in self.now.job }
         ensures few { length self.now.recoding.bytes ≤ 2 ^ 28 }
         ensures within { All (IsWithin (length self.now.recoding.bytes)) result.now }
-        ensures sound { ArePieces self.now.recoding.style 0 0 self.now.job.block.now.passes (pieces_of self.now.recoding) }
+        ensures sound { ArePieces self.now.recoding.style 0 0 self.now.job.block.now.passes (recoded_pieces self.now.recoding) }
     {
         self.made.parts()
     }
 
     /// Appends the bytes of a part. With room for them in `out` it isn't refused; after an `Err` `out` has
     /// the bytes that it had.
-    pub fn append(&self, part: &OutPart, out: &mut Vec<u8>) -> Result<(), NoMemory>
-        ensures ok { OnOk result (out.new.items ≡ out.old.items ++ part_bytes self.now.recoding.bytes part.now) }
+    pub fn append(&self, part: &LayerPart, out: &mut Vec<u8>) -> Result<(), NoMemory>
+        ensures ok { OnOk result (out.new.items ≡ out.old.items ++ layer_part_bytes self.now.recoding.bytes part.now) }
         ensures err { OnErr result (out.new.items ≡ out.old.items) }
-        ensures room { OnErr result (vec_capacity out.old < vec_len out.old + length (part_bytes self.now.recoding.bytes part.now)) }
+        ensures room { OnErr result (vec_capacity out.old < vec_len out.old + length (layer_part_bytes self.now.recoding.bytes part.now)) }
     {
         match self.job.style {
             None => {

@@ -7,7 +7,7 @@ ghost use Rattle.jx_base.specs.Sound.{IsSound};
 ghost use Rattle.jx_codeblock.specs.Jobs.{AreEnds, IsAsked};
 
 use jx_base::{Band, Block, BlockName, NoMemory, Piece, Pieces, Rect, Span, Style};
-use jx_codeblock::{BlockFault, Ends, Job, LayerEnd, OutPart, recode};
+use jx_codeblock::{BlockFault, Ends, Job, LayerEnd, LayerPart, recode};
 use jx_store::Claim;
 use std::alloc::Global;
 
@@ -106,7 +106,7 @@ pub(crate) fn in_two(alloc: Global, passes: u16, layer: u16) -> Result<Ends, NoM
 }
 
 /// Does a job. It gives the parts, and their bytes one behind another.
-pub(crate) fn done(alloc: Global, job: &Job<'_>) -> Result<(Vec<OutPart>, Vec<u8>), BlockFault>
+pub(crate) fn done(alloc: Global, job: &Job<'_>) -> Result<(Vec<LayerPart>, Vec<u8>), BlockFault>
     requires { IsAsked job.now.block.now job.now.style job.now.ends }
 {
     let claim = Claim::issue(job.number, 0);
@@ -125,7 +125,7 @@ pub(crate) fn kept(
     alloc: Global,
     block: &Block<'_>,
     ends: Ends,
-) -> Result<(Vec<OutPart>, Vec<u8>), BlockFault>
+) -> Result<(Vec<LayerPart>, Vec<u8>), BlockFault>
     requires sound { IsSound block.now }
     requires ends { AreEnds 0 0 block.now.passes ends }
 {
@@ -139,8 +139,8 @@ pub(crate) fn kept(
 }
 
 /// A part.
-pub(crate) fn part(layer: u16, first: u16, passes: u16, from: u32, to: u32) -> OutPart {
-    OutPart {
+pub(crate) fn part(layer: u16, first: u16, passes: u16, from: u32, to: u32) -> LayerPart {
+    LayerPart {
         layer,
         first,
         passes,

@@ -9,7 +9,7 @@ ghost use Rattle.jx_codeblock.specs.Jobs.{AreEnds, IsAsked};
 use crate::blocks::{block_of, done, in_one, in_two, kept, one_pass, one_piece, part};
 use crate::checks::{check, equal, given};
 use jx_base::{Block, NoMemory, Piece, Pieces, Style};
-use jx_codeblock::{BlockFault, Ends, Job, OutPart};
+use jx_codeblock::{BlockFault, Ends, Job, LayerPart};
 use std::alloc::Global;
 use std::test::Fail;
 
@@ -63,7 +63,7 @@ fn anew(
     block: &Block<'_>,
     bits: u8,
     ends: Ends,
-) -> Result<(Vec<OutPart>, Vec<u8>), BlockFault>
+) -> Result<(Vec<LayerPart>, Vec<u8>), BlockFault>
     requires sound { IsSound block.now }
     requires ends { AreEnds 0 0 block.now.passes ends }
     requires whole { block.now.passes % 3 ≡ 1 }
@@ -83,7 +83,7 @@ fn none_anew(
     alloc: Global,
     block: &Block<'_>,
     bits: u8,
-) -> Result<(Vec<OutPart>, Vec<u8>), BlockFault>
+) -> Result<(Vec<LayerPart>, Vec<u8>), BlockFault>
     requires sound { IsSound block.now }
     requires none { block.now.passes ≡ 0 }
 {

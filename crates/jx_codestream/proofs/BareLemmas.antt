@@ -1,17 +1,14 @@
 -- A tile whose header gives no parameter has those of the main header.
-use Rattle.std.proofs.Common.{◌≡◌, ◌<◌, ◌+◌, ◌*◌, ◌==◌, ℕ, Bool, true, nat_lt, arith, List, [], ◌∷◌, map, length, refl, sym, ap, Option, false, inl, inr}
+use Rattle.std.proofs.Common.{◌≡◌, ◌<◌, ◌+◌, ◌*◌, ◌==◌, ℕ, Bool, true, nat_lt, arith, List, [], ◌∷◌, map, refl, ap, Option, false, inl, inr}
 use Rattle.std.specs.List.{find, flat_map, list_any, range_with_len}
 use Rattle.std.specs.Option.{option_or}
 use Rattle.std.proofs.lemmas.Bool.Decides.{nat_tests}
 use Rattle.jx_marker.specs.declared.Segment.{Segment}
-use Rattle.jx_marker.specs.declared.Siz.{Siz}
 use Rattle.jx_geom.specs.declared.shape.CompShape.{CompShape}
 use Rattle.jx_codestream.specs.Headers.{slot_of}
 use Rattle.jx_codestream.specs.Tiles.{in_slot}
 use Rattle.jx_codestream.specs.Index.{gives, has_giving, IsBare}
-use Rattle.jx_codestream.specs.TileHeaders.{MainHeaders, with_own}
 use Rattle.jx_codestream.specs.Params.{chosen, shape_of, quant_of, shift_of, cod_of, has_too_few, band_planes, header_has_too_few, header_planes, shape_in, quant_in, shift_in, cod_in}
-use Rattle.jx_codestream.specs.Shapes.{comp_shape, shapes_in}
 use Rattle.std.proofs.lemmas.Bool.{cases_Bool, or_parts, eqb-true}
 
 pub any_same : (f g : ℕ → Bool) (xs : List ℕ) → ((x : ℕ) → f x ≡ g x) → list_any f xs ≡ list_any g xs
@@ -58,19 +55,6 @@ module _ (own : List Segment) (bare : IsBare own) where
   pub bare_over : (main : List Segment) (comps : ℕ) → find (nat_lt 74) (header_planes main comps own) ≡ find (nat_lt 74) (header_planes main comps [])
   bare_over main comps = ap (λ (xs : List ℕ). find (nat_lt 74) xs) (bare_planes main comps)
 
--- so it has their shapes
-
-comp_shape_bare : (siz : Siz) (main own : List Segment) (bare : IsBare own) (comp : ℕ)
-    → comp_shape (record { siz = siz; main = main; own = own }) comp ≡ comp_shape (record { siz = siz; main = main; own = [] }) comp
-comp_shape_bare siz main own bare comp = rw (shape_bare own bare main comp) refl
-
-pub shapes_bare : (siz : Siz) (main own : List Segment) → IsBare own
-    → shapes_in (record { siz = siz; main = main; own = [] }) ≡ shapes_in (record { siz = siz; main = main; own = own })
-unfolding shapes_in
-shapes_bare siz main own bare =
-    map_same (comp_shape (record { siz = siz; main = main; own = [] })) (comp_shape (record { siz = siz; main = main; own = own })) (range_with_len 0 (length siz.comps))
-    (λ comp. sym (comp_shape_bare siz main own bare comp))
-
 -- a header without such a segment is bare
 
 pub none_gives : (segments : List Segment) → has_giving segments ≡ false → IsBare segments
@@ -81,6 +65,3 @@ none_gives (s ∷ ss) h slot given =
       | inl t ↦ let same : gives (slot_of s) ≡ gives slot = ap gives (eqb-true (slot_of s) slot t) in absurd (cc)
       | inr f ↦ rw f (none_gives ss both.1 slot given)
     ]
-
-pub view_bare : (m : MainHeaders) (own : List Segment) → IsBare own → shapes_in (with_own m []) ≡ shapes_in (with_own m own)
-view_bare m own bare = shapes_bare m.siz m.main own bare

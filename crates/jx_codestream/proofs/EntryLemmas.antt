@@ -8,7 +8,7 @@ use Rattle.jx_marker.specs.declared.Segment.{Segment}
 use Rattle.jx_marker.specs.declared.Segment.TheVariants as segment
 use Rattle.jx_marker.specs.Rules.{is_order, progression_fits}
 use Rattle.jx_marker.specs.Ranges.{InRange}
-use Rattle.jx_codestream.specs.declared.parts.Part.{Part}
+use Rattle.jx_codestream.specs.declared.parts.PlacedPart.{PlacedPart}
 use Rattle.jx_codestream.specs.Tiles.{in_slot, entries_of, entries_joined, entry_of, entry_in, headers_of, first_header, or_list, progressions_of}
 use Rattle.jx_codestream.proofs.SegmentLemmas.{HasFitting, IsChosen, slot_chosen, headers_fit, first_fits}
 use Rattle.jx_base.proofs.Lists.{all_pass}
@@ -41,7 +41,7 @@ or_orders : (first second : List Progression) → All HasOrder first → All Has
 or_orders [] second a b = b
 or_orders (entry ∷ entries) second a b = a
 
-pub orders_fit : (comps : ℕ) (main : List Segment) (own : List Part) → All (InRange comps) main → All (HasFitting comps) own → All HasOrder (progressions_of main own)
+pub orders_fit : (comps : ℕ) (main : List Segment) (own : List PlacedPart) → All (InRange comps) main → All (HasFitting comps) own → All HasOrder (progressions_of main own)
 orders_fit comps main own there here =
     let tile = default_order comps (in_slot 1 (first_header own)) (slot_chosen comps 1 1 1 (first_header own) (first_fits comps own here) (inl refl)) in
     let default = default_order comps (in_slot 1 main) (slot_chosen comps 1 1 1 main there (inl refl)) in

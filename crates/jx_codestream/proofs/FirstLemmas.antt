@@ -17,7 +17,7 @@ use Rattle.jx_codestream.specs.declared.faults.StreamFault.{StreamFault}
 use Rattle.jx_codestream.specs.declared.faults.StreamFault.TheVariants as fault
 use Rattle.jx_codestream.specs.declared.headers.Header.{Header}
 use Rattle.jx_codestream.specs.declared.headers.HeaderKind.TheVariants.{Main}
-use Rattle.jx_codestream.specs.declared.parts.Part.{Part}
+use Rattle.jx_codestream.specs.declared.parts.PlacedPart.{PlacedPart}
 use Rattle.jx_codestream.specs.declared.Stream.{Stream}
 use Rattle.jx_codestream.specs.declared.Tile.{Tile}
 use Rattle.jx_codestream.specs.Faults.{broken, fault_of, IsCause}
@@ -94,23 +94,23 @@ module _ (comps tiles : ℕ) (b : List ℕ) (start : ℕ) where
       (cause_first e (parts_fault comps tiles b (main_header comps b start).end) (broken NO_PART (parts_after comps tiles b start).end (lacks_part (parts_after comps tiles b start).parts tiles))
       (cause_same e (parts_fault comps tiles b main.end) (parts_fault comps tiles b (main_header comps b start).end) (ap (λ (h : Header). parts_fault comps tiles b h.end) is) h))
 
-  pub body_24 : (main : Header) (parts : List Part) (eoc : ℕ) → main_fault comps b start ≡ None → main ≡ main_header comps b start → parts_fault comps tiles b main.end ≡ None
+  pub body_24 : (main : Header) (parts : List PlacedPart) (eoc : ℕ) → main_fault comps b start ≡ None → main ≡ main_header comps b start → parts_fault comps tiles b main.end ≡ None
       → parts ≡ (parts_from comps tiles b main.end).parts → eoc ≡ (parts_from comps tiles b main.end).end → lacks_part parts tiles ≡ true → body_fault comps tiles b start ≡ Some (fault.Rule NO_PART eoc)
   unfolding body_fault
   body_24 main parts eoc clear is none all end lacks =
       let no_part : parts_fault comps tiles b (main_header comps b start).end ≡ None = sym (ap (λ (h : Header). parts_fault comps tiles b h.end) is) ∙ none in
       let here : parts ≡ (parts_after comps tiles b start).parts = all ∙ ap (λ (h : Header). (parts_from comps tiles b h.end).parts) is in
       let stop : eoc ≡ (parts_after comps tiles b start).end = end ∙ ap (λ (h : Header). (parts_from comps tiles b h.end).end) is in
-      rw (clear, no_part) (broken_true NO_PART (parts_after comps tiles b start).end (lacks_part (parts_after comps tiles b start).parts tiles) (sym (ap (λ (x : List Part). lacks_part x tiles) here) ∙ lacks)
+      rw (clear, no_part) (broken_true NO_PART (parts_after comps tiles b start).end (lacks_part (parts_after comps tiles b start).parts tiles) (sym (ap (λ (x : List PlacedPart). lacks_part x tiles) here) ∙ lacks)
       ∙ ap (λ (n : ℕ). Some (fault.Rule NO_PART n)) (sym stop))
 
-  pub body_clear : (main : Header) (parts : List Part) → main_fault comps b start ≡ None → main ≡ main_header comps b start → parts_fault comps tiles b main.end ≡ None
+  pub body_clear : (main : Header) (parts : List PlacedPart) → main_fault comps b start ≡ None → main ≡ main_header comps b start → parts_fault comps tiles b main.end ≡ None
       → parts ≡ (parts_from comps tiles b main.end).parts → lacks_part parts tiles ≡ false → (body_fault comps tiles b start ≡ None) × (parts ≡ (parts_after comps tiles b start).parts)
   unfolding body_fault
   body_clear main parts clear is none all lacks =
       let no_part : parts_fault comps tiles b (main_header comps b start).end ≡ None = sym (ap (λ (h : Header). parts_fault comps tiles b h.end) is) ∙ none in
       let here : parts ≡ (parts_after comps tiles b start).parts = all ∙ ap (λ (h : Header). (parts_from comps tiles b h.end).parts) is in (
-        rw (clear, no_part) (broken_false NO_PART (parts_after comps tiles b start).end (lacks_part (parts_after comps tiles b start).parts tiles) (sym (ap (λ (x : List Part). lacks_part x tiles) here) ∙ lacks)),
+        rw (clear, no_part) (broken_false NO_PART (parts_after comps tiles b start).end (lacks_part (parts_after comps tiles b start).parts tiles) (sym (ap (λ (x : List PlacedPart). lacks_part x tiles) here) ∙ lacks)),
         here,
       )
 
@@ -118,7 +118,7 @@ any_mapped : (p : ℕ → Bool) (f : ℕ → ℕ) (xs : List ℕ) → list_any p
 any_mapped p f [] = refl
 any_mapped p f (x ∷ xs) = ap (λ (y : Bool). p (f x) || y) (any_mapped p f xs)
 
-pub lacks_by_counts : (parts : List Part) (counts told : List ℕ) (tiles : ℕ) (found : Bool) → Tracks parts counts told → length counts ≡ tiles
+pub lacks_by_counts : (parts : List PlacedPart) (counts told : List ℕ) (tiles : ℕ) (found : Bool) → Tracks parts counts told → length counts ≡ tiles
     → found ≡ list_any (λ (n : ℕ). n == 0) counts → lacks_part parts tiles ≡ found
 lacks_by_counts parts counts told tiles found tracks size is =
     let counted : counts ≡ map (λ (tile : ℕ). length (parts_of tile parts)) (range_with_len 0 tiles) =
@@ -140,7 +140,7 @@ later_body siz b start comps tiles e clear is count h =
     (cause_same e (body_fault comps tiles b start) (body_fault (length siz.comps) (tile_number siz) b start)
     (ap (λ (n : ℕ). body_fault n tiles b start) is ∙ ap (λ (n : ℕ). body_fault (length siz.comps) n b start) count) h))
 
-pub stream_is : (siz : Siz) (b : List ℕ) (start comps count : ℕ) (main : List Segment) (parts : List Part) (tiles : List Tile) → comps ≡ length siz.comps → count ≡ tile_number siz
+pub stream_is : (siz : Siz) (b : List ℕ) (start comps count : ℕ) (main : List Segment) (parts : List PlacedPart) (tiles : List Tile) → comps ≡ length siz.comps → count ≡ tile_number siz
     → main ≡ (main_header comps b start).segments → parts ≡ (parts_after comps count b start).parts → tiles ≡ tiles_of main parts count
     → ◌≡◌ {A = Stream} (record { siz = siz; main = main; tiles = tiles }) (stream_from siz b start)
 unfolding stream_from

@@ -16,7 +16,7 @@ use Rattle.jx_codestream.specs.declared.faults.StreamFault.{StreamFault}
 use Rattle.jx_codestream.specs.declared.headers.HeaderKind.{HeaderKind}
 use Rattle.jx_codestream.specs.declared.headers.HeaderKind.TheVariants.{Main}
 use Rattle.jx_codestream.specs.declared.headers.Header.{Header}
-use Rattle.jx_codestream.specs.declared.parts.Part.{Part}
+use Rattle.jx_codestream.specs.declared.parts.PlacedPart.{PlacedPart}
 use Rattle.jx_codestream.specs.declared.Stream.{Stream}
 use Rattle.jx_codestream.specs.Faults.{broken, rule_at}
 use Rattle.jx_codestream.specs.Headers.{segment_fault, header_at, header_fault}
@@ -162,10 +162,10 @@ in_parts comps tiles b main start f over defaults h =
 
 -- tile-parts
 
-parts_walked : (comps tiles : ℕ) (b : List ℕ) (ps : List TilePart) (before : List Part) (at : ℕ) (tail : List ℕ) → AreNamed comps tiles before at ps → drop at b ≡ flat_map (part_bytes comps) ps ++ tail
+parts_walked : (comps tiles : ℕ) (b : List ℕ) (ps : List TilePart) (before : List PlacedPart) (at : ℕ) (tail : List ℕ) → AreNamed comps tiles before at ps → drop at b ≡ flat_map (part_bytes comps) ps ++ tail
     → longest_parts comps tiles b (length b) before at ≡ longest_parts comps tiles b (length b) (before ++ placed comps at ps) (at + length (flat_map (part_bytes comps) ps))
 parts_walked comps tiles b [] before at tail are h =
-    ap (λ (x : List Part). longest_parts comps tiles b (length b) x at) (sym (append-nil before)) ∙ ap (λ (n : ℕ). longest_parts comps tiles b (length b) (before ++ []) n) (sym (add-zero at))
+    ap (λ (x : List PlacedPart). longest_parts comps tiles b (length b) x at) (sym (append-nil before)) ∙ ap (λ (n : ℕ). longest_parts comps tiles b (length b) (before ++ []) n) (sym (add-zero at))
 parts_walked comps tiles b (p ∷ ps) before at tail are h =
     let rest = flat_map (part_bytes comps) ps ++ tail in
     let front : drop at b ≡ part_bytes comps p ++ rest = h ∙ append_assoc (part_bytes comps p) (flat_map (part_bytes comps) ps) tail in
@@ -176,14 +176,14 @@ parts_walked comps tiles b (p ∷ ps) before at tail are h =
     omega (arith, length-append (part_bytes comps p) (flat_map (part_bytes comps) ps)) in
     parts_on comps tiles b before at read.inside (go_on comps tiles b before at read.goes read.clear)
     ∙ ap (λ (n : ℕ). longest_parts comps tiles b (length b) (before ++ part_at comps b at ∷ []) n) end
-    ∙ ap (λ (x : Part). longest_parts comps tiles b (length b) (before ++ x ∷ []) (at + length (part_bytes comps p))) read.value
+    ∙ ap (λ (x : PlacedPart). longest_parts comps tiles b (length b) (before ++ x ∷ []) (at + length (part_bytes comps p))) read.value
     ∙ parts_walked comps tiles b ps (before ++ part_of comps at p ∷ []) (at + length (part_bytes comps p)) tail are.2 later
-    ∙ ap (λ (x : List Part). longest_parts comps tiles b (length b) x (at + length (part_bytes comps p) + length (flat_map (part_bytes comps) ps)))
+    ∙ ap (λ (x : List PlacedPart). longest_parts comps tiles b (length b) x (at + length (part_bytes comps p) + length (flat_map (part_bytes comps) ps)))
     (append_assoc before (part_of comps at p ∷ []) (placed comps (at + length (part_bytes comps p)) ps))
     ∙ ap (λ (n : ℕ). longest_parts comps tiles b (length b) (before ++ placed comps at (p ∷ ps)) n) place
 
 -- what is violated after tile-parts that are spelled is violated in the tile-parts
-after_parts : (comps tiles : ℕ) (b : List ℕ) (start : ℕ) (parts : List Part) (at : ℕ) (f : StreamFault)
+after_parts : (comps tiles : ℕ) (b : List ℕ) (start : ℕ) (parts : List PlacedPart) (at : ℕ) (f : StreamFault)
     → longest_parts comps tiles b (length b) [] start ≡ longest_parts comps tiles b (length b) parts at → marker_at b at EOC ≡ false → fault_after comps tiles b parts at ≡ Some f
     → parts_fault comps tiles b start ≡ Some f
 after_parts comps tiles b start parts at f walked goes h =
@@ -196,7 +196,7 @@ record BeginsSot (comps : ℕ) (bytes : List ℕ) : Type 0 where
   pub rest : List ℕ
   pub is : bytes ≡ spelling comps (segment.Sot sot) ++ rest
 
-part_begins : (comps tiles : ℕ) (before : List Part) (at : ℕ) (p : TilePart) (ps : List TilePart) (tail : List ℕ) → AreNamed comps tiles before at (p ∷ ps)
+part_begins : (comps tiles : ℕ) (before : List PlacedPart) (at : ℕ) (p : TilePart) (ps : List TilePart) (tail : List ℕ) → AreNamed comps tiles before at (p ∷ ps)
     → BeginsSot comps (flat_map (part_bytes comps) (p ∷ ps) ++ tail)
 part_begins comps tiles before at p ps tail are =
     let more = flat_map (part_bytes comps) ps ++ tail in
@@ -207,12 +207,12 @@ part_begins comps tiles before at p ps tail are =
       is = append_assoc (part_bytes comps p) (flat_map (part_bytes comps) ps) tail ∙ sym (regroup (spelling comps (segment.Sot p.sot)) (all_bytes comps p.header) (spelling comps segment.Sod) p.body more);
     }
 
-some_begins : (comps tiles : ℕ) (before : List Part) (at : ℕ) (parts : List TilePart) (tail : List ℕ) → 0 < length parts → AreNamed comps tiles before at parts
+some_begins : (comps tiles : ℕ) (before : List PlacedPart) (at : ℕ) (parts : List TilePart) (tail : List ℕ) → 0 < length parts → AreNamed comps tiles before at parts
     → BeginsSot comps (flat_map (part_bytes comps) parts ++ tail)
 some_begins comps tiles before at [] tail some are = absurd (omega arith)
 some_begins comps tiles before at (p ∷ ps) tail some are = part_begins comps tiles before at p ps tail are
 
-sot_begins : (comps tiles : ℕ) (before : List Part) (at : ℕ) (parts : List TilePart) (sot : Sot) (tail : List ℕ) → AreNamed comps tiles before at parts → SotInRange sot
+sot_begins : (comps tiles : ℕ) (before : List PlacedPart) (at : ℕ) (parts : List TilePart) (sot : Sot) (tail : List ℕ) → AreNamed comps tiles before at parts → SotInRange sot
     → BeginsSot comps (flat_map (part_bytes comps) parts ++ (spelling comps (segment.Sot sot) ++ tail))
 sot_begins comps tiles before at [] sot tail are range = record { sot = sot; range = range; rest = tail; is = refl }
 sot_begins comps tiles before at (p ∷ ps) sot tail are range = part_begins comps tiles before at p ps (spelling comps (segment.Sot sot) ++ tail) are
@@ -411,7 +411,7 @@ in_24 comps tiles b main parts start f over h =
     none_before (main_fault comps b start) (option_or (parts_fault comps tiles b (main_header comps b start).end) last) over.main_clear
     ∙ none_before (parts_fault comps tiles b (main_header comps b start).end) last over.parts_clear
     ∙ ap (λ (n : ℕ). broken NO_PART n (lacks_part (parts_after comps tiles b start).parts tiles)) over.end
-    ∙ ap (λ (x : List Part). broken NO_PART (start + length (all_bytes comps main) + length (flat_map (part_bytes comps) parts)) (lacks_part x tiles)) over.all ∙ h
+    ∙ ap (λ (x : List PlacedPart). broken NO_PART (start + length (all_bytes comps main) + length (flat_map (part_bytes comps) parts)) (lacks_part x tiles)) over.all ∙ h
 
 told_24 : (b : List ℕ) (f : StreamFault) → IsAtEoc b f → first_fault b ≡ Some f
 told_24 b f x =

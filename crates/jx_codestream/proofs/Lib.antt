@@ -18,6 +18,8 @@ pub mod PlaneLemmas
 mod EntryLemmas
 pub mod RangeLemmas
 pub mod BareLemmas
+mod CodingLemmas
+mod NamedLemmas
 mod ViewLemmas
 pub mod KindLemmas
 mod BandLemmas

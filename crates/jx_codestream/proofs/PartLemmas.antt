@@ -18,7 +18,7 @@ use Rattle.jx_marker.specs.Segments.{segment_at, size_at}
 use Rattle.jx_codestream.specs.declared.faults.StreamFault.{StreamFault}
 use Rattle.jx_codestream.specs.declared.faults.StreamFault.TheVariants as fault
 use Rattle.jx_codestream.specs.declared.headers.Header.{Header}
-use Rattle.jx_codestream.specs.declared.parts.Part.{Part}
+use Rattle.jx_codestream.specs.declared.parts.PlacedPart.{PlacedPart}
 use Rattle.jx_codestream.specs.Faults.{broken, fault_of, IsCause}
 use Rattle.jx_codestream.specs.Headers.{header_at, header_fault}
 use Rattle.jx_codestream.specs.Parts.{marker_at, sot_in, after_sot, kind_of, parts_of, told_other, is_out_of_turn, comes_out_of_turn, tables_say, start_fault, sot_fault, sod_fault, has_wrong_length, end_of, part_header, part_at, part_fault, fault_after, end_of_part, parts_stop, Parts, longest_parts, parts_from, parts_fault, Tracks}
@@ -93,7 +93,7 @@ module _ (comps tiles : ℕ) (b : List ℕ) (out : Bool) (at : ℕ) where
 
 -- the tile-part that was read
 pub part_is : (comps : ℕ) (b : List ℕ) (at : ℕ) (sot : Sot) (header : Header) (end : ℕ) → sot ≡ sot_in b at → header ≡ part_header comps b at → end ≡ end_of b at sot
-    → ◌≡◌ {A = Part} (record { place = at; sot = sot; header = header.segments; body = record { at = header.end + 2; length = end - (header.end + 2) } }) (part_at comps b at)
+    → ◌≡◌ {A = PlacedPart} (record { place = at; sot = sot; header = header.segments; body = record { at = header.end + 2; length = end - (header.end + 2) } }) (part_at comps b at)
 unfolding part_at
 part_is comps b at sot header end is head stop = rw (stop, head, is) refl
 
@@ -131,7 +131,7 @@ part_rises comps tiles b out at h =
 
 -- the tables say what the tile-parts do
 
-module _ (comps : ℕ) (b : List ℕ) (parts : List Part) (counts told : List ℕ) (at : ℕ) (size : length told ≡ length counts) (tracks : Tracks parts counts told) where
+module _ (comps : ℕ) (b : List ℕ) (parts : List PlacedPart) (counts told : List ℕ) (at : ℕ) (size : length told ≡ length counts) (tracks : Tracks parts counts told) where
   tables_are_right : (sot : Sot) → sot.tile < length counts → tables_say counts told sot ≡ comes_out_of_turn parts sot
   tables_are_right sot inside =
       let inside_told : sot.tile < length told = omega arith in
@@ -150,42 +150,42 @@ module _ (comps : ℕ) (b : List ℕ) (parts : List Part) (counts told : List �
 
 -- where tile-parts stop and where they go on
 
-pub stop_at_eoc : (comps tiles : ℕ) (b : List ℕ) (parts : List Part) (at : ℕ) → marker_at b at EOC ≡ true → parts_stop comps tiles b parts at ≡ true
+pub stop_at_eoc : (comps tiles : ℕ) (b : List ℕ) (parts : List PlacedPart) (at : ℕ) → marker_at b at EOC ≡ true → parts_stop comps tiles b parts at ≡ true
 unfolding parts_stop
 stop_at_eoc comps tiles b parts at h = rw h refl
 
-pub stop_at_fault : (comps tiles : ℕ) (b : List ℕ) (parts : List Part) (at : ℕ) (e : StreamFault) → fault_after comps tiles b parts at ≡ Some e → parts_stop comps tiles b parts at ≡ true
+pub stop_at_fault : (comps tiles : ℕ) (b : List ℕ) (parts : List PlacedPart) (at : ℕ) (e : StreamFault) → fault_after comps tiles b parts at ≡ Some e → parts_stop comps tiles b parts at ≡ true
 unfolding parts_stop
 stop_at_fault comps tiles b parts at e h = rw h (or_right (marker_at b at EOC) true refl)
 
-pub go_on : (comps tiles : ℕ) (b : List ℕ) (parts : List Part) (at : ℕ) → marker_at b at EOC ≡ false → fault_after comps tiles b parts at ≡ None → parts_stop comps tiles b parts at ≡ false
+pub go_on : (comps tiles : ℕ) (b : List ℕ) (parts : List PlacedPart) (at : ℕ) → marker_at b at EOC ≡ false → fault_after comps tiles b parts at ≡ None → parts_stop comps tiles b parts at ≡ false
 unfolding parts_stop
 go_on comps tiles b parts at goes clear = rw (goes, clear) refl
 
-pub goes_clear : (comps tiles : ℕ) (b : List ℕ) (parts : List Part) (at : ℕ) → parts_stop comps tiles b parts at ≡ false → fault_after comps tiles b parts at ≡ None
+pub goes_clear : (comps tiles : ℕ) (b : List ℕ) (parts : List PlacedPart) (at : ℕ) → parts_stop comps tiles b parts at ≡ false → fault_after comps tiles b parts at ≡ None
 unfolding parts_stop
 goes_clear comps tiles b parts at h = none_is (fault_after comps tiles b parts at) ((or_parts (marker_at b at EOC) (is_some (fault_after comps tiles b parts at)) h).1)
 
 marker_past : (b : List ℕ) (at code : ℕ) → length b ≤ at → marker_at b at code ≡ false
 marker_past b at code h = rw (get_or_past b at 0 h) refl
 
-pub stop_past : (comps tiles : ℕ) (b : List ℕ) (parts : List Part) (at : ℕ) → length b ≤ at → parts_stop comps tiles b parts at ≡ true
+pub stop_past : (comps tiles : ℕ) (b : List ℕ) (parts : List PlacedPart) (at : ℕ) → length b ≤ at → parts_stop comps tiles b parts at ≡ true
 stop_past comps tiles b parts at h =
     stop_at_fault comps tiles b parts at (fault.Rule PART_END at)
     (part_start comps tiles b (comes_out_of_turn parts (sot_in b at)) at (fault.Rule PART_END at) (start_missing comps b at (marker_past b at SOT h) (marker_past b at EOC h)))
 
-pub parts_stopped : (comps tiles : ℕ) (b : List ℕ) (n : ℕ) (parts : List Part) (at : ℕ) → parts_stop comps tiles b parts at ≡ true
+pub parts_stopped : (comps tiles : ℕ) (b : List ℕ) (n : ℕ) (parts : List PlacedPart) (at : ℕ) → parts_stop comps tiles b parts at ≡ true
     → longest_parts comps tiles b n parts at ≡ record { parts = parts; end = at }
 unfolding longest_parts
 parts_stopped comps tiles b zero parts at h = refl
 parts_stopped comps tiles b (suc n) parts at h = rw h refl
 
-pub parts_going : (comps tiles : ℕ) (b : List ℕ) (n : ℕ) (parts : List Part) (at : ℕ) → parts_stop comps tiles b parts at ≡ false
+pub parts_going : (comps tiles : ℕ) (b : List ℕ) (n : ℕ) (parts : List PlacedPart) (at : ℕ) → parts_stop comps tiles b parts at ≡ false
     → longest_parts comps tiles b (suc n) parts at ≡ longest_parts comps tiles b n (parts ++ part_at comps b at ∷ []) (end_of_part (part_at comps b at))
 unfolding longest_parts
 parts_going comps tiles b n parts at h = rw h refl
 
-parts_same : (comps tiles : ℕ) (b : List ℕ) (n m : ℕ) (parts : List Part) (at : ℕ) → length b - at ≤ n → length b - at ≤ m
+parts_same : (comps tiles : ℕ) (b : List ℕ) (n m : ℕ) (parts : List PlacedPart) (at : ℕ) → length b - at ≤ n → length b - at ≤ m
     → longest_parts comps tiles b n parts at ≡ longest_parts comps tiles b m parts at
 parts_same comps tiles b zero m parts at leb-false other =
     let past : length b ≤ at = omega arith in
@@ -204,7 +204,7 @@ parts_same comps tiles b (suc n) (suc m) parts at leb-false other =
           ∙ sym (parts_going comps tiles b m parts at f)
     ]
 
-pub parts_on : (comps tiles : ℕ) (b : List ℕ) (parts : List Part) (at : ℕ) → at < length b → parts_stop comps tiles b parts at ≡ false
+pub parts_on : (comps tiles : ℕ) (b : List ℕ) (parts : List PlacedPart) (at : ℕ) → at < length b → parts_stop comps tiles b parts at ≡ false
     → longest_parts comps tiles b (length b) parts at ≡ longest_parts comps tiles b (length b) (parts ++ part_at comps b at ∷ []) (end_of_part (part_at comps b at))
 parts_on comps tiles b parts at inside goes =
     let rises : at < end_of_part (part_at comps b at) = part_rises comps tiles b (comes_out_of_turn parts (sot_in b at)) at (goes_clear comps tiles b parts at goes) in
@@ -218,7 +218,7 @@ parts_on comps tiles b parts at inside goes =
 
 -- how tile-parts are read, that were read up to a place
 
-module _ (comps tiles : ℕ) (b : List ℕ) (start : ℕ) (parts : List Part) (at : ℕ)
+module _ (comps tiles : ℕ) (b : List ℕ) (start : ℕ) (parts : List PlacedPart) (at : ℕ)
     (same : longest_parts comps tiles b (length b) parts at ≡ parts_from comps tiles b start) where
   ended : parts_stop comps tiles b parts at ≡ true → parts_from comps tiles b start ≡ record { parts = parts; end = at }
   ended h = sym same ∙ parts_stopped comps tiles b (length b) parts at h
@@ -242,23 +242,23 @@ module _ (comps tiles : ℕ) (b : List ℕ) (start : ℕ) (parts : List Part) (a
       fault_at_end (stop_at_fault comps tiles b parts at (fault.Limit number found) h) ∙ rw goes h
   parts_refused fault.NoMemory goes h = tt
 
-  pub parts_more : (items : List Part) (p : Part) (next : ℕ) → at < length b → marker_at b at EOC ≡ false → fault_after comps tiles b parts at ≡ None → p ≡ part_at comps b at
+  pub parts_more : (items : List PlacedPart) (p : PlacedPart) (next : ℕ) → at < length b → marker_at b at EOC ≡ false → fault_after comps tiles b parts at ≡ None → p ≡ part_at comps b at
       → items ≡ parts ++ p ∷ [] → next ≡ end_of_part p → longest_parts comps tiles b (length b) items next ≡ parts_from comps tiles b start
   parts_more items p next inside goes clear is all after =
       ap (λ (n : ℕ). longest_parts comps tiles b (length b) items n) (after ∙ ap end_of_part is)
-      ∙ ap (λ (x : List Part). longest_parts comps tiles b (length b) x (end_of_part (part_at comps b at))) (all ∙ ap (λ (x : Part). parts ++ x ∷ []) is)
+      ∙ ap (λ (x : List PlacedPart). longest_parts comps tiles b (length b) x (end_of_part (part_at comps b at))) (all ∙ ap (λ (x : PlacedPart). parts ++ x ∷ []) is)
       ∙ sym (parts_on comps tiles b parts at inside (go_on comps tiles b parts at goes clear)) ∙ same
 
 -- the tables after one tile-part more
 
-pub own_more : (tile : ℕ) (parts : List Part) (p : Part) → p.sot.tile ≡ tile → parts_of tile (parts ++ p ∷ []) ≡ parts_of tile parts ++ p ∷ []
-own_more tile parts p h = filter-append (λ (x : Part). x.sot.tile == tile) parts (p ∷ []) ∙ rw (eq-eqb p.sot.tile tile h) refl
+pub own_more : (tile : ℕ) (parts : List PlacedPart) (p : PlacedPart) → p.sot.tile ≡ tile → parts_of tile (parts ++ p ∷ []) ≡ parts_of tile parts ++ p ∷ []
+own_more tile parts p h = filter-append (λ (x : PlacedPart). x.sot.tile == tile) parts (p ∷ []) ∙ rw (eq-eqb p.sot.tile tile h) refl
 
-pub own_same : (tile : ℕ) (parts : List Part) (p : Part) → p.sot.tile ≢ tile → parts_of tile (parts ++ p ∷ []) ≡ parts_of tile parts
-own_same tile parts p h = filter-append (λ (x : Part). x.sot.tile == tile) parts (p ∷ []) ∙ rw (ne_eqb p.sot.tile tile h) (append-nil (parts_of tile parts))
+pub own_same : (tile : ℕ) (parts : List PlacedPart) (p : PlacedPart) → p.sot.tile ≢ tile → parts_of tile (parts ++ p ∷ []) ≡ parts_of tile parts
+own_same tile parts p h = filter-append (λ (x : PlacedPart). x.sot.tile == tile) parts (p ∷ []) ∙ rw (ne_eqb p.sot.tile tile h) (append-nil (parts_of tile parts))
 
-other_more : (number : ℕ) (own : List Part) (p : Part) → told_other number (own ++ p ∷ []) ≡ (told_other number own || (nat_lt 0 p.sot.parts && not (p.sot.parts == number)))
-other_more number own p = list_any-append (λ (x : Part). nat_lt 0 x.sot.parts && not (x.sot.parts == number)) own (p ∷ [])
+other_more : (number : ℕ) (own : List PlacedPart) (p : PlacedPart) → told_other number (own ++ p ∷ []) ≡ (told_other number own || (nat_lt 0 p.sot.parts && not (p.sot.parts == number)))
+other_more number own p = list_any-append (λ (x : PlacedPart). nat_lt 0 x.sot.parts && not (x.sot.parts == number)) own (p ∷ [])
     ∙ ap (λ (x : Bool). told_other number own || x) (or_false (nat_lt 0 p.sot.parts && not (p.sot.parts == number)))
 
 -- what a SOT in turn says
@@ -278,7 +278,7 @@ told_joins : (told parts number : ℕ) → 0 < parts → (nat_lt 0 told && not (
     → ((nat_lt 0 told && not (told == number)) || (nat_lt 0 parts && not (parts == number))) ≡ (nat_lt 0 parts && not (parts == number))
 told_joins told parts number some h = grind (arith, nat_tests)
 
-module _ (parts : List Part) (p : Part) (counts told : List ℕ) (inside : p.sot.tile < length counts) (size : length told ≡ length counts) (tracks : Tracks parts counts told)
+module _ (parts : List PlacedPart) (p : PlacedPart) (counts told : List ℕ) (inside : p.sot.tile < length counts) (size : length told ≡ length counts) (tracks : Tracks parts counts told)
     (turn : InTurn p.sot (length (parts_of p.sot.tile parts)) (told_other p.sot.parts (parts_of p.sot.tile parts))) where
   counted : (tile : ℕ) → tile < length (set counts p.sot.tile (p.sot.part + 1)) → get_or (set counts p.sot.tile (p.sot.part + 1)) tile 0 ≡ length (parts_of tile (parts ++ p ∷ []))
   counted tile within =
@@ -341,11 +341,11 @@ turn_of comps tiles b out at h =
     let three = none_first (option_or (broken NO_TILE at (nat_le tiles (sot_in b at).tile)) (broken PART_NUMBER at out)) (broken PART_LENGTH at (has_wrong_length b at (sot_in b at))) two in
     broken_none PART_NUMBER at out (none_later (broken NO_TILE at (nat_le tiles (sot_in b at).tile)) (broken PART_NUMBER at out) three)
 
-sot_of_part : (comps : ℕ) (b : List ℕ) (at : ℕ) (p : Part) → p ≡ part_at comps b at → p.sot ≡ sot_in b at
+sot_of_part : (comps : ℕ) (b : List ℕ) (at : ℕ) (p : PlacedPart) → p ≡ part_at comps b at → p.sot ≡ sot_in b at
 unfolding part_at
-sot_of_part comps b at p h = ap (λ (x : Part). x.sot) h
+sot_of_part comps b at p h = ap (λ (x : PlacedPart). x.sot) h
 
-pub tracks_more : (comps tiles : ℕ) (b : List ℕ) (parts items : List Part) (p : Part) (at : ℕ) (counts told after known : List ℕ) → fault_after comps tiles b parts at ≡ None
+pub tracks_more : (comps tiles : ℕ) (b : List ℕ) (parts items : List PlacedPart) (p : PlacedPart) (at : ℕ) (counts told after known : List ℕ) → fault_after comps tiles b parts at ≡ None
     → p ≡ part_at comps b at → p.sot.tile < length counts → length told ≡ length counts → items ≡ parts ++ p ∷ []
     → after ≡ set counts p.sot.tile (p.sot.part + 1) → known ≡ cond (nat_lt 0 p.sot.parts) (set told p.sot.tile p.sot.parts) told → Tracks parts counts told → Tracks items after known
 tracks_more comps tiles b parts items p at counts told after known clear is inside size all new new_known tracks =
@@ -354,7 +354,7 @@ tracks_more comps tiles b parts items p at counts told after known clear is insi
     let turn : InTurn p.sot (length (parts_of p.sot.tile parts)) (told_other p.sot.parts (parts_of p.sot.tile parts)) = in_turn p.sot (length (parts_of p.sot.tile parts)) (told_other p.sot.parts (parts_of p.sot.tile parts)) out in
     rw (all, new, new_known) (tracks_counted parts p counts told inside size tracks turn)
 
-pub turn_at : (comps tiles : ℕ) (b : List ℕ) (parts : List Part) (counts told : List ℕ) (at : ℕ) → length counts ≡ tiles → length told ≡ length counts → Tracks parts counts told
+pub turn_at : (comps tiles : ℕ) (b : List ℕ) (parts : List PlacedPart) (counts told : List ℕ) (at : ℕ) → length counts ≡ tiles → length told ≡ length counts → Tracks parts counts told
     → part_fault comps (length counts) b (tables_say counts told (sot_in b at)) at ≡ fault_after comps tiles b parts at
 turn_at comps tiles b parts counts told at count size tracks =
     turn_same comps b parts counts told at size tracks ∙ ap (λ (n : ℕ). fault_after comps n b parts at) count

@@ -8,7 +8,7 @@ use Rattle.jx_marker.specs.declared.Sot.{Sot}
 use Rattle.jx_marker.specs.Segments.{spelling}
 use Rattle.jx_marker.specs.Ranges.{SotInRange}
 use Rattle.jx_codestream.specs.declared.headers.Header.{Header}
-use Rattle.jx_codestream.specs.declared.parts.Part.{Part}
+use Rattle.jx_codestream.specs.declared.parts.PlacedPart.{PlacedPart}
 use Rattle.jx_codestream.specs.Headers.{stands_in, header_at, header_fault}
 use Rattle.jx_codestream.specs.Parts.{marker_at, sot_in, after_sot, kind_of, comes_out_of_turn, start_fault, sot_fault, sod_fault, end_of, part_header, part_at, fault_after, end_of_part, Parts, longest_parts}
 use Rattle.jx_codestream.specs.Spells.{TilePart, all_bytes, head_bytes, part_bytes, part_of, placed, HasLength, IsTilePart, AreTileParts}
@@ -70,13 +70,13 @@ pub ends_named : (comps : ℕ) (p : TilePart) (tail : List ℕ) → p.sot.psot �
 unfolding Ends
 ends_named comps p tail named = inl named
 
-pub record PartRead (comps tiles : ℕ) (b : List ℕ) (before : List Part) (at : ℕ) (p : TilePart) : Type 0 where
+pub record PartRead (comps tiles : ℕ) (b : List ℕ) (before : List PlacedPart) (at : ℕ) (p : TilePart) : Type 0 where
   pub goes : marker_at b at EOC ≡ false
   pub clear : fault_after comps tiles b before at ≡ None
   pub value : part_at comps b at ≡ part_of comps at p
   pub inside : at < length b
 
-module _ (comps tiles : ℕ) (b : List ℕ) (before : List Part) (at : ℕ) (p : TilePart) (tail : List ℕ) (is : IsTilePart comps tiles before p) (ends : Ends comps p tail)
+module _ (comps tiles : ℕ) (b : List ℕ) (before : List PlacedPart) (at : ℕ) (p : TilePart) (tail : List ℕ) (is : IsTilePart comps tiles before p) (ends : Ends comps p tail)
     (h : drop at b ≡ part_bytes comps p ++ tail) where
   front : drop at b ≡ spelling comps (segment.Sot p.sot) ++ (all_bytes comps p.header ++ (spelling comps segment.Sod ++ (p.body ++ tail)))
   front = h ∙ sym (regroup (spelling comps (segment.Sot p.sot)) (all_bytes comps p.header) (spelling comps segment.Sod) p.body tail)
@@ -170,7 +170,7 @@ module _ (comps tiles : ℕ) (b : List ℕ) (before : List Part) (at : ℕ) (p :
         inside = omega (arith, total, whole, after);
       }
 
-parts_same : (one other : List Part) (end place : ℕ) → one ≡ other → end ≡ place → ◌≡◌ {A = Parts} (record { parts = one; end = end }) (record { parts = other; end = place })
+parts_same : (one other : List PlacedPart) (end place : ℕ) → one ≡ other → end ≡ place → ◌≡◌ {A = Parts} (record { parts = one; end = end }) (record { parts = other; end = place })
 parts_same one other end place same ends = rw (same, ends) refl
 
 ends_of : (comps : ℕ) (p : TilePart) (ps : List TilePart) (rest : List ℕ) → HasLength comps p ps rest → Ends comps p (flat_map (part_bytes comps) ps ++ (0xFF ∷ EOC ∷ rest))
@@ -181,7 +181,7 @@ ends_of comps p ps rest has = elim has [
 ]
 
 -- tile-parts that are spelled, with EOC after them
-pub parts_read : (comps tiles : ℕ) (b : List ℕ) (ps : List TilePart) (before : List Part) (at : ℕ) (rest : List ℕ) → AreTileParts comps tiles rest before at ps
+pub parts_read : (comps tiles : ℕ) (b : List ℕ) (ps : List TilePart) (before : List PlacedPart) (at : ℕ) (rest : List ℕ) → AreTileParts comps tiles rest before at ps
     → drop at b ≡ flat_map (part_bytes comps) ps ++ (0xFF ∷ EOC ∷ rest)
     → longest_parts comps tiles b (length b) before at ≡ record { parts = before ++ placed comps at ps; end = at + length (flat_map (part_bytes comps) ps) }
 parts_read comps tiles b [] before at rest are h =
@@ -194,7 +194,7 @@ parts_read comps tiles b (p ∷ ps) before at rest are h =
     let end : end_of_part (part_at comps b at) ≡ at + length (part_bytes comps p) = ap end_of_part read.value ∙ omega (arith, length-append (head_bytes comps p) p.body) in
     parts_on comps tiles b before at read.inside (go_on comps tiles b before at read.goes read.clear)
     ∙ ap (λ (n : ℕ). longest_parts comps tiles b (length b) (before ++ part_at comps b at ∷ []) n) end
-    ∙ ap (λ (x : Part). longest_parts comps tiles b (length b) (before ++ x ∷ []) (at + length (part_bytes comps p))) read.value
+    ∙ ap (λ (x : PlacedPart). longest_parts comps tiles b (length b) (before ++ x ∷ []) (at + length (part_bytes comps p))) read.value
     ∙ parts_read comps tiles b ps (before ++ part_of comps at p ∷ []) (at + length (part_bytes comps p)) rest are.2 later
     ∙ parts_same ((before ++ part_of comps at p ∷ []) ++ placed comps (at + length (part_bytes comps p)) ps) (before ++ placed comps at (p ∷ ps))
     (at + length (part_bytes comps p) + length (flat_map (part_bytes comps) ps)) (at + length (flat_map (part_bytes comps) (p ∷ ps)))

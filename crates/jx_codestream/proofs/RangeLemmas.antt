@@ -17,7 +17,7 @@ use Rattle.jx_geom.specs.declared.shape.CompShape.{CompShape}
 use Rattle.jx_geom.specs.Ranges.{ShapeInRange, HasBand}
 use Rattle.jx_geom.specs.Geometry.{HasResolution, no_shape}
 use Rattle.jx_codestream.specs.declared.headers.HeaderKind.TheVariants.{Main}
-use Rattle.jx_codestream.specs.declared.parts.Part.{Part}
+use Rattle.jx_codestream.specs.declared.parts.PlacedPart.{PlacedPart}
 use Rattle.jx_codestream.specs.declared.Tile.{Tile}
 use Rattle.jx_codestream.specs.declared.Stream.{Stream}
 use Rattle.jx_codestream.specs.Headers.{has_slot}
@@ -45,7 +45,7 @@ pub shapes_at : (s : Stream) (t c : ℕ) (d : CompShape) → c < length s.siz.co
 unfolding shapes_in
 shapes_at s t c d inside = get_or-map-range_with_len (shape_in s t) 0 (length s.siz.comps) c c d inside (omega arith)
 
-pub tile_of_is : (main : List Segment) (parts : List Part) (t : ℕ) → tile_of main parts t ≡ tile_from main (parts_of t parts)
+pub tile_of_is : (main : List Segment) (parts : List PlacedPart) (t : ℕ) → tile_of main parts t ≡ tile_from main (parts_of t parts)
 unfolding tile_of
 tile_of_is main parts t = refl
 
@@ -61,7 +61,7 @@ planes_fit (Some x) None shift number quant shape q e inside h = absurd (cc)
 planes_fit (Some x) (Some y) shift number quant shape q e inside h = band_fits x y shift number inside h
 
 module _ (b : List ℕ) (s : Stream) (read : IsRead b s) where
-  abbrev parts : List Part
+  abbrev parts : List PlacedPart
   parts = placed (length s.siz.comps) (first_sot s.siz s.main) read.spelled.parts
 
   sized : SizFits s.siz
@@ -75,7 +75,7 @@ module _ (b : List ℕ) (s : Stream) (read : IsRead b s) where
 
   own_fit : (t : ℕ) → All (HasFitting (length s.siz.comps)) (parts_of t parts)
   own_fit t =
-      All-filter (λ (p : Part). p.sot.tile == t) (HasFitting (length s.siz.comps)) parts
+      All-filter (λ (p : PlacedPart). p.sot.tile == t) (HasFitting (length s.siz.comps)) parts
       (parts_fit (length s.siz.comps) (tile_number s.siz) read.spelled.rest [] (first_sot s.siz s.main) read.spelled.parts read.spelled.tile_parts)
 
   count_is : length s.tiles ≡ tile_number s.siz

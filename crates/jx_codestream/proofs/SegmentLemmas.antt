@@ -10,7 +10,7 @@ use Rattle.jx_marker.specs.declared.Quant.{Quant}
 use Rattle.jx_marker.specs.declared.Cod.{Cod}
 use Rattle.jx_marker.specs.Ranges.{InRange, ShapeInRange, CodInRange}
 use Rattle.jx_codestream.specs.declared.headers.HeaderKind.{HeaderKind}
-use Rattle.jx_codestream.specs.declared.parts.Part.{Part}
+use Rattle.jx_codestream.specs.declared.parts.PlacedPart.{PlacedPart}
 use Rattle.jx_codestream.specs.Headers.{slot_of, has_slot}
 use Rattle.jx_codestream.specs.Tiles.{in_slot, headers_of, first_header}
 use Rattle.jx_codestream.specs.Params.{shape_in, quant_in, cod_in, chosen}
@@ -24,21 +24,21 @@ pub segments_fit : (kind : HeaderKind) (comps : ℕ) (before segments : List Seg
 segments_fit kind comps before [] h = All-nil (InRange comps)
 segments_fit kind comps before (s ∷ ss) h = All-cons (InRange comps) s ss h.0.range (segments_fit kind comps (before ++ s ∷ []) ss h.1)
 
-abbrev pub HasFitting : ℕ → Part → Type 0
+abbrev pub HasFitting : ℕ → PlacedPart → Type 0
 HasFitting comps p = All (InRange comps) p.header
 
-pub parts_fit : (comps tiles : ℕ) (rest : List ℕ) (before : List Part) (at : ℕ) (parts : List TilePart) → AreTileParts comps tiles rest before at parts
+pub parts_fit : (comps tiles : ℕ) (rest : List ℕ) (before : List PlacedPart) (at : ℕ) (parts : List TilePart) → AreTileParts comps tiles rest before at parts
     → All (HasFitting comps) (placed comps at parts)
 parts_fit comps tiles rest before at [] h = All-nil (HasFitting comps)
 parts_fit comps tiles rest before at (p ∷ ps) h =
     All-cons (HasFitting comps) (part_of comps at p) (placed comps (at + length (part_bytes comps p)) ps) (segments_fit _ comps [] p.header h.0.header)
     (parts_fit comps tiles rest (before ++ part_of comps at p ∷ []) (at + length (part_bytes comps p)) ps h.2)
 
-pub first_fits : (comps : ℕ) (own : List Part) → All (HasFitting comps) own → All (InRange comps) (first_header own)
+pub first_fits : (comps : ℕ) (own : List PlacedPart) → All (HasFitting comps) own → All (InRange comps) (first_header own)
 first_fits comps [] h = All-nil (InRange comps)
 first_fits comps (p ∷ later) h = All-head (HasFitting comps) p later h
 
-pub headers_fit : (comps : ℕ) (own : List Part) → All (HasFitting comps) own → All (InRange comps) (headers_of own)
+pub headers_fit : (comps : ℕ) (own : List PlacedPart) → All (HasFitting comps) own → All (InRange comps) (headers_of own)
 headers_fit comps [] h = All-nil (InRange comps)
 headers_fit comps (p ∷ later) h =
     All-append (InRange comps) p.header (headers_of later) (All-head (HasFitting comps) p later h) (headers_fit comps later (All-tail (HasFitting comps) p later h))

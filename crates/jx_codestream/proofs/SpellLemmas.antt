@@ -20,7 +20,7 @@ use Rattle.jx_codestream.specs.declared.faults.StreamFault.{StreamFault}
 use Rattle.jx_codestream.specs.declared.headers.HeaderKind.{HeaderKind}
 use Rattle.jx_codestream.specs.declared.headers.HeaderKind.TheVariants.{First, Later}
 use Rattle.jx_codestream.specs.declared.headers.Header.{Header}
-use Rattle.jx_codestream.specs.declared.parts.Part.{Part}
+use Rattle.jx_codestream.specs.declared.parts.PlacedPart.{PlacedPart}
 use Rattle.jx_codestream.specs.Faults.{broken, rule_at}
 use Rattle.jx_codestream.specs.Headers.{stands_in, ends_header, is_second, early_fault, segment_fault, stops, longest, header_at, header_fault}
 use Rattle.jx_codestream.specs.Parts.{marker_at, sot_in, after_sot, kind_of, comes_out_of_turn, start_fault, sot_fault, sod_fault, has_wrong_length, end_of, part_header, body_of, part_at, part_fault, fault_after, end_of_part, parts_stop, Parts, longest_parts, parts_from, parts_fault}
@@ -237,7 +237,7 @@ sod_clear : (b : List ℕ) (at : ℕ) (sot : Sot) (sod : ℕ) → sod_fault b at
 sod_clear b at sot sod h = record { within = sod_within b at sot sod h; last = sod_last b at sot sod h }
 
 -- a tile-part that was walked over
-pub record PartWritten (comps tiles : ℕ) (b : List ℕ) (before : List Part) (at : ℕ) (part : Part) : Type 0 where
+pub record PartWritten (comps tiles : ℕ) (b : List ℕ) (before : List PlacedPart) (at : ℕ) (part : PlacedPart) : Type 0 where
   pub written : TilePart
   pub placed : part ≡ part_of comps at written
   pub spelled : drop at b ≡ part_bytes comps written ++ drop (end_of_part part) b
@@ -271,7 +271,7 @@ end_within b at sot h =
     ]
 
 pub same_part : (place : ℕ) (sot : Sot) (one other : List Segment) (from start count size : ℕ) → one ≡ other → from ≡ start → count ≡ size
-    → ◌≡◌ {A = Part} (record { place = place; sot = sot; header = one; body = record { at = from; length = count } }) (record { place = place; sot = sot; header = other; body = record { at = start; length = size } })
+    → ◌≡◌ {A = PlacedPart} (record { place = place; sot = sot; header = one; body = record { at = from; length = count } }) (record { place = place; sot = sot; header = other; body = record { at = start; length = size } })
 same_part place sot one other from start count size headers places sizes = rw (headers, places, sizes) refl
 
 pub regroup : (a b c d e : List ℕ) → a ++ (b ++ (c ++ (d ++ e))) ≡ ((a ++ (b ++ c)) ++ d) ++ e
@@ -315,7 +315,7 @@ module _ (comps : ℕ) (b : List ℕ) (at : ℕ) (sot : Sot) (header : Header) (
   part_size = omega (arith, head_size, data_size, length-append (head_bytes comps written_of) data_of, sizes.within)
 
   is_placed : (segments : List Segment) → segments ≡ new
-      → ◌≡◌ {A = Part} (record { place = at; sot = sot; header = segments; body = body_of b at sot header.end }) (part_of comps at written_of)
+      → ◌≡◌ {A = PlacedPart} (record { place = at; sot = sot; header = segments; body = body_of b at sot header.end }) (part_of comps at written_of)
   unfolding written_of
   is_placed segments same =
       same_part at sot segments new (header.end + 2) (at + length (head_bytes comps written_of)) (end_of b at sot - (header.end + 2)) (length data_of) same (sym head_size) (sym data_size)
@@ -338,7 +338,7 @@ module _ (comps : ℕ) (b : List ℕ) (at : ℕ) (sot : Sot) (header : Header) (
   unfolding written_of
   written_header = refl
 
-  is_part : (tiles : ℕ) (before : List Part) → SotInRange sot → AreSegments (kind_of sot) comps [] new → sot.tile < tiles → comes_out_of_turn before sot ≡ false
+  is_part : (tiles : ℕ) (before : List PlacedPart) → SotInRange sot → AreSegments (kind_of sot) comps [] new → sot.tile < tiles → comes_out_of_turn before sot ≡ false
       → IsTilePart comps tiles before written_of
   unfolding written_of
   is_part tiles before range header tile turn = record { range = range; header = header; tile = tile; turn = turn }
@@ -351,7 +351,7 @@ module _ (comps : ℕ) (b : List ℕ) (at : ℕ) (sot : Sot) (header : Header) (
       let end : end_of b at sot ≡ at + sot.psot = rw h refl in
       omega (arith, end, part_size)
 
-pub part_written : (comps tiles : ℕ) (b : List ℕ) (before : List Part) (at : ℕ) → AreBytes b → marker_at b at EOC ≡ false → fault_after comps tiles b before at ≡ None
+pub part_written : (comps tiles : ℕ) (b : List ℕ) (before : List PlacedPart) (at : ℕ) → AreBytes b → marker_at b at EOC ≡ false → fault_after comps tiles b before at ≡ None
     → PartWritten comps tiles b before at (part_at comps b at)
 part_written comps tiles b before at are goes none =
     let sot = sot_in b at in
@@ -390,18 +390,18 @@ part_written comps tiles b before at are goes none =
 
 -- tile-parts that were walked over
 
-pub record PartsWritten (comps tiles : ℕ) (b : List ℕ) (before : List Part) (at : ℕ) (res : Parts) : Type 0 where
+pub record PartsWritten (comps tiles : ℕ) (b : List ℕ) (before : List PlacedPart) (at : ℕ) (res : Parts) : Type 0 where
   pub new : List TilePart
   pub all : res.parts ≡ before ++ placed comps at new
   pub spelled : drop at b ≡ flat_map (part_bytes comps) new ++ drop res.end b
   pub are : (rest : List ℕ) → rest ≡ drop (res.end + 2) b → AreTileParts comps tiles rest before at new
   pub size : res.end ≡ at + length (flat_map (part_bytes comps) new)
 
-parts_none : (comps tiles : ℕ) (b : List ℕ) (before : List Part) (at : ℕ) → PartsWritten comps tiles b before at (record { parts = before; end = at })
+parts_none : (comps tiles : ℕ) (b : List ℕ) (before : List PlacedPart) (at : ℕ) → PartsWritten comps tiles b before at (record { parts = before; end = at })
 parts_none comps tiles b before at = record { new = []; all = sym (append-nil before); spelled = refl; are = λ rest same. tt; size = omega arith }
 
 -- one that names its length, and others after it
-parts_and : (comps tiles : ℕ) (b : List ℕ) (before : List Part) (at : ℕ) (res : Parts) (p : TilePart) → IsTilePart comps tiles before p → p.sot.psot ≡ length (part_bytes comps p)
+parts_and : (comps tiles : ℕ) (b : List ℕ) (before : List PlacedPart) (at : ℕ) (res : Parts) (p : TilePart) → IsTilePart comps tiles before p → p.sot.psot ≡ length (part_bytes comps p)
     → drop at b ≡ part_bytes comps p ++ drop (at + length (part_bytes comps p)) b
     → PartsWritten comps tiles b (before ++ part_of comps at p ∷ []) (at + length (part_bytes comps p)) res → PartsWritten comps tiles b before at res
 parts_and comps tiles b before at res p is named spelled later = record {
@@ -413,7 +413,7 @@ parts_and comps tiles b before at res p is named spelled later = record {
 }
 
 -- the last one, up to EOC at the end of the file
-parts_last : (comps tiles : ℕ) (b : List ℕ) (before : List Part) (at : ℕ) (p : TilePart) → IsTilePart comps tiles before p → p.sot.psot ≡ 0
+parts_last : (comps tiles : ℕ) (b : List ℕ) (before : List PlacedPart) (at : ℕ) (p : TilePart) → IsTilePart comps tiles before p → p.sot.psot ≡ 0
     → drop at b ≡ part_bytes comps p ++ drop (at + length (part_bytes comps p)) b → at + length (part_bytes comps p) ≡ length b - 2
     → PartsWritten comps tiles b before at (record { parts = before ++ part_of comps at p ∷ []; end = at + length (part_bytes comps p) })
 parts_last comps tiles b before at p is none spelled end = record {
@@ -424,11 +424,11 @@ parts_last comps tiles b before at p is none spelled end = record {
   size = ap (λ (x : List ℕ). at + length x) (sym (append-nil (part_bytes comps p)));
 }
 
-last_same : (before : List Part) (one other : Part) (end place : ℕ) → one ≡ other → end ≡ place
+last_same : (before : List PlacedPart) (one other : PlacedPart) (end place : ℕ) → one ≡ other → end ≡ place
     → ◌≡◌ {A = Parts} (record { parts = before ++ one ∷ []; end = end }) (record { parts = before ++ other ∷ []; end = place })
 last_same before one other end place same ends = rw (same, ends) refl
 
-parts_more_written : (comps tiles : ℕ) (b : List ℕ) (n : ℕ) (before : List Part) (at : ℕ) → AreBytes b → marker_at b at EOC ≡ false → fault_after comps tiles b before at ≡ None
+parts_more_written : (comps tiles : ℕ) (b : List ℕ) (n : ℕ) (before : List PlacedPart) (at : ℕ) → AreBytes b → marker_at b at EOC ≡ false → fault_after comps tiles b before at ≡ None
     → PartsWritten comps tiles b (before ++ part_at comps b at ∷ []) (end_of_part (part_at comps b at)) (longest_parts comps tiles b n (before ++ part_at comps b at ∷ []) (end_of_part (part_at comps b at)))
     → PartsWritten comps tiles b before at (longest_parts comps tiles b n (before ++ part_at comps b at ∷ []) (end_of_part (part_at comps b at)))
 parts_more_written comps tiles b n before at are goes none later =
@@ -438,7 +438,7 @@ parts_more_written comps tiles b n before at are goes none later =
     elim here.length [
       | inl named ↦
           let P : ℕ → Type 0 = λ m. PartsWritten comps tiles b (before ++ part_at comps b at ∷ []) m (longest_parts comps tiles b n (before ++ part_at comps b at ∷ []) (end_of_part (part_at comps b at))) in
-          let Q : Part → Type 0 = λ x. PartsWritten comps tiles b (before ++ x ∷ []) (at + length (part_bytes comps p)) (longest_parts comps tiles b n (before ++ part_at comps b at ∷ []) (end_of_part (part_at comps b at))) in
+          let Q : PlacedPart → Type 0 = λ x. PartsWritten comps tiles b (before ++ x ∷ []) (at + length (part_bytes comps p)) (longest_parts comps tiles b n (before ++ part_at comps b at ∷ []) (end_of_part (part_at comps b at))) in
           parts_and comps tiles b before at (longest_parts comps tiles b n (before ++ part_at comps b at ∷ []) (end_of_part (part_at comps b at))) p here.is named spelled (subst Q here.placed (subst P here.end later))
       | inr last ↦
           let eoc : marker_at b (end_of_part (part_at comps b at)) EOC ≡ true = ap (λ (m : ℕ). marker_at b m EOC) last.1 ∙ last.2 in
@@ -449,11 +449,11 @@ parts_more_written comps tiles b n before at are goes none later =
           subst R (sym same) (parts_last comps tiles b before at p here.is last.0 spelled (sym here.end ∙ last.1))
     ]
 
-pub goes_on_at : (comps tiles : ℕ) (b : List ℕ) (parts : List Part) (at : ℕ) → parts_stop comps tiles b parts at ≡ false → marker_at b at EOC ≡ false
+pub goes_on_at : (comps tiles : ℕ) (b : List ℕ) (parts : List PlacedPart) (at : ℕ) → parts_stop comps tiles b parts at ≡ false → marker_at b at EOC ≡ false
 unfolding parts_stop
 goes_on_at comps tiles b parts at h = (or_parts (marker_at b at EOC) (is_some (fault_after comps tiles b parts at)) h).0
 
-pub parts_written : (comps tiles : ℕ) (b : List ℕ) (n : ℕ) (before : List Part) (at : ℕ) → AreBytes b → PartsWritten comps tiles b before at (longest_parts comps tiles b n before at)
+pub parts_written : (comps tiles : ℕ) (b : List ℕ) (n : ℕ) (before : List PlacedPart) (at : ℕ) → AreBytes b → PartsWritten comps tiles b before at (longest_parts comps tiles b n before at)
 unfolding longest_parts
 parts_written comps tiles b zero before at are = parts_none comps tiles b before at
 parts_written comps tiles b (suc n) before at are =
@@ -465,7 +465,7 @@ parts_written comps tiles b (suc n) before at are =
           (parts_written comps tiles b n (before ++ part_at comps b at ∷ []) (end_of_part (part_at comps b at)) are))
     ]
 
-parts_end_there : (comps tiles : ℕ) (b : List ℕ) (n : ℕ) (before : List Part) (at : ℕ) → length b - at ≤ n
+parts_end_there : (comps tiles : ℕ) (b : List ℕ) (n : ℕ) (before : List PlacedPart) (at : ℕ) → length b - at ≤ n
     → parts_stop comps tiles b (longest_parts comps tiles b n before at).parts (longest_parts comps tiles b n before at).end ≡ true
 unfolding longest_parts
 parts_end_there comps tiles b zero before at h = stop_past comps tiles b before at (omega arith)
@@ -484,7 +484,7 @@ no_stop true e f none h = cc
 no_stop false None f none h = cc
 no_stop false (Some e) f none h = cc
 
-eoc_of_stop : (comps tiles : ℕ) (b : List ℕ) (parts : List Part) (at : ℕ) → parts_stop comps tiles b parts at ≡ true → cond (marker_at b at EOC) None (fault_after comps tiles b parts at) ≡ None → marker_at b at EOC ≡ true
+eoc_of_stop : (comps tiles : ℕ) (b : List ℕ) (parts : List PlacedPart) (at : ℕ) → parts_stop comps tiles b parts at ≡ true → cond (marker_at b at EOC) None (fault_after comps tiles b parts at) ≡ None → marker_at b at EOC ≡ true
 unfolding parts_stop
 eoc_of_stop comps tiles b parts at stop clear =
     elim (cases_Bool (marker_at b at EOC)) [

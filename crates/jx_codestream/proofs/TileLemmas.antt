@@ -4,7 +4,7 @@ use Rattle.std.proofs.lemmas.List.{get_or_append_left, length-append}
 use Rattle.std.proofs.Math.Seq.{get_or-append_seam}
 use Rattle.std.proofs.lemmas.List.FromFn.{fill_by_all}
 use Rattle.jx_marker.specs.declared.Segment.{Segment}
-use Rattle.jx_codestream.specs.declared.parts.Part.{Part}
+use Rattle.jx_codestream.specs.declared.parts.PlacedPart.{PlacedPart}
 use Rattle.jx_codestream.specs.declared.tiles.Draft.{Draft}
 use Rattle.jx_codestream.specs.declared.Tile.{Tile}
 use Rattle.jx_codestream.specs.Parts.{parts_of}
@@ -12,7 +12,7 @@ use Rattle.jx_codestream.specs.Tiles.{Collects, tile_from, tile_of, tiles_of}
 
 -- the tile is made of the draft
 abbrev pub Finishes : List Segment → Draft → Tile → Type 0
-Finishes main draft tile = (own : List Part) → Collects own draft → tile ≡ tile_from main own
+Finishes main draft tile = (own : List PlacedPart) → Collects own draft → tile ≡ tile_from main own
 
 before_or_last : (k n : ℕ) → k < n + 1 → (k < n) ⊎ (k ≡ n)
 before_or_last k n h = grind arith
@@ -32,9 +32,9 @@ empties_more drafts items draft all empty before k other inside =
     ]
 
 pub finishes_more : (main : List Segment) (drafts : List Draft) (tiles items : List Tile) (draft : Draft) (tile : Tile) → length tiles ≡ length drafts → items ≡ tiles ++ tile ∷ []
-    → ((k : ℕ) (other : Draft) (another : Tile) (own : List Part) → k < length drafts → Collects own (get_or drafts k other) → get_or tiles k another ≡ tile_from main own)
+    → ((k : ℕ) (other : Draft) (another : Tile) (own : List PlacedPart) → k < length drafts → Collects own (get_or drafts k other) → get_or tiles k another ≡ tile_from main own)
     → Finishes main draft tile
-    → (k : ℕ) (other : Draft) (another : Tile) (own : List Part) → k < length (drafts ++ draft ∷ []) → Collects own (get_or (drafts ++ draft ∷ []) k other) → get_or items k another ≡ tile_from main own
+    → (k : ℕ) (other : Draft) (another : Tile) (own : List PlacedPart) → k < length (drafts ++ draft ∷ []) → Collects own (get_or (drafts ++ draft ∷ []) k other) → get_or items k another ≡ tile_from main own
 finishes_more main drafts tiles items draft tile size all before now k other another own inside collects =
     let below : k < length drafts + 1 = omega (arith, length-append drafts (draft ∷ [])) in
     elim (before_or_last k (length drafts) below) [
@@ -48,14 +48,14 @@ finishes_more main drafts tiles items draft tile size all before now k other ano
           ap (λ (x : List Tile). get_or x k another) all ∙ ap (λ (n : ℕ). get_or (tiles ++ tile ∷ []) n another) (last ∙ sym size) ∙ get_or-append_seam tiles tile [] another ∙ now own same
     ]
 
-tile_of_is : (main : List Segment) (parts : List Part) (tile : ℕ) → tile_from main (parts_of tile parts) ≡ tile_of main parts tile
+tile_of_is : (main : List Segment) (parts : List PlacedPart) (tile : ℕ) → tile_from main (parts_of tile parts) ≡ tile_of main parts tile
 unfolding tile_of
 tile_of_is main parts tile = refl
 
 -- where the drafts have each its own tile-parts the tiles are those of the tile-parts
-pub tiles_are : (main : List Segment) (parts : List Part) (count : ℕ) (drafts : List Draft) (tiles : List Tile) → length drafts ≡ count → length tiles ≡ length drafts
+pub tiles_are : (main : List Segment) (parts : List PlacedPart) (count : ℕ) (drafts : List Draft) (tiles : List Tile) → length drafts ≡ count → length tiles ≡ length drafts
     → ((tile : ℕ) (other : Draft) → tile < count → Collects (parts_of tile parts) (get_or drafts tile other))
-    → ((k : ℕ) (other : Draft) (another : Tile) (own : List Part) → k < length drafts → Collects own (get_or drafts k other) → get_or tiles k another ≡ tile_from main own)
+    → ((k : ℕ) (other : Draft) (another : Tile) (own : List PlacedPart) → k < length drafts → Collects own (get_or drafts k other) → get_or tiles k another ≡ tile_from main own)
     → tiles ≡ tiles_of main parts count
 tiles_are main parts count [] tiles size same collected finished =
     let some : Tile = record { place = 0; header = []; notes = []; progressions = []; bodies = [] } in

@@ -12,7 +12,7 @@ use Rattle.jx_codestream.specs.declared.faults.StreamFault.{StreamFault}
 use Rattle.jx_codestream.specs.declared.faults.StreamFault.TheVariants as fault
 use Rattle.jx_codestream.specs.declared.headers.HeaderKind.TheVariants.{Main}
 use Rattle.jx_codestream.specs.declared.headers.Header.{Header}
-use Rattle.jx_codestream.specs.declared.parts.Part.{Part}
+use Rattle.jx_codestream.specs.declared.parts.PlacedPart.{PlacedPart}
 use Rattle.jx_codestream.specs.declared.Stream.{Stream}
 use Rattle.jx_codestream.specs.declared.Tile.{Tile}
 use Rattle.jx_codestream.specs.Faults.{broken, IsCause, Answers}
@@ -38,7 +38,7 @@ record MainRead (comps : ℕ) (b : List ℕ) (main : List Segment) (start : ℕ)
   pub header : header_at Main comps b start ≡ record { segments = main; end = start + length (all_bytes comps main) }
   pub clear : header_fault Main comps b start ≡ None
 
-main_read : (comps tiles : ℕ) (b rest tail : List ℕ) (main : List Segment) (parts : List TilePart) (before : List Part) (at start : ℕ) → 0 < length parts → AreTileParts comps tiles rest before at parts
+main_read : (comps tiles : ℕ) (b rest tail : List ℕ) (main : List Segment) (parts : List TilePart) (before : List PlacedPart) (at start : ℕ) → 0 < length parts → AreTileParts comps tiles rest before at parts
     → AreSegments Main comps [] main → drop start b ≡ all_bytes comps main ++ (flat_map (part_bytes comps) parts ++ tail) → MainRead comps b main start
 main_read comps tiles b rest tail main [] before at start some are segments h = absurd (omega arith)
 main_read comps tiles b rest tail main (p ∷ ps) before at start some are segments h =
@@ -92,7 +92,7 @@ body_read comps tiles b main parts start over each =
     (option_or (parts_fault comps tiles b (main_header comps b start).end) (broken NO_PART (parts_after comps tiles b start).end (lacks_part (parts_after comps tiles b start).parts tiles)))
     over.main_clear
     (none_of_both (parts_fault comps tiles b (main_header comps b start).end) (broken NO_PART (parts_after comps tiles b start).end (lacks_part (parts_after comps tiles b start).parts tiles)) over.parts_clear
-    (broken_false NO_PART (parts_after comps tiles b start).end (lacks_part (parts_after comps tiles b start).parts tiles) (ap (λ (x : List Part). lacks_part x tiles) over.all ∙ each)))
+    (broken_false NO_PART (parts_after comps tiles b start).end (lacks_part (parts_after comps tiles b start).parts tiles) (ap (λ (x : List PlacedPart). lacks_part x tiles) over.all ∙ each)))
 
 -- the front
 pub record FrontRead (b : List ℕ) (siz : Siz) (later : List ℕ) : Type 0 where
@@ -133,7 +133,7 @@ pub first_is : (b : List ℕ) (siz : Siz) → front_fault b ≡ None → siz_of 
 unfolding first_fault
 first_is b siz clear same = ap (λ (x : Option StreamFault). option_or x (later_fault (siz_of b) b (after_siz b))) clear ∙ ap (λ (x : Siz). later_fault x b (after_siz b)) same
 
-pub stream_made : (siz : Siz) (b : List ℕ) (start : ℕ) (main : List Segment) (all : List Part) (tiles : List Tile) → (main_header (length siz.comps) b start).segments ≡ main
+pub stream_made : (siz : Siz) (b : List ℕ) (start : ℕ) (main : List Segment) (all : List PlacedPart) (tiles : List Tile) → (main_header (length siz.comps) b start).segments ≡ main
     → (parts_after (length siz.comps) (tile_number siz) b start).parts ≡ all → tiles ≡ tiles_of main all (tile_number siz) → stream_from siz b start ≡ record { siz = siz; main = main; tiles = tiles }
 unfolding stream_from
 stream_made siz b start main all tiles of parts made = rw (of, parts, made) refl

@@ -15,7 +15,7 @@ use Rattle.jx_marker.specs.RuleNumbers.{NO_DEFAULTS, NO_PART}
 use Rattle.jx_codestream.specs.declared.faults.StreamFault.{StreamFault}
 use Rattle.jx_codestream.specs.declared.faults.StreamFault.TheVariants as fault
 use Rattle.jx_codestream.specs.declared.headers.HeaderKind.TheVariants.{Main}
-use Rattle.jx_codestream.specs.declared.parts.Part.{Part}
+use Rattle.jx_codestream.specs.declared.parts.PlacedPart.{PlacedPart}
 use Rattle.jx_codestream.specs.declared.Stream.{Stream}
 use Rattle.jx_codestream.specs.Faults.{broken, IsCause, Answers}
 use Rattle.jx_codestream.specs.Headers.{stands_in_main, ends_header, segment_fault, header_fault}
@@ -41,17 +41,17 @@ either_some (Some e) y f h = inl h
 
 -- tile-parts that were walked over up to a place where no EOC stands
 
-record PartsNamed (comps tiles : ℕ) (b : List ℕ) (before : List Part) (at : ℕ) (res : Parts) : Type 0 where
+record PartsNamed (comps tiles : ℕ) (b : List ℕ) (before : List PlacedPart) (at : ℕ) (res : Parts) : Type 0 where
   pub new : List TilePart
   pub all : res.parts ≡ before ++ placed comps at new
   pub spelled : drop at b ≡ flat_map (part_bytes comps) new ++ drop res.end b
   pub are : AreNamed comps tiles before at new
   pub size : res.end ≡ at + length (flat_map (part_bytes comps) new)
 
-named_none : (comps tiles : ℕ) (b : List ℕ) (before : List Part) (at : ℕ) → PartsNamed comps tiles b before at (record { parts = before; end = at })
+named_none : (comps tiles : ℕ) (b : List ℕ) (before : List PlacedPart) (at : ℕ) → PartsNamed comps tiles b before at (record { parts = before; end = at })
 named_none comps tiles b before at = record { new = []; all = sym (append-nil before); spelled = refl; are = tt; size = omega arith }
 
-named_and : (comps tiles : ℕ) (b : List ℕ) (before : List Part) (at : ℕ) (res : Parts) (p : TilePart) → IsTilePart comps tiles before p → p.sot.psot ≡ length (part_bytes comps p)
+named_and : (comps tiles : ℕ) (b : List ℕ) (before : List PlacedPart) (at : ℕ) (res : Parts) (p : TilePart) → IsTilePart comps tiles before p → p.sot.psot ≡ length (part_bytes comps p)
     → drop at b ≡ part_bytes comps p ++ drop (at + length (part_bytes comps p)) b
     → PartsNamed comps tiles b (before ++ part_of comps at p ∷ []) (at + length (part_bytes comps p)) res → PartsNamed comps tiles b before at res
 named_and comps tiles b before at res p is names spelled later = record {
@@ -62,7 +62,7 @@ named_and comps tiles b before at res p is names spelled later = record {
   size = later.size ∙ omega (arith, length-append (part_bytes comps p) (flat_map (part_bytes comps) later.new));
 }
 
-named_more : (comps tiles : ℕ) (b : List ℕ) (n : ℕ) (before : List Part) (at : ℕ) → AreBytes b → marker_at b at EOC ≡ false → fault_after comps tiles b before at ≡ None
+named_more : (comps tiles : ℕ) (b : List ℕ) (n : ℕ) (before : List PlacedPart) (at : ℕ) → AreBytes b → marker_at b at EOC ≡ false → fault_after comps tiles b before at ≡ None
     → (marker_at b (longest_parts comps tiles b n (before ++ part_at comps b at ∷ []) (end_of_part (part_at comps b at))).end EOC ≡ false
     → PartsNamed comps tiles b (before ++ part_at comps b at ∷ []) (end_of_part (part_at comps b at)) (longest_parts comps tiles b n (before ++ part_at comps b at ∷ []) (end_of_part (part_at comps b at))))
     → marker_at b (longest_parts comps tiles b n (before ++ part_at comps b at ∷ []) (end_of_part (part_at comps b at))).end EOC ≡ false
@@ -76,7 +76,7 @@ named_more comps tiles b n before at are goes none later lacks =
     elim here.length [
       | inl names ↦
           let P : ℕ → Type 0 = λ m. PartsNamed comps tiles b (before ++ part_at comps b at ∷ []) m res in
-          let Q : Part → Type 0 = λ x. PartsNamed comps tiles b (before ++ x ∷ []) (at + length (part_bytes comps p)) res in
+          let Q : PlacedPart → Type 0 = λ x. PartsNamed comps tiles b (before ++ x ∷ []) (at + length (part_bytes comps p)) res in
           named_and comps tiles b before at res p here.is names spelled (subst Q here.placed (subst P here.end (later lacks)))
       | inr last ↦
           let eoc : marker_at b next EOC ≡ true = ap (λ (m : ℕ). marker_at b m EOC) last.1 ∙ last.2 in
@@ -85,7 +85,7 @@ named_more comps tiles b n before at are goes none later lacks =
           absurd (cc)
     ]
 
-parts_named : (comps tiles : ℕ) (b : List ℕ) (n : ℕ) (before : List Part) (at : ℕ) → AreBytes b → marker_at b (longest_parts comps tiles b n before at).end EOC ≡ false
+parts_named : (comps tiles : ℕ) (b : List ℕ) (n : ℕ) (before : List PlacedPart) (at : ℕ) → AreBytes b → marker_at b (longest_parts comps tiles b n before at).end EOC ≡ false
     → PartsNamed comps tiles b before at (longest_parts comps tiles b n before at)
 unfolding longest_parts
 parts_named comps tiles b zero before at are = λ lacks. named_none comps tiles b before at
@@ -382,7 +382,7 @@ parts_told b f are m defaults h =
     let here = cond_some (marker_at b res.end EOC) (fault_after comps tiles b res.parts res.end) f h in
     let up = up_to b are m defaults here.0 in
     after_told b siz main up.parts f are up.up
-    (ap (λ (x : List Part). fault_after comps tiles b x (length (front_bytes siz main up.parts))) (sym up.all) ∙ ap (λ (n : ℕ). fault_after comps tiles b res.parts n) (sym up.end) ∙ here.1)
+    (ap (λ (x : List PlacedPart). fault_after comps tiles b x (length (front_bytes siz main up.parts))) (sym up.all) ∙ ap (λ (n : ℕ). fault_after comps tiles b res.parts n) (sym up.end) ∙ here.1)
 
 main_told : (b : List ℕ) (f : StreamFault) → SizInRange (siz_of b) → tiles_fault (siz_of b) ≡ None → MainSpelled b → header_fault Main (length (siz_of b).comps) b (after_siz b) ≡ Some f → IsInMain b f
 main_told b f range few m h =
@@ -449,7 +449,7 @@ eoc_told b f siz main res w h =
       rest = w.rest;
       whole = w.whole;
       first = ap (λ (n : ℕ). broken NO_PART n (lacks_part (placed comps (first_sot siz main) w.parts) tiles)) (front_size siz main w.parts ∙ sym w.end)
-          ∙ ap (λ (x : List Part). broken NO_PART res.end (lacks_part x tiles)) (sym w.all) ∙ h;
+          ∙ ap (λ (x : List PlacedPart). broken NO_PART res.end (lacks_part x tiles)) (sym w.all) ∙ h;
     }
 
 body_told : (b : List ℕ) (f : StreamFault) → AreBytes b → FrontClear b → tiles_fault (siz_of b) ≡ None → body_fault (length (siz_of b).comps) (tile_number (siz_of b)) b (after_siz b) ≡ Some f → IsFirst b f
@@ -485,8 +485,8 @@ short_told b f siz main res w each h =
       parts = w.parts;
       rest = w.rest;
       whole = w.whole;
-      each = ap (λ (x : List Part). lacks_part x tiles) (sym w.all) ∙ each;
-      first = ap (λ (x : List Part). entries_fault main comps (tiles_of main x tiles)) (sym w.all) ∙ h;
+      each = ap (λ (x : List PlacedPart). lacks_part x tiles) (sym w.all) ∙ each;
+      first = ap (λ (x : List PlacedPart). entries_fault main comps (tiles_of main x tiles)) (sym w.all) ∙ h;
     }
 
 after_eoc_told : (b : List ℕ) (f : StreamFault) → AreBytes b → FrontClear b → tiles_fault (siz_of b) ≡ None → body_fault (length (siz_of b).comps) (tile_number (siz_of b)) b (after_siz b) ≡ None

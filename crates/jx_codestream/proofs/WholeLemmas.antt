@@ -13,7 +13,7 @@ use Rattle.jx_marker.specs.Ranges.{AreBytes, SizInRange}
 use Rattle.jx_marker.specs.Laws.{BeginsWith}
 use Rattle.jx_marker.specs.RuleNumbers.{NO_DEFAULTS, NO_PART, NO_SIZ, NO_SOC}
 use Rattle.jx_codestream.specs.declared.headers.HeaderKind.TheVariants.{Main}
-use Rattle.jx_codestream.specs.declared.parts.Part.{Part}
+use Rattle.jx_codestream.specs.declared.parts.PlacedPart.{PlacedPart}
 use Rattle.jx_codestream.specs.declared.Stream.{Stream}
 use Rattle.jx_codestream.specs.declared.Tile.{Tile}
 use Rattle.jx_codestream.specs.Faults.{broken, rule_at}
@@ -195,8 +195,8 @@ spells_made b siz main res w each entries = record {
   defaults = w.whole.defaults;
   some = w.whole.some;
   tile_parts = w.whole.each;
-  each = ap (λ (x : List Part). lacks_part x (tile_number siz)) (sym w.all) ∙ each;
-  tiles = ap (λ (x : List Part). tiles_of main x (tile_number siz)) w.all;
+  each = ap (λ (x : List PlacedPart). lacks_part x (tile_number siz)) (sym w.all) ∙ each;
+  tiles = ap (λ (x : List PlacedPart). tiles_of main x (tile_number siz)) w.all;
   entries = entries;
 }
 

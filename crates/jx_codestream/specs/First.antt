@@ -17,7 +17,7 @@ use Rattle.jx_codestream.specs.declared.faults.StreamFault.{StreamFault}
 use Rattle.jx_codestream.specs.declared.faults.StreamFault.TheVariants as fault
 use Rattle.jx_codestream.specs.declared.headers.HeaderKind.TheVariants.{Main}
 use Rattle.jx_codestream.specs.declared.headers.Header.{Header}
-use Rattle.jx_codestream.specs.declared.parts.Part.{Part}
+use Rattle.jx_codestream.specs.declared.parts.PlacedPart.{PlacedPart}
 use Rattle.jx_codestream.specs.declared.Stream.{Stream}
 use Rattle.jx_codestream.specs.Faults.{broken, rule_at}
 use Rattle.jx_codestream.specs.Headers.{cod_slot, header_at, header_fault, has_slot, qcd_slot}
@@ -64,7 +64,7 @@ abbrev pub parts_after : ℕ → ℕ → List ℕ → ℕ → Parts
 parts_after comps tiles b start = parts_from comps tiles b (main_header comps b start).end
 
 -- rule 24: a tile without a tile-part
-abbrev pub lacks_part : List Part → ℕ → Bool
+abbrev pub lacks_part : List PlacedPart → ℕ → Bool
 lacks_part parts tiles = list_any (λ (tile : ℕ). length (parts_of tile parts) == 0) (range_with_len 0 tiles)
 
 -- what is violated up to EOC, and there: rule 24

@@ -12,7 +12,7 @@ use Rattle.jx_marker.specs.Ranges.{SizInRange, SotInRange}
 use Rattle.jx_marker.specs.RuleNumbers.{NO_DEFAULTS, NO_PART}
 use Rattle.jx_codestream.specs.declared.faults.StreamFault.{StreamFault}
 use Rattle.jx_codestream.specs.declared.headers.HeaderKind.TheVariants.{Main}
-use Rattle.jx_codestream.specs.declared.parts.Part.{Part}
+use Rattle.jx_codestream.specs.declared.parts.PlacedPart.{PlacedPart}
 use Rattle.jx_codestream.specs.declared.Stream.{Stream}
 use Rattle.jx_codestream.specs.Faults.{broken}
 use Rattle.jx_codestream.specs.Headers.{segment_fault}
@@ -51,7 +51,7 @@ pub record IsMain (siz : Siz) (main : List Segment) : Type 0 where
   pub segments : AreSegments Main (length siz.comps) [] main
 
 -- tile-parts from a place on, after others; each names its length, since after Psot 0 nothing but EOC stands
-abbrev pub AreNamed : ℕ → ℕ → List Part → ℕ → List TilePart → Type 0
+abbrev pub AreNamed : ℕ → ℕ → List PlacedPart → ℕ → List TilePart → Type 0
 AreNamed comps tiles before at [] = Unit {0}
 AreNamed comps tiles before at (p ∷ ps) = IsTilePart comps tiles before p × (p.sot.psot ≡ length (part_bytes comps p))
     × AreNamed comps tiles (before ++ part_of comps at p ∷ []) (at + length (part_bytes comps p)) ps

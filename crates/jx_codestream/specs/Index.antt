@@ -1,7 +1,8 @@
 -- A header's segments by their slots.
-use Rattle.std.specs.Prelude.{◌≡◌, ◌<◌, ℕ, ◌-◌, ◌==◌, ◌||◌, nat_lt, Bool, true, List, length, Option, None, Some, if◌then◌else◌, slice_index, Vec}
+use Rattle.std.specs.Prelude.{◌≡◌, ◌<◌, ℕ, ◌-◌, ◌==◌, ◌||◌, nat_lt, Bool, true, false, List, length, Option, None, Some, if◌then◌else◌, slice_index, Vec}
 use Rattle.std.specs.List.{slice_get, list_any}
 use Rattle.jx_marker.specs.declared.Segment.{Segment}
+use Rattle.jx_marker.specs.declared.Segment.TheVariants as segment
 use Rattle.jx_codestream.specs.Headers.{cod_slot, crg_slot, qcd_slot, slot_of}
 use Rattle.jx_codestream.specs.Tiles.{in_slot}
 
@@ -25,6 +26,39 @@ gives slot = (slot == cod_slot) || ((slot == qcd_slot) || nat_lt crg_slot slot)
 -- some segment gives parameters
 abbrev pub has_giving : List Segment → Bool
 has_giving segments = list_any (λ (s : Segment). gives (slot_of s)) segments
+
+-- a COD or a COC
+abbrev pub gives_shape : Segment → Bool
+gives_shape (segment.Cod cod) = true
+gives_shape (segment.Coc comp shape) = true
+gives_shape _ = false
+
+abbrev pub has_shape : List Segment → Bool
+has_shape segments = list_any gives_shape segments
+
+-- the component of which a segment gives parameters
+abbrev pub comp_named : Segment → Option ℕ
+comp_named (segment.Coc comp shape) = Some comp
+comp_named (segment.Qcc comp quant) = Some comp
+comp_named (segment.Rgn comp shift) = Some comp
+comp_named _ = None
+
+abbrev pub is_comp : ℕ → Option ℕ → Bool
+is_comp comp None = false
+is_comp comp (Some named) = named == comp
+
+-- some segment gives parameters of this component
+abbrev pub has_named : ℕ → List Segment → Bool
+has_named comp segments = list_any (λ (s : Segment). is_comp comp (comp_named s)) segments
+
+-- a COD or a QCD
+abbrev pub is_default : Segment → Bool
+is_default (segment.Cod cod) = true
+is_default (segment.Qcd quant) = true
+is_default _ = false
+
+abbrev pub has_default : List Segment → Bool
+has_default segments = list_any is_default segments
 
 -- a bare header has no segment that gives parameters
 abbrev pub IsBare : List Segment → Type 0

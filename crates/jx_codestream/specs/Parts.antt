@@ -12,7 +12,7 @@ use Rattle.jx_codestream.specs.declared.faults.StreamFault.{StreamFault}
 use Rattle.jx_codestream.specs.declared.headers.HeaderKind.{HeaderKind}
 use Rattle.jx_codestream.specs.declared.headers.HeaderKind.TheVariants.{First, Later}
 use Rattle.jx_codestream.specs.declared.headers.Header.{Header}
-use Rattle.jx_codestream.specs.declared.parts.Part.{Part}
+use Rattle.jx_codestream.specs.declared.parts.PlacedPart.{PlacedPart}
 use Rattle.jx_codestream.specs.declared.Body.{Body}
 use Rattle.jx_codestream.specs.Faults.{broken, rule_at}
 use Rattle.jx_codestream.specs.Headers.{header_at, header_fault}
@@ -34,12 +34,12 @@ abbrev pub kind_of : Sot → HeaderKind
 kind_of sot = if sot.part == 0 then First else Later
 
 -- the tile-parts of a tile
-abbrev pub parts_of : ℕ → List Part → List Part
-parts_of tile parts = filter (λ (p : Part). p.sot.tile == tile) parts
+abbrev pub parts_of : ℕ → List PlacedPart → List PlacedPart
+parts_of tile parts = filter (λ (p : PlacedPart). p.sot.tile == tile) parts
 
 -- one of these told another number of tile-parts
-abbrev pub told_other : ℕ → List Part → Bool
-told_other number own = list_any (λ (p : Part). nat_lt 0 p.sot.parts && not (p.sot.parts == number)) own
+abbrev pub told_other : ℕ → List PlacedPart → Bool
+told_other number own = list_any (λ (p : PlacedPart). nat_lt 0 p.sot.parts && not (p.sot.parts == number)) own
 
 -- rule 21, where a tile has had so many tile-parts and another TNsot is told or not: TPsot is another number than
 -- that of the tile's tile-parts so far, or TNsot isn't 0 and is at most TPsot, or differs from one told before
@@ -47,7 +47,7 @@ abbrev pub is_out_of_turn : Sot → ℕ → Bool → Bool
 is_out_of_turn sot count other = not (sot.part == count) || (nat_lt 0 sot.parts && (nat_le sot.parts sot.part || other))
 
 -- the same after these tile-parts
-abbrev pub comes_out_of_turn : List Part → Sot → Bool
+abbrev pub comes_out_of_turn : List PlacedPart → Sot → Bool
 comes_out_of_turn parts sot = is_out_of_turn sot (length (parts_of sot.tile parts)) (told_other sot.parts (parts_of sot.tile parts))
 
 -- rule 22 at SOT: Psot is too short for SOT and SOD, or passes the file's end
@@ -86,7 +86,7 @@ abbrev pub body_of : List ℕ → ℕ → Sot → ℕ → Body
 body_of b at sot sod = record { at = sod + 2; length = end_of b at sot - (sod + 2) }
 
 -- the tile-part at a place
-unfoldable pub part_at : ℕ → List ℕ → ℕ → Part
+unfoldable pub part_at : ℕ → List ℕ → ℕ → PlacedPart
 part_at comps b at = record {
   place = at;
   sot = sot_in b at;
@@ -103,24 +103,24 @@ part_fault comps tiles b out at =
     (sod_fault b at (sot_in b at) (part_header comps b at).end)))
 
 -- the same after these tile-parts
-abbrev pub fault_after : ℕ → ℕ → List ℕ → List Part → ℕ → Option StreamFault
+abbrev pub fault_after : ℕ → ℕ → List ℕ → List PlacedPart → ℕ → Option StreamFault
 fault_after comps tiles b parts at = part_fault comps tiles b (comes_out_of_turn parts (sot_in b at)) at
 
 -- the first byte after a tile-part
-abbrev pub end_of_part : Part → ℕ
+abbrev pub end_of_part : PlacedPart → ℕ
 end_of_part p = p.body.at + p.body.length
 
 -- the tile-parts end at this place, with EOC or with a rule that is violated
-unfoldable pub parts_stop : ℕ → ℕ → List ℕ → List Part → ℕ → Bool
+unfoldable pub parts_stop : ℕ → ℕ → List ℕ → List PlacedPart → ℕ → Bool
 parts_stop comps tiles b parts at = marker_at b at EOC || is_some (fault_after comps tiles b parts at)
 
 -- tile-parts, and the place after them
 pub record Parts : Type 0 where
-  pub parts : List Part
+  pub parts : List PlacedPart
   pub end : ℕ
 
 -- these tile-parts and those that stand after them one after another, n at most, up to a place where they stop
-unfoldable pub longest_parts : ℕ → ℕ → List ℕ → ℕ → List Part → ℕ → Parts
+unfoldable pub longest_parts : ℕ → ℕ → List ℕ → ℕ → List PlacedPart → ℕ → Parts
 longest_parts comps tiles b zero before at = record { parts = before; end = at }
 longest_parts comps tiles b (suc n) before at =
     if parts_stop comps tiles b before at then record { parts = before; end = at }
@@ -137,6 +137,6 @@ parts_fault comps tiles b at =
     else fault_after comps tiles b (parts_from comps tiles b at).parts (parts_from comps tiles b at).end
 
 -- tables by tiles: how many tile-parts each had, and a TNsot that it told, or 0
-pub record Tracks (parts : List Part) (counts told : List ℕ) : Type 0 where
+pub record Tracks (parts : List PlacedPart) (counts told : List ℕ) : Type 0 where
   pub count : (tile : ℕ) → tile < length counts → slice_index counts tile ≡ length (parts_of tile parts)
   pub others : (tile number : ℕ) → tile < length told → told_other number (parts_of tile parts) ≡ (nat_lt 0 (slice_index told tile) && not (slice_index told tile == number))

@@ -9,7 +9,7 @@ use Rattle.jx_marker.specs.Segments.{spelling}
 use Rattle.jx_marker.specs.Ranges.{InRange, SizInRange, SotInRange}
 use Rattle.jx_codestream.specs.declared.headers.HeaderKind.{HeaderKind}
 use Rattle.jx_codestream.specs.declared.headers.HeaderKind.TheVariants.{Main}
-use Rattle.jx_codestream.specs.declared.parts.Part.{Part}
+use Rattle.jx_codestream.specs.declared.parts.PlacedPart.{PlacedPart}
 use Rattle.jx_codestream.specs.declared.Stream.{Stream}
 use Rattle.jx_codestream.specs.Headers.{stands_in, ends_header, is_second}
 use Rattle.jx_codestream.specs.Parts.{kind_of, comes_out_of_turn}
@@ -41,7 +41,7 @@ file_bytes siz main parts rest =
     ++ (spelling 1 segment.Eoc ++ rest))))
 
 -- a tile-part that begins at a place
-abbrev pub part_of : ℕ → ℕ → TilePart → Part
+abbrev pub part_of : ℕ → ℕ → TilePart → PlacedPart
 part_of comps at p = record {
   place = at;
   sot = p.sot;
@@ -50,7 +50,7 @@ part_of comps at p = record {
 }
 
 -- tile-parts one after another from a place on
-abbrev pub placed : ℕ → ℕ → List TilePart → List Part
+abbrev pub placed : ℕ → ℕ → List TilePart → List PlacedPart
 placed comps at [] = []
 placed comps at (p ∷ ps) = part_of comps at p ∷ placed comps (at + length (part_bytes comps p)) ps
 
@@ -74,7 +74,7 @@ abbrev pub HasLength : ℕ → TilePart → List TilePart → List ℕ → Type 
 HasLength comps p later rest = (p.sot.psot ≡ length (part_bytes comps p)) ⊎ ((p.sot.psot ≡ 0) × (later ≡ []) × (rest ≡ []))
 
 -- a tile-part after others
-pub record IsTilePart (comps tiles : ℕ) (before : List Part) (p : TilePart) : Type 0 where
+pub record IsTilePart (comps tiles : ℕ) (before : List PlacedPart) (p : TilePart) : Type 0 where
   pub range : SotInRange p.sot
   pub header : AreSegments (kind_of p.sot) comps [] p.header
   -- rule 20
@@ -83,7 +83,7 @@ pub record IsTilePart (comps tiles : ℕ) (before : List Part) (p : TilePart) : 
   pub turn : comes_out_of_turn before p.sot ≡ false
 
 -- tile-parts from a place on, after others
-abbrev pub AreTileParts : ℕ → ℕ → List ℕ → List Part → ℕ → List TilePart → Type 0
+abbrev pub AreTileParts : ℕ → ℕ → List ℕ → List PlacedPart → ℕ → List TilePart → Type 0
 AreTileParts comps tiles rest before at [] = Unit {0}
 AreTileParts comps tiles rest before at (p ∷ ps) = IsTilePart comps tiles before p × HasLength comps p ps rest
     × AreTileParts comps tiles rest (before ++ part_of comps at p ∷ []) (at + length (part_bytes comps p)) ps

@@ -4,7 +4,7 @@ use Rattle.std.specs.List.{filter, flat_map, range_with_len}
 use Rattle.jx_marker.specs.declared.Segment.{Segment}
 use Rattle.jx_marker.specs.declared.Progression.{Progression}
 use Rattle.jx_marker.specs.declared.Cod.{Cod}
-use Rattle.jx_codestream.specs.declared.parts.Part.{Part}
+use Rattle.jx_codestream.specs.declared.parts.PlacedPart.{PlacedPart}
 use Rattle.jx_codestream.specs.declared.Tile.{Tile}
 use Rattle.jx_codestream.specs.declared.tiles.Draft.{Draft}
 use Rattle.jx_codestream.specs.Headers.{cod_slot, slot_of}
@@ -37,14 +37,14 @@ entry_in (Some (segment.Cod cod)) = entry_of cod ∷ []
 entry_in _ = []
 
 -- all segments of some tile-parts' headers
-abbrev pub headers_of : List Part → List Segment
-headers_of own = flat_map (λ (p : Part). p.header) own
+abbrev pub headers_of : List PlacedPart → List Segment
+headers_of own = flat_map (λ (p : PlacedPart). p.header) own
 
-abbrev pub first_header : List Part → List Segment
+abbrev pub first_header : List PlacedPart → List Segment
 first_header [] = []
 first_header (p ∷ later) = p.header
 
-abbrev pub first_place : List Part → ℕ
+abbrev pub first_place : List PlacedPart → ℕ
 first_place [] = 0
 first_place (p ∷ later) = p.place
 
@@ -54,32 +54,32 @@ or_list [] second = second
 or_list (entry ∷ entries) second = entry ∷ entries
 
 -- the tile's own entries, entries_joined over its tile-parts, else the main header's, else the one of its COD, else of the main COD
-abbrev pub progressions_of : List Segment → List Part → List Progression
+abbrev pub progressions_of : List Segment → List PlacedPart → List Progression
 progressions_of main own =
     or_list (entries_joined (headers_of own)) (or_list (entries_joined main) (or_list (entry_in (in_slot cod_slot (first_header own))) (entry_in (in_slot cod_slot main))))
 
 -- the tile of these tile-parts
-abbrev pub tile_from : List Segment → List Part → Tile
+abbrev pub tile_from : List Segment → List PlacedPart → Tile
 tile_from main own = record {
   place = first_place own;
   header = first_header own;
   notes = filter is_com (headers_of (drop 1 own));
   progressions = progressions_of main own;
-  bodies = map (λ (p : Part). p.body) own;
+  bodies = map (λ (p : PlacedPart). p.body) own;
 }
 
 -- the tile of a number
-unfoldable pub tile_of : List Segment → List Part → ℕ → Tile
+unfoldable pub tile_of : List Segment → List PlacedPart → ℕ → Tile
 tile_of main parts tile = tile_from main (parts_of tile parts)
 
 -- the tiles by their numbers
-abbrev pub tiles_of : List Segment → List Part → ℕ → List Tile
+abbrev pub tiles_of : List Segment → List PlacedPart → ℕ → List Tile
 tiles_of main parts tiles = map (tile_of main parts) (range_with_len 0 tiles)
 
 -- a draft has what these tile-parts of its tile say
-pub record Collects (own : List Part) (draft : Draft) : Type 0 where
+pub record Collects (own : List PlacedPart) (draft : Draft) : Type 0 where
   pub place : draft.place ≡ first_place own
   pub header : draft.header.items ≡ first_header own
   pub notes : draft.notes.items ≡ filter is_com (headers_of (drop 1 own))
   pub entries : draft.entries.items ≡ entries_joined (headers_of own)
-  pub bodies : draft.bodies.items ≡ map (λ (p : Part). p.body) own
+  pub bodies : draft.bodies.items ≡ map (λ (p : PlacedPart). p.body) own

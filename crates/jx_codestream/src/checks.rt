@@ -1,11 +1,12 @@
 //! What is tested once all tile-parts were read. Tiles whose headers give no parameter are tested once for all.
 
-ghost use Rattle.std.specs.Prelude.{◌≡◌, ◌≤◌, ◌<◌, ◌+◌, ◌-◌, ◌*◌, ◌^◌, nat_lt, length, map, IfOk, ℕ, []};
+ghost use Rattle.std.specs.Prelude.{◌≡◌, ◌≤◌, ◌<◌, ◌+◌, ◌-◌, ◌*◌, ◌^◌, nat_lt, length, map, IfOk, ℕ, [], None, true, false};
 ghost use Rattle.std.specs.List.{find, flat_map, list_any, range_with_len};
 ghost use Rattle.jx_codestream.specs.Faults.{Answers};
+ghost use Rattle.jx_codestream.specs.Index.{has_named};
 ghost use Rattle.jx_codestream.specs.Params.{band_count, band_planes, entries_fault, has_too_few, header_has_too_few, header_planes, planes_fault, planes_of, quant_of, shape_of, shift_of};
 
-use crate::index::Index;
+use crate::index::{Index, comp_named, has_default};
 use crate::precedence::{quant_of, shape_of, shift_of};
 use crate::steps::planes_of;
 use crate::{StreamFault, Tile};
@@ -74,9 +75,37 @@ fn tile_over(tile: &Index, main: &Index, comps: u16) -> Option<u32>
     None
 }
 
+/// Whether a component of which some of these segments gives parameters has too few entries.
+fn names_short(tile: &Index, main: &Index, segments: &[Segment]) -> bool
+    ensures { result ≡ false → (comp : ℕ) → has_named comp segments.now ≡ true → has_too_few (quant_of tile.now.segments.now main.now.segments.now comp) (shape_of tile.now.segments.now main.now.segments.now comp) ≡ false }
+{
+    for segment in segments {
+        if let Some(comp) = comp_named(segment) {
+            if comp_has_too_few(tile, main, comp) {
+                return true;
+            }
+        }
+    }
+    false
+}
+
+/// Whether a component of which some of these segments gives parameters has a band with too many planes.
+fn names_over(tile: &Index, main: &Index, segments: &[Segment]) -> bool
+    ensures { result ≡ false → (comp : ℕ) → has_named comp segments.now ≡ true → find (nat_lt 74) (band_planes (quant_of tile.now.segments.now main.now.segments.now comp) (shape_of tile.now.segments.now main.now.segments.now comp) (shift_of tile.now.segments.now main.now.segments.now comp)) ≡ None }
+{
+    for segment in segments {
+        if let Some(comp) = comp_named(segment) {
+            if comp_over(tile, main, comp).is_some() {
+                return true;
+            }
+        }
+    }
+    false
+}
+
 /// Whether some component of a tile with this header has too few entries. `bare` says it of a tile whose header gives
 /// no parameter.
-#[tactic(auto, using(crate::proofs::BareLemmas::bare_too_few))]
+#[tactic(auto, using(crate::proofs::BareLemmas::bare_too_few, crate::proofs::NamedLemmas::named_too_few))]
 fn is_short(
     alloc: Global,
     main: &Index,
@@ -90,6 +119,9 @@ fn is_short(
     let own = Index::new(alloc, header, comps)?;
     if own.bare {
         return Ok(bare);
+    }
+    if !bare && !has_default(header) && !names_short(&own, main, header) {
+        return Ok(false);
     }
     Ok(has_too_few(&own, main, comps))
 }
@@ -132,6 +164,9 @@ fn over_of(
     let own = Index::new(alloc, header, comps)?;
     if own.bare {
         return Ok(bare_over);
+    }
+    if bare_over.is_none() && !has_default(header) && !names_over(&own, main, header) {
+        return Ok(None);
     }
     Ok(tile_over(&own, main, comps))
 }

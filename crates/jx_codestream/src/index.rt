@@ -2,7 +2,7 @@
 
 ghost use Rattle.std.specs.Prelude.{◌≡◌, ◌≤◌, ◌<◌, ◌+◌, ◌*◌, ◌^◌, ◌==◌, ◌&&◌, nat_lt, slice_set, if◌then◌else◌, length, IfOk, MatchOption, Some, None, ℕ, slice_index, true, []};
 ghost use Rattle.jx_codestream.specs.Headers.{slot_count};
-ghost use Rattle.jx_codestream.specs.Index.{Indexes, IsBare, gives, has_giving, held_or};
+ghost use Rattle.jx_codestream.specs.Index.{Indexes, IsBare, comp_named, gives, has_default, has_giving, has_shape, held_or};
 ghost use Rattle.jx_codestream.specs.Tiles.{in_slot};
 
 use crate::headers::slot_of;
@@ -10,6 +10,9 @@ use crate::slots;
 use crate::tiles::in_slot;
 use jx_marker::Segment;
 use std::alloc::{AllocError, Global};
+
+/// So many segments are looked through in less time than a table of all slots is made.
+const FEW: usize = 4;
 
 /// The first segment of each slot of a header that gives parameters: found by a table, or one after another where
 /// there is none.
@@ -35,7 +38,8 @@ impl<'a> Index<'a> {
         }
     }
 
-    /// A header's segments with a table, where one of them gives a parameter of a picture with so many components.
+    /// A header's segments with a table, where more than a few of them are there and one gives a parameter of a picture with so
+    /// many components.
     #[tactic(auto, using(crate::proofs::BareLemmas::none_gives))]
     pub fn new(alloc: Global, segments: &'a [Segment], comps: u16) -> Result<Self, AllocError>
         requires { length segments.now < 2 ^ 63 }
@@ -45,6 +49,13 @@ impl<'a> Index<'a> {
             return Ok(Index {
                 segments,
                 bare: true,
+                table: None,
+            });
+        }
+        if segments.len() <= FEW {
+            return Ok(Index {
+                segments,
+                bare: false,
                 table: None,
             });
         }
@@ -91,6 +102,42 @@ fn gives(slot: usize) -> bool
     ensures { result ≡ gives slot }
 {
     slot == slots::COD || slot == slots::QCD || slot > slots::CRG
+}
+
+/// The component of which a segment gives parameters.
+pub fn comp_named(segment: &Segment) -> Option<u16>
+    ensures { result ≡ comp_named segment.now }
+{
+    match segment {
+        Segment::Coc { comp, .. } => Some(*comp),
+        Segment::Qcc { comp, .. } => Some(*comp),
+        Segment::Rgn { comp, .. } => Some(*comp),
+        _ => None,
+    }
+}
+
+/// Whether a header has a COD or a QCD.
+pub fn has_default(segments: &[Segment]) -> bool
+    ensures { result ≡ has_default segments.now }
+{
+    for segment in segments {
+        if matches!(segment, Segment::Cod(_) | Segment::Qcd(_)) {
+            return true;
+        }
+    }
+    false
+}
+
+/// Whether a header has a COD or a COC.
+pub fn has_shape(segments: &[Segment]) -> bool
+    ensures { result ≡ has_shape segments.now }
+{
+    for segment in segments {
+        if matches!(segment, Segment::Cod(_) | Segment::Coc { .. }) {
+            return true;
+        }
+    }
+    false
 }
 
 /// Whether a segment of the header gives parameters.

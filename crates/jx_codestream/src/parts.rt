@@ -6,7 +6,7 @@ ghost use Rattle.jx_marker.specs.declared.Sot.{Sot};
 ghost use Rattle.jx_marker.specs.Codes.{EOC};
 ghost use Rattle.jx_marker.specs.Segments.{segment_at};
 ghost use Rattle.std.specs.List.{All};
-ghost use Rattle.jx_codestream.specs.declared.parts.Part.{Part};
+ghost use Rattle.jx_codestream.specs.declared.parts.PlacedPart.{PlacedPart};
 ghost use Rattle.jx_codestream.specs.Faults.{Answers};
 ghost use Rattle.jx_codestream.specs.Headers.{slot_count, MarksSlots};
 ghost use Rattle.jx_codestream.specs.Parts.{marker_at, sot_in, after_sot, kind_of, start_fault, sot_fault, sod_fault, is_out_of_turn, has_wrong_length, end_of, part_at, part_fault, tables_say, parts_fault, parts_from, end_of_part, Tracks};
@@ -17,9 +17,9 @@ use jx_marker::codes::{EOC, SOT};
 use jx_marker::{Segment, Sot, read_segment, rule_numbers};
 use std::alloc::Global;
 
-/// One tile-part.
+/// One tile-part as it is read: its header taken apart, and where its data stand.
 #[derive(Drop)]
-pub struct Part {
+pub struct PlacedPart {
     /// The first byte of its SOT.
     pub place: u32,
     /// Its SOT.
@@ -162,7 +162,7 @@ fn read_part(
     seen: &mut [u32],
     counts: &[u16],
     told: &[u8],
-) -> Result<Part, StreamFault>
+) -> Result<PlacedPart, StreamFault>
     requires place { at ≤ length bytes.now }
     requires fits { length bytes.now ≤ 2 ^ 28 }
     requires goes_on { marker_at bytes.now at EOC ≡ false }
@@ -180,7 +180,7 @@ fn read_part(
     let header = read_header(alloc, bytes, next, kind_of(sot), comps, seen)?;
     let end = end_of(bytes, at, sot, header.end)?;
     let data = header.end + 2;
-    Ok(Part {
+    Ok(PlacedPart {
         place: at as u32,
         sot,
         header: header.segments,
@@ -205,7 +205,7 @@ fn count_part(sot: Sot, counts: &mut [u16], told: &mut [u8])
     }
 }
 
-fn end_of_part(part: &Part) -> usize
+fn end_of_part(part: &PlacedPart) -> usize
     ensures { result ≡ end_of_part part.now }
 {
     part.body.at as usize + part.body.length as usize
@@ -220,7 +220,7 @@ pub fn read_parts(
     seen: &mut [u32],
     counts: &mut [u16],
     told: &mut [u8],
-) -> Result<(Vec<Part>, usize), StreamFault>
+) -> Result<(Vec<PlacedPart>, usize), StreamFault>
     requires place { at ≤ length bytes.now }
     requires fits { length bytes.now ≤ 2 ^ 28 }
     requires slots { length seen.old ≡ slot_count comps }
@@ -230,7 +230,7 @@ pub fn read_parts(
     ensures answer { Answers result (parts_fault comps (length counts.old) bytes.now at)
         (λ r. (r.0.items ≡ (parts_from comps (length counts.old) bytes.now at).parts) × (r.1 ≡ (parts_from comps (length counts.old) bytes.now at).end)) }
     ensures tracks { IfOk result (λ r. Tracks r.0.items counts.new told.new) }
-    ensures tiles { IfOk result (λ r. All (λ (part : Part). part.sot.tile < length counts.old) r.0.items) }
+    ensures tiles { IfOk result (λ r. All (λ (part : PlacedPart). part.sot.tile < length counts.old) r.0.items) }
     ensures end { IfOk result (λ r. r.1 ≤ length bytes.now) }
 {
     let mut parts = Vec::new(alloc);

@@ -5,7 +5,7 @@ ghost use Rattle.std.specs.List.{All, list_any};
 ghost use Rattle.std.specs.Option.{option_or};
 ghost use Rattle.jx_marker.specs.Rules.{siz_fits};
 ghost use Rattle.jx_geom.specs.Ranges.{CanvasInRange};
-ghost use Rattle.jx_codestream.specs.declared.parts.Part.{Part};
+ghost use Rattle.jx_codestream.specs.declared.parts.PlacedPart.{PlacedPart};
 ghost use Rattle.jx_codestream.specs.declared.Stream.{Stream};
 ghost use Rattle.jx_codestream.specs.declared.faults.StreamFault.{StreamFault};
 ghost use Rattle.jx_codestream.specs.Faults.{Answers};
@@ -20,7 +20,7 @@ ghost use Rattle.jx_codestream.specs.First.{canvas_of, tile_number, siz_of, afte
 use crate::checks::{check_entries, check_planes};
 use crate::headers::{Header, HeaderKind, fault_of, read_header, violated};
 use crate::index::Index;
-use crate::parts::{Part, has_marker, read_parts};
+use crate::parts::{PlacedPart, has_marker, read_parts};
 use crate::tiles::tiles_of;
 use crate::view::comps_of;
 use crate::{Segments, Stream, StreamFault, Tile, Tiles, slots};
@@ -137,7 +137,7 @@ fn read_body(
     seen: &mut [u32],
     counts: &mut [u16],
     told: &mut [u8],
-) -> Result<(Header, Vec<Part>), StreamFault>
+) -> Result<(Header, Vec<PlacedPart>), StreamFault>
     requires place { start ≤ length bytes.now }
     requires some { 0 < start }
     requires fits { length bytes.now ≤ 2 ^ 28 }
@@ -148,7 +148,7 @@ fn read_body(
     requires told { (tile : ℕ) → slice_index told.old tile ≡ 0 }
     ensures answer { Answers result (body_fault comps (length counts.old) bytes.now start)
         (λ r. (r.0 ≡ main_header comps bytes.now start) × (r.1.items ≡ (parts_after comps (length counts.old) bytes.now start).parts)) }
-    ensures tiles { IfOk result (λ r. All (λ (part : Part). part.sot.tile < length counts.old) r.1.items) }
+    ensures tiles { IfOk result (λ r. All (λ (part : PlacedPart). part.sot.tile < length counts.old) r.1.items) }
 {
     let main = read_main(alloc, bytes, start, comps, seen)?;
     let (parts, eoc) = read_parts(alloc, bytes, main.end, comps, seen, counts, told)?;
@@ -165,13 +165,13 @@ fn read_headers(
     start: usize,
     comps: u16,
     count: usize,
-) -> Result<(Header, Vec<Part>), StreamFault>
+) -> Result<(Header, Vec<PlacedPart>), StreamFault>
     requires place { start ≤ length bytes.now }
     requires some { 0 < start }
     requires fits { length bytes.now ≤ 2 ^ 28 }
     ensures answer { Answers result (body_fault comps count bytes.now start)
         (λ r. (r.0 ≡ main_header comps bytes.now start) × (r.1.items ≡ (parts_after comps count bytes.now start).parts)) }
-    ensures tiles { IfOk result (λ r. All (λ (part : Part). part.sot.tile < count) r.1.items) }
+    ensures tiles { IfOk result (λ r. All (λ (part : PlacedPart). part.sot.tile < count) r.1.items) }
 {
     let mut seen = vec![in alloc; 0u32; slots::count(comps)]?;
     let mut counts = vec![in alloc; 0u16; count]?;

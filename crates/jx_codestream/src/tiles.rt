@@ -6,13 +6,13 @@ ghost use Rattle.std.specs.Option.{option_to_list};
 ghost use Rattle.std.specs.List.{All};
 ghost use Rattle.jx_marker.specs.declared.Segment.{Segment};
 ghost use Rattle.jx_codestream.specs.declared.tiles.Draft.{Draft};
-ghost use Rattle.jx_codestream.specs.declared.parts.Part.{Part};
+ghost use Rattle.jx_codestream.specs.declared.parts.PlacedPart.{PlacedPart};
 ghost use Rattle.jx_codestream.specs.Headers.{cod_slot, slot_of};
 ghost use Rattle.jx_codestream.specs.Tiles.{in_slot, entries_joined, is_com, entry_in, entries_of, or_list, tile_from, tiles_of, Collects};
 ghost use Rattle.jx_codestream.specs.Parts.{parts_of};
 
 use crate::headers::slot_of;
-use crate::parts::Part;
+use crate::parts::PlacedPart;
 use crate::{Bodies, Body, Entries, Segments, Tile, slots};
 use jx_marker::{Progression, Segment};
 use std::alloc::{AllocError, Global};
@@ -85,8 +85,8 @@ impl Draft {
     }
 
     /// Adds the tile's next tile-part.
-    fn add(&mut self, part: Part) -> Result<(), AllocError>
-        ensures { OnOk result ((own : List Part) → Collects own self.old → Collects (own ++ part ∷ []) self.new) }
+    fn add(&mut self, part: PlacedPart) -> Result<(), AllocError>
+        ensures { OnOk result ((own : List PlacedPart) → Collects own self.old → Collects (own ++ part ∷ []) self.new) }
     {
         push_entries(part.header.as_slice(), &mut self.entries)?;
         if self.bodies.is_empty() {
@@ -113,8 +113,12 @@ fn empty_drafts(alloc: Global, count: usize) -> Result<Vec<Draft>, AllocError>
 }
 
 /// The drafts of so many tiles, each with its tile-parts in their order.
-fn collect_parts(alloc: Global, parts: Vec<Part>, count: usize) -> Result<Vec<Draft>, AllocError>
-    requires { All (λ (part : Part). part.sot.tile < count) parts.items }
+fn collect_parts(
+    alloc: Global,
+    parts: Vec<PlacedPart>,
+    count: usize,
+) -> Result<Vec<Draft>, AllocError>
+    requires { All (λ (part : PlacedPart). part.sot.tile < count) parts.items }
     ensures count { IfOk result (λ drafts. length drafts.items ≡ count) }
     ensures each { IfOk result (λ drafts. (tile : ℕ) (other : Draft) → tile < count → Collects (parts_of tile parts.items) (slice_index_or drafts.items tile other)) }
 {
@@ -179,7 +183,7 @@ fn progressions(
 impl Draft {
     /// The tile, with the main header's entries and the one of the main COD.
     fn finish(self, alloc: Global, main: &Entries, default: &Entries) -> Result<Tile, AllocError>
-        ensures { IfOk result (λ tile. (own : List Part) (segments : List Segment) → Collects own self → main.now ≡ entries_joined segments
+        ensures { IfOk result (λ tile. (own : List PlacedPart) (segments : List Segment) → Collects own self → main.now ≡ entries_joined segments
             → default.now ≡ entry_in (in_slot cod_slot segments) → tile ≡ tile_from segments own) }
     {
         let Draft {
@@ -218,7 +222,7 @@ fn finish_all(
 ) -> Result<Vec<Tile>, AllocError>
     ensures count { IfOk result (λ tiles. length tiles.items ≡ length drafts.items) }
     ensures each { IfOk result (λ tiles. (segments : List Segment) → main.now ≡ entries_joined segments → default.now ≡ entry_in (in_slot cod_slot segments)
-        → (tile : ℕ) (other : Draft) (another : Tile) (own : List Part) → tile < length drafts.items
+        → (tile : ℕ) (other : Draft) (another : Tile) (own : List PlacedPart) → tile < length drafts.items
         → Collects own (slice_index_or drafts.items tile other) → slice_index_or tiles.items tile another ≡ tile_from segments own) }
 {
     let mut tiles = Vec::new(alloc);
@@ -235,7 +239,7 @@ fn finish_drafts(
     drafts: Vec<Draft>,
 ) -> Result<Vec<Tile>, AllocError>
     ensures count { IfOk result (λ tiles. length tiles.items ≡ length drafts.items) }
-    ensures each { IfOk result (λ tiles. (tile : ℕ) (other : Draft) (another : Tile) (own : List Part) → tile < length drafts.items
+    ensures each { IfOk result (λ tiles. (tile : ℕ) (other : Draft) (another : Tile) (own : List PlacedPart) → tile < length drafts.items
         → Collects own (slice_index_or drafts.items tile other) → slice_index_or tiles.items tile another ≡ tile_from main.now own) }
 {
     let entries = main_entries(alloc, main)?;
@@ -247,10 +251,10 @@ fn finish_drafts(
 pub fn tiles_of(
     alloc: Global,
     main: &[Segment],
-    parts: Vec<Part>,
+    parts: Vec<PlacedPart>,
     count: usize,
 ) -> Result<Vec<Tile>, AllocError>
-    requires { All (λ (part : Part). part.sot.tile < count) parts.items }
+    requires { All (λ (part : PlacedPart). part.sot.tile < count) parts.items }
     ensures { IfOk result (λ tiles. tiles.items ≡ tiles_of main.now parts.items count) }
 {
     let drafts = collect_parts(alloc, parts, count)?;

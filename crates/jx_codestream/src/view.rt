@@ -6,16 +6,16 @@ ghost use Rattle.jx_geom.specs.Ranges.{CanvasInRange, HasBand, ShapeInRange};
 ghost use Rattle.jx_codestream.specs.First.{canvas_of, tile_number};
 ghost use Rattle.jx_codestream.specs.InRange.{HeadersInRange, StreamInRange};
 ghost use Rattle.jx_codestream.specs.Params.{headers_at, params_by, params_in, planes_in, step_in};
-ghost use Rattle.jx_codestream.specs.Shapes.{comp_shape, layers_in, shapes_in, size_in, style_in};
+ghost use Rattle.jx_codestream.specs.Shapes.{comp_shape, layers_in, layers_of, shapes_in, size_in, style_in};
 ghost use Rattle.jx_codestream.specs.TileHeaders.{with_own};
 
 use crate::component::{params_by, planes_by, step_by};
-use crate::index::Index;
+use crate::index::{Index, has_shape};
 use crate::precedence::{cod_of, shape_of};
 use crate::reading::canvas_of;
 use crate::{Params, Stream};
 use jx_base::{Band, NoMemory, Style};
-use jx_geom::{Canvas, CompShape};
+use jx_geom::{Canvas, CompShape, Shapes};
 use jx_marker::{CompSize, Segment, Siz};
 use std::alloc::Global;
 use std::marker::Model;
@@ -25,7 +25,7 @@ use std::marker::Model;
 pub struct MainView<'a> {
     siz: &'a Siz,
     index: Index<'a>,
-    shapes: Vec<CompShape>,
+    shapes: Shapes,
 }
 
 impl<'a> Model for MainView<'a> {
@@ -37,23 +37,22 @@ impl<'a> Model for MainView<'a> {
 
     ghost view = { λ m. record { siz = m.siz.now; main = m.index.segments.now } };
 
-    ghost invariant = { λ m. (m.shapes.items ≡ shapes_in (record { siz = m.siz.now; main = m.index.segments.now; own = [] })) × (length m.siz.now.comps ≤ 16384) };
+    ghost invariant = { λ m. (m.shapes ≡ shapes_in (record { siz = m.siz.now; main = m.index.segments.now; own = [] })) × (length m.siz.now.comps ≤ 16384) };
 }
 
-/// What the headers say of a tile (ITU-T T.800, A.6). A tile whose header gives no parameter borrows the tables of the
-/// main header; one that gives some has its own.
+/// What the headers say of a tile (ITU-T T.800, A.6). A tile whose header has no COD and no COC shares the shapes of
+/// the main header; another one has its own.
 #[derive(Drop)]
 pub struct TileView<'a> {
     main: &'a MainView<'a>,
     own: Index<'a>,
-    shapes: Option<Vec<CompShape>>,
+    shapes: Shapes,
 }
 
 impl<'a> Model for TileView<'a> {
-    ghost use Rattle.std.specs.Prelude.{◌≡◌, []};
+    ghost use Rattle.std.specs.Prelude.{◌≡◌};
     ghost use Rattle.jx_codestream.specs.TileHeaders.{TileHeaders, with_own};
     ghost use Rattle.jx_codestream.specs.Shapes.{shapes_in};
-    ghost use Rattle.jx_codestream.specs.Index.{held_or};
     ghost use Rattle.jx_codestream.specs.InRange.{HeadersInRange};
 
     ghost Value = { TileHeaders };
@@ -61,7 +60,7 @@ impl<'a> Model for TileView<'a> {
     ghost view = { λ t. with_own t.main.now t.own.segments.now };
 
     ghost invariant = { λ t. HeadersInRange (with_own t.main.now t.own.segments.now)
-        × (held_or t.shapes (shapes_in (with_own t.main.now [])) ≡ shapes_in (with_own t.main.now t.own.segments.now)) };
+        × (t.shapes ≡ shapes_in (with_own t.main.now t.own.segments.now)) };
 }
 
 /// How many components a picture has, at most 16,384.
@@ -127,7 +126,7 @@ impl<'a> MainView<'a> {
         ensures { IfOk result (λ view. view ≡ record { siz = siz.entry.now; main = main.entry.now }) }
     {
         let index = Index::new(alloc, main, comps_of(siz))?;
-        let shapes = shapes_of(alloc, siz, &Index::listed(&[]), &index)?;
+        let shapes = Shapes::new(shapes_of(alloc, siz, &Index::listed(&[]), &index)?)?;
         Ok(MainView { siz, index, shapes })
     }
 
@@ -151,12 +150,24 @@ impl<'a> MainView<'a> {
         &self.index
     }
 
-    /// The shapes of a tile whose header gives no parameter.
-    fn shapes(&self) -> &[CompShape]
+    /// The shapes of a tile whose header has no COD and no COC.
+    fn shapes(&self) -> &Shapes
         ensures { result.now ≡ shapes_in (with_own self.now []) }
     {
         &self.shapes
     }
+}
+
+/// The shapes of a tile: those of the main header where its own has no COD and no COC.
+#[tactic(auto, using(crate::proofs::CodingLemmas::view_uncoded))]
+fn tile_shapes(alloc: Global, main: &MainView, own: &Index) -> Result<Shapes, NoMemory>
+    requires { length main.now.siz.comps ≤ 16384 }
+    ensures { IfOk result (λ shapes. shapes ≡ shapes_in (with_own main.now own.now.segments.now)) }
+{
+    if !has_shape(own.segments) {
+        return main.shapes().share();
+    }
+    Shapes::new(shapes_of(alloc, main.siz(), own, main.index())?)
 }
 
 impl<'a> TileView<'a> {
@@ -170,19 +181,8 @@ impl<'a> TileView<'a> {
         ensures { IfOk result (λ view. view ≡ with_own main.entry.now header.entry.now) }
     {
         let own = Index::new(alloc, header, main.comps())?;
-        if own.bare {
-            return Ok(TileView {
-                main,
-                own,
-                shapes: None,
-            });
-        }
-        let shapes = shapes_of(alloc, main.siz(), &own, main.index())?;
-        Ok(TileView {
-            main,
-            own,
-            shapes: Some(shapes),
-        })
+        let shapes = tile_shapes(alloc, main, &own)?;
+        Ok(TileView { main, own, shapes })
     }
 
     /// How many components there are, 1 to 16,384.
@@ -213,10 +213,15 @@ impl<'a> TileView<'a> {
         ensures value { result.now ≡ shapes_in self.now }
         ensures range { ShapesInRange result.now }
     {
-        match &self.shapes {
-            Some(shapes) => shapes.as_slice(),
-            None => self.main.shapes(),
-        }
+        self.shapes.as_slice()
+    }
+
+    /// The same list, for who shares it.
+    pub fn shared_shapes(&self) -> &Shapes
+        ensures value { result.now ≡ shapes_in self.now }
+        ensures range { ShapesInRange result.now }
+    {
+        &self.shapes
     }
 
     /// The number of layers, at least 1.
@@ -281,5 +286,16 @@ impl Stream {
         ensures { IfOk result (λ view. view ≡ headers_at self.entry.now tile) }
     {
         TileView::new(alloc, main, self.header(tile))
+    }
+
+    /// The layers of a tile, for who asks no more of it.
+    pub fn tile_layers(&self, main: &MainView<'_>, tile: u16) -> u16
+        requires { main.now ≡ record { siz = self.now.siz; main = self.now.main } }
+        ensures { result ≡ layers_of self.now tile }
+    {
+        match cod_of(&Index::listed(self.header(tile)), main.index()) {
+            Some(cod) => cod.layers,
+            None => 0,
+        }
     }
 }

@@ -7,14 +7,15 @@ use Rattle.jx_base.specs.Joined.{joined}
 use Rattle.jx_base.specs.Markers.{HasNoMarker}
 use Rattle.jx_base.specs.Pieces.{PieceValue}
 use Rattle.jx_base.proofs.Joined.{joined_none}
-use Rattle.jx_packet_header.specs.declared.Part.{Part}
+use Rattle.jx_packet_header.specs.declared.HeaderPart.{HeaderPart}
+use Rattle.jx_packet_header.specs.declared.LeafPart.{LeafPart}
 use Rattle.jx_packet_header.specs.LeavesFit.{AreRuns, FitsLeaf, HasShort, IsLayerCut, IsLeaf, passes_before}
 use Rattle.jx_packet_header.specs.Parts.{cut, one_more}
 use Rattle.jx_packet_header.specs.Writable.{all_passes}
 use Rattle.jx_packet_header.specs.Written.{Leafed, parts_in, passes_of}
 use Rattle.jx_packet_header.proofs.LayerLemmas.{in_none}
 use Rattle.jx_tier2_reader.proofs.LaidBlocks.{joined_first}
-use Rattle.jx_tier2_reader.specs.Planned.{part_in}
+use Rattle.jx_tier2_reader.specs.Planned.{leaf_part_of}
 use Rattle.jx_generate.specs.Random.{number_at, numbers_at, state_after}
 use Rattle.jx_generate.specs.Drawn.{drawn_at, first_pass, first_state, layer_pieces, lowered, pass_bytes, pass_count, passes_bytes, passes_in, past_pass, past_passes, piece_in, stuffed, without_end, without_markers, zero_planes}
 use Rattle.jx_generate.specs.Made.{leaf_of_drawn}
@@ -108,17 +109,17 @@ over_layers P y n none skip more (suc k) a e =
       | inr ne ↦ subst (P a) (sym (whole ∙ ap (λ (qs : List PieceValue). qs ++ rest) (layer_some y n a ne))) (more a rest (omega arith) (omega arith) later)
     ]
 
-abbrev parts_with : ℕ → List PieceValue → List (ℕ × Part)
-parts_with j qs = map (part_in j) qs
+abbrev parts_with : ℕ → List PieceValue → List LeafPart
+parts_with j qs = map (leaf_part_of j) qs
 
 -- one part or none
-record IsOnePart (p : Part) (ps : List Part) : Type 0 where
+record IsOnePart (p : HeaderPart) (ps : List HeaderPart) : Type 0 where
   one : ps ≡ p ∷ []
   some : 1 ≤ p.passes
   few : p.passes ≤ 37
 
-abbrev HasFew : List Part → Type 0
-HasFew ps = (ps ≡ []) ⊎ ((p : Part) × IsOnePart p ps)
+abbrev HasFew : List HeaderPart → Type 0
+HasFew ps = (ps ≡ []) ⊎ ((p : HeaderPart) × IsOnePart p ps)
 
 -- what is known of the pieces from a layer on
 record Fit (j n a : ℕ) (qs : List PieceValue) : Type 0 where
@@ -145,8 +146,8 @@ fit_skip j n a qs lt none is =
 fit_more : (j y n a : ℕ) (qs : List PieceValue) → n ≤ 37 → a < 12 → 1 ≤ passes_in n a → Fit j n (a + 1) qs → Fit j n a (piece_in y n a ∷ qs)
 fit_more j y n a qs most lt some is =
     let next : first_pass n a + passes_in n a ≡ first_pass n (a + 1) = first_next n a in
-    let p : ℕ × Part = part_in j (piece_in y n a) in
-    let ps : List (ℕ × Part) = parts_with j qs in
+    let p : LeafPart = leaf_part_of j (piece_in y n a) in
+    let ps : List LeafPart = parts_with j qs in
     let few : passes_in n a ≤ 37 = few_in n a most lt in
     record {
       runs = λ l le. (le, lt, refl, refl, some, subst (λ (m : ℕ). AreRuns 12 j a m ps) (sym next) (is.runs a (omega arith)));
@@ -154,10 +155,10 @@ fit_more j y n a qs most lt some is =
       few = λ layer. elim (cases_eq a layer) [
         | inl same ↦
             let rest : parts_in layer ps ≡ [] = in_none 12 j layer (a + 1) (first_pass n (a + 1)) ps (is.runs (a + 1) (omega arith)) (omega arith) in
-            let here : parts_in layer (p ∷ ps) ≡ p.1 ∷ parts_in layer ps = cond-true (a == layer) (p.1 ∷ parts_in layer ps) (parts_in layer ps) (eq-eqb a layer same) in
-            inr (p.1, record { one = here ∙ ap (λ (xs : List Part). p.1 ∷ xs) rest; some = some; few = few })
+            let here : parts_in layer (p ∷ ps) ≡ p.told ∷ parts_in layer ps = cond-true (a == layer) (p.told ∷ parts_in layer ps) (parts_in layer ps) (eq-eqb a layer same) in
+            inr (p.told, record { one = here ∙ ap (λ (xs : List HeaderPart). p.told ∷ xs) rest; some = some; few = few })
         | inr other ↦
-            let past : parts_in layer (p ∷ ps) ≡ parts_in layer ps = cond-false (a == layer) (p.1 ∷ parts_in layer ps) (parts_in layer ps) (ne_eqb a layer other) in
+            let past : parts_in layer (p ∷ ps) ≡ parts_in layer ps = cond-false (a == layer) (p.told ∷ parts_in layer ps) (parts_in layer ps) (ne_eqb a layer other) in
             subst HasFew (sym past) (is.few layer)
       ];
       short = ((let le : length (piece_in y n a).bytes ≤ passes_in n a * 23 = passes_short (past_passes y (first_pass n a)) (passes_in n a) in omega arith), is.short);
@@ -191,16 +192,16 @@ whole_cut : (first n : ℕ) → 1 ≤ n → n ∷ [] ≡ cut 0 first n
 whole_cut first zero some = absurd (omega arith)
 whole_cut first (suc n) some = sym (cut_none first n)
 
-abbrev IsCutAs : ℕ → List Part → Type 0
-IsCutAs first ps = map (λ (p : Part). p.passes) ps ≡ cut 0 first (passes_of ps)
+abbrev IsCutAs : ℕ → List HeaderPart → Type 0
+IsCutAs first ps = map (λ (p : HeaderPart). p.passes) ps ≡ cut 0 first (passes_of ps)
 
-few_cut : (layer : ℕ) (parts : List (ℕ × Part)) → HasFew (parts_in layer parts) → IsLayerCut 0 layer parts
+few_cut : (layer : ℕ) (parts : List LeafPart) → HasFew (parts_in layer parts) → IsLayerCut 0 layer parts
 few_cut layer parts (inl none) =
-    record { few = subst (λ (ps : List Part). passes_of ps ≤ 164) (sym none) (omega arith); runs = subst (IsCutAs (passes_before layer parts)) (sym none) refl }
+    record { few = subst (λ (ps : List HeaderPart). passes_of ps ≤ 164) (sym none) (omega arith); runs = subst (IsCutAs (passes_before layer parts)) (sym none) refl }
 few_cut layer parts (inr (p, is)) =
     let sum : p.passes + 0 ≡ p.passes = omega arith in
     record {
-      few = subst (λ (ps : List Part). passes_of ps ≤ 164) (sym is.one) (omega (arith, is.few));
+      few = subst (λ (ps : List HeaderPart). passes_of ps ≤ 164) (sym is.one) (omega (arith, is.few));
       runs = subst (IsCutAs (passes_before layer parts)) (sym is.one) (whole_cut (passes_before layer parts) p.passes is.some ∙ ap (cut 0 (passes_before layer parts)) (sym sum));
     }
 
@@ -220,7 +221,7 @@ drawn_leaf j x =
       cuts = λ layer. few_cut layer (parts_with j (drawn_at x).pieces) (is.few layer);
     }
 
-fits_any : (j : ℕ) (leaf : Leafed) (parts : List (ℕ × Part)) → IsLeaf 0 12 13 j leaf → FitsLeaf 0 12 13 j leaf parts
+fits_any : (j : ℕ) (leaf : Leafed) (parts : List LeafPart) → IsLeaf 0 12 13 j leaf → FitsLeaf 0 12 13 j leaf parts
 fits_any j leaf [] is = tt
 fits_any j leaf (p ∷ parts) is = is
 

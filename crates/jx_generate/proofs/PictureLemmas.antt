@@ -10,13 +10,13 @@ use Rattle.std.proofs.Math.Seq.{drop-cons}
 use Rattle.jx_base.specs.Pieces.{PieceValue}
 use Rattle.jx_packet_header.specs.LeavesFit.{HasShort}
 use Rattle.jx_tier2_reader.specs.BlockOf.{pieces_at}
-use Rattle.jx_tier2_reader.specs.Planned.{part_in}
+use Rattle.jx_tier2_reader.specs.Planned.{leaf_part_of}
 use Rattle.jx_tier2_reader.proofs.CarryLemmas.{layer_here, layer_past}
 use Rattle.jx_generate.specs.declared.drawing.DrawnPiece.{DrawnPiece}
 use Rattle.jx_generate.specs.declared.drawing.DrawnBlock.{DrawnBlock}
 use Rattle.jx_generate.specs.Drawn.{Drawn, block_drawn, state_before}
 use Rattle.jx_generate.specs.Headers.{geometry_made}
-use Rattle.jx_generate.specs.Made.{data_made, layer_bytes, leaf_bytes, leaf_made, leaf_of_drawn, leaves_made}
+use Rattle.jx_generate.specs.Made.{data_made, drawn_layer_bytes, drawn_leaf_bytes, leaf_made, leaf_of_drawn, leaves_made}
 use Rattle.jx_base.specs.Joined.{joined}
 use Rattle.jx_base.proofs.Joined.{appends_next}
 use Rattle.jx_packet_header.specs.declared.Leaf.{Leaf}
@@ -28,14 +28,14 @@ use Rattle.jx_geom.specs.Geometry.{Geometry}
 use Rattle.jx_geom.specs.Precincts.{HasPrecinct, leaf_number, leaves}
 use Rattle.jx_geom.proofs.LeafLemmas.{leaf_below, leaves_limited}
 use Rattle.jx_generate.proofs.GeometryLemmas.{geometry_in_range, precinct_there}
-use Rattle.jx_generate.specs.Values.{drawn_of, piece_of}
+use Rattle.jx_generate.specs.Values.{drawn_of, drawn_piece}
 use Rattle.jx_generate.proofs.DrawnFits.{drawn_short}
 
 pub blocks_long : (seed count : ℕ) (blocks : List DrawnBlock) → map drawn_of blocks ≡ map (block_drawn seed) (range_with_len 0 count) → length blocks ≡ count
 blocks_long seed count blocks e = sym (length-map blocks drawn_of) ∙ ap (λ (xs : List Drawn). length xs) e ∙ length-map-range_with_len (block_drawn seed) 0 count
 
 -- pieces with few bytes
-pieces_short : (ps : List DrawnPiece) → HasShort (map (part_in 0) (map piece_of ps)) → AllByRecursion (λ (p : DrawnPiece). length p.bytes.items < 2 ^ 32) ps
+pieces_short : (ps : List DrawnPiece) → HasShort (map (leaf_part_of 0) (map drawn_piece ps)) → AllByRecursion (λ (p : DrawnPiece). length p.bytes.items < 2 ^ 32) ps
 pieces_short [] short = tt
 pieces_short (p ∷ ps) short = (short.0, pieces_short ps short.1)
 
@@ -66,22 +66,22 @@ block_is seed count n blocks b e lt is =
 
 -- a step over the pieces of a block, and the last
 pub pieces_next : (layer i : ℕ) (list : List DrawnPiece) (out more base : List ℕ) (p : DrawnPiece) → i < length list → p ≡ slice_index_or list i p
-    → more ≡ out ++ (if p.layer == layer then p.bytes.items else []) → out ++ pieces_bytes layer (map piece_of (drop i list)) ≡ base → more ++ pieces_bytes layer (map piece_of (drop (i + 1) list)) ≡ base
+    → more ≡ out ++ (if p.layer == layer then p.bytes.items else []) → out ++ pieces_bytes layer (map drawn_piece (drop i list)) ≡ base → more ++ pieces_bytes layer (map drawn_piece (drop (i + 1) list)) ≡ base
 pieces_next layer i list out more base p lt is step was =
     let e : suc i ≡ i + 1 = omega arith in
     let own : List ℕ = cond (p.layer == layer) p.bytes.items [] in
-    let later : List ℕ = pieces_bytes layer (map piece_of (drop (i + 1) list)) in
+    let later : List ℕ = pieces_bytes layer (map drawn_piece (drop (i + 1) list)) in
     let split : drop i list ≡ p ∷ drop (i + 1) list =
     drop-cons list i p lt ∙ ap (λ (x : DrawnPiece). x ∷ drop (suc i) list) (sym is) ∙ ap (λ (n : ℕ). p ∷ drop n list) e in
-    ap (λ (xs : List ℕ). xs ++ later) step ∙ append_assoc out own later ∙ ap (λ (xs : List ℕ). out ++ xs) (sym (bytes_first layer (piece_of p) (map piece_of (drop (i + 1) list))))
-    ∙ ap (λ (ps : List DrawnPiece). out ++ pieces_bytes layer (map piece_of ps)) (sym split) ∙ was
+    ap (λ (xs : List ℕ). xs ++ later) step ∙ append_assoc out own later ∙ ap (λ (xs : List ℕ). out ++ xs) (sym (bytes_first layer (drawn_piece p) (map drawn_piece (drop (i + 1) list))))
+    ∙ ap (λ (ps : List DrawnPiece). out ++ pieces_bytes layer (map drawn_piece ps)) (sym split) ∙ was
 
-pub pieces_all : (layer i : ℕ) (list : List DrawnPiece) (out base : List ℕ) → length list ≤ i → out ++ pieces_bytes layer (map piece_of (drop i list)) ≡ base → out ≡ base
+pub pieces_all : (layer i : ℕ) (list : List DrawnPiece) (out base : List ℕ) → length list ≤ i → out ++ pieces_bytes layer (map drawn_piece (drop i list)) ≡ base → out ≡ base
 unfolding pieces_at
-pieces_all layer i list out base over was = sym (append-nil out) ∙ sym (ap (λ (ps : List DrawnPiece). out ++ pieces_bytes layer (map piece_of ps)) (drop_all i list over)) ∙ was
+pieces_all layer i list out base over was = sym (append-nil out) ∙ sym (ap (λ (ps : List DrawnPiece). out ++ pieces_bytes layer (map drawn_piece ps)) (drop_all i list over)) ∙ was
 
-pub layer_is : (layer : ℕ) (b : DrawnBlock) → pieces_bytes layer (map piece_of b.pieces.items) ≡ layer_bytes layer (drawn_of b)
-unfolding layer_bytes
+pub layer_is : (layer : ℕ) (b : DrawnBlock) → pieces_bytes layer (map drawn_piece b.pieces.items) ≡ drawn_layer_bytes layer (drawn_of b)
+unfolding drawn_layer_bytes
 layer_is layer b = refl
 
 -- what a picture's geometry has
@@ -100,11 +100,11 @@ leaves_few m g blocks c r is lt le =
     leaves_limited (geometry_made m.width m.height) c r 0 (geometry_in_range m.width m.height is.sizes) (precinct_there m.width m.height c r is.sizes lt le)
 
 -- the coded bytes of one more leaf
-pub data_next : (seed w h c r layer j n : ℕ) (base out more : List ℕ) (b : DrawnBlock) → n ≡ leaf_number (geometry_made w h) c r 0 j → drawn_of b ≡ block_drawn seed n → more ≡ out ++ layer_bytes layer (drawn_of b)
-    → out ≡ base ++ joined (leaf_bytes seed w h c r layer) 0 j → more ≡ base ++ joined (leaf_bytes seed w h c r layer) 0 (j + 1)
+pub data_next : (seed w h c r layer j n : ℕ) (base out more : List ℕ) (b : DrawnBlock) → n ≡ leaf_number (geometry_made w h) c r 0 j → drawn_of b ≡ block_drawn seed n → more ≡ out ++ drawn_layer_bytes layer (drawn_of b)
+    → out ≡ base ++ joined (drawn_leaf_bytes seed w h c r layer) 0 j → more ≡ base ++ joined (drawn_leaf_bytes seed w h c r layer) 0 (j + 1)
 data_next seed w h c r layer j n base out more b number is step was =
-    appends_next base out more (leaf_bytes seed w h c r layer) 0 j (omega arith) was
-    (step ∙ ap (λ (d : Drawn). out ++ layer_bytes layer d) is ∙ ap (λ (k : ℕ). out ++ layer_bytes layer (block_drawn seed k)) number)
+    appends_next base out more (drawn_leaf_bytes seed w h c r layer) 0 j (omega arith) was
+    (step ∙ ap (λ (d : Drawn). out ++ drawn_layer_bytes layer d) is ∙ ap (λ (k : ℕ). out ++ drawn_layer_bytes layer (block_drawn seed k)) number)
 
 -- and its leaf
 pub leaf_next : (seed w h c r j n : ℕ) (made more : List Leaf) (leaf : Leaf) (b : DrawnBlock) → n ≡ leaf_number (geometry_made w h) c r 0 j → drawn_of b ≡ block_drawn seed n → leaf_of leaf ≡ leaf_of_drawn j (drawn_of b)
@@ -117,6 +117,6 @@ pub leaves_all : (seed w h c r j : ℕ) (xs : List Leafed) → j ≡ leaves (geo
 unfolding leaves_made
 leaves_all seed w h c r j xs all is = is ∙ ap (λ (n : ℕ). map (leaf_made seed w h c r) (range_with_len 0 n)) all
 
-pub data_all : (seed w h c r layer j : ℕ) (base out : List ℕ) → j ≡ leaves (geometry_made w h) c r 0 → out ≡ base ++ joined (leaf_bytes seed w h c r layer) 0 j → out ≡ base ++ data_made seed w h c r layer
+pub data_all : (seed w h c r layer j : ℕ) (base out : List ℕ) → j ≡ leaves (geometry_made w h) c r 0 → out ≡ base ++ joined (drawn_leaf_bytes seed w h c r layer) 0 j → out ≡ base ++ data_made seed w h c r layer
 unfolding data_made
-data_all seed w h c r layer j base out all is = is ∙ ap (λ (n : ℕ). base ++ joined (leaf_bytes seed w h c r layer) 0 n) all
+data_all seed w h c r layer j base out all is = is ∙ ap (λ (n : ℕ). base ++ joined (drawn_leaf_bytes seed w h c r layer) 0 n) all

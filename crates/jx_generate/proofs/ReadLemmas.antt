@@ -7,7 +7,7 @@ use Rattle.jx_geom.specs.Counts.{tile_blocks, tile_precincts}
 use Rattle.jx_base.specs.Joined.{sum_below}
 use Rattle.jx_marker.specs.Values.{canvas_bytes}
 use Rattle.jx_codestream.specs.declared.Stream.{Stream}
-use Rattle.jx_codestream.specs.declared.parts.Part.{Part}
+use Rattle.jx_codestream.specs.declared.parts.PlacedPart.{PlacedPart}
 use Rattle.jx_codestream.specs.declared.headers.HeaderKind.TheVariants.{Main}
 use Rattle.jx_codestream.specs.First.{canvas_of, lacks_part, tile_number, tiles_fault}
 use Rattle.jx_codestream.specs.Params.{planes_fault, tile_has_too_few, tile_planes}
@@ -42,7 +42,7 @@ part_stands w h body sizes few = record {
   turn = refl;
 }
 
-abbrev part_placed : ℕ → ℕ → List ℕ → List Part
+abbrev part_placed : ℕ → ℕ → List ℕ → List PlacedPart
 part_placed w h body = placed 3 (first_sot (siz_made w h) main_made) (part_with body ∷ [])
 
 each_tile : (w h n : ℕ) (body : List ℕ) → n ≡ 1 → lacks_part (part_placed w h body) n ≡ false

@@ -29,7 +29,7 @@ use Rattle.jx_tier2_reader.specs.Written.{AreFilled, AreWritten, IsWritten, byte
 use Rattle.jx_tier2_reader.proofs.PlannedLemmas.{parts_of_pieces}
 use Rattle.jx_generate.specs.Drawn.{state_before}
 use Rattle.jx_generate.specs.Headers.{AreSizes, geometry_made, qcd_made}
-use Rattle.jx_generate.specs.Made.{bands_made, body_made, data_made, file_with, header_made, layer_bytes, layer_made, leaf_drawn, leaf_made, leaves_made, packet_made, resolution_made}
+use Rattle.jx_generate.specs.Made.{bands_made, body_made, data_made, file_with, header_made, drawn_layer_bytes, layer_made, leaf_drawn, leaf_made, leaves_made, packet_made, resolution_made}
 use Rattle.jx_generate.specs.Packets.{layer_names, names_made, one_name, packets_made, resolution_names}
 use Rattle.jx_generate.specs.Reading.{stream_made, tile_made}
 use Rattle.jx_generate.proofs.DrawnFits.{drawn_clear}
@@ -42,7 +42,7 @@ use Rattle.jx_generate.proofs.ReadLemmas.{geometry_is, layers_are}
 
 -- ---- a packet's bytes
 data_filled : (seed w h c r layer : ℕ) → Fills (parts_at layer (leaves_made seed w h c r)) (data_made seed w h c r layer)
-unfolding leaves_made data_made layer_bytes
+unfolding leaves_made data_made drawn_layer_bytes
 data_filled seed w h c r layer =
     let g : Geometry = geometry_made w h in
     leaves_filled layer (leaf_made seed w h c r) (λ j. (leaf_drawn seed w h c r j).pieces) (leaves g c r 0)

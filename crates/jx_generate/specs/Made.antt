@@ -12,7 +12,7 @@ use Rattle.jx_packet_header.specs.LeavesFit.{header_at}
 use Rattle.jx_codestream.specs.Spells.{TilePart, file_bytes}
 use Rattle.jx_tier2_reader.specs.BlockOf.{pieces_at}
 use Rattle.jx_tile.specs.Cells.{sizes_of}
-use Rattle.jx_tier2_reader.specs.Planned.{part_in}
+use Rattle.jx_tier2_reader.specs.Planned.{leaf_part_of}
 use Rattle.jx_generate.specs.Drawn.{Drawn, block_drawn}
 use Rattle.jx_generate.specs.Headers.{geometry_made, main_made, siz_made}
 
@@ -25,7 +25,7 @@ abbrev pub leaf_drawn : ℕ → ℕ → ℕ → ℕ → ℕ → ℕ → Drawn
 leaf_drawn seed w h c r j = block_drawn seed (leaf_number (geometry_made w h) c r 0 j)
 
 abbrev pub leaf_of_drawn : ℕ → Drawn → Leafed
-leaf_of_drawn j d = record { zero = d.zero; parts = map (part_in j) d.pieces }
+leaf_of_drawn j d = record { zero = d.zero; parts = map (leaf_part_of j) d.pieces }
 
 abbrev pub leaf_made : ℕ → ℕ → ℕ → ℕ → ℕ → ℕ → Leafed
 leaf_made seed w h c r j = leaf_of_drawn j (leaf_drawn seed w h c r j)
@@ -34,18 +34,18 @@ unfoldable pub leaves_made : ℕ → ℕ → ℕ → ℕ → ℕ → List Leafed
 leaves_made seed w h c r = map (leaf_made seed w h c r) (range_with_len 0 (leaves (geometry_made w h) c r 0))
 
 -- a block's bytes in a layer
-unfoldable pub layer_bytes : ℕ → Drawn → List ℕ
-layer_bytes layer d = flat_map (λ (q : PieceValue). q.bytes) (pieces_at layer d.pieces)
+unfoldable pub drawn_layer_bytes : ℕ → Drawn → List ℕ
+drawn_layer_bytes layer d = flat_map (λ (q : PieceValue). q.bytes) (pieces_at layer d.pieces)
 
-abbrev pub leaf_bytes : ℕ → ℕ → ℕ → ℕ → ℕ → ℕ → ℕ → List ℕ
-leaf_bytes seed w h c r layer j = layer_bytes layer (leaf_drawn seed w h c r j)
+abbrev pub drawn_leaf_bytes : ℕ → ℕ → ℕ → ℕ → ℕ → ℕ → ℕ → List ℕ
+drawn_leaf_bytes seed w h c r layer j = drawn_layer_bytes layer (leaf_drawn seed w h c r j)
 
 -- B.9, B.10: a packet is its one header and the bytes of its blocks
 unfoldable pub header_made : ℕ → ℕ → ℕ → ℕ → ℕ → ℕ → List ℕ
 header_made seed w h c r layer = header_at 12 0 (bands_made w h c r) (leaves_made seed w h c r) layer
 
 unfoldable pub data_made : ℕ → ℕ → ℕ → ℕ → ℕ → ℕ → List ℕ
-data_made seed w h c r layer = joined (leaf_bytes seed w h c r layer) 0 (leaves (geometry_made w h) c r 0)
+data_made seed w h c r layer = joined (drawn_leaf_bytes seed w h c r layer) 0 (leaves (geometry_made w h) c r 0)
 
 unfoldable pub packet_made : ℕ → ℕ → ℕ → ℕ → ℕ → ℕ → List ℕ
 packet_made seed w h layer r c = header_made seed w h c r layer ++ data_made seed w h c r layer

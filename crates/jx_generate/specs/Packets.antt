@@ -5,10 +5,10 @@ use Rattle.jx_packet_header.specs.LeavesFit.{parts_at}
 use Rattle.jx_packet_header.specs.Written.{state_at}
 use Rattle.jx_progression.specs.declared.names.PacketName.{PacketName}
 use Rattle.jx_progression.specs.Steps.{name_of}
-use Rattle.jx_tier2_reader.specs.Written.{Packets, Written}
+use Rattle.jx_tier2_reader.specs.Written.{Packets, WrittenPacket}
 use Rattle.jx_generate.specs.Made.{bands_made, data_made, header_made, leaves_made}
 
-abbrev pub written_made : ℕ → ℕ → ℕ → PacketName → Written
+abbrev pub written_made : ℕ → ℕ → ℕ → PacketName → WrittenPacket
 written_made seed w h p = record {
   sop = false;
   header = header_made seed w h p.comp p.res p.layer;

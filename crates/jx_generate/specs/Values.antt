@@ -5,8 +5,8 @@ use Rattle.jx_generate.specs.declared.drawing.DrawnPiece.{DrawnPiece}
 use Rattle.jx_generate.specs.declared.drawing.DrawnBlock.{DrawnBlock}
 use Rattle.jx_generate.specs.Drawn.{Drawn}
 
-abbrev pub piece_of : DrawnPiece → PieceValue
-piece_of p = record { layer = p.layer; first = p.first; passes = p.passes; bytes = p.bytes.items }
+abbrev pub drawn_piece : DrawnPiece → PieceValue
+drawn_piece p = record { layer = p.layer; first = p.first; passes = p.passes; bytes = p.bytes.items }
 
 abbrev pub drawn_of : DrawnBlock → Drawn
-drawn_of b = record { zero = b.zero; pieces = map piece_of b.pieces.items }
+drawn_of b = record { zero = b.zero; pieces = map drawn_piece b.pieces.items }

@@ -5,7 +5,7 @@ ghost use Rattle.std.specs.List.{range_with_len};
 ghost use Rattle.jx_generate.specs.Random.{number_at, state_after};
 ghost use Rattle.jx_generate.specs.Drawn.{block_drawn, drawn_at, first_pass, lowered, pass_bytes, pass_count, passes_bytes, passes_in, layer_pieces, past_block, past_pass, past_passes, piece_in, stuffed, zero_planes};
 ghost use Rattle.jx_base.specs.Joined.{joined};
-ghost use Rattle.jx_generate.specs.Values.{drawn_of, piece_of};
+ghost use Rattle.jx_generate.specs.Values.{drawn_of, drawn_piece};
 
 use crate::random::next;
 use jx_base::{NoMemory, ceil_div};
@@ -102,7 +102,7 @@ fn draw_piece(
 ) -> Result<DrawnPiece, NoMemory>
     requires passes { passes ≤ 37 }
     requires layer { layer < 12 }
-    ensures piece { (x : ℕ) → state.old ≡ past_passes x (first_pass passes layer) → IfOk result (λ p. piece_of p ≡ piece_in x passes layer) }
+    ensures piece { (x : ℕ) → state.old ≡ past_passes x (first_pass passes layer) → IfOk result (λ p. drawn_piece p ≡ piece_in x passes layer) }
     ensures state { IfOk result (λ p. state.new ≡ past_passes state.old (passes_in passes layer)) }
 {
     let first = first_pass(passes, layer);
@@ -140,7 +140,7 @@ fn draw_layer(
     requires passes { passes ≤ 37 }
     requires layer { layer < 12 }
     ensures pieces { (x : ℕ) → state.old ≡ past_passes x (first_pass passes layer)
-        → OnOk result (map piece_of pieces.new.items ≡ map piece_of pieces.old.items ++ layer_pieces x passes layer) }
+        → OnOk result (map drawn_piece pieces.new.items ≡ map drawn_piece pieces.old.items ++ layer_pieces x passes layer) }
     ensures state { OnOk result (state.new ≡ past_passes state.old (passes_in passes layer)) }
 {
     if passes_in(passes, layer) == 0 {
@@ -187,7 +187,7 @@ fn draw_block(alloc: Global, state: &mut u64) -> Result<DrawnBlock, NoMemory>
 /// The pieces of a block with so many passes.
 fn draw_pieces(alloc: Global, state: &mut u64, passes: u16) -> Result<Vec<DrawnPiece>, NoMemory>
     requires { passes ≤ 37 }
-    ensures pieces { IfOk result (λ p. map piece_of p.items ≡ joined (layer_pieces state.old passes) 0 12) }
+    ensures pieces { IfOk result (λ p. map drawn_piece p.items ≡ joined (layer_pieces state.old passes) 0 12) }
     ensures state { IfOk result (λ p. state.new ≡ past_passes state.old passes) }
 {
     let mut pieces = Vec::new(alloc);

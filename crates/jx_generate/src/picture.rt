@@ -6,19 +6,19 @@ ghost use Rattle.jx_geom.specs.Leaves.{AreLeaves};
 ghost use Rattle.jx_geom.specs.Precincts.{cells_at, leaf_number, leaves};
 ghost use Rattle.jx_geom.specs.Ranges.{HasBand};
 ghost use Rattle.jx_tile.specs.Cells.{sizes_of};
-ghost use Rattle.jx_tier2_reader.specs.Planned.{part_in};
+ghost use Rattle.jx_tier2_reader.specs.Planned.{leaf_part_of};
 ghost use Rattle.jx_packet_header.specs.Leafs.{leaf_of};
 ghost use Rattle.jx_generate.specs.Drawn.{block_drawn};
 ghost use Rattle.jx_generate.specs.Headers.{AreSizes, geometry_made};
-ghost use Rattle.jx_generate.specs.Made.{bands_made, body_made, data_made, layer_bytes, layer_made, leaf_of_drawn, leaves_made, packet_made, resolution_made};
+ghost use Rattle.jx_generate.specs.Made.{bands_made, body_made, data_made, drawn_layer_bytes, layer_made, leaf_of_drawn, leaves_made, packet_made, resolution_made};
 ghost use Rattle.jx_generate.specs.Making.{Making, count_drawn, plan_made, three_made, writers_made};
-ghost use Rattle.jx_generate.specs.Values.{drawn_of, piece_of};
+ghost use Rattle.jx_generate.specs.Values.{drawn_of, drawn_piece};
 
 use crate::drawing::{DrawnBlock, DrawnPiece, draw_blocks};
 use crate::geometry::{count, geometry};
 use jx_base::{Band, NoMemory, Style};
 use jx_geom::{Leaves, TileGeom};
-use jx_packet_header::{BandCells, Leaf, Part, PrecinctOut};
+use jx_packet_header::{BandCells, HeaderPart, Leaf, LeafPart, PrecinctOut};
 use jx_tile::sizes_of;
 use std::alloc::Global;
 use std::marker::Model;
@@ -61,7 +61,7 @@ fn put_piece(piece: &DrawnPiece, layer: u16, out: &mut Vec<u8>) -> Result<(), No
 
 /// The bytes of a block in a layer.
 fn put_layer(block: &DrawnBlock, layer: u16, out: &mut Vec<u8>) -> Result<(), NoMemory>
-    ensures { OnOk result (out.new.items ≡ out.old.items ++ layer_bytes layer (drawn_of block.now)) }
+    ensures { OnOk result (out.new.items ≡ out.old.items ++ drawn_layer_bytes layer (drawn_of block.now)) }
 {
     for piece in &block.pieces {
         put_piece(piece, layer, out)?;
@@ -69,18 +69,21 @@ fn put_layer(block: &DrawnBlock, layer: u16, out: &mut Vec<u8>) -> Result<(), No
     Ok(())
 }
 
-/// A piece as a header tells of it, with its layer.
-fn part_of(piece: &DrawnPiece, leaf: u32) -> (u16, Part)
+/// A piece as a leaf has it.
+fn part_of(piece: &DrawnPiece, leaf: u32) -> LeafPart
     requires { length piece.now.bytes.items < 2 ^ 32 }
-    ensures { result ≡ part_in leaf (piece_of piece.now) }
+    ensures { result ≡ leaf_part_of leaf (drawn_piece piece.now) }
 {
-    let part = Part {
+    let told = HeaderPart {
         block: leaf,
         first: piece.first,
         passes: piece.passes,
         length: piece.bytes.len() as u32,
     };
-    (piece.layer, part)
+    LeafPart {
+        layer: piece.layer,
+        told,
+    }
 }
 
 /// A block as the leaf of a number.

@@ -92,6 +92,11 @@ pub no_blocks : (tile : Rect) (s : CompShape) → size_of (component_rect tile s
 unfolding component_blocks
 no_blocks tile s e = all_none (resolution_blocks tile s) (s.levels + 1) (λ r. resolution_none tile s r e)
 
+-- components with equal factors have a place together
+pub same_factors : (tile : Rect) (a b : CompShape) → a.dx ≡ b.dx → a.dy ≡ b.dy → size_of (component_rect tile a) ≡ size_of (component_rect tile b)
+unfolding component_rect
+same_factors tile a b across down = rw (across, down) refl
+
 -- so a component that has one of them has a place
 pub some_precinct : (tile : Rect) (s : CompShape) (r k : ℕ) → k < precinct_count tile s r → 0 < size_of (component_rect tile s)
 some_precinct tile s r k lt = elim (cases_lt 0 (size_of (component_rect tile s))) [

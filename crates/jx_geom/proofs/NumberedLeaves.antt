@@ -9,10 +9,10 @@ use Rattle.jx_base.specs.declared.names.Rect.{Rect}
 use Rattle.jx_base.specs.Bands.{bands_at}
 use Rattle.jx_base.specs.Places.{InRect, length_of, size_of, column_at, row_at, number_at}
 use Rattle.jx_geom.specs.declared.leaves.Leaves.{Leaves}
-use Rattle.jx_geom.specs.declared.leaves.Part.{Part}
+use Rattle.jx_geom.specs.declared.leaves.BandLeaves.{BandLeaves}
 use Rattle.jx_geom.specs.Counts.{blocks_before_band}
 use Rattle.jx_geom.specs.Geometry.{Geometry, GeometryInRange, shape_of, rect_of_tile, blocks_in}
-use Rattle.jx_geom.specs.Leaves.{AreLeaves, leaf_at, part_at}
+use Rattle.jx_geom.specs.Leaves.{AreLeaves, leaf_at, band_leaf_at}
 use Rattle.jx_geom.specs.Precincts.{HasPrecinct, cells_at, leaves, leaf_index, leaf_name, leaf_number, name_from}
 use Rattle.jx_geom.specs.Resolutions.{resolution_at}
 use Rattle.jx_geom.proofs.LeafLemmas.{bands_low, bands_high, named, name_here, name_later, leaf_of, leaf_is, leaves_low, leaves_high, cell_in_band}
@@ -75,9 +75,9 @@ leaf_split g c r k j h there lt =
     subst Q leaf.res (subst P leaf.comp whole)
 
 -- a block of a part
-pub part_index : (cells all : Rect) (p : Part) (before j : ℕ) → InRect all cells.x.low cells.y.low → j < size_of cells
+pub part_index : (cells all : Rect) (p : BandLeaves) (before j : ℕ) → InRect all cells.x.low cells.y.low → j < size_of cells
     → p.wide ≡ length_of cells.x → p.stride ≡ length_of all.x → p.first ≡ before + number_at all cells.x.low cells.y.low
-    → part_at p j ≡ before + number_at all (column_at cells j) (row_at cells j)
+    → band_leaf_at p j ≡ before + number_at all (column_at cells j) (row_at cells j)
 part_index cells all p before j corner lt wide stride first =
     let some : 0 < length_of cells.x = factor_some j (length_of cells.x) (length_of cells.y) lt in
     let w : max p.wide 1 ≡ length_of cells.x = omega arith in
@@ -100,21 +100,21 @@ corner_in g c r k b h there some =
     (record { across = record { from = omega arith; below = omega arith }; down = record { from = omega arith; below = omega arith } })
 
 -- a part is that of a band, behind so many blocks
-pub record IsPart (g : Geometry) (c r k : ℕ) (b : Band) (before : ℕ) (p : Part) : Type 0 where
+pub record IsBandLeaves (g : Geometry) (c r k : ℕ) (b : Band) (before : ℕ) (p : BandLeaves) : Type 0 where
   pub count : p.count ≡ size_of (cells_at g c r k b)
-  pub each : (j : ℕ) → j < size_of (cells_at g c r k b) → part_at p j ≡ before + leaf_index g c r k b j
+  pub each : (j : ℕ) → j < size_of (cells_at g c r k b) → band_leaf_at p j ≡ before + leaf_index g c r k b j
 
-at_low : (l : Leaves) (j : ℕ) → j < l.low.count → leaf_at l j ≡ part_at l.low j
+at_low : (l : Leaves) (j : ℕ) → j < l.low.count → leaf_at l j ≡ band_leaf_at l.low j
 at_low l j lt = grind (arith, nat_tests)
 
-at_middle : (l : Leaves) (j : ℕ) → l.low.count ≤ j → j - l.low.count < l.middle.count → leaf_at l j ≡ part_at l.middle (j - l.low.count)
+at_middle : (l : Leaves) (j : ℕ) → l.low.count ≤ j → j - l.low.count < l.middle.count → leaf_at l j ≡ band_leaf_at l.middle (j - l.low.count)
 at_middle l j ge lt = grind (arith, nat_tests)
 
-at_high : (l : Leaves) (j : ℕ) → l.low.count ≤ j → l.middle.count ≤ j - l.low.count → leaf_at l j ≡ part_at l.high (j - l.low.count - l.middle.count)
+at_high : (l : Leaves) (j : ℕ) → l.low.count ≤ j → l.middle.count ≤ j - l.low.count → leaf_at l j ≡ band_leaf_at l.high (j - l.low.count - l.middle.count)
 at_high l j ge ge2 = grind (arith, nat_tests)
 
 pub low_leaves : (g : Geometry) (c r k : ℕ) (l : Leaves) → GeometryInRange g → HasPrecinct g c r k → r ≡ 0
-    → IsPart g c r k LL (before_of g c r) l.low → l.middle.count ≡ 0 → l.high.count ≡ 0 → AreLeaves g c r k l
+    → IsBandLeaves g c r k LL (before_of g c r) l.low → l.middle.count ≡ 0 → l.high.count ≡ 0 → AreLeaves g c r k l
 low_leaves g c r k l h there low part none none2 = record {
   count = omega (arith, part.count, leaves_low g c r k low);
   each = λ j lt.
@@ -124,12 +124,12 @@ low_leaves g c r k l h there low part none none2 = record {
 }
 
 -- above resolution 0, band by band
-pub record AreParts (g : Geometry) (c r k : ℕ) (l : Leaves) : Type 0 where
-  pub low : IsPart g c r k HL (before_of g c r) l.low
-  pub middle : IsPart g c r k LH (before_of g c r + size_of (blocks_in g c r HL)) l.middle
-  pub high : IsPart g c r k HH (before_of g c r + size_of (blocks_in g c r HL) + size_of (blocks_in g c r LH)) l.high
+pub record AreBandLeaves (g : Geometry) (c r k : ℕ) (l : Leaves) : Type 0 where
+  pub low : IsBandLeaves g c r k HL (before_of g c r) l.low
+  pub middle : IsBandLeaves g c r k LH (before_of g c r + size_of (blocks_in g c r HL)) l.middle
+  pub high : IsBandLeaves g c r k HH (before_of g c r + size_of (blocks_in g c r HL) + size_of (blocks_in g c r LH)) l.high
 
-above_each : (g : Geometry) (c r k : ℕ) (l : Leaves) → GeometryInRange g → HasPrecinct g c r k → 0 < r → AreParts g c r k l
+above_each : (g : Geometry) (c r k : ℕ) (l : Leaves) → GeometryInRange g → HasPrecinct g c r k → 0 < r → AreBandLeaves g c r k l
     → (j : ℕ) → j < leaves g c r k → leaf_at l j ≡ leaf_number g c r k j
 above_each g c r k l h there some parts j lt = elim (cases_lt j (size_of (cells_at g c r k HL))) [
   | inl first ↦
@@ -141,7 +141,7 @@ above_each g c r k l h there some parts j lt = elim (cases_lt j (size_of (cells_
       elim (cases_lt (j - size_of (cells_at g c r k HL)) (size_of (cells_at g c r k LH))) [
         | inl second ↦
             let here : j - l.low.count < l.middle.count = omega (arith, parts.middle.count) in
-            let at : leaf_at l j ≡ part_at l.middle (j - size_of (cells_at g c r k HL)) = at_middle l j ge here ∙ ap (λ n. part_at l.middle n) left in
+            let at : leaf_at l j ≡ band_leaf_at l.middle (j - size_of (cells_at g c r k HL)) = at_middle l j ge here ∙ ap (λ n. band_leaf_at l.middle n) left in
             omega (
               arith,
               at,
@@ -152,8 +152,8 @@ above_each g c r k l h there some parts j lt = elim (cases_lt j (size_of (cells_
         | inr third ↦
             let beyond : l.middle.count ≤ j - l.low.count = omega (arith, parts.middle.count) in
             let left2 : j - l.low.count - l.middle.count ≡ j - size_of (cells_at g c r k HL) - size_of (cells_at g c r k LH) = omega (arith, parts.middle.count) in
-            let at : leaf_at l j ≡ part_at l.high (j - size_of (cells_at g c r k HL) - size_of (cells_at g c r k LH)) =
-            at_high l j ge beyond ∙ ap (λ n. part_at l.high n) left2 in
+            let at : leaf_at l j ≡ band_leaf_at l.high (j - size_of (cells_at g c r k HL) - size_of (cells_at g c r k LH)) =
+            at_high l j ge beyond ∙ ap (λ n. band_leaf_at l.high n) left2 in
             let below : j - size_of (cells_at g c r k HL) - size_of (cells_at g c r k LH) < size_of (cells_at g c r k HH) = omega (arith, leaves_high g c r k some) in
             omega (
               arith,
@@ -165,23 +165,23 @@ above_each g c r k l h there some parts j lt = elim (cases_lt j (size_of (cells_
       ]
 ]
 
-pub high_leaves : (g : Geometry) (c r k : ℕ) (l : Leaves) → GeometryInRange g → HasPrecinct g c r k → 0 < r → AreParts g c r k l → AreLeaves g c r k l
+pub high_leaves : (g : Geometry) (c r k : ℕ) (l : Leaves) → GeometryInRange g → HasPrecinct g c r k → 0 < r → AreBandLeaves g c r k l → AreLeaves g c r k l
 high_leaves g c r k l h there some parts = record {
   count = omega (arith, parts.low.count, parts.middle.count, parts.high.count, leaves_high g c r k some);
   each = above_each g c r k l h there some parts;
 }
 
 -- a part that is made
-pub made_part : (g : Geometry) (c r k : ℕ) (b : Band) (before : ℕ) (cells all : Rect) (p : Part) → GeometryInRange g → HasPrecinct g c r k
+pub made_part : (g : Geometry) (c r k : ℕ) (b : Band) (before : ℕ) (cells all : Rect) (p : BandLeaves) → GeometryInRange g → HasPrecinct g c r k
     → cells ≡ cells_at g c r k b → all ≡ blocks_in g c r b → 0 < size_of cells
     → p.wide ≡ length_of cells.x → p.stride ≡ length_of all.x → p.first ≡ before + number_at all cells.x.low cells.y.low
-    → (j : ℕ) → j < size_of (cells_at g c r k b) → part_at p j ≡ before + leaf_index g c r k b j
+    → (j : ℕ) → j < size_of (cells_at g c r k b) → band_leaf_at p j ≡ before + leaf_index g c r k b j
 made_part g c r k b before cells all p h there ec ea =
     let P : Rect → Type 0 = λ x. 0 < size_of x → p.wide ≡ length_of x.x → p.stride ≡ length_of all.x → p.first ≡ before + number_at all x.x.low x.y.low
-    → (j : ℕ) → j < size_of (cells_at g c r k b) → part_at p j ≡ before + leaf_index g c r k b j in
+    → (j : ℕ) → j < size_of (cells_at g c r k b) → band_leaf_at p j ≡ before + leaf_index g c r k b j in
     let Q : Rect → Type 0 = λ y. 0 < size_of (cells_at g c r k b) → p.wide ≡ length_of (cells_at g c r k b).x → p.stride ≡ length_of y.x
     → p.first ≡ before + number_at y (cells_at g c r k b).x.low (cells_at g c r k b).y.low
-    → (j : ℕ) → j < size_of (cells_at g c r k b) → part_at p j ≡ before + leaf_index g c r k b j in
+    → (j : ℕ) → j < size_of (cells_at g c r k b) → band_leaf_at p j ≡ before + leaf_index g c r k b j in
     subst P (sym ec) (subst Q (sym ea) (λ some wide stride first j lt.
     part_index (cells_at g c r k b) (blocks_in g c r b) p before j (corner_in g c r k b h there some) lt wide stride first))
 

@@ -1,5 +1,5 @@
 -- The resolutions of a tile: where each stands in their list, and that the list is in order.
-use Rattle.std.proofs.Common.{◌≡◌, ℕ, zero, suc, ◌+◌, ◌≤◌, ◌<◌, ◌^◌, List, [], ◌∷◌, ◌++◌, length, take, get_or, slice_index, Some, inl, inr, ◌∙◌, ap, sym, subst, refl, arith}
+use Rattle.std.proofs.Common.{◌≡◌, ℕ, zero, suc, ◌+◌, ◌≤◌, ◌<◌, ◌^◌, List, [], ◌∷◌, ◌++◌, ◌⊎◌, length, take, get_or, slice_index, Some, inl, inr, ◌∙◌, ap, sym, subst, refl, arith}
 use Rattle.std.proofs.lemmas.List.Sums.{sum_by_more, sum_by_more_le}
 use Rattle.jx_base.specs.declared.names.Rect.{Rect}
 use Rattle.jx_base.specs.Joined.{joined, sum_below}
@@ -126,17 +126,30 @@ pub record EntryIs (places : List ℕ) (list : List Resolution) (c r : ℕ) (e :
   pub only : (x : Resolution) → slice_get list (slice_index places c + r) ≡ Some x → x ≡ e
 
 pub table_is : (tile : Rect) (shapes : List CompShape) (tile' : Rect) (shapes' : List CompShape) (places : List ℕ) (list : List Resolution)
-    → tile ≡ tile' → shapes ≡ shapes' → places ≡ all_places tile shapes → list ≡ all_resolutions tile shapes
-    → (places ≡ all_places tile' shapes') × (list ≡ all_resolutions tile' shapes')
+    → tile ≡ tile' → shapes ≡ shapes' → ((list ≡ []) ⊎ (places ≡ all_places tile shapes)) → list ≡ all_resolutions tile shapes
+    → ((list ≡ []) ⊎ (places ≡ all_places tile' shapes')) × (list ≡ all_resolutions tile' shapes')
 table_is tile shapes tile' shapes' places list et es ep el =
-    let P : Rect → Type 0 = λ t. (places ≡ all_places t shapes) × (list ≡ all_resolutions t shapes) in
-    let Q : List CompShape → Type 0 = λ s. (places ≡ all_places tile' s) × (list ≡ all_resolutions tile' s) in
+    let P : Rect → Type 0 = λ t. ((list ≡ []) ⊎ (places ≡ all_places t shapes)) × (list ≡ all_resolutions t shapes) in
+    let Q : List CompShape → Type 0 = λ s. ((list ≡ []) ⊎ (places ≡ all_places tile' s)) × (list ≡ all_resolutions tile' s) in
     subst Q es (subst P et (ep, el))
 
+-- where a component has a place, the table isn't empty
+placed : (tile : Rect) (shapes : List CompShape) (places : List ℕ) (list : List Resolution) (c r : ℕ)
+    → (list ≡ []) ⊎ (places ≡ all_places tile shapes) → list ≡ all_resolutions tile shapes → c < length shapes → r ≤ (get_or shapes c no_shape).levels
+    → 0 < size_of (component_rect tile (get_or shapes c no_shape)) → places ≡ all_places tile shapes
+placed tile shapes places list c r (inr e) el lt le some = e
+placed tile shapes places list c r (inl none) el lt le some =
+    let at : slice_get list (place_of tile shapes c + r) ≡ Some (resolution_at tile shapes c r) =
+    ap (λ (xs : List Resolution). slice_get xs (place_of tile shapes c + r)) el ∙ resolution_there tile shapes c r lt le some in
+    let below : place_of tile shapes c + r < length list = slice_get_within list (place_of tile shapes c + r) (resolution_at tile shapes c r) at in
+    let empty : length list ≡ 0 = ap (λ (xs : List Resolution). length xs) none in
+    absurd (omega (arith, below, empty))
+
 pub table_entry : (tile : Rect) (shapes : List CompShape) (places : List ℕ) (list : List Resolution) (c r : ℕ)
-    → places ≡ all_places tile shapes → list ≡ all_resolutions tile shapes → c < length shapes → r ≤ (get_or shapes c no_shape).levels
+    → (list ≡ []) ⊎ (places ≡ all_places tile shapes) → list ≡ all_resolutions tile shapes → c < length shapes → r ≤ (get_or shapes c no_shape).levels
     → 0 < size_of (component_rect tile (get_or shapes c no_shape)) → EntryIs places list c r (resolution_at tile shapes c r)
-table_entry tile shapes places list c r ep el lt le some =
+table_entry tile shapes places list c r either el lt le some =
+    let ep = placed tile shapes places list c r either el lt le some in
     let first : slice_get places c ≡ Some (place_of tile shapes c) = ap (λ (xs : List ℕ). slice_get xs c) ep ∙ place_there tile shapes c lt in
     let is : slice_index places c ≡ place_of tile shapes c = get_or_from_slice_get places c (place_of tile shapes c) 0 first in
     let at : slice_get list (slice_index places c + r) ≡ Some (resolution_at tile shapes c r) =

@@ -7,7 +7,7 @@ use Rattle.jx_base.specs.Places.{column_at, row_at, size_of}
 use Rattle.jx_geom.specs.declared.shape.Canvas.{Canvas}
 use Rattle.jx_geom.specs.declared.shape.CompShape.{CompShape}
 use Rattle.jx_geom.specs.Ranges.{CanvasInRange, ShapeInRange, HasBand}
-use Rattle.jx_geom.specs.Rects.{tile_rect, band_rect, block_cells, precinct_cells, precinct_column_point, precinct_row_point}
+use Rattle.jx_geom.specs.Rects.{component_rect, tile_rect, band_rect, block_cells, precinct_cells, precinct_column_point, precinct_row_point}
 use Rattle.jx_geom.specs.Counts.{tile_count, tile_blocks, tile_precincts}
 
 pub record Geometry : Type 0 where
@@ -36,6 +36,10 @@ pub record HasResolution (g : Geometry) (c r : ℕ) : Type 0 where
 -- each shape is within the ranges
 abbrev pub ShapesInRange : List CompShape → Type 0
 ShapesInRange shapes = (c : ℕ) → c < length shapes → ShapeInRange (slice_index_or shapes c no_shape)
+
+-- the component has no place in a tile
+abbrev pub LacksPlace : Rect → List CompShape → ℕ → Type 0
+LacksPlace tile shapes c = size_of (component_rect tile (slice_index_or shapes c no_shape)) ≡ 0
 
 -- limits 5 and 6, of which one tile takes no more than all
 pub record WithinLimits (c : Canvas) (t : ℕ) (shapes : List CompShape) : Type 0 where

@@ -1,12 +1,12 @@
 -- The numbers of a precinct's code-blocks, by a first number and a step from row to row in each band.
 use Rattle.std.specs.Prelude.{ℕ, ◌+◌, ◌-◌, ◌*◌, ◌/◌, ◌%◌, ◌<◌, ◌≡◌, max, nat_lt, if◌then◌else◌}
 use Rattle.jx_geom.specs.declared.leaves.Leaves.{Leaves}
-use Rattle.jx_geom.specs.declared.leaves.Part.{Part}
+use Rattle.jx_geom.specs.declared.leaves.BandLeaves.{BandLeaves}
 use Rattle.jx_geom.specs.Geometry.{Geometry}
 use Rattle.jx_geom.specs.Precincts.{leaves, leaf_number}
 
-abbrev pub part_at : Part → ℕ → ℕ
-part_at p j = p.first + j / max p.wide 1 * p.stride + j % max p.wide 1
+abbrev pub band_leaf_at : BandLeaves → ℕ → ℕ
+band_leaf_at p j = p.first + j / max p.wide 1 * p.stride + j % max p.wide 1
 
 -- how many leaves there are, and the number of each
 abbrev pub count_of : Leaves → ℕ
@@ -14,9 +14,9 @@ count_of l = l.low.count + l.middle.count + l.high.count
 
 abbrev pub leaf_at : Leaves → ℕ → ℕ
 leaf_at l j =
-    if nat_lt j l.low.count then part_at l.low j
-    else if nat_lt (j - l.low.count) l.middle.count then part_at l.middle (j - l.low.count)
-    else part_at l.high (j - l.low.count - l.middle.count)
+    if nat_lt j l.low.count then band_leaf_at l.low j
+    else if nat_lt (j - l.low.count) l.middle.count then band_leaf_at l.middle (j - l.low.count)
+    else band_leaf_at l.high (j - l.low.count - l.middle.count)
 
 -- those of a precinct
 pub record AreLeaves (g : Geometry) (c r k : ℕ) (l : Leaves) : Type 0 where

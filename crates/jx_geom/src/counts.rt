@@ -1,6 +1,6 @@
 //! How many blocks and precincts a tile-component has.
 
-ghost use Rattle.std.specs.Prelude.{◌≡◌, ◌≤◌, ◌<◌, ◌+◌, ◌*◌, ◌^◌};
+ghost use Rattle.std.specs.Prelude.{◌≡◌, ◌≤◌, ◌<◌, ◌+◌, ◌*◌, ◌^◌, ◌↔◌, IsTrue};
 ghost use Rattle.jx_base.specs.Places.{size_of};
 ghost use Rattle.jx_geom.specs.Counts.{
   tile_count,
@@ -11,7 +11,7 @@ ghost use Rattle.jx_geom.specs.Counts.{
   component_precincts,
 };
 ghost use Rattle.jx_geom.specs.Ranges.{CanvasInRange, ShapeInRange, HasBand};
-ghost use Rattle.jx_geom.specs.Rects.{tile_rect};
+ghost use Rattle.jx_geom.specs.Rects.{component_rect, tile_rect};
 
 use crate::rects::{blocks_of, is_empty, precincts_of, tile_of};
 use crate::shape::{Canvas, CompShape};
@@ -92,7 +92,6 @@ fn count_all_precincts(tile: Rect, comp: &CompShape) -> u128
 
 /// How many code-blocks and precincts a component has in a tile of these places on the reference grid
 /// (T.800, B.6 and B.7); none where it has no sample there, which costs a few operations.
-#[tactic(auto, using(crate::proofs::EmptyLemmas::no_precincts, crate::proofs::EmptyLemmas::no_blocks))]
 pub fn count_in(tile: Rect, comp: &CompShape) -> (u128, u128)
     requires { ShapeInRange comp.now }
     ensures blocks { result.0 ≡ component_blocks tile comp.now }
@@ -100,7 +99,20 @@ pub fn count_in(tile: Rect, comp: &CompShape) -> (u128, u128)
     ensures few_blocks { result.0 < 2 ^ 72 }
     ensures few_precincts { result.1 < 2 ^ 72 }
 {
-    if is_empty(tile, comp) {
+    count_known(tile, comp, is_empty(tile, comp))
+}
+
+/// The same of a component of which it is known whether it has no place in the tile.
+#[tactic(auto, using(crate::proofs::EmptyLemmas::no_precincts, crate::proofs::EmptyLemmas::no_blocks))]
+pub fn count_known(tile: Rect, comp: &CompShape, none: bool) -> (u128, u128)
+    requires shape { ShapeInRange comp.now }
+    requires none { IsTrue none ↔ (size_of (component_rect tile comp.now) ≡ 0) }
+    ensures blocks { result.0 ≡ component_blocks tile comp.now }
+    ensures precincts { result.1 ≡ component_precincts tile comp.now }
+    ensures few_blocks { result.0 < 2 ^ 72 }
+    ensures few_precincts { result.1 < 2 ^ 72 }
+{
+    if none {
         return (0, 0);
     }
     (

@@ -3,16 +3,16 @@
 ghost use Rattle.std.specs.Prelude.{◌≡◌, ◌≤◌, ◌<◌, ◌+◌, ◌*◌, ◌/◌, ◌%◌, ◌^◌, ℕ, max};
 ghost use Rattle.jx_base.specs.Places.{size_of};
 ghost use Rattle.jx_geom.specs.Geometry.{GeometryInRange, blocks_in};
-ghost use Rattle.jx_geom.specs.Leaves.{AreLeaves, count_of, leaf_at, part_at};
+ghost use Rattle.jx_geom.specs.Leaves.{AreLeaves, count_of, leaf_at, band_leaf_at};
 ghost use Rattle.jx_geom.specs.Precincts.{HasPrecinct, cells_at, leaf_index};
 ghost use Rattle.jx_geom.specs.Ranges.{HasBand};
 
 use crate::tile_geom::TileGeom;
 use jx_base::Band;
 
-/// The blocks of a precinct in a band: rows of `wide` blocks, each row `stride` numbers behind the one before.
+/// The blocks of a precinct in a band, leaves of that band's tag trees: rows of `wide` blocks, each row `stride` numbers behind the one before.
 #[derive(Clone, Copy, Debug)]
-struct Part {
+struct BandLeaves {
     count: u32,
     wide: u32,
     first: u32,
@@ -23,13 +23,13 @@ struct Part {
 /// B.10). It holds a first number and a step for each band, and answers in constant time.
 #[derive(Clone, Copy, Debug)]
 pub struct Leaves {
-    low: Part,
-    middle: Part,
-    high: Part,
+    low: BandLeaves,
+    middle: BandLeaves,
+    high: BandLeaves,
 }
 
 /// No block.
-const NONE: Part = Part {
+const NONE: BandLeaves = BandLeaves {
     count: 0,
     wide: 0,
     first: 0,
@@ -45,11 +45,11 @@ fn step(first: u32, wide: u32, stride: u32, place: u32) -> usize
     first as usize + place / wide * stride as usize + place % wide
 }
 
-/// The number of a block of a part.
-fn number_of(part: Part, place: u32) -> usize
-    ensures { result ≡ part_at part place }
+/// The number of a block among those of the tile.
+fn number_of(band: BandLeaves, place: u32) -> usize
+    ensures { result ≡ band_leaf_at band place }
 {
-    step(part.first, part.wide, part.stride, place)
+    step(band.first, band.wide, band.stride, place)
 }
 
 impl Leaves {
@@ -76,20 +76,27 @@ impl Leaves {
 }
 
 /// The blocks of a precinct in a band of which so many blocks of the tile come before.
-fn part_of(geom: &TileGeom, comp: u16, res: u8, band: Band, precinct: u32, before: u32) -> Part
+fn part_of(
+    geom: &TileGeom,
+    comp: u16,
+    res: u8,
+    band: Band,
+    precinct: u32,
+    before: u32,
+) -> BandLeaves
     requires range { GeometryInRange geom.now }
     requires precinct { HasPrecinct geom.now comp res precinct }
     requires band { HasBand res band }
     requires before { before ≤ 2 ^ 22 }
     ensures count { result.count ≡ size_of (cells_at geom.now comp res precinct band) }
-    ensures each { (j : ℕ) → j < size_of (cells_at geom.now comp res precinct band) → part_at result j ≡ before + leaf_index geom.now comp res precinct band j }
+    ensures each { (j : ℕ) → j < size_of (cells_at geom.now comp res precinct band) → band_leaf_at result j ≡ before + leaf_index geom.now comp res precinct band j }
 {
     let cells = geom.blocks(comp, res, band, precinct);
     if cells.area() == 0 {
         return NONE;
     }
     let all = geom.cells(comp, res, band);
-    Part {
+    BandLeaves {
         count: geom.leaf_count(comp, res, band, precinct),
         wide: cells.x.len(),
         first: before + all.number(cells.x.low, cells.y.low) as u32,

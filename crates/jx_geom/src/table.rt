@@ -1,7 +1,8 @@
 //! The resolutions of a tile in order, each with what stands before it.
 
-ghost use Rattle.std.specs.Prelude.{◌≡◌, ◌≤◌, ◌<◌, ◌+◌, ◌++◌, ◌∷◌, [], ◌^◌, IfOk, OnOk, Some, length, slice_get, slice_index};
+ghost use Rattle.std.specs.Prelude.{◌≡◌, ◌≤◌, ◌<◌, ◌+◌, ◌++◌, ◌∷◌, [], ◌^◌, ◌↔◌, ◌⊎◌, IfOk, IsTrue, OnOk, Some, length, slice_get, slice_index};
 ghost use Rattle.jx_base.specs.Joined.{joined};
+ghost use Rattle.jx_base.specs.Places.{size_of};
 ghost use Rattle.jx_geom.specs.Counts.{
   component_blocks,
   component_precincts,
@@ -12,10 +13,11 @@ ghost use Rattle.jx_geom.specs.Counts.{
 };
 ghost use Rattle.jx_geom.specs.Geometry.{ShapesInRange};
 ghost use Rattle.jx_geom.specs.Ranges.{ShapeInRange};
+ghost use Rattle.jx_geom.specs.Rects.{component_rect};
 ghost use Rattle.jx_geom.specs.Resolutions.{all_places, all_resolutions, one_behind, resolutions_behind};
 
 use crate::counts::{count_precincts_at, count_resolution};
-use crate::rects::is_empty;
+use crate::empty::{has_no_place, is_empty_after};
 use crate::shape::CompShape;
 use jx_base::{NoMemory, Rect};
 use std::alloc::Global;
@@ -101,17 +103,19 @@ fn push_component(
     tile: Rect,
     shape: &CompShape,
     comp: u16,
+    none: bool,
     before: Before,
     list: &mut Vec<Resolution>,
 ) -> Result<Before, NoMemory>
     requires shape { ShapeInRange shape.now }
+    requires none { IsTrue none ↔ (size_of (component_rect tile shape.now) ≡ 0) }
     requires precincts { before.precincts + component_precincts tile shape.now ≤ 2 ^ 22 }
     requires blocks { before.blocks + component_blocks tile shape.now ≤ 2 ^ 20 }
     ensures list { OnOk result (list.new.items ≡ list.old.items ++ resolutions_behind tile shape.now comp before.precincts before.blocks) }
     ensures precincts { IfOk result (λ b. b.precincts ≡ before.precincts + component_precincts tile shape.now) }
     ensures blocks { IfOk result (λ b. b.blocks ≡ before.blocks + component_blocks tile shape.now) }
 {
-    if is_empty(tile, shape) {
+    if none {
         return Ok(before);
     }
     push_resolutions(tile, shape, comp, before, list)
@@ -120,7 +124,7 @@ fn push_component(
 /// The resolutions of a tile.
 #[derive(Debug, Drop)]
 pub(crate) struct Table {
-    /// Where those of a component begin.
+    /// Where those of a component begin; nothing where no component has a place.
     pub(crate) places: Vec<usize>,
     /// Those of the components that have a place.
     pub(crate) list: Vec<Resolution>,
@@ -143,18 +147,26 @@ pub(crate) fn table_of(alloc: Global, tile: Rect, comps: &[CompShape]) -> Result
     requires comps { ShapesInRange comps.now }
     requires blocks { tile_blocks tile comps.now ≤ 2 ^ 20 }
     requires precincts { tile_precincts tile comps.now ≤ 2 ^ 22 }
-    ensures places { IfOk result (λ t. t.places.items ≡ all_places tile comps.now) }
+    ensures places { IfOk result (λ t. (t.list.items ≡ []) ⊎ (t.places.items ≡ all_places tile comps.now)) }
     ensures list { IfOk result (λ t. t.list.items ≡ all_resolutions tile comps.now) }
 {
+    if has_no_place(tile, comps) {
+        return Ok(Table {
+            places: Vec::new(alloc),
+            list: Vec::new(alloc),
+        });
+    }
     let mut places = Vec::with_capacity(alloc, comps.len())?;
     let mut list = Vec::new(alloc);
     let mut before = Before {
         precincts: 0,
         blocks: 0,
     };
+    let mut none = false;
     for comp in 0..comps.len() {
         places.push(list.len())?;
-        before = push_component(tile, &comps[comp], comp as u16, before, &mut list)?;
+        none = is_empty_after(tile, comps, comp, none);
+        before = push_component(tile, &comps[comp], comp as u16, none, before, &mut list)?;
     }
     Ok(Table { places, list })
 }

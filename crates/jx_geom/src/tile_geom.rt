@@ -1,6 +1,6 @@
 //! The geometry of one tile.
 
-ghost use Rattle.std.specs.Prelude.{◌≡◌, ◌≤◌, ◌<◌, ◌-◌, ◌*◌, ◌^◌, ℕ, ◌↔◌, None, IfOk, IfSome, length};
+ghost use Rattle.std.specs.Prelude.{◌≡◌, ◌≤◌, ◌<◌, ◌-◌, ◌*◌, ◌^◌, ℕ, ◌↔◌, ◌⊎◌, [], None, IfOk, IfSome, length};
 ghost use Rattle.jx_base.specs.Places.{InRect, column_at, length_of, row_at, size_of};
 ghost use Rattle.jx_geom.specs.Counts.{tile_count};
 ghost use Rattle.jx_geom.specs.Geometry.{
@@ -32,6 +32,7 @@ use crate::rects::{
     precincts_of, reference_of_precinct, tile_of,
 };
 use crate::shape::{Canvas, CompShape};
+use crate::shapes::Shapes;
 use crate::table::{Resolution, Table, table_of};
 use jx_base::{Band, BlockName, NoMemory, Rect};
 use std::alloc::Global;
@@ -43,16 +44,16 @@ pub struct TileGeom {
     canvas: Canvas,
     tile: u16,
     places: Rect,
-    shapes: Vec<CompShape>,
+    shapes: Shapes,
     table: Table,
 }
 
 impl Model for TileGeom {
     ghost Value = { Geometry };
 
-    ghost view = { λ t. record { canvas = t.canvas; tile = t.tile; shapes = t.shapes.items } };
+    ghost view = { λ t. record { canvas = t.canvas; tile = t.tile; shapes = t.shapes } };
 
-    ghost invariant = { λ t. GeometryInRange (record { canvas = t.canvas; tile = t.tile; shapes = t.shapes.items }) × (t.places ≡ tile_rect t.canvas t.tile) × (t.table.places.items ≡ all_places t.places t.shapes.items) × (t.table.list.items ≡ all_resolutions t.places t.shapes.items) };
+    ghost invariant = { λ t. GeometryInRange (record { canvas = t.canvas; tile = t.tile; shapes = t.shapes }) × (t.places ≡ tile_rect t.canvas t.tile) × ((t.table.list.items ≡ []) ⊎ (t.table.places.items ≡ all_places t.places t.shapes)) × (t.table.list.items ≡ all_resolutions t.places t.shapes) };
 }
 
 impl TileGeom {
@@ -70,9 +71,26 @@ impl TileGeom {
         requires limits { WithinLimits canvas.now tile comps.now }
         ensures { IfOk result (λ g. g ≡ record { canvas = canvas.now; tile = tile; shapes = comps.now }) }
     {
+        let shapes = Shapes::new(Vec::from_slice(alloc, comps)?)?;
+        TileGeom::sharing(alloc, canvas, tile, shapes)
+    }
+
+    /// The same with shapes that other tiles may share.
+    pub fn sharing(
+        alloc: Global,
+        canvas: &Canvas,
+        tile: u16,
+        shapes: Shapes,
+    ) -> Result<TileGeom, NoMemory>
+        requires canvas { CanvasInRange canvas.now }
+        requires tile { tile < tile_count canvas.now }
+        requires few { length shapes ≤ 2 ^ 14 }
+        requires comps { ShapesInRange shapes }
+        requires limits { WithinLimits canvas.now tile shapes }
+        ensures { IfOk result (λ g. g ≡ record { canvas = canvas.now; tile = tile; shapes = shapes }) }
+    {
         let places = tile_of(canvas, tile);
-        let table = table_of(alloc, places, comps)?;
-        let shapes = Vec::from_slice(alloc, comps)?;
+        let table = table_of(alloc, places, shapes.as_slice())?;
         Ok(TileGeom {
             canvas: *canvas,
             tile,
@@ -95,7 +113,7 @@ impl TileGeom {
         ensures bound { result ≤ 2 ^ 14 }
         ensures range { GeometryInRange self.now }
     {
-        self.shapes.len()
+        self.shapes.as_slice().len()
     }
 
     /// The tile's places on the reference grid (T.800, B.3).
@@ -111,7 +129,7 @@ impl TileGeom {
         ensures value { result.now ≡ shape_of self.now comp }
         ensures range { ShapeInRange result.now }
     {
-        &self.shapes[usize::from(comp)]
+        &self.shapes.as_slice()[usize::from(comp)]
     }
 
     /// The decomposition levels of a component, 0 to 32; its resolutions are 0 up to that number.

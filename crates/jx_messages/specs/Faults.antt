@@ -2,7 +2,7 @@
 use Rattle.std.specs.Prelude.{List, ◌++◌, codes, if◌then◌else◌}
 use Rattle.jx_io.specs.declared.fault.Step.{Step}
 use Rattle.jx_io.specs.declared.fault.Step.TheVariants as step
-use Rattle.jx_messages.specs.Names.{name_in, names_make}
+use Rattle.jx_messages.specs.Names.{name_in, writes_nowhere}
 use Rattle.jx_messages.specs.Text.{Text}
 
 -- a file with which something couldn't be done
@@ -27,10 +27,10 @@ instead_words name why =
 abbrev pub name_words : Text → Text → Text
 name_words name cause = codes "jx: " ++ (name ++ (codes " was made whole, but its name could not be brought to the disk:\n    " ++ (cause ++ codes "\n")))
 
--- a line that couldn't be said; `make` writes no file
+-- a line that couldn't be said; some commands write no file
 abbrev pub line_words : List Text → Text → Text
 line_words words cause =
-    if names_make words then codes "jx: the line of the result could not be written: " ++ (cause ++ codes "\n") else
+    if writes_nowhere words then codes "jx: the line of the result could not be written: " ++ (cause ++ codes "\n") else
     codes "jx: the line of the result could not be written: " ++ (cause ++ (codes "\n    " ++ (name_in words 1 ++ codes " is as it was, or whole\n")))
 
 -- the sentence of each fault

@@ -1,16 +1,25 @@
 -- The names, and the values of options, among the words of a command line.
-use Rattle.std.specs.Prelude.{ℕ, ◌==◌, nat_lt, Bool, true, false, not, ◌||◌, ◌&&◌, List, [], ◌∷◌, length, drop, slice_get, slice_index_or, Option, Some, None, is_some, unwrap_or, codes, if◌then◌else◌}
+use Rattle.std.specs.Prelude.{ℕ, ◌==◌, nat_lt, Bool, true, false, not, ◌&&◌, ◌||◌, List, [], ◌∷◌, length, drop, slice_get, slice_index_or, Option, Some, None, is_some, unwrap_or, codes, if◌then◌else◌}
 use Rattle.std.specs.List.{list_any, position_or_len, before_first, after_first}
 use Rattle.std.specs.Str.{bytes_eq}
+use Rattle.jx_options.specs.declared.names.OptionName.{OptionName}
+use Rattle.jx_options.specs.Names.{all_names, is_flag, name_of}
 use Rattle.jx_messages.specs.Text.{Text}
-
--- options without a value
-abbrev pub is_flag : Text → Bool
-is_flag word = bytes_eq word (codes "--sop") || (bytes_eq word (codes "--eph") || bytes_eq word (codes "--plt"))
 
 -- a word that begins with two dashes
 abbrev pub is_option : Text → Bool
 is_option word = (slice_index_or word 0 0 == 45) && (slice_index_or word 1 0 == 45)
+
+-- an option has this name and stands alone
+abbrev pub is_flag_named : Text → OptionName → Bool
+is_flag_named name option = is_flag option && bytes_eq (name_of option) name
+
+abbrev pub names_flag : Text → Bool
+names_flag name = list_any (is_flag_named name) all_names
+
+-- an option without a value
+abbrev pub stands_alone : Text → Bool
+stands_alone word = is_option word && names_flag (drop 2 word)
 
 -- an option has a value of its own, behind `=`
 abbrev pub has_value : Text → Bool
@@ -18,7 +27,7 @@ has_value word = list_any (λ byte. byte == 61) word
 
 -- an option whose value is the word behind it
 abbrev pub takes_value : Text → Bool
-takes_value word = not (is_flag word) && not (has_value word)
+takes_value word = not (stands_alone word) && not (has_value word)
 
 -- the words that are neither options nor the values of options, from the second word on where the first one is a value; behind `--` each
 -- word is a name
@@ -37,6 +46,10 @@ name_in words number =
 -- the command is `make`
 abbrev pub names_make : List Text → Bool
 names_make words = bytes_eq (slice_index_or words 1 []) (codes "make")
+
+-- the command writes to standard output alone: it is `make` or `boxes`
+abbrev pub writes_nowhere : List Text → Bool
+writes_nowhere words = names_make words || bytes_eq (slice_index_or words 1 []) (codes "boxes")
 
 -- what stands behind the `=` of a word that begins with an option and `=`
 abbrev pub own_value : Text → Text → Option Text

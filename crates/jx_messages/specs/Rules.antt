@@ -39,7 +39,7 @@ other_words number =
 -- 15 to 19, of headers
 unfoldable pub header_words : ℕ → RuleRow
 header_words number =
-    if number == 15 then rule_row (codes "the beginning of the file") (codes "it is no JPEG 2000 codestream, which begins with the bytes FF 4F (SOC);\n    of a JP2 file the codestream has to be taken out of its box first") (codes "A.4.1") else
+    if number == 15 then rule_row (codes "the beginning of the file") (codes "it is no JPEG 2000 codestream, which begins with the bytes FF 4F (SOC),\n    and no JP2 file, which begins with the signature box (jP)") (codes "A.4.1") else
     if number == 16 then rule_row (codes "the second marker") (codes "SIZ, the picture's size, has to follow SOC") (codes "A.5.1") else
     if number == 17 then rule_row (codes "the first SOT segment") (codes "the main header before it has no COD (coding style) or no QCD\n    (quantization)") (codes "A.3") else
     if number == 18 then rule_row (codes "a marker segment") (codes "its header has one of this kind, or of this kind and component, already") (codes "A.3") else
@@ -65,6 +65,15 @@ packet_words number =
     if number == 30 then rule_row (codes "the byte FF in a code-block's coded bytes") (codes "a byte above 8F follows, or none, which coded bytes never have;\n    the file may be damaged") (codes "C.2.3, B.10.7") else
     rule_row (codes "the data behind the tile's last packet") (codes "no packet is left for these bytes") (codes "B.9")
 
+-- 32 to 36, of the boxes of JP2 files
+unfoldable pub box_words : ℕ → RuleRow
+box_words number =
+    if number == 32 then rule_row (codes "a box") (codes "fewer bytes are left than its head has (8, or 16 where LBox is 1);\n    the file may be cut short") (codes "I.4") else
+    if number == 33 then rule_row (codes "a box") (codes "its length is less than its head's, or is 0, which says that the file\n    ends with it, and it stands in another box") (codes "I.4") else
+    if number == 34 then rule_row (codes "a box") (codes "it is longer than what is left of the file, or of the box in which it\n    stands; the file may be cut short") (codes "I.4") else
+    if number == 35 then rule_row (codes "the end of the file") (codes "none of its boxes has a codestream (jp2c)") (codes "I.5.4") else
+    rule_row (codes "the beginning of the file") (codes "it is no JP2 file, which begins with the signature box (jP)") (codes "I.5.1")
+
 -- the sentence of each rule
 unfoldable pub rule_words : ℕ → RuleRow
 rule_words number =
@@ -72,4 +81,5 @@ rule_words number =
     if nat_le number 9 then coding_words number else
     if nat_le number 14 then other_words number else
     if nat_le number 19 then header_words number else
-    if nat_le number 25 then part_words number else packet_words number
+    if nat_le number 25 then part_words number else
+    if nat_le number 31 then packet_words number else box_words number

@@ -5,7 +5,7 @@ use Rattle.jx_messages.specs.declared.Refusal.{Refusal}
 use Rattle.jx_messages.specs.declared.Refusal.TheVariants as refusal
 use Rattle.jx_messages.specs.Choices.{choice_words, option_words}
 use Rattle.jx_messages.specs.Limits.{LimitRow, limit_words}
-use Rattle.jx_messages.specs.Names.{name_in, names_make, value_in}
+use Rattle.jx_messages.specs.Names.{name_in, value_in, writes_nowhere}
 use Rattle.jx_messages.specs.Rules.{RuleRow, rule_words}
 use Rattle.jx_messages.specs.Text.{EndsLine, Text}
 
@@ -48,10 +48,10 @@ block_sentence number input =
 abbrev pub read_sentence : Text → Text
 read_sentence input = codes "jx: " ++ (input ++ codes " could not be opened or read:\n    is it there, and may you read it?\n")
 
--- `make` writes to standard output alone
+-- some commands write to standard output alone
 abbrev pub write_sentence : List Text → Text
 write_sentence words =
-    if names_make words then codes "jx: standard output was closed, or could not be written\n" else
+    if writes_nowhere words then codes "jx: standard output was closed, or could not be written\n" else
     codes "jx: " ++ (name_in words 1 ++ (codes " could not be created, written, brought to its disk or\n    given its name, or standard output was closed; an older " ++ (name_in words 1 ++ codes "\n    is as it was, unless the new one was made whole\n")))
 
 abbrev pub no_memory_sentence : Text

@@ -25,9 +25,10 @@ Examples:
   jx transcode in.j2k out.j2k --layers planes:2
   jx transcode in.j2k out.j2k --style terminate+reset --threads 4
 
-The picture is the same in each: no coefficient changes. A JP2 file isn't
-read: take the codestream out of its box first. docs/RULES.md has all rules
-and limits.";
+The picture is the same in each: no coefficient changes. IN may be a JP2 file:
+OUT is one then too, and all its other boxes stay byte for byte. Boxes that
+hold positions in the file (fragment tables, indexes) may then be wrong.
+docs/RULES.md has all rules and limits.";
 
 static MAKE: &str = "Makes a test picture in memory, transcodes it and says one line";
 
@@ -42,9 +43,28 @@ says
 which are the picture's code-blocks, the bytes before and after, and the sum
 of those after. jx make 1 2048 1536 takes longer, and shows how fast it is.";
 
+static BOXES: &str = "Lists the boxes of a JP2 file";
+
+static TREE: &str = "\
+One line for each box in their order: its type, the byte where it begins and
+its length with its head, and before them two spaces for each box in which it
+stands. Opened are jp2h, res in it, and uinf. A type that isn't four characters
+from the space to ~ is shown as eight hexadecimal digits.
+
+Example:
+  jx boxes picture.jp2
+says
+  jP   0 12
+  ftyp 12 20
+  jp2h 32 45
+    ihdr 40 22
+    colr 62 15
+  jp2c 77 3855";
+
 static USAGE: &str = "\
 Usage: jx transcode IN OUT [OPTIONS]
        jx make SEED WIDTH HEIGHT
+       jx boxes IN
 
 jx --help says what they do, jx transcode --help all options.";
 
@@ -82,7 +102,7 @@ fn with_place<'a>(
 
 /// With the names of the input and the output.
 fn with_places<'a>(alloc: Global, command: Command<'a>) -> Result<Command<'a>, AllocError> {
-    let read = "the codestream that is read; - is standard input";
+    let read = "the codestream or JP2 file that is read;\n- is standard input";
     let written =
         "the file that is written; - is standard output;\nan older file stands until the new one is whole";
     let command = with_place(alloc, command, "in", "IN", read)?;
@@ -116,6 +136,13 @@ fn make<'a>(alloc: Global) -> Result<Command<'a>, AllocError> {
     with_place(alloc, command, "height", "HEIGHT", "its rows, 1 to 4096")
 }
 
+/// The command `boxes`, with its help.
+fn boxes<'a>(alloc: Global) -> Result<Command<'a>, AllocError> {
+    let read = "the JP2 or JPX file that is read; - is standard input";
+    let command = Command::new(alloc, "boxes").about(BOXES).after_help(TREE);
+    with_place(alloc, command, "in", "IN", read)
+}
+
 /// The program without its commands.
 fn bare<'a>(alloc: Global) -> Result<Command<'a>, AllocError> {
     // The name is the same whatever file the program lies in.
@@ -141,7 +168,8 @@ fn with_command<'a>(
 fn program<'a>(alloc: Global) -> Result<Command<'a>, AllocError> {
     let command = bare(alloc)?;
     let command = with_command(command, transcode(alloc))?;
-    with_command(command, make(alloc))
+    let command = with_command(command, make(alloc))?;
+    with_command(command, boxes(alloc))
 }
 
 /// A text with one line feed at its end.

@@ -5,7 +5,7 @@ ghost use Rattle.jx_messages.specs.Names.{name_in};
 ghost use Rattle.jx_messages.specs.Shown.{shown_all};
 
 use crate::shown::shown_words;
-use crate::words::{name_at, names_make};
+use crate::words::{name_at, writes_nowhere};
 use jx_io::Step;
 use std::alloc::{AllocError, Global};
 
@@ -54,7 +54,7 @@ fn settled(alloc: Global, name: &str, cause: &str) -> Result<String, AllocError>
 fn line(alloc: Global, words: &[String], cause: &str) -> Result<String, AllocError>
     ensures { IfOk result (λ text. string_bytes text ≡ line_words (map string_bytes words.now) cause.now) }
 {
-    if names_make(words) {
+    if writes_nowhere(words) {
         return format!(in alloc; "jx: the line of the result could not be written: {cause}\n");
     }
     let name = name_at(words, 1);

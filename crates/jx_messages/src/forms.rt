@@ -26,12 +26,16 @@ fn no_value<'a>(
     alloc: Global,
     words: &'a [String],
     option: OptionName,
-) -> Result<Option<&'a str>, NoMemory> {
+) -> Result<Option<&'a str>, AllocError> {
     let name = option.text();
     let name = format!(in alloc; "--{name}")?;
-    match value_of(words, name.as_str()) {
-        Some(value) if !option.is_value(alloc, value)? => Ok(Some(value)),
-        _ => Ok(None),
+    let Some(value) = value_of(words, name.as_str()) else {
+        return Ok(None);
+    };
+    match option.is_value(alloc, value) {
+        Ok(false) => Ok(Some(value)),
+        Ok(true) => Ok(None),
+        Err(NoMemory) => Err(AllocError),
     }
 }
 
@@ -47,14 +51,29 @@ fn option_text(alloc: Global, value: &str, option: OptionName) -> Result<String,
     wrong(alloc, value, name.as_str(), form)
 }
 
-/// The options with values that clap doesn't look at, in the order in which they are told.
-static LOOKED_AT: [OptionName; 5] = [
-    OptionName::Threads,
-    OptionName::Window,
-    OptionName::WindowBytes,
-    OptionName::Style,
-    OptionName::Precincts,
-];
+/// What is wrong with the value of an option whose values are numbers.
+fn number_text(alloc: Global, words: &[String]) -> Result<Option<String>, AllocError> {
+    for option in OptionName::all() {
+        if !option.range().is_empty() {
+            if let Some(value) = no_value(alloc, words, *option)? {
+                return Ok(Some(option_text(alloc, value, *option)?));
+            }
+        }
+    }
+    Ok(None)
+}
+
+/// What is wrong with the value of an option whose values have a form, the last one first.
+fn form_text(alloc: Global, words: &[String]) -> Result<Option<String>, AllocError> {
+    for option in OptionName::all().iter().rev() {
+        if !option.form().is_empty() {
+            if let Some(value) = no_value(alloc, words, *option)? {
+                return Ok(Some(option_text(alloc, value, *option)?));
+            }
+        }
+    }
+    Ok(None)
+}
 
 /// What is wrong with the numbers of `make`.
 fn make_text(alloc: Global, words: &[String]) -> Result<String, AllocError> {
@@ -74,12 +93,11 @@ pub(crate) fn value_text(alloc: Global, words: &[String]) -> Result<String, Allo
     if names_make(words) {
         return make_text(alloc, words);
     }
-    for option in &LOOKED_AT {
-        match no_value(alloc, words, *option) {
-            Ok(Some(value)) => return option_text(alloc, value, *option),
-            Ok(None) => {}
-            Err(NoMemory) => return Err(AllocError),
-        }
+    if let Some(text) = number_text(alloc, words)? {
+        return Ok(text);
+    }
+    if let Some(text) = form_text(alloc, words)? {
+        return Ok(text);
     }
     String::from_str(alloc, "error: a value isn't one that its option takes")
 }

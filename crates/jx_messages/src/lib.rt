@@ -25,10 +25,10 @@ pub enum Refusal {
     Words,
     /// The input violates a rule of the standard at a byte.
     Rule {
-        /// The rule, 1 to 31.
+        /// The rule, 1 to 36.
         number: u8,
         /// The byte, counted from 0.
-        place: u32,
+        place: u64,
     },
     /// A limit is passed.
     Limit {

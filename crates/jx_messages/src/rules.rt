@@ -1,6 +1,6 @@
 //! The rules in words.
 ghost use Rattle.std.specs.Prelude.{◌≡◌};
-ghost use Rattle.jx_messages.specs.Rules.{coding_words, front_words, header_words, other_words, packet_words, part_words, rule_words, rule_row};
+ghost use Rattle.jx_messages.specs.Rules.{box_words, coding_words, front_words, header_words, other_words, packet_words, part_words, rule_words, rule_row};
 
 /// A rule: what stands at its place, what is wrong with it, and the section of ITU-T T.800 that says so.
 #[derive(Clone, Copy)]
@@ -117,7 +117,7 @@ fn header_text(number: u8) -> RuleText
     match number {
         15 => row(
             "the beginning of the file",
-            "it is no JPEG 2000 codestream, which begins with the bytes FF 4F (SOC);\n    of a JP2 file the codestream has to be taken out of its box first",
+            "it is no JPEG 2000 codestream, which begins with the bytes FF 4F (SOC),\n    and no JP2 file, which begins with the signature box (jP)",
             "A.4.1",
         ),
         16 => row(
@@ -211,7 +211,40 @@ fn packet_text(number: u8) -> RuleText
     }
 }
 
-/// A rule in words, 1 to 31.
+/// The rules 32 to 36, of the boxes of JP2 files.
+fn box_text(number: u8) -> RuleText
+    ensures { rule_row result.what.now result.wrong.now result.section.now ≡ box_words number }
+{
+    match number {
+        32 => row(
+            "a box",
+            "fewer bytes are left than its head has (8, or 16 where LBox is 1);\n    the file may be cut short",
+            "I.4",
+        ),
+        33 => row(
+            "a box",
+            "its length is less than its head's, or is 0, which says that the file\n    ends with it, and it stands in another box",
+            "I.4",
+        ),
+        34 => row(
+            "a box",
+            "it is longer than what is left of the file, or of the box in which it\n    stands; the file may be cut short",
+            "I.4",
+        ),
+        35 => row(
+            "the end of the file",
+            "none of its boxes has a codestream (jp2c)",
+            "I.5.4",
+        ),
+        _ => row(
+            "the beginning of the file",
+            "it is no JP2 file, which begins with the signature box (jP)",
+            "I.5.1",
+        ),
+    }
+}
+
+/// A rule in words, 1 to 36.
 #[tactic(auto, unfolding(crate::specs::Rules::rule_words))]
 pub(crate) fn rule_text(number: u8) -> RuleText
     ensures { rule_row result.what.now result.wrong.now result.section.now ≡ rule_words number }
@@ -222,6 +255,7 @@ pub(crate) fn rule_text(number: u8) -> RuleText
         10..=14 => other_text(number),
         15..=19 => header_text(number),
         20..=25 => part_text(number),
-        _ => packet_text(number),
+        26..=31 => packet_text(number),
+        _ => box_text(number),
     }
 }

@@ -12,7 +12,7 @@ use crate::commands::words_text;
 use crate::limits::{LimitText, limit_text};
 use crate::rules::{RuleText, rule_text};
 use crate::shown::shown_words;
-use crate::words::{asked, name_at, names_make};
+use crate::words::{asked, name_at, writes_nowhere};
 use std::alloc::{AllocError, Global};
 
 /// What stands at a byte of the input, and what is wrong with it.
@@ -21,7 +21,7 @@ fn rule_front(
     alloc: Global,
     input: &str,
     what: &str,
-    place: u32,
+    place: u64,
     wrong: &str,
 ) -> Result<String, AllocError>
     ensures { IfOk result (λ said. string_bytes said ≡ rule_front input.now what.now place wrong.now) }
@@ -35,7 +35,7 @@ fn rule_filled(
     alloc: Global,
     text: RuleText,
     number: u8,
-    place: u32,
+    place: u64,
     input: &str,
 ) -> Result<String, AllocError>
     ensures { IfOk result (λ said. string_bytes said ≡ rule_filled (rule_row text.what.now text.wrong.now text.section.now) number place input.now) }
@@ -46,7 +46,7 @@ fn rule_filled(
 }
 
 /// A rule that is violated.
-fn rule(alloc: Global, number: u8, place: u32, words: &[String]) -> Result<String, AllocError>
+fn rule(alloc: Global, number: u8, place: u64, words: &[String]) -> Result<String, AllocError>
     ensures { IfOk result (λ text. string_bytes text ≡ rule_sentence number place (name_in (map string_bytes words.now) 0)) }
 {
     rule_filled(alloc, rule_text(number), number, place, name_at(words, 0))
@@ -115,7 +115,7 @@ fn read_fault(alloc: Global, words: &[String]) -> Result<String, AllocError>
 fn write_fault(alloc: Global, words: &[String]) -> Result<String, AllocError>
     ensures { IfOk result (λ text. string_bytes text ≡ write_sentence (map string_bytes words.now)) }
 {
-    if names_make(words) {
+    if writes_nowhere(words) {
         return String::from_str(
             alloc,
             "jx: standard output was closed, or could not be written\n",

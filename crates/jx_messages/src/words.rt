@@ -1,12 +1,23 @@
 //! What stands among the words of the command line.
 ghost use Rattle.std.specs.Prelude.{◌≡◌, drop, map, option_map, slice_get, string_bytes};
-ghost use Rattle.jx_messages.specs.Names.{has_value, is_flag, is_option, name_in, names, names_make, own_value, takes_value, value_among, value_in};
+ghost use Rattle.jx_messages.specs.Names.{has_value, is_flag_named, is_option, name_in, names, names_flag, names_make, own_value, stands_alone, takes_value, value_among, value_in, writes_nowhere};
 
-/// Whether a word is an option without a value.
-fn is_flag(word: &str) -> bool
-    ensures { result ≡ is_flag word.now }
+use jx_options::OptionName;
+
+/// Whether an option has this name and stands alone.
+fn is_flag_named(option: OptionName, name: &[u8]) -> bool
+    ensures { result ≡ is_flag_named name.now option }
 {
-    word == "--sop" || word == "--eph" || word == "--plt"
+    option.is_flag() && option.text().as_bytes() == name
+}
+
+/// Whether some option has this name and stands alone.
+fn names_flag(name: &[u8]) -> bool
+    ensures { result ≡ names_flag name.now }
+{
+    OptionName::all()
+        .iter()
+        .any(|option| is_flag_named(*option, name))
 }
 
 /// Whether a word is an option.
@@ -15,6 +26,14 @@ fn is_option(word: &str) -> bool
 {
     let bytes = word.as_bytes();
     bytes.len() >= 2 && bytes[0] == b'-' && bytes[1] == b'-'
+}
+
+/// Whether a word is an option without a value.
+fn stands_alone(word: &str) -> bool
+    ensures { result ≡ stands_alone word.now }
+{
+    let bytes = word.as_bytes();
+    bytes.len() >= 2 && bytes[0] == b'-' && bytes[1] == b'-' && names_flag(&bytes[2..])
 }
 
 /// Whether an option has a value of its own, behind `=`.
@@ -28,7 +47,7 @@ fn has_value(word: &str) -> bool
 fn takes_value(word: &str) -> bool
     ensures { result ≡ takes_value word.now }
 {
-    !is_flag(word) && !has_value(word)
+    !stands_alone(word) && !has_value(word)
 }
 
 /// The name of a number among some words, of which the first one may be an option's value.
@@ -76,6 +95,16 @@ pub(crate) fn names_make(words: &[String]) -> bool
         return false;
     }
     words[1].as_str() == "make"
+}
+
+/// Whether the command writes no file.
+pub(crate) fn writes_nowhere(words: &[String]) -> bool
+    ensures { result ≡ writes_nowhere (map string_bytes words.now) }
+{
+    if words.len() < 2 {
+        return false;
+    }
+    names_make(words) || words[1].as_str() == "boxes"
 }
 
 /// The value of an option in a word `--name=value`.

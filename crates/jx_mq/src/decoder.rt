@@ -69,6 +69,8 @@ impl Registers {
         ensures registers { reader_of result ≡ mq_shifted_by by (reader_of self) }
         ensures wide { result.a % 65536 ≡ 0 }
         ensures fits { self.c < 4294967296 }
+        ensures place { result.place ≡ self.place }
+        ensures looked { result.looked ≡ self.looked }
     {
         Registers {
             a: self.a << by,
@@ -81,8 +83,7 @@ impl Registers {
 
     /// RENORMD (Annex C.3.3) by so many shifts, as A needs, of which CT has no room for all. A byte
     /// is read once a shift needs it, and no sooner.
-    #[cold]
-    #[inline(never)]
+    #[inline(always)]
     fn fed_by(self, shifts: u32, bytes: &[u8]) -> Registers
         requires within { IsWithin bytes.now (reader_of self) }
         requires wide { self.a % 65536 ≡ 0 }
@@ -101,22 +102,46 @@ impl Registers {
         now.shifted(left)
     }
 
-    /// RENORMD (Annex C.3.3). Where A has bit 15 there are no shifts.
-    #[inline(always)]
-    fn refilled(self, bytes: &[u8]) -> Registers
-        requires within { IsWithin bytes.now (reader_of self) }
-        requires wide { self.a % 65536 ≡ 0 }
-        requires some { 0 < self.a }
-        ensures registers { reader_of result ≡ mq_refilled bytes.now 15 (reader_of self) }
-        ensures wide { result.a % 65536 ≡ 0 }
-        ensures reading { IsReading bytes.now (reader_of result) }
+    /// RENORMD (Annex C.3.3) by so many shifts, after which A and C are those of a part of the
+    /// interval. They come as numbers, since a part that is lent would stand in memory at each
+    /// decision.
+    #[cold]
+    #[inline(never)]
+    fn feed(&mut self, a: u32, c: u32, shifts: u32, bytes: &[u8])
+        requires within { IsWithin bytes.now (reader_of (record self.old { a = a; c = c })) }
+        requires wide { a % 65536 ≡ 0 }
+        requires shifts { IsShort (a / 65536) shifts }
+        ensures registers { reader_of self.new ≡ mq_refilled bytes.now 15 (reader_of (record self.old { a = a; c = c })) }
+        ensures wide { self.new.a % 65536 ≡ 0 }
+        ensures reading { IsReading bytes.now (reader_of self.new) }
     {
-        let shifts = self.a.leading_zeros();
-        if shifts > self.ct {
-            self.fed_by(shifts, bytes)
-        } else {
-            self.shifted(shifts)
+        let mut part = *self;
+        part.a = a;
+        part.c = c;
+        *self = part.fed_by(shifts, bytes);
+    }
+
+    /// RENORMD (Annex C.3.3) of a part of the interval, in place. Where A has bit 15 there are no
+    /// shifts.
+    #[inline(always)]
+    fn refill(&mut self, part: Registers, bytes: &[u8])
+        requires same { part ≡ record self.old { a = part.a; c = part.c } }
+        requires within { IsWithin bytes.now (reader_of part) }
+        requires wide { part.a % 65536 ≡ 0 }
+        requires some { 0 < part.a }
+        ensures registers { reader_of self.new ≡ mq_refilled bytes.now 15 (reader_of part) }
+        ensures wide { self.new.a % 65536 ≡ 0 }
+        ensures reading { IsReading bytes.now (reader_of self.new) }
+    {
+        let shifts = part.a.leading_zeros();
+        if shifts > part.ct {
+            self.feed(part.a, part.c, shifts, bytes);
+            return;
         }
+        let last = part.shifted(shifts);
+        self.a = last.a;
+        self.c = last.c;
+        self.ct = last.ct;
     }
 
     /// Whether the code lies in the lower part of the interval, whose width is in the upper half of
@@ -148,6 +173,7 @@ impl Registers {
         requires most { qe ≤ self.a }
         ensures registers { reader_of result ≡ mq_chosen (reader_of self) (qe / 65536) }
         ensures wide { result.a % 65536 ≡ 0 }
+        ensures same { result ≡ record self { a = result.a; c = result.c } }
     {
         let is_low = self.is_low(qe);
         let above = self.c.wrapping_sub(qe);
@@ -209,7 +235,7 @@ impl<'a> MqDecoder<'a> {
         let is_mps = self.registers.reads_mps(qe);
         let part = self.registers.chosen(qe);
         contexts.adapt(label, state, part.a, is_mps);
-        self.registers = part.refilled(self.bytes);
+        self.registers.refill(part, self.bytes);
         (state % 2 == 1) == is_mps
     }
 

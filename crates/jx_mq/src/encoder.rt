@@ -81,6 +81,7 @@ impl Registers {
         requires room { self.c * 2 ^ by < 268435456 }
         ensures registers { (older : List ℕ) → writer_of result older ≡ mq_moved_by by (writer_of self older) }
         ensures wide { result.a % 65536 ≡ 0 }
+        ensures newest { result.newest ≡ self.newest }
     {
         Registers {
             a: self.a << by,
@@ -92,8 +93,7 @@ impl Registers {
 
     /// RENORME (Annex C.2.6) by so many shifts, as A needs, of which at least one gives out a byte. A
     /// byte is given out as soon as it is whole.
-    #[cold]
-    #[inline(never)]
+    #[inline(always)]
     fn given_by(self, shifts: u32, older: &mut Vec<u8>) -> Result<Registers, NoMemory>
         requires coding { IsCoding (writer_of self older.old.items) }
         requires wide { self.a % 65536 ≡ 0 }
@@ -115,22 +115,53 @@ impl Registers {
         Ok(now.shifted(left))
     }
 
-    /// RENORME (Annex C.2.6). Where A has bit 15 there are no shifts.
-    #[inline(always)]
-    fn renormalized(self, older: &mut Vec<u8>) -> Result<Registers, NoMemory>
-        requires coding { IsCoding (writer_of self older.old.items) }
-        requires wide { self.a % 65536 ≡ 0 }
-        ensures registers { IfOk result (λ r. writer_of r older.new.items ≡ mq_renormalized 15 (writer_of self older.old.items)) }
-        ensures coder { IfOk result (λ r. IsCoder (writer_of r older.new.items)) }
-        ensures wide { IfOk result (λ r. r.a % 65536 ≡ 0) }
+    /// RENORME (Annex C.2.6) by so many shifts, after which A and C are those of a part of the
+    /// interval. They come as numbers, since a part that is lent would stand in memory at each
+    /// decision.
+    #[cold]
+    #[inline(never)]
+    fn give(&mut self, a: u32, c: u32, shifts: u32, older: &mut Vec<u8>) -> Result<(), NoMemory>
+        requires coding { IsCoding (writer_of (record self.old { a = a; c = c }) older.old.items) }
+        requires wide { a % 65536 ≡ 0 }
+        requires shifts { IsShort (a / 65536) shifts }
+        ensures registers { OnOk result (writer_of self.new older.new.items ≡ mq_renormalized 15 (writer_of (record self.old { a = a; c = c }) older.old.items)) }
+        ensures coder { OnOk result (IsCoder (writer_of self.new older.new.items)) }
+        ensures wide { OnOk result (self.new.a % 65536 ≡ 0) }
         ensures limit { OnOk result (vec_capacity older.old ≤ vec_capacity older.new) }
-        ensures room { OnErr result (vec_capacity older.old < length (mq_renormalized 15 (writer_of self older.old.items)).bytes) }
+        ensures room { OnErr result (vec_capacity older.old < length (mq_renormalized 15 (writer_of (record self.old { a = a; c = c }) older.old.items)).bytes) }
     {
-        let shifts = self.a.leading_zeros();
-        if shifts >= self.ct {
-            return self.given_by(shifts, older);
+        let part = Registers {
+            a,
+            c,
+            ct: self.ct,
+            newest: self.newest,
+        };
+        *self = part.given_by(shifts, older)?;
+        Ok(())
+    }
+
+    /// RENORME (Annex C.2.6) of a part of the interval, in place: as a value that comes back with a
+    /// result it would go through memory at each decision. Where A has bit 15 there are no shifts.
+    #[inline(always)]
+    fn renormalize(&mut self, part: Registers, older: &mut Vec<u8>) -> Result<(), NoMemory>
+        requires same { part ≡ record self.old { a = part.a; c = part.c } }
+        requires coding { IsCoding (writer_of part older.old.items) }
+        requires wide { part.a % 65536 ≡ 0 }
+        ensures registers { OnOk result (writer_of self.new older.new.items ≡ mq_renormalized 15 (writer_of part older.old.items)) }
+        ensures coder { OnOk result (IsCoder (writer_of self.new older.new.items)) }
+        ensures wide { OnOk result (self.new.a % 65536 ≡ 0) }
+        ensures limit { OnOk result (vec_capacity older.old ≤ vec_capacity older.new) }
+        ensures room { OnErr result (vec_capacity older.old < length (mq_renormalized 15 (writer_of part older.old.items)).bytes) }
+    {
+        let shifts = part.a.leading_zeros();
+        if shifts >= part.ct {
+            return self.give(part.a, part.c, shifts, older);
         }
-        Ok(self.shifted(shifts))
+        let last = part.shifted(shifts);
+        self.a = last.a;
+        self.c = last.c;
+        self.ct = last.ct;
+        Ok(())
     }
 
     /// The interval narrowed to a symbol's part (Annex C.2.4 and C.2.5). Qe is in the upper half of
@@ -144,6 +175,7 @@ impl Registers {
         requires room { self.c < 268435456 }
         ensures registers { (older : List ℕ) → writer_of result older ≡ mq_part (writer_of self older) (qe / 65536) (lps == 0) }
         ensures wide { result.a % 65536 ≡ 0 }
+        ensures same { result ≡ record self { a = result.a; c = result.c } }
     {
         let rest = self.a - qe;
         let low = lps ^ (rest < qe) as u32;
@@ -247,11 +279,8 @@ impl MqEncoder {
         let lps = (state % 2) as u32 ^ bit as u32;
         let part = self.registers.narrowed(width_of(state), lps);
         contexts.adapt(label, state, part.a, lps == 0);
-        match part.renormalized(&mut self.older) {
-            Ok(registers) => {
-                self.registers = registers;
-                Ok(())
-            }
+        match self.registers.renormalize(part, &mut self.older) {
+            Ok(()) => Ok(()),
             Err(refused) => {
                 self.registers = Registers::first();
                 self.older.clear();

@@ -4,5 +4,4 @@ pub mod Wanted
 pub mod Work
 pub mod Names
 -- Inner: no other crate cites these.
-pub mod Rows
 pub mod Parts

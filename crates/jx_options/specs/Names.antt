@@ -1,8 +1,12 @@
--- The options of `jx transcode`: what each is called, what stands for it where it isn't among the words, and which words are its values.
-use Rattle.std.specs.Prelude.{ℕ, Bool, true, false, List, [], ◌∷◌, map, codes, is_some}
+-- The table of the options of `jx transcode`: what each is called, what stands for it where it isn't among the words, which words are its values, and what the help says of it.
+use Rattle.std.specs.Prelude.{ℕ, Bool, true, false, List, [], ◌∷◌, Option, None, Some, map, codes, is_some}
+use Rattle.jx_base.specs.Texts.{number_in}
+use Rattle.jx_options.specs.declared.Marks.{Marks}
+use Rattle.jx_options.specs.declared.PartChoice.{PartChoice}
+use Rattle.jx_options.specs.declared.PartChoice.TheVariants as parts
 use Rattle.jx_options.specs.declared.names.OptionName.{OptionName}
 use Rattle.jx_options.specs.declared.names.OptionName.TheVariants as name
-use Rattle.jx_options.specs.Values.{bytes_said, order_said, orders, part_choices, parts_said, precincts_said, style_said, threads_said, window_said}
+use Rattle.jx_options.specs.Values.{precincts_said, style_said, value_in}
 
 -- in the order of the help
 abbrev pub all_names : List OptionName
@@ -42,6 +46,33 @@ is_flag name.Eph = true
 is_flag name.Plt = true
 is_flag _ = false
 
+-- the progression orders by their numbers (Table A.16); with `keep` each tile keeps its own
+abbrev pub orders : List (List ℕ × Option ℕ)
+orders = (codes "keep", None) ∷ (codes "lrcp", Some 0) ∷ (codes "rlcp", Some 1) ∷ (codes "rpcl", Some 2) ∷ (codes "pcrl", Some 3) ∷ (codes "cprl", Some 4) ∷ []
+
+-- where tile-parts begin: between packets of different resolutions, layers or components
+abbrev pub part_choices : List (List ℕ × PartChoice)
+part_choices = (codes "none", parts.None) ∷ (codes "r", parts.Resolution) ∷ (codes "l", parts.Layer) ∷ (codes "c", parts.Component) ∷ []
+
+abbrev pub order_said : List ℕ → Option (Option ℕ)
+order_said = value_in orders
+
+abbrev pub parts_said : List ℕ → Option PartChoice
+parts_said = value_in part_choices
+
+-- ---- those that are numbers
+
+abbrev pub threads_said : List ℕ → Option ℕ
+threads_said = number_in 64
+
+abbrev pub window_said : List ℕ → Option ℕ
+window_said = number_in 1024
+
+abbrev pub bytes_said : List ℕ → Option ℕ
+bytes_said = number_in 268435456
+
+-- ---- values of all
+
 -- all the values, where these are few words
 abbrev pub listed_of : OptionName → List (List ℕ)
 listed_of name.Order = map (λ p. p.0) orders
@@ -59,3 +90,56 @@ is_value name.Threads word = is_some (threads_said word)
 is_value name.Window word = is_some (window_said word)
 is_value name.WindowBytes word = is_some (bytes_said word)
 is_value _ word = false
+
+-- what stands in the tile-parts where no option is among the words
+abbrev pub no_marks : Marks
+no_marks = record { sop = false; eph = false; plt = false; parts = parts.None }
+
+-- ---- what the help says beside that
+
+-- the heading under which it stands
+abbrev pub heading_of : OptionName → List ℕ
+heading_of name.Style = codes "How code-blocks are coded"
+heading_of name.Threads = codes "How the work is done (the file doesn't depend on it)"
+heading_of name.Window = codes "How the work is done (the file doesn't depend on it)"
+heading_of name.WindowBytes = codes "How the work is done (the file doesn't depend on it)"
+heading_of _ = codes "How the file is packed"
+
+-- the word that stands for a value; a flag has none
+abbrev pub placeholder_of : OptionName → List ℕ
+placeholder_of name.Order = codes "ORDER"
+placeholder_of name.Precincts = codes "LIST"
+placeholder_of name.Layers = codes "RULE"
+placeholder_of name.TileParts = codes "BY"
+placeholder_of name.Style = codes "NAMES"
+placeholder_of name.Threads = codes "N"
+placeholder_of name.Window = codes "N"
+placeholder_of name.WindowBytes = codes "N"
+placeholder_of _ = []
+
+-- what it does, its values and its default, and an example
+abbrev pub what_of : OptionName → List ℕ
+what_of name.Order = codes "keep, lrcp, rlcp, rpcl, pcrl or cprl\ndefault keep; as in --order rpcl"
+what_of name.Precincts = codes "keep, max, or exponents from resolution 0 up:\n7x7 is 128 by 128, the last one is for all above\ndefault keep; as in --precincts 7x7,8x8"
+what_of name.Layers = codes "keep, one, cuts:N,N.. (a new layer at each of\nthese coding passes, 1 to 220, rising), or\nplanes:N (one for each N bit-planes, 1 to 74)\ndefault keep; as in --layers planes:2"
+what_of name.TileParts = codes "none, r, l or c: a new tile-part for each\nresolution, layer or component\ndefault none; as in --tile-parts r"
+what_of name.Sop = codes "an SOP segment before each packet"
+what_of name.Eph = codes "an EPH marker behind each packet header"
+what_of name.Plt = codes "packet lengths in the tile-parts' headers"
+what_of name.Style = codes "keep, none, or names with + between them:\nbypass, reset, terminate, causal, segment\ndefault keep; as in --style terminate+reset"
+what_of name.Threads = codes "workers that code blocks anew\n1 to 64, default 1; as in --threads 4"
+what_of name.Window = codes "blocks that are in work or wait for their turn\n1 to 1024, default 64; as in --window 16"
+what_of name.WindowBytes = codes "bytes of several such blocks together\n1 to 268435456, the default"
+
+-- the least and the greatest of values that are numbers
+abbrev pub range_of : OptionName → List ℕ
+range_of name.Threads = codes "1 to 64"
+range_of name.Window = codes "1 to 1024"
+range_of name.WindowBytes = codes "1 to 268435456"
+range_of _ = []
+
+-- what a value has to be that is neither a number, nor listed, nor any text
+abbrev pub form_of : OptionName → List ℕ
+form_of name.Precincts = codes "keep, max, or 1 to 33 items XxY with commas, X and Y from 0 to 15"
+form_of name.Style = codes "keep, none, or names with + between them, each at most once:\n  bypass, reset, terminate, causal, segment"
+form_of _ = []

@@ -1,4 +1,4 @@
--- What the values of options say, and the numbers of `make`.
+-- What the values of options say that are neither listed nor numbers, and the numbers of `make`.
 use Rattle.std.specs.Prelude.{◌≡◌, ◌≤◌, ◌/◌, ◌%◌, ◌^◌, ◌-◌, ◌==◌, ℕ, zero, suc, eqb, Bool, true, not, ◌&&◌, if◌then◌else◌, List, [], ◌∷◌, ◌++◌, length, map, filter, find, sum, Option, None, Some, codes}
 use Rattle.std.specs.Str.{bytes_eq}
 use Rattle.std.specs.List.{join_with_byte, list_any, range_with_len, slice_split}
@@ -7,21 +7,11 @@ use Rattle.std.specs.Fmt.{decimal}
 use Rattle.jx_base.specs.declared.style.Style.{Style}
 use Rattle.jx_base.specs.Passes.{bypasses, has_symbols, is_causal, resets, terminates}
 use Rattle.jx_marker.specs.Ranges.{AreBytes}
-use Rattle.jx_options.specs.declared.PartChoice.{PartChoice}
-use Rattle.jx_options.specs.declared.PartChoice.TheVariants as parts
 use Rattle.jx_base.specs.Texts.{number_in}
 
 -- what stands beside a text in a list
 abbrev pub value_in : {X : Type 0} → List (List ℕ × X) → List ℕ → Option X
 value_in list text = option_map (λ p. p.1) (find (λ p. bytes_eq text p.0) list)
-
--- the progression orders by their numbers (Table A.16); with `keep` each tile keeps its own
-abbrev pub orders : List (List ℕ × Option ℕ)
-orders = (codes "keep", None) ∷ (codes "lrcp", Some 0) ∷ (codes "rlcp", Some 1) ∷ (codes "rpcl", Some 2) ∷ (codes "pcrl", Some 3) ∷ (codes "cprl", Some 4) ∷ []
-
--- where tile-parts begin: between packets of different resolutions, layers or components
-abbrev pub part_choices : List (List ℕ × PartChoice)
-part_choices = (codes "none", parts.None) ∷ (codes "r", parts.Resolution) ∷ (codes "l", parts.Layer) ∷ (codes "c", parts.Component) ∷ []
 
 -- the words that name no precinct: they are kept, or every exponent is 15 and no byte is written
 abbrev pub whole_choices : List (List ℕ × Option (List ℕ))
@@ -108,26 +98,11 @@ pub record HasNamed (names : List (List ℕ)) (style : Style) : Type 0 where
 
 -- ---- what a value says, where it is one of its option's values
 
-abbrev pub order_said : List ℕ → Option (Option ℕ)
-order_said = value_in orders
-
 abbrev pub precincts_said : List ℕ → Option (Option (List ℕ))
 precincts_said text = option_or (value_in whole_choices text) (option_map Some (precincts_in text))
 
-abbrev pub parts_said : List ℕ → Option PartChoice
-parts_said = value_in part_choices
-
 abbrev pub style_said : List ℕ → Option (Option Style)
 style_said text = option_or (value_in whole_styles text) (option_map Some (style_in text))
-
-abbrev pub threads_said : List ℕ → Option ℕ
-threads_said = number_in 64
-
-abbrev pub window_said : List ℕ → Option ℕ
-window_said = number_in 1024
-
-abbrev pub bytes_said : List ℕ → Option ℕ
-bytes_said = number_in 268435456
 
 -- ---- the numbers of `make`
 

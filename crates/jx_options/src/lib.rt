@@ -2,6 +2,7 @@
 #![tactic(auto)]
 
 ghost use Rattle.std.specs.Prelude.{◌≡◌};
+ghost use Rattle.jx_options.specs.Names.{no_marks};
 
 pub mod laws;
 mod names;
@@ -9,19 +10,14 @@ mod numbers;
 mod options;
 mod parts;
 mod precincts;
-mod rows;
 mod styles;
 mod values;
 mod work;
 
-pub use names::OptionName;
+pub use names::{OptionName, bytes_said, order_said, parts_said, threads_said, window_said};
 pub use numbers::{long_number_in, number_in};
 pub use options::{Options, OrderChoice, PrecinctChoice};
-pub use rows::{SEEDS, SIDES};
-pub use values::{
-    bytes_said, order_said, parts_said, precincts_said, seed_said, side_said, style_said,
-    threads_said, window_said,
-};
+pub use values::{SEEDS, SIDES, precincts_said, seed_said, side_said, style_said};
 pub use work::Work;
 
 /// Where a tile is cut into tile-parts (ITU-T T.800, A.4.2).
@@ -48,4 +44,18 @@ pub struct Marks {
     pub plt: bool,
     /// Where a tile is cut into tile-parts (A.4.2).
     pub parts: PartChoice,
+}
+
+impl Marks {
+    /// What stands there where no option is among the words.
+    pub fn none() -> Marks
+        ensures { result ≡ no_marks }
+    {
+        Marks {
+            sop: false,
+            eph: false,
+            plt: false,
+            parts: PartChoice::None,
+        }
+    }
 }

@@ -1,11 +1,14 @@
-//! The options of `jx transcode`, by their names: what each is where it isn't among the words, and which words are its values.
+//! The table of the options of `jx transcode`: what each is called, what it is where it isn't among the words, which words are its values,
+//! and what the help says of it.
 
-ghost use Rattle.std.specs.Prelude.{◌≡◌, IfOk, map};
-ghost use Rattle.jx_options.specs.Names.{all_names, default_of, is_flag, is_value, listed_of, name_of};
+ghost use Rattle.std.specs.Prelude.{◌≡◌, IfOk, map, option_map};
+ghost use Rattle.jx_options.specs.Choices.{order_in};
+ghost use Rattle.jx_options.specs.Names.{all_names, bytes_said, default_of, form_of, heading_of, is_flag, is_value, listed_of, name_of, order_said, parts_said, placeholder_of, range_of, threads_said, what_of, window_said};
 
-use crate::values::{
-    bytes_said, order_said, parts_said, precincts_said, style_said, threads_said, window_said,
-};
+use crate::PartChoice;
+use crate::numbers::number_in;
+use crate::options::OrderChoice;
+use crate::values::{precincts_said, style_said};
 use jx_base::NoMemory;
 use std::alloc::Global;
 
@@ -34,6 +37,71 @@ pub enum OptionName {
     Window,
     /// How many bytes several such blocks may have together.
     WindowBytes,
+}
+
+/// The progression order that a word names (ITU-T T.800, Table A.16).
+pub fn order_said(word: &str) -> Option<OrderChoice>
+    ensures { option_map order_in result ≡ order_said word.now }
+{
+    if word == "keep" {
+        return Some(OrderChoice::Keep);
+    }
+    if word == "lrcp" {
+        return Some(OrderChoice::Order(0));
+    }
+    if word == "rlcp" {
+        return Some(OrderChoice::Order(1));
+    }
+    if word == "rpcl" {
+        return Some(OrderChoice::Order(2));
+    }
+    if word == "pcrl" {
+        return Some(OrderChoice::Order(3));
+    }
+    if word == "cprl" {
+        return Some(OrderChoice::Order(4));
+    }
+    None
+}
+
+/// Where a word says that tile-parts begin.
+pub fn parts_said(word: &str) -> Option<PartChoice>
+    ensures { result ≡ parts_said word.now }
+{
+    if word == "none" {
+        return Some(PartChoice::None);
+    }
+    if word == "r" {
+        return Some(PartChoice::Resolution);
+    }
+    if word == "l" {
+        return Some(PartChoice::Layer);
+    }
+    if word == "c" {
+        return Some(PartChoice::Component);
+    }
+    None
+}
+
+/// The workers that a word asks for, 1 to 64.
+pub fn threads_said(word: &str) -> Option<u32>
+    ensures { result ≡ threads_said word.now }
+{
+    number_in(64, word)
+}
+
+/// The blocks that a word lets stand between claim and sequence, 1 to 1,024.
+pub fn window_said(word: &str) -> Option<u32>
+    ensures { result ≡ window_said word.now }
+{
+    number_in(1_024, word)
+}
+
+/// The bytes that a word lets several such blocks have together, 1 to 2^28.
+pub fn bytes_said(word: &str) -> Option<u32>
+    ensures { result ≡ bytes_said word.now }
+{
+    number_in(268_435_456, word)
 }
 
 impl OptionName {
@@ -129,5 +197,95 @@ impl OptionName {
             OptionName::WindowBytes => bytes_said(word).is_some(),
         };
         Ok(good)
+    }
+
+    /// The heading under which it stands.
+    pub fn heading(self) -> &'static str
+        ensures { result.now ≡ heading_of self }
+    {
+        match self {
+            OptionName::Style => "How code-blocks are coded",
+            OptionName::Threads | OptionName::Window | OptionName::WindowBytes => {
+                "How the work is done (the file doesn't depend on it)"
+            }
+            _ => "How the file is packed",
+        }
+    }
+
+    /// The word that stands for its value; nothing for a flag.
+    pub fn placeholder(self) -> &'static str
+        ensures { result.now ≡ placeholder_of self }
+    {
+        match self {
+            OptionName::Order => "ORDER",
+            OptionName::Precincts => "LIST",
+            OptionName::Layers => "RULE",
+            OptionName::TileParts => "BY",
+            OptionName::Style => "NAMES",
+            OptionName::Threads | OptionName::Window | OptionName::WindowBytes => "N",
+            OptionName::Sop | OptionName::Eph | OptionName::Plt => "",
+        }
+    }
+
+    /// What it does, its values and its default, and an example, as the help has it.
+    pub fn what(self) -> &'static str
+        ensures { result.now ≡ what_of self }
+    {
+        match self {
+            OptionName::Order => {
+                "keep, lrcp, rlcp, rpcl, pcrl or cprl\ndefault keep; as in --order rpcl"
+            }
+            OptionName::Precincts => {
+                "keep, max, or exponents from resolution 0 up:\n7x7 is 128 by 128, the last one is for all above\ndefault keep; as in --precincts 7x7,8x8"
+            }
+            OptionName::Layers => {
+                "keep, one, cuts:N,N.. (a new layer at each of\nthese coding passes, 1 to 220, rising), or\nplanes:N (one for each N bit-planes, 1 to 74)\ndefault keep; as in --layers planes:2"
+            }
+            OptionName::TileParts => {
+                "none, r, l or c: a new tile-part for each\nresolution, layer or component\ndefault none; as in --tile-parts r"
+            }
+            OptionName::Sop => "an SOP segment before each packet",
+            OptionName::Eph => "an EPH marker behind each packet header",
+            OptionName::Plt => "packet lengths in the tile-parts' headers",
+            OptionName::Style => {
+                "keep, none, or names with + between them:\nbypass, reset, terminate, causal, segment\ndefault keep; as in --style terminate+reset"
+            }
+            OptionName::Threads => {
+                "workers that code blocks anew\n1 to 64, default 1; as in --threads 4"
+            }
+            OptionName::Window => {
+                "blocks that are in work or wait for their turn\n1 to 1024, default 64; as in --window 16"
+            }
+            OptionName::WindowBytes => {
+                "bytes of several such blocks together\n1 to 268435456, the default"
+            }
+        }
+    }
+
+    /// The least and the greatest of its values, where these are numbers; nothing where they aren't.
+    pub fn range(self) -> &'static str
+        ensures { result.now ≡ range_of self }
+    {
+        match self {
+            OptionName::Threads => "1 to 64",
+            OptionName::Window => "1 to 1024",
+            OptionName::WindowBytes => "1 to 268435456",
+            _ => "",
+        }
+    }
+
+    /// What a value has to be, where it is neither a number, nor listed, nor any text; nothing where it is.
+    pub fn form(self) -> &'static str
+        ensures { result.now ≡ form_of self }
+    {
+        match self {
+            OptionName::Precincts => {
+                "keep, max, or 1 to 33 items XxY with commas, X and Y from 0 to 15"
+            }
+            OptionName::Style => {
+                "keep, none, or names with + between them, each at most once:\n  bypass, reset, terminate, causal, segment"
+            }
+            _ => "",
+        }
     }
 }

@@ -9,7 +9,8 @@ use Rattle.jx_tagtree.specs.Shape.{IsShape}
 use Rattle.jx_tagtree.specs.Leaves.{least_leaf}
 use Rattle.jx_tagtree.proofs.LeafLemmas.{least_of_leaf, least_are_values}
 use Rattle.jx_tagtree.proofs.QuestionLemmas.{fresh_values}
-use Rattle.jx_packet_header.specs.declared.Part.{Part}
+use Rattle.jx_packet_header.specs.declared.HeaderPart.{HeaderPart}
+use Rattle.jx_packet_header.specs.declared.LeafPart.{LeafPart}
 use Rattle.jx_packet_header.specs.declared.BandCells.{BandCells}
 use Rattle.jx_packet_header.specs.declared.known.Known.{Known}
 use Rattle.jx_packet_header.specs.Packet.{Cells, State, Values, Agree, Entry, unknown_block, block_at, block_after, zero_planes, cells_first, cells_included, entry_after, IsEntry, AreEntries, blocks_after, parts_told, BandTold, IsBandTold, band_after, AreBandsTold, bands_after, bands_parts, header_after, header_parts, IsToldOf, IsPacket}
@@ -148,11 +149,11 @@ pub record IsBandAt (style layers layer base : ℕ) (cells : Cells) (leaves : Li
   pub told : (i : ℕ) → i < length leaves → IsTold layer (block_at cells i) (leaf_at leaves i)
 
 -- leaves of the tag trees fit 32 bits
-first_fits : (style layers planes block z : ℕ) (parts : List (ℕ × Part)) → layers < 2 ^ 16 → FitsLeaf style layers planes block (record { zero = z; parts = parts }) parts → first_layer layers parts < 2 ^ 32
+first_fits : (style layers planes block z : ℕ) (parts : List LeafPart) → layers < 2 ^ 16 → FitsLeaf style layers planes block (record { zero = z; parts = parts }) parts → first_layer layers parts < 2 ^ 32
 first_fits style layers planes block z [] few f = omega arith
-first_fits style layers planes block z (p ∷ ps) few f = let lt : p.0 < layers = f.parts.1 in omega arith
+first_fits style layers planes block z (p ∷ ps) few f = let lt : p.layer < layers = f.parts.1 in omega arith
 
-zero_fits : (style layers planes block z : ℕ) (parts : List (ℕ × Part)) → planes ≤ 255 → FitsLeaf style layers planes block (record { zero = z; parts = parts }) parts → zero_leaf planes z parts < 2 ^ 32
+zero_fits : (style layers planes block z : ℕ) (parts : List LeafPart) → planes ≤ 255 → FitsLeaf style layers planes block (record { zero = z; parts = parts }) parts → zero_leaf planes z parts < 2 ^ 32
 zero_fits style layers planes block z [] few f = omega arith
 zero_fits style layers planes block z (p ∷ ps) few f = let lt : z < planes = f.zero_planes in omega arith
 
@@ -233,13 +234,13 @@ AreBandsAt style layers layer base (cells ∷ bands) leaves =
 parts_at-split : (layer n : ℕ) (leaves : List Leafed) → parts_at layer (take n leaves) ++ parts_at layer (drop n leaves) ≡ parts_at layer leaves
 parts_at-split layer zero leaves = refl
 parts_at-split layer (suc n) [] = refl
-parts_at-split layer (suc n) (l ∷ ls) = append_assoc (parts_in layer l.parts) (parts_at layer (take n ls)) (parts_at layer (drop n ls)) ∙ ap (λ (ps : List Part). parts_in layer l.parts ++ ps) (parts_at-split layer n ls)
+parts_at-split layer (suc n) (l ∷ ls) = append_assoc (parts_in layer l.parts) (parts_at layer (take n ls)) (parts_at layer (drop n ls)) ∙ ap (λ (ps : List HeaderPart). parts_in layer l.parts ++ ps) (parts_at-split layer n ls)
 
 parts_written : (layer : ℕ) (blocks : List Known) (leaves : List Leafed) → length leaves ≡ length blocks → parts_told (entries_written layer blocks leaves) ≡ parts_at layer leaves
 parts_written layer [] [] e = refl
 parts_written layer [] (l ∷ ls) e = absurd (omega arith)
 parts_written layer (k ∷ ks) [] e = absurd (omega arith)
-parts_written layer (k ∷ ks) (l ∷ ls) e = ap (λ (ps : List Part). parts_in layer l.parts ++ ps) (parts_written layer ks ls (omega arith))
+parts_written layer (k ∷ ks) (l ∷ ls) e = ap (λ (ps : List HeaderPart). parts_in layer l.parts ++ ps) (parts_written layer ks ls (omega arith))
 
 pub record BandsAgree (style layers layer base : ℕ) (bands : List Cells) (leaves : List Leafed) : Type 0 where
   pub told : AreBandsTold style layer base bands (bands_written layers layer bands leaves)
@@ -258,8 +259,8 @@ bands_agree style layers layer base (cells ∷ bands) leaves few small b =
     record {
       told = (one.told, others.told);
       next = subst (λ (m : ℕ). IsBandAt style layers (layer + 1) base after (take m leaves) × AreBandsAt style layers (layer + 1) (base + m) behind (drop m leaves)) (sym one.long) (one.next, others.next);
-      parts = ap (λ (ps : List Part). ps ++ bands_parts (bands_written layers layer bands (drop n leaves))) (parts_written layer cells.blocks mine b.0.all)
-          ∙ ap (λ (ps : List Part). parts_at layer mine ++ ps) others.parts ∙ parts_at-split layer n leaves;
+      parts = ap (λ (ps : List HeaderPart). ps ++ bands_parts (bands_written layers layer bands (drop n leaves))) (parts_written layer cells.blocks mine b.0.all)
+          ∙ ap (λ (ps : List HeaderPart). parts_at layer mine ++ ps) others.parts ∙ parts_at-split layer n leaves;
     }
 
 -- ---- a layer in which no block contributes
@@ -282,7 +283,7 @@ some_drop layer (suc n) (l ∷ ls) e = some_drop layer n ls (or_parts (nat_lt 0 
 
 parts_none : (layer : ℕ) (leaves : List Leafed) → ((i : ℕ) → i < length leaves → parts_in layer (leaf_at leaves i).parts ≡ []) → parts_at layer leaves ≡ []
 parts_none layer [] each = refl
-parts_none layer (l ∷ ls) each = ap (λ (ps : List Part). ps ++ parts_at layer ls) (each 0 (omega arith)) ∙ parts_none layer ls (λ i lt. each (suc i) (omega arith))
+parts_none layer (l ∷ ls) each = ap (λ (ps : List HeaderPart). ps ++ parts_at layer ls) (each 0 (omega arith)) ∙ parts_none layer ls (λ i lt. each (suc i) (omega arith))
 
 pub record BandsStill (style layers layer base : ℕ) (bands : List Cells) (leaves : List Leafed) : Type 0 where
   pub next : AreBandsAt style layers (layer + 1) base bands leaves
@@ -311,7 +312,7 @@ bands_still style layers layer base (cells ∷ bands) leaves e b =
     let others = bands_still style layers layer (base + n) bands (drop n leaves) (some_drop layer n leaves e) b.1 in
     record {
       next = (one.0, others.next);
-      parts = sym (parts_at-split layer n leaves) ∙ ap (λ (ps : List Part). ps ++ parts_at layer (drop n leaves)) one.1 ∙ others.parts;
+      parts = sym (parts_at-split layer n leaves) ∙ ap (λ (ps : List HeaderPart). ps ++ parts_at layer (drop n leaves)) one.1 ∙ others.parts;
     }
 
 -- ---- a header
@@ -466,7 +467,7 @@ written_is_read layers style layer bands leaves rest r f t lt =
     let after : header_after k h ≡ state_at layers style bands leaves (layer + 1) = ap (state_at layers style bands leaves) next in
     let stands : IsPacket (bytes ++ rest) k (parts_at layer leaves) (length bytes) (state_at layers style bands leaves (layer + 1)) =
     subst (λ (s : State). IsPacket (bytes ++ rest) k (parts_at layer leaves) (length bytes) s) after
-    (subst (λ (ps : List Part). IsPacket (bytes ++ rest) k ps (length bytes) (header_after k h)) parts (stands_there k h rest a.told)) in
+    (subst (λ (ps : List HeaderPart). IsPacket (bytes ++ rest) k ps (length bytes) (header_after k h)) parts (stands_there k h rest a.told)) in
     record {
       stands = stands;
       only = λ others ends others_after p.

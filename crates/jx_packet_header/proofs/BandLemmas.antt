@@ -11,14 +11,14 @@ use Rattle.jx_tagtree.specs.Shape.{IsShape}
 use Rattle.jx_tagtree.specs.TagTree.{Tree, ValuesOf, IsTree, tree_after}
 use Rattle.jx_tagtree.specs.Questions.{Question, after_all}
 use Rattle.jx_tagtree.proofs.QuestionLemmas.{known_values}
-use Rattle.jx_packet_header.specs.declared.Part.{Part}
+use Rattle.jx_packet_header.specs.declared.HeaderPart.{HeaderPart}
 use Rattle.jx_packet_header.specs.declared.HeadFault.{HeadFault}
 use Rattle.jx_packet_header.specs.declared.HeadFault.TheVariants.{Bits, Planes, NoMemory}
 use Rattle.jx_packet_header.specs.Said.{Refuses, BandSaid}
 use Rattle.jx_packet_header.specs.Writable.{SameSize}
 use Rattle.jx_packet_header.specs.declared.known.Known.{Known}
 use Rattle.jx_packet_header.specs.Words.{pass_word, raise_word}
-use Rattle.jx_packet_header.specs.Parts.{one_more, cut, width, AreParts, length_bits}
+use Rattle.jx_packet_header.specs.Parts.{one_more, cut, width, AreHeaderParts, length_bits}
 use Rattle.jx_packet_header.specs.Packet.{Cells, Values, Agree, Entry, nothing, contributes, block_at, block_after, unknown_block, told_bits, included_bits, most_passes, IsIncluded, asked, zero_questions, zero_bits, zero_after, zero_planes, first_bits, first_after, IsInclusion, entry_bits, cells_first, cells_included, entry_after, IsEntry, ReachesPlanes, PassesPlanes, Breaks, blocks_bits, blocks_after, AreEntries, parts_told, BandTold, IsBandTold, band_bits, band_after, bands_bits, bands_after, AreBandsTold, AgreeAfter, bands_parts, BandBreaks, BandStands, BandsBreak}
 use Rattle.jx_packet_header.specs.Kept.{AreTrees, IsLeafOf, IsKnown, IsBand, IsSilent}
 use Rattle.jx_packet_header.specs.Scan.{Found, or_bits, and_then, Asked, scan_first, Zeros, scan_zeros, scan_entry, Told, told_of, and_told, scan_included, scan_block, AllTold, after_told, and_parts, scan_blocks, scan_band, BandsRead, after_band, and_band, scan_bands}
@@ -247,7 +247,7 @@ block_breaks style layer block leaf cells bits b h = by (scan_first (block_at ce
     by (Some s) eq h = pick s eq s.below refl h
 
 -- ---- the blocks of a band
-abbrev pub all_is : List Part → Cells → List Bool → AllTold
+abbrev pub all_is : List HeaderPart → Cells → List Bool → AllTold
 all_is parts cells rest = record { parts = parts; cells = cells; rest = rest }
 
 abbrev on_block : ℕ → ℕ → ℕ → ℕ → ℕ → Told → Result AllTold HeadFault
@@ -329,7 +329,7 @@ blocks_read style layer base stop (suc more) leaf cells bits a t all sum h =
         subst (λ (y : AllTold). BlocksRead style layer base stop leaf cells bits y) is (record {
           kept = record { trees = r.kept.trees; long = r.kept.long ∙ k.long; planes = r.kept.planes ∙ k.planes };
           entries = u.entry ∷ r.entries;
-          parts_are = ap (λ (ps : List Part). u.entry.parts ++ ps) r.parts_are;
+          parts_are = ap (λ (ps : List HeaderPart). u.entry.parts ++ ps) r.parts_are;
           go = λ v agree. (
               let g : BlocksGo v style layer base stop (leaf + 1) u.cells u.rest r.entries x = r.go v agree in
               let o : BlockRead v style layer (base + leaf) leaf cells bits u = block_read v style layer (base + leaf) leaf cells bits u b eq g.before in
@@ -373,7 +373,7 @@ pub record SomeBlocksBreak (style layer base stop leaf : ℕ) (cells : Cells) (b
   pub breaks : Breaks values layer at (blocks_after values layer leaf cells entries) behind
   pub from : leaf ≤ at
 
-same_fault : (parts : List Part) (r : Result AllTold HeadFault) → and_parts parts r ≡ Err Planes → r ≡ Err Planes
+same_fault : (parts : List HeaderPart) (r : Result AllTold HeadFault) → and_parts parts r ≡ Err Planes → r ≡ Err Planes
 same_fault parts (Err e) h = let is : e ≡ Planes = cc in ap (λ (x : HeadFault). let y : Result AllTold HeadFault = Err x in y) is
 same_fault parts (Ok x) h = absurd cc
 
@@ -428,7 +428,7 @@ abbrev pub AreAllTrees : List Cells → Type 0
 AreAllTrees [] = Unit {0}
 AreAllTrees (cells ∷ bands) = AreTrees cells × AreAllTrees bands
 
-abbrev pub bands_is : List Part → List Cells → List Bool → BandsRead
+abbrev pub bands_is : List HeaderPart → List Cells → List Bool → BandsRead
 bands_is parts bands rest = record { parts = parts; bands = bands; rest = rest }
 
 abbrev pub on_band : ℕ → ℕ → ℕ → Cells → List Cells → AllTold → Result BandsRead HeadFault
@@ -529,7 +529,7 @@ bands_read style layer base (cells ∷ bands) bits b t h =
           tolds = o.told ∷ g.tolds;
           are = (o.is, g.are);
           bits_are = o.bits_are ∙ ap (λ (q : List Bool). front ++ q) g.bits_are ∙ sym (append_assoc front (bands_bits layer bands g.tolds) x.rest);
-          parts_are = ap (λ (ps : List Part). ps ++ x.parts) o.parts_are ∙ ap (λ (ps : List Part). parts_told o.told.entries ++ ps) g.parts_are;
+          parts_are = ap (λ (ps : List HeaderPart). ps ++ x.parts) o.parts_are ∙ ap (λ (ps : List HeaderPart). parts_told o.told.entries ++ ps) g.parts_are;
           bands_are = ap (λ (c : Cells). c ∷ x.bands) o.cells_are ∙ ap (λ (cs : List Cells). band_after layer cells o.told ∷ cs) g.bands_are;
           trees = (o.kept.trees, g.trees);
         })
@@ -600,7 +600,7 @@ cut_some style first (suc n) ge = by (end_pass style first) (cut style (first + 
     by false [] = (1, [], refl)
     by false (run ∷ runs) = (suc run, runs, refl)
 
-lblock_fits : (lblock block first : ℕ) (runs : List ℕ) (parts : List Part) (run : ℕ) (more : List ℕ) → runs ≡ run ∷ more → AreParts lblock block first runs parts → lblock ≤ length (length_bits lblock parts)
+lblock_fits : (lblock block first : ℕ) (runs : List ℕ) (parts : List HeaderPart) (run : ℕ) (more : List ℕ) → runs ≡ run ∷ more → AreHeaderParts lblock block first runs parts → lblock ≤ length (length_bits lblock parts)
 lblock_fits lblock block first [] parts run more e are = absurd cc
 lblock_fits lblock block first (x ∷ xs) [] run more e are = absurd are
 lblock_fits lblock block first (x ∷ xs) (p ∷ ps) run more e are =
@@ -672,11 +672,11 @@ block_band style layer block leaf cells bits t b lt small h =
     )
 
 -- ---- block after block
-parts_parts : (ps qs : List Part) (r : Result AllTold HeadFault) → and_parts ps (and_parts qs r) ≡ and_parts (ps ++ qs) r
+parts_parts : (ps qs : List HeaderPart) (r : Result AllTold HeadFault) → and_parts ps (and_parts qs r) ≡ and_parts (ps ++ qs) r
 parts_parts ps qs (Err e) = refl
-parts_parts ps qs (Ok a) = ap (λ (l : List Part). Ok (all_is l a.cells a.rest)) (sym (append_assoc ps qs a.parts))
+parts_parts ps qs (Ok a) = ap (λ (l : List HeaderPart). Ok (all_is l a.cells a.rest)) (sym (append_assoc ps qs a.parts))
 
-pub blocks_step : (whole : Result AllTold HeadFault) (begun now new : List Part) (style layer base left leaf : ℕ) (cells after : Cells) (bits rest : List Bool) (e : Entry) → 0 < left →
+pub blocks_step : (whole : Result AllTold HeadFault) (begun now new : List HeaderPart) (style layer base left leaf : ℕ) (cells after : Cells) (bits rest : List Bool) (e : Entry) → 0 < left →
     and_parts begun whole ≡ and_parts now (scan_blocks style layer base left leaf cells bits) → scan_block style layer (base + leaf) leaf cells bits ≡ Ok (told_is e after rest) → new ≡ now ++ e.parts →
     and_parts begun whole ≡ and_parts new (scan_blocks style layer base (left - 1) (leaf + 1) after rest)
 blocks_step whole begun now new style layer base zero leaf cells after bits rest e lt h was is = absurd (omega arith)
@@ -684,26 +684,26 @@ blocks_step whole begun now new style layer base (suc more) leaf cells after bit
     let less : more ≡ suc more - 1 = omega arith in
     h ∙ ap (λ (r : Result Told HeadFault). and_parts now (and_then r (on_block style layer base more leaf))) was
     ∙ parts_parts now e.parts (scan_blocks style layer base more (leaf + 1) after rest)
-    ∙ ap (λ (l : List Part). and_parts l (scan_blocks style layer base more (leaf + 1) after rest)) (sym is)
+    ∙ ap (λ (l : List HeaderPart). and_parts l (scan_blocks style layer base more (leaf + 1) after rest)) (sym is)
     ∙ ap (λ (k : ℕ). and_parts new (scan_blocks style layer base k (leaf + 1) after rest)) less
 
-whole_fault : (begun : List Part) (whole : Result AllTold HeadFault) (f : HeadFault) → and_parts begun whole ≡ Err f → whole ≡ Err f
+whole_fault : (begun : List HeaderPart) (whole : Result AllTold HeadFault) (f : HeadFault) → and_parts begun whole ≡ Err f → whole ≡ Err f
 whole_fault begun (Err e) f h = let is : e ≡ f = cc in ap (λ (x : HeadFault). let y : Result AllTold HeadFault = Err x in y) is
 whole_fault begun (Ok x) f h = absurd cc
 
-blocks_err : (whole : Result AllTold HeadFault) (begun now : List Part) (style layer base left leaf : ℕ) (cells : Cells) (bits : List Bool) (f : HeadFault) → 0 < left →
+blocks_err : (whole : Result AllTold HeadFault) (begun now : List HeaderPart) (style layer base left leaf : ℕ) (cells : Cells) (bits : List Bool) (f : HeadFault) → 0 < left →
     and_parts begun whole ≡ and_parts now (scan_blocks style layer base left leaf cells bits) → scan_block style layer (base + leaf) leaf cells bits ≡ Err f → whole ≡ Err f
 blocks_err whole begun now style layer base zero leaf cells bits f lt h was = absurd (omega arith)
 blocks_err whole begun now style layer base (suc more) leaf cells bits f lt h was =
     whole_fault begun whole f (h ∙ ap (λ (r : Result Told HeadFault). and_parts now (and_then r (on_block style layer base more leaf))) was)
 
-pub blocks_refuse : (whole : Result AllTold HeadFault) (begun now : List Part) (style layer base left leaf : ℕ) (cells : Cells) (bits : List Bool) (f : HeadFault) → 0 < left →
+pub blocks_refuse : (whole : Result AllTold HeadFault) (begun now : List HeaderPart) (style layer base left leaf : ℕ) (cells : Cells) (bits : List Bool) (f : HeadFault) → 0 < left →
     and_parts begun whole ≡ and_parts now (scan_blocks style layer base left leaf cells bits) → Refuses f (scan_block style layer (base + leaf) leaf cells bits) → Refuses f whole
 blocks_refuse whole begun now style layer base left leaf cells bits Bits lt h was = blocks_err whole begun now style layer base left leaf cells bits Bits lt h was
 blocks_refuse whole begun now style layer base left leaf cells bits Planes lt h was = blocks_err whole begun now style layer base left leaf cells bits Planes lt h was
 blocks_refuse whole begun now style layer base left leaf cells bits NoMemory lt h was = tt
 
-pub blocks_said : (whole : Result AllTold HeadFault) (begun now : List Part) (style layer base left leaf : ℕ) (cells : Cells) (bits : List Bool) → left ≡ 0 →
+pub blocks_said : (whole : Result AllTold HeadFault) (begun now : List HeaderPart) (style layer base left leaf : ℕ) (cells : Cells) (bits : List Bool) → left ≡ 0 →
     and_parts begun whole ≡ and_parts now (scan_blocks style layer base left leaf cells bits) → BandSaid whole begun now cells bits
 blocks_said (Err e) begun now style layer base zero leaf cells bits none h = absurd cc
 blocks_said (Ok a) begun now style layer base zero leaf cells bits none h =
@@ -740,7 +740,7 @@ silent_blocks style layer base (suc more) leaf cells bits b le s =
     ∙ ap (and_parts []) (silent_blocks style layer base more (leaf + 1) cells bits b (omega arith) s)
 
 -- the rest of a band is silent
-pub blocks_silent : (whole : Result AllTold HeadFault) (begun now : List Part) (style layer base left leaf : ℕ) (cells : Cells) (bits : List Bool) → IsBand cells → leaf + left ≤ length cells.blocks →
+pub blocks_silent : (whole : Result AllTold HeadFault) (begun now : List HeaderPart) (style layer base left leaf : ℕ) (cells : Cells) (bits : List Bool) → IsBand cells → leaf + left ≤ length cells.blocks →
     IsSilent layer cells → and_parts begun whole ≡ and_parts now (scan_blocks style layer base left leaf cells bits) → BandSaid whole begun now cells bits
 blocks_silent whole begun now style layer base left leaf cells bits b le s h =
     blocks_said whole begun now style layer base 0 leaf cells bits refl (h ∙ ap (and_parts now) (silent_blocks style layer base left leaf cells bits b le s))

@@ -1,7 +1,7 @@
 -- What is read of the bands of a precinct, band after band.
 use Rattle.std.proofs.Common.{◌≡◌, ℕ, zero, suc, ◌+◌, ◌<◌, ◌≤◌, Bool, List, [], ◌∷◌, ◌++◌, length, take, drop, refl, sym, ap, ◌∙◌, arith, append_assoc, Ok, Err, Result, length-append, get_or, set}
 use Rattle.std.proofs.lemmas.List.{append-nil, drop_all, take_all}
-use Rattle.jx_packet_header.specs.declared.Part.{Part}
+use Rattle.jx_packet_header.specs.declared.HeaderPart.{HeaderPart}
 use Rattle.jx_packet_header.specs.declared.HeadFault.{HeadFault}
 use Rattle.jx_packet_header.specs.declared.HeadFault.TheVariants.{Bits, Planes, NoMemory}
 use Rattle.jx_packet_header.specs.Said.{Refuses, BandsSaid}
@@ -50,17 +50,17 @@ blocks_set (x ∷ xs) (suc at) y d lt e =
     let b : length (x.blocks ++ all_blocks xs) ≡ length x.blocks + length (all_blocks xs) = length-append x.blocks (all_blocks xs) in
     omega arith
 
-abbrev pub and_done : List Part → List Cells → Result BandsRead HeadFault → Result BandsRead HeadFault
+abbrev pub and_done : List HeaderPart → List Cells → Result BandsRead HeadFault → Result BandsRead HeadFault
 and_done parts done r = and_then r (λ (b : BandsRead). Ok (bands_is (parts ++ b.parts) (done ++ b.bands) b.rest))
 
-done_done : (now parts : List Part) (done : List Cells) (cells : Cells) (rest : List Bool) (r : Result BandsRead HeadFault) →
+done_done : (now parts : List HeaderPart) (done : List Cells) (cells : Cells) (rest : List Bool) (r : Result BandsRead HeadFault) →
     and_done now done (and_band (all_is parts cells rest) r) ≡ and_done (now ++ parts) (done ++ cells ∷ []) r
 done_done now parts done cells rest (Err e) = refl
 done_done now parts done cells rest (Ok b) =
-    ap (λ (l : List Part). Ok (bands_is l (done ++ cells ∷ b.bands) b.rest)) (sym (append_assoc now parts b.parts))
+    ap (λ (l : List HeaderPart). Ok (bands_is l (done ++ cells ∷ b.bands) b.rest)) (sym (append_assoc now parts b.parts))
     ∙ ap (λ (l : List Cells). Ok (bands_is ((now ++ parts) ++ b.parts) l b.rest)) (sym (append_assoc done (cells ∷ []) b.bands))
 
-pub bands_step : (whole : Result BandsRead HeadFault) (begun now new parts : List Part) (style layer base at : ℕ) (bands : List Cells) (y d : Cells) (bits rest : List Bool) → at < length bands →
+pub bands_step : (whole : Result BandsRead HeadFault) (begun now new parts : List HeaderPart) (style layer base at : ℕ) (bands : List Cells) (y d : Cells) (bits rest : List Bool) → at < length bands →
     and_done begun [] whole ≡ and_done now (take at bands) (scan_bands style layer base (drop at bands) bits) →
     scan_band style layer base (get_or bands at d) bits ≡ Ok (all_is parts y rest) → new ≡ now ++ parts →
     and_done begun [] whole ≡ and_done new (take (at + 1) (set bands at y)) (scan_bands style layer (base + length (get_or bands at d).blocks) (drop (at + 1) (set bands at y)) rest)
@@ -71,7 +71,7 @@ bands_step whole begun now new parts style layer base at bands y d bits rest lt 
     h ∙ ap (λ (l : List Cells). and_done now (take at bands) (scan_bands style layer base l bits)) s.here
     ∙ ap (λ (r : Result AllTold HeadFault). and_done now (take at bands) (and_then r (on_band style layer base x (drop (at + 1) bands)))) was
     ∙ done_done now parts (take at bands) y rest next
-    ∙ ap (λ (l : List Part). and_done l (take at bands ++ y ∷ []) next) (sym is)
+    ∙ ap (λ (l : List HeaderPart). and_done l (take at bands ++ y ∷ []) next) (sym is)
     ∙ ap (λ (l : List Cells). and_done new l next) (sym s.front)
     ∙ ap (λ (l : List Cells). and_done new (take (at + 1) (set bands at y)) (scan_bands style layer (base + length x.blocks) l rest)) (sym s.behind)
 
@@ -86,7 +86,7 @@ next_left bands at base most y d lt le =
     omega arith
 
 -- after the last band
-pub bands_said : (whole : Result BandsRead HeadFault) (begun now : List Part) (style layer base at : ℕ) (bands : List Cells) (bits : List Bool) → length bands ≤ at →
+pub bands_said : (whole : Result BandsRead HeadFault) (begun now : List HeaderPart) (style layer base at : ℕ) (bands : List Cells) (bits : List Bool) → length bands ≤ at →
     and_done begun [] whole ≡ and_done now (take at bands) (scan_bands style layer base (drop at bands) bits) → BandsSaid whole begun now bands bits
 bands_said whole begun now style layer base at bands bits le h =
     said whole (h ∙ ap (λ (l : List Cells). and_done now (take at bands) (scan_bands style layer base l bits)) (drop_all at bands le) ∙ ap (λ (l : List Cells). Ok (bands_is (now ++ []) (l ++ []) bits)) (take_all at bands le))
@@ -103,18 +103,18 @@ bands_said whole begun now style layer base at bands bits le h =
         }
 
 -- where a band is refused
-bands_err : (whole : Result BandsRead HeadFault) (begun : List Part) (f : HeadFault) → and_done begun [] whole ≡ Err f → whole ≡ Err f
+bands_err : (whole : Result BandsRead HeadFault) (begun : List HeaderPart) (f : HeadFault) → and_done begun [] whole ≡ Err f → whole ≡ Err f
 bands_err (Err e) begun f h = h
 bands_err (Ok b) begun f h = absurd cc
 
-band_err : (whole : Result BandsRead HeadFault) (begun now : List Part) (style layer base at : ℕ) (bands : List Cells) (d : Cells) (bits : List Bool) (f : HeadFault) → at < length bands →
+band_err : (whole : Result BandsRead HeadFault) (begun now : List HeaderPart) (style layer base at : ℕ) (bands : List Cells) (d : Cells) (bits : List Bool) (f : HeadFault) → at < length bands →
     and_done begun [] whole ≡ and_done now (take at bands) (scan_bands style layer base (drop at bands) bits) → scan_band style layer base (get_or bands at d) bits ≡ Err f → whole ≡ Err f
 band_err whole begun now style layer base at bands d bits f lt h was =
     let s = set_at bands at d d lt in
     bands_err whole begun f (h ∙ ap (λ (l : List Cells). and_done now (take at bands) (scan_bands style layer base l bits)) s.here
     ∙ ap (λ (r : Result AllTold HeadFault). and_done now (take at bands) (and_then r (on_band style layer base (get_or bands at d) (drop (at + 1) bands)))) was)
 
-pub bands_refuse : (whole : Result BandsRead HeadFault) (begun now : List Part) (style layer base at : ℕ) (bands : List Cells) (d : Cells) (bits : List Bool) (f : HeadFault) → at < length bands →
+pub bands_refuse : (whole : Result BandsRead HeadFault) (begun now : List HeaderPart) (style layer base at : ℕ) (bands : List Cells) (d : Cells) (bits : List Bool) (f : HeadFault) → at < length bands →
     and_done begun [] whole ≡ and_done now (take at bands) (scan_bands style layer base (drop at bands) bits) → Refuses f (scan_band style layer base (get_or bands at d) bits) → Refuses f whole
 bands_refuse whole begun now style layer base at bands d bits Bits lt h was = band_err whole begun now style layer base at bands d bits Bits lt h was
 bands_refuse whole begun now style layer base at bands d bits Planes lt h was = band_err whole begun now style layer base at bands d bits Planes lt h was

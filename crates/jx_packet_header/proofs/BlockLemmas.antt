@@ -5,12 +5,12 @@ use Rattle.std.specs.Bool.{MatchBool}
 use Rattle.std.proofs.lemmas.Bool.{le-leb, le-ltb, leb-false, lt-leb, lt-ltb, ltb-false, ltb-true}
 use Rattle.jx_tagtree.specs.TagTree.{Tree, ValuesOf, tree_after}
 use Rattle.jx_tagtree.specs.Questions.{Question, all_bits, after_all}
-use Rattle.jx_packet_header.specs.declared.Part.{Part}
+use Rattle.jx_packet_header.specs.declared.HeaderPart.{HeaderPart}
 use Rattle.jx_packet_header.specs.declared.HeadFault.{HeadFault}
 use Rattle.jx_packet_header.specs.declared.HeadFault.TheVariants.{Planes}
 use Rattle.jx_packet_header.specs.declared.known.Known.{Known}
 use Rattle.jx_packet_header.specs.Words.{IsCount, pass_word, raise_word}
-use Rattle.jx_packet_header.specs.Parts.{cut, AreParts, length_bits}
+use Rattle.jx_packet_header.specs.Parts.{cut, AreHeaderParts, length_bits}
 use Rattle.jx_packet_header.specs.Packet.{Cells, Values, Agree, Entry, nothing, contributes, block_at, asked, zero_questions, zero_bits, zero_after, zero_planes, first_bits, first_after, IsInclusion, told_bits, included_bits, entry_bits, cells_first, cells_included, entry_after, most_passes, IsIncluded, IsEntry, ReachesPlanes, PassesPlanes, Breaks}
 use Rattle.jx_packet_header.specs.Kept.{IsLeafOf}
 use Rattle.jx_packet_header.specs.Scan.{Found, or_bits, and_then, scan_passes, scan_raise, scan_parts, Asked, scan_first, Zeros, scan_more_zeros, scan_zeros, entry_of, scan_lengths, scan_entry, Told, told_of, and_told, scan_included, scan_block}
@@ -127,10 +127,10 @@ on_passes style block planes z known p = cond (nat_lt (most_passes planes z) (kn
 abbrev pub on_raise : ℕ → ℕ → Known → ℕ → Found ℕ → Option (Found Entry)
 on_raise style block known n k = option_map (entry_of n k.value) (scan_parts (known.lblock + k.value) block known.passes (cut style known.passes n) k.rest)
 
-abbrev entry_is : ℕ → ℕ → List Part → Entry
+abbrev entry_is : ℕ → ℕ → List HeaderPart → Entry
 entry_is n k parts = record { passes = n; raise = k; parts = parts }
 
-lengths_made : (style block : ℕ) (known : Known) (e : Entry) (rest : List Bool) → AreParts (known.lblock + e.raise) block known.passes (cut style known.passes e.passes) e.parts →
+lengths_made : (style block : ℕ) (known : Known) (e : Entry) (rest : List Bool) → AreHeaderParts (known.lblock + e.raise) block known.passes (cut style known.passes e.passes) e.parts →
     scan_lengths style block known e.passes ((raise_word e.raise ++ length_bits (known.lblock + e.raise) e.parts) ++ rest) ≡ Some (found e rest)
 lengths_made style block known e rest are =
     ap (λ (l : List Bool). scan_lengths style block known e.passes l) (append_assoc (raise_word e.raise) (length_bits (known.lblock + e.raise) e.parts) rest)
@@ -161,7 +161,7 @@ pub entry_read : (style block planes z : ℕ) (known : Known) (bits : List Bool)
 entry_read style block planes z known bits f below h = by (scan_passes bits) refl h
   where
     end : (p k : Found ℕ) → PassesRead bits p → known.passes + p.value ≤ most_passes planes z → scan_raise p.rest ≡ Some k →
-        (o : Option (Found (List Part))) → scan_parts (known.lblock + k.value) block known.passes (cut style known.passes p.value) k.rest ≡ o →
+        (o : Option (Found (List HeaderPart))) → scan_parts (known.lblock + k.value) block known.passes (cut style known.passes p.value) k.rest ≡ o →
         or_bits (option_map (entry_of p.value k.value) o) ≡ Ok f → EntryRead style block planes z known bits f
     end p k r few was None eq h = absurd cc
     end p k r few was (Some q) eq h =

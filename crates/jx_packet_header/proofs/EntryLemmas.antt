@@ -4,7 +4,7 @@ use Rattle.std.specs.Option.{unwrap_or}
 use Rattle.std.proofs.lemmas.Bool.Decides.{nat_tests}
 use Rattle.std.proofs.lemmas.Bool.{cases_lt}
 use Rattle.jx_tagtree.specs.TagTree.{Tree}
-use Rattle.jx_packet_header.specs.declared.Part.{Part}
+use Rattle.jx_packet_header.specs.declared.LeafPart.{LeafPart}
 use Rattle.jx_packet_header.specs.declared.known.Known.{Known}
 use Rattle.jx_packet_header.specs.Packet.{Cells, Entry, block_at, block_after, zero_planes, first_bits, first_after, zero_bits, zero_after, told_bits, cells_first, cells_included, entry_bits, entry_after}
 use Rattle.jx_packet_header.specs.Written.{Writes, parts_in, passes_of, raise_of, entry_written, least_of, cells_of, values_of}
@@ -24,7 +24,7 @@ zero_told None values leaf own is = sym is
 zero_told (Some z) values leaf own is = refl
 
 -- the bits of a block that is included
-pub entry_bits_are : (w : Writes) (layer leaf own passes : ℕ) (parts : List (ℕ × Part)) (known : Known) (start first zeros told : List Bool) →
+pub entry_bits_are : (w : Writes) (layer leaf own passes : ℕ) (parts : List LeafPart) (known : Known) (start first zeros told : List Bool) →
     known ≡ block_at (cells_of w) leaf → passes ≡ passes_of (parts_in layer parts) → (passes ≡ 0 → ⊥) →
     first ≡ start ++ first_bits known.zero (least_of w.first) w.first.tree leaf layer (nat_lt 0 passes) →
     zeros ≡ first ++ zero_bits known.zero (least_of w.zeros) w.zeros.tree leaf w.planes →
@@ -45,7 +45,7 @@ entry_bits_are w layer leaf own passes parts known start first zeros told k is n
     (all ∙ ap (λ (l : List Bool). start ++ (F n ++ l)) cut)
 
 -- what is known after it
-pub entry_after_is : (w : Writes) (layer leaf own told passes : ℕ) (parts : List (ℕ × Part)) (known after : Known) (first zeros : Tree) →
+pub entry_after_is : (w : Writes) (layer leaf own told passes : ℕ) (parts : List LeafPart) (known after : Known) (first zeros : Tree) →
     known ≡ block_at (cells_of w) leaf → passes ≡ passes_of (parts_in layer parts) → (passes ≡ 0 → ⊥) →
     first ≡ first_after known.zero (least_of w.first) w.first.tree leaf layer →
     zeros ≡ zero_after known.zero (least_of w.zeros) w.zeros.tree leaf w.planes →
@@ -75,7 +75,7 @@ entry_after_is w layer leaf own told passes parts known after first zeros k is n
 are_none : (passes all : ℕ) → passes ≡ all → passes ≡ 0 → nat_lt 0 all ≡ false
 are_none passes all is none = ap (λ (n : ℕ). nat_lt 0 n) (sym is ∙ none)
 
-pub entry_bits_none : (w : Writes) (layer leaf own passes : ℕ) (parts : List (ℕ × Part)) (known : Known) (start first : List Bool) →
+pub entry_bits_none : (w : Writes) (layer leaf own passes : ℕ) (parts : List LeafPart) (known : Known) (start first : List Bool) →
     known ≡ block_at (cells_of w) leaf → passes ≡ passes_of (parts_in layer parts) → passes ≡ 0 →
     first ≡ start ++ first_bits known.zero (least_of w.first) w.first.tree leaf layer (nat_lt 0 passes) →
     first ≡ start ++ entry_bits (values_of w) layer leaf (cells_of w) (entry_written layer (block_at (cells_of w) leaf) (record { zero = own; parts = parts }))
@@ -89,7 +89,7 @@ entry_bits_none w layer leaf own passes parts known start first k is none e =
     (e ∙ ap (λ (m : ℕ). start ++ F known m) is ∙ ap (λ (l : List Bool). start ++ l) (sym (append-nil (F known n)))
     ∙ ap (λ (b : Bool). start ++ (F known n ++ cond b (rest known) [])) (sym no))
 
-pub entry_after_none : (w : Writes) (layer leaf own passes : ℕ) (parts : List (ℕ × Part)) (known : Known) (first : Tree) →
+pub entry_after_none : (w : Writes) (layer leaf own passes : ℕ) (parts : List LeafPart) (known : Known) (first : Tree) →
     known ≡ block_at (cells_of w) leaf → passes ≡ passes_of (parts_in layer parts) → passes ≡ 0 →
     first ≡ first_after known.zero (least_of w.first) w.first.tree leaf layer →
     (let c : Cells = record { first = first; zeros = w.zeros.tree; planes = w.planes; blocks = w.blocks } in c)

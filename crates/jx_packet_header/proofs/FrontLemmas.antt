@@ -8,11 +8,11 @@ use Rattle.std.proofs.lemmas.List.{take-append-drop, append-nil, length-replicat
 use Rattle.jx_tagtree.specs.Header.{low_bits, number_of}
 use Rattle.jx_tagtree.proofs.WriterLemmas.{number_of-low_bits}
 use Rattle.jx_tagtree.proofs.LawLemmas.{number_of-lt, low_bits-number_of}
-use Rattle.jx_packet_header.specs.declared.Part.{Part}
+use Rattle.jx_packet_header.specs.declared.HeaderPart.{HeaderPart}
 use Rattle.jx_packet_header.specs.Words.{IsCount, pass_word}
-use Rattle.jx_packet_header.specs.Parts.{width, AreParts, length_bits}
+use Rattle.jx_packet_header.specs.Parts.{width, AreHeaderParts, length_bits}
 use Rattle.jx_packet_header.specs.Unread.{IsCutOf, IsLong, LengthsStop, PassesStop}
-use Rattle.jx_packet_header.specs.Scan.{Found, scan_number, scan_passes, scan_passes_2, scan_passes_4, scan_raise, scan_parts, part_of, behind, plus}
+use Rattle.jx_packet_header.specs.Scan.{Found, scan_number, scan_passes, scan_passes_2, scan_passes_4, scan_raise, scan_parts, header_part, behind, plus}
 use Rattle.jx_packet_header.proofs.WordLemmas.{found, number_read, NumberRead, number_made, number_whole, number_ended, number_large, passes_made, passes_read, one_word, PassesRead}
 
 -- ---- what two lists begin with
@@ -174,8 +174,8 @@ parts_none lblock block first (run ∷ runs) bits h =
     by (λ (l : List Bool) (e : scan_parts lblock block (first + run) runs l ≡ None). parts_none lblock block (first + run) runs l e) (scan_number (width lblock run) bits) refl h
   where
     more : ((l : List Bool) → scan_parts lblock block (first + run) runs l ≡ None → LengthsStop lblock block (first + run) runs l) →
-        (g : Found ℕ) → NumberRead (width lblock run) bits g → (o : Option (Found (List Part))) → scan_parts lblock block (first + run) runs g.rest ≡ o →
-        option_map (behind (part_of block first run g.value ∷ [])) o ≡ None → LengthsStop lblock block first (run ∷ runs) bits
+        (g : Found ℕ) → NumberRead (width lblock run) bits g → (o : Option (Found (List HeaderPart))) → scan_parts lblock block (first + run) runs g.rest ≡ o →
+        option_map (behind (header_part block first run g.value ∷ [])) o ≡ None → LengthsStop lblock block first (run ∷ runs) bits
     more again g r (Some k) eq h = absurd cc
     more again g r None eq h =
         let s : LengthsStop lblock block (first + run) runs g.rest = again g.rest eq in
@@ -184,7 +184,7 @@ parts_none lblock block first (run ∷ runs) bits h =
           run = s.run;
           others = s.others;
           runs_are = ap (λ (l : List ℕ). run ∷ l) s.runs_are;
-          parts = part_of block first run g.value ∷ s.parts;
+          parts = header_part block first run g.value ∷ s.parts;
           are = (record { of = refl; begins = refl; has = refl; fits = r.fits; short = r.short }, s.are);
           behind = s.behind;
           stands = r.bits_are ∙ ap (λ (l : List Bool). low_bits (width lblock run) g.value ++ l) s.stands
@@ -194,28 +194,28 @@ parts_none lblock block first (run ∷ runs) bits h =
 
     by : ((l : List Bool) → scan_parts lblock block (first + run) runs l ≡ None → LengthsStop lblock block (first + run) runs l) →
         (o : Option (Found ℕ)) → scan_number (width lblock run) bits ≡ o →
-        option_and_then (λ (x : Found ℕ). option_map (behind (part_of block first run x.value ∷ [])) (scan_parts lblock block (first + run) runs x.rest)) o ≡ None →
+        option_and_then (λ (x : Found ℕ). option_map (behind (header_part block first run x.value ∷ [])) (scan_parts lblock block (first + run) runs x.rest)) o ≡ None →
         LengthsStop lblock block first (run ∷ runs) bits
     by again None eq h =
         record { front = []; run = run; others = runs; runs_are = refl; parts = []; are = tt; behind = bits; stands = refl; stops = number_none (width lblock run) bits eq }
     by again (Some g) eq h = more again g (number_read (width lblock run) bits g eq) (scan_parts lblock block (first + run) runs g.rest) refl h
 
-stops_at : (lblock block first : ℕ) (front : List ℕ) (run : ℕ) (others : List ℕ) (parts : List Part) (rest : List Bool) → AreParts lblock block first front parts →
+stops_at : (lblock block first : ℕ) (front : List ℕ) (run : ℕ) (others : List ℕ) (parts : List HeaderPart) (rest : List Bool) → AreHeaderParts lblock block first front parts →
     (length rest < width lblock run) ⊎ IsLong (width lblock run) rest →
     scan_parts lblock block first (front ++ (run ∷ others)) (length_bits lblock parts ++ rest) ≡ None
 stops_at lblock block first [] run others [] rest are stops =
-    ap (option_and_then (λ (x : Found ℕ). option_map (behind (part_of block first run x.value ∷ [])) (scan_parts lblock block (first + run) others x.rest))) (number_stops (width lblock run) rest stops)
+    ap (option_and_then (λ (x : Found ℕ). option_map (behind (header_part block first run x.value ∷ [])) (scan_parts lblock block (first + run) others x.rest))) (number_stops (width lblock run) rest stops)
 stops_at lblock block first [] run others (p ∷ ps) rest are stops = absurd are
 stops_at lblock block first (x ∷ xs) run others [] rest are stops = absurd are
 stops_at lblock block first (x ∷ xs) run others (p ∷ ps) rest are stops =
     let front = low_bits (width lblock p.passes) p.length in
     let runs = xs ++ (run ∷ others) in
-    let next : List Bool → Option (Found (List Part)) = λ (l : List Bool). scan_parts lblock block (first + x) runs l in
+    let next : List Bool → Option (Found (List HeaderPart)) = λ (l : List Bool). scan_parts lblock block (first + x) runs l in
     ap (λ (l : List Bool). scan_parts lblock block first (x ∷ runs) l) (append_assoc front (length_bits lblock ps) rest)
     ∙ ap (λ (m : ℕ). scan_parts lblock block first (x ∷ runs) (low_bits (width lblock m) p.length ++ (length_bits lblock ps ++ rest))) are.0.has
-    ∙ ap (option_and_then (λ (f : Found ℕ). option_map (behind (part_of block first x f.value ∷ [])) (next f.rest)))
+    ∙ ap (option_and_then (λ (f : Found ℕ). option_map (behind (header_part block first x f.value ∷ [])) (next f.rest)))
     (number_made (width lblock x) p.length (length_bits lblock ps ++ rest) are.0.fits are.0.short)
-    ∙ ap (option_map (behind (part_of block first x p.length ∷ []))) (stops_at lblock block (first + x) xs run others ps rest are.1 stops)
+    ∙ ap (option_map (behind (header_part block first x p.length ∷ []))) (stops_at lblock block (first + x) xs run others ps rest are.1 stops)
 
 pub parts_stop : (lblock block first : ℕ) (runs : List ℕ) (bits : List Bool) → LengthsStop lblock block first runs bits → scan_parts lblock block first runs bits ≡ None
 parts_stop lblock block first runs bits s =

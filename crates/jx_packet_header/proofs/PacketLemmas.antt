@@ -8,7 +8,7 @@ use Rattle.jx_tagtree.proofs.LawLemmas.{read_back}
 use Rattle.jx_tagtree.specs.declared.BitFault.{BitFault}
 use Rattle.jx_tagtree.specs.Header.{Reading, Bits as ByteBits, room, is_stuffed, low_bits, bits_after, bits_of, to_come, start_of, end_after, end_of, end_unless}
 use Rattle.jx_tagtree.proofs.HeaderLemmas.{length-low_bits, room-le}
-use Rattle.jx_packet_header.specs.declared.Part.{Part}
+use Rattle.jx_packet_header.specs.declared.HeaderPart.{HeaderPart}
 use Rattle.jx_packet_header.specs.declared.HeadFault.{HeadFault}
 use Rattle.jx_packet_header.specs.declared.HeadFault.TheVariants.{Bits, Planes, NoMemory}
 use Rattle.jx_packet_header.specs.Packet.{Cells, State, AreBandsTold, bands_bits, bands_after, bands_parts, Header, header_bits, header_after, header_parts, IsToldOf, AgreeAfter, IsPacket, BreaksPlanes, OneHeader}
@@ -60,7 +60,7 @@ all_trees [] b = tt
 all_trees (cells ∷ bands) b = (b.0.trees, all_trees bands b.1)
 
 -- ---- a header
-abbrev pub header_is : List Part → State → List Bool → HeaderRead
+abbrev pub header_is : List HeaderPart → State → List Bool → HeaderRead
 header_is parts after rest = record { parts = parts; after = after; rest = rest }
 
 pub header_made : (k : State) (h : Header) (rest : List Bool) → AreBands k.bands → IsToldOf k h → scan_header k (header_bits k h ++ rest) ≡ Ok (header_is (header_parts h) (header_after k h) rest)
@@ -118,11 +118,11 @@ header_breaks bytes k b h = by (bits_of bytes).bits refl h
 
 -- ---- what `read_header` answers
 -- the bits were read, by a reader of these bytes
-pub record WasRead (bytes : List ℕ) (k : State) (r : Reading) (parts : List Part) (after : State) : Type 0 where
+pub record WasRead (bytes : List ℕ) (k : State) (r : Reading) (parts : List HeaderPart) (after : State) : Type 0 where
   pub scanned : scan_header k (bits_of bytes).bits ≡ Ok (header_is parts after (to_come r))
   pub kept : frame r ≡ frame (start_of bytes)
 
-pub packet_ok : (bytes : List ℕ) (k : State) (r : Reading) (parts : List Part) (after : State) (used : ℕ) → AreBands k.bands → WasRead bytes k r parts after → end_of r ≡ Ok used → IsPacket bytes k parts used after
+pub packet_ok : (bytes : List ℕ) (k : State) (r : Reading) (parts : List HeaderPart) (after : State) (used : ℕ) → AreBands k.bands → WasRead bytes k r parts after → end_of r ≡ Ok used → IsPacket bytes k parts used after
 packet_ok bytes k r parts after used b w ends =
     let g = header_read k (bits_of bytes).bits (header_is parts after (to_come r)) b w.scanned in
     record {
@@ -136,12 +136,12 @@ packet_ok bytes k r parts after used b w ends =
     }
 
 -- a packet that stands there was read
-pub record SameRead (bytes : List ℕ) (k : State) (r : Reading) (parts others : List Part) (after others_after : State) (used : ℕ) : Type 0 where
+pub record SameRead (bytes : List ℕ) (k : State) (r : Reading) (parts others : List HeaderPart) (after others_after : State) (used : ℕ) : Type 0 where
   pub parts_are : parts ≡ others
   pub after_is : after ≡ others_after
   pub ends : end_of r ≡ Ok used
 
-pub packet_only : (bytes : List ℕ) (k : State) (r : Reading) (parts others : List Part) (after others_after : State) (used : ℕ) → AreBands k.bands → WasRead bytes k r parts after → IsPacket bytes k others used others_after →
+pub packet_only : (bytes : List ℕ) (k : State) (r : Reading) (parts others : List HeaderPart) (after others_after : State) (used : ℕ) → AreBands k.bands → WasRead bytes k r parts after → IsPacket bytes k others used others_after →
     SameRead bytes k r parts others after others_after used
 packet_only bytes k r parts others after others_after used b w p =
     let one : Ok (header_is parts after (to_come r)) ≡ Ok (header_is (header_parts p.header) (header_after k p.header) p.rest) =
@@ -155,7 +155,7 @@ packet_only bytes k r parts others after others_after used b w p =
     }
 
 -- where nothing was read, no packet stands there
-pub packet_none : (bytes : List ℕ) (k : State) (f : HeadFault) (parts : List Part) (after : State) (used : ℕ) → AreBands k.bands → scan_header k (bits_of bytes).bits ≡ Err f → IsPacket bytes k parts used after → ⊥
+pub packet_none : (bytes : List ℕ) (k : State) (f : HeadFault) (parts : List HeaderPart) (after : State) (used : ℕ) → AreBands k.bands → scan_header k (bits_of bytes).bits ≡ Err f → IsPacket bytes k parts used after → ⊥
 packet_none bytes k f parts after used b h p =
     let one : Ok (header_is (header_parts p.header) (header_after k p.header) p.rest) ≡ Err f = sym (header_made k p.header p.rest b p.is) ∙ sym (ap (scan_header k) p.stands) ∙ h in
     cc
@@ -164,12 +164,12 @@ packet_none bytes k f parts after used b h p =
 pub refuse_cause : (f : HeadFault) (bytes : List ℕ) (k : State) → AreBands k.bands → Refuses f (scan_header k (bits_of bytes).bits) → HasCause f bytes k
 refuse_cause Bits bytes k b h = (
   λ (x : BreaksPlanes bytes k). (let e : Err Bits ≡ Err Planes = sym h ∙ header_over bytes k b x in cc),
-  λ (parts : List Part) (used : ℕ) (after : State) (p : IsPacket bytes k parts used after). packet_none bytes k Bits parts after used b h p,
+  λ (parts : List HeaderPart) (used : ℕ) (after : State) (p : IsPacket bytes k parts used after). packet_none bytes k Bits parts after used b h p,
 )
 refuse_cause Planes bytes k b h = header_breaks bytes k b h
 refuse_cause NoMemory bytes k b h = tt
 
-pub refuse_only : (f : HeadFault) (bytes : List ℕ) (k : State) (parts : List Part) (used : ℕ) (after : State) → AreBands k.bands → Refuses f (scan_header k (bits_of bytes).bits) → IsPacket bytes k parts used after → OnlyMemory f
+pub refuse_only : (f : HeadFault) (bytes : List ℕ) (k : State) (parts : List HeaderPart) (used : ℕ) (after : State) → AreBands k.bands → Refuses f (scan_header k (bits_of bytes).bits) → IsPacket bytes k parts used after → OnlyMemory f
 refuse_only Bits bytes k parts used after b h p = absurd (packet_none bytes k Bits parts after used b h p)
 refuse_only Planes bytes k parts used after b h p = absurd (packet_none bytes k Planes parts after used b h p)
 refuse_only NoMemory bytes k parts used after b h p = tt
@@ -180,33 +180,33 @@ refuse_planes Planes bytes k b h x = tt
 refuse_planes NoMemory bytes k b h x = tt
 
 -- where bits were read, no block breaks its planes
-pub read_planes : (bytes : List ℕ) (k : State) (r : Reading) (parts : List Part) (after : State) → AreBands k.bands → WasRead bytes k r parts after → BreaksPlanes bytes k → ⊥
+pub read_planes : (bytes : List ℕ) (k : State) (r : Reading) (parts : List HeaderPart) (after : State) → AreBands k.bands → WasRead bytes k r parts after → BreaksPlanes bytes k → ⊥
 read_planes bytes k r parts after b w x =
     let e : Ok (header_is parts after (to_come r)) ≡ Err Planes = sym w.scanned ∙ header_over bytes k b x in
     cc
 
 -- where its last byte is missing, no header stands there
-pub end_cause : (bytes : List ℕ) (k : State) (r : Reading) (parts : List Part) (after : State) (e : BitFault) → AreBands k.bands → WasRead bytes k r parts after → end_of r ≡ Err e → HasCause Bits bytes k
+pub end_cause : (bytes : List ℕ) (k : State) (r : Reading) (parts : List HeaderPart) (after : State) (e : BitFault) → AreBands k.bands → WasRead bytes k r parts after → end_of r ≡ Err e → HasCause Bits bytes k
 end_cause bytes k r parts after e b w ends = (
   λ (x : BreaksPlanes bytes k). read_planes bytes k r parts after b w x,
-  λ (others : List Part) (used : ℕ) (others_after : State) (p : IsPacket bytes k others used others_after). (
+  λ (others : List HeaderPart) (used : ℕ) (others_after : State) (p : IsPacket bytes k others used others_after). (
       let s = packet_only bytes k r parts others after others_after used b w p in
       let f : Err e ≡ Ok used = sym ends ∙ s.ends in
       cc),
 )
 
 -- the bits of bytes are all there at first
-pub was_read : (bytes : List ℕ) (k : State) (r : Reading) (parts : List Part) (after : State) (new : List Part) →
+pub was_read : (bytes : List ℕ) (k : State) (r : Reading) (parts : List HeaderPart) (after : State) (new : List HeaderPart) →
     scan_header k (to_come (start_of bytes)) ≡ Ok (header_is parts after (to_come r)) → new ≡ [] ++ parts → frame r ≡ frame (start_of bytes) → WasRead bytes k r new after
-was_read bytes k r parts after new h is kept = record { scanned = h ∙ ap (λ (l : List Part). Ok (header_is l after (to_come r))) (sym is); kept = kept }
+was_read bytes k r parts after new h is kept = record { scanned = h ∙ ap (λ (l : List HeaderPart). Ok (header_is l after (to_come r))) (sym is); kept = kept }
 
 -- the same of a call, whose state is seen by its view
-pub read_by : (bytes : List ℕ) (inner k : State) (start r : Reading) (old new : List Part) (after : State) → inner ≡ k → start ≡ start_of bytes → old ≡ [] →
+pub read_by : (bytes : List ℕ) (inner k : State) (start r : Reading) (old new : List HeaderPart) (after : State) → inner ≡ k → start ≡ start_of bytes → old ≡ [] →
     HeaderSaid (scan_header inner (to_come start)) old new after (to_come r) → frame r ≡ frame start → WasRead bytes k r new after
 read_by bytes inner k start r old new after view begun none said kept =
     was_read bytes k r said.parts after new
     (ap (λ (s : State). scan_header s (to_come (start_of bytes))) (sym view) ∙ ap (λ (x : Reading). scan_header inner (to_come x)) (sym begun) ∙ said.is)
-    (said.new_is ∙ ap (λ (l : List Part). l ++ said.parts) none) (kept ∙ ap frame begun)
+    (said.new_is ∙ ap (λ (l : List HeaderPart). l ++ said.parts) none) (kept ∙ ap frame begun)
 
 -- ---- one reading
 -- a written header stands at the front of its bytes
@@ -216,7 +216,7 @@ stands_there k h rest is =
     record { header = h; is = is; rest = b.more; stands = b.first; ends = b.end; parts_are = refl; after_is = refl }
 
 -- two headers at the front of the same bytes are one
-pub one_header : (bytes : List ℕ) (k : State) (parts others : List Part) (used ends : ℕ) (after others_after : State) → AreBands k.bands → IsPacket bytes k parts used after → IsPacket bytes k others ends others_after →
+pub one_header : (bytes : List ℕ) (k : State) (parts others : List HeaderPart) (used ends : ℕ) (after others_after : State) → AreBands k.bands → IsPacket bytes k parts used after → IsPacket bytes k others ends others_after →
     OneHeader parts others after others_after used ends
 one_header bytes k parts others used ends after others_after b p q =
     let one : Ok (header_is (header_parts p.header) (header_after k p.header) p.rest) ≡ Ok (header_is (header_parts q.header) (header_after k q.header) q.rest) =
@@ -233,7 +233,7 @@ one_header bytes k parts others used ends after others_after b p q =
     }
 
 -- where a block breaks its planes, no header stands
-pub planes_or_packet : (bytes : List ℕ) (k : State) (parts : List Part) (used : ℕ) (after : State) → AreBands k.bands → BreaksPlanes bytes k → IsPacket bytes k parts used after → ⊥
+pub planes_or_packet : (bytes : List ℕ) (k : State) (parts : List HeaderPart) (used : ℕ) (after : State) → AreBands k.bands → BreaksPlanes bytes k → IsPacket bytes k parts used after → ⊥
 planes_or_packet bytes k parts used after b x p = packet_none bytes k Planes parts after used b (header_over bytes k b x) p
 
 -- what is written has one reading

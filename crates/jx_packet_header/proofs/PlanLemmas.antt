@@ -7,7 +7,7 @@ use Rattle.std.proofs.lemmas.Bool.Decides.{nat_tests}
 use Rattle.std.proofs.lemmas.Bool.{cases_lt}
 use Rattle.jx_tagtree.specs.Header.{bytes_of}
 use Rattle.jx_tagtree.specs.Leaves.{least_leaf}
-use Rattle.jx_packet_header.specs.declared.Part.{Part}
+use Rattle.jx_packet_header.specs.declared.LeafPart.{LeafPart}
 use Rattle.jx_packet_header.specs.declared.BandCells.{BandCells}
 use Rattle.jx_packet_header.specs.declared.known.Known.{Known}
 use Rattle.jx_packet_header.specs.declared.Leaf.{Leaf}
@@ -129,19 +129,19 @@ part_leaves leaves base n m e =
     ap (λ (k : ℕ). map leaf_of (take k (drop base leaves))) e ∙ sym (take-map leaf_of n (drop base leaves)) ∙ ap (take n) (sym (drop-map leaf_of base leaves))
 
 -- ---- few passes
-in_le : (layer : ℕ) (parts : List (ℕ × Part)) → passes_of (parts_in layer parts) ≤ all_passes parts
+in_le : (layer : ℕ) (parts : List LeafPart) → passes_of (parts_in layer parts) ≤ all_passes parts
 in_le layer [] = omega arith
-in_le layer (p ∷ ps) = by (p.0 == layer) (in_le layer ps)
+in_le layer (p ∷ ps) = by (p.layer == layer) (in_le layer ps)
   where
-    by : (b : Bool) → passes_of (parts_in layer ps) ≤ all_passes ps → passes_of (cond b (p.1 ∷ parts_in layer ps) (parts_in layer ps)) ≤ p.1.passes + all_passes ps
+    by : (b : Bool) → passes_of (parts_in layer ps) ≤ all_passes ps → passes_of (cond b (p.told ∷ parts_in layer ps) (parts_in layer ps)) ≤ p.told.passes + all_passes ps
     by true le = omega arith
     by false le = omega arith
 
-from_first : (parts : List (ℕ × Part)) → passes_from 0 parts ≡ all_passes parts
+from_first : (parts : List LeafPart) → passes_from 0 parts ≡ all_passes parts
 from_first [] = refl
 from_first (p ∷ ps) =
-    let z : nat_le 0 p.0 ≡ true = grind (arith, nat_tests) in
-    ap (λ (b : Bool). cond b (p.1.passes + passes_from 0 ps) (passes_from 0 ps)) z ∙ ap (λ (n : ℕ). p.1.passes + n) (from_first ps)
+    let z : nat_le 0 p.layer ≡ true = grind (arith, nat_tests) in
+    ap (λ (b : Bool). cond b (p.told.passes + passes_from 0 ps) (passes_from 0 ps)) z ∙ ap (λ (n : ℕ). p.told.passes + n) (from_first ps)
 
 pub few_at : (layer i : ℕ) (leaves : List Leaf) (x : Leaf) → AllFew (map leaf_of leaves) → i < length leaves → x ≡ get_or leaves i x → passes_of (parts_in layer x.parts.items) < 2 ^ 16
 few_at layer i [] x f lt e = absurd (omega arith)
@@ -175,7 +175,7 @@ bytes_drop zero leaves f = f
 bytes_drop (suc n) [] f = tt
 bytes_drop (suc n) (l ∷ ls) f = bytes_drop n ls f.1
 
-fit_leaf : (style layers planes block z : ℕ) (parts : List (ℕ × Part)) → planes ≤ 255 → FitsLeaf style layers planes block (record { zero = z; parts = parts }) parts →
+fit_leaf : (style layers planes block z : ℕ) (parts : List LeafPart) → planes ≤ 255 → FitsLeaf style layers planes block (record { zero = z; parts = parts }) parts →
     all_passes parts < 2 ^ 16
 fit_leaf style layers planes block z [] le f = omega arith
 fit_leaf style layers planes block z (p ∷ ps) le f =
@@ -200,7 +200,7 @@ zeros_fit : (planes i : ℕ) (leaves : List Leafed) → planes ≤ 255 → AllBy
 zeros_fit planes i [] le f = omega arith
 zeros_fit planes zero (l ∷ ls) le f = by l.parts f.0
   where
-    by : (parts : List (ℕ × Part)) → l.zero < 2 ^ 8 → zero_leaf planes l.zero parts < 2 ^ 32
+    by : (parts : List LeafPart) → l.zero < 2 ^ 8 → zero_leaf planes l.zero parts < 2 ^ 32
     by [] lt = omega arith
     by (p ∷ ps) lt = omega arith
 zeros_fit planes (suc i) (l ∷ ls) le f = zeros_fit planes i ls le f.1

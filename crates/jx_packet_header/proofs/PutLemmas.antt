@@ -2,7 +2,7 @@
 use Rattle.std.proofs.Common.{◌≡◌, ℕ, zero, suc, ◌+◌, ◌-◌, ◌/◌, ◌%◌, ◌^◌, ◌<◌, ◌≤◌, ◌==◌, nat_le, Bool, true, false, List, [], ◌∷◌, ◌++◌, replicate, refl, sym, ap, ◌∙◌, subst, cond, arith, append_assoc, pow_mono, inl, inr, ◌⊎◌}
 use Rattle.std.proofs.lemmas.Bool.Decides.{nat_tests}
 use Rattle.std.proofs.lemmas.Bool.{cases_lt}
-use Rattle.jx_packet_header.specs.declared.Part.{Part}
+use Rattle.jx_packet_header.specs.declared.HeaderPart.{HeaderPart}
 use Rattle.jx_packet_header.specs.Parts.{width}
 use Rattle.jx_packet_header.specs.LeavesFit.{AreShort, AllFit}
 use Rattle.jx_tagtree.specs.Header.{low_bits}
@@ -154,14 +154,14 @@ size_fits m w short le = elim (cases_lt m (2 ^ w)) [
   ]
 ]
 
-pub raise_fits : (lblock : ℕ) (parts : List Part) → AreShort parts → AllFit (lblock + raise_of lblock parts) parts
+pub raise_fits : (lblock : ℕ) (parts : List HeaderPart) → AreShort parts → AllFit (lblock + raise_of lblock parts) parts
 raise_fits lblock parts s = all parts (raise_of lblock parts) s (omega arith)
   where
-    all : (ps : List Part) (k : ℕ) → AreShort ps → raise_of lblock ps ≤ k → AllFit (lblock + k) ps
+    all : (ps : List HeaderPart) (k : ℕ) → AreShort ps → raise_of lblock ps ≤ k → AllFit (lblock + k) ps
     all [] k s le = tt
     all (p ∷ ps) k s le = (size_fits p.length (width (lblock + k) p.passes) s.0 (omega arith), all ps k s.1 (omega arith))
 
-pub raise_least : (lblock raise : ℕ) (parts : List Part) → AllFit (lblock + raise) parts → raise_of lblock parts ≤ raise
+pub raise_least : (lblock raise : ℕ) (parts : List HeaderPart) → AllFit (lblock + raise) parts → raise_of lblock parts ≤ raise
 raise_least lblock raise [] f = omega arith
 raise_least lblock raise (p ∷ ps) f =
     let s : size p.length ≤ width (lblock + raise) p.passes = size_small p.length (width (lblock + raise) p.passes) f.0 in

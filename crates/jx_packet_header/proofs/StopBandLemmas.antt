@@ -3,7 +3,7 @@ use Rattle.std.proofs.Common.{◌≡◌, ℕ, zero, suc, ◌+◌, ◌<◌, ◌�
 use Rattle.std.proofs.lemmas.List.{append_cancel_right}
 use Rattle.jx_tagtree.specs.declared.BitFault.{BitFault}
 use Rattle.jx_tagtree.specs.Header.{bits_of, end_after}
-use Rattle.jx_packet_header.specs.declared.Part.{Part}
+use Rattle.jx_packet_header.specs.declared.HeaderPart.{HeaderPart}
 use Rattle.jx_packet_header.specs.declared.HeadFault.{HeadFault}
 use Rattle.jx_packet_header.specs.declared.HeadFault.TheVariants.{Bits, Planes, NoMemory}
 use Rattle.jx_packet_header.specs.Packet.{Cells, State, Values, Agree, Entry, entry_bits, entry_after, blocks_bits, blocks_after, AreEntries, parts_told, band_after, BandStands, Header, header_bits, header_after, header_parts, IsToldOf, IsPacket, BreaksPlanes}
@@ -54,7 +54,7 @@ record SomeBlocksStop (style layer base stop leaf : ℕ) (cells : Cells) (bits :
   pub stops : Stops values style layer (base + at) at (blocks_after values layer leaf cells entries) behind
   pub from : leaf ≤ at
 
-same_fault : (parts : List Part) (r : Result AllTold HeadFault) → and_parts parts r ≡ Err Bits → r ≡ Err Bits
+same_fault : (parts : List HeaderPart) (r : Result AllTold HeadFault) → and_parts parts r ≡ Err Bits → r ≡ Err Bits
 same_fault parts (Err e) h = let is : e ≡ Bits = cc in ap (λ (x : HeadFault). let y : Result AllTold HeadFault = Err x in y) is
 same_fault parts (Ok x) h = absurd cc
 
@@ -171,7 +171,7 @@ header_none bytes k b h = by (bits_of bytes).bits refl h
     by (true ∷ rest) eq h = inr (inl (record { rest = rest; stands = eq; stops = bands_none k.style k.layer 0 k.bands rest (all_trees k.bands b) (inner (scan_bands k.style k.layer 0 k.bands rest) h) }))
 
 -- a header whose end is missing is no packet
-end_alone : (bytes : List ℕ) (k : State) (parts : List Part) (used : ℕ) (after : State) → AreBands k.bands → EndStops bytes k → IsPacket bytes k parts used after → ⊥
+end_alone : (bytes : List ℕ) (k : State) (parts : List HeaderPart) (used : ℕ) (after : State) → AreBands k.bands → EndStops bytes k → IsPacket bytes k parts used after → ⊥
 end_alone bytes k parts used after b e p =
     let one : Ok (header_is (header_parts e.header) (header_after k e.header) e.rest) ≡ Ok (header_is (header_parts p.header) (header_after k p.header) p.rest) =
     sym (header_made k e.header e.rest b e.is) ∙ ap (scan_header k) (sym e.stands ∙ p.stands) ∙ header_made k p.header p.rest b p.is in
@@ -181,7 +181,7 @@ end_alone bytes k parts used after b e p =
     let ends : Err e.fault ≡ Ok used = sym e.ends ∙ ap (λ (l : List Bool). end_after bytes (length l)) fronts ∙ p.ends in
     cc
 
-pub no_packet : (bytes : List ℕ) (k : State) (parts : List Part) (used : ℕ) (after : State) → AreBands k.bands → BreaksBits bytes k → IsPacket bytes k parts used after → ⊥
+pub no_packet : (bytes : List ℕ) (k : State) (parts : List HeaderPart) (used : ℕ) (after : State) → AreBands k.bands → BreaksBits bytes k → IsPacket bytes k parts used after → ⊥
 no_packet bytes k parts used after b (inl none) p = packet_none bytes k Bits parts after used b (ap (scan_header k) none) p
 no_packet bytes k parts used after b (inr (inl x)) p = packet_none bytes k Bits parts after used b (header_stop bytes k b x) p
 no_packet bytes k parts used after b (inr (inr e)) p = end_alone bytes k parts used after b e p
@@ -226,5 +226,5 @@ cause_broken bytes k b c = by (one_of_three bytes k b)
 pub broken_cause : (bytes : List ℕ) (k : State) → AreBands k.bands → BreaksBits bytes k → HasCause Bits bytes k
 broken_cause bytes k b x = (
   λ (p : BreaksPlanes bytes k). no_planes bytes k b x p,
-  λ (parts : List Part) (used : ℕ) (after : State) (p : IsPacket bytes k parts used after). no_packet bytes k parts used after b x p,
+  λ (parts : List HeaderPart) (used : ℕ) (after : State) (p : IsPacket bytes k parts used after). no_packet bytes k parts used after b x p,
 )

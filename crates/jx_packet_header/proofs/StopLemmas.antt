@@ -6,7 +6,7 @@ use Rattle.std.proofs.lemmas.Bool.{le-ltb, ltb-false}
 use Rattle.jx_tagtree.specs.Shape.{way}
 use Rattle.jx_tagtree.specs.TagTree.{Tree, ValuesOf, query}
 use Rattle.jx_tagtree.proofs.QuestionLemmas.{known_values}
-use Rattle.jx_packet_header.specs.declared.Part.{Part}
+use Rattle.jx_packet_header.specs.declared.HeaderPart.{HeaderPart}
 use Rattle.jx_packet_header.specs.declared.HeadFault.TheVariants.{Bits, Planes}
 use Rattle.jx_packet_header.specs.declared.known.Known.{Known}
 use Rattle.jx_packet_header.specs.Words.{pass_word, raise_word}
@@ -167,4 +167,4 @@ entry_stop style block planes z known bits s = by s
     by (inr (inl r)) = after r.passes (replicate r.ones true) r.has ∙ ap (λ (o : Option (Found ℕ)). or_bits (option_and_then (on_raise style block known r.passes) o)) (raise_stops r.ones)
     by (inr (inr p)) = after p.passes (raise_word p.raise ++ p.behind) p.has
         ∙ ap (λ (o : Option (Found ℕ)). or_bits (option_and_then (on_raise style block known p.passes) o)) (raise_made p.raise p.behind)
-        ∙ ap (λ (o : Option (Found (List Part))). or_bits (option_map (entry_of p.passes p.raise) o)) (parts_stop (known.lblock + p.raise) block known.passes (cut style known.passes p.passes) p.behind p.stops)
+        ∙ ap (λ (o : Option (Found (List HeaderPart))). or_bits (option_map (entry_of p.passes p.raise) o)) (parts_stop (known.lblock + p.raise) block known.passes (cut style known.passes p.passes) p.behind p.stops)

@@ -10,10 +10,10 @@ use Rattle.jx_tagtree.specs.Header.{low_bits, number_of}
 use Rattle.jx_tagtree.proofs.HeaderLemmas.{length-low_bits}
 use Rattle.jx_tagtree.proofs.WriterLemmas.{number_of-low_bits}
 use Rattle.jx_tagtree.proofs.LawLemmas.{number_of-lt, low_bits-number_of}
-use Rattle.jx_packet_header.specs.declared.Part.{Part}
+use Rattle.jx_packet_header.specs.declared.HeaderPart.{HeaderPart}
 use Rattle.jx_packet_header.specs.Words.{IsCount, pass_word, raise_word, OneWord}
-use Rattle.jx_packet_header.specs.Parts.{width, IsPart, AreParts, length_bits}
-use Rattle.jx_packet_header.specs.Scan.{Found, scan_number, scan_passes, scan_passes_2, scan_passes_4, scan_raise, scan_parts, part_of, behind, plus}
+use Rattle.jx_packet_header.specs.Parts.{width, IsHeaderPart, AreHeaderParts, length_bits}
+use Rattle.jx_packet_header.specs.Scan.{Found, scan_number, scan_passes, scan_passes_2, scan_passes_4, scan_raise, scan_parts, header_part, behind, plus}
 
 -- ---- numbers
 abbrev pub found : {A : Type 0} → A → List Bool → Found A
@@ -266,51 +266,51 @@ raise_read (true ∷ bits) f h = by (λ (g : Found ℕ) (eq : scan_raise bits �
         ap (λ (l : List Bool). true ∷ l) (again g eq) ∙ ap (λ (m : ℕ). raise_word m ++ g.rest) e ∙ ap (λ (x : Found ℕ). raise_word x.value ++ x.rest) is
 
 -- ---- the parts
-part_is : (lblock block first run : ℕ) (p : Part) → IsPart lblock block first run p → part_of block first run p.length ≡ p
+part_is : (lblock block first run : ℕ) (p : HeaderPart) → IsHeaderPart lblock block first run p → header_part block first run p.length ≡ p
 part_is lblock block first run p is =
-    ap (λ (b : ℕ). part_of b first run p.length) (sym is.of) ∙ ap (λ (b : ℕ). part_of p.block b run p.length) (sym is.begins) ∙ ap (λ (b : ℕ). part_of p.block p.first b p.length) (sym is.has)
+    ap (λ (b : ℕ). header_part b first run p.length) (sym is.of) ∙ ap (λ (b : ℕ). header_part p.block b run p.length) (sym is.begins) ∙ ap (λ (b : ℕ). header_part p.block p.first b p.length) (sym is.has)
 
-pub parts_made : (lblock block first : ℕ) (runs : List ℕ) (parts : List Part) (rest : List Bool) → AreParts lblock block first runs parts →
+pub parts_made : (lblock block first : ℕ) (runs : List ℕ) (parts : List HeaderPart) (rest : List Bool) → AreHeaderParts lblock block first runs parts →
     scan_parts lblock block first runs (length_bits lblock parts ++ rest) ≡ Some (found parts rest)
 parts_made lblock block first [] [] rest are = refl
 parts_made lblock block first [] (p ∷ ps) rest are = absurd are
 parts_made lblock block first (run ∷ runs) [] rest are = absurd are
 parts_made lblock block first (run ∷ runs) (p ∷ ps) rest are =
     let front = low_bits (width lblock p.passes) p.length in
-    let next : List Bool → Option (Found (List Part)) = λ (l : List Bool). scan_parts lblock block (first + run) runs l in
+    let next : List Bool → Option (Found (List HeaderPart)) = λ (l : List Bool). scan_parts lblock block (first + run) runs l in
     ap (λ (l : List Bool). scan_parts lblock block first (run ∷ runs) l) (append_assoc front (length_bits lblock ps) rest)
     ∙ ap (λ (m : ℕ). scan_parts lblock block first (run ∷ runs) (low_bits (width lblock m) p.length ++ (length_bits lblock ps ++ rest))) are.0.has
-    ∙ ap (option_and_then (λ (f : Found ℕ). option_map (behind (part_of block first run f.value ∷ [])) (next f.rest)))
+    ∙ ap (option_and_then (λ (f : Found ℕ). option_map (behind (header_part block first run f.value ∷ [])) (next f.rest)))
     (number_made (width lblock run) p.length (length_bits lblock ps ++ rest) are.0.fits are.0.short)
-    ∙ ap (option_map (behind (part_of block first run p.length ∷ []))) (parts_made lblock block (first + run) runs ps rest are.1)
-    ∙ ap (λ (q : Part). Some (found (q ∷ ps) rest)) (part_is lblock block first run p are.0)
+    ∙ ap (option_map (behind (header_part block first run p.length ∷ []))) (parts_made lblock block (first + run) runs ps rest are.1)
+    ∙ ap (λ (q : HeaderPart). Some (found (q ∷ ps) rest)) (part_is lblock block first run p are.0)
 
-pub record PartsRead (lblock block first : ℕ) (runs : List ℕ) (bits : List Bool) (f : Found (List Part)) : Type 0 where
-  pub are : AreParts lblock block first runs f.value
+pub record PartsRead (lblock block first : ℕ) (runs : List ℕ) (bits : List Bool) (f : Found (List HeaderPart)) : Type 0 where
+  pub are : AreHeaderParts lblock block first runs f.value
   pub bits_are : bits ≡ length_bits lblock f.value ++ f.rest
 
-pub parts_read : (lblock block first : ℕ) (runs : List ℕ) (bits : List Bool) (f : Found (List Part)) → scan_parts lblock block first runs bits ≡ Some f →
+pub parts_read : (lblock block first : ℕ) (runs : List ℕ) (bits : List Bool) (f : Found (List HeaderPart)) → scan_parts lblock block first runs bits ≡ Some f →
     PartsRead lblock block first runs bits f
-parts_read lblock block first [] bits f h = let is : found [] bits ≡ f = cc in subst (λ (x : Found (List Part)). PartsRead lblock block first [] bits x) is (record { are = tt; bits_are = refl })
+parts_read lblock block first [] bits f h = let is : found [] bits ≡ f = cc in subst (λ (x : Found (List HeaderPart)). PartsRead lblock block first [] bits x) is (record { are = tt; bits_are = refl })
 parts_read lblock block first (run ∷ runs) bits f h =
-    by (λ (l : List Bool) (k : Found (List Part)) (eq : scan_parts lblock block (first + run) runs l ≡ Some k). parts_read lblock block (first + run) runs l k eq) (scan_number (width lblock run) bits) refl h
+    by (λ (l : List Bool) (k : Found (List HeaderPart)) (eq : scan_parts lblock block (first + run) runs l ≡ Some k). parts_read lblock block (first + run) runs l k eq) (scan_number (width lblock run) bits) refl h
   where
-    more : ((l : List Bool) (k : Found (List Part)) → scan_parts lblock block (first + run) runs l ≡ Some k → PartsRead lblock block (first + run) runs l k) →
-        (g : Found ℕ) → NumberRead (width lblock run) bits g → (o : Option (Found (List Part))) → scan_parts lblock block (first + run) runs g.rest ≡ o →
-        option_map (behind (part_of block first run g.value ∷ [])) o ≡ Some f → PartsRead lblock block first (run ∷ runs) bits f
+    more : ((l : List Bool) (k : Found (List HeaderPart)) → scan_parts lblock block (first + run) runs l ≡ Some k → PartsRead lblock block (first + run) runs l k) →
+        (g : Found ℕ) → NumberRead (width lblock run) bits g → (o : Option (Found (List HeaderPart))) → scan_parts lblock block (first + run) runs g.rest ≡ o →
+        option_map (behind (header_part block first run g.value ∷ [])) o ≡ Some f → PartsRead lblock block first (run ∷ runs) bits f
     more again g r None eq h = absurd cc
     more again g r (Some k) eq h =
-        let is : behind (part_of block first run g.value ∷ []) k ≡ f = cc in
+        let is : behind (header_part block first run g.value ∷ []) k ≡ f = cc in
         let p : PartsRead lblock block (first + run) runs g.rest k = again g.rest k eq in
-        subst (λ (x : Found (List Part)). PartsRead lblock block first (run ∷ runs) bits x) is (record {
+        subst (λ (x : Found (List HeaderPart)). PartsRead lblock block first (run ∷ runs) bits x) is (record {
           are = (record { of = refl; begins = refl; has = refl; fits = r.fits; short = r.short }, p.are);
           bits_are = r.bits_are ∙ ap (λ (l : List Bool). low_bits (width lblock run) g.value ++ l) p.bits_are
               ∙ sym (append_assoc (low_bits (width lblock run) g.value) (length_bits lblock k.value) k.rest);
         })
 
-    by : ((l : List Bool) (k : Found (List Part)) → scan_parts lblock block (first + run) runs l ≡ Some k → PartsRead lblock block (first + run) runs l k) →
+    by : ((l : List Bool) (k : Found (List HeaderPart)) → scan_parts lblock block (first + run) runs l ≡ Some k → PartsRead lblock block (first + run) runs l k) →
         (o : Option (Found ℕ)) → scan_number (width lblock run) bits ≡ o →
-        option_and_then (λ (x : Found ℕ). option_map (behind (part_of block first run x.value ∷ [])) (scan_parts lblock block (first + run) runs x.rest)) o ≡ Some f →
+        option_and_then (λ (x : Found ℕ). option_map (behind (header_part block first run x.value ∷ [])) (scan_parts lblock block (first + run) runs x.rest)) o ≡ Some f →
         PartsRead lblock block first (run ∷ runs) bits f
     by again None eq h = absurd cc
     by again (Some g) eq h = more again g (number_read (width lblock run) bits g eq) (scan_parts lblock block (first + run) runs g.rest) refl h

@@ -6,7 +6,8 @@ use Rattle.std.proofs.lemmas.List.{get_or-map, length-map, get_or_past, append-n
 use Rattle.jx_tagtree.specs.Shape.{IsShape}
 use Rattle.jx_tagtree.specs.Leaves.{least_leaf}
 use Rattle.jx_tagtree.proofs.LeafLemmas.{least_of_leaf}
-use Rattle.jx_packet_header.specs.declared.Part.{Part}
+use Rattle.jx_packet_header.specs.declared.HeaderPart.{HeaderPart}
+use Rattle.jx_packet_header.specs.declared.LeafPart.{LeafPart}
 use Rattle.jx_packet_header.specs.declared.Leaf.{Leaf}
 use Rattle.jx_packet_header.specs.declared.known.Known.{Known}
 use Rattle.jx_packet_header.specs.Words.{size}
@@ -18,27 +19,27 @@ use Rattle.jx_packet_header.proofs.BandLemmas.{entry_size}
 use Rattle.jx_packet_header.proofs.PutLemmas.{same_least, size_le}
 
 -- ---- passes that are due
-pub due_split : (layer : ℕ) (parts : List (ℕ × Part)) → passes_from layer parts ≡ passes_of (parts_in layer parts) + passes_from (layer + 1) parts
+pub due_split : (layer : ℕ) (parts : List LeafPart) → passes_from layer parts ≡ passes_of (parts_in layer parts) + passes_from (layer + 1) parts
 due_split layer [] = refl
-due_split layer (p ∷ ps) = by (cases_lt p.0 layer) (due_split layer ps)
+due_split layer (p ∷ ps) = by (cases_lt p.layer layer) (due_split layer ps)
   where
-    by : (p.0 < layer) ⊎ (layer ≤ p.0) → passes_from layer ps ≡ passes_of (parts_in layer ps) + passes_from (layer + 1) ps →
+    by : (p.layer < layer) ⊎ (layer ≤ p.layer) → passes_from layer ps ≡ passes_of (parts_in layer ps) + passes_from (layer + 1) ps →
         passes_from layer (p ∷ ps) ≡ passes_of (parts_in layer (p ∷ ps)) + passes_from (layer + 1) (p ∷ ps)
     by (inl lt) i =
-        let a : nat_le layer p.0 ≡ false = grind (arith, nat_tests) in
-        let b : (p.0 == layer) ≡ false = grind (arith, nat_tests) in
-        let c : nat_le (layer + 1) p.0 ≡ false = grind (arith, nat_tests) in
+        let a : nat_le layer p.layer ≡ false = grind (arith, nat_tests) in
+        let b : (p.layer == layer) ≡ false = grind (arith, nat_tests) in
+        let c : nat_le (layer + 1) p.layer ≡ false = grind (arith, nat_tests) in
         rw (a, b, c) i
-    by (inr ge) i = elim (cases_lt layer p.0) [
+    by (inr ge) i = elim (cases_lt layer p.layer) [
       | inl gt ↦
-          (let a : nat_le layer p.0 ≡ true = grind (arith, nat_tests) in
-          let b : (p.0 == layer) ≡ false = grind (arith, nat_tests) in
-          let c : nat_le (layer + 1) p.0 ≡ true = grind (arith, nat_tests) in
+          (let a : nat_le layer p.layer ≡ true = grind (arith, nat_tests) in
+          let b : (p.layer == layer) ≡ false = grind (arith, nat_tests) in
+          let c : nat_le (layer + 1) p.layer ≡ true = grind (arith, nat_tests) in
           rw (a, b, c) (omega arith))
       | inr le ↦
-          (let a : nat_le layer p.0 ≡ true = grind (arith, nat_tests) in
-          let b : (p.0 == layer) ≡ true = (let e : p.0 ≡ layer = omega arith in grind (arith, nat_tests)) in
-          let c : nat_le (layer + 1) p.0 ≡ false = grind (arith, nat_tests) in
+          (let a : nat_le layer p.layer ≡ true = grind (arith, nat_tests) in
+          let b : (p.layer == layer) ≡ true = (let e : p.layer ≡ layer = omega arith in grind (arith, nat_tests)) in
+          let c : nat_le (layer + 1) p.layer ≡ false = grind (arith, nat_tests) in
           rw (a, b, c) (omega arith))
     ]
 
@@ -46,7 +47,7 @@ due_split layer (p ∷ ps) = by (cases_lt p.0 layer) (due_split layer ps)
 pub leaf_is : (leaves : List Leaf) (i : ℕ) (x : Leaf) → i < length leaves → x ≡ get_or leaves i x → leaf_at (map leaf_of leaves) i ≡ leaf_of x
 leaf_is leaves i x lt e = get_or-map leaf_of leaves i x no_leaf lt ∙ ap leaf_of (sym e)
 
-some_part : (layer : ℕ) (parts : List (ℕ × Part)) (planes z : ℕ) → 1 ≤ passes_of (parts_in layer parts) → zero_leaf planes z parts ≡ z
+some_part : (layer : ℕ) (parts : List LeafPart) (planes z : ℕ) → 1 ≤ passes_of (parts_in layer parts) → zero_leaf planes z parts ≡ z
 some_part layer [] planes z ge = absurd (omega arith)
 some_part layer (p ∷ ps) planes z ge = refl
 
@@ -145,7 +146,7 @@ still_writes leaves w old first zeros s cursors a = record {
   fit = subst (λ (n : ℕ). (i : ℕ) → get_or (zero_leaves n leaves) i 0 < 2 ^ 32) (sym s.planes) a.fit;
 }
 
-pub raise_few : (lblock : ℕ) (parts : List Part) → lblock ≤ 32 → lblock + raise_of lblock parts ≤ 32
+pub raise_few : (lblock : ℕ) (parts : List HeaderPart) → lblock ≤ 32 → lblock + raise_of lblock parts ≤ 32
 raise_few lblock [] le = omega arith
 raise_few lblock (p ∷ ps) le = let i : lblock + raise_of lblock ps ≤ 32 = raise_few lblock ps le in let s : size p.length ≤ 32 = size_le p.length in omega arith
 
@@ -320,13 +321,13 @@ loop_calls layer at leaves w x p lt is =
 abbrev pub with_cursors : Writes → List ℕ → Writes
 with_cursors w cs = record w { cursors = cs }
 
-abbrev pub run_of : ℕ → List (ℕ × Part) → Leafed
+abbrev pub run_of : ℕ → List LeafPart → Leafed
 run_of z parts = record { zero = z; parts = parts }
 
-abbrev entry_with : Known → List Part → Entry
+abbrev entry_with : Known → List HeaderPart → Entry
 entry_with known ps = record { passes = passes_of ps; raise = raise_of known.lblock ps; parts = ps }
 
-pub run_calls : (layer at : ℕ) (leaves : List Leafed) (w mid : Writes) (x : Leafed) (parts : List (ℕ × Part)) (cs : List ℕ) → IsPartly layer at leaves w → at < length leaves → leaf_at leaves at ≡ x →
+pub run_calls : (layer at : ℕ) (leaves : List Leafed) (w mid : Writes) (x : Leafed) (parts : List LeafPart) (cs : List ℕ) → IsPartly layer at leaves w → at < length leaves → leaf_at leaves at ≡ x →
     mid ≡ with_cursors w cs → parts_in layer parts ≡ parts_in layer x.parts → CallsBlock layer at (run_of x.zero parts) mid
 run_calls layer at leaves w mid x parts cs p lt is mid_is same =
     let c : CallsBlock layer at x w = loop_calls layer at leaves w x p lt is in
@@ -334,12 +335,12 @@ run_calls layer at leaves w mid x parts cs p lt is mid_is same =
       inside = c.inside;
       first = c.first;
       zeros = c.zeros;
-      zero = λ ge. c.zero (subst (λ (l : List Part). 1 ≤ passes_of l) same ge);
-      few = subst (λ (l : List Part). (block_at (cells_of w) at).passes + passes_of l < 2 ^ 16) (sym same) c.few;
+      zero = λ ge. c.zero (subst (λ (l : List HeaderPart). 1 ≤ passes_of l) same ge);
+      few = subst (λ (l : List HeaderPart). (block_at (cells_of w) at).passes + passes_of l < 2 ^ 16) (sym same) c.few;
       lblock = c.lblock;
     })
 
-pub loop_run : (layer at m : ℕ) (leaves : List Leafed) (start w mid new : Writes) (begun bits next : List Bool) (x : Leafed) (parts : List (ℕ × Part)) → Loop layer at leaves start w begun bits → at < length leaves →
+pub loop_run : (layer at m : ℕ) (leaves : List Leafed) (start w mid new : Writes) (begun bits next : List Bool) (x : Leafed) (parts : List LeafPart) → Loop layer at leaves start w begun bits → at < length leaves →
     leaf_at leaves at ≡ x → mid ≡ with_cursors w (set w.cursors at m) → IsCursor (layer + 1) m x.parts → parts_in layer parts ≡ parts_in layer x.parts →
     next ≡ bits ++ entry_bits (values_of mid) layer at (cells_of mid) (entry_written layer (block_at (cells_of mid) at) (run_of x.zero parts)) →
     cells_of new ≡ entry_after (values_of mid) layer at (cells_of mid) (entry_written layer (block_at (cells_of mid) at) (run_of x.zero parts)) →
@@ -347,7 +348,7 @@ pub loop_run : (layer at m : ℕ) (leaves : List Leafed) (start w mid new : Writ
 loop_run layer at m leaves start w mid new begun bits next x parts l lt is mid_is moved same next_is after_is first zeros cursors =
     loop_next layer at m leaves start w new begun bits next x l lt is
     (next_is ∙ ap (λ (y : Writes). bits ++ entry_bits (values_of y) layer at (cells_of y) (entry_written layer (block_at (cells_of y) at) (run_of x.zero parts))) mid_is
-    ∙ ap (λ (ps : List Part). bits ++ entry_bits (values_of w) layer at (cells_of w) (entry_with (block_at (cells_of w) at) ps)) same)
+    ∙ ap (λ (ps : List HeaderPart). bits ++ entry_bits (values_of w) layer at (cells_of w) (entry_with (block_at (cells_of w) at) ps)) same)
     (after_is ∙ ap (λ (y : Writes). entry_after (values_of y) layer at (cells_of y) (entry_written layer (block_at (cells_of y) at) (run_of x.zero parts))) mid_is
-    ∙ ap (λ (ps : List Part). entry_after (values_of w) layer at (cells_of w) (entry_with (block_at (cells_of w) at) ps)) same)
+    ∙ ap (λ (ps : List HeaderPart). entry_after (values_of w) layer at (cells_of w) (entry_with (block_at (cells_of w) at) ps)) same)
     (first ∙ ap (λ (y : Writes). y.first.leaves) mid_is) (zeros ∙ ap (λ (y : Writes). y.zeros.leaves) mid_is) (cursors ∙ ap (λ (y : Writes). y.cursors) mid_is) moved

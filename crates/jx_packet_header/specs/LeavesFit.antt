@@ -2,7 +2,8 @@
 use Rattle.std.specs.Prelude.{◌≡◌, ℕ, ◌+◌, ◌-◌, ◌*◌, ◌^◌, ◌<◌, ◌≤◌, nat_lt, List, [], ◌∷◌, ◌++◌, length, map, take, drop, replicate, slice_index_or, if◌then◌else◌}
 use Rattle.jx_tagtree.specs.Header.{bytes_of}
 use Rattle.jx_tagtree.specs.Leaves.{untold}
-use Rattle.jx_packet_header.specs.declared.Part.{Part}
+use Rattle.jx_packet_header.specs.declared.HeaderPart.{HeaderPart}
+use Rattle.jx_packet_header.specs.declared.LeafPart.{LeafPart}
 use Rattle.jx_packet_header.specs.declared.BandCells.{BandCells}
 use Rattle.jx_packet_header.specs.Parts.{cut, width}
 use Rattle.jx_packet_header.specs.Packet.{header_bits, most_passes, unknown_block}
@@ -11,20 +12,20 @@ use Rattle.jx_packet_header.specs.Written.{Leafed, Writes, first_leaves, zero_le
 use Rattle.jx_packet_header.specs.Writable.{AllFew, all_passes}
 
 -- parts of a block in order of layers and passes, from a layer and a pass on, without a gap
-abbrev pub AreRuns : ℕ → ℕ → ℕ → ℕ → List (ℕ × Part) → Type 0
+abbrev pub AreRuns : ℕ → ℕ → ℕ → ℕ → List LeafPart → Type 0
 AreRuns layers block layer first [] = Unit {0}
 AreRuns layers block layer first (p ∷ ps) =
-    (layer ≤ p.0) × (p.0 < layers) × (p.1.block ≡ block) × (p.1.first ≡ first) × (1 ≤ p.1.passes) × AreRuns layers block p.0 (first + p.1.passes) ps
+    (layer ≤ p.layer) × (p.layer < layers) × (p.told.block ≡ block) × (p.told.first ≡ first) × (1 ≤ p.told.passes) × AreRuns layers block p.layer (first + p.told.passes) ps
 
 -- how many passes a block has in the layers before one
-abbrev pub passes_before : ℕ → List (ℕ × Part) → ℕ
+abbrev pub passes_before : ℕ → List LeafPart → ℕ
 passes_before layer [] = 0
-passes_before layer (p ∷ ps) = if nat_lt p.0 layer then p.1.passes + passes_before layer ps else passes_before layer ps
+passes_before layer (p ∷ ps) = if nat_lt p.layer layer then p.told.passes + passes_before layer ps else passes_before layer ps
 
 -- in one layer they are cut exactly after each pass that ends a segment, and have at most 164 passes
-pub record IsLayerCut (style layer : ℕ) (parts : List (ℕ × Part)) : Type 0 where
+pub record IsLayerCut (style layer : ℕ) (parts : List LeafPart) : Type 0 where
   pub few : passes_of (parts_in layer parts) ≤ 164
-  pub runs : map (λ (p : Part). p.passes) (parts_in layer parts) ≡ cut style (passes_before layer parts) (passes_of (parts_in layer parts))
+  pub runs : map (λ (p : HeaderPart). p.passes) (parts_in layer parts) ≡ cut style (passes_before layer parts) (passes_of (parts_in layer parts))
 
 -- a block that is included
 pub record IsLeaf (style layers planes block : ℕ) (leaf : Leafed) : Type 0 where
@@ -34,7 +35,7 @@ pub record IsLeaf (style layers planes block : ℕ) (leaf : Leafed) : Type 0 whe
   pub cuts : (layer : ℕ) → IsLayerCut style layer leaf.parts
 
 -- a block without parts is never included
-abbrev pub FitsLeaf : ℕ → ℕ → ℕ → ℕ → Leafed → List (ℕ × Part) → Type 0
+abbrev pub FitsLeaf : ℕ → ℕ → ℕ → ℕ → Leafed → List LeafPart → Type 0
 FitsLeaf style layers planes block leaf [] = Unit {0}
 FitsLeaf style layers planes block leaf (p ∷ ps) = IsLeaf style layers planes block leaf
 
@@ -85,24 +86,24 @@ pub record AreHeaders (layers style : ℕ) (bands : List BandCells) (leaves : Li
   pub each : (layer : ℕ) → layer < count → IsCutOut bytes (slice_index_or places layer 0) (slice_index_or places (layer + 1) 0) (header_at layers style bands leaves layer)
 
 -- lengths of 32 bits
-abbrev pub AreShort : List Part → Type 0
+abbrev pub AreShort : List HeaderPart → Type 0
 AreShort [] = Unit {0}
 AreShort (p ∷ ps) = (p.length < 2 ^ 32) × AreShort ps
 
 -- each length fits its bits
-abbrev pub AllFit : ℕ → List Part → Type 0
+abbrev pub AllFit : ℕ → List HeaderPart → Type 0
 AllFit lblock [] = Unit {0}
 AllFit lblock (p ∷ ps) = (p.length < 2 ^ width lblock p.passes) × AllFit lblock ps
 
 -- the parts that a layer's packet has, over the blocks in order
-abbrev pub parts_at : ℕ → List Leafed → List Part
+abbrev pub parts_at : ℕ → List Leafed → List HeaderPart
 parts_at layer [] = []
 parts_at layer (leaf ∷ leaves) = parts_in layer leaf.parts ++ parts_at layer leaves
 
 -- a block's lengths have 32 bits
-abbrev pub HasShort : List (ℕ × Part) → Type 0
+abbrev pub HasShort : List LeafPart → Type 0
 HasShort [] = Unit {0}
-HasShort (p ∷ ps) = (p.1.length < 2 ^ 32) × HasShort ps
+HasShort (p ∷ ps) = (p.told.length < 2 ^ 32) × HasShort ps
 
 abbrev pub AllShort : List Leafed → Type 0
 AllShort [] = Unit {0}

@@ -4,10 +4,10 @@ use Rattle.std.specs.Bool.{MatchBool}
 use Rattle.jx_tagtree.specs.Header.{bits_of, end_after}
 use Rattle.jx_tagtree.specs.TagTree.{Tree, query, tree_after, ValuesOf}
 use Rattle.jx_tagtree.specs.Questions.{Question, all_bits, after_all}
-use Rattle.jx_packet_header.specs.declared.Part.{Part}
+use Rattle.jx_packet_header.specs.declared.HeaderPart.{HeaderPart}
 use Rattle.jx_packet_header.specs.declared.known.Known.{Known}
 use Rattle.jx_packet_header.specs.Words.{IsCount, pass_word, raise_word}
-use Rattle.jx_packet_header.specs.Parts.{AreParts, cut, length_bits}
+use Rattle.jx_packet_header.specs.Parts.{AreHeaderParts, cut, length_bits}
 
 -- ---- what was told before
 -- of a block that no packet has included yet
@@ -45,7 +45,7 @@ pub record Agree (cells : Cells) (v : Values) : Type 0 where
 pub record Entry : Type 0 where
   pub passes : ℕ
   pub raise : ℕ
-  pub parts : List Part
+  pub parts : List HeaderPart
 
 -- a block of which the packet has nothing
 abbrev pub nothing : Entry
@@ -131,7 +131,7 @@ pub record IsIncluded (style block planes z : ℕ) (known : Known) (e : Entry) :
   pub below : z < planes
   pub count : IsCount e.passes
   pub few : known.passes + e.passes ≤ most_passes planes z
-  pub parts : AreParts (known.lblock + e.raise) block known.passes (cut style known.passes e.passes) e.parts
+  pub parts : AreHeaderParts (known.lblock + e.raise) block known.passes (cut style known.passes e.passes) e.parts
 
 pub record IsEntry (v : Values) (style layer block leaf : ℕ) (cells : Cells) (e : Entry) : Type 0 where
   pub first : IsInclusion (block_at cells leaf).zero v.first leaf layer (contributes e)
@@ -176,7 +176,7 @@ AreEntries v style layer base stop leaf cells [] = leaf ≡ stop
 AreEntries v style layer base stop leaf cells (e ∷ es) =
     (leaf < stop) × IsEntry v style layer (base + leaf) leaf cells e × AreEntries v style layer base stop (leaf + 1) (entry_after v layer leaf cells e) es
 
-abbrev pub parts_told : List Entry → List Part
+abbrev pub parts_told : List Entry → List HeaderPart
 parts_told [] = []
 parts_told (e ∷ es) = e.parts ++ parts_told es
 
@@ -228,7 +228,7 @@ AgreeAfter layer [] tolds = Unit {0}
 AgreeAfter layer (cells ∷ bands) [] = Unit {0}
 AgreeAfter layer (cells ∷ bands) (told ∷ tolds) = Agree (band_after layer cells told) told.values × AgreeAfter layer bands tolds
 
-abbrev pub bands_parts : List BandTold → List Part
+abbrev pub bands_parts : List BandTold → List HeaderPart
 bands_parts [] = []
 bands_parts (told ∷ tolds) = parts_told told.entries ++ bands_parts tolds
 
@@ -261,7 +261,7 @@ header_bits k h = if h.some then true ∷ bands_bits k.layer k.bands h.tolds els
 abbrev pub header_after : State → Header → State
 header_after k h = record { style = k.style; layer = k.layer + 1; bands = if h.some then bands_after k.layer k.bands h.tolds else k.bands }
 
-abbrev pub header_parts : Header → List Part
+abbrev pub header_parts : Header → List HeaderPart
 header_parts h = if h.some then bands_parts h.tolds else []
 
 abbrev pub IsToldOf : State → Header → Type 0
@@ -270,7 +270,7 @@ IsToldOf k h = MatchBool h.some (AreBandsTold k.style k.layer 0 k.bands h.tolds)
 -- A header stands at the front of some bytes: its tag trees' nodes have values that agree with the state before, with the
 -- parts and with the state after; the bits of the bytes begin with its bits; no stuffed bit among them is 1, and a last
 -- byte FF has its following byte. Filling bits may be anything.
-pub record IsPacket (bytes : List ℕ) (k : State) (parts : List Part) (used : ℕ) (after : State) : Type 0 where
+pub record IsPacket (bytes : List ℕ) (k : State) (parts : List HeaderPart) (used : ℕ) (after : State) : Type 0 where
   pub header : Header
   pub is : IsToldOf k header
   pub rest : List Bool
@@ -286,7 +286,7 @@ pub record BreaksPlanes (bytes : List ℕ) (k : State) : Type 0 where
   pub breaks : BandsBreak k.style k.layer 0 k.bands rest
 
 -- Two headers at the front of the same bytes are one: the same parts, the same length and the same state after.
-pub record OneHeader (parts others : List Part) (after others_after : State) (used ends : ℕ) : Type 0 where
+pub record OneHeader (parts others : List HeaderPart) (after others_after : State) (used ends : ℕ) : Type 0 where
   pub parts_are : parts ≡ others
   pub used_is : used ≡ ends
   pub after_is : after ≡ others_after

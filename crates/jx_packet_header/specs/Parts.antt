@@ -2,7 +2,7 @@
 use Rattle.std.specs.Prelude.{◌≡◌, ℕ, zero, suc, ◌+◌, ◌^◌, ◌<◌, Bool, List, [], ◌∷◌, ◌++◌, if◌then◌else◌}
 use Rattle.jx_base.specs.Passes.{end_pass}
 use Rattle.jx_tagtree.specs.Header.{low_bits}
-use Rattle.jx_packet_header.specs.declared.Part.{Part}
+use Rattle.jx_packet_header.specs.declared.HeaderPart.{HeaderPart}
 use Rattle.jx_packet_header.specs.Words.{log2}
 
 abbrev pub one_more : List ℕ → List ℕ
@@ -19,7 +19,7 @@ abbrev pub width : ℕ → ℕ → ℕ
 width lblock passes = lblock + log2 passes
 
 -- a part of a block, from a pass on, whose length takes its bits
-pub record IsPart (lblock block first passes : ℕ) (p : Part) : Type 0 where
+pub record IsHeaderPart (lblock block first passes : ℕ) (p : HeaderPart) : Type 0 where
   pub of : p.block ≡ block
   pub begins : p.first ≡ first
   pub has : p.passes ≡ passes
@@ -27,13 +27,13 @@ pub record IsPart (lblock block first passes : ℕ) (p : Part) : Type 0 where
   pub short : p.length < 2 ^ 32
 
 -- the parts of a block, from a pass on, with these numbers of passes
-abbrev pub AreParts : ℕ → ℕ → ℕ → List ℕ → List Part → Type 0
-AreParts lblock block first [] [] = Unit {0}
-AreParts lblock block first [] (p ∷ ps) = ⊥
-AreParts lblock block first (run ∷ runs) [] = ⊥
-AreParts lblock block first (run ∷ runs) (p ∷ ps) = IsPart lblock block first run p × AreParts lblock block (first + run) runs ps
+abbrev pub AreHeaderParts : ℕ → ℕ → ℕ → List ℕ → List HeaderPart → Type 0
+AreHeaderParts lblock block first [] [] = Unit {0}
+AreHeaderParts lblock block first [] (p ∷ ps) = ⊥
+AreHeaderParts lblock block first (run ∷ runs) [] = ⊥
+AreHeaderParts lblock block first (run ∷ runs) (p ∷ ps) = IsHeaderPart lblock block first run p × AreHeaderParts lblock block (first + run) runs ps
 
 -- the bits of their lengths
-abbrev pub length_bits : ℕ → List Part → List Bool
+abbrev pub length_bits : ℕ → List HeaderPart → List Bool
 length_bits lblock [] = []
 length_bits lblock (p ∷ ps) = low_bits (width lblock p.passes) p.length ++ length_bits lblock ps

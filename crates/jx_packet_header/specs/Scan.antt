@@ -5,7 +5,7 @@ use Rattle.jx_tagtree.specs.Header.{number_of}
 use Rattle.jx_tagtree.specs.Shape.{way}
 use Rattle.jx_tagtree.specs.TagTree.{Tree, node_at}
 use Rattle.jx_tagtree.specs.Scan.{Scanned, scan_way}
-use Rattle.jx_packet_header.specs.declared.Part.{Part}
+use Rattle.jx_packet_header.specs.declared.HeaderPart.{HeaderPart}
 use Rattle.jx_packet_header.specs.declared.HeadFault.{HeadFault}
 use Rattle.jx_packet_header.specs.declared.HeadFault.TheVariants.{Bits, Planes}
 use Rattle.jx_packet_header.specs.declared.known.Known.{Known}
@@ -55,16 +55,16 @@ scan_raise (false ∷ bits) = Some (record { value = 0; rest = bits })
 scan_raise (true ∷ bits) = option_map (plus 1) (scan_raise bits)
 
 -- the lengths of parts with these numbers of passes
-abbrev pub part_of : ℕ → ℕ → ℕ → ℕ → Part
-part_of block first passes length = record { block = block; first = first; passes = passes; length = length }
+abbrev pub header_part : ℕ → ℕ → ℕ → ℕ → HeaderPart
+header_part block first passes length = record { block = block; first = first; passes = passes; length = length }
 
-abbrev pub behind : List Part → Found (List Part) → Found (List Part)
+abbrev pub behind : List HeaderPart → Found (List HeaderPart) → Found (List HeaderPart)
 behind parts f = record f { value = parts ++ f.value }
 
-abbrev pub scan_parts : ℕ → ℕ → ℕ → List ℕ → List Bool → Option (Found (List Part))
+abbrev pub scan_parts : ℕ → ℕ → ℕ → List ℕ → List Bool → Option (Found (List HeaderPart))
 scan_parts lblock block first [] bits = Some (record { value = []; rest = bits })
 scan_parts lblock block first (run ∷ runs) bits =
-    option_and_then (λ (f : Found ℕ). option_map (behind (part_of block first run f.value ∷ [])) (scan_parts lblock block (first + run) runs f.rest))
+    option_and_then (λ (f : Found ℕ). option_map (behind (header_part block first run f.value ∷ [])) (scan_parts lblock block (first + run) runs f.rest))
     (scan_number (width lblock run) bits)
 
 -- a query: whether the value is below the threshold, the tree, and the bits behind
@@ -109,7 +109,7 @@ scan_zeros None tree leaf planes bits = scan_more_zeros tree leaf 0 planes bits
 scan_zeros (Some z) tree leaf planes bits = Some (record { zeros = z; tree = tree; rest = bits })
 
 -- an included block's raise and parts
-abbrev pub entry_of : ℕ → ℕ → Found (List Part) → Found Entry
+abbrev pub entry_of : ℕ → ℕ → Found (List HeaderPart) → Found Entry
 entry_of n k f = record { value = record { passes = n; raise = k; parts = f.value }; rest = f.rest }
 
 abbrev pub scan_lengths : ℕ → ℕ → Known → ℕ → List Bool → Option (Found Entry)
@@ -148,14 +148,14 @@ scan_block style layer block leaf cells bits =
 
 -- blocks of a band
 pub record AllTold : Type 0 where
-  pub parts : List Part
+  pub parts : List HeaderPart
   pub cells : Cells
   pub rest : List Bool
 
-abbrev pub after_told : List Part → AllTold → AllTold
+abbrev pub after_told : List HeaderPart → AllTold → AllTold
 after_told parts a = record a { parts = parts ++ a.parts }
 
-abbrev pub and_parts : List Part → Result AllTold HeadFault → Result AllTold HeadFault
+abbrev pub and_parts : List HeaderPart → Result AllTold HeadFault → Result AllTold HeadFault
 and_parts parts r = and_then r (λ (a : AllTold). Ok (after_told parts a))
 
 abbrev pub scan_blocks : ℕ → ℕ → ℕ → ℕ → ℕ → Cells → List Bool → Result AllTold HeadFault
@@ -169,7 +169,7 @@ scan_band style layer base cells bits = scan_blocks style layer base (length cel
 
 -- bands of a precinct
 pub record BandsRead : Type 0 where
-  pub parts : List Part
+  pub parts : List HeaderPart
   pub bands : List Cells
   pub rest : List Bool
 
@@ -187,7 +187,7 @@ scan_bands style layer base (cells ∷ bands) bits =
 
 -- a header
 pub record HeaderRead : Type 0 where
-  pub parts : List Part
+  pub parts : List HeaderPart
   pub after : State
   pub rest : List Bool
 

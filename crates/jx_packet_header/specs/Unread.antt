@@ -5,10 +5,10 @@ use Rattle.std.specs.Prelude.{◌≡◌, ℕ, ◌+◌, ◌^◌, ◌<◌, ◌≤�
 use Rattle.jx_tagtree.specs.declared.BitFault.{BitFault}
 use Rattle.jx_tagtree.specs.declared.BitFault.TheVariants.{Ended}
 use Rattle.jx_tagtree.specs.Header.{low_bits, bits_after, bits_of, end_after}
-use Rattle.jx_packet_header.specs.declared.Part.{Part}
+use Rattle.jx_packet_header.specs.declared.HeaderPart.{HeaderPart}
 use Rattle.jx_packet_header.specs.declared.known.Known.{Known}
 use Rattle.jx_packet_header.specs.Words.{IsCount, pass_word, raise_word}
-use Rattle.jx_packet_header.specs.Parts.{cut, width, AreParts, length_bits}
+use Rattle.jx_packet_header.specs.Parts.{cut, width, AreHeaderParts, length_bits}
 use Rattle.jx_packet_header.specs.Packet.{Cells, State, Values, Agree, Entry, block_at, first_bits, IsInclusion, zero_bits, zero_planes, most_passes, blocks_bits, blocks_after, AreEntries, BandStands, Header, header_bits, IsToldOf, IsPacket}
 use Rattle.jx_base.specs.Markers.{last_after}
 
@@ -44,8 +44,8 @@ pub record LengthsStop (lblock block first : ℕ) (runs : List ℕ) (bits : List
   pub run : ℕ
   pub others : List ℕ
   pub runs_are : runs ≡ front ++ (run ∷ others)
-  pub parts : List Part
-  pub are : AreParts lblock block first front parts
+  pub parts : List HeaderPart
+  pub are : AreHeaderParts lblock block first front parts
   pub behind : List Bool
   pub stands : bits ≡ length_bits lblock parts ++ behind
   pub stops : (length behind < width lblock run) ⊎ IsLong (width lblock run) behind
@@ -147,7 +147,7 @@ BreaksBits bytes k = ((bits_of bytes).bits ≡ []) ⊎ HeaderStops bytes k ⊎ E
 
 -- a packet stands at the front of some bytes
 pub record HasPacket (bytes : List ℕ) (k : State) : Type 0 where
-  pub parts : List Part
+  pub parts : List HeaderPart
   pub used : ℕ
   pub after : State
   pub is : IsPacket bytes k parts used after

@@ -4,7 +4,7 @@ use Rattle.jx_tagtree.specs.Shape.{IsShape}
 use Rattle.jx_tagtree.specs.Header.{bytes_of}
 use Rattle.jx_packet_header.specs.Precinct.{fresh_bands}
 use Rattle.jx_packet_header.specs.declared.BandCells.{BandCells}
-use Rattle.jx_packet_header.specs.declared.Part.{Part}
+use Rattle.jx_packet_header.specs.declared.LeafPart.{LeafPart}
 use Rattle.jx_packet_header.specs.declared.known.Known.{Known}
 use Rattle.jx_packet_header.specs.Packet.{Cells, BandTold, bands_bits, bands_after, unknown_block}
 use Rattle.jx_packet_header.specs.Written.{Leafed, Writes, cells_of, values_of, entries_written, first_leaves, zero_leaves, some_in}
@@ -16,20 +16,20 @@ abbrev pub leaf_at : List Leafed → ℕ → Leafed
 leaf_at leaves i = slice_index_or leaves i no_leaf
 
 -- how many passes a block has in a layer and the later ones
-abbrev pub passes_from : ℕ → List (ℕ × Part) → ℕ
+abbrev pub passes_from : ℕ → List LeafPart → ℕ
 passes_from layer [] = 0
-passes_from layer (p ∷ ps) = if nat_le layer p.0 then p.1.passes + passes_from layer ps else passes_from layer ps
+passes_from layer (p ∷ ps) = if nat_le layer p.layer then p.told.passes + passes_from layer ps else passes_from layer ps
 
 -- the parts before a cursor are of layers before one
-abbrev pub IsCursor : ℕ → ℕ → List (ℕ × Part) → Type 0
+abbrev pub IsCursor : ℕ → ℕ → List LeafPart → Type 0
 IsCursor layer zero parts = Unit {0}
 IsCursor layer (suc cursor) [] = ⊥
-IsCursor layer (suc cursor) (p ∷ ps) = (p.0 < layer) × IsCursor layer cursor ps
+IsCursor layer (suc cursor) (p ∷ ps) = (p.layer < layer) × IsCursor layer cursor ps
 
 -- layers that don't fall
-abbrev pub IsRising : ℕ → List (ℕ × Part) → Type 0
+abbrev pub IsRising : ℕ → List LeafPart → Type 0
 IsRising layer [] = Unit {0}
-IsRising layer (p ∷ ps) = (layer ≤ p.0) × IsRising p.0 ps
+IsRising layer (p ∷ ps) = (layer ≤ p.layer) × IsRising p.layer ps
 
 -- the layers of no block's parts fall
 abbrev pub AreRising : List Leafed → Type 0
@@ -103,9 +103,9 @@ pub record BandsDone (layer : ℕ) (leaves : List Leafed) (start ws : List Write
   pub heads : heads_of ws ≡ heads_of start
 
 -- how many passes a block has in all
-abbrev pub all_passes : List (ℕ × Part) → ℕ
+abbrev pub all_passes : List LeafPart → ℕ
 all_passes [] = 0
-all_passes (p ∷ ps) = p.1.passes + all_passes ps
+all_passes (p ∷ ps) = p.told.passes + all_passes ps
 
 -- each block has few passes
 abbrev pub AllFew : List Leafed → Type 0

@@ -2,7 +2,8 @@
 use Rattle.std.specs.Prelude.{ℕ, zero, suc, ◌+◌, ◌-◌, ◌==◌, max, nat_lt, Bool, false, ◌||◌, List, [], ◌∷◌, length, take, drop, map, if◌then◌else◌}
 use Rattle.jx_tagtree.specs.Header.{bytes_of}
 use Rattle.jx_tagtree.specs.Leaves.{Written, least_leaf}
-use Rattle.jx_packet_header.specs.declared.Part.{Part}
+use Rattle.jx_packet_header.specs.declared.HeaderPart.{HeaderPart}
+use Rattle.jx_packet_header.specs.declared.LeafPart.{LeafPart}
 use Rattle.jx_packet_header.specs.declared.BandCells.{BandCells}
 use Rattle.jx_packet_header.specs.declared.known.Known.{Known}
 use Rattle.jx_packet_header.specs.Words.{size}
@@ -13,14 +14,14 @@ use Rattle.jx_packet_header.specs.Precinct.{fresh_state}
 -- a block that is written: its zero planes, and its parts with their layers
 pub record Leafed : Type 0 where
   pub zero : ℕ
-  pub parts : List (ℕ × Part)
+  pub parts : List LeafPart
 
 -- the leaves of the two tag trees: a block without parts is never included
-abbrev pub first_layer : ℕ → List (ℕ × Part) → ℕ
+abbrev pub first_layer : ℕ → List LeafPart → ℕ
 first_layer layers [] = layers
-first_layer layers (p ∷ ps) = p.0
+first_layer layers (p ∷ ps) = p.layer
 
-abbrev pub zero_leaf : ℕ → ℕ → List (ℕ × Part) → ℕ
+abbrev pub zero_leaf : ℕ → ℕ → List LeafPart → ℕ
 zero_leaf planes z [] = planes
 zero_leaf planes z (p ∷ ps) = z
 
@@ -31,16 +32,16 @@ abbrev pub zero_leaves : ℕ → List Leafed → List ℕ
 zero_leaves planes leaves = map (λ (l : Leafed). zero_leaf planes l.zero l.parts) leaves
 
 -- the parts of a layer
-abbrev pub parts_in : ℕ → List (ℕ × Part) → List Part
+abbrev pub parts_in : ℕ → List LeafPart → List HeaderPart
 parts_in layer [] = []
-parts_in layer (p ∷ ps) = if p.0 == layer then p.1 ∷ parts_in layer ps else parts_in layer ps
+parts_in layer (p ∷ ps) = if p.layer == layer then p.told ∷ parts_in layer ps else parts_in layer ps
 
-abbrev pub passes_of : List Part → ℕ
+abbrev pub passes_of : List HeaderPart → ℕ
 passes_of [] = 0
 passes_of (p ∷ ps) = p.passes + passes_of ps
 
 -- the least raise with which each length fits its bits: the largest of what they lack
-abbrev pub raise_of : ℕ → List Part → ℕ
+abbrev pub raise_of : ℕ → List HeaderPart → ℕ
 raise_of lblock [] = 0
 raise_of lblock (p ∷ ps) = max (size p.length - width lblock p.passes) (raise_of lblock ps)
 

@@ -11,7 +11,7 @@ ghost use Rattle.jx_packet_header.specs.Said.{Refuses, EntrySaid, BlockSaid, Ban
 use crate::parts::read_parts;
 use crate::query::{read_inclusion, read_zero};
 use crate::words::{read_passes, read_raise};
-use crate::{HeadFault, Known, Part};
+use crate::{HeadFault, HeaderPart, Known};
 use jx_base::Style;
 use jx_tagtree::{BitReader, TagReader};
 use std::marker::Model;
@@ -59,7 +59,7 @@ fn read_entry(
     zero: u32,
     known: Known,
     bits: &mut BitReader<'_>,
-    parts: &mut Vec<Part>,
+    parts: &mut Vec<HeaderPart>,
 ) -> Result<Known, HeadFault>
     requires below { zero < planes }
     requires planes { planes ≤ 255 }
@@ -98,7 +98,7 @@ fn read_included(
     block: u32,
     leaf: u32,
     bits: &mut BitReader<'_>,
-    parts: &mut Vec<Part>,
+    parts: &mut Vec<HeaderPart>,
 ) -> Result<(), HeadFault>
     requires band { IsBand band.old }
     requires leaf { leaf < length band.old.blocks }
@@ -133,7 +133,7 @@ pub(crate) fn read_block(
     block: u32,
     leaf: u32,
     bits: &mut BitReader<'_>,
-    parts: &mut Vec<Part>,
+    parts: &mut Vec<HeaderPart>,
 ) -> Result<(), HeadFault>
     requires band { IsBand band.old }
     requires leaf { leaf < length band.old.blocks }
@@ -166,7 +166,7 @@ pub(crate) fn read_band(
     layer: u16,
     base: u32,
     bits: &mut BitReader<'_>,
-    parts: &mut Vec<Part>,
+    parts: &mut Vec<HeaderPart>,
 ) -> Result<(), HeadFault>
     requires band { IsBand band.old }
     requires room { base + length band.old.blocks < 2 ^ 32 }

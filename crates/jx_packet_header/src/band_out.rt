@@ -8,7 +8,7 @@ ghost use Rattle.jx_packet_header.specs.Leafs.{leaf_of};
 ghost use Rattle.jx_packet_header.specs.Writable.{IsWrites, SameSize, IsCursor, IsRising, AreRising};
 
 use crate::put::{passes_in, put_lengths, put_passes, put_raise, raise_in};
-use crate::{Known, Leaf, Part};
+use crate::{Known, Leaf, LeafPart};
 use jx_base::NoMemory;
 use jx_tagtree::{BitWriter, TagWriter};
 use std::marker::Model;
@@ -96,7 +96,7 @@ fn write_entry(
     known: Known,
     zero: u8,
     passes: u32,
-    parts: &[(u16, Part)],
+    parts: &[LeafPart],
     layer: u16,
     bits: &mut BitWriter,
 ) -> Result<Known, NoMemory>
@@ -126,7 +126,7 @@ pub(crate) fn write_block(
     leaf: u32,
     layer: u16,
     zero: u8,
-    parts: &[(u16, Part)],
+    parts: &[LeafPart],
     bits: &mut BitWriter,
 ) -> Result<(), NoMemory>
     requires inside { leaf < length band.old.blocks }
@@ -158,7 +158,7 @@ pub(crate) fn write_block(
 fn next_run(
     band: &mut BandOut,
     leaf: u32,
-    parts: &[(u16, Part)],
+    parts: &[LeafPart],
     layer: u16,
     rising: bool,
 ) -> (usize, usize)
@@ -179,7 +179,7 @@ fn next_run(
 }
 
 /// The end of the parts, from a cursor on, behind which none is of a layer.
-fn run_end(parts: &[(u16, Part)], start: usize, layer: u16, rising: bool) -> usize
+fn run_end(parts: &[LeafPart], start: usize, layer: u16, rising: bool) -> usize
     requires cursor { IsCursor layer start parts.now }
     requires rising { rising ≡ true → IsRising 0 parts.now }
     ensures ordered { start ≤ result }
@@ -191,7 +191,7 @@ fn run_end(parts: &[(u16, Part)], start: usize, layer: u16, rising: bool) -> usi
         return parts.len();
     }
     let mut end = start;
-    while end < parts.len() && parts[end].0 <= layer {
+    while end < parts.len() && parts[end].layer <= layer {
         end += 1;
     }
     end

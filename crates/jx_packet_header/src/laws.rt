@@ -3,7 +3,7 @@
 ghost use Rattle.std.specs.Prelude.{◌≡◌, ◌++◌, ◌+◌, ◌≤◌, ◌<◌, ◌⊎◌, List, ℕ, Bool, true, length};
 ghost use Rattle.jx_tagtree.specs.declared.BitFault.TheVariants.{Ended};
 ghost use Rattle.jx_tagtree.specs.Header.{bits_of, bytes_of};
-ghost use Rattle.jx_packet_header.specs.declared.Part.{Part};
+ghost use Rattle.jx_packet_header.specs.declared.HeaderPart.{HeaderPart};
 ghost use Rattle.jx_packet_header.specs.Words.{IsCount, pass_word, OneWord};
 ghost use Rattle.jx_packet_header.specs.Packet.{State, Header, header_bits, header_after, header_parts, IsToldOf, AgreeAfter, IsPacket, BreaksPlanes, OneHeader};
 ghost use Rattle.jx_packet_header.specs.declared.HeadFault.TheVariants.{Bits};
@@ -22,7 +22,7 @@ pub fn passes_are_told_apart()
 
 /// Bytes have one reading from a state: two headers at their front are one.
 pub fn one_reading()
-    ensures { (bytes : List ℕ) (k : State) (parts others : List Part) (used ends : ℕ) (after others_after : State) → IsState k →
+    ensures { (bytes : List ℕ) (k : State) (parts others : List HeaderPart) (used ends : ℕ) (after others_after : State) → IsState k →
         IsPacket bytes k parts used after → IsPacket bytes k others ends others_after → OneHeader parts others after others_after used ends }
 {}
 
@@ -64,14 +64,14 @@ pub fn written_is_read()
 
 /// Where a block of a header breaks its band's planes, no header stands.
 pub fn planes_or_packet()
-    ensures { (bytes : List ℕ) (k : State) (parts : List Part) (used : ℕ) (after : State) → IsState k → BreaksPlanes bytes k → IsPacket bytes k parts used after → ⊥ }
+    ensures { (bytes : List ℕ) (k : State) (parts : List HeaderPart) (used : ℕ) (after : State) → IsState k → BreaksPlanes bytes k → IsPacket bytes k parts used after → ⊥ }
 {}
 
 /// At the front of any bytes exactly one of these is: a packet, a block that breaks its band's planes, or a
 /// header that can't be read, as `BreaksBits` says by itself.
 pub fn packet_planes_or_bits()
     ensures some { (bytes : List ℕ) (k : State) → IsState k → HasPacket bytes k ⊎ BreaksPlanes bytes k ⊎ BreaksBits bytes k }
-    ensures no_packet { (bytes : List ℕ) (k : State) (parts : List Part) (used : ℕ) (after : State) → IsState k → BreaksBits bytes k → IsPacket bytes k parts used after → ⊥ }
+    ensures no_packet { (bytes : List ℕ) (k : State) (parts : List HeaderPart) (used : ℕ) (after : State) → IsState k → BreaksBits bytes k → IsPacket bytes k parts used after → ⊥ }
     ensures no_planes { (bytes : List ℕ) (k : State) → IsState k → BreaksBits bytes k → BreaksPlanes bytes k → ⊥ }
 {}
 
@@ -93,6 +93,6 @@ pub fn leaves_that_fit()
 
 /// The raise of Lblock with which lengths are written is the least with which each fits its bits.
 pub fn raise_is_least()
-    ensures fits { (lblock : ℕ) (parts : List Part) → AreShort parts → AllFit (lblock + raise_of lblock parts) parts }
-    ensures least { (lblock raise : ℕ) (parts : List Part) → AllFit (lblock + raise) parts → raise_of lblock parts ≤ raise }
+    ensures fits { (lblock : ℕ) (parts : List HeaderPart) → AreShort parts → AllFit (lblock + raise_of lblock parts) parts }
+    ensures least { (lblock raise : ℕ) (parts : List HeaderPart) → AllFit (lblock + raise) parts → raise_of lblock parts ≤ raise }
 {}

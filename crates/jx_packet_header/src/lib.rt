@@ -27,9 +27,9 @@ pub struct BandCells {
     pub planes: u32,
 }
 
-/// The passes that one packet has of a block and that lie in one segment.
+/// What a packet's header tells of a block within one segment (T.800 B.10.7).
 #[derive(Clone, Copy, Debug, PartialEq, Eq)]
-pub struct Part {
+pub struct HeaderPart {
     /// The block's number in its precinct, over the bands in order and raster within a band.
     pub block: u32,
     /// The block's first pass of this part.
@@ -40,13 +40,22 @@ pub struct Part {
     pub length: u32,
 }
 
+/// A part of a block that is written, with the layer in whose packet it is.
+#[derive(Clone, Copy, Debug, PartialEq, Eq)]
+pub struct LeafPart {
+    /// The layer.
+    pub layer: u16,
+    /// What that packet's header tells of it.
+    pub told: HeaderPart,
+}
+
 /// A block that is written: a leaf of its band's two tag trees.
 #[derive(Drop)]
 pub struct Leaf {
     /// Its zero planes. They aren't read where it has no parts, which is a block that is never included.
     pub zero: u8,
-    /// Its parts, each with the layer in whose packet it is.
-    pub parts: Vec<(u16, Part)>,
+    /// Its parts.
+    pub parts: Vec<LeafPart>,
 }
 
 /// Why a packet header is not read.

@@ -9,7 +9,7 @@ ghost use Rattle.jx_packet_header.specs.Frame.{frame};
 ghost use Rattle.jx_packet_header.specs.Said.{Refuses, PartsSaid};
 
 use crate::words::read_number;
-use crate::{HeadFault, Part};
+use crate::{HeadFault, HeaderPart};
 use jx_base::{Style, ends_segment};
 use jx_tagtree::BitReader;
 
@@ -59,7 +59,7 @@ pub(crate) fn read_parts(
     first: u16,
     count: u16,
     bits: &mut BitReader<'_>,
-    parts: &mut Vec<Part>,
+    parts: &mut Vec<HeaderPart>,
 ) -> Result<(), HeadFault>
     requires lblock { lblock < 2 ^ 127 }
     requires few { first + count < 2 ^ 16 }
@@ -75,7 +75,7 @@ pub(crate) fn read_parts(
             Ok(length) => length,
             Err(fault) => return Err(fault),
         };
-        let part = Part {
+        let part = HeaderPart {
             block,
             first: at,
             passes,

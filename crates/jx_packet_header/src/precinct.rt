@@ -8,11 +8,11 @@ ghost use Rattle.jx_packet_header.specs.Frame.{frame};
 ghost use Rattle.jx_packet_header.specs.Kept.{IsBand, AreBands};
 ghost use Rattle.jx_packet_header.specs.Said.{Refuses, BandsSaid, HeaderSaid, HasCause, OnlyPlanes, OnlyMemory};
 ghost use Rattle.jx_packet_header.specs.Precinct.{CellsInRange, IsBandCells, cells_in, fresh_cells, fresh_state, all_blocks, IsState};
-ghost use Rattle.jx_packet_header.specs.declared.Part.{Part};
+ghost use Rattle.jx_packet_header.specs.declared.HeaderPart.{HeaderPart};
 
 use crate::band::{Band, read_band};
 use crate::words::flag;
-use crate::{BandCells, HeadFault, Known, Part};
+use crate::{BandCells, HeadFault, HeaderPart, Known};
 use jx_base::{NoMemory, Style};
 use jx_tagtree::{BitReader, TagReader};
 use std::alloc::Global;
@@ -64,7 +64,7 @@ fn read_bands(
     style: Style,
     layer: u16,
     bits: &mut BitReader<'_>,
-    parts: &mut Vec<Part>,
+    parts: &mut Vec<HeaderPart>,
 ) -> Result<(), HeadFault>
     requires bands { AreBands bands.old.items }
     requires blocks { length (all_blocks bands.old.items) ≤ 2 ^ 20 }
@@ -95,7 +95,7 @@ fn read_told(
     style: Style,
     layer: u16,
     bits: &mut BitReader<'_>,
-    parts: &mut Vec<Part>,
+    parts: &mut Vec<HeaderPart>,
 ) -> Result<(), HeadFault>
     requires next { next.old ≡ layer }
     requires bands { AreBands bands.old.items }
@@ -159,14 +159,18 @@ impl Precinct {
 
     /// Reads the header of a layer's packet at the front of some bytes: the parts of its blocks, and how
     /// many bytes the header has. Layers come in order from 0. After an `Err` the precinct is given up.
-    pub fn read_header(&mut self, layer: u16, bytes: &[u8]) -> Result<(Vec<Part>, usize), HeadFault>
+    pub fn read_header(
+        &mut self,
+        layer: u16,
+        bytes: &[u8],
+    ) -> Result<(Vec<HeaderPart>, usize), HeadFault>
         // It wasn't given up.
         requires state { IsState self.old }
         requires layer { self.old.layer ≡ layer }
         // What is read is a header of these bytes,
         ensures ok { IfOk result (λ r. IsPacket bytes.now self.old r.0.items r.1 self.new) }
         // and the only one.
-        ensures only { (parts : List Part) (used : ℕ) (after : State) → IsPacket bytes.now self.old parts used after →
+        ensures only { (parts : List HeaderPart) (used : ℕ) (after : State) → IsPacket bytes.now self.old parts used after →
             MatchResult result (λ r. (r.0.items ≡ parts) × (r.1 ≡ used) × (self.new ≡ after)) OnlyMemory }
         ensures planes { BreaksPlanes bytes.now self.old → MatchResult result (λ _. ⊥) OnlyPlanes }
         ensures err { IfErr result (λ e. HasCause e bytes.now self.old) }

@@ -9,7 +9,7 @@ ghost use Rattle.jx_packet_header.specs.LeavesFit.{LeavesFit, LeavesInRange, fre
 ghost use Rattle.jx_packet_header.specs.ReadBack.{IsOneReading};
 
 use crate::band_out::{BandOut, write_band};
-use crate::{BandCells, Known, Leaf, Part};
+use crate::{BandCells, Known, Leaf, LeafPart};
 use jx_base::{NoMemory, Style};
 use jx_tagtree::{BitWriter, TagWriter};
 use std::alloc::Global;
@@ -45,7 +45,7 @@ fn first_layers(alloc: Global, layers: u16, leaves: &[Leaf]) -> Result<Vec<u32>,
     for leaf in leaves {
         first.push(match leaf.parts.first() {
             None => u32::from(layers),
-            Some(part) => u32::from(part.0),
+            Some(part) => u32::from(part.layer),
         })?;
     }
     Ok(first)
@@ -97,14 +97,14 @@ fn fresh_band(
 }
 
 /// Notes the layers to which a block contributes.
-fn note_layers(some: &mut Vec<bool>, parts: &[(u16, Part)])
+fn note_layers(some: &mut Vec<bool>, parts: &[LeafPart])
     ensures long { length some.new.items ≡ length some.old.items }
     ensures each { (layer : ℕ) → layer < length some.old.items →
         slice_index_or some.new.items layer false ≡ (slice_index_or some.old.items layer false || nat_lt 0 (passes_of (parts_in layer parts.now))) }
 {
-    for (layer, part) in parts {
-        let at = usize::from(*layer);
-        if part.passes > 0 && at < some.len() {
+    for part in parts {
+        let at = usize::from(part.layer);
+        if part.told.passes > 0 && at < some.len() {
             some[at] = true;
         }
     }
@@ -123,15 +123,15 @@ fn contributing(alloc: Global, layers: u16, leaves: &[Leaf]) -> Result<Vec<bool>
 }
 
 /// Whether parts stand in the order of their layers.
-fn is_rising(parts: &[(u16, Part)]) -> bool
+fn is_rising(parts: &[LeafPart]) -> bool
     ensures { result ≡ true → IsRising 0 parts.now }
 {
     let mut last = 0;
-    for (layer, _) in parts {
-        if *layer < last {
+    for part in parts {
+        if part.layer < last {
             return false;
         }
-        last = *layer;
+        last = part.layer;
     }
     true
 }
@@ -205,11 +205,11 @@ fn is_short(length: u32)
 {}
 
 /// Says so of a block's lengths.
-fn lengths_are_short(parts: &[(u16, Part)])
+fn lengths_are_short(parts: &[LeafPart])
     ensures { HasShort parts.now }
 {
-    for (_, part) in parts {
-        is_short(part.length);
+    for part in parts {
+        is_short(part.told.length);
     }
 }
 

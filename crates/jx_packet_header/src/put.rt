@@ -6,8 +6,8 @@ ghost use Rattle.jx_packet_header.specs.Words.{pass_word, raise_word, size};
 ghost use Rattle.jx_packet_header.specs.Parts.{length_bits, width};
 ghost use Rattle.jx_packet_header.specs.Written.{parts_in, passes_of, raise_of};
 
-use crate::Part;
 use crate::parts::{digits, length_width};
+use crate::{HeaderPart, LeafPart};
 use jx_base::NoMemory;
 use jx_tagtree::BitWriter;
 
@@ -74,36 +74,36 @@ pub(crate) fn put_raise(raise: u32, bits: &mut BitWriter) -> Result<(), NoMemory
 }
 
 /// How many passes a layer has of a block.
-pub(crate) fn passes_in(parts: &[(u16, Part)], layer: u16) -> u32
+pub(crate) fn passes_in(parts: &[LeafPart], layer: u16) -> u32
     requires { passes_of (parts_in layer parts.now) < 2 ^ 16 }
     ensures { result ≡ passes_of (parts_in layer parts.now) }
 {
     let mut passes = 0;
-    for (at, part) in parts {
-        if *at == layer {
-            passes += u32::from(part.passes);
+    for part in parts {
+        if part.layer == layer {
+            passes += u32::from(part.told.passes);
         }
     }
     passes
 }
 
 /// The least raise of Lblock with which the lengths of a layer's parts fit.
-pub(crate) fn raise_in(lblock: u128, parts: &[(u16, Part)], layer: u16) -> u32
+pub(crate) fn raise_in(lblock: u128, parts: &[LeafPart], layer: u16) -> u32
     requires { lblock ≤ 32 }
     ensures least { result ≡ raise_of lblock (parts_in layer parts.now) }
     ensures few { result + lblock ≤ 32 }
 {
     let mut raise = 0;
-    for (at, part) in parts {
-        if *at == layer {
-            raise = raise.max(lack(lblock, *part));
+    for part in parts {
+        if part.layer == layer {
+            raise = raise.max(lack(lblock, part.told));
         }
     }
     raise
 }
 
 /// How many bits the length of a part lacks.
-fn lack(lblock: u128, part: Part) -> u32
+fn lack(lblock: u128, part: HeaderPart) -> u32
     requires { lblock ≤ 32 }
     ensures lack { result ≡ size part.length - width lblock part.passes }
     ensures few { result + lblock ≤ 32 }
@@ -115,16 +115,17 @@ fn lack(lblock: u128, part: Part) -> u32
 /// Writes the lengths of a layer's parts.
 pub(crate) fn put_lengths(
     lblock: u128,
-    parts: &[(u16, Part)],
+    parts: &[LeafPart],
     layer: u16,
     bits: &mut BitWriter,
 ) -> Result<(), NoMemory>
     requires { lblock ≤ 32 }
     ensures { OnOk result (bits.new ≡ bits.old ++ length_bits lblock (parts_in layer parts.now)) }
 {
-    for (at, part) in parts {
-        if *at == layer {
-            put_number(length_width(lblock, part.passes) as u32, part.length, bits)?;
+    for part in parts {
+        if part.layer == layer {
+            let told = part.told;
+            put_number(length_width(lblock, told.passes) as u32, told.length, bits)?;
         }
     }
     Ok(())

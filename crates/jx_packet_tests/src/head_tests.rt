@@ -7,7 +7,7 @@ ghost use Rattle.jx_packet_header.specs.Writable.{AllFew, all_passes};
 
 use crate::checks::{check, equal};
 use jx_base::{Style, ends_segment, is_raw};
-use jx_packet_header::{BandCells, Leaf, Part, Precinct, PrecinctOut};
+use jx_packet_header::{BandCells, HeaderPart, Leaf, LeafPart, Precinct, PrecinctOut};
 use std::alloc::{AllocError, Global};
 use std::process::Abort;
 use std::test::Fail;
@@ -24,12 +24,12 @@ fn few(leaves: &[Leaf]) -> bool
     true
 }
 
-fn few_passes(parts: &[(u16, Part)]) -> bool
+fn few_passes(parts: &[LeafPart]) -> bool
     ensures { IsTrue result → all_passes parts.now < 2 ^ 16 }
 {
     let mut passes: u32 = 0;
-    for (_, part) in parts {
-        passes += u32::from(part.passes);
+    for part in parts {
+        passes += u32::from(part.told.passes);
         if passes >= 65536 {
             return false;
         }
@@ -93,8 +93,8 @@ const PARTS: [(u16, (u32, u16, u16, u32)); 4] = [
     (2, (14, 0, 1, 0)),
 ];
 
-fn part((block, first, passes, length): (u32, u16, u16, u32)) -> Part {
-    Part {
+fn part((block, first, passes, length): (u32, u16, u16, u32)) -> HeaderPart {
+    HeaderPart {
         block,
         first,
         passes,
@@ -106,7 +106,11 @@ fn leaf(alloc: Global, block: u32) -> Result<Leaf, AllocError> {
     let mut parts = Vec::new(alloc);
     for (layer, of) in &PARTS {
         if of.0 == block {
-            parts.push((*layer, part(*of)))?;
+            let told = part(*of);
+            parts.push(LeafPart {
+                layer: *layer,
+                told,
+            })?;
         }
     }
     let zero = match block {
@@ -126,7 +130,7 @@ fn uneven(alloc: Global) -> Result<Vec<Leaf>, AllocError> {
 }
 
 /// Whether these are the parts of a layer.
-fn are_of(parts: &[Part], layer: u16) -> bool {
+fn are_of(parts: &[HeaderPart], layer: u16) -> bool {
     let mut left = parts.iter();
     for (at, of) in &PARTS {
         if *at == layer && left.next() != Some(&part(*of)) {

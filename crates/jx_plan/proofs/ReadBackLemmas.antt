@@ -8,7 +8,7 @@ use Rattle.std.proofs.lemmas.List.FromFn.{get_or-map-range_with_len, length-map-
 use Rattle.std.proofs.lemmas.List.Elements.{All-head, All-tail}
 use Rattle.jx_marker.specs.declared.Segment.{Segment}
 use Rattle.jx_marker.specs.declared.Progression.{Progression}
-use Rattle.jx_codestream.specs.declared.parts.Part.{Part}
+use Rattle.jx_codestream.specs.declared.parts.PlacedPart.{PlacedPart}
 use Rattle.jx_codestream.specs.declared.Body.{Body}
 use Rattle.jx_codestream.specs.declared.Tile.{Tile}
 use Rattle.jx_codestream.specs.declared.Stream.{Stream}
@@ -75,11 +75,11 @@ pub none_header : (a : HeaderOptions) (comps : ℕ) (t : Tile) → IsHeaded comp
 none_header a comps t headed = none_both (all_written a t.header) t.notes (none_written a t.header) (none_asides comps t.notes (notes_aside comps t.notes headed.notes))
 
 -- all headers are the first and the later ones
-first_later : (own : List Part) → headers_of own ≡ first_header own ++ headers_of (drop 1 own)
+first_later : (own : List PlacedPart) → headers_of own ≡ first_header own ++ headers_of (drop 1 own)
 first_later [] = refl
 first_later (p ∷ later) = refl
 
-module _ (a : HeaderOptions) (comps : ℕ) (main : List Segment) (t : Tile) (own : List Part) (more : List Segment) (headed : IsHeaded comps t)
+module _ (a : HeaderOptions) (comps : ℕ) (main : List Segment) (t : Tile) (own : List PlacedPart) (more : List Segment) (headed : IsHeaded comps t)
     (first : first_header own ≡ tile_header a t ++ more) (asides : All (IsAside comps) more) (later : All IsLength (headers_of (drop 1 own))) where
   none_first : entries_joined (first_header own) ≡ []
   none_first =
@@ -104,12 +104,12 @@ module _ (a : HeaderOptions) (comps : ℕ) (main : List Segment) (t : Tile) (own
   same_tile header other notes place entries others bodies h k e = rw (h, k, e) refl
 
   pub tile_read : tile_from (all_written a main) own
-      ≡ record (tile_written a main t) { place = first_place own; header = tile_header a t ++ more; bodies = map (λ (p : Part). p.body) own }
+      ≡ record (tile_written a main t) { place = first_place own; header = tile_header a t ++ more; bodies = map (λ (p : PlacedPart). p.body) own }
   tile_read =
       same_tile (first_header own) (tile_header a t ++ more) (filter is_com (headers_of (drop 1 own))) (first_place own) (progressions_of (all_written a main) own)
-      (tile_written a main t).progressions (map (λ (p : Part). p.body) own) first (no_notes (headers_of (drop 1 own)) later) entries_read
+      (tile_written a main t).progressions (map (λ (p : PlacedPart). p.body) own) first (no_notes (headers_of (drop 1 own)) later) entries_read
 
-pub tile_with_more : (a : HeaderOptions) (comps : ℕ) (main : List Segment) (t : Tile) (own : List Part) → IsHeaded comps t → HaveHeaders a comps t own
+pub tile_with_more : (a : HeaderOptions) (comps : ℕ) (main : List Segment) (t : Tile) (own : List PlacedPart) → IsHeaded comps t → HaveHeaders a comps t own
     → IsTileWithMore comps (tile_written a main t) (tile_from (all_written a main) own)
 tile_with_more a comps main t own headed h =
     let is = tile_read a comps main t own h.more headed h.first h.asides h.later in
@@ -131,7 +131,7 @@ one_to : (m n : ℕ) (t u o p : Tile) → m ≡ n → t ≡ u → o ≡ p → Is
 one_to m n t u o p e d k h = rw (e, d, k) h
 
 -- so the stream that is read has the headers of the one that is written
-module _ (a : HeaderOptions) (s other : Stream) (parts : List Part) (stand : HeadersStand s) (siz : other.siz ≡ (stream_written a s).siz) (main : other.main ≡ (stream_written a s).main)
+module _ (a : HeaderOptions) (s other : Stream) (parts : List PlacedPart) (stand : HeadersStand s) (siz : other.siz ≡ (stream_written a s).siz) (main : other.main ≡ (stream_written a s).main)
     (tiles : other.tiles ≡ tiles_of other.main parts (tile_number s.siz)) (each : (t : ℕ) → t < tile_number s.siz → HaveHeaders a (length s.siz.comps) (tile_at s t) (parts_of t parts)) where
   other_at : (t : ℕ) → t < tile_number s.siz → tile_at other t ≡ tile_from (all_written a s.main) (parts_of t parts)
   other_at t inside =

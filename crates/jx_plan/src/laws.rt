@@ -13,7 +13,7 @@ ghost use Rattle.jx_tile.specs.Covered.{IsWhole};
 ghost use Rattle.jx_tier2_reader.specs.Gathered.{IsGathered};
 ghost use Rattle.jx_tier2_reader.specs.Written.{packets_in};
 ghost use Rattle.jx_tile.specs.Totals.{block_total, packet_total, totals_fault};
-ghost use Rattle.jx_codestream.specs.declared.parts.Part.{Part};
+ghost use Rattle.jx_codestream.specs.declared.parts.PlacedPart.{PlacedPart};
 ghost use Rattle.jx_codestream.specs.declared.Stream.{Stream};
 ghost use Rattle.jx_codestream.specs.declared.Tile.{Tile};
 ghost use Rattle.jx_codestream.specs.First.{tile_number};
@@ -175,9 +175,9 @@ pub fn totals_stay_with_more()
 /// What is written is read back: where a tile's tile-parts have its headers, they make the tile that is written, but for its place, its
 /// data and the segments that follow in its header; and the stream of such tiles is the one that is written, with these segments more.
 pub fn written_is_read_back()
-    ensures tile { (a : HeaderOptions) (comps : ℕ) (main : List Segment) (t : Tile) (own : List Part) → IsHeaded comps t → HaveHeaders a comps t own
+    ensures tile { (a : HeaderOptions) (comps : ℕ) (main : List Segment) (t : Tile) (own : List PlacedPart) → IsHeaded comps t → HaveHeaders a comps t own
         → IsTileWithMore comps (tile_written a main t) (tile_from (all_written a main) own) }
-    ensures stream { (a : HeaderOptions) (s other : Stream) (parts : List Part) → HeadersStand s → other.siz ≡ (stream_written a s).siz → other.main ≡ (stream_written a s).main
+    ensures stream { (a : HeaderOptions) (s other : Stream) (parts : List PlacedPart) → HeadersStand s → other.siz ≡ (stream_written a s).siz → other.main ≡ (stream_written a s).main
         → other.tiles ≡ tiles_of other.main parts (tile_number s.siz)
         → ((t : ℕ) → t < tile_number s.siz → HaveHeaders a (length s.siz.comps) (tile_at s t) (parts_of t parts)) → IsWithMore (stream_written a s) other }
 {}

@@ -244,17 +244,17 @@ fn with_marks(alloc: Global, asked: Asked) -> Result<Options, AllocError>
 {
     let (parts, sop, eph, plt) = asked;
     let layers = String::from_str(alloc, "keep")?;
+    let mut marks = Marks::none();
+    marks.sop = sop;
+    marks.eph = eph;
+    marks.plt = plt;
+    marks.parts = parts;
     Ok(Options {
         order: OrderChoice::Keep,
         precincts: PrecinctChoice::Keep,
         style: None,
         layers,
-        marks: Marks {
-            sop,
-            eph,
-            plt,
-            parts,
-        },
+        marks,
     })
 }
 

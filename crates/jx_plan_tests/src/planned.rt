@@ -12,7 +12,7 @@ use jx_base::{Block, NoMemory, Style};
 use jx_codeblock::Job;
 use jx_codestream::{Stream, Tile, read_stream};
 use jx_layers::{CutLayers, KeepLayers, LayerPlanner, OneLayer, TableLayers};
-use jx_options::{Marks, Options, OrderChoice, PartChoice, PrecinctChoice};
+use jx_options::{Marks, Options, OrderChoice, PrecinctChoice};
 use jx_plan::{OutStream, PlanFault, plan, plan_served};
 use jx_tier2_reader::gather;
 use std::alloc::{AllocError, Global};
@@ -105,12 +105,7 @@ fn options_of(alloc: Global, ask: &Ask) -> Result<Options, AllocError>
         precincts,
         style: style_of(ask.style),
         layers,
-        marks: Marks {
-            sop: false,
-            eph: false,
-            plt: false,
-            parts: PartChoice::None,
-        },
+        marks: Marks::none(),
     })
 }
 

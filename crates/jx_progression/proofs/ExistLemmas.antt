@@ -7,14 +7,13 @@ use Rattle.jx_base.proofs.Lists.{contains_cons, contains_head, contains_tail, co
 use Rattle.jx_geom.specs.Geometry.{Geometry, GeometryInRange}
 use Rattle.jx_marker.specs.declared.Progression.{Progression}
 use Rattle.jx_progression.specs.declared.names.PacketName.{PacketName}
-use Rattle.jx_progression.specs.declared.names.Order.{Order}
-use Rattle.jx_progression.specs.declared.names.Order.TheVariants.{Lrcp, Rlcp, Rpcl, Pcrl, Cprl}
-use Rattle.jx_progression.specs.Orders.{IsLess, ComesBefore, key_of, order_of, across_of, down_of}
+use Rattle.jx_progression.specs.declared.keys.Order.{Order}
+use Rattle.jx_progression.specs.Orders.{IsLess, ComesBefore, key_of, order_of}
 use Rattle.jx_progression.specs.Packets.{Covers, IsOrder, IsPacketName, Sends, entry_at}
 use Rattle.jx_progression.specs.Steps.{all_heads}
-use Rattle.jx_progression.proofs.KeyLemmas.{same_place}
 use Rattle.jx_progression.proofs.LessLemmas.{less_trans}
-use Rattle.jx_progression.proofs.OrderLemmas.{contains_or, same_fields}
+use Rattle.jx_progression.proofs.OrderCases.{key_long, one_key}
+use Rattle.jx_progression.proofs.OrderLemmas.{contains_or}
 use Rattle.jx_progression.proofs.SortLemmas.{exact_names, names_of, one_name_pairs}
 
 -- ---- of two keys of one length one is less, or they are one
@@ -37,49 +36,6 @@ less_or (x ∷ xs) (y ∷ ys) e = elim (cases_lt x y) [
         ]
   ]
 ]
-
-key_long : (g : Geometry) (o : Order) (p q : PacketName) → length (key_of g o p) ≡ length (key_of g o q)
-key_long g Lrcp p q = refl
-key_long g Rlcp p q = refl
-key_long g Rpcl p q = refl
-key_long g Pcrl p q = refl
-key_long g Cprl p q = refl
-
-record Four (a b c d a' b' c' d' : ℕ) : Type 0 where
-  pub first : a ≡ a'
-  pub second : b ≡ b'
-  pub third : c ≡ c'
-  pub fourth : d ≡ d'
-
-four : (a b c d a' b' c' d' : ℕ) → (a ∷ b ∷ c ∷ d ∷ []) ≡ (a' ∷ b' ∷ c' ∷ d' ∷ []) → Four a b c d a' b' c' d'
-four a b c d a' b' c' d' e = record { first = cc; second = cc; third = cc; fourth = cc }
-
-record Five (a b c d f a' b' c' d' f' : ℕ) : Type 0 where
-  pub first : a ≡ a'
-  pub second : b ≡ b'
-  pub third : c ≡ c'
-  pub fourth : d ≡ d'
-  pub fifth : f ≡ f'
-
-five : (a b c d f a' b' c' d' f' : ℕ) → (a ∷ b ∷ c ∷ d ∷ f ∷ []) ≡ (a' ∷ b' ∷ c' ∷ d' ∷ f' ∷ []) → Five a b c d f a' b' c' d' f'
-five a b c d f a' b' c' d' f' e = record { first = cc; second = cc; third = cc; fourth = cc; fifth = cc }
-
--- a key is that of one packet alone
-pub one_key : (g : Geometry) (layers : ℕ) (o : Order) (p q : PacketName) → GeometryInRange g → IsPacketName g layers p → IsPacketName g layers q
-    → key_of g o p ≡ key_of g o q → p ≡ q
-one_key g layers Lrcp p q range hp hq e =
-    let k = four p.layer p.res p.comp p.precinct q.layer q.res q.comp q.precinct e in same_fields p q k.first k.second k.third k.fourth
-one_key g layers Rlcp p q range hp hq e =
-    let k = four p.res p.layer p.comp p.precinct q.res q.layer q.comp q.precinct e in same_fields p q k.second k.first k.third k.fourth
-one_key g layers Rpcl p q range hp hq e =
-    let k = five p.res (down_of g p) (across_of g p) p.comp p.layer q.res (down_of g q) (across_of g q) q.comp q.layer e in
-    same_fields p q k.fifth k.first k.fourth (same_place g layers p q range hp hq k.fourth k.first k.third k.second)
-one_key g layers Pcrl p q range hp hq e =
-    let k = five (down_of g p) (across_of g p) p.comp p.res p.layer (down_of g q) (across_of g q) q.comp q.res q.layer e in
-    same_fields p q k.fifth k.fourth k.third (same_place g layers p q range hp hq k.third k.fourth k.second k.first)
-one_key g layers Cprl p q range hp hq e =
-    let k = five p.comp (down_of g p) (across_of g p) p.res p.layer q.comp (down_of g q) (across_of g q) q.res q.layer e in
-    same_fields p q k.fifth k.fourth k.first (same_place g layers p q range hp hq k.first k.fourth k.third k.second)
 
 either_before : (g : Geometry) (layers : ℕ) (o : Order) (p q : PacketName) → GeometryInRange g → IsPacketName g layers p → IsPacketName g layers q
     → ComesBefore g o p q ⊎ ((p ≡ q) ⊎ ComesBefore g o q p)

@@ -13,7 +13,7 @@ use Rattle.jx_geom.specs.Geometry.{Geometry, HasResolution, precincts_in, shape_
 use Rattle.jx_geom.specs.Resolutions.{resolutions_of}
 use Rattle.jx_marker.specs.declared.Progression.{Progression}
 use Rattle.jx_progression.specs.declared.names.PacketName.{PacketName}
-use Rattle.jx_progression.specs.declared.names.Order.{Order}
+use Rattle.jx_progression.specs.declared.keys.Order.{Order}
 use Rattle.jx_progression.specs.Orders.{order_of}
 use Rattle.jx_progression.specs.Packets.{IsPacketName, Covers}
 use Rattle.jx_progression.specs.Steps.{all_heads, by_layer, count_of, group_names, group_size, heads_at, name_of, no_resolution, one_layer, one_layer_head, one_precinct, one_precinct_head, row_end, row_heads, row_of, sent_at}

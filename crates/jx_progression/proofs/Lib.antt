@@ -7,6 +7,7 @@ mod KeyLemmas
 mod RowLemmas
 mod FlatLemmas
 mod GroupLemmas
+mod OrderCases
 mod SortLemmas
 mod TableLemmas
 mod CoveredLemmas
@@ -16,6 +17,5 @@ mod PlaceLemmas
 mod PointLemmas
 mod NestLemmas
 mod MemberLemmas
-mod LayerLoops
 mod PlaceLoops
 mod LoopLaws

@@ -2,44 +2,19 @@
 use Rattle.std.proofs.Common.{◌≡◌, ℕ, zero, suc, ◌==◌, Bool, true, false, ◌&&◌, ◌||◌, not, List, [], ◌∷◌, ◌++◌, inl, inr, refl, ap, sym, subst, length, take, drop}
 use Rattle.std.proofs.lemmas.List.Kept.{AllPairs-filter}
 use Rattle.std.proofs.Math.Seq.{take-append_seam, drop-append_seam}
-use Rattle.std.specs.List.{AllPairs, Contains}
+use Rattle.std.specs.List.{Contains}
 use Rattle.std.proofs.lemmas.Bool.{and_parts, eqb-true, or_cases, or_right, eq-eqb}
 use Rattle.jx_base.proofs.Lists.{contains_cons, contains_head, contains_tail, contains_none}
 use Rattle.jx_geom.specs.Geometry.{Geometry, GeometryInRange}
 use Rattle.jx_marker.specs.declared.Progression.{Progression}
 use Rattle.jx_progression.specs.declared.names.PacketName.{PacketName}
-use Rattle.jx_progression.specs.declared.names.Order.{Order}
-use Rattle.jx_progression.specs.declared.names.Order.TheVariants.{Lrcp, Rlcp, Rpcl, Pcrl, Cprl}
 use Rattle.jx_progression.specs.Orders.{ComesBefore, order_of}
 use Rattle.jx_progression.specs.Packets.{Sends, IsOrder, entry_at}
 use Rattle.jx_progression.specs.Loops.{loops, is_same, was_sent, sent_by, all_loops}
 use Rattle.jx_progression.proofs.OrderLemmas.{same_fields, one_order}
 use Rattle.jx_progression.proofs.NestLemmas.{kept_to, kept_from}
-use Rattle.jx_progression.proofs.MemberLemmas.{InLoops, is_packet, is_covered, in_loops}
-use Rattle.jx_progression.proofs.LayerLoops.{lrcp_sorted, lrcp_has, lrcp_from, rlcp_sorted, rlcp_has, rlcp_from}
-use Rattle.jx_progression.proofs.PlaceLoops.{rpcl_sorted, rpcl_has, rpcl_from, pcrl_sorted, pcrl_has, pcrl_from, cprl_sorted, cprl_has, cprl_from}
-
--- ---- the five orders
-loops_sorted : (g : Geometry) (layers : ℕ) (e : Progression) (o : Order) → GeometryInRange g → AllPairs (ComesBefore g o) (loops g layers e o)
-loops_sorted g layers e Lrcp range = lrcp_sorted g layers e
-loops_sorted g layers e Rlcp range = rlcp_sorted g layers e
-loops_sorted g layers e Rpcl range = rpcl_sorted g layers e range
-loops_sorted g layers e Pcrl range = pcrl_sorted g layers e range
-loops_sorted g layers e Cprl range = cprl_sorted g layers e range
-
-loops_has : (g : Geometry) (layers : ℕ) (e : Progression) (o : Order) → GeometryInRange g → (p : PacketName) → Contains (loops g layers e o) p → InLoops g layers e p
-loops_has g layers e Lrcp range p h = lrcp_has g layers e p h
-loops_has g layers e Rlcp range p h = rlcp_has g layers e p h
-loops_has g layers e Rpcl range p h = rpcl_has g layers e range p h
-loops_has g layers e Pcrl range p h = pcrl_has g layers e range p h
-loops_has g layers e Cprl range p h = cprl_has g layers e range p h
-
-loops_from : (g : Geometry) (layers : ℕ) (e : Progression) (o : Order) → GeometryInRange g → (p : PacketName) → InLoops g layers e p → Contains (loops g layers e o) p
-loops_from g layers e Lrcp range p i = lrcp_from g layers e p i
-loops_from g layers e Rlcp range p i = rlcp_from g layers e p i
-loops_from g layers e Rpcl range p i = rpcl_from g layers e range p i
-loops_from g layers e Pcrl range p i = pcrl_from g layers e range p i
-loops_from g layers e Cprl range p i = cprl_from g layers e range p i
+use Rattle.jx_progression.proofs.MemberLemmas.{is_packet, is_covered, in_loops}
+use Rattle.jx_progression.proofs.OrderCases.{loops_from, loops_has, loops_sorted}
 
 -- ---- what was sent
 same_to : (p q : PacketName) → is_same p q ≡ true → p ≡ q

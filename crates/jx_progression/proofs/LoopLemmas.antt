@@ -5,7 +5,7 @@ use Rattle.jx_geom.specs.Geometry.{Geometry}
 use Rattle.jx_geom.specs.Resolutions.{resolutions_of}
 use Rattle.jx_marker.specs.declared.Progression.{Progression}
 use Rattle.jx_progression.specs.declared.names.PacketName.{PacketName}
-use Rattle.jx_progression.specs.declared.names.Order.{Order}
+use Rattle.jx_progression.specs.declared.keys.Order.{Order}
 use Rattle.jx_progression.specs.Orders.{order_of}
 use Rattle.jx_progression.specs.Steps.{heads_at, row_at, row_end, row_heads, row_of}
 

@@ -8,7 +8,7 @@ use Rattle.jx_base.proofs.Lists.{contains_none}
 use Rattle.jx_geom.specs.Geometry.{Geometry, GeometryInRange, HasResolution, rect_of_tile}
 use Rattle.jx_marker.specs.declared.Progression.{Progression}
 use Rattle.jx_progression.specs.declared.names.PacketName.{PacketName}
-use Rattle.jx_progression.specs.declared.names.Order.TheVariants.{Rpcl, Pcrl, Cprl}
+use Rattle.jx_progression.specs.declared.keys.Order.TheVariants.{Rpcl, Pcrl, Cprl}
 use Rattle.jx_progression.specs.Orders.{ComesBefore, across_of, down_of}
 use Rattle.jx_progression.specs.Steps.{name_of}
 use Rattle.jx_progression.specs.Loops.{layer_stop, comp_stop, precincts_of, one_packet, is_visited, precinct_at, place_loop, rpcl_x, rpcl_y, rpcl_r, rpcl, ress_loop, pcrl_x, pcrl_y, pcrl, cprl_y, cprl_c, cprl}

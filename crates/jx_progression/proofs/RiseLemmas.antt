@@ -1,28 +1,17 @@
 -- The packets of a precinct stand in the order of their layers.
-use Rattle.std.proofs.Common.{◌≡◌, ℕ, zero, suc, ◌<◌, ◌≤◌, List, [], ◌∷◌, inl, inr, subst, arith, length, take, drop, get_or}
+use Rattle.std.proofs.Common.{◌≡◌, ℕ, zero, suc, ◌<◌, ◌≤◌, List, [], inl, inr, subst, arith, length, take, drop, get_or}
 use Rattle.std.proofs.lemmas.Bool.{cases_lt}
 use Rattle.std.proofs.lemmas.List.{take-append-drop}
 use Rattle.std.specs.List.{AllPairs, Contains}
 use Rattle.jx_geom.specs.Geometry.{Geometry}
 use Rattle.jx_marker.specs.declared.Progression.{Progression}
 use Rattle.jx_progression.specs.declared.names.PacketName.{PacketName}
-use Rattle.jx_progression.specs.declared.names.Order.{Order}
-use Rattle.jx_progression.specs.declared.names.Order.TheVariants.{Lrcp, Rlcp, Rpcl, Pcrl, Cprl}
-use Rattle.jx_progression.specs.Orders.{IsLess, ComesBefore, across_of, down_of, order_of}
+use Rattle.jx_progression.specs.declared.keys.Order.{Order}
+use Rattle.jx_progression.specs.Orders.{ComesBefore, order_of}
 use Rattle.jx_progression.specs.Packets.{IsPacketName, Covers, IsOrder, SamePrecinct, LayersRise, entry_at}
+use Rattle.jx_progression.proofs.OrderCases.{Placed, rises}
 use Rattle.jx_progression.proofs.OrderLemmas.{order_to, order_from}
 use Rattle.jx_base.proofs.Lists.{pairs_append}
-
--- keys that begin with the same number, and keys that differ in their first one alone
-skip : (x y : ℕ) (xs ys : List ℕ) → x ≡ y → IsLess (x ∷ xs) (y ∷ ys) → IsLess xs ys
-skip x y xs ys e h = elim h [ inl lt ↦ absurd (omega arith) | inr rest ↦ rest.1 ]
-
-first : (x y : ℕ) (xs ys : List ℕ) → (IsLess xs ys → ⊥) → IsLess (x ∷ xs) (y ∷ ys) → x < y
-first x y xs ys none h = elim h [ inl lt ↦ lt | inr rest ↦ absurd (none rest.1) ]
-
-record Placed (g : Geometry) (p q : PacketName) : Type 0 where
-  pub across : across_of g p ≡ across_of g q
-  pub down : down_of g p ≡ down_of g q
 
 same_place : (g : Geometry) (p q : PacketName) → SamePrecinct p q → Placed g p q
 same_place g p q same =
@@ -30,35 +19,6 @@ same_place g p q same =
     let er : p.res ≡ q.res = same.res in
     let ek : p.precinct ≡ q.precinct = same.precinct in
     record { across = cc; down = cc }
-
--- within an entry
-rises : (g : Geometry) (o : Order) (p q : PacketName) → Placed g p q → SamePrecinct p q → ComesBefore g o p q → p.layer < q.layer
-rises g Lrcp p q at same h =
-    first p.layer q.layer (p.res ∷ p.comp ∷ p.precinct ∷ []) (q.res ∷ q.comp ∷ q.precinct ∷ [])
-    (λ r. skip p.precinct q.precinct [] [] same.precinct (skip p.comp q.comp (p.precinct ∷ []) (q.precinct ∷ []) same.comp
-    (skip p.res q.res (p.comp ∷ p.precinct ∷ []) (q.comp ∷ q.precinct ∷ []) same.res r))) h
-rises g Rlcp p q at same h =
-    first p.layer q.layer (p.comp ∷ p.precinct ∷ []) (q.comp ∷ q.precinct ∷ [])
-    (λ r. skip p.precinct q.precinct [] [] same.precinct (skip p.comp q.comp (p.precinct ∷ []) (q.precinct ∷ []) same.comp r))
-    (skip p.res q.res (p.layer ∷ p.comp ∷ p.precinct ∷ []) (q.layer ∷ q.comp ∷ q.precinct ∷ []) same.res h)
-rises g Rpcl p q at same h =
-    first p.layer q.layer [] [] (λ r. r)
-    (skip p.comp q.comp (p.layer ∷ []) (q.layer ∷ []) same.comp
-    (skip (across_of g p) (across_of g q) (p.comp ∷ p.layer ∷ []) (q.comp ∷ q.layer ∷ []) at.across
-    (skip (down_of g p) (down_of g q) (across_of g p ∷ p.comp ∷ p.layer ∷ []) (across_of g q ∷ q.comp ∷ q.layer ∷ []) at.down
-    (skip p.res q.res (down_of g p ∷ across_of g p ∷ p.comp ∷ p.layer ∷ []) (down_of g q ∷ across_of g q ∷ q.comp ∷ q.layer ∷ []) same.res h))))
-rises g Pcrl p q at same h =
-    first p.layer q.layer [] [] (λ r. r)
-    (skip p.res q.res (p.layer ∷ []) (q.layer ∷ []) same.res
-    (skip p.comp q.comp (p.res ∷ p.layer ∷ []) (q.res ∷ q.layer ∷ []) same.comp
-    (skip (across_of g p) (across_of g q) (p.comp ∷ p.res ∷ p.layer ∷ []) (q.comp ∷ q.res ∷ q.layer ∷ []) at.across
-    (skip (down_of g p) (down_of g q) (across_of g p ∷ p.comp ∷ p.res ∷ p.layer ∷ []) (across_of g q ∷ q.comp ∷ q.res ∷ q.layer ∷ []) at.down h))))
-rises g Cprl p q at same h =
-    first p.layer q.layer [] [] (λ r. r)
-    (skip p.res q.res (p.layer ∷ []) (q.layer ∷ []) same.res
-    (skip (across_of g p) (across_of g q) (p.res ∷ p.layer ∷ []) (q.res ∷ q.layer ∷ []) at.across
-    (skip (down_of g p) (down_of g q) (across_of g p ∷ p.res ∷ p.layer ∷ []) (across_of g q ∷ q.res ∷ q.layer ∷ []) at.down
-    (skip p.comp q.comp (down_of g p ∷ across_of g p ∷ p.res ∷ p.layer ∷ []) (down_of g q ∷ across_of g q ∷ q.res ∷ q.layer ∷ []) same.comp h))))
 
 rise_in : (g : Geometry) (o : Order) (list : List PacketName) → AllPairs (ComesBefore g o) list → LayersRise list
 rise_in g o list h i j d lt below same =

@@ -1,7 +1,6 @@
 -- First packets in the order of their numbers, each with those that stand together with it, are packets in the order of their keys.
 use Rattle.std.proofs.Common.{◌≡◌, ◌≢◌, ℕ, ◌+◌, ◌<◌, Bool, true, false, List, [], ◌∷◌, inl, inr, ◌⊎◌, ◌↔◌, ◌∙◌, ap, sym, subst, refl, arith, length, get_or, min, slice_index}
 use Rattle.std.proofs.lemmas.Bool.{cases_Bool, cases_lt}
-use Rattle.std.proofs.lemmas.Bool.Decides.{nat_tests}
 use Rattle.std.proofs.lemmas.List.Elements.{Contains-get_or}
 use Rattle.std.proofs.lemmas.List.Sorted.{Contains-permutation, IsPermutation-sym}
 use Rattle.std.proofs.lemmas.Map.Keys.{IsDistinct-IsPermutation, IsDistinct-from_apart, apart_from_distinct}
@@ -14,15 +13,13 @@ use Rattle.jx_geom.specs.Geometry.{Geometry, GeometryInRange}
 use Rattle.jx_geom.specs.Resolutions.{resolutions_of}
 use Rattle.jx_marker.specs.declared.Progression.{Progression}
 use Rattle.jx_progression.specs.declared.names.PacketName.{PacketName}
-use Rattle.jx_progression.specs.declared.names.Order.{Order}
-use Rattle.jx_progression.specs.declared.names.Order.TheVariants.{Lrcp, Rlcp, Rpcl, Pcrl, Cprl}
-use Rattle.jx_progression.specs.Orders.{IsLess, ComesBefore, order_of, across_of, down_of}
-use Rattle.jx_progression.specs.Packets.{IsPacketName}
-use Rattle.jx_progression.specs.Steps.{AreSorted, Lists, across_or, all_heads, by_layer, count_of, down_or, group_names, group_size, heads_at, name_of, numbers_of, one_layer, one_layer_head, one_precinct, one_precinct_head, row_end, row_heads, row_of, sent_at, sort_key}
+use Rattle.jx_progression.specs.declared.keys.Order.{Order}
+use Rattle.jx_progression.specs.Orders.{IsLess, ComesBefore, order_of}
+use Rattle.jx_progression.specs.Steps.{AreSorted, Lists, all_heads, by_layer, count_of, group_names, group_size, heads_at, name_of, numbers_of, one_layer, one_layer_head, one_precinct, one_precinct_head, row_end, row_heads, row_of, sent_at, sort_key}
 use Rattle.jx_progression.proofs.FlatLemmas.{flat_from, flat_has, flat_pairs}
-use Rattle.jx_progression.proofs.GroupLemmas.{IsFirst, Listed, count_is, head_to, in_group, layer_names, layers_are, name_listed, no_heads, one_has, precinct_names, precincts_are, row_has, some_names, stands_in}
-use Rattle.jx_progression.proofs.KeyLemmas.{same_place}
-use Rattle.jx_progression.proofs.LessLemmas.{drop_zero, less_more, less_trans}
+use Rattle.jx_progression.proofs.GroupLemmas.{IsFirst, Listed, head_to, in_group, layer_names, layers_are, name_listed, no_heads, one_has, precinct_names, precincts_are, row_has, some_names, stands_in}
+use Rattle.jx_progression.proofs.LessLemmas.{less_trans}
+use Rattle.jx_progression.proofs.OrderCases.{head_layer, head_less, head_of, head_precinct, head_row, key_is, layer_rises, layer_shares, precinct_rises, precinct_shares}
 use Rattle.jx_progression.proofs.OrderLemmas.{same_fields, same_or}
 use Rattle.jx_progression.proofs.RowLemmas.{rows_once}
 
@@ -107,62 +104,7 @@ pairs_permuted xs ys moved h =
     λ i j d lt below. decided_other (get_or ys i d) (get_or ys j d) (same_or (get_or ys i d) (get_or ys j d))
     (apart_from_distinct is_one ys i j d after lt below)
 
--- ---- the numbers that are sorted by are those that the packets of a group share
-abbrev head_of : Geometry → Order → PacketName → List ℕ
-head_of g Lrcp p = p.layer ∷ p.res ∷ p.comp ∷ 0 ∷ []
-head_of g Rlcp p = p.res ∷ p.layer ∷ p.comp ∷ 0 ∷ []
-head_of g Rpcl p = p.res ∷ down_of g p ∷ across_of g p ∷ p.comp ∷ []
-head_of g Pcrl p = down_of g p ∷ across_of g p ∷ p.comp ∷ p.res ∷ []
-head_of g Cprl p = p.comp ∷ down_of g p ∷ across_of g p ∷ p.res ∷ []
-
-pub head_less : (g : Geometry) (o : Order) (p q : PacketName) → IsLess (head_of g o p) (head_of g o q) → ComesBefore g o p q
-head_less g Lrcp p q h =
-    less_more (p.layer ∷ p.res ∷ p.comp ∷ []) (q.layer ∷ q.res ∷ q.comp ∷ []) (p.precinct ∷ []) (q.precinct ∷ [])
-    (drop_zero p.layer p.res p.comp q.layer q.res q.comp h)
-head_less g Rlcp p q h =
-    less_more (p.res ∷ p.layer ∷ p.comp ∷ []) (q.res ∷ q.layer ∷ q.comp ∷ []) (p.precinct ∷ []) (q.precinct ∷ [])
-    (drop_zero p.res p.layer p.comp q.res q.layer q.comp h)
-head_less g Rpcl p q h = less_more (head_of g Rpcl p) (head_of g Rpcl q) (p.layer ∷ []) (q.layer ∷ []) h
-head_less g Pcrl p q h = less_more (head_of g Pcrl p) (head_of g Pcrl q) (p.layer ∷ []) (q.layer ∷ []) h
-head_less g Cprl p q h = less_more (head_of g Cprl p) (head_of g Cprl q) (p.layer ∷ []) (q.layer ∷ []) h
-
-across_there : (g : Geometry) (layers : ℕ) (p : PacketName) → IsPacketName g layers p → across_or g p ≡ across_of g p
-unfolding across_or
-across_there g layers p h =
-    let lt : p.precinct < count_of g p.comp p.res = omega (arith, h.precinct, count_is g p.comp p.res h.resolution) in
-    grind (arith, nat_tests)
-
-down_there : (g : Geometry) (layers : ℕ) (p : PacketName) → IsPacketName g layers p → down_or g p ≡ down_of g p
-unfolding down_or
-down_there g layers p h =
-    let lt : p.precinct < count_of g p.comp p.res = omega (arith, h.precinct, count_is g p.comp p.res h.resolution) in
-    grind (arith, nat_tests)
-
-key_is : (g : Geometry) (layers : ℕ) (o : Order) (p : PacketName) → IsPacketName g layers p → numbers_of (sort_key g o p) ≡ head_of g o p
-unfolding sort_key
-key_is g layers Lrcp p h = refl
-key_is g layers Rlcp p h = refl
-key_is g layers Rpcl p h =
-    ap (λ x. p.res ∷ down_or g p ∷ x ∷ p.comp ∷ []) (across_there g layers p h) ∙ ap (λ y. p.res ∷ y ∷ across_of g p ∷ p.comp ∷ []) (down_there g layers p h)
-key_is g layers Pcrl p h =
-    ap (λ x. down_or g p ∷ x ∷ p.comp ∷ p.res ∷ []) (across_there g layers p h) ∙ ap (λ y. y ∷ across_of g p ∷ p.comp ∷ p.res ∷ []) (down_there g layers p h)
-key_is g layers Cprl p h =
-    ap (λ x. p.comp ∷ down_or g p ∷ x ∷ p.res ∷ []) (across_there g layers p h) ∙ ap (λ y. p.comp ∷ y ∷ across_of g p ∷ p.res ∷ []) (down_there g layers p h)
-
-layer_shares : (g : Geometry) (o : Order) (x : PacketName) (k : ℕ) → by_layer o ≡ true → head_of g o (name_of x.layer x.res x.comp k) ≡ head_of g o x
-layer_shares g Lrcp x k h = refl
-layer_shares g Rlcp x k h = refl
-layer_shares g Rpcl x k h = absurd (cc)
-layer_shares g Pcrl x k h = absurd (cc)
-layer_shares g Cprl x k h = absurd (cc)
-
-precinct_shares : (g : Geometry) (o : Order) (x : PacketName) (n : ℕ) → by_layer o ≡ false → head_of g o (name_of n x.res x.comp x.precinct) ≡ head_of g o x
-precinct_shares g Lrcp x n h = absurd (cc)
-precinct_shares g Rlcp x n h = absurd (cc)
-precinct_shares g Rpcl x n h = refl
-precinct_shares g Pcrl x n h = refl
-precinct_shares g Cprl x n h = refl
-
+-- ---- the packets of a group share what they are sorted by
 shares : (g : Geometry) (o : Order) (end : ℕ) (x p : PacketName) → Contains (group_names g o end x) p → head_of g o p ≡ head_of g o x
 shares g o end x p c =
     let s = stands_in g o end x p c in
@@ -172,51 +114,6 @@ shares g o end x p c =
     ]
 
 -- ---- two first packets of one key are one
-record Heads (a b c d a' b' c' d' : ℕ) : Type 0 where
-  pub first : a ≡ a'
-  pub second : b ≡ b'
-  pub third : c ≡ c'
-  pub fourth : d ≡ d'
-
-four : (a b c d a' b' c' d' : ℕ) → (a ∷ b ∷ c ∷ d ∷ []) ≡ (a' ∷ b' ∷ c' ∷ d' ∷ []) → Heads a b c d a' b' c' d'
-four a b c d a' b' c' d' e = record { first = cc; second = cc; third = cc; fourth = cc }
-
--- the layer, resolution and component of packets with one head
-record SameRow (p q : PacketName) : Type 0 where
-  pub comp : p.comp ≡ q.comp
-  pub res : p.res ≡ q.res
-
-head_row : (g : Geometry) (o : Order) (p q : PacketName) → head_of g o p ≡ head_of g o q → SameRow p q
-head_row g Lrcp p q e = let f = four p.layer p.res p.comp 0 q.layer q.res q.comp 0 e in record { comp = f.third; res = f.second }
-head_row g Rlcp p q e = let f = four p.res p.layer p.comp 0 q.res q.layer q.comp 0 e in record { comp = f.third; res = f.first }
-head_row g Rpcl p q e =
-    let f = four p.res (down_of g p) (across_of g p) p.comp q.res (down_of g q) (across_of g q) q.comp e in record { comp = f.fourth; res = f.first }
-head_row g Pcrl p q e =
-    let f = four (down_of g p) (across_of g p) p.comp p.res (down_of g q) (across_of g q) q.comp q.res e in record { comp = f.third; res = f.fourth }
-head_row g Cprl p q e =
-    let f = four p.comp (down_of g p) (across_of g p) p.res q.comp (down_of g q) (across_of g q) q.res e in record { comp = f.first; res = f.fourth }
-
-head_layer : (g : Geometry) (o : Order) (p q : PacketName) → by_layer o ≡ true → head_of g o p ≡ head_of g o q → p.layer ≡ q.layer
-head_layer g Lrcp p q h e = (four p.layer p.res p.comp 0 q.layer q.res q.comp 0 e).first
-head_layer g Rlcp p q h e = (four p.res p.layer p.comp 0 q.res q.layer q.comp 0 e).second
-head_layer g Rpcl p q h e = absurd (cc)
-head_layer g Pcrl p q h e = absurd (cc)
-head_layer g Cprl p q h e = absurd (cc)
-
-head_precinct : (g : Geometry) (layers : ℕ) (o : Order) (p q : PacketName) → GeometryInRange g → IsPacketName g layers p → IsPacketName g layers q
-    → by_layer o ≡ false → head_of g o p ≡ head_of g o q → p.precinct ≡ q.precinct
-head_precinct g layers Lrcp p q range hp hq h e = absurd (cc)
-head_precinct g layers Rlcp p q range hp hq h e = absurd (cc)
-head_precinct g layers Rpcl p q range hp hq h e =
-    let f = four p.res (down_of g p) (across_of g p) p.comp q.res (down_of g q) (across_of g q) q.comp e in
-    same_place g layers p q range hp hq f.fourth f.first f.third f.second
-head_precinct g layers Pcrl p q range hp hq h e =
-    let f = four (down_of g p) (across_of g p) p.comp p.res (down_of g q) (across_of g q) q.comp q.res e in
-    same_place g layers p q range hp hq f.third f.fourth f.second f.first
-head_precinct g layers Cprl p q range hp hq h e =
-    let f = four p.comp (down_of g p) (across_of g p) p.res q.comp (down_of g q) (across_of g q) q.res e in
-    same_place g layers p q range hp hq f.first f.fourth f.third f.second
-
 -- first packets of one head
 one_first : (g : Geometry) (layers : ℕ) (e : Progression) (sent : List ℕ) (o : Order) (x y : PacketName) → GeometryInRange g
     → Listed g layers e sent x → Listed g layers e sent y → IsFirst g sent o x → IsFirst g sent o y → head_of g o x ≡ head_of g o y → x ≡ y
@@ -231,22 +128,6 @@ one_first g layers e sent o x y range lx ly fx fy same =
     ]
 
 -- ---- packets of one group
-layer_rises : (g : Geometry) (o : Order) (x : PacketName) (i j : ℕ) → by_layer o ≡ true → i < j
-    → ComesBefore g o (name_of x.layer x.res x.comp i) (name_of x.layer x.res x.comp j)
-layer_rises g Lrcp x i j h lt = inr (refl, inr (refl, inr (refl, inl lt)))
-layer_rises g Rlcp x i j h lt = inr (refl, inr (refl, inr (refl, inl lt)))
-layer_rises g Rpcl x i j h lt = absurd (cc)
-layer_rises g Pcrl x i j h lt = absurd (cc)
-layer_rises g Cprl x i j h lt = absurd (cc)
-
-precinct_rises : (g : Geometry) (o : Order) (x : PacketName) (i j : ℕ) → by_layer o ≡ false → i < j
-    → ComesBefore g o (name_of i x.res x.comp x.precinct) (name_of j x.res x.comp x.precinct)
-precinct_rises g Lrcp x i j h lt = absurd (cc)
-precinct_rises g Rlcp x i j h lt = absurd (cc)
-precinct_rises g Rpcl x i j h lt = inr (refl, inr (refl, inr (refl, inr (refl, inl lt))))
-precinct_rises g Pcrl x i j h lt = inr (refl, inr (refl, inr (refl, inr (refl, inl lt))))
-precinct_rises g Cprl x i j h lt = inr (refl, inr (refl, inr (refl, inr (refl, inl lt))))
-
 pub one_name_pairs : (g : Geometry) (o : Order) (p : PacketName) → AllPairs (ComesBefore g o) (p ∷ [])
 one_name_pairs g o p i j d lt below = absurd (omega arith)
 

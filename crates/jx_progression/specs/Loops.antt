@@ -11,8 +11,8 @@ use Rattle.jx_geom.specs.Rects.{resolution_rect}
 use Rattle.jx_geom.specs.Geometry.{Geometry, precincts_in, rect_of_tile, shape_of}
 use Rattle.jx_marker.specs.declared.Progression.{Progression}
 use Rattle.jx_progression.specs.declared.names.PacketName.{PacketName}
-use Rattle.jx_progression.specs.declared.names.Order.{Order}
-use Rattle.jx_progression.specs.declared.names.Order.TheVariants.{Lrcp, Rlcp, Rpcl, Pcrl, Cprl}
+use Rattle.jx_progression.specs.declared.keys.Order.{Order}
+use Rattle.jx_progression.specs.declared.keys.Order.TheVariants.{Lrcp, Rlcp, Rpcl, Pcrl, Cprl}
 use Rattle.jx_progression.specs.Orders.{order_of}
 use Rattle.jx_progression.specs.Packets.{entry_at}
 use Rattle.jx_progression.specs.Steps.{name_of}

@@ -2,8 +2,8 @@
 use Rattle.std.specs.Prelude.{ℕ, ◌==◌, ◌<◌, ◌≡◌, ◌⊎◌, List, [], ◌∷◌, if◌then◌else◌}
 use Rattle.jx_geom.specs.Geometry.{Geometry, reference_across, reference_down}
 use Rattle.jx_progression.specs.declared.names.PacketName.{PacketName}
-use Rattle.jx_progression.specs.declared.names.Order.{Order}
-use Rattle.jx_progression.specs.declared.names.Order.TheVariants.{Lrcp, Rlcp, Rpcl, Pcrl, Cprl}
+use Rattle.jx_progression.specs.declared.keys.Order.{Order}
+use Rattle.jx_progression.specs.declared.keys.Order.TheVariants.{Lrcp, Rlcp, Rpcl, Pcrl, Cprl}
 
 -- Table A.16: the order of a number from 0 to 4
 abbrev pub order_of : ℕ → Order

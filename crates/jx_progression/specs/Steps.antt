@@ -6,8 +6,8 @@ use Rattle.jx_geom.specs.Geometry.{Geometry, precincts_in, rect_of_tile, shape_o
 use Rattle.jx_geom.specs.Resolutions.{place_of, resolutions_of}
 use Rattle.jx_marker.specs.declared.Progression.{Progression}
 use Rattle.jx_progression.specs.declared.names.PacketName.{PacketName}
-use Rattle.jx_progression.specs.declared.names.Order.{Order}
-use Rattle.jx_progression.specs.declared.names.Order.TheVariants.{Lrcp, Rlcp, Rpcl, Pcrl, Cprl}
+use Rattle.jx_progression.specs.declared.keys.Order.{Order}
+use Rattle.jx_progression.specs.declared.keys.Order.TheVariants.{Lrcp, Rlcp, Rpcl, Pcrl, Cprl}
 use Rattle.jx_progression.specs.declared.keys.Key.{Key}
 use Rattle.jx_progression.specs.Orders.{ComesBefore, IsLess, across_of, down_of, order_of}
 use Rattle.jx_progression.specs.Packets.{Covers, IsPacketName, entry_at}

@@ -17,8 +17,8 @@ ghost use Rattle.jx_progression.specs.Steps.{
   row_heads,
 };
 
-use crate::keys::{by_layer, order_from, sort_key};
-use crate::names::{Order, PacketName};
+use crate::keys::{Order, by_layer, order_from, sort_key};
+use crate::names::PacketName;
 use crate::rows::{row_at, row_end, sent_at};
 use crate::spread::spread;
 use jx_base::NoMemory;

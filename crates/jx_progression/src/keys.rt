@@ -1,4 +1,4 @@
-//! What an entry's groups are sorted by: a layer of a resolution stands together, or a precinct.
+//! The progression orders, and what an entry's groups are sorted by: a layer of a resolution stands together, or a precinct.
 
 ghost use Rattle.std.specs.Prelude.{◌≡◌, ◌<◌};
 ghost use Rattle.jx_base.specs.OrderNumbers.{IsOrderNumber};
@@ -6,8 +6,24 @@ ghost use Rattle.jx_geom.specs.Geometry.{HasResolution, precincts_in};
 ghost use Rattle.jx_progression.specs.Orders.{order_of};
 ghost use Rattle.jx_progression.specs.Steps.{across_or, by_layer, count_of, down_or, sort_key};
 
-use crate::names::{Order, PacketName};
+use crate::names::PacketName;
 use jx_geom::TileGeom;
+
+/// The five progression orders (T.800, Table A.16 and B.12.1), each named by what changes from the
+/// slowest to the fastest: layer, resolution, component, position.
+#[derive(Clone, Copy, Debug, PartialEq, Eq)]
+pub enum Order {
+    /// Layer, resolution, component, position: number 0.
+    Lrcp,
+    /// Resolution, layer, component, position: number 1.
+    Rlcp,
+    /// Resolution, position, component, layer: number 2.
+    Rpcl,
+    /// Position, component, resolution, layer: number 3.
+    Pcrl,
+    /// Component, position, resolution, layer: number 4.
+    Cprl,
+}
 
 /// The numbers that an order sorts groups by.
 #[derive(Clone, Copy, Debug, PartialEq, Eq, PartialOrd, Ord, Drop)]

@@ -11,5 +11,6 @@ mod rows;
 mod spread;
 
 pub use covered::are_covered;
+pub use keys::Order;
 pub use listing::packets;
-pub use names::{Order, OrderFault, PacketName};
+pub use names::{OrderFault, PacketName};

@@ -1,4 +1,4 @@
-//! Names of packets, progression orders, and why there is no list.
+//! Names of packets, and why there is no list.
 
 use jx_base::NoMemory;
 
@@ -14,22 +14,6 @@ pub struct PacketName {
     pub comp: u16,
     /// The precinct's number in its resolution, row by row from 0 on.
     pub precinct: u32,
-}
-
-/// The five progression orders (T.800, Table A.16 and B.12.1), each named by what changes from the
-/// slowest to the fastest: layer, resolution, component, position.
-#[derive(Clone, Copy, Debug, PartialEq, Eq)]
-pub enum Order {
-    /// Layer, resolution, component, position: number 0.
-    Lrcp,
-    /// Resolution, layer, component, position: number 1.
-    Rlcp,
-    /// Resolution, position, component, layer: number 2.
-    Rpcl,
-    /// Position, component, resolution, layer: number 3.
-    Pcrl,
-    /// Component, position, resolution, layer: number 4.
-    Cprl,
 }
 
 /// Why there is no list of a tile's packets.

@@ -5,8 +5,8 @@ ghost use Rattle.std.specs.List.{flat_map};
 ghost use Rattle.jx_base.specs.Joined.{joined};
 ghost use Rattle.jx_progression.specs.Steps.{group_names, group_size, one_layer, one_precinct};
 
-use crate::keys::{by_layer, count_precincts};
-use crate::names::{Order, PacketName};
+use crate::keys::{Order, by_layer, count_precincts};
+use crate::names::PacketName;
 use jx_base::NoMemory;
 use jx_geom::TileGeom;
 

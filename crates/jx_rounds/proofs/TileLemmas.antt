@@ -14,7 +14,7 @@ use Rattle.jx_codeblock.specs.declared.LayerEnd.{LayerEnd}
 use Rattle.jx_codeblock.specs.declared.job.Job.{Job}
 use Rattle.jx_codeblock.specs.Jobs.{IsAsked}
 use Rattle.jx_codeblock.specs.Recoded.{WrittenBlock, recoding_in}
-use Rattle.jx_codeblock.specs.Recoding.{Recoding, layer_ends, pieces_of, recoding}
+use Rattle.jx_codeblock.specs.Recoding.{Recoding, layer_ends, recoded_pieces, recoding}
 use Rattle.jx_codeblock.specs.Written.{block_asked, block_with, is_wrong, style_for}
 use Rattle.jx_store.specs.declared.event.Taped.{Taped}
 use Rattle.jx_store.specs.declared.work.Named.{Named}
@@ -86,7 +86,7 @@ in_layers n (p ∷ q ∷ ps) each =
 -- ---- what becomes of a block, and of one that is wrong
 pub record BlockLaws : Type 0 where
   pub sound : (b : Block) (style : Option Style) (ends : List LayerEnd) (r : Recoding) → IsAsked b style ends → Some r ≡ recoding b style ends → IsSound (block_with b (Some r))
-  pub layers : (b : Block) (style : Option Style) (ends : List LayerEnd) (r : Recoding) → IsAsked b style ends → Some r ≡ recoding b style ends → layer_ends (pieces_of r) ≡ ends
+  pub layers : (b : Block) (style : Option Style) (ends : List LayerEnd) (r : Recoding) → IsAsked b style ends → Some r ≡ recoding b style ends → layer_ends (recoded_pieces r) ≡ ends
   pub wrong : (asked : Option Style) (b : Block) (ends : List LayerEnd) → is_wrong asked b ≡ true → recoding b (style_for asked b) ends ≡ None
   pub right : (asked : Option Style) (b : Block) (ends : List LayerEnd) → is_wrong asked b ≡ false → recoding b (style_for asked b) ends ≢ None
 
@@ -217,8 +217,8 @@ module _ (laws : BlockLaws) (p : Plan) (t count : ℕ) (entries : List (Taped (N
         laws.sound r.job.block.now r.job.style r.job.ends r.recoding of.own.asked (sym of.is));
     layers = all_mapped (λ (b : Block). All (λ (q : PieceValue). q.layer < p.layers) b.pieces) block_written (made_in entries) (λ i r is.
         let of = value_at i r made is in
-        let same : layer_ends (pieces_of r.recoding) ≡ r.job.ends = laws.layers r.job.block.now r.job.style r.job.ends r.recoding of.own.asked (sym of.is) in
-        in_layers p.layers (pieces_of r.recoding) (subst (λ (ends : List LayerEnd). All (λ (e : LayerEnd). e.layer < p.layers) ends) (sym same) of.own.below));
+        let same : layer_ends (recoded_pieces r.recoding) ≡ r.job.ends = laws.layers r.job.block.now r.job.style r.job.ends r.recoding of.own.asked (sym of.is) in
+        in_layers p.layers (recoded_pieces r.recoding) (subst (λ (ends : List LayerEnd). All (λ (e : LayerEnd). e.layer < p.layers) ends) (sym same) of.own.below));
   }
 
   pub values_stand : AreMade entries → StandIn (blocks_of p) p t (made_in entries)

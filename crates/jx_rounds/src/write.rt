@@ -1,6 +1,6 @@
 //! A codestream, written round by round.
 
-ghost use Rattle.std.specs.Prelude.{◌≡◌, ◌<◌, ◌≤◌, ◌+◌, ℕ, List, Option, [], ◌++◌, length, map, vec_capacity, vec_len, IfOk, IfErr, OnErr, OnOk, IsErrOf};
+ghost use Rattle.std.specs.Prelude.{◌≡◌, ◌<◌, ◌≤◌, ◌+◌, ℕ, List, Option, [], ◌++◌, length, map, vec_capacity, vec_len, IfOk, IfErr, IfSome, OnErr, OnOk, OnSome, IsErrOf};
 ghost use Rattle.std.specs.List.{concat};
 ghost use Rattle.jx_io.specs.Causes.{Rose};
 ghost use Rattle.jx_plan.specs.Plan.{Plan, headers_of};
@@ -8,8 +8,7 @@ ghost use Rattle.jx_codestream.specs.First.{tile_number};
 ghost use Rattle.jx_tier2_writer.specs.Tile.{first_block, main_bytes};
 ghost use Rattle.jx_options.specs.Work.{MayBeWork};
 ghost use Rattle.jx_rounds.specs.MadeRounds.{entry_of, parts_of};
-ghost use Rattle.jx_rounds.specs.Taken.{SomeFront, followed_by};
-ghost use Rattle.jx_rounds.specs.Rounds.{BeginsRound, EndsRound, HasFront, HasRounds, HasTape, HasWhole, IsFault, IsHalted, IsPlace, IsUnwritten};
+ghost use Rattle.jx_rounds.specs.Rounds.{BeginsRound, EndsRound, HasFront, HasRounds, HasTape, HasWhole, IsHalted, IsPlace, IsUnwritten};
 ghost use Rattle.jx_rounds.specs.Tapes.{IsTapeOf};
 
 use crate::TapeEntry;
@@ -59,44 +58,27 @@ fn put_entries(tape: &mut Vec<TapeEntry>, entries: &[Entry<Recoded<'_>>])
     }
 }
 
-/// Writes the tiles of a round, and puts its entries on the tape once they are written.
-fn put_round<W: ByteWriter>(
-    writer: &mut W,
+/// Where a round ends that is written after a mark; none where there is no room for its entries on the tape, or no number has so many
+/// bytes.
+fn mark_after(
     mark: Mark,
     round: &Round<'_>,
     tiles: &[Packed<'_, '_>],
     tape: &mut Vec<TapeEntry>,
-    buffer: &mut Vec<u8>,
-) -> Result<Mark, Halt>
-    requires may { W.can_write (W.kept writer.old) }
-    requires buffer { buffer.old.items ≡ [] }
-    ensures ok { IfOk result (λ next. (next.tile ≡ round.now.extent.tile) × (next.block ≡ round.now.extent.block) × (next.bytes ≡ mark.bytes + length (concat (parts_of tiles.now)))
-        × (W.written writer.new ≡ followed_by (concat (parts_of tiles.now)) (W.written writer.old)) × (tape.new.items ≡ tape.old.items ++ map entry_of round.now.entries.items)) }
-    ensures kept { OnErr result (tape.new.items ≡ tape.old.items) }
-    ensures buffer { OnOk result (buffer.new.items ≡ []) }
-    ensures front { SomeFront (W.written writer.old) (W.written writer.new) (concat (parts_of tiles.now)) }
-    ensures fault { IfErr result (λ h. IsFault h) }
-    ensures cause { IsErrOf result Halt.Failed → Rose (W.faults writer.old) (W.faults writer.new) }
-    ensures same { OnOk result (W.faults writer.new ≡ W.faults writer.old) }
-    ensures other { W.kept writer.new ≡ W.kept writer.old }
+) -> Option<Mark>
+    ensures next { IfSome result (λ next. (next.tile ≡ round.now.extent.tile) × (next.block ≡ round.now.extent.block) × (next.bytes ≡ mark.bytes + length (concat (parts_of tiles.now)))) }
+    ensures room { OnSome result (vec_len tape.new + length round.now.entries.items ≤ vec_capacity tape.new) }
+    ensures kept { tape.new.items ≡ tape.old.items }
 {
-    let Some(bytes) = count_bytes(mark.bytes, tiles) else {
-        return Err(Halt::NoMemory);
-    };
+    let bytes = count_bytes(mark.bytes, tiles)?;
     if tape.reserve(round.entries.len()).is_err() {
-        return Err(Halt::NoMemory);
+        return None;
     }
-    match put_tiles(writer, tiles, buffer) {
-        Ok(()) => {
-            put_entries(tape, &round.entries);
-            Ok(Mark {
-                tile: round.extent.tile,
-                block: round.extent.block,
-                bytes,
-            })
-        }
-        Err(halt) => Err(halt),
-    }
+    Some(Mark {
+        tile: round.extent.tile,
+        block: round.extent.block,
+        bytes,
+    })
 }
 
 /// Writes the round that begins at a tile, and puts its entries on the tape once it is written.
@@ -135,7 +117,16 @@ fn write_round<R: Threads + Wait + Sync, G: Gate + Sync, W: ByteWriter>(
         Ok(tiles) => tiles,
         Err(halt) => return Err(halt),
     };
-    put_round(writer, mark, &round, &tiles, tape, buffer)
+    let Some(next) = mark_after(mark, &round, &tiles, tape) else {
+        return Err(Halt::NoMemory);
+    };
+    match put_tiles(writer, &tiles, buffer) {
+        Ok(()) => {
+            put_entries(tape, &round.entries);
+            Ok(next)
+        }
+        Err(halt) => Err(halt),
+    }
 }
 
 /// Writes all rounds after `header` bytes: how many there are then.
@@ -173,35 +164,6 @@ fn write_tiles<R: Threads + Wait + Sync, G: Gate + Sync, W: ByteWriter>(
         };
     }
     Ok(mark.bytes)
-}
-
-/// Writes the main header and all rounds.
-fn write_rounds<R: Threads + Wait + Sync, G: Gate + Sync, W: ByteWriter>(
-    crew: &Crew<'_, R, G>,
-    alloc: Global,
-    writer: &mut W,
-    making: &Making<'_, '_>,
-    header: &[u8],
-    tape: &mut Vec<TapeEntry>,
-    buffer: &mut Vec<u8>,
-) -> Result<usize, Halt>
-    requires may { W.can_write (W.kept writer.old) }
-    requires header { header.now ≡ main_bytes (headers_of making.now) }
-    requires work { MayBeWork crew.now.work }
-    requires empty { tape.old.items ≡ [] }
-    requires buffer { buffer.old.items ≡ [] }
-    ensures ok { IfOk result (λ bytes. HasFront making.now (tile_number making.now.stream.siz) bytes (W.written writer.old) (W.written writer.new)) }
-    ensures err { IfErr result (λ h. IsHalted making.now h (W.written writer.old) (W.written writer.new)) }
-    ensures tape { IsTapeOf crew.now.work making.now.blocks tape.new.items }
-    ensures whole { OnOk result (length tape.new.items ≡ length making.now.blocks) }
-    ensures cause { IsErrOf result Halt.Failed → Rose (W.faults writer.old) (W.faults writer.new) }
-    ensures same { OnOk result (W.faults writer.new ≡ W.faults writer.old) }
-    ensures other { W.kept writer.new ≡ W.kept writer.old }
-{
-    match put(writer, header) {
-        Ok(()) => write_tiles(crew, alloc, writer, making, header.len(), tape, buffer),
-        Err(halt) => Err(halt),
-    }
 }
 
 /// Writes EOC after `before` bytes.
@@ -251,8 +213,11 @@ pub fn write_codestream<R: Threads + Wait + Sync, G: Gate + Sync, W: ByteWriter>
     ensures same { OnOk result (W.faults writer.new ≡ W.faults writer.old) }
     ensures other { W.kept writer.new ≡ W.kept writer.old }
 {
-    match write_rounds(crew, alloc, writer, making, header, tape, buffer) {
-        Ok(before) => write_end(writer, before),
+    match put(writer, header) {
+        Ok(()) => match write_tiles(crew, alloc, writer, making, header.len(), tape, buffer) {
+            Ok(before) => write_end(writer, before),
+            Err(halt) => Err(halt),
+        },
         Err(halt) => Err(halt),
     }
 }

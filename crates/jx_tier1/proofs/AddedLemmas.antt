@@ -62,7 +62,7 @@ raised M N y q (suc (suc (suc zero))) e l o h =
     omega arith
 raised M N y q (suc (suc (suc (suc r)))) e l o h = absurd (omega arith)
 
-rows_as : (M : ℕ → ℕ) (t q : ℕ) → t ≡ q + 1
+pub rows_as : (M : ℕ → ℕ) (t q : ℕ) → t ≡ q + 1
     → M (4 * t - 3) + 8 * M (4 * t - 2) + 64 * M (4 * t - 1) + 512 * M (4 * t) ≡ M (4 * q + 1) + 8 * M (4 * q + 2) + 64 * M (4 * q + 3) + 512 * M (4 * q + 4)
 rows_as M t q e =
     let a : 4 * t - 3 ≡ 4 * q + 1 = omega arith in

@@ -60,7 +60,7 @@ not_run k g x y e =
 no_cleanup : (k : Plane) (g : Cells) (x y : ℕ) → significant (coef_at g x y) ≡ true → cleanup_at k g x y ≡ Told g
 no_cleanup k g x y e = ap (λ (b : Bool). if b then run_at k g x y else usual_at k g x y) (not_run k g x y e) ∙ usual_marked k g x y e
 
-third_kind : (pass : ℕ) (k : Plane) (g : Cells) (x y : ℕ) → pass % 3 ≡ 0 → pass_at pass k g x y ≡ cleanup_at k g x y
+pub third_kind : (pass : ℕ) (k : Plane) (g : Cells) (x y : ℕ) → pass % 3 ≡ 0 → pass_at pass k g x y ≡ cleanup_at k g x y
 third_kind pass k g x y e = rw e refl
 
 pub full_first : (pass : ℕ) (k : Plane) (g : Cells) (x top rows : ℕ) → pass % 3 ≡ 1 → x < g.width → top % 4 ≡ 0 → rows ≡ min 4 (g.height - top)

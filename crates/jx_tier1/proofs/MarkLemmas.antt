@@ -57,7 +57,7 @@ pub same_place : (w a b c d : ℕ) → a < w → c < w → b * w + a ≡ d * w +
 same_place w a b c d p q e = let r = same_from_place b a d c w p q e in (r.1, r.0)
 
 -- another place
-elsewhere : (g : Cells) (x y : ℕ) (coef : Coef) (c r : ℕ) → x < g.width → IsInside g c r → ((c ≡ x + 1) → (r ≡ y + 1) → ⊥)
+pub elsewhere : (g : Cells) (x y : ℕ) (coef : Coef) (c r : ℕ) → x < g.width → IsInside g c r → ((c ≡ x + 1) → (r ≡ y + 1) → ⊥)
     → coef_at (with_coef g x y coef) (c - 1) (r - 1) ≡ coef_at g (c - 1) (r - 1)
 elsewhere g x y coef c r l i n =
     let a = i.left in
@@ -95,7 +95,7 @@ index_below g x y s =
     let m = mul-le-mul_right {m = y + 1} {n = g.height} g.width (omega arith) in
     omega arith
 
-back : (g : Cells) (x y : ℕ) → coef_at g (x + 1 - 1) (y + 1 - 1) ≡ coef_at g x y
+pub back : (g : Cells) (x y : ℕ) → coef_at g (x + 1 - 1) (y + 1 - 1) ≡ coef_at g x y
 back g x y =
     let e : x + 1 - 1 ≡ x = omega arith in
     let f : y + 1 - 1 ≡ y = omega arith in

@@ -33,14 +33,14 @@ empty_label HL = refl
 empty_label LH = refl
 empty_label HH = refl
 
-no_quotient : (r : ℕ) → 0 / power r % 512 ≡ 0
+pub no_quotient : (r : ℕ) → 0 / power r % 512 ≡ 0
 no_quotient zero = refl
 no_quotient (suc zero) = refl
 no_quotient (suc (suc zero)) = refl
 no_quotient (suc (suc (suc r))) = refl
 
 -- nothing significant is near
-unlabelled : (k : Plane) (g : Cells) (t x y r : ℕ) → 0 < t → r < 4 → y ≡ 4 * t - 4 + r → window g k.causal t x ≡ 0 → label_at k g x y ≡ 0
+pub unlabelled : (k : Plane) (g : Cells) (t x y r : ℕ) → 0 < t → r < 4 → y ≡ 4 * t - 4 + r → window g k.causal t x ≡ 0 → label_at k g x y ≡ 0
 unlabelled k g t x y r p l e z =
     let n : nine g k.causal x y ≡ 0 = sym (nine_at g k.causal t x y r p l e) ∙ (ap (λ (w : ℕ). w / power r % 512) z ∙ no_quotient r) in
     sym (label_is k g x y) ∙ (ap (λ (m : ℕ). label_of k.band m) n ∙ empty_label k.band)
@@ -64,7 +64,7 @@ insignificant g t x y r p l e a b z =
 pub first_kind : (pass : ℕ) (k : Plane) (g : Cells) (x y : ℕ) → pass % 3 ≡ 1 → pass_at pass k g x y ≡ significance_at k g x y
 first_kind pass k g x y e = rw e refl
 
-second_kind : (pass : ℕ) (k : Plane) (g : Cells) (x y : ℕ) → pass % 3 ≡ 2 → pass_at pass k g x y ≡ refinement_at k g x y
+pub second_kind : (pass : ℕ) (k : Plane) (g : Cells) (x y : ℕ) → pass % 3 ≡ 2 → pass_at pass k g x y ≡ refinement_at k g x y
 second_kind pass k g x y e = rw e refl
 
 pub clear_window : (pass : ℕ) (k : Plane) (g : Cells) (x top rows : ℕ) → pass % 3 ≡ 1 → x < g.width → top % 4 ≡ 0 → rows ≡ min 4 (g.height - top)

@@ -35,7 +35,7 @@ impl Model for Field {
 /// A row of a window: what is seen from a place of that row, 0 to 3.
 #[inline(always)]
 #[tactic(auto, using(crate::proofs::WindowLemmas::power_is))]
-fn row_of(window: u32, row: u16) -> u32
+pub(crate) fn row_of(window: u32, row: u16) -> u32
     requires row { row < 4 }
     ensures row { result ≡ window / power row % 512 }
 {
@@ -45,7 +45,7 @@ fn row_of(window: u32, row: u16) -> u32
 /// The weight of a row in a word, 0 to 3.
 #[inline(always)]
 #[tactic(auto, using(crate::proofs::WindowLemmas::digit_is))]
-fn digit(row: u16) -> u16
+pub(crate) fn digit(row: u16) -> u16
     requires { row < 4 }
     ensures { result ≡ power row }
 {
@@ -54,7 +54,7 @@ fn digit(row: u16) -> u16
 
 /// The other stripe whose words have a row, or its own where none other has.
 #[inline(always)]
-fn beside(y: u16) -> usize
+pub(crate) fn beside(y: u16) -> usize
     ensures { result ≡ beside y }
 {
     let stripe = usize::from(y / 4);
@@ -67,7 +67,7 @@ fn beside(y: u16) -> usize
 
 /// The row's weight there.
 #[inline(always)]
-fn weight_beside(y: u16) -> u16
+pub(crate) fn weight_beside(y: u16) -> u16
     ensures { result ≡ weight_beside y }
 {
     match y % 4 {

@@ -2,6 +2,7 @@
 //! block is kept packed, one word for each column of a stripe, and labels are read from a table.
 #![tactic(auto)]
 
+mod answering;
 mod answers;
 mod coefs;
 mod copier;
@@ -12,6 +13,7 @@ mod encoder;
 mod field;
 mod grid;
 mod labels;
+mod marks;
 mod pen;
 mod recode;
 mod recoder;
@@ -19,6 +21,11 @@ mod runs;
 mod scan;
 mod signs;
 mod steps;
+mod turns;
+mod walk;
+mod walk_passes;
+mod walk_runs;
+mod walk_steps;
 mod writer;
 
 pub use decode::{FlagDecoded, decode_flags, sound_flags};

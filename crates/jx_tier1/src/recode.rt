@@ -2,19 +2,22 @@
 
 ghost use Rattle.std.specs.Prelude.{◌≡◌, ◌-◌, ◌*◌, ◌^◌, ◌<◌, ◌≤◌, ℕ, List, map, IfOk, OnOk};
 ghost use Rattle.jx_base.specs.Passes.{is_causal};
-ghost use Rattle.jx_tier1_specs.specs.Cells.{Cells, HasSize, AreWithin};
 ghost use Rattle.jx_tier1_specs.specs.Segments.{bytes_of};
-ghost use Rattle.jx_tier1_specs.specs.Reading.{coding_of, decoded};
+ghost use Rattle.jx_tier1_specs.specs.Reading.{coding_of, decoded, zeros};
 ghost use Rattle.jx_tier1_specs.specs.Needs.{written};
 ghost use Rattle.jx_tier1.specs.Labels.{AreLabels};
-ghost use Rattle.jx_tier1.specs.InStep.{Recoding, recoded_from, to_recode};
+ghost use Rattle.jx_tier1.specs.InStep.{Recoding, recoded_from, to_recode, no_grid};
+ghost use Rattle.jx_tier1.specs.Notes.{Marking, unmarked};
+ghost use Rattle.jx_tier1.specs.Placing.{placed};
+ghost use Rattle.jx_tier1.specs.Turns.{AreTurns};
 ghost use Rattle.jx_tier1_specs.specs.Short.{AreShort};
 
 use crate::copier::Copier;
-use crate::field::Field;
 use crate::labels::labels_of;
+use crate::marks::Marks;
 use crate::pen::Pen;
 use crate::recoder::Recoder;
+use crate::turns::turns_of;
 use jx_base::{NoMemory, Style, is_raw};
 use jx_mq::Contexts;
 use jx_tier1_specs::{Coded, Reader};
@@ -42,20 +45,12 @@ fn room_of(segments: &[&[u8]], style: Style) -> usize {
 }
 
 /// A block of which no pass was decoded.
-fn start<'a>(
-    alloc: Global,
-    width: u16,
-    height: u16,
-    style: Style,
-    segments: &'a [&'a [u8]],
-) -> Result<Recoder<'a>, NoMemory>
-    ensures recoding { IfOk result (λ r. r ≡ to_recode width height style.bits (map bytes_of segments.entry.now)) }
+fn start<'a>(alloc: Global, style: Style, segments: &'a [&'a [u8]]) -> Result<Recoder<'a>, NoMemory>
+    ensures recoding { IfOk result (λ r. r ≡ placed no_grid (to_recode 0 0 style.bits (map bytes_of segments.entry.now))) }
 {
     let room = room_of(segments, style);
-    let field = Field::new(alloc, width, height)?;
     let pen = Pen::new(alloc, is_raw(style, 0), room)?;
     Ok(Recoder {
-        field,
         copier: Copier {
             reader: Reader::new(false, &[], Contexts::new()),
             pen,
@@ -79,28 +74,37 @@ fn end(recoder: Recoder) -> FlagRecoded
 }
 
 /// Decodes the passes of a block and codes them.
-#[tactic(auto, using(crate::proofs::RecodeLemmas::recoded_more, crate::proofs::RecodeLemmas::recoded_end, jx_tier1_specs::proofs::Places::within_more))]
 fn run<'a>(
     recoder: &mut Recoder<'a>,
+    marks: &mut Marks,
     alloc: Global,
     labels: &[u8],
+    turns: &[u8],
     coded: &Coded,
     style: Style,
 ) -> Result<(), NoMemory>
     requires labels { AreLabels coded.now.band labels.now }
+    requires turns { AreTurns turns.now }
     requires some { 1 ≤ coded.now.planes }
     requires planes { coded.now.planes ≤ 74 }
     requires passes { coded.now.passes ≤ 3 * coded.now.planes - 2 }
-    requires size { HasSize recoder.old.cells }
-    requires within { AreWithin coded.now.planes 1 recoder.old.cells }
+    requires fresh { marks.old ≡ unmarked marks.old.width marks.old.height }
+    requires wide { marks.old.width ≤ 1024 }
+    requires high { marks.old.height ≤ 1024 }
     requires rest { AreShort recoder.old.rest }
-    ensures { let planes = coded.now.planes in let band = coded.now.band in
-        OnOk result (recoder.new ≡ recoded_from (coding_of band coded.now.style.bits planes) (coding_of band style.bits planes) coded.now.passes 0 recoder.old) }
+    ensures done { let planes = coded.now.planes in let band = coded.now.band in
+        let start = placed (zeros marks.old.width marks.old.height) recoder.old in
+        OnOk result (recoder.new.done ≡ (recoded_from (coding_of band coded.now.style.bits planes) (coding_of band style.bits planes) coded.now.passes 0 start).done) }
+    ensures wrong { let planes = coded.now.planes in let band = coded.now.band in
+        let start = placed (zeros marks.old.width marks.old.height) recoder.old in
+        OnOk result (recoder.new.wrong ≡ (recoded_from (coding_of band coded.now.style.bits planes) (coding_of band style.bits planes) coded.now.passes 0 start).wrong) }
 {
     for pass in 0..coded.passes {
         recoder.pass(
             alloc,
+            marks,
             labels,
+            turns,
             coded.band,
             coded.style,
             style,
@@ -112,24 +116,32 @@ fn run<'a>(
     Ok(())
 }
 
-/// The same from a table of labels that it makes.
+/// The same from tables of labels and from marks that it makes.
 fn run_block<'a>(
     recoder: &mut Recoder<'a>,
     alloc: Global,
+    width: u16,
+    height: u16,
     coded: &Coded,
     style: Style,
 ) -> Result<(), NoMemory>
     requires some { 1 ≤ coded.now.planes }
     requires planes { coded.now.planes ≤ 74 }
     requires passes { coded.now.passes ≤ 3 * coded.now.planes - 2 }
-    requires size { HasSize recoder.old.cells }
-    requires within { AreWithin coded.now.planes 1 recoder.old.cells }
+    requires wide { width ≤ 1024 }
+    requires high { height ≤ 1024 }
     requires rest { AreShort recoder.old.rest }
-    ensures { let planes = coded.now.planes in let band = coded.now.band in
-        OnOk result (recoder.new ≡ recoded_from (coding_of band coded.now.style.bits planes) (coding_of band style.bits planes) coded.now.passes 0 recoder.old) }
+    ensures done { let planes = coded.now.planes in let band = coded.now.band in
+        let start = placed (zeros width height) recoder.old in
+        OnOk result (recoder.new.done ≡ (recoded_from (coding_of band coded.now.style.bits planes) (coding_of band style.bits planes) coded.now.passes 0 start).done) }
+    ensures wrong { let planes = coded.now.planes in let band = coded.now.band in
+        let start = placed (zeros width height) recoder.old in
+        OnOk result (recoder.new.wrong ≡ (recoded_from (coding_of band coded.now.style.bits planes) (coding_of band style.bits planes) coded.now.passes 0 start).wrong) }
 {
     let labels = labels_of(alloc, coded.band)?;
-    run(recoder, alloc, &labels, coded, style)
+    let turns = turns_of(alloc)?;
+    let mut marks = Marks::new(alloc, width, height)?;
+    run(recoder, &mut marks, alloc, &labels, &turns, coded, style)
 }
 
 /// The segments in another style of a block of at most 1,024 by 1,024 places, from its coded passes
@@ -157,8 +169,8 @@ pub fn recode_flags(
     ensures wrong { let c = coding_of coded.now.band coded.now.style.bits coded.now.planes in
         IfOk result (λ r. r.wrong ≡ (decoded width height c coded.now.segments coded.now.passes).wrong) }
 {
-    let mut recoder = start(alloc, width, height, style, coded.segments.as_slice())?;
-    let result = run_block(&mut recoder, alloc, coded, style);
+    let mut recoder = start(alloc, style, coded.segments.as_slice())?;
+    let result = run_block(&mut recoder, alloc, width, height, coded, style);
     let recoded = end(recoder);
     result?;
     Ok(recoded)

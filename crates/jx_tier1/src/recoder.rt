@@ -1,27 +1,32 @@
 //! One coding pass after another, decoded and coded in step.
 
-ghost use Rattle.std.specs.Prelude.{◌≡◌, ◌+◌, ◌++◌, ◌∷◌, [], ◌/◌, ◌%◌, ◌^◌, ◌==◌, ◌&&◌, ◌||◌, ◌<◌, ℕ, length, drop, OnOk, IfOk};
+ghost use Rattle.std.specs.Prelude.{◌≡◌, ◌+◌, ◌*◌, ◌++◌, ◌∷◌, [], ◌/◌, ◌%◌, ◌^◌, ◌==◌, ◌&&◌, ◌||◌, ◌<◌, ◌≤◌, ℕ, length, drop, OnOk, IfOk};
 ghost use Rattle.jx_base.specs.Passes.{raw_pass, is_causal, has_symbols};
-ghost use Rattle.jx_tier1_specs.specs.Cells.{Cells, HasSize, AreWithin, IsKept};
-ghost use Rattle.jx_tier1_specs.specs.Pass.{IsScan, plane_of};
+ghost use Rattle.jx_tier1_specs.specs.Asking.{told};
+ghost use Rattle.jx_tier1_specs.specs.Cells.{Cells};
+ghost use Rattle.jx_tier1_specs.specs.Pass.{plane_of, scanned};
 ghost use Rattle.jx_tier1_specs.specs.Reading.{coding_of, first_segment, read_symbol, first_wrong, ends_by_symbol};
 ghost use Rattle.jx_tier1.specs.Labels.{AreLabels};
-ghost use Rattle.jx_tier1.specs.InStep.{Recoding, begun, copied, checked, marked, ended, recoded_pass};
+ghost use Rattle.jx_tier1.specs.InStep.{Recoding, begun, checked, copy_by, marked, ended, recoded_pass, renewed_both};
+ghost use Rattle.jx_tier1.specs.Notes.{Marking, Shows, IsOfSize};
+ghost use Rattle.jx_tier1.specs.Placing.{placed, Goes};
+ghost use Rattle.jx_tier1.specs.Turns.{AreTurns};
+ghost use Rattle.jx_tier1.specs.Walking.{by_label, Ends, IsNow};
 ghost use Rattle.jx_tier1_specs.specs.Writing.{fresh_writing, segment_by};
 ghost use Rattle.jx_tier1_specs.specs.Short.{AreShort};
 
 use crate::copier::Copier;
-use crate::field::Field;
-use crate::scan::run_pass;
+use crate::marks::Marks;
+use crate::walk_passes::walk_pass;
 use jx_base::{Band, NoMemory, Style, ends_segment, is_raw};
-use jx_tier1_specs::ask_symbol;
+use jx_tier1_specs::{Plane, ask_symbol};
 use std::alloc::Global;
 use std::marker::Model;
 
-/// A block of which some passes were decoded and coded in step.
+/// A block of which some passes were decoded and coded in step. What is kept of its coefficients
+/// stands apart, in `Marks`.
 #[derive(Drop)]
 pub struct Recoder<'a> {
-    pub field: Field,
     pub copier: Copier<'a>,
     pub segments: &'a [&'a [u8]],
     pub next: usize,
@@ -32,12 +37,12 @@ pub struct Recoder<'a> {
 impl<'a> Model for Recoder<'a> {
     ghost use Rattle.std.specs.Prelude.{map, drop};
     ghost use Rattle.jx_tier1_specs.specs.Segments.{bytes_of};
-    ghost use Rattle.jx_tier1.specs.InStep.{Recoding};
+    ghost use Rattle.jx_tier1.specs.InStep.{Recoding, no_grid};
 
     ghost Value = { Recoding };
 
     ghost view = { λ r. record {
-      cells = r.field;
+      cells = no_grid;
       copying = r.copier;
       rest = map bytes_of (drop r.next r.segments.now);
       wrong = r.wrong;
@@ -75,7 +80,6 @@ impl<'a> Recoder<'a> {
         requires { AreShort self.old.rest }
         ensures recoding { self.new ≡ begun style.bits pass self.old }
         ensures rest { AreShort self.new.rest }
-        ensures cells { self.new.cells ≡ self.old.cells }
     {
         if pass == 0 || ends_segment(style, pass - 1) {
             let segment = self.take_segment();
@@ -84,35 +88,38 @@ impl<'a> Recoder<'a> {
     }
 
     /// A pass's own decisions.
-    #[tactic(auto, unfolding(crate::specs::InStep::copied))]
     fn bits(
         &mut self,
+        marks: &mut Marks,
         labels: &[u8],
+        turns: &[u8],
         band: Band,
         old: Style,
         new: Style,
         planes: u8,
         pass: u16,
     ) -> Result<(), NoMemory>
+        requires few { pass ≤ 220 }
         requires labels { AreLabels band labels.now }
-        requires scan { IsScan (plane_of band (is_causal old.bits) planes pass) }
-        requires size { HasSize self.old.cells }
-        requires within { AreWithin planes ((pass + 2) / 3 + 1) self.old.cells }
-        ensures recoding { OnOk result (self.new ≡ copied (coding_of band old.bits planes) (coding_of band new.bits planes) pass self.old) }
-        ensures kept { OnOk result (IsKept planes ((pass + 2) / 3 + 1) self.old.cells self.new.cells) }
-        ensures rest { OnOk result (self.new.rest ≡ self.old.rest) }
+        requires turns { AreTurns turns.now }
+        requires wide { marks.old.width ≤ 1024 }
+        requires high { marks.old.height ≤ 1024 }
+        ensures size { IsOfSize marks.old marks.new }
+        ensures kept { self.new ≡ record self.old { copying = self.new.copying } }
+        ensures walk { (g : Cells) → Shows planes g marks.old → IsNow (plane_of band (is_causal old.bits) planes pass) g
+            → OnOk result (Ends planes (told (by_label copy_by) (scanned pass (plane_of band (is_causal old.bits) planes pass) (g.width * g.height) 0 g)
+            (renewed_both old.bits new.bits self.old.copying)) marks.new self.new.copying) }
     {
         self.copier.renew(old, new);
         let causal = old.causal();
-        run_pass(
-            &mut self.copier,
-            &mut self.field,
-            labels,
+        let plane = Plane {
             band,
             causal,
             planes,
-            pass,
-        )
+            number: ((pass + 2) / 3) as u8,
+        };
+        walk_pass(&mut self.copier, marks, labels, turns, plane, pass)?;
+        Ok(())
     }
 
     /// Whether the segmentation symbol after a pass of the old style is right, where there is one.
@@ -133,7 +140,6 @@ impl<'a> Recoder<'a> {
     fn check(&mut self, style: Style, pass: u16) -> Result<(), NoMemory>
         ensures recoding { OnOk result (self.new ≡ checked style.bits pass self.old) }
         ensures rest { OnOk result (self.new.rest ≡ self.old.rest) }
-        ensures cells { OnOk result (self.new.cells ≡ self.old.cells) }
     {
         let right = self.symbol(style, pass)?;
         if self.wrong.is_none() && !right {
@@ -147,7 +153,6 @@ impl<'a> Recoder<'a> {
     fn mark(&mut self, style: Style, pass: u16) -> Result<(), NoMemory>
         ensures recoding { OnOk result (self.new ≡ marked style.bits pass self.old) }
         ensures rest { OnOk result (self.new.rest ≡ self.old.rest) }
-        ensures cells { OnOk result (self.new.cells ≡ self.old.cells) }
     {
         if has_symbol(style, pass) {
             return self.copier.pen.symbol();
@@ -176,7 +181,6 @@ impl<'a> Recoder<'a> {
         requires { pass < 65535 }
         ensures recoding { OnOk result (self.new ≡ ended style.bits last pass self.old) }
         ensures rest { OnOk result (self.new.rest ≡ self.old.rest) }
-        ensures cells { OnOk result (self.new.cells ≡ self.old.cells) }
     {
         if !last && !ends_segment(style, pass) {
             return Ok(());
@@ -188,7 +192,9 @@ impl<'a> Recoder<'a> {
     pub fn pass(
         &mut self,
         alloc: Global,
+        marks: &mut Marks,
         labels: &[u8],
+        turns: &[u8],
         band: Band,
         old: Style,
         new: Style,
@@ -197,20 +203,21 @@ impl<'a> Recoder<'a> {
         last: bool,
     ) -> Result<(), NoMemory>
         requires labels { AreLabels band labels.now }
-        requires few { pass < 65535 }
-        requires scan { IsScan (plane_of band (is_causal old.bits) planes pass) }
-        requires size { HasSize self.old.cells }
-        requires within { AreWithin planes ((pass + 2) / 3 + 1) self.old.cells }
+        requires turns { AreTurns turns.now }
+        requires few { pass ≤ 220 }
+        requires wide { marks.old.width ≤ 1024 }
+        requires high { marks.old.height ≤ 1024 }
         requires rest { AreShort self.old.rest }
-        ensures recoding { OnOk result (self.new ≡
-            recoded_pass (coding_of band old.bits planes) (coding_of band new.bits planes) last pass self.old) }
-        ensures kept { OnOk result (IsKept planes ((pass + 2) / 3 + 1) self.old.cells self.new.cells) }
+        ensures size { IsOfSize marks.old marks.new }
         ensures rest { OnOk result (AreShort self.new.rest) }
+        ensures walk { (g : Cells) → Shows planes g marks.old → IsNow (plane_of band (is_causal old.bits) planes pass) g
+            → OnOk result (Goes planes (recoded_pass (coding_of band old.bits planes) (coding_of band new.bits planes) last pass (placed g self.old)) marks.new self.new) }
     {
         self.open(old, pass);
-        self.bits(labels, band, old, new, planes, pass)?;
+        self.bits(marks, labels, turns, band, old, new, planes, pass)?;
         self.check(old, pass)?;
         self.mark(new, pass)?;
-        self.close(alloc, new, pass, last)
+        self.close(alloc, new, pass, last)?;
+        Ok(())
     }
 }

@@ -29,7 +29,7 @@ fn shown(grid: &FlagGrid, causal: bool, y: u16, column: u16, row: u16, marked: b
 /// Which way the signs of two coefficients lean: the sum of those that are significant, cut to -1
 /// to 1 (T.800 table D.2).
 #[inline(always)]
-fn lean(a: (bool, bool), b: (bool, bool)) -> i8
+pub(crate) fn lean(a: (bool, bool), b: (bool, bool)) -> i8
     ensures value { result ≡ leaned a.0 a.1 b.0 b.1 }
     ensures from { negsuc 0 ≤ℤ result }
     ensures to { result ≤ℤ pos 1 }

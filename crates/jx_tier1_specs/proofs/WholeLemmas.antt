@@ -48,7 +48,7 @@ scanned_stays pass k w h (suc count) n m g s a d l =
     (scanned_stays pass k w h count (n + 1) v g s (at_next k w h m v t a b.0 b.1) (due_next k m v g t d b.0 f) (omega arith))
 
 -- before a pass
-abbrev plane_at : Coding → ℕ → Plane
+abbrev pub plane_at : Coding → ℕ → Plane
 plane_at c pass = plane_of c.band (is_causal c.style) c.planes pass
 
 pub record Phase (c : Coding) (w h pass : ℕ) (m : Cells) : Type 0 where
@@ -83,7 +83,7 @@ next_clean c pass v a = clean_more c.planes ((pass + 2) / 3 + 1) ((pass + 1 + 1)
 not_test : (n m : ℕ) → n ≢ m → (n == m) ≡ true → ⊥
 not_test n m h e = h (eqb-true n m e)
 
-phase_next : (c : Coding) (w h pass : ℕ) (m : Cells) → IsScan (plane_at c pass) → Phase c w h pass m → AllLeaves (tree_of c pass m) (Phase c w h (pass + 1))
+pub phase_next : (c : Coding) (w h pass : ℕ) (m : Cells) → IsScan (plane_at c pass) → Phase c w h pass m → AllLeaves (tree_of c pass m) (Phase c w h (pass + 1))
 phase_next c w h pass m s p =
     let k : Plane = plane_at c pass in
     let t : Asking Cells = scanned pass k (w * h) 0 m in
@@ -172,7 +172,7 @@ phase_follow c w h passes (suc count) pass most now g b l q f r =
     (phase_follow c w h passes count (pass + 1) most v g b (omega arith) (omega arith) f (record { phase = p; front = front }))
 
 -- at the start
-zeros_at : (c : Coding) (w h : ℕ) → Phase c w h 0 (zeros w h)
+pub zeros_at : (c : Coding) (w h : ℕ) → Phase c w h 0 (zeros w h)
 zeros_at c w h = record {
   here = record {
     width = refl;

@@ -17,7 +17,7 @@ use Rattle.jx_geom.proofs.CountLemmas.{resolution_low, resolution_high, band_wit
 use Rattle.jx_geom.proofs.LeafLemmas.{bands_low, bands_high}
 use Rattle.jx_geom.proofs.NumberLemmas.{number_in_tile_below, block_number_taken}
 use Rattle.jx_codestream.specs.declared.Stream.{Stream}
-use Rattle.jx_tier2_reader.specs.Blocks.{Found, block_of, one_block, blocks_of_band, blocks_of_resolution, blocks_of_component, blocks_of_tile}
+use Rattle.jx_tier2_reader.specs.Blocks.{FoundPiece, block_of, one_block, blocks_of_band, blocks_of_resolution, blocks_of_component, blocks_of_tile}
 use Rattle.jx_base.specs.Joined.{joined, sum_below}
 use Rattle.jx_base.proofs.Sums.{sum_below_more, sum_once, front_sum, whole_sum}
 use Rattle.jx_base.proofs.Lists.{get_left, get_right}
@@ -26,19 +26,19 @@ use Rattle.jx_base.proofs.Joined.{joined_length, joined_at}
 abbrev named : Geometry → ℕ → ℕ → Band → ℕ → BlockName
 named g c r b i = record { tile = g.tile; comp = c; res = r; band = b; index = i }
 
-ones_long : (s : Stream) (g : Geometry) (founds : List Found) (c r : ℕ) (b : Band) (n : ℕ) → sum_below (λ i. length (one_block s g founds c r b i)) n ≡ n
+ones_long : (s : Stream) (g : Geometry) (founds : List FoundPiece) (c r : ℕ) (b : Band) (n : ℕ) → sum_below (λ i. length (one_block s g founds c r b i)) n ≡ n
 ones_long s g founds c r b zero = refl
 ones_long s g founds c r b (suc n) =
     let before : sum_below (λ i. length (one_block s g founds c r b i)) n ≡ n = ones_long s g founds c r b n in omega arith
 
-band_long : (s : Stream) (g : Geometry) (founds : List Found) (c r : ℕ) (b : Band)
+band_long : (s : Stream) (g : Geometry) (founds : List FoundPiece) (c r : ℕ) (b : Band)
     → length (blocks_of_band s g founds c r b) ≡ block_count (rect_of_tile g) (shape_of g c) r b
 unfolding blocks_of_band
 band_long s g founds c r b =
     joined_length (one_block s g founds c r b) (λ i. length (one_block s g founds c r b i)) (size_of (blocks_in g c r b)) (λ i. refl)
     ∙ ones_long s g founds c r b (size_of (blocks_in g c r b))
 
-in_band : (s : Stream) (g : Geometry) (founds : List Found) (c r : ℕ) (b : Band) (i : ℕ) → i < size_of (blocks_in g c r b)
+in_band : (s : Stream) (g : Geometry) (founds : List FoundPiece) (c r : ℕ) (b : Band) (i : ℕ) → i < size_of (blocks_in g c r b)
     → slice_get (blocks_of_band s g founds c r b) i ≡ Some (block_of s g founds (named g c r b i))
 unfolding blocks_of_band
 in_band s g founds c r b i lt =
@@ -47,20 +47,20 @@ in_band s g founds c r b i lt =
     ap (λ n. slice_get (joined (one_block s g founds c r b) 0 (size_of (blocks_in g c r b))) n) (sym e) ∙ at
 
 -- the blocks of a resolution by its bands
-pub blocks_low : (s : Stream) (g : Geometry) (founds : List Found) (c r : ℕ) → r ≡ 0
+pub blocks_low : (s : Stream) (g : Geometry) (founds : List FoundPiece) (c r : ℕ) → r ≡ 0
     → blocks_of_resolution s g founds c r ≡ blocks_of_band s g founds c r LL
 unfolding blocks_of_resolution
 blocks_low s g founds c r e =
     ap (λ (bands : List Band). flat_map (blocks_of_band s g founds c r) bands) (bands_low r e) ∙ append-nil (blocks_of_band s g founds c r LL)
 
-pub blocks_high : (s : Stream) (g : Geometry) (founds : List Found) (c r : ℕ) → 0 < r
+pub blocks_high : (s : Stream) (g : Geometry) (founds : List FoundPiece) (c r : ℕ) → 0 < r
     → blocks_of_resolution s g founds c r ≡ blocks_of_band s g founds c r HL ++ (blocks_of_band s g founds c r LH ++ blocks_of_band s g founds c r HH)
 unfolding blocks_of_resolution
 blocks_high s g founds c r some =
     ap (λ (bands : List Band). flat_map (blocks_of_band s g founds c r) bands) (bands_high r some)
     ∙ ap (λ (bs : List Block). blocks_of_band s g founds c r HL ++ (blocks_of_band s g founds c r LH ++ bs)) (append-nil (blocks_of_band s g founds c r HH))
 
-resolution_long : (s : Stream) (g : Geometry) (founds : List Found) (c r : ℕ)
+resolution_long : (s : Stream) (g : Geometry) (founds : List FoundPiece) (c r : ℕ)
     → length (blocks_of_resolution s g founds c r) ≡ resolution_blocks (rect_of_tile g) (shape_of g c) r
 resolution_long s g founds c r = elim (cases_lt 0 r) [
   | inl some ↦
@@ -82,7 +82,7 @@ resolution_long s g founds c r = elim (cases_lt 0 r) [
       e ∙ band_long s g founds c r LL ∙ sym (resolution_low (rect_of_tile g) (shape_of g c) r low)
 ]
 
-in_resolution : (s : Stream) (g : Geometry) (founds : List Found) (c r : ℕ) (b : Band) (i : ℕ) → HasBand r b → i < size_of (blocks_in g c r b)
+in_resolution : (s : Stream) (g : Geometry) (founds : List FoundPiece) (c r : ℕ) (b : Band) (i : ℕ) → HasBand r b → i < size_of (blocks_in g c r b)
     → slice_get (blocks_of_resolution s g founds c r) (blocks_before_band (rect_of_tile g) (shape_of g c) r b + i) ≡ Some (block_of s g founds (named g c r b i))
 in_resolution s g founds c r LL i there lt =
     let none : 0 + i ≡ i = omega arith in
@@ -110,18 +110,18 @@ in_resolution s g founds c r HH i there lt =
     ∙ get_right (blocks_of_band s g founds c r LH) (blocks_of_band s g founds c r HH) m i (omega (arith, band_long s g founds c r LH))
     ∙ in_band s g founds c r HH i lt
 
-component_long : (s : Stream) (g : Geometry) (founds : List Found) (c : ℕ) → length (blocks_of_component s g founds c) ≡ component_blocks (rect_of_tile g) (shape_of g c)
+component_long : (s : Stream) (g : Geometry) (founds : List FoundPiece) (c : ℕ) → length (blocks_of_component s g founds c) ≡ component_blocks (rect_of_tile g) (shape_of g c)
 unfolding blocks_of_component component_blocks
 component_long s g founds c =
     joined_length (blocks_of_resolution s g founds c) (resolution_blocks (rect_of_tile g) (shape_of g c)) ((shape_of g c).levels + 1) (resolution_long s g founds c)
 
-pub blocks_long : (s : Stream) (g : Geometry) (founds : List Found) → length (blocks_of_tile s g founds) ≡ tile_blocks (rect_of_tile g) g.shapes
+pub blocks_long : (s : Stream) (g : Geometry) (founds : List FoundPiece) → length (blocks_of_tile s g founds) ≡ tile_blocks (rect_of_tile g) g.shapes
 unfolding blocks_of_tile
 blocks_long s g founds =
     joined_length (blocks_of_component s g founds) (λ c. component_blocks (rect_of_tile g) (shape_of g c)) (length g.shapes) (component_long s g founds)
     ∙ sym (whole_sum (component_blocks (rect_of_tile g)) g.shapes no_shape)
 
-in_component : (s : Stream) (g : Geometry) (founds : List Found) (n : BlockName) → HasBlock g n
+in_component : (s : Stream) (g : Geometry) (founds : List FoundPiece) (n : BlockName) → HasBlock g n
     → slice_get (blocks_of_component s g founds n.comp) (number_in_component (rect_of_tile g) (shape_of g n.comp) n.res n.band n.index)
     ≡ Some (block_of s g founds (named g n.comp n.res n.band n.index))
 unfolding blocks_of_component
@@ -149,7 +149,7 @@ number_is : (g : Geometry) (n : BlockName) → n.comp ≤ length g.shapes
 unfolding number_in_tile
 number_is g n le = omega (arith, front_sum (component_blocks (rect_of_tile g)) g.shapes no_shape n.comp le)
 
-in_tile : (s : Stream) (g : Geometry) (founds : List Found) (n : BlockName) → HasBlock g n
+in_tile : (s : Stream) (g : Geometry) (founds : List FoundPiece) (n : BlockName) → HasBlock g n
     → slice_get (blocks_of_tile s g founds) (number_in_tile g n) ≡ Some (block_of s g founds (named g n.comp n.res n.band n.index))
 unfolding blocks_of_tile
 in_tile s g founds n h =
@@ -158,7 +158,7 @@ in_tile s g founds n h =
     (number_in_component (rect_of_tile g) (shape_of g n.comp) n.res n.band n.index) (component_long s g founds) h.resolution.component (within_component g n h)
     ∙ in_component s g founds n h
 
-pub block_there : (s : Stream) (g : Geometry) (founds : List Found) (n : BlockName) → HasBlock g n
+pub block_there : (s : Stream) (g : Geometry) (founds : List FoundPiece) (n : BlockName) → HasBlock g n
     → slice_get (blocks_of_tile s g founds) (number_in_tile g n) ≡ Some (block_of s g founds n)
 block_there s g founds n h =
     let P : ℕ → Type 0 = λ t. slice_get (blocks_of_tile s g founds) (number_in_tile g n) ≡ Some (block_of s g founds (record { tile = t; comp = n.comp; res = n.res; band = n.band; index = n.index })) in
@@ -178,13 +178,13 @@ number_named g i h lt =
     let Q : ℕ → Type 0 = λ t. number_in_tile (geometry_of g.canvas shapes t) n ≡ i in
     (n, (subst P one.0 taken.1.0.1, subst Q one.0 one.1))
 
-pub record BlockAt (s : Stream) (g : Geometry) (founds : List Found) (i : ℕ) : Type 0 where
+pub record BlockAt (s : Stream) (g : Geometry) (founds : List FoundPiece) (i : ℕ) : Type 0 where
   pub name : BlockName
   pub there : HasBlock g name
   pub number : number_in_tile g name ≡ i
   pub found : slice_get (blocks_of_tile s g founds) i ≡ Some (block_of s g founds name)
 
-pub block_named : (s : Stream) (g : Geometry) (founds : List Found) (i : ℕ) → GeometryInRange g → i < length (blocks_of_tile s g founds) → BlockAt s g founds i
+pub block_named : (s : Stream) (g : Geometry) (founds : List FoundPiece) (i : ℕ) → GeometryInRange g → i < length (blocks_of_tile s g founds) → BlockAt s g founds i
 block_named s g founds i h lt =
     let n = number_named g i h (omega (arith, blocks_long s g founds)) in
     record {

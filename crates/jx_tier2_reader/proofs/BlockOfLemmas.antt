@@ -28,7 +28,7 @@ use Rattle.jx_tile.specs.Cells.{precinct_bands}
 use Rattle.jx_tier2_reader.specs.Fresh.{fresh_precinct}
 use Rattle.jx_geom.specs.Precincts.{leaf_number}
 use Rattle.jx_tier2_reader.specs.Cuts.{Cut, Left, names_of}
-use Rattle.jx_tier2_reader.specs.Blocks.{Found, founds_of, own_founds, pieces_in, zero_from, block_of}
+use Rattle.jx_tier2_reader.specs.Blocks.{FoundPiece, founds_of, own_founds, pieces_in, zero_from, block_of}
 use Rattle.jx_tile.specs.Covered.{IsListOf}
 use Rattle.jx_tier2_reader.specs.Gathered.{IsCutUp, AreTileBlocks, IsGathered, start}
 use Rattle.jx_tier2_reader.specs.BlockOf.{pieces_at, AreCutAsRead, IsBlockOf, IsFoundOf, AreBlocksOf}
@@ -44,7 +44,7 @@ use Rattle.jx_tier2_reader.proofs.SoundLemmas.{fresh_unknown, IsBegun, OfNumber,
 use Rattle.jx_geom.proofs.SameLemmas.{same_sum as sum_same}
 
 -- ---- one block
-none_mapped : (founds : List Found) → pieces_in founds ≡ [] → founds ≡ []
+none_mapped : (founds : List FoundPiece) → pieces_in founds ≡ [] → founds ≡ []
 none_mapped [] e = refl
 none_mapped (f ∷ founds) e = absurd (cc)
 
@@ -55,8 +55,8 @@ few_own b s t cuts left number layer h =
     g : Geometry
     g = geometry s t
 
-    by : (own : List Found) → own_founds number (founds_of (geometry s t) cuts) ≡ own → AllByRecursion (OfNumber (geometry s t) number) own → in_layer layer number (founds_of (geometry s t) cuts) ≤ 164
-    by [] e all = (let none : in_layer layer number (founds_of (geometry s t) cuts) ≡ 0 = ap (λ (l : List Found). passes_at layer (pieces_in l)) e in omega arith)
+    by : (own : List FoundPiece) → own_founds number (founds_of (geometry s t) cuts) ≡ own → AllByRecursion (OfNumber (geometry s t) number) own → in_layer layer number (founds_of (geometry s t) cuts) ≤ 164
+    by [] e all = (let none : in_layer layer number (founds_of (geometry s t) cuts) ≡ 0 = ap (λ (l : List FoundPiece). passes_at layer (pieces_in l)) e in omega arith)
     by (f ∷ own) e all =
         let leaf : FromLeaf (geometry s t) f = all.0.leaf in
         let same : leaf_number (geometry s t) leaf.comp leaf.res leaf.precinct leaf.block ≡ number = leaf.number ∙ all.0.number in
@@ -85,7 +85,7 @@ block_is b s t cuts left n h low is =
     let e : n.tile ≡ t = is.tile in
     let g : Geometry = geometry s t in
     let number : ℕ = number_in_tile g n in
-    let founds : List Found = founds_of g cuts in
+    let founds : List FoundPiece = founds_of g cuts in
     let T : ℕ → Type 0 = λ x. All (λ (p : PieceValue). p.layer < layers_of s x) (pieces_in (own_founds number founds)) in
     let block : Block = block_of s g founds n in
     record {

@@ -7,7 +7,7 @@ use Rattle.std.proofs.lemmas.List.Sums.{sum_by-cons}
 use Rattle.jx_marker.specs.Segments.{spelling}
 use Rattle.jx_marker.specs.declared.Segment.{Segment}
 use Rattle.jx_marker.specs.declared.Segment.TheVariants as segment
-use Rattle.jx_codestream.specs.declared.parts.Part.{Part}
+use Rattle.jx_codestream.specs.declared.parts.PlacedPart.{PlacedPart}
 use Rattle.jx_codestream.specs.declared.Body.{Body}
 use Rattle.jx_codestream.specs.declared.Stream.{Stream}
 use Rattle.jx_codestream.specs.declared.Tile.{Tile}
@@ -28,13 +28,13 @@ between soc siz main parts rest =
     omega arith
 
 -- the data of those tile-parts that a test picks
-abbrev bodies_by : (Part → Bool) → List Part → List Body
-bodies_by test parts = map (λ (p : Part). p.body) (filter test parts)
+abbrev bodies_by : (PlacedPart → Bool) → List PlacedPart → List Body
+bodies_by test parts = map (λ (p : PlacedPart). p.body) (filter test parts)
 
 part_length : (comps : ℕ) (p : TilePart) → length (part_bytes comps p) ≡ length (head_bytes comps p) + length p.body
 part_length comps p = length-append (head_bytes comps p) p.body
 
-inside : (test : Part → Bool) (comps at n : ℕ) (ps : List TilePart) → at + length (flat_map (part_bytes comps) ps) ≤ n →
+inside : (test : PlacedPart → Bool) (comps at n : ℕ) (ps : List TilePart) → at + length (flat_map (part_bytes comps) ps) ≤ n →
     AllByRecursion (λ (body : Body). body.at + body.length ≤ n) (bodies_by test (placed comps at ps))
 inside test comps at n [] le = tt
 inside test comps at n (p ∷ ps) le =
@@ -43,21 +43,21 @@ inside test comps at n (p ∷ ps) le =
     by (test (part_of comps at p)) (omega arith) (inside test comps (at + length (part_bytes comps p)) n ps (omega arith))
   where
     by : (c : Bool) → at + length (head_bytes comps p) + length p.body ≤ n → AllByRecursion (λ (body : Body). body.at + body.length ≤ n) (bodies_by test (placed comps (at + length (part_bytes comps p)) ps)) →
-        AllByRecursion (λ (body : Body). body.at + body.length ≤ n) (map (λ (q : Part). q.body) (cond c (part_of comps at p ∷ filter test (placed comps (at + length (part_bytes comps p)) ps)) (filter test (placed comps (at + length (part_bytes comps p)) ps))))
+        AllByRecursion (λ (body : Body). body.at + body.length ≤ n) (map (λ (q : PlacedPart). q.body) (cond c (part_of comps at p ∷ filter test (placed comps (at + length (part_bytes comps p)) ps)) (filter test (placed comps (at + length (part_bytes comps p)) ps))))
     by true h later = (h, later)
     by false h later = later
 
-together : (test : Part → Bool) (comps at : ℕ) (ps : List TilePart) → sum_by (λ (body : Body). body.length) (bodies_by test (placed comps at ps)) ≤ length (flat_map (part_bytes comps) ps)
+together : (test : PlacedPart → Bool) (comps at : ℕ) (ps : List TilePart) → sum_by (λ (body : Body). body.length) (bodies_by test (placed comps at ps)) ≤ length (flat_map (part_bytes comps) ps)
 together test comps at [] = omega arith
 together test comps at (p ∷ ps) =
     let a : length (part_bytes comps p ++ flat_map (part_bytes comps) ps) ≡ length (part_bytes comps p) + length (flat_map (part_bytes comps) ps) = length-append (part_bytes comps p) (flat_map (part_bytes comps) ps) in
     let l : length (part_bytes comps p) ≡ length (head_bytes comps p) + length p.body = part_length comps p in
-    let some : sum_by (λ (body : Body). body.length) (map (λ (q : Part). q.body) (cond (test (part_of comps at p)) (part_of comps at p ∷ filter test (placed comps (at + length (part_bytes comps p)) ps)) (filter test (placed comps (at + length (part_bytes comps p)) ps))))
+    let some : sum_by (λ (body : Body). body.length) (map (λ (q : PlacedPart). q.body) (cond (test (part_of comps at p)) (part_of comps at p ∷ filter test (placed comps (at + length (part_bytes comps p)) ps)) (filter test (placed comps (at + length (part_bytes comps p)) ps))))
     ≤ length p.body + length (flat_map (part_bytes comps) ps) = by (test (part_of comps at p)) (together test comps (at + length (part_bytes comps p)) ps) in
     omega arith
   where
     by : (c : Bool) → sum_by (λ (body : Body). body.length) (bodies_by test (placed comps (at + length (part_bytes comps p)) ps)) ≤ length (flat_map (part_bytes comps) ps) →
-        sum_by (λ (body : Body). body.length) (map (λ (q : Part). q.body) (cond c (part_of comps at p ∷ filter test (placed comps (at + length (part_bytes comps p)) ps)) (filter test (placed comps (at + length (part_bytes comps p)) ps))))
+        sum_by (λ (body : Body). body.length) (map (λ (q : PlacedPart). q.body) (cond c (part_of comps at p ∷ filter test (placed comps (at + length (part_bytes comps p)) ps)) (filter test (placed comps (at + length (part_bytes comps p)) ps))))
         ≤ length p.body + length (flat_map (part_bytes comps) ps)
     by true h =
         let later = bodies_by test (placed comps (at + length (part_bytes comps p)) ps) in
@@ -67,12 +67,12 @@ together test comps at (p ∷ ps) =
     by false h = omega arith
 
 -- those of a tile
-tile_bodies : (main : List Segment) (parts : List Part) (tiles : List Tile) (n t : ℕ) → tiles ≡ tiles_of main parts n → t < n →
+tile_bodies : (main : List Segment) (parts : List PlacedPart) (tiles : List Tile) (n t : ℕ) → tiles ≡ tiles_of main parts n → t < n →
     get_or tiles t no_tile ≡ tile_of main parts t
 tile_bodies main parts tiles n t is lt =
     ap (λ (l : List Tile). get_or l t no_tile) is ∙ get_or-map-range_with_len (tile_of main parts) 0 n t t no_tile lt (let e : 0 + t ≡ t = omega arith in e)
 
-bodies_are : (main : List Segment) (parts : List Part) (t : ℕ) → (tile_of main parts t).bodies ≡ bodies_by (λ (p : Part). p.sot.tile == t) parts
+bodies_are : (main : List Segment) (parts : List PlacedPart) (t : ℕ) → (tile_of main parts t).bodies ≡ bodies_by (λ (p : PlacedPart). p.sot.tile == t) parts
 unfolding tile_of
 bodies_are main parts t = refl
 
@@ -87,8 +87,8 @@ read_data b s t r lt =
     let long : length b ≡ length (soc ++ (siz ++ (main ++ (bodies ++ rest)))) = ap length w.bytes in
     let le : length soc + length siz + length main + length bodies ≤ length (soc ++ (siz ++ (main ++ (bodies ++ rest)))) = between soc siz main bodies rest in
     let within : first_sot s.siz s.main + length bodies ≤ length b = omega arith in
-    let all : List Part = placed (length s.siz.comps) (first_sot s.siz s.main) w.parts in
-    let test : Part → Bool = λ (p : Part). p.sot.tile == t in
+    let all : List PlacedPart = placed (length s.siz.comps) (first_sot s.siz s.main) w.parts in
+    let test : PlacedPart → Bool = λ (p : PlacedPart). p.sot.tile == t in
     let is : (tile_at s t).bodies ≡ bodies_by test all = ap (λ (x : Tile). x.bodies) (tile_bodies s.main all s.tiles (tile_number s.siz) t w.tiles lt) ∙ bodies_are s.main all t in
     let sum : sum_by (λ (body : Body). body.length) (bodies_by test all) ≤ length bodies = together test (length s.siz.comps) (first_sot s.siz s.main) w.parts in
     subst (λ (l : List Body). DataInRange b l) (sym is) (record {

@@ -7,7 +7,7 @@ use Rattle.std.proofs.lemmas.List.{map-append}
 use Rattle.std.proofs.lemmas.Option.{same_Some}
 use Rattle.jx_base.specs.Pieces.{PieceValue, passes_at, passes_below}
 use Rattle.jx_geom.specs.Geometry.{Geometry, GeometryInRange}
-use Rattle.jx_packet_header.specs.declared.Part.{Part}
+use Rattle.jx_packet_header.specs.declared.HeaderPart.{HeaderPart}
 use Rattle.jx_packet_header.specs.Parts.{cut}
 use Rattle.jx_packet_header.specs.Written.{passes_of}
 use Rattle.jx_packet_header.specs.Packet.{State}
@@ -19,7 +19,7 @@ use Rattle.jx_geom.specs.Precincts.{leaves}
 use Rattle.jx_geom.specs.Precincts.{HasPrecinct, precinct_number, leaf_number}
 use Rattle.jx_tier2_reader.specs.Data.{window, header_in}
 use Rattle.jx_tier2_reader.specs.Cuts.{Cut, Left, IsTurn, number_of}
-use Rattle.jx_tier2_reader.specs.Blocks.{Found, founds_from, founds_in, founds_of, own_founds, pieces_in}
+use Rattle.jx_tier2_reader.specs.Blocks.{FoundPiece, founds_from, founds_in, founds_of, own_founds, pieces_in}
 use Rattle.jx_tier2_reader.specs.BlockOf.{pieces_at}
 use Rattle.jx_geom.proofs.PrecinctLemmas.{precinct_once}
 use Rattle.jx_tier2_reader.proofs.PartLemmas.{own_parts, known_in, packet_goes}
@@ -40,23 +40,23 @@ abbrev passes_list : List PieceValue → List ℕ
 passes_list qs = map (λ (q : PieceValue). q.passes) qs
 
 -- the pieces of a block in a packet have the passes of its parts
-founds_passes : (g : Geometry) (p : PacketName) (k : State) (j : ℕ) (bytes : List ℕ) (parts : List Part) → Apart g p (leaf_number g p.comp p.res p.precinct j) j parts
-    → passes_list (pieces_in (own_founds (leaf_number g p.comp p.res p.precinct j) (founds_from g p k bytes parts))) ≡ map (λ (q : Part). q.passes) (own_parts j parts)
-founds_passes g p k j bytes [] apart = ap (λ (l : List Found). passes_list (pieces_in l)) (own_nothing (leaf_number g p.comp p.res p.precinct j))
+founds_passes : (g : Geometry) (p : PacketName) (k : State) (j : ℕ) (bytes : List ℕ) (parts : List HeaderPart) → Apart g p (leaf_number g p.comp p.res p.precinct j) j parts
+    → passes_list (pieces_in (own_founds (leaf_number g p.comp p.res p.precinct j) (founds_from g p k bytes parts))) ≡ map (λ (q : HeaderPart). q.passes) (own_parts j parts)
+founds_passes g p k j bytes [] apart = ap (λ (l : List FoundPiece). passes_list (pieces_in l)) (own_nothing (leaf_number g p.comp p.res p.precinct j))
 founds_passes g p k j bytes (q ∷ parts) apart =
     let number : ℕ = leaf_number g p.comp p.res p.precinct j in
-    let f : Found = found_from g p k bytes q in
-    let later : List Found = founds_from g p k (drop q.length bytes) parts in
-    let again : passes_list (pieces_in (own_founds number later)) ≡ map (λ (x : Part). x.passes) (own_parts j parts) = founds_passes g p k j (drop q.length bytes) parts apart.1 in
+    let f : FoundPiece = found_from g p k bytes q in
+    let later : List FoundPiece = founds_from g p k (drop q.length bytes) parts in
+    let again : passes_list (pieces_in (own_founds number later)) ≡ map (λ (x : HeaderPart). x.passes) (own_parts j parts) = founds_passes g p k j (drop q.length bytes) parts apart.1 in
     elim (cases_eq q.block j) [
       | inl e ↦
-          ap (λ (l : List Found). passes_list (pieces_in l)) (own_here number f later (ap (leaf_number g p.comp p.res p.precinct) e))
+          ap (λ (l : List FoundPiece). passes_list (pieces_in l)) (own_here number f later (ap (leaf_number g p.comp p.res p.precinct) e))
           ∙ ap (λ (ns : List ℕ). q.passes ∷ ns) again
-          ∙ sym (ap (map (λ (x : Part). x.passes)) (cond-true (q.block == j) (q ∷ own_parts j parts) (own_parts j parts) (eq-eqb q.block j e)))
+          ∙ sym (ap (map (λ (x : HeaderPart). x.passes)) (cond-true (q.block == j) (q ∷ own_parts j parts) (own_parts j parts) (eq-eqb q.block j e)))
       | inr ne ↦
-          ap (λ (l : List Found). passes_list (pieces_in l)) (own_past number f later (λ (e : f.number ≡ number). ne (apart.0 e)))
+          ap (λ (l : List FoundPiece). passes_list (pieces_in l)) (own_past number f later (λ (e : f.number ≡ number). ne (apart.0 e)))
           ∙ again
-          ∙ sym (ap (map (λ (x : Part). x.passes)) (cond-false (q.block == j) (q ∷ own_parts j parts) (own_parts j parts) (ne_eqb q.block j ne)))
+          ∙ sym (ap (map (λ (x : HeaderPart). x.passes)) (cond-false (q.block == j) (q ∷ own_parts j parts) (own_parts j parts) (ne_eqb q.block j ne)))
     ]
 
 -- equal lists of passes, equal sums
@@ -68,7 +68,7 @@ sum_pieces : (qs : List PieceValue) → sum_list (passes_list qs) ≡ total qs
 sum_pieces [] = refl
 sum_pieces (q ∷ qs) = ap (λ (n : ℕ). q.passes + n) (sum_pieces qs)
 
-sum_parts : (ps : List Part) → sum_list (map (λ (p : Part). p.passes) ps) ≡ passes_of ps
+sum_parts : (ps : List HeaderPart) → sum_list (map (λ (p : HeaderPart). p.passes) ps) ≡ passes_of ps
 sum_parts [] = refl
 sum_parts (p ∷ ps) = ap (λ (n : ℕ). p.passes + n) (sum_parts ps)
 
@@ -176,7 +176,7 @@ cut_join style first m ps qs at over own rest layer = elim (cases_eq layer m) [
 -- ---- over packets
 own_found_join : (number : ℕ) (g : Geometry) (c : Cut) (cuts : List Cut) → pieces_in (own_founds number (founds_of g (c ∷ cuts))) ≡ pieces_in (own_founds number (founds_in g c)) ++ pieces_in (own_founds number (founds_of g cuts))
 own_found_join number g c cuts =
-    ap (λ (l : List Found). pieces_in l) (own_cons number g c cuts) ∙ map-append (λ (f : Found). f.piece) (own_founds number (founds_in g c)) (own_founds number (founds_of g cuts))
+    ap (λ (l : List FoundPiece). pieces_in l) (own_cons number g c cuts) ∙ map-append (λ (f : FoundPiece). f.piece) (own_founds number (founds_in g c)) (own_founds number (founds_of g cuts))
 
 walk_on : (b : List ℕ) (s : Stream) (g : Geometry) (number : ℕ) (old : Left) (d : Cut) (cuts : List Cut) (new : Left) → (w : Walk b s g number old (d ∷ cuts) new) → Walk b s g (number + 1) w.are.0 cuts new
 walk_on b s g number old d cuts new w = record { there = w.there.1; rise = w.rise.1; follow = turn_follows b s g number old d w.are.0 w.follow w.are.1; are = w.are.2 }
@@ -185,7 +185,7 @@ own_elsewhere_in : (b : List ℕ) (s : Stream) (g : Geometry) (c r k j number : 
     → HasPrecinct g d.name.comp d.name.res d.name.precinct → AllFollow s g old.states → (number_of g d.name ≡ precinct_number g c r k → ⊥) → IsTurn b g number old d next
     → pieces_in (own_founds (leaf_number g c r k j) (founds_in g d)) ≡ []
 own_elsewhere_in b s g c r k j number old d next h has lt own follow ne turn =
-    ap (λ (l : List Found). pieces_in l)
+    ap (λ (l : List FoundPiece). pieces_in l)
     (own_elsewhere g d.name d.after (leaf_number g c r k j) d.bytes d.parts (parts_elsewhere g d.name c r k j d.parts h own has lt ne (turn_inside b s g number old d next follow own turn)))
 
 over_join : (m : ℕ) (ps qs : List PieceValue) → AreOver m ps → AreOver m qs → AreOver m (ps ++ qs)
@@ -199,7 +199,7 @@ over_at m layer (p ∷ ps) a lt = ((let e : p.layer ≡ layer = a.0 in omega ari
 -- packets of higher layers have pieces of higher layers
 higher_over : (b : List ℕ) (s : Stream) (g : Geometry) (m c r k j number : ℕ) (old : Left) (cuts : List Cut) (new : Left) → GeometryInRange g → HasPrecinct g c r k → j < leaves g c r k
     → Walk b s g number old cuts new → AreHigher g (precinct_number g c r k) m cuts → AreOver m (pieces_in (own_founds (leaf_number g c r k j) (founds_of g cuts)))
-higher_over b s g m c r k j number old [] new h has lt w high = subst (λ (l : List Found). AreOver m (pieces_in l)) (sym (own_nil (leaf_number g c r k j) g)) tt
+higher_over b s g m c r k j number old [] new h has lt w high = subst (λ (l : List FoundPiece). AreOver m (pieces_in l)) (sym (own_nil (leaf_number g c r k j) g)) tt
 higher_over b s g m c r k j number old (d ∷ cuts) new h has lt w high =
     let later = higher_over b s g m c r k j (number + 1) w.are.0 cuts new h has lt (walk_on b s g number old d cuts new w) high.1 in
     let own : List PieceValue = pieces_in (own_founds (leaf_number g c r k j) (founds_in g d)) in
@@ -221,7 +221,7 @@ turned b s g number j old d next h follow own t lt =
     let bytes : List ℕ = header_in (window b t.body) in
     let leaf : ℕ = leaf_number g d.name.comp d.name.res d.name.precinct j in
     let inside : j < length (all_blocks t.state.bands) = subst (λ (n : ℕ). j < n) (sym f.count) lt in
-    let passes : passes_list (pieces_in (own_founds leaf (founds_in g d))) ≡ map (λ (q : Part). q.passes) (own_parts j d.parts) =
+    let passes : passes_list (pieces_in (own_founds leaf (founds_in g d))) ≡ map (λ (q : HeaderPart). q.passes) (own_parts j d.parts) =
     founds_passes g d.name d.after j d.bytes d.parts (parts_apart g d.name j d.parts h own lt (turn_inside b s g number old d next follow own t)) in
     let sum : total (pieces_in (own_founds leaf (founds_in g d))) ≡ passes_of (own_parts j d.parts) =
     sym (sum_pieces (pieces_in (own_founds leaf (founds_in g d)))) ∙ ap sum_list passes ∙ sum_parts (own_parts j d.parts) in
@@ -237,7 +237,7 @@ pub cut_over : (b : List ℕ) (s : Stream) (g : Geometry) (c r k j number : ℕ)
     → Walk b s g number old cuts new → slice_get old.states (precinct_number g c r k) ≡ Some state
     → CutFrom (style_of s g.tile c) (known_in state.bands j).passes (pieces_in (own_founds (leaf_number g c r k j) (founds_of g cuts)))
 cut_over b s g c r k j number [] old new state h has lt w found =
-    subst (λ (l : List Found). CutFrom (style_of s g.tile c) (known_in state.bands j).passes (pieces_in l)) (sym (own_nil (leaf_number g c r k j) g))
+    subst (λ (l : List FoundPiece). CutFrom (style_of s g.tile c) (known_in state.bands j).passes (pieces_in l)) (sym (own_nil (leaf_number g c r k j) g))
     (cut_nothing (style_of s g.tile c) (known_in state.bands j).passes)
 cut_over b s g c r k j number (d ∷ cuts) old new state h has lt w found =
     let on : Walk b s g (number + 1) w.are.0 cuts new = walk_on b s g number old d cuts new w in

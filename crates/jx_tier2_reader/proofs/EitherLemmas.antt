@@ -9,7 +9,7 @@ use Rattle.jx_base.proofs.Lists.{push_on}
 use Rattle.jx_tagtree.specs.declared.BitFault.{BitFault}
 use Rattle.jx_tagtree.specs.Header.{bits_of, end_after, Reading, start_of}
 use Rattle.jx_geom.specs.Geometry.{Geometry, GeometryInRange}
-use Rattle.jx_packet_header.specs.declared.Part.{Part}
+use Rattle.jx_packet_header.specs.declared.HeaderPart.{HeaderPart}
 use Rattle.jx_packet_header.specs.declared.HeadFault.{HeadFault}
 use Rattle.jx_packet_header.specs.Packet.{State, IsPacket, header_bits}
 use Rattle.jx_packet_header.specs.Kept.{AreBands}
@@ -48,7 +48,7 @@ use Rattle.jx_codestream.specs.declared.faults.StreamFault.TheVariants as fault
 -- ---- a header
 -- it stands there, or it breaks a rule
 abbrev HeaderOr : List ℕ → ℕ → State → Type 0
-HeaderOr h at k = ((parts : List Part) × ((used : ℕ) × ((after : State) × IsPacket h k parts used after))) ⊎ ((f : StreamFault) × BreaksHeader h at k f)
+HeaderOr h at k = ((parts : List HeaderPart) × ((used : ℕ) × ((after : State) × IsPacket h k parts used after))) ⊎ ((f : StreamFault) × BreaksHeader h at k f)
 
 bits_differ : head.Bits ≡ head.Planes → ⊥
 bits_differ e = cc
@@ -108,7 +108,7 @@ header_or h at k b = header_by h at k b (scan_header k (bits_of h).bits) refl
 abbrev PacketOr : List ℕ → ℕ → ℕ → State → PacketName → Type 0
 PacketOr w at number k p = ((c : Cut) × ((c.name ≡ p) × IsCut w number k c)) ⊎ ((f : StreamFault) × Breaks w at number k f)
 
-abbrev cut_of : List ℕ → PacketName → List Part → ℕ → State → Cut
+abbrev cut_of : List ℕ → PacketName → List HeaderPart → ℕ → State → Cut
 cut_of w p parts used after = record {
   name = p;
   count = front_length w used + parts_length parts;
@@ -118,7 +118,7 @@ cut_of w p parts used after = record {
   after = after;
 }
 
-body_by : (w : List ℕ) (at number : ℕ) (k : State) (p : PacketName) (parts : List Part) (used : ℕ) (after : State) → sop_fault w at number ≡ None → IsPacket (header_in w) k parts used after
+body_by : (w : List ℕ) (at number : ℕ) (k : State) (p : PacketName) (parts : List HeaderPart) (used : ℕ) (after : State) → sop_fault w at number ≡ None → IsPacket (header_in w) k parts used after
     → (o : Option StreamFault) → body_fault w at used parts ≡ o → PacketOr w at number k p
 body_by w at number k p parts used after sop header None body = inl (cut_of w p parts used after, (refl, cut_made w at number k (cut_of w p parts used after) sop header body refl refl))
 body_by w at number k p parts used after sop header (Some f) body = inr (f, inr (sop, inr (record { parts = parts; used = used; after = after; header = header; body = body })))

@@ -4,23 +4,23 @@ use Rattle.std.specs.List.{AllByRecursion, filter}
 use Rattle.std.proofs.lemmas.Bool.{cases_lt, cases_eq, eq-eqb, ne_eqb, cond-true, cond-false}
 use Rattle.jx_base.specs.Pieces.{PieceValue, passes_at}
 use Rattle.jx_geom.specs.Geometry.{Geometry}
-use Rattle.jx_packet_header.specs.declared.Part.{Part}
+use Rattle.jx_packet_header.specs.declared.HeaderPart.{HeaderPart}
 use Rattle.jx_packet_header.specs.Parts.{cut}
 use Rattle.jx_packet_header.specs.Written.{passes_of}
 use Rattle.jx_packet_header.specs.Packet.{Cells, State, Values, Entry, nothing, contributes, block_at, IsIncluded, zero_planes, entry_after, IsEntry, AreEntries, parts_told, BandTold, AreBandsTold, bands_parts, Header, IsPacket}
 use Rattle.jx_packet_header.specs.Precinct.{all_blocks}
 use Rattle.jx_progression.specs.declared.names.PacketName.{PacketName}
 use Rattle.jx_geom.specs.Precincts.{leaf_number}
-use Rattle.jx_tier2_reader.specs.Blocks.{Found, zero_in, founds_from, own_founds, pieces_in}
+use Rattle.jx_tier2_reader.specs.Blocks.{FoundPiece, zero_in, founds_from, own_founds, pieces_in}
 use Rattle.jx_tier2_reader.proofs.PartLemmas.{own_parts, AreSteps, AreWithin, steps_from, cut_runs, own_none, own_left, own_right, entry_within, blocks_within, bands_within}
 use Rattle.jx_tier2_reader.proofs.GrowLemmas.{Apart}
 
 -- ---- parts
-pub steps_sum : (style first last : ℕ) (ps : List Part) → AreSteps style first last ps → first + passes_of ps ≡ last
+pub steps_sum : (style first last : ℕ) (ps : List HeaderPart) → AreSteps style first last ps → first + passes_of ps ≡ last
 steps_sum style first last [] a = let e : first ≡ last = a in omega arith
 steps_sum style first last (p ∷ ps) a = let e : first + p.passes + passes_of ps ≡ last = steps_sum style (first + p.passes) last ps a.1 in omega arith
 
-own_fewer : (i : ℕ) (ps : List Part) → passes_of (own_parts i ps) ≤ passes_of ps
+own_fewer : (i : ℕ) (ps : List HeaderPart) → passes_of (own_parts i ps) ≤ passes_of ps
 own_fewer i [] = omega arith
 own_fewer i (p ∷ ps) = by (p.block == i) (own_fewer i ps)
   where
@@ -29,16 +29,16 @@ own_fewer i (p ∷ ps) = by (p.block == i) (own_fewer i ps)
     by false h = omega arith
 
 -- at most 164 passes of each block
-abbrev Few : List Part → Type 0
+abbrev Few : List HeaderPart → Type 0
 Few ps = (i : ℕ) → passes_of (own_parts i ps) ≤ 164
 
 few_none : Few []
 few_none i = omega arith
 
-few_append : (low mid high : ℕ) (ps qs : List Part) → AreWithin low mid ps → AreWithin mid high qs → Few ps → Few qs → Few (ps ++ qs)
+few_append : (low mid high : ℕ) (ps qs : List HeaderPart) → AreWithin low mid ps → AreWithin mid high qs → Few ps → Few qs → Few (ps ++ qs)
 few_append low mid high ps qs a b f g i = elim (cases_lt i mid) [
-  | inl lt ↦ subst (λ (l : List Part). passes_of l ≤ 164) (own_left i ps qs (own_none mid high i qs b (inl lt))) (f i)
-  | inr ge ↦ subst (λ (l : List Part). passes_of l ≤ 164) (own_right i ps qs (own_none low mid i ps a (inr ge))) (g i)
+  | inl lt ↦ subst (λ (l : List HeaderPart). passes_of l ≤ 164) (own_left i ps qs (own_none mid high i qs b (inl lt))) (f i)
+  | inr ge ↦ subst (λ (l : List HeaderPart). passes_of l ≤ 164) (own_right i ps qs (own_none low mid i ps a (inr ge))) (g i)
 ]
 
 -- ---- a header
@@ -78,8 +78,8 @@ header_few : (k : State) (h : Header) (c : Bool) → MatchBool c (AreBandsTold k
 header_few k h true is = bands_few k.style k.layer 0 k.bands h.tolds is
 header_few k h false is = few_none
 
-pub packet_few : (bytes : List ℕ) (k : State) (parts : List Part) (used : ℕ) (after : State) → IsPacket bytes k parts used after → (i : ℕ) → passes_of (own_parts i parts) ≤ 164
-packet_few bytes k parts used after p i = subst (λ (l : List Part). passes_of (own_parts i l) ≤ 164) (sym p.parts_are) (header_few k p.header p.header.some p.is i)
+pub packet_few : (bytes : List ℕ) (k : State) (parts : List HeaderPart) (used : ℕ) (after : State) → IsPacket bytes k parts used after → (i : ℕ) → passes_of (own_parts i parts) ≤ 164
+packet_few bytes k parts used after p i = subst (λ (l : List HeaderPart). passes_of (own_parts i l) ≤ 164) (sym p.parts_are) (header_few k p.header p.header.some p.is i)
 
 -- ---- the pieces of a packet
 pub passes_cons : (layer : ℕ) (p : PieceValue) (ps : List PieceValue) → p.layer ≡ layer → passes_at layer (p ∷ ps) ≡ p.passes + passes_at layer ps
@@ -106,61 +106,61 @@ passes_less layer p ps = elim (cases_eq p.layer layer) [
   | inr ne ↦ omega (arith, passes_past layer p ps ne)
 ]
 
-pub own_here : (number : ℕ) (f : Found) (fs : List Found) → f.number ≡ number → own_founds number (f ∷ fs) ≡ f ∷ own_founds number fs
+pub own_here : (number : ℕ) (f : FoundPiece) (fs : List FoundPiece) → f.number ≡ number → own_founds number (f ∷ fs) ≡ f ∷ own_founds number fs
 unfolding own_founds
-own_here number f fs e = cond-true (f.number == number) (f ∷ filter (λ (x : Found). x.number == number) fs) (filter (λ (x : Found). x.number == number) fs) (eq-eqb f.number number e)
+own_here number f fs e = cond-true (f.number == number) (f ∷ filter (λ (x : FoundPiece). x.number == number) fs) (filter (λ (x : FoundPiece). x.number == number) fs) (eq-eqb f.number number e)
 
-pub own_past : (number : ℕ) (f : Found) (fs : List Found) → (f.number ≡ number → ⊥) → own_founds number (f ∷ fs) ≡ own_founds number fs
+pub own_past : (number : ℕ) (f : FoundPiece) (fs : List FoundPiece) → (f.number ≡ number → ⊥) → own_founds number (f ∷ fs) ≡ own_founds number fs
 unfolding own_founds
-own_past number f fs ne = cond-false (f.number == number) (f ∷ filter (λ (x : Found). x.number == number) fs) (filter (λ (x : Found). x.number == number) fs) (ne_eqb f.number number ne)
+own_past number f fs ne = cond-false (f.number == number) (f ∷ filter (λ (x : FoundPiece). x.number == number) fs) (filter (λ (x : FoundPiece). x.number == number) fs) (ne_eqb f.number number ne)
 
 pub own_nothing : (number : ℕ) → own_founds number [] ≡ []
 unfolding own_founds
 own_nothing number = refl
 
-abbrev pub found_from : Geometry → PacketName → State → List ℕ → Part → Found
+abbrev pub found_from : Geometry → PacketName → State → List ℕ → HeaderPart → FoundPiece
 found_from g p k bytes q = record {
   number = leaf_number g p.comp p.res p.precinct q.block;
   zero = zero_in k q.block;
   piece = record { layer = p.layer; first = q.first; passes = q.passes; bytes = take q.length bytes };
 }
 
-pub founds_few : (g : Geometry) (p : PacketName) (k : State) (j layer : ℕ) (bytes : List ℕ) (parts : List Part) → Apart g p (leaf_number g p.comp p.res p.precinct j) j parts
+pub founds_few : (g : Geometry) (p : PacketName) (k : State) (j layer : ℕ) (bytes : List ℕ) (parts : List HeaderPart) → Apart g p (leaf_number g p.comp p.res p.precinct j) j parts
     → passes_at layer (pieces_in (own_founds (leaf_number g p.comp p.res p.precinct j) (founds_from g p k bytes parts))) ≤ passes_of (own_parts j parts)
 founds_few g p k j layer bytes [] apart =
-    let e : passes_at layer (pieces_in (own_founds (leaf_number g p.comp p.res p.precinct j) [])) ≡ 0 = ap (λ (l : List Found). passes_at layer (pieces_in l)) (own_nothing (leaf_number g p.comp p.res p.precinct j)) in
+    let e : passes_at layer (pieces_in (own_founds (leaf_number g p.comp p.res p.precinct j) [])) ≡ 0 = ap (λ (l : List FoundPiece). passes_at layer (pieces_in l)) (own_nothing (leaf_number g p.comp p.res p.precinct j)) in
     omega arith
 founds_few g p k j layer bytes (q ∷ parts) apart =
     let number : ℕ = leaf_number g p.comp p.res p.precinct j in
-    let f : Found = found_from g p k bytes q in
-    let later : List Found = founds_from g p k (drop q.length bytes) parts in
-    let own : List Found = own_founds number later in
+    let f : FoundPiece = found_from g p k bytes q in
+    let later : List FoundPiece = founds_from g p k (drop q.length bytes) parts in
+    let own : List FoundPiece = own_founds number later in
     let again : passes_at layer (pieces_in own) ≤ passes_of (own_parts j parts) = founds_few g p k j layer (drop q.length bytes) parts apart.1 in
     elim (cases_eq q.block j) [
       | inl e ↦
           let here : passes_at layer (pieces_in (own_founds number (f ∷ later))) ≡ passes_at layer (f.piece ∷ pieces_in own) =
-          ap (λ (l : List Found). passes_at layer (pieces_in l)) (own_here number f later (ap (leaf_number g p.comp p.res p.precinct) e)) in
+          ap (λ (l : List FoundPiece). passes_at layer (pieces_in l)) (own_here number f later (ap (leaf_number g p.comp p.res p.precinct) e)) in
           let less : passes_at layer (f.piece ∷ pieces_in own) ≤ q.passes + passes_at layer (pieces_in own) = passes_less layer f.piece (pieces_in own) in
           let parts_are : passes_of (own_parts j (q ∷ parts)) ≡ q.passes + passes_of (own_parts j parts) =
-          ap (λ (l : List Part). passes_of l) (cond-true (q.block == j) (q ∷ own_parts j parts) (own_parts j parts) (eq-eqb q.block j e)) in
+          ap (λ (l : List HeaderPart). passes_of l) (cond-true (q.block == j) (q ∷ own_parts j parts) (own_parts j parts) (eq-eqb q.block j e)) in
           omega arith
       | inr ne ↦
           let here : passes_at layer (pieces_in (own_founds number (f ∷ later))) ≡ passes_at layer (pieces_in own) =
-          ap (λ (l : List Found). passes_at layer (pieces_in l)) (own_past number f later (λ (e : f.number ≡ number). ne (apart.0 e))) in
+          ap (λ (l : List FoundPiece). passes_at layer (pieces_in l)) (own_past number f later (λ (e : f.number ≡ number). ne (apart.0 e))) in
           let parts_are : passes_of (own_parts j (q ∷ parts)) ≡ passes_of (own_parts j parts) =
-          ap (λ (l : List Part). passes_of l) (cond-false (q.block == j) (q ∷ own_parts j parts) (own_parts j parts) (ne_eqb q.block j ne)) in
+          ap (λ (l : List HeaderPart). passes_of l) (cond-false (q.block == j) (q ∷ own_parts j parts) (own_parts j parts) (ne_eqb q.block j ne)) in
           omega arith
     ]
 
 -- they are all of its layer
-pub founds_layer : (g : Geometry) (p : PacketName) (k : State) (number : ℕ) (bytes : List ℕ) (parts : List Part)
+pub founds_layer : (g : Geometry) (p : PacketName) (k : State) (number : ℕ) (bytes : List ℕ) (parts : List HeaderPart)
     → AllByRecursion (λ (f : PieceValue). f.layer ≡ p.layer) (pieces_in (own_founds number (founds_from g p k bytes parts)))
-founds_layer g p k number bytes [] = subst (λ (l : List Found). AllByRecursion (λ (f : PieceValue). f.layer ≡ p.layer) (pieces_in l)) (sym (own_nothing number)) tt
+founds_layer g p k number bytes [] = subst (λ (l : List FoundPiece). AllByRecursion (λ (f : PieceValue). f.layer ≡ p.layer) (pieces_in l)) (sym (own_nothing number)) tt
 founds_layer g p k number bytes (q ∷ parts) =
-    let f : Found = found_from g p k bytes q in
-    let later : List Found = founds_from g p k (drop q.length bytes) parts in
+    let f : FoundPiece = found_from g p k bytes q in
+    let later : List FoundPiece = founds_from g p k (drop q.length bytes) parts in
     let again = founds_layer g p k number (drop q.length bytes) parts in
-    let P : List Found → Type 0 = λ l. AllByRecursion (λ (f : PieceValue). f.layer ≡ p.layer) (pieces_in l) in
+    let P : List FoundPiece → Type 0 = λ l. AllByRecursion (λ (f : PieceValue). f.layer ≡ p.layer) (pieces_in l) in
     elim (cases_eq f.number number) [
       | inl e ↦ subst P (sym (own_here number f later e)) (refl, again)
       | inr ne ↦ subst P (sym (own_past number f later ne)) again

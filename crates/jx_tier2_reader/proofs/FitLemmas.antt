@@ -18,7 +18,7 @@ use Rattle.jx_base.specs.Places.{size_of}
 use Rattle.jx_base.specs.Sound.{IsSound}
 use Rattle.jx_geom.specs.Geometry.{Geometry, GeometryInRange, HasBlock}
 use Rattle.jx_geom.specs.Numbering.{IsBlock, block_number, blocks_below, number_in_tile}
-use Rattle.jx_packet_header.specs.declared.Part.{Part}
+use Rattle.jx_packet_header.specs.declared.HeaderPart.{HeaderPart}
 use Rattle.jx_packet_header.specs.Parts.{cut}
 use Rattle.jx_packet_header.specs.Written.{Leafed, parts_in, passes_of}
 use Rattle.jx_packet_header.specs.Writable.{all_passes}
@@ -33,8 +33,8 @@ use Rattle.jx_tile.specs.Totals.{totals_fault}
 use Rattle.jx_codestream.specs.InRange.{StreamInRange}
 use Rattle.jx_geom.specs.Precincts.{leaves, HasPrecinct, cells_at, name_from, leaf_name, leaf_number, leaves_in}
 use Rattle.jx_tier2_reader.specs.BlockOf.{pieces_at, AreCutAsRead, IsFoundOf, AreBlocksOf}
-use Rattle.jx_tier2_reader.specs.Carries.{block_in, part_of}
-use Rattle.jx_tier2_reader.specs.Planned.{part_in, leaf_from, leaf_in, leaves_of_blocks}
+use Rattle.jx_tier2_reader.specs.Carries.{block_in, header_part_of}
+use Rattle.jx_tier2_reader.specs.Planned.{leaf_part_of, leaf_from, leaf_in, leaves_of_blocks}
 use Rattle.jx_tier2_reader.proofs.CellLemmas.{pick, size_is, bands_of, cells_count}
 use Rattle.jx_geom.proofs.LeafLemmas.{name_here, name_later, leaf_of, leaf_is, leaf_there}
 use Rattle.jx_tier2_reader.proofs.CutRuns.{total}
@@ -46,11 +46,11 @@ use Rattle.jx_tile.proofs.TotalLemmas.{geometry_fits}
 use Rattle.jx_tile.specs.Cells.{sizes_of, precinct_bands}
 
 -- ---- the parts of a block
-passes_before_is : (layer j : ℕ) (qs : List PieceValue) → passes_before layer (map (part_in j) qs) ≡ passes_below layer qs
+passes_before_is : (layer j : ℕ) (qs : List PieceValue) → passes_before layer (map (leaf_part_of j) qs) ≡ passes_below layer qs
 passes_before_is layer j [] = refl
 passes_before_is layer j (q ∷ qs) = ap (λ (n : ℕ). cond (nat_lt q.layer layer) (q.passes + n) n) (passes_before_is layer j qs)
 
-passes_total : (j : ℕ) (qs : List PieceValue) → passes_of (map (part_of j) qs) ≡ total qs
+passes_total : (j : ℕ) (qs : List PieceValue) → passes_of (map (header_part_of j) qs) ≡ total qs
 passes_total j [] = refl
 passes_total j (q ∷ qs) = ap (λ (n : ℕ). q.passes + n) (passes_total j qs)
 
@@ -61,33 +61,33 @@ layer_total layer (q ∷ qs) = elim (cases_eq q.layer layer) [
   | inr ne ↦ ap total (layer_past layer q qs ne) ∙ layer_total layer qs ∙ sym (at_past layer q qs ne)
 ]
 
-passes_mapped : (j : ℕ) (qs : List PieceValue) → map (λ (p : Part). p.passes) (map (part_of j) qs) ≡ map (λ (q : PieceValue). q.passes) qs
+passes_mapped : (j : ℕ) (qs : List PieceValue) → map (λ (p : HeaderPart). p.passes) (map (header_part_of j) qs) ≡ map (λ (q : PieceValue). q.passes) qs
 passes_mapped j [] = refl
 passes_mapped j (q ∷ qs) = ap (λ (ns : List ℕ). q.passes ∷ ns) (passes_mapped j qs)
 
-layer_cut : (style j layer : ℕ) (qs : List PieceValue) → passes_at layer qs ≤ 164 → AreCutAsRead style qs → IsLayerCut style layer (map (part_in j) qs)
+layer_cut : (style j layer : ℕ) (qs : List PieceValue) → passes_at layer qs ≤ 164 → AreCutAsRead style qs → IsLayerCut style layer (map (leaf_part_of j) qs)
 layer_cut style j layer qs few cuts =
-    let parts : parts_in layer (map (part_in j) qs) ≡ map (part_of j) (pieces_at layer qs) = parts_of_pieces layer j qs in
-    let sum : passes_of (parts_in layer (map (part_in j) qs)) ≡ passes_at layer qs = ap (λ (l : List Part). passes_of l) parts ∙ passes_total j (pieces_at layer qs) ∙ layer_total layer qs in
+    let parts : parts_in layer (map (leaf_part_of j) qs) ≡ map (header_part_of j) (pieces_at layer qs) = parts_of_pieces layer j qs in
+    let sum : passes_of (parts_in layer (map (leaf_part_of j) qs)) ≡ passes_at layer qs = ap (λ (l : List HeaderPart). passes_of l) parts ∙ passes_total j (pieces_at layer qs) ∙ layer_total layer qs in
     record {
       few = omega (arith, few, sum);
-      runs = ap (map (λ (p : Part). p.passes)) parts ∙ passes_mapped j (pieces_at layer qs) ∙ cuts layer
-          ∙ ap (λ (n : ℕ). cut style n (passes_at layer qs)) (sym (passes_before_is layer j qs)) ∙ ap (cut style (passes_before layer (map (part_in j) qs))) (sym sum);
+      runs = ap (map (λ (p : HeaderPart). p.passes)) parts ∙ passes_mapped j (pieces_at layer qs) ∙ cuts layer
+          ∙ ap (λ (n : ℕ). cut style n (passes_at layer qs)) (sym (passes_before_is layer j qs)) ∙ ap (cut style (passes_before layer (map (leaf_part_of j) qs))) (sym sum);
     }
 
-runs_from : (style layers j layer first last : ℕ) (qs : List PieceValue) → ArePieces style layer first last qs → AllByRecursion (λ (q : PieceValue). q.layer < layers) qs → AreRuns layers j layer first (map (part_in j) qs)
+runs_from : (style layers j layer first last : ℕ) (qs : List PieceValue) → ArePieces style layer first last qs → AllByRecursion (λ (q : PieceValue). q.layer < layers) qs → AreRuns layers j layer first (map (leaf_part_of j) qs)
 runs_from style layers j layer first last [] a low = tt
 runs_from style layers j layer first last (q ∷ qs) a low = (a.0.layers, low.0, refl, a.0.begins, a.0.some, runs_from style layers j q.layer (first + q.passes) last qs a.1 low.1)
 
-pub pieces_total : (style layer first last j : ℕ) (qs : List PieceValue) → ArePieces style layer first last qs → first + all_passes (map (part_in j) qs) ≡ last
+pub pieces_total : (style layer first last j : ℕ) (qs : List PieceValue) → ArePieces style layer first last qs → first + all_passes (map (leaf_part_of j) qs) ≡ last
 pieces_total style layer first last j [] a = let e : first ≡ last = a in omega arith
-pieces_total style layer first last j (q ∷ qs) a = let e : first + q.passes + all_passes (map (part_in j) qs) ≡ last = pieces_total style q.layer (first + q.passes) last j qs a.1 in omega arith
+pieces_total style layer first last j (q ∷ qs) a = let e : first + q.passes + all_passes (map (leaf_part_of j) qs) ≡ last = pieces_total style q.layer (first + q.passes) last j qs a.1 in omega arith
 
 fits_pieces : (style layers planes j z passes : ℕ) (qs : List PieceValue) → ArePieces style 0 0 passes qs → passes ≤ 3 * (planes - z) - 2 → AllByRecursion (λ (q : PieceValue). q.layer < layers) qs
-    → ((layer : ℕ) → passes_at layer qs ≤ 164) → AreCutAsRead style qs → FitsLeaf style layers planes j (record { zero = z; parts = map (part_in j) qs }) (map (part_in j) qs)
+    → ((layer : ℕ) → passes_at layer qs ≤ 164) → AreCutAsRead style qs → FitsLeaf style layers planes j (record { zero = z; parts = map (leaf_part_of j) qs }) (map (leaf_part_of j) qs)
 fits_pieces style layers planes j z passes [] a most low few cuts = tt
 fits_pieces style layers planes j z passes (q ∷ qs) a most low few cuts =
-    let sum : 0 + (q.passes + all_passes (map (part_in j) qs)) ≡ passes = pieces_total style 0 0 passes j (q ∷ qs) a in
+    let sum : 0 + (q.passes + all_passes (map (leaf_part_of j) qs)) ≡ passes = pieces_total style 0 0 passes j (q ∷ qs) a in
     let some : 1 ≤ q.passes = a.0.some in
     record {
       zero_planes = omega arith;
@@ -96,7 +96,7 @@ fits_pieces style layers planes j z passes (q ∷ qs) a most low few cuts =
       cuts = λ layer. layer_cut style j layer (q ∷ qs) (few layer) cuts;
     }
 
-short_pieces : (j : ℕ) (qs : List PieceValue) → bytes_in qs ≤ 2 ^ 28 → HasShort (map (part_in j) qs)
+short_pieces : (j : ℕ) (qs : List PieceValue) → bytes_in qs ≤ 2 ^ 28 → HasShort (map (leaf_part_of j) qs)
 short_pieces j [] few = tt
 short_pieces j (q ∷ qs) few =
     let sum : bytes_in (q ∷ qs) ≡ length q.bytes + bytes_in qs = sum_by-cons (λ (x : PieceValue). length x.bytes) q qs in

@@ -9,12 +9,12 @@ use Rattle.std.proofs.Math.Seq.{take-append_seam, drop-append_seam}
 use Rattle.jx_base.specs.Markers.{HasNoMarker}
 use Rattle.jx_tagtree.specs.Header.{bits_of, end_after}
 use Rattle.jx_tagtree.proofs.LawLemmas.{ends_at, clean_pair}
-use Rattle.jx_packet_header.specs.declared.Part.{Part}
+use Rattle.jx_packet_header.specs.declared.HeaderPart.{HeaderPart}
 use Rattle.jx_packet_header.specs.Packet.{State, IsPacket, header_bits, bands_bits}
 use Rattle.jx_progression.specs.declared.names.PacketName.{PacketName}
 use Rattle.jx_tier2_reader.specs.Data.{begins_with, has_sop, sop_fault, sop_length, eph_length, header_in, front_length, parts_length, is_marked, first_mark, marks_fault, body_fault, number_at}
 use Rattle.jx_tier2_reader.specs.Cuts.{Cut, IsCut}
-use Rattle.jx_tier2_reader.specs.Written.{Written, sop_bytes, packet_bytes, AreClear}
+use Rattle.jx_tier2_reader.specs.Written.{WrittenPacket, sop_bytes, packet_bytes, AreClear}
 use Rattle.jx_tier2_reader.proofs.MarkLemmas.{later_mark}
 use Rattle.jx_marker.specs.Codes.{SOP, EPH, eph_spelling}
 
@@ -35,13 +35,13 @@ some_bit : (c : Bool) (bits : List Bool) → 0 < length {A = Bool} (cond c (true
 some_bit true bits = omega arith
 some_bit false bits = omega arith
 
-header_clear : (h : List ℕ) (k : State) (parts : List Part) (after : State) → IsPacket h k parts (length h) after → StartsClear h
+header_clear : (h : List ℕ) (k : State) (parts : List HeaderPart) (after : State) → IsPacket h k parts (length h) after → StartsClear h
 header_clear h k parts after p =
     let some : 0 < length (header_bits k p.header) = some_bit p.header.some (bands_bits k.layer k.bands p.header.tolds) in
     let few : length (header_bits k p.header) ≤ length (bits_of h).bits = omega (arith, ap length p.stands, length-append (header_bits k p.header) p.rest) in
     starts_clear h (length (header_bits k p.header)) some few p.ends
 
-pub header_starts : (h : List ℕ) (k : State) (parts : List Part) (after : State) → ((rest : List ℕ) → IsPacket (h ++ rest) k parts (length h) after) → StartsClear h
+pub header_starts : (h : List ℕ) (k : State) (parts : List HeaderPart) (after : State) → ((rest : List ℕ) → IsPacket (h ++ rest) k parts (length h) after) → StartsClear h
 header_starts h k parts after p = header_clear h k parts after (subst (λ (x : List ℕ). IsPacket x k parts (length h) after) (append-nil h) (p []))
 
 pub starts_some : (h : List ℕ) → StartsClear h → 0 < length h
@@ -81,10 +81,10 @@ piece_starts (suc m) (byte ∷ []) h = h.1
 piece_starts zero (byte ∷ next ∷ more) h = λ e. absurd (h.1 e)
 piece_starts (suc m) (byte ∷ next ∷ more) h = h.1.0
 
-parts_sum : (p : Part) (parts : List Part) → parts_length (p ∷ parts) ≡ p.length + parts_length parts
-parts_sum p parts = sum_by-cons (λ (q : Part). q.length) p parts
+parts_sum : (p : HeaderPart) (parts : List HeaderPart) → parts_length (p ∷ parts) ≡ p.length + parts_length parts
+parts_sum p parts = sum_by-cons (λ (q : HeaderPart). q.length) p parts
 
-pieces_start : (parts : List Part) (bytes : List ℕ) → AreClear parts bytes → length bytes ≡ parts_length parts → StartsPiece bytes
+pieces_start : (parts : List HeaderPart) (bytes : List ℕ) → AreClear parts bytes → length bytes ≡ parts_length parts → StartsPiece bytes
 pieces_start [] [] clear long = tt
 pieces_start [] (byte ∷ bytes) clear long = absurd (omega (arith, long))
 pieces_start (p ∷ parts) bytes clear long = by p.length refl (λ bs c l. pieces_start parts bs c l)
@@ -127,7 +127,7 @@ unfolding first_mark
 no_mark bytes h =
     none_found (is_marked bytes) 0 (length bytes) (λ i lt. (let e : i ≡ 0 + i = omega arith in subst (λ (m : ℕ). is_marked bytes m ≡ false) e (not_marked 0 bytes h i lt)))
 
-no_marks : (at : ℕ) (parts : List Part) (bytes rest : List ℕ) → AreClear parts bytes → parts_length parts ≤ length bytes → marks_fault at (bytes ++ rest) parts ≡ None
+no_marks : (at : ℕ) (parts : List HeaderPart) (bytes rest : List ℕ) → AreClear parts bytes → parts_length parts ≤ length bytes → marks_fault at (bytes ++ rest) parts ≡ None
 no_marks at [] bytes rest clear few = refl
 no_marks at (p ∷ parts) bytes rest clear few =
     let sum : parts_length (p ∷ parts) ≡ p.length + parts_length parts = parts_sum p parts in
@@ -161,11 +161,11 @@ eph_is true tail none = refl
 eph_is false tail none = rw none refl
 
 -- ---- the coded bytes d behind a SOP a, a header h and an EPH e
-pub record Coded (w d : List ℕ) (used : ℕ) (parts : List Part) : Type 0 where
+pub record Coded (w d : List ℕ) (used : ℕ) (parts : List HeaderPart) : Type 0 where
   pub none : body_fault w 0 used parts ≡ None
   pub bytes : d ≡ take (parts_length parts) (drop (front_length w used) w)
 
-coded_is : (a h e d rest w : List ℕ) (used : ℕ) (parts : List Part) → w ≡ (a ++ (h ++ e)) ++ (d ++ rest) → front_length w used ≡ length (a ++ (h ++ e)) → length d ≡ parts_length parts
+coded_is : (a h e d rest w : List ℕ) (used : ℕ) (parts : List HeaderPart) → w ≡ (a ++ (h ++ e)) ++ (d ++ rest) → front_length w used ≡ length (a ++ (h ++ e)) → length d ≡ parts_length parts
     → AreClear parts d → Coded w d used parts
 unfolding body_fault
 coded_is a h e d rest w used parts is front long clear =
@@ -182,7 +182,7 @@ coded_is a h e d rest w used parts is front long clear =
     }
 
 -- ---- a packet
-abbrev pub cut_with : PacketName → Written → State → Cut
+abbrev pub cut_with : PacketName → WrittenPacket → State → Cut
 cut_with p x after = record { name = p; count = length (packet_bytes 0 x); used = length x.header; parts = x.parts; bytes = x.bytes; after = after }
 
 regroup : (a h e d rest : List ℕ) → (a ++ (h ++ (e ++ d))) ++ rest ≡ (a ++ (h ++ e)) ++ (d ++ rest)
@@ -196,18 +196,18 @@ same_size : (c : Bool) (n m : ℕ) → length {A = ℕ} (cond c (sop_bytes n) []
 same_size true n m = refl
 same_size false n m = refl
 
-pub packet_size : (n m : ℕ) (x : Written) → length (packet_bytes n x) ≡ length (packet_bytes m x)
+pub packet_size : (n m : ℕ) (x : WrittenPacket) → length (packet_bytes n x) ≡ length (packet_bytes m x)
 packet_size n m x =
     let tail : List ℕ = x.header ++ (cond x.eph eph_spelling [] ++ x.bytes) in
     length-append (cond x.sop (sop_bytes n) []) tail ∙ ap (λ (k : ℕ). k + length tail) (same_size x.sop n m) ∙ sym (length-append (cond x.sop (sop_bytes m) []) tail)
 
-pub packet_some : (n : ℕ) (x : Written) → StartsClear x.header → 0 < length (packet_bytes n x)
+pub packet_some : (n : ℕ) (x : WrittenPacket) → StartsClear x.header → 0 < length (packet_bytes n x)
 packet_some n x s =
     let some : 0 < length x.header = starts_some x.header s in
     let tail : List ℕ = cond x.eph eph_spelling [] ++ x.bytes in
     omega (arith, length-append (cond x.sop (sop_bytes n) []) (x.header ++ tail), length-append x.header tail)
 
-pub cut_stands : (number : ℕ) (p : PacketName) (x : Written) (k after : State) (rest : List ℕ) → ((more : List ℕ) → IsPacket (x.header ++ more) k x.parts (length x.header) after)
+pub cut_stands : (number : ℕ) (p : PacketName) (x : WrittenPacket) (k after : State) (rest : List ℕ) → ((more : List ℕ) → IsPacket (x.header ++ more) k x.parts (length x.header) after)
     → length x.bytes ≡ parts_length x.parts → AreClear x.parts x.bytes → begins_with rest EPH ≡ false → IsCut (packet_bytes number x ++ rest) number k (cut_with p x after)
 unfolding front_length
 cut_stands number p x k after rest stands long clear none =

@@ -25,7 +25,7 @@ use Rattle.jx_tile.specs.Totals.{totals_fault, block_total}
 use Rattle.jx_codestream.specs.InRange.{StreamInRange}
 use Rattle.jx_geom.specs.Precincts.{leaves}
 use Rattle.jx_geom.specs.Precincts.{HasPrecinct, leaf_number}
-use Rattle.jx_tier2_reader.specs.Blocks.{Found, founds_of, own_founds, pieces_in, passes_in, zero_from, block_with, block_of}
+use Rattle.jx_tier2_reader.specs.Blocks.{FoundPiece, founds_of, own_founds, pieces_in, passes_in, zero_from, block_with, block_of}
 use Rattle.jx_tile.specs.Covered.{IsWhole}
 use Rattle.jx_tier2_reader.specs.Gathered.{IsGathered}
 use Rattle.jx_tier2_reader.specs.BlockOf.{pieces_at, IsBlockOf, IsFoundOf, AreBlocksOf}
@@ -108,7 +108,7 @@ same_style x bits e = ap (λ (n : ℕ). let y : Style = record { bits = n } in y
 
 block_kept : (s : Stream) (n : BlockName) (number : ℕ) (d : Block) → IsBlockOf s n d → IsSound d → block_with s (geometry s n.tile) n (map (found_at number d.zero) d.pieces) ≡ d
 block_kept s n number d is sound =
-    let own : List Found = map (found_at number d.zero) d.pieces in
+    let own : List FoundPiece = map (found_at number d.zero) d.pieces in
     let back : pieces_in own ≡ d.pieces = pieces_back number d.zero d.pieces in
     let all : ArePieces d.style.bits 0 0 d.passes (pieces_in own) = subst (λ (l : List PieceValue). ArePieces d.style.bits 0 0 d.passes l) (sym back) sound.pieces in
     let sum : 0 + passes_in own ≡ d.passes = pieces_sum d.style.bits 0 0 d.passes own all in
@@ -134,7 +134,7 @@ found_kept s n blocks packets list (Some d) h has found is sound =
     let own : own_founds number (founds_of g (cuts_at packets list)) ≡ map (found_at number d.zero) d.pieces =
     own_kept s t blocks packets list n.comp n.res leaf.precinct leaf.block d h leaf.there leaf.inside here rise in
     ap (λ (i : ℕ). Some (block_with s g n (own_founds i (founds_of g (cuts_at packets list))))) (sym leaf.number)
-    ∙ ap (λ (fs : List Found). Some (block_with s g n fs)) own
+    ∙ ap (λ (fs : List FoundPiece). Some (block_with s g n fs)) own
     ∙ ap (λ (x : Block). Some x) (block_kept s n number d is good)
 
 blocks_kept : (s : Stream) (blocks : List Block) (packets : ℕ → Packets) (groups : ℕ → List (List PacketName)) → AreBlocksOf s blocks → All IsSound blocks

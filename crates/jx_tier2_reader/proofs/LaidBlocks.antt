@@ -19,8 +19,8 @@ use Rattle.jx_geom.specs.Precincts.{leaves}
 use Rattle.jx_tier2_reader.specs.Fresh.{fresh_precinct}
 use Rattle.jx_geom.specs.Precincts.{HasPrecinct, precinct_number, leaf_number}
 use Rattle.jx_tier2_reader.specs.Cuts.{number_of}
-use Rattle.jx_tier2_reader.specs.Blocks.{Found, founds_in, founds_of, own_founds}
-use Rattle.jx_tier2_reader.specs.Written.{Written, Packets, next_layer, IsWritten, AreWritten, cut_at, cuts_at}
+use Rattle.jx_tier2_reader.specs.Blocks.{FoundPiece, founds_in, founds_of, own_founds}
+use Rattle.jx_tier2_reader.specs.Written.{WrittenPacket, Packets, next_layer, IsWritten, AreWritten, cut_at, cuts_at}
 use Rattle.jx_geom.proofs.PrecinctLemmas.{precinct_once}
 use Rattle.jx_tier2_reader.proofs.CellLemmas.{leaf_count}
 use Rattle.jx_tier2_reader.proofs.PartLemmas.{PartIn, part_inside, packet_kept}
@@ -125,7 +125,7 @@ pub record Joins (s : Stream) (t : ℕ) (ps : Packets) (list : List PacketName) 
   pub written : AreWritten s t ps
 
 -- the pieces of a block of a precinct in a layer
-abbrev pub layer_founds : Geometry → Packets → ℕ → ℕ → ℕ → ℕ → ℕ → List Found
+abbrev pub layer_founds : Geometry → Packets → ℕ → ℕ → ℕ → ℕ → ℕ → List FoundPiece
 layer_founds g ps c r k j l = own_founds (leaf_number g c r k j) (founds_in g (cut_at ps (name_of l r c k)))
 
 -- the same of later packets
@@ -143,11 +143,11 @@ joined_own s t ps list done rest p j m h e le sent again =
     let g : Geometry = geometry s t in
     let layers : ℕ = layers_of s t in
     let number : ℕ = leaf_number g p.comp p.res p.precinct j in
-    let f : ℕ → List Found = layer_founds g ps p.comp p.res p.precinct j in
+    let f : ℕ → List FoundPiece = layer_founds g ps p.comp p.res p.precinct j in
     let at : m ≡ p.layer = next_is g layers list done rest p m h.listed e le sent in
     let below : p.layer < layers = (due_named g layers list done rest p h.listed e).layer in
     own_cons number g (cut_at ps p) (cuts_at ps rest)
-    ∙ ap (λ (xs : List Found). own_founds number (founds_in g (cut_at ps p)) ++ xs) (again (m + 1) (omega arith) (sent_own layers done p m at sent))
+    ∙ ap (λ (xs : List FoundPiece). own_founds number (founds_in g (cut_at ps p)) ++ xs) (again (m + 1) (omega arith) (sent_own layers done p m at sent))
     ∙ ap (λ (n : ℕ). f n ++ joined f (m + 1) layers) (sym at)
     ∙ sym (joined_first f m layers (omega arith))
 
@@ -171,12 +171,12 @@ joined_other s t ps list done rest p c r k j m h has lt e le other sent again =
     let layers : ℕ = layers_of s t in
     let number : ℕ = leaf_number g c r k j in
     let named : IsPacketName g layers p = due_named g layers list done rest p h.listed e in
-    let x : Written = ps.written p in
+    let x : WrittenPacket = ps.written p in
     let none : own_founds number (founds_in g (cut_at ps p)) ≡ [] =
     own_elsewhere g p (ps.before (next_layer p)) number x.bytes x.parts
     (parts_elsewhere g p c r k j x.parts h.range (has_precinct g layers p named) has lt other (packet_inside s t ps p h.written h.few named)) in
     own_cons number g (cut_at ps p) (cuts_at ps rest)
-    ∙ ap (λ (xs : List Found). xs ++ own_founds number (founds_of g (cuts_at ps rest))) none
+    ∙ ap (λ (xs : List FoundPiece). xs ++ own_founds number (founds_of g (cuts_at ps rest))) none
     ∙ again m le (sent_other g layers c r k done p m other sent)
 
 -- those of the packets that are still to come

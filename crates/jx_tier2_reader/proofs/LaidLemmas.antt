@@ -18,7 +18,7 @@ use Rattle.jx_tier2_reader.specs.Data.{window, due, behind, begins_with}
 use Rattle.jx_tier2_reader.specs.Cuts.{Cut, Left, IsCut, IsTurn, AreCuts, names_of, number_of}
 use Rattle.jx_tile.specs.Covered.{IsListOf}
 use Rattle.jx_tier2_reader.specs.Gathered.{IsCutUp, start}
-use Rattle.jx_tier2_reader.specs.Written.{Written, Packets, packet_bytes, sop_bytes, next_layer, IsWritten, AreWritten, bytes_from, AreFilled, IsLaid, cut_at, cuts_at, packets_in}
+use Rattle.jx_tier2_reader.specs.Written.{WrittenPacket, Packets, packet_bytes, sop_bytes, next_layer, IsWritten, AreWritten, bytes_from, AreFilled, IsLaid, cut_at, cuts_at, packets_in}
 use Rattle.jx_tier2_reader.proofs.FrontLemmas.{StartsClear, header_starts, header_no_mark, cut_stands, packet_size, packet_some}
 use Rattle.jx_tier2_reader.proofs.TurnLemmas.{Precincts, Listed, Turned, start_turned, own_turned, other_turned, each_precinct, has_precinct, due_named, layer_is, layer_after}
 use Rattle.jx_base.proofs.Lists.{push_on}
@@ -33,7 +33,7 @@ after_packet false number h tail s = header_no_mark h tail EPH s (omega arith)
 packets_start : (ps : Packets) (number : ℕ) (list : List PacketName) → ((q : PacketName) (more : List PacketName) → list ≡ q ∷ more → IsWritten ps q) → begins_with (bytes_from ps number list) EPH ≡ false
 packets_start ps number [] written = refl
 packets_start ps number (q ∷ list) written =
-    let x : Written = ps.written q in
+    let x : WrittenPacket = ps.written q in
     let is : IsWritten ps q = written q list refl in
     let tail : List ℕ = cond x.eph eph_spelling [] ++ x.bytes in
     let rest : List ℕ = bytes_from ps (number + 1) list in
@@ -178,7 +178,7 @@ fills_part b s t ps list (p ∷ names) groups l again number (body ∷ bodies) d
     let g : Geometry = geometry s t in
     let later : List PacketName = names ++ packets_in groups in
     let d : Due s t ps old.states p = due_is s t ps list done later p old.states l e st in
-    let x : Written = ps.written p in
+    let x : WrittenPacket = ps.written p in
     let rest : List ℕ = bytes_from ps (number + 1) names in
     let count : ℕ = (cut_at ps p).count in
     let size : length (packet_bytes number x) ≡ count = packet_size number 0 x in

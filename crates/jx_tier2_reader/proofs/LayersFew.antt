@@ -7,7 +7,7 @@ use Rattle.jx_base.specs.Pieces.{PieceValue, passes_at}
 use Rattle.jx_base.proofs.Lists.{contains_head, contains_tail}
 use Rattle.jx_geom.specs.Geometry.{Geometry, GeometryInRange}
 use Rattle.jx_packet_header.specs.Packet.{State}
-use Rattle.jx_packet_header.specs.declared.Part.{Part}
+use Rattle.jx_packet_header.specs.declared.HeaderPart.{HeaderPart}
 use Rattle.jx_packet_header.specs.Written.{passes_of}
 use Rattle.jx_progression.specs.declared.names.PacketName.{PacketName}
 use Rattle.jx_codestream.specs.declared.Stream.{Stream}
@@ -15,7 +15,7 @@ use Rattle.jx_geom.specs.Precincts.{leaves}
 use Rattle.jx_geom.specs.Precincts.{HasPrecinct, precinct_number, leaf_number}
 use Rattle.jx_tier2_reader.specs.Data.{window, header_in}
 use Rattle.jx_tier2_reader.specs.Cuts.{Cut, Left, IsTurn, AreCuts, names_of, number_of}
-use Rattle.jx_tier2_reader.specs.Blocks.{Found, founds_from, founds_in, founds_of, own_founds, pieces_in}
+use Rattle.jx_tier2_reader.specs.Blocks.{FoundPiece, founds_from, founds_in, founds_of, own_founds, pieces_in}
 use Rattle.jx_geom.proofs.PrecinctLemmas.{precinct_once}
 use Rattle.jx_tier2_reader.proofs.PartLemmas.{own_parts}
 use Rattle.jx_tier2_reader.proofs.GrowLemmas.{own_elsewhere}
@@ -23,20 +23,20 @@ use Rattle.jx_tier2_reader.proofs.FewLemmas.{packet_few, founds_few, founds_laye
 use Rattle.jx_tier2_reader.proofs.TrackLemmas.{AreThere, Rise, AllFollow, turn_follows, turn_inside, parts_apart, parts_elsewhere, own_nil, own_cons}
 
 -- ---- passes in one layer
-abbrev pub in_layer : ℕ → ℕ → List Found → ℕ
+abbrev pub in_layer : ℕ → ℕ → List FoundPiece → ℕ
 in_layer layer number founds = passes_at layer (pieces_in (own_founds number founds))
 
 in_layer_cons : (layer number : ℕ) (g : Geometry) (c : Cut) (cuts : List Cut)
     → in_layer layer number (founds_of g (c ∷ cuts)) ≡ in_layer layer number (founds_in g c) + in_layer layer number (founds_of g cuts)
 in_layer_cons layer number g c cuts =
-    let own : List Found = own_founds number (founds_in g c) in
-    let later : List Found = own_founds number (founds_of g cuts) in
-    ap (λ (l : List Found). passes_at layer (pieces_in l)) (own_cons number g c cuts)
-    ∙ ap (passes_at layer) (map-append (λ (f : Found). f.piece) own later)
+    let own : List FoundPiece = own_founds number (founds_in g c) in
+    let later : List FoundPiece = own_founds number (founds_of g cuts) in
+    ap (λ (l : List FoundPiece). passes_at layer (pieces_in l)) (own_cons number g c cuts)
+    ∙ ap (passes_at layer) (map-append (λ (f : FoundPiece). f.piece) own later)
     ∙ passes_join layer (pieces_in own) (pieces_in later)
 
 in_layer_nil : (layer number : ℕ) (g : Geometry) → in_layer layer number (founds_of g []) ≡ 0
-in_layer_nil layer number g = ap (λ (l : List Found). passes_at layer (pieces_in l)) (own_nil number g)
+in_layer_nil layer number g = ap (λ (l : List FoundPiece). passes_at layer (pieces_in l)) (own_nil number g)
 
 not_same : (layer m : ℕ) (ps : List PieceValue) → (m ≡ layer → ⊥) → AllByRecursion (λ (p : PieceValue). p.layer ≡ m) ps → AllByRecursion (λ (p : PieceValue). p.layer ≡ layer → ⊥) ps
 not_same layer m [] ne all = tt
@@ -60,7 +60,7 @@ other_precinct : (b : List ℕ) (s : Stream) (g : Geometry) (layer c r k j numbe
     → HasPrecinct g d.name.comp d.name.res d.name.precinct → AllFollow s g old.states → (number_of g d.name ≡ precinct_number g c r k → ⊥) → IsTurn b g number old d next
     → in_layer layer (leaf_number g c r k j) (founds_in g d) ≡ 0
 other_precinct b s g layer c r k j number old d next h has lt own follow ne turn =
-    ap (λ (l : List Found). passes_at layer (pieces_in l))
+    ap (λ (l : List FoundPiece). passes_at layer (pieces_in l))
     (own_elsewhere g d.name d.after (leaf_number g c r k j) d.bytes d.parts (parts_elsewhere g d.name c r k j d.parts h own has lt ne (turn_inside b s g number old d next follow own turn)))
 
 -- the packet of the layer
@@ -125,14 +125,14 @@ layer_few b s g layer c r k j number old (d ∷ cuts) new h has lt w =
     ]
 
 -- ---- layers of the tile
-abbrev pub AreBelow : ℕ → List Found → Type 0
-AreBelow layers founds = AllByRecursion (λ (f : Found). f.piece.layer < layers) founds
+abbrev pub AreBelow : ℕ → List FoundPiece → Type 0
+AreBelow layers founds = AllByRecursion (λ (f : FoundPiece). f.piece.layer < layers) founds
 
-below_from : (g : Geometry) (p : PacketName) (k : State) (layers : ℕ) (bytes : List ℕ) (parts : List Part) → p.layer < layers → AreBelow layers (founds_from g p k bytes parts)
+below_from : (g : Geometry) (p : PacketName) (k : State) (layers : ℕ) (bytes : List ℕ) (parts : List HeaderPart) → p.layer < layers → AreBelow layers (founds_from g p k bytes parts)
 below_from g p k layers bytes [] lt = tt
 below_from g p k layers bytes (q ∷ parts) lt = (lt, below_from g p k layers (drop q.length bytes) parts lt)
 
-below_join : (layers : ℕ) (fs gs : List Found) → AreBelow layers fs → AreBelow layers gs → AreBelow layers (fs ++ gs)
+below_join : (layers : ℕ) (fs gs : List FoundPiece) → AreBelow layers fs → AreBelow layers gs → AreBelow layers (fs ++ gs)
 below_join layers [] gs a b = b
 below_join layers (f ∷ fs) gs a b = (a.0, below_join layers fs gs a.1 b)
 
@@ -143,10 +143,10 @@ below_of g layers (c ∷ cuts) all =
     below_join layers (founds_in g c) (founds_of g cuts) (below_from g c.name c.after layers c.bytes c.parts (all c.name (contains_head c.name (names_of cuts))))
     (below_of g layers cuts (λ (p : PacketName) (h : Contains (names_of cuts) p). all p (contains_tail c.name (names_of cuts) p h)))
 
-pub below_own : (layers number : ℕ) (founds : List Found) → AreBelow layers founds → AllByRecursion (λ (p : PieceValue). p.layer < layers) (pieces_in (own_founds number founds))
-below_own layers number [] all = subst (λ (l : List Found). AllByRecursion (λ (p : PieceValue). p.layer < layers) (pieces_in l)) (sym (own_nothing number)) tt
+pub below_own : (layers number : ℕ) (founds : List FoundPiece) → AreBelow layers founds → AllByRecursion (λ (p : PieceValue). p.layer < layers) (pieces_in (own_founds number founds))
+below_own layers number [] all = subst (λ (l : List FoundPiece). AllByRecursion (λ (p : PieceValue). p.layer < layers) (pieces_in l)) (sym (own_nothing number)) tt
 below_own layers number (f ∷ founds) all =
-    let P : List Found → Type 0 = λ l. AllByRecursion (λ (p : PieceValue). p.layer < layers) (pieces_in l) in
+    let P : List FoundPiece → Type 0 = λ l. AllByRecursion (λ (p : PieceValue). p.layer < layers) (pieces_in l) in
     let again : P (own_founds number founds) = below_own layers number founds all.1 in
     elim (cases_eq f.number number) [
       | inl e ↦ subst P (sym (own_here number f founds e)) (all.0, again)

@@ -3,7 +3,7 @@ use Rattle.std.proofs.Common.{◌≡◌, ℕ, suc, ◌+◌, ◌<◌, ◌≤◌, 
 use Rattle.std.specs.List.{range_with_len}
 use Rattle.std.proofs.lemmas.Bool.{eq-eqb, and_cases, or_parts, ltb-false, both_ways, true≢false}
 use Rattle.jx_base.specs.Markers.{HasNoMarker}
-use Rattle.jx_packet_header.specs.declared.Part.{Part}
+use Rattle.jx_packet_header.specs.declared.HeaderPart.{HeaderPart}
 use Rattle.jx_codestream.specs.Faults.{broken}
 use Rattle.jx_tier2_reader.specs.Data.{front_length, parts_length, is_marked, first_mark, rule_30, marks_fault, body_fault}
 use Rattle.std.proofs.lemmas.List.FromFn.{get_or-range_with_len, length-range_with_len}
@@ -59,24 +59,24 @@ rule_none at None h = refl
 rule_none at (Some i) h = absurd cc
 
 -- the first of some pieces, and the others
-pub mark_here : (at : ℕ) (bytes : List ℕ) (p : Part) (parts : List Part) → marks_fault at bytes (p ∷ parts) ≡ None → HasNoMarker 0 (take p.length bytes)
+pub mark_here : (at : ℕ) (bytes : List ℕ) (p : HeaderPart) (parts : List HeaderPart) → marks_fault at bytes (p ∷ parts) ≡ None → HasNoMarker 0 (take p.length bytes)
 mark_here at bytes p parts h =
     let first = first_mark (take p.length bytes) in
     unmarked (take p.length bytes) (rule_none at first (or_first (rule_30 at first) (marks_fault (at + p.length) (drop p.length bytes) parts) h))
 
-pub marks_later : (at : ℕ) (bytes : List ℕ) (p : Part) (parts : List Part) → marks_fault at bytes (p ∷ parts) ≡ None → marks_fault (at + p.length) (drop p.length bytes) parts ≡ None
+pub marks_later : (at : ℕ) (bytes : List ℕ) (p : HeaderPart) (parts : List HeaderPart) → marks_fault at bytes (p ∷ parts) ≡ None → marks_fault (at + p.length) (drop p.length bytes) parts ≡ None
 marks_later at bytes p parts h = or_later (rule_30 at (first_mark (take p.length bytes))) (marks_fault (at + p.length) (drop p.length bytes) parts) h
 
 -- ---- rules 28 and 30 at a packet
 
-pub body_fits : (w : List ℕ) (at used : ℕ) (parts : List Part) → body_fault w at used parts ≡ None → front_length w used + parts_length parts ≤ length w
+pub body_fits : (w : List ℕ) (at used : ℕ) (parts : List HeaderPart) → body_fault w at used parts ≡ None → front_length w used + parts_length parts ≤ length w
 unfolding body_fault
 body_fits w at used parts h =
     let b : Bool = nat_lt (length w) (front_length w used + parts_length parts) in
     ltb-false (length w) (front_length w used + parts_length parts)
     (broken_none 28 at b (or_first (broken 28 at b) (marks_fault (at + front_length w used) (drop (front_length w used) w) parts) h))
 
-pub body_marks : (w : List ℕ) (at used : ℕ) (parts : List Part) → body_fault w at used parts ≡ None → marks_fault (at + front_length w used) (drop (front_length w used) w) parts ≡ None
+pub body_marks : (w : List ℕ) (at used : ℕ) (parts : List HeaderPart) → body_fault w at used parts ≡ None → marks_fault (at + front_length w used) (drop (front_length w used) w) parts ≡ None
 unfolding body_fault
 body_marks w at used parts h =
     or_later (broken 28 at (nat_lt (length w) (front_length w used + parts_length parts))) (marks_fault (at + front_length w used) (drop (front_length w used) w) parts) h

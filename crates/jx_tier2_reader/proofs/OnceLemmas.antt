@@ -6,7 +6,7 @@ use Rattle.std.proofs.lemmas.Bool.{cases_lt}
 use Rattle.std.proofs.lemmas.Option.{none-some, same_Some}
 use Rattle.jx_base.specs.declared.pieces.Block.{Block}
 use Rattle.jx_geom.specs.Geometry.{Geometry}
-use Rattle.jx_packet_header.specs.declared.Part.{Part}
+use Rattle.jx_packet_header.specs.declared.HeaderPart.{HeaderPart}
 use Rattle.jx_packet_header.specs.Packet.{State}
 use Rattle.jx_packet_header.specs.Precinct.{IsState}
 use Rattle.jx_packet_header.proofs.PacketLemmas.{one_header, planes_or_packet}
@@ -40,7 +40,7 @@ pub sop_clear : (w : List ℕ) (a b number : ℕ) (f : StreamFault) → sop_faul
 unfolding sop_fault
 sop_clear w a b number f h k = both_clear 26 29 a b _ _ f h k
 
-marks_clear : (a b : ℕ) (bytes : List ℕ) (parts : List Part) (f : StreamFault) → marks_fault a bytes parts ≡ Some f → marks_fault b bytes parts ≡ None → ⊥
+marks_clear : (a b : ℕ) (bytes : List ℕ) (parts : List HeaderPart) (f : StreamFault) → marks_fault a bytes parts ≡ Some f → marks_fault b bytes parts ≡ None → ⊥
 marks_clear a b bytes [] f h k = none-some f h
 marks_clear a b bytes (p ∷ parts) f h k =
     by (first_mark (take p.length bytes)) (marks_fault (a + p.length) (drop p.length bytes) parts) (marks_fault (b + p.length) (drop p.length bytes) parts)
@@ -55,14 +55,14 @@ first_clear : (m a b : ℕ) (v : Bool) (x y : Option StreamFault) (f : StreamFau
 first_clear m a b true x y f rest h k = some_none (fault.Rule m b) k
 first_clear m a b false x y f rest h k = rest h k
 
-pub body_clear : (w : List ℕ) (a b used : ℕ) (parts : List Part) (f : StreamFault) → body_fault w a used parts ≡ Some f → body_fault w b used parts ≡ None → ⊥
+pub body_clear : (w : List ℕ) (a b used : ℕ) (parts : List HeaderPart) (f : StreamFault) → body_fault w a used parts ≡ Some f → body_fault w b used parts ≡ None → ⊥
 unfolding body_fault
 body_clear w a b used parts f h k =
     first_clear 28 a b _ (marks_fault (a + front_length w used) (drop (front_length w used) w) parts) (marks_fault (b + front_length w used) (drop (front_length w used) w) parts) f
     (marks_clear (a + front_length w used) (b + front_length w used) (drop (front_length w used) w) parts f) h k
 
 -- ---- a packet
-cut_of : PacketName → ℕ → ℕ → List Part → List ℕ → State → Cut
+cut_of : PacketName → ℕ → ℕ → List HeaderPart → List ℕ → State → Cut
 cut_of n count used parts bytes after = record { name = n; count = count; used = used; parts = parts; bytes = bytes; after = after }
 
 same_cut : (c d : Cut) → c.name ≡ d.name → c.count ≡ d.count → c.used ≡ d.used → c.parts ≡ d.parts → c.bytes ≡ d.bytes → c.after ≡ d.after → c ≡ d
@@ -77,7 +77,7 @@ cut_once w number k c d is en x y =
     let ep : c.parts ≡ d.parts = one.parts_are in
     let eu : c.used ≡ d.used = one.used_is in
     let front : front_length w c.used ≡ front_length w d.used = ap (front_length w) eu in
-    let long : parts_length c.parts ≡ parts_length d.parts = ap (λ (ps : List Part). parts_length ps) ep in
+    let long : parts_length c.parts ≡ parts_length d.parts = ap (λ (ps : List HeaderPart). parts_length ps) ep in
     let ec : c.count ≡ d.count = x.count_is ∙ ap (λ (m : ℕ). m + parts_length c.parts) front ∙ ap (λ (m : ℕ). front_length w d.used + m) long ∙ sym y.count_is in
     let eb : c.bytes ≡ d.bytes =
     x.bytes_are ∙ ap (λ (m : ℕ). take (parts_length c.parts) (drop m w)) front ∙ ap (λ (m : ℕ). take m (drop (front_length w d.used) w)) long ∙ sym y.bytes_are in
@@ -95,7 +95,7 @@ breaks_not_cut w at number k f c is x cut = elim x [
     | inr body ↦
         let one = one_header (header_in w) k body.parts c.parts body.used c.used body.after c.after is.bands body.header cut.header in
         let P : ℕ → Type 0 = λ u. body_fault w at u body.parts ≡ Some f in
-        let Q : List Part → Type 0 = λ ps. body_fault w at c.used ps ≡ Some f in
+        let Q : List HeaderPart → Type 0 = λ ps. body_fault w at c.used ps ≡ Some f in
         body_clear w at 0 c.used c.parts f (subst Q one.parts_are (subst P one.used_is body.body)) cut.body
   ]
 ]
@@ -117,7 +117,7 @@ body_breaks_once : (w : List ℕ) (at : ℕ) (k : State) (f g : StreamFault) →
 body_breaks_once w at k f g is x y =
     let one = one_header (header_in w) k x.parts y.parts x.used y.used x.after y.after is.bands x.header y.header in
     let P : ℕ → Type 0 = λ u. body_fault w at u x.parts ≡ Some f in
-    let Q : List Part → Type 0 = λ ps. body_fault w at y.used ps ≡ Some f in
+    let Q : List HeaderPart → Type 0 = λ ps. body_fault w at y.used ps ≡ Some f in
     same_Some f g (sym (subst Q one.parts_are (subst P one.used_is x.body)) ∙ y.body)
 
 pub breaks_once : (w : List ℕ) (at number : ℕ) (k : State) (f g : StreamFault) → IsState k → Breaks w at number k f → Breaks w at number k g → f ≡ g

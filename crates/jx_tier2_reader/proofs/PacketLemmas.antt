@@ -2,7 +2,7 @@
 use Rattle.std.proofs.Common.{◌≡◌, ℕ, ◌+◌, ◌≤◌, Bool, true, false, List, [], ◌∷◌, length, take, drop, Some, None, refl, ap, subst, inl, inr, arith, length-append}
 use Rattle.jx_tagtree.specs.Header.{bits_of}
 use Rattle.jx_tagtree.proofs.LawLemmas.{ends_at}
-use Rattle.jx_packet_header.specs.declared.Part.{Part}
+use Rattle.jx_packet_header.specs.declared.HeaderPart.{HeaderPart}
 use Rattle.jx_packet_header.specs.Packet.{State, IsPacket, header_bits}
 use Rattle.jx_codestream.specs.declared.faults.StreamFault.{StreamFault}
 use Rattle.jx_codestream.specs.declared.faults.StreamFault.TheVariants as fault
@@ -19,7 +19,7 @@ cause_on P Q (fault.Limit number found) on h = on (fault.Limit number found) h
 cause_on P Q fault.NoMemory on h = tt
 
 -- a header lies in its bytes
-pub packet_within : (bytes : List ℕ) (k : State) (parts : List Part) (used : ℕ) (after : State) → IsPacket bytes k parts used after → used ≤ length bytes
+pub packet_within : (bytes : List ℕ) (k : State) (parts : List HeaderPart) (used : ℕ) (after : State) → IsPacket bytes k parts used after → used ≤ length bytes
 packet_within bytes k parts used after p =
     let long : length (header_bits k p.header) ≤ length (bits_of bytes).bits = omega (arith, ap length p.stands, length-append (header_bits k p.header) p.rest) in
     (ends_at bytes (length (header_bits k p.header)) used long p.ends).within
@@ -33,13 +33,13 @@ pub sop_anywhere : (w : List ℕ) (at number : ℕ) → sop_fault w at number �
 unfolding sop_fault
 sop_anywhere w at number h = none_of_both _ _ (broken_none 26 at _ (none_first _ _ h)) (broken_none 29 at _ (none_later _ _ h))
 
-marks_anywhere : (at to : ℕ) (bytes : List ℕ) (parts : List Part) → marks_fault at bytes parts ≡ None → marks_fault to bytes parts ≡ None
+marks_anywhere : (at to : ℕ) (bytes : List ℕ) (parts : List HeaderPart) → marks_fault at bytes parts ≡ None → marks_fault to bytes parts ≡ None
 marks_anywhere at to bytes [] h = refl
 marks_anywhere at to bytes (p ∷ parts) h =
     let clear : first_mark (take p.length bytes) ≡ None = mark_none at _ (none_first _ _ h) in
     none_of_both (rule_30 to (first_mark (take p.length bytes))) _ (rw clear refl) (marks_anywhere (at + p.length) (to + p.length) (drop p.length bytes) parts (none_later _ _ h))
 
-pub body_anywhere : (w : List ℕ) (at used : ℕ) (parts : List Part) → body_fault w at used parts ≡ None → body_fault w 0 used parts ≡ None
+pub body_anywhere : (w : List ℕ) (at used : ℕ) (parts : List HeaderPart) → body_fault w at used parts ≡ None → body_fault w 0 used parts ≡ None
 unfolding body_fault
 body_anywhere w at used parts h =
     none_of_both _ _ (broken_none 28 at _ (none_first _ _ h)) (marks_anywhere _ _ _ parts (none_later _ _ h))
@@ -61,7 +61,7 @@ head_breaks w h at number k e sop same breaks =
     let P : List ℕ → Type 0 = λ h. HasCause (BreaksHeader h at k) e in
     cause_on (BreaksHeader (header_in w) at k) (Breaks w at number k) e (λ f b. inr (sop, inl b)) (subst P same breaks)
 
-pub body_breaks : (w h : List ℕ) (at number : ℕ) (k : State) (parts : List Part) (used : ℕ) (after : State) (e : StreamFault) → sop_fault w at number ≡ None → h ≡ header_in w
+pub body_breaks : (w h : List ℕ) (at number : ℕ) (k : State) (parts : List HeaderPart) (used : ℕ) (after : State) (e : StreamFault) → sop_fault w at number ≡ None → h ≡ header_in w
     → IsPacket h k parts used after → HasCause (λ f. body_fault w at used parts ≡ Some f) e → HasCause (Breaks w at number k) e
 body_breaks w h at number k parts used after e sop same packet breaks =
     let P : List ℕ → Type 0 = λ h. IsPacket h k parts used after in

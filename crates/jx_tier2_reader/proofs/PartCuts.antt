@@ -1,9 +1,9 @@
 -- The parts of a block in one packet are cut exactly after each pass that ends a segment.
 use Rattle.std.proofs.Common.{◌≡◌, ℕ, ◌+◌, ◌-◌, ◌<◌, ◌≤◌, Bool, true, false, List, [], ◌∷◌, ◌++◌, length, map, refl, sym, ap, ◌∙◌, subst, cond, arith, inl, inr, MatchBool, length-append}
 use Rattle.std.proofs.lemmas.Bool.{cases_lt, cases_eq}
-use Rattle.jx_packet_header.specs.declared.Part.{Part}
+use Rattle.jx_packet_header.specs.declared.HeaderPart.{HeaderPart}
 use Rattle.jx_packet_header.specs.declared.known.Known.{Known}
-use Rattle.jx_packet_header.specs.Parts.{cut, AreParts}
+use Rattle.jx_packet_header.specs.Parts.{cut, AreHeaderParts}
 use Rattle.jx_packet_header.specs.Written.{passes_of}
 use Rattle.jx_packet_header.specs.Packet.{Cells, State, Values, Entry, nothing, contributes, block_at, unknown_block, IsIncluded, zero_planes, entry_after, IsEntry, AreEntries, parts_told, BandTold, AreBandsTold, bands_parts, Header, IsPacket}
 use Rattle.jx_packet_header.specs.Precinct.{all_blocks}
@@ -14,15 +14,15 @@ use Rattle.jx_packet_header.proofs.WriteLemmas.{other_same as other_known}
 
 -- ---- the parts of a packet
 -- parts from a pass on that are cut at the ends of segments
-abbrev pub Cuts : ℕ → ℕ → List Part → Type 0
-Cuts style first ps = map (λ (p : Part). p.passes) ps ≡ cut style first (passes_of ps)
+abbrev pub Cuts : ℕ → ℕ → List HeaderPart → Type 0
+Cuts style first ps = map (λ (p : HeaderPart). p.passes) ps ≡ cut style first (passes_of ps)
 
-runs_are : (lblock block first : ℕ) (runs : List ℕ) (ps : List Part) → AreParts lblock block first runs ps → map (λ (p : Part). p.passes) ps ≡ runs
+runs_are : (lblock block first : ℕ) (runs : List ℕ) (ps : List HeaderPart) → AreHeaderParts lblock block first runs ps → map (λ (p : HeaderPart). p.passes) ps ≡ runs
 runs_are lblock block first [] [] a = refl
 runs_are lblock block first [] (p ∷ ps) a = absurd a
 runs_are lblock block first (run ∷ runs) [] a = absurd a
 runs_are lblock block first (run ∷ runs) (p ∷ ps) a =
-    ap (λ (n : ℕ). n ∷ map (λ (q : Part). q.passes) ps) a.0.has ∙ ap (λ (ns : List ℕ). run ∷ ns) (runs_are lblock block (first + run) runs ps a.1)
+    ap (λ (n : ℕ). n ∷ map (λ (q : HeaderPart). q.passes) ps) a.0.has ∙ ap (λ (ns : List ℕ). run ∷ ns) (runs_are lblock block (first + run) runs ps a.1)
 
 entry_cut : (v : Values) (style layer block leaf : ℕ) (cells : Cells) (e : Entry) → IsEntry v style layer block leaf cells e → Cuts style (block_at cells leaf).passes e.parts
 entry_cut v style layer block leaf cells e is = by (contributes e) is.told
@@ -88,14 +88,14 @@ header_cut k h j true is lt =
     subst (λ (i : ℕ). Cuts k.style (known_in k.bands j).passes (own_parts i (bands_parts h.tolds))) e (bands_cut k.style k.layer 0 j k.bands h.tolds is lt)
 header_cut k h j false is lt = refl
 
-pub packet_cut : (bytes : List ℕ) (k : State) (parts : List Part) (used : ℕ) (after : State) → IsPacket bytes k parts used after → (j : ℕ) → j < length (all_blocks k.bands)
+pub packet_cut : (bytes : List ℕ) (k : State) (parts : List HeaderPart) (used : ℕ) (after : State) → IsPacket bytes k parts used after → (j : ℕ) → j < length (all_blocks k.bands)
     → Cuts k.style (known_in k.bands j).passes (own_parts j parts)
-packet_cut bytes k parts used after p j lt = subst (λ (l : List Part). Cuts k.style (known_in k.bands j).passes (own_parts j l)) (sym p.parts_are) (header_cut k p.header j p.header.some p.is lt)
+packet_cut bytes k parts used after p j lt = subst (λ (l : List HeaderPart). Cuts k.style (known_in k.bands j).passes (own_parts j l)) (sym p.parts_are) (header_cut k p.header j p.header.some p.is lt)
 
 -- how many passes a block has after a packet
-pub goes_on : (style planes : ℕ) (own : List Part) (old new : Known) → Goes style planes own old new → new.passes ≡ old.passes + passes_of own
+pub goes_on : (style planes : ℕ) (own : List HeaderPart) (old new : Known) → Goes style planes own old new → new.passes ≡ old.passes + passes_of own
 goes_on style planes own old new (inl none) =
     let a : new.passes ≡ old.passes = ap (λ (x : Known). x.passes) none.1 in
-    let b : passes_of own ≡ 0 = ap (λ (l : List Part). passes_of l) none.0 in
+    let b : passes_of own ≡ 0 = ap (λ (l : List HeaderPart). passes_of l) none.0 in
     omega arith
 goes_on style planes own old new (inr some) = sym (steps_all style old.passes new.passes own some.steps)

@@ -5,9 +5,9 @@ use Rattle.std.proofs.lemmas.List.Elements.{filter-append}
 use Rattle.jx_base.specs.Passes.{end_pass}
 use Rattle.jx_base.specs.Pieces.{IsInOneSegment}
 use Rattle.jx_tagtree.specs.Header.{bits_of}
-use Rattle.jx_packet_header.specs.declared.Part.{Part}
+use Rattle.jx_packet_header.specs.declared.HeaderPart.{HeaderPart}
 use Rattle.jx_packet_header.specs.declared.known.Known.{Known}
-use Rattle.jx_packet_header.specs.Parts.{one_more, cut, AreParts}
+use Rattle.jx_packet_header.specs.Parts.{one_more, cut, AreHeaderParts}
 use Rattle.jx_packet_header.specs.Packet.{Cells, State, Values, Agree, Entry, nothing, contributes, block_at, block_after, unknown_block, most_passes, IsIncluded, zero_planes, cells_first, cells_included, entry_after, entry_bits, IsEntry, blocks_bits, blocks_after, AreEntries, parts_told, BandTold, band_bits, band_after, bands_bits, bands_after, AreBandsTold, bands_parts, Header, header_bits, IsPacket}
 use Rattle.jx_packet_header.specs.Kept.{IsBand, AreBands}
 use Rattle.jx_packet_header.specs.Writable.{SameSize}
@@ -21,8 +21,8 @@ use Rattle.jx_base.proofs.PieceLemmas.{alone, longer}
 
 -- ---- parts
 -- those of one block
-abbrev pub own_parts : ℕ → List Part → List Part
-own_parts j parts = filter (λ (p : Part). p.block == j) parts
+abbrev pub own_parts : ℕ → List HeaderPart → List HeaderPart
+own_parts j parts = filter (λ (p : HeaderPart). p.block == j) parts
 
 -- what was told of a block of a precinct
 abbrev pub known_in : List Cells → ℕ → Known
@@ -34,18 +34,18 @@ planes_of [] j = 0
 planes_of (cells ∷ bands) j = if nat_lt j (length cells.blocks) then cells.planes else planes_of bands (j - length cells.blocks)
 
 -- a part has passes from one on, in one segment
-pub record IsStep (style first : ℕ) (p : Part) : Type 0 where
+pub record IsStep (style first : ℕ) (p : HeaderPart) : Type 0 where
   pub begins : p.first ≡ first
   pub some : 1 ≤ p.passes
   pub segment : IsInOneSegment style p.first p.passes
 
 -- parts that have each pass from one on and below another once
-abbrev pub AreSteps : ℕ → ℕ → ℕ → List Part → Type 0
+abbrev pub AreSteps : ℕ → ℕ → ℕ → List HeaderPart → Type 0
 AreSteps style first passes [] = first ≡ passes
 AreSteps style first passes (p ∷ ps) = IsStep style first p × AreSteps style (first + p.passes) passes ps
 
 -- a packet includes a block
-pub record Included (style planes : ℕ) (own : List Part) (old new : Known) : Type 0 where
+pub record Included (style planes : ℕ) (own : List HeaderPart) (old new : Known) : Type 0 where
   pub z : ℕ
   pub below : z < planes
   pub was : (old.zero ≡ None) ⊎ (old.zero ≡ Some z)
@@ -55,14 +55,14 @@ pub record Included (style planes : ℕ) (own : List Part) (old new : Known) : T
   pub steps : AreSteps style old.passes new.passes own
 
 -- it does, or it tells nothing of it
-abbrev pub Goes : ℕ → ℕ → List Part → Known → Known → Type 0
+abbrev pub Goes : ℕ → ℕ → List HeaderPart → Known → Known → Type 0
 Goes style planes own old new = ((own ≡ []) × (new ≡ old)) ⊎ Included style planes own old new
 
 -- the same, written otherwise
-goes_same : (style planes planes' : ℕ) (own own' : List Part) (old old' new new' : Known) → planes ≡ planes' → own ≡ own' → old ≡ old' → new ≡ new' → Goes style planes own old new → Goes style planes' own' old' new'
+goes_same : (style planes planes' : ℕ) (own own' : List HeaderPart) (old old' new new' : Known) → planes ≡ planes' → own ≡ own' → old ≡ old' → new ≡ new' → Goes style planes own old new → Goes style planes' own' old' new'
 goes_same style planes planes' own own' old old' new new' p o e f g =
     subst (λ (n : ℕ). Goes style n own' old' new') p
-    (subst (λ (l : List Part). Goes style planes l old' new') o
+    (subst (λ (l : List HeaderPart). Goes style planes l old' new') o
     (subst (λ (k : Known). Goes style planes own k new') e
     (subst (λ (k : Known). Goes style planes own old k) f g)))
 
@@ -88,7 +88,7 @@ cut_runs style first (suc n) = by (end_pass style first) refl
     by true e r = (omega arith, alone style first, r)
     by false e r = more_runs style first (first + suc n) (cut style (first + 1) n) e r
 
-pub steps_from : (style lblock block first last : ℕ) (runs : List ℕ) (ps : List Part) → AreParts lblock block first runs ps → AreRuns style first last runs → AreSteps style first last ps
+pub steps_from : (style lblock block first last : ℕ) (runs : List ℕ) (ps : List HeaderPart) → AreHeaderParts lblock block first runs ps → AreRuns style first last runs → AreSteps style first last ps
 steps_from style lblock block first last [] [] a r = r
 steps_from style lblock block first last [] (p ∷ ps) a r = absurd a
 steps_from style lblock block first last (run ∷ runs) [] a r = absurd a
@@ -105,27 +105,27 @@ steps_from style lblock block first last (run ∷ runs) (p ∷ ps) a r =
 
 -- ---- the blocks of parts
 -- a part of one of some blocks
-pub record IsWithin (low high : ℕ) (p : Part) : Type 0 where
+pub record IsWithin (low high : ℕ) (p : HeaderPart) : Type 0 where
   pub above : low ≤ p.block
   pub below : p.block < high
   pub some : 1 ≤ p.passes
 
-abbrev pub AreWithin : ℕ → ℕ → List Part → Type 0
+abbrev pub AreWithin : ℕ → ℕ → List HeaderPart → Type 0
 AreWithin low high [] = Unit {0}
 AreWithin low high (p ∷ ps) = IsWithin low high p × AreWithin low high ps
 
-within_append : (low high : ℕ) (ps qs : List Part) → AreWithin low high ps → AreWithin low high qs → AreWithin low high (ps ++ qs)
+within_append : (low high : ℕ) (ps qs : List HeaderPart) → AreWithin low high ps → AreWithin low high qs → AreWithin low high (ps ++ qs)
 within_append low high [] qs p q = q
 within_append low high (x ∷ ps) qs p q = (p.0, within_append low high ps qs p.1 q)
 
-within_wider : (low high low' high' : ℕ) (ps : List Part) → low' ≤ low → high ≤ high' → AreWithin low high ps → AreWithin low' high' ps
+within_wider : (low high low' high' : ℕ) (ps : List HeaderPart) → low' ≤ low → high ≤ high' → AreWithin low high ps → AreWithin low' high' ps
 within_wider low high low' high' [] l h a = tt
 within_wider low high low' high' (p ∷ ps) l h a =
     let x : low ≤ p.block = a.0.above in
     let y : p.block < high = a.0.below in
     (record { above = omega arith; below = omega arith; some = a.0.some }, within_wider low high low' high' ps l h a.1)
 
-pub own_none : (low high j : ℕ) (ps : List Part) → AreWithin low high ps → (j < low) ⊎ (high ≤ j) → own_parts j ps ≡ []
+pub own_none : (low high j : ℕ) (ps : List HeaderPart) → AreWithin low high ps → (j < low) ⊎ (high ≤ j) → own_parts j ps ≡ []
 own_none low high j [] a out = refl
 own_none low high j (p ∷ ps) a out =
     let other : p.block ≡ j → ⊥ = (λ (e : p.block ≡ j). apart e out) in
@@ -135,17 +135,17 @@ own_none low high j (p ∷ ps) a out =
     apart e (inl lt) = let x : low ≤ p.block = a.0.above in omega arith
     apart e (inr ge) = let y : p.block < high = a.0.below in omega arith
 
-own_append : (j : ℕ) (ps qs : List Part) → own_parts j (ps ++ qs) ≡ own_parts j ps ++ own_parts j qs
-own_append j ps qs = filter-append (λ (p : Part). p.block == j) ps qs
+own_append : (j : ℕ) (ps qs : List HeaderPart) → own_parts j (ps ++ qs) ≡ own_parts j ps ++ own_parts j qs
+own_append j ps qs = filter-append (λ (p : HeaderPart). p.block == j) ps qs
 
 -- where the one list or the other has none of a block
-pub own_left : (j : ℕ) (ps qs : List Part) → own_parts j qs ≡ [] → own_parts j ps ≡ own_parts j (ps ++ qs)
-own_left j ps qs e = sym (own_append j ps qs ∙ ap (λ (l : List Part). own_parts j ps ++ l) e ∙ append-nil (own_parts j ps))
+pub own_left : (j : ℕ) (ps qs : List HeaderPart) → own_parts j qs ≡ [] → own_parts j ps ≡ own_parts j (ps ++ qs)
+own_left j ps qs e = sym (own_append j ps qs ∙ ap (λ (l : List HeaderPart). own_parts j ps ++ l) e ∙ append-nil (own_parts j ps))
 
-pub own_right : (j : ℕ) (ps qs : List Part) → own_parts j ps ≡ [] → own_parts j qs ≡ own_parts j (ps ++ qs)
-own_right j ps qs e = sym (own_append j ps qs ∙ ap (λ (l : List Part). l ++ own_parts j qs) e)
+pub own_right : (j : ℕ) (ps qs : List HeaderPart) → own_parts j ps ≡ [] → own_parts j qs ≡ own_parts j (ps ++ qs)
+own_right j ps qs e = sym (own_append j ps qs ∙ ap (λ (l : List HeaderPart). l ++ own_parts j qs) e)
 
-parts_within : (style lblock block first last : ℕ) (runs : List ℕ) (ps : List Part) → AreParts lblock block first runs ps → AreRuns style first last runs → AreWithin block (block + 1) ps
+parts_within : (style lblock block first last : ℕ) (runs : List ℕ) (ps : List HeaderPart) → AreHeaderParts lblock block first runs ps → AreRuns style first last runs → AreWithin block (block + 1) ps
 parts_within style lblock block first last [] [] a r = tt
 parts_within style lblock block first last [] (p ∷ ps) a r = absurd a
 parts_within style lblock block first last (run ∷ runs) [] a r = absurd a
@@ -155,13 +155,13 @@ parts_within style lblock block first last (run ∷ runs) (p ∷ ps) a r =
     let some : 1 ≤ run = r.0 in
     (record { above = omega arith; below = omega arith; some = omega arith }, parts_within style lblock block (first + run) last runs ps a.1 r.2)
 
-pub own_all : (block : ℕ) (ps : List Part) → AreWithin block (block + 1) ps → own_parts block ps ≡ ps
+pub own_all : (block : ℕ) (ps : List HeaderPart) → AreWithin block (block + 1) ps → own_parts block ps ≡ ps
 own_all block [] a = refl
 own_all block (p ∷ ps) a =
     let x : block ≤ p.block = a.0.above in
     let y : p.block < block + 1 = a.0.below in
     let same : p.block ≡ block = omega arith in
-    cond-true (p.block == block) (p ∷ own_parts block ps) (own_parts block ps) (eq-eqb p.block block same) ∙ ap (λ (l : List Part). p ∷ l) (own_all block ps a.1)
+    cond-true (p.block == block) (p ∷ own_parts block ps) (own_parts block ps) (eq-eqb p.block block same) ∙ ap (λ (l : List HeaderPart). p ∷ l) (own_all block ps a.1)
 
 -- ---- one block
 pub entry_within : (v : Values) (style layer block leaf : ℕ) (cells : Cells) (e : Entry) → IsEntry v style layer block leaf cells e → AreWithin block (block + 1) e.parts
@@ -365,7 +365,7 @@ bands_state style layer base (cells ∷ bands) (told ∷ tolds) b are few =
 
 -- ---- a packet
 -- a part of one of so many blocks
-pub record PartIn (count : ℕ) (p : Part) : Type 0 where
+pub record PartIn (count : ℕ) (p : HeaderPart) : Type 0 where
   pub inside : p.block < count
   pub some : 1 ≤ p.passes
 
@@ -376,7 +376,7 @@ pub record Kept (after k : State) : Type 0 where
   pub blocks : length (all_blocks after.bands) ≡ length (all_blocks k.bands)
   pub planes : (j : ℕ) → planes_of after.bands j ≡ planes_of k.bands j
 
-parts_in : (high : ℕ) (ps : List Part) → AreWithin 0 high ps → (i : ℕ) (d : Part) → i < length ps → PartIn high (get_or ps i d)
+parts_in : (high : ℕ) (ps : List HeaderPart) → AreWithin 0 high ps → (i : ℕ) (d : HeaderPart) → i < length ps → PartIn high (get_or ps i d)
 parts_in high [] a i d lt = absurd (omega arith)
 parts_in high (p ∷ ps) a zero d lt = record { inside = a.0.below; some = a.0.some }
 parts_in high (p ∷ ps) a (suc i) d lt = parts_in high ps a.1 i d (omega arith)
@@ -407,22 +407,22 @@ header_state : (k : State) (h : Header) (c : Bool) → AreBands k.bands → leng
 header_state k h true b few is = bands_state k.style k.layer 0 k.bands h.tolds b is (omega arith)
 header_state k h false b few is = b
 
-pub part_inside : (bytes : List ℕ) (k : State) (parts : List Part) (used : ℕ) (after : State) → IsPacket bytes k parts used after → All (PartIn (length (all_blocks k.bands))) parts
+pub part_inside : (bytes : List ℕ) (k : State) (parts : List HeaderPart) (used : ℕ) (after : State) → IsPacket bytes k parts used after → All (PartIn (length (all_blocks k.bands))) parts
 part_inside bytes k parts used after p =
-    subst (λ (l : List Part). All (PartIn (length (all_blocks k.bands))) l) (sym p.parts_are)
+    subst (λ (l : List HeaderPart). All (PartIn (length (all_blocks k.bands))) l) (sym p.parts_are)
     (parts_in (length (all_blocks k.bands)) (cond p.header.some (bands_parts p.header.tolds) []) (header_within k p.header p.header.some p.is))
 
-pub packet_goes : (bytes : List ℕ) (k : State) (parts : List Part) (used : ℕ) (after : State) → IsPacket bytes k parts used after → (j : ℕ) → j < length (all_blocks k.bands) →
+pub packet_goes : (bytes : List ℕ) (k : State) (parts : List HeaderPart) (used : ℕ) (after : State) → IsPacket bytes k parts used after → (j : ℕ) → j < length (all_blocks k.bands) →
     Goes k.style (planes_of k.bands j) (own_parts j parts) (known_in k.bands j) (known_in after.bands j)
 packet_goes bytes k parts used after p j lt =
-    subst (λ (l : List Part). Goes k.style (planes_of k.bands j) (own_parts j l) (known_in k.bands j) (known_in after.bands j)) (sym p.parts_are)
+    subst (λ (l : List HeaderPart). Goes k.style (planes_of k.bands j) (own_parts j l) (known_in k.bands j) (known_in after.bands j)) (sym p.parts_are)
     (subst (λ (a : State). Goes k.style (planes_of k.bands j) (own_parts j (cond p.header.some (bands_parts p.header.tolds) [])) (known_in k.bands j) (known_in a.bands j)) (sym p.after_is)
     (header_goes k p.header j lt p.header.some p.is))
 
-pub packet_kept : (bytes : List ℕ) (k : State) (parts : List Part) (used : ℕ) (after : State) → IsPacket bytes k parts used after → Kept after k
+pub packet_kept : (bytes : List ℕ) (k : State) (parts : List HeaderPart) (used : ℕ) (after : State) → IsPacket bytes k parts used after → Kept after k
 packet_kept bytes k parts used after p = subst (λ (a : State). Kept a k) (sym p.after_is) (header_kept k p.header p.header.some p.is)
 
-pub state_kept : (bytes : List ℕ) (k : State) (parts : List Part) (used : ℕ) (after : State) → length bytes < 2 ^ 64 → IsState k → IsPacket bytes k parts used after → IsState after
+pub state_kept : (bytes : List ℕ) (k : State) (parts : List HeaderPart) (used : ℕ) (after : State) → length bytes < 2 ^ 64 → IsState k → IsPacket bytes k parts used after → IsState after
 state_kept bytes k parts used after short s p =
     let kept : Kept after k = packet_kept bytes k parts used after p in
     let all : length (bits_of bytes).bits ≡ length (header_bits k p.header) + length p.rest = ap length p.stands ∙ length-append (header_bits k p.header) p.rest in

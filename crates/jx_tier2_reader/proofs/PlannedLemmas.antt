@@ -13,7 +13,8 @@ use Rattle.jx_base.specs.Sound.{IsSound}
 use Rattle.jx_base.proofs.Joined.{joined_none}
 use Rattle.jx_geom.specs.Geometry.{GeometryInRange}
 use Rattle.jx_geom.specs.Numbering.{blocks_below}
-use Rattle.jx_packet_header.specs.declared.Part.{Part}
+use Rattle.jx_packet_header.specs.declared.HeaderPart.{HeaderPart}
+use Rattle.jx_packet_header.specs.declared.LeafPart.{LeafPart}
 use Rattle.jx_packet_header.specs.declared.BandCells.{BandCells}
 use Rattle.jx_packet_header.specs.declared.known.Known.{Known}
 use Rattle.jx_packet_header.specs.Packet.{Cells, State, IsPacket, block_at, unknown_block}
@@ -38,10 +39,10 @@ use Rattle.jx_geom.specs.Precincts.{leaves}
 use Rattle.jx_tile.specs.Cells.{precinct_bands}
 use Rattle.jx_geom.specs.Precincts.{HasPrecinct, leaf_number}
 use Rattle.jx_tier2_reader.specs.Blocks.{told_zero, zero_in}
-use Rattle.jx_tier2_reader.specs.Written.{Written, Packets, next_layer, IsWritten, AreWritten}
+use Rattle.jx_tier2_reader.specs.Written.{WrittenPacket, Packets, next_layer, IsWritten, AreWritten}
 use Rattle.jx_tier2_reader.specs.BlockOf.{pieces_at}
-use Rattle.jx_tier2_reader.specs.Carries.{pieces_of, block_in, carried, part_of, parts_of, bytes_of, Carries, AllCarry}
-use Rattle.jx_tier2_reader.specs.Planned.{part_in, leaf_in, leaves_of_blocks, IsPlanned, ArePlanned}
+use Rattle.jx_tier2_reader.specs.Carries.{pieces_of, block_in, carried, header_part_of, carried_parts, carried_bytes, Carries, AllCarry}
+use Rattle.jx_tier2_reader.specs.Planned.{leaf_part_of, leaf_in, leaves_of_blocks, IsPlanned, ArePlanned}
 use Rattle.jx_tier2_reader.proofs.FreshLemmas.{fresh_in_range}
 use Rattle.jx_tier2_reader.proofs.CarryLemmas.{layer_here, layer_past, layer_nothing}
 use Rattle.jx_tier2_reader.proofs.LaidBlocks.{joined_first}
@@ -51,40 +52,40 @@ use Rattle.jx_tier2_reader.proofs.TurnLemmas.{has_precinct}
 use Rattle.jx_tier2_reader.proofs.FillLemmas.{AreUnmarked, Fills, fills_joined}
 
 -- ---- the parts of a layer
-in_here : (layer : ℕ) (p : ℕ × Part) (ps : List (ℕ × Part)) → p.0 ≡ layer → parts_in layer (p ∷ ps) ≡ p.1 ∷ parts_in layer ps
-in_here layer p ps e = cond-true (p.0 == layer) (p.1 ∷ parts_in layer ps) (parts_in layer ps) (eq-eqb p.0 layer e)
+in_here : (layer : ℕ) (p : LeafPart) (ps : List LeafPart) → p.layer ≡ layer → parts_in layer (p ∷ ps) ≡ p.told ∷ parts_in layer ps
+in_here layer p ps e = cond-true (p.layer == layer) (p.told ∷ parts_in layer ps) (parts_in layer ps) (eq-eqb p.layer layer e)
 
-in_past : (layer : ℕ) (p : ℕ × Part) (ps : List (ℕ × Part)) → (p.0 ≡ layer → ⊥) → parts_in layer (p ∷ ps) ≡ parts_in layer ps
-in_past layer p ps ne = cond-false (p.0 == layer) (p.1 ∷ parts_in layer ps) (parts_in layer ps) (ne_eqb p.0 layer ne)
+in_past : (layer : ℕ) (p : LeafPart) (ps : List LeafPart) → (p.layer ≡ layer → ⊥) → parts_in layer (p ∷ ps) ≡ parts_in layer ps
+in_past layer p ps ne = cond-false (p.layer == layer) (p.told ∷ parts_in layer ps) (parts_in layer ps) (ne_eqb p.layer layer ne)
 
-pub parts_of_pieces : (layer j : ℕ) (qs : List PieceValue) → parts_in layer (map (part_in j) qs) ≡ map (part_of j) (pieces_at layer qs)
-parts_of_pieces layer j [] = sym (ap (map (part_of j)) (layer_nothing layer))
+pub parts_of_pieces : (layer j : ℕ) (qs : List PieceValue) → parts_in layer (map (leaf_part_of j) qs) ≡ map (header_part_of j) (pieces_at layer qs)
+parts_of_pieces layer j [] = sym (ap (map (header_part_of j)) (layer_nothing layer))
 parts_of_pieces layer j (q ∷ qs) = elim (cases_eq q.layer layer) [
   | inl e ↦
-      in_here layer (part_in j q) (map (part_in j) qs) e ∙ ap (λ (ps : List Part). part_of j q ∷ ps) (parts_of_pieces layer j qs)
-      ∙ sym (ap (map (part_of j)) (layer_here layer q qs e))
-  | inr ne ↦ in_past layer (part_in j q) (map (part_in j) qs) ne ∙ parts_of_pieces layer j qs ∙ sym (ap (map (part_of j)) (layer_past layer q qs ne))
+      in_here layer (leaf_part_of j q) (map (leaf_part_of j) qs) e ∙ ap (λ (ps : List HeaderPart). header_part_of j q ∷ ps) (parts_of_pieces layer j qs)
+      ∙ sym (ap (map (header_part_of j)) (layer_here layer q qs e))
+  | inr ne ↦ in_past layer (leaf_part_of j q) (map (leaf_part_of j) qs) ne ∙ parts_of_pieces layer j qs ∙ sym (ap (map (header_part_of j)) (layer_past layer q qs ne))
 ]
 
 pub parts_over : (layer : ℕ) (leaf : ℕ → Leafed) (n a b : ℕ) → a + n ≡ b → parts_at layer (map leaf (range_with_len a n)) ≡ joined (λ j. parts_in layer (leaf j).parts) a b
 parts_over layer leaf zero a b e = sym (joined_none (λ j. parts_in layer (leaf j).parts) a b (omega arith))
 parts_over layer leaf (suc n) a b e =
-    ap (λ (ps : List Part). parts_in layer (leaf a).parts ++ ps) (parts_over layer leaf n (a + 1) b (omega arith))
+    ap (λ (ps : List HeaderPart). parts_in layer (leaf a).parts ++ ps) (parts_over layer leaf n (a + 1) b (omega arith))
     ∙ sym (joined_first (λ j. parts_in layer (leaf j).parts) a b (omega arith))
 
-same_joined : (f h : ℕ → List Part) (n a b : ℕ) → a + n ≡ b → ((i : ℕ) → f i ≡ h i) → joined f a b ≡ joined h a b
+same_joined : (f h : ℕ → List HeaderPart) (n a b : ℕ) → a + n ≡ b → ((i : ℕ) → f i ≡ h i) → joined f a b ≡ joined h a b
 same_joined f h zero a b e same = joined_none f a b (omega arith) ∙ sym (joined_none h a b (omega arith))
 same_joined f h (suc n) a b e same =
-    joined_first f a b (omega arith) ∙ ap (λ (xs : List Part). xs ++ joined f (a + 1) b) (same a) ∙ ap (λ (xs : List Part). h a ++ xs) (same_joined f h n (a + 1) b (omega arith) same)
+    joined_first f a b (omega arith) ∙ ap (λ (xs : List HeaderPart). xs ++ joined f (a + 1) b) (same a) ∙ ap (λ (xs : List HeaderPart). h a ++ xs) (same_joined f h n (a + 1) b (omega arith) same)
     ∙ sym (joined_first h a b (omega arith))
 
-planned_parts : (s : Stream) (t : ℕ) (blocks : List Block) (c r k l : ℕ) → parts_at l (leaves_of_blocks s t blocks c r k) ≡ joined (parts_of s t blocks (name_of l r c k)) 0 (leaves (geometry s t) c r k)
+planned_parts : (s : Stream) (t : ℕ) (blocks : List Block) (c r k l : ℕ) → parts_at l (leaves_of_blocks s t blocks c r k) ≡ joined (carried_parts s t blocks (name_of l r c k)) 0 (leaves (geometry s t) c r k)
 unfolding leaves_of_blocks
 planned_parts s t blocks c r k l =
     let n : ℕ = leaves (geometry s t) c r k in
     let e : 0 + n ≡ n = omega arith in
     parts_over l (leaf_in s t blocks c r k) n 0 n e
-    ∙ same_joined (λ j. parts_in l (leaf_in s t blocks c r k j).parts) (parts_of s t blocks (name_of l r c k)) n 0 n e (λ j. parts_of_pieces l j (pieces_of (block_in s t blocks (name_of 0 r c k) j)))
+    ∙ same_joined (λ j. parts_in l (leaf_in s t blocks c r k j).parts) (carried_parts s t blocks (name_of l r c k)) n 0 n e (λ j. parts_of_pieces l j (pieces_of (block_in s t blocks (name_of 0 r c k) j)))
 
 -- ---- their bytes
 -- pieces of sound blocks have no marker
@@ -141,11 +142,11 @@ bands_told style layers layer base (cells ∷ bands) lvs i b lt =
           (bands_told style layers layer (base + n) bands (drop n lvs) (i - n) b.1 (omega (arith, length-drop n lvs))))
     ]
 
-zero_known : (layers block l z : ℕ) (parts : List (ℕ × Part)) → AreRuns layers block 0 0 parts → (parts_in l parts ≡ [] → ⊥) → told_zero (zero_told (l + 1) z parts) ≡ z
+zero_known : (layers block l z : ℕ) (parts : List LeafPart) → AreRuns layers block 0 0 parts → (parts_in l parts ≡ [] → ⊥) → told_zero (zero_told (l + 1) z parts) ≡ z
 zero_known layers block l z [] runs some = absurd (some refl)
-zero_known layers block l z (p ∷ ps) runs some = elim (cases_lt l p.0) [
-  | inl below ↦ absurd (some (in_none layers block l p.0 0 (p ∷ ps) ((let le : p.0 ≤ p.0 = omega arith in le), runs.1, runs.2, runs.3, runs.4, runs.5) below))
-  | inr le ↦ (let lt : p.0 < l + 1 = omega arith in ap told_zero (cond-true (nat_lt p.0 (l + 1)) (Some z) None (lt-ltb p.0 (l + 1) lt)))
+zero_known layers block l z (p ∷ ps) runs some = elim (cases_lt l p.layer) [
+  | inl below ↦ absurd (some (in_none layers block l p.layer 0 (p ∷ ps) ((let le : p.layer ≤ p.layer = omega arith in le), runs.1, runs.2, runs.3, runs.4, runs.5) below))
+  | inr le ↦ (let lt : p.layer < l + 1 = omega arith in ap told_zero (cond-true (nat_lt p.layer (l + 1)) (Some z) None (lt-ltb p.layer (l + 1) lt)))
 ]
 
 state_zero : (layers style l : ℕ) (bands : List BandCells) (lvs : List Leafed) (j : ℕ) → CellsInRange bands → LeavesFit style layers bands lvs → InTypes layers lvs → l < layers → j < length lvs
@@ -168,7 +169,7 @@ unfolding leaves_of_blocks
 leaves_are s t blocks c r k j lt =
     let e : 0 + j ≡ j = omega arith in get_or-map-range_with_len (leaf_in s t blocks c r k) 0 (leaves (geometry s t) c r k) j j no_leaf lt e
 
-none_of : (j : ℕ) (qs : List PieceValue) → map (part_of j) qs ≡ [] → qs ≡ []
+none_of : (j : ℕ) (qs : List PieceValue) → map (header_part_of j) qs ≡ [] → qs ≡ []
 none_of j [] e = refl
 none_of j (q ∷ qs) e = absurd (cc)
 
@@ -194,7 +195,7 @@ module _ (s : Stream) (t : ℕ) (blocks : List Block) (ps : Packets) (range : St
         zeros = λ j lt some.
             (let long : length lvs ≡ leaves (geometry s t) p.comp p.res p.precinct = leaves_long s t blocks p.comp p.res p.precinct in
             let leaf : leaf_at lvs j ≡ leaf_in s t blocks p.comp p.res p.precinct j = leaves_are s t blocks p.comp p.res p.precinct j lt in
-            let own : parts_in p.layer (leaf_at lvs j).parts ≡ map (part_of j) (carried s t blocks p j) =
+            let own : parts_in p.layer (leaf_at lvs j).parts ≡ map (header_part_of j) (carried s t blocks p j) =
             ap (λ (x : Leafed). parts_in p.layer x.parts) leaf ∙ parts_of_pieces p.layer j (pieces_of (block_in s t blocks p j)) in
             ap (λ (x : State). zero_in x j) (plan.before (p.layer + 1) (let lt' = is.layer in omega arith))
             ∙ state_zero (layers_of s t) (style_of s t p.comp) p.layer (precinct_bands s (geometry s t) p.comp p.res p.precinct) lvs j (cells_range p.comp p.res p.precinct has) (fits p.comp p.res p.precinct has).0 (fits p.comp p.res p.precinct has).1 is.layer (omega arith)
@@ -212,15 +213,15 @@ module _ (s : Stream) (t : ℕ) (blocks : List Block) (ps : Packets) (range : St
       let style : ℕ = style_of s t p.comp in
       let bands : List BandCells = precinct_bands s (geometry s t) p.comp p.res p.precinct in
       let n : ℕ = leaves (geometry s t) p.comp p.res p.precinct in
-      let x : Written = ps.written p in
-      let fills : Fills (joined (parts_of s t blocks p) 0 n) (joined (bytes_of s t blocks p) 0 n) = fills_joined (carried s t blocks p) n (λ j. carried_unmarked s t blocks p j sound) in
-      let all : Fills x.parts x.bytes = subst (λ (qs : List Part). Fills qs x.bytes) (sym carries.parts) (subst (Fills (joined (parts_of s t blocks p) 0 n)) (sym carries.bytes) fills) in
+      let x : WrittenPacket = ps.written p in
+      let fills : Fills (joined (carried_parts s t blocks p) 0 n) (joined (carried_bytes s t blocks p) 0 n) = fills_joined (carried s t blocks p) n (λ j. carried_unmarked s t blocks p j sound) in
+      let all : Fills x.parts x.bytes = subst (λ (qs : List HeaderPart). Fills qs x.bytes) (sym carries.parts) (subst (Fills (joined (carried_parts s t blocks p) 0 n)) (sym carries.bytes) fills) in
       record {
         header = λ rest.
             (let stands = (written_is_read layers style p.layer bands lvs rest (cells_range p.comp p.res p.precinct has) (fits p.comp p.res p.precinct has).0 (fits p.comp p.res p.precinct has).1 is.layer).stands in
             let H : List ℕ → Type 0 = λ h. IsPacket (h ++ rest) (ps.before p) x.parts (length h) (ps.before (next_layer p)) in
             let A : State → Type 0 = λ k. IsPacket (header_at layers style bands lvs p.layer ++ rest) k (parts_at p.layer lvs) (length (header_at layers style bands lvs p.layer)) (state_at layers style bands lvs (p.layer + 1)) in
-            let B : List Part → Type 0 = λ qs. IsPacket (header_at layers style bands lvs p.layer ++ rest) (ps.before p) qs (length (header_at layers style bands lvs p.layer)) (state_at layers style bands lvs (p.layer + 1)) in
+            let B : List HeaderPart → Type 0 = λ qs. IsPacket (header_at layers style bands lvs p.layer ++ rest) (ps.before p) qs (length (header_at layers style bands lvs p.layer)) (state_at layers style bands lvs (p.layer + 1)) in
             let C : State → Type 0 = λ k. IsPacket (header_at layers style bands lvs p.layer ++ rest) (ps.before p) x.parts (length (header_at layers style bands lvs p.layer)) k in
             subst H (sym (plan.headers p.layer is.layer))
             (subst C (sym (plan.before (p.layer + 1) (let lt = is.layer in omega arith)))

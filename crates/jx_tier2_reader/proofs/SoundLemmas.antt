@@ -35,7 +35,7 @@ use Rattle.jx_codestream.specs.InRange.{StreamInRange}
 use Rattle.jx_tier2_reader.specs.InRange.{DataInRange}
 use Rattle.jx_geom.specs.Precincts.{leaves, leaves_in, HasPrecinct, cells_at, precinct_number, name_from, leaf_name, leaf_number}
 use Rattle.jx_tier2_reader.specs.Cuts.{Cut, Left, AreCuts, number_of, names_of}
-use Rattle.jx_tier2_reader.specs.Blocks.{Found, founds_of, own_founds, pieces_in, passes_in, zero_from, block_with, block_of, blocks_of_tile}
+use Rattle.jx_tier2_reader.specs.Blocks.{FoundPiece, founds_of, own_founds, pieces_in, passes_in, zero_from, block_with, block_of, blocks_of_tile}
 use Rattle.jx_tile.specs.Covered.{IsListOf}
 use Rattle.jx_tier2_reader.specs.Gathered.{IsCutUp, IsGathered, start}
 use Rattle.jx_tier2_reader.specs.Put.{put_all}
@@ -207,17 +207,17 @@ pub begun_leaves : (b : List ℕ) (s : Stream) (t : ℕ) (cuts : List Cut) (left
 begun_leaves b s t cuts left h = founds_leaves b s (geometry s t) 0 cuts (start s t) left h.there (start_follow s (geometry s t)) h.are
 
 -- ---- one block
-pub record OfNumber (g : Geometry) (i : ℕ) (f : Found) : Type 0 where
+pub record OfNumber (g : Geometry) (i : ℕ) (f : FoundPiece) : Type 0 where
   pub leaf : FromLeaf g f
   pub number : f.number ≡ i
 
-pub own_have : (g : Geometry) (i : ℕ) (founds : List Found) → AreFromLeaves g founds → AllByRecursion (OfNumber g i) (own_founds i founds)
+pub own_have : (g : Geometry) (i : ℕ) (founds : List FoundPiece) → AreFromLeaves g founds → AllByRecursion (OfNumber g i) (own_founds i founds)
 unfolding own_founds
 own_have g i [] all = tt
 own_have g i (f ∷ founds) all = by (f.number == i) refl (own_have g i founds all.1)
   where
-    by : (b : Bool) → (f.number == i) ≡ b → AllByRecursion (OfNumber g i) (filter (λ (x : Found). x.number == i) founds) →
-        AllByRecursion (OfNumber g i) (cond b (f ∷ filter (λ (x : Found). x.number == i) founds) (filter (λ (x : Found). x.number == i) founds))
+    by : (b : Bool) → (f.number == i) ≡ b → AllByRecursion (OfNumber g i) (filter (λ (x : FoundPiece). x.number == i) founds) →
+        AllByRecursion (OfNumber g i) (cond b (f ∷ filter (λ (x : FoundPiece). x.number == i) founds) (filter (λ (x : FoundPiece). x.number == i) founds))
     by true e again = (record { leaf = all.0; number = eqb-true f.number i e }, again)
     by false e again = again
 
@@ -239,7 +239,7 @@ sound_none : (s : Stream) (g : Geometry) (n : BlockName) → HasBlockSize (block
 sound_none s g n size planes = record { size = size; planes = planes; zero = omega arith; few = omega arith; pieces = refl; bytes = omega arith }
 
 -- it has some
-sound_some : (s : Stream) (g : Geometry) (n : BlockName) (own : List Found) (new : Known) → HasBlockSize (block_rect (rect_of_tile g) (shape_of g n.comp) n.res n.band n.index) →
+sound_some : (s : Stream) (g : Geometry) (n : BlockName) (own : List FoundPiece) (new : Known) → HasBlockSize (block_rect (rect_of_tile g) (shape_of g n.comp) n.res n.band n.index) →
     planes_at s g.tile n.comp n.res n.band ≤ 74 → bytes_in (pieces_in own) ≤ 2 ^ 28 →
     Gained (style_of s g.tile n.comp) (planes_at s g.tile n.comp n.res n.band) 0 own unknown_block new → IsSound (block_with s g n own)
 sound_some s g n own new size planes bytes gained =
@@ -258,7 +258,7 @@ sound_some s g n own new size planes bytes gained =
     }
 
 -- the same, told of its precinct's block
-same_gained : (s : Stream) (g : Geometry) (n : BlockName) (c r k j : ℕ) (own : List Found) (new : Known) → HasBlock g n → HasBlock g (leaf_name g c r k j) → j < leaves g c r k →
+same_gained : (s : Stream) (g : Geometry) (n : BlockName) (c r k j : ℕ) (own : List FoundPiece) (new : Known) → HasBlock g n → HasBlock g (leaf_name g c r k j) → j < leaves g c r k →
     number_in_tile g n ≡ leaf_number g c r k j → Gained (style_of s g.tile c) (planes_of (fresh_precinct s g c r k).bands j) 0 own (known_in (fresh_precinct s g c r k).bands j) new →
     Gained (style_of s g.tile n.comp) (planes_at s g.tile n.comp n.res n.band) 0 own unknown_block new
 same_gained s g n c r k j own new is there lt number gained =
@@ -293,15 +293,15 @@ sound_block b s t cuts left n h is =
     planes : planes_at s t n.comp n.res n.band ≤ 74
     planes = h.range.planes t n.comp n.res n.band h.tile is.resolution is.band
 
-    grown : (own : List Found) (f : Found) (fs : List Found) (c r k j : ℕ) (new : Known) → own ≡ f ∷ fs → HasPrecinct (geometry s t) c r k → j < leaves (geometry s t) c r k →
+    grown : (own : List FoundPiece) (f : FoundPiece) (fs : List FoundPiece) (c r k j : ℕ) (new : Known) → own ≡ f ∷ fs → HasPrecinct (geometry s t) c r k → j < leaves (geometry s t) c r k →
         number_in_tile (geometry s t) n ≡ leaf_number (geometry s t) c r k j → bytes_in (pieces_in own) ≤ 2 ^ 28 →
         Grows (style_of s t c) (planes_of (fresh_precinct s (geometry s t) c r k).bands j) 0 own (known_in (fresh_precinct s (geometry s t) c r k).bands j) new → IsSound (block_with s (geometry s t) n own)
-    grown own f fs c r k j new e there lt number small (inl none) = absurd (let z : length (f ∷ fs) ≡ 0 = ap (λ (l : List Found). length l) (sym e ∙ none.0) in omega arith)
+    grown own f fs c r k j new e there lt number small (inl none) = absurd (let z : length (f ∷ fs) ≡ 0 = ap (λ (l : List FoundPiece). length l) (sym e ∙ none.0) in omega arith)
     grown own f fs c r k j new e there lt number small (inr gained) =
         sound_some s (geometry s t) n own new size planes small
         (same_gained s (geometry s t) n c r k j own new is (leaf_there (geometry s t) c r k j h.limits there lt) lt number gained)
 
-    by : (own : List Found) → own_founds (number_in_tile (geometry s t) n) (founds_of (geometry s t) cuts) ≡ own → AllByRecursion (OfNumber (geometry s t) (number_in_tile (geometry s t) n)) own →
+    by : (own : List FoundPiece) → own_founds (number_in_tile (geometry s t) n) (founds_of (geometry s t) cuts) ≡ own → AllByRecursion (OfNumber (geometry s t) (number_in_tile (geometry s t) n)) own →
         bytes_in (pieces_in own) ≤ 2 ^ 28 → IsSound (block_with s (geometry s t) n own)
     by [] e all small = sound_none s (geometry s t) n size planes
     by (f ∷ fs) e all small =
@@ -314,7 +314,7 @@ sound_block b s t cuts left n h is =
         let own : own_founds (leaf_number (geometry s t) leaf.comp leaf.res leaf.precinct leaf.block) (founds_of (geometry s t) cuts) ≡ f ∷ fs =
         ap (λ (i : ℕ). own_founds i (founds_of (geometry s t) cuts)) (sym number) ∙ e in
         grown (f ∷ fs) f fs leaf.comp leaf.res leaf.precinct leaf.block (known_in tracked.after.bands leaf.block) refl leaf.there leaf.inside number small
-        (subst (λ (l : List Found). Grows (style_of s t leaf.comp) (planes_of (fresh_precinct s (geometry s t) leaf.comp leaf.res leaf.precinct).bands leaf.block) 0 l
+        (subst (λ (l : List FoundPiece). Grows (style_of s t leaf.comp) (planes_of (fresh_precinct s (geometry s t) leaf.comp leaf.res leaf.precinct).bands leaf.block) 0 l
         (known_in (fresh_precinct s (geometry s t) leaf.comp leaf.res leaf.precinct).bands leaf.block) (known_in tracked.after.bands leaf.block)) own tracked.grows)
 
 -- ---- all blocks of a tile
@@ -342,7 +342,7 @@ tiled s g h = record {
   named = λ i lt. (let at : BlockAt s g [] i = block_named s g [] i h lt in (at.name, (at.there, at.number)));
 }
 
-of_blocks : (g : Geometry) (founds : List Found) → GeometryInRange g → AreFromLeaves g founds → AllByRecursion (IsOfBlock g) founds
+of_blocks : (g : Geometry) (founds : List FoundPiece) → GeometryInRange g → AreFromLeaves g founds → AllByRecursion (IsOfBlock g) founds
 of_blocks g [] h all = tt
 of_blocks g (f ∷ founds) h all =
     let leaf : FromLeaf g f = all.0 in (

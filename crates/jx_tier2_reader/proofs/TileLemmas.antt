@@ -8,7 +8,7 @@ use Rattle.std.proofs.lemmas.Option.{get_or_from_slice_get, slice_get-get_or, sl
 use Rattle.jx_base.specs.declared.pieces.Block.{Block}
 use Rattle.jx_geom.specs.Geometry.{Geometry, GeometryInRange, rect_of_tile}
 use Rattle.jx_geom.specs.Counts.{tile_blocks}
-use Rattle.jx_packet_header.specs.declared.Part.{Part}
+use Rattle.jx_packet_header.specs.declared.HeaderPart.{HeaderPart}
 use Rattle.jx_packet_header.specs.Packet.{State}
 use Rattle.jx_packet_header.specs.Precinct.{IsState, all_blocks}
 use Rattle.jx_progression.specs.declared.names.PacketName.{PacketName}
@@ -21,7 +21,7 @@ use Rattle.jx_codestream.specs.Shapes.{geometry, layers_of, tile_at}
 use Rattle.jx_geom.specs.Precincts.{HasPrecinct, leaf_number, leaves}
 use Rattle.jx_tier2_reader.specs.Data.{window, due, behind, end_of_data, front_length, header_in, parts_length}
 use Rattle.jx_tier2_reader.specs.Cuts.{Cut, Left, IsCut, IsTurn, AreCuts, names_of, number_of, Breaks}
-use Rattle.jx_tier2_reader.specs.Blocks.{Found, founds_from, founds_in, founds_of, blocks_of_tile}
+use Rattle.jx_tier2_reader.specs.Blocks.{FoundPiece, founds_from, founds_in, founds_of, blocks_of_tile}
 use Rattle.jx_tier2_reader.specs.Put.{put_one, put_all}
 use Rattle.jx_tile.specs.Covered.{IsListOf}
 use Rattle.jx_tier2_reader.specs.Gathered.{AreTileBlocks, BreaksTile, start}
@@ -90,13 +90,13 @@ names_long (x ∷ cuts) = ap suc (names_long cuts)
 
 founds_on : (g : Geometry) (cuts : List Cut) (c : Cut) → founds_of g (cuts ++ c ∷ []) ≡ founds_of g cuts ++ founds_in g c
 unfolding founds_of
-founds_on g cuts c = flat_map-append (founds_in g) cuts (c ∷ []) ∙ ap (λ (xs : List Found). flat_map (founds_in g) cuts ++ xs) (append-nil (founds_in g c))
+founds_on g cuts c = flat_map-append (founds_in g) cuts (c ∷ []) ∙ ap (λ (xs : List FoundPiece). flat_map (founds_in g) cuts ++ xs) (append-nil (founds_in g c))
 
-put_append : (blocks : List Block) (xs ys : List Found) → put_all blocks (xs ++ ys) ≡ put_all (put_all blocks xs) ys
+put_append : (blocks : List Block) (xs ys : List FoundPiece) → put_all blocks (xs ++ ys) ≡ put_all (put_all blocks xs) ys
 put_append blocks [] ys = refl
 put_append blocks (x ∷ xs) ys = put_append (put_one blocks x) xs ys
 
-put_long : (blocks : List Block) (founds : List Found) → length (put_all blocks founds) ≡ length blocks
+put_long : (blocks : List Block) (founds : List FoundPiece) → length (put_all blocks founds) ≡ length blocks
 put_long blocks [] = refl
 put_long blocks (f ∷ founds) = put_long (put_one blocks f) founds ∙ one_long blocks f
 
@@ -281,7 +281,7 @@ next_front b s g list number left blocks d packet after new more task lt front s
       blocks_are = put ∙ ap (λ (x : Geometry). put_all blocks (founds_from x p after packet.bytes.now packet.parts.items)) task.geometry_is
           ∙ ap (λ (xs : List Block). put_all xs (founds_in (geometry s t) c)) front.blocks_are
           ∙ sym (put_append base (founds_of (geometry s t) front.cuts) (founds_in (geometry s t) c))
-          ∙ ap (λ (xs : List Found). put_all base xs) (sym (founds_on (geometry s t) front.cuts c));
+          ∙ ap (λ (xs : List FoundPiece). put_all base xs) (sym (founds_on (geometry s t) front.cuts c));
     }
 
 -- ---- the blocks so far
@@ -308,18 +308,18 @@ front_long : (b : List ℕ) (s : Stream) (t : ℕ) (done : List PacketName) (lef
 front_long b s t done left blocks front =
     ap length front.blocks_are ∙ put_long (blocks_of_tile s (geometry s t) []) (founds_of (geometry s t) front.cuts) ∙ blocks_long s (geometry s t) []
 
-founds_below : (g : Geometry) (p : PacketName) (k : State) (m count : ℕ) (bytes : List ℕ) (parts : List Part) → ((j : ℕ) → j < count → leaf_number g p.comp p.res p.precinct j < m)
-    → All (λ (part : Part). part.block < count) parts → All (λ (f : Found). f.number < m) (founds_from g p k bytes parts)
+founds_below : (g : Geometry) (p : PacketName) (k : State) (m count : ℕ) (bytes : List ℕ) (parts : List HeaderPart) → ((j : ℕ) → j < count → leaf_number g p.comp p.res p.precinct j < m)
+    → All (λ (part : HeaderPart). part.block < count) parts → All (λ (f : FoundPiece). f.number < m) (founds_from g p k bytes parts)
 founds_below g p k m count bytes [] low all = λ i d lt. absurd (omega arith)
 founds_below g p k m count bytes (part ∷ parts) low all =
-    All-cons (λ (f : Found). f.number < m) _ (founds_from g p k (drop part.length bytes) parts) (low part.block (All-head (λ (q : Part). q.block < count) part parts all))
-    (founds_below g p k m count (drop part.length bytes) parts low (All-tail (λ (q : Part). q.block < count) part parts all))
+    All-cons (λ (f : FoundPiece). f.number < m) _ (founds_from g p k (drop part.length bytes) parts) (low part.block (All-head (λ (q : HeaderPart). q.block < count) part parts all))
+    (founds_below g p k m count (drop part.length bytes) parts low (All-tail (λ (q : HeaderPart). q.block < count) part parts all))
 
 pub parts_there : (b : List ℕ) (g : Geometry) (number : ℕ) (left : Left) (p : PacketName) (packet : Packet) (after : State) (new : Left) → (step : Step b g number left p packet after new)
-    → All (λ (part : Part). part.block < length (all_blocks (state_at left.states step.n).bands)) packet.parts.items
+    → All (λ (part : HeaderPart). part.block < length (all_blocks (state_at left.states step.n).bands)) packet.parts.items
 parts_there b g number left p packet after new step =
     let count : ℕ = length (all_blocks (state_at left.states step.n).bands) in
-    All-weaker (PartIn count) (λ (part : Part). part.block < count) (λ part in_it. in_it.inside) packet.parts.items
+    All-weaker (PartIn count) (λ (part : HeaderPart). part.block < count) (λ part in_it. in_it.inside) packet.parts.items
     (part_inside (header_in (window b step.body)) (state_at left.states step.n) packet.parts.items packet.used after step.cut.header)
 
 pub can_put : (b : List ℕ) (s : Stream) (g : Geometry) (list : List PacketName) (number : ℕ) (left : Left) (blocks : List Block) (d : PacketName) (packet : Packet) (after : State) (new : Left)
@@ -327,13 +327,13 @@ pub can_put : (b : List ℕ) (s : Stream) (g : Geometry) (list : List PacketName
     → CanPut blocks (founds_from g (get_or list number d) after packet.bytes.now packet.parts.items)
 can_put b s g list number left blocks d packet after new task lt front step =
     let p : PacketName = get_or list number d in
-    let founds : List Found = founds_from g p after packet.bytes.now packet.parts.items in
+    let founds : List FoundPiece = founds_from g p after packet.bytes.now packet.parts.items in
     let is : IsReady g left.states step.n p = ready_at b s g list number left blocks d left.states step.n task lt front refl step.number_is in
     let range : GeometryInRange (geometry s g.tile) = geometry_fits s g.tile task.range task.totals task.below in
     let R : Geometry → Type 0 = λ x. GeometryInRange x in
     let B : Geometry → Type 0 = λ x. length blocks ≡ tile_blocks (rect_of_tile x) x.shapes in
     let long : length blocks ≡ tile_blocks (rect_of_tile g) g.shapes = subst B (sym task.geometry_is) (front_long b s g.tile (take number list) left blocks front) in
-    let C : ℕ → Type 0 = λ m. All (λ (part : Part). part.block < m) packet.parts.items in
+    let C : ℕ → Type 0 = λ m. All (λ (part : HeaderPart). part.block < m) packet.parts.items in
     let low : (j : ℕ) → j < leaves g p.comp p.res p.precinct → leaf_number g p.comp p.res p.precinct j < length blocks = λ j lt.
     (let below : leaf_number g p.comp p.res p.precinct j < tile_blocks (rect_of_tile g) g.shapes = leaf_below g p.comp p.res p.precinct j (subst R (sym task.geometry_is) range) is.precinct lt in omega arith) in
     record {
@@ -378,9 +378,9 @@ after_kept b g number left p packet after new step =
     (packet_kept (header_in (window b step.body)) (state_at left.states step.n) packet.parts.items packet.used after step.cut.header).blocks
 
 pub after_parts : (b : List ℕ) (g : Geometry) (number : ℕ) (left : Left) (p : PacketName) (packet : Packet) (after : State) (new : Left) → (step : Step b g number left p packet after new)
-    → All (λ (part : Part). part.block < length (all_blocks after.bands)) packet.parts.items
+    → All (λ (part : HeaderPart). part.block < length (all_blocks after.bands)) packet.parts.items
 after_parts b g number left p packet after new step =
-    let C : ℕ → Type 0 = λ m. All (λ (part : Part). part.block < m) packet.parts.items in
+    let C : ℕ → Type 0 = λ m. All (λ (part : HeaderPart). part.block < m) packet.parts.items in
     subst C (sym (after_kept b g number left p packet after new step)) (parts_there b g number left p packet after new step)
 
 pub after_leaves : (b : List ℕ) (s : Stream) (g : Geometry) (list : List PacketName) (number : ℕ) (left : Left) (blocks : List Block) (d : PacketName) (packet : Packet) (after : State) (new : Left)

@@ -7,7 +7,7 @@ use Rattle.std.proofs.lemmas.List.Sums.{sum_by-cons}
 use Rattle.std.proofs.lemmas.Option.{same_Some, slice_get_within}
 use Rattle.jx_base.specs.Pieces.{bytes_in}
 use Rattle.jx_geom.specs.Geometry.{Geometry, GeometryInRange}
-use Rattle.jx_packet_header.specs.declared.Part.{Part}
+use Rattle.jx_packet_header.specs.declared.HeaderPart.{HeaderPart}
 use Rattle.jx_packet_header.specs.Packet.{State}
 use Rattle.jx_packet_header.specs.Precinct.{all_blocks}
 use Rattle.jx_progression.specs.declared.names.PacketName.{PacketName}
@@ -19,7 +19,7 @@ use Rattle.jx_tier2_reader.specs.Fresh.{fresh_precinct, fresh_precincts}
 use Rattle.jx_geom.specs.Precincts.{HasPrecinct, precinct_number, leaf_number}
 use Rattle.jx_tier2_reader.specs.Data.{window, due, behind, header_in, front_length, parts_length}
 use Rattle.jx_tier2_reader.specs.Cuts.{Cut, Left, IsTurn, AreCuts, number_of}
-use Rattle.jx_tier2_reader.specs.Blocks.{Found, told_zero, founds_from, founds_in, founds_of, own_founds, pieces_in}
+use Rattle.jx_tier2_reader.specs.Blocks.{FoundPiece, told_zero, founds_from, founds_in, founds_of, own_founds, pieces_in}
 use Rattle.jx_tier2_reader.proofs.NumberLemmas.{precinct_there}
 use Rattle.jx_geom.proofs.PrecinctLemmas.{precinct_once}
 use Rattle.jx_tier2_reader.proofs.CellLemmas.{leaf_count}
@@ -103,10 +103,10 @@ own_follows b s g number old c new all there t =
     subst (λ (x : State). Follows s g c.name.comp c.name.res c.name.precinct x) (same_Some f.state t.state (sym f.known ∙ t.known)) f.is
 
 -- the blocks of its parts are there
-abbrev pub AreInside : ℕ → List Part → Type 0
-AreInside count parts = AllByRecursion (λ (q : Part). q.block < count) parts
+abbrev pub AreInside : ℕ → List HeaderPart → Type 0
+AreInside count parts = AllByRecursion (λ (q : HeaderPart). q.block < count) parts
 
-pub inside_from : (count : ℕ) (parts : List Part) → AllByRecursion (PartIn count) parts → AreInside count parts
+pub inside_from : (count : ℕ) (parts : List HeaderPart) → AllByRecursion (PartIn count) parts → AreInside count parts
 inside_from count [] all = tt
 inside_from count (q ∷ parts) all = (all.0.inside, inside_from count parts all.1)
 
@@ -119,7 +119,7 @@ turn_inside b s g number old c new all there t =
     (recursion_from_All (PartIn (length (all_blocks t.state.bands))) c.parts (part_inside (header_in (window b t.body)) t.state c.parts c.used c.after t.cut.header)))
 
 -- ---- the pieces of a turn
-pub parts_apart : (g : Geometry) (p : PacketName) (j : ℕ) (parts : List Part) → GeometryInRange g → HasPrecinct g p.comp p.res p.precinct → j < leaves g p.comp p.res p.precinct →
+pub parts_apart : (g : Geometry) (p : PacketName) (j : ℕ) (parts : List HeaderPart) → GeometryInRange g → HasPrecinct g p.comp p.res p.precinct → j < leaves g p.comp p.res p.precinct →
     AreInside (leaves g p.comp p.res p.precinct) parts → Apart g p (leaf_number g p.comp p.res p.precinct j) j parts
 parts_apart g p j [] h there lt all = tt
 parts_apart g p j (q ∷ parts) h there lt all = (
@@ -128,7 +128,7 @@ parts_apart g p j (q ∷ parts) h there lt all = (
   parts_apart g p j parts h there lt all.1,
 )
 
-pub parts_elsewhere : (g : Geometry) (p : PacketName) (c r k j : ℕ) (parts : List Part) → GeometryInRange g → HasPrecinct g p.comp p.res p.precinct → HasPrecinct g c r k → j < leaves g c r k →
+pub parts_elsewhere : (g : Geometry) (p : PacketName) (c r k j : ℕ) (parts : List HeaderPart) → GeometryInRange g → HasPrecinct g p.comp p.res p.precinct → HasPrecinct g c r k → j < leaves g c r k →
     (number_of g p ≡ precinct_number g c r k → ⊥) → AreInside (leaves g p.comp p.res p.precinct) parts → Elsewhere g p (leaf_number g c r k j) parts
 parts_elsewhere g p c r k j [] h there has lt ne all = tt
 parts_elsewhere g p c r k j (q ∷ parts) h there has lt ne all = (
@@ -171,9 +171,9 @@ pub founds_nil : (g : Geometry) → founds_of g [] ≡ []
 unfolding founds_of
 founds_nil g = refl
 
-pub own_joined : (number : ℕ) (fs gs : List Found) → own_founds number (fs ++ gs) ≡ own_founds number fs ++ own_founds number gs
+pub own_joined : (number : ℕ) (fs gs : List FoundPiece) → own_founds number (fs ++ gs) ≡ own_founds number fs ++ own_founds number gs
 unfolding own_founds
-own_joined number fs gs = filter-append (λ (f : Found). f.number == number) fs gs
+own_joined number fs gs = filter-append (λ (f : FoundPiece). f.number == number) fs gs
 
 pub own_cons : (number : ℕ) (g : Geometry) (c : Cut) (cuts : List Cut) → own_founds number (founds_of g (c ∷ cuts)) ≡ own_founds number (founds_in g c) ++ own_founds number (founds_of g cuts)
 own_cons number g c cuts = ap (own_founds number) (founds_cons g c cuts) ∙ own_joined number (founds_in g c) (founds_of g cuts)
@@ -192,13 +192,13 @@ above_from g p number [] same all = tt
 above_from g p number (d ∷ cuts) same all =
     ((λ (e : number_of g d.name ≡ number). (let lt : p.layer < d.name.layer = all.0 (same ∙ sym e) in omega arith)), above_from g p number cuts same all.1)
 
-pub record Tracked (s : Stream) (g : Geometry) (c r k j layer : ℕ) (founds : List Found) (state : State) (states : List State) : Type 0 where
+pub record Tracked (s : Stream) (g : Geometry) (c r k j layer : ℕ) (founds : List FoundPiece) (state : State) (states : List State) : Type 0 where
   pub after : State
   pub known : slice_get states (precinct_number g c r k) ≡ Some after
   pub grows : Grows (style_of s g.tile c) (planes_of (fresh_precinct s g c r k).bands j) layer (own_founds (leaf_number g c r k j) founds) (known_in state.bands j) (known_in after.bands j)
 
 -- a turn of this precinct
-turn_here : (b : List ℕ) (s : Stream) (g : Geometry) (c r k j layer number : ℕ) (old : Left) (d : Cut) (next : Left) (founds : List Found) (state : State) (states : List State) → GeometryInRange g →
+turn_here : (b : List ℕ) (s : Stream) (g : Geometry) (c r k j layer number : ℕ) (old : Left) (d : Cut) (next : Left) (founds : List FoundPiece) (state : State) (states : List State) → GeometryInRange g →
     AllFollow s g old.states → HasPrecinct g d.name.comp d.name.res d.name.precinct → d.name.comp ≡ c → d.name.res ≡ r → d.name.precinct ≡ k → j < leaves g c r k → layer ≤ d.name.layer →
     IsTurn b g number old d next → slice_get old.states (precinct_number g c r k) ≡ Some state → Tracked s g c r k j d.name.layer founds d.after states →
     Tracked s g c r k j layer (founds_in g d ++ founds) state states
@@ -225,23 +225,23 @@ turn_here b s g c r k j layer number old d next founds state states h all there 
         record {
           after = a.2.after;
           known = a.2.known;
-          grows = subst (λ (l : List Found). Grows style planes layer l (known_in state.bands j) (known_in a.2.after.bands j)) (sym (own_joined leaf (founds_in g d) founds))
+          grows = subst (λ (l : List FoundPiece). Grows style planes layer l (known_in state.bands j) (known_in a.2.after.bands j)) (sym (own_joined leaf (founds_in g d) founds))
               (grows_join style planes layer p.layer (own_founds leaf (founds_in g d)) (own_founds leaf founds) (known_in state.bands j) (known_in d.after.bands j) (known_in a.2.after.bands j) le grown.1 first a.2.grows);
         }
 
 -- a turn of another precinct
-turn_other : (b : List ℕ) (s : Stream) (g : Geometry) (c r k j layer number : ℕ) (old : Left) (d : Cut) (next : Left) (founds : List Found) (state : State) (states : List State) → GeometryInRange g →
+turn_other : (b : List ℕ) (s : Stream) (g : Geometry) (c r k j layer number : ℕ) (old : Left) (d : Cut) (next : Left) (founds : List FoundPiece) (state : State) (states : List State) → GeometryInRange g →
     AllFollow s g old.states → HasPrecinct g d.name.comp d.name.res d.name.precinct → HasPrecinct g c r k → (number_of g d.name ≡ precinct_number g c r k → ⊥) → j < leaves g c r k →
     IsTurn b g number old d next → Tracked s g c r k j layer founds state states → Tracked s g c r k j layer (founds_in g d ++ founds) state states
 turn_other b s g c r k j layer number old d next founds state states h all there has ne lt t later =
     let leaf : ℕ = leaf_number g c r k j in
     let none : own_founds leaf (founds_in g d) ≡ [] =
     own_elsewhere g d.name d.after leaf d.bytes d.parts (parts_elsewhere g d.name c r k j d.parts h there has lt ne (turn_inside b s g number old d next all there t)) in
-    let own : own_founds leaf founds ≡ own_founds leaf (founds_in g d ++ founds) = sym (own_joined leaf (founds_in g d) founds ∙ ap (λ (l : List Found). l ++ own_founds leaf founds) none) in
+    let own : own_founds leaf founds ≡ own_founds leaf (founds_in g d ++ founds) = sym (own_joined leaf (founds_in g d) founds ∙ ap (λ (l : List FoundPiece). l ++ own_founds leaf founds) none) in
     record {
       after = later.after;
       known = later.known;
-      grows = subst (λ (l : List Found). Grows (style_of s g.tile c) (planes_of (fresh_precinct s g c r k).bands j) layer l (known_in state.bands j) (known_in later.after.bands j)) own later.grows;
+      grows = subst (λ (l : List FoundPiece). Grows (style_of s g.tile c) (planes_of (fresh_precinct s g c r k).bands j) layer l (known_in state.bands j) (known_in later.after.bands j)) own later.grows;
     }
 
 pub track : (b : List ℕ) (s : Stream) (g : Geometry) (c r k j layer number : ℕ) (cuts : List Cut) (old new : Left) (state : State) → GeometryInRange g → HasPrecinct g c r k → j < leaves g c r k →
@@ -253,7 +253,7 @@ track b s g c r k j layer number [] old new state h has lt there rise all above 
   grows = inl (own_nil (leaf_number g c r k j) g, refl);
 }
 track b s g c r k j layer number (d ∷ cuts) old new state h has lt there rise all above are found =
-    subst (λ (l : List Found). Tracked s g c r k j layer l state new.states) (sym (founds_cons g d cuts))
+    subst (λ (l : List FoundPiece). Tracked s g c r k j layer l state new.states) (sym (founds_cons g d cuts))
     (by (cases_eq (number_of g d.name) (precinct_number g c r k))
     (λ (m : ℕ) (k' : State) (a : AreAbove g (precinct_number g c r k) m cuts) (e : slice_get are.0.states (precinct_number g c r k) ≡ Some k').
     track b s g c r k j m (number + 1) cuts are.0 new k' h has lt there.1 rise.1 (turn_follows b s g number old d are.0 all are.1) a are.2 e))
@@ -272,7 +272,7 @@ track b s g c r k j layer number (d ∷ cuts) old new state h has lt there rise 
         (again layer state above.1 (other_after b g number old d are.0 (precinct_number g c r k) are.1 ne ∙ found))
 
 -- ---- each piece is one of a precinct's block
-pub record FromLeaf (g : Geometry) (f : Found) : Type 0 where
+pub record FromLeaf (g : Geometry) (f : FoundPiece) : Type 0 where
   pub comp : ℕ
   pub res : ℕ
   pub precinct : ℕ
@@ -281,23 +281,23 @@ pub record FromLeaf (g : Geometry) (f : Found) : Type 0 where
   pub inside : block < leaves g comp res precinct
   pub number : leaf_number g comp res precinct block ≡ f.number
 
-abbrev pub AreFromLeaves : Geometry → List Found → Type 0
+abbrev pub AreFromLeaves : Geometry → List FoundPiece → Type 0
 AreFromLeaves g founds = AllByRecursion (FromLeaf g) founds
 
-leaves_joined : (g : Geometry) (fs gs : List Found) → AreFromLeaves g fs → AreFromLeaves g gs → AreFromLeaves g (fs ++ gs)
+leaves_joined : (g : Geometry) (fs gs : List FoundPiece) → AreFromLeaves g fs → AreFromLeaves g gs → AreFromLeaves g (fs ++ gs)
 leaves_joined g [] gs a b = b
 leaves_joined g (f ∷ fs) gs a b = (a.0, leaves_joined g fs gs a.1 b)
 
-leaves_from : (g : Geometry) (p : PacketName) (k : State) (bytes : List ℕ) (parts : List Part) → HasPrecinct g p.comp p.res p.precinct → AreInside (leaves g p.comp p.res p.precinct) parts →
+leaves_from : (g : Geometry) (p : PacketName) (k : State) (bytes : List ℕ) (parts : List HeaderPart) → HasPrecinct g p.comp p.res p.precinct → AreInside (leaves g p.comp p.res p.precinct) parts →
     AreFromLeaves g (founds_from g p k bytes parts)
 leaves_from g p k bytes [] there all = tt
 leaves_from g p k bytes (q ∷ parts) there all =
     (record { comp = p.comp; res = p.res; precinct = p.precinct; block = q.block; there = there; inside = all.0; number = refl }, leaves_from g p k (drop q.length bytes) parts there all.1)
 
 pub founds_leaves : (b : List ℕ) (s : Stream) (g : Geometry) (number : ℕ) (cuts : List Cut) (old new : Left) → AreThere g cuts → AllFollow s g old.states → AreCuts b g number old cuts new → AreFromLeaves g (founds_of g cuts)
-founds_leaves b s g number [] old new there all are = subst (λ (l : List Found). AreFromLeaves g l) (sym (founds_nil g)) tt
+founds_leaves b s g number [] old new there all are = subst (λ (l : List FoundPiece). AreFromLeaves g l) (sym (founds_nil g)) tt
 founds_leaves b s g number (c ∷ cuts) old new there all are =
-    subst (λ (l : List Found). AreFromLeaves g l) (sym (founds_cons g c cuts))
+    subst (λ (l : List FoundPiece). AreFromLeaves g l) (sym (founds_cons g c cuts))
     (leaves_joined g (founds_in g c) (founds_of g cuts) (leaves_from g c.name c.after c.bytes c.parts there.0 (turn_inside b s g number old c are.0 all there.0 are.1))
     (founds_leaves b s g (number + 1) cuts are.0 new there.1 (turn_follows b s g number old c are.0 all are.1) are.2))
 
@@ -333,10 +333,10 @@ turn_takes b g number old c new t =
     omega arith
 
 pub cuts_take : (b : List ℕ) (g : Geometry) (number : ℕ) (cuts : List Cut) (old new : Left) → AreCuts b g number old cuts new → bytes_in (pieces_in (founds_of g cuts)) ≤ together old.bodies
-cuts_take b g number [] old new are = let e : bytes_in (pieces_in (founds_of g [])) ≡ 0 = ap (λ (l : List Found). bytes_in (pieces_in l)) (founds_nil g) in omega arith
+cuts_take b g number [] old new are = let e : bytes_in (pieces_in (founds_of g [])) ≡ 0 = ap (λ (l : List FoundPiece). bytes_in (pieces_in l)) (founds_nil g) in omega arith
 cuts_take b g number (c ∷ cuts) old new are =
     let here : bytes_in (pieces_in (founds_in g c)) + together are.0.bodies ≤ together old.bodies = turn_takes b g number old c are.0 are.1 in
     let later : bytes_in (pieces_in (founds_of g cuts)) ≤ together are.0.bodies = cuts_take b g (number + 1) cuts are.0 new are.2 in
     let sum : bytes_in (pieces_in (founds_of g (c ∷ cuts))) ≡ bytes_in (pieces_in (founds_in g c)) + bytes_in (pieces_in (founds_of g cuts)) =
-    ap (λ (l : List Found). bytes_in (pieces_in l)) (founds_cons g c cuts) ∙ bytes_join (founds_in g c) (founds_of g cuts) in
+    ap (λ (l : List FoundPiece). bytes_in (pieces_in l)) (founds_cons g c cuts) ∙ bytes_join (founds_in g c) (founds_of g cuts) in
     omega arith

@@ -5,7 +5,7 @@ use Rattle.std.specs.List.{AllPairs, Contains}
 use Rattle.std.proofs.lemmas.Bool.{cases_lt, cases_eq}
 use Rattle.std.proofs.lemmas.List.Elements.{Contains-append_left, Contains-append_right, Contains-append_cases, Contains-push, Contains-push_cases}
 use Rattle.jx_geom.specs.Geometry.{Geometry}
-use Rattle.jx_packet_header.specs.declared.Part.{Part}
+use Rattle.jx_packet_header.specs.declared.HeaderPart.{HeaderPart}
 use Rattle.jx_packet_header.specs.Packet.{State, IsPacket}
 use Rattle.jx_packet_header.specs.Precinct.{IsState, all_blocks}
 use Rattle.jx_progression.specs.declared.names.PacketName.{PacketName}
@@ -38,7 +38,7 @@ pub record StateKept (k after : State) : Type 0 where
 
 -- headers that stand in bytes of which there are at most as many as in a file
 pub record Keeps (b : List ℕ) : Type 0 where
-  pub kept : (h : List ℕ) (k : State) (parts : List Part) (used : ℕ) (after : State) → length h ≤ length b → IsState k → IsPacket h k parts used after → StateKept k after
+  pub kept : (h : List ℕ) (k : State) (parts : List HeaderPart) (used : ℕ) (after : State) → length h ≤ length b → IsState k → IsPacket h k parts used after → StateKept k after
 
 -- ---- a tile's list
 pub record Listed (g : Geometry) (layers : ℕ) (list : List PacketName) : Type 0 where
@@ -157,7 +157,7 @@ window_few b body =
     let t : length (take body.length (drop body.at b)) ≤ length (drop body.at b) = (let e = length-take body.length (drop body.at b) in omega arith) in
     omega arith
 
-pub layer_after : (h : List ℕ) (k : State) (parts : List Part) (used : ℕ) (after : State) → IsPacket h k parts used after → after.layer ≡ k.layer + 1
+pub layer_after : (h : List ℕ) (k : State) (parts : List HeaderPart) (used : ℕ) (after : State) → IsPacket h k parts used after → after.layer ≡ k.layer + 1
 layer_after h k parts used after p = ap (λ (x : State). x.layer) p.after_is
 
 same_state : (k m : State) → Some k ≡ Some m → k ≡ m

@@ -6,7 +6,7 @@ use Rattle.jx_base.specs.declared.pieces.Block.{Block}
 use Rattle.jx_base.specs.Joined.{joined}
 use Rattle.jx_base.specs.Pieces.{PieceValue}
 use Rattle.jx_geom.specs.Numbering.{blocks_below}
-use Rattle.jx_packet_header.specs.declared.Part.{Part}
+use Rattle.jx_packet_header.specs.declared.HeaderPart.{HeaderPart}
 use Rattle.jx_progression.specs.declared.names.PacketName.{PacketName}
 use Rattle.jx_progression.specs.Packets.{IsPacketName}
 use Rattle.jx_codestream.specs.declared.Stream.{Stream}
@@ -34,18 +34,18 @@ block_in s t blocks p j = slice_get blocks (blocks_below (canvas_of s.siz) (shap
 abbrev pub carried : Stream → ℕ → List Block → PacketName → ℕ → List PieceValue
 carried s t blocks p j = pieces_at p.layer (pieces_of (block_in s t blocks p j))
 
-abbrev pub part_of : ℕ → PieceValue → Part
-part_of j q = record { block = j; first = q.first; passes = q.passes; length = length q.bytes }
+abbrev pub header_part_of : ℕ → PieceValue → HeaderPart
+header_part_of j q = record { block = j; first = q.first; passes = q.passes; length = length q.bytes }
 
-abbrev pub parts_of : Stream → ℕ → List Block → PacketName → ℕ → List Part
-parts_of s t blocks p j = map (part_of j) (carried s t blocks p j)
+abbrev pub carried_parts : Stream → ℕ → List Block → PacketName → ℕ → List HeaderPart
+carried_parts s t blocks p j = map (header_part_of j) (carried s t blocks p j)
 
-abbrev pub bytes_of : Stream → ℕ → List Block → PacketName → ℕ → List ℕ
-bytes_of s t blocks p j = flat_map (λ (q : PieceValue). q.bytes) (carried s t blocks p j)
+abbrev pub carried_bytes : Stream → ℕ → List Block → PacketName → ℕ → List ℕ
+carried_bytes s t blocks p j = flat_map (λ (q : PieceValue). q.bytes) (carried s t blocks p j)
 
 pub record Carries (s : Stream) (t : ℕ) (blocks : List Block) (ps : Packets) (p : PacketName) : Type 0 where
-  pub parts : (ps.written p).parts ≡ joined (parts_of s t blocks p) 0 (leaves (geometry s t) p.comp p.res p.precinct)
-  pub bytes : (ps.written p).bytes ≡ joined (bytes_of s t blocks p) 0 (leaves (geometry s t) p.comp p.res p.precinct)
+  pub parts : (ps.written p).parts ≡ joined (carried_parts s t blocks p) 0 (leaves (geometry s t) p.comp p.res p.precinct)
+  pub bytes : (ps.written p).bytes ≡ joined (carried_bytes s t blocks p) 0 (leaves (geometry s t) p.comp p.res p.precinct)
   -- the header tells the zero planes of each block of which it has a piece
   pub zeros : (j : ℕ) → j < leaves (geometry s t) p.comp p.res p.precinct → (carried s t blocks p j ≡ [] → ⊥)
       → zero_in (ps.before (next_layer p)) j ≡ zero_of (block_in s t blocks p j)

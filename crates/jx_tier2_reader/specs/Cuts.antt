@@ -2,7 +2,7 @@
 use Rattle.std.specs.Prelude.{◌≡◌, ◌⊎◌, ℕ, ◌+◌, List, [], ◌∷◌, map, take, drop, None, Some, slice_get, slice_set}
 use Rattle.jx_geom.specs.Geometry.{Geometry}
 use Rattle.jx_marker.specs.RuleNumbers.{LEFT_OVER, PACKET_HEADER, PLANES}
-use Rattle.jx_packet_header.specs.declared.Part.{Part}
+use Rattle.jx_packet_header.specs.declared.HeaderPart.{HeaderPart}
 use Rattle.jx_packet_header.specs.Packet.{State, IsPacket, BreaksPlanes}
 use Rattle.jx_progression.specs.declared.names.PacketName.{PacketName}
 use Rattle.jx_codestream.specs.declared.Body.{Body}
@@ -17,7 +17,7 @@ pub record Cut : Type 0 where
   pub name : PacketName
   pub count : ℕ
   pub used : ℕ
-  pub parts : List Part
+  pub parts : List HeaderPart
   pub bytes : List ℕ
   pub after : State
 
@@ -36,11 +36,11 @@ pub record IsCut (w : List ℕ) (number : ℕ) (k : State) (c : Cut) : Type 0 wh
 abbrev pub BreaksHeader : List ℕ → ℕ → State → StreamFault → Type 0
 BreaksHeader h at k f =
     (BreaksPlanes h k × (f ≡ fault.Rule PLANES at))
-    ⊎ ((BreaksPlanes h k → ⊥) × ((parts : List Part) (used : ℕ) (after : State) → IsPacket h k parts used after → ⊥) × (f ≡ fault.Rule PACKET_HEADER at))
+    ⊎ ((BreaksPlanes h k → ⊥) × ((parts : List HeaderPart) (used : ℕ) (after : State) → IsPacket h k parts used after → ⊥) × (f ≡ fault.Rule PACKET_HEADER at))
 
 -- the coded bytes of a packet that has a header
 pub record BreaksBody (w : List ℕ) (at : ℕ) (k : State) (f : StreamFault) : Type 0 where
-  pub parts : List Part
+  pub parts : List HeaderPart
   pub used : ℕ
   pub after : State
   pub header : IsPacket (header_in w) k parts used after

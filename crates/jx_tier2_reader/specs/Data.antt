@@ -2,7 +2,7 @@
 use Rattle.std.specs.Prelude.{ℕ, ◌+◌, ◌*◌, ◌%◌, ◌-◌, ◌==◌, ◌&&◌, ◌||◌, not, nat_lt, Bool, List, [], ◌∷◌, length, take, drop, sum_by, Option, None, Some, find, is_some, slice_index, if◌then◌else◌}
 use Rattle.std.specs.List.{range_with_len}
 use Rattle.std.specs.Option.{option_or}
-use Rattle.jx_packet_header.specs.declared.Part.{Part}
+use Rattle.jx_packet_header.specs.declared.HeaderPart.{HeaderPart}
 use Rattle.jx_codestream.specs.declared.Body.{Body}
 use Rattle.jx_codestream.specs.declared.faults.StreamFault.{StreamFault}
 use Rattle.jx_codestream.specs.declared.faults.StreamFault.TheVariants as fault
@@ -62,8 +62,8 @@ unfoldable pub front_length : List ℕ → ℕ → ℕ
 front_length w used = sop_length w + used + eph_length (drop used (header_in w))
 
 -- how many coded bytes a packet has
-abbrev pub parts_length : List Part → ℕ
-parts_length parts = sum_by (λ (p : Part). p.length) parts
+abbrev pub parts_length : List HeaderPart → ℕ
+parts_length parts = sum_by (λ (p : HeaderPart). p.length) parts
 
 -- at this byte of a piece FF stands before a byte above 8F, or last (B.10.1)
 abbrev pub is_marked : List ℕ → ℕ → Bool
@@ -82,12 +82,12 @@ rule_30 at None = None
 rule_30 at (Some i) = Some (fault.Rule BLOCK_BYTES (at + i))
 
 -- rule 30, in pieces one after another from a place on
-abbrev pub marks_fault : ℕ → List ℕ → List Part → Option StreamFault
+abbrev pub marks_fault : ℕ → List ℕ → List HeaderPart → Option StreamFault
 marks_fault at bytes [] = None
 marks_fault at bytes (p ∷ parts) = option_or (rule_30 at (first_mark (take p.length bytes))) (marks_fault (at + p.length) (drop p.length bytes) parts)
 
 -- rule 28: the lengths pass the tile-part's end; then rule 30
-unfoldable pub body_fault : List ℕ → ℕ → ℕ → List Part → Option StreamFault
+unfoldable pub body_fault : List ℕ → ℕ → ℕ → List HeaderPart → Option StreamFault
 body_fault w at used parts =
     option_or (broken PACKET_LENGTH at (nat_lt (length w) (front_length w used + parts_length parts)))
     (marks_fault (at + front_length w used) (drop (front_length w used) w) parts)

@@ -5,7 +5,7 @@ use Rattle.std.specs.List.{range_with_len}
 use Rattle.jx_base.specs.declared.pieces.Block.{Block}
 use Rattle.jx_base.specs.Joined.{joined}
 use Rattle.jx_base.specs.Pieces.{PieceValue}
-use Rattle.jx_packet_header.specs.declared.Part.{Part}
+use Rattle.jx_packet_header.specs.declared.LeafPart.{LeafPart}
 use Rattle.jx_packet_header.specs.Written.{Leafed, state_at}
 use Rattle.jx_packet_header.specs.LeavesFit.{header_at, parts_at}
 use Rattle.jx_progression.specs.Steps.{name_of}
@@ -15,14 +15,14 @@ use Rattle.jx_geom.specs.Precincts.{leaves}
 use Rattle.jx_tile.specs.Cells.{precinct_bands}
 use Rattle.jx_geom.specs.Precincts.{HasPrecinct}
 use Rattle.jx_tier2_reader.specs.Written.{Packets}
-use Rattle.jx_tier2_reader.specs.Carries.{pieces_of, zero_of, block_in, part_of, bytes_of}
+use Rattle.jx_tier2_reader.specs.Carries.{pieces_of, zero_of, block_in, header_part_of, carried_bytes}
 
 -- a block of a precinct as a leaf: its zero planes, and its pieces as parts with their layers
-abbrev pub part_in : ℕ → PieceValue → ℕ × Part
-part_in j q = (q.layer, part_of j q)
+abbrev pub leaf_part_of : ℕ → PieceValue → LeafPart
+leaf_part_of j q = record { layer = q.layer; told = header_part_of j q }
 
 abbrev pub leaf_from : ℕ → Option Block → Leafed
-leaf_from j o = record { zero = zero_of o; parts = map (part_in j) (pieces_of o) }
+leaf_from j o = record { zero = zero_of o; parts = map (leaf_part_of j) (pieces_of o) }
 
 abbrev pub leaf_in : Stream → ℕ → List Block → ℕ → ℕ → ℕ → ℕ → Leafed
 leaf_in s t blocks c r k j = leaf_from j (block_in s t blocks (name_of 0 r c k) j)
@@ -40,7 +40,7 @@ pub record IsPlanned (s : Stream) (t : ℕ) (blocks : List Block) (ps : Packets)
       → (ps.written (name_of l r c k)).header ≡ header_at (layers_of s t) (style_of s t c) (precinct_bands s (geometry s t) c r k) (leaves_of_blocks s t blocks c r k) l
   pub parts : (l : ℕ) → l < layers_of s t → (ps.written (name_of l r c k)).parts ≡ parts_at l (leaves_of_blocks s t blocks c r k)
   pub bytes : (l : ℕ) → l < layers_of s t
-      → (ps.written (name_of l r c k)).bytes ≡ joined (bytes_of s t blocks (name_of l r c k)) 0 (leaves (geometry s t) c r k)
+      → (ps.written (name_of l r c k)).bytes ≡ joined (carried_bytes s t blocks (name_of l r c k)) 0 (leaves (geometry s t) c r k)
 
 -- all are
 abbrev pub ArePlanned : Stream → ℕ → List Block → Packets → Type 0

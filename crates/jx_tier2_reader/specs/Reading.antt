@@ -3,7 +3,7 @@ use Rattle.std.specs.Prelude.{◌≡◌, ℕ, ◌+◌, ◌<◌, ◌≤◌, ◌^�
 use Rattle.std.specs.List.{All}
 use Rattle.jx_base.specs.declared.pieces.Block.{Block}
 use Rattle.jx_geom.specs.Geometry.{Geometry}
-use Rattle.jx_packet_header.specs.declared.Part.{Part}
+use Rattle.jx_packet_header.specs.declared.HeaderPart.{HeaderPart}
 use Rattle.jx_packet_header.specs.Packet.{State}
 use Rattle.jx_progression.specs.declared.names.PacketName.{PacketName}
 use Rattle.jx_codestream.specs.declared.Body.{Body}
@@ -19,15 +19,15 @@ use Rattle.jx_tier2_reader.specs.Gathered.{start}
 use Rattle.jx_codestream.specs.InRange.{StreamInRange}
 use Rattle.jx_tier2_reader.specs.InRange.{DataInRange}
 use Rattle.jx_tile.specs.Totals.{totals_fault}
-use Rattle.jx_tier2_reader.specs.Blocks.{Found, zero_in, founds_of, blocks_of_tile}
+use Rattle.jx_tier2_reader.specs.Blocks.{FoundPiece, zero_in, founds_of, blocks_of_tile}
 use Rattle.jx_tier2_reader.specs.Put.{put_all}
 
 abbrev pub cut_of : PacketName → Packet → State → Cut
 cut_of name p after = record { name = name; count = p.count; used = p.used; parts = p.parts.items; bytes = p.bytes.now; after = after }
 
 -- each piece's block is there, and no block gets more passes than a number of 16 bits can say
-pub record CanPut (blocks : List Block) (founds : List Found) : Type 0 where
-  pub there : All (λ (f : Found). f.number < length blocks) founds
+pub record CanPut (blocks : List Block) (founds : List FoundPiece) : Type 0 where
+  pub there : All (λ (f : FoundPiece). f.number < length blocks) founds
   pub few : All (λ (b : Block). b.passes < 2 ^ 16) (put_all blocks founds)
 
 -- a block has room for so many passes
@@ -36,7 +36,7 @@ HasRoom None passes = Unit {0}
 HasRoom (Some block) passes = block.passes + passes < 2 ^ 16
 
 -- the piece of a part
-abbrev pub found_of : Geometry → PacketName → State → Part → List ℕ → Found
+abbrev pub found_of : Geometry → PacketName → State → HeaderPart → List ℕ → FoundPiece
 found_of g p k part bytes = record {
   number = leaf_number g p.comp p.res p.precinct part.block;
   zero = zero_in k part.block;

@@ -5,7 +5,7 @@ use Rattle.std.specs.Prelude.{◌≡◌, ◌+◌, ◌%◌, ℕ, Bool, List, [], 
 use Rattle.jx_base.specs.declared.pieces.Block.{Block}
 use Rattle.jx_base.specs.Joined.{joined}
 use Rattle.jx_base.specs.Markers.{HasNoMarker}
-use Rattle.jx_packet_header.specs.declared.Part.{Part}
+use Rattle.jx_packet_header.specs.declared.HeaderPart.{HeaderPart}
 use Rattle.jx_packet_header.specs.Packet.{State, IsPacket}
 use Rattle.jx_progression.specs.declared.names.PacketName.{PacketName}
 use Rattle.jx_progression.specs.Packets.{IsPacketName}
@@ -27,19 +27,19 @@ abbrev pub sop_bytes : ℕ → List ℕ
 sop_bytes number = sop_spelling (number % 65536)
 
 -- what is written of a packet: SOP or not, its header, EPH or not, the parts of which the header tells, and their coded bytes
-pub record Written : Type 0 where
+pub record WrittenPacket : Type 0 where
   pub sop : Bool
   pub header : List ℕ
   pub eph : Bool
-  pub parts : List Part
+  pub parts : List HeaderPart
   pub bytes : List ℕ
 
-abbrev pub packet_bytes : ℕ → Written → List ℕ
+abbrev pub packet_bytes : ℕ → WrittenPacket → List ℕ
 packet_bytes number w = (if w.sop then sop_bytes number else []) ++ (w.header ++ ((if w.eph then eph_spelling else []) ++ w.bytes))
 
 -- a tile's packets, in whatever order: what is written of each, and the state of its precinct before it
 pub record Packets : Type 0 where
-  pub written : PacketName → Written
+  pub written : PacketName → WrittenPacket
   pub before : PacketName → State
 
 -- the packet of the same precinct in the next layer
@@ -47,7 +47,7 @@ abbrev pub next_layer : PacketName → PacketName
 next_layer p = name_of (p.layer + 1) p.res p.comp p.precinct
 
 -- each piece has no marker
-abbrev pub AreClear : List Part → List ℕ → Type 0
+abbrev pub AreClear : List HeaderPart → List ℕ → Type 0
 AreClear [] bytes = Unit {0}
 AreClear (p ∷ parts) bytes = HasNoMarker 0 (take p.length bytes) × AreClear parts (drop p.length bytes)
 

@@ -8,7 +8,7 @@ use crate::StreamFault;
 use jx_codestream::violated;
 use jx_marker::codes::{EPH, SOP};
 use jx_marker::rule_numbers;
-use jx_packet_header::Part;
+use jx_packet_header::HeaderPart;
 
 /// Whether the marker of this second byte, which isn't 0, stands in front.
 fn begins_with(bytes: &[u8], code: u8) -> bool
@@ -68,7 +68,7 @@ fn front_length(bytes: &[u8], sop: usize, used: usize) -> usize
 }
 
 /// How many coded bytes a packet has, None where they are more than there is room for.
-fn parts_length(parts: &[Part], room: usize) -> Option<usize>
+fn parts_length(parts: &[HeaderPart], room: usize) -> Option<usize>
     ensures { MatchOption result (room < parts_length parts.now) (λ n. (n ≡ parts_length parts.now) × (n ≤ room)) }
 {
     let mut length = 0;
@@ -126,7 +126,7 @@ fn first_mark(bytes: &[u8]) -> Option<usize>
 }
 
 /// Finds rule 30 in pieces that stand one after another from a place on.
-fn check_marks(bytes: &[u8], at: usize, parts: &[Part]) -> Result<(), StreamFault>
+fn check_marks(bytes: &[u8], at: usize, parts: &[HeaderPart]) -> Result<(), StreamFault>
     requires within { parts_length parts.now ≤ length bytes.now }
     requires fits { at + length bytes.now < 2 ^ 32 }
     ensures answer { Answers result (marks_fault at bytes.now parts.now) (λ _. Unit {0}) }
@@ -153,7 +153,7 @@ pub(crate) fn check_body(
     at: usize,
     sop: usize,
     used: usize,
-    parts: &[Part],
+    parts: &[HeaderPart],
 ) -> Result<(usize, usize), StreamFault>
     requires sop { sop ≡ sop_length bytes.now }
     requires within { sop + used ≤ length bytes.now }

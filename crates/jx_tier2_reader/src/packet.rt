@@ -11,7 +11,7 @@ use crate::StreamFault;
 use crate::data::{check_body, read_sop};
 use jx_codestream::violated;
 use jx_marker::rule_numbers;
-use jx_packet_header::{HeadFault, Part, Precinct};
+use jx_packet_header::{HeadFault, HeaderPart, Precinct};
 use jx_progression::PacketName;
 
 /// What stands in one packet.
@@ -22,7 +22,7 @@ pub(crate) struct Packet<'a> {
     /// How many bytes its header has, without SOP and EPH.
     pub(crate) used: usize,
     /// What it has of the blocks of its precinct.
-    pub(crate) parts: Vec<Part>,
+    pub(crate) parts: Vec<HeaderPart>,
     /// Its coded bytes, those of each part after those of the part before.
     pub(crate) bytes: &'a [u8],
 }
@@ -33,7 +33,7 @@ fn read_head(
     layer: u16,
     bytes: &[u8],
     at: usize,
-) -> Result<(Vec<Part>, usize), StreamFault>
+) -> Result<(Vec<HeaderPart>, usize), StreamFault>
     requires state { IsState precinct.old }
     requires layer { precinct.old.layer ≡ layer }
     requires place { at < 2 ^ 32 }

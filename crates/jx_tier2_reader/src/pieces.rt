@@ -14,7 +14,7 @@ ghost use Rattle.jx_tier2_reader.specs.Reading.{CanPut, HasRoom, found_of};
 use crate::packet::Packet;
 use jx_base::{Block, NoMemory, Piece};
 use jx_geom::{Leaves, TileGeom};
-use jx_packet_header::{Part, Precinct};
+use jx_packet_header::{HeaderPart, Precinct};
 use jx_progression::PacketName;
 
 /// Puts a piece behind those of its block. The first also tells the block's zero planes.
@@ -71,7 +71,7 @@ fn put_part<'a>(
     all: &Leaves,
     precinct: &Precinct,
     name: PacketName,
-    part: Part,
+    part: HeaderPart,
     bytes: &'a [u8],
 ) -> Result<(), NoMemory>
     requires precinct { HasPrecinct geom.now name.comp name.res name.precinct }

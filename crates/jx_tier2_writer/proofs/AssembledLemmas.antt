@@ -19,16 +19,16 @@ use Rattle.jx_codestream.specs.declared.Stream.{Stream}
 use Rattle.jx_codestream.specs.Params.{header_of}
 use Rattle.jx_codestream.specs.Shapes.{geometry, layers_of, shapes_of, style_of}
 use Rattle.jx_codestream.specs.Spells.{TilePart, part_bytes}
-use Rattle.jx_tier2_reader.specs.Carries.{block_in, bytes_of, pieces_of}
+use Rattle.jx_tier2_reader.specs.Carries.{block_in, carried_bytes, pieces_of}
 use Rattle.jx_tile.specs.Cells.{precinct_bands}
 use Rattle.jx_tile.specs.Covered.{IsListOf}
 use Rattle.jx_tier2_reader.specs.Planned.{leaf_from, leaf_in, leaves_of_blocks}
 use Rattle.jx_tier2_reader.specs.Written.{bytes_from, packet_bytes}
 use Rattle.jx_tier2_writer.specs.Assembled.{AreOwn, AreTileBytes, HasMoreBytes}
 use Rattle.jx_tier2_writer.specs.Own.{leaf_bytes, own_leaf, own_leaves}
-use Rattle.jx_tier2_writer.specs.Packed.{own_body, own_length, own_packet, own_packets, own_part, own_parts, packet_with, parts_from}
-use Rattle.jx_tier2_writer.specs.Sent.{layer_bytes}
-use Rattle.jx_tier2_writer.specs.TileParts.{AreTilePartsOf, packet_length, packet_of, packets_of, part_header, parts_with, tile_part, tile_parts}
+use Rattle.jx_tier2_writer.specs.Packed.{own_body, own_length, own_packet, own_packets, own_part, own_parts, packet_with, packed_parts_from}
+use Rattle.jx_tier2_writer.specs.BlockParts.{layer_bytes}
+use Rattle.jx_tier2_writer.specs.TileParts.{AreTilePartsOf, packet_length, packet_of, packets_of, written_part_header, parts_with, tile_part, tile_parts}
 use Rattle.jx_tier2_writer.specs.Tile.{AreAtMost}
 use Rattle.jx_options.specs.declared.Marks.{Marks}
 use Rattle.jx_plan.specs.Groups.{groups_of}
@@ -60,10 +60,10 @@ same_leaves s t blocks own c r k range are has =
     ap (leaf_from (0 + i)) (same_block s t blocks own (name_of 0 r c k) (0 + i) range are has (subst P e lt))))
 
 same_body : (s : Stream) (t : ℕ) (blocks own : List Block) (p : PacketName) → GeometryInRange (geometry s t) → AreOwn s t blocks own → HasPrecinct (geometry s t) p.comp p.res p.precinct
-    → joined (bytes_of s t blocks p) 0 (leaves (geometry s t) p.comp p.res p.precinct) ≡ own_body (geometry s t) own p
+    → joined (carried_bytes s t blocks p) 0 (leaves (geometry s t) p.comp p.res p.precinct) ≡ own_body (geometry s t) own p
 unfolding layer_bytes
 same_body s t blocks own p range are has =
-    joined_same (bytes_of s t blocks p) (leaf_bytes (geometry s t) own p.comp p.res p.precinct p.layer) (leaves (geometry s t) p.comp p.res p.precinct)
+    joined_same (carried_bytes s t blocks p) (leaf_bytes (geometry s t) own p.comp p.res p.precinct p.layer) (leaves (geometry s t) p.comp p.res p.precinct)
     (λ j lt. ap (λ (o : Option Block). layer_bytes p.layer (pieces_of o)) (same_block s t blocks own p j range are has lt))
 
 -- ---- a packet
@@ -72,7 +72,7 @@ same_packet : (m : Marks) (s : Stream) (t : ℕ) (blocks own : List Block) (p : 
 same_packet m s t blocks own p n range are is =
     let has : HasPrecinct (geometry s t) p.comp p.res p.precinct = record { resolution = is.resolution; precinct = is.precinct } in
     let header : List Leafed → List ℕ = λ lvs. header_at (layers_of s t) (style_of s t p.comp) (precinct_bands s (geometry s t) p.comp p.res p.precinct) lvs p.layer in
-    ap (λ (lvs : List Leafed). packet_with m n (header lvs) (joined (bytes_of s t blocks p) 0 (leaves (geometry s t) p.comp p.res p.precinct))) (same_leaves s t blocks own p.comp p.res p.precinct range are has)
+    ap (λ (lvs : List Leafed). packet_with m n (header lvs) (joined (carried_bytes s t blocks p) 0 (leaves (geometry s t) p.comp p.res p.precinct))) (same_leaves s t blocks own p.comp p.res p.precinct range are has)
     ∙ ap (λ (b : List ℕ). packet_with m n (header (own_leaves (geometry s t) own p.comp p.res p.precinct)) b) (same_body s t blocks own p range are has)
 
 same_bytes : (m : Marks) (s : Stream) (t : ℕ) (blocks own : List Block) (n : ℕ) (names : List PacketName) → GeometryInRange (geometry s t) → AreOwn s t blocks own
@@ -94,15 +94,15 @@ same_lengths m s t blocks own (p ∷ names) range are each =
 -- ---- the tile-parts
 same_parts : (m : Marks) (s : Stream) (t : ℕ) (blocks own : List Block) (part parts number : ℕ) (groups : List (List PacketName)) → GeometryInRange (geometry s t) → AreOwn s t blocks own
     → AllByRecursion (λ (names : List PacketName). All (IsPacketName (geometry s t) (layers_of s t)) names) groups
-    → parts_with m (length s.siz.comps) t (header_of s t) (packets_of m s t blocks) part parts number groups ≡ parts_from m s (geometry s t) own part parts number groups
+    → parts_with m (length s.siz.comps) t (header_of s t) (packets_of m s t blocks) part parts number groups ≡ packed_parts_from m s (geometry s t) own part parts number groups
 same_parts m s t blocks own part parts number [] range are each = refl
 same_parts m s t blocks own part parts number (names ∷ groups) range are each =
     let rec : AllByRecursion (IsPacketName (geometry s t) (layers_of s t)) names = recursion_from_All (IsPacketName (geometry s t) (layers_of s t)) names each.0 in
     let own_lengths : List ℕ = map (own_length m s (geometry s t) own) names in
     let later : List TilePart = parts_with m (length s.siz.comps) t (header_of s t) (packets_of m s t blocks) (part + 1) parts (number + length names) groups in
-    ap (λ (ls : List ℕ). tile_part (length s.siz.comps) t part parts (part_header m (header_of s t) part ls) (bytes_from (packets_of m s t blocks) number names) ∷ later)
+    ap (λ (ls : List ℕ). tile_part (length s.siz.comps) t part parts (written_part_header m (header_of s t) part ls) (bytes_from (packets_of m s t blocks) number names) ∷ later)
     (same_lengths m s t blocks own names range are rec)
-    ∙ ap (λ (b : List ℕ). tile_part (length s.siz.comps) t part parts (part_header m (header_of s t) part own_lengths) b ∷ later) (same_bytes m s t blocks own number names range are rec)
+    ∙ ap (λ (b : List ℕ). tile_part (length s.siz.comps) t part parts (written_part_header m (header_of s t) part own_lengths) b ∷ later) (same_bytes m s t blocks own number names range are rec)
     ∙ ap (λ (ps : List TilePart). own_part m s (geometry s t) own part parts number names ∷ ps) (same_parts m s t blocks own (part + 1) parts (number + length names) groups range are each.1)
 
 same_tile : (m : Marks) (s : Stream) (t : ℕ) (blocks own : List Block) (names : List PacketName) → GeometryInRange (geometry s t) → AreOwn s t blocks own

@@ -9,7 +9,7 @@ use Rattle.jx_codestream.specs.Spells.{TilePart, part_bytes}
 use Rattle.jx_options.specs.declared.Marks.{Marks}
 use Rattle.jx_plan.specs.Groups.{groups_of, more_groups}
 use Rattle.jx_plan.proofs.GroupLemmas.{more_cut, none_left, part_length}
-use Rattle.jx_tier2_writer.specs.Packed.{own_part, own_parts, parts_from}
+use Rattle.jx_tier2_writer.specs.Packed.{own_part, own_parts, packed_parts_from}
 use Rattle.jx_tier2_writer.specs.Tile.{AreAtMost}
 
 abbrev IsAtMost : ℕ → TilePart → Type 0
@@ -17,10 +17,10 @@ IsAtMost most p = p.sot.psot ≤ most
 
 -- the bytes of the tile-parts before a packet, and what is known of those from it on
 pub record IsCut (m : Marks) (s : Stream) (g : Geometry) (own : List Block) (names : List PacketName) (most count part from : ℕ) (done : List (List ℕ)) : Type 0 where
-  pub bytes : done ++ map (part_bytes (length s.siz.comps)) (parts_from m s g own part count from (more_groups m.parts (drop from names)))
+  pub bytes : done ++ map (part_bytes (length s.siz.comps)) (packed_parts_from m s g own part count from (more_groups m.parts (drop from names)))
       ≡ map (part_bytes (length s.siz.comps)) (own_parts m s g own names)
-  pub short : AreAtMost most (parts_from m s g own part count from (more_groups m.parts (drop from names))) → AreAtMost most (own_parts m s g own names)
-  pub long : AreAtMost most (own_parts m s g own names) → AreAtMost most (parts_from m s g own part count from (more_groups m.parts (drop from names)))
+  pub short : AreAtMost most (packed_parts_from m s g own part count from (more_groups m.parts (drop from names))) → AreAtMost most (own_parts m s g own names)
+  pub long : AreAtMost most (own_parts m s g own names) → AreAtMost most (packed_parts_from m s g own part count from (more_groups m.parts (drop from names)))
 
 module _ (m : Marks) (s : Stream) (g : Geometry) (own : List Block) (names : List PacketName) (most count : ℕ) where
   abbrev bytes_of : TilePart → List ℕ
@@ -30,7 +30,7 @@ module _ (m : Marks) (s : Stream) (g : Geometry) (own : List Block) (names : Lis
   all = own_parts m s g own names
 
   abbrev rest : ℕ → ℕ → List TilePart
-  rest part from = parts_from m s g own part count from (more_groups m.parts (drop from names))
+  rest part from = packed_parts_from m s g own part count from (more_groups m.parts (drop from names))
 
   -- the tile-part that begins at a packet
   abbrev here : ℕ → ℕ → ℕ → TilePart
@@ -40,12 +40,12 @@ module _ (m : Marks) (s : Stream) (g : Geometry) (own : List Block) (names : Lis
       → groups_of m.parts (drop from names) ≡ take (end - from) (drop from names) ∷ more_groups m.parts (drop end names)
       → rest part from ≡ here part from end ∷ rest (part + 1) end
   rest_next part from end low high cut =
-      ap (parts_from m s g own part count from) (more_cut m.parts names from end (omega arith) cut)
-      ∙ ap (λ (n : ℕ). here part from end ∷ parts_from m s g own (part + 1) count n (more_groups m.parts (drop end names))) (part_length names from end (omega arith) high)
+      ap (packed_parts_from m s g own part count from) (more_cut m.parts names from end (omega arith) cut)
+      ∙ ap (λ (n : ℕ). here part from end ∷ packed_parts_from m s g own (part + 1) count n (more_groups m.parts (drop end names))) (part_length names from end (omega arith) high)
 
   -- behind the last
   rest_none : (part from : ℕ) → length names ≤ from → rest part from ≡ []
-  rest_none part from over = ap (parts_from m s g own part count from) (none_left m.parts names from over)
+  rest_none part from over = ap (packed_parts_from m s g own part count from) (none_left m.parts names from over)
 
   pub cut_whole : (part from : ℕ) (done : List (List ℕ)) → length names ≤ from → IsCut m s g own names most count part from done → done ≡ map bytes_of all
   cut_whole part from done over is =

@@ -9,7 +9,7 @@ use Rattle.jx_progression.specs.declared.names.PacketName.{PacketName}
 use Rattle.jx_codestream.specs.declared.headers.HeaderKind.{HeaderKind}
 use Rattle.jx_codestream.specs.declared.headers.HeaderKind.TheVariants.{First, Later}
 use Rattle.std.proofs.lemmas.Bool.Decides.{nat_tests}
-use Rattle.jx_codestream.specs.declared.parts.Part.{Part}
+use Rattle.jx_codestream.specs.declared.parts.PlacedPart.{PlacedPart}
 use Rattle.jx_codestream.specs.Tiles.{headers_of, is_com, entries_joined}
 use Rattle.jx_codestream.specs.Parts.{kind_of}
 use Rattle.jx_codestream.specs.Spells.{TilePart, AreSegments, all_bytes, head_bytes, part_bytes, placed}
@@ -19,7 +19,7 @@ use Rattle.jx_tier2_writer.specs.Told.{length_total}
 use Rattle.jx_tier2_writer.specs.Lengths.{numbered}
 use Rattle.jx_tier2_writer.specs.Ready.{AreShort}
 use Rattle.jx_options.specs.declared.Marks.{Marks}
-use Rattle.jx_tier2_writer.specs.TileParts.{packet_length, part_header, parts_with, tile_part}
+use Rattle.jx_tier2_writer.specs.TileParts.{packet_length, written_part_header, parts_with, tile_part}
 use Rattle.jx_tier2_writer.proofs.HeaderLemmas.{lengths_none, lengths_stand, segments_on}
 use Rattle.jx_plan.proofs.ReadBackLemmas.{none_both as joined_on}
 use Rattle.jx_tier2_writer.proofs.HeldLemmas.{held_by, held_few, held_fit, packets_long, segments_are}
@@ -31,20 +31,20 @@ abbrev pub own_at : ℕ → List Segment → List Segment
 own_at zero own = own
 own_at (suc part) own = []
 
-pub header_is : (m : Marks) (own : List Segment) (part : ℕ) (lengths : List ℕ) → part_header m own part lengths ≡ own_at part own ++ numbered 0 (held_by m.plt lengths)
+pub header_is : (m : Marks) (own : List Segment) (part : ℕ) (lengths : List ℕ) → written_part_header m own part lengths ≡ own_at part own ++ numbered 0 (held_by m.plt lengths)
 header_is m own zero lengths = ap (λ (z : List Segment). own ++ z) (segments_are m.plt lengths)
 header_is m own (suc part) lengths = segments_are m.plt lengths
 
 -- ---- headers
 header_fits : (m : Marks) (comps t part parts : ℕ) (own : List Segment) (lengths body : List ℕ) → AreSegments First comps [] own → length lengths ≤ 2 ^ 22 → length_total lengths < 2 ^ 32
-    → let p = tile_part comps t part parts (part_header m own part lengths) body in AreSegments (kind_of p.sot) comps [] p.header
+    → let p = tile_part comps t part parts (written_part_header m own part lengths) body in AreSegments (kind_of p.sot) comps [] p.header
 header_fits m comps t zero parts own lengths body fit count short =
     let P : List Segment → Type 0 = λ z. AreSegments First comps [] z in
     subst P (sym (header_is m own zero lengths)) (segments_on First comps [] own (numbered 0 (held_by m.plt lengths)) fit
     (lengths_stand First comps 0 own (held_by m.plt lengths) (λ bytes. refl) (omega (arith, held_few m.plt lengths count short)) (held_fit m.plt lengths)))
 header_fits m comps t (suc part) parts own lengths body fit count short =
     let P : List Segment → Type 0 = λ z. AreSegments Later comps [] z in
-    let Q : HeaderKind → Type 0 = λ k. AreSegments k comps [] (part_header m own (suc part) lengths) in
+    let Q : HeaderKind → Type 0 = λ k. AreSegments k comps [] (written_part_header m own (suc part) lengths) in
     let none : (suc part == 0) ≡ false = not_first part in
     let kind : cond (suc part == 0) First Later ≡ Later = rw none refl in
     subst Q (sym kind) (subst P (sym (header_is m own (suc part) lengths)) (lengths_stand Later comps 0 [] (held_by m.plt lengths) (λ bytes. refl) (omega (arith, held_few m.plt lengths count short)) (held_fit m.plt lengths)))
@@ -72,7 +72,7 @@ module _ (m : Marks) (comps t : ℕ) (own : List Segment) (ps : Packets) (parts 
   made_of part number [] fit few short = tt
   made_of part number (names ∷ groups) fit few short =
       let lengths : List ℕ = map (packet_length ps) names in
-      let header : List Segment = part_header m own part lengths in
+      let header : List Segment = written_part_header m own part lengths in
       let body : List ℕ = bytes_from ps number names in
       let count : length lengths ≤ 2 ^ 22 = omega (arith, lengths_count ps names, few.0) in
       let low : length_total lengths < 2 ^ 32 = lengths_short ps number (length (all_bytes comps header)) names short.0 in (
@@ -92,7 +92,7 @@ module _ (m : Marks) (comps t : ℕ) (own : List Segment) (ps : Packets) (parts 
   made_long part number (names ∷ groups) = ap suc (made_long (part + 1) (number + length names) groups)
 
   -- ---- no POC
-  header_entries : (part : ℕ) (lengths : List ℕ) → entries_joined own ≡ [] → entries_joined (part_header m own part lengths) ≡ []
+  header_entries : (part : ℕ) (lengths : List ℕ) → entries_joined own ≡ [] → entries_joined (written_part_header m own part lengths) ≡ []
   header_entries part lengths none =
       let P : List Segment → Type 0 = λ z. entries_joined z ≡ [] in
       subst P (sym (header_is m own part lengths)) (joined_on (own_at part own) (numbered 0 (held_by m.plt lengths)) (at part) (lengths_none 0 (held_by m.plt lengths)))
@@ -105,12 +105,12 @@ module _ (m : Marks) (comps t : ℕ) (own : List Segment) (ps : Packets) (parts 
   made_entries part number at [] none = refl
   made_entries part number at (names ∷ groups) none =
       let lengths : List ℕ = map (packet_length ps) names in
-      let p : TilePart = tile_part comps t part parts (part_header m own part lengths) (bytes_from ps number names) in
-      joined_on (part_header m own part lengths) (headers_of (placed comps (at + length (part_bytes comps p)) (parts_with m comps t own ps (part + 1) parts (number + length names) groups)))
+      let p : TilePart = tile_part comps t part parts (written_part_header m own part lengths) (bytes_from ps number names) in
+      joined_on (written_part_header m own part lengths) (headers_of (placed comps (at + length (part_bytes comps p)) (parts_with m comps t own ps (part + 1) parts (number + length names) groups)))
       (header_entries part lengths none) (made_entries (part + 1) (number + length names) (at + length (part_bytes comps p)) groups none)
 
   -- ---- no COM in later tile-parts
-  later_header : (part : ℕ) (lengths : List ℕ) → 0 < part → part_header m own part lengths ≡ numbered 0 (held_by m.plt lengths)
+  later_header : (part : ℕ) (lengths : List ℕ) → 0 < part → written_part_header m own part lengths ≡ numbered 0 (held_by m.plt lengths)
   later_header zero lengths some = absurd (omega arith)
   later_header (suc part) lengths some = header_is m own (suc part) lengths
 
@@ -122,9 +122,9 @@ module _ (m : Marks) (comps t : ℕ) (own : List Segment) (ps : Packets) (parts 
   made_notes part number at [] some = refl
   made_notes part number at (names ∷ groups) some =
       let lengths : List ℕ = map (packet_length ps) names in
-      let p : TilePart = tile_part comps t part parts (part_header m own part lengths) (bytes_from ps number names) in
+      let p : TilePart = tile_part comps t part parts (written_part_header m own part lengths) (bytes_from ps number names) in
       let later : List Segment = headers_of (placed comps (at + length (part_bytes comps p)) (parts_with m comps t own ps (part + 1) parts (number + length names) groups)) in
-      filter-append is_com (part_header m own part lengths) later
+      filter-append is_com (written_part_header m own part lengths) later
       ∙ ap (λ (z : List Segment). filter is_com z ++ filter is_com later) (later_header part lengths some)
       ∙ ap (λ (z : List Segment). z ++ filter is_com later) (no_notes 0 (held_by m.plt lengths))
       ∙ made_notes (part + 1) (number + length names) (at + length (part_bytes comps p)) groups (omega arith)
@@ -132,11 +132,11 @@ module _ (m : Marks) (comps t : ℕ) (own : List Segment) (ps : Packets) (parts 
   -- ---- data
   pub made_filled : (b : List ℕ) (part number at : ℕ) (groups : List (List PacketName)) (more : List ℕ)
       → drop at b ≡ flat_map (part_bytes comps) (parts_with m comps t own ps part parts number groups) ++ more
-      → AreFilled b ps number (map (λ (p : Part). p.body) (placed comps at (parts_with m comps t own ps part parts number groups))) groups
+      → AreFilled b ps number (map (λ (p : PlacedPart). p.body) (placed comps at (parts_with m comps t own ps part parts number groups))) groups
   made_filled b part number at [] more h = tt
   made_filled b part number at (names ∷ groups) more h =
       let body : List ℕ = bytes_from ps number names in
-      let p : TilePart = tile_part comps t part parts (part_header m own part (map (packet_length ps) names)) body in
+      let p : TilePart = tile_part comps t part parts (written_part_header m own part (map (packet_length ps) names)) body in
       let later : List TilePart = parts_with m comps t own ps (part + 1) parts (number + length names) groups in
       let after : List ℕ = flat_map (part_bytes comps) later ++ more in
       let whole : drop at b ≡ part_bytes comps p ++ after = h ∙ append_assoc (part_bytes comps p) (flat_map (part_bytes comps) later) more in

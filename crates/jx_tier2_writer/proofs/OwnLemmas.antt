@@ -21,12 +21,12 @@ use Rattle.jx_packet_header.specs.Written.{Leafed, Plan}
 use Rattle.jx_codestream.specs.declared.Stream.{Stream}
 use Rattle.jx_codestream.specs.Shapes.{layers_of, style_of}
 use Rattle.jx_tile.specs.Cells.{precinct_bands}
-use Rattle.jx_tier2_reader.specs.Planned.{leaf_from, part_in}
+use Rattle.jx_tier2_reader.specs.Planned.{leaf_from, leaf_part_of}
 use Rattle.jx_tier2_reader.proofs.CellLemmas.{cells_count}
 use Rattle.jx_tier2_writer.specs.Coded.{HasLayers}
 use Rattle.jx_tier2_writer.specs.Own.{AreOwnBlocks, HasLeaves, IsSending, leaf_bytes, own_header, own_leaf, own_leaves}
-use Rattle.jx_tier2_writer.specs.Sent.{AreSent, row_at, row_bytes, rows_of}
-use Rattle.jx_tier2_writer.specs.declared.sent.Sent.{Sent}
+use Rattle.jx_tier2_writer.specs.BlockParts.{AreBlockParts, row_at, row_bytes, rows_of}
+use Rattle.jx_tier2_writer.specs.declared.block_parts.BlockPart.{BlockPart}
 use Rattle.jx_tier2_reader.proofs.FitLemmas.{pieces_total}
 
 -- ---- what holds of each block
@@ -62,7 +62,7 @@ own_has s g own n c r k layers range has are =
 few_passes : (j : ℕ) (o : Option Block) → IsSoundOf o → all_passes (leaf_from j o).parts < 2 ^ 16
 few_passes j None sound = omega arith
 few_passes j (Some b) sound =
-    let sum : 0 + all_passes (map (part_in j) b.pieces) ≡ b.passes = pieces_total b.style.bits 0 0 b.passes j b.pieces sound.pieces in
+    let sum : 0 + all_passes (map (leaf_part_of j) b.pieces) ≡ b.passes = pieces_total b.style.bits 0 0 b.passes j b.pieces sound.pieces in
     let most : b.passes ≤ 3 * (b.planes - b.zero) - 2 = sound.few in
     let planes : b.planes ≤ 74 = sound.planes in
     omega arith
@@ -92,13 +92,13 @@ headers_are s g own c r k n style bands lvs out hs en es eb el eo is =
     ∙ ap (λ (m : List BandCells). map (header_at (layers_of s g.tile) (style_of s g.tile c) m lvs) (range_with_len 0 (layers_of s g.tile))) eb
     ∙ ap (λ (m : List Leafed). map (header_at (layers_of s g.tile) (style_of s g.tile c) (precinct_bands s g c r k) m) (range_with_len 0 (layers_of s g.tile))) el
 
-pub sent_are : (s : Stream) (g : Geometry) (own : List Block) (datas : List (List ℕ)) (c r k n : ℕ) (hs : List (List ℕ)) (vecs : List (Vec Sent)) (rows : List (List Sent))
+pub sent_are : (s : Stream) (g : Geometry) (own : List Block) (datas : List (List ℕ)) (c r k n : ℕ) (hs : List (List ℕ)) (vecs : List (Vec BlockPart)) (rows : List (List BlockPart))
     → n ≡ layers_of s g.tile → hs ≡ map (own_header s g own c r k) (range_with_len 0 (layers_of s g.tile)) → rows ≡ rows_of vecs → length vecs ≡ n
-    → ((l : ℕ) → row_bytes datas (row_at (rows_of vecs) l) ≡ joined (leaf_bytes g own c r k l) 0 (leaves g c r k)) → ((l : ℕ) → AreSent datas (row_at (rows_of vecs) l))
+    → ((l : ℕ) → row_bytes datas (row_at (rows_of vecs) l) ≡ joined (leaf_bytes g own c r k l) 0 (leaves g c r k)) → ((l : ℕ) → AreBlockParts datas (row_at (rows_of vecs) l))
     → IsSending s g own datas c r k (record { headers = hs; sent = rows })
 sent_are s g own datas c r k n hs vecs rows en headers is long bytes sent = record {
   headers = headers;
-  long = ap (λ (xs : List (List Sent)). length xs) is ∙ length-map vecs (λ (v : Vec Sent). v.items) ∙ long ∙ en;
-  bytes = λ l lt. ap (λ (xs : List (List Sent)). row_bytes datas (row_at xs l)) is ∙ bytes l;
-  sent = λ l. subst (λ (xs : List (List Sent)). AreSent datas (row_at xs l)) (sym is) (sent l);
+  long = ap (λ (xs : List (List BlockPart)). length xs) is ∙ length-map vecs (λ (v : Vec BlockPart). v.items) ∙ long ∙ en;
+  bytes = λ l lt. ap (λ (xs : List (List BlockPart)). row_bytes datas (row_at xs l)) is ∙ bytes l;
+  sent = λ l. subst (λ (xs : List (List BlockPart)). AreBlockParts datas (row_at xs l)) (sym is) (sent l);
 }

@@ -7,7 +7,7 @@ use Rattle.jx_base.specs.declared.pieces.Block.{Block}
 use Rattle.jx_geom.specs.Geometry.{Geometry}
 use Rattle.jx_codestream.specs.declared.Stream.{Stream}
 use Rattle.jx_marker.specs.Codes.{eph_spelling}
-use Rattle.jx_tier2_reader.specs.Written.{Written, packet_bytes, sop_bytes}
+use Rattle.jx_tier2_reader.specs.Written.{WrittenPacket, packet_bytes, sop_bytes}
 use Rattle.jx_tier2_writer.specs.Own.{IsSending}
 use Rattle.jx_tier2_writer.specs.declared.sending.Sending.{Sending}
 use Rattle.jx_tier2_writer.proofs.SendingsLemmas.{IsSendingOf}
@@ -31,7 +31,7 @@ pub row_of : {X : Type 0} (f : ℕ → List X) (n i : ℕ) (rows : List (List X)
 row_of {X} f n i rows is lt = ap (λ (xs : List (List X)). slice_index_or xs i []) is ∙ get_or-map-range_with_len f 0 n i i [] lt (let e : 0 + i ≡ i = omega arith in e)
 
 -- its length
-pub packet_long : (w : Written) (number : ℕ) → length (packet_bytes number w) ≡ ((if w.sop then 6 else 0) + (if w.eph then 2 else 0)) + length w.header + length w.bytes
+pub packet_long : (w : WrittenPacket) (number : ℕ) → length (packet_bytes number w) ≡ ((if w.sop then 6 else 0) + (if w.eph then 2 else 0)) + length w.header + length w.bytes
 packet_long w number = by w.sop w.eph
   where
     by : (a b : Bool) → length (cond a (sop_bytes number) [] ++ (w.header ++ (cond b eph_spelling [] ++ w.bytes))) ≡ (cond a 6 0 + cond b 2 0) + length w.header + length w.bytes

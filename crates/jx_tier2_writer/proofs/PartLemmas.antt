@@ -13,7 +13,7 @@ use Rattle.jx_codestream.specs.Spells.{TilePart, all_bytes, part_bytes}
 use Rattle.jx_tier2_reader.specs.Written.{bytes_from, packet_bytes}
 use Rattle.jx_options.specs.declared.Marks.{Marks}
 use Rattle.jx_tier2_writer.specs.Packed.{own_length, own_packet, own_packets, own_part, total}
-use Rattle.jx_tier2_writer.specs.TileParts.{part_header}
+use Rattle.jx_tier2_writer.specs.TileParts.{written_part_header}
 use Rattle.jx_codestream.specs.Params.{header_of}
 use Rattle.jx_tier2_writer.proofs.PacketLemmas.{packet_long}
 
@@ -55,11 +55,11 @@ module _ (m : Marks) (s : Stream) (g : Geometry) (own : List Block) (part parts 
   abbrev lengths_in : List ℕ
   lengths_in = map (own_length m s g own) names
 
-  pub part_header_is : (tile : ℕ) (lengths header : List ℕ) → tile ≡ g.tile → lengths ≡ lengths_in → header ≡ all_bytes comps (part_header m (header_of s tile) part lengths)
+  pub part_header_is : (tile : ℕ) (lengths header : List ℕ) → tile ≡ g.tile → lengths ≡ lengths_in → header ≡ all_bytes comps (written_part_header m (header_of s tile) part lengths)
       → header ≡ all_bytes comps made.header
   part_header_is tile lengths header et el is =
-      is ∙ ap (λ (t : ℕ). all_bytes comps (part_header m (header_of s t) part lengths)) et
-      ∙ ap (λ (ls : List ℕ). all_bytes comps (part_header m (header_of s g.tile) part ls)) el
+      is ∙ ap (λ (t : ℕ). all_bytes comps (written_part_header m (header_of s t) part lengths)) et
+      ∙ ap (λ (ls : List ℕ). all_bytes comps (written_part_header m (header_of s g.tile) part ls)) el
 
   -- from the bytes of its header
   pub part_size : (header : List ℕ) → header ≡ all_bytes comps made.header → 14 + length header + total lengths_in ≡ made.sot.psot

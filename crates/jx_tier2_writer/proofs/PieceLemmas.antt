@@ -14,7 +14,7 @@ use Rattle.jx_options.specs.declared.Marks.{Marks}
 use Rattle.jx_plan.proofs.GroupLemmas.{part_length}
 use Rattle.jx_tier2_writer.specs.Packed.{own_length, own_packets, own_part, own_parts}
 use Rattle.jx_tier2_writer.specs.Pieces.{IsPartOut, packet_pieces, part_pieces, pieces_with, tile_pieces}
-use Rattle.jx_tier2_writer.specs.TileParts.{part_header}
+use Rattle.jx_tier2_writer.specs.TileParts.{written_part_header}
 use Rattle.jx_tier2_writer.specs.declared.assemble.Layout.{Layout}
 use Rattle.jx_tier2_writer.specs.declared.tile_part.PartOut.{PartOut}
 use Rattle.jx_tier2_writer.proofs.CutLemmas.{empty_parts}
@@ -85,7 +85,7 @@ module _ (m : Marks) (s : Stream) (g : Geometry) (own : List Block) (names : Lis
     order = omega arith;
     within = omega arith;
     size = size
-        ∙ part_long (length s.siz.comps) g.tile part count (part_header m (header_of s g.tile) part (map (own_length m s g own) here)) (bytes_from packets from here)
+        ∙ part_long (length s.siz.comps) g.tile part count (written_part_header m (header_of s g.tile) part (map (own_length m s g own) here)) (bytes_from packets from here)
         ∙ ap (λ (xs : List ℕ). length xs) (sym (pieces_joined first last bytes));
   }
 

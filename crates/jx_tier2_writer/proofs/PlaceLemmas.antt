@@ -7,7 +7,7 @@ use Rattle.std.proofs.lemmas.Grind.{flat_map-append}
 use Rattle.std.proofs.lemmas.List.Elements.{filter-append}
 use Rattle.jx_base.specs.Joined.{joined}
 use Rattle.jx_base.proofs.Joined.{joined_next, joined_none}
-use Rattle.jx_codestream.specs.declared.parts.Part.{Part}
+use Rattle.jx_codestream.specs.declared.parts.PlacedPart.{PlacedPart}
 use Rattle.jx_codestream.specs.First.{lacks_part}
 use Rattle.jx_codestream.specs.Parts.{parts_of}
 use Rattle.jx_codestream.specs.Spells.{TilePart, part_bytes, placed}
@@ -38,14 +38,14 @@ module _ (comps : ℕ) (f : ℕ → List TilePart) where
 
   parts_next : (t at n : ℕ) → parts_of t (placed comps at (joined f 0 (suc n)))
       ≡ parts_of t (placed comps at (joined f 0 n)) ++ parts_of t (placed comps (place_of comps f at n) (f n))
-  parts_next t at n = ap (λ (z : List Part). parts_of t z) (placed_next at n) ∙ filter-append (λ (q : Part). q.sot.tile == t) (placed comps at (joined f 0 n)) (placed comps (place_of comps f at n) (f n))
+  parts_next t at n = ap (λ (z : List PlacedPart). parts_of t z) (placed_next at n) ∙ filter-append (λ (q : PlacedPart). q.sot.tile == t) (placed comps at (joined f 0 n)) (placed comps (place_of comps f at n) (f n))
 
   pub parts_none : (t at n : ℕ) → n ≤ t → AllOf comps f n → parts_of t (placed comps at (joined f 0 n)) ≡ []
   parts_none t at zero le all = ap (λ (z : List TilePart). parts_of t (placed comps at z)) (none_is f)
   parts_none t at (suc n) le all =
       let before : parts_of t (placed comps at (joined f 0 n)) ≡ [] = parts_none t at n (omega arith) (λ u lt. all u (omega arith)) in
       let here : parts_of t (placed comps (place_of comps f at n) (f n)) ≡ [] = others_gone comps t n (length (f n)) 0 (place_of comps f at n) (f n) (all n (omega arith)) (λ e. omega (arith, e)) in
-      parts_next t at n ∙ ap (λ (z : List Part). z ++ parts_of t (placed comps (place_of comps f at n) (f n))) before ∙ here
+      parts_next t at n ∙ ap (λ (z : List PlacedPart). z ++ parts_of t (placed comps (place_of comps f at n) (f n))) before ∙ here
 
   pub parts_here : (t at n : ℕ) → t < n → AllOf comps f n → parts_of t (placed comps at (joined f 0 n)) ≡ placed comps (place_of comps f at t) (f t)
   parts_here t at zero lt all = absurd (omega arith)
@@ -53,13 +53,13 @@ module _ (comps : ℕ) (f : ℕ → List TilePart) where
     | inl less ↦
         let before : parts_of t (placed comps at (joined f 0 n)) ≡ placed comps (place_of comps f at t) (f t) = parts_here t at n less (λ u lt. all u (omega arith)) in
         let here : parts_of t (placed comps (place_of comps f at n) (f n)) ≡ [] = others_gone comps t n (length (f n)) 0 (place_of comps f at n) (f n) (all n (omega arith)) (λ e. omega (arith, e, less)) in
-        parts_next t at n ∙ ap (λ (z : List Part). parts_of t (placed comps at (joined f 0 n)) ++ z) here ∙ append-nil (parts_of t (placed comps at (joined f 0 n))) ∙ before
+        parts_next t at n ∙ ap (λ (z : List PlacedPart). parts_of t (placed comps at (joined f 0 n)) ++ z) here ∙ append-nil (parts_of t (placed comps at (joined f 0 n))) ∙ before
     | inr last ↦
         let same : t ≡ n = omega arith in
         let before : parts_of n (placed comps at (joined f 0 n)) ≡ [] = parts_none n at n (omega arith) (λ u lt. all u (omega arith)) in
         let here : parts_of n (placed comps (place_of comps f at n) (f n)) ≡ placed comps (place_of comps f at n) (f n) = own_kept comps n (length (f n)) 0 (place_of comps f at n) (f n) (all n (omega arith)) in
         let P : ℕ → Type 0 = λ u. parts_of u (placed comps at (joined f 0 (suc n))) ≡ placed comps (place_of comps f at u) (f u) in
-        subst P (sym same) (parts_next n at n ∙ ap (λ (z : List Part). z ++ parts_of n (placed comps (place_of comps f at n) (f n))) before ∙ here)
+        subst P (sym same) (parts_next n at n ∙ ap (λ (z : List PlacedPart). z ++ parts_of n (placed comps (place_of comps f at n) (f n))) before ∙ here)
   ]
 
   -- no rule is violated among them
@@ -78,7 +78,7 @@ module _ (comps : ℕ) (f : ℕ → List TilePart) where
   pub none_lacks : (at n : ℕ) → AllOf comps f n → ((t : ℕ) → t < n → 0 < length (f t)) → lacks_part (placed comps at (joined f 0 n)) n ≡ false
   none_lacks at n all some =
       none_any (λ (tile : ℕ). length (parts_of tile (placed comps at (joined f 0 n))) == 0) 0 n
-      (λ (t : ℕ) (within : t < 0 + n). (let lt : t < n = omega (arith, within) in not_none (length (parts_of t (placed comps at (joined f 0 n)))) (omega (arith, ap (λ (z : List Part). length z) (parts_here t at n lt all), placed_long comps (place_of comps f at t) (f t), some t lt))))
+      (λ (t : ℕ) (within : t < 0 + n). (let lt : t < n = omega (arith, within) in not_none (length (parts_of t (placed comps at (joined f 0 n)))) (omega (arith, ap (λ (z : List PlacedPart). length z) (parts_here t at n lt all), placed_long comps (place_of comps f at t) (f t), some t lt))))
     where
       not_none : (k : ℕ) → 0 < k → (k == 0) ≡ false
       not_none k h = grind (arith, nat_tests)

@@ -13,7 +13,7 @@ use Rattle.jx_marker.specs.declared.Segment.TheVariants as segment
 use Rattle.jx_marker.specs.Segments.{spelling}
 use Rattle.jx_progression.specs.declared.names.PacketName.{PacketName}
 use Rattle.jx_codestream.specs.declared.Body.{Body}
-use Rattle.jx_codestream.specs.declared.parts.Part.{Part}
+use Rattle.jx_codestream.specs.declared.parts.PlacedPart.{PlacedPart}
 use Rattle.jx_codestream.specs.declared.Stream.{Stream}
 use Rattle.jx_codestream.specs.declared.Tile.{Tile}
 use Rattle.jx_codestream.specs.First.{canvas_of, tile_number}
@@ -31,7 +31,7 @@ use Rattle.jx_tier2_reader.specs.Written.{AreFilled, Packets, bytes_from, packet
 use Rattle.jx_tier2_writer.specs.Lengths.{numbered}
 use Rattle.jx_tier2_writer.specs.Ready.{AllShort, AreReady, AreShort, stream_read}
 use Rattle.jx_options.specs.declared.Marks.{Marks}
-use Rattle.jx_tier2_writer.specs.TileParts.{packet_length, packets_of, part_header, parts_with, tile_part, tile_parts}
+use Rattle.jx_tier2_writer.specs.TileParts.{packet_length, packets_of, written_part_header, parts_with, tile_part, tile_parts}
 use Rattle.jx_tier2_writer.specs.SameHeaders.{IsWithLengths}
 use Rattle.jx_tier2_writer.proofs.HeldLemmas.{held_by}
 use Rattle.jx_tier2_writer.proofs.AlikeLemmas.{AreAlike, all_planes_alike, few_alike}
@@ -91,10 +91,10 @@ notes_made : (m : Marks) (comps t : ℕ) (own : List Segment) (ps : Packets) (pa
     → filter is_com (headers_of (drop 1 (placed comps at (parts_with m comps t own ps 0 parts 0 groups)))) ≡ []
 notes_made m comps t own ps parts at [] = refl
 notes_made m comps t own ps parts at (names ∷ groups) =
-    let p : TilePart = tile_part comps t 0 parts (part_header m own 0 (map (packet_length ps) names)) (bytes_from ps 0 names) in
+    let p : TilePart = tile_part comps t 0 parts (written_part_header m own 0 (map (packet_length ps) names)) (bytes_from ps 0 names) in
     made_notes m comps t own ps parts 1 (0 + length names) (at + length (part_bytes comps p)) groups (omega arith)
 
-entries_are : (main : List Segment) (own : List Part) (header : List Segment) → entries_joined (headers_of own) ≡ [] → entries_joined main ≡ [] → in_slot 1 (first_header own) ≡ in_slot 1 header
+entries_are : (main : List Segment) (own : List PlacedPart) (header : List Segment) → entries_joined (headers_of own) ≡ [] → entries_joined main ≡ [] → in_slot 1 (first_header own) ≡ in_slot 1 header
     → progressions_of main own ≡ or_list (entry_in (in_slot 1 header)) (entry_in (in_slot 1 main))
 entries_are main own header none none_main alike =
     ap (λ (z : List Progression). or_list z (or_list (entries_joined main) (or_list (entry_in (in_slot 1 (first_header own))) (entry_in (in_slot 1 main))))) none
@@ -116,7 +116,7 @@ module _ (m : Marks) (s : Stream) (blocks : List Block) (b : List ℕ) (parts : 
   abbrev all_parts : List TilePart
   all_parts = joined parts 0 tiles
 
-  abbrev all_placed : List Part
+  abbrev all_placed : List PlacedPart
   all_placed = placed comps start all_parts
 
   -- the stream that is read
@@ -144,7 +144,7 @@ module _ (m : Marks) (s : Stream) (blocks : List Block) (b : List ℕ) (parts : 
       subst P (sym is.are) (subst Q (sym (made_count t)) are)
 
   -- where those of a tile stand
-  abbrev own_parts : ℕ → List Part
+  abbrev own_parts : ℕ → List PlacedPart
   own_parts t = placed comps (place_of comps parts start t) (made t)
 
   own_are : (t : ℕ) → t < tiles → parts_of t all_placed ≡ own_parts t
@@ -153,7 +153,7 @@ module _ (m : Marks) (s : Stream) (blocks : List Block) (b : List ℕ) (parts : 
   tile_is : (t : ℕ) → t < tiles → get_or it.tiles t no_tile ≡ tile_from s.main (own_parts t)
   tile_is t lt =
       get_or-map-range_with_len (tile_of s.main all_placed) 0 tiles t t no_tile lt (let e : 0 + t ≡ t = omega arith in e)
-      ∙ tile_of_is s.main all_placed t ∙ ap (λ (z : List Part). tile_from s.main z) (own_are t lt)
+      ∙ tile_of_is s.main all_placed t ∙ ap (λ (z : List PlacedPart). tile_from s.main z) (own_are t lt)
 
   count_tiles : length it.tiles ≡ tiles
   count_tiles = length-map-range_with_len (tile_of s.main all_placed) 0 tiles
@@ -256,6 +256,6 @@ module _ (m : Marks) (s : Stream) (blocks : List Block) (b : List ℕ) (parts : 
       let there = tile_bytes comps parts b start tiles (spelling 1 segment.Eoc ++ []) parts_there t lt in
       let place : ℕ = place_of comps parts start t in
       let bytes : drop place b ≡ flat_map (part_bytes comps) (made t) ++ there.0 = there.1 ∙ ap (λ (z : List TilePart). flat_map (part_bytes comps) z ++ there.0) (cut t lt).are in
-      let bodies : (tile_at it t).bodies ≡ map (λ (p : Part). p.body) (own_parts t) = ap (λ (x : Tile). x.bodies) (tile_is t lt) in
+      let bodies : (tile_at it t).bodies ≡ map (λ (p : PlacedPart). p.body) (own_parts t) = ap (λ (x : Tile). x.bodies) (tile_is t lt) in
       subst (λ (z : List Body). AreFilled b (packets_of m s t blocks) 0 z (groups t)) (sym bodies)
       (made_filled m comps t (header_of s t) (packets_of m s t blocks) (length (groups t)) b 0 0 place (groups t) there.0 bytes)

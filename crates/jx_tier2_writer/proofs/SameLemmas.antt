@@ -17,7 +17,7 @@ use Rattle.jx_geom.specs.Precincts.{leaf_number, leaves, cells_at}
 use Rattle.jx_tier2_reader.specs.Planned.{leaf_from, leaf_in, leaves_of_blocks}
 use Rattle.jx_tile.specs.Totals.{block_total, packet_total, tile_packets, totals_fault}
 use Rattle.jx_tile.specs.Faults.{passed}
-use Rattle.jx_tier2_reader.specs.Written.{Written}
+use Rattle.jx_tier2_reader.specs.Written.{WrittenPacket}
 use Rattle.jx_tier2_reader.proofs.AnotherLemmas.{blocks_of_other}
 use Rattle.jx_base.specs.Pieces.{PieceValue}
 use Rattle.jx_options.specs.declared.Marks.{Marks}
@@ -36,7 +36,7 @@ use Rattle.jx_codestream.specs.Shapes.{geometry, layers_of, shapes_of, style_of}
 use Rattle.jx_tier2_reader.specs.Another.{HaveSameBlocks, rect_in}
 use Rattle.jx_tier2_reader.specs.BlockOf.{AreBlocksOf, pieces_at}
 use Rattle.jx_tile.specs.Cells.{precinct_bands, sizes_of}
-use Rattle.jx_tier2_reader.specs.Carries.{block_in, bytes_of, pieces_of}
+use Rattle.jx_tier2_reader.specs.Carries.{block_in, carried_bytes, pieces_of}
 
 abbrev pub with_tiles : Stream → List Tile → Stream
 with_tiles s tiles = record { siz = s.siz; main = s.main; tiles = tiles }
@@ -131,7 +131,7 @@ module _ (s : Stream) (tiles : List Tile) (alike : (t : ℕ) → AreAlike (heade
         ap (λ (f : ℕ → Leafed). map f (range_with_len 0 (leaves (geometry it t) c r k))) (fun_ext (λ j. ap (leaf_from j) (block_same (name_of 0 r c k) j)))
         ∙ ap (λ (n : ℕ). map (leaf_in s t blocks c r k) (range_with_len 0 n)) (leaves_count c r k)
 
-    bytes_same : (p : PacketName) → bytes_of it t blocks p ≡ bytes_of s t blocks p
+    bytes_same : (p : PacketName) → carried_bytes it t blocks p ≡ carried_bytes s t blocks p
     bytes_same p = fun_ext (λ j. ap (λ (o : Option Block). flat_map (λ (q : PieceValue). q.bytes) (pieces_at p.layer (pieces_of o))) (block_same p j))
 
     packet_same : (m : Marks) (p : PacketName) → packet_of m it t blocks p ≡ packet_of m s t blocks p
@@ -144,5 +144,5 @@ module _ (s : Stream) (tiles : List Tile) (alike : (t : ℕ) → AreAlike (heade
     pub packets_same : (m : Marks) → packets_of m it t blocks ≡ packets_of m s t blocks
     unfolding packets_of
     packets_same m =
-        ap (λ (f : PacketName → Written). record { written = f; before = state_before it t blocks }) (fun_ext (packet_same m))
+        ap (λ (f : PacketName → WrittenPacket). record { written = f; before = state_before it t blocks }) (fun_ext (packet_same m))
         ∙ ap (λ (f : PacketName → State). record { written = packet_of m s t blocks; before = f }) (fun_ext state_same)

@@ -9,7 +9,7 @@ use Rattle.jx_geom.specs.Geometry.{Geometry}
 use Rattle.jx_geom.specs.Precincts.{leaf_number, leaves}
 use Rattle.jx_tagtree.specs.Header.{bytes_of}
 use Rattle.jx_packet_header.specs.declared.BandCells.{BandCells}
-use Rattle.jx_packet_header.specs.declared.Part.{Part}
+use Rattle.jx_packet_header.specs.declared.LeafPart.{LeafPart}
 use Rattle.jx_packet_header.specs.LeavesFit.{header_at}
 use Rattle.jx_packet_header.specs.Packet.{State, bands_bits}
 use Rattle.jx_packet_header.specs.Written.{Leafed, bands_written, parts_in, passes_of, some_in, state_at}
@@ -18,9 +18,9 @@ use Rattle.jx_codestream.specs.Shapes.{layers_of, style_of}
 use Rattle.jx_tier2_reader.specs.BlockOf.{pieces_at}
 use Rattle.jx_tier2_reader.specs.Carries.{pieces_of}
 use Rattle.jx_tile.specs.Cells.{precinct_bands}
-use Rattle.jx_tier2_reader.specs.Planned.{part_in}
+use Rattle.jx_tier2_reader.specs.Planned.{leaf_part_of}
 use Rattle.jx_tier2_writer.specs.Own.{IsSending, leaf_bytes, own_header, own_leaf, own_leaves}
-use Rattle.jx_tier2_writer.specs.Sent.{layer_bytes, row_at, row_bytes}
+use Rattle.jx_tier2_writer.specs.BlockParts.{layer_bytes, row_at, row_bytes}
 use Rattle.jx_tier2_writer.specs.declared.sending.Sending.{Sending}
 use Rattle.jx_tier2_writer.specs.Silent.{AreSilent, empty_header}
 use Rattle.jx_tier2_writer.proofs.SendingLemmas.{none_sent}
@@ -30,8 +30,8 @@ none_in_range : (g : Geometry) (own : List Block) (c r k layer a n : ℕ) → ((
 none_in_range g own c r k layer a zero silent = refl
 none_in_range g own c r k layer a (suc n) silent =
     let rest : List Leafed = map (own_leaf g own c r k) (range_with_len (a + 1) n) in
-    let here : (own_leaf g own c r k a).parts ≡ [] = ap (map (part_in a)) (silent a (omega arith)) in
-    ap (λ (ps : List (ℕ × Part)). nat_lt 0 (passes_of (parts_in layer ps)) || some_in layer rest) here
+    let here : (own_leaf g own c r k a).parts ≡ [] = ap (map (leaf_part_of a)) (silent a (omega arith)) in
+    ap (λ (ps : List LeafPart). nat_lt 0 (passes_of (parts_in layer ps)) || some_in layer rest) here
     ∙ none_in_range g own c r k layer (a + 1) n (λ j lt. silent j (omega arith))
 
 none_in : (g : Geometry) (own : List Block) (c r k layer : ℕ) → AreSilent g own c r k → some_in layer (own_leaves g own c r k) ≡ false

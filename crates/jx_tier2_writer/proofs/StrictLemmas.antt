@@ -12,7 +12,7 @@ use Rattle.jx_tier2_writer.specs.Lengths.{numbered}
 use Rattle.jx_tier2_writer.specs.Ready.{AreShort}
 use Rattle.jx_tier2_writer.specs.Strict.{AreStrictParts}
 use Rattle.jx_options.specs.declared.Marks.{Marks}
-use Rattle.jx_tier2_writer.specs.TileParts.{packet_length, packets_of, part_header, parts_with}
+use Rattle.jx_tier2_writer.specs.TileParts.{packet_length, packets_of, written_part_header, parts_with}
 use Rattle.jx_tier2_writer.proofs.HeldLemmas.{held_by}
 use Rattle.jx_tier2_writer.proofs.MadeLemmas.{header_is, lengths_short, own_at, part_long}
 use Rattle.jx_tier2_writer.proofs.TellLemmas.{held_none, held_told, lengths_found}
@@ -22,7 +22,7 @@ own_none : (own : List Segment) (part : ℕ) → has_lengths own ≡ false → h
 own_none own zero none = none
 own_none own (suc part) none = refl
 
-found_in : (m : Marks) (own : List Segment) (part : ℕ) (lengths : List ℕ) → has_lengths own ≡ false → filter is_plt (part_header m own part lengths) ≡ numbered 0 (held_by m.plt lengths)
+found_in : (m : Marks) (own : List Segment) (part : ℕ) (lengths : List ℕ) → has_lengths own ≡ false → filter is_plt (written_part_header m own part lengths) ≡ numbered 0 (held_by m.plt lengths)
 found_in m own part lengths none =
     ap (λ (z : List Segment). filter is_plt z) (header_is m own part lengths) ∙ lengths_found (own_at part own) (held_by m.plt lengths) (own_none own part none)
 
@@ -31,7 +31,7 @@ pub strict_made : (m : Marks) (comps t : ℕ) (own : List Segment) (ps : Packets
 strict_made m comps t own ps count part number [] none short = tt
 strict_made m comps t own ps count part number (names ∷ groups) none short =
     let lengths : List ℕ = map (packet_length ps) names in
-    let header : List Segment = part_header m own part lengths in (
+    let header : List Segment = written_part_header m own part lengths in (
       record {
         tile = refl;
         part_is = refl;

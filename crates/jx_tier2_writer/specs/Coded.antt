@@ -3,16 +3,16 @@ use Rattle.std.specs.Prelude.{◌≡◌, ◌<◌, ℕ, List, length, map, Option
 use Rattle.std.specs.List.{All}
 use Rattle.jx_base.specs.declared.pieces.Block.{Block}
 use Rattle.jx_base.specs.Pieces.{PieceValue}
-use Rattle.jx_codeblock.specs.declared.OutPart.{OutPart}
+use Rattle.jx_codeblock.specs.declared.LayerPart.{LayerPart}
 use Rattle.jx_codeblock.specs.Laws.{IsWithin}
 use Rattle.jx_codeblock.specs.Recoding.{piece_of}
 
 -- a part lies within the bytes
-abbrev pub IsInside : List ℕ → OutPart → Type 0
+abbrev pub IsInside : List ℕ → LayerPart → Type 0
 IsInside bytes p = IsWithin (length bytes) p
 
 -- the parts of a block with these coded bytes
-pub record ArePartsOf (block : Block) (bytes : List ℕ) (parts : List OutPart) : Type 0 where
+pub record ArePartsOf (block : Block) (bytes : List ℕ) (parts : List LayerPart) : Type 0 where
   pub pieces : block.pieces ≡ map (piece_of bytes) parts
   pub inside : All (IsInside bytes) parts
 

@@ -12,7 +12,7 @@ pub mod Own
 pub mod Packed
 pub mod Pieces
 pub mod Rows
-pub mod Sent
+pub mod BlockParts
 pub mod Silent
 pub mod Told
 pub mod Strict

@@ -16,7 +16,7 @@ use Rattle.jx_tier2_reader.specs.Carries.{pieces_of}
 use Rattle.jx_tile.specs.Cells.{precinct_bands}
 use Rattle.jx_tier2_reader.specs.Planned.{leaf_from}
 use Rattle.jx_tier2_writer.specs.Coded.{HasLayers}
-use Rattle.jx_tier2_writer.specs.Sent.{AreSent, layer_bytes, row_at, row_bytes}
+use Rattle.jx_tier2_writer.specs.BlockParts.{AreBlockParts, layer_bytes, row_at, row_bytes}
 use Rattle.jx_tier2_writer.specs.declared.sending.Sending.{Sending}
 
 -- one block for each number in the tile, sound ones, with pieces in its layers
@@ -45,7 +45,7 @@ pub record IsSending (s : Stream) (g : Geometry) (own : List Block) (datas : Lis
   pub headers : p.headers ≡ map (own_header s g own c r k) (range_with_len 0 (layers_of s g.tile))
   pub long : length p.sent ≡ layers_of s g.tile
   pub bytes : (l : ℕ) → l < layers_of s g.tile → row_bytes datas (row_at p.sent l) ≡ joined (leaf_bytes g own c r k l) 0 (leaves g c r k)
-  pub sent : (l : ℕ) → AreSent datas (row_at p.sent l)
+  pub sent : (l : ℕ) → AreBlockParts datas (row_at p.sent l)
 
 -- what is asked where a precinct's blocks are taken: they are there, not too many, with pieces in so many layers
 pub record HasLeaves (g : Geometry) (own : List Block) (count c r k : ℕ) : Type 0 where

@@ -14,16 +14,16 @@ use Rattle.jx_codestream.specs.Shapes.{layers_of, style_of}
 use Rattle.jx_codestream.specs.Spells.{TilePart}
 use Rattle.jx_tile.specs.Cells.{precinct_bands}
 use Rattle.jx_marker.specs.Codes.{eph_spelling}
-use Rattle.jx_tier2_reader.specs.Written.{Packets, Written, bytes_from, packet_bytes, sop_bytes}
+use Rattle.jx_tier2_reader.specs.Written.{Packets, WrittenPacket, bytes_from, packet_bytes, sop_bytes}
 use Rattle.jx_options.specs.declared.Marks.{Marks}
 use Rattle.jx_plan.specs.Groups.{groups_of}
 use Rattle.jx_tier2_writer.specs.Own.{leaf_bytes, own_header, own_leaves}
-use Rattle.jx_tier2_writer.specs.TileParts.{part_header, parts_with, tile_part}
+use Rattle.jx_tier2_writer.specs.TileParts.{written_part_header, parts_with, tile_part}
 
 abbrev pub own_body : Geometry → List Block → PacketName → List ℕ
 own_body g own p = joined (leaf_bytes g own p.comp p.res p.precinct p.layer) 0 (leaves g p.comp p.res p.precinct)
 
-abbrev pub own_packet : Marks → Stream → Geometry → List Block → PacketName → Written
+abbrev pub own_packet : Marks → Stream → Geometry → List Block → PacketName → WrittenPacket
 own_packet m s g own p = record {
   sop = m.sop;
   header = own_header s g own p.comp p.res p.precinct p.layer;
@@ -68,12 +68,12 @@ own_segments (suc part) own = []
 -- a tile-part: its number, how many there are, and the number of its first packet
 abbrev pub own_part : Marks → Stream → Geometry → List Block → ℕ → ℕ → ℕ → List PacketName → TilePart
 own_part m s g own part parts number names =
-    tile_part (length s.siz.comps) g.tile part parts (part_header m (header_of s g.tile) part (map (own_length m s g own) names)) (bytes_from (own_packets m s g own) number names)
+    tile_part (length s.siz.comps) g.tile part parts (written_part_header m (header_of s g.tile) part (map (own_length m s g own) names)) (bytes_from (own_packets m s g own) number names)
 
 -- those from one on
-abbrev pub parts_from : Marks → Stream → Geometry → List Block → ℕ → ℕ → ℕ → List (List PacketName) → List TilePart
-parts_from m s g own part parts number groups = parts_with m (length s.siz.comps) g.tile (header_of s g.tile) (own_packets m s g own) part parts number groups
+abbrev pub packed_parts_from : Marks → Stream → Geometry → List Block → ℕ → ℕ → ℕ → List (List PacketName) → List TilePart
+packed_parts_from m s g own part parts number groups = parts_with m (length s.siz.comps) g.tile (header_of s g.tile) (own_packets m s g own) part parts number groups
 
 -- all of a tile with these packets
 abbrev pub own_parts : Marks → Stream → Geometry → List Block → List PacketName → List TilePart
-own_parts m s g own names = parts_from m s g own 0 (length (groups_of m.parts names)) 0 (groups_of m.parts names)
+own_parts m s g own names = packed_parts_from m s g own 0 (length (groups_of m.parts names)) 0 (groups_of m.parts names)

@@ -15,22 +15,22 @@ use Rattle.jx_codestream.specs.Params.{header_of}
 use Rattle.jx_codestream.specs.Shapes.{geometry, layers_of, style_of}
 use Rattle.jx_codestream.specs.Spells.{TilePart, all_bytes, file_bytes}
 use Rattle.jx_tile.specs.Cells.{precinct_bands}
-use Rattle.jx_tier2_reader.specs.Carries.{bytes_of}
+use Rattle.jx_tier2_reader.specs.Carries.{carried_bytes}
 use Rattle.jx_tier2_reader.specs.Planned.{leaves_of_blocks}
-use Rattle.jx_tier2_reader.specs.Written.{Written, Packets, packet_bytes, bytes_from}
+use Rattle.jx_tier2_reader.specs.Written.{WrittenPacket, Packets, packet_bytes, bytes_from}
 use Rattle.jx_tile.specs.Covered.{IsListOf}
 use Rattle.jx_options.specs.declared.Marks.{Marks}
 use Rattle.jx_plan.specs.Groups.{groups_of}
 use Rattle.jx_tier2_writer.specs.Lengths.{length_segments}
 
 -- a packet of a tile: its one header, for the blocks of its precinct, and the bytes of their pieces in its layer
-abbrev pub packet_of : Marks → Stream → ℕ → List Block → PacketName → Written
+abbrev pub packet_of : Marks → Stream → ℕ → List Block → PacketName → WrittenPacket
 packet_of m s t blocks p = record {
   sop = m.sop;
   header = header_at (layers_of s t) (style_of s t p.comp) (precinct_bands s (geometry s t) p.comp p.res p.precinct) (leaves_of_blocks s t blocks p.comp p.res p.precinct) p.layer;
   eph = m.eph;
   parts = parts_at p.layer (leaves_of_blocks s t blocks p.comp p.res p.precinct);
-  bytes = joined (bytes_of s t blocks p) 0 (leaves (geometry s t) p.comp p.res p.precinct);
+  bytes = joined (carried_bytes s t blocks p) 0 (leaves (geometry s t) p.comp p.res p.precinct);
 }
 
 -- the state of its precinct before it
@@ -54,15 +54,15 @@ tile_part comps t part parts header body = record {
 }
 
 -- the tile's own header stands in its first tile-part; PLT follows in each
-abbrev pub part_header : Marks → List Segment → ℕ → List ℕ → List Segment
-part_header m own zero lengths = own ++ (if m.plt then length_segments lengths else [])
-part_header m own (suc part) lengths = if m.plt then length_segments lengths else []
+abbrev pub written_part_header : Marks → List Segment → ℕ → List ℕ → List Segment
+written_part_header m own zero lengths = own ++ (if m.plt then length_segments lengths else [])
+written_part_header m own (suc part) lengths = if m.plt then length_segments lengths else []
 
 -- the tile-parts with these packets, from one on; packets are numbered over the tile
 abbrev pub parts_with : Marks → ℕ → ℕ → List Segment → Packets → ℕ → ℕ → ℕ → List (List PacketName) → List TilePart
 parts_with m comps t own ps part parts number [] = []
 parts_with m comps t own ps part parts number (names ∷ groups) =
-    tile_part comps t part parts (part_header m own part (map (packet_length ps) names)) (bytes_from ps number names)
+    tile_part comps t part parts (written_part_header m own part (map (packet_length ps) names)) (bytes_from ps number names)
     ∷ parts_with m comps t own ps (part + 1) parts (number + length names) groups
 
 abbrev pub tile_parts : Marks → Stream → List Block → ℕ → List (List PacketName) → List TilePart

@@ -4,29 +4,32 @@ ghost use Rattle.std.specs.Prelude.{◌≡◌, ◌≤◌, ◌<◌, ◌^◌, ℕ,
 ghost use Rattle.jx_geom.specs.Precincts.{HasPrecinct, leaf_number, leaves};
 ghost use Rattle.jx_packet_header.specs.Leafs.{leaf_of};
 ghost use Rattle.jx_tier2_reader.specs.Planned.{leaf_from};
-ghost use Rattle.jx_tier2_writer.specs.Leaves.{part_at};
+ghost use Rattle.jx_tier2_writer.specs.Leaves.{leaf_part_from};
 ghost use Rattle.jx_tier2_writer.specs.Own.{own_leaves};
 
+use crate::block_parts::block_at;
 use crate::parts::Coded;
-use crate::sent::block_at;
 use jx_base::NoMemory;
-use jx_codeblock::OutPart;
+use jx_codeblock::LayerPart;
 use jx_geom::TileGeom;
-use jx_packet_header::{Leaf, Part};
+use jx_packet_header::{HeaderPart, Leaf, LeafPart};
 use std::alloc::Global;
 
-/// A part as a header tells of it, with its layer.
-fn part_at(part: &OutPart, block: u32) -> (u16, Part)
+/// A part as a leaf has it.
+fn part_at(part: &LayerPart, block: u32) -> LeafPart
     requires { part.now.from ≤ part.now.to }
-    ensures { result ≡ part_at block part.now }
+    ensures { result ≡ leaf_part_from block part.now }
 {
-    let told = Part {
+    let told = HeaderPart {
         block,
         first: part.first,
         passes: part.passes,
         length: part.to - part.from,
     };
-    (part.layer, told)
+    LeafPart {
+        layer: part.layer,
+        told,
+    }
 }
 
 /// A block as the leaf of a number.

@@ -3,6 +3,7 @@
 #![tactic(auto)]
 
 mod assemble;
+mod block_parts;
 mod entries;
 mod front;
 pub mod laws;
@@ -15,7 +16,6 @@ mod precincts;
 mod rows;
 mod segments;
 mod sending;
-mod sent;
 mod silent;
 mod tile;
 mod tile_out;

@@ -8,11 +8,11 @@ ghost use Rattle.jx_tier2_reader.specs.Written.{packet_bytes};
 ghost use Rattle.jx_tier2_writer.specs.Names.{AreSendings, tile_names};
 ghost use Rattle.jx_tier2_writer.specs.Own.{IsSending};
 ghost use Rattle.jx_tier2_writer.specs.Packed.{eph_of, marks_length, own_packet, sop_of};
-ghost use Rattle.jx_tier2_writer.specs.Sent.{AreSent, row_bytes};
+ghost use Rattle.jx_tier2_writer.specs.BlockParts.{AreBlockParts, row_bytes};
 
+use crate::block_parts::{BlockPart, block_at};
 use crate::parts::Coded;
 use crate::sending::Sending;
-use crate::sent::{Sent, block_at};
 use jx_base::NoMemory;
 use jx_codestream::Stream;
 use jx_geom::TileGeom;
@@ -37,8 +37,8 @@ fn sending_at<'a, B: Coded>(
 }
 
 /// How many bytes the parts of a packet have.
-fn body_length(row: &[Sent]) -> u128
-    ensures value { (datas : List (List ℕ)) → AreSent datas row.now → result ≡ length (row_bytes datas row.now) }
+fn body_length(row: &[BlockPart]) -> u128
+    ensures value { (datas : List (List ℕ)) → AreBlockParts datas row.now → result ≡ length (row_bytes datas row.now) }
     ensures bound { result ≤ 2 ^ 96 }
 {
     let mut sum = 0;
@@ -109,8 +109,8 @@ fn put_eph(asked: bool, out: &mut Vec<u8>) -> Result<(), NoMemory>
 }
 
 /// Appends the coded bytes of a packet.
-fn put_body<B: Coded>(values: &[B], row: &[Sent], out: &mut Vec<u8>) -> Result<(), NoMemory>
-    requires { AreSent (map B.bytes values.now) row.now }
+fn put_body<B: Coded>(values: &[B], row: &[BlockPart], out: &mut Vec<u8>) -> Result<(), NoMemory>
+    requires { AreBlockParts (map B.bytes values.now) row.now }
     ensures { OnOk result (out.new.items ≡ out.old.items ++ row_bytes (map B.bytes values.now) row.now) }
 {
     for sent in row {

@@ -1,11 +1,11 @@
 //! Code-blocks with their coded bytes, as packets take them.
 
 ghost use Rattle.std.specs.Prelude.{◌≡◌, ◌+◌, ◌-◌, ◌<◌, ◌++◌, OnOk, OnErr, vec_capacity, vec_len};
-ghost use Rattle.jx_codeblock.specs.Recoding.{part_bytes};
+ghost use Rattle.jx_codeblock.specs.Recoding.{layer_part_bytes};
 ghost use Rattle.jx_tier2_writer.specs.Coded.{ArePartsOf, IsInside};
 
 use jx_base::NoMemory;
-use jx_codeblock::{OutPart, Recoded};
+use jx_codeblock::{LayerPart, Recoded};
 
 /// A code-block that is written.
 pub trait Coded {
@@ -23,13 +23,13 @@ pub trait Coded {
         ensures { result ≡ (block self.now).zero };
 
     /// Its parts, one for each piece, in the order of layers and passes.
-    fn parts(&self) -> &[OutPart]
+    fn parts(&self) -> &[LayerPart]
         ensures { ArePartsOf (block self.now) (bytes self.now) result.now };
 
     /// Appends the bytes of a part. With room for them in `out` it isn't refused; after an `Err` `out` is as before.
-    fn append(&self, part: &OutPart, out: &mut Vec<u8>) -> Result<(), NoMemory>
+    fn append(&self, part: &LayerPart, out: &mut Vec<u8>) -> Result<(), NoMemory>
         requires { IsInside (bytes self.now) part.now }
-        ensures ok { OnOk result (out.new.items ≡ out.old.items ++ part_bytes (bytes self.now) part.now) }
+        ensures ok { OnOk result (out.new.items ≡ out.old.items ++ layer_part_bytes (bytes self.now) part.now) }
         ensures err { OnErr result (out.new.items ≡ out.old.items) }
         ensures room { OnErr result (vec_capacity out.old < vec_len out.old + (part.now.to - part.now.from)) };
 }
@@ -45,11 +45,11 @@ impl<'a> Coded for Recoded<'a> {
         self.job().block.zero
     }
 
-    fn parts(&self) -> &[OutPart] {
+    fn parts(&self) -> &[LayerPart] {
         Recoded::parts(self)
     }
 
-    fn append(&self, part: &OutPart, out: &mut Vec<u8>) -> Result<(), NoMemory> {
+    fn append(&self, part: &LayerPart, out: &mut Vec<u8>) -> Result<(), NoMemory> {
         Recoded::append(self, part, out)
     }
 }
@@ -63,11 +63,11 @@ impl<B: Coded> Coded for &B {
         (**self).zero()
     }
 
-    fn parts(&self) -> &[OutPart] {
+    fn parts(&self) -> &[LayerPart] {
         (**self).parts()
     }
 
-    fn append(&self, part: &OutPart, out: &mut Vec<u8>) -> Result<(), NoMemory> {
+    fn append(&self, part: &LayerPart, out: &mut Vec<u8>) -> Result<(), NoMemory> {
         (**self).append(part, out)
     }
 }

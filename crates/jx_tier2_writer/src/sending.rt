@@ -8,12 +8,12 @@ ghost use Rattle.jx_packet_header.specs.LeavesFit.{header_at};
 ghost use Rattle.jx_tile.specs.Frame.{AreOfTile};
 ghost use Rattle.jx_tier2_writer.specs.Own.{AreOwnBlocks, HasLeaves, IsSending, leaf_bytes};
 ghost use Rattle.jx_tier2_writer.specs.Silent.{empty_header};
-ghost use Rattle.jx_tier2_writer.specs.Sent.{AreSent, row_at, row_bytes, rows_of};
+ghost use Rattle.jx_tier2_writer.specs.BlockParts.{AreBlockParts, row_at, row_bytes, rows_of};
 
+use crate::block_parts::{BlockPart, put_block};
 use crate::leaf::leaves_of;
 use crate::parts::Coded;
 use crate::rows::Rows;
-use crate::sent::{Sent, put_block};
 use crate::silent::{are_silent, silent_headers};
 use jx_base::NoMemory;
 use jx_codestream::{Stream, TileView};
@@ -26,12 +26,12 @@ use std::alloc::Global;
 #[derive(Drop)]
 pub(crate) struct Sending {
     pub(crate) headers: Rows<u8>,
-    pub(crate) sent: Rows<Sent>,
+    pub(crate) sent: Rows<BlockPart>,
 }
 
 /// No part, for each layer.
 #[tactic(auto, using(crate::proofs::SendingLemmas::none_more))]
-fn empty_rows(alloc: Global, layers: u16) -> Result<Vec<Vec<Sent>>, NoMemory>
+fn empty_rows(alloc: Global, layers: u16) -> Result<Vec<Vec<BlockPart>>, NoMemory>
     ensures long { IfOk result (λ rows. length rows.items ≡ layers) }
     ensures none { IfOk result (λ rows. (l : ℕ) → row_at (rows_of rows.items) l ≡ []) }
 {
@@ -51,12 +51,12 @@ fn parts_of<B: Coded>(
     precinct: u32,
     layers: u16,
     values: &[B],
-) -> Result<Vec<Vec<Sent>>, NoMemory>
+) -> Result<Vec<Vec<BlockPart>>, NoMemory>
     requires { HasLeaves geom.now (map B.block values.now) layers comp res precinct }
     ensures long { IfOk result (λ rows. length rows.items ≡ layers) }
     ensures bytes { IfOk result (λ rows. (l : ℕ) → row_bytes (map B.bytes values.now) (row_at (rows_of rows.items) l)
         ≡ joined (leaf_bytes geom.now (map B.block values.now) comp res precinct l) 0 (leaves geom.now comp res precinct)) }
-    ensures sent { IfOk result (λ rows. (l : ℕ) → AreSent (map B.bytes values.now) (row_at (rows_of rows.items) l)) }
+    ensures sent { IfOk result (λ rows. (l : ℕ) → AreBlockParts (map B.bytes values.now) (row_at (rows_of rows.items) l)) }
 {
     let leaves = geom.leaves(comp, res, precinct);
     let mut rows = empty_rows(alloc, layers)?;
@@ -67,7 +67,7 @@ fn parts_of<B: Coded>(
 }
 
 /// The same rows in one buffer.
-fn flat_rows(alloc: Global, rows: &[Vec<Sent>]) -> Result<Rows<Sent>, NoMemory>
+fn flat_rows(alloc: Global, rows: &[Vec<BlockPart>]) -> Result<Rows<BlockPart>, NoMemory>
     ensures { IfOk result (λ made. made ≡ rows_of rows.now) }
 {
     let mut made = Rows::new(alloc);

@@ -5,9 +5,9 @@ ghost use Rattle.std.specs.List.{range_with_len};
 ghost use Rattle.jx_geom.specs.Precincts.{HasPrecinct, leaf_number, leaves};
 ghost use Rattle.jx_tier2_writer.specs.Silent.{AreSilent, empty_header};
 
+use crate::block_parts::block_at;
 use crate::parts::Coded;
 use crate::rows::Rows;
-use crate::sent::block_at;
 use jx_base::NoMemory;
 use jx_geom::TileGeom;
 use std::alloc::Global;

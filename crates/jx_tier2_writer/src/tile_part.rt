@@ -13,7 +13,7 @@ ghost use Rattle.jx_tier2_reader.specs.Written.{bytes_from};
 ghost use Rattle.jx_tier2_writer.specs.Lengths.{length_segments};
 ghost use Rattle.jx_tier2_writer.specs.Names.{AreSendings, tile_names};
 ghost use Rattle.jx_tier2_writer.specs.Packed.{own_packets, own_part, own_segments, total};
-ghost use Rattle.jx_tier2_writer.specs.TileParts.{part_header};
+ghost use Rattle.jx_tier2_writer.specs.TileParts.{written_part_header};
 
 use crate::lengths::put_lengths;
 use crate::parts::Coded;
@@ -95,7 +95,7 @@ fn header_bytes(
     requires own { All (InRange (length stream.now.siz.comps)) (header_of stream.now tile) }
     requires few { length lengths.now ≤ 2 ^ 22 }
     requires together { total lengths.now < 2 ^ 32 }
-    ensures { IfOk result (λ bytes. bytes.items ≡ all_bytes (length stream.now.siz.comps) (part_header marks (header_of stream.now tile) part lengths.now)) }
+    ensures { IfOk result (λ bytes. bytes.items ≡ all_bytes (length stream.now.siz.comps) (written_part_header marks (header_of stream.now tile) part lengths.now)) }
 {
     let comps = comps_of(&stream.siz);
     let mut bytes = Vec::new(alloc);

@@ -5,8 +5,9 @@ ghost use Rattle.std.specs.Process.{exit_status};
 ghost use Rattle.std.specs.IoError.{error_kind};
 ghost use Rattle.std.specs.Vec.Iter.{into_iter_items};
 ghost use Rattle.jx_plan.specs.Planned.{chosen};
+ghost use Rattle.jx_cli.specs.BoxesWords.{boxes_of, is_boxes};
 ghost use Rattle.jx_cli.specs.Words.{is_good, request_of};
-ghost use Rattle.jx_tool.specs.Ended.{IsEnded, IsHelped, IsSaid, words_in};
+ghost use Rattle.jx_tool.specs.Ended.{IsEnded, IsHelped, IsEndedBySome, IsSaid, TellsUnsaid, words_in};
 
 use jx_cli::{WordsFault, read_words};
 use jx_io::{Fault, Files, Progress, Refused, Sink, TellsFault, is_standard_output};
@@ -114,7 +115,8 @@ fn tell<R: Eprint>(rt: &R, alloc: Global, words: &[String], status: Status, faul
 
 /// Says a text: how that ends.
 fn say_text<S: Sink>(say: &mut S, text: &str) -> Status
-    ensures { IsSaid result text.now (S.said say.old) (S.said say.new) }
+    ensures said { IsSaid result text.now (S.said say.old) (S.said say.new) }
+    ensures counted { TellsUnsaid result (S.faults say.old) (S.faults say.new) }
 {
     match say.say(text) {
         Ok(()) => Status::Done,
@@ -131,7 +133,8 @@ fn help<R: Eprint, S: Sink + TellsFault>(
     say: &mut S,
     text: &str,
 ) -> Status
-    ensures { IsSaid result text.now (S.said say.old) (S.said say.new) }
+    ensures said { IsSaid result text.now (S.said say.old) (S.said say.new) }
+    ensures counted { TellsUnsaid result (S.faults say.old) (S.faults say.new) }
 {
     let status = say_text(say, text);
     tell(rt, alloc, words, status, say.last_fault());
@@ -156,9 +159,10 @@ fn end_of<R: Threads + Wait + Sync + Eprint + Clock, F: Files + TellsFault, S: S
     progress: &Progress<'_, R>,
 ) -> ExitCode
     requires opens { is_good (words_in args) ≡ true → F.can_open files.old (request_of (words_in args)).from }
+    requires lists { is_boxes (words_in args) ≡ true → F.can_open files.old (boxes_of (words_in args)) }
     requires creates { is_good (words_in args) ≡ true → F.can_create files.old (request_of (words_in args)).to }
-    ensures { IsEnded (words_in args) (λ text facts. chosen (λ b. serves_text b text) (λ b. rule_of b text facts) planners.items) (exit_status result) (F.meaning files.old) (F.meaning files.new) (S.said say.old) (S.said say.new)
-        ⊎ IsHelped (words_in args) (exit_status result) (F.meaning files.old) (F.meaning files.new) (S.said say.old) (S.said say.new) }
+    ensures { IsEnded (words_in args) (λ text facts. chosen (λ b. serves_text b text) (λ b. rule_of b text facts) planners.items) (exit_status result) (F.meaning files.old) (F.meaning files.new) (S.said say.old) (S.said say.new) (F.read_faults files.old) (F.read_faults files.new) (F.write_faults files.old) (F.write_faults files.new) (S.faults say.old) (S.faults say.new)
+        ⊎ IsHelped (words_in args) (exit_status result) (F.meaning files.old) (F.meaning files.new) (S.said say.old) (S.said say.new) (F.read_faults files.old) (F.read_faults files.new) (F.write_faults files.old) (F.write_faults files.new) (S.faults say.old) (S.faults say.new) }
 {
     let words = match words_of(alloc, args) {
         Ok(words) => words,
@@ -175,7 +179,7 @@ fn end_of<R: Threads + Wait + Sync + Eprint + Clock, F: Files + TellsFault, S: S
     }
 }
 
-/// Makes the planners of layers, and runs with them. An `Err` is want of memory for these: then nothing was done.
+/// Makes the planners of layers, and runs with them, or says help. An `Err` is want of memory for these: then nothing was done.
 pub(crate) fn start<
     R: Threads + Wait + Sync + Eprint + Clock,
     F: Files + TellsFault,
@@ -189,7 +193,10 @@ pub(crate) fn start<
     progress: &Progress<'_, R>,
 ) -> Result<ExitCode, AllocError>
     requires opens { is_good (words_in args) ≡ true → F.can_open files.old (request_of (words_in args)).from }
+    requires lists { is_boxes (words_in args) ≡ true → F.can_open files.old (boxes_of (words_in args)) }
     requires creates { is_good (words_in args) ≡ true → F.can_create files.old (request_of (words_in args)).to }
+    ensures ended { IfOk result (λ end. IsEndedBySome (words_in args) (exit_status end) (F.meaning files.old) (F.meaning files.new) (S.said say.old) (S.said say.new) (F.read_faults files.old) (F.read_faults files.new) (F.write_faults files.old) (F.write_faults files.new) (S.faults say.old) (S.faults say.new)
+        ⊎ IsHelped (words_in args) (exit_status end) (F.meaning files.old) (F.meaning files.new) (S.said say.old) (S.said say.new) (F.read_faults files.old) (F.read_faults files.new) (F.write_faults files.old) (F.write_faults files.new) (S.faults say.old) (S.faults say.new)) }
     ensures undone { OnErr result ((F.meaning files.new ≡ F.meaning files.old) × (S.said say.new ≡ S.said say.old)) }
 {
     let mut planners = Vec::with_capacity(alloc, 4)?;

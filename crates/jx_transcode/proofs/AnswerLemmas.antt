@@ -1,5 +1,5 @@
 -- What becomes of an input, from what became of its plan.
-use Rattle.std.proofs.Common.{◌≡◌, ◌∙◌, ◌⊎◌, ◌<◌, ◌≤◌, ◌+◌, ◌^◌, nat_le, ℕ, zero, suc, false, List, [], ◌++◌, length, map, Option, None, Some, refl, ap, sym, subst, arith, inl, inr, append_assoc, append-nil}
+use Rattle.std.proofs.Common.{◌≡◌, ◌∙◌, ◌⊎◌, ◌<◌, ◌≤◌, ◌+◌, ◌^◌, nat_le, ℕ, zero, suc, false, List, [], ◌++◌, length, map, Option, None, Some, Result, Ok, Err, IfOk, IfErr, OnOk, refl, ap, sym, subst, arith, inl, inr, append_assoc, append-nil}
 use Rattle.std.specs.List.{All, flat_map}
 use Rattle.std.proofs.lemmas.Bool.{cases_Bool, cases_lt}
 use Rattle.jx_base.specs.declared.pieces.Block.{Block}
@@ -25,7 +25,7 @@ use Rattle.jx_tier2_writer.specs.Ready.{AllShort, AreShort}
 use Rattle.jx_tier2_writer.specs.Tile.{IsTooLong, blocks_in, main_bytes}
 use Rattle.jx_tier2_writer.specs.TileParts.{AreTilePartsOf, IsOutput}
 use Rattle.jx_transcode.specs.Aims.{Aim, rule_in}
-use Rattle.jx_transcode.specs.Filed.{IsAnswered, IsFileBegun, IsFileHalted, IsFileMade, IsFileStopped, IsPlanAnswered, status_of}
+use Rattle.jx_transcode.specs.Filed.{IsAnswered, IsFileBegun, IsFileHalted, IsFileMade, IsFileStopped, IsEndOf, status_of}
 use Rattle.jx_transcode.specs.Outcome.{IsBegun, IsCutShort, IsStopped, IsVerdict, Leaves, most_bytes}
 use Rattle.jx_transcode.specs.Rewritten.{CanBePlanned, HasBlocks, IsBad, IsCut, IsCutByBlock, IsFront, IsFrontOf, IsKept, IsLong, IsRewritten, IsSpoiled, Reads, headers_of}
 use Rattle.jx_rounds.specs.Tiles.{IsRight, Round, next_round, round_of}
@@ -43,27 +43,25 @@ use Rattle.jx_rounds.specs.declared.tape.TapeEntry.{TapeEntry}
 use Rattle.jx_transcode.specs.RunTapes.{IsRunTape}
 use Rattle.jx_transcode.proofs.WrongLemmas.{all_right, right_or_wrong}
 
--- ---- a plan was written, or its file halted
-pub plan_written : (p : Plan) (name : Text) (work : Work) (blocks bytes : ℕ) (tape : List TapeEntry) (old new : Meaning) → IsPlan p → blocks ≡ length p.jobs → IsTapeOf work p.blocks tape
-    → length tape ≡ length p.blocks → IsFileMade p name bytes old new → IsPlanAnswered name work p status.Done blocks bytes tape old new
-plan_written p name work blocks bytes tape old new plan count of whole made =
-    record { plan = plan; count = count ∙ plan.all; tape = of; whole = λ done. whole; either = inl (record { done = refl; file = made }) }
+-- ---- a plan was carried out: its file was written, or halted
+pub record IsCarriedOut (p : Plan) (name : Text) (work : Work) (written : Result ℕ Halt) (blocks : ℕ) (entries : List TapeEntry) (old new : Meaning) : Type 0 where
+  pub plan : IsPlan p
+  pub count : blocks ≡ length p.blocks
+  pub tape : IsTapeOf work p.blocks entries
+  pub whole : OnOk written (length entries ≡ length p.blocks)
+  pub ok : IfOk written (λ count. IsFileMade p name count old new)
+  pub err : IfErr written (λ why. IsFileHalted p name why old new)
+
+pub carried_out : (p : Plan) (name : Text) (work : Work) (written : Result ℕ Halt) (blocks : ℕ) (tape : List TapeEntry) (old new : Meaning) → IsPlan p → blocks ≡ length p.jobs → IsTapeOf work p.blocks tape
+    → OnOk written (length tape ≡ length p.blocks) → IfOk written (λ count. IsFileMade p name count old new) → IfErr written (λ why. IsFileHalted p name why old new)
+    → IsCarriedOut p name work written blocks tape old new
+carried_out p name work written blocks tape old new plan count of whole ok err = record { plan = plan; count = count ∙ plan.all; tape = of; whole = whole; ok = ok; err = err }
 
 halted_undone : (h : Halt) → status_of h ≡ status.Done → ⊥
 halted_undone (halt.Bad tile number) e = cc
 halted_undone (halt.TooLong tile) e = cc
 halted_undone halt.Failed e = cc
 halted_undone halt.NoMemory e = cc
-
-pub plan_halted : (p : Plan) (name : Text) (work : Work) (s : Status) (h : Halt) (blocks bytes : ℕ) (tape : List TapeEntry) (old new : Meaning) → IsPlan p → s ≡ status_of h → blocks ≡ length p.jobs
-    → IsTapeOf work p.blocks tape → IsFileHalted p name h old new → IsPlanAnswered name work p s blocks bytes tape old new
-plan_halted p name work s h blocks bytes tape old new plan is count of halted = record {
-  plan = plan;
-  count = count ∙ plan.all;
-  tape = of;
-  whole = λ done. absurd (halted_undone h (sym is ∙ done));
-  either = inr (record { why = h; status_is = is; file = halted });
-}
 
 -- ---- a plan by its stream, its blocks, what is wanted, its layers and its jobs
 abbrev plan_of : Stream → List Block → Wanted → ℕ → List Job → Plan
@@ -331,31 +329,29 @@ module _ (laws : Laws) (aim : Aim) (input : List ℕ) (s : Stream) (blocks : Lis
       whole = λ done. counted (length tape) whole;
     }
 
-  pub answered : (name : Text) (work : Work) (st : Status) (n bytes : ℕ) (tape : List TapeEntry) (old new : Meaning) → IsPlanAnswered name work plan st n bytes tape old new
-      → IsAnswered name work aim input st n bytes tape old new
-  answered name work st n bytes tape old new is = elim is.either [
-    | inl file ↦ subst (λ (x : Status). IsAnswered name work aim input x n bytes tape old new) (sym file.done) (written name work n bytes tape old new is.count is.tape (is.whole file.done) file.file)
-    | inr file ↦ subst (λ (x : Status). IsAnswered name work aim input x n bytes tape old new) (sym file.status_is) (halted name work n bytes tape old new is.count is.tape file.why file.file)
-  ]
+  pub answered : (name : Text) (work : Work) (wrote : Result ℕ Halt) (st : Status) (n bytes : ℕ) (tape : List TapeEntry) (old new : Meaning) → IsCarriedOut plan name work wrote n tape old new
+      → IsEndOf wrote st bytes → IsAnswered name work aim input st n bytes tape old new
+  answered name work (Ok count) st n bytes tape old new is ends = rw (ends.0, ends.1) (written name work n count tape old new is.count is.tape is.whole is.ok)
+  answered name work (Err why) st n bytes tape old new is ends = rw ends.0 (halted name work n bytes tape old new is.count is.tape why is.err)
 
-answered_by_rule : Laws → (name : Text) (work : Work) (aim : Aim) (input : List ℕ) (s : Stream) (blocks : List Block) (p : Plan) (st : Status) (n bytes : ℕ) (tape : List TapeEntry) (old new : Meaning)
-    → MayBeWanted aim.wanted → (r : Rule) → rule_in aim s blocks ≡ Some r → IsPlannedBy r s blocks aim.wanted p → IsPlanAnswered name work p st n bytes tape old new → length input ≤ most_bytes
+answered_by_rule : Laws → (name : Text) (work : Work) (aim : Aim) (input : List ℕ) (s : Stream) (blocks : List Block) (p : Plan) (wrote : Result ℕ Halt) (st : Status) (n bytes : ℕ) (tape : List TapeEntry) (old new : Meaning)
+    → MayBeWanted aim.wanted → (r : Rule) → rule_in aim s blocks ≡ Some r → IsPlannedBy r s blocks aim.wanted p → IsCarriedOut p name work wrote n tape old new → IsEndOf wrote st bytes → length input ≤ most_bytes
     → Reads input s blocks → IsAnswered name work aim input st n bytes tape old new
-answered_by_rule laws name work aim input s blocks p st n bytes tape old new may r is planned done within reads =
+answered_by_rule laws name work aim input s blocks p wrote st n bytes tape old new may r is planned done ends within reads =
     let same : p ≡ plan_of s blocks aim.wanted (layers_of_rule r s blocks) p.jobs = plan_is r s blocks aim.wanted p planned in
-    let own : IsPlanAnswered name work (plan_of s blocks aim.wanted (layers_of_rule r s blocks) p.jobs) st n bytes tape old new = subst (λ (q : Plan). IsPlanAnswered name work q st n bytes tape old new) same done in
+    let own : IsCarriedOut (plan_of s blocks aim.wanted (layers_of_rule r s blocks) p.jobs) name work wrote n tape old new = subst (λ (q : Plan). IsCarriedOut q name work wrote n tape old new) same done in
     let can : CanBePlanned aim s blocks = record { by = r; is = is; layers = (own.plan.some, own.plan.few); free = laws.free s blocks aim.wanted r p done.plan planned } in
-    answered laws aim input s blocks p.jobs reads within may can (laws.blocks s blocks aim.wanted r p done.plan planned) own.plan.may.blocks_are.all name work st n bytes tape old new own
+    answered laws aim input s blocks p.jobs reads within may can (laws.blocks s blocks aim.wanted r p done.plan planned) own.plan.may.blocks_are.all name work wrote st n bytes tape old new own ends
 
-answered_by : Laws → (name : Text) (work : Work) (aim : Aim) (input : List ℕ) (s : Stream) (blocks : List Block) (p : Plan) (st : Status) (n bytes : ℕ) (tape : List TapeEntry) (old new : Meaning)
-    → MayBeWanted aim.wanted → (o : Option Rule) → rule_in aim s blocks ≡ o → IsPlanned o s blocks aim.wanted p → IsPlanAnswered name work p st n bytes tape old new → length input ≤ most_bytes
+answered_by : Laws → (name : Text) (work : Work) (aim : Aim) (input : List ℕ) (s : Stream) (blocks : List Block) (p : Plan) (wrote : Result ℕ Halt) (st : Status) (n bytes : ℕ) (tape : List TapeEntry) (old new : Meaning)
+    → MayBeWanted aim.wanted → (o : Option Rule) → rule_in aim s blocks ≡ o → IsPlanned o s blocks aim.wanted p → IsCarriedOut p name work wrote n tape old new → IsEndOf wrote st bytes → length input ≤ most_bytes
     → Reads input s blocks → IsAnswered name work aim input st n bytes tape old new
-answered_by laws name work aim input s blocks p st n bytes tape old new may None is planned done within reads = absurd planned
-answered_by laws name work aim input s blocks p st n bytes tape old new may (Some r) is planned done within reads =
-    answered_by_rule laws name work aim input s blocks p st n bytes tape old new may r is planned done within reads
+answered_by laws name work aim input s blocks p wrote st n bytes tape old new may None is planned done ends within reads = absurd planned
+answered_by laws name work aim input s blocks p wrote st n bytes tape old new may (Some r) is planned done ends within reads =
+    answered_by_rule laws name work aim input s blocks p wrote st n bytes tape old new may r is planned done ends within reads
 
-pub answered_by_plan : Laws → (name : Text) (work : Work) (aim : Aim) (input : List ℕ) (s : Stream) (blocks : List Block) (p : Plan) (st : Status) (n bytes : ℕ) (tape : List TapeEntry) (old new : Meaning)
-    → MayBeWanted aim.wanted → IsPlanned (rule_in aim s blocks) s blocks aim.wanted p → IsPlanAnswered name work p st n bytes tape old new → length input ≤ most_bytes → Reads input s blocks
+pub answered_by_plan : Laws → (name : Text) (work : Work) (aim : Aim) (input : List ℕ) (s : Stream) (blocks : List Block) (p : Plan) (wrote : Result ℕ Halt) (st : Status) (n bytes : ℕ) (tape : List TapeEntry) (old new : Meaning)
+    → MayBeWanted aim.wanted → IsPlanned (rule_in aim s blocks) s blocks aim.wanted p → IsCarriedOut p name work wrote n tape old new → IsEndOf wrote st bytes → length input ≤ most_bytes → Reads input s blocks
     → IsAnswered name work aim input st n bytes tape old new
-answered_by_plan laws name work aim input s blocks p st n bytes tape old new may planned done within reads =
-    answered_by laws name work aim input s blocks p st n bytes tape old new may (rule_in aim s blocks) refl planned done within reads
+answered_by_plan laws name work aim input s blocks p wrote st n bytes tape old new may planned done ends within reads =
+    answered_by laws name work aim input s blocks p wrote st n bytes tape old new may (rule_in aim s blocks) refl planned done ends within reads

@@ -1,5 +1,5 @@
 -- A codestream that is written to a file: what stands under its name.
-use Rattle.std.proofs.Common.{◌≡◌, ◌∙◌, ℕ, List, ap, arith, inl, inr, refl, sym, subst}
+use Rattle.std.proofs.Common.{◌≡◌, ◌∙◌, ℕ, List, IsTrue, ap, arith, inl, inr, refl, sym, subst}
 use Rattle.jx_io.specs.Device.{Meaning, after_create, after_finish, after_write}
 use Rattle.jx_io.specs.declared.refused.Refused.{Refused}
 use Rattle.jx_io.specs.declared.refused.Refused.TheVariants as refused
@@ -26,6 +26,10 @@ untouched m = record { holds = λ name. refl; making = refl; written = refl }
 -- ---- what the writer has taken, as the device tells it
 has_written : (created new : Meaning) (bytes rest : List ℕ) → HasTaken (bytes_of created) (bytes_of new) bytes rest → told_beside new ≡ told_beside created → HasWritten created new bytes rest
 has_written created new bytes rest taken beside = record { front = taken.front; whole = taken.whole; meaning = meaning_after created new taken.front taken.written beside }
+
+-- a file that was created is being made
+pub created_making : (name : Text) (old new : Meaning) → new ≡ after_create name old → IsTrue new.making
+created_making name old new is = subst (λ (m : Meaning). IsTrue m.making) (sym is) refl
 
 -- ---- under a name
 pub file_made : (p : Plan) (name : Text) (count : ℕ) (old created now new : Meaning) → created ≡ after_create name old → HasWhole p count (bytes_of created) (bytes_of now) → told_beside now ≡ told_beside created

@@ -4,13 +4,18 @@ mod SaidLemmas
 mod FiledLemmas
 mod AnswerLemmas
 mod RefusedLemmas
+mod LeftLemmas
+mod Jp2Lemmas
+mod AroundLemmas
 mod OutcomeLemmas
 mod OneVerdictLemmas
+mod FileVerdictLemmas
 mod ToldLemmas
 mod SomeVerdictLemmas
 mod StatusLemmas
 mod WrongLemmas
 mod MakeLemmas
+mod BoxesLemmas
 pub mod RunLemmas
 mod AcceptedLemmas
 mod PlannedMade

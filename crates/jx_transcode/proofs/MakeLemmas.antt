@@ -11,12 +11,13 @@ use Rattle.jx_cli.specs.MakeWords.{Make}
 use Rattle.jx_options.specs.Work.{MayBeWork, Work}
 use Rattle.jx_transcode.specs.Aims.{Aim}
 use Rattle.jx_transcode.specs.Filed.{IsAnswered}
-use Rattle.jx_transcode.specs.MakeRun.{AreTold, EndsMade, IsLastMade, IsReadyToSay, TellsMade, aim_made, input_of, make_line, wanted_made, work_made}
-use Rattle.jx_transcode.specs.Outcome.{EndsAs, IsCutShort, IsLimited, IsMade, Leaves, Says}
+use Rattle.jx_transcode.specs.MakeRun.{AreTold, ComesOut, EndsMade, IsLastMade, IsReadyToSay, TellsMade, aim_made, input_of, make_line, wanted_made, work_made}
+use Rattle.jx_transcode.specs.Outcome.{EndsAs, IsCutShort, IsLimited, IsMade, Leaves, Says, line_of}
 use Rattle.jx_transcode.specs.declared.status.Status.{Status}
 use Rattle.jx_transcode.specs.declared.status.Status.TheVariants as status
 use Rattle.jx_rounds.specs.declared.tape.TapeEntry.{TapeEntry}
 use Rattle.jx_transcode.proofs.DoneLemmas.{IsOther, undone, unfailed}
+use Rattle.jx_transcode.proofs.SaidLemmas.{read_said}
 
 abbrev pub Rules : Type 0
 Rules = List ℕ → StreamFacts → Option Rule
@@ -30,7 +31,7 @@ cut_told name aim input blocks old new (inl refused) = inl refused.0
 cut_told name aim input blocks old new (inr (inl over)) = inr over.count
 cut_told name aim input blocks old new (inr (inr begun)) = inr begun.count
 
-limit_told : (input : List ℕ) (number blocks : ℕ) → IsLimited input number blocks → AreTold input blocks
+pub limit_told : (input : List ℕ) (number blocks : ℕ) → IsLimited input number blocks → AreTold input blocks
 limit_told input number blocks (inl seven) = inr seven.1
 limit_told input number blocks (inr few) = inl few.1
 
@@ -49,16 +50,16 @@ told_of name aim input status.WriteFault blocks bytes new words read write leave
 told_of name aim input status.NoMemory blocks bytes new words read write leaves = cut_told name aim input blocks empty new leaves
 
 -- the output, after Done
-record IsOutOf (name : List ℕ) (aim : Aim) (input : List ℕ) (s : Status) (blocks bytes : ℕ) (new : Meaning) : Type 0 where
-  out : List ℕ
-  tells : TellsMade aim input s blocks out
-  long : s ≡ status.Done → bytes ≡ length out
-  made : s ≡ status.Done → IsLastMade name out new
+pub record IsOutOf (name : List ℕ) (aim : Aim) (input : List ℕ) (s : Status) (blocks bytes : ℕ) (new : Meaning) : Type 0 where
+  pub out : List ℕ
+  pub tells : TellsMade aim input s blocks out
+  pub long : s ≡ status.Done → bytes ≡ length out
+  pub made : s ≡ status.Done → IsLastMade name out new
 
 none_out : (name : List ℕ) (aim : Aim) (input : List ℕ) (s : Status) (blocks bytes : ℕ) (new : Meaning) → IsOther s → TellsMade aim input s blocks [] → IsOutOf name aim input s blocks bytes new
 none_out name aim input s blocks bytes new other tells = record { out = []; tells = tells; long = λ done. absurd (undone s other done); made = λ done. absurd (undone s other done) }
 
-out_of : (name : List ℕ) (aim : Aim) (input : List ℕ) (s : Status) (blocks bytes : ℕ) (new : Meaning) → (s ≡ status.Words → ⊥) → (s ≡ status.ReadFault → ⊥) → (s ≡ status.WriteFault → ⊥)
+pub out_of : (name : List ℕ) (aim : Aim) (input : List ℕ) (s : Status) (blocks bytes : ℕ) (new : Meaning) → (s ≡ status.Words → ⊥) → (s ≡ status.ReadFault → ⊥) → (s ≡ status.WriteFault → ⊥)
     → Leaves name aim input s blocks bytes empty new → IsOutOf name aim input s blocks bytes new
 out_of name aim input status.Done blocks bytes new words read write leaves =
     record { out = leaves.out; tells = record { is = leaves.is; kept = leaves.kept; count = leaves.count }; long = λ done. leaves.long; made = λ done. last_made name leaves.out new leaves.made }
@@ -73,7 +74,7 @@ out_of name aim input status.WriteFault blocks bytes new words read write leaves
 out_of name aim input status.NoMemory blocks bytes new words read write leaves = none_out name aim input status.NoMemory blocks bytes new tt (cut_told name aim input blocks empty new leaves)
 
 -- there was no memory
-pub refused_ready : (m : Make) (rule : Rules) (before after total : ℕ) → IsReadyToSay m rule status.NoMemory 0 before after total []
+refused_ready : (m : Make) (rule : Rules) (before after total : ℕ) → IsReadyToSay m rule status.NoMemory 0 before after total []
 refused_ready m rule before after total = record {
   out = [];
   comes = record { verdict = λ no. absurd no; tells = inl refl; tape = inl refl; whole = λ done. absurd (undone status.NoMemory tt done) };
@@ -116,6 +117,12 @@ made_said m rule s late blocks before after total entries fault_before fault_now
   said = inl short.1;
 })
 
+-- there was no memory to generate anything
+pub made_short : (m : Make) (rule : Rules) (late : Status) (fault_before fault_now : ℕ) (files : Meaning) (before now : Option (List ℕ))
+    → EndsAs status.NoMemory (line_of status.NoMemory 0 0) late before now fault_before fault_now → EndsMade m rule late 0 [] files files before now
+made_short m rule late fault_before fault_now files before now said =
+    made_said m rule status.NoMemory late 0 0 0 0 [] fault_before fault_now files before now (refused_ready m rule 0 0 0) said
+
 -- a fault of the sink alone
 pub made_failed : (m : Make) (rule : Rules) (s late : Status) (blocks before after total : ℕ) (entries : List TapeEntry) (line : List ℕ) (fault_before fault_now : ℕ) (old new : Option (List ℕ))
     → IsReadyToSay m rule s blocks before after total entries → EndsAs s line late old new fault_before fault_now → late ≡ status.WriteFault → Rose fault_before fault_now
@@ -124,9 +131,13 @@ made_failed m rule s late blocks before after total entries line fault_before fa
 made_failed m rule s late blocks before after total entries line fault_before fault_now old new ready (inr (inr short)) failed = absurd (unfailed (sym short.0 ∙ failed))
 
 -- no file is read
-pub made_unread : (m : Make) (rule : Rules) (s : Status) (blocks : ℕ) (entries : List TapeEntry) (a b : Meaning) (old new : Option (List ℕ)) → EndsMade m rule s blocks entries a b old new → s ≡ status.ReadFault → ⊥
-made_unread m rule s blocks entries a b old new ends read =
-    let is : EndsMade m rule status.ReadFault blocks entries a b old new = subst (λ (x : Status). EndsMade m rule x blocks entries a b old new) read ends in is.comes.tells
+made_unread : (m : Make) (rule : Rules) (s : Status) (blocks : ℕ) (out : List ℕ) (entries : List TapeEntry) → ComesOut m rule s blocks out entries → s ≡ status.ReadFault → ⊥
+made_unread m rule s blocks out entries comes read = subst (λ (x : Status). TellsMade (aim_made rule) (input_of m) x blocks out) read comes.tells
+
+pub made_read : (m : Make) (rule : Rules) (s late : Status) (blocks before after total : ℕ) (entries : List TapeEntry) (line : List ℕ) (fault_before fault_now : ℕ) (old new : Option (List ℕ))
+    → IsReadyToSay m rule s blocks before after total entries → EndsAs s line late old new fault_before fault_now → late ≡ status.ReadFault → ⊥
+made_read m rule s late blocks before after total entries line fault_before fault_now old new ready said read =
+    read_said s late line old new fault_before fault_now (made_unread m rule s blocks ready.out entries ready.comes) said read
 
 -- ---- what is asked may be asked
 pub wanted_may : (w : Wanted) → w ≡ wanted_made → MayBeWanted w

@@ -1,92 +1,26 @@
--- Runs after what left the files as they were, on inputs that were cut, and with their line said.
-use Rattle.std.proofs.Common.{◌≡◌, ◌⊎◌, ◌∙◌, ◌<◌, ◌≤◌, ◌+◌, min, ℕ, List, [], length, take, inl, inr, refl, subst, ap, Option, Some, None, IfSome, arith}
-use Rattle.std.proofs.lemmas.List.{take_all, length-take}
+-- Runs on inputs of which a front was read, and with their line said.
+use Rattle.std.proofs.Common.{◌≡◌, ◌⊎◌, ◌<◌, ℕ, List, [], length, take, inl, inr, refl, subst, Option, IfSome, arith}
 use Rattle.std.proofs.lemmas.Bool.{cases_lt}
 use Rattle.jx_io.specs.Device.{Meaning, joined}
+use Rattle.jx_io.specs.declared.refused.Refused.{Refused}
 use Rattle.jx_layers.specs.declared.StreamFacts.{StreamFacts}
 use Rattle.jx_layers.specs.Rule.{Rule}
 use Rattle.jx_options.specs.Wanted.{Wanted}
 use Rattle.jx_transcode.specs.Aims.{Aim}
 use Rattle.jx_transcode.specs.declared.status.Status.{Status}
 use Rattle.jx_transcode.specs.declared.status.Status.TheVariants as status
-use Rattle.jx_transcode.specs.Filed.{IsAnswered, IsUnread}
+use Rattle.jx_transcode.specs.Filed.{IsAnswered, IsUnread, unread_as}
 use Rattle.jx_cli.specs.Words.{Request, Text}
+use Rattle.jx_jp2.specs.Codestream.{IsJp2}
+use Rattle.jx_transcode.specs.Jp2Run.{EndsJp2}
 use Rattle.jx_options.specs.Work.{Work}
 use Rattle.jx_rounds.specs.declared.tape.TapeEntry.{TapeEntry}
-use Rattle.jx_transcode.specs.Outcome.{IsBegun, IsCutShort, IsLimited, IsMade, IsRefused, IsStopped, IsUntouched, IsVerdict, Leaves, Verdict, Ends, EndsFiles, EndsAtWords, EndsAs, PassesLimit, aim_of, line_of, most_bytes}
+use Rattle.jx_transcode.specs.Outcome.{IsCutShort, IsLimited, IsUntouched, IsVerdict, Leaves, Verdict, EndsAtWords, EndsAs, PassesLimit, line_of, most_bytes}
+use Rattle.jx_transcode.specs.TranscodeRun.{Ends, EndsOn, aim_of}
 use Rattle.jx_transcode.proofs.DoneLemmas.{undone}
-
-pub untouched_twice : (a b c : Meaning) → IsUntouched a b → IsUntouched b c → IsUntouched a c
-untouched_twice a b c first next = record {
-  holds = λ name. next.holds name ∙ first.holds name;
-  making = next.making ∙ first.making;
-  written = next.written ∙ first.written;
-}
-
-made_after : (name : Text) (bytes : List ℕ) (a b c : Meaning) → IsUntouched a b → IsMade name bytes b c → IsMade name bytes a c
-made_after name bytes a b c first made = (made.0, untouched_twice a b made.0 first made.1, made.2)
-
-stopped_after : (name : Text) (bytes : List ℕ) (a b c : Meaning) → IsUntouched a b → IsStopped name bytes b c → IsStopped name bytes a c
-stopped_after name bytes a b c first stopped = (stopped.0, untouched_twice a b stopped.0 first stopped.1, stopped.2)
-
-begun_after : (name : Text) (bytes : List ℕ) (a b c : Meaning) → IsUntouched a b → IsBegun name bytes b c → IsBegun name bytes a c
-begun_after name bytes a b c first (inl same) = inl (untouched_twice a b c first same)
-begun_after name bytes a b c first (inr (inl made)) = inr (inl (made.0, made.1, untouched_twice a b made.0 first made.2, made.3))
-begun_after name bytes a b c first (inr (inr made)) = inr (inr (made_after name bytes a b c first made))
-
-refused_after : (blocks : ℕ) (a b c : Meaning) → IsUntouched a b → IsRefused blocks b c → IsRefused blocks a c
-refused_after blocks a b c first refused = (refused.0, untouched_twice a b c first refused.1)
-
-cut_after : (name : Text) (aim : Aim) (input : List ℕ) (blocks : ℕ) (a b c : Meaning) → IsUntouched a b → IsCutShort name aim input blocks b c → IsCutShort name aim input blocks a c
-cut_after name aim input blocks a b c first (inl refused) = inl (refused_after blocks a b c first refused)
-cut_after name aim input blocks a b c first (inr (inl over)) =
-    inr (inl (record { within = over.within; why = over.why; is = over.is; caused = over.caused; count = over.count; same = untouched_twice a b c first over.same }))
-cut_after name aim input blocks a b c first (inr (inr begun)) =
-    inr (inr (record { within = begun.within; count = begun.count; bytes = begun.bytes; of = begun.of; begun = begun_after name begun.bytes a b c first begun.begun }))
-
-leaves_after : (name : Text) (aim : Aim) (input : List ℕ) (s : Status) (blocks bytes : ℕ) (a b c : Meaning) → IsUntouched a b → Leaves name aim input s blocks bytes b c
-    → Leaves name aim input s blocks bytes a c
-leaves_after name aim input status.Done blocks bytes a b c first next =
-    record { out = next.out; is = next.is; made = made_after name next.out a b c first next.made; kept = next.kept; count = next.count; long = next.long }
-leaves_after name aim input status.Words blocks bytes a b c first next = refused_after blocks a b c first next
-leaves_after name aim input (status.Rule number place) blocks bytes a b c first next = refused_after blocks a b c first next
-leaves_after name aim input (status.Limit number found) blocks bytes a b c first next = (next.0, untouched_twice a b c first next.1)
-leaves_after name aim input (status.Choice number place) blocks bytes a b c first (inl next) =
-    inl (next.0, record { bytes = next.1.bytes; is = next.1.is; stopped = stopped_after name next.1.bytes a b c first next.1.stopped; count = next.1.count })
-leaves_after name aim input (status.Choice number place) blocks bytes a b c first (inr next) = inr (next.0, next.1, untouched_twice a b c first next.2)
-leaves_after name aim input (status.Block number) blocks bytes a b c first next =
-    record { bytes = next.bytes; is = next.is; stopped = stopped_after name next.bytes a b c first next.stopped; count = next.count }
-leaves_after name aim input status.ReadFault blocks bytes a b c first next = refused_after blocks a b c first next
-leaves_after name aim input status.WriteFault blocks bytes a b c first next = cut_after name aim input blocks a b c first next
-leaves_after name aim input status.NoMemory blocks bytes a b c first next = cut_after name aim input blocks a b c first next
-
--- the whole of an input of which these bytes were read, where it is told
-whole : Option (List ℕ) → List ℕ → List ℕ
-whole (Some bytes) read = bytes
-whole None read = read
-
--- the bytes read are its front
-abbrev IsFront : Option (List ℕ) → List ℕ → Type 0
-IsFront told read = IfSome told (λ bytes. read ≡ take (most_bytes + 1) bytes)
-
-told_whole : (told : Option (List ℕ)) (read : List ℕ) → IfSome told (λ bytes. whole told read ≡ bytes)
-unfolding whole
-told_whole (Some bytes) read = refl
-told_whole None read = tt
-
--- a short front is the whole
-short_told : (told : Option (List ℕ)) (read : List ℕ) → IsFront told read → length read ≤ most_bytes → IfSome told (λ bytes. read ≡ bytes)
-short_told (Some bytes) read front short =
-    let counted : length read ≡ min (most_bytes + 1) (length bytes) = ap length front ∙ length-take (most_bytes + 1) bytes in
-    front ∙ take_all (most_bytes + 1) bytes (omega (arith, counted, short))
-short_told None read front short = tt
-
-long_whole : (told : Option (List ℕ)) (read : List ℕ) → IsFront told read → most_bytes < length read → most_bytes < length (whole told read)
-unfolding whole
-long_whole (Some bytes) read front long =
-    let counted : length read ≡ min (most_bytes + 1) (length bytes) = ap length front ∙ length-take (most_bytes + 1) bytes in
-    omega (arith, counted, long)
-long_whole None read front long = long
+use Rattle.jx_transcode.proofs.Jp2Lemmas.{jp2_after, jp2_front, jp2_late, jp2_long, jp2_whole}
+use Rattle.jx_transcode.proofs.LeftLemmas.{cut_after, leaves_after, long_whole, short_told, told_whole, whole}
+use Rattle.jx_transcode.proofs.StatusLemmas.{unread_either}
 
 long_limit : (number found : ℕ) (read input : List ℕ) → most_bytes < length read → most_bytes < length input → PassesLimit read number found → PassesLimit input number found
 long_limit number found read input long whole (inl passed) = inl (whole, passed.1, passed.2)
@@ -138,35 +72,50 @@ never_done aim s read long verdict done =
     let is : Verdict aim read status.Done = subst (λ (x : Status). IsVerdict x → Verdict aim read x) done verdict tt in
     omega (arith, is.0, long)
 
+-- how the files are left by a run over good words, before anything is said; `bytes` is the output's length after Done
+pub record EndsFiles (request : Request) (rule : List ℕ → StreamFacts → Option Rule) (s : Status) (blocks bytes : ℕ) (entries : List TapeEntry) (old new : Meaning) : Type 0 where
+  pub input : List ℕ
+  pub files : EndsOn request rule input s blocks bytes entries old new
+  -- what stands of a codestream's output where its line isn't said
+  pub unsaid : (IsJp2 input → ⊥) → IsCutShort request.to (aim_of request rule) input blocks old new
+
 -- what an answer to the bytes read says of the input
 pub ends_read : (request : Request) (rule : List ℕ → StreamFacts → Option Rule) (read : List ℕ) (s : Status) (blocks bytes : ℕ) (tape : List TapeEntry) (a b c : Meaning)
     → IfSome (joined (a.holds request.from)) (λ held. read ≡ take 268435457 held) → IsUntouched a b
-    → IsAnswered request.to request.work (aim_of request rule) read s blocks bytes tape b c → (most_bytes < length read → tape ≡ []) → EndsFiles request rule s blocks bytes tape a c
-ends_read request rule read s blocks bytes tape a b c front first is none = let aim : Aim = aim_of request rule in elim (cases_lt most_bytes (length read)) [
+    → ((IsJp2 read → ⊥) → IsAnswered request.to request.work (aim_of request rule) read s blocks bytes tape b c) → (IsJp2 read → EndsJp2 request.to request.work (aim_of request rule) read s blocks bytes tape b c)
+    → (most_bytes < length read → tape ≡ []) → EndsFiles request rule s blocks bytes tape a c
+ends_read request rule read s blocks bytes tape a b c front first bare jp2 none = let aim : Aim = aim_of request rule in elim (cases_lt most_bytes (length read)) [
   | inr short ↦ record {
     input = read;
     files = record {
       told = short_told (joined (a.holds request.from)) read front short;
-      verdict = is.verdict;
-      leaves = leaves_after request.to aim read s blocks bytes a b c first is.leaves;
-      tape = is.tape;
-      whole = is.whole;
+      bare = λ not. record {
+        verdict = (bare not).verdict;
+        leaves = leaves_after request.to aim read s blocks bytes a b c first (bare not).leaves;
+        tape = (bare not).tape;
+        whole = (bare not).whole;
+      };
+      jp2 = λ is. jp2_after request.to request.work aim read s blocks bytes tape a b c first (jp2 is);
     };
-    unsaid = cut_after request.to aim read blocks a b c first is.unsaid;
+    unsaid = λ not. cut_after request.to aim read blocks a b c first (bare not).unsaid;
   }
   | inl long ↦
       let input : List ℕ = whole (joined (a.holds request.from)) read in
       let long_input : most_bytes < length input = long_whole (joined (a.holds request.from)) read front long in
+      let of : (IsJp2 input → ⊥) → IsAnswered request.to request.work aim read s blocks bytes tape b c = λ not. bare (λ is. not (jp2_whole (joined (a.holds request.from)) read front is)) in
       record {
         input = input;
         files = record {
           told = told_whole (joined (a.holds request.from)) read;
-          verdict = λ v. long_verdict aim s read input long long_input (is.verdict v);
-          leaves = leaves_after request.to aim input s blocks bytes a b c first (long_leaves request.to aim s read input blocks bytes b c long long_input is.verdict is.leaves);
-          tape = inl (none long);
-          whole = λ done. absurd (never_done aim s read long is.verdict done);
+          bare = λ not. record {
+            verdict = λ v. long_verdict aim s read input long long_input ((of not).verdict v);
+            leaves = leaves_after request.to aim input s blocks bytes a b c first (long_leaves request.to aim s read input blocks bytes b c long long_input (of not).verdict (of not).leaves);
+            tape = inl (none long);
+            whole = λ done. absurd (never_done aim s read long (of not).verdict done);
+          };
+          jp2 = λ is. jp2_long request.to request.work aim read input s blocks bytes tape a b c long long_input first (jp2 (jp2_front (joined (a.holds request.from)) read front is));
         };
-        unsaid = cut_after request.to aim input blocks a b c first (long_cut request.to aim read input blocks b c long is.unsaid);
+        unsaid = λ not. cut_after request.to aim input blocks a b c first (long_cut request.to aim read input blocks b c long (of not).unsaid);
       }
 ]
 
@@ -174,14 +123,27 @@ ends_read request rule read s blocks bytes tape a b c front first is none = let 
 pub ends_unread : (request : Request) (rule : List ℕ → StreamFacts → Option Rule) (s : Status) (a b : Meaning) → (s ≡ status.ReadFault) ⊎ (s ≡ status.NoMemory) → IsUntouched a b → EndsFiles request rule s 0 0 [] a b
 ends_unread request rule s a b (inl e) same = rw e (record {
   input = whole (joined (a.holds request.from)) [];
-  files = record { told = told_whole (joined (a.holds request.from)) []; verdict = λ no. absurd no; leaves = (refl, same); tape = inl refl; whole = λ done. absurd (undone status.ReadFault tt done) };
-  unsaid = inl (refl, same);
+  files = record {
+    told = told_whole (joined (a.holds request.from)) [];
+    bare = λ not. record { verdict = λ no. absurd no; leaves = (refl, same); tape = inl refl; whole = λ done. absurd (undone status.ReadFault tt done) };
+    jp2 = λ is. inl (record { verdict = λ no. absurd no; none = refl; tape = refl; same = same });
+  };
+  unsaid = λ not. inl (refl, same);
 })
 ends_unread request rule s a b (inr e) same = rw e (record {
   input = whole (joined (a.holds request.from)) [];
-  files = record { told = told_whole (joined (a.holds request.from)) []; verdict = λ no. absurd no; leaves = inl (refl, same); tape = inl refl; whole = λ done. absurd (undone status.NoMemory tt done) };
-  unsaid = inl (refl, same);
+  files = record {
+    told = told_whole (joined (a.holds request.from)) [];
+    bare = λ not. record { verdict = λ no. absurd no; leaves = inl (refl, same); tape = inl refl; whole = λ done. absurd (undone status.NoMemory tt done) };
+    jp2 = λ is. inl (record { verdict = λ no. absurd no; none = refl; tape = refl; same = same });
+  };
+  unsaid = λ not. inl (refl, same);
 })
+
+-- an input that couldn't be read
+pub ends_refused : (request : Request) (rule : List ℕ → StreamFacts → Option Rule) (e : Refused) (s : Status) (blocks bytes : ℕ) (tape : List TapeEntry) (a b : Meaning) → s ≡ unread_as e → (blocks ≡ 0) × (bytes ≡ 0)
+    → tape ≡ [] → IsUntouched a b → EndsFiles request rule s blocks bytes tape a b
+ends_refused request rule e s blocks bytes tape a b is none empty same = rw (none.0, none.1, empty) (ends_unread request rule s a b (unread_either e s is) same)
 
 -- the parts of a request
 same_request : (r : Request) (from to : Text) (w : Wanted) (work : Work) → from ≡ r.from → to ≡ r.to → w ≡ r.wanted → work ≡ r.work
@@ -202,13 +164,21 @@ ends_said request rule s late blocks bytes tape fault_before fault_now old new b
 ends_said request rule s late blocks bytes tape fault_before fault_now old new before now ends (inr (inl fault)) = rw fault.0 (record {
   input = ends.input;
   bytes = bytes;
-  files = record { told = ends.files.told; verdict = λ no. absurd no; leaves = ends.unsaid; tape = ends.files.tape; whole = λ done. absurd (undone status.WriteFault tt done) };
+  files = record {
+    told = ends.files.told;
+    bare = λ not. record { verdict = λ no. absurd no; leaves = ends.unsaid not; tape = (ends.files.bare not).tape; whole = λ done. absurd (undone status.WriteFault tt done) };
+    jp2 = λ is. jp2_late status.WriteFault (inl refl) request.to request.work (aim_of request rule) ends.input s blocks bytes tape old new (ends.files.jp2 is);
+  };
   said = fault.1;
 })
 ends_said request rule s late blocks bytes tape fault_before fault_now old new before now ends (inr (inr short)) = rw short.0 (record {
   input = ends.input;
   bytes = bytes;
-  files = record { told = ends.files.told; verdict = λ no. absurd no; leaves = ends.unsaid; tape = ends.files.tape; whole = λ done. absurd (undone status.NoMemory tt done) };
+  files = record {
+    told = ends.files.told;
+    bare = λ not. record { verdict = λ no. absurd no; leaves = ends.unsaid not; tape = (ends.files.bare not).tape; whole = λ done. absurd (undone status.NoMemory tt done) };
+    jp2 = λ is. jp2_late status.NoMemory (inr refl) request.to request.work (aim_of request rule) ends.input s blocks bytes tape old new (ends.files.jp2 is);
+  };
   said = inl short.1;
 })
 

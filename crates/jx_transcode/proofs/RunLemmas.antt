@@ -1,38 +1,62 @@
 -- How a run ends, by its words.
-use Rattle.std.proofs.Common.{◌≡◌, ◌⊎◌, Bool, true, false, ℕ, List, [], inl, inr, refl, subst, Option}
+use Rattle.std.proofs.Common.{◌≡◌, ◌⊎◌, Bool, true, false, ℕ, List, [], inl, inr, refl, ap, subst, Option, Err, IsErrOf}
+use Rattle.std.proofs.lemmas.Bool.{both_ways}
 use Rattle.jx_io.specs.Device.{Meaning}
 use Rattle.jx_layers.specs.declared.StreamFacts.{StreamFacts}
 use Rattle.jx_layers.specs.Rule.{Rule}
 use Rattle.jx_plan.specs.Planned.{chosen}
-use Rattle.jx_cli.specs.MakeWords.{is_make, make_of}
-use Rattle.jx_cli.specs.Words.{Text, is_good, request_of}
+use Rattle.jx_cli.specs.BoxesWords.{boxes_of, is_boxes}
+use Rattle.jx_cli.specs.MakeWords.{Make, is_make, make_of}
+use Rattle.jx_cli.specs.Words.{Request, Text, is_good, request_of}
+use Rattle.jx_cli.specs.declared.WordsFault.{WordsFault}
+use Rattle.jx_transcode.specs.BoxesRun.{EndsListed}
+use Rattle.jx_transcode.specs.Commands.{AskNothing, Asks, made_by}
 use Rattle.jx_transcode.specs.MakeRun.{EndsMade}
-use Rattle.jx_transcode.specs.Outcome.{Ends, EndsAs, EndsAtWords, line_of}
-use Rattle.jx_transcode.specs.Runs.{EndsBeside, Outcome}
+use Rattle.jx_transcode.specs.Outcome.{EndsAs, EndsAtWords, line_of}
+use Rattle.jx_transcode.specs.Runs.{Outcome}
+use Rattle.jx_transcode.specs.TranscodeRun.{Ends}
+use Rattle.jx_transcode.specs.declared.commands.Command.TheVariants as command
 use Rattle.jx_transcode.specs.declared.status.Status.{Status}
 use Rattle.jx_transcode.specs.declared.status.Status.TheVariants as status
 use Rattle.jx_rounds.specs.declared.tape.TapeEntry.{TapeEntry}
-use Rattle.jx_transcode.proofs.MakeLemmas.{made_said, refused_ready}
+use Rattle.jx_transcode.proofs.BoxesLemmas.{listed_short}
+use Rattle.jx_transcode.proofs.MakeLemmas.{made_short}
 use Rattle.jx_transcode.proofs.OutcomeLemmas.{ends_said, ends_unread, unread_said}
 use Rattle.jx_transcode.proofs.FiledLemmas.{untouched}
 
--- words that are good for `transcode` aren't for `make`
-pub outcome_good : (words : List Text) (rule : List ℕ → StreamFacts → Option Rule) (s : Status) (blocks : ℕ) (entries : List TapeEntry) (old new : Meaning) (before now : Option (List ℕ))
-    → ((ws : List Text) → is_good ws ≡ true → is_make ws ≡ false) → is_good words ≡ true → Ends (request_of words) rule s blocks entries old new before now
-    → Outcome words rule s blocks entries old new before now
-outcome_good words rule s blocks entries old new before now apart good ends =
-    let other : is_make words ≡ false = apart words good in record { good = λ is. ends; made = λ is. cc; bad = λ not is. cc }
+-- ---- words that are good for one command alone
+pub outcome_transcode : (words : List Text) (request : Request) (rule : List ℕ → StreamFacts → Option Rule) (s : Status) (blocks : ℕ) (entries : List TapeEntry) (old new : Meaning) (before now : Option (List ℕ))
+    → Asks words (command.Transcode request) → Ends request rule s blocks entries old new before now → Outcome words rule s blocks entries old new before now
+outcome_transcode words request rule s blocks entries old new before now asks ends = record {
+  good = λ is. subst (λ (r : Request). Ends r rule s blocks entries old new before now) asks.3 ends;
+  made = λ is. absurd (both_ways (is_make words) asks.1 is);
+  listed = λ is. absurd (both_ways (is_boxes words) asks.2 is);
+  bad = λ not is other. absurd (both_ways (is_good words) not asks.0);
+}
 
-pub outcome_beside : (words : List Text) (rule : List ℕ → StreamFacts → Option Rule) (s : Status) (blocks : ℕ) (entries : List TapeEntry) (files : Meaning) (before now : Option (List ℕ))
-    → is_good words ≡ false → EndsBeside words rule s blocks entries files files before now → Outcome words rule s blocks entries files files before now
-outcome_beside words rule s blocks entries files before now other ends = record { good = λ is. cc; made = ends.made; bad = λ not is. ends.bad is }
+pub outcome_make : (words : List Text) (seed width height : ℕ) (rule : List ℕ → StreamFacts → Option Rule) (s : Status) (blocks : ℕ) (entries : List TapeEntry) (old new : Meaning) (before now : Option (List ℕ))
+    → Asks words (command.Make seed width height) → EndsMade (made_by seed width height) rule s blocks entries old new before now → Outcome words rule s blocks entries old new before now
+outcome_make words seed width height rule s blocks entries old new before now asks ends = record {
+  good = λ is. absurd (both_ways (is_good words) asks.0 is);
+  made = λ is. subst (λ (m : Make). EndsMade m rule s blocks entries old new before now) asks.3 ends;
+  listed = λ is. absurd (both_ways (is_boxes words) asks.2 is);
+  bad = λ not is other. absurd (both_ways (is_make words) is asks.1);
+}
+
+pub outcome_boxes : (words : List Text) (name : Text) (rule : List ℕ → StreamFacts → Option Rule) (s : Status) (blocks : ℕ) (entries : List TapeEntry) (old new : Meaning) (before now : Option (List ℕ))
+    → (is_good words ≡ false) × (is_make words ≡ false) × (is_boxes words ≡ true) × (name ≡ boxes_of words) → EndsListed name s blocks entries old new before now → Outcome words rule s blocks entries old new before now
+outcome_boxes words name rule s blocks entries old new before now asks ends = record {
+  good = λ is. absurd (both_ways (is_good words) asks.0 is);
+  made = λ is. absurd (both_ways (is_make words) asks.1 is);
+  listed = λ is. subst (λ (n : Text). EndsListed n s blocks entries old new before now) asks.3 ends;
+  bad = λ not is other. absurd (both_ways (is_boxes words) other asks.2);
+}
+
+-- a reader's refusal is another's
+pub same_fault : {T U : Type 0} (e f : WordsFault) → IsErrOf {T = T} (Err e) f → IsErrOf {T = U} (Err e) f
+same_fault e f is = let same : e ≡ f = cc in ap (λ (x : WordsFault). Err x) same
 
 -- ---- words that weren't read
-memory_made : (words : List Text) (rule : List ℕ → StreamFacts → Option Rule) (late : Status) (fault_before fault_now : ℕ) (files : Meaning) (before now : Option (List ℕ))
-    → EndsAs status.NoMemory (line_of status.NoMemory 0 0) late before now fault_before fault_now → EndsMade (make_of words) rule late 0 [] files files before now
-memory_made words rule late fault_before fault_now files before now said =
-    made_said (make_of words) rule status.NoMemory late 0 0 0 0 [] fault_before fault_now files before now (refused_ready (make_of words) rule 0 0 0) said
-
 memory_good : (words : List Text) (rule : List ℕ → StreamFacts → Option Rule) (late : Status) (fault_before fault_now : ℕ) (files : Meaning) (before now : Option (List ℕ))
     → EndsAs status.NoMemory (line_of status.NoMemory 0 0) late before now fault_before fault_now → Ends (request_of words) rule late 0 [] files files before now
 memory_good words rule late fault_before fault_now files before now said = ends_said (request_of words) rule status.NoMemory late 0 0 [] fault_before fault_now files files before now
@@ -42,37 +66,23 @@ words_other : (s late : Status) (fault_before fault_now : ℕ) (files : Meaning)
     → EndsAs s (line_of s 0 0) late before now fault_before fault_now → EndsAtWords late 0 [] files files before now
 words_other s late fault_before fault_now files before now unread said = unread_said s late 0 0 [] fault_before fault_now files files before now (unread, refl) refl refl said
 
-pub beside_words : (words : List Text) (rule : List ℕ → StreamFacts → Option Rule) (late : Status) (fault_before fault_now : ℕ) (files : Meaning) (before now : Option (List ℕ))
-    → is_make words ≡ false → EndsAs status.Words (line_of status.Words 0 0) late before now fault_before fault_now → EndsBeside words rule late 0 [] files files before now
-beside_words words rule late fault_before fault_now files before now other said =
-    record { made = λ is. cc; bad = λ is. words_other status.Words late fault_before fault_now files before now (inl refl) said }
-
-pub beside_memory : (words : List Text) (rule : List ℕ → StreamFacts → Option Rule) (late : Status) (fault_before fault_now : ℕ) (files : Meaning) (before now : Option (List ℕ))
-    → EndsAs status.NoMemory (line_of status.NoMemory 0 0) late before now fault_before fault_now → EndsBeside words rule late 0 [] files files before now
-beside_memory words rule late fault_before fault_now files before now said = record {
-  made = λ is. memory_made words rule late fault_before fault_now files before now said;
-  bad = λ is. words_other status.NoMemory late fault_before fault_now files before now (inr refl) said;
+pub outcome_words : (words : List Text) (rule : List ℕ → StreamFacts → Option Rule) (late : Status) (fault_before fault_now : ℕ) (files : Meaning) (before now : Option (List ℕ))
+    → AskNothing words → EndsAs status.Words (line_of status.Words 0 0) late before now fault_before fault_now → Outcome words rule late 0 [] files files before now
+outcome_words words rule late fault_before fault_now files before now none said = record {
+  good = λ is. absurd (both_ways (is_good words) none.0 is);
+  made = λ is. absurd (both_ways (is_make words) none.1 is);
+  listed = λ is. absurd (both_ways (is_boxes words) none.2 is);
+  bad = λ not is other. words_other status.Words late fault_before fault_now files before now (inl refl) said;
 }
-
-pub beside_made : (words : List Text) (rule : List ℕ → StreamFacts → Option Rule) (s : Status) (blocks : ℕ) (entries : List TapeEntry) (files : Meaning) (before now : Option (List ℕ))
-    → is_make words ≡ true → EndsMade (make_of words) rule s blocks entries files files before now → EndsBeside words rule s blocks entries files files before now
-beside_made words rule s blocks entries files before now good ends = record { made = λ is. ends; bad = λ is. cc }
 
 pub outcome_memory : (words : List Text) (rule : List ℕ → StreamFacts → Option Rule) (late : Status) (fault_before fault_now : ℕ) (files : Meaning) (before now : Option (List ℕ))
     → EndsAs status.NoMemory (line_of status.NoMemory 0 0) late before now fault_before fault_now → Outcome words rule late 0 [] files files before now
 outcome_memory words rule late fault_before fault_now files before now said = record {
   good = λ is. memory_good words rule late fault_before fault_now files before now said;
-  made = λ is. memory_made words rule late fault_before fault_now files before now said;
-  bad = λ not is. words_other status.NoMemory late fault_before fault_now files before now (inr refl) said;
+  made = λ is. made_short (make_of words) rule late fault_before fault_now files before now said;
+  listed = λ is. listed_short (boxes_of words) late fault_before fault_now files before now said;
+  bad = λ not is other. words_other status.NoMemory late fault_before fault_now files before now (inr refl) said;
 }
-
--- nothing is read, and only the sink can fail, where nothing but a line was said
-pub refused_failed : (s late : Status) (line : List ℕ) (before now : Option (List ℕ)) (fault_before fault_now : ℕ) → (s ≡ status.Words) ⊎ (s ≡ status.NoMemory)
-    → EndsAs s line late before now fault_before fault_now → late ≡ status.ReadFault → ⊥
-refused_failed s late line before now fault_before fault_now (inl words) (inl said) read = cc
-refused_failed s late line before now fault_before fault_now (inr short) (inl said) read = cc
-refused_failed s late line before now fault_before fault_now unread (inr (inl fault)) read = cc
-refused_failed s late line before now fault_before fault_now unread (inr (inr short)) read = cc
 
 -- with the planners that were lent
 pub outcome_lent : {B : Type 0} (lent planners : List B) → lent ≡ planners → (serves : B → List ℕ → Bool) (rule : B → List ℕ → StreamFacts → Option Rule) (words : List Text) (s : Status) (blocks : ℕ)

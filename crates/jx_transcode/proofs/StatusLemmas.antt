@@ -1,8 +1,9 @@
 -- Which statuses are faults of a device, or speak of the words.
-use Rattle.std.proofs.Common.{◌≡◌, ◌∙◌, ℕ, List, Option, sym, subst, inl, inr, refl}
-use Rattle.jx_io.specs.Causes.{Rose}
-use Rattle.jx_transcode.specs.Filed.{status_of}
-use Rattle.jx_transcode.specs.Outcome.{EndsAs}
+use Rattle.std.proofs.Common.{◌≡◌, ◌⊎◌, ◌∙◌, ℕ, Result, Ok, Err, IsErrOf, ap, sym, subst, inl, inr, refl}
+use Rattle.jx_io.specs.declared.refused.Refused.{Refused}
+use Rattle.jx_io.specs.declared.refused.Refused.TheVariants as refused
+use Rattle.jx_transcode.specs.Filed.{IsEndOf, status_of, unread_as}
+use Rattle.jx_transcode.specs.Outcome.{IsVerdict}
 use Rattle.jx_rounds.specs.declared.halt.Halt.{Halt}
 use Rattle.jx_rounds.specs.declared.halt.Halt.TheVariants as halt
 use Rattle.jx_transcode.specs.declared.status.Status.{Status}
@@ -12,10 +13,10 @@ use Rattle.jx_transcode.specs.declared.status.Status.TheVariants as status
 abbrev pub IsPastReading : Status → Type 0
 IsPastReading s = (s ≡ status.ReadFault → ⊥) × (s ≡ status.Words → ⊥)
 
-pub done_unwritten : status.Done ≡ status.WriteFault → ⊥
+done_unwritten : status.Done ≡ status.WriteFault → ⊥
 done_unwritten e = cc
 
-pub done_unread : IsPastReading status.Done
+done_unread : IsPastReading status.Done
 done_unread = (λ e. cc, λ e. cc)
 
 failed_of : (h : Halt) → status_of h ≡ status.WriteFault → h ≡ halt.Failed
@@ -30,12 +31,14 @@ unread_of (halt.TooLong tile) = (λ e. cc, λ e. cc)
 unread_of halt.Failed = (λ e. cc, λ e. cc)
 unread_of halt.NoMemory = (λ e. cc, λ e. cc)
 
--- a file that wasn't written to its end
-pub halted_failed : (h : Halt) (s : Status) → s ≡ status_of h → s ≡ status.WriteFault → h ≡ halt.Failed
-halted_failed h s is failed = failed_of h (sym is ∙ failed)
+-- a file that was written, or wasn't to its end
+pub ended_failed : (written : Result ℕ Halt) (s : Status) (bytes : ℕ) → IsEndOf written s bytes → s ≡ status.WriteFault → IsErrOf written halt.Failed
+ended_failed (Ok count) s bytes ends failed = absurd (done_unwritten (sym ends.0 ∙ failed))
+ended_failed (Err h) s bytes ends failed = ap (λ (x : Halt). Err x) (failed_of h (sym ends.0 ∙ failed))
 
-pub halted_unread : (h : Halt) (s : Status) → s ≡ status_of h → IsPastReading s
-halted_unread h s is = subst IsPastReading (sym is) (unread_of h)
+pub ended_unread : (written : Result ℕ Halt) (s : Status) (bytes : ℕ) → IsEndOf written s bytes → IsPastReading s
+ended_unread (Ok count) s bytes ends = subst IsPastReading (sym ends.0) done_unread
+ended_unread (Err h) s bytes ends = subst IsPastReading (sym ends.0) (unread_of h)
 
 pub limit_unwritten : (number found : ℕ) (s : Status) → s ≡ status.Limit number found → s ≡ status.WriteFault → ⊥
 limit_unwritten number found s is e = cc
@@ -56,9 +59,36 @@ memory_unwritten s is e = cc
 pub memory_unread : (s : Status) → s ≡ status.NoMemory → IsPastReading s
 memory_unread s is = (λ e. cc, λ e. cc)
 
--- a line that couldn't be said, where the run didn't fail before
-pub memory_said : (late : Status) (line : List ℕ) (before now : Option (List ℕ)) (fault_before fault_now : ℕ) → EndsAs status.NoMemory line late before now fault_before fault_now → late ≡ status.WriteFault
-    → Rose fault_before fault_now
-memory_said late line before now fault_before fault_now (inl said) failed = absurd (memory_unwritten late said.0 failed)
-memory_said late line before now fault_before fault_now (inr (inl fault)) failed = fault.2
-memory_said late line before now fault_before fault_now (inr (inr short)) failed = absurd (memory_unwritten late short.0 failed)
+pub words_unread : status.Words ≡ status.ReadFault → ⊥
+words_unread e = cc
+
+pub words_unwritten : status.Words ≡ status.WriteFault → ⊥
+words_unwritten e = cc
+
+-- ---- why an input couldn't be read
+pub unread_either : (e : Refused) (s : Status) → s ≡ unread_as e → (s ≡ status.ReadFault) ⊎ (s ≡ status.NoMemory)
+unread_either refused.Failed s is = inl is
+unread_either refused.NoMemory s is = inr is
+
+pub unread_failed : {T : Type 0} (e : Refused) (s : Status) → s ≡ unread_as e → s ≡ status.ReadFault → IsErrOf {T = T} (Err e) refused.Failed
+unread_failed refused.Failed s is failed = refl
+unread_failed refused.NoMemory s is failed = absurd ((memory_unread s is).0 failed)
+
+pub unread_unwritten : (e : Refused) (s : Status) → s ≡ unread_as e → s ≡ status.WriteFault → ⊥
+unread_unwritten refused.Failed s is failed = (fault_apart s is).0 failed
+unread_unwritten refused.NoMemory s is failed = memory_unwritten s is failed
+
+-- ---- where no count of faults rose
+pub complete : {A B C : Type 0} (s : Status) → (s ≡ status.ReadFault → A) → (s ≡ status.WriteFault → B ⊎ C) → (A → ⊥) → (B → ⊥) → (C → ⊥) → IsVerdict s ⊎ (s ≡ status.NoMemory)
+complete status.Done read write a b c = inl tt
+complete status.Words read write a b c = inl tt
+complete (status.Rule number place) read write a b c = inl tt
+complete (status.Limit number found) read write a b c = inl tt
+complete (status.Choice number place) read write a b c = inl tt
+complete (status.Block number) read write a b c = inl tt
+complete status.ReadFault read write a b c = absurd (a (read refl))
+complete status.WriteFault read write a b c = elim (write refl) [
+  | inl rose ↦ absurd (b rose)
+  | inr rose ↦ absurd (c rose)
+]
+complete status.NoMemory read write a b c = inr refl

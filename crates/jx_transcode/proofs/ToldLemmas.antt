@@ -2,7 +2,7 @@
 use Rattle.std.proofs.Common.{◌≡◌, ◌⊎◌, ◌<◌, ◌+◌, ◌-◌, ◌==◌, ◌||◌, ◌&&◌, ◌%◌, ◌^◌, take, not, nat_lt, nat_le, ℕ, Bool, true, false, List, [], ◌∷◌, length, drop, sym, subst, arith, inl, inr, Option, None, Some, cond}
 use Rattle.std.specs.Option.{option_or}
 use Rattle.jx_geom.specs.Geometry.{Geometry}
-use Rattle.jx_packet_header.specs.declared.Part.{Part}
+use Rattle.jx_packet_header.specs.declared.HeaderPart.{HeaderPart}
 use Rattle.jx_packet_header.specs.Packet.{State}
 use Rattle.jx_marker.specs.Codes.{SOC, SIZ, SOT, EOC}
 use Rattle.jx_marker.specs.declared.Segment.{Segment}
@@ -134,13 +134,13 @@ mark_told : (at : ℕ) (o : Option ℕ) → AllTold (rule_30 at o)
 mark_told at None = tt
 mark_told at (Some i) = tt
 
-marks_told : (at : ℕ) (bytes : List ℕ) (parts : List Part) → AllTold (marks_fault at bytes parts)
+marks_told : (at : ℕ) (bytes : List ℕ) (parts : List HeaderPart) → AllTold (marks_fault at bytes parts)
 marks_told at bytes [] = tt
 marks_told at bytes (p ∷ parts) =
     told_or (rule_30 at (first_mark (take p.length bytes))) (marks_fault (at + p.length) (drop p.length bytes) parts) (mark_told at (first_mark (take p.length bytes)))
     (marks_told (at + p.length) (drop p.length bytes) parts)
 
-body_told : (w : List ℕ) (at used : ℕ) (parts : List Part) (f : StreamFault) → body_fault w at used parts ≡ Some f → IsTold f
+body_told : (w : List ℕ) (at used : ℕ) (parts : List HeaderPart) (f : StreamFault) → body_fault w at used parts ≡ Some f → IsTold f
 unfolding body_fault
 body_told w at used parts f e =
     told_at (option_or (broken 28 at (nat_lt (length w) (front_length w used + parts_length parts))) (marks_fault (at + front_length w used) (drop (front_length w used) w) parts)) f

@@ -1,10 +1,12 @@
 -- What a whole file, or one that was halted, leaves under a name.
-use Rattle.std.specs.Prelude.{◌≡◌, ◌⊎◌, ℕ, List, length}
+use Rattle.std.specs.Prelude.{◌≡◌, ◌⊎◌, ℕ, List, length, Result, Ok, Err}
 use Rattle.jx_io.specs.Device.{Meaning}
+use Rattle.jx_io.specs.declared.refused.Refused.{Refused}
+use Rattle.jx_io.specs.declared.refused.Refused.TheVariants as refused
 use Rattle.jx_transcode.specs.Aims.{Aim}
 use Rattle.jx_plan.specs.declared.faults.PlanFault.{PlanFault}
 use Rattle.jx_plan.specs.declared.faults.PlanFault.TheVariants as unplanned
-use Rattle.jx_plan.specs.Plan.{IsPlan, Plan}
+use Rattle.jx_plan.specs.Plan.{Plan}
 use Rattle.jx_transcode.specs.Outcome.{IsBegun, IsCutShort, IsMade, IsStopped, IsVerdict, Leaves, Verdict}
 use Rattle.jx_rounds.specs.Rounds.{IsHaltedAt, IsRoundFront, IsWholeFile}
 use Rattle.jx_cli.specs.Words.{Text}
@@ -12,7 +14,6 @@ use Rattle.jx_options.specs.Work.{Work}
 use Rattle.jx_rounds.specs.declared.tape.TapeEntry.{TapeEntry}
 use Rattle.jx_transcode.specs.Rewritten.{HasBlocks}
 use Rattle.jx_transcode.specs.RunTapes.{IsRunTape}
-use Rattle.jx_rounds.specs.Tapes.{IsTapeOf}
 use Rattle.jx_rounds.specs.declared.halt.Halt.{Halt}
 use Rattle.jx_rounds.specs.declared.halt.Halt.TheVariants as halt
 use Rattle.jx_transcode.specs.declared.status.Status.{Status}
@@ -50,13 +51,24 @@ pub record IsAnswered (name : Text) (work : Work) (aim : Aim) (input : List ℕ)
   pub tape : IsRunTape work input entries
   pub whole : s ≡ status.Done → HasBlocks input (length entries)
 
--- the status of a file that wasn't written to its end, and that of an input in which something is violated or passed
+-- the status of a file that wasn't written to its end
 abbrev pub status_of : Halt → Status
 status_of (halt.Bad tile number) = status.Block number
 status_of (halt.TooLong tile) = status.Choice 7 tile
 status_of halt.Failed = status.WriteFault
 status_of halt.NoMemory = status.NoMemory
 
+-- how a run ends whose file was written, with so many bytes, or wasn't to its end
+abbrev pub IsEndOf : Result ℕ Halt → Status → ℕ → Type 0
+IsEndOf (Ok count) s bytes = (s ≡ status.Done) × (bytes ≡ count)
+IsEndOf (Err why) s bytes = (s ≡ status_of why) × (bytes ≡ 0)
+
+-- the status of an input that couldn't be read
+abbrev pub unread_as : Refused → Status
+unread_as refused.Failed = status.ReadFault
+unread_as refused.NoMemory = status.NoMemory
+
+-- that of an input in which something is violated or passed
 abbrev pub told_by : StreamFault → Status
 told_by (fault.Rule number place) = status.Rule number place
 told_by (fault.Limit number found) = status.Limit number found
@@ -76,20 +88,3 @@ blocks_told unplanned.NoMemory blocks = 0
 -- words that are no command, or that couldn't be read
 abbrev pub IsUnread : Status → ℕ → Type 0
 IsUnread s blocks = ((s ≡ status.Words) ⊎ (s ≡ status.NoMemory)) × (blocks ≡ 0)
-
--- what becomes of a plan: a whole file, or one that was halted
-pub record IsPlanWritten (p : Plan) (name : Text) (s : Status) (bytes : ℕ) (old new : Meaning) : Type 0 where
-  pub done : s ≡ status.Done
-  pub file : IsFileMade p name bytes old new
-
-pub record IsPlanHalted (p : Plan) (name : Text) (s : Status) (old new : Meaning) : Type 0 where
-  pub why : Halt
-  pub status_is : s ≡ status_of why
-  pub file : IsFileHalted p name why old new
-
-pub record IsPlanAnswered (name : Text) (work : Work) (p : Plan) (s : Status) (blocks bytes : ℕ) (entries : List TapeEntry) (old new : Meaning) : Type 0 where
-  pub plan : IsPlan p
-  pub count : blocks ≡ length p.blocks
-  pub tape : IsTapeOf work p.blocks entries
-  pub whole : s ≡ status.Done → length entries ≡ length p.blocks
-  pub either : IsPlanWritten p name s bytes old new ⊎ IsPlanHalted p name s old new

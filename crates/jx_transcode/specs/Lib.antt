@@ -4,7 +4,11 @@ pub mod Runs
 pub mod Aims
 pub mod Rewritten
 pub mod RunTapes
+pub mod Commands
+pub mod TranscodeRun
 pub mod MakeRun
+pub mod BoxesRun
+pub mod Jp2Run
 pub mod Progress
 pub mod Judged
 pub mod Filed

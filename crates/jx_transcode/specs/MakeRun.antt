@@ -7,6 +7,7 @@ use Rattle.jx_io.specs.Device.{Meaning}
 use Rattle.jx_layers.specs.declared.StreamFacts.{StreamFacts}
 use Rattle.jx_layers.specs.Rule.{Rule}
 use Rattle.jx_generate.specs.Made.{file_made}
+use Rattle.jx_options.specs.Names.{no_marks}
 use Rattle.jx_options.specs.Wanted.{Wanted}
 use Rattle.jx_options.specs.declared.PartChoice.TheVariants as parts
 use Rattle.jx_cli.specs.MakeWords.{Make}
@@ -26,7 +27,7 @@ wanted_made = record {
   precincts = None;
   style = Some (record { bits = 33 });
   layers = codes "one";
-  marks = record { sop = false; eph = false; plt = true; parts = parts.Resolution };
+  marks = record no_marks { plt = true; parts = parts.Resolution };
 }
 
 -- and `--threads 4 --window 64`

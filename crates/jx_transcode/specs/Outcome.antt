@@ -1,23 +1,19 @@
--- How a run ends over words of `transcode` and over other words: the verdict on the words and the input, the line said, and what stands
--- afterwards.
-use Rattle.std.specs.Prelude.{◌≡◌, ◌⊎◌, ℕ, ◌+◌, ◌^◌, ◌<◌, ◌≤◌, List, [], ◌++◌, length, Option, IfSome, codes}
+-- What becomes of an input: its verdict, the line said, and what stands afterwards; and how a run ends over words that are no command.
+use Rattle.std.specs.Prelude.{◌≡◌, ◌⊎◌, ℕ, ◌+◌, ◌^◌, ◌<◌, ◌≤◌, List, [], ◌++◌, length, Option, codes}
 use Rattle.std.specs.Option.{option_map}
 use Rattle.std.specs.Fmt.{decimal}
 use Rattle.jx_io.specs.Causes.{Rose}
-use Rattle.jx_io.specs.Device.{Meaning, joined, after_create, after_write, after_finish}
+use Rattle.jx_io.specs.Device.{Meaning, after_create, after_write, after_finish}
 use Rattle.jx_transcode.specs.declared.status.Status.{Status}
-use Rattle.jx_transcode.specs.declared.status.Status.TheVariants as status
-use Rattle.jx_cli.specs.Words.{Text, Request}
+use Rattle.jx_cli.specs.Words.{Text}
 use Rattle.jx_rounds.specs.declared.tape.TapeEntry.{TapeEntry}
-use Rattle.jx_transcode.specs.RunTapes.{IsRunTape}
 use Rattle.jx_transcode.specs.Rewritten.{HasBlocks, IsBad, IsCut, IsCutByBlock, IsFrontOf, IsKept, IsRewritten, IsTooLongAt, IsUnplanned}
 use Rattle.jx_plan.specs.declared.faults.PlanFault.{PlanFault}
-use Rattle.jx_plan.specs.declared.faults.PlanFault.TheVariants as unplanned
-use Rattle.jx_layers.specs.declared.StreamFacts.{StreamFacts}
-use Rattle.jx_layers.specs.Rule.{Rule}
 use Rattle.jx_transcode.specs.Aims.{Aim}
 use Rattle.jx_transcode.specs.Progress.{HasWritten}
 use Rattle.jx_transcode.specs.Judged.{Violates, Passes}
+use Rattle.jx_transcode.specs.declared.status.Status.TheVariants as status
+use Rattle.jx_plan.specs.declared.faults.PlanFault.TheVariants as unplanned
 
 -- the most bytes that an input may have
 abbrev pub most_bytes : ℕ
@@ -181,34 +177,6 @@ Leaves name aim input (status.Block number) blocks bytes old new = IsStoppedByBl
 Leaves name aim input status.ReadFault blocks bytes old new = IsRefused blocks old new
 Leaves name aim input status.WriteFault blocks bytes old new = IsCutShort name aim input blocks old new
 Leaves name aim input status.NoMemory blocks bytes old new = IsCutShort name aim input blocks old new
-
--- what good words ask for, with the rule that the planners make of their words of layers
-abbrev pub aim_of : Request → (List ℕ → StreamFacts → Option Rule) → Aim
-aim_of request rule = record { wanted = request.wanted; rule = rule request.wanted.layers }
-
--- how a run over good words ends on an input, which is what the file named IN holds at the beginning, where that is told
-pub record EndsOn (request : Request) (rule : List ℕ → StreamFacts → Option Rule) (input : List ℕ) (s : Status) (blocks bytes : ℕ) (entries : List TapeEntry) (old new : Meaning) : Type 0 where
-  pub told : IfSome (joined (old.holds request.from)) (λ bytes. input ≡ bytes)
-  pub verdict : IsVerdict s → Verdict (aim_of request rule) input s
-  pub leaves : Leaves request.to (aim_of request rule) input s blocks bytes old new
-  -- the tape has the entries of the first blocks, in their order, each once, by workers and inside windows that were asked for
-  pub tape : IsRunTape request.work input entries
-  -- and those of all blocks after Done
-  pub whole : s ≡ status.Done → HasBlocks input (length entries)
-
--- how the files are left by a run over good words, before anything is said; `bytes` is the output's length after Done
-pub record EndsFiles (request : Request) (rule : List ℕ → StreamFacts → Option Rule) (s : Status) (blocks bytes : ℕ) (entries : List TapeEntry) (old new : Meaning) : Type 0 where
-  pub input : List ℕ
-  pub files : EndsOn request rule input s blocks bytes entries old new
-  -- what stands where its line isn't said
-  pub unsaid : IsCutShort request.to (aim_of request rule) input blocks old new
-
--- how a run over good words ends
-pub record Ends (request : Request) (rule : List ℕ → StreamFacts → Option Rule) (s : Status) (blocks : ℕ) (entries : List TapeEntry) (old new : Meaning) (before now : Option (List ℕ)) : Type 0 where
-  pub input : List ℕ
-  pub bytes : ℕ
-  pub files : EndsOn request rule input s blocks bytes entries old new
-  pub said : Says s (line_of s blocks bytes) before now
 
 -- how a run over other words ends
 pub record EndsAtWords (s : Status) (blocks : ℕ) (entries : List TapeEntry) (old new : Meaning) (before now : Option (List ℕ)) : Type 0 where

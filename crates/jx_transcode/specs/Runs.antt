@@ -1,22 +1,21 @@
--- How a run ends, by its words: those of `transcode`, those of `make`, and others.
+-- How a run ends, by its words: those of `transcode`, those of `make`, those of `boxes`, and others.
 use Rattle.std.specs.Prelude.{◌≡◌, ℕ, true, false, List, Option}
 use Rattle.jx_io.specs.Device.{Meaning}
 use Rattle.jx_layers.specs.declared.StreamFacts.{StreamFacts}
 use Rattle.jx_layers.specs.Rule.{Rule}
+use Rattle.jx_cli.specs.BoxesWords.{boxes_of, is_boxes}
 use Rattle.jx_cli.specs.MakeWords.{is_make, make_of}
 use Rattle.jx_cli.specs.Words.{Text, is_good, request_of}
+use Rattle.jx_transcode.specs.BoxesRun.{EndsListed}
 use Rattle.jx_transcode.specs.MakeRun.{EndsMade}
-use Rattle.jx_transcode.specs.Outcome.{Ends, EndsAtWords}
+use Rattle.jx_transcode.specs.Outcome.{EndsAtWords}
+use Rattle.jx_transcode.specs.TranscodeRun.{Ends}
 use Rattle.jx_transcode.specs.declared.status.Status.{Status}
 use Rattle.jx_rounds.specs.declared.tape.TapeEntry.{TapeEntry}
-
--- how a run ends over words that aren't good for `transcode`
-pub record EndsBeside (words : List Text) (rule : List ℕ → StreamFacts → Option Rule) (s : Status) (blocks : ℕ) (entries : List TapeEntry) (old new : Meaning) (before now : Option (List ℕ)) : Type 0 where
-  pub made : is_make words ≡ true → EndsMade (make_of words) rule s blocks entries old new before now
-  pub bad : is_make words ≡ false → EndsAtWords s blocks entries old new before now
 
 -- how a run ends
 pub record Outcome (words : List Text) (rule : List ℕ → StreamFacts → Option Rule) (s : Status) (blocks : ℕ) (entries : List TapeEntry) (old new : Meaning) (before now : Option (List ℕ)) : Type 0 where
   pub good : is_good words ≡ true → Ends (request_of words) rule s blocks entries old new before now
   pub made : is_make words ≡ true → EndsMade (make_of words) rule s blocks entries old new before now
-  pub bad : is_good words ≡ false → is_make words ≡ false → EndsAtWords s blocks entries old new before now
+  pub listed : is_boxes words ≡ true → EndsListed (boxes_of words) s blocks entries old new before now
+  pub bad : is_good words ≡ false → is_make words ≡ false → is_boxes words ≡ false → EndsAtWords s blocks entries old new before now

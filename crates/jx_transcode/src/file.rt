@@ -1,13 +1,10 @@
 //! The file of a plan: created, written, and finished.
 
-ghost use Rattle.std.specs.Prelude.{◌≡◌, [], length, IfOk, IfErr, OnOk, IsErrOf, IsTrue};
+ghost use Rattle.std.specs.Prelude.{◌≡◌, [], length, IfOk, IfErr, OnOk, IsErrOf};
 ghost use Rattle.jx_io.specs.Causes.{Rose};
-ghost use Rattle.jx_cli.specs.Words.{Text};
-ghost use Rattle.jx_io.specs.Device.{Meaning, after_create};
 ghost use Rattle.jx_options.specs.Work.{MayBeWork};
-ghost use Rattle.jx_plan.specs.Plan.{IsPlan, headers_of};
+ghost use Rattle.jx_plan.specs.Plan.{IsPlan};
 ghost use Rattle.jx_rounds.specs.Tapes.{IsTapeOf};
-ghost use Rattle.jx_tier2_writer.specs.Tile.{main_bytes};
 ghost use Rattle.jx_transcode.specs.Filed.{IsFileHalted, IsFileMade};
 
 use jx_io::{Files, Gate};
@@ -18,43 +15,13 @@ use std::alloc::Global;
 use std::sync::Wait;
 use std::thread::Threads;
 
-/// Writes the file that was created to its end, and finishes it.
-fn write_created<R: Threads + Wait + Sync, G: Gate + Sync, F: Files>(
-    crew: &Crew<'_, R, G>,
-    alloc: Global,
-    files: &mut F,
-    making: &Making<'_, '_>,
-    header: &[u8],
-    tape: &mut Vec<TapeEntry>,
-    buffer: &mut Vec<u8>,
-) -> Result<usize, Halt>
-    requires making { IsTrue (F.meaning files.old).making }
-    requires header { header.now ≡ main_bytes (headers_of making.now) }
-    requires work { MayBeWork crew.now.work }
-    requires empty { tape.old.items ≡ [] }
-    requires buffer { buffer.old.items ≡ [] }
-    ensures ok { IfOk result (λ bytes. (name : Text) (before : Meaning) → F.meaning files.old ≡ after_create name before → IsFileMade making.now name bytes before (F.meaning files.new)) }
-    ensures err { IfErr result (λ h. (name : Text) (before : Meaning) → F.meaning files.old ≡ after_create name before → IsFileHalted making.now name h before (F.meaning files.new)) }
-    ensures tape { IsTapeOf crew.now.work making.now.blocks tape.new.items }
-    ensures whole { OnOk result (length tape.new.items ≡ length making.now.blocks) }
-    ensures cause { IsErrOf result Halt.Failed → Rose (F.write_faults files.old) (F.write_faults files.new) }
-    ensures other { F.read_faults files.new ≡ F.read_faults files.old }
-{
-    match write_codestream(crew, alloc, files, making, header, tape, buffer) {
-        Ok(bytes) => match files.finish() {
-            Ok(()) => Ok(bytes),
-            Err(refused) => Err(halt_of(refused)),
-        },
-        Err(halt) => Err(halt),
-    }
-}
-
 /// Writes the file of a plan under a name, and gives how many bytes it has. `tape` gets the entries of each round's code-blocks once the
 /// round is written.
 ///
 /// The main header, each tile-part and EOC begin with a write of their own, and a tile-part of 65,536 bytes or more may come in several.
-/// The code-blocks of a round are made, and its tile-parts are packed, before a byte of it is written. After an `Err` nothing was created, or what was written is a front of the file; after `Bad` and `TooLong` it is just
-/// the main header and the rounds before that of the tile.
+/// The code-blocks of a round are made, and its tile-parts are packed, before a byte of it is written. After an `Err` nothing was
+/// created, or what was written is a front of the file; after `Bad` and `TooLong` it is just the main header and the rounds before that
+/// of the tile.
 pub fn write_file<R: Threads + Wait + Sync, G: Gate + Sync, F: Files>(
     crew: &Crew<'_, R, G>,
     alloc: Global,
@@ -85,7 +52,14 @@ pub fn write_file<R: Threads + Wait + Sync, G: Gate + Sync, F: Files>(
     };
     let making = Making::new(plan, &written);
     match files.create(to) {
-        Ok(()) => write_created(crew, alloc, files, &making, &header, tape, &mut buffer),
-        Err(refused) => Err(halt_of(refused)),
+        Ok(()) => {}
+        Err(refused) => return Err(halt_of(refused)),
+    }
+    match write_codestream(crew, alloc, files, &making, &header, tape, &mut buffer) {
+        Ok(bytes) => match files.finish() {
+            Ok(()) => Ok(bytes),
+            Err(refused) => Err(halt_of(refused)),
+        },
+        Err(halt) => Err(halt),
     }
 }

@@ -7,12 +7,14 @@ ghost use Rattle.jx_transcode.specs.Aims.{Aim, MayBeAimed};
 ghost use Rattle.jx_cli.specs.MakeWords.{Make, MayBeMade};
 ghost use Rattle.jx_transcode.specs.declared.status.Status.{Status};
 ghost use Rattle.jx_transcode.specs.declared.status.Status.TheVariants as status;
+ghost use Rattle.jx_transcode.specs.Jp2Run.{FileVerdict};
 ghost use Rattle.jx_transcode.specs.MadeVerdict.{HasNoRule};
 ghost use Rattle.jx_transcode.specs.MakeRun.{aim_made, input_of};
 ghost use Rattle.jx_transcode.specs.Outcome.{Verdict, most_bytes};
 
 use jx_codestream::laws::{one_first, one_stream, violated_or_spelled};
 use jx_generate::laws::{made_blocks_are_plain, made_geometry, made_is_well_formed};
+use jx_jp2::laws::one_codestream;
 use jx_plan::laws::{gathered_may_be_planned, groups_are_cut, kept_precincts_fit, one_answer};
 use jx_tier2_reader::laws::{never_both, one_gathering, one_of_both, one_violation};
 use jx_tier2_writer::laws::{one_output, written_is_ready};
@@ -29,6 +31,14 @@ pub fn one_verdict()
     never_both();
     one_answer();
     one_output();
+}
+
+/// A file has at most one verdict, JP2 or not.
+pub fn one_file_verdict()
+    ensures { (aim : Aim) (input : List ℕ) (s t : Status) → FileVerdict aim input s → FileVerdict aim input t → s ≡ t }
+{
+    one_verdict();
+    one_codestream();
 }
 
 /// An input has a verdict, where the planners make 1 to 65,535 layers.

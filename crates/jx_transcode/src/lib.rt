@@ -1,12 +1,14 @@
 //! The top call of the transcoder: from the words of the command line and the bytes read to the
-//! bytes written, the line said and the status.
+//! bytes written, what is said and the status.
 #![tactic(auto)]
 
+mod around;
+mod commands;
 mod device;
 mod file;
+mod input;
 pub mod laws;
 mod lines;
-mod make;
 mod program;
 mod rewrite;
 mod say;

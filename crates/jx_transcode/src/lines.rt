@@ -1,5 +1,6 @@
+//! The line that a run says.
+
 ghost use Rattle.std.specs.Prelude.{◌≡◌, IfOk, string_bytes};
-ghost use Rattle.jx_transcode.specs.MakeRun.{make_line};
 ghost use Rattle.jx_transcode.specs.Outcome.{line_of};
 
 use crate::Status;
@@ -24,25 +25,5 @@ pub fn line_of(
         Status::ReadFault => String::from_str(alloc, "read fault\n"),
         Status::WriteFault => Ok(String::new(alloc)),
         Status::NoMemory => String::from_str(alloc, "no memory\n"),
-    }
-}
-
-/// The line that a status has for `make`. After Done `before` and `after` are the lengths of what was generated and of the output, and
-/// `total` is the sum of the output's bytes.
-pub fn make_line(
-    alloc: Global,
-    status: Status,
-    blocks: u32,
-    before: usize,
-    after: usize,
-    total: u128,
-) -> Result<String, AllocError>
-    ensures { IfOk result (λ line. string_bytes line ≡ make_line status blocks before after total) }
-{
-    match status {
-        Status::Done => format!(in alloc;
-            "make: {blocks} blocks, {before} bytes in, {after} bytes out, sum {total}\n"
-        ),
-        other => line_of(alloc, other, blocks, 0),
     }
 }

@@ -1,27 +1,27 @@
 //! What becomes of an input whose bytes were read.
 
-ghost use Rattle.std.specs.Prelude.{◌≡◌, ◌<◌, ◌≤◌, ℕ, List, [], length, map};
+ghost use Rattle.std.specs.Prelude.{◌≡◌, ◌<◌, ◌≤◌, [], length};
 ghost use Rattle.jx_io.specs.Causes.{Rose};
 ghost use Rattle.jx_codestream.specs.Read.{IsRead};
-ghost use Rattle.jx_plan.specs.Plan.{MayBePlanned};
 ghost use Rattle.jx_plan.specs.Planned.{chosen};
 ghost use Rattle.jx_options.specs.Wanted.{MayBeWanted};
 ghost use Rattle.jx_options.specs.Work.{MayBeWork};
-ghost use Rattle.jx_transcode.specs.Filed.{IsAnswered, IsPlanAnswered, blocks_told, status_of, told_by, told_of_plan};
+ghost use Rattle.jx_transcode.specs.Filed.{IsAnswered, IsEndOf, blocks_told, status_of, told_by, told_of_plan};
+ghost use Rattle.jx_transcode.specs.Jp2Run.{IsPlaced};
 ghost use Rattle.jx_transcode.specs.Outcome.{most_bytes};
-ghost use Rattle.jx_transcode.specs.Rewritten.{Reads};
 
 use crate::Status;
 use crate::device::MOST;
 use crate::file::write_file;
+use jx_base::Block;
 use jx_codestream::{Stream, StreamFault, read_stream};
 use jx_io::{Files, Gate};
 use jx_layers::{LayerPlanner, shortened};
 use jx_options::Options;
 use jx_plan::laws::{gathered_may_be_planned, plans_write_these_blocks};
-use jx_plan::{OutStream, PlanFault, plan_served};
+use jx_plan::{PlanFault, plan_served};
 use jx_rounds::{Crew, Halt, TapeEntry};
-use jx_tier2_reader::{Block, gather};
+use jx_tier2_reader::gather;
 use jx_tier2_writer::laws::{one_output, rewritten_is_read};
 use std::alloc::Global;
 use std::sync::Wait;
@@ -56,7 +56,8 @@ impl Ending {
 
 /// The status of a file that wasn't written to its end.
 fn status_of(halt: Halt) -> Status
-    ensures { result ≡ status_of halt }
+    ensures status { result ≡ status_of halt }
+    ensures placed { IsPlaced result }
 {
     match halt {
         Halt::Bad { tile: _, number } => Status::Block { number },
@@ -69,26 +70,13 @@ fn status_of(halt: Halt) -> Status
     }
 }
 
-/// What becomes of a plan.
-fn write_plan<R: Threads + Wait + Sync, G: Gate + Sync, F: Files>(
-    crew: &Crew<'_, R, G>,
-    alloc: Global,
-    files: &mut F,
-    to: &str,
-    plan: &OutStream<'_>,
-) -> Ending
-    requires creates { F.can_create files.old to.now }
-    requires work { MayBeWork crew.now.work }
-    ensures answer { IsPlanAnswered to.now crew.now.work plan.now result.status result.blocks result.bytes result.tape.items (F.meaning files.old) (F.meaning files.new) }
-    ensures cause { result.status ≡ Status.WriteFault → Rose (F.write_faults files.old) (F.write_faults files.new) }
-    ensures read { (result.status ≡ Status.ReadFault → ⊥) × (result.status ≡ Status.Words → ⊥) }
-    ensures other { F.read_faults files.new ≡ F.read_faults files.old }
+/// How a run ends whose file was written, or wasn't to its end, with the entries of the rounds that were.
+fn ending_of(written: Result<usize, Halt>, blocks: u32, tape: Vec<TapeEntry>) -> Ending
+    ensures ends { IsEndOf written result.status result.bytes }
+    ensures placed { IsPlaced result.status }
+    ensures blocks { result.blocks ≡ blocks }
+    ensures tape { result.tape.items ≡ tape.items }
 {
-    let blocks = plan.jobs().len() as u32;
-    crew.gate.begin(blocks);
-    let mut tape = Vec::new(alloc);
-    let written = write_file(crew, alloc, files, to, plan, &mut tape);
-    crew.gate.end();
     match written {
         Ok(bytes) => Ending {
             status: Status::Done,
@@ -108,6 +96,7 @@ fn write_plan<R: Threads + Wait + Sync, G: Gate + Sync, F: Files>(
 /// A plan that can't be had of an input with so many code-blocks.
 fn unplanned_by(alloc: Global, fault: PlanFault, blocks: u32) -> Ending
     ensures status { result.status ≡ told_of_plan fault }
+    ensures placed { IsPlaced result.status }
     ensures blocks { (result.blocks ≡ blocks_told fault blocks) × (result.bytes ≡ 0) }
     ensures tape { result.tape.items ≡ [] }
 {
@@ -128,37 +117,30 @@ fn unplanned_by(alloc: Global, fault: PlanFault, blocks: u32) -> Ending
     }
 }
 
-/// What becomes of a stream with its code-blocks: its output is planned and written.
-fn write_blocks<R: Threads + Wait + Sync, G: Gate + Sync, F: Files>(
-    crew: &Crew<'_, R, G>,
-    alloc: Global,
-    files: &mut F,
-    stream: &Stream,
-    blocks: &[Block<'_>],
-    to: &str,
-    options: &Options,
-    planners: &mut [Box<dyn LayerPlanner>],
-) -> Ending
-    requires creates { F.can_create files.old to.now }
-    requires may { MayBePlanned stream.now blocks.now }
-    requires wanted { MayBeWanted options.now }
-    requires work { MayBeWork crew.now.work }
-    ensures answer { (input : List ℕ) → length input ≤ most_bytes → Reads input stream.now blocks.now
-        → IsAnswered to.now crew.now.work (record { wanted = options.now; rule = λ facts. chosen (λ b. serves_text b options.now.layers) (λ b. rule_of b options.now.layers facts) planners.old }) input result.status result.blocks result.bytes result.tape.items (F.meaning files.old) (F.meaning files.new) }
-    ensures cause { result.status ≡ Status.WriteFault → Rose (F.write_faults files.old) (F.write_faults files.new) }
-    ensures read { (result.status ≡ Status.ReadFault → ⊥) × (result.status ≡ Status.Words → ⊥) }
-    ensures other { F.read_faults files.new ≡ F.read_faults files.old }
+/// A rule that is violated, or a limit that is passed, in the headers or the tile data.
+fn refused_by(alloc: Global, fault: StreamFault) -> Ending
+    ensures status { result.status ≡ told_by fault }
+    ensures placed { IsPlaced result.status }
+    ensures none { (result.blocks ≡ 0) × (result.bytes ≡ 0) }
+    ensures tape { result.tape.items ≡ [] }
 {
-    plans_write_these_blocks();
-    rewritten_is_read();
-    one_output();
-    match plan_served(alloc, stream, shortened(blocks), options, planners) {
-        Ok(plan) => write_plan(crew, alloc, files, to, &plan),
-        Err(fault) => unplanned_by(alloc, fault, blocks.len() as u32),
+    match fault {
+        StreamFault::Rule { number, place } => Ending::refused(
+            alloc,
+            Status::Rule {
+                number,
+                place: u64::from(place),
+            },
+        ),
+        StreamFault::Limit { number, found } => Ending::refused(
+            alloc,
+            Status::Limit { number, found },
+        ),
+        StreamFault::NoMemory => Ending::refused(alloc, Status::NoMemory),
     }
 }
 
-/// What becomes of the input of a stream.
+/// What becomes of the input of a stream: its output is planned and written.
 fn rewrite<R: Threads + Wait + Sync, G: Gate + Sync, F: Files>(
     crew: &Crew<'_, R, G>,
     alloc: Global,
@@ -177,32 +159,28 @@ fn rewrite<R: Threads + Wait + Sync, G: Gate + Sync, F: Files>(
     ensures answer { IsAnswered to.now crew.now.work (record { wanted = options.now; rule = λ facts. chosen (λ b. serves_text b options.now.layers) (λ b. rule_of b options.now.layers facts) planners.old }) input.now result.status result.blocks result.bytes result.tape.items (F.meaning files.old) (F.meaning files.new) }
     ensures cause { result.status ≡ Status.WriteFault → Rose (F.write_faults files.old) (F.write_faults files.new) }
     ensures read { (result.status ≡ Status.ReadFault → ⊥) × (result.status ≡ Status.Words → ⊥) }
+    ensures placed { IsPlaced result.status }
     ensures other { F.read_faults files.new ≡ F.read_faults files.old }
 {
     gathered_may_be_planned();
-    match gather(alloc, input, stream) {
-        Ok(blocks) => write_blocks(crew, alloc, files, stream, &blocks, to, options, planners),
-        Err(fault) => refused_by(alloc, fault),
-    }
-}
-
-/// A rule that is violated, or a limit that is passed, in the headers or the tile data.
-fn refused_by(alloc: Global, fault: StreamFault) -> Ending
-    ensures status { result.status ≡ told_by fault }
-    ensures none { (result.blocks ≡ 0) × (result.bytes ≡ 0) }
-    ensures tape { result.tape.items ≡ [] }
-{
-    match fault {
-        StreamFault::Rule { number, place } => Ending::refused(
-            alloc,
-            Status::Rule { number, place },
-        ),
-        StreamFault::Limit { number, found } => Ending::refused(
-            alloc,
-            Status::Limit { number, found },
-        ),
-        StreamFault::NoMemory => Ending::refused(alloc, Status::NoMemory),
-    }
+    plans_write_these_blocks();
+    rewritten_is_read();
+    one_output();
+    let blocks = match gather(alloc, input, stream) {
+        Ok(blocks) => blocks,
+        Err(fault) => return refused_by(alloc, fault),
+    };
+    let read: &[Block<'_>] = &blocks;
+    let plan = match plan_served(alloc, stream, shortened(read), options, planners) {
+        Ok(plan) => plan,
+        Err(fault) => return unplanned_by(alloc, fault, read.len() as u32),
+    };
+    let count = plan.jobs().len() as u32;
+    let mut tape = Vec::new(alloc);
+    crew.gate.begin(count);
+    let written = write_file(crew, alloc, files, to, &plan, &mut tape);
+    crew.gate.end();
+    ending_of(written, count, tape)
 }
 
 /// What becomes of the bytes that were read, at most `MOST`.
@@ -223,6 +201,7 @@ pub fn answer<R: Threads + Wait + Sync, G: Gate + Sync, F: Files>(
     ensures long { most_bytes < length input.now → result.tape.items ≡ [] }
     ensures cause { result.status ≡ Status.WriteFault → Rose (F.write_faults files.old) (F.write_faults files.new) }
     ensures read { (result.status ≡ Status.ReadFault → ⊥) × (result.status ≡ Status.Words → ⊥) }
+    ensures placed { IsPlaced result.status }
     ensures other { F.read_faults files.new ≡ F.read_faults files.old }
 {
     if input.len() >= MOST {

@@ -10,7 +10,7 @@ pub enum Status {
     /// The words are no command.
     Words,
     /// The input violates a rule: its number, and the place of the byte.
-    Rule { number: u8, place: u32 },
+    Rule { number: u8, place: u64 },
     /// A limit was passed: its number, and what was counted.
     Limit { number: u8, found: u128 },
     /// The output can't be had: the number of the choice, and the block or tile.

@@ -1,5 +1,12 @@
+use Rattle.jx_cli.proofs.BoxesLemmas.{make_apart, transcode_apart}
 use Rattle.jx_cli.proofs.MakeLemmas.{apart}
 use Rattle.jx_cli.proofs.laws.commands_are_apart.Goals as goal
 
-pub returns : goal.returns
-returns c = λ words good. apart words good
+pub returns-clause-make : goal.returns-clause-make
+returns-clause-make c = λ words good. apart words good
+
+pub returns-clause-boxes : goal.returns-clause-boxes
+returns-clause-boxes c = λ words good. transcode_apart words good
+
+pub returns-clause-others : goal.returns-clause-others
+returns-clause-others c = λ words good. make_apart words good

@@ -1,6 +1,6 @@
 use Rattle.std.proofs.Common.{◌≡◌, ◌∙◌, ℕ, List, Some}
 use Rattle.std.proofs.lemmas.Result.{IfOk-weaker}
-use Rattle.jx_codeblock.specs.Recoding.{parts_after, sent_in}
+use Rattle.jx_codeblock.specs.Recoding.{layer_parts_after, sent_in}
 use Rattle.jx_codeblock.specs.Tables.{at_place}
 use Rattle.jx_codeblock.proofs.NewParts.{last_most, looks_parts}
 use Rattle.jx_codeblock.proofs.anew.parts_by_looks.Goals as goal
@@ -13,7 +13,7 @@ returns c =
     let b = c.args.block.now in
     let style = c.args.style in
     let ss : List (List ℕ) = c.args.segments in
-    IfOk-weaker c.all_parts.result (λ parts. parts.items ≡ parts_after style.bits (at_place c.deref.result.now) 0 c.args.ends.now)
-    (λ parts. parts.items ≡ parts_after style.bits (sent_in b (Some style) c.args.ends.now ss) 0 c.args.ends.now)
+    IfOk-weaker c.all_parts.result (λ parts. parts.items ≡ layer_parts_after style.bits (at_place c.deref.result.now) 0 c.args.ends.now)
+    (λ parts. parts.items ≡ layer_parts_after style.bits (sent_in b (Some style) c.args.ends.now ss) 0 c.args.ends.now)
     (λ parts e. e ∙ looks_parts b style c.last_within-last.result c.args.ends.now ss c.deref.result.now c.requires.ends c.last_within-last.ensures (c.deref.ensures.value ∙ c.in_ok-table.ensures))
     c.all_parts.ensures

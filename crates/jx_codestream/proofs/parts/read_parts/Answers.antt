@@ -1,7 +1,7 @@
 use Rattle.std.proofs.Common.{◌≡◌, ◌∙◌, ◌<◌, arith, sym, length, None, false}
 use Rattle.std.proofs.lemmas.Result.{err_from_is_err_and}
 use Rattle.std.proofs.lemmas.List.Elements.{All-push}
-use Rattle.jx_codestream.specs.declared.parts.Part.{Part}
+use Rattle.jx_codestream.specs.declared.parts.PlacedPart.{PlacedPart}
 use Rattle.jx_codestream.specs.Parts.{fault_after, marker_at, part_fault, tables_say, sot_in}
 use Rattle.jx_codestream.proofs.FaultLemmas.{cause_same}
 use Rattle.jx_codestream.proofs.PartLemmas.{parts_end, parts_refused, parts_more, turn_at, tracks_more}
@@ -35,6 +35,6 @@ parts-preserved c =
           (omega (arith, c.in_ok-part.ensures.within.0, c.in_ok-part.ensures.within.1)) goes clear c.in_ok-part.ensures.answer.1 c.in_ok-push.ensures.items c.end_of_part-place.ensures;
       tracks = tracks_more c.args.comps (length c.args.counts.now) c.args.bytes.now c.parts.parts.items c.push.new.self.items c.in_ok-part.part c.parts.place c.parts.counts c.parts.told c.count_part.new.counts c.count_part.new.told clear
           c.in_ok-part.ensures.answer.1 c.in_ok-part.ensures.tile sizes c.in_ok-push.ensures.items c.count_part.ensures.counts c.count_part.ensures.told c.parts.invariant.tracks;
-      tiles = rw c.in_ok-push.ensures.items (All-push (λ (part : Part). part.sot.tile < length c.args.counts.now) c.parts.parts.items c.in_ok-part.part c.parts.invariant.tiles (omega (arith, c.in_ok-part.ensures.tile, c.parts.auto.counts)));
+      tiles = rw c.in_ok-push.ensures.items (All-push (λ (part : PlacedPart). part.sot.tile < length c.args.counts.now) c.parts.parts.items c.in_ok-part.part c.parts.invariant.tiles (omega (arith, c.in_ok-part.ensures.tile, c.parts.auto.counts)));
       fresh = λ slot. rw c.end_of_part-place.ensures (c.in_ok-part.ensures.fresh slot);
     }

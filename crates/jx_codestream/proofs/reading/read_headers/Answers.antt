@@ -1,6 +1,6 @@
 use Rattle.std.proofs.Common.{◌≡◌, ◌<◌, subst, length, ℕ, arith, IfOk}
 use Rattle.std.specs.List.{All}
-use Rattle.jx_codestream.specs.declared.parts.Part.{Part}
+use Rattle.jx_codestream.specs.declared.parts.PlacedPart.{PlacedPart}
 use Rattle.jx_codestream.specs.Faults.{Answers}
 use Rattle.jx_codestream.specs.First.{body_fault, main_header, parts_after}
 use Rattle.jx_codestream.proofs.reading.read_headers.Goals as goal
@@ -15,5 +15,5 @@ returns-clause-answer c =
 pub returns-clause-tiles : goal.returns-clause-tiles
 returns-clause-tiles c =
     let size : length c.deref_mut-2.result.now ≡ c.args.count = omega (arith, c.deref_mut-2.ensures.len, c.in_ok-counts.ensures.len) in
-    let P : ℕ → Type 0 = λ n. IfOk c.read_body.result (λ r. All (λ (part : Part). part.sot.tile < n) r.1.items) in
+    let P : ℕ → Type 0 = λ n. IfOk c.read_body.result (λ r. All (λ (part : PlacedPart). part.sot.tile < n) r.1.items) in
     subst P size c.read_body.ensures.tiles

@@ -1,4 +1,4 @@
-use Rattle.std.proofs.Common.{◌≡◌, ◌+◌, ◌++◌, ◌∷◌, [], ◌∙◌, List, ap, arith, get_or, length, refl, sym}
+use Rattle.std.proofs.Common.{◌≡◌, ◌+◌, ◌++◌, ◌∷◌, ◌-◌, inr, [], ◌∙◌, List, ap, arith, get_or, length, refl, sym}
 use Rattle.jx_base.specs.Joined.{joined}
 use Rattle.jx_base.proofs.Joined.{joined_none, makes_next}
 use Rattle.jx_geom.specs.declared.table.Resolution.{Resolution}
@@ -13,6 +13,7 @@ loop-comp-init c = record {
   places = c.in_ok-places.ensures.items ∙ sym (joined_none (one_place c.args.tile c.args.comps.now) 0 0 (omega arith));
   list = c.new-list.ensures.items ∙ sym (joined_none (component_resolutions c.args.tile c.args.comps.now) 0 0 (omega arith));
   precincts = refl;
+  none = λ lt. absurd (omega (arith, lt));
   blocks = refl;
 }
 
@@ -25,6 +26,7 @@ loop-comp-preserved c = record {
       c.loop-comp.invariant.list
       (component_is c.args.tile c.args.comps.now c.loop-comp.comp c.loop-comp.before.precincts c.loop-comp.before.blocks
       c.loop-comp.list.items c.push_component.new.list.items c.loop-comp.invariant.precincts c.loop-comp.invariant.blocks c.in_ok-before.ensures.list);
+  none = λ lt. rw (let e : (c.loop-comp.comp + 1) - 1 ≡ c.loop-comp.comp = omega arith in e) c.is_empty_after-none.ensures;
   precincts = c.in_ok-before.ensures.precincts ∙ (ap (λ n. n + component_precincts c.args.tile (get_or c.args.comps.now c.loop-comp.comp no_shape)) c.loop-comp.invariant.precincts
       ∙ sym (precincts_more c.args.tile c.args.comps.now c.loop-comp.comp c.loop-comp-test.true));
   blocks = c.in_ok-before.ensures.blocks ∙ (ap (λ n. n + component_blocks c.args.tile (get_or c.args.comps.now c.loop-comp.comp no_shape)) c.loop-comp.invariant.blocks
@@ -35,7 +37,7 @@ pub returns-clause-places : goal.returns-clause-places
 unfolding all_places
 returns-clause-places c =
     let all : c.loop-comp.comp ≡ length c.args.comps.now = omega (arith, c.loop-comp-test.false, c.loop-comp.auto.comp-end) in
-    c.loop-comp.invariant.places ∙ ap (λ n. joined (one_place c.args.tile c.args.comps.now) 0 n) all
+    inr (c.loop-comp.invariant.places ∙ ap (λ n. joined (one_place c.args.tile c.args.comps.now) 0 n) all)
 
 pub returns-clause-list : goal.returns-clause-list
 unfolding all_resolutions

@@ -12,7 +12,7 @@ pub loop-end-preserved : goal.loop-end-preserved
 loop-end-preserved c =
     let begun : c.args.start ≤ c.loop-end.end = c.loop-end.invariant.0 in
     let lt : c.loop-end.end < length c.args.parts.now = c.loop-end-test.true in
-    let le : (get_or c.args.parts.now c.loop-end.end no_part).0 ≤ c.args.layer = c.if-parts-end.true in
+    let le : (get_or c.args.parts.now c.loop-end.end no_part).layer ≤ c.args.layer = c.if-parts-end.true in
     (omega arith, omega arith, cursor_next (c.args.layer + 1) c.loop-end.end c.args.parts.now c.loop-end.invariant.2 lt (omega arith))
 
 pub returns-else-parts-end-clause-none : goal.returns-else-parts-end-clause-none

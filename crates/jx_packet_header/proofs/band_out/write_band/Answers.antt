@@ -1,6 +1,6 @@
 use Rattle.std.proofs.Common.{◌≡◌, ◌<◌, ◌+◌, ◌-◌, ◌∙◌, ℕ, List, map, length, get_or, set, take, drop, sym, ap, subst, arith}
 use Rattle.std.proofs.lemmas.List.{length-map}
-use Rattle.jx_packet_header.specs.declared.Part.{Part}
+use Rattle.jx_packet_header.specs.declared.LeafPart.{LeafPart}
 use Rattle.jx_packet_header.specs.Written.{Leafed}
 use Rattle.jx_packet_header.specs.Leafs.{leaf_of}
 use Rattle.jx_packet_header.specs.Writable.{IsCursor, IsRising, leaf_at}
@@ -19,14 +19,14 @@ pub next_run-start-requires-clause-cursor : goal.next_run-start-requires-clause-
 next_run-start-requires-clause-cursor c =
     let inside : c.loop-leaf.leaf < length c.args.leaves.now = c.loop-leaf-test.true in
     let is : leaf_at (map leaf_of c.args.leaves.now) c.loop-leaf.leaf ≡ leaf_of c.index-leaves-leaf.result = leaf_is c.args.leaves.now c.loop-leaf.leaf c.index-leaves-leaf.result inside c.index-leaves-leaf.is in
-    subst (λ (l : List (ℕ × Part)). IsCursor c.args.layer (get_or c.loop-leaf.band.cursors c.loop-leaf.leaf 0) l) (ap (λ (x : Leafed). x.parts) is ∙ sym c.deref.ensures.value)
+    subst (λ (l : List LeafPart). IsCursor c.args.layer (get_or c.loop-leaf.band.cursors c.loop-leaf.leaf 0) l) (ap (λ (x : Leafed). x.parts) is ∙ sym c.deref.ensures.value)
     (c.loop-leaf.invariant.partly.due c.loop-leaf.leaf (omega arith)).cursor_is
 
 pub next_run-start-requires-clause-rising : goal.next_run-start-requires-clause-rising
 next_run-start-requires-clause-rising c = λ r.
     (let inside : c.loop-leaf.leaf < length c.args.leaves.now = c.loop-leaf-test.true in
     let is : leaf_at (map leaf_of c.args.leaves.now) c.loop-leaf.leaf ≡ leaf_of c.index-leaves-leaf.result = leaf_is c.args.leaves.now c.loop-leaf.leaf c.index-leaves-leaf.result inside c.index-leaves-leaf.is in
-    subst (λ (l : List (ℕ × Part)). IsRising 0 l) (ap (λ (x : Leafed). x.parts) is ∙ sym c.deref.ensures.value)
+    subst (λ (l : List LeafPart). IsRising 0 l) (ap (λ (x : Leafed). x.parts) is ∙ sym c.deref.ensures.value)
     (rising_at c.loop-leaf.leaf (map leaf_of c.args.leaves.now) (c.requires.rising r)))
 
 pub write_block-requires-clause-zero : goal.write_block-requires-clause-zero
@@ -59,7 +59,7 @@ loop-leaf-preserved c =
     loop_run c.args.layer c.loop-leaf.leaf c.next_run-start.ensures.moved.0 (map leaf_of c.args.leaves.now) c.args.band.now c.loop-leaf.band c.next_run-start.new.band c.write_block.new.band
     c.args.bits.now c.loop-leaf.bits c.write_block.new.bits (leaf_of c.index-leaves-leaf.result) parts c.loop-leaf.invariant inside'
     (leaf_is c.args.leaves.now c.loop-leaf.leaf c.index-leaves-leaf.result inside c.index-leaves-leaf.is) c.next_run-start.ensures.moved.2
-    (subst (λ (l : List (ℕ × Part)). IsCursor (c.args.layer + 1) c.next_run-start.ensures.moved.0 l) c.deref.ensures.value c.next_run-start.ensures.moved.1)
+    (subst (λ (l : List LeafPart). IsCursor (c.args.layer + 1) c.next_run-start.ensures.moved.0 l) c.deref.ensures.value c.next_run-start.ensures.moved.1)
     (run_same c.args.layer c.next_run-start.result.0 (c.next_run-start.result.1 - c.next_run-start.result.0) c.deref.result.now c.deref-in-loop-leaf.result.now c.index-leaves-leaf.result.parts.items
     c.deref.ensures.value c.deref-in-loop-leaf.ensures.value c.next_run-start.ensures.run)
     c.in_ok-write_block.ensures.bits c.in_ok-write_block.ensures.after c.in_ok-write_block.ensures.first c.in_ok-write_block.ensures.zeros c.in_ok-write_block.ensures.cursors

@@ -1,6 +1,5 @@
-use Rattle.std.proofs.lemmas.Result.{IfErr-weaker, IfOk-weaker}
 use Rattle.jx_rounds.specs.MadeRounds.{parts_of}
-use Rattle.jx_rounds.proofs.WriteLemmas.{cut_none, cut_round, round_written, unmade_unwritten}
+use Rattle.jx_rounds.proofs.WriteLemmas.{cut_none, cut_round, round_written, same_err, unmade_unwritten}
 use Rattle.jx_rounds.proofs.write.write_round.Goals as goal
 
 pub returns-in_default-clause-err : goal.returns-in_default-clause-err
@@ -9,23 +8,40 @@ returns-in_default-clause-err g c = cut_none c.args.making.now c.args.mark.tile 
 pub returns-in-Err-clause-err : goal.returns-in-Err-clause-err
 returns-in-Err-clause-err g c = unmade_unwritten c.args.making.now c.args.mark.tile c.in-Err.halt (g.W.ByteWriter.written c.args.writer.now) c.requires.tile c.requires.begins c.in-Err.ensures.unmade
 
-pub returns-clause-ok : goal.returns-clause-ok
-returns-clause-ok g c = IfOk-weaker c.put_round.result _ _ (λ next is. rw is.0 (round_written c.args.making.now c.args.mark.tile c.in-Ok.round.extent.tile c.args.mark.bytes next.bytes (parts_of c.in-Ok-packed_tiles.tiles.items) _ _
-    c.in-Ok-packed_tiles.ensures.parts (rw c.deref-2.ensures.value at is.3) (rw c.deref-2.ensures.value at is.2))) c.put_round.ensures.ok
+pub returns-in_default-mark_after-clause-err : goal.returns-in_default-mark_after-clause-err
+returns-in_default-mark_after-clause-err g c = cut_none c.args.making.now c.args.mark.tile (g.W.ByteWriter.written c.args.writer.now) c.requires.tile c.requires.begins
 
-pub returns-clause-later : goal.returns-clause-later
-returns-clause-later g c = IfOk-weaker c.put_round.result _ _ (λ next is. rw is.0 c.in-Ok.ensures.later) c.put_round.ensures.ok
+pub returns-in_default-mark_after-clause-kept : goal.returns-in_default-mark_after-clause-kept
+returns-in_default-mark_after-clause-kept g c = c.mark_after.ensures.kept
 
-pub returns-clause-place : goal.returns-clause-place
-returns-clause-place g c = IfOk-weaker c.put_round.result _ _ (λ next is. rw (is.0, is.1) c.in-Ok.ensures.place) c.put_round.ensures.ok
+pub returns-in-Ok-put_tiles-clause-ok : goal.returns-in-Ok-put_tiles-clause-ok
+returns-in-Ok-put_tiles-clause-ok g c = rw c.in-Some.ensures.next.0 (round_written c.args.making.now c.args.mark.tile c.in-Ok.round.extent.tile c.args.mark.bytes c.in-Some.next.bytes (parts_of c.in-Ok-packed_tiles.tiles.items) _ _
+    c.in-Ok-packed_tiles.ensures.parts (rw c.deref-3.ensures.value at c.in-Ok-put_tiles.ensures.ok) (rw c.deref-2.ensures.value at c.in-Some.ensures.next.2))
 
-pub returns-clause-ends : goal.returns-clause-ends
-returns-clause-ends g c = IfOk-weaker c.put_round.result _ _ (λ next is. rw is.0 c.in-Ok.ensures.ends) c.put_round.ensures.ok
+pub returns-in-Ok-put_tiles-clause-later : goal.returns-in-Ok-put_tiles-clause-later
+returns-in-Ok-put_tiles-clause-later g c = rw c.in-Some.ensures.next.0 c.in-Ok.ensures.later
 
-pub returns-clause-tape : goal.returns-clause-tape
-returns-clause-tape g c = IfOk-weaker c.put_round.result _ _ (λ next is. rw (is.1, is.4) (c.in-Ok.ensures.tape _ c.requires.tape)) c.put_round.ensures.ok
+pub returns-in-Ok-put_tiles-clause-place : goal.returns-in-Ok-put_tiles-clause-place
+returns-in-Ok-put_tiles-clause-place g c = rw (c.in-Some.ensures.next.0, c.in-Some.ensures.next.1) c.in-Ok.ensures.place
+
+pub returns-in-Ok-put_tiles-clause-ends : goal.returns-in-Ok-put_tiles-clause-ends
+returns-in-Ok-put_tiles-clause-ends g c = rw c.in-Some.ensures.next.0 c.in-Ok.ensures.ends
+
+pub returns-in-Ok-put_tiles-clause-tape : goal.returns-in-Ok-put_tiles-clause-tape
+returns-in-Ok-put_tiles-clause-tape g c = rw (c.in-Some.ensures.next.1, c.put_entries.ensures, c.mark_after.ensures.kept, c.deref-in-Ok-put_tiles.ensures.value) (c.in-Ok.ensures.tape _ c.requires.tape)
+
+pub returns-in-Ok-put_tiles-clause-other : goal.returns-in-Ok-put_tiles-clause-other
+returns-in-Ok-put_tiles-clause-other g c = c.put_tiles.ensures.other
 
 pub returns-clause-err : goal.returns-clause-err
-returns-clause-err g c = IfErr-weaker c.put_round.result _ _ (λ h fault.
-    cut_round c.args.making.now c.args.mark.tile c.in-Ok.round.extent.tile c.in-Ok.round.extent.block (parts_of c.in-Ok-packed_tiles.tiles.items) h _ _ c.in-Ok.ensures.place
-    c.in-Ok.ensures.ends c.in-Ok-packed_tiles.ensures.parts fault (rw c.deref-2.ensures.value at c.put_round.ensures.front)) c.put_round.ensures.fault
+returns-clause-err g c = cut_round c.args.making.now c.args.mark.tile c.in-Ok.round.extent.tile c.in-Ok.round.extent.block (parts_of c.in-Ok-packed_tiles.tiles.items) c.in-Err-put_tiles.halt _ _ c.in-Ok.ensures.place
+    c.in-Ok.ensures.ends c.in-Ok-packed_tiles.ensures.parts c.in-Err-put_tiles.ensures.fault (rw c.deref-3.ensures.value at c.put_tiles.ensures.front)
+
+pub returns-clause-kept : goal.returns-clause-kept
+returns-clause-kept g c = c.mark_after.ensures.kept
+
+pub returns-clause-cause : goal.returns-clause-cause
+returns-clause-cause g c = λ failed. c.in-Err-put_tiles.ensures.cause (same_err _ _ failed)
+
+pub returns-clause-other : goal.returns-clause-other
+returns-clause-other g c = c.put_tiles.ensures.other

@@ -2,8 +2,8 @@ use Rattle.std.proofs.Common.{◌≡◌, ◌<◌, ◌+◌, ◌∙◌, ℕ, List,
 use Rattle.jx_codestream.specs.Shapes.{layers_of}
 use Rattle.jx_tier2_writer.specs.Own.{own_header}
 use Rattle.jx_tier2_writer.specs.Packed.{marks_length, own_body, own_packet}
-use Rattle.jx_tier2_writer.specs.Sent.{AreSent, row_at, row_bytes}
-use Rattle.jx_tier2_writer.specs.declared.sent.Sent.{Sent}
+use Rattle.jx_tier2_writer.specs.BlockParts.{AreBlockParts, row_at, row_bytes}
+use Rattle.jx_tier2_writer.specs.declared.block_parts.BlockPart.{BlockPart}
 use Rattle.jx_tier2_writer.proofs.PacketLemmas.{packet_long, row_of, rows_count}
 use Rattle.jx_tier2_writer.proofs.packets.packet_length.Goals as goal
 
@@ -32,8 +32,8 @@ returns-clause-value g c =
     let sent : c.row-2.result.now ≡ row_at c.sending_at-sending.result.now.sent l =
     c.row-2.ensures ∙ ap (λ (n : ℕ). row_at c.sending_at-sending.result.now.sent n) c.from-layer.ensures in
     let body : row_bytes datas c.row-2.result.now ≡ own_body geom own p =
-    ap (λ (xs : List Sent). row_bytes datas xs) sent ∙ c.sending_at-sending.ensures.bytes l c.requires.there.layer in
-    let inside : AreSent datas c.row-2.result.now = subst (AreSent datas) (sym sent) (c.sending_at-sending.ensures.sent l) in
+    ap (λ (xs : List BlockPart). row_bytes datas xs) sent ∙ c.sending_at-sending.ensures.bytes l c.requires.there.layer in
+    let inside : AreBlockParts datas c.row-2.result.now = subst (AreBlockParts datas) (sym sent) (c.sending_at-sending.ensures.sent l) in
     let long : c.body_length-body.result ≡ length (own_body geom own p) = c.body_length-body.ensures.value datas inside ∙ ap (λ (xs : List ℕ). length xs) body in
     let front : length c.row.result.now ≡ length (own_header s geom own p.comp p.res p.precinct l) = ap (λ (xs : List ℕ). length xs) header in
     ap (λ (n : ℕ). n + length c.row.result.now + c.body_length-body.result) c.marks_length.ensures.value

@@ -1,5 +1,5 @@
 use Rattle.std.proofs.Common.{◌≡◌, ◌++◌, drop, map}
-use Rattle.jx_tier2_writer.specs.Sent.{row_bytes}
+use Rattle.jx_tier2_writer.specs.BlockParts.{row_bytes}
 use Rattle.jx_tier2_writer.proofs.packets.put_body.Given as goal
 
 abbrev pub invariant-loop-sent : goal.invariant-loop-sent

@@ -2,8 +2,8 @@ use Rattle.std.proofs.Common.{◌≡◌, ◌<◌, ◌++◌, ◌∙◌, ℕ, List
 use Rattle.jx_codestream.specs.Shapes.{layers_of}
 use Rattle.jx_tier2_writer.specs.Own.{own_header}
 use Rattle.jx_tier2_writer.specs.Packed.{eph_of, own_body, sop_of}
-use Rattle.jx_tier2_writer.specs.Sent.{row_at, row_bytes}
-use Rattle.jx_tier2_writer.specs.declared.sent.Sent.{Sent}
+use Rattle.jx_tier2_writer.specs.BlockParts.{row_at, row_bytes}
+use Rattle.jx_tier2_writer.specs.declared.block_parts.BlockPart.{BlockPart}
 use Rattle.jx_tier2_writer.proofs.PacketLemmas.{four_put, row_of, rows_count}
 use Rattle.jx_tier2_writer.proofs.packets.put_packet.Goals as goal
 
@@ -32,7 +32,7 @@ returns g c =
     let sent : c.row-2.result.now ≡ row_at c.sending_at-sending.result.now.sent l =
     c.row-2.ensures ∙ ap (λ (n : ℕ). row_at c.sending_at-sending.result.now.sent n) c.from-layer.ensures in
     let body : row_bytes datas c.row-2.result.now ≡ own_body geom own p =
-    ap (λ (xs : List Sent). row_bytes datas xs) sent ∙ c.sending_at-sending.ensures.bytes l c.requires.there.layer in
+    ap (λ (xs : List BlockPart). row_bytes datas xs) sent ∙ c.sending_at-sending.ensures.bytes l c.requires.there.layer in
     four_put c.args.out.now.items c.put_sop.new.out.items c.extend_from_slice.new.self.items c.put_eph.new.out.items c.put_body.new.out.items
     (sop_of c.args.marks.sop c.args.number) (own_header s geom own p.comp p.res p.precinct l) (eph_of c.args.marks.eph) (own_body geom own p)
     c.in_ok-put_sop.ensures (c.in_ok-extend_from_slice.ensures.items ∙ ap (λ (xs : List ℕ). c.put_sop.new.out.items ++ xs) header)

@@ -1,5 +1,5 @@
 use Rattle.std.proofs.Common.{◌≡◌, ℕ, [], length}
-use Rattle.jx_tier2_writer.specs.Sent.{row_at, rows_of}
+use Rattle.jx_tier2_writer.specs.BlockParts.{row_at, rows_of}
 use Rattle.jx_tier2_writer.proofs.sending.empty_rows.Given as goal
 
 abbrev pub invariant-loop : goal.invariant-loop

@@ -1,5 +1,5 @@
 use Rattle.std.proofs.Common.{◌≡◌, ◌++◌, drop}
-use Rattle.jx_tier2_writer.specs.Sent.{rows_of}
+use Rattle.jx_tier2_writer.specs.BlockParts.{rows_of}
 use Rattle.jx_tier2_writer.proofs.sending.flat_rows.Given as goal
 
 abbrev pub invariant-loop-row : goal.invariant-loop-row

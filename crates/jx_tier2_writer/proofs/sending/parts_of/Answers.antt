@@ -6,7 +6,7 @@ use Rattle.jx_geom.specs.Precincts.{leaf_number, leaves}
 use Rattle.jx_tier2_reader.specs.Carries.{pieces_of}
 use Rattle.jx_tier2_writer.specs.Coded.{HasLayers}
 use Rattle.jx_tier2_writer.specs.Own.{leaf_bytes}
-use Rattle.jx_tier2_writer.specs.Sent.{layer_bytes, row_at, row_bytes, rows_of}
+use Rattle.jx_tier2_writer.specs.BlockParts.{layer_bytes, row_at, row_bytes, rows_of}
 use Rattle.jx_tier2_writer.proofs.SendingLemmas.{bytes_next, none_sent}
 use Rattle.jx_tier2_writer.proofs.sending.parts_of.Goals as goal
 

@@ -14,8 +14,8 @@ use Rattle.jx_geom.proofs.LeafLemmas.{leaves_limited}
 use Rattle.jx_geom.specs.Precincts.{leaf_number}
 use Rattle.std.specs.Global.{Vec}
 use Rattle.jx_tile.proofs.BandLemmas.{bands_are}
-use Rattle.jx_tier2_writer.specs.Sent.{rows_of}
-use Rattle.jx_tier2_writer.specs.declared.sent.Sent.{Sent}
+use Rattle.jx_tier2_writer.specs.BlockParts.{rows_of}
+use Rattle.jx_tier2_writer.specs.declared.block_parts.BlockPart.{BlockPart}
 use Rattle.jx_tier2_writer.proofs.OwnLemmas.{headers_are, own_has, own_in_range, sent_are}
 use Rattle.jx_tier2_writer.proofs.sending.written_sending.Goals as goal
 
@@ -58,4 +58,4 @@ returns g c =
     sent_are s c.args.geom.now own (map g.B.Coded.bytes c.args.values.now) c.args.comp c.args.res c.args.precinct c.layers-layers.result c.in_ok-headers.headers c.in_ok-rows.rows.items c.in_ok-sent.sent layers
     (headers_are s c.args.geom.now own c.args.comp c.args.res c.args.precinct c.layers-layers.result c.style-style.result.bits c.deref.result.now (map leaf_of c.in_ok-leaves.leaves.items) c.in_ok-out.out
     c.in_ok-headers.headers layers style (c.deref.ensures.value ∙ (c.in_ok-cells.ensures ∙ bands_are c.args.stream.now c.args.view.now c.args.geom.now c.args.comp c.args.res c.args.precinct c.requires.tile.view)) c.in_ok-leaves.ensures c.in_ok-out.ensures c.in_ok-headers.ensures)
-    (c.in_ok-sent.ensures ∙ ap (λ (xs : List (Vec Sent)). rows_of xs) c.deref-2.ensures.value) c.in_ok-rows.ensures.long c.in_ok-rows.ensures.bytes c.in_ok-rows.ensures.sent
+    (c.in_ok-sent.ensures ∙ ap (λ (xs : List (Vec BlockPart)). rows_of xs) c.deref-2.ensures.value) c.in_ok-rows.ensures.long c.in_ok-rows.ensures.bytes c.in_ok-rows.ensures.sent

@@ -1,8 +1,19 @@
-use Rattle.std.proofs.lemmas.Result.{IfErr-weaker, IfOk-weaker}
+use Rattle.std.proofs.Common.{◌∙◌, IsTrue, ap, subst, sym}
+use Rattle.jx_rounds.specs.FileBytes.{Device}
 use Rattle.jx_rounds.proofs.TapedLemmas.{tape_none}
 use Rattle.jx_rounds.proofs.WriteLemmas.{halt_fault, refused_cause, unrisen}
-use Rattle.jx_transcode.proofs.FiledLemmas.{file_uncreated, nothing_begun}
+use Rattle.jx_transcode.proofs.FiledLemmas.{created_making, file_halted, file_made, file_uncreated, file_unfinished, nothing_begun}
 use Rattle.jx_transcode.proofs.file.write_file.Goals as goal
+
+pub write_codestream-requires-clause-may : goal.write_codestream-requires-clause-may
+write_codestream-requires-clause-may g c = λ lifetimes within. created_making c.args.to.now (g.F.Files.meaning c.args.files.now) (g.F.Files.meaning c.create.new.self) c.in-Ok-create.ensures.ok
+
+pub write_codestream-requires-clause-header : goal.write_codestream-requires-clause-header
+write_codestream-requires-clause-header g c = λ lifetimes within. rw (c.new-making.ensures, c.deref.ensures.value) c.in-Ok.ensures
+
+pub finish-requires : goal.finish-requires
+finish-requires g c = subst (λ (d : Device). IsTrue d.told.making) (sym c.write_codestream.ensures.other)
+    (created_making c.args.to.now (g.F.Files.meaning c.args.files.now) (g.F.Files.meaning c.create.new.self) c.in-Ok-create.ensures.ok)
 
 pub returns-in_default-clause-err : goal.returns-in_default-clause-err
 returns-in_default-clause-err g c = nothing_begun c.args.plan.now c.args.to.now (g.F.Files.meaning c.args.files.now)
@@ -22,26 +33,57 @@ returns-in_default-with_capacity-clause-err g c = nothing_begun c.args.plan.now 
 pub returns-in_default-with_capacity-clause-tape : goal.returns-in_default-with_capacity-clause-tape
 returns-in_default-with_capacity-clause-tape g c = rw c.requires.empty (tape_none c.args.crew.now.work c.args.plan.now.blocks)
 
-pub returns-in-Ok-create-clause-ok : goal.returns-in-Ok-create-clause-ok
-returns-in-Ok-create-clause-ok g c = IfOk-weaker c.write_created.result _ _ (λ bytes made. rw c.new-making.ensures at (made c.args.to.now (g.F.Files.meaning c.args.files.now) c.in-Ok-create.ensures.ok)) c.write_created.ensures.ok
+pub returns-in-Err-clause-err : goal.returns-in-Err-clause-err
+returns-in-Err-clause-err g c = file_uncreated c.args.plan.now c.args.to.now c.halt_of.result (g.F.Files.meaning c.args.files.now) (g.F.Files.meaning c.create.new.self) (halt_fault c.halt_of.result c.in-Err.refused c.halt_of.ensures) c.in-Err.ensures.err
 
-pub returns-in-Ok-create-clause-err : goal.returns-in-Ok-create-clause-err
-returns-in-Ok-create-clause-err g c = IfErr-weaker c.write_created.result _ _ (λ h halted. rw c.new-making.ensures at (halted c.args.to.now (g.F.Files.meaning c.args.files.now) c.in-Ok-create.ensures.ok)) c.write_created.ensures.err
+pub returns-in-Err-clause-tape : goal.returns-in-Err-clause-tape
+returns-in-Err-clause-tape g c = rw c.requires.empty (tape_none c.args.crew.now.work c.args.plan.now.blocks)
 
-pub returns-in-Ok-create-clause-tape : goal.returns-in-Ok-create-clause-tape
-returns-in-Ok-create-clause-tape g c = rw c.new-making.ensures at c.write_created.ensures.tape
+pub returns-in-Err-clause-cause : goal.returns-in-Err-clause-cause
+returns-in-Err-clause-cause g c = refused_cause _ _ c.halt_of.result c.in-Err.refused c.halt_of.ensures c.in-Err.ensures.cause
 
-pub returns-in-Ok-create-clause-whole : goal.returns-in-Ok-create-clause-whole
-returns-in-Ok-create-clause-whole g c = rw c.new-making.ensures at c.write_created.ensures.whole
+pub returns-in-Err-clause-other : goal.returns-in-Err-clause-other
+returns-in-Err-clause-other g c = c.create.ensures.other
 
-pub returns-in-Ok-create-clause-cause : goal.returns-in-Ok-create-clause-cause
-returns-in-Ok-create-clause-cause g c = rw (← unrisen _ _ _ c.in-Ok-create.ensures.cause) c.write_created.ensures.cause
+pub returns-in-Ok-finish-clause-ok : goal.returns-in-Ok-finish-clause-ok
+returns-in-Ok-finish-clause-ok g c =
+    file_made c.args.plan.now c.args.to.now c.in-Ok-write_codestream.bytes (g.F.Files.meaning c.args.files.now) (g.F.Files.meaning c.create.new.self) (g.F.Files.meaning c.write_codestream.new.writer)
+    (g.F.Files.meaning c.finish.new.self) c.in-Ok-create.ensures.ok (rw c.new-making.ensures at c.in-Ok-write_codestream.ensures.ok) (ap (λ (d : Device). d.told) c.write_codestream.ensures.other) c.in-Ok-finish.ensures.ok
+
+pub returns-in-Ok-finish-clause-tape : goal.returns-in-Ok-finish-clause-tape
+returns-in-Ok-finish-clause-tape g c = rw c.new-making.ensures at c.write_codestream.ensures.tape
+
+pub returns-in-Ok-finish-clause-whole : goal.returns-in-Ok-finish-clause-whole
+returns-in-Ok-finish-clause-whole g c = rw c.new-making.ensures at c.in-Ok-write_codestream.ensures.whole
+
+pub returns-in-Ok-finish-clause-other : goal.returns-in-Ok-finish-clause-other
+returns-in-Ok-finish-clause-other g c = c.finish.ensures.other ∙ ap (λ (d : Device). d.read_faults) c.write_codestream.ensures.other ∙ c.create.ensures.other
+
+pub returns-in-Ok-write_codestream-clause-err : goal.returns-in-Ok-write_codestream-clause-err
+returns-in-Ok-write_codestream-clause-err g c = rw c.in-Err-finish.ensures.err
+    (file_unfinished c.args.plan.now c.args.to.now c.in-Ok-write_codestream.bytes c.halt_of-in-Err-finish.result c.in-Err-finish.refused (g.F.Files.meaning c.args.files.now) (g.F.Files.meaning c.create.new.self)
+    (g.F.Files.meaning c.write_codestream.new.writer) c.in-Ok-create.ensures.ok c.halt_of-in-Err-finish.ensures (rw c.new-making.ensures at c.in-Ok-write_codestream.ensures.ok)
+    (ap (λ (d : Device). d.told) c.write_codestream.ensures.other))
+
+pub returns-in-Ok-write_codestream-clause-tape : goal.returns-in-Ok-write_codestream-clause-tape
+returns-in-Ok-write_codestream-clause-tape g c = rw c.new-making.ensures at c.write_codestream.ensures.tape
+
+pub returns-in-Ok-write_codestream-clause-cause : goal.returns-in-Ok-write_codestream-clause-cause
+returns-in-Ok-write_codestream-clause-cause g c = rw (← unrisen _ _ _ c.in-Ok-create.ensures.cause, ← c.in-Ok-write_codestream.ensures.same)
+    (refused_cause _ _ c.halt_of-in-Err-finish.result c.in-Err-finish.refused c.halt_of-in-Err-finish.ensures c.in-Err-finish.ensures.cause)
+
+pub returns-in-Ok-write_codestream-clause-other : goal.returns-in-Ok-write_codestream-clause-other
+returns-in-Ok-write_codestream-clause-other g c = c.finish.ensures.other ∙ ap (λ (d : Device). d.read_faults) c.write_codestream.ensures.other ∙ c.create.ensures.other
 
 pub returns-clause-err : goal.returns-clause-err
-returns-clause-err g c = file_uncreated c.args.plan.now c.args.to.now c.halt_of.result (g.F.Files.meaning c.args.files.now) (g.F.Files.meaning c.create.new.self) (halt_fault c.halt_of.result c.in-Err.refused c.halt_of.ensures) c.in-Err.ensures.err
+returns-clause-err g c = file_halted c.args.plan.now c.args.to.now c.in-Err-write_codestream.halt (g.F.Files.meaning c.args.files.now) (g.F.Files.meaning c.create.new.self) (g.F.Files.meaning c.write_codestream.new.writer)
+    c.in-Ok-create.ensures.ok (rw c.new-making.ensures at c.in-Err-write_codestream.ensures.err) (ap (λ (d : Device). d.told) c.write_codestream.ensures.other)
 
 pub returns-clause-tape : goal.returns-clause-tape
-returns-clause-tape g c = rw c.requires.empty (tape_none c.args.crew.now.work c.args.plan.now.blocks)
+returns-clause-tape g c = rw c.new-making.ensures at c.write_codestream.ensures.tape
 
 pub returns-clause-cause : goal.returns-clause-cause
-returns-clause-cause g c = refused_cause _ _ c.halt_of.result c.in-Err.refused c.halt_of.ensures c.in-Err.ensures.cause
+returns-clause-cause g c = rw (← unrisen _ _ _ c.in-Ok-create.ensures.cause) c.in-Err-write_codestream.ensures.cause
+
+pub returns-clause-other : goal.returns-clause-other
+returns-clause-other g c = ap (λ (d : Device). d.read_faults) c.write_codestream.ensures.other ∙ c.create.ensures.other

@@ -1,6 +1,23 @@
-use Rattle.jx_transcode.proofs.RunLemmas.{outcome_lent}
+use Rattle.std.proofs.Common.{◌∙◌, map, string_bytes}
+use Rattle.jx_transcode.proofs.RunLemmas.{outcome_boxes, outcome_lent, outcome_make, outcome_memory, outcome_transcode}
 use Rattle.jx_transcode.proofs.program.run.Goals as goal
 
+pub returns-in-Ok-Transcode-clause-outcome : goal.returns-in-Ok-Transcode-clause-outcome
+returns-in-Ok-Transcode-clause-outcome g c = outcome_lent _ c.args.planners.items c.deref_mut.ensures.value (λ b. (goal.LayerPlanner-dyn g (b.vtable, b.value)).serves_text b.value)
+    (λ b. (goal.LayerPlanner-dyn g (b.vtable, b.value)).rule_of b.value) _ _ _ _ _ _ _ _
+    (outcome_transcode (map string_bytes c.args.words.now) c.in-Ok-Transcode.request _ _ _ _ _ _ _ _ (rw c.in-Ok-Transcode.field-0-is at c.in-Ok-Transcode.ensures.asks) c.run.ensures.ends)
+
+pub returns-in-Ok-Make-clause-outcome : goal.returns-in-Ok-Make-clause-outcome
+returns-in-Ok-Make-clause-outcome g c = outcome_lent _ c.args.planners.items c.deref_mut-in-Ok-Make.ensures.value (λ b. (goal.LayerPlanner-dyn g (b.vtable, b.value)).serves_text b.value)
+    (λ b. (goal.LayerPlanner-dyn g (b.vtable, b.value)).rule_of b.value) _ _ _ _ _ _ _ _
+    (outcome_make (map string_bytes c.args.words.now) c.in-Ok-Make.seed c.in-Ok-Make.width c.in-Ok-Make.height _ _ _ _ _ _ _ _ (rw c.in-Ok-Make.field-0-is at c.in-Ok-Make.ensures.asks)
+    (c.run-in-Ok-Make.ensures.ends _))
+
+pub returns-in-Ok-Boxes-clause-outcome : goal.returns-in-Ok-Boxes-clause-outcome
+returns-in-Ok-Boxes-clause-outcome g c =
+    let asks = rw c.in-Ok-Boxes.field-0-is at c.in-Ok-Boxes.ensures.asks in
+    outcome_boxes (map string_bytes c.args.words.now) c.as_str.result.now _ _ _ _ _ _ _ _ (asks.0, asks.1, asks.2, c.as_str.ensures.value ∙ asks.3) c.run-in-Ok-Boxes.ensures.ends
+
 pub returns-clause-outcome : goal.returns-clause-outcome
-returns-clause-outcome g c = outcome_lent _ c.args.planners.items c.deref_mut.ensures.value (λ b. (goal.LayerPlanner-dyn g (b.vtable, b.value)).serves_text b.value)
-    (λ b. (goal.LayerPlanner-dyn g (b.vtable, b.value)).rule_of b.value) _ _ _ _ _ _ _ _ c.run_lent.ensures.outcome
+returns-clause-outcome g c = rw (c.refuse-in-Err-NoMemory.ensures.none, c.refuse-in-Err-NoMemory.ensures.tape)
+    (outcome_memory (map string_bytes c.args.words.now) _ _ _ _ _ _ _ c.refuse-in-Err-NoMemory.ensures.ends)

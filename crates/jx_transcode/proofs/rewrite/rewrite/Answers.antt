@@ -1,28 +1,30 @@
-use Rattle.std.proofs.Common.{refl}
-use Rattle.jx_transcode.proofs.RefusedLemmas.{input_unread, input_unwritten, reads_of, tiles_refused}
+use Rattle.std.proofs.Common.{◌∙◌, List, ap, arith, length, refl, sym}
+use Rattle.jx_base.specs.declared.pieces.Block.{Block}
+use Rattle.jx_codeblock.specs.declared.job.Job.{Job}
+use Rattle.jx_rounds.proofs.FrontLemmas.{jobs_few, planned_few}
+use Rattle.jx_transcode.proofs.AnswerLemmas.{Laws, answered_by_plan, carried_out}
+use Rattle.jx_transcode.proofs.RefusedLemmas.{answered_unplanned, input_unread, input_unwritten, plan_unread, plan_unwritten, reads_of, tiles_refused}
+use Rattle.jx_transcode.proofs.StatusLemmas.{ended_failed, ended_unread}
 use Rattle.jx_transcode.proofs.rewrite.rewrite.Goals as goal
 
-pub write_blocks-requires-clause-may : goal.write_blocks-requires-clause-may
-write_blocks-requires-clause-may g c =
-    λ lifetimes within. rw c.deref.ensures.value (c.gathered_may_be_planned.ensures c.args.input.now c.args.stream.now c.in-Ok.blocks.items c.requires.read c.requires.within c.in-Ok.ensures.totals c.in-Ok.ensures.gathered)
+pub plan_served-requires-clause-may : goal.plan_served-requires-clause-may
+plan_served-requires-clause-may g c = rw (c.shortened.ensures, c.deref-read.ensures.value)
+    (c.gathered_may_be_planned.ensures c.args.input.now c.args.stream.now c.in-Ok.blocks.items c.requires.read c.requires.within c.in-Ok.ensures.totals c.in-Ok.ensures.gathered)
 
-pub returns-in-Ok-clause-answer : goal.returns-in-Ok-clause-answer
-returns-in-Ok-clause-answer g c =
-    c.write_blocks.ensures.answer c.args.input.now c.requires.within
-    (rw c.deref.ensures.value (reads_of c.args.input.now c.args.stream.now c.in-Ok.blocks.items c.requires.read c.in-Ok.ensures.totals c.in-Ok.ensures.gathered))
+pub overflow_cast-read : goal.overflow_cast-read
+overflow_cast-read g c = omega (
+  arith,
+  planned_few c.args.stream.now c.in-Ok.blocks.items
+      (c.gathered_may_be_planned.ensures c.args.input.now c.args.stream.now c.in-Ok.blocks.items c.requires.read c.requires.within c.in-Ok.ensures.totals c.in-Ok.ensures.gathered),
+  ap (λ (bs : List Block). length bs) c.deref-read.ensures.value,
+)
+
+pub overflow_cast-count : goal.overflow_cast-count
+overflow_cast-count g c = omega (arith, jobs_few c.in-Ok-plan_served.plan c.jobs.ensures.plan, ap (λ (js : List Job). length js) c.jobs.ensures.value)
 
 pub returns-in-Err-clause-answer : goal.returns-in-Err-clause-answer
 returns-in-Err-clause-answer g c =
     rw (c.refused_by.ensures.status, c.refused_by.ensures.none.0, c.refused_by.ensures.none.1, c.refused_by.ensures.tape) (tiles_refused _ _ _ c.args.input.now c.args.stream.now c.in-Err.fault _ c.requires.within c.requires.read c.in-Err.ensures.broken)
-
-pub returns-in-Ok-clause-cause : goal.returns-in-Ok-clause-cause
-returns-in-Ok-clause-cause g c = c.write_blocks.ensures.cause
-
-pub returns-in-Ok-clause-read : goal.returns-in-Ok-clause-read
-returns-in-Ok-clause-read g c = c.write_blocks.ensures.read
-
-pub returns-in-Ok-clause-other : goal.returns-in-Ok-clause-other
-returns-in-Ok-clause-other g c = c.write_blocks.ensures.other
 
 pub returns-in-Err-clause-cause : goal.returns-in-Err-clause-cause
 returns-in-Err-clause-cause g c = λ failed. absurd (input_unwritten c.in-Err.fault _ c.refused_by.ensures.status failed)
@@ -32,3 +34,39 @@ returns-in-Err-clause-read g c = input_unread c.in-Err.fault _ c.refused_by.ensu
 
 pub returns-in-Err-clause-other : goal.returns-in-Err-clause-other
 returns-in-Err-clause-other g c = refl
+
+pub returns-in-Err-plan_served-clause-answer : goal.returns-in-Err-plan_served-clause-answer
+returns-in-Err-plan_served-clause-answer g c =
+    rw (c.unplanned_by.ensures.status, c.unplanned_by.ensures.blocks.0, c.unplanned_by.ensures.blocks.1, c.unplanned_by.ensures.tape)
+    (answered_unplanned c.args.to.now c.args.crew.now.work _ c.args.input.now c.args.stream.now c.in-Ok.blocks.items c.in-Err-plan_served.fault _ _
+    (rw (sym (c.shortened.ensures ∙ c.deref-read.ensures.value)) c.in-Err-plan_served.ensures.cause) (ap (λ (bs : List Block). length bs) c.deref-read.ensures.value) c.requires.within
+    (reads_of c.args.input.now c.args.stream.now c.in-Ok.blocks.items c.requires.read c.in-Ok.ensures.totals c.in-Ok.ensures.gathered))
+
+pub returns-in-Err-plan_served-clause-cause : goal.returns-in-Err-plan_served-clause-cause
+returns-in-Err-plan_served-clause-cause g c = λ failed. absurd (plan_unwritten c.in-Err-plan_served.fault _ c.unplanned_by.ensures.status failed)
+
+pub returns-in-Err-plan_served-clause-read : goal.returns-in-Err-plan_served-clause-read
+returns-in-Err-plan_served-clause-read g c = plan_unread c.in-Err-plan_served.fault _ c.unplanned_by.ensures.status
+
+pub returns-in-Err-plan_served-clause-other : goal.returns-in-Err-plan_served-clause-other
+returns-in-Err-plan_served-clause-other g c = refl
+
+pub returns-clause-answer : goal.returns-clause-answer
+returns-clause-answer g c =
+    let laws : Laws = record { blocks = c.plans_write_these_blocks.ensures.blocks; free = c.plans_write_these_blocks.ensures.free; keeps = c.rewritten_is_read.ensures; parts = c.one_output.ensures.parts } in
+    rw (c.ending_of.ensures.blocks, c.ending_of.ensures.tape)
+    (answered_by_plan laws c.args.to.now c.args.crew.now.work _ c.args.input.now c.args.stream.now c.in-Ok.blocks.items c.in-Ok-plan_served.plan c.write_file-written.result
+    c.ending_of.result.status _ c.ending_of.result.bytes _ _ _ c.requires.wanted (rw (sym (c.shortened.ensures ∙ c.deref-read.ensures.value)) c.in-Ok-plan_served.ensures.planned)
+    (carried_out c.in-Ok-plan_served.plan c.args.to.now c.args.crew.now.work c.write_file-written.result _ _ _ _ c.jobs.ensures.plan (ap (λ (js : List Job). length js) c.jobs.ensures.value)
+    c.write_file-written.ensures.tape c.write_file-written.ensures.whole c.write_file-written.ensures.ok c.write_file-written.ensures.err)
+    c.ending_of.ensures.ends c.requires.within
+    (reads_of c.args.input.now c.args.stream.now c.in-Ok.blocks.items c.requires.read c.in-Ok.ensures.totals c.in-Ok.ensures.gathered))
+
+pub returns-clause-cause : goal.returns-clause-cause
+returns-clause-cause g c = λ failed. c.write_file-written.ensures.cause (ended_failed c.write_file-written.result _ _ c.ending_of.ensures.ends failed)
+
+pub returns-clause-read : goal.returns-clause-read
+returns-clause-read g c = ended_unread c.write_file-written.result _ _ c.ending_of.ensures.ends
+
+pub returns-clause-other : goal.returns-clause-other
+returns-clause-other g c = c.write_file-written.ensures.other

@@ -2,7 +2,7 @@ use Rattle.std.proofs.Common.{◌≡◌, ◌∙◌, ◌<◌, ℕ, sym, subst, ar
 use Rattle.jx_base.proofs.Joined.{appends_none}
 use Rattle.jx_geom.specs.Precincts.{leaf_number, leaves}
 use Rattle.jx_generate.specs.Headers.{geometry_made}
-use Rattle.jx_generate.specs.Made.{leaf_bytes}
+use Rattle.jx_generate.specs.Made.{drawn_leaf_bytes}
 use Rattle.jx_generate.specs.Making.{count_drawn}
 use Rattle.jx_generate.proofs.PictureLemmas.{data_all, data_next}
 use Rattle.jx_generate.proofs.picture.Picture.put_data.Goals as goal
@@ -11,7 +11,7 @@ pub overflow_cast-leaf-end : goal.overflow_cast-leaf-end
 overflow_cast-leaf-end c = omega (arith, c.count-leaf-end.ensures, c.numbers-numbers.ensures.numbers.count, c.numbers-numbers.ensures.few)
 
 pub loop-leaf-init : goal.loop-leaf-init
-loop-leaf-init c = appends_none c.args.out.now.items (leaf_bytes c.args.self.now.seed c.args.self.now.width c.args.self.now.height c.args.comp c.args.res c.args.layer) 0 0 (omega arith)
+loop-leaf-init c = appends_none c.args.out.now.items (drawn_leaf_bytes c.args.self.now.seed c.args.self.now.width c.args.self.now.height c.args.comp c.args.res c.args.layer) 0 0 (omega arith)
 
 pub block-requires : goal.block-requires
 block-requires c =

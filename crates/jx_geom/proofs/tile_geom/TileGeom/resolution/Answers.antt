@@ -7,7 +7,7 @@ use Rattle.jx_geom.proofs.tile_geom.TileGeom.resolution.Goals as goal
 
 pub entry-requires-clause-place : goal.entry-requires-clause-place
 entry-requires-clause-place c =
-    let is = table_is c.self.inside.places c.self.inside.shapes.items (rect_of_tile c.args.self.now) c.args.self.now.shapes
+    let is = table_is c.self.inside.places c.self.inside.shapes (rect_of_tile c.args.self.now) c.args.self.now.shapes
     c.self.inside.table.places.items c.self.inside.table.list.items
     (c.self.invariant.1 ∙ ap (λ (g : Geometry). rect_of_tile g) c.self.view_is) (ap (λ (g : Geometry). g.shapes) c.self.view_is)
     c.self.invariant.2 c.self.invariant.3 in
@@ -16,7 +16,7 @@ entry-requires-clause-place c =
 
 pub entry-requires-clause-there : goal.entry-requires-clause-there
 entry-requires-clause-there c =
-    let is = table_is c.self.inside.places c.self.inside.shapes.items (rect_of_tile c.args.self.now) c.args.self.now.shapes
+    let is = table_is c.self.inside.places c.self.inside.shapes (rect_of_tile c.args.self.now) c.args.self.now.shapes
     c.self.inside.table.places.items c.self.inside.table.list.items
     (c.self.invariant.1 ∙ ap (λ (g : Geometry). rect_of_tile g) c.self.view_is) (ap (λ (g : Geometry). g.shapes) c.self.view_is)
     c.self.invariant.2 c.self.invariant.3 in
@@ -25,7 +25,7 @@ entry-requires-clause-there c =
 
 pub returns-clause-value : goal.returns-clause-value
 returns-clause-value c =
-    let is = table_is c.self.inside.places c.self.inside.shapes.items (rect_of_tile c.args.self.now) c.args.self.now.shapes
+    let is = table_is c.self.inside.places c.self.inside.shapes (rect_of_tile c.args.self.now) c.args.self.now.shapes
     c.self.inside.table.places.items c.self.inside.table.list.items
     (c.self.invariant.1 ∙ ap (λ (g : Geometry). rect_of_tile g) c.self.view_is) (ap (λ (g : Geometry). g.shapes) c.self.view_is)
     c.self.invariant.2 c.self.invariant.3 in
@@ -39,7 +39,7 @@ returns-clause-range c =
 
 pub returns-clause-few : goal.returns-clause-few
 returns-clause-few c =
-    let is = table_is c.self.inside.places c.self.inside.shapes.items (rect_of_tile c.args.self.now) c.args.self.now.shapes
+    let is = table_is c.self.inside.places c.self.inside.shapes (rect_of_tile c.args.self.now) c.args.self.now.shapes
     c.self.inside.table.places.items c.self.inside.table.list.items
     (c.self.invariant.1 ∙ ap (λ (g : Geometry). rect_of_tile g) c.self.view_is) (ap (λ (g : Geometry). g.shapes) c.self.view_is)
     c.self.invariant.2 c.self.invariant.3 in

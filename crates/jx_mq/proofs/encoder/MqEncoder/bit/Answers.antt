@@ -8,8 +8,8 @@ use Rattle.jx_mq.proofs.Lengths.{refused_bit}
 use Rattle.jx_mq.proofs.Choices.{symbol_is}
 use Rattle.jx_mq.proofs.encoder.MqEncoder.bit.Goals as goal
 
-pub renormalized-requires-clause-coding : goal.renormalized-requires-clause-coding
-renormalized-requires-clause-coding c =
+pub renormalize-requires-clause-coding : goal.renormalize-requires-clause-coding
+renormalize-requires-clause-coding c =
     let some = c.width_of.ensures.some in
     let most = c.width_of.ensures.most in
     let low = c.self.invariant.1.low in

@@ -1,0 +1,5 @@
+mod HeadLemmas
+mod FindLemmas
+mod TreeLemmas
+mod LineLemmas
+mod WrapLemmas

@@ -1,0 +1,18 @@
+-- The types of boxes that matter here, each by its four characters (ITU-T T.800, Table I.2).
+use Rattle.std.specs.Prelude.{ℕ}
+
+-- jp2c: a contiguous codestream (I.5.4)
+abbrev pub jp2c : ℕ
+jp2c = 0x6A70_3263
+
+-- jp2h: the header, a superbox (I.5.3)
+abbrev pub jp2h : ℕ
+jp2h = 0x6A70_3268
+
+-- res, with a space at its end: the resolution, a superbox in the header (I.5.3.7)
+abbrev pub res : ℕ
+res = 0x7265_7320
+
+-- uinf: what UUIDs of the file stand for, a superbox (I.7.3)
+abbrev pub uinf : ℕ
+uinf = 0x7569_6E66

@@ -1,0 +1,22 @@
+//! Numbers of four and eight bytes, the highest first.
+
+ghost use Rattle.std.specs.Prelude.{◌≡◌, ◌+◌, ◌≤◌, length};
+ghost use Rattle.byteorder.specs.Endian.{big_from};
+
+use byteorder::{BigEndian, ByteOrder};
+
+/// The number in the four bytes at a place.
+pub fn u32_at(bytes: &[u8], at: usize) -> u32
+    requires { at + 4 ≤ length bytes.now }
+    ensures { result ≡ big_from at 4 bytes.now }
+{
+    BigEndian::read_u32(&bytes[at..])
+}
+
+/// The number in the eight bytes at a place.
+pub fn u64_at(bytes: &[u8], at: usize) -> u64
+    requires { at + 8 ≤ length bytes.now }
+    ensures { result ≡ big_from at 8 bytes.now }
+{
+    BigEndian::read_u64(&bytes[at..])
+}

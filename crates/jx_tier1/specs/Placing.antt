@@ -1,0 +1,13 @@
+-- A recoding whose coefficients stand apart, as marks.
+use Rattle.std.specs.Prelude.{ℕ, ◌≡◌}
+use Rattle.jx_tier1_specs.specs.Cells.{Cells}
+use Rattle.jx_tier1.specs.InStep.{Recoding, no_grid}
+use Rattle.jx_tier1.specs.Notes.{Marking, Shows}
+
+abbrev pub placed : Cells → Recoding → Recoding
+placed g r = record r { cells = g }
+
+-- the marks show its coefficients, and the rest is as it is
+pub record Goes (planes : ℕ) (r : Recoding) (m : Marking) (now : Recoding) : Type 0 where
+  pub marks : Shows planes r.cells m
+  pub recoding : placed no_grid now ≡ placed no_grid r

@@ -1,0 +1,311 @@
+//! A coding pass over a block that is marked, stripe by stripe (T.800, D.1).
+
+ghost use Rattle.std.specs.Prelude.{◌≡◌, ◌+◌, ◌-◌, ◌*◌, ◌/◌, ◌%◌, ◌<◌, ◌≤◌, ℕ, min, slice_index_or, IfOk, OnOk, IsTrue};
+ghost use Rattle.jx_tier1_specs.specs.Cells.{Cells};
+ghost use Rattle.jx_tier1_specs.specs.Asking.{Told, told};
+ghost use Rattle.jx_tier1_specs.specs.Pass.{pass_at, scanned};
+ghost use Rattle.jx_tier1.specs.Numbers.{first_of};
+ghost use Rattle.jx_tier1.specs.Labels.{AreLabels};
+ghost use Rattle.jx_tier1.specs.Notes.{Marking, Shows, IsSpot, IsOfSize, spot, window_in};
+ghost use Rattle.jx_tier1.specs.Turns.{AreTurns};
+ghost use Rattle.jx_tier1.specs.Walking.{by_label, Ends, IsNow};
+
+use crate::answering::Answering;
+use crate::marks::Marks;
+use crate::walk_runs::cleanup;
+use crate::walk_steps::{refinement, significance};
+use jx_base::NoMemory;
+use jx_tier1_specs::Plane;
+
+/// Whether a pass has nothing to ask in a column of a stripe, by the column's six rows.
+#[inline(always)]
+fn is_over(
+    marks: &Marks,
+    plane: Plane,
+    pass: u16,
+    kind: u16,
+    x: u16,
+    top: u16,
+    rows: u16,
+    word: u32,
+) -> bool
+    requires kind { kind ≡ pass % 3 }
+    requires place { IsSpot marks.now x top }
+    requires stripe { top % 4 ≡ 0 }
+    requires rows { rows ≡ min 4 (marks.now.height - top) }
+    requires word { word ≡ slice_index_or marks.now.sixes (spot marks.now (top / 4 + 1) (x + 1)) 0 }
+    ensures { (g : Cells) → Shows plane.planes g marks.now → IsTrue result → scanned pass plane rows (first_of g x top rows) g ≡ Told g }
+{
+    let own = word / 8 % 4096;
+    if kind == 2 {
+        return own == 0;
+    }
+    own == 585
+}
+
+/// Whether a significance pass has nothing to ask in a column of a stripe, as nothing is near.
+#[inline(always)]
+fn is_clear(
+    marks: &Marks,
+    plane: Plane,
+    pass: u16,
+    kind: u16,
+    x: u16,
+    top: u16,
+    rows: u16,
+    columns: u32,
+) -> bool
+    requires kind { kind ≡ pass % 3 }
+    requires place { IsSpot marks.now x top }
+    requires stripe { top % 4 ≡ 0 }
+    requires rows { rows ≡ min 4 (marks.now.height - top) }
+    requires columns { columns ≡ window_in marks.now plane.causal (top / 4 + 1) x }
+    ensures { (g : Cells) → Shows plane.planes g marks.now → IsTrue result → scanned pass plane rows (first_of g x top rows) g ≡ Told g }
+{
+    if kind != 1 {
+        return false;
+    }
+    columns == 0
+}
+
+/// A pass at a place, by its number's kind.
+#[inline(always)]
+fn walk_place<S: Answering, K>(
+    source: &mut S,
+    marks: &mut Marks,
+    labels: &[u8],
+    turns: &[u8],
+    plane: Plane,
+    pass: u16,
+    kind: u16,
+    x: u16,
+    y: u16,
+    at: usize,
+    columns: u32,
+    stripe: u16,
+) -> Result<u32, NoMemory>
+    requires kind { kind ≡ pass % 3 }
+    requires labels { AreLabels plane.band labels.now }
+    requires turns { AreTurns turns.now }
+    requires place { IsSpot marks.old x y }
+    requires at { at ≡ spot marks.old (y / 4 + 1) (x + 1) }
+    requires stripe { stripe ≡ y / 4 + 1 }
+    requires columns { columns ≡ window_in marks.old plane.causal stripe x }
+    ensures size { IsOfSize marks.old marks.new }
+    ensures columns { IfOk result (λ w. w ≡ window_in marks.new plane.causal stripe x) }
+    ensures walk { (g : Cells) → Shows plane.planes g marks.old → IsNow plane g
+        → OnOk result (Ends plane.planes (told (by_label S.answer) (pass_at pass plane g x y) source.old) marks.new source.new) }
+{
+    if kind == 1 {
+        return significance(
+            source, marks, labels, turns, plane, x, y, at, columns, stripe,
+        );
+    }
+    if kind == 2 {
+        return refinement(source, marks, plane, x, y, at, columns, stripe);
+    }
+    cleanup(
+        source, marks, labels, turns, plane, x, y, at, columns, stripe,
+    )
+}
+
+/// A pass at the places of a column of a stripe. It is for the last stripe alone, where that has fewer
+/// than four rows, and so apart.
+#[inline(never)]
+fn each_row<S: Answering, K>(
+    source: &mut S,
+    marks: &mut Marks,
+    labels: &[u8],
+    turns: &[u8],
+    plane: Plane,
+    pass: u16,
+    kind: u16,
+    x: u16,
+    top: u16,
+    rows: u16,
+    at: usize,
+    seen: u32,
+    stripe: u16,
+) -> Result<(), NoMemory>
+    requires kind { kind ≡ pass % 3 }
+    requires labels { AreLabels plane.band labels.now }
+    requires turns { AreTurns turns.now }
+    requires place { IsSpot marks.old x top }
+    requires at { at ≡ spot marks.old (top / 4 + 1) (x + 1) }
+    requires first { top % 4 ≡ 0 }
+    requires rows { rows ≡ min 4 (marks.old.height - top) }
+    requires stripe { stripe ≡ top / 4 + 1 }
+    requires seen { seen ≡ window_in marks.old plane.causal stripe x }
+    ensures size { IsOfSize marks.old marks.new }
+    ensures walk { (g : Cells) → Shows plane.planes g marks.old → IsNow plane g
+        → OnOk result (Ends plane.planes (told (by_label S.answer) (scanned pass plane rows (first_of g x top rows) g) source.old) marks.new source.new) }
+{
+    let mut columns = seen;
+    for row in 0..rows {
+        columns = walk_place::<S, K>(
+            source,
+            marks,
+            labels,
+            turns,
+            plane,
+            pass,
+            kind,
+            x,
+            top + row,
+            at,
+            columns,
+            stripe,
+        )?;
+    }
+    Ok(())
+}
+
+/// The same at the four places of a column of a whole stripe.
+#[inline(always)]
+fn four_rows<S: Answering, K>(
+    source: &mut S,
+    marks: &mut Marks,
+    labels: &[u8],
+    turns: &[u8],
+    plane: Plane,
+    pass: u16,
+    kind: u16,
+    x: u16,
+    top: u16,
+    at: usize,
+    seen: u32,
+    stripe: u16,
+) -> Result<(), NoMemory>
+    requires kind { kind ≡ pass % 3 }
+    requires labels { AreLabels plane.band labels.now }
+    requires turns { AreTurns turns.now }
+    requires place { IsSpot marks.old x top }
+    requires at { at ≡ spot marks.old (top / 4 + 1) (x + 1) }
+    requires first { top % 4 ≡ 0 }
+    requires whole { top + 4 ≤ marks.old.height }
+    requires stripe { stripe ≡ top / 4 + 1 }
+    requires seen { seen ≡ window_in marks.old plane.causal stripe x }
+    ensures size { IsOfSize marks.old marks.new }
+    ensures walk { (g : Cells) → Shows plane.planes g marks.old → IsNow plane g
+        → OnOk result (Ends plane.planes (told (by_label S.answer) (scanned pass plane 4 (first_of g x top 4) g) source.old) marks.new source.new) }
+{
+    let y = top;
+    let columns = walk_place::<S, K>(
+        source, marks, labels, turns, plane, pass, kind, x, y, at, seen, stripe,
+    )?;
+    let y = top + 1;
+    let columns = walk_place::<S, K>(
+        source, marks, labels, turns, plane, pass, kind, x, y, at, columns, stripe,
+    )?;
+    let y = top + 2;
+    let columns = walk_place::<S, K>(
+        source, marks, labels, turns, plane, pass, kind, x, y, at, columns, stripe,
+    )?;
+    let y = top + 3;
+    walk_place::<S, K>(
+        source, marks, labels, turns, plane, pass, kind, x, y, at, columns, stripe,
+    )?;
+    Ok(())
+}
+
+/// The same, where nothing is looked at twice that asks nothing.
+#[inline(always)]
+fn walk_column<S: Answering, K>(
+    source: &mut S,
+    marks: &mut Marks,
+    labels: &[u8],
+    turns: &[u8],
+    plane: Plane,
+    pass: u16,
+    kind: u16,
+    x: u16,
+    top: u16,
+    rows: u16,
+) -> Result<(), NoMemory>
+    requires kind { kind ≡ pass % 3 }
+    requires labels { AreLabels plane.band labels.now }
+    requires turns { AreTurns turns.now }
+    requires place { IsSpot marks.old x top }
+    requires first { top % 4 ≡ 0 }
+    requires rows { rows ≡ min 4 (marks.old.height - top) }
+    ensures size { IsOfSize marks.old marks.new }
+    ensures walk { (g : Cells) → Shows plane.planes g marks.old → IsNow plane g
+        → OnOk result (Ends plane.planes (told (by_label S.answer) (scanned pass plane rows (first_of g x top rows) g) source.old) marks.new source.new) }
+{
+    let stripe = top / 4 + 1;
+    let word = marks.rows(stripe, x + 1);
+    if is_over(marks, plane, pass, kind, x, top, rows, word) {
+        return Ok(());
+    }
+    let at = marks.spot(stripe, x + 1);
+    let columns = marks.window(plane.causal, stripe, x);
+    if is_clear(marks, plane, pass, kind, x, top, rows, columns) {
+        return Ok(());
+    }
+    if rows == 4 {
+        return four_rows::<S, K>(
+            source, marks, labels, turns, plane, pass, kind, x, top, at, columns, stripe,
+        );
+    }
+    each_row::<S, K>(
+        source, marks, labels, turns, plane, pass, kind, x, top, rows, at, columns, stripe,
+    )
+}
+
+/// A pass over a stripe, with its kind told as a number that the compiler knows.
+#[inline(always)]
+fn walk_stripe<S: Answering, K>(
+    source: &mut S,
+    marks: &mut Marks,
+    labels: &[u8],
+    turns: &[u8],
+    plane: Plane,
+    pass: u16,
+    kind: u16,
+    top: u16,
+) -> Result<(), NoMemory>
+    requires kind { kind ≡ pass % 3 }
+    requires labels { AreLabels plane.band labels.now }
+    requires turns { AreTurns turns.now }
+    requires wide { marks.old.width ≤ 1024 }
+    requires high { marks.old.height ≤ 1024 }
+    requires first { top % 4 ≡ 0 }
+    requires row { top < marks.old.height }
+    ensures size { IsOfSize marks.old marks.new }
+    ensures walk { (g : Cells) → Shows plane.planes g marks.old → IsNow plane g
+        → OnOk result (Ends plane.planes (told (by_label S.answer) (scanned pass plane (g.width * min 4 (g.height - top)) (top * g.width) g) source.old) marks.new source.new) }
+{
+    let rows = 4u16.min(marks.height() - top);
+    for x in 0..marks.width() {
+        walk_column::<S, K>(
+            source, marks, labels, turns, plane, pass, kind, x, top, rows,
+        )?;
+    }
+    Ok(())
+}
+
+/// A pass over a block, with its kind told as a number that the compiler knows.
+#[inline(always)]
+pub(crate) fn walk_stripes<S: Answering, K>(
+    source: &mut S,
+    marks: &mut Marks,
+    labels: &[u8],
+    turns: &[u8],
+    plane: Plane,
+    pass: u16,
+    kind: u16,
+) -> Result<(), NoMemory>
+    requires kind { kind ≡ pass % 3 }
+    requires labels { AreLabels plane.band labels.now }
+    requires turns { AreTurns turns.now }
+    requires wide { marks.old.width ≤ 1024 }
+    requires high { marks.old.height ≤ 1024 }
+    ensures size { IsOfSize marks.old marks.new }
+    ensures walk { (g : Cells) → Shows plane.planes g marks.old → IsNow plane g
+        → OnOk result (Ends plane.planes (told (by_label S.answer) (scanned pass plane (g.width * g.height) 0 g) source.old) marks.new source.new) }
+{
+    for s in 0..(marks.height() + 3) / 4 {
+        walk_stripe::<S, K>(source, marks, labels, turns, plane, pass, kind, 4 * s)?;
+    }
+    Ok(())
+}

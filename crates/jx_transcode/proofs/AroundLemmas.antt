@@ -1,0 +1,179 @@
+-- A file that is written around the output of its codestream.
+use Rattle.std.proofs.Common.{◌≡◌, ◌∙◌, ◌⊎◌, ◌≤◌, ◌<◌, ◌+◌, ℕ, List, [], length, inl, inr, refl, sym, subst, Result, Ok, Err, OnOk, OnErr}
+use Rattle.jx_io.specs.Device.{Meaning}
+use Rattle.jx_io.specs.Stored.{empty}
+use Rattle.jx_cli.specs.Words.{Text}
+use Rattle.jx_jp2.specs.declared.Boxed.{Boxed}
+use Rattle.jx_jp2.specs.Codestream.{IsCodestream, IsNextFault, content}
+use Rattle.jx_jp2.specs.Wrapped.{wrapped}
+use Rattle.jx_options.specs.Work.{Work}
+use Rattle.jx_transcode.specs.Aims.{Aim}
+use Rattle.jx_transcode.specs.Filed.{IsAnswered}
+use Rattle.jx_transcode.specs.Jp2Run.{EndsAround, EndsJp2, IsFileEnd, LeavesFile, VerdictAt, raised}
+use Rattle.jx_transcode.specs.MakeRun.{IsLastMade, IsMadeAnew, TellsMade}
+use Rattle.jx_transcode.specs.Outcome.{IsBegun, IsMade, IsVerdict, Verdict, most_bytes}
+use Rattle.jx_transcode.specs.declared.status.Status.{Status}
+use Rattle.jx_transcode.specs.declared.status.Status.TheVariants as status
+use Rattle.jx_rounds.specs.declared.tape.TapeEntry.{TapeEntry}
+use Rattle.jx_transcode.proofs.DoneLemmas.{undone}
+use Rattle.jx_transcode.proofs.FiledLemmas.{untouched}
+use Rattle.jx_transcode.proofs.MakeLemmas.{IsOutOf, out_of}
+
+-- ---- how it ends
+pub left_by : {T E : Type 0} (r : Result T E) (name : Text) (file : List ℕ) (s : Status) (bytes : ℕ) (old new : Meaning) → OnOk r (s ≡ status.Done) → OnErr r ((s ≡ status.WriteFault) ⊎ (s ≡ status.NoMemory))
+    → OnOk r (IsMade name file old new) → OnErr r (IsBegun name file old new) → bytes ≡ length file → LeavesFile name file s bytes old new
+left_by (Ok x) name file s bytes old new ok err made begun long = rw ok (made, long)
+left_by (Err e) name file s bytes old new ok (inl err) made begun long = rw err begun
+left_by (Err e) name file s bytes old new ok (inr err) made begun long = rw err begun
+
+pub end_apart : (s : Status) → IsFileEnd s → (s ≡ status.ReadFault → ⊥) × (s ≡ status.Words → ⊥)
+end_apart s (inl e) = (λ f. let never : status.Done ≡ status.ReadFault = sym e ∙ f in cc, λ f. let never : status.Done ≡ status.Words = sym e ∙ f in cc)
+end_apart s (inr (inl e)) = (λ f. let never : status.WriteFault ≡ status.ReadFault = sym e ∙ f in cc, λ f. let never : status.WriteFault ≡ status.Words = sym e ∙ f in cc)
+end_apart s (inr (inr e)) = (λ f. let never : status.NoMemory ≡ status.ReadFault = sym e ∙ f in cc, λ f. let never : status.NoMemory ≡ status.Words = sym e ∙ f in cc)
+
+-- ---- a codestream without an output
+raised_verdict : (aim : Aim) (from : ℕ) (inner : List ℕ) (s : Status) → (IsVerdict s → Verdict aim inner s) → IsVerdict (raised from s) → VerdictAt aim from inner (raised from s)
+raised_verdict aim from inner status.Done of v = of tt
+raised_verdict aim from inner status.Words of v = of tt
+raised_verdict aim from inner (status.Rule number place) of v = (place, refl, of tt)
+raised_verdict aim from inner (status.Limit number found) of v = of tt
+raised_verdict aim from inner (status.Choice number place) of v = of tt
+raised_verdict aim from inner (status.Block number) of v = of tt
+raised_verdict aim from inner status.ReadFault of v = absurd v
+raised_verdict aim from inner status.WriteFault of v = absurd v
+raised_verdict aim from inner status.NoMemory of v = absurd v
+
+raised_tells : (aim : Aim) (from : ℕ) (inner : List ℕ) (s : Status) (blocks : ℕ) (out : List ℕ) → TellsMade aim inner s blocks out → TellsMade aim inner (raised from s) blocks out
+raised_tells aim from inner status.Done blocks out is = is
+raised_tells aim from inner status.Words blocks out is = is
+raised_tells aim from inner (status.Rule number place) blocks out is = is
+raised_tells aim from inner (status.Limit number found) blocks out is = is
+raised_tells aim from inner (status.Choice number place) blocks out is = is
+raised_tells aim from inner (status.Block number) blocks out is = is
+raised_tells aim from inner status.ReadFault blocks out is = is
+raised_tells aim from inner status.WriteFault blocks out is = is
+raised_tells aim from inner status.NoMemory blocks out is = is
+
+-- its status is the same but for a place
+abbrev pub IsNoRule : Status → Type 0
+IsNoRule status.Done = Unit {0}
+IsNoRule status.Words = Unit {0}
+IsNoRule (status.Rule number place) = ⊥
+IsNoRule (status.Limit number found) = Unit {0}
+IsNoRule (status.Choice number place) = Unit {0}
+IsNoRule (status.Block number) = Unit {0}
+IsNoRule status.ReadFault = Unit {0}
+IsNoRule status.WriteFault = Unit {0}
+IsNoRule status.NoMemory = Unit {0}
+
+rule_apart : (number place : ℕ) (t : Status) → IsNoRule t → status.Rule number place ≡ t → ⊥
+rule_apart number place t other is = subst IsNoRule (sym is) other
+
+pub raised_apart : (from : ℕ) (s t : Status) → IsNoRule t → (s ≡ t → ⊥) → raised from s ≡ t → ⊥
+raised_apart from status.Done t other not is = not is
+raised_apart from status.Words t other not is = not is
+raised_apart from (status.Rule number place) t other not is = rule_apart number (from + place) t other is
+raised_apart from (status.Limit number found) t other not is = not is
+raised_apart from (status.Choice number place) t other not is = not is
+raised_apart from (status.Block number) t other not is = not is
+raised_apart from status.ReadFault t other not is = not is
+raised_apart from status.WriteFault t other not is = not is
+raised_apart from status.NoMemory t other not is = not is
+
+-- what is known of the codestream's output, which is made in memory
+pub record IsInMemory (called : Text) (work : Work) (aim : Aim) (inner : List ℕ) (s : Status) (blocks bytes : ℕ) (entries : List TapeEntry) (new : Meaning) : Type 0 where
+  pub answer : IsAnswered called work aim inner s blocks bytes entries empty new
+  pub words : s ≡ status.Words → ⊥
+  pub read : s ≡ status.ReadFault → ⊥
+  pub write : s ≡ status.WriteFault → ⊥
+
+pub in_memory : (called : Text) (work : Work) (aim : Aim) (inner input : List ℕ) (boxed : Boxed) (s : Status) (blocks bytes : ℕ) (entries : List TapeEntry) (old new : Meaning) → inner ≡ content input boxed → old ≡ empty
+    → IsAnswered called work aim inner s blocks bytes entries old new → (s ≡ status.ReadFault → ⊥) × (s ≡ status.Words → ⊥) → (s ≡ status.WriteFault → ⊥)
+    → IsInMemory called work aim (content input boxed) s blocks bytes entries new
+in_memory called work aim inner input boxed s blocks bytes entries old new is none answer past write = record {
+  answer =
+      subst (λ (m : Meaning). IsAnswered called work aim (content input boxed) s blocks bytes entries m new) none
+      (subst (λ (b : List ℕ). IsAnswered called work aim b s blocks bytes entries old new) is answer);
+  words = past.1;
+  read = past.0;
+  write = write;
+}
+
+output_of : (called : Text) (work : Work) (aim : Aim) (inner : List ℕ) (s : Status) (blocks bytes : ℕ) (entries : List TapeEntry) (new : Meaning) → IsInMemory called work aim inner s blocks bytes entries new
+    → IsOutOf called aim inner s blocks bytes new
+output_of called work aim inner s blocks bytes entries new is = out_of called aim inner s blocks bytes new is.words is.read is.write is.answer.leaves
+
+pub around_refused : (name called : Text) (work : Work) (aim : Aim) (input : List ℕ) (boxed : Boxed) (s : Status) (blocks bytes : ℕ) (entries : List TapeEntry) (made files : Meaning) → length input ≤ most_bytes → IsCodestream input boxed
+    → IsInMemory called work aim (content input boxed) s blocks bytes entries made → (s ≡ status.Done → ⊥)
+    → EndsAround name work aim input boxed (raised boxed.from s) blocks 0 entries files files
+around_refused name called work aim input boxed s blocks bytes entries made files within found is other =
+    let o : IsOutOf called aim (content input boxed) s blocks bytes made = output_of called work aim (content input boxed) s blocks bytes entries made is in
+    let apart : raised boxed.from s ≡ status.Done → ⊥ = raised_apart boxed.from s status.Done tt other in record {
+      within = within;
+      found = found;
+      verdict = raised_verdict aim boxed.from (content input boxed) s is.answer.verdict;
+      out = o.out;
+      tells = raised_tells aim boxed.from (content input boxed) s blocks o.out o.tells;
+      leaves = inr (apart, untouched files);
+      tape = is.answer.tape;
+      whole = λ done. absurd (apart done);
+    }
+
+-- ---- a codestream with one
+pub around_written : (name called : Text) (work : Work) (aim : Aim) (input : List ℕ) (boxed : Boxed) (s late : Status) (blocks bytes long : ℕ) (entries : List TapeEntry) (out : List ℕ) (made old new : Meaning) → length input ≤ most_bytes
+    → IsCodestream input boxed → IsInMemory called work aim (content input boxed) s blocks bytes entries made → s ≡ status.Done → ((last file : List ℕ) → IsLastMade last file made → out ≡ file)
+    → IsFileEnd late → LeavesFile name (wrapped input boxed out) late long old new
+    → EndsAround name work aim input boxed late blocks long entries old new
+around_written name called work aim input boxed s late blocks bytes long entries out made old new within found of done last ends leaves = by late ends leaves
+  where
+    is : IsInMemory called work aim (content input boxed) status.Done blocks bytes entries made
+    is = subst (λ (x : Status). IsInMemory called work aim (content input boxed) x blocks bytes entries made) done of
+
+    o : IsOutOf called aim (content input boxed) status.Done blocks bytes made
+    o = output_of called work aim (content input boxed) status.Done blocks bytes entries made is
+
+    same : out ≡ o.out
+    same = last called o.out (o.made refl)
+
+    tells : IsMadeAnew aim (content input boxed) out blocks
+    tells = subst (λ (b : List ℕ). IsMadeAnew aim (content input boxed) b blocks) (sym same) o.tells
+
+    by : (t : Status) → IsFileEnd t → LeavesFile name (wrapped input boxed out) t long old new → EndsAround name work aim input boxed t blocks long entries old new
+    by t (inl e) stands = rw e (record {
+      within = within;
+      found = found;
+      verdict = λ v. is.answer.verdict tt;
+      out = out;
+      tells = tells;
+      leaves = inl (tells.is, tells.count, subst (λ (x : Status). LeavesFile name (wrapped input boxed out) x long old new) e stands);
+      tape = is.answer.tape;
+      whole = λ f. is.answer.whole refl;
+    })
+    by t (inr (inl e)) stands = rw e (record {
+      within = within;
+      found = found;
+      verdict = λ no. absurd no;
+      out = out;
+      tells = inr tells.count;
+      leaves = inl (tells.is, tells.count, subst (λ (x : Status). LeavesFile name (wrapped input boxed out) x long old new) e stands);
+      tape = is.answer.tape;
+      whole = λ f. absurd (undone status.WriteFault tt f);
+    })
+    by t (inr (inr e)) stands = rw e (record {
+      within = within;
+      found = found;
+      verdict = λ no. absurd no;
+      out = out;
+      tells = inr tells.count;
+      leaves = inl (tells.is, tells.count, subst (λ (x : Status). LeavesFile name (wrapped input boxed out) x long old new) e stands);
+      tape = is.answer.tape;
+      whole = λ f. absurd (undone status.NoMemory tt f);
+    })
+
+-- ---- no codestream
+pub too_long_jp2 : (name : Text) (work : Work) (aim : Aim) (input : List ℕ) (files : Meaning) → most_bytes < length input → EndsJp2 name work aim input (status.Limit 1 268435457) 0 0 [] files files
+too_long_jp2 name work aim input files long = inl (record { verdict = λ v. (long, refl, refl); none = refl; tape = refl; same = untouched files })
+
+pub boxes_refused : (name : Text) (work : Work) (aim : Aim) (input : List ℕ) (number place : ℕ) (files : Meaning) → length input ≤ most_bytes → IsNextFault input 0 number place
+    → EndsJp2 name work aim input (status.Rule number place) 0 0 [] files files
+boxes_refused name work aim input number place files within broken = inl (record { verdict = λ v. (within, broken); none = refl; tape = refl; same = untouched files })

@@ -1,0 +1,95 @@
+-- A file has one verdict, JP2 or not.
+use Rattle.std.proofs.Common.{◌≡◌, ◌∙◌, ◌⊎◌, ◌<◌, ◌≤◌, ◌+◌, ℕ, List, length, inl, inr, refl, ap, sym, subst, arith}
+use Rattle.jx_jp2.specs.declared.Boxed.{Boxed}
+use Rattle.jx_jp2.specs.Codestream.{IsCodestream, IsNextFault, content}
+use Rattle.jx_transcode.specs.Aims.{Aim}
+use Rattle.jx_transcode.specs.Jp2Run.{FileVerdict, Jp2Verdict, RefusesBoxes, VerdictAt, raised}
+use Rattle.jx_transcode.specs.Outcome.{Verdict, most_bytes}
+use Rattle.jx_transcode.specs.declared.status.Status.{Status}
+use Rattle.jx_transcode.specs.declared.status.Status.TheVariants as status
+
+-- ---- the laws that this rests on
+abbrev pub HasOne : Type 0
+HasOne = (aim : Aim) (input : List ℕ) (s t : Status) → Verdict aim input s → Verdict aim input t → s ≡ t
+
+pub record OneCodestream : Type 0 where
+  pub same : (bytes : List ℕ) (first second : Boxed) → IsCodestream bytes first → IsCodestream bytes second → first ≡ second
+  pub either : (bytes : List ℕ) (boxed : Boxed) (number place : ℕ) → IsCodestream bytes boxed → IsNextFault bytes 0 number place → ⊥
+  pub fault : (bytes : List ℕ) (number place number2 place2 : ℕ) → IsNextFault bytes 0 number place → IsNextFault bytes 0 number2 place2 → (number ≡ number2) × (place ≡ place2)
+
+-- ---- a refusal by boxes is a limit or a rule
+record IsRule (input : List ℕ) (s : Status) : Type 0 where
+  number : ℕ
+  place : ℕ
+  within : length input ≤ most_bytes
+  broken : IsNextFault input 0 number place
+  is : s ≡ status.Rule number place
+
+refusal : (input : List ℕ) (s : Status) → RefusesBoxes input s → ((most_bytes < length input) × (s ≡ status.Limit 1 (most_bytes + 1))) ⊎ IsRule input s
+refusal input status.Done r = absurd r
+refusal input status.Words r = absurd r
+refusal input (status.Rule number place) r = inr (record { number = number; place = place; within = r.0; broken = r.1; is = refl })
+refusal input (status.Limit number found) r = inl (r.0, rw (r.1, r.2) refl)
+refusal input (status.Choice number place) r = absurd r
+refusal input (status.Block number) r = absurd r
+refusal input status.ReadFault r = absurd r
+refusal input status.WriteFault r = absurd r
+refusal input status.NoMemory r = absurd r
+
+one_refusal : OneCodestream → (input : List ℕ) (s t : Status) → RefusesBoxes input s → RefusesBoxes input t → s ≡ t
+one_refusal laws input s t x y = elim (refusal input s x) [
+  | inl long ↦ elim (refusal input t y) [
+    | inl other ↦ long.1 ∙ sym other.1
+    | inr rule ↦ absurd (omega (arith, long.0, rule.within))
+  ]
+  | inr rule ↦ elim (refusal input t y) [
+    | inl long ↦ absurd (omega (arith, long.0, rule.within))
+    | inr other ↦
+        let same = laws.fault input rule.number rule.place other.number other.place rule.broken other.broken in
+        rule.is ∙ (rw (same.0, same.1) refl) ∙ sym other.is
+  ]
+]
+
+-- ---- the verdict of a codestream, with its place as the codestream has it
+record IsRaised (aim : Aim) (from : ℕ) (inner : List ℕ) (s : Status) : Type 0 where
+  own : Status
+  verdict : Verdict aim inner own
+  is : s ≡ raised from own
+
+lowered : (aim : Aim) (from : ℕ) (inner : List ℕ) (s : Status) → VerdictAt aim from inner s → IsRaised aim from inner s
+lowered aim from inner status.Done v = record { own = status.Done; verdict = v; is = refl }
+lowered aim from inner status.Words v = absurd v
+lowered aim from inner (status.Rule number place) v = record { own = status.Rule number v.0; verdict = v.2; is = rw v.1 refl }
+lowered aim from inner (status.Limit number found) v = record { own = (status.Limit number found); verdict = v; is = refl }
+lowered aim from inner (status.Choice number place) v = record { own = (status.Choice number place); verdict = v; is = refl }
+lowered aim from inner (status.Block number) v = record { own = (status.Block number); verdict = v; is = refl }
+lowered aim from inner status.ReadFault v = absurd v
+lowered aim from inner status.WriteFault v = absurd v
+lowered aim from inner status.NoMemory v = absurd v
+
+one_raised : HasOne → (aim : Aim) (from : ℕ) (inner : List ℕ) (s t : Status) → VerdictAt aim from inner s → VerdictAt aim from inner t → s ≡ t
+one_raised one aim from inner s t x y =
+    let a : IsRaised aim from inner s = lowered aim from inner s x in
+    let b : IsRaised aim from inner t = lowered aim from inner t y in
+    a.is ∙ ap (raised from) (one aim inner a.own b.own a.verdict b.verdict) ∙ sym b.is
+
+-- ---- a file
+refused_or_read : OneCodestream → (input : List ℕ) (s : Status) (boxed : Boxed) → RefusesBoxes input s → length input ≤ most_bytes → IsCodestream input boxed → ⊥
+refused_or_read laws input s boxed x within found = elim (refusal input s x) [
+  | inl long ↦ omega (arith, long.0, within)
+  | inr rule ↦ laws.either input boxed rule.number rule.place found rule.broken
+]
+
+one_jp2 : HasOne → OneCodestream → (aim : Aim) (input : List ℕ) (s t : Status) → Jp2Verdict aim input s → Jp2Verdict aim input t → s ≡ t
+one_jp2 one laws aim input s t (inl x) (inl y) = one_refusal laws input s t x y
+one_jp2 one laws aim input s t (inl x) (inr y) = absurd (refused_or_read laws input s y.1 x y.0 y.2)
+one_jp2 one laws aim input s t (inr x) (inl y) = absurd (refused_or_read laws input t x.1 y x.0 x.2)
+one_jp2 one laws aim input s t (inr x) (inr y) =
+    let same : y.1 ≡ x.1 = laws.same input y.1 x.1 y.2 x.2 in
+    one_raised one aim x.1.from (content input x.1) s t x.3 (subst (λ (b : Boxed). VerdictAt aim b.from (content input b) t) same y.3)
+
+pub one_of_file : HasOne → OneCodestream → (aim : Aim) (input : List ℕ) (s t : Status) → FileVerdict aim input s → FileVerdict aim input t → s ≡ t
+one_of_file one laws aim input s t (inl x) (inl y) = one aim input s t x.1 y.1
+one_of_file one laws aim input s t (inl x) (inr y) = absurd (x.0 y.0)
+one_of_file one laws aim input s t (inr x) (inl y) = absurd (y.0 x.0)
+one_of_file one laws aim input s t (inr x) (inr y) = one_jp2 one laws aim input s t x.1 y.1

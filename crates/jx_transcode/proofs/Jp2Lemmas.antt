@@ -1,0 +1,148 @@
+-- Runs on JP2 files: after what left the files as they were, on inputs that were cut, and with their line not said.
+use Rattle.std.proofs.Common.{◌≡◌, ◌∙◌, ◌⊎◌, ◌<◌, ◌+◌, ℕ, List, length, take, inl, inr, ap, sym, Option, Some, None, arith}
+use Rattle.std.proofs.lemmas.List.{take-take}
+use Rattle.jx_io.specs.Device.{Meaning}
+use Rattle.jx_cli.specs.Words.{Text}
+use Rattle.jx_jp2.specs.declared.Boxed.{Boxed}
+use Rattle.jx_jp2.specs.Codestream.{IsJp2, content}
+use Rattle.jx_jp2.specs.Wrapped.{wrapped}
+use Rattle.jx_options.specs.Work.{Work}
+use Rattle.jx_transcode.specs.Aims.{Aim}
+use Rattle.jx_transcode.specs.Jp2Run.{EndsAround, EndsBefore, EndsJp2, LeavesAround, LeavesFile, RefusesBoxes}
+use Rattle.jx_transcode.specs.MakeRun.{AreTold, TellsMade}
+use Rattle.jx_transcode.specs.Outcome.{IsBegun, IsUntouched, most_bytes}
+use Rattle.jx_transcode.specs.declared.status.Status.{Status}
+use Rattle.jx_transcode.specs.declared.status.Status.TheVariants as status
+use Rattle.jx_rounds.specs.declared.tape.TapeEntry.{TapeEntry}
+use Rattle.jx_transcode.proofs.DoneLemmas.{undone}
+use Rattle.jx_transcode.proofs.LeftLemmas.{IsFront, begun_after, made_after, untouched_twice, whole}
+use Rattle.jx_transcode.proofs.MakeLemmas.{limit_told}
+
+-- ---- a front of a file is JP2 where the file is
+same_front : (bytes read : List ℕ) → read ≡ take (most_bytes + 1) bytes → take 12 read ≡ take 12 bytes
+same_front bytes read is = ap (take 12) is ∙ take-take 12 (most_bytes + 1) bytes (omega arith)
+
+pub jp2_whole : (told : Option (List ℕ)) (read : List ℕ) → IsFront told read → IsJp2 read → IsJp2 (whole told read)
+unfolding whole
+jp2_whole (Some bytes) read front is = sym (same_front bytes read front) ∙ is
+jp2_whole None read front is = is
+
+pub jp2_front : (told : Option (List ℕ)) (read : List ℕ) → IsFront told read → IsJp2 (whole told read) → IsJp2 read
+unfolding whole
+jp2_front (Some bytes) read front is = same_front bytes read front ∙ is
+jp2_front None read front is = is
+
+-- ---- a front that is too long
+long_refusal : (s : Status) (read input : List ℕ) → most_bytes < length read → most_bytes < length input → RefusesBoxes read s → RefusesBoxes input s
+long_refusal status.Done read input long whole is = absurd is
+long_refusal status.Words read input long whole is = absurd is
+long_refusal (status.Rule number place) read input long whole is = absurd (omega (arith, is.0, long))
+long_refusal (status.Limit number found) read input long whole is = (whole, is.1, is.2)
+long_refusal (status.Choice number place) read input long whole is = absurd is
+long_refusal (status.Block number) read input long whole is = absurd is
+long_refusal status.ReadFault read input long whole is = absurd is
+long_refusal status.WriteFault read input long whole is = absurd is
+long_refusal status.NoMemory read input long whole is = absurd is
+
+pub jp2_long : (name : Text) (work : Work) (aim : Aim) (read input : List ℕ) (s : Status) (blocks bytes : ℕ) (tape : List TapeEntry) (a b c : Meaning) → most_bytes < length read → most_bytes < length input → IsUntouched a b
+    → EndsJp2 name work aim read s blocks bytes tape b c → EndsJp2 name work aim input s blocks bytes tape a c
+jp2_long name work aim read input s blocks bytes tape a b c long whole first (inl before) =
+    inl (record { verdict = λ v. long_refusal s read input long whole (before.verdict v); none = before.none; tape = before.tape; same = untouched_twice a b c first before.same })
+jp2_long name work aim read input s blocks bytes tape a b c long whole first (inr around) = absurd (omega (arith, around.1.within, long))
+
+-- ---- after what left the files as they were
+file_after : (name : Text) (file : List ℕ) (s : Status) (bytes : ℕ) (a b c : Meaning) → IsUntouched a b → LeavesFile name file s bytes b c → LeavesFile name file s bytes a c
+file_after name file status.Done bytes a b c first is = (made_after name file a b c first is.0, is.1)
+file_after name file status.Words bytes a b c first is = untouched_twice a b c first is
+file_after name file (status.Rule number place) bytes a b c first is = untouched_twice a b c first is
+file_after name file (status.Limit number found) bytes a b c first is = untouched_twice a b c first is
+file_after name file (status.Choice number place) bytes a b c first is = untouched_twice a b c first is
+file_after name file (status.Block number) bytes a b c first is = untouched_twice a b c first is
+file_after name file status.ReadFault bytes a b c first is = untouched_twice a b c first is
+file_after name file status.WriteFault bytes a b c first is = begun_after name file a b c first is
+file_after name file status.NoMemory bytes a b c first is = begun_after name file a b c first is
+
+around_after : (name : Text) (aim : Aim) (input : List ℕ) (boxed : Boxed) (out : List ℕ) (s : Status) (blocks bytes : ℕ) (a b c : Meaning) → IsUntouched a b
+    → LeavesAround name aim input boxed out s blocks bytes b c → LeavesAround name aim input boxed out s blocks bytes a c
+around_after name aim input boxed out s blocks bytes a b c first (inl made) = inl (made.0, made.1, file_after name (wrapped input boxed out) s bytes a b c first made.2)
+around_after name aim input boxed out s blocks bytes a b c first (inr same) = inr (same.0, untouched_twice a b c first same.1)
+
+pub jp2_after : (name : Text) (work : Work) (aim : Aim) (input : List ℕ) (s : Status) (blocks bytes : ℕ) (tape : List TapeEntry) (a b c : Meaning) → IsUntouched a b
+    → EndsJp2 name work aim input s blocks bytes tape b c → EndsJp2 name work aim input s blocks bytes tape a c
+jp2_after name work aim input s blocks bytes tape a b c first (inl before) =
+    inl (record { verdict = before.verdict; none = before.none; tape = before.tape; same = untouched_twice a b c first before.same })
+jp2_after name work aim input s blocks bytes tape a b c first (inr around) = inr (
+  around.0,
+  record {
+    within = around.1.within;
+    found = around.1.found;
+    verdict = around.1.verdict;
+    out = around.1.out;
+    tells = around.1.tells;
+    leaves = around_after name aim input around.0 around.1.out s blocks bytes a b c first around.1.leaves;
+    tape = around.1.tape;
+    whole = around.1.whole;
+  },
+)
+
+-- ---- where the line isn't said
+told_late : (aim : Aim) (inner : List ℕ) (s : Status) (blocks : ℕ) (out : List ℕ) → TellsMade aim inner s blocks out → AreTold inner blocks
+told_late aim inner status.Done blocks out is = inr is.count
+told_late aim inner status.Words blocks out is = absurd is
+told_late aim inner (status.Rule number place) blocks out is = inl is
+told_late aim inner (status.Limit number found) blocks out is = limit_told inner number blocks is
+told_late aim inner (status.Choice number place) blocks out is = inr is
+told_late aim inner (status.Block number) blocks out is = inr is
+told_late aim inner status.ReadFault blocks out is = absurd is
+told_late aim inner status.WriteFault blocks out is = is
+told_late aim inner status.NoMemory blocks out is = is
+
+file_late : (name : Text) (file : List ℕ) (s : Status) (bytes : ℕ) (old new : Meaning) → LeavesFile name file s bytes old new → IsBegun name file old new
+file_late name file status.Done bytes old new is = inr (inr is.0)
+file_late name file status.Words bytes old new is = inl is
+file_late name file (status.Rule number place) bytes old new is = inl is
+file_late name file (status.Limit number found) bytes old new is = inl is
+file_late name file (status.Choice number place) bytes old new is = inl is
+file_late name file (status.Block number) bytes old new is = inl is
+file_late name file status.ReadFault bytes old new is = inl is
+file_late name file status.WriteFault bytes old new is = is
+file_late name file status.NoMemory bytes old new is = is
+
+around_late : (late : Status) → (late ≡ status.WriteFault) ⊎ (late ≡ status.NoMemory) → (name : Text) (work : Work) (aim : Aim) (input : List ℕ) (boxed : Boxed) (s : Status) (blocks bytes : ℕ) (tape : List TapeEntry) (old new : Meaning)
+    → EndsAround name work aim input boxed s blocks bytes tape old new → EndsAround name work aim input boxed late blocks bytes tape old new
+around_late late (inl e) name work aim input boxed s blocks bytes tape old new is = rw e (record {
+  within = is.within;
+  found = is.found;
+  verdict = λ no. absurd no;
+  out = is.out;
+  tells = told_late aim (content input boxed) s blocks is.out is.tells;
+  leaves = elim is.leaves [
+    | inl made ↦ inl (made.0, made.1, file_late name (wrapped input boxed is.out) s bytes old new made.2)
+    | inr same ↦ inr (undone status.WriteFault tt, same.1)
+  ];
+  tape = is.tape;
+  whole = λ done. absurd (undone status.WriteFault tt done);
+})
+around_late late (inr e) name work aim input boxed s blocks bytes tape old new is = rw e (record {
+  within = is.within;
+  found = is.found;
+  verdict = λ no. absurd no;
+  out = is.out;
+  tells = told_late aim (content input boxed) s blocks is.out is.tells;
+  leaves = elim is.leaves [
+    | inl made ↦ inl (made.0, made.1, file_late name (wrapped input boxed is.out) s bytes old new made.2)
+    | inr same ↦ inr (undone status.NoMemory tt, same.1)
+  ];
+  tape = is.tape;
+  whole = λ done. absurd (undone status.NoMemory tt done);
+})
+
+before_late : (late : Status) → (late ≡ status.WriteFault) ⊎ (late ≡ status.NoMemory) → (input : List ℕ) (s : Status) (blocks : ℕ) (tape : List TapeEntry) (old new : Meaning)
+    → EndsBefore input s blocks tape old new → EndsBefore input late blocks tape old new
+before_late late (inl e) input s blocks tape old new is = rw e (record { verdict = λ no. absurd no; none = is.none; tape = is.tape; same = is.same })
+before_late late (inr e) input s blocks tape old new is = rw e (record { verdict = λ no. absurd no; none = is.none; tape = is.tape; same = is.same })
+
+pub jp2_late : (late : Status) → (late ≡ status.WriteFault) ⊎ (late ≡ status.NoMemory) → (name : Text) (work : Work) (aim : Aim) (input : List ℕ) (s : Status) (blocks bytes : ℕ) (tape : List TapeEntry) (old new : Meaning)
+    → EndsJp2 name work aim input s blocks bytes tape old new → EndsJp2 name work aim input late blocks bytes tape old new
+jp2_late late fails name work aim input s blocks bytes tape old new (inl before) = inl (before_late late fails input s blocks tape old new before)
+jp2_late late fails name work aim input s blocks bytes tape old new (inr around) = inr (around.0, around_late late fails name work aim input around.0 s blocks bytes tape old new around.1)

@@ -1,0 +1,81 @@
+-- What stands after what left the files as they were, and inputs of which a front was read.
+use Rattle.std.proofs.Common.{◌≡◌, ◌∙◌, ◌<◌, ◌≤◌, ◌+◌, min, ℕ, List, length, take, inl, inr, refl, ap, Option, Some, None, IfSome, arith}
+use Rattle.std.proofs.lemmas.List.{take_all, length-take}
+use Rattle.jx_io.specs.Device.{Meaning}
+use Rattle.jx_cli.specs.Words.{Text}
+use Rattle.jx_transcode.specs.Aims.{Aim}
+use Rattle.jx_transcode.specs.declared.status.Status.{Status}
+use Rattle.jx_transcode.specs.declared.status.Status.TheVariants as status
+use Rattle.jx_transcode.specs.Outcome.{IsBegun, IsCutShort, IsMade, IsRefused, IsStopped, IsUntouched, Leaves, most_bytes}
+
+pub untouched_twice : (a b c : Meaning) → IsUntouched a b → IsUntouched b c → IsUntouched a c
+untouched_twice a b c first next = record {
+  holds = λ name. next.holds name ∙ first.holds name;
+  making = next.making ∙ first.making;
+  written = next.written ∙ first.written;
+}
+
+pub made_after : (name : Text) (bytes : List ℕ) (a b c : Meaning) → IsUntouched a b → IsMade name bytes b c → IsMade name bytes a c
+made_after name bytes a b c first made = (made.0, untouched_twice a b made.0 first made.1, made.2)
+
+pub stopped_after : (name : Text) (bytes : List ℕ) (a b c : Meaning) → IsUntouched a b → IsStopped name bytes b c → IsStopped name bytes a c
+stopped_after name bytes a b c first stopped = (stopped.0, untouched_twice a b stopped.0 first stopped.1, stopped.2)
+
+pub begun_after : (name : Text) (bytes : List ℕ) (a b c : Meaning) → IsUntouched a b → IsBegun name bytes b c → IsBegun name bytes a c
+begun_after name bytes a b c first (inl same) = inl (untouched_twice a b c first same)
+begun_after name bytes a b c first (inr (inl made)) = inr (inl (made.0, made.1, untouched_twice a b made.0 first made.2, made.3))
+begun_after name bytes a b c first (inr (inr made)) = inr (inr (made_after name bytes a b c first made))
+
+refused_after : (blocks : ℕ) (a b c : Meaning) → IsUntouched a b → IsRefused blocks b c → IsRefused blocks a c
+refused_after blocks a b c first refused = (refused.0, untouched_twice a b c first refused.1)
+
+pub cut_after : (name : Text) (aim : Aim) (input : List ℕ) (blocks : ℕ) (a b c : Meaning) → IsUntouched a b → IsCutShort name aim input blocks b c → IsCutShort name aim input blocks a c
+cut_after name aim input blocks a b c first (inl refused) = inl (refused_after blocks a b c first refused)
+cut_after name aim input blocks a b c first (inr (inl over)) =
+    inr (inl (record { within = over.within; why = over.why; is = over.is; caused = over.caused; count = over.count; same = untouched_twice a b c first over.same }))
+cut_after name aim input blocks a b c first (inr (inr begun)) =
+    inr (inr (record { within = begun.within; count = begun.count; bytes = begun.bytes; of = begun.of; begun = begun_after name begun.bytes a b c first begun.begun }))
+
+pub leaves_after : (name : Text) (aim : Aim) (input : List ℕ) (s : Status) (blocks bytes : ℕ) (a b c : Meaning) → IsUntouched a b → Leaves name aim input s blocks bytes b c
+    → Leaves name aim input s blocks bytes a c
+leaves_after name aim input status.Done blocks bytes a b c first next =
+    record { out = next.out; is = next.is; made = made_after name next.out a b c first next.made; kept = next.kept; count = next.count; long = next.long }
+leaves_after name aim input status.Words blocks bytes a b c first next = refused_after blocks a b c first next
+leaves_after name aim input (status.Rule number place) blocks bytes a b c first next = refused_after blocks a b c first next
+leaves_after name aim input (status.Limit number found) blocks bytes a b c first next = (next.0, untouched_twice a b c first next.1)
+leaves_after name aim input (status.Choice number place) blocks bytes a b c first (inl next) =
+    inl (next.0, record { bytes = next.1.bytes; is = next.1.is; stopped = stopped_after name next.1.bytes a b c first next.1.stopped; count = next.1.count })
+leaves_after name aim input (status.Choice number place) blocks bytes a b c first (inr next) = inr (next.0, next.1, untouched_twice a b c first next.2)
+leaves_after name aim input (status.Block number) blocks bytes a b c first next =
+    record { bytes = next.bytes; is = next.is; stopped = stopped_after name next.bytes a b c first next.stopped; count = next.count }
+leaves_after name aim input status.ReadFault blocks bytes a b c first next = refused_after blocks a b c first next
+leaves_after name aim input status.WriteFault blocks bytes a b c first next = cut_after name aim input blocks a b c first next
+leaves_after name aim input status.NoMemory blocks bytes a b c first next = cut_after name aim input blocks a b c first next
+
+-- the whole of an input of which these bytes were read, where it is told
+unfoldable pub whole : Option (List ℕ) → List ℕ → List ℕ
+whole (Some bytes) read = bytes
+whole None read = read
+
+-- the bytes read are its front
+abbrev pub IsFront : Option (List ℕ) → List ℕ → Type 0
+IsFront told read = IfSome told (λ bytes. read ≡ take (most_bytes + 1) bytes)
+
+pub told_whole : (told : Option (List ℕ)) (read : List ℕ) → IfSome told (λ bytes. whole told read ≡ bytes)
+unfolding whole
+told_whole (Some bytes) read = refl
+told_whole None read = tt
+
+-- a short front is the whole
+pub short_told : (told : Option (List ℕ)) (read : List ℕ) → IsFront told read → length read ≤ most_bytes → IfSome told (λ bytes. read ≡ bytes)
+short_told (Some bytes) read front short =
+    let counted : length read ≡ min (most_bytes + 1) (length bytes) = ap length front ∙ length-take (most_bytes + 1) bytes in
+    front ∙ take_all (most_bytes + 1) bytes (omega (arith, counted, short))
+short_told None read front short = tt
+
+pub long_whole : (told : Option (List ℕ)) (read : List ℕ) → IsFront told read → most_bytes < length read → most_bytes < length (whole told read)
+unfolding whole
+long_whole (Some bytes) read front long =
+    let counted : length read ≡ min (most_bytes + 1) (length bytes) = ap length front ∙ length-take (most_bytes + 1) bytes in
+    omega (arith, counted, long)
+long_whole None read front long = long

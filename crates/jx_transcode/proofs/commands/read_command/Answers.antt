@@ -1,0 +1,40 @@
+use Rattle.std.proofs.Common.{◌∙◌, map, refl, string_bytes}
+use Rattle.jx_transcode.proofs.RunLemmas.{same_fault}
+use Rattle.jx_transcode.proofs.commands.read_command.Goals as goal
+
+pub returns-in-Ok-clause-asks : goal.returns-in-Ok-clause-asks
+returns-in-Ok-clause-asks c = (
+  c.in-Ok.ensures.good,
+  c.commands_are_apart.ensures.make (map string_bytes c.args.words.now) c.in-Ok.ensures.good,
+  c.commands_are_apart.ensures.boxes (map string_bytes c.args.words.now) c.in-Ok.ensures.good,
+  c.in-Ok.ensures.value,
+)
+
+pub returns-in-Ok-clause-may : goal.returns-in-Ok-clause-may
+returns-in-Ok-clause-may c = (c.in-Ok.ensures.wanted, c.in-Ok.ensures.work)
+
+pub returns-in-Ok-read_make-clause-asks : goal.returns-in-Ok-read_make-clause-asks
+returns-in-Ok-read_make-clause-asks c = (
+  c.in-Err-Words.ensures.words (rw c.in-Err-Words.field-0-is refl),
+  c.in-Ok-read_make.ensures.good,
+  c.commands_are_apart.ensures.others (map string_bytes c.args.words.now) c.in-Ok-read_make.ensures.good,
+  c.asked.view_is ∙ c.in-Ok-read_make.ensures.value,
+)
+
+pub returns-in-Ok-read_make-clause-may : goal.returns-in-Ok-read_make-clause-may
+returns-in-Ok-read_make-clause-may c = rw c.asked.view_is c.in-Ok-read_make.ensures.may
+
+pub returns-in-Ok-read_boxes-clause-asks : goal.returns-in-Ok-read_boxes-clause-asks
+returns-in-Ok-read_boxes-clause-asks c = (
+  c.in-Err-Words.ensures.words (rw c.in-Err-Words.field-0-is refl),
+  c.in-Err-Words-read_make.ensures.words (rw c.in-Err-Words-read_make.field-0-is refl),
+  c.in-Ok-read_boxes.ensures.good,
+  c.in-Ok-read_boxes.ensures.value,
+)
+
+pub returns-in-Err-clause-words : goal.returns-in-Err-clause-words
+returns-in-Err-clause-words c = λ words. (
+  c.in-Err-Words.ensures.words (rw c.in-Err-Words.field-0-is refl),
+  c.in-Err-Words-read_make.ensures.words (rw c.in-Err-Words-read_make.field-0-is refl),
+  c.in-Err.ensures.words (same_fault _ _ words),
+)

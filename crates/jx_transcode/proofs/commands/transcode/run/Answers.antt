@@ -1,0 +1,37 @@
+use Rattle.jx_transcode.proofs.OutcomeLemmas.{ends_as, ends_read, ends_refused, ends_said}
+use Rattle.jx_transcode.proofs.SaidLemmas.{read_said, unsaid, write_said}
+use Rattle.jx_transcode.proofs.StatusLemmas.{unread_failed, unread_unwritten}
+use Rattle.jx_transcode.proofs.commands.transcode.run.Goals as goal
+
+pub returns-in-Ok-clause-ends : goal.returns-in-Ok-clause-ends
+returns-in-Ok-clause-ends g c = rw (c.say_ending.ensures.blocks, c.say_ending.ensures.tape) (ends_said c.args.request.now _ c.answer_file-ending.result.status c.say_ending.result.status c.answer_file-ending.result.blocks
+    c.answer_file-ending.result.bytes c.answer_file-ending.result.tape.items _ _ _ _ _ _
+    (ends_as c.args.request.now _ _ _ _ _ _ _ _ _ _ _ c.from.ensures c.to.ensures c.options.ensures c.work.ensures
+    (ends_read (record { from = c.from.result.now; to = c.to.result.now; wanted = c.options.result.now; work = c.work.result }) _ c.deref.result.now _ _ _ _ _ (g.F.Files.meaning c.read_input.new.files) _
+    (rw c.deref.ensures.value c.in-Ok.ensures.bytes) c.in-Ok.ensures.same c.answer_file-ending.ensures.bare c.answer_file-ending.ensures.jp2 c.answer_file-ending.ensures.long))
+    c.say_ending.ensures.says)
+
+pub returns-in-Ok-clause-read : goal.returns-in-Ok-clause-read
+returns-in-Ok-clause-read g c = read_said _ _ _ _ _ _ _ (λ failed. absurd (c.answer_file-ending.ensures.read.0 failed)) c.say_ending.ensures.says
+
+pub returns-in-Ok-clause-write : goal.returns-in-Ok-clause-write
+returns-in-Ok-clause-write g c = write_said _ _ _ _ _ _ _ (rw (← c.in-Ok.ensures.other) c.answer_file-ending.ensures.cause) c.say_ending.ensures.says
+
+pub returns-in-Ok-clause-unsaid : goal.returns-in-Ok-clause-unsaid
+returns-in-Ok-clause-unsaid g c = unsaid _ _ _ _ _ _ _ c.say_ending.ensures.says
+
+pub returns-in-Err-clause-ends : goal.returns-in-Err-clause-ends
+returns-in-Err-clause-ends g c = rw (c.say_ending-in-Err.ensures.blocks, c.say_ending-in-Err.ensures.tape) (ends_said c.args.request.now _ c.unread.result.status c.say_ending-in-Err.result.status c.unread.result.blocks
+    c.unread.result.bytes c.unread.result.tape.items _ _ _ _ _ _
+    (ends_refused c.args.request.now _ c.in-Err.refused c.unread.result.status c.unread.result.blocks c.unread.result.bytes c.unread.result.tape.items _ _ c.unread.ensures.status c.unread.ensures.none c.unread.ensures.tape
+    c.in-Err.ensures.same)
+    c.say_ending-in-Err.ensures.says)
+
+pub returns-in-Err-clause-read : goal.returns-in-Err-clause-read
+returns-in-Err-clause-read g c = read_said _ _ _ _ _ _ _ (λ failed. c.in-Err.ensures.cause.failed (unread_failed c.in-Err.refused _ c.unread.ensures.status failed)) c.say_ending-in-Err.ensures.says
+
+pub returns-in-Err-clause-write : goal.returns-in-Err-clause-write
+returns-in-Err-clause-write g c = write_said _ _ _ _ _ _ _ (λ failed. absurd (unread_unwritten c.in-Err.refused _ c.unread.ensures.status failed)) c.say_ending-in-Err.ensures.says
+
+pub returns-in-Err-clause-unsaid : goal.returns-in-Err-clause-unsaid
+returns-in-Err-clause-unsaid g c = unsaid _ _ _ _ _ _ _ c.say_ending-in-Err.ensures.says

@@ -1,0 +1,73 @@
+//! `boxes`: the boxes of a JP2 file are listed, and nothing is written.
+
+ghost use Rattle.std.specs.Prelude.{◌≡◌, ◌<◌, IfErr, IfOk, [], string_bytes};
+ghost use Rattle.jx_io.specs.Causes.{Rose};
+ghost use Rattle.jx_transcode.specs.BoxesRun.{EndsListed, IsListed, IsUnlisted};
+ghost use Rattle.jx_transcode.specs.Outcome.{EndsAs};
+
+use crate::device::MOST;
+use crate::input::{read_input, unread_as};
+use crate::say::{refuse, say_line};
+use crate::{Report, Status};
+use jx_io::{Files, Sink};
+use jx_jp2::{BoxFault, is_jp2, list};
+use std::alloc::Global;
+
+/// The lines of all boxes of the bytes that were read, at most `MOST`; or why there are none.
+fn lines_of(alloc: Global, input: &[u8]) -> Result<String, Status>
+    ensures listed { IfOk result (λ text. IsListed input.now (string_bytes text)) }
+    ensures refused { IfErr result (λ status. IsUnlisted input.now status) }
+{
+    if input.len() >= MOST {
+        return Err(Status::Limit {
+            number: 1,
+            found: 268_435_457,
+        });
+    }
+    if !is_jp2(input) {
+        return Err(Status::Rule {
+            number: 36,
+            place: 0,
+        });
+    }
+    match list(alloc, input) {
+        Ok(lines) => Ok(lines),
+        Err(BoxFault::Rule { number, place }) => Err(Status::Rule {
+            number,
+            place: u64::from(place),
+        }),
+        Err(BoxFault::NoMemory) => Err(Status::NoMemory),
+    }
+}
+
+/// Says the lines.
+fn say_lines<S: Sink>(alloc: Global, say: &mut S, lines: &str) -> Report
+    ensures says { EndsAs Status.Done lines.now result.status (S.said say.old) (S.said say.new) (S.faults say.old) (S.faults say.new) }
+    ensures none { result.blocks ≡ 0 }
+    ensures tape { result.tape.items ≡ [] }
+{
+    Report {
+        status: say_line(say, Status::Done, lines),
+        blocks: 0,
+        tape: Vec::new(alloc),
+    }
+}
+
+/// Reads the file of a name, and says the lines of its boxes, or why it can't.
+pub fn run<F: Files, S: Sink>(alloc: Global, name: &str, files: &mut F, say: &mut S) -> Report
+    requires { F.can_open files.old name.now }
+    ensures ends { EndsListed name.now result.status result.blocks result.tape.items (F.meaning files.old) (F.meaning files.new) (S.said say.old) (S.said say.new) }
+    ensures read { result.status ≡ Status.ReadFault → Rose (F.read_faults files.old) (F.read_faults files.new) }
+    ensures write { result.status ≡ Status.WriteFault → Rose (S.faults say.old) (S.faults say.new) }
+    ensures unsaid { S.faults say.old < S.faults say.new → result.status ≡ Status.WriteFault }
+    ensures other { F.write_faults files.new ≡ F.write_faults files.old }
+{
+    let input = match read_input(alloc, files, name) {
+        Ok(input) => input,
+        Err(refused) => return refuse(alloc, say, unread_as(refused)),
+    };
+    match lines_of(alloc, &input) {
+        Ok(lines) => say_lines(alloc, say, lines.as_str()),
+        Err(status) => refuse(alloc, say, status),
+    }
+}

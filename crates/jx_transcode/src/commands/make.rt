@@ -1,0 +1,185 @@
+//! `make`: a generated codestream is transcoded in memory, and no file is touched.
+
+ghost use Rattle.std.specs.Prelude.{◌≡◌, ◌<◌, ℕ, List, IfOk, string_bytes};
+ghost use Rattle.std.specs.List.{sum};
+ghost use Rattle.jx_io.specs.Causes.{Rose};
+ghost use Rattle.jx_io.specs.Device.{Meaning};
+ghost use Rattle.jx_plan.specs.Planned.{chosen};
+ghost use Rattle.jx_cli.specs.MakeWords.{MayBeMade};
+ghost use Rattle.jx_transcode.specs.MakeRun.{EndsMade, IsLastMade, IsReadyToSay, input_of, make_line, wanted_made, work_made};
+ghost use Rattle.jx_transcode.specs.Outcome.{EndsAs};
+
+use crate::lines::line_of;
+use crate::rewrite::answer;
+use crate::say::{refuse, say_line};
+use crate::{Report, Status};
+use jx_base::Style;
+use jx_cli::Make;
+use jx_io::{Files, Gate, Sink, SureFiles};
+use jx_layers::LayerPlanner;
+use jx_options::{Marks, Options, OrderChoice, PartChoice, PrecinctChoice, Work};
+use jx_rounds::{Crew, TapeEntry};
+use std::alloc::{AllocError, Global};
+use std::sync::Wait;
+use std::thread::Threads;
+
+/// How the work is done.
+const WORK: Work = Work {
+    threads: 4,
+    window: 64,
+    most: 268_435_456,
+};
+
+/// How a transcoded picture came out, before anything is said.
+#[derive(Debug, Drop)]
+struct Made {
+    status: Status,
+    blocks: u32,
+    // after Done, how many bytes were generated
+    before: usize,
+    // and how many the output has
+    after: usize,
+    // and their sum
+    total: u128,
+    tape: Vec<TapeEntry>,
+}
+
+/// How the output is written: in the order RPCL, in one layer, in the style of bypass and segmentation symbols, a tile-part for each
+/// resolution, with PLT segments.
+fn options(alloc: Global) -> Result<Options, AllocError>
+    ensures { IfOk result (λ options. options ≡ wanted_made) }
+{
+    Ok(Options {
+        order: OrderChoice::Order(2),
+        precincts: PrecinctChoice::Keep,
+        style: Some(Style { bits: 33 }),
+        layers: String::from_str(alloc, "one")?,
+        marks: Marks {
+            plt: true,
+            parts: PartChoice::Resolution,
+            ..Marks::none()
+        },
+    })
+}
+
+fn sum_of(bytes: &[u8]) -> u128
+    ensures { result ≡ sum bytes.now }
+{
+    let mut total = 0;
+    for byte in bytes {
+        total += u128::from(*byte);
+    }
+    total
+}
+
+/// The sum of the bytes of the file that was created last.
+fn sum_made(files: &SureFiles) -> u128
+    ensures { (name bytes : List ℕ) → IsLastMade name bytes (⟦<SureFiles as Files>⟧.meaning files.now) → result ≡ sum bytes }
+{
+    match files.made() {
+        Some((_, bytes)) => sum_of(bytes),
+        None => 0,
+    }
+}
+
+/// What becomes of a generated codestream.
+fn transcoded<R: Threads + Wait + Sync, G: Gate + Sync>(
+    crew: &Crew<'_, R, G>,
+    alloc: Global,
+    asked: Make,
+    input: &[u8],
+    options: &Options,
+    planners: &mut [Box<dyn LayerPlanner>],
+) -> Made
+    requires generated { input.now ≡ input_of asked }
+    requires wanted { options.now ≡ wanted_made }
+    requires work { crew.now.work ≡ work_made }
+    ensures { IsReadyToSay asked (λ text facts. chosen (λ b. serves_text b text) (λ b. rule_of b text facts) planners.old) result.status result.blocks result.before result.after result.total result.tape.items }
+{
+    let mut files = SureFiles::new(alloc);
+    let ending = answer(crew, alloc, &mut files, input, "", options, planners);
+    Made {
+        status: ending.status,
+        blocks: ending.blocks,
+        before: input.len(),
+        after: ending.bytes,
+        total: sum_made(&files),
+        tape: ending.tape,
+    }
+}
+
+/// The line of a status. After Done `before` and `after` are the lengths of what was generated and of the output, and `total` is the sum
+/// of the output's bytes.
+fn make_line(
+    alloc: Global,
+    status: Status,
+    blocks: u32,
+    before: usize,
+    after: usize,
+    total: u128,
+) -> Result<String, AllocError>
+    ensures { IfOk result (λ line. string_bytes line ≡ make_line status blocks before after total) }
+{
+    match status {
+        Status::Done => format!(in alloc;
+            "make: {blocks} blocks, {before} bytes in, {after} bytes out, sum {total}\n"
+        ),
+        other => line_of(alloc, other, blocks, 0),
+    }
+}
+
+/// Says the line of what came out.
+fn say_made<S: Sink>(alloc: Global, say: &mut S, made: Made) -> Report
+    ensures says { EndsAs made.status (make_line made.status made.blocks made.before made.after made.total) result.status (S.said say.old) (S.said say.new) (S.faults say.old) (S.faults say.new) }
+    ensures blocks { result.blocks ≡ made.blocks }
+    ensures tape { result.tape.items ≡ made.tape.items }
+{
+    let status = match make_line(
+        alloc,
+        made.status,
+        made.blocks,
+        made.before,
+        made.after,
+        made.total,
+    ) {
+        Ok(line) => say_line(say, made.status, line.as_str()),
+        Err(_) => Status::NoMemory,
+    };
+    Report {
+        status,
+        blocks: made.blocks,
+        tape: made.tape,
+    }
+}
+
+/// Does what good words ask for, and says its line.
+pub fn run<R: Threads + Wait + Sync, S: Sink, G: Gate + Sync>(
+    rt: &R,
+    alloc: Global,
+    asked: Make,
+    say: &mut S,
+    gate: &G,
+    planners: &mut [Box<dyn LayerPlanner>],
+) -> Report
+    requires { MayBeMade asked }
+    ensures ends { (files : Meaning) → EndsMade asked (λ text facts. chosen (λ b. serves_text b text) (λ b. rule_of b text facts) planners.old) result.status result.blocks result.tape.items files files (S.said say.old) (S.said say.new) }
+    ensures read { result.status ≡ Status.ReadFault → ⊥ }
+    ensures write { result.status ≡ Status.WriteFault → Rose (S.faults say.old) (S.faults say.new) }
+    ensures unsaid { S.faults say.old < S.faults say.new → result.status ≡ Status.WriteFault }
+{
+    let crew = Crew {
+        rt,
+        gate,
+        work: WORK,
+    };
+    let Ok(options) = options(alloc) else {
+        return refuse(alloc, say, Status::NoMemory);
+    };
+    match jx_generate::make(alloc, asked.seed, asked.width, asked.height) {
+        Ok(input) => {
+            let made = transcoded(&crew, alloc, asked, &input, &options, planners);
+            say_made(alloc, say, made)
+        }
+        Err(_) => refuse(alloc, say, Status::NoMemory),
+    }
+}

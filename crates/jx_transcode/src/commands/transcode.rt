@@ -1,0 +1,122 @@
+//! `transcode`: a codestream, or that in a JP2 file, is rewritten to another file.
+
+ghost use Rattle.std.specs.Prelude.{◌≡◌, ◌<◌, ◌⊎◌, [], length};
+ghost use Rattle.jx_jp2.specs.Codestream.{IsJp2};
+ghost use Rattle.jx_plan.specs.Planned.{chosen};
+ghost use Rattle.jx_options.specs.Wanted.{MayBeWanted};
+ghost use Rattle.jx_options.specs.Work.{MayBeWork};
+ghost use Rattle.jx_io.specs.Causes.{Rose};
+ghost use Rattle.jx_transcode.specs.Filed.{IsAnswered, unread_as};
+ghost use Rattle.jx_transcode.specs.Jp2Run.{EndsJp2};
+ghost use Rattle.jx_transcode.specs.Outcome.{EndsAs, line_of, most_bytes};
+ghost use Rattle.jx_transcode.specs.TranscodeRun.{Ends};
+
+use crate::around::answer_jp2;
+use crate::input::{read_input, unread_as};
+use crate::lines::line_of;
+use crate::rewrite::{Ending, answer};
+use crate::say::say_line;
+use crate::{Report, Status};
+use jx_cli::Request;
+use jx_io::{Files, Gate, Refused, Sink};
+use jx_jp2::is_jp2;
+use jx_layers::LayerPlanner;
+use jx_options::Options;
+use jx_rounds::Crew;
+use std::alloc::Global;
+use std::sync::Wait;
+use std::thread::Threads;
+
+/// The input couldn't be opened or read.
+fn unread(alloc: Global, refused: Refused) -> Ending
+    ensures status { result.status ≡ unread_as refused }
+    ensures none { (result.blocks ≡ 0) × (result.bytes ≡ 0) }
+    ensures tape { result.tape.items ≡ [] }
+{
+    Ending::refused(alloc, unread_as(refused))
+}
+
+/// What becomes of the bytes that were read, at most `MOST`: those of a codestream, or of a JP2 file.
+fn answer_file<R: Threads + Wait + Sync, G: Gate + Sync, F: Files>(
+    crew: &Crew<'_, R, G>,
+    alloc: Global,
+    files: &mut F,
+    input: &[u8],
+    to: &str,
+    options: &Options,
+    planners: &mut [Box<dyn LayerPlanner>],
+) -> Ending
+    requires creates { F.can_create files.old to.now }
+    requires wanted { MayBeWanted options.now }
+    requires work { MayBeWork crew.now.work }
+    ensures bare { (IsJp2 input.now → ⊥) → IsAnswered to.now crew.now.work (record { wanted = options.now; rule = λ facts. chosen (λ b. serves_text b options.now.layers) (λ b. rule_of b options.now.layers facts) planners.old }) input.now result.status result.blocks result.bytes result.tape.items (F.meaning files.old) (F.meaning files.new) }
+    ensures jp2 { IsJp2 input.now → EndsJp2 to.now crew.now.work (record { wanted = options.now; rule = λ facts. chosen (λ b. serves_text b options.now.layers) (λ b. rule_of b options.now.layers facts) planners.old }) input.now result.status result.blocks result.bytes result.tape.items (F.meaning files.old) (F.meaning files.new) }
+    ensures long { most_bytes < length input.now → result.tape.items ≡ [] }
+    ensures cause { result.status ≡ Status.WriteFault → Rose (F.write_faults files.old) (F.write_faults files.new) }
+    ensures read { (result.status ≡ Status.ReadFault → ⊥) × (result.status ≡ Status.Words → ⊥) }
+    ensures other { F.read_faults files.new ≡ F.read_faults files.old }
+{
+    if is_jp2(input) {
+        return answer_jp2(crew, alloc, files, input, to, options, planners);
+    }
+    answer(crew, alloc, files, input, to, options, planners)
+}
+
+/// Says the line of what was done.
+fn say_ending<S: Sink>(alloc: Global, say: &mut S, ending: Ending) -> Report
+    ensures says { EndsAs ending.status (line_of ending.status ending.blocks ending.bytes) result.status (S.said say.old) (S.said say.new) (S.faults say.old) (S.faults say.new) }
+    ensures blocks { result.blocks ≡ ending.blocks }
+    ensures tape { result.tape.items ≡ ending.tape.items }
+{
+    let status = match line_of(alloc, ending.status, ending.blocks, ending.bytes) {
+        Ok(line) => say_line(say, ending.status, line.as_str()),
+        Err(_) => Status::NoMemory,
+    };
+    Report {
+        status,
+        blocks: ending.blocks,
+        tape: ending.tape,
+    }
+}
+
+/// Does what good words ask for, and says its line.
+pub fn run<R: Threads + Wait + Sync, F: Files, S: Sink, G: Gate + Sync>(
+    rt: &R,
+    alloc: Global,
+    request: &Request,
+    files: &mut F,
+    say: &mut S,
+    gate: &G,
+    planners: &mut [Box<dyn LayerPlanner>],
+) -> Report
+    requires opens { F.can_open files.old request.now.from }
+    requires creates { F.can_create files.old request.now.to }
+    requires wanted { MayBeWanted request.now.wanted }
+    requires work { MayBeWork request.now.work }
+    ensures ends { Ends request.now (λ text facts. chosen (λ b. serves_text b text) (λ b. rule_of b text facts) planners.old) result.status result.blocks result.tape.items (F.meaning files.old) (F.meaning files.new) (S.said say.old) (S.said say.new) }
+    ensures read { result.status ≡ Status.ReadFault → Rose (F.read_faults files.old) (F.read_faults files.new) }
+    ensures write { result.status ≡ Status.WriteFault
+        → Rose (F.write_faults files.old) (F.write_faults files.new) ⊎ Rose (S.faults say.old) (S.faults say.new) }
+    ensures unsaid { S.faults say.old < S.faults say.new → result.status ≡ Status.WriteFault }
+{
+    let crew = Crew {
+        rt,
+        gate,
+        work: request.work(),
+    };
+    match read_input(alloc, files, request.from()) {
+        Ok(input) => {
+            let ending = answer_file(
+                &crew,
+                alloc,
+                files,
+                &input,
+                request.to(),
+                request.options(),
+                planners,
+            );
+            say_ending(alloc, say, ending)
+        }
+        Err(refused) => say_ending(alloc, say, unread(alloc, refused)),
+    }
+}

@@ -1,0 +1,35 @@
+//! The input of a command, from its name to its bytes.
+
+ghost use Rattle.std.specs.Prelude.{◌≡◌, take, IfOk, IfSome};
+ghost use Rattle.jx_io.specs.Causes.{HasCause};
+ghost use Rattle.jx_io.specs.Device.{Allows, joined};
+ghost use Rattle.jx_transcode.specs.Filed.{unread_as};
+ghost use Rattle.jx_transcode.specs.Outcome.{IsUntouched};
+
+use crate::Status;
+use crate::device::{MOST, read_all};
+use jx_io::{Files, Refused};
+use std::alloc::Global;
+
+/// Reads the file of a name to its end, or its first `MOST` bytes.
+pub fn read_input<F: Files>(alloc: Global, files: &mut F, name: &str) -> Result<Vec<u8>, Refused>
+    requires { F.can_open files.old name.now }
+    ensures bytes { IfOk result (λ v. IfSome (joined ((F.meaning files.old).holds name.now)) (λ b. v.items ≡ take MOST b)) }
+    ensures same { IsUntouched (F.meaning files.old) (F.meaning files.new) }
+    ensures creates { Allows (F.can_create files.old) (F.can_create files.new) }
+    ensures cause { HasCause (F.read_faults files.old) (F.read_faults files.new) result }
+    ensures other { F.write_faults files.new ≡ F.write_faults files.old }
+{
+    files.open(name)?;
+    read_all(alloc, files)
+}
+
+/// The status of an input that couldn't be opened or read.
+pub fn unread_as(refused: Refused) -> Status
+    ensures { result ≡ unread_as refused }
+{
+    match refused {
+        Refused::Failed => Status::ReadFault,
+        Refused::NoMemory => Status::NoMemory,
+    }
+}
