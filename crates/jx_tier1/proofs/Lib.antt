@@ -22,6 +22,7 @@ mod RecodeLemmas
 mod RefineLemmas
 mod ScanLemmas
 mod SeenLemmas
+mod SeenRows
 mod ShowLemmas
 mod SignLemmas
 mod SignificanceLemmas

@@ -42,9 +42,6 @@ is_marked planes g m causal x y around s p e f = sym (marked planes g m causal x
 pub zero_unmarked : (around : ℕ) → around / 16 % 2 ≡ 0 → around / 16 % 2 ≡ 1 → ⊥
 zero_unmarked around e f = omega arith
 
-pub not_zero : (around : ℕ) → (around / 16 % 2 ≡ 0 → ⊥) → around / 16 % 2 ≡ 1
-not_zero around e = omega arith
-
 pub is_unmarked : (planes : ℕ) (g : Cells) (m : Marking) (causal : Bool) (x y around : ℕ) → Shows planes g m → IsSpot m x y → around ≡ nine g causal x y
     → (around / 16 % 2 ≡ 1 → ⊥) → significant (coef_at g x y) ≡ false
 is_unmarked planes g m causal x y around s p e f = sym (marked planes g m causal x y around s p e) ∙ ne_eqb (around / 16 % 2) 1 f

@@ -1,6 +1,6 @@
 //! Marks of what is significant and notes of each coefficient, a word of either for each column of a stripe.
 
-ghost use Rattle.std.specs.Prelude.{◌≡◌, ◌+◌, ◌-◌, ◌*◌, ◌/◌, ◌%◌, ◌<◌, ◌≤◌, ◌==◌, length, slice_index_or, slice_set, IfOk};
+ghost use Rattle.std.specs.Prelude.{◌≡◌, ◌+◌, ◌-◌, ◌*◌, ◌/◌, ◌%◌, ◌<◌, ◌≤◌, ◌==◌, length, slice_index_or, slice_set, if◌then◌else◌, IfOk};
 ghost use Rattle.jx_tier1.specs.Marks.{power};
 ghost use Rattle.jx_tier1.specs.Notes.{Marking, IsSpot, words_of, unmarked, spot, six_in, window_in, digit_in, note_in, replaced, noted, weighed, raised};
 
@@ -62,6 +62,16 @@ fn add(words: &mut Vec<u16>, index: usize, weight: u16)
 {
     let word = words[index].wrapping_add(weight);
     words[index] = word;
+}
+
+/// What the rows of a column that are seen stay below. A pass makes this choice once, where a choice
+/// between words would be made at each column.
+#[inline(always)]
+fn seen_below(causal: bool) -> u32
+    ensures limit { result ≡ (if causal then 32768 else 65536) }
+    ensures some { 0 < result }
+{
+    if causal { 32768 } else { 65536 }
 }
 
 impl Marks {
@@ -126,8 +136,7 @@ impl Marks {
         ensures six { result ≡ six_in self.now causal stripe column }
         ensures most { result < 65536 }
     {
-        let rows = self.rows(stripe, column);
-        if causal { rows % 32768 } else { rows }
+        self.rows(stripe, column) % seen_below(causal)
     }
 
     /// Six rows of three columns.

@@ -132,8 +132,8 @@ fn decide_place<S: Answering>(
     decide_named(source, marks, turns, plane, x, y, n, columns, stripe)
 }
 
-/// The run mode. It is apart, so that what each place has stays small.
-#[inline(never)]
+/// The run mode.
+#[inline(always)]
 fn run<S: Answering>(
     source: &mut S,
     marks: &mut Marks,
@@ -163,8 +163,9 @@ fn run<S: Answering>(
     Ok(columns)
 }
 
-/// A cleanup pass at a place (T.800 D.3.4).
-#[inline(always)]
+/// A cleanup pass at a place (T.800 D.3.4). It is apart, since with it `walk_place` would be so large
+/// that the compiler leaves none of the three kinds of passes inline.
+#[inline(never)]
 pub(crate) fn cleanup<S: Answering>(
     source: &mut S,
     marks: &mut Marks,

@@ -46,7 +46,8 @@ fn geometry_of(
     requires totals { totals_fault stream.now ≡ None }
     ensures { IfOk result (λ geom. geom ≡ geometry stream.now tile) }
 {
-    TileGeom::new(alloc, &view.canvas(), tile, view.shapes())
+    let shapes = view.shared_shapes().share()?;
+    TileGeom::sharing(alloc, &view.canvas(), tile, shapes)
 }
 
 impl<'a> TileFrame<'a> {

@@ -12,7 +12,7 @@ ghost use Rattle.jx_tile.specs.Totals.{block_total, packet_total, tile_packets, 
 
 use jx_base::{NoMemory, Rect};
 use jx_codestream::{MainView, Stream, StreamFault};
-use jx_geom::{CompShape, count_in, tile_of};
+use jx_geom::{CompShape, count_known, has_no_place, is_empty_after, tile_of};
 use std::alloc::Global;
 
 /// The code-blocks and the precincts of a tile of these places (ITU-T T.800, B.6 and B.7).
@@ -25,10 +25,15 @@ fn count_tile(places: Rect, shapes: &[CompShape]) -> (u128, u128)
     ensures few_blocks { result.0 < 2 ^ 87 }
     ensures few_precincts { result.1 < 2 ^ 87 }
 {
+    if has_no_place(places, shapes) {
+        return (0, 0);
+    }
     let mut blocks = 0;
     let mut precincts = 0;
+    let mut none = false;
     for comp in 0..shapes.len() {
-        let counts = count_in(places, &shapes[comp]);
+        none = is_empty_after(places, shapes, comp, none);
+        let counts = count_known(places, &shapes[comp], none);
         blocks += counts.0;
         precincts += counts.1;
     }
