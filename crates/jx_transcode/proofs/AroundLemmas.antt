@@ -5,11 +5,11 @@ use Rattle.jx_io.specs.Stored.{empty}
 use Rattle.jx_cli.specs.Words.{Text}
 use Rattle.jx_jp2.specs.declared.Boxed.{Boxed}
 use Rattle.jx_jp2.specs.Codestream.{IsCodestream, IsNextFault, content}
-use Rattle.jx_jp2.specs.Wrapped.{wrapped}
 use Rattle.jx_options.specs.Work.{Work}
+use Rattle.jx_options.specs.declared.FormChoice.{FormChoice}
 use Rattle.jx_transcode.specs.Aims.{Aim}
 use Rattle.jx_transcode.specs.Filed.{IsAnswered}
-use Rattle.jx_transcode.specs.Jp2Run.{EndsAround, EndsJp2, IsFileEnd, LeavesFile, VerdictAt, raised}
+use Rattle.jx_transcode.specs.Jp2Run.{EndsAround, EndsJp2, IsFileEnd, LeavesFile, VerdictAt, file_in, raised}
 use Rattle.jx_transcode.specs.MakeRun.{IsLastMade, IsMadeAnew, TellsMade}
 use Rattle.jx_transcode.specs.Outcome.{IsBegun, IsMade, IsVerdict, Verdict, most_bytes}
 use Rattle.jx_transcode.specs.declared.status.Status.{Status}
@@ -103,10 +103,10 @@ output_of : (called : Text) (work : Work) (aim : Aim) (inner : List ℕ) (s : St
     → IsOutOf called aim inner s blocks bytes new
 output_of called work aim inner s blocks bytes entries new is = out_of called aim inner s blocks bytes new is.words is.read is.write is.answer.leaves
 
-pub around_refused : (name called : Text) (work : Work) (aim : Aim) (input : List ℕ) (boxed : Boxed) (s : Status) (blocks bytes : ℕ) (entries : List TapeEntry) (made files : Meaning) → length input ≤ most_bytes → IsCodestream input boxed
+pub around_refused : (name called : Text) (work : Work) (kind : FormChoice) (aim : Aim) (input : List ℕ) (boxed : Boxed) (s : Status) (blocks bytes : ℕ) (entries : List TapeEntry) (made files : Meaning) → length input ≤ most_bytes → IsCodestream input boxed
     → IsInMemory called work aim (content input boxed) s blocks bytes entries made → (s ≡ status.Done → ⊥)
-    → EndsAround name work aim input boxed (raised boxed.from s) blocks 0 entries files files
-around_refused name called work aim input boxed s blocks bytes entries made files within found is other =
+    → EndsAround name work kind aim input boxed (raised boxed.from s) blocks 0 entries files files
+around_refused name called work kind aim input boxed s blocks bytes entries made files within found is other =
     let o : IsOutOf called aim (content input boxed) s blocks bytes made = output_of called work aim (content input boxed) s blocks bytes entries made is in
     let apart : raised boxed.from s ≡ status.Done → ⊥ = raised_apart boxed.from s status.Done tt other in record {
       within = within;
@@ -120,11 +120,11 @@ around_refused name called work aim input boxed s blocks bytes entries made file
     }
 
 -- ---- a codestream with one
-pub around_written : (name called : Text) (work : Work) (aim : Aim) (input : List ℕ) (boxed : Boxed) (s late : Status) (blocks bytes long : ℕ) (entries : List TapeEntry) (out : List ℕ) (made old new : Meaning) → length input ≤ most_bytes
+pub around_written : (name called : Text) (work : Work) (kind : FormChoice) (aim : Aim) (input : List ℕ) (boxed : Boxed) (s late : Status) (blocks bytes long : ℕ) (entries : List TapeEntry) (out : List ℕ) (made old new : Meaning) → length input ≤ most_bytes
     → IsCodestream input boxed → IsInMemory called work aim (content input boxed) s blocks bytes entries made → s ≡ status.Done → ((last file : List ℕ) → IsLastMade last file made → out ≡ file)
-    → IsFileEnd late → LeavesFile name (wrapped input boxed out) late long old new
-    → EndsAround name work aim input boxed late blocks long entries old new
-around_written name called work aim input boxed s late blocks bytes long entries out made old new within found of done last ends leaves = by late ends leaves
+    → IsFileEnd late → LeavesFile name (file_in kind input boxed out) late long old new
+    → EndsAround name work kind aim input boxed late blocks long entries old new
+around_written name called work kind aim input boxed s late blocks bytes long entries out made old new within found of done last ends leaves = by late ends leaves
   where
     is : IsInMemory called work aim (content input boxed) status.Done blocks bytes entries made
     is = subst (λ (x : Status). IsInMemory called work aim (content input boxed) x blocks bytes entries made) done of
@@ -138,14 +138,14 @@ around_written name called work aim input boxed s late blocks bytes long entries
     tells : IsMadeAnew aim (content input boxed) out blocks
     tells = subst (λ (b : List ℕ). IsMadeAnew aim (content input boxed) b blocks) (sym same) o.tells
 
-    by : (t : Status) → IsFileEnd t → LeavesFile name (wrapped input boxed out) t long old new → EndsAround name work aim input boxed t blocks long entries old new
+    by : (t : Status) → IsFileEnd t → LeavesFile name (file_in kind input boxed out) t long old new → EndsAround name work kind aim input boxed t blocks long entries old new
     by t (inl e) stands = rw e (record {
       within = within;
       found = found;
       verdict = λ v. is.answer.verdict tt;
       out = out;
       tells = tells;
-      leaves = inl (tells.is, tells.count, subst (λ (x : Status). LeavesFile name (wrapped input boxed out) x long old new) e stands);
+      leaves = inl (tells.is, tells.count, subst (λ (x : Status). LeavesFile name (file_in kind input boxed out) x long old new) e stands);
       tape = is.answer.tape;
       whole = λ f. is.answer.whole refl;
     })
@@ -155,7 +155,7 @@ around_written name called work aim input boxed s late blocks bytes long entries
       verdict = λ no. absurd no;
       out = out;
       tells = inr tells.count;
-      leaves = inl (tells.is, tells.count, subst (λ (x : Status). LeavesFile name (wrapped input boxed out) x long old new) e stands);
+      leaves = inl (tells.is, tells.count, subst (λ (x : Status). LeavesFile name (file_in kind input boxed out) x long old new) e stands);
       tape = is.answer.tape;
       whole = λ f. absurd (undone status.WriteFault tt f);
     })
@@ -165,15 +165,15 @@ around_written name called work aim input boxed s late blocks bytes long entries
       verdict = λ no. absurd no;
       out = out;
       tells = inr tells.count;
-      leaves = inl (tells.is, tells.count, subst (λ (x : Status). LeavesFile name (wrapped input boxed out) x long old new) e stands);
+      leaves = inl (tells.is, tells.count, subst (λ (x : Status). LeavesFile name (file_in kind input boxed out) x long old new) e stands);
       tape = is.answer.tape;
       whole = λ f. absurd (undone status.NoMemory tt f);
     })
 
 -- ---- no codestream
-pub too_long_jp2 : (name : Text) (work : Work) (aim : Aim) (input : List ℕ) (files : Meaning) → most_bytes < length input → EndsJp2 name work aim input (status.Limit 1 268435457) 0 0 [] files files
-too_long_jp2 name work aim input files long = inl (record { verdict = λ v. (long, refl, refl); none = refl; tape = refl; same = untouched files })
+pub too_long_jp2 : (name : Text) (work : Work) (kind : FormChoice) (aim : Aim) (input : List ℕ) (files : Meaning) → most_bytes < length input → EndsJp2 name work kind aim input (status.Limit 1 268435457) 0 0 [] files files
+too_long_jp2 name work kind aim input files long = inl (record { verdict = λ v. (long, refl, refl); none = refl; tape = refl; same = untouched files })
 
-pub boxes_refused : (name : Text) (work : Work) (aim : Aim) (input : List ℕ) (number place : ℕ) (files : Meaning) → length input ≤ most_bytes → IsNextFault input 0 number place
-    → EndsJp2 name work aim input (status.Rule number place) 0 0 [] files files
-boxes_refused name work aim input number place files within broken = inl (record { verdict = λ v. (within, broken); none = refl; tape = refl; same = untouched files })
+pub boxes_refused : (name : Text) (work : Work) (kind : FormChoice) (aim : Aim) (input : List ℕ) (number place : ℕ) (files : Meaning) → length input ≤ most_bytes → IsNextFault input 0 number place
+    → EndsJp2 name work kind aim input (status.Rule number place) 0 0 [] files files
+boxes_refused name work kind aim input number place files within broken = inl (record { verdict = λ v. (within, broken); none = refl; tape = refl; same = untouched files })

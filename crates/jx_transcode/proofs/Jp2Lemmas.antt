@@ -5,10 +5,10 @@ use Rattle.jx_io.specs.Device.{Meaning}
 use Rattle.jx_cli.specs.Words.{Text}
 use Rattle.jx_jp2.specs.declared.Boxed.{Boxed}
 use Rattle.jx_jp2.specs.Codestream.{IsJp2, content}
-use Rattle.jx_jp2.specs.Wrapped.{wrapped}
 use Rattle.jx_options.specs.Work.{Work}
+use Rattle.jx_options.specs.declared.FormChoice.{FormChoice}
 use Rattle.jx_transcode.specs.Aims.{Aim}
-use Rattle.jx_transcode.specs.Jp2Run.{EndsAround, EndsBefore, EndsJp2, LeavesAround, LeavesFile, RefusesBoxes}
+use Rattle.jx_transcode.specs.Jp2Run.{EndsAround, EndsBefore, EndsJp2, LeavesAround, LeavesFile, RefusesBoxes, file_in}
 use Rattle.jx_transcode.specs.MakeRun.{AreTold, TellsMade}
 use Rattle.jx_transcode.specs.Outcome.{IsBegun, IsUntouched, most_bytes}
 use Rattle.jx_transcode.specs.declared.status.Status.{Status}
@@ -44,11 +44,11 @@ long_refusal status.ReadFault read input long whole is = absurd is
 long_refusal status.WriteFault read input long whole is = absurd is
 long_refusal status.NoMemory read input long whole is = absurd is
 
-pub jp2_long : (name : Text) (work : Work) (aim : Aim) (read input : List ℕ) (s : Status) (blocks bytes : ℕ) (tape : List TapeEntry) (a b c : Meaning) → most_bytes < length read → most_bytes < length input → IsUntouched a b
-    → EndsJp2 name work aim read s blocks bytes tape b c → EndsJp2 name work aim input s blocks bytes tape a c
-jp2_long name work aim read input s blocks bytes tape a b c long whole first (inl before) =
+pub jp2_long : (name : Text) (work : Work) (kind : FormChoice) (aim : Aim) (read input : List ℕ) (s : Status) (blocks bytes : ℕ) (tape : List TapeEntry) (a b c : Meaning) → most_bytes < length read → most_bytes < length input → IsUntouched a b
+    → EndsJp2 name work kind aim read s blocks bytes tape b c → EndsJp2 name work kind aim input s blocks bytes tape a c
+jp2_long name work kind aim read input s blocks bytes tape a b c long whole first (inl before) =
     inl (record { verdict = λ v. long_refusal s read input long whole (before.verdict v); none = before.none; tape = before.tape; same = untouched_twice a b c first before.same })
-jp2_long name work aim read input s blocks bytes tape a b c long whole first (inr around) = absurd (omega (arith, around.1.within, long))
+jp2_long name work kind aim read input s blocks bytes tape a b c long whole first (inr around) = absurd (omega (arith, around.1.within, long))
 
 -- ---- after what left the files as they were
 file_after : (name : Text) (file : List ℕ) (s : Status) (bytes : ℕ) (a b c : Meaning) → IsUntouched a b → LeavesFile name file s bytes b c → LeavesFile name file s bytes a c
@@ -62,16 +62,16 @@ file_after name file status.ReadFault bytes a b c first is = untouched_twice a b
 file_after name file status.WriteFault bytes a b c first is = begun_after name file a b c first is
 file_after name file status.NoMemory bytes a b c first is = begun_after name file a b c first is
 
-around_after : (name : Text) (aim : Aim) (input : List ℕ) (boxed : Boxed) (out : List ℕ) (s : Status) (blocks bytes : ℕ) (a b c : Meaning) → IsUntouched a b
-    → LeavesAround name aim input boxed out s blocks bytes b c → LeavesAround name aim input boxed out s blocks bytes a c
-around_after name aim input boxed out s blocks bytes a b c first (inl made) = inl (made.0, made.1, file_after name (wrapped input boxed out) s bytes a b c first made.2)
-around_after name aim input boxed out s blocks bytes a b c first (inr same) = inr (same.0, untouched_twice a b c first same.1)
+around_after : (name : Text) (kind : FormChoice) (aim : Aim) (input : List ℕ) (boxed : Boxed) (out : List ℕ) (s : Status) (blocks bytes : ℕ) (a b c : Meaning) → IsUntouched a b
+    → LeavesAround name kind aim input boxed out s blocks bytes b c → LeavesAround name kind aim input boxed out s blocks bytes a c
+around_after name kind aim input boxed out s blocks bytes a b c first (inl made) = inl (made.0, made.1, file_after name (file_in kind input boxed out) s bytes a b c first made.2)
+around_after name kind aim input boxed out s blocks bytes a b c first (inr same) = inr (same.0, untouched_twice a b c first same.1)
 
-pub jp2_after : (name : Text) (work : Work) (aim : Aim) (input : List ℕ) (s : Status) (blocks bytes : ℕ) (tape : List TapeEntry) (a b c : Meaning) → IsUntouched a b
-    → EndsJp2 name work aim input s blocks bytes tape b c → EndsJp2 name work aim input s blocks bytes tape a c
-jp2_after name work aim input s blocks bytes tape a b c first (inl before) =
+pub jp2_after : (name : Text) (work : Work) (kind : FormChoice) (aim : Aim) (input : List ℕ) (s : Status) (blocks bytes : ℕ) (tape : List TapeEntry) (a b c : Meaning) → IsUntouched a b
+    → EndsJp2 name work kind aim input s blocks bytes tape b c → EndsJp2 name work kind aim input s blocks bytes tape a c
+jp2_after name work kind aim input s blocks bytes tape a b c first (inl before) =
     inl (record { verdict = before.verdict; none = before.none; tape = before.tape; same = untouched_twice a b c first before.same })
-jp2_after name work aim input s blocks bytes tape a b c first (inr around) = inr (
+jp2_after name work kind aim input s blocks bytes tape a b c first (inr around) = inr (
   around.0,
   record {
     within = around.1.within;
@@ -79,7 +79,7 @@ jp2_after name work aim input s blocks bytes tape a b c first (inr around) = inr
     verdict = around.1.verdict;
     out = around.1.out;
     tells = around.1.tells;
-    leaves = around_after name aim input around.0 around.1.out s blocks bytes a b c first around.1.leaves;
+    leaves = around_after name kind aim input around.0 around.1.out s blocks bytes a b c first around.1.leaves;
     tape = around.1.tape;
     whole = around.1.whole;
   },
@@ -108,29 +108,29 @@ file_late name file status.ReadFault bytes old new is = inl is
 file_late name file status.WriteFault bytes old new is = is
 file_late name file status.NoMemory bytes old new is = is
 
-around_late : (late : Status) → (late ≡ status.WriteFault) ⊎ (late ≡ status.NoMemory) → (name : Text) (work : Work) (aim : Aim) (input : List ℕ) (boxed : Boxed) (s : Status) (blocks bytes : ℕ) (tape : List TapeEntry) (old new : Meaning)
-    → EndsAround name work aim input boxed s blocks bytes tape old new → EndsAround name work aim input boxed late blocks bytes tape old new
-around_late late (inl e) name work aim input boxed s blocks bytes tape old new is = rw e (record {
+around_late : (late : Status) → (late ≡ status.WriteFault) ⊎ (late ≡ status.NoMemory) → (name : Text) (work : Work) (kind : FormChoice) (aim : Aim) (input : List ℕ) (boxed : Boxed) (s : Status) (blocks bytes : ℕ) (tape : List TapeEntry) (old new : Meaning)
+    → EndsAround name work kind aim input boxed s blocks bytes tape old new → EndsAround name work kind aim input boxed late blocks bytes tape old new
+around_late late (inl e) name work kind aim input boxed s blocks bytes tape old new is = rw e (record {
   within = is.within;
   found = is.found;
   verdict = λ no. absurd no;
   out = is.out;
   tells = told_late aim (content input boxed) s blocks is.out is.tells;
   leaves = elim is.leaves [
-    | inl made ↦ inl (made.0, made.1, file_late name (wrapped input boxed is.out) s bytes old new made.2)
+    | inl made ↦ inl (made.0, made.1, file_late name (file_in kind input boxed is.out) s bytes old new made.2)
     | inr same ↦ inr (undone status.WriteFault tt, same.1)
   ];
   tape = is.tape;
   whole = λ done. absurd (undone status.WriteFault tt done);
 })
-around_late late (inr e) name work aim input boxed s blocks bytes tape old new is = rw e (record {
+around_late late (inr e) name work kind aim input boxed s blocks bytes tape old new is = rw e (record {
   within = is.within;
   found = is.found;
   verdict = λ no. absurd no;
   out = is.out;
   tells = told_late aim (content input boxed) s blocks is.out is.tells;
   leaves = elim is.leaves [
-    | inl made ↦ inl (made.0, made.1, file_late name (wrapped input boxed is.out) s bytes old new made.2)
+    | inl made ↦ inl (made.0, made.1, file_late name (file_in kind input boxed is.out) s bytes old new made.2)
     | inr same ↦ inr (undone status.NoMemory tt, same.1)
   ];
   tape = is.tape;
@@ -142,7 +142,7 @@ before_late : (late : Status) → (late ≡ status.WriteFault) ⊎ (late ≡ sta
 before_late late (inl e) input s blocks tape old new is = rw e (record { verdict = λ no. absurd no; none = is.none; tape = is.tape; same = is.same })
 before_late late (inr e) input s blocks tape old new is = rw e (record { verdict = λ no. absurd no; none = is.none; tape = is.tape; same = is.same })
 
-pub jp2_late : (late : Status) → (late ≡ status.WriteFault) ⊎ (late ≡ status.NoMemory) → (name : Text) (work : Work) (aim : Aim) (input : List ℕ) (s : Status) (blocks bytes : ℕ) (tape : List TapeEntry) (old new : Meaning)
-    → EndsJp2 name work aim input s blocks bytes tape old new → EndsJp2 name work aim input late blocks bytes tape old new
-jp2_late late fails name work aim input s blocks bytes tape old new (inl before) = inl (before_late late fails input s blocks tape old new before)
-jp2_late late fails name work aim input s blocks bytes tape old new (inr around) = inr (around.0, around_late late fails name work aim input around.0 s blocks bytes tape old new around.1)
+pub jp2_late : (late : Status) → (late ≡ status.WriteFault) ⊎ (late ≡ status.NoMemory) → (name : Text) (work : Work) (kind : FormChoice) (aim : Aim) (input : List ℕ) (s : Status) (blocks bytes : ℕ) (tape : List TapeEntry) (old new : Meaning)
+    → EndsJp2 name work kind aim input s blocks bytes tape old new → EndsJp2 name work kind aim input late blocks bytes tape old new
+jp2_late late fails name work kind aim input s blocks bytes tape old new (inl before) = inl (before_late late fails input s blocks tape old new before)
+jp2_late late fails name work kind aim input s blocks bytes tape old new (inr around) = inr (around.0, around_late late fails name work kind aim input around.0 s blocks bytes tape old new around.1)

@@ -14,6 +14,7 @@ use Rattle.jx_cli.specs.Words.{Request, Text}
 use Rattle.jx_jp2.specs.Codestream.{IsJp2}
 use Rattle.jx_transcode.specs.Jp2Run.{EndsJp2}
 use Rattle.jx_options.specs.Work.{Work}
+use Rattle.jx_options.specs.declared.FormChoice.{FormChoice}
 use Rattle.jx_rounds.specs.declared.tape.TapeEntry.{TapeEntry}
 use Rattle.jx_transcode.specs.Outcome.{IsCutShort, IsLimited, IsUntouched, IsVerdict, Leaves, Verdict, EndsAtWords, EndsAs, PassesLimit, line_of, most_bytes}
 use Rattle.jx_transcode.specs.TranscodeRun.{Ends, EndsOn, aim_of}
@@ -82,7 +83,7 @@ pub record EndsFiles (request : Request) (rule : List ℕ → StreamFacts → Op
 -- what an answer to the bytes read says of the input
 pub ends_read : (request : Request) (rule : List ℕ → StreamFacts → Option Rule) (read : List ℕ) (s : Status) (blocks bytes : ℕ) (tape : List TapeEntry) (a b c : Meaning)
     → IfSome (joined (a.holds request.from)) (λ held. read ≡ take 268435457 held) → IsUntouched a b
-    → ((IsJp2 read → ⊥) → IsAnswered request.to request.work (aim_of request rule) read s blocks bytes tape b c) → (IsJp2 read → EndsJp2 request.to request.work (aim_of request rule) read s blocks bytes tape b c)
+    → ((IsJp2 read → ⊥) → IsAnswered request.to request.work (aim_of request rule) read s blocks bytes tape b c) → (IsJp2 read → EndsJp2 request.to request.work request.form (aim_of request rule) read s blocks bytes tape b c)
     → (most_bytes < length read → tape ≡ []) → EndsFiles request rule s blocks bytes tape a c
 ends_read request rule read s blocks bytes tape a b c front first bare jp2 none = let aim : Aim = aim_of request rule in elim (cases_lt most_bytes (length read)) [
   | inr short ↦ record {
@@ -95,7 +96,7 @@ ends_read request rule read s blocks bytes tape a b c front first bare jp2 none 
         tape = (bare not).tape;
         whole = (bare not).whole;
       };
-      jp2 = λ is. jp2_after request.to request.work aim read s blocks bytes tape a b c first (jp2 is);
+      jp2 = λ is. jp2_after request.to request.work request.form aim read s blocks bytes tape a b c first (jp2 is);
     };
     unsaid = λ not. cut_after request.to aim read blocks a b c first (bare not).unsaid;
   }
@@ -113,7 +114,7 @@ ends_read request rule read s blocks bytes tape a b c front first bare jp2 none 
             tape = inl (none long);
             whole = λ done. absurd (never_done aim s read long (of not).verdict done);
           };
-          jp2 = λ is. jp2_long request.to request.work aim read input s blocks bytes tape a b c long long_input first (jp2 (jp2_front (joined (a.holds request.from)) read front is));
+          jp2 = λ is. jp2_long request.to request.work request.form aim read input s blocks bytes tape a b c long long_input first (jp2 (jp2_front (joined (a.holds request.from)) read front is));
         };
         unsaid = λ not. cut_after request.to aim input blocks a b c first (long_cut request.to aim read input blocks b c long (of not).unsaid);
       }
@@ -146,14 +147,14 @@ pub ends_refused : (request : Request) (rule : List ℕ → StreamFacts → Opti
 ends_refused request rule e s blocks bytes tape a b is none empty same = rw (none.0, none.1, empty) (ends_unread request rule s a b (unread_either e s is) same)
 
 -- the parts of a request
-same_request : (r : Request) (from to : Text) (w : Wanted) (work : Work) → from ≡ r.from → to ≡ r.to → w ≡ r.wanted → work ≡ r.work
-    → ◌≡◌ {A = Request} (record { from = from; to = to; wanted = w; work = work }) r
-same_request r from to w work e f h g = rw (e, f, h, g) refl
+same_request : (r : Request) (from to : Text) (w : Wanted) (work : Work) (kind : FormChoice) → from ≡ r.from → to ≡ r.to → w ≡ r.wanted → work ≡ r.work → kind ≡ r.form
+    → ◌≡◌ {A = Request} (record { from = from; to = to; wanted = w; work = work; form = kind }) r
+same_request r from to w work kind e f h g k = rw (e, f, h, g, k) refl
 
-pub ends_as : (r : Request) (rule : List ℕ → StreamFacts → Option Rule) (from to : Text) (w : Wanted) (work : Work) (s : Status) (blocks bytes : ℕ) (tape : List TapeEntry) (old new : Meaning) → from ≡ r.from → to ≡ r.to → w ≡ r.wanted
-    → work ≡ r.work → EndsFiles (record { from = from; to = to; wanted = w; work = work }) rule s blocks bytes tape old new → EndsFiles r rule s blocks bytes tape old new
-ends_as r rule from to w work s blocks bytes tape old new e f h g ends =
-    subst (λ (x : Request). EndsFiles x rule s blocks bytes tape old new) (same_request r from to w work e f h g) ends
+pub ends_as : (r : Request) (rule : List ℕ → StreamFacts → Option Rule) (from to : Text) (w : Wanted) (work : Work) (kind : FormChoice) (s : Status) (blocks bytes : ℕ) (tape : List TapeEntry) (old new : Meaning) → from ≡ r.from → to ≡ r.to → w ≡ r.wanted
+    → work ≡ r.work → kind ≡ r.form → EndsFiles (record { from = from; to = to; wanted = w; work = work; form = kind }) rule s blocks bytes tape old new → EndsFiles r rule s blocks bytes tape old new
+ends_as r rule from to w work kind s blocks bytes tape old new e f h g k ends =
+    subst (λ (x : Request). EndsFiles x rule s blocks bytes tape old new) (same_request r from to w work kind e f h g k) ends
 
 -- a run over good words whose line was said, or wasn't
 pub ends_said : (request : Request) (rule : List ℕ → StreamFacts → Option Rule) (s late : Status) (blocks bytes : ℕ) (tape : List TapeEntry) (fault_before fault_now : ℕ) (old new : Meaning) (before now : Option (List ℕ))
@@ -167,7 +168,7 @@ ends_said request rule s late blocks bytes tape fault_before fault_now old new b
   files = record {
     told = ends.files.told;
     bare = λ not. record { verdict = λ no. absurd no; leaves = ends.unsaid not; tape = (ends.files.bare not).tape; whole = λ done. absurd (undone status.WriteFault tt done) };
-    jp2 = λ is. jp2_late status.WriteFault (inl refl) request.to request.work (aim_of request rule) ends.input s blocks bytes tape old new (ends.files.jp2 is);
+    jp2 = λ is. jp2_late status.WriteFault (inl refl) request.to request.work request.form (aim_of request rule) ends.input s blocks bytes tape old new (ends.files.jp2 is);
   };
   said = fault.1;
 })
@@ -177,7 +178,7 @@ ends_said request rule s late blocks bytes tape fault_before fault_now old new b
   files = record {
     told = ends.files.told;
     bare = λ not. record { verdict = λ no. absurd no; leaves = ends.unsaid not; tape = (ends.files.bare not).tape; whole = λ done. absurd (undone status.NoMemory tt done) };
-    jp2 = λ is. jp2_late status.NoMemory (inr refl) request.to request.work (aim_of request rule) ends.input s blocks bytes tape old new (ends.files.jp2 is);
+    jp2 = λ is. jp2_late status.NoMemory (inr refl) request.to request.work request.form (aim_of request rule) ends.input s blocks bytes tape old new (ends.files.jp2 is);
   };
   said = inl short.1;
 })

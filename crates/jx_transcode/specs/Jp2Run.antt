@@ -1,12 +1,15 @@
 -- How a run of `transcode` ends on a JP2 file: what becomes of the codestream in it is said of its content, and the output is the same file
--- with another codestream in the place of its own (ITU-T T.800, I.4 and I.5.4).
+-- with another codestream in the place of its own, or this codestream alone (ITU-T T.800, I.4 and I.5.4).
 use Rattle.std.specs.Prelude.{◌≡◌, ◌⊎◌, ◌<◌, ◌≤◌, ℕ, ◌+◌, List, [], length}
 use Rattle.jx_io.specs.Device.{Meaning}
 use Rattle.jx_cli.specs.Words.{Text}
 use Rattle.jx_jp2.specs.declared.Boxed.{Boxed}
 use Rattle.jx_jp2.specs.Codestream.{IsCodestream, IsJp2, IsNextFault, content}
+use Rattle.jx_jp2.specs.Positions.{HoldsPositions}
 use Rattle.jx_jp2.specs.Wrapped.{wrapped}
 use Rattle.jx_options.specs.Work.{Work}
+use Rattle.jx_options.specs.declared.FormChoice.{FormChoice}
+use Rattle.jx_options.specs.declared.FormChoice.TheVariants as form
 use Rattle.jx_transcode.specs.Aims.{Aim}
 use Rattle.jx_transcode.specs.MakeRun.{TellsMade}
 use Rattle.jx_transcode.specs.Outcome.{IsBegun, IsMade, IsUntouched, IsVerdict, Verdict, most_bytes}
@@ -63,21 +66,26 @@ LeavesFile name file (status.Choice number place) bytes old new = IsUntouched ol
 LeavesFile name file (status.Block number) bytes old new = IsUntouched old new
 LeavesFile name file status.ReadFault bytes old new = IsUntouched old new
 
+-- the output file, by the form that is asked: the input with another codestream in the place of its own, or the codestream alone
+abbrev pub file_in : FormChoice → List ℕ → Boxed → List ℕ → List ℕ
+file_in form.Keep input boxed out = wrapped input boxed out
+file_in form.Codestream input boxed out = out
+
 -- what stands where the codestream in a file has the output `out`, and its blocks are told; nothing where it has none
-abbrev pub LeavesAround : Text → Aim → List ℕ → Boxed → List ℕ → Status → ℕ → ℕ → Meaning → Meaning → Type 0
-LeavesAround name aim input boxed out s blocks bytes old new =
-    (IsRewritten aim (content input boxed) out × HasBlocks (content input boxed) blocks × LeavesFile name (wrapped input boxed out) s bytes old new)
+abbrev pub LeavesAround : Text → FormChoice → Aim → List ℕ → Boxed → List ℕ → Status → ℕ → ℕ → Meaning → Meaning → Type 0
+LeavesAround name kind aim input boxed out s blocks bytes old new =
+    (IsRewritten aim (content input boxed) out × HasBlocks (content input boxed) blocks × LeavesFile name (file_in kind input boxed out) s bytes old new)
     ⊎ ((s ≡ status.Done → ⊥) × IsUntouched old new)
 
 -- how a run ends on a file with this codestream
-pub record EndsAround (name : Text) (work : Work) (aim : Aim) (input : List ℕ) (boxed : Boxed) (s : Status) (blocks bytes : ℕ) (entries : List TapeEntry) (old new : Meaning) : Type 0 where
+pub record EndsAround (name : Text) (work : Work) (kind : FormChoice) (aim : Aim) (input : List ℕ) (boxed : Boxed) (s : Status) (blocks bytes : ℕ) (entries : List TapeEntry) (old new : Meaning) : Type 0 where
   pub within : length input ≤ most_bytes
   pub found : IsCodestream input boxed
   pub verdict : IsVerdict s → VerdictAt aim boxed.from (content input boxed) s
   -- the output codestream after Done, which keeps what a written file keeps, and the blocks that are told
   pub out : List ℕ
   pub tells : TellsMade aim (content input boxed) s blocks out
-  pub leaves : LeavesAround name aim input boxed out s blocks bytes old new
+  pub leaves : LeavesAround name kind aim input boxed out s blocks bytes old new
   pub tape : IsRunTape work (content input boxed) entries
   pub whole : s ≡ status.Done → HasBlocks (content input boxed) (length entries)
 
@@ -88,9 +96,13 @@ pub record EndsBefore (input : List ℕ) (s : Status) (blocks : ℕ) (entries : 
   pub tape : entries ≡ []
   pub same : IsUntouched old new
 
-abbrev pub EndsJp2 : Text → Work → Aim → List ℕ → Status → ℕ → ℕ → List TapeEntry → Meaning → Meaning → Type 0
-EndsJp2 name work aim input s blocks bytes entries old new =
-    EndsBefore input s blocks entries old new ⊎ ((boxed : Boxed) × EndsAround name work aim input boxed s blocks bytes entries old new)
+abbrev pub EndsJp2 : Text → Work → FormChoice → Aim → List ℕ → Status → ℕ → ℕ → List TapeEntry → Meaning → Meaning → Type 0
+EndsJp2 name work kind aim input s blocks bytes entries old new =
+    EndsBefore input s blocks entries old new ⊎ ((boxed : Boxed) × EndsAround name work kind aim input boxed s blocks bytes entries old new)
+
+-- boxes that hold positions in the file were kept, after Done
+abbrev pub KeepsPositions : FormChoice → List ℕ → Status → Type 0
+KeepsPositions kind input s = (s ≡ status.Done) × (kind ≡ form.Keep) × IsJp2 input × HoldsPositions input
 
 -- ---- inner
 

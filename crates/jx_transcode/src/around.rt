@@ -1,48 +1,59 @@
 //! What becomes of a JP2 file: its codestream is rewritten in memory, and the file is written around it (ITU-T T.800, Annex I).
 
-ghost use Rattle.std.specs.Prelude.{◌≡◌, ◌⊎◌, ◌≤◌, ◌<◌, ℕ, List, [], length, IfOk, IsErrOf, OnErr, OnOk};
+ghost use Rattle.std.specs.Prelude.{◌≡◌, ◌⊎◌, ◌≤◌, ◌<◌, ◌^◌, ℕ, List, [], length, map, IfOk, IsErrOf, OnErr, OnOk};
+ghost use Rattle.std.specs.List.{concat};
 ghost use Rattle.jx_io.specs.Causes.{Rose};
 ghost use Rattle.jx_jp2.specs.Codestream.{IsCodestream, content};
-ghost use Rattle.jx_jp2.specs.Wrapped.{wrapped};
 ghost use Rattle.jx_options.specs.Wanted.{MayBeWanted};
 ghost use Rattle.jx_options.specs.Work.{MayBeWork};
 ghost use Rattle.jx_plan.specs.Planned.{chosen};
 ghost use Rattle.jx_rounds.specs.Taken.{SomeFront, followed_by};
-ghost use Rattle.jx_transcode.specs.Jp2Run.{EndsAround, EndsJp2, IsFileEnd, IsPlaced, LeavesFile, raised};
+ghost use Rattle.jx_transcode.specs.Jp2Run.{EndsAround, EndsJp2, IsPlaced, file_in, raised};
 ghost use Rattle.jx_transcode.specs.MakeRun.{IsLastMade};
 ghost use Rattle.jx_transcode.specs.Outcome.{IsBegun, IsMade, most_bytes};
 
 use crate::Status;
 use crate::device::MOST;
 use crate::rewrite::{Ending, answer};
-use jx_base::NoMemory;
 use jx_io::{Files, Gate, Refused, SureFiles};
 use jx_jp2::laws::codestream_lies_within;
-use jx_jp2::{BoxFault, Boxed, find, wrap};
+use jx_jp2::{BoxFault, Boxed, around, find, head_for};
 use jx_layers::LayerPlanner;
-use jx_options::Options;
+use jx_options::{FormChoice, Options};
 use jx_rounds::{ByteWriter, Crew, TapeEntry};
 use std::alloc::Global;
 use std::sync::Wait;
 use std::thread::Threads;
 
-/// Writes all of these bytes, or is refused after a front of them.
-fn put<W: ByteWriter>(writer: &mut W, bytes: &[u8]) -> Result<(), Refused>
-    requires { W.can_write (W.kept writer.old) }
-    ensures ok { OnOk result (W.written writer.new ≡ followed_by bytes.now (W.written writer.old)) }
-    ensures front { SomeFront (W.written writer.old) (W.written writer.new) bytes.now }
+/// Writes these pieces one behind another, and gives how many bytes they have; or is refused after a front of them.
+fn put_all<W: ByteWriter>(writer: &mut W, pieces: &[&[u8]]) -> Result<usize, Refused>
+    requires may { W.can_write (W.kept writer.old) }
+    requires few { length (concat (map (λ piece. piece.now) pieces.now)) < 2 ^ 64 }
+    ensures ok { IfOk result (λ count. (W.written writer.new ≡ followed_by (concat (map (λ piece. piece.now) pieces.now)) (W.written writer.old)) × (count ≡ length (concat (map (λ piece. piece.now) pieces.now)))) }
+    ensures front { SomeFront (W.written writer.old) (W.written writer.new) (concat (map (λ piece. piece.now) pieces.now)) }
     ensures cause { IsErrOf result Refused.Failed → Rose (W.faults writer.old) (W.faults writer.new) }
     ensures same { OnOk result (W.faults writer.new ≡ W.faults writer.old) }
     ensures other { W.kept writer.new ≡ W.kept writer.old }
 {
-    writer.write(bytes)
+    let Some((piece, rest)) = pieces.split_first() else {
+        return Ok(0);
+    };
+    match writer.write(piece) {
+        Ok(()) => match put_all(writer, rest) {
+            Ok(count) => Ok(piece.len() + count),
+            Err(refused) => Err(refused),
+        },
+        Err(refused) => Err(refused),
+    }
 }
 
-/// Writes a file of these bytes under a name.
-fn write_whole<F: Files>(files: &mut F, to: &str, bytes: &[u8]) -> Result<(), Refused>
+/// Writes a file of these pieces under a name, and gives how many bytes it has.
+fn write_pieces<F: Files>(files: &mut F, to: &str, pieces: &[&[u8]]) -> Result<usize, Refused>
     requires creates { F.can_create files.old to.now }
-    ensures ok { OnOk result (IsMade to.now bytes.now (F.meaning files.old) (F.meaning files.new)) }
-    ensures err { OnErr result (IsBegun to.now bytes.now (F.meaning files.old) (F.meaning files.new)) }
+    requires few { length (concat (map (λ piece. piece.now) pieces.now)) < 2 ^ 64 }
+    ensures ok { OnOk result (IsMade to.now (concat (map (λ piece. piece.now) pieces.now)) (F.meaning files.old) (F.meaning files.new)) }
+    ensures count { IfOk result (λ count. count ≡ length (concat (map (λ piece. piece.now) pieces.now))) }
+    ensures err { OnErr result (IsBegun to.now (concat (map (λ piece. piece.now) pieces.now)) (F.meaning files.old) (F.meaning files.new)) }
     ensures cause { IsErrOf result Refused.Failed → Rose (F.write_faults files.old) (F.write_faults files.new) }
     ensures other { F.read_faults files.new ≡ F.read_faults files.old }
 {
@@ -50,72 +61,76 @@ fn write_whole<F: Files>(files: &mut F, to: &str, bytes: &[u8]) -> Result<(), Re
         Ok(()) => {}
         Err(refused) => return Err(refused),
     }
-    match put(files, bytes) {
-        Ok(()) => files.finish(),
+    match put_all(files, pieces) {
+        Ok(count) => match files.finish() {
+            Ok(()) => Ok(count),
+            Err(refused) => Err(refused),
+        },
         Err(refused) => Err(refused),
     }
 }
 
-/// The status of a file that was written, or wasn't to its end.
-fn status_of(written: Result<(), Refused>) -> Status
-    ensures ok { OnOk written (result ≡ Status.Done) }
-    ensures end { OnErr written ((result ≡ Status.WriteFault) ⊎ (result ≡ Status.NoMemory)) }
-    ensures failed { result ≡ Status.WriteFault → IsErrOf written Refused.Failed }
-{
-    match written {
-        Ok(()) => Status::Done,
-        Err(Refused::Failed) => Status::WriteFault,
-        Err(Refused::NoMemory) => Status::NoMemory,
-    }
-}
-
-/// The file `input`, of which `boxed` is the codestream, with another codestream in its place.
-fn file_around(alloc: Global, input: &[u8], boxed: &Boxed, out: &[u8]) -> Result<Vec<u8>, NoMemory>
-    requires within { length input.now ≤ most_bytes }
-    requires found { IsCodestream input.now boxed.now }
-    ensures { IfOk result (λ file. file.items ≡ wrapped input.now boxed.now out.now) }
-{
-    let mut file = Vec::new(alloc);
-    wrap(input, boxed, out, &mut file)?;
-    Ok(file)
-}
-
-/// Writes the file `input`, of which `boxed` is the codestream, with another codestream in its place.
-fn write_around<F: Files>(
-    alloc: Global,
+/// Writes the output of a file `input`, of which `boxed` is the codestream, in the form that is asked: with `out` in its place, or `out`
+/// alone. No byte is copied.
+fn write_form<F: Files>(
     files: &mut F,
     to: &str,
+    form: FormChoice,
     input: &[u8],
     boxed: &Boxed,
     out: &[u8],
-    tape: Vec<TapeEntry>,
-    blocks: u32,
-) -> Ending
+) -> Result<usize, Refused>
     requires creates { F.can_create files.old to.now }
     requires within { length input.now ≤ most_bytes }
     requires found { IsCodestream input.now boxed.now }
-    ensures end { IsFileEnd result.status }
-    ensures leaves { LeavesFile to.now (wrapped input.now boxed.now out.now) result.status result.bytes (F.meaning files.old) (F.meaning files.new) }
-    ensures blocks { result.blocks ≡ blocks }
-    ensures tape { result.tape.items ≡ tape.items }
-    ensures cause { result.status ≡ Status.WriteFault → Rose (F.write_faults files.old) (F.write_faults files.new) }
+    ensures ok { OnOk result (IsMade to.now (file_in form input.now boxed.now out.now) (F.meaning files.old) (F.meaning files.new)) }
+    ensures count { IfOk result (λ count. count ≡ length (file_in form input.now boxed.now out.now)) }
+    ensures err { OnErr result (IsBegun to.now (file_in form input.now boxed.now out.now) (F.meaning files.old) (F.meaning files.new)) }
+    ensures cause { IsErrOf result Refused.Failed → Rose (F.write_faults files.old) (F.write_faults files.new) }
     ensures other { F.read_faults files.new ≡ F.read_faults files.old }
 {
-    let Ok(held) = file_around(alloc, input, boxed, out) else {
-        return Ending {
-            status: Status::NoMemory,
+    match form {
+        FormChoice::Keep => {
+            let head = head_for(boxed, out.len() as u64);
+            let (front, back) = around(input, boxed);
+            write_pieces(files, to, &[front, head.bytes(), out, back])
+        }
+        FormChoice::Codestream => write_pieces(files, to, &[out]),
+    }
+}
+
+/// The status of a file that wasn't written to its end.
+fn unwritten_as(refused: Refused) -> Status
+    ensures end { (result ≡ Status.WriteFault) ⊎ (result ≡ Status.NoMemory) }
+    ensures failed { result ≡ Status.WriteFault → refused ≡ Refused.Failed }
+{
+    match refused {
+        Refused::Failed => Status::WriteFault,
+        Refused::NoMemory => Status::NoMemory,
+    }
+}
+
+/// How a file is left that was written with so many bytes, or wasn't to its end.
+fn written_as(written: Result<usize, Refused>, blocks: u32, tape: Vec<TapeEntry>) -> Ending
+    ensures ok { IfOk written (λ count. (result.status ≡ Status.Done) × (result.bytes ≡ count)) }
+    ensures end { OnErr written ((result.status ≡ Status.WriteFault) ⊎ (result.status ≡ Status.NoMemory)) }
+    ensures failed { result.status ≡ Status.WriteFault → IsErrOf written Refused.Failed }
+    ensures blocks { result.blocks ≡ blocks }
+    ensures tape { result.tape.items ≡ tape.items }
+{
+    match written {
+        Ok(bytes) => Ending {
+            status: Status::Done,
+            blocks,
+            bytes,
+            tape,
+        },
+        Err(refused) => Ending {
+            status: unwritten_as(refused),
             blocks,
             bytes: 0,
             tape,
-        };
-    };
-    let whole: &[u8] = &held;
-    let written = write_whole(files, to, whole);
-    Ending {
-        status: status_of(written),
-        blocks,
-        bytes: whole.len(),
-        tape,
+        },
     }
 }
 
@@ -160,6 +175,7 @@ fn answer_around<R: Threads + Wait + Sync, G: Gate + Sync, F: Files>(
     input: &[u8],
     boxed: &Boxed,
     to: &str,
+    form: FormChoice,
     options: &Options,
     planners: &mut [Box<dyn LayerPlanner>],
 ) -> Ending
@@ -168,7 +184,7 @@ fn answer_around<R: Threads + Wait + Sync, G: Gate + Sync, F: Files>(
     requires found { IsCodestream input.now boxed.now }
     requires wanted { MayBeWanted options.now }
     requires work { MayBeWork crew.now.work }
-    ensures answer { EndsAround to.now crew.now.work (record { wanted = options.now; rule = λ facts. chosen (λ b. serves_text b options.now.layers) (λ b. rule_of b options.now.layers facts) planners.old }) input.now boxed.now result.status result.blocks result.bytes result.tape.items (F.meaning files.old) (F.meaning files.new) }
+    ensures answer { EndsAround to.now crew.now.work form (record { wanted = options.now; rule = λ facts. chosen (λ b. serves_text b options.now.layers) (λ b. rule_of b options.now.layers facts) planners.old }) input.now boxed.now result.status result.blocks result.bytes result.tape.items (F.meaning files.old) (F.meaning files.new) }
     ensures cause { result.status ≡ Status.WriteFault → Rose (F.write_faults files.old) (F.write_faults files.new) }
     ensures read { (result.status ≡ Status.ReadFault → ⊥) × (result.status ≡ Status.Words → ⊥) }
     ensures other { F.read_faults files.new ≡ F.read_faults files.old }
@@ -179,16 +195,8 @@ fn answer_around<R: Threads + Wait + Sync, G: Gate + Sync, F: Files>(
     match ending.status {
         Status::Done => {
             let out = bytes_made(&made);
-            write_around(
-                alloc,
-                files,
-                to,
-                input,
-                boxed,
-                out,
-                ending.tape,
-                ending.blocks,
-            )
+            let written = write_form(files, to, form, input, boxed, out);
+            written_as(written, ending.blocks, ending.tape)
         }
         _ => Ending {
             status: raised(ending.status, boxed.from),
@@ -206,13 +214,14 @@ pub fn answer_jp2<R: Threads + Wait + Sync, G: Gate + Sync, F: Files>(
     files: &mut F,
     input: &[u8],
     to: &str,
+    form: FormChoice,
     options: &Options,
     planners: &mut [Box<dyn LayerPlanner>],
 ) -> Ending
     requires creates { F.can_create files.old to.now }
     requires wanted { MayBeWanted options.now }
     requires work { MayBeWork crew.now.work }
-    ensures answer { EndsJp2 to.now crew.now.work (record { wanted = options.now; rule = λ facts. chosen (λ b. serves_text b options.now.layers) (λ b. rule_of b options.now.layers facts) planners.old }) input.now result.status result.blocks result.bytes result.tape.items (F.meaning files.old) (F.meaning files.new) }
+    ensures answer { EndsJp2 to.now crew.now.work form (record { wanted = options.now; rule = λ facts. chosen (λ b. serves_text b options.now.layers) (λ b. rule_of b options.now.layers facts) planners.old }) input.now result.status result.blocks result.bytes result.tape.items (F.meaning files.old) (F.meaning files.new) }
     ensures long { most_bytes < length input.now → result.tape.items ≡ [] }
     ensures cause { result.status ≡ Status.WriteFault → Rose (F.write_faults files.old) (F.write_faults files.new) }
     ensures read { (result.status ≡ Status.ReadFault → ⊥) × (result.status ≡ Status.Words → ⊥) }
@@ -228,7 +237,7 @@ pub fn answer_jp2<R: Threads + Wait + Sync, G: Gate + Sync, F: Files>(
         );
     }
     match find(input) {
-        Ok(boxed) => answer_around(crew, alloc, files, input, &boxed, to, options, planners),
+        Ok(boxed) => answer_around(crew, alloc, files, input, &boxed, to, form, options, planners),
         Err(BoxFault::Rule { number, place }) => Ending::refused(
             alloc,
             Status::Rule {

@@ -7,6 +7,7 @@ ghost use Rattle.jx_cli.specs.BoxesWords.{boxes_of, is_boxes};
 ghost use Rattle.jx_cli.specs.Words.{is_good, request_of};
 ghost use Rattle.jx_transcode.specs.Outcome.{IsVerdict};
 ghost use Rattle.jx_transcode.specs.Runs.{Outcome};
+ghost use Rattle.jx_transcode.specs.TranscodeRun.{TellsPositions};
 
 use crate::commands::{Command, boxes, make, read_command, transcode};
 use crate::say::refuse;
@@ -58,6 +59,9 @@ pub fn run<R: Threads + Wait + Sync, F: Files, S: Sink, G: Gate + Sync>(
         → IsVerdict result.status ⊎ (result.status ≡ Status.NoMemory) }
     ensures idle { is_good (map string_bytes words.now) ≡ false → is_boxes (map string_bytes words.now) ≡ false
         → F.read_faults files.new ≡ F.read_faults files.old }
+    // whether boxes that hold positions in the file were kept
+    ensures positions { is_good (map string_bytes words.now) ≡ true → TellsPositions (request_of (map string_bytes words.now)) result.positions result.status (F.meaning files.old) }
+    ensures none { is_good (map string_bytes words.now) ≡ false → result.positions ≡ false }
     ensures unwritten { is_good (map string_bytes words.now) ≡ false → F.write_faults files.new ≡ F.write_faults files.old }
 {
     match read_command(alloc, words) {

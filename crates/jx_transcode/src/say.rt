@@ -1,6 +1,6 @@
 //! What is said of a run: one line, or nothing.
 
-ghost use Rattle.std.specs.Prelude.{◌≡◌, ◌⊎◌, ◌<◌, []};
+ghost use Rattle.std.specs.Prelude.{◌≡◌, ◌⊎◌, ◌<◌, [], false};
 ghost use Rattle.jx_io.specs.Causes.{Rose};
 ghost use Rattle.jx_transcode.specs.Outcome.{EndsAs, EndsAtWords, line_of};
 
@@ -28,6 +28,7 @@ pub fn refuse<S: Sink>(alloc: Global, say: &mut S, status: Status) -> Report
     ensures ends { EndsAs status (line_of status 0 0) result.status (S.said say.old) (S.said say.new) (S.faults say.old) (S.faults say.new) }
     ensures none { result.blocks ≡ 0 }
     ensures tape { result.tape.items ≡ [] }
+    ensures positions { result.positions ≡ false }
 {
     let status = match line_of(alloc, status, 0, 0) {
         Ok(line) => say_line(say, status, line.as_str()),
@@ -37,5 +38,6 @@ pub fn refuse<S: Sink>(alloc: Global, say: &mut S, status: Status) -> Report
         status,
         blocks: 0,
         tape: Vec::new(alloc),
+        positions: false,
     }
 }

@@ -56,4 +56,6 @@ pub struct Report {
     pub blocks: u32,
     /// The blocks of all rounds that were written, in their order.
     pub tape: Vec<TapeEntry>,
+    /// Whether the output has boxes of the input that hold positions in the file: they stay as they are, and may be wrong now.
+    pub positions: bool,
 }

@@ -1,6 +1,6 @@
 //! `boxes`: the boxes of a JP2 file are listed, and nothing is written.
 
-ghost use Rattle.std.specs.Prelude.{◌≡◌, ◌<◌, IfErr, IfOk, [], string_bytes};
+ghost use Rattle.std.specs.Prelude.{◌≡◌, ◌<◌, IfErr, IfOk, [], false, string_bytes};
 ghost use Rattle.jx_io.specs.Causes.{Rose};
 ghost use Rattle.jx_transcode.specs.BoxesRun.{EndsListed, IsListed, IsUnlisted};
 ghost use Rattle.jx_transcode.specs.Outcome.{EndsAs};
@@ -45,11 +45,13 @@ fn say_lines<S: Sink>(alloc: Global, say: &mut S, lines: &str) -> Report
     ensures says { EndsAs Status.Done lines.now result.status (S.said say.old) (S.said say.new) (S.faults say.old) (S.faults say.new) }
     ensures none { result.blocks ≡ 0 }
     ensures tape { result.tape.items ≡ [] }
+    ensures positions { result.positions ≡ false }
 {
     Report {
         status: say_line(say, Status::Done, lines),
         blocks: 0,
         tape: Vec::new(alloc),
+        positions: false,
     }
 }
 
@@ -61,6 +63,7 @@ pub fn run<F: Files, S: Sink>(alloc: Global, name: &str, files: &mut F, say: &mu
     ensures write { result.status ≡ Status.WriteFault → Rose (S.faults say.old) (S.faults say.new) }
     ensures unsaid { S.faults say.old < S.faults say.new → result.status ≡ Status.WriteFault }
     ensures other { F.write_faults files.new ≡ F.write_faults files.old }
+    ensures positions { result.positions ≡ false }
 {
     let input = match read_input(alloc, files, name) {
         Ok(input) => input,

@@ -1,6 +1,6 @@
 //! `make`: a generated codestream is transcoded in memory, and no file is touched.
 
-ghost use Rattle.std.specs.Prelude.{◌≡◌, ◌<◌, ℕ, List, IfOk, string_bytes};
+ghost use Rattle.std.specs.Prelude.{◌≡◌, ◌<◌, ℕ, List, IfOk, false, string_bytes};
 ghost use Rattle.std.specs.List.{sum};
 ghost use Rattle.jx_io.specs.Causes.{Rose};
 ghost use Rattle.jx_io.specs.Device.{Meaning};
@@ -133,6 +133,7 @@ fn say_made<S: Sink>(alloc: Global, say: &mut S, made: Made) -> Report
     ensures says { EndsAs made.status (make_line made.status made.blocks made.before made.after made.total) result.status (S.said say.old) (S.said say.new) (S.faults say.old) (S.faults say.new) }
     ensures blocks { result.blocks ≡ made.blocks }
     ensures tape { result.tape.items ≡ made.tape.items }
+    ensures positions { result.positions ≡ false }
 {
     let status = match make_line(
         alloc,
@@ -149,6 +150,7 @@ fn say_made<S: Sink>(alloc: Global, say: &mut S, made: Made) -> Report
         status,
         blocks: made.blocks,
         tape: made.tape,
+        positions: false,
     }
 }
 
@@ -166,6 +168,7 @@ pub fn run<R: Threads + Wait + Sync, S: Sink, G: Gate + Sync>(
     ensures read { result.status ≡ Status.ReadFault → ⊥ }
     ensures write { result.status ≡ Status.WriteFault → Rose (S.faults say.old) (S.faults say.new) }
     ensures unsaid { S.faults say.old < S.faults say.new → result.status ≡ Status.WriteFault }
+    ensures positions { result.positions ≡ false }
 {
     let crew = Crew {
         rt,

@@ -1,15 +1,15 @@
 //! `transcode`: a codestream, or that in a JP2 file, is rewritten to another file.
 
-ghost use Rattle.std.specs.Prelude.{◌≡◌, ◌<◌, ◌⊎◌, [], length};
+ghost use Rattle.std.specs.Prelude.{◌≡◌, ◌<◌, ◌≤◌, ◌⊎◌, ◌↔◌, [], length, IsTrue};
 ghost use Rattle.jx_jp2.specs.Codestream.{IsJp2};
 ghost use Rattle.jx_plan.specs.Planned.{chosen};
 ghost use Rattle.jx_options.specs.Wanted.{MayBeWanted};
 ghost use Rattle.jx_options.specs.Work.{MayBeWork};
 ghost use Rattle.jx_io.specs.Causes.{Rose};
 ghost use Rattle.jx_transcode.specs.Filed.{IsAnswered, unread_as};
-ghost use Rattle.jx_transcode.specs.Jp2Run.{EndsJp2};
+ghost use Rattle.jx_transcode.specs.Jp2Run.{EndsJp2, KeepsPositions};
 ghost use Rattle.jx_transcode.specs.Outcome.{EndsAs, line_of, most_bytes};
-ghost use Rattle.jx_transcode.specs.TranscodeRun.{Ends};
+ghost use Rattle.jx_transcode.specs.TranscodeRun.{Ends, TellsPositions};
 
 use crate::around::answer_jp2;
 use crate::input::{read_input, unread_as};
@@ -19,9 +19,9 @@ use crate::say::say_line;
 use crate::{Report, Status};
 use jx_cli::Request;
 use jx_io::{Files, Gate, Refused, Sink};
-use jx_jp2::is_jp2;
+use jx_jp2::{holds_positions, is_jp2};
 use jx_layers::LayerPlanner;
-use jx_options::Options;
+use jx_options::{FormChoice, Options};
 use jx_rounds::Crew;
 use std::alloc::Global;
 use std::sync::Wait;
@@ -43,6 +43,7 @@ fn answer_file<R: Threads + Wait + Sync, G: Gate + Sync, F: Files>(
     files: &mut F,
     input: &[u8],
     to: &str,
+    form: FormChoice,
     options: &Options,
     planners: &mut [Box<dyn LayerPlanner>],
 ) -> Ending
@@ -50,23 +51,33 @@ fn answer_file<R: Threads + Wait + Sync, G: Gate + Sync, F: Files>(
     requires wanted { MayBeWanted options.now }
     requires work { MayBeWork crew.now.work }
     ensures bare { (IsJp2 input.now → ⊥) → IsAnswered to.now crew.now.work (record { wanted = options.now; rule = λ facts. chosen (λ b. serves_text b options.now.layers) (λ b. rule_of b options.now.layers facts) planners.old }) input.now result.status result.blocks result.bytes result.tape.items (F.meaning files.old) (F.meaning files.new) }
-    ensures jp2 { IsJp2 input.now → EndsJp2 to.now crew.now.work (record { wanted = options.now; rule = λ facts. chosen (λ b. serves_text b options.now.layers) (λ b. rule_of b options.now.layers facts) planners.old }) input.now result.status result.blocks result.bytes result.tape.items (F.meaning files.old) (F.meaning files.new) }
+    ensures jp2 { IsJp2 input.now → EndsJp2 to.now crew.now.work form (record { wanted = options.now; rule = λ facts. chosen (λ b. serves_text b options.now.layers) (λ b. rule_of b options.now.layers facts) planners.old }) input.now result.status result.blocks result.bytes result.tape.items (F.meaning files.old) (F.meaning files.new) }
     ensures long { most_bytes < length input.now → result.tape.items ≡ [] }
     ensures cause { result.status ≡ Status.WriteFault → Rose (F.write_faults files.old) (F.write_faults files.new) }
     ensures read { (result.status ≡ Status.ReadFault → ⊥) × (result.status ≡ Status.Words → ⊥) }
     ensures other { F.read_faults files.new ≡ F.read_faults files.old }
+    ensures short { result.status ≡ Status.Done → length input.now ≤ most_bytes }
 {
     if is_jp2(input) {
-        return answer_jp2(crew, alloc, files, input, to, options, planners);
+        return answer_jp2(crew, alloc, files, input, to, form, options, planners);
     }
     answer(crew, alloc, files, input, to, options, planners)
 }
 
-/// Says the line of what was done.
-fn say_ending<S: Sink>(alloc: Global, say: &mut S, ending: Ending) -> Report
+/// Whether boxes that hold positions in the file were kept. `input` was read, and `status` is what became of it.
+fn keeps_positions(form: FormChoice, input: &[u8], status: Status) -> bool
+    requires { status ≡ Status.Done → length input.now ≤ most_bytes }
+    ensures { IsTrue result ↔ KeepsPositions form input.now status }
+{
+    status == Status::Done && form == FormChoice::Keep && is_jp2(input) && holds_positions(input)
+}
+
+/// Says the line of what was done. `positions` says whether boxes that hold positions were kept.
+fn say_ending<S: Sink>(alloc: Global, say: &mut S, ending: Ending, positions: bool) -> Report
     ensures says { EndsAs ending.status (line_of ending.status ending.blocks ending.bytes) result.status (S.said say.old) (S.said say.new) (S.faults say.old) (S.faults say.new) }
     ensures blocks { result.blocks ≡ ending.blocks }
     ensures tape { result.tape.items ≡ ending.tape.items }
+    ensures positions { IsTrue result.positions ↔ (IsTrue positions × (result.status ≡ Status.Done)) }
 {
     let status = match line_of(alloc, ending.status, ending.blocks, ending.bytes) {
         Ok(line) => say_line(say, ending.status, line.as_str()),
@@ -76,6 +87,7 @@ fn say_ending<S: Sink>(alloc: Global, say: &mut S, ending: Ending) -> Report
         status,
         blocks: ending.blocks,
         tape: ending.tape,
+        positions: positions && status == Status::Done,
     }
 }
 
@@ -98,6 +110,7 @@ pub fn run<R: Threads + Wait + Sync, F: Files, S: Sink, G: Gate + Sync>(
     ensures write { result.status ≡ Status.WriteFault
         → Rose (F.write_faults files.old) (F.write_faults files.new) ⊎ Rose (S.faults say.old) (S.faults say.new) }
     ensures unsaid { S.faults say.old < S.faults say.new → result.status ≡ Status.WriteFault }
+    ensures positions { TellsPositions request.now result.positions result.status (F.meaning files.old) }
 {
     let crew = Crew {
         rt,
@@ -112,11 +125,13 @@ pub fn run<R: Threads + Wait + Sync, F: Files, S: Sink, G: Gate + Sync>(
                 files,
                 &input,
                 request.to(),
+                request.form(),
                 request.options(),
                 planners,
             );
-            say_ending(alloc, say, ending)
+            let positions = keeps_positions(request.form(), &input, ending.status);
+            say_ending(alloc, say, ending, positions)
         }
-        Err(refused) => say_ending(alloc, say, unread(alloc, refused)),
+        Err(refused) => say_ending(alloc, say, unread(alloc, refused), false),
     }
 }
