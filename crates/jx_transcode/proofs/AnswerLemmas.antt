@@ -26,7 +26,7 @@ use Rattle.jx_tier2_writer.specs.Tile.{IsTooLong, blocks_in, main_bytes}
 use Rattle.jx_tier2_writer.specs.TileParts.{AreTilePartsOf, IsOutput}
 use Rattle.jx_transcode.specs.Aims.{Aim, rule_in}
 use Rattle.jx_transcode.specs.Filed.{IsAnswered, IsFileBegun, IsFileHalted, IsFileMade, IsFileStopped, IsEndOf, status_of}
-use Rattle.jx_transcode.specs.Outcome.{IsBegun, IsCutShort, IsStopped, IsVerdict, Leaves, most_bytes}
+use Rattle.jx_transcode.specs.Outcome.{IsCutShort, IsStopped, IsUnfinished, IsVerdict, Leaves, most_bytes}
 use Rattle.jx_transcode.specs.Rewritten.{CanBePlanned, HasBlocks, IsBad, IsCut, IsCutByBlock, IsFront, IsFrontOf, IsKept, IsLong, IsRewritten, IsSpoiled, Reads, headers_of}
 use Rattle.jx_rounds.specs.Tiles.{IsRight, Round, next_round, round_of}
 use Rattle.jx_transcode.specs.Rewritten.{IsTooLongAt}
@@ -211,7 +211,7 @@ module _ (laws : Laws) (aim : Aim) (input : List ℕ) (s : Stream) (blocks : Lis
 
   begun_short : (name : Text) (n : ℕ) (old new : Meaning) → n ≡ length blocks → IsFileBegun plan name old new → IsCutShort name aim input n old new
   begun_short name n old new is file =
-      inr (inr (record { within = within; count = counted n is; bytes = file.bytes; of = either_of file.bytes file.of; begun = file.begun }))
+      inr (inr (record { within = within; count = counted n is; stands = inl (file.bytes, either_of file.bytes file.of, file.begun) }))
 
   -- a tile isn't written
   start_is : (why : Halt) (t : ℕ) (bytes : List ℕ) (is : IsHaltedAt plan why t bytes) → (round_of (blocks_in plan) t).start ≡ is.start
@@ -276,17 +276,15 @@ module _ (laws : Laws) (aim : Aim) (input : List ℕ) (s : Stream) (blocks : Lis
     ];
   }
 
-  stopped_begun : (name : Text) (bytes : List ℕ) (old new : Meaning) → IsStopped name bytes old new → IsBegun name bytes old new
+  stopped_begun : (name : Text) (bytes : List ℕ) (old new : Meaning) → IsStopped name bytes old new → IsUnfinished name bytes old new
   stopped_begun name bytes old new stopped =
-      inr (inl (stopped.0, [], stopped.1, record { front = bytes; whole = sym (append-nil bytes); meaning = stopped.2 }))
+      inr (stopped.0, [], stopped.1, record { front = bytes; whole = sym (append-nil bytes); meaning = stopped.2 })
 
   stopped_short : (name : Text) (n : ℕ) (why : Halt) (t : ℕ) (old new : Meaning) → n ≡ length blocks → IsFileStopped plan name why t old new → IsCutShort name aim input n old new
   stopped_short name n why t old new is file = inr (inr (record {
     within = within;
     count = counted n is;
-    bytes = file.bytes;
-    of = inl (cut_front why t file.bytes file.is);
-    begun = stopped_begun name file.bytes old new file.stopped;
+    stands = inl (file.bytes, inl (cut_front why t file.bytes file.is), stopped_begun name file.bytes old new file.stopped);
   }))
 
   module _ (name : Text) (work : Work) (n bytes : ℕ) (tape : List TapeEntry) (old new : Meaning) (count : n ≡ length blocks) (of : IsTapeOf work blocks tape) where
@@ -324,7 +322,7 @@ module _ (laws : Laws) (aim : Aim) (input : List ℕ) (s : Stream) (blocks : Lis
     written whole file = record {
       verdict = λ v. (within, file.bytes, rewritten_of file.bytes file.whole);
       leaves = record { out = file.bytes; is = rewritten_of file.bytes file.whole; made = file.made; kept = kept_of file.bytes file.whole; count = counted n count; long = file.count_is };
-      unsaid = inr (inr (record { within = within; count = counted n count; bytes = file.bytes; of = inr (rewritten_of file.bytes file.whole); begun = inr (inr file.made) }));
+      unsaid = inr (inr (record { within = within; count = counted n count; stands = inr (file.bytes, rewritten_of file.bytes file.whole, file.made) }));
       tape = taped;
       whole = λ done. counted (length tape) whole;
     }

@@ -50,12 +50,12 @@ begun_at : (p : Plan) (name : Text) (old created new : Meaning) → created ≡ 
 begun_at p name old created new is fault beside = record {
   bytes = fault.bytes;
   of = fault.of;
-  begun = inr (inl (
+  begun = inr (
     old,
     fault.some.0,
     untouched old,
     subst (λ (m : Meaning). HasWritten m new fault.bytes fault.some.0) is (has_written created new fault.bytes fault.some.0 fault.some.1 beside),
-  ));
+  );
 }
 
 stopped_at : (p : Plan) (name : Text) (h : Halt) (tile : ℕ) (old created new : Meaning) → created ≡ after_create name old → IsHaltedTile p h tile (bytes_of created) (bytes_of new) → told_beside new ≡ told_beside created

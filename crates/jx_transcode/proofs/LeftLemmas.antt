@@ -6,7 +6,7 @@ use Rattle.jx_cli.specs.Words.{Text}
 use Rattle.jx_transcode.specs.Aims.{Aim}
 use Rattle.jx_transcode.specs.declared.status.Status.{Status}
 use Rattle.jx_transcode.specs.declared.status.Status.TheVariants as status
-use Rattle.jx_transcode.specs.Outcome.{IsBegun, IsCutShort, IsMade, IsRefused, IsStopped, IsUntouched, Leaves, most_bytes}
+use Rattle.jx_transcode.specs.Outcome.{IsBegun, IsCutShort, IsMade, IsRefused, IsStopped, IsUnfinished, IsUntouched, Leaves, LeavesBegun, most_bytes}
 
 pub untouched_twice : (a b c : Meaning) → IsUntouched a b → IsUntouched b c → IsUntouched a c
 untouched_twice a b c first next = record {
@@ -26,6 +26,14 @@ begun_after name bytes a b c first (inl same) = inl (untouched_twice a b c first
 begun_after name bytes a b c first (inr (inl made)) = inr (inl (made.0, made.1, untouched_twice a b made.0 first made.2, made.3))
 begun_after name bytes a b c first (inr (inr made)) = inr (inr (made_after name bytes a b c first made))
 
+unfinished_after : (name : Text) (bytes : List ℕ) (a b c : Meaning) → IsUntouched a b → IsUnfinished name bytes b c → IsUnfinished name bytes a c
+unfinished_after name bytes a b c first (inl same) = inl (untouched_twice a b c first same)
+unfinished_after name bytes a b c first (inr made) = inr (made.0, made.1, untouched_twice a b made.0 first made.2, made.3)
+
+stands_after : (name : Text) (aim : Aim) (input : List ℕ) (a b c : Meaning) → IsUntouched a b → LeavesBegun name aim input b c → LeavesBegun name aim input a c
+stands_after name aim input a b c first (inl front) = inl (front.0, front.1, unfinished_after name front.0 a b c first front.2)
+stands_after name aim input a b c first (inr whole) = inr (whole.0, whole.1, made_after name whole.0 a b c first whole.2)
+
 refused_after : (blocks : ℕ) (a b c : Meaning) → IsUntouched a b → IsRefused blocks b c → IsRefused blocks a c
 refused_after blocks a b c first refused = (refused.0, untouched_twice a b c first refused.1)
 
@@ -34,7 +42,7 @@ cut_after name aim input blocks a b c first (inl refused) = inl (refused_after b
 cut_after name aim input blocks a b c first (inr (inl over)) =
     inr (inl (record { within = over.within; why = over.why; is = over.is; caused = over.caused; count = over.count; same = untouched_twice a b c first over.same }))
 cut_after name aim input blocks a b c first (inr (inr begun)) =
-    inr (inr (record { within = begun.within; count = begun.count; bytes = begun.bytes; of = begun.of; begun = begun_after name begun.bytes a b c first begun.begun }))
+    inr (inr (record { within = begun.within; count = begun.count; stands = stands_after name aim input a b c first begun.stands }))
 
 pub leaves_after : (name : Text) (aim : Aim) (input : List ℕ) (s : Status) (blocks bytes : ℕ) (a b c : Meaning) → IsUntouched a b → Leaves name aim input s blocks bytes b c
     → Leaves name aim input s blocks bytes a c

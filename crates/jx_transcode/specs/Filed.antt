@@ -7,7 +7,7 @@ use Rattle.jx_transcode.specs.Aims.{Aim}
 use Rattle.jx_plan.specs.declared.faults.PlanFault.{PlanFault}
 use Rattle.jx_plan.specs.declared.faults.PlanFault.TheVariants as unplanned
 use Rattle.jx_plan.specs.Plan.{Plan}
-use Rattle.jx_transcode.specs.Outcome.{IsBegun, IsCutShort, IsMade, IsStopped, IsVerdict, Leaves, Verdict}
+use Rattle.jx_transcode.specs.Outcome.{IsCutShort, IsMade, IsStopped, IsUnfinished, IsVerdict, Leaves, Verdict}
 use Rattle.jx_rounds.specs.Rounds.{IsHaltedAt, IsRoundFront, IsWholeFile}
 use Rattle.jx_cli.specs.Words.{Text}
 use Rattle.jx_options.specs.Work.{Work}
@@ -30,7 +30,7 @@ pub record IsFileMade (p : Plan) (name : Text) (count : ℕ) (old new : Meaning)
 pub record IsFileBegun (p : Plan) (name : Text) (old new : Meaning) : Type 0 where
   pub bytes : List ℕ
   pub of : IsRoundFront p bytes ⊎ IsWholeFile p bytes
-  pub begun : IsBegun name bytes old new
+  pub begun : IsUnfinished name bytes old new
 
 pub record IsFileStopped (p : Plan) (name : Text) (why : Halt) (tile : ℕ) (old new : Meaning) : Type 0 where
   pub bytes : List ℕ

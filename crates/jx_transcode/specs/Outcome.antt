@@ -109,21 +109,30 @@ IsPartlyMade name bytes old new = (m : Meaning) × (rest : List ℕ) × IsUntouc
 abbrev pub IsStopped : Text → List ℕ → Meaning → Meaning → Type 0
 IsStopped name bytes old new = (m : Meaning) × IsUntouched old m × (new ≡ after_write bytes (after_create name m))
 
+-- nothing of the file was made, or a front of it that wasn't finished
+abbrev pub IsUnfinished : Text → List ℕ → Meaning → Meaning → Type 0
+IsUnfinished name bytes old new = IsUntouched old new ⊎ IsPartlyMade name bytes old new
+
 -- nothing of the file, a front or all of it was made
 abbrev pub IsBegun : Text → List ℕ → Meaning → Meaning → Type 0
 IsBegun name bytes old new = IsUntouched old new ⊎ (IsPartlyMade name bytes old new ⊎ IsMade name bytes old new)
+
+-- what stands of an output that was begun: a front of whole rounds, or of the whole file, that wasn't finished; or, under its name, the whole
+-- file and nothing less
+abbrev pub LeavesBegun : Text → Aim → List ℕ → Meaning → Meaning → Type 0
+LeavesBegun name aim input old new =
+    ((bytes : List ℕ) × (IsFrontOf aim input bytes ⊎ IsRewritten aim input bytes) × IsUnfinished name bytes old new)
+    ⊎ ((out : List ℕ) × IsRewritten aim input out × IsMade name out old new)
 
 -- nothing was made, and the input wasn't accepted
 abbrev pub IsRefused : ℕ → Meaning → Meaning → Type 0
 IsRefused blocks old new = (blocks ≡ 0) × IsUntouched old new
 
--- the input was accepted, and its output begun: what was written is a front of whole rounds, or of the whole file
+-- the input was accepted, and its output begun
 pub record IsAborted (name : Text) (aim : Aim) (input : List ℕ) (blocks : ℕ) (old new : Meaning) : Type 0 where
   pub within : length input ≤ most_bytes
   pub count : HasBlocks input blocks
-  pub bytes : List ℕ
-  pub of : IsFrontOf aim input bytes ⊎ IsRewritten aim input bytes
-  pub begun : IsBegun name bytes old new
+  pub stands : LeavesBegun name aim input old new
 
 -- nothing was made of an input that isn't planned
 pub record IsOver (aim : Aim) (input : List ℕ) (blocks : ℕ) (old new : Meaning) : Type 0 where

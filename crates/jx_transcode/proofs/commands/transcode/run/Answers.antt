@@ -6,8 +6,8 @@ use Rattle.jx_transcode.proofs.commands.transcode.run.Goals as goal
 pub returns-in-Ok-clause-ends : goal.returns-in-Ok-clause-ends
 returns-in-Ok-clause-ends g c = rw (c.say_ending.ensures.blocks, c.say_ending.ensures.tape) (ends_said c.args.request.now _ c.answer_file-ending.result.status c.say_ending.result.status c.answer_file-ending.result.blocks
     c.answer_file-ending.result.bytes c.answer_file-ending.result.tape.items _ _ _ _ _ _
-    (ends_as c.args.request.now _ _ _ _ _ _ _ _ _ _ _ c.from.ensures c.to.ensures c.options.ensures c.work.ensures
-    (ends_read (record { from = c.from.result.now; to = c.to.result.now; wanted = c.options.result.now; work = c.work.result }) _ c.deref.result.now _ _ _ _ _ (g.F.Files.meaning c.read_input.new.files) _
+    (ends_as c.args.request.now _ _ _ _ _ _ _ _ _ _ _ _ c.from.ensures c.to.ensures c.options.ensures c.work.ensures c.form.ensures
+    (ends_read (record { from = c.from.result.now; to = c.to.result.now; wanted = c.options.result.now; work = c.work.result; form = c.form.result }) _ c.deref.result.now _ _ _ _ _ (g.F.Files.meaning c.read_input.new.files) _
     (rw c.deref.ensures.value c.in-Ok.ensures.bytes) c.in-Ok.ensures.same c.answer_file-ending.ensures.bare c.answer_file-ending.ensures.jp2 c.answer_file-ending.ensures.long))
     c.say_ending.ensures.says)
 
