@@ -5,6 +5,7 @@ pub mod Choices
 pub mod Faults
 pub mod Limits
 pub mod Names
+pub mod Notes
 pub mod Rules
 pub mod Sentences
 pub mod Shown

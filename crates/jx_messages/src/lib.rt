@@ -8,6 +8,7 @@ mod faults;
 mod forms;
 mod help;
 mod limits;
+mod notes;
 mod options;
 mod rules;
 mod sentence;
@@ -16,6 +17,7 @@ mod words;
 
 pub use faults::explain_fault;
 pub use help::help_of;
+pub use notes::note_positions;
 pub use sentence::explain;
 
 /// Why a run was refused.

@@ -12,7 +12,7 @@ ghost use Rattle.jx_tool.specs.Ended.{IsEnded, IsHelped, IsEndedBySome, IsSaid, 
 use jx_cli::{WordsFault, read_words};
 use jx_io::{Fault, Files, Progress, Refused, Sink, TellsFault, is_standard_output};
 use jx_layers::{CutLayers, KeepLayers, LayerPlanner, OneLayer, PlaneLayers};
-use jx_messages::{Refusal, explain, explain_fault, help_of};
+use jx_messages::{Refusal, explain, explain_fault, help_of, note_positions};
 use jx_transcode::{Status, run};
 use std::alloc::{AllocError, Global};
 use std::env::Args;
@@ -113,6 +113,15 @@ fn tell<R: Eprint>(rt: &R, alloc: Global, words: &[String], status: Status, faul
     }
 }
 
+/// Says on standard error what the output of a run may mislead about. The status stays what it is where that can't be said.
+fn note<R: Eprint>(rt: &R, alloc: Global, words: &[String], positions: bool) {
+    if positions {
+        if let Ok(text) = note_positions(alloc, words) {
+            let _ = rt.eprint(text.as_str());
+        }
+    }
+}
+
 /// Says a text: how that ends.
 fn say_text<S: Sink>(say: &mut S, text: &str) -> Status
     ensures said { IsSaid result text.now (S.said say.old) (S.said say.new) }
@@ -172,6 +181,7 @@ fn end_of<R: Threads + Wait + Sync + Eprint + Clock, F: Files + TellsFault, S: S
         Ok(None) => {
             let report = run(rt, alloc, &words, files, say, progress, planners);
             tell(rt, alloc, &words, report.status, last_fault(files, say));
+            note(rt, alloc, &words, report.positions);
             ExitCode::from(report.status.number())
         }
         Ok(Some(text)) => ExitCode::from(help(rt, alloc, &words, say, text.as_str()).number()),

@@ -1,8 +1,13 @@
 -- A file has one verdict, JP2 or not.
-use Rattle.std.proofs.Common.{◌≡◌, ◌∙◌, ◌⊎◌, ◌<◌, ◌≤◌, ◌+◌, ℕ, List, length, inl, inr, refl, ap, sym, subst, arith}
+use Rattle.std.proofs.Common.{◌≡◌, ◌∙◌, ◌⊎◌, ◌<◌, ◌≤◌, ◌+◌, ◌-◌, ℕ, List, length, take, drop, inl, inr, refl, ap, sym, subst, arith}
+use Rattle.std.specs.Str.{bytes_eq}
+use Rattle.std.proofs.lemmas.Bool.{both_ways, cases_Bool, cases_lt}
+use Rattle.std.proofs.lemmas.List.Elements.{All-drop, All-take}
+use Rattle.std.proofs.lemmas.Slice.Eq.{bytes_eq-Decides}
+use Rattle.jx_marker.specs.Ranges.{AreBytes}
 use Rattle.jx_jp2.specs.declared.Boxed.{Boxed}
-use Rattle.jx_jp2.specs.Codestream.{IsCodestream, IsNextFault, content}
-use Rattle.jx_transcode.specs.Aims.{Aim}
+use Rattle.jx_jp2.specs.Codestream.{IsCodestream, IsNextFault, content, signature}
+use Rattle.jx_transcode.specs.Aims.{Aim, MayBeAimed}
 use Rattle.jx_transcode.specs.Jp2Run.{FileVerdict, Jp2Verdict, RefusesBoxes, VerdictAt, raised}
 use Rattle.jx_transcode.specs.Outcome.{Verdict, most_bytes}
 use Rattle.jx_transcode.specs.declared.status.Status.{Status}
@@ -93,3 +98,42 @@ one_of_file one laws aim input s t (inl x) (inl y) = one aim input s t x.1 y.1
 one_of_file one laws aim input s t (inl x) (inr y) = absurd (x.0 y.0)
 one_of_file one laws aim input s t (inr x) (inl y) = absurd (y.0 x.0)
 one_of_file one laws aim input s t (inr x) (inr y) = one_jp2 one laws aim input s t x.1 y.1
+
+-- ---- a file has a verdict
+abbrev pub SomeCodestream : Type 0
+SomeCodestream = (bytes : List ℕ) → length bytes ≤ most_bytes → ((boxed : Boxed) × IsCodestream bytes boxed) ⊎ ((number : ℕ) × (place : ℕ) × IsNextFault bytes 0 number place)
+
+raised_at : (aim : Aim) (from : ℕ) (inner : List ℕ) (s : Status) → Verdict aim inner s → VerdictAt aim from inner (raised from s)
+raised_at aim from inner status.Done v = v
+raised_at aim from inner status.Words v = absurd v
+raised_at aim from inner (status.Rule number place) v = (place, refl, v)
+raised_at aim from inner (status.Limit number found) v = v
+raised_at aim from inner (status.Choice number place) v = v
+raised_at aim from inner (status.Block number) v = v
+raised_at aim from inner status.ReadFault v = absurd v
+raised_at aim from inner status.WriteFault v = absurd v
+raised_at aim from inner status.NoMemory v = absurd v
+
+module _ (some : (aim : Aim) (input : List ℕ) → MayBeAimed aim → AreBytes input → (s : Status) × Verdict aim input s) (codestream : SomeCodestream) (aim : Aim) (may : MayBeAimed aim) (input : List ℕ) (bytes : AreBytes input) where
+  boxed_verdict : length input ≤ most_bytes → (boxed : Boxed) → IsCodestream input boxed → (s : Status) × Jp2Verdict aim input s
+  boxed_verdict short boxed found =
+      let of = some aim (content input boxed) may (All-take (λ (byte : ℕ). byte < 256) (boxed.to - boxed.from) (drop boxed.from input) (All-drop (λ (byte : ℕ). byte < 256) boxed.from input bytes)) in
+      (raised boxed.from of.0, inr (short, boxed, found, raised_at aim boxed.from (content input boxed) of.0 of.1))
+
+  short_jp2 : length input ≤ most_bytes → (s : Status) × Jp2Verdict aim input s
+  short_jp2 short = elim (codestream input short) [
+    | inl found ↦ boxed_verdict short found.0 found.1
+    | inr broken ↦ (status.Rule broken.0 broken.1, inl (short, broken.2))
+  ]
+
+  jp2_verdict : (s : Status) × Jp2Verdict aim input s
+  jp2_verdict = elim (cases_lt most_bytes (length input)) [
+    | inl long ↦ (status.Limit 1 (most_bytes + 1), inl (long, refl, refl))
+    | inr short ↦ short_jp2 short
+  ]
+
+  pub some_of_file : (s : Status) × FileVerdict aim input s
+  some_of_file = elim (cases_Bool (bytes_eq (take 12 input) signature)) [
+    | inl is ↦ let of = jp2_verdict in (of.0, inr ((bytes_eq-Decides (take 12 input) signature).0 is, of.1))
+    | inr other ↦ let of = some aim input may bytes in (of.0, inl (λ is. both_ways (bytes_eq (take 12 input) signature) other ((bytes_eq-Decides (take 12 input) signature).1 is), of.1))
+  ]

@@ -8,7 +8,9 @@ mod LeftLemmas
 mod Jp2Lemmas
 mod AroundLemmas
 mod OutcomeLemmas
+mod PositionsLemmas
 mod OneVerdictLemmas
+mod OneFileLemmas
 mod FileVerdictLemmas
 mod ToldLemmas
 mod SomeVerdictLemmas

@@ -179,7 +179,7 @@ module _ (laws : Laws) (aim : Aim) (input : List ℕ) (short : length input ≤ 
         one_rule (rule_in aim s blocks) too.by can.by (sym (of_stream ∙ of_blocks) ∙ too.is) can.is
 
     -- what holds of these holds of those
-    here : (P : Rule → Stream → List Block → Type 0) → P too.by t others → P can.by s blocks
+    pub here : (P : Rule → Stream → List Block → Type 0) → P too.by t others → P can.by s blocks
     here P is =
         let of_rule : P can.by t others = subst (λ (r : Rule). P r t others) same_rule is in
         let of_stream : P can.by s others = subst (λ (x : Stream). P can.by x others) same.0 of_rule in

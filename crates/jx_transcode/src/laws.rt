@@ -7,14 +7,22 @@ ghost use Rattle.jx_transcode.specs.Aims.{Aim, MayBeAimed};
 ghost use Rattle.jx_cli.specs.MakeWords.{Make, MayBeMade};
 ghost use Rattle.jx_transcode.specs.declared.status.Status.{Status};
 ghost use Rattle.jx_transcode.specs.declared.status.Status.TheVariants as status;
-ghost use Rattle.jx_transcode.specs.Jp2Run.{FileVerdict};
+ghost use Rattle.jx_io.specs.Device.{Meaning};
+ghost use Rattle.jx_cli.specs.Words.{Text};
+ghost use Rattle.jx_jp2.specs.declared.Boxed.{Boxed};
+ghost use Rattle.jx_options.specs.Work.{Work};
+ghost use Rattle.jx_options.specs.declared.FormChoice.{FormChoice};
+ghost use Rattle.jx_rounds.specs.declared.tape.TapeEntry.{TapeEntry};
+ghost use Rattle.jx_transcode.specs.Jp2Run.{EndsAround, FileVerdict, file_in};
+ghost use Rattle.jx_transcode.specs.Rewritten.{IsRewritten};
+ghost use Rattle.jx_transcode.specs.TranscodeRun.{EndsBare};
 ghost use Rattle.jx_transcode.specs.MadeVerdict.{HasNoRule};
 ghost use Rattle.jx_transcode.specs.MakeRun.{aim_made, input_of};
 ghost use Rattle.jx_transcode.specs.Outcome.{Verdict, most_bytes};
 
 use jx_codestream::laws::{one_first, one_stream, violated_or_spelled};
 use jx_generate::laws::{made_blocks_are_plain, made_geometry, made_is_well_formed};
-use jx_jp2::laws::one_codestream;
+use jx_jp2::laws::{one_codestream, some_codestream};
 use jx_plan::laws::{gathered_may_be_planned, groups_are_cut, kept_precincts_fit, one_answer};
 use jx_tier2_reader::laws::{never_both, one_gathering, one_of_both, one_violation};
 use jx_tier2_writer::laws::{one_output, written_is_ready};
@@ -31,6 +39,28 @@ pub fn one_verdict()
     never_both();
     one_answer();
     one_output();
+}
+
+/// An input has at most one output by what is asked of the codestream: two runs that end with Done have made the same bytes, whatever number
+/// of workers, windows and gates they had.
+pub fn one_file()
+    ensures file { (aim : Aim) (input out other : List ℕ) → length input ≤ most_bytes → IsRewritten aim input out → IsRewritten aim input other → out ≡ other }
+    ensures runs { (name again : Text) (work other : Work) (aim : Aim) (input : List ℕ) (blocks bytes blocks2 bytes2 : ℕ) (tape tape2 : List TapeEntry) (old new old2 new2 : Meaning)
+        → (one : EndsBare name work aim input status.Done blocks bytes tape old new) → (two : EndsBare again other aim input status.Done blocks2 bytes2 tape2 old2 new2)
+        → one.leaves.out ≡ two.leaves.out }
+    ensures boxed { (name again : Text) (work other : Work) (form : FormChoice) (aim : Aim) (input : List ℕ) (boxed boxed2 : Boxed) (blocks bytes blocks2 bytes2 : ℕ) (tape tape2 : List TapeEntry) (old new old2 new2 : Meaning)
+        → (one : EndsAround name work form aim input boxed status.Done blocks bytes tape old new) → (two : EndsAround again other form aim input boxed2 status.Done blocks2 bytes2 tape2 old2 new2)
+        → file_in form input boxed one.out ≡ file_in form input boxed2 two.out }
+{
+    one_stream();
+    one_first();
+    violated_or_spelled();
+    one_violation();
+    one_gathering();
+    never_both();
+    one_answer();
+    one_output();
+    one_codestream();
 }
 
 /// A file has at most one verdict, JP2 or not.
@@ -51,6 +81,14 @@ pub fn some_verdict()
     one_answer();
     written_is_ready();
     one_output();
+}
+
+/// A file has a verdict, JP2 or not, where the planners make 1 to 65,535 layers.
+pub fn some_file_verdict()
+    ensures { (aim : Aim) (input : List ℕ) → MayBeAimed aim → AreBytes input → (s : Status) × FileVerdict aim input s }
+{
+    some_verdict();
+    some_codestream();
 }
 
 /// A generated codestream violates no rule, and passes no limit but that on packets of the output.
