@@ -208,5 +208,9 @@ pub refused_cause : {T U : Type 0} (before now : ℕ) (h : Halt) (e : Refused) �
 refused_cause before now h refused.Failed is cause failed = cause.failed refl
 refused_cause before now h refused.NoMemory is cause failed = absurd (cc)
 
+pub refused_rose : {T U : Type 0} (before now : ℕ) (h : Halt) (e : Refused) → h ≡ halt_of e → HasCause {T = T} before now (Err e) → before < now → IsErrOf {T = U} (Err h) halt.Failed
+refused_rose before now h refused.Failed is cause rose = ap (λ (x : Halt). Err x) is
+refused_rose before now h refused.NoMemory is cause rose = let e = cause.rose rose in absurd (cc)
+
 pub same_err : {T U : Type 0} (h k : Halt) → IsErrOf {T = T} (Err h) k → IsErrOf {T = U} (Err h) k
 same_err h k e = let is : h ≡ k = cc in ap (λ (x : Halt). Err x) is

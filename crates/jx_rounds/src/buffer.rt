@@ -21,6 +21,7 @@ pub fn put<W: ByteWriter>(writer: &mut W, bytes: &[u8]) -> Result<(), Halt>
     ensures front { SomeFront (W.written writer.old) (W.written writer.new) bytes.now }
     ensures fault { IfErr result (λ h. IsFault h) }
     ensures cause { IsErrOf result Halt.Failed → Rose (W.faults writer.old) (W.faults writer.new) }
+    ensures rose { W.faults writer.old < W.faults writer.new → IsErrOf result Halt.Failed }
     ensures same { OnOk result (W.faults writer.new ≡ W.faults writer.old) }
     ensures other { W.kept writer.new ≡ W.kept writer.old }
 {
@@ -38,6 +39,7 @@ fn write_out<W: ByteWriter>(writer: &mut W, buffer: &mut Vec<u8>) -> Result<(), 
     ensures front { SomeFront (W.written writer.old) (W.written writer.new) buffer.old.items }
     ensures fault { IfErr result (λ h. IsFault h) }
     ensures cause { IsErrOf result Halt.Failed → Rose (W.faults writer.old) (W.faults writer.new) }
+    ensures rose { W.faults writer.old < W.faults writer.new → IsErrOf result Halt.Failed }
     ensures same { OnOk result (W.faults writer.new ≡ W.faults writer.old) }
     ensures other { W.kept writer.new ≡ W.kept writer.old }
 {
@@ -57,6 +59,7 @@ fn write_full<W: ByteWriter>(writer: &mut W, buffer: &mut Vec<u8>) -> Result<(),
     ensures front { SomeFront (W.written writer.old) (W.written writer.new) buffer.old.items }
     ensures fault { IfErr result (λ h. IsFault h) }
     ensures cause { IsErrOf result Halt.Failed → Rose (W.faults writer.old) (W.faults writer.new) }
+    ensures rose { W.faults writer.old < W.faults writer.new → IsErrOf result Halt.Failed }
     ensures same { OnOk result (W.faults writer.new ≡ W.faults writer.old) }
     ensures other { W.kept writer.new ≡ W.kept writer.old }
 {
@@ -81,6 +84,7 @@ fn put_piece<W: ByteWriter>(
     ensures front { SomeFront (W.written writer.old) (W.written writer.new) (buffer.old.items ++ slice_index_or (slice_index_or tile.now part []) piece []) }
     ensures fault { IfErr result (λ h. IsFault h) }
     ensures cause { IsErrOf result Halt.Failed → Rose (W.faults writer.old) (W.faults writer.new) }
+    ensures rose { W.faults writer.old < W.faults writer.new → IsErrOf result Halt.Failed }
     ensures same { OnOk result (W.faults writer.new ≡ W.faults writer.old) }
     ensures other { W.kept writer.new ≡ W.kept writer.old }
 {
@@ -105,6 +109,7 @@ fn put_pieces<W: ByteWriter>(
     ensures front { SomeFront (W.written writer.old) (W.written writer.new) (concat (slice_index_or tile.now part [])) }
     ensures fault { IfErr result (λ h. IsFault h) }
     ensures cause { IsErrOf result Halt.Failed → Rose (W.faults writer.old) (W.faults writer.new) }
+    ensures rose { W.faults writer.old < W.faults writer.new → IsErrOf result Halt.Failed }
     ensures same { OnOk result (W.faults writer.new ≡ W.faults writer.old) }
     ensures other { W.kept writer.new ≡ W.kept writer.old }
 {
@@ -132,6 +137,7 @@ fn put_part<W: ByteWriter>(
     ensures front { SomeFront (W.written writer.old) (W.written writer.new) (concat (slice_index_or tile.now part [])) }
     ensures fault { IfErr result (λ h. IsFault h) }
     ensures cause { IsErrOf result Halt.Failed → Rose (W.faults writer.old) (W.faults writer.new) }
+    ensures rose { W.faults writer.old < W.faults writer.new → IsErrOf result Halt.Failed }
     ensures same { OnOk result (W.faults writer.new ≡ W.faults writer.old) }
     ensures other { W.kept writer.new ≡ W.kept writer.old }
 {
@@ -158,6 +164,7 @@ fn put_tile<W: ByteWriter>(
     ensures front { SomeFront (W.written writer.old) (W.written writer.new) (concat (map concat tile.now)) }
     ensures fault { IfErr result (λ h. IsFault h) }
     ensures cause { IsErrOf result Halt.Failed → Rose (W.faults writer.old) (W.faults writer.new) }
+    ensures rose { W.faults writer.old < W.faults writer.new → IsErrOf result Halt.Failed }
     ensures same { OnOk result (W.faults writer.new ≡ W.faults writer.old) }
     ensures other { W.kept writer.new ≡ W.kept writer.old }
 {
@@ -184,6 +191,7 @@ pub fn put_tiles<W: ByteWriter>(
     ensures front { SomeFront (W.written writer.old) (W.written writer.new) (concat (parts_of tiles.now)) }
     ensures fault { IfErr result (λ h. IsFault h) }
     ensures cause { IsErrOf result Halt.Failed → Rose (W.faults writer.old) (W.faults writer.new) }
+    ensures rose { W.faults writer.old < W.faults writer.new → IsErrOf result Halt.Failed }
     ensures same { OnOk result (W.faults writer.new ≡ W.faults writer.old) }
     ensures other { W.kept writer.new ≡ W.kept writer.old }
 {

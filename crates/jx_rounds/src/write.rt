@@ -107,6 +107,7 @@ fn write_round<R: Threads + Wait + Sync, G: Gate + Sync, W: ByteWriter>(
     ensures buffer { OnOk result (buffer.new.items ≡ []) }
     ensures err { IfErr result (λ h. IsUnwritten making.now mark.tile h (W.written writer.old) (W.written writer.new)) }
     ensures cause { IsErrOf result Halt.Failed → Rose (W.faults writer.old) (W.faults writer.new) }
+    ensures rose { W.faults writer.old < W.faults writer.new → IsErrOf result Halt.Failed }
     ensures same { OnOk result (W.faults writer.new ≡ W.faults writer.old) }
     ensures other { W.kept writer.new ≡ W.kept writer.old }
 {
@@ -148,6 +149,7 @@ fn write_tiles<R: Threads + Wait + Sync, G: Gate + Sync, W: ByteWriter>(
     ensures tape { IsTapeOf crew.now.work making.now.blocks tape.new.items }
     ensures whole { OnOk result (length tape.new.items ≡ length making.now.blocks) }
     ensures cause { IsErrOf result Halt.Failed → Rose (W.faults writer.old) (W.faults writer.new) }
+    ensures rose { W.faults writer.old < W.faults writer.new → IsErrOf result Halt.Failed }
     ensures same { OnOk result (W.faults writer.new ≡ W.faults writer.old) }
     ensures other { W.kept writer.new ≡ W.kept writer.old }
 {
@@ -172,6 +174,7 @@ fn write_end<W: ByteWriter>(writer: &mut W, before: usize) -> Result<usize, Halt
     ensures ok { IfOk result (λ bytes. (p : Plan) (first : Option (List ℕ)) → HasFront p (tile_number p.stream.siz) before first (W.written writer.old) → HasWhole p bytes first (W.written writer.new)) }
     ensures err { IfErr result (λ h. (p : Plan) (first : Option (List ℕ)) → HasFront p (tile_number p.stream.siz) before first (W.written writer.old) → IsHalted p h first (W.written writer.new)) }
     ensures cause { IsErrOf result Halt.Failed → Rose (W.faults writer.old) (W.faults writer.new) }
+    ensures rose { W.faults writer.old < W.faults writer.new → IsErrOf result Halt.Failed }
     ensures same { OnOk result (W.faults writer.new ≡ W.faults writer.old) }
     ensures other { W.kept writer.new ≡ W.kept writer.old }
 {
@@ -210,6 +213,7 @@ pub fn write_codestream<R: Threads + Wait + Sync, G: Gate + Sync, W: ByteWriter>
     ensures tape { IsTapeOf crew.now.work making.now.blocks tape.new.items }
     ensures whole { OnOk result (length tape.new.items ≡ length making.now.blocks) }
     ensures cause { IsErrOf result Halt.Failed → Rose (W.faults writer.old) (W.faults writer.new) }
+    ensures rose { W.faults writer.old < W.faults writer.new → IsErrOf result Halt.Failed }
     ensures same { OnOk result (W.faults writer.new ≡ W.faults writer.old) }
     ensures other { W.kept writer.new ≡ W.kept writer.old }
 {

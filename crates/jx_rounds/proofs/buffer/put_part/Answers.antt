@@ -26,3 +26,6 @@ returns-clause-same g c = on_ok_weaker c.write_out.result (λ same. same ∙ c.i
 
 pub returns-clause-other : goal.returns-clause-other
 returns-clause-other g c = c.write_out.ensures.other ∙ c.put_pieces.ensures.other
+
+pub returns-clause-rose : goal.returns-clause-rose
+returns-clause-rose g c = rw (← c.in-Ok.ensures.same) c.write_out.ensures.rose

@@ -1,4 +1,4 @@
-use Rattle.std.proofs.Common.{rules, ◌≤◌, ◌∙◌, [], length, refl, slice_index_or}
+use Rattle.std.proofs.Common.{arith, rules, ◌≤◌, ◌∙◌, [], length, refl, slice_index_or}
 use Rattle.std.proofs.lemmas.List.{drop_all}
 use Rattle.jx_rounds.proofs.PartLemmas.{nothing_gone, piece_cut_off, piece_put, pieces_cut, pieces_put}
 use Rattle.jx_rounds.proofs.buffer.put_pieces.Goals as goal
@@ -30,3 +30,9 @@ returns-clause-ok g c =
 
 pub returns-clause-front : goal.returns-clause-front
 returns-clause-front g c = (_, c.loop-piece.invariant.so_far)
+
+pub returns-in-Err-clause-rose : goal.returns-in-Err-clause-rose
+returns-in-Err-clause-rose g c = rw (← c.loop-piece.invariant.same) c.in-Err.ensures.rose
+
+pub returns-clause-rose : goal.returns-clause-rose
+returns-clause-rose g c = λ rose. absurd (omega (arith, c.loop-piece.invariant.same, rose))

@@ -1,4 +1,4 @@
-use Rattle.std.proofs.Common.{rules, ◌≤◌, ◌∙◌, length, refl}
+use Rattle.std.proofs.Common.{arith, rules, ◌≤◌, ◌∙◌, length, refl}
 use Rattle.std.proofs.lemmas.List.{drop_all}
 use Rattle.jx_rounds.proofs.PartLemmas.{parts_cut}
 use Rattle.jx_rounds.proofs.TakenLemmas.{front_after, has_taken_all, has_taken_more, has_taken_none}
@@ -30,3 +30,9 @@ returns-clause-ok g c =
 
 pub returns-clause-front : goal.returns-clause-front
 returns-clause-front g c = (_, c.loop-part.invariant.so_far)
+
+pub returns-in-Err-clause-rose : goal.returns-in-Err-clause-rose
+returns-in-Err-clause-rose g c = rw (← c.loop-part.invariant.same) c.in-Err.ensures.rose
+
+pub returns-clause-rose : goal.returns-clause-rose
+returns-clause-rose g c = λ rose. absurd (omega (arith, c.loop-part.invariant.same, rose))

@@ -59,3 +59,12 @@ returns-in-Err-clause-cause g c = λ failed. c.in-Err.ensures.cause (same_err _ 
 
 pub returns-in-Err-clause-other : goal.returns-in-Err-clause-other
 returns-in-Err-clause-other g c = c.put.ensures.other
+
+pub returns-in-Ok-write_tiles-clause-rose : goal.returns-in-Ok-write_tiles-clause-rose
+returns-in-Ok-write_tiles-clause-rose g c = rw (← c.in-Ok.ensures.same, ← c.in-Ok-write_tiles.ensures.same) c.write_end.ensures.rose
+
+pub returns-in-Err-write_tiles-clause-rose : goal.returns-in-Err-write_tiles-clause-rose
+returns-in-Err-write_tiles-clause-rose g c = rw (← c.in-Ok.ensures.same) c.in-Err-write_tiles.ensures.rose
+
+pub returns-in-Err-clause-rose : goal.returns-in-Err-clause-rose
+returns-in-Err-clause-rose g c = λ rose. same_err _ _ (c.in-Err.ensures.rose rose)

@@ -45,3 +45,6 @@ returns-clause-cause g c = λ failed. c.in-Err-put_tiles.ensures.cause (same_err
 
 pub returns-clause-other : goal.returns-clause-other
 returns-clause-other g c = c.put_tiles.ensures.other
+
+pub returns-clause-rose : goal.returns-clause-rose
+returns-clause-rose g c = λ rose. same_err _ _ (c.in-Err-put_tiles.ensures.rose rose)

@@ -55,3 +55,9 @@ pub returns-clause-whole : goal.returns-clause-whole
 returns-clause-whole g c =
     whole_tape c.args.making.now c.args.crew.now.work c.loop-mark.mark.tile c.loop-mark.mark.block c.loop-mark.tape.items c.tile_count-tiles.ensures.plan c.loop-mark.invariant.place
     (omega (arith, c.tile_count-tiles.ensures.count, c.loop-mark-test.false)) c.loop-mark.invariant.tape
+
+pub returns-in-Err-clause-rose : goal.returns-in-Err-clause-rose
+returns-in-Err-clause-rose g c = λ rose. same_err _ _ (c.in-Err.ensures.rose (rw c.loop-mark.invariant.same rose))
+
+pub returns-clause-rose : goal.returns-clause-rose
+returns-clause-rose g c = λ rose. absurd (omega (arith, c.loop-mark.invariant.same, rose))
