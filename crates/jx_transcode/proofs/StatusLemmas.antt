@@ -36,6 +36,10 @@ pub ended_failed : (written : Result ℕ Halt) (s : Status) (bytes : ℕ) → Is
 ended_failed (Ok count) s bytes ends failed = absurd (done_unwritten (sym ends.0 ∙ failed))
 ended_failed (Err h) s bytes ends failed = ap (λ (x : Halt). Err x) (failed_of h (sym ends.0 ∙ failed))
 
+pub failed_ended : (written : Result ℕ Halt) (s : Status) (bytes : ℕ) → IsEndOf written s bytes → IsErrOf written halt.Failed → s ≡ status.WriteFault
+failed_ended (Ok count) s bytes ends failed = absurd (cc)
+failed_ended (Err h) s bytes ends failed = let is : h ≡ halt.Failed = cc in ends.0 ∙ ap status_of is
+
 pub ended_unread : (written : Result ℕ Halt) (s : Status) (bytes : ℕ) → IsEndOf written s bytes → IsPastReading s
 ended_unread (Ok count) s bytes ends = subst IsPastReading (sym ends.0) done_unread
 ended_unread (Err h) s bytes ends = subst IsPastReading (sym ends.0) (unread_of h)

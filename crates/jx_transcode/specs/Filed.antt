@@ -68,6 +68,11 @@ abbrev pub unread_as : Refused → Status
 unread_as refused.Failed = status.ReadFault
 unread_as refused.NoMemory = status.NoMemory
 
+-- that of an output that couldn't be written to its end
+abbrev pub unwritten_as : Refused → Status
+unwritten_as refused.Failed = status.WriteFault
+unwritten_as refused.NoMemory = status.NoMemory
+
 -- that of an input in which something is violated or passed
 abbrev pub told_by : StreamFault → Status
 told_by (fault.Rule number place) = status.Rule number place

@@ -202,3 +202,7 @@ EndsAs s line late before now fault_before fault_now =
     ((late ≡ s) × Says s line before now × (fault_now ≡ fault_before))
     ⊎ (((late ≡ status.WriteFault) × (now ≡ before) × Rose fault_before fault_now)
     ⊎ ((late ≡ status.NoMemory) × (now ≡ before) × (fault_now ≡ fault_before)))
+
+-- the status where a call failed that opens or reads the input; a line that can't be said comes after it, and want of memory for that line
+abbrev pub EndsAsReadFault : Status → ℕ → ℕ → Type 0
+EndsAsReadFault s fault_before fault_now = (s ≡ status.ReadFault) ⊎ (((s ≡ status.WriteFault) × Rose fault_before fault_now) ⊎ (s ≡ status.NoMemory))

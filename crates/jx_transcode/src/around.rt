@@ -1,6 +1,6 @@
 //! What becomes of a JP2 file: its codestream is rewritten in memory, and the file is written around it (ITU-T T.800, Annex I).
 
-ghost use Rattle.std.specs.Prelude.{◌≡◌, ◌⊎◌, ◌≤◌, ◌<◌, ◌^◌, ℕ, List, [], length, map, IfOk, IsErrOf, OnErr, OnOk};
+ghost use Rattle.std.specs.Prelude.{◌≡◌, ◌⊎◌, ◌≤◌, ◌<◌, ◌^◌, ℕ, List, [], length, map, IfErr, IfOk, IsErrOf, OnErr, OnOk};
 ghost use Rattle.std.specs.List.{concat};
 ghost use Rattle.jx_io.specs.Causes.{Rose};
 ghost use Rattle.jx_jp2.specs.Codestream.{IsCodestream, content};
@@ -8,6 +8,7 @@ ghost use Rattle.jx_options.specs.Wanted.{MayBeWanted};
 ghost use Rattle.jx_options.specs.Work.{MayBeWork};
 ghost use Rattle.jx_plan.specs.Planned.{chosen};
 ghost use Rattle.jx_rounds.specs.Taken.{SomeFront, followed_by};
+ghost use Rattle.jx_transcode.specs.Filed.{unwritten_as};
 ghost use Rattle.jx_transcode.specs.Jp2Run.{EndsAround, EndsJp2, IsPlaced, file_in, raised};
 ghost use Rattle.jx_transcode.specs.MakeRun.{IsLastMade};
 ghost use Rattle.jx_transcode.specs.Outcome.{IsBegun, IsMade, most_bytes};
@@ -32,6 +33,7 @@ fn put_all<W: ByteWriter>(writer: &mut W, pieces: &[&[u8]]) -> Result<usize, Ref
     ensures ok { IfOk result (λ count. (W.written writer.new ≡ followed_by (concat (map (λ piece. piece.now) pieces.now)) (W.written writer.old)) × (count ≡ length (concat (map (λ piece. piece.now) pieces.now)))) }
     ensures front { SomeFront (W.written writer.old) (W.written writer.new) (concat (map (λ piece. piece.now) pieces.now)) }
     ensures cause { IsErrOf result Refused.Failed → Rose (W.faults writer.old) (W.faults writer.new) }
+    ensures rose { W.faults writer.old < W.faults writer.new → IsErrOf result Refused.Failed }
     ensures same { OnOk result (W.faults writer.new ≡ W.faults writer.old) }
     ensures other { W.kept writer.new ≡ W.kept writer.old }
 {
@@ -55,6 +57,7 @@ fn write_pieces<F: Files>(files: &mut F, to: &str, pieces: &[&[u8]]) -> Result<u
     ensures count { IfOk result (λ count. count ≡ length (concat (map (λ piece. piece.now) pieces.now))) }
     ensures err { OnErr result (IsBegun to.now (concat (map (λ piece. piece.now) pieces.now)) (F.meaning files.old) (F.meaning files.new)) }
     ensures cause { IsErrOf result Refused.Failed → Rose (F.write_faults files.old) (F.write_faults files.new) }
+    ensures rose { F.write_faults files.old < F.write_faults files.new → IsErrOf result Refused.Failed }
     ensures other { F.read_faults files.new ≡ F.read_faults files.old }
 {
     match files.create(to) {
@@ -87,6 +90,7 @@ fn write_form<F: Files>(
     ensures count { IfOk result (λ count. count ≡ length (file_in form input.now boxed.now out.now)) }
     ensures err { OnErr result (IsBegun to.now (file_in form input.now boxed.now out.now) (F.meaning files.old) (F.meaning files.new)) }
     ensures cause { IsErrOf result Refused.Failed → Rose (F.write_faults files.old) (F.write_faults files.new) }
+    ensures rose { F.write_faults files.old < F.write_faults files.new → IsErrOf result Refused.Failed }
     ensures other { F.read_faults files.new ≡ F.read_faults files.old }
 {
     match form {
@@ -101,8 +105,7 @@ fn write_form<F: Files>(
 
 /// The status of a file that wasn't written to its end.
 fn unwritten_as(refused: Refused) -> Status
-    ensures end { (result ≡ Status.WriteFault) ⊎ (result ≡ Status.NoMemory) }
-    ensures failed { result ≡ Status.WriteFault → refused ≡ Refused.Failed }
+    ensures { result ≡ unwritten_as refused }
 {
     match refused {
         Refused::Failed => Status::WriteFault,
@@ -113,8 +116,7 @@ fn unwritten_as(refused: Refused) -> Status
 /// How a file is left that was written with so many bytes, or wasn't to its end.
 fn written_as(written: Result<usize, Refused>, blocks: u32, tape: Vec<TapeEntry>) -> Ending
     ensures ok { IfOk written (λ count. (result.status ≡ Status.Done) × (result.bytes ≡ count)) }
-    ensures end { OnErr written ((result.status ≡ Status.WriteFault) ⊎ (result.status ≡ Status.NoMemory)) }
-    ensures failed { result.status ≡ Status.WriteFault → IsErrOf written Refused.Failed }
+    ensures err { IfErr written (λ refused. result.status ≡ unwritten_as refused) }
     ensures blocks { result.blocks ≡ blocks }
     ensures tape { result.tape.items ≡ tape.items }
 {
@@ -186,6 +188,7 @@ fn answer_around<R: Threads + Wait + Sync, G: Gate + Sync, F: Files>(
     requires work { MayBeWork crew.now.work }
     ensures answer { EndsAround to.now crew.now.work form (record { wanted = options.now; rule = λ facts. chosen (λ b. serves_text b options.now.layers) (λ b. rule_of b options.now.layers facts) planners.old }) input.now boxed.now result.status result.blocks result.bytes result.tape.items (F.meaning files.old) (F.meaning files.new) }
     ensures cause { result.status ≡ Status.WriteFault → Rose (F.write_faults files.old) (F.write_faults files.new) }
+    ensures rose { F.write_faults files.old < F.write_faults files.new → result.status ≡ Status.WriteFault }
     ensures read { (result.status ≡ Status.ReadFault → ⊥) × (result.status ≡ Status.Words → ⊥) }
     ensures other { F.read_faults files.new ≡ F.read_faults files.old }
 {
@@ -224,6 +227,7 @@ pub fn answer_jp2<R: Threads + Wait + Sync, G: Gate + Sync, F: Files>(
     ensures answer { EndsJp2 to.now crew.now.work form (record { wanted = options.now; rule = λ facts. chosen (λ b. serves_text b options.now.layers) (λ b. rule_of b options.now.layers facts) planners.old }) input.now result.status result.blocks result.bytes result.tape.items (F.meaning files.old) (F.meaning files.new) }
     ensures long { most_bytes < length input.now → result.tape.items ≡ [] }
     ensures cause { result.status ≡ Status.WriteFault → Rose (F.write_faults files.old) (F.write_faults files.new) }
+    ensures rose { F.write_faults files.old < F.write_faults files.new → result.status ≡ Status.WriteFault }
     ensures read { (result.status ≡ Status.ReadFault → ⊥) × (result.status ≡ Status.Words → ⊥) }
     ensures other { F.read_faults files.new ≡ F.read_faults files.old }
 {

@@ -1,6 +1,6 @@
 //! The file of a plan: created, written, and finished.
 
-ghost use Rattle.std.specs.Prelude.{◌≡◌, [], length, IfOk, IfErr, OnOk, IsErrOf};
+ghost use Rattle.std.specs.Prelude.{◌≡◌, ◌<◌, [], length, IfOk, IfErr, OnOk, IsErrOf};
 ghost use Rattle.jx_io.specs.Causes.{Rose};
 ghost use Rattle.jx_options.specs.Work.{MayBeWork};
 ghost use Rattle.jx_plan.specs.Plan.{IsPlan};
@@ -39,6 +39,7 @@ pub fn write_file<R: Threads + Wait + Sync, G: Gate + Sync, F: Files>(
     ensures tape { IsTapeOf crew.now.work plan.now.blocks tape.new.items }
     ensures whole { OnOk result (length tape.new.items ≡ length plan.now.blocks) }
     ensures cause { IsErrOf result Halt.Failed → Rose (F.write_faults files.old) (F.write_faults files.new) }
+    ensures rose { F.write_faults files.old < F.write_faults files.new → IsErrOf result Halt.Failed }
     ensures other { F.read_faults files.new ≡ F.read_faults files.old }
 {
     let Ok(header) = main_header(alloc, plan) else {

@@ -5,7 +5,7 @@ ghost use Rattle.jx_plan.specs.Planned.{chosen};
 ghost use Rattle.jx_io.specs.Causes.{Rose};
 ghost use Rattle.jx_cli.specs.BoxesWords.{boxes_of, is_boxes};
 ghost use Rattle.jx_cli.specs.Words.{is_good, request_of};
-ghost use Rattle.jx_transcode.specs.Outcome.{IsVerdict};
+ghost use Rattle.jx_transcode.specs.Outcome.{EndsAsReadFault, IsVerdict};
 ghost use Rattle.jx_transcode.specs.Runs.{Outcome};
 ghost use Rattle.jx_transcode.specs.TranscodeRun.{TellsPositions};
 
@@ -50,6 +50,9 @@ pub fn run<R: Threads + Wait + Sync, F: Files, S: Sink, G: Gate + Sync>(
     ensures read { result.status ≡ Status.ReadFault → Rose (F.read_faults files.old) (F.read_faults files.new) }
     ensures write { result.status ≡ Status.WriteFault
         → Rose (F.write_faults files.old) (F.write_faults files.new) ⊎ Rose (S.faults say.old) (S.faults say.new) }
+    // a call of the files that failed
+    ensures read_rose { F.read_faults files.old < F.read_faults files.new → EndsAsReadFault result.status (S.faults say.old) (S.faults say.new) }
+    ensures write_rose { F.write_faults files.old < F.write_faults files.new → result.status ≡ Status.WriteFault }
     // a line that couldn't be said
     ensures unsaid { S.faults say.old < S.faults say.new → result.status ≡ Status.WriteFault }
     // where no count of faults rose

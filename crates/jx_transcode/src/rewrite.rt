@@ -158,6 +158,7 @@ fn rewrite<R: Threads + Wait + Sync, G: Gate + Sync, F: Files>(
     requires work { MayBeWork crew.now.work }
     ensures answer { IsAnswered to.now crew.now.work (record { wanted = options.now; rule = λ facts. chosen (λ b. serves_text b options.now.layers) (λ b. rule_of b options.now.layers facts) planners.old }) input.now result.status result.blocks result.bytes result.tape.items (F.meaning files.old) (F.meaning files.new) }
     ensures cause { result.status ≡ Status.WriteFault → Rose (F.write_faults files.old) (F.write_faults files.new) }
+    ensures rose { F.write_faults files.old < F.write_faults files.new → result.status ≡ Status.WriteFault }
     ensures read { (result.status ≡ Status.ReadFault → ⊥) × (result.status ≡ Status.Words → ⊥) }
     ensures placed { IsPlaced result.status }
     ensures other { F.read_faults files.new ≡ F.read_faults files.old }
@@ -200,6 +201,7 @@ pub fn answer<R: Threads + Wait + Sync, G: Gate + Sync, F: Files>(
     // no code-block of an input that is too long
     ensures long { most_bytes < length input.now → result.tape.items ≡ [] }
     ensures cause { result.status ≡ Status.WriteFault → Rose (F.write_faults files.old) (F.write_faults files.new) }
+    ensures rose { F.write_faults files.old < F.write_faults files.new → result.status ≡ Status.WriteFault }
     ensures read { (result.status ≡ Status.ReadFault → ⊥) × (result.status ≡ Status.Words → ⊥) }
     ensures placed { IsPlaced result.status }
     ensures other { F.read_faults files.new ≡ F.read_faults files.old }

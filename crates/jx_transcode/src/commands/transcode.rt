@@ -8,7 +8,7 @@ ghost use Rattle.jx_options.specs.Work.{MayBeWork};
 ghost use Rattle.jx_io.specs.Causes.{Rose};
 ghost use Rattle.jx_transcode.specs.Filed.{IsAnswered, unread_as};
 ghost use Rattle.jx_transcode.specs.Jp2Run.{EndsJp2, KeepsPositions};
-ghost use Rattle.jx_transcode.specs.Outcome.{EndsAs, line_of, most_bytes};
+ghost use Rattle.jx_transcode.specs.Outcome.{EndsAs, EndsAsReadFault, line_of, most_bytes};
 ghost use Rattle.jx_transcode.specs.TranscodeRun.{Ends, TellsPositions};
 
 use crate::around::answer_jp2;
@@ -54,6 +54,7 @@ fn answer_file<R: Threads + Wait + Sync, G: Gate + Sync, F: Files>(
     ensures jp2 { IsJp2 input.now → EndsJp2 to.now crew.now.work form (record { wanted = options.now; rule = λ facts. chosen (λ b. serves_text b options.now.layers) (λ b. rule_of b options.now.layers facts) planners.old }) input.now result.status result.blocks result.bytes result.tape.items (F.meaning files.old) (F.meaning files.new) }
     ensures long { most_bytes < length input.now → result.tape.items ≡ [] }
     ensures cause { result.status ≡ Status.WriteFault → Rose (F.write_faults files.old) (F.write_faults files.new) }
+    ensures rose { F.write_faults files.old < F.write_faults files.new → result.status ≡ Status.WriteFault }
     ensures read { (result.status ≡ Status.ReadFault → ⊥) × (result.status ≡ Status.Words → ⊥) }
     ensures other { F.read_faults files.new ≡ F.read_faults files.old }
     ensures short { result.status ≡ Status.Done → length input.now ≤ most_bytes }
@@ -77,11 +78,16 @@ fn say_ending<S: Sink>(alloc: Global, say: &mut S, ending: Ending, positions: bo
     ensures says { EndsAs ending.status (line_of ending.status ending.blocks ending.bytes) result.status (S.said say.old) (S.said say.new) (S.faults say.old) (S.faults say.new) }
     ensures blocks { result.blocks ≡ ending.blocks }
     ensures tape { result.tape.items ≡ ending.tape.items }
+    ensures failed { ending.status ≡ Status.WriteFault → result.status ≡ Status.WriteFault }
     ensures positions { IsTrue result.positions ↔ (IsTrue positions × (result.status ≡ Status.Done)) }
 {
-    let status = match line_of(alloc, ending.status, ending.blocks, ending.bytes) {
-        Ok(line) => say_line(say, ending.status, line.as_str()),
-        Err(_) => Status::NoMemory,
+    let status = match ending.status {
+        // nothing is said
+        Status::WriteFault => Status::WriteFault,
+        other => match line_of(alloc, other, ending.blocks, ending.bytes) {
+            Ok(line) => say_line(say, other, line.as_str()),
+            Err(_) => Status::NoMemory,
+        },
     };
     Report {
         status,
@@ -110,6 +116,8 @@ pub fn run<R: Threads + Wait + Sync, F: Files, S: Sink, G: Gate + Sync>(
     ensures write { result.status ≡ Status.WriteFault
         → Rose (F.write_faults files.old) (F.write_faults files.new) ⊎ Rose (S.faults say.old) (S.faults say.new) }
     ensures unsaid { S.faults say.old < S.faults say.new → result.status ≡ Status.WriteFault }
+    ensures read_rose { F.read_faults files.old < F.read_faults files.new → EndsAsReadFault result.status (S.faults say.old) (S.faults say.new) }
+    ensures write_rose { F.write_faults files.old < F.write_faults files.new → result.status ≡ Status.WriteFault }
     ensures positions { TellsPositions request.now result.positions result.status (F.meaning files.old) }
 {
     let crew = Crew {

@@ -1,7 +1,7 @@
-use Rattle.std.proofs.Common.{◌∙◌, IsTrue, ap, subst, sym}
+use Rattle.std.proofs.Common.{arith, ◌∙◌, IsTrue, ap, subst, sym}
 use Rattle.jx_rounds.specs.FileBytes.{Device}
 use Rattle.jx_rounds.proofs.TapedLemmas.{tape_none}
-use Rattle.jx_rounds.proofs.WriteLemmas.{halt_fault, refused_cause, unrisen}
+use Rattle.jx_rounds.proofs.WriteLemmas.{halt_fault, refused_cause, refused_rose, unrisen}
 use Rattle.jx_transcode.proofs.FiledLemmas.{created_making, file_halted, file_made, file_uncreated, file_unfinished, nothing_begun}
 use Rattle.jx_transcode.proofs.file.write_file.Goals as goal
 
@@ -87,3 +87,17 @@ returns-clause-cause g c = rw (← unrisen _ _ _ c.in-Ok-create.ensures.cause) c
 
 pub returns-clause-other : goal.returns-clause-other
 returns-clause-other g c = ap (λ (d : Device). d.read_faults) c.write_codestream.ensures.other ∙ c.create.ensures.other
+
+pub returns-in-Err-clause-rose : goal.returns-in-Err-clause-rose
+returns-in-Err-clause-rose g c = refused_rose _ _ c.halt_of.result c.in-Err.refused c.halt_of.ensures c.in-Err.ensures.cause
+
+pub returns-in-Ok-finish-clause-rose : goal.returns-in-Ok-finish-clause-rose
+returns-in-Ok-finish-clause-rose g c =
+    λ rose. absurd (omega (arith, unrisen _ _ _ c.in-Ok-create.ensures.cause, c.in-Ok-write_codestream.ensures.same, unrisen _ _ _ c.in-Ok-finish.ensures.cause, rose))
+
+pub returns-in-Ok-write_codestream-clause-rose : goal.returns-in-Ok-write_codestream-clause-rose
+returns-in-Ok-write_codestream-clause-rose g c = rw (← unrisen _ _ _ c.in-Ok-create.ensures.cause, ← c.in-Ok-write_codestream.ensures.same)
+    (refused_rose _ _ c.halt_of-in-Err-finish.result c.in-Err-finish.refused c.halt_of-in-Err-finish.ensures c.in-Err-finish.ensures.cause)
+
+pub returns-clause-rose : goal.returns-clause-rose
+returns-clause-rose g c = rw (← unrisen _ _ _ c.in-Ok-create.ensures.cause) c.in-Err-write_codestream.ensures.rose

@@ -50,3 +50,12 @@ returns-then-input-ge-MOST-clause-read g c = limit_unread _ _ _ c.refused.ensure
 
 pub returns-then-input-ge-MOST-clause-other : goal.returns-then-input-ge-MOST-clause-other
 returns-then-input-ge-MOST-clause-other g c = refl
+
+pub returns-in-Ok-clause-rose : goal.returns-in-Ok-clause-rose
+returns-in-Ok-clause-rose g c = c.rewrite.ensures.rose
+
+pub returns-in-Err-clause-rose : goal.returns-in-Err-clause-rose
+returns-in-Err-clause-rose g c = λ rose. absurd (omega (arith, rose))
+
+pub returns-then-input-ge-MOST-clause-rose : goal.returns-then-input-ge-MOST-clause-rose
+returns-then-input-ge-MOST-clause-rose g c = λ rose. absurd (omega (arith, rose))

@@ -4,7 +4,7 @@ use Rattle.jx_codeblock.specs.declared.job.Job.{Job}
 use Rattle.jx_rounds.proofs.FrontLemmas.{jobs_few, planned_few}
 use Rattle.jx_transcode.proofs.AnswerLemmas.{Laws, answered_by_plan, carried_out}
 use Rattle.jx_transcode.proofs.RefusedLemmas.{answered_unplanned, input_unread, input_unwritten, plan_unread, plan_unwritten, reads_of, tiles_refused}
-use Rattle.jx_transcode.proofs.StatusLemmas.{ended_failed, ended_unread}
+use Rattle.jx_transcode.proofs.StatusLemmas.{ended_failed, ended_unread, failed_ended}
 use Rattle.jx_transcode.proofs.rewrite.rewrite.Goals as goal
 
 pub plan_served-requires-clause-may : goal.plan_served-requires-clause-may
@@ -70,3 +70,12 @@ returns-clause-read g c = ended_unread c.write_file-written.result _ _ c.ending_
 
 pub returns-clause-other : goal.returns-clause-other
 returns-clause-other g c = c.write_file-written.ensures.other
+
+pub returns-in-Err-clause-rose : goal.returns-in-Err-clause-rose
+returns-in-Err-clause-rose g c = λ rose. absurd (omega (arith, rose))
+
+pub returns-in-Err-plan_served-clause-rose : goal.returns-in-Err-plan_served-clause-rose
+returns-in-Err-plan_served-clause-rose g c = λ rose. absurd (omega (arith, rose))
+
+pub returns-clause-rose : goal.returns-clause-rose
+returns-clause-rose g c = λ rose. failed_ended c.write_file-written.result _ _ c.ending_of.ensures.ends (c.write_file-written.ensures.rose rose)
