@@ -3,7 +3,7 @@ use Rattle.std.proofs.Common.{◌≡◌, ◌⊎◌, ◌∙◌, ◌<◌, ℕ, Lis
 use Rattle.jx_io.specs.Causes.{Rose}
 use Rattle.jx_transcode.specs.declared.status.Status.{Status}
 use Rattle.jx_transcode.specs.declared.status.Status.TheVariants as status
-use Rattle.jx_transcode.specs.Outcome.{EndsAs}
+use Rattle.jx_transcode.specs.Outcome.{EndsAs, EndsAsReadFault}
 use Rattle.jx_transcode.proofs.StatusLemmas.{fault_apart, memory_unread, memory_unwritten, words_unread, words_unwritten}
 
 -- where it rose the line wasn't said, and the run ends as a write fault
@@ -19,6 +19,12 @@ pub read_said : {A : Type 0} (s late : Status) (line : List ℕ) (before now : O
 read_said s late line before now fault_before fault_now cause (inl said) read = cause (sym said.0 ∙ read)
 read_said s late line before now fault_before fault_now cause (inr (inl fault)) read = absurd ((fault_apart late read).0 fault.0)
 read_said s late line before now fault_before fault_now cause (inr (inr short)) read = absurd ((memory_unread late short.0).0 read)
+
+-- a fault of reading is told, but for a fault of its line or want of memory
+pub rose_said : (s late : Status) (line : List ℕ) (before now : Option (List ℕ)) (fault_before fault_now : ℕ) → s ≡ status.ReadFault → EndsAs s line late before now fault_before fault_now → EndsAsReadFault late fault_before fault_now
+rose_said s late line before now fault_before fault_now is (inl said) = inl (said.0 ∙ is)
+rose_said s late line before now fault_before fault_now is (inr (inl fault)) = inr (inl (fault.0, fault.2))
+rose_said s late line before now fault_before fault_now is (inr (inr short)) = inr (inr short.0)
 
 -- and as a write fault for what came before, or for the line
 pub write_said : {A : Type 0} (s late : Status) (line : List ℕ) (before now : Option (List ℕ)) (fault_before fault_now : ℕ)

@@ -78,6 +78,10 @@ pub unread_failed : {T : Type 0} (e : Refused) (s : Status) → s ≡ unread_as 
 unread_failed refused.Failed s is failed = refl
 unread_failed refused.NoMemory s is failed = absurd ((memory_unread s is).0 failed)
 
+pub failed_unread : {T : Type 0} (e : Refused) (s : Status) → s ≡ unread_as e → IsErrOf {T = T} (Err e) refused.Failed → s ≡ status.ReadFault
+failed_unread refused.Failed s is failed = is
+failed_unread refused.NoMemory s is failed = absurd (cc)
+
 pub unread_unwritten : (e : Refused) (s : Status) → s ≡ unread_as e → s ≡ status.WriteFault → ⊥
 unread_unwritten refused.Failed s is failed = (fault_apart s is).0 failed
 unread_unwritten refused.NoMemory s is failed = memory_unwritten s is failed

@@ -126,18 +126,20 @@ pub fn run<R: Threads + Wait + Sync, F: Files, S: Sink, G: Gate + Sync>(
         work: request.work(),
     };
     match read_input(alloc, files, request.from()) {
-        Ok(input) => {
+        Ok(held) => {
+            let input: &[u8] = &held;
+            let form = request.form();
             let ending = answer_file(
                 &crew,
                 alloc,
                 files,
-                &input,
+                input,
                 request.to(),
-                request.form(),
+                form,
                 request.options(),
                 planners,
             );
-            let positions = keeps_positions(request.form(), &input, ending.status);
+            let positions = keeps_positions(form, input, ending.status);
             say_ending(alloc, say, ending, positions)
         }
         Err(refused) => say_ending(alloc, say, unread(alloc, refused), false),

@@ -1,14 +1,17 @@
 use Rattle.jx_transcode.proofs.OutcomeLemmas.{ends_as, ends_read, ends_refused, ends_said}
-use Rattle.jx_transcode.proofs.SaidLemmas.{read_said, unsaid, write_said}
-use Rattle.jx_transcode.proofs.StatusLemmas.{unread_failed, unread_unwritten}
+use Rattle.std.proofs.Common.{arith}
+use Rattle.jx_rounds.proofs.WriteLemmas.{unrisen}
+use Rattle.jx_transcode.proofs.PositionsLemmas.{done_said, positions_told, positions_untold, unread_undone}
+use Rattle.jx_transcode.proofs.SaidLemmas.{read_said, rose_said, unsaid, write_said}
+use Rattle.jx_transcode.proofs.StatusLemmas.{failed_unread, unread_either, unread_failed, unread_unwritten}
 use Rattle.jx_transcode.proofs.commands.transcode.run.Goals as goal
 
 pub returns-in-Ok-clause-ends : goal.returns-in-Ok-clause-ends
 returns-in-Ok-clause-ends g c = rw (c.say_ending.ensures.blocks, c.say_ending.ensures.tape) (ends_said c.args.request.now _ c.answer_file-ending.result.status c.say_ending.result.status c.answer_file-ending.result.blocks
     c.answer_file-ending.result.bytes c.answer_file-ending.result.tape.items _ _ _ _ _ _
-    (ends_as c.args.request.now _ _ _ _ _ _ _ _ _ _ _ _ c.from.ensures c.to.ensures c.options.ensures c.work.ensures c.form.ensures
-    (ends_read (record { from = c.from.result.now; to = c.to.result.now; wanted = c.options.result.now; work = c.work.result; form = c.form.result }) _ c.deref.result.now _ _ _ _ _ (g.F.Files.meaning c.read_input.new.files) _
-    (rw c.deref.ensures.value c.in-Ok.ensures.bytes) c.in-Ok.ensures.same c.answer_file-ending.ensures.bare c.answer_file-ending.ensures.jp2 c.answer_file-ending.ensures.long))
+    (ends_as c.args.request.now _ _ _ _ _ _ _ _ _ _ _ _ c.from.ensures c.to.ensures c.options.ensures c.work.ensures c.form-form.ensures
+    (ends_read (record { from = c.from.result.now; to = c.to.result.now; wanted = c.options.result.now; work = c.work.result; form = c.form-form.result }) _ c.deref-input.result.now _ _ _ _ _ (g.F.Files.meaning c.read_input.new.files) _
+    (rw c.deref-input.ensures.value c.in-Ok.ensures.bytes) c.in-Ok.ensures.same c.answer_file-ending.ensures.bare c.answer_file-ending.ensures.jp2 c.answer_file-ending.ensures.long))
     c.say_ending.ensures.says)
 
 pub returns-in-Ok-clause-read : goal.returns-in-Ok-clause-read
@@ -35,3 +38,26 @@ returns-in-Err-clause-write g c = write_said _ _ _ _ _ _ _ (λ failed. absurd (u
 
 pub returns-in-Err-clause-unsaid : goal.returns-in-Err-clause-unsaid
 returns-in-Err-clause-unsaid g c = unsaid _ _ _ _ _ _ _ c.say_ending-in-Err.ensures.says
+
+pub returns-in-Ok-clause-read_rose : goal.returns-in-Ok-clause-read_rose
+returns-in-Ok-clause-read_rose g c = λ rose. absurd (omega (arith, unrisen _ _ _ c.in-Ok.ensures.cause, c.answer_file-ending.ensures.other, rose))
+
+pub returns-in-Ok-clause-write_rose : goal.returns-in-Ok-clause-write_rose
+returns-in-Ok-clause-write_rose g c = λ rose. c.say_ending.ensures.failed ((rw (← c.in-Ok.ensures.other) c.answer_file-ending.ensures.rose) rose)
+
+pub returns-in-Ok-clause-positions : goal.returns-in-Ok-clause-positions
+returns-in-Ok-clause-positions g c =
+    positions_told c.args.request.now c.say_ending.result.positions c.keeps_positions-positions.result c.answer_file-ending.result.status c.say_ending.result.status (g.F.Files.meaning c.args.files.now) c.deref-input.result.now
+    (rw (c.deref-input.ensures.value, ← c.from.ensures) c.in-Ok.ensures.bytes) c.answer_file-ending.ensures.short (rw c.form-form.ensures at c.keeps_positions-positions.ensures) c.say_ending.ensures.positions
+    (done_said _ _ _ _ _ _ _ c.say_ending.ensures.says)
+
+pub returns-in-Err-clause-read_rose : goal.returns-in-Err-clause-read_rose
+returns-in-Err-clause-read_rose g c = λ rose. rose_said _ _ _ _ _ _ _ (failed_unread c.in-Err.refused _ c.unread.ensures.status (c.in-Err.ensures.cause.rose rose)) c.say_ending-in-Err.ensures.says
+
+pub returns-in-Err-clause-write_rose : goal.returns-in-Err-clause-write_rose
+returns-in-Err-clause-write_rose g c = λ rose. absurd (omega (arith, c.in-Err.ensures.other, rose))
+
+pub returns-in-Err-clause-positions : goal.returns-in-Err-clause-positions
+returns-in-Err-clause-positions g c =
+    positions_untold c.args.request.now c.say_ending-in-Err.result.positions c.say_ending-in-Err.result.status (g.F.Files.meaning c.args.files.now) (λ told. let both = c.say_ending-in-Err.ensures.positions.0 told in cc)
+    (λ done. unread_undone c.unread.result.status (unread_either c.in-Err.refused _ c.unread.ensures.status) (done_said _ _ _ _ _ _ _ c.say_ending-in-Err.ensures.says done))
