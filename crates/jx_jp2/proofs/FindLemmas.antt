@@ -1,13 +1,13 @@
 -- The walk over the boxes of the top level up to the first codestream, or to the first rule that is broken.
-use Rattle.std.proofs.Common.{◌≡◌, ◌≢◌, ◌≤◌, ◌<◌, ◌+◌, ◌-◌, ℕ, arith, refl, sym, ap, subst, ◌∙◌, true, false, List, [], ◌∷◌, length, Option, Some, None, inl, inr, ◌==◌, Result, Ok, Err, IfOk, IfErr}
-use Rattle.std.proofs.lemmas.Bool.{cases_Bool, eq-eqb, ne_eqb}
+use Rattle.std.proofs.Common.{◌≡◌, ◌≢◌, ◌≤◌, ◌<◌, ◌+◌, ℕ, zero, suc, arith, refl, sym, ap, subst, ◌∙◌, true, false, List, [], ◌∷◌, length, Some, None, inl, inr, ◌⊎◌, ◌==◌, Result, Ok, Err, IfOk, IfErr}
+use Rattle.std.proofs.lemmas.Bool.{cases_Bool, cases_eq, cases_lt, eq-eqb, ne_eqb}
 use Rattle.jx_jp2.specs.declared.Boxed.{Boxed}
 use Rattle.jx_jp2.specs.declared.faults.BoxFault.{BoxFault}
 use Rattle.jx_jp2.specs.declared.faults.BoxFault.TheVariants as fault
 use Rattle.jx_jp2.specs.Heads.{tbox, length_at, end_at, boxed_at, first_broken, IsBroken}
 use Rattle.jx_jp2.specs.Kinds.{jp2c}
 use Rattle.jx_jp2.specs.Codestream.{rule_at, OthersUpTo, IsNextCodestream, IsNextFault, IsCodestream, IsFault}
-use Rattle.jx_jp2.proofs.HeadLemmas.{sound}
+use Rattle.jx_jp2.proofs.HeadLemmas.{cases_of, sound}
 
 -- ---- the rule at a place
 pub rule_inside : (bytes : List ℕ) (at : ℕ) → at < length bytes → rule_at bytes at ≡ first_broken bytes true (length bytes) at
@@ -144,3 +144,29 @@ only_fault bytes (Err (fault.Rule number2 place2)) ok err number place h =
     let places : place2 ≡ place = same.1 in
     rw (numbers, places) refl
 only_fault bytes (Err fault.NoMemory) ok err number place h = absurd err
+
+-- ---- a walk comes to an end
+abbrev pub HasEnd : List ℕ → Type 0
+HasEnd bytes = ((boxed : Boxed) × IsCodestream bytes boxed) ⊎ ((number : ℕ) × (place : ℕ) × IsNextFault bytes 0 number place)
+
+ends_at_end : (bytes : List ℕ) (at : ℕ) → IsReached bytes at → length bytes ≤ at → HasEnd bytes
+ends_at_end bytes at before past = inr (35, length bytes, none_here bytes at before past)
+
+ends_from : (bytes : List ℕ) (most at : ℕ) → length bytes ≤ at + most → IsReached bytes at → HasEnd bytes
+ends_from bytes zero at enough before = ends_at_end bytes at before (omega arith)
+ends_from bytes (suc most) at enough before = elim (cases_lt at (length bytes)) [
+  | inr past ↦ ends_at_end bytes at before past
+  | inl inside ↦ elim (cases_of (first_broken bytes true (length bytes) at)) [
+    | inr (number, broken) ↦ inr (number, at, broken_here bytes at (fault.Rule number at) before inside (broken, refl))
+    | inl none ↦ elim (cases_eq (tbox bytes at) jp2c) [
+      | inl kind ↦ inl (boxed_at bytes at, found_here bytes at (boxed_at bytes at) before inside none kind refl)
+      | inr other ↦
+          let step = sound bytes true (length bytes) at (omega arith) none in
+          let grows : 8 ≤ length_at bytes at = step.grows in
+          ends_from bytes most (end_at bytes at) (omega arith) (reached_next bytes at (boxed_at bytes at) before inside none other refl)
+    ]
+  ]
+]
+
+pub has_end : (bytes : List ℕ) → HasEnd bytes
+has_end bytes = ends_from bytes (length bytes) 0 (omega arith) (reached_first bytes)

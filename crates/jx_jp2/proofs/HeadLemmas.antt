@@ -1,9 +1,14 @@
 -- What holds of a box that breaks none of the rules 32 to 34, and how to show that it breaks none.
-use Rattle.std.proofs.Common.{◌≡◌, ◌≤◌, ◌<◌, ◌+◌, ◌-◌, ℕ, arith, refl, Bool, true, false, List, length, Option, Some, None, inl, inr, ◌⊎◌, not, nat_lt, ◌==◌, ◌&&◌}
+use Rattle.std.proofs.Common.{◌≡◌, ◌≤◌, ◌+◌, ◌-◌, ℕ, arith, refl, Bool, true, false, List, length, Option, Some, None, inl, inr, ◌⊎◌, nat_lt, ◌==◌, ◌&&◌}
 use Rattle.std.proofs.lemmas.Bool.{cases_Bool, cases_eq, or_parts, or_from, and_cases, and_left, and_right, ltb-false, le-ltb, eq-eqb, eqb-false, ne_eqb, not-false}
 use Rattle.jx_jp2.specs.declared.HeadForm.{HeadForm}
 use Rattle.jx_jp2.specs.declared.HeadForm.TheVariants as form
-use Rattle.jx_jp2.specs.Heads.{lbox, xlbox, form_of, head_size, length_at, from_at, end_at, breaks_32, breaks_33, breaks_34, first_broken}
+use Rattle.jx_jp2.specs.Heads.{lbox, xlbox, form_of, head_size, length_at, breaks_32, breaks_33, breaks_34, first_broken}
+
+-- ---- an option has a value or none
+pub cases_of : {X : Type 0} (o : Option X) → (o ≡ None) ⊎ ((x : X) × (o ≡ Some x))
+cases_of None = inl refl
+cases_of (Some x) = inr (x, refl)
 
 -- ---- the head is there
 pub head_room : (bytes : List ℕ) (at left : ℕ) → breaks_32 bytes at left ≡ false → 8 ≤ left
@@ -28,6 +33,12 @@ room_is bytes at left head long =
       | inl is ↦ and_right (lbox bytes at == 1) (nat_lt left 16) (le-ltb left 16 (long is))
       | inr other ↦ and_left (lbox bytes at == 1) (nat_lt left 16) (ne_eqb (lbox bytes at) 1 other)
     ])
+
+-- ---- its size
+pub at_least : (f : HeadForm) → 8 ≤ head_size f
+at_least form.Short = omega arith
+at_least form.Long = omega arith
+at_least form.Rest = omega arith
 
 -- ---- the length by the form
 pub rest_length : (bytes : List ℕ) (at : ℕ) → lbox bytes at ≡ 0 → length_at bytes at ≡ length bytes - at

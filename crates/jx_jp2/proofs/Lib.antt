@@ -1,5 +1,6 @@
 mod HeadLemmas
 mod FindLemmas
+mod PositionLemmas
 mod TreeLemmas
 mod LineLemmas
 mod WrapLemmas

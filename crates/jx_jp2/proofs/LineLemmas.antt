@@ -1,5 +1,5 @@
 -- Types and lines as they are written, byte by byte.
-use Rattle.std.proofs.Common.{◌≡◌, ◌≤◌, ◌<◌, ◌+◌, ◌++◌, ℕ, arith, refl, sym, ap, ◌∙◌, true, List, [], ◌∷◌, length, take, get_or, nat_le, append_assoc, append-nil}
+use Rattle.std.proofs.Common.{◌≡◌, ◌≤◌, ◌<◌, ◌+◌, ◌++◌, ℕ, arith, sym, ap, ◌∙◌, true, List, [], ◌∷◌, length, take, get_or, nat_le, append_assoc, append-nil}
 use Rattle.std.specs.List.{list_all, flat_map}
 use Rattle.std.proofs.lemmas.Bool.{and_parts, leb-true}
 use Rattle.std.proofs.lemmas.List.{take_more, take_all}

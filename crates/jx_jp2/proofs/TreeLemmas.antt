@@ -1,6 +1,6 @@
 -- The walk over the boxes of a level and of what is in them, in order of place.
-use Rattle.std.proofs.Common.{◌≡◌, ◌≢◌, ◌≤◌, ◌<◌, ◌+◌, ◌-◌, ◌++◌, ℕ, arith, refl, sym, ap, subst, ◌∙◌, true, false, List, [], ◌∷◌, length, Option, Some, None, inl, inr, ◌==◌, append_assoc, append-nil}
-use Rattle.std.proofs.lemmas.Bool.{cases_Bool}
+use Rattle.std.proofs.Common.{◌≡◌, ◌≤◌, ◌<◌, ◌+◌, ◌-◌, ◌++◌, ℕ, zero, suc, arith, refl, sym, ap, subst, ◌∙◌, List, length, Some, None, inl, inr, ◌⊎◌, ◌==◌, append_assoc, append-nil}
+use Rattle.std.proofs.lemmas.Bool.{cases_Bool, cases_lt}
 use Rattle.jx_jp2.specs.Kinds.{jp2h, uinf, res}
 use Rattle.std.specs.Option.{MatchOption}
 use Rattle.jx_jp2.specs.declared.Boxed.{Boxed}
@@ -8,10 +8,10 @@ use Rattle.jx_jp2.specs.declared.faults.BoxFault.{BoxFault}
 use Rattle.jx_jp2.specs.declared.faults.BoxFault.TheVariants as fault
 use Rattle.jx_jp2.specs.declared.levels.Level.{Level}
 use Rattle.jx_jp2.specs.declared.levels.Level.TheVariants as levels
-use Rattle.jx_jp2.specs.Heads.{tbox, length_at, from_at, end_at, boxed_at, first_broken, IsBroken}
-use Rattle.jx_jp2.specs.Trees.{is_top, opened, below, Tree, Ended, Next, Fills, IsInside, Way, Here, Past, Into, LeadsTo, BreaksFirst, IsLevelFault, IsTree, IsTreeBroken}
+use Rattle.jx_jp2.specs.Heads.{lbox, tbox, form_of, length_at, from_at, end_at, boxed_at, first_broken, IsBroken}
+use Rattle.jx_jp2.specs.Trees.{is_top, opened, below, Tree, Ended, Next, Fills, IsInside, Way, Here, Past, Into, LeadsTo, BreaksFirst, IsLevelFault}
 use Rattle.jx_jp2.specs.Lines.{line_text, tree_text, AddsLines}
-use Rattle.jx_jp2.proofs.HeadLemmas.{sound, none_at_end}
+use Rattle.jx_jp2.proofs.HeadLemmas.{at_least, cases_of, sound, none_at_end}
 
 -- ---- levels
 deeper : (known within : Level) (most : ℕ) → Some known ≡ Some within → below known + 1 ≤ most → below within + 1 ≤ most
@@ -217,3 +217,48 @@ one_fault bytes number place number2 place2 level at stop (Into v) (Into w) f g 
       | None ↦ λ x y. absurd x
       | Some l ↦ λ x y. one_fault bytes number place number2 place2 l (from_at bytes at) (end_at bytes at) v w x y
     ]) f.1 g.1
+
+-- ---- and it has one of the two
+abbrev pub HasTree : List ℕ → Level → ℕ → ℕ → Type 0
+HasTree bytes level at stop = ((tree : Tree) × Fills bytes level at stop tree) ⊎ ((number : ℕ) × (place : ℕ) × BreaksFirst bytes level at stop number place)
+
+-- what is in a box
+abbrev HasInside : List ℕ → Level → ℕ → Type 0
+HasInside bytes level at = ((inside : Tree) × IsInside bytes level at inside) ⊎ ((number : ℕ) × (place : ℕ) × (way : Way) ×
+    MatchOption (opened level (tbox bytes at)) ⊥ (λ within. LeadsTo bytes number place within (from_at bytes at) (end_at bytes at) way))
+
+inside_opened : (bytes : List ℕ) (level within : Level) (at : ℕ) → opened level (tbox bytes at) ≡ Some within
+    → HasTree bytes within (from_at bytes at) (end_at bytes at) → HasInside bytes level at
+inside_opened bytes level within at is (inl (tree, fills)) = inl (tree, inside_some bytes level within at tree is fills)
+inside_opened bytes level within at is (inr (number, place, broken)) =
+    inr (number, place, broken.way, into_box bytes level within at number place broken.way is broken.leads)
+
+has_next : (bytes : List ℕ) (level : Level) (at stop : ℕ) → first_broken bytes (is_top level) stop at ≡ None → HasInside bytes level at
+    → HasTree bytes level (end_at bytes at) stop → HasTree bytes level at stop
+has_next bytes level at stop none (inl (inside, is)) (inl (after, fills)) = inl (Next at inside after, (refl, none, is, fills))
+has_next bytes level at stop none (inl (inside, is)) (inr (number, place, broken)) =
+    inr (number, place, record { way = Past inside broken.way; leads = (none, is, broken.leads) })
+has_next bytes level at stop none (inr (number, place, way, leads)) after = inr (number, place, record { way = Into way; leads = (none, leads) })
+
+has_from : (bytes : List ℕ) (most : ℕ) (level : Level) (at stop : ℕ) → stop ≤ at + most → at ≤ stop → stop ≤ length bytes → HasTree bytes level at stop
+has_from bytes zero level at stop enough span within = let end : at ≡ stop = omega arith in inl (Ended, end)
+has_from bytes (suc most) level at stop enough span within = elim (cases_lt at stop) [
+  | inr past ↦ let end : at ≡ stop = omega arith in inl (Ended, end)
+  | inl inside ↦ elim (cases_of (first_broken bytes (is_top level) stop at)) [
+    | inr (number, broken) ↦ inr (number, at, record { way = Here; leads = (refl, (λ (e : at ≡ stop). absurd (omega arith)), broken) })
+    | inl none ↦
+        let step = sound bytes (is_top level) stop at within none in
+        let grows : 8 ≤ length_at bytes at = step.grows in
+        let ends : at + length_at bytes at ≤ stop = step.ends in
+        let size = step.size in
+        let some = at_least (form_of (lbox bytes at)) in
+        has_next bytes level at stop none (elim (cases_of (opened level (tbox bytes at))) [
+          | inl closed ↦ inl (Ended, inside_none bytes level at closed)
+          | inr (inner, is) ↦ inside_opened bytes level inner at is
+              (has_from bytes most inner (from_at bytes at) (end_at bytes at) (omega (arith, size, some)) (omega (arith, size)) (omega arith))
+        ]) (has_from bytes most level (end_at bytes at) stop (omega arith) (omega arith) within)
+  ]
+]
+
+pub has_tree : (bytes : List ℕ) → HasTree bytes levels.Top 0 (length bytes)
+has_tree bytes = has_from bytes (length bytes) levels.Top 0 (length bytes) (omega arith) (omega arith) (omega arith)

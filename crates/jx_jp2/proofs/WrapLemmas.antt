@@ -1,6 +1,6 @@
 -- A file with another codestream in the place of its own: the boxes before it are read as they were, and then the new content is found.
-use Rattle.std.proofs.Common.{◌≡◌, ◌≢◌, ◌≤◌, ◌<◌, ◌+◌, ◌-◌, ◌^◌, ◌++◌, ℕ, suc, arith, refl, sym, ap, subst, ◌∙◌, Bool, true, false, List, [], ◌∷◌, length, take, drop, Option, Some, None, inl, inr, ◌==◌, nat_lt, append_assoc, append-nil, length-append}
-use Rattle.std.proofs.lemmas.Bool.{cases_Bool, cases_eq, cases_lt, eq-eqb, ne_eqb, ltb-true}
+use Rattle.std.proofs.Common.{◌≡◌, ◌≢◌, ◌≤◌, ◌<◌, ◌+◌, ◌-◌, ◌^◌, ◌++◌, ℕ, suc, arith, refl, sym, ap, subst, ◌∙◌, true, false, List, [], ◌∷◌, length, take, drop, None, inl, inr, ◌==◌, nat_lt, append_assoc, length-append}
+use Rattle.std.proofs.lemmas.Bool.{cases_Bool, cases_eq, ne_eqb, ltb-true}
 use Rattle.std.proofs.lemmas.List.{take_at, drop_at, drop_all, length-take-le, length-drop, take-take, take-append-le}
 use Rattle.byteorder.specs.Endian.{big_from, big_bytes}
 use Rattle.byteorder.specs.Numbers.{big_from-cons, big_from-take, big_number-reads_back}
@@ -9,9 +9,9 @@ use Rattle.jx_jp2.specs.declared.HeadForm.{HeadForm}
 use Rattle.jx_jp2.specs.declared.HeadForm.TheVariants as form
 use Rattle.jx_jp2.specs.Heads.{lbox, tbox, xlbox, form_of, head_size, length_at, from_at, end_at, boxed_at, first_broken}
 use Rattle.jx_jp2.specs.Kinds.{jp2c}
-use Rattle.jx_jp2.specs.Codestream.{signature, IsJp2, rule_at, OthersUpTo, IsNextCodestream, IsCodestream, content}
+use Rattle.jx_jp2.specs.Codestream.{IsJp2, OthersUpTo, IsCodestream, content}
 use Rattle.jx_jp2.specs.Wrapped.{form_for, head_bytes, wrapped, boxed_for}
-use Rattle.jx_jp2.proofs.HeadLemmas.{IsSound, IsClear, sound, clear, is_clear, room_is, rest_length, long_length, short_length, rest_form, long_form, short_form, rest_told, long_told, short_told, long_is_told, short_is_told, within_ends}
+use Rattle.jx_jp2.proofs.HeadLemmas.{at_least, IsSound, IsClear, sound, clear, is_clear, room_is, rest_length, long_length, short_length, rest_form, long_form, short_form, rest_told, long_told, short_told, long_is_told, short_is_told, within_ends}
 use Rattle.jx_jp2.proofs.FindLemmas.{rule_inside, none_broken}
 
 -- ---- numbers in the front of a file, and behind it
@@ -273,25 +273,25 @@ wrapped_length bytes inner boxed found =
     let whole = whole_length (take boxed.head bytes) (head_bytes (form_for boxed.form (length inner)) (length inner)) inner (drop boxed.to bytes) in
     omega (arith, front, tail, size, whole)
 
--- what a wrapped file has is appended piece by piece
-four_grouped : (out front head inner rest : List ℕ) → (((out ++ front) ++ head) ++ inner) ++ rest ≡ out ++ (front ++ (head ++ (inner ++ rest)))
-four_grouped out front head inner rest = simp append_assoc
-
-pub wrapped_appended : (bytes inner : List ℕ) (boxed : Boxed) (f : HeadForm) (out o0 o1 o2 o3 o4 front rest : List ℕ) → f ≡ form_for boxed.form (length inner)
-    → front ≡ take boxed.head bytes → rest ≡ drop boxed.to bytes → o0 ≡ out → o1 ≡ o0 ++ front → o2 ≡ o1 ++ head_bytes f (length inner) → o3 ≡ o2 ++ inner → o4 ≡ o3 ++ rest
-    → o4 ≡ out ++ wrapped bytes boxed inner
+-- it is put together of its pieces
+pub wrapped_of : (bytes inner : List ℕ) (boxed : Boxed) (front head back : List ℕ) → front ≡ take boxed.head bytes
+    → head ≡ head_bytes (form_for boxed.form (length inner)) (length inner) → back ≡ drop boxed.to bytes → wrapped bytes boxed inner ≡ front ++ (head ++ (inner ++ back))
 unfolding wrapped
-wrapped_appended bytes inner boxed f out o0 o1 o2 o3 o4 front rest fs fronts rests e0 e1 e2 e3 e4 =
-    let head : List ℕ = head_bytes f (length inner) in
-    let s1 : o1 ≡ out ++ front = e1 ∙ ap (λ (t : List ℕ). t ++ front) e0 in
-    let s2 : o2 ≡ (out ++ front) ++ head = e2 ∙ ap (λ (t : List ℕ). t ++ head) s1 in
-    let s3 : o3 ≡ ((out ++ front) ++ head) ++ inner = e3 ∙ ap (λ (t : List ℕ). t ++ inner) s2 in
-    let s4 : o4 ≡ (((out ++ front) ++ head) ++ inner) ++ rest = e4 ∙ ap (λ (t : List ℕ). t ++ rest) s3 in
-    let heads : head ≡ head_bytes (form_for boxed.form (length inner)) (length inner) = ap (λ (g : HeadForm). head_bytes g (length inner)) fs in
-    s4 ∙ (four_grouped out front head inner rest
-    ∙ (ap (λ (t : List ℕ). out ++ (t ++ (head ++ (inner ++ rest)))) fronts
-    ∙ (ap (λ (t : List ℕ). out ++ (take boxed.head bytes ++ (t ++ (inner ++ rest)))) heads
-    ∙ ap (λ (t : List ℕ). out ++ (take boxed.head bytes ++ (head_bytes (form_for boxed.form (length inner)) (length inner) ++ (inner ++ t)))) rests)))
+wrapped_of bytes inner boxed front head back fronts heads backs = rw (fronts, heads, backs) refl
+
+pub pieces_length : (bytes inner : List ℕ) (boxed : Boxed) (front head back : List ℕ) → front ≡ take boxed.head bytes
+    → head ≡ head_bytes (form_for boxed.form (length inner)) (length inner) → back ≡ drop boxed.to bytes
+    → length (wrapped bytes boxed inner) ≡ length front + (length head + (length inner + length back))
+pieces_length bytes inner boxed front head back fronts heads backs =
+    ap (λ (t : List ℕ). length t) (wrapped_of bytes inner boxed front head back fronts heads backs) ∙ whole_length front head inner back
+
+four_grouped : (out front head inner back : List ℕ) → (((out ++ front) ++ head) ++ inner) ++ back ≡ out ++ (front ++ (head ++ (inner ++ back)))
+four_grouped out front head inner back = simp append_assoc
+
+pub pieces_appended : (out front head inner back o0 o1 o2 o3 o4 whole : List ℕ) → o0 ≡ out → o1 ≡ o0 ++ front → o2 ≡ o1 ++ head → o3 ≡ o2 ++ inner → o4 ≡ o3 ++ back
+    → whole ≡ front ++ (head ++ (inner ++ back)) → o4 ≡ out ++ whole
+pieces_appended out front head inner back o0 o1 o2 o3 o4 whole e0 e1 e2 e3 e4 is =
+    rw (e4, e3, e2, e1, e0, is) (four_grouped out front head inner back)
 
 -- ---- the laws
 place_same : (w : List ℕ) (h n : ℕ) (f : HeadForm) → length_at w h ≡ head_size f + n → form_of (lbox w h) ≡ f
@@ -321,11 +321,6 @@ content_of front head inner tail from n to at size end =
     let dropped : drop from (front ++ (head ++ (inner ++ tail))) ≡ inner ++ tail = ap (λ (t : List ℕ). drop from t) whole ∙ drop_at (front ++ head) (inner ++ tail) from long in
     let left : to - from ≡ n = omega arith in
     rw (dropped, left) (take_at inner tail n size)
-
-at_least : (f : HeadForm) → 8 ≤ head_size f
-at_least form.Short = omega arith
-at_least form.Long = omega arith
-at_least form.Rest = omega arith
 
 front_same : (bytes inner : List ℕ) (boxed : Boxed) → length (take boxed.head bytes) ≡ boxed.head → take boxed.head (wrapped bytes boxed inner) ≡ take boxed.head bytes
 unfolding wrapped

@@ -1,4 +1,4 @@
--- The types of boxes that matter here, each by its four characters (ITU-T T.800, Table I.2).
+-- The types of boxes that matter here, each by its four characters (ITU-T T.800, Table I.2, unless another is named).
 use Rattle.std.specs.Prelude.{ℕ}
 
 -- jp2c: a contiguous codestream (I.5.4)
@@ -16,3 +16,19 @@ res = 0x7265_7320
 -- uinf: what UUIDs of the file stand for, a superbox (I.7.3)
 abbrev pub uinf : ℕ
 uinf = 0x7569_6E66
+
+-- ftbl: a fragment table (ITU-T T.801, Annex M)
+abbrev pub ftbl : ℕ
+ftbl = 0x6674_626C
+
+-- fidx: an index of the file (ITU-T T.808, Annex I)
+abbrev pub fidx : ℕ
+fidx = 0x6669_6478
+
+-- cidx: an index of a codestream (T.808, Annex I)
+abbrev pub cidx : ℕ
+cidx = 0x6369_6478
+
+-- iptr: where the index of the file is (T.808, Annex I)
+abbrev pub iptr : ℕ
+iptr = 0x6970_7472

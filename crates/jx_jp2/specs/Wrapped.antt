@@ -1,6 +1,6 @@
 -- A JP2 file with another codestream in the place of its own: all other boxes stay byte for byte, and the head keeps its form where it
 -- can (ITU-T T.800, I.4).
-use Rattle.std.specs.Prelude.{ℕ, ◌+◌, ◌^◌, nat_lt, List, [], ◌++◌, length, take, drop, if◌then◌else◌}
+use Rattle.std.specs.Prelude.{ℕ, ◌+◌, ◌^◌, nat_lt, List, ◌++◌, length, take, drop, if◌then◌else◌}
 use Rattle.byteorder.specs.Endian.{big_bytes}
 use Rattle.jx_jp2.specs.declared.HeadForm.{HeadForm}
 use Rattle.jx_jp2.specs.declared.HeadForm.TheVariants as form

@@ -1,6 +1,6 @@
 //! Laws over the definitions of boxes. The functions do nothing: their contracts carry the laws.
 
-ghost use Rattle.std.specs.Prelude.{◌≡◌, ℕ, ◌+◌, ◌<◌, ◌≤◌, ◌^◌, List, length};
+ghost use Rattle.std.specs.Prelude.{◌≡◌, ℕ, ◌+◌, ◌<◌, ◌≤◌, ◌^◌, ◌⊎◌, List, length};
 ghost use Rattle.jx_jp2.specs.declared.Boxed.{Boxed};
 ghost use Rattle.jx_jp2.specs.Codestream.{IsJp2, IsCodestream, IsNextFault, content};
 ghost use Rattle.jx_jp2.specs.Trees.{Tree, IsTree, IsTreeBroken};
@@ -33,10 +33,20 @@ pub fn one_codestream()
         → IsNextFault bytes 0 number2 place2 → (number ≡ number2) × (place ≡ place2) }
 {}
 
+/// Each file has a codestream, or a rule that is broken before there is one.
+pub fn some_codestream()
+    ensures { (bytes : List ℕ) → ((boxed : Boxed) × IsCodestream bytes boxed) ⊎ ((number : ℕ) × (place : ℕ) × IsNextFault bytes 0 number place) }
+{}
+
 /// A file has at most one tree, or one box that breaks a rule first.
 pub fn one_tree()
     ensures same { (bytes : List ℕ) (first second : Tree) → IsTree bytes first → IsTree bytes second → first ≡ second }
     ensures either { (bytes : List ℕ) (tree : Tree) (number place : ℕ) → IsTree bytes tree → IsTreeBroken bytes number place → ⊥ }
     ensures fault { (bytes : List ℕ) (number place number2 place2 : ℕ) → IsTreeBroken bytes number place
         → IsTreeBroken bytes number2 place2 → (number ≡ number2) × (place ≡ place2) }
+{}
+
+/// Each file has a tree, or a box that breaks a rule first.
+pub fn some_tree()
+    ensures { (bytes : List ℕ) → ((tree : Tree) × IsTree bytes tree) ⊎ ((number : ℕ) × (place : ℕ) × IsTreeBroken bytes number place) }
 {}

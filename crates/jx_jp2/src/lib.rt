@@ -11,12 +11,14 @@ mod levels;
 mod lines;
 mod listing;
 mod numbers;
+mod positions;
 mod wrapping;
 
 pub use faults::BoxFault;
 pub use finding::{find, is_jp2};
 pub use listing::list;
-pub use wrapping::wrap;
+pub use positions::holds_positions;
+pub use wrapping::{Head, around, head_for, wrap};
 
 /// The most bytes that a file may have: 2^28.
 pub const MOST_BYTES: usize = 1 << 28;

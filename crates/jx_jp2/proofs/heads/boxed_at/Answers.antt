@@ -1,5 +1,5 @@
-use Rattle.std.proofs.Common.{◌≡◌, ◌≤◌, ◌+◌, ℕ, List, length, arith}
-use Rattle.jx_jp2.specs.Heads.{lbox, length_at}
+use Rattle.std.proofs.Common.{◌≡◌, arith}
+use Rattle.jx_jp2.specs.Heads.{lbox}
 use Rattle.jx_jp2.proofs.HeadLemmas.{sound}
 use Rattle.jx_jp2.proofs.heads.boxed_at.Goals as goal
 

@@ -1,4 +1,4 @@
-use Rattle.std.proofs.Common.{◌≡◌, ◌≤◌, ◌+◌, ◌-◌, true, false, length, arith, refl, sym, ◌∙◌}
+use Rattle.std.proofs.Common.{◌≡◌, ◌-◌, true, false, arith, refl, sym, ◌∙◌}
 use Rattle.jx_jp2.specs.Heads.{lbox, breaks_32, breaks_33, breaks_34, first_broken}
 use Rattle.jx_jp2.proofs.HeadLemmas.{head_room, long_room, is_clear}
 use Rattle.jx_jp2.proofs.heads.first_broken.Goals as goal

@@ -1,6 +1,5 @@
-use Rattle.std.proofs.Common.{ℕ, List, length}
+use Rattle.std.proofs.Common.{length}
 use Rattle.jx_jp2.specs.declared.levels.Level.TheVariants as levels
-use Rattle.jx_jp2.specs.Trees.{Tree, IsTree, IsTreeBroken}
 use Rattle.jx_jp2.proofs.TreeLemmas.{one_tree, tree_or_fault, one_fault}
 use Rattle.jx_jp2.proofs.laws.one_tree.Goals as goal
 

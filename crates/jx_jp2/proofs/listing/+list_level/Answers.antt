@@ -1,11 +1,11 @@
-use Rattle.std.proofs.Common.{◌≡◌, ◌≤◌, ◌<◌, ◌+◌, ◌-◌, ◌++◌, ℕ, Bool, length, arith, sym, ap, subst, ◌∙◌, None, Some, string_bytes}
+use Rattle.std.proofs.Common.{◌≡◌, ◌+◌, ◌-◌, ◌++◌, ℕ, Bool, arith, sym, ap, subst, ◌∙◌, None, Some, string_bytes}
 use Rattle.std.proofs.lemmas.Result.{err_from_is_err_and}
 use Rattle.jx_jp2.specs.declared.Boxed.{Boxed}
 use Rattle.jx_jp2.specs.Heads.{tbox, length_at, from_at, end_at, first_broken}
 use Rattle.jx_jp2.specs.Lines.{line_text}
 use Rattle.jx_jp2.specs.Trees.{is_top, opened}
 use Rattle.jx_jp2.proofs.HeadLemmas.{sound}
-use Rattle.jx_jp2.proofs.TreeLemmas.{below_opened, walked_closed, walked_opened, walked_all, broken_here, broken_inside}
+use Rattle.jx_jp2.proofs.TreeLemmas.{below_opened, walked_closed, walked_opened, walked_all, broken_inside}
 use Rattle.jx_jp2.proofs.listing.+list_level.Goals as goal
 
 pub tbox-kind-requires : goal.tbox-kind-requires
