@@ -1,6 +1,8 @@
 -- The table of the options of `jx transcode`: what each is called, what stands for it where it isn't among the words, which words are its values, and what the help says of it.
 use Rattle.std.specs.Prelude.{ℕ, Bool, true, false, List, [], ◌∷◌, Option, None, Some, map, codes, is_some}
 use Rattle.jx_base.specs.Texts.{number_in}
+use Rattle.jx_options.specs.declared.FormChoice.{FormChoice}
+use Rattle.jx_options.specs.declared.FormChoice.TheVariants as form
 use Rattle.jx_options.specs.declared.Marks.{Marks}
 use Rattle.jx_options.specs.declared.PartChoice.{PartChoice}
 use Rattle.jx_options.specs.declared.PartChoice.TheVariants as parts
@@ -10,7 +12,7 @@ use Rattle.jx_options.specs.Values.{precincts_said, style_said, value_in}
 
 -- in the order of the help
 abbrev pub all_names : List OptionName
-all_names = name.Order ∷ name.Precincts ∷ name.Layers ∷ name.TileParts ∷ name.Sop ∷ name.Eph ∷ name.Plt ∷ name.Style ∷ name.Threads ∷ name.Window ∷ name.WindowBytes ∷ []
+all_names = name.Order ∷ name.Precincts ∷ name.Layers ∷ name.TileParts ∷ name.Sop ∷ name.Eph ∷ name.Plt ∷ name.Form ∷ name.Style ∷ name.Threads ∷ name.Window ∷ name.WindowBytes ∷ []
 
 abbrev pub name_of : OptionName → List ℕ
 name_of name.Order = codes "order"
@@ -20,6 +22,7 @@ name_of name.TileParts = codes "tile-parts"
 name_of name.Sop = codes "sop"
 name_of name.Eph = codes "eph"
 name_of name.Plt = codes "plt"
+name_of name.Form = codes "form"
 name_of name.Style = codes "style"
 name_of name.Threads = codes "threads"
 name_of name.Window = codes "window"
@@ -34,6 +37,7 @@ default_of name.TileParts = codes "none"
 default_of name.Sop = codes "false"
 default_of name.Eph = codes "false"
 default_of name.Plt = codes "false"
+default_of name.Form = codes "keep"
 default_of name.Style = codes "keep"
 default_of name.Threads = codes "1"
 default_of name.Window = codes "64"
@@ -54,11 +58,18 @@ orders = (codes "keep", None) ∷ (codes "lrcp", Some 0) ∷ (codes "rlcp", Some
 abbrev pub part_choices : List (List ℕ × PartChoice)
 part_choices = (codes "none", parts.None) ∷ (codes "r", parts.Resolution) ∷ (codes "l", parts.Layer) ∷ (codes "c", parts.Component) ∷ []
 
+-- what is written of a JP2 file: one again, or the codestream alone (Annex I)
+abbrev pub form_choices : List (List ℕ × FormChoice)
+form_choices = (codes "keep", form.Keep) ∷ (codes "j2k", form.Codestream) ∷ []
+
 abbrev pub order_said : List ℕ → Option (Option ℕ)
 order_said = value_in orders
 
 abbrev pub parts_said : List ℕ → Option PartChoice
 parts_said = value_in part_choices
+
+abbrev pub form_said : List ℕ → Option FormChoice
+form_said = value_in form_choices
 
 -- ---- those that are numbers
 
@@ -77,6 +88,7 @@ bytes_said = number_in 268435456
 abbrev pub listed_of : OptionName → List (List ℕ)
 listed_of name.Order = map (λ p. p.0) orders
 listed_of name.TileParts = map (λ p. p.0) part_choices
+listed_of name.Form = map (λ p. p.0) form_choices
 listed_of _ = []
 
 -- a word is a value of an option: to the planners of layers any text may be one, and a flag has none
@@ -85,6 +97,7 @@ is_value name.Order word = is_some (order_said word)
 is_value name.Precincts word = is_some (precincts_said word)
 is_value name.Layers word = true
 is_value name.TileParts word = is_some (parts_said word)
+is_value name.Form word = is_some (form_said word)
 is_value name.Style word = is_some (style_said word)
 is_value name.Threads word = is_some (threads_said word)
 is_value name.Window word = is_some (window_said word)
@@ -111,6 +124,7 @@ placeholder_of name.Order = codes "ORDER"
 placeholder_of name.Precincts = codes "LIST"
 placeholder_of name.Layers = codes "RULE"
 placeholder_of name.TileParts = codes "BY"
+placeholder_of name.Form = codes "FORM"
 placeholder_of name.Style = codes "NAMES"
 placeholder_of name.Threads = codes "N"
 placeholder_of name.Window = codes "N"
@@ -126,6 +140,7 @@ what_of name.TileParts = codes "none, r, l or c: a new tile-part for each\nresol
 what_of name.Sop = codes "an SOP segment before each packet"
 what_of name.Eph = codes "an EPH marker behind each packet header"
 what_of name.Plt = codes "packet lengths in the tile-parts' headers"
+what_of name.Form = codes "keep or j2k: of a JP2 file a JP2 file again, or\nthe codestream alone\ndefault keep; as in --form j2k"
 what_of name.Style = codes "keep, none, or names with + between them:\nbypass, reset, terminate, causal, segment\ndefault keep; as in --style terminate+reset"
 what_of name.Threads = codes "workers that code blocks anew\n1 to 64, default 1; as in --threads 4"
 what_of name.Window = codes "blocks that are in work or wait for their turn\n1 to 1024, default 64; as in --window 16"

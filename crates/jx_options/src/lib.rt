@@ -14,7 +14,9 @@ mod styles;
 mod values;
 mod work;
 
-pub use names::{OptionName, bytes_said, order_said, parts_said, threads_said, window_said};
+pub use names::{
+    OptionName, bytes_said, form_said, order_said, parts_said, threads_said, window_said,
+};
 pub use numbers::{long_number_in, number_in};
 pub use options::{Options, OrderChoice, PrecinctChoice};
 pub use values::{SEEDS, SIDES, precincts_said, seed_said, side_said, style_said};
@@ -31,6 +33,15 @@ pub enum PartChoice {
     Layer,
     /// Between packets of different components.
     Component,
+}
+
+/// What is written of a JP2 file (ITU-T T.800, Annex I). Of a codestream both are a codestream.
+#[derive(Clone, Copy, Debug, PartialEq, Eq)]
+pub enum FormChoice {
+    /// The input's form: of a JP2 file a JP2 file again.
+    Keep,
+    /// The codestream alone.
+    Codestream,
 }
 
 /// What stands in the tile-parts of the written file beside headers and code-blocks, and where they begin.

@@ -3,12 +3,12 @@
 
 ghost use Rattle.std.specs.Prelude.{◌≡◌, IfOk, map, option_map};
 ghost use Rattle.jx_options.specs.Choices.{order_in};
-ghost use Rattle.jx_options.specs.Names.{all_names, bytes_said, default_of, form_of, heading_of, is_flag, is_value, listed_of, name_of, order_said, parts_said, placeholder_of, range_of, threads_said, what_of, window_said};
+ghost use Rattle.jx_options.specs.Names.{all_names, bytes_said, default_of, form_of, form_said, heading_of, is_flag, is_value, listed_of, name_of, order_said, parts_said, placeholder_of, range_of, threads_said, what_of, window_said};
 
-use crate::PartChoice;
 use crate::numbers::number_in;
 use crate::options::OrderChoice;
 use crate::values::{precincts_said, style_said};
+use crate::{FormChoice, PartChoice};
 use jx_base::NoMemory;
 use std::alloc::Global;
 
@@ -29,6 +29,8 @@ pub enum OptionName {
     Eph,
     /// PLT segments (A.7.3).
     Plt,
+    /// What is written of a JP2 file (Annex I).
+    Form,
     /// The style of code-blocks (Table A.19).
     Style,
     /// How many workers recode blocks.
@@ -83,6 +85,19 @@ pub fn parts_said(word: &str) -> Option<PartChoice>
     None
 }
 
+/// What a word says that is written of a JP2 file.
+pub fn form_said(word: &str) -> Option<FormChoice>
+    ensures { result ≡ form_said word.now }
+{
+    if word == "keep" {
+        return Some(FormChoice::Keep);
+    }
+    if word == "j2k" {
+        return Some(FormChoice::Codestream);
+    }
+    None
+}
+
 /// The workers that a word asks for, 1 to 64.
 pub fn threads_said(word: &str) -> Option<u32>
     ensures { result ≡ threads_said word.now }
@@ -117,6 +132,7 @@ impl OptionName {
             OptionName::Sop,
             OptionName::Eph,
             OptionName::Plt,
+            OptionName::Form,
             OptionName::Style,
             OptionName::Threads,
             OptionName::Window,
@@ -136,6 +152,7 @@ impl OptionName {
             OptionName::Sop => "sop",
             OptionName::Eph => "eph",
             OptionName::Plt => "plt",
+            OptionName::Form => "form",
             OptionName::Style => "style",
             OptionName::Threads => "threads",
             OptionName::Window => "window",
@@ -148,9 +165,11 @@ impl OptionName {
         ensures { result.now ≡ default_of self }
     {
         match self {
-            OptionName::Order | OptionName::Precincts | OptionName::Layers | OptionName::Style => {
-                "keep"
-            }
+            OptionName::Order
+            | OptionName::Precincts
+            | OptionName::Layers
+            | OptionName::Form
+            | OptionName::Style => "keep",
             OptionName::TileParts => "none",
             OptionName::Sop | OptionName::Eph | OptionName::Plt => "false",
             OptionName::Threads => "1",
@@ -173,6 +192,7 @@ impl OptionName {
         match self {
             OptionName::Order => &["keep", "lrcp", "rlcp", "rpcl", "pcrl", "cprl"],
             OptionName::TileParts => &["none", "r", "l", "c"],
+            OptionName::Form => &["keep", "j2k"],
             _ => &[],
         }
     }
@@ -191,6 +211,7 @@ impl OptionName {
             OptionName::Layers => true,
             OptionName::TileParts => parts_said(word).is_some(),
             OptionName::Sop | OptionName::Eph | OptionName::Plt => false,
+            OptionName::Form => form_said(word).is_some(),
             OptionName::Style => style_said(word).is_some(),
             OptionName::Threads => threads_said(word).is_some(),
             OptionName::Window => window_said(word).is_some(),
@@ -221,6 +242,7 @@ impl OptionName {
             OptionName::Precincts => "LIST",
             OptionName::Layers => "RULE",
             OptionName::TileParts => "BY",
+            OptionName::Form => "FORM",
             OptionName::Style => "NAMES",
             OptionName::Threads | OptionName::Window | OptionName::WindowBytes => "N",
             OptionName::Sop | OptionName::Eph | OptionName::Plt => "",
@@ -247,6 +269,9 @@ impl OptionName {
             OptionName::Sop => "an SOP segment before each packet",
             OptionName::Eph => "an EPH marker behind each packet header",
             OptionName::Plt => "packet lengths in the tile-parts' headers",
+            OptionName::Form => {
+                "keep or j2k: of a JP2 file a JP2 file again, or\nthe codestream alone\ndefault keep; as in --form j2k"
+            }
             OptionName::Style => {
                 "keep, none, or names with + between them:\nbypass, reset, terminate, causal, segment\ndefault keep; as in --style terminate+reset"
             }
