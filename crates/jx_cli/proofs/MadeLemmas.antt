@@ -1,5 +1,5 @@
 -- Words that make a request.
-use Rattle.std.proofs.Common.{◌≡◌, ◌<◌, ◌≤◌, ◌⊎◌, ◌∙◌, ◌/◌, ◌%◌, ap, sym, subst, arith, ℕ, zero, suc, List, [], ◌∷◌, ◌++◌, Bool, true, false, refl, codes, Option, None, Some, IfSome, inl, inr, slice_index_or, length, eqb}
+use Rattle.std.proofs.Common.{◌≡◌, ◌<◌, ◌≤◌, ◌⊎◌, ◌∙◌, ◌/◌, ◌%◌, ap, sym, subst, arith, ℕ, List, [], ◌∷◌, ◌++◌, Bool, true, false, refl, codes, Option, None, Some, IfSome, inl, inr, slice_index_or, length, eqb}
 use Rattle.std.specs.Str.{bytes_eq}
 use Rattle.std.specs.Option.{option_map, option_or}
 use Rattle.std.specs.Fmt.{decimal}
@@ -11,10 +11,12 @@ use Rattle.clap.specs.Words.{fault_of}
 use Rattle.clap.proofs.OnLiterals.{clap_on_literals}
 use Rattle.jx_base.specs.declared.style.Style.{Style}
 use Rattle.jx_options.specs.Wanted.{MayBeStyle}
+use Rattle.jx_options.specs.declared.FormChoice.{FormChoice}
+use Rattle.jx_options.specs.declared.FormChoice.TheVariants as form
 use Rattle.jx_options.specs.declared.PartChoice.{PartChoice}
 use Rattle.jx_options.specs.declared.PartChoice.TheVariants as parts
 use Rattle.jx_cli.specs.Command.{transcode, with_flag, with_option, with_place}
-use Rattle.jx_options.specs.Names.{parts_said}
+use Rattle.jx_options.specs.Names.{form_said, parts_said}
 use Rattle.jx_options.specs.Values.{ArePrecincts, precincts_in, precincts_said, precincts_text, style_said, style_text, value_in, whole_choices}
 use Rattle.jx_cli.specs.Words.{Asks, Given, MayBeAsked, Request, Text, are_values, given_by, given_in, is_good, request_of, wanted_by, work_by}
 use Rattle.jx_options.specs.Work.{MayBeWork, Work}
@@ -34,7 +36,7 @@ flag_words false flag words = words
 abbrev made_words : Given → Bool → Bool → Bool → List Text
 made_words g sop eph plt =
     codes "transcode" ∷ (codes "--order=" ++ g.order) ∷ (codes "--precincts=" ++ g.precincts) ∷ (codes "--layers=" ++ g.layers) ∷ (codes "--style=" ++ g.style) ∷ (codes "--tile-parts=" ++ g.parts)
-    ∷ (codes "--threads=" ++ g.threads) ∷ (codes "--window=" ++ g.window) ∷ (codes "--window-bytes=" ++ g.window_bytes)
+    ∷ (codes "--form=" ++ g.form) ∷ (codes "--threads=" ++ g.threads) ∷ (codes "--window=" ++ g.window) ∷ (codes "--window-bytes=" ++ g.window_bytes)
     ∷ flag_words sop (codes "--sop") (flag_words eph (codes "--eph") (flag_words plt (codes "--plt") (codes "--" ∷ g.from ∷ g.to ∷ [])))
 
 abbrev made_given : Given → Bool → Bool → Bool → Given
@@ -74,6 +76,14 @@ parts_back parts.None = refl
 parts_back parts.Resolution = refl
 parts_back parts.Layer = refl
 parts_back parts.Component = refl
+
+abbrev form_word : FormChoice → Text
+form_word form.Keep = codes "keep"
+form_word form.Codestream = codes "j2k"
+
+form_back : (choice : FormChoice) → form_said (form_word choice) ≡ Some choice
+form_back form.Keep = refl
+form_back form.Codestream = refl
 
 abbrev precincts_word : Option (List ℕ) → Text
 precincts_word None = codes "keep"
@@ -135,6 +145,7 @@ given_for r = record {
   sop = r.wanted.marks.sop;
   eph = r.wanted.marks.eph;
   plt = r.wanted.marks.plt;
+  form = form_word r.form;
   threads = decimal r.work.threads;
   window = decimal r.work.window;
   window_bytes = decimal r.work.most;
@@ -158,7 +169,7 @@ most_back w may = number_spelled 268435456 w.most (omega arith) may.some_most ma
 values_good : (r : Request) → MayBeAsked r → are_values (given_for r) ≡ true
 unfolding are_values
 values_good r may =
-    rw (order_back r.wanted.order may.order, precincts_back r.wanted.precincts may.precincts, parts_back r.wanted.marks.parts, style_back r.wanted.style may.style, threads_back r.work may.work, window_back r.work may.work, most_back r.work may.work) refl
+    rw (order_back r.wanted.order may.order, precincts_back r.wanted.precincts may.precincts, parts_back r.wanted.marks.parts, style_back r.wanted.style may.style, form_back r.form, threads_back r.work may.work, window_back r.work may.work, most_back r.work may.work) refl
 
 values_made : (r : Request) → MayBeAsked r → wanted_by (given_for r) ≡ r.wanted
 unfolding wanted_by
@@ -178,7 +189,7 @@ made_good r may =
 
 made_request : (r : Request) → MayBeAsked r → request_of ([] ∷ words_for r) ≡ r
 unfolding request_of
-made_request r may = rw (found_for r, values_made r may, work_made r may) refl
+made_request r may = rw (found_for r, values_made r may, form_back r.form, work_made r may) refl
 
 pub has_words : (r : Request) → MayBeAsked r → Asks r
 has_words r may = record { words = [] ∷ words_for r; good = made_good r may; made = made_request r may }

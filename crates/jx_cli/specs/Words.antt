@@ -5,22 +5,25 @@ use Rattle.clap.specs.Words.{fault_of, first_of, matches_of}
 use Rattle.jx_base.specs.OrderNumbers.{IsOrderNumber}
 use Rattle.jx_options.specs.Wanted.{MayBeStyle, Wanted}
 use Rattle.jx_options.specs.Work.{MayBeWork, Work}
+use Rattle.jx_options.specs.declared.FormChoice.{FormChoice}
+use Rattle.jx_options.specs.declared.FormChoice.TheVariants as form
 use Rattle.jx_options.specs.declared.PartChoice.TheVariants as parts
 use Rattle.jx_cli.specs.Command.{transcode}
 use Rattle.jx_options.specs.declared.names.OptionName.{OptionName}
 use Rattle.jx_options.specs.declared.names.OptionName.TheVariants as option
-use Rattle.jx_options.specs.Names.{bytes_said, name_of, order_said, parts_said, threads_said, window_said}
+use Rattle.jx_options.specs.Names.{bytes_said, form_said, name_of, order_said, parts_said, threads_said, window_said}
 use Rattle.jx_options.specs.Values.{ArePrecincts, precincts_said, style_said}
 
 -- the bytes of a word
 abbrev pub Text : Type 0
 Text = List ℕ
 
--- the input's name and the output's, how the codestream is to be written, and how the work is done
+-- the input's name and the output's, how the codestream is to be written, what is written of a JP2 file, and how the work is done
 pub record Request : Type 0 where
   pub from : Text
   pub to : Text
   pub wanted : Wanted
+  pub form : FormChoice
   pub work : Work
 
 -- what clap finds in the words from the command's name on, with the values of options that aren't among them
@@ -35,6 +38,7 @@ pub record Given : Type 0 where
   pub sop : Bool
   pub eph : Bool
   pub plt : Bool
+  pub form : Text
   pub threads : Text
   pub window : Text
   pub window_bytes : Text
@@ -64,6 +68,7 @@ given_by found = record {
   sop = flag_of found option.Sop;
   eph = flag_of found option.Eph;
   plt = flag_of found option.Plt;
+  form = said_of found option.Form;
   threads = said_of found option.Threads;
   window = said_of found option.Window;
   window_bytes = said_of found option.WindowBytes;
@@ -82,7 +87,7 @@ is_work g = is_some (threads_said g.threads) && (is_some (window_said g.window) 
 
 -- each value is one of its option's
 unfoldable pub are_values : Given → Bool
-are_values g = is_some (order_said g.order) && (is_some (precincts_said g.precincts) && (is_some (parts_said g.parts) && (is_some (style_said g.style) && is_work g)))
+are_values g = is_some (order_said g.order) && (is_some (precincts_said g.precincts) && (is_some (parts_said g.parts) && (is_some (style_said g.style) && (is_some (form_said g.form) && is_work g))))
 
 unfoldable pub wanted_by : Given → Wanted
 wanted_by g = record {
@@ -101,7 +106,7 @@ work_by g = record {
 }
 
 abbrev pub request_by : Given → Request
-request_by g = record { from = g.from; to = g.to; wanted = wanted_by g; work = work_by g }
+request_by g = record { from = g.from; to = g.to; wanted = wanted_by g; form = unwrap_or (form_said g.form) form.Keep; work = work_by g }
 
 abbrev pub names_command : List Text → Bool
 names_command words = bytes_eq (slice_index_or words 1 []) (codes "transcode")

@@ -11,7 +11,7 @@ mod make;
 mod reading;
 
 pub use boxes::read_boxes;
-use jx_options::{Options, Work};
+use jx_options::{FormChoice, Options, Work};
 pub use make::{Make, read_make};
 pub use reading::read_words;
 use std::marker::Model;
@@ -25,6 +25,8 @@ pub struct Request {
     pub to: String,
     /// How the codestream is to be written.
     pub options: Options,
+    /// What is written of a JP2 file.
+    pub form: FormChoice,
     /// How the work is done.
     pub work: Work,
 }
@@ -35,7 +37,7 @@ impl Model for Request {
 
     ghost Value = { Request };
 
-    ghost view = { λ r. record { from = string_bytes r.from; to = string_bytes r.to; wanted = r.options; work = r.work } };
+    ghost view = { λ r. record { from = string_bytes r.from; to = string_bytes r.to; wanted = r.options; form = r.form; work = r.work } };
 }
 
 impl Request {
@@ -58,6 +60,13 @@ impl Request {
         ensures { result.now ≡ self.now.wanted }
     {
         &self.options
+    }
+
+    /// What is written of a JP2 file.
+    pub fn form(&self) -> FormChoice
+        ensures { result ≡ self.now.form }
+    {
+        self.form
     }
 
     /// How the work is done.

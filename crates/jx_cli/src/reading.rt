@@ -14,8 +14,9 @@ use crate::{Request, WordsFault};
 use clap::ArgMatches;
 use jx_base::{NoMemory, Style};
 use jx_options::{
-    Marks, OptionName, Options, OrderChoice, PartChoice, PrecinctChoice, Work, bytes_said,
-    order_said, parts_said, precincts_said, style_said, threads_said, window_said,
+    FormChoice, Marks, OptionName, Options, OrderChoice, PartChoice, PrecinctChoice, Work,
+    bytes_said, form_said, order_said, parts_said, precincts_said, style_said, threads_said,
+    window_said,
 };
 use std::alloc::Global;
 use std::marker::Model;
@@ -33,6 +34,7 @@ struct Given<'a> {
     sop: bool,
     eph: bool,
     plt: bool,
+    form: &'a str,
     threads: &'a str,
     window: &'a str,
     window_bytes: &'a str,
@@ -54,6 +56,7 @@ impl<'a> Model for Given<'a> {
       sop = g.sop;
       eph = g.eph;
       plt = g.plt;
+      form = g.form.now;
       threads = g.threads.now;
       window = g.window.now;
       window_bytes = g.window_bytes.now;
@@ -76,6 +79,7 @@ fn given_by<'a>(matches: &ArgMatches<'a>) -> Given<'a>
         sop: flag_of(matches, OptionName::Sop),
         eph: flag_of(matches, OptionName::Eph),
         plt: flag_of(matches, OptionName::Plt),
+        form: said_of(matches, OptionName::Form),
         threads: said_of(matches, OptionName::Threads),
         window: said_of(matches, OptionName::Window),
         window_bytes: said_of(matches, OptionName::WindowBytes),
@@ -122,6 +126,7 @@ fn made(
     precincts: PrecinctChoice,
     parts: PartChoice,
     style: Option<Style>,
+    form: FormChoice,
     work: Work,
 ) -> Result<Request, NoMemory>
     ensures { IfOk result (λ r. r ≡ record {
@@ -134,6 +139,7 @@ fn made(
         layers = given.now.layers;
         marks = record { sop = given.now.sop; eph = given.now.eph; plt = given.now.plt; parts = parts };
       };
+      form = form;
       work = work;
     }) }
 {
@@ -152,6 +158,7 @@ fn made(
                 parts,
             },
         },
+        form,
         work,
     })
 }
@@ -172,6 +179,9 @@ fn request_by(alloc: Global, given: &Given<'_>) -> Result<Request, WordsFault>
     let Some(style) = style_said(given.style) else {
         return Err(WordsFault::Words);
     };
+    let Some(form) = form_said(given.form) else {
+        return Err(WordsFault::Words);
+    };
     let Some(work) = work_by(given) else {
         return Err(WordsFault::Words);
     };
@@ -180,7 +190,7 @@ fn request_by(alloc: Global, given: &Given<'_>) -> Result<Request, WordsFault>
         Ok(None) => return Err(WordsFault::Words),
         Err(NoMemory) => return Err(WordsFault::NoMemory),
     };
-    match made(alloc, given, order, precincts, parts, style, work) {
+    match made(alloc, given, order, precincts, parts, style, form, work) {
         Ok(request) => Ok(request),
         Err(NoMemory) => Err(WordsFault::NoMemory),
     }

@@ -1,8 +1,8 @@
 //! Rows of words, and what is read of them.
 
 use crate::checks::equal;
-use jx_cli::{Request, WordsFault, read_make, read_words};
-use jx_options::OrderChoice;
+use jx_cli::{Request, WordsFault, read_boxes, read_make, read_words};
+use jx_options::{FormChoice, OrderChoice};
 use std::alloc::{AllocError, Global};
 use std::test::Fail;
 
@@ -139,6 +139,39 @@ fn words_of_transcode(rt: HostRuntime) -> Result<(), Fail> {
     Ok(())
 }
 
+// What is read of a line that is written of a JP2 file, or why nothing is.
+fn form_of_line(alloc: Global, line: &str) -> Result<FormChoice, WordsFault> {
+    let words = match words_of(alloc, line) {
+        Ok(words) => words,
+        Err(_) => return Err(WordsFault::NoMemory),
+    };
+    match read_words(alloc, &words) {
+        Ok(request) => Ok(request.form()),
+        Err(fault) => Err(fault),
+    }
+}
+
+static FORMS: [(&str, Result<FormChoice, WordsFault>); 7] = [
+    ("transcode in out", Ok(FormChoice::Keep)),
+    ("transcode in out --form keep", Ok(FormChoice::Keep)),
+    ("transcode --form=j2k in out", Ok(FormChoice::Codestream)),
+    ("transcode in out --form jp2", Err(WordsFault::Words)),
+    ("transcode in out --form=J2K", Err(WordsFault::Words)),
+    ("transcode in out --form=", Err(WordsFault::Words)),
+    (
+        "transcode in out --form j2k --form j2k",
+        Err(WordsFault::Words),
+    ),
+];
+
+#[test]
+fn forms_of_words(rt: HostRuntime) -> Result<(), Fail> {
+    for (line, want) in &FORMS {
+        equal(&rt, form_of_line(rt.alloc(), line), *want);
+    }
+    Ok(())
+}
+
 // The seed, the columns and the rows that are read of words, or why nothing is.
 fn made(alloc: Global, words: &[String]) -> Result<(u64, u32, u32), WordsFault> {
     match read_make(alloc, words) {
@@ -176,5 +209,45 @@ fn words_of_make(rt: HostRuntime) -> Result<(), Fail> {
         equal(&rt, made_of_line(rt.alloc(), line), *want);
     }
     equal(&rt, made(rt.alloc(), &[]), Err(WordsFault::Words));
+    Ok(())
+}
+
+// Whether words ask for the boxes of a file of this name, or why they ask for none.
+fn names(alloc: Global, words: &[String], name: &str) -> Result<bool, WordsFault> {
+    match read_boxes(alloc, words) {
+        Ok(found) => Ok(found.as_str() == name),
+        Err(fault) => Err(fault),
+    }
+}
+
+// The same of a line.
+fn names_of_line(alloc: Global, line: &str, name: &str) -> Result<bool, WordsFault> {
+    match words_of(alloc, line) {
+        Ok(words) => names(alloc, &words, name),
+        Err(_) => Err(WordsFault::NoMemory),
+    }
+}
+
+static BOXES: [(&str, &str, Result<bool, WordsFault>); 11] = [
+    ("boxes in.jp2", "in.jp2", Ok(true)),
+    ("boxes -", "-", Ok(true)),
+    ("boxes ", "", Ok(true)),
+    ("boxes boxes", "boxes", Ok(true)),
+    // behind `--` each word is a name
+    ("boxes -- --sop", "--sop", Ok(true)),
+    ("boxes", "", Err(WordsFault::Words)),
+    ("boxes in out", "in", Err(WordsFault::Words)),
+    ("boxes in --sop", "in", Err(WordsFault::Words)),
+    ("boxes --form j2k", "j2k", Err(WordsFault::Words)),
+    ("transcode in out", "in", Err(WordsFault::Words)),
+    ("make 5 1 1", "5", Err(WordsFault::Words)),
+];
+
+#[test]
+fn words_of_boxes(rt: HostRuntime) -> Result<(), Fail> {
+    for (line, name, want) in &BOXES {
+        equal(&rt, names_of_line(rt.alloc(), line, name), *want);
+    }
+    equal(&rt, names(rt.alloc(), &[], ""), Err(WordsFault::Words));
     Ok(())
 }
