@@ -101,7 +101,7 @@ one_of_file one laws aim input s t (inr x) (inr y) = one_jp2 one laws aim input 
 
 -- ---- a file has a verdict
 abbrev pub SomeCodestream : Type 0
-SomeCodestream = (bytes : List ℕ) → length bytes ≤ most_bytes → ((boxed : Boxed) × IsCodestream bytes boxed) ⊎ ((number : ℕ) × (place : ℕ) × IsNextFault bytes 0 number place)
+SomeCodestream = (bytes : List ℕ) → ((boxed : Boxed) × IsCodestream bytes boxed) ⊎ ((number : ℕ) × (place : ℕ) × IsNextFault bytes 0 number place)
 
 raised_at : (aim : Aim) (from : ℕ) (inner : List ℕ) (s : Status) → Verdict aim inner s → VerdictAt aim from inner (raised from s)
 raised_at aim from inner status.Done v = v
@@ -121,7 +121,7 @@ module _ (some : (aim : Aim) (input : List ℕ) → MayBeAimed aim → AreBytes 
       (raised boxed.from of.0, inr (short, boxed, found, raised_at aim boxed.from (content input boxed) of.0 of.1))
 
   short_jp2 : length input ≤ most_bytes → (s : Status) × Jp2Verdict aim input s
-  short_jp2 short = elim (codestream input short) [
+  short_jp2 short = elim (codestream input) [
     | inl found ↦ boxed_verdict short found.0 found.1
     | inr broken ↦ (status.Rule broken.0 broken.1, inl (short, broken.2))
   ]

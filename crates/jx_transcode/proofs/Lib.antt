@@ -18,6 +18,7 @@ mod StatusLemmas
 mod WrongLemmas
 mod MakeLemmas
 mod BoxesLemmas
+mod BoxesVerdictLemmas
 pub mod RunLemmas
 mod AcceptedLemmas
 mod PlannedMade

@@ -4,6 +4,7 @@ ghost use Rattle.jx_layers.specs.declared.StreamFacts.{StreamFacts};
 ghost use Rattle.jx_layers.specs.Rule.{Rule};
 ghost use Rattle.jx_marker.specs.Ranges.{AreBytes};
 ghost use Rattle.jx_transcode.specs.Aims.{Aim, MayBeAimed};
+ghost use Rattle.jx_transcode.specs.BoxesRun.{BoxesVerdict};
 ghost use Rattle.jx_cli.specs.MakeWords.{Make, MayBeMade};
 ghost use Rattle.jx_transcode.specs.declared.status.Status.{Status};
 ghost use Rattle.jx_transcode.specs.declared.status.Status.TheVariants as status;
@@ -22,7 +23,7 @@ ghost use Rattle.jx_transcode.specs.Outcome.{Verdict, most_bytes};
 
 use jx_codestream::laws::{one_first, one_stream, violated_or_spelled};
 use jx_generate::laws::{made_blocks_are_plain, made_geometry, made_is_well_formed};
-use jx_jp2::laws::{one_codestream, some_codestream};
+use jx_jp2::laws::{one_codestream, one_tree, some_codestream, some_tree};
 use jx_plan::laws::{gathered_may_be_planned, groups_are_cut, kept_precincts_fit, one_answer};
 use jx_tier2_reader::laws::{never_both, one_gathering, one_of_both, one_violation};
 use jx_tier2_writer::laws::{one_output, written_is_ready};
@@ -89,6 +90,15 @@ pub fn some_file_verdict()
 {
     some_verdict();
     some_codestream();
+}
+
+/// An input of `boxes` has a verdict, and one alone.
+pub fn boxes_have_one_verdict()
+    ensures one { (input : List ℕ) (s t : Status) → BoxesVerdict input s → BoxesVerdict input t → s ≡ t }
+    ensures some { (input : List ℕ) → (s : Status) × BoxesVerdict input s }
+{
+    one_tree();
+    some_tree();
 }
 
 /// A generated codestream violates no rule, and passes no limit but that on packets of the output.
