@@ -232,13 +232,7 @@ pub fn answer_jp2<R: Threads + Wait + Sync, G: Gate + Sync, F: Files>(
     ensures other { F.read_faults files.new ≡ F.read_faults files.old }
 {
     if input.len() >= MOST {
-        return Ending::refused(
-            alloc,
-            Status::Limit {
-                number: 1,
-                found: 268_435_457,
-            },
-        );
+        return Ending::refused(alloc, Status::too_long());
     }
     match find(input) {
         Ok(boxed) => answer_around(crew, alloc, files, input, &boxed, to, form, options, planners),

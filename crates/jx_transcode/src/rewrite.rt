@@ -207,13 +207,7 @@ pub fn answer<R: Threads + Wait + Sync, G: Gate + Sync, F: Files>(
     ensures other { F.read_faults files.new ≡ F.read_faults files.old }
 {
     if input.len() >= MOST {
-        return Ending::refused(
-            alloc,
-            Status::Limit {
-                number: 1,
-                found: 268_435_457,
-            },
-        );
+        return Ending::refused(alloc, Status::too_long());
     }
     match read_stream(alloc, input) {
         Ok(stream) => rewrite(crew, alloc, files, input, &stream, to, options, planners),

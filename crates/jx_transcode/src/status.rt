@@ -29,6 +29,16 @@ impl Status {
     ghost use Rattle.std.specs.Prelude.{◌≡◌};
     ghost use Rattle.jx_transcode.specs.Outcome.{number_of};
 
+    /// Limit 1 is passed: the input has over 2^28 bytes, of which one more is read.
+    pub(crate) fn too_long() -> Status
+        ensures { result ≡ Status.Limit 1 268435457 }
+    {
+        Status::Limit {
+            number: 1,
+            found: 268_435_457,
+        }
+    }
+
     /// The number with which the program ends.
     pub fn number(self) -> u8
         ensures { result ≡ number_of self }

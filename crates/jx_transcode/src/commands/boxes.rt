@@ -19,10 +19,7 @@ fn lines_of(alloc: Global, input: &[u8]) -> Result<String, Status>
     ensures refused { IfErr result (λ status. IsUnlisted input.now status) }
 {
     if input.len() >= MOST {
-        return Err(Status::Limit {
-            number: 1,
-            found: 268_435_457,
-        });
+        return Err(Status::too_long());
     }
     if !is_jp2(input) {
         return Err(Status::Rule {

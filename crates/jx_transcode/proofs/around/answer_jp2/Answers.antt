@@ -1,16 +1,16 @@
-use Rattle.std.proofs.Common.{arith, inr}
+use Rattle.std.proofs.Common.{◌∙◌, arith, inr}
 use Rattle.jx_transcode.proofs.AroundLemmas.{too_long_jp2}
 use Rattle.jx_transcode.proofs.StatusLemmas.{limit_unread, limit_unwritten}
 use Rattle.jx_transcode.proofs.around.answer_jp2.Goals as goal
 
 pub returns-then-input-ge-MOST-clause-answer : goal.returns-then-input-ge-MOST-clause-answer
-returns-then-input-ge-MOST-clause-answer g c = rw (c.refused.ensures.status, c.refused.ensures.none.0, c.refused.ensures.none.1, c.refused.ensures.tape) (too_long_jp2 _ _ _ c.args.input.now _ (omega (arith, c.if-input-ge-MOST.true)))
+returns-then-input-ge-MOST-clause-answer g c = rw (c.refused.ensures.status, c.too_long.ensures, c.refused.ensures.none.0, c.refused.ensures.none.1, c.refused.ensures.tape) (too_long_jp2 _ _ _ _ c.args.input.now _ (omega (arith, c.if-input-ge-MOST.true)))
 
 pub returns-then-input-ge-MOST-clause-cause : goal.returns-then-input-ge-MOST-clause-cause
-returns-then-input-ge-MOST-clause-cause g c = λ failed. absurd (limit_unwritten _ _ _ c.refused.ensures.status failed)
+returns-then-input-ge-MOST-clause-cause g c = λ failed. absurd (limit_unwritten _ _ _ (c.refused.ensures.status ∙ c.too_long.ensures) failed)
 
 pub returns-then-input-ge-MOST-clause-read : goal.returns-then-input-ge-MOST-clause-read
-returns-then-input-ge-MOST-clause-read g c = limit_unread _ _ _ c.refused.ensures.status
+returns-then-input-ge-MOST-clause-read g c = limit_unread _ _ _ (c.refused.ensures.status ∙ c.too_long.ensures)
 
 pub returns-in-Ok-clause-answer : goal.returns-in-Ok-clause-answer
 returns-in-Ok-clause-answer g c = inr (_, c.answer_around.ensures.answer)

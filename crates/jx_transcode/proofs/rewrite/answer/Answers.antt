@@ -1,4 +1,4 @@
-use Rattle.std.proofs.Common.{arith, refl, ◌≤◌, length}
+use Rattle.std.proofs.Common.{◌∙◌, arith, refl, ◌≤◌, length}
 use Rattle.jx_transcode.specs.Outcome.{most_bytes}
 use Rattle.jx_transcode.proofs.RefusedLemmas.{header_refused, input_unread, input_unwritten, too_long}
 use Rattle.jx_transcode.proofs.StatusLemmas.{limit_unread, limit_unwritten}
@@ -37,16 +37,16 @@ pub returns-in-Err-clause-other : goal.returns-in-Err-clause-other
 returns-in-Err-clause-other g c = refl
 
 pub returns-then-input-ge-MOST-clause-answer : goal.returns-then-input-ge-MOST-clause-answer
-returns-then-input-ge-MOST-clause-answer g c = rw (c.refused.ensures.status, c.refused.ensures.none.0, c.refused.ensures.none.1, c.refused.ensures.tape) (too_long _ _ _ c.args.input.now _ (omega (arith, c.if-input-ge-MOST.true)))
+returns-then-input-ge-MOST-clause-answer g c = rw (c.refused.ensures.status, c.too_long.ensures, c.refused.ensures.none.0, c.refused.ensures.none.1, c.refused.ensures.tape) (too_long _ _ _ c.args.input.now _ (omega (arith, c.if-input-ge-MOST.true)))
 
 pub returns-then-input-ge-MOST-clause-long : goal.returns-then-input-ge-MOST-clause-long
 returns-then-input-ge-MOST-clause-long g c = λ long. c.refused.ensures.tape
 
 pub returns-then-input-ge-MOST-clause-cause : goal.returns-then-input-ge-MOST-clause-cause
-returns-then-input-ge-MOST-clause-cause g c = λ failed. absurd (limit_unwritten _ _ _ c.refused.ensures.status failed)
+returns-then-input-ge-MOST-clause-cause g c = λ failed. absurd (limit_unwritten _ _ _ (c.refused.ensures.status ∙ c.too_long.ensures) failed)
 
 pub returns-then-input-ge-MOST-clause-read : goal.returns-then-input-ge-MOST-clause-read
-returns-then-input-ge-MOST-clause-read g c = limit_unread _ _ _ c.refused.ensures.status
+returns-then-input-ge-MOST-clause-read g c = limit_unread _ _ _ (c.refused.ensures.status ∙ c.too_long.ensures)
 
 pub returns-then-input-ge-MOST-clause-other : goal.returns-then-input-ge-MOST-clause-other
 returns-then-input-ge-MOST-clause-other g c = refl

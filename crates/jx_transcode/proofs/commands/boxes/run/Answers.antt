@@ -1,7 +1,9 @@
+use Rattle.std.proofs.Common.{arith}
+use Rattle.jx_rounds.proofs.WriteLemmas.{unrisen}
 use Rattle.jx_transcode.specs.declared.status.Status.TheVariants as status
 use Rattle.jx_transcode.proofs.BoxesLemmas.{done_sound, listed_said, listed_to_say, refused_to_say, unlisted_to_say, unlisted_unread}
-use Rattle.jx_transcode.proofs.SaidLemmas.{read_said, unsaid, write_alone}
-use Rattle.jx_transcode.proofs.StatusLemmas.{unread_failed, unread_unwritten}
+use Rattle.jx_transcode.proofs.SaidLemmas.{read_said, rose_said, unsaid, write_alone}
+use Rattle.jx_transcode.proofs.StatusLemmas.{failed_unread, unread_failed, unread_unwritten}
 use Rattle.jx_transcode.proofs.commands.boxes.run.Goals as goal
 
 pub returns-in-Err-clause-ends : goal.returns-in-Err-clause-ends
@@ -44,3 +46,12 @@ returns-clause-write g c = write_alone _ _ _ _ _ _ _ (unlisted_unread c.deref.re
 
 pub returns-clause-unsaid : goal.returns-clause-unsaid
 returns-clause-unsaid g c = unsaid _ _ _ _ _ _ _ c.refuse-in-Err-lines_of.ensures.ends
+
+pub returns-in-Err-clause-read_rose : goal.returns-in-Err-clause-read_rose
+returns-in-Err-clause-read_rose g c = λ rose. rose_said _ _ _ _ _ _ _ (failed_unread c.in-Err.refused _ c.unread_as.ensures (c.in-Err.ensures.cause.rose rose)) c.refuse.ensures.ends
+
+pub returns-in-Ok-lines_of-clause-read_rose : goal.returns-in-Ok-lines_of-clause-read_rose
+returns-in-Ok-lines_of-clause-read_rose g c = λ rose. absurd (omega (arith, unrisen _ _ _ c.in-Ok.ensures.cause, rose))
+
+pub returns-clause-read_rose : goal.returns-clause-read_rose
+returns-clause-read_rose g c = λ rose. absurd (omega (arith, unrisen _ _ _ c.in-Ok.ensures.cause, rose))
