@@ -30,7 +30,7 @@ module _ (laws : Laws) (one : OneOutput) (aim : Aim) (input : List ℕ) (short :
   one_file out other x y =
       let again : IsOutput aim.wanted.marks (headers_of aim.wanted x.can.by x.stream x.blocks) (blocks_written aim.wanted x.can.by x.stream x.blocks) other =
       here laws aim input short x.stream y.stream x.blocks y.blocks x.reads y.reads x.can y.can
-          (λ (r : Rule) (s : Stream) (b : List Block). IsOutput aim.wanted.marks (headers_of aim.wanted r s b) (blocks_written aim.wanted r s b) other) y.output in
+      (λ (r : Rule) (s : Stream) (b : List Block). IsOutput aim.wanted.marks (headers_of aim.wanted r s b) (blocks_written aim.wanted r s b) other) y.output in
       one aim.wanted.marks (headers_of aim.wanted x.can.by x.stream x.blocks) (blocks_written aim.wanted x.can.by x.stream x.blocks) out other x.output again
 
 -- ---- two runs

@@ -235,7 +235,9 @@ pub fn answer_jp2<R: Threads + Wait + Sync, G: Gate + Sync, F: Files>(
         return Ending::refused(alloc, Status::too_long());
     }
     match find(input) {
-        Ok(boxed) => answer_around(crew, alloc, files, input, &boxed, to, form, options, planners),
+        Ok(boxed) => answer_around(
+            crew, alloc, files, input, &boxed, to, form, options, planners,
+        ),
         Err(BoxFault::Rule { number, place }) => Ending::refused(
             alloc,
             Status::Rule {
