@@ -15,7 +15,7 @@ use Rattle.jx_cli.specs.BoxesWords.{is_boxes}
 use Rattle.jx_cli.specs.Words.{Text, is_good}
 use Rattle.jx_messages.specs.Help.{asks_help}
 use Rattle.jx_messages.specs.Text.{EndsLine}
-use Rattle.jx_transcode.specs.Outcome.{IsVerdict, number_of}
+use Rattle.jx_transcode.specs.Outcome.{EndsAsReadFault, IsVerdict, number_of}
 use Rattle.jx_transcode.specs.Runs.{Outcome}
 
 -- the words that the system gives: all of them, in their order; none where one is no text
@@ -27,6 +27,8 @@ words_in (Err error) = []
 pub record AreCounted (words : List Text) (s : Status) (reads reads_now writes writes_now says says_now : ℕ) : Type 0 where
   pub read : s ≡ ending.ReadFault → Rose reads reads_now
   pub write : s ≡ ending.WriteFault → Rose writes writes_now ⊎ Rose says says_now
+  pub read_rose : reads < reads_now → EndsAsReadFault s says says_now
+  pub write_rose : writes < writes_now → s ≡ ending.WriteFault
   pub unsaid : says < says_now → s ≡ ending.WriteFault
   pub complete : (Rose reads reads_now → ⊥) → (Rose writes writes_now → ⊥) → (Rose says says_now → ⊥) → IsVerdict s ⊎ (s ≡ ending.NoMemory)
   pub idle : is_good words ≡ false → is_boxes words ≡ false → reads_now ≡ reads

@@ -15,6 +15,8 @@ returns-in-Ok-None g c =
     (record {
       read = c.run-report.ensures.read;
       write = c.run-report.ensures.write;
+      read_rose = c.run-report.ensures.read_rose;
+      write_rose = c.run-report.ensures.write_rose;
       unsaid = c.run-report.ensures.unsaid;
       complete = c.run-report.ensures.complete;
       idle = c.run-report.ensures.idle;
