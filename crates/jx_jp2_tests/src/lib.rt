@@ -11,4 +11,8 @@ mod find_tests;
 #[cfg(test)]
 mod list_tests;
 #[cfg(test)]
+mod piece_tests;
+#[cfg(test)]
+mod position_tests;
+#[cfg(test)]
 mod wrap_tests;
