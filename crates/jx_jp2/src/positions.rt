@@ -1,4 +1,4 @@
-//! Whether a file has a box that holds positions in the file, which are wrong once the file's codestream has another length.
+//! Whether a file has a box that holds positions in the file, which may be wrong once its codestream has another length.
 
 ghost use Rattle.std.specs.Prelude.{◌≡◌, ◌↔◌, ◌≤◌, length, IsTrue};
 ghost use Rattle.jx_jp2.specs.Positions.{has_positions, HoldsPositions};

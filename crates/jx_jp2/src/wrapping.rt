@@ -46,7 +46,8 @@ impl Model for Head {
 impl Head {
     /// Its bytes, as they stand in the file.
     pub fn bytes(&self) -> &[u8]
-        ensures { result.now ≡ self.now }
+        ensures same { result.now ≡ self.now }
+        ensures most { length result.now ≤ 16 }
     {
         &self.bytes[..self.count]
     }
@@ -106,8 +107,8 @@ pub fn around<'a>(bytes: &'a [u8], boxed: &Boxed) -> (&'a [u8], &'a [u8])
     (front, back)
 }
 
-/// Appends the file `bytes` with `inner` in the place of the content of `boxed`, which is what `find` gives for it: what is around it, a
-/// head for `inner`, and `inner`. After `NoMemory`, which comes only where `out` hasn't room for all, `out` is as before.
+/// Appends the file `bytes` with `inner` in the place of the content of `boxed`, which is what `find` gives for it. What is around it
+/// stays, and the head is that of `head_for`. After `NoMemory`, which comes only where `out` hasn't room for all, `out` is as before.
 pub fn wrap(bytes: &[u8], boxed: &Boxed, inner: &[u8], out: &mut Vec<u8>) -> Result<(), NoMemory>
     requires small { length bytes.now ≤ MOST_BYTES }
     requires found { IsCodestream bytes.now boxed.now }
