@@ -1,30 +1,61 @@
 -- A file that is written around the output of its codestream.
-use Rattle.std.proofs.Common.{◌≡◌, ◌∙◌, ◌⊎◌, ◌≤◌, ◌<◌, ◌+◌, ℕ, List, [], length, inl, inr, refl, sym, subst, Result, Ok, Err, OnOk, OnErr}
+use Rattle.std.proofs.Common.{◌≡◌, ◌∙◌, ◌≤◌, ◌<◌, ◌+◌, ℕ, List, [], ◌∷◌, ◌++◌, length, map, take, drop, inl, inr, refl, sym, subst, append-nil, Result, Ok, Err, IfErr, IfOk, IsErrOf, OnOk, OnErr, Bor}
+use Rattle.std.specs.List.{concat}
 use Rattle.jx_io.specs.Device.{Meaning}
 use Rattle.jx_io.specs.Stored.{empty}
+use Rattle.jx_io.specs.declared.refused.Refused.{Refused}
+use Rattle.jx_io.specs.declared.refused.Refused.TheVariants as refused
 use Rattle.jx_cli.specs.Words.{Text}
 use Rattle.jx_jp2.specs.declared.Boxed.{Boxed}
 use Rattle.jx_jp2.specs.Codestream.{IsCodestream, IsNextFault, content}
+use Rattle.jx_jp2.specs.Wrapped.{form_for, head_bytes, wrapped}
 use Rattle.jx_options.specs.Work.{Work}
 use Rattle.jx_options.specs.declared.FormChoice.{FormChoice}
 use Rattle.jx_transcode.specs.Aims.{Aim}
-use Rattle.jx_transcode.specs.Filed.{IsAnswered}
+use Rattle.jx_transcode.specs.Filed.{IsAnswered, unwritten_as}
 use Rattle.jx_transcode.specs.Jp2Run.{EndsAround, EndsJp2, IsFileEnd, LeavesFile, VerdictAt, file_in, raised}
 use Rattle.jx_transcode.specs.MakeRun.{IsLastMade, IsMadeAnew, TellsMade}
 use Rattle.jx_transcode.specs.Outcome.{IsBegun, IsMade, IsVerdict, Verdict, most_bytes}
 use Rattle.jx_transcode.specs.declared.status.Status.{Status}
 use Rattle.jx_transcode.specs.declared.status.Status.TheVariants as status
 use Rattle.jx_rounds.specs.declared.tape.TapeEntry.{TapeEntry}
-use Rattle.jx_transcode.proofs.DoneLemmas.{undone}
+use Rattle.jx_transcode.proofs.DoneLemmas.{undone, unfailed}
 use Rattle.jx_transcode.proofs.FiledLemmas.{untouched}
 use Rattle.jx_transcode.proofs.MakeLemmas.{IsOutOf, out_of}
 
+-- ---- a file in pieces
+abbrev pub bytes_of : List (Bor (List ℕ)) → List ℕ
+bytes_of pieces = concat (map (λ (piece : Bor (List ℕ)). piece.now) pieces)
+
+pub pieces_cut : (pieces rest : List (Bor (List ℕ))) (piece : Bor (List ℕ)) → pieces ≡ piece ∷ rest → bytes_of pieces ≡ piece.now ++ bytes_of rest
+pieces_cut pieces rest piece is = rw is refl
+
+pub pieces_wrapped : (input : List ℕ) (boxed : Boxed) (out front head back : List ℕ) → front ≡ take boxed.head input → head ≡ head_bytes (form_for boxed.form (length out)) (length out) → back ≡ drop boxed.to input
+    → front ++ (head ++ (out ++ (back ++ []))) ≡ wrapped input boxed out
+unfolding wrapped
+pieces_wrapped input boxed out front head back fronts heads backs = rw (fronts, heads, backs, append-nil) refl
+
 -- ---- how it ends
-pub left_by : {T E : Type 0} (r : Result T E) (name : Text) (file : List ℕ) (s : Status) (bytes : ℕ) (old new : Meaning) → OnOk r (s ≡ status.Done) → OnErr r ((s ≡ status.WriteFault) ⊎ (s ≡ status.NoMemory))
-    → OnOk r (IsMade name file old new) → OnErr r (IsBegun name file old new) → bytes ≡ length file → LeavesFile name file s bytes old new
-left_by (Ok x) name file s bytes old new ok err made begun long = rw ok (made, long)
-left_by (Err e) name file s bytes old new ok (inl err) made begun long = rw err begun
-left_by (Err e) name file s bytes old new ok (inr err) made begun long = rw err begun
+pub left_by : (r : Result ℕ Refused) (name : Text) (file : List ℕ) (s : Status) (bytes : ℕ) (old new : Meaning) → IfOk r (λ count. (s ≡ status.Done) × (bytes ≡ count)) → IfErr r (λ refused. s ≡ unwritten_as refused)
+    → OnOk r (IsMade name file old new) → OnErr r (IsBegun name file old new) → IfOk r (λ count. count ≡ length file) → LeavesFile name file s bytes old new
+left_by (Ok count) name file s bytes old new ok err made begun long = rw ok.0 (made, ok.1 ∙ long)
+left_by (Err refused.Failed) name file s bytes old new ok err made begun long = rw err begun
+left_by (Err refused.NoMemory) name file s bytes old new ok err made begun long = rw err begun
+
+pub ends_by : (r : Result ℕ Refused) (s : Status) (bytes : ℕ) → IfOk r (λ count. (s ≡ status.Done) × (bytes ≡ count)) → IfErr r (λ refused. s ≡ unwritten_as refused) → IsFileEnd s
+ends_by (Ok count) s bytes ok err = inl ok.0
+ends_by (Err refused.Failed) s bytes ok err = inr (inl err)
+ends_by (Err refused.NoMemory) s bytes ok err = inr (inr err)
+
+pub failed_by : (r : Result ℕ Refused) (s : Status) (bytes : ℕ) → IfOk r (λ count. (s ≡ status.Done) × (bytes ≡ count)) → IfErr r (λ refused. s ≡ unwritten_as refused) → s ≡ status.WriteFault → IsErrOf r refused.Failed
+failed_by (Ok count) s bytes ok err failed = absurd (undone status.WriteFault tt (sym failed ∙ ok.0))
+failed_by (Err refused.Failed) s bytes ok err failed = refl
+failed_by (Err refused.NoMemory) s bytes ok err failed = absurd (unfailed (sym err ∙ failed))
+
+pub rose_by : (r : Result ℕ Refused) (s : Status) (bytes : ℕ) → IfErr r (λ refused. s ≡ unwritten_as refused) → IsErrOf r refused.Failed → s ≡ status.WriteFault
+rose_by (Ok count) s bytes err failed = absurd (cc)
+rose_by (Err refused.Failed) s bytes err failed = err
+rose_by (Err refused.NoMemory) s bytes err failed = absurd (cc)
 
 pub end_apart : (s : Status) → IsFileEnd s → (s ≡ status.ReadFault → ⊥) × (s ≡ status.Words → ⊥)
 end_apart s (inl e) = (λ f. let never : status.Done ≡ status.ReadFault = sym e ∙ f in cc, λ f. let never : status.Done ≡ status.Words = sym e ∙ f in cc)

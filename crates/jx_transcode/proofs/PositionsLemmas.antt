@@ -54,8 +54,8 @@ positions_untold request told late old not other = never_told request.form told 
 pub positions_told : (request : Request) (told positions : Bool) (s late : Status) (old : Meaning) (read : List ℕ) → IsFront (joined (old.holds request.from)) read → (s ≡ status.Done → length read ≤ most_bytes)
     → (IsTrue positions ↔ KeepsPositions request.form read s) → (IsTrue told ↔ (IsTrue positions × (late ≡ status.Done))) → (late ≡ status.Done → s ≡ status.Done) → TellsPositions request told late old
 positions_told request told positions s late old read front short kept is done = elim (is_done late) [
-  | inl yes ↦ told_of request.form told positions s late (joined (old.holds request.from)) read (short_told (joined (old.holds request.from)) read front (short (done yes))) kept is done
-  | inr no ↦ positions_untold request told late old (λ t. no (is.0 t).1) no
+  | inl ended ↦ told_of request.form told positions s late (joined (old.holds request.from)) read (short_told (joined (old.holds request.from)) read front (short (done ended))) kept is done
+  | inr other ↦ positions_untold request told late old (λ t. other (is.0 t).1) other
 ]
   where
     is_done : (x : Status) → (x ≡ status.Done) ⊎ (x ≡ status.Done → ⊥)

@@ -1,6 +1,6 @@
 -- How a run of `make` ends: the generated codestream of a seed, a width and a height is transcoded in memory with fixed options, and one
 -- line says how long both are.
-use Rattle.std.specs.Prelude.{◌≡◌, ◌⊎◌, ℕ, ◌^◌, false, true, List, ◌++◌, length, Option, None, Some, codes}
+use Rattle.std.specs.Prelude.{◌≡◌, ◌⊎◌, ℕ, ◌^◌, true, List, ◌++◌, length, Option, None, Some, codes}
 use Rattle.std.specs.Fmt.{decimal}
 use Rattle.std.specs.List.{sum}
 use Rattle.jx_io.specs.Device.{Meaning}

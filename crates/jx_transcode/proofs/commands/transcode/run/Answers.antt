@@ -43,7 +43,7 @@ pub returns-in-Ok-clause-read_rose : goal.returns-in-Ok-clause-read_rose
 returns-in-Ok-clause-read_rose g c = λ rose. absurd (omega (arith, unrisen _ _ _ c.in-Ok.ensures.cause, c.answer_file-ending.ensures.other, rose))
 
 pub returns-in-Ok-clause-write_rose : goal.returns-in-Ok-clause-write_rose
-returns-in-Ok-clause-write_rose g c = λ rose. c.say_ending.ensures.failed ((rw (← c.in-Ok.ensures.other) c.answer_file-ending.ensures.rose) rose)
+returns-in-Ok-clause-write_rose g c = λ rose. c.say_ending.ensures.failed (c.answer_file-ending.ensures.rose (rw c.in-Ok.ensures.other rose))
 
 pub returns-in-Ok-clause-positions : goal.returns-in-Ok-clause-positions
 returns-in-Ok-clause-positions g c =
