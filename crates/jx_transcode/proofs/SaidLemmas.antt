@@ -26,6 +26,17 @@ rose_said s late line before now fault_before fault_now is (inl said) = inl (sai
 rose_said s late line before now fault_before fault_now is (inr (inl fault)) = inr (inl (fault.0, fault.2))
 rose_said s late line before now fault_before fault_now is (inr (inr short)) = inr (inr short.0)
 
+memory_rose : (s late : Status) (line : List ℕ) (before now : Option (List ℕ)) (fault_before fault_now : ℕ) → s ≡ status.NoMemory → EndsAs s line late before now fault_before fault_now → EndsAsReadFault late fault_before fault_now
+memory_rose s late line before now fault_before fault_now is (inl said) = inr (inr (said.0 ∙ is))
+memory_rose s late line before now fault_before fault_now is (inr (inl fault)) = inr (inl (fault.0, fault.2))
+memory_rose s late line before now fault_before fault_now is (inr (inr short)) = inr (inr short.0)
+
+-- so is an input that couldn't be read for whatever cause
+pub unread_said : (s late : Status) (line : List ℕ) (before now : Option (List ℕ)) (fault_before fault_now : ℕ) → (s ≡ status.ReadFault) ⊎ (s ≡ status.NoMemory) → EndsAs s line late before now fault_before fault_now
+    → EndsAsReadFault late fault_before fault_now
+unread_said s late line before now fault_before fault_now (inl is) said = rose_said s late line before now fault_before fault_now is said
+unread_said s late line before now fault_before fault_now (inr is) said = memory_rose s late line before now fault_before fault_now is said
+
 -- and as a write fault for what came before, or for the line
 pub write_said : {A : Type 0} (s late : Status) (line : List ℕ) (before now : Option (List ℕ)) (fault_before fault_now : ℕ)
     → (s ≡ status.WriteFault → A) → EndsAs s line late before now fault_before fault_now → late ≡ status.WriteFault → A ⊎ Rose fault_before fault_now

@@ -1,8 +1,8 @@
 //! The input of a command, from its name to its bytes.
 
-ghost use Rattle.std.specs.Prelude.{◌≡◌, take, IfOk, IfSome};
+ghost use Rattle.std.specs.Prelude.{◌≡◌, take, IfOk, IfSome, OnOk};
 ghost use Rattle.jx_io.specs.Causes.{HasCause};
-ghost use Rattle.jx_io.specs.Device.{Allows, joined};
+ghost use Rattle.jx_io.specs.Device.{Allows, IsThere, joined};
 ghost use Rattle.jx_transcode.specs.Filed.{unread_as};
 ghost use Rattle.jx_transcode.specs.Outcome.{IsUntouched};
 
@@ -15,6 +15,7 @@ use std::alloc::Global;
 pub fn read_input<F: Files>(alloc: Global, files: &mut F, name: &str) -> Result<Vec<u8>, Refused>
     requires { F.can_open files.old name.now }
     ensures bytes { IfOk result (λ v. IfSome (joined ((F.meaning files.old).holds name.now)) (λ b. v.items ≡ take MOST b)) }
+    ensures there { OnOk result (IsThere (F.meaning files.old) name.now) }
     ensures same { IsUntouched (F.meaning files.old) (F.meaning files.new) }
     ensures creates { Allows (F.can_create files.old) (F.can_create files.new) }
     ensures cause { HasCause (F.read_faults files.old) (F.read_faults files.new) result }

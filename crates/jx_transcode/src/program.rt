@@ -1,6 +1,6 @@
 //! The top call: what words ask for is read and done.
 
-ghost use Rattle.std.specs.Prelude.{◌≡◌, ◌<◌, ◌⊎◌, true, false, map, string_bytes};
+ghost use Rattle.std.specs.Prelude.{◌≡◌, ◌<◌, ◌⊎◌, None, Some, true, false, map, string_bytes};
 ghost use Rattle.jx_plan.specs.Planned.{chosen};
 ghost use Rattle.jx_io.specs.Causes.{Rose};
 ghost use Rattle.jx_cli.specs.BoxesWords.{boxes_of, is_boxes};
@@ -50,6 +50,11 @@ pub fn run<R: Threads + Wait + Sync, F: Files, S: Sink, G: Gate + Sync>(
     ensures read { result.status ≡ Status.ReadFault → Rose (F.read_faults files.old) (F.read_faults files.new) }
     ensures write { result.status ≡ Status.WriteFault
         → Rose (F.write_faults files.old) (F.write_faults files.new) ⊎ Rose (S.faults say.old) (S.faults say.new) }
+    // a file that is told as not being there
+    ensures absent { is_good (map string_bytes words.now) ≡ true → (F.meaning files.old).holds (request_of (map string_bytes words.now)).from ≡ Some None
+        → EndsAsReadFault result.status (S.faults say.old) (S.faults say.new) }
+    ensures unlisted { is_boxes (map string_bytes words.now) ≡ true → (F.meaning files.old).holds (boxes_of (map string_bytes words.now)) ≡ Some None
+        → EndsAsReadFault result.status (S.faults say.old) (S.faults say.new) }
     // a call of the files that failed
     ensures read_rose { F.read_faults files.old < F.read_faults files.new → EndsAsReadFault result.status (S.faults say.old) (S.faults say.new) }
     ensures write_rose { F.write_faults files.old < F.write_faults files.new → result.status ≡ Status.WriteFault }

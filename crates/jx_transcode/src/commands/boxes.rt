@@ -1,6 +1,6 @@
 //! `boxes`: the boxes of a JP2 file are listed, and nothing is written.
 
-ghost use Rattle.std.specs.Prelude.{◌≡◌, ◌<◌, IfErr, IfOk, [], false, string_bytes};
+ghost use Rattle.std.specs.Prelude.{◌≡◌, ◌<◌, IfErr, IfOk, [], None, Some, false, string_bytes};
 ghost use Rattle.jx_io.specs.Causes.{Rose};
 ghost use Rattle.jx_transcode.specs.BoxesRun.{EndsListed, IsListed, IsUnlisted};
 ghost use Rattle.jx_transcode.specs.Outcome.{EndsAs, EndsAsReadFault};
@@ -59,6 +59,7 @@ pub fn run<F: Files, S: Sink>(alloc: Global, name: &str, files: &mut F, say: &mu
     ensures read { result.status ≡ Status.ReadFault → Rose (F.read_faults files.old) (F.read_faults files.new) }
     ensures write { result.status ≡ Status.WriteFault → Rose (S.faults say.old) (S.faults say.new) }
     ensures unsaid { S.faults say.old < S.faults say.new → result.status ≡ Status.WriteFault }
+    ensures absent { (F.meaning files.old).holds name.now ≡ Some None → EndsAsReadFault result.status (S.faults say.old) (S.faults say.new) }
     ensures read_rose { F.read_faults files.old < F.read_faults files.new → EndsAsReadFault result.status (S.faults say.old) (S.faults say.new) }
     ensures other { F.write_faults files.new ≡ F.write_faults files.old }
     ensures positions { result.positions ≡ false }

@@ -2,8 +2,8 @@ use Rattle.std.proofs.Common.{arith}
 use Rattle.jx_rounds.proofs.WriteLemmas.{unrisen}
 use Rattle.jx_transcode.specs.declared.status.Status.TheVariants as status
 use Rattle.jx_transcode.proofs.BoxesLemmas.{done_sound, listed_said, listed_to_say, refused_to_say, unlisted_to_say, unlisted_unread}
-use Rattle.jx_transcode.proofs.SaidLemmas.{read_said, rose_said, unsaid, write_alone}
-use Rattle.jx_transcode.proofs.StatusLemmas.{failed_unread, unread_failed, unread_unwritten}
+use Rattle.jx_transcode.proofs.SaidLemmas.{read_said, rose_said, unread_said, unsaid, write_alone}
+use Rattle.jx_transcode.proofs.StatusLemmas.{failed_unread, unread_either, unread_failed, unread_unwritten}
 use Rattle.jx_transcode.proofs.commands.boxes.run.Goals as goal
 
 pub returns-in-Err-clause-ends : goal.returns-in-Err-clause-ends
@@ -55,3 +55,12 @@ returns-in-Ok-lines_of-clause-read_rose g c = λ rose. absurd (omega (arith, unr
 
 pub returns-clause-read_rose : goal.returns-clause-read_rose
 returns-clause-read_rose g c = λ rose. absurd (omega (arith, unrisen _ _ _ c.in-Ok.ensures.cause, rose))
+
+pub returns-in-Err-clause-absent : goal.returns-in-Err-clause-absent
+returns-in-Err-clause-absent g c = λ absent. unread_said _ _ _ _ _ _ _ (unread_either c.in-Err.refused _ c.unread_as.ensures) c.refuse.ensures.ends
+
+pub returns-in-Ok-lines_of-clause-absent : goal.returns-in-Ok-lines_of-clause-absent
+returns-in-Ok-lines_of-clause-absent g c = λ absent. absurd (c.in-Ok.ensures.there absent)
+
+pub returns-clause-absent : goal.returns-clause-absent
+returns-clause-absent g c = λ absent. absurd (c.in-Ok.ensures.there absent)

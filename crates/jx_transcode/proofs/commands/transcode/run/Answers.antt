@@ -2,7 +2,7 @@ use Rattle.jx_transcode.proofs.OutcomeLemmas.{ends_as, ends_read, ends_refused, 
 use Rattle.std.proofs.Common.{arith}
 use Rattle.jx_rounds.proofs.WriteLemmas.{unrisen}
 use Rattle.jx_transcode.proofs.PositionsLemmas.{done_said, positions_told, positions_untold, unread_undone}
-use Rattle.jx_transcode.proofs.SaidLemmas.{read_said, rose_said, unsaid, write_said}
+use Rattle.jx_transcode.proofs.SaidLemmas.{read_said, rose_said, unread_said, unsaid, write_said}
 use Rattle.jx_transcode.proofs.StatusLemmas.{failed_unread, unread_either, unread_failed, unread_unwritten}
 use Rattle.jx_transcode.proofs.commands.transcode.run.Goals as goal
 
@@ -61,3 +61,9 @@ pub returns-in-Err-clause-positions : goal.returns-in-Err-clause-positions
 returns-in-Err-clause-positions g c =
     positions_untold c.args.request.now c.say_ending-in-Err.result.positions c.say_ending-in-Err.result.status (g.F.Files.meaning c.args.files.now) (λ told. let both = c.say_ending-in-Err.ensures.positions.0 told in cc)
     (λ done. unread_undone c.unread.result.status (unread_either c.in-Err.refused _ c.unread.ensures.status) (done_said _ _ _ _ _ _ _ c.say_ending-in-Err.ensures.says done))
+
+pub returns-in-Ok-clause-absent : goal.returns-in-Ok-clause-absent
+returns-in-Ok-clause-absent g c = λ absent. absurd (c.in-Ok.ensures.there (rw c.from.ensures absent))
+
+pub returns-in-Err-clause-absent : goal.returns-in-Err-clause-absent
+returns-in-Err-clause-absent g c = λ absent. unread_said _ _ _ _ _ _ _ (unread_either c.in-Err.refused _ c.unread.ensures.status) c.say_ending-in-Err.ensures.says
