@@ -1,3 +1,4 @@
+mod StoreLemmas
 mod ThereLemmas
 mod PlanLemmas
 mod DraftLemmas

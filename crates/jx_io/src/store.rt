@@ -1,9 +1,9 @@
 //! Files as they are kept in memory.
 
-ghost use Rattle.std.specs.Prelude.{◌≡◌, ◌≢◌, ◌≤◌, ℕ, List, Some, None, false, length, take, drop, min, IfOk, IfSome, OnOk, OnErr, []};
+ghost use Rattle.std.specs.Prelude.{◌≡◌, ◌≢◌, ◌≤◌, ℕ, List, Some, None, false, length, take, drop, min, IfOk, IfSome, OnOk, OnErr, [], string_bytes};
 ghost use Rattle.std.specs.Option.{option_map};
 ghost use Rattle.jx_io.specs.Device.{Takes, after_create, after_finish, after_open, after_put, after_read, after_write};
-ghost use Rattle.jx_io.specs.Stored.{empty, found, meaning_of};
+ghost use Rattle.jx_io.specs.Stored.{empty, found, front_of, meaning_of};
 
 use std::alloc::{AllocError, Global};
 
@@ -24,7 +24,10 @@ pub struct Store {
     // how many bytes of `opened` were read
     at: usize,
     making: bool,
+    // the file that was created last
     written: Option<StoredFile>,
+    // whether that is finished, and stands in front of `stored` without being in it
+    whole: bool,
 }
 
 fn copy_of(alloc: Global, stored: &[StoredFile], name: &str) -> Result<Option<Vec<u8>>, AllocError>
@@ -39,6 +42,27 @@ fn copy_of(alloc: Global, stored: &[StoredFile], name: &str) -> Result<Option<Ve
     Ok(None)
 }
 
+/// A file of this name and these bytes.
+fn stored_as(alloc: Global, name: &str, bytes: &[u8]) -> Result<StoredFile, AllocError>
+    ensures name { IfOk result (λ file. string_bytes file.name ≡ name.now) }
+    ensures bytes { IfOk result (λ file. file.bytes.items ≡ bytes.now) }
+{
+    Ok(StoredFile {
+        name: String::from_str(alloc, name)?,
+        bytes: bytes.to_vec(alloc)?,
+    })
+}
+
+/// The file that stands in front of those that are stored.
+fn in_front(whole: bool, written: &Option<StoredFile>) -> Option<&StoredFile>
+    ensures { option_map (λ file. file.now) result ≡ front_of whole written.now }
+{
+    if whole {
+        return written.as_ref();
+    }
+    None
+}
+
 impl Store {
     pub fn new(alloc: Global) -> Store
         ensures { meaning_of result ≡ empty }
@@ -51,7 +75,22 @@ impl Store {
             at: 0,
             making: false,
             written: None,
+            whole: false,
         }
+    }
+
+    /// Puts a copy of the file that was finished last among those that are stored, where it isn't one of them.
+    fn settle(&mut self) -> Result<(), AllocError>
+        ensures same { meaning_of self.new ≡ meaning_of self.old }
+        ensures settled { OnOk result (self.new.whole ≡ false) }
+        ensures written { self.new.written ≡ self.old.written }
+    {
+        if let Some(file) = in_front(self.whole, &self.written) {
+            let copy = stored_as(self.alloc, file.name.as_str(), &file.bytes)?;
+            self.stored.insert(0, copy)?;
+        }
+        self.whole = false;
+        Ok(())
     }
 
     /// Puts a file there, in place of any of that name.
@@ -59,9 +98,9 @@ impl Store {
         ensures ok { OnOk result (meaning_of self.new ≡ after_put name.now bytes.now (meaning_of self.old)) }
         ensures err { OnErr result (meaning_of self.new ≡ meaning_of self.old) }
     {
-        let name = String::from_str(self.alloc, name)?;
-        let bytes = bytes.to_vec(self.alloc)?;
-        self.stored.insert(0, StoredFile { name, bytes })?;
+        self.settle()?;
+        let file = stored_as(self.alloc, name, bytes)?;
+        self.stored.insert(0, file)?;
         Ok(())
     }
 
@@ -80,6 +119,11 @@ impl Store {
         ensures found { IfOk result (λ bytes. Some (option_map (λ v. v.items) bytes) ≡ (meaning_of self.now).holds name.now) }
         ensures none { OnErr result ((meaning_of self.now).holds name.now ≢ Some None) }
     {
+        if let Some(file) = in_front(self.whole, &self.written) {
+            if name == file.name.as_str() {
+                return Ok(Some(file.bytes.to_vec(self.alloc)?));
+            }
+        }
         copy_of(self.alloc, &self.stored, name)
     }
 
@@ -116,6 +160,7 @@ impl Store {
         ensures ok { OnOk result (meaning_of self.new ≡ after_create name.now (meaning_of self.old)) }
         ensures err { OnErr result (meaning_of self.new ≡ meaning_of self.old) }
     {
+        self.settle()?;
         let name = String::from_str(self.alloc, name)?;
         self.written = Some(StoredFile {
             name,
@@ -129,21 +174,20 @@ impl Store {
         ensures ok { OnOk result (meaning_of self.new ≡ after_write from.now (meaning_of self.old)) }
         ensures err { OnErr result (meaning_of self.new ≡ meaning_of self.old) }
     {
+        self.settle()?;
         if let Some(file) = &mut self.written {
             file.bytes.extend_from_slice(from)?;
         }
         Ok(())
     }
 
+    /// The file is found under its name then. Its bytes aren't copied.
     pub fn finish(&mut self) -> Result<(), AllocError>
         ensures ok { OnOk result (meaning_of self.new ≡ after_finish (meaning_of self.old)) }
         ensures err { OnErr result (meaning_of self.new ≡ meaning_of self.old) }
     {
-        if let Some(file) = &self.written {
-            let name = String::from_str(self.alloc, file.name.as_str())?;
-            let bytes = file.bytes.to_vec(self.alloc)?;
-            self.stored.insert(0, StoredFile { name, bytes })?;
-        }
+        self.settle()?;
+        self.whole = true;
         self.making = false;
         Ok(())
     }
