@@ -1,0 +1,188 @@
+#!/usr/bin/env python3
+"""Searches small codestreams of extreme counts for those that cost the program most.
+
+usage: bench/shapes.py PROGRAM [-n COUNT] [-t SECONDS] [-s SEED] [-b BYTES] [-k KEPT]
+
+Draws codestreams of at most BYTES (100,000): so many tiles, components, resolutions, precincts, layers, code-blocks, tile-parts, progression
+changes and headers of tiles' own as fit, all packets empty, and options to rewrite them with; one in ten has too little tile data. It stops
+after COUNT files or SECONDS (600). The same SEED (1) gives the same files. Prints how often each status came, and the ten that took most
+processor seconds and the ten that took most memory, with what was drawn; the inputs of the dearest are kept in the folder KEPT, where one is
+named. A run may take a minute. Python's standard library is needed.
+"""
+
+import argparse
+import os
+import random
+import resource
+import struct
+import subprocess
+import sys
+import tempfile
+import time
+from collections import Counter
+
+MOST_SECONDS = 60
+MOST_PACKETS = 90_000
+
+
+def segment(code, body):
+    return bytes([0xFF, code]) + struct.pack(">H", 2 + len(body)) + body
+
+
+def up(value, by):
+    return -(-value // by)
+
+
+class Shape:
+    """What is drawn of one codestream, and its bytes."""
+
+    def __init__(self, pick, most):
+        self.tiles = (pick.choice((1, 1, 2, 16, 200)), pick.choice((1, 1, 2, 16, 200)))
+        self.side = pick.choice((1, 1, 2, 5, 16, 64, 300, 4096))
+        self.at = pick.choice((0, 0, 1, 3))
+        self.comps = pick.choice((1, 1, 3, 16, 257, 4000, 16384))
+        self.factor = pick.choice((1, 1, 1, 2, 255))
+        self.levels = pick.choice((0, 0, 1, 2, 5, 32))
+        self.precinct = pick.choice((15, 15, 8, 3, 1, 0))
+        self.layers = pick.choice((1, 1, 2, 50, 1000, 65535))
+        self.block = pick.choice((0, 0, 2, 4))
+        self.order = pick.randrange(5)
+        self.parts = pick.choice((1, 1, 1, 3, 60, 255))
+        self.own = pick.choice(("", "", "", "rgn", "coc", "cod", "qcc"))
+        self.changes = pick.choice((0, 0, 0, 1, 8, 32, 250))
+        self.cut = pick.randrange(10) == 0
+        self.options = self.drawn_options(pick)
+        self.bytes = self.codestream(most)
+
+    def drawn_options(self, pick):
+        words = []
+        for name, values in (
+            ("--order", ("rpcl", "pcrl", "cprl", "rlcp", "lrcp")),
+            ("--precincts", ("max", "1x1", "2x2,3x3")),
+            ("--layers", ("one", "cuts:1", "planes:1", "cuts:1,2,3,4,5")),
+            ("--tile-parts", ("r", "l", "c")),
+            ("--style", ("terminate", "reset+segment", "none")),
+        ):
+            if pick.randrange(3) == 0:
+                words += [name, pick.choice(values)]
+        return words + [name for name in ("--sop", "--eph", "--plt") if pick.randrange(3) == 0]
+
+    def precincts(self, tile):
+        """How many precincts a component has in a tile, in all resolutions."""
+        count = 0
+        for level in range(self.levels + 1):
+            spans = []
+            for axis in (0, 1):
+                low, high = self.span(tile, axis)
+                low, high = (up(up(it, self.factor), 1 << level) for it in (low, high))
+                spans.append(up(high, 1 << self.precinct) - (low >> self.precinct) if high > low else 0)
+            count += spans[0] * spans[1]
+        return count
+
+    def span(self, tile, axis):
+        index = tile % self.tiles[0] if axis == 0 else tile // self.tiles[0]
+        low = self.side * index
+        return max(low, self.at), max(low + self.side, self.at)
+
+    def shape_bytes(self):
+        own = bytes([self.precinct * 17]) * (self.levels + 1)
+        return bytes([self.levels, self.block, self.block, 0, 1]) + (b"" if self.precinct == 15 else own)
+
+    def cod(self):
+        return segment(0x52, struct.pack(">BBHB", self.precinct != 15, self.order, self.layers, 0) + self.shape_bytes())
+
+    def named(self, comp):
+        return struct.pack(">H" if self.comps > 256 else ">B", comp)
+
+    def own_header(self, tile):
+        comp = self.named(tile % self.comps)
+        quant = bytes([0x40]) + bytes([0x40]) * (3 * self.levels + 1)
+        return {
+            "": b"",
+            "rgn": segment(0x5E, comp + bytes([0, 0])),
+            "coc": segment(0x53, comp + bytes([self.precinct != 15]) + self.shape_bytes()),
+            "cod": self.cod(),
+            "qcc": segment(0x5D, comp + quant),
+        }[self.own]
+
+    def main_header(self):
+        high = [self.side * it for it in self.tiles]
+        siz = struct.pack(">H8IH", 0, *high, self.at, self.at, self.side, self.side, 0, 0, self.comps)
+        siz += bytes([7, self.factor, self.factor]) * self.comps
+        changes = b""
+        if self.changes:
+            wide = self.comps > 256
+            end = min(self.comps, 16384 if wide else 255)
+            entry = struct.pack(">BHHBHB" if wide else ">BBHBBB", 0, 0, self.layers, 33, end, self.order)
+            changes = segment(0x5F, entry * self.changes)
+        quant = bytes([0x40]) + bytes([0x40]) * (3 * self.levels + 1)
+        return b"\xFF\x4F" + segment(0x51, siz) + self.cod() + segment(0x5C, quant) + changes
+
+    def codestream(self, most):
+        """The bytes, or nothing where they would be too many or can't be had."""
+        count = self.tiles[0] * self.tiles[1]
+        if self.at >= self.side or count > 65535 or len(self.own_header(0)) * count > most or 3 * self.comps > 49000:
+            return b""
+        out, packets = [self.main_header()], 0
+        for tile in range(count):
+            here = self.precincts(tile) * self.comps * self.layers
+            packets += here
+            if packets > MOST_PACKETS or 14 * (tile + 1) * self.parts + packets > most:
+                return b""
+            left = here // 2 if self.cut else here
+            for part in range(self.parts):
+                header = self.own_header(tile) if part == 0 else b""
+                data = left // (self.parts - part)
+                left -= data
+                sot = struct.pack(">HIBB", tile, 14 + len(header) + data, part, self.parts)
+                out.append(segment(0x90, sot) + header + b"\xFF\x93" + bytes(data))
+        whole = b"".join(out) + b"\xFF\xD9"
+        return whole if len(whole) <= most else b""
+
+    def told(self):
+        names = "tiles side at comps factor levels precinct layers block order parts own changes cut".split()
+        return " ".join(f"{name} {getattr(self, name)}" for name in names) + " " + " ".join(self.options)
+
+
+def run(program, source, target, options):
+    """Processor seconds, KiB and status of one run."""
+    null = os.open(os.devnull, os.O_WRONLY)
+    actions = [(os.POSIX_SPAWN_DUP2, null, 1), (os.POSIX_SPAWN_DUP2, null, 2)]
+    pid = os.posix_spawnp("timeout", ["timeout", str(MOST_SECONDS), program, "transcode", source, target, *options], os.environ, file_actions=actions)
+    _, status, used = os.wait4(pid, 0)
+    os.close(null)
+    return used.ru_utime + used.ru_stime, used.ru_maxrss, os.waitstatus_to_exitcode(status)
+
+
+def main():
+    words = argparse.ArgumentParser(usage=__doc__)
+    words.add_argument("program")
+    for name, default in (("-n", 10**9), ("-t", 600), ("-s", 1), ("-b", 100_000)):
+        words.add_argument(name, type=int, default=default)
+    words.add_argument("-k")
+    asked = words.parse_args()
+    pick, end, seen, found = random.Random(asked.s), time.monotonic() + asked.t, Counter(), []
+    with tempfile.TemporaryDirectory() as folder:
+        source, target = os.path.join(folder, "in.j2k"), os.path.join(folder, "out.j2k")
+        while sum(seen.values()) < asked.n and time.monotonic() < end:
+            shape = Shape(pick, asked.b)
+            if not shape.bytes:
+                continue
+            with open(source, "wb") as file:
+                file.write(shape.bytes)
+            seconds, most, status = run(asked.program, source, target, shape.options)
+            seen[status] += 1
+            found.append((seconds, most, len(shape.bytes), status, shape.told(), shape.bytes))
+            found = sorted({it for by in (0, 1) for it in sorted(found, key=lambda it: -it[by])[:10]}, key=lambda it: -it[0])
+    print("status:", ", ".join(f"{status} {count} times" for status, count in sorted(seen.items())))
+    for title, by in (("most seconds", 0), ("most memory", 1)):
+        print(title)
+        for at, it in enumerate(sorted(found, key=lambda it: -it[by])[:10]):
+            print(f"  {it[0]:.3f} s {it[1]:,} KiB, {it[2]:,} bytes, status {it[3]}: {it[4]}")
+            if asked.k:
+                with open(os.path.join(asked.k, f"{title.split()[1]}_{at}.j2k"), "wb") as file:
+                    file.write(it[5])
+
+
+if __name__ == "__main__":
+    main()
