@@ -1,5 +1,5 @@
 -- What becomes of an input, from what became of its plan.
-use Rattle.std.proofs.Common.{◌≡◌, ◌∙◌, ◌⊎◌, ◌<◌, ◌≤◌, ◌+◌, ◌^◌, ℕ, false, List, [], ◌++◌, length, map, Option, None, Some, Result, Ok, Err, IfOk, IfErr, OnOk, refl, ap, sym, subst, arith, inl, inr, append_assoc, append-nil}
+use Rattle.std.proofs.Common.{◌≡◌, ◌∙◌, ◌⊎◌, ◌<◌, ◌≤◌, ◌^◌, ℕ, false, List, [], ◌++◌, length, map, Option, None, Some, Result, Ok, Err, IfOk, IfErr, OnOk, refl, ap, sym, subst, arith, inl, inr, append_assoc, append-nil}
 use Rattle.std.specs.List.{All, flat_map}
 use Rattle.std.proofs.lemmas.Bool.{cases_lt}
 use Rattle.jx_base.specs.declared.pieces.Block.{Block}
@@ -40,8 +40,8 @@ use Rattle.jx_options.specs.Work.{Work}
 use Rattle.jx_rounds.proofs.FrontLemmas.{at_most_short, comps_stay, tiles_stay}
 use Rattle.jx_rounds.specs.Tapes.{IsTapeOf}
 use Rattle.jx_rounds.specs.declared.tape.TapeEntry.{TapeEntry}
-use Rattle.jx_transcode.specs.RunTapes.{EndsCut, IsRunTape, TapeEnds}
-use Rattle.jx_transcode.proofs.TapeLemmas.{start_below, start_grows, with_round}
+use Rattle.jx_transcode.specs.RunTapes.{IsRunTape, IsTapedAfter, IsTapedInPart}
+use Rattle.jx_transcode.proofs.TapeLemmas.{in_rounds, start_below, start_grows}
 use Rattle.jx_transcode.proofs.WrongLemmas.{all_right, right_or_wrong}
 
 -- ---- a plan was carried out: its file was written, or halted
@@ -269,18 +269,18 @@ module _ (laws : Laws) (aim : Aim) (input : List ℕ) (s : Stream) (blocks : Lis
     taped : IsRunTape work input tape
     taped = inr (record { stream = s; blocks = blocks; reads = reads; of = of })
 
-    begun : (st : Status) → (IsVerdict st → ⊥) → Leaves name aim input st n bytes old new → TapeEnds input st (length tape) → IsFileBegun plan name old new → IsAnswered name work aim input st n bytes tape old new
-    begun st free leaves ends file = record {
+    begun : (st : Status) → (IsVerdict st → ⊥) → Leaves name aim input st n bytes old new → IsTapedAfter input st (length tape) → IsFileBegun plan name old new → IsAnswered name work aim input st n bytes tape old new
+    begun st free leaves to file = record {
       verdict = λ v. absurd (free v);
       leaves = leaves;
       unsaid = begun_short name n old new count file;
       tape = taped;
       whole = λ done. absurd (free (subst IsVerdict (sym done) tt));
-      ends = ends;
+      taped = to;
     }
 
-    cut : EndWithRound plan (length tape) → EndsCut input (length tape)
-    cut ends = inr (with_round input plan (length tape) reads all ends)
+    cut : EndWithRound plan (length tape) → IsTapedInPart input (length tape)
+    cut to = inr (in_rounds input plan (length tape) reads all to)
 
     halted : (h : Halt) → IsFileHalted plan name h old new → IsTapedTo plan h (length tape) → IsAnswered name work aim input (status_of h) n bytes tape old new
     halted (halt.Bad t number) file to = record {
@@ -289,7 +289,7 @@ module _ (laws : Laws) (aim : Aim) (input : List ℕ) (s : Stream) (blocks : Lis
       unsaid = stopped_short name n (halt.Bad t number) t old new count file;
       tape = taped;
       whole = λ done. absurd (halted_undone (halt.Bad t number) done);
-      ends = record {
+      taped = record {
         stream = s;
         blocks = blocks;
         reads = reads;
@@ -306,7 +306,7 @@ module _ (laws : Laws) (aim : Aim) (input : List ℕ) (s : Stream) (blocks : Lis
       unsaid = stopped_short name n (halt.TooLong t) t old new count file;
       tape = taped;
       whole = λ done. absurd (halted_undone (halt.TooLong t) done);
-      ends = inl (refl, record { stream = s; blocks = blocks; reads = reads; inside = file.is.inside; count_is = to });
+      taped = inl (refl, record { stream = s; blocks = blocks; reads = reads; inside = file.is.inside; count_is = to });
     }
     halted halt.Failed file to = begun status.WriteFault (λ v. v) (begun_short name n old new count file) (cut to) file
     halted halt.NoMemory file to = begun status.NoMemory (λ v. v) (begun_short name n old new count file) (cut to) file
@@ -318,7 +318,7 @@ module _ (laws : Laws) (aim : Aim) (input : List ℕ) (s : Stream) (blocks : Lis
       unsaid = inr (inr (record { within = within; count = counted n count; stands = inr (file.bytes, rewritten_of file.bytes file.whole, file.made) }));
       tape = taped;
       whole = λ done. counted (length tape) whole;
-      ends = counted (length tape) whole;
+      taped = counted (length tape) whole;
     }
 
   pub answered : (name : Text) (work : Work) (wrote : Result ℕ Halt) (st : Status) (n bytes : ℕ) (tape : List TapeEntry) (old new : Meaning) → IsCarriedOut plan name work wrote n tape old new

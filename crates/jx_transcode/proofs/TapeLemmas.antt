@@ -1,10 +1,8 @@
 -- Where rounds begin, and where the tape ends.
 use Rattle.std.proofs.Common.{◌≡◌, ◌∙◌, ◌⊎◌, ◌<◌, ◌≤◌, ◌+◌, nat_le, ℕ, zero, suc, List, length, refl, ap, sym, arith, inl, inr}
 use Rattle.std.proofs.lemmas.Bool.{cases_Bool, cases_lt}
-use Rattle.jx_base.specs.declared.pieces.Block.{Block}
 use Rattle.jx_codestream.specs.declared.Stream.{Stream}
 use Rattle.jx_codestream.specs.First.{tile_number}
-use Rattle.jx_options.specs.Wanted.{Wanted}
 use Rattle.jx_plan.specs.Plan.{Plan}
 use Rattle.jx_rounds.specs.Rounds.{EndWithRound}
 use Rattle.jx_rounds.specs.Tiles.{Round, blocks_in_tile, first_in_tile, next_round, round_of}
@@ -13,8 +11,8 @@ use Rattle.jx_tile.specs.Totals.{block_total}
 use Rattle.jx_transcode.specs.Aims.{Aim}
 use Rattle.jx_transcode.specs.Jp2Run.{raised}
 use Rattle.jx_transcode.specs.Outcome.{IsVerdict, Verdict, most_bytes}
-use Rattle.jx_transcode.specs.Rewritten.{HasBlocks, Reads, round_start}
-use Rattle.jx_transcode.specs.RunTapes.{EndsBeforeBlock, EndsBeforeRound, EndsBeforeTile, EndsCut, EndsWithRound, TapeEnds}
+use Rattle.jx_transcode.specs.Rewritten.{Reads, round_start}
+use Rattle.jx_transcode.specs.RunTapes.{IsTapedAfter, IsTapedInPart, IsTapedInRounds, IsTapedToRound}
 use Rattle.jx_transcode.specs.declared.status.Status.{Status}
 use Rattle.jx_transcode.specs.declared.status.Status.TheVariants as status
 
@@ -53,13 +51,13 @@ start_begins counts (suc t) =
     ]
 
 -- ---- the blocks before the round of a tile end with a round
-before_round : (s : Stream) (t entries : ℕ) → t < tile_number s.siz → entries ≡ first_in_tile s (round_start s t) → EndsBeforeRound s entries
-before_round s t entries inside is =
+to_round : (s : Stream) (t entries : ℕ) → t < tile_number s.siz → entries ≡ first_in_tile s (round_start s t) → IsTapedToRound s entries
+to_round s t entries inside is =
     record { tile = round_start s t; inside = omega (arith, inside, start_below (blocks_in_tile s) t); begins = start_begins (blocks_in_tile s) t; count_is = is }
 
 -- so do those of whole rounds of a plan
-pub with_round : (input : List ℕ) (p : Plan) (entries : ℕ) → Reads input p.stream p.blocks → length p.blocks ≡ block_total p.stream → EndWithRound p entries → EndsWithRound input entries
-with_round input p entries reads all is = record {
+pub in_rounds : (input : List ℕ) (p : Plan) (entries : ℕ) → Reads input p.stream p.blocks → length p.blocks ≡ block_total p.stream → EndWithRound p entries → IsTapedInRounds input entries
+in_rounds input p entries reads all is = record {
   stream = p.stream;
   blocks = p.blocks;
   reads = reads;
@@ -75,40 +73,40 @@ with_round input p entries reads all is = record {
 }
 
 -- ---- where the line isn't said
-pub tape_late : (input : List ℕ) (s : Status) (entries : ℕ) → TapeEnds input s entries → EndsCut input entries
-tape_late input status.Done entries is = inr (record { stream = is.stream; blocks = is.blocks; reads = is.reads; ends = inl is.count_is })
-tape_late input status.Words entries is = inl is
-tape_late input (status.Rule number place) entries is = inl is
-tape_late input (status.Limit number found) entries is = inl is
-tape_late input (status.Choice number place) entries (inl seven) =
-    inr (record { stream = seven.1.stream; blocks = seven.1.blocks; reads = seven.1.reads; ends = inr (before_round seven.1.stream place entries seven.1.inside seven.1.count_is) })
-tape_late input (status.Choice number place) entries (inr few) = inl few.1
-tape_late input (status.Block number) entries is =
-    inr (record { stream = is.stream; blocks = is.blocks; reads = is.reads; ends = inr (before_round is.stream is.tile entries is.inside is.count_is) })
-tape_late input status.ReadFault entries is = inl is
-tape_late input status.WriteFault entries is = is
-tape_late input status.NoMemory entries is = is
+pub taped_late : (input : List ℕ) (s : Status) (entries : ℕ) → IsTapedAfter input s entries → IsTapedInPart input entries
+taped_late input status.Done entries is = inr (record { stream = is.stream; blocks = is.blocks; reads = is.reads; ends = inl is.count_is })
+taped_late input status.Words entries is = inl is
+taped_late input (status.Rule number place) entries is = inl is
+taped_late input (status.Limit number found) entries is = inl is
+taped_late input (status.Choice number place) entries (inl seven) =
+    inr (record { stream = seven.1.stream; blocks = seven.1.blocks; reads = seven.1.reads; ends = inr (to_round seven.1.stream place entries seven.1.inside seven.1.count_is) })
+taped_late input (status.Choice number place) entries (inr few) = inl few.1
+taped_late input (status.Block number) entries is =
+    inr (record { stream = is.stream; blocks = is.blocks; reads = is.reads; ends = inr (to_round is.stream is.tile entries is.inside is.count_is) })
+taped_late input status.ReadFault entries is = inl is
+taped_late input status.WriteFault entries is = is
+taped_late input status.NoMemory entries is = is
 
 -- ---- a front that is too long has no tape
-pub long_ends : (aim : Aim) (s : Status) (read input : List ℕ) (entries : ℕ) → most_bytes < length read → (IsVerdict s → Verdict aim read s) → entries ≡ 0 → TapeEnds input s entries
-long_ends aim status.Done read input entries long verdict none = absurd (omega (arith, (verdict tt).0, long))
-long_ends aim status.Words read input entries long verdict none = none
-long_ends aim (status.Rule number place) read input entries long verdict none = none
-long_ends aim (status.Limit number found) read input entries long verdict none = none
-long_ends aim (status.Choice number place) read input entries long verdict none = absurd (omega (arith, (verdict tt).0, long))
-long_ends aim (status.Block number) read input entries long verdict none = absurd (omega (arith, (verdict tt).0, long))
-long_ends aim status.ReadFault read input entries long verdict none = none
-long_ends aim status.WriteFault read input entries long verdict none = inl none
-long_ends aim status.NoMemory read input entries long verdict none = inl none
+pub long_taped : (aim : Aim) (s : Status) (read input : List ℕ) (entries : ℕ) → most_bytes < length read → (IsVerdict s → Verdict aim read s) → entries ≡ 0 → IsTapedAfter input s entries
+long_taped aim status.Done read input entries long verdict none = absurd (omega (arith, (verdict tt).0, long))
+long_taped aim status.Words read input entries long verdict none = none
+long_taped aim (status.Rule number place) read input entries long verdict none = none
+long_taped aim (status.Limit number found) read input entries long verdict none = none
+long_taped aim (status.Choice number place) read input entries long verdict none = absurd (omega (arith, (verdict tt).0, long))
+long_taped aim (status.Block number) read input entries long verdict none = absurd (omega (arith, (verdict tt).0, long))
+long_taped aim status.ReadFault read input entries long verdict none = none
+long_taped aim status.WriteFault read input entries long verdict none = inl none
+long_taped aim status.NoMemory read input entries long verdict none = inl none
 
 -- ---- a place of a rule that is raised
-pub raised_ends : (input : List ℕ) (from : ℕ) (s : Status) (entries : ℕ) → TapeEnds input s entries → TapeEnds input (raised from s) entries
-raised_ends input from status.Done entries is = is
-raised_ends input from status.Words entries is = is
-raised_ends input from (status.Rule number place) entries is = is
-raised_ends input from (status.Limit number found) entries is = is
-raised_ends input from (status.Choice number place) entries is = is
-raised_ends input from (status.Block number) entries is = is
-raised_ends input from status.ReadFault entries is = is
-raised_ends input from status.WriteFault entries is = is
-raised_ends input from status.NoMemory entries is = is
+pub raised_taped : (input : List ℕ) (from : ℕ) (s : Status) (entries : ℕ) → IsTapedAfter input s entries → IsTapedAfter input (raised from s) entries
+raised_taped input from status.Done entries is = is
+raised_taped input from status.Words entries is = is
+raised_taped input from (status.Rule number place) entries is = is
+raised_taped input from (status.Limit number found) entries is = is
+raised_taped input from (status.Choice number place) entries is = is
+raised_taped input from (status.Block number) entries is = is
+raised_taped input from status.ReadFault entries is = is
+raised_taped input from status.WriteFault entries is = is
+raised_taped input from status.NoMemory entries is = is

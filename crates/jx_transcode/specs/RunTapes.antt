@@ -21,16 +21,16 @@ pub record IsTapeOn (work : Work) (input : List ℕ) (tape : List TapeEntry) : T
 abbrev pub IsRunTape : Work → List ℕ → List TapeEntry → Type 0
 IsRunTape work input tape = (tape ≡ []) ⊎ IsTapeOn work input tape
 
--- so many entries are those of the blocks before the round of a tile
-pub record EndsBeforeTile (input : List ℕ) (t entries : ℕ) : Type 0 where
+-- the tape has so many entries: those of the blocks before the round of a tile
+pub record IsTapedToTile (input : List ℕ) (t entries : ℕ) : Type 0 where
   pub stream : Stream
   pub blocks : List Block
   pub reads : Reads input stream blocks
   pub inside : t < tile_number stream.siz
   pub count_is : entries ≡ first_in_tile stream (round_start stream t)
 
--- before the round of the tile that has a block
-pub record EndsBeforeBlock (input : List ℕ) (number entries : ℕ) : Type 0 where
+-- those before the round of the tile that has a block
+pub record IsTapedToBlock (input : List ℕ) (number entries : ℕ) : Type 0 where
   pub stream : Stream
   pub blocks : List Block
   pub reads : Reads input stream blocks
@@ -40,33 +40,33 @@ pub record EndsBeforeBlock (input : List ℕ) (number entries : ℕ) : Type 0 wh
   pub below : number < first_in_tile stream tile + blocks_in_tile stream tile
   pub count_is : entries ≡ first_in_tile stream (round_start stream tile)
 
--- before a tile at which a round begins
-pub record EndsBeforeRound (s : Stream) (entries : ℕ) : Type 0 where
+-- those before a tile at which a round begins
+pub record IsTapedToRound (s : Stream) (entries : ℕ) : Type 0 where
   pub tile : ℕ
   pub inside : tile < tile_number s.siz
   pub begins : round_start s tile ≡ tile
   pub count_is : entries ≡ first_in_tile s tile
 
--- or of all blocks: so the last one ends a round
-pub record EndsWithRound (input : List ℕ) (entries : ℕ) : Type 0 where
+-- those of whole rounds: of all blocks, or before such a tile
+pub record IsTapedInRounds (input : List ℕ) (entries : ℕ) : Type 0 where
   pub stream : Stream
   pub blocks : List Block
   pub reads : Reads input stream blocks
-  pub ends : (entries ≡ length blocks) ⊎ EndsBeforeRound stream entries
+  pub ends : (entries ≡ length blocks) ⊎ IsTapedToRound stream entries
 
--- none, or whole rounds
-abbrev pub EndsCut : List ℕ → ℕ → Type 0
-EndsCut input entries = (entries ≡ 0) ⊎ EndsWithRound input entries
+-- none, or those of whole rounds
+abbrev pub IsTapedInPart : List ℕ → ℕ → Type 0
+IsTapedInPart input entries = (entries ≡ 0) ⊎ IsTapedInRounds input entries
 
 -- how many entries the tape has after a status: those of all blocks after Done; those of the rounds before that of the tile after Block and
 -- choice 7; none, or those of whole rounds, after a write fault and for want of memory; and else none
-abbrev pub TapeEnds : List ℕ → Status → ℕ → Type 0
-TapeEnds input status.Done entries = HasBlocks input entries
-TapeEnds input status.Words entries = entries ≡ 0
-TapeEnds input (status.Rule number place) entries = entries ≡ 0
-TapeEnds input (status.Limit number found) entries = entries ≡ 0
-TapeEnds input (status.Choice number place) entries = ((number ≡ 7) × EndsBeforeTile input place entries) ⊎ ((number < 7) × (entries ≡ 0))
-TapeEnds input (status.Block number) entries = EndsBeforeBlock input number entries
-TapeEnds input status.ReadFault entries = entries ≡ 0
-TapeEnds input status.WriteFault entries = EndsCut input entries
-TapeEnds input status.NoMemory entries = EndsCut input entries
+abbrev pub IsTapedAfter : List ℕ → Status → ℕ → Type 0
+IsTapedAfter input status.Done entries = HasBlocks input entries
+IsTapedAfter input status.Words entries = entries ≡ 0
+IsTapedAfter input (status.Rule number place) entries = entries ≡ 0
+IsTapedAfter input (status.Limit number found) entries = entries ≡ 0
+IsTapedAfter input (status.Choice number place) entries = ((number ≡ 7) × IsTapedToTile input place entries) ⊎ ((number < 7) × (entries ≡ 0))
+IsTapedAfter input (status.Block number) entries = IsTapedToBlock input number entries
+IsTapedAfter input status.ReadFault entries = entries ≡ 0
+IsTapedAfter input status.WriteFault entries = IsTapedInPart input entries
+IsTapedAfter input status.NoMemory entries = IsTapedInPart input entries
