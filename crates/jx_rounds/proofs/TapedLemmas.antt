@@ -24,8 +24,11 @@ use Rattle.jx_options.specs.Work.{MayBeWork, Work}
 use Rattle.jx_rounds.proofs.FrontLemmas.{blocks_are}
 use Rattle.jx_rounds.proofs.TileLemmas.{get_drop, get_take}
 use Rattle.jx_rounds.specs.MadeRounds.{AreMadeAlone, AreOfBlocks, AreUnshared, IsTapeFrom, TapesOn, entry_of}
-use Rattle.jx_rounds.specs.Rounds.{AreAnswers, HasTape, IsPlace}
+use Rattle.jx_rounds.specs.Rounds.{AreAnswers, EndsRound, HasTape, IsFault, IsOfRound, IsPlace, IsTapedTo, IsUnmade}
 use Rattle.jx_rounds.specs.Tapes.{IsTapeOf, setup_of}
+use Rattle.jx_rounds.specs.Tiles.{Round}
+use Rattle.jx_rounds.specs.declared.halt.Halt.{Halt}
+use Rattle.jx_rounds.specs.declared.halt.Halt.TheVariants as halt
 use Rattle.jx_rounds.specs.declared.tape.TapeEntry.{TapeEntry}
 
 -- ---- numbers from one on: what the law of the store says of them
@@ -204,9 +207,50 @@ tapes_on laws p work first next entries more plan are count is tape so_far =
       long = omega (arith, all, long_is, so_far.long, count);
     }
 
+pub all_place : (p : Plan) → IsPlan p → IsPlace p (tile_number p.stream.siz) (length p.blocks)
+all_place p plan = record { inside = omega arith; block_is = plan.may.blocks_are.all ∙ blocks_are p.stream }
+
 pub whole_tape : (p : Plan) (work : Work) (tile block : ℕ) (tape : List TapeEntry) → IsPlan p → IsPlace p tile block → tile_number p.stream.siz ≤ tile → HasTape p work block tape
     → length tape ≡ length p.blocks
 whole_tape p work tile block tape plan place past whole =
     let last : tile ≡ tile_number p.stream.siz = omega (arith, place.inside, past) in
-    let all : block ≡ length p.blocks = place.block_is ∙ ap (first_block p) last ∙ sym (blocks_are p.stream) ∙ sym plan.may.blocks_are.all in
+    let all : block ≡ length p.blocks = place.block_is ∙ ap (first_block p) last ∙ sym (all_place p plan).block_is in
     whole.long ∙ all
+
+-- ---- where it ends
+pub unmade_round : (p : Plan) (start : ℕ) (h : Halt) → IsUnmade p start h → IsOfRound p start h
+unmade_round p start (halt.Bad tile number) spoiled = ap (λ (r : Round). r.start) spoiled.round
+unmade_round p start (halt.TooLong tile) spoiled = ap (λ (r : Round). r.start) spoiled.round
+unmade_round p start halt.Failed never = tt
+unmade_round p start halt.NoMemory free = tt
+
+pub fault_round : (p : Plan) (start : ℕ) (h : Halt) → IsFault h → IsOfRound p start h
+fault_round p start (halt.Bad tile number) never = absurd never
+fault_round p start (halt.TooLong tile) never = absurd never
+fault_round p start halt.Failed fault = tt
+fault_round p start halt.NoMemory fault = tt
+
+pub fault_taped : (p : Plan) (tile entries : ℕ) (h : Halt) → IsFault h → IsPlace p tile entries → EndsRound p tile → IsTapedTo p h entries
+fault_taped p tile entries (halt.Bad at number) never place ends = absurd never
+fault_taped p tile entries (halt.TooLong at) never place ends = absurd never
+fault_taped p tile entries halt.Failed fault place ends = record { tile = tile; place = place; ends = ends }
+fault_taped p tile entries halt.NoMemory fault place ends = record { tile = tile; place = place; ends = ends }
+
+taped_place : (p : Plan) (work : Work) (tile block : ℕ) (tape : List TapeEntry) → IsPlace p tile block → HasTape p work block tape → IsPlace p tile (length tape)
+taped_place p work tile block tape place so_far = record { inside = place.inside; block_is = so_far.long ∙ place.block_is }
+
+-- the tape stays as it was before the round that isn't written
+pub taped_to : (p : Plan) (work : Work) (tile block : ℕ) (h : Halt) (tape : List TapeEntry) → IsPlace p tile block → EndsRound p tile → HasTape p work block tape → IsOfRound p tile h → IsTapedTo p h (length tape)
+taped_to p work tile block (halt.Bad at number) tape place ends so_far of = so_far.long ∙ place.block_is ∙ ap (first_block p) (sym of)
+taped_to p work tile block (halt.TooLong at) tape place ends so_far of = so_far.long ∙ place.block_is ∙ ap (first_block p) (sym of)
+taped_to p work tile block halt.Failed tape place ends so_far of = record { tile = tile; place = taped_place p work tile block tape place so_far; ends = ends }
+taped_to p work tile block halt.NoMemory tape place ends so_far of = record { tile = tile; place = taped_place p work tile block tape place so_far; ends = ends }
+
+pub whole_taped : (p : Plan) (entries : ℕ) (h : Halt) → IsPlan p → IsFault h → entries ≡ length p.blocks → IsTapedTo p h entries
+whole_taped p entries h plan fault all =
+    fault_taped p (tile_number p.stream.siz) entries h fault (subst (λ (n : ℕ). IsPlace p (tile_number p.stream.siz) n) (sym all) (all_place p plan)) (inr refl)
+
+pub last_place : (p : Plan) (work : Work) (tile block : ℕ) (tape : List TapeEntry) → IsPlace p tile block → tile_number p.stream.siz ≤ tile → HasTape p work block tape → IsPlace p (tile_number p.stream.siz) (length tape)
+last_place p work tile block tape place past so_far =
+    let last : tile ≡ tile_number p.stream.siz = omega (arith, place.inside, past) in
+    subst (λ (t : ℕ). IsPlace p t (length tape)) last (taped_place p work tile block tape place so_far)

@@ -206,6 +206,27 @@ IsFault (halt.TooLong tile) = ⊥
 IsFault halt.Failed = Unit {0}
 IsFault halt.NoMemory = Unit {0}
 
+-- a tile that isn't written is of the round that begins at another
+abbrev pub IsOfRound : Plan → ℕ → Halt → Type 0
+IsOfRound p start (halt.Bad tile number) = (round_of (blocks_in p) tile).start ≡ start
+IsOfRound p start (halt.TooLong tile) = (round_of (blocks_in p) tile).start ≡ start
+IsOfRound p start halt.Failed = Unit {0}
+IsOfRound p start halt.NoMemory = Unit {0}
+
+-- the first blocks, so many of them, end with a round
+pub record EndWithRound (p : Plan) (blocks : ℕ) : Type 0 where
+  pub tile : ℕ
+  pub place : IsPlace p tile blocks
+  pub ends : EndsRound p tile
+
+-- how many entries the tape has where rounds aren't written: those of the rounds before that of a tile that isn't written, or else of whole
+-- rounds
+abbrev pub IsTapedTo : Plan → Halt → ℕ → Type 0
+IsTapedTo p (halt.Bad tile number) entries = entries ≡ first_block p ((round_of (blocks_in p) tile).start)
+IsTapedTo p (halt.TooLong tile) entries = entries ≡ first_block p ((round_of (blocks_in p) tile).start)
+IsTapedTo p halt.Failed entries = EndWithRound p entries
+IsTapedTo p halt.NoMemory entries = EndWithRound p entries
+
 -- the whole file has been written
 pub record HasWhole (p : Plan) (count : ℕ) (old new : Option (List ℕ)) : Type 0 where
   pub bytes : List ℕ

@@ -8,7 +8,7 @@ ghost use Rattle.jx_codestream.specs.First.{tile_number};
 ghost use Rattle.jx_tier2_writer.specs.Tile.{first_block, main_bytes};
 ghost use Rattle.jx_options.specs.Work.{MayBeWork};
 ghost use Rattle.jx_rounds.specs.MadeRounds.{entry_of, parts_of};
-ghost use Rattle.jx_rounds.specs.Rounds.{BeginsRound, EndsRound, HasFront, HasRounds, HasTape, HasWhole, IsHalted, IsPlace, IsUnwritten};
+ghost use Rattle.jx_rounds.specs.Rounds.{BeginsRound, EndsRound, HasFront, HasRounds, HasTape, HasWhole, IsFault, IsHalted, IsOfRound, IsPlace, IsTapedTo, IsUnwritten};
 ghost use Rattle.jx_rounds.specs.Tapes.{IsTapeOf};
 
 use crate::TapeEntry;
@@ -106,6 +106,7 @@ fn write_round<R: Threads + Wait + Sync, G: Gate + Sync, W: ByteWriter>(
     ensures kept { OnErr result (tape.new.items ≡ tape.old.items) }
     ensures buffer { OnOk result (buffer.new.items ≡ []) }
     ensures err { IfErr result (λ h. IsUnwritten making.now mark.tile h (W.written writer.old) (W.written writer.new)) }
+    ensures round { IfErr result (λ h. IsOfRound making.now mark.tile h) }
     ensures cause { IsErrOf result Halt.Failed → Rose (W.faults writer.old) (W.faults writer.new) }
     ensures rose { W.faults writer.old < W.faults writer.new → IsErrOf result Halt.Failed }
     ensures same { OnOk result (W.faults writer.new ≡ W.faults writer.old) }
@@ -148,6 +149,8 @@ fn write_tiles<R: Threads + Wait + Sync, G: Gate + Sync, W: ByteWriter>(
     ensures err { IfErr result (λ h. IsUnwritten making.now 0 h (W.written writer.old) (W.written writer.new)) }
     ensures tape { IsTapeOf crew.now.work making.now.blocks tape.new.items }
     ensures whole { OnOk result (length tape.new.items ≡ length making.now.blocks) }
+    ensures last { OnOk result (IsPlace making.now (tile_number making.now.stream.siz) (length tape.new.items)) }
+    ensures taped { IfErr result (λ h. IsTapedTo making.now h (length tape.new.items)) }
     ensures cause { IsErrOf result Halt.Failed → Rose (W.faults writer.old) (W.faults writer.new) }
     ensures rose { W.faults writer.old < W.faults writer.new → IsErrOf result Halt.Failed }
     ensures same { OnOk result (W.faults writer.new ≡ W.faults writer.old) }
@@ -173,6 +176,7 @@ fn write_end<W: ByteWriter>(writer: &mut W, before: usize) -> Result<usize, Halt
     requires may { W.can_write (W.kept writer.old) }
     ensures ok { IfOk result (λ bytes. (p : Plan) (first : Option (List ℕ)) → HasFront p (tile_number p.stream.siz) before first (W.written writer.old) → HasWhole p bytes first (W.written writer.new)) }
     ensures err { IfErr result (λ h. (p : Plan) (first : Option (List ℕ)) → HasFront p (tile_number p.stream.siz) before first (W.written writer.old) → IsHalted p h first (W.written writer.new)) }
+    ensures fault { IfErr result (λ h. IsFault h) }
     ensures cause { IsErrOf result Halt.Failed → Rose (W.faults writer.old) (W.faults writer.new) }
     ensures rose { W.faults writer.old < W.faults writer.new → IsErrOf result Halt.Failed }
     ensures same { OnOk result (W.faults writer.new ≡ W.faults writer.old) }
@@ -212,6 +216,7 @@ pub fn write_codestream<R: Threads + Wait + Sync, G: Gate + Sync, W: ByteWriter>
     ensures err { IfErr result (λ h. IsHalted making.now h (W.written writer.old) (W.written writer.new)) }
     ensures tape { IsTapeOf crew.now.work making.now.blocks tape.new.items }
     ensures whole { OnOk result (length tape.new.items ≡ length making.now.blocks) }
+    ensures taped { IfErr result (λ h. IsTapedTo making.now h (length tape.new.items)) }
     ensures cause { IsErrOf result Halt.Failed → Rose (W.faults writer.old) (W.faults writer.new) }
     ensures rose { W.faults writer.old < W.faults writer.new → IsErrOf result Halt.Failed }
     ensures same { OnOk result (W.faults writer.new ≡ W.faults writer.old) }

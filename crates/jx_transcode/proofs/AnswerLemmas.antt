@@ -1,7 +1,7 @@
 -- What becomes of an input, from what became of its plan.
-use Rattle.std.proofs.Common.{◌≡◌, ◌∙◌, ◌⊎◌, ◌<◌, ◌≤◌, ◌+◌, ◌^◌, nat_le, ℕ, zero, suc, false, List, [], ◌++◌, length, map, Option, None, Some, Result, Ok, Err, IfOk, IfErr, OnOk, refl, ap, sym, subst, arith, inl, inr, append_assoc, append-nil}
+use Rattle.std.proofs.Common.{◌≡◌, ◌∙◌, ◌⊎◌, ◌<◌, ◌≤◌, ◌^◌, ℕ, false, List, [], ◌++◌, length, map, Option, None, Some, Result, Ok, Err, IfOk, IfErr, OnOk, refl, ap, sym, subst, arith, inl, inr, append_assoc, append-nil}
 use Rattle.std.specs.List.{All, flat_map}
-use Rattle.std.proofs.lemmas.Bool.{cases_Bool, cases_lt}
+use Rattle.std.proofs.lemmas.Bool.{cases_lt}
 use Rattle.jx_base.specs.declared.pieces.Block.{Block}
 use Rattle.jx_base.specs.Joined.{joined}
 use Rattle.jx_codeblock.specs.declared.job.Job.{Job}
@@ -28,9 +28,9 @@ use Rattle.jx_transcode.specs.Aims.{Aim, rule_in}
 use Rattle.jx_transcode.specs.Filed.{IsAnswered, IsFileBegun, IsFileHalted, IsFileMade, IsFileStopped, IsEndOf, status_of}
 use Rattle.jx_transcode.specs.Outcome.{IsCutShort, IsStopped, IsUnfinished, IsVerdict, Leaves, most_bytes}
 use Rattle.jx_transcode.specs.Rewritten.{CanBePlanned, HasBlocks, IsBad, IsCut, IsCutByBlock, IsFront, IsFrontOf, IsKept, IsLong, IsRewritten, IsSpoiled, Reads, headers_of}
-use Rattle.jx_rounds.specs.Tiles.{IsRight, Round, next_round, round_of}
+use Rattle.jx_rounds.specs.Tiles.{IsRight, Round, round_of}
 use Rattle.jx_transcode.specs.Rewritten.{IsTooLongAt}
-use Rattle.jx_rounds.specs.Rounds.{IsHaltedAt, IsRoundFront, IsShortFront, IsWholeFile, most_of_part}
+use Rattle.jx_rounds.specs.Rounds.{EndWithRound, IsHaltedAt, IsRoundFront, IsShortFront, IsTapedTo, IsWholeFile, most_of_part}
 use Rattle.jx_rounds.specs.declared.halt.Halt.{Halt}
 use Rattle.jx_rounds.specs.declared.halt.Halt.TheVariants as halt
 use Rattle.jx_transcode.specs.declared.status.Status.{Status}
@@ -40,7 +40,8 @@ use Rattle.jx_options.specs.Work.{Work}
 use Rattle.jx_rounds.proofs.FrontLemmas.{at_most_short, comps_stay, tiles_stay}
 use Rattle.jx_rounds.specs.Tapes.{IsTapeOf}
 use Rattle.jx_rounds.specs.declared.tape.TapeEntry.{TapeEntry}
-use Rattle.jx_transcode.specs.RunTapes.{IsRunTape}
+use Rattle.jx_transcode.specs.RunTapes.{IsRunTape, IsTapedAfter, IsTapedInPart}
+use Rattle.jx_transcode.proofs.TapeLemmas.{in_rounds, start_below, start_grows}
 use Rattle.jx_transcode.proofs.WrongLemmas.{all_right, right_or_wrong}
 
 -- ---- a plan was carried out: its file was written, or halted
@@ -49,13 +50,14 @@ pub record IsCarriedOut (p : Plan) (name : Text) (work : Work) (written : Result
   pub count : blocks ≡ length p.blocks
   pub tape : IsTapeOf work p.blocks entries
   pub whole : OnOk written (length entries ≡ length p.blocks)
+  pub taped : IfErr written (λ why. IsTapedTo p why (length entries))
   pub ok : IfOk written (λ count. IsFileMade p name count old new)
   pub err : IfErr written (λ why. IsFileHalted p name why old new)
 
 pub carried_out : (p : Plan) (name : Text) (work : Work) (written : Result ℕ Halt) (blocks : ℕ) (tape : List TapeEntry) (old new : Meaning) → IsPlan p → blocks ≡ length p.jobs → IsTapeOf work p.blocks tape
-    → OnOk written (length tape ≡ length p.blocks) → IfOk written (λ count. IsFileMade p name count old new) → IfErr written (λ why. IsFileHalted p name why old new)
+    → OnOk written (length tape ≡ length p.blocks) → IfErr written (λ why. IsTapedTo p why (length tape)) → IfOk written (λ count. IsFileMade p name count old new) → IfErr written (λ why. IsFileHalted p name why old new)
     → IsCarriedOut p name work written blocks tape old new
-carried_out p name work written blocks tape old new plan count of whole ok err = record { plan = plan; count = count ∙ plan.all; tape = of; whole = whole; ok = ok; err = err }
+carried_out p name work written blocks tape old new plan count of whole taped ok err = record { plan = plan; count = count ∙ plan.all; tape = of; whole = whole; taped = taped; ok = ok; err = err }
 
 halted_undone : (h : Halt) → status_of h ≡ status.Done → ⊥
 halted_undone (halt.Bad tile number) e = cc
@@ -72,30 +74,6 @@ same_plan s s' b b' w w' l l' jobs e f g h = rw (e, f, g, h) refl
 
 plan_is : (r : Rule) (s : Stream) (blocks : List Block) (w : Wanted) (p : Plan) → IsPlannedBy r s blocks w p → p ≡ plan_of s blocks w (layers_of_rule r s blocks) p.jobs
 plan_is r s blocks w p planned = same_plan p.stream s p.blocks blocks p.wanted w p.layers (layers_of_rule r s blocks) p.jobs planned.stream planned.blocks_are planned.wanted planned.layers
-
--- ---- rounds begin no later than their tiles, and later for later tiles
-next_start : (counts : ℕ → ℕ) (t : ℕ) (r : Round) → ((next_round counts t r).start ≡ t + 1) ⊎ ((next_round counts t r).start ≡ r.start)
-next_start counts t r = elim (cases_Bool (nat_le 4096 (r.before + counts t))) [
-  | inl full ↦ inl (rw full refl)
-  | inr more ↦ inr (rw more refl)
-]
-
-start_below : (counts : ℕ → ℕ) (t : ℕ) → (round_of counts t).start ≤ t
-start_below counts zero = omega arith
-start_below counts (suc t) = elim (next_start counts t (round_of counts t)) [
-  | inl next ↦ omega (arith, next)
-  | inr same ↦ omega (arith, same, start_below counts t)
-]
-
-start_grows : (counts : ℕ → ℕ) (a t : ℕ) → a ≤ t → (round_of counts a).start ≤ (round_of counts t).start
-start_grows counts a zero le = let e : a ≡ 0 = omega arith in rw e (omega arith)
-start_grows counts a (suc t) le = elim (cases_lt a (suc t)) [
-  | inl lt ↦ elim (next_start counts t (round_of counts t)) [
-    | inl next ↦ omega (arith, next, start_below counts a)
-    | inr same ↦ omega (arith, same, start_grows counts a t (omega arith))
-  ]
-  | inr ge ↦ let e : a ≡ suc t = omega arith in rw e (omega arith)
-]
 
 joined_file : (a b c d e : List ℕ) → ((a ++ (b ++ c)) ++ d) ++ e ≡ a ++ (b ++ (c ++ (d ++ (e ++ []))))
 joined_file a b c d e =
@@ -291,32 +269,47 @@ module _ (laws : Laws) (aim : Aim) (input : List ℕ) (s : Stream) (blocks : Lis
     taped : IsRunTape work input tape
     taped = inr (record { stream = s; blocks = blocks; reads = reads; of = of })
 
-    begun : (st : Status) → (IsVerdict st → ⊥) → Leaves name aim input st n bytes old new → IsFileBegun plan name old new → IsAnswered name work aim input st n bytes tape old new
-    begun st free leaves file = record {
+    begun : (st : Status) → (IsVerdict st → ⊥) → Leaves name aim input st n bytes old new → IsTapedAfter input st (length tape) → IsFileBegun plan name old new → IsAnswered name work aim input st n bytes tape old new
+    begun st free leaves to file = record {
       verdict = λ v. absurd (free v);
       leaves = leaves;
       unsaid = begun_short name n old new count file;
       tape = taped;
       whole = λ done. absurd (free (subst IsVerdict (sym done) tt));
+      taped = to;
     }
 
-    halted : (h : Halt) → IsFileHalted plan name h old new → IsAnswered name work aim input (status_of h) n bytes tape old new
-    halted (halt.Bad t number) file = record {
+    cut : EndWithRound plan (length tape) → IsTapedInPart input (length tape)
+    cut to = inr (in_rounds input plan (length tape) reads all to)
+
+    halted : (h : Halt) → IsFileHalted plan name h old new → IsTapedTo plan h (length tape) → IsAnswered name work aim input (status_of h) n bytes tape old new
+    halted (halt.Bad t number) file to = record {
       verdict = λ v. (within, bad_of t number file.bytes file.is);
       leaves = record { bytes = file.bytes; is = cut_by t number file.bytes file.is; stopped = file.stopped; count = counted n count };
       unsaid = stopped_short name n (halt.Bad t number) t old new count file;
       tape = taped;
       whole = λ done. absurd (halted_undone (halt.Bad t number) done);
+      taped = record {
+        stream = s;
+        blocks = blocks;
+        reads = reads;
+        tile = t;
+        inside = file.is.inside;
+        from = file.is.spoiled.1.from;
+        below = file.is.spoiled.1.below;
+        count_is = to;
+      };
     }
-    halted (halt.TooLong t) file = record {
+    halted (halt.TooLong t) file to = record {
       verdict = λ v. (within, inl (refl, too_long_of t file.bytes file.is));
       leaves = inl (refl, record { bytes = file.bytes; is = cut_of t file.bytes file.is; stopped = file.stopped; count = counted n count });
       unsaid = stopped_short name n (halt.TooLong t) t old new count file;
       tape = taped;
       whole = λ done. absurd (halted_undone (halt.TooLong t) done);
+      taped = inl (refl, record { stream = s; blocks = blocks; reads = reads; inside = file.is.inside; count_is = to });
     }
-    halted halt.Failed file = begun status.WriteFault (λ v. v) (begun_short name n old new count file) file
-    halted halt.NoMemory file = begun status.NoMemory (λ v. v) (begun_short name n old new count file) file
+    halted halt.Failed file to = begun status.WriteFault (λ v. v) (begun_short name n old new count file) (cut to) file
+    halted halt.NoMemory file to = begun status.NoMemory (λ v. v) (begun_short name n old new count file) (cut to) file
 
     written : length tape ≡ length blocks → IsFileMade plan name bytes old new → IsAnswered name work aim input status.Done n bytes tape old new
     written whole file = record {
@@ -325,12 +318,13 @@ module _ (laws : Laws) (aim : Aim) (input : List ℕ) (s : Stream) (blocks : Lis
       unsaid = inr (inr (record { within = within; count = counted n count; stands = inr (file.bytes, rewritten_of file.bytes file.whole, file.made) }));
       tape = taped;
       whole = λ done. counted (length tape) whole;
+      taped = counted (length tape) whole;
     }
 
   pub answered : (name : Text) (work : Work) (wrote : Result ℕ Halt) (st : Status) (n bytes : ℕ) (tape : List TapeEntry) (old new : Meaning) → IsCarriedOut plan name work wrote n tape old new
       → IsEndOf wrote st bytes → IsAnswered name work aim input st n bytes tape old new
   answered name work (Ok count) st n bytes tape old new is ends = rw (ends.0, ends.1) (written name work n count tape old new is.count is.tape is.whole is.ok)
-  answered name work (Err why) st n bytes tape old new is ends = rw ends.0 (halted name work n bytes tape old new is.count is.tape why is.err)
+  answered name work (Err why) st n bytes tape old new is ends = rw ends.0 (halted name work n bytes tape old new is.count is.tape why is.err is.taped)
 
 answered_by_rule : Laws → (name : Text) (work : Work) (aim : Aim) (input : List ℕ) (s : Stream) (blocks : List Block) (p : Plan) (wrote : Result ℕ Halt) (st : Status) (n bytes : ℕ) (tape : List TapeEntry) (old new : Meaning)
     → MayBeWanted aim.wanted → (r : Rule) → rule_in aim s blocks ≡ Some r → IsPlannedBy r s blocks aim.wanted p → IsCarriedOut p name work wrote n tape old new → IsEndOf wrote st bytes → length input ≤ most_bytes

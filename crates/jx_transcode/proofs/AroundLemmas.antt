@@ -22,6 +22,7 @@ use Rattle.jx_rounds.specs.declared.tape.TapeEntry.{TapeEntry}
 use Rattle.jx_transcode.proofs.DoneLemmas.{undone, unfailed}
 use Rattle.jx_transcode.proofs.FiledLemmas.{untouched}
 use Rattle.jx_transcode.proofs.MakeLemmas.{IsOutOf, out_of}
+use Rattle.jx_transcode.proofs.TapeLemmas.{raised_taped, taped_late}
 
 -- ---- a file in pieces
 abbrev pub bytes_of : List (Bor (List ℕ)) → List ℕ
@@ -148,6 +149,7 @@ around_refused name called work kind aim input boxed s blocks bytes entries made
       leaves = inr (apart, untouched files);
       tape = is.answer.tape;
       whole = λ done. absurd (apart done);
+      taped = raised_taped (content input boxed) boxed.from s (length entries) is.answer.taped;
     }
 
 -- ---- a codestream with one
@@ -179,6 +181,7 @@ around_written name called work kind aim input boxed s late blocks bytes long en
       leaves = inl (tells.is, tells.count, subst (λ (x : Status). LeavesFile name (file_in kind input boxed out) x long old new) e stands);
       tape = is.answer.tape;
       whole = λ f. is.answer.whole refl;
+      taped = is.answer.taped;
     })
     by t (inr (inl e)) stands = rw e (record {
       within = within;
@@ -189,6 +192,7 @@ around_written name called work kind aim input boxed s late blocks bytes long en
       leaves = inl (tells.is, tells.count, subst (λ (x : Status). LeavesFile name (file_in kind input boxed out) x long old new) e stands);
       tape = is.answer.tape;
       whole = λ f. absurd (undone status.WriteFault tt f);
+      taped = taped_late (content input boxed) status.Done (length entries) is.answer.taped;
     })
     by t (inr (inr e)) stands = rw e (record {
       within = within;
@@ -199,6 +203,7 @@ around_written name called work kind aim input boxed s late blocks bytes long en
       leaves = inl (tells.is, tells.count, subst (λ (x : Status). LeavesFile name (file_in kind input boxed out) x long old new) e stands);
       tape = is.answer.tape;
       whole = λ f. absurd (undone status.NoMemory tt f);
+      taped = taped_late (content input boxed) status.Done (length entries) is.answer.taped;
     })
 
 -- ---- no codestream

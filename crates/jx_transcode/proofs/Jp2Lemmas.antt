@@ -17,6 +17,7 @@ use Rattle.jx_rounds.specs.declared.tape.TapeEntry.{TapeEntry}
 use Rattle.jx_transcode.proofs.DoneLemmas.{undone}
 use Rattle.jx_transcode.proofs.LeftLemmas.{IsFront, begun_after, made_after, untouched_twice, whole}
 use Rattle.jx_transcode.proofs.MakeLemmas.{limit_told}
+use Rattle.jx_transcode.proofs.TapeLemmas.{taped_late}
 
 -- ---- a front of a file is JP2 where the file is
 same_front : (bytes read : List ℕ) → read ≡ take (most_bytes + 1) bytes → take 12 read ≡ take 12 bytes
@@ -82,6 +83,7 @@ jp2_after name work kind aim input s blocks bytes tape a b c first (inr around) 
     leaves = around_after name kind aim input around.0 around.1.out s blocks bytes a b c first around.1.leaves;
     tape = around.1.tape;
     whole = around.1.whole;
+    taped = around.1.taped;
   },
 )
 
@@ -122,6 +124,7 @@ around_late late (inl e) name work kind aim input boxed s blocks bytes tape old 
   ];
   tape = is.tape;
   whole = λ done. absurd (undone status.WriteFault tt done);
+  taped = taped_late (content input boxed) s (length tape) is.taped;
 })
 around_late late (inr e) name work kind aim input boxed s blocks bytes tape old new is = rw e (record {
   within = is.within;
@@ -135,6 +138,7 @@ around_late late (inr e) name work kind aim input boxed s blocks bytes tape old 
   ];
   tape = is.tape;
   whole = λ done. absurd (undone status.NoMemory tt done);
+  taped = taped_late (content input boxed) s (length tape) is.taped;
 })
 
 before_late : (late : Status) → (late ≡ status.WriteFault) ⊎ (late ≡ status.NoMemory) → (input : List ℕ) (s : Status) (blocks : ℕ) (tape : List TapeEntry) (old new : Meaning)

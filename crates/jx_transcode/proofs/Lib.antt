@@ -2,6 +2,7 @@ mod DoneLemmas
 mod ReadLemmas
 mod SaidLemmas
 mod FiledLemmas
+mod TapeLemmas
 mod AnswerLemmas
 mod RefusedLemmas
 mod LeftLemmas

@@ -18,6 +18,7 @@ use Rattle.jx_transcode.specs.declared.status.Status.TheVariants as status
 use Rattle.jx_rounds.specs.declared.tape.TapeEntry.{TapeEntry}
 use Rattle.jx_transcode.proofs.DoneLemmas.{IsOther, undone, unfailed}
 use Rattle.jx_transcode.proofs.SaidLemmas.{read_said}
+use Rattle.jx_transcode.proofs.TapeLemmas.{taped_late}
 
 abbrev pub Rules : Type 0
 Rules = List ℕ → StreamFacts → Option Rule
@@ -77,7 +78,7 @@ out_of name aim input status.NoMemory blocks bytes new words read write leaves =
 refused_ready : (m : Make) (rule : Rules) (before after total : ℕ) → IsReadyToSay m rule status.NoMemory 0 before after total []
 refused_ready m rule before after total = record {
   out = [];
-  comes = record { verdict = λ no. absurd no; tells = inl refl; tape = inl refl; whole = λ done. absurd (undone status.NoMemory tt done) };
+  comes = record { verdict = λ no. absurd no; tells = inl refl; tape = inl refl; whole = λ done. absurd (undone status.NoMemory tt done); taped = inl refl };
   told = inl refl;
   unfailed = unfailed;
   numbers = λ done. absurd (undone status.NoMemory tt done);
@@ -107,13 +108,25 @@ made_said m rule s late blocks before after total entries fault_before fault_now
 made_said m rule s late blocks before after total entries fault_before fault_now files old new ready (inr (inl fault)) = rw fault.0 (record {
   files = refl;
   out = ready.out;
-  comes = record { verdict = λ no. absurd no; tells = ready.told; tape = ready.comes.tape; whole = λ done. absurd (undone status.WriteFault tt done) };
+  comes = record {
+    verdict = λ no. absurd no;
+    tells = ready.told;
+    tape = ready.comes.tape;
+    whole = λ done. absurd (undone status.WriteFault tt done);
+    taped = taped_late (input_of m) s (length entries) ready.comes.taped;
+  };
   said = fault.1;
 })
 made_said m rule s late blocks before after total entries fault_before fault_now files old new ready (inr (inr short)) = rw short.0 (record {
   files = refl;
   out = ready.out;
-  comes = record { verdict = λ no. absurd no; tells = ready.told; tape = ready.comes.tape; whole = λ done. absurd (undone status.NoMemory tt done) };
+  comes = record {
+    verdict = λ no. absurd no;
+    tells = ready.told;
+    tape = ready.comes.tape;
+    whole = λ done. absurd (undone status.NoMemory tt done);
+    taped = taped_late (input_of m) s (length entries) ready.comes.taped;
+  };
   said = inl short.1;
 })
 
@@ -154,7 +167,7 @@ made_ready : (name : List ℕ) (m : Make) (rule : Rules) (s : Status) (blocks be
 made_ready name m rule s blocks before bytes total entries new answer from words read write total_is =
     let o : IsOutOf name (aim_made rule) (input_of m) s blocks bytes new = out_of name (aim_made rule) (input_of m) s blocks bytes new words read write answer.leaves in record {
       out = o.out;
-      comes = record { verdict = answer.verdict; tells = o.tells; tape = answer.tape; whole = answer.whole };
+      comes = record { verdict = answer.verdict; tells = o.tells; tape = answer.tape; whole = answer.whole; taped = answer.taped };
       told = told_of name (aim_made rule) (input_of m) s blocks bytes new words read write answer.leaves;
       unfailed = write;
       numbers = λ done. (from, o.long done, total_is name o.out (o.made done));

@@ -1,5 +1,5 @@
 -- Runs on inputs of which a front was read, and with their line said.
-use Rattle.std.proofs.Common.{◌≡◌, ◌⊎◌, ◌<◌, ℕ, List, [], length, take, inl, inr, refl, subst, Option, IfSome, arith}
+use Rattle.std.proofs.Common.{◌≡◌, ◌⊎◌, ◌<◌, ℕ, List, [], length, take, inl, inr, ap, refl, subst, Option, IfSome, arith}
 use Rattle.std.proofs.lemmas.Bool.{cases_lt}
 use Rattle.jx_io.specs.Device.{Meaning, joined}
 use Rattle.jx_io.specs.declared.refused.Refused.{Refused}
@@ -22,6 +22,7 @@ use Rattle.jx_transcode.proofs.DoneLemmas.{undone}
 use Rattle.jx_transcode.proofs.Jp2Lemmas.{jp2_after, jp2_front, jp2_late, jp2_long, jp2_whole}
 use Rattle.jx_transcode.proofs.LeftLemmas.{cut_after, leaves_after, long_whole, short_told, told_whole, whole}
 use Rattle.jx_transcode.proofs.StatusLemmas.{unread_either}
+use Rattle.jx_transcode.proofs.TapeLemmas.{long_taped, taped_late}
 
 long_limit : (number found : ℕ) (read input : List ℕ) → most_bytes < length read → most_bytes < length input → PassesLimit read number found → PassesLimit input number found
 long_limit number found read input long whole (inl passed) = inl (whole, passed.1, passed.2)
@@ -95,6 +96,7 @@ ends_read request rule read s blocks bytes tape a b c front first bare jp2 none 
         leaves = leaves_after request.to aim read s blocks bytes a b c first (bare not).leaves;
         tape = (bare not).tape;
         whole = (bare not).whole;
+        taped = (bare not).taped;
       };
       jp2 = λ is. jp2_after request.to request.work request.form aim read s blocks bytes tape a b c first (jp2 is);
     };
@@ -113,6 +115,7 @@ ends_read request rule read s blocks bytes tape a b c front first bare jp2 none 
             leaves = leaves_after request.to aim input s blocks bytes a b c first (long_leaves request.to aim s read input blocks bytes b c long long_input (of not).verdict (of not).leaves);
             tape = inl (none long);
             whole = λ done. absurd (never_done aim s read long (of not).verdict done);
+            taped = long_taped aim s read input (length tape) long (of not).verdict (ap (λ (t : List TapeEntry). length t) (none long));
           };
           jp2 = λ is. jp2_long request.to request.work request.form aim read input s blocks bytes tape a b c long long_input first (jp2 (jp2_front (joined (a.holds request.from)) read front is));
         };
@@ -126,7 +129,7 @@ ends_unread request rule s a b (inl e) same = rw e (record {
   input = whole (joined (a.holds request.from)) [];
   files = record {
     told = told_whole (joined (a.holds request.from)) [];
-    bare = λ not. record { verdict = λ no. absurd no; leaves = (refl, same); tape = inl refl; whole = λ done. absurd (undone status.ReadFault tt done) };
+    bare = λ not. record { verdict = λ no. absurd no; leaves = (refl, same); tape = inl refl; whole = λ done. absurd (undone status.ReadFault tt done); taped = refl };
     jp2 = λ is. inl (record { verdict = λ no. absurd no; none = refl; tape = refl; same = same });
   };
   unsaid = λ not. inl (refl, same);
@@ -135,7 +138,7 @@ ends_unread request rule s a b (inr e) same = rw e (record {
   input = whole (joined (a.holds request.from)) [];
   files = record {
     told = told_whole (joined (a.holds request.from)) [];
-    bare = λ not. record { verdict = λ no. absurd no; leaves = inl (refl, same); tape = inl refl; whole = λ done. absurd (undone status.NoMemory tt done) };
+    bare = λ not. record { verdict = λ no. absurd no; leaves = inl (refl, same); tape = inl refl; whole = λ done. absurd (undone status.NoMemory tt done); taped = inl refl };
     jp2 = λ is. inl (record { verdict = λ no. absurd no; none = refl; tape = refl; same = same });
   };
   unsaid = λ not. inl (refl, same);
@@ -167,7 +170,13 @@ ends_said request rule s late blocks bytes tape fault_before fault_now old new b
   bytes = bytes;
   files = record {
     told = ends.files.told;
-    bare = λ not. record { verdict = λ no. absurd no; leaves = ends.unsaid not; tape = (ends.files.bare not).tape; whole = λ done. absurd (undone status.WriteFault tt done) };
+    bare = λ not. record {
+      verdict = λ no. absurd no;
+      leaves = ends.unsaid not;
+      tape = (ends.files.bare not).tape;
+      whole = λ done. absurd (undone status.WriteFault tt done);
+      taped = taped_late ends.input s (length tape) (ends.files.bare not).taped;
+    };
     jp2 = λ is. jp2_late status.WriteFault (inl refl) request.to request.work request.form (aim_of request rule) ends.input s blocks bytes tape old new (ends.files.jp2 is);
   };
   said = fault.1;
@@ -177,7 +186,13 @@ ends_said request rule s late blocks bytes tape fault_before fault_now old new b
   bytes = bytes;
   files = record {
     told = ends.files.told;
-    bare = λ not. record { verdict = λ no. absurd no; leaves = ends.unsaid not; tape = (ends.files.bare not).tape; whole = λ done. absurd (undone status.NoMemory tt done) };
+    bare = λ not. record {
+      verdict = λ no. absurd no;
+      leaves = ends.unsaid not;
+      tape = (ends.files.bare not).tape;
+      whole = λ done. absurd (undone status.NoMemory tt done);
+      taped = taped_late ends.input s (length tape) (ends.files.bare not).taped;
+    };
     jp2 = λ is. jp2_late status.NoMemory (inr refl) request.to request.work request.form (aim_of request rule) ends.input s blocks bytes tape old new (ends.files.jp2 is);
   };
   said = inl short.1;

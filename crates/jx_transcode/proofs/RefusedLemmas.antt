@@ -37,7 +37,7 @@ refused_short name aim input mm = inl (refl, untouched mm)
 
 no_plan : (name : Text) (work : Work) (aim : Aim) (input : List ℕ) (mm : Meaning) → IsAnswered name work aim input status.NoMemory 0 0 [] mm mm
 no_plan name work aim input mm =
-    record { verdict = λ v. absurd v; leaves = refused_short name aim input mm; unsaid = refused_short name aim input mm; tape = inl refl; whole = λ done. absurd (undone status.NoMemory tt done) }
+    record { verdict = λ v. absurd v; leaves = refused_short name aim input mm; unsaid = refused_short name aim input mm; tape = inl refl; whole = λ done. absurd (undone status.NoMemory tt done); taped = inl refl }
 
 -- there is no limit but 7, and choice 7 isn't among the choices of a plan
 IsBelow : PlanFault → Type 0
@@ -111,6 +111,7 @@ answered_unplanned name work aim input s blocks (unplanned.Limit number found) n
   unsaid = over_short name aim input s blocks (unplanned.Limit number found) n mm (λ e. cc) cause count within reads;
   tape = inl refl;
   whole = λ done. absurd (undone (status.Limit number found) tt done);
+  taped = refl;
 }
 answered_unplanned name work aim input s blocks (unplanned.Choice number place) n mm cause count within reads = record {
   verdict = λ v. (within, inr (is_unplanned aim input s blocks (unplanned.Choice number place) cause reads));
@@ -118,25 +119,27 @@ answered_unplanned name work aim input s blocks (unplanned.Choice number place) 
   unsaid = over_short name aim input s blocks (unplanned.Choice number place) n mm (λ e. cc) cause count within reads;
   tape = inl refl;
   whole = λ done. absurd (undone (status.Choice number place) tt done);
+  taped = inr (choice_below (rule_in aim s blocks) s blocks aim.wanted number place cause, refl);
 }
 answered_unplanned name work aim input s blocks unplanned.NoMemory n mm cause count within reads = no_plan name work aim input mm
 
 pub refused : (name : Text) (work : Work) (aim : Aim) (input : List ℕ) (f : StreamFault) (mm : Meaning) → length input ≤ most_bytes → IsInputCause input f
     → IsAnswered name work aim input (told_by f) 0 0 [] mm mm
 refused name work aim input (fault.Rule number place) mm within cause =
-    record { verdict = λ v. (within, cause); leaves = (refl, untouched mm); unsaid = refused_short name aim input mm; tape = inl refl; whole = λ done. absurd (undone (status.Rule number place) tt done) }
+    record { verdict = λ v. (within, cause); leaves = (refl, untouched mm); unsaid = refused_short name aim input mm; tape = inl refl; whole = λ done. absurd (undone (status.Rule number place) tt done); taped = refl }
 refused name work aim input (fault.Limit number found) mm within cause = record {
   verdict = λ v. inl (inr (within, cause));
   leaves = (inr (stop_told input (fault.Limit number found) cause, refl), untouched mm);
   unsaid = refused_short name aim input mm;
   tape = inl refl;
   whole = λ done. absurd (undone (status.Limit number found) tt done);
+  taped = refl;
 }
 refused name work aim input fault.NoMemory mm within cause = no_plan name work aim input mm
 
 pub too_long : (name : Text) (work : Work) (aim : Aim) (input : List ℕ) (mm : Meaning) → most_bytes < length input → IsAnswered name work aim input (status.Limit 1 268435457) 0 0 [] mm mm
 too_long name work aim input mm long =
-    record { verdict = λ v. inl (inl (long, refl, refl)); leaves = (inr (omega arith, refl), untouched mm); unsaid = refused_short name aim input mm; tape = inl refl; whole = λ done. absurd (undone (status.Limit 1 268435457) tt done) }
+    record { verdict = λ v. inl (inl (long, refl, refl)); leaves = (inr (omega arith, refl), untouched mm); unsaid = refused_short name aim input mm; tape = inl refl; whole = λ done. absurd (undone (status.Limit 1 268435457) tt done); taped = refl }
 
 tile_cause : (input : List ℕ) (s : Stream) (e : StreamFault) → IsRead input s → HasCause (IsBroken input s) e → IsInputCause input e
 tile_cause input s (fault.Rule number place) read broken = inr (record { stream = s; read = read; broken = broken })

@@ -13,7 +13,7 @@ use Rattle.jx_cli.specs.Words.{Text}
 use Rattle.jx_options.specs.Work.{Work}
 use Rattle.jx_rounds.specs.declared.tape.TapeEntry.{TapeEntry}
 use Rattle.jx_transcode.specs.Rewritten.{HasBlocks}
-use Rattle.jx_transcode.specs.RunTapes.{IsRunTape}
+use Rattle.jx_transcode.specs.RunTapes.{IsRunTape, IsTapedAfter}
 use Rattle.jx_rounds.specs.declared.halt.Halt.{Halt}
 use Rattle.jx_rounds.specs.declared.halt.Halt.TheVariants as halt
 use Rattle.jx_transcode.specs.declared.status.Status.{Status}
@@ -50,6 +50,7 @@ pub record IsAnswered (name : Text) (work : Work) (aim : Aim) (input : List ℕ)
   pub unsaid : IsCutShort name aim input blocks old new
   pub tape : IsRunTape work input entries
   pub whole : s ≡ status.Done → HasBlocks input (length entries)
+  pub taped : IsTapedAfter input s (length entries)
 
 -- the status of a file that wasn't written to its end
 abbrev pub status_of : Halt → Status

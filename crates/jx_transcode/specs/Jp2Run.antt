@@ -14,7 +14,7 @@ use Rattle.jx_transcode.specs.Aims.{Aim}
 use Rattle.jx_transcode.specs.MakeRun.{TellsMade}
 use Rattle.jx_transcode.specs.Outcome.{IsBegun, IsMade, IsUntouched, IsVerdict, Verdict, most_bytes}
 use Rattle.jx_transcode.specs.Rewritten.{HasBlocks, IsRewritten}
-use Rattle.jx_transcode.specs.RunTapes.{IsRunTape}
+use Rattle.jx_transcode.specs.RunTapes.{IsRunTape, IsTapedAfter}
 use Rattle.jx_transcode.specs.declared.status.Status.{Status}
 use Rattle.jx_transcode.specs.declared.status.Status.TheVariants as status
 use Rattle.jx_rounds.specs.declared.tape.TapeEntry.{TapeEntry}
@@ -88,6 +88,7 @@ pub record EndsAround (name : Text) (work : Work) (kind : FormChoice) (aim : Aim
   pub leaves : LeavesAround name kind aim input boxed out s blocks bytes old new
   pub tape : IsRunTape work (content input boxed) entries
   pub whole : s ≡ status.Done → HasBlocks (content input boxed) (length entries)
+  pub taped : IsTapedAfter (content input boxed) s (length entries)
 
 -- how a run ends that comes to no codestream: nothing is made
 pub record EndsBefore (input : List ℕ) (s : Status) (blocks : ℕ) (entries : List TapeEntry) (old new : Meaning) : Type 0 where

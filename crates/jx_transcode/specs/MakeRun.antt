@@ -15,7 +15,7 @@ use Rattle.jx_options.specs.Work.{Work}
 use Rattle.jx_transcode.specs.Aims.{Aim}
 use Rattle.jx_transcode.specs.Outcome.{IsLimited, IsVerdict, Says, Verdict, line_of}
 use Rattle.jx_transcode.specs.Rewritten.{HasBlocks, IsKept, IsRewritten}
-use Rattle.jx_transcode.specs.RunTapes.{IsRunTape}
+use Rattle.jx_transcode.specs.RunTapes.{IsRunTape, IsTapedAfter}
 use Rattle.jx_transcode.specs.declared.status.Status.{Status}
 use Rattle.jx_transcode.specs.declared.status.Status.TheVariants as status
 use Rattle.jx_rounds.specs.declared.tape.TapeEntry.{TapeEntry}
@@ -87,6 +87,8 @@ pub record ComesOut (m : Make) (rule : List ℕ → StreamFacts → Option Rule)
   pub tape : IsRunTape work_made (input_of m) entries
   -- and those of all blocks after Done
   pub whole : s ≡ status.Done → HasBlocks (input_of m) (length entries)
+  -- and how many after each status
+  pub taped : IsTapedAfter (input_of m) s (length entries)
 
 -- how a run over good words of `make` ends: no file is touched
 pub record EndsMade (m : Make) (rule : List ℕ → StreamFacts → Option Rule) (s : Status) (blocks : ℕ) (entries : List TapeEntry) (old new : Meaning) (before now : Option (List ℕ)) : Type 0 where

@@ -11,7 +11,7 @@ use Rattle.jx_transcode.specs.Aims.{Aim}
 use Rattle.jx_transcode.specs.Jp2Run.{EndsJp2, KeepsPositions}
 use Rattle.jx_transcode.specs.Outcome.{IsVerdict, Leaves, Says, Verdict, line_of}
 use Rattle.jx_transcode.specs.Rewritten.{HasBlocks}
-use Rattle.jx_transcode.specs.RunTapes.{IsRunTape}
+use Rattle.jx_transcode.specs.RunTapes.{IsRunTape, IsTapedAfter}
 use Rattle.jx_transcode.specs.declared.status.Status.{Status}
 use Rattle.jx_transcode.specs.declared.status.Status.TheVariants as status
 use Rattle.jx_rounds.specs.declared.tape.TapeEntry.{TapeEntry}
@@ -28,6 +28,8 @@ pub record EndsBare (name : Text) (work : Work) (aim : Aim) (input : List ℕ) (
   pub tape : IsRunTape work input entries
   -- and those of all blocks after Done
   pub whole : s ≡ status.Done → HasBlocks input (length entries)
+  -- and how many after each status
+  pub taped : IsTapedAfter input s (length entries)
 
 -- how a run over good words ends on an input, which is what the file named IN holds at the beginning, where that is told
 pub record EndsOn (request : Request) (rule : List ℕ → StreamFacts → Option Rule) (input : List ℕ) (s : Status) (blocks bytes : ℕ) (entries : List TapeEntry) (old new : Meaning) : Type 0 where

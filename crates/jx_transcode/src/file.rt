@@ -4,6 +4,7 @@ ghost use Rattle.std.specs.Prelude.{◌≡◌, ◌<◌, [], length, IfOk, IfErr,
 ghost use Rattle.jx_io.specs.Causes.{Rose};
 ghost use Rattle.jx_options.specs.Work.{MayBeWork};
 ghost use Rattle.jx_plan.specs.Plan.{IsPlan};
+ghost use Rattle.jx_rounds.specs.Rounds.{IsTapedTo};
 ghost use Rattle.jx_rounds.specs.Tapes.{IsTapeOf};
 ghost use Rattle.jx_transcode.specs.Filed.{IsFileHalted, IsFileMade};
 
@@ -38,6 +39,7 @@ pub fn write_file<R: Threads + Wait + Sync, G: Gate + Sync, F: Files>(
     ensures err { IfErr result (λ h. IsFileHalted plan.now to.now h (F.meaning files.old) (F.meaning files.new)) }
     ensures tape { IsTapeOf crew.now.work plan.now.blocks tape.new.items }
     ensures whole { OnOk result (length tape.new.items ≡ length plan.now.blocks) }
+    ensures taped { IfErr result (λ h. IsTapedTo plan.now h (length tape.new.items)) }
     ensures cause { IsErrOf result Halt.Failed → Rose (F.write_faults files.old) (F.write_faults files.new) }
     ensures rose { F.write_faults files.old < F.write_faults files.new → IsErrOf result Halt.Failed }
     ensures other { F.read_faults files.new ≡ F.read_faults files.old }

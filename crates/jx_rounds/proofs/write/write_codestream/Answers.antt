@@ -1,7 +1,7 @@
-use Rattle.std.proofs.Common.{◌∙◌}
+use Rattle.std.proofs.Common.{◌∙◌, inr, refl}
 use Rattle.std.proofs.lemmas.Result.{IfErr-weaker, IfOk-weaker, on_ok_weaker}
-use Rattle.jx_rounds.proofs.TapedLemmas.{tape_none}
-use Rattle.jx_rounds.proofs.WriteLemmas.{front_after, halted_after, header_cut, same_err}
+use Rattle.jx_rounds.proofs.TapedLemmas.{fault_taped, tape_none}
+use Rattle.jx_rounds.proofs.WriteLemmas.{first_ends, first_place, front_after, halted_after, header_cut, same_err}
 use Rattle.jx_rounds.proofs.write.write_codestream.Goals as goal
 
 pub write_tiles-requires-clause-may : goal.write_tiles-requires-clause-may
@@ -68,3 +68,13 @@ returns-in-Err-write_tiles-clause-rose g c = rw (← c.in-Ok.ensures.same) c.in-
 
 pub returns-in-Err-clause-rose : goal.returns-in-Err-clause-rose
 returns-in-Err-clause-rose g c = λ rose. same_err _ _ (c.in-Err.ensures.rose rose)
+
+pub returns-in-Ok-write_tiles-clause-taped : goal.returns-in-Ok-write_tiles-clause-taped
+returns-in-Ok-write_tiles-clause-taped g c =
+    IfErr-weaker c.write_end.result _ _ (λ h fault. fault_taped c.args.making.now _ _ h fault c.in-Ok-write_tiles.ensures.last (inr refl)) c.write_end.ensures.fault
+
+pub returns-in-Err-write_tiles-clause-taped : goal.returns-in-Err-write_tiles-clause-taped
+returns-in-Err-write_tiles-clause-taped g c = c.in-Err-write_tiles.ensures.taped
+
+pub returns-in-Err-clause-taped : goal.returns-in-Err-clause-taped
+returns-in-Err-clause-taped g c = rw c.requires.empty (fault_taped c.args.making.now 0 0 c.in-Err.halt c.in-Err.ensures.fault (first_place c.args.making.now) (first_ends c.args.making.now))

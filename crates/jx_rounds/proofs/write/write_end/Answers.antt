@@ -13,3 +13,6 @@ returns-in-Ok-clause-ok g c =
 pub returns-in-Err-clause-err : goal.returns-in-Err-clause-err
 returns-in-Err-clause-err g c =
     λ p first front. eoc_cut p c.args.before c.in-Err.halt first (g.W.ByteWriter.written c.args.writer.now) (g.W.ByteWriter.written c.put.new.writer) front c.in-Err.ensures.fault c.in-Err.ensures.front
+
+pub returns-in-Err-clause-fault : goal.returns-in-Err-clause-fault
+returns-in-Err-clause-fault g c = c.in-Err.ensures.fault

@@ -1,5 +1,6 @@
 use Rattle.jx_rounds.specs.MadeRounds.{parts_of}
 use Rattle.jx_rounds.proofs.WriteLemmas.{cut_none, cut_round, round_written, same_err, unmade_unwritten}
+use Rattle.jx_rounds.proofs.TapedLemmas.{fault_round, unmade_round}
 use Rattle.jx_rounds.proofs.write.write_round.Goals as goal
 
 pub returns-in_default-clause-err : goal.returns-in_default-clause-err
@@ -48,3 +49,9 @@ returns-clause-other g c = c.put_tiles.ensures.other
 
 pub returns-clause-rose : goal.returns-clause-rose
 returns-clause-rose g c = λ rose. same_err _ _ (c.in-Err-put_tiles.ensures.rose rose)
+
+pub returns-in-Err-clause-round : goal.returns-in-Err-clause-round
+returns-in-Err-clause-round g c = unmade_round c.args.making.now c.args.mark.tile c.in-Err.halt c.in-Err.ensures.unmade
+
+pub returns-clause-round : goal.returns-clause-round
+returns-clause-round g c = fault_round c.args.making.now c.args.mark.tile c.in-Err-put_tiles.halt c.in-Err-put_tiles.ensures.fault

@@ -1,6 +1,6 @@
 use Rattle.std.proofs.Common.{arith, ◌∙◌, refl}
 use Rattle.jx_rounds.proofs.WriteLemmas.{begins_at, first_ends, first_place, rounds_all, rounds_none, rounds_then, same_err, unwritten_after}
-use Rattle.jx_rounds.proofs.TapedLemmas.{first_tape, whole_tape}
+use Rattle.jx_rounds.proofs.TapedLemmas.{first_tape, last_place, taped_to, whole_tape}
 use Rattle.jx_rounds.proofs.write.write_tiles.Goals as goal
 
 pub loop-mark-init : goal.loop-mark-init
@@ -61,3 +61,11 @@ returns-in-Err-clause-rose g c = λ rose. same_err _ _ (c.in-Err.ensures.rose (r
 
 pub returns-clause-rose : goal.returns-clause-rose
 returns-clause-rose g c = λ rose. absurd (omega (arith, c.loop-mark.invariant.same, rose))
+
+pub returns-in-Err-clause-taped : goal.returns-in-Err-clause-taped
+returns-in-Err-clause-taped g c = rw c.in-Err.ensures.kept
+    (taped_to c.args.making.now c.args.crew.now.work c.loop-mark.mark.tile c.loop-mark.mark.block c.in-Err.halt c.loop-mark.tape.items c.loop-mark.invariant.place c.loop-mark.invariant.ends c.loop-mark.invariant.tape c.in-Err.ensures.round)
+
+pub returns-clause-last : goal.returns-clause-last
+returns-clause-last g c = last_place c.args.making.now c.args.crew.now.work c.loop-mark.mark.tile c.loop-mark.mark.block c.loop-mark.tape.items c.loop-mark.invariant.place
+    (omega (arith, c.tile_count-tiles.ensures.count, c.loop-mark-test.false)) c.loop-mark.invariant.tape

@@ -1,7 +1,8 @@
 use Rattle.std.proofs.Common.{arith, ◌∙◌, IsTrue, ap, subst, sym}
 use Rattle.jx_rounds.specs.FileBytes.{Device}
-use Rattle.jx_rounds.proofs.TapedLemmas.{tape_none}
-use Rattle.jx_rounds.proofs.WriteLemmas.{halt_fault, refused_cause, refused_rose, unrisen}
+use Rattle.jx_rounds.specs.declared.halt.Halt.TheVariants as halt
+use Rattle.jx_rounds.proofs.TapedLemmas.{fault_taped, tape_none, whole_taped}
+use Rattle.jx_rounds.proofs.WriteLemmas.{first_ends, first_place, halt_fault, refused_cause, refused_rose, unrisen}
 use Rattle.jx_transcode.proofs.FiledLemmas.{created_making, file_halted, file_made, file_uncreated, file_unfinished, nothing_begun}
 use Rattle.jx_transcode.proofs.file.write_file.Goals as goal
 
@@ -101,3 +102,23 @@ returns-in-Ok-write_codestream-clause-rose g c = rw (← unrisen _ _ _ c.in-Ok-c
 
 pub returns-clause-rose : goal.returns-clause-rose
 returns-clause-rose g c = rw (← unrisen _ _ _ c.in-Ok-create.ensures.cause) c.in-Err-write_codestream.ensures.rose
+
+pub returns-in_default-clause-taped : goal.returns-in_default-clause-taped
+returns-in_default-clause-taped g c = rw c.requires.empty (fault_taped c.args.plan.now 0 0 halt.NoMemory tt (first_place c.args.plan.now) (first_ends c.args.plan.now))
+
+pub returns-in_default-main_view-clause-taped : goal.returns-in_default-main_view-clause-taped
+returns-in_default-main_view-clause-taped g c = rw c.requires.empty (fault_taped c.args.plan.now 0 0 halt.NoMemory tt (first_place c.args.plan.now) (first_ends c.args.plan.now))
+
+pub returns-in_default-with_capacity-clause-taped : goal.returns-in_default-with_capacity-clause-taped
+returns-in_default-with_capacity-clause-taped g c = rw c.requires.empty (fault_taped c.args.plan.now 0 0 halt.NoMemory tt (first_place c.args.plan.now) (first_ends c.args.plan.now))
+
+pub returns-in-Err-clause-taped : goal.returns-in-Err-clause-taped
+returns-in-Err-clause-taped g c = rw c.requires.empty
+    (fault_taped c.args.plan.now 0 0 c.halt_of.result (halt_fault c.halt_of.result c.in-Err.refused c.halt_of.ensures) (first_place c.args.plan.now) (first_ends c.args.plan.now))
+
+pub returns-in-Ok-write_codestream-clause-taped : goal.returns-in-Ok-write_codestream-clause-taped
+returns-in-Ok-write_codestream-clause-taped g c = whole_taped c.args.plan.now _ c.halt_of-in-Err-finish.result c.requires.plan
+    (halt_fault c.halt_of-in-Err-finish.result c.in-Err-finish.refused c.halt_of-in-Err-finish.ensures) (rw c.new-making.ensures at c.in-Ok-write_codestream.ensures.whole)
+
+pub returns-clause-taped : goal.returns-clause-taped
+returns-clause-taped g c = rw c.new-making.ensures at c.in-Err-write_codestream.ensures.taped

@@ -1,0 +1,112 @@
+-- Where rounds begin, and where the tape ends.
+use Rattle.std.proofs.Common.{◌≡◌, ◌∙◌, ◌⊎◌, ◌<◌, ◌≤◌, ◌+◌, nat_le, ℕ, zero, suc, List, length, refl, ap, sym, arith, inl, inr}
+use Rattle.std.proofs.lemmas.Bool.{cases_Bool, cases_lt}
+use Rattle.jx_codestream.specs.declared.Stream.{Stream}
+use Rattle.jx_codestream.specs.First.{tile_number}
+use Rattle.jx_plan.specs.Plan.{Plan}
+use Rattle.jx_rounds.specs.Rounds.{EndWithRound}
+use Rattle.jx_rounds.specs.Tiles.{Round, blocks_in_tile, first_in_tile, next_round, round_of}
+use Rattle.jx_rounds.proofs.FrontLemmas.{blocks_are}
+use Rattle.jx_tile.specs.Totals.{block_total}
+use Rattle.jx_transcode.specs.Aims.{Aim}
+use Rattle.jx_transcode.specs.Jp2Run.{raised}
+use Rattle.jx_transcode.specs.Outcome.{IsVerdict, Verdict, most_bytes}
+use Rattle.jx_transcode.specs.Rewritten.{Reads, round_start}
+use Rattle.jx_transcode.specs.RunTapes.{IsTapedAfter, IsTapedInPart, IsTapedInRounds, IsTapedToRound}
+use Rattle.jx_transcode.specs.declared.status.Status.{Status}
+use Rattle.jx_transcode.specs.declared.status.Status.TheVariants as status
+
+-- ---- rounds begin no later than their tiles, and later for later tiles
+next_start : (counts : ℕ → ℕ) (t : ℕ) (r : Round) → ((next_round counts t r).start ≡ t + 1) ⊎ ((next_round counts t r).start ≡ r.start)
+next_start counts t r = elim (cases_Bool (nat_le 4096 (r.before + counts t))) [
+  | inl full ↦ inl (rw full refl)
+  | inr more ↦ inr (rw more refl)
+]
+
+pub start_below : (counts : ℕ → ℕ) (t : ℕ) → (round_of counts t).start ≤ t
+start_below counts zero = omega arith
+start_below counts (suc t) = elim (next_start counts t (round_of counts t)) [
+  | inl next ↦ omega (arith, next)
+  | inr same ↦ omega (arith, same, start_below counts t)
+]
+
+pub start_grows : (counts : ℕ → ℕ) (a t : ℕ) → a ≤ t → (round_of counts a).start ≤ (round_of counts t).start
+start_grows counts a zero le = let e : a ≡ 0 = omega arith in rw e (omega arith)
+start_grows counts a (suc t) le = elim (cases_lt a (suc t)) [
+  | inl lt ↦ elim (next_start counts t (round_of counts t)) [
+    | inl next ↦ omega (arith, next, start_below counts a)
+    | inr same ↦ omega (arith, same, start_grows counts a t (omega arith))
+  ]
+  | inr ge ↦ let e : a ≡ suc t = omega arith in rw e (omega arith)
+]
+
+-- the first tile of a round is that of its own round
+start_begins : (counts : ℕ → ℕ) (t : ℕ) → (round_of counts ((round_of counts t).start)).start ≡ (round_of counts t).start
+start_begins counts zero = refl
+start_begins counts (suc t) =
+    let start : ℕ → ℕ = λ n. (round_of counts n).start in
+    elim (next_start counts t (round_of counts t)) [
+      | inl next ↦ let here : start (suc t) ≡ suc t = omega (arith, next) in ap start here
+      | inr same ↦ let here : start (suc t) ≡ start t = same in ap start here ∙ start_begins counts t ∙ sym here
+    ]
+
+-- ---- the blocks before the round of a tile end with a round
+to_round : (s : Stream) (t entries : ℕ) → t < tile_number s.siz → entries ≡ first_in_tile s (round_start s t) → IsTapedToRound s entries
+to_round s t entries inside is =
+    record { tile = round_start s t; inside = omega (arith, inside, start_below (blocks_in_tile s) t); begins = start_begins (blocks_in_tile s) t; count_is = is }
+
+-- so do those of whole rounds of a plan
+pub in_rounds : (input : List ℕ) (p : Plan) (entries : ℕ) → Reads input p.stream p.blocks → length p.blocks ≡ block_total p.stream → EndWithRound p entries → IsTapedInRounds input entries
+in_rounds input p entries reads all is = record {
+  stream = p.stream;
+  blocks = p.blocks;
+  reads = reads;
+  ends = elim (cases_lt is.tile (tile_number p.stream.siz)) [
+    | inl lt ↦ elim is.ends [
+      | inl begins ↦ inr (record { tile = is.tile; inside = lt; begins = ap (λ (r : Round). r.start) begins; count_is = is.place.block_is })
+      | inr past ↦ absurd (omega (arith, past, lt))
+    ]
+    | inr ge ↦
+        let last : is.tile ≡ tile_number p.stream.siz = omega (arith, is.place.inside, ge) in
+        inl (is.place.block_is ∙ ap (first_in_tile p.stream) last ∙ sym (blocks_are p.stream) ∙ sym all)
+  ];
+}
+
+-- ---- where the line isn't said
+pub taped_late : (input : List ℕ) (s : Status) (entries : ℕ) → IsTapedAfter input s entries → IsTapedInPart input entries
+taped_late input status.Done entries is = inr (record { stream = is.stream; blocks = is.blocks; reads = is.reads; ends = inl is.count_is })
+taped_late input status.Words entries is = inl is
+taped_late input (status.Rule number place) entries is = inl is
+taped_late input (status.Limit number found) entries is = inl is
+taped_late input (status.Choice number place) entries (inl seven) =
+    inr (record { stream = seven.1.stream; blocks = seven.1.blocks; reads = seven.1.reads; ends = inr (to_round seven.1.stream place entries seven.1.inside seven.1.count_is) })
+taped_late input (status.Choice number place) entries (inr few) = inl few.1
+taped_late input (status.Block number) entries is =
+    inr (record { stream = is.stream; blocks = is.blocks; reads = is.reads; ends = inr (to_round is.stream is.tile entries is.inside is.count_is) })
+taped_late input status.ReadFault entries is = inl is
+taped_late input status.WriteFault entries is = is
+taped_late input status.NoMemory entries is = is
+
+-- ---- a front that is too long has no tape
+pub long_taped : (aim : Aim) (s : Status) (read input : List ℕ) (entries : ℕ) → most_bytes < length read → (IsVerdict s → Verdict aim read s) → entries ≡ 0 → IsTapedAfter input s entries
+long_taped aim status.Done read input entries long verdict none = absurd (omega (arith, (verdict tt).0, long))
+long_taped aim status.Words read input entries long verdict none = none
+long_taped aim (status.Rule number place) read input entries long verdict none = none
+long_taped aim (status.Limit number found) read input entries long verdict none = none
+long_taped aim (status.Choice number place) read input entries long verdict none = absurd (omega (arith, (verdict tt).0, long))
+long_taped aim (status.Block number) read input entries long verdict none = absurd (omega (arith, (verdict tt).0, long))
+long_taped aim status.ReadFault read input entries long verdict none = none
+long_taped aim status.WriteFault read input entries long verdict none = inl none
+long_taped aim status.NoMemory read input entries long verdict none = inl none
+
+-- ---- a place of a rule that is raised
+pub raised_taped : (input : List ℕ) (from : ℕ) (s : Status) (entries : ℕ) → IsTapedAfter input s entries → IsTapedAfter input (raised from s) entries
+raised_taped input from status.Done entries is = is
+raised_taped input from status.Words entries is = is
+raised_taped input from (status.Rule number place) entries is = is
+raised_taped input from (status.Limit number found) entries is = is
+raised_taped input from (status.Choice number place) entries is = is
+raised_taped input from (status.Block number) entries is = is
+raised_taped input from status.ReadFault entries is = is
+raised_taped input from status.WriteFault entries is = is
+raised_taped input from status.NoMemory entries is = is
