@@ -3,7 +3,7 @@ pub mod Codestream
 pub mod Lines
 pub mod Trees
 pub mod Wrapped
--- Inner: no other crate cites these.
 pub mod Positions
+-- Inner: no other crate cites these.
 pub mod Heads
 pub mod Kinds
