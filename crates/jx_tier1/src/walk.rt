@@ -12,8 +12,10 @@ ghost use Rattle.jx_tier1.specs.Walking.{by_label, Ends, IsNow};
 
 use crate::answering::Answering;
 use crate::marks::Marks;
-use crate::walk_runs::cleanup;
-use crate::walk_steps::{refinement, significance};
+use crate::walk_rows::{
+    cleanup_place, four_cleanup, four_refinement, four_significance, refinement_place,
+    significance_place,
+};
 use jx_base::NoMemory;
 use jx_tier1_specs::Plane;
 
@@ -97,15 +99,15 @@ fn walk_place<S: Answering, K>(
         → OnOk result (Ends plane.planes (told (by_label S.answer) (pass_at pass plane g x y) source.old) marks.new source.new) }
 {
     if kind == 1 {
-        return significance(
-            source, marks, labels, turns, plane, x, y, at, columns, stripe,
+        return significance_place(
+            source, marks, labels, turns, plane, pass, x, y, at, columns, stripe,
         );
     }
     if kind == 2 {
-        return refinement(source, marks, plane, x, y, at, columns, stripe);
+        return refinement_place(source, marks, plane, pass, x, y, at, columns, stripe);
     }
-    cleanup(
-        source, marks, labels, turns, plane, x, y, at, columns, stripe,
+    cleanup_place(
+        source, marks, labels, turns, plane, pass, x, y, at, columns, stripe,
     )
 }
 
@@ -189,23 +191,17 @@ fn four_rows<S: Answering, K>(
     ensures walk { (g : Cells) → Shows plane.planes g marks.old → IsNow plane g
         → OnOk result (Ends plane.planes (told (by_label S.answer) (scanned pass plane 4 (first_of g x top 4) g) source.old) marks.new source.new) }
 {
-    let y = top;
-    let columns = walk_place::<S, K>(
-        source, marks, labels, turns, plane, pass, kind, x, y, at, seen, stripe,
-    )?;
-    let y = top + 1;
-    let columns = walk_place::<S, K>(
-        source, marks, labels, turns, plane, pass, kind, x, y, at, columns, stripe,
-    )?;
-    let y = top + 2;
-    let columns = walk_place::<S, K>(
-        source, marks, labels, turns, plane, pass, kind, x, y, at, columns, stripe,
-    )?;
-    let y = top + 3;
-    walk_place::<S, K>(
-        source, marks, labels, turns, plane, pass, kind, x, y, at, columns, stripe,
-    )?;
-    Ok(())
+    if kind == 1 {
+        return four_significance(
+            source, marks, labels, turns, plane, pass, x, top, at, seen, stripe,
+        );
+    }
+    if kind == 2 {
+        return four_refinement(source, marks, plane, pass, x, top, at, seen, stripe);
+    }
+    four_cleanup(
+        source, marks, labels, turns, plane, pass, x, top, at, seen, stripe,
+    )
 }
 
 /// The same, where nothing is looked at twice that asks nothing.

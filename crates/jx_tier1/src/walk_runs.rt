@@ -132,8 +132,8 @@ fn decide_place<S: Answering>(
     decide_named(source, marks, turns, plane, x, y, n, columns, stripe)
 }
 
-/// The run mode.
-#[inline(always)]
+/// The run mode. It is apart, since few places begin it.
+#[inline(never)]
 fn run<S: Answering>(
     source: &mut S,
     marks: &mut Marks,
@@ -163,9 +163,8 @@ fn run<S: Answering>(
     Ok(columns)
 }
 
-/// A cleanup pass at a place (T.800 D.3.4). It is apart, since with it `walk_place` would be so large
-/// that the compiler leaves none of the three kinds of passes inline.
-#[inline(never)]
+/// A cleanup pass at a place (T.800 D.3.4).
+#[inline(always)]
 pub(crate) fn cleanup<S: Answering>(
     source: &mut S,
     marks: &mut Marks,
