@@ -217,11 +217,13 @@ fn walk_column<S: Answering, K>(
     x: u16,
     top: u16,
     rows: u16,
+    at: usize,
 ) -> Result<(), NoMemory>
     requires kind { kind ≡ pass % 3 }
     requires labels { AreLabels plane.band labels.now }
     requires turns { AreTurns turns.now }
     requires place { IsSpot marks.old x top }
+    requires at { at ≡ spot marks.old (top / 4 + 1) (x + 1) }
     requires first { top % 4 ≡ 0 }
     requires rows { rows ≡ min 4 (marks.old.height - top) }
     ensures size { IsOfSize marks.old marks.new }
@@ -229,12 +231,11 @@ fn walk_column<S: Answering, K>(
         → OnOk result (Ends plane.planes (told (by_label S.answer) (scanned pass plane rows (first_of g x top rows) g) source.old) marks.new source.new) }
 {
     let stripe = top / 4 + 1;
-    let word = marks.rows(stripe, x + 1);
+    let word = marks.rows_there(at, stripe, x + 1);
     if is_over(marks, plane, pass, kind, x, top, rows, word) {
         return Ok(());
     }
-    let at = marks.spot(stripe, x + 1);
-    let columns = marks.window(plane.causal, stripe, x);
+    let columns = marks.window(plane.causal, at, stripe, x);
     if is_clear(marks, plane, pass, kind, x, top, rows, columns) {
         return Ok(());
     }
@@ -272,9 +273,11 @@ fn walk_stripe<S: Answering, K>(
         → OnOk result (Ends plane.planes (told (by_label S.answer) (scanned pass plane (g.width * min 4 (g.height - top)) (top * g.width) g) source.old) marks.new source.new) }
 {
     let rows = 4u16.min(marks.height() - top);
+    let first = marks.spot(top / 4 + 1, 1);
     for x in 0..marks.width() {
+        let at = first + usize::from(x);
         walk_column::<S, K>(
-            source, marks, labels, turns, plane, pass, kind, x, top, rows,
+            source, marks, labels, turns, plane, pass, kind, x, top, rows, at,
         )?;
     }
     Ok(())

@@ -74,11 +74,13 @@ fn decide_named<S: Answering>(
     x: u16,
     y: u16,
     n: u16,
+    at: usize,
     columns: u32,
     stripe: u16,
 ) -> Result<u32, NoMemory>
     requires turns { AreTurns turns.now }
     requires place { IsSpot marks.old x y }
+    requires at { at ≡ spot marks.old (y / 4 + 1) (x + 1) }
     requires first { y % 4 ≡ 0 }
     requires whole { y + 4 ≤ marks.old.height }
     requires few { n < 4 }
@@ -90,9 +92,9 @@ fn decide_named<S: Answering>(
         → OnOk result (Ends plane.planes (told (by_label S.answer) (named_at plane g x y n) source.old) marks.new source.new) }
 {
     let around = row_of(columns, n);
-    decide_sign(source, marks, turns, plane, x, y + n, stripe, around)?;
+    decide_sign(source, marks, turns, plane, x, y + n, at, stripe, around)?;
     zero_first(marks, plane, x, y, n);
-    Ok(marks.window(plane.causal, stripe, x))
+    Ok(marks.window(plane.causal, at, stripe, x))
 }
 
 /// The number that two bits name.
@@ -112,11 +114,13 @@ fn decide_place<S: Answering>(
     plane: Plane,
     x: u16,
     y: u16,
+    at: usize,
     columns: u32,
     stripe: u16,
 ) -> Result<u32, NoMemory>
     requires turns { AreTurns turns.now }
     requires place { IsSpot marks.old x y }
+    requires at { at ≡ spot marks.old (y / 4 + 1) (x + 1) }
     requires first { y % 4 ≡ 0 }
     requires whole { y + 4 ≤ marks.old.height }
     requires stripe { stripe ≡ y / 4 + 1 }
@@ -129,7 +133,7 @@ fn decide_place<S: Answering>(
     let high = source.answer(18, false)?;
     let low = source.answer(18, false)?;
     let n = number(high, low);
-    decide_named(source, marks, turns, plane, x, y, n, columns, stripe)
+    decide_named(source, marks, turns, plane, x, y, n, at, columns, stripe)
 }
 
 /// The run mode. It is apart, since few places begin it.
@@ -141,11 +145,13 @@ fn run<S: Answering>(
     plane: Plane,
     x: u16,
     y: u16,
+    at: usize,
     columns: u32,
     stripe: u16,
 ) -> Result<u32, NoMemory>
     requires turns { AreTurns turns.now }
     requires place { IsSpot marks.old x y }
+    requires at { at ≡ spot marks.old (y / 4 + 1) (x + 1) }
     requires first { y % 4 ≡ 0 }
     requires whole { y + 4 ≤ marks.old.height }
     requires stripe { stripe ≡ y / 4 + 1 }
@@ -157,7 +163,7 @@ fn run<S: Answering>(
 {
     let any = source.answer(17, false)?;
     if any {
-        return decide_place(source, marks, turns, plane, x, y, columns, stripe);
+        return decide_place(source, marks, turns, plane, x, y, at, columns, stripe);
     }
     zero_first(marks, plane, x, y, 4);
     Ok(columns)
@@ -189,7 +195,7 @@ pub(crate) fn cleanup<S: Answering>(
         → OnOk result (Ends plane.planes (told (by_label S.answer) (cleanup_at plane g x y) source.old) marks.new source.new) }
 {
     if is_run(marks, plane, x, y, columns, stripe) {
-        return run(source, marks, turns, plane, x, y, columns, stripe);
+        return run(source, marks, turns, plane, x, y, at, columns, stripe);
     }
     usual(
         source, marks, labels, turns, plane, x, y, at, columns, stripe,
