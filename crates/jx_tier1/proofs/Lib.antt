@@ -2,6 +2,7 @@ mod AddedLemmas
 mod AnswerLemmas
 mod CoefNotes
 mod CopyLemmas
+mod DoneLemmas
 mod DueLemmas
 mod EndLemmas
 mod FourLemmas

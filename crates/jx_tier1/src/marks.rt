@@ -197,6 +197,16 @@ impl Marks {
         self.digit(at, y / 4 + 1, x + 1, y % 4)
     }
 
+    /// The four notes of a column of a stripe, by where its words stand.
+    #[inline(always)]
+    pub fn notes_there(&self, at: usize, x: u16, y: u16) -> u32
+        requires place { IsSpot self.now x y }
+        requires at { at ≡ spot self.now (y / 4 + 1) (x + 1) }
+        ensures { result ≡ slice_index_or self.now.notes (spot self.now (y / 4 + 1) (x + 1)) 0 }
+    {
+        word_at(&self.notes, at)
+    }
+
     /// The note of a place, where its column's words stand.
     #[inline(always)]
     pub fn note_there(&self, at: usize, x: u16, y: u16) -> u16

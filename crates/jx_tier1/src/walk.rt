@@ -1,14 +1,14 @@
 //! A coding pass over a block that is marked, stripe by stripe (T.800, D.1).
 
-ghost use Rattle.std.specs.Prelude.{◌≡◌, ◌+◌, ◌-◌, ◌*◌, ◌/◌, ◌%◌, ◌<◌, ◌≤◌, ℕ, min, slice_index_or, IfOk, OnOk, IsTrue};
+ghost use Rattle.std.specs.Prelude.{◌≡◌, ◌+◌, ◌-◌, ◌*◌, ◌/◌, ◌%◌, ◌<◌, ◌≤◌, ℕ, min, ◌==◌, true, IfOk, OnOk, IsTrue};
 ghost use Rattle.jx_tier1_specs.specs.Cells.{Cells};
 ghost use Rattle.jx_tier1_specs.specs.Asking.{Told, told};
 ghost use Rattle.jx_tier1_specs.specs.Pass.{pass_at, scanned};
 ghost use Rattle.jx_tier1.specs.Numbers.{first_of};
 ghost use Rattle.jx_tier1.specs.Labels.{AreLabels};
-ghost use Rattle.jx_tier1.specs.Notes.{Marking, Shows, IsSpot, IsOfSize, spot, window_in};
+ghost use Rattle.jx_tier1.specs.Notes.{Marking, Shows, IsSpot, IsOfSize, spot, window_in, digit_in};
 ghost use Rattle.jx_tier1.specs.Turns.{AreTurns};
-ghost use Rattle.jx_tier1.specs.Walking.{by_label, Ends, IsNow};
+ghost use Rattle.jx_tier1.specs.Walking.{by_label, Ends, IsNow, parity};
 
 use crate::answering::Answering;
 use crate::marks::Marks;
@@ -16,10 +16,23 @@ use crate::walk_rows::{
     cleanup_place, four_cleanup, four_refinement, four_significance, refinement_place,
     significance_place,
 };
+use crate::walk_steps::parity;
 use jx_base::NoMemory;
 use jx_tier1_specs::Plane;
 
-/// Whether a pass has nothing to ask in a column of a stripe, by the column's six rows.
+/// Whether the bit of the plane was decided at all four places of a column of a stripe: by the lowest
+/// bits of their notes.
+#[inline(always)]
+fn are_done(marks: &Marks, plane: Plane, x: u16, top: u16, at: usize) -> bool
+    requires place { IsSpot marks.now x top }
+    requires at { at ≡ spot marks.now (top / 4 + 1) (x + 1) }
+    ensures { IsTrue result → (row : ℕ) → row < 4 → (digit_in marks.now (top / 4 + 1) (x + 1) row % 2 == parity plane) ≡ true }
+{
+    (marks.notes_there(at, x, top) & 585) == 585 * u32::from(parity(plane))
+}
+
+/// Whether a pass has nothing to ask in a column of a stripe, by the column's own words. What was
+/// significant before was decided when a cleanup pass comes, so that it looks at the notes alone.
 #[inline(always)]
 fn is_over(
     marks: &Marks,
@@ -29,16 +42,19 @@ fn is_over(
     x: u16,
     top: u16,
     rows: u16,
-    word: u32,
+    at: usize,
 ) -> bool
     requires kind { kind ≡ pass % 3 }
     requires place { IsSpot marks.now x top }
     requires stripe { top % 4 ≡ 0 }
     requires rows { rows ≡ min 4 (marks.now.height - top) }
-    requires word { word ≡ slice_index_or marks.now.sixes (spot marks.now (top / 4 + 1) (x + 1)) 0 }
-    ensures { (g : Cells) → Shows plane.planes g marks.now → IsTrue result → scanned pass plane rows (first_of g x top rows) g ≡ Told g }
+    requires at { at ≡ spot marks.now (top / 4 + 1) (x + 1) }
+    ensures { (g : Cells) → Shows plane.planes g marks.now → IsNow plane g → IsTrue result → scanned pass plane rows (first_of g x top rows) g ≡ Told g }
 {
-    let own = word / 8 % 4096;
+    if kind == 0 {
+        return are_done(marks, plane, x, top, at);
+    }
+    let own = marks.rows_there(at, top / 4 + 1, x + 1) / 8 % 4096;
     if kind == 2 {
         return own == 0;
     }
@@ -231,8 +247,7 @@ fn walk_column<S: Answering, K>(
         → OnOk result (Ends plane.planes (told (by_label S.answer) (scanned pass plane rows (first_of g x top rows) g) source.old) marks.new source.new) }
 {
     let stripe = top / 4 + 1;
-    let word = marks.rows_there(at, stripe, x + 1);
-    if is_over(marks, plane, pass, kind, x, top, rows, word) {
+    if is_over(marks, plane, pass, kind, x, top, rows, at) {
         return Ok(());
     }
     let columns = marks.window(plane.causal, at, stripe, x);
