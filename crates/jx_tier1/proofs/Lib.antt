@@ -6,6 +6,7 @@ mod DoneLemmas
 mod DueLemmas
 mod EndLemmas
 mod FourLemmas
+mod FourNotes
 mod FullLemmas
 mod JoinedLemmas
 mod LabelLemmas

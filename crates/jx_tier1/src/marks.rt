@@ -75,6 +75,19 @@ fn word_at(words: &[u16], index: usize) -> u32
     u32::from(words[index])
 }
 
+/// Puts the same note into each row of a word of notes.
+#[inline(always)]
+fn fill(words: &mut Vec<u16>, index: usize, note: u16)
+    requires within { index < length words.old.items }
+    requires few { note < 8 }
+    ensures words { words.new.items ≡ slice_set words.old.items index (slice_index_or words.old.items index 0 - slice_index_or words.old.items index 0 % 4096 + 585 * note) }
+    ensures within { index < length words.old.items }
+    ensures most { slice_index_or words.old.items index 0 < 65536 }
+{
+    let word = words[index];
+    words[index] = word - word % 4096 + 585 * note;
+}
+
 /// A mask of the rows of a column that are seen. A pass makes this choice once, where a choice between
 /// words would be made at each column.
 #[inline(always)]
@@ -252,6 +265,18 @@ impl Marks {
     {
         let word = put_note(self.notes[at], y % 4, note);
         self.notes[at] = word;
+    }
+
+    /// Notes the same at the four places of a column of a stripe.
+    #[inline(always)]
+    pub fn put_four(&mut self, at: usize, x: u16, y: u16, note: u16)
+        requires place { IsSpot self.old x y }
+        requires at { at ≡ spot self.old (y / 4 + 1) (x + 1) }
+        requires first { y % 4 ≡ 0 }
+        requires few { note < 8 }
+        ensures { self.new ≡ noted (noted (noted (noted self.old x y note) x (y + 1) note) x (y + 2) note) x (y + 3) note }
+    {
+        fill(&mut self.notes, at, note);
     }
 
     /// Where the words of a place's column stand in the other stripe that has the place's row, or in

@@ -65,6 +65,20 @@ fn zero_first(marks: &mut Marks, plane: Plane, x: u16, y: u16, count: u16)
     }
 }
 
+/// Notes that the four places of a column are decided to be 0.
+#[inline(always)]
+fn zero_four(marks: &mut Marks, plane: Plane, x: u16, y: u16, at: usize)
+    requires place { IsSpot marks.old x y }
+    requires at { at ≡ spot marks.old (y / 4 + 1) (x + 1) }
+    requires first { y % 4 ≡ 0 }
+    requires whole { y + 4 ≤ marks.old.height }
+    ensures size { IsOfSize marks.old marks.new }
+    ensures sixes { marks.new.sixes ≡ marks.old.sixes }
+    ensures walk { (g : Cells) → Shows plane.planes g marks.old → AreZeros 4 g x y → Shows plane.planes (zeroed plane 4 g x y) marks.new }
+{
+    marks.put_four(at, x, y, parity(plane));
+}
+
 /// Makes the named one of four places significant, and those above it 0.
 fn decide_named<S: Answering>(
     source: &mut S,
@@ -165,7 +179,7 @@ fn run<S: Answering>(
     if any {
         return decide_place(source, marks, turns, plane, x, y, at, columns, stripe);
     }
-    zero_first(marks, plane, x, y, 4);
+    zero_four(marks, plane, x, y, at);
     Ok(columns)
 }
 
