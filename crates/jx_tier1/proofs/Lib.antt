@@ -2,9 +2,11 @@ mod AddedLemmas
 mod AnswerLemmas
 mod CoefNotes
 mod CopyLemmas
+mod DoneLemmas
 mod DueLemmas
 mod EndLemmas
 mod FourLemmas
+mod FourNotes
 mod FullLemmas
 mod JoinedLemmas
 mod LabelLemmas

@@ -24,6 +24,7 @@ mod steps;
 mod turns;
 mod walk;
 mod walk_passes;
+mod walk_rows;
 mod walk_runs;
 mod walk_steps;
 mod writer;

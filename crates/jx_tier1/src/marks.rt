@@ -2,9 +2,10 @@
 
 ghost use Rattle.std.specs.Prelude.{◌≡◌, ◌+◌, ◌-◌, ◌*◌, ◌/◌, ◌%◌, ◌<◌, ◌≤◌, ◌==◌, length, slice_index_or, slice_set, if◌then◌else◌, IfOk};
 ghost use Rattle.jx_tier1.specs.Marks.{power};
+ghost use Rattle.jx_tier1.specs.Sixes.{beside};
 ghost use Rattle.jx_tier1.specs.Notes.{Marking, IsSpot, words_of, unmarked, spot, six_in, window_in, digit_in, note_in, replaced, noted, weighed, raised};
 
-use crate::field::{beside, digit, weight_beside};
+use crate::field::{digit, weight_beside};
 use jx_base::NoMemory;
 use std::alloc::Global;
 use std::marker::Model;
@@ -64,14 +65,36 @@ fn add(words: &mut Vec<u16>, index: usize, weight: u16)
     words[index] = word;
 }
 
-/// What the rows of a column that are seen stay below. A pass makes this choice once, where a choice
-/// between words would be made at each column.
+/// A word of a list.
 #[inline(always)]
-fn seen_below(causal: bool) -> u32
-    ensures limit { result ≡ (if causal then 32768 else 65536) }
-    ensures some { 0 < result }
+fn word_at(words: &[u16], index: usize) -> u32
+    requires { index < length words.now }
+    ensures word { result ≡ slice_index_or words.now index 0 }
+    ensures most { result < 65536 }
 {
-    if causal { 32768 } else { 65536 }
+    u32::from(words[index])
+}
+
+/// Puts the same note into each row of a word of notes.
+#[inline(always)]
+fn fill(words: &mut Vec<u16>, index: usize, note: u16)
+    requires within { index < length words.old.items }
+    requires few { note < 8 }
+    ensures words { words.new.items ≡ slice_set words.old.items index (slice_index_or words.old.items index 0 - slice_index_or words.old.items index 0 % 4096 + 585 * note) }
+    ensures within { index < length words.old.items }
+    ensures most { slice_index_or words.old.items index 0 < 65536 }
+{
+    let word = words[index];
+    words[index] = word - word % 4096 + 585 * note;
+}
+
+/// A mask of the rows of a column that are seen. A pass makes this choice once, where a choice between
+/// words would be made at each column.
+#[inline(always)]
+fn seen_rows(causal: bool) -> u32
+    ensures { result ≡ (if causal then 32767 else 65535) }
+{
+    if causal { 0x7FFF } else { 0xFFFF }
 }
 
 impl Marks {
@@ -115,57 +138,65 @@ impl Marks {
         usize::from(stripe) * (usize::from(self.width) + 2) + usize::from(column)
     }
 
-    /// Six rows of a column.
+    /// How many words a stripe has.
     #[inline(always)]
-    pub fn rows(&self, stripe: u16, column: u16) -> u32
+    pub fn wide(&self) -> usize
+        ensures { result ≡ self.now.width + 2 }
+    {
+        usize::from(self.width) + 2
+    }
+
+    /// Six rows of a column, by where its words stand.
+    #[inline(always)]
+    pub fn rows_there(&self, at: usize, stripe: u16, column: u16) -> u32
         requires stripe { stripe < (self.now.height + 3) / 4 + 2 }
         requires column { column < self.now.width + 2 }
-        ensures rows { result ≡ slice_index_or self.now.sixes (spot self.now stripe column) 0 }
+        requires at { at ≡ spot self.now stripe column }
+        ensures rows { result ≡ slice_index_or self.now.sixes at 0 }
         ensures most { result < 65536 }
     {
-        let index = self.spot(stripe, column);
-        let word = self.sixes[index];
-        u32::from(word)
+        word_at(&self.sixes, at)
     }
 
     /// The same without the row that isn't seen with causal contexts.
     #[inline(always)]
-    fn six(&self, causal: bool, stripe: u16, column: u16) -> u32
+    fn six(&self, causal: bool, at: usize, stripe: u16, column: u16) -> u32
         requires stripe { stripe < (self.now.height + 3) / 4 + 2 }
         requires column { column < self.now.width + 2 }
+        requires at { at ≡ spot self.now stripe column }
         ensures six { result ≡ six_in self.now causal stripe column }
         ensures most { result < 65536 }
     {
-        self.rows(stripe, column) % seen_below(causal)
+        self.rows_there(at, stripe, column) & seen_rows(causal)
     }
 
-    /// Six rows of three columns.
+    /// Six rows of three columns, by where the words of the one in the middle stand.
     #[inline(always)]
     #[tactic(auto, unfolding(crate::specs::Notes::window_in))]
-    pub fn window(&self, causal: bool, stripe: u16, x: u16) -> u32
+    pub fn window(&self, causal: bool, at: usize, stripe: u16, x: u16) -> u32
         requires stripe { stripe < (self.now.height + 3) / 4 + 2 }
         requires column { x < self.now.width }
         requires wide { self.now.width ≤ 1024 }
+        requires at { at ≡ spot self.now stripe (x + 1) }
         ensures { result ≡ window_in self.now causal stripe x }
     {
-        let left = self.six(causal, stripe, x);
-        let here = self.six(causal, stripe, x + 1);
-        let right = self.six(causal, stripe, x + 2);
+        let left = self.six(causal, at - 1, stripe, x);
+        let here = self.six(causal, at, stripe, x + 1);
+        let right = self.six(causal, at + 1, stripe, x + 2);
         left + 2 * here + 4 * right
     }
 
-    /// The note in a row of a column of a stripe.
+    /// The note in a row of a column of a stripe, by where its words stand.
     #[inline(always)]
-    fn digit(&self, stripe: u16, column: u16, row: u16) -> u16
+    fn digit(&self, at: usize, stripe: u16, column: u16, row: u16) -> u16
         requires stripe { stripe < (self.now.height + 3) / 4 + 2 }
         requires column { column < self.now.width + 2 }
         requires row { row < 4 }
+        requires at { at ≡ spot self.now stripe column }
         ensures note { result ≡ digit_in self.now stripe column row }
         ensures few { result < 8 }
     {
-        let index = self.spot(stripe, column);
-        let word = self.notes[index];
-        note_at(word, row)
+        note_at(self.notes[at], row)
     }
 
     /// The note of a place.
@@ -175,7 +206,18 @@ impl Marks {
         ensures note { result ≡ note_in self.now x y }
         ensures few { result < 8 }
     {
-        self.digit(y / 4 + 1, x + 1, y % 4)
+        let at = self.spot(y / 4 + 1, x + 1);
+        self.digit(at, y / 4 + 1, x + 1, y % 4)
+    }
+
+    /// The four notes of a column of a stripe, by where its words stand.
+    #[inline(always)]
+    pub fn notes_there(&self, at: usize, x: u16, y: u16) -> u32
+        requires place { IsSpot self.now x y }
+        requires at { at ≡ spot self.now (y / 4 + 1) (x + 1) }
+        ensures { result ≡ slice_index_or self.now.notes (spot self.now (y / 4 + 1) (x + 1)) 0 }
+    {
+        word_at(&self.notes, at)
     }
 
     /// The note of a place, where its column's words stand.
@@ -189,15 +231,16 @@ impl Marks {
         note_at(self.notes[at], y % 4)
     }
 
-    /// Whether the sign in a row of a column of a stripe is noted.
+    /// Whether the sign in a row of a column of a stripe is noted, by where the column's words stand.
     #[inline(always)]
-    pub fn negative(&self, stripe: u16, column: u16, row: u16) -> bool
+    pub fn negative(&self, at: usize, stripe: u16, column: u16, row: u16) -> bool
         requires stripe { stripe < (self.now.height + 3) / 4 + 2 }
         requires column { column < self.now.width + 2 }
         requires row { row < 4 }
+        requires at { at ≡ spot self.now stripe column }
         ensures { result ≡ (digit_in self.now stripe column row / 4 % 2 == 1) }
     {
-        self.digit(stripe, column, row) / 4 % 2 == 1
+        self.digit(at, stripe, column, row) / 4 % 2 == 1
     }
 
     /// Notes something else at a place.
@@ -224,17 +267,43 @@ impl Marks {
         self.notes[at] = word;
     }
 
-    /// Marks a place as significant.
+    /// Notes the same at the four places of a column of a stripe.
     #[inline(always)]
-    pub fn raise(&mut self, x: u16, y: u16)
-        requires { IsSpot self.old x y }
+    pub fn put_four(&mut self, at: usize, x: u16, y: u16, note: u16)
+        requires place { IsSpot self.old x y }
+        requires at { at ≡ spot self.old (y / 4 + 1) (x + 1) }
+        requires first { y % 4 ≡ 0 }
+        requires few { note < 8 }
+        ensures { self.new ≡ noted (noted (noted (noted self.old x y note) x (y + 1) note) x (y + 2) note) x (y + 3) note }
+    {
+        fill(&mut self.notes, at, note);
+    }
+
+    /// Where the words of a place's column stand in the other stripe that has the place's row, or in
+    /// its own where none other has.
+    #[inline(always)]
+    fn spot_beside(&self, at: usize, x: u16, y: u16) -> usize
+        requires place { IsSpot self.now x y }
+        requires at { at ≡ spot self.now (y / 4 + 1) (x + 1) }
+        ensures spot { result ≡ spot self.now (beside y) (x + 1) }
+        ensures within { result < words_of self.now.width self.now.height }
+    {
+        match y % 4 {
+            0 => at - self.wide(),
+            3 => at + self.wide(),
+            _ => at,
+        }
+    }
+
+    /// Marks a place as significant, where its column's words stand.
+    #[inline(always)]
+    pub fn raise(&mut self, at: usize, x: u16, y: u16)
+        requires place { IsSpot self.old x y }
+        requires at { at ≡ spot self.old (y / 4 + 1) (x + 1) }
         ensures { self.new ≡ raised self.old x y }
     {
-        let wide = usize::from(self.width) + 2;
-        let column = usize::from(x) + 1;
-        let own = (usize::from(y / 4) + 1) * wide + column;
-        let other = beside(y) * wide + column;
-        add(&mut self.sixes, own, 8 * digit(y % 4));
+        let other = self.spot_beside(at, x, y);
+        add(&mut self.sixes, at, 8 * digit(y % 4));
         add(&mut self.sixes, other, weight_beside(y));
     }
 }

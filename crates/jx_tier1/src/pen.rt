@@ -1,6 +1,6 @@
 //! Decisions that are given, written into one segment by either coder.
 
-ghost use Rattle.std.specs.Prelude.{◌≡◌, ◌<◌, ℕ, [], OnOk, IfOk};
+ghost use Rattle.std.specs.Prelude.{◌≡◌, ◌<◌, ℕ, [], true, OnOk, IfOk};
 ghost use Rattle.jx_coder_specs.specs.MqTable.{MqContexts, mq_fresh};
 ghost use Rattle.jx_coder_specs.specs.MqWriting.{mq_writer};
 ghost use Rattle.jx_tier1_specs.specs.Asking.{told};
@@ -66,6 +66,16 @@ impl Pen {
         self.contexts = Contexts::new();
     }
 
+    /// Writes a raw bit. It is apart, so that nothing of it stands between the decisions that are coded.
+    #[cold]
+    #[inline(never)]
+    fn put_raw(&mut self, bit: bool) -> Result<(), NoMemory>
+        requires { self.old.raw ≡ true }
+        ensures { OnOk result ((label : ℕ) → self.new ≡ after_coded self.old label bit) }
+    {
+        self.bits.bit(bit)
+    }
+
     /// Writes a decision, as it is coded.
     #[inline(always)]
     fn put(&mut self, label: u8, bit: bool) -> Result<(), NoMemory>
@@ -73,7 +83,7 @@ impl Pen {
         ensures { OnOk result (self.new ≡ after_coded self.old label bit) }
     {
         if self.is_raw {
-            return self.bits.bit(bit);
+            return self.put_raw(bit);
         }
         self.encoder.bit(&mut self.contexts, label, bit)
     }

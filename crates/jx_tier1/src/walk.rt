@@ -1,23 +1,38 @@
 //! A coding pass over a block that is marked, stripe by stripe (T.800, D.1).
 
-ghost use Rattle.std.specs.Prelude.{◌≡◌, ◌+◌, ◌-◌, ◌*◌, ◌/◌, ◌%◌, ◌<◌, ◌≤◌, ℕ, min, slice_index_or, IfOk, OnOk, IsTrue};
+ghost use Rattle.std.specs.Prelude.{◌≡◌, ◌+◌, ◌-◌, ◌*◌, ◌/◌, ◌%◌, ◌<◌, ◌≤◌, ℕ, min, ◌==◌, true, IfOk, OnOk, IsTrue};
 ghost use Rattle.jx_tier1_specs.specs.Cells.{Cells};
 ghost use Rattle.jx_tier1_specs.specs.Asking.{Told, told};
 ghost use Rattle.jx_tier1_specs.specs.Pass.{pass_at, scanned};
 ghost use Rattle.jx_tier1.specs.Numbers.{first_of};
 ghost use Rattle.jx_tier1.specs.Labels.{AreLabels};
-ghost use Rattle.jx_tier1.specs.Notes.{Marking, Shows, IsSpot, IsOfSize, spot, window_in};
+ghost use Rattle.jx_tier1.specs.Notes.{Marking, Shows, IsSpot, IsOfSize, spot, window_in, digit_in};
 ghost use Rattle.jx_tier1.specs.Turns.{AreTurns};
-ghost use Rattle.jx_tier1.specs.Walking.{by_label, Ends, IsNow};
+ghost use Rattle.jx_tier1.specs.Walking.{by_label, Ends, IsNow, parity};
 
 use crate::answering::Answering;
 use crate::marks::Marks;
-use crate::walk_runs::cleanup;
-use crate::walk_steps::{refinement, significance};
+use crate::walk_rows::{
+    cleanup_place, four_cleanup, four_refinement, four_significance, refinement_place,
+    significance_place,
+};
+use crate::walk_steps::parity;
 use jx_base::NoMemory;
 use jx_tier1_specs::Plane;
 
-/// Whether a pass has nothing to ask in a column of a stripe, by the column's six rows.
+/// Whether the bit of the plane was decided at all four places of a column of a stripe: by the lowest
+/// bits of their notes.
+#[inline(always)]
+fn are_done(marks: &Marks, plane: Plane, x: u16, top: u16, at: usize) -> bool
+    requires place { IsSpot marks.now x top }
+    requires at { at ≡ spot marks.now (top / 4 + 1) (x + 1) }
+    ensures { IsTrue result → (row : ℕ) → row < 4 → (digit_in marks.now (top / 4 + 1) (x + 1) row % 2 == parity plane) ≡ true }
+{
+    (marks.notes_there(at, x, top) & 585) == 585 * u32::from(parity(plane))
+}
+
+/// Whether a pass has nothing to ask in a column of a stripe, by the column's own words. What was
+/// significant before was decided when a cleanup pass comes, so that it looks at the notes alone.
 #[inline(always)]
 fn is_over(
     marks: &Marks,
@@ -27,16 +42,19 @@ fn is_over(
     x: u16,
     top: u16,
     rows: u16,
-    word: u32,
+    at: usize,
 ) -> bool
     requires kind { kind ≡ pass % 3 }
     requires place { IsSpot marks.now x top }
     requires stripe { top % 4 ≡ 0 }
     requires rows { rows ≡ min 4 (marks.now.height - top) }
-    requires word { word ≡ slice_index_or marks.now.sixes (spot marks.now (top / 4 + 1) (x + 1)) 0 }
-    ensures { (g : Cells) → Shows plane.planes g marks.now → IsTrue result → scanned pass plane rows (first_of g x top rows) g ≡ Told g }
+    requires at { at ≡ spot marks.now (top / 4 + 1) (x + 1) }
+    ensures { (g : Cells) → Shows plane.planes g marks.now → IsNow plane g → IsTrue result → scanned pass plane rows (first_of g x top rows) g ≡ Told g }
 {
-    let own = word / 8 % 4096;
+    if kind == 0 {
+        return are_done(marks, plane, x, top, at);
+    }
+    let own = marks.rows_there(at, top / 4 + 1, x + 1) / 8 % 4096;
     if kind == 2 {
         return own == 0;
     }
@@ -97,15 +115,15 @@ fn walk_place<S: Answering, K>(
         → OnOk result (Ends plane.planes (told (by_label S.answer) (pass_at pass plane g x y) source.old) marks.new source.new) }
 {
     if kind == 1 {
-        return significance(
-            source, marks, labels, turns, plane, x, y, at, columns, stripe,
+        return significance_place(
+            source, marks, labels, turns, plane, pass, x, y, at, columns, stripe,
         );
     }
     if kind == 2 {
-        return refinement(source, marks, plane, x, y, at, columns, stripe);
+        return refinement_place(source, marks, plane, pass, x, y, at, columns, stripe);
     }
-    cleanup(
-        source, marks, labels, turns, plane, x, y, at, columns, stripe,
+    cleanup_place(
+        source, marks, labels, turns, plane, pass, x, y, at, columns, stripe,
     )
 }
 
@@ -189,23 +207,17 @@ fn four_rows<S: Answering, K>(
     ensures walk { (g : Cells) → Shows plane.planes g marks.old → IsNow plane g
         → OnOk result (Ends plane.planes (told (by_label S.answer) (scanned pass plane 4 (first_of g x top 4) g) source.old) marks.new source.new) }
 {
-    let y = top;
-    let columns = walk_place::<S, K>(
-        source, marks, labels, turns, plane, pass, kind, x, y, at, seen, stripe,
-    )?;
-    let y = top + 1;
-    let columns = walk_place::<S, K>(
-        source, marks, labels, turns, plane, pass, kind, x, y, at, columns, stripe,
-    )?;
-    let y = top + 2;
-    let columns = walk_place::<S, K>(
-        source, marks, labels, turns, plane, pass, kind, x, y, at, columns, stripe,
-    )?;
-    let y = top + 3;
-    walk_place::<S, K>(
-        source, marks, labels, turns, plane, pass, kind, x, y, at, columns, stripe,
-    )?;
-    Ok(())
+    if kind == 1 {
+        return four_significance(
+            source, marks, labels, turns, plane, pass, x, top, at, seen, stripe,
+        );
+    }
+    if kind == 2 {
+        return four_refinement(source, marks, plane, pass, x, top, at, seen, stripe);
+    }
+    four_cleanup(
+        source, marks, labels, turns, plane, pass, x, top, at, seen, stripe,
+    )
 }
 
 /// The same, where nothing is looked at twice that asks nothing.
@@ -221,11 +233,13 @@ fn walk_column<S: Answering, K>(
     x: u16,
     top: u16,
     rows: u16,
+    at: usize,
 ) -> Result<(), NoMemory>
     requires kind { kind ≡ pass % 3 }
     requires labels { AreLabels plane.band labels.now }
     requires turns { AreTurns turns.now }
     requires place { IsSpot marks.old x top }
+    requires at { at ≡ spot marks.old (top / 4 + 1) (x + 1) }
     requires first { top % 4 ≡ 0 }
     requires rows { rows ≡ min 4 (marks.old.height - top) }
     ensures size { IsOfSize marks.old marks.new }
@@ -233,12 +247,10 @@ fn walk_column<S: Answering, K>(
         → OnOk result (Ends plane.planes (told (by_label S.answer) (scanned pass plane rows (first_of g x top rows) g) source.old) marks.new source.new) }
 {
     let stripe = top / 4 + 1;
-    let word = marks.rows(stripe, x + 1);
-    if is_over(marks, plane, pass, kind, x, top, rows, word) {
+    if is_over(marks, plane, pass, kind, x, top, rows, at) {
         return Ok(());
     }
-    let at = marks.spot(stripe, x + 1);
-    let columns = marks.window(plane.causal, stripe, x);
+    let columns = marks.window(plane.causal, at, stripe, x);
     if is_clear(marks, plane, pass, kind, x, top, rows, columns) {
         return Ok(());
     }
@@ -276,9 +288,11 @@ fn walk_stripe<S: Answering, K>(
         → OnOk result (Ends plane.planes (told (by_label S.answer) (scanned pass plane (g.width * min 4 (g.height - top)) (top * g.width) g) source.old) marks.new source.new) }
 {
     let rows = 4u16.min(marks.height() - top);
+    let first = marks.spot(top / 4 + 1, 1);
     for x in 0..marks.width() {
+        let at = first + usize::from(x);
         walk_column::<S, K>(
-            source, marks, labels, turns, plane, pass, kind, x, top, rows,
+            source, marks, labels, turns, plane, pass, kind, x, top, rows, at,
         )?;
     }
     Ok(())

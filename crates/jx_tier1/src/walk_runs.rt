@@ -65,6 +65,20 @@ fn zero_first(marks: &mut Marks, plane: Plane, x: u16, y: u16, count: u16)
     }
 }
 
+/// Notes that the four places of a column are decided to be 0.
+#[inline(always)]
+fn zero_four(marks: &mut Marks, plane: Plane, x: u16, y: u16, at: usize)
+    requires place { IsSpot marks.old x y }
+    requires at { at ≡ spot marks.old (y / 4 + 1) (x + 1) }
+    requires first { y % 4 ≡ 0 }
+    requires whole { y + 4 ≤ marks.old.height }
+    ensures size { IsOfSize marks.old marks.new }
+    ensures sixes { marks.new.sixes ≡ marks.old.sixes }
+    ensures walk { (g : Cells) → Shows plane.planes g marks.old → AreZeros 4 g x y → Shows plane.planes (zeroed plane 4 g x y) marks.new }
+{
+    marks.put_four(at, x, y, parity(plane));
+}
+
 /// Makes the named one of four places significant, and those above it 0.
 fn decide_named<S: Answering>(
     source: &mut S,
@@ -74,11 +88,13 @@ fn decide_named<S: Answering>(
     x: u16,
     y: u16,
     n: u16,
+    at: usize,
     columns: u32,
     stripe: u16,
 ) -> Result<u32, NoMemory>
     requires turns { AreTurns turns.now }
     requires place { IsSpot marks.old x y }
+    requires at { at ≡ spot marks.old (y / 4 + 1) (x + 1) }
     requires first { y % 4 ≡ 0 }
     requires whole { y + 4 ≤ marks.old.height }
     requires few { n < 4 }
@@ -90,9 +106,9 @@ fn decide_named<S: Answering>(
         → OnOk result (Ends plane.planes (told (by_label S.answer) (named_at plane g x y n) source.old) marks.new source.new) }
 {
     let around = row_of(columns, n);
-    decide_sign(source, marks, turns, plane, x, y + n, stripe, around)?;
+    decide_sign(source, marks, turns, plane, x, y + n, at, stripe, around)?;
     zero_first(marks, plane, x, y, n);
-    Ok(marks.window(plane.causal, stripe, x))
+    Ok(marks.window(plane.causal, at, stripe, x))
 }
 
 /// The number that two bits name.
@@ -112,11 +128,13 @@ fn decide_place<S: Answering>(
     plane: Plane,
     x: u16,
     y: u16,
+    at: usize,
     columns: u32,
     stripe: u16,
 ) -> Result<u32, NoMemory>
     requires turns { AreTurns turns.now }
     requires place { IsSpot marks.old x y }
+    requires at { at ≡ spot marks.old (y / 4 + 1) (x + 1) }
     requires first { y % 4 ≡ 0 }
     requires whole { y + 4 ≤ marks.old.height }
     requires stripe { stripe ≡ y / 4 + 1 }
@@ -129,11 +147,11 @@ fn decide_place<S: Answering>(
     let high = source.answer(18, false)?;
     let low = source.answer(18, false)?;
     let n = number(high, low);
-    decide_named(source, marks, turns, plane, x, y, n, columns, stripe)
+    decide_named(source, marks, turns, plane, x, y, n, at, columns, stripe)
 }
 
-/// The run mode.
-#[inline(always)]
+/// The run mode. It is apart, since few places begin it.
+#[inline(never)]
 fn run<S: Answering>(
     source: &mut S,
     marks: &mut Marks,
@@ -141,11 +159,13 @@ fn run<S: Answering>(
     plane: Plane,
     x: u16,
     y: u16,
+    at: usize,
     columns: u32,
     stripe: u16,
 ) -> Result<u32, NoMemory>
     requires turns { AreTurns turns.now }
     requires place { IsSpot marks.old x y }
+    requires at { at ≡ spot marks.old (y / 4 + 1) (x + 1) }
     requires first { y % 4 ≡ 0 }
     requires whole { y + 4 ≤ marks.old.height }
     requires stripe { stripe ≡ y / 4 + 1 }
@@ -157,15 +177,14 @@ fn run<S: Answering>(
 {
     let any = source.answer(17, false)?;
     if any {
-        return decide_place(source, marks, turns, plane, x, y, columns, stripe);
+        return decide_place(source, marks, turns, plane, x, y, at, columns, stripe);
     }
-    zero_first(marks, plane, x, y, 4);
+    zero_four(marks, plane, x, y, at);
     Ok(columns)
 }
 
-/// A cleanup pass at a place (T.800 D.3.4). It is apart, since with it `walk_place` would be so large
-/// that the compiler leaves none of the three kinds of passes inline.
-#[inline(never)]
+/// A cleanup pass at a place (T.800 D.3.4).
+#[inline(always)]
 pub(crate) fn cleanup<S: Answering>(
     source: &mut S,
     marks: &mut Marks,
@@ -190,7 +209,7 @@ pub(crate) fn cleanup<S: Answering>(
         → OnOk result (Ends plane.planes (told (by_label S.answer) (cleanup_at plane g x y) source.old) marks.new source.new) }
 {
     if is_run(marks, plane, x, y, columns, stripe) {
-        return run(source, marks, turns, plane, x, y, columns, stripe);
+        return run(source, marks, turns, plane, x, y, at, columns, stripe);
     }
     usual(
         source, marks, labels, turns, plane, x, y, at, columns, stripe,

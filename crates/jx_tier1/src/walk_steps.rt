@@ -73,11 +73,13 @@ pub(crate) fn decide_sign<S: Answering>(
     plane: Plane,
     x: u16,
     y: u16,
+    at: usize,
     stripe: u16,
     around: u32,
 ) -> Result<u32, NoMemory>
     requires turns { AreTurns turns.now }
     requires place { IsSpot marks.old x y }
+    requires at { at ≡ spot marks.old (y / 4 + 1) (x + 1) }
     requires stripe { stripe ≡ y / 4 + 1 }
     requires around { around ≡ window_in marks.old plane.causal stripe x / power (y % 4) % 512 }
     requires few { around < 512 }
@@ -86,11 +88,11 @@ pub(crate) fn decide_sign<S: Answering>(
     ensures walk { (g : Cells) → Shows plane.planes g marks.old → (coef_at g x y).bits ≡ 0
         → OnOk result (Ends plane.planes (told (by_label S.answer) (sign_of plane g x y) source.old) marks.new source.new) }
 {
-    let (label, turned) = turn(marks, turns, x, y, around);
+    let (label, turned) = turn(marks, turns, at, x, y, around);
     let negative = source.answer(label, turned)?;
-    marks.raise(x, y);
-    marks.put(x, y, first_note(plane, negative));
-    Ok(marks.window(plane.causal, stripe, x))
+    marks.raise(at, x, y);
+    marks.put_there(at, x, y, first_note(plane, negative));
+    Ok(marks.window(plane.causal, at, stripe, x))
 }
 
 /// Asks for the bit of an insignificant coefficient, and at 1 for its sign (T.800 D.3.1).
@@ -124,7 +126,7 @@ fn decide_bit<S: Answering>(
 {
     let bit = source.answer(label, false)?;
     if bit {
-        return decide_sign(source, marks, turns, plane, x, y, stripe, around);
+        return decide_sign(source, marks, turns, plane, x, y, at, stripe, around);
     }
     marks.put_there(at, x, y, parity(plane));
     Ok(columns)

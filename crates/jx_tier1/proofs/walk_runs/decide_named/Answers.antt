@@ -2,6 +2,7 @@ use Rattle.std.proofs.Common.{◌≡◌, ◌+◌, ◌/◌, ◌%◌, ◌∙◌, a
 use Rattle.jx_tier1.specs.Marks.{power}
 use Rattle.jx_tier1.specs.Notes.{window_in}
 use Rattle.jx_tier1.proofs.PaceLemmas.{spot_below}
+use Rattle.jx_tier1.proofs.PlaceLemmas.{spot_kept}
 use Rattle.jx_tier1.proofs.RunWalked.{named_walked, some_wide}
 use Rattle.jx_tier1.proofs.walk_runs.decide_named.Goals as goal
 
@@ -16,6 +17,7 @@ decide_sign-requires g c =
     record {
       turns = c.requires.turns;
       place = spot_below c.args.marks.now c.args.marks.now c.args.x c.args.y (c.args.y + c.args.n) c.requires.place refl refl (omega arith);
+      at = spot_kept c.args.marks.now c.args.marks.now c.args.x c.args.y c.args.n c.args.at first few refl c.requires.at;
       stripe = omega arith;
       around = row ∙ (ap (λ (w : ℕ). w / power c.args.n % 512) c.requires.columns
           ∙ ap (λ (z : ℕ). window_in c.args.marks.now c.args.plane.causal c.args.stripe c.args.x / power z % 512) r);

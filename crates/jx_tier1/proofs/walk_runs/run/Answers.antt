@@ -12,10 +12,10 @@ returns-then-any-clause-walk g c = λ v s z.
 
 pub returns-clause-columns : goal.returns-clause-columns
 returns-clause-columns g c =
-    let k = c.zero_first.ensures in
-    c.requires.columns ∙ sym (window_still c.args.marks.now c.zero_first.new.marks c.args.plane.causal c.args.stripe c.args.x k.size.width k.sixes)
+    let k = c.zero_four.ensures in
+    c.requires.columns ∙ sym (window_still c.args.marks.now c.zero_four.new.marks c.args.plane.causal c.args.stripe c.args.x k.size.width k.sixes)
 
 pub returns-clause-walk : goal.returns-clause-walk
 returns-clause-walk g c = λ v s z.
-    none_walked g.S.Answering.answer c.args.plane v c.zero_first.new.marks c.args.x c.args.y c.in_ok-any.any c.args.source.now c.answer.new.self c.in_ok-any.ensures.bit
-    c.in_ok-any.ensures.after c.if-any.false (c.zero_first.ensures.walk v s z)
+    none_walked g.S.Answering.answer c.args.plane v c.zero_four.new.marks c.args.x c.args.y c.in_ok-any.any c.args.source.now c.answer.new.self c.in_ok-any.ensures.bit
+    c.in_ok-any.ensures.after c.if-any.false (c.zero_four.ensures.walk v s z)

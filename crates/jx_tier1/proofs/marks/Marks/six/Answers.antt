@@ -3,8 +3,8 @@ use Rattle.jx_tier1.proofs.marks.Marks.six.Goals as goal
 
 pub returns-clause-six : goal.returns-clause-six
 returns-clause-six c =
-    let most = rw c.rows.ensures.rows at c.rows.ensures.most in
-    rw (c.seen_below.ensures.limit, c.rows.ensures.rows) (seen_is c.args.causal _ most)
+    let most = rw c.rows_there.ensures.rows at c.rows_there.ensures.most in
+    rw (c.seen_rows.ensures, c.rows_there.ensures.rows, c.requires.at) (seen_is c.args.causal _ (rw c.requires.at at most))
 
 pub returns-clause-most : goal.returns-clause-most
-returns-clause-most c = rw c.seen_below.ensures.limit (seen_most c.args.causal c.rows.result c.rows.ensures.most)
+returns-clause-most c = rw c.seen_rows.ensures (seen_most c.args.causal c.rows_there.result c.rows_there.ensures.most)
