@@ -1,16 +1,16 @@
 -- Columns that were decided throughout in the plane, in which a cleanup pass asks nothing.
-use Rattle.std.proofs.Common.{◌≡◌, ◌<◌, ◌≤◌, ◌+◌, ◌-◌, ◌*◌, ◌/◌, ◌%◌, ◌==◌, ◌&&◌, ℕ, zero, suc, min, Bool, true, false, refl, sym, ap, ◌∙◌, arith, subst}
+use Rattle.std.proofs.Common.{◌≡◌, ◌<◌, ◌+◌, ◌-◌, ◌*◌, ◌/◌, ◌%◌, ◌==◌, ◌&&◌, ℕ, zero, suc, min, Bool, true, false, refl, sym, ap, ◌∙◌, arith}
 use Rattle.std.specs.Prelude.{nat_le}
 use Rattle.std.specs.Int.{bit_at}
 use Rattle.std.specs.Int.Bits.{bit_and}
 use Rattle.std.proofs.lemmas.Bool.{eq-eqb}
 use Rattle.std.proofs.lemmas.Nat.Bits.{bit_at_and}
 use Rattle.jx_tier1_specs.specs.declared.question.Plane.{Plane}
-use Rattle.jx_tier1_specs.specs.Cells.{Cells, coef_at, significant}
+use Rattle.jx_tier1_specs.specs.Cells.{Cells, coef_at}
 use Rattle.jx_tier1_specs.specs.Asking.{Told}
-use Rattle.jx_tier1_specs.specs.Pass.{scanned, cleanup_at, is_quiet, is_run, is_decided, label_at}
+use Rattle.jx_tier1_specs.specs.Pass.{scanned, cleanup_at, is_quiet, is_run, is_decided}
 use Rattle.jx_tier1.specs.Marks.{power}
-use Rattle.jx_tier1.specs.Notes.{Marking, Shows, IsSpot, spot, digit_in, note_in}
+use Rattle.jx_tier1.specs.Notes.{Marking, Shows, IsSpot, digit_in, note_in}
 use Rattle.jx_tier1.specs.Numbers.{first_of}
 use Rattle.jx_tier1.specs.Walking.{IsNow, parity}
 use Rattle.jx_tier1.proofs.FullLemmas.{third_kind}

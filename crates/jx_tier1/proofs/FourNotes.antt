@@ -1,10 +1,9 @@
 -- The same note at the four places of a column of a stripe, written at once.
 use Rattle.std.proofs.Common.{◌≡◌, ◌<◌, ◌≤◌, ◌+◌, ◌-◌, ◌*◌, ◌/◌, ◌%◌, ◌∙◌, ℕ, zero, suc, refl, sym, ap, arith, List, [], ◌∷◌, length, get_or, set}
-use Rattle.std.proofs.lemmas.List.{get_or-set_same, set-get_or}
+use Rattle.std.proofs.lemmas.List.{get_or-set_same}
 use Rattle.jx_tier1_specs.specs.declared.question.Plane.{Plane}
 use Rattle.jx_tier1_specs.specs.Cells.{Cells}
 use Rattle.jx_tier1_specs.specs.Pass.{zeroed}
-use Rattle.jx_tier1.specs.Marks.{power}
 use Rattle.jx_tier1.specs.Notes.{Marking, Shows, IsSpot, spot, replaced, noted}
 use Rattle.jx_tier1.specs.Walking.{AreZeros, parity}
 use Rattle.jx_tier1.proofs.PaceLemmas.{spot_below}

@@ -1,4 +1,4 @@
-use Rattle.std.proofs.Common.{◌≡◌, ◌+◌, ◌/◌, sym, ℕ}
+use Rattle.std.proofs.Common.{◌≡◌, ◌+◌, ◌/◌, sym}
 use Rattle.jx_tier1.specs.Notes.{Marking, spot}
 use Rattle.jx_tier1.proofs.FourNotes.{four_noted}
 use Rattle.jx_tier1.proofs.marks.Marks.put_four.Goals as goal
