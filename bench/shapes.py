@@ -5,7 +5,7 @@ usage: bench/shapes.py PROGRAM [-n COUNT] [-t SECONDS] [-s SEED] [-b BYTES] [-k 
 
 Draws codestreams of at most BYTES (100,000): so many tiles, components, resolutions, precincts, layers, code-blocks, tile-parts, progression
 changes and headers of tiles' own as fit, all packets empty, and options to rewrite them with; one in ten has too little tile data. It stops
-after COUNT files or SECONDS (600). The same SEED (1) gives the same files. Prints how often each status came, and the ten that took most
+after COUNT files or SECONDS (600), or where it is told to end. The same SEED (1) gives the same files. Prints how often each status came, and the ten that took most
 processor seconds and the ten that took most memory, with what was drawn; the inputs of the dearest are kept in the folder KEPT, where one is
 named. A run may take a minute. Python's standard library is needed.
 """
@@ -13,7 +13,7 @@ named. A run may take a minute. Python's standard library is needed.
 import argparse
 import os
 import random
-import resource
+import signal
 import struct
 import subprocess
 import sys
@@ -164,6 +164,7 @@ def main():
     pick, end, seen, found = random.Random(asked.s), time.monotonic() + asked.t, Counter(), []
     with tempfile.TemporaryDirectory() as folder:
         source, target = os.path.join(folder, "in.j2k"), os.path.join(folder, "out.j2k")
+        signal.signal(signal.SIGTERM, lambda *_: asked.__setattr__("n", 0))
         while sum(seen.values()) < asked.n and time.monotonic() < end:
             shape = Shape(pick, asked.b)
             if not shape.bytes:
