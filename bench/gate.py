@@ -5,7 +5,7 @@ usage: bench/gate.py [--lanes N] [--slower F] [--take NAME=MINUTES] [--apart NAM
 
 Minutes of proofs, of tests' proofs and of edits come by crate from the table "Times" of docs/PROOFS.md. LOGs have lines that end with
 `NAME: proof passed in S s` (or `tests`, or `edits`); these take the place of the table's, divided by F, by which the machine and what ran
-beside made them longer (1). With `--changed` just this crate and those above it are counted, as where a kit keeps what passed. Two words say
+beside made them longer (1). With `--changed` just this crate and those above it are counted, over what is kept of the rest. Two words say
 what a change would do, and may stand several times: `--take` sets a crate's proof (or NAME:tests, NAME:edits), and by `--apart` only these
 users wait for a crate's proof, as where its definitions stand in a crate below.
 
