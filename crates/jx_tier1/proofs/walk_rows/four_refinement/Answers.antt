@@ -72,7 +72,7 @@ returns g c =
         height = four.size.height ∙ (three.size.height ∙ (two.size.height ∙ one.size.height));
       };
       walk = λ v s n.
-          let answer = g.S.Answering.answer in
+          let answer = g.S.Source.ask in
           let k = c.args.plane in
           let pass : ℕ = c.args.pass in
           let x : ℕ = c.args.x in

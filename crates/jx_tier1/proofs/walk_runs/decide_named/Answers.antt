@@ -26,6 +26,6 @@ decide_sign-requires g c =
 
 pub returns-clause-walk : goal.returns-clause-walk
 returns-clause-walk g c = λ v s z.
-    named_walked g.S.Answering.answer c.args.plane v c.args.x c.args.y c.args.n c.decide_sign.new.marks c.zero_first.new.marks c.args.source.now c.decide_sign.new.source
+    named_walked g.S.Source.ask c.args.plane v c.args.x c.args.y c.args.n c.decide_sign.new.marks c.zero_first.new.marks c.args.source.now c.decide_sign.new.source
     (c.in_ok-decide_sign.ensures.walk v s (z.bits c.args.n c.requires.few)) c.zero_first.ensures.walk z c.requires.few
     (some_wide c.args.plane.planes v c.args.marks.now c.args.x c.args.y s c.requires.place)
