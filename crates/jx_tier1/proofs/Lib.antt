@@ -1,6 +1,7 @@
 mod AddedLemmas
 mod AnswerLemmas
 mod CoefNotes
+mod ComingLemmas
 mod CopyLemmas
 mod DoneLemmas
 mod DueLemmas
@@ -19,6 +20,7 @@ mod RaiseLemmas
 mod RunLemmas
 mod RunTold
 mod RunWalked
+mod ReadingLemmas
 mod RecodeLemmas
 mod RefineLemmas
 mod ScanLemmas

@@ -2,7 +2,7 @@
 use Rattle.std.proofs.Common.{◌≡◌, ◌≤◌, ◌<◌, ◌+◌, ◌-◌, ◌*◌, ◌/◌, ◌%◌, ◌^◌, ◌==◌, ◌&&◌, ◌||◌, not, ℕ, zero, suc, Bool, true, false, refl, sym, ap, ◌∙◌, arith, subst, if◌then◌else◌, List, set}
 use Rattle.std.proofs.lemmas.Bool.{ltb-false, not-true, and_parts, true≢false}
 use Rattle.std.proofs.lemmas.List.{set-set}
-use Rattle.std.proofs.Math.Nat.{mod-lt_self}
+use Rattle.std.proofs.Math.Nat.{mod-eq_of_lt}
 use Rattle.jx_base.specs.Passes.{is_causal}
 use Rattle.jx_tier1_specs.specs.declared.coef.Coef.{Coef}
 use Rattle.jx_tier1_specs.specs.declared.question.Plane.{Plane}
@@ -104,7 +104,7 @@ more_is : (k : Plane) (m : Cells) (x y : ℕ) (bit : Bool) → IsScan k → AreW
     → with_more k (shift_of k) bit (coef_at m x y) ≡ with_bit k bit (coef_at m x y)
 more_is k m x y true s h =
     let c : Coef = coef_at m x y in
-    ap (λ (n : ℕ). record c { bits = n; planes = k.number + 1 }) (mod-lt_self (bit_fits k m x y s h))
+    ap (λ (n : ℕ). record c { bits = n; planes = k.number + 1 }) (mod-eq_of_lt (bit_fits k m x y s h))
 more_is k m x y false s h = refl
 
 refinement_noted : (k : Plane) (m : Cells) (x y : ℕ) (r : Reading) → IsScan k → AreWithin k.planes (k.number + 1) m

@@ -15,6 +15,7 @@ decide_sign-requires g c =
     let row = c.row_of-around.ensures.row in
     let r : c.args.n ≡ (c.args.y + c.args.n) % 4 = omega arith in
     record {
+      scan = c.requires.scan;
       turns = c.requires.turns;
       place = spot_below c.args.marks.now c.args.marks.now c.args.x c.args.y (c.args.y + c.args.n) c.requires.place refl refl (omega arith);
       at = spot_kept c.args.marks.now c.args.marks.now c.args.x c.args.y c.args.n c.args.at first few refl c.requires.at;
