@@ -1,6 +1,6 @@
 //! One coding pass after another, decoded.
 
-ghost use Rattle.std.specs.Prelude.{◌≡◌, ◌+◌, ◌++◌, ◌∷◌, [], ◌/◌, ◌%◌, ◌^◌, ◌==◌, ◌&&◌, ◌<◌, ℕ, length, drop, All, OnOk, IfOk, IsOk};
+ghost use Rattle.std.specs.Prelude.{◌≡◌, ◌+◌, ◌++◌, ◌∷◌, [], ◌/◌, ◌%◌, ◌^◌, ◌==◌, ◌&&◌, ◌<◌, ◌≤◌, ℕ, length, drop, All, OnOk, IfOk, IsOk};
 ghost use Rattle.jx_tier1_specs.specs.Cells.{Cells, AreWithin};
 ghost use Rattle.jx_tier1_specs.specs.Pass.{IsScan, plane_of};
 ghost use Rattle.jx_tier1_specs.specs.Segments.{begins};
@@ -14,9 +14,10 @@ ghost use Rattle.jx_base.specs.Passes.{is_causal, has_symbols};
 
 use crate::marks::Marks;
 use crate::noter::Noter;
+use crate::questions::plane_for;
 use crate::walk_passes::walk_pass;
 use jx_base::{Band, NoMemory, Style, ends_segment, is_raw};
-use jx_tier1_specs::{Plane, ask_symbol};
+use jx_tier1_specs::ask_symbol;
 use std::marker::Model;
 
 /// A block of which some passes were decoded.
@@ -134,15 +135,10 @@ impl<'a> Decoder<'a> {
         ensures shows { OnOk result (Shows planes self.new.cells marks.new) }
         ensures within { OnOk result (AreWithin planes ((pass + 2) / 3 + 1) self.new.cells) }
     {
-        let causal = style.causal();
-        let plane = Plane {
-            band,
-            causal,
-            planes,
-            number: ((pass + 2) / 3) as u8,
-        };
+        let plane = plane_for(band, style, planes, pass);
         self.noter.begin(plane, style);
-        walk_pass(&mut self.noter, marks, labels, turns, plane, pass)
+        walk_pass(&mut self.noter, marks, labels, turns, plane, pass)?;
+        Ok(())
     }
 
     /// A pass within its segment.

@@ -15,10 +15,11 @@ ghost use Rattle.jx_tier1_specs.specs.Writing.{Writing, fresh_writing, segment_b
 ghost use Rattle.jx_tier1_specs.specs.Encoding.{Encoding, renewed_writing, after_symbol, closed, after_step};
 
 use crate::marks::Marks;
+use crate::questions::plane_for;
 use crate::walk_passes::walk_pass;
 use crate::writer::Writer;
 use jx_base::{Band, NoMemory, Style, ends_segment, is_raw};
-use jx_tier1_specs::{Plane, ask_symbol};
+use jx_tier1_specs::ask_symbol;
 use std::alloc::Global;
 use std::marker::Model;
 
@@ -65,13 +66,7 @@ impl<'a> Encoder<'a> {
             (renewed_writing style.bits self.old.writing)) marks.new self.new.writing) }
     {
         self.writer.begin(style);
-        let causal = style.causal();
-        let plane = Plane {
-            band,
-            causal,
-            planes,
-            number: ((pass + 2) / 3) as u8,
-        };
+        let plane = plane_for(band, style, planes, pass);
         walk_pass(&mut self.writer, marks, labels, turns, plane, pass)?;
         Ok(())
     }

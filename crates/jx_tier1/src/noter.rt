@@ -63,6 +63,7 @@ fn with_more(plane: Plane, shift: u8, bit: bool, coef: Coef) -> Coef
 }
 
 /// Notes that so many places of a column from one downwards are decided to be 0.
+#[tactic(auto, using(jx_tier1_specs::proofs::RunLemmas::zeroed_more))]
 fn zero(grid: &mut FlagGrid, plane: Plane, count: u16, x: u16, y: u16)
     requires plane { plane.number < 74 }
     requires few { count ≤ 4 }

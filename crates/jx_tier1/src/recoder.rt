@@ -17,9 +17,10 @@ ghost use Rattle.jx_tier1_specs.specs.Short.{AreShort};
 
 use crate::copier::Copier;
 use crate::marks::Marks;
+use crate::questions::plane_for;
 use crate::walk_passes::walk_pass;
 use jx_base::{Band, NoMemory, Style, ends_segment, is_raw};
-use jx_tier1_specs::{Plane, ask_symbol};
+use jx_tier1_specs::ask_symbol;
 use std::alloc::Global;
 use std::marker::Model;
 
@@ -112,13 +113,7 @@ impl<'a> Recoder<'a> {
             (renewed_both old.bits new.bits self.old.copying)) marks.new self.new.copying) }
     {
         self.copier.renew(old, new);
-        let causal = old.causal();
-        let plane = Plane {
-            band,
-            causal,
-            planes,
-            number: ((pass + 2) / 3) as u8,
-        };
+        let plane = plane_for(band, old, planes, pass);
         walk_pass(&mut self.copier, marks, labels, turns, plane, pass)?;
         Ok(())
     }
