@@ -1,6 +1,6 @@
 //! One coding pass after another, coded.
 
-ghost use Rattle.std.specs.Prelude.{◌≡◌, ◌+◌, ◌-◌, ◌/◌, ◌<◌, ◌≤◌, ◌++◌, ◌∷◌, [], ◌||◌, ℕ, Bool, List, if◌then◌else◌, OnOk};
+ghost use Rattle.std.specs.Prelude.{◌≡◌, ◌+◌, ◌-◌, ◌*◌, ◌/◌, ◌<◌, ◌≤◌, ◌++◌, ◌∷◌, [], ◌||◌, ℕ, Bool, List, if◌then◌else◌, OnOk};
 ghost use Rattle.jx_base.specs.Passes.{raw_pass, end_pass, is_causal};
 ghost use Rattle.jx_tier1_specs.specs.Asking.{told};
 ghost use Rattle.jx_tier1_specs.specs.Cells.{Cells};
@@ -130,6 +130,7 @@ impl<'a> Encoder<'a> {
     {
         self.bits(marks, labels, turns, band, style, planes, pass)?;
         self.symbol(style, pass)?;
-        self.finish(alloc, style, pass, last)
+        self.finish(alloc, style, pass, last)?;
+        Ok(())
     }
 }

@@ -12,8 +12,8 @@ run_block-result-requires c =
       some = c.requires.some;
       planes = c.requires.planes;
       passes = c.requires.passes;
-      wide = c.requires.size.wide;
-      high = c.requires.size.high;
+      wide = rw c.width.ensures c.requires.size.wide;
+      high = rw c.height.ensures c.requires.size.high;
       kind = rw e refl;
     }
 
@@ -22,5 +22,5 @@ returns c =
     let co : Coding = coding_of c.args.band c.args.style.bits c.args.planes in
     c.end-segments.ensures
     ∙ (c.in_ok-result.ensures
-    ∙ rw c.in_ok-encoder.ensures
+    ∙ rw (c.in_ok-encoder.ensures, c.width.ensures, c.height.ensures)
     (sym (segments_finished c.args.style.bits c.args.grid.now (needs co c.args.grid.now c.args.passes) 0 mq_fresh [])))

@@ -6,5 +6,5 @@ use Rattle.jx_tier1.proofs.encode.run.Given as goal
 abbrev pub invariant-loop-pass : goal.invariant-loop-pass
 invariant-loop-pass l = record {
   size : IsOfSize l.initial.marks l.marks;
-  way : IsComing (coding_of l.band l.style.bits l.planes) l.initial.marks.width l.initial.marks.height l.pass-end l.pass l.marks l.encoder l.initial.encoder;
+  way : IsComing (coding_of l.band l.style.bits l.planes) l.initial.marks.width l.initial.marks.height l.passes l.pass l.marks l.encoder l.initial.encoder;
 }
