@@ -10,6 +10,7 @@ loop-pass-init c =
     record {
       size = record { width = refl; height = refl };
       way = reading_begun d c.args.marks.now.width c.args.marks.now.height c.args.coded.now.passes c.args.marks.now c.args.decoder.now c.requires.fresh c.requires.cells;
+      most = omega arith;
       rest = c.requires.rest;
     }
 
@@ -50,10 +51,12 @@ loop-pass-preserved c =
     let b : HasPasses d c.args.coded.now.passes = record { some = c.requires.some; most = c.requires.planes; few = c.requires.passes } in
     let i = c.loop-pass.invariant in
     let k = c.in_ok-pass.ensures in
+    let less = c.loop-pass-test.true in
     record {
       size = record { width = k.size.width ∙ i.size.width; height = k.size.height ∙ i.size.height };
       way = reading_next d w h c.args.coded.now.passes c.loop-pass.pass c.loop-pass.marks c.pass.new.marks c.loop-pass.decoder c.pass.new.self c.args.decoder.now b
           c.loop-pass-test.true i.way k.decoding k.shows k.within;
+      most = omega arith;
       rest = k.rest;
     }
 
@@ -61,7 +64,9 @@ pub returns : goal.returns
 returns c =
     let d : Coding = coding_of c.args.coded.now.band c.args.coded.now.style.bits c.args.coded.now.planes in
     let b : HasPasses d c.args.coded.now.passes = record { some = c.requires.some; most = c.requires.planes; few = c.requires.passes } in
+    let least = c.loop-pass-test.false in
+    let most = c.loop-pass.invariant.most in
     let r =
     reading_done d c.args.marks.now.width c.args.marks.now.height c.args.coded.now.passes c.loop-pass.pass c.loop-pass.marks c.loop-pass.decoder c.args.decoder.now b
-    c.loop-pass-test.false c.loop-pass.invariant.way in
+    (omega arith) c.loop-pass.invariant.way in
     record { decoding = r.0; within = r.1 }

@@ -9,5 +9,6 @@ abbrev pub invariant-loop-pass : goal.invariant-loop-pass
 invariant-loop-pass l = record {
   size : IsOfSize l.initial.marks l.marks;
   way : IsReading (coding_of l.coded.band l.coded.style.bits l.coded.planes) l.initial.marks.width l.initial.marks.height l.pass-end l.pass l.marks l.decoder l.initial.decoder;
+  most : l.pass ≤ l.pass-end;
   rest : AreShort l.decoder.rest;
 }
