@@ -36,11 +36,6 @@ refinement_asked k g x y s e =
     ap (λ (b : Bool). if b && d then asked k g x y else Told g) s
     ∙ ap (λ (b : Bool). if not b then asked k g x y else Told g) e
 
--- the label, by what was looked at
-pub refinement_label_is : (k : Plane) (f g : Cells) (x y label : ℕ) (c : Coef) (refined near : Bool) → label ≡ refinement_row refined near → refined ≡ is_refined k c
-    → c ≡ coef_at f x y → f ≡ g → near ≡ has_near g k.causal x y → label ≡ refinement_label_at k g x y
-refinement_label_is k f g x y label c refined near l r i e n = rw (l, r, i, e, n) refl
-
 -- all others, by the number and the answer that were told
 pub refinement_told : {S : Type 0} (ask : S → Question → Bool × S) (k : Plane) (g h : Cells) (x y label shift : ℕ) (bit : Bool) (s t : S)
     → significant (coef_at g x y) ≡ true → is_decided k (coef_at g x y) ≡ false → label ≡ refinement_label_at k g x y → shift ≡ shift_of k

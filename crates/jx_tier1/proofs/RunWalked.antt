@@ -23,19 +23,6 @@ use Rattle.jx_tier1.proofs.WalkLemmas.{done_shown, zero_shown}
 use Rattle.jx_tier1.proofs.WindowLemmas.{nine_at, here_is}
 
 -- where the run mode begins
-pub run_not_first : (k : Plane) (g : Cells) (x y : ℕ) → (y % 4 ≡ 0 → ⊥) → false ≡ is_run k g x y
-run_not_first k g x y d = rw (ne_eqb (y % 4) 0 d) refl
-
-second_false : (a p q r t : Bool) → (a && false && p && q && r && t) ≡ false
-second_false true p q r t = refl
-second_false false p q r t = refl
-
-pub run_too_short : (k : Plane) (g : Cells) (m : Marking) (x y : ℕ) → Shows k.planes g m → m.height < y + 4 → false ≡ is_run k g x y
-run_too_short k g m x y s l =
-    let h = s.height in
-    rw (lt-leb (y + 4) g.height (omega arith))
-    (sym (second_false (y % 4 == 0) (is_quiet k g x y) (is_quiet k g x (y + 1)) (is_quiet k g x (y + 2)) (is_quiet k g x (y + 3))))
-
 pub run_seen : (k : Plane) (g : Cells) (m : Marking) (x y t columns : ℕ) → Shows k.planes g m → IsSpot m x y → t ≡ y / 4 + 1 → columns ≡ window_in m k.causal t x
     → (columns ≡ 0 → ⊥) → false ≡ is_run k g x y
 run_seen k g m x y t columns s p e c d =

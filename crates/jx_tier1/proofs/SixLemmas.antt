@@ -211,13 +211,6 @@ sixes_kept g words x y coef p e a =
       at = λ t c l. a.at t c l ∙ sym (six_kept g x y coef t c (record { column = p.column; row = p.row; whole = a.whole }) e);
     }
 
--- what was read in a word
-pub six_is : (g : Cells) (words : List ℕ) (t c i v : ℕ) → AreSixes g words → t < stripes_of g + 2 → c < wide_of g → i ≡ t * wide_of g + c → v ≡ get_or words i v
-    → v ≡ six g false t c
-six_is g words t c i v a p q f e =
-    let l : i < length words = subst (λ (n : ℕ). n < length words) (sym f) (six_index g words t c a p q) in
-    e ∙ (any_default words i v 0 l ∙ (ap (λ (j : ℕ). get_or words j 0) f ∙ a.at t c q))
-
 -- its four rows, and what is seen with causal contexts
 pub word_in_six : (g : Cells) (t c : ℕ) → six g false t c / 8 % 4096 ≡ word g t c
 word_in_six g t c =
@@ -232,10 +225,3 @@ six_causal g t c =
     let b = word_le g t c in
     let d = mark_le g c (4 * t + 1) in
     omega arith
-
-pub six_few : (g : Cells) (causal : Bool) (t c : ℕ) → six g causal t c ≤ 65535
-six_few g true t c =
-    let a = mark_le g c (4 * t - 4) in
-    let b = word_le g t c in
-    omega arith
-six_few g false t c = let a = six_le g t c in omega arith
