@@ -11,7 +11,6 @@ use Rattle.jx_tier1_specs.specs.Alike.{HasPasses}
 use Rattle.jx_tier1_specs.specs.Writing.{Writing, write_answer, finished_from}
 use Rattle.jx_tier1_specs.specs.Encoding.{Encoding, renewed_writing, after_bits, after_symbol, closed, after_pass, after_step}
 use Rattle.jx_tier1_specs.proofs.BackLemmas.{tree_of}
-use Rattle.jx_tier1_specs.proofs.LeafLemmas.{AllLeaves}
 use Rattle.jx_tier1_specs.proofs.PassBackLemmas.{one_scan}
 use Rattle.jx_tier1_specs.proofs.PhaseLemmas.{leaves_followed}
 use Rattle.jx_tier1_specs.proofs.WholeLemmas.{Phase, phase_next, zeros_at}

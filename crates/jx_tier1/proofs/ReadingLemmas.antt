@@ -1,5 +1,5 @@
 -- Passes of a decoding, whose coefficients marks show.
-use Rattle.std.proofs.Common.{◌≡◌, ◌<◌, ◌≤◌, ◌+◌, ◌-◌, ◌/◌, ℕ, Bool, true, false, List, drop, refl, sym, ap, ◌∙◌, arith, subst, if◌then◌else◌}
+use Rattle.std.proofs.Common.{◌≡◌, ◌<◌, ◌+◌, ◌-◌, ◌/◌, ℕ, Bool, true, false, drop, refl, sym, ap, ◌∙◌, arith, subst, if◌then◌else◌}
 use Rattle.jx_base.specs.Passes.{raw_pass, is_causal}
 use Rattle.jx_tier1_specs.specs.Cells.{Cells, AreWithin}
 use Rattle.jx_tier1_specs.specs.Pass.{plane_of}

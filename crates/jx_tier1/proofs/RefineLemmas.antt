@@ -1,15 +1,12 @@
 -- What a refinement pass asks at a place.
 use Rattle.std.proofs.Common.{◌≡◌, ◌&&◌, ℕ, Bool, true, false, not, refl, sym, ap, ◌∙◌, if◌then◌else◌}
 use Rattle.std.proofs.lemmas.Bool.{and_right}
-use Rattle.jx_tier1_specs.specs.declared.coef.Coef.{Coef}
 use Rattle.jx_tier1_specs.specs.declared.question.Plane.{Plane}
 use Rattle.jx_tier1_specs.specs.declared.question.Question.{Question}
 use Rattle.jx_tier1_specs.specs.declared.question.About.TheVariants.{Bit}
 use Rattle.jx_tier1_specs.specs.Cells.{Cells, coef_at, significant}
-use Rattle.jx_tier1_specs.specs.Near.{has_near}
-use Rattle.jx_tier1_specs.specs.Labels.{refinement_row}
 use Rattle.jx_tier1_specs.specs.Asking.{Asking, Told, Ask, told}
-use Rattle.jx_tier1_specs.specs.Pass.{is_decided, is_refined, changed, with_bit, question, shift_of, refinement_label_at, refinement_at}
+use Rattle.jx_tier1_specs.specs.Pass.{is_decided, changed, with_bit, question, shift_of, refinement_label_at, refinement_at}
 
 asked : Plane → Cells → ℕ → ℕ → Asking Cells
 asked k g x y = Ask (question k (refinement_label_at k g x y) false (Bit x y)) (λ bit. Told (changed g x y (with_bit k bit)))

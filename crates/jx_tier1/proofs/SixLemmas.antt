@@ -1,5 +1,5 @@
 -- Words of six rows after a change of one place.
-use Rattle.std.proofs.Common.{◌≡◌, ◌<◌, ◌≤◌, ◌+◌, ◌-◌, ◌*◌, ◌/◌, ◌%◌, ℕ, true, false, sym, ap, ◌∙◌, arith, subst, inl, inr, length, get_or, set, replicate, List, Bool}
+use Rattle.std.proofs.Common.{◌≡◌, ◌<◌, ◌≤◌, ◌+◌, ◌-◌, ◌*◌, ◌/◌, ◌%◌, ℕ, true, false, sym, ap, ◌∙◌, arith, subst, inl, inr, length, get_or, set, replicate, List}
 use Rattle.std.proofs.lemmas.Bool.{cases_eq}
 use Rattle.std.proofs.lemmas.List.{get_or-set_same, get_or-set_other, length-set, length-replicate}
 use Rattle.jx_tier1_specs.specs.declared.coef.Coef.{Coef}
@@ -10,7 +10,7 @@ use Rattle.jx_tier1.specs.Marks.{mark, word, wide_of, stripes_of, power}
 use Rattle.jx_tier1.specs.Windows.{six}
 use Rattle.jx_tier1.specs.Sixes.{AreSixes}
 use Rattle.jx_tier1.proofs.MarkLemmas.{mark_le, mark_other, mark_here, mark_kept, IsWholeAt, same_place}
-use Rattle.jx_tier1.proofs.AddedLemmas.{word_other, word_kept, word_here, word_le, word_index, index_inside, any_default, same_at, mark_zeros}
+use Rattle.jx_tier1.proofs.AddedLemmas.{word_other, word_kept, word_here, word_le, word_index, index_inside, same_at, mark_zeros}
 
 three : (a b c d e f p q r : ℕ) → a ≡ d + p → b ≡ e + q → c ≡ f + r → a + 8 * b + 32768 * c ≡ d + 8 * e + 32768 * f + (p + 8 * q + 32768 * r)
 three a b c d e f p q r i j k = omega arith

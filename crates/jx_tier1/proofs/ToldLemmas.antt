@@ -1,5 +1,5 @@
 -- What is told of a bit and of a sign, by the question that was asked.
-use Rattle.std.proofs.Common.{◌≡◌, ◌+◌, ◌∙◌, ℕ, Bool, true, false, sym, ap, if◌then◌else◌}
+use Rattle.std.proofs.Common.{◌≡◌, ◌∙◌, ℕ, Bool, true, false, sym, ap, if◌then◌else◌}
 use Rattle.jx_tier1_specs.specs.declared.question.Plane.{Plane}
 use Rattle.jx_tier1_specs.specs.declared.question.Question.{Question}
 use Rattle.jx_tier1_specs.specs.declared.question.About.TheVariants.{Bit, Sign}
@@ -7,7 +7,7 @@ use Rattle.jx_tier1_specs.specs.Cells.{Cells}
 use Rattle.jx_tier1_specs.specs.Labels.{sign_row}
 use Rattle.jx_tier1_specs.specs.Near.{across_of, down_of}
 use Rattle.jx_tier1_specs.specs.Asking.{Told, told}
-use Rattle.jx_tier1_specs.specs.Pass.{shift_of, changed, with_bit, with_sign, question, sign_question, label_at, sign_of, bit_of, zeroed, named_at}
+use Rattle.jx_tier1_specs.specs.Pass.{shift_of, changed, with_bit, with_sign, question, sign_question, label_at, sign_of, bit_of}
 
 pub sign_told : {S : Type 0} (ask : S → Question → Bool × S) (k : Plane) (f g h : Cells) (x y shift : ℕ) (row : ℕ × Bool) (negative : Bool) (s t : S)
     → f ≡ g → row ≡ sign_row (across_of f k.causal x y) (down_of f k.causal x y) → shift ≡ shift_of k

@@ -1,6 +1,6 @@
 -- Passes that are decoded and coded in step: each decision that is read is written, under the label that it was read under
 -- (ITU-T T.800, D.3, D.4).
-use Rattle.std.specs.Prelude.{ℕ, zero, suc, ◌+◌, ◌==◌, Bool, true, false, ◌||◌, List, [], ◌∷◌, ◌++◌, drop, if◌then◌else◌, Option, None}
+use Rattle.std.specs.Prelude.{ℕ, zero, suc, ◌+◌, ◌==◌, Bool, false, ◌||◌, List, [], ◌∷◌, ◌++◌, drop, if◌then◌else◌, Option, None}
 use Rattle.jx_coder_specs.specs.MqTable.{mq_fresh}
 use Rattle.jx_base.specs.Passes.{raw_pass, end_pass, is_causal}
 use Rattle.jx_tier1_specs.specs.declared.question.Question.{Question}

@@ -1,12 +1,12 @@
 -- What a decoder makes of the decisions that it reads: each is noted in the coefficients as it is read (ITU-T T.800, D.3).
-use Rattle.std.specs.Prelude.{ℕ, ◌+◌, ◌-◌, ◌%◌, ◌^◌, Bool, true, false, if◌then◌else◌}
+use Rattle.std.specs.Prelude.{ℕ, ◌+◌, ◌-◌, ◌%◌, ◌^◌, Bool, false, if◌then◌else◌}
 use Rattle.jx_tier1_specs.specs.declared.coef.Coef.{Coef}
 use Rattle.jx_tier1_specs.specs.declared.question.Plane.{Plane}
 use Rattle.jx_tier1_specs.specs.declared.question.Question.{Question}
 use Rattle.jx_tier1_specs.specs.declared.question.About.{About}
 use Rattle.jx_tier1_specs.specs.declared.question.About.TheVariants.{Bit, Sign, Run, High, Low, Symbol}
 use Rattle.jx_tier1_specs.specs.Cells.{Cells}
-use Rattle.jx_tier1_specs.specs.Pass.{changed, with_bit, zeroed, number_in_run}
+use Rattle.jx_tier1_specs.specs.Pass.{changed, zeroed, number_in_run}
 use Rattle.jx_tier1_specs.specs.Reading.{Reading, read_answer}
 
 -- the plane that is scanned, the coefficients so far, the two bits that name a place of a run until its sign is read, and the coder

@@ -1,7 +1,6 @@
 use Rattle.std.proofs.Common.{◌∙◌, refl, ℕ}
 use Rattle.jx_tier1_specs.specs.Alike.{HasPasses}
 use Rattle.jx_tier1_specs.specs.Reading.{Coding, coding_of}
-use Rattle.jx_tier1_specs.proofs.PassBackLemmas.{one_scan}
 use Rattle.jx_tier1.proofs.ComingLemmas.{coming_begun, coming_now, coming_next, coming_done}
 use Rattle.jx_tier1.proofs.encode.run.Goals as goal
 
