@@ -16,7 +16,7 @@ use Rattle.jx_tier1_specs.proofs.Scanning.{column_inside, row_inside}
 use Rattle.jx_tier1_specs.proofs.Told.{told_then}
 use Rattle.jx_tier1.specs.Notes.{Marking, Shows, IsSpot, spot, window_in}
 use Rattle.jx_tier1.specs.Numbers.{first_of}
-use Rattle.jx_tier1.specs.Walking.{by_label, Ends, IsNow}
+use Rattle.jx_tier1.specs.Walking.{Ends, IsNow}
 use Rattle.jx_tier1.proofs.FullLemmas.{full_first, full_third}
 use Rattle.jx_tier1.proofs.QuietLemmas.{clear_window, clear_word}
 use Rattle.jx_tier1.proofs.ScanLemmas.{nth_is, scanned_then}
@@ -61,20 +61,20 @@ scan_after {S = S} ask pass k (suc count) n g s w l =
     subst P (sym e) (record { now = b.now; width = b.width ∙ a.width; height = b.height ∙ a.height })
 
 -- nothing was scanned
-pub ends_none : {S : Type 0} (answer : S → ℕ → Bool → Bool × S) (pass : ℕ) (k : Plane) (n : ℕ) (g : Cells) (m : Marking) (s : S) → Shows k.planes g m
-    → Ends k.planes (told (by_label answer) (scanned pass k 0 n g) s) m s
-ends_none answer pass k n g m s h = record { marks = h; source = refl }
+pub ends_none : {S : Type 0} (ask : S → Question → Bool × S) (pass : ℕ) (k : Plane) (n : ℕ) (g : Cells) (m : Marking) (s : S) → Shows k.planes g m
+    → Ends k.planes (told ask (scanned pass k 0 n g) s) m s
+ends_none ask pass k n g m s h = record { marks = h; source = refl }
 
 -- some places, and some more
-pub ends_then : {S : Type 0} (answer : S → ℕ → Bool → Bool × S) (pass : ℕ) (k : Plane) (a b n : ℕ) (g : Cells) (m o : Marking) (s t u : S)
-    → Ends k.planes (told (by_label answer) (scanned pass k a n g) s) m t
-    → Ends k.planes (told (by_label answer) (scanned pass k b (n + a) (told (by_label answer) (scanned pass k a n g) s).0) t) o u
-    → Ends k.planes (told (by_label answer) (scanned pass k (a + b) n g) s) o u
-ends_then {S = S} answer pass k a b n g m o s t u e f =
-    let v : Cells = (told (by_label answer) (scanned pass k a n g) s).0 in
-    let P : S → Type 0 = λ z. Ends k.planes (told (by_label answer) (scanned pass k b (n + a) v) z) o u in
+pub ends_then : {S : Type 0} (ask : S → Question → Bool × S) (pass : ℕ) (k : Plane) (a b n : ℕ) (g : Cells) (m o : Marking) (s t u : S)
+    → Ends k.planes (told ask (scanned pass k a n g) s) m t
+    → Ends k.planes (told ask (scanned pass k b (n + a) (told ask (scanned pass k a n g) s).0) t) o u
+    → Ends k.planes (told ask (scanned pass k (a + b) n g) s) o u
+ends_then {S = S} ask pass k a b n g m o s t u e f =
+    let v : Cells = (told ask (scanned pass k a n g) s).0 in
+    let P : S → Type 0 = λ z. Ends k.planes (told ask (scanned pass k b (n + a) v) z) o u in
     let Q : Cells × S → Type 0 = λ z. Ends k.planes z o u in
-    subst Q (sym (scanned_then (by_label answer) pass k a b n g s)) (subst P e.source f)
+    subst Q (sym (scanned_then ask pass k a b n g s)) (subst P e.source f)
 
 -- one more row of a column
 column_room : (w h x top rows : ℕ) → x < w → top < h → rows ≡ min 4 (h - top) → top * w + x * rows + rows ≤ w * h
@@ -98,28 +98,28 @@ column_of planes g m x top rows s p f r =
     let i = place_of planes g m x top s p in
     record { column = i.column; first = f; row = i.row; count = r ∙ ap (λ (h : ℕ). min 4 (h - top)) s.height }
 
-pub row_after : {S : Type 0} (answer : S → ℕ → Bool → Bool × S) (pass : ℕ) (k : Plane) (g : Cells) (x top rows row : ℕ) (s : S) → IsNow k g → IsColumn g x top rows → row ≤ rows
-    → IsAfter k g (told (by_label answer) (scanned pass k row (first_of g x top rows) g) s).0
-row_after answer pass k g x top rows row s w i l =
+pub row_after : {S : Type 0} (ask : S → Question → Bool × S) (pass : ℕ) (k : Plane) (g : Cells) (x top rows row : ℕ) (s : S) → IsNow k g → IsColumn g x top rows → row ≤ rows
+    → IsAfter k g (told ask (scanned pass k row (first_of g x top rows) g) s).0
+row_after ask pass k g x top rows row s w i l =
     let r = column_room g.width g.height x top rows i.column i.row i.count in
-    scan_after (by_label answer) pass k row (first_of g x top rows) g s w (omega arith)
+    scan_after ask pass k row (first_of g x top rows) g s w (omega arith)
 
-pub row_walked : {S : Type 0} (answer : S → ℕ → Bool → Bool × S) (pass : ℕ) (k : Plane) (g : Cells) (x top rows row y next : ℕ) (m o : Marking) (s t u : S)
+pub row_walked : {S : Type 0} (ask : S → Question → Bool × S) (pass : ℕ) (k : Plane) (g : Cells) (x top rows row y next : ℕ) (m o : Marking) (s t u : S)
     → IsNow k g → IsColumn g x top rows → row < rows → y ≡ top + row → next ≡ row + 1
-    → Ends k.planes (told (by_label answer) (scanned pass k row (first_of g x top rows) g) s) m t
-    → Ends k.planes (told (by_label answer) (pass_at pass k (told (by_label answer) (scanned pass k row (first_of g x top rows) g) s).0 x y) t) o u
-    → Ends k.planes (told (by_label answer) (scanned pass k next (first_of g x top rows) g) s) o u
-row_walked {S = S} answer pass k g x top rows row y next m o s t u w i l j q e f =
+    → Ends k.planes (told ask (scanned pass k row (first_of g x top rows) g) s) m t
+    → Ends k.planes (told ask (pass_at pass k (told ask (scanned pass k row (first_of g x top rows) g) s).0 x y) t) o u
+    → Ends k.planes (told ask (scanned pass k next (first_of g x top rows) g) s) o u
+row_walked {S = S} ask pass k g x top rows row y next m o s t u w i l j q e f =
     let n : ℕ = first_of g x top rows in
-    let v : Cells = (told (by_label answer) (scanned pass k row n g) s).0 in
-    let a = row_after answer pass k g x top rows row s w i (omega arith) in
+    let v : Cells = (told ask (scanned pass k row n g) s).0 in
+    let a = row_after ask pass k g x top rows row s w i (omega arith) in
     let c : pass_at_nth pass k v (n + row) ≡ pass_at pass k v x y =
     nth_is pass k g v x top rows row a.width a.height i.column i.first i.count l ∙ ap (λ (z : ℕ). pass_at pass k v x z) (sym j) in
     let Q : Cells × S → Type 0 = λ z. Ends k.planes z o u in
-    let d : told (by_label answer) (scanned pass k 1 (n + row) v) t ≡ told (by_label answer) (pass_at pass k v x y) t =
-    single (by_label answer) pass k (n + row) v t ∙ ap (λ (z : Asking Cells). told (by_label answer) z t) c in
-    let R : ℕ → Type 0 = λ z. Ends k.planes (told (by_label answer) (scanned pass k z n g) s) o u in
-    subst R (sym q) (ends_then answer pass k row 1 n g m o s t u e (subst Q (sym d) f))
+    let d : told ask (scanned pass k 1 (n + row) v) t ≡ told ask (pass_at pass k v x y) t =
+    single ask pass k (n + row) v t ∙ ap (λ (z : Asking Cells). told ask z t) c in
+    let R : ℕ → Type 0 = λ z. Ends k.planes (told ask (scanned pass k z n g) s) o u in
+    subst R (sym q) (ends_then ask pass k row 1 n g m o s t u e (subst Q (sym d) f))
 
 -- one more column of a stripe
 columns_room : (w h x top rows : ℕ) → x ≤ w → top < h → rows ≡ min 4 (h - top) → top * w + x * rows ≤ w * h
@@ -128,37 +128,37 @@ columns_room w h x top rows p q r =
     let b = mul-le-mul_left {m = top + rows} {n = h} w (omega arith) in
     omega arith
 
-pub columns_after : {S : Type 0} (answer : S → ℕ → Bool → Bool × S) (pass : ℕ) (k : Plane) (g : Cells) (x top rows : ℕ) (s : S) → IsNow k g → x ≤ g.width → top < g.height
-    → rows ≡ min 4 (g.height - top) → IsAfter k g (told (by_label answer) (scanned pass k (x * rows) (top * g.width) g) s).0
-columns_after answer pass k g x top rows s w l q r =
+pub columns_after : {S : Type 0} (ask : S → Question → Bool × S) (pass : ℕ) (k : Plane) (g : Cells) (x top rows : ℕ) (s : S) → IsNow k g → x ≤ g.width → top < g.height
+    → rows ≡ min 4 (g.height - top) → IsAfter k g (told ask (scanned pass k (x * rows) (top * g.width) g) s).0
+columns_after ask pass k g x top rows s w l q r =
     let d = columns_room g.width g.height x top rows l q r in
-    scan_after (by_label answer) pass k (x * rows) (top * g.width) g s w d
+    scan_after ask pass k (x * rows) (top * g.width) g s w d
 
-pub column_walked : {S : Type 0} (answer : S → ℕ → Bool → Bool × S) (pass : ℕ) (k : Plane) (g : Cells) (x top rows : ℕ) (m o : Marking) (s t u : S)
+pub column_walked : {S : Type 0} (ask : S → Question → Bool × S) (pass : ℕ) (k : Plane) (g : Cells) (x top rows : ℕ) (m o : Marking) (s t u : S)
     → IsNow k g → x < g.width → top < g.height → rows ≡ min 4 (g.height - top)
-    → Ends k.planes (told (by_label answer) (scanned pass k (x * rows) (top * g.width) g) s) m t
-    → Ends k.planes (told (by_label answer) (scanned pass k rows (first_of (told (by_label answer) (scanned pass k (x * rows) (top * g.width) g) s).0 x top rows)
-    (told (by_label answer) (scanned pass k (x * rows) (top * g.width) g) s).0) t) o u
-    → Ends k.planes (told (by_label answer) (scanned pass k ((x + 1) * rows) (top * g.width) g) s) o u
-column_walked {S = S} answer pass k g x top rows m o s t u w l q r e f =
+    → Ends k.planes (told ask (scanned pass k (x * rows) (top * g.width) g) s) m t
+    → Ends k.planes (told ask (scanned pass k rows (first_of (told ask (scanned pass k (x * rows) (top * g.width) g) s).0 x top rows)
+    (told ask (scanned pass k (x * rows) (top * g.width) g) s).0) t) o u
+    → Ends k.planes (told ask (scanned pass k ((x + 1) * rows) (top * g.width) g) s) o u
+column_walked {S = S} ask pass k g x top rows m o s t u w l q r e f =
     let n : ℕ = top * g.width in
-    let v : Cells = (told (by_label answer) (scanned pass k (x * rows) n g) s).0 in
-    let a = columns_after answer pass k g x top rows s w (omega arith) q r in
+    let v : Cells = (told ask (scanned pass k (x * rows) n g) s).0 in
+    let a = columns_after ask pass k g x top rows s w (omega arith) q r in
     let c : first_of v x top rows ≡ n + x * rows = ap (λ (z : ℕ). top * z + x * rows) a.width in
-    let P : ℕ → Type 0 = λ z. Ends k.planes (told (by_label answer) (scanned pass k rows z v) t) o u in
-    let R : ℕ → Type 0 = λ z. Ends k.planes (told (by_label answer) (scanned pass k z n g) s) o u in
+    let P : ℕ → Type 0 = λ z. Ends k.planes (told ask (scanned pass k rows z v) t) o u in
+    let R : ℕ → Type 0 = λ z. Ends k.planes (told ask (scanned pass k z n g) s) o u in
     let d : x * rows + rows ≡ (x + 1) * rows = omega arith in
-    subst R d (ends_then answer pass k (x * rows) rows n g m o s t u e (subst P c f))
+    subst R d (ends_then ask pass k (x * rows) rows n g m o s t u e (subst P c f))
 
 -- one more stripe
 stripes_room : (w h q : ℕ) → w * min (4 * q) h ≤ w * h
 stripes_room w h q = mul-le-mul_left {m = min (4 * q) h} {n = h} w (omega arith)
 
-pub stripes_after : {S : Type 0} (answer : S → ℕ → Bool → Bool × S) (pass : ℕ) (k : Plane) (g : Cells) (q : ℕ) (s : S) → IsNow k g
-    → IsAfter k g (told (by_label answer) (scanned pass k (g.width * min (4 * q) g.height) 0 g) s).0
-stripes_after answer pass k g q s w =
+pub stripes_after : {S : Type 0} (ask : S → Question → Bool × S) (pass : ℕ) (k : Plane) (g : Cells) (q : ℕ) (s : S) → IsNow k g
+    → IsAfter k g (told ask (scanned pass k (g.width * min (4 * q) g.height) 0 g) s).0
+stripes_after ask pass k g q s w =
     let d = stripes_room g.width g.height q in
-    scan_after (by_label answer) pass k (g.width * min (4 * q) g.height) 0 g s w (omega arith)
+    scan_after ask pass k (g.width * min (4 * q) g.height) 0 g s w (omega arith)
 
 stripe_first : (w h q : ℕ) → 4 * q < h → 4 * q * w ≡ 0 + w * min (4 * q) h
 stripe_first w h q l = let e : min (4 * q) h ≡ 4 * q = omega arith in rw e (omega arith)
@@ -169,42 +169,42 @@ stripe_last w h q l =
     let d : w * min (4 * q) h + w * min 4 (h - 4 * q) ≡ w * (min (4 * q) h + min 4 (h - 4 * q)) = omega arith in
     d ∙ ap (λ (z : ℕ). w * z) e
 
-pub stripe_walked : {S : Type 0} (answer : S → ℕ → Bool → Bool × S) (pass : ℕ) (k : Plane) (g : Cells) (q : ℕ) (m o : Marking) (s t u : S)
+pub stripe_walked : {S : Type 0} (ask : S → Question → Bool × S) (pass : ℕ) (k : Plane) (g : Cells) (q : ℕ) (m o : Marking) (s t u : S)
     → IsNow k g → 4 * q < g.height
-    → Ends k.planes (told (by_label answer) (scanned pass k (g.width * min (4 * q) g.height) 0 g) s) m t
+    → Ends k.planes (told ask (scanned pass k (g.width * min (4 * q) g.height) 0 g) s) m t
     → ((v : Cells) → IsAfter k g v → Shows k.planes v m
-    → Ends k.planes (told (by_label answer) (scanned pass k (v.width * min 4 (v.height - 4 * q)) (4 * q * v.width) v) t) o u)
-    → Ends k.planes (told (by_label answer) (scanned pass k (g.width * min (4 * (q + 1)) g.height) 0 g) s) o u
-stripe_walked {S = S} answer pass k g q m o s t u w l e f =
+    → Ends k.planes (told ask (scanned pass k (v.width * min 4 (v.height - 4 * q)) (4 * q * v.width) v) t) o u)
+    → Ends k.planes (told ask (scanned pass k (g.width * min (4 * (q + 1)) g.height) 0 g) s) o u
+stripe_walked {S = S} ask pass k g q m o s t u w l e f =
     let a : ℕ = g.width * min (4 * q) g.height in
-    let v : Cells = (told (by_label answer) (scanned pass k a 0 g) s).0 in
-    let r = stripes_after answer pass k g q s w in
+    let v : Cells = (told ask (scanned pass k a 0 g) s).0 in
+    let r = stripes_after ask pass k g q s w in
     let c : v.width * min 4 (v.height - 4 * q) ≡ g.width * min 4 (g.height - 4 * q) =
     ap (λ (z : ℕ). z * min 4 (v.height - 4 * q)) r.width ∙ ap (λ (z : ℕ). g.width * min 4 (z - 4 * q)) r.height in
     let d : 4 * q * v.width ≡ 0 + a = ap (λ (z : ℕ). 4 * q * z) r.width ∙ stripe_first g.width g.height q l in
-    let P : ℕ → Type 0 = λ z. Ends k.planes (told (by_label answer) (scanned pass k z (4 * q * v.width) v) t) o u in
-    let Q : ℕ → Type 0 = λ z. Ends k.planes (told (by_label answer) (scanned pass k (g.width * min 4 (g.height - 4 * q)) z v) t) o u in
-    let R : ℕ → Type 0 = λ z. Ends k.planes (told (by_label answer) (scanned pass k z 0 g) s) o u in
+    let P : ℕ → Type 0 = λ z. Ends k.planes (told ask (scanned pass k z (4 * q * v.width) v) t) o u in
+    let Q : ℕ → Type 0 = λ z. Ends k.planes (told ask (scanned pass k (g.width * min 4 (g.height - 4 * q)) z v) t) o u in
+    let R : ℕ → Type 0 = λ z. Ends k.planes (told ask (scanned pass k z 0 g) s) o u in
     subst R (stripe_last g.width g.height q l)
-    (ends_then answer pass k a (g.width * min 4 (g.height - 4 * q)) 0 g m o s t u e (subst Q d (subst P c (f v r e.marks))))
+    (ends_then ask pass k a (g.width * min 4 (g.height - 4 * q)) 0 g m o s t u e (subst Q d (subst P c (f v r e.marks))))
 
 -- all of them
-pub stripes_done : {S : Type 0} (answer : S → ℕ → Bool → Bool × S) (pass : ℕ) (k : Plane) (g : Cells) (q : ℕ) (m : Marking) (s t : S) → g.height ≤ 4 * q
-    → Ends k.planes (told (by_label answer) (scanned pass k (g.width * min (4 * q) g.height) 0 g) s) m t
-    → Ends k.planes (told (by_label answer) (scanned pass k (g.width * g.height) 0 g) s) m t
-stripes_done {S = S} answer pass k g q m s t l e =
+pub stripes_done : {S : Type 0} (ask : S → Question → Bool × S) (pass : ℕ) (k : Plane) (g : Cells) (q : ℕ) (m : Marking) (s t : S) → g.height ≤ 4 * q
+    → Ends k.planes (told ask (scanned pass k (g.width * min (4 * q) g.height) 0 g) s) m t
+    → Ends k.planes (told ask (scanned pass k (g.width * g.height) 0 g) s) m t
+stripes_done {S = S} ask pass k g q m s t l e =
     let d : min (4 * q) g.height ≡ g.height = omega arith in
-    let R : ℕ → Type 0 = λ z. Ends k.planes (told (by_label answer) (scanned pass k (g.width * z) 0 g) s) m t in
+    let R : ℕ → Type 0 = λ z. Ends k.planes (told ask (scanned pass k (g.width * z) 0 g) s) m t in
     subst R d e
 
-pub stripes_none : {S : Type 0} (answer : S → ℕ → Bool → Bool × S) (pass : ℕ) (k : Plane) (g : Cells) (m : Marking) (s : S) → Shows k.planes g m
-    → Ends k.planes (told (by_label answer) (scanned pass k (g.width * min (4 * 0) g.height) 0 g) s) m s
-stripes_none {S = S} answer pass k g m s h =
+pub stripes_none : {S : Type 0} (ask : S → Question → Bool × S) (pass : ℕ) (k : Plane) (g : Cells) (m : Marking) (s : S) → Shows k.planes g m
+    → Ends k.planes (told ask (scanned pass k (g.width * min (4 * 0) g.height) 0 g) s) m s
+stripes_none {S = S} ask pass k g m s h =
     let z : min (4 * 0) g.height ≡ 0 = omega arith in
     let e : g.width * 0 ≡ 0 = omega arith in
     let d : 0 ≡ g.width * min (4 * 0) g.height = sym (ap (λ (r : ℕ). g.width * r) z ∙ e) in
-    let R : ℕ → Type 0 = λ z. Ends k.planes (told (by_label answer) (scanned pass k z 0 g) s) m s in
-    subst R d (ends_none answer pass k 0 g m s h)
+    let R : ℕ → Type 0 = λ z. Ends k.planes (told ask (scanned pass k z 0 g) s) m s in
+    subst R d (ends_none ask pass k 0 g m s h)
 
 -- another row of a column
 pub spot_below : (m n : Marking) (x y z : ℕ) → IsSpot m x y → n.width ≡ m.width → n.height ≡ m.height → z < m.height → IsSpot n x z
@@ -240,9 +240,9 @@ over_clear planes pass k g m x top rows columns s p f r w e z =
     let c = column_of planes g m x top rows s p f r in
     clear_window pass k g x top rows e c.column f c.count (sym (window_shown planes g m k.causal (top / 4 + 1) x s c.column) ∙ (sym w ∙ z))
 
-pub columns_none : {S : Type 0} (answer : S → ℕ → Bool → Bool × S) (pass : ℕ) (k : Plane) (rows n : ℕ) (g : Cells) (m : Marking) (s : S) → Shows k.planes g m
-    → Ends k.planes (told (by_label answer) (scanned pass k (0 * rows) n g) s) m s
-columns_none {S = S} answer pass k rows n g m s h =
+pub columns_none : {S : Type 0} (ask : S → Question → Bool × S) (pass : ℕ) (k : Plane) (rows n : ℕ) (g : Cells) (m : Marking) (s : S) → Shows k.planes g m
+    → Ends k.planes (told ask (scanned pass k (0 * rows) n g) s) m s
+columns_none {S = S} ask pass k rows n g m s h =
     let d : 0 ≡ 0 * rows = omega arith in
-    let R : ℕ → Type 0 = λ z. Ends k.planes (told (by_label answer) (scanned pass k z n g) s) m s in
-    subst R d (ends_none answer pass k n g m s h)
+    let R : ℕ → Type 0 = λ z. Ends k.planes (told ask (scanned pass k z n g) s) m s in
+    subst R d (ends_none ask pass k n g m s h)

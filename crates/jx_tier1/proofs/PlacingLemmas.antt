@@ -10,10 +10,10 @@ use Rattle.jx_tier1_specs.proofs.BackLemmas.{tree_of}
 use Rattle.jx_tier1_specs.proofs.LeafLemmas.{leaves_told}
 use Rattle.jx_tier1_specs.proofs.PassBackLemmas.{one_scan}
 use Rattle.jx_tier1_specs.proofs.WholeLemmas.{Phase, phase_next, zeros_at}
-use Rattle.jx_tier1.specs.InStep.{Copying, copy_answer, copy_by, no_grid, Recoding, begun, renewed_both, copied, checked, marked, ended, recoded_pass, recoded_from}
+use Rattle.jx_tier1.specs.InStep.{Copying, copy_answer, no_grid, Recoding, begun, renewed_both, copied, checked, marked, ended, recoded_pass, recoded_from}
 use Rattle.jx_tier1.specs.Notes.{Marking, Shows, unmarked}
 use Rattle.jx_tier1.specs.Placing.{placed, Goes}
-use Rattle.jx_tier1.specs.Walking.{by_label, Ends, IsNow}
+use Rattle.jx_tier1.specs.Walking.{Ends, IsNow}
 use Rattle.jx_tier1.proofs.RecodeLemmas.{recoded_more, recoded_end}
 use Rattle.jx_tier1.proofs.CopyLemmas.{copier_at}
 use Rattle.jx_tier1.proofs.ShowLemmas.{shows_zeros}
@@ -21,7 +21,7 @@ use Rattle.jx_tier1.proofs.ShowLemmas.{shows_zeros}
 -- a pass's own decisions
 pub bits_go : (c d : Coding) (pass : ℕ) (r now : Recoding) (g : Cells) (m : Marking)
     → now ≡ record r { copying = now.copying }
-    → Ends c.planes (told (by_label copy_by) (scanned pass (plane_of c.band (is_causal c.style) c.planes pass) (g.width * g.height) 0 g) (renewed_both c.style d.style r.copying)) m now.copying
+    → Ends c.planes (told copy_answer (scanned pass (plane_of c.band (is_causal c.style) c.planes pass) (g.width * g.height) 0 g) (renewed_both c.style d.style r.copying)) m now.copying
     → Goes c.planes (copied c d pass (placed g r)) m now
 unfolding copied pass_of
 bits_go c d pass r now g m h k = record {

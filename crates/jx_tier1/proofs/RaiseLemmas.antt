@@ -132,36 +132,3 @@ beside_room g words x y n coef p r a f =
     let l = six_le (with_coef g x y coef) s (x + 1) in
     let g2 = get_or-set_same (set words (word_index g x y) n) j (get_or (set words (word_index g x y) n) j 0 + weight_beside y) 0 d in
     omega arith
-
--- the same of the numbers and lists that `Field.raise` has
-pub raise_room : (g : Cells) (words : List ℕ) (x y a w v d : ℕ) (coef : Coef) → IsPlace g x y → (coef_at g x y).bits ≡ 0 → significant coef ≡ true
-    → AreSixes g words → a ≡ y / 4 → w ≡ g.width → v ≡ x → d ≡ power (y % 4) → get_or words ((a + 1) * (w + 2) + (v + 1)) 0 + 8 * d < 65536
-raise_room g words x y a w v d coef p z e s i j k l = rw (i, j, k, l) (own_room g words x y coef p (raised g words x y coef p z e s) s)
-
-pub raise_within : (g : Cells) (words ws : List ℕ) (x y b w v i n : ℕ) → IsPlace g x y → AreSixes g words → b ≡ beside y → w ≡ g.width → v ≡ x
-    → ws ≡ set words i n → b * (w + 2) + (v + 1) < length ws
-raise_within g words ws x y b w v i n p s j k l e =
-    let column = p.column in
-    let f : beside y * wide_of g + (x + 1) < length (set words i n) =
-    subst (λ (z : ℕ). beside y * wide_of g + (x + 1) < z) (sym (length-set words i n)) (six_index g words (beside y) (x + 1) s (beside_less g x y p) (omega arith)) in
-    rw (j, k, l, e) f
-
-pub raise_room_beside : (g : Cells) (words ws : List ℕ) (x y a b w v d m : ℕ) (coef : Coef) → IsPlace g x y → (coef_at g x y).bits ≡ 0 → significant coef ≡ true
-    → AreSixes g words → a ≡ y / 4 → b ≡ beside y → w ≡ g.width → v ≡ x → d ≡ power (y % 4) → m ≡ weight_beside y
-    → ws ≡ set words ((a + 1) * (w + 2) + (v + 1)) (get_or words ((a + 1) * (w + 2) + (v + 1)) 0 + 8 * d)
-    → get_or ws (b * (w + 2) + (v + 1)) 0 + m < 65536
-raise_room_beside g words ws x y a b w v d m coef p z e s i j k l o q u =
-    let f : ws ≡ set words (word_index g x y) (get_or words (word_index g x y) 0 + 8 * power (y % 4)) = rw (i, k, l, o) at u in
-    rw (j, k, l, q, f) (beside_room g words x y (get_or words (word_index g x y) 0 + 8 * power (y % 4)) coef p (raised g words x y coef p z e s) s refl)
-
-pub raise_done : (g h : Cells) (words ws vs : List ℕ) (x y a b w v d m : ℕ) (coef : Coef) → IsPlace g x y → (coef_at g x y).bits ≡ 0 → significant coef ≡ true
-    → AreSixes g words → a ≡ y / 4 → b ≡ beside y → w ≡ g.width → v ≡ x → d ≡ power (y % 4) → m ≡ weight_beside y
-    → ws ≡ set words ((a + 1) * (w + 2) + (v + 1)) (get_or words ((a + 1) * (w + 2) + (v + 1)) 0 + 8 * d)
-    → vs ≡ set ws (b * (w + 2) + (v + 1)) (get_or ws (b * (w + 2) + (v + 1)) 0 + m) → h ≡ with_coef g x y coef → AreSixes h vs
-raise_done g h words ws vs x y a b w v d m coef p z e s i j k l o q u t c =
-    let f : ws ≡ set words (word_index g x y) (get_or words (word_index g x y) 0 + 8 * power (y % 4)) = rw (i, k, l, o) at u in
-    let n : vs ≡ set ws (beside y * wide_of g + (x + 1)) (get_or ws (beside y * wide_of g + (x + 1)) 0 + weight_beside y) = rw (j, k, l, q) at t in
-    rw (c, n, f)
-    (sixes_raised g words x y (get_or words (word_index g x y) 0 + 8 * power (y % 4))
-    (get_or (set words (word_index g x y) (get_or words (word_index g x y) 0 + 8 * power (y % 4))) (beside y * wide_of g + (x + 1)) 0 + weight_beside y)
-    coef p (raised g words x y coef p z e s) s refl refl)

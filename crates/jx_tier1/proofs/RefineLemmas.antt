@@ -1,15 +1,12 @@
 -- What a refinement pass asks at a place.
 use Rattle.std.proofs.Common.{◌≡◌, ◌&&◌, ℕ, Bool, true, false, not, refl, sym, ap, ◌∙◌, if◌then◌else◌}
 use Rattle.std.proofs.lemmas.Bool.{and_right}
-use Rattle.jx_tier1_specs.specs.declared.coef.Coef.{Coef}
 use Rattle.jx_tier1_specs.specs.declared.question.Plane.{Plane}
 use Rattle.jx_tier1_specs.specs.declared.question.Question.{Question}
 use Rattle.jx_tier1_specs.specs.declared.question.About.TheVariants.{Bit}
 use Rattle.jx_tier1_specs.specs.Cells.{Cells, coef_at, significant}
-use Rattle.jx_tier1_specs.specs.Near.{has_near}
-use Rattle.jx_tier1_specs.specs.Labels.{refinement_row}
 use Rattle.jx_tier1_specs.specs.Asking.{Asking, Told, Ask, told}
-use Rattle.jx_tier1_specs.specs.Pass.{is_decided, is_refined, changed, with_bit, question, shift_of, refinement_label_at, refinement_at}
+use Rattle.jx_tier1_specs.specs.Pass.{is_decided, changed, with_bit, question, shift_of, refinement_label_at, refinement_at}
 
 asked : Plane → Cells → ℕ → ℕ → Asking Cells
 asked k g x y = Ask (question k (refinement_label_at k g x y) false (Bit x y)) (λ bit. Told (changed g x y (with_bit k bit)))
@@ -35,11 +32,6 @@ refinement_asked k g x y s e =
     let d = not (is_decided k (coef_at g x y)) in
     ap (λ (b : Bool). if b && d then asked k g x y else Told g) s
     ∙ ap (λ (b : Bool). if not b then asked k g x y else Told g) e
-
--- the label, by what was looked at
-pub refinement_label_is : (k : Plane) (f g : Cells) (x y label : ℕ) (c : Coef) (refined near : Bool) → label ≡ refinement_row refined near → refined ≡ is_refined k c
-    → c ≡ coef_at f x y → f ≡ g → near ≡ has_near g k.causal x y → label ≡ refinement_label_at k g x y
-refinement_label_is k f g x y label c refined near l r i e n = rw (l, r, i, e, n) refl
 
 -- all others, by the number and the answer that were told
 pub refinement_told : {S : Type 0} (ask : S → Question → Bool × S) (k : Plane) (g h : Cells) (x y label shift : ℕ) (bit : Bool) (s t : S)

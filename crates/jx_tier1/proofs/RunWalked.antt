@@ -1,17 +1,19 @@
 -- The run mode over marks.
 use Rattle.std.proofs.Common.{◌≡◌, ◌<◌, ◌≤◌, ◌+◌, ◌-◌, ◌*◌, ◌/◌, ◌%◌, ◌==◌, ◌&&◌, ℕ, zero, suc, Bool, true, false, not, refl, sym, ap, ◌∙◌, arith, subst}
 use Rattle.std.specs.Prelude.{nat_le}
-use Rattle.std.proofs.lemmas.Bool.{eq-eqb, ne_eqb, le-leb, lt-leb}
+use Rattle.std.proofs.lemmas.Bool.{eq-eqb, le-leb}
 use Rattle.jx_tier1_specs.specs.declared.coef.Coef.{Coef}
 use Rattle.jx_tier1_specs.specs.declared.question.Plane.{Plane}
+use Rattle.jx_tier1_specs.specs.declared.question.Question.{Question}
+use Rattle.jx_tier1_specs.specs.declared.question.About.TheVariants.{Run, High, Low}
 use Rattle.jx_tier1_specs.specs.Cells.{Cells, coef_at, with_coef, significant}
 use Rattle.jx_tier1_specs.specs.Asking.{told}
-use Rattle.jx_tier1_specs.specs.Pass.{is_decided, is_quiet, is_run, label_at, with_bit, with_sign, changed, zeroed, sign_of, named_at, place_at, run_at, number_in_run, sign_question, shift_of}
+use Rattle.jx_tier1_specs.specs.Pass.{is_decided, is_quiet, is_run, label_at, with_bit, with_sign, changed, zeroed, sign_of, named_at, place_at, run_at, number_in_run, question, sign_question, shift_of}
 use Rattle.jx_tier1_specs.proofs.GridLemmas.{above_with, below_with}
 use Rattle.jx_tier1_specs.proofs.RunBackLemmas.{is_one}
 use Rattle.jx_tier1.specs.Marks.{power}
 use Rattle.jx_tier1.specs.Notes.{Marking, Shows, IsSpot, note_in, noted, window_in}
-use Rattle.jx_tier1.specs.Walking.{by_label, Ends, IsNow, AreZeros, parity}
+use Rattle.jx_tier1.specs.Walking.{Ends, IsNow, AreZeros, parity}
 use Rattle.jx_tier1.specs.Windows.{window, nine}
 use Rattle.jx_tier1.proofs.QuietLemmas.{unlabelled, no_quotient}
 use Rattle.jx_tier1.proofs.RunLemmas.{not_run as not_run_seen}
@@ -21,19 +23,6 @@ use Rattle.jx_tier1.proofs.WalkLemmas.{done_shown, zero_shown}
 use Rattle.jx_tier1.proofs.WindowLemmas.{nine_at, here_is}
 
 -- where the run mode begins
-pub run_not_first : (k : Plane) (g : Cells) (x y : ℕ) → (y % 4 ≡ 0 → ⊥) → false ≡ is_run k g x y
-run_not_first k g x y d = rw (ne_eqb (y % 4) 0 d) refl
-
-second_false : (a p q r t : Bool) → (a && false && p && q && r && t) ≡ false
-second_false true p q r t = refl
-second_false false p q r t = refl
-
-pub run_too_short : (k : Plane) (g : Cells) (m : Marking) (x y : ℕ) → Shows k.planes g m → m.height < y + 4 → false ≡ is_run k g x y
-run_too_short k g m x y s l =
-    let h = s.height in
-    rw (lt-leb (y + 4) g.height (omega arith))
-    (sym (second_false (y % 4 == 0) (is_quiet k g x y) (is_quiet k g x (y + 1)) (is_quiet k g x (y + 2)) (is_quiet k g x (y + 3))))
-
 pub run_seen : (k : Plane) (g : Cells) (m : Marking) (x y t columns : ℕ) → Shows k.planes g m → IsSpot m x y → t ≡ y / 4 + 1 → columns ≡ window_in m k.causal t x
     → (columns ≡ 0 → ⊥) → false ≡ is_run k g x y
 run_seen k g m x y t columns s p e c d =
@@ -132,34 +121,49 @@ named_zeros g x y n c z l w = record {
   signs = λ i q. ap (λ (d : Coef). d.negative) (above_with g x (y + n) (y + i) c w (omega arith)) ∙ z.signs i (omega arith);
 }
 
-pub named_walked : {S : Type 0} (answer : S → ℕ → Bool → Bool × S) (k : Plane) (g : Cells) (x y n : ℕ) (m o : Marking) (s t : S)
-    → Ends k.planes (told (by_label answer) (sign_of k g x (y + n)) s) m t
+pub named_walked : {S : Type 0} (ask : S → Question → Bool × S) (k : Plane) (g : Cells) (x y n : ℕ) (m o : Marking) (s t : S)
+    → Ends k.planes (told ask (sign_of k g x (y + n)) s) m t
     → ((v : Cells) → Shows k.planes v m → AreZeros n v x y → Shows k.planes (zeroed k n v x y) o)
     → AreZeros 4 g x y → n < 4 → 0 < g.width
-    → Ends k.planes (told (by_label answer) (named_at k g x y n) s) o t
-named_walked {S = S} answer k g x y n m o s t e f z l w =
-    let v : Cells = (told (by_label answer) (sign_of k g x (y + n)) s).0 in
-    let negative : Bool = (by_label answer s (sign_question k g x (y + n))).0 in
+    → Ends k.planes (told ask (named_at k g x y n) s) o t
+named_walked {S = S} ask k g x y n m o s t e f z l w =
+    let v : Cells = (told ask (sign_of k g x (y + n)) s).0 in
+    let negative : Bool = (ask s (sign_question k g x (y + n))).0 in
     record {
       marks = f v e.marks (named_zeros g x y n (with_sign k negative (coef_at g x (y + n))) z l w);
       source = e.source;
     }
 
 -- all four are 0
-pub none_walked : {S : Type 0} (answer : S → ℕ → Bool → Bool × S) (k : Plane) (g : Cells) (m : Marking) (x y : ℕ) (any : Bool) (s t : S)
-    → any ≡ (answer s 17 false).0 → t ≡ (answer s 17 false).1 → any ≡ false → Shows k.planes (zeroed k 4 g x y) m
-    → Ends k.planes (told (by_label answer) (run_at k g x y) s) m t
-none_walked {S = S} answer k g m x y any s t e u o h =
-    let a = run_none (by_label answer) k g (zeroed k 4 g x y) x y (shift_of k) any s t refl e u o refl in
+pub none_walked : {S : Type 0} (ask : S → Question → Bool × S) (k : Plane) (g : Cells) (m : Marking) (x y : ℕ) (q : Question) (any : Bool) (s t : S)
+    → q ≡ question k 17 false (Run x y) → any ≡ (ask s q).0 → t ≡ (ask s q).1 → any ≡ false → Shows k.planes (zeroed k 4 g x y) m
+    → Ends k.planes (told ask (run_at k g x y) s) m t
+none_walked {S = S} ask k g m x y q any s t i e u o h =
+    let b : Question = question k 17 false (Run x y) in
+    let e' : any ≡ (ask s b).0 = rw i at e in
+    let u' : t ≡ (ask s b).1 = rw i at u in
+    let a = run_none ask k g (zeroed k 4 g x y) x y (shift_of k) any s t refl e' u' o refl in
     let P : Cells → Type 0 = λ v. Shows k.planes v m in
     record { marks = subst P a.0 h; source = a.1 }
 
-pub any_walked : {S : Type 0} (answer : S → ℕ → Bool → Bool × S) (k : Plane) (g : Cells) (x y : ℕ) (any : Bool) (s t : S)
-    → any ≡ (answer s 17 false).0 → t ≡ (answer s 17 false).1 → any ≡ true
-    → told (by_label answer) (place_at k g x y) t ≡ told (by_label answer) (run_at k g x y) s
-any_walked answer k g x y any s t e u o = run_any (by_label answer) k g x y (shift_of k) any s t refl e u o
+pub any_walked : {S : Type 0} (ask : S → Question → Bool × S) (k : Plane) (g : Cells) (x y : ℕ) (q : Question) (any : Bool) (s t : S)
+    → q ≡ question k 17 false (Run x y) → any ≡ (ask s q).0 → t ≡ (ask s q).1 → any ≡ true
+    → told ask (place_at k g x y) t ≡ told ask (run_at k g x y) s
+any_walked ask k g x y q any s t i e u o =
+    let b : Question = question k 17 false (Run x y) in
+    let e' : any ≡ (ask s b).0 = rw i at e in
+    let u' : t ≡ (ask s b).1 = rw i at u in
+    run_any ask k g x y (shift_of k) any s t refl e' u' o
 
-pub place_walked : {S : Type 0} (answer : S → ℕ → Bool → Bool × S) (k : Plane) (g : Cells) (x y n : ℕ) (high low : Bool) (s t u : S)
-    → high ≡ (answer s 18 false).0 → t ≡ (answer s 18 false).1 → low ≡ (answer t 18 false).0 → u ≡ (answer t 18 false).1 → n ≡ number_in_run high low
-    → told (by_label answer) (named_at k g x y n) u ≡ told (by_label answer) (place_at k g x y) s
-place_walked answer k g x y n high low s t u a b c d e = place_told (by_label answer) k g x y n (shift_of k) high low s t u refl a b c d e
+pub place_walked : {S : Type 0} (ask : S → Question → Bool × S) (k : Plane) (g : Cells) (x y n : ℕ) (q r : Question) (high low : Bool) (s t u : S)
+    → q ≡ question k 18 false (High x y) → r ≡ question k 18 false (Low x y)
+    → high ≡ (ask s q).0 → t ≡ (ask s q).1 → low ≡ (ask t r).0 → u ≡ (ask t r).1 → n ≡ number_in_run high low
+    → told ask (named_at k g x y n) u ≡ told ask (place_at k g x y) s
+place_walked ask k g x y n q r high low s t u i j a b c d e =
+    let v : Question = question k 18 false (High x y) in
+    let w : Question = question k 18 false (Low x y) in
+    let a' : high ≡ (ask s v).0 = rw i at a in
+    let b' : t ≡ (ask s v).1 = rw i at b in
+    let c' : low ≡ (ask t w).0 = rw j at c in
+    let d' : u ≡ (ask t w).1 = rw j at d in
+    place_told ask k g x y n (shift_of k) high low s t u refl a' b' c' d' e

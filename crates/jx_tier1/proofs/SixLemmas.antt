@@ -1,5 +1,5 @@
 -- Words of six rows after a change of one place.
-use Rattle.std.proofs.Common.{◌≡◌, ◌<◌, ◌≤◌, ◌+◌, ◌-◌, ◌*◌, ◌/◌, ◌%◌, ℕ, true, false, sym, ap, ◌∙◌, arith, subst, inl, inr, length, get_or, set, replicate, List, Bool}
+use Rattle.std.proofs.Common.{◌≡◌, ◌<◌, ◌≤◌, ◌+◌, ◌-◌, ◌*◌, ◌/◌, ◌%◌, ℕ, true, false, sym, ap, ◌∙◌, arith, subst, inl, inr, length, get_or, set, replicate, List}
 use Rattle.std.proofs.lemmas.Bool.{cases_eq}
 use Rattle.std.proofs.lemmas.List.{get_or-set_same, get_or-set_other, length-set, length-replicate}
 use Rattle.jx_tier1_specs.specs.declared.coef.Coef.{Coef}
@@ -10,7 +10,7 @@ use Rattle.jx_tier1.specs.Marks.{mark, word, wide_of, stripes_of, power}
 use Rattle.jx_tier1.specs.Windows.{six}
 use Rattle.jx_tier1.specs.Sixes.{AreSixes}
 use Rattle.jx_tier1.proofs.MarkLemmas.{mark_le, mark_other, mark_here, mark_kept, IsWholeAt, same_place}
-use Rattle.jx_tier1.proofs.AddedLemmas.{word_other, word_kept, word_here, word_le, word_index, index_inside, any_default, same_at, mark_zeros}
+use Rattle.jx_tier1.proofs.AddedLemmas.{word_other, word_kept, word_here, word_le, word_index, index_inside, same_at, mark_zeros}
 
 three : (a b c d e f p q r : ℕ) → a ≡ d + p → b ≡ e + q → c ≡ f + r → a + 8 * b + 32768 * c ≡ d + 8 * e + 32768 * f + (p + 8 * q + 32768 * r)
 three a b c d e f p q r i j k = omega arith
@@ -211,13 +211,6 @@ sixes_kept g words x y coef p e a =
       at = λ t c l. a.at t c l ∙ sym (six_kept g x y coef t c (record { column = p.column; row = p.row; whole = a.whole }) e);
     }
 
--- what was read in a word
-pub six_is : (g : Cells) (words : List ℕ) (t c i v : ℕ) → AreSixes g words → t < stripes_of g + 2 → c < wide_of g → i ≡ t * wide_of g + c → v ≡ get_or words i v
-    → v ≡ six g false t c
-six_is g words t c i v a p q f e =
-    let l : i < length words = subst (λ (n : ℕ). n < length words) (sym f) (six_index g words t c a p q) in
-    e ∙ (any_default words i v 0 l ∙ (ap (λ (j : ℕ). get_or words j 0) f ∙ a.at t c q))
-
 -- its four rows, and what is seen with causal contexts
 pub word_in_six : (g : Cells) (t c : ℕ) → six g false t c / 8 % 4096 ≡ word g t c
 word_in_six g t c =
@@ -232,10 +225,3 @@ six_causal g t c =
     let b = word_le g t c in
     let d = mark_le g c (4 * t + 1) in
     omega arith
-
-pub six_few : (g : Cells) (causal : Bool) (t c : ℕ) → six g causal t c ≤ 65535
-six_few g true t c =
-    let a = mark_le g c (4 * t - 4) in
-    let b = word_le g t c in
-    omega arith
-six_few g false t c = let a = six_le g t c in omega arith

@@ -1,5 +1,5 @@
 -- What is told of a bit and of a sign, by the question that was asked.
-use Rattle.std.proofs.Common.{◌≡◌, ◌+◌, ◌∙◌, ℕ, Bool, true, false, sym, ap, if◌then◌else◌}
+use Rattle.std.proofs.Common.{◌≡◌, ◌∙◌, ℕ, Bool, true, false, sym, ap, if◌then◌else◌}
 use Rattle.jx_tier1_specs.specs.declared.question.Plane.{Plane}
 use Rattle.jx_tier1_specs.specs.declared.question.Question.{Question}
 use Rattle.jx_tier1_specs.specs.declared.question.About.TheVariants.{Bit, Sign}
@@ -7,7 +7,7 @@ use Rattle.jx_tier1_specs.specs.Cells.{Cells}
 use Rattle.jx_tier1_specs.specs.Labels.{sign_row}
 use Rattle.jx_tier1_specs.specs.Near.{across_of, down_of}
 use Rattle.jx_tier1_specs.specs.Asking.{Told, told}
-use Rattle.jx_tier1_specs.specs.Pass.{shift_of, changed, with_bit, with_sign, question, sign_question, label_at, sign_of, bit_of, zeroed, named_at}
+use Rattle.jx_tier1_specs.specs.Pass.{shift_of, changed, with_bit, with_sign, question, sign_question, label_at, sign_of, bit_of}
 
 pub sign_told : {S : Type 0} (ask : S → Question → Bool × S) (k : Plane) (f g h : Cells) (x y shift : ℕ) (row : ℕ × Bool) (negative : Bool) (s t : S)
     → f ≡ g → row ≡ sign_row (across_of f k.causal x y) (down_of f k.causal x y) → shift ≡ shift_of k
@@ -20,17 +20,6 @@ sign_told ask k f g h x y shift row negative s t i r n e u d =
     let e' : negative ≡ (ask s q).0 = rw (r, n, i) at e in
     let u' : t ≡ (ask s q).1 = rw (r, n, i) at u in
     (d ∙ ap (λ (b : Bool). changed g x y (with_sign k b)) e', u')
-
--- with the places above it
-pub named_told : {S : Type 0} (ask : S → Question → Bool × S) (k : Plane) (f g h z : Cells) (x y n shift : ℕ) (row : ℕ × Bool) (negative : Bool) (s t : S)
-    → f ≡ g → row ≡ sign_row (across_of f k.causal x (y + n)) (down_of f k.causal x (y + n)) → shift ≡ shift_of k
-    → negative ≡ (ask s (record { label = row.0; turned = row.1; shift = shift; about = Sign x (y + n) })).0
-    → t ≡ (ask s (record { label = row.0; turned = row.1; shift = shift; about = Sign x (y + n) })).1
-    → h ≡ changed g x (y + n) (with_sign k negative) → z ≡ zeroed k n h x y
-    → (z ≡ (told ask (named_at k g x y n) s).0) × (t ≡ (told ask (named_at k g x y n) s).1)
-named_told ask k f g h z x y n shift row negative s t i r m e u d c =
-    let a = sign_told ask k f g h x (y + n) shift row negative s t i r m e u d in
-    (c ∙ ap (λ (v : Cells). zeroed k n v x y) a.0, a.1)
 
 -- a bit that is 1 leads to the sign
 pub one_told : {S : Type 0} (ask : S → Question → Bool × S) (k : Plane) (g : Cells) (x y label shift : ℕ) (bit : Bool) (s t : S)

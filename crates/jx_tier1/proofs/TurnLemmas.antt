@@ -126,9 +126,6 @@ below_at y =
     ]
 
 -- the four of a place
-bit_same : (around b : ℕ) (c : Coef) (n : ℕ) → n ≡ around / b % 2 → (around / b % 2 == 1) ≡ significant c → (n == 1) ≡ significant c
-bit_same around b c n e f = ap (λ (z : ℕ). z == 1) e ∙ f
-
 pub turn_shown : (planes : ℕ) (g : Cells) (m : Marking) (causal : Bool) (x y around : ℕ) → Shows planes g m → IsSpot m x y → around ≡ nine g causal x y
     → turn_of (turn_number m x y around) ≡ sign_row (across_of g causal x y) (down_of g causal x y)
 unfolding turn_of turn_number

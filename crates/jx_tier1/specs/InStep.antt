@@ -1,10 +1,9 @@
 -- Passes that are decoded and coded in step: each decision that is read is written, under the label that it was read under
 -- (ITU-T T.800, D.3, D.4).
-use Rattle.std.specs.Prelude.{ℕ, zero, suc, ◌+◌, ◌==◌, Bool, true, false, ◌||◌, List, [], ◌∷◌, ◌++◌, drop, if◌then◌else◌, Option, None}
+use Rattle.std.specs.Prelude.{ℕ, zero, suc, ◌+◌, ◌==◌, Bool, false, ◌||◌, List, [], ◌∷◌, ◌++◌, drop, if◌then◌else◌, Option, None}
 use Rattle.jx_coder_specs.specs.MqTable.{mq_fresh}
 use Rattle.jx_base.specs.Passes.{raw_pass, end_pass, is_causal}
 use Rattle.jx_tier1_specs.specs.declared.question.Question.{Question}
-use Rattle.jx_tier1_specs.specs.declared.question.About.TheVariants.{Symbol}
 use Rattle.jx_tier1_specs.specs.Cells.{Cells}
 use Rattle.jx_tier1_specs.specs.Asking.{told}
 use Rattle.jx_tier1_specs.specs.Pass.{pass_of}
@@ -33,13 +32,6 @@ copy_answer s question =
         writing = after_coded s.writing question.label (turned_over s.writing.raw question answer);
       },
     )
-
--- a question that has a label, and may be turned over; what it says isn't looked at
-abbrev pub asked : ℕ → Bool → Question
-asked label turned = record { label = label; turned = turned; shift = 0; about = Symbol true }
-
-abbrev pub copy_by : Copying → ℕ → Bool → Bool × Copying
-copy_by s label turned = copy_answer s (asked label turned)
 
 -- after some passes: the coefficients, the coders, the segments that weren't begun, the first pass whose segmentation symbol is
 -- wrong, and the segments that are done

@@ -4,6 +4,7 @@ pub mod Joined
 pub mod Labels
 pub mod Marks
 pub mod Notes
+pub mod Noting
 pub mod Numbers
 pub mod Signs
 pub mod Placing

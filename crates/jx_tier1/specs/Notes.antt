@@ -1,4 +1,4 @@
--- What is kept of a block while it is coded anew: where it is significant, and a note of each coefficient.
+-- What passes look at of a block: where it is significant, and a note of each coefficient.
 use Rattle.std.specs.Prelude.{ℕ, ◌+◌, ◌-◌, ◌*◌, ◌/◌, ◌%◌, ◌^◌, ◌<◌, ◌≤◌, ◌≡◌, nat_le, Bool, if◌then◌else◌, List, length, slice_index_or, slice_set, replicate}
 use Rattle.jx_tier1_specs.specs.declared.coef.Coef.{Coef}
 use Rattle.jx_tier1_specs.specs.Cells.{Cells, coef_at}

@@ -1,15 +1,10 @@
 -- A walk over the marks of a block: what it asks and leaves is what a procedure over the coefficients does.
-use Rattle.std.specs.Prelude.{ℕ, ◌≡◌, ◌+◌, ◌*◌, ◌%◌, ◌<◌, Bool, false}
+use Rattle.std.specs.Prelude.{ℕ, ◌≡◌, ◌+◌, ◌*◌, ◌%◌, ◌<◌, false}
 use Rattle.jx_tier1_specs.specs.declared.question.Plane.{Plane}
-use Rattle.jx_tier1_specs.specs.declared.question.Question.{Question}
 use Rattle.jx_tier1_specs.specs.Cells.{Cells, coef_at}
 use Rattle.jx_tier1_specs.specs.Pass.{IsScan}
 use Rattle.jx_tier1_specs.proofs.PhaseLemmas.{IsAt}
 use Rattle.jx_tier1.specs.Notes.{Marking, Shows}
-
--- a question that is answered by its label, and by whether its decision is turned over
-abbrev pub by_label : {S : Type 0} → (S → ℕ → Bool → Bool × S) → S → Question → Bool × S
-by_label answer s question = answer s question.label question.turned
 
 -- the marks and whoever answers are as a procedure leaves the coefficients and whoever answers it
 pub record Ends {S : Type 0} (planes : ℕ) (told : Cells × S) (m : Marking) (after : S) : Type 0 where

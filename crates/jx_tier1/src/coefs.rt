@@ -62,15 +62,6 @@ impl Coefs {
         }
     }
 
-    /// Whether the coefficient of a number is below 0.
-    #[inline(always)]
-    pub fn negative(&self, i: usize) -> bool
-        requires { i < length self.now }
-        ensures { result ≡ (slice_index_or self.now i zero_coef).negative }
-    {
-        self.at(i).negative
-    }
-
     /// Changes the coefficient of a number, and no other.
     #[inline(always)]
     pub fn set(&mut self, i: usize, coef: Coef)

@@ -2,12 +2,11 @@
 
 ghost use Rattle.std.specs.Prelude.{◌≡◌, ◌^◌, ◌<◌, ℕ, length, IfOk, OnOk};
 ghost use Rattle.jx_tier1_specs.specs.Reading.{fresh_reading, read_symbol};
-ghost use Rattle.jx_tier1.specs.InStep.{Copying, asked, renewed_both};
+ghost use Rattle.jx_tier1.specs.InStep.{Copying, renewed_both};
 
-use crate::answering::Answering;
 use crate::pen::Pen;
 use jx_base::{NoMemory, Style};
-use jx_tier1_specs::{About, Question, Reader, Source};
+use jx_tier1_specs::{Question, Reader, Source};
 use std::marker::Model;
 
 /// Answers by the decisions of a segment, and writes each answer into another segment.
@@ -15,19 +14,6 @@ use std::marker::Model;
 pub struct Copier<'a> {
     pub reader: Reader<'a>,
     pub pen: Pen,
-}
-
-/// A question of which no more than its label is looked at, and whether its decision is turned over.
-#[inline(always)]
-fn asked(label: u8, turned: bool) -> Question
-    ensures { result ≡ asked label turned }
-{
-    Question {
-        label,
-        turned,
-        shift: 0,
-        about: About::Symbol(true),
-    }
 }
 
 impl<'a> Model for Copier<'a> {
@@ -52,14 +38,16 @@ impl<'a> Copier<'a> {
     }
 }
 
-impl<'a> Answering for Copier<'a> {
-    ghost use Rattle.jx_tier1.specs.InStep.{copy_by};
+impl<'a> Source for Copier<'a> {
+    ghost use Rattle.std.specs.Prelude.{false};
+    ghost use Rattle.jx_tier1.specs.InStep.{copy_answer};
 
-    ghost answer = { copy_by };
+    ghost ask = { copy_answer };
+
+    ghost is_sure = { false };
 
     #[inline(always)]
-    fn answer(&mut self, label: u8, turned: bool) -> Result<bool, NoMemory> {
-        let question = asked(label, turned);
+    fn ask(&mut self, question: Question) -> Result<bool, NoMemory> {
         let answer = self.reader.ask(question)?;
         self.pen.write(question, answer)?;
         Ok(answer)

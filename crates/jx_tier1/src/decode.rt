@@ -1,19 +1,23 @@
 //! A code-block decoded.
 
 ghost use Rattle.std.specs.Prelude.{◌≡◌, ◌-◌, ◌*◌, ◌^◌, ◌<◌, ◌≤◌, ℕ, List, map, IfOk, OnOk, MatchOption};
-ghost use Rattle.jx_tier1_specs.specs.Cells.{Cells, HasSize, AreWithin};
+ghost use Rattle.jx_tier1_specs.specs.Cells.{Cells, AreWithin};
 ghost use Rattle.jx_tier1_specs.specs.Segments.{bytes_of};
-ghost use Rattle.jx_tier1_specs.specs.Reading.{Decoding, coding_of, at_start, read_from, decoded};
+ghost use Rattle.jx_tier1_specs.specs.Reading.{Decoding, coding_of, at_start, read_from, decoded, zeros};
 ghost use Rattle.jx_tier1.specs.Labels.{AreLabels};
+ghost use Rattle.jx_tier1.specs.Notes.{unmarked};
+ghost use Rattle.jx_tier1.specs.Turns.{AreTurns};
 ghost use Rattle.jx_tier1_specs.specs.Short.{AreShort};
 
 use crate::FlagGrid;
 use crate::decoder::Decoder;
-use crate::field::Field;
 use crate::labels::labels_of;
-use jx_base::NoMemory;
+use crate::marks::Marks;
+use crate::noter::Noter;
+use crate::turns::turns_of;
+use jx_base::{Band, NoMemory};
 use jx_mq::Contexts;
-use jx_tier1_specs::{BadSymbol, Coded, Reader};
+use jx_tier1_specs::{BadSymbol, Coded, Plane, Reader};
 use std::alloc::Global;
 
 /// The coefficients that coded passes give.
@@ -27,6 +31,18 @@ pub struct FlagDecoded {
     pub wrong: Option<u16>,
 }
 
+/// What is taken for the plane that is scanned before a pass begins.
+fn first_plane() -> Plane
+    ensures { result.number < 74 }
+{
+    Plane {
+        band: Band::LL,
+        causal: false,
+        planes: 1,
+        number: 0,
+    }
+}
+
 /// A block of which no pass was decoded.
 fn start<'a>(
     alloc: Global,
@@ -37,8 +53,13 @@ fn start<'a>(
     ensures decoding { IfOk result (λ d. d ≡ at_start width height (map bytes_of segments.entry.now)) }
 {
     Ok(Decoder {
-        field: Field::new(alloc, width, height)?,
-        reader: Reader::new(false, &[], Contexts::new()),
+        noter: Noter {
+            reader: Reader::new(false, &[], Contexts::new()),
+            grid: FlagGrid::new(alloc, width, height)?,
+            plane: first_plane(),
+            high: false,
+            low: false,
+        },
         segments,
         next: 0,
         looked: Vec::new(alloc),
@@ -53,52 +74,77 @@ fn end(decoder: Decoder) -> FlagDecoded
     ensures wrong { result.wrong ≡ decoder.entry.wrong }
 {
     let Decoder {
-        field,
+        noter,
         looked,
         wrong,
         ..
     } = decoder;
     FlagDecoded {
-        grid: field.grid,
+        grid: noter.grid,
         looked,
         wrong,
     }
 }
 
 /// Decodes the passes of a block.
-#[tactic(auto, using(jx_tier1_specs::proofs::ReadMore::read_more, jx_tier1_specs::proofs::ReadMore::read_done, jx_tier1_specs::proofs::Places::within_more))]
-fn run<'a>(decoder: &mut Decoder<'a>, labels: &[u8], coded: &Coded) -> Result<(), NoMemory>
+fn run<'a>(
+    decoder: &mut Decoder<'a>,
+    marks: &mut Marks,
+    labels: &[u8],
+    turns: &[u8],
+    coded: &Coded,
+) -> Result<(), NoMemory>
     requires labels { AreLabels coded.now.band labels.now }
+    requires turns { AreTurns turns.now }
     requires some { 1 ≤ coded.now.planes }
     requires planes { coded.now.planes ≤ 74 }
     requires passes { coded.now.passes ≤ 3 * coded.now.planes - 2 }
-    requires size { HasSize decoder.old.cells }
-    requires within { AreWithin coded.now.planes 1 decoder.old.cells }
+    requires fresh { marks.old ≡ unmarked marks.old.width marks.old.height }
+    requires wide { marks.old.width ≤ 1024 }
+    requires high { marks.old.height ≤ 1024 }
+    requires cells { decoder.old.cells ≡ zeros marks.old.width marks.old.height }
     requires rest { AreShort decoder.old.rest }
     ensures decoding { OnOk result (decoder.new ≡
         read_from (coding_of coded.now.band coded.now.style.bits coded.now.planes) coded.now.passes 0 decoder.old) }
     ensures within { OnOk result (AreWithin coded.now.planes coded.now.planes decoder.new.cells) }
 {
     for pass in 0..coded.passes {
-        decoder.pass(labels, coded.band, coded.style, coded.planes, pass)?;
+        decoder.pass(
+            marks,
+            labels,
+            turns,
+            coded.band,
+            coded.style,
+            coded.planes,
+            pass,
+        )?;
     }
     Ok(())
 }
 
-/// The same from a table of labels that it makes.
-fn run_block<'a>(decoder: &mut Decoder<'a>, alloc: Global, coded: &Coded) -> Result<(), NoMemory>
+/// The same from tables of labels and from marks that it makes.
+fn run_block<'a>(
+    decoder: &mut Decoder<'a>,
+    alloc: Global,
+    width: u16,
+    height: u16,
+    coded: &Coded,
+) -> Result<(), NoMemory>
     requires some { 1 ≤ coded.now.planes }
     requires planes { coded.now.planes ≤ 74 }
     requires passes { coded.now.passes ≤ 3 * coded.now.planes - 2 }
-    requires size { HasSize decoder.old.cells }
-    requires within { AreWithin coded.now.planes 1 decoder.old.cells }
+    requires wide { width ≤ 1024 }
+    requires high { height ≤ 1024 }
+    requires cells { decoder.old.cells ≡ zeros width height }
     requires rest { AreShort decoder.old.rest }
     ensures decoding { OnOk result (decoder.new ≡
         read_from (coding_of coded.now.band coded.now.style.bits coded.now.planes) coded.now.passes 0 decoder.old) }
     ensures within { OnOk result (AreWithin coded.now.planes coded.now.planes decoder.new.cells) }
 {
     let labels = labels_of(alloc, coded.band)?;
-    run(decoder, &labels, coded)
+    let turns = turns_of(alloc)?;
+    let mut marks = Marks::new(alloc, width, height)?;
+    run(decoder, &mut marks, &labels, &turns, coded)
 }
 
 /// The coefficients of a block of at most 1,024 by 1,024 places, from its coded passes (T.800, Annex
@@ -124,7 +170,7 @@ pub fn decode_flags(
     ensures within { IfOk result (λ d. AreWithin coded.now.planes coded.now.planes d.grid) }
 {
     let mut decoder = start(alloc, width, height, coded.segments.as_slice())?;
-    let result = run_block(&mut decoder, alloc, coded);
+    let result = run_block(&mut decoder, alloc, width, height, coded);
     let decoded = end(decoder);
     result?;
     Ok(decoded)

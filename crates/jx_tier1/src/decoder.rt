@@ -1,25 +1,29 @@
 //! One coding pass after another, decoded.
 
-ghost use Rattle.std.specs.Prelude.{◌≡◌, ◌+◌, ◌++◌, ◌∷◌, [], ◌/◌, ◌%◌, ◌^◌, ◌==◌, ◌&&◌, ◌<◌, ℕ, length, drop, All, OnOk, IfOk, IsOk};
-ghost use Rattle.jx_tier1_specs.specs.Cells.{Cells, HasSize, AreWithin, IsKept};
+ghost use Rattle.std.specs.Prelude.{◌≡◌, ◌+◌, ◌++◌, ◌∷◌, [], ◌/◌, ◌%◌, ◌^◌, ◌==◌, ◌&&◌, ◌<◌, ◌≤◌, ℕ, length, drop, All, OnOk, IfOk, IsOk};
+ghost use Rattle.jx_tier1_specs.specs.Cells.{Cells, AreWithin};
 ghost use Rattle.jx_tier1_specs.specs.Pass.{IsScan, plane_of};
 ghost use Rattle.jx_tier1_specs.specs.Segments.{begins};
 ghost use Rattle.jx_tier1_specs.specs.Reading.{Decoding, coding_of, first_segment, opened, read_bits, read_symbol, looked_of, read_within, read_pass, first_wrong};
 ghost use Rattle.jx_tier1.specs.Labels.{AreLabels};
+ghost use Rattle.jx_tier1.specs.Notes.{Marking, Shows, IsOfSize};
+ghost use Rattle.jx_tier1.specs.Turns.{AreTurns};
+ghost use Rattle.jx_tier1.specs.Walking.{IsNow};
 ghost use Rattle.jx_tier1_specs.specs.Short.{AreShort, with_bits};
 ghost use Rattle.jx_base.specs.Passes.{is_causal, has_symbols};
 
-use crate::field::Field;
-use crate::scan::run_pass;
+use crate::marks::Marks;
+use crate::noter::Noter;
+use crate::questions::plane_for;
+use crate::walk_passes::walk_pass;
 use jx_base::{Band, NoMemory, Style, ends_segment, is_raw};
-use jx_tier1_specs::{Reader, ask_symbol};
+use jx_tier1_specs::ask_symbol;
 use std::marker::Model;
 
 /// A block of which some passes were decoded.
 #[derive(Drop)]
 pub struct Decoder<'a> {
-    pub field: Field,
-    pub reader: Reader<'a>,
+    pub noter: Noter<'a>,
     pub segments: &'a [&'a [u8]],
     pub next: usize,
     pub looked: Vec<u32>,
@@ -33,7 +37,7 @@ impl<'a> Model for Decoder<'a> {
 
     ghost Value = { Decoding };
 
-    ghost view = { λ d. record { cells = d.field; reading = d.reader; rest = map bytes_of (drop d.next d.segments.now); looked = d.looked.items; wrong = d.wrong } };
+    ghost view = { λ d. record { cells = d.noter.cells; reading = d.noter.reading; rest = map bytes_of (drop d.next d.segments.now); looked = d.looked.items; wrong = d.wrong } };
 }
 
 /// Whether a pass is the first of its segment.
@@ -76,7 +80,7 @@ impl<'a> Decoder<'a> {
     {
         if begins_segment(style, pass) {
             let segment = self.take_segment();
-            self.reader.begin(is_raw(style, pass), segment);
+            self.noter.reader.begin(is_raw(style, pass), segment);
         }
     }
 
@@ -84,13 +88,12 @@ impl<'a> Decoder<'a> {
     fn symbol(&mut self, style: Style, pass: u16) -> Result<bool, NoMemory>
         ensures right { IfOk result (λ right. right ≡ (read_symbol style.bits pass self.old.reading).0) }
         ensures decoding { OnOk result (self.new ≡ record self.old { reading = (read_symbol style.bits pass self.old.reading).1 }) }
-        ensures sure { IsOk result }
         ensures kept { self.new.cells ≡ self.old.cells }
     {
         if !has_symbol(style, pass) {
             return Ok(true);
         }
-        ask_symbol(&mut self.reader)
+        ask_symbol(&mut self.noter.reader)
     }
 
     /// Notes what was looked at by the end of a pass, and whether its symbol is wrong.
@@ -100,7 +103,7 @@ impl<'a> Decoder<'a> {
           wrong = first_wrong self.old.wrong pass right;
         }) }
     {
-        self.looked.push(self.reader.looked())?;
+        self.looked.push(self.noter.reader.looked())?;
         if self.wrong.is_none() && !right {
             self.wrong = Some(pass);
         }
@@ -110,75 +113,92 @@ impl<'a> Decoder<'a> {
     /// A pass's own decisions.
     fn bits(
         &mut self,
+        marks: &mut Marks,
         labels: &[u8],
+        turns: &[u8],
         band: Band,
         style: Style,
         planes: u8,
         pass: u16,
     ) -> Result<(), NoMemory>
         requires labels { AreLabels band labels.now }
+        requires turns { AreTurns turns.now }
         requires scan { IsScan (plane_of band (is_causal style.bits) planes pass) }
-        requires size { HasSize self.old.cells }
+        requires few { pass ≤ 220 }
+        requires wide { marks.old.width ≤ 1024 }
+        requires high { marks.old.height ≤ 1024 }
+        requires shows { Shows planes self.old.cells marks.old }
+        requires now { IsNow (plane_of band (is_causal style.bits) planes pass) self.old.cells }
         requires within { AreWithin planes ((pass + 2) / 3 + 1) self.old.cells }
         ensures decoding { OnOk result (self.new ≡ with_bits self.old (read_bits (coding_of band style.bits planes) pass self.old)) }
-        ensures sure { IsOk result }
-        ensures kept { OnOk result (IsKept planes ((pass + 2) / 3 + 1) self.old.cells self.new.cells) }
+        ensures size { IsOfSize marks.old marks.new }
+        ensures shows { OnOk result (Shows planes self.new.cells marks.new) }
+        ensures within { OnOk result (AreWithin planes ((pass + 2) / 3 + 1) self.new.cells) }
     {
-        if style.reset() {
-            self.reader.renew();
-        }
-        let causal = style.causal();
-        run_pass(
-            &mut self.reader,
-            &mut self.field,
-            labels,
-            band,
-            causal,
-            planes,
-            pass,
-        )
+        let plane = plane_for(band, style, planes, pass);
+        self.noter.begin(plane, style);
+        walk_pass(&mut self.noter, marks, labels, turns, plane, pass)?;
+        Ok(())
     }
 
     /// A pass within its segment.
     fn pass_within(
         &mut self,
+        marks: &mut Marks,
         labels: &[u8],
+        turns: &[u8],
         band: Band,
         style: Style,
         planes: u8,
         pass: u16,
     ) -> Result<(), NoMemory>
         requires labels { AreLabels band labels.now }
+        requires turns { AreTurns turns.now }
         requires scan { IsScan (plane_of band (is_causal style.bits) planes pass) }
-        requires size { HasSize self.old.cells }
+        requires few { pass ≤ 220 }
+        requires wide { marks.old.width ≤ 1024 }
+        requires high { marks.old.height ≤ 1024 }
+        requires shows { Shows planes self.old.cells marks.old }
+        requires now { IsNow (plane_of band (is_causal style.bits) planes pass) self.old.cells }
         requires within { AreWithin planes ((pass + 2) / 3 + 1) self.old.cells }
         ensures decoding { OnOk result (self.new ≡ read_within (coding_of band style.bits planes) pass self.old) }
-        ensures kept { OnOk result (IsKept planes ((pass + 2) / 3 + 1) self.old.cells self.new.cells) }
+        ensures size { IsOfSize marks.old marks.new }
+        ensures shows { OnOk result (Shows planes self.new.cells marks.new) }
+        ensures within { OnOk result (AreWithin planes ((pass + 2) / 3 + 1) self.new.cells) }
     {
-        self.bits(labels, band, style, planes, pass)?;
+        self.bits(marks, labels, turns, band, style, planes, pass)?;
         let right = self.symbol(style, pass)?;
         self.note(pass, right)
     }
 
-    /// The next pass of the block.
+    /// The next pass of the block, whose coefficients the marks show.
     pub fn pass(
         &mut self,
+        marks: &mut Marks,
         labels: &[u8],
+        turns: &[u8],
         band: Band,
         style: Style,
         planes: u8,
         pass: u16,
     ) -> Result<(), NoMemory>
         requires labels { AreLabels band labels.now }
+        requires turns { AreTurns turns.now }
         requires scan { IsScan (plane_of band (is_causal style.bits) planes pass) }
-        requires size { HasSize self.old.cells }
+        requires few { pass ≤ 220 }
+        requires wide { marks.old.width ≤ 1024 }
+        requires high { marks.old.height ≤ 1024 }
+        requires shows { Shows planes self.old.cells marks.old }
+        requires now { IsNow (plane_of band (is_causal style.bits) planes pass) self.old.cells }
         requires within { AreWithin planes ((pass + 2) / 3 + 1) self.old.cells }
         requires rest { AreShort self.old.rest }
         ensures decoding { OnOk result (self.new ≡ read_pass (coding_of band style.bits planes) pass self.old) }
-        ensures kept { OnOk result (IsKept planes ((pass + 2) / 3 + 1) self.old.cells self.new.cells) }
+        ensures size { IsOfSize marks.old marks.new }
+        ensures shows { OnOk result (Shows planes self.new.cells marks.new) }
+        ensures within { OnOk result (AreWithin planes ((pass + 2) / 3 + 1) self.new.cells) }
         ensures rest { OnOk result (AreShort self.new.rest) }
     {
         self.open(style, pass);
-        self.pass_within(labels, band, style, planes, pass)
+        self.pass_within(marks, labels, turns, band, style, planes, pass)
     }
 }

@@ -3,17 +3,21 @@
 ghost use Rattle.std.specs.Prelude.{◌≡◌, ◌+◌, ◌-◌, ◌*◌, ◌++◌, [], ◌<◌, ◌≤◌, ℕ, map, IfOk, OnOk};
 ghost use Rattle.jx_coder_specs.specs.MqTable.{mq_fresh};
 ghost use Rattle.jx_base.specs.Passes.{raw_pass};
-ghost use Rattle.jx_tier1_specs.specs.Cells.{Cells, HasSize, AreWithin};
+ghost use Rattle.jx_tier1_specs.specs.Cells.{Cells, HasSize};
 ghost use Rattle.jx_tier1_specs.specs.Reading.{coding_of, zeros};
 ghost use Rattle.jx_tier1_specs.specs.Needs.{needs_from, written};
+ghost use Rattle.jx_tier1.specs.InStep.{no_grid};
 ghost use Rattle.jx_tier1.specs.Labels.{AreLabels};
+ghost use Rattle.jx_tier1.specs.Notes.{Marking, unmarked};
+ghost use Rattle.jx_tier1.specs.Turns.{AreTurns};
 ghost use Rattle.jx_tier1_specs.specs.Writing.{fresh_writing, finished_from};
 ghost use Rattle.jx_tier1_specs.specs.Encoding.{Encoding};
 
 use crate::FlagGrid;
 use crate::encoder::Encoder;
-use crate::field::Field;
 use crate::labels::labels_of;
+use crate::marks::Marks;
+use crate::turns::turns_of;
 use crate::writer::Writer;
 use jx_base::{Band, NoMemory, Style, is_raw};
 use std::alloc::Global;
@@ -21,14 +25,13 @@ use std::alloc::Global;
 /// A block of which no pass was coded.
 fn start<'a>(alloc: Global, grid: &'a FlagGrid, style: Style) -> Result<Encoder<'a>, NoMemory>
     ensures { IfOk result (λ e. e ≡ record {
-      cells = zeros grid.entry.now.width grid.entry.now.height;
+      cells = no_grid;
       writing = fresh_writing grid.entry.now (raw_pass style.bits 0) mq_fresh;
       done = [];
     }) }
 {
     Ok(Encoder {
-        field: Field::new(alloc, grid.width(), grid.height())?,
-        writer: Writer::new(alloc, grid, is_raw(style, 0)),
+        writer: Writer::new(alloc, grid, is_raw(style, 0))?,
         segments: Vec::new(alloc),
     })
 }
@@ -41,36 +44,51 @@ fn end(encoder: Encoder) -> Vec<Vec<u8>>
 }
 
 /// Codes the passes of a block.
-#[tactic(auto, using(jx_tier1_specs::proofs::WroteLemmas::step_more, jx_tier1_specs::proofs::WroteLemmas::step_end, jx_tier1_specs::proofs::WroteLemmas::step_kind, jx_tier1_specs::proofs::WroteLemmas::step_target, jx_tier1_specs::proofs::Places::within_more))]
 fn run<'a>(
     encoder: &mut Encoder<'a>,
+    marks: &mut Marks,
     alloc: Global,
     labels: &[u8],
+    turns: &[u8],
     band: Band,
     style: Style,
     planes: u8,
     passes: u16,
 ) -> Result<(), NoMemory>
     requires labels { AreLabels band labels.now }
+    requires turns { AreTurns turns.now }
     requires some { 1 ≤ planes }
     requires planes { planes ≤ 74 }
     requires passes { passes ≤ 3 * planes - 2 }
-    requires size { HasSize encoder.old.cells }
-    requires within { AreWithin planes 1 encoder.old.cells }
+    requires fresh { marks.old ≡ unmarked marks.old.width marks.old.height }
+    requires wide { marks.old.width ≤ 1024 }
+    requires high { marks.old.height ≤ 1024 }
     requires kind { encoder.old.writing.raw ≡ raw_pass style.bits 0 }
     ensures { OnOk result (encoder.new.done ≡ encoder.old.done ++ finished_from style.bits 0 encoder.old.writing
-        (needs_from (coding_of band style.bits planes) encoder.old.writing.target passes 0 encoder.old.cells)) }
+        (needs_from (coding_of band style.bits planes) encoder.old.writing.target passes 0 (zeros marks.old.width marks.old.height))) }
 {
     for pass in 0..passes {
-        encoder.pass(alloc, labels, band, style, planes, pass, pass + 1 == passes)?;
+        encoder.pass(
+            alloc,
+            marks,
+            labels,
+            turns,
+            band,
+            style,
+            planes,
+            pass,
+            pass + 1 == passes,
+        )?;
     }
     Ok(())
 }
 
-/// The same from a table of labels that it makes.
+/// The same from tables of labels and from marks that it makes.
 fn run_block<'a>(
     encoder: &mut Encoder<'a>,
     alloc: Global,
+    width: u16,
+    height: u16,
     band: Band,
     style: Style,
     planes: u8,
@@ -79,14 +97,18 @@ fn run_block<'a>(
     requires some { 1 ≤ planes }
     requires planes { planes ≤ 74 }
     requires passes { passes ≤ 3 * planes - 2 }
-    requires size { HasSize encoder.old.cells }
-    requires within { AreWithin planes 1 encoder.old.cells }
+    requires wide { width ≤ 1024 }
+    requires high { height ≤ 1024 }
     requires kind { encoder.old.writing.raw ≡ raw_pass style.bits 0 }
     ensures { OnOk result (encoder.new.done ≡ encoder.old.done ++ finished_from style.bits 0 encoder.old.writing
-        (needs_from (coding_of band style.bits planes) encoder.old.writing.target passes 0 encoder.old.cells)) }
+        (needs_from (coding_of band style.bits planes) encoder.old.writing.target passes 0 (zeros width height))) }
 {
     let labels = labels_of(alloc, band)?;
-    run(encoder, alloc, &labels, band, style, planes, passes)
+    let turns = turns_of(alloc)?;
+    let mut marks = Marks::new(alloc, width, height)?;
+    run(
+        encoder, &mut marks, alloc, &labels, &turns, band, style, planes, passes,
+    )
 }
 
 /// The segments of a block's passes that make the coefficients of a grid, of at most 1,024 by 1,024
@@ -108,7 +130,16 @@ pub fn encode_flags(
     ensures { IfOk result (λ segments. map (λ s. s.items) segments.items ≡ written (coding_of band style.bits planes) grid.now passes) }
 {
     let mut encoder = start(alloc, grid, style)?;
-    let result = run_block(&mut encoder, alloc, band, style, planes, passes);
+    let result = run_block(
+        &mut encoder,
+        alloc,
+        grid.width(),
+        grid.height(),
+        band,
+        style,
+        planes,
+        passes,
+    );
     let segments = end(encoder);
     result?;
     Ok(segments)

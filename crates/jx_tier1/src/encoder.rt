@@ -1,28 +1,32 @@
 //! One coding pass after another, coded.
 
-ghost use Rattle.std.specs.Prelude.{◌≡◌, ◌+◌, ◌-◌, ◌/◌, ◌<◌, ◌≤◌, ◌++◌, ◌∷◌, [], ◌||◌, ℕ, Bool, List, if◌then◌else◌, OnOk};
+ghost use Rattle.std.specs.Prelude.{◌≡◌, ◌+◌, ◌-◌, ◌*◌, ◌/◌, ◌<◌, ◌≤◌, ◌++◌, ◌∷◌, [], ◌||◌, ℕ, Bool, List, if◌then◌else◌, OnOk};
 ghost use Rattle.jx_base.specs.Passes.{raw_pass, end_pass, is_causal};
-ghost use Rattle.jx_tier1_specs.specs.Cells.{Cells, HasSize, AreWithin, IsKept};
-ghost use Rattle.jx_tier1_specs.specs.Pass.{IsScan, plane_of};
+ghost use Rattle.jx_tier1_specs.specs.Asking.{told};
+ghost use Rattle.jx_tier1_specs.specs.Cells.{Cells};
+ghost use Rattle.jx_tier1_specs.specs.Pass.{IsScan, plane_of, scanned};
 ghost use Rattle.jx_tier1_specs.specs.Reading.{coding_of};
-ghost use Rattle.jx_tier1_specs.specs.Needs.{pass_needs, followed_pass};
 ghost use Rattle.jx_tier1.specs.Labels.{AreLabels};
-ghost use Rattle.jx_tier1_specs.specs.Writing.{Writing, wrote, fresh_writing, segment_by};
-ghost use Rattle.jx_tier1_specs.specs.Encoding.{Encoding, after_bits, after_symbol, closed, after_pass, after_step};
+ghost use Rattle.jx_tier1.specs.Notes.{Marking, Shows, IsOfSize};
+ghost use Rattle.jx_tier1.specs.Placing.{coded_in, Comes};
+ghost use Rattle.jx_tier1.specs.Turns.{AreTurns};
+ghost use Rattle.jx_tier1.specs.Walking.{Ends, IsNow};
+ghost use Rattle.jx_tier1_specs.specs.Writing.{Writing, fresh_writing, segment_by, write_answer};
+ghost use Rattle.jx_tier1_specs.specs.Encoding.{Encoding, renewed_writing, after_symbol, closed, after_step};
 
-use crate::field::Field;
-use crate::scan::run_pass;
+use crate::marks::Marks;
+use crate::questions::plane_for;
+use crate::walk_passes::walk_pass;
 use crate::writer::Writer;
 use jx_base::{Band, NoMemory, Style, ends_segment, is_raw};
 use jx_tier1_specs::ask_symbol;
 use std::alloc::Global;
 use std::marker::Model;
 
-/// A block of which some passes were coded: its coefficients so far, the current segment, and the
-/// segments that are done.
+/// A block of which some passes were coded: the current segment, and the segments that are done. What
+/// is kept of its coefficients so far stands apart, in `Marks`.
 #[derive(Drop)]
 pub struct Encoder<'a> {
-    pub field: Field,
     pub writer: Writer<'a>,
     pub segments: Vec<Vec<u8>>,
 }
@@ -30,42 +34,41 @@ pub struct Encoder<'a> {
 impl<'a> Model for Encoder<'a> {
     ghost use Rattle.std.specs.Prelude.{map};
     ghost use Rattle.jx_tier1_specs.specs.Encoding.{Encoding};
+    ghost use Rattle.jx_tier1.specs.InStep.{no_grid};
 
     ghost Value = { Encoding };
 
-    ghost view = { λ e. record { cells = e.field; writing = e.writer; done = map (λ s. s.items) e.segments.items } };
+    ghost view = { λ e. record { cells = no_grid; writing = e.writer; done = map (λ s. s.items) e.segments.items } };
 }
 
 impl<'a> Encoder<'a> {
     /// A pass's own decisions.
     fn bits(
         &mut self,
+        marks: &mut Marks,
         labels: &[u8],
+        turns: &[u8],
         band: Band,
         style: Style,
         planes: u8,
         pass: u16,
     ) -> Result<(), NoMemory>
         requires labels { AreLabels band labels.now }
+        requires turns { AreTurns turns.now }
         requires scan { IsScan (plane_of band (is_causal style.bits) planes pass) }
-        requires size { HasSize self.old.cells }
-        requires within { AreWithin planes ((pass + 2) / 3 + 1) self.old.cells }
-        ensures encoding { OnOk result (self.new ≡ after_bits (coding_of band style.bits planes) pass self.old) }
-        ensures kept { OnOk result (IsKept planes ((pass + 2) / 3 + 1) self.old.cells self.new.cells) }
+        requires few { pass ≤ 220 }
+        requires wide { marks.old.width ≤ 1024 }
+        requires high { marks.old.height ≤ 1024 }
+        ensures size { IsOfSize marks.old marks.new }
+        ensures kept { self.new ≡ record self.old { writing = self.new.writing } }
+        ensures walk { (g : Cells) → Shows planes g marks.old → IsNow (plane_of band (is_causal style.bits) planes pass) g
+            → OnOk result (Ends planes (told write_answer (scanned pass (plane_of band (is_causal style.bits) planes pass) (g.width * g.height) 0 g)
+            (renewed_writing style.bits self.old.writing)) marks.new self.new.writing) }
     {
-        if style.reset() {
-            self.writer.renew();
-        }
-        let causal = style.causal();
-        run_pass(
-            &mut self.writer,
-            &mut self.field,
-            labels,
-            band,
-            causal,
-            planes,
-            pass,
-        )
+        self.writer.begin(style);
+        let plane = plane_for(band, style, planes, pass);
+        walk_pass(&mut self.writer, marks, labels, turns, plane, pass)?;
+        Ok(())
     }
 
     /// The segmentation symbol after a pass, where there is one (T.800 D.5).
@@ -90,25 +93,14 @@ impl<'a> Encoder<'a> {
         Ok(())
     }
 
-    /// A pass with its symbol.
-    fn pass_within(
-        &mut self,
-        labels: &[u8],
-        band: Band,
-        style: Style,
-        planes: u8,
-        pass: u16,
-    ) -> Result<(), NoMemory>
-        requires labels { AreLabels band labels.now }
-        requires scan { IsScan (plane_of band (is_causal style.bits) planes pass) }
-        requires size { HasSize self.old.cells }
-        requires within { AreWithin planes ((pass + 2) / 3 + 1) self.old.cells }
-        requires kind { self.old.writing.raw ≡ raw_pass style.bits pass }
-        ensures encoding { OnOk result (self.new ≡ after_pass (coding_of band style.bits planes) pass self.old) }
-        ensures kept { OnOk result (IsKept planes ((pass + 2) / 3 + 1) self.old.cells self.new.cells) }
+    /// Ends a segment where the pass does, or is the last.
+    fn finish(&mut self, alloc: Global, style: Style, pass: u16, last: bool) -> Result<(), NoMemory>
+        requires { pass < 65535 }
+        ensures encoding { OnOk result (self.new ≡ (if end_pass style.bits pass || last then closed style.bits pass self.old else self.old)) }
     {
-        self.bits(labels, band, style, planes, pass)?;
-        self.symbol(style, pass)?;
+        if last || ends_segment(style, pass) {
+            return self.close(alloc, style, pass);
+        }
         Ok(())
     }
 
@@ -116,7 +108,9 @@ impl<'a> Encoder<'a> {
     pub fn pass(
         &mut self,
         alloc: Global,
+        marks: &mut Marks,
         labels: &[u8],
+        turns: &[u8],
         band: Band,
         style: Style,
         planes: u8,
@@ -124,18 +118,19 @@ impl<'a> Encoder<'a> {
         last: bool,
     ) -> Result<(), NoMemory>
         requires labels { AreLabels band labels.now }
-        requires few { pass < 65535 }
+        requires turns { AreTurns turns.now }
         requires scan { IsScan (plane_of band (is_causal style.bits) planes pass) }
-        requires size { HasSize self.old.cells }
-        requires within { AreWithin planes ((pass + 2) / 3 + 1) self.old.cells }
+        requires few { pass ≤ 220 }
+        requires wide { marks.old.width ≤ 1024 }
+        requires high { marks.old.height ≤ 1024 }
         requires kind { self.old.writing.raw ≡ raw_pass style.bits pass }
-        ensures encoding { OnOk result (self.new ≡ after_step (coding_of band style.bits planes) last pass self.old) }
-        ensures kept { OnOk result (IsKept planes ((pass + 2) / 3 + 1) self.old.cells self.new.cells) }
+        ensures size { IsOfSize marks.old marks.new }
+        ensures walk { (g : Cells) → Shows planes g marks.old → IsNow (plane_of band (is_causal style.bits) planes pass) g
+            → OnOk result (Comes planes (after_step (coding_of band style.bits planes) last pass (coded_in g self.old)) marks.new self.new) }
     {
-        self.pass_within(labels, band, style, planes, pass)?;
-        if last || ends_segment(style, pass) {
-            return self.close(alloc, style, pass);
-        }
+        self.bits(marks, labels, turns, band, style, planes, pass)?;
+        self.symbol(style, pass)?;
+        self.finish(alloc, style, pass, last)?;
         Ok(())
     }
 }

@@ -63,17 +63,6 @@ impl FlagGrid {
         self.coefs.at(index)
     }
 
-    /// Whether the coefficient in column `x` and row `y`, which are in the grid, is below 0.
-    #[inline(always)]
-    pub(crate) fn negative(&self, x: u16, y: u16) -> bool
-        requires column { x < self.now.width }
-        requires row { y < self.now.height }
-        ensures { result ≡ (coef_at self.now x y).negative }
-    {
-        let index = index(self.width, self.height, x, y);
-        self.coefs.negative(index)
-    }
-
     /// What stands in column `x` and row `y`. Where there is no such place, this is whatever the list of
     /// rows has at y·width + x, and zero past its end.
     #[inline(always)]
@@ -100,6 +89,18 @@ impl FlagGrid {
     {
         let index = index(self.width, self.height, x, y);
         self.coefs.set(index, coef);
+    }
+
+    /// The same, where there may be no such place: then whatever the list of rows has at y·width + x is
+    /// changed, and nothing past its end.
+    #[inline(always)]
+    pub(crate) fn change(&mut self, x: u16, y: u32, coef: Coef)
+        ensures { self.new ≡ with_coef self.old x y coef }
+    {
+        let index = y as usize * usize::from(self.width) + usize::from(x);
+        if index < self.coefs.len() {
+            self.coefs.set(index, coef);
+        }
     }
 
     /// How many columns it has.

@@ -1,15 +1,11 @@
 //! Context labels of first bits, by a table of 512 (T.800, Table D.1).
 
 ghost use Rattle.std.specs.Prelude.{◌≡◌, ◌+◌, ◌/◌, ◌%◌, ◌<◌, ◌≤◌, ◌==◌, IfOk};
-ghost use Rattle.jx_tier1_specs.specs.Cells.{Cells, coef_at, significant, IsPlace};
-ghost use Rattle.jx_tier1_specs.specs.Near.{has_near};
-ghost use Rattle.jx_tier1_specs.specs.Pass.{label_at};
 ghost use Rattle.jx_tier1.specs.Labels.{HasLabels, AreLabels};
-ghost use Rattle.jx_tier1.specs.Windows.{nine, label_of};
+ghost use Rattle.jx_tier1.specs.Windows.{label_of};
 
-use crate::field::Field;
 use jx_base::{Band, NoMemory};
-use jx_tier1_specs::{Plane, significance_label};
+use jx_tier1_specs::significance_label;
 use std::alloc::Global;
 
 /// The label of a first bit, by the place and its eight neighbours.
@@ -35,38 +31,4 @@ pub(crate) fn labels_of(alloc: Global, band: Band) -> Result<Vec<u8>, NoMemory>
         labels.push(entry(band, n))?;
     }
     Ok(labels)
-}
-
-/// The label of the first bits of a place.
-#[inline(always)]
-#[tactic(auto, using(crate::proofs::WindowLemmas::label_is))]
-pub(crate) fn label(field: &Field, labels: &[u8], plane: Plane, x: u16, y: u16, around: u32) -> u8
-    requires labels { AreLabels plane.band labels.now }
-    requires few { around < 512 }
-    requires around { around ≡ nine field.now plane.causal x y }
-    ensures label { result ≡ label_at plane field.now x y }
-    ensures within { result ≤ 8 }
-{
-    labels[around as usize]
-}
-
-/// Whether the coefficient at a place is significant.
-#[inline(always)]
-#[tactic(auto, using(crate::proofs::WindowLemmas::here_is))]
-pub(crate) fn is_marked(field: &Field, causal: bool, x: u16, y: u16, around: u32) -> bool
-    requires place { IsPlace field.now x y }
-    requires around { around ≡ nine field.now causal x y }
-    ensures { result ≡ significant (coef_at field.now x y) }
-{
-    around / 16 % 2 == 1
-}
-
-/// Whether a neighbour of a place is significant.
-#[inline(always)]
-#[tactic(auto, using(crate::proofs::WindowLemmas::near_is))]
-pub(crate) fn is_near(field: &Field, causal: bool, x: u16, y: u16, around: u32) -> bool
-    requires { around ≡ nine field.now causal x y }
-    ensures { result ≡ has_near field.now causal x y }
-{
-    0 < around % 16 + around / 32
 }

@@ -2,7 +2,6 @@
 //! block is kept packed, one word for each column of a stripe, and labels are read from a table.
 #![tactic(auto)]
 
-mod answering;
 mod answers;
 mod coefs;
 mod copier;
@@ -10,17 +9,15 @@ mod decode;
 mod decoder;
 mod encode;
 mod encoder;
-mod field;
 mod grid;
 mod labels;
 mod marks;
+mod noter;
 mod pen;
+mod questions;
 mod recode;
 mod recoder;
-mod runs;
-mod scan;
-mod signs;
-mod steps;
+mod rows;
 mod turns;
 mod walk;
 mod walk_passes;

@@ -5,13 +5,13 @@ ghost use Rattle.jx_tier1.specs.Marks.{power};
 ghost use Rattle.jx_tier1.specs.Sixes.{beside};
 ghost use Rattle.jx_tier1.specs.Notes.{Marking, IsSpot, words_of, unmarked, spot, six_in, window_in, digit_in, note_in, replaced, noted, weighed, raised};
 
-use crate::field::{digit, weight_beside};
+use crate::rows::{digit, weight_beside};
 use jx_base::NoMemory;
 use std::alloc::Global;
 use std::marker::Model;
 
-/// What is kept of a code-block that is coded anew: a word of what is significant for each column of
-/// a stripe, as in `Field`, and a word of its four notes. A note says whether an odd number of planes
+/// What passes look at of a code-block: for each column of a stripe a word of what is significant in
+/// its four rows, the row above and the row below, and a word of its four notes. A note says whether an odd number of planes
 /// was decided (1), whether the coefficient was refined (2) and whether it is below 0 (4).
 #[derive(Drop)]
 pub(crate) struct Marks {

@@ -32,8 +32,20 @@ pub struct FlagRecoded {
     pub wrong: Option<u16>,
 }
 
-/// How many bytes the first segment of a style may have. More are no harm.
-fn room_of(segments: &[&[u8]], style: Style) -> usize {
+/// How many bytes the passes of a block can have at most: a pass asks for three decisions at a place
+/// at most, since those of a run of four are ten, and for four in a symbol, and each decision shifts
+/// the coder by 15 places at most, of which a byte takes seven.
+fn most_bytes(width: u16, height: u16, passes: u16) -> usize
+    requires wide { width ≤ 1024 }
+    requires high { height ≤ 1024 }
+{
+    let places = usize::from(width) * usize::from(height);
+    usize::from(passes) * (3 * places + 4) * 15 / 7 + 2
+}
+
+/// For how many bytes of the first segment room is taken: for as many as all old segments have, where
+/// no more are possible. More or fewer are no harm.
+fn room_of(segments: &[&[u8]], style: Style, most: usize) -> usize {
     let mut bytes = 64usize;
     if style.terminate() {
         return bytes;
@@ -41,14 +53,19 @@ fn room_of(segments: &[&[u8]], style: Style) -> usize {
     for segment in segments {
         bytes = bytes.saturating_add(segment.len());
     }
-    bytes
+    bytes.min(most)
 }
 
 /// A block of which no pass was decoded.
-fn start<'a>(alloc: Global, style: Style, segments: &'a [&'a [u8]]) -> Result<Recoder<'a>, NoMemory>
+fn start<'a>(
+    alloc: Global,
+    style: Style,
+    segments: &'a [&'a [u8]],
+    most: usize,
+) -> Result<Recoder<'a>, NoMemory>
     ensures recoding { IfOk result (λ r. r ≡ placed no_grid (to_recode 0 0 style.bits (map bytes_of segments.entry.now))) }
 {
-    let room = room_of(segments, style);
+    let room = room_of(segments, style, most);
     let pen = Pen::new(alloc, is_raw(style, 0), room)?;
     Ok(Recoder {
         copier: Copier {
@@ -169,7 +186,8 @@ pub fn recode_flags(
     ensures wrong { let c = coding_of coded.now.band coded.now.style.bits coded.now.planes in
         IfOk result (λ r. r.wrong ≡ (decoded width height c coded.now.segments coded.now.passes).wrong) }
 {
-    let mut recoder = start(alloc, style, coded.segments.as_slice())?;
+    let most = most_bytes(width, height, coded.passes);
+    let mut recoder = start(alloc, style, coded.segments.as_slice(), most)?;
     let result = run_block(&mut recoder, alloc, width, height, coded, style);
     let recoded = end(recoder);
     result?;

@@ -4,22 +4,23 @@ ghost use Rattle.std.specs.Prelude.{◌≡◌, ◌+◌, ◌*◌, ◌++◌, ◌�
 ghost use Rattle.jx_base.specs.Passes.{raw_pass, is_causal, has_symbols};
 ghost use Rattle.jx_tier1_specs.specs.Asking.{told};
 ghost use Rattle.jx_tier1_specs.specs.Cells.{Cells};
-ghost use Rattle.jx_tier1_specs.specs.Pass.{plane_of, scanned};
+ghost use Rattle.jx_tier1_specs.specs.Pass.{IsScan, plane_of, scanned};
 ghost use Rattle.jx_tier1_specs.specs.Reading.{coding_of, first_segment, read_symbol, first_wrong, ends_by_symbol};
 ghost use Rattle.jx_tier1.specs.Labels.{AreLabels};
-ghost use Rattle.jx_tier1.specs.InStep.{Recoding, begun, checked, copy_by, marked, ended, recoded_pass, renewed_both};
+ghost use Rattle.jx_tier1.specs.InStep.{Recoding, begun, checked, copy_answer, marked, ended, recoded_pass, renewed_both};
 ghost use Rattle.jx_tier1.specs.Notes.{Marking, Shows, IsOfSize};
 ghost use Rattle.jx_tier1.specs.Placing.{placed, Goes};
 ghost use Rattle.jx_tier1.specs.Turns.{AreTurns};
-ghost use Rattle.jx_tier1.specs.Walking.{by_label, Ends, IsNow};
+ghost use Rattle.jx_tier1.specs.Walking.{Ends, IsNow};
 ghost use Rattle.jx_tier1_specs.specs.Writing.{fresh_writing, segment_by};
 ghost use Rattle.jx_tier1_specs.specs.Short.{AreShort};
 
 use crate::copier::Copier;
 use crate::marks::Marks;
+use crate::questions::plane_for;
 use crate::walk_passes::walk_pass;
 use jx_base::{Band, NoMemory, Style, ends_segment, is_raw};
-use jx_tier1_specs::{Plane, ask_symbol};
+use jx_tier1_specs::ask_symbol;
 use std::alloc::Global;
 use std::marker::Model;
 
@@ -99,6 +100,7 @@ impl<'a> Recoder<'a> {
         planes: u8,
         pass: u16,
     ) -> Result<(), NoMemory>
+        requires scan { IsScan (plane_of band (is_causal old.bits) planes pass) }
         requires few { pass ≤ 220 }
         requires labels { AreLabels band labels.now }
         requires turns { AreTurns turns.now }
@@ -107,17 +109,11 @@ impl<'a> Recoder<'a> {
         ensures size { IsOfSize marks.old marks.new }
         ensures kept { self.new ≡ record self.old { copying = self.new.copying } }
         ensures walk { (g : Cells) → Shows planes g marks.old → IsNow (plane_of band (is_causal old.bits) planes pass) g
-            → OnOk result (Ends planes (told (by_label copy_by) (scanned pass (plane_of band (is_causal old.bits) planes pass) (g.width * g.height) 0 g)
+            → OnOk result (Ends planes (told copy_answer (scanned pass (plane_of band (is_causal old.bits) planes pass) (g.width * g.height) 0 g)
             (renewed_both old.bits new.bits self.old.copying)) marks.new self.new.copying) }
     {
         self.copier.renew(old, new);
-        let causal = old.causal();
-        let plane = Plane {
-            band,
-            causal,
-            planes,
-            number: ((pass + 2) / 3) as u8,
-        };
+        let plane = plane_for(band, old, planes, pass);
         walk_pass(&mut self.copier, marks, labels, turns, plane, pass)?;
         Ok(())
     }
@@ -204,6 +200,7 @@ impl<'a> Recoder<'a> {
     ) -> Result<(), NoMemory>
         requires labels { AreLabels band labels.now }
         requires turns { AreTurns turns.now }
+        requires scan { IsScan (plane_of band (is_causal old.bits) planes pass) }
         requires few { pass ≤ 220 }
         requires wide { marks.old.width ≤ 1024 }
         requires high { marks.old.height ≤ 1024 }

@@ -1,15 +1,15 @@
 //! Labels of signs, by a table of 256 (T.800, Tables D.2, D.3).
 
-ghost use Rattle.std.specs.Prelude.{◌≡◌, ◌+◌, ◌-◌, ◌*◌, ◌/◌, ◌%◌, ◌<◌, ◌≤◌, ◌==◌, ◌&&◌, not, ℕ, Bool, IfOk};
+ghost use Rattle.std.specs.Prelude.{◌≡◌, ◌+◌, ◌-◌, ◌*◌, ◌/◌, ◌%◌, ◌<◌, ◌≤◌, ◌==◌, ◌&&◌, not, ℕ, ℤ, pos, negsuc, ◌≤ℤ◌, Bool, IfOk};
 ghost use Rattle.jx_tier1_specs.specs.Cells.{Cells};
 ghost use Rattle.jx_tier1_specs.specs.Near.{one_if, across_of, down_of};
 ghost use Rattle.jx_tier1_specs.specs.Labels.{sign_row};
 ghost use Rattle.jx_tier1.specs.Notes.{Marking, Shows, IsSpot, spot};
+ghost use Rattle.jx_tier1.specs.Signs.{leaned};
 ghost use Rattle.jx_tier1.specs.Turns.{is_plus, is_minus, turn_of, entry_of, HasTurns, AreTurns, is_below_zero, stripe_above, row_above, stripe_below, row_below, turn_number};
 ghost use Rattle.jx_tier1.specs.Windows.{nine};
 
 use crate::marks::Marks;
-use crate::signs::lean;
 use jx_base::NoMemory;
 use jx_tier1_specs::sign_label;
 use std::alloc::Global;
@@ -20,6 +20,25 @@ fn side(marked: bool, negative: bool) -> (bool, bool)
     ensures negative { result.1 ≡ (marked && negative) }
 {
     (marked && !negative, marked && negative)
+}
+
+/// Which way the signs of two coefficients lean: the sum of those that are significant, cut to -1
+/// to 1 (T.800 table D.2).
+#[inline(always)]
+fn lean(a: (bool, bool), b: (bool, bool)) -> i8
+    ensures value { result ≡ leaned a.0 a.1 b.0 b.1 }
+    ensures from { negsuc 0 ≤ℤ result }
+    ensures to { result ≤ℤ pos 1 }
+{
+    let positives = u8::from(a.0) + u8::from(b.0);
+    let negatives = u8::from(a.1) + u8::from(b.1);
+    if negatives < positives {
+        return 1;
+    }
+    if positives < negatives {
+        return -1;
+    }
+    0
 }
 
 /// The label of a sign, with 32 more where its decision is turned over.

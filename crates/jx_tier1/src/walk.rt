@@ -3,14 +3,13 @@
 ghost use Rattle.std.specs.Prelude.{◌≡◌, ◌+◌, ◌-◌, ◌*◌, ◌/◌, ◌%◌, ◌<◌, ◌≤◌, ℕ, min, ◌==◌, true, IfOk, OnOk, IsTrue};
 ghost use Rattle.jx_tier1_specs.specs.Cells.{Cells};
 ghost use Rattle.jx_tier1_specs.specs.Asking.{Told, told};
-ghost use Rattle.jx_tier1_specs.specs.Pass.{pass_at, scanned};
+ghost use Rattle.jx_tier1_specs.specs.Pass.{IsScan, pass_at, scanned};
 ghost use Rattle.jx_tier1.specs.Numbers.{first_of};
 ghost use Rattle.jx_tier1.specs.Labels.{AreLabels};
 ghost use Rattle.jx_tier1.specs.Notes.{Marking, Shows, IsSpot, IsOfSize, spot, window_in, digit_in};
 ghost use Rattle.jx_tier1.specs.Turns.{AreTurns};
-ghost use Rattle.jx_tier1.specs.Walking.{by_label, Ends, IsNow, parity};
+ghost use Rattle.jx_tier1.specs.Walking.{Ends, IsNow, parity};
 
-use crate::answering::Answering;
 use crate::marks::Marks;
 use crate::walk_rows::{
     cleanup_place, four_cleanup, four_refinement, four_significance, refinement_place,
@@ -18,7 +17,7 @@ use crate::walk_rows::{
 };
 use crate::walk_steps::parity;
 use jx_base::NoMemory;
-use jx_tier1_specs::Plane;
+use jx_tier1_specs::{Plane, Source};
 
 /// Whether the bit of the plane was decided at all four places of a column of a stripe: by the lowest
 /// bits of their notes.
@@ -88,7 +87,7 @@ fn is_clear(
 
 /// A pass at a place, by its number's kind.
 #[inline(always)]
-fn walk_place<S: Answering, K>(
+fn walk_place<S: Source, K>(
     source: &mut S,
     marks: &mut Marks,
     labels: &[u8],
@@ -102,6 +101,7 @@ fn walk_place<S: Answering, K>(
     columns: u32,
     stripe: u16,
 ) -> Result<u32, NoMemory>
+    requires scan { IsScan plane }
     requires kind { kind ≡ pass % 3 }
     requires labels { AreLabels plane.band labels.now }
     requires turns { AreTurns turns.now }
@@ -112,7 +112,7 @@ fn walk_place<S: Answering, K>(
     ensures size { IsOfSize marks.old marks.new }
     ensures columns { IfOk result (λ w. w ≡ window_in marks.new plane.causal stripe x) }
     ensures walk { (g : Cells) → Shows plane.planes g marks.old → IsNow plane g
-        → OnOk result (Ends plane.planes (told (by_label S.answer) (pass_at pass plane g x y) source.old) marks.new source.new) }
+        → OnOk result (Ends plane.planes (told S.ask (pass_at pass plane g x y) source.old) marks.new source.new) }
 {
     if kind == 1 {
         return significance_place(
@@ -130,7 +130,7 @@ fn walk_place<S: Answering, K>(
 /// A pass at the places of a column of a stripe. It is for the last stripe alone, where that has fewer
 /// than four rows, and so apart.
 #[inline(never)]
-fn each_row<S: Answering, K>(
+fn each_row<S: Source, K>(
     source: &mut S,
     marks: &mut Marks,
     labels: &[u8],
@@ -145,6 +145,7 @@ fn each_row<S: Answering, K>(
     seen: u32,
     stripe: u16,
 ) -> Result<(), NoMemory>
+    requires scan { IsScan plane }
     requires kind { kind ≡ pass % 3 }
     requires labels { AreLabels plane.band labels.now }
     requires turns { AreTurns turns.now }
@@ -156,7 +157,7 @@ fn each_row<S: Answering, K>(
     requires seen { seen ≡ window_in marks.old plane.causal stripe x }
     ensures size { IsOfSize marks.old marks.new }
     ensures walk { (g : Cells) → Shows plane.planes g marks.old → IsNow plane g
-        → OnOk result (Ends plane.planes (told (by_label S.answer) (scanned pass plane rows (first_of g x top rows) g) source.old) marks.new source.new) }
+        → OnOk result (Ends plane.planes (told S.ask (scanned pass plane rows (first_of g x top rows) g) source.old) marks.new source.new) }
 {
     let mut columns = seen;
     for row in 0..rows {
@@ -180,7 +181,7 @@ fn each_row<S: Answering, K>(
 
 /// The same at the four places of a column of a whole stripe.
 #[inline(always)]
-fn four_rows<S: Answering, K>(
+fn four_rows<S: Source, K>(
     source: &mut S,
     marks: &mut Marks,
     labels: &[u8],
@@ -194,6 +195,7 @@ fn four_rows<S: Answering, K>(
     seen: u32,
     stripe: u16,
 ) -> Result<(), NoMemory>
+    requires scan { IsScan plane }
     requires kind { kind ≡ pass % 3 }
     requires labels { AreLabels plane.band labels.now }
     requires turns { AreTurns turns.now }
@@ -205,7 +207,7 @@ fn four_rows<S: Answering, K>(
     requires seen { seen ≡ window_in marks.old plane.causal stripe x }
     ensures size { IsOfSize marks.old marks.new }
     ensures walk { (g : Cells) → Shows plane.planes g marks.old → IsNow plane g
-        → OnOk result (Ends plane.planes (told (by_label S.answer) (scanned pass plane 4 (first_of g x top 4) g) source.old) marks.new source.new) }
+        → OnOk result (Ends plane.planes (told S.ask (scanned pass plane 4 (first_of g x top 4) g) source.old) marks.new source.new) }
 {
     if kind == 1 {
         return four_significance(
@@ -222,7 +224,7 @@ fn four_rows<S: Answering, K>(
 
 /// The same, where nothing is looked at twice that asks nothing.
 #[inline(always)]
-fn walk_column<S: Answering, K>(
+fn walk_column<S: Source, K>(
     source: &mut S,
     marks: &mut Marks,
     labels: &[u8],
@@ -235,6 +237,7 @@ fn walk_column<S: Answering, K>(
     rows: u16,
     at: usize,
 ) -> Result<(), NoMemory>
+    requires scan { IsScan plane }
     requires kind { kind ≡ pass % 3 }
     requires labels { AreLabels plane.band labels.now }
     requires turns { AreTurns turns.now }
@@ -244,7 +247,7 @@ fn walk_column<S: Answering, K>(
     requires rows { rows ≡ min 4 (marks.old.height - top) }
     ensures size { IsOfSize marks.old marks.new }
     ensures walk { (g : Cells) → Shows plane.planes g marks.old → IsNow plane g
-        → OnOk result (Ends plane.planes (told (by_label S.answer) (scanned pass plane rows (first_of g x top rows) g) source.old) marks.new source.new) }
+        → OnOk result (Ends plane.planes (told S.ask (scanned pass plane rows (first_of g x top rows) g) source.old) marks.new source.new) }
 {
     let stripe = top / 4 + 1;
     if is_over(marks, plane, pass, kind, x, top, rows, at) {
@@ -266,7 +269,7 @@ fn walk_column<S: Answering, K>(
 
 /// A pass over a stripe, with its kind told as a number that the compiler knows.
 #[inline(always)]
-fn walk_stripe<S: Answering, K>(
+fn walk_stripe<S: Source, K>(
     source: &mut S,
     marks: &mut Marks,
     labels: &[u8],
@@ -276,6 +279,7 @@ fn walk_stripe<S: Answering, K>(
     kind: u16,
     top: u16,
 ) -> Result<(), NoMemory>
+    requires scan { IsScan plane }
     requires kind { kind ≡ pass % 3 }
     requires labels { AreLabels plane.band labels.now }
     requires turns { AreTurns turns.now }
@@ -285,7 +289,7 @@ fn walk_stripe<S: Answering, K>(
     requires row { top < marks.old.height }
     ensures size { IsOfSize marks.old marks.new }
     ensures walk { (g : Cells) → Shows plane.planes g marks.old → IsNow plane g
-        → OnOk result (Ends plane.planes (told (by_label S.answer) (scanned pass plane (g.width * min 4 (g.height - top)) (top * g.width) g) source.old) marks.new source.new) }
+        → OnOk result (Ends plane.planes (told S.ask (scanned pass plane (g.width * min 4 (g.height - top)) (top * g.width) g) source.old) marks.new source.new) }
 {
     let rows = 4u16.min(marks.height() - top);
     let first = marks.spot(top / 4 + 1, 1);
@@ -300,7 +304,7 @@ fn walk_stripe<S: Answering, K>(
 
 /// A pass over a block, with its kind told as a number that the compiler knows.
 #[inline(always)]
-pub(crate) fn walk_stripes<S: Answering, K>(
+pub(crate) fn walk_stripes<S: Source, K>(
     source: &mut S,
     marks: &mut Marks,
     labels: &[u8],
@@ -309,6 +313,7 @@ pub(crate) fn walk_stripes<S: Answering, K>(
     pass: u16,
     kind: u16,
 ) -> Result<(), NoMemory>
+    requires scan { IsScan plane }
     requires kind { kind ≡ pass % 3 }
     requires labels { AreLabels plane.band labels.now }
     requires turns { AreTurns turns.now }
@@ -316,7 +321,7 @@ pub(crate) fn walk_stripes<S: Answering, K>(
     requires high { marks.old.height ≤ 1024 }
     ensures size { IsOfSize marks.old marks.new }
     ensures walk { (g : Cells) → Shows plane.planes g marks.old → IsNow plane g
-        → OnOk result (Ends plane.planes (told (by_label S.answer) (scanned pass plane (g.width * g.height) 0 g) source.old) marks.new source.new) }
+        → OnOk result (Ends plane.planes (told S.ask (scanned pass plane (g.width * g.height) 0 g) source.old) marks.new source.new) }
 {
     for s in 0..(marks.height() + 3) / 4 {
         walk_stripe::<S, K>(source, marks, labels, turns, plane, pass, kind, 4 * s)?;

@@ -4,23 +4,22 @@
 ghost use Rattle.std.specs.Prelude.{◌≡◌, ◌+◌, ◌/◌, ◌%◌, ◌≤◌, ℕ, IfOk, OnOk};
 ghost use Rattle.jx_tier1_specs.specs.Cells.{Cells};
 ghost use Rattle.jx_tier1_specs.specs.Asking.{told};
-ghost use Rattle.jx_tier1_specs.specs.Pass.{pass_at, scanned};
+ghost use Rattle.jx_tier1_specs.specs.Pass.{IsScan, pass_at, scanned};
 ghost use Rattle.jx_tier1.specs.Numbers.{first_of};
 ghost use Rattle.jx_tier1.specs.Labels.{AreLabels};
 ghost use Rattle.jx_tier1.specs.Notes.{Marking, Shows, IsSpot, IsOfSize, spot, window_in};
 ghost use Rattle.jx_tier1.specs.Turns.{AreTurns};
-ghost use Rattle.jx_tier1.specs.Walking.{by_label, Ends, IsNow};
+ghost use Rattle.jx_tier1.specs.Walking.{Ends, IsNow};
 
-use crate::answering::Answering;
 use crate::marks::Marks;
 use crate::walk_runs::cleanup;
 use crate::walk_steps::{refinement, significance};
 use jx_base::NoMemory;
-use jx_tier1_specs::Plane;
+use jx_tier1_specs::{Plane, Source};
 
 /// A significance pass at a place, by the number of the pass.
 #[inline(always)]
-pub(crate) fn significance_place<S: Answering>(
+pub(crate) fn significance_place<S: Source>(
     source: &mut S,
     marks: &mut Marks,
     labels: &[u8],
@@ -33,6 +32,7 @@ pub(crate) fn significance_place<S: Answering>(
     columns: u32,
     stripe: u16,
 ) -> Result<u32, NoMemory>
+    requires scan { IsScan plane }
     requires kind { 1 ≡ pass % 3 }
     requires labels { AreLabels plane.band labels.now }
     requires turns { AreTurns turns.now }
@@ -43,7 +43,7 @@ pub(crate) fn significance_place<S: Answering>(
     ensures size { IsOfSize marks.old marks.new }
     ensures columns { IfOk result (λ w. w ≡ window_in marks.new plane.causal stripe x) }
     ensures walk { (g : Cells) → Shows plane.planes g marks.old → IsNow plane g
-        → OnOk result (Ends plane.planes (told (by_label S.answer) (pass_at pass plane g x y) source.old) marks.new source.new) }
+        → OnOk result (Ends plane.planes (told S.ask (pass_at pass plane g x y) source.old) marks.new source.new) }
 {
     significance(
         source, marks, labels, turns, plane, x, y, at, columns, stripe,
@@ -52,7 +52,7 @@ pub(crate) fn significance_place<S: Answering>(
 
 /// A refinement pass at a place, by the number of the pass.
 #[inline(always)]
-pub(crate) fn refinement_place<S: Answering>(
+pub(crate) fn refinement_place<S: Source>(
     source: &mut S,
     marks: &mut Marks,
     plane: Plane,
@@ -63,6 +63,7 @@ pub(crate) fn refinement_place<S: Answering>(
     columns: u32,
     stripe: u16,
 ) -> Result<u32, NoMemory>
+    requires scan { IsScan plane }
     requires kind { 2 ≡ pass % 3 }
     requires place { IsSpot marks.old x y }
     requires at { at ≡ spot marks.old (y / 4 + 1) (x + 1) }
@@ -71,14 +72,14 @@ pub(crate) fn refinement_place<S: Answering>(
     ensures size { IsOfSize marks.old marks.new }
     ensures columns { IfOk result (λ w. w ≡ window_in marks.new plane.causal stripe x) }
     ensures walk { (g : Cells) → Shows plane.planes g marks.old → IsNow plane g
-        → OnOk result (Ends plane.planes (told (by_label S.answer) (pass_at pass plane g x y) source.old) marks.new source.new) }
+        → OnOk result (Ends plane.planes (told S.ask (pass_at pass plane g x y) source.old) marks.new source.new) }
 {
     refinement(source, marks, plane, x, y, at, columns, stripe)
 }
 
 /// A cleanup pass at a place, by the number of the pass.
 #[inline(always)]
-pub(crate) fn cleanup_place<S: Answering>(
+pub(crate) fn cleanup_place<S: Source>(
     source: &mut S,
     marks: &mut Marks,
     labels: &[u8],
@@ -91,6 +92,7 @@ pub(crate) fn cleanup_place<S: Answering>(
     columns: u32,
     stripe: u16,
 ) -> Result<u32, NoMemory>
+    requires scan { IsScan plane }
     requires kind { 0 ≡ pass % 3 }
     requires labels { AreLabels plane.band labels.now }
     requires turns { AreTurns turns.now }
@@ -101,7 +103,7 @@ pub(crate) fn cleanup_place<S: Answering>(
     ensures size { IsOfSize marks.old marks.new }
     ensures columns { IfOk result (λ w. w ≡ window_in marks.new plane.causal stripe x) }
     ensures walk { (g : Cells) → Shows plane.planes g marks.old → IsNow plane g
-        → OnOk result (Ends plane.planes (told (by_label S.answer) (pass_at pass plane g x y) source.old) marks.new source.new) }
+        → OnOk result (Ends plane.planes (told S.ask (pass_at pass plane g x y) source.old) marks.new source.new) }
 {
     cleanup(
         source, marks, labels, turns, plane, x, y, at, columns, stripe,
@@ -110,7 +112,7 @@ pub(crate) fn cleanup_place<S: Answering>(
 
 /// A significance pass at four places.
 #[inline(always)]
-pub(crate) fn four_significance<S: Answering>(
+pub(crate) fn four_significance<S: Source>(
     source: &mut S,
     marks: &mut Marks,
     labels: &[u8],
@@ -123,6 +125,7 @@ pub(crate) fn four_significance<S: Answering>(
     seen: u32,
     stripe: u16,
 ) -> Result<(), NoMemory>
+    requires scan { IsScan plane }
     requires kind { 1 ≡ pass % 3 }
     requires labels { AreLabels plane.band labels.now }
     requires turns { AreTurns turns.now }
@@ -134,7 +137,7 @@ pub(crate) fn four_significance<S: Answering>(
     requires seen { seen ≡ window_in marks.old plane.causal stripe x }
     ensures size { IsOfSize marks.old marks.new }
     ensures walk { (g : Cells) → Shows plane.planes g marks.old → IsNow plane g
-        → OnOk result (Ends plane.planes (told (by_label S.answer) (scanned pass plane 4 (first_of g x top 4) g) source.old) marks.new source.new) }
+        → OnOk result (Ends plane.planes (told S.ask (scanned pass plane 4 (first_of g x top 4) g) source.old) marks.new source.new) }
 {
     let y = top;
     let columns = significance_place(
@@ -157,7 +160,7 @@ pub(crate) fn four_significance<S: Answering>(
 
 /// A refinement pass at four places.
 #[inline(always)]
-pub(crate) fn four_refinement<S: Answering>(
+pub(crate) fn four_refinement<S: Source>(
     source: &mut S,
     marks: &mut Marks,
     plane: Plane,
@@ -168,6 +171,7 @@ pub(crate) fn four_refinement<S: Answering>(
     seen: u32,
     stripe: u16,
 ) -> Result<(), NoMemory>
+    requires scan { IsScan plane }
     requires kind { 2 ≡ pass % 3 }
     requires place { IsSpot marks.old x top }
     requires at { at ≡ spot marks.old (top / 4 + 1) (x + 1) }
@@ -177,7 +181,7 @@ pub(crate) fn four_refinement<S: Answering>(
     requires seen { seen ≡ window_in marks.old plane.causal stripe x }
     ensures size { IsOfSize marks.old marks.new }
     ensures walk { (g : Cells) → Shows plane.planes g marks.old → IsNow plane g
-        → OnOk result (Ends plane.planes (told (by_label S.answer) (scanned pass plane 4 (first_of g x top 4) g) source.old) marks.new source.new) }
+        → OnOk result (Ends plane.planes (told S.ask (scanned pass plane 4 (first_of g x top 4) g) source.old) marks.new source.new) }
 {
     let y = top;
     let columns = refinement_place(source, marks, plane, pass, x, y, at, seen, stripe)?;
@@ -192,7 +196,7 @@ pub(crate) fn four_refinement<S: Answering>(
 
 /// A cleanup pass at four places.
 #[inline(always)]
-pub(crate) fn four_cleanup<S: Answering>(
+pub(crate) fn four_cleanup<S: Source>(
     source: &mut S,
     marks: &mut Marks,
     labels: &[u8],
@@ -205,6 +209,7 @@ pub(crate) fn four_cleanup<S: Answering>(
     seen: u32,
     stripe: u16,
 ) -> Result<(), NoMemory>
+    requires scan { IsScan plane }
     requires kind { 0 ≡ pass % 3 }
     requires labels { AreLabels plane.band labels.now }
     requires turns { AreTurns turns.now }
@@ -216,7 +221,7 @@ pub(crate) fn four_cleanup<S: Answering>(
     requires seen { seen ≡ window_in marks.old plane.causal stripe x }
     ensures size { IsOfSize marks.old marks.new }
     ensures walk { (g : Cells) → Shows plane.planes g marks.old → IsNow plane g
-        → OnOk result (Ends plane.planes (told (by_label S.answer) (scanned pass plane 4 (first_of g x top 4) g) source.old) marks.new source.new) }
+        → OnOk result (Ends plane.planes (told S.ask (scanned pass plane 4 (first_of g x top 4) g) source.old) marks.new source.new) }
 {
     let y = top;
     let columns = cleanup_place(

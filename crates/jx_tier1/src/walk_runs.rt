@@ -3,18 +3,18 @@
 ghost use Rattle.std.specs.Prelude.{◌≡◌, ◌+◌, ◌-◌, ◌/◌, ◌%◌, ◌<◌, ◌≤◌, ℕ, Bool, true, false, ◌&&◌, not, IfOk, OnOk, IsTrue};
 ghost use Rattle.jx_tier1_specs.specs.Cells.{Cells, coef_at};
 ghost use Rattle.jx_tier1_specs.specs.Asking.{told};
-ghost use Rattle.jx_tier1_specs.specs.Pass.{is_run, zeroed, named_at, place_at, run_at, cleanup_at, number_in_run};
+ghost use Rattle.jx_tier1_specs.specs.Pass.{IsScan, is_run, zeroed, named_at, place_at, run_at, cleanup_at, number_in_run};
 ghost use Rattle.jx_tier1.specs.Labels.{AreLabels};
 ghost use Rattle.jx_tier1.specs.Notes.{Marking, Shows, IsSpot, IsOfSize, spot, window_in};
 ghost use Rattle.jx_tier1.specs.Turns.{AreTurns};
-ghost use Rattle.jx_tier1.specs.Walking.{by_label, Ends, IsNow, AreZeros};
+ghost use Rattle.jx_tier1.specs.Walking.{Ends, IsNow, AreZeros};
 
-use crate::answering::Answering;
-use crate::field::row_of;
 use crate::marks::Marks;
+use crate::questions::asked;
+use crate::rows::row_of;
 use crate::walk_steps::{decide_sign, is_done, parity, usual};
 use jx_base::NoMemory;
-use jx_tier1_specs::Plane;
+use jx_tier1_specs::{About, Plane, Source};
 
 /// Whether none of four holds.
 #[inline(always)]
@@ -80,7 +80,7 @@ fn zero_four(marks: &mut Marks, plane: Plane, x: u16, y: u16, at: usize)
 }
 
 /// Makes the named one of four places significant, and those above it 0.
-fn decide_named<S: Answering>(
+fn decide_named<S: Source>(
     source: &mut S,
     marks: &mut Marks,
     turns: &[u8],
@@ -92,6 +92,7 @@ fn decide_named<S: Answering>(
     columns: u32,
     stripe: u16,
 ) -> Result<u32, NoMemory>
+    requires scan { IsScan plane }
     requires turns { AreTurns turns.now }
     requires place { IsSpot marks.old x y }
     requires at { at ≡ spot marks.old (y / 4 + 1) (x + 1) }
@@ -103,7 +104,7 @@ fn decide_named<S: Answering>(
     ensures size { IsOfSize marks.old marks.new }
     ensures columns { IfOk result (λ w. w ≡ window_in marks.new plane.causal stripe x) }
     ensures walk { (g : Cells) → Shows plane.planes g marks.old → AreZeros 4 g x y
-        → OnOk result (Ends plane.planes (told (by_label S.answer) (named_at plane g x y n) source.old) marks.new source.new) }
+        → OnOk result (Ends plane.planes (told S.ask (named_at plane g x y n) source.old) marks.new source.new) }
 {
     let around = row_of(columns, n);
     decide_sign(source, marks, turns, plane, x, y + n, at, stripe, around)?;
@@ -121,7 +122,7 @@ fn number(high: bool, low: bool) -> u16
 }
 
 /// Asks which of four places is the first with the bit 1.
-fn decide_place<S: Answering>(
+fn decide_place<S: Source>(
     source: &mut S,
     marks: &mut Marks,
     turns: &[u8],
@@ -132,6 +133,7 @@ fn decide_place<S: Answering>(
     columns: u32,
     stripe: u16,
 ) -> Result<u32, NoMemory>
+    requires scan { IsScan plane }
     requires turns { AreTurns turns.now }
     requires place { IsSpot marks.old x y }
     requires at { at ≡ spot marks.old (y / 4 + 1) (x + 1) }
@@ -142,17 +144,17 @@ fn decide_place<S: Answering>(
     ensures size { IsOfSize marks.old marks.new }
     ensures columns { IfOk result (λ w. w ≡ window_in marks.new plane.causal stripe x) }
     ensures walk { (g : Cells) → Shows plane.planes g marks.old → AreZeros 4 g x y
-        → OnOk result (Ends plane.planes (told (by_label S.answer) (place_at plane g x y) source.old) marks.new source.new) }
+        → OnOk result (Ends plane.planes (told S.ask (place_at plane g x y) source.old) marks.new source.new) }
 {
-    let high = source.answer(18, false)?;
-    let low = source.answer(18, false)?;
+    let high = source.ask(asked(plane, 18, false, About::High(x, y)))?;
+    let low = source.ask(asked(plane, 18, false, About::Low(x, y)))?;
     let n = number(high, low);
     decide_named(source, marks, turns, plane, x, y, n, at, columns, stripe)
 }
 
 /// The run mode. It is apart, since few places begin it.
 #[inline(never)]
-fn run<S: Answering>(
+fn run<S: Source>(
     source: &mut S,
     marks: &mut Marks,
     turns: &[u8],
@@ -163,6 +165,7 @@ fn run<S: Answering>(
     columns: u32,
     stripe: u16,
 ) -> Result<u32, NoMemory>
+    requires scan { IsScan plane }
     requires turns { AreTurns turns.now }
     requires place { IsSpot marks.old x y }
     requires at { at ≡ spot marks.old (y / 4 + 1) (x + 1) }
@@ -173,9 +176,9 @@ fn run<S: Answering>(
     ensures size { IsOfSize marks.old marks.new }
     ensures columns { IfOk result (λ w. w ≡ window_in marks.new plane.causal stripe x) }
     ensures walk { (g : Cells) → Shows plane.planes g marks.old → AreZeros 4 g x y
-        → OnOk result (Ends plane.planes (told (by_label S.answer) (run_at plane g x y) source.old) marks.new source.new) }
+        → OnOk result (Ends plane.planes (told S.ask (run_at plane g x y) source.old) marks.new source.new) }
 {
-    let any = source.answer(17, false)?;
+    let any = source.ask(asked(plane, 17, false, About::Run(x, y)))?;
     if any {
         return decide_place(source, marks, turns, plane, x, y, at, columns, stripe);
     }
@@ -185,7 +188,7 @@ fn run<S: Answering>(
 
 /// A cleanup pass at a place (T.800 D.3.4).
 #[inline(always)]
-pub(crate) fn cleanup<S: Answering>(
+pub(crate) fn cleanup<S: Source>(
     source: &mut S,
     marks: &mut Marks,
     labels: &[u8],
@@ -197,6 +200,7 @@ pub(crate) fn cleanup<S: Answering>(
     columns: u32,
     stripe: u16,
 ) -> Result<u32, NoMemory>
+    requires scan { IsScan plane }
     requires labels { AreLabels plane.band labels.now }
     requires turns { AreTurns turns.now }
     requires place { IsSpot marks.old x y }
@@ -206,7 +210,7 @@ pub(crate) fn cleanup<S: Answering>(
     ensures size { IsOfSize marks.old marks.new }
     ensures columns { IfOk result (λ w. w ≡ window_in marks.new plane.causal stripe x) }
     ensures walk { (g : Cells) → Shows plane.planes g marks.old → IsNow plane g
-        → OnOk result (Ends plane.planes (told (by_label S.answer) (cleanup_at plane g x y) source.old) marks.new source.new) }
+        → OnOk result (Ends plane.planes (told S.ask (cleanup_at plane g x y) source.old) marks.new source.new) }
 {
     if is_run(marks, plane, x, y, columns, stripe) {
         return run(source, marks, turns, plane, x, y, at, columns, stripe);

@@ -4,20 +4,20 @@ ghost use Rattle.std.specs.Prelude.{◌≡◌, ◌+◌, ◌*◌, ◌/◌, ◌%�
 ghost use Rattle.jx_tier1_specs.specs.Cells.{Cells, coef_at};
 ghost use Rattle.jx_tier1_specs.specs.Near.{one_if};
 ghost use Rattle.jx_tier1_specs.specs.Asking.{told};
-ghost use Rattle.jx_tier1_specs.specs.Pass.{sign_of, bit_of, significance_at, refinement_at, usual_at};
+ghost use Rattle.jx_tier1_specs.specs.Pass.{IsScan, sign_of, bit_of, significance_at, refinement_at, usual_at};
 ghost use Rattle.jx_tier1.specs.Labels.{AreLabels};
 ghost use Rattle.jx_tier1.specs.Marks.{power};
 ghost use Rattle.jx_tier1.specs.Notes.{Marking, Shows, IsSpot, IsOfSize, spot, window_in, note_in};
 ghost use Rattle.jx_tier1.specs.Turns.{AreTurns};
-ghost use Rattle.jx_tier1.specs.Walking.{by_label, due_of, Ends, IsNow, parity};
+ghost use Rattle.jx_tier1.specs.Walking.{due_of, Ends, IsNow, parity};
 ghost use Rattle.jx_tier1.specs.Windows.{label_of};
 
-use crate::answering::Answering;
-use crate::field::row_of;
 use crate::marks::Marks;
+use crate::questions::asked;
+use crate::rows::row_of;
 use crate::turns::turn;
 use jx_base::NoMemory;
-use jx_tier1_specs::{Plane, refinement_label};
+use jx_tier1_specs::{About, Plane, Source, refinement_label};
 
 /// The parity of the number of planes that were decided where this one was.
 #[inline(always)]
@@ -66,7 +66,7 @@ fn is_near(around: u32) -> bool
 
 /// Asks for the sign of a coefficient that becomes significant (T.800 D.3.2).
 #[inline(always)]
-pub(crate) fn decide_sign<S: Answering>(
+pub(crate) fn decide_sign<S: Source>(
     source: &mut S,
     marks: &mut Marks,
     turns: &[u8],
@@ -77,6 +77,7 @@ pub(crate) fn decide_sign<S: Answering>(
     stripe: u16,
     around: u32,
 ) -> Result<u32, NoMemory>
+    requires scan { IsScan plane }
     requires turns { AreTurns turns.now }
     requires place { IsSpot marks.old x y }
     requires at { at ≡ spot marks.old (y / 4 + 1) (x + 1) }
@@ -86,10 +87,10 @@ pub(crate) fn decide_sign<S: Answering>(
     ensures size { IsOfSize marks.old marks.new }
     ensures columns { IfOk result (λ w. w ≡ window_in marks.new plane.causal stripe x) }
     ensures walk { (g : Cells) → Shows plane.planes g marks.old → (coef_at g x y).bits ≡ 0
-        → OnOk result (Ends plane.planes (told (by_label S.answer) (sign_of plane g x y) source.old) marks.new source.new) }
+        → OnOk result (Ends plane.planes (told S.ask (sign_of plane g x y) source.old) marks.new source.new) }
 {
     let (label, turned) = turn(marks, turns, at, x, y, around);
-    let negative = source.answer(label, turned)?;
+    let negative = source.ask(asked(plane, label, turned, About::Sign(x, y)))?;
     marks.raise(at, x, y);
     marks.put_there(at, x, y, first_note(plane, negative));
     Ok(marks.window(plane.causal, at, stripe, x))
@@ -97,7 +98,7 @@ pub(crate) fn decide_sign<S: Answering>(
 
 /// Asks for the bit of an insignificant coefficient, and at 1 for its sign (T.800 D.3.1).
 #[inline(always)]
-fn decide_bit<S: Answering>(
+fn decide_bit<S: Source>(
     source: &mut S,
     marks: &mut Marks,
     turns: &[u8],
@@ -110,6 +111,7 @@ fn decide_bit<S: Answering>(
     stripe: u16,
     around: u32,
 ) -> Result<u32, NoMemory>
+    requires scan { IsScan plane }
     requires turns { AreTurns turns.now }
     requires place { IsSpot marks.old x y }
     requires at { at ≡ spot marks.old (y / 4 + 1) (x + 1) }
@@ -122,9 +124,9 @@ fn decide_bit<S: Answering>(
     ensures size { IsOfSize marks.old marks.new }
     ensures columns { IfOk result (λ w. w ≡ window_in marks.new plane.causal stripe x) }
     ensures walk { (g : Cells) → Shows plane.planes g marks.old → IsNow plane g → (coef_at g x y).bits ≡ 0
-        → OnOk result (Ends plane.planes (told (by_label S.answer) (bit_of plane g x y) source.old) marks.new source.new) }
+        → OnOk result (Ends plane.planes (told S.ask (bit_of plane g x y) source.old) marks.new source.new) }
 {
-    let bit = source.answer(label, false)?;
+    let bit = source.ask(asked(plane, label, false, About::Bit(x, y)))?;
     if bit {
         return decide_sign(source, marks, turns, plane, x, y, at, stripe, around);
     }
@@ -134,7 +136,7 @@ fn decide_bit<S: Answering>(
 
 /// A significance pass at a place (T.800 D.3.1).
 #[inline(always)]
-pub(crate) fn significance<S: Answering>(
+pub(crate) fn significance<S: Source>(
     source: &mut S,
     marks: &mut Marks,
     labels: &[u8],
@@ -146,6 +148,7 @@ pub(crate) fn significance<S: Answering>(
     columns: u32,
     stripe: u16,
 ) -> Result<u32, NoMemory>
+    requires scan { IsScan plane }
     requires labels { AreLabels plane.band labels.now }
     requires turns { AreTurns turns.now }
     requires place { IsSpot marks.old x y }
@@ -155,7 +158,7 @@ pub(crate) fn significance<S: Answering>(
     ensures size { IsOfSize marks.old marks.new }
     ensures columns { IfOk result (λ w. w ≡ window_in marks.new plane.causal stripe x) }
     ensures walk { (g : Cells) → Shows plane.planes g marks.old → IsNow plane g
-        → OnOk result (Ends plane.planes (told (by_label S.answer) (significance_at plane g x y) source.old) marks.new source.new) }
+        → OnOk result (Ends plane.planes (told S.ask (significance_at plane g x y) source.old) marks.new source.new) }
 {
     let around = row_of(columns, y % 4);
     if around / 16 % 2 == 1 {
@@ -186,7 +189,7 @@ fn is_due(marked: u32, note: u16, parity: u16) -> u32
 
 /// A refinement pass at a place (T.800 D.3.3).
 #[inline(always)]
-pub(crate) fn refinement<S: Answering>(
+pub(crate) fn refinement<S: Source>(
     source: &mut S,
     marks: &mut Marks,
     plane: Plane,
@@ -196,6 +199,7 @@ pub(crate) fn refinement<S: Answering>(
     columns: u32,
     stripe: u16,
 ) -> Result<u32, NoMemory>
+    requires scan { IsScan plane }
     requires place { IsSpot marks.old x y }
     requires at { at ≡ spot marks.old (y / 4 + 1) (x + 1) }
     requires stripe { stripe ≡ y / 4 + 1 }
@@ -203,7 +207,7 @@ pub(crate) fn refinement<S: Answering>(
     ensures size { IsOfSize marks.old marks.new }
     ensures columns { IfOk result (λ w. w ≡ window_in marks.new plane.causal stripe x) }
     ensures walk { (g : Cells) → Shows plane.planes g marks.old → IsNow plane g
-        → OnOk result (Ends plane.planes (told (by_label S.answer) (refinement_at plane g x y) source.old) marks.new source.new) }
+        → OnOk result (Ends plane.planes (told S.ask (refinement_at plane g x y) source.old) marks.new source.new) }
 {
     let around = row_of(columns, y % 4);
     let note = marks.note_there(at, x, y);
@@ -212,7 +216,7 @@ pub(crate) fn refinement<S: Answering>(
         return Ok(columns);
     }
     let label = refinement_label(note / 2 % 2 == 1, is_near(around));
-    source.answer(label, false)?;
+    source.ask(asked(plane, label, false, About::Bit(x, y)))?;
     marks.put_there(at, x, y, odd + 2 + note / 4 * 4);
     Ok(columns)
 }
@@ -220,7 +224,7 @@ pub(crate) fn refinement<S: Answering>(
 /// A cleanup pass at a place outside the run mode (T.800 D.3.4). What is significant was mostly decided
 /// in the plane before, so that the second test is rarely guessed wrong.
 #[inline(always)]
-pub(crate) fn usual<S: Answering>(
+pub(crate) fn usual<S: Source>(
     source: &mut S,
     marks: &mut Marks,
     labels: &[u8],
@@ -232,6 +236,7 @@ pub(crate) fn usual<S: Answering>(
     columns: u32,
     stripe: u16,
 ) -> Result<u32, NoMemory>
+    requires scan { IsScan plane }
     requires labels { AreLabels plane.band labels.now }
     requires turns { AreTurns turns.now }
     requires place { IsSpot marks.old x y }
@@ -241,7 +246,7 @@ pub(crate) fn usual<S: Answering>(
     ensures size { IsOfSize marks.old marks.new }
     ensures columns { IfOk result (λ w. w ≡ window_in marks.new plane.causal stripe x) }
     ensures walk { (g : Cells) → Shows plane.planes g marks.old → IsNow plane g
-        → OnOk result (Ends plane.planes (told (by_label S.answer) (usual_at plane g x y) source.old) marks.new source.new) }
+        → OnOk result (Ends plane.planes (told S.ask (usual_at plane g x y) source.old) marks.new source.new) }
 {
     if is_done_there(marks, plane, at, x, y) {
         return Ok(columns);

@@ -1,28 +1,23 @@
 //! The decisions that a grid calls for, written into one segment by either coder.
 
-ghost use Rattle.std.specs.Prelude.{◌≡◌, ◌<◌, ℕ, [], OnOk, IfOk};
-ghost use Rattle.jx_coder_specs.specs.MqTable.{MqContexts, mq_fresh};
-ghost use Rattle.jx_coder_specs.specs.MqWriting.{mq_writer};
+ghost use Rattle.std.specs.Prelude.{◌≡◌, ◌<◌, ℕ, OnOk, IfOk};
+ghost use Rattle.jx_coder_specs.specs.MqTable.{mq_fresh};
+ghost use Rattle.jx_tier1_specs.specs.Encoding.{renewed_writing};
 ghost use Rattle.jx_tier1_specs.specs.Writing.{Writing, fresh_writing, after_coded, segment_by};
 
 use crate::FlagGrid;
 use crate::answers::answer;
-use jx_base::NoMemory;
-use jx_mq::{Contexts, MqEncoder};
-use jx_raw::RawWriter;
+use crate::pen::Pen;
+use jx_base::{NoMemory, Style};
 use jx_tier1_specs::{Question, Source};
 use std::alloc::Global;
 use std::marker::Model;
 
-/// Answers for a grid, and writes the answers into one segment: by the arithmetic encoder, or as
-/// raw bits.
+/// Answers for a grid, and writes the answers into one segment.
 #[derive(Drop)]
 pub struct Writer<'a> {
     target: &'a FlagGrid,
-    is_raw: bool,
-    encoder: MqEncoder,
-    bits: RawWriter,
-    contexts: Contexts,
+    pen: Pen,
 }
 
 impl<'a> Model for Writer<'a> {
@@ -30,40 +25,27 @@ impl<'a> Model for Writer<'a> {
 
     ghost Value = { Writing };
 
-    ghost view = { λ w. record { target = w.target.now; raw = w.is_raw; mq = w.encoder.writer; bits = w.bits.bits; contexts = w.contexts } };
+    ghost view = { λ w. record { target = w.target.now; raw = w.pen.raw; mq = w.pen.mq; bits = w.pen.bits; contexts = w.pen.contexts } };
 }
 
 impl<'a> Writer<'a> {
     /// A writer at the start of a block's first segment.
-    pub fn new(alloc: Global, target: &'a FlagGrid, is_raw: bool) -> Writer<'a>
-        ensures { result ≡ fresh_writing target.entry.now is_raw mq_fresh }
+    pub fn new(alloc: Global, target: &'a FlagGrid, is_raw: bool) -> Result<Writer<'a>, NoMemory>
+        ensures { IfOk result (λ w. w ≡ fresh_writing target.entry.now is_raw mq_fresh) }
     {
-        Writer {
+        Ok(Writer {
             target,
-            is_raw,
-            encoder: MqEncoder::new(alloc),
-            bits: RawWriter::new(alloc),
-            contexts: Contexts::new(),
-        }
+            pen: Pen::new(alloc, is_raw, 64)?,
+        })
     }
 
-    /// Starts the contexts anew.
-    pub fn renew(&mut self)
-        ensures { self.new ≡ record self.old { contexts = mq_fresh } }
+    /// Starts the contexts of a pass anew where the style has it.
+    pub fn begin(&mut self, style: Style)
+        ensures { self.new ≡ renewed_writing style.bits self.old }
     {
-        self.contexts = Contexts::new();
-    }
-
-    /// Writes a decision, as it is coded.
-    #[inline(always)]
-    fn put(&mut self, label: u8, bit: bool) -> Result<(), NoMemory>
-        requires { label < 19 }
-        ensures { OnOk result (self.new ≡ after_coded self.old label bit) }
-    {
-        if self.is_raw {
-            return self.bits.bit(bit);
+        if style.reset() {
+            self.pen.renew();
         }
-        self.encoder.bit(&mut self.contexts, label, bit)
     }
 
     /// The segment so far, after which another one begins, with the contexts kept (T.800 D.4).
@@ -71,14 +53,7 @@ impl<'a> Writer<'a> {
         ensures segment { IfOk result (λ bytes. bytes.items ≡ segment_by self.old) }
         ensures fresh { OnOk result (self.new ≡ fresh_writing self.old.target is_raw self.old.contexts) }
     {
-        let encoder = std::mem::replace(&mut self.encoder, MqEncoder::new(alloc));
-        let bits = std::mem::replace(&mut self.bits, RawWriter::new(alloc));
-        let was_raw = self.is_raw;
-        self.is_raw = is_raw;
-        if was_raw {
-            return bits.finish();
-        }
-        encoder.flush()
+        self.pen.finish(alloc, is_raw)
     }
 }
 
@@ -93,8 +68,7 @@ impl<'a> Source for Writer<'a> {
     #[inline(always)]
     fn ask(&mut self, question: Question) -> Result<bool, NoMemory> {
         let answer = answer(self.target, question);
-        let turned = !self.is_raw && question.turned;
-        self.put(question.label, if turned { !answer } else { answer })?;
+        self.pen.write(question, answer)?;
         Ok(answer)
     }
 }

@@ -1,7 +1,6 @@
 use Rattle.std.proofs.Common.{◌≡◌, ◌∙◌, ap, sym, subst}
 use Rattle.jx_tier1_specs.specs.Cells.{Cells, AreWithin}
 use Rattle.jx_tier1_specs.specs.Reading.{Coding, Decoding, coding_of, at_start, read_from, decoded}
-use Rattle.jx_tier1_specs.proofs.Places.{zeros_within}
 use Rattle.jx_tier1.proofs.decode.decode_flags.Goals as goal
 
 pub run_block-result-requires : goal.run_block-result-requires
@@ -12,8 +11,9 @@ run_block-result-requires c =
       some = c.requires.some;
       planes = c.requires.planes;
       passes = c.requires.passes;
-      size = rw e (record { wide = c.requires.wide; high = c.requires.high });
-      within = rw e (zeros_within c.args.coded.now.planes 1 c.args.width c.args.height);
+      wide = c.requires.wide;
+      high = c.requires.high;
+      cells = ap (λ (x : Decoding). x.cells) e;
       rest = rw e c.requires.segments;
     }
 

@@ -2,7 +2,6 @@ use Rattle.std.proofs.Common.{[], ◌∙◌, sym, refl}
 use Rattle.jx_coder_specs.specs.MqTable.{mq_fresh}
 use Rattle.jx_tier1_specs.specs.Reading.{Coding, coding_of}
 use Rattle.jx_tier1_specs.specs.Needs.{needs}
-use Rattle.jx_tier1_specs.proofs.Places.{zeros_within}
 use Rattle.jx_tier1_specs.proofs.SegmentLemmas.{segments_finished}
 use Rattle.jx_tier1.proofs.encode.encode_flags.Goals as goal
 
@@ -13,8 +12,8 @@ run_block-result-requires c =
       some = c.requires.some;
       planes = c.requires.planes;
       passes = c.requires.passes;
-      size = rw e (record { wide = c.requires.size.wide; high = c.requires.size.high });
-      within = rw e (zeros_within c.args.planes 1 c.args.grid.now.width c.args.grid.now.height);
+      wide = rw c.width.ensures c.requires.size.wide;
+      high = rw c.height.ensures c.requires.size.high;
       kind = rw e refl;
     }
 
@@ -23,5 +22,5 @@ returns c =
     let co : Coding = coding_of c.args.band c.args.style.bits c.args.planes in
     c.end-segments.ensures
     ∙ (c.in_ok-result.ensures
-    ∙ rw c.in_ok-encoder.ensures
+    ∙ rw (c.in_ok-encoder.ensures, c.width.ensures, c.height.ensures)
     (sym (segments_finished c.args.style.bits c.args.grid.now (needs co c.args.grid.now c.args.passes) 0 mq_fresh [])))

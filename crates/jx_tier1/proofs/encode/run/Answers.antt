@@ -1,38 +1,35 @@
-use Rattle.std.proofs.Common.{◌-◌, ◌+◌, ◌/◌, ◌++◌, ◌==◌, ◌∙◌, ap, sym, arith, Bool, ℕ}
-use Rattle.jx_tier1_specs.specs.Cells.{Cells}
+use Rattle.std.proofs.Common.{◌∙◌, refl, ℕ}
+use Rattle.jx_tier1_specs.specs.Alike.{HasPasses}
 use Rattle.jx_tier1_specs.specs.Reading.{Coding, coding_of}
-use Rattle.jx_tier1_specs.specs.Needs.{needs_from}
-use Rattle.jx_tier1_specs.proofs.Places.{within_more}
-use Rattle.jx_tier1_specs.specs.Writing.{finished_from}
-use Rattle.jx_tier1_specs.specs.Encoding.{Encoding}
-use Rattle.jx_tier1_specs.proofs.WroteLemmas.{step_more, step_end, step_kind, step_target}
+use Rattle.jx_tier1.proofs.ComingLemmas.{coming_begun, coming_now, coming_next, coming_done}
 use Rattle.jx_tier1.proofs.encode.run.Goals as goal
+
+pub loop-pass-init : goal.loop-pass-init
+loop-pass-init c =
+    let d : Coding = coding_of c.args.band c.args.style.bits c.args.planes in
+    record {
+      size = record { width = refl; height = refl };
+      way = coming_begun d c.args.marks.now.width c.args.marks.now.height c.args.passes c.args.marks.now c.args.encoder.now c.requires.fresh c.requires.kind;
+    }
 
 pub loop-pass-preserved : goal.loop-pass-preserved
 loop-pass-preserved c =
-    let co : Coding = coding_of c.args.band c.args.style.bits c.args.planes in
-    let g : Cells = c.args.encoder.now.writing.target in
-    let e : Encoding = c.loop-pass.encoder in
-    let pass : ℕ = c.loop-pass.pass in
-    let last : Bool = pass + 1 == c.args.passes in
-    let F = λ (x : Encoding). x.done ++ finished_from c.args.style.bits (pass + 1) x.writing (needs_from co g (c.args.passes - (pass + 1)) (pass + 1) x.cells) in
-    let h = c.in_ok-pass.ensures.encoding in
-    let k = c.in_ok-pass.ensures.kept in
+    let d : Coding = coding_of c.args.band c.args.style.bits c.args.planes in
+    let w : ℕ = c.args.marks.now.width in
+    let h : ℕ = c.args.marks.now.height in
+    let b : HasPasses d c.args.passes = record { some = c.requires.some; most = c.requires.planes; few = c.requires.passes } in
     let i = c.loop-pass.invariant in
-    let w = k.width in
-    let v = k.height in
-    let s = i.size in
-    let wide = s.wide in
-    let high = s.high in
+    let o = i.way in
+    let k = c.in_ok-pass.ensures in
+    let n = coming_now d w h c.args.passes c.loop-pass.pass c.loop-pass.marks c.loop-pass.encoder c.args.encoder.now b c.loop-pass-test.true o in
     record {
-      so_far = ap F h ∙ (step_more co g c.args.passes pass e c.loop-pass-test.true i.target ∙ i.so_far);
-      target = ap (λ (x : Encoding). x.writing.target) h ∙ (step_target co last pass e ∙ i.target);
-      kind = ap (λ (x : Encoding). x.writing.raw) h ∙ step_kind co last pass e i.kind;
-      size = record { wide = omega arith; high = omega arith };
-      within = within_more c.args.planes ((pass + 2) / 3 + 1) ((pass + 1 + 1) / 3 + 1) c.pass.new.self.cells (omega arith) k.within;
+      size = record { width = k.size.width ∙ i.size.width; height = k.size.height ∙ i.size.height };
+      way = coming_next d w h c.args.passes c.loop-pass.pass c.loop-pass.marks c.pass.new.marks c.loop-pass.encoder c.pass.new.self c.args.encoder.now b
+          c.loop-pass-test.true o (k.walk o.cells o.shows n);
     }
 
 pub returns : goal.returns
 returns c =
-    let co : Coding = coding_of c.args.band c.args.style.bits c.args.planes in
-    sym (step_end co c.args.encoder.now.writing.target c.args.passes c.loop-pass.pass c.loop-pass.encoder c.loop-pass-test.false) ∙ c.loop-pass.invariant.so_far
+    let d : Coding = coding_of c.args.band c.args.style.bits c.args.planes in
+    coming_done d c.args.marks.now.width c.args.marks.now.height c.args.passes c.loop-pass.pass c.loop-pass.marks c.loop-pass.encoder c.args.encoder.now
+    c.loop-pass-test.false c.loop-pass.invariant.way

@@ -6,12 +6,12 @@ use Rattle.jx_tier1.proofs.walk.walk_column.Goals as goal
 
 pub returns-then-is_over-clause-walk : goal.returns-then-is_over-clause-walk
 returns-then-is_over-clause-walk g c = λ v s n.
-    still g.S.Answering.answer c.args.plane.planes (scanned c.args.pass c.args.plane c.args.rows (first_of v c.args.x c.args.top c.args.rows) v) v c.args.marks.now
+    still g.S.Source.ask c.args.plane.planes (scanned c.args.pass c.args.plane c.args.rows (first_of v c.args.x c.args.top c.args.rows) v) v c.args.marks.now
     c.args.source.now (c.is_over.ensures v s n c.if-is_over.true) s
 
 pub returns-then-is_clear-clause-walk : goal.returns-then-is_clear-clause-walk
 returns-then-is_clear-clause-walk g c = λ v s n.
-    still g.S.Answering.answer c.args.plane.planes (scanned c.args.pass c.args.plane c.args.rows (first_of v c.args.x c.args.top c.args.rows) v) v c.args.marks.now
+    still g.S.Source.ask c.args.plane.planes (scanned c.args.pass c.args.plane c.args.rows (first_of v c.args.x c.args.top c.args.rows) v) v c.args.marks.now
     c.args.source.now (c.is_clear.ensures v s c.if-is_clear.true) s
 
 pub returns-then-rows-eq4-clause-walk : goal.returns-then-rows-eq4-clause-walk

@@ -11,7 +11,7 @@ at_end s r h e l = omega arith
 pub loop-s-init : goal.loop-s-init
 loop-s-init g c = record {
   size = record { width = refl; height = refl };
-  walk = λ v s n. stripes_none g.S.Answering.answer c.args.pass c.args.plane v c.args.marks.now c.args.source.now s;
+  walk = λ v s n. stripes_none g.S.Source.ask c.args.pass c.args.plane v c.args.marks.now c.args.source.now s;
 }
 
 pub loop-s-preserved : goal.loop-s-preserved
@@ -21,12 +21,12 @@ loop-s-preserved g c =
     record {
       size = record { width = k.size.width ∙ i.size.width; height = k.size.height ∙ i.size.height };
       walk = λ v s n.
-          stripe_walked g.S.Answering.answer c.args.pass c.args.plane v c.loop-s.s c.loop-s.marks c.walk_stripe.new.marks c.args.source.now c.loop-s.source
+          stripe_walked g.S.Source.ask c.args.pass c.args.plane v c.loop-s.s c.loop-s.marks c.walk_stripe.new.marks c.args.source.now c.loop-s.source
           c.walk_stripe.new.source n (before_end c.loop-s.s c.height.result v.height (c.height.ensures ∙ s.height) c.loop-s-test.true) (i.walk v s n)
           (λ u a h. k.walk u h a.now);
     }
 
 pub returns-clause-walk : goal.returns-clause-walk
 returns-clause-walk g c = λ v s n.
-    stripes_done g.S.Answering.answer c.args.pass c.args.plane v c.loop-s.s c.loop-s.marks c.args.source.now c.loop-s.source
+    stripes_done g.S.Source.ask c.args.pass c.args.plane v c.loop-s.s c.loop-s.marks c.args.source.now c.loop-s.source
     (at_end c.loop-s.s c.height.result v.height (c.height.ensures ∙ s.height) c.loop-s-test.false) (c.loop-s.invariant.walk v s n)

@@ -10,5 +10,5 @@ pub returns-clause-walk : goal.returns-clause-walk
 returns-clause-walk g c = λ v s n.
     let k = c.args.plane in
     let P : Cells × g.row.S.Denot → Type 0 = λ e. OnOk c.cleanup.result (Ends k.planes e c.cleanup.new.marks c.cleanup.new.source) in
-    subst P (same_end g.S.Answering.answer (pass_at c.args.pass k v c.args.x c.args.y) (cleanup_at k v c.args.x c.args.y) c.args.source.now
+    subst P (same_end g.S.Source.ask (pass_at c.args.pass k v c.args.x c.args.y) (cleanup_at k v c.args.x c.args.y) c.args.source.now
     (third_kind c.args.pass k v c.args.x c.args.y (sym c.requires.kind))) (c.cleanup.ensures.walk v s n)

@@ -6,6 +6,7 @@ use Rattle.jx_tier1.proofs.walk_rows.four_refinement.Goals as goal
 
 pub refinement_place-requires : goal.refinement_place-requires
 refinement_place-requires g c = record {
+  scan = c.requires.scan;
   kind = c.requires.kind;
   place = c.requires.place;
   at = c.requires.at;
@@ -20,6 +21,7 @@ refinement_place-requires-2 g c =
     let whole = c.requires.whole in
     let one = c.in_ok-columns.ensures in
     record {
+      scan = c.requires.scan;
       kind = c.requires.kind;
       place = spot_below c.args.marks.now c.refinement_place.new.marks c.args.x c.args.top (c.args.top + 1) c.requires.place one.size.width one.size.height (omega arith);
       at = spot_kept c.args.marks.now c.refinement_place.new.marks c.args.x c.args.top 1 c.args.at c.requires.first (omega arith) one.size.width c.requires.at;
@@ -35,6 +37,7 @@ refinement_place-requires-3 g c =
     let one = c.in_ok-columns.ensures in
     let two = c.in_ok-columns-2.ensures in
     record {
+      scan = c.requires.scan;
       kind = c.requires.kind;
       place = spot_below c.args.marks.now c.refinement_place-2.new.marks c.args.x c.args.top (c.args.top + 2) c.requires.place (two.size.width ∙ one.size.width)
           (two.size.height ∙ one.size.height) (omega arith);
@@ -52,6 +55,7 @@ refinement_place-requires-4 g c =
     let two = c.in_ok-columns-2.ensures in
     let three = c.in_ok-columns-3.ensures in
     record {
+      scan = c.requires.scan;
       kind = c.requires.kind;
       place = spot_below c.args.marks.now c.refinement_place-3.new.marks c.args.x c.args.top (c.args.top + 3) c.requires.place
           (three.size.width ∙ (two.size.width ∙ one.size.width)) (three.size.height ∙ (two.size.height ∙ one.size.height)) (omega arith);
@@ -72,7 +76,7 @@ returns g c =
         height = four.size.height ∙ (three.size.height ∙ (two.size.height ∙ one.size.height));
       };
       walk = λ v s n.
-          let answer = g.S.Answering.answer in
+          let answer = g.S.Source.ask in
           let k = c.args.plane in
           let pass : ℕ = c.args.pass in
           let x : ℕ = c.args.x in

@@ -6,6 +6,7 @@ use Rattle.jx_tier1.proofs.walk_rows.four_significance.Goals as goal
 
 pub significance_place-requires : goal.significance_place-requires
 significance_place-requires g c = record {
+  scan = c.requires.scan;
   kind = c.requires.kind;
   labels = c.requires.labels;
   turns = c.requires.turns;
@@ -22,6 +23,7 @@ significance_place-requires-2 g c =
     let whole = c.requires.whole in
     let one = c.in_ok-columns.ensures in
     record {
+      scan = c.requires.scan;
       kind = c.requires.kind;
       labels = c.requires.labels;
       turns = c.requires.turns;
@@ -39,6 +41,7 @@ significance_place-requires-3 g c =
     let one = c.in_ok-columns.ensures in
     let two = c.in_ok-columns-2.ensures in
     record {
+      scan = c.requires.scan;
       kind = c.requires.kind;
       labels = c.requires.labels;
       turns = c.requires.turns;
@@ -58,6 +61,7 @@ significance_place-requires-4 g c =
     let two = c.in_ok-columns-2.ensures in
     let three = c.in_ok-columns-3.ensures in
     record {
+      scan = c.requires.scan;
       kind = c.requires.kind;
       labels = c.requires.labels;
       turns = c.requires.turns;
@@ -80,7 +84,7 @@ returns g c =
         height = four.size.height ∙ (three.size.height ∙ (two.size.height ∙ one.size.height));
       };
       walk = λ v s n.
-          let answer = g.S.Answering.answer in
+          let answer = g.S.Source.ask in
           let k = c.args.plane in
           let pass : ℕ = c.args.pass in
           let x : ℕ = c.args.x in

@@ -10,5 +10,5 @@ pub returns-clause-walk : goal.returns-clause-walk
 returns-clause-walk g c = λ v s n.
     let k = c.args.plane in
     let P : Cells × g.row.S.Denot → Type 0 = λ e. OnOk c.refinement.result (Ends k.planes e c.refinement.new.marks c.refinement.new.source) in
-    subst P (same_end g.S.Answering.answer (pass_at c.args.pass k v c.args.x c.args.y) (refinement_at k v c.args.x c.args.y) c.args.source.now
+    subst P (same_end g.S.Source.ask (pass_at c.args.pass k v c.args.x c.args.y) (refinement_at k v c.args.x c.args.y) c.args.source.now
     (second_kind c.args.pass k v c.args.x c.args.y (sym c.requires.kind))) (c.refinement.ensures.walk v s n)

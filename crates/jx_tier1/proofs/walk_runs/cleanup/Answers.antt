@@ -12,7 +12,7 @@ returns-then-is_run-clause-walk g c = λ v s n.
     let k = c.args.plane in
     let e = sym (c.is_run.ensures.run v s n) ∙ c.if-is_run.true in
     let P : Cells × g.row.S.Denot → Type 0 = λ z. OnOk c.run.result (Ends k.planes z c.run.new.marks c.run.new.source) in
-    subst P (same_end g.S.Answering.answer (cleanup_at k v c.args.x c.args.y) (run_at k v c.args.x c.args.y) c.args.source.now (cleanup_run k v c.args.x c.args.y e))
+    subst P (same_end g.S.Source.ask (cleanup_at k v c.args.x c.args.y) (run_at k v c.args.x c.args.y) c.args.source.now (cleanup_run k v c.args.x c.args.y e))
     (c.run.ensures.walk v s (zeros_of k v c.args.x c.args.y n e))
 
 pub returns-clause-walk : goal.returns-clause-walk
@@ -20,5 +20,5 @@ returns-clause-walk g c = λ v s n.
     let k = c.args.plane in
     let e = sym (c.is_run.ensures.run v s n) ∙ c.if-is_run.false in
     let P : Cells × g.row.S.Denot → Type 0 = λ z. OnOk c.usual.result (Ends k.planes z c.usual.new.marks c.usual.new.source) in
-    subst P (same_end g.S.Answering.answer (cleanup_at k v c.args.x c.args.y) (usual_at k v c.args.x c.args.y) c.args.source.now (cleanup_usual k v c.args.x c.args.y e))
+    subst P (same_end g.S.Source.ask (cleanup_at k v c.args.x c.args.y) (usual_at k v c.args.x c.args.y) c.args.source.now (cleanup_usual k v c.args.x c.args.y e))
     (c.usual.ensures.walk v s n)

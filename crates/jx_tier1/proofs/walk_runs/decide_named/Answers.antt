@@ -15,6 +15,7 @@ decide_sign-requires g c =
     let row = c.row_of-around.ensures.row in
     let r : c.args.n ≡ (c.args.y + c.args.n) % 4 = omega arith in
     record {
+      scan = c.requires.scan;
       turns = c.requires.turns;
       place = spot_below c.args.marks.now c.args.marks.now c.args.x c.args.y (c.args.y + c.args.n) c.requires.place refl refl (omega arith);
       at = spot_kept c.args.marks.now c.args.marks.now c.args.x c.args.y c.args.n c.args.at first few refl c.requires.at;
@@ -26,6 +27,6 @@ decide_sign-requires g c =
 
 pub returns-clause-walk : goal.returns-clause-walk
 returns-clause-walk g c = λ v s z.
-    named_walked g.S.Answering.answer c.args.plane v c.args.x c.args.y c.args.n c.decide_sign.new.marks c.zero_first.new.marks c.args.source.now c.decide_sign.new.source
+    named_walked g.S.Source.ask c.args.plane v c.args.x c.args.y c.args.n c.decide_sign.new.marks c.zero_first.new.marks c.args.source.now c.decide_sign.new.source
     (c.in_ok-decide_sign.ensures.walk v s (z.bits c.args.n c.requires.few)) c.zero_first.ensures.walk z c.requires.few
     (some_wide c.args.plane.planes v c.args.marks.now c.args.x c.args.y s c.requires.place)

@@ -9,8 +9,8 @@ returns-then-bit-clause-walk g c = λ v s n z.
     let k = c.args.plane in
     let a = nine_shown k.planes v c.args.marks.now k.causal c.args.x c.args.y c.args.stripe c.args.columns c.args.around s c.requires.place c.requires.stripe c.requires.columns c.requires.around in
     let P : Cells × g.row.S.Denot → Type 0 = λ e. OnOk c.decide_sign.result (Ends k.planes e c.decide_sign.new.marks c.decide_sign.new.source) in
-    subst P (bit_walked_one g.S.Answering.answer k v c.args.x c.args.y c.args.label c.in_ok-bit.bit c.args.source.now c.answer.new.self
-    (label_seen k v c.args.x c.args.y c.args.label c.args.around c.requires.label a) c.in_ok-bit.ensures.bit c.in_ok-bit.ensures.after c.if-bit.true)
+    subst P (bit_walked_one g.S.Source.ask k v c.args.x c.args.y c.args.label c.asked.result c.in_ok-bit.bit c.args.source.now c.ask.new.self
+    (label_seen k v c.args.x c.args.y c.args.label c.args.around c.requires.label a) c.asked.ensures.question c.in_ok-bit.ensures.answer c.in_ok-bit.ensures.after c.if-bit.true)
     (c.decide_sign.ensures.walk v s z)
 
 pub returns-clause-columns : goal.returns-clause-columns
@@ -23,5 +23,5 @@ returns-clause-walk g c = λ v s n z.
     let m = c.args.marks.now in
     let a = nine_shown k.planes v m k.causal c.args.x c.args.y c.args.stripe c.args.columns c.args.around s c.requires.place c.requires.stripe c.requires.columns c.requires.around in
     rw c.put_there.ensures
-    (bit_walked_none g.S.Answering.answer k v m c.args.x c.args.y c.args.label c.parity.result c.in_ok-bit.bit c.args.source.now c.answer.new.self s c.requires.place n z
-    (label_seen k v c.args.x c.args.y c.args.label c.args.around c.requires.label a) c.in_ok-bit.ensures.bit c.in_ok-bit.ensures.after c.if-bit.false c.parity.ensures.parity)
+    (bit_walked_none g.S.Source.ask k v m c.args.x c.args.y c.args.label c.parity.result c.asked.result c.in_ok-bit.bit c.args.source.now c.ask.new.self s c.requires.place n z
+    (label_seen k v c.args.x c.args.y c.args.label c.args.around c.requires.label a) c.asked.ensures.question c.in_ok-bit.ensures.answer c.in_ok-bit.ensures.after c.if-bit.false c.parity.ensures.parity)

@@ -25,7 +25,7 @@ returns-then-is_due-eq0-clause-walk g c = λ v s n.
       | inr most ↦ refinement_done k v c.args.x c.args.y (sym (done_shown k v m c.args.x c.args.y s c.requires.place n)
           ∙ (sym shown ∙ due_done (c.row_of-around.result / 16 % 2) c.note_there-note.result c.parity-odd.result few (omega arith) due))
     ] in
-    still g.S.Answering.answer k.planes (refinement_at k v c.args.x c.args.y) v m c.args.source.now quiet s
+    still g.S.Source.ask k.planes (refinement_at k v c.args.x c.args.y) v m c.args.source.now quiet s
 
 pub returns-clause-columns : goal.returns-clause-columns
 returns-clause-columns g c =
@@ -48,6 +48,6 @@ returns-clause-walk g c = λ v s n.
     let r : (c.note_there-note.result / 2 % 2 == 1) ≡ (note_in m c.args.x c.args.y / 2 % 2 == 1) = rw note refl in
     let q : c.parity-odd.result + 2 + c.note_there-note.result / 4 * 4 ≡ parity k + 2 + note_in m c.args.x c.args.y / 4 * 4 = rw (p, note) refl in
     rw c.put_there.ensures
-    (more_walked g.S.Answering.answer k v m c.args.x c.args.y c.row_of-around.result c.refinement_label-label.result
-    (c.parity-odd.result + 2 + c.note_there-note.result / 4 * 4) c.in_ok-answer.field-0 (c.note_there-note.result / 2 % 2 == 1) c.is_near.result c.args.source.now c.answer.new.self
-    s c.requires.place n i d a c.refinement_label-label.ensures.label r c.is_near.ensures c.in_ok-answer.ensures.bit c.in_ok-answer.ensures.after q)
+    (more_walked g.S.Source.ask k v m c.args.x c.args.y c.row_of-around.result c.refinement_label-label.result
+    (c.parity-odd.result + 2 + c.note_there-note.result / 4 * 4) c.asked.result c.in_ok-ask.field-0 (c.note_there-note.result / 2 % 2 == 1) c.is_near.result c.args.source.now c.ask.new.self
+    s c.requires.place n i d a c.refinement_label-label.ensures.label r c.is_near.ensures c.asked.ensures.question c.in_ok-ask.ensures.answer c.in_ok-ask.ensures.after q)

@@ -12,14 +12,14 @@ returns-then-around-eq1-clause-walk g c = λ v s n.
     let k = c.args.plane in
     let m = c.args.marks.now in
     let a = nine_shown k.planes v m k.causal c.args.x c.args.y c.args.stripe c.args.columns c.row_of-around.result s c.requires.place c.requires.stripe c.requires.columns c.row_of-around.ensures.row in
-    still g.S.Answering.answer k.planes (usual_at k v c.args.x c.args.y) v m c.args.source.now
+    still g.S.Source.ask k.planes (usual_at k v c.args.x c.args.y) v m c.args.source.now
     (usual_marked k v c.args.x c.args.y (is_marked k.planes v m k.causal c.args.x c.args.y c.row_of-around.result s c.requires.place a c.if-around-eq1.true)) s
 
 pub returns-then-is_done_there-clause-walk : goal.returns-then-is_done_there-clause-walk
 returns-then-is_done_there-clause-walk g c = λ v s n.
     let k = c.args.plane in
     let m = c.args.marks.now in
-    still g.S.Answering.answer k.planes (usual_at k v c.args.x c.args.y) v m c.args.source.now
+    still g.S.Source.ask k.planes (usual_at k v c.args.x c.args.y) v m c.args.source.now
     (usual_done k v c.args.x c.args.y (sym (done_shown k v m c.args.x c.args.y s c.requires.place n) ∙ (sym c.is_done_there.ensures ∙ c.if-is_done_there.true))) s
 
 pub returns-clause-walk : goal.returns-clause-walk
@@ -30,5 +30,5 @@ returns-clause-walk g c = λ v s n.
     let u = is_unmarked k.planes v m k.causal c.args.x c.args.y c.row_of-around.result s c.requires.place a c.if-around-eq1.false in
     let d = sym (done_shown k v m c.args.x c.args.y s c.requires.place n) ∙ (sym c.is_done_there.ensures ∙ c.if-is_done_there.false) in
     let P : Cells × g.row.S.Denot → Type 0 = λ z. OnOk c.decide_bit.result (Ends k.planes z c.decide_bit.new.marks c.decide_bit.new.source) in
-    subst P (same_end g.S.Answering.answer (usual_at k v c.args.x c.args.y) (bit_of k v c.args.x c.args.y) c.args.source.now (usual_asked k v c.args.x c.args.y u d))
+    subst P (same_end g.S.Source.ask (usual_at k v c.args.x c.args.y) (bit_of k v c.args.x c.args.y) c.args.source.now (usual_asked k v c.args.x c.args.y u d))
     (c.decide_bit.ensures.walk v s n (no_bits (coef_at v c.args.x c.args.y).bits u))
