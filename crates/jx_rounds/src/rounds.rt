@@ -111,7 +111,7 @@ fn push_packed<'a, 'b>(
     making: &Making<'a, '_>,
     tile: u16,
     entries: &'a [Entry<Recoded<'b>>],
-    alone: bool,
+    laid: bool,
     tiles: &mut Vec<Packed<'a, 'b>>,
 ) -> Result<(), Halt>
     requires tile { tile < tile_number making.now.stream.siz }
@@ -119,7 +119,7 @@ fn push_packed<'a, 'b>(
     ensures lead { OnOk result ((first : ℕ) → LeadOn making.now first tile (parts_of tiles.old.items) → LeadOn making.now first (tile + 1) (parts_of tiles.new.items)) }
     ensures unmade { IfErr result (λ h. IsUnmadeTile making.now tile h) }
 {
-    let out = match packed_tile(alloc, making, tile, entries, alone) {
+    let out = match packed_tile(alloc, making, tile, entries, laid) {
         Ok(out) => out,
         Err(halt) => return Err(halt),
     };
@@ -149,8 +149,10 @@ fn push_tiles<'a, 'b>(
     let alone = extent.counts.len() == 1;
     let mut from = 0;
     for at in tile..extent.tile {
-        let to = from + extent.counts[(at - tile) as usize] as usize;
-        match push_packed(alloc, making, at, &entries[from..to], alone, tiles) {
+        let count = extent.counts[(at - tile) as usize];
+        let to = from + count as usize;
+        let laid = alone || count >= MOST_BLOCKS;
+        match push_packed(alloc, making, at, &entries[from..to], laid, tiles) {
             Ok(()) => {}
             Err(halt) => return Err(halt),
         }

@@ -44,13 +44,13 @@ fn first_unmade(entries: &[Entry<Recoded<'_>>]) -> Option<u32>
     None
 }
 
-/// A tile of which all code-blocks are made, put together but for its coded bytes where it is alone in its round.
+/// A tile of which all code-blocks are made, put together; where it is asked but for its coded bytes.
 fn pack_made<'a, 'b>(
     alloc: Global,
     making: &Making<'a, '_>,
     tile: u16,
     entries: &'a [Entry<Recoded<'b>>],
-    alone: bool,
+    laid: bool,
 ) -> Result<Packed<'a, 'b>, AssembleFault>
     requires tile { tile < tile_number making.now.stream.siz }
     requires made { AreMade entries.now }
@@ -59,7 +59,7 @@ fn pack_made<'a, 'b>(
     ensures long { result ≡ Err AssembleFault.TooLong → (blocks : List Block) → StandIn blocks making.now tile (made_in entries.now) → IsTooLong making.now blocks tile most_of_part }
 {
     let plan = making.plan();
-    if alone {
+    if laid {
         return match pack_tile(alloc, plan, making.written(), tile, entries, u32::MAX) {
             Ok(out) => Ok(Packed::laid(out)),
             Err(fault) => Err(fault),
@@ -71,14 +71,14 @@ fn pack_made<'a, 'b>(
     }
 }
 
-/// A tile that is ready to be written, of which these are the entries of its code-blocks: put together but for its coded bytes where it
-/// is alone in its round.
+/// A tile that is ready to be written, of which these are the entries of its code-blocks: put together, where it is asked but for its
+/// coded bytes.
 pub fn packed_tile<'a, 'b>(
     alloc: Global,
     making: &Making<'a, '_>,
     tile: u16,
     entries: &'a [Entry<Recoded<'b>>],
-    alone: bool,
+    laid: bool,
 ) -> Result<Packed<'a, 'b>, Halt>
     requires tile { tile < tile_number making.now.stream.siz }
     requires entries { AreOfBlocks making.now (first_block making.now tile) (blocks_in making.now tile) entries.now }
@@ -92,7 +92,7 @@ pub fn packed_tile<'a, 'b>(
     if let Some(number) = first_unmade(entries) {
         return Err(Halt::Bad { tile, number });
     }
-    match pack_made(alloc, making, tile, entries, alone) {
+    match pack_made(alloc, making, tile, entries, laid) {
         Ok(out) => Ok(out),
         Err(AssembleFault::TooLong) => Err(Halt::TooLong { tile }),
         Err(AssembleFault::NoMemory) => Err(Halt::NoMemory),

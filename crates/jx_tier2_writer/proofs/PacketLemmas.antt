@@ -9,7 +9,7 @@ use Rattle.jx_codestream.specs.declared.Stream.{Stream}
 use Rattle.jx_marker.specs.Codes.{eph_spelling}
 use Rattle.jx_tier2_reader.specs.Written.{WrittenPacket, packet_bytes, sop_bytes}
 use Rattle.jx_tier2_writer.specs.Own.{IsSending}
-use Rattle.jx_tier2_writer.specs.declared.sending.Sending.{Sending}
+use Rattle.jx_tier2_writer.specs.Sendings.{Sending}
 use Rattle.jx_tier2_writer.proofs.SendingsLemmas.{IsSendingOf}
 
 pub there_below : (s : Stream) (g : Geometry) (own : List Block) (datas : List (List ℕ)) (c r k : ℕ) (list : List Sending) (i : ℕ) → IsSendingOf s g own datas c r k (slice_get list i) → i < length list

@@ -16,7 +16,7 @@ use Rattle.jx_codestream.specs.declared.Stream.{Stream}
 use Rattle.jx_tier2_reader.proofs.ListedLemmas.{by_resolution, rows_all, rows_next}
 use Rattle.jx_tier2_writer.specs.Names.{AreSendings, one_name, resolution_names, tile_names}
 use Rattle.jx_tier2_writer.specs.Own.{IsSending}
-use Rattle.jx_tier2_writer.specs.declared.sending.Sending.{Sending}
+use Rattle.jx_tier2_writer.specs.Sendings.{Sending}
 use Rattle.jx_tier2_writer.proofs.NameLemmas.{name_there, names_listed}
 
 -- one more

@@ -21,7 +21,7 @@ use Rattle.jx_tile.specs.Cells.{precinct_bands}
 use Rattle.jx_tier2_reader.specs.Planned.{leaf_part_of}
 use Rattle.jx_tier2_writer.specs.Own.{IsSending, leaf_bytes, own_header, own_leaf, own_leaves}
 use Rattle.jx_tier2_writer.specs.BlockParts.{layer_bytes, row_at, row_bytes}
-use Rattle.jx_tier2_writer.specs.declared.sending.Sending.{Sending}
+use Rattle.jx_tier2_writer.specs.Sendings.{Sending}
 use Rattle.jx_tier2_writer.specs.Silent.{AreSilent, empty_header}
 use Rattle.jx_tier2_writer.proofs.SendingLemmas.{none_sent}
 

@@ -14,6 +14,7 @@ pub mod Pieces
 pub mod Rows
 pub mod BlockParts
 pub mod Silent
+pub mod Sendings
 pub mod Told
 pub mod Strict
 pub mod SameHeaders

@@ -8,7 +8,7 @@ use Rattle.jx_progression.specs.Steps.{name_of}
 use Rattle.jx_progression.specs.declared.names.PacketName.{PacketName}
 use Rattle.jx_codestream.specs.declared.Stream.{Stream}
 use Rattle.jx_tier2_writer.specs.Own.{IsSending}
-use Rattle.jx_tier2_writer.specs.declared.sending.Sending.{Sending}
+use Rattle.jx_tier2_writer.specs.Sendings.{Sending}
 
 abbrev pub one_name : ℕ → ℕ → ℕ → List PacketName
 one_name c r k = name_of 0 r c k ∷ []

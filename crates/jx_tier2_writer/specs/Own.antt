@@ -17,7 +17,7 @@ use Rattle.jx_tile.specs.Cells.{precinct_bands}
 use Rattle.jx_tier2_reader.specs.Planned.{leaf_from}
 use Rattle.jx_tier2_writer.specs.Coded.{HasLayers}
 use Rattle.jx_tier2_writer.specs.BlockParts.{AreBlockParts, layer_bytes, row_at, row_bytes}
-use Rattle.jx_tier2_writer.specs.declared.sending.Sending.{Sending}
+use Rattle.jx_tier2_writer.specs.Sendings.{Sending}
 
 -- one block for each number in the tile, sound ones, with pieces in its layers
 pub record AreOwnBlocks (s : Stream) (g : Geometry) (own : List Block) : Type 0 where

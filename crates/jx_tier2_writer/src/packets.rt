@@ -81,8 +81,8 @@ pub(crate) fn packet_length<B: Coded>(
 {
     let sending = sending_at(stream, geom, values, list, name);
     let layer = usize::from(name.layer);
-    let header = sending.headers.row(layer).len() as u128;
-    let body = body_length(sending.sent.row(layer));
+    let header = sending.header(layer).len() as u128;
+    let body = body_length(sending.parts(layer));
     marks_length(marks) + header + body
 }
 
@@ -138,8 +138,8 @@ pub(crate) fn put_packet<B: Coded>(
     let sending = sending_at(stream, geom, values, list, name);
     let layer = usize::from(name.layer);
     put_sop(marks.sop, number, out)?;
-    out.extend_from_slice(sending.headers.row(layer))?;
+    out.extend_from_slice(sending.header(layer))?;
     put_eph(marks.eph, out)?;
-    put_body(values, sending.sent.row(layer), out)?;
+    put_body(values, sending.parts(layer), out)?;
     Ok(())
 }

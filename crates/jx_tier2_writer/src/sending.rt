@@ -1,12 +1,13 @@
 //! What is sent of a precinct, layer by layer (ITU-T T.800, B.9 and B.10).
 
-ghost use Rattle.std.specs.Prelude.{◌≡◌, [], ℕ, length, map, IfOk};
+ghost use Rattle.std.specs.Prelude.{◌≡◌, ◌<◌, [], ℕ, length, map, IfOk};
 ghost use Rattle.std.specs.List.{range_with_len};
 ghost use Rattle.jx_base.specs.Joined.{joined};
 ghost use Rattle.jx_geom.specs.Precincts.{HasPrecinct, leaves};
 ghost use Rattle.jx_packet_header.specs.LeavesFit.{header_at};
 ghost use Rattle.jx_tile.specs.Frame.{AreOfTile};
 ghost use Rattle.jx_tier2_writer.specs.Own.{AreOwnBlocks, HasLeaves, IsSending, leaf_bytes};
+ghost use Rattle.jx_tier2_writer.specs.Sendings.{no_part};
 ghost use Rattle.jx_tier2_writer.specs.Silent.{empty_header};
 ghost use Rattle.jx_tier2_writer.specs.BlockParts.{AreBlockParts, row_at, row_bytes, rows_of};
 
@@ -14,19 +15,90 @@ use crate::block_parts::{BlockPart, put_block};
 use crate::leaf::leaves_of;
 use crate::parts::Coded;
 use crate::rows::Rows;
-use crate::silent::{are_silent, silent_headers};
+use crate::silent::are_silent;
 use jx_base::NoMemory;
 use jx_codestream::{Stream, TileView};
 use jx_geom::TileGeom;
 use jx_packet_header::PrecinctOut;
 use jx_tile::cells_of;
 use std::alloc::Global;
+use std::marker::Model;
 
 /// The headers of a precinct's packets, and the parts of its blocks that each tells of.
 #[derive(Drop)]
+struct Packets {
+    headers: Rows<u8>,
+    sent: Rows<BlockPart>,
+}
+
+/// How that is kept. Most precincts of a large picture may have nothing to send, so these take no memory of their own.
+#[derive(Drop)]
+enum Form {
+    /// An empty packet in each of so many layers.
+    Silent(u16),
+    Written(Box<Packets>),
+}
+
+/// What is sent of a precinct, layer by layer.
+#[derive(Drop)]
 pub(crate) struct Sending {
-    pub(crate) headers: Rows<u8>,
-    pub(crate) sent: Rows<BlockPart>,
+    form: Form,
+}
+
+impl Model for Sending {
+    ghost use Rattle.jx_tier2_writer.specs.Sendings.{Sending, sending_in};
+
+    ghost Value = { Sending };
+
+    ghost view = { λ s. sending_in s.form };
+}
+
+impl Sending {
+    /// Of a precinct of which no block has a part.
+    fn silent(layers: u16) -> Sending
+        ensures headers { result.headers ≡ map empty_header (range_with_len 0 layers) }
+        ensures sent { result.sent ≡ map no_part (range_with_len 0 layers) }
+    {
+        Sending {
+            form: Form::Silent(layers),
+        }
+    }
+
+    /// Of these rows.
+    fn written(alloc: Global, headers: Rows<u8>, sent: Rows<BlockPart>) -> Result<Sending, NoMemory>
+        ensures { IfOk result (λ s. s ≡ record { headers = headers; sent = sent }) }
+    {
+        match Box::new(alloc, Packets { headers, sent }) {
+            Ok(packets) => Ok(Sending {
+                form: Form::Written(packets),
+            }),
+            Err(_) => Err(NoMemory),
+        }
+    }
+
+    /// The header of the packet of a layer.
+    #[tactic(auto, using(crate::proofs::SendingLemmas::silent_header))]
+    pub(crate) fn header(&self, layer: usize) -> &[u8]
+        requires { layer < length self.now.headers }
+        ensures { result.now ≡ row_at self.now.headers layer }
+    {
+        match &self.form {
+            Form::Silent(_) => &[0],
+            Form::Written(packets) => packets.headers.row(layer),
+        }
+    }
+
+    /// The parts that it tells of.
+    #[tactic(auto, using(crate::proofs::SendingLemmas::silent_parts))]
+    pub(crate) fn parts(&self, layer: usize) -> &[BlockPart]
+        requires { layer < length self.now.sent }
+        ensures { result.now ≡ row_at self.now.sent layer }
+    {
+        match &self.form {
+            Form::Silent(_) => &[],
+            Form::Written(packets) => packets.sent.row(layer),
+        }
+    }
 }
 
 /// No part, for each layer.
@@ -94,18 +166,6 @@ fn headers_of(alloc: Global, precinct: PrecinctOut, layers: u16) -> Result<Rows<
     Ok(rows)
 }
 
-/// What is sent of a precinct of which no block has a part.
-fn silent_sending(alloc: Global, layers: u16) -> Result<Sending, NoMemory>
-    ensures headers { IfOk result (λ p. p.headers ≡ map empty_header (range_with_len 0 layers)) }
-    ensures long { IfOk result (λ p. length p.sent ≡ layers) }
-    ensures none { IfOk result (λ p. (l : ℕ) → row_at p.sent l ≡ []) }
-{
-    let rows = empty_rows(alloc, layers)?;
-    let sent = flat_rows(alloc, &rows)?;
-    let headers = silent_headers(alloc, layers)?;
-    Ok(Sending { headers, sent })
-}
-
 /// What is sent of a precinct whose tag trees are written, from the blocks of its tile.
 fn written_sending<B: Coded>(
     alloc: Global,
@@ -130,7 +190,8 @@ fn written_sending<B: Coded>(
     let headers = headers_of(alloc, out, layers)?;
     let rows = parts_of(alloc, geom, comp, res, precinct, layers, values)?;
     let sent = flat_rows(alloc, &rows)?;
-    Ok(Sending { headers, sent })
+    let sending = Sending::written(alloc, headers, sent)?;
+    Ok(sending)
 }
 
 /// What is sent of a precinct, from the blocks of its tile. Where no block has a part no tag tree is built.
@@ -151,7 +212,7 @@ pub(crate) fn sending_of<B: Coded>(
 {
     if are_silent(geom, comp, res, precinct, values) {
         let layers = view.layers();
-        let sending = silent_sending(alloc, layers)?;
+        let sending = Sending::silent(layers);
         return Ok(sending);
     }
     written_sending(alloc, stream, view, geom, comp, res, precinct, values)

@@ -1,16 +1,12 @@
 //! A precinct of which nothing is sent: no block has a part, so each of its packets is empty (ITU-T T.800, B.10.3).
 
-ghost use Rattle.std.specs.Prelude.{◌≡◌, ◌≤◌, ◌<◌, ◌^◌, ◌∷◌, [], ℕ, true, length, map, IfOk};
-ghost use Rattle.std.specs.List.{range_with_len};
+ghost use Rattle.std.specs.Prelude.{◌≡◌, ◌≤◌, ◌<◌, ◌^◌, [], ℕ, true, length, map};
 ghost use Rattle.jx_geom.specs.Precincts.{HasPrecinct, leaf_number, leaves};
-ghost use Rattle.jx_tier2_writer.specs.Silent.{AreSilent, empty_header};
+ghost use Rattle.jx_tier2_writer.specs.Silent.{AreSilent};
 
 use crate::block_parts::block_at;
 use crate::parts::Coded;
-use crate::rows::Rows;
-use jx_base::NoMemory;
 use jx_geom::TileGeom;
-use std::alloc::Global;
 
 /// Whether a block has no part.
 fn is_silent<B: Coded>(block: &B) -> bool
@@ -39,15 +35,4 @@ pub(crate) fn are_silent<B: Coded>(
         }
     }
     true
-}
-
-/// The headers of empty packets, one for each layer: a bit 0, and seven as filling.
-pub(crate) fn silent_headers(alloc: Global, layers: u16) -> Result<Rows<u8>, NoMemory>
-    ensures { IfOk result (λ rows. rows ≡ map empty_header (range_with_len 0 layers)) }
-{
-    let mut rows = Rows::new(alloc);
-    for _ in 0..layers {
-        rows.push(&[0])?;
-    }
-    Ok(rows)
 }

@@ -8,6 +8,8 @@ mod bytes;
 #[cfg(test)]
 mod checks;
 #[cfg(test)]
+mod crowd_tests;
+#[cfg(test)]
 mod device_tests;
 #[cfg(test)]
 mod gate_tests;

@@ -7,8 +7,8 @@ use Rattle.jx_tier2_writer.specs.declared.block_parts.BlockPart.{BlockPart}
 use Rattle.jx_tier2_writer.proofs.PacketLemmas.{four_put, row_of, rows_count}
 use Rattle.jx_tier2_writer.proofs.packets.put_packet.Goals as goal
 
-pub row-requires : goal.row-requires
-row-requires g c =
+pub header-requires : goal.header-requires
+header-requires g c =
     let s = c.args.stream.now in
     let geom = c.args.geom.now in
     let own = map g.B.Coded.block c.args.values.now in
@@ -26,12 +26,12 @@ returns g c =
     let datas = map g.B.Coded.bytes c.args.values.now in
     let p = c.args.name in
     let l : ℕ = c.args.name.layer in
-    let header : c.row.result.now ≡ own_header s geom own p.comp p.res p.precinct l =
-    c.row.ensures ∙ ap (λ (n : ℕ). row_at c.sending_at-sending.result.now.headers n) c.from-layer.ensures
+    let header : c.header.result.now ≡ own_header s geom own p.comp p.res p.precinct l =
+    c.header.ensures ∙ ap (λ (n : ℕ). row_at c.sending_at-sending.result.now.headers n) c.from-layer.ensures
     ∙ row_of (own_header s geom own p.comp p.res p.precinct) (layers_of s geom.tile) l c.sending_at-sending.result.now.headers c.sending_at-sending.ensures.headers c.requires.there.layer in
-    let sent : c.row-2.result.now ≡ row_at c.sending_at-sending.result.now.sent l =
-    c.row-2.ensures ∙ ap (λ (n : ℕ). row_at c.sending_at-sending.result.now.sent n) c.from-layer.ensures in
-    let body : row_bytes datas c.row-2.result.now ≡ own_body geom own p =
+    let sent : c.parts.result.now ≡ row_at c.sending_at-sending.result.now.sent l =
+    c.parts.ensures ∙ ap (λ (n : ℕ). row_at c.sending_at-sending.result.now.sent n) c.from-layer.ensures in
+    let body : row_bytes datas c.parts.result.now ≡ own_body geom own p =
     ap (λ (xs : List BlockPart). row_bytes datas xs) sent ∙ c.sending_at-sending.ensures.bytes l c.requires.there.layer in
     four_put c.args.out.now.items c.put_sop.new.out.items c.extend_from_slice.new.self.items c.put_eph.new.out.items c.put_body.new.out.items
     (sop_of c.args.marks.sop c.args.number) (own_header s geom own p.comp p.res p.precinct l) (eph_of c.args.marks.eph) (own_body geom own p)

@@ -15,6 +15,7 @@ use Rattle.jx_geom.specs.Precincts.{leaf_number}
 use Rattle.std.specs.Global.{Vec}
 use Rattle.jx_tile.proofs.BandLemmas.{bands_are}
 use Rattle.jx_tier2_writer.specs.BlockParts.{rows_of}
+use Rattle.jx_tier2_writer.specs.Own.{IsSending}
 use Rattle.jx_tier2_writer.specs.declared.block_parts.BlockPart.{BlockPart}
 use Rattle.jx_tier2_writer.proofs.OwnLemmas.{headers_are, own_has, own_in_range, sent_are}
 use Rattle.jx_tier2_writer.proofs.sending.written_sending.Goals as goal
@@ -55,7 +56,8 @@ returns g c =
     let s = c.args.stream.now in
     let layers : c.layers-layers.result ≡ layers_of s c.args.geom.now.tile = c.layers-layers.ensures.value ∙ ap (λ (h : TileHeaders). layers_in h) c.requires.tile.view in
     let style : c.style-style.result.bits ≡ style_of s c.args.geom.now.tile c.args.comp = c.style-style.ensures ∙ ap (λ (h : TileHeaders). style_in h c.args.comp) c.requires.tile.view in
-    sent_are s c.args.geom.now own (map g.B.Coded.bytes c.args.values.now) c.args.comp c.args.res c.args.precinct c.layers-layers.result c.in_ok-headers.headers c.in_ok-rows.rows.items c.in_ok-sent.sent layers
+    subst (IsSending s c.args.geom.now own (map g.B.Coded.bytes c.args.values.now) c.args.comp c.args.res c.args.precinct) (sym c.in_ok-sending.ensures)
+    (sent_are s c.args.geom.now own (map g.B.Coded.bytes c.args.values.now) c.args.comp c.args.res c.args.precinct c.layers-layers.result c.in_ok-headers.headers c.in_ok-rows.rows.items c.in_ok-sent.sent layers
     (headers_are s c.args.geom.now own c.args.comp c.args.res c.args.precinct c.layers-layers.result c.style-style.result.bits c.deref.result.now (map leaf_of c.in_ok-leaves.leaves.items) c.in_ok-out.out
     c.in_ok-headers.headers layers style (c.deref.ensures.value ∙ (c.in_ok-cells.ensures ∙ bands_are c.args.stream.now c.args.view.now c.args.geom.now c.args.comp c.args.res c.args.precinct c.requires.tile.view)) c.in_ok-leaves.ensures c.in_ok-out.ensures c.in_ok-headers.ensures)
-    (c.in_ok-sent.ensures ∙ ap (λ (xs : List (Vec BlockPart)). rows_of xs) c.deref-2.ensures.value) c.in_ok-rows.ensures.long c.in_ok-rows.ensures.bytes c.in_ok-rows.ensures.sent
+    (c.in_ok-sent.ensures ∙ ap (λ (xs : List (Vec BlockPart)). rows_of xs) c.deref-2.ensures.value) c.in_ok-rows.ensures.long c.in_ok-rows.ensures.bytes c.in_ok-rows.ensures.sent)
