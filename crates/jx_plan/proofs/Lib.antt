@@ -18,7 +18,7 @@ mod TileJobLemmas
 mod BlocksWritten
 mod MeaningLemmas
 mod CauseLemmas
-mod ChosenLemmas
+mod QuestionLemmas
 mod AnswerLemmas
 mod PlannedLemmas
 mod FitLemmas

@@ -1,10 +1,11 @@
--- What is written has no POC and no PLT, and each tile's COD is as asked.
+-- What is written has no POC, TLM, PLM, PLT or skipped marker and all CRG and COM of the main header, and each tile's COD is as asked.
 use Rattle.std.proofs.Common.{◌≡◌, ◌∙◌, ◌<◌, ◌≤◌, ◌^◌, ℕ, true, false, nat_lt, arith, List, [], ◌∷◌, ◌++◌, length, refl, sym, ap, subst, Option, Some, None, inl, inr}
-use Rattle.std.specs.List.{All, list_any}
+use Rattle.std.specs.List.{All, filter, list_any}
 use Rattle.std.specs.Option.{option_or, option_map}
 use Rattle.std.proofs.lemmas.Bool.Decides.{nat_tests}
 use Rattle.std.proofs.lemmas.Bool.{cases_Bool}
 use Rattle.std.proofs.lemmas.List.Elements.{All-head, All-tail}
+use Rattle.std.proofs.lemmas.List.Folds.{list_any-append}
 use Rattle.std.proofs.lemmas.Option.{slice_get-get_or}
 use Rattle.jx_marker.specs.declared.Segment.{Segment}
 use Rattle.jx_marker.specs.declared.Cod.{Cod}
@@ -18,7 +19,7 @@ use Rattle.jx_codestream.specs.Shapes.{tile_at, no_tile}
 use Rattle.jx_tile.specs.Faults.{passed}
 use Rattle.jx_tile.specs.Totals.{block_total, packet_total, totals_fault}
 use Rattle.jx_plan.specs.Headers.{cod_written, written, is_written, all_written, tile_header, stream_written, HeaderOptions, MayBeInHeaders}
-use Rattle.jx_plan.specs.Asides.{is_plt}
+use Rattle.jx_plan.specs.Asides.{is_informational, is_left_out, is_plt}
 use Rattle.jx_plan.specs.Fits.{Fits, first_zero}
 use Rattle.jx_plan.specs.Standing.{IsNote, IsHeaded, HeadersStand}
 use Rattle.jx_plan.proofs.StreamLemmas.{cod_slots, coded_at, own_slots, main_slots, tile_is, canvas_stays}
@@ -62,6 +63,39 @@ any_both (x ∷ xs) ys h k = elim (cases_Bool (is_plt x)) [
 header_plt : (a : HeaderOptions) (comps : ℕ) (t : Tile) → IsHeaded comps t → list_any is_plt (tile_header a t) ≡ false
 header_plt a comps t h = any_both (all_written a t.header) t.notes (no_plt a t.header) (plt_notes comps t.notes h.notes)
 
+-- nothing that is left out, and all that informs
+
+left_next : (a : HeaderOptions) (s : Segment) (ss : List Segment) → list_any is_left_out (all_written a ss) ≡ false → list_any is_left_out (all_written a (s ∷ ss)) ≡ false
+left_next a (segment.Cod cod) ss h = h
+left_next a (segment.Coc comp shape) ss h = h
+left_next a _ ss h = h
+
+none_left : (a : HeaderOptions) (ss : List Segment) → list_any is_left_out (all_written a ss) ≡ false
+none_left a [] = refl
+none_left a (s ∷ ss) = left_next a s ss (none_left a ss)
+
+note_left : (comps : ℕ) (s : Segment) → IsNote comps s → is_left_out s ≡ false
+note_left comps (segment.Com bytes) h = refl
+note_left comps _ h = absurd (let e = h.is in cc)
+
+notes_left : (comps : ℕ) (notes : List Segment) → All (IsNote comps) notes → list_any is_left_out notes ≡ false
+notes_left comps [] h = refl
+notes_left comps (s ∷ ss) h = rw (note_left comps s (All-head (IsNote comps) s ss h)) (notes_left comps ss (All-tail (IsNote comps) s ss h))
+
+header_left : (a : HeaderOptions) (comps : ℕ) (t : Tile) → IsHeaded comps t → list_any is_left_out (tile_header a t) ≡ false
+header_left a comps t h =
+    list_any-append is_left_out (all_written a t.header) t.notes ∙ (let own = none_left a t.header in let notes = notes_left comps t.notes h.notes in rw (own, notes) refl)
+
+informs_next : (a : HeaderOptions) (s : Segment) (ss : List Segment) → filter is_informational (all_written a ss) ≡ filter is_informational ss
+    → filter is_informational (all_written a (s ∷ ss)) ≡ filter is_informational (s ∷ ss)
+informs_next a (segment.Crg bytes) ss h = ap (λ (z : List Segment). segment.Crg bytes ∷ z) h
+informs_next a (segment.Com bytes) ss h = ap (λ (z : List Segment). segment.Com bytes ∷ z) h
+informs_next a _ ss h = h
+
+informs : (a : HeaderOptions) (ss : List Segment) → filter is_informational (all_written a ss) ≡ filter is_informational ss
+informs a [] = refl
+informs a (s ∷ ss) = informs_next a s ss (informs a ss)
+
 -- limits 5 and 6
 
 not_passed : (n : ℕ) → n ≤ 2 ^ 22 → passed 6 n (nat_lt (2 ^ 22) n) ≡ None
@@ -101,6 +135,15 @@ module _ (a : HeaderOptions) (s : Stream) (stand : HeadersStand s) where
 
   pub lengths_plain : (t : ℕ) → t < length s.tiles → list_any is_plt (header_of (stream_written a s) t) ≡ false
   lengths_plain t inside = ap (λ (xs : List Segment). list_any is_plt xs) (header_is t inside) ∙ header_plt a (length s.siz.comps) (tile_at s t) (stand.each t no_tile inside)
+
+  pub left_main : list_any is_left_out (stream_written a s).main ≡ false
+  left_main = ap (λ (xs : List Segment). list_any is_left_out xs) (main_is a s) ∙ none_left a s.main
+
+  pub left_header : (t : ℕ) → t < length s.tiles → list_any is_left_out (header_of (stream_written a s) t) ≡ false
+  left_header t inside = ap (λ (xs : List Segment). list_any is_left_out xs) (header_is t inside) ∙ header_left a (length s.siz.comps) (tile_at s t) (stand.each t no_tile inside)
+
+  pub main_informs : filter is_informational (stream_written a s).main ≡ filter is_informational s.main
+  main_informs = ap (λ (xs : List Segment). filter is_informational xs) (main_is a s) ∙ informs a s.main
 
   pub order_plain : (t : ℕ) → t < length s.tiles
       → (tile_at (stream_written a s) t).progressions ≡ or_list (entry_in (in_slot 1 (header_of (stream_written a s) t))) (entry_in (in_slot 1 (stream_written a s).main))

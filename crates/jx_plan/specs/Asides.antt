@@ -1,4 +1,5 @@
--- Segments that say nothing of how a tile is coded: comments and packet lengths (ITU-T T.800, A.7.3 and A.9.2).
+-- Segments that say nothing of how a tile is coded: comments and packet lengths (ITU-T T.800, A.7.3 and A.9.2). And the informational ones,
+-- which are kept, and what is left out of the headers that are written.
 use Rattle.std.specs.Prelude.{◌≡◌, ◌<◌, ℕ, Bool, true, false, List, ◌++◌, length}
 use Rattle.std.specs.List.{All}
 use Rattle.jx_marker.specs.declared.Segment.{Segment}
@@ -16,6 +17,20 @@ is_aside _ = false
 abbrev pub is_plt : Segment → Bool
 is_plt (segment.Plt bytes) = true
 is_plt _ = false
+
+-- the informational segments (A.9): CRG and COM
+abbrev pub is_informational : Segment → Bool
+is_informational (segment.Crg bytes) = true
+is_informational (segment.Com bytes) = true
+is_informational _ = false
+
+-- what no written header has: POC, TLM, PLM and the markers FF30 to FF3F (A.6.6, A.7.1, A.7.2 and Table A.1)
+abbrev pub is_left_out : Segment → Bool
+is_left_out (segment.Poc entries) = true
+is_left_out (segment.Tlm bytes) = true
+is_left_out (segment.Plm bytes) = true
+is_left_out (segment.Skipped code) = true
+is_left_out _ = false
 
 -- COM or PLT
 pub record IsAside (comps : ℕ) (s : Segment) : Type 0 where

@@ -7,6 +7,7 @@ pub mod Plan
 pub mod Meaning
 pub mod Causes
 pub mod Planned
+pub mod Questions
 -- Inner: no other crate cites these.
 pub mod ReadBack
 pub mod TileJobs

@@ -1,7 +1,7 @@
 //! Laws over what is planned: the headers that are written, and the plans. The functions do nothing: their contracts carry the laws.
 
 ghost use Rattle.std.specs.Prelude.{◌≡◌, ◌≤◌, ◌<◌, ◌^◌, ◌++◌, ◌⊎◌, ◌∷◌, ℕ, List, [], None, Some, false, find, length, map, slice_get, Option};
-ghost use Rattle.std.specs.List.{All, AllPairs, Contains, list_any};
+ghost use Rattle.std.specs.List.{All, AllPairs, Contains, filter, list_any};
 ghost use Rattle.jx_base.specs.declared.names.Band.{Band};
 ghost use Rattle.jx_base.specs.declared.style.Style.{Style};
 ghost use Rattle.jx_marker.specs.declared.Segment.{Segment};
@@ -24,7 +24,7 @@ ghost use Rattle.jx_codestream.specs.Read.{IsRead};
 ghost use Rattle.jx_codestream.specs.Shapes.{geometry, layers_of, shapes_of, style_of, tile_at};
 ghost use Rattle.jx_codestream.specs.Spells.{AreSegments};
 ghost use Rattle.jx_codestream.specs.Tiles.{entry_in, in_slot, entries_joined, or_list, tile_from, tiles_of};
-ghost use Rattle.jx_plan.specs.Asides.{is_plt, IsAside, IsTileWithMore, IsWithMore};
+ghost use Rattle.jx_plan.specs.Asides.{is_informational, is_left_out, is_plt, IsAside, IsTileWithMore, IsWithMore};
 ghost use Rattle.jx_plan.specs.Headers.{all_written, cod_written, comp_written, params_written, stream_written, style_written, tile_written, HeaderOptions, MayBeInHeaders};
 ghost use Rattle.jx_plan.specs.ReadBack.{HaveHeaders};
 ghost use Rattle.jx_plan.specs.Standing.{HeadersStand, IsHeaded};
@@ -182,7 +182,8 @@ pub fn written_is_read_back()
         → ((t : ℕ) → t < tile_number s.siz → HaveHeaders a (length s.siz.comps) (tile_at s t) (parts_of t parts)) → IsWithMore (stream_written a s) other }
 {}
 
-/// No POC and no PLT is written; the packets of a tile stand in the order of its COD, which has the marks, the order, the layers, the
+/// No POC, TLM, PLM, PLT or skipped marker is written, and the main header has its CRG and COM segments in their order (T.800, A.7 and A.9);
+/// the packets of a tile stand in the order of its COD, which has the marks, the order, the layers, the
 /// precincts and the style that are asked (T.800, A.6.1 and A.6.6); and where its precincts fit, the limits 5 and 6 are those on its
 /// packets alone.
 pub fn written_headers_are_plain()
@@ -191,6 +192,9 @@ pub fn written_headers_are_plain()
         → AreSegments First (length s.siz.comps) [] (header_of (stream_written a s) t) }
     ensures entries { (a : HeaderOptions) (s : Stream) (t : ℕ) → HeadersStand s → t < length s.tiles → entries_joined (header_of (stream_written a s) t) ≡ [] }
     ensures lengths { (a : HeaderOptions) (s : Stream) (t : ℕ) → HeadersStand s → t < length s.tiles → list_any is_plt (header_of (stream_written a s) t) ≡ false }
+    ensures left_main { (a : HeaderOptions) (s : Stream) → HeadersStand s → list_any is_left_out (stream_written a s).main ≡ false }
+    ensures left_header { (a : HeaderOptions) (s : Stream) (t : ℕ) → HeadersStand s → t < length s.tiles → list_any is_left_out (header_of (stream_written a s) t) ≡ false }
+    ensures informs { (a : HeaderOptions) (s : Stream) → HeadersStand s → filter is_informational (stream_written a s).main ≡ filter is_informational s.main }
     ensures order { (a : HeaderOptions) (s : Stream) (t : ℕ) → HeadersStand s → t < length s.tiles → (tile_at (stream_written a s) t).progressions
         ≡ or_list (entry_in (in_slot cod_slot (header_of (stream_written a s) t))) (entry_in (in_slot cod_slot (stream_written a s).main)) }
     ensures cods { (a : HeaderOptions) (s : Stream) (t : ℕ) → HeadersStand s

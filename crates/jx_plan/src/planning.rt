@@ -1,16 +1,17 @@
 //! The plan by a planner of layers that was handed in.
 
-ghost use Rattle.std.specs.Prelude.{◌≡◌, ◌<◌, ◌≤◌, ◌^◌, ℕ, length, slice_get, None, Some, IfErr, IfOk, IfSome, MatchOption};
+ghost use Rattle.std.specs.Prelude.{◌≡◌, ◌<◌, ◌≤◌, ◌^◌, ℕ, Option, length, slice_get, None, Some, IfErr, IfOk, IfSome, MatchOption, MatchResult, OnOk};
 ghost use Rattle.std.specs.List.{All};
 ghost use Rattle.std.specs.Option.{option_map};
 ghost use Rattle.jx_base.specs.Sound.{IsSound};
 ghost use Rattle.jx_plan.specs.declared.faults.PlanFault.TheVariants as fault;
 ghost use Rattle.jx_layers.specs.Causal.{first_broken};
-ghost use Rattle.jx_layers.specs.Rule.{layers_by};
+ghost use Rattle.jx_layers.specs.Rule.{Rule, layers_by};
 ghost use Rattle.jx_layers.specs.Facts.{facts_of};
 ghost use Rattle.jx_plan.specs.Fits.{Fits};
 ghost use Rattle.jx_plan.specs.Plan.{IsJob, MayBePlanned};
 ghost use Rattle.jx_plan.specs.Planned.{ArePlanned, HasLaterCause, HasPlanCause, IsPlanned, IsUnplanned, chosen};
+ghost use Rattle.jx_plan.specs.Questions.{AtFirst, HasNone, IsAskedAfter, IsFirstOf, questions};
 ghost use Rattle.jx_plan.specs.Steps.{IsTooMuch};
 ghost use Rattle.jx_options.specs.Wanted.{MayBeWanted};
 ghost use Rattle.jx_codeblock.specs.declared.job.Job.{Job as job_asked};
@@ -51,6 +52,7 @@ fn plan_by<'a>(
     ensures planned { IfOk result (λ p. ArePlanned style (rule_of planner.old words.now facts.now) facts.now blocks.entry.now p.0 p.1.items) }
     ensures count { IfOk result (λ p. length p.1.items ≡ length blocks.entry.now) }
     ensures unplanned { IfErr result (λ e. IsUnplanned (rule_of planner.old words.now facts.now) e) }
+    ensures asked { MatchResult result (λ _. asked planner.new ≡ questions blocks.entry.now) (λ e. IsAskedAfter (asked planner.old) (questions blocks.entry.now) e (asked planner.new)) }
 {
     let layers = match begin(planner, words, facts) {
         Some(layers) => layers,
@@ -119,6 +121,7 @@ fn plan_with<'a>(
     requires fits { Fits options.now.precincts stream.now }
     ensures planned { IfOk result (λ p. IsPlanned (rule_of planner.old options.entry.now.layers (facts_of stream.entry.now blocks.entry.now)) stream.entry.now blocks.entry.now options.entry.now p) }
     ensures cause { IfErr result (λ e. HasLaterCause (rule_of planner.old options.entry.now.layers (facts_of stream.entry.now blocks.entry.now)) stream.entry.now blocks.entry.now options.entry.now e) }
+    ensures asked { MatchResult result (λ _. asked planner.new ≡ questions blocks.entry.now) (λ e. IsAskedAfter (asked planner.old) (questions blocks.entry.now) e (asked planner.new)) }
 {
     crowds_are_told();
     let facts = facts_of(alloc, stream, blocks)?;
@@ -131,6 +134,29 @@ fn plan_with<'a>(
         planner,
     ) {
         Ok((layers, jobs)) => plan_jobs(alloc, stream, blocks, options, layers, jobs),
+        Err(fault) => Err(fault),
+    }
+}
+
+/// What is looked at before a planner begins: choice 1, then choices 3 and 2.
+fn check_wanted(
+    alloc: Global,
+    stream: &Stream,
+    blocks: &[Block<'_>],
+    options: &Options,
+) -> Result<(), PlanFault>
+    requires may { MayBePlanned stream.now blocks.now }
+    requires wanted { MayBeWanted options.now }
+    ensures whole { OnOk result (first_broken options.now.style blocks.now ≡ None) }
+    ensures fits { OnOk result (Fits options.now.precincts stream.now) }
+    ensures cause { IfErr result (λ e. (rule : Option Rule) → HasPlanCause rule stream.now blocks.now options.now e) }
+    ensures unasked { IfErr result (λ e. (before all : ℕ) → IsAskedAfter before all e before) }
+{
+    if let Some(place) = first_broken(options.style, blocks) {
+        return Err(PlanFault::Choice { number: 1, place });
+    }
+    match check_precincts(alloc, stream, &options.precincts) {
+        Ok(()) => Ok(()),
         Err(fault) => Err(fault),
     }
 }
@@ -159,10 +185,7 @@ pub fn plan<'a>(
     ensures planned { IfOk result (λ p. MatchOption planner.entry ⊥ (λ b. IsPlanned (rule_of b.now options.entry.now.layers (facts_of stream.entry.now blocks.entry.now)) stream.entry.now blocks.entry.now options.entry.now p)) }
     ensures cause { IfErr result (λ e. MatchOption planner.entry (HasPlanCause None stream.entry.now blocks.entry.now options.entry.now e) (λ b. HasPlanCause (rule_of b.now options.entry.now.layers (facts_of stream.entry.now blocks.entry.now)) stream.entry.now blocks.entry.now options.entry.now e)) }
 {
-    if let Some(place) = first_broken(options.style, blocks) {
-        return Err(PlanFault::Choice { number: 1, place });
-    }
-    if let Err(fault) = check_precincts(alloc, stream, &options.precincts) {
+    if let Err(fault) = check_wanted(alloc, stream, blocks, options) {
         return Err(fault);
     }
     match planner {
@@ -181,7 +204,22 @@ fn does_serve(planner: &Box<dyn LayerPlanner>, words: &str) -> bool
     planner.serves(words)
 }
 
-/// The plan by the first planner that serves the words; there is none where none does, which is choice 6 at 0 as in `plan`.
+/// The place of the first planner that serves the words.
+fn first_serving(planners: &[Box<dyn LayerPlanner>], words: &str) -> Option<usize>
+    ensures inside { IfSome result (λ place. place < length planners.now) }
+    ensures some { IfSome result (λ place. IsFirstOf (λ b. serves_text b words.now) planners.now place) }
+    ensures none { result ≡ None → HasNone (λ b. serves_text b words.now) planners.now }
+{
+    for place in 0..planners.len() {
+        if does_serve(&planners[place], words) {
+            return Some(place);
+        }
+    }
+    None
+}
+
+/// The plan by the first planner that serves the words; there is none where none does, which is choice 6 at 0 as in `plan`. No other
+/// planner begins or is asked.
 pub fn plan_served<'a>(
     alloc: Global,
     stream: &'a Stream,
@@ -195,11 +233,17 @@ pub fn plan_served<'a>(
         stream.entry.now blocks.entry.now options.entry.now p) }
     ensures cause { IfErr result (λ e. HasPlanCause (chosen (λ b. serves_text b options.entry.now.layers) (λ b. rule_of b options.entry.now.layers (facts_of stream.entry.now blocks.entry.now)) planners.old)
         stream.entry.now blocks.entry.now options.entry.now e) }
+    ensures asked { AtFirst (λ b. serves_text b options.entry.now.layers)
+        (λ b c. MatchResult result (λ _. asked c ≡ questions blocks.entry.now) (λ e. IsAskedAfter (asked b) (questions blocks.entry.now) e (asked c))) planners.old planners.new }
 {
-    for planner in planners.iter_mut() {
-        if does_serve(planner, &options.layers) {
-            return plan(alloc, stream, blocks, options, Some(planner));
-        }
+    if let Err(fault) = check_wanted(alloc, stream, blocks, options) {
+        return Err(fault);
     }
-    plan(alloc, stream, blocks, options, None)
+    match first_serving(planners, &options.layers) {
+        Some(place) => plan_with(alloc, stream, blocks, options, &mut planners[place]),
+        None => Err(PlanFault::Choice {
+            number: 6,
+            place: 0,
+        }),
+    }
 }

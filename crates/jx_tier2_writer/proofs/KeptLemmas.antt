@@ -1,8 +1,9 @@
 -- The headers that are written are such as a file may be written from, and the file that is written from them has its input's blocks as
 -- they are written, and its meaning.
-use Rattle.std.proofs.Common.{◌≡◌, ◌∙◌, ◌<◌, ◌≤◌, ◌^◌, ℕ, false, arith, List, [], length, map, refl, sym, ap, subst, Option, None, Some}
+use Rattle.std.proofs.Common.{◌≡◌, ◌∙◌, ◌<◌, ◌≤◌, ◌+◌, ◌^◌, ℕ, false, arith, List, [], ◌∷◌, length, map, refl, sym, ap, subst, Option, None, Some}
 use Rattle.std.proofs.Math.Path.{fun_ext}
-use Rattle.std.specs.List.{All, list_any}
+use Rattle.std.specs.List.{All, filter, list_any}
+use Rattle.std.proofs.lemmas.List.Folds.{list_any-append}
 use Rattle.std.proofs.lemmas.Option.{get_or_from_slice_get, slice_get_within}
 use Rattle.std.specs.Prelude.{slice_get}
 use Rattle.jx_base.specs.declared.names.Band.{Band}
@@ -35,7 +36,7 @@ use Rattle.jx_layers.specs.Causal.{breaks_plane, first_broken}
 use Rattle.jx_layers.specs.Layers.{ends_of}
 use Rattle.jx_layers.specs.Rule.{Rule}
 use Rattle.jx_options.specs.declared.Marks.{Marks}
-use Rattle.jx_plan.specs.Asides.{is_plt}
+use Rattle.jx_plan.specs.Asides.{is_informational, is_left_out, is_plt}
 use Rattle.jx_plan.specs.Fits.{Fits, first_zero}
 use Rattle.jx_plan.specs.Headers.{HeaderOptions, MayBeInHeaders, cod_written, comp_written, params_written, stream_written, with_layers}
 use Rattle.jx_plan.specs.Causes.{IsFree}
@@ -46,7 +47,8 @@ use Rattle.jx_plan.specs.Standing.{HeadersStand}
 use Rattle.jx_options.specs.Wanted.{MayBeWanted, Wanted}
 use Rattle.jx_tier2_writer.specs.Kept.{IsKeptIn}
 use Rattle.jx_tier2_writer.specs.Ready.{AllShort, AreReady, IsTileReady, stream_read}
-use Rattle.jx_tier2_writer.specs.SameHeaders.{HasHeadersOf}
+use Rattle.jx_tier2_writer.specs.Lengths.{numbered}
+use Rattle.jx_tier2_writer.specs.SameHeaders.{HasHeadersOf, IsWithLengths}
 use Rattle.jx_tier2_writer.specs.TileParts.{IsOutput}
 use Rattle.jx_tier2_writer.proofs.OutputLemmas.{output_formed, output_gathered, output_headers, output_read, output_strict}
 use Rattle.jx_plan.proofs.ReadBackLemmas.{comps_are as comps_written}
@@ -61,6 +63,9 @@ pub record HeaderLaws : Type 0 where
       → AreSegments First (length s.siz.comps) [] (header_of (stream_written a s) t)
   pub entries : (a : HeaderOptions) (s : Stream) (t : ℕ) → HeadersStand s → t < length s.tiles → entries_joined (header_of (stream_written a s) t) ≡ []
   pub lengths : (a : HeaderOptions) (s : Stream) (t : ℕ) → HeadersStand s → t < length s.tiles → list_any is_plt (header_of (stream_written a s) t) ≡ false
+  pub left_main : (a : HeaderOptions) (s : Stream) → HeadersStand s → list_any is_left_out (stream_written a s).main ≡ false
+  pub left_header : (a : HeaderOptions) (s : Stream) (t : ℕ) → HeadersStand s → t < length s.tiles → list_any is_left_out (header_of (stream_written a s) t) ≡ false
+  pub informs : (a : HeaderOptions) (s : Stream) → HeadersStand s → filter is_informational (stream_written a s).main ≡ filter is_informational s.main
   pub order : (a : HeaderOptions) (s : Stream) (t : ℕ) → HeadersStand s → t < length s.tiles → (tile_at (stream_written a s) t).progressions
       ≡ or_list (entry_in (in_slot 1 (header_of (stream_written a s) t))) (entry_in (in_slot 1 (stream_written a s).main))
   pub cods : (a : HeaderOptions) (s : Stream) (t : ℕ) → HeadersStand s
@@ -112,6 +117,16 @@ same_meaning s other blocks headers =
     means other.siz s.siz (λ t c. component_of (params_of other t c)) (λ t c. component_of (params_of s t c)) (step_of other) (step_of s) (sample_at blocks) headers.siz
     (fun_ext (λ t. fun_ext (λ c. ap component_of (headers.params t c))))
     (fun_ext (λ t. fun_ext (λ c. fun_ext (λ r. fun_ext (λ band. headers.step t c r band)))))
+
+-- a header to which PLT segments are added
+none_in_lengths : (number : ℕ) (held : List (List ℕ)) → list_any is_left_out (numbered number held) ≡ false
+none_in_lengths number [] = refl
+none_in_lengths number (bytes ∷ held) = none_in_lengths (number + 1) held
+
+left_with : (own header : List Segment) → IsWithLengths own header → list_any is_left_out own ≡ false → list_any is_left_out header ≡ false
+left_with own header more none =
+    ap (λ (z : List Segment). list_any is_left_out z) more.1 ∙ list_any-append is_left_out own (numbered 0 more.0)
+    ∙ (let lengths = none_in_lengths 0 more.0 in rw (none, lengths) refl)
 
 module _ (laws : HeaderLaws) (w : Wanted) (layers : ℕ) (s : Stream) (some : 1 ≤ layers) (few : layers < 2 ^ 16) (may : MayBeWanted w) (stand : HeadersStand s)
     (none : totals_fault s ≡ None) (free : IsFree s w layers) where
@@ -221,12 +236,19 @@ module _ (laws : HeaderLaws) (keep : KeepLaws) (told : LayerLaws) (w : Wanted) (
   first_layers k layer d there =
       told.final w.style (ends_of rule layers blocks k d) d layer (may_ask k d there) (all_at (λ (x : Block). is_wrong w.style x ≡ false) blocks k d right there)
 
+  left_header : (t : ℕ) → t < tile_number before.siz → list_any is_left_out (header_of after t) ≡ false
+  left_header t lt =
+      left_with (header_of written t) (header_of after t) (headers.header t (omega (arith, lt, laws.tiles b before))) (laws.left_header b before t stand (omega (arith, lt, stand.count)))
+
   kept : IsKeptIn w rule before after blocks out
   kept = record {
     read = output_read marks written anew out is ready all_short;
     gathered = output_gathered marks written anew out is ready all_short named sound;
     formed = output_formed marks written anew out is ready all_short named sound;
     strict = output_strict marks written anew out is ready all_short named sound;
+    left_main = ap (λ (z : List Segment). list_any is_left_out z) headers.main ∙ laws.left_main b before stand;
+    left_header = left_header;
+    informs = ap (λ (z : List Segment). filter is_informational z) headers.main ∙ laws.informs b before stand;
     siz = headers.siz ∙ siz_written b before;
     params = λ t c. headers.params t c ∙ keep.params b before t c stand;
     steps = λ t c r band. headers.step t c r band ∙ keep.steps b before t c r band stand;

@@ -10,6 +10,7 @@ mod CoverLemmas
 mod ReadyLemmas
 mod ReadLemmas
 mod TellLemmas
+mod WholeLemmas
 mod StrictLemmas
 mod OutputLemmas
 mod KeptLemmas

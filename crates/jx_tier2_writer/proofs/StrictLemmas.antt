@@ -1,5 +1,5 @@
 -- A written file is strict: its tile-parts tell their number and their packets' lengths, and SOP and EPH are as COD announces them.
-use Rattle.std.proofs.Common.{◌≡◌, ◌∙◌, ◌+◌, ℕ, zero, suc, false, List, [], ◌∷◌, length, map, refl, ap}
+use Rattle.std.proofs.Common.{◌≡◌, ◌∙◌, ◌<◌, ◌+◌, ℕ, zero, suc, false, arith, List, [], ◌∷◌, length, map, refl, ap}
 use Rattle.std.specs.List.{filter}
 use Rattle.jx_base.specs.declared.pieces.Block.{Block}
 use Rattle.jx_marker.specs.declared.Segment.{Segment}
@@ -16,6 +16,7 @@ use Rattle.jx_tier2_writer.specs.TileParts.{packet_length, packets_of, written_p
 use Rattle.jx_tier2_writer.proofs.HeldLemmas.{held_by}
 use Rattle.jx_tier2_writer.proofs.MadeLemmas.{header_is, lengths_short, own_at, part_long}
 use Rattle.jx_tier2_writer.proofs.TellLemmas.{held_none, held_told, lengths_found}
+use Rattle.jx_tier2_writer.proofs.WholeLemmas.{held_whole}
 use Rattle.jx_plan.specs.Asides.{is_plt}
 
 own_none : (own : List Segment) (part : ℕ) → has_lengths own ≡ false → has_lengths (own_at part own) ≡ false
@@ -26,12 +27,17 @@ found_in : (m : Marks) (own : List Segment) (part : ℕ) (lengths : List ℕ) �
 found_in m own part lengths none =
     ap (λ (z : List Segment). filter is_plt z) (header_is m own part lengths) ∙ lengths_found (own_at part own) (held_by m.plt lengths) (own_none own part none)
 
+later_is : (m : Marks) (own : List Segment) (part : ℕ) (lengths : List ℕ) → 0 < part → written_part_header m own part lengths ≡ numbered 0 (held_by m.plt lengths)
+later_is m own zero lengths some = absurd (omega arith)
+later_is m own (suc part) lengths some = header_is m own (suc part) lengths
+
 pub strict_made : (m : Marks) (comps t : ℕ) (own : List Segment) (ps : Packets) (count part number : ℕ) (groups : List (List PacketName)) → has_lengths own ≡ false
     → AreShort (parts_with m comps t own ps part count number groups) → AreStrictParts m.plt comps t count part ps number groups (parts_with m comps t own ps part count number groups)
 strict_made m comps t own ps count part number [] none short = tt
 strict_made m comps t own ps count part number (names ∷ groups) none short =
     let lengths : List ℕ = map (packet_length ps) names in
-    let header : List Segment = written_part_header m own part lengths in (
+    let header : List Segment = written_part_header m own part lengths in
+    let total = lengths_short ps number (length (all_bytes comps header)) names short.0 in (
       record {
         tile = refl;
         part_is = refl;
@@ -40,8 +46,10 @@ strict_made m comps t own ps count part number (names ∷ groups) none short =
         body = refl;
         held = held_by m.plt lengths;
         segments = found_in m own part lengths none;
-        lengths = held_told m.plt lengths (lengths_short ps number (length (all_bytes comps header)) names short.0);
+        lengths = held_told m.plt lengths total;
+        whole = held_whole m.plt lengths total;
         none = held_none m.plt lengths;
+        later = later_is m own part lengths;
       },
       strict_made m comps t own ps count (part + 1) (number + length names) groups none short.1,
     )

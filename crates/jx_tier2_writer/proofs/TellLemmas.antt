@@ -85,7 +85,7 @@ all_told (n ∷ lengths) h =
     length_told n (flat_map length_bytes lengths) (All-head (λ (n : ℕ). n < 2 ^ 32) n lengths h)
     ∙ ap (λ (z : List ℕ). n ∷ z) (all_told lengths (All-tail (λ (n : ℕ). n < 2 ^ 32) n lengths h))
 
-all_words : (lengths : List ℕ) → length_total lengths < 2 ^ 32 → All (λ (n : ℕ). n < 2 ^ 32) lengths
+pub all_words : (lengths : List ℕ) → length_total lengths < 2 ^ 32 → All (λ (n : ℕ). n < 2 ^ 32) lengths
 all_words [] h = All-nil (λ (n : ℕ). n < 2 ^ 32)
 all_words (n ∷ lengths) h = All-cons (λ (n : ℕ). n < 2 ^ 32) n lengths (omega arith) (all_words lengths (omega arith))
 

@@ -1,9 +1,9 @@
 -- What a written file keeps to where a reader doesn't ask for it (ITU-T T.800, A.4.2, A.7.3 and A.8): a tile's tile-parts stand
 -- together, in the order of the tiles, and each tells how many there are; SOP and EPH stand with each packet exactly where the
--- tile's COD announces them; PLT segments stand where they are asked for, and tell the lengths of just the packets of their
--- tile-part; EOC ends the file.
+-- tile's COD announces them; PLT segments stand where they are asked for, numbered from 0 in each tile-part, and tell the lengths of
+-- just its packets, each whole in one segment and in as few bytes as it has; EOC ends the file.
 use Rattle.std.specs.Prelude.{◌≡◌, ◌<◌, ◌+◌, ℕ, Bool, true, false, List, [], ◌∷◌, length, map}
-use Rattle.std.specs.List.{filter}
+use Rattle.std.specs.List.{All, filter}
 use Rattle.jx_base.specs.Joined.{joined}
 use Rattle.jx_progression.specs.declared.names.PacketName.{PacketName}
 use Rattle.jx_codestream.specs.declared.Stream.{Stream}
@@ -11,7 +11,7 @@ use Rattle.jx_codestream.specs.First.{tile_number}
 use Rattle.jx_codestream.specs.Spells.{TilePart, file_bytes, part_bytes}
 use Rattle.jx_tier2_reader.specs.Written.{Packets, IsLaid, bytes_from}
 use Rattle.jx_tier2_writer.specs.Lengths.{numbered}
-use Rattle.jx_tier2_writer.specs.Told.{flat, lengths_from}
+use Rattle.jx_tier2_writer.specs.Told.{AreLengths, flat, lengths_from}
 use Rattle.jx_tier2_writer.specs.Ready.{cod_at}
 use Rattle.jx_tier2_writer.specs.TileParts.{packet_length}
 use Rattle.jx_plan.specs.Asides.{is_plt}
@@ -28,7 +28,10 @@ pub record IsStrictPart (plt : Bool) (comps t count part : ℕ) (packets : Packe
   pub held : List (List ℕ)
   pub segments : filter is_plt p.header ≡ numbered 0 held
   pub lengths : plt ≡ true → lengths_from 0 (flat held) ≡ map (packet_length packets) names
+  pub whole : All AreLengths held
   pub none : plt ≡ false → held ≡ []
+  -- nothing else stands in the header of a later tile-part
+  pub later : 0 < part → p.header ≡ numbered 0 held
 
 abbrev pub AreStrictParts : Bool → ℕ → ℕ → ℕ → ℕ → Packets → ℕ → List (List PacketName) → List TilePart → Type 0
 AreStrictParts plt comps t count part packets number [] [] = Unit {0}

@@ -4,6 +4,8 @@ use Rattle.jx_options.specs.Wanted.{Wanted}
 use Rattle.jx_plan.proofs.LayerLaws.{CrowdLaws}
 use Rattle.jx_plan.proofs.PlanLemmas.{few_blocks}
 use Rattle.jx_plan.proofs.PlannedLemmas.{planned_below, planned_each, too_much}
+use Rattle.jx_plan.specs.Questions.{questions}
+use Rattle.jx_plan.proofs.QuestionLemmas.{asked_by}
 use Rattle.jx_plan.proofs.planning.plan_with.Goals as goal
 
 pub facts_of-requires-clause-few : goal.facts_of-requires-clause-few
@@ -34,3 +36,8 @@ returns-in-Ok-clause-cause g c =
     ((goal.LayerPlanner-dyn g (c.args.planner.now.vtable, c.args.planner.now.value)).rule_of c.args.planner.now.value) c.deref.result.now c.args.options.now.layers c.in_ok-facts.facts
     c.in-Ok.layers c.in-Ok.jobs.items (ap (λ (w : Wanted). w.style) c.options.view_is) text c.in_ok-facts.ensures c.in-Ok.ensures.planned e much))
     c.plan_jobs.ensures.cause
+
+pub returns-in-Ok-clause-asked : goal.returns-in-Ok-clause-asked
+returns-in-Ok-clause-asked g c =
+    asked_by c.args.stream.now c.args.options.now c.in-Ok.layers c.in-Ok.jobs.items ((goal.LayerPlanner-dyn g (c.args.planner.now.vtable, c.args.planner.now.value)).asked c.args.planner.now.value) (questions c.args.blocks.now)
+    ((goal.LayerPlanner-dyn g (c.plan_by.new.planner.vtable, c.plan_by.new.planner.value)).asked c.plan_by.new.planner.value) c.plan_jobs.result c.in-Ok.ensures.asked c.plan_jobs.ensures.cause
